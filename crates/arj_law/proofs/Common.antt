@@ -1,12 +1,9 @@
 -- Small facts on tests, lists and places.
-use Rattle.std.proofs.Common.{◌≡◌, ◌<◌, ◌≤◌, ℕ, ◌+◌, List, [], ◌∷◌, ◌++◌, Bool, true, false, cond, ◌&&◌, nat_lt, ◌==◌, refl, sym, ◌∙◌, subst, filter, Option, Some, None, true≢false, arith}
-use Rattle.std.specs.List.{AllByRecursion, filter_map, cons_option}
-use Rattle.std.proofs.lemmas.Bool.{eq-eqb, eqb-true, false_from_ne_true}
-use Rattle.std.proofs.lemmas.Bool.Decides.{nat_tests}
-use Rattle.arj_journal.specs.declared.body.Body.{Body}
-use Rattle.arj_journal.specs.declared.body.Line.{Line}
-use Rattle.arj_model.specs.Actions.{Act, Placed, acts_after, read, put}
-use Rattle.arj_model.specs.Serial.{lex}
+use Rattle.arj_law.proofs.Terms
+use Terms.{◌≡◌, ◌<◌, ◌≤◌, ℕ, ◌+◌, List, [], ◌∷◌, ◌++◌, Bool, true, false, cond, ◌&&◌, nat_lt, ◌==◌, refl, sym, ◌∙◌, subst, filter, Option}
+use Terms.{Some, None, arith, AllByRecursion, filter_map, cons_option, eq-eqb, eqb-true, false_from_ne_true, nat_tests, Body, Line, Act}
+use Terms.{Placed, acts_after, read, put, lex}
+use Rattle.std.proofs.Common.{true≢false}
 
 -- Tests.
 
@@ -34,7 +31,8 @@ pub all_map : {A : Type 0} (P Q : A → Type 0) → ((a : A) → P a → Q a) �
 all_map P Q f [] ps = ps
 all_map P Q f (x ∷ xs) ps = (f x ps.0, all_map P Q f xs ps.1)
 
-pub all_both : {A : Type 0} (P Q : A → Type 0) (xs : List A) → AllByRecursion P xs → AllByRecursion Q xs → AllByRecursion (λ a. P a × Q a) xs
+pub all_both : {A : Type 0} (P Q : A → Type 0) (xs : List A) → AllByRecursion P xs → AllByRecursion Q xs →
+    AllByRecursion (λ a. P a × Q a) xs
 all_both P Q [] ps qs = ps
 all_both P Q (x ∷ xs) ps qs = ((ps.0, qs.0), all_both P Q xs ps.1 qs.1)
 
@@ -49,10 +47,12 @@ pairwise_both R S (x ∷ xs) ps qs = (all_both (R x) (S x) xs ps.0 qs.0, pairwis
 -- what holds of each two items holds of each and those behind it
 pub pairwise_of : {A : Type 0} (R : A → A → Type 0) (xs : List A) → AllByRecursion (λ a. AllByRecursion (R a) xs) xs → Pairwise R xs
 pairwise_of R [] h = tt
-pairwise_of R (x ∷ xs) h = (h.0.1, pairwise_of R xs (all_map (λ a. R a x × AllByRecursion (R a) xs) (λ a. AllByRecursion (R a) xs) (λ a p. p.1) xs h.1))
+pairwise_of R (x ∷ xs) h =
+    (h.0.1, pairwise_of R xs (all_map (λ a. R a x × AllByRecursion (R a) xs) (λ a. AllByRecursion (R a) xs) (λ a p. p.1) xs h.1))
 
 -- what stands before an item and behind it
-pub pairwise_before : {A : Type 0} (R : A → A → Type 0) (xs : List A) (y : A) (zs : List A) → Pairwise R (xs ++ y ∷ zs) → AllByRecursion (λ x. R x y) xs
+pub pairwise_before : {A : Type 0} (R : A → A → Type 0) (xs : List A) (y : A) (zs : List A) → Pairwise R (xs ++ y ∷ zs) →
+    AllByRecursion (λ x. R x y) xs
 pairwise_before R [] y zs p = tt
 pairwise_before R (x ∷ xs) y zs p = (among xs p.0, pairwise_before R xs y zs p.1)
   where
@@ -60,7 +60,8 @@ pairwise_before R (x ∷ xs) y zs p = (among xs p.0, pairwise_before R xs y zs p
     among [] q = q.0
     among (w ∷ ws) q = among ws q.1
 
-pub pairwise_behind : {A : Type 0} (R : A → A → Type 0) (xs : List A) (y : A) (zs : List A) → Pairwise R (xs ++ y ∷ zs) → AllByRecursion (R y) zs
+pub pairwise_behind : {A : Type 0} (R : A → A → Type 0) (xs : List A) (y : A) (zs : List A) → Pairwise R (xs ++ y ∷ zs) →
+    AllByRecursion (R y) zs
 pairwise_behind R [] y zs p = p.0
 pairwise_behind R (x ∷ xs) y zs p = pairwise_behind R xs y zs p.1
 
@@ -69,7 +70,8 @@ filter_none t [] h = refl
 filter_none t (x ∷ xs) h = subst (λ b. cond b (x ∷ filter t xs) (filter t xs) ≡ []) (sym h.0) (filter_none t xs h.1)
 
 -- What holds of each item that gives something holds of what it gives.
-pub all_filter_map : {A B : Type 0} (P : A → Type 0) (Q : B → Type 0) (h : A → Option B) → ((a : A) (b : B) → P a → h a ≡ Some b → Q b) → (xs : List A) → AllByRecursion P xs → AllByRecursion Q (filter_map h xs)
+pub all_filter_map : {A B : Type 0} (P : A → Type 0) (Q : B → Type 0) (h : A → Option B) → ((a : A) (b : B) → P a → h a ≡ Some b → Q b) →
+    (xs : List A) → AllByRecursion P xs → AllByRecursion Q (filter_map h xs)
 all_filter_map P Q h f [] ps = tt
 all_filter_map {A} {B} P Q h f (x ∷ xs) ps = by (all_filter_map P Q h f xs ps.1) (h x) refl
   where
@@ -77,7 +79,8 @@ all_filter_map {A} {B} P Q h f (x ∷ xs) ps = by (all_filter_map P Q h f xs ps.
     by ih None e = ih
     by ih (Some b) e = (f x b ps.0 e, ih)
 
-pub pairwise_filter_map : {A B : Type 0} (R : A → A → Type 0) (S : B → B → Type 0) (h : A → Option B) → ((a a' : A) (b b' : B) → R a a' → h a ≡ Some b → h a' ≡ Some b' → S b b') → (xs : List A) → Pairwise R xs → Pairwise S (filter_map h xs)
+pub pairwise_filter_map : {A B : Type 0} (R : A → A → Type 0) (S : B → B → Type 0) (h : A → Option B) →
+    ((a a' : A) (b b' : B) → R a a' → h a ≡ Some b → h a' ≡ Some b' → S b b') → (xs : List A) → Pairwise R xs → Pairwise S (filter_map h xs)
 pairwise_filter_map R S h f [] ps = tt
 pairwise_filter_map {A} {B} R S h f (x ∷ xs) ps = by (pairwise_filter_map R S h f xs ps.1) (h x) refl
   where
@@ -88,16 +91,19 @@ pairwise_filter_map {A} {B} R S h f (x ∷ xs) ps = by (pairwise_filter_map R S 
 -- Places.
 
 -- what is read from a place on stands there or behind it
-all_from : {A : Type 0} (f : List Act → Body → Option A) (us : List Act) (m n : ℕ) (ls : List Line) → m ≤ n → AllByRecursion (λ s. m ≤ s.at) (read f us n ls)
+all_from : {A : Type 0} (f : List Act → Body → Option A) (us : List Act) (m n : ℕ) (ls : List Line) → m ≤ n →
+    AllByRecursion (λ s. m ≤ s.at) (read f us n ls)
 all_from f us m n [] le = tt
 all_from {A} f us m n (l ∷ ls) le = by (all_from f (acts_after us l.body) m (n + 1) ls (omega (arith, le))) (f us l.body)
   where
-    by : AllByRecursion (λ s. m ≤ s.at) (read f (acts_after us l.body) (n + 1) ls) → (o : Option A) → AllByRecursion (λ s. m ≤ s.at) (put n o (read f (acts_after us l.body) (n + 1) ls))
+    by : AllByRecursion (λ s. m ≤ s.at) (read f (acts_after us l.body) (n + 1) ls) → (o : Option A) →
+        AllByRecursion (λ s. m ≤ s.at) (put n o (read f (acts_after us l.body) (n + 1) ls))
     by ih None = ih
     by ih (Some a) = (le, ih)
 
 -- the places of what is read rise
-pub read_rises : {A : Type 0} (f : List Act → Body → Option A) (us : List Act) (n : ℕ) (ls : List Line) → Pairwise (λ s t. s.at < t.at) (read f us n ls)
+pub read_rises : {A : Type 0} (f : List Act → Body → Option A) (us : List Act) (n : ℕ) (ls : List Line) →
+    Pairwise (λ s t. s.at < t.at) (read f us n ls)
 read_rises f us n [] = tt
 read_rises {A} f us n (l ∷ ls) = by (read_rises f (acts_after us l.body) (n + 1) ls) (f us l.body)
   where
@@ -106,7 +112,11 @@ read_rises {A} f us n (l ∷ ls) = by (read_rises f (acts_after us l.body) (n + 
 
     by : Pairwise (λ s t. s.at < t.at) rest → (o : Option A) → Pairwise (λ s t. s.at < t.at) (put n o rest)
     by ih None = ih
-    by ih (Some a) = (all_map (λ s. n + 1 ≤ s.at) (λ s. n < s.at) (λ s e. omega (arith, e)) rest (all_from f (acts_after us l.body) (n + 1) (n + 1) ls (omega arith)), ih)
+    by ih (Some a) = (
+      all_map (λ s. n + 1 ≤ s.at) (λ s. n < s.at) (λ s e. omega (arith, e)) rest
+          (all_from f (acts_after us l.body) (n + 1) (n + 1) ls (omega arith)),
+      ih,
+    )
 
 -- Keys.
 
@@ -120,7 +130,8 @@ lex_turn [] (n ∷ ns) e = refl
 lex_turn (m ∷ ms) [] e = never false e refl
 lex_turn (m ∷ ms) (n ∷ ns) e = by (lex_turn ms ns) (nat_lt m n) refl (m == n) refl e
   where
-    by : (lex ms ns ≡ true → lex ns ms ≡ false) → (b : Bool) → nat_lt m n ≡ b → (s : Bool) → (m == n) ≡ s → cond b true (s && lex ms ns) ≡ true → cond (nat_lt n m) true ((n == m) && lex ns ms) ≡ false
+    by : (lex ms ns ≡ true → lex ns ms ≡ false) → (b : Bool) → nat_lt m n ≡ b → (s : Bool) → (m == n) ≡ s →
+        cond b true (s && lex ms ns) ≡ true → cond (nat_lt n m) true ((n == m) && lex ns ms) ≡ false
     by ih true lt s same g =
         let back : nat_lt n m ≡ false = grind (arith, nat_tests, lt) in
         let apart : (n == m) ≡ false = grind (arith, nat_tests, lt) in

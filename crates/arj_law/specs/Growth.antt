@@ -11,7 +11,8 @@ use Rattle.arj_journal.specs.declared.header.Header.{Header}
 use Rattle.arj_text.specs.Label.{name}
 use Rattle.arj_model.specs.Actions.{acts, id_in, chain_in}
 use Rattle.arj_model.specs.Calls.{Top, ids, made}
-use Rattle.arj_model.specs.Last.{is_among, object_line, stores_of_line, servers_of_line, included, listed_after, listed_from, serial_tops, changers, last_changer, entry_payload}
+use Rattle.arj_model.specs.Last.{is_among, object_line, stores_of_line, servers_of_line, included, listed_after, listed_from, serial_tops}
+use Rattle.arj_model.specs.Last.{changers, last_changer, entry_payload}
 
 -- the journal with one line more
 abbrev pub more : List Line → Line → List Line
@@ -37,7 +38,8 @@ CommitsTop lines top _ = ⊥
 -- a top that doesn't count finds, at its place in the serial order, that it changes nothing of the list
 abbrev pub IdleInPlace : List Line → ℕ → (Top → Bool) → List ℕ → List Top → Type 0
 IdleInPlace lines x counts stores [] = ⊤
-IdleInPlace lines x counts stores (t ∷ ts) = (counts t ≡ false → listed_after lines x stores t ≡ stores) × IdleInPlace lines x counts (listed_after lines x stores t) ts
+IdleInPlace lines x counts stores (t ∷ ts) =
+    (counts t ≡ false → listed_after lines x stores t ≡ stores) × IdleInPlace lines x counts (listed_after lines x stores t) ts
 
 -- the header's stores of an object
 abbrev pub first_stores : Header → ℕ → List ℕ

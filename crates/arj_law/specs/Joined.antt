@@ -19,7 +19,8 @@ use Rattle.arj_model.specs.Actions.{acts, is_begun, recovered}
 use Rattle.arj_model.specs.Calls.{Call, Top, committed_calls, tops}
 use Rattle.arj_model.specs.Disks.{Disks, InDoubt, held}
 use Rattle.arj_model.specs.Serial.{Values, run, serial_calls}
-use Rattle.arj_model.specs.Last.{changers, count_tops, entry_payload, entry_state, first_values, is_among, last_changer, last_state, last_writer, listed, object_line, serial_tops, servers_of_line, stores_of_line, writes_of}
+use Rattle.arj_model.specs.Last.{changers, count_tops, entry_payload, entry_state, first_values, is_among, last_changer, last_state}
+use Rattle.arj_model.specs.Last.{last_writer, listed, object_line, serial_tops, servers_of_line, stores_of_line, writes_of}
 
 -- the name of a parent, if there is one
 abbrev pub parent_name : Option Label → List (List ℕ)
@@ -105,7 +106,13 @@ abbrev pub last_from : Header → Marks → List Line → ℕ → ObjectState
 last_from header marks lines x =
     let mark = marks.states x in
     let value = values_after (first_values header) lines x in
-    record { uid = object x; class = class_of value; version = mark.version + count_tops (writes_of lines x); writer = writer_from mark.writer (writes_of lines x); payload = payload_of value }
+    record {
+      uid = object x;
+      class = class_of value;
+      version = mark.version + count_tops (writes_of lines x);
+      writer = writer_from mark.writer (writes_of lines x);
+      payload = payload_of value;
+    }
 
 -- who changed the list last, from this one on
 abbrev pub changer_from : List Line → Uid → List Top → Uid
@@ -117,7 +124,13 @@ abbrev pub entry_from : Header → Marks → List Line → ℕ → ObjectState
 entry_from header marks lines x =
     let mark = marks.entries x in
     let changed = changers lines x (stores_of_line (object_line header x)) (serial_tops lines) in
-    record { uid = entry x; class = class.Entry; version = mark.version + length changed; writer = changer_from lines mark.writer changed; payload = entry_payload (servers_of_line (object_line header x)) (listed header lines x) }
+    record {
+      uid = entry x;
+      class = class.Entry;
+      version = mark.version + length changed;
+      writer = changer_from lines mark.writer changed;
+      payload = entry_payload (servers_of_line (object_line header x)) (listed header lines x);
+    }
 
 -- A second run's header goes on where a journal ended: the same objects, in the values and at the stores that it left.
 pub record GoesOn (first : Header) (lines : List Line) (second : Header) : Type 0 where
@@ -128,8 +141,10 @@ pub record GoesOn (first : Header) (lines : List Line) (second : Header) : Type 
 
 -- The disks of a run that began with these marks: as `Clean` says it of one that began at a format.
 pub record CleanFrom (header : Header) (marks : Marks) (lines : List Line) (disks : Disks) : Type 0 where
-  pub entries : (x : ℕ) → is_some (object_line header x) ≡ true → (InDoubt (disks 1) Names (entry x) → ⊥) → held (disks 1) Names (entry x) ≡ Some (state_bytes (entry_from header marks lines x))
-  pub stores : (x s : ℕ) → is_among (listed header lines x) s ≡ true → (InDoubt (disks 1) Names (entry x) → ⊥) → (InDoubt (disks s) Store (object x) → ⊥) → held (disks s) Store (object x) ≡ Some (state_bytes (last_from header marks lines x))
+  pub entries : (x : ℕ) → is_some (object_line header x) ≡ true → (InDoubt (disks 1) Names (entry x) → ⊥) →
+      held (disks 1) Names (entry x) ≡ Some (state_bytes (entry_from header marks lines x))
+  pub stores : (x s : ℕ) → is_among (listed header lines x) s ≡ true → (InDoubt (disks 1) Names (entry x) → ⊥) →
+      (InDoubt (disks s) Store (object x) → ⊥) → held (disks s) Store (object x) ≡ Some (state_bytes (last_from header marks lines x))
 
 -- What joined journals have to do with one another, for the laws.
 pub record AreJoined (header : Header) (first : List Line) (next : Header) (second : List Line) : Type 0 where

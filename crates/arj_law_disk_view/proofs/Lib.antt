@@ -1,3 +1,4 @@
+pub mod Terms
 pub mod view
 pub mod names
 pub mod running

@@ -1,3 +1,4 @@
+pub mod Terms
 pub mod view
 pub mod facts
 pub mod journal

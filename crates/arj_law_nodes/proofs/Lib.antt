@@ -1,3 +1,4 @@
+pub mod Terms
 pub mod delivery
 pub mod nodes
 pub mod cores

@@ -1,3 +1,5 @@
+pub mod Terms
+pub mod Words
 pub mod coordinator
 pub mod parts
 pub mod told

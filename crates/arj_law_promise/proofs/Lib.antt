@@ -1,3 +1,4 @@
+pub mod Terms
 pub mod waiting
 pub mod settling
 pub mod statement

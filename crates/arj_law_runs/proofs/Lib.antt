@@ -1,3 +1,4 @@
+pub mod Terms
 pub mod kept
 pub mod coordinators
 pub mod calls

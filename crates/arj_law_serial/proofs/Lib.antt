@@ -1,3 +1,4 @@
+pub mod Terms
 pub mod whole
 pub mod past
 pub mod order

@@ -26,8 +26,8 @@ lines_before e (line ∷ lines) = if nat_lt line.event e then line ∷ lines_bef
 abbrev pub uid_of : List Line → Top → Uid
 uid_of lines t = uid_of_id (acts lines) t.id
 
--- The top is committed, and isn't by the lines before this event: where that is the last event, its first `committed` or `recovered` line is
--- in it.
+-- The top is committed, and isn't by the lines before this event: where that is the last event, its first `committed` or `recovered` line
+-- is in it.
 abbrev pub IsNew : ℕ → List Line → Top → Type 0
 IsNew e lines t = Contains (tops lines) t × (is_said (lines_before e lines) (uid_of lines t) ≡ false)
 
@@ -46,8 +46,8 @@ pub record Lists (read : Reading) (x s : ℕ) : Type 0 where
 abbrev pub HasPrepared : Reading → Role → Uid → ObjectState → Type 0
 HasPrepared read r act st = IsSomeAnd (read.pend r act) (λ states. new_of states (let z = st in z.uid) ≡ Some (state_bytes st))
 
--- On naming's disk an entry of the object without the store is prepared, for the top or for another committed constituent of its serializing
--- action.
+-- On naming's disk an entry of the object without the store is prepared, for the top or for another committed constituent of its
+-- serializing action.
 pub record DiskTakesOut (lines : List Line) (x : ℕ) (read : Reading) (t : Top) (s : ℕ) : Type 0 where
   pub by_top : Top
   pub committed : Contains (tops lines) by_top
@@ -64,7 +64,8 @@ DiskIsInTime header lines x disks t s = (held (disks s) role.Store (object x) �
     ⊎ HasPrepared (disks s) role.Store (uid_of lines t) (last_state header lines x)
     ⊎ DiskTakesOut lines x (disks 1) t s
 
--- Excluded in time: so it is at the end of this event, the last one that was run, of each top that is new in it, of each object that it wrote,
--- and of each store that the object's entry on naming's disk lists.
+-- Excluded in time: so it is at the end of this event, the last one that was run, of each top that is new in it, of each object that it
+-- wrote, and of each store that the object's entry on naming's disk lists.
 abbrev pub DisksAreInTime : Header → ℕ → List Line → Disks → Type 0
-DisksAreInTime header e lines disks = (t : Top) (x s : ℕ) → IsNew e lines t → Wrote lines x t → Lists (disks 1) x s → DiskIsInTime header lines x disks t s
+DisksAreInTime header e lines disks = (t : Top) (x s : ℕ) → IsNew e lines t → Wrote lines x t → Lists (disks 1) x s →
+    DiskIsInTime header lines x disks t s

@@ -28,13 +28,14 @@ use Rattle.arj_protocol.specs.World.{Asked, World, format, is_node, lowest_from,
 abbrev pub HasDisks : Header → List Move → Disks → Type 0
 HasDisks hd ms disks = DisksAre (see [] (world_by hd ms)) disks
 
--- The run keeps the promise. Committed tops got the answers of running them alone, one after another, and so did nested actions, each whole at its
--- commit; and the lock book is kept: calls that conflict stand in that order, each behind the call of the commit of the earlier one's top, or, within
--- one top, behind the commits of the earlier one's actions; and each is answered by the writes before it. Until the commit of its unit's last member
--- is called, each surviving call of a committed top is locked for by the journal's tables at each line, and its object's entry is locked by the
--- unit's root or a top of it, and for a surviving include for writing. The disks are clean. Of each object that a top wrote which the last
--- event committed, each store that the entry on naming's disk lists holds the last state, or has it prepared for that top, or is about to be
--- taken out. And what is done as committed was decided before, while an abort of what was decided has a cause.
+-- The run keeps the promise. Committed tops got the answers of running them alone, one after another, and so did nested actions, each whole
+-- at its commit; and the lock book is kept: calls that conflict stand in that order, each behind the call of the commit of the earlier
+-- one's top, or, within one top, behind the commits of the earlier one's actions; and each is answered by the writes before it. Until the
+-- commit of its unit's last member is called, each surviving call of a committed top is locked for by the journal's tables at each line,
+-- and its object's entry is locked by the unit's root or a top of it, and for a surviving include for writing. The disks are clean. Of each
+-- object that a top wrote which the last event committed, each store that the entry on naming's disk lists holds the last state, or has it
+-- prepared for that top, or is about to be taken out. And what is done as committed was decided before, while an abort of what was decided
+-- has a cause.
 pub record KeepsThePromise (hd : Header) (ms : List Move) : Type 0 where
   pub serial : IsSerialBy hd (journal_by hd ms)
   pub book : KeepsTheBook (first_values hd) (journal_by hd ms)
@@ -51,8 +52,8 @@ RunsKeepThePromise = (hd : Header) (ms : List Move) → IsInForm hd ms → Keeps
 abbrev pub KeptAfterEveryEvent : Type 0
 KeptAfterEveryEvent = (hd : Header) (front rest : List Move) → IsInForm hd (front ++ rest) → IsInForm hd front × KeepsThePromise hd front
 
--- Where its header and its events are in form, of which there are at most 1,000,000, the run of a script is one in form; and its world is that of
--- the script, but for the stops that are still armed at its end.
+-- Where its header and its events are in form, of which there are at most 1,000,000, the run of a script is one in form; and its world is
+-- that of the script, but for the stops that are still armed at its end.
 abbrev pub ScriptsAreRuns : Type 0
 ScriptsAreRuns = (hd : Header) (es : List Asked) → HeaderInForm hd → AreEventsInForm es → length es ≤ most_events
     → IsInForm hd (moves_of hd es) × (world_by hd (moves_of hd es) ≡ record (run_all es (format hd)) { arms = [] })
@@ -67,24 +68,29 @@ pub record EndsInQuiesce (hd : Header) (ms before : List Move) : Type 0 where
 
 -- then nobody waits but calls that are overtaken
 abbrev pub QuiescesLeaveOvertaken : Type 0
-QuiescesLeaveOvertaken = (hd : Header) (ms before : List Move) → IsInForm hd ms → EndsInQuiesce hd ms before → OnlyOvertakenWait (world_by hd ms)
+QuiescesLeaveOvertaken = (hd : Header) (ms before : List Move) → IsInForm hd ms → EndsInQuiesce hd ms before →
+    OnlyOvertakenWait (world_by hd ms)
 
 -- Then whoever waited as it began waits still, in a call that is overtaken, or a line of the quiesce answers it.
 abbrev pub QuiescesAnswerWhoWaits : Type 0
-QuiescesAnswerWhoWaits = (hd : Header) (ms before : List Move) → IsInForm hd ms → EndsInQuiesce hd ms before → (k : ℕ) (c : Coord) (u : Uid) (q : Doing) → let w = world_by hd before in is_node k w ≡ true
-    → coord_in (at_place k w.nodes) ≡ Some c → doing_of u c ≡ Some q → is_waiting_now q.now ≡ true → WaitsOvertaken (world_by hd ms) k u q ⊎ HasAnswer q w.lines (journal_by hd ms)
+QuiescesAnswerWhoWaits = (hd : Header) (ms before : List Move) → IsInForm hd ms → EndsInQuiesce hd ms before →
+    (k : ℕ) (c : Coord) (u : Uid) (q : Doing) → let w = world_by hd before in is_node k w ≡ true
+    → coord_in (at_place k w.nodes) ≡ Some c → doing_of u c ≡ Some q → is_waiting_now q.now ≡ true →
+    WaitsOvertaken (world_by hd ms) k u q ⊎ HasAnswer q w.lines (journal_by hd ms)
 
 -- And no line of it gives anything up, or aborts but by a refusal that was answered.
 abbrev pub QuiescesGiveUpNothing : Type 0
-QuiescesGiveUpNothing = (hd : Header) (ms before : List Move) → EndsInQuiesce hd ms before → (more : List Line) × (journal_by hd ms ≡ journal_by hd before ++ more) × AllByRecursion (IsPlainIn (world_by hd ms)) more
+QuiescesGiveUpNothing = (hd : Header) (ms before : List Move) → EndsInQuiesce hd ms before →
+    (more : List Line) × (journal_by hd ms ≡ journal_by hd before ++ more) × AllByRecursion (IsPlainIn (world_by hd ms)) more
 
--- Wherever every node is idle, with no record and nothing prepared, disks hold every entry and, at each listed store, every last state, with no
--- exception.
+-- Wherever every node is idle, with no record and nothing prepared, disks hold every entry and, at each listed store, every last state,
+-- with no exception.
 abbrev pub QuietDisksHoldAll : Type 0
-QuietDisksHoldAll = (hd : Header) (ms : List Move) (disks : Disks) → IsInForm hd ms → AreQuiet (world_by hd ms) → HasDisks hd ms disks → HoldAllStates hd (journal_by hd ms) disks
+QuietDisksHoldAll = (hd : Header) (ms : List Move) (disks : Disks) → IsInForm hd ms → AreQuiet (world_by hd ms) → HasDisks hd ms disks →
+    HoldAllStates hd (journal_by hd ms) disks
 
--- There is nothing left to do: every node is idle, with no record and nothing prepared, and the journal's last line says so; disks hold every entry
--- and, at each listed store, every last state, with no exception.
+-- There is nothing left to do: every node is idle, with no record and nothing prepared, and the journal's last line says so; disks hold
+-- every entry and, at each listed store, every last state, with no exception.
 pub record EndsAtRest (hd : Header) (ms : List Move) : Type 0 where
   pub quiet : EndsQuiet (world_by hd ms)
   pub last : (disks : Disks) → HasDisks hd ms disks → HoldAllStates hd (journal_by hd ms) disks
@@ -95,7 +101,8 @@ IsCalm w = NobodyWaits w × (lowest_from 1 w.frames ≡ None)
 
 -- so a run ends with a quiesce that begins where nobody waits and no frame is open
 abbrev pub CalmQuiescesEndAtRest : Type 0
-CalmQuiescesEndAtRest = (hd : Header) (ms before : List Move) → IsInForm hd ms → EndsInQuiesce hd ms before → IsCalm (world_by hd before) → EndsAtRest hd ms
+CalmQuiescesEndAtRest = (hd : Header) (ms before : List Move) → IsInForm hd ms → EndsInQuiesce hd ms before → IsCalm (world_by hd before) →
+    EndsAtRest hd ms
 
 -- The run's last event is a quiesce, no limit was met, and the journal's last line says that every node is idle.
 pub record SaysQuiet (hd : Header) (ms before : List Move) : Type 0 where

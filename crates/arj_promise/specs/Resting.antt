@@ -45,7 +45,8 @@ pub record GivesUp (w : World) (k : ℕ) (c : Coord) (u : Uid) (m : Move) : Type
 
 -- each action that waits at a node of the header is given up by one of these events
 abbrev pub AreGivenUp : List Move → World → Type 0
-AreGivenUp gs w = (k : ℕ) (c : Coord) (u : Uid) (q : Doing) → is_node k w ≡ true → coord_in (at_place k w.nodes) ≡ Some c → doing_of u c ≡ Some q → is_waiting_now q.now ≡ true → (m : Move) × Contains gs m × GivesUp w k c u m
+AreGivenUp gs w = (k : ℕ) (c : Coord) (u : Uid) (q : Doing) → is_node k w ≡ true → coord_in (at_place k w.nodes) ≡ Some c →
+    doing_of u c ≡ Some q → is_waiting_now q.now ≡ true → (m : Move) × Contains gs m × GivesUp w k c u m
 
 -- every node of the header is up
 abbrev pub AreUp : World → Type 0
@@ -62,9 +63,10 @@ pub record HasNothingLeft (read : Reading) : Type 0 where
   pub prepared : (r : Role) (act : Uid) → (let d = read in d.pend r act) ≡ None
   pub records : (top : Uid) → (let d = read in d.records top) ≡ None
 
--- Naming holds each entry as the journal gives it, and each listed store the object's last committed state; and on the disk of each node of the
--- header nothing is prepared, and no record is left.
+-- Naming holds each entry as the journal gives it, and each listed store the object's last committed state; and on the disk of each node of
+-- the header nothing is prepared, and no record is left.
 pub record HoldAllStates (hd : Header) (lines : List Line) (disks : Disks) : Type 0 where
   pub entries : (x : ℕ) → is_some (object_line hd x) ≡ true → held (disks 1) Names (entry x) ≡ Some (state_bytes (entry_state hd lines x))
-  pub stores : (x s : ℕ) → is_among (listed hd lines x) s ≡ true → held (disks s) Store (object x) ≡ Some (state_bytes (last_state hd lines x))
+  pub stores : (x s : ℕ) → is_among (listed hd lines x) s ≡ true →
+      held (disks s) Store (object x) ≡ Some (state_bytes (last_state hd lines x))
   pub nothing : (s : ℕ) → (nat_le 1 s && nat_le s hd.nodes) ≡ true → HasNothingLeft (disks s)

@@ -88,8 +88,8 @@ IsStoppedInForm m = (let e = m.asked in HasWork e.arm) × AllByRecursion (λ (a 
 abbrev pub AreStopsInForm : List Move → Type 0
 AreStopsInForm ms = AllByRecursion IsStoppedInForm ms
 
--- A run is in form: its header, and each of its events, of which there are at most 1,000,000. A stop that falls in them falls at a work of its
--- node; which stops these are is nothing to it.
+-- A run is in form: its header, and each of its events, of which there are at most 1,000,000. A stop that falls in them falls at a work of
+-- its node; which stops these are is nothing to it.
 pub record IsInForm (hd : Header) (ms : List Move) : Type 0 where
   pub header : HeaderInForm hd
   pub events : AreMovesInForm ms

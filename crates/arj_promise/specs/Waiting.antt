@@ -94,7 +94,8 @@ pub record HasAnswer (q : Doing) (old new : List Line) : Type 0 where
 
 -- at the nodes of the header whoever waits is a call that is overtaken
 abbrev pub OnlyOvertakenWait : World → Type 0
-OnlyOvertakenWait w = (k : ℕ) (c : Coord) (u : Uid) (q : Doing) → is_node k w ≡ true → coord_in (at_place k w.nodes) ≡ Some c → doing_of u c ≡ Some q → is_waiting_now q.now ≡ true → (s : Steps) × (q.now ≡ Calling s) × IsOvertaken (IsSaid w.lines) s
+OnlyOvertakenWait w = (k : ℕ) (c : Coord) (u : Uid) (q : Doing) → is_node k w ≡ true → coord_in (at_place k w.nodes) ≡ Some c →
+    doing_of u c ≡ Some q → is_waiting_now q.now ≡ true → (s : Steps) × (q.now ≡ Calling s) × IsOvertaken (IsSaid w.lines) s
 
 -- The action waits still at the node, in a call that is overtaken.
 pub record WaitsOvertaken (w : World) (k : ℕ) (u : Uid) (q : Doing) : Type 0 where

@@ -1,27 +1,26 @@
 -- Every act keeps what holds at every moment, and so does every list of acts.
-use Rattle.std.proofs.Common.{◌≡◌, ◌⊎◌, ℕ, zero, suc, List, [], ◌∷◌, Bool, true, false, Some, refl, sym, ◌∙◌, ap, subst, inl, inr, ⊎_elim}
-use Rattle.arj_law_disk.specs.machine.Core.{Core}
-use Rattle.arj_law_disk.specs.machine.Effects
-use Rattle.arj_law_disk.specs.machine.Effects.{Allowed}
-use Rattle.arj_law_disk.specs.machine.Guards.{IsPresent, May, MayDo, Runs, end_of}
-use Rattle.arj_law_disk.specs.machine.Messages.{Acked, IsOver}
-use Rattle.arj_law_disk.specs.machine.Named.{Named, IsHeld, IsWide, AnswerMeans}
+use Rattle.arj_law_disk.proofs.Terms
+use Terms.{◌≡◌, ◌⊎◌, ℕ, List, [], ◌∷◌, Bool, true, false, Some, sym, ◌∙◌, ap, subst, inl, inr, ⊎_elim, Core, Allowed, IsPresent, MayDo}
+use Terms.{Runs, end_of, Acked, IsOver, Named, IsHeld, IsWide, AnswerMeans, Names, Office, Answer, Bound, Loaded, acted, State, naming}
+use Terms.{decided, undecided, is_open, is_gone}
+use Terms.Effects
+use Rattle.arj_law_disk.proofs.machine
+use machine.{Committing.decide_named, Committing.commit_named, Ends.end_top_named, Ends.end_serial_named, Kin.open_untold}
+use machine.{Opening.begun_named}
+use machine.Base.{never, falls_to, open_made, put_same}
+use machine.Confirmed.{agreed_named, passed_named, entered_named}
+use machine.Locks.{read_named, write_named, exclude_named, lower_named, unbind_named}
+use machine.Plain.{took_named, sealed_named, halted_named, ended_bare_named, intended_named, removed_named, kept_named, moved_named}
+use machine.Plain.{finished_named, dropped_named, sent_named, entry_moved_named, entry_finished_named, entry_dropped_named}
+use machine.Plain.{entry_forgotten_named}
+use machine.Restarts.{restart_named, hear_named, keep_list_named, answer_load_named}
+use machine.Retaining.{had_after, had_cases, had_rises, had_root, had_top, kept_cases}
+use Rattle.arj_law_disk.specs.machine.{Guards.May, Names.Act, Names.retained}
 use Rattle.arj_law_disk.specs.machine.Names
-use Rattle.arj_law_disk.specs.machine.Names.{Names, Office, Act, Answer, Bound, Loaded, acted, retained}
-use Rattle.arj_law_disk.specs.machine.State.{State, naming, decided, undecided, is_open, is_gone}
-use Rattle.arj_law_disk.proofs.machine.Base.{never, falls_to, open_made, put_same}
-use Rattle.arj_law_disk.proofs.machine.Committing.{decide_named, commit_named}
-use Rattle.arj_law_disk.proofs.machine.Confirmed.{agreed_named, passed_named, entered_named}
-use Rattle.arj_law_disk.proofs.machine.Ends.{end_top_named, end_serial_named}
-use Rattle.arj_law_disk.proofs.machine.Kin.{open_untold}
-use Rattle.arj_law_disk.proofs.machine.Locks.{read_named, write_named, exclude_named, lower_named, unbind_named}
-use Rattle.arj_law_disk.proofs.machine.Opening.{begun_named}
-use Rattle.arj_law_disk.proofs.machine.Plain.{took_named, sealed_named, halted_named, ended_bare_named, intended_named, removed_named, kept_named, moved_named, finished_named, dropped_named, sent_named, entry_moved_named, entry_finished_named, entry_dropped_named, entry_forgotten_named}
-use Rattle.arj_law_disk.proofs.machine.Restarts.{restart_named, hear_named, keep_list_named, answer_load_named}
-use Rattle.arj_law_disk.proofs.machine.Retaining.{had_after, had_cases, had_rises, had_root, had_top, kept_cases}
 
 -- a committed top's grants and list are retained by its root, before it is told of
-retain_named : (A : Office) (t : ℕ) → (decided A.world.disk t ≡ true) ⊎ (A.world.disk.bare t ≡ true) → A.names.told t ≡ false → Named A → Named (record { world = A.world; names = retained A.world.disk t A.names })
+retain_named : (A : Office) (t : ℕ) → (decided A.world.disk t ≡ true) ⊎ (A.world.disk.bare t ≡ true) → A.names.told t ≡ false → Named A →
+    Named (record { world = A.world; names = retained A.world.disk t A.names })
 retain_named A t done untold c = record {
   whole = c.whole;
   roots = c.roots;
@@ -29,7 +28,8 @@ retain_named A t done untold c = record {
     apart = c.rows.apart;
     alone = c.rows.alone;
     dead = c.rows.dead;
-    given = λ a g. let y = c.rows.given a g in (y.0, y.1, falls_to (had a N.inc) (λ h. never (had_top S t N.had c.roots a N.inc (c.roots.tops a y.1) h) y.2));
+    given = λ a g. let y = c.rows.given a g in
+        (y.0, y.1, falls_to (had a N.inc) (λ h. never (had_top S t N.had c.roots a N.inc (c.roots.tops a y.1) h) y.2));
     guard = c.rows.guard;
     adds = c.rows.adds;
     out = c.rows.out;
@@ -37,7 +37,8 @@ retain_named A t done untold c = record {
     asked = c.rows.asked;
   };
   grants = record {
-    past = λ a i h. ⊎_elim (λ (o : N.had a i ≡ true). c.grants.past a i o) (λ (o : (a ≡ S.root t) × (N.had t i ≡ true)). c.grants.past t i o.1) (had_cases S t N.had a i h);
+    past = λ a i h. ⊎_elim (λ (o : N.had a i ≡ true). c.grants.past a i o)
+        (λ (o : (a ≡ S.root t) × (N.had t i ≡ true)). c.grants.past t i o.1) (had_cases S t N.had a i h);
     row = λ a s h u. c.grants.row a s (had_top S t N.had c.roots a N.inc s h) u;
     root = λ a s h u. ⊎_elim
         (λ (y : N.had a N.inc ≡ true). held a (c.grants.root a s y u))
@@ -49,7 +50,8 @@ retain_named A t done untold c = record {
     listed = λ a d h u. c.grants.listed a d (had_top S t N.had c.roots a N.inc (taken_top a (core.coordinators.decided_taken a d)) h) u;
     acked = λ a m. ⊎_elim
         (λ (h : N.told a ≡ true). inl h)
-        (λ (h : N.had a N.inc ≡ false). inr (falls_to (had a N.inc) (λ y. never (had_top S t N.had c.roots a N.inc (taken_top a (core.coordinators.decided_taken a (c.whole.mail (Acked a naming) m).0)) y) h)))
+        (λ (h : N.had a N.inc ≡ false). inr (falls_to (had a N.inc) (λ y. never
+        (had_top S t N.had c.roots a N.inc (taken_top a (core.coordinators.decided_taken a (c.whole.mail (Acked a naming) m).0)) y) h)))
         (c.grants.acked a m);
     told = c.grants.told;
   };
@@ -124,7 +126,8 @@ bare_untold A t x c = (open_untold A.world.disk A.names c.roots (λ a h. let y =
     S = A.world.disk
 
     open_t : undecided S t ≡ true
-    open_t = open_made (decided S t) (S.stage t) (S.intent t) (falls_to (decided S t) (λ d. let n : ◌≡◌ {A = Bool} false true = sym (ap is_gone x.sealed) ∙ c.whole.core.coordinators.decided_closed t d in cc)) (inl (ap is_open x.sealed))
+    open_t = open_made (decided S t) (S.stage t) (S.intent t) (falls_to (decided S t) (λ d. let n : ◌≡◌ {A = Bool} false true = sym
+        (ap is_gone x.sealed) ∙ c.whole.core.coordinators.decided_closed t d in cc)) (inl (ap is_open x.sealed))
 
 pub do_named : (A : Office) (e : Effects.Effect) → MayDo A e → Named A → Named (acted A (Names.Do e))
 do_named A (Effects.Begin t p) x c = begun_named A t p x c
@@ -151,7 +154,8 @@ do_named A (Effects.Send m) x c = sent_named A m x.0 x.1 c
 pub act_named : (A : Office) (a : Act) → May A a → Named A → Named (acted A a)
 act_named A (Names.Do e) x c = do_named A e x c
 act_named A (Names.Commit t) x c = commit_named A t x c
-act_named A (Names.CommitBare t) x c = retain_named (acted A (Names.Do (Effects.EndBare t))) t (inr (put_same t true A.world.disk.bare)) (bare_untold A t x c) (ended_bare_named A t x c)
+act_named A (Names.CommitBare t) x c = retain_named (acted A (Names.Do (Effects.EndBare t))) t (inr (put_same t true A.world.disk.bare))
+    (bare_untold A t x c) (ended_bare_named A t x c)
 act_named A (Names.Read t) x c = read_named A t x.0 x.1 c
 act_named A (Names.Write t b) x c = write_named A t b x c
 act_named A (Names.Exclude t) x c = exclude_named A t x c

@@ -1,8 +1,8 @@
 -- Tests of numbers, and functions changed at one place.
-use Rattle.std.proofs.Common.{◌≡◌, ◌⊎◌, ℕ, ◌<◌, List, Bool, true, false, cond, ◌==◌, ◌||◌, ◌&&◌, not, Option, Some, None, is_some, refl, sym, ◌∙◌, ap, subst, inl, inr, ⊎_elim, arith}
+use Rattle.arj_law_disk.proofs.Terms
+use Terms.{◌≡◌, ◌⊎◌, ℕ, ◌<◌, List, Bool, true, false, cond, ◌==◌, ◌||◌, ◌&&◌, not, Option, Some, None, is_some, refl, sym, ◌∙◌, ap, subst}
+use Terms.{inl, inr, ⊎_elim, arith, Packed, Stage, is_open, is_sealed, is_gone, open_by, Below, put, put2}
 use Rattle.std.proofs.lemmas.Bool.Decides.{Decides-eqb}
-use Rattle.arj_law_disk.specs.machine.State.{Packed, Stage, is_open, is_sealed, is_gone, open_by, Below}
-use Rattle.arj_law_disk.specs.machine.Words.{put, put2}
 
 pub bool_cases : (b : Bool) → (b ≡ true) ⊎ (b ≡ false)
 bool_cases true = inl refl
@@ -34,7 +34,8 @@ pub some_is : {A : Type 0} {o : Option A} {a b : A} → o ≡ Some a → o ≡ S
 some_is {A} {o} {a} {b} is also = let e : ◌≡◌ {A = Option A} (Some a) (Some b) = sym is ∙ also in cc
 
 -- what holds of a function with another value at one place
-pub put_cases : {A : Type 0} (P : A → Type 0) (k : ℕ) (v : A) (f : ℕ → A) (n : ℕ) → (n ≡ k → P v) → ((n == k) ≡ false → P (f n)) → P (put k v f n)
+pub put_cases : {A : Type 0} (P : A → Type 0) (k : ℕ) (v : A) (f : ℕ → A) (n : ℕ) → (n ≡ k → P v) → ((n == k) ≡ false → P (f n)) →
+    P (put k v f n)
 put_cases P k v f n here there = by (n == k) refl
   where
     by : (b : Bool) → (n == k) ≡ b → P (cond b v (f n))
@@ -60,7 +61,8 @@ put2_true k l f n m = put_cases (λ g. g m ≡ true → ((n ≡ k) × (m ≡ l))
     (λ e h. inr h)
 
 pub put2_rises : (k l : ℕ) (f : ℕ → ℕ → Bool) (n m : ℕ) → f n m ≡ true → put2 k l true f n m ≡ true
-put2_rises k l f n m h = put_cases (λ g. g m ≡ true) k (put l true (f k)) f n (λ e. put_rises l (f k) m (ap (λ a. f a m) (sym e) ∙ h)) (λ e. h)
+put2_rises k l f n m h =
+    put_cases (λ g. g m ≡ true) k (put l true (f k)) f n (λ e. put_rises l (f k) m (ap (λ a. f a m) (sym e) ∙ h)) (λ e. h)
 
 pub put2_same : (k l : ℕ) (f : ℕ → ℕ → Bool) → put2 k l true f k l ≡ true
 put2_same k l f = rw (put_same k (put l true (f k)) f) (put_same l true (f k))

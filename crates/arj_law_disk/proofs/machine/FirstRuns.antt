@@ -1,14 +1,9 @@
 -- The objects of the small runs are as an object begins, so all that follows from that holds along the runs.
-use Rattle.std.proofs.Common.{◌≡◌, ℕ, ◌<◌, [], ◌∷◌, Bool, true, false, cond, ◌==◌, Option, Some, None, refl, sym, ◌∙◌, ap, subst, inl, inr, arith}
-use Rattle.std.proofs.lemmas.Bool.Decides.{nat_tests}
-use Rattle.arj_law_disk.specs.machine.Laws.{IsFirst}
-use Rattle.arj_law_disk.specs.machine.Named.{Named}
-use Rattle.arj_law_disk.specs.machine.NamingLaws.{IsFirstNames}
-use Rattle.arj_law_disk.specs.machine.Samples.{first_state, first_names, first_office, serial_office, older_office, zero_state, state_by}
-use Rattle.arj_law_disk.specs.machine.State.{Packed, IsPast}
-use Rattle.arj_law_disk.specs.machine.Words.{has, In}
-use Rattle.arj_law_disk.proofs.machine.History.{nothing_past}
-use Rattle.arj_law_disk.proofs.machine.NamingResults.{first_is_named}
+use Rattle.arj_law_disk.proofs.Terms
+use Terms.{◌≡◌, ℕ, ◌<◌, [], ◌∷◌, Bool, true, false, cond, ◌==◌, Option, Some, None, refl, sym, ◌∙◌, ap, subst, inl, inr, arith, nat_tests}
+use Terms.{Named, first_state, first_office, serial_office, state_by, Packed, IsPast, has, In}
+use Rattle.arj_law_disk.proofs.machine.{History.nothing_past, NamingResults.first_is_named}
+use Rattle.arj_law_disk.specs.machine.{Laws.IsFirst, NamingLaws.IsFirstNames, Samples.first_names, Samples.older_office, Samples.zero_state}
 
 some_first : {g : Packed} (b : Bool) → cond {A = Option Packed} b (Some zero_state) None ≡ Some g → In g (zero_state ∷ [])
 some_first {g} true e = inl cc
@@ -63,7 +58,8 @@ serial_is = record {
 older_held : (s : ℕ) (g : Packed) → older_office.world.disk.held s ≡ Some g → In g (state_by 1 5 ∷ zero_state ∷ [])
 older_held s g e = by (s == 2) (s == 3) e
   where
-    by : (b c : Bool) → cond {A = Option Packed} b (Some (state_by 1 5)) (cond {A = Option Packed} c (Some zero_state) None) ≡ Some g → In g (state_by 1 5 ∷ zero_state ∷ [])
+    by : (b c : Bool) → cond {A = Option Packed} b (Some (state_by 1 5)) (cond {A = Option Packed} c (Some zero_state) None) ≡ Some g →
+        In g (state_by 1 5 ∷ zero_state ∷ [])
     by true c e = inl cc
     by false true e = inr (inl cc)
     by false false e = let never : ◌≡◌ {A = Option Packed} None (Some g) = e in cc
@@ -82,8 +78,10 @@ older_past = record {
 
     by : (g h : Packed) → In g (state_by 1 5 ∷ zero_state ∷ []) → In h (state_by 1 5 ∷ zero_state ∷ []) → g.writer ≡ h.writer → g ≡ h
     by g h (inl a) (inl b) same = sym a ∙ b
-    by g h (inl a) (inr (inl b)) same = let never : ◌≡◌ {A = ℕ} 5 0 = ap (λ (x : Packed). x.writer) a ∙ (same ∙ sym (ap (λ (x : Packed). x.writer) b)) in cc
-    by g h (inr (inl a)) (inl b) same = let never : ◌≡◌ {A = ℕ} 0 5 = ap (λ (x : Packed). x.writer) a ∙ (same ∙ sym (ap (λ (x : Packed). x.writer) b)) in cc
+    by g h (inl a) (inr (inl b)) same =
+        let never : ◌≡◌ {A = ℕ} 5 0 = ap (λ (x : Packed). x.writer) a ∙ (same ∙ sym (ap (λ (x : Packed). x.writer) b)) in cc
+    by g h (inr (inl a)) (inl b) same =
+        let never : ◌≡◌ {A = ℕ} 0 5 = ap (λ (x : Packed). x.writer) a ∙ (same ∙ sym (ap (λ (x : Packed). x.writer) b)) in cc
     by g h (inr (inl a)) (inr (inl b)) same = sym a ∙ b
     by g h (inr (inr i)) _ same = absurd i
     by g h (inl a) (inr (inr j)) same = absurd j
@@ -113,13 +111,26 @@ older_is = record {
     only_two s i = grind (arith, nat_tests)
 
 names_are : IsFirstNames first_names
-names_are = record { row = λ h. refl; given = λ t. refl; told = λ t. refl; confd = λ t. refl; asked = λ t. refl; had = λ t i. refl; kept = λ h. refl; answers = refl }
+names_are = record {
+  row = λ h. refl;
+  given = λ t. refl;
+  told = λ t. refl;
+  confd = λ t. refl;
+  asked = λ t. refl;
+  had = λ t i. refl;
+  kept = λ h. refl;
+  answers = refl;
+}
 
 pub first_named : Named first_office
-first_named = first_is_named first_state first_names first_is (record { serial = λ r s. refl; plain = λ t s. refl; idem = λ t. refl }) names_are
+first_named =
+    first_is_named first_state first_names first_is (record { serial = λ r s. refl; plain = λ t s. refl; idem = λ t. refl }) names_are
 
 pub serial_named : Named serial_office
-serial_named = first_is_named serial_office.world.disk first_names serial_is (record { serial = λ r s. grind (arith, nat_tests); plain = λ t s. grind (arith, nat_tests); idem = λ t. grind (arith, nat_tests) }) names_are
+serial_named = first_is_named serial_office.world.disk first_names serial_is
+    (record { serial = λ r s. grind (arith, nat_tests); plain = λ t s. grind (arith, nat_tests); idem = λ t. grind (arith, nat_tests) })
+    names_are
 
 pub older_named : Named older_office
-older_named = first_is_named older_office.world.disk first_names older_is (record { serial = λ r s. refl; plain = λ t s. refl; idem = λ t. refl }) names_are
+older_named = first_is_named older_office.world.disk first_names older_is
+    (record { serial = λ r s. refl; plain = λ t s. refl; idem = λ t. refl }) names_are

@@ -1,9 +1,8 @@
 -- Known states, and the last one.
-use Rattle.std.proofs.Common.{◌≡◌, ◌⊎◌, ℕ, ◌+◌, ◌<◌, List, [], ◌∷◌, Bool, true, false, cond, ◌==◌, Option, Some, None, refl, sym, ◌∙◌, ap, subst, inl, inr, arith, unwrap_or}
-use Rattle.arj_law_disk.specs.machine.Core.{Chain, History}
-use Rattle.arj_law_disk.specs.machine.Effects.{Decide, changed}
-use Rattle.arj_law_disk.specs.machine.State.{State, Packed, Hold, Done, last_in, last, KnownIn, Known, Below, effective_by, decided_in, is_latest_in, IsPast}
-use Rattle.arj_law_disk.specs.machine.Words.{In}
+use Rattle.arj_law_disk.proofs.Terms
+use Terms.{◌≡◌, ◌⊎◌, ℕ, ◌+◌, ◌<◌, List, [], ◌∷◌, Bool, true, false, cond, ◌==◌, Option, Some, None, refl, sym, ◌∙◌, ap, subst, inl, inr}
+use Terms.{arith, unwrap_or, Chain, History, Decide, changed, State, Packed, Hold, Done, last_in, last, KnownIn, Known, Below, effective_by}
+use Terms.{decided_in, is_latest_in, IsPast, In}
 use Rattle.arj_law_disk.proofs.machine.Base.{test_same, test_is, or_left, or_right}
 
 -- a known state isn't above the last one
@@ -11,7 +10,8 @@ pub known_last : (first : Packed) (ds : List Done) (g : Packed) → Chain first 
 known_last first [] g chain known = inr (sym known)
 known_last first (d ∷ ds) g chain known = by (known_last first ds g chain.1) d.plan.writes refl known
   where
-    by : (KnownIn first ds g → Below g (last_in first ds)) → (o : Option Packed) → d.plan.writes ≡ o → (o ≡ Some g) ⊎ KnownIn first ds g → Below g (unwrap_or o (last_in first ds))
+    by : (KnownIn first ds g → Below g (last_in first ds)) → (o : Option Packed) → d.plan.writes ≡ o → (o ≡ Some g) ⊎ KnownIn first ds g →
+        Below g (unwrap_or o (last_in first ds))
     by ih None e (inl is) = let n : ◌≡◌ {A = Option Packed} None (Some g) = is in cc
     by ih None e (inr k) = ih k
     by ih (Some w) e (inl is) = let s : w ≡ g = cc in inr (sym s)
@@ -39,7 +39,8 @@ first_known first [] = refl
 first_known first (d ∷ ds) = inr (first_known first ds)
 
 -- a known state, and an older one, isn't above the last one
-pub below_last : (first : Packed) (past : List Packed) (ds : List Done) (g : Packed) → Chain first ds → IsPast first past → KnownIn first ds g ⊎ In g past → Below g (last_in first ds)
+pub below_last : (first : Packed) (past : List Packed) (ds : List Done) (g : Packed) → Chain first ds → IsPast first past →
+    KnownIn first ds g ⊎ In g past → Below g (last_in first ds)
 below_last first past ds g chain older (inl known) = known_last first ds g chain known
 below_last first past ds g chain older (inr old) = inl (by (known_last first ds first chain (first_known first ds)))
   where
@@ -61,35 +62,44 @@ pub last_known : (first : Packed) (ds : List Done) → KnownIn first ds (last_in
 last_known first [] = refl
 last_known first (d ∷ ds) = by (last_known first ds) d.plan.writes refl
   where
-    by : KnownIn first ds (last_in first ds) → (o : Option Packed) → d.plan.writes ≡ o → (d.plan.writes ≡ Some (unwrap_or o (last_in first ds))) ⊎ KnownIn first ds (unwrap_or o (last_in first ds))
+    by : KnownIn first ds (last_in first ds) → (o : Option Packed) → d.plan.writes ≡ o →
+        (d.plan.writes ≡ Some (unwrap_or o (last_in first ds))) ⊎ KnownIn first ds (unwrap_or o (last_in first ds))
     by ih None e = inr ih
     by ih (Some w) e = inl e
 
 -- what a place will hold, by what is prepared there
-pub effective_none : {A : Type 0} (done : ℕ → Bool) (some : Packed → A) (o : Option Hold) (held : A) → o ≡ None → effective_by done some o held ≡ held
+pub effective_none : {A : Type 0} (done : ℕ → Bool) (some : Packed → A) (o : Option Hold) (held : A) → o ≡ None →
+    effective_by done some o held ≡ held
 effective_none done some o held e = rw e
 
-pub effective_done : {A : Type 0} (done : ℕ → Bool) (some : Packed → A) (o : Option Hold) (h : Hold) (held : A) → o ≡ Some h → done h.top ≡ true → effective_by done some o held ≡ some h.new
+pub effective_done : {A : Type 0} (done : ℕ → Bool) (some : Packed → A) (o : Option Hold) (h : Hold) (held : A) → o ≡ Some h →
+    done h.top ≡ true → effective_by done some o held ≡ some h.new
 effective_done done some o h held e d = rw (e, d)
 
-pub effective_open : {A : Type 0} (done : ℕ → Bool) (some : Packed → A) (o : Option Hold) (h : Hold) (held : A) → o ≡ Some h → done h.top ≡ false → effective_by done some o held ≡ held
+pub effective_open : {A : Type 0} (done : ℕ → Bool) (some : Packed → A) (o : Option Hold) (h : Hold) (held : A) → o ≡ Some h →
+    done h.top ≡ false → effective_by done some o held ≡ held
 effective_open done some o h held e d = rw (e, d)
 
 -- a decision's top is decided, and the other way round
 pub in_decided : (ds : List Done) (d : Done) → In d ds → decided_in ds d.top ≡ true
 in_decided [] d i = absurd i
-in_decided (e ∷ ds) d (inl is) = or_left (e.top == d.top) (decided_in ds d.top) (subst (λ (x : Done). (x.top == d.top) ≡ true) (sym is) (test_same d.top))
+in_decided (e ∷ ds) d (inl is) =
+    or_left (e.top == d.top) (decided_in ds d.top) (subst (λ (x : Done). (x.top == d.top) ≡ true) (sym is) (test_same d.top))
 in_decided (e ∷ ds) d (inr i) = or_right (e.top == d.top) (decided_in ds d.top) (in_decided ds d i)
 
 -- the newest decision that counts is the top's, with the last state if it wrote
-pub latest_is : (first : Packed) (ds : List Done) (t : ℕ) → ((d : Done) → In d ds → d.counts ≡ false → d.plan.writes ≡ None) → is_latest_in ds t ≡ true
+pub latest_is : (first : Packed) (ds : List Done) (t : ℕ) → ((d : Done) → In d ds → d.counts ≡ false → d.plan.writes ≡ None) →
+    is_latest_in ds t ≡ true
     → (d : Done) × In d ds × (d.top ≡ t) × (d.counts ≡ true) × ((w : Packed) → d.plan.writes ≡ Some w → last_in first ds ≡ w)
 latest_is first [] t plain h = let n : false ≡ true = h in cc
 latest_is first (e ∷ ds) t plain h = by (latest_is first ds t (λ d i. plain d (inr i))) e.counts refl h
   where
     Found : Type 0
-    Found = (d : Done) × In d (e ∷ ds) × (d.top ≡ t) × (d.counts ≡ true) × ((w : Packed) → d.plan.writes ≡ Some w → last_in first (e ∷ ds) ≡ w)
+    Found =
+        (d : Done) × In d (e ∷ ds) × (d.top ≡ t) × (d.counts ≡ true) × ((w : Packed) → d.plan.writes ≡ Some w → last_in first (e ∷ ds) ≡ w)
 
-    by : (is_latest_in ds t ≡ true → (d : Done) × In d ds × (d.top ≡ t) × (d.counts ≡ true) × ((w : Packed) → d.plan.writes ≡ Some w → last_in first ds ≡ w)) → (b : Bool) → e.counts ≡ b → cond b (e.top == t) (is_latest_in ds t) ≡ true → Found
+    by : (is_latest_in ds t ≡ true → (d : Done) × In d ds × (d.top ≡ t) × (d.counts ≡ true) × ((w : Packed) → d.plan.writes ≡ Some w →
+        last_in first ds ≡ w)) → (b : Bool) → e.counts ≡ b → cond b (e.top == t) (is_latest_in ds t) ≡ true → Found
     by ih true c h = (e, inl refl, test_is e.top t h, c, λ w is. ap (λ o. unwrap_or o (last_in first ds)) is)
-    by ih false c h = let r = ih h in (r.0, inr r.1, r.2, r.3, λ w is. ap (λ o. unwrap_or o (last_in first ds)) (plain e (inl refl) c) ∙ r.4 w is)
+    by ih false c h = let r = ih h in
+        (r.0, inr r.1, r.2, r.3, λ w is. ap (λ o. unwrap_or o (last_in first ds)) (plain e (inl refl) c) ∙ r.4 w is)

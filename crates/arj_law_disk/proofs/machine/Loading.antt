@@ -1,14 +1,9 @@
 -- What a working top's write lock gives: the entry stays, and loads are of the last state.
-use Rattle.std.proofs.Common.{◌≡◌, ℕ, true, Option, Some, None, is_some, refl, sym, ◌∙◌, ap, subst, inl, inr, ⊎_elim}
-use Rattle.arj_law_disk.specs.machine.Core.{Core}
-use Rattle.arj_law_disk.specs.machine.Named.{Named}
-use Rattle.arj_law_disk.specs.machine.Names.{Office}
+use Rattle.arj_law_disk.proofs.Terms
+use Terms.{◌≡◌, ℕ, true, Option, Some, None, is_some, refl, sym, ◌∙◌, ap, subst, inl, inr, ⊎_elim, Core, Named, Office, State, Packed, Hold}
+use Terms.{decided, undecided, last, last_entry, IsExcused, has}
+use Rattle.arj_law_disk.proofs.machine.{Base.never_some, Base.some_is, History.effective_none, Restarts.write_clears}
 use Rattle.arj_law_disk.specs.machine.NamingLaws.{HoldsWrite, LoadsTheLast}
-use Rattle.arj_law_disk.specs.machine.State.{State, Packed, Hold, decided, undecided, last, last_entry, IsExcused}
-use Rattle.arj_law_disk.specs.machine.Words.{has}
-use Rattle.arj_law_disk.proofs.machine.Base.{never_some, some_is}
-use Rattle.arj_law_disk.proofs.machine.History.{effective_none}
-use Rattle.arj_law_disk.proofs.machine.Restarts.{write_clears}
 
 -- and then it is the last one
 pub entry_is_last : (A : Office) → Named A → (t : ℕ) → HoldsWrite A t → A.world.disk.entry ≡ last_entry A.world.disk
@@ -18,7 +13,8 @@ entry_is_last A c t holds = by S.entry_pend refl
     S = A.world.disk
 
     by : (o : Option Hold) → S.entry_pend ≡ o → S.entry ≡ last_entry S
-    by None e = sym (effective_none (decided S) (λ (x : Packed). x) S.entry_pend S.entry e) ∙ (let core = c.whole.core in core.effective.entry)
+    by None e =
+        sym (effective_none (decided S) (λ (x : Packed). x) S.entry_pend S.entry e) ∙ (let core = c.whole.core in core.effective.entry)
     by (Some h) e = absurd (write_clears A c t holds.0 holds.1 holds.2 h e)
 
 pub loads_the_last : (A : Office) → Named A → LoadsTheLast A

@@ -1,17 +1,14 @@
 -- Locks at the naming node: granted, strengthened, lowered.
-use Rattle.std.proofs.Common.{◌≡◌, ◌⊎◌, ℕ, ◌+◌, ◌<◌, ◌≤◌, List, Bool, true, false, cond, ◌==◌, ◌||◌, Option, Some, None, nat_lt, refl, sym, ◌∙◌, ap, subst, inl, inr, ⊎_elim, arith, le_refl}
-use Rattle.std.proofs.lemmas.Bool.Decides.{nat_tests}
-use Rattle.arj_law_disk.specs.machine.Core.{Core}
-use Rattle.arj_law_disk.specs.machine.Guards.{HasRow, IsFree, MayLock, MayLower}
-use Rattle.arj_law_disk.specs.machine.Messages.{Message}
-use Rattle.arj_law_disk.specs.machine.Named.{Named, Related, Roots, Rows, IsHeld, Grants, IsWide, AnswerMeans, Plans}
-use Rattle.arj_law_disk.specs.machine.Names.{Names, Office, Answer, Bound, Loaded, raised, acted, Read, Write, Exclude, Lower, Unbind}
-use Rattle.arj_law_disk.specs.machine.State.{State, Packed, Hold, is_idle, decided, last_entry}
-use Rattle.arj_law_disk.specs.machine.Words.{has, In, put}
-use Rattle.arj_law_disk.proofs.machine.Base.{bool_cases, put_cases, put_same, put_other, test_cases, never, or_right, falls_to}
-use Rattle.arj_law_disk.proofs.machine.Entries.{last_listed}
-use Rattle.arj_law_disk.proofs.machine.Kin.{one_top}
-use Rattle.arj_law_disk.proofs.machine.History.{effective_none}
+use Rattle.arj_law_disk.proofs.Terms
+use Terms.{◌≡◌, ◌⊎◌, ℕ, ◌+◌, ◌<◌, ◌≤◌, List, Bool, true, false, cond, ◌==◌, ◌||◌, Option, Some, None, nat_lt, refl, sym, ◌∙◌, ap, subst}
+use Terms.{inl, inr, ⊎_elim, arith, le_refl, nat_tests, Core, HasRow, Message, Named, Related, Roots, Rows, IsHeld, Grants, IsWide}
+use Terms.{AnswerMeans, Plans, Names, Office, Answer, Bound, Loaded, raised, acted, State, Packed, Hold, is_idle, decided, last_entry, has}
+use Terms.{In, put}
+use Rattle.arj_law_disk.proofs.machine
+use machine.{Entries.last_listed, History.effective_none, Kin.one_top}
+use machine.Base.{bool_cases, put_cases, put_same, put_other, test_cases, never, or_right, falls_to}
+use Rattle.arj_law_disk.specs.machine.Guards.{IsFree, MayLock, MayLower}
+use Rattle.arj_law_disk.specs.machine.Names.{Read, Write, Exclude, Lower, Unbind}
 
 pub some_nat : {m n : ℕ} → ◌≡◌ {A = Option ℕ} (Some m) (Some n) → m ≡ n
 some_nat e = cc
@@ -22,16 +19,19 @@ less_cases n m = grind (arith, nat_tests)
 -- a lock that is strengthened is at least the mode, and at least what it was; and it is one of them
 pub raised_mode : (o : Option ℕ) (m : ℕ) → m ≤ raised o m
 raised_mode None m = le_refl m
-raised_mode (Some n) m = ⊎_elim (λ (x : (nat_lt n m ≡ true) × (n < m)). rw x.0 (le_refl m)) (λ (x : (nat_lt n m ≡ false) × (m ≤ n)). rw x.0 x.1) (less_cases n m)
+raised_mode (Some n) m =
+    ⊎_elim (λ (x : (nat_lt n m ≡ true) × (n < m)). rw x.0 (le_refl m)) (λ (x : (nat_lt n m ≡ false) × (m ≤ n)). rw x.0 x.1) (less_cases n m)
 
 pub raised_old : (o : Option ℕ) (m n : ℕ) → o ≡ Some n → n ≤ raised o m
 raised_old None m n e = let x : ◌≡◌ {A = Option ℕ} None (Some n) = e in cc
 raised_old (Some k) m n e = subst (λ j. j ≤ raised (Some k) m) (some_nat e)
-    (⊎_elim (λ (x : (nat_lt k m ≡ true) × (k < m)). rw x.0 (omega (arith, x.1))) (λ (x : (nat_lt k m ≡ false) × (m ≤ k)). rw x.0 (le_refl k)) (less_cases k m))
+    (⊎_elim (λ (x : (nat_lt k m ≡ true) × (k < m)). rw x.0 (omega (arith, x.1)))
+    (λ (x : (nat_lt k m ≡ false) × (m ≤ k)). rw x.0 (le_refl k)) (less_cases k m))
 
 pub raised_is : (o : Option ℕ) (m : ℕ) → (o ≡ Some (raised o m)) ⊎ (raised o m ≡ m)
 raised_is None m = inr refl
-raised_is (Some k) m = ⊎_elim (λ (x : (nat_lt k m ≡ true) × (k < m)). inr (rw x.0)) (λ (x : (nat_lt k m ≡ false) × (m ≤ k)). inl (rw x.0)) (less_cases k m)
+raised_is (Some k) m =
+    ⊎_elim (λ (x : (nat_lt k m ≡ true) × (k < m)). inr (rw x.0)) (λ (x : (nat_lt k m ≡ false) × (m ≤ k)). inl (rw x.0)) (less_cases k m)
 
 -- a top's lock becomes a stronger one
 module _ (S : State) (N : Names) (t m : ℕ) (asked : ℕ → Bool)
@@ -65,8 +65,10 @@ module _ (S : State) (N : Names) (t m : ℕ) (asked : ℕ → Bool)
       guard = λ h p. let y = c.guard h p in (row_rises h.top 1 y.0, y.1, y.2);
       adds = λ h s p i n. row_rises h.top 2 (c.adds h s p i n);
       out = c.out;
-      since = λ h s p j. ⊎_elim (λ (g : N.given h.top ≡ true). inl g) (λ (r : HasRow N h.top 2). inr (row_rises h.top 2 r)) (c.since h s p j);
-      asked = λ x a u. ⊎_elim (λ (y : N.asked x ≡ true). row_rises x 2 (c.asked x y u)) (λ (y : (x ≡ t) × (2 ≤ m)). subst (λ n. HasRow Locked n 2) (sym y.0) (m, put_same t (Some m) N.row, y.1)) (asks x a);
+      since =
+          λ h s p j. ⊎_elim (λ (g : N.given h.top ≡ true). inl g) (λ (r : HasRow N h.top 2). inr (row_rises h.top 2 r)) (c.since h s p j);
+      asked = λ x a u. ⊎_elim (λ (y : N.asked x ≡ true). row_rises x 2 (c.asked x y u))
+          (λ (y : (x ≡ t) × (2 ≤ m)). subst (λ n. HasRow Locked n 2) (sym y.0) (m, put_same t (Some m) N.row, y.1)) (asks x a);
     }
       where
         h_case : (h : ℕ) → (h ≡ t) ⊎ ((h == t) ≡ false)
@@ -81,10 +83,13 @@ module _ (S : State) (N : Names) (t m : ℕ) (asked : ℕ → Bool)
         there : (h a : ℕ) → (h == t) ≡ false → new_row h ≡ Some a → N.row h ≡ Some a
         there h a e p = sym (put_other t (Some m) N.row h e) ∙ p
 
-        apart : Rows S N → (h k a b : ℕ) → (h ≡ t) ⊎ ((h == t) ≡ false) → (k ≡ t) ⊎ ((k == t) ≡ false) → new_row h ≡ Some a → new_row k ≡ Some b → 2 ≤ a + b → Related S.root h k
+        apart : Rows S N → (h k a b : ℕ) → (h ≡ t) ⊎ ((h == t) ≡ false) → (k ≡ t) ⊎ ((k == t) ≡ false) → new_row h ≡ Some a →
+            new_row k ≡ Some b → 2 ≤ a + b → Related S.root h k
         apart c h k a b (inl e) (inl f) p q less = inl (e ∙ sym f)
-        apart c h k a b (inl e) (inr f) p q less = subst (λ n. Related S.root n k) (sym e) (free k b (there k b f q) (omega (arith, less, here h a e p)))
-        apart c h k a b (inr e) (inl f) p q less = turned k h (subst (λ n. Related S.root n h) (sym f) (free h a (there h a e p) (omega (arith, less, here k b f q))))
+        apart c h k a b (inl e) (inr f) p q less =
+            subst (λ n. Related S.root n k) (sym e) (free k b (there k b f q) (omega (arith, less, here h a e p)))
+        apart c h k a b (inr e) (inl f) p q less =
+            turned k h (subst (λ n. Related S.root n h) (sym f) (free h a (there h a e p) (omega (arith, less, here k b f q))))
         apart c h k a b (inr e) (inr f) p q less = c.apart h k a b (there h a e p) (there k b f q) less
 
     is_held : (r : ℕ) → IsHeld S N r → IsHeld S Locked r
@@ -106,7 +111,8 @@ module _ (S : State) (N : Names) (t m : ℕ) (asked : ℕ → Bool)
     }
 
     pub locked_answer : ((x : ℕ) → N.asked x ≡ true → asked x ≡ true) → (a : Answer) → AnswerMeans S N a → AnswerMeans S Locked a
-    locked_answer stays (Bound x i b l) y = (y.0, y.1, λ q e u. let z = y.2 q e u in (row_rises x 0 z.0, z.1, z.2, λ w. let v = z.3 w in (stays x v.0, v.1)))
+    locked_answer stays (Bound x i b l) y =
+        (y.0, y.1, λ q e u. let z = y.2 q e u in (row_rises x 0 z.0, z.1, z.2, λ w. let v = z.3 w in (stays x v.0, v.1)))
     locked_answer stays (Loaded x i g) y = (y.0, y.1, y.2, λ q e u. let z = y.3 q e u in (stays x z.0, z.1))
 
     pub locked_plans : ((x : ℕ) → N.asked x ≡ true → asked x ≡ true) → Plans S N → Plans S Locked
@@ -117,7 +123,8 @@ module _ (S : State) (N : Names) (t m : ℕ) (asked : ℕ → Bool)
     }
 
 -- what a granted lock gives: no other top's entry is prepared that conflicts
-no_pending : (S : State) (N : Names) (c : Core S) → Roots S → Rows S N → (t m : ℕ) → S.serial t ≡ false → is_idle (S.stage t) ≡ true → IsFree S N t m → (h : Hold) (n : ℕ) → S.entry_pend ≡ Some h → HasRow N h.top n → 2 ≤ m + n → ⊥
+no_pending : (S : State) (N : Names) (c : Core S) → Roots S → Rows S N → (t m : ℕ) → S.serial t ≡ false → is_idle (S.stage t) ≡ true →
+    IsFree S N t m → (h : Hold) (n : ℕ) → S.entry_pend ≡ Some h → HasRow N h.top n → 2 ≤ m + n → ⊥
 no_pending S N c roots rows t m top idle free h n p (k, row, low) less = by (free h.top k row (omega (arith, low, less)))
   where
     begun : S.begun h.top ≡ true
@@ -130,13 +137,15 @@ no_pending S N c roots rows t m top idle free h n p (k, row, low) less = by (fre
         never idle (ap (λ x. is_idle (S.stage x)) (sym (e ∙ same)) ∙ c.fresh.begun h.top begun)
 
 -- the entry's list, answered with a lock that no prepared entry with a new store stands against
-answer_wide : (S : State) (N : Names) (c : Core S) → Roots S → Rows S N → (t m : ℕ) → S.serial t ≡ false → is_idle (S.stage t) ≡ true → IsFree S N t m → IsWide S (S.root t) S.entry.content
+answer_wide : (S : State) (N : Names) (c : Core S) → Roots S → Rows S N → (t m : ℕ) → S.serial t ≡ false → is_idle (S.stage t) ≡ true →
+    IsFree S N t m → IsWide S (S.root t) S.entry.content
 answer_wide S N c roots rows t m top idle free s (inl i) = inl i
 answer_wide S N c roots rows t m top idle free s (inr i) = ⊎_elim
     (λ (e : has s S.entry.content ≡ true). inl e)
     (λ (x : (h : Hold) × (S.entry_pend ≡ Some h) × (decided S h.top ≡ true) × (has s h.new.content ≡ true)). ⊎_elim
     (λ (e : has s S.entry.content ≡ true). inl e)
-    (λ (e : has s S.entry.content ≡ false). absurd (no_pending S N c roots rows t m top idle free x.0 2 x.1 (rows.adds x.0 s x.1 x.3 e) (omega arith)))
+    (λ (e : has s S.entry.content ≡ false).
+    absurd (no_pending S N c roots rows t m top idle free x.0 2 x.1 (rows.adds x.0 s x.1 x.3 e) (omega arith)))
     (bool_cases (has s S.entry.content)))
     (last_listed S s c i)
 
@@ -145,13 +154,16 @@ related_free S t h (inl e) = inl (sym e)
 related_free S t h (inr e) = inr (inl (sym e))
 
 -- with a given back lock only its holder gets one
-given_is : (S : State) (N : Names) → Roots S → Rows S N → (t m : ℕ) → S.serial t ≡ false → 1 ≤ m → IsFree S N t m → (x : ℕ) → N.given x ≡ true → t ≡ x
+given_is : (S : State) (N : Names) → Roots S → Rows S N → (t m : ℕ) → S.serial t ≡ false → 1 ≤ m → IsFree S N t m → (x : ℕ) →
+    N.given x ≡ true → t ≡ x
 given_is S N roots rows t m top low free x g = by (rows.given x g)
   where
     by : HasRow N x 1 × (S.begun x ≡ true) × (N.had x N.inc ≡ false) → t ≡ x
-    by ((n, row, one), begun, none) = one_top S roots t x top (roots.tops x begun) (related_free S t x (free x n row (omega (arith, low, one))))
+    by ((n, row, one), begun, none) =
+        one_top S roots t x top (roots.tops x begun) (related_free S t x (free x n row (omega (arith, low, one))))
 
-free_related : (S : State) (N : Names) → Rows S N → (t m : ℕ) → IsFree S N t m → (h n : ℕ) → N.row h ≡ Some n → 2 ≤ raised (N.row t) m + n → Related S.root t h
+free_related : (S : State) (N : Names) → Rows S N → (t m : ℕ) → IsFree S N t m → (h n : ℕ) → N.row h ≡ Some n → 2 ≤ raised (N.row t) m + n →
+    Related S.root t h
 free_related S N rows t m free h n row less = ⊎_elim
     (λ (e : N.row t ≡ Some (raised (N.row t) m)). rows.apart t h (raised (N.row t) m) n e row less)
     (λ (e : raised (N.row t) m ≡ m). related_free S t h (free h n row (omega (arith, less, e))))
@@ -191,8 +203,12 @@ read_named A t may live c = record {
     by a (inl e) = subst (AnswerMeans S (acted A (Read t)).names) e (
       may.top,
       le_refl N.inc,
-      λ idle is untold.
-          ((m, put_same t (Some m) N.row, raised_mode (N.row t) 0), falls_to (N.given t) (λ g. never live (c.rows.dead t g)), answer_wide S N c.whole.core c.roots c.rows t 0 may.top idle may.free, λ f. let n : false ≡ true = f in cc),
+      λ idle is untold. (
+        (m, put_same t (Some m) N.row, raised_mode (N.row t) 0),
+        falls_to (N.given t) (λ g. never live (c.rows.dead t g)),
+        answer_wide S N c.whole.core c.roots c.rows t 0 may.top idle may.free,
+        λ f. let n : false ≡ true = f in cc,
+      ),
     )
 
 pub write_named : (A : Office) (t : ℕ) (b : Bool) → MayLock A t 2 → Named A → Named (acted A (Write t b))
@@ -228,7 +244,8 @@ write_named A t b may c = record {
     alone = given_is S N c.roots c.rows t 2 may.top (omega arith) may.free
 
     asks : (x : ℕ) → asked x ≡ true → (N.asked x ≡ true) ⊎ ((x ≡ t) × (2 ≤ m))
-    asks x = put_cases (λ y. y ≡ true → (N.asked x ≡ true) ⊎ ((x ≡ t) × (2 ≤ m))) t (N.asked t || b) N.asked x (λ e h. inr (e, raised_mode (N.row t) 2)) (λ e h. inl h)
+    asks x = put_cases (λ y. y ≡ true →
+        (N.asked x ≡ true) ⊎ ((x ≡ t) × (2 ≤ m))) t (N.asked t || b) N.asked x (λ e h. inr (e, raised_mode (N.row t) 2)) (λ e h. inl h)
 
     stays : (x : ℕ) → N.asked x ≡ true → asked x ≡ true
     stays x a = put_cases (λ y. y ≡ true) t (N.asked t || b) N.asked x (λ e. ap (λ y. y || b) (ap N.asked (sym e) ∙ a)) (λ e. a)
@@ -248,8 +265,12 @@ write_named A t b may c = record {
     by a (inl e) = subst (AnswerMeans S (acted A (Write t b)).names) e (
       may.top,
       le_refl N.inc,
-      λ idle is untold.
-          ((m, put_same t (Some m) N.row, omega arith), given_not idle, answer_wide S N c.whole.core c.roots c.rows t 2 may.top idle may.free, λ f. (put_same t (N.asked t || b) N.asked ∙ or_right (N.asked t) b f, kept idle)),
+      λ idle is untold. (
+        (m, put_same t (Some m) N.row, omega arith),
+        given_not idle,
+        answer_wide S N c.whole.core c.roots c.rows t 2 may.top idle may.free,
+        λ f. (put_same t (N.asked t || b) N.asked ∙ or_right (N.asked t) b f, kept idle),
+      ),
     )
       where
         given_not : is_idle (S.stage t) ≡ true → N.given t ≡ false
@@ -288,7 +309,17 @@ pub unbind_named : (A : Office) → Named A → Named (acted A Unbind)
 unbind_named A c = record {
   whole = c.whole;
   roots = c.roots;
-  rows = record { apart = c.rows.apart; alone = c.rows.alone; dead = λ t g. refl; given = c.rows.given; guard = c.rows.guard; adds = c.rows.adds; out = c.rows.out; since = c.rows.since; asked = c.rows.asked };
+  rows = record {
+    apart = c.rows.apart;
+    alone = c.rows.alone;
+    dead = λ t g. refl;
+    given = c.rows.given;
+    guard = c.rows.guard;
+    adds = c.rows.adds;
+    out = c.rows.out;
+    since = c.rows.since;
+    asked = c.rows.asked;
+  };
   grants = c.grants;
   lists = c.lists;
   answers = λ a i. by a (c.answers a i);
@@ -358,22 +389,27 @@ lower_named A t may c = record {
     not_given x g = never may.had (ap (λ n. N.had n N.inc) (c.rows.alone x t 2 g may.held) ∙ (c.rows.given x g).2)
 
     any : (h : ℕ) → HasRow N h 0 → HasRow M h 0
-    any h (n, row, low) = put_cases (λ o. (j : ℕ) × (o ≡ Some j) × (0 ≤ j)) t (Some mode) N.row h (λ e. (mode, refl, omega arith)) (λ e. (n, row, low))
+    any h (n, row, low) =
+        put_cases (λ o. (j : ℕ) × (o ≡ Some j) × (0 ≤ j)) t (Some mode) N.row h (λ e. (mode, refl, omega arith)) (λ e. (n, row, low))
 
     guarded : (h : Hold) (n : ℕ) → S.entry_pend ≡ Some h → HasRow N h.top n → HasRow M h.top n
     guarded h n p r = ⊎_elim
-        (λ (a : N.asked t ≡ true). ⊎_elim (λ (e : h.top ≡ t). subst (λ x. HasRow M x n) (sym e) (strong (subst (λ x. HasRow N x n) e r) a)) (λ (e : (h.top == t) ≡ false). other h.top n e r) (test_cases h.top t))
-        (λ (a : N.asked t ≡ false). ⊎_elim (λ (e : h.top ≡ t). absurd (may.clear a h p e)) (λ (e : (h.top == t) ≡ false). other h.top n e r) (test_cases h.top t))
+        (λ (a : N.asked t ≡ true). ⊎_elim (λ (e : h.top ≡ t). subst (λ x. HasRow M x n) (sym e) (strong (subst (λ x. HasRow N x n) e r) a))
+        (λ (e : (h.top == t) ≡ false). other h.top n e r) (test_cases h.top t))
+        (λ (a : N.asked t ≡ false).
+        ⊎_elim (λ (e : h.top ≡ t). absurd (may.clear a h p e)) (λ (e : (h.top == t) ≡ false). other h.top n e r) (test_cases h.top t))
         (bool_cases (N.asked t))
       where
         other : (x n : ℕ) → (x == t) ≡ false → HasRow N x n → HasRow M x n
         other x n e (k, row, low) = (k, put_other t (Some mode) N.row x e ∙ row, low)
 
         strong : HasRow N t n → N.asked t ≡ true → HasRow M t n
-        strong (k, row, low) a = (2, put_same t (Some mode) N.row ∙ ap (λ b. Some (cond b 2 0)) a, omega (arith, low, some_nat (sym row ∙ may.held)))
+        strong (k, row, low) a =
+            (2, put_same t (Some mode) N.row ∙ ap (λ b. Some (cond b 2 0)) a, omega (arith, low, some_nat (sym row ∙ may.held)))
 
     asked : (x : ℕ) → N.asked x ≡ true → HasRow N x 2 → HasRow M x 2
-    asked x a (k, row, low) = put_cases (λ o. (j : ℕ) × (o ≡ Some j) × (2 ≤ j)) t (Some mode) N.row x (λ e. (2, ap (λ b. Some (cond b 2 0)) (ap N.asked (sym e) ∙ a), le_refl 2)) (λ e. (k, row, low))
+    asked x a (k, row, low) = put_cases (λ o. (j : ℕ) × (o ≡ Some j) × (2 ≤ j)) t (Some mode) N.row x
+        (λ e. (2, ap (λ b. Some (cond b 2 0)) (ap N.asked (sym e) ∙ a), le_refl 2)) (λ e. (k, row, low))
 
     is_held : (r : ℕ) → IsHeld S N r → IsHeld S M r
     is_held r (inl x) = inl x

@@ -1,21 +1,17 @@
 -- What follows with the naming node's half.
-use Rattle.std.proofs.Common.{◌≡◌, ◌⊎◌, ℕ, ◌+◌, Bool, true, false, Option, Some, None, is_some, unwrap_or, refl, sym, ap, subst, inl, inr, ⊎_elim, arith}
-use Rattle.arj_law_disk.specs.machine.Core.{Core}
-use Rattle.arj_law_disk.specs.machine.Named.{Named}
-use Rattle.arj_law_disk.specs.machine.Names.{Office}
+use Rattle.arj_law_disk.proofs.Terms
+use Terms.{◌≡◌, ◌⊎◌, ℕ, ◌+◌, Bool, true, false, Option, Some, None, is_some, unwrap_or, refl, sym, ap, subst, inl, inr, ⊎_elim, arith, Core}
+use Terms.{Named, Office, State, Packed, is_open, undecided, decided, decided_in, state_for, last, Below, In}
+use Rattle.arj_law_disk.proofs.machine
+use machine.{Base.never, Base.never_some, Base.open_parts, History.known_below, Listing.plain_target, Results.first_is_whole}
+use machine.Booking.{agree_locked, enter_locked, changes_part, enter_free}
 use Rattle.arj_law_disk.specs.machine.NamingLaws.{FirstIsNamed, IsBooked, OldNeedsRestart}
-use Rattle.arj_law_disk.specs.machine.State.{State, Packed, is_open, undecided, decided, decided_in, state_for, last, Below}
-use Rattle.arj_law_disk.specs.machine.Words.{In}
-use Rattle.arj_law_disk.proofs.machine.Base.{never, never_some, open_parts}
-use Rattle.arj_law_disk.proofs.machine.Booking.{agree_locked, enter_locked, changes_part, enter_free}
-use Rattle.arj_law_disk.proofs.machine.History.{known_below}
-use Rattle.arj_law_disk.proofs.machine.Listing.{plain_target}
-use Rattle.arj_law_disk.proofs.machine.Results.{first_is_whole}
 
 pub booked : (A : Office) → Named A → IsBooked A
 booked A c = record {
   agrees = λ t may u. agree_locked A c t may.confirm (λ p. may.present) may.writes may.same may.next u;
-  enters = λ t may u. enter_locked A c t may.confirm (λ p. may.present) (enter_free A c t may.confirm (λ p. may.present) may.other) (changes_part A c t may.confirm (λ p. may.present) may.other) may.stores may.next u;
+  enters = λ t may u. enter_locked A c t may.confirm (λ p. may.present) (enter_free A c t may.confirm (λ p. may.present) may.other)
+      (changes_part A c t may.confirm (λ p. may.present) may.other) may.stores may.next u;
   prepares = λ t may. enter_free A c t may.confirm (λ p. may.present) may.other;
 }
 
@@ -36,13 +32,20 @@ old_needs_restart A c t s g u goal next held old present = old (by (S.plan t).wr
     above w e (inr is) = inl (omega (arith, e, ap (λ (x : Packed). x.version) is))
 
     by : (o : Option Packed) → (S.plan t).writes ≡ o → Below g (state_for (S.plan t))
-    by None e = subst (λ o. Below g (unwrap_or o (S.plan t).loaded)) (sym e) (subst (Below g) (sym (c.plans.loaded t s u (plain_target (S.plan t) s e goal) present).0) low)
+    by None e = subst (λ o. Below g (unwrap_or o (S.plan t).loaded)) (sym e)
+        (subst (Below g) (sym (c.plans.loaded t s u (plain_target (S.plan t) s e goal) present).0) low)
     by (Some w) e = subst (λ o. Below g (unwrap_or o (S.plan t).loaded)) (sym e) (above w (next w e) low)
 
 pub first_is_named : FirstIsNamed
 first_is_named S N f forest n = record {
   whole = first_is_whole S f;
-  roots = record { serial = forest.serial; plain = forest.plain; idem = forest.idem; tops = λ t b. no_way b (f.unbegun t); one = λ t z u. absurd (closed t u) };
+  roots = record {
+    serial = forest.serial;
+    plain = forest.plain;
+    idem = forest.idem;
+    tops = λ t b. no_way b (f.unbegun t);
+    one = λ t z u. absurd (closed t u);
+  };
   rows = record {
     apart = λ h k a b p. none_some (n.row h) p;
     alone = λ t h a g. no_way g (n.given t);
@@ -89,7 +92,8 @@ first_is_named S N f forest n = record {
     undone t = ap (λ ds. decided_in ds t) f.undecided
 
     closed : (t : ℕ) → undecided S t ≡ true → ⊥
-    closed t u = ⊎_elim (λ (o : is_open (S.stage t) ≡ true). never o (ap is_open (f.idle t))) (λ (i : is_some (S.intent t) ≡ true). never i (ap is_some (f.no_record t))) (open_parts (decided S t) (S.stage t) (S.intent t) u)
+    closed t u = ⊎_elim (λ (o : is_open (S.stage t) ≡ true). never o (ap is_open (f.idle t)))
+        (λ (i : is_some (S.intent t) ≡ true). never i (ap is_some (f.no_record t))) (open_parts (decided S t) (S.stage t) (S.intent t) u)
 
     untaken : {P : Type 0} (t : ℕ) → (S.conf t ≡ true) ⊎ (S.light t ≡ true) → P
     untaken t (inl h) = no_way h (f.none_conf t)

@@ -1,17 +1,17 @@
 -- Effects in which the naming node's half has no part.
-use Rattle.std.proofs.Common.{◌≡◌, ◌==◌, ◌||◌, not, [], ◌∷◌, map, true, false, refl, ◌∙◌, ap, subst, sym}
-use Rattle.arj_law_disk.specs.machine.Effects
-use Rattle.arj_law_disk.specs.machine.Effects.{Effect, Allowed, after, run}
-use Rattle.arj_law_disk.specs.machine.Guards.{IsToldFirst, MayDo, Runs, end_of, is_only_of, tells_only_of}
-use Rattle.arj_law_disk.specs.machine.Messages as mail
-use Rattle.arj_law_disk.specs.machine.Names.{Names, Office, Do, noted}
-use Rattle.arj_law_disk.specs.machine.NamingLaws.{PlainEffectsAreActs}
-use Rattle.arj_law_disk.specs.machine.State.{naming}
+use Rattle.arj_law_disk.proofs.Terms
+use Terms.{◌≡◌, ◌==◌, ◌||◌, not, [], ◌∷◌, true, false, refl, ◌∙◌, ap, subst, sym, Effect, Allowed, after, run, IsToldFirst, MayDo, Runs}
+use Terms.{end_of, Names, Office, Do, naming}
+use Terms.Effects
 use Rattle.arj_law_disk.proofs.machine.Base.{never, test_same}
+use Rattle.arj_law_disk.specs.machine.{Guards.is_only_of, Guards.tells_only_of, Names.noted, NamingLaws.PlainEffectsAreActs}
+use Rattle.std.proofs.Common.{map}
+use Rattle.arj_law_disk.specs.machine.Messages as mail
 
 -- nobody acknowledges at naming
 told_first : (N : Names) (m : mail.Message) → tells_only_of (λ n. false) m ≡ true → IsToldFirst N m
-told_first N (mail.Acked t m) is = λ one. absurd (never (sym (ap (λ n. not (n == naming) || false) one) ∙ is) (ap (λ b. not b || false) (test_same naming)))
+told_first N (mail.Acked t m) is =
+    λ one. absurd (never (sym (ap (λ n. not (n == naming) || false) one) ∙ is) (ap (λ b. not b || false) (test_same naming)))
 told_first N (mail.Prepare t s) is = tt
 told_first N (mail.Prepared t s) is = tt
 told_first N (mail.Confirm t) is = tt
@@ -55,5 +55,7 @@ plain_effects_are_acts A (e ∷ es) follows plain =
     let p = plain_act A e follows.0 plain.0 in
     let B : Office = record { world = after A.world e; names = A.names } in
     let r = plain_effects_are_acts B es follows.1 plain.1 in
-    subst (λ N. (MayDo A e × Runs (record { world = after A.world e; names = N }) (map Do es)) × (end_of (record { world = after A.world e; names = N }) (map Do es) ≡ record { world = run A.world (e ∷ es); names = A.names }) × ((run A.world (e ∷ es)).disk.tops ≡ A.world.disk.tops))
+    subst (λ N. (MayDo A e × Runs (record { world = after A.world e; names = N }) (map Do es))
+    × (end_of (record { world = after A.world e; names = N }) (map Do es) ≡ record { world = run A.world (e ∷ es); names = A.names })
+    × ((run A.world (e ∷ es)).disk.tops ≡ A.world.disk.tops))
     (sym p.names) ((p.may, r.0), r.1, r.2 ∙ p.tops)

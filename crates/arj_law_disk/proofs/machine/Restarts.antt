@@ -1,40 +1,44 @@
 -- A restart of the naming node, and what coordinators take from its answers.
-use Rattle.std.proofs.Common.{◌≡◌, ◌⊎◌, ℕ, ◌+◌, ◌≤◌, List, [], ◌∷◌, Bool, true, false, cond, ◌==◌, not, Option, Some, None, is_some, nat_lt, refl, sym, ◌∙◌, ap, subst, inl, inr, ⊎_elim, arith, le_refl, ◌<◌, filter, if◌then◌else◌}
+use Rattle.arj_law_disk.proofs.Terms
+use Terms.{◌≡◌, ◌⊎◌, ℕ, ◌+◌, ◌≤◌, List, [], ◌∷◌, Bool, true, false, cond, ◌==◌, not, Option, Some, None, is_some, nat_lt, refl, sym, ◌∙◌}
+use Terms.{ap, subst, inl, inr, ⊎_elim, arith, le_refl, ◌<◌, filter, Core, HasRow, IsUntold, IsPresent, Acked, IsOver, Named, IsHeld}
+use Terms.{IsWide, IsLoad, AnswerMeans, IsLeaving, Names, Office, Kept, Answer, Bound, Loaded, acted, newer, written_in, or_else, load_of}
+use Terms.{State, Packed, Hold, Done, naming, is_idle, is_gone, is_open, decided, undecided, last, last_entry, KnownIn, Below, IsExcused}
+use Terms.{Listed, has, In, put, put2}
+use Rattle.arj_law_disk.proofs.machine
+use machine.{History.known_last, History.effective_none, Kin.one_top, Listing.has_filtered, Locks.some_nat, Locks.less_cases}
+use machine.Base.{put_cases, put_other, put2_true, put2_rises, test_cases, test_is, test_same, differs, never, never_some, some_is, or_left}
+use machine.Base.{or_right, or_cases, open_parts, falls_to, not_false}
+use Rattle.arj_law_disk.specs.machine.Guards.{MayRestart, MayHear, MayKeepList, MayAnswerLoad}
+use Rattle.arj_law_disk.specs.machine.Names.{given_mode, given_row, is_pending, Restart, Hear, KeepList, AnswerLoad, narrowed}
+use Rattle.std.proofs.Common.{if◌then◌else◌}
 use Rattle.std.specs.List.{list_any}
-use Rattle.arj_law_disk.specs.machine.Core.{Core}
-use Rattle.arj_law_disk.specs.machine.Guards.{HasRow, IsUntold, IsPresent, MayRestart, MayHear, MayKeepList, MayAnswerLoad}
-use Rattle.arj_law_disk.specs.machine.Messages.{Acked, IsOver}
-use Rattle.arj_law_disk.specs.machine.Named.{Named, IsHeld, IsWide, IsLoad, AnswerMeans, IsLeaving}
-use Rattle.arj_law_disk.specs.machine.Names.{Names, Office, Kept, Answer, Bound, Loaded, given_mode, given_row, is_pending, acted, Restart, Hear, KeepList, AnswerLoad, newer, written_in, or_else, load_of, narrowed}
-use Rattle.arj_law_disk.specs.machine.State.{State, Packed, Hold, Done, naming, is_idle, is_gone, is_open, decided, undecided, last, last_entry, KnownIn, Below, IsExcused, Listed}
-use Rattle.arj_law_disk.specs.machine.Words.{has, In, put, put2}
-use Rattle.arj_law_disk.proofs.machine.Base.{put_cases, put_other, put2_true, put2_rises, test_cases, test_is, test_same, differs, never, never_some, some_is, or_left, or_right, or_cases, open_parts, falls_to, not_false}
-use Rattle.arj_law_disk.proofs.machine.History.{known_last, effective_none}
-use Rattle.arj_law_disk.proofs.machine.Kin.{one_top}
-use Rattle.arj_law_disk.proofs.machine.Locks.{some_nat, less_cases}
-use Rattle.arj_law_disk.proofs.machine.Listing.{has_filtered}
 
 -- a top whose outcome is open has begun
 pub open_begun : (S : State) → Core S → (t : ℕ) → undecided S t ≡ true → S.begun t ≡ true
 open_begun S c t u = ⊎_elim
     (λ (o : is_open (S.stage t) ≡ true). c.fresh.open_begun t o)
-    (λ (r : is_some (S.intent t) ≡ true). ⊎_elim (λ (h : S.conf t ≡ true). c.fresh.conf t h) (λ (h : S.light t ≡ true). c.fresh.light t h) (c.coordinators.record_taken t r))
+    (λ (r : is_some (S.intent t) ≡ true).
+    ⊎_elim (λ (h : S.conf t ≡ true). c.fresh.conf t h) (λ (h : S.light t ≡ true). c.fresh.light t h) (c.coordinators.record_taken t r))
     (open_parts (decided S t) (S.stage t) (S.intent t) u)
 
 pending_is : (o : Option Hold) (t : ℕ) → is_pending o t ≡ true → (p : Hold) × (o ≡ Some p) × (t ≡ p.top)
 pending_is None t h = let n : false ≡ true = h in cc
 pending_is (Some p) t h = (p, refl, test_is t p.top h)
 
-given_is : (entry : Packed) (o : Option Hold) (h a : ℕ) → given_row entry o h ≡ Some a → (p : Hold) × (o ≡ Some p) × (h ≡ p.top) × (a ≡ given_mode entry p)
+given_is : (entry : Packed) (o : Option Hold) (h a : ℕ) → given_row entry o h ≡ Some a →
+    (p : Hold) × (o ≡ Some p) × (h ≡ p.top) × (a ≡ given_mode entry p)
 given_is entry None h a e = let n : ◌≡◌ {A = Option ℕ} None (Some a) = e in cc
 given_is entry (Some p) h a e = by (h == p.top) refl e
   where
-    by : (b : Bool) → (h == p.top) ≡ b → cond b (Some (given_mode entry p)) None ≡ Some a → (q : Hold) × (◌≡◌ {A = Option Hold} (Some p) (Some q)) × (h ≡ q.top) × (a ≡ given_mode entry q)
+    by : (b : Bool) → (h == p.top) ≡ b → cond b (Some (given_mode entry p)) None ≡ Some a →
+        (q : Hold) × (◌≡◌ {A = Option Hold} (Some p) (Some q)) × (h ≡ q.top) × (a ≡ given_mode entry q)
     by true t e = (p, refl, test_is h p.top t, sym (some_nat e))
     by false t e = let n : ◌≡◌ {A = Option ℕ} None (Some a) = e in cc
 
 given_has : (entry : Packed) (o : Option Hold) (p : Hold) → o ≡ Some p → given_row entry o p.top ≡ Some (given_mode entry p)
-given_has entry o p e = subst (λ x. given_row entry x p.top ≡ Some (given_mode entry p)) (sym e) (ap (λ b. cond b (Some (given_mode entry p)) None) (test_same p.top))
+given_has entry o p e = subst (λ x. given_row entry x p.top ≡ Some (given_mode entry p)) (sym e)
+    (ap (λ b. cond b (Some (given_mode entry p)) None) (test_same p.top))
 
 any_true : (f : ℕ → Bool) (l : List ℕ) (s : ℕ) → has s l ≡ true → f s ≡ true → list_any f l ≡ true
 any_true f [] s h p = h
@@ -51,17 +55,24 @@ mode_low entry p = by (list_any (λ s. not (has s entry.content)) p.new.content)
     by false = le_refl 1
 
 mode_adds : (entry : Packed) (p : Hold) (s : ℕ) → has s p.new.content ≡ true → has s entry.content ≡ false → 2 ≤ given_mode entry p
-mode_adds entry p s i n = subst (λ b. 2 ≤ cond b 2 1) (sym (any_true (λ x. not (has x entry.content)) p.new.content s i (not_false (has s entry.content) n))) (le_refl 2)
+mode_adds entry p s i n = subst (λ b. 2 ≤ cond b 2 1)
+    (sym (any_true (λ x. not (has x entry.content)) p.new.content s i (not_false (has s entry.content) n))) (le_refl 2)
 
 pub restart_named : (A : Office) (yes_again : ℕ → Bool) → MayRestart A yes_again → Named A → Named (acted A (Restart yes_again))
 restart_named A yes_again may c = record {
   whole = c.whole;
   roots = c.roots;
   rows = record {
-    apart = λ h k m n p q less. let x = given_is S.entry S.entry_pend h m p in let y = given_is S.entry S.entry_pend k n q in inl (x.2 ∙ (ap (λ (z : Hold). z.top) (some_is x.1 y.1) ∙ sym y.2));
-    alone = λ t h m g p. let x = given_is S.entry S.entry_pend h m p in let y = pending_is S.entry_pend t g in x.2 ∙ (ap (λ (z : Hold). z.top) (some_is x.1 y.1) ∙ sym y.2);
+    apart = λ h k m n p q less. let x = given_is S.entry S.entry_pend h m p in let y = given_is S.entry S.entry_pend k n q in
+        inl (x.2 ∙ (ap (λ (z : Hold). z.top) (some_is x.1 y.1) ∙ sym y.2));
+    alone = λ t h m g p. let x = given_is S.entry S.entry_pend h m p in let y = pending_is S.entry_pend t g in
+        x.2 ∙ (ap (λ (z : Hold). z.top) (some_is x.1 y.1) ∙ sym y.2);
     dead = λ t g. refl;
-    given = λ t g. let y = pending_is S.entry_pend t g in (subst (λ n. HasRow M n 1) (sym y.2) (row y.0 1 y.1 (mode_low S.entry y.0)), ap S.begun y.2 ∙ core.fresh.entry y.0 y.1, falls_to (N.had t (N.inc + 1)) (λ h. past t (N.inc + 1) h refl));
+    given = λ t g. let y = pending_is S.entry_pend t g in (
+      subst (λ n. HasRow M n 1) (sym y.2) (row y.0 1 y.1 (mode_low S.entry y.0)),
+      ap S.begun y.2 ∙ core.fresh.entry y.0 y.1,
+      falls_to (N.had t (N.inc + 1)) (λ h. past t (N.inc + 1) h refl),
+    );
     guard = λ h p. (row h 1 p (mode_low S.entry h), refl, may.pending h p);
     adds = λ h s p i n. row h 2 p (mode_adds S.entry h s i n);
     out = c.rows.out;
@@ -139,19 +150,26 @@ hear_named A t i b l may c = record {
     asked = c.rows.asked;
   };
   grants = record {
-    past = λ x j h. ⊎_elim (λ (e : (x ≡ t) × (j ≡ i)). subst (λ n. n ≤ N.inc) (sym e.1) answered.1) (λ (o : N.had x j ≡ true). c.grants.past x j o) (put2_true t i N.had x j h);
+    past = λ x j h. ⊎_elim (λ (e : (x ≡ t) × (j ≡ i)). subst (λ n. n ≤ N.inc) (sym e.1) answered.1)
+        (λ (o : N.had x j ≡ true). c.grants.past x j o) (put2_true t i N.had x j h);
     row = λ x s h u. ⊎_elim
-        (λ (e : (x ≡ t) × (N.inc ≡ i)). let y = answered.2 idle (sym e.1) (subst (IsUntold S N) e.0 u) in (subst (λ n. HasRow N n 0) (sym e.0) y.0, ap N.given e.0 ∙ y.1))
+        (λ (e : (x ≡ t) × (N.inc ≡ i)). let y = answered.2 idle (sym e.1) (subst (IsUntold S N) e.0 u) in
+        (subst (λ n. HasRow N n 0) (sym e.0) y.0, ap N.given e.0 ∙ y.1))
         (λ (o : N.had x N.inc ≡ true). c.grants.row x s o u)
         (put2_true t i N.had x N.inc h);
-    root = λ r s h u. ⊎_elim (λ (e : (r ≡ t) × (N.inc ≡ i)). absurd (never s (ap S.serial e.0 ∙ answered.0))) (λ (o : N.had r N.inc ≡ true). held r (c.grants.root r s o u)) (put2_true t i N.had r N.inc h);
-    conf = λ x y h. ⊎_elim (λ (e : (x ≡ t) × (N.inc ≡ i)). absurd (differs x t (working x (taken_not_idle x y)) e.0)) (λ (o : N.had x N.inc ≡ true). c.grants.conf x y o) (put2_true t i N.had x N.inc h);
+    root = λ r s h u. ⊎_elim (λ (e : (r ≡ t) × (N.inc ≡ i)). absurd (never s (ap S.serial e.0 ∙ answered.0)))
+        (λ (o : N.had r N.inc ≡ true). held r (c.grants.root r s o u)) (put2_true t i N.had r N.inc h);
+    conf = λ x y h. ⊎_elim (λ (e : (x ≡ t) × (N.inc ≡ i)). absurd (differs x t (working x (taken_not_idle x y)) e.0))
+        (λ (o : N.had x N.inc ≡ true). c.grants.conf x y o) (put2_true t i N.had x N.inc h);
     part = λ x y p. let z = c.grants.part x y p in (z.0, either x z.0 z.1, z.2);
     yes = c.grants.yes;
-    listed = λ x d h u. ⊎_elim (λ (e : (x ≡ t) × (N.inc ≡ i)). absurd (differs x t (working x (taken_not_idle x (core.coordinators.decided_taken x d))) e.0)) (λ (o : N.had x N.inc ≡ true). c.grants.listed x d o u) (put2_true t i N.had x N.inc h);
+    listed = λ x d h u. ⊎_elim
+        (λ (e : (x ≡ t) × (N.inc ≡ i)). absurd (differs x t (working x (taken_not_idle x (core.coordinators.decided_taken x d))) e.0))
+        (λ (o : N.had x N.inc ≡ true). c.grants.listed x d o u) (put2_true t i N.had x N.inc h);
     acked = λ x m. ⊎_elim
         (λ (h : N.told x ≡ true). inl h)
-        (λ (h : N.had x N.inc ≡ false). inr (put2_other t i N.had x N.inc (working x (taken_not_idle x (core.coordinators.decided_taken x (c.whole.mail (Acked x naming) m).0))) ∙ h))
+        (λ (h : N.had x N.inc ≡ false). inr (put2_other t i N.had x N.inc
+        (working x (taken_not_idle x (core.coordinators.decided_taken x (c.whole.mail (Acked x naming) m).0))) ∙ h))
         (c.grants.acked x m);
     told = c.grants.told;
   };
@@ -188,7 +206,8 @@ hear_named A t i b l may c = record {
     idle = ap is_idle may.idle
 
     working : (x : ℕ) → is_idle (S.stage x) ≡ false → (x == t) ≡ false
-    working x h = ⊎_elim (λ (e : x ≡ t). absurd (never idle (ap (λ n. is_idle (S.stage n)) (sym e) ∙ h))) (λ (e : (x == t) ≡ false). e) (test_cases x t)
+    working x h = ⊎_elim (λ (e : x ≡ t). absurd (never idle (ap (λ n. is_idle (S.stage n)) (sym e) ∙ h))) (λ (e : (x == t) ≡ false). e)
+        (test_cases x t)
 
     taken_not_idle : (x : ℕ) → (S.conf x ≡ true) ⊎ (S.light x ≡ true) → is_idle (S.stage x) ≡ false
     taken_not_idle x (inl h) = core.fresh.begun x (core.fresh.conf x h)
@@ -221,9 +240,12 @@ keep_list_named A h t i l may c = record {
   rows = c.rows;
   grants = c.grants;
   lists = record {
-    had = λ x k. put_cases (λ o. o ≡ Some k → N.had x k.since ≡ true) h (Some new) N.kept x (λ e q. subst (λ (y : Kept). N.had x y.since ≡ true) (same q) (ap (λ n. N.had n i) e ∙ may.had)) (λ e q. c.lists.had x k q);
-    kept = λ x k. put_cases (λ o. o ≡ Some k → IsPresent S N x → IsUntold S N x → IsOver S (S.root x) ⊎ IsWide S (S.root x) k.list) h (Some new) N.kept x
-        (λ e q p u. ⊎_elim (λ over. inl over) (λ wide. inr (subst (λ (y : Kept). IsWide S (S.root x) y.list) (same q) wide)) (narrow x e p u))
+    had = λ x k. put_cases (λ o. o ≡ Some k → N.had x k.since ≡ true) h (Some new) N.kept x
+        (λ e q. subst (λ (y : Kept). N.had x y.since ≡ true) (same q) (ap (λ n. N.had n i) e ∙ may.had)) (λ e q. c.lists.had x k q);
+    kept = λ x k. put_cases (λ o. o ≡ Some k → IsPresent S N x → IsUntold S N x →
+        IsOver S (S.root x) ⊎ IsWide S (S.root x) k.list) h (Some new) N.kept x
+        (λ e q p u.
+        ⊎_elim (λ over. inl over) (λ wide. inr (subst (λ (y : Kept). IsWide S (S.root x) y.list) (same q) wide)) (narrow x e p u))
         (λ e q. c.lists.kept x k q);
     plan = c.lists.plan;
     light = c.lists.light;
@@ -244,26 +266,32 @@ keep_list_named A h t i l may c = record {
     new : Kept
     new = record { since = i; list = narrowed i l (N.kept h) }
 
-    same : {k : Kept} → ◌≡◌ {A = Option Kept} (Some (record { since = i; list = narrowed i l (N.kept h) })) (Some k) → record { since = i; list = narrowed i l (N.kept h) } ≡ k
+    same : {k : Kept} → ◌≡◌ {A = Option Kept} (Some (record { since = i; list = narrowed i l (N.kept h) })) (Some k) →
+        record { since = i; list = narrowed i l (N.kept h) } ≡ k
     same e = cc
 
     untold : (x : ℕ) → is_gone (S.stage x) ≡ false → N.told x ≡ false
     untold x n = falls_to (N.told x) (λ y. never (c.grants.told x y).0 n)
 
     wide : i ≡ N.inc → N.told (S.root t) ≡ false → IsWide S (S.root t) l
-    wide e root = ((c.answers (Bound t i false l) may.hears.answered).2 (ap is_idle may.hears.idle) e (untold t (ap is_gone may.hears.idle), root)).2
+    wide e root =
+        ((c.answers (Bound t i false l) may.hears.answered).2 (ap is_idle may.hears.idle) e (untold t (ap is_gone may.hears.idle), root)).2
 
     -- the answer's list is wide, and so is what is kept
     narrow : (x : ℕ) → x ≡ h → IsPresent S N x → IsUntold S N x → IsOver S (S.root x) ⊎ IsWide S (S.root x) (narrowed i l (N.kept h))
     narrow x e p u = by (N.kept h) refl
       where
         its : IsWide S (S.root x) l
-        its = subst (λ r. IsWide S r l) (sym (ap S.root e ∙ may.family)) (wide (p i (inl (ap (λ n. N.had n i) e ∙ may.had))) (ap N.told (sym (ap S.root e ∙ may.family)) ∙ u.1))
+        its = subst (λ r. IsWide S r l) (sym (ap S.root e ∙ may.family))
+            (wide (p i (inl (ap (λ n. N.had n i) e ∙ may.had))) (ap N.told (sym (ap S.root e ∙ may.family)) ∙ u.1))
 
-        both : (k : Kept) → IsWide S (S.root x) k.list → (s : ℕ) → Listed S s → (has s (filter (λ z. has z k.list) l) ≡ true) ⊎ IsLeaving S.root (decided S) S.entry_pend (S.root x) s
-        both k old s listed = ⊎_elim (λ one. ⊎_elim (λ two. inl (has_filtered (λ z. has z k.list) s l one two)) (λ leaves. inr leaves) (old s listed)) (λ leaves. inr leaves) (its s listed)
+        both : (k : Kept) → IsWide S (S.root x) k.list → (s : ℕ) → Listed S s →
+            (has s (filter (λ z. has z k.list) l) ≡ true) ⊎ IsLeaving S.root (decided S) S.entry_pend (S.root x) s
+        both k old s listed = ⊎_elim (λ one. ⊎_elim (λ two. inl (has_filtered (λ z. has z k.list) s l one two)) (λ leaves. inr leaves)
+            (old s listed)) (λ leaves. inr leaves) (its s listed)
 
-        kept : (k : Kept) → N.kept h ≡ Some k → (b : Bool) → IsOver S (S.root x) ⊎ IsWide S (S.root x) (if b then filter (λ s. has s k.list) l else l)
+        kept : (k : Kept) → N.kept h ≡ Some k → (b : Bool) →
+            IsOver S (S.root x) ⊎ IsWide S (S.root x) (if b then filter (λ s. has s k.list) l else l)
         kept k is true = ⊎_elim (λ over. inl over) (λ old. inr (both k old)) (c.lists.kept x k (ap N.kept e ∙ is) p u)
         kept k is false = inr its
 
@@ -276,7 +304,8 @@ keep_list_named A h t i l may c = record {
     answer (Loaded x j g) y = y
 
 -- beside a working top's write lock no entry is prepared
-pub write_clears : (A : Office) (c : Named A) (t : ℕ) → A.world.disk.serial t ≡ false → is_idle (A.world.disk.stage t) ≡ true → HasRow A.names t 2 → (h : Hold) → A.world.disk.entry_pend ≡ Some h → ⊥
+pub write_clears : (A : Office) (c : Named A) (t : ℕ) → A.world.disk.serial t ≡ false → is_idle (A.world.disk.stage t) ≡ true →
+    HasRow A.names t 2 → (h : Hold) → A.world.disk.entry_pend ≡ Some h → ⊥
 write_clears A c t top idle (n, row, high) h p = by (c.rows.guard h p).0
   where
     begun : A.world.disk.begun h.top ≡ true
@@ -284,15 +313,18 @@ write_clears A c t top idle (n, row, high) h p = by (c.rows.guard h p).0
 
     by : HasRow A.names h.top 1 → ⊥
     by (m, other, low) =
-        let e = one_top A.world.disk c.roots t h.top top (c.roots.tops h.top begun) (c.rows.apart t h.top n m row other (omega (arith, high, low))) in
+        let e = one_top A.world.disk c.roots t h.top top (c.roots.tops h.top begun)
+        (c.rows.apart t h.top n m row other (omega (arith, high, low))) in
         never idle (ap (λ x. is_idle (A.world.disk.stage x)) e ∙ c.whole.core.fresh.begun h.top begun)
 
 -- what a root's tops wrote was known
-pub written_known : (root : ℕ → ℕ) (r : ℕ) (first : Packed) (ds : List Done) (k : Packed) → written_in root r ds ≡ Some k → KnownIn first ds k
+pub written_known : (root : ℕ → ℕ) (r : ℕ) (first : Packed) (ds : List Done) (k : Packed) → written_in root r ds ≡ Some k →
+    KnownIn first ds k
 written_known root r first [] k e = let n : ◌≡◌ {A = Option Packed} None (Some k) = e in cc
 written_known root r first (d ∷ ds) k e = by (written_known root r first ds k) (root d.top == r) d.plan.writes refl e
   where
-    by : (written_in root r ds ≡ Some k → KnownIn first ds k) → (b : Bool) (o : Option Packed) → d.plan.writes ≡ o → cond b (or_else o (written_in root r ds)) (written_in root r ds) ≡ Some k → (d.plan.writes ≡ Some k) ⊎ KnownIn first ds k
+    by : (written_in root r ds ≡ Some k → KnownIn first ds k) → (b : Bool) (o : Option Packed) → d.plan.writes ≡ o →
+        cond b (or_else o (written_in root r ds)) (written_in root r ds) ≡ Some k → (d.plan.writes ≡ Some k) ⊎ KnownIn first ds k
     by ih false o w e = inr (ih e)
     by ih true None w e = inr (ih e)
     by ih true (Some x) w e = inl (w ∙ e)
@@ -303,14 +335,17 @@ newer_last S c t = by (written_in S.root (S.root t) S.tops) refl
   where
     by : (o : Option Packed) → written_in S.root (S.root t) S.tops ≡ o → last S ≡ newer (last S) o
     by None e = refl
-    by (Some k) e = at (less_cases (last S).version k.version) (known_last S.first S.tops k c.history.chain (written_known S.root (S.root t) S.first S.tops k e))
+    by (Some k) e = at (less_cases (last S).version k.version)
+        (known_last S.first S.tops k c.history.chain (written_known S.root (S.root t) S.first S.tops k e))
       where
-        at : ((nat_lt (last S).version k.version ≡ true) × ((last S).version < k.version)) ⊎ ((nat_lt (last S).version k.version ≡ false) × (k.version ≤ (last S).version)) → Below k (last S) → last S ≡ cond (nat_lt (last S).version k.version) k (last S)
+        at : ((nat_lt (last S).version k.version ≡ true) × ((last S).version < k.version)) ⊎ ((nat_lt (last S).version k.version ≡ false)
+            × (k.version ≤ (last S).version)) → Below k (last S) → last S ≡ cond (nat_lt (last S).version k.version) k (last S)
         at (inr x) b = rw x.0
         at (inl x) (inl less) = absurd (omega (arith, x.1, less))
         at (inl x) (inr is) = absurd (omega (arith, x.1, ap (λ (y : Packed). y.version) is))
 
-pub answer_load_named : (A : Office) (t i s : ℕ) (l : List ℕ) (g : Packed) → MayAnswerLoad A t i s l g → Named A → Named (acted A (AnswerLoad t i s l g))
+pub answer_load_named : (A : Office) (t i s : ℕ) (l : List ℕ) (g : Packed) → MayAnswerLoad A t i s l g → Named A →
+    Named (acted A (AnswerLoad t i s l g))
 answer_load_named A t i s l g may c = record {
   whole = c.whole;
   roots = c.roots;

@@ -1,12 +1,11 @@
 -- The guards of small runs.
-use Rattle.std.proofs.Common.{◌≡◌, ◌⊎◌, ℕ, [], ◌∷◌, true, false, ◌==◌, ◌||◌, Option, Some, refl, sym, ◌∙◌, ap, subst, inl, inr, ⊎_elim, arith, le_refl}
-use Rattle.std.proofs.lemmas.Bool.Decides.{nat_tests}
-use Rattle.arj_law_disk.specs.machine.Guards.{Runs}
-use Rattle.arj_law_disk.specs.machine.Messages.{Acked}
-use Rattle.arj_law_disk.specs.machine.Samples.{first_state, first_office, serial_office, state_by, in_doubt, recorded, without_three, first_constituent, excluding, stopped_before, stopped_after, naming_restarts, excluded, removed, including, serializing, retaining}
-use Rattle.arj_law_disk.specs.machine.State.{Packed, Hold, Below, IsNew, undecided}
-use Rattle.arj_law_disk.specs.machine.Words.{In}
+use Rattle.arj_law_disk.proofs.Terms
+use Terms.{◌≡◌, ◌⊎◌, ℕ, [], ◌∷◌, true, false, ◌==◌, ◌||◌, Option, Some, refl, sym, ◌∙◌, ap, subst, inl, inr, ⊎_elim, arith, le_refl}
+use Terms.{nat_tests, Runs, Acked, first_state, first_office, serial_office, state_by, Packed, Hold, Below, IsNew, undecided, In}
 use Rattle.arj_law_disk.proofs.machine.Base.{test_is, or_cases}
+use Rattle.arj_law_disk.specs.machine
+use machine.Samples.{in_doubt, recorded, without_three, first_constituent, excluding, stopped_before, stopped_after, naming_restarts}
+use machine.Samples.{excluded, removed, including, serializing, retaining}
 
 -- what holds of one state holds of the same one
 some_that : {v w : Packed} → ◌≡◌ {A = Option Packed} (Some v) (Some w) → (P : Packed → Type 0) → P v → P w
@@ -22,14 +21,17 @@ zero_new t other g (inl is) e = other (ap (λ (x : Packed). x.writer) is ∙ e)
 zero_new t other g (inr i) e = absurd i
 
 -- what the top 5 was when the naming node restarted
-five_taken : (t : ℕ) → (t == 5) ≡ true → (recorded.world.disk.begun t ≡ true) × (undecided recorded.world.disk t ≡ true → (recorded.world.disk.conf t ≡ true) ⊎ (recorded.world.disk.light t ≡ true))
-five_taken t y = subst (λ n. (recorded.world.disk.begun n ≡ true) × (undecided recorded.world.disk n ≡ true → (recorded.world.disk.conf n ≡ true) ⊎ (recorded.world.disk.light n ≡ true))) (sym (test_is t 5 y)) (refl, λ u. inl refl)
+five_taken : (t : ℕ) → (t == 5) ≡ true → (recorded.world.disk.begun t ≡ true)
+    × (undecided recorded.world.disk t ≡ true → (recorded.world.disk.conf t ≡ true) ⊎ (recorded.world.disk.light t ≡ true))
+five_taken t y = subst (λ n. (recorded.world.disk.begun n ≡ true) × (undecided recorded.world.disk n ≡ true →
+    (recorded.world.disk.conf n ≡ true) ⊎ (recorded.world.disk.light n ≡ true))) (sym (test_is t 5 y)) (refl, λ u. inl refl)
 
 -- what holds of two nodes holds of each of them
 two_nodes : (m a b : ℕ) (P : ℕ → Type 0) → ((a == m) || ((b == m) || false)) ≡ true → P a → P b → P m
 two_nodes m a b P i p q = ⊎_elim
     (λ (e : (a == m) ≡ true). subst P (test_is a m e) p)
-    (λ (e : ((b == m) || false) ≡ true). ⊎_elim (λ (f : (b == m) ≡ true). subst P (test_is b m f) q) (λ (f : false ≡ true). cc) (or_cases (b == m) false e))
+    (λ (e : ((b == m) || false) ≡ true).
+    ⊎_elim (λ (f : (b == m) ≡ true). subst P (test_is b m f) q) (λ (f : false ≡ true). cc) (or_cases (b == m) false e))
     (or_cases (a == m) ((b == m) || false) i)
 
 pub excluding_runs : Runs first_office excluding
@@ -42,13 +44,25 @@ excluding_runs = (
       (
         record { held = refl; had = refl; clear = λ a h e. cc },
         (
-          record { idle = refl; root = refl; top = refl; first = λ z e. refl; writer = λ w e. some_that e (λ x. (x.writer ≡ 5) × IsNew first_state 5) (refl, zero_new 5 (λ e. cc)); list = λ w. (1, inl refl, λ q. (5, inl refl, record { since = 1; list = 2 ∷ 3 ∷ [] }, refl, λ s i. i)); loaded = λ s j. cc },
+          record {
+            idle = refl;
+            root = refl;
+            top = refl;
+            first = λ z e. refl;
+            writer = λ w e. some_that e (λ x. (x.writer ≡ 5) × IsNew first_state 5) (refl, zero_new 5 (λ e. cc));
+            list = λ w. (1, inl refl, λ q. (5, inl refl, record { since = 1; list = 2 ∷ 3 ∷ [] }, refl, λ s i. i));
+            loaded = λ s j. cc;
+          },
           (
             ((refl, refl), tt),
             (
               ((refl, refl), tt),
               (
-                record { asked = inr (inl refl); free = refl; below = λ g e. some_that e (λ x. Below x (state_by 1 5)) (inl (omega arith)) },
+                record {
+                  asked = inr (inl refl);
+                  free = refl;
+                  below = λ g e. some_that e (λ x. Below x (state_by 1 5)) (inl (omega arith));
+                },
                 (
                   (refl, tt),
                   (
@@ -60,7 +74,20 @@ excluding_runs = (
                         (
                           record { top = refl; free = λ h n e less. grind (arith, nat_tests) },
                           (
-                            record { confirm = record { asked = inl refl; new = refl; fresh = λ w z. ⊎_elim (λ q. cc q) (λ q. cc q) z; untold = (refl, refl); unlisted = λ s j. cc; exclude = λ s t g l. (1, refl, le_refl 1) }; present = record { own = λ i h. grind (arith, nat_tests); all = λ u i h. grind (arith, nat_tests) }; other = refl; stores = (2, refl); next = λ u w e. some_that e (λ x. x.version ≡ 1) refl },
+                            record {
+                              confirm = record {
+                                asked = inl refl;
+                                new = refl;
+                                fresh = λ w z. ⊎_elim (λ q. cc q) (λ q. cc q) z;
+                                untold = (refl, refl);
+                                unlisted = λ s j. cc;
+                                exclude = λ s t g l. (1, refl, le_refl 1);
+                              };
+                              present = record { own = λ i h. grind (arith, nat_tests); all = λ u i h. grind (arith, nat_tests) };
+                              other = refl;
+                              stores = (2, refl);
+                              next = λ u w e. some_that e (λ x. x.version ≡ 1) refl;
+                            },
                             (
                               ((inl refl, λ u. inl refl), tt),
                               tt,
@@ -202,7 +229,15 @@ including_runs = (
     (
       record { answered = inl refl; listed = refl; free = refl; held = refl },
       (
-        record { idle = refl; root = refl; top = refl; first = λ z e. grind (arith, nat_tests); writer = λ w e. cc; list = λ w. cc; loaded = λ s j. (1, state_by 1 5, inl refl, refl, refl) },
+        record {
+          idle = refl;
+          root = refl;
+          top = refl;
+          first = λ z e. grind (arith, nat_tests);
+          writer = λ w e. cc;
+          list = λ w. cc;
+          loaded = λ s j. (1, state_by 1 5, inl refl, refl, refl);
+        },
         (
           ((refl, refl), tt),
           (
@@ -216,7 +251,20 @@ including_runs = (
                   (
                     (refl, tt),
                     (
-                      record { confirm = record { asked = inl refl; new = refl; fresh = λ w z. ⊎_elim (λ q. cc q) (λ q. cc q) z; untold = (refl, refl); unlisted = λ s j. grind (arith, nat_tests); exclude = λ s t g l. (2, refl, omega arith) }; present = record { own = λ i h. grind (arith, nat_tests); all = λ u i h. grind (arith, nat_tests) }; other = refl; stores = (3, refl); next = λ u w e. cc },
+                      record {
+                        confirm = record {
+                          asked = inl refl;
+                          new = refl;
+                          fresh = λ w z. ⊎_elim (λ q. cc q) (λ q. cc q) z;
+                          untold = (refl, refl);
+                          unlisted = λ s j. grind (arith, nat_tests);
+                          exclude = λ s t g l. (2, refl, omega arith);
+                        };
+                        present = record { own = λ i h. grind (arith, nat_tests); all = λ u i h. grind (arith, nat_tests) };
+                        other = refl;
+                        stores = (3, refl);
+                        next = λ u w e. cc;
+                      },
                       (
                         ((inl refl, λ u. inl refl), tt),
                         (
@@ -261,19 +309,35 @@ serializing_runs = (
       (
         record { held = refl; had = refl; clear = λ a h e. cc },
         (
-          record { idle = refl; root = refl; top = refl; first = λ z e. refl; writer = λ w e. some_that e (λ x. (x.writer ≡ 6) × IsNew first_state 6) (refl, zero_new 6 (λ e. cc)); list = λ w. (1, inl refl, λ q. (6, inl refl, record { since = 1; list = 2 ∷ 3 ∷ [] }, refl, λ s i. i)); loaded = λ s j. cc },
+          record {
+            idle = refl;
+            root = refl;
+            top = refl;
+            first = λ z e. refl;
+            writer = λ w e. some_that e (λ x. (x.writer ≡ 6) × IsNew first_state 6) (refl, zero_new 6 (λ e. cc));
+            list = λ w. (1, inl refl, λ q. (6, inl refl, record { since = 1; list = 2 ∷ 3 ∷ [] }, refl, λ s i. i));
+            loaded = λ s j. cc;
+          },
           (
             ((refl, refl), tt),
             (
               ((refl, refl), tt),
               (
-                record { asked = inr (inl refl); free = refl; below = λ g e. some_that e (λ x. Below x (state_by 1 6)) (inl (omega arith)) },
+                record {
+                  asked = inr (inl refl);
+                  free = refl;
+                  below = λ g e. some_that e (λ x. Below x (state_by 1 6)) (inl (omega arith));
+                },
                 (
                   (refl, tt),
                   (
                     (refl, inl refl),
                     (
-                      record { asked = inr (inl refl); free = refl; below = λ g e. some_that e (λ x. Below x (state_by 1 6)) (inl (omega arith)) },
+                      record {
+                        asked = inr (inl refl);
+                        free = refl;
+                        below = λ g e. some_that e (λ x. Below x (state_by 1 6)) (inl (omega arith));
+                      },
                       (
                         (refl, tt),
                         (
@@ -283,7 +347,20 @@ serializing_runs = (
                             (
                               (refl, tt),
                               (
-                                record { confirm = record { asked = inl refl; new = refl; fresh = λ w z. ⊎_elim (λ q. cc q) (λ q. cc q) z; untold = (refl, refl); unlisted = λ s j. cc; exclude = λ s t g l. absurd (grind (arith, nat_tests)) }; present = record { own = λ i h. grind (arith, nat_tests); all = λ u i h. grind (arith, nat_tests) }; writes = refl; same = refl; next = λ u w e. some_that e (λ x. x.version ≡ 1) refl },
+                                record {
+                                  confirm = record {
+                                    asked = inl refl;
+                                    new = refl;
+                                    fresh = λ w z. ⊎_elim (λ q. cc q) (λ q. cc q) z;
+                                    untold = (refl, refl);
+                                    unlisted = λ s j. cc;
+                                    exclude = λ s t g l. absurd (grind (arith, nat_tests));
+                                  };
+                                  present = record { own = λ i h. grind (arith, nat_tests); all = λ u i h. grind (arith, nat_tests) };
+                                  writes = refl;
+                                  same = refl;
+                                  next = λ u w e. some_that e (λ x. x.version ≡ 1) refl;
+                                },
                                 (
                                   ((inl refl, λ u. inl refl), tt),
                                   (
@@ -331,7 +408,15 @@ serializing_runs = (
 
 pub retaining_runs : Runs first_constituent retaining
 retaining_runs = (
-  record { idle = refl; root = refl; top = refl; first = λ z e. grind (arith, nat_tests); writer = λ w e. some_that e (λ x. (x.writer ≡ 7) × IsNew first_state 7) (refl, zero_new 7 (λ e. cc)); list = λ w. (1, inr refl, λ q. (9, inr refl, record { since = 1; list = 2 ∷ 3 ∷ [] }, refl, λ s i. i)); loaded = λ s j. cc },
+  record {
+    idle = refl;
+    root = refl;
+    top = refl;
+    first = λ z e. grind (arith, nat_tests);
+    writer = λ w e. some_that e (λ x. (x.writer ≡ 7) × IsNew first_state 7) (refl, zero_new 7 (λ e. cc));
+    list = λ w. (1, inr refl, λ q. (9, inr refl, record { since = 1; list = 2 ∷ 3 ∷ [] }, refl, λ s i. i));
+    loaded = λ s j. cc;
+  },
   (
     ((refl, refl), tt),
     (
@@ -353,7 +438,20 @@ retaining_runs = (
                     (
                       (refl, tt),
                       (
-                        record { confirm = record { asked = inl refl; new = refl; fresh = λ w z. ⊎_elim (λ q. cc q) (λ q. cc q) z; untold = (refl, refl); unlisted = λ s j. cc; exclude = λ s t g l. absurd (grind (arith, nat_tests)) }; present = record { own = λ i h. grind (arith, nat_tests); all = λ u i h. grind (arith, nat_tests) }; writes = refl; same = refl; next = λ u w e. some_that e (λ x. x.version ≡ 2) refl },
+                        record {
+                          confirm = record {
+                            asked = inl refl;
+                            new = refl;
+                            fresh = λ w z. ⊎_elim (λ q. cc q) (λ q. cc q) z;
+                            untold = (refl, refl);
+                            unlisted = λ s j. cc;
+                            exclude = λ s t g l. absurd (grind (arith, nat_tests));
+                          };
+                          present = record { own = λ i h. grind (arith, nat_tests); all = λ u i h. grind (arith, nat_tests) };
+                          writes = refl;
+                          same = refl;
+                          next = λ u w e. some_that e (λ x. x.version ≡ 2) refl;
+                        },
                         (
                           ((inl refl, λ u. inl refl), tt),
                           (

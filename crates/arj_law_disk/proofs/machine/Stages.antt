@@ -1,10 +1,10 @@
 -- A top's stage goes on, its record comes: open outcomes only fall, and what was said of them is handed on.
-use Rattle.std.proofs.Common.{◌≡◌, ◌⊎◌, ℕ, List, Bool, true, false, ◌==◌, Option, Some, None, is_some, refl, sym, ◌∙◌, ap, subst, inl, inr, ⊎_elim}
-use Rattle.arj_law_disk.specs.machine.Core.{Core, Coordinators, Fresh, Bare, Light, Alone, IsActive, Covered, Pending}
-use Rattle.arj_law_disk.specs.machine.Effects.{changed, Seal, Intend, Halt, EndBare}
-use Rattle.arj_law_disk.specs.machine.State.{State, Hold, last, Stage, Preparing, Confirming, Gone, naming, is_open, is_sealed, is_gone, is_idle, decided, undecided, lists, listed_by, target}
-use Rattle.arj_law_disk.specs.machine.Words.{has, put}
+use Rattle.arj_law_disk.proofs.Terms
+use Terms.{◌≡◌, ◌⊎◌, ℕ, List, Bool, true, false, ◌==◌, Option, Some, None, is_some, refl, sym, ◌∙◌, ap, subst, inl, inr, ⊎_elim, Core}
+use Terms.{Coordinators, Fresh, Bare, IsActive, Pending, changed, Seal, Intend, Halt, EndBare, State, Hold, last, Stage, Preparing}
+use Terms.{Confirming, Gone, naming, is_open, is_sealed, is_gone, is_idle, decided, undecided, lists, listed_by, target, has, put}
 use Rattle.arj_law_disk.proofs.machine.Base.{put_cases, put_true, put_other, open_done, open_parts, open_made}
+use Rattle.arj_law_disk.specs.machine.Core.{Light, Alone, Covered}
 
 -- the object with other stages, records and marks of bare commits
 abbrev pub at : State → (ℕ → Stage) → (ℕ → Option (List ℕ)) → (ℕ → Bool) → State
@@ -28,7 +28,8 @@ ages_gone t f = record {
 pub ages_seal : (t : ℕ) (f : ℕ → Stage) → f t ≡ Preparing → Ages f (put t Confirming f)
 ages_seal t f is = record {
   sealed = λ a h. put_cases (λ g. is_sealed g ≡ true) t Confirming f a (λ e. refl) (λ e. h);
-  gone = λ a h. put_cases (λ g. is_gone g ≡ true) t Confirming f a (λ e. let n : false ≡ true = sym (ap is_gone (ap f e ∙ is)) ∙ h in cc) (λ e. h);
+  gone = λ a h. put_cases (λ g. is_gone g ≡ true) t Confirming f a (λ e. let n : false ≡ true = sym (ap is_gone (ap f e ∙ is)) ∙ h in
+      cc) (λ e. h);
   idle = λ a h. put_cases (λ g. is_idle g ≡ false) t Confirming f a (λ e. refl) (λ e. h);
   opens = λ a. put_cases (λ g. is_open g ≡ true → is_open (f a) ≡ true) t Confirming f a (λ e h. ap is_open (ap f e ∙ is)) (λ e h. h);
 }
@@ -36,7 +37,8 @@ ages_seal t f is = record {
 abbrev pub Falls : State → State → Type 0
 Falls V S = (a : ℕ) → undecided V a ≡ true → undecided S a ≡ true
 
-pub active_falls : (S : State) (g : ℕ → Stage) (i : ℕ → Option (List ℕ)) (b : ℕ → Bool) → Falls (at S g i b) S → (t : ℕ) → IsActive (at S g i b) t → IsActive S t
+pub active_falls : (S : State) (g : ℕ → Stage) (i : ℕ → Option (List ℕ)) (b : ℕ → Bool) → Falls (at S g i b) S → (t : ℕ) →
+    IsActive (at S g i b) t → IsActive S t
 active_falls S g i b falls t (inl u) = inl (falls t u)
 active_falls S g i b falls t (inr l) = inr l
 
@@ -50,7 +52,8 @@ alone_falls S g i b falls c = record {
   loaded = λ t s ct ut. c.loaded t s ct (falls t ut);
 }
 
-pub covered_falls : (S : State) (g : ℕ → Stage) (i : ℕ → Option (List ℕ)) (b : ℕ → Bool) → Falls (at S g i b) S → Covered S → Covered (at S g i b)
+pub covered_falls : (S : State) (g : ℕ → Stage) (i : ℕ → Option (List ℕ)) (b : ℕ → Bool) → Falls (at S g i b) S → Covered S →
+    Covered (at S g i b)
 covered_falls S g i b falls c = record {
   stores = λ t s ct a. c.stores t s ct (active_falls S g i b falls t a);
   own = λ t h ct ut. c.own t h ct (falls t ut);
@@ -59,7 +62,8 @@ covered_falls S g i b falls c = record {
   plain = λ t ct ut. c.plain t ct (falls t ut);
 }
 
-pub pending_falls : (S : State) (g : ℕ → Stage) (i : ℕ → Option (List ℕ)) (b : ℕ → Bool) → Falls (at S g i b) S → ((a : ℕ) → is_sealed (S.stage a) ≡ true → is_sealed (g a) ≡ true)
+pub pending_falls : (S : State) (g : ℕ → Stage) (i : ℕ → Option (List ℕ)) (b : ℕ → Bool) → Falls (at S g i b) S →
+    ((a : ℕ) → is_sealed (S.stage a) ≡ true → is_sealed (g a) ≡ true)
     → ((a : ℕ) → decided S a ≡ true → lists S a naming ≡ true → listed_by (i a) naming ≡ true) → Pending S → Pending (at S g i b)
 pending_falls S g i b falls sealed listed c = record {
   sealed = λ h p. sealed h.top (c.sealed h p);
@@ -72,8 +76,10 @@ pending_falls S g i b falls sealed listed c = record {
 }
 
 -- with the same records, open outcomes fall with open stages
-pub stage_falls : (S : State) (g : ℕ → Stage) (b : ℕ → Bool) → ((a : ℕ) → is_open (g a) ≡ true → is_open (S.stage a) ≡ true) → Falls (at S g S.intent b) S
-stage_falls S g b opens a u = open_made (decided S a) (S.stage a) (S.intent a) (open_done (decided S a) (g a) (S.intent a) u) (by (open_parts (decided S a) (g a) (S.intent a) u))
+pub stage_falls : (S : State) (g : ℕ → Stage) (b : ℕ → Bool) → ((a : ℕ) → is_open (g a) ≡ true → is_open (S.stage a) ≡ true) →
+    Falls (at S g S.intent b) S
+stage_falls S g b opens a u = open_made (decided S a) (S.stage a) (S.intent a) (open_done (decided S a) (g a) (S.intent a) u)
+    (by (open_parts (decided S a) (g a) (S.intent a) u))
   where
     by : (is_open (g a) ≡ true) ⊎ (is_some (S.intent a) ≡ true) → (is_open (S.stage a) ≡ true) ⊎ (is_some (S.intent a) ≡ true)
     by (inl o) = inl (opens a o)
@@ -124,16 +130,20 @@ core_staged S g b ages bare c =
     }
 
 bare_stays : (S : State) (g : ℕ → Stage) → Ages S.stage g → Bare S → Bare (at S g S.intent S.bare)
-bare_stays S g ages c = record { gone = λ t h. ages.gone t (c.gone t h); no_record = c.no_record; undone = c.undone; untouched = c.untouched; taken = c.taken }
+bare_stays S g ages c =
+    record { gone = λ t h. ages.gone t (c.gone t h); no_record = c.no_record; undone = c.undone; untouched = c.untouched; taken = c.taken }
 
 pub core_halted : (S : State) (t : ℕ) → Core S → Core (changed S (Halt t))
-core_halted S t c = core_staged S (put t Gone S.stage) S.bare (ages_gone t S.stage) (bare_stays S (put t Gone S.stage) (ages_gone t S.stage) c.bare) c
+core_halted S t c =
+    core_staged S (put t Gone S.stage) S.bare (ages_gone t S.stage) (bare_stays S (put t Gone S.stage) (ages_gone t S.stage) c.bare) c
 
 pub core_sealed : (S : State) (t : ℕ) → S.stage t ≡ Preparing → Core S → Core (changed S (Seal t))
-core_sealed S t is c = core_staged S (put t Confirming S.stage) S.bare (ages_seal t S.stage is) (bare_stays S (put t Confirming S.stage) (ages_seal t S.stage is) c.bare) c
+core_sealed S t is c = core_staged S (put t Confirming S.stage) S.bare (ages_seal t S.stage is)
+    (bare_stays S (put t Confirming S.stage) (ages_seal t S.stage is) c.bare) c
 
 -- a commit without a record
-pub core_ended_bare : (S : State) (t : ℕ) → S.stage t ≡ Confirming → ((S.conf t ≡ true) ⊎ (S.light t ≡ true)) → S.intent t ≡ None → ((s : ℕ) → target (S.plan t) s ≡ false) → Core S → Core (changed S (EndBare t))
+pub core_ended_bare : (S : State) (t : ℕ) → S.stage t ≡ Confirming → ((S.conf t ≡ true) ⊎ (S.light t ≡ true)) → S.intent t ≡ None →
+    ((s : ℕ) → target (S.plan t) s ≡ false) → Core S → Core (changed S (EndBare t))
 core_ended_bare S t is taken none untouched c = core_staged S (put t Gone S.stage) (put t true S.bare) ages (record {
   gone = λ a h. put_cases (λ g. is_gone g ≡ true) t Gone S.stage a (λ e. refl) (λ e. c.bare.gone a (old a e h));
   no_record = λ a h. by a (λ n. S.intent n ≡ None) none c.bare.no_record h;
@@ -152,14 +162,16 @@ core_ended_bare S t is taken none untouched c = core_staged S (put t Gone S.stag
     by a P here there h = ⊎_elim (λ (e : a ≡ t). subst P (sym e) here) (λ (b : S.bare a ≡ true). there a b) (put_true t S.bare a h)
 
     undone : decided S t ≡ false
-    undone = ⊎_elim (λ (d : decided S t ≡ true). let n : false ≡ true = sym (ap is_gone is) ∙ c.coordinators.decided_closed t d in cc) (λ (d : decided S t ≡ false). d) (cases (decided S t))
+    undone = ⊎_elim (λ (d : decided S t ≡ true). let n : false ≡ true = sym (ap is_gone is) ∙ c.coordinators.decided_closed t d in
+        cc) (λ (d : decided S t ≡ false). d) (cases (decided S t))
       where
         cases : (b : Bool) → (b ≡ true) ⊎ (b ≡ false)
         cases true = inl refl
         cases false = inr refl
 
 -- a record is renamed into place
-pub core_intended : (S : State) (t : ℕ) (nodes : List ℕ) → S.stage t ≡ Confirming → ((S.conf t ≡ true) ⊎ (S.light t ≡ true)) → ((s : ℕ) → S.got t s ≡ true → has s nodes ≡ true) → has naming nodes ≡ true
+pub core_intended : (S : State) (t : ℕ) (nodes : List ℕ) → S.stage t ≡ Confirming → ((S.conf t ≡ true) ⊎ (S.light t ≡ true)) →
+    ((s : ℕ) → S.got t s ≡ true → has s nodes ≡ true) → has naming nodes ≡ true
     → Core S → Core (changed S (Intend t nodes))
 core_intended S t nodes is taken stores names c = record {
   journal = c.journal;
@@ -168,25 +180,34 @@ core_intended S t nodes is taken stores names c = record {
     light_sealed = c.coordinators.light_sealed;
     decided_taken = c.coordinators.decided_taken;
     decided_closed = c.coordinators.decided_closed;
-    record_sealed = λ a. put_cases (λ i. is_some i ≡ true → is_sealed (S.stage a) ≡ true) t (Some nodes) S.intent a (λ e h. ap is_sealed (ap S.stage e ∙ is)) (λ e h. c.coordinators.record_sealed a h);
-    record_taken = λ a. put_cases (λ i. is_some i ≡ true → (S.conf a ≡ true) ⊎ (S.light a ≡ true)) t (Some nodes) S.intent a (λ e h. subst (λ n. (S.conf n ≡ true) ⊎ (S.light n ≡ true)) (sym e) taken) (λ e h. c.coordinators.record_taken a h);
+    record_sealed = λ a. put_cases (λ i. is_some i ≡ true → is_sealed (S.stage a) ≡ true) t (Some nodes) S.intent a
+        (λ e h. ap is_sealed (ap S.stage e ∙ is)) (λ e h. c.coordinators.record_sealed a h);
+    record_taken = λ a. put_cases (λ i. is_some i ≡ true → (S.conf a ≡ true) ⊎ (S.light a ≡ true)) t (Some nodes) S.intent a
+        (λ e h. subst (λ n. (S.conf n ≡ true) ⊎ (S.light n ≡ true)) (sym e) taken) (λ e h. c.coordinators.record_taken a h);
     record_lists = λ a ns. put_cases (λ i. i ≡ Some ns → (s : ℕ) → S.got a s ≡ true → has s ns ≡ true) t (Some nodes) S.intent a
         (λ e h s g. subst (λ l. has s l ≡ true) (same h) (stores s (ap (λ n. S.got n s) (sym e) ∙ g)))
         (λ e h s g. c.coordinators.record_lists a ns h s g);
-    record_names = λ a ns. put_cases (λ i. i ≡ Some ns → has naming ns ≡ true) t (Some nodes) S.intent a (λ e h. subst (λ l. has naming l ≡ true) (same h) names) (λ e h. c.coordinators.record_names a ns h);
+    record_names = λ a ns. put_cases (λ i. i ≡ Some ns → has naming ns ≡ true) t (Some nodes) S.intent a
+        (λ e h. subst (λ l. has naming l ≡ true) (same h) names) (λ e h. c.coordinators.record_names a ns h);
     got_target = c.coordinators.got_target;
   };
   fresh = c.fresh;
   bare = record {
     gone = c.bare.gone;
-    no_record = λ a b. put_cases (λ i. i ≡ None) t (Some nodes) S.intent a (λ e. let n : false ≡ true = sym (ap is_gone (ap S.stage e ∙ is)) ∙ c.bare.gone a b in cc) (λ e. c.bare.no_record a b);
+    no_record = λ a b. put_cases (λ i. i ≡ None) t (Some nodes) S.intent a
+        (λ e. let n : false ≡ true = sym (ap is_gone (ap S.stage e ∙ is)) ∙ c.bare.gone a b in cc) (λ e. c.bare.no_record a b);
     undone = c.bare.undone;
     untouched = c.bare.untouched;
     taken = c.bare.taken;
   };
   forms = c.forms;
   history = c.history;
-  firm = record { kept = λ a s u. c.firm.kept a s (falls a u); done = c.firm.done; listed = λ a s d g. listed a s d (c.firm.listed a s d g); went = c.firm.went };
+  firm = record {
+    kept = λ a s u. c.firm.kept a s (falls a u);
+    done = c.firm.done;
+    listed = λ a s d g. listed a s d (c.firm.listed a s d g);
+    went = c.firm.went;
+  };
   light = light_falls S S.stage intent S.bare falls c.light;
   alone = alone_falls S S.stage intent S.bare falls c.alone;
   covered = covered_falls S S.stage intent S.bare falls c.covered;
@@ -204,19 +225,23 @@ core_intended S t nodes is taken stores names c = record {
     closed a d e = let n : false ≡ true = sym (ap is_gone (ap S.stage e ∙ is)) ∙ c.coordinators.decided_closed a d in cc
 
     falls : Falls (at S S.stage intent S.bare) S
-    falls a u = open_made (decided S a) (S.stage a) (S.intent a) (open_done (decided S a) (S.stage a) (intent a) u) (by (open_parts (decided S a) (S.stage a) (intent a) u))
+    falls a u = open_made (decided S a) (S.stage a) (S.intent a) (open_done (decided S a) (S.stage a) (intent a) u)
+        (by (open_parts (decided S a) (S.stage a) (intent a) u))
       where
         by : (is_open (S.stage a) ≡ true) ⊎ (is_some (intent a) ≡ true) → (is_open (S.stage a) ≡ true) ⊎ (is_some (S.intent a) ≡ true)
         by (inl o) = inl o
-        by (inr i) = put_cases (λ i. is_some i ≡ true → (is_open (S.stage a) ≡ true) ⊎ (is_some (S.intent a) ≡ true)) t (Some nodes) S.intent a (λ e h. inl (ap is_open (ap S.stage e ∙ is))) (λ e h. inr h) i
+        by (inr i) = put_cases (λ i. is_some i ≡ true → (is_open (S.stage a) ≡ true) ⊎ (is_some (S.intent a) ≡ true)) t (Some nodes)
+            S.intent a (λ e h. inl (ap is_open (ap S.stage e ∙ is))) (λ e h. inr h) i
 
     lists_stay : (a m : ℕ) → decided S a ≡ true → lists S a m ≡ true → listed_by (intent a) m ≡ true
     lists_stay a m d l = put_cases (λ i. listed_by i m ≡ true) t (Some nodes) S.intent a (λ e. absurd (closed a d e)) (λ e. l)
 
-    listed : (a s : ℕ) → decided S a ≡ true → (lists S a s ≡ true) ⊎ (S.went a s ≡ true) → (listed_by (intent a) s ≡ true) ⊎ (S.went a s ≡ true)
+    listed : (a s : ℕ) → decided S a ≡ true → (lists S a s ≡ true) ⊎ (S.went a s ≡ true) →
+        (listed_by (intent a) s ≡ true) ⊎ (S.went a s ≡ true)
     listed a s d (inl l) = inl (lists_stay a s d l)
     listed a s d (inr w) = inr w
 
-    late : (s : ℕ) (h : Hold) → decided S h.top ≡ true → ((lists S h.top s ≡ true) × (S.got h.top s ≡ true)) ⊎ (S.held s ≡ Some (last S)) → ((listed_by (intent h.top) s ≡ true) × (S.got h.top s ≡ true)) ⊎ (S.held s ≡ Some (last S))
+    late : (s : ℕ) (h : Hold) → decided S h.top ≡ true → ((lists S h.top s ≡ true) × (S.got h.top s ≡ true)) ⊎ (S.held s ≡ Some (last S)) →
+        ((listed_by (intent h.top) s ≡ true) × (S.got h.top s ≡ true)) ⊎ (S.held s ≡ Some (last S))
     late s h d (inl l) = inl (lists_stay h.top s d l.0, l.1)
     late s h d (inr e) = inr e

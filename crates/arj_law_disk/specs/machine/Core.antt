@@ -1,6 +1,8 @@
 -- What holds of one object at every moment: the invariant of disks, records and decisions, in groups by what they read.
 use Rattle.std.specs.Prelude.{◌≡◌, ◌⊎◌, ℕ, ◌+◌, List, [], ◌∷◌, true, false, Option, Some, None, is_some, ⊤}
-use Rattle.arj_law_disk.specs.machine.State.{State, Packed, Hold, Done, naming, is_open, is_sealed, is_idle, is_gone, decided, undecided, lists, target, state_for, hold, entry_after, last_in, last, last_entry, effective, effective_entry, Known, IsPast, Below, is_latest, Listed, IsExcused}
+use Rattle.arj_law_disk.specs.machine.State.{State, Packed, Hold, Done, naming, is_open, is_sealed, is_idle, is_gone, decided, undecided}
+use Rattle.arj_law_disk.specs.machine.State.{lists, target, state_for, hold, entry_after, last_in, last, last_entry, effective}
+use Rattle.arj_law_disk.specs.machine.State.{effective_entry, Known, IsPast, Below, is_latest, Listed, IsExcused}
 use Rattle.arj_law_disk.specs.machine.Words.{has, In}
 
 -- Coordinators: who was confirmed or has a record has ended its prepare step; who is decided was confirmed; a record lists
@@ -93,7 +95,8 @@ Light S = record {
   plain : (t : ℕ) → S.light t ≡ true → (S.plan t).writes ≡ None;
   none : (t s : ℕ) → S.light t ≡ true → S.got t s ≡ false;
   other : (t : ℕ) → S.light t ≡ true → S.conf t ≡ false;
-  late : (t s : ℕ) (h : Hold) → S.light t ≡ true → undecided S t ≡ true → S.pend s ≡ Some h → h.top ≡ t → has s (last_entry S).content ≡ true → S.held s ≡ Some (last S);
+  late : (t s : ℕ) (h : Hold) → S.light t ≡ true → undecided S t ≡ true → S.pend s ≡ Some h → h.top ≡ t →
+      has s (last_entry S).content ≡ true → S.held s ≡ Some (last S);
 }
 
 -- Of the confirmed tops whose outcome is open at most one counts for the object. It writes the version after the last one,
@@ -113,11 +116,16 @@ IsActive S t = (undecided S t ≡ true) ⊎ (is_latest S t ≡ true)
 -- prepared, exactly where it differs. One that didn't write includes a store, and its entry is prepared.
 abbrev pub Covered : State → Type 0
 Covered S = record {
-  stores : (t s : ℕ) → S.conf t ≡ true → IsActive S t → is_some (S.plan t).writes ≡ true → Listed S s → (S.got t s ≡ true) ⊎ IsExcused S t s;
-  own : (t : ℕ) (h : Hold) → S.conf t ≡ true → undecided S t ≡ true → S.entry_pend ≡ Some h → h.top ≡ t → h.new ≡ entry_after t (S.plan t) (S.got t) (last_entry S);
-  rest : (t : ℕ) → S.conf t ≡ true → undecided S t ≡ true → ((h : Hold) → S.entry_pend ≡ Some h → h.top ≡ t → ⊥) → entry_after t (S.plan t) (S.got t) (last_entry S) ≡ last_entry S;
-  joins : (t s : ℕ) → S.conf t ≡ true → undecided S t ≡ true → has s (S.plan t).joins ≡ true → S.got t s ≡ true → (h : Hold) × (S.entry_pend ≡ Some h) × (h.top ≡ t);
-  plain : (t : ℕ) → S.conf t ≡ true → undecided S t ≡ true → (S.plan t).writes ≡ None → ((s : ℕ) × (has s (S.plan t).joins ≡ true)) × ((h : Hold) × (S.entry_pend ≡ Some h) × (h.top ≡ t));
+  stores : (t s : ℕ) → S.conf t ≡ true → IsActive S t → is_some (S.plan t).writes ≡ true → Listed S s →
+      (S.got t s ≡ true) ⊎ IsExcused S t s;
+  own : (t : ℕ) (h : Hold) → S.conf t ≡ true → undecided S t ≡ true → S.entry_pend ≡ Some h → h.top ≡ t →
+      h.new ≡ entry_after t (S.plan t) (S.got t) (last_entry S);
+  rest : (t : ℕ) → S.conf t ≡ true → undecided S t ≡ true → ((h : Hold) → S.entry_pend ≡ Some h → h.top ≡ t → ⊥) →
+      entry_after t (S.plan t) (S.got t) (last_entry S) ≡ last_entry S;
+  joins : (t s : ℕ) → S.conf t ≡ true → undecided S t ≡ true → has s (S.plan t).joins ≡ true → S.got t s ≡ true →
+      (h : Hold) × (S.entry_pend ≡ Some h) × (h.top ≡ t);
+  plain : (t : ℕ) → S.conf t ≡ true → undecided S t ≡ true → (S.plan t).writes ≡ None →
+      ((s : ℕ) × (has s (S.plan t).joins ≡ true)) × ((h : Hold) × (S.entry_pend ≡ Some h) × (h.top ≡ t));
 }
 
 -- Whose entry is prepared: one that was confirmed, or that is dead; and the entry's new stores had prepared.
@@ -138,7 +146,8 @@ abbrev pub Effective : State → Type 0
 Effective S = record {
   entry : effective_entry S ≡ last_entry S;
   store : (s : ℕ) → has s (last_entry S).content ≡ true → effective S s ≡ Some (last S);
-  late : (s : ℕ) (h : Hold) → has s (last_entry S).content ≡ true → S.pend s ≡ Some h → decided S h.top ≡ true → ((lists S h.top s ≡ true) × (S.got h.top s ≡ true)) ⊎ (S.held s ≡ Some (last S));
+  late : (s : ℕ) (h : Hold) → has s (last_entry S).content ≡ true → S.pend s ≡ Some h → decided S h.top ≡ true →
+      ((lists S h.top s ≡ true) × (S.got h.top s ≡ true)) ⊎ (S.held s ≡ Some (last S));
 }
 
 -- what holds of the disks, the records and the decisions

@@ -2,8 +2,11 @@
 -- effects, and a stop is a front of it.
 use Rattle.std.specs.Prelude.{◌≡◌, ◌⊎◌, ℕ, ◌+◌, List, [], ◌∷◌, Bool, true, false, ◌||◌, not, Option, Some, None, is_some, bytes_eq, ⊤}
 use Rattle.arj_law_disk.specs.machine.Core.{Core}
-use Rattle.arj_law_disk.specs.machine.Messages.{Message, Prepare, Prepared, Confirm, Confirmed, ToldCommit, ToldBare, ToldAbort, Acked, ToldSerial, Meaning}
-use Rattle.arj_law_disk.specs.machine.State.{State, Packed, Plan, Hold, Done, Idle, Preparing, Confirming, Gone, naming, is_gone, decided, undecided, target, state_for, hold, list_after, entry_after, last, Known, Below, Listed, IsExcused}
+use Rattle.arj_law_disk.specs.machine.Messages.{Message, Prepare, Prepared, Confirm, Confirmed, ToldCommit, ToldBare, ToldAbort, Acked}
+use Rattle.arj_law_disk.specs.machine.Messages.{ToldSerial, Meaning}
+use Rattle.arj_law_disk.specs.machine.State.{State, Packed, Plan, Hold, Done, Idle, Preparing, Confirming, Gone, naming, is_gone, decided}
+use Rattle.arj_law_disk.specs.machine.State.{undecided, target, state_for, hold, list_after, entry_after, last, Known, Below, Listed}
+use Rattle.arj_law_disk.specs.machine.State.{IsExcused}
 use Rattle.arj_law_disk.specs.machine.Words.{has, In, put, put2}
 
 -- an effect of a node, as far as one object and its entry go

@@ -1,8 +1,12 @@
 -- What the naming node, and the coordinators towards it, look at before an act.
 use Rattle.std.specs.Prelude.{◌≡◌, ◌⊎◌, ℕ, ◌+◌, ◌≤◌, ◌==◌, ◌||◌, not, List, [], ◌∷◌, Bool, true, false, Some, None, is_some, bytes_eq, ⊤}
-use Rattle.arj_law_disk.specs.machine.Effects.{Effect, Begin, Take, Seal, Intend, Decide, Remove, EndBare, Halt, Keep, Move, Finish, Drop, Agree, Pass, Enter, MoveEntry, FinishEntry, DropEntry, Forget, Send, Allowed, MaySend, IsNot, IsUnlisted, NoneIsListed, new_list}
-use Rattle.arj_law_disk.specs.machine.Messages.{Message, Prepare, Prepared, Confirm, Confirmed, ToldCommit, ToldBare, ToldAbort, Acked, ToldSerial}
-use Rattle.arj_law_disk.specs.machine.Names.{Names, Office, Kept, Bound, Loaded, Act, Do, Commit, CommitBare, Read, Write, Exclude, Lower, Unbind, EndTop, EndSerial, Restart, Hear, KeepList, AnswerLoad, acted, load_of}
+use Rattle.arj_law_disk.specs.machine.Effects.{Effect, Begin, Take, Seal, Intend, Decide, Remove, EndBare, Halt, Keep, Move, Finish, Drop}
+use Rattle.arj_law_disk.specs.machine.Effects.{Agree, Pass, Enter, MoveEntry, FinishEntry, DropEntry, Forget, Send, Allowed, MaySend, IsNot}
+use Rattle.arj_law_disk.specs.machine.Effects.{IsUnlisted, NoneIsListed, new_list}
+use Rattle.arj_law_disk.specs.machine.Messages.{Message, Prepare, Prepared, Confirm, Confirmed, ToldCommit, ToldBare, ToldAbort, Acked}
+use Rattle.arj_law_disk.specs.machine.Messages.{ToldSerial}
+use Rattle.arj_law_disk.specs.machine.Names.{Names, Office, Kept, Bound, Loaded, Act, Do, Commit, CommitBare, Read, Write, Exclude, Lower}
+use Rattle.arj_law_disk.specs.machine.Names.{Unbind, EndTop, EndSerial, Restart, Hear, KeepList, AnswerLoad, acted, load_of}
 use Rattle.arj_law_disk.specs.machine.State.{State, Packed, Plan, Hold, Idle, naming, is_gone, last, undecided, target, IsNew}
 use Rattle.arj_law_disk.specs.machine.Words.{has, In}
 
@@ -35,8 +39,8 @@ abbrev pub MayExclude : State → Names → ℕ → Type 0
 MayExclude S N t = (s : ℕ) → target (S.plan t) s ≡ true → S.got t s ≡ false
     → (has s S.entry.content ≡ true) ⊎ ((h : Hold) × (S.entry_pend ≡ Some h) × (has s h.new.content ≡ true)) → HasRow N t 1
 
--- A commit begins: none of its root's outcomes is open; what it wrote is by a new writer; its list has each store of the kept one, as long as
--- its grants are of the present incarnation; what it includes was loaded, or its root has it newer.
+-- A commit begins: none of its root's outcomes is open; what it wrote is by a new writer; its list has each store of the kept one, as long
+-- as its grants are of the present incarnation; what it includes was loaded, or its root has it newer.
 pub record MayBegin (A : Office) (t : ℕ) (p : Plan) : Type 0 where
   pub idle : A.world.disk.stage t ≡ Idle
   pub root : is_gone (A.world.disk.stage (A.world.disk.root t)) ≡ false
@@ -44,8 +48,10 @@ pub record MayBegin (A : Office) (t : ℕ) (p : Plan) : Type 0 where
   pub first : (z : ℕ) → A.world.disk.root z ≡ A.world.disk.root t → undecided A.world.disk z ≡ false
   pub writer : (w : Packed) → p.writes ≡ Some w → (w.writer ≡ t) × IsNew A.world.disk t
   pub list : is_some p.writes ≡ true → (i : ℕ) × ((A.names.had t i ≡ true) ⊎ (A.names.had (A.world.disk.root t) i ≡ true))
-      × (IsPresent A.world.disk A.names t → (h : ℕ) × ((h ≡ t) ⊎ (h ≡ A.world.disk.root t)) × (k : Kept) × (A.names.kept h ≡ Some k) × ((s : ℕ) → has s k.list ≡ true → has s p.list ≡ true))
-  pub loaded : (s : ℕ) → has s p.joins ≡ true → (i : ℕ) × (g : Packed) × In (Loaded t i g) A.names.answers × (A.names.had t i ≡ true) × (p.loaded ≡ load_of A.world.disk t g)
+      × (IsPresent A.world.disk A.names t → (h : ℕ) × ((h ≡ t) ⊎ (h ≡ A.world.disk.root t)) × (k : Kept) × (A.names.kept h ≡ Some k)
+      × ((s : ℕ) → has s k.list ≡ true → has s p.list ≡ true))
+  pub loaded : (s : ℕ) → has s p.joins ≡ true →
+      (i : ℕ) × (g : Packed) × In (Loaded t i g) A.names.answers × (A.names.had t i ≡ true) × (p.loaded ≡ load_of A.world.disk t g)
 
 -- What a top counts on of grants: each that it has itself is of the present incarnation; and so is each that its root retains, while
 -- its outcome is open.
@@ -75,7 +81,8 @@ pub record MayAgree (A : Office) (t : ℕ) : Type 0 where
   pub same : bytes_eq (new_list A.world.disk t) A.world.disk.entry.content ≡ true
   pub next : IsNext A.world.disk t
 
--- A Confirm may pass that changes nothing of the entry: its top wrote nothing, no store took a state of it, and it includes none that is listed.
+-- A Confirm may pass that changes nothing of the entry: its top wrote nothing, no store took a state of it, and it includes none that is
+-- listed.
 pub record MayPass (A : Office) (t : ℕ) : Type 0 where
   pub confirm : MayConfirm A t
   pub present : HasPart (A.world.disk.plan t) → HasPresent A.world.disk A.names t
@@ -218,7 +225,8 @@ pub record MayEndTop (A : Office) (t : ℕ) (commits : Bool) : Type 0 where
   pub top : A.world.disk.serial t ≡ false
   pub untold : A.names.told t ≡ false
   pub clear : IsNot A.world.disk.entry_pend t
-  pub told : (commits ≡ true → In (ToldCommit t naming) A.world.sent ⊎ In (ToldBare t naming) A.world.sent) × (commits ≡ false → In (ToldAbort t naming) A.world.sent)
+  pub told : (commits ≡ true → In (ToldCommit t naming) A.world.sent ⊎ In (ToldBare t naming) A.world.sent)
+      × (commits ≡ false → In (ToldAbort t naming) A.world.sent)
 
 -- A serializing action is told of as ended after the entries of those whose locks go with it were dropped.
 pub record MayEndSerial (A : Office) (r : ℕ) : Type 0 where
@@ -229,7 +237,8 @@ pub record MayEndSerial (A : Office) (r : ℕ) : Type 0 where
 -- After a restart those are known as confirmed that have an entry prepared, of this object or of another one.
 pub record MayRestart (A : Office) (yes_again : ℕ → Bool) : Type 0 where
   pub pending : (h : Hold) → A.world.disk.entry_pend ≡ Some h → yes_again h.top ≡ true
-  pub taken : (t : ℕ) → yes_again t ≡ true → (A.world.disk.begun t ≡ true) × (undecided A.world.disk t ≡ true → (A.world.disk.conf t ≡ true) ⊎ (A.world.disk.light t ≡ true))
+  pub taken : (t : ℕ) → yes_again t ≡ true →
+      (A.world.disk.begun t ≡ true) × (undecided A.world.disk t ≡ true → (A.world.disk.conf t ≡ true) ⊎ (A.world.disk.light t ≡ true))
 
 -- an answer is taken while the top works
 pub record MayHear (A : Office) (t i : ℕ) (b : Bool) (l : List ℕ) : Type 0 where

@@ -1,7 +1,10 @@
 -- What follows from what holds at every moment: clean disks, exclusion in time, one outcome.
-use Rattle.std.specs.Prelude.{◌≡◌, ◌⊎◌, ℕ, ◌+◌, ◌<◌, ◌≤◌, List, [], ◌∷◌, take, true, false, ◌&&◌, not, Some, None, is_some, if◌then◌else◌, bytes_eq}
-use Rattle.arj_law_disk.specs.machine.Effects.{World, Effect, Move, Finish, Drop, MoveEntry, FinishEntry, DropEntry, Forget, Allowed, Follows, Whole, run}
-use Rattle.arj_law_disk.specs.machine.State.{State, Packed, Hold, Done, Idle, decided, target, state_for, list_after, entry_in, last, last_entry, KnownIn, IsPast, Below, is_latest, IsExcused}
+use Rattle.std.specs.Prelude.{◌≡◌, ◌⊎◌, ℕ, ◌+◌, ◌<◌, ◌≤◌, List, [], ◌∷◌, take, true, false, ◌&&◌, not, Some, None, is_some, if◌then◌else◌}
+use Rattle.std.specs.Prelude.{bytes_eq}
+use Rattle.arj_law_disk.specs.machine.Effects.{World, Effect, Move, Finish, Drop, MoveEntry, FinishEntry, DropEntry, Forget, Allowed}
+use Rattle.arj_law_disk.specs.machine.Effects.{Follows, Whole, run}
+use Rattle.arj_law_disk.specs.machine.State.{State, Packed, Hold, Done, Idle, decided, target, state_for, list_after, entry_in, last}
+use Rattle.arj_law_disk.specs.machine.State.{last_entry, KnownIn, IsPast, Below, is_latest, IsExcused}
 use Rattle.arj_law_disk.specs.machine.Words.{has, In}
 
 -- The object as it begins: each listed store holds the first state, others may hold an older one, and nothing has happened.
@@ -43,14 +46,16 @@ IsExcludedInTime S t s = (S.held s ≡ Some (last S)) ⊎ ((h : Hold) × (S.pend
 
 -- so it is of the latest top that wrote, and of each store that the entry lists
 abbrev pub AreExcludedInTime : State → Type 0
-AreExcludedInTime S = (t s : ℕ) → is_latest S t ≡ true → is_some (S.plan t).writes ≡ true → has s S.entry.content ≡ true → IsExcludedInTime S t s
+AreExcludedInTime S = (t s : ℕ) → is_latest S t ≡ true → is_some (S.plan t).writes ≡ true → has s S.entry.content ≡ true →
+    IsExcludedInTime S t s
 
 -- One outcome: what is committed anywhere is decided; what a decided top has prepared as a participant is aborted only
 -- after it was committed there; and its entry never is.
 pub record HasOneOutcome (W : World) : Type 0 where
   pub moved : (s : ℕ) (h : Hold) → Allowed W (Move s h) → decided W.disk h.top ≡ true
   pub finished : (s : ℕ) (h : Hold) → Allowed W (Finish s h) → decided W.disk h.top ≡ true
-  pub dropped : (s : ℕ) (h : Hold) → Allowed W (Drop s h) → decided W.disk h.top ≡ true → W.disk.got h.top s ≡ true → W.disk.went h.top s ≡ true
+  pub dropped : (s : ℕ) (h : Hold) → Allowed W (Drop s h) → decided W.disk h.top ≡ true → W.disk.got h.top s ≡ true →
+      W.disk.went h.top s ≡ true
   pub entry_moved : (h : Hold) → Allowed W (MoveEntry h) → decided W.disk h.top ≡ true
   pub entry_finished : (h : Hold) → Allowed W (FinishEntry h) → decided W.disk h.top ≡ true
   pub entry_dropped : (h : Hold) → Allowed W (DropEntry h) → decided W.disk h.top ≡ false
@@ -64,7 +69,8 @@ writes_in (d ∷ ds) = writes_in ds + (if is_some d.plan.writes then 1 else 0)
 -- the number of decided tops that changed the list
 abbrev pub changes_in : Packed → List Done → ℕ
 changes_in first [] = 0
-changes_in first (d ∷ ds) = changes_in first ds + (if d.counts && not (bytes_eq (list_after d.plan d.got (entry_in first ds).content) (entry_in first ds).content) then 1 else 0)
+changes_in first (d ∷ ds) = changes_in first ds
+    + (if d.counts && not (bytes_eq (list_after d.plan d.got (entry_in first ds).content) (entry_in first ds).content) then 1 else 0)
 
 -- versions count what was decided
 pub record VersionsCount (S : State) : Type 0 where
@@ -84,5 +90,7 @@ IsBased S w = BasedIn S.first S.tops w
 -- An answer that a store holds a version not below the one sent names one that was committed, and not the first; as long as
 -- no older state was loaded.
 abbrev pub OldIsCommitted : State → Type 0
-OldIsCommitted S = (t s : ℕ) (g : Packed) → S.begun t ≡ true → target (S.plan t) s ≡ true → ((w : Packed) → (S.plan t).writes ≡ Some w → IsBased S w)
-    → (In (S.plan t).loaded S.past → ⊥) → S.held s ≡ Some g → (Below g (state_for (S.plan t)) → ⊥) → (S.first.version < g.version) × (g.version ≤ S.first.version + writes_in S.tops)
+OldIsCommitted S = (t s : ℕ) (g : Packed) → S.begun t ≡ true → target (S.plan t) s ≡ true →
+    ((w : Packed) → (S.plan t).writes ≡ Some w → IsBased S w)
+    → (In (S.plan t).loaded S.past → ⊥) → S.held s ≡ Some g → (Below g (state_for (S.plan t)) → ⊥) →
+    (S.first.version < g.version) × (g.version ≤ S.first.version + writes_in S.tops)

@@ -27,6 +27,8 @@ Meaning S (Confirm t) = (S.begun t ≡ true) × (is_sealed (S.stage t) ≡ true)
 Meaning S (Confirmed t) = (S.begun t ≡ true) × (undecided S t ≡ true → (S.conf t ≡ true) ⊎ (S.light t ≡ true))
 Meaning S (ToldCommit t m) = decided S t ≡ true
 Meaning S (ToldBare t m) = S.bare t ≡ true
-Meaning S (ToldAbort t m) = (is_gone (S.stage t) ≡ true) × (undecided S t ≡ false) × (lists S t m ≡ false) × (S.bare t ≡ true → IsOver S (S.root t))
-Meaning S (Acked t m) = (decided S t ≡ true) × (S.got t m ≡ true → S.went t m ≡ true) × (m ≡ naming → (h : Hold) → S.entry_pend ≡ Some h → h.top ≡ t → ⊥)
+Meaning S (ToldAbort t m) =
+    (is_gone (S.stage t) ≡ true) × (undecided S t ≡ false) × (lists S t m ≡ false) × (S.bare t ≡ true → IsOver S (S.root t))
+Meaning S (Acked t m) =
+    (decided S t ≡ true) × (S.got t m ≡ true → S.went t m ≡ true) × (m ≡ naming → (h : Hold) → S.entry_pend ≡ Some h → h.top ≡ t → ⊥)
 Meaning S (ToldSerial r m) = IsOver S r × ((z : ℕ) → S.root z ≡ r → lists S z m ≡ false)

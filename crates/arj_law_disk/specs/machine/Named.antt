@@ -4,7 +4,8 @@ use Rattle.arj_law_disk.specs.machine.Effects.{Whole}
 use Rattle.arj_law_disk.specs.machine.Guards.{HasRow, IsUntold, IsPresent, HasPart}
 use Rattle.arj_law_disk.specs.machine.Messages.{Message, Acked, IsOver}
 use Rattle.arj_law_disk.specs.machine.Names.{Names, Office, Kept, Answer, Bound, Loaded, load_of}
-use Rattle.arj_law_disk.specs.machine.State.{State, Packed, Hold, naming, is_idle, is_gone, decided, undecided, lists, last, last_entry, Known, IsNew, Listed}
+use Rattle.arj_law_disk.specs.machine.State.{State, Packed, Hold, naming, is_idle, is_gone, decided, undecided, lists, last, last_entry}
+use Rattle.arj_law_disk.specs.machine.State.{Known, IsNew, Listed}
 use Rattle.arj_law_disk.specs.machine.Words.{has, In}
 
 -- one action is the other, or its root
@@ -31,14 +32,16 @@ Rows S N = record {
   given : (t : ℕ) → N.given t ≡ true → HasRow N t 1 × (S.begun t ≡ true) × (N.had t N.inc ≡ false);
   guard : (h : Hold) → S.entry_pend ≡ Some h → HasRow N h.top 1 × (N.told h.top ≡ false) × (N.confd h.top ≡ true);
   adds : (h : Hold) (s : ℕ) → S.entry_pend ≡ Some h → has s h.new.content ≡ true → has s S.entry.content ≡ false → HasRow N h.top 2;
-  out : (h : Hold) (s : ℕ) → S.entry_pend ≡ Some h → decided S h.top ≡ false → has s (S.plan h.top).joins ≡ true → S.got h.top s ≡ true → has s S.entry.content ≡ false;
+  out : (h : Hold) (s : ℕ) → S.entry_pend ≡ Some h → decided S h.top ≡ false → has s (S.plan h.top).joins ≡ true → S.got h.top s ≡ true →
+      has s S.entry.content ≡ false;
   since : (h : Hold) (s : ℕ) → S.entry_pend ≡ Some h → has s (S.plan h.top).joins ≡ true → (N.given h.top ≡ true) ⊎ HasRow N h.top 2;
   asked : (t : ℕ) → N.asked t ≡ true → IsUntold S N t → HasRow N t 2;
 }
 
 -- a root's locks: it is over, or has one, or a committed top of it that wasn't told of is still to pass one on
 abbrev pub IsHeld : State → Names → ℕ → Type 0
-IsHeld S N r = IsOver S r ⊎ HasRow N r 0 ⊎ ((y : ℕ) × (S.root y ≡ r) × ((decided S y ≡ true) ⊎ (S.bare y ≡ true)) × (N.told y ≡ false) × (N.had y N.inc ≡ true))
+IsHeld S N r = IsOver S r ⊎ HasRow N r 0
+    ⊎ ((y : ℕ) × (S.root y ≡ r) × ((decided S y ≡ true) ⊎ (S.bare y ≡ true)) × (N.told y ≡ false) × (N.had y N.inc ≡ true))
 
 -- Grants: of the past or the present; one of the present stands as a lock; who was confirmed with one was so in its
 -- incarnation; and a decided top with one is known to the naming node's acknowledgement.
@@ -48,7 +51,8 @@ Grants S N sent = record {
   row : (t : ℕ) → S.serial t ≡ false → N.had t N.inc ≡ true → IsUntold S N t → HasRow N t 0 × (N.given t ≡ false);
   root : (r : ℕ) → S.serial r ≡ true → N.had r N.inc ≡ true → N.told r ≡ false → IsHeld S N r;
   conf : (t : ℕ) → (S.conf t ≡ true) ⊎ (S.light t ≡ true) → N.had t N.inc ≡ true → N.confd t ≡ true;
-  part : (t : ℕ) → (S.conf t ≡ true) ⊎ (S.light t ≡ true) → HasPart (S.plan t) → (i : ℕ) × ((N.had t i ≡ true) ⊎ (N.had (S.root t) i ≡ true)) × (i ≡ N.inc → N.confd t ≡ true);
+  part : (t : ℕ) → (S.conf t ≡ true) ⊎ (S.light t ≡ true) → HasPart (S.plan t) →
+      (i : ℕ) × ((N.had t i ≡ true) ⊎ (N.had (S.root t) i ≡ true)) × (i ≡ N.inc → N.confd t ≡ true);
   yes : (t : ℕ) → N.confd t ≡ true → (S.begun t ≡ true) × (undecided S t ≡ true → (S.conf t ≡ true) ⊎ (S.light t ≡ true));
   listed : (t : ℕ) → decided S t ≡ true → N.had t N.inc ≡ true → N.told t ≡ false → lists S t naming ≡ true;
   acked : (t : ℕ) → In (Acked t naming) sent → (N.told t ≡ true) ⊎ (N.had t N.inc ≡ false);
@@ -72,7 +76,8 @@ abbrev pub Lists : State → Names → Type 0
 Lists S N = record {
   had : (h : ℕ) (k : Kept) → N.kept h ≡ Some k → N.had h k.since ≡ true;
   kept : (h : ℕ) (k : Kept) → N.kept h ≡ Some k → IsPresent S N h → IsUntold S N h → IsOver S (S.root h) ⊎ IsWide S (S.root h) k.list;
-  plan : (t : ℕ) → undecided S t ≡ true → is_some (S.plan t).writes ≡ true → (i : ℕ) × ((N.had t i ≡ true) ⊎ (N.had (S.root t) i ≡ true)) × (IsPresent S N t → IsWide S (S.root t) (S.plan t).list);
+  plan : (t : ℕ) → undecided S t ≡ true → is_some (S.plan t).writes ≡ true →
+      (i : ℕ) × ((N.had t i ≡ true) ⊎ (N.had (S.root t) i ≡ true)) × (IsPresent S N t → IsWide S (S.root t) (S.plan t).list);
   light : (t s : ℕ) → S.light t ≡ true → undecided S t ≡ true → IsPresent S N t → has s (S.plan t).joins ≡ true → Listed S s → ⊥;
 }
 
@@ -83,16 +88,20 @@ IsLoad S t g = (last S ≡ load_of S t g) × ((z : ℕ) → S.conf z ≡ true �
 -- What an answer means while its top works.
 abbrev pub AnswerMeans : State → Names → Answer → Type 0
 AnswerMeans S N (Bound t i b l) = (S.serial t ≡ false) × (i ≤ N.inc) × (is_idle (S.stage t) ≡ true → i ≡ N.inc → IsUntold S N t
-    → HasRow N t 0 × (N.given t ≡ false) × IsWide S (S.root t) l × (b ≡ true → (N.asked t ≡ true) × ((s : ℕ) → has s l ≡ true → has s (last_entry S).content ≡ true)))
-AnswerMeans S N (Loaded t i g) = (S.serial t ≡ false) × (i ≤ N.inc) × Known S g × (is_idle (S.stage t) ≡ true → i ≡ N.inc → IsUntold S N t → (N.asked t ≡ true) × IsLoad S t g)
+    → HasRow N t 0 × (N.given t ≡ false) × IsWide S (S.root t) l
+    × (b ≡ true → (N.asked t ≡ true) × ((s : ℕ) → has s l ≡ true → has s (last_entry S).content ≡ true)))
+AnswerMeans S N (Loaded t i g) = (S.serial t ≡ false) × (i ≤ N.inc) × Known S g
+    × (is_idle (S.stage t) ≡ true → i ≡ N.inc → IsUntold S N t → (N.asked t ≡ true) × IsLoad S t g)
 
 -- What a commit counts on that has begun: its changed state is new; what it includes was bound
 -- in an incarnation, and as long as that is the present one, the loaded state is the last, and nobody else is confirmed.
 abbrev pub Plans : State → Names → Type 0
 Plans S N = record {
   writer : (t : ℕ) (w : Packed) → S.begun t ≡ true → (S.plan t).writes ≡ Some w → (w.writer ≡ t) × IsNew S t;
-  asked : (t s : ℕ) → S.begun t ≡ true → has s (S.plan t).joins ≡ true → (i : ℕ) × (N.had t i ≡ true) × (i ≡ N.inc → IsUntold S N t → N.asked t ≡ true);
-  loaded : (t s : ℕ) → undecided S t ≡ true → has s (S.plan t).joins ≡ true → IsPresent S N t → ((S.plan t).loaded ≡ last S) × ((z : ℕ) → S.conf z ≡ true → undecided S z ≡ true → z ≡ t);
+  asked : (t s : ℕ) → S.begun t ≡ true → has s (S.plan t).joins ≡ true →
+      (i : ℕ) × (N.had t i ≡ true) × (i ≡ N.inc → IsUntold S N t → N.asked t ≡ true);
+  loaded : (t s : ℕ) → undecided S t ≡ true → has s (S.plan t).joins ≡ true → IsPresent S N t →
+      ((S.plan t).loaded ≡ last S) × ((z : ℕ) → S.conf z ≡ true → undecided S z ≡ true → z ≡ t);
 }
 
 -- what holds of the disks and the naming node's half

@@ -1,7 +1,9 @@
 -- The naming node's volatile half, for one entry, and what coordinators have from it: locks, grants, kept store lists.
-use Rattle.std.specs.Prelude.{ℕ, ◌+◌, List, [], ◌∷◌, filter, Bool, true, false, ◌==◌, ◌||◌, ◌&&◌, not, if◌then◌else◌, Option, Some, None, nat_lt}
+use Rattle.std.specs.Prelude.{ℕ, ◌+◌, List, [], ◌∷◌, filter, Bool, true, false, ◌==◌, ◌||◌, ◌&&◌, not, if◌then◌else◌, Option, Some, None}
+use Rattle.std.specs.Prelude.{nat_lt}
 use Rattle.std.specs.List.{list_any}
-use Rattle.arj_law_disk.specs.machine.Effects.{World, Effect, Begin, Take, Seal, Intend, Decide, Remove, EndBare, Halt, Keep, Move, Finish, Drop, Agree, Pass, Enter, MoveEntry, FinishEntry, DropEntry, Forget, Send, after}
+use Rattle.arj_law_disk.specs.machine.Effects.{World, Effect, Begin, Take, Seal, Intend, Decide, Remove, EndBare, Halt, Keep, Move, Finish}
+use Rattle.arj_law_disk.specs.machine.Effects.{Drop, Agree, Pass, Enter, MoveEntry, FinishEntry, DropEntry, Forget, Send, after}
 use Rattle.arj_law_disk.specs.machine.State.{State, Packed, Plan, Hold, Done, list_after}
 use Rattle.arj_law_disk.specs.machine.Words.{has, put, put2}
 
@@ -147,12 +149,29 @@ abbrev pub acted : Office → Act → Office
 acted A (Do e) = record { world = after A.world e; names = noted A.world.disk e A.names }
 acted A (Commit t) = record { world = after A.world (Decide t); names = retained A.world.disk t (noted A.world.disk (Decide t) A.names) }
 acted A (CommitBare t) = record { world = after A.world (EndBare t); names = retained A.world.disk t A.names }
-acted A (Read t) = record A { names = record A.names { row = put t (Some (raised (A.names.row t) 0)) A.names.row; answers = Bound t A.names.inc false A.world.disk.entry.content ∷ A.names.answers } }
-acted A (Write t b) = record A { names = record A.names { row = put t (Some (raised (A.names.row t) 2)) A.names.row; asked = put t (A.names.asked t || b) A.names.asked; answers = Bound t A.names.inc b A.world.disk.entry.content ∷ A.names.answers } }
+acted A (Read t) = record A {
+  names = record A.names {
+    row = put t (Some (raised (A.names.row t) 0)) A.names.row;
+    answers = Bound t A.names.inc false A.world.disk.entry.content ∷ A.names.answers;
+  };
+}
+acted A (Write t b) = record A {
+  names = record A.names {
+    row = put t (Some (raised (A.names.row t) 2)) A.names.row;
+    asked = put t (A.names.asked t || b) A.names.asked;
+    answers = Bound t A.names.inc b A.world.disk.entry.content ∷ A.names.answers;
+  };
+}
 acted A (Exclude t) = record A { names = record A.names { row = put t (Some (raised (A.names.row t) 1)) A.names.row } }
 acted A (Lower t) = record A { names = record A.names { row = put t (Some (if A.names.asked t then 2 else 0)) A.names.row; live = true } }
 acted A Unbind = record A { names = record A.names { live = false } }
-acted A (EndTop t commits) = record A { names = record A.names { told = put t true A.names.told; row = rows_after A.world.disk A.names t (commits && A.names.confd t && not (A.names.given t)); given = put t false A.names.given } }
+acted A (EndTop t commits) = record A {
+  names = record A.names {
+    told = put t true A.names.told;
+    row = rows_after A.world.disk A.names t (commits && A.names.confd t && not (A.names.given t));
+    given = put t false A.names.given;
+  };
+}
 acted A (EndSerial r) = record A { names = record A.names { told = put r true A.names.told; row = rows_left A.world.disk A.names r } }
 acted A (Restart yes_again) = record A {
   names = record A.names {
@@ -166,7 +185,8 @@ acted A (Restart yes_again) = record A {
   };
 }
 acted A (Hear t i b l) = record A { names = record A.names { had = put2 t i true A.names.had } }
-acted A (KeepList h t i l) = record A { names = record A.names { kept = put h (Some (record { since = i; list = narrowed i l (A.names.kept h) })) A.names.kept } }
+acted A (KeepList h t i l) =
+    record A { names = record A.names { kept = put h (Some (record { since = i; list = narrowed i l (A.names.kept h) })) A.names.kept } }
 acted A (AnswerLoad t i s l g) = record A { names = record A.names { answers = Loaded t i g ∷ A.names.answers } }
 
 -- the state that the last decided constituent of a root wrote

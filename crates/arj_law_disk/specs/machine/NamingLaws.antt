@@ -27,16 +27,18 @@ pub record IsFirstNames (N : Names) : Type 0 where
 
 -- so what a format leaves holds together
 abbrev pub FirstIsNamed : Type 0
-FirstIsNamed = (S : State) (N : Names) → IsFirst S → IsForest S → IsFirstNames N → Named (record { world = record { disk = S; sent = [] }; names = N })
+FirstIsNamed = (S : State) (N : Names) → IsFirst S → IsForest S → IsFirstNames N →
+    Named (record { world = record { disk = S; sent = [] }; names = N })
 
 -- Effects in which the naming node's half has no part may be done as they are allowed, and leave it as it was; no top is
 -- decided by them.
 abbrev pub PlainEffectsAreActs : Type 0
 PlainEffectsAreActs = (A : Office) (es : List Effect) → Follows A.world es → ArePlain es
-    → Runs A (map Do es) × (end_of A (map Do es) ≡ record { world = run A.world es; names = A.names }) × ((run A.world es).disk.tops ≡ A.world.disk.tops)
+    → Runs A (map Do es) × (end_of A (map Do es) ≡ record { world = run A.world es; names = A.names })
+    × ((run A.world es).disk.tops ≡ A.world.disk.tops)
 
--- The book of locks: what a confirmation counts on, from the naming node's half and the stores, with the next version; and where it prepares a
--- new entry, no other one is prepared, so that it is never refused.
+-- The book of locks: what a confirmation counts on, from the naming node's half and the stores, with the next version; and where it
+-- prepares a new entry, no other one is prepared, so that it is never refused.
 pub record IsBooked (A : Office) : Type 0 where
   pub agrees : (t : ℕ) → MayAgree A t → undecided A.world.disk t ≡ true → Locked A.world.disk t
   pub enters : (t : ℕ) → MayEnter A t → undecided A.world.disk t ≡ true → Locked A.world.disk t
@@ -56,5 +58,6 @@ HoldsWrite A t = (A.world.disk.serial t ≡ false) × (is_idle (A.world.disk.sta
 
 -- who holds the write lock loads the last state from a listed store with nothing prepared, and no confirmed top's outcome is open
 abbrev pub LoadsTheLast : Office → Type 0
-LoadsTheLast A = (t s : ℕ) (g : Packed) → HoldsWrite A t → has s A.world.disk.entry.content ≡ true → A.world.disk.pend s ≡ None → A.world.disk.held s ≡ Some g
+LoadsTheLast A = (t s : ℕ) (g : Packed) → HoldsWrite A t → has s A.world.disk.entry.content ≡ true → A.world.disk.pend s ≡ None →
+    A.world.disk.held s ≡ Some g
     → (g ≡ last A.world.disk) × ((z : ℕ) → A.world.disk.conf z ≡ true → undecided A.world.disk z ≡ true → ⊥)

@@ -1,9 +1,11 @@
 -- Small runs, as lists of acts: that the guards can be met.
 use Rattle.std.specs.Prelude.{◌≡◌, ℕ, List, [], ◌∷◌, ◌==◌, ◌||◌, true, false, if◌then◌else◌, Some, None}
-use Rattle.arj_law_disk.specs.machine.Effects.{Begin, Take, Seal, Intend, Decide, Remove, Halt, Keep, Move, Finish, Drop, Agree, Enter, MoveEntry, FinishEntry, DropEntry, Send}
+use Rattle.arj_law_disk.specs.machine.Effects.{Begin, Take, Seal, Intend, Decide, Remove, Halt, Keep, Move, Finish, Drop, Agree, Enter}
+use Rattle.arj_law_disk.specs.machine.Effects.{MoveEntry, FinishEntry, DropEntry, Send}
 use Rattle.arj_law_disk.specs.machine.Guards.{end_of}
 use Rattle.arj_law_disk.specs.machine.Messages.{Prepare, Prepared, Confirm, Confirmed, ToldCommit, ToldAbort, Acked}
-use Rattle.arj_law_disk.specs.machine.Names.{Names, Office, Act, Do, Commit, Write, Exclude, Lower, EndTop, Restart, Hear, KeepList, AnswerLoad}
+use Rattle.arj_law_disk.specs.machine.Names.{Names, Office, Act, Do, Commit, Write, Exclude, Lower, EndTop, Restart, Hear, KeepList}
+use Rattle.arj_law_disk.specs.machine.Names.{AnswerLoad}
 use Rattle.arj_law_disk.specs.machine.State.{State, Packed, Plan, Hold, Idle}
 use Rattle.arj_law_disk.specs.machine.Words.{has}
 
@@ -88,7 +90,8 @@ joining g s = record { writes = None; list = []; joins = s ∷ []; loaded = g }
 
 -- the same object, with a serializing action 9 and its constituents 6 and 7
 abbrev pub serial_office : Office
-serial_office = record first_office { world = record { disk = record first_state { root = λ t. if (t == 6) || (t == 7) then 9 else t; serial = λ t. t == 9 }; sent = [] } }
+serial_office = record first_office
+    { world = record { disk = record first_state { root = λ t. if (t == 6) || (t == 7) then 9 else t; serial = λ t. t == 9 }; sent = [] } }
 
 -- Top 5 writes; store 3 is silent and is excluded: up to the naming node's Yes.
 abbrev pub excluding : List Act

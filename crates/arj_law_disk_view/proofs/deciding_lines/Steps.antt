@@ -1,23 +1,13 @@
 -- A step of a node adds lines and leaves the other nodes; and where the node was down its records stay.
-use Rattle.std.proofs.Common.{◌≡◌, ℕ, ◌==◌, List, [], ◌∷◌, ◌++◌, Bool, true, false, cond, Option, Some, None, refl, sym, ◌∙◌, ap, subst, inr}
-use Rattle.std.specs.List.{list_all}
-use Rattle.std.proofs.lemmas.Bool.{and_parts}
-use Rattle.arj_lock.proofs.Members.{In, in_from, in_to}
-use Rattle.arj_model.specs.Actions.{Act}
-use Rattle.arj_protocol.specs.Words.{Body, Line, Uid}
-use Rattle.arj_protocol.specs.Words.body
-use Rattle.arj_protocol.specs.Words.role
-use Rattle.arj_protocol.specs.Effect.{Abort, After, Before, Commit, Disk, Do, Effect, InPart, Look, Prepare, PutInc, PutIntent, RemoveIntent, Say, Send, Stop, Work, stopped, worked}
-use Rattle.arj_protocol.specs.Node.{Parts}
-use Rattle.arj_protocol.specs.Step.{Node}
-use Rattle.arj_protocol.specs.World.{numbered}
-use Rattle.arj_law_parts.specs.moves.Seen.{at, posted, said}
-use Rattle.arj_promise.specs.Runs.{Post, Seen}
-use Rattle.arj_law_parts.specs.moves.Walks.{Up, Walks}
+use Rattle.arj_law_parts.proofs.Words
+use Words.{◌≡◌, ℕ, ◌==◌, List, [], ◌∷◌, ◌++◌, Bool, true, false, cond, Option, Some, None, refl, sym, ◌∙◌, ap, subst, inr, list_all}
+use Words.{and_parts, In, in_from, in_to, Body, Line, Uid, Abort, After, Before, Commit, Disk, Do, Effect, InPart, Look, Prepare, PutInc}
+use Words.{PutIntent, RemoveIntent, Say, Send, Stop, Work, stopped, worked, Parts, Node, numbered, Post, Seen}
+use Words.body
+use Words.role
+use Rattle.arj_law_disk_view.proofs.Terms.{Act, at, posted, said, Up, Walks, book, new_book, IsPlain, book_more}
 use Rattle.arj_law_disk_view.proofs.running.Plain.{Plain, is_plain}
-use Rattle.arj_law_runs.specs.journal.Book.{Book, book, book_from, new_book, turned}
-use Rattle.arj_law_disk_view.specs.deciding_lines.Said.{IsPlain}
-use Rattle.arj_law_runs.proofs.journal.Books.{book_more}
+use Rattle.arj_law_runs.specs.journal.Book.{Book, book_from, turned}
 
 -- ---- what it leaves
 
@@ -48,7 +38,11 @@ pub near_same : (M : Seen) → IsNear M M
 near_same M = record { more = []; lines = nothing_more M.lines; nodes = λ j. refl }
 
 near_said : (e : ℕ) (bs : List Body) (M N : Seen) → IsNear M N → IsNear M (said e bs N)
-near_said e bs M N near = record { more = near.more ++ numbered e bs; lines = ap (λ ls. ls ++ numbered e bs) near.lines ∙ and_more M.lines near.more (numbered e bs); nodes = near.nodes }
+near_said e bs M N near = record {
+  more = near.more ++ numbered e bs;
+  lines = ap (λ ls. ls ++ numbered e bs) near.lines ∙ and_more M.lines near.more (numbered e bs);
+  nodes = near.nodes;
+}
 
 -- an action that began
 acts_from : (B : Book) (ls : List Line) (a : Act) → In a B.acts → In a (let V = book_from B ls in V.acts)
@@ -65,7 +59,13 @@ acts_from B (l ∷ ls) a there = acts_from (turned B l.body) ls a (one l.body)
     one b = there
 
 pub plain_more : (ls ks : List Line) (u : Uid) → IsPlain ls u → IsPlain (ls ++ ks) u
-plain_more ls ks u (a, there, uid, kind) = (a, in_to a (let V = book (ls ++ ks) in V.acts) (subst (λ (V : Book). In a V.acts) (sym (book_more new_book ls ks)) (acts_from (book ls) ks a (in_from a (let V = book ls in V.acts) there))), uid, kind)
+plain_more ls ks u (a, there, uid, kind) = (
+  a,
+  in_to a (let V = book (ls ++ ks) in V.acts) (subst (λ (V : Book). In a V.acts) (sym (book_more new_book ls ks))
+      (acts_from (book ls) ks a (in_from a (let V = book ls in V.acts) there))),
+  uid,
+  kind,
+)
 
 -- ---- works
 
@@ -97,19 +97,30 @@ intents_stopped (InPart which) (RemoveIntent u) d plain = refl
 
 module _ (k : ℕ) (d : Disk) (live : Option Parts) (M : Seen) where
   -- this node in another state
-  pub step_at : (c : Disk) (now : Option Parts) (N : Seen) → IsNear M N → (live ≡ None → c.intents ≡ d.intents) → IsStep (at k d live M) (at k c now N)
+  pub step_at : (c : Disk) (now : Option Parts) (N : Seen) → IsNear M N → (live ≡ None → c.intents ≡ d.intents) →
+      IsStep (at k d live M) (at k c now N)
   step_at c now N near kept = record { more = near.more; lines = near.lines; nodes = λ j n is. by j n (j == k) refl is }
     where
-      by : (j : ℕ) (n : Node) (b : Bool) → (j == k) ≡ b → cond b (Some (record { number = k; disk = c; live = now })) (N.nodes j) ≡ Some n → (m : Node) × ((at k d live M).nodes j ≡ Some m) × HasKept m n
-      by j n true here is = let same : record { number = k; disk = c; live = now } ≡ n = cc is in
-          (record { number = k; disk = d; live = live }, (λ i. cond (here i) (Some (record { number = k; disk = d; live = live })) (M.nodes j)), λ down. ap (λ (z : Node). let q = z.disk in q.intents) (sym same) ∙ kept down)
-      by j n false other is = (n, (λ i. cond (other i) (Some (record { number = k; disk = d; live = live })) (M.nodes j)) ∙ sym (near.nodes j) ∙ is, λ down. refl)
+      by : (j : ℕ) (n : Node) (b : Bool) → (j == k) ≡ b → cond b (Some (record { number = k; disk = c; live = now })) (N.nodes j)
+          ≡ Some n → (m : Node) × ((at k d live M).nodes j ≡ Some m) × HasKept m n
+      by j n true here is = let same : record { number = k; disk = c; live = now } ≡ n = cc is in (
+        record { number = k; disk = d; live = live },
+        (λ i. cond (here i) (Some (record { number = k; disk = d; live = live })) (M.nodes j)),
+        λ down. ap (λ (z : Node). let q = z.disk in q.intents) (sym same) ∙ kept down,
+      )
+      by j n false other is = (
+        n,
+        (λ i. cond (other i) (Some (record { number = k; disk = d; live = live })) (M.nodes j)) ∙ sym (near.nodes j) ∙ is,
+        λ down. refl,
+      )
 
   -- the node stops; it was up, or not
-  pub step_halted : (e : ℕ) (c : Disk) (N : Seen) → IsNear M N → (live ≡ None → c.intents ≡ d.intents) → IsStep (at k d live M) (said e (body.Halted k ∷ []) (at k c None N))
+  pub step_halted : (e : ℕ) (c : Disk) (N : Seen) → IsNear M N → (live ≡ None → c.intents ≡ d.intents) →
+      IsStep (at k d live M) (said e (body.Halted k ∷ []) (at k c None N))
   step_halted e c N near kept = step_at c None (said e (body.Halted k ∷ []) N) (near_said e (body.Halted k ∷ []) M N near) kept
 
-  pub step_walk : (e : ℕ) (v : Parts) (es : List Effect) (c : Disk) (N : Seen) → IsNear M N → (live ≡ None → Plain es) → (live ≡ None → c.intents ≡ d.intents) → Walks (IsStep (at k d live M)) e k es (Up (IsStep (at k d live M)) k v) c N
+  pub step_walk : (e : ℕ) (v : Parts) (es : List Effect) (c : Disk) (N : Seen) → IsNear M N → (live ≡ None → Plain es) →
+      (live ≡ None → c.intents ≡ d.intents) → Walks (IsStep (at k d live M)) e k es (Up (IsStep (at k d live M)) k v) c N
   step_walk e v [] c N near plain kept = step_at c (Some v) N near kept
   step_walk e v (Do w ∷ es) c N near plain kept = (
     λ how. step_halted e (stopped how w c) N near (λ down. intents_stopped how w c (here down) ∙ kept down),
@@ -123,4 +134,5 @@ module _ (k : ℕ) (d : Disk) (live : Option Parts) (M : Seen) where
       behind down = (and_parts (is_plain (Do w)) (list_all is_plain es) (plain down)).1
   step_walk e v (Say b ∷ es) c N near plain kept = step_walk e v es c (said e (b ∷ []) N) (near_said e (b ∷ []) M N near) plain kept
   step_walk e v (Send to m ∷ es) c N near plain kept = λ more quiet. let p : Post = record { from = k; to = to; message = m } in
-      step_walk e v es c (said e more (posted p N)) (near_said e more M (posted p N) (record { more = near.more; lines = near.lines; nodes = near.nodes })) plain kept
+      step_walk e v es c (said e more (posted p N))
+      (near_said e more M (posted p N) (record { more = near.more; lines = near.lines; nodes = near.nodes })) plain kept

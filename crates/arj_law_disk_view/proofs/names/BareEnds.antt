@@ -1,15 +1,13 @@
 -- Effects in which naming's half has no part, and commits that end without a record.
-use Rattle.std.proofs.Common.{◌≡◌, ℕ, Bool, List, [], ◌∷◌, true, false, Option, Some, None, refl, sym, ◌∙◌, ap, subst, inl, inr, ⊎_elim, is_some}
-use Rattle.std.specs.Prelude.{if◌then◌else◌}
-use Rattle.arj_law_disk.specs.machine.Core.{Core}
-use Rattle.arj_law_disk.specs.machine.Effects as machine
-use Rattle.arj_law_disk.specs.machine.Effects.{World, Whole, Allowed, after}
-use Rattle.arj_law_disk.specs.machine.Guards.{AreOnlyOf, Decides, Note, is_only_of}
-use Rattle.arj_law_disk.specs.machine.Messages as mail
-use Rattle.arj_law_disk.specs.machine.State.{State, Hold, Idle, Confirming, Gone, is_open, IsExcused, Listed, Packed, decided, effective_by, is_gone, last_entry, open_by, undecided}
-use Rattle.arj_law_disk.specs.machine.Words.{has}
-use Rattle.arj_law_disk.proofs.machine.Base.{falls_to, never, open_done, open_made, open_parts, put_cases, some_is}
-use Rattle.arj_law_disk_view.specs.view.Sees.{Along}
+use Rattle.arj_law_parts.proofs.Words
+use Words.{◌≡◌, ℕ, Bool, List, [], ◌∷◌, true, false, Option, Some, None, refl, sym, ◌∙◌, ap, subst, inl, inr, ⊎_elim, is_some}
+use Words.{if◌then◌else◌}
+use Rattle.arj_law_disk_view.proofs.Terms
+use Terms.{Core, World, Whole, Allowed, after, AreOnlyOf, Decides, Note, is_only_of, State, Hold, Idle, Confirming, Gone, is_open}
+use Terms.{IsExcused, Listed, Packed, decided, effective_by, is_gone, last_entry, open_by, undecided, has, falls_to, never, open_done}
+use Terms.{open_made, open_parts, put_cases, some_is, Along}
+use Terms.machine
+use Terms.mail
 
 pub begun_bare : (t : ℕ) (W : World) → Whole W → W.disk.bare t ≡ true → W.disk.begun t ≡ true
 begun_bare t W whole bare = ⊎_elim (whole.core.fresh.conf t) (whole.core.fresh.light t) (whole.core.bare.taken t bare)
@@ -46,7 +44,8 @@ module _ (f : Note → Bool) (z : ℕ) (none : f (Decides z) ≡ false) where
   unended S (machine.Intend t nodes) is on = on
   unended S (machine.Decide t) is on = on
   unended S (machine.Remove t nodes) is on = on
-  unended S (machine.EndBare t) is on = put_cases (λ b. b ≡ true → S.bare z ≡ true) t true S.bare z (λ same b. absurd (never (ap (λ k. f (Decides k)) same ∙ is) none)) (λ other b. b) on
+  unended S (machine.EndBare t) is on = put_cases (λ b. b ≡ true →
+      S.bare z ≡ true) t true S.bare z (λ same b. absurd (never (ap (λ k. f (Decides k)) same ∙ is) none)) (λ other b. b) on
   unended S (machine.Halt t) is on = on
   unended S (machine.Keep t s) is on = on
   unended S (machine.Move s h) is on = on
@@ -77,25 +76,30 @@ pub opens_none : (W : World) (a : machine.Effect) → Allowed W a → is_only_of
 opens_none W (machine.Begin t p) can is = absurd (never is refl)
 opens_none W (machine.Take t s) can is = record { opened = λ z u. u; idle = λ z i. i }
 opens_none W (machine.Seal t) can is = record {
-  opened = λ z. put_cases (λ g. open_by (decided W.disk z) g (W.disk.intent z) ≡ true → undecided W.disk z ≡ true) t Confirming W.disk.stage z
+  opened =
+      λ z. put_cases (λ g. open_by (decided W.disk z) g (W.disk.intent z) ≡ true → undecided W.disk z ≡ true) t Confirming W.disk.stage z
       (λ same u. subst (λ g. open_by (decided W.disk z) g (W.disk.intent z) ≡ true) (sym (ap W.disk.stage same ∙ can)) u) (λ other u. u);
   idle = λ z. put_cases (λ g. g ≡ Idle → W.disk.stage z ≡ Idle) t Confirming W.disk.stage z (λ same i. cc i) (λ other i. i);
 }
 opens_none W (machine.Intend t nodes) can is = record {
-  opened = λ z. put_cases (λ o. open_by (decided W.disk z) (W.disk.stage z) o ≡ true → undecided W.disk z ≡ true) t (Some nodes) W.disk.intent z
-      (λ same u. open_made (decided W.disk z) (W.disk.stage z) (W.disk.intent z) (open_done (decided W.disk z) (W.disk.stage z) (Some nodes) u) (inl (ap is_open (ap W.disk.stage same ∙ can.sealed)))) (λ other u. u);
+  opened =
+      λ z. put_cases (λ o. open_by (decided W.disk z) (W.disk.stage z) o ≡ true → undecided W.disk z ≡ true) t (Some nodes) W.disk.intent z
+      (λ same u. open_made (decided W.disk z) (W.disk.stage z) (W.disk.intent z) (open_done (decided W.disk z) (W.disk.stage z) (Some nodes)
+      u) (inl (ap is_open (ap W.disk.stage same ∙ can.sealed)))) (λ other u. u);
   idle = λ z i. i;
 }
 opens_none W (machine.Decide t) can is = absurd (never is refl)
 opens_none W (machine.Remove t nodes) can is = record {
   opened = λ z. put_cases (λ o. open_by (decided W.disk z) (W.disk.stage z) o ≡ true → undecided W.disk z ≡ true) t None W.disk.intent z
-      (λ same u. open_made (decided W.disk z) (W.disk.stage z) (W.disk.intent z) (open_done (decided W.disk z) (W.disk.stage z) None u) (⊎_elim (λ o. inl o) (λ n. absurd (never n refl)) (open_parts (decided W.disk z) (W.disk.stage z) None u))) (λ other u. u);
+      (λ same u. open_made (decided W.disk z) (W.disk.stage z) (W.disk.intent z) (open_done (decided W.disk z) (W.disk.stage z) None u)
+      (⊎_elim (λ o. inl o) (λ n. absurd (never n refl)) (open_parts (decided W.disk z) (W.disk.stage z) None u))) (λ other u. u);
   idle = λ z i. i;
 }
 opens_none W (machine.EndBare t) can is = absurd (never is refl)
 opens_none W (machine.Halt t) can is = record {
   opened = λ z. put_cases (λ g. open_by (decided W.disk z) g (W.disk.intent z) ≡ true → undecided W.disk z ≡ true) t Gone W.disk.stage z
-      (λ same u. open_made (decided W.disk z) (W.disk.stage z) (W.disk.intent z) (open_done (decided W.disk z) Gone (W.disk.intent z) u) (⊎_elim (λ o. absurd (never o refl)) (λ n. inr n) (open_parts (decided W.disk z) Gone (W.disk.intent z) u))) (λ other u. u);
+      (λ same u. open_made (decided W.disk z) (W.disk.stage z) (W.disk.intent z) (open_done (decided W.disk z) Gone (W.disk.intent z) u)
+      (⊎_elim (λ o. absurd (never o refl)) (λ n. inr n) (open_parts (decided W.disk z) Gone (W.disk.intent z) u))) (λ other u. u);
   idle = λ z. put_cases (λ g. g ≡ Idle → W.disk.stage z ≡ Idle) t Gone W.disk.stage z (λ same i. cc i) (λ other i. i);
 }
 opens_none W (machine.Keep t s) can is = record { opened = λ z u. u; idle = λ z i. i }
@@ -133,8 +137,10 @@ module _ (W : World) (t : ℕ) (whole : Whole W) (can : machine.CanEndBare W t) 
     not_both : (h : Hold) (n : ℕ) → W.disk.entry_pend ≡ Some h → has n h.new.content ≡ true → IsExcused W.disk t n → ⊥
     not_both h n there has_it f = never has_it (ap (λ (z : Hold). has n z.new.content) (some_is there f.there) ∙ f.lacks)
 
-    in_last : (h : Hold) (n : ℕ) → W.disk.entry_pend ≡ Some h → decided W.disk h.top ≡ true → has n h.new.content ≡ true → has n (last_entry W.disk).content ≡ true
-    in_last h n there done has_it = ap (λ (p : Packed). has n p.content) (sym core.effective.entry ∙ ap (λ o. effective_by (decided W.disk) (λ z. z) o W.disk.entry) there ∙ ap (λ b. if b then h.new else W.disk.entry) done) ∙ has_it
+    in_last : (h : Hold) (n : ℕ) → W.disk.entry_pend ≡ Some h → decided W.disk h.top ≡ true → has n h.new.content ≡ true →
+        has n (last_entry W.disk).content ≡ true
+    in_last h n there done has_it = ap (λ (p : Packed). has n p.content) (sym core.effective.entry
+        ∙ ap (λ o. effective_by (decided W.disk) (λ z. z) o W.disk.entry) there ∙ ap (λ b. if b then h.new else W.disk.entry) done) ∙ has_it
 
     none_left : ⊥
     none_left =
@@ -142,7 +148,8 @@ module _ (W : World) (t : ℕ) (whole : Whole W) (can : machine.CanEndBare W t) 
         let e = leaves s0.0 (inl s0.1) in
         let s1 = core.pending.stores e.by_entry e.there in
         ⊎_elim (λ here. not_both e.by_entry s1.0 e.there s1.1 (leaves s1.0 (inl here)))
-        (λ got. ⊎_elim (λ own. no_got s1.0 (ap (λ z. W.disk.got z s1.0) (sym own) ∙ got)) (λ other. not_both e.by_entry s1.0 e.there s1.1 (leaves s1.0 (inr (in_last e.by_entry s1.0 e.there other.0 s1.1)))) e.whose)
+        (λ got. ⊎_elim (λ own. no_got s1.0 (ap (λ z. W.disk.got z s1.0) (sym own) ∙ got))
+        (λ other. not_both e.by_entry s1.0 e.there s1.1 (leaves s1.0 (inr (in_last e.by_entry s1.0 e.there other.0 s1.1)))) e.whose)
         (core.pending.new e.by_entry s1.0 e.there s1.1)
 
   wrote_none : (o : Option Packed) → (W.disk.plan t).writes ≡ o → W.disk.conf t ≡ true → (let p = W.disk.plan t in p.writes) ≡ None
@@ -150,4 +157,5 @@ module _ (W : World) (t : ℕ) (whole : Whole W) (can : machine.CanEndBare W t) 
   wrote_none (Some w) is conf = absurd (none_left conf (ap is_some is))
 
 pub bare_wrote : (W : World) (t : ℕ) → Whole W → machine.CanEndBare W t → (let p = W.disk.plan t in p.writes) ≡ None
-bare_wrote W t whole can = ⊎_elim (λ conf. wrote_none W t whole can (W.disk.plan t).writes refl conf) (λ light. whole.core.light.plain t light) ((whole.mail (mail.Confirmed t) can.confirmed).1 (unsettled W t whole can))
+bare_wrote W t whole can = ⊎_elim (λ conf. wrote_none W t whole can (W.disk.plan t).writes refl conf)
+    (λ light. whole.core.light.plain t light) ((whole.mail (mail.Confirmed t) can.confirmed).1 (unsettled W t whole can))

@@ -1,18 +1,11 @@
 -- What a Confirm says of its grants stays true.
-use Rattle.std.proofs.Common.{◌≡◌, ◌⊎◌, ◌≤◌, ◌==◌, ℕ, Bool, true, false, sym, ◌∙◌, ap, subst, inl, inr, ⊎_elim, arith}
-use Rattle.arj_protocol.specs.Confirm.{Grants}
-use Rattle.arj_law_disk.specs.machine.Guards.{HasPart, only_decides}
-use Rattle.arj_law_disk.specs.machine.Named.{Named}
-use Rattle.arj_law_disk.specs.machine.Names.{Names, Office}
-use Rattle.arj_law_disk.specs.machine.State.{State, Idle, is_idle, undecided}
-use Rattle.arj_law_disk.specs.machine.Words.{In}
-use Rattle.arj_law_disk.proofs.machine.Base.{never}
-use Rattle.arj_law_disk_view.specs.view.Sees.{Along, IsLater}
+use Rattle.arj_law_parts.proofs.Words.{◌≡◌, ◌⊎◌, ◌≤◌, ◌==◌, ℕ, Bool, true, false, sym, ◌∙◌, ap, subst, inl, inr, ⊎_elim, arith, Grants}
+use Rattle.arj_law_disk_view.proofs.Terms
+use Terms.{HasPart, only_decides, Named, Names, Office, State, Idle, is_idle, undecided, In, never, Along, IsLater, CountsOnGrants}
+use Terms.{HasGrant, NamesGrants, IsFrom, OnlyMemory, IsAfter, Answering, Deciding, Quietly}
 use Rattle.arj_law_disk_view.proofs.view.Later.{effects_are_later, later_same}
-use Rattle.arj_law_disk_view.specs.names.Booked.{CountsOnGrants, HasGrant, NamesGrants}
-use Rattle.arj_law_disk_view.specs.names.Both.{IsFrom, OnlyMemory}
-use Rattle.arj_law_disk_view.specs.names.Claims.{AnswersAreAfter, ChangesAreAfter, GrantsAreCountedOn, GrantsStayCountedOn, IsAfter, IsHadBefore, RestartsAreAfter}
-use Rattle.arj_law_disk_view.specs.names.Handlers.{Answering, Deciding, Quietly}
+use Rattle.arj_law_disk_view.specs.names.Claims.{AnswersAreAfter, ChangesAreAfter, GrantsAreCountedOn, GrantsStayCountedOn, IsHadBefore}
+use Rattle.arj_law_disk_view.specs.names.Claims.{RestartsAreAfter}
 
 -- ---- changes
 
@@ -30,7 +23,8 @@ memory_after A B m = record {
 retained_from : (g : ℕ → Bool) (A B : Office) → IsFrom g A B → (h i : ℕ) → B.names.had h i ≡ true → IsHadBefore A h i
 retained_from g A B from h i on = ⊎_elim (λ old. inl old) (λ its. inr (inr (its.0, its.2, its.3, its.4))) (from h i on)
 
-went_on : (g : ℕ → Bool) (A B : Office) → Named A → Along (record { from = A.world; noted = only_decides g }) B.world → IsLater A.world B.world
+went_on : (g : ℕ → Bool) (A B : Office) → Named A → Along (record { from = A.world; noted = only_decides g }) B.world →
+    IsLater A.world B.world
 went_on g A B named a = subst (IsLater A.world) a.here (effects_are_later A.world a.effects a.allowed named.whole)
 
 pub changes_are_after : ChangesAreAfter
@@ -46,7 +40,14 @@ changes_are_after (Deciding t keeps) A B named c = let o = c.only in record {
 }
 
 pub restarts_are_after : RestartsAreAfter
-restarts_are_after g A B named c = let o = c.only in record { later = went_on g A B named c.along; grows = o.grows; from = retained_from g A B c.from; answers = o.answers; inc = c.inc; confd = c.confd }
+restarts_are_after g A B named c = let o = c.only in record {
+  later = went_on g A B named c.along;
+  grows = o.grows;
+  from = retained_from g A B c.from;
+  answers = o.answers;
+  inc = c.inc;
+  confd = c.confd;
+}
 
 pub answers_are_after : AnswersAreAfter
 answers_are_after A B o = record {
@@ -62,11 +63,13 @@ answers_are_after A B o = record {
 
 -- who was confirmed counts on a grant of a named incarnation, or of a later one
 module _ (x t : ℕ) (grants : Grants) (A : Office) (named : Named A) (names_it : NamesGrants x A.world.disk A.names t grants) where
-  confirmed_with : HasPart (A.world.disk.plan t) → (A.world.disk.conf t ≡ true) ⊎ (A.world.disk.light t ≡ true) → (g : ℕ) × HasGrant x g grants × (g ≤ A.names.inc) × (g ≡ A.names.inc → A.names.confd t ≡ true)
+  confirmed_with : HasPart (A.world.disk.plan t) → (A.world.disk.conf t ≡ true) ⊎ (A.world.disk.light t ≡ true) →
+      (g : ℕ) × HasGrant x g grants × (g ≤ A.names.inc) × (g ≡ A.names.inc → A.names.confd t ≡ true)
   confirmed_with part taken =
       let p = named.grants.part t taken part in
       let g = names_it part p.0 p.1 in
-      let past : p.0 ≤ A.names.inc = ⊎_elim (λ own. named.grants.past t p.0 own) (λ kept. named.grants.past (A.world.disk.root t) p.0 kept) p.1 in
+      let past : p.0 ≤ A.names.inc = ⊎_elim (λ own. named.grants.past t p.0 own) (λ kept. named.grants.past (A.world.disk.root t) p.0 kept)
+      p.1 in
       (g.0, g.1, omega (arith, g.2, past), λ same. p.2 (omega (arith, g.2, past, same)))
 
   pub counted_on : CountsOnGrants x A.world.disk A.names t grants
@@ -75,7 +78,8 @@ module _ (x t : ℕ) (grants : Grants) (A : Office) (named : Named A) (names_it 
 pub grants_are_counted_on : GrantsAreCountedOn
 grants_are_counted_on x t grants A named names_it = counted_on x t grants A named names_it
 
-module _ (x t : ℕ) (grants : Grants) (A B : Office) (named : Named A) (held : Named B) (begun : A.world.disk.begun t ≡ true) (after : IsAfter A B) (counts : CountsOnGrants x A.world.disk A.names t grants) where
+module _ (x t : ℕ) (grants : Grants) (A B : Office) (named : Named A) (held : Named B) (begun : A.world.disk.begun t ≡ true)
+    (after : IsAfter A B) (counts : CountsOnGrants x A.world.disk A.names t grants) where
   abbrev S : State
   S = A.world.disk
 
@@ -95,7 +99,8 @@ module _ (x t : ℕ) (grants : Grants) (A B : Office) (named : Named A) (held : 
   -- and so had its root, or the top, while its outcome is open
   had_root : undecided S t ≡ true → (i : ℕ) → B.names.had (S.root t) i ≡ true → (A.names.had t i ≡ true) ⊎ (A.names.had (S.root t) i ≡ true)
   had_root u i on = ⊎_elim (λ old. inr old)
-      (λ m. ⊎_elim (λ z. absurd (not_idle (ap S.stage (sym (named.roots.plain t z.1)) ∙ z.0))) (λ z. inl (ap (λ n. A.names.had n i) (named.roots.one t z.0 u z.1 (sym z.2)) ∙ z.3)) m) (after.from (S.root t) i on)
+      (λ m. ⊎_elim (λ z. absurd (not_idle (ap S.stage (sym (named.roots.plain t z.1)) ∙ z.0)))
+      (λ z. inl (ap (λ n. A.names.had n i) (named.roots.one t z.0 u z.1 (sym z.2)) ∙ z.3)) m) (after.from (S.root t) i on)
 
   plan_same : B.world.disk.plan t ≡ S.plan t
   plan_same = let l = after.later in l.plan t begun
@@ -106,15 +111,22 @@ module _ (x t : ℕ) (grants : Grants) (A B : Office) (named : Named A) (held : 
   part_then : HasPart (B.world.disk.plan t) → HasPart (S.plan t)
   part_then part = subst HasPart plan_same part
 
-  either_had : undecided S t ≡ true → (i : ℕ) → (B.names.had t i ≡ true) ⊎ (B.names.had (B.world.disk.root t) i ≡ true) → (A.names.had t i ≡ true) ⊎ (A.names.had (S.root t) i ≡ true)
+  either_had : undecided S t ≡ true → (i : ℕ) → (B.names.had t i ≡ true) ⊎ (B.names.had (B.world.disk.root t) i ≡ true) →
+      (A.names.had t i ≡ true) ⊎ (A.names.had (S.root t) i ≡ true)
   either_had u i h = ⊎_elim (λ own. inl (had_own i own)) (λ kept. had_root u i (ap (λ n. B.names.had n i) (sym root_same) ∙ kept)) h
 
   names_then : undecided S t ≡ true → NamesGrants x B.world.disk B.names t grants
   names_then u part i h = counts.unsettled u (part_then part) i (either_had u i h)
 
-  taken_then : HasPart (B.world.disk.plan t) → (B.world.disk.conf t ≡ true) ⊎ (B.world.disk.light t ≡ true) → (g : ℕ) × HasGrant x g grants × (g ≤ B.names.inc) × (g ≡ B.names.inc → B.names.confd t ≡ true)
+  taken_then : HasPart (B.world.disk.plan t) → (B.world.disk.conf t ≡ true) ⊎ (B.world.disk.light t ≡ true) →
+      (g : ℕ) × HasGrant x g grants × (g ≤ B.names.inc) × (g ≡ B.names.inc → B.names.confd t ≡ true)
   taken_then part taken = ⊎_elim
-      (λ old. let g = counts.taken (part_then part) old in (g.0, g.1, omega (arith, g.2, after.inc), λ same. after.confd (omega (arith, g.2, after.inc, same)) t (g.3 (omega (arith, g.2, after.inc, same)))))
+      (λ old. let g = counts.taken (part_then part) old in (
+        g.0,
+        g.1,
+        omega (arith, g.2, after.inc),
+        λ same. after.confd (omega (arith, g.2, after.inc, same)) t (g.3 (omega (arith, g.2, after.inc, same))),
+      ))
       (λ u. confirmed_with x t grants B held (names_then u) part taken) (let l = after.later in l.taken t begun taken)
 
   pub stays_counted : CountsOnGrants x B.world.disk B.names t grants

@@ -1,79 +1,58 @@
 -- A message, walked with both halves.
-use Rattle.std.proofs.Common.{◌≡◌, ◌⊎◌, ◌==◌, ℕ, List, [], ◌∷◌, ◌++◌, Bool, true, false, Option, Some, None, refl, sym, ◌∙◌, ap, subst, inl, inr, ⊎_elim, is_some, filter, map, not}
-use Rattle.std.specs.Prelude.{⊤, if◌then◌else◌, option_map}
-use Rattle.std.specs.List.{list_all}
-use Rattle.std.proofs.lemmas.Bool.{and_parts, or_parts}
-use Rattle.arj_protocol.specs.Words.{Uid, Ask, Asked, Binding, BoundReply, Cause, End, Head, Kind, Message, ObjectState, Path, What, asks, object}
-use Rattle.arj_protocol.specs.Words.ask
-use Rattle.arj_protocol.specs.Words.body
-use Rattle.arj_protocol.specs.Words.cause
-use Rattle.arj_protocol.specs.Words.confirmed
-use Rattle.arj_protocol.specs.Words.ending
-use Rattle.arj_protocol.specs.Words.kind
-use Rattle.arj_protocol.specs.Words.loaded
-use Rattle.arj_protocol.specs.Words.message
-use Rattle.arj_protocol.specs.Words.prepared
-use Rattle.arj_protocol.specs.Words.role
-use Rattle.arj_protocol.specs.Words.voted
-use Rattle.arj_protocol.specs.Ask.{Reply, actor, answers, asked_by, differs, last_end, response, top_of}
-use Rattle.arj_protocol.specs.Asking.{heard, heard_by, heard_doing, heard_none, heard_now, moved_commit, waits_for_commit}
-use Rattle.arj_protocol.specs.Commit as commit
-use Rattle.arj_protocol.specs.Commit.{CommitStep, Aborts, Stays, Machine, Voting, Preparing, Confirming, plainly, votes_left, with_states}
-use Rattle.arj_protocol.specs.Confirm.{confirm}
-use Rattle.arj_protocol.specs.Coord.{Calling, Committing, Coord, Doing, Idle, Now, doing_of, nodes_sent, root_at, servers_told, top_uses}
-use Rattle.arj_protocol.specs.Tree.{Branch, branch_of, ends_of, is_open_branch, root_of}
-use Rattle.arj_protocol.specs.Effect.{Disk, Effect, Intent, Look, Prep, Ready, Already, Old, InDoubt, Say, Send, Do, Served, Prepare, held_at, holder_of, is_prepared, prepare_answer}
-use Rattle.arj_protocol.specs.Ending.{acked, answer_query, ended, is_deferred, says, tell_all, tolds_by, tolds_of, tolds_of_branch, up_to}
-use Rattle.arj_protocol.specs.Naming as naming
-use Rattle.arj_protocol.specs.Naming.{Naming}
-use Rattle.arj_protocol.specs.Node.{Handled, Parts, by_reply, Took, Void, ack_told, coord_heard, end_states, handle, handle_answer, handle_ask, handle_ends, handle_hello, handle_other, handle_told, holders, if_naming, is_earlier, load_by, load_held, naming_hello, naming_told, prepare_by, query_about, sends_answer, serve, served, store_told, with_coord, with_naming, with_server}
-use Rattle.arj_protocol.specs.Order.{at_number, uid_number, without_number}
-use Rattle.arj_protocol.specs.Says.{AreAll, is_coord_effect, is_server_effect}
-use Rattle.arj_protocol.specs.Server as server
-use Rattle.arj_protocol.specs.Step.{is_committing, is_committing_now}
-use Rattle.arj_protocol.proofs.CoordSays.{acked_own, heard_own, query_own}
-use Rattle.arj_protocol.proofs.PartSays.{activate_own, all_both, ends_own, invoke_own, vote_own}
-use Rattle.arj_law_disk.specs.machine.Effects as machine
-use Rattle.arj_law_disk.specs.machine.Effects.{World, Whole, after}
-use Rattle.arj_law_disk.specs.machine.Guards.{Acks, Note, only_acks, only_begins, only_decides}
-use Rattle.arj_law_disk.specs.machine.Messages as mail
-use Rattle.arj_law_disk.specs.machine.Named.{Named}
-use Rattle.arj_law_disk.specs.machine.Names.{Office, Do as act}
-use Rattle.arj_law_disk.specs.machine.State.{naming as naming_node}
-use Rattle.arj_law_disk.specs.machine.Words.{In}
-use Rattle.arj_law_disk.proofs.machine.Acts.{runs_keep}
-use Rattle.arj_law_disk.proofs.machine.Base.{never, some_is, test_is, test_same}
-use Rattle.arj_law_disk.proofs.machine.PlainActs.{plain_act}
-use Rattle.arj_law_parts.specs.moves.Seen as seen
-use Rattle.arj_law_parts.specs.moves.Seen.{up}
-use Rattle.arj_promise.specs.Runs.{Seen}
-use Rattle.arj_law_parts.specs.moves.Walks.{Walks, Up}
-use Rattle.arj_law_parts.proofs.moves.Together.{walks_to}
-use Rattle.arj_law_disk_view.specs.view.Coordinating.{ConfirmsAreBooked, KnowsNode, NotesMessage, commit_note}
-use Rattle.arj_law_disk_view.specs.view.Knows.{KnowsKinds, KnowsMachine}
-use Rattle.arj_law_disk_view.specs.view.Sees.{ClaimsReply, ClaimsAnswered, ClaimsAsk, ClaimsAsked, ClaimsLast, ClaimsOther, IsNested, Kinds, SeesDisks, Walk, followed}
-use Rattle.arj_law_disk_view.specs.view.Stores.{ClaimsAbort}
-use Rattle.arj_law_disk_view.proofs.view.CommitWalks.{aborts}
-use Rattle.arj_law_disk_view.proofs.view.Followed.{coord_on, kinds_on}
-use Rattle.arj_law_disk_view.proofs.view.Frames.{node_here, sends_seen}
-use Rattle.arj_law_disk_view.proofs.view.DecideWalks.{confirmed_stops, confirming_of}
-use Rattle.arj_law_disk_view.proofs.view.HeardWalks.{is_say, preparing_of}
-use Rattle.arj_law_disk_view.proofs.view.ServedWalks.{bind_says}
-use Rattle.arj_law_disk_view.specs.view.Plans.{plan_at}
-use Rattle.arj_law_disk_view.proofs.view.Later.{effects_are_later, later_on}
-use Rattle.arj_law_disk_view.proofs.view.StoreWalks.{took_is}
-use Rattle.arj_law_disk_view.proofs.view.ToldWalks.{ends_are_walked}
-use Rattle.arj_law_disk_view.specs.names.Both.{IsOpenByDisks, BothWalk, DisksWalk, HasNoPart, IsOver, IsSeenFrom, OnlyMemory, SeesBoth, has_part, is_no_work, leaves_the_inc}
-use Rattle.arj_law_disk_view.specs.names.Calls.{ClaimsBound, ClaimsTop, HasGiven}
-use Rattle.arj_law_disk_view.specs.names.Handlers.{Answering, Change, CountsOn, Deciding, IsOpenAfter, IsSeenAfter, MayGoOn, MessagesKeepBoth, MessagesStopOpen, Quietly, answer_change, asked_change, bind_change, change_by, doing_change, now_change, reply_change, root_retains}
-use Rattle.arj_law_disk_view.specs.names.Memory.{SeesNaming}
-use Rattle.arj_law_disk_view.proofs.names.CommitBoth.{says_work as commit_says, GoesOn, begun_both, coord_leaves, going_both, left_goes, plain_both}
+use Rattle.arj_law_parts.proofs.Words
+use Words.{◌≡◌, ◌⊎◌, ◌==◌, ℕ, List, [], ◌∷◌, ◌++◌, Bool, true, false, Option, Some, None, refl, sym, ◌∙◌, ap, subst, inl, inr, ⊎_elim}
+use Words.{is_some, filter, map, not, ⊤, if◌then◌else◌, option_map, list_all, and_parts, or_parts, Uid, Ask, Asked, Binding, BoundReply}
+use Words.{Cause, End, Head, Kind, Message, ObjectState, Path, What, asks, object, Reply, actor, answers, asked_by, differs, last_end}
+use Words.{response, top_of, heard, heard_by, heard_doing, heard_none, heard_now, moved_commit, waits_for_commit, CommitStep, Aborts, Stays}
+use Words.{Machine, Voting, Preparing, Confirming, plainly, votes_left, with_states, confirm, Calling, Committing, Coord, Doing, Idle, Now}
+use Words.{doing_of, nodes_sent, root_at, servers_told, top_uses, Branch, branch_of, ends_of, is_open_branch, root_of, Disk, Effect, Intent}
+use Words.{Look, Prep, Ready, Already, Old, InDoubt, Say, Send, Do, Served, Prepare, held_at, holder_of, is_prepared, prepare_answer, acked}
+use Words.{answer_query, ended, is_deferred, says, tell_all, tolds_by, tolds_of, tolds_of_branch, up_to, Naming, Handled, Parts, by_reply}
+use Words.{Took, Void, ack_told, coord_heard, end_states, handle, handle_answer, handle_ask, handle_ends, handle_hello, handle_other}
+use Words.{handle_told, holders, if_naming, is_earlier, load_by, load_held, naming_hello, naming_told, prepare_by, query_about}
+use Words.{sends_answer, serve, served, store_told, with_coord, with_naming, with_server, at_number, uid_number, without_number, AreAll}
+use Words.{is_coord_effect, is_server_effect, is_committing, is_committing_now, acked_own, heard_own, query_own, activate_own, all_both}
+use Words.{ends_own, invoke_own, vote_own, Seen}
+use Words.ask
+use Words.body
+use Words.cause
+use Words.confirmed
+use Words.ending
+use Words.kind
+use Words.loaded
+use Words.message
+use Words.prepared
+use Words.role
+use Words.voted
+use Words.commit
+use Words.naming
+use Words.server
+use Rattle.arj_law_disk_view.proofs.Terms
+use Terms.{World, Whole, after, Acks, Note, only_acks, only_begins, only_decides, Named, Office, Do as act, naming as naming_node, In}
+use Terms.{runs_keep, never, some_is, test_is, test_same, plain_act, up, Walks, Up, walks_to, ConfirmsAreBooked, KnowsNode, NotesMessage}
+use Terms.{KnowsKinds, KnowsMachine, ClaimsReply, ClaimsAnswered, ClaimsAsk, ClaimsLast, ClaimsOther, IsNested, Kinds, SeesDisks, Walk}
+use Terms.{followed, ClaimsAbort, plan_at, IsOpenByDisks, BothWalk, DisksWalk, HasNoPart, IsSeenFrom, OnlyMemory, SeesBoth, has_part}
+use Terms.{is_no_work, leaves_the_inc, ClaimsBound, ClaimsTop, HasGiven, Answering, Change, CountsOn, Deciding, IsOpenAfter, IsSeenAfter}
+use Terms.{MayGoOn, Quietly, answer_change, asked_change, bind_change, change_by, doing_change, now_change, reply_change, root_retains}
+use Terms.{SeesNaming}
+use Terms.machine
+use Terms.mail
+use Terms.seen
+use Rattle.arj_law_disk_view.proofs.names.CommitBoth.{says_work as commit_says, GoesOn, begun_both, coord_leaves, going_both, left_goes}
+use Rattle.arj_law_disk_view.proofs.names.CommitBoth.{plain_both}
 use Rattle.arj_law_disk_view.proofs.names.ConfirmBoth.{confirms_keep_both}
 use Rattle.arj_law_disk_view.proofs.names.CoordBoth.{decisions_keep_both, decisions_stop, never_stops, no_work}
 use Rattle.arj_law_disk_view.proofs.names.NamingWalks.{binds_keep_both, hellos_keep_both, notes_keep_both, queries_leave}
 use Rattle.arj_law_disk_view.proofs.names.StepsBoth.{walks_start}
 use Rattle.arj_law_disk_view.proofs.names.StepsFollowed.{messages_are_followed}
 use Rattle.arj_law_disk_view.proofs.names.ToldBoth.{other_ends_keep_both, top_ends_keep_both}
+use Rattle.arj_law_disk_view.proofs.view
+use view.{CommitWalks.aborts, Followed.coord_on, Followed.kinds_on, Frames.node_here, Frames.sends_seen, Later.effects_are_later}
+use view.{Later.later_on, ServedWalks.bind_says, StoreWalks.took_is, ToldWalks.ends_are_walked}
+use view.DecideWalks.{confirmed_stops, confirming_of}
+use view.HeardWalks.{is_say, preparing_of}
+use Rattle.arj_law_disk_view.specs.names.{Both.IsOver, Handlers.MessagesKeepBoth, Handlers.MessagesStopOpen}
+use Rattle.arj_law_disk_view.specs.view.{Coordinating.commit_note, Sees.ClaimsAsked}
 
 -- ---- a request is no answer
 
@@ -140,15 +119,19 @@ acks_leave from u false = refl
 -- ---- who is told of
 
 decided_begun : (W : World) (t m : ℕ) → Whole W → In (mail.ToldCommit t m) W.sent → W.disk.begun t ≡ true
-decided_begun W t m whole told = ⊎_elim (whole.core.fresh.conf t) (whole.core.fresh.light t) (whole.core.coordinators.decided_taken t (whole.mail (mail.ToldCommit t m) told))
+decided_begun W t m whole told = ⊎_elim (whole.core.fresh.conf t) (whole.core.fresh.light t)
+    (whole.core.coordinators.decided_taken t (whole.mail (mail.ToldCommit t m) told))
 
 bare_begun : (W : World) (t : ℕ) → Whole W → W.disk.bare t ≡ true → W.disk.begun t ≡ true
 bare_begun W t whole bare = ⊎_elim (whole.core.fresh.conf t) (whole.core.fresh.light t) (whole.core.bare.taken t bare)
 
 -- the machine may tell naming of a commit without a record
-told_bare : (x : ℕ) (tops : Kinds) (A : Office) (M : Seen) (t : ℕ) → tops.walk ≡ None → A.world.disk.bare t ≡ true → SeesBoth x tops A M → SeesBoth x tops (record { world = after A.world (machine.Send (mail.ToldBare t naming_node)); names = A.names }) M
+told_bare : (x : ℕ) (tops : Kinds) (A : Office) (M : Seen) (t : ℕ) → tops.walk ≡ None → A.world.disk.bare t ≡ true → SeesBoth x tops A M →
+    SeesBoth x tops (record { world = after A.world (machine.Send (mail.ToldBare t naming_node)); names = A.names }) M
 told_bare x tops A M t unwalked bare both = record {
-  named = (let p = plain_act A (machine.Send (mail.ToldBare t naming_node)) bare refl in subst (λ N. Named (record { world = after A.world (machine.Send (mail.ToldBare t naming_node)); names = N })) p.names (runs_keep A (act (machine.Send (mail.ToldBare t naming_node)) ∷ []) (p.may, tt) both.named));
+  named = (let p = plain_act A (machine.Send (mail.ToldBare t naming_node)) bare refl in
+      subst (λ N. Named (record { world = after A.world (machine.Send (mail.ToldBare t naming_node)); names = N })) p.names
+      (runs_keep A (act (machine.Send (mail.ToldBare t naming_node)) ∷ []) (p.may, tt) both.named));
   disks = sends_seen x tops A.world M (mail.ToldBare t naming_node) bare refl both.disks;
   names = record { inc = both.names.inc; memory = both.names.memory };
 }
@@ -164,7 +147,8 @@ tolds_work intents c u = by (branch_of u c.tree)
   where
     by_kind : (k : Kind) (p : Path) → AreAll is_no_work (tolds_by u k p intents c)
     by_kind kind.Nested p = tells_work (root_of p) false (up_to u (ends_of (root_of p) c.tree)) (servers_told u (root_at (root_of p) c) c)
-    by_kind kind.Serial p = tells_work u false ((u, ending.Abort) ∷ []) (filter (λ n. not (is_deferred u intents n)) (nodes_sent u (root_at u c)))
+    by_kind kind.Serial p =
+        tells_work u false ((u, ending.Abort) ∷ []) (filter (λ n. not (is_deferred u intents n)) (nodes_sent u (root_at u c)))
     by_kind kind.Top p = tells_work (root_of p) false ((u, ending.Abort) ∷ []) (nodes_sent u (root_at (root_of p) c))
     by_kind kind.Independent p = tells_work (root_of p) false ((u, ending.Abort) ∷ []) (nodes_sent u (root_at (root_of p) c))
     by_kind kind.Constituent p = tells_work (root_of p) false ((u, ending.Abort) ∷ []) (nodes_sent u (root_at (root_of p) c))
@@ -173,44 +157,80 @@ tolds_work intents c u = by (branch_of u c.tree)
     by None = refl
     by (Some b) = by_kind b.kind b.path
 
-module _ (x : ℕ) (tops : Kinds) (unwalked : tops.walk ≡ None) (e : ℕ) (d : Disk) (t v : Parts) (n : Naming) (from : ℕ) (ack : Bool) (ends : List (Uid × End)) (u : Uid) (outs : List Effect) (A : Office) (M : Seen) (named : t.naming ≡ Some n) (kinds : KnowsKinds tops)
-    (there : is_some (at_number x n.objects) ≡ true) (both : SeesBoth x tops A (up 1 d t M)) (walk : (f : Note → Bool) (B : Office) → SeesBoth x tops B (up 1 d t M) → (ack ≡ true → f (Acks (uid_number u)) ≡ true) → DisksWalk f x tops B e 1 outs v d M) where
-  of_top : (how : End) → handle_told 1 d t from ack ends u how ≡ Took v outs → tops.is_top (uid_number u) ≡ true → (B : Office) → SeesBoth x tops B (up 1 d t M) → ClaimsTop B (uid_number u) how → BothWalk x tops B e 1 outs v d M
-  of_top how is top B seen claims = top_ends_keep_both x tops e d t v n from ack ends u how outs B M unwalked named is top (let f = seen.disks in ap (λ g. g (uid_number u)) (let h = f.fixed in h.serial) ∙ kinds.apart (uid_number u) top) claims seen
+module _ (x : ℕ) (tops : Kinds) (unwalked : tops.walk ≡ None) (e : ℕ) (d : Disk) (t v : Parts) (n : Naming) (from : ℕ) (ack : Bool)
+    (ends : List (Uid × End)) (u : Uid) (outs : List Effect) (A : Office) (M : Seen) (named : t.naming ≡ Some n) (kinds : KnowsKinds tops)
+    (there : is_some (at_number x n.objects) ≡ true) (both : SeesBoth x tops A (up 1 d t M)) (walk : (f : Note → Bool) (B : Office) →
+    SeesBoth x tops B (up 1 d t M) → (ack ≡ true → f (Acks (uid_number u)) ≡ true) → DisksWalk f x tops B e 1 outs v d M) where
+  of_top : (how : End) → handle_told 1 d t from ack ends u how ≡ Took v outs → tops.is_top (uid_number u) ≡ true → (B : Office) →
+      SeesBoth x tops B (up 1 d t M) → ClaimsTop B (uid_number u) how → BothWalk x tops B e 1 outs v d M
+  of_top how is top B seen claims = top_ends_keep_both x tops e d t v n from ack ends u how outs B M unwalked named is top
+      (let f = seen.disks in ap (λ g. g (uid_number u)) (let h = f.fixed in h.serial) ∙ kinds.apart (uid_number u) top) claims seen
       (walk (only_acks (uid_number u)) B seen (λ on. test_same (uid_number u)))
 
-  of_other : (how : End) → handle_told 1 d t from ack ends u how ≡ Took v outs → (ack ≡ true → In (mail.ToldCommit (uid_number u) 1) A.world.sent) → IsOver x tops A u how n ⊎ IsNested tops (uid_number u) → BothWalk x tops A e 1 outs v d M
-  of_other how is acks kind = other_ends_keep_both x tops e d t v n from ack ends u how outs A M unwalked named is kind both (walk (λ z. false) A both (λ on. absurd (clash (both.disks.kinds (uid_number u) (decided_begun A.world (uid_number u) 1 (let c = both.disks in c.whole) (acks on))) kind)))
+  of_other : (how : End) → handle_told 1 d t from ack ends u how ≡ Took v outs → (ack ≡ true → In (mail.ToldCommit (uid_number u) 1)
+      A.world.sent) → IsOver x tops A u how n ⊎ IsNested tops (uid_number u) → BothWalk x tops A e 1 outs v d M
+  of_other how is acks kind =
+      other_ends_keep_both x tops e d t v n from ack ends u how outs A M unwalked named is kind both (walk (λ z. false) A both (λ on. absurd
+      (clash (both.disks.kinds (uid_number u) (decided_begun A.world (uid_number u) 1 (let c = both.disks in c.whole) (acks on))) kind)))
     where
-      clash : (tops.is_top (uid_number u) ≡ true) × (A.world.disk.serial (uid_number u) ≡ false) → IsOver x tops A u how n ⊎ IsNested tops (uid_number u) → ⊥
+      clash : (tops.is_top (uid_number u) ≡ true) × (A.world.disk.serial (uid_number u) ≡ false) →
+          IsOver x tops A u how n ⊎ IsNested tops (uid_number u) → ⊥
       clash k (inl over) = never over.1 k.1
       clash k (inr nested) = never k.0 nested.0
 
-  pub told_both : (how : End) → ClaimsLast tops A.world 1 ack (Some (u, how)) → handle_told 1 d t from ack ends u how ≡ Took v outs → BothWalk x tops A e 1 outs v d M
+  pub told_both : (how : End) → ClaimsLast tops A.world 1 ack (Some (u, how)) → handle_told 1 d t from ack ends u how ≡ Took v outs →
+      BothWalk x tops A e 1 outs v d M
   told_both ending.Commit claims is = by claims.0
     where
-      by : (In (mail.ToldCommit (uid_number u) 1) A.world.sent ⊎ (A.world.disk.bare (uid_number u) ≡ true)) ⊎ IsNested tops (uid_number u) → BothWalk x tops A e 1 outs v d M
-      by (inl (inl told)) = of_top ending.Commit is (both.disks.kinds (uid_number u) (decided_begun A.world (uid_number u) 1 (let c = both.disks in c.whole) told)).0 A both (inl told)
+      by : (In (mail.ToldCommit (uid_number u) 1) A.world.sent ⊎ (A.world.disk.bare (uid_number u) ≡ true))
+          ⊎ IsNested tops (uid_number u) → BothWalk x tops A e 1 outs v d M
+      by (inl (inl told)) = of_top ending.Commit is (both.disks.kinds (uid_number u)
+          (decided_begun A.world (uid_number u) 1 (let c = both.disks in c.whole) told)).0 A both (inl told)
       by (inl (inr bare)) =
           let B : Office = record { world = after A.world (machine.Send (mail.ToldBare (uid_number u) naming_node)); names = A.names } in
-          walks_to (IsSeenFrom x tops B) (IsSeenFrom x tops A) e 1 outs (Up (IsSeenFrom x tops B) 1 v) (Up (IsSeenFrom x tops A) 1 v) d M (λ N s. turned s) (λ c N s. turned s)
-          (of_top ending.Commit is (both.disks.kinds (uid_number u) (bare_begun A.world (uid_number u) (let c = both.disks in c.whole) bare)).0 B (told_bare x tops A (up 1 d t M) (uid_number u) unwalked bare both) (inr (inl refl)))
+          walks_to (IsSeenFrom x tops B) (IsSeenFrom x tops A) e 1 outs (Up (IsSeenFrom x tops B) 1 v) (Up (IsSeenFrom x tops A) 1 v) d M
+          (λ N s. turned s) (λ c N s. turned s)
+          (of_top ending.Commit is (both.disks.kinds (uid_number u) (bare_begun A.world (uid_number u) (let c = both.disks in
+          c.whole) bare)).0 B (told_bare x tops A (up 1 d t M) (uid_number u) unwalked bare both) (inr (inl refl)))
         where
-          turned : {N : Seen} → IsSeenFrom x tops (record { world = after A.world (machine.Send (mail.ToldBare (uid_number u) naming_node)); names = A.names }) N → IsSeenFrom x tops A N
-          turned (C, only, s) = (C, record { later = later_on A.world (after A.world (machine.Send (mail.ToldBare (uid_number u) naming_node))) C.world (effects_are_later A.world (machine.Send (mail.ToldBare (uid_number u) naming_node) ∷ []) (bare, tt) (let c = both.disks in c.whole)) only.later; tops = only.tops; bare = only.bare; had = only.had; kept = only.kept; answers = only.answers; inc = only.inc; confd = only.confd; onward = (let o = only.onward in record { conf = o.conf; passed = o.passed; light = o.light; gone = o.gone; begins = o.begins }) }, s)
+          turned : {N : Seen} → IsSeenFrom x tops
+              (record { world = after A.world (machine.Send (mail.ToldBare (uid_number u) naming_node)); names = A.names }) N →
+              IsSeenFrom x tops A N
+          turned (C, only, s) = (
+            C,
+            record {
+              later = later_on A.world (after A.world (machine.Send (mail.ToldBare (uid_number u) naming_node))) C.world (effects_are_later
+                  A.world (machine.Send (mail.ToldBare (uid_number u) naming_node) ∷ []) (bare, tt) (let c = both.disks in c.whole))
+                  only.later;
+              tops = only.tops;
+              bare = only.bare;
+              had = only.had;
+              kept = only.kept;
+              answers = only.answers;
+              inc = only.inc;
+              confd = only.confd;
+              onward =
+                  (let o = only.onward in record { conf = o.conf; passed = o.passed; light = o.light; gone = o.gone; begins = o.begins });
+            },
+            s,
+          )
       by (inr nested) = of_other ending.Commit is claims.1 (inr nested)
   told_both ending.Abort claims is = by claims.0
     where
-      by : ((tops.is_top (uid_number u) ≡ true) × ClaimsAbort A.world u 1) ⊎ (((A.world.disk.serial (uid_number u) ≡ true) × In (mail.ToldSerial (uid_number u) 1) A.world.sent) ⊎ IsNested tops (uid_number u)) → BothWalk x tops A e 1 outs v d M
+      by : ((tops.is_top (uid_number u) ≡ true) × ClaimsAbort A.world u 1) ⊎ (((A.world.disk.serial (uid_number u) ≡ true)
+          × In (mail.ToldSerial (uid_number u) 1) A.world.sent) ⊎ IsNested tops (uid_number u)) → BothWalk x tops A e 1 outs v d M
       by (inl (top, inl told)) = of_top ending.Abort is top A both told
       by (inl (top, inr bare)) = absurd (bare.1 refl)
-      by (inr (inl over)) = of_other ending.Abort is claims.1 (inl (ap (λ g. g (uid_number u)) (sym (let c = both.disks in let f = c.fixed in f.serial)) ∙ over.0, over.0, refl, over.1, there))
+      by (inr (inl over)) = of_other ending.Abort is claims.1
+          (inl (ap (λ g. g (uid_number u)) (sym (let c = both.disks in let f = c.fixed in f.serial)) ∙ over.0, over.0, refl, over.1, there))
       by (inr (inr nested)) = of_other ending.Abort is claims.1 (inr nested)
 
 -- ---- a message
 
-module _ (x : ℕ) (tops : Kinds) (unwalked : tops.walk ≡ None) (e k : ℕ) (d : Disk) (t v : Parts) (from : ℕ) (m : Message) (outs : List Effect) (A : Office) (M : Seen) (knows : KnowsNode tops k d t M) (sent : seen.In (record { from = from; to = k; message = m }) M.sent)
-    (counts : (n : Naming) → t.naming ≡ Some n → CountsOn x tops d n m A) (may : MayGoOn x A v.coord) (handled : handle k d t from m ≡ Took v outs) (both : SeesBoth x tops A (up k d t M)) where
+module _ (x : ℕ) (tops : Kinds) (unwalked : tops.walk ≡ None) (e k : ℕ) (d : Disk) (t v : Parts) (from : ℕ) (m : Message) (outs : List
+    Effect) (A : Office) (M : Seen) (knows : KnowsNode tops k d t M) (sent : seen.In (record { from = from; to = k; message = m }) M.sent)
+    (counts : (n : Naming) → t.naming ≡ Some n → CountsOn x tops d n m A) (may : MayGoOn x A v.coord)
+    (handled : handle k d t from m ≡ Took v outs) (both : SeesBoth x tops A (up k d t M)) where
   -- nothing is decided
   abbrev IsCalm : Change → Type 0
   IsCalm Quietly = ⊤
@@ -226,7 +246,8 @@ module _ (x : ℕ) (tops : Kinds) (unwalked : tops.walk ≡ None) (e k : ℕ) (d
   abbrev Notes_at : (Note → Bool) → Type 0
   Notes_at f = NotesMessage (Some (record { from = A.world; noted = f })) t.coord m
 
-  walk_from : (f : Note → Bool) (B : Office) → SeesBoth x tops B (up k d t M) → NotesMessage (Some (record { from = B.world; noted = f })) t.coord m → ConfirmsAreBooked d t B.world (asks m) → DisksWalk f x tops B e k outs v d M
+  walk_from : (f : Note → Bool) (B : Office) → SeesBoth x tops B (up k d t M) → NotesMessage (Some (record { from = B.world; noted = f }))
+      t.coord m → ConfirmsAreBooked d t B.world (asks m) → DisksWalk f x tops B e k outs v d M
   walk_from f B seen notes booked = messages_are_followed x tops f e k d t v from m outs B M knows notes sent booked handled seen
 
   walk_at : (f : Note → Bool) → Notes_at f → ConfirmsAreBooked d t A.world (asks m) → DisksWalk f x tops A e k outs v d M
@@ -240,9 +261,11 @@ module _ (x : ℕ) (tops : Kinds) (unwalked : tops.walk ≡ None) (e k : ℕ) (d
 
   -- ---- requests
 
-  sends_leave : (h : Head) (p : Parts) (es : List Effect) (r : Option Reply) → Leaves p es → sends_answer from h p es r ≡ Took v outs → Leaves v outs
+  sends_leave : (h : Head) (p : Parts) (es : List Effect) (r : Option Reply) → Leaves p es → sends_answer from h p es r ≡ Took v outs →
+      Leaves v outs
   sends_leave h p es None leaves is = absurd (cc is)
-  sends_leave h p es (Some q) leaves is = left_by p (es ++ Send from (response (asked_by h) q) ∷ []) is (leaves.0, all_both leaves_the_inc es (Send from (response (asked_by h) q) ∷ []) leaves.1 refl)
+  sends_leave h p es (Some q) leaves is = left_by p (es ++ Send from (response (asked_by h) q) ∷ []) is
+      (leaves.0, all_both leaves_the_inc es (Send from (response (asked_by h) q) ∷ []) leaves.1 refl)
 
   module _ (h : Head) (a : Ask) (it : asks m ≡ Some (h, a)) (off : asks_confirm (Some (h, a)) ≡ false) where
     asked_notes : (f : Note → Bool) → Notes_at f
@@ -272,8 +295,10 @@ module _ (x : ℕ) (tops : Kinds) (unwalked : tops.walk ≡ None) (e k : ℕ) (d
     asked_calm leaves = calm leaves asked_walk
 
   -- a request to naming is taken there
-  to_naming : (h : Head) (a : Ask) → asks m ≡ Some (h, a) → (f : Naming → Handled) → ((o : Option Naming) → t.naming ≡ o → serve k d t from h a ≡ if_naming f o) → serve k d t from h a ≡ Took v outs
-      → ((n : Naming) → t.naming ≡ Some n → (j : ℕ) → 1 ≡ j → SeesBoth x tops A (up j d t M) → serve j d t from h a ≡ Took v outs → BothWalk x tops A e j outs v d M) → Calm
+  to_naming : (h : Head) (a : Ask) → asks m ≡ Some (h, a) → (f : Naming → Handled) →
+      ((o : Option Naming) → t.naming ≡ o → serve k d t from h a ≡ if_naming f o) → serve k d t from h a ≡ Took v outs
+      → ((n : Naming) → t.naming ≡ Some n → (j : ℕ) → 1 ≡ j → SeesBoth x tops A (up j d t M) → serve j d t from h a ≡ Took v outs →
+      BothWalk x tops A e j outs v d M) → Calm
   to_naming h a it f served_by is at_one = by t.naming refl
     where
       by : (o : Option Naming) → t.naming ≡ o → Calm
@@ -287,38 +312,59 @@ module _ (x : ℕ) (tops : Kinds) (unwalked : tops.walk ≡ None) (e k : ℕ) (d
   Answered_so (Deciding u keeps) B = ⊤
 
   abbrev Walked_to : Change → ℕ → Type 0
-  Walked_to o j = Walks (IsSeenFrom x tops A) e j outs (λ c N. (B : Office) × OnlyMemory A B × SeesBoth x tops B (up j c v N) × Answered_so o B) d M
+  Walked_to o j =
+      Walks (IsSeenFrom x tops A) e j outs (λ c N. (B : Office) × OnlyMemory A B × SeesBoth x tops B (up j c v N) × Answered_so o B) d M
 
-  by_bind : (h : Head) (y : ℕ) (include : Bool) (avoid : Binding) → asks m ≡ Some (h, ask.Bind y include avoid) → serve k d t from h (ask.Bind y include avoid) ≡ Took v outs
-      → Walks (IsSeenFrom x tops A) e k outs (λ c N. (B : Office) × OnlyMemory A B × SeesBoth x tops B (up k c v N) × Answered_so (bind_change x y include avoid h d t.naming) B) d M
+  by_bind : (h : Head) (y : ℕ) (include : Bool) (avoid : Binding) → asks m ≡ Some (h, ask.Bind y include avoid) →
+      serve k d t from h (ask.Bind y include avoid) ≡ Took v outs
+      → Walks (IsSeenFrom x tops A) e k outs (λ c N. (B : Office) × OnlyMemory A B × SeesBoth x tops B (up k c v N)
+      × Answered_so (bind_change x y include avoid h d t.naming) B) d M
   by_bind h y include avoid it is = by t.naming refl
     where
-      claimed : (b : Bool) (r : BoundReply) (B : Office) → (y == x) ≡ b → ClaimsBound x y (uid_number (top_of h.path)) r B.names → Answered_so (if b then Answering (uid_number (top_of h.path)) r else Quietly) B
+      claimed : (b : Bool) (r : BoundReply) (B : Office) → (y == x) ≡ b → ClaimsBound x y (uid_number (top_of h.path)) r B.names →
+          Answered_so (if b then Answering (uid_number (top_of h.path)) r else Quietly) B
       claimed true r B same claim = claim (test_is y x same)
       claimed false r B same claim = tt
 
-      bound : (n : Naming) → t.naming ≡ Some n → SeesBoth x tops A (up 1 d t M) → serve 1 d t from h (ask.Bind y include avoid) ≡ Took v outs → DisksWalk (λ n. false) x tops A e k outs v d M → Walked_to (bind_change x y include avoid h d (Some n)) 1
+      bound : (n : Naming) → t.naming ≡ Some n → SeesBoth x tops A (up 1 d t M) → serve 1 d t from h (ask.Bind y include avoid)
+          ≡ Took v outs → DisksWalk (λ n. false) x tops A e k outs v d M → Walked_to (bind_change x y include avoid h d (Some n)) 1
       bound n named seen g walk = by (let s = naming.bind h.path y include avoid d.names n in s.reply) refl
         where
           took : served from h (with_naming t) Reply.Bound (naming.bind h.path y include avoid d.names n) ≡ Took v outs
-          took = sym (ap (if_naming (λ z. served from h (with_naming t) Reply.Bound (naming.bind h.path y include avoid d.names z))) named) ∙ g
+          took =
+              sym (ap (if_naming (λ z. served from h (with_naming t) Reply.Bound (naming.bind h.path y include avoid d.names z))) named) ∙ g
 
           walked : DisksWalk (λ n. false) x tops A e 1 outs v d M
           walked = subst (λ j. DisksWalk (λ n. false) x tops A e j outs v d M) (knows.naming_here n named).0 walk
 
-          by : (o : Option BoundReply) → (let s = naming.bind h.path y include avoid d.names n in s.reply) ≡ o → Walked_to (bind_change x y include avoid h d (Some n)) 1
-          by None none = absurd (let clash : Void [] ≡ Took v outs = sym (ap (λ o. sends_answer from h (with_naming t (naming.bind h.path y include avoid d.names n).part) (naming.bind h.path y include avoid d.names n).outs (option_map Reply.Bound o)) none) ∙ took in cc)
-          by (Some r) reply = walks_to (IsSeenFrom x tops A) (IsSeenFrom x tops A) e 1 outs (λ c N. (B : Office) × OnlyMemory A B × SeesBoth x tops B (up 1 c v N) × ClaimsBound x y (uid_number (top_of h.path)) r B.names)
-              (λ c N. (B : Office) × OnlyMemory A B × SeesBoth x tops B (up 1 c v N) × Answered_so (bind_change x y include avoid h d (Some n)) B) d M (λ N s. s)
-              (λ c N s. (s.0, s.1, s.2, subst (λ z. Answered_so (answer_change x y (top_of h.path) z) s.0) (sym reply) (claimed (y == x) r s.0 refl s.3)))
-              (binds_keep_both x y tops e d t v n from h include avoid r outs A M unwalked named reply g ((counts n named).path h (ask.Bind y include avoid) it) seen walked)
+          by : (o : Option BoundReply) → (let s = naming.bind h.path y include avoid d.names n in s.reply) ≡ o →
+              Walked_to (bind_change x y include avoid h d (Some n)) 1
+          by None none =
+              absurd (let clash : Void [] ≡ Took v outs = sym (ap (λ o. sends_answer from h (with_naming t (naming.bind h.path y include
+              avoid d.names n).part) (naming.bind h.path y include avoid d.names n).outs (option_map Reply.Bound o)) none) ∙ took in cc)
+          by (Some r) reply = walks_to (IsSeenFrom x tops A) (IsSeenFrom x tops A) e 1 outs (λ c N. (B : Office) × OnlyMemory A B
+              × SeesBoth x tops B (up 1 c v N) × ClaimsBound x y (uid_number (top_of h.path)) r B.names)
+              (λ c N. (B : Office) × OnlyMemory A B × SeesBoth x tops B (up 1 c v N)
+              × Answered_so (bind_change x y include avoid h d (Some n)) B) d M (λ N s. s)
+              (λ c N s. (
+                s.0,
+                s.1,
+                s.2,
+                subst (λ z. Answered_so (answer_change x y (top_of h.path) z) s.0) (sym reply) (claimed (y == x) r s.0 refl s.3),
+              ))
+              (binds_keep_both x y tops e d t v n from h include avoid r outs A M unwalked named reply g
+              ((counts n named).path h (ask.Bind y include avoid) it) seen walked)
 
       by : (o : Option Naming) → t.naming ≡ o → Walked_to (bind_change x y include avoid h d o) k
-      by None none = absurd (let clash : Void [] ≡ Took v outs = sym (ap (if_naming (λ n. served from h (with_naming t) Reply.Bound (naming.bind h.path y include avoid d.names n))) none) ∙ is in cc)
+      by None none = absurd (let clash : Void [] ≡ Took v outs = sym
+          (ap (if_naming (λ n. served from h (with_naming t) Reply.Bound (naming.bind h.path y include avoid d.names n))) none) ∙ is in cc)
       by (Some n) named = at_one n named k (sym (knows.naming_here n named).0) both is
         where
-          at_one : (n : Naming) → t.naming ≡ Some n → (j : ℕ) → 1 ≡ j → SeesBoth x tops A (up j d t M) → serve j d t from h (ask.Bind y include avoid) ≡ Took v outs → Walked_to (bind_change x y include avoid h d (Some n)) j
-          at_one n named j one = subst (λ j. SeesBoth x tops A (up j d t M) → serve j d t from h (ask.Bind y include avoid) ≡ Took v outs → Walked_to (bind_change x y include avoid h d (Some n)) j) one (λ seen g. bound n named seen g (asked_walk h (ask.Bind y include avoid) it refl))
+          at_one : (n : Naming) → t.naming ≡ Some n → (j : ℕ) → 1 ≡ j → SeesBoth x tops A (up j d t M) →
+              serve j d t from h (ask.Bind y include avoid) ≡ Took v outs → Walked_to (bind_change x y include avoid h d (Some n)) j
+          at_one n named j one = subst (λ j. SeesBoth x tops A (up j d t M) → serve j d t from h (ask.Bind y include avoid) ≡ Took v outs →
+              Walked_to (bind_change x y include avoid h d (Some n)) j) one
+              (λ seen g. bound n named seen g (asked_walk h (ask.Bind y include avoid) it refl))
 
   says_work : (es : List Effect) → AreAll is_say es → AreAll is_no_work es
   says_work [] all = refl
@@ -326,16 +372,21 @@ module _ (x : ℕ) (tops : Kinds) (unwalked : tops.walk ≡ None) (e k : ℕ) (d
   says_work (Send to q ∷ es) all = absurd (cc all)
   says_work (Do w ∷ es) all = absurd (cc all)
 
-  bind_work : (h : Head) (y : ℕ) (include : Bool) (avoid : Binding) → serve k d t from h (ask.Bind y include avoid) ≡ Took v outs → AreAll is_no_work outs
+  bind_work : (h : Head) (y : ℕ) (include : Bool) (avoid : Binding) → serve k d t from h (ask.Bind y include avoid) ≡ Took v outs →
+      AreAll is_no_work outs
   bind_work h y include avoid is = by t.naming refl
     where
-      sent_work : (p : Parts) (es : List Effect) (o : Option Reply) → AreAll is_no_work es → sends_answer from h p es o ≡ Took v outs → AreAll is_no_work outs
+      sent_work : (p : Parts) (es : List Effect) (o : Option Reply) → AreAll is_no_work es → sends_answer from h p es o ≡ Took v outs →
+          AreAll is_no_work outs
       sent_work p es None all g = absurd (cc g)
-      sent_work p es (Some q) all g = took_is x k tops e (λ w fs. AreAll is_no_work fs) p (es ++ Send from (response (asked_by h) q) ∷ []) v outs g (all_both is_no_work es (Send from (response (asked_by h) q) ∷ []) all refl)
+      sent_work p es (Some q) all g = took_is x k tops e (λ w fs. AreAll is_no_work fs) p (es ++ Send from (response (asked_by h) q) ∷ []) v
+          outs g (all_both is_no_work es (Send from (response (asked_by h) q) ∷ []) all refl)
 
       by : (o : Option Naming) → t.naming ≡ o → AreAll is_no_work outs
-      by None none = absurd (let clash : Void [] ≡ Took v outs = sym (ap (if_naming (λ n. served from h (with_naming t) Reply.Bound (naming.bind h.path y include avoid d.names n))) none) ∙ is in cc)
-      by (Some n) named = let s = naming.bind h.path y include avoid d.names n in sent_work (with_naming t s.part) s.outs (option_map Reply.Bound s.reply) (says_work s.outs (bind_says h.path y include avoid d.names n))
+      by None none = absurd (let clash : Void [] ≡ Took v outs = sym
+          (ap (if_naming (λ n. served from h (with_naming t) Reply.Bound (naming.bind h.path y include avoid d.names n))) none) ∙ is in cc)
+      by (Some n) named = let s = naming.bind h.path y include avoid d.names n in sent_work (with_naming t s.part) s.outs
+          (option_map Reply.Bound s.reply) (says_work s.outs (bind_says h.path y include avoid d.names n))
           (sym (ap (if_naming (λ z. served from h (with_naming t) Reply.Bound (naming.bind h.path y include avoid d.names z))) named) ∙ is)
 
   by_ask : (h : Head) (a : Ask) → asks m ≡ Some (h, a) → serve k d t from h a ≡ Took v outs → Calm
@@ -349,35 +400,52 @@ module _ (x : ℕ) (tops : Kinds) (unwalked : tops.walk ≡ None) (e k : ℕ) (d
       by None g = held (held_at (object y) d.store) g
       by (Some z) g = sends_leave h t [] (Some (Reply.Loaded (loaded.InDoubt z))) (refl, refl) g
   by_ask h (ask.Activate b st) it is = let r = server.activate k h.path b st t.server in
-      asked_calm h (ask.Activate b st) it refl (sends_leave h (with_server t r.part) r.outs (option_map Reply.Activated r.reply) (refl, server_leaves k r.outs (activate_own k h.path b st t.server)) is)
+      asked_calm h (ask.Activate b st) it refl (sends_leave h (with_server t r.part) r.outs (option_map Reply.Activated r.reply)
+      (refl, server_leaves k r.outs (activate_own k h.path b st t.server)) is)
   by_ask h (ask.Invoke y b i ends op) it is = let r = server.invoke k h y b i ends op t.server in
-      asked_calm h (ask.Invoke y b i ends op) it refl (sends_leave h (with_server t r.part) r.outs (option_map Reply.Invoked r.reply) (refl, server_leaves k r.outs (invoke_own k h y b i ends op t.server)) is)
+      asked_calm h (ask.Invoke y b i ends op) it refl (sends_leave h (with_server t r.part) r.outs (option_map Reply.Invoked r.reply)
+      (refl, server_leaves k r.outs (invoke_own k h y b i ends op t.server)) is)
   by_ask h (ask.Vote i ties ends) it is = let r = server.vote k h.path i ties ends t.server in
-      asked_calm h (ask.Vote i ties ends) it refl (sends_leave h (with_server t r.part) r.outs (option_map Reply.Voted r.reply) (refl, server_leaves k r.outs (vote_own k h.path i ties ends t.server)) is)
+      asked_calm h (ask.Vote i ties ends) it refl (sends_leave h (with_server t r.part) r.outs (option_map Reply.Voted r.reply)
+      (refl, server_leaves k r.outs (vote_own k h.path i ties ends t.server)) is)
   by_ask h (ask.Prepare states) it is = asked_calm h (ask.Prepare states) it refl (by (is_prepared (actor h.path) d.store) is)
     where
       new : (p : Prep) → prepare_by k states from h t p ≡ Took v outs → Leaves v outs
-      new Ready g = sends_leave h t (Do Look ∷ Do (Prepare role.Store (actor h.path) states) ∷ Say (body.Prepared k (actor h.path) role.Store) ∷ []) (Some (Reply.Prepared prepared.Yes)) (refl, refl) g
+      new Ready g = sends_leave h t (Do Look ∷ Do (Prepare role.Store (actor h.path) states)
+          ∷ Say (body.Prepared k (actor h.path) role.Store) ∷ []) (Some (Reply.Prepared prepared.Yes)) (refl, refl) g
       new (Already u) g = absurd (cc g)
       new (Old u i) g = sends_leave h t (Do Look ∷ []) (Some (Reply.Prepared (prepared.Old u.num i))) (refl, refl) g
       new (InDoubt u z) g = sends_leave h t (Do Look ∷ []) (Some (Reply.Prepared (prepared.InDoubt u.num z))) (refl, refl) g
 
-      by : (b : Bool) → (if b then sends_answer from h t [] (Some (Reply.Prepared prepared.Yes)) else prepare_by k states from h t (prepare_answer (actor h.path) states d.store)) ≡ Took v outs → Leaves v outs
+      by : (b : Bool) → (if b then sends_answer from h t [] (Some (Reply.Prepared prepared.Yes)) else prepare_by k states from h t
+          (prepare_answer (actor h.path) states d.store)) ≡ Took v outs → Leaves v outs
       by true g = sends_leave h t [] (Some (Reply.Prepared prepared.Yes)) (refl, refl) g
       by false g = new (prepare_answer (actor h.path) states d.store) g
-  by_ask h (ask.Bind y include avoid) it is = walks_to (IsSeenFrom x tops A) (IsSeenFrom x tops A) e k outs (λ c N. (B : Office) × OnlyMemory A B × SeesBoth x tops B (up k c v N) × Answered_so (bind_change x y include avoid h d t.naming) B) (Up (IsSeenFrom x tops A) k v) d M (λ N s. s) (λ c N s. (s.0, s.1, s.2)) (by_bind h y include avoid it is)
-  by_ask h (ask.Record y b i g0) it is = to_naming h (ask.Record y b i g0) it (λ n. served from h (with_naming t) Reply.Noted (naming.note h.path y b i g0 n))
+  by_ask h (ask.Bind y include avoid) it is = walks_to (IsSeenFrom x tops A) (IsSeenFrom x tops A) e k outs
+      (λ c N. (B : Office) × OnlyMemory A B × SeesBoth x tops B (up k c v N) × Answered_so (bind_change x y include avoid h d t.naming) B)
+      (Up (IsSeenFrom x tops A) k v) d M (λ N s. s) (λ c N s. (s.0, s.1, s.2)) (by_bind h y include avoid it is)
+  by_ask h (ask.Record y b i g0) it is =
+      to_naming h (ask.Record y b i g0) it (λ n. served from h (with_naming t) Reply.Noted (naming.note h.path y b i g0 n))
       (λ o named. ap (if_naming (λ n. served from h (with_naming t) Reply.Noted (naming.note h.path y b i g0 n))) named) is
-      (λ n named j one. subst (λ j. SeesBoth x tops A (up j d t M) → serve j d t from h (ask.Record y b i g0) ≡ Took v outs → BothWalk x tops A e j outs v d M) one
-      (λ seen g. let c = counts n named in notes_keep_both x y tops e d t v n from h b i g0 outs A M unwalked named g (c.path h (ask.Record y b i g0) it) (c.recorded h y b i g0 it) seen
-      (subst (λ j. DisksWalk (λ n. false) x tops A e j outs v d M) (knows.naming_here n named).0 (asked_walk h (ask.Record y b i g0) it refl))))
-  by_ask h (ask.Confirm grants excluded included) it is = to_naming h (ask.Confirm grants excluded included) it (λ n. served from h (with_naming t) Reply.Confirmed (confirm h.path grants excluded included d.names n))
-      (λ o named. ap (if_naming (λ n. served from h (with_naming t) Reply.Confirmed (confirm h.path grants excluded included d.names n))) named) is
-      (λ n named j one. subst (λ j. SeesBoth x tops A (up j d t M) → serve j d t from h (ask.Confirm grants excluded included) ≡ Took v outs → BothWalk x tops A e j outs v d M) one
-      (λ seen g. let c = counts n named in confirms_keep_both x tops e d t v n from h grants excluded included outs A M unwalked named g (c.taken h grants excluded included it) (c.path h (ask.Confirm grants excluded included) it) claims (c.confirmed h grants excluded included it) seen))
+      (λ n named j one. subst (λ j. SeesBoth x tops A (up j d t M) → serve j d t from h (ask.Record y b i g0) ≡ Took v outs →
+      BothWalk x tops A e j outs v d M) one
+      (λ seen g. let c = counts n named in notes_keep_both x y tops e d t v n from h b i g0 outs A M unwalked named g
+      (c.path h (ask.Record y b i g0) it) (c.recorded h y b i g0 it) seen
+      (subst (λ j. DisksWalk (λ n. false) x tops A e j outs v d M) (knows.naming_here n named).0
+      (asked_walk h (ask.Record y b i g0) it refl))))
+  by_ask h (ask.Confirm grants excluded included) it is = to_naming h (ask.Confirm grants excluded included) it
+      (λ n. served from h (with_naming t) Reply.Confirmed (confirm h.path grants excluded included d.names n))
+      (λ o named.
+      ap (if_naming (λ n. served from h (with_naming t) Reply.Confirmed (confirm h.path grants excluded included d.names n))) named) is
+      (λ n named j one. subst (λ j. SeesBoth x tops A (up j d t M) →
+      serve j d t from h (ask.Confirm grants excluded included) ≡ Took v outs → BothWalk x tops A e j outs v d M) one
+      (λ seen g. let c = counts n named in
+      confirms_keep_both x tops e d t v n from h grants excluded included outs A M unwalked named g (c.taken h grants excluded included
+      it) (c.path h (ask.Confirm grants excluded included) it) claims (c.confirmed h grants excluded included it) seen))
     where
       claims : ClaimsAsk x A.world k h (ask.Confirm grants excluded included)
-      claims = subst (λ o. ClaimsAsked x tops A.world M.lines from k m o) it (both.disks.posts (record { from = from; to = k; message = m }) sent)
+      claims = subst (λ o. ClaimsAsked x tops A.world M.lines from k m o) it
+          (both.disks.posts (record { from = from; to = k; message = m }) sent)
 
   -- ---- answers
 
@@ -388,7 +456,8 @@ module _ (x : ℕ) (tops : Kinds) (unwalked : tops.walk ≡ None) (e k : ℕ) (d
       by None g = absurd (cc g)
       by (Some u) g = left_by (with_coord t s.part) s.outs g (refl, coord_leaves s.outs own)
 
-  module _ (a : Asked) (r : Reply) (it : answers m ≡ Some (a, r)) (none : asks m ≡ None) (took : coord_heard t (heard from a r d.intents t.coord) ≡ Took v outs) where
+  module _ (a : Asked) (r : Reply) (it : answers m ≡ Some (a, r)) (none : asks m ≡ None)
+      (took : coord_heard t (heard from a r d.intents t.coord) ≡ Took v outs) where
     abbrev Answered : Change → Type 0
     Answered o = Walks (IsSeenAfter o x tops A) e k outs (Up (IsSeenAfter o x tops A) k v) d M
 
@@ -404,7 +473,8 @@ module _ (x : ℕ) (tops : Kinds) (unwalked : tops.walk ≡ None) (e k : ℕ) (d
     decided : change_by x d t m ≡ doing_change x a.act t.coord (doing_of a.act t.coord)
     decided = ap (asked_change x d t m) none ∙ ap (reply_change x t.coord) it
 
-    notes : (f : Note → Bool) → ((q : Doing) (z : Machine) → doing_of a.act t.coord ≡ Some q → q.now ≡ Committing z → f (commit_note z (uid_number a.act)) ≡ true) → Notes_at f
+    notes : (f : Note → Bool) → ((q : Doing) (z : Machine) → doing_of a.act t.coord ≡ Some q → q.now ≡ Committing z →
+        f (commit_note z (uid_number a.act)) ≡ true) → Notes_at f
     notes f ok = record {
       asker = λ z grants excluded included at. absurd (never (ap is_some at) (ap is_some none));
       answered = λ b s q z at does now.
@@ -416,17 +486,22 @@ module _ (x : ℕ) (tops : Kinds) (unwalked : tops.walk ≡ None) (e k : ℕ) (d
     booked : ConfirmsAreBooked d t A.world (asks m)
     booked = subst (ConfirmsAreBooked d t A.world) (sym none) tt
 
-    answer_walk : (f : Note → Bool) → ((q : Doing) (z : Machine) → doing_of a.act t.coord ≡ Some q → q.now ≡ Committing z → f (commit_note z (uid_number a.act)) ≡ true) → DisksWalk f x tops A e k outs v d M
+    answer_walk : (f : Note → Bool) → ((q : Doing) (z : Machine) → doing_of a.act t.coord ≡ Some q → q.now ≡ Committing z →
+        f (commit_note z (uid_number a.act)) ≡ true) → DisksWalk f x tops A e k outs v d M
     answer_walk f ok = walk_at f (notes f ok) booked
 
     -- no commit is answered
-    uncommitted : is_committing (doing_of a.act t.coord) ≡ false → doing_change x a.act t.coord (doing_of a.act t.coord) ≡ Quietly → Answered (change_by x d t m)
-    uncommitted off undecided = subst Answered (sym (decided ∙ undecided)) (calm leaves (answer_walk (λ n. false) (λ q z does now. absurd (never (ap is_committing does ∙ ap is_committing_now now) off))))
+    uncommitted : is_committing (doing_of a.act t.coord) ≡ false → doing_change x a.act t.coord (doing_of a.act t.coord) ≡ Quietly →
+        Answered (change_by x d t m)
+    uncommitted off undecided = subst Answered (sym (decided ∙ undecided))
+        (calm leaves (answer_walk (λ n. false) (λ q z does now. absurd (never (ap is_committing does ∙ ap is_committing_now now) off))))
 
     module _ (q : Doing) (does : doing_of a.act t.coord ≡ Some q) where
       -- the commit's machine is this one
-      one_machine : (z : Machine) → q.now ≡ Committing z → (w : Doing) (y : Machine) → doing_of a.act t.coord ≡ Some w → w.now ≡ Committing y → z ≡ y
-      one_machine z now w y also then_now = some_is (ap machine_in now) (ap (λ (s : Doing). machine_in s.now) (some_is does also) ∙ ap machine_in then_now)
+      one_machine : (z : Machine) → q.now ≡ Committing z → (w : Doing) (y : Machine) → doing_of a.act t.coord ≡ Some w →
+          w.now ≡ Committing y → z ≡ y
+      one_machine z now w y also then_now =
+          some_is (ap machine_in now) (ap (λ (s : Doing). machine_in s.now) (some_is does also) ∙ ap machine_in then_now)
 
       knows_it : (z : Machine) → q.now ≡ Committing z → KnowsMachine tops t.coord a.act z
       knows_it z now = knows.coord.machines a.act q z does now
@@ -434,24 +509,32 @@ module _ (x : ℕ) (tops : Kinds) (unwalked : tops.walk ≡ None) (e k : ℕ) (d
       preparing : (p : commit.Plan) (left : List ℕ) → q.now ≡ Committing (Preparing p left) → Answered Quietly
       preparing p left now =
           let h = knows_it (Preparing p left) now in
-          let works = (both.disks.coords k (record { number = k; disk = d; live = Some t }) t (node_here M k (record { number = k; disk = d; live = Some t })) refl).working a.act h.branch q h.found h.unended does in
-          begun_both x tops unwalked e k d t A M both top v outs (preparing_of x tops A.world.disk top (let b = h.branch in b.kind) q.now p left h.top now works).begun leaves.1 leaves.0
-          (answer_walk (only_begins top) (λ w y also now_then. subst (λ z. only_begins top (commit_note z top) ≡ true) (one_machine (Preparing p left) now w y also now_then) (test_same top)))
+          let works = (both.disks.coords k (record { number = k; disk = d; live = Some t }) t
+          (node_here M k (record { number = k; disk = d; live = Some t })) refl).working a.act h.branch q h.found h.unended does in
+          begun_both x tops unwalked e k d t A M both top v outs
+          (preparing_of x tops A.world.disk top (let b = h.branch in b.kind) q.now p left h.top now works).begun leaves.1 leaves.0
+          (answer_walk (only_begins top) (λ w y also now_then. subst (λ z. only_begins top (commit_note z top) ≡ true)
+          (one_machine (Preparing p left) now w y also now_then) (test_same top)))
 
-      no_part : (p : commit.Plan) → q.now ≡ Committing (Confirming p) → (z : ℕ) → (z == top) ≡ true → root_retains x a.act p t.coord ≡ false → HasNoPart A.world.disk z
+      no_part : (p : commit.Plan) → q.now ≡ Committing (Confirming p) → (z : ℕ) → (z == top) ≡ true →
+          root_retains x a.act p t.coord ≡ false → HasNoPart A.world.disk z
       no_part p now z same off =
           let h = knows_it (Confirming p) now in
-          let works = (both.disks.coords k (record { number = k; disk = d; live = Some t }) t (node_here M k (record { number = k; disk = d; live = Some t })) refl).working a.act h.branch q h.found h.unended does in
+          let works = (both.disks.coords k (record { number = k; disk = d; live = Some t }) t
+          (node_here M k (record { number = k; disk = d; live = Some t })) refl).working a.act h.branch q h.found h.unended does in
           let sees = confirming_of x tops A.world.disk top (let b = h.branch in b.kind) q.now p h.top now works in
           let parts = or_parts (top_uses a.act x (root_at (root_of p.path) t.coord) t.coord) (has_part (plan_at x p)) off in
           subst (HasNoPart A.world.disk) (sym (test_is z top same)) (sees.begun, ap has_part sees.plan ∙ parts.1)
 
       naming_same : (o : Naming) → k ≡ 1 → v.naming ≡ Some o → SeesNaming x tops o A.world.disk A.names
-      naming_same o one is = both.names.memory (record { number = k; disk = d; live = Some t }) t o (ap (λ j. (up k d t M).nodes j) (sym one) ∙ node_here M k (record { number = k; disk = d; live = Some t })) refl (sym leaves.0 ∙ is)
+      naming_same o one is = both.names.memory (record { number = k; disk = d; live = Some t }) t o (ap (λ j. (up k d t M).nodes j)
+          (sym one) ∙ node_here M k (record { number = k; disk = d; live = Some t })) refl (sym leaves.0 ∙ is)
 
       confirming : (p : commit.Plan) → q.now ≡ Committing (Confirming p) → Answered (Deciding top (root_retains x a.act p t.coord))
-      confirming p now = decisions_keep_both x tops e k d (Some t) v outs (λ z. z == top) (λ z. root_retains x a.act p t.coord) A M unwalked leaves.1 (no_part p now) naming_same both
-          (answer_walk (only_decides (λ z. z == top)) (λ w y also now_then. subst (λ z. only_decides (λ n. n == top) (commit_note z top) ≡ true) (one_machine (Confirming p) now w y also now_then) (test_same top)))
+      confirming p now = decisions_keep_both x tops e k d (Some t) v outs (λ z. z == top) (λ z. root_retains x a.act p t.coord) A M unwalked
+          leaves.1 (no_part p now) naming_same both
+          (answer_walk (only_decides (λ z. z == top)) (λ w y also now_then. subst (λ z. only_decides (λ n. n == top) (commit_note z top)
+          ≡ true) (one_machine (Confirming p) now w y also now_then) (test_same top)))
 
       -- wherever a stop falls there, nobody was decided
       abbrev Followed : Kinds
@@ -461,17 +544,32 @@ module _ (x : ℕ) (tops : Kinds) (unwalked : tops.walk ≡ None) (e k : ℕ) (d
       Opened = IsOpenByDisks x Followed A.world
 
       said_so : ClaimsReply x A.world from a.act r
-      said_so = subst (λ o. ClaimsAnswered x tops A.world M.lines from k m o) it (subst (λ o. ClaimsAsked x tops A.world M.lines from k m o) none (both.disks.posts (record { from = from; to = k; message = m }) sent))
+      said_so = subst (λ o. ClaimsAnswered x tops A.world M.lines from k m o) it (subst (λ o. ClaimsAsked x tops A.world M.lines from k m o)
+          none (both.disks.posts (record { from = from; to = k; message = m }) sent))
 
-      aborts_stop : (why : Cause) (p : commit.Plan) → Walks Opened e k (let did = moved_commit a.act (plainly (Aborts why p)) d.intents t.coord in did.outs) (λ c N. ⊤) d M
+      aborts_stop : (why : Cause) (p : commit.Plan) →
+          Walks Opened e k (let did = moved_commit a.act (plainly (Aborts why p)) d.intents t.coord in did.outs) (λ c N. ⊤) d M
       aborts_stop why p = never_stops Opened e k (let did = moved_commit a.act (plainly (Aborts why p)) d.intents t.coord in did.outs)
-          (let z = ended a.act ending.Abort t.coord in all_both is_no_work (says a.act (λ l. body.Aborted l why) t.coord) (tolds_of d.intents z a.act) (commit_says a.act (λ l. body.Aborted l why) t.coord) (tolds_work d.intents z a.act)) d M
+          (let z = ended a.act ending.Abort t.coord in all_both is_no_work (says a.act (λ l. body.Aborted l why) t.coord)
+          (tolds_of d.intents z a.act) (commit_says a.act (λ l. body.Aborted l why) t.coord) (tolds_work d.intents z a.act)) d M
 
-      answer_stops : (p : commit.Plan) → q.now ≡ Committing (Confirming p) → (s : Reply) → ClaimsReply x A.world from a.act s → Walks Opened e k (let did = moved_commit a.act (commit.answered from (Confirming p) s) d.intents t.coord in did.outs) (λ c N. ⊤) d M
+      answer_stops : (p : commit.Plan) → q.now ≡ Committing (Confirming p) → (s : Reply) → ClaimsReply x A.world from a.act s → Walks Opened
+          e k (let did = moved_commit a.act (commit.answered from (Confirming p) s) d.intents t.coord in did.outs) (λ c N. ⊤) d M
       answer_stops p now (Reply.Confirmed confirmed.Yes) claim =
           let h = knows_it (Confirming p) now in
           confirmed_stops x Followed e k d t from a.act p M
-          (record { branch = h.branch; found = h.found; unended = h.unended; doing = q; at_work = does; now = now; path = h.plan.actor_is; unrecorded = knows.coord.unrecorded a.act (ap is_open_branch h.found ∙ ap (λ o. is_open_branch (Some (record h.branch { ended = o }))) h.unended); changes = h.changes })
+          (record {
+            branch = h.branch;
+            found = h.found;
+            unended = h.unended;
+            doing = q;
+            at_work = does;
+            now = now;
+            path = h.plan.actor_is;
+            unrecorded = knows.coord.unrecorded a.act
+                (ap is_open_branch h.found ∙ ap (λ o. is_open_branch (Some (record h.branch { ended = o }))) h.unended);
+            changes = h.changes;
+          })
           h.top (test_same top) A.world (walks_start x tops (only_decides (λ z. z == top)) A (up k d t M) both) claim
       answer_stops p now (Reply.Confirmed (confirmed.Conflict holder mode)) claim = aborts_stop (cause.Conflict holder mode 1) p
       answer_stops p now (Reply.Confirmed (confirmed.Changed w)) claim = aborts_stop (cause.Changed 1 (differs w)) p
@@ -485,13 +583,17 @@ module _ (x : ℕ) (tops : Kinds) (unwalked : tops.walk ≡ None) (e k : ℕ) (d
       answer_stops p now (Reply.Voted s) claim = tt
       answer_stops p now (Reply.Prepared s) claim = tt
 
-      confirming_stops : (p : commit.Plan) → q.now ≡ Committing (Confirming p) → coord_heard t (heard_now from a r d.intents t.coord (Committing (Confirming p))) ≡ Took v outs → Stopping (Deciding top (root_retains x a.act p t.coord))
-      confirming_stops p now g = decisions_stop (λ z. z == top) (λ z. root_retains x a.act p t.coord) A both.named (no_part p now) x tops unwalked e k d (Some t) v M naming_same both outs leaves.1 (by (waits_for_commit from a r (Confirming p)) g)
+      confirming_stops : (p : commit.Plan) → q.now ≡ Committing (Confirming p) → coord_heard t (heard_now from a r d.intents t.coord
+          (Committing (Confirming p))) ≡ Took v outs → Stopping (Deciding top (root_retains x a.act p t.coord))
+      confirming_stops p now g = decisions_stop (λ z. z == top) (λ z. root_retains x a.act p t.coord) A both.named (no_part p now) x tops
+          unwalked e k d (Some t) v M naming_same both outs leaves.1 (by (waits_for_commit from a r (Confirming p)) g)
         where
-          by : (b : Bool) → coord_heard t (if b then heard_by (moved_commit a.act (commit.answered from (Confirming p) r) d.intents t.coord) else heard_none t.coord) ≡ Took v outs → Walks Opened e k outs (λ c N. ⊤) d M
+          by : (b : Bool) → coord_heard t (if b then heard_by (moved_commit a.act (commit.answered from (Confirming p) r) d.intents
+              t.coord) else heard_none t.coord) ≡ Took v outs → Walks Opened e k outs (λ c N. ⊤) d M
           by false g = absurd (cc g)
           by true g = let did = moved_commit a.act (commit.answered from (Confirming p) r) d.intents t.coord in
-              took_is x k tops e (λ w es. Walks Opened e k es (λ c N. ⊤) d M) (with_coord t did.part) did.outs v outs g (answer_stops p now r said_so)
+              took_is x k tops e (λ w es. Walks Opened e k es (λ c N. ⊤) d M) (with_coord t did.part) did.outs v outs g
+              (answer_stops p now r said_so)
 
       module _ (p : commit.Plan) (left : List ℕ) (now : q.now ≡ Committing (Voting p left)) where
         abbrev Took_by : Reply → Type 0
@@ -501,34 +603,44 @@ module _ (x : ℕ) (tops : Kinds) (unwalked : tops.walk ≡ None) (e k : ℕ) (d
         h = knows_it (Voting p left) now
 
         -- by what is asked next, or not yet
-        votes_go : (s : Reply) (step : CommitStep) → commit.answered from (Voting p left) s ≡ plainly step → GoesOn step → Took_by s → Answered Quietly
+        votes_go : (s : Reply) (step : CommitStep) → commit.answered from (Voting p left) s ≡ plainly step → GoesOn step → Took_by s →
+            Answered Quietly
         votes_go s step step_is goes = by (waits_for_commit from a s (Voting p left))
           where
-            by : (b : Bool) → coord_heard t (if b then heard_by (moved_commit a.act (commit.answered from (Voting p left) s) d.intents t.coord) else heard_none t.coord) ≡ Took v outs → Answered Quietly
+            by : (b : Bool) → coord_heard t (if b then heard_by (moved_commit a.act (commit.answered from (Voting p left) s) d.intents
+                t.coord) else heard_none t.coord) ≡ Took v outs → Answered Quietly
             by false g = absurd (cc g)
             by true g = let did = moved_commit a.act (plainly step) d.intents t.coord in
-                took_is x k tops e (λ w es. MayGoOn x A w.coord → DisksWalk (only_begins top) x tops A e k es w d M → BothWalk x tops A e k es w d M) (with_coord t did.part) did.outs v outs
+                took_is x k tops e (λ w es. MayGoOn x A w.coord → DisksWalk (only_begins top) x tops A e k es w d M →
+                BothWalk x tops A e k es w d M) (with_coord t did.part) did.outs v outs
                 (sym (ap (λ z. let y = moved_commit a.act z d.intents t.coord in Took (with_coord t y.part) y.outs) step_is) ∙ g)
-                (λ go w. going_both x tops unwalked e k d t A M both [] a.act h.branch q step [] d.intents refl h.found h.unended does h.top goes go w) may
-                (answer_walk (only_begins top) (λ w y also now_then. subst (λ z. only_begins top (commit_note z top) ≡ true) (one_machine (Voting p left) now w y also now_then) (test_same top)))
+                (λ go w. going_both x tops unwalked e k d t A M both [] a.act h.branch q step [] d.intents refl h.found h.unended does h.top
+                goes go w) may
+                (answer_walk (only_begins top) (λ w y also now_then. subst (λ z. only_begins top (commit_note z top) ≡ true)
+                (one_machine (Voting p left) now w y also now_then) (test_same top)))
 
         -- a vote is refused
         changed : (w : What) → Took_by (Reply.Voted (voted.Changed w)) → Answered Quietly
         changed w = by (waits_for_commit from a (Reply.Voted (voted.Changed w)) (Voting p left))
           where
-            by : (b : Bool) → coord_heard t (if b then heard_by (moved_commit a.act (commit.answered from (Voting p left) (Reply.Voted (voted.Changed w))) d.intents t.coord) else heard_none t.coord) ≡ Took v outs → Answered Quietly
+            by : (b : Bool) → coord_heard t (if b then heard_by (moved_commit a.act (commit.answered from (Voting p left)
+                (Reply.Voted (voted.Changed w))) d.intents t.coord) else heard_none t.coord) ≡ Took v outs → Answered Quietly
             by false g = absurd (cc g)
             by true g = let did = moved_commit a.act (plainly (Aborts (cause.Changed from (differs w)) p)) d.intents t.coord in
                 let Z : Option Walk = Some (record { from = A.world; noted = λ n. false }) in
-                calm leaves (took_is x k tops e (λ w es. DisksWalk (λ n. false) x tops A e k es w d M) (with_coord t did.part) did.outs v outs g
-                (aborts x (followed tops A.world (λ n. false)) e k d t from a.act q M (kinds_on tops Z knows.kinds) (coord_on tops Z d.intents t.coord knows.coord) does A.world (walks_start x tops (λ n. false) A (up k d t M) both) (Voting p left)
-                ((coord_on tops Z d.intents t.coord knows.coord).machines a.act q (Voting p left) does now) (cause.Changed from (differs w))))
+                calm leaves
+                (took_is x k tops e (λ w es. DisksWalk (λ n. false) x tops A e k es w d M) (with_coord t did.part) did.outs v outs g
+                (aborts x (followed tops A.world (λ n. false)) e k d t from a.act q M (kinds_on tops Z knows.kinds) (coord_on tops Z
+                d.intents t.coord knows.coord) does A.world (walks_start x tops (λ n. false) A (up k d t M) both) (Voting p left)
+                ((coord_on tops Z d.intents t.coord knows.coord).machines a.act q (Voting p left) does now)
+                (cause.Changed from (differs w))))
 
         stays : GoesOn (Stays (Voting p left))
         stays = (Voting p left, inr refl)
 
         voting : (s : Reply) → Took_by s → Answered Quietly
-        voting (Reply.Voted (voted.Yes states)) = votes_go (Reply.Voted (voted.Yes states)) (votes_left (without_number from left) (record p { changed = with_states states p.changed })) refl
+        voting (Reply.Voted (voted.Yes states)) = votes_go (Reply.Voted (voted.Yes states))
+            (votes_left (without_number from left) (record p { changed = with_states states p.changed })) refl
             (left_goes (without_number from left) (record p { changed = with_states states p.changed }) h.used h.more h.uses)
         voting (Reply.Voted (voted.Changed w)) = changed w
         voting (Reply.Bound s) = votes_go (Reply.Bound s) (Stays (Voting p left)) refl stays
@@ -539,38 +651,53 @@ module _ (x : ℕ) (tops : Kinds) (unwalked : tops.walk ≡ None) (e k : ℕ) (d
         voting (Reply.Prepared s) = votes_go (Reply.Prepared s) (Stays (Voting p left)) refl stays
         voting (Reply.Confirmed s) = votes_go (Reply.Confirmed s) (Stays (Voting p left)) refl stays
 
-      by_now : (now : Now) → q.now ≡ now → coord_heard t (heard_now from a r d.intents t.coord now) ≡ Took v outs → Answered (change_by x d t m)
-      by_now Idle is g = uncommitted (ap is_committing does ∙ ap is_committing_now is) (ap (doing_change x a.act t.coord) does ∙ ap (now_change x a.act t.coord) is)
-      by_now (Calling s) is g = uncommitted (ap is_committing does ∙ ap is_committing_now is) (ap (doing_change x a.act t.coord) does ∙ ap (now_change x a.act t.coord) is)
-      by_now (Committing (Voting p left)) is g = subst Answered (sym (decided ∙ ap (doing_change x a.act t.coord) does ∙ ap (now_change x a.act t.coord) is)) (voting p left is r g)
-      by_now (Committing (Preparing p left)) is g = subst Answered (sym (decided ∙ ap (doing_change x a.act t.coord) does ∙ ap (now_change x a.act t.coord) is)) (preparing p left is)
-      by_now (Committing (Confirming p)) is g = subst Answered (sym (decided ∙ ap (doing_change x a.act t.coord) does ∙ ap (now_change x a.act t.coord) is)) (confirming p is)
+      by_now : (now : Now) → q.now ≡ now → coord_heard t (heard_now from a r d.intents t.coord now) ≡ Took v outs →
+          Answered (change_by x d t m)
+      by_now Idle is g = uncommitted (ap is_committing does ∙ ap is_committing_now is)
+          (ap (doing_change x a.act t.coord) does ∙ ap (now_change x a.act t.coord) is)
+      by_now (Calling s) is g = uncommitted (ap is_committing does ∙ ap is_committing_now is)
+          (ap (doing_change x a.act t.coord) does ∙ ap (now_change x a.act t.coord) is)
+      by_now (Committing (Voting p left)) is g = subst Answered
+          (sym (decided ∙ ap (doing_change x a.act t.coord) does ∙ ap (now_change x a.act t.coord) is)) (voting p left is r g)
+      by_now (Committing (Preparing p left)) is g =
+          subst Answered (sym (decided ∙ ap (doing_change x a.act t.coord) does ∙ ap (now_change x a.act t.coord) is)) (preparing p left is)
+      by_now (Committing (Confirming p)) is g =
+          subst Answered (sym (decided ∙ ap (doing_change x a.act t.coord) does ∙ ap (now_change x a.act t.coord) is)) (confirming p is)
 
-      stops_now : (now : Now) → q.now ≡ now → coord_heard t (heard_now from a r d.intents t.coord now) ≡ Took v outs → IsCalm (change_by x d t m) ⊎ Stopping (change_by x d t m)
-      stops_now Idle is g = inl (subst IsCalm (sym (decided ∙ ap (doing_change x a.act t.coord) does ∙ ap (now_change x a.act t.coord) is)) tt)
-      stops_now (Calling s) is g = inl (subst IsCalm (sym (decided ∙ ap (doing_change x a.act t.coord) does ∙ ap (now_change x a.act t.coord) is)) tt)
-      stops_now (Committing (Voting p left)) is g = inl (subst IsCalm (sym (decided ∙ ap (doing_change x a.act t.coord) does ∙ ap (now_change x a.act t.coord) is)) tt)
-      stops_now (Committing (Preparing p left)) is g = inl (subst IsCalm (sym (decided ∙ ap (doing_change x a.act t.coord) does ∙ ap (now_change x a.act t.coord) is)) tt)
-      stops_now (Committing (Confirming p)) is g = inr (subst Stopping (sym (decided ∙ ap (doing_change x a.act t.coord) does ∙ ap (now_change x a.act t.coord) is)) (confirming_stops p is g))
+      stops_now : (now : Now) → q.now ≡ now → coord_heard t (heard_now from a r d.intents t.coord now) ≡ Took v outs →
+          IsCalm (change_by x d t m) ⊎ Stopping (change_by x d t m)
+      stops_now Idle is g =
+          inl (subst IsCalm (sym (decided ∙ ap (doing_change x a.act t.coord) does ∙ ap (now_change x a.act t.coord) is)) tt)
+      stops_now (Calling s) is g =
+          inl (subst IsCalm (sym (decided ∙ ap (doing_change x a.act t.coord) does ∙ ap (now_change x a.act t.coord) is)) tt)
+      stops_now (Committing (Voting p left)) is g =
+          inl (subst IsCalm (sym (decided ∙ ap (doing_change x a.act t.coord) does ∙ ap (now_change x a.act t.coord) is)) tt)
+      stops_now (Committing (Preparing p left)) is g =
+          inl (subst IsCalm (sym (decided ∙ ap (doing_change x a.act t.coord) does ∙ ap (now_change x a.act t.coord) is)) tt)
+      stops_now (Committing (Confirming p)) is g = inr (subst Stopping
+          (sym (decided ∙ ap (doing_change x a.act t.coord) does ∙ ap (now_change x a.act t.coord) is)) (confirming_stops p is g))
 
     stops_answer : IsCalm (change_by x d t m) ⊎ Stopping (change_by x d t m)
     stops_answer = by (doing_of a.act t.coord) refl took
       where
-        by : (o : Option Doing) → doing_of a.act t.coord ≡ o → coord_heard t (heard_doing from a r d.intents t.coord o) ≡ Took v outs → IsCalm (change_by x d t m) ⊎ Stopping (change_by x d t m)
+        by : (o : Option Doing) → doing_of a.act t.coord ≡ o → coord_heard t (heard_doing from a r d.intents t.coord o) ≡ Took v outs →
+            IsCalm (change_by x d t m) ⊎ Stopping (change_by x d t m)
         by None is g = absurd (cc g)
         by (Some q) is g = stops_now q is q.now refl g
 
     by_answer : Answered (change_by x d t m)
     by_answer = by (doing_of a.act t.coord) refl took
       where
-        by : (o : Option Doing) → doing_of a.act t.coord ≡ o → coord_heard t (heard_doing from a r d.intents t.coord o) ≡ Took v outs → Answered (change_by x d t m)
+        by : (o : Option Doing) → doing_of a.act t.coord ≡ o → coord_heard t (heard_doing from a r d.intents t.coord o) ≡ Took v outs →
+            Answered (change_by x d t m)
         by None is g = absurd (cc g)
         by (Some q) is g = by_now q is q.now refl g
 
   -- ---- what stands alone
 
   module _ (none : asks m ≡ None) (also : answers m ≡ None) where
-    other_notes : (f : Note → Bool) → ((u : Uid) (how : End) → is_told m ≡ true → last_end (told_ends m) ≡ Some (u, how) → told_ack m ≡ true → f (Acks (uid_number u)) ≡ true) → (B : Office) → NotesMessage (Some (record { from = B.world; noted = f })) t.coord m
+    other_notes : (f : Note → Bool) → ((u : Uid) (how : End) → is_told m ≡ true → last_end (told_ends m) ≡ Some (u, how) → told_ack m
+        ≡ true → f (Acks (uid_number u)) ≡ true) → (B : Office) → NotesMessage (Some (record { from = B.world; noted = f })) t.coord m
     other_notes f ok B = record {
       asker = λ z grants excluded included at. absurd (never (ap is_some at) (ap is_some none));
       answered = λ b s q z at does now. absurd (never (ap is_some at) (ap is_some also));
@@ -585,68 +712,92 @@ module _ (x : ℕ) (tops : Kinds) (unwalked : tops.walk ≡ None) (e k : ℕ) (d
     untold off = walk_at (λ n. false) (other_notes (λ n. false) (λ u how on last acks. absurd (never on off)) A) (other_booked A)
 
     claims : ClaimsOther tops A.world M.lines from k m
-    claims = subst (λ o. ClaimsAnswered x tops A.world M.lines from k m o) also (subst (λ o. ClaimsAsked x tops A.world M.lines from k m o) none (both.disks.posts (record { from = from; to = k; message = m }) sent))
+    claims = subst (λ o. ClaimsAnswered x tops A.world M.lines from k m o) also (subst (λ o. ClaimsAsked x tops A.world M.lines from k m o)
+        none (both.disks.posts (record { from = from; to = k; message = m }) sent))
 
     -- an end that a node without naming is told of
     module _ (ack : Bool) (ends : List (Uid × End)) where
       told_leaves : (u : Uid) (how : End) → t.naming ≡ None → handle_told k d t from ack ends u how ≡ Took v outs → Leaves v outs
       told_leaves u how named g =
           let s = server.told k ends t.server in
-          left_by (record { server = s.part; naming = None; coord = t.coord }) (store_told k u how d.store ++ [] ++ s.outs ++ ack_told from u ack)
-          (sym (ap (λ o. Took (record { server = s.part; naming = (naming_told u how d.names o).part; coord = t.coord }) (store_told k u how d.store ++ (naming_told u how d.names o).outs ++ s.outs ++ ack_told from u ack)) named) ∙ g) (
+          left_by (record { server = s.part; naming = None; coord = t.coord })
+          (store_told k u how d.store ++ [] ++ s.outs ++ ack_told from u ack)
+          (sym (ap (λ o. Took (record { server = s.part; naming = (naming_told u how d.names o).part; coord = t.coord })
+          (store_told k u how d.store ++ (naming_told u how d.names o).outs ++ s.outs ++ ack_told from u ack)) named) ∙ g) (
             sym named,
             all_both leaves_the_inc (store_told k u how d.store ++ [] ++ s.outs) (ack_told from u ack)
-                (all_both leaves_the_inc (store_told k u how d.store ++ []) s.outs (all_both leaves_the_inc (store_told k u how d.store) [] (stored_leaves k u how (is_prepared u d.store)) refl) (server_leaves k s.outs (ends_own k ends t.server))) (acks_leave from u ack),
+                (all_both leaves_the_inc (store_told k u how d.store ++ []) s.outs (all_both leaves_the_inc (store_told k u how d.store) []
+                (stored_leaves k u how (is_prepared u d.store)) refl) (server_leaves k s.outs (ends_own k ends t.server)))
+                (acks_leave from u ack),
           )
 
       ends_leave : (o : Option (Uid × End)) → t.naming ≡ None → handle_ends k d t from ack ends o ≡ Took v outs → Leaves v outs
       ends_leave None named g = left_by t [] g (refl, refl)
       ends_leave (Some z) named g = told_leaves z.0 z.1 named g
 
-    by_told : (root : Uid) (ack : Bool) (ends : List (Uid × End)) → m ≡ message.Told (record { root = root; ack = ack; ends = ends }) → handle_ends k d t from ack ends (last_end ends) ≡ Took v outs → Calm
+    by_told : (root : Uid) (ack : Bool) (ends : List (Uid × End)) → m ≡ message.Told (record { root = root; ack = ack; ends = ends }) →
+        handle_ends k d t from ack ends (last_end ends) ≡ Took v outs → Calm
     by_told root ack ends is g = by t.naming refl
       where
         Z : Kinds
         Z = followed tops A.world (λ n. false)
 
         claimed : (tops : Kinds) (W : World) → SeesDisks x tops W (up k d t M) → ClaimsLast tops W k ack (last_end ends)
-        claimed tops W s = subst (ClaimsOther tops W M.lines from k) is (subst (λ o. ClaimsAnswered x tops W M.lines from k m o) also (subst (λ o. ClaimsAsked x tops W M.lines from k m o) none (s.posts (record { from = from; to = k; message = m }) sent)))
+        claimed tops W s = subst (ClaimsOther tops W M.lines from k) is (subst (λ o. ClaimsAnswered x tops W M.lines from k m o) also
+            (subst (λ o. ClaimsAsked x tops W M.lines from k m o) none (s.posts (record { from = from; to = k; message = m }) sent)))
 
         last_of : (o : Option (Uid × End)) → last_end ends ≡ o → last_end (told_ends m) ≡ o
         last_of o last = ap (λ z. last_end (told_ends z)) is ∙ last
 
-        at_one : (n : Naming) → t.naming ≡ Some n → (u : Uid) (how : End) → last_end ends ≡ Some (u, how) → (j : ℕ) → 1 ≡ j → SeesBoth x tops A (up j d t M)
-            → ((f : Note → Bool) (B : Office) → SeesBoth x tops B (up j d t M) → (ack ≡ true → f (Acks (uid_number u)) ≡ true) → DisksWalk f x tops B e j outs v d M) → ClaimsLast tops A.world j ack (Some (u, how)) → handle_told j d t from ack ends u how ≡ Took v outs → BothWalk x tops A e j outs v d M
-        at_one n named u how last j one = subst (λ j. SeesBoth x tops A (up j d t M) → ((f : Note → Bool) (B : Office) → SeesBoth x tops B (up j d t M) → (ack ≡ true → f (Acks (uid_number u)) ≡ true) → DisksWalk f x tops B e j outs v d M) → ClaimsLast tops A.world j ack (Some (u, how))
+        at_one : (n : Naming) → t.naming ≡ Some n → (u : Uid) (how : End) → last_end ends ≡ Some (u, how) → (j : ℕ) → 1 ≡ j →
+            SeesBoth x tops A (up j d t M)
+            → ((f : Note → Bool) (B : Office) → SeesBoth x tops B (up j d t M) → (ack ≡ true → f (Acks (uid_number u)) ≡ true) →
+            DisksWalk f x tops B e j outs v d M) → ClaimsLast tops A.world j ack (Some (u, how)) →
+            handle_told j d t from ack ends u how ≡ Took v outs → BothWalk x tops A e j outs v d M
+        at_one n named u how last j one = subst (λ j. SeesBoth x tops A (up j d t M) → ((f : Note → Bool) (B : Office) →
+            SeesBoth x tops B (up j d t M) → (ack ≡ true → f (Acks (uid_number u)) ≡ true) → DisksWalk f x tops B e j outs v d M) →
+            ClaimsLast tops A.world j ack (Some (u, how))
             → handle_told j d t from ack ends u how ≡ Took v outs → BothWalk x tops A e j outs v d M) one
-            (λ seen walk c h. told_both x tops unwalked e d t v n from ack ends u outs A M named knows.kinds (counts n named).there seen walk how c h)
+            (λ seen walk c h.
+            told_both x tops unwalked e d t v n from ack ends u outs A M named knows.kinds (counts n named).there seen walk how c h)
 
         there : (n : Naming) → t.naming ≡ Some n → (o : Option (Uid × End)) → last_end ends ≡ o → Calm
         there n named None last = calm (left_by t [] (sym (ap (handle_ends k d t from ack ends) last) ∙ g) (refl, refl))
-            (walk_at (λ z. false) (other_notes (λ z. false) (λ u how on also_last acks. absurd (never (ap is_some also_last) (ap is_some (last_of None last)))) A) (other_booked A))
+            (walk_at (λ z. false) (other_notes (λ z. false)
+            (λ u how on also_last acks. absurd (never (ap is_some also_last) (ap is_some (last_of None last)))) A) (other_booked A))
         there n named (Some z) last = at_one n named z.0 z.1 last k (sym (knows.naming_here n named).0) both
-            (λ f B seen ok. walk_from f B seen (other_notes f (λ u how on also_last acks. subst (λ w. f (Acks (uid_number w)) ≡ true) (ap (λ (p : Uid × End). p.0) (some_is (last_of (Some z) last) also_last)) (ok (sym (ap told_ack is) ∙ acks))) B) (other_booked B))
-            (subst (ClaimsLast tops A.world k ack) last (claimed tops A.world both.disks)) (sym (ap (handle_ends k d t from ack ends) last) ∙ g)
+            (λ f B seen ok. walk_from f B seen (other_notes f (λ u how on also_last acks. subst (λ w. f (Acks (uid_number w)) ≡ true)
+            (ap (λ (p : Uid × End). p.0) (some_is (last_of (Some z) last) also_last)) (ok (sym (ap told_ack is) ∙ acks))) B)
+            (other_booked B))
+            (subst (ClaimsLast tops A.world k ack) last (claimed tops A.world both.disks))
+            (sym (ap (handle_ends k d t from ack ends) last) ∙ g)
 
         by : (o : Option Naming) → t.naming ≡ o → Calm
         by None named = calm (ends_leave ack ends (last_end ends) named g)
-            (ends_are_walked x (followed tops A.world (λ n. false)) e k d t v from ack ends outs M (knows.elsewhere named) named (A.world, walks_start x tops (λ n. false) A (up k d t M) both) (λ W s. claimed (followed tops A.world (λ n. false)) W s) g)
+            (ends_are_walked x (followed tops A.world (λ n. false)) e k d t v from ack ends outs M (knows.elsewhere named) named
+            (A.world, walks_start x tops (λ n. false) A (up k d t M) both) (λ W s. claimed (followed tops A.world (λ n. false)) W s) g)
         by (Some n) named = there n named (last_end ends) refl
 
     by_hello : (node inc : ℕ) → is_told m ≡ false → handle_hello d t node inc ≡ Took v outs → Calm
     by_hello node inc off g = by t.naming refl
       where
-        at_one : (n : Naming) → (j : ℕ) → 1 ≡ j → SeesBoth x tops A (up j d t M) → DisksWalk (λ z. false) x tops A e j outs v d M → BothWalk x tops A e j outs v d M
-        at_one n j one = subst (λ j. SeesBoth x tops A (up j d t M) → DisksWalk (λ z. false) x tops A e j outs v d M → BothWalk x tops A e j outs v d M) one (λ seen walk. hellos_keep_both x tops e d t v node inc outs A M unwalked g seen walk)
+        at_one : (n : Naming) → (j : ℕ) → 1 ≡ j → SeesBoth x tops A (up j d t M) → DisksWalk (λ z. false) x tops A e j outs v d M →
+            BothWalk x tops A e j outs v d M
+        at_one n j one = subst (λ j. SeesBoth x tops A (up j d t M) → DisksWalk (λ z. false) x tops A e j outs v d M →
+            BothWalk x tops A e j outs v d M) one (λ seen walk. hellos_keep_both x tops e d t v node inc outs A M unwalked g seen walk)
 
         by : (o : Option Naming) → t.naming ≡ o → Calm
-        by None named = calm (left_by (record t { naming = naming_hello node inc t.naming }) (map query_about (filter (is_earlier node inc) (holders d t))) g (ap (naming_hello node inc) named ∙ sym named, queries_leave (filter (is_earlier node inc) (holders d t)))) (untold off)
+        by None named = calm
+            (left_by (record t { naming = naming_hello node inc t.naming }) (map query_about (filter (is_earlier node inc) (holders d t))) g
+            (ap (naming_hello node inc) named ∙ sym named, queries_leave (filter (is_earlier node inc) (holders d t)))) (untold off)
         by (Some n) named = at_one n k (sym (knows.naming_here n named).0) both (untold off)
 
     by_other : (z : Message) → m ≡ z → handle_other k d t from z ≡ Took v outs → Calm
     by_other (message.Told z) is g = by_told z.root z.ack z.ends is g
-    by_other (message.Acked z) is g = calm (coord_leaves_all (acked from z.act d.intents t.coord) (acked_own from z.act d.intents t.coord) g) (untold (ap is_told is))
-    by_other (message.Query z) is g = calm (left_by t (answer_query from z.act d.intents t.coord) g (refl, coord_leaves (answer_query from z.act d.intents t.coord) (query_own from z.act d.intents t.coord))) (untold (ap is_told is))
+    by_other (message.Acked z) is g =
+        calm (coord_leaves_all (acked from z.act d.intents t.coord) (acked_own from z.act d.intents t.coord) g) (untold (ap is_told is))
+    by_other (message.Query z) is g = calm (left_by t (answer_query from z.act d.intents t.coord) g
+        (refl, coord_leaves (answer_query from z.act d.intents t.coord) (query_own from z.act d.intents t.coord))) (untold (ap is_told is))
     by_other (message.Hello z) is g = by_hello z.node z.inc (ap is_told is) g
     by_other (message.Bind z) is g = absurd (cc g)
     by_other (message.Bound z) is g = absurd (cc g)
@@ -688,12 +839,18 @@ module _ (x : ℕ) (tops : Kinds) (unwalked : tops.walk ≡ None) (e k : ℕ) (d
     bind_calm (Some n) = answer_calm (let s = naming.bind h.path y include avoid d.names n in s.reply)
 
   -- a Bind's walk has no work on which a stop could fall
-  bind_so : (h : Head) (y : ℕ) (include : Bool) (avoid : Binding) → asks m ≡ Some (h, ask.Bind y include avoid) → serve k d t from h (ask.Bind y include avoid) ≡ Took v outs → So
-  bind_so h y include avoid it is = subst (λ o. Walks (IsSeenAfter o x tops A) e k outs (Up (IsSeenAfter o x tops A) k v) d M) (sym (ap (asked_change x d t m) it))
-      (no_work e k M (IsSeenFrom x tops A) (IsSeenAfter (bind_change x y include avoid h d t.naming) x tops A) (λ c N. (B : Office) × OnlyMemory A B × SeesBoth x tops B (up k c v N) × Answered_so (bind_change x y include avoid h d t.naming) B)
-      (Up (IsSeenAfter (bind_change x y include avoid h d t.naming) x tops A) k v) d (λ L same s. turned (bind_change x y include avoid h d t.naming) (bind_calm h y include avoid t.naming) s) outs (bind_work h y include avoid is) M refl (by_bind h y include avoid it is))
+  bind_so : (h : Head) (y : ℕ) (include : Bool) (avoid : Binding) → asks m ≡ Some (h, ask.Bind y include avoid) →
+      serve k d t from h (ask.Bind y include avoid) ≡ Took v outs → So
+  bind_so h y include avoid it is =
+      subst (λ o. Walks (IsSeenAfter o x tops A) e k outs (Up (IsSeenAfter o x tops A) k v) d M) (sym (ap (asked_change x d t m) it))
+      (no_work e k M (IsSeenFrom x tops A) (IsSeenAfter (bind_change x y include avoid h d t.naming) x tops A) (λ c N. (B : Office)
+      × OnlyMemory A B × SeesBoth x tops B (up k c v N) × Answered_so (bind_change x y include avoid h d t.naming) B)
+      (Up (IsSeenAfter (bind_change x y include avoid h d t.naming) x tops A) k v) d
+      (λ L same s. turned (bind_change x y include avoid h d t.naming) (bind_calm h y include avoid t.naming) s) outs
+      (bind_work h y include avoid is) M refl (by_bind h y include avoid it is))
     where
-      turned : {N : Seen} (o : Change) → IsCalm o → (B : Office) × OnlyMemory A B × SeesBoth x tops B N × Answered_so o B → IsSeenAfter o x tops A N
+      turned : {N : Seen} (o : Change) → IsCalm o → (B : Office) × OnlyMemory A B × SeesBoth x tops B N × Answered_so o B →
+          IsSeenAfter o x tops A N
       turned Quietly calm s = (s.0, s.1, s.2)
       turned (Answering u r) calm s = (s.0, (s.1, s.3), s.2)
       turned (Deciding u keeps) calm s = absurd calm
@@ -706,14 +863,17 @@ module _ (x : ℕ) (tops : Kinds) (unwalked : tops.walk ≡ None) (e k : ℕ) (d
   asked_so h (ask.Invoke y b i ends op) it is = calmly (ap (asked_change x d t m) it) (by_ask h (ask.Invoke y b i ends op) it is)
   asked_so h (ask.Vote i ties ends) it is = calmly (ap (asked_change x d t m) it) (by_ask h (ask.Vote i ties ends) it is)
   asked_so h (ask.Prepare states) it is = calmly (ap (asked_change x d t m) it) (by_ask h (ask.Prepare states) it is)
-  asked_so h (ask.Confirm grants excluded included) it is = calmly (ap (asked_change x d t m) it) (by_ask h (ask.Confirm grants excluded included) it is)
+  asked_so h (ask.Confirm grants excluded included) it is =
+      calmly (ap (asked_change x d t m) it) (by_ask h (ask.Confirm grants excluded included) it is)
 
   pub message_both : So
   message_both = by (asks m) refl
     where
       by_answers : asks m ≡ None → (o : Option (Asked × Reply)) → answers m ≡ o → So
-      by_answers none None also = calmly (ap (asked_change x d t m) none ∙ ap (reply_change x t.coord) also) (by_other none also m refl (sym (ap (handle_answer k d t from m) also) ∙ (sym (ap (handle_ask k d t from m) none) ∙ handled)))
-      by_answers none (Some a) it = by_answer a.0 a.1 it none (sym (ap (handle_answer k d t from m) it) ∙ (sym (ap (handle_ask k d t from m) none) ∙ handled))
+      by_answers none None also = calmly (ap (asked_change x d t m) none ∙ ap (reply_change x t.coord) also)
+          (by_other none also m refl (sym (ap (handle_answer k d t from m) also) ∙ (sym (ap (handle_ask k d t from m) none) ∙ handled)))
+      by_answers none (Some a) it =
+          by_answer a.0 a.1 it none (sym (ap (handle_answer k d t from m) it) ∙ (sym (ap (handle_ask k d t from m) none) ∙ handled))
 
       by : (o : Option (Head × Ask)) → asks m ≡ o → So
       by None none = by_answers none (answers m) refl
@@ -724,9 +884,12 @@ module _ (x : ℕ) (tops : Kinds) (unwalked : tops.walk ≡ None) (e k : ℕ) (d
   abbrev Stopped_so : Type 0
   Stopped_so = Walks (IsOpenAfter (change_by x d t m) x tops A) e k outs (λ c N. ⊤) d M
 
-  calm_stops : (o : Change) → IsCalm o → Walks (IsSeenAfter o x tops A) e k outs (Up (IsSeenAfter o x tops A) k v) d M → Walks (IsOpenAfter o x tops A) e k outs (λ c N. ⊤) d M
-  calm_stops Quietly calm walk = walks_to (IsSeenAfter Quietly x tops A) (IsOpenAfter Quietly x tops A) e k outs (Up (IsSeenAfter Quietly x tops A) k v) (λ c N. ⊤) d M (λ N s. (s.0, s.1, (let o = s.1 in o.tops), s.2)) (λ c N s. tt) walk
-  calm_stops (Answering u r) calm walk = walks_to (IsSeenAfter (Answering u r) x tops A) (IsOpenAfter (Answering u r) x tops A) e k outs (Up (IsSeenAfter (Answering u r) x tops A) k v) (λ c N. ⊤) d M (λ N s. (s.0, s.1, (let o = s.1.0 in o.tops), s.2)) (λ c N s. tt) walk
+  calm_stops : (o : Change) → IsCalm o → Walks (IsSeenAfter o x tops A) e k outs (Up (IsSeenAfter o x tops A) k v) d M →
+      Walks (IsOpenAfter o x tops A) e k outs (λ c N. ⊤) d M
+  calm_stops Quietly calm walk = walks_to (IsSeenAfter Quietly x tops A) (IsOpenAfter Quietly x tops A) e k outs
+      (Up (IsSeenAfter Quietly x tops A) k v) (λ c N. ⊤) d M (λ N s. (s.0, s.1, (let o = s.1 in o.tops), s.2)) (λ c N s. tt) walk
+  calm_stops (Answering u r) calm walk = walks_to (IsSeenAfter (Answering u r) x tops A) (IsOpenAfter (Answering u r) x tops A) e k outs
+      (Up (IsSeenAfter (Answering u r) x tops A) k v) (λ c N. ⊤) d M (λ N s. (s.0, s.1, (let o = s.1.0 in o.tops), s.2)) (λ c N s. tt) walk
   calm_stops (Deciding u keeps) calm walk = absurd calm
 
   calmly_stops : IsCalm (change_by x d t m) → Stopped_so
@@ -747,14 +910,17 @@ module _ (x : ℕ) (tops : Kinds) (unwalked : tops.walk ≡ None) (e k : ℕ) (d
     where
       by_answers : asks m ≡ None → (o : Option (Asked × Reply)) → answers m ≡ o → Stopped_so
       by_answers none None also = calmly_stops (subst IsCalm (sym (ap (asked_change x d t m) none ∙ ap (reply_change x t.coord) also)) tt)
-      by_answers none (Some a) it = ⊎_elim (λ calm. calmly_stops calm) (λ stops. stops) (stops_answer a.0 a.1 it none (sym (ap (handle_answer k d t from m) it) ∙ (sym (ap (handle_ask k d t from m) none) ∙ handled)))
+      by_answers none (Some a) it = ⊎_elim (λ calm. calmly_stops calm) (λ stops. stops)
+          (stops_answer a.0 a.1 it none (sym (ap (handle_answer k d t from m) it) ∙ (sym (ap (handle_ask k d t from m) none) ∙ handled)))
 
       by : (o : Option (Head × Ask)) → asks m ≡ o → Stopped_so
       by None none = by_answers none (answers m) refl
       by (Some a) it = calmly_stops (asks_calm a.0 a.1 it)
 
 pub messages_keep_both : MessagesKeepBoth
-messages_keep_both x tops e k d t v from m outs A M unwalked knows sent counts may handled both = message_both x tops unwalked e k d t v from m outs A M knows sent counts may handled both
+messages_keep_both x tops e k d t v from m outs A M unwalked knows sent counts may handled both =
+    message_both x tops unwalked e k d t v from m outs A M knows sent counts may handled both
 
 pub messages_stop_open : MessagesStopOpen
-messages_stop_open x tops e k d t v from m outs A M unwalked knows sent counts may handled both = message_stops x tops unwalked e k d t v from m outs A M knows sent counts may handled both
+messages_stop_open x tops e k d t v from m outs A M unwalked knows sent counts may handled both =
+    message_stops x tops unwalked e k d t v from m outs A M knows sent counts may handled both

@@ -1,47 +1,30 @@
 -- Records and exclude locks, as acts.
-use Rattle.std.proofs.Common.{◌≡◌, ◌≢◌, ◌⊎◌, ◌≤◌, ℕ, ◌==◌, ◌&&◌, ◌||◌, not, List, [], ◌∷◌, ◌++◌, Bool, true, false, cond, Option, Some, None, refl, sym, ◌∙◌, ap, subst, inl, inr, ⊎_elim, is_some, nat_le, arith, Contains}
-use Rattle.std.specs.Prelude.{if◌then◌else◌, nat_lt, option_map}
-use Rattle.std.specs.List.{list_any}
-use Rattle.std.proofs.lemmas.Bool.Decides.{nat_tests}
-use Rattle.arj_base.specs.declared.mode.Mode.{Mode}
-use Rattle.arj_base.specs.declared.mode.Mode.TheVariants.{Read, Exclude}
-use Rattle.arj_base.specs.Rows.{Row, last_uid, is_row_of, lower_row, mode_of}
-use Rattle.arj_base.proofs.Uids.{uid_is, uid_same}
-use Rattle.arj_lock.proofs.Members.{In as Stands, in_from, in_to, in_map}
-use Rattle.arj_lock.proofs.Leaves.{grant_clear, lower_mode}
-use Rattle.arj_lock.proofs.OneEach.{one_each_map}
-use Rattle.arj_lock.proofs.PassLeaves.{has}
-use Rattle.arj_protocol.specs.Words.{Uid, Binding, Path, RecordedReply, entry, first_conflict, grant_row, is_on, last_uid, mode_code, uid_eq}
-use Rattle.arj_protocol.specs.Words.mode
-use Rattle.arj_protocol.specs.Words.recorded
-use Rattle.arj_protocol.specs.Words.what
-use Rattle.arj_protocol.specs.Ask.{top_of, top_path}
-use Rattle.arj_protocol.specs.Confirm.{conflict_in, lock_all, lock_in as lock_one}
-use Rattle.arj_protocol.specs.Copy.{is_granted}
-use Rattle.arj_protocol.specs.Effect.{Effect, Served, reply, void}
-use Rattle.arj_protocol.specs.Named.{Named, Made, conflict_on, entry_row, in_use, is_binding, is_lowered, is_write_row, locked, lowered, note_named, note_other}
-use Rattle.arj_protocol.specs.Named as naming_named
-use Rattle.arj_protocol.specs.Naming.{Naming, is_over, note, on_named}
-use Rattle.arj_protocol.specs.Order as order
-use Rattle.arj_protocol.specs.Order.{at_number, at_uid, binding_eq, put_number, put_uid, uid_number}
-use Rattle.arj_protocol.proofs.Maps.{put_other as number_other, put_same as number_same}
-use Rattle.arj_protocol.proofs.Numbers.{number_tells}
-use Rattle.arj_protocol.proofs.RowSteps.{one_or_two}
-use Rattle.arj_law_disk.specs.machine.Effects.{World, IsNot}
-use Rattle.arj_law_disk.specs.machine.Guards.{HasRow, IsUntold, Runs, end_of}
-use Rattle.arj_law_disk.specs.machine.Named as names
-use Rattle.arj_law_disk.specs.machine.Names as machine
-use Rattle.arj_law_disk.specs.machine.Names.{Names, Office, Act, acted}
-use Rattle.arj_law_disk.specs.machine.State.{State}
-use Rattle.arj_law_disk.specs.machine.Words.{put}
-use Rattle.arj_law_disk.proofs.machine.Acts.{runs_keep}
-use Rattle.arj_law_disk.proofs.machine.Base.{falls_to, never, or_cases, or_left, or_right, put_cases, put_same, test_is, test_same}
-use Rattle.arj_law_disk_view.specs.view.Sees.{Kinds, IsNested}
-use Rattle.arj_law_disk_view.proofs.view.Keys as keys
-use Rattle.arj_law_disk_view.specs.names.Calls.{ExcludesAreActs, HasExclude, IsUnrecorded, MayNote, NotesAreActs, OnlyLocks}
-use Rattle.arj_law_disk_view.specs.names.Memory.{IsAlone, IsBehind, IsOfTop, NamesGo, SeesNamed, SeesNaming, SeesRows, lock_in}
+use Rattle.arj_law_parts.proofs.Words
+use Words.{◌≡◌, ◌≢◌, ◌⊎◌, ◌≤◌, ℕ, ◌==◌, ◌&&◌, ◌||◌, not, List, [], ◌∷◌, ◌++◌, Bool, true, false, cond, Option, Some, None, refl, sym, ◌∙◌}
+use Words.{ap, subst, inl, inr, ⊎_elim, is_some, nat_le, arith, Contains, if◌then◌else◌, nat_lt, option_map, list_any, nat_tests, Mode}
+use Words.{Read, Exclude, Row, last_uid, is_row_of, lower_row, mode_of, uid_is, uid_same, In as Stands, in_from, in_to, in_map, grant_clear}
+use Words.{one_each_map, Uid, Binding, Path, RecordedReply, entry, first_conflict, grant_row, is_on, mode_code, uid_eq, top_of, top_path}
+use Words.{conflict_in, lock_all, lock_in as lock_one, is_granted, Effect, Served, reply, void, Named, Made, conflict_on, entry_row, in_use}
+use Words.{is_binding, is_lowered, is_write_row, locked, lowered, note_named, note_other, Naming, is_over, note, on_named, at_number}
+use Words.{at_uid, binding_eq, put_number, put_uid, uid_number, put_other as number_other, put_same as number_same, number_tells}
+use Words.{one_or_two}
+use Words.mode
+use Words.recorded
+use Words.what
+use Words.naming_named
+use Words.order
+use Rattle.arj_law_disk_view.proofs.Terms
+use Terms.{World, IsNot, HasRow, IsUntold, Runs, end_of, Names, Office, acted, State, put, runs_keep, falls_to, never, or_cases, or_left}
+use Terms.{or_right, put_cases, put_same, test_is, test_same, Kinds, IsNested, HasExclude, OnlyLocks, IsAlone, IsBehind, IsOfTop, NamesGo}
+use Terms.{SeesNamed, SeesNaming, SeesRows, lock_in}
+use Terms.names
+use Rattle.arj_law_disk.specs.machine.Names.{Act}
 use Rattle.arj_law_disk_view.proofs.names.Binding.{locked_named, may, only_same, other_object, path_untold, with_object}
 use Rattle.arj_law_disk_view.proofs.names.Locks.{RowOf, row_behind}
+use Rattle.arj_law_disk_view.specs.names.Calls.{ExcludesAreActs, IsUnrecorded, MayNote, NotesAreActs}
+use Rattle.arj_lock.proofs.{Leaves.lower_mode, PassLeaves.has}
+use Rattle.arj_law_disk.specs.machine.Names as machine
+use Rattle.arj_law_disk_view.proofs.view.Keys as keys
 
 -- ---- a lock that is lowered
 
@@ -62,12 +45,14 @@ lowers_object x top row = by (is_row_of (entry x) top row)
     by true = refl
     by false = refl
 
-module _ (x : ℕ) (tops : Kinds) (top : Uid) (rows : List Row) (root : ℕ → ℕ) (row : ℕ → Option ℕ) (given : ℕ → Bool) (s : SeesRows x tops rows root row given) (write : row (uid_number top) ≡ Some 2) where
+module _ (x : ℕ) (tops : Kinds) (top : Uid) (rows : List Row) (root : ℕ → ℕ) (row : ℕ → Option ℕ) (given : ℕ →
+    Bool) (s : SeesRows x tops rows root row given) (write : row (uid_number top) ≡ Some 2) where
   abbrev t : ℕ
   t = uid_number top
 
   named_put : (n : ℕ) (h m : ℕ) → put t (Some n) row h ≡ Some m → (u : Uid) × (uid_number u ≡ h)
-  named_put n h m = put_cases (λ z. z ≡ Some m → (u : Uid) × (uid_number u ≡ h)) t (Some n) row h (λ same is. (top, sym same)) (λ other is. s.named h m is)
+  named_put n h m = put_cases (λ z. z ≡ Some m →
+      (u : Uid) × (uid_number u ≡ h)) t (Some n) row h (λ same is. (top, sym same)) (λ other is. s.named h m is)
 
   pub stays_rows : SeesRows x tops rows root (put (uid_number top) (Some 2) row) given
   stays_rows = record {
@@ -75,20 +60,27 @@ module _ (x : ℕ) (tops : Kinds) (top : Uid) (rows : List Row) (root : ℕ → 
     objects = s.objects;
     holders = s.holders;
     kinds = s.kinds;
-    row_is = λ u. put_cases (λ z. z ≡ lock_in x u rows) t (Some 2) row (uid_number u) (λ same. sym write ∙ ap row (sym same) ∙ s.row_is u) (λ other. s.row_is u);
+    row_is = λ u. put_cases (λ z. z ≡ lock_in x u rows) t (Some 2) row (uid_number u) (λ same. sym write ∙ ap row (sym same) ∙ s.row_is u)
+        (λ other. s.row_is u);
     named = named_put 2;
   }
 
   pub lowered_rows : SeesRows x tops (lower_row top (entry x) rows) root (put (uid_number top) (Some 0) row) given
   lowered_rows = record {
     one = one_each_map (lowers x top) rows (lowers_object x top) (lowers_holder x top) s.one;
-    objects = λ r c. let f = from r c in ap (λ (q : Row). q.object) (sym f.2) ∙ lowers_object x top f.0 ∙ s.objects f.0 (in_to f.0 rows f.1);
-    holders = λ r c. let f = from r c in subst (λ us. IsAlone root given us ⊎ IsBehind root given us) (same f) (s.holders f.0 (in_to f.0 rows f.1));
-    kinds = λ r c. let f = from r c in subst (λ us. IsNested tops (uid_number (last_uid us)) → ⊥) (same f) (s.kinds f.0 (in_to f.0 rows f.1));
+    objects = λ r c. let f = from r c in
+        ap (λ (q : Row). q.object) (sym f.2) ∙ lowers_object x top f.0 ∙ s.objects f.0 (in_to f.0 rows f.1);
+    holders = λ r c. let f = from r c in
+        subst (λ us. IsAlone root given us ⊎ IsBehind root given us) (same f) (s.holders f.0 (in_to f.0 rows f.1));
+    kinds = λ r c. let f = from r c in
+        subst (λ us. IsNested tops (uid_number (last_uid us)) → ⊥) (same f) (s.kinds f.0 (in_to f.0 rows f.1));
     row_is = λ u. put_cases (λ z. z ≡ lock_in x u (lower_row top (entry x) rows)) t (Some 0) row (uid_number u)
         (λ e. let one : u ≡ top = number_tells u top e in
-        low (mode_of (entry x) u rows) (ap row (sym e) ∙ (s.row_is u)) ∙ ap (λ b. option_map mode_code (cond b (option_map (λ (m : Mode). Read) (mode_of (entry x) u rows)) (mode_of (entry x) u rows))) (sym (own u one)) ∙ ap (option_map mode_code) (sym (lower_mode top (entry x) rows (entry x) u)))
-        (λ other. s.row_is u ∙ ap (λ b. option_map mode_code (cond b (option_map (λ (m : Mode). Read) (mode_of (entry x) u rows)) (mode_of (entry x) u rows))) (sym (apart u other)) ∙ ap (option_map mode_code) (sym (lower_mode top (entry x) rows (entry x) u)));
+        low (mode_of (entry x) u rows) (ap row (sym e) ∙ (s.row_is u)) ∙ ap
+        (λ b. option_map mode_code (cond b (option_map (λ (m : Mode). Read) (mode_of (entry x) u rows)) (mode_of (entry x) u rows)))
+        (sym (own u one)) ∙ ap (option_map mode_code) (sym (lower_mode top (entry x) rows (entry x) u)))
+        (λ other. s.row_is u ∙ ap (λ b. option_map mode_code (cond b (option_map (λ (m : Mode). Read) (mode_of (entry x) u rows)) (mode_of
+        (entry x) u rows))) (sym (apart u other)) ∙ ap (option_map mode_code) (sym (lower_mode top (entry x) rows (entry x) u)));
     named = named_put 0;
   }
     where
@@ -106,13 +98,16 @@ module _ (x : ℕ) (tops : Kinds) (top : Uid) (rows : List Row) (root : ℕ → 
       own u one = (λ i. uid_same (entry x) i && (ap (λ w. uid_eq w top) one ∙ uid_same top) i)
 
       apart : (u : Uid) → (uid_number u == t) ≡ false → (uid_eq (entry x) (entry x) && uid_eq u top) ≡ false
-      apart u other = (λ i. uid_same (entry x) i && falls_to (uid_eq u top) (λ e. never (ap (λ w. uid_number w == t) (uid_is u top e) ∙ test_same t) other) i)
+      apart u other = (λ i. uid_same (entry x) i
+          && falls_to (uid_eq u top) (λ e. never (ap (λ w. uid_number w == t) (uid_is u top e) ∙ test_same t) other) i)
 
 -- ---- a Record of the object
 
-module _ (x : ℕ) (tops : Kinds) (p : Path) (n : Naming) (A : Office) (o : Named) (c : names.Named A) (sees : SeesNaming x tops n A.world.disk A.names) (so : SeesNamed x tops o A.world.disk A.names) (of : IsOfTop tops A.world.disk p)
+module _ (x : ℕ) (tops : Kinds) (p : Path) (n : Naming) (A : Office) (o : Named) (c : names.Named A)
+    (sees : SeesNaming x tops n A.world.disk A.names) (so : SeesNamed x tops o A.world.disk A.names) (of : IsOfTop tops A.world.disk p)
     (untold : IsUntold A.world.disk A.names (uid_number (top_of p))) (i : ℕ) (found : at_number x n.objects ≡ Some o)
-    (b : Binding) (off : is_over p n ≡ false) (note_may : IsUnrecorded x p b n → (A.names.had (uid_number (top_of p)) A.names.inc ≡ true) × (A.names.asked (uid_number (top_of p)) ≡ false → IsNot A.world.disk.entry_pend (uid_number (top_of p)))) (r : RecordedReply) where
+    (b : Binding) (off : is_over p n ≡ false) (note_may : IsUnrecorded x p b n → (A.names.had (uid_number (top_of p)) A.names.inc ≡ true)
+    × (A.names.asked (uid_number (top_of p)) ≡ false → IsNot A.world.disk.entry_pend (uid_number (top_of p)))) (r : RecordedReply) where
   abbrev u : ℕ
   u = uid_number (top_of p)
 
@@ -120,10 +115,15 @@ module _ (x : ℕ) (tops : Kinds) (p : Path) (n : Naming) (A : Office) (o : Name
   N = A.names
 
   abbrev Goal : Served Named RecordedReply → Type 0
-  Goal s = s.reply ≡ Some r → NamesGo A (λ B. OnlyLocks A B × SeesNaming x tops (record n { objects = put_number x s.part n.objects }) B.world.disk B.names)
+  Goal s = s.reply ≡ Some r →
+      NamesGo A (λ B. OnlyLocks A B × SeesNaming x tops (record n { objects = put_number x s.part n.objects }) B.world.disk B.names)
 
   nothing : (q : RecordedReply) → Goal (reply o q)
-  nothing q is = record { acts = []; may = tt; there = (only_same A, with_object x tops n o n.count A.world.disk A.names A.names sees refl refl refl so) }
+  nothing q is = record {
+    acts = [];
+    may = tt;
+    there = (only_same A, with_object x tops n o n.count A.world.disk A.names A.names sees refl refl refl so);
+  }
 
   module _ (m : Made) (there : at_uid (top_of p) o.made ≡ Some m) (un : m.recorded ≡ false) (same : binding_eq b m.binding ≡ true) where
     write : N.row u ≡ Some 2
@@ -139,12 +139,15 @@ module _ (x : ℕ) (tops : Kinds) (p : Path) (n : Naming) (A : Office) (o : Name
         any = has (is_write_row (entry x) (top_of p)) w.row o.rows w.there (λ k. w.of k && nat_le 2 (w.mode k))
 
     abbrev Sees : Bool → Bool → Type 0
-    Sees a b = SeesNamed x tops (if b then record (in_use (top_of p) m i o) { rows = lower_row (top_of p) (entry x) o.rows } else in_use (top_of p) m i o) A.world.disk (record N { row = put u (Some (if a then 2 else 0)) N.row; live = true })
+    Sees a b = SeesNamed x tops (if b then record (in_use (top_of p) m i o) { rows = lower_row (top_of p) (entry x) o.rows } else in_use
+        (top_of p) m i o) A.world.disk (record N { row = put u (Some (if a then 2 else 0)) N.row; live = true })
 
-    made_after : (k : ℕ) → (w : Uid) (q : Made) → at_uid w (put_uid (top_of p) (record m { recorded = true }) o.made) ≡ Some q → q.recorded ≡ false → IsUntold A.world.disk N (uid_number w) → put u (Some k) N.row (uid_number w) ≡ Some 2
+    made_after : (k : ℕ) → (w : Uid) (q : Made) → at_uid w (put_uid (top_of p) (record m { recorded = true }) o.made) ≡ Some q →
+        q.recorded ≡ false → IsUntold A.world.disk N (uid_number w) → put u (Some k) N.row (uid_number w) ≡ Some 2
     made_after k w q found off free = ⊎_elim
         (λ (own : (w ≡ top_of p) × (record m { recorded = true } ≡ q)). absurd (never (ap (λ (z : Made). z.recorded) (sym own.1)) off))
-        (λ (other : (w ≢ top_of p) × (at_uid w o.made ≡ Some q)). put_cases (λ z. z ≡ Some 2) u (Some k) N.row (uid_number w) (λ same. absurd (other.0 (number_tells w (top_of p) same))) (λ apart. so.made w q other.1 off free))
+        (λ (other : (w ≢ top_of p) × (at_uid w o.made ≡ Some q)). put_cases (λ z. z ≡ Some 2) u (Some k) N.row (uid_number w)
+        (λ same. absurd (other.0 (number_tells w (top_of p) same))) (λ apart. so.made w q other.1 off free))
         (keys.put_cases w (top_of p) (record m { recorded = true }) q o.made found)
 
     seen : (a : Bool) → Sees a (not a)
@@ -163,13 +166,19 @@ module _ (x : ℕ) (tops : Kinds) (p : Path) (n : Naming) (A : Office) (o : Name
       live = λ l is. refl;
     }
 
-    goes : (outs : List Effect) → Goal (record { part = lowered x (top_of p) (in_use (top_of p) m i o); outs = outs; reply = Some recorded.Yes })
+    goes : (outs : List Effect) →
+        Goal (record { part = lowered x (top_of p) (in_use (top_of p) m i o); outs = outs; reply = Some recorded.Yes })
     goes outs is = record {
       acts = machine.Lower u ∷ [];
-      may = (let q = note_may (record { named = o; made = m; there = found; of = there; unrecorded = un; same = same; untold = off }) in record { held = write; had = q.0; clear = q.1 }, tt);
+      may = (
+        let q = note_may (record { named = o; made = m; there = found; of = there; unrecorded = un; same = same; untold = off }) in
+            record { held = write; had = q.0; clear = q.1 },
+        tt,
+      );
       there = (
         record { world = refl; inc = refl; told = refl; given = refl; confd = refl; had = refl; kept = refl; answers = λ a j. j },
-        with_object x tops n (lowered x (top_of p) (in_use (top_of p) m i o)) n.count A.world.disk A.names (let B = acted A (machine.Lower u) in B.names) sees refl refl refl (subst (Sees (N.asked u)) (sym lowered_is) (seen (N.asked u))),
+        with_object x tops n (lowered x (top_of p) (in_use (top_of p) m i o)) n.count A.world.disk A.names (let B = acted A
+            (machine.Lower u) in B.names) sees refl refl refl (subst (Sees (N.asked u)) (sym lowered_is) (seen (N.asked u))),
       );
     }
 
@@ -177,7 +186,12 @@ module _ (x : ℕ) (tops : Kinds) (p : Path) (n : Naming) (A : Office) (o : Name
   by_made None e = λ is. absurd (cc is)
   by_made (Some m) e = by (binding_eq b m.binding) (m.recorded) refl refl
     where
-      by : (same rec : Bool) → binding_eq b m.binding ≡ same → m.recorded ≡ rec → Goal (if same then (if rec then reply o recorded.Yes else record { part = lowered x (top_of p) (in_use (top_of p) m i o); outs = naming_named.lower_lines x (top_of p) o; reply = Some recorded.Yes }) else void o)
+      by : (same rec : Bool) → binding_eq b m.binding ≡ same → m.recorded ≡ rec →
+          Goal (if same then (if rec then reply o recorded.Yes else record {
+            part = lowered x (top_of p) (in_use (top_of p) m i o);
+            outs = naming_named.lower_lines x (top_of p) o;
+            reply = Some recorded.Yes;
+          }) else void o)
       by true true g f = nothing recorded.Yes
       by true false g f = goes m e f g (naming_named.lower_lines x (top_of p) o)
       by false rec g f = λ is. absurd (cc is)
@@ -191,23 +205,35 @@ module _ (x : ℕ) (tops : Kinds) (p : Path) (n : Naming) (A : Office) (o : Name
 
 -- ---- a Record
 
-module _ (x : ℕ) (tops : Kinds) (p : Path) (b : Binding) (i g : ℕ) (n : Naming) (A : Office) (r : RecordedReply) (c : names.Named A) (sees : SeesNaming x tops n A.world.disk A.names) (of : IsOfTop tops A.world.disk p) where
+module _ (x : ℕ) (tops : Kinds) (p : Path) (b : Binding) (i g : ℕ) (n : Naming) (A : Office) (r : RecordedReply) (c : names.Named A)
+    (sees : SeesNaming x tops n A.world.disk A.names) (of : IsOfTop tops A.world.disk p) where
   abbrev Note_goal : ℕ → Served Naming RecordedReply → Type 0
   Note_goal y s = MayNote x y p b g n A → s.reply ≡ Some r → NamesGo A (λ B. OnlyLocks A B × SeesNaming x tops s.part B.world.disk B.names)
 
-  of_object : is_over p n ≡ false → g ≡ n.inc → (y : ℕ) (q : Option Named) → at_number y n.objects ≡ q → Note_goal y (on_named y (note_named y (top_of p) b i) n q)
+  of_object : is_over p n ≡ false → g ≡ n.inc → (y : ℕ) (q : Option Named) → at_number y n.objects ≡ q →
+      Note_goal y (on_named y (note_named y (top_of p) b i) n q)
   of_object off now y None e = λ note_may is. absurd (cc is)
   of_object off now y (Some o) e = ⊎_elim
       (λ (same : y ≡ x). subst (λ z. Note_goal z (on_named z (note_named z (top_of p) b i) n (Some o))) (sym same)
-      (λ note_may. noted x tops p n A o c sees (sees.object o (ap (λ z. at_number z n.objects) (sym same) ∙ e)) of (path_untold x tops n A.world.disk A.names p sees of off) i (ap (λ z. at_number z n.objects) (sym same) ∙ e) b off (note_may refl (now ∙ sym sees.inc_is)) r))
-      (λ other note_may is. record { acts = []; may = tt; there = (only_same A, other_object x y tops n (let s = note_named y (top_of p) b i o in s.part) n.count A.world.disk A.names other.0 sees) })
+      (λ note_may. noted x tops p n A o c sees (sees.object o (ap (λ z. at_number z n.objects) (sym same) ∙ e)) of
+      (path_untold x tops n A.world.disk A.names p sees of off) i (ap (λ z. at_number z n.objects) (sym same) ∙ e) b off
+      (note_may refl (now ∙ sym sees.inc_is)) r))
+      (λ other note_may is. record {
+        acts = [];
+        may = tt;
+        there = (
+          only_same A,
+          other_object x y tops n (let s = note_named y (top_of p) b i o in s.part) n.count A.world.disk A.names other.0 sees,
+        );
+      })
       (one_or_two y x)
 
   pub noted_by_acts : (y : ℕ) → Note_goal y (note p y b i g n)
   noted_by_acts y = by (is_over p n) (is_some (at_number y n.objects)) (g == n.inc) refl refl
     where
       by : (over there now : Bool) → is_over p n ≡ over → (g == n.inc) ≡ now
-          → Note_goal y (if over || not there then void n else (if now then on_named y (note_named y (top_of p) b i) n (at_number y n.objects) else reply n (recorded.Changed (what.Inc g n.inc))))
+          → Note_goal y (if over || not there then void n else (if now then on_named y (note_named y (top_of p) b i) n
+          (at_number y n.objects) else reply n (recorded.Changed (what.Inc g n.inc))))
       by true there now e f = λ note_may is. absurd (cc is)
       by false false now e f = λ note_may is. absurd (cc is)
       by false true true e f = of_object e (test_is g n.inc f) y (at_number y n.objects) refl
@@ -248,22 +274,29 @@ module _ (x : ℕ) (tops : Kinds) (p : Path) where
   on_own S of = by of.path
     where
       by : ((top_path p ≡ top_of p ∷ []) × (S.root (uid_number (top_of p)) ≡ uid_number (top_of p)))
-          ⊎ ((w : Uid) × (top_path p ≡ w ∷ top_of p ∷ []) × (S.root (uid_number (top_of p)) ≡ uid_number w) × (uid_eq w (top_of p) ≡ false) × (tops.is_serial (uid_number w) ≡ true)) → is_on (top_path p) (top_of p) ≡ true
+          ⊎ ((w : Uid) × (top_path p ≡ w ∷ top_of p ∷ []) × (S.root (uid_number (top_of p)) ≡ uid_number w)
+          × (uid_eq w (top_of p) ≡ false) × (tops.is_serial (uid_number w) ≡ true)) → is_on (top_path p) (top_of p) ≡ true
       by (inl own) = ap (λ us. is_on us (top_of p)) own.0 ∙ or_left (uid_eq (top_of p) (top_of p)) false (uid_same (top_of p))
-      by (inr (w, path, root, other, serial)) = ap (λ us. is_on us (top_of p)) path ∙ or_right (uid_eq w (top_of p)) (uid_eq (top_of p) (top_of p) || false) (or_left (uid_eq (top_of p) (top_of p)) false (uid_same (top_of p)))
+      by (inr (w, path, root, other, serial)) = ap (λ us. is_on us (top_of p)) path ∙ or_right (uid_eq w (top_of p))
+          (uid_eq (top_of p) (top_of p) || false) (or_left (uid_eq (top_of p) (top_of p)) false (uid_same (top_of p)))
 
   -- a lock that is granted stands against none of the same top's
-  still_free : (y : ℕ) (o : Named) → is_on (top_path p) (top_of p) ≡ true → conflict_on y p mode.Exclude o ≡ None → conflict_on y p mode.Exclude (locked y p mode.Exclude o) ≡ None
+  still_free : (y : ℕ) (o : Named) → is_on (top_path p) (top_of p) ≡ true → conflict_on y p mode.Exclude o ≡ None →
+      conflict_on y p mode.Exclude (locked y p mode.Exclude o) ≡ None
   still_free y o on free = by (is_granted (entry y) (top_of p) mode.Exclude o.rows)
     where
-      by : (b : Bool) → first_conflict (top_path p) (entry y) mode.Exclude (cond b o.rows (grant_row (entry_row y p mode.Exclude) o.rows)) ≡ None
+      by : (b : Bool) →
+          first_conflict (top_path p) (entry y) mode.Exclude (cond b o.rows (grant_row (entry_row y p mode.Exclude) o.rows)) ≡ None
       by true = free
       by false = grant_clear (top_path p) (entry y) mode.Exclude (entry_row y p mode.Exclude) o.rows on free
 
-  stays_free : (z : ℕ) (n : Naming) (q : Option Named) → at_number z n.objects ≡ q → is_on (top_path p) (top_of p) ≡ true → (y : ℕ) → conflict_in y p (at_number y n.objects) ≡ None → conflict_in y p (at_number y (let s = lock_one z p n q in let k = s.part in k.objects)) ≡ None
+  stays_free : (z : ℕ) (n : Naming) (q : Option Named) → at_number z n.objects ≡ q → is_on (top_path p) (top_of p) ≡ true → (y : ℕ) →
+      conflict_in y p (at_number y n.objects) ≡ None →
+      conflict_in y p (at_number y (let s = lock_one z p n q in let k = s.part in k.objects)) ≡ None
   stays_free z n None e on y free = free
   stays_free z n (Some o) e on y free = ⊎_elim
-      (λ (same : z ≡ y). subst (λ k. conflict_in k p (at_number k (put_number z (locked z p mode.Exclude o) n.objects)) ≡ None) same (ap (conflict_in z p) (number_same z (locked z p mode.Exclude o) n.objects)
+      (λ (same : z ≡ y). subst (λ k. conflict_in k p (at_number k (put_number z (locked z p mode.Exclude o) n.objects)) ≡ None) same
+      (ap (conflict_in z p) (number_same z (locked z p mode.Exclude o) n.objects)
       ∙ still_free z o on (ap (conflict_in z p) (sym e) ∙ ap (λ k. conflict_in k p (at_number k n.objects)) same ∙ free)))
       (λ other. ap (conflict_in y p) (number_other z y (locked z p mode.Exclude o) n.objects other.0) ∙ free) (one_or_two z y)
 
@@ -271,7 +304,10 @@ module _ (x : ℕ) (tops : Kinds) (p : Path) where
   asker = uid_number (top_of p)
 
   not_asked : (y : ℕ) (n : Naming) (A : Office) → (y ≡ x → is_some (at_number x n.objects) ≡ true → ⊥) → HasExclude x asker (y ∷ []) n A A
-  not_asked y n A none = record { keeps = λ h. h; gets = λ on there. absurd (⊎_elim (λ e. none (test_is y x e) there) (λ (off : false ≡ true). cc off) (or_cases (y == x) false on)) }
+  not_asked y n A none = record {
+    keeps = λ h. h;
+    gets = λ on there. absurd (⊎_elim (λ e. none (test_is y x e) there) (λ (off : false ≡ true). cc off) (or_cases (y == x) false on));
+  }
 
   raised_least : (o : Option ℕ) → 1 ≤ machine.raised o 1
   raised_least None = omega arith
@@ -285,13 +321,28 @@ module _ (x : ℕ) (tops : Kinds) (p : Path) where
           above h = grind (arith, nat_tests)
 
   abbrev One : ℕ → Naming → Option Named → Office → Office → Type 0
-  One y n q A B = OnlyLocks A B × SeesNaming x tops (let s = lock_one y p n q in s.part) B.world.disk B.names × HasExclude x asker (y ∷ []) n A B
+  One y n q A B =
+      OnlyLocks A B × SeesNaming x tops (let s = lock_one y p n q in s.part) B.world.disk B.names × HasExclude x asker (y ∷ []) n A B
 
-  one_lock : (y : ℕ) (n : Naming) (A : Office) (q : Option Named) → at_number y n.objects ≡ q → conflict_in y p q ≡ None → names.Named A → SeesNaming x tops n A.world.disk A.names → IsOfTop tops A.world.disk p → NamesGo A (One y n q A)
-  one_lock y n A None e free c sees of = record { acts = []; may = tt; there = (only_same A, sees, not_asked y n A (λ same there. never there (ap is_some (ap (λ z. at_number z n.objects) (sym same) ∙ e)))) }
+  one_lock : (y : ℕ) (n : Naming) (A : Office) (q : Option Named) → at_number y n.objects ≡ q → conflict_in y p q ≡ None → names.Named A →
+      SeesNaming x tops n A.world.disk A.names → IsOfTop tops A.world.disk p → NamesGo A (One y n q A)
+  one_lock y n A None e free c sees of = record {
+    acts = [];
+    may = tt;
+    there = (only_same A, sees, not_asked y n A (λ same there. never there (ap is_some (ap (λ z. at_number z n.objects) (sym same) ∙ e))));
+  }
   one_lock y n A (Some o) e free c sees of = ⊎_elim
-      (λ (same : y ≡ x). subst (λ z. NamesGo A (One z n (Some o) A)) (sym same) (own (sees.object o (ap (λ z. at_number z n.objects) (sym same) ∙ e)) (ap (λ z. conflict_on z p mode.Exclude o) (sym same) ∙ free)))
-      (λ other. record { acts = []; may = tt; there = (only_same A, other_object x y tops n (locked y p mode.Exclude o) n.count A.world.disk A.names other.0 sees, not_asked y n A (λ same there. never (ap (λ z. z == x) same ∙ test_same x) other.1)) })
+      (λ (same : y ≡ x). subst (λ z. NamesGo A (One z n (Some o) A)) (sym same) (own
+      (sees.object o (ap (λ z. at_number z n.objects) (sym same) ∙ e)) (ap (λ z. conflict_on z p mode.Exclude o) (sym same) ∙ free)))
+      (λ other. record {
+        acts = [];
+        may = tt;
+        there = (
+          only_same A,
+          other_object x y tops n (locked y p mode.Exclude o) n.count A.world.disk A.names other.0 sees,
+          not_asked y n A (λ same there. never (ap (λ z. z == x) same ∙ test_same x) other.1),
+        );
+      })
       (one_or_two y x)
     where
       own : SeesNamed x tops o A.world.disk A.names → conflict_on x p mode.Exclude o ≡ None → NamesGo A (One x n (Some o) A)
@@ -300,29 +351,40 @@ module _ (x : ℕ) (tops : Kinds) (p : Path) where
         may = (may x tops p n A o c so of mode.Exclude none, tt);
         there = (
           record { world = refl; inc = refl; told = refl; given = refl; confd = refl; had = refl; kept = refl; answers = λ a j. j },
-          with_object x tops n (locked x p mode.Exclude o) n.count A.world.disk A.names (let B = acted A (machine.Exclude asker) in B.names) sees refl refl refl (locked_named x tops p n A o c so of mode.Exclude A.names.asked A.names.live A.names.answers refl (λ h. h)),
+          with_object x tops n (locked x p mode.Exclude o) n.count A.world.disk A.names (let B = acted A (machine.Exclude asker) in
+              B.names) sees refl refl refl
+              (locked_named x tops p n A o c so of mode.Exclude A.names.asked A.names.live A.names.answers refl (λ h. h)),
           record { keeps = λ h. (has_it A); gets = λ on there. has_it A },
         );
       }
         where
           has_it : (A : Office) → HasRow (let B = acted A (machine.Exclude asker) in B.names) asker 1
-          has_it A = (machine.raised (A.names.row asker) 1, put_same asker (Some (machine.raised (A.names.row asker) 1)) A.names.row, raised_least (A.names.row asker))
+          has_it A = (
+            machine.raised (A.names.row asker) 1,
+            put_same asker (Some (machine.raised (A.names.row asker) 1)) A.names.row,
+            raised_least (A.names.row asker),
+          )
 
-  still_there : (z : ℕ) (n : Naming) (q : Option Named) → is_some (at_number x n.objects) ≡ true → is_some (at_number x (let s = lock_one z p n q in let k = s.part in k.objects)) ≡ true
+  still_there : (z : ℕ) (n : Naming) (q : Option Named) → is_some (at_number x n.objects) ≡ true →
+      is_some (at_number x (let s = lock_one z p n q in let k = s.part in k.objects)) ≡ true
   still_there z n None there = there
-  still_there z n (Some o) there = ⊎_elim (λ (same : z ≡ x). ap (λ k. is_some (at_number k (put_number z (locked z p mode.Exclude o) n.objects))) (sym same) ∙ ap is_some (number_same z (locked z p mode.Exclude o) n.objects))
+  still_there z n (Some o) there = ⊎_elim (λ (same : z ≡ x). ap (λ k. is_some (at_number k
+      (put_number z (locked z p mode.Exclude o) n.objects))) (sym same) ∙ ap is_some (number_same z (locked z p mode.Exclude o) n.objects))
       (λ other. ap is_some (number_other z x (locked z p mode.Exclude o) n.objects other.0) ∙ there) (one_or_two z x)
 
   abbrev All : List ℕ → Naming → Office → Office → Type 0
   All xs n A B = OnlyLocks A B × SeesNaming x tops (let s = lock_all xs p n in s.part) B.world.disk B.names × HasExclude x asker xs n A B
 
-  pub excludes : (xs : List ℕ) (n : Naming) (A : Office) → names.Named A → SeesNaming x tops n A.world.disk A.names → IsOfTop tops A.world.disk p → Free xs n → NamesGo A (All xs n A)
-  excludes [] n A c sees of free = record { acts = []; may = tt; there = (only_same A, sees, record { keeps = λ h. h; gets = λ on there. absurd (cc on) }) }
+  pub excludes : (xs : List ℕ) (n : Naming) (A : Office) → names.Named A → SeesNaming x tops n A.world.disk A.names →
+      IsOfTop tops A.world.disk p → Free xs n → NamesGo A (All xs n A)
+  excludes [] n A c sees of free =
+      record { acts = []; may = tt; there = (only_same A, sees, record { keeps = λ h. h; gets = λ on there. absurd (cc on) }) }
   excludes (y ∷ ys) n A c sees of free =
       let first = one_lock y n A (at_number y n.objects) refl (free y (or_left (y == y) (order.has ys y) (test_same y))) c sees of in
       let B : Office = end_of A first.acts in
       let m : Naming = (let s = lock_one y p n (at_number y n.objects) in s.part) in
-      let later = excludes ys m B (runs_keep A first.acts first.may c) first.there.1 (subst (λ (W : World). IsOfTop tops W.disk p) (sym first.there.0.world) of)
+      let later = excludes ys m B (runs_keep A first.acts first.may c) first.there.1
+      (subst (λ (W : World). IsOfTop tops W.disk p) (sym first.there.0.world) of)
       (λ z on. stays_free y n (at_number y n.objects) refl (on_own A.world.disk of) z (free z (or_right (y == z) (order.has ys z) on))) in
       record {
         acts = first.acts ++ later.acts;
@@ -332,7 +394,8 @@ module _ (x : ℕ) (tops : Kinds) (p : Path) where
           later.there.1,
           record {
             keeps = λ h. later.there.2.keeps (first.there.2.keeps h);
-            gets = λ on there. ⊎_elim (λ here. later.there.2.keeps (first.there.2.gets (or_left (y == x) false here) there)) (λ more. later.there.2.gets more (still_there y n (at_number y n.objects) there)) (or_cases (y == x) (order.has ys x) on);
+            gets = λ on there. ⊎_elim (λ here. later.there.2.keeps (first.there.2.gets (or_left (y == x) false here) there))
+                (λ more. later.there.2.gets more (still_there y n (at_number y n.objects) there)) (or_cases (y == x) (order.has ys x) on);
           },
         );
       }

@@ -1,15 +1,10 @@
 -- What every effect leaves of who was confirmed as one that changes nothing, of who is at its end, and of what begins; and who may not be
 -- confirmed isn't.
-use Rattle.std.proofs.Common.{◌≡◌, ◌⊎◌, ◌||◌, ℕ, Bool, List, [], ◌∷◌, true, false, refl, sym, ◌∙◌, ap, subst, inl, inr, ⊎_elim}
-use Rattle.arj_law_disk.specs.machine.Effects as machine
-use Rattle.arj_law_disk.specs.machine.Effects.{World, Allowed, Follows, after, run}
-use Rattle.arj_law_disk.specs.machine.Guards.{AreOnlyOf, Confirms, IsPresent, Note, is_only_of}
-use Rattle.arj_law_disk.specs.machine.Names.{Office}
-use Rattle.arj_law_disk.specs.machine.State.{Confirming, Gone, Preparing, State, is_gone, undecided}
-use Rattle.arj_law_disk.specs.machine.Words.{put}
-use Rattle.arj_law_disk.proofs.machine.Base.{falls_to, never, or_left, put_cases}
-use Rattle.arj_law_disk_view.specs.view.Sees.{Along}
-use Rattle.arj_law_disk_view.specs.names.Both.{GoesOnward, IsPassedNow}
+use Rattle.arj_law_parts.proofs.Words.{◌≡◌, ◌⊎◌, ◌||◌, ℕ, Bool, List, [], ◌∷◌, true, false, refl, sym, ◌∙◌, ap, subst, inl, inr, ⊎_elim}
+use Rattle.arj_law_disk_view.proofs.Terms
+use Terms.{World, Allowed, Follows, after, run, AreOnlyOf, Confirms, IsPresent, Note, is_only_of, Office, Confirming, Gone, Preparing}
+use Terms.{State, is_gone, undecided, put, falls_to, never, or_left, put_cases, Along, GoesOnward, IsPassedNow}
+use Terms.machine
 
 -- ---- of the machine
 
@@ -28,11 +23,13 @@ onward_on U W V a b = record {
   root = b.root ∙ a.root;
   light = λ t on. b.light t (a.light t on);
   gone = λ t on. b.gone t (a.gone t on);
-  begins = λ t on. ⊎_elim (λ old. a.begins t old) (λ open_root. inr (falls_to (is_gone (U.disk.stage (U.disk.root t))) (λ gone. never (a.gone (W.disk.root t) (ap (λ f. is_gone (U.disk.stage (f t))) a.root ∙ gone)) open_root))) (b.begins t on);
+  begins = λ t on. ⊎_elim (λ old. a.begins t old) (λ open_root. inr (falls_to (is_gone (U.disk.stage (U.disk.root t)))
+      (λ gone. never (a.gone (W.disk.root t) (ap (λ f. is_gone (U.disk.stage (f t))) a.root ∙ gone)) open_root))) (b.begins t on);
 }
 
 -- an effect that leaves stages, beginnings and confirmations
-still : (W : World) (e : machine.Effect) → (after W e).disk.root ≡ W.disk.root → (after W e).disk.light ≡ W.disk.light → (after W e).disk.stage ≡ W.disk.stage → (after W e).disk.begun ≡ W.disk.begun → IsOnward W (after W e)
+still : (W : World) (e : machine.Effect) → (after W e).disk.root ≡ W.disk.root → (after W e).disk.light ≡ W.disk.light →
+    (after W e).disk.stage ≡ W.disk.stage → (after W e).disk.begun ≡ W.disk.begun → IsOnward W (after W e)
 still W e root light stage begun = record {
   root = root;
   light = λ t on. ap (λ f. f t) light ∙ on;
@@ -41,7 +38,8 @@ still W e root light stage begun = record {
 }
 
 -- one that ends an action
-ends : (W : World) (e : machine.Effect) (z : ℕ) → (after W e).disk.root ≡ W.disk.root → (after W e).disk.light ≡ W.disk.light → (after W e).disk.stage ≡ put z Gone W.disk.stage → (after W e).disk.begun ≡ W.disk.begun → IsOnward W (after W e)
+ends : (W : World) (e : machine.Effect) (z : ℕ) → (after W e).disk.root ≡ W.disk.root → (after W e).disk.light ≡ W.disk.light →
+    (after W e).disk.stage ≡ put z Gone W.disk.stage → (after W e).disk.begun ≡ W.disk.begun → IsOnward W (after W e)
 ends W e z root light stage begun = record {
   root = root;
   light = λ t on. ap (λ f. f t) light ∙ on;
@@ -53,14 +51,17 @@ pub effect_onward : (W : World) (e : machine.Effect) → Allowed W e → IsOnwar
 effect_onward W (machine.Begin t p) can = record {
   root = refl;
   light = λ z on. on;
-  gone = λ z on. put_cases (λ s. is_gone s ≡ true) t Preparing W.disk.stage z (λ same. absurd (never on (ap is_gone (ap W.disk.stage same ∙ can.idle)))) (λ other. on);
-  begins = λ z. put_cases (λ b. b ≡ true → (W.disk.begun z ≡ true) ⊎ (is_gone (W.disk.stage (W.disk.root z)) ≡ false)) t true W.disk.begun z (λ same on. inr (ap (λ y. is_gone (W.disk.stage (W.disk.root y))) same ∙ can.root)) (λ other on. inl on);
+  gone = λ z on. put_cases (λ s. is_gone s ≡ true) t Preparing W.disk.stage z
+      (λ same. absurd (never on (ap is_gone (ap W.disk.stage same ∙ can.idle)))) (λ other. on);
+  begins = λ z. put_cases (λ b. b ≡ true → (W.disk.begun z ≡ true) ⊎ (is_gone (W.disk.stage (W.disk.root z)) ≡ false)) t true W.disk.begun z
+      (λ same on. inr (ap (λ y. is_gone (W.disk.stage (W.disk.root y))) same ∙ can.root)) (λ other on. inl on);
 }
 effect_onward W (machine.Take t s) can = still W (machine.Take t s) refl refl refl refl
 effect_onward W (machine.Seal t) can = record {
   root = refl;
   light = λ z on. on;
-  gone = λ z on. put_cases (λ s. is_gone s ≡ true) t Confirming W.disk.stage z (λ same. absurd (never on (ap is_gone (ap W.disk.stage same ∙ can)))) (λ other. on);
+  gone = λ z on. put_cases (λ s. is_gone s ≡ true) t Confirming W.disk.stage z
+      (λ same. absurd (never on (ap is_gone (ap W.disk.stage same ∙ can)))) (λ other. on);
   begins = λ z on. inl on;
 }
 effect_onward W (machine.Intend t nodes) can = still W (machine.Intend t nodes) refl refl refl refl
@@ -75,7 +76,8 @@ effect_onward W (machine.Drop s h) can = still W (machine.Drop s h) refl refl re
 effect_onward W (machine.Agree t) can = still W (machine.Agree t) refl refl refl refl
 effect_onward W (machine.Pass t) can = record {
   root = refl;
-  light = λ z on. put_cases (λ b. b ≡ true) t (W.disk.light t || undecided W.disk t) W.disk.light z (λ same. or_left (W.disk.light t) (undecided W.disk t) (ap W.disk.light (sym same) ∙ on)) (λ other. on);
+  light = λ z on. put_cases (λ b. b ≡ true) t (W.disk.light t || undecided W.disk t) W.disk.light z
+      (λ same. or_left (W.disk.light t) (undecided W.disk t) (ap W.disk.light (sym same) ∙ on)) (λ other. on);
   gone = λ z on. on;
   begins = λ z on. inl on;
 }
@@ -88,7 +90,8 @@ effect_onward W (machine.Send m) can = still W (machine.Send m) refl refl refl r
 
 pub effects_onward : (W : World) (es : List machine.Effect) → Follows W es → IsOnward W (run W es)
 effects_onward W [] follows = onward_same W
-effects_onward W (e ∷ es) follows = onward_on W (after W e) (run (after W e) es) (effect_onward W e follows.0) (effects_onward (after W e) es follows.1)
+effects_onward W (e ∷ es) follows =
+    onward_on W (after W e) (run (after W e) es) (effect_onward W e follows.0) (effects_onward (after W e) es follows.1)
 
 -- ---- who may not be confirmed isn't
 
@@ -106,9 +109,11 @@ module _ (f : Note → Bool) (z : ℕ) (none : f (Confirms z) ≡ false) where
   unconfirmed S (machine.Move s h) is on = on
   unconfirmed S (machine.Finish s h) is on = on
   unconfirmed S (machine.Drop s h) is on = on
-  unconfirmed S (machine.Agree t) is on = put_cases (λ b. b ≡ true → S.conf z ≡ true) t (S.conf t || undecided S t) S.conf z (λ same b. absurd (never (ap (λ k. f (Confirms k)) same ∙ is) none)) (λ other b. b) on
+  unconfirmed S (machine.Agree t) is on = put_cases (λ b. b ≡ true → S.conf z ≡ true) t (S.conf t || undecided S t) S.conf z
+      (λ same b. absurd (never (ap (λ k. f (Confirms k)) same ∙ is) none)) (λ other b. b) on
   unconfirmed S (machine.Pass t) is on = on
-  unconfirmed S (machine.Enter t) is on = put_cases (λ b. b ≡ true → S.conf z ≡ true) t (S.conf t || undecided S t) S.conf z (λ same b. absurd (never (ap (λ k. f (Confirms k)) same ∙ is) none)) (λ other b. b) on
+  unconfirmed S (machine.Enter t) is on = put_cases (λ b. b ≡ true → S.conf z ≡ true) t (S.conf t || undecided S t) S.conf z
+      (λ same b. absurd (never (ap (λ k. f (Confirms k)) same ∙ is) none)) (λ other b. b) on
   unconfirmed S (machine.MoveEntry h) is on = on
   unconfirmed S (machine.FinishEntry h) is on = on
   unconfirmed S (machine.DropEntry h) is on = on
@@ -138,7 +143,8 @@ module _ (f : Note → Bool) (z : ℕ) (none : f (Confirms z) ≡ false) where
   unlit S (machine.Finish s h) is on = on
   unlit S (machine.Drop s h) is on = on
   unlit S (machine.Agree t) is on = on
-  unlit S (machine.Pass t) is on = put_cases (λ b. b ≡ true → S.light z ≡ true) t (S.light t || undecided S t) S.light z (λ same b. absurd (never (ap (λ k. f (Confirms k)) same ∙ is) none)) (λ other b. b) on
+  unlit S (machine.Pass t) is on = put_cases (λ b. b ≡ true → S.light z ≡ true) t (S.light t || undecided S t) S.light z
+      (λ same b. absurd (never (ap (λ k. f (Confirms k)) same ∙ is) none)) (λ other b. b) on
   unlit S (machine.Enter t) is on = on
   unlit S (machine.MoveEntry h) is on = on
   unlit S (machine.FinishEntry h) is on = on
@@ -160,13 +166,21 @@ along_onward f W V a = subst (IsOnward W) a.here (effects_onward W a.effects a.a
 -- ---- of offices
 
 -- where nobody may be confirmed
-pub goes_onward : (f : Note → Bool) → ((z : ℕ) → f (Confirms z) ≡ false) → (A B : Office) → Along (record { from = A.world; noted = f }) B.world → GoesOnward A B
+pub goes_onward : (f : Note → Bool) → ((z : ℕ) → f (Confirms z) ≡ false) → (A B : Office) →
+    Along (record { from = A.world; noted = f }) B.world → GoesOnward A B
 goes_onward f none A B a =
     let o = along_onward f A.world B.world a in
-    record { conf = λ z on. inl (none_confirmed f z (none z) A.world B.world a on); passed = λ z on. inl (none_passed f z (none z) A.world B.world a on); light = o.light; gone = o.gone; begins = o.begins }
+    record {
+      conf = λ z on. inl (none_confirmed f z (none z) A.world B.world a on);
+      passed = λ z on. inl (none_passed f z (none z) A.world B.world a on);
+      light = o.light;
+      gone = o.gone;
+      begins = o.begins;
+    }
 
 -- where the machine came to this world, and nobody was confirmed
-pub onward_still : (A C : Office) (W : World) → IsOnward A.world W → ((z : ℕ) → W.disk.conf z ≡ true → A.world.disk.conf z ≡ true) → ((z : ℕ) → W.disk.light z ≡ true → A.world.disk.light z ≡ true) → C.world ≡ W → GoesOnward A C
+pub onward_still : (A C : Office) (W : World) → IsOnward A.world W → ((z : ℕ) → W.disk.conf z ≡ true → A.world.disk.conf z ≡ true) →
+    ((z : ℕ) → W.disk.light z ≡ true → A.world.disk.light z ≡ true) → C.world ≡ W → GoesOnward A C
 onward_still A C W o conf light is = record {
   conf = λ z on. inl (conf z (ap (λ (V : World). V.disk.conf z) (sym is) ∙ on));
   passed = λ z on. inl (light z (ap (λ (V : World). V.disk.light z) (sym is) ∙ on));
@@ -176,22 +190,33 @@ onward_still A C W o conf light is = record {
 }
 
 -- where naming confirmed a top first, whose grants are present
-pub onward_by : (A C : Office) (f : machine.Effect) → Allowed A.world f → ((z : ℕ) → (after A.world f).disk.conf z ≡ true → (A.world.disk.conf z ≡ true) ⊎ IsPresent A.world.disk A.names z)
-    → ((z : ℕ) → (after A.world f).disk.light z ≡ true → (A.world.disk.light z ≡ true) ⊎ IsPassedNow A.world.disk A.world.disk A.names z) → Along (record { from = after A.world f; noted = λ n. false }) C.world
+pub onward_by : (A C : Office) (f : machine.Effect) → Allowed A.world f →
+    ((z : ℕ) → (after A.world f).disk.conf z ≡ true → (A.world.disk.conf z ≡ true) ⊎ IsPresent A.world.disk A.names z)
+    → ((z : ℕ) → (after A.world f).disk.light z ≡ true → (A.world.disk.light z ≡ true) ⊎ IsPassedNow A.world.disk A.world.disk A.names z)
+    → Along (record { from = after A.world f; noted = λ n. false }) C.world
     → C.names.had ≡ A.names.had → C.names.inc ≡ A.names.inc → GoesOnward A C
 onward_by A C f allowed confirms passes a had inc = record {
-  conf = λ z on. ⊎_elim (λ old. inl old) (λ present. inr (stays z present)) (confirms z (none_confirmed (λ n. false) z refl (after A.world f) C.world a on));
-  passed = λ z on. ⊎_elim (λ old. inl old) (λ (p : IsPassedNow A.world.disk A.world.disk A.names z). inr (record { begun = p.begun; sealed = p.sealed; opened = p.opened; unconfirmed = p.unconfirmed; present = λ part. stays z (p.present part) })) (passes z (none_passed (λ n. false) z refl (after A.world f) C.world a on));
+  conf = λ z on. ⊎_elim (λ old. inl old) (λ present. inr (stays z present))
+      (confirms z (none_confirmed (λ n. false) z refl (after A.world f) C.world a on));
+  passed = λ z on. ⊎_elim (λ old. inl old) (λ (p : IsPassedNow A.world.disk A.world.disk A.names z). inr (record {
+    begun = p.begun;
+    sealed = p.sealed;
+    opened = p.opened;
+    unconfirmed = p.unconfirmed;
+    present = λ part. stays z (p.present part);
+  })) (passes z (none_passed (λ n. false) z refl (after A.world f) C.world a on));
   light = o.light;
   gone = o.gone;
   begins = o.begins;
 }
   where
     o : IsOnward A.world C.world
-    o = onward_on A.world (after A.world f) C.world (effect_onward A.world f allowed) (along_onward (λ n. false) (after A.world f) C.world a)
+    o = onward_on A.world (after A.world f) C.world (effect_onward A.world f allowed)
+        (along_onward (λ n. false) (after A.world f) C.world a)
 
     root : C.world.disk.root ≡ A.world.disk.root
     root = o.root
 
     stays : (z : ℕ) → IsPresent A.world.disk A.names z → IsPresent C.world.disk C.names z
-    stays z present i h = present i (⊎_elim (λ own. inl (ap (λ g. g z i) (sym had) ∙ own)) (λ kept. inr (ap (λ r. A.names.had (r z) i) (sym root) ∙ ap (λ g. g (C.world.disk.root z) i) (sym had) ∙ kept)) h) ∙ sym inc
+    stays z present i h = present i (⊎_elim (λ own. inl (ap (λ g. g z i) (sym had) ∙ own))
+        (λ kept. inr (ap (λ r. A.names.had (r z) i) (sym root) ∙ ap (λ g. g (C.world.disk.root z) i) (sym had) ∙ kept)) h) ∙ sym inc

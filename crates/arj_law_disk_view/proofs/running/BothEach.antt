@@ -1,37 +1,17 @@
--- Both halves of the object's machine are carried by each handler, and so they are there in each world that is reached; and copies agree in it.
-use Rattle.std.proofs.Common.{◌≡◌, ◌==◌, ℕ, List, [], ◌+◌, Bool, true, false, Option, Some, None, refl, ap, subst, is_some}
-use Rattle.std.specs.Prelude.{option_map}
-use Rattle.arj_lock.proofs.Members.{in_from}
-use Rattle.arj_protocol.specs.Words.{Header, Message, ObjectState, entry}
-use Rattle.arj_protocol.specs.Ask.{top_of}
-use Rattle.arj_protocol.specs.Effect.{Disk, held_at}
-use Rattle.arj_protocol.specs.Naming.{Naming}
-use Rattle.arj_protocol.specs.Node.{Parts}
-use Rattle.arj_protocol.specs.Step.{Node}
-use Rattle.arj_protocol.specs.World.{format}
-use Rattle.arj_law_disk.specs.machine.Effects.{World}
-use Rattle.arj_law_disk.specs.machine.Names.{Office}
-use Rattle.arj_law_disk.specs.machine.State.{Packed}
-use Rattle.arj_law_parts.specs.moves.Keeps.{Keeps}
-use Rattle.arj_law_parts.specs.moves.Seen.{up}
-use Rattle.arj_promise.specs.Runs.{Seen, see}
-use Rattle.arj_law_disk_view.specs.view.Coordinating.{KnowsNode}
-use Rattle.arj_law_disk_view.specs.view.Pairs.{packed_entry}
-use Rattle.arj_law_disk_view.specs.view.Sees.{Kinds}
-use Rattle.arj_law_disk_view.specs.names.Both.{SeesBoth}
-use Rattle.arj_law_disk_view.specs.names.Handlers.{CountsOn, IsForGrants, MayRecord}
-use Rattle.arj_law_runs.proofs.calls.Given.{kept_both, keeps_given}
-use Rattle.arj_law_disk_view.specs.running.Entries.{HaveEntries, IsInStep, KnowsEntries}
-use Rattle.arj_law_disk_view.specs.running.Kinds.{Agrees, AreOfTops, kinds_of}
-use Rattle.arj_law_disk_view.specs.running.Part.{KeepsPart}
-use Rattle.arj_law_disk_view.proofs.running.Begun.{kinds_agree}
-use Rattle.arj_law_disk_view.proofs.running.EntryKeeps.{keeps_entries}
-use Rattle.arj_law_disk_view.proofs.running.EntryWalks.{mine_of}
-use Rattle.arj_law_disk_view.proofs.running.HeardMessage.{of_top}
+-- Both halves of the object's machine are carried by each handler, and so they are there in each world that is reached; and copies agree in
+-- it.
+use Rattle.arj_law_parts.proofs.Words
+use Words.{◌≡◌, ◌==◌, ℕ, [], true, Option, Some, None, refl, ap, subst, is_some, option_map, in_from, Header, Message, ObjectState, entry}
+use Words.{top_of, Disk, held_at, Naming, Parts, Node, format, Seen, see}
+use Rattle.arj_law_disk_view.proofs.Terms
+use Terms.{World, Office, Packed, Keeps, up, KnowsNode, packed_entry, Kinds, SeesBoth, CountsOn, IsForGrants, MayRecord, kept_both}
+use Terms.{keeps_given, HaveEntries, IsInStep, KnowsEntries, Agrees, AreOfTops, kinds_of, KeepsPart}
+use Rattle.arj_law_disk_view.proofs.running.{Begun.kinds_agree, EntryKeeps.keeps_entries, EntryWalks.mine_of, HeardMessage.of_top}
 
 -- ---- what naming's half counts on
 
-pub counted : (x : ℕ) (tops : Kinds) (k : ℕ) (d : Disk) (t : Parts) (M : Seen) (m : Message) (A : Office) (n : Naming) → KnowsNode tops k d t M → HaveEntries x (up k d t M) → SeesBoth x tops A (up k d t M) → AreOfTops tops m → t.naming ≡ Some n
+pub counted : (x : ℕ) (tops : Kinds) (k : ℕ) (d : Disk) (t : Parts) (M : Seen) (m : Message) (A : Office) (n : Naming) →
+    KnowsNode tops k d t M → HaveEntries x (up k d t M) → SeesBoth x tops A (up k d t M) → AreOfTops tops m → t.naming ≡ Some n
     → MayRecord x d n m A × IsForGrants x d n m A → CountsOn x tops d n m A
 counted x tops k d t M m A n knows have both of is it = record {
   path = λ h a asked. of_top tops A.world.disk h.path knows.kinds (let s = both.disks in s.fixed) (of h a asked);
@@ -42,10 +22,12 @@ counted x tops k d t M m A n knows have both of is it = record {
 }
   where
     here : IsInStep x n d.names
-    here = let e = mine_of x k d (Some t) M have (ap (λ z. 1 == z) (knows.naming_here n is).0) in subst (λ o. KnowsEntries x o d.names) is (e.live t refl)
+    here = let e = mine_of x k d (Some t) M have (ap (λ z. 1 == z) (knows.naming_here n is).0) in
+        subst (λ o. KnowsEntries x o d.names) is (e.live t refl)
 
 -- entries at naming are kept beside, where both halves of the object are seen at first
-pub with_entries : (hd : Header) (x : ℕ) (R : Seen → Type 0) (S : World → Seen → Type 0) (P : Kinds → Office → Seen → Type 0) → KeepsPart hd x S P → Keeps hd R → Keeps hd (λ M. R M × HaveEntries x M)
+pub with_entries : (hd : Header) (x : ℕ) (R : Seen → Type 0) (S : World → Seen → Type 0) (P : Kinds → Office → Seen → Type 0) →
+    KeepsPart hd x S P → Keeps hd R → Keeps hd (λ M. R M × HaveEntries x M)
 with_entries hd x R S P parts kept = kept_both hd R (HaveEntries x) kept (keeps_given hd R (HaveEntries x) (keeps_entries x hd there))
   where
     none : Agrees (kinds_of []) []

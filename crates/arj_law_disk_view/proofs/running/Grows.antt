@@ -1,39 +1,20 @@
 -- What a walk of an object's machine decides, and by whom; and what more lines say.
-use Rattle.std.proofs.Common.{◌≡◌, ◌⊎◌, ◌==◌, ℕ, List, [], ◌∷◌, ◌++◌, Bool, true, false, Option, Some, None, refl, sym, ◌∙◌, ap, subst, inl, inr, ⊎_elim, eqb-true}
-use Rattle.std.specs.Prelude.{Contains, if◌then◌else◌}
-use Rattle.arj_base.specs.Rows.{is_on}
-use Rattle.arj_lock.proofs.Members.{in_from, in_to}
-use Rattle.arj_protocol.specs.Words.{Asked, Ask, BoundReply, Head, Line, Message, Uid, asks}
-use Rattle.arj_protocol.specs.Words.ask
-use Rattle.arj_protocol.specs.Ask.{Reply, answers}
-use Rattle.arj_protocol.specs.Commit as commit
-use Rattle.arj_protocol.specs.Commit.{Machine}
-use Rattle.arj_protocol.specs.Coord.{Calling, Committing, Coord, Doing, Idle as Waiting, Now, doing_of}
-use Rattle.arj_protocol.specs.Effect.{Disk, Intent}
-use Rattle.arj_protocol.specs.Naming.{Naming}
-use Rattle.arj_protocol.specs.Node.{Parts}
-use Rattle.arj_protocol.specs.Order.{uid_number}
-use Rattle.arj_protocol.specs.Step.{is_committing_now}
-use Rattle.arj_protocol.proofs.Numbers.{number_tells}
-use Rattle.arj_law_disk.specs.machine.Effects as machine
-use Rattle.arj_law_disk.specs.machine.Effects.{Effect, Follows, World, after, done_of, run}
-use Rattle.arj_law_disk.specs.machine.Guards.{AreOnlyOf, Decides, Note, is_only_of, only_decides}
-use Rattle.arj_law_disk.specs.machine.Names.{Office}
-use Rattle.arj_law_disk.specs.machine.State.{Done, decided, decided_in}
-use Rattle.arj_law_disk.specs.machine.Words.{In}
-use Rattle.arj_law_disk.proofs.machine.Base.{bool_cases, never, or_cases, or_right}
-use Rattle.arj_law_parts.specs.moves.Seen.{down, up}
-use Rattle.arj_promise.specs.Runs.{Seen}
-use Rattle.arj_law_disk_view.specs.view.Coordinating.{KnowsNode}
-use Rattle.arj_law_disk_view.specs.view.Sees.{Along, Kinds}
+use Rattle.arj_law_parts.proofs.Words
+use Words.{◌≡◌, ◌⊎◌, ◌==◌, ℕ, List, [], ◌∷◌, ◌++◌, Bool, true, false, Option, Some, None, refl, sym, ◌∙◌, ap, subst, inl, inr, ⊎_elim}
+use Words.{eqb-true, Contains, if◌then◌else◌, is_on, in_from, in_to, Asked, Ask, BoundReply, Head, Line, Message, Uid, asks, Reply, answers}
+use Words.{Machine, Calling, Committing, Coord, Doing, Idle as Waiting, Now, doing_of, Disk, Intent, Naming, Parts, uid_number}
+use Words.{is_committing_now, number_tells, Seen}
+use Words.ask
+use Words.commit
+use Rattle.arj_law_disk_view.proofs.Terms
+use Terms.{Effect, Follows, World, after, done_of, run, AreOnlyOf, Decides, Note, is_only_of, only_decides, Office, Done, decided}
+use Terms.{decided_in, In, bool_cases, never, or_cases, or_right, down, up, KnowsNode, Along, Kinds, Answering, Change, Changes, Deciding}
+use Terms.{Quietly, answer_change, ask_change, asked_change, bind_change, change_by, doing_change, now_change, reply_change, book, new_book}
+use Terms.{IsKept, KnowsUp, Later, book_more, AreOnce, NewTops, are_recorded}
+use Terms.machine
 use Rattle.arj_law_disk_view.proofs.view.Frames.{node_here}
-use Rattle.arj_law_disk_view.specs.names.Handlers.{Answering, Change, Changes, Deciding, Quietly, answer_change, ask_change, asked_change, bind_change, change_by, doing_change, now_change, reply_change}
-use Rattle.arj_law_runs.specs.journal.Book.{book, new_book}
-use Rattle.arj_law_runs.specs.journal.Knows.{IsKept, KnowsUp}
+use Rattle.arj_law_runs.proofs.journal.Books.{later_from}
 use Rattle.arj_law_runs.specs.journal.Right.{MayBeFound}
-use Rattle.arj_law_runs.proofs.journal.Books.{Later, book_more, later_from}
-use Rattle.arj_law_disk_view.specs.running.Decided.{AreOnce, NewTops}
-use Rattle.arj_law_disk_view.specs.running.Part.{are_recorded}
 
 pub in_both : (d : Done) (xs ys : List Done) → In d (xs ++ ys) → In d xs ⊎ In d ys
 in_both d [] ys i = inr i
@@ -68,7 +49,8 @@ module _ (f : Note → Bool) where
   same_tops W V is = record { new = []; are = is; undone = λ d i. absurd i; once = λ o. subst AreOnce (sym is) o; noted = λ d i. absurd i }
 
   effect_grows : (W : World) (e : Effect) → is_only_of f e ≡ true → machine.Allowed W e → Grew f W (after W e)
-  effect_grows W (machine.Decide t) only can = record { new = done_of W.disk t ∷ []; are = refl; undone = λ d i. by d i; once = λ o. (can.1, o); noted = λ d i. on d i }
+  effect_grows W (machine.Decide t) only can =
+      record { new = done_of W.disk t ∷ []; are = refl; undone = λ d i. by d i; once = λ o. (can.1, o); noted = λ d i. on d i }
     where
       by : (d : Done) → In d (done_of W.disk t ∷ []) → decided W.disk d.top ≡ false
       by d (inl same) = ap (λ (c : Done). decided W.disk c.top) (sym same) ∙ can.1
@@ -115,11 +97,13 @@ module _ (f : Note → Bool) where
       among t (x ∷ xs) ys on = or_right (x.top == t) (decided_in (xs ++ ys) t) (among t xs ys on)
 
       earlier : (d : Done) → decided U.disk d.top ≡ false → decided W.disk d.top ≡ false
-      earlier d off = ⊎_elim (λ on. absurd (never (ap (λ ds. decided_in ds d.top) a.are ∙ among d.top a.new W.disk.tops on) off)) (λ no. no) (bool_cases (decided W.disk d.top))
+      earlier d off = ⊎_elim (λ on. absurd (never (ap (λ ds. decided_in ds d.top) a.are ∙ among d.top a.new W.disk.tops on) off)) (λ no. no)
+          (bool_cases (decided W.disk d.top))
 
   pub effects_grow : (W : World) (es : List Effect) → AreOnlyOf f es → Follows W es → Grew f W (run W es)
   effects_grow W [] only follows = same_tops W W refl
-  effects_grow W (e ∷ es) only follows = grown_on W (after W e) (run W (e ∷ es)) (effect_grows W e only.0 follows.0) (effects_grow (after W e) es only.1 follows.1)
+  effects_grow W (e ∷ es) only follows =
+      grown_on W (after W e) (run W (e ∷ es)) (effect_grows W e only.0 follows.0) (effects_grow (after W e) es only.1 follows.1)
 
 -- ---- who may be decided
 
@@ -140,7 +124,8 @@ top_in o = None
 pub no_decision : {A : Type 0} (o : Change) (z : ℕ) (keeps : Bool) → top_in o ≡ None → o ≡ Deciding z keeps → A
 no_decision o z keeps none is = let no_way : ◌≡◌ {A = Option ℕ} None (Some z) = sym none ∙ ap top_in is in cc
 
-pub who_decides : (x : ℕ) (d : Disk) (t : Parts) (m : Message) (z : ℕ) (keeps : Bool) → change_by x d t m ≡ Deciding z keeps → IsCommitting t.coord z
+pub who_decides : (x : ℕ) (d : Disk) (t : Parts) (m : Message) (z : ℕ) (keeps : Bool) → change_by x d t m ≡ Deciding z keeps →
+    IsCommitting t.coord z
 who_decides x d t m z keeps is = by (asks m) is
   where
     replied : (y : ℕ) (u : Uid) (o : Option BoundReply) → top_in (answer_change x y u o) ≡ None
@@ -168,17 +153,21 @@ who_decides x d t m z keeps is = by (asks m) is
     some_is : (a b : ℕ) → Some a ≡ Some b → a ≡ b
     some_is a b e = let q : ◌≡◌ {A = Option ℕ} (Some a) (Some b) = e in cc
 
-    by_machine : (u : Uid) (q : Doing) → doing_of u t.coord ≡ Some q → (j : Machine) → q.now ≡ Committing j → now_change x u t.coord (Committing j) ≡ Deciding z keeps → IsCommitting t.coord z
+    by_machine : (u : Uid) (q : Doing) → doing_of u t.coord ≡ Some q → (j : Machine) → q.now ≡ Committing j →
+        now_change x u t.coord (Committing j) ≡ Deciding z keeps → IsCommitting t.coord z
     by_machine u q does (commit.Voting p left) at e = no_decision Quietly z keeps refl e
     by_machine u q does (commit.Preparing p left) at e = no_decision Quietly z keeps refl e
-    by_machine u q does (commit.Confirming p) at e = record { top = u; doing = q; machine = commit.Confirming p; does = does; now = at; number = some_is (uid_number u) z (ap top_in e) }
+    by_machine u q does (commit.Confirming p) at e =
+        record { top = u; doing = q; machine = commit.Confirming p; does = does; now = at; number = some_is (uid_number u) z (ap top_in e) }
 
-    by_now : (u : Uid) (q : Doing) → doing_of u t.coord ≡ Some q → (n : Now) → q.now ≡ n → now_change x u t.coord n ≡ Deciding z keeps → IsCommitting t.coord z
+    by_now : (u : Uid) (q : Doing) → doing_of u t.coord ≡ Some q → (n : Now) → q.now ≡ n → now_change x u t.coord n ≡ Deciding z keeps →
+        IsCommitting t.coord z
     by_now u q does Waiting at e = no_decision Quietly z keeps refl e
     by_now u q does (Calling s) at e = no_decision Quietly z keeps refl e
     by_now u q does (Committing j) at e = by_machine u q does j at e
 
-    by_doing : (u : Uid) (o : Option Doing) → doing_of u t.coord ≡ o → doing_change x u t.coord o ≡ Deciding z keeps → IsCommitting t.coord z
+    by_doing : (u : Uid) (o : Option Doing) → doing_of u t.coord ≡ o → doing_change x u t.coord o ≡ Deciding z keeps →
+        IsCommitting t.coord z
     by_doing u None does e = no_decision Quietly z keeps refl e
     by_doing u (Some q) does e = by_now u q does q.now refl e
 
@@ -191,20 +180,27 @@ who_decides x d t m z keeps is = by (asks m) is
     by (Some a) e = no_decision (ask_change x d t a.0 a.1) z keeps (asked a.0 a.1) e
 
 -- its commit was called
-pub called_there : (tops : Kinds) (k : ℕ) (d : Disk) (t : Parts) (M : Seen) → KnowsNode tops k d t M → IsKept (up k d t M) → (z : ℕ) → IsCommitting t.coord z → (u : Uid) → uid_number u ≡ z → is_on (book M.lines).called u ≡ true
+pub called_there : (tops : Kinds) (k : ℕ) (d : Disk) (t : Parts) (M : Seen) → KnowsNode tops k d t M → IsKept (up k d t M) → (z : ℕ) →
+    IsCommitting t.coord z → (u : Uid) → uid_number u ≡ z → is_on (book M.lines).called u ≡ true
 called_there tops k d t M n kept z c u uz =
     let m = (let q = n.coord in q.machines c.top c.doing c.machine c.does c.now) in
     let w = kept.1 in
-    let node = w.nodes k (record { number = k; disk = d; live = Some t }) (node_here M k (record { number = k; disk = d; live = Some t })) in
+    let node = w.nodes k (record { number = k; disk = d; live = Some t })
+    (node_here M k (record { number = k; disk = d; live = Some t })) in
     let l : KnowsUp (book M.lines) d.intents t.coord = node.live t refl in
-    subst (λ v. is_on (book M.lines).called v ≡ true) (number_tells c.top u (c.number ∙ sym uz)) (l.calls c.top m.branch c.doing m.found c.does m.unended ∙ ap is_committing_now c.now)
+    subst (λ v. is_on (book M.lines).called v ≡ true) (number_tells c.top u (c.number ∙ sym uz))
+    (l.calls c.top m.branch c.doing m.found c.does m.unended ∙ ap is_committing_now c.now)
 
 -- a top with a record
-pub recorded_there : (intents : List (Uid × Intent)) (z : ℕ) → are_recorded intents z ≡ true → (e : Uid × Intent) × Contains intents e × (uid_number e.0 ≡ z)
+pub recorded_there : (intents : List (Uid × Intent)) (z : ℕ) → are_recorded intents z ≡ true →
+    (e : Uid × Intent) × Contains intents e × (uid_number e.0 ≡ z)
 recorded_there [] z on = let no_way : false ≡ true = on in cc
-recorded_there (e ∷ es) z on = ⊎_elim (λ here. (e, in_to e (e ∷ es) (inl refl), eqb-true (uid_number e.0) z here)) (λ rest. let r = recorded_there es z rest in (r.0, in_to r.0 (e ∷ es) (inr (in_from r.0 es r.1)), r.2)) (or_cases (uid_number e.0 == z) (are_recorded es z) on)
+recorded_there (e ∷ es) z on =
+    ⊎_elim (λ here. (e, in_to e (e ∷ es) (inl refl), eqb-true (uid_number e.0) z here)) (λ rest. let r = recorded_there es z rest in
+    (r.0, in_to r.0 (e ∷ es) (inr (in_from r.0 es r.1)), r.2)) (or_cases (uid_number e.0 == z) (are_recorded es z) on)
 
-pub found_there : (k : ℕ) (d : Disk) (M : Seen) → IsKept (down k d M) → (z : ℕ) → are_recorded d.intents z ≡ true → (u : Uid) → uid_number u ≡ z → is_on (book M.lines).called u ≡ true
+pub found_there : (k : ℕ) (d : Disk) (M : Seen) → IsKept (down k d M) → (z : ℕ) → are_recorded d.intents z ≡ true → (u : Uid) →
+    uid_number u ≡ z → is_on (book M.lines).called u ≡ true
 found_there k d M kept z on u uz =
     let r = recorded_there d.intents z on in
     let w = kept.1 in
@@ -214,18 +210,28 @@ found_there k d M kept z on u uz =
 
 -- ---- what a step decides
 
-pub along_new : (g : ℕ → Bool) (lines : List Line) (W V : machine.World) → ((z : ℕ) → g z ≡ true → (u : Uid) → uid_number u ≡ z → is_on (book lines).called u ≡ true) → Along (record { from = W; noted = only_decides g }) V → NewTops W V lines
+pub along_new : (g : ℕ → Bool) (lines : List Line) (W V : machine.World) → ((z : ℕ) → g z ≡ true → (u : Uid) → uid_number u ≡ z →
+    is_on (book lines).called u ≡ true) → Along (record { from = W; noted = only_decides g }) V → NewTops W V lines
 along_new g lines W V called a =
     let n = effects_grow (only_decides g) W a.effects a.only a.allowed in
-    record { new = n.new; are = ap (λ (U : machine.World). U.disk.tops) (sym a.here) ∙ n.are; undone = n.undone; once = λ o. subst (λ (U : machine.World). AreOnce U.disk.tops) a.here (n.once o); called = λ d i u ud. called d.top (n.noted d i) u ud }
+    record {
+      new = n.new;
+      are = ap (λ (U : machine.World). U.disk.tops) (sym a.here) ∙ n.are;
+      undone = n.undone;
+      once = λ o. subst (λ (U : machine.World). AreOnce U.disk.tops) a.here (n.once o);
+      called = λ d i u ud. called d.top (n.noted d i) u ud;
+    }
 
 none_new : (lines : List Line) (W V : machine.World) → V.disk.tops ≡ W.disk.tops → NewTops W V lines
-none_new lines W V is = record { new = []; are = is; undone = λ d i. absurd i; once = λ o. subst AreOnce (sym is) o; called = λ d i. absurd i }
+none_new lines W V is =
+    record { new = []; are = is; undone = λ d i. absurd i; once = λ o. subst AreOnce (sym is) o; called = λ d i. absurd i }
 
-pub changes_new : (o : Change) (lines : List Line) (A B : Office) → ((z : ℕ) (keeps : Bool) → o ≡ Deciding z keeps → (u : Uid) → uid_number u ≡ z → is_on (book lines).called u ≡ true) → Changes o A B → NewTops A.world B.world lines
+pub changes_new : (o : Change) (lines : List Line) (A B : Office) → ((z : ℕ) (keeps : Bool) → o ≡ Deciding z keeps → (u : Uid) →
+    uid_number u ≡ z → is_on (book lines).called u ≡ true) → Changes o A B → NewTops A.world B.world lines
 changes_new Quietly lines A B called c = none_new lines A.world B.world c.tops
 changes_new (Answering t r) lines A B called c = none_new lines A.world B.world (let o = c.0 in o.tops)
-changes_new (Deciding t keeps) lines A B called c = along_new (λ z. z == t) lines A.world B.world (λ z on u uz. called t keeps refl u (uz ∙ eqb-true z t on)) c.along
+changes_new (Deciding t keeps) lines A B called c =
+    along_new (λ z. z == t) lines A.world B.world (λ z on u uz. called t keeps refl u (uz ∙ eqb-true z t on)) c.along
 
 pub quietly : {A : Type 0} (z : ℕ) (keeps : Bool) → Quietly ≡ Deciding z keeps → A
 quietly z keeps is = no_decision Quietly z keeps refl is

@@ -1,24 +1,16 @@
 -- What naming answers to a Bind is as it was asked, for an include or for a call; a binding that it names is of its incarnation.
-use Rattle.std.proofs.Common.{◌≡◌, ◌<◌, ◌+◌, ◌&&◌, if◌then◌else◌, not, ℕ, Bool, true, false, Option, Some, None, refl, sym, ◌∙◌, ap, subst, cond}
-use Rattle.std.specs.Prelude.{IfSome, option_map}
-use Rattle.arj_protocol.specs.Words.{Binding, BoundReply, Entry, ObjectState, Path, Row, entry}
-use Rattle.arj_protocol.specs.Words.mode
-use Rattle.arj_protocol.specs.Effect.{Pair, Served, held_at, void}
-use Rattle.arj_protocol.specs.Named.{Counted, Live, Made, Named, bind_call, bind_made, bind_named, conflict_on, include_asked, live_above, live_asked, made_above, make_asked}
-use Rattle.arj_protocol.specs.Naming as naming
-use Rattle.arj_protocol.specs.Naming.{Naming, entry_of, is_over, listed_entry, on_counted}
-use Rattle.arj_protocol.specs.Order.{at_number, at_uid, binding_less}
-use Rattle.arj_protocol.specs.Ask.{top_of}
-use Rattle.arj_law_disk.specs.machine.Effects.{Whole, World}
-use Rattle.arj_law_disk.specs.machine.State.{Packed}
-use Rattle.arj_law_disk.specs.machine.Words.{has}
-use Rattle.arj_law_disk.proofs.machine.Base.{some_is}
-use Rattle.arj_law_disk_view.specs.view.Entries.{SeesEntry}
-use Rattle.arj_law_disk_view.specs.view.Pairs.{packed_entry}
-use Rattle.arj_law_disk_view.specs.running.Bindings.{HasOwnBindings, NamesOwn}
-use Rattle.arj_law_disk_view.specs.running.Heard.{IsOfGoal, NamesNow}
+use Rattle.arj_law_parts.proofs.Words
+use Words.{◌≡◌, ◌<◌, ◌+◌, ◌&&◌, if◌then◌else◌, not, ℕ, Bool, true, false, Option, Some, None, refl, sym, ◌∙◌, ap, subst, cond, IfSome}
+use Words.{option_map, Binding, BoundReply, Entry, ObjectState, Path, Row, entry, Pair, Served, held_at, void, Counted, Live, Made, Named}
+use Words.{bind_call, bind_made, bind_named, conflict_on, include_asked, live_above, live_asked, made_above, make_asked, Naming, entry_of}
+use Words.{is_over, listed_entry, on_counted, at_number, at_uid, binding_less, top_of}
+use Words.mode
+use Words.naming
+use Rattle.arj_law_disk_view.proofs.Terms.{Whole, World, Packed, has, some_is, SeesEntry, packed_entry, NamesOwn, IsOfGoal, NamesNow}
+use Rattle.arj_law_disk_view.specs.running.Bindings.{HasOwnBindings}
 
-answers_so : (n x : ℕ) (p : Path) (include : Bool) (avoid : Binding) (e : Entry) (c : Counted) → IfSome (bind_named n x p include avoid e c).reply (IsOfGoal include)
+answers_so : (n x : ℕ) (p : Path) (include : Bool) (avoid : Binding) (e : Entry) (c : Counted) →
+    IfSome (bind_named n x p include avoid e c).reply (IsOfGoal include)
 answers_so n x p true avoid e c = by (conflict_on x p mode.Write c.named)
   where
     by : (r : Option Row) → IfSome (include_asked n x p e c r).reply (IsOfGoal true)
@@ -42,7 +34,8 @@ answers_so n x p false avoid e c = by (live_above avoid c.named.live)
     by (Some l) = live l (conflict_on x p mode.Read c.named)
     by None = new (conflict_on x p mode.Write c.named)
 
-bind_answers : (p : Path) (x : ℕ) (include : Bool) (avoid : Binding) (d : Pair) (n : Naming) → IfSome (naming.bind p x include avoid d n).reply (IsOfGoal include)
+bind_answers : (p : Path) (x : ℕ) (include : Bool) (avoid : Binding) (d : Pair) (n : Naming) →
+    IfSome (naming.bind p x include avoid d n).reply (IsOfGoal include)
 bind_answers p x include avoid d n = by (is_over p n)
   where
     call : Counted → Served Counted BoundReply
@@ -56,7 +49,8 @@ bind_answers p x include avoid d n = by (is_over p n)
     by true = tt
     by false = there (at_number x n.objects)
 
-pub bind_kind : (p : Path) (x : ℕ) (include : Bool) (avoid : Binding) (d : Pair) (n : Naming) (r : BoundReply) → (naming.bind p x include avoid d n).reply ≡ Some r → IsOfGoal include r
+pub bind_kind : (p : Path) (x : ℕ) (include : Bool) (avoid : Binding) (d : Pair) (n : Naming) (r : BoundReply) →
+    (naming.bind p x include avoid d n).reply ≡ Some r → IsOfGoal include r
 bind_kind p x include avoid d n r is = subst (λ o. IfSome o (IsOfGoal include)) is (bind_answers p x include avoid d n)
 
 -- ---- what it names
@@ -81,7 +75,8 @@ made_is avoid (Some k) m is = by (not k.recorded && binding_less avoid k.binding
     by true at = at
     by false at = absurd (cc at)
 
-names_so : (n x : ℕ) (p : Path) (include : Bool) (avoid : Binding) (e : Entry) (c : Counted) → HasOwnBindings n c.named → c.count + 1 < 4294967296 → HasStore e → IfSome (bind_named n x p include avoid e c).reply NamesNow
+names_so : (n x : ℕ) (p : Path) (include : Bool) (avoid : Binding) (e : Entry) (c : Counted) → HasOwnBindings n c.named →
+    c.count + 1 < 4294967296 → HasStore e → IfSome (bind_named n x p include avoid e c).reply NamesNow
 names_so n x p true avoid e c own next stored = by (conflict_on x p mode.Write c.named)
   where
     by : (r : Option Row) → IfSome (include_asked n x p e c r).reply NamesNow
@@ -90,7 +85,8 @@ names_so n x p true avoid e c own next stored = by (conflict_on x p mode.Write c
 names_so n x p false avoid e c own next stored = by (live_above avoid c.named.live) refl
   where
     made : (m : Option Made) → made_above avoid (at_uid (top_of p) c.named.made) ≡ m → IfSome (bind_made n x p e c m).reply NamesNow
-    made (Some m) is = let b = own.made (top_of p) m (made_is avoid (at_uid (top_of p) c.named.made) m is) in record { inc = b.of; short = b.short; stored = stored }
+    made (Some m) is = let b = own.made (top_of p) m (made_is avoid (at_uid (top_of p) c.named.made) m is) in
+        record { inc = b.of; short = b.short; stored = stored }
     made None is = record { inc = refl; short = next; stored = stored }
 
     new : (r : Option Row) → IfSome (make_asked n x p avoid e c r).reply NamesNow
@@ -106,7 +102,8 @@ names_so n x p false avoid e c own next stored = by (live_above avoid c.named.li
     by None is = new (conflict_on x p mode.Write c.named)
 
 -- a Bind is answered with a binding of naming's incarnation, and with stores, where the object's entry lists some
-pub bind_names : (p : Path) (x : ℕ) (include : Bool) (avoid : Binding) (d : Pair) (n : Naming) (r : BoundReply) → NamesOwn n → HasStore (listed_entry x d) → (naming.bind p x include avoid d n).reply ≡ Some r → NamesNow r
+pub bind_names : (p : Path) (x : ℕ) (include : Bool) (avoid : Binding) (d : Pair) (n : Naming) (r : BoundReply) → NamesOwn n →
+    HasStore (listed_entry x d) → (naming.bind p x include avoid d n).reply ≡ Some r → NamesNow r
 bind_names p x include avoid d n r own stored is = subst (λ o. IfSome o NamesNow) is (by (is_over p n))
   where
     call : Counted → Served Counted BoundReply
@@ -114,7 +111,8 @@ bind_names p x include avoid d n r own stored is = subst (λ o. IfSome o NamesNo
 
     there : (o : Option Named) → at_number x n.objects ≡ o → IfSome (on_counted x call n o).reply NamesNow
     there None at = tt
-    there (Some o) at = names_so n.inc x p include avoid (listed_entry x d) (record { named = o; count = n.count }) (own.objects x o at) own.next stored
+    there (Some o) at =
+        names_so n.inc x p include avoid (listed_entry x d) (record { named = o; count = n.count }) (own.objects x o at) own.next stored
 
     by : (b : Bool) → IfSome (cond b (void n) (on_counted x call n (at_number x n.objects))).reply NamesNow
     by true = tt
@@ -125,5 +123,7 @@ pub entry_stored : (x : ℕ) (d : Pair) (W : World) → Whole W → SeesEntry x 
 entry_stored x d W whole e = by (held_at (entry x) d) refl
   where
     by : (o : Option ObjectState) → held_at (entry x) d ≡ o → HasStore (entry_of o)
-    by None is = absurd (let n : ◌≡◌ {A = Option Packed} None (Some W.disk.entry) = ap (option_map packed_entry) (sym is) ∙ e.pair.held_is in cc)
-    by (Some q) is = let h = whole.core.pending.held in let same : packed_entry q ≡ W.disk.entry = some_is refl (ap (option_map packed_entry) (sym is) ∙ e.pair.held_is) in (h.0, ap (λ (z : Packed). has h.0 z.content) same ∙ h.1)
+    by None is =
+        absurd (let n : ◌≡◌ {A = Option Packed} None (Some W.disk.entry) = ap (option_map packed_entry) (sym is) ∙ e.pair.held_is in cc)
+    by (Some q) is = let h = whole.core.pending.held in let same : packed_entry q ≡ W.disk.entry = some_is refl
+        (ap (option_map packed_entry) (sym is) ∙ e.pair.held_is) in (h.0, ap (λ (z : Packed). has h.0 z.content) same ∙ h.1)

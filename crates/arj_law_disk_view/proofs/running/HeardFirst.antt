@@ -1,33 +1,17 @@
 -- What coordinators have of naming's answers, as a format leaves it; and a root of which the machine has nothing.
-use Rattle.std.proofs.Common.{◌≡◌, ℕ, zero, suc, ◌==◌, if◌then◌else◌, Bool, true, false, List, [], Some, None, refl, sym, ◌∙◌, ap, subst, inl, inr, map, ◌∷◌}
-use Rattle.std.proofs.lemmas.Bool.{and_parts}
-use Rattle.arj_lock.proofs.Members.{in_from}
-use Rattle.arj_protocol.specs.Words.{Header, Uid, nobody}
-use Rattle.arj_protocol.specs.Coord.{Coord, Doing, doing_of, new_coord, no_root}
-use Rattle.arj_protocol.specs.Effect.{Intent}
-use Rattle.arj_protocol.specs.Node.{Parts}
-use Rattle.arj_protocol.specs.Order.{uid_number}
-use Rattle.arj_protocol.specs.Step.{Node, first_disk, first_entry, put_states}
-use Rattle.arj_protocol.specs.Tree.{at_place, is_own}
-use Rattle.arj_protocol.specs.World.{format}
-use Rattle.arj_law_disk.specs.machine.Names.{Office, written_in}
-use Rattle.arj_law_disk.specs.machine.NamingLaws.{IsFirstNames}
-use Rattle.arj_law_disk.specs.machine.State.{Packed}
-use Rattle.arj_law_disk.specs.machine.Words as words
-use Rattle.arj_law_disk.proofs.machine.Base.{never, some_is, test_is}
-use Rattle.arj_promise.specs.Runs.{Post, see}
-use Rattle.arj_law_disk_view.specs.view.Formats.{HasObject}
-use Rattle.arj_law_disk_view.specs.view.Knows.{KnowsKinds}
-use Rattle.arj_law_disk_view.specs.view.Sees.{IsFixed, Kinds}
-use Rattle.arj_law_disk_view.proofs.view.FirstSeen.{first_at}
-use Rattle.arj_law_disk_view.specs.names.Both.{SeesBoth, SeesRootOf}
-use Rattle.arj_law_disk_view.specs.names.Restarts.{AreEntries}
-use Rattle.arj_law_disk_view.proofs.names.RootsBoth.{formats_have_first}
-use Rattle.arj_law_disk_view.specs.running.Heard.{HasNoneOf, SeesHeard, SeesHeardAt}
-use Rattle.arj_law_disk_view.proofs.running.EntryKeeps.{put_entries}
+use Rattle.arj_law_parts.proofs.Words
+use Words.{◌≡◌, ℕ, zero, suc, ◌==◌, if◌then◌else◌, Bool, true, false, List, [], Some, None, refl, sym, ◌∙◌, ap, subst, inl, inr, map, ◌∷◌}
+use Words.{and_parts, in_from, Header, Uid, nobody, Coord, Doing, doing_of, new_coord, no_root, Intent, Parts, uid_number, Node, first_disk}
+use Words.{first_entry, put_states, at_place, is_own, format, Post, see}
+use Rattle.arj_law_disk_view.proofs.Terms
+use Terms.{Office, written_in, IsFirstNames, Packed, never, some_is, test_is, HasObject, KnowsKinds, IsFixed, Kinds, SeesBoth, SeesRootOf}
+use Terms.{AreEntries, HasNoneOf, SeesHeard, SeesHeardAt}
+use Terms.words
+use Rattle.arj_law_disk_view.proofs.{names.RootsBoth.formats_have_first, running.EntryKeeps.put_entries, view.FirstSeen.first_at}
 
 -- a root that has sent and heard nothing, and of which the machine has nothing
-pub empty_seen : (x : ℕ) (tops : Kinds) (root : Uid) (c : Coord) (B : Office) → IsFixed tops B.world.disk → HasNoneOf tops (uid_number root) B → SeesRootOf x tops root c no_root B
+pub empty_seen : (x : ℕ) (tops : Kinds) (root : Uid) (c : Coord) (B : Office) → IsFixed tops B.world.disk →
+    HasNoneOf tops (uid_number root) B → SeesRootOf x tops root c no_root B
 empty_seen x tops root c B h none = record {
   grants = record {
     own = λ t i mine plain has. absurd (never has (none.had (uid_number t) i (inr (sym (ap (λ g. g (uid_number t)) h.root) ∙ mine))));
@@ -49,7 +33,8 @@ empty_seen x tops root c B h none = record {
 }
 
 -- nobody is at work in a coordinator that starts
-none_works : (k inc : ℕ) (telling : List (Uid × Intent)) (u : Uid) (q : Doing) → doing_of u (record (new_coord k inc) { telling = telling }) ≡ Some q → ⊥
+none_works : (k inc : ℕ) (telling : List (Uid × Intent)) (u : Uid) (q : Doing) →
+    doing_of u (record (new_coord k inc) { telling = telling }) ≡ Some q → ⊥
 none_works k inc telling u q does = by (is_own u (let c = new_coord k inc in c.tree)) u.num does
   where
     by : (b : Bool) (n : ℕ) → (if b then at_place n [] else None) ≡ Some q → ⊥
@@ -58,10 +43,12 @@ none_works k inc telling u q does = by (is_own u (let c = new_coord k inc in c.t
     by false n at = cc at
 
 -- a coordinator that starts, of whose roots the machine has nothing
-pub new_seen : (x k inc : ℕ) (tops : Kinds) (sent : List Post) (telling : List (Uid × Intent)) (B : Office) → IsFixed tops B.world.disk → ((u : Uid) → u.node ≡ k → u.inc ≡ inc → tops.root (uid_number u) ≡ uid_number u → HasNoneOf tops (uid_number u) B)
+pub new_seen : (x k inc : ℕ) (tops : Kinds) (sent : List Post) (telling : List (Uid × Intent)) (B : Office) → IsFixed tops B.world.disk →
+    ((u : Uid) → u.node ≡ k → u.inc ≡ inc → tops.root (uid_number u) ≡ uid_number u → HasNoneOf tops (uid_number u) B)
     → SeesHeardAt x k tops sent (record (new_coord k inc) { telling = telling }) B
 new_seen x k inc tops sent telling B h none = record {
-  roots = λ root w. let o = and_parts (root.node == k) (root.inc == inc) w.own in empty_seen x tops root (record (new_coord k inc) { telling = telling }) B h (none root (test_is root.node k o.0) (test_is root.inc inc o.1) w.alone);
+  roots = λ root w. let o = and_parts (root.node == k) (root.inc == inc) w.own in empty_seen x tops root
+      (record (new_coord k inc) { telling = telling }) B h (none root (test_is root.node k o.0) (test_is root.inc inc o.1) w.alone);
   steps = λ u q s does. absurd (none_works k inc telling u q does);
   calls = λ u q s does. absurd (none_works k inc telling u q does);
   includes = λ root j i. absurd (in_from j [] i);
@@ -72,7 +59,9 @@ new_seen x k inc tops sent telling B h none = record {
 pub first_entries : (hd : Header) → AreEntries (first_disk hd 1).names
 first_entries hd e c = put_entries 0 hd.objects [] (λ z i. absurd i) e (in_from e (put_states (map first_entry hd.objects) []) c)
 
-module _ (hd : Header) (x : ℕ) (tops : Kinds) (kinds : KnowsKinds tops) (A : Office) (both : SeesBoth x tops A (see [] (format hd))) (first : IsFirstNames A.names) (undecided : A.world.disk.tops ≡ []) (writer : (g : Packed) → words.In g (A.world.disk.first ∷ A.world.disk.past) → g.writer ≡ uid_number nobody) where
+module _ (hd : Header) (x : ℕ) (tops : Kinds) (kinds : KnowsKinds tops) (A : Office) (both : SeesBoth x tops A (see [] (format hd)))
+    (first : IsFirstNames A.names) (undecided : A.world.disk.tops ≡ []) (writer : (g : Packed) →
+    words.In g (A.world.disk.first ∷ A.world.disk.past) → g.writer ≡ uid_number nobody) where
   fixed : IsFixed tops A.world.disk
   fixed = let s = both.disks in s.fixed
 
@@ -83,11 +72,15 @@ module _ (hd : Header) (x : ℕ) (tops : Kinds) (kinds : KnowsKinds tops) (A : O
   first_heard = record {
     kinds = kinds;
     first = writer;
-    coords = λ j n t there live. subst (λ (q : Parts). SeesHeardAt x j tops [] q.coord A) (some_is {A = Parts} refl (ap (λ (z : Node). z.live) (first_at hd j n there) ∙ live)) (new_seen x j 1 tops [] [] A fixed (λ u node inc alone. none (uid_number u)));
+    coords = λ j n t there live. subst (λ (q : Parts). SeesHeardAt x j tops [] q.coord A) (some_is {A = Parts} refl (ap (λ (z : Node).
+        z.live) (first_at hd j n there) ∙ live)) (new_seen x j 1 tops [] [] A fixed (λ u node inc alone. none (uid_number u)));
     future = λ j n u there node alone low. none (uid_number u);
     asked = λ q a r i. absurd i;
     posts = λ q i. absurd i;
   }
 
-pub heard_first : (hd : Header) (x : ℕ) (tops : Kinds) → HasObject hd x → tops.walk ≡ None → KnowsKinds tops → (A : Office) × SeesBoth x tops A (see [] (format hd)) × SeesHeard x tops A (see [] (format hd)) × (A.world.disk.tops ≡ []) × (A.world.disk.first.version ≡ 0) × ((t : ℕ) → A.world.disk.bare t ≡ false)
-heard_first hd x tops has unwalked kinds = let f = formats_have_first hd x tops unwalked has kinds.alone kinds.plain kinds.idem (first_entries hd) in (f.0, f.1, first_heard hd x tops kinds f.0 f.1 f.2 f.3 f.4, f.3, f.5, f.6)
+pub heard_first : (hd : Header) (x : ℕ) (tops : Kinds) → HasObject hd x → tops.walk ≡ None → KnowsKinds tops →
+    (A : Office) × SeesBoth x tops A (see [] (format hd)) × SeesHeard x tops A (see [] (format hd)) × (A.world.disk.tops ≡ [])
+    × (A.world.disk.first.version ≡ 0) × ((t : ℕ) → A.world.disk.bare t ≡ false)
+heard_first hd x tops has unwalked kinds = let f = formats_have_first hd x tops unwalked has kinds.alone kinds.plain kinds.idem
+    (first_entries hd) in (f.0, f.1, first_heard hd x tops kinds f.0 f.1 f.2 f.3 f.4, f.3, f.5, f.6)

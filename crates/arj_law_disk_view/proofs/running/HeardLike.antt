@@ -1,20 +1,13 @@
 -- What a coordinator has of its roots, where nothing of them has changed that is looked at.
-use Rattle.std.proofs.Common.{◌≡◌, ◌⊎◌, ℕ, zero, suc, ◌==◌, ◌&&◌, ◌||◌, if◌then◌else◌, Bool, true, false, not, List, [], ◌∷◌, ◌++◌, Option, Some, None, refl, sym, ◌∙◌, ap, subst, inl, inr, ⊎_elim, Contains}
-use Rattle.std.specs.List.{list_any}
-use Rattle.arj_protocol.specs.Words.{End, Kind, Label, Uid, is_on, uids_of}
-use Rattle.arj_protocol.specs.Words.ending
-use Rattle.arj_protocol.specs.Ask.{top_of}
-use Rattle.arj_protocol.specs.Asking.{begin_action}
-use Rattle.arj_protocol.specs.Call.{Steps}
-use Rattle.arj_protocol.specs.Coord as coord
-use Rattle.arj_protocol.specs.Coord.{Calling, Committing, Coord, Doing, Idle, Joined, Root, Said, Went, doing_of, is_constituent_branch, is_kept_top, kept_of, retained_in, root_at, second_uid, survives, top_uses}
-use Rattle.arj_protocol.specs.Tree.{Branch, at_place, behind, branch_of, ended_so, has_end, is_committed, is_own, is_spent, next_uid, path_below, root_of}
-use Rattle.arj_law_disk.specs.machine.Names.{Names, Office}
-use Rattle.arj_law_disk.proofs.machine.Base.{some_is}
-use Rattle.arj_promise.specs.Runs.{Post}
-use Rattle.arj_law_disk_view.specs.view.Sees.{Kinds}
-use Rattle.arj_law_disk_view.specs.names.Both.{SeesRootOf}
-use Rattle.arj_law_disk_view.specs.running.Heard.{IsPathIn, IsWorkingRoot, SeesCall, SeesHeardAt}
+use Rattle.arj_law_parts.proofs.Words
+use Words.{◌≡◌, ◌⊎◌, ℕ, zero, suc, ◌==◌, ◌&&◌, ◌||◌, if◌then◌else◌, Bool, true, false, not, List, [], ◌∷◌, ◌++◌, Option, Some, None, refl}
+use Words.{sym, ◌∙◌, ap, subst, inl, inr, ⊎_elim, Contains, list_any, End, Kind, Label, Uid, is_on, uids_of, top_of, begin_action, Steps}
+use Words.{Calling, Committing, Coord, Doing, Idle, Joined, Root, Said, Went, doing_of, is_constituent_branch, is_kept_top, kept_of}
+use Words.{retained_in, root_at, second_uid, survives, top_uses, Branch, at_place, behind, branch_of, ended_so, has_end, is_committed}
+use Words.{is_own, is_spent, next_uid, path_below, root_of, Post}
+use Words.ending
+use Words.coord
+use Rattle.arj_law_disk_view.proofs.Terms.{Names, Office, some_is, Kinds, SeesRootOf, IsPathIn, IsWorkingRoot, SeesCall, SeesHeardAt}
 
 -- an action that is new, and open
 abbrev pub IsOpenNew : Option Branch → Type 0
@@ -33,7 +26,8 @@ pub record IsLike (c e : Coord) : Type 0 where
   pub roots : (u : Uid) → (w : List Went) × (root_at u e ≡ went_to w (root_at u c))
 
 -- what is looked at of a root stays, where each action's end does, and each committed constituent
-module _ (c e : Coord) (ends : (k : End) (w : Uid) → ended_so k (branch_of w e.tree) ≡ ended_so k (branch_of w c.tree)) (kept : (w : Uid) → is_kept_top w e ≡ is_kept_top w c) where
+module _ (c e : Coord) (ends : (k : End) (w : Uid) → ended_so k (branch_of w e.tree) ≡ ended_so k (branch_of w c.tree)) (kept : (w : Uid) →
+    is_kept_top w e ≡ is_kept_top w c) where
   spent_ends : (path : List Uid) → is_spent path e.tree ≡ is_spent path c.tree
   spent_ends path = λ i. list_any (λ w. ends ending.Abort w i) path
 
@@ -48,9 +42,11 @@ module _ (c e : Coord) (ends : (k : End) (w : Uid) → ended_so k (branch_of w e
       by (Some t) = λ i. kept t i && survives_ends t path i
 
   uses_ends : (t : Uid) (x : ℕ) (r : Root) → top_uses t x r e ≡ top_uses t x r c
-  uses_ends t x r = λ i. list_any (λ (s : Said). (s.x == x) && survives_ends t s.path i) r.said || list_any (λ (j : Joined). (j.x == x) && survives_ends t j.path i) r.joined
+  uses_ends t x r = λ i. list_any (λ (s : Said). (s.x == x) && survives_ends t s.path i) r.said
+      || list_any (λ (j : Joined). (j.x == x) && survives_ends t j.path i) r.joined
 
-  pub root_ends : (x : ℕ) (tops : Kinds) (root : Uid) (r : Root) (w : List Went) (B : Office) → SeesRootOf x tops root c r B → SeesRootOf x tops root e (went_to w r) B
+  pub root_ends : (x : ℕ) (tops : Kinds) (root : Uid) (r : Root) (w : List Went) (B : Office) → SeesRootOf x tops root c r B →
+      SeesRootOf x tops root e (went_to w r) B
   root_ends x tops root r w B s = record {
     grants = let g = s.grants in record {
       own = g.own;
@@ -71,7 +67,8 @@ module _ (c e : Coord) (ends : (k : End) (w : Uid) → ended_so k (branch_of w e
     state = s.state;
   }
 
-module _ (c e : Coord) (branches : (w : Uid) → (branch_of w e.tree ≡ branch_of w c.tree) ⊎ ((branch_of w c.tree ≡ None) × IsOpenNew (branch_of w e.tree))) where
+module _ (c e : Coord) (branches : (w : Uid) →
+    (branch_of w e.tree ≡ branch_of w c.tree) ⊎ ((branch_of w c.tree ≡ None) × IsOpenNew (branch_of w e.tree))) where
   -- how an action ended
   ended_same : (k : End) (w : Uid) → ended_so k (branch_of w e.tree) ≡ ended_so k (branch_of w c.tree)
   ended_same k w = ⊎_elim (λ same. ap (ended_so k) same)
@@ -83,7 +80,8 @@ module _ (c e : Coord) (branches : (w : Uid) → (branch_of w e.tree ≡ branch_
 
   kept_same : (w : Uid) → is_kept_top w e ≡ is_kept_top w c
   kept_same w = ⊎_elim (λ same. (λ i. is_constituent_branch (same i) && ended_so ending.Commit (same i)))
-      (λ new. let b = new.1 in off (is_constituent_branch (branch_of w e.tree)) (is_committed w e.tree) (ap (ended_so ending.Commit) b.1 ∙ ap (has_end ending.Commit) b.2)
+      (λ new. let b = new.1 in off (is_constituent_branch (branch_of w e.tree)) (is_committed w e.tree)
+      (ap (ended_so ending.Commit) b.1 ∙ ap (has_end ending.Commit) b.2)
       ∙ sym (off (is_constituent_branch (branch_of w c.tree)) (is_committed w c.tree) (ap (ended_so ending.Commit) new.0))) (branches w)
     where
       off : (a b : Bool) → b ≡ false → (a && b) ≡ false
@@ -93,19 +91,23 @@ module _ (c e : Coord) (branches : (w : Uid) → (branch_of w e.tree ≡ branch_
   pub spent_same : (path : List Uid) → is_spent path e.tree ≡ is_spent path c.tree
   spent_same path = spent_ends c e ended_same kept_same path
 
-  pub root_like : (x : ℕ) (tops : Kinds) (root : Uid) (r : Root) (w : List Went) (B : Office) → SeesRootOf x tops root c r B → SeesRootOf x tops root e (went_to w r) B
+  pub root_like : (x : ℕ) (tops : Kinds) (root : Uid) (r : Root) (w : List Went) (B : Office) → SeesRootOf x tops root c r B →
+      SeesRootOf x tops root e (went_to w r) B
   root_like x tops root r w B s = root_ends c e ended_same kept_same x tops root r w B s
 
 -- a call has its list still where its root keeps the same binding
-pub call_same : (x : ℕ) (tops : Kinds) (c e : Coord) (s : Steps) (N : Names) → is_own (top_of s.path) e.tree ≡ is_own (top_of s.path) c.tree → kept_of x (root_at (root_of s.path) e) ≡ kept_of x (root_at (root_of s.path) c) → SeesCall x tops c s N → SeesCall x tops e s N
+pub call_same : (x : ℕ) (tops : Kinds) (c e : Coord) (s : Steps) (N : Names) → is_own (top_of s.path) e.tree ≡ is_own (top_of s.path) c.tree
+    → kept_of x (root_at (root_of s.path) e) ≡ kept_of x (root_at (root_of s.path) c) → SeesCall x tops c s N → SeesCall x tops e s N
 call_same x tops c e s N own kept z = record { own = own ∙ z.own; top = z.top; known = z.known; kept = kept ∙ z.kept; list = z.list }
 
 -- an action's path stays
 abbrev pub StaysOnPath : Option Branch → Option Branch → Type 0
 StaysOnPath o n = (b : Branch) → o ≡ Some b → (y : Branch) × (n ≡ Some y) × (y.path ≡ b.path)
 
-pub path_on : (c e : Coord) → ((w : Uid) → StaysOnPath (branch_of w c.tree) (branch_of w e.tree)) → (us : List Uid) → IsPathIn c.tree us → IsPathIn e.tree us
-path_on c e stays us p = let y = stays p.uid p.branch p.found in record { uid = p.uid; branch = y.0; found = y.1; path = p.path ∙ ap uids_of (sym y.2) }
+pub path_on : (c e : Coord) → ((w : Uid) → StaysOnPath (branch_of w c.tree) (branch_of w e.tree)) → (us : List Uid) → IsPathIn c.tree us →
+    IsPathIn e.tree us
+path_on c e stays us p = let y = stays p.uid p.branch p.found in
+    record { uid = p.uid; branch = y.0; found = y.1; path = p.path ∙ ap uids_of (sym y.2) }
 
 pub same_path : (o n : Option Branch) → n ≡ o → StaysOnPath o n
 same_path o n same b is = (b, same ∙ is, refl)
@@ -117,29 +119,39 @@ module _ (c e : Coord) (like : IsLike c e) where
   was_root tops root w = record {
     own = sym (like.own root) ∙ w.own;
     alone = w.alone;
-    unended = λ b found. ⊎_elim (λ same. w.unended b (same ∙ found)) (λ new. absurd (let n : None ≡ Some b = sym new.0 ∙ found in cc)) (like.branches root);
+    unended = λ b found.
+        ⊎_elim (λ same. w.unended b (same ∙ found)) (λ new. absurd (let n : None ≡ Some b = sym new.0 ∙ found in cc)) (like.branches root);
   }
 
   pub at_like : (x k : ℕ) (tops : Kinds) (sent : List Post) (B : Office) → SeesHeardAt x k tops sent c B → SeesHeardAt x k tops sent e B
   at_like x k tops sent B p = record {
-    roots = λ root w. let q = like.roots root in subst (λ z. SeesRootOf x tops root e z B) (sym q.1) (root_like c e like.branches x tops root (root_at root c) q.0 B (p.roots root (was_root tops root w)));
-    steps = λ u q s does now of. ⊎_elim (λ old. p.steps u q s old now of) (λ idle. absurd (let n : Idle ≡ Calling s = sym idle ∙ now in cc)) (like.works u q does);
-    calls = λ u q s does now of call past. ⊎_elim (λ old. call_same x tops c e s B.names (like.own (top_of s.path)) (ap (kept_of x) (let r = like.roots (root_of s.path) in r.1)) (p.calls u q s old now of call past)) (λ idle. absurd (let n : Idle ≡ Calling s = sym idle ∙ now in cc)) (like.works u q does);
-    includes = λ root j i. path_on c e (λ w. ⊎_elim (λ same. same_path (branch_of w c.tree) (branch_of w e.tree) same) (λ new. λ b is. absurd (let n : None ≡ Some b = sym new.0 ∙ is in cc)) (like.branches w)) j.path (p.includes root j (subst (λ (r : Root). Contains r.joined j) (let q = like.roots root in q.1) i));
-    plans = λ u q m does now. ⊎_elim (λ old. p.plans u q m old now) (λ idle. absurd (let n : Idle ≡ Committing m = sym idle ∙ now in cc)) (like.works u q does);
+    roots = λ root w. let q = like.roots root in subst (λ z. SeesRootOf x tops root e z B) (sym q.1)
+        (root_like c e like.branches x tops root (root_at root c) q.0 B (p.roots root (was_root tops root w)));
+    steps = λ u q s does now of.
+        ⊎_elim (λ old. p.steps u q s old now of) (λ idle. absurd (let n : Idle ≡ Calling s = sym idle ∙ now in cc)) (like.works u q does);
+    calls = λ u q s does now of call past. ⊎_elim (λ old. call_same x tops c e s B.names (like.own (top_of s.path))
+        (ap (kept_of x) (let r = like.roots (root_of s.path) in r.1)) (p.calls u q s old now of call past))
+        (λ idle. absurd (let n : Idle ≡ Calling s = sym idle ∙ now in cc)) (like.works u q does);
+    includes = λ root j i. path_on c e (λ w. ⊎_elim (λ same. same_path (branch_of w c.tree) (branch_of w e.tree) same)
+        (λ new. λ b is. absurd (let n : None ≡ Some b = sym new.0 ∙ is in cc)) (like.branches w)) j.path
+        (p.includes root j (subst (λ (r : Root). Contains r.joined j) (let q = like.roots root in q.1) i));
+    plans = λ u q m does now.
+        ⊎_elim (λ old. p.plans u q m old now) (λ idle. absurd (let n : Idle ≡ Committing m = sym idle ∙ now in cc)) (like.works u q does);
   }
 
 -- ---- an action begins
 
 -- what stands at a place of a list with one more at its end
-place_more : {X : Type 0} (n : ℕ) (xs : List X) (y : X) → (at_place n (xs ++ y ∷ []) ≡ at_place n xs) ⊎ ((at_place n xs ≡ None) × (at_place n (xs ++ y ∷ []) ≡ Some y))
+place_more : {X : Type 0} (n : ℕ) (xs : List X) (y : X) →
+    (at_place n (xs ++ y ∷ []) ≡ at_place n xs) ⊎ ((at_place n xs ≡ None) × (at_place n (xs ++ y ∷ []) ≡ Some y))
 place_more zero xs y = inl refl
 place_more (suc zero) [] y = inr (refl, refl)
 place_more (suc (suc n)) [] y = inl refl
 place_more (suc zero) (x ∷ xs) y = inl refl
 place_more (suc (suc n)) (x ∷ xs) y = place_more (suc n) xs y
 
-pub begin_like : (l : Label) (how : Kind) (parent : Option Label) (above : Option Branch) (c : Coord) → IsLike c (let did = begin_action l how parent above c in did.part)
+pub begin_like : (l : Label) (how : Kind) (parent : Option Label) (above : Option Branch) (c : Coord) →
+    IsLike c (let did = begin_action l how parent above c in did.part)
 begin_like l how parent above c = record {
   own = λ u. refl;
   branches = λ w. by w (is_own w c.tree);
@@ -150,14 +162,18 @@ begin_like l how parent above c = record {
     new : Branch
     new = record { path = path_below how above (next_uid c.tree); kind = how; ended = None; doomed = false }
 
-    by : (w : Uid) (b : Bool) → ((if b then at_place w.num (c.tree.branches ++ new ∷ []) else None) ≡ (if b then at_place w.num c.tree.branches else None))
-        ⊎ (((if b then at_place w.num c.tree.branches else None) ≡ None) × IsOpenNew (if b then at_place w.num (c.tree.branches ++ new ∷ []) else None))
+    by : (w : Uid) (b : Bool) →
+        ((if b then at_place w.num (c.tree.branches ++ new ∷ []) else None) ≡ (if b then at_place w.num c.tree.branches else None))
+        ⊎ (((if b then at_place w.num c.tree.branches else None) ≡ None)
+        × IsOpenNew (if b then at_place w.num (c.tree.branches ++ new ∷ []) else None))
     by w true = ⊎_elim (λ same. inl same) (λ z. inr (z.0, (new, z.1, refl))) (place_more w.num c.tree.branches new)
     by w false = inl refl
 
     idle : Doing
     idle = record { label = l; req = 0; now = Idle; took = [] }
 
-    work : (u : Uid) (q : Doing) (b : Bool) → (if b then at_place u.num (c.doings ++ idle ∷ []) else None) ≡ Some q → ((if b then at_place u.num c.doings else None) ≡ Some q) ⊎ (q.now ≡ Idle)
-    work u q true at = ⊎_elim (λ same. inl (sym same ∙ at)) (λ z. inr (ap (λ (d : Doing). d.now) (sym (some_is z.1 at)))) (place_more u.num c.doings idle)
+    work : (u : Uid) (q : Doing) (b : Bool) → (if b then at_place u.num (c.doings ++ idle ∷ []) else None) ≡ Some q →
+        ((if b then at_place u.num c.doings else None) ≡ Some q) ⊎ (q.now ≡ Idle)
+    work u q true at =
+        ⊎_elim (λ same. inl (sym same ∙ at)) (λ z. inr (ap (λ (d : Doing). d.now) (sym (some_is z.1 at)))) (place_more u.num c.doings idle)
     work u q false at = absurd (cc at)

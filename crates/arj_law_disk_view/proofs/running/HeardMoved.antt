@@ -1,30 +1,19 @@
 -- A coordinator that was answered to a call or an include: who waits in it, and what its root takes note of.
-use Rattle.std.proofs.Common.{◌≡◌, ◌≢◌, ◌⊎◌, ◌+◌, ℕ, ◌==◌, ◌&&◌, if◌then◌else◌, Bool, true, false, List, [], ◌∷◌, ◌++◌, Option, Some, None, refl, sym, ◌∙◌, ap, subst, inl, inr, ⊎_elim, Contains}
-use Rattle.std.specs.Prelude.{unwrap_or}
-use Rattle.std.specs.List.{list_any}
-use Rattle.std.proofs.lemmas.Bool.{and_parts}
-use Rattle.arj_lock.proofs.Members.{In, in_from, in_to}
-use Rattle.arj_protocol.specs.Words.{Uid, last_uid, uid_eq, uids_of}
-use Rattle.arj_protocol.specs.Words.bound
-use Rattle.arj_protocol.specs.Ask.{Reply, actor, top_of}
-use Rattle.arj_protocol.specs.Asking.{ends_call, goes_on, granted_by, is_invoke_ask, keeps_after, notes_grant, root_heard, root_moved, step_call, store_of}
-use Rattle.arj_protocol.specs.Call.{Answered, CallEnd, CallStep, Changed, Conflict, Ended, Goal, Include, Included, Lost, Moved, On, Run, Steps, has_changed, is_include, next_ask, next_node}
-use Rattle.arj_protocol.specs.Coord.{Calling, Coord, Doing, Grant, Idle, Joined, Keeping, Root, Said, Went, doing_of, granted_with, is_call, joined_with, keeping_of, kept_of, later_state, no_keeping, no_root, on_doing, on_root, root_at, same_join, same_said, with_keeping, with_said, with_went}
-use Rattle.arj_protocol.specs.Order.{at_number}
-use Rattle.arj_protocol.specs.Tree.{branch_of, ends_of, is_own, root_of}
-use Rattle.arj_protocol.proofs.Maps.{put_same as put_number_same}
-use Rattle.arj_law_runs.proofs.calls.CoordKnown.{roots_work}
-use Rattle.arj_law_disk.proofs.machine.Base.{some_is, test_is}
-use Rattle.arj_law_disk_view.specs.view.Sees.{Kinds}
+use Rattle.arj_law_parts.proofs.Words
+use Words.{◌≡◌, ◌≢◌, ◌⊎◌, ◌+◌, ℕ, ◌==◌, ◌&&◌, if◌then◌else◌, Bool, true, false, List, [], ◌∷◌, ◌++◌, Option, Some, None, refl, sym, ◌∙◌, ap}
+use Words.{subst, inl, inr, ⊎_elim, Contains, unwrap_or, list_any, and_parts, In, in_from, in_to, Uid, last_uid, uid_eq, uids_of, Reply}
+use Words.{actor, top_of, ends_call, goes_on, granted_by, is_invoke_ask, keeps_after, notes_grant, root_heard, root_moved, step_call}
+use Words.{store_of, Answered, CallEnd, CallStep, Changed, Conflict, Ended, Goal, Include, Included, Lost, Moved, On, Run, Steps}
+use Words.{has_changed, is_include, next_ask, next_node, Calling, Coord, Doing, Grant, Idle, Joined, Keeping, Root, Said, Went, doing_of}
+use Words.{granted_with, is_call, joined_with, keeping_of, kept_of, later_state, no_keeping, no_root, on_doing, on_root, root_at, same_join}
+use Words.{same_said, with_keeping, with_said, with_went, at_number, branch_of, ends_of, is_own, root_of, put_same as put_number_same}
+use Words.bound
+use Rattle.arj_law_disk_view.proofs.Terms.{roots_work, some_is, test_is, Kinds, Names, HaveLoads, IsTopOf}
+use Rattle.arj_law_disk_view.proofs.running
+use running.{HeardGiveups.put_keeps, HeardLike.went_to, HeardTaken.HasGone, HeardTaken.JoinsFrom}
+use running.HeardCalls.{root_put, went_with, work_apart}
+use running.HeardRoots.{GrantsAlike, HasJoinOf, IsAlike, KeptAlike}
 use Rattle.arj_law_disk_view.proofs.view.Doings.{doing_tree}
-use Rattle.arj_law_disk.specs.machine.Names.{Names}
-use Rattle.arj_law_disk_view.specs.names.Loads.{HaveLoads}
-use Rattle.arj_law_disk_view.specs.names.Lists.{IsTopOf}
-use Rattle.arj_law_disk_view.proofs.running.HeardCalls.{root_put, went_with, work_apart}
-use Rattle.arj_law_disk_view.proofs.running.HeardGiveups.{put_keeps}
-use Rattle.arj_law_disk_view.proofs.running.HeardLike.{went_to}
-use Rattle.arj_law_disk_view.proofs.running.HeardRoots.{GrantsAlike, HasJoinOf, IsAlike, KeptAlike}
-use Rattle.arj_law_disk_view.proofs.running.HeardTaken.{HasGone, JoinsFrom}
 
 -- ---- who waits
 
@@ -54,14 +43,18 @@ module _ (s : Steps) (c : Coord) (d : Doing) (found : doing_of (actor s.path) c 
   mid = on_root (root_of s.path) f c
 
   -- a request goes out for the next step
-  goes : (z : Steps) → z.path ≡ s.path → HasGone s (Some z) (f (root_at (root_of s.path) c)) c (goes_on z (on_root (root_of s.path) f c)).part
+  goes : (z : Steps) → z.path ≡ s.path →
+      HasGone s (Some z) (f (root_at (root_of s.path) c)) c (goes_on z (on_root (root_of s.path) f c)).part
   goes z path = record {
     tree = λ u. ap (branch_of u) tree_is;
     own = λ u. ap (is_own u) tree_is;
-    works = λ u q does. ⊎_elim (λ mine. inr (ap (λ (y : Doing). y.now) (sym mine.1))) (λ old. inl (subst (λ p. u ≢ actor p) path old.0, old.1)) (work_apart (actor z.path) to_next mid d (ap (λ p. doing_of (actor p) c) path ∙ found) u q does);
+    works =
+        λ u q does. ⊎_elim (λ mine. inr (ap (λ (y : Doing). y.now) (sym mine.1))) (λ old. inl (subst (λ p. u ≢ actor p) path old.0, old.1))
+        (work_apart (actor z.path) to_next mid d (ap (λ p. doing_of (actor p) c) path ∙ found) u q does);
     here = here_now;
     path = λ y is. ap (λ (v : Steps). v.path) (some_is is refl) ∙ path;
-    there = λ u other. put_away (root_of z.path) (with_went went) asked u (λ same. other (same ∙ ap (λ p. (root_of p).num) path)) ∙ (worked u ∙ put_away (root_of s.path) f c u other);
+    there = λ u other. put_away (root_of z.path) (with_went went) asked u (λ same. other (same ∙ ap (λ p. (root_of p).num) path))
+        ∙ (worked u ∙ put_away (root_of s.path) f c u other);
   }
     where
       to_next : Doing → Doing
@@ -71,24 +64,34 @@ module _ (s : Steps) (c : Coord) (d : Doing) (found : doing_of (actor s.path) c 
       asked = on_doing (actor z.path) (λ (y : Doing). record y { req = z.req; now = Calling z }) (on_root (root_of s.path) f c)
 
       went : Went
-      went = record { path = uids_of z.path; node = next_node z; invoke = is_invoke_ask (next_ask (ends_of (root_of z.path) (let m = on_doing (actor z.path) (λ (y : Doing). record y { req = z.req; now = Calling z }) (on_root (root_of s.path) f c) in m.tree)) z) }
+      went = record {
+        path = uids_of z.path;
+        node = next_node z;
+        invoke = is_invoke_ask (next_ask (ends_of (root_of z.path) (let m = on_doing (actor z.path)
+            (λ (y : Doing). record y { req = z.req; now = Calling z }) (on_root (root_of s.path) f c) in m.tree)) z);
+      }
 
       tree_is : (goes_on z (on_root (root_of s.path) f c)).part.tree ≡ c.tree
       tree_is = doing_tree (actor z.path) (λ (y : Doing). record y { req = z.req; now = Calling z }) (on_root (root_of s.path) f c)
 
       worked : (u : Uid) → root_at u asked ≡ root_at u (on_root (root_of s.path) f c)
-      worked u = ap (λ (rs : List (ℕ × Root)). unwrap_or (at_number u.num rs) no_root) (roots_work (actor z.path) to_next (on_root (root_of s.path) f c))
+      worked u = ap (λ (rs : List (ℕ × Root)). unwrap_or (at_number u.num rs) no_root)
+          (roots_work (actor z.path) to_next (on_root (root_of s.path) f c))
 
-      here_now : (w : List Went) × (root_at (root_of s.path) (goes_on z (on_root (root_of s.path) f c)).part ≡ went_to w (f (root_at (root_of s.path) c)))
+      here_now : (w : List Went)
+          × (root_at (root_of s.path) (goes_on z (on_root (root_of s.path) f c)).part ≡ went_to w (f (root_at (root_of s.path) c)))
       here_now =
           let g = went_with went (root_at (root_of z.path) asked) in (
             g.0,
-            ap (λ p. root_at (root_of p) (on_root (root_of z.path) (with_went went) asked)) (sym path) ∙ (put_here (root_of z.path) (with_went went) asked
-                ∙ (g.1 ∙ ap (went_to g.0) (worked (root_of z.path) ∙ (ap (λ p. root_at (root_of p) (on_root (root_of s.path) f c)) path ∙ put_here (root_of s.path) f c)))),
+            ap (λ p. root_at (root_of p) (on_root (root_of z.path) (with_went went) asked)) (sym path)
+                ∙ (put_here (root_of z.path) (with_went went) asked
+                ∙ (g.1 ∙ ap (went_to g.0) (worked (root_of z.path)
+                ∙ (ap (λ p. root_at (root_of p) (on_root (root_of s.path) f c)) path ∙ put_here (root_of s.path) f c)))),
           )
 
   -- it ends
-  ends : (e : CallEnd) → dooms_none (Ended e) ≡ true → HasGone s None (root_heard s e (f (root_at (root_of s.path) c))) c (ends_call s e (on_root (root_of s.path) f c)).part
+  ends : (e : CallEnd) → dooms_none (Ended e) ≡ true →
+      HasGone s None (root_heard s e (f (root_at (root_of s.path) c))) c (ends_call s e (on_root (root_of s.path) f c)).part
   ends e plain = by e plain
     where
       to_idle : Doing → Doing
@@ -98,14 +101,19 @@ module _ (s : Steps) (c : Coord) (d : Doing) (found : doing_of (actor s.path) c 
       idle = on_doing (actor s.path) (λ (y : Doing). record y { now = Idle }) (on_root (root_of s.path) f c)
 
       worked : (u : Uid) → root_at u idle ≡ root_at u (on_root (root_of s.path) f c)
-      worked u = ap (λ (rs : List (ℕ × Root)). unwrap_or (at_number u.num rs) no_root) (roots_work (actor s.path) to_idle (on_root (root_of s.path) f c))
+      worked u = ap (λ (rs : List (ℕ × Root)). unwrap_or (at_number u.num rs) no_root)
+          (roots_work (actor s.path) to_idle (on_root (root_of s.path) f c))
 
       all : (g : Root → Root) → HasGone s None (g (f (root_at (root_of s.path) c))) c (on_root (root_of s.path) g idle)
       all g = record {
         tree = λ u. ap (branch_of u) tree_is;
         own = λ u. ap (is_own u) tree_is;
-        works = λ u q does. ⊎_elim (λ mine. inr (ap (λ (y : Doing). y.now) (sym mine.1))) (λ old. inl old) (work_apart (actor s.path) to_idle mid d found u q does);
-        here = ((let r = g (f (root_at (root_of s.path) c)) in r.went), put_here (root_of s.path) g idle ∙ ap g (worked (root_of s.path) ∙ put_here (root_of s.path) f c));
+        works = λ u q does. ⊎_elim (λ mine. inr (ap (λ (y : Doing). y.now) (sym mine.1))) (λ old. inl old)
+            (work_apart (actor s.path) to_idle mid d found u q does);
+        here = (
+          (let r = g (f (root_at (root_of s.path) c)) in r.went),
+          put_here (root_of s.path) g idle ∙ ap g (worked (root_of s.path) ∙ put_here (root_of s.path) f c),
+        );
         path = λ y is. absurd (cc is);
         there = λ u other. put_away (root_of s.path) g idle u other ∙ (worked u ∙ put_away (root_of s.path) f c u other);
       }
@@ -113,7 +121,8 @@ module _ (s : Steps) (c : Coord) (d : Doing) (found : doing_of (actor s.path) c 
           tree_is : idle.tree ≡ c.tree
           tree_is = doing_tree (actor s.path) to_idle (on_root (root_of s.path) f c)
 
-      by : (e : CallEnd) → dooms_none (Ended e) ≡ true → HasGone s None (root_heard s e (f (root_at (root_of s.path) c))) c (ends_call s e (on_root (root_of s.path) f c)).part
+      by : (e : CallEnd) → dooms_none (Ended e) ≡ true →
+          HasGone s None (root_heard s e (f (root_at (root_of s.path) c))) c (ends_call s e (on_root (root_of s.path) f c)).part
       by (Answered a) on = all (root_heard s (Answered a))
       by (Included st) on = all (root_heard s (Included st))
       by (Conflict holder m n) on = all (root_heard s (Conflict holder m n))
@@ -121,7 +130,8 @@ module _ (s : Steps) (c : Coord) (d : Doing) (found : doing_of (actor s.path) c 
       by (Lost n false) on = all (root_heard s (Lost n false))
       by (Lost n true) on = absurd (cc on)
 
-  pub has_gone : (step : CallStep) → dooms_none step ≡ true → HasGone s (next_of s step) (gone_root s step (f (root_at (root_of s.path) c))) c (step_call s step (on_root (root_of s.path) f c)).part
+  pub has_gone : (step : CallStep) → dooms_none step ≡ true → HasGone s (next_of s step) (gone_root s step (f (root_at (root_of s.path) c)))
+      c (step_call s step (on_root (root_of s.path) f c)).part
   has_gone (On at) on = goes (record s { req = s.req + 1; at = at }) refl
   has_gone (Ended e) on = ends e on
 
@@ -147,15 +157,19 @@ noted_states None o = refl
 noted_states (Some g) o = refl
 
 -- what is kept after a step of a call is what the answer says; an include changes nothing of it
-pub moved_kept : (s : Steps) (r : Reply) (m : Moved) (o : Root) → kept_of s.x (root_moved s r m o) ≡ (if is_call s.goal then m.kept else kept_of s.x o)
-moved_kept s r m o = keep_here s.x (keeps_after s.goal (has_changed m.step) m.kept (keeping_of s.x o)) (notes_grant (granted_by (top_of s.path) s.x r) o) ∙ by (is_call s.goal) _
+pub moved_kept : (s : Steps) (r : Reply) (m : Moved) (o : Root) →
+    kept_of s.x (root_moved s r m o) ≡ (if is_call s.goal then m.kept else kept_of s.x o)
+moved_kept s r m o = keep_here s.x (keeps_after s.goal (has_changed m.step) m.kept (keeping_of s.x o))
+    (notes_grant (granted_by (top_of s.path) s.x r) o) ∙ by (is_call s.goal) _
   where
-    by : (b z : Bool) → (if b then record (keeping_of s.x o) { kept = m.kept; spoiled = z } else keeping_of s.x o).kept ≡ (if b then m.kept else kept_of s.x o)
+    by : (b z : Bool) → (if b then record (keeping_of s.x o) { kept = m.kept; spoiled = z } else keeping_of s.x o).kept
+        ≡ (if b then m.kept else kept_of s.x o)
     by true z = refl
     by false z = refl
 
 pub moved_other : (x : ℕ) (s : Steps) (r : Reply) (m : Moved) (o : Root) → (s.x ≡ x → ⊥) → kept_of x (root_moved s r m o) ≡ kept_of x o
-moved_other x s r m o other = ⊎_elim (λ here. absurd (other here.0)) (λ same. same ∙ noted_keeps x (granted_by (top_of s.path) s.x r) o) (put_keeps x s.x (keeps_after s.goal (has_changed m.step) m.kept (keeping_of s.x o)) (notes_grant (granted_by (top_of s.path) s.x r) o))
+moved_other x s r m o other = ⊎_elim (λ here. absurd (other here.0)) (λ same. same ∙ noted_keeps x (granted_by (top_of s.path) s.x r) o)
+    (put_keeps x s.x (keeps_after s.goal (has_changed m.step) m.kept (keeping_of s.x o)) (notes_grant (granted_by (top_of s.path) s.x r) o))
 
 -- ---- and of an end
 
@@ -185,7 +199,8 @@ said_back z r w i = by (list_any (same_said z) r.said) i
     by true j = inl j
     by false j = less r.said j
 
-pub said_same : {X : Type 0} (f : Root → X) (z : Said) (r : Root) → ((ws : List Said) → f (record r { said = ws }) ≡ f r) → f (with_said z r) ≡ f r
+pub said_same : {X : Type 0} (f : Root → X) (z : Said) (r : Root) → ((ws : List Said) → f (record r { said = ws }) ≡ f r) →
+    f (with_said z r) ≡ f r
 said_same f z r same = by (list_any (same_said z) r.said)
   where
     by : (b : Bool) → f (if b then r else record r { said = r.said ++ z ∷ [] }) ≡ f r
@@ -193,12 +208,16 @@ said_same f z r same = by (list_any (same_said z) r.said)
     by false = same (r.said ++ z ∷ [])
 
 -- an include that was answered
-joined_on : (j : Joined) (is : List Joined) (i : Joined) → In i is → (z : Joined) × In z (joined_with j is) × (z.path ≡ i.path) × (z.x ≡ i.x)
+joined_on : (j : Joined) (is : List Joined) (i : Joined) → In i is →
+    (z : Joined) × In z (joined_with j is) × (z.path ≡ i.path) × (z.x ≡ i.x)
 joined_on j [] i there = absurd there
 joined_on j (v ∷ is) i there = by (same_join j v) there (joined_on j is i)
   where
-    by : (b : Bool) → In i (v ∷ is) → (In i is → (z : Joined) × In z (joined_with j is) × (z.path ≡ i.path) × (z.x ≡ i.x)) → (z : Joined) × In z (if b then record v { loaded = later_state v.loaded j.loaded } ∷ is else v ∷ joined_with j is) × (z.path ≡ i.path) × (z.x ≡ i.x)
-    by true (inl same) ih = (record v { loaded = later_state v.loaded j.loaded }, inl refl, ap (λ (w : Joined). w.path) same, ap (λ (w : Joined). w.x) same)
+    by : (b : Bool) → In i (v ∷ is) → (In i is → (z : Joined) × In z (joined_with j is) × (z.path ≡ i.path) × (z.x ≡ i.x)) →
+        (z : Joined) × In z (if b then record v { loaded = later_state v.loaded j.loaded } ∷ is else v ∷ joined_with j is)
+        × (z.path ≡ i.path) × (z.x ≡ i.x)
+    by true (inl same) ih =
+        (record v { loaded = later_state v.loaded j.loaded }, inl refl, ap (λ (w : Joined). w.path) same, ap (λ (w : Joined). w.x) same)
     by true (inr more) ih = (i, inr more, refl, refl)
     by false (inl same) ih = (v, inl refl, ap (λ (w : Joined). w.path) same, ap (λ (w : Joined). w.x) same)
     by false (inr more) ih = let z = ih more in (z.0, inr z.1, z.2, z.3)
@@ -208,18 +227,23 @@ joined_back x j [] other i (inl same) of = absurd (other (ap (λ (w : Joined). w
 joined_back x j [] other i (inr none) of = absurd none
 joined_back x j (v ∷ is) other i there of = by (same_join j v) refl there (λ h. joined_back x j is other i h of)
   where
-    by : (b : Bool) → same_join j v ≡ b → In i (if b then record v { loaded = later_state v.loaded j.loaded } ∷ is else v ∷ joined_with j is) → (In i (joined_with j is) → In i is) → In i (v ∷ is)
-    by true on (inl same) ih = absurd (other (test_is j.x v.x (and_parts (j.x == v.x) (j.store == v.store) (and_parts (uid_eq (last_uid j.path) (last_uid v.path)) ((j.x == v.x) && (j.store == v.store)) on).1).0 ∙ (ap (λ (w : Joined). w.x) same ∙ of)))
+    by : (b : Bool) → same_join j v ≡ b → In i (if b then record v { loaded = later_state v.loaded j.loaded } ∷ is else v
+        ∷ joined_with j is) → (In i (joined_with j is) → In i is) → In i (v ∷ is)
+    by true on (inl same) ih = absurd (other (test_is j.x v.x (and_parts (j.x == v.x) (j.store == v.store) (and_parts (uid_eq
+        (last_uid j.path) (last_uid v.path)) ((j.x == v.x) && (j.store == v.store)) on).1).0 ∙ (ap (λ (w : Joined). w.x) same ∙ of)))
     by true on (inr more) ih = inr more
     by false on (inl same) ih = inl same
     by false on (inr more) ih = inr (ih more)
 
-joined_from : (j : Joined) (is : List Joined) (i : Joined) → In i (joined_with j is) → ((z : Joined) × In z is × (z.path ≡ i.path)) ⊎ (i.path ≡ j.path)
+joined_from : (j : Joined) (is : List Joined) (i : Joined) → In i (joined_with j is) →
+    ((z : Joined) × In z is × (z.path ≡ i.path)) ⊎ (i.path ≡ j.path)
 joined_from j [] i (inl same) = inr (ap (λ (w : Joined). w.path) (sym same))
 joined_from j [] i (inr none) = absurd none
 joined_from j (v ∷ is) i there = by (same_join j v) there (joined_from j is i)
   where
-    by : (b : Bool) → In i (if b then record v { loaded = later_state v.loaded j.loaded } ∷ is else v ∷ joined_with j is) → (In i (joined_with j is) → ((z : Joined) × In z is × (z.path ≡ i.path)) ⊎ (i.path ≡ j.path)) → ((z : Joined) × In z (v ∷ is) × (z.path ≡ i.path)) ⊎ (i.path ≡ j.path)
+    by : (b : Bool) → In i (if b then record v { loaded = later_state v.loaded j.loaded } ∷ is else v ∷ joined_with j is) →
+        (In i (joined_with j is) → ((z : Joined) × In z is × (z.path ≡ i.path)) ⊎ (i.path ≡ j.path)) →
+        ((z : Joined) × In z (v ∷ is) × (z.path ≡ i.path)) ⊎ (i.path ≡ j.path)
     by true (inl same) ih = inl (v, inl refl, ap (λ (w : Joined). w.path) same)
     by true (inr more) ih = inl (i, inr more, refl)
     by false (inl same) ih = inl (v, inl refl, ap (λ (w : Joined). w.path) same)
@@ -240,11 +264,29 @@ pub ends_root : (s : Steps) (step : CallStep) (r : Root) → EndsRoot s r (gone_
 ends_root s (On at) r = left
   where
     left : EndsRoot s r r
-    left = record { grants = refl; keeping = refl; states = refl; said_more = λ z i. i; said_less = λ z i. inl i; joined_more = λ j i. record { join = j; there = i; path = refl; of = refl }; joined_less = λ x other j i of. i; joined_from = λ j i. inl (j, i, refl) }
+    left = record {
+      grants = refl;
+      keeping = refl;
+      states = refl;
+      said_more = λ z i. i;
+      said_less = λ z i. inl i;
+      joined_more = λ j i. record { join = j; there = i; path = refl; of = refl };
+      joined_less = λ x other j i of. i;
+      joined_from = λ j i. inl (j, i, refl);
+    }
 ends_root s (Ended e) r = by e
   where
     left : EndsRoot s r r
-    left = record { grants = refl; keeping = refl; states = refl; said_more = λ z i. i; said_less = λ z i. inl i; joined_more = λ j i. record { join = j; there = i; path = refl; of = refl }; joined_less = λ x other j i of. i; joined_from = λ j i. inl (j, i, refl) }
+    left = record {
+      grants = refl;
+      keeping = refl;
+      states = refl;
+      said_more = λ z i. i;
+      said_less = λ z i. inl i;
+      joined_more = λ j i. record { join = j; there = i; path = refl; of = refl };
+      joined_less = λ x other j i of. i;
+      joined_from = λ j i. inl (j, i, refl);
+    }
 
     new : Said
     new = record { path = uids_of s.path; x = s.x }
@@ -256,7 +298,8 @@ ends_root s (Ended e) r = by e
       states = said_same (λ (o : Root). o.states) new r (λ ws. refl);
       said_more = said_on new r;
       said_less = said_back new r;
-      joined_more = λ j i. record { join = j; there = subst (In j) (sym (said_same (λ (o : Root). o.joined) new r (λ ws. refl))) i; path = refl; of = refl };
+      joined_more = λ j i.
+          record { join = j; there = subst (In j) (sym (said_same (λ (o : Root). o.joined) new r (λ ws. refl))) i; path = refl; of = refl };
       joined_less = λ x other j i of. subst (In j) (said_same (λ (o : Root). o.joined) new r (λ ws. refl)) i;
       joined_from = λ j i. inl (j, subst (In j) (said_same (λ (o : Root). o.joined) new r (λ ws. refl)) i, refl);
     }
@@ -278,9 +321,12 @@ ends_root s (Ended e) r = by e
 
 -- a grant that an answer brings is of the call's object and top
 grant_is : (top : Uid) (x : ℕ) (r : Reply) (g : Grant) → granted_by top x r ≡ Some g → (g.x ≡ x) × (g.top ≡ top)
-grant_is top x (Reply.Bound (bound.Live b server i g stores)) z is = (ap (λ (y : Grant). y.x) (sym (some_is refl is)), ap (λ (y : Grant). y.top) (sym (some_is refl is)))
-grant_is top x (Reply.Bound (bound.Make b server g stores)) z is = (ap (λ (y : Grant). y.x) (sym (some_is refl is)), ap (λ (y : Grant). y.top) (sym (some_is refl is)))
-grant_is top x (Reply.Bound (bound.Write g stores)) z is = (ap (λ (y : Grant). y.x) (sym (some_is refl is)), ap (λ (y : Grant). y.top) (sym (some_is refl is)))
+grant_is top x (Reply.Bound (bound.Live b server i g stores)) z is =
+    (ap (λ (y : Grant). y.x) (sym (some_is refl is)), ap (λ (y : Grant). y.top) (sym (some_is refl is)))
+grant_is top x (Reply.Bound (bound.Make b server g stores)) z is =
+    (ap (λ (y : Grant). y.x) (sym (some_is refl is)), ap (λ (y : Grant). y.top) (sym (some_is refl is)))
+grant_is top x (Reply.Bound (bound.Write g stores)) z is =
+    (ap (λ (y : Grant). y.x) (sym (some_is refl is)), ap (λ (y : Grant). y.top) (sym (some_is refl is)))
 grant_is top x (Reply.Bound (bound.Conflict holder m)) z is = absurd (cc is)
 grant_is top x (Reply.Loaded l) z is = absurd (cc is)
 grant_is top x (Reply.Activated i) z is = absurd (cc is)
@@ -298,11 +344,15 @@ module _ (x : ℕ) (tops : Kinds) (s : Steps) (r : Reply) (m : Moved) (o : Root)
   kept_is = ap (λ (ks : List (ℕ × Keeping)). (unwrap_or (at_number x ks) no_keeping).kept) e.keeping
 
   -- of the object nothing is noted, and what is kept is alike
-  alike_by : GrantsAlike x tops (root_of s.path) o (root_moved s r m o) → KeptAlike (kept_of x o) (kept_of x (root_moved s r m o)) → ((z : Said) → In z (gone_root s m.step (root_moved s r m o)).said → z.x ≡ x → In z (root_moved s r m o).said) → IsAlike x tops (root_of s.path) o (gone_root s m.step (root_moved s r m o))
+  alike_by : GrantsAlike x tops (root_of s.path) o (root_moved s r m o) → KeptAlike (kept_of x o) (kept_of x (root_moved s r m o)) →
+      ((z : Said) → In z (gone_root s m.step (root_moved s r m o)).said → z.x ≡ x → In z (root_moved s r m o).said) →
+      IsAlike x tops (root_of s.path) o (gone_root s m.step (root_moved s r m o))
   alike_by grants kept said = record {
-    grants = ⊎_elim (λ same. inl (e.grants ∙ same)) (λ (z : (g : Grant) × (g.x ≡ x → ⊥) × IsTopOf tops (root_of s.path) g.top × ((root_moved s r m o).grants ≡ granted_with g o.grants)). inr (z.0, z.1, z.2, e.grants ∙ z.3)) grants;
+    grants = ⊎_elim (λ same. inl (e.grants ∙ same)) (λ (z : (g : Grant) × (g.x ≡ x → ⊥) × IsTopOf tops (root_of s.path) g.top
+        × ((root_moved s r m o).grants ≡ granted_with g o.grants)). inr (z.0, z.1, z.2, e.grants ∙ z.3)) grants;
     kept = kept_too kept;
-    said_back = λ z i of. in_to z o.said (subst (In z) (noted_said g o) (said z (in_from z (gone_root s m.step (root_moved s r m o)).said i) of));
+    said_back =
+        λ z i of. in_to z o.said (subst (In z) (noted_said g o) (said z (in_from z (gone_root s m.step (root_moved s r m o)).said i) of));
     said_on = λ z i. e.said_more z (subst (In z) (sym (noted_said g o)) i);
     joined_on = λ j i. e.joined_more j (subst (In j) (sym (noted_joined g o)) i);
     states = e.states ∙ noted_states g o;
@@ -311,40 +361,52 @@ module _ (x : ℕ) (tops : Kinds) (s : Steps) (r : Reply) (m : Moved) (o : Root)
       g : Option Grant
       g = granted_by (top_of s.path) s.x r
 
-      kept_too : KeptAlike (kept_of x o) (kept_of x (root_moved s r m o)) → KeptAlike (kept_of x o) (kept_of x (gone_root s m.step (root_moved s r m o)))
+      kept_too : KeptAlike (kept_of x o) (kept_of x (root_moved s r m o)) →
+          KeptAlike (kept_of x o) (kept_of x (gone_root s m.step (root_moved s r m o)))
       kept_too (inl same) = inl (same ∙ sym kept_is)
       kept_too (inr (k, l, was, now, binding, stores)) = inr (k, l, was, kept_is ∙ now, binding, stores)
 
   -- includes are those that were, and one under the step's path
   pub joins_from : JoinsFrom (uids_of s.path) o (gone_root s m.step (root_moved s r m o))
-  joins_from j i = ⊎_elim (λ (z : (i : Joined) × In i (root_moved s r m o).joined × (i.path ≡ j.path)). inl (z.0, in_to z.0 o.joined (subst (In z.0) (noted_joined (granted_by (top_of s.path) s.x r) o) z.1), z.2)) (λ its. inr its) (e.joined_from j (in_from j (gone_root s m.step (root_moved s r m o)).joined i))
+  joins_from j i = ⊎_elim (λ (z : (i : Joined) × In i (root_moved s r m o).joined × (i.path ≡ j.path)).
+      inl (z.0, in_to z.0 o.joined (subst (In z.0) (noted_joined (granted_by (top_of s.path) s.x r) o) z.1), z.2)) (λ its. inr its)
+      (e.joined_from j (in_from j (gone_root s m.step (root_moved s r m o)).joined i))
 
   -- it is about another object
-  pub other_alike : (s.x ≡ x → ⊥) → IsTopOf tops (root_of s.path) (top_of s.path) → IsAlike x tops (root_of s.path) o (gone_root s m.step (root_moved s r m o))
+  pub other_alike : (s.x ≡ x → ⊥) → IsTopOf tops (root_of s.path) (top_of s.path) →
+      IsAlike x tops (root_of s.path) o (gone_root s m.step (root_moved s r m o))
   other_alike other top = alike_by (by (granted_by (top_of s.path) s.x r) refl) (inl (sym (moved_other x s r m o other)))
       (λ z i of. ⊎_elim (λ old. old) (λ new. absurd (other (ap (λ (w : Said). w.x) (sym new) ∙ of))) (e.said_less z i))
     where
       by : (g : Option Grant) → granted_by (top_of s.path) s.x r ≡ g → GrantsAlike x tops (root_of s.path) o (root_moved s r m o)
       by None is = inl (ap (λ y. (notes_grant y o).grants) is)
-      by (Some g) is = let z = grant_is (top_of s.path) s.x r g is in inr (g, (λ of. other (sym z.0 ∙ of)), subst (IsTopOf tops (root_of s.path)) (sym z.1) top, ap (λ y. (notes_grant y o).grants) is)
+      by (Some g) is = let z = grant_is (top_of s.path) s.x r g is in
+          inr (g, (λ of. other (sym z.0 ∙ of)), subst (IsTopOf tops (root_of s.path)) (sym z.1) top, ap (λ y. (notes_grant y o).grants) is)
 
-  pub other_loads : (s.x ≡ x → ⊥) → (N : Names) → HaveLoads x tops (root_of s.path) o N → HaveLoads x tops (root_of s.path) (gone_root s m.step (root_moved s r m o)) N
-  other_loads other N loads j t i of on top = loads j t (in_to j o.joined (subst (In j) (noted_joined (granted_by (top_of s.path) s.x r) o) (e.joined_less x other j (in_from j (gone_root s m.step (root_moved s r m o)).joined i) of))) of on top
+  pub other_loads : (s.x ≡ x → ⊥) → (N : Names) → HaveLoads x tops (root_of s.path) o N →
+      HaveLoads x tops (root_of s.path) (gone_root s m.step (root_moved s r m o)) N
+  other_loads other N loads j t i of on top = loads j t (in_to j o.joined (subst (In j) (noted_joined (granted_by (top_of s.path) s.x r) o)
+      (e.joined_less x other j (in_from j (gone_root s m.step (root_moved s r m o)).joined i) of))) of on top
 
   -- it is about the object, and brings no grant: what is kept is alike, where an answer to a call says so
-  pub same_alike : s.x ≡ x → granted_by (top_of s.path) s.x r ≡ None → (is_include s.goal ≡ false → KeptAlike (kept_of s.x o) m.kept) → IsAlike x tops (root_of s.path) o (root_moved s r m o)
+  pub same_alike : s.x ≡ x → granted_by (top_of s.path) s.x r ≡ None → (is_include s.goal ≡ false → KeptAlike (kept_of s.x o) m.kept) →
+      IsAlike x tops (root_of s.path) o (root_moved s r m o)
   same_alike of none kept = record {
     grants = inl (ap (λ y. (notes_grant y o).grants) none);
-    kept = subst (λ y. KeptAlike (kept_of y o) (kept_of y (root_moved s r m o))) of (subst (KeptAlike (kept_of s.x o)) (sym (moved_kept s r m o)) (by s.goal kept));
+    kept = subst (λ y. KeptAlike (kept_of y o) (kept_of y (root_moved s r m o))) of
+        (subst (KeptAlike (kept_of s.x o)) (sym (moved_kept s r m o)) (by s.goal kept));
     said_back = λ z i about. subst (λ ss. Contains ss z) (noted_said (granted_by (top_of s.path) s.x r) o) i;
     said_on = λ z i. subst (In z) (sym (noted_said (granted_by (top_of s.path) s.x r) o)) i;
-    joined_on = λ j i. record { join = j; there = subst (In j) (sym (noted_joined (granted_by (top_of s.path) s.x r) o)) i; path = refl; of = refl };
+    joined_on = λ j i.
+        record { join = j; there = subst (In j) (sym (noted_joined (granted_by (top_of s.path) s.x r) o)) i; path = refl; of = refl };
     states = noted_states (granted_by (top_of s.path) s.x r) o;
   }
     where
-      by : (g : Goal) → (is_include g ≡ false → KeptAlike (kept_of s.x o) m.kept) → KeptAlike (kept_of s.x o) (if is_call g then m.kept else kept_of s.x o)
+      by : (g : Goal) → (is_include g ≡ false → KeptAlike (kept_of s.x o) m.kept) →
+          KeptAlike (kept_of s.x o) (if is_call g then m.kept else kept_of s.x o)
       by (Run op) h = h refl
       by (Include st) h = inl refl
 
   pub same_loads : (N : Names) → HaveLoads x tops (root_of s.path) o N → HaveLoads x tops (root_of s.path) (root_moved s r m o) N
-  same_loads N loads j t i of on top = loads j t (subst (λ js. Contains js j) (noted_joined (granted_by (top_of s.path) s.x r) o) i) of on top
+  same_loads N loads j t i of on top =
+      loads j t (subst (λ js. Contains js j) (noted_joined (granted_by (top_of s.path) s.x r) o) i) of on top

@@ -1,40 +1,24 @@
 -- What coordinators have of naming's answers, where a message is taken that asks nothing and answers nothing.
-use Rattle.std.proofs.Common.{◌≡◌, ◌≤◌, ℕ, if◌then◌else◌, Bool, true, false, List, [], ◌∷◌, ◌++◌, Option, Some, None, refl, sym, ◌∙◌, ap, subst, inl, map, filter, not}
-use Rattle.std.specs.Prelude.{◌&&◌, ◌||◌}
-use Rattle.std.specs.List.{AllByRecursion, list_all}
-use Rattle.std.proofs.lemmas.Bool.{and_parts}
-use Rattle.arj_protocol.specs.Words.{End, Message, Uid, asks, uid_eq}
-use Rattle.arj_protocol.specs.Words.ending
-use Rattle.arj_protocol.specs.Words.message
-use Rattle.arj_protocol.specs.Words.role
-use Rattle.arj_protocol.specs.Ask.{answers, last_end}
-use Rattle.arj_protocol.specs.Coord.{Coord, root_at}
-use Rattle.arj_protocol.specs.Effect.{Abort, After, Before, Commit, Disk, Do, Effect, InPart, Intent, Look, Pair, Prepare, PutInc, PutIntent, RemoveIntent, Say, Send, Stop, Work, is_prepared, stopped, worked}
-use Rattle.arj_protocol.specs.Ending.{acked, acked_by, acked_left, answer_decided, answer_query, answer_recorded, is_deferred, is_kept_commit, is_over, let_go, root_or_self, tell, tell_all, tolds_let_go}
-use Rattle.arj_protocol.specs.Naming as naming
-use Rattle.arj_protocol.specs.Naming.{Naming}
-use Rattle.arj_protocol.specs.Node.{Handled, Parts, Took, Void, ack_told, by_reply, end_states, handle, handle_answer, handle_ask, handle_ends, handle_other, holders, is_earlier, naming_told, query_about, store_told, with_coord, naming_hello}
-use Rattle.arj_protocol.specs.Order.{at_uid, without_number, without_uid, put_uid, uid_number}
-use Rattle.arj_protocol.specs.Order as order
-use Rattle.arj_protocol.specs.Says.{AreAll, is_names_work, is_naming_effect, is_server_effect}
-use Rattle.arj_protocol.specs.Server as server
-use Rattle.arj_protocol.specs.Tree.{branch_of, is_open}
-use Rattle.arj_protocol.proofs.PartSays.{ends_own, told_own}
-use Rattle.arj_law_disk.specs.machine.Names.{Office}
-use Rattle.arj_law_disk.proofs.machine.Base.{never, some_is}
-use Rattle.arj_law_parts.specs.moves.Seen.{up}
-use Rattle.arj_promise.specs.Runs.{Seen}
-use Rattle.arj_law_parts.specs.moves.Walks.{Walks, Up}
-use Rattle.arj_law_disk_view.specs.view.Sees.{Kinds}
-use Rattle.arj_law_disk_view.specs.names.Both.{SeesBoth}
-use Rattle.arj_law_disk_view.specs.names.Handlers.{Quietly}
-use Rattle.arj_law_disk_view.specs.running.Heard.{SeesHeard}
-use Rattle.arj_law_disk_view.specs.running.Part.{HoldsFrom}
-use Rattle.arj_law_disk_view.proofs.running.HeardCoord.{mine, quiet_step}
-use Rattle.arj_law_disk_view.proofs.running.HeardLike.{IsLike, at_like}
-use Rattle.arj_law_disk_view.proofs.running.HeardPosts.{Rises, SaysHeard, all_join, all_mapped, queries_say}
-use Rattle.arj_law_disk_view.proofs.running.HeardQuiet.{fixed_in}
-use Rattle.arj_law_disk_view.proofs.running.HeardStays.{at_stays, memory_goes, memory_stays}
+use Rattle.arj_law_parts.proofs.Words
+use Words.{◌≡◌, ◌≤◌, ℕ, if◌then◌else◌, Bool, true, false, List, [], ◌∷◌, ◌++◌, Option, Some, None, refl, sym, ◌∙◌, ap, subst, inl, map}
+use Words.{filter, not, ◌&&◌, ◌||◌, AllByRecursion, list_all, and_parts, End, Message, Uid, asks, uid_eq, answers, last_end, Coord, root_at}
+use Words.{Abort, After, Before, Commit, Disk, Do, Effect, InPart, Intent, Look, Pair, Prepare, PutInc, PutIntent, RemoveIntent, Say, Send}
+use Words.{Stop, Work, is_prepared, stopped, worked, acked, acked_by, acked_left, answer_decided, answer_query, answer_recorded}
+use Words.{is_deferred, is_kept_commit, let_go, root_or_self, tell, tell_all, tolds_let_go, Naming, Handled, Parts, Took, Void, ack_told}
+use Words.{by_reply, end_states, handle, handle_answer, handle_ask, handle_ends, handle_other, holders, is_earlier, naming_told}
+use Words.{query_about, store_told, with_coord, naming_hello, at_uid, without_number, without_uid, put_uid, uid_number, AreAll}
+use Words.{is_names_work, is_naming_effect, is_server_effect, branch_of, is_open, ends_own, told_own, Seen}
+use Words.ending
+use Words.message
+use Words.role
+use Words.naming
+use Words.order
+use Words.server
+use Rattle.arj_law_disk_view.proofs.Terms.{is_over, Office, never, some_is, up, Walks, Up, Kinds, SeesBoth, Quietly, SeesHeard, HoldsFrom}
+use Rattle.arj_law_disk_view.proofs.running
+use running.{HeardCoord.mine, HeardCoord.quiet_step, HeardLike.IsLike, HeardLike.at_like, HeardQuiet.fixed_in}
+use running.HeardPosts.{Rises, SaysHeard, all_join, all_mapped, queries_say}
+use running.HeardStays.{at_stays, memory_goes, memory_stays}
 
 -- ---- what parts do
 
@@ -78,8 +62,10 @@ abbrev took_in : Handled → Option (Parts × List Effect)
 took_in (Void outs) = None
 took_in (Took v outs) = Some (v, outs)
 
-pub took_to : (G : Parts → List Effect → Type 0) (p : Parts) (es : List Effect) (v : Parts) (outs : List Effect) → Took p es ≡ Took v outs → G p es → G v outs
-took_to G p es v outs is g = let e : (p, es) ≡ (v, outs) = some_is refl (ap took_in is) in subst (λ (z : Parts × List Effect). G z.0 z.1) e g
+pub took_to : (G : Parts → List Effect → Type 0) (p : Parts) (es : List Effect) (v : Parts) (outs : List Effect) → Took p es ≡ Took v outs →
+    G p es → G v outs
+took_to G p es v outs is g = let e : (p, es) ≡ (v, outs) = some_is refl (ap took_in is) in
+    subst (λ (z : Parts × List Effect). G z.0 z.1) e g
 
 module _ (x i : ℕ) (A : Office) where
   abbrev Q : Effect → Type 0
@@ -89,7 +75,8 @@ module _ (x i : ℕ) (A : Office) where
   names_say [] all = tt
   names_say (Say b ∷ es) all = (tt, names_say es (and_parts (is_naming_effect (Say b)) (list_all is_naming_effect es) all).1)
   names_say (Send to m ∷ es) all = absurd (never all refl)
-  names_say (Do w ∷ es) all = let z = and_parts (is_names_work w) (list_all is_naming_effect es) all in (leaves_rises i w (by w z.0), names_say es z.1)
+  names_say (Do w ∷ es) all = let z = and_parts (is_names_work w) (list_all is_naming_effect es) all in
+      (leaves_rises i w (by w z.0), names_say es z.1)
     where
       by : (w : Work) → is_names_work w ≡ true → leaves w ≡ true
       by Look on = refl
@@ -109,11 +96,14 @@ module _ (x i : ℕ) (A : Office) where
   tells_say : (root : Uid) (ack : Bool) (ends : List (Uid × End)) (ns : List ℕ) → AllByRecursion Q (tell_all root ack ends ns)
   tells_say root ack ends ns = all_mapped Q (tell root ack ends) ns (λ n. (refl, tt))
 
-  told_says : (k from : ℕ) (d : Pair) (e : Pair) (o : Option Naming) (s : server.Server) (ack : Bool) (ends : List (Uid × End)) (u : Uid) (how : End)
+  told_says : (k from : ℕ) (d : Pair) (e : Pair) (o : Option Naming) (s : server.Server) (ack : Bool) (ends : List (Uid × End)) (u : Uid)
+      (how : End)
       → AllByRecursion Q (store_told k u how d ++ (naming_told u how e o).outs ++ (server.told k ends s).outs ++ ack_told from u ack)
   told_says k from d e o s ack ends u how =
       all_join Q (store_told k u how d ++ (naming_told u how e o).outs ++ (server.told k ends s).outs) (ack_told from u ack)
-      (all_join Q (store_told k u how d ++ (naming_told u how e o).outs) (server.told k ends s).outs (all_join Q (store_told k u how d) (naming_told u how e o).outs (stored (is_prepared u d) how) (named o)) (server_says k (server.told k ends s).outs (ends_own k ends s)))
+      (all_join Q (store_told k u how d ++ (naming_told u how e o).outs) (server.told k ends s).outs
+      (all_join Q (store_told k u how d) (naming_told u how e o).outs (stored (is_prepared u d) how) (named o))
+      (server_says k (server.told k ends s).outs (ends_own k ends s)))
       (acks ack)
     where
       stored : (b : Bool) (how : End) → AllByRecursion Q (if b then end_states k u how else [])
@@ -137,7 +127,8 @@ module _ (x i : ℕ) (A : Office) where
       let_go_says None = tt
       let_go_says (Some j) = one (not (uid_eq j.root u) && is_over (branch_of j.root c.tree))
         where
-          one : (b : Bool) → AllByRecursion Q (if b then tell_all j.root false ((j.root, ending.Abort) ∷ []) (let_go j.root (without_uid u intents) c j.nodes) else [])
+          one : (b : Bool) → AllByRecursion Q
+              (if b then tell_all j.root false ((j.root, ending.Abort) ∷ []) (let_go j.root (without_uid u intents) c j.nodes) else [])
           one true = tells_say j.root false ((j.root, ending.Abort) ∷ []) (let_go j.root (without_uid u intents) c j.nodes)
           one false = tt
 
@@ -145,7 +136,8 @@ module _ (x i : ℕ) (A : Office) where
       left j [] = (leaves_rises i (RemoveIntent u) refl, let_go_says (at_uid u intents))
       left j (n ∷ ns) = tt
 
-      has_it : (j : Intent) (b : Bool) → AllByRecursion Q (if b then acked_left u j intents c (without_number from j.nodes) else record { part = c; outs = []; reply = None }).outs
+      has_it : (j : Intent) (b : Bool) → AllByRecursion Q
+          (if b then acked_left u j intents c (without_number from j.nodes) else record { part = c; outs = []; reply = None }).outs
       has_it j true = left j (without_number from j.nodes)
       has_it j false = tt
 
@@ -157,11 +149,13 @@ module _ (x i : ℕ) (A : Office) where
   query_says : (from : ℕ) (u : Uid) (intents : List (Uid × Intent)) (c : Coord) → AllByRecursion Q (answer_query from u intents c)
   query_says from u intents c = first (is_open u c.tree || is_deferred u intents from)
     where
-      decided : (b : Bool) → AllByRecursion Q (if b then tell (root_or_self u (branch_of u c.tree)) false ((u, ending.Commit) ∷ []) from ∷ [] else tell (root_or_self u (branch_of u c.tree)) false ((u, ending.Abort) ∷ []) from ∷ [])
+      decided : (b : Bool) → AllByRecursion Q (if b then tell (root_or_self u (branch_of u c.tree)) false ((u, ending.Commit) ∷ []) from
+          ∷ [] else tell (root_or_self u (branch_of u c.tree)) false ((u, ending.Abort) ∷ []) from ∷ [])
       decided true = ((refl, tt), tt)
       decided false = ((refl, tt), tt)
 
-      listed : (j : Intent) (b : Bool) → AllByRecursion Q (if b then tell j.root true ((u, ending.Commit) ∷ []) from ∷ [] else answer_decided from u c)
+      listed : (j : Intent) (b : Bool) →
+          AllByRecursion Q (if b then tell j.root true ((u, ending.Commit) ∷ []) from ∷ [] else answer_decided from u c)
       listed j true = ((refl, tt), tt)
       listed j false = decided (is_kept_commit from u c)
 
@@ -175,7 +169,8 @@ module _ (x i : ℕ) (A : Office) where
 
 -- what is told again alone is changed by an acknowledgement
 telling_like : (c : Coord) (telling : List (Uid × Intent)) → IsLike c (record c { telling = telling })
-telling_like c telling = record { own = λ u. refl; branches = λ w. inl refl; works = λ u q does. inl does; roots = λ u. ((root_at u c).went, refl) }
+telling_like c telling =
+    record { own = λ u. refl; branches = λ w. inl refl; works = λ u q does. inl does; roots = λ u. ((root_at u c).went, refl) }
 
 acked_like : (from : ℕ) (u : Uid) (intents : List (Uid × Intent)) (c : Coord) → IsLike c (acked from u intents c).part
 acked_like from u intents c = by (at_uid u c.telling)
@@ -184,7 +179,8 @@ acked_like from u intents c = by (at_uid u c.telling)
     left j [] = telling_like c (without_uid u c.telling)
     left j (n ∷ ns) = telling_like c (put_uid u (record j { nodes = n ∷ ns }) c.telling)
 
-    has_it : (j : Intent) (b : Bool) → IsLike c (if b then acked_left u j intents c (without_number from j.nodes) else record { part = c; outs = []; reply = None }).part
+    has_it : (j : Intent) (b : Bool) →
+        IsLike c (if b then acked_left u j intents c (without_number from j.nodes) else record { part = c; outs = []; reply = None }).part
     has_it j true = left j (without_number from j.nodes)
     has_it j false = telling_like c c.telling
 
@@ -194,7 +190,8 @@ acked_like from u intents c = by (at_uid u c.telling)
 
 -- ---- a message
 
-module _ (x : ℕ) (tops : Kinds) (e k : ℕ) (d : Disk) (t v : Parts) (from : ℕ) (m : Message) (outs : List Effect) (M : Seen) (A : Office) (both : SeesBoth x tops A (up k d t M)) (p : SeesHeard x tops A (up k d t M)) where
+module _ (x : ℕ) (tops : Kinds) (e k : ℕ) (d : Disk) (t v : Parts) (from : ℕ) (m : Message) (outs : List Effect) (M : Seen) (A : Office)
+    (both : SeesBoth x tops A (up k d t M)) (p : SeesHeard x tops A (up k d t M)) where
   abbrev Goal : Parts → List Effect → Type 0
   Goal w es = IsLike t.coord w.coord × AllByRecursion (SaysHeard x d.inc A) es
 
@@ -209,15 +206,23 @@ module _ (x : ℕ) (tops : Kinds) (e k : ℕ) (d : Disk) (t v : Parts) (from : �
     where
       by_end : (o : Option (Uid × End)) → handle_ends k d t from z.ack z.ends o ≡ Took v outs → Goal v outs
       by_end None g = taken_goal t [] g (same_like, tt)
-      by_end (Some w) g = took_to Goal (record { server = (server.told k z.ends t.server).part; naming = (naming_told w.0 w.1 d.names t.naming).part; coord = t.coord }) (store_told k w.0 w.1 d.store ++ (naming_told w.0 w.1 d.names t.naming).outs ++ (server.told k z.ends t.server).outs ++ ack_told from w.0 z.ack) v outs g
+      by_end (Some w) g = took_to Goal
+          (record { server = (server.told k z.ends t.server).part; naming = (naming_told w.0 w.1 d.names t.naming).part; coord = t.coord })
+          (store_told k w.0 w.1 d.store ++ (naming_told w.0 w.1 d.names t.naming).outs ++ (server.told k z.ends t.server).outs
+          ++ ack_told from w.0 z.ack) v outs g
           (same_like, told_says x d.inc A k from d.store d.names t.naming t.server z.ack z.ends w.0 w.1)
   by_other (message.Acked z) is = by (acked from z.act d.intents t.coord).reply is
     where
-      by : (o : Option (Unit {0})) → by_reply (with_coord t (acked from z.act d.intents t.coord).part) (acked from z.act d.intents t.coord).outs o ≡ Took v outs → Goal v outs
+      by : (o : Option (Unit {0})) → by_reply (with_coord t (acked from z.act d.intents t.coord).part)
+          (acked from z.act d.intents t.coord).outs o ≡ Took v outs → Goal v outs
       by None g = absurd (cc g)
-      by (Some u) g = taken_goal (with_coord t (acked from z.act d.intents t.coord).part) (acked from z.act d.intents t.coord).outs g (acked_like from z.act d.intents t.coord, acked_says x d.inc A from z.act d.intents t.coord)
-  by_other (message.Query z) is = taken_goal t (answer_query from z.act d.intents t.coord) is (same_like, query_says x d.inc A from z.act d.intents t.coord)
-  by_other (message.Hello z) is = took_to Goal (record t { naming = naming_hello z.node z.inc t.naming }) (map query_about (filter (is_earlier z.node z.inc) (holders d t))) v outs is (same_like, queries_say x d.inc A (filter (is_earlier z.node z.inc) (holders d t)))
+      by (Some u) g = taken_goal (with_coord t (acked from z.act d.intents t.coord).part) (acked from z.act d.intents t.coord).outs g
+          (acked_like from z.act d.intents t.coord, acked_says x d.inc A from z.act d.intents t.coord)
+  by_other (message.Query z) is =
+      taken_goal t (answer_query from z.act d.intents t.coord) is (same_like, query_says x d.inc A from z.act d.intents t.coord)
+  by_other (message.Hello z) is = took_to Goal (record t { naming = naming_hello z.node z.inc t.naming })
+      (map query_about (filter (is_earlier z.node z.inc) (holders d t))) v outs is
+      (same_like, queries_say x d.inc A (filter (is_earlier z.node z.inc) (holders d t)))
   by_other (message.Bind z) is = absurd (cc is)
   by_other (message.Bound z) is = absurd (cc is)
   by_other (message.Load z) is = absurd (cc is)
@@ -236,12 +241,14 @@ module _ (x : ℕ) (tops : Kinds) (e k : ℕ) (d : Disk) (t v : Parts) (from : �
   by_other (message.Confirmed z) is = absurd (cc is)
 
   -- it is kept along the step, and who waits does so still
-  pub other_heard : asks m ≡ None → answers m ≡ None → handle k d t from m ≡ Took v outs → IsLike t.coord v.coord × Walks (HoldsFrom (SeesHeard x) x tops Quietly A) e k outs (Up (HoldsFrom (SeesHeard x) x tops Quietly A) k v) d M
+  pub other_heard : asks m ≡ None → answers m ≡ None → handle k d t from m ≡ Took v outs → IsLike t.coord v.coord
+      × Walks (HoldsFrom (SeesHeard x) x tops Quietly A) e k outs (Up (HoldsFrom (SeesHeard x) x tops Quietly A) k v) d M
   other_heard none also is =
       let g = by_other m (sym (ap (handle_answer k d t from m) also) ∙ (sym (ap (handle_ask k d t from m) none) ∙ is)) in (
         g.0,
         quiet_step x tops k d t M A both p v
             (λ N B only h more. at_like t.coord v.coord g.0 x k tops N.sent B
-            (at_stays x tops A B (fixed_in x tops A (up k d t M) both) h (memory_goes A B only) k M.sent N.sent t.coord more (λ u own kind. memory_stays tops A B only (tops.root (uid_number u))) (mine x tops k d t M A both p)))
+            (at_stays x tops A B (fixed_in x tops A (up k d t M) both) h (memory_goes A B only) k M.sent N.sent t.coord more
+            (λ u own kind. memory_stays tops A B only (tops.root (uid_number u))) (mine x tops k d t M A both p)))
             e outs M refl refl g.1,
       )

@@ -1,24 +1,13 @@
 -- Posts that ask nothing and answer nothing: ends, questions and greetings.
-use Rattle.std.proofs.Common.{◌≡◌, ◌≤◌, ◌+◌, ℕ, true, List, [], ◌∷◌, ◌++◌, None, refl, map}
-use Rattle.std.specs.Prelude.{⊤}
-use Rattle.std.specs.List.{AllByRecursion, flat_map}
-use Rattle.arj_protocol.specs.Words.{Uid, Header, asks}
-use Rattle.arj_protocol.specs.Words.ending
-use Rattle.arj_protocol.specs.Ask.{answers}
-use Rattle.arj_protocol.specs.Effect.{Disk, Effect, Say, Send, Do, Work, Intent, Stop, Before, After, InPart, stopped, worked, Look, PutInc}
-use Rattle.arj_protocol.specs.Ending.{tell, tell_all}
-use Rattle.arj_protocol.specs.Node.{query_about}
-use Rattle.arj_protocol.specs.Step.{hello_to, naming_at, naming_back, recovered_records, restart_outs, tolds_again}
-use Rattle.arj_protocol.specs.Node.{prepared_actions}
-use Rattle.arj_protocol.specs.Order.{uid_set, without_number}
-use Rattle.arj_protocol.specs.Says.{AreAll}
-use Rattle.arj_protocol.specs.Step.{numbers_to}
-use Rattle.arj_protocol.specs.Words.body
-use Rattle.arj_law_disk.specs.machine.Names.{Office}
-use Rattle.arj_law_disk.proofs.machine.Base.{never}
-use Rattle.arj_law_disk_view.proofs.view.HeardWalks.{is_say}
-use Rattle.arj_law_disk_view.proofs.view.RestartWalks.{back_says, map_says}
-use Rattle.arj_law_disk_view.specs.running.Heard.{ClaimsAsked}
+use Rattle.arj_law_parts.proofs.Words
+use Words.{◌≡◌, ◌≤◌, ◌+◌, ℕ, true, List, [], ◌∷◌, ◌++◌, None, refl, map, ⊤, AllByRecursion, flat_map, Uid, Header, asks, answers, Disk}
+use Words.{Effect, Say, Send, Do, Work, Intent, Stop, Before, After, InPart, stopped, worked, Look, PutInc, tell, tell_all, query_about}
+use Words.{hello_to, naming_at, naming_back, recovered_records, restart_outs, tolds_again, prepared_actions, uid_set, without_number}
+use Words.{AreAll, numbers_to}
+use Words.ending
+use Words.body
+use Rattle.arj_law_disk_view.proofs.Terms.{Office, never, ClaimsAsked}
+use Rattle.arj_law_disk_view.proofs.view.{HeardWalks.is_say, RestartWalks.back_says, RestartWalks.map_says}
 
 -- ---- lists of effects
 
@@ -30,7 +19,8 @@ pub all_mapped : {X : Type 0} (Q : Effect → Type 0) (f : X → Effect) (xs : L
 all_mapped Q f [] each = tt
 all_mapped Q f (a ∷ xs) each = (each a, all_mapped Q f xs each)
 
-pub all_flat : {X : Type 0} (Q : Effect → Type 0) (f : X → List Effect) (xs : List X) → ((a : X) → AllByRecursion Q (f a)) → AllByRecursion Q (flat_map f xs)
+pub all_flat : {X : Type 0} (Q : Effect → Type 0) (f : X → List Effect) (xs : List X) → ((a : X) → AllByRecursion Q (f a)) →
+    AllByRecursion Q (flat_map f xs)
 all_flat Q f [] each = tt
 all_flat Q f (a ∷ xs) each = all_join Q (f a) (flat_map f xs) (each a) (all_flat Q f xs each)
 
@@ -51,7 +41,8 @@ module _ (x i : ℕ) (A : Office) where
   Q e = SaysHeard x i A e
 
   pub tolds_say : (telling : List (Uid × Intent)) → AllByRecursion Q (tolds_again telling)
-  tolds_say telling = all_flat Q (λ (z : Uid × Intent). tell_all z.1.root true ((z.0, ending.Commit) ∷ []) z.1.nodes) telling (λ z. all_mapped Q (tell z.1.root true ((z.0, ending.Commit) ∷ [])) z.1.nodes (λ n. (refl, tt)))
+  tolds_say telling = all_flat Q (λ (z : Uid × Intent). tell_all z.1.root true ((z.0, ending.Commit) ∷ []) z.1.nodes) telling
+      (λ z. all_mapped Q (tell z.1.root true ((z.0, ending.Commit) ∷ [])) z.1.nodes (λ n. (refl, tt)))
 
   pub queries_say : (us : List Uid) → AllByRecursion Q (map query_about us)
   queries_say us = all_mapped Q query_about us (λ u. (refl, tt))
@@ -93,7 +84,12 @@ module _ (x i : ℕ) (A : Office) where
             all_join Q (Do Look ∷ back ++ next ++ tolds_again d.intents ++ map query_about hs) hellos
                 (all_join Q (Do Look ∷ back ++ next ++ tolds_again d.intents) (map query_about hs)
                 (all_join Q (Do Look ∷ back ++ next) (tolds_again d.intents)
-                (all_join Q (Do Look ∷ back) next ((λ c low. look_says c low), lines_say back (back_says (naming_at k (d.inc + 1) d.names))) ((λ c low. look_says c low), lines_say (recovered_records k d.intents) (map_says (λ (z : Uid × Intent). Say (body.Recovered k z.0)) d.intents (λ z. refl))))
+                (all_join Q (Do Look ∷ back) next
+                ((λ c low. look_says c low), lines_say back (back_says (naming_at k (d.inc + 1) d.names))) (
+                  (λ c low. look_says c low),
+                  lines_say (recovered_records k d.intents)
+                      (map_says (λ (z : Uid × Intent). Say (body.Recovered k z.0)) d.intents (λ z. refl)),
+                ))
                 (tolds_say d.intents))
                 (queries_say hs))
                 (all_mapped Q (hello_to k (d.inc + 1)) (without_number k (numbers_to hd.nodes)) (λ n. (refl, tt))),

@@ -1,64 +1,42 @@
 -- What a coordinator has of naming's answers, where a server's vote or a store's answer comes to a commit.
-use Rattle.std.proofs.Common.{◌≡◌, ℕ, true, false, List, [], ◌∷◌, Some, refl, sym, ◌∙◌, ap, subst, inr, ⊎_elim}
-use Rattle.std.specs.Prelude.{find}
-use Rattle.arj_base.proofs.Uids.{uid_is}
-use Rattle.arj_protocol.specs.Words.{Asked, Cause, Message, ObjectState, PreparedReply, Uid, nobody, object, uid_eq}
-use Rattle.arj_protocol.specs.Words.cause
-use Rattle.arj_protocol.specs.Words.prepared
-use Rattle.arj_protocol.specs.Words.voted
-use Rattle.arj_protocol.specs.Ask.{Reply, answers, top_of}
-use Rattle.arj_protocol.specs.Asking.{moved_commit}
-use Rattle.arj_protocol.specs.Commit as commit
-use Rattle.arj_protocol.specs.Commit.{Aborts, Preparing, Used, Voting, changed_of, marks_store, plainly, plan_of, stores_left, targets_of, votes_left, with_states}
-use Rattle.arj_protocol.specs.Coord.{Committing, Coord, Doing, doing_of}
-use Rattle.arj_protocol.specs.Effect.{Did, Disk}
-use Rattle.arj_protocol.specs.Node.{Parts}
-use Rattle.arj_protocol.specs.Order.{uid_number, with_number, without_number}
-use Rattle.arj_protocol.specs.Tree.{at_place, root_of}
-use Rattle.arj_protocol.proofs.Numbers.{number_tells}
-use Rattle.arj_law_parts.proofs.parts.GoodTrees.{found_by}
-use Rattle.arj_law_runs.specs.kept.Worlds.{IsGood}
-use Rattle.arj_law_runs.specs.calls.Runs.{KnowsFew}
-use Rattle.arj_law_runs.proofs.calls.WorldRuns.{votes_used}
-use Rattle.arj_law_disk.specs.machine.Names.{Office}
-use Rattle.arj_law_disk.specs.machine.State as disk
-use Rattle.arj_law_disk.proofs.machine.Base.{never, never_some, some_is}
-use Rattle.arj_law_parts.specs.moves.Seen.{In, up}
-use Rattle.arj_promise.specs.Runs.{Seen}
-use Rattle.arj_law_disk_view.specs.view.Coordinating.{IsBefore, KnowsNode}
-use Rattle.arj_law_disk_view.specs.view.Knows.{CommitsAt, KnowsMachine}
-use Rattle.arj_law_disk_view.specs.view.Pairs.{Among}
-use Rattle.arj_law_disk_view.specs.view.Plans.{used_at}
-use Rattle.arj_law_disk_view.specs.view.Sees.{Kinds, SeesCoord}
-use Rattle.arj_law_disk_view.proofs.view.BeginWalks.{before_idle}
-use Rattle.arj_law_disk_view.proofs.view.Frames.{node_here}
-use Rattle.arj_law_disk_view.specs.names.Both.{SeesBoth}
-use Rattle.arj_law_disk_view.specs.names.Handlers.{MayGoOn, Quietly}
+use Rattle.arj_law_parts.proofs.Words
+use Words.{◌≡◌, ℕ, true, false, List, [], ◌∷◌, Some, refl, sym, ◌∙◌, ap, subst, inr, ⊎_elim, find, uid_is, Asked, Cause, Message}
+use Words.{ObjectState, PreparedReply, Uid, nobody, object, uid_eq, Reply, answers, top_of, moved_commit, Aborts, Preparing, Used, Voting}
+use Words.{changed_of, marks_store, plainly, plan_of, stores_left, targets_of, votes_left, with_states, Committing, Coord, Doing, doing_of}
+use Words.{Did, Disk, Parts, uid_number, with_number, without_number, at_place, root_of, number_tells, Seen}
+use Words.cause
+use Words.prepared
+use Words.voted
+use Words.commit
+use Rattle.arj_law_disk_view.proofs.Terms
+use Terms.{found_by, IsGood, KnowsFew, votes_used, Office, never, never_some, some_is, up, IsBefore, KnowsNode, CommitsAt, KnowsMachine}
+use Terms.{Among, used_at, Kinds, SeesCoord, SeesBoth, MayGoOn, Quietly, SeesHeard, SeesPlan, HasHeard, going_of, AreOwnStates}
+use Terms.disk
 use Rattle.arj_law_disk_view.proofs.names.DecidedRoots.{found_among}
-use Rattle.arj_law_disk_view.specs.running.Heard.{SeesHeard, SeesPlan}
-use Rattle.arj_law_disk_view.specs.running.Part.{HasHeard, going_of}
-use Rattle.arj_law_disk_view.specs.running.Sound.{AreOwnStates}
-use Rattle.arj_law_disk_view.proofs.running.Given.{listed}
-use Rattle.arj_law_disk_view.proofs.running.HeardCommits.{goes_step}
-use Rattle.arj_law_disk_view.proofs.running.HeardCoord.{mine}
-use Rattle.arj_law_disk_view.proofs.running.HeardGoing.{begun_later, past_begun}
-use Rattle.arj_law_disk_view.proofs.running.HeardInputs.{heard_aborted}
-use Rattle.arj_law_disk_view.proofs.running.HeardNext.{GoesTo, plan_on, prepare_to, stores_to}
-use Rattle.arj_law_disk_view.proofs.running.HeardPlans.{begins_later, plain}
-use Rattle.arj_law_disk_view.proofs.running.HeardShut.{shut}
-use Rattle.arj_law_disk_view.proofs.running.SoundPlans.{with_all}
+use Rattle.arj_law_disk_view.proofs.running
+use running.{Given.listed, HeardCommits.goes_step, HeardCoord.mine, HeardGoing.begun_later, HeardGoing.past_begun}
+use running.{HeardInputs.heard_aborted, HeardPlans.begins_later, HeardPlans.plain, HeardShut.shut, SoundPlans.with_all}
+use running.HeardNext.{GoesTo, plan_on, prepare_to, stores_to}
+use Rattle.arj_law_disk_view.proofs.view.{BeginWalks.before_idle, Frames.node_here}
+use Rattle.arj_law_parts.specs.moves.Seen.{In}
 
-module _ (x : ℕ) (tops : Kinds) (e k : ℕ) (d : Disk) (t : Parts) (M : Seen) (A : Office) (good : IsGood (up k d t M)) (few : KnowsFew (up k d t M)) (knows : KnowsNode tops k d t M) (both : SeesBoth x tops A (up k d t M)) (h : SeesHeard x tops A (up k d t M)) (u : Uid) (q : Doing) (at_work : doing_of u t.coord ≡ Some q) where
+module _ (x : ℕ) (tops : Kinds) (e k : ℕ) (d : Disk) (t : Parts) (M : Seen) (A : Office) (good : IsGood (up k d t M))
+    (few : KnowsFew (up k d t M)) (knows : KnowsNode tops k d t M) (both : SeesBoth x tops A (up k d t M))
+    (h : SeesHeard x tops A (up k d t M)) (u : Uid) (q : Doing) (at_work : doing_of u t.coord ≡ Some q) where
   abbrev Heard_by : Did Coord → Type 0
   Heard_by did = (g : HasHeard (SeesHeard x) x tops Quietly A (going_of e k d t did, M)) × MayGoOn x g.office did.part
 
   -- the commit is aborted
-  pub heard_refused : (m : commit.Machine) (p : commit.Plan) (why : Cause) → q.now ≡ Committing m → Heard_by (moved_commit u (plainly (Aborts why p)) d.intents t.coord)
-  heard_refused m p why now = let n = (let c = knows.coord in c.machines u q m at_work now) in heard_aborted x tops e k d t M A good few knows both h u why n.branch [] n.found n.unended
+  pub heard_refused : (m : commit.Machine) (p : commit.Plan) (why : Cause) → q.now ≡ Committing m →
+      Heard_by (moved_commit u (plainly (Aborts why p)) d.intents t.coord)
+  heard_refused m p why now = let n = (let c = knows.coord in c.machines u q m at_work now) in
+      heard_aborted x tops e k d t M A good few knows both h u why n.branch [] n.found n.unended
 
   -- ---- a vote
 
-  module _ (p : commit.Plan) (left : List ℕ) (now : q.now ≡ Committing (Voting p left)) (from : ℕ) (m : Message) (a : Asked) (states : List ObjectState) (posted : In (record { from = from; to = k; message = m }) M.sent) (answering : answers m ≡ Some (a, Reply.Voted (voted.Yes states))) (act : a.act ≡ u) (own : AreOwnStates a.act states) where
+  module _ (p : commit.Plan) (left : List ℕ) (now : q.now ≡ Committing (Voting p left)) (from : ℕ) (m : Message) (a : Asked)
+      (states : List ObjectState) (posted : In (record { from = from; to = k; message = m }) M.sent)
+      (answering : answers m ≡ Some (a, Reply.Voted (voted.Yes states))) (act : a.act ≡ u) (own : AreOwnStates a.act states) where
     abbrev Next : commit.Plan
     Next = record p { changed = with_states states p.changed }
 
@@ -69,9 +47,11 @@ module _ (x : ℕ) (tops : Kinds) (e k : ℕ) (d : Disk) (t : Parts) (M : Seen) 
     old = let z = mine x tops k d t M A both h in z.plans u q (Voting p left) at_work now
 
     -- what is voted was called, and is the top's own
-    fresh : (w : Used) (st : ObjectState) → used_at x p.used ≡ Some w → Among st states → st.uid ≡ object x → (w.called ≡ true) × (st.writer ≡ u)
+    fresh : (w : Used) (st : ObjectState) → used_at x p.used ≡ Some w → Among st states → st.uid ≡ object x →
+        (w.called ≡ true) × (st.writer ≡ u)
     fresh w st at there of =
-        let z = votes_used k d t M few.1.1 from m a states posted answering q (Voting p left) (ap (λ y. doing_of y t.coord) act ∙ at_work) now st (listed st states there) in
+        let z = votes_used k d t M few.1.1 from m a states posted answering q (Voting p left) (ap (λ y. doing_of y t.coord) act ∙ at_work)
+        now st (listed st states there) in
         let same : z.0 ≡ w = some_is z.1 (ap (λ (y : Uid). used_at y.num p.used) of ∙ at) in
         (sym (ap (λ (y : Used). y.called) same) ∙ z.3, own.writer st there ∙ act)
 
@@ -79,23 +59,27 @@ module _ (x : ℕ) (tops : Kinds) (e k : ℕ) (d : Disk) (t : Parts) (M : Seen) 
     plan_voted = record {
       top = old.top;
       grants = old.grants;
-      changed = λ w st at there of. ⊎_elim (λ new. fresh w st at new of) (λ was. old.changed w st at was of) (with_all st states p.changed there);
+      changed =
+          λ w st at there of. ⊎_elim (λ new. fresh w st at new of) (λ was. old.changed w st at was of) (with_all st states p.changed there);
       list = old.list;
       loaded = old.loaded;
     }
 
     sees : SeesCoord x k d.inc tops t.coord A.world.disk
-    sees = let s = both.disks in s.coords k (record { number = k; disk = d; live = Some t }) t (node_here M k (record { number = k; disk = d; live = Some t })) refl
+    sees = let s = both.disks in
+        s.coords k (record { number = k; disk = d; live = Some t }) t (node_here M k (record { number = k; disk = d; live = Some t })) refl
 
     idle : A.world.disk.stage (uid_number u) ≡ disk.Idle
-    idle = before_idle x tops A.world.disk (uid_number u) n.branch.kind q.now (subst IsBefore (sym now) tt) n.top (sees.working u n.branch q n.found n.unended at_work)
+    idle = before_idle x tops A.world.disk (uid_number u) n.branch.kind q.now (subst IsBefore (sym now) tt) n.top
+        (sees.working u n.branch q n.found n.unended at_work)
 
     at : CommitsAt t.coord (root_of n.branch.path) u
     at = (q, Voting p left, at_work, now, ap root_of (sym n.path))
 
     -- who acts is somebody
     nobody_acts : nobody ≡ u → ⊥
-    nobody_acts same = never_some (found_by u t.coord.tree n.branch n.found).1 (ap (λ (y : Uid). at_place y.num t.coord.tree.branches) (sym same))
+    nobody_acts same =
+        never_some (found_by u t.coord.tree n.branch n.found).1 (ap (λ (y : Uid). at_place y.num t.coord.tree.branches) (sym same))
 
     abbrev To : List ℕ → Type 0
     To rest = Heard_by (moved_commit u (plainly (votes_left rest Next)) d.intents t.coord)
@@ -104,8 +88,10 @@ module _ (x : ℕ) (tops : Kinds) (e k : ℕ) (d : Disk) (t : Parts) (M : Seen) 
     ends : without_number from left ≡ [] → To []
     ends last =
         let g : GoesTo Next true (votes_left [] Next) = prepare_to (targets_of Next) Next true n.used n.more n.uses in
-        goes_step x tops e k d t M A knows both h u n.branch q g.machine n.found n.unended at_work n.top (ap top_of g.path ∙ (let y = n.plan in y.top_is)) (plan_on x tops u (Voting Next left) g.machine A g.used g.changed (λ on. refl) plan_voted)
-        (λ past. begins_later x tops u p (plan_of g.machine) left A (plain x tops k d t M A good few knows both h u n.branch n.found n.unended n.top) old (let y = n.plan in y.tidy) g.used
+        goes_step x tops e k d t M A knows both h u n.branch q g.machine n.found n.unended at_work n.top (ap top_of g.path
+        ∙ (let y = n.plan in y.top_is)) (plan_on x tops u (Voting Next left) g.machine A g.used g.changed (λ on. refl) plan_voted)
+        (λ past. begins_later x tops u p (plan_of g.machine) left A
+        (plain x tops k d t M A good few knows both h u n.branch n.found n.unended n.top) old (let y = n.plan in y.tidy) g.used
         (shut x tops k d t M A knows both u n.branch n.found n.top idle (let c = knows.coord in c.alone (root_of n.branch.path) u at))
         (λ w st used found.
         let it : changed_of x Next ≡ Some st = ap (λ ss. find (λ (s : ObjectState). uid_eq s.uid (object x)) ss) (sym g.changed) ∙ found in
@@ -116,7 +102,8 @@ module _ (x : ℕ) (tops : Kinds) (e k : ℕ) (d : Disk) (t : Parts) (M : Seen) 
 
     -- and others are waited for
     waits_on : (j : ℕ) (js : List ℕ) → To (j ∷ js)
-    waits_on j js = goes_step x tops e k d t M A knows both h u n.branch q (Voting Next (j ∷ js)) n.found n.unended at_work n.top (let y = n.plan in y.top_is) (plan_on x tops u (Voting Next left) (Voting Next (j ∷ js)) A refl refl (λ on. refl) plan_voted)
+    waits_on j js = goes_step x tops e k d t M A knows both h u n.branch q (Voting Next (j ∷ js)) n.found n.unended at_work n.top
+        (let y = n.plan in y.top_is) (plan_on x tops u (Voting Next left) (Voting Next (j ∷ js)) A refl refl (λ on. refl) plan_voted)
         (λ past. absurd (never refl past)) [] [] (votes_left (j ∷ js) Next) (λ v. tt) (inr refl)
 
     pub heard_vote : Heard_by (moved_commit u (plainly (votes_left (without_number from left) Next)) d.intents t.coord)
@@ -130,12 +117,15 @@ module _ (x : ℕ) (tops : Kinds) (e k : ℕ) (d : Disk) (t : Parts) (M : Seen) 
 
   module _ (p : commit.Plan) (left : List ℕ) (now : q.now ≡ Committing (Preparing p left)) where
     -- by a plan that uses and has changed the same
-    takes : (z : commit.Plan) (rest : List ℕ) → z.used ≡ p.used → z.changed ≡ p.changed → z.path ≡ p.path → Heard_by (moved_commit u (stores_left rest z) d.intents t.coord)
+    takes : (z : commit.Plan) (rest : List ℕ) → z.used ≡ p.used → z.changed ≡ p.changed → z.path ≡ p.path →
+        Heard_by (moved_commit u (stores_left rest z) d.intents t.coord)
     takes z rest used changed path =
         let n : KnowsMachine tops t.coord u (Preparing p left) = (let c = knows.coord in c.machines u q (Preparing p left) at_work now) in
         let g : GoesTo z false (let y = stores_left rest z in y.step) = stores_to rest z n.used n.more (used ∙ n.uses) in
-        goes_step x tops e k d t M A knows both h u n.branch q g.machine n.found n.unended at_work n.top (ap top_of (g.path ∙ path) ∙ (let y = n.plan in y.top_is))
-        (plan_on x tops u (Preparing p left) g.machine A (g.used ∙ used) (g.changed ∙ changed) g.votes (let y = mine x tops k d t M A both h in y.plans u q (Preparing p left) at_work now))
+        goes_step x tops e k d t M A knows both h u n.branch q g.machine n.found n.unended at_work n.top
+        (ap top_of (g.path ∙ path) ∙ (let y = n.plan in y.top_is))
+        (plan_on x tops u (Preparing p left) g.machine A (g.used ∙ used) (g.changed ∙ changed) g.votes
+        (let y = mine x tops k d t M A both h in y.plans u q (Preparing p left) at_work now))
         (λ past. begun_later x A u (plan_of g.machine) (past_begun x tops k d t M A knows both u q (Preparing p left) at_work now refl))
         [] (let y = stores_left rest z in y.marks) (let y = stores_left rest z in y.step) (λ v. tt) g.kind
 

@@ -1,52 +1,32 @@
 -- What the disk half of the view takes of the protocol alone, from good nodes and the rest.
-use Rattle.std.proofs.Common.{◌≡◌, ◌≢◌, ◌⊎◌, ◌<◌, ◌≤◌, ℕ, ◌==◌, ◌&&◌, zero, suc, List, [], ◌∷◌, Bool, true, false, Option, Some, None, refl, sym, ◌∙◌, ap, subst, inl, inr, ⊎_elim, slice_get, length, arith, filter, map}
-use Rattle.std.specs.Prelude.{if◌then◌else◌, not, is_some, take}
-use Rattle.std.specs.List.{AllByRecursion, list_any}
-use Rattle.std.proofs.lemmas.Bool.{and_parts}
-use Rattle.arj_lock.proofs.Members.{In, in_to}
-use Rattle.arj_lock.proofs.PassLeaves.{which}
-use Rattle.arj_base.proofs.Uids.{uid_cases, uid_is, uid_same}
-use Rattle.arj_base.specs.Path.{before_last}
-use Rattle.arj_protocol.specs.Words.{Uid, End, Kind, ObjectState, Path, Row, first_uid, is_held_by, is_on, last_uid, uid_eq, uids_of}
-use Rattle.arj_protocol.specs.Words.ending
-use Rattle.arj_protocol.specs.Words.kind
-use Rattle.arj_protocol.specs.Words.message
-use Rattle.arj_protocol.specs.Ask.{actor, top_of}
-use Rattle.arj_protocol.specs.Call.{Steps}
-use Rattle.arj_protocol.specs.Commit as commit
-use Rattle.arj_protocol.specs.Coord.{Doing, Calling, Committing, doing_of, plan_for, root_at}
-use Rattle.arj_protocol.specs.Effect.{Disk, Intent}
-use Rattle.arj_protocol.specs.Named.{Named}
-use Rattle.arj_protocol.specs.Naming.{Naming, loses, loses_row}
-use Rattle.arj_protocol.specs.Node.{Parts}
-use Rattle.arj_protocol.specs.Order.{at_uid, uid_number}
-use Rattle.arj_protocol.specs.Tree.{Branch, at_place, behind, branch_of, is_constituent, is_open, is_open_branch, is_own, root_of}
-use Rattle.arj_law_parts.specs.parts.Actions.{Action, act_of, action_of, paths_of}
-use Rattle.arj_law_parts.proofs.parts.Begun.{on_own}
-use Rattle.arj_law_parts.specs.parts.Coords.{IsBusy, IsGoodCoord, IsVoting}
-use Rattle.arj_law_runs.specs.kept.Worlds.{IsGoodOf, IsUp}
-use Rattle.arj_law_runs.proofs.kept.Handled.{good_coord, it, records_of_disk}
-use Rattle.arj_law_disk.proofs.machine.Base.{never, or_cases, some_is, test_is}
-use Rattle.arj_law_parts.specs.moves.Seen as seen
-use Rattle.arj_law_parts.specs.moves.Seen.{up}
-use Rattle.arj_promise.specs.Runs.{Seen}
-use Rattle.arj_law_disk_view.specs.view.Coordinating.{AreOrphansOf, HasBegunHere, KnowsNode}
-use Rattle.arj_law_disk_view.specs.view.Knows.{IsOfKind, IsOpenSerial, KnowsCoord, KnowsMachine, KnowsPlan, KnowsSteps}
-use Rattle.arj_law_disk_view.specs.view.Sees.{Kinds, IsFuture}
+use Rattle.arj_law_parts.proofs.Words
+use Words.{◌≡◌, ◌≢◌, ◌⊎◌, ◌<◌, ◌≤◌, ℕ, ◌==◌, ◌&&◌, zero, suc, List, [], ◌∷◌, Bool, true, false, Option, Some, None, refl, sym, ◌∙◌, ap}
+use Words.{subst, inl, inr, ⊎_elim, slice_get, length, arith, filter, map, if◌then◌else◌, not, is_some, take, AllByRecursion, list_any}
+use Words.{and_parts, In, in_to, which, uid_cases, uid_is, uid_same, before_last, Uid, End, Kind, ObjectState, Path, Row, first_uid}
+use Words.{is_held_by, is_on, last_uid, uid_eq, uids_of, actor, top_of, Steps, Doing, Calling, Committing, doing_of, plan_for, root_at}
+use Words.{Disk, Intent, Named, Naming, loses, loses_row, Parts, at_uid, uid_number, Branch, at_place, behind, branch_of, is_constituent}
+use Words.{is_open, is_open_branch, is_own, root_of, Seen}
+use Words.ending
+use Words.kind
+use Words.message
+use Words.commit
+use Rattle.arj_law_disk_view.proofs.Terms
+use Terms.{Action, act_of, action_of, paths_of, on_own, IsBusy, IsGoodCoord, IsVoting, IsGoodOf, IsUp, good_coord, it, never, or_cases}
+use Terms.{some_is, test_is, up, AreOrphansOf, HasBegunHere, KnowsNode, IsOfKind, IsOpenSerial, KnowsCoord, KnowsMachine, KnowsPlan, Kinds}
+use Terms.{IsFuture, Agrees, is_top_kind, AreEntryRows, AreNamesRows, ArePlaced, IsBegun, IsEntryRow, IsPlacedUp, AreRecorded, AreSound}
+use Terms.{IsSound, IsSoundNow}
+use Terms.seen
+use Rattle.arj_law_disk_view.proofs.running
+use running.{Begun.Stood, Begun.root_on, Begun.stood, Holders.constituent as with_serial, PlaceWalks.holders_begun, PlaceWalks.up_here}
+use running.{SoundCoords.root_own, SoundCoords.said_from, SoundPlans.one_change, SoundPlans.plan_tidy}
 use Rattle.arj_law_disk_view.proofs.view.Frames.{node_here}
+use Rattle.arj_law_disk_view.specs.{running.Records.IsRecorded, running.Sound.unvoted, view.Knows.KnowsSteps}
+use Rattle.arj_law_runs.proofs.kept.Handled.{records_of_disk}
 use Rattle.arj_law_disk_view.proofs.view.Keys as keys
-use Rattle.arj_law_disk_view.specs.running.Kinds.{Agrees, is_top_kind}
-use Rattle.arj_law_disk_view.specs.running.Places.{AreEntryRows, AreNamesRows, ArePlaced, IsBegun, IsEntryRow, IsPlacedUp}
-use Rattle.arj_law_disk_view.specs.running.Records.{AreRecorded, IsRecorded}
-use Rattle.arj_law_disk_view.specs.running.Sound.{AreSound, IsSound, IsSoundNow, unvoted}
-use Rattle.arj_law_disk_view.proofs.running.SoundCoords.{root_own, said_from}
-use Rattle.arj_law_disk_view.proofs.running.SoundPlans.{one_change, plan_tidy}
-use Rattle.arj_law_disk_view.proofs.running.Holders.{constituent as with_serial}
-use Rattle.arj_law_disk_view.proofs.running.PlaceWalks.{holders_begun, up_here}
-use Rattle.arj_law_disk_view.proofs.running.Begun.{Stood, root_on, stood}
 
 -- a list that is as long has something at the place too
-pub at_both : {A B : Type 0} (n : ℕ) (xs : List A) (ys : List B) (a : A) → length ys ≡ length xs → at_place n xs ≡ Some a → (b : B) × (at_place n ys ≡ Some b)
+pub at_both : {A B : Type 0} (n : ℕ) (xs : List A) (ys : List B) (a : A) → length ys ≡ length xs → at_place n xs ≡ Some a →
+    (b : B) × (at_place n ys ≡ Some b)
 at_both zero xs ys a long is = absurd (cc is)
 at_both {A} {B} (suc n) xs ys a long is = by n xs ys long is
   where
@@ -60,20 +40,27 @@ at_both {A} {B} (suc n) xs ys a long is = by n xs ys long is
 at_in : {X : Type 0} (u : Uid) (x : X) (m : List (Uid × X)) → at_uid u m ≡ Some x → In (u, x) m
 at_in u x [] is = absurd (cc is)
 at_in {X} u x (e ∷ es) is = ⊎_elim
-    (λ (same : u ≡ e.0). let it : e.1 ≡ x = some_is (keys.at_here e.0 e.1 es) (ap (λ w. at_uid w (e ∷ es)) (sym same) ∙ is) in inl (λ i. (sym same i, it i)))
+    (λ (same : u ≡ e.0). let it : e.1 ≡ x = some_is (keys.at_here e.0 e.1 es) (ap (λ w. at_uid w (e ∷ es)) (sym same) ∙ is) in
+    inl (λ i. (sym same i, it i)))
     (λ (other : u ≢ e.0). inr (at_in u x es (sym (keys.at_there u e.0 e.1 es other) ∙ is)))
     (uid_cases u e.0)
 
 -- each of what is told again has its record
-all_told : (intents telling : List (Uid × Intent)) → ((u : Uid) (j : Intent) → at_uid u telling ≡ Some j → (i : Intent) × (at_uid u intents ≡ Some i)) → AllByRecursion (λ (e : Uid × Intent). (i : Intent) × (at_uid e.0 intents ≡ Some i)) telling
+all_told : (intents telling : List (Uid × Intent)) → ((u : Uid) (j : Intent) → at_uid u telling ≡ Some j → (i : Intent)
+    × (at_uid u intents ≡ Some i)) → AllByRecursion (λ (e : Uid × Intent). (i : Intent) × (at_uid e.0 intents ≡ Some i)) telling
 all_told intents [] held = tt
-all_told intents (e ∷ es) held = (held e.0 e.1 (keys.at_here e.0 e.1 es), all_told intents es (λ u j is. ⊎_elim (λ (same : u ≡ e.0). held u e.1 (ap (λ w. at_uid w (e ∷ es)) same ∙ keys.at_here e.0 e.1 es)) (λ (other : u ≢ e.0). held u j (keys.at_there u e.0 e.1 es other ∙ is)) (uid_cases u e.0)))
+all_told intents (e ∷ es) held = (
+  held e.0 e.1 (keys.at_here e.0 e.1 es),
+  all_told intents es (λ u j is. ⊎_elim (λ (same : u ≡ e.0). held u e.1 (ap (λ w. at_uid w (e ∷ es)) same ∙ keys.at_here e.0 e.1 es))
+      (λ (other : u ≢ e.0). held u j (keys.at_there u e.0 e.1 es other ∙ is)) (uid_cases u e.0)),
+)
 
 unended : (o : Option End) → is_some o ≡ false → o ≡ None
 unended None h = refl
 unended (Some how) h = absurd (cc h)
 
-module _ (tops : Kinds) (acts : List Action) (k : ℕ) (d : Disk) (t : Parts) (M : Seen) (good : IsGoodOf acts (up k d t M)) (agree : Agrees tops acts) (recs : AreRecorded acts (up k d t M)) (placed : ArePlaced acts (up k d t M)) where
+module _ (tops : Kinds) (acts : List Action) (k : ℕ) (d : Disk) (t : Parts) (M : Seen) (good : IsGoodOf acts (up k d t M))
+    (agree : Agrees tops acts) (recs : AreRecorded acts (up k d t M)) (placed : ArePlaced acts (up k d t M)) where
   mine : IsUp acts M.sent M.labels k d.inc t
   mine = it 0 k d t M (acts, good)
 
@@ -92,8 +79,10 @@ module _ (tops : Kinds) (acts : List Action) (k : ℕ) (d : Disk) (t : Parts) (M
   of_kind : (u : Uid) (b : Branch) → branch_of u t.coord.tree ≡ Some b → IsOfKind tops u b.kind b.path
   of_kind u b is = subst (λ w. IsOfKind tops w b.kind b.path) (path u b is) (agree.each (action_of b) (coord.known u b is)).0
 
-  root : (u : Uid) (b : Branch) → branch_of u t.coord.tree ≡ Some b → tops.is_top (uid_number u) ≡ true → tops.root (uid_number u) ≡ uid_number (root_of b.path)
-  root u b is = subst (λ w. tops.is_top (uid_number w) ≡ true → tops.root (uid_number w) ≡ uid_number (root_of b.path)) (path u b is) (agree.each (action_of b) (coord.known u b is)).1
+  root : (u : Uid) (b : Branch) → branch_of u t.coord.tree ≡ Some b → tops.is_top (uid_number u) ≡ true →
+      tops.root (uid_number u) ≡ uid_number (root_of b.path)
+  root u b is = subst (λ w. tops.is_top (uid_number w) ≡ true →
+      tops.root (uid_number w) ≡ uid_number (root_of b.path)) (path u b is) (agree.each (action_of b) (coord.known u b is)).1
 
   -- where the action stands
   stands : (u : Uid) (b : Branch) → branch_of u t.coord.tree ≡ Some b → Stood acts (action_of b) b.kind
@@ -111,13 +100,16 @@ module _ (tops : Kinds) (acts : List Action) (k : ℕ) (d : Disk) (t : Parts) (M
   constituent kind.Top h = absurd (cc h)
   constituent kind.Independent h = absurd (cc h)
 
-  before : (u : Uid) (b : Branch) → branch_of u t.coord.tree ≡ Some b → b.kind ≡ kind.Constituent → before_last (paths_of acts u) ≡ Some (root_of b.path)
+  before : (u : Uid) (b : Branch) → branch_of u t.coord.tree ≡ Some b → b.kind ≡ kind.Constituent →
+      before_last (paths_of acts u) ≡ Some (root_of b.path)
   before u b is kd = ap before_last (sym (coord.tree.lists.paths_are u b is) ∙ below u b is kd)
 
-  stem : (u : Uid) (b : Branch) → branch_of u t.coord.tree ≡ Some b → is_constituent b.kind ≡ true → (r : Branch) × (branch_of (root_of b.path) t.coord.tree ≡ Some r)
+  stem : (u : Uid) (b : Branch) → branch_of u t.coord.tree ≡ Some b → is_constituent b.kind ≡ true →
+      (r : Branch) × (branch_of (root_of b.path) t.coord.tree ≡ Some r)
   stem u b is of = coord.tree.lists.parents u (root_of b.path) b is (before u b is (constituent b.kind of))
 
-  above : (u : Uid) (b : Branch) → branch_of u t.coord.tree ≡ Some b → b.ended ≡ None → is_constituent b.kind ≡ true → IsOpenSerial t.coord (root_of b.path)
+  above : (u : Uid) (b : Branch) → branch_of u t.coord.tree ≡ Some b → b.ended ≡ None → is_constituent b.kind ≡ true →
+      IsOpenSerial t.coord (root_of b.path)
   above u b is open_yet of =
       let kd = constituent b.kind of in
       let r = stem u b is of in
@@ -128,26 +120,32 @@ module _ (tops : Kinds) (acts : List Action) (k : ℕ) (d : Disk) (t : Parts) (M
         branch = r.0;
         found = r.1;
         unended = not_over r.0 r.1 (is_some (let z = r.0 in z.ended)) refl (before u b is kd);
-        serial = is_serial_one (let z = r.0 in z.kind) (let z = r.0 in z.path) (of_kind (root_of b.path) r.0 r.1) (ap (λ w. tops.is_serial (uid_number w)) (sym same) ∙ serial);
+        serial = is_serial_one (let z = r.0 in z.kind) (let z = r.0 in
+            z.path) (of_kind (root_of b.path) r.0 r.1) (ap (λ w. tops.is_serial (uid_number w)) (sym same) ∙ serial);
       }
     where
-      is_serial_one : (kd : Kind) (p : Path) → IsOfKind tops (root_of b.path) kd p → tops.is_serial (uid_number (root_of b.path)) ≡ true → kd ≡ kind.Serial
+      is_serial_one : (kd : Kind) (p : Path) → IsOfKind tops (root_of b.path) kd p → tops.is_serial (uid_number (root_of b.path)) ≡ true →
+          kd ≡ kind.Serial
       is_serial_one kind.Serial p f on = refl
       is_serial_one kind.Nested p f on = absurd (never on f.1)
       is_serial_one kind.Constituent p f on = absurd (never on f.1)
       is_serial_one kind.Top p f on = absurd (never on f.1)
       is_serial_one kind.Independent p f on = absurd (never on f.1)
 
-      not_over : (r : Branch) → branch_of (root_of b.path) t.coord.tree ≡ Some r → (c : Bool) → is_some r.ended ≡ c → before_last (paths_of acts u) ≡ Some (root_of b.path) → r.ended ≡ None
+      not_over : (r : Branch) → branch_of (root_of b.path) t.coord.tree ≡ Some r → (c : Bool) → is_some r.ended ≡ c →
+          before_last (paths_of acts u) ≡ Some (root_of b.path) → r.ended ≡ None
       not_over r found false off parent = unended r.ended off
-      not_over r found true on parent = absurd (never (coord.tree.closed u (root_of b.path) b r is parent found on) (ap (λ (o : Option End). is_some o) open_yet))
+      not_over r found true on parent =
+          absurd (never (coord.tree.closed u (root_of b.path) b r is parent found on) (ap (λ (o : Option End). is_some o) open_yet))
 
   -- ---- work
 
-  own_place : (u : Uid) (b : Branch) → branch_of u t.coord.tree ≡ Some b → (is_own u t.coord.tree ≡ true) × (at_place u.num t.coord.tree.branches ≡ Some b)
+  own_place : (u : Uid) (b : Branch) → branch_of u t.coord.tree ≡ Some b →
+      (is_own u t.coord.tree ≡ true) × (at_place u.num t.coord.tree.branches ≡ Some b)
   own_place u b is = by (is_own u t.coord.tree) refl is
     where
-      by : (c : Bool) → is_own u t.coord.tree ≡ c → (if c then at_place u.num t.coord.tree.branches else None) ≡ Some b → (is_own u t.coord.tree ≡ true) × (at_place u.num t.coord.tree.branches ≡ Some b)
+      by : (c : Bool) → is_own u t.coord.tree ≡ c → (if c then at_place u.num t.coord.tree.branches else None) ≡ Some b →
+          (is_own u t.coord.tree ≡ true) × (at_place u.num t.coord.tree.branches ≡ Some b)
       by true own h = (own, h)
       by false own h = absurd (cc h)
 
@@ -161,7 +159,8 @@ module _ (tops : Kinds) (acts : List Action) (k : ℕ) (d : Disk) (t : Parts) (M
   unrecorded : (u : Uid) → is_open u t.coord.tree ≡ true → at_uid u d.intents ≡ None
   unrecorded u o = by (at_uid u d.intents) refl
     where
-      opened : (g : Option Branch) → branch_of u t.coord.tree ≡ g → is_open_branch g ≡ true → (b : Branch) × (branch_of u t.coord.tree ≡ Some b) × (not (is_some b.ended) ≡ true)
+      opened : (g : Option Branch) → branch_of u t.coord.tree ≡ g → is_open_branch g ≡ true →
+          (b : Branch) × (branch_of u t.coord.tree ≡ Some b) × (not (is_some b.ended) ≡ true)
       opened None is h = absurd (cc h)
       opened (Some b) is h = (b, is, h)
 
@@ -223,20 +222,34 @@ module _ (tops : Kinds) (acts : List Action) (k : ℕ) (d : Disk) (t : Parts) (M
         objects = λ st i. let w = s.changed.used st i in w.own;
         top = is_top u a.branch.kind a.branch.path top (of_kind u a.branch a.found);
         changes = one_change (commit.plan_of m) (unvoted m) s.changed;
-        plan = record { actor_is = ap actor (sym a.path) ∙ path u a.branch a.found; top_is = ap top_of (sym a.path) ∙ top_path_is u a.branch a.found top; tidy = s.tidy };
+        plan = record {
+          actor_is = ap actor (sym a.path) ∙ path u a.branch a.found;
+          top_is = ap top_of (sym a.path) ∙ top_path_is u a.branch a.found top;
+          tidy = s.tidy;
+        };
         way = s.way;
         used = s.used;
         more = s.more;
         uses = s.uses;
       }
 
-  starts : (u : Uid) (b : Branch) (req : ℕ) → branch_of u t.coord.tree ≡ Some b → tops.is_top (uid_number u) ≡ true → KnowsPlan u (plan_for b.path req (root_at (root_of b.path) t.coord) t.coord)
-  starts u b req is top = record { actor_is = path u b is; top_is = top_path_is u b is (kind_of_top u b.kind b.path top (of_kind u b is)); tidy = plan_tidy b.path req (root_at (root_of b.path) t.coord) t.coord (root_of b.path).num (root_own (root_of b.path) t.coord sound) }
+  starts : (u : Uid) (b : Branch) (req : ℕ) → branch_of u t.coord.tree ≡ Some b → tops.is_top (uid_number u) ≡ true →
+      KnowsPlan u (plan_for b.path req (root_at (root_of b.path) t.coord) t.coord)
+  starts u b req is top = record {
+    actor_is = path u b is;
+    top_is = top_path_is u b is (kind_of_top u b.kind b.path top (of_kind u b is));
+    tidy = plan_tidy b.path req (root_at (root_of b.path) t.coord) t.coord (root_of b.path).num (root_own (root_of b.path) t.coord sound);
+  }
 
   steps : (u : Uid) (q : Doing) (s : Steps) → doing_of u t.coord ≡ Some q → q.now ≡ Calling s → KnowsSteps t.coord u s
   steps u q s does is =
       let a = subst (λ n. IsBusy t.coord.tree u n) is (coord.busy u q does) in
-      record { branch = a.branch; found = a.found; unended = unended a.branch.ended a.opened; actor_is = ap actor (sym a.path) ∙ path u a.branch a.found }
+      record {
+        branch = a.branch;
+        found = a.found;
+        unended = unended a.branch.ended a.opened;
+        actor_is = ap actor (sym a.path) ∙ path u a.branch a.found;
+      }
 
   -- ---- records
 
@@ -246,8 +259,10 @@ module _ (tops : Kinds) (acts : List Action) (k : ℕ) (d : Disk) (t : Parts) (M
   awaited : (u : Uid) (j : Intent) → at_uid u t.coord.telling ≡ Some j → (i : Intent) × (at_uid u d.intents ≡ Some i)
   awaited = let h = (mine_recorded.live t refl).0 in h.told
 
-  rooted : (u : Uid) (i : Intent) → at_uid u d.intents ≡ Some i → tops.is_top (uid_number u) ≡ true → tops.root (uid_number u) ≡ uid_number i.root
-  rooted u i is top = let r = (let q = mine_recorded.disk in q.each u i is) in ap (λ w. tops.root (uid_number w)) (sym r.2) ∙ (agree.each r.0 r.1).1 (ap (λ w. tops.is_top (uid_number w)) r.2 ∙ top) ∙ ap uid_number r.3
+  rooted : (u : Uid) (i : Intent) → at_uid u d.intents ≡ Some i → tops.is_top (uid_number u) ≡ true →
+      tops.root (uid_number u) ≡ uid_number i.root
+  rooted u i is top = let r = (let q = mine_recorded.disk in q.each u i is) in ap (λ w. tops.root (uid_number w)) (sym r.2)
+      ∙ (agree.each r.0 r.1).1 (ap (λ w. tops.is_top (uid_number w)) r.2 ∙ top) ∙ ap uid_number r.3
 
   knows_coord : KnowsCoord tops d.intents t.coord
   knows_coord = record {
@@ -282,8 +297,13 @@ module _ (tops : Kinds) (acts : List Action) (k : ℕ) (d : Disk) (t : Parts) (M
 
   -- ---- who is asked about
 
-  asked : (from : ℕ) (act : Uid) → seen.In (record { from = from; to = k; message = message.Query (record { act = act }) }) M.sent → HasBegunHere k t.coord act
-  asked from act sent = record { here = sym q.0; past = past counted; there = λ own. let f = coord.home b.0 act b.1 on own in (f.0, ap (λ w. branch_of w t.coord.tree) (sym b.2) ∙ f.1) }
+  asked : (from : ℕ) (act : Uid) → seen.In (record { from = from; to = k; message = message.Query (record { act = act }) }) M.sent →
+      HasBegunHere k t.coord act
+  asked from act sent = record {
+    here = sym q.0;
+    past = past counted;
+    there = λ own. let f = coord.home b.0 act b.1 on own in (f.0, ap (λ w. branch_of w t.coord.tree) (sym b.2) ∙ f.1);
+  }
     where
       q : (k ≡ act.node) × IsBegun acts act
       q = placed.asks (record { from = from; to = k; message = message.Query (record { act = act }) }) sent
@@ -327,20 +347,28 @@ module _ (tops : Kinds) (acts : List Action) (k : ℕ) (d : Disk) (t : Parts) (M
           let held : act_of f.0 ≡ a = sym (ap last_uid path) ∙ uid_is (last_uid r.holder) a p.0 in
           let of = (subst (λ k. IsOfKind tops (act_of s.0) k (let b = s.0 in b.path)) s.2 (agree.each s.0 s.1).0) in
           let top = (subst (λ k. IsOfKind tops (act_of f.0) k (let b = f.0 in b.path)) f.2 (agree.each f.0 f.1).0).0 in
-          ⊎_elim (λ first. let on = uid_is (act_of s.0) u first in (ap (λ w. tops.root (uid_number w)) (sym held) ∙ (agree.each f.0 f.1).1 top ∙ ap uid_number (ap first_uid s.3 ∙ on), ap (λ w. tops.is_top (uid_number w)) (sym on) ∙ of.0, ap (λ w. tops.is_serial (uid_number w)) (sym on) ∙ of.1))
+          ⊎_elim (λ first. let on = uid_is (act_of s.0) u first in (
+            ap (λ w. tops.root (uid_number w)) (sym held) ∙ (agree.each f.0 f.1).1 top ∙ ap uid_number (ap first_uid s.3 ∙ on),
+            ap (λ w. tops.is_top (uid_number w)) (sym on) ∙ of.0,
+            ap (λ w. tops.is_serial (uid_number w)) (sym on) ∙ of.1,
+          ))
           (λ second. absurd (never (ap (λ w. uid_eq w u) (sym held ∙ on_one (act_of f.0) u second) ∙ uid_same u) other))
           (or_cases (uid_eq (act_of s.0) u) (is_on (act_of f.0 ∷ []) u) (ap (λ us. is_on us u) (sym path) ∙ p.1))
 
-      found : (a : Uid) → uid_eq a u ≡ false → (objects : List (ℕ × Named)) → AreEntryRows acts objects → list_any (λ (e : ℕ × Named). list_any (loses u a) e.1.rows) objects ≡ true → IsIts a
+      found : (a : Uid) → uid_eq a u ≡ false → (objects : List (ℕ × Named)) → AreEntryRows acts objects →
+          list_any (λ (e : ℕ × Named). list_any (loses u a) e.1.rows) objects ≡ true → IsIts a
       found a other [] all on = absurd (cc on)
-      found a other (e ∷ es) all on = ⊎_elim (λ here. let w = which (loses u a) (let o = e.1 in o.rows) here in lost a other w.0 (all.0 w.0 (in_to w.0 (let o = e.1 in o.rows) w.1)) w.2) (found a other es all.1)
+      found a other (e ∷ es) all on = ⊎_elim (λ here. let w = which (loses u a) (let o = e.1 in o.rows) here in
+          lost a other w.0 (all.0 w.0 (in_to w.0 (let o = e.1 in o.rows) w.1)) w.2) (found a other es all.1)
           (or_cases (list_any (loses u a) (let o = e.1 in o.rows)) (list_any (λ (z : ℕ × Named). list_any (loses u a) z.1.rows) es) on)
 
       each : (us : List Uid) → AllByRecursion IsIts (filter (λ act. not (uid_eq act u) && loses_row u act n) us)
       each [] = tt
       each (a ∷ us) = by (uid_eq a u) (loses_row u a n) refl refl (each us)
         where
-          by : (b c : Bool) → uid_eq a u ≡ b → loses_row u a n ≡ c → AllByRecursion IsIts (filter (λ act. not (uid_eq act u) && loses_row u act n) us) → AllByRecursion IsIts (if not b && c then a ∷ filter (λ act. not (uid_eq act u) && loses_row u act n) us else filter (λ act. not (uid_eq act u) && loses_row u act n) us)
+          by : (b c : Bool) → uid_eq a u ≡ b → loses_row u a n ≡ c →
+              AllByRecursion IsIts (filter (λ act. not (uid_eq act u) && loses_row u act n) us) → AllByRecursion IsIts (if not b && c then a
+              ∷ filter (λ act. not (uid_eq act u) && loses_row u act n) us else filter (λ act. not (uid_eq act u) && loses_row u act n) us)
           by true c same l rest = rest
           by false false other l rest = rest
           by false true other l rest = (found a other n.objects (subst (AreNamesRows acts) is placed_up.entries) l, rest)
@@ -349,4 +377,11 @@ module _ (tops : Kinds) (acts : List Action) (k : ℕ) (d : Disk) (t : Parts) (M
   named = placed_up.naming
 
   pub knows_node : KnowsNode tops k d t M
-  knows_node = record { kinds = agree.kinds; coord = knows_coord; begun = holders_begun acts good.begun k d t M placed; asked = asked; elsewhere = λ none. sym named ∙ ap (λ (o : Option Naming). is_some o) none; naming_here = λ n is. (test_is k 1 (sym named ∙ ap (λ (o : Option Naming). is_some o) is), orphans_of n is) }
+  knows_node = record {
+    kinds = agree.kinds;
+    coord = knows_coord;
+    begun = holders_begun acts good.begun k d t M placed;
+    asked = asked;
+    elsewhere = λ none. sym named ∙ ap (λ (o : Option Naming). is_some o) none;
+    naming_here = λ n is. (test_is k 1 (sym named ∙ ap (λ (o : Option Naming). is_some o) is), orphans_of n is);
+  }

@@ -1,33 +1,22 @@
 -- Who prepares something was begun, and who is asked about, in the effects of each part.
-use Rattle.std.proofs.Common.{◌≡◌, ℕ, ◌||◌, List, [], ◌∷◌, ◌++◌, Bool, true, false, Option, Some, None, refl, sym, subst, map}
-use Rattle.std.specs.Prelude.{if◌then◌else◌, not}
-use Rattle.std.specs.List.{AllByRecursion, flat_map, list_all}
-use Rattle.std.proofs.lemmas.Bool.{and_parts}
-use Rattle.arj_protocol.specs.Words.{Uid, Asked, ConfirmedReply, End, Message, ObjectState, Path, Row, is_on, last_uid}
-use Rattle.arj_protocol.specs.Words.body
-use Rattle.arj_protocol.specs.Words.confirmed
-use Rattle.arj_protocol.specs.Words.ending
-use Rattle.arj_protocol.specs.Words.message
-use Rattle.arj_protocol.specs.Words.part
-use Rattle.arj_protocol.specs.Words.role
-use Rattle.arj_protocol.specs.Ask.{Reply, response, top_of}
-use Rattle.arj_protocol.specs.Confirm.{Grants, Marks, back_lines, checked, confirm, confirm_entries, confirm_new, confirms, entries_after, has_all, lock_all, prepared_by, wanted}
-use Rattle.arj_protocol.specs.Coord.{Coord}
-use Rattle.arj_protocol.specs.Effect.{Effect, Pair, Say, Send, Do, Look, PutInc, Prepare, Commit, Abort, PutIntent, RemoveIntent, Intent, Prep, Ready, Already, Old, InDoubt, did_nothing, is_prepared, prepare_answer, reply, void}
-use Rattle.arj_protocol.specs.Ending.{tell_all}
-use Rattle.arj_protocol.specs.Named.{Named}
-use Rattle.arj_protocol.specs.Naming as naming
-use Rattle.arj_protocol.specs.Naming.{Naming, end_entries, end_lines, end_orphans, has_locks, is_over, orphans, own_entries, taken_end, told_new}
-use Rattle.arj_protocol.specs.Node.{query_about}
-use Rattle.arj_protocol.specs.Says.{AreAll, is_coord_effect, is_server_effect}
-use Rattle.arj_protocol.specs.Step.{hello_to, naming_back, recovered_records, tolds_again}
-use Rattle.arj_law_parts.specs.parts.Actions.{Action}
+use Rattle.arj_law_parts.proofs.Words
+use Words.{◌≡◌, ℕ, ◌||◌, List, [], ◌∷◌, ◌++◌, Bool, true, false, Option, Some, None, refl, sym, subst, map, if◌then◌else◌, not}
+use Words.{AllByRecursion, flat_map, list_all, and_parts, Uid, Asked, ConfirmedReply, End, Message, ObjectState, Path, Row, is_on, last_uid}
+use Words.{Reply, response, top_of, Grants, Marks, back_lines, checked, confirm, confirm_entries, confirm_new, confirms, entries_after}
+use Words.{has_all, lock_all, prepared_by, wanted, Coord, Effect, Pair, Say, Send, Do, Look, PutInc, Prepare, Commit, Abort, PutIntent}
+use Words.{RemoveIntent, Intent, Prep, Ready, Already, Old, InDoubt, did_nothing, is_prepared, prepare_answer, reply, void, tell_all, Named}
+use Words.{Naming, end_entries, end_lines, end_orphans, has_locks, is_over, orphans, own_entries, taken_end, told_new, query_about, AreAll}
+use Words.{is_coord_effect, is_server_effect, hello_to, naming_back, recovered_records, tolds_again}
+use Words.body
+use Words.confirmed
+use Words.ending
+use Words.message
+use Words.part
+use Words.role
+use Words.naming
+use Rattle.arj_law_disk_view.proofs.Terms.{Action, IsAboutBegun, IsBegun, MeansBegun, asked_about, AreOwnIn, IsOwnVote, voted_of}
+use Rattle.arj_law_disk_view.proofs.{running.Lists.all_append, view.ConfirmWalks.locks_say, view.HeardWalks.is_say}
 use Rattle.arj_law_parts.specs.parts.Claims.{AreTrue, is_of_coord}
-use Rattle.arj_law_disk_view.proofs.view.ConfirmWalks.{locks_say}
-use Rattle.arj_law_disk_view.proofs.view.HeardWalks.{is_say}
-use Rattle.arj_law_disk_view.specs.running.Places.{IsAboutBegun, IsBegun, MeansBegun, asked_about}
-use Rattle.arj_law_disk_view.specs.running.Sound.{AreOwnIn, IsOwnVote, voted_of}
-use Rattle.arj_law_disk_view.proofs.running.Lists.{all_append}
 
 -- no request, and no end that is told, asks about anybody, or votes
 unasked : (m : Message) → is_of_coord m ≡ true → (asked_about m ≡ None) × IsOwnVote m
@@ -70,7 +59,8 @@ module _ (acts : List Action) where
 
   pub coord_means : (c : Coord) (es : List Effect) → AreTrue c es → AreAll is_coord_effect es → All es
   coord_means c [] its own = tt
-  coord_means c (Say b ∷ es) its own = (tt, coord_means c es its.1 (and_parts (is_coord_effect (Say b)) (list_all is_coord_effect es) own).1)
+  coord_means c (Say b ∷ es) its own =
+      (tt, coord_means c es its.1 (and_parts (is_coord_effect (Say b)) (list_all is_coord_effect es) own).1)
   coord_means c (Send to m ∷ es) its own = (asks_of to m its.0.plain, coord_means c es its.1 own)
   coord_means c (Do (PutIntent u i) ∷ es) its own = (tt, coord_means c es its.1 own)
   coord_means c (Do (RemoveIntent u) ∷ es) its own = (tt, coord_means c es its.1 own)
@@ -87,7 +77,8 @@ module _ (acts : List Action) where
 
   pub again_means : (telling : List (Uid × Intent)) → All (tolds_again telling)
   again_means [] = tt
-  again_means (e ∷ es) = let i = e.1 in both (tell_all i.root true ((e.0, ending.Commit) ∷ []) i.nodes) (tolds_again es) (tells_mean i.root true ((e.0, ending.Commit) ∷ []) i.nodes) (again_means es)
+  again_means (e ∷ es) = let i = e.1 in both (tell_all i.root true ((e.0, ending.Commit) ∷ []) i.nodes) (tolds_again es)
+      (tells_mean i.root true ((e.0, ending.Commit) ∷ []) i.nodes) (again_means es)
 
   pub response_means : (to : ℕ) (a : Asked) (r : Reply) → AreOwnIn a.act (voted_of r) → MeansBegun acts (Send to (response a r))
   response_means to a (Reply.Bound r) own = (tt, tt)
@@ -107,7 +98,8 @@ module _ (acts : List Action) where
 
   pub server_means : (n : ℕ) (es : List Effect) → AreAll (is_server_effect n) es → AllByRecursion (MeansBegun acts) es
   server_means n [] own = tt
-  server_means n (Say b ∷ es) own = (tt, server_means n es (and_parts (is_server_effect n (Say b)) (list_all (is_server_effect n) es) own).1)
+  server_means n (Say b ∷ es) own =
+      (tt, server_means n es (and_parts (is_server_effect n (Say b)) (list_all (is_server_effect n) es) own).1)
   server_means n (Send to m ∷ es) own = absurd (cc own)
   server_means n (Do w ∷ es) own = absurd (cc own)
 
@@ -123,7 +115,8 @@ module _ (acts : List Action) where
   ends_entries u ending.Abort = (tt, (tt, tt))
 
   pub told_means : (u : Uid) (how : End) (d : Pair) (n : Naming) → All (naming.told u how d n).outs
-  told_means u how d n = both (own_entries u how d) (let t = (if is_on n.told u then did_nothing n else told_new u (taken_end u how n) d n) in t.outs) (own (is_prepared u d)) (by (is_on n.told u))
+  told_means u how d n = both (own_entries u how d) (let t = (if is_on n.told u then did_nothing n else told_new u (taken_end u how n) d
+      n) in t.outs) (own (is_prepared u d)) (by (is_on n.told u))
     where
       own : (b : Bool) → All (if b then end_entries u how else [])
       own true = ends_entries u how
@@ -131,7 +124,8 @@ module _ (acts : List Action) where
 
       all_ends : (us : List Uid) → All (flat_map (λ act. end_entries act ending.Abort) us)
       all_ends [] = tt
-      all_ends (w ∷ ws) = both (end_entries w ending.Abort) (flat_map (λ act. end_entries act ending.Abort) ws) (ends_entries w ending.Abort) (all_ends ws)
+      all_ends (w ∷ ws) =
+          both (end_entries w ending.Abort) (flat_map (λ act. end_entries act ending.Abort) ws) (ends_entries w ending.Abort) (all_ends ws)
 
       orphan : (e : End) → All (end_orphans u e d n)
       orphan ending.Commit = tt
@@ -143,16 +137,21 @@ module _ (acts : List Action) where
 
       by : (b : Bool) → All (let t = (if b then did_nothing n else told_new u (taken_end u how n) d n) in t.outs)
       by true = tt
-      by false = both (end_orphans u (taken_end u how n) d n) (end_lines u (taken_end u how n) n) (orphan (taken_end u how n)) (lines (taken_end u how n) (has_locks u n))
+      by false = both (end_orphans u (taken_end u how n) d n) (end_lines u (taken_end u how n) n) (orphan (taken_end u how n))
+          (lines (taken_end u how n) (has_locks u n))
 
-  pub confirm_means : (p : Path) (grants : Grants) (excluded included : Marks) (d : Pair) (n : Naming) → IsBegun acts (top_of p) → All (confirm p grants excluded included d n).outs
-  confirm_means p grants excluded included d n begun = by (is_over p n || not (has_all grants n)) (is_on n.confirmed (top_of p) || is_prepared (top_of p) d)
+  pub confirm_means : (p : Path) (grants : Grants) (excluded included : Marks) (d : Pair) (n : Naming) → IsBegun acts (top_of p) →
+      All (confirm p grants excluded included d n).outs
+  confirm_means p grants excluded included d n begun =
+      by (is_over p n || not (has_all grants n)) (is_on n.confirmed (top_of p) || is_prepared (top_of p) d)
     where
       locks : All (let l = lock_all (wanted (top_of p) grants excluded d) p n in l.outs)
       locks = says_mean (lock_all (wanted (top_of p) grants excluded d) p n).outs (locks_say (wanted (top_of p) grants excluded d) p n)
 
-      answered : (ss : List ObjectState) (a : Prep) → All (prepared_by (top_of p) ss (lock_all (wanted (top_of p) grants excluded d) p n) a).outs
-      answered ss Ready = both (lock_all (wanted (top_of p) grants excluded d) p n).outs (Do Look ∷ Do (Prepare role.Names (top_of p) ss) ∷ Say (body.Prepared 1 (top_of p) role.Names) ∷ []) locks (tt, (begun, (tt, tt)))
+      answered : (ss : List ObjectState) (a : Prep) →
+          All (prepared_by (top_of p) ss (lock_all (wanted (top_of p) grants excluded d) p n) a).outs
+      answered ss Ready = both (lock_all (wanted (top_of p) grants excluded d) p n).outs
+          (Do Look ∷ Do (Prepare role.Names (top_of p) ss) ∷ Say (body.Prepared 1 (top_of p) role.Names) ∷ []) locks (tt, (begun, (tt, tt)))
       answered ss (Already u) = both (lock_all (wanted (top_of p) grants excluded d) p n).outs (Do Look ∷ []) locks (tt, tt)
       answered ss (Old u v) = both (lock_all (wanted (top_of p) grants excluded d) p n).outs (Do Look ∷ []) locks (tt, tt)
       answered ss (InDoubt u h) = both (lock_all (wanted (top_of p) grants excluded d) p n).outs (Do Look ∷ []) locks (tt, tt)
@@ -165,7 +164,8 @@ module _ (acts : List Action) where
       anew (Some r) = tt
       anew None = entries (entries_after (top_of p) grants excluded included d)
 
-      by : (a b : Bool) → All (if a then void n else (if b then reply (confirms (top_of p) n) confirmed.Yes else confirm_new p grants excluded included d n (checked p grants excluded included d n))).outs
+      by : (a b : Bool) → All (if a then void n else (if b then reply (confirms (top_of p) n) confirmed.Yes else confirm_new p grants
+          excluded included d n (checked p grants excluded included d n))).outs
       by true b = tt
       by false true = tt
       by false false = anew (checked p grants excluded included d n)

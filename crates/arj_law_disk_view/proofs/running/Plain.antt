@@ -1,28 +1,18 @@
 -- Effects that leave the records of a disk as they are.
-use Rattle.std.proofs.Common.{ℕ, ◌&&◌, ◌||◌, List, [], ◌∷◌, ◌++◌, Bool, true, false, Option, Some, None, refl, map, filter}
-use Rattle.std.specs.Prelude.{if◌then◌else◌, not}
-use Rattle.std.specs.List.{flat_map, list_all}
-use Rattle.std.proofs.lemmas.Bool.{and_parts}
-use Rattle.arj_protocol.specs.Words.{Uid, Path, Kind, End, Label, Body, Ask, uid_eq}
-use Rattle.arj_protocol.specs.Ask.{actor}
-use Rattle.arj_protocol.specs.Words.body
-use Rattle.arj_protocol.specs.Words.cause
-use Rattle.arj_protocol.specs.Words.ending
-use Rattle.arj_protocol.specs.Words.kind
-use Rattle.arj_protocol.specs.Asking.{asks_all, asks_node, end_line, gaveup_lines, mark_lines, step_call}
-use Rattle.arj_protocol.specs.Call.{Steps, CallStep, On, Ended}
-use Rattle.arj_protocol.specs.Commit.{Plan, participants, has_record}
-use Rattle.arj_protocol.specs.Coord.{Coord, Doing, doing_of, nodes_sent, root_at, servers_told}
-use Rattle.arj_protocol.specs.Effect.{Effect, Say, Send, Do, Look, PutInc, Prepare, Commit, Abort, PutIntent, RemoveIntent, Intent}
-use Rattle.arj_protocol.specs.Ending.{all_aborted, answer_decided, answer_query, answer_recorded, decided_told, ended, is_deferred, is_kept_commit, is_over, let_go, root_or_self, say_for, says, tell, tell_all, tolds_by, tolds_let_go, tolds_of, tolds_of_branch, up_to}
-use Rattle.arj_protocol.specs.Order as order
-use Rattle.arj_protocol.specs.Order.{at_uid}
-use Rattle.arj_protocol.specs.Says.{AreAll, is_naming_effect, is_server_effect}
-use Rattle.arj_protocol.specs.Step.{tolds_again}
-use Rattle.arj_protocol.specs.Tree.{Branch, branch_of, ends_of, is_open, root_of}
-use Rattle.arj_protocol.proofs.PartSays.{all_both, all_if}
-use Rattle.arj_law_parts.specs.parts.Actions.{Action}
-use Rattle.arj_law_disk_view.specs.running.Records.{LeavesRecords}
+use Rattle.arj_law_parts.proofs.Words
+use Words.{ℕ, ◌&&◌, ◌||◌, List, [], ◌∷◌, ◌++◌, Bool, true, false, Option, Some, None, refl, map, filter, if◌then◌else◌, not, flat_map}
+use Words.{list_all, and_parts, Uid, Path, Kind, End, Label, Body, Ask, uid_eq, actor, asks_all, asks_node, end_line, gaveup_lines}
+use Words.{mark_lines, step_call, Steps, CallStep, On, Ended, Plan, participants, has_record, Coord, Doing, doing_of, nodes_sent, root_at}
+use Words.{servers_told, Effect, Say, Send, Do, Look, PutInc, Prepare, Commit, Abort, PutIntent, RemoveIntent, Intent, all_aborted}
+use Words.{answer_decided, answer_query, answer_recorded, decided_told, ended, is_deferred, is_kept_commit, let_go, root_or_self, say_for}
+use Words.{says, tell, tell_all, tolds_by, tolds_let_go, tolds_of, tolds_of_branch, up_to, at_uid, AreAll, is_naming_effect}
+use Words.{is_server_effect, tolds_again, Branch, branch_of, ends_of, is_open, root_of, all_both, all_if}
+use Words.body
+use Words.cause
+use Words.ending
+use Words.kind
+use Words.order
+use Rattle.arj_law_disk_view.proofs.Terms.{is_over, Action, LeavesRecords}
 
 -- no work on records
 abbrev pub is_plain : Effect → Bool
@@ -37,7 +27,8 @@ pub plain_both : (es fs : List Effect) → Plain es → Plain fs → Plain (es +
 plain_both es fs a b = all_both is_plain es fs a b
 
 -- such effects before others, and alone
-pub leaves_behind : (acts : List Action) (telling : List (Uid × Intent)) (es fs : List Effect) (intents : List (Uid × Intent)) → Plain es → LeavesRecords acts telling fs intents → LeavesRecords acts telling (es ++ fs) intents
+pub leaves_behind : (acts : List Action) (telling : List (Uid × Intent)) (es fs : List Effect) (intents : List (Uid × Intent)) → Plain es →
+    LeavesRecords acts telling fs intents → LeavesRecords acts telling (es ++ fs) intents
 leaves_behind acts telling [] fs intents plain rest = rest
 leaves_behind acts telling (Say b ∷ es) fs intents plain rest = (tt, leaves_behind acts telling es fs intents plain rest)
 leaves_behind acts telling (Send to m ∷ es) fs intents plain rest = (tt, leaves_behind acts telling es fs intents plain rest)
@@ -60,11 +51,13 @@ plain_says u f c = by (doing_of u c)
 
 pub plain_marks : (u : Uid) (marks : List (ℕ × ℕ)) (c : Coord) → Plain (mark_lines u marks c)
 plain_marks u [] c = refl
-plain_marks u (m ∷ ms) c = plain_both (says u (λ l. body.Excluded l m.0 m.1) c) (mark_lines u ms c) (plain_says u (λ l. body.Excluded l m.0 m.1) c) (plain_marks u ms c)
+plain_marks u (m ∷ ms) c = plain_both (says u (λ l. body.Excluded l m.0 m.1) c) (mark_lines u ms c)
+    (plain_says u (λ l. body.Excluded l m.0 m.1) c) (plain_marks u ms c)
 
 pub plain_gaveup : (u : Uid) (nodes : List ℕ) (c : Coord) → Plain (gaveup_lines u nodes c)
 plain_gaveup u [] c = refl
-plain_gaveup u (n ∷ ns) c = plain_both (says u (λ l. body.GaveUp l n) c) (gaveup_lines u ns c) (plain_says u (λ l. body.GaveUp l n) c) (plain_gaveup u ns c)
+plain_gaveup u (n ∷ ns) c =
+    plain_both (says u (λ l. body.GaveUp l n) c) (gaveup_lines u ns c) (plain_says u (λ l. body.GaveUp l n) c) (plain_gaveup u ns c)
 
 -- ---- tolds
 
@@ -73,8 +66,10 @@ plain_tolds root ack ends [] = refl
 plain_tolds root ack ends (n ∷ ns) = plain_tolds root ack ends ns
 
 plain_by : (u : Uid) (k : Kind) (p : Path) (intents : List (Uid × Intent)) (c : Coord) → Plain (tolds_by u k p intents c)
-plain_by u kind.Nested p intents c = plain_tolds (root_of p) false (up_to u (ends_of (root_of p) c.tree)) (servers_told u (root_at (root_of p) c) c)
-plain_by u kind.Serial p intents c = plain_tolds u false ((u, ending.Abort) ∷ []) (filter (λ n. not (is_deferred u intents n)) (nodes_sent u (root_at u c)))
+plain_by u kind.Nested p intents c =
+    plain_tolds (root_of p) false (up_to u (ends_of (root_of p) c.tree)) (servers_told u (root_at (root_of p) c) c)
+plain_by u kind.Serial p intents c =
+    plain_tolds u false ((u, ending.Abort) ∷ []) (filter (λ n. not (is_deferred u intents n)) (nodes_sent u (root_at u c)))
 plain_by u kind.Top p intents c = plain_tolds (root_of p) false ((u, ending.Abort) ∷ []) (nodes_sent u (root_at (root_of p) c))
 plain_by u kind.Independent p intents c = plain_tolds (root_of p) false ((u, ending.Abort) ∷ []) (nodes_sent u (root_at (root_of p) c))
 plain_by u kind.Constituent p intents c = plain_tolds (root_of p) false ((u, ending.Abort) ∷ []) (nodes_sent u (root_at (root_of p) c))
@@ -88,32 +83,39 @@ plain_tolds_of intents c u = by (branch_of u c.tree)
 
 pub plain_tolds_all : (intents : List (Uid × Intent)) (c : Coord) (us : List Uid) → Plain (flat_map (tolds_of intents c) us)
 plain_tolds_all intents c [] = refl
-plain_tolds_all intents c (u ∷ us) = plain_both (tolds_of intents c u) (flat_map (tolds_of intents c) us) (plain_tolds_of intents c u) (plain_tolds_all intents c us)
+plain_tolds_all intents c (u ∷ us) =
+    plain_both (tolds_of intents c u) (flat_map (tolds_of intents c) us) (plain_tolds_of intents c u) (plain_tolds_all intents c us)
 
 pub plain_aborted : (us : List Uid) (c : Coord) → Plain (all_aborted us c).outs
 plain_aborted [] c = refl
-plain_aborted (u ∷ us) c = plain_both (says u (λ l. body.Aborted l cause.Asked) c) (all_aborted us (ended u ending.Abort c)).outs (plain_says u (λ l. body.Aborted l cause.Asked) c) (plain_aborted us (ended u ending.Abort c))
+plain_aborted (u ∷ us) c = plain_both (says u (λ l. body.Aborted l cause.Asked) c) (all_aborted us (ended u ending.Abort c)).outs
+    (plain_says u (λ l. body.Aborted l cause.Asked) c) (plain_aborted us (ended u ending.Abort c))
 
 pub plain_decided : (root u : Uid) (p : Plan) (ns : List ℕ) → Plain (map (decided_told root u p) ns)
 plain_decided root u p [] = refl
 plain_decided root u p (n ∷ ns) = by (order.has (participants p) n) (plain_decided root u p ns)
   where
-    by : (b : Bool) → Plain (map (decided_told root u p) ns) → Plain ((if b then tell root (has_record p) ((u, ending.Commit) ∷ []) n else tell root false ((u, ending.Abort) ∷ []) n) ∷ map (decided_told root u p) ns)
+    by : (b : Bool) → Plain (map (decided_told root u p) ns) → Plain ((if b then tell root (has_record p) ((u, ending.Commit) ∷ []) n else
+        tell root false ((u, ending.Abort) ∷ []) n) ∷ map (decided_told root u p) ns)
     by true rest = rest
     by false rest = rest
 
 pub plain_let_go : (u : Uid) (intents : List (Uid × Intent)) (c : Coord) (o : Option Intent) → Plain (tolds_let_go u intents c o)
 plain_let_go u intents c None = refl
-plain_let_go u intents c (Some i) = all_if is_plain (not (uid_eq i.root u) && is_over (branch_of i.root c.tree)) (tell_all i.root false ((i.root, ending.Abort) ∷ []) (let_go i.root intents c i.nodes)) [] (plain_tolds i.root false ((i.root, ending.Abort) ∷ []) (let_go i.root intents c i.nodes)) refl
+plain_let_go u intents c (Some i) =
+    all_if is_plain (not (uid_eq i.root u) && is_over (branch_of i.root c.tree)) (tell_all i.root false ((i.root, ending.Abort) ∷ [])
+    (let_go i.root intents c i.nodes)) [] (plain_tolds i.root false ((i.root, ending.Abort) ∷ []) (let_go i.root intents c i.nodes)) refl
 
 pub plain_again : (telling : List (Uid × Intent)) → Plain (tolds_again telling)
 plain_again [] = refl
-plain_again (e ∷ es) = plain_both (tell_all (let i = e.1 in i.root) true ((e.0, ending.Commit) ∷ []) (let i = e.1 in i.nodes)) (tolds_again es) (plain_tolds (let i = e.1 in i.root) true ((e.0, ending.Commit) ∷ []) (let i = e.1 in i.nodes)) (plain_again es)
+plain_again (e ∷ es) = plain_both (tell_all (let i = e.1 in i.root) true ((e.0, ending.Commit) ∷ []) (let i = e.1 in i.nodes))
+    (tolds_again es) (plain_tolds (let i = e.1 in i.root) true ((e.0, ending.Commit) ∷ []) (let i = e.1 in i.nodes)) (plain_again es)
 
 pub plain_query : (from : ℕ) (u : Uid) (intents : List (Uid × Intent)) (c : Coord) → Plain (answer_query from u intents c)
 plain_query from u intents c = by (is_open u c.tree || is_deferred u intents from) (at_uid u intents)
   where
-    decided : (b : Bool) (r : Uid) → Plain (if b then tell r false ((u, ending.Commit) ∷ []) from ∷ [] else tell r false ((u, ending.Abort) ∷ []) from ∷ [])
+    decided : (b : Bool) (r : Uid) →
+        Plain (if b then tell r false ((u, ending.Commit) ∷ []) from ∷ [] else tell r false ((u, ending.Abort) ∷ []) from ∷ [])
     decided true r = refl
     decided false r = refl
 
@@ -150,8 +152,11 @@ plain_naming (Say b ∷ es) own = plain_naming es (and_parts (is_naming_effect (
 plain_naming (Send to m ∷ es) own = absurd (cc own)
 plain_naming (Do Look ∷ es) own = plain_naming es own
 plain_naming (Do (PutInc i) ∷ es) own = absurd (cc own)
-plain_naming (Do (Prepare r u states) ∷ es) own = plain_naming es (and_parts (is_naming_effect (Do (Prepare r u states))) (list_all is_naming_effect es) own).1
-plain_naming (Do (Commit r u) ∷ es) own = plain_naming es (and_parts (is_naming_effect (Do (Commit r u))) (list_all is_naming_effect es) own).1
-plain_naming (Do (Abort r u) ∷ es) own = plain_naming es (and_parts (is_naming_effect (Do (Abort r u))) (list_all is_naming_effect es) own).1
+plain_naming (Do (Prepare r u states) ∷ es) own =
+    plain_naming es (and_parts (is_naming_effect (Do (Prepare r u states))) (list_all is_naming_effect es) own).1
+plain_naming (Do (Commit r u) ∷ es) own =
+    plain_naming es (and_parts (is_naming_effect (Do (Commit r u))) (list_all is_naming_effect es) own).1
+plain_naming (Do (Abort r u) ∷ es) own =
+    plain_naming es (and_parts (is_naming_effect (Do (Abort r u))) (list_all is_naming_effect es) own).1
 plain_naming (Do (PutIntent u i) ∷ es) own = absurd (cc own)
 plain_naming (Do (RemoveIntent u) ∷ es) own = absurd (cc own)

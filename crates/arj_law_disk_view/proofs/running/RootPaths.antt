@@ -1,26 +1,21 @@
 -- A call under way is by a path that its root begins, and on which each action stands once.
-use Rattle.std.proofs.Common.{◌≡◌, ◌≤◌, ◌++◌, Bool, true, false, cond, List, [], ◌∷◌, length, refl, sym, ◌∙◌, ap, subst, inl, inr, ⊎_elim, arith}
-use Rattle.std.proofs.lemmas.Bool.{or_parts}
-use Rattle.arj_base.proofs.Uids.{uid_is, uid_same, uid_sym}
-use Rattle.arj_lock.proofs.Members.{In, in_from}
-use Rattle.arj_protocol.specs.Words.{Kind, Path, Uid, first_uid, is_on, uid_eq, uids_of}
-use Rattle.arj_protocol.specs.Words.kind
-use Rattle.arj_protocol.specs.Coord.{Coord}
-use Rattle.arj_protocol.specs.Tree.{Branch, behind, is_own, root_of}
-use Rattle.arj_law_parts.specs.parts.Actions.{Action, AreBegun, IsNew, Stands, act_of, action_of, paths_of}
-use Rattle.arj_law_parts.specs.parts.Coords.{IsBusy, IsGoodCoord}
-use Rattle.arj_law_parts.proofs.parts.Begun.{begun_tree, on_more, path_some}
-use Rattle.arj_law_runs.proofs.calls.CoordKnown.{root_own}
-use Rattle.arj_law_disk.proofs.machine.Base.{never}
-use Rattle.arj_law_disk_view.specs.view.Knows.{IsFromRoot}
-use Rattle.arj_law_disk_view.specs.running.Sound.{AreOnPaths}
+use Rattle.arj_law_parts.proofs.Words
+use Words.{◌≡◌, ◌≤◌, ◌++◌, Bool, true, false, cond, List, [], ◌∷◌, length, refl, sym, ◌∙◌, ap, subst, inl, inr, ⊎_elim, arith, or_parts}
+use Words.{uid_is, uid_same, In, in_from, Kind, Path, Uid, first_uid, is_on, uid_eq, uids_of, Coord, Branch, behind, is_own, root_of}
+use Words.kind
+use Rattle.arj_law_disk_view.proofs.Terms
+use Terms.{Action, AreBegun, Stands, act_of, action_of, paths_of, IsBusy, IsGoodCoord, begun_tree, on_more, path_some, root_own, never}
+use Terms.{IsFromRoot, AreOnPaths}
+use Rattle.arj_base.proofs.Uids.{uid_sym}
+use Rattle.arj_law_parts.specs.parts.Actions.{IsNew}
 
 off_more : (us : List Uid) (u w : Uid) → is_on us w ≡ false → uid_eq u w ≡ false → is_on (us ++ u ∷ []) w ≡ false
 off_more us u w off other = by (is_on (us ++ u ∷ []) w) refl
   where
     by : (b : Bool) → is_on (us ++ u ∷ []) w ≡ b → is_on (us ++ u ∷ []) w ≡ false
     by false is = is
-    by true is = ⊎_elim (λ old. absurd (never old off)) (λ same. absurd (never (ap (λ z. uid_eq z w) same ∙ uid_same w) other)) (on_more us u w is)
+    by true is =
+        ⊎_elim (λ old. absurd (never old off)) (λ same. absurd (never (ap (λ z. uid_eq z w) same ∙ uid_same w) other)) (on_more us u w is)
 
 -- one more, which isn't on the path yet
 once_more : (us : List Uid) (u w : Uid) → is_on us u ≡ false → is_on (behind w us) w ≡ false → is_on (behind w (us ++ u ∷ [])) w ≡ false
@@ -31,7 +26,8 @@ once_more [] u w off once = by (uid_eq u w)
     by false = refl
 once_more (v ∷ us) u w off once = let p = or_parts (uid_eq v u) (is_on us u) off in by (uid_eq v w) refl p.0 once (once_more us u w p.1)
   where
-    by : (b : Bool) → uid_eq v w ≡ b → uid_eq v u ≡ false → is_on (cond b us (behind w us)) w ≡ false → (is_on (behind w us) w ≡ false → is_on (behind w (us ++ u ∷ [])) w ≡ false) → is_on (cond b (us ++ u ∷ []) (behind w (us ++ u ∷ []))) w ≡ false
+    by : (b : Bool) → uid_eq v w ≡ b → uid_eq v u ≡ false → is_on (cond b us (behind w us)) w ≡ false → (is_on (behind w us) w ≡ false →
+        is_on (behind w (us ++ u ∷ [])) w ≡ false) → is_on (cond b (us ++ u ∷ []) (behind w (us ++ u ∷ []))) w ≡ false
     by true same other h ih = off_more us u w h (uid_sym u w ∙ ap (λ z. uid_eq z u) (sym (uid_is v w same)) ∙ other)
     by false is other h ih = ih h
 
@@ -39,7 +35,8 @@ once_more (v ∷ us) u w off once = let p = or_parts (uid_eq v u) (is_on us u) o
 once_in : (acts : List Action) → AreBegun acts → (a : Action) → In a acts → (w : Uid) → is_on (behind w (uids_of a.path)) w ≡ false
 once_in [] begun a i w = absurd i
 once_in (c ∷ acts) begun a (inr old) w = once_in acts begun.1 a old w
-once_in (c ∷ acts) begun a (inl same) w = subst (λ (x : Action). is_on (behind w (uids_of x.path)) w ≡ false) same (by c.kind begun.0.stands (λ b i. once_in acts begun.1 b i w))
+once_in (c ∷ acts) begun a (inl same) w =
+    subst (λ (x : Action). is_on (behind w (uids_of x.path)) w ≡ false) same (by c.kind begun.0.stands (λ b i. once_in acts begun.1 b i w))
   where
     new : IsNew (act_of c) acts
     new = begun.0.new
@@ -47,10 +44,12 @@ once_in (c ∷ acts) begun a (inl same) w = subst (λ (x : Action). is_on (behin
     alone : uids_of c.path ≡ act_of c ∷ [] → is_on (behind w (uids_of c.path)) w ≡ false
     alone is = ap (λ us. is_on (behind w us) w) is ∙ once_more [] (act_of c) w refl refl
 
-    below : (b : Action) → is_on (uids_of b.path) (act_of c) ≡ false → uids_of c.path ≡ uids_of b.path ++ act_of c ∷ [] → is_on (behind w (uids_of b.path)) w ≡ false → is_on (behind w (uids_of c.path)) w ≡ false
+    below : (b : Action) → is_on (uids_of b.path) (act_of c) ≡ false → uids_of c.path ≡ uids_of b.path ++ act_of c ∷ [] →
+        is_on (behind w (uids_of b.path)) w ≡ false → is_on (behind w (uids_of c.path)) w ≡ false
     below b off is once = ap (λ us. is_on (behind w us) w) is ∙ once_more (uids_of b.path) (act_of c) w off once
 
-    by : (k : Kind) → Stands acts c k → ((b : Action) → In b acts → is_on (behind w (uids_of b.path)) w ≡ false) → is_on (behind w (uids_of c.path)) w ≡ false
+    by : (k : Kind) → Stands acts c k → ((b : Action) → In b acts → is_on (behind w (uids_of b.path)) w ≡ false) →
+        is_on (behind w (uids_of c.path)) w ≡ false
     by kind.Top s ih = alone s.0
     by kind.Independent s ih = alone s.0
     by kind.Serial s ih = alone s.0
@@ -59,7 +58,8 @@ once_in (c ∷ acts) begun a (inl same) w = subst (λ (x : Action). is_on (behin
 
 -- the path of an action is of its root
 from_root : (acts : List Action) → AreBegun acts → (a : Action) → In a acts → IsFromRoot (root_of a.path) (uids_of a.path)
-from_root acts begun a i = let h = headed (uids_of a.path) (path_some a.path) in record { rest = h.0; headed = h.1; once = once_in acts begun a i }
+from_root acts begun a i = let h = headed (uids_of a.path) (path_some a.path) in
+    record { rest = h.0; headed = h.1; once = once_in acts begun a i }
   where
     headed : (us : List Uid) → 1 ≤ length us → (rest : List Uid) × (us ≡ first_uid us ∷ rest)
     headed [] some = absurd (omega (arith, some))
@@ -73,7 +73,8 @@ on_paths acts begun c good u q s at now =
       root = root_of s.path;
       own = subst (λ p. own_at p) a.path (root_own acts (paths_of acts) (begun_tree acts begun) c good u b a.found);
       number = refl;
-      from = subst (λ p. IsFromRoot (root_of p) (uids_of p)) a.path (from_root acts begun (action_of b) (in_from (action_of b) acts (good.known u b a.found)));
+      from = subst (λ p. IsFromRoot (root_of p) (uids_of p)) a.path
+          (from_root acts begun (action_of b) (in_from (action_of b) acts (good.known u b a.found)));
     }
   where
     own_at : Path → Type 0

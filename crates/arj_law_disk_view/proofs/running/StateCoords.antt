@@ -1,43 +1,52 @@
 -- What a coordinator does with states: those that it has, sends and notes are of the form that came.
-use Rattle.std.proofs.Common.{Bool, List, None, Option, Some, [], ap, arith, cond, eqb-true, false, filter, find, inl, inr, map, nat_lt, not, refl, subst, suc, sym, true, zero, ℕ, ⊎_elim, ◌&&◌, ◌++◌, ◌+◌, ◌==◌, ◌||◌, ◌∙◌, ◌∷◌, ◌≡◌}
-use Rattle.std.specs.Prelude.{⊤, IfSome}
-use Rattle.std.specs.List.{AllByRecursion, flat_map, list_any}
-use Rattle.arj_base.proofs.Uids.{uid_cases, uid_is}
-use Rattle.arj_lock.proofs.Members.{In}
-use Rattle.arj_protocol.specs.Words.{Ask, Asked, Binding, Body, BoundReply, End, Head, InvokedReply, Kind as ActionKind, Label, LoadedReply, ObjectState, Op, Path, RecordedReply, Uid, last_uid, object, request, uid_eq, uids_of}
-use Rattle.arj_protocol.specs.Words.ask
-use Rattle.arj_protocol.specs.Words.body
-use Rattle.arj_protocol.specs.Words.bound
-use Rattle.arj_protocol.specs.Words.cause
-use Rattle.arj_protocol.specs.Words.confirmed
-use Rattle.arj_protocol.specs.Words.ending
-use Rattle.arj_protocol.specs.Words.invoked
-use Rattle.arj_protocol.specs.Words.kind
-use Rattle.arj_protocol.specs.Words.loaded
-use Rattle.arj_protocol.specs.Words.prepared
-use Rattle.arj_protocol.specs.Words.recorded
-use Rattle.arj_protocol.specs.Words.voted
-use Rattle.arj_protocol.specs.Ask.{Reply, actor, top_of}
-use Rattle.arj_protocol.specs.Asking.{again_all, again_now, asks_all, asks_machine, asks_node, asks_step, begin_action, call, call_steps, commit_action, commit_open, commit_top, commits_in, doomed_by, end_line, gaveup_lines, give_up, give_up_doing, gives_up, goes_on, granted_by, heard, heard_by, heard_call, heard_doing, heard_none, heard_now, include, is_ended, is_invoke_ask, keeps_after, kept_at, last_req, mark_lines, moved_commit, next_req, notes_grant, renewed, root_heard, root_lost, root_moved, step_call, step_commit, store_of, waits_for_call, waits_for_commit, known_at_start}
-use Rattle.arj_protocol.specs.Call.{Answered, At, AtActivate, AtBind, AtInvoke, AtLoad, AtNote, CallEnd, CallStep, Changed, Conflict, Ended, Goal, Included, Known, Lost, Moved, On, Steps, activated_by, answered, ask_at, bound_answer, bound_by, finds, given_up, has_changed, invoked_answer, live_known, load_from, loaded_answer, made_by, made_known, moves, named_again, next_ask, next_node, or_lost, other_binding, recorded_answer, same_binding, spoils, start, start_at, two_bindings, two_incs, with_inc, write_known}
-use Rattle.arj_protocol.specs.Call as calls
-use Rattle.arj_protocol.specs.Commit.{Aborts, Asks, CommitStep, Confirming, Decides, Machine, Plan, Preparing, Stays, Used, Voting, ask_of, begin_confirm, begin_prepare, begin_vote, changed_of, has_record, left_of, marks_store, marks_stores, nodes_given_up, participants, plan_of, servers_of, state_by, state_for, states_for, stores_left, targets_of, votes_left, with_state, with_states}
-use Rattle.arj_protocol.specs.Commit as commit
-use Rattle.arj_protocol.specs.Coord.{Calling, Committing, Coord, Doing, Grant, Idle, Joined, Keeping, Now, Root, Said, Went, change_doing, doing_of, is_free, joined_with, joins_on, keeping_of, later_state, latest_of, loaded_for, no_root, nodes_sent, objects_in, on_doing, on_root, or_kept_state, plan_for, root_at, same_join, same_said, same_went, servers_told, set_doing, used_of, with_keeping, with_said, with_went}
-use Rattle.arj_protocol.specs.Effect.{Did, Do, Effect, Intent, PutIntent, Served}
-use Rattle.arj_protocol.specs.Ending.{abort_action, aborts_with, all_aborted, decide, decided_told, ended, ends_with, is_deferred, root_after, say_for, says, states_after, tell, tell_all, tolds_by, tolds_of, tolds_of_branch, up_to}
-use Rattle.arj_protocol.specs.Order.{at_number, binding_eq, binding_less, has, put_number, put_uid, unbound, with_number, without_number}
-use Rattle.arj_protocol.specs.Step.{Input, acts, branch_named, on_branch, parent_of}
-use Rattle.arj_protocol.specs.Step as input
-use Rattle.arj_protocol.specs.Tree.{Branch, Tree, at_place, branch_of, doomed_at, ended_at, ends_of, is_own, open_below, root_of, uses_object}
-use Rattle.arj_law_parts.proofs.parts.GoodCoords.{doomed_same, uses_same}
-use Rattle.arj_law_parts.proofs.parts.GoodTrees.{get_more, placed}
-use Rattle.arj_law_parts.proofs.parts.LivesNamed.{all_at, all_put as all_put_number, keyed_found, keyed_put}
-use Rattle.arj_law_parts.proofs.parts.Settled.{doing_other, doing_put, end_tree_on}
-use Rattle.arj_law_runs.proofs.addresses.Lists.{all_append, all_some}
-use Rattle.arj_law_disk_view.specs.running.States.{AllSay, AskIsSo, AtIsSo, CoordIsSo, EndIsSo, Fits, MayKeep, MessageIsSo, NowIsSo, Own, OwnOf, PlanIsSo, ReplyIsSo, RootIsSo, StepIsSo}
-use Rattle.std.proofs.lemmas.Bool.{and_parts}
-use Rattle.arj_protocol.specs.Node.{is_loaded_for, is_loaded_in, reply_is_meant}
+use Rattle.arj_law_parts.proofs.Words
+use Words.{Bool, List, None, Option, Some, [], ap, arith, cond, eqb-true, false, filter, find, inl, inr, map, nat_lt, not, refl, subst, suc}
+use Words.{sym, true, zero, ℕ, ⊎_elim, ◌&&◌, ◌++◌, ◌+◌, ◌==◌, ◌||◌, ◌∙◌, ◌∷◌, ◌≡◌, ⊤, IfSome, AllByRecursion, flat_map, list_any, uid_cases}
+use Words.{uid_is, In, Ask, Asked, Binding, Body, BoundReply, End, Head, InvokedReply, Kind as ActionKind, Label, LoadedReply, ObjectState}
+use Words.{Op, Path, RecordedReply, Uid, last_uid, object, request, uid_eq, uids_of, Reply, actor, top_of, again_all, again_now, asks_all}
+use Words.{asks_machine, asks_node, asks_step, begin_action, call, call_steps, commit_action, commit_open, commit_top, commits_in}
+use Words.{doomed_by, end_line, gaveup_lines, give_up, give_up_doing, gives_up, goes_on, granted_by, heard, heard_by, heard_call}
+use Words.{heard_doing, heard_none, heard_now, include, is_ended, is_invoke_ask, keeps_after, kept_at, last_req, mark_lines, moved_commit}
+use Words.{next_req, notes_grant, renewed, root_heard, root_lost, root_moved, step_call, step_commit, store_of, waits_for_call}
+use Words.{waits_for_commit, known_at_start, Answered, At, AtActivate, AtBind, AtInvoke, AtLoad, AtNote, CallEnd, CallStep, Changed}
+use Words.{Conflict, Ended, Goal, Included, Known, Lost, Moved, On, Steps, activated_by, answered, ask_at, bound_answer, bound_by, finds}
+use Words.{given_up, has_changed, invoked_answer, live_known, load_from, loaded_answer, made_by, made_known, moves, named_again, next_ask}
+use Words.{next_node, or_lost, other_binding, recorded_answer, same_binding, spoils, start, start_at, two_bindings, two_incs, with_inc}
+use Words.{write_known, Aborts, Asks, CommitStep, Confirming, Decides, Machine, Plan, Preparing, Stays, Used, Voting, ask_of, begin_confirm}
+use Words.{begin_prepare, begin_vote, changed_of, has_record, left_of, marks_store, marks_stores, nodes_given_up, participants, plan_of}
+use Words.{servers_of, state_by, state_for, states_for, stores_left, targets_of, votes_left, with_state, with_states, Calling, Committing}
+use Words.{Coord, Doing, Grant, Idle, Joined, Keeping, Now, Root, Said, Went, change_doing, doing_of, is_free, joined_with, joins_on}
+use Words.{keeping_of, later_state, latest_of, loaded_for, no_root, nodes_sent, objects_in, on_doing, on_root, or_kept_state, plan_for}
+use Words.{root_at, same_join, same_said, same_went, servers_told, set_doing, used_of, with_keeping, with_said, with_went, Did, Do, Effect}
+use Words.{Intent, PutIntent, Served, abort_action, aborts_with, all_aborted, decide, decided_told, ended, ends_with, is_deferred}
+use Words.{root_after, say_for, says, states_after, tell, tell_all, tolds_by, tolds_of, tolds_of_branch, up_to, at_number, binding_eq}
+use Words.{binding_less, has, put_number, put_uid, unbound, with_number, without_number, Input, acts, branch_named, on_branch, parent_of}
+use Words.{Branch, Tree, at_place, branch_of, doomed_at, ended_at, ends_of, is_own, open_below, root_of, uses_object, and_parts}
+use Words.{is_loaded_for, is_loaded_in, reply_is_meant}
+use Words.ask
+use Words.body
+use Words.bound
+use Words.cause
+use Words.confirmed
+use Words.ending
+use Words.invoked
+use Words.kind
+use Words.loaded
+use Words.prepared
+use Words.recorded
+use Words.voted
+use Words.calls
+use Words.commit
+use Words.input
+use Rattle.arj_law_disk_view.proofs.Terms
+use Terms.{doomed_same, uses_same, get_more, all_put as all_put_number, doing_other, doing_put, end_tree_on, all_append, AllSay, CoordIsSo}
+use Terms.{Fits, MayKeep, NowIsSo}
+use Rattle.arj_law_disk_view.specs.running
+use running.States.{AskIsSo, AtIsSo, EndIsSo, MessageIsSo, Own, OwnOf, PlanIsSo, ReplyIsSo, RootIsSo, StepIsSo}
+use Rattle.arj_law_parts.proofs.parts
+use parts.{GoodTrees.placed}
+use parts.LivesNamed.{all_at, keyed_found, keyed_put}
+use Rattle.arj_law_runs.proofs.addresses.Lists.{all_some}
 
 module _ (F : Fits) (keep : MayKeep F) where
   abbrev V : ObjectState → Type 0
@@ -99,11 +108,13 @@ module _ (F : Fits) (keep : MayKeep F) where
       by true = b
       by false = a
 
-  joined_so : (j : Joined) (js : List Joined) → Of j.x j.loaded → AllByRecursion (λ (i : Joined). Of i.x i.loaded) js → AllByRecursion (λ (i : Joined). Of i.x i.loaded) (joined_with j js)
+  joined_so : (j : Joined) (js : List Joined) → Of j.x j.loaded → AllByRecursion (λ (i : Joined). Of i.x i.loaded) js →
+      AllByRecursion (λ (i : Joined). Of i.x i.loaded) (joined_with j js)
   joined_so j [] its all = (its, tt)
   joined_so j (i ∷ js) its all = by (same_join j i) refl (joined_so j js its all.1)
     where
-      by : (b : Bool) → same_join j i ≡ b → AllByRecursion (λ (h : Joined). Of h.x h.loaded) (joined_with j js) → AllByRecursion (λ (h : Joined). Of h.x h.loaded) (cond b (record i { loaded = later_state i.loaded j.loaded } ∷ js) (i ∷ joined_with j js))
+      by : (b : Bool) → same_join j i ≡ b → AllByRecursion (λ (h : Joined). Of h.x h.loaded) (joined_with j js) → AllByRecursion
+          (λ (h : Joined). Of h.x h.loaded) (cond b (record i { loaded = later_state i.loaded j.loaded } ∷ js) (i ∷ joined_with j js))
       by true same ih =
           let two = (and_parts (uid_eq (last_uid j.path) (last_uid i.path)) ((j.x == i.x) && (j.store == i.store)) same).1 in
           let x_is : j.x ≡ i.x = eqb-true j.x i.x (and_parts (j.x == i.x) (j.store == i.store) two).0 in
@@ -115,7 +126,11 @@ module _ (F : Fits) (keep : MayKeep F) where
 
   heard_so : (s : Steps) (e : CallEnd) (r : Root) → EndIsSo F s.x e → RootIsSo F r → RootIsSo F (root_heard s e r)
   heard_so s (Answered a) r its so = said_so (record { path = uids_of s.path; x = s.x }) r so
-  heard_so s (Included st) r its so = record { joined = joined_so (record { path = uids_of s.path; x = s.x; store = store_of s.goal; loaded = st }) r.joined (keep.loaded st.uid st its.0, its.1) so.joined; states = so.states }
+  heard_so s (Included st) r its so = record {
+    joined = joined_so (record { path = uids_of s.path; x = s.x; store = store_of s.goal; loaded = st }) r.joined
+        (keep.loaded st.uid st its.0, its.1) so.joined;
+    states = so.states;
+  }
   heard_so s (Conflict h m n) r its so = so
   heard_so s (Changed n w) r its so = so
   heard_so s (Lost n b) r its so = so
@@ -127,17 +142,23 @@ module _ (F : Fits) (keep : MayKeep F) where
   moved_so : (s : Steps) (r : Reply) (m : Moved) (q : Root) → RootIsSo F q → RootIsSo F (root_moved s r m q)
   moved_so s r m q so =
       let kept = keeping_of s.x q in
-      keep_so s.x (keeps_after s.goal (has_changed m.step) m.kept kept) (notes_grant (granted_by (top_of s.path) s.x r) q) (granted_so (granted_by (top_of s.path) s.x r) q so)
+      keep_so s.x (keeps_after s.goal (has_changed m.step) m.kept kept) (notes_grant (granted_by (top_of s.path) s.x r) q)
+      (granted_so (granted_by (top_of s.path) s.x r) q so)
 
   lost_so : (s : Steps) (t : CallStep) (q : Root) → RootIsSo F q → RootIsSo F (root_lost s t q)
   lost_so s t q so = let kept = keeping_of s.x q in keep_so s.x (keeps_after s.goal (is_ended t && spoils s.at) kept.kept kept) q so
 
   -- ---- from one coordinator to the next
 
-  on_root_so : (root : Uid) (f : Root → Root) (c : Coord) → ((r : Root) → RootIsSo F r → RootIsSo F (f r)) → CoordIsSo F c → CoordIsSo F (on_root root f c)
-  on_root_so root f c step so = record { works = so.works; roots = all_put_number (RootIsSo F) root.num (f (root_at root c)) c.roots (step (root_at root c) (root_so root c so)) so.roots }
+  on_root_so : (root : Uid) (f : Root → Root) (c : Coord) → ((r : Root) → RootIsSo F r → RootIsSo F (f r)) → CoordIsSo F c →
+      CoordIsSo F (on_root root f c)
+  on_root_so root f c step so = record {
+    works = so.works;
+    roots = all_put_number (RootIsSo F) root.num (f (root_at root c)) c.roots (step (root_at root c) (root_so root c so)) so.roots;
+  }
 
-  on_do_so : (u : Uid) (f : Doing → Doing) (c : Coord) → ((d : Doing) → doing_of u c ≡ Some d → NowIsSo F (f d).now) → CoordIsSo F c → CoordIsSo F (on_doing u f c)
+  on_do_so : (u : Uid) (f : Doing → Doing) (c : Coord) → ((d : Doing) → doing_of u c ≡ Some d → NowIsSo F (f d).now) → CoordIsSo F c →
+      CoordIsSo F (on_doing u f c)
   on_do_so u f c its so = by (doing_of u c) refl
     where
       some_is : (a b : Doing) → Some a ≡ Some b → a ≡ b
@@ -146,7 +167,9 @@ module _ (F : Fits) (keep : MayKeep F) where
       by : (o : Option Doing) → doing_of u c ≡ o → CoordIsSo F (change_doing f u c o)
       by None missing = so
       by (Some old) found = record {
-        works = λ w d at. ⊎_elim (λ same. subst (λ (q : Doing). NowIsSo F q.now) (some_is (f old) d (sym (doing_put u (f old) old c found) ∙ ap (λ v. doing_of v (set_doing u (f old) c)) (sym same) ∙ at)) (its old found)) (λ other. so.works w d (sym (doing_other u w (f old) old c found other) ∙ at)) (uid_cases w u);
+        works = λ w d at. ⊎_elim (λ same. subst (λ (q : Doing). NowIsSo F q.now) (some_is (f old) d
+            (sym (doing_put u (f old) old c found) ∙ ap (λ v. doing_of v (set_doing u (f old) c)) (sym same) ∙ at)) (its old found))
+            (λ other. so.works w d (sym (doing_other u w (f old) old c found other) ∙ at)) (uid_cases w u);
         roots = so.roots;
       }
 
@@ -166,7 +189,8 @@ module _ (F : Fits) (keep : MayKeep F) where
   doomed_so u c so = let same = doomed_same u c.tree in on_tree_so c (doomed_at u c.tree) same.own so
 
   ended_so : (u : Uid) (e : End) (c : Coord) → CoordIsSo F c → CoordIsSo F (ended u e c)
-  ended_so u e c so = let g = end_tree_on u e c in idle_so u (record c { tree = ended_at u e c.tree }) (on_tree_so c (ended_at u e c.tree) g.own so)
+  ended_so u e c so = let g = end_tree_on u e c in
+      idle_so u (record c { tree = ended_at u e c.tree }) (on_tree_so c (ended_at u e c.tree) g.own so)
 
   -- ---- requests
 
@@ -185,7 +209,8 @@ module _ (F : Fits) (keep : MayKeep F) where
 
   asks_so : (p : Path) (req : ℕ) (a : ℕ × Ask) (c : Coord) → CoordIsSo F c → AskIsSo F a.1 → IsDone (asks_node p req a c)
   asks_so p req a c so its = (
-    on_root_so (root_of p) (with_went (record { path = uids_of p; node = a.0; invoke = is_invoke_ask a.1 })) c (λ r s. went_so (record { path = uids_of p; node = a.0; invoke = is_invoke_ask a.1 }) r s) so,
+    on_root_so (root_of p) (with_went (record { path = uids_of p; node = a.0; invoke = is_invoke_ask a.1 })) c
+        (λ r s. went_so (record { path = uids_of p; node = a.0; invoke = is_invoke_ask a.1 }) r s) so,
     (request_so (record { path = p; req = req }) a.1 its, tt),
   )
 
@@ -199,10 +224,12 @@ module _ (F : Fits) (keep : MayKeep F) where
   asked_at x g ends (AtInvoke q i) its = tt
 
   step_so : (s : Steps) (c : Coord) → CoordIsSo F c → AtIsSo F s.x s.at → IsDone (asks_step s c)
-  step_so s c so its = asks_so s.path s.req (next_node s, next_ask (ends_of (root_of s.path) c.tree) s) c so (asked_at s.x s.goal (ends_of (root_of s.path) c.tree) s.at its)
+  step_so s c so its = asks_so s.path s.req (next_node s, next_ask (ends_of (root_of s.path) c.tree) s) c so
+      (asked_at s.x s.goal (ends_of (root_of s.path) c.tree) s.at its)
 
   goes_so : (s : Steps) (c : Coord) → CoordIsSo F c → AtIsSo F s.x s.at → IsDone (goes_on s c)
-  goes_so s c so its = step_so s (on_doing (actor s.path) (λ (d : Doing). record d { req = s.req; now = Calling s }) c) (on_do_so (actor s.path) (λ (d : Doing). record d { req = s.req; now = Calling s }) c (λ d found. its) so) its
+  goes_so s c so its = step_so s (on_doing (actor s.path) (λ (d : Doing). record d { req = s.req; now = Calling s }) c)
+      (on_do_so (actor s.path) (λ (d : Doing). record d { req = s.req; now = Calling s }) c (λ d found. its) so) its
 
   start_so : (x : ℕ) (o : Option Known) (avoid : Binding) → AtIsSo F x (start_at o avoid)
   start_so x None avoid = tt
@@ -214,11 +241,13 @@ module _ (F : Fits) (keep : MayKeep F) where
       let old = keeping_of x r in
       let kept = renewed (is_free (root_of p) (actor p) x c) old old.kept in
       let u : Coord = record c { tree = uses_object p x c.tree } in
-      goes_so (call_steps p x o (next_req (actor p) c) r c kept) (on_root (root_of p) (with_keeping x kept) u) (on_root_so (root_of p) (with_keeping x kept) u (λ q its. keep_so x kept q its) (uses_so p x c so))
+      goes_so (call_steps p x o (next_req (actor p) c) r c kept) (on_root (root_of p) (with_keeping x kept) u)
+      (on_root_so (root_of p) (with_keeping x kept) u (λ q its. keep_so x kept q its) (uses_so p x c so))
       (start_so x (known_at_start (top_of p) x r c kept.kept) kept.avoid)
 
   include_so : (p : Path) (x s : ℕ) (c : Coord) → CoordIsSo F c → IsDone (include p x s c)
-  include_so p x s c so = goes_so (start p x (calls.Include s) None unbound (next_req (actor p) c)) (record c { tree = uses_object p x c.tree }) (uses_so p x c so) tt
+  include_so p x s c so = goes_so (start p x (calls.Include s) None unbound (next_req (actor p) c))
+      (record c { tree = uses_object p x c.tree }) (uses_so p x c so) tt
 
   step_call_so : (s : Steps) (t : CallStep) (c : Coord) → CoordIsSo F c → StepIsSo F s.x t → IsDone (step_call s t c)
   step_call_so s (On at) c so its = goes_so (record s { req = s.req + 1; at = at }) c so its
@@ -228,9 +257,11 @@ module _ (F : Fits) (keep : MayKeep F) where
       i = on_root (root_of s.path) (root_heard s e) (on_doing (actor s.path) (λ (d : Doing). record d { now = Idle }) c)
 
       so_far : CoordIsSo F (on_root (root_of s.path) (root_heard s e) (on_doing (actor s.path) (λ (d : Doing). record d { now = Idle }) c))
-      so_far = on_root_so (root_of s.path) (root_heard s e) (on_doing (actor s.path) (λ (d : Doing). record d { now = Idle }) c) (λ r q. heard_so s e r its q) (idle_so (actor s.path) c so)
+      so_far = on_root_so (root_of s.path) (root_heard s e) (on_doing (actor s.path) (λ (d : Doing). record d { now = Idle }) c)
+          (λ r q. heard_so s e r its q) (idle_so (actor s.path) c so)
 
-      by : (g : CallEnd) → CoordIsSo F (doomed_by (actor s.path) g (on_root (root_of s.path) (root_heard s e) (on_doing (actor s.path) (λ (d : Doing). record d { now = Idle }) c)))
+      by : (g : CallEnd) → CoordIsSo F (doomed_by (actor s.path) g
+          (on_root (root_of s.path) (root_heard s e) (on_doing (actor s.path) (λ (d : Doing). record d { now = Idle }) c)))
       by (Answered a) = so_far
       by (Included st) = so_far
       by (Conflict h x n) = so_far
@@ -248,7 +279,8 @@ module _ (F : Fits) (keep : MayKeep F) where
   AnswersFor y (Reply.Loaded (loaded.State st)) = OwnOf F.loaded y st
   AnswersFor y _ = ⊤
 
-  answers_for : (y : ℕ) (r : Reply) → ReplyIsSo F r → ((st : ObjectState) → r ≡ Reply.Loaded (loaded.State st) → st.uid.num ≡ y) → AnswersFor y r
+  answers_for : (y : ℕ) (r : Reply) → ReplyIsSo F r → ((st : ObjectState) → r ≡ Reply.Loaded (loaded.State st) → st.uid.num ≡ y) →
+      AnswersFor y r
   answers_for y (Reply.Loaded (loaded.State st)) rs of = (rs, of st refl)
   answers_for y (Reply.Loaded (loaded.InDoubt holder)) rs of = tt
   answers_for y (Reply.Bound r) rs of = tt
@@ -288,8 +320,10 @@ module _ (F : Fits) (keep : MayKeep F) where
   loads_so y q (s ∷ ss) = tt
 
   bound_so : (y : ℕ) (free : Bool) (kept : Option Known) (r : BoundReply) → MovedIsSo y (bound_answer free kept r)
-  bound_so y free kept (bound.Live b server i n stores) = bound_by_so y free (live_known b server i n stores) (AtInvoke (live_known b server i n stores) i) kept tt
-  bound_so y free kept (bound.Make b server n stores) = by (load_from (made_known b server n stores) stores) (loads_so y (made_known b server n stores) stores)
+  bound_so y free kept (bound.Live b server i n stores) =
+      bound_by_so y free (live_known b server i n stores) (AtInvoke (live_known b server i n stores) i) kept tt
+  bound_so y free kept (bound.Make b server n stores) =
+      by (load_from (made_known b server n stores) stores) (loads_so y (made_known b server n stores) stores)
     where
       by : (o : Option At) → IfSome o (AtIsSo F y) → MovedIsSo y (made_by free (made_known b server n stores) kept o)
       by None its = tt
@@ -318,12 +352,14 @@ module _ (F : Fits) (keep : MayKeep F) where
   invoked_so y q kept (invoked.Conflict holder m) = tt
   invoked_so y q kept (invoked.Changed w) = tt
 
-  loaded_so : (y : ℕ) (kept : Option Known) (q : Known) (s : ℕ) (g : Goal) (r : LoadedReply) → AnswersFor y (Reply.Loaded r) → MovedIsSo y (loaded_answer kept q s g r)
+  loaded_so : (y : ℕ) (kept : Option Known) (q : Known) (s : ℕ) (g : Goal) (r : LoadedReply) → AnswersFor y (Reply.Loaded r) →
+      MovedIsSo y (loaded_answer kept q s g r)
   loaded_so y kept q s (calls.Run o) (loaded.State st) rs = rs
   loaded_so y kept q s (calls.Include n) (loaded.State st) rs = rs
   loaded_so y kept q s g (loaded.InDoubt holder) rs = tt
 
-  answered_so : (y : ℕ) (free : Bool) (kept : Option Known) (g : Goal) (at : At) (r : Reply) → AtIsSo F y at → AnswersFor y r → MovedIsSo y (answered free kept g at r)
+  answered_so : (y : ℕ) (free : Bool) (kept : Option Known) (g : Goal) (at : At) (r : Reply) → AtIsSo F y at → AnswersFor y r →
+      MovedIsSo y (answered free kept g at r)
   answered_so y free kept g (AtBind avoid) (Reply.Bound r) so rs = bound_so y free kept r
   answered_so y free kept g (AtLoad q s rest) (Reply.Loaded r) so rs = loaded_so y kept q s g r rs
   answered_so y free kept g (AtActivate q st) (Reply.Activated j) so rs = activated_so y q j kept
@@ -376,7 +412,8 @@ module _ (F : Fits) (keep : MayKeep F) where
   heard_call_so : (s : Steps) (r : Reply) (c : Coord) → CoordIsSo F c → AtIsSo F s.x s.at → AnswersFor s.x r → IsDone (heard_call s r c)
   heard_call_so s r c so its rs =
       let m = answered (is_free (root_of s.path) (actor s.path) s.x c) (kept_at s c) s.goal s.at r in
-      step_call_so s m.step (on_root (root_of s.path) (root_moved s r m) c) (on_root_so (root_of s.path) (root_moved s r m) c (moved_so s r m) so) (answered_so s.x (is_free (root_of s.path) (actor s.path) s.x c) (kept_at s c) s.goal s.at r its rs)
+      step_call_so s m.step (on_root (root_of s.path) (root_moved s r m) c) (on_root_so (root_of s.path) (root_moved s r m) c
+      (moved_so s r m) so) (answered_so s.x (is_free (root_of s.path) (actor s.path) s.x c) (kept_at s c) s.goal s.at r its rs)
 
   -- ---- ends
 
@@ -385,7 +422,8 @@ module _ (F : Fits) (keep : MayKeep F) where
     where
       kinds : (q : ActionKind) (p : Path) → AllSay F (tolds_by u q p intents c)
       kinds kind.Nested p = tells (root_of p) false (up_to u (ends_of (root_of p) c.tree)) (servers_told u (root_at (root_of p) c) c)
-      kinds kind.Serial p = tells u false ((u, ending.Abort) ∷ []) (filter (λ n. not (is_deferred u intents n)) (nodes_sent u (root_at u c)))
+      kinds kind.Serial p =
+          tells u false ((u, ending.Abort) ∷ []) (filter (λ n. not (is_deferred u intents n)) (nodes_sent u (root_at u c)))
       kinds kind.Top p = tells (root_of p) false ((u, ending.Abort) ∷ []) (nodes_sent u (root_at (root_of p) c))
       kinds kind.Independent p = tells (root_of p) false ((u, ending.Abort) ∷ []) (nodes_sent u (root_at (root_of p) c))
       kinds kind.Constituent p = tells (root_of p) false ((u, ending.Abort) ∷ []) (nodes_sent u (root_at (root_of p) c))
@@ -394,12 +432,15 @@ module _ (F : Fits) (keep : MayKeep F) where
       by None = tt
       by (Some b) = kinds b.kind b.path
 
-  ends_so : (u : Uid) (e : End) (f : Label → Body) (intents : List (Uid × Intent)) (c : Coord) → CoordIsSo F c → IsDone (ends_with u e f intents c)
-  ends_so u e f intents c so = (ended_so u e c so, both (says u f c) (tolds_of intents (ended u e c) u) (lines u f c) (tolds_so intents (ended u e c) u))
+  ends_so : (u : Uid) (e : End) (f : Label → Body) (intents : List (Uid × Intent)) (c : Coord) → CoordIsSo F c →
+      IsDone (ends_with u e f intents c)
+  ends_so u e f intents c so =
+      (ended_so u e c so, both (says u f c) (tolds_of intents (ended u e c) u) (lines u f c) (tolds_so intents (ended u e c) u))
 
   all_so : (us : List Uid) (c : Coord) → CoordIsSo F c → IsDone (all_aborted us c)
   all_so [] c so = (so, tt)
-  all_so (u ∷ us) c so = let r = all_so us (ended u ending.Abort c) (ended_so u ending.Abort c so) in (r.0, both (says u (λ l. body.Aborted l cause.Asked) c) _ (lines u (λ l. body.Aborted l cause.Asked) c) r.1)
+  all_so (u ∷ us) c so = let r = all_so us (ended u ending.Abort c) (ended_so u ending.Abort c so) in
+      (r.0, both (says u (λ l. body.Aborted l cause.Asked) c) _ (lines u (λ l. body.Aborted l cause.Asked) c) r.1)
 
   abort_so : (u : Uid) (intents : List (Uid × Intent)) (c : Coord) → CoordIsSo F c → IsDone (abort_action u intents c)
   abort_so u intents c so =
@@ -444,7 +485,8 @@ module _ (F : Fits) (keep : MayKeep F) where
       by true ih = (all.0, ih)
       by false ih = (its, all)
 
-  pub with_states_so : (states every : List ObjectState) → AllByRecursion V states → AllByRecursion V every → AllByRecursion V (with_states states every)
+  pub with_states_so : (states every : List ObjectState) → AllByRecursion V states → AllByRecursion V every →
+      AllByRecursion V (with_states states every)
   with_states_so [] every its all = all
   with_states_so (s ∷ ss) every its all = with_states_so ss (with_state s every) its.1 (with_state_so s every its.0 all)
 
@@ -453,10 +495,13 @@ module _ (F : Fits) (keep : MayKeep F) where
   marks_so (n ∷ ns) q so = marks_so ns (marks_store n q) (record { used = so.used; changed = so.changed })
 
   answer_step : (from : ℕ) (m : Machine) (r : Reply) → PlanIsSo F (plan_of m) → ReplyIsSo F r → IsNext (commit.answered from m r).step
-  answer_step from (Voting p left) (Reply.Voted (voted.Yes states)) so rs = votes_step (without_number from left) (record p { changed = with_states states p.changed }) (record { used = so.used; changed = with_states_so states p.changed rs so.changed })
+  answer_step from (Voting p left) (Reply.Voted (voted.Yes states)) so rs = votes_step (without_number from left) (record p
+      { changed = with_states states p.changed }) (record { used = so.used; changed = with_states_so states p.changed rs so.changed })
   answer_step from (Voting p left) (Reply.Voted (voted.Changed w)) so rs = tt
-  answer_step from (Preparing p left) (Reply.Prepared prepared.Yes) so rs = stores_step (without_number from left) (record p { prepared = with_number from p.prepared }) (record { used = so.used; changed = so.changed })
-  answer_step from (Preparing p left) (Reply.Prepared (prepared.InDoubt x h)) so rs = stores_step (without_number from left) (marks_store from p) (record { used = so.used; changed = so.changed })
+  answer_step from (Preparing p left) (Reply.Prepared prepared.Yes) so rs = stores_step (without_number from left)
+      (record p { prepared = with_number from p.prepared }) (record { used = so.used; changed = so.changed })
+  answer_step from (Preparing p left) (Reply.Prepared (prepared.InDoubt x h)) so rs =
+      stores_step (without_number from left) (marks_store from p) (record { used = so.used; changed = so.changed })
   answer_step from (Preparing p left) (Reply.Prepared (prepared.Old x v)) so rs = tt
   answer_step from (Confirming p) (Reply.Confirmed confirmed.Yes) so rs = record { used = so.used; changed = so.changed }
   answer_step from (Confirming p) (Reply.Confirmed (confirmed.Conflict h m)) so rs = tt
@@ -499,7 +544,8 @@ module _ (F : Fits) (keep : MayKeep F) where
       by false ih = ih
 
   sent_so : (n : ℕ) (p : Plan) → PlanIsSo F p → AllByRecursion Q (states_for n p)
-  sent_so n p so = all_some (λ (u : Used). IfSome u.loaded (Of u.x)) Q (state_for n p) p.used (λ u its. by u (plain u.x u.loaded its) (changed_of u.x p) (found_so _ p.changed so.changed)) so.used
+  sent_so n p so = all_some (λ (u : Used). IfSome u.loaded (Of u.x)) Q (state_for n p) p.used
+      (λ u its. by u (plain u.x u.loaded its) (changed_of u.x p) (found_so _ p.changed so.changed)) so.used
     where
       plain : (x : ℕ) (l : Option ObjectState) → IfSome l (Of x) → IfSome l Q
       plain x None its = tt
@@ -522,7 +568,8 @@ module _ (F : Fits) (keep : MayKeep F) where
   ask_so (Preparing p left) n so = sent_so n p so
   ask_so (Confirming p) n so = tt
 
-  asked_so : (p : Path) (req : ℕ) (asked : List (ℕ × Ask)) (c : Coord) → CoordIsSo F c → AllByRecursion (λ (a : ℕ × Ask). AskIsSo F a.1) asked → IsDone (asks_all p req asked c)
+  asked_so : (p : Path) (req : ℕ) (asked : List (ℕ × Ask)) (c : Coord) → CoordIsSo F c →
+      AllByRecursion (λ (a : ℕ × Ask). AskIsSo F a.1) asked → IsDone (asks_all p req asked c)
   asked_so p req [] c so all = (so, tt)
   asked_so p req (a ∷ rest) c so all =
       let first = asks_so p req a c so all.0 in
@@ -539,9 +586,11 @@ module _ (F : Fits) (keep : MayKeep F) where
   commits_so : (u : Uid) (m : Machine) (c : Coord) → CoordIsSo F c → PlanIsSo F (plan_of m) → CoordIsSo F (commits_in u m c)
   commits_so u m c so its = on_do_so u (λ (d : Doing). record d { req = (plan_of m).req; now = Committing m }) c (λ d found. its) so
 
-  states_so : (ss : List ObjectState) (states : List (ℕ × ObjectState)) → AllByRecursion V ss → AllByRecursion (λ (e : ℕ × ObjectState). Of e.0 e.1) states → AllByRecursion (λ (e : ℕ × ObjectState). Of e.0 e.1) (states_after ss states)
+  states_so : (ss : List ObjectState) (states : List (ℕ × ObjectState)) → AllByRecursion V ss → AllByRecursion
+      (λ (e : ℕ × ObjectState). Of e.0 e.1) states → AllByRecursion (λ (e : ℕ × ObjectState). Of e.0 e.1) (states_after ss states)
   states_so [] states its all = all
-  states_so (s ∷ ss) states its all = states_so ss (put_number s.uid.num s states) its.1 (keyed_put Of s.uid.num s states (keep.voted s.uid s its.0, refl) all)
+  states_so (s ∷ ss) states its all =
+      states_so ss (put_number s.uid.num s states) its.1 (keyed_put Of s.uid.num s states (keep.voted s.uid s its.0, refl) all)
 
   after_so : (p : Plan) (r : Root) → PlanIsSo F p → RootIsSo F r → RootIsSo F (root_after p r)
   after_so p r its so = record { joined = so.joined; states = states_so p.changed r.states its.changed so.states }
@@ -565,13 +614,15 @@ module _ (F : Fits) (keep : MayKeep F) where
       ke = ended_so (actor p.path) ending.Commit c so
 
       kr : CoordIsSo F r
-      kr = on_root_so (root_of p.path) (root_after p) took (λ q s. after_so p q its s) (on_do_so (actor p.path) (λ (d : Doing). record d { took = participants p }) e (λ d found. ke.works (actor p.path) d found) ke)
+      kr = on_root_so (root_of p.path) (root_after p) took (λ q s. after_so p q its s)
+          (on_do_so (actor p.path) (λ (d : Doing). record d { took = participants p }) e (λ d found. ke.works (actor p.path) d found) ke)
 
       told : (ns : List ℕ) → AllSay F (map (decided_told (root_of p.path) (actor p.path) p) ns)
       told [] = tt
       told (n ∷ ns) = ((each_told (has (participants p) n)).0, told ns)
         where
-          each_told : (x : Bool) → AllSay F (cond x (tell (root_of p.path) (has_record p) ((actor p.path, ending.Commit) ∷ []) n) (tell (root_of p.path) false ((actor p.path, ending.Abort) ∷ []) n) ∷ [])
+          each_told : (x : Bool) → AllSay F (cond x (tell (root_of p.path) (has_record p) ((actor p.path, ending.Commit) ∷ []) n)
+              (tell (root_of p.path) false ((actor p.path, ending.Abort) ∷ []) n) ∷ [])
           each_told true = ((tt, tt), tt)
           each_told false = ((tt, tt), tt)
 
@@ -579,42 +630,59 @@ module _ (F : Fits) (keep : MayKeep F) where
       work true = (tt, tt)
       work false = tt
 
-      outs : (w : Bool) → AllSay F (cond w (Do (PutIntent (actor p.path) i) ∷ []) [] ++ says (actor p.path) body.Committed c ++ map (decided_told (root_of p.path) (actor p.path) p) p.sent)
-      outs w = both (cond w (Do (PutIntent (actor p.path) i) ∷ []) [] ++ says (actor p.path) body.Committed c) (map (decided_told (root_of p.path) (actor p.path) p) p.sent) (both (cond w (Do (PutIntent (actor p.path) i) ∷ []) []) (says (actor p.path) body.Committed c) (work w) (lines (actor p.path) body.Committed c)) (told p.sent)
+      outs : (w : Bool) → AllSay F (cond w (Do (PutIntent (actor p.path) i) ∷ []) [] ++ says (actor p.path) body.Committed c
+          ++ map (decided_told (root_of p.path) (actor p.path) p) p.sent)
+      outs w = both (cond w (Do (PutIntent (actor p.path) i) ∷ []) [] ++ says (actor p.path) body.Committed c)
+          (map (decided_told (root_of p.path) (actor p.path) p) p.sent) (both (cond w (Do (PutIntent (actor p.path) i) ∷ []) [])
+          (says (actor p.path) body.Committed c) (work w) (lines (actor p.path) body.Committed c)) (told p.sent)
 
-      by : (w : Bool) → IsDone (record { part = cond w (record r { telling = put_uid (actor p.path) i r.telling }) r; outs = cond w (Do (PutIntent (actor p.path) i) ∷ []) [] ++ says (actor p.path) body.Committed c ++ map (decided_told (root_of p.path) (actor p.path) p) p.sent })
+      by : (w : Bool) → IsDone (record {
+        part = cond w (record r { telling = put_uid (actor p.path) i r.telling }) r;
+        outs = cond w (Do (PutIntent (actor p.path) i) ∷ []) [] ++ says (actor p.path) body.Committed c
+            ++ map (decided_told (root_of p.path) (actor p.path) p) p.sent;
+      })
       by true = (record { works = kr.works; roots = kr.roots }, outs true)
       by false = (kr, outs false)
 
-  step_commit_so : (u : Uid) (s : CommitStep) (intents : List (Uid × Intent)) (c : Coord) → CoordIsSo F c → IsNext s → IsDone (step_commit u s intents c)
+  step_commit_so : (u : Uid) (s : CommitStep) (intents : List (Uid × Intent)) (c : Coord) → CoordIsSo F c → IsNext s →
+      IsDone (step_commit u s intents c)
   step_commit_so u (Stays m) intents c so its = (commits_so u m c so its, tt)
   step_commit_so u (Asks m) intents c so its = machine_so m (commits_in u m c) (commits_so u m c so its) its
   step_commit_so u (Decides p) intents c so its = decide_so p c its so
   step_commit_so u (Aborts why p) intents c so its = ends_so u ending.Abort (λ l. body.Aborted l why) intents c so
 
-  moved_commit_so : (u : Uid) (m : commit.Marked) (intents : List (Uid × Intent)) (c : Coord) → CoordIsSo F c → IsNext m.step → IsDone (moved_commit u m intents c)
+  moved_commit_so : (u : Uid) (m : commit.Marked) (intents : List (Uid × Intent)) (c : Coord) → CoordIsSo F c → IsNext m.step →
+      IsDone (moved_commit u m intents c)
   moved_commit_so u m intents c so its =
       let t = step_commit u m.step intents c in
-      let w = step_commit_so u m.step intents c so its in
-      (w.0, both (mark_lines u m.marks c) t.outs (flat (λ (x : ℕ × ℕ). says u (λ l. body.Excluded l x.0 x.1) c) m.marks (λ x. lines u (λ l. body.Excluded l x.0 x.1) c)) w.1)
+      let w = step_commit_so u m.step intents c so its in (
+        w.0,
+        both (mark_lines u m.marks c) t.outs
+            (flat (λ (x : ℕ × ℕ). says u (λ l. body.Excluded l x.0 x.1) c) m.marks (λ x. lines u (λ l. body.Excluded l x.0 x.1) c)) w.1,
+      )
 
   -- what a plan loads
-  latest_so : (x : ℕ) (o : Option ObjectState) (js : List Joined) → IfSome o (Of x) → AllByRecursion (λ (j : Joined). Of x j.loaded) js → IfSome (latest_of o js) (Of x)
+  latest_so : (x : ℕ) (o : Option ObjectState) (js : List Joined) → IfSome o (Of x) → AllByRecursion (λ (j : Joined). Of x j.loaded) js →
+      IfSome (latest_of o js) (Of x)
   latest_so x None [] its all = tt
   latest_so x (Some s) [] its all = its
   latest_so x None (j ∷ js) its all = latest_so x (Some j.loaded) js all.0 all.1
   latest_so x (Some s) (j ∷ js) its all = latest_so x (Some (later_state s j.loaded)) js (later_so x s j.loaded its all.0) all.1
 
-  joins_so : (x : ℕ) (test : Joined → Bool) (js : List Joined) → AllByRecursion (λ (j : Joined). Of j.x j.loaded) js → AllByRecursion (λ (j : Joined). Of x j.loaded) (filter (λ (j : Joined). (j.x == x) && test j) js)
+  joins_so : (x : ℕ) (test : Joined → Bool) (js : List Joined) → AllByRecursion (λ (j : Joined). Of j.x j.loaded) js →
+      AllByRecursion (λ (j : Joined). Of x j.loaded) (filter (λ (j : Joined). (j.x == x) && test j) js)
   joins_so x test [] all = tt
   joins_so x test (j ∷ js) all = by ((j.x == x) && test j) refl (joins_so x test js all.1)
     where
-      by : (b : Bool) → ((j.x == x) && test j) ≡ b → AllByRecursion (λ (h : Joined). Of x h.loaded) (filter (λ (h : Joined). (h.x == x) && test h) js) → AllByRecursion (λ (h : Joined). Of x h.loaded) (cond b (j ∷ filter (λ (h : Joined). (h.x == x) && test h) js) (filter (λ (h : Joined). (h.x == x) && test h) js))
+      by : (b : Bool) → ((j.x == x) && test j) ≡ b → AllByRecursion (λ (h : Joined). Of x h.loaded)
+          (filter (λ (h : Joined). (h.x == x) && test h) js) → AllByRecursion (λ (h : Joined). Of x h.loaded)
+          (cond b (j ∷ filter (λ (h : Joined). (h.x == x) && test h) js) (filter (λ (h : Joined). (h.x == x) && test h) js))
       by true on ih = (subst (λ y. Of y j.loaded) (eqb-true j.x x (and_parts (j.x == x) (test j) on).0) all.0, ih)
       by false off ih = ih
 
   loads_from : (x : ℕ) (top : Uid) (r : Root) (c : Coord) → RootIsSo F r → IfSome (loaded_for x top r c) (Of x)
-  loads_from x top r c so = by (latest_of None (joins_on x top r c)) (at_number x r.states) refl (latest_so x None (joins_on x top r c) tt (joins_so x _ r.joined so.joined))
+  loads_from x top r c so = by (latest_of None (joins_on x top r c)) (at_number x r.states) refl
+      (latest_so x None (joins_on x top r c) tt (joins_so x _ r.joined so.joined))
     where
       by : (o s : Option ObjectState) → at_number x r.states ≡ s → IfSome o (Of x) → IfSome (or_kept_state o s) (Of x)
       by None s is its = tt
@@ -633,12 +701,15 @@ module _ (F : Fits) (keep : MayKeep F) where
   abbrev pub IsServed : Served Coord (Unit {0}) → Type 0
   IsServed d = CoordIsSo F d.part × AllSay F d.outs
 
-  pub hears_so : (from : ℕ) (a : Asked) (r : Reply) (intents : List (Uid × Intent)) (c : Coord) → CoordIsSo F c → reply_is_meant c a r ≡ true → ReplyIsSo F r → IsServed (heard from a r intents c)
+  pub hears_so : (from : ℕ) (a : Asked) (r : Reply) (intents : List (Uid × Intent)) (c : Coord) → CoordIsSo F c →
+      reply_is_meant c a r ≡ true → ReplyIsSo F r → IsServed (heard from a r intents c)
   hears_so from a r intents c so meant rs = by (doing_of a.act c) refl
     where
       -- a state for which a call waits is of its object
-      of_step : (d : Doing) (s : Steps) → doing_of a.act c ≡ Some d → d.now ≡ Calling s → (st : ObjectState) → r ≡ Reply.Loaded (loaded.State st) → st.uid.num ≡ s.x
-      of_step d s found is st reply = ap (λ (u : Uid). u.num) (uid_is st.uid (object s.x) (sym (ap (is_loaded_for st) found ∙ ap (is_loaded_in st) is) ∙ ap (reply_is_meant c a) (sym reply) ∙ meant))
+      of_step : (d : Doing) (s : Steps) → doing_of a.act c ≡ Some d → d.now ≡ Calling s → (st : ObjectState) →
+          r ≡ Reply.Loaded (loaded.State st) → st.uid.num ≡ s.x
+      of_step d s found is st reply = ap (λ (u : Uid). u.num) (uid_is st.uid (object s.x)
+          (sym (ap (is_loaded_for st) found ∙ ap (is_loaded_in st) is) ∙ ap (reply_is_meant c a) (sym reply) ∙ meant))
 
       now : (d : Doing) → doing_of a.act c ≡ Some d → (n : Now) → d.now ≡ n → NowIsSo F n → IsServed (heard_now from a r intents c n)
       now d found Idle is its = (so, tt)
@@ -649,7 +720,8 @@ module _ (F : Fits) (keep : MayKeep F) where
           each false = (so, tt)
       now d found (Committing m) is its = each (waits_for_commit from a r m)
         where
-          each : (w : Bool) → IsServed (cond {A = Served Coord (Unit {0})} w (heard_by (moved_commit a.act (commit.answered from m r) intents c)) (heard_none c))
+          each : (w : Bool) → IsServed
+              (cond {A = Served Coord (Unit {0})} w (heard_by (moved_commit a.act (commit.answered from m r) intents c)) (heard_none c))
           each true = moved_commit_so a.act (commit.answered from m r) intents c so (answer_step from m r its rs)
           each false = (so, tt)
 
@@ -661,15 +733,21 @@ module _ (F : Fits) (keep : MayKeep F) where
   give_up_so u intents c so = by (doing_of u c) refl
     where
       with_lines : (nodes : List ℕ) (d : Did Coord) → IsDone d → IsDone (record { part = d.part; outs = gaveup_lines u nodes c ++ d.outs })
-      with_lines nodes d w = (w.0, both (gaveup_lines u nodes c) d.outs (flat (λ n. says u (λ l. body.GaveUp l n) c) nodes (λ n. lines u (λ l. body.GaveUp l n) c)) w.1)
+      with_lines nodes d w = (
+        w.0,
+        both (gaveup_lines u nodes c) d.outs (flat (λ n. says u (λ l. body.GaveUp l n) c) nodes (λ n. lines u (λ l. body.GaveUp l n) c))
+            w.1,
+      )
 
       now : (n : Now) → NowIsSo F n → IsDone (gives_up u intents c n)
       now Idle its = (so, tt)
       now (Calling s) its =
           let t : Coord = on_root (root_of s.path) (root_lost s (given_up s.at)) c in
           let x = step_call s (given_up s.at) t in
-          with_lines (next_node s ∷ []) x (step_call_so s (given_up s.at) t (on_root_so (root_of s.path) (root_lost s (given_up s.at)) c (lost_so s (given_up s.at)) so) (given_up_so s.x s.at))
-      now (Committing m) its = let x = moved_commit u (commit.given_up m) intents c in with_lines (nodes_given_up m) x (moved_commit_so u (commit.given_up m) intents c so (giveup_step m its))
+          with_lines (next_node s ∷ []) x (step_call_so s (given_up s.at) t
+          (on_root_so (root_of s.path) (root_lost s (given_up s.at)) c (lost_so s (given_up s.at)) so) (given_up_so s.x s.at))
+      now (Committing m) its = let x = moved_commit u (commit.given_up m) intents c in
+          with_lines (nodes_given_up m) x (moved_commit_so u (commit.given_up m) intents c so (giveup_step m its))
 
       by : (o : Option Doing) → doing_of u c ≡ o → IsDone (give_up_doing u intents c o)
       by None is = (so, tt)
@@ -695,7 +773,10 @@ module _ (F : Fits) (keep : MayKeep F) where
       same n = grind arith
 
       found : (d : Doing) → In d c.doings → (u : Uid) × (doing_of u c ≡ Some d)
-      found d i = let p = placed d c.doings i in (record { node = c.tree.node; inc = c.tree.inc; num = p.0 }, (λ j. cond (same c.tree.node j && same c.tree.inc j) (at_place p.0 c.doings) None) ∙ p.1)
+      found d i = let p = placed d c.doings i in (
+        record { node = c.tree.node; inc = c.tree.inc; num = p.0 },
+        (λ j. cond (same c.tree.node j && same c.tree.inc j) (at_place p.0 c.doings) None) ∙ p.1,
+      )
 
       all : (ds : List Doing) → ((d : Doing) → In d ds → In d c.doings) → AllByRecursion (λ (d : Doing). NowIsSo F d.now) ds
       all [] there = tt
@@ -713,7 +794,8 @@ module _ (F : Fits) (keep : MayKeep F) where
       top : IsDone (commit_top b.path intents c)
       top =
           let x = moved_commit u (commit.start plan) intents c in
-          let w = moved_commit_so u (commit.start plan) intents c so (vote_step (servers_of plan) plan (plan_so b.path (last_req (doing_of u c)) (root_at (root_of b.path) c) c (root_so (root_of b.path) c so))) in
+          let w = moved_commit_so u (commit.start plan) intents c so (vote_step (servers_of plan) plan
+          (plan_so b.path (last_req (doing_of u c)) (root_at (root_of b.path) c) c (root_so (root_of b.path) c so))) in
           (w.0, both (says u body.Committing c) x.outs (lines u body.Committing c) w.1)
 
       kinds : (q : ActionKind) → IsDone (commit_open b intents c q)
@@ -727,7 +809,8 @@ module _ (F : Fits) (keep : MayKeep F) where
       by true = ends_so u ending.Abort (λ l. body.Aborted l cause.Doomed) intents c so
       by false = kinds b.kind
 
-  on_named : (l : Label) (f : Branch → Did Coord) (c : Coord) → CoordIsSo F c → ((b : Branch) → IsDone (f b)) → IsDone (on_branch f c (branch_named l c))
+  on_named : (l : Label) (f : Branch → Did Coord) (c : Coord) → CoordIsSo F c → ((b : Branch) → IsDone (f b)) →
+      IsDone (on_branch f c (branch_named l c))
   on_named l f c so each = by (branch_named l c)
     where
       by : (o : Option Branch) → IsDone (on_branch f c o)
@@ -736,15 +819,19 @@ module _ (F : Fits) (keep : MayKeep F) where
 
   -- ---- actions that begin
 
-  pub begins_so : (l : Label) (q : ActionKind) (parent : Option Label) (above : Option Branch) (c : Coord) → CoordIsSo F c → IsDone (begin_action l q parent above c)
-  begins_so l q parent above c so = (record { works = λ u d at. was (is_own u c.tree) u.num d at (λ f. so.works u d f); roots = so.roots }, (tt, tt))
+  pub begins_so : (l : Label) (q : ActionKind) (parent : Option Label) (above : Option Branch) (c : Coord) → CoordIsSo F c →
+      IsDone (begin_action l q parent above c)
+  begins_so l q parent above c so =
+      (record { works = λ u d at. was (is_own u c.tree) u.num d at (λ f. so.works u d f); roots = so.roots }, (tt, tt))
     where
       fresh : Doing
       fresh = record { label = l; req = 0; now = Idle; took = [] }
 
-      was : (b : Bool) (j : ℕ) (d : Doing) → cond b (at_place j (c.doings ++ fresh ∷ [])) None ≡ Some d → (cond b (at_place j c.doings) None ≡ Some d → NowIsSo F d.now) → NowIsSo F d.now
+      was : (b : Bool) (j : ℕ) (d : Doing) → cond b (at_place j (c.doings ++ fresh ∷ [])) None ≡ Some d →
+          (cond b (at_place j c.doings) None ≡ Some d → NowIsSo F d.now) → NowIsSo F d.now
       was true zero d at f = let no_way : ◌≡◌ {A = Option Doing} None (Some d) = at in cc
-      was true (suc j) d at f = ⊎_elim (λ old. f old) (λ new. subst (λ (x : Doing). NowIsSo F x.now) new.1 tt) (get_more j fresh d c.doings at)
+      was true (suc j) d at f =
+          ⊎_elim (λ old. f old) (λ new. subst (λ (x : Doing). NowIsSo F x.now) new.1 tt) (get_more j fresh d c.doings at)
       was false j d at f = let no_way : ◌≡◌ {A = Option Doing} None (Some d) = at in cc
 
   pub acts_so : (i : Input) (intents : List (Uid × Intent)) (c : Coord) → CoordIsSo F c → IsDone (acts i intents c)
@@ -752,8 +839,10 @@ module _ (F : Fits) (keep : MayKeep F) where
   acts_so (input.Call l x o) intents c so = on_named l (λ b. call b.path x o c) c so (λ b. call_so b.path x o c so)
   acts_so (input.Include l x s) intents c so = on_named l (λ b. include b.path x s c) c so (λ b. include_so b.path x s c so)
   acts_so (input.Commit l) intents c so = on_named l (λ b. commit_action b intents c) c so (λ b. commit_so b intents c so)
-  acts_so (input.Abort l) intents c so = on_named l (λ b. abort_action (actor b.path) intents c) c so (λ b. abort_so (actor b.path) intents c so)
-  acts_so (input.GiveUp l) intents c so = on_named l (λ b. give_up (actor b.path) intents c) c so (λ b. give_up_so (actor b.path) intents c so)
+  acts_so (input.Abort l) intents c so =
+      on_named l (λ b. abort_action (actor b.path) intents c) c so (λ b. abort_so (actor b.path) intents c so)
+  acts_so (input.GiveUp l) intents c so =
+      on_named l (λ b. give_up (actor b.path) intents c) c so (λ b. give_up_so (actor b.path) intents c so)
   acts_so (input.Frame j from m) intents c so = (so, tt)
   acts_so input.Tick intents c so = (so, tt)
   acts_so input.Restart intents c so = (so, tt)

@@ -1,14 +1,11 @@
 -- What a coordinator does with states where it is acknowledged, asked and begins: it has and sends none that is new.
-use Rattle.std.proofs.Common.{Bool, List, None, Option, Some, [], cond, false, not, suc, true, zero, ℕ, ◌&&◌, ◌||◌, ◌∷◌, ◌≡◌}
-use Rattle.arj_protocol.specs.Words.{End, Uid, uid_eq}
-use Rattle.arj_protocol.specs.Words.ending
-use Rattle.arj_protocol.specs.Coord.{Coord, Doing, new_coord}
-use Rattle.arj_protocol.specs.Effect.{Intent, Served}
-use Rattle.arj_protocol.specs.Ending.{acked, acked_by, acked_left, answer_decided, answer_query, answer_recorded, is_deferred, is_kept_commit, is_over, let_go, root_or_self, tell, tell_all, tolds_let_go}
-use Rattle.arj_protocol.specs.Order.{at_uid, has, put_uid, without_number, without_uid}
-use Rattle.arj_protocol.specs.Step.{tolds_again}
-use Rattle.arj_protocol.specs.Tree.{at_place, branch_of, is_open, is_own}
-use Rattle.arj_law_disk_view.specs.running.States.{AllSay, CoordIsSo, Fits, MayKeep, NowIsSo}
+use Rattle.arj_law_parts.proofs.Words
+use Words.{Bool, List, None, Option, Some, [], cond, false, not, suc, true, zero, ℕ, ◌&&◌, ◌||◌, ◌∷◌, ◌≡◌, End, Uid, uid_eq, Coord, Doing}
+use Words.{new_coord, Intent, Served, acked, acked_by, acked_left, answer_decided, answer_query, answer_recorded, is_deferred}
+use Words.{is_kept_commit, let_go, root_or_self, tell, tell_all, tolds_let_go, at_uid, has, put_uid, without_number, without_uid}
+use Words.{tolds_again, at_place, branch_of, is_open, is_own}
+use Words.ending
+use Rattle.arj_law_disk_view.proofs.Terms.{is_over, AllSay, CoordIsSo, Fits, MayKeep, NowIsSo}
 use Rattle.arj_law_disk_view.proofs.running.StateCoords.{IsServed, both, tells}
 
 module _ (F : Fits) (keep : MayKeep F) where
@@ -22,7 +19,8 @@ module _ (F : Fits) (keep : MayKeep F) where
       gone None = tt
       gone (Some i) = each (not (uid_eq i.root u) && is_over (branch_of i.root c.tree))
         where
-          each : (b : Bool) → AllSay F (cond b (tell_all i.root false ((i.root, ending.Abort) ∷ []) (let_go i.root (without_uid u intents) c i.nodes)) [])
+          each : (b : Bool) →
+              AllSay F (cond b (tell_all i.root false ((i.root, ending.Abort) ∷ []) (let_go i.root (without_uid u intents) c i.nodes)) [])
           each true = tells F keep i.root false ((i.root, ending.Abort) ∷ []) (let_go i.root (without_uid u intents) c i.nodes)
           each false = tt
 
@@ -34,7 +32,8 @@ module _ (F : Fits) (keep : MayKeep F) where
       by None = (so, tt)
       by (Some i) = each (has i.nodes from)
         where
-          each : (b : Bool) → IsServed F keep (cond {A = Served Coord (Unit {0})} b (acked_left u i intents c (without_number from i.nodes)) (record { part = c; outs = []; reply = None }))
+          each : (b : Bool) → IsServed F keep (cond {A = Served Coord (Unit {0})} b (acked_left u i intents c (without_number from i.nodes))
+              (record { part = c; outs = []; reply = None }))
           each true = left i (without_number from i.nodes)
           each false = (so, tt)
 
@@ -47,7 +46,8 @@ module _ (F : Fits) (keep : MayKeep F) where
       decided : AllSay F (answer_decided from u c)
       decided = each (is_kept_commit from u c)
         where
-          each : (b : Bool) → AllSay F (cond b (tell (root_or_self u (branch_of u c.tree)) false ((u, ending.Commit) ∷ []) from ∷ []) (tell (root_or_self u (branch_of u c.tree)) false ((u, ending.Abort) ∷ []) from ∷ []))
+          each : (b : Bool) → AllSay F (cond b (tell (root_or_self u (branch_of u c.tree)) false ((u, ending.Commit) ∷ []) from ∷ [])
+              (tell (root_or_self u (branch_of u c.tree)) false ((u, ending.Abort) ∷ []) from ∷ []))
           each true = told (root_or_self u (branch_of u c.tree)) false ending.Commit
           each false = told (root_or_self u (branch_of u c.tree)) false ending.Abort
 
@@ -65,7 +65,8 @@ module _ (F : Fits) (keep : MayKeep F) where
 
   pub told_again_so : (telling : List (Uid × Intent)) → AllSay F (tolds_again telling)
   told_again_so [] = tt
-  told_again_so (e ∷ es) = let i = e.1 in both F keep (tell_all i.root true ((e.0, ending.Commit) ∷ []) i.nodes) (tolds_again es) (tells F keep i.root true ((e.0, ending.Commit) ∷ []) i.nodes) (told_again_so es)
+  told_again_so (e ∷ es) = let i = e.1 in both F keep (tell_all i.root true ((e.0, ending.Commit) ∷ []) i.nodes) (tolds_again es)
+      (tells F keep i.root true ((e.0, ending.Commit) ∷ []) i.nodes) (told_again_so es)
 
   pub new_so : (node inc : ℕ) (records : List (Uid × Intent)) → CoordIsSo F (record (new_coord node inc) { telling = records })
   new_so node inc records = record { works = λ u d at. nothing (is_own u (let c = new_coord node inc in c.tree)) u.num d at; roots = tt }

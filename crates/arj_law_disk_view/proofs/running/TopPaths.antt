@@ -1,21 +1,14 @@
 -- Requests are by paths of tops.
-use Rattle.std.proofs.Common.{◌≡◌, ◌≢◌, ◌≤◌, ◌⊎◌, List, [], ◌∷◌, ◌++◌, length, take, true, false, Some, refl, sym, ◌∙◌, ap, subst, inl, inr, Contains, arith}
-use Rattle.arj_base.proofs.Uids.{uid_other}
-use Rattle.arj_lock.proofs.Members.{In, in_from, in_to}
-use Rattle.arj_protocol.specs.Words.{Uid, Ask, Kind, Message, Path, asks, first_uid, last_uid, tops_of, uid_eq, uids_of}
-use Rattle.arj_protocol.specs.Words.kind
-use Rattle.arj_protocol.specs.Words.ask
-use Rattle.arj_protocol.specs.Ask.{top_path}
-use Rattle.arj_protocol.specs.Order.{uid_number}
-use Rattle.arj_law_parts.specs.parts.Actions.{Action, AreBegun, Stands, act_of}
-use Rattle.arj_law_parts.specs.parts.Messages.{FitsAsked, IsAsker}
-use Rattle.arj_law_parts.proofs.parts.Begun.{path_length, serial_alone}
-use Rattle.arj_law_disk.proofs.machine.Base.{never}
-use Rattle.arj_law_disk_view.specs.view.Knows.{IsOfKind}
-use Rattle.arj_law_disk_view.specs.view.Sees.{Kinds}
-use Rattle.arj_law_disk_view.specs.running.Kinds.{Agrees, AreOfTops, IsOfTops, is_top_kind}
-use Rattle.arj_law_disk_view.proofs.running.Begun.{Stood, stood}
-use Rattle.arj_law_disk_view.proofs.running.Holders.{taken_front}
+use Rattle.arj_law_parts.proofs.Words
+use Words.{◌≡◌, ◌≢◌, ◌≤◌, ◌⊎◌, List, [], ◌∷◌, ◌++◌, length, take, true, false, Some, refl, sym, ◌∙◌, ap, subst, inl, inr, Contains, arith}
+use Words.{uid_other, In, in_from, in_to, Uid, Ask, Kind, Message, Path, asks, first_uid, last_uid, tops_of, uid_eq, uids_of, top_path}
+use Words.{uid_number}
+use Words.kind
+use Words.ask
+use Rattle.arj_law_disk_view.proofs.Terms
+use Terms.{Action, AreBegun, Stands, act_of, FitsAsked, IsAsker, path_length, serial_alone, never, IsOfKind, Kinds, Agrees, AreOfTops}
+use Terms.{IsOfTops, is_top_kind}
+use Rattle.arj_law_disk_view.proofs.running.{Begun.Stood, Begun.stood, Holders.taken_front}
 
 -- the top of an action, which isn't serializing: its path leads the action's
 abbrev pub HasTop : List Action → Action → Type 0
@@ -24,9 +17,11 @@ HasTop acts a = (c : Action) × In c acts × (is_top_kind c.kind ≡ true) × (t
 pub top_in : (acts : List Action) → AreBegun acts → (a : Action) → In a acts → a.kind ≢ kind.Serial → HasTop acts a
 top_in [] begun a none plain = absurd none
 top_in (b ∷ acts) begun a (inr old) plain = let r = top_in acts begun.1 a old plain in (r.0, inr r.1, r.2, r.3)
-top_in (b ∷ acts) begun a (inl same) plain = subst (λ (x : Action). HasTop (b ∷ acts) x) same (by b.kind refl (λ is. plain (ap (λ (x : Action). x.kind) (sym same) ∙ is)) begun.0.stands (λ c i. top_in acts begun.1 c i))
+top_in (b ∷ acts) begun a (inl same) plain = subst (λ (x : Action). HasTop (b ∷ acts) x) same
+    (by b.kind refl (λ is. plain (ap (λ (x : Action). x.kind) (sym same) ∙ is)) begun.0.stands (λ c i. top_in acts begun.1 c i))
   where
-    by : (k : Kind) → b.kind ≡ k → (b.kind ≡ kind.Serial → ⊥) → Stands acts b k → ((c : Action) → In c acts → c.kind ≢ kind.Serial → HasTop acts c) → HasTop (b ∷ acts) b
+    by : (k : Kind) → b.kind ≡ k → (b.kind ≡ kind.Serial → ⊥) → Stands acts b k →
+        ((c : Action) → In c acts → c.kind ≢ kind.Serial → HasTop acts c) → HasTop (b ∷ acts) b
     by kind.Top is no_serial s older = (b, inl refl, ap is_top_kind is, (λ j. take (s.1 j) (s.0 j)) ∙ sym s.0)
     by kind.Independent is no_serial s older = (b, inl refl, ap is_top_kind is, (λ j. take (s.1 j) (s.0 j)) ∙ sym s.0)
     by kind.Serial is no_serial s older = absurd (no_serial is)
@@ -44,7 +39,8 @@ top_in (b ∷ acts) begun a (inl same) plain = subst (λ (x : Action). HasTop (b
 module _ (acts : List Action) (begun : AreBegun acts) (tops : Kinds) (agree : Agrees tops acts) where
   -- with this top, which is the path's
   abbrev Tops_at : List Uid → Uid → Type 0
-  Tops_at us u = (tops.is_top (uid_number u) ≡ true) × (((us ≡ u ∷ []) × (tops.root (uid_number u) ≡ uid_number u)) ⊎ ((w : Uid) × (us ≡ w ∷ u ∷ []) × (tops.root (uid_number u) ≡ uid_number w) × (uid_eq w u ≡ false) × (tops.is_serial (uid_number w) ≡ true)))
+  Tops_at us u = (tops.is_top (uid_number u) ≡ true) × (((us ≡ u ∷ []) × (tops.root (uid_number u) ≡ uid_number u)) ⊎ ((w : Uid)
+      × (us ≡ w ∷ u ∷ []) × (tops.root (uid_number u) ≡ uid_number w) × (uid_eq w u ≡ false) × (tops.is_serial (uid_number w) ≡ true)))
 
   of_action : (c : Action) → Contains acts c → is_top_kind c.kind ≡ true → Tops_at (uids_of c.path) (act_of c)
   of_action c there top = by c.kind refl top (agree.each c there).0 (stood acts begun c there)
@@ -52,14 +48,16 @@ module _ (acts : List Action) (begun : AreBegun acts) (tops : Kinds) (agree : Ag
       alone : tops.is_top (uid_number (act_of c)) ≡ true → uids_of c.path ≡ act_of c ∷ [] → Tops_at (uids_of c.path) (act_of c)
       alone is path = (is, inl (path, (agree.each c there).1 is ∙ ap (λ us. uid_number (first_uid us)) path))
 
-      by : (k : Kind) → c.kind ≡ k → is_top_kind k ≡ true → IsOfKind tops (act_of c) k c.path → Stood acts c k → Tops_at (uids_of c.path) (act_of c)
+      by : (k : Kind) → c.kind ≡ k → is_top_kind k ≡ true → IsOfKind tops (act_of c) k c.path → Stood acts c k →
+          Tops_at (uids_of c.path) (act_of c)
       by kind.Nested is t of s = absurd (never t refl)
       by kind.Serial is t of s = absurd (never t refl)
       by kind.Top is t of s = alone of.0 of.2
       by kind.Independent is t of s = alone of.0 of.2
       by kind.Constituent is t of s =
           let b : Action = s.0 in
-          let serial : tops.is_serial (uid_number (act_of b)) ≡ true = (subst (λ k. IsOfKind tops (act_of b) k b.path) s.2 (agree.each b s.1).0).1 in (
+          let serial : tops.is_serial (uid_number (act_of b)) ≡ true =
+          (subst (λ k. IsOfKind tops (act_of b) k b.path) s.2 (agree.each b s.1).0).1 in (
             of.0,
             inr (
               act_of b,

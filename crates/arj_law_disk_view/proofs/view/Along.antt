@@ -1,12 +1,12 @@
 -- Where the machine has gone since a walk began.
-use Rattle.std.proofs.Common.{◌≡◌, ℕ, ◌==◌, ◌||◌, not, List, [], ◌∷◌, ◌++◌, Bool, true, false, Option, Some, None, refl, sym, ◌∙◌, ap, subst}
-use Rattle.arj_law_disk.specs.machine.Effects as machine
-use Rattle.arj_law_disk.specs.machine.Effects.{World, Effect, Follows, run, after}
-use Rattle.arj_law_disk.specs.machine.Guards.{AreOnlyOf, ArePlain, Note, Begins, Decides, Confirms, Acks, is_only_of, only_begins, tells_only_of}
-use Rattle.arj_law_disk.specs.machine.Messages as mail
-use Rattle.arj_law_disk.specs.machine.State.{naming}
-use Rattle.arj_law_disk.proofs.machine.Base.{never, test_is}
-use Rattle.arj_law_disk_view.specs.view.Sees.{Walk, Along, IsAlong, may_note}
+use Rattle.arj_law_parts.proofs.Words
+use Words.{◌≡◌, ℕ, ◌==◌, ◌||◌, not, List, [], ◌∷◌, ◌++◌, Bool, true, false, Option, Some, None, refl, sym, ◌∙◌, ap, subst}
+use Rattle.arj_law_disk_view.proofs.Terms
+use Terms.{World, Effect, Follows, run, after, AreOnlyOf, Note, Begins, Decides, Confirms, Acks, is_only_of, only_begins, tells_only_of}
+use Terms.{naming, never, test_is, Walk, Along, IsAlong, may_note}
+use Terms.machine
+use Terms.mail
+use Rattle.arj_law_disk.specs.machine.Guards.{ArePlain}
 
 -- ---- the machine goes in steps
 
@@ -81,7 +81,8 @@ plain_only f es plain = all_more (λ n. false) f (λ n h. absurd (never h refl))
 
 -- ---- the walk goes on
 
-pub along_goes : (o : Option Walk) (W : World) (es : List Effect) → Follows W es → AreOnlyOf (may_note o) es → IsAlong o W → IsAlong o (run W es)
+pub along_goes : (o : Option Walk) (W : World) (es : List Effect) → Follows W es → AreOnlyOf (may_note o) es → IsAlong o W →
+    IsAlong o (run W es)
 along_goes None W es follows only a = tt
 along_goes (Some w) W es follows only a = record {
   effects = a.effects ++ es;

@@ -1,21 +1,15 @@
 -- What a commit machine asks claims what is true.
-use Rattle.std.proofs.Common.{◌≡◌, ◌⊎◌, ℕ, ◌==◌, ◌&&◌, ◌||◌, not, List, [], ◌∷◌, ◌++◌, Bool, true, false, cond, Option, Some, None, refl, sym, ◌∙◌, ap, subst, inl, inr, map, filter, flat_map, append-nil}
-use Rattle.std.proofs.lemmas.Bool.{or_parts, or_left, or_right}
-use Rattle.std.proofs.lemmas.List.{map-append}
-use Rattle.std.proofs.lemmas.List.Elements.{filter-append}
-use Rattle.arj_protocol.specs.Words.{ObjectState}
-use Rattle.arj_protocol.specs.Commit as commit
-use Rattle.arj_protocol.specs.Commit.{Used, is_marked, included_of, joins_left, changed_of}
-use Rattle.arj_protocol.specs.Confirm.{marked}
-use Rattle.arj_protocol.specs.Laws.{names_grant}
-use Rattle.arj_protocol.specs.Order as order
-use Rattle.arj_law_disk.specs.machine.State as disk
-use Rattle.arj_law_disk.specs.machine.State.{State, target}
-use Rattle.arj_law_disk.specs.machine.Words as words
-use Rattle.arj_law_disk.proofs.machine.Base.{bool_cases, test_is, test_same}
-use Rattle.arj_law_disk_view.specs.view.Asking.{SeesConfirming}
-use Rattle.arj_law_disk_view.specs.view.Confirming.{SaysMarks}
-use Rattle.arj_law_disk_view.specs.view.Plans.{used_at, plan_by, plan_at, Uses, AreApart, AreDistinct}
+use Rattle.arj_law_parts.proofs.Words
+use Words.{◌≡◌, ◌⊎◌, ℕ, ◌==◌, ◌&&◌, ◌||◌, not, List, [], ◌∷◌, ◌++◌, Bool, true, false, cond, Option, Some, None, refl, sym, ◌∙◌, ap, subst}
+use Words.{inl, inr, map, filter, append-nil, or_parts, or_left, or_right, map-append, filter-append, ObjectState, Used, is_marked}
+use Words.{included_of, joins_left, changed_of, marked, names_grant}
+use Words.commit
+use Words.order
+use Rattle.arj_law_disk_view.proofs.Terms
+use Terms.{flat_map, State, target, bool_cases, test_is, test_same, SeesConfirming, SaysMarks, used_at, plan_by, plan_at, Uses, AreApart}
+use Terms.{AreDistinct}
+use Terms.disk
+use Terms.words
 use Rattle.arj_law_disk_view.proofs.view.Planned.{has_same, used_there}
 
 -- what stays of a filter's list stands once
@@ -27,7 +21,8 @@ filter_distinct f (n ∷ ns) d = by (f n) (filter_distinct f ns d.1)
     less [] h = refl
     less (m ∷ ms) h = let p = or_parts (m == n) (order.has ms n) h in one (f m) p.0 (less ms p.1)
       where
-        one : (b : Bool) → (m == n) ≡ false → order.has (filter f ms) n ≡ false → order.has (cond b (m ∷ filter f ms) (filter f ms)) n ≡ false
+        one : (b : Bool) → (m == n) ≡ false → order.has (filter f ms) n ≡ false →
+            order.has (cond b (m ∷ filter f ms) (filter f ms)) n ≡ false
         one true e ih = (λ i. e i || order.has (filter f ms) n) ∙ ih
         one false e ih = ih
 
@@ -38,14 +33,18 @@ filter_distinct f (n ∷ ns) d = by (f n) (filter_distinct f ns d.1)
 -- the stores of one object's pairs, and of another's
 pairs_own : (x : ℕ) (ss : List ℕ) → marked x (map {A = ℕ} {B = ℕ × ℕ} (λ s. (x, s)) ss) ≡ ss
 pairs_own x [] = refl
-pairs_own x (s ∷ ss) = ap (λ b. map (λ (m : ℕ × ℕ). m.1) (cond b ((x, s) ∷ filter (λ (m : ℕ × ℕ). m.0 == x) (map {A = ℕ} {B = ℕ × ℕ} (λ s. (x, s)) ss)) (filter (λ (m : ℕ × ℕ). m.0 == x) (map {A = ℕ} {B = ℕ × ℕ} (λ s. (x, s)) ss)))) (test_same x) ∙ ap (λ ns. s ∷ ns) (pairs_own x ss)
+pairs_own x (s ∷ ss) =
+    ap (λ b. map (λ (m : ℕ × ℕ). m.1) (cond b ((x, s) ∷ filter (λ (m : ℕ × ℕ). m.0 == x) (map {A = ℕ} {B = ℕ × ℕ} (λ s. (x, s)) ss))
+    (filter (λ (m : ℕ × ℕ). m.0 == x) (map {A = ℕ} {B = ℕ × ℕ} (λ s. (x, s)) ss)))) (test_same x) ∙ ap (λ ns. s ∷ ns) (pairs_own x ss)
 
 pairs_other : (x y : ℕ) (ss : List ℕ) → (y == x) ≡ false → marked x (map {A = ℕ} {B = ℕ × ℕ} (λ s. (y, s)) ss) ≡ []
 pairs_other x y [] e = refl
-pairs_other x y (s ∷ ss) e = ap (λ b. map (λ (m : ℕ × ℕ). m.1) (cond b ((y, s) ∷ filter (λ (m : ℕ × ℕ). m.0 == x) (map {A = ℕ} {B = ℕ × ℕ} (λ s. (y, s)) ss)) (filter (λ (m : ℕ × ℕ). m.0 == x) (map {A = ℕ} {B = ℕ × ℕ} (λ s. (y, s)) ss)))) e ∙ pairs_other x y ss e
+pairs_other x y (s ∷ ss) e = ap (λ b. map (λ (m : ℕ × ℕ). m.1) (cond b ((y, s) ∷ filter (λ (m : ℕ × ℕ). m.0 == x) (map {A = ℕ} {B = ℕ × ℕ}
+    (λ s. (y, s)) ss)) (filter (λ (m : ℕ × ℕ). m.0 == x) (map {A = ℕ} {B = ℕ × ℕ} (λ s. (y, s)) ss)))) e ∙ pairs_other x y ss e
 
 marked_both : (x : ℕ) (ks ms : List (ℕ × ℕ)) → marked x (ks ++ ms) ≡ marked x ks ++ marked x ms
-marked_both x ks ms = ap (λ ls. map (λ (m : ℕ × ℕ). m.1) ls) (filter-append (λ (m : ℕ × ℕ). m.0 == x) ks ms) ∙ map-append (λ (m : ℕ × ℕ). m.1) (filter (λ (m : ℕ × ℕ). m.0 == x) ks) (filter (λ (m : ℕ × ℕ). m.0 == x) ms)
+marked_both x ks ms = ap (λ ls. map (λ (m : ℕ × ℕ). m.1) ls) (filter-append (λ (m : ℕ × ℕ). m.0 == x) ks ms)
+    ∙ map-append (λ (m : ℕ × ℕ). m.1) (filter (λ (m : ℕ × ℕ). m.0 == x) ks) (filter (λ (m : ℕ × ℕ). m.0 == x) ms)
 
 -- the includes that stay, of the object that is used so
 abbrev Stays : commit.Plan → ℕ → Option Used → List ℕ
@@ -60,7 +59,8 @@ stays_left p x (u ∷ us) apart = marked_both x (joins_left p u) (flat_map (join
         → marked x (joins_left p u) ++ marked x (flat_map (joins_left p) us) ≡ Stays p x (cond b (Some u) (used_at x us))
     by true e ih =
         let same : u.x ≡ x = test_is u.x x e in
-        (λ i. subst (λ y. marked y (joins_left p u) ≡ filter (λ s. not (is_marked u.x s p)) u.joins) same (pairs_own u.x (filter (λ s. not (is_marked u.x s p)) u.joins)) i ++ (ih ∙ ap (Stays p x) (ap (λ y. used_at y us) (sym same) ∙ apart.0)) i)
+        (λ i. subst (λ y. marked y (joins_left p u) ≡ filter (λ s. not (is_marked u.x s p)) u.joins) same (pairs_own u.x
+        (filter (λ s. not (is_marked u.x s p)) u.joins)) i ++ (ih ∙ ap (Stays p x) (ap (λ y. used_at y us) (sym same) ∙ apart.0)) i)
         ∙ append-nil (filter (λ s. not (is_marked u.x s p)) u.joins)
     by false e ih = (λ i. pairs_other x u.x (filter (λ s. not (is_marked u.x s p)) u.joins) e i ++ ih i)
 
@@ -69,19 +69,22 @@ pub confirm_says : (x : ℕ) (S : State) (t : ℕ) (p : commit.Plan) → SeesCon
     → SaysMarks x (S.plan t) (S.got t) (map {A = Used} {B = ℕ × ℕ} (λ u. (u.x, u.grant)) p.used) p.excluded (included_of p)
 confirm_says x S t p sees = record {
   marks = λ s. sees.marks s ∙ formula s (bool_cases (target (plan_at x p) s)) ∙ ap (λ g. target g s && not (S.got t s)) (sym sees.plan);
-  joins = stays_left p x p.used sees.tidy.apart ∙ stays (used_at x p.used) refl ∙ ap (λ (g : disk.Plan). filter (S.got t) g.joins) (sym sees.plan);
+  joins = stays_left p x p.used sees.tidy.apart ∙ stays (used_at x p.used) refl
+      ∙ ap (λ (g : disk.Plan). filter (S.got t) g.joins) (sym sees.plan);
   distinct = subst AreDistinct (sym (stays_left p x p.used sees.tidy.apart)) (distinct (used_at x p.used) refl);
   granted = λ s on. granted (used_at x p.used) refl s (ap (λ g. target g s) (sym sees.plan) ∙ on);
 }
   where
-    formula : (s : ℕ) → (target (plan_at x p) s ≡ true) ⊎ (target (plan_at x p) s ≡ false) → (target (plan_at x p) s && not (order.has p.prepared s)) ≡ (target (plan_at x p) s && not (S.got t s))
+    formula : (s : ℕ) → (target (plan_at x p) s ≡ true) ⊎ (target (plan_at x p) s ≡ false) →
+        (target (plan_at x p) s && not (order.has p.prepared s)) ≡ (target (plan_at x p) s && not (S.got t s))
     formula s (inl on) = ap (λ b. target (plan_at x p) s && not b) (sym (sees.got s on))
     formula s (inr off) = ap (λ b. b && not (order.has p.prepared s)) off ∙ ap (λ b. b && not (S.got t s)) (sym off)
 
     -- among the includes, who isn't marked said Yes
     same_filter : (f g : ℕ → Bool) (ns : List ℕ) → ((n : ℕ) → order.has ns n ≡ true → f n ≡ g n) → filter f ns ≡ filter g ns
     same_filter f g [] e = refl
-    same_filter f g (n ∷ ns) e = (λ i. cond (e n (or_left (n == n) (order.has ns n) (test_same n)) i) (n ∷ same_filter f g ns (λ m h. e m (or_right (n == m) (order.has ns m) h)) i) (same_filter f g ns (λ m h. e m (or_right (n == m) (order.has ns m) h)) i))
+    same_filter f g (n ∷ ns) e = (λ i. cond (e n (or_left (n == n) (order.has ns n) (test_same n)) i) (n ∷ same_filter f g ns
+        (λ m h. e m (or_right (n == m) (order.has ns m) h)) i) (same_filter f g ns (λ m h. e m (or_right (n == m) (order.has ns m) h)) i))
 
     stays : (o : Option Used) → used_at x p.used ≡ o → Stays p x o ≡ filter (S.got t) (plan_by o (changed_of x p)).joins
     stays None e = refl
@@ -97,8 +100,10 @@ confirm_says x S t p sees = record {
 
         unmarked : (s : ℕ) → order.has u.joins s ≡ true → not (is_marked u.x s p) ≡ S.got t s
         unmarked s j =
-            let on : target (plan_at x p) s ≡ true = ap (λ o. target (plan_by o (changed_of x p)) s) e ∙ joined (changed_of x p) (has_same s u.joins ∙ j) in
-            ap (λ y. not (is_marked y s p)) there.1 ∙ ap not (sees.marks s) ∙ flips (target (plan_at x p) s) (order.has p.prepared s) on ∙ sym (sees.got s on)
+            let on : target (plan_at x p) s ≡ true = ap (λ o. target (plan_by o (changed_of x p)) s) e
+            ∙ joined (changed_of x p) (has_same s u.joins ∙ j) in
+            ap (λ y. not (is_marked y s p)) there.1 ∙ ap not (sees.marks s) ∙ flips (target (plan_at x p) s) (order.has p.prepared s) on
+            ∙ sym (sees.got s on)
           where
             joined : (c : Option ObjectState) → words.has s u.joins ≡ true → target (plan_by (Some u) c) s ≡ true
             joined None h = h
@@ -110,9 +115,12 @@ confirm_says x S t p sees = record {
 
     grants : (us : List Used) (u : Used) → Uses u us → u.x ≡ x → names_grant x (map {A = Used} {B = ℕ × ℕ} (λ u. (u.x, u.grant)) us) ≡ true
     grants [] u uses is = absurd uses
-    grants (v ∷ vs) u (inl same) is = or_left (v.x == x) (names_grant x (map {A = Used} {B = ℕ × ℕ} (λ u. (u.x, u.grant)) vs)) (ap (λ (w : Used). w.x == x) same ∙ ap (λ n. n == x) is ∙ test_same x)
-    grants (v ∷ vs) u (inr more) is = or_right (v.x == x) (names_grant x (map {A = Used} {B = ℕ × ℕ} (λ u. (u.x, u.grant)) vs)) (grants vs u more is)
+    grants (v ∷ vs) u (inl same) is = or_left (v.x == x) (names_grant x (map {A = Used} {B = ℕ × ℕ} (λ u. (u.x, u.grant)) vs))
+        (ap (λ (w : Used). w.x == x) same ∙ ap (λ n. n == x) is ∙ test_same x)
+    grants (v ∷ vs) u (inr more) is =
+        or_right (v.x == x) (names_grant x (map {A = Used} {B = ℕ × ℕ} (λ u. (u.x, u.grant)) vs)) (grants vs u more is)
 
-    granted : (o : Option Used) → used_at x p.used ≡ o → (s : ℕ) → target (plan_at x p) s ≡ true → names_grant x (map {A = Used} {B = ℕ × ℕ} (λ u. (u.x, u.grant)) p.used) ≡ true
+    granted : (o : Option Used) → used_at x p.used ≡ o → (s : ℕ) → target (plan_at x p) s ≡ true →
+        names_grant x (map {A = Used} {B = ℕ × ℕ} (λ u. (u.x, u.grant)) p.used) ≡ true
     granted None e s on = absurd (cc (sym (ap (λ o. target (plan_by o (changed_of x p)) s) e) ∙ on))
     granted (Some u) e s on = let f = used_there x p.used u e in grants p.used u f.0 f.1

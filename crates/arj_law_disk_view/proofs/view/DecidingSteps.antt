@@ -1,26 +1,21 @@
 -- Decisions, records and ends in the machine's terms.
-use Rattle.std.proofs.Common.{◌≡◌, ◌≢◌, ◌⊎◌, ℕ, ◌==◌, ◌&&◌, ◌||◌, not, List, [], ◌∷◌, ◌++◌, Bool, true, false, cond, Option, Some, None, refl, sym, ◌∙◌, ap, subst, inl, inr, ⊎_elim, is_some}
-use Rattle.std.specs.List.{list_any}
-use Rattle.std.proofs.lemmas.Bool.{or_parts, and_parts}
-use Rattle.arj_base.proofs.Uids.{uid_cases}
-use Rattle.arj_protocol.specs.Words.{Uid, entry}
-use Rattle.arj_protocol.specs.Commit as commit
-use Rattle.arj_protocol.specs.Commit.{participants, included_of, is_empty, servers_of, naming_node}
-use Rattle.arj_protocol.specs.Effect.{Intent}
-use Rattle.arj_protocol.specs.Order as order
-use Rattle.arj_protocol.specs.Order.{at_uid, put_uid, without_uid, uid_number}
-use Rattle.arj_protocol.proofs.Numbers.{number_tells}
-use Rattle.arj_law_disk.specs.machine.Effects.{World, Intend, Decide, Remove, EndBare, Halt, after}
-use Rattle.arj_law_disk.specs.machine.State.{State, Stage, Gone, Confirming, naming, decided, undecided, listed_by, open_by, is_open, is_gone, target}
-use Rattle.arj_law_disk.specs.machine.Words.{put}
-use Rattle.arj_law_disk.specs.machine.Words as words
-use Rattle.arj_law_disk.proofs.machine.Base.{test_not, never, falls_to, put_same, put_other, put_cases}
-use Rattle.arj_law_disk_view.specs.view.Pairs.{SeesPair, packed_entry}
-use Rattle.arj_law_disk_view.specs.view.Stores.{SeesStore}
-use Rattle.arj_law_disk_view.specs.view.Plans.{plan_at}
-use Rattle.arj_law_disk_view.specs.view.Deciding.{SeesRecords, nodes_of, RecordIsWritten, DecisionIsMade, CommitsAreUndecided, BareCommitEnds, ActionsMayHalt, RecordIsRemoved, DecisionTells, EndsMayBeTold, StoresStayCalm, EntryStaysCalm, IsCalm}
-use Rattle.arj_law_disk_view.proofs.view.Keys as keys
+use Rattle.arj_law_parts.proofs.Words
+use Words.{◌≡◌, ◌≢◌, ◌⊎◌, ℕ, ◌==◌, ◌&&◌, ◌||◌, not, List, [], ◌∷◌, ◌++◌, Bool, true, false, cond, Option, Some, None, refl, sym, ◌∙◌, ap}
+use Words.{subst, inl, inr, ⊎_elim, is_some, list_any, or_parts, and_parts, uid_cases, Uid, entry, participants, included_of, is_empty}
+use Words.{servers_of, naming_node, Intent, at_uid, put_uid, without_uid, uid_number, number_tells}
+use Words.commit
+use Words.order
+use Rattle.arj_law_disk_view.proofs.Terms
+use Terms.{World, after, State, Stage, Gone, Confirming, naming, decided, undecided, listed_by, open_by, is_open, is_gone, target, put}
+use Terms.{test_not, never, falls_to, put_same, put_other, put_cases, SeesPair, packed_entry, SeesStore, plan_at, SeesRecords, nodes_of}
+use Terms.{IsCalm}
+use Terms.words
+use Rattle.arj_law_disk.specs.machine.Effects.{Intend, Decide, Remove, EndBare, Halt}
 use Rattle.arj_law_disk_view.proofs.view.Planned.{has_same, has_set, has_both}
+use Rattle.arj_law_disk_view.specs.view
+use view.Deciding.{RecordIsWritten, DecisionIsMade, CommitsAreUndecided, BareCommitEnds, ActionsMayHalt, RecordIsRemoved, DecisionTells}
+use view.Deciding.{EndsMayBeTold, StoresStayCalm, EntryStaysCalm}
+use Rattle.arj_law_disk_view.proofs.view.Keys as keys
 
 -- ---- outcomes
 
@@ -40,13 +35,17 @@ apart_numbers u w other = test_not (uid_number u) (uid_number w) (λ e. other (n
 -- ---- a record
 
 module _ (k : ℕ) (intents : List (Uid × Intent)) (S : State) (sees : SeesRecords k intents S) where
-  written : (V : State) (u : Uid) (i : Intent) → u.node ≡ k → V.intent ≡ put (uid_number u) (Some i.nodes) S.intent → SeesRecords k (put_uid u i intents) V
+  written : (V : State) (u : Uid) (i : Intent) → u.node ≡ k → V.intent ≡ put (uid_number u) (Some i.nodes) S.intent →
+      SeesRecords k (put_uid u i intents) V
   written V u i mine is = record {
     sorted = keys.sorted_put u i intents sees.sorted;
-    own = λ w j at. ⊎_elim (λ same. ap (λ (a : Uid). a.node) same.0 ∙ mine) (λ other. sees.own w j other.1) (keys.put_cases w u i j intents at);
+    own = λ w j at.
+        ⊎_elim (λ same. ap (λ (a : Uid). a.node) same.0 ∙ mine) (λ other. sees.own w j other.1) (keys.put_cases w u i j intents at);
     is = λ w at. ap (λ f. f (uid_number w)) is ∙ ⊎_elim
-        (λ same. ap (λ a. put (uid_number u) (Some i.nodes) S.intent (uid_number a)) same ∙ put_same (uid_number u) (Some i.nodes) S.intent ∙ sym (ap nodes_of (ap (λ a. at_uid a (put_uid u i intents)) same ∙ keys.put_same u i intents)))
-        (λ other. put_other (uid_number u) (Some i.nodes) S.intent (uid_number w) (apart_numbers w u other) ∙ sees.is w at ∙ sym (ap nodes_of (keys.put_other w u i intents other)))
+        (λ same. ap (λ a. put (uid_number u) (Some i.nodes) S.intent (uid_number a)) same ∙ put_same (uid_number u) (Some i.nodes) S.intent
+        ∙ sym (ap nodes_of (ap (λ a. at_uid a (put_uid u i intents)) same ∙ keys.put_same u i intents)))
+        (λ other. put_other (uid_number u) (Some i.nodes) S.intent (uid_number w) (apart_numbers w u other)
+        ∙ sees.is w at ∙ sym (ap nodes_of (keys.put_other w u i intents other)))
         (uid_cases w u);
   }
 
@@ -55,8 +54,10 @@ module _ (k : ℕ) (intents : List (Uid × Intent)) (S : State) (sees : SeesReco
     sorted = keys.sorted_without u intents sees.sorted;
     own = λ w j at. sees.own w j (keys.without_cases w u j intents sees.sorted at).1;
     is = λ w at. ap (λ f. f (uid_number w)) is ∙ ⊎_elim
-        (λ same. ap (λ a. put (uid_number u) None S.intent (uid_number a)) same ∙ put_same (uid_number u) None S.intent ∙ sym (ap nodes_of (ap (λ a. at_uid a (without_uid u intents)) same ∙ keys.without_same u intents sees.sorted)))
-        (λ other. put_other (uid_number u) None S.intent (uid_number w) (apart_numbers w u other) ∙ sees.is w at ∙ sym (ap nodes_of (keys.without_other w u intents other)))
+        (λ same. ap (λ a. put (uid_number u) None S.intent (uid_number a)) same ∙ put_same (uid_number u) None S.intent
+        ∙ sym (ap nodes_of (ap (λ a. at_uid a (without_uid u intents)) same ∙ keys.without_same u intents sees.sorted)))
+        (λ other. put_other (uid_number u) None S.intent (uid_number w) (apart_numbers w u other)
+        ∙ sees.is w at ∙ sym (ap nodes_of (keys.without_other w u intents other)))
         (uid_cases w u);
   }
 
@@ -64,8 +65,11 @@ module _ (k : ℕ) (intents : List (Uid × Intent)) (S : State) (sees : SeesReco
   stays_written V is = record { sorted = sees.sorted; own = sees.own; is = λ w at. ap (λ f. f (uid_number w)) is ∙ sees.is w at }
 
 -- who is among the participants
-pub takes_part : (p : commit.Plan) (m : ℕ) → (order.has p.prepared m ≡ true) ⊎ (order.has (naming_node p) m ≡ true) → words.has m (participants p) ≡ true
-takes_part p m h = has_same m (participants p) ∙ has_set (servers_of p ++ p.prepared ++ naming_node p) m (⊎_elim (λ one. has_both (servers_of p ++ p.prepared) (naming_node p) m (inl (has_both (servers_of p) p.prepared m (inr one)))) (λ two. has_both (servers_of p ++ p.prepared) (naming_node p) m (inr two)) h)
+pub takes_part : (p : commit.Plan) (m : ℕ) → (order.has p.prepared m ≡ true) ⊎ (order.has (naming_node p) m ≡ true) →
+    words.has m (participants p) ≡ true
+takes_part p m h = has_same m (participants p) ∙ has_set (servers_of p ++ p.prepared ++ naming_node p) m
+    (⊎_elim (λ one. has_both (servers_of p ++ p.prepared) (naming_node p) m (inl (has_both (servers_of p) p.prepared m (inr one))))
+    (λ two. has_both (servers_of p ++ p.prepared) (naming_node p) m (inr two)) h)
 
 pub record_is_written : RecordIsWritten
 record_is_written x k W u i p intents core sees confirmed answered records mine nodes = (
@@ -76,7 +80,8 @@ record_is_written x k W u i p intents core sees confirmed answered records mine 
     names = takes_part p naming (inr (ap (λ b. order.has (cond b (1 ∷ []) []) naming) confirmed));
   },
   record { rest = refl; outcomes = λ z b v. was_open z v },
-  subst (λ ns. SeesRecords k (put_uid u i intents) (after W (Intend t ns)).disk) nodes (written k intents W.disk records (after W (Intend t i.nodes)).disk u i mine refl),
+  subst (λ ns. SeesRecords k (put_uid u i intents) (after W (Intend t ns)).disk) nodes
+      (written k intents W.disk records (after W (Intend t i.nodes)).disk u i mine refl),
 )
   where
     t : ℕ
@@ -85,11 +90,14 @@ record_is_written x k W u i p intents core sees confirmed answered records mine 
     aimed : (s : ℕ) → W.disk.got t s ≡ true → target (plan_at x p) s ≡ true
     aimed s got = ap (λ q. target q s) (sym sees.plan) ∙ core.coordinators.got_target t s got
 
-    was_open : (z : ℕ) → open_by (decided W.disk z) (W.disk.stage z) (put t (Some (participants p)) W.disk.intent z) ≡ true → undecided W.disk z ≡ true
-    was_open z = put_cases (λ o. open_by (decided W.disk z) (W.disk.stage z) o ≡ true → undecided W.disk z ≡ true) t (Some (participants p)) W.disk.intent z
+    was_open : (z : ℕ) → open_by (decided W.disk z) (W.disk.stage z) (put t (Some (participants p)) W.disk.intent z) ≡ true →
+        undecided W.disk z ≡ true
+    was_open z = put_cases (λ o. open_by (decided W.disk z) (W.disk.stage z) o ≡ true →
+        undecided W.disk z ≡ true) t (Some (participants p)) W.disk.intent z
         (λ same v. closes (decided W.disk z) (ap (λ n. W.disk.stage n) same ∙ sees.stage) v) (λ other v. v)
       where
-        closes : (b : Bool) → W.disk.stage z ≡ Confirming → open_by b (W.disk.stage z) (Some (participants p)) ≡ true → open_by b (W.disk.stage z) (W.disk.intent z) ≡ true
+        closes : (b : Bool) → W.disk.stage z ≡ Confirming → open_by b (W.disk.stage z) (Some (participants p)) ≡ true →
+            open_by b (W.disk.stage z) (W.disk.intent z) ≡ true
         closes true is v = absurd (cc v)
         closes false is v = ap (λ g. is_open g || is_some (W.disk.intent z)) is
 
@@ -103,23 +111,33 @@ decision_is_made k W u i intents records there open_yet = (
     t : ℕ
     t = uid_number u
 
-    was_open : (z : ℕ) → open_by ((t == z) || decided W.disk z) (put t Gone W.disk.stage z) (W.disk.intent z) ≡ true → undecided W.disk z ≡ true
+    was_open : (z : ℕ) → open_by ((t == z) || decided W.disk z) (put t Gone W.disk.stage z) (W.disk.intent z) ≡ true →
+        undecided W.disk z ≡ true
     was_open z = by (t == z)
       where
         by : (b : Bool) → open_by (b || decided W.disk z) (put t Gone W.disk.stage z) (W.disk.intent z) ≡ true → undecided W.disk z ≡ true
         by true v = absurd (cc v)
-        by false v = put_cases (λ g. open_by (decided W.disk z) g (W.disk.intent z) ≡ true → undecided W.disk z ≡ true) t Gone W.disk.stage z (λ same u. gone_less (decided W.disk z) (W.disk.intent z) (W.disk.stage z) u) (λ other u. u) v
+        by false v = put_cases (λ g. open_by (decided W.disk z) g (W.disk.intent z) ≡ true → undecided W.disk z ≡ true) t Gone W.disk.stage
+            z (λ same u. gone_less (decided W.disk z) (W.disk.intent z) (W.disk.stage z) u) (λ other u. u) v
 
 pub commits_are_undecided : CommitsAreUndecided
-commits_are_undecided x S t p core sees = falls_to (decided S t) (λ done. never (core.coordinators.decided_closed t done) (ap is_gone sees.stage))
+commits_are_undecided x S t p core sees =
+    falls_to (decided S t) (λ done. never (core.coordinators.decided_closed t done) (ap is_gone sees.stage))
 
 -- a node whose stage goes to its end opens nothing
-gone_calm : (W : World) (t : ℕ) (z : ℕ) → open_by (decided W.disk z) (put t Gone W.disk.stage z) (W.disk.intent z) ≡ true → undecided W.disk z ≡ true
-gone_calm W t z = put_cases (λ g. open_by (decided W.disk z) g (W.disk.intent z) ≡ true → undecided W.disk z ≡ true) t Gone W.disk.stage z (λ same u. gone_less (decided W.disk z) (W.disk.intent z) (W.disk.stage z) u) (λ other u. u)
+gone_calm : (W : World) (t : ℕ) (z : ℕ) → open_by (decided W.disk z) (put t Gone W.disk.stage z) (W.disk.intent z) ≡ true →
+    undecided W.disk z ≡ true
+gone_calm W t z = put_cases (λ g. open_by (decided W.disk z) g (W.disk.intent z) ≡ true → undecided W.disk z ≡ true) t Gone W.disk.stage z
+    (λ same u. gone_less (decided W.disk z) (W.disk.intent z) (W.disk.stage z) u) (λ other u. u)
 
 pub bare_commit_ends : BareCommitEnds
 bare_commit_ends x k W u p intents sees confirmed plain answered records mine none = (
-  record { sealed = sees.stage; confirmed = answered; no_record = records.is u mine ∙ ap nodes_of none; untouched = λ s. ap (λ q. target q s) sees.plan ∙ untouched s },
+  record {
+    sealed = sees.stage;
+    confirmed = answered;
+    no_record = records.is u mine ∙ ap nodes_of none;
+    untouched = λ s. ap (λ q. target q s) sees.plan ∙ untouched s;
+  },
   record { rest = refl; outcomes = λ z b v. gone_calm W (uid_number u) z v },
   stays_written k intents W.disk records (after W (EndBare (uid_number u))).disk refl,
 )
@@ -139,10 +157,12 @@ bare_commit_ends x k W u p intents sees confirmed plain answered records mine no
     nobody = empty_is p.prepared (off (is_empty p.prepared) parts.0)
 
     unmarked : p.excluded ≡ []
-    unmarked = empty_is p.excluded (and_parts (is_empty p.excluded) (is_empty (included_of p)) (off (is_empty p.excluded && is_empty (included_of p)) (sym (ap (λ b. b && not (is_empty p.excluded && is_empty (included_of p))) confirmed) ∙ parts.1))).0
+    unmarked = empty_is p.excluded (and_parts (is_empty p.excluded) (is_empty (included_of p)) (off (is_empty p.excluded
+        && is_empty (included_of p)) (sym (ap (λ b. b && not (is_empty p.excluded && is_empty (included_of p))) confirmed) ∙ parts.1))).0
 
     untouched : (s : ℕ) → target (plan_at x p) s ≡ false
-    untouched s = none_of (target (plan_at x p) s) (sym (ap (λ ms. list_any (λ (m : ℕ × ℕ). (m.0 == x) && (m.1 == s)) ms) unmarked) ∙ sees.marks s ∙ (λ j. target (plan_at x p) s && not (order.has (nobody j) s)))
+    untouched s = none_of (target (plan_at x p) s) (sym (ap (λ ms. list_any (λ (m : ℕ × ℕ). (m.0 == x) && (m.1 == s)) ms) unmarked)
+        ∙ sees.marks s ∙ (λ j. target (plan_at x p) s && not (order.has (nobody j) s)))
       where
         none_of : (b : Bool) → false ≡ (b && true) → b ≡ false
         none_of true h = sym h
@@ -153,7 +173,8 @@ pub halt_calm : (W : World) (t : ℕ) → IsCalm W (after W (Halt t))
 halt_calm W t = record { rest = refl; outcomes = λ z b v. gone_calm W t z v }
 
 pub actions_may_halt : ActionsMayHalt
-actions_may_halt k W t intents records = (record { rest = refl; outcomes = λ z b v. gone_calm W t z v }, stays_written k intents W.disk records (after W (Halt t)).disk refl)
+actions_may_halt k W t intents records =
+    (record { rest = refl; outcomes = λ z b v. gone_calm W t z v }, stays_written k intents W.disk records (after W (Halt t)).disk refl)
 
 pub record_is_removed : RecordIsRemoved
 record_is_removed k W u i intents records there acked = (
@@ -167,8 +188,10 @@ record_is_removed k W u i intents records there acked = (
     less false true o v = refl
     less false false o v = absurd (cc v)
 
-    was_open : (z : ℕ) → open_by (decided W.disk z) (W.disk.stage z) (put (uid_number u) None W.disk.intent z) ≡ true → undecided W.disk z ≡ true
-    was_open z = put_cases (λ o. open_by (decided W.disk z) (W.disk.stage z) o ≡ true → undecided W.disk z ≡ true) (uid_number u) None W.disk.intent z (λ same v. less (decided W.disk z) (is_open (W.disk.stage z)) (W.disk.intent z) v) (λ other v. v)
+    was_open : (z : ℕ) → open_by (decided W.disk z) (W.disk.stage z) (put (uid_number u) None W.disk.intent z) ≡ true →
+        undecided W.disk z ≡ true
+    was_open z = put_cases (λ o. open_by (decided W.disk z) (W.disk.stage z) o ≡ true → undecided W.disk z ≡ true) (uid_number u) None
+        W.disk.intent z (λ same v. less (decided W.disk z) (is_open (W.disk.stage z)) (W.disk.intent z) v) (λ other v. v)
 
 -- ---- who is told
 
@@ -195,7 +218,8 @@ ends_may_be_told k W u m intents records mine listed over =
     t = uid_number u
 
     by : (o : Option Intent) → at_uid u intents ≡ o → open_by (decided W.disk t) (put t Gone W.disk.stage t) (W.disk.intent t) ≡ false
-    by None is = (λ j. open_by (decided W.disk t) (put_same t Gone W.disk.stage j) ((records.is u mine ∙ ap nodes_of is) j)) ∙ nothing (decided W.disk t)
+    by None is = (λ j. open_by (decided W.disk t) (put_same t Gone W.disk.stage j) ((records.is u mine ∙ ap nodes_of is) j))
+        ∙ nothing (decided W.disk t)
       where
         nothing : (b : Bool) → open_by b Gone None ≡ false
         nothing true = refl
@@ -219,7 +243,9 @@ entry_stays_calm x d W V calm sees = record {
   pair = subst (λ (S : State). SeesPair packed_entry (entry x) d (Some S.entry) S.entry_pend) (sym calm.rest) sees.pair;
   begun = λ a ss is. ap (λ (S : State). S.begun (uid_number a)) calm.rest ∙ sees.begun a ss is;
   taken = λ a ss is u. ⊎_elim
-      (λ c. inl (ap (λ (S : State). S.conf (uid_number a)) calm.rest ∙ c)) (λ c. inr (ap (λ (S : State). S.light (uid_number a)) calm.rest ∙ c))
+      (λ c. inl (ap (λ (S : State). S.conf (uid_number a)) calm.rest ∙ c))
+      (λ c. inr (ap (λ (S : State). S.light (uid_number a)) calm.rest ∙ c))
       (sees.taken a ss is (calm.outcomes (uid_number a) (sees.begun a ss is) u));
-  aimed = λ a ss st is of. let s = sees.aimed a ss st is of in (s.0, ap (λ (S : State). target (S.plan (uid_number a)) s.0) calm.rest ∙ s.1);
+  aimed = λ a ss st is of. let s = sees.aimed a ss st is of in
+      (s.0, ap (λ (S : State). target (S.plan (uid_number a)) s.0) calm.rest ∙ s.1);
 }

@@ -1,15 +1,12 @@
 -- Another walk is followed: what is seen doesn't depend on it.
-use Rattle.std.proofs.Common.{ℕ, Bool, List, Option, Some, None}
-use Rattle.arj_protocol.specs.Words.{Uid, End, Kind, Line, Head, Asked, Ask, Message, asks}
-use Rattle.arj_protocol.specs.Words.ending
-use Rattle.arj_protocol.specs.Words.kind
-use Rattle.arj_protocol.specs.Words.message
-use Rattle.arj_protocol.specs.Ask.{Reply, answers, last_end}
-use Rattle.arj_protocol.specs.Coord.{Coord, Now}
-use Rattle.arj_protocol.specs.Order.{uid_number}
-use Rattle.arj_law_disk.specs.machine.Effects.{World}
-use Rattle.arj_law_disk.specs.machine.State.{State}
-use Rattle.arj_law_disk_view.specs.view.Sees.{Kinds, Walk, ClaimsAnswered, ClaimsAsked, ClaimsEnd, ClaimsLast, ClaimsOther, SeesCoord, WalksAreFollowed, Works}
+use Rattle.arj_law_parts.proofs.Words
+use Words.{ℕ, Bool, List, Option, Some, None, Uid, End, Kind, Line, Head, Asked, Ask, Message, asks, Reply, answers, last_end, Coord, Now}
+use Words.{uid_number}
+use Words.ending
+use Words.kind
+use Words.message
+use Rattle.arj_law_disk_view.proofs.Terms.{World, State, Kinds, Walk, ClaimsAnswered, ClaimsEnd, ClaimsLast, ClaimsOther, SeesCoord, Works}
+use Rattle.arj_law_disk_view.specs.view.Sees.{ClaimsAsked, WalksAreFollowed}
 
 module _ (x : ℕ) (tops : Kinds) (o : Option Walk) where
   abbrev Now_tops : Kinds
@@ -40,7 +37,8 @@ module _ (x : ℕ) (tops : Kinds) (o : Option Walk) where
   last_on W to ack None c = tt
   last_on W to ack (Some e) c = (end_on W to e c.0, c.1)
 
-  other_on : (W : World) (lines : List Line) (from to : ℕ) (m : Message) → ClaimsOther tops W lines from to m → ClaimsOther Now_tops W lines from to m
+  other_on : (W : World) (lines : List Line) (from to : ℕ) (m : Message) → ClaimsOther tops W lines from to m →
+      ClaimsOther Now_tops W lines from to m
   other_on W lines from to (message.Told m) c = last_on W to m.ack (last_end m.ends) c
   other_on W lines from to (message.Acked m) c = c
   other_on W lines from to (message.Query m) c = c
@@ -62,11 +60,13 @@ module _ (x : ℕ) (tops : Kinds) (o : Option Walk) where
   other_on W lines from to (message.Confirm m) c = tt
   other_on W lines from to (message.Confirmed m) c = tt
 
-  answered_on : (W : World) (lines : List Line) (from to : ℕ) (m : Message) (a : Option (Asked × Reply)) → ClaimsAnswered x tops W lines from to m a → ClaimsAnswered x Now_tops W lines from to m a
+  answered_on : (W : World) (lines : List Line) (from to : ℕ) (m : Message) (a : Option (Asked × Reply)) →
+      ClaimsAnswered x tops W lines from to m a → ClaimsAnswered x Now_tops W lines from to m a
   answered_on W lines from to m None c = other_on W lines from to m c
   answered_on W lines from to m (Some a) c = c
 
-  asked_on : (W : World) (lines : List Line) (from to : ℕ) (m : Message) (a : Option (Head × Ask)) → ClaimsAsked x tops W lines from to m a → ClaimsAsked x Now_tops W lines from to m a
+  asked_on : (W : World) (lines : List Line) (from to : ℕ) (m : Message) (a : Option (Head × Ask)) →
+      ClaimsAsked x tops W lines from to m a → ClaimsAsked x Now_tops W lines from to m a
   asked_on W lines from to m None c = answered_on W lines from to m (answers m) c
   asked_on W lines from to m (Some a) c = c
 

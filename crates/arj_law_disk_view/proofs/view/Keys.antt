@@ -1,15 +1,8 @@
 -- Maps by Uid: what is found after a value is put, or taken out.
-use Rattle.std.proofs.Common.{◌≡◌, ◌≢◌, ◌⊎◌, List, [], ◌∷◌, Bool, true, false, cond, Option, Some, None, refl, sym, ◌∙◌, ap, inl, inr, ⊎_elim, rules}
-use Rattle.std.specs.Ordering.{is_eq, match_ordering}
-use Rattle.std.specs.declared.cmp.Ordering.{Ordering}
-use Rattle.std.specs.declared.cmp.Ordering.TheVariants.{Less, Equal, Greater}
-use Rattle.std.proofs.lemmas.Cmp.{tied_itself}
-use Rattle.arj_base.specs.Order.{uid_order}
-use Rattle.arj_base.specs.declared.uid.Uid.{Uid}
-use Rattle.arj_base.specs.contracts.uid.UidOrd.TheImpl.Laws.{total-law}
-use Rattle.arj_base.proofs.Uids.{uid_cases}
-use Rattle.arj_protocol.specs.Order.{at_uid, put_uid, without_uid}
-use Rattle.arj_law_disk_view.specs.view.Pairs.{AreAbove, AreSorted}
+use Rattle.arj_law_parts.proofs.Words
+use Words.{◌≡◌, ◌≢◌, ◌⊎◌, List, [], ◌∷◌, Bool, true, false, cond, Option, Some, None, refl, sym, ◌∙◌, ap, inl, inr, ⊎_elim, rules, is_eq}
+use Words.{match_ordering, Ordering, Less, Equal, Greater, tied_itself, uid_order, Uid, total-law, uid_cases, at_uid, put_uid, without_uid}
+use Rattle.arj_law_disk_view.proofs.Terms.{AreAbove, AreSorted}
 
 pub order_exact : (u w : Uid) → uid_order u w ≡ Equal → u ≡ w
 order_exact u w e = search rules
@@ -35,7 +28,8 @@ module _ {X : Type 0} where
   put_same u v [] = at_here u v []
   put_same u v (e ∷ es) = by (uid_order u e.0) refl (put_same u v es)
     where
-      by : (r : Ordering) → uid_order u e.0 ≡ r → at_uid u (put_uid u v es) ≡ Some v → at_uid u (match_ordering r ((u, v) ∷ e ∷ es) ((e.0, v) ∷ es) (e ∷ put_uid u v es)) ≡ Some v
+      by : (r : Ordering) → uid_order u e.0 ≡ r → at_uid u (put_uid u v es) ≡ Some v →
+          at_uid u (match_ordering r ((u, v) ∷ e ∷ es) ((e.0, v) ∷ es) (e ∷ put_uid u v es)) ≡ Some v
       by Less is ih = at_here u v (e ∷ es)
       by Equal is ih = rw is refl
       by Greater is ih = rw is ih
@@ -44,7 +38,8 @@ module _ {X : Type 0} where
   put_other u w v [] other = at_there u w v [] other
   put_other u w v (e ∷ es) other = by (uid_order w e.0) refl (put_other u w v es other)
     where
-      by : (r : Ordering) → uid_order w e.0 ≡ r → at_uid u (put_uid w v es) ≡ at_uid u es → at_uid u (match_ordering r ((w, v) ∷ e ∷ es) ((e.0, v) ∷ es) (e ∷ put_uid w v es)) ≡ at_uid u (e ∷ es)
+      by : (r : Ordering) → uid_order w e.0 ≡ r → at_uid u (put_uid w v es) ≡ at_uid u es →
+          at_uid u (match_ordering r ((w, v) ∷ e ∷ es) ((e.0, v) ∷ es) (e ∷ put_uid w v es)) ≡ at_uid u (e ∷ es)
       by Less is ih = at_there u w v (e ∷ es) other
       by Equal is ih =
           let same : w ≡ e.0 = order_exact w e.0 is in
@@ -53,11 +48,13 @@ module _ {X : Type 0} where
       by Greater is ih = ap (λ o. cond (is_eq (uid_order u e.0)) (Some e.1) o) ih
 
   -- what stands after a value is put was there, or is the value
-  pub put_cases : (u w : Uid) (v x : X) (m : List (Uid × X)) → at_uid u (put_uid w v m) ≡ Some x → ((u ≡ w) × (v ≡ x)) ⊎ ((u ≢ w) × (at_uid u m ≡ Some x))
+  pub put_cases : (u w : Uid) (v x : X) (m : List (Uid × X)) → at_uid u (put_uid w v m) ≡ Some x →
+      ((u ≡ w) × (v ≡ x)) ⊎ ((u ≢ w) × (at_uid u m ≡ Some x))
   put_cases u w v x m is = ⊎_elim (λ same. inl (same, here same)) (λ other. inr (other, sym (put_other u w v m other) ∙ is)) (uid_cases u w)
     where
       here : u ≡ w → v ≡ x
-      here same = let e : ◌≡◌ {A = Option X} (Some v) (Some x) = sym (put_same w v m) ∙ ap (λ k. at_uid k (put_uid w v m)) (sym same) ∙ is in cc
+      here same =
+          let e : ◌≡◌ {A = Option X} (Some v) (Some x) = sym (put_same w v m) ∙ ap (λ k. at_uid k (put_uid w v m)) (sym same) ∙ is in cc
 
   above_none : (k : Uid) (m : List (Uid × X)) → AreAbove k m → at_uid k m ≡ None
   above_none k [] above = refl
@@ -71,7 +68,8 @@ module _ {X : Type 0} where
   above_put k w v [] less above = (less, tt)
   above_put k w v (e ∷ es) less above = by (uid_order w e.0) (above_put k w v es less above.1)
     where
-      by : (r : Ordering) → AreAbove k (put_uid w v es) → AreAbove k (match_ordering r ((w, v) ∷ e ∷ es) ((e.0, v) ∷ es) (e ∷ put_uid w v es))
+      by : (r : Ordering) → AreAbove k (put_uid w v es) →
+          AreAbove k (match_ordering r ((w, v) ∷ e ∷ es) ((e.0, v) ∷ es) (e ∷ put_uid w v es))
       by Less ih = (less, above)
       by Equal ih = above
       by Greater ih = (above.0, ih)
@@ -89,7 +87,8 @@ module _ {X : Type 0} where
   sorted_put w v [] sorted = (tt, tt)
   sorted_put w v (e ∷ es) sorted = by (uid_order w e.0) refl (sorted_put w v es sorted.1)
     where
-      by : (r : Ordering) → uid_order w e.0 ≡ r → AreSorted (put_uid w v es) → AreSorted (match_ordering r ((w, v) ∷ e ∷ es) ((e.0, v) ∷ es) (e ∷ put_uid w v es))
+      by : (r : Ordering) → uid_order w e.0 ≡ r → AreSorted (put_uid w v es) →
+          AreSorted (match_ordering r ((w, v) ∷ e ∷ es) ((e.0, v) ∷ es) (e ∷ put_uid w v es))
       by Less is ih = ((is, above_all w e.0 es is sorted.0), sorted)
       by Equal is ih = sorted
       by Greater is ih = (above_put e.0 w v es (total-law.antisymm e.0 w ∙ rw is refl) sorted.0, ih)
@@ -98,7 +97,8 @@ module _ {X : Type 0} where
   without_same u [] sorted = refl
   without_same u (e ∷ es) sorted = by (uid_order u e.0) refl (without_same u es sorted.1)
     where
-      by : (r : Ordering) → uid_order u e.0 ≡ r → at_uid u (without_uid u es) ≡ None → at_uid u (cond (is_eq r) es (e ∷ without_uid u es)) ≡ None
+      by : (r : Ordering) → uid_order u e.0 ≡ r → at_uid u (without_uid u es) ≡ None →
+          at_uid u (cond (is_eq r) es (e ∷ without_uid u es)) ≡ None
       by Less is ih = rw is ih
       by Equal is ih = ap (λ k. at_uid k es) (order_exact u e.0 is) ∙ above_none e.0 es sorted.0
       by Greater is ih = rw is ih
@@ -107,17 +107,20 @@ module _ {X : Type 0} where
   without_other u w [] other = refl
   without_other u w (e ∷ es) other = by (uid_order w e.0) refl (without_other u w es other)
     where
-      by : (r : Ordering) → uid_order w e.0 ≡ r → at_uid u (without_uid w es) ≡ at_uid u es → at_uid u (cond (is_eq r) es (e ∷ without_uid w es)) ≡ at_uid u (e ∷ es)
+      by : (r : Ordering) → uid_order w e.0 ≡ r → at_uid u (without_uid w es) ≡ at_uid u es →
+          at_uid u (cond (is_eq r) es (e ∷ without_uid w es)) ≡ at_uid u (e ∷ es)
       by Less is ih = ap (λ o. cond (is_eq (uid_order u e.0)) (Some e.1) o) ih
       by Equal is ih = sym (at_there u e.0 e.1 es (λ k. other (k ∙ sym (order_exact w e.0 is))))
       by Greater is ih = ap (λ o. cond (is_eq (uid_order u e.0)) (Some e.1) o) ih
 
   -- what is found in a map without an action's value was there, of another action
-  pub without_cases : (u w : Uid) (x : X) (m : List (Uid × X)) → AreSorted m → at_uid u (without_uid w m) ≡ Some x → (u ≢ w) × (at_uid u m ≡ Some x)
+  pub without_cases : (u w : Uid) (x : X) (m : List (Uid × X)) → AreSorted m → at_uid u (without_uid w m) ≡ Some x →
+      (u ≢ w) × (at_uid u m ≡ Some x)
   without_cases u w x m sorted is = (other, sym (without_other u w m other) ∙ is)
     where
       other : u ≢ w
-      other same = let never : ◌≡◌ {A = Option X} None (Some x) = sym (without_same w m sorted) ∙ ap (λ k. at_uid k (without_uid w m)) (sym same) ∙ is in cc
+      other same = let never : ◌≡◌ {A = Option X} None (Some x) = sym (without_same w m sorted)
+          ∙ ap (λ k. at_uid k (without_uid w m)) (sym same) ∙ is in cc
 
   pub sorted_without : (w : Uid) (m : List (Uid × X)) → AreSorted m → AreSorted (without_uid w m)
   sorted_without w [] sorted = tt

@@ -1,29 +1,20 @@
 -- An action that begins, walked through at its coordinator.
-use Rattle.std.proofs.Common.{◌≡◌, ◌⊎◌, ◌<◌, ◌≤◌, ℕ, zero, suc, ◌+◌, ◌==◌, List, [], ◌∷◌, ◌++◌, Bool, true, false, Option, Some, None, refl, sym, ◌∙◌, ap, subst, inl, inr, ⊎_elim, slice_get, length, lt_irrefl, lt_trans, eqb-true, arith}
-use Rattle.std.specs.Prelude.{if◌then◌else◌}
-use Rattle.std.proofs.lemmas.Bool.{and_parts}
-use Rattle.arj_protocol.specs.Words.{Uid, Label, Kind, Path}
-use Rattle.arj_protocol.specs.Words.kind
-use Rattle.arj_protocol.specs.Asking.{begin_action, began_line}
-use Rattle.arj_protocol.specs.Coord.{Coord, Doing, Idle, doing_of, with_label}
-use Rattle.arj_protocol.specs.Effect.{Disk}
-use Rattle.arj_protocol.specs.Node.{Parts, with_coord}
-use Rattle.arj_protocol.specs.Order as order
-use Rattle.arj_protocol.specs.Order.{uid_number}
-use Rattle.arj_protocol.specs.Tree.{Branch, branch_of, begun, is_open, is_open_branch, is_own, at_place, next_uid, path_below}
-use Rattle.arj_protocol.specs.World.{Labelled, numbered}
-use Rattle.arj_law_disk.specs.machine.Effects.{World}
-use Rattle.arj_law_disk.specs.machine.State as disk
-use Rattle.arj_law_disk.specs.machine.State.{State, is_gone}
-use Rattle.arj_law_disk.proofs.machine.Base.{never}
-use Rattle.arj_law_parts.specs.moves.Seen.{up, given}
-use Rattle.arj_promise.specs.Runs.{Seen}
+use Rattle.arj_law_parts.proofs.Words
+use Words.{◌≡◌, ◌⊎◌, ◌<◌, ◌≤◌, ℕ, zero, suc, ◌+◌, ◌==◌, List, [], ◌∷◌, ◌++◌, Bool, true, false, Option, Some, None, refl, sym, ◌∙◌, ap}
+use Words.{subst, inl, inr, ⊎_elim, slice_get, length, lt_irrefl, lt_trans, eqb-true, arith, if◌then◌else◌, and_parts, Uid, Label, Kind}
+use Words.{Path, begin_action, began_line, Coord, Doing, Idle, doing_of, Disk, Parts, with_coord, uid_number, Branch, branch_of, begun}
+use Words.{is_open, is_open_branch, is_own, at_place, next_uid, path_below, Labelled, numbered, Seen}
+use Words.kind
+use Words.order
+use Rattle.arj_law_disk_view.proofs.Terms
+use Terms.{World, State, is_gone, never, up, given, KnowsCoord, IsOfKind, Kinds, IsFuture, IsNamedCommit, SeesDisks, SeesCoord, SeesNotes}
+use Terms.{KnowsNow, Works}
+use Terms.disk
+use Rattle.arj_law_disk_view.proofs.view
+use view.{Frames.says_seen, Frames.node_here, HeardWalks.coord_seen}
+use view.TopFrames.{branch_at, placed_below}
 use Rattle.arj_law_disk_view.specs.view.Coordinating.{ActionsBegin}
-use Rattle.arj_law_disk_view.specs.view.Knows.{KnowsCoord, IsOfKind}
-use Rattle.arj_law_disk_view.specs.view.Sees.{Kinds, IsFuture, IsNamedCommit, SeesDisks, SeesCoord, SeesNotes, KnowsNow, Works}
-use Rattle.arj_law_disk_view.proofs.view.Frames.{says_seen, node_here}
-use Rattle.arj_law_disk_view.proofs.view.HeardWalks.{coord_seen}
-use Rattle.arj_law_disk_view.proofs.view.TopFrames.{branch_at, placed_below}
+use Rattle.arj_protocol.specs.Coord.{with_label}
 
 -- ---- one more at the end of a list
 
@@ -35,7 +26,8 @@ snoc_long [] a = refl
 snoc_long (x ∷ xs) a = ap suc (snoc_long xs a) ∙ shift (length xs)
 
 -- what is found at a place is what was there, or the last one
-snoc_cases : {A : Type 0} (xs : List A) (a y : A) (j : ℕ) → at_place j (xs ++ a ∷ []) ≡ Some y → (at_place j xs ≡ Some y) ⊎ ((j ≡ length xs + 1) × (a ≡ y))
+snoc_cases : {A : Type 0} (xs : List A) (a y : A) (j : ℕ) → at_place j (xs ++ a ∷ []) ≡ Some y →
+    (at_place j xs ≡ Some y) ⊎ ((j ≡ length xs + 1) × (a ≡ y))
 snoc_cases xs a y zero is = absurd (cc is)
 snoc_cases {A} xs a y (suc j) is = go xs j is
   where
@@ -62,8 +54,10 @@ above_last n j low is = lt_irrefl n (subst (λ m. m ≤ n) (is ∙ one n) low)
 
 -- ---- the coordinator
 
-module _ (x k : ℕ) (tops : Kinds) (W : World) (M : Seen) (d : Disk) (t : Parts) (l : Label) (how : Kind) (above : Option Branch) (knows : KnowsCoord tops d.intents t.coord)
-    (fits : IsOfKind tops (next_uid t.coord.tree) how (path_below how above (next_uid t.coord.tree))) (sees : SeesDisks x tops W (up k d t M)) where
+module _ (x k : ℕ) (tops : Kinds) (W : World) (M : Seen) (d : Disk) (t : Parts) (l : Label) (how : Kind) (above : Option Branch)
+    (knows : KnowsCoord tops d.intents t.coord)
+    (fits : IsOfKind tops (next_uid t.coord.tree) how (path_below how above (next_uid t.coord.tree)))
+    (sees : SeesDisks x tops W (up k d t M)) where
   abbrev new : Branch
   new = record { path = path_below how above (next_uid t.coord.tree); kind = how; ended = None; doomed = false }
 
@@ -71,31 +65,44 @@ module _ (x k : ℕ) (tops : Kinds) (W : World) (M : Seen) (d : Disk) (t : Parts
   fresh = record { label = l; req = 0; now = Idle; took = [] }
 
   abbrev C : Coord
-  C = with_label l (next_uid t.coord.tree).num (record t.coord { tree = begun how above t.coord.tree; doings = t.coord.doings ++ record { label = l; req = 0; now = Idle; took = [] } ∷ [] })
+  C = with_label l (next_uid t.coord.tree).num (record t.coord
+      { tree = begun how above t.coord.tree; doings = t.coord.doings ++ record { label = l; req = 0; now = Idle; took = [] } ∷ [] })
 
   mine : SeesCoord x k d.inc tops t.coord W.disk
-  mine = sees.coords k (record { number = k; disk = d; live = Some t }) t (node_here M k (record { number = k; disk = d; live = Some t })) refl
+  mine =
+      sees.coords k (record { number = k; disk = d; live = Some t }) t (node_here M k (record { number = k; disk = d; live = Some t })) refl
 
   -- an action of the coordinator, and whether it is the new one
-  branch_cases : (w : Uid) (z : Branch) → branch_of w C.tree ≡ Some z → (is_own w t.coord.tree ≡ true) × ((branch_of w t.coord.tree ≡ Some z) ⊎ ((w.num ≡ length t.coord.tree.branches + 1) × (new ≡ z)))
+  branch_cases : (w : Uid) (z : Branch) → branch_of w C.tree ≡ Some z →
+      (is_own w t.coord.tree ≡ true) × ((branch_of w t.coord.tree ≡ Some z) ⊎ ((w.num ≡ length t.coord.tree.branches + 1) × (new ≡ z)))
   branch_cases w z is = by (is_own w t.coord.tree) refl is
     where
-      by : (b : Bool) → is_own w t.coord.tree ≡ b → (if b then at_place w.num (t.coord.tree.branches ++ new ∷ []) else None) ≡ Some z → (is_own w t.coord.tree ≡ true) × ((branch_of w t.coord.tree ≡ Some z) ⊎ ((w.num ≡ length t.coord.tree.branches + 1) × (new ≡ z)))
-      by true e h = (e, ⊎_elim (λ old. inl (ap (λ b. if b then at_place w.num t.coord.tree.branches else None) e ∙ old)) (λ last. inr last) (snoc_cases t.coord.tree.branches new z w.num h))
+      by : (b : Bool) → is_own w t.coord.tree ≡ b → (if b then at_place w.num (t.coord.tree.branches ++ new ∷ []) else None) ≡ Some z →
+          (is_own w t.coord.tree ≡ true) × ((branch_of w t.coord.tree ≡ Some z) ⊎ ((w.num ≡ length t.coord.tree.branches + 1) × (new ≡ z)))
+      by true e h = (
+        e,
+        ⊎_elim (λ old. inl (ap (λ b. if b then at_place w.num t.coord.tree.branches else None) e ∙ old)) (λ last. inr last)
+            (snoc_cases t.coord.tree.branches new z w.num h),
+      )
       by false e h = absurd (cc h)
 
   branch_stays : (w : Uid) (z : Branch) → branch_of w t.coord.tree ≡ Some z → branch_of w C.tree ≡ Some z
   branch_stays w z is = by (is_own w t.coord.tree) refl is
     where
-      by : (b : Bool) → is_own w t.coord.tree ≡ b → (if b then at_place w.num t.coord.tree.branches else None) ≡ Some z → (if is_own w t.coord.tree then at_place w.num (t.coord.tree.branches ++ new ∷ []) else None) ≡ Some z
-      by true e h = ap (λ b. if b then at_place w.num (t.coord.tree.branches ++ new ∷ []) else None) e ∙ snoc_old t.coord.tree.branches new z w.num h
+      by : (b : Bool) → is_own w t.coord.tree ≡ b → (if b then at_place w.num t.coord.tree.branches else None) ≡ Some z →
+          (if is_own w t.coord.tree then at_place w.num (t.coord.tree.branches ++ new ∷ []) else None) ≡ Some z
+      by true e h =
+          ap (λ b. if b then at_place w.num (t.coord.tree.branches ++ new ∷ []) else None) e ∙ snoc_old t.coord.tree.branches new z w.num h
       by false e h = absurd (cc h)
 
-  doing_cases : (w : Uid) (q : Doing) → doing_of w C ≡ Some q → (doing_of w t.coord ≡ Some q) ⊎ ((w.num ≡ length t.coord.doings + 1) × (fresh ≡ q))
+  doing_cases : (w : Uid) (q : Doing) → doing_of w C ≡ Some q →
+      (doing_of w t.coord ≡ Some q) ⊎ ((w.num ≡ length t.coord.doings + 1) × (fresh ≡ q))
   doing_cases w q is = by (is_own w t.coord.tree) refl is
     where
-      by : (b : Bool) → is_own w t.coord.tree ≡ b → (if b then at_place w.num (t.coord.doings ++ fresh ∷ []) else None) ≡ Some q → (doing_of w t.coord ≡ Some q) ⊎ ((w.num ≡ length t.coord.doings + 1) × (fresh ≡ q))
-      by true e h = ⊎_elim (λ old. inl (ap (λ b. if b then at_place w.num t.coord.doings else None) e ∙ old)) (λ last. inr last) (snoc_cases t.coord.doings fresh q w.num h)
+      by : (b : Bool) → is_own w t.coord.tree ≡ b → (if b then at_place w.num (t.coord.doings ++ fresh ∷ []) else None) ≡ Some q →
+          (doing_of w t.coord ≡ Some q) ⊎ ((w.num ≡ length t.coord.doings + 1) × (fresh ≡ q))
+      by true e h = ⊎_elim (λ old. inl (ap (λ b. if b then at_place w.num t.coord.doings else None) e ∙ old)) (λ last. inr last)
+          (snoc_cases t.coord.doings fresh q w.num h)
       by false e h = absurd (cc h)
 
   -- what is there stands no further than the last one
@@ -110,7 +117,8 @@ module _ (x k : ℕ) (tops : Kinds) (W : World) (M : Seen) (d : Disk) (t : Parts
       by false h = absurd (cc h)
 
   -- the new one is idle
-  works_new : (S : State) (n : ℕ) (kd : Kind) (p : Path) (u : Uid) → S.stage (uid_number u) ≡ disk.Idle → IsOfKind tops u kd p → Works x tops S (uid_number u) kd Idle
+  works_new : (S : State) (n : ℕ) (kd : Kind) (p : Path) (u : Uid) → S.stage (uid_number u) ≡ disk.Idle → IsOfKind tops u kd p →
+      Works x tops S (uid_number u) kd Idle
   works_new S n kind.Nested p u idle of = of.0
   works_new S n kind.Serial p u idle of = (of.0, idle)
   works_new S n kind.Top p u idle of = (of.0, idle)
@@ -132,7 +140,8 @@ module _ (x k : ℕ) (tops : Kinds) (W : World) (M : Seen) (d : Disk) (t : Parts
       by (Some z) is h = ap is_open_branch (branch_stays w z is) ∙ h
 
   new_uid : (w : Uid) → is_own w t.coord.tree ≡ true → w.num ≡ length t.coord.tree.branches + 1 → w ≡ next_uid t.coord.tree
-  new_uid w own is = let p = and_parts (w.node == t.coord.tree.node) (w.inc == t.coord.tree.inc) own in λ i. record { node = eqb-true w.node t.coord.tree.node p.0 i; inc = eqb-true w.inc t.coord.tree.inc p.1 i; num = is i }
+  new_uid w own is = let p = and_parts (w.node == t.coord.tree.node) (w.inc == t.coord.tree.inc) own in
+      λ i. record { node = eqb-true w.node t.coord.tree.node p.0 i; inc = eqb-true w.inc t.coord.tree.inc p.1 i; num = is i }
 
   coord_new : SeesCoord x k d.inc tops C W.disk
   coord_new = record {
@@ -148,34 +157,48 @@ module _ (x k : ℕ) (tops : Kinds) (W : World) (M : Seen) (d : Disk) (t : Parts
       longer n = grind arith
 
       earlier : (w : Uid) → IsFuture C w → IsFuture t.coord w
-      earlier w (inl p) = inl (p.0, lt_trans (longer (length t.coord.tree.branches)) (subst (λ n. n < w.num) (snoc_long t.coord.tree.branches new) p.1))
+      earlier w (inl p) =
+          inl (p.0, lt_trans (longer (length t.coord.tree.branches)) (subst (λ n. n < w.num) (snoc_long t.coord.tree.branches new) p.1))
       earlier w (inr p) = inr p
 
-      bare : (w : Uid) (z : Branch) (q : Doing) → (is_own w t.coord.tree ≡ true) × ((branch_of w t.coord.tree ≡ Some z) ⊎ ((w.num ≡ length t.coord.tree.branches + 1) × (new ≡ z))) → (doing_of w t.coord ≡ Some q) ⊎ ((w.num ≡ length t.coord.doings + 1) × (fresh ≡ q)) → W.disk.bare (uid_number w) ≡ true
+      bare : (w : Uid) (z : Branch) (q : Doing) → (is_own w t.coord.tree ≡ true)
+          × ((branch_of w t.coord.tree ≡ Some z) ⊎ ((w.num ≡ length t.coord.tree.branches + 1) × (new ≡ z))) →
+          (doing_of w t.coord ≡ Some q) ⊎ ((w.num ≡ length t.coord.doings + 1) × (fresh ≡ q)) → W.disk.bare (uid_number w) ≡ true
           → IsNamedCommit z q
       bare w z q (own, inl old) (inl at) is = mine.bare w z q old at is
-      bare w z q (own, inl old) (inr last) is = absurd (above_last (length t.coord.tree.branches) w.num (branch_low w z old) (last.0 ∙ ap (λ n. n + 1) knows.as_long))
+      bare w z q (own, inl old) (inr last) is =
+          absurd (above_last (length t.coord.tree.branches) w.num (branch_low w z old) (last.0 ∙ ap (λ n. n + 1) knows.as_long))
       bare w z q (own, inr last) at is =
-          let idle : W.disk.stage (uid_number (next_uid t.coord.tree)) ≡ disk.Idle = mine.future (next_uid t.coord.tree) mine.node (inl (refl, longer (length t.coord.tree.branches))) in
-          absurd (never (sees.whole.core.bare.gone (uid_number w) is) (ap (λ a. is_gone (W.disk.stage (uid_number a))) (new_uid w own last.0) ∙ ap is_gone idle))
+          let idle : W.disk.stage (uid_number (next_uid t.coord.tree)) ≡ disk.Idle = mine.future (next_uid t.coord.tree) mine.node
+          (inl (refl, longer (length t.coord.tree.branches))) in
+          absurd (never (sees.whole.core.bare.gone (uid_number w) is)
+          (ap (λ a. is_gone (W.disk.stage (uid_number a))) (new_uid w own last.0) ∙ ap is_gone idle))
 
-      working : (w : Uid) (z : Branch) (q : Doing) → (is_own w t.coord.tree ≡ true) × ((branch_of w t.coord.tree ≡ Some z) ⊎ ((w.num ≡ length t.coord.tree.branches + 1) × (new ≡ z))) → (doing_of w t.coord ≡ Some q) ⊎ ((w.num ≡ length t.coord.doings + 1) × (fresh ≡ q)) → z.ended ≡ None
+      working : (w : Uid) (z : Branch) (q : Doing) → (is_own w t.coord.tree ≡ true)
+          × ((branch_of w t.coord.tree ≡ Some z) ⊎ ((w.num ≡ length t.coord.tree.branches + 1) × (new ≡ z))) →
+          (doing_of w t.coord ≡ Some q) ⊎ ((w.num ≡ length t.coord.doings + 1) × (fresh ≡ q)) → z.ended ≡ None
           → Works x tops W.disk (uid_number w) z.kind q.now
       working w z q (own, inl old) (inl at) unended = mine.working w z q old unended at
-      working w z q (own, inl old) (inr last) unended = absurd (above_last (length t.coord.tree.branches) w.num (branch_low w z old) (last.0 ∙ ap (λ n. n + 1) knows.as_long))
-      working w z q (own, inr last) (inl at) unended = absurd (above_last (length t.coord.doings) w.num (doing_low w q at) (last.0 ∙ ap (λ n. n + 1) (sym knows.as_long)))
+      working w z q (own, inl old) (inr last) unended =
+          absurd (above_last (length t.coord.tree.branches) w.num (branch_low w z old) (last.0 ∙ ap (λ n. n + 1) knows.as_long))
+      working w z q (own, inr last) (inl at) unended =
+          absurd (above_last (length t.coord.doings) w.num (doing_low w q at) (last.0 ∙ ap (λ n. n + 1) (sym knows.as_long)))
       working w z q (own, inr last) (inr at) unended =
           let same : w ≡ next_uid t.coord.tree = new_uid w own last.0 in
-          let idle : W.disk.stage (uid_number (next_uid t.coord.tree)) ≡ disk.Idle = mine.future (next_uid t.coord.tree) mine.node (inl (refl, longer (length t.coord.tree.branches))) in
-          subst (λ (r : Doing). Works x tops W.disk (uid_number w) z.kind r.now) at.1 (subst (λ (y : Branch). Works x tops W.disk (uid_number w) y.kind Idle) last.1 (subst (λ a. Works x tops W.disk (uid_number a) how Idle) (sym same)
+          let idle : W.disk.stage (uid_number (next_uid t.coord.tree)) ≡ disk.Idle = mine.future (next_uid t.coord.tree) mine.node
+          (inl (refl, longer (length t.coord.tree.branches))) in
+          subst (λ (r : Doing). Works x tops W.disk (uid_number w) z.kind r.now) at.1 (subst (λ (y : Branch).
+          Works x tops W.disk (uid_number w) y.kind Idle) last.1 (subst (λ a. Works x tops W.disk (uid_number a) how Idle) (sym same)
           (works_new W.disk 0 how (path_below how above (next_uid t.coord.tree)) (next_uid t.coord.tree) idle fits)))
 
   noted_new : SeesNotes x d.intents t.coord W → SeesNotes x d.intents C W
   noted_new n = record {
     settled = λ w i there. ⊎_elim (λ o. inl (still_open w o)) (λ s. inr s) (n.settled w i there);
-    taken = λ w q m does on. ⊎_elim (λ old. n.taken w q m old on) (λ last. absurd (nobody m (ap (λ (r : Doing). order.has r.took m) last.1 ∙ on))) (doing_cases w q does);
+    taken = λ w q m does on. ⊎_elim (λ old. n.taken w q m old on)
+        (λ last. absurd (nobody m (ap (λ (r : Doing). order.has r.took m) last.1 ∙ on))) (doing_cases w q does);
     roots = n.roots;
-    plans = λ w q does. ⊎_elim (λ old. n.plans w q old) (λ last. subst (λ (r : Doing). KnowsNow x W r.now) last.1 tt) (doing_cases w q does);
+    plans =
+        λ w q does. ⊎_elim (λ old. n.plans w q old) (λ last. subst (λ (r : Doing). KnowsNow x W r.now) last.1 tt) (doing_cases w q does);
   }
     where
       nobody : (m : ℕ) → order.has [] m ≡ true → ⊥
@@ -186,10 +209,27 @@ module _ (x k : ℕ) (tops : Kinds) (W : World) (M : Seen) (d : Disk) (t : Parts
 
 -- ---- the label is given
 
-given_seen : (x k : ℕ) (tops : Kinds) (W : World) (M : Seen) (d : Disk) (t : Parts) (l : Label) (g : Labelled) → SeesDisks x tops W (up k d t M) → SeesDisks x tops W (up k d t (given l g M))
-given_seen x k tops W M d t l g s = record { whole = s.whole; along = s.along; fixed = s.fixed; kinds = s.kinds; stores = s.stores; entry = s.entry; records = s.records; coords = s.coords; notes = s.notes; downs = s.downs; confirmed = s.confirmed; posts = s.posts }
+given_seen : (x k : ℕ) (tops : Kinds) (W : World) (M : Seen) (d : Disk) (t : Parts) (l : Label) (g : Labelled) →
+    SeesDisks x tops W (up k d t M) → SeesDisks x tops W (up k d t (given l g M))
+given_seen x k tops W M d t l g s = record {
+  whole = s.whole;
+  along = s.along;
+  fixed = s.fixed;
+  kinds = s.kinds;
+  stores = s.stores;
+  entry = s.entry;
+  records = s.records;
+  coords = s.coords;
+  notes = s.notes;
+  downs = s.downs;
+  confirmed = s.confirmed;
+  posts = s.posts;
+}
 
 pub actions_begin : ActionsBegin
 actions_begin x tops e k d t l g how parent above M knows fits W sees =
-    let did = begin_action l how parent above t.coord in
-    (W, says_seen x tops W (up k d (with_coord t did.part) (given l g M)) (numbered e (began_line l how (next_uid t.coord.tree) parent ∷ [])) (given_seen x k tops W M d (with_coord t did.part) l g (new_seen x k tops W M d t l how above knows fits sees)))
+    let did = begin_action l how parent above t.coord in (
+      W,
+      says_seen x tops W (up k d (with_coord t did.part) (given l g M)) (numbered e (began_line l how (next_uid t.coord.tree) parent ∷ []))
+          (given_seen x k tops W M d (with_coord t did.part) l g (new_seen x k tops W M d t l how above knows fits sees)),
+    )

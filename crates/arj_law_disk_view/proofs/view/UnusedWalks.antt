@@ -1,48 +1,31 @@
 -- A top that used nothing is decided, walked through at its coordinator.
-use Rattle.std.proofs.Common.{◌≡◌, ◌≢◌, ◌⊎◌, ℕ, ◌&&◌, ◌||◌, List, [], ◌∷◌, ◌++◌, true, false, Option, Some, None, refl, sym, ◌∙◌, ap, subst, map, append-nil}
-use Rattle.std.specs.Prelude.{if◌then◌else◌, not, is_some, filter}
-use Rattle.arj_protocol.specs.Words.{Uid, End, ObjectState}
-use Rattle.arj_protocol.specs.Words.body
-use Rattle.arj_protocol.specs.Words.ending
-use Rattle.arj_protocol.specs.Commit as commit
-use Rattle.arj_protocol.specs.Commit.{Used, participants, has_record, is_empty, included_of, changed_of}
-use Rattle.arj_protocol.specs.Coord.{Coord, Doing, Idle, doing_of}
-use Rattle.arj_protocol.specs.Effect.{Disk, Do, PutIntent}
-use Rattle.arj_protocol.specs.Ending.{says, say_for, decided, decided_told, record_work, tell, tell_all}
-use Rattle.arj_protocol.specs.Node.{Parts, with_coord}
-use Rattle.arj_protocol.specs.Order as order
-use Rattle.arj_protocol.specs.Order.{at_uid, number_set, uid_number}
-use Rattle.arj_protocol.specs.Says.{AreAll}
-use Rattle.arj_protocol.specs.Tree.{Branch, branch_of, is_open_branch, root_of}
-use Rattle.arj_law_disk.specs.machine.Effects as machine
-use Rattle.arj_law_disk.specs.machine.Effects.{World, after}
-use Rattle.arj_law_disk.specs.machine.Messages as mail
-use Rattle.arj_law_disk.specs.machine.Messages.{Meaning}
-use Rattle.arj_law_disk.specs.machine.State as disk
-use Rattle.arj_law_disk.specs.machine.State.{is_gone}
-use Rattle.arj_law_disk.proofs.machine.Base.{never, never_some, some_is, put_same, put_other}
-use Rattle.arj_law_parts.specs.moves.Seen.{up}
-use Rattle.arj_promise.specs.Runs.{Seen}
-use Rattle.arj_law_parts.specs.moves.Walks.{Walks, Up}
-use Rattle.arj_law_disk_view.specs.view.Coordinating.{UsesNothing, UnusedAreDecided}
-use Rattle.arj_law_disk_view.specs.view.Deciding.{SeesRecords, Stills, nodes_of}
-use Rattle.arj_law_disk_view.specs.view.Knows.{KnowsCoord}
-use Rattle.arj_law_disk_view.specs.view.Pairs.{Among}
-use Rattle.arj_law_disk_view.specs.view.Plans.{plan_at, plan_by, used_at}
-use Rattle.arj_law_disk_view.specs.view.Sees.{Kinds, SeesDisks, SeesCoord, SeesNotes, IsSeenByDisks, IsLater, KnowsNow}
-use Rattle.arj_law_disk_view.proofs.view.AbortWalks.{top_open}
-use Rattle.arj_law_disk_view.proofs.view.ActionAborts.{dead_told}
-use Rattle.arj_law_disk_view.proofs.view.DecidedCoord.{decided_tree, decided_doings, decided_tellings, decided_doing, decided_roots}
-use Rattle.arj_law_disk_view.proofs.view.DecidingSteps.{actions_may_halt}
-use Rattle.arj_law_disk_view.proofs.view.Ended.{HasEnded, ended_coord, ended_noted, calm_seen}
-use Rattle.arj_law_disk_view.proofs.view.Frames.{node_here}
-use Rattle.arj_law_disk_view.proofs.view.HeardWalks.{is_say, say_walk}
-use Rattle.arj_law_disk_view.proofs.view.Later.{effects_are_later}
-use Rattle.arj_law_disk_view.proofs.view.Notes.{notes_later}
-use Rattle.arj_law_disk_view.proofs.view.TellWalks.{Goes, aborted}
-use Rattle.arj_law_disk_view.proofs.view.TopFrames.{branch_at, apart_number}
+use Rattle.arj_law_parts.proofs.Words
+use Words.{◌≡◌, ◌≢◌, ◌⊎◌, ℕ, ◌&&◌, ◌||◌, List, [], ◌∷◌, ◌++◌, true, false, Option, Some, None, refl, sym, ◌∙◌, ap, subst, map, append-nil}
+use Words.{if◌then◌else◌, not, is_some, filter, Uid, End, ObjectState, Used, participants, has_record, is_empty, included_of, changed_of}
+use Words.{Coord, Doing, Idle, doing_of, Disk, Do, PutIntent, says, say_for, decided, decided_told, record_work, tell, tell_all, Parts}
+use Words.{with_coord, at_uid, number_set, uid_number, AreAll, Branch, branch_of, is_open_branch, root_of, Seen}
+use Words.body
+use Words.ending
+use Words.commit
+use Words.order
+use Rattle.arj_law_disk_view.proofs.Terms
+use Terms.{World, after, Meaning, is_gone, never, never_some, some_is, put_same, put_other, up, Walks, Up, UsesNothing, SeesRecords, Stills}
+use Terms.{nodes_of, KnowsCoord, Among, plan_at, plan_by, used_at, Kinds, SeesDisks, SeesCoord, SeesNotes, IsSeenByDisks, IsLater, KnowsNow}
+use Terms.machine
+use Terms.mail
+use Terms.disk
+use Rattle.arj_law_disk_view.proofs.view
+use view.{AbortWalks.top_open, ActionAborts.dead_told, DecidingSteps.actions_may_halt, Frames.node_here, Later.effects_are_later}
+use view.{Notes.notes_later}
+use view.DecidedCoord.{decided_tree, decided_doings, decided_tellings, decided_doing, decided_roots}
+use view.Ended.{HasEnded, ended_coord, ended_noted, calm_seen}
+use view.HeardWalks.{is_say, say_walk}
+use view.TellWalks.{Goes, aborted}
+use view.TopFrames.{branch_at, apart_number}
+use Rattle.arj_law_disk_view.specs.view.Coordinating.{UnusedAreDecided}
 
-module _ (x : ℕ) (tops : Kinds) (e k : ℕ) (d : Disk) (t : Parts) (act : Uid) (b : Branch) (p : commit.Plan) (M : Seen) (knows : KnowsCoord tops d.intents t.coord) (found : branch_of act t.coord.tree ≡ Some b) (unended : b.ended ≡ None)
+module _ (x : ℕ) (tops : Kinds) (e k : ℕ) (d : Disk) (t : Parts) (act : Uid) (b : Branch) (p : commit.Plan) (M : Seen)
+    (knows : KnowsCoord tops d.intents t.coord) (found : branch_of act t.coord.tree ≡ Some b) (unended : b.ended ≡ None)
     (top : tops.is_top (uid_number act) ≡ true) (nothing : UsesNothing p) (W : World) (sees : SeesDisks x tops W (up k d t M)) where
   at_work : doing_of act t.coord ≡ Some (knows.at_work act b found).0
   at_work = (knows.at_work act b found).1
@@ -54,13 +37,15 @@ module _ (x : ℕ) (tops : Kinds) (e k : ℕ) (d : Disk) (t : Parts) (act : Uid)
   V = after W (machine.Halt (uid_number act))
 
   mine : SeesCoord x k d.inc tops t.coord W.disk
-  mine = sees.coords k (record { number = k; disk = d; live = Some t }) t (node_here M k (record { number = k; disk = d; live = Some t })) refl
+  mine =
+      sees.coords k (record { number = k; disk = d; live = Some t }) t (node_here M k (record { number = k; disk = d; live = Some t })) refl
 
   records : SeesRecords k d.intents W.disk
   records = sees.records k (record { number = k; disk = d; live = Some t }) (node_here M k (record { number = k; disk = d; live = Some t }))
 
   notes : SeesNotes x d.intents t.coord W
-  notes = sees.notes k (record { number = k; disk = d; live = Some t }) t (node_here M k (record { number = k; disk = d; live = Some t })) refl
+  notes =
+      sees.notes k (record { number = k; disk = d; live = Some t }) t (node_here M k (record { number = k; disk = d; live = Some t })) refl
 
   here : act.node ≡ k
   here = (branch_at act t.coord b found).0 ∙ mine.node
@@ -69,7 +54,8 @@ module _ (x : ℕ) (tops : Kinds) (e k : ℕ) (d : Disk) (t : Parts) (act : Uid)
   none = knows.unrecorded act (ap is_open_branch found ∙ ap (λ (o : Option End). not (is_some o)) unended)
 
   nobody : participants p ≡ []
-  nobody = λ i. number_set (number_set (map (λ (u : Used). u.server) (filter (λ (u : Used). u.called) (nothing.used i))) ++ nothing.prepared i ++ (if nothing.confirmed i then 1 ∷ [] else []))
+  nobody = λ i. number_set (number_set (map (λ (u : Used). u.server) (filter (λ (u : Used). u.called) (nothing.used i)))
+      ++ nothing.prepared i ++ (if nothing.confirmed i then 1 ∷ [] else []))
 
   unrecorded : has_record p ≡ false
   unrecorded = λ i. not (is_empty (nothing.prepared i)) || (nothing.confirmed i && not (is_empty p.excluded && is_empty (included_of p)))
@@ -83,7 +69,8 @@ module _ (x : ℕ) (tops : Kinds) (e k : ℕ) (d : Disk) (t : Parts) (act : Uid)
   later : IsLater W V
   later = effects_are_later W (machine.Halt (uid_number act) ∷ []) (tt, tt) sees.whole
 
-  own : (r : Doing) → record (knows.at_work act b found).0 { now = Idle; took = participants p } ≡ r → ((n : ℕ) → order.has r.took n ≡ true → (disk.decided V.disk (uid_number act) ≡ true) ⊎ (V.disk.bare (uid_number act) ≡ true)) × KnowsNow x V r.now
+  own : (r : Doing) → record (knows.at_work act b found).0 { now = Idle; took = participants p } ≡ r → ((n : ℕ) → order.has r.took n
+      ≡ true → (disk.decided V.disk (uid_number act) ≡ true) ⊎ (V.disk.bare (uid_number act) ≡ true)) × KnowsNow x V r.now
   own r same = (
     λ n on. absurd (nobody_in n (ap (λ ns. order.has ns n) (sym nobody ∙ ap (λ (z : Doing). z.took) same) ∙ on)),
     subst (λ (z : Doing). KnowsNow x V z.now) same tt,
@@ -93,11 +80,18 @@ module _ (x : ℕ) (tops : Kinds) (e k : ℕ) (d : Disk) (t : Parts) (act : Uid)
       nobody_in n on = cc on
 
   seen : SeesDisks x tops V (up k d (with_coord t C) M)
-  seen = calm_seen x k tops W M d t act (machine.Halt (uid_number act)) d.intents C sees here tt refl halts.0 refl stages (λ w other. refl) halts.1 (λ m n apart r. record { sorted = r.sorted; own = r.own; is = r.is })
-      (ended_coord x k d.inc tops t.coord C W.disk V.disk act b ending.Commit mine found tree_now (decided_doings t.coord act b (knows.at_work act b found).0 p found at_work) stages refl refl refl (ap is_gone (put_same (uid_number act) disk.Gone W.disk.stage)) (λ w other. refl) (λ bare r is. absurd (not_bare bare)))
-      (ended_noted x d.intents t.coord C V act b ending.Commit (notes_later x W V later d.intents t.coord notes) found tree_now (decided_tellings t.coord act b (knows.at_work act b found).0 p found at_work) (decided_doings t.coord act b (knows.at_work act b found).0 p found at_work)
-      (λ i there. absurd (never_some there none)) (λ r is. own r (some_is (decided_doing t.coord act b (knows.at_work act b found).0 p found at_work) is))
-      (decided_roots t.coord act b (knows.at_work act b found).0 p found at_work x W V notes.roots (λ st among of. absurd (unchanged st among)) later (λ w writes. absurd (unwritten w writes))))
+  seen = calm_seen x k tops W M d t act (machine.Halt (uid_number act)) d.intents C sees here tt refl halts.0 refl stages (λ w other. refl)
+      halts.1 (λ m n apart r. record { sorted = r.sorted; own = r.own; is = r.is })
+      (ended_coord x k d.inc tops t.coord C W.disk V.disk act b ending.Commit mine found tree_now
+      (decided_doings t.coord act b (knows.at_work act b found).0 p found at_work) stages refl refl refl
+      (ap is_gone (put_same (uid_number act) disk.Gone W.disk.stage)) (λ w other. refl) (λ bare r is. absurd (not_bare bare)))
+      (ended_noted x d.intents t.coord C V act b ending.Commit (notes_later x W V later d.intents t.coord notes) found tree_now
+      (decided_tellings t.coord act b (knows.at_work act b found).0 p found at_work)
+      (decided_doings t.coord act b (knows.at_work act b found).0 p found at_work)
+      (λ i there. absurd (never_some there none))
+      (λ r is. own r (some_is (decided_doing t.coord act b (knows.at_work act b found).0 p found at_work) is))
+      (decided_roots t.coord act b (knows.at_work act b found).0 p found at_work x W V notes.roots
+      (λ st among of. absurd (unchanged st among)) later (λ w writes. absurd (unwritten w writes))))
     where
       not_bare : W.disk.bare (uid_number act) ≡ true → ⊥
       not_bare bare = let n = mine.bare act b (knows.at_work act b found).0 found at_work bare in never_some n.committed unended
@@ -112,12 +106,15 @@ module _ (x : ℕ) (tops : Kinds) (e k : ℕ) (d : Disk) (t : Parts) (act : Uid)
       unwritten w writes = never_some writes (λ i. (plan_by (used_at x (nothing.used i)) (changed_of x p)).writes)
 
   may : (n : ℕ) → Meaning V.disk (mail.ToldAbort (uid_number act) n)
-  may n = dead_told V.disk (uid_number act) n (ap is_gone (put_same (uid_number act) disk.Gone W.disk.stage)) (records.is act here ∙ ap nodes_of none)
-      (λ bare. never (sees.whole.core.bare.gone (uid_number act) bare) (top_open x tops W.disk (uid_number act) b.kind (let r = (knows.at_work act b found).0 in r.now) top (mine.working act b (knows.at_work act b found).0 found unended at_work)))
+  may n = dead_told V.disk (uid_number act) n (ap is_gone (put_same (uid_number act) disk.Gone W.disk.stage))
+      (records.is act here ∙ ap nodes_of none)
+      (λ bare. never (sees.whole.core.bare.gone (uid_number act) bare) (top_open x tops W.disk (uid_number act) b.kind
+      (let r = (knows.at_work act b found).0 in r.now) top (mine.working act b (knows.at_work act b found).0 found unended at_work)))
 
   told_is : (root : Uid) (ns : List ℕ) → map (decided_told root act p) ns ≡ tell_all root false ((act, ending.Abort) ∷ []) ns
   told_is root [] = refl
-  told_is root (n ∷ ns) = λ i. (if order.has (nobody i) n then tell root (has_record p) ((act, ending.Commit) ∷ []) n else tell root false ((act, ending.Abort) ∷ []) n) ∷ told_is root ns i
+  told_is root (n ∷ ns) = λ i. (if order.has (nobody i) n then tell root (has_record p) ((act, ending.Commit) ∷ []) n else tell root false
+      ((act, ending.Abort) ∷ []) n) ∷ told_is root ns i
 
   line_says : AreAll is_say (says act body.Committed t.coord)
   line_says = by (doing_of act t.coord)
@@ -127,13 +124,19 @@ module _ (x : ℕ) (tops : Kinds) (e k : ℕ) (d : Disk) (t : Parts) (act : Uid)
       by (Some r) = refl
 
   goes : Goes x k tops e d t C V.disk (map (decided_told (root_of p.path) act p) p.sent)
-  goes = subst (λ es. Goes x k tops e d t C V.disk es) (append-nil (tell_all (root_of p.path) false ((act, ending.Abort) ∷ []) p.sent) ∙ sym (told_is (root_of p.path) p.sent)) (aborted x k tops e d t C V.disk act (root_of p.path) [] (λ N U same s. (U, s)) top may p.sent)
+  goes = subst (λ es. Goes x k tops e d t C V.disk es) (append-nil (tell_all (root_of p.path) false ((act, ending.Abort) ∷ []) p.sent) ∙ sym
+      (told_is (root_of p.path) p.sent)) (aborted x k tops e d t C V.disk act (root_of p.path) [] (λ N U same s. (U, s)) top may p.sent)
 
-  pub unused_walks : Walks (IsSeenByDisks x tops) e k (record_work act p ++ says act body.Committed t.coord ++ map (decided_told (root_of p.path) act p) p.sent) (Up (IsSeenByDisks x tops) k (with_coord t C)) d M
-  unused_walks = subst (λ c. Walks (IsSeenByDisks x tops) e k ((if c then Do (PutIntent act (record { root = root_of p.path; nodes = participants p })) ∷ [] else []) ++ says act body.Committed t.coord ++ map (decided_told (root_of p.path) act p) p.sent) (Up (IsSeenByDisks x tops) k (with_coord t C)) d M)
-      (sym unrecorded) (say_walk x k tops e (with_coord t C) (with_coord t C) (says act body.Committed t.coord) (map (decided_told (root_of p.path) act p) p.sent) d V line_says (λ N s. goes N V refl s) M seen)
+  pub unused_walks : Walks (IsSeenByDisks x tops) e k (record_work act p ++ says act body.Committed t.coord
+      ++ map (decided_told (root_of p.path) act p) p.sent) (Up (IsSeenByDisks x tops) k (with_coord t C)) d M
+  unused_walks = subst (λ c. Walks (IsSeenByDisks x tops) e k
+      ((if c then Do (PutIntent act (record { root = root_of p.path; nodes = participants p })) ∷ [] else []) ++ says act body.Committed
+      t.coord ++ map (decided_told (root_of p.path) act p) p.sent) (Up (IsSeenByDisks x tops) k (with_coord t C)) d M)
+      (sym unrecorded) (say_walk x k tops e (with_coord t C) (with_coord t C) (says act body.Committed t.coord)
+      (map (decided_told (root_of p.path) act p) p.sent) d V line_says (λ N s. goes N V refl s) M seen)
 
 pub unused_are_decided : UnusedAreDecided
 unused_are_decided x tops e k d t act b p M knows found unended top path nothing W sees =
-    subst (λ a. Walks (IsSeenByDisks x tops) e k (record_work a p ++ says a body.Committed t.coord ++ map (decided_told (root_of p.path) a p) p.sent) (Up (IsSeenByDisks x tops) k (with_coord t (decided a p t.coord))) d M) (sym path)
+    subst (λ a. Walks (IsSeenByDisks x tops) e k (record_work a p ++ says a body.Committed t.coord ++ map
+    (decided_told (root_of p.path) a p) p.sent) (Up (IsSeenByDisks x tops) k (with_coord t (decided a p t.coord))) d M) (sym path)
     (unused_walks x tops e k d t act b p M knows found unended top nothing W sees)

@@ -25,11 +25,13 @@ pub record IsLate (u : Uid) (n : Node) : Type 0 where
 
 -- Each top that is decided, by the machine, at a node that is there, is decided by the journal, or its node is late to say so.
 abbrev pub AreSaid : machine.World → Seen → Type 0
-AreSaid W M = (u : Uid) (n : Node) → M.nodes u.node ≡ Some n → decided W.disk (uid_number u) ≡ true → (is_decided (book M.lines) u ≡ true) ⊎ IsLate u n
+AreSaid W M = (u : Uid) (n : Node) → M.nodes u.node ≡ Some n → decided W.disk (uid_number u) ≡ true →
+    (is_decided (book M.lines) u ≡ true) ⊎ IsLate u n
 
 -- none is late so: of a node that is down whoever is decided by the machine is decided by the journal
 abbrev pub AreNotLate : machine.World → Seen → Type 0
-AreNotLate W M = (u : Uid) (n : Node) → M.nodes u.node ≡ Some n → n.live ≡ None → decided W.disk (uid_number u) ≡ true → is_decided (book M.lines) u ≡ true
+AreNotLate W M = (u : Uid) (n : Node) → M.nodes u.node ≡ Some n → n.live ≡ None → decided W.disk (uid_number u) ≡ true →
+    is_decided (book M.lines) u ≡ true
 
 -- with what is known in every run of so many events, where the journal is so
 abbrev pub IsKnownEarly : (List Line → Type 0) → machine.World → Seen → Type 0
@@ -69,7 +71,9 @@ pub record IsJournalled (x : ℕ) (M : Seen) : Type 0 where
   pub tops : Kinds
   pub machine : machine.World
   pub sees : SeesDisks x tops machine M
-  pub said : (u : Uid) (n : Node) → M.nodes u.node ≡ Some n → decided (let W = machine in W.disk) (uid_number u) ≡ true → IsCommittedIn M.lines u
+  pub said : (u : Uid) (n : Node) → M.nodes u.node ≡ Some n → decided (let W = machine in W.disk) (uid_number u) ≡ true →
+      IsCommittedIn M.lines u
   pub whose : (t : ℕ) → decided (let W = machine in W.disk) t ≡ true → (a : Act) × Contains (acts M.lines) a × (uid_number a.uid ≡ t)
   pub done : (a : Act) → Contains (acts M.lines) a → is_top a.kind ≡ true → IsDone M.lines a
-      → (decided (let W = machine in W.disk) (uid_number a.uid) ≡ true) ⊎ ((let W = machine in W.disk.bare) (uid_number a.uid) ≡ true) ⊎ HasNothing M.lines a
+      → (decided (let W = machine in W.disk) (uid_number a.uid) ≡ true) ⊎ ((let W = machine in W.disk.bare) (uid_number a.uid) ≡ true)
+      ⊎ HasNothing M.lines a

@@ -44,11 +44,14 @@ ClaimsBound x y t r N = y ≡ x → HasGiven t r N
 
 -- a Bind that is answered
 abbrev pub BindsAreActs : Type 0
-BindsAreActs = (x y : ℕ) (tops : Kinds) (p : Path) (include : Bool) (avoid : Binding) (d : Pair) (n : Naming) (A : Office) (r : BoundReply) → Named A → SeesNaming x tops n A.world.disk A.names → SeesEntry x d A.world.disk
+BindsAreActs = (x y : ℕ) (tops : Kinds) (p : Path) (include : Bool) (avoid : Binding) (d : Pair) (n : Naming) (A : Office) (r : BoundReply)
+    → Named A → SeesNaming x tops n A.world.disk A.names → SeesEntry x d A.world.disk
     → IsOfTop tops A.world.disk p → (let s = bind p y include avoid d n in s.reply) ≡ Some r
-    → NamesGo A (λ B. OnlyLocks A B × SeesNaming x tops (let s = bind p y include avoid d n in s.part) B.world.disk B.names × ClaimsBound x y (uid_number (top_of p)) r B.names)
+    → NamesGo A (λ B. OnlyLocks A B × SeesNaming x tops (let s = bind p y include avoid d n in s.part) B.world.disk B.names
+    × ClaimsBound x y (uid_number (top_of p)) r B.names)
 
--- this is the binding that naming made for the top of the path last, it isn't recorded yet, and nobody on the path down to the top was told of
+-- this is the binding that naming made for the top of the path last, it isn't recorded yet, and nobody on the path down to the top was told
+-- of
 pub record IsUnrecorded (x : ℕ) (p : Path) (b : Binding) (n : Naming) : Type 0 where
   pub named : object.Named
   pub made : object.Made
@@ -58,15 +61,17 @@ pub record IsUnrecorded (x : ℕ) (p : Path) (b : Binding) (n : Naming) : Type 0
   pub same : binding_eq b made.binding ≡ true
   pub untold : is_over p n ≡ false
 
--- What a Record counts on whose binding isn't recorded yet: its top took the grant, and has no entry of the object prepared, unless it asked
--- by an include too.
+-- What a Record counts on whose binding isn't recorded yet: its top took the grant, and has no entry of the object prepared, unless it
+-- asked by an include too.
 abbrev pub MayNote : ℕ → ℕ → Path → Binding → ℕ → Naming → Office → Type 0
 MayNote x y p b g n A = y ≡ x → g ≡ A.names.inc → IsUnrecorded x p b n
-    → (A.names.had (uid_number (top_of p)) A.names.inc ≡ true) × (A.names.asked (uid_number (top_of p)) ≡ false → IsNot A.world.disk.entry_pend (uid_number (top_of p)))
+    → (A.names.had (uid_number (top_of p)) A.names.inc ≡ true)
+    × (A.names.asked (uid_number (top_of p)) ≡ false → IsNot A.world.disk.entry_pend (uid_number (top_of p)))
 
 -- a Record that is answered
 abbrev pub NotesAreActs : Type 0
-NotesAreActs = (x y : ℕ) (tops : Kinds) (p : Path) (b : Binding) (i g : ℕ) (n : Naming) (A : Office) (r : RecordedReply) → Named A → SeesNaming x tops n A.world.disk A.names
+NotesAreActs = (x y : ℕ) (tops : Kinds) (p : Path) (b : Binding) (i g : ℕ) (n : Naming) (A : Office) (r : RecordedReply) → Named A →
+    SeesNaming x tops n A.world.disk A.names
     → IsOfTop tops A.world.disk p → MayNote x y p b g n A → (let s = note p y b i g n in s.reply) ≡ Some r
     → NamesGo A (λ B. OnlyLocks A B × SeesNaming x tops (let s = note p y b i g n in s.part) B.world.disk B.names)
 
@@ -77,9 +82,11 @@ pub record HasExclude (x t : ℕ) (xs : List ℕ) (n : Naming) (A B : Office) : 
 
 -- The exclude locks of a Confirm, where each is free.
 abbrev pub ExcludesAreActs : Type 0
-ExcludesAreActs = (x : ℕ) (tops : Kinds) (p : Path) (xs : List ℕ) (n : Naming) (A : Office) → Named A → SeesNaming x tops n A.world.disk A.names → IsOfTop tops A.world.disk p
+ExcludesAreActs = (x : ℕ) (tops : Kinds) (p : Path) (xs : List ℕ) (n : Naming) (A : Office) → Named A →
+    SeesNaming x tops n A.world.disk A.names → IsOfTop tops A.world.disk p
     → ((y : ℕ) → has xs y ≡ true → conflict_in y p (at_number y n.objects) ≡ None)
-    → NamesGo A (λ B. OnlyLocks A B × SeesNaming x tops (let s = lock_all xs p n in s.part) B.world.disk B.names × HasExclude x (uid_number (top_of p)) xs n A B)
+    → NamesGo A (λ B. OnlyLocks A B × SeesNaming x tops (let s = lock_all xs p n in s.part) B.world.disk B.names
+    × HasExclude x (uid_number (top_of p)) xs n A B)
 
 -- Of the machine only the naming node's locks change, and whom it was told of.
 pub record OnlyEnds (A B : Office) : Type 0 where
@@ -98,21 +105,27 @@ ClaimsTop A t ending.Abort = In (ToldAbort t naming) A.world.sent
 
 -- A top's end, once its own entry has ended.
 abbrev pub TopsEndByActs : Type 0
-TopsEndByActs = (x : ℕ) (tops : Kinds) (u : Uid) (e : End) (d : Pair) (n : Naming) (A : Office) → Named A → SeesNaming x tops n A.world.disk A.names → IsFixed tops A.world.disk → tops.is_top (uid_number u) ≡ true → A.world.disk.serial (uid_number u) ≡ false
+TopsEndByActs = (x : ℕ) (tops : Kinds) (u : Uid) (e : End) (d : Pair) (n : Naming) (A : Office) → Named A → SeesNaming x tops n A.world.disk
+    A.names → IsFixed tops A.world.disk → tops.is_top (uid_number u) ≡ true → A.world.disk.serial (uid_number u) ≡ false
     → IsNot A.world.disk.entry_pend (uid_number u) → ClaimsTop A (uid_number u) e
-    → NamesGo A (λ B. OnlyEnds A B × SeesNaming x tops (let s = told u e d n in s.part) B.world.disk B.names × (B.names.told (uid_number u) ≡ true))
+    → NamesGo A
+    (λ B. OnlyEnds A B × SeesNaming x tops (let s = told u e d n in s.part) B.world.disk B.names × (B.names.told (uid_number u) ≡ true))
 
 -- The end of a serializing action, once the entries of those whose locks go with it have ended.
 abbrev pub SerialsEndByActs : Type 0
-SerialsEndByActs = (x : ℕ) (tops : Kinds) (u : Uid) (d : Pair) (n : Naming) (A : Office) → Named A → SeesNaming x tops n A.world.disk A.names → IsFixed tops A.world.disk → tops.is_serial (uid_number u) ≡ true → A.world.disk.serial (uid_number u) ≡ true
-    → In (ToldSerial (uid_number u) naming) A.world.sent → (is_on n.told u ≡ false → (h : Hold) → A.world.disk.entry_pend ≡ Some h → A.world.disk.root h.top ≡ uid_number u → A.names.given h.top ≡ true)
+SerialsEndByActs = (x : ℕ) (tops : Kinds) (u : Uid) (d : Pair) (n : Naming) (A : Office) → Named A → SeesNaming x tops n A.world.disk
+    A.names → IsFixed tops A.world.disk → tops.is_serial (uid_number u) ≡ true → A.world.disk.serial (uid_number u) ≡ true
+    → In (ToldSerial (uid_number u) naming) A.world.sent → (is_on n.told u ≡ false → (h : Hold) → A.world.disk.entry_pend ≡ Some h →
+    A.world.disk.root h.top ≡ uid_number u → A.names.given h.top ≡ true)
     → NamesGo A (λ B. OnlyEnds A B × SeesNaming x tops (let s = told u ending.Abort d n in s.part) B.world.disk B.names)
 
 -- The end of a nested action is nothing to the machine, and so is the word that a node is up again.
 abbrev pub NestedEndsAreNothing : Type 0
-NestedEndsAreNothing = (x : ℕ) (tops : Kinds) (u : Uid) (e : End) (d : Pair) (n : Naming) (A : Office) → Named A → SeesNaming x tops n A.world.disk A.names → IsFixed tops A.world.disk → IsNested tops (uid_number u) → is_on n.confirmed u ≡ false
+NestedEndsAreNothing = (x : ℕ) (tops : Kinds) (u : Uid) (e : End) (d : Pair) (n : Naming) (A : Office) → Named A →
+    SeesNaming x tops n A.world.disk A.names → IsFixed tops A.world.disk → IsNested tops (uid_number u) → is_on n.confirmed u ≡ false
     → SeesNaming x tops (let s = told u e d n in s.part) A.world.disk A.names
 
 -- a Hello changes nothing that is seen
 abbrev pub HellosAreNothing : Type 0
-HellosAreNothing = (x : ℕ) (tops : Kinds) (node inc : ℕ) (n : Naming) (A : Office) → SeesNaming x tops n A.world.disk A.names → SeesNaming x tops (hello node inc n) A.world.disk A.names
+HellosAreNothing = (x : ℕ) (tops : Kinds) (node inc : ℕ) (n : Naming) (A : Office) → SeesNaming x tops n A.world.disk A.names →
+    SeesNaming x tops (hello node inc n) A.world.disk A.names

@@ -12,7 +12,8 @@ use Rattle.arj_law_disk_view.specs.names.Handlers.{Change, Changes}
 
 -- what an action has it had before; or it took a grant while it worked; or it retains that of a top whose outcome was open
 abbrev pub IsHadBefore : Office → ℕ → ℕ → Type 0
-IsHadBefore A h i = (A.names.had h i ≡ true) ⊎ (((A.world.disk.stage h ≡ Idle) × (A.world.disk.serial h ≡ false)) ⊎ ((t : ℕ) × (undecided A.world.disk t ≡ true) × (A.world.disk.root t ≡ h) × (A.names.had t i ≡ true)))
+IsHadBefore A h i = (A.names.had h i ≡ true) ⊎ (((A.world.disk.stage h ≡ Idle) × (A.world.disk.serial h ≡ false))
+    ⊎ ((t : ℕ) × (undecided A.world.disk t ≡ true) × (A.world.disk.root t ≡ h) × (A.names.had t i ≡ true)))
 
 -- Whatever a step has done: the disk half has gone on, what was had and answered is so still, and what is had now came so; naming's
 -- incarnation doesn't fall, and in one of them whoever was confirmed is so still.
@@ -38,8 +39,10 @@ AnswersAreAfter = (A B : Office) → OnlyAnswers A B → IsAfter A B
 
 -- A commit that is under way and names its grants may ask naming to confirm it; what it says of them stays true.
 abbrev pub GrantsAreCountedOn : Type 0
-GrantsAreCountedOn = (x : ℕ) (t : ℕ) (grants : Grants) (A : Office) → Named A → NamesGrants x A.world.disk A.names t grants → CountsOnGrants x A.world.disk A.names t grants
+GrantsAreCountedOn = (x : ℕ) (t : ℕ) (grants : Grants) (A : Office) → Named A → NamesGrants x A.world.disk A.names t grants →
+    CountsOnGrants x A.world.disk A.names t grants
 
 -- what a Confirm counts on stays so
 abbrev pub GrantsStayCountedOn : Type 0
-GrantsStayCountedOn = (x : ℕ) (t : ℕ) (grants : Grants) (A B : Office) → Named A → Named B → A.world.disk.begun t ≡ true → IsAfter A B → CountsOnGrants x A.world.disk A.names t grants → CountsOnGrants x B.world.disk B.names t grants
+GrantsStayCountedOn = (x : ℕ) (t : ℕ) (grants : Grants) (A B : Office) → Named A → Named B → A.world.disk.begun t ≡ true → IsAfter A B →
+    CountsOnGrants x A.world.disk A.names t grants → CountsOnGrants x B.world.disk B.names t grants

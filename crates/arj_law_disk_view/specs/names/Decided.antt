@@ -49,13 +49,19 @@ IsSettled B t = (disk.decided B.world.disk t ≡ true) ⊎ (B.world.disk.bare t 
 -- What a coordinator has of the root of a top that it decides it has afterwards too, with what the root retains, keeps and wrote from
 -- then on.
 abbrev pub DecidedRootsAreSeen : Type 0
-DecidedRootsAreSeen = (x : ℕ) (tops : Kinds) (root t : Uid) (p : commit.Plan) (c : Coord) (A B : Office) → Named A → Named B → IsFixed tops A.world.disk → IsFixed tops B.world.disk → DecidesTop x tops root t p c → SeesConfirming x A.world.disk (uid_number t) p
-    → SeesRootOf x tops root c (root_at root c) A → OnlyDecided (λ z. z == uid_number t) (λ z. root_retains x t p c) A B → IsSettled B (uid_number t)
+DecidedRootsAreSeen = (x : ℕ) (tops : Kinds) (root t : Uid) (p : commit.Plan) (c : Coord) (A B : Office) → Named A → Named B →
+    IsFixed tops A.world.disk → IsFixed tops B.world.disk → DecidesTop x tops root t p c → SeesConfirming x A.world.disk (uid_number t) p
+    → SeesRootOf x tops root c (root_at root c) A → OnlyDecided (λ z. z == uid_number t) (λ z. root_retains x t p c) A B →
+    IsSettled B (uid_number t)
     → (let d = decided t p c in IsLasting x d (root_at root d) → SeesRootOf x tops root d (root_at root d) B)
 
 -- And a call under way in this root, by a top of it, has a list of what the root keeps afterwards, if it had one before.
 abbrev pub DecidedCallsHaveLists : Type 0
-DecidedCallsHaveLists = (x : ℕ) (tops : Kinds) (root t : Uid) (p : commit.Plan) (c : Coord) (A B : Office) → Named A → Named B → IsFixed tops A.world.disk → IsFixed tops B.world.disk → DecidesTop x tops root t p c → SeesConfirming x A.world.disk (uid_number t) p
-    → SeesRootOf x tops root c (root_at root c) A → OnlyDecided (λ z. z == uid_number t) (λ z. root_retains x t p c) A B → IsSettled B (uid_number t) → (let d = decided t p c in IsLasting x d (root_at root d))
-    → (w : Uid) (k : Known) → IsTopOf tops root w → kept_of x (root_at root c) ≡ Some k → HasList A.names (uid_number w) k ⊎ HasRetained A.names (uid_number root) k
-    → (let d = decided t p c in (l : Known) × (kept_of x (root_at root d) ≡ Some l) × (HasList B.names (uid_number w) l ⊎ HasRetained B.names (uid_number root) l))
+DecidedCallsHaveLists = (x : ℕ) (tops : Kinds) (root t : Uid) (p : commit.Plan) (c : Coord) (A B : Office) → Named A → Named B →
+    IsFixed tops A.world.disk → IsFixed tops B.world.disk → DecidesTop x tops root t p c → SeesConfirming x A.world.disk (uid_number t) p
+    → SeesRootOf x tops root c (root_at root c) A → OnlyDecided (λ z. z == uid_number t) (λ z. root_retains x t p c) A B →
+    IsSettled B (uid_number t) → (let d = decided t p c in IsLasting x d (root_at root d))
+    → (w : Uid) (k : Known) → IsTopOf tops root w → kept_of x (root_at root c) ≡ Some k →
+    HasList A.names (uid_number w) k ⊎ HasRetained A.names (uid_number root) k
+    → (let d = decided t p c in
+    (l : Known) × (kept_of x (root_at root d) ≡ Some l) × (HasList B.names (uid_number w) l ⊎ HasRetained B.names (uid_number root) l))

@@ -22,9 +22,11 @@ is_retained x c r t = is_kept_top t c && top_uses t x r c
 -- The grants of a root: each of the machine's is one, of the top itself or of a constituent of which it is retained; and the
 -- machine has the least incarnation of each.
 pub record SeesGrants (x : ℕ) (root : Uid) (c : Coord) (r : Root) (S : State) (N : Names) : Type 0 where
-  pub own : (t : Uid) (i : ℕ) → S.root (uid_number t) ≡ uid_number root → S.serial (uid_number t) ≡ false → N.had (uid_number t) i ≡ true → HasLeast x t i r.grants
+  pub own : (t : Uid) (i : ℕ) → S.root (uid_number t) ≡ uid_number root → S.serial (uid_number t) ≡ false → N.had (uid_number t) i ≡ true →
+      HasLeast x t i r.grants
   pub least : (g : Grant) → Contains r.grants g → g.x ≡ x → N.had (uid_number g.top) g.least ≡ true
-  pub kept : (i : ℕ) → S.serial (uid_number root) ≡ true → N.had (uid_number root) i ≡ true → (t : Uid) × (is_retained x c r t ≡ true) × HasLeast x t i r.grants
+  pub kept : (i : ℕ) → S.serial (uid_number root) ≡ true → N.had (uid_number root) i ≡ true →
+      (t : Uid) × (is_retained x c r t ≡ true) × HasLeast x t i r.grants
 
 -- ---- a decision
 
@@ -35,12 +37,15 @@ StaysRetained x c r d q = (w : Uid) → is_retained x c r w ≡ true → is_reta
 -- Where the grants stay, and who is retained, they are seen still; and where a constituent that is retained from now on was
 -- decided, so they are once its root has what it had.
 abbrev pub GrantsStay : Type 0
-GrantsStay = (x : ℕ) (root : Uid) (c d : Coord) (r q : Root) (S V : State) (N : Names) → SeesGrants x root c r S N → q.grants ≡ r.grants → StaysRetained x c r d q → V.root ≡ S.root → V.serial ≡ S.serial → SeesGrants x root d q V N
+GrantsStay = (x : ℕ) (root : Uid) (c d : Coord) (r q : Root) (S V : State) (N : Names) → SeesGrants x root c r S N → q.grants ≡ r.grants →
+    StaysRetained x c r d q → V.root ≡ S.root → V.serial ≡ S.serial → SeesGrants x root d q V N
 
 -- the grants of a constituent are its root's after its decision
 abbrev pub GrantsAreRetained : Type 0
-GrantsAreRetained = (x : ℕ) (root t : Uid) (c d : Coord) (r q : Root) (S V : State) (N : Names) → SeesGrants x root c r S N → q.grants ≡ r.grants → StaysRetained x c r d q → V.root ≡ S.root → V.serial ≡ S.serial
-    → S.root (uid_number t) ≡ uid_number root → S.serial (uid_number t) ≡ false → S.serial (uid_number root) ≡ true → is_retained x d q t ≡ true → SeesGrants x root d q V (retained S (uid_number t) N)
+GrantsAreRetained = (x : ℕ) (root t : Uid) (c d : Coord) (r q : Root) (S V : State) (N : Names) → SeesGrants x root c r S N →
+    q.grants ≡ r.grants → StaysRetained x c r d q → V.root ≡ S.root → V.serial ≡ S.serial
+    → S.root (uid_number t) ≡ uid_number root → S.serial (uid_number t) ≡ false → S.serial (uid_number root) ≡ true →
+    is_retained x d q t ≡ true → SeesGrants x root d q V (retained S (uid_number t) N)
 
 -- ---- a Record's grant
 

@@ -103,11 +103,13 @@ IsSeenAfter o x tops A M = (B : Office) × Changes o A B × SeesBoth x tops B M
 
 -- a Record may be noted, whatever the disk half does before
 abbrev pub MayRecord : ℕ → Disk → Naming → Message → Office → Type 0
-MayRecord x d n m A = (h : Head) (y : ℕ) (b : Binding) (i g : ℕ) → asks m ≡ Some (h, ask.Record y b i g) → (B : Office) → B.names ≡ A.names → SeesEntry x d.names B.world.disk → MayNote x y h.path b g n B
+MayRecord x d n m A = (h : Head) (y : ℕ) (b : Binding) (i g : ℕ) → asks m ≡ Some (h, ask.Record y b i g) → (B : Office) →
+    B.names ≡ A.names → SeesEntry x d.names B.world.disk → MayNote x y h.path b g n B
 
 -- what a new Confirm counts on of its top's grants, and what the servers' locks give
 abbrev pub IsForGrants : ℕ → Disk → Naming → Message → Office → Type 0
-IsForGrants x d n m A = (h : Head) (grants : Grants) (excluded included : Marks) → asks m ≡ Some (h, ask.Confirm grants excluded included) → IsNewConfirm h.path grants excluded included d.names n
+IsForGrants x d n m A = (h : Head) (grants : Grants) (excluded included : Marks) → asks m ≡ Some (h, ask.Confirm grants excluded included) →
+    IsNewConfirm h.path grants excluded included d.names n
     → CountsOnGrants x A.world.disk A.names (uid_number (top_of h.path)) grants × IsNext A.world.disk (uid_number (top_of h.path))
 
 -- What naming's half counts on at a message to naming: who asks is a top that is its own root or stands behind it; what a Record
@@ -115,7 +117,8 @@ IsForGrants x d n m A = (h : Head) (grants : Grants) (excluded included : Marks)
 pub record CountsOn (x : ℕ) (tops : Kinds) (d : Disk) (n : Naming) (m : Message) (A : Office) : Type 0 where
   pub path : (h : Head) (a : Ask) → asks m ≡ Some (h, a) → IsOfTop tops A.world.disk h.path
   pub recorded : MayRecord x d n m A
-  pub taken : (h : Head) (grants : Grants) (excluded included : Marks) → asks m ≡ Some (h, ask.Confirm grants excluded included) → is_prepared (top_of h.path) d.names ≡ true → is_on n.confirmed (top_of h.path) ≡ true
+  pub taken : (h : Head) (grants : Grants) (excluded included : Marks) → asks m ≡ Some (h, ask.Confirm grants excluded included) →
+      is_prepared (top_of h.path) d.names ≡ true → is_on n.confirmed (top_of h.path) ≡ true
   pub confirmed : IsForGrants x d n m A
   pub there : is_some (at_number x n.objects) ≡ true
 
@@ -126,11 +129,13 @@ is_voting _ = false
 
 -- the commit may begin with this plan, whatever the disk half has done, as long as that opened no outcome
 abbrev pub BeginsLater : ℕ → Office → Uid → commit.Plan → Type 0
-BeginsLater x A u p = (C : Office) → Named C → C.names ≡ A.names → IsLater A.world C.world → C.world.disk.tops ≡ A.world.disk.tops → OpensNone A.world.disk C.world.disk → Allowed C.world (Begin (uid_number u) (plan_at x p)) → MayBegin C (uid_number u) (plan_at x p)
+BeginsLater x A u p = (C : Office) → Named C → C.names ≡ A.names → IsLater A.world C.world → C.world.disk.tops ≡ A.world.disk.tops →
+    OpensNone A.world.disk C.world.disk → Allowed C.world (Begin (uid_number u) (plan_at x p)) → MayBegin C (uid_number u) (plan_at x p)
 
 -- each commit that is past its votes may begin, where it hasn't
 abbrev pub MayGoOn : ℕ → Office → Coord → Type 0
-MayGoOn x A c = (u : Uid) (q : Doing) (m : Machine) → doing_of u c ≡ Some q → q.now ≡ Committing m → is_voting m ≡ false → BeginsLater x A u (plan_of m)
+MayGoOn x A c = (u : Uid) (q : Doing) (m : Machine) → doing_of u c ≡ Some q → q.now ≡ Committing m → is_voting m ≡ false →
+    BeginsLater x A u (plan_of m)
 
 -- and who is decided was so before
 abbrev pub IsOpenAfter : Change → ℕ → Kinds → Office → Seen → Type 0
@@ -140,14 +145,18 @@ IsOpenAfter o x tops A M = (B : Office) × Changes o A B × (B.world.disk.tops �
 
 -- A message that was sent is taken, whichever it is.
 abbrev pub MessagesKeepBoth : Type 0
-MessagesKeepBoth = (x : ℕ) (tops : Kinds) (e k : ℕ) (d : Disk) (t v : Parts) (from : ℕ) (m : Message) (outs : List Effect) (A : Office) (M : Seen) → tops.walk ≡ None → KnowsNode tops k d t M → In (record { from = from; to = k; message = m }) M.sent
-    → ((n : Naming) → t.naming ≡ Some n → CountsOn x tops d n m A) → MayGoOn x A v.coord → handle k d t from m ≡ Took v outs → SeesBoth x tops A (up k d t M)
+MessagesKeepBoth = (x : ℕ) (tops : Kinds) (e k : ℕ) (d : Disk) (t v : Parts) (from : ℕ) (m : Message) (outs : List Effect) (A : Office)
+    (M : Seen) → tops.walk ≡ None → KnowsNode tops k d t M → In (record { from = from; to = k; message = m }) M.sent
+    → ((n : Naming) → t.naming ≡ Some n → CountsOn x tops d n m A) → MayGoOn x A v.coord → handle k d t from m ≡ Took v outs →
+    SeesBoth x tops A (up k d t M)
     → Walks (IsSeenAfter (change_by x d t m) x tops A) e k outs (Up (IsSeenAfter (change_by x d t m) x tops A) k v) d M
 
 -- Wherever a stop falls on it, who is decided was so before.
 abbrev pub MessagesStopOpen : Type 0
-MessagesStopOpen = (x : ℕ) (tops : Kinds) (e k : ℕ) (d : Disk) (t v : Parts) (from : ℕ) (m : Message) (outs : List Effect) (A : Office) (M : Seen) → tops.walk ≡ None → KnowsNode tops k d t M → In (record { from = from; to = k; message = m }) M.sent
-    → ((n : Naming) → t.naming ≡ Some n → CountsOn x tops d n m A) → MayGoOn x A v.coord → handle k d t from m ≡ Took v outs → SeesBoth x tops A (up k d t M)
+MessagesStopOpen = (x : ℕ) (tops : Kinds) (e k : ℕ) (d : Disk) (t v : Parts) (from : ℕ) (m : Message) (outs : List Effect) (A : Office)
+    (M : Seen) → tops.walk ≡ None → KnowsNode tops k d t M → In (record { from = from; to = k; message = m }) M.sent
+    → ((n : Naming) → t.naming ≡ Some n → CountsOn x tops d n m A) → MayGoOn x A v.coord → handle k d t from m ≡ Took v outs →
+    SeesBoth x tops A (up k d t M)
     → Walks (IsOpenAfter (change_by x d t m) x tops A) e k outs (λ c N. ⊤) d M
 
 -- a coordinator's part of a step
@@ -156,15 +165,21 @@ DidKeepsBoth x tops A e k d t did M = BothWalk x tops A e k did.outs (with_coord
 
 -- An input about an action is taken that isn't refused.
 abbrev pub InputsKeepBoth : Type 0
-InputsKeepBoth = (hd : Header) (x : ℕ) (tops : Kinds) (e k : ℕ) (d : Disk) (t : Parts) (i : Input) (A : Office) (M : Seen) → tops.walk ≡ None → KnowsKinds tops → KnowsCoord tops d.intents t.coord → is_act i ≡ true → refusal_up hd i t.coord ≡ None
-    → MayGoOn x A (let did = acts i d.intents t.coord in did.part) → SeesBoth x tops A (up k d t M) → DidKeepsBoth x tops A e k d t (acts i d.intents t.coord) M
+InputsKeepBoth = (hd : Header) (x : ℕ) (tops : Kinds) (e k : ℕ) (d : Disk) (t : Parts) (i : Input) (A : Office) (M : Seen) →
+    tops.walk ≡ None → KnowsKinds tops → KnowsCoord tops d.intents t.coord → is_act i ≡ true → refusal_up hd i t.coord ≡ None
+    → MayGoOn x A (let did = acts i d.intents t.coord in did.part) → SeesBoth x tops A (up k d t M) →
+    DidKeepsBoth x tops A e k d t (acts i d.intents t.coord) M
 
 -- An action begins.
 abbrev pub ActionsKeepBoth : Type 0
-ActionsKeepBoth = (x : ℕ) (tops : Kinds) (e k : ℕ) (d : Disk) (t : Parts) (l : Label) (g : Labelled) (how : Kind) (parent : Option Label) (above : Option Branch) (A : Office) (M : Seen) → tops.walk ≡ None → KnowsCoord tops d.intents t.coord
-    → IsOfKind tops (next_uid t.coord.tree) how (path_below how above (next_uid t.coord.tree)) → SeesBoth x tops A (up k d t M) → DidKeepsBoth x tops A e k d t (begin_action l how parent above t.coord) (given l g M)
+ActionsKeepBoth = (x : ℕ) (tops : Kinds) (e k : ℕ) (d : Disk) (t : Parts) (l : Label) (g : Labelled) (how : Kind) (parent : Option Label)
+    (above : Option Branch) (A : Office) (M : Seen) → tops.walk ≡ None → KnowsCoord tops d.intents t.coord
+    → IsOfKind tops (next_uid t.coord.tree) how (path_below how above (next_uid t.coord.tree)) → SeesBoth x tops A (up k d t M) →
+    DidKeepsBoth x tops A e k d t (begin_action l how parent above t.coord) (given l g M)
 
 -- A node ticks.
 abbrev pub TicksKeepBoth : Type 0
-TicksKeepBoth = (x : ℕ) (tops : Kinds) (e k : ℕ) (d : Disk) (t : Parts) (A : Office) (M : Seen) → tops.walk ≡ None → KnowsCoord tops d.intents t.coord → AllByRecursion (λ u. was_begun u M.lines ≡ true) (holders d t) → SeesBoth x tops A (up k d t M)
-    → BothWalk x tops A e k (tick_outs (record { number = k; disk = d; live = Some t }) t) (with_coord t (again_all t.coord.doings t.coord).part) d M
+TicksKeepBoth = (x : ℕ) (tops : Kinds) (e k : ℕ) (d : Disk) (t : Parts) (A : Office) (M : Seen) → tops.walk ≡ None →
+    KnowsCoord tops d.intents t.coord → AllByRecursion (λ u. was_begun u M.lines ≡ true) (holders d t) → SeesBoth x tops A (up k d t M)
+    → BothWalk x tops A e k (tick_outs (record { number = k; disk = d; live = Some t }) t)
+    (with_coord t (again_all t.coord.doings t.coord).part) d M

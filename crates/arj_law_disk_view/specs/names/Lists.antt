@@ -52,13 +52,18 @@ pub record IsTopOf (tops : Kinds) (root t : Uid) : Type 0 where
 -- root's; it has one for each top that was answered this binding, and one that counts for each that has an answered call; and
 -- where nothing is kept no call survives.
 pub record SeesLists (x : ℕ) (tops : Kinds) (root : Uid) (c : Coord) (r : Root) (N : Names) : Type 0 where
-  pub agree : (k : Known) (h : Uid) (l : Kept) → kept_of x r ≡ Some k → (h ≡ root) ⊎ IsTopOf tops root h → N.kept (uid_number h) ≡ Some l → l.since ≡ (let b = k.binding in b.inc) → IsWithin l.list k.stores
+  pub agree : (k : Known) (h : Uid) (l : Kept) → kept_of x r ≡ Some k → (h ≡ root) ⊎ IsTopOf tops root h → N.kept (uid_number h) ≡ Some l →
+      l.since ≡ (let b = k.binding in b.inc) → IsWithin l.list k.stores
   pub family : (g : Grant) → Contains r.grants g → IsTopOf tops root g.top
-  pub granted : (g : Grant) (b : Binding) → Contains r.grants g → g.x ≡ x → g.named ≡ Some b → (N.had (uid_number g.top) b.inc ≡ true) × IsShort b
-  pub named : (k : Known) (g : Grant) → kept_of x r ≡ Some k → Contains r.grants g → g.x ≡ x → is_named k.binding g.named ≡ true → HasList N (uid_number g.top) k
+  pub granted : (g : Grant) (b : Binding) → Contains r.grants g → g.x ≡ x → g.named ≡ Some b →
+      (N.had (uid_number g.top) b.inc ≡ true) × IsShort b
+  pub named : (k : Known) (g : Grant) → kept_of x r ≡ Some k → Contains r.grants g → g.x ≡ x → is_named k.binding g.named ≡ true →
+      HasList N (uid_number g.top) k
   pub short : (k : Known) → kept_of x r ≡ Some k → IsShort k.binding
-  pub called : (k : Known) (s : Said) (t : Uid) → kept_of x r ≡ Some k → Contains r.said s → s.x ≡ x → is_spent s.path c.tree ≡ false → is_on s.path t ≡ true → IsTopOf tops root t → HasList N (uid_number t) k ⊎ HasRetained N (uid_number root) k
-  pub retained : (k : Known) (s : Said) → kept_of x r ≡ Some k → Contains r.said s → s.x ≡ x → coord.is_retained s.path c ≡ true → HasRetained N (uid_number root) k
+  pub called : (k : Known) (s : Said) (t : Uid) → kept_of x r ≡ Some k → Contains r.said s → s.x ≡ x → is_spent s.path c.tree ≡ false →
+      is_on s.path t ≡ true → IsTopOf tops root t → HasList N (uid_number t) k ⊎ HasRetained N (uid_number root) k
+  pub retained : (k : Known) (s : Said) → kept_of x r ≡ Some k → Contains r.said s → s.x ≡ x → coord.is_retained s.path c ≡ true →
+      HasRetained N (uid_number root) k
   pub nothing : kept_of x r ≡ None → (s : Said) → Contains r.said s → s.x ≡ x → is_spent s.path c.tree ≡ true
 
 -- what survives isn't spent, while the root and this top are open
@@ -107,14 +112,18 @@ HasCallList N root top k = HasList N top k ⊎ HasRetained N root k
 
 -- whichever of the root's tops had a list for what was kept has one for what is kept now
 abbrev pub KeepsCalls : Kinds → Uid → Option Known → Option Known → Names → Names → Type 0
-KeepsCalls tops root old new N M = (w : Uid) (k : Known) → IsTopOf tops root w → old ≡ Some k → HasCallList N (uid_number root) (uid_number w) k → (l : Known) × (new ≡ Some l) × HasCallList M (uid_number root) (uid_number w) l
+KeepsCalls tops root old new N M = (w : Uid) (k : Known) → IsTopOf tops root w → old ≡ Some k →
+    HasCallList N (uid_number root) (uid_number w) k → (l : Known) × (new ≡ Some l) × HasCallList M (uid_number root) (uid_number w) l
 
--- The answer is taken, and with it its list for each of the root that has a grant of its incarnation; of grants it is the one new one. Where the
--- root isn't free of what it keeps, its tops have lists as before.
+-- The answer is taken, and with it its list for each of the root that has a grant of its incarnation; of grants it is the one new one.
+-- Where the root isn't free of what it keeps, its tops have lists as before.
 abbrev pub ListsAreHeard : Type 0
-ListsAreHeard = (x g : ℕ) (tops : Kinds) (root t : Uid) (c : Coord) (r q : Root) (known : Known) (at : At) (free : Bool) (A : Office) → Named A → IsFixed tops A.world.disk → SeesGrants x root c r A.world.disk A.names → SeesLists x tops root c r A.names → IsLasting x c r
-    → IsTopOf tops root t → tops.root (uid_number root) ≡ uid_number root → A.world.disk.stage (uid_number t) ≡ Idle → In (machine.Bound (uid_number t) g false known.stores) A.names.answers → IsNamedNow x c r g known free → AfterAnswer x g t known at free r q
-    → NamesGo A (λ B. OnlyKept A B × SeesLists x tops root c q B.names × (B.names.had ≡ put2 (uid_number t) g true A.names.had) × LeavesOthers tops root A B × (free ≡ false → KeepsCalls tops root (kept_of x r) (kept_of x q) A.names B.names))
+ListsAreHeard = (x g : ℕ) (tops : Kinds) (root t : Uid) (c : Coord) (r q : Root) (known : Known) (at : At) (free : Bool) (A : Office) →
+    Named A → IsFixed tops A.world.disk → SeesGrants x root c r A.world.disk A.names → SeesLists x tops root c r A.names → IsLasting x c r
+    → IsTopOf tops root t → tops.root (uid_number root) ≡ uid_number root → A.world.disk.stage (uid_number t) ≡ Idle → In (machine.Bound
+    (uid_number t) g false known.stores) A.names.answers → IsNamedNow x c r g known free → AfterAnswer x g t known at free r q
+    → NamesGo A (λ B. OnlyKept A B × SeesLists x tops root c q B.names × (B.names.had ≡ put2 (uid_number t) g true A.names.had)
+    × LeavesOthers tops root A B × (free ≡ false → KeepsCalls tops root (kept_of x r) (kept_of x q) A.names B.names))
 
 -- ---- a commit's list
 
@@ -125,12 +134,15 @@ pub record HasKeptList (x : ℕ) (root t : Uid) (r : Root) (S : State) (N : Name
   pub kept : kept_of x r ≡ Some known
   pub inc : ℕ
   pub had : (N.had (uid_number t) inc ≡ true) ⊎ (N.had (uid_number root) inc ≡ true)
-  pub list : IsPresent S N (uid_number t) → (h : ℕ) × ((h ≡ uid_number t) ⊎ (h ≡ uid_number root)) × (l : Kept) × (N.kept h ≡ Some l) × ((s : ℕ) → has s l.list ≡ true → has s known.stores ≡ true)
+  pub list : IsPresent S N (uid_number t) → (h : ℕ) × ((h ≡ uid_number t) ⊎ (h ≡ uid_number root)) × (l : Kept) × (N.kept h ≡ Some l)
+      × ((s : ℕ) → has s l.list ≡ true → has s known.stores ≡ true)
 
 -- a commit of a top that called the object has such a list
 abbrev pub CommitsHaveLists : Type 0
-CommitsHaveLists = (x : ℕ) (tops : Kinds) (root t : Uid) (c : Coord) (r : Root) (A : Office) → Named A → IsFixed tops A.world.disk → SeesLists x tops root c r A.names → IsLasting x c r → IsTopOf tops root t
-    → ((s : Said) → Contains r.said s → survives t s.path c ≡ true → is_spent s.path c.tree ≡ false) → is_called x t r c ≡ true → HasKeptList x root t r A.world.disk A.names
+CommitsHaveLists = (x : ℕ) (tops : Kinds) (root t : Uid) (c : Coord) (r : Root) (A : Office) → Named A → IsFixed tops A.world.disk →
+    SeesLists x tops root c r A.names → IsLasting x c r → IsTopOf tops root t
+    → ((s : Said) → Contains r.said s → survives t s.path c ≡ true → is_spent s.path c.tree ≡ false) → is_called x t r c ≡ true →
+    HasKeptList x root t r A.world.disk A.names
 
 -- ---- a call is answered
 
@@ -142,8 +154,10 @@ pub record AfterCall (y : ℕ) (path : List Uid) (r q : Root) : Type 0 where
 
 -- Where the object is the call's, its tops have a list; what is kept there is no nothing.
 abbrev pub AnsweredCallsHaveLists : Type 0
-AnsweredCallsHaveLists = (x y : ℕ) (tops : Kinds) (root : Uid) (c : Coord) (r q : Root) (path : List Uid) (N : Names) → SeesLists x tops root c r N → AfterCall y path r q
-    → (y ≡ x → (k : Known) × (kept_of x r ≡ Some k) × ((t : Uid) → is_on path t ≡ true → IsTopOf tops root t → HasList N (uid_number t) k ⊎ HasRetained N (uid_number root) k) × (coord.is_retained path c ≡ true → HasRetained N (uid_number root) k))
+AnsweredCallsHaveLists = (x y : ℕ) (tops : Kinds) (root : Uid) (c : Coord) (r q : Root) (path : List Uid) (N : Names) →
+    SeesLists x tops root c r N → AfterCall y path r q
+    → (y ≡ x → (k : Known) × (kept_of x r ≡ Some k) × ((t : Uid) → is_on path t ≡ true → IsTopOf tops root t → HasList N (uid_number t) k
+    ⊎ HasRetained N (uid_number root) k) × (coord.is_retained path c ≡ true → HasRetained N (uid_number root) k))
     → SeesLists x tops root c q N
 
 -- ---- a decision
@@ -158,17 +172,23 @@ pub record AfterDecision (x : ℕ) (t : Uid) (p : commit.Plan) (c d : Coord) (r 
 
 -- what the Confirm of the plan says is what the machine has of the top
 abbrev pub IsSaid : ℕ → State → Uid → commit.Plan → Type 0
-IsSaid x S t p = SaysMarks x (S.plan (uid_number t)) (S.got (uid_number t)) (map {A = Used} {B = ℕ × ℕ} (λ u. (u.x, u.grant)) p.used) p.excluded (included_of p)
+IsSaid x S t p = SaysMarks x (S.plan (uid_number t)) (S.got (uid_number t)) (map {A = Used} {B = ℕ × ℕ} (λ u. (u.x, u.grant)) p.used)
+    p.excluded (included_of p)
 
 -- Lists stay the root's by a decision of which nothing is retained, and by one that is retained.
 abbrev pub DecisionsKeepLists : Type 0
-DecisionsKeepLists = (x : ℕ) (tops : Kinds) (root t : Uid) (c d : Coord) (r q : Root) (p : commit.Plan) (S : State) (N : Names) → IsFixed tops S → SeesLists x tops root c r N → IsTopOf tops root t → tops.root (uid_number root) ≡ uid_number root → IsSaid x S t p → AfterDecision x t p c d r q
+DecisionsKeepLists = (x : ℕ) (tops : Kinds) (root t : Uid) (c d : Coord) (r q : Root) (p : commit.Plan) (S : State) (N : Names) →
+    IsFixed tops S → SeesLists x tops root c r N → IsTopOf tops root t → tops.root (uid_number root) ≡ uid_number root → IsSaid x S t p →
+    AfterDecision x t p c d r q
     → ((s : Said) → Contains r.said s → s.x ≡ x → coord.is_retained s.path d ≡ true → coord.is_retained s.path c ≡ true)
     → SeesLists x tops root d q (record N { kept = lists_after S (uid_number t) N.kept })
 
 -- lists stay so by a decision that is retained
 abbrev pub RetainedListsAreSeen : Type 0
-RetainedListsAreSeen = (x : ℕ) (tops : Kinds) (root t : Uid) (c d : Coord) (r q : Root) (p : commit.Plan) (S : State) (N : Names) → IsFixed tops S → SeesLists x tops root c r N → ((h : ℕ) (l : Kept) → N.kept h ≡ Some l → N.had h l.since ≡ true)
-    → IsTopOf tops root t → tops.root (uid_number root) ≡ uid_number root → tops.is_serial (uid_number root) ≡ true → IsSaid x S t p → AfterDecision x t p c d r q
-    → ((s : Said) → Contains r.said s → s.x ≡ x → coord.is_retained s.path d ≡ true → (coord.is_retained s.path c ≡ true) ⊎ ((is_on s.path t ≡ true) × (is_spent s.path c.tree ≡ false)))
+RetainedListsAreSeen = (x : ℕ) (tops : Kinds) (root t : Uid) (c d : Coord) (r q : Root) (p : commit.Plan) (S : State) (N : Names) →
+    IsFixed tops S → SeesLists x tops root c r N → ((h : ℕ) (l : Kept) → N.kept h ≡ Some l → N.had h l.since ≡ true)
+    → IsTopOf tops root t → tops.root (uid_number root) ≡ uid_number root → tops.is_serial (uid_number root) ≡ true → IsSaid x S t p →
+    AfterDecision x t p c d r q
+    → ((s : Said) → Contains r.said s → s.x ≡ x → coord.is_retained s.path d ≡ true →
+    (coord.is_retained s.path c ≡ true) ⊎ ((is_on s.path t ≡ true) × (is_spent s.path c.tree ≡ false)))
     → SeesLists x tops root d q (retained S (uid_number t) (record N { kept = lists_after S (uid_number t) N.kept }))

@@ -27,12 +27,15 @@ KeepsState x root r S = option_map packed (at_number x r.states) ≡ written_in 
 
 -- each include that was answered brought a state that was loaded for its top
 abbrev pub HaveLoads : ℕ → Kinds → Uid → Root → Names → Type 0
-HaveLoads x tops root r N = (j : Joined) (t : Uid) → Contains r.joined j → j.x ≡ x → is_on j.path t ≡ true → IsTopOf tops root t → HasLoad N (uid_number t) (packed j.loaded)
+HaveLoads x tops root r N = (j : Joined) (t : Uid) → Contains r.joined j → j.x ≡ x → is_on j.path t ≡ true → IsTopOf tops root t →
+    HasLoad N (uid_number t) (packed j.loaded)
 
 -- an include is answered
 abbrev pub LoadsAreHeard : Type 0
-LoadsAreHeard = (x : ℕ) (tops : Kinds) (root : Uid) (r q : Root) (j : Joined) (N : Names) → HaveLoads x tops root r N → q.joined ≡ joined_with j r.joined → ((i : Joined) → Contains r.joined i → last_uid i.path ≡ last_uid j.path → i.path ≡ j.path)
-    → (j.x ≡ x → (t : Uid) → is_on j.path t ≡ true → IsTopOf tops root t → HasLoad N (uid_number t) (packed j.loaded)) → HaveLoads x tops root q N
+LoadsAreHeard = (x : ℕ) (tops : Kinds) (root : Uid) (r q : Root) (j : Joined) (N : Names) → HaveLoads x tops root r N →
+    q.joined ≡ joined_with j r.joined → ((i : Joined) → Contains r.joined i → last_uid i.path ≡ last_uid j.path → i.path ≡ j.path)
+    → (j.x ≡ x → (t : Uid) → is_on j.path t ≡ true → IsTopOf tops root t → HasLoad N (uid_number t) (packed j.loaded)) →
+    HaveLoads x tops root q N
 
 -- What a commit of a top sends to the stores that it includes was loaded for it, or is what its root has newer.
 pub record HasLoaded (S : State) (N : Names) (t : ℕ) (st : ObjectState) : Type 0 where
@@ -42,7 +45,8 @@ pub record HasLoaded (S : State) (N : Names) (t : ℕ) (st : ObjectState) : Type
 
 -- so the state that included stores are sent was loaded for the top
 abbrev pub CommitsHaveLoads : Type 0
-CommitsHaveLoads = (x : ℕ) (tops : Kinds) (root t : Uid) (c : Coord) (r : Root) (S : State) (N : Names) (st : ObjectState) → HaveLoads x tops root r N → KeepsState x root r S → S.root (uid_number t) ≡ uid_number root → IsTopOf tops root t
+CommitsHaveLoads = (x : ℕ) (tops : Kinds) (root t : Uid) (c : Coord) (r : Root) (S : State) (N : Names) (st : ObjectState) →
+    HaveLoads x tops root r N → KeepsState x root r S → S.root (uid_number t) ≡ uid_number root → IsTopOf tops root t
     → loaded_for x t r c ≡ Some st → HasLoaded S N (uid_number t) st
 
 -- A decision of a top changes of an object one state, as its plan says.
@@ -53,5 +57,6 @@ pub record ChangesOne (x : ℕ) (t : Uid) (p : commit.Plan) (S : State) : Type 0
 
 -- and the root keeps it as the newest one
 abbrev pub DecisionsKeepStates : Type 0
-DecisionsKeepStates = (x : ℕ) (root t : Uid) (p : commit.Plan) (r q : Root) (S V : State) → KeepsState x root r S → q.states ≡ states_after p.changed r.states → V.root ≡ S.root → V.tops ≡ done_of S (uid_number t) ∷ S.tops
+DecisionsKeepStates = (x : ℕ) (root t : Uid) (p : commit.Plan) (r q : Root) (S V : State) → KeepsState x root r S →
+    q.states ≡ states_after p.changed r.states → V.root ≡ S.root → V.tops ≡ done_of S (uid_number t) ∷ S.tops
     → S.root (uid_number t) ≡ uid_number root → ChangesOne x t p S → KeepsState x root q V

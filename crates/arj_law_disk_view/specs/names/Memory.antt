@@ -19,11 +19,13 @@ lock_in x u rows = option_map mode_code (mode_of (entry x) u rows)
 
 -- the action alone, which is its own root or had the lock given back by a restart
 abbrev pub IsAlone : (ℕ → ℕ) → (ℕ → Bool) → List Uid → Type 0
-IsAlone root given us = (us ≡ last_uid us ∷ []) × ((root (uid_number (last_uid us)) ≡ uid_number (last_uid us)) ⊎ (given (uid_number (last_uid us)) ≡ true))
+IsAlone root given us =
+    (us ≡ last_uid us ∷ []) × ((root (uid_number (last_uid us)) ≡ uid_number (last_uid us)) ⊎ (given (uid_number (last_uid us)) ≡ true))
 
 -- the action behind its root, with a lock that it was granted
 abbrev pub IsBehind : (ℕ → ℕ) → (ℕ → Bool) → List Uid → Type 0
-IsBehind root given us = (w : Uid) × (us ≡ w ∷ last_uid us ∷ []) × (root (uid_number (last_uid us)) ≡ uid_number w) × (uid_eq w (last_uid us) ≡ false) × (given (uid_number (last_uid us)) ≡ false)
+IsBehind root given us = (w : Uid) × (us ≡ w ∷ last_uid us ∷ []) × (root (uid_number (last_uid us)) ≡ uid_number w)
+    × (uid_eq w (last_uid us) ≡ false) × (given (uid_number (last_uid us)) ≡ false)
 
 -- The locks on the object's entry: each is the machine's, each of the machine's is one, and holders stand as they asked.
 pub record SeesRows (x : ℕ) (tops : Kinds) (rows : List Row) (root : ℕ → ℕ) (row : ℕ → Option ℕ) (given : ℕ → Bool) : Type 0 where
@@ -40,15 +42,18 @@ pub record SeesNamed (x : ℕ) (tops : Kinds) (o : Named) (S : State) (N : Names
   pub rows : SeesRows x tops o.rows S.root N.row N.given
   pub asked : (u : Uid) → (IsNested tops (uid_number u) → ⊥) → IsUntold S N (uid_number u) → is_on o.asked u ≡ N.asked (uid_number u)
   pub sorted : AreSorted o.made
-  pub made : (u : Uid) (m : Made) → at_uid u o.made ≡ Some m → m.recorded ≡ false → IsUntold S N (uid_number u) → N.row (uid_number u) ≡ Some 2
+  pub made : (u : Uid) (m : Made) → at_uid u o.made ≡ Some m → m.recorded ≡ false → IsUntold S N (uid_number u) →
+      N.row (uid_number u) ≡ Some 2
   pub live : (l : Live) → o.live ≡ Some l → N.live ≡ true
 
 -- Naming's incarnation; the actions that it was told of, and those that it confirmed and wasn't told of, but for nested ones; and
 -- the object where it has it.
-pub record SeesMemory (x : ℕ) (tops : Kinds) (inc : ℕ) (told confirmed : List Uid) (found : Option Named) (S : State) (N : Names) : Type 0 where
+pub record SeesMemory (x : ℕ) (tops : Kinds) (inc : ℕ) (told confirmed : List Uid) (found : Option Named) (S : State) (N : Names) :
+    Type 0 where
   pub inc_is : N.inc ≡ inc
   pub told_is : (u : Uid) → (IsNested tops (uid_number u) → ⊥) → is_on told u ≡ N.told (uid_number u)
-  pub confirmed_is : (u : Uid) → (IsNested tops (uid_number u) → ⊥) → N.told (uid_number u) ≡ false → is_on confirmed u ≡ N.confd (uid_number u)
+  pub confirmed_is : (u : Uid) → (IsNested tops (uid_number u) → ⊥) → N.told (uid_number u) ≡ false →
+      is_on confirmed u ≡ N.confd (uid_number u)
   pub object : (o : Named) → found ≡ Some o → SeesNamed x tops o S N
 
 -- naming's memory of the object is seen
@@ -60,7 +65,8 @@ pub record IsOfTop (tops : Kinds) (S : State) (p : Path) : Type 0 where
   pub top : tops.is_top (uid_number (top_of p)) ≡ true
   pub plain : S.serial (uid_number (top_of p)) ≡ false
   pub path : ((top_path p ≡ top_of p ∷ []) × (S.root (uid_number (top_of p)) ≡ uid_number (top_of p)))
-      ⊎ ((w : Uid) × (top_path p ≡ w ∷ top_of p ∷ []) × (S.root (uid_number (top_of p)) ≡ uid_number w) × (uid_eq w (top_of p) ≡ false) × (tops.is_serial (uid_number w) ≡ true))
+      ⊎ ((w : Uid) × (top_path p ≡ w ∷ top_of p ∷ []) × (S.root (uid_number (top_of p)) ≡ uid_number w) × (uid_eq w (top_of p) ≡ false)
+      × (tops.is_serial (uid_number w) ≡ true))
 
 -- The machine goes by acts that may be done, to an office of which this holds.
 pub record NamesGo (A : Office) (Q : Office → Type 0) : Type 0 where

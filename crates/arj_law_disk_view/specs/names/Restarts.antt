@@ -25,9 +25,12 @@ has_prepared d t = list_any (λ (p : Uid × List ObjectState). uid_number p.0 ==
 
 -- The incarnation rises: naming gets back the locks of entries that are in doubt, and knows as confirmed who has one prepared.
 abbrev pub RestartsAreActs : Type 0
-RestartsAreActs = (x : ℕ) (tops : Kinds) (inc : ℕ) (d : Pair) (A : Office) → Named A → A.names.inc ≡ inc → SeesEntry x d A.world.disk → AreEntries d → ((t : ℕ) → A.world.disk.begun t ≡ true → tops.is_top t ≡ true)
-    → May A (Restart (has_prepared d)) × SeesNaming x tops (recovered_naming (inc + 1) d) A.world.disk (let B = acted A (Restart (has_prepared d)) in B.names)
+RestartsAreActs = (x : ℕ) (tops : Kinds) (inc : ℕ) (d : Pair) (A : Office) → Named A → A.names.inc ≡ inc → SeesEntry x d A.world.disk →
+    AreEntries d → ((t : ℕ) → A.world.disk.begun t ≡ true → tops.is_top t ≡ true)
+    → May A (Restart (has_prepared d))
+    × SeesNaming x tops (recovered_naming (inc + 1) d) A.world.disk (let B = acted A (Restart (has_prepared d)) in B.names)
 
 -- as a format leaves it
 abbrev pub FirstIsSeen : Type 0
-FirstIsSeen = (x : ℕ) (tops : Kinds) (inc : ℕ) (d : Pair) (S : State) (N : Names) → IsFirst S → IsFirstNames N → N.inc ≡ inc → N.live ≡ false → SeesEntry x d S → AreEntries d → SeesNaming x tops (recovered_naming inc d) S N
+FirstIsSeen = (x : ℕ) (tops : Kinds) (inc : ℕ) (d : Pair) (S : State) (N : Names) → IsFirst S → IsFirstNames N → N.inc ≡ inc →
+    N.live ≡ false → SeesEntry x d S → AreEntries d → SeesNaming x tops (recovered_naming inc d) S N

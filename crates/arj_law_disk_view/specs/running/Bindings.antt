@@ -40,8 +40,8 @@ AllNameOwn M = (k : ℕ) (n : Node) (t : Parts) (o : Naming) → M.nodes k ≡ S
 abbrev pub AllKnowTops : Seen → Type 0
 AllKnowTops M = (k : ℕ) (n : Node) (t : Parts) → M.nodes k ≡ Some n → n.live ≡ Some t → KnowsTops t.coord
 
--- nodes are good and know their tops, with the objects at naming, and naming counted no more bindings than the journal says; and as long as these
--- are few, Records and Confirms are known
+-- nodes are good and know their tops, with the objects at naming, and naming counted no more bindings than the journal says; and as long as
+-- these are few, Records and Confirms are known
 abbrev pub AreGoodCounted : Seen → Type 0
 AreGoodCounted M = ((IsGood M × AllKnowTops M) × RecordsRun M) × (ObjectsAreHeld M × AreSaid M)
 

@@ -18,7 +18,8 @@ abbrev pub GivesVotes : (Seen → Type 0) → Type 0
 GivesVotes R = (acts : List Action) (k : ℕ) (d : Disk) (t : Parts) (M : Seen) → R (up k d t M) → IsGoodOf acts (up k d t M) → VotesFit k t M
 
 -- What is known of a node's coordinator in every run in which naming makes few bindings, and by which a top has a part only in what it
--- uses: `arj_law_runs/kept` has that it is good and sure, `arj_law_runs/coordinators` under which paths it was answered, and `arj_law_runs/calls` what was called.
+-- uses: `arj_law_runs/kept` has that it is good and sure, `arj_law_runs/coordinators` under which paths it was answered, and
+-- `arj_law_runs/calls` what was called.
 pub record KnowsParts (acts : List Action) (t : Parts) : Type 0 where
   pub begun : AreBegun acts
   pub good : IsGoodCoord acts (paths_of acts) t.coord

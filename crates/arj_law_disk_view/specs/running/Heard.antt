@@ -97,11 +97,14 @@ pub record IsToStep (k : ℕ) (sent : List Post) (s : Steps) (r : Reply) : Type 
 -- the stores that it asks; and the answers that were sent to the step are the machine's, and name a binding of naming's incarnation.
 pub record SeesStep (x k : ℕ) (sent : List Post) (s : Steps) (N : Names) : Type 0 where
   pub stands : StandsOn (uid_number (top_of s.path)) N s.at
-  pub listed : (q : Known) (n : ℕ) (rest : List ℕ) → s.at ≡ AtLoad q n rest → is_include s.goal ≡ true → AsksListed (uid_number (top_of s.path)) q (n ∷ rest) N
+  pub listed : (q : Known) (n : ℕ) (rest : List ℕ) → s.at ≡ AtLoad q n rest → is_include s.goal ≡ true →
+      AsksListed (uid_number (top_of s.path)) q (n ∷ rest) N
   pub goal : is_include s.goal ≡ true → only_loads s.at ≡ true
-  pub bound : (r : BoundReply) → IsToStep k sent s (Reply.Bound r) → IsOfGoal (is_include s.goal) r × ClaimsBound x s.x (uid_number (top_of s.path)) r N
+  pub bound : (r : BoundReply) → IsToStep k sent s (Reply.Bound r) →
+      IsOfGoal (is_include s.goal) r × ClaimsBound x s.x (uid_number (top_of s.path)) r N
   pub named : (r : BoundReply) → IsToStep k sent s (Reply.Bound r) → NamesNow r
-  pub loaded : (q : Known) (n : ℕ) (rest : List ℕ) (st : ObjectState) → s.at ≡ AtLoad q n rest → is_include s.goal ≡ true → IsToStep k sent s (Reply.Loaded (loaded.State st)) → In (machine.Loaded (uid_number (top_of s.path)) q.grant (packed st)) N.answers
+  pub loaded : (q : Known) (n : ℕ) (rest : List ℕ) (st : ObjectState) → s.at ≡ AtLoad q n rest → is_include s.goal ≡ true →
+      IsToStep k sent s (Reply.Loaded (loaded.State st)) → In (machine.Loaded (uid_number (top_of s.path)) q.grant (packed st)) N.answers
 
 -- the binding of the call is known
 abbrev pub is_bound : At → Bool
@@ -134,16 +137,20 @@ AreOfOne A t j = (i : ℕ) → IsHadBy A t i → i ≡ j
 pub record IsListFor (A : Office) (t : ℕ) (stores : List ℕ) : Type 0 where
   pub inc : ℕ
   pub had : IsHadBy A t inc
-  pub list : (j : ℕ) → AreOfOne A t j → (h : ℕ) × ((h ≡ t) ⊎ (h ≡ A.world.disk.root t)) × (l : Kept) × (A.names.kept h ≡ Some l) × ((s : ℕ) → has s l.list ≡ true → has s stores ≡ true)
+  pub list : (j : ℕ) → AreOfOne A t j → (h : ℕ) × ((h ≡ t) ⊎ (h ≡ A.world.disk.root t)) × (l : Kept) × (A.names.kept h ≡ Some l)
+      × ((s : ℕ) → has s l.list ≡ true → has s stores ≡ true)
 
 -- What the plan of a top's commit uses of the object: no grant that counts is before the one that it names; it changes what it called,
 -- as its top wrote it; and while it votes, a list stands behind what it called, and a load behind what it includes.
 pub record SeesPlan (x : ℕ) (tops : Kinds) (u : Uid) (m : Machine) (A : Office) : Type 0 where
   pub top : tops.is_top (uid_number u) ≡ true
   pub grants : (w : Used) (i : ℕ) → used_at x (let p = plan_of m in p.used) ≡ Some w → IsHadBy A (uid_number u) i → w.grant ≤ i
-  pub changed : (w : Used) (st : ObjectState) → used_at x (let p = plan_of m in p.used) ≡ Some w → Among st (let p = plan_of m in p.changed) → st.uid ≡ object x → (w.called ≡ true) × (st.writer ≡ u)
-  pub list : (w : Used) → is_voting m ≡ true → used_at x (let p = plan_of m in p.used) ≡ Some w → w.called ≡ true → IsListFor A (uid_number u) w.stores
-  pub loaded : (w : Used) (st : ObjectState) → is_voting m ≡ true → used_at x (let p = plan_of m in p.used) ≡ Some w → w.loaded ≡ Some st → HasLoaded A.world.disk A.names (uid_number u) st
+  pub changed : (w : Used) (st : ObjectState) → used_at x (let p = plan_of m in p.used) ≡ Some w →
+      Among st (let p = plan_of m in p.changed) → st.uid ≡ object x → (w.called ≡ true) × (st.writer ≡ u)
+  pub list : (w : Used) → is_voting m ≡ true → used_at x (let p = plan_of m in p.used) ≡ Some w → w.called ≡ true →
+      IsListFor A (uid_number u) w.stores
+  pub loaded : (w : Used) (st : ObjectState) → is_voting m ≡ true → used_at x (let p = plan_of m in p.used) ≡ Some w → w.loaded ≡ Some st →
+      HasLoaded A.world.disk A.names (uid_number u) st
 
 -- ---- a coordinator
 
@@ -159,7 +166,8 @@ pub record IsPathIn (t : Tree) (us : List Uid) : Type 0 where
 pub record SeesHeardAt (x k : ℕ) (tops : Kinds) (sent : List Post) (c : Coord) (A : Office) : Type 0 where
   pub roots : (root : Uid) → IsWorkingRoot tops c root → SeesRootOf x tops root c (root_at root c) A
   pub steps : (u : Uid) (q : Doing) (s : Steps) → doing_of u c ≡ Some q → q.now ≡ Calling s → s.x ≡ x → SeesStep x k sent s A.names
-  pub calls : (u : Uid) (q : Doing) (s : Steps) → doing_of u c ≡ Some q → q.now ≡ Calling s → s.x ≡ x → is_include s.goal ≡ false → is_bound s.at ≡ true → SeesCall x tops c s A.names
+  pub calls : (u : Uid) (q : Doing) (s : Steps) → doing_of u c ≡ Some q → q.now ≡ Calling s → s.x ≡ x → is_include s.goal ≡ false →
+      is_bound s.at ≡ true → SeesCall x tops c s A.names
   pub includes : (root : Uid) (j : Joined) → Contains (let r = root_at root c in r.joined) j → IsPathIn c.tree j.path
   pub plans : (u : Uid) (q : Doing) (m : Machine) → doing_of u c ≡ Some q → q.now ≡ Committing m → SeesPlan x tops u m A
 
@@ -189,12 +197,13 @@ pub record IsAskedFor (sent : List Post) (p : Post) (a : Asked) (r : Reply) : Ty
 
 -- ---- all nodes
 
--- So it is at each coordinator that is up; nobody wrote the object's first state or an older one; of a later incarnation of a node the machine has
--- nothing; each answer was asked for; and requests claim what they say.
+-- So it is at each coordinator that is up; nobody wrote the object's first state or an older one; of a later incarnation of a node the
+-- machine has nothing; each answer was asked for; and requests claim what they say.
 pub record SeesHeard (x : ℕ) (tops : Kinds) (A : Office) (M : Seen) : Type 0 where
   pub kinds : KnowsKinds tops
   pub first : (g : Packed) → In g (A.world.disk.first ∷ A.world.disk.past) → g.writer ≡ uid_number nobody
   pub coords : (k : ℕ) (n : Node) (t : Parts) → M.nodes k ≡ Some n → n.live ≡ Some t → SeesHeardAt x k tops M.sent t.coord A
-  pub future : (k : ℕ) (n : Node) (u : Uid) → M.nodes k ≡ Some n → u.node ≡ k → tops.root (uid_number u) ≡ uid_number u → (let d = n.disk in d.inc) < u.inc → HasNoneOf tops (uid_number u) A
+  pub future : (k : ℕ) (n : Node) (u : Uid) → M.nodes k ≡ Some n → u.node ≡ k → tops.root (uid_number u) ≡ uid_number u →
+      (let d = n.disk in d.inc) < u.inc → HasNoneOf tops (uid_number u) A
   pub asked : (p : Post) (a : Asked) (r : Reply) → seen.In p M.sent → answers p.message ≡ Some (a, r) → IsAskedFor M.sent p a r
   pub posts : (p : Post) → seen.In p M.sent → ClaimsAsked x A (asks p.message)

@@ -37,13 +37,15 @@ kinds_of acts = record { is_top = is_of_kind is_top_kind acts; is_serial = is_of
 pub record Agrees (tops : Kinds) (acts : List Action) : Type 0 where
   pub kinds : KnowsKinds tops
   pub unwalked : tops.walk ≡ None
-  pub each : (a : Action) → Contains acts a → IsOfKind tops (act_of a) a.kind a.path × (tops.is_top (uid_number (act_of a)) ≡ true → tops.root (uid_number (act_of a)) ≡ uid_number (root_of a.path))
+  pub each : (a : Action) → Contains acts a → IsOfKind tops (act_of a) a.kind a.path
+      × (tops.is_top (uid_number (act_of a)) ≡ true → tops.root (uid_number (act_of a)) ≡ uid_number (root_of a.path))
 
 -- A path is of a top: of one that is its own root, or behind its root, which is a serializing action.
 pub record IsOfTops (tops : Kinds) (p : Path) : Type 0 where
   pub top : tops.is_top (uid_number (top_of p)) ≡ true
   pub path : ((top_path p ≡ top_of p ∷ []) × (tops.root (uid_number (top_of p)) ≡ uid_number (top_of p)))
-      ⊎ ((w : Uid) × (top_path p ≡ w ∷ top_of p ∷ []) × (tops.root (uid_number (top_of p)) ≡ uid_number w) × (uid_eq w (top_of p) ≡ false) × (tops.is_serial (uid_number w) ≡ true))
+      ⊎ ((w : Uid) × (top_path p ≡ w ∷ top_of p ∷ []) × (tops.root (uid_number (top_of p)) ≡ uid_number w) × (uid_eq w (top_of p) ≡ false)
+      × (tops.is_serial (uid_number w) ≡ true))
 
 -- so is that of each request
 abbrev pub AreOfTops : Kinds → Message → Type 0
@@ -51,4 +53,5 @@ AreOfTops tops m = (h : Head) (a : Ask) → asks m ≡ Some (h, a) → IsOfTops 
 
 -- each action's path is of its own node and incarnation
 abbrev pub AreOfOneNode : List Action → Type 0
-AreOfOneNode acts = (a : Action) (w : Uid) → Contains acts a → is_on (uids_of a.path) w ≡ true → (w.node ≡ (act_of a).node) × (w.inc ≡ (act_of a).inc)
+AreOfOneNode acts = (a : Action) (w : Uid) → Contains acts a → is_on (uids_of a.path) w ≡ true →
+    (w.node ≡ (act_of a).node) × (w.inc ≡ (act_of a).inc)

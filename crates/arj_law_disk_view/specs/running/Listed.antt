@@ -37,7 +37,8 @@ pub record IsCurrent (x : ℕ) (tops : Kinds) (S : State) (n : Naming) (top : Ui
 -- and for all else that was; while naming is down, for all that was given.
 abbrev pub PassesListed : ℕ → Kinds → State → Tests → Disk → Option Parts → Type 0
 PassesListed x tops S T d None = (y v s : ℕ) → v < (d.inc + 1) * 4294967296 → T.listed y v s ≡ true
-PassesListed x tops S T d (Some t) = (n : Naming) → t.naming ≡ Some n → (y v s : ℕ) → v ≤ binding_number (record { inc = n.inc; count = n.count })
+PassesListed x tops S T d (Some t) = (n : Naming) → t.naming ≡ Some n → (y v s : ℕ) →
+    v ≤ binding_number (record { inc = n.inc; count = n.count })
     → (y ≡ x → (u : Uid) → IsCurrent x tops S n u v → has (let e = listed_entry x d.names in e.stores) s ≡ true) → T.listed y v s ≡ true
 
 -- so it is at node 1, up or down
@@ -95,4 +96,5 @@ pub record LoadsListed (x : ℕ) (A : Office) (M : Seen) (l : IsLoading x M) : T
 
 -- Copies agree, and each store that such a call asks holds what they agree on, where the object isn't in doubt there.
 abbrev pub LoadsAgree : ℕ → Seen → Type 0
-LoadsAgree x M = (last : Packed) × AgreesOn x last M × ((l : IsLoading x M) (s : ℕ) (m : Node) → has (l.store ∷ l.rest) s ≡ true → M.nodes s ≡ Some m → holder_of (object x) m.disk.store ≡ None → HasState x last m)
+LoadsAgree x M = (last : Packed) × AgreesOn x last M × ((l : IsLoading x M) (s : ℕ) (m : Node) → has (l.store ∷ l.rest) s ≡ true →
+    M.nodes s ≡ Some m → holder_of (object x) m.disk.store ≡ None → HasState x last m)

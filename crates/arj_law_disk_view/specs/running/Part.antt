@@ -44,7 +44,14 @@ going_of e k d t did = record { event = e; node = k; disk = d; before = t; outs 
 
 -- a node's tick
 abbrev pub ticking : ℕ → ℕ → Disk → Parts → Going
-ticking e k d t = record { event = e; node = k; disk = d; before = t; outs = tick_outs (record { number = k; disk = d; live = Some t }) t; after = with_coord t (again_all t.coord.doings t.coord).part }
+ticking e k d t = record {
+  event = e;
+  node = k;
+  disk = d;
+  before = t;
+  outs = tick_outs (record { number = k; disk = d; live = Some t }) t;
+  after = with_coord t (again_all t.coord.doings t.coord).part;
+}
 
 -- ---- what is kept
 
@@ -74,17 +81,32 @@ are_recorded intents z = list_any (λ (e : Uid × Intent). uid_number e.0 == z) 
 -- The relation is kept by lines, by a node that stops, and by each handler; with a message to naming it gives what a Record and a new
 -- Confirm count on; and of each commit that is past its votes it gives that it may begin.
 pub record KeepsPart (hd : Header) (x : ℕ) (R : World → Seen → Type 0) (P : Kinds → Office → Seen → Type 0) : Type 0 where
-  pub quiet : (tops : Kinds) (e : ℕ) (bs : List Body) (M : Seen) (A : Office) → tops.walk ≡ None → AreQuiet bs → R A.world M → SeesBoth x tops A M → P tops A M → HoldsFrom P x tops Quietly A (said e bs M)
-  pub stop : (tops : Kinds) (e k : ℕ) (d : Disk) (live : Option Parts) (M : Seen) (A : Office) → tops.walk ≡ None → R A.world (at k d live M) → SeesBoth x tops A (at k d live M) → P tops A (at k d live M) → HoldsFrom P x tops Quietly A (halted e k d M)
-  pub message : (tops : Kinds) (e k : ℕ) (d : Disk) (t v : Parts) (from : ℕ) (m : Message) (outs : List Effect) (M : Seen) (A : Office) → tops.walk ≡ None → KnowsNode tops k d t M → R A.world (up k d t M)
-      → In (record { from = from; to = k; message = m }) M.sent → is_meant t m ≡ true → handle k d t from m ≡ Took v outs → AreOfTops tops m → IsOwnVote m → SeesBoth x tops A (up k d t M) → P tops A (up k d t M)
-      → (h : HasHeard P x tops (change_by x d t m) A (record { event = e; node = k; disk = d; before = t; outs = outs; after = v }, M)) × MayGoOn x h.office v.coord × ((n : Naming) → t.naming ≡ Some n → MayRecord x d n m h.office × IsForGrants x d n m h.office)
-  pub act : (tops : Kinds) (e k : ℕ) (d : Disk) (t : Parts) (i : Input) (M : Seen) (A : Office) → tops.walk ≡ None → KnowsNode tops k d t M → R A.world (up k d t M) → is_act i ≡ true → refusal_up hd i t.coord ≡ None → SeesBoth x tops A (up k d t M) → P tops A (up k d t M)
-      → (h : HasHeard P x tops Quietly A (going_of e k d t (acts i d.intents t.coord), M)) × MayGoOn x h.office (let did = acts i d.intents t.coord in did.part)
-  pub begin : (tops : Kinds) (e k : ℕ) (d : Disk) (t : Parts) (l : Label) (how : Kind) (parent : Option Label) (M : Seen) (A : Office) → tops.walk ≡ None → KnowsNode tops k d t M → R A.world (up k d t M)
-      → label_at l M.labels ≡ None → MayGive M.labels k how parent → begin_refusal how t.coord parent ≡ None → IsOfKind tops (next_uid t.coord.tree) how (path_below how (parent_of parent t.coord) (next_uid t.coord.tree)) → SeesBoth x tops A (up k d t M) → P tops A (up k d t M)
-      → HoldsAlong (HoldsFrom P x tops Quietly A) (going_of e k d t (begin_action l how parent (parent_of parent t.coord) t.coord)) (given l (record { node = k; serial = is_serial_kind how }) M)
-  pub tick : (tops : Kinds) (e k : ℕ) (d : Disk) (t : Parts) (M : Seen) (A : Office) → tops.walk ≡ None → KnowsNode tops k d t M → R A.world (up k d t M) → SeesBoth x tops A (up k d t M) → P tops A (up k d t M) → HoldsAlong (HoldsFrom P x tops Quietly A) (ticking e k d t) M
-  pub restart : (tops : Kinds) (e k : ℕ) (d : Disk) (M : Seen) (A : Office) → tops.walk ≡ None → R A.world (down k d M) → SeesBoth x tops A (down k d M) → P tops A (down k d M)
-      → Walks (HoldsAgain P x tops (are_recorded d.intents) A) e k (restart_outs hd k (d.inc + 1) d) (Up (HoldsAgain P x tops (are_recorded d.intents) A) k (parts_in k (d.inc + 1) d)) d M
-  pub first : (tops : Kinds) → tops.walk ≡ None → KnowsKinds tops → (A : Office) × SeesBoth x tops A (see [] (format hd)) × P tops A (see [] (format hd)) × (A.world.disk.tops ≡ []) × ((t : ℕ) → A.world.disk.bare t ≡ false)
+  pub quiet : (tops : Kinds) (e : ℕ) (bs : List Body) (M : Seen) (A : Office) → tops.walk ≡ None → AreQuiet bs → R A.world M →
+      SeesBoth x tops A M → P tops A M → HoldsFrom P x tops Quietly A (said e bs M)
+  pub stop : (tops : Kinds) (e k : ℕ) (d : Disk) (live : Option Parts) (M : Seen) (A : Office) → tops.walk ≡ None → R A.world
+      (at k d live M) → SeesBoth x tops A (at k d live M) → P tops A (at k d live M) → HoldsFrom P x tops Quietly A (halted e k d M)
+  pub message : (tops : Kinds) (e k : ℕ) (d : Disk) (t v : Parts) (from : ℕ) (m : Message) (outs : List Effect) (M : Seen) (A : Office) →
+      tops.walk ≡ None → KnowsNode tops k d t M → R A.world (up k d t M)
+      → In (record { from = from; to = k; message = m }) M.sent → is_meant t m ≡ true → handle k d t from m ≡ Took v outs →
+      AreOfTops tops m → IsOwnVote m → SeesBoth x tops A (up k d t M) → P tops A (up k d t M)
+      → (h : HasHeard P x tops (change_by x d t m) A (record { event = e; node = k; disk = d; before = t; outs = outs; after = v }, M))
+      × MayGoOn x h.office v.coord × ((n : Naming) → t.naming ≡ Some n → MayRecord x d n m h.office × IsForGrants x d n m h.office)
+  pub act : (tops : Kinds) (e k : ℕ) (d : Disk) (t : Parts) (i : Input) (M : Seen) (A : Office) → tops.walk ≡ None → KnowsNode tops k d t M
+      → R A.world (up k d t M) → is_act i ≡ true → refusal_up hd i t.coord ≡ None → SeesBoth x tops A (up k d t M) → P tops A (up k d t M)
+      → (h : HasHeard P x tops Quietly A (going_of e k d t (acts i d.intents t.coord), M))
+      × MayGoOn x h.office (let did = acts i d.intents t.coord in did.part)
+  pub begin : (tops : Kinds) (e k : ℕ) (d : Disk) (t : Parts) (l : Label) (how : Kind) (parent : Option Label) (M : Seen) (A : Office) →
+      tops.walk ≡ None → KnowsNode tops k d t M → R A.world (up k d t M)
+      → label_at l M.labels ≡ None → MayGive M.labels k how parent → begin_refusal how t.coord parent ≡ None →
+      IsOfKind tops (next_uid t.coord.tree) how (path_below how (parent_of parent t.coord) (next_uid t.coord.tree)) →
+      SeesBoth x tops A (up k d t M) → P tops A (up k d t M)
+      → HoldsAlong (HoldsFrom P x tops Quietly A) (going_of e k d t (begin_action l how parent (parent_of parent t.coord) t.coord))
+      (given l (record { node = k; serial = is_serial_kind how }) M)
+  pub tick : (tops : Kinds) (e k : ℕ) (d : Disk) (t : Parts) (M : Seen) (A : Office) → tops.walk ≡ None → KnowsNode tops k d t M → R A.world
+      (up k d t M) → SeesBoth x tops A (up k d t M) → P tops A (up k d t M) → HoldsAlong (HoldsFrom P x tops Quietly A) (ticking e k d t) M
+  pub restart : (tops : Kinds) (e k : ℕ) (d : Disk) (M : Seen) (A : Office) → tops.walk ≡ None → R A.world (down k d M) →
+      SeesBoth x tops A (down k d M) → P tops A (down k d M)
+      → Walks (HoldsAgain P x tops (are_recorded d.intents) A) e k (restart_outs hd k (d.inc + 1) d)
+      (Up (HoldsAgain P x tops (are_recorded d.intents) A) k (parts_in k (d.inc + 1) d)) d M
+  pub first : (tops : Kinds) → tops.walk ≡ None → KnowsKinds tops → (A : Office) × SeesBoth x tops A (see [] (format hd))
+      × P tops A (see [] (format hd)) × (A.world.disk.tops ≡ []) × ((t : ℕ) → A.world.disk.bare t ≡ false)

@@ -37,7 +37,8 @@ IsCallRow acts r = (a : Action) × Contains acts a × (r.holder ≡ uids_of a.pa
 
 -- a path of which each Uid counts: an action that was begun alone, or a constituent behind its serializing action
 abbrev pub IsTopPath : List Action → List Uid → ℕ → Type 0
-IsTopPath acts us tops = ((u : Uid) × IsBegun acts u × (us ≡ u ∷ []) × (tops ≡ 1)) ⊎ ((a : Action) × Contains acts a × (a.kind ≡ kind.Constituent) × (us ≡ uids_of a.path) × (tops ≡ 2))
+IsTopPath acts us tops = ((u : Uid) × IsBegun acts u × (us ≡ u ∷ []) × (tops ≡ 1))
+    ⊎ ((a : Action) × Contains acts a × (a.kind ≡ kind.Constituent) × (us ≡ uids_of a.path) × (tops ≡ 2))
 
 -- by such a path is a lock on an entry
 abbrev pub IsEntryRow : List Action → Row → Type 0

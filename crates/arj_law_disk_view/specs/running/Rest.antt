@@ -38,7 +38,9 @@ SeesCarried x tops A M = SeesHeard x tops A M × SeesDecided tops A M
 
 -- What naming counts on: of a new Confirm the locks of servers give that what its top wrote is the next version.
 pub record GivesNaming (x : ℕ) (R : World → Seen → Type 0) : Type 0 where
-  pub next : (tops : Kinds) (k : ℕ) (d : Disk) (t : Parts) (n : Naming) (from : ℕ) (m : Message) (h : Head) (grants : Grants) (excluded included : Marks) (M : Seen) (A : Office) → IsHeardAt x R tops A (k, d, t) M → In (record { from = from; to = k; message = m }) M.sent → t.naming ≡ Some n → asks m ≡ Some (h, ask.Confirm grants excluded included)
+  pub next : (tops : Kinds) (k : ℕ) (d : Disk) (t : Parts) (n : Naming) (from : ℕ) (m : Message) (h : Head) (grants : Grants)
+      (excluded included : Marks) (M : Seen) (A : Office) → IsHeardAt x R tops A (k, d, t) M →
+      In (record { from = from; to = k; message = m }) M.sent → t.naming ≡ Some n → asks m ≡ Some (h, ask.Confirm grants excluded included)
       → IsNewConfirm h.path grants excluded included d.names n → IsNext A.world.disk (uid_number (top_of h.path))
 
 -- the answer is to one whose commit is under way

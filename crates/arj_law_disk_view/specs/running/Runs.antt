@@ -26,14 +26,23 @@ HasNext x last m = (a : Uid) × (st : ObjectState) × HasPrepared a (object x) s
 -- that stores hold in one version both are one. Where an object or its entry is in doubt it is by one action, and no store has a
 -- version prepared that is below the one it holds.
 pub record AgreesOn (x : ℕ) (last : Packed) (M : Seen) : Type 0 where
-  pub listed : (n m : Node) (e : ObjectState) (s : ℕ) → M.nodes 1 ≡ Some n → holder_of (entry x) n.disk.names ≡ None → held_at (entry x) n.disk.names ≡ Some e → is_listed s (state_entry e).stores ≡ true → M.nodes s ≡ Some m → holder_of (object x) m.disk.store ≡ None → HasState x last m
-  pub kept : (n m : Node) (e : ObjectState) (s : ℕ) → M.nodes 1 ≡ Some n → holder_of (entry x) n.disk.names ≡ None → held_at (entry x) n.disk.names ≡ Some e → is_listed s (state_entry e).stores ≡ true → M.nodes s ≡ Some m → HasState x last m ⊎ HasNext x last m
-  pub stored : (n : Node) (e : ObjectState) → M.nodes 1 ≡ Some n → held_at (entry x) n.disk.names ≡ Some e → (s : ℕ) × (is_listed s (state_entry e).stores ≡ true)
-  pub below : (m : Node) (s : ℕ) (st : ObjectState) → M.nodes s ≡ Some m → held_at (object x) m.disk.store ≡ Some st → Below (packed st) last
-  pub one : (m n : Node) (s r : ℕ) (st su : ObjectState) → M.nodes s ≡ Some m → M.nodes r ≡ Some n → held_at (object x) m.disk.store ≡ Some st → held_at (object x) n.disk.store ≡ Some su → st.version ≡ su.version → packed st ≡ packed su
-  pub alone : (m : Node) (s : ℕ) (a b : Uid) (st su : ObjectState) → M.nodes s ≡ Some m → HasPrepared a (object x) st m.disk.store → HasPrepared b (object x) su m.disk.store → a ≡ b
-  pub changer : (n : Node) (a b : Uid) (st su : ObjectState) → M.nodes 1 ≡ Some n → HasPrepared a (entry x) st n.disk.names → HasPrepared b (entry x) su n.disk.names → a ≡ b
-  pub rises : (m : Node) (s : ℕ) (a : Uid) (st su : ObjectState) → M.nodes s ≡ Some m → held_at (object x) m.disk.store ≡ Some st → HasPrepared a (object x) su m.disk.store → Below (packed st) (packed su)
+  pub listed : (n m : Node) (e : ObjectState) (s : ℕ) → M.nodes 1 ≡ Some n → holder_of (entry x) n.disk.names ≡ None →
+      held_at (entry x) n.disk.names ≡ Some e → is_listed s (state_entry e).stores ≡ true → M.nodes s ≡ Some m →
+      holder_of (object x) m.disk.store ≡ None → HasState x last m
+  pub kept : (n m : Node) (e : ObjectState) (s : ℕ) → M.nodes 1 ≡ Some n → holder_of (entry x) n.disk.names ≡ None → held_at (entry x)
+      n.disk.names ≡ Some e → is_listed s (state_entry e).stores ≡ true → M.nodes s ≡ Some m → HasState x last m ⊎ HasNext x last m
+  pub stored : (n : Node) (e : ObjectState) → M.nodes 1 ≡ Some n → held_at (entry x) n.disk.names ≡ Some e →
+      (s : ℕ) × (is_listed s (state_entry e).stores ≡ true)
+  pub below : (m : Node) (s : ℕ) (st : ObjectState) → M.nodes s ≡ Some m → held_at (object x) m.disk.store ≡ Some st →
+      Below (packed st) last
+  pub one : (m n : Node) (s r : ℕ) (st su : ObjectState) → M.nodes s ≡ Some m → M.nodes r ≡ Some n → held_at (object x) m.disk.store
+      ≡ Some st → held_at (object x) n.disk.store ≡ Some su → st.version ≡ su.version → packed st ≡ packed su
+  pub alone : (m : Node) (s : ℕ) (a b : Uid) (st su : ObjectState) → M.nodes s ≡ Some m → HasPrepared a (object x) st m.disk.store →
+      HasPrepared b (object x) su m.disk.store → a ≡ b
+  pub changer : (n : Node) (a b : Uid) (st su : ObjectState) → M.nodes 1 ≡ Some n → HasPrepared a (entry x) st n.disk.names →
+      HasPrepared b (entry x) su n.disk.names → a ≡ b
+  pub rises : (m : Node) (s : ℕ) (a : Uid) (st su : ObjectState) → M.nodes s ≡ Some m → held_at (object x) m.disk.store ≡ Some st →
+      HasPrepared a (object x) su m.disk.store → Below (packed st) (packed su)
 
 -- there is such a last state
 abbrev pub CopiesAgree : ℕ → Seen → Type 0

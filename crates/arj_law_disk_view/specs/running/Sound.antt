@@ -98,7 +98,8 @@ pub record IsRootPath (t : Tree) (n : ℕ) (path : List Uid) : Type 0 where
 
 -- a call or an include under way is by a path of its root
 abbrev pub AreOnPaths : Coord → Type 0
-AreOnPaths c = (u : Uid) (q : Doing) (s : Steps) → doing_of u c ≡ Some q → q.now ≡ Calling s → IsRootPath c.tree (let root = root_of s.path in root.num) (uids_of s.path)
+AreOnPaths c = (u : Uid) (q : Doing) (s : Steps) → doing_of u c ≡ Some q → q.now ≡ Calling s →
+    IsRootPath c.tree (let root = root_of s.path in root.num) (uids_of s.path)
 
 -- What a root's includes loaded, and what its constituents changed, is of the object for which it stands; what it was answered is by
 -- its paths.
@@ -127,7 +128,8 @@ pub record AreSound (c : Coord) : Type 0 where
   pub works : (u : Uid) (q : Doing) → doing_of u c ≡ Some q → IsSoundNow q.now
   pub alone : (root u : Uid) → CommitsAt c root u → IsFirstAt c root u
   pub roots : AllByRecursion (λ (e : ℕ × Root). IsOwnRoot c.tree e.0 e.1) c.roots
-  pub includes : (u : Uid) (q : Doing) (m : commit.Machine) → doing_of u c ≡ Some q → q.now ≡ Committing m → AreIncluded (root_at (let p = commit.plan_of m in root_of p.path) c) (commit.plan_of m)
+  pub includes : (u : Uid) (q : Doing) (m : commit.Machine) → doing_of u c ≡ Some q → q.now ≡ Committing m →
+      AreIncluded (root_at (let p = commit.plan_of m in root_of p.path) c) (commit.plan_of m)
 
 -- the plan uses the object at this server
 pub record IsUsedAt (p : commit.Plan) (from x : ℕ) : Type 0 where
@@ -138,5 +140,7 @@ pub record IsUsedAt (p : commit.Plan) (from x : ℕ) : Type 0 where
 -- Of a vote that was sent and that a commit of this node waits for each state is of an object that the plan uses at the server
 -- which votes.
 abbrev pub VotesFit : ℕ → Parts → Seen → Type 0
-VotesFit k t M = (from : ℕ) (m : Message) (a : Asked) (states : List ObjectState) → seen.In (record { from = from; to = k; message = m }) M.sent → answers m ≡ Some (a, Reply.Voted (voted.Yes states))
-    → (q : Doing) (p : commit.Plan) (left : List ℕ) → doing_of a.act t.coord ≡ Some q → q.now ≡ Committing (commit.Voting p left) → p.req ≡ a.req → order.has left from ≡ true → (s : ObjectState) → Among s states → IsUsedAt p from (let u = s.uid in u.num)
+VotesFit k t M = (from : ℕ) (m : Message) (a : Asked) (states : List ObjectState) →
+    seen.In (record { from = from; to = k; message = m }) M.sent → answers m ≡ Some (a, Reply.Voted (voted.Yes states))
+    → (q : Doing) (p : commit.Plan) (left : List ℕ) → doing_of a.act t.coord ≡ Some q → q.now ≡ Committing (commit.Voting p left) →
+    p.req ≡ a.req → order.has left from ≡ true → (s : ObjectState) → Among s states → IsUsedAt p from (let u = s.uid in u.num)

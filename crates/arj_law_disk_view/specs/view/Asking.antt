@@ -62,7 +62,8 @@ pub record IsUnanswered (p : commit.Plan) : Type 0 where
 
 -- the prepare step begins with all targets
 abbrev pub PreparesBegin : Type 0
-PreparesBegin = (x : ℕ) (W : World) (t : ℕ) (p : commit.Plan) (nodes : List ℕ) → Fresh W.disk → CanBegin W.disk t (plan_at x p) → IsTidy p → IsUnanswered p
+PreparesBegin = (x : ℕ) (W : World) (t : ℕ) (p : commit.Plan) (nodes : List ℕ) → Fresh W.disk → CanBegin W.disk t (plan_at x p) → IsTidy p →
+    IsUnanswered p
     → TopGoes t (λ S. SeesPreparing x S t (commit.further nodes p) (targets_of p)) W
 
 -- a Yes is taken
@@ -78,7 +79,8 @@ DoubtIsMarked = (x : ℕ) (S : State) (t s : ℕ) (p : commit.Plan) (left : List
 
 -- all stores that are given up are marked
 abbrev pub SilentAreMarked : Type 0
-SilentAreMarked = (x : ℕ) (S : State) (t : ℕ) (p : commit.Plan) (left : List ℕ) → SeesPreparing x S t p left → SeesPreparing x S t (marks_stores left p) []
+SilentAreMarked = (x : ℕ) (S : State) (t : ℕ) (p : commit.Plan) (left : List ℕ) → SeesPreparing x S t p left →
+    SeesPreparing x S t (marks_stores left p) []
 
 -- with the last answer the step ends
 abbrev pub PreparesEnd : Type 0

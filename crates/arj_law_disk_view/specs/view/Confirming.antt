@@ -31,7 +31,8 @@ AreNew (s ∷ ss) stores = (is_listed s stores ≡ false) × AreNew ss stores
 
 -- the list that naming makes is the machine's
 abbrev pub ListsAreSeen : Type 0
-ListsAreSeen = (x : ℕ) (p : Plan) (got : ℕ → Bool) (grants : Grants) (excluded included : Marks) (e : Entry) → SaysMarks x p got grants excluded included
+ListsAreSeen = (x : ℕ) (p : Plan) (got : ℕ → Bool) (grants : Grants) (excluded included : Marks) (e : Entry) →
+    SaysMarks x p got grants excluded included
     → AreNew (marked x included) e.stores → stores_after x excluded included e ≡ list_after p got e.stores
 
 -- the entry that is held isn't of the last version
@@ -42,27 +43,33 @@ FitsVersion e = e.version < 18446744073709551615
 
 -- with its new entry prepared
 abbrev pub EnteringKeeps : Type 0
-EnteringKeeps = (x : ℕ) (d : Pair) (S : State) (top : Uid) (states : List ObjectState) (st : ObjectState) (s : ℕ) → SeesEntry x d S → is_prepared top d ≡ false → S.entry_pend ≡ None → S.begun (uid_number top) ≡ true
-    → target (S.plan (uid_number top)) s ≡ true → IsOf (entry x) states st → AreOne packed_entry (entry x) states (entry_hold S (uid_number top)).new
+EnteringKeeps = (x : ℕ) (d : Pair) (S : State) (top : Uid) (states : List ObjectState) (st : ObjectState) (s : ℕ) → SeesEntry x d S →
+    is_prepared top d ≡ false → S.entry_pend ≡ None → S.begun (uid_number top) ≡ true
+    → target (S.plan (uid_number top)) s ≡ true → IsOf (entry x) states st →
+    AreOne packed_entry (entry x) states (entry_hold S (uid_number top)).new
     → SeesEntry x (pair_prepared top states d) (changed S (Enter (uid_number top)))
 
 -- with entries of other objects prepared, at the same work of the disk
 abbrev pub AgreeingKeeps : Type 0
-AgreeingKeeps = (x : ℕ) (d : Pair) (S : State) (top : Uid) (states : List ObjectState) → SeesEntry x d S → is_prepared top d ≡ false → S.begun (uid_number top) ≡ true → HasNone (entry x) states
+AgreeingKeeps = (x : ℕ) (d : Pair) (S : State) (top : Uid) (states : List ObjectState) → SeesEntry x d S → is_prepared top d ≡ false →
+    S.begun (uid_number top) ≡ true → HasNone (entry x) states
     → SeesEntry x (pair_prepared top states d) (changed S (Agree (uid_number top)))
 
 -- a top that has no part in the entry passes
 abbrev pub PassingKeeps : Type 0
-PassingKeeps = (x : ℕ) (d : Pair) (S : State) (top : Uid) (states : List ObjectState) → SeesEntry x d S → is_prepared top d ≡ false → S.begun (uid_number top) ≡ true → HasNone (entry x) states
+PassingKeeps = (x : ℕ) (d : Pair) (S : State) (top : Uid) (states : List ObjectState) → SeesEntry x d S → is_prepared top d ≡ false →
+    S.begun (uid_number top) ≡ true → HasNone (entry x) states
     → SeesEntry x (pair_prepared top states d) (changed S (Pass (uid_number top)))
 
 -- with no entry to prepare
 abbrev pub QuietConfirmsKeep : Type 0
-QuietConfirmsKeep = (x : ℕ) (d : Pair) (S : State) (t : ℕ) → SeesEntry x d S → SeesEntry x d (changed S (Agree t)) × SeesEntry x d (changed S (Pass t))
+QuietConfirmsKeep = (x : ℕ) (d : Pair) (S : State) (t : ℕ) → SeesEntry x d S →
+    SeesEntry x d (changed S (Agree t)) × SeesEntry x d (changed S (Pass t))
 
 -- what is prepared may be answered Yes again
 abbrev pub PreparedIsTaken : Type 0
-PreparedIsTaken = (x : ℕ) (d : Pair) (W : World) (top : Uid) → SeesEntry x d W.disk → is_prepared top d ≡ true → In (mail.Confirm (uid_number top)) W.sent → MaySend W (mail.Confirmed (uid_number top))
+PreparedIsTaken = (x : ℕ) (d : Pair) (W : World) (top : Uid) → SeesEntry x d W.disk → is_prepared top d ≡ true →
+    In (mail.Confirm (uid_number top)) W.sent → MaySend W (mail.Confirmed (uid_number top))
 
 -- What a confirmation counts on of naming's locks, where it is new: no store that the top has marked stands in another top's
 -- prepared entry; where the top wrote or changes the list, it is the only one that may change the object now; and it wasn't
@@ -92,5 +99,6 @@ with_locks p grants excluded d n = let l = lock_all (wanted (top_of p) grants ex
 -- Naming's part where the machine confirms nothing: it refused, after it has taken the exclude locks or before, or it answered
 -- Yes again.
 abbrev pub IsUnconfirmed : Path → Grants → Marks → Marks → Pair → Naming → Naming → Type 0
-IsUnconfirmed p grants excluded included d n o = (o ≡ n) ⊎ ((o ≡ with_locks p grants excluded d n) × IsNewConfirm p grants excluded included d n)
+IsUnconfirmed p grants excluded included d n o =
+    (o ≡ n) ⊎ ((o ≡ with_locks p grants excluded d n) × IsNewConfirm p grants excluded included d n)
     ⊎ ((o ≡ confirms (top_of p) n) × ((is_on n.confirmed (top_of p) || is_prepared (top_of p) d) ≡ true) × (is_over p n ≡ false))

@@ -17,8 +17,10 @@ use Rattle.arj_law_disk_view.specs.view.Stores.{SeesStore, OnlyStore, ClaimsComm
 pub record SeesEntry (x : ℕ) (d : Pair) (S : State) : Type 0 where
   pub pair : SeesPair packed_entry (entry x) d (Some S.entry) S.entry_pend
   pub begun : (a : Uid) (states : List ObjectState) → at_uid a d.pend ≡ Some states → S.begun (uid_number a) ≡ true
-  pub taken : (a : Uid) (states : List ObjectState) → at_uid a d.pend ≡ Some states → undecided S (uid_number a) ≡ true → (S.conf (uid_number a) ≡ true) ⊎ (S.light (uid_number a) ≡ true)
-  pub aimed : (a : Uid) (states : List ObjectState) (st : ObjectState) → at_uid a d.pend ≡ Some states → IsOf (entry x) states st → (s : ℕ) × (target (S.plan (uid_number a)) s ≡ true)
+  pub taken : (a : Uid) (states : List ObjectState) → at_uid a d.pend ≡ Some states → undecided S (uid_number a) ≡ true →
+      (S.conf (uid_number a) ≡ true) ⊎ (S.light (uid_number a) ≡ true)
+  pub aimed : (a : Uid) (states : List ObjectState) (st : ObjectState) → at_uid a d.pend ≡ Some states → IsOf (entry x) states st →
+      (s : ℕ) × (target (S.plan (uid_number a)) s ≡ true)
 
 -- nothing but the entry is changed
 pub record OnlyEntry (W V : World) : Type 0 where
@@ -37,19 +39,23 @@ pub record EntryGoes (x : ℕ) (d : Pair) (W : World) : Type 0 where
 
 -- an action that is told to commit moves its entry to its place, and then finishes; stopped in part it has moved it or hasn't
 abbrev pub EntriesCommit : Type 0
-EntriesCommit = (x : ℕ) (d : Pair) (W : World) (a : Uid) → Bare W.disk → SeesEntry x d W.disk → ClaimsCommit W a naming → is_prepared a d ≡ true → EntryGoes x (pair_committed a d) W
+EntriesCommit = (x : ℕ) (d : Pair) (W : World) (a : Uid) → Bare W.disk → SeesEntry x d W.disk → ClaimsCommit W a naming →
+    is_prepared a d ≡ true → EntryGoes x (pair_committed a d) W
 
 -- stopped in part, an action's entry has moved or hasn't
 abbrev pub EntriesStopInPart : Type 0
-EntriesStopInPart = (x : ℕ) (d : Pair) (W : World) (a : Uid) (which : Uid → Bool) → Bare W.disk → SeesEntry x d W.disk → ClaimsCommit W a naming → is_prepared a d ≡ true → EntryGoes x (pair_in_part which a d) W
+EntriesStopInPart = (x : ℕ) (d : Pair) (W : World) (a : Uid) (which : Uid → Bool) → Bare W.disk → SeesEntry x d W.disk →
+    ClaimsCommit W a naming → is_prepared a d ≡ true → EntryGoes x (pair_in_part which a d) W
 
 -- an action that is told to abort drops its entry
 abbrev pub EntriesAbort : Type 0
-EntriesAbort = (x : ℕ) (d : Pair) (W : World) (a : Uid) → SeesEntry x d W.disk → In (mail.ToldAbort (uid_number a) naming) W.sent → is_prepared a d ≡ true → EntryGoes x (pair_aborted a d) W
+EntriesAbort = (x : ℕ) (d : Pair) (W : World) (a : Uid) → SeesEntry x d W.disk → In (mail.ToldAbort (uid_number a) naming) W.sent →
+    is_prepared a d ≡ true → EntryGoes x (pair_aborted a d) W
 
 -- with the end of a serializing action the entries of its constituents go
 abbrev pub EntriesForget : Type 0
-EntriesForget = (x : ℕ) (d : Pair) (W : World) (a : Uid) (r : ℕ) → SeesEntry x d W.disk → In (mail.ToldSerial r naming) W.sent → W.disk.root (uid_number a) ≡ r → EntryGoes x (pair_aborted a d) W
+EntriesForget = (x : ℕ) (d : Pair) (W : World) (a : Uid) (r : ℕ) → SeesEntry x d W.disk → In (mail.ToldSerial r naming) W.sent →
+    W.disk.root (uid_number a) ≡ r → EntryGoes x (pair_aborted a d) W
 
 -- the stores are seen as they were, and so is the entry under a store's work
 abbrev pub StoresStayByEntry : Type 0

@@ -23,7 +23,8 @@ use Rattle.arj_law_disk_view.specs.view.Sees.{Kinds, AreOneChange}
 pub record KnowsKinds (tops : Kinds) : Type 0 where
   pub named : (z : ℕ) → tops.is_top z ≡ true → (w : Uid) × (uid_number w ≡ z)
   pub apart : (z : ℕ) → tops.is_top z ≡ true → tops.is_serial z ≡ false
-  pub serial : (w r : Uid) → tops.is_top (uid_number w) ≡ true → tops.root (uid_number w) ≡ uid_number r → w ≢ r → (tops.is_top (uid_number r) ≡ false) × (tops.is_serial (uid_number r) ≡ true)
+  pub serial : (w r : Uid) → tops.is_top (uid_number w) ≡ true → tops.root (uid_number w) ≡ uid_number r → w ≢ r →
+      (tops.is_top (uid_number r) ≡ false) × (tops.is_serial (uid_number r) ≡ true)
   pub own : (w r : Uid) → tops.is_top (uid_number w) ≡ true → tops.root (uid_number w) ≡ uid_number r → (w.node ≡ r.node) × (w.inc ≡ r.inc)
   pub rooted : (w : Uid) → tops.is_top (uid_number w) ≡ true → (r : Uid) × (tops.root (uid_number w) ≡ uid_number r)
   pub alone : (z : ℕ) → tops.is_serial z ≡ true → tops.root z ≡ z
@@ -32,9 +33,11 @@ pub record KnowsKinds (tops : Kinds) : Type 0 where
 
 -- An action's path by its kind: tops that are no constituents and serializing actions are their own roots.
 abbrev pub IsOfKind : Kinds → Uid → Kind → Path → Type 0
-IsOfKind tops u kind.Nested p = (tops.is_top (uid_number u) ≡ false) × (tops.is_serial (uid_number u) ≡ false) × (nat_le (length (uids_of p)) 1 ≡ false)
+IsOfKind tops u kind.Nested p =
+    (tops.is_top (uid_number u) ≡ false) × (tops.is_serial (uid_number u) ≡ false) × (nat_le (length (uids_of p)) 1 ≡ false)
 IsOfKind tops u kind.Serial p = (tops.is_top (uid_number u) ≡ false) × (tops.is_serial (uid_number u) ≡ true) × (uids_of p ≡ u ∷ [])
-IsOfKind tops u kind.Constituent p = (tops.is_top (uid_number u) ≡ true) × (tops.is_serial (uid_number u) ≡ false) × (uids_of p ≡ root_of p ∷ u ∷ [])
+IsOfKind tops u kind.Constituent p =
+    (tops.is_top (uid_number u) ≡ true) × (tops.is_serial (uid_number u) ≡ false) × (uids_of p ≡ root_of p ∷ u ∷ [])
 IsOfKind tops u _ p = (tops.is_top (uid_number u) ≡ true) × (tops.is_serial (uid_number u) ≡ false) × (uids_of p ≡ u ∷ [])
 
 -- The plan of a top's commit is by its path, and tidy.
@@ -80,7 +83,8 @@ pub record IsOpenSerial (c : Coord) (u : Uid) : Type 0 where
 
 -- the action is at its commit here, and this is its root
 abbrev pub CommitsAt : Coord → Uid → Uid → Type 0
-CommitsAt c root u = (q : Doing) × (m : commit.Machine) × (doing_of u c ≡ Some q) × (q.now ≡ Committing m) × (root_of (let p = commit.plan_of m in p.path) ≡ root)
+CommitsAt c root u = (q : Doing) × (m : commit.Machine) × (doing_of u c ≡ Some q) × (q.now ≡ Committing m)
+    × (root_of (let p = commit.plan_of m in p.path) ≡ root)
 
 -- if an action of this root is at its commit here, then it is this one
 abbrev pub IsFirstAt : Coord → Uid → Uid → Type 0
@@ -106,19 +110,26 @@ pub record HasIncluded (r : Root) (p : commit.Plan) (x : ℕ) : Type 0 where
 pub record KnowsCoord (tops : Kinds) (intents : List (Uid × Intent)) (c : Coord) : Type 0 where
   pub path : (u : Uid) (b : tree.Branch) → branch_of u c.tree ≡ Some b → actor b.path ≡ u
   pub kind : (u : Uid) (b : tree.Branch) → branch_of u c.tree ≡ Some b → IsOfKind tops u b.kind b.path
-  pub root : (u : Uid) (b : tree.Branch) → branch_of u c.tree ≡ Some b → tops.is_top (uid_number u) ≡ true → tops.root (uid_number u) ≡ uid_number (root_of b.path)
+  pub root : (u : Uid) (b : tree.Branch) → branch_of u c.tree ≡ Some b → tops.is_top (uid_number u) ≡ true →
+      tops.root (uid_number u) ≡ uid_number (root_of b.path)
   pub headed : (u : Uid) (b : tree.Branch) → branch_of u c.tree ≡ Some b → is_on (uids_of b.path) (root_of b.path) ≡ true
-  pub stem : (u : Uid) (b : tree.Branch) → branch_of u c.tree ≡ Some b → is_constituent b.kind ≡ true → (r : tree.Branch) × (branch_of (root_of b.path) c.tree ≡ Some r)
+  pub stem : (u : Uid) (b : tree.Branch) → branch_of u c.tree ≡ Some b → is_constituent b.kind ≡ true →
+      (r : tree.Branch) × (branch_of (root_of b.path) c.tree ≡ Some r)
   pub at_work : (u : Uid) (b : tree.Branch) → branch_of u c.tree ≡ Some b → (q : Doing) × (doing_of u c ≡ Some q)
   pub unrecorded : (u : Uid) → is_open u c.tree ≡ true → at_uid u intents ≡ None
   pub awaited : (u : Uid) (j : Intent) → at_uid u c.telling ≡ Some j → (i : Intent) × (at_uid u intents ≡ Some i)
-  pub rooted : (u : Uid) (i : Intent) → at_uid u intents ≡ Some i → tops.is_top (uid_number u) ≡ true → tops.root (uid_number u) ≡ uid_number i.root
+  pub rooted : (u : Uid) (i : Intent) → at_uid u intents ≡ Some i → tops.is_top (uid_number u) ≡ true →
+      tops.root (uid_number u) ≡ uid_number i.root
   pub machines : (u : Uid) (q : Doing) (m : commit.Machine) → doing_of u c ≡ Some q → q.now ≡ Committing m → KnowsMachine tops c u m
-  pub starts : (u : Uid) (b : tree.Branch) (req : ℕ) → branch_of u c.tree ≡ Some b → tops.is_top (uid_number u) ≡ true → KnowsPlan u (plan_for b.path req (root_at (root_of b.path) c) c)
-  pub above : (u : Uid) (b : tree.Branch) → branch_of u c.tree ≡ Some b → b.ended ≡ None → is_constituent b.kind ≡ true → IsOpenSerial c (root_of b.path)
+  pub starts : (u : Uid) (b : tree.Branch) (req : ℕ) → branch_of u c.tree ≡ Some b → tops.is_top (uid_number u) ≡ true →
+      KnowsPlan u (plan_for b.path req (root_at (root_of b.path) c) c)
+  pub above : (u : Uid) (b : tree.Branch) → branch_of u c.tree ≡ Some b → b.ended ≡ None → is_constituent b.kind ≡ true →
+      IsOpenSerial c (root_of b.path)
   pub steps : (u : Uid) (q : Doing) (s : Steps) → doing_of u c ≡ Some q → q.now ≡ Calling s → KnowsSteps c u s
   pub alone : (root u : Uid) → CommitsAt c root u → IsFirstAt c root u
   pub as_long : length c.doings ≡ length c.tree.branches
   pub telling_there : AllByRecursion (λ (e : Uid × Intent). (i : Intent) × (at_uid e.0 intents ≡ Some i)) c.telling
   pub said : (root : Uid) (s : Said) → is_own root c.tree ≡ true → Contains (let r = root_at root c in r.said) s → IsFromRoot root s.path
-  pub includes : (u : Uid) (q : Doing) (m : commit.Machine) → doing_of u c ≡ Some q → q.now ≡ Committing m → (v : commit.Used) → Uses v (let p = commit.plan_of m in p.used) → commit.is_empty v.joins ≡ false → HasIncluded (root_at (let p = commit.plan_of m in root_of p.path) c) (commit.plan_of m) v.x
+  pub includes : (u : Uid) (q : Doing) (m : commit.Machine) → doing_of u c ≡ Some q → q.now ≡ Committing m → (v : commit.Used) →
+      Uses v (let p = commit.plan_of m in p.used) → commit.is_empty v.joins ≡ false →
+      HasIncluded (root_at (let p = commit.plan_of m in root_of p.path) c) (commit.plan_of m) v.x

@@ -54,7 +54,8 @@ pub record SeesPair (pack : ObjectState → Packed) (u : Uid) (d : Pair) (held :
   pub keyed : (w : Uid) (s : ObjectState) → held_at w d ≡ Some s → s.uid ≡ w
   pub held_is : option_map pack (held_at u d) ≡ held
   pub holder : (h : Hold) → pend ≡ Some h → Holder pack u d h
-  pub held_by : (a : Uid) (states : List ObjectState) (s : ObjectState) → at_uid a d.pend ≡ Some states → IsOf u states s → pend ≡ Some (hold_of pack a s)
+  pub held_by : (a : Uid) (states : List ObjectState) (s : ObjectState) → at_uid a d.pend ≡ Some states → IsOf u states s →
+      pend ≡ Some (hold_of pack a s)
 
 -- the states of the object in a list are one
 abbrev pub AreOne : (ObjectState → Packed) → Uid → List ObjectState → Packed → Type 0

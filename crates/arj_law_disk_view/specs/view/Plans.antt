@@ -58,7 +58,8 @@ pub record IsTidy (p : commit.Plan) : Type 0 where
 
 -- what a plan sends to a store is planned
 abbrev pub StatesArePlanned : Type 0
-StatesArePlanned = (x s : ℕ) (S : State) (a : Uid) (p : commit.Plan) → IsTidy p → S.begun (uid_number a) ≡ true → S.plan (uid_number a) ≡ plan_at x p → IsPlanned x S a s (states_for s p)
+StatesArePlanned = (x s : ℕ) (S : State) (a : Uid) (p : commit.Plan) → IsTidy p → S.begun (uid_number a) ≡ true →
+    S.plan (uid_number a) ≡ plan_at x p → IsPlanned x S a s (states_for s p)
 
 -- the prepare step asks each store to which a state is sent
 abbrev pub TargetsAreAsked : Type 0

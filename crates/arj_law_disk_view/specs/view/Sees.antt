@@ -1,7 +1,8 @@
 -- The disk half of the view, whole: each place of the machine tied to the world, and what each message claims.
 use Rattle.std.specs.Prelude.{⊤, ◌≡◌, ◌⊎◌, ◌<◌, ℕ, Bool, true, false, List, ◌++◌, length, Option, Some, None, ◌==◌, ◌∷◌}
 use Rattle.std.specs.List.{list_any, AllByRecursion}
-use Rattle.arj_protocol.specs.Words.{Uid, End, Kind, Line, Body, ObjectState, Head, Asked, Ask, asks, Message, uid_eq, is_on, object, PreparedReply}
+use Rattle.arj_protocol.specs.Words.{Uid, End, Kind, Line, Body, ObjectState, Head, Asked, Ask, asks, Message, uid_eq, is_on, object}
+use Rattle.arj_protocol.specs.Words.{PreparedReply}
 use Rattle.arj_protocol.specs.Words.ask
 use Rattle.arj_protocol.specs.Words.body
 use Rattle.arj_protocol.specs.Words.kind
@@ -90,12 +91,14 @@ pub record ClaimsConfirm (x : ℕ) (W : World) (t : ℕ) (grants excluded includ
 -- what a request claims: a Prepare and a Confirm alone
 abbrev pub ClaimsAsk : ℕ → World → ℕ → Head → Ask → Type 0
 ClaimsAsk x W to h (ask.Prepare states) = ClaimsPrepare x W (actor h.path) to states
-ClaimsAsk x W to h (ask.Confirm grants excluded included) = (actor h.path ≡ top_of h.path) × ClaimsConfirm x W (uid_number (top_of h.path)) grants excluded included
+ClaimsAsk x W to h (ask.Confirm grants excluded included) =
+    (actor h.path ≡ top_of h.path) × ClaimsConfirm x W (uid_number (top_of h.path)) grants excluded included
 ClaimsAsk x W to h _ = ⊤
 
 -- what an answer claims: that a state is prepared, that the top is confirmed, that a loaded state was the last one once
 abbrev pub ClaimsReply : ℕ → World → ℕ → Uid → Reply → Type 0
-ClaimsReply x W from u (Reply.Prepared prepared.Yes) = (W.disk.begun (uid_number u) ≡ true) × (target (W.disk.plan (uid_number u)) from ≡ true → In (mail.Prepared (uid_number u) from) W.sent)
+ClaimsReply x W from u (Reply.Prepared prepared.Yes) =
+    (W.disk.begun (uid_number u) ≡ true) × (target (W.disk.plan (uid_number u)) from ≡ true → In (mail.Prepared (uid_number u) from) W.sent)
 ClaimsReply x W from u (Reply.Confirmed confirmed.Yes) = In (mail.Confirmed (uid_number u)) W.sent
 ClaimsReply x W from u (Reply.Loaded (loaded.State st)) = st.uid ≡ object x → Known W.disk (packed st)
 ClaimsReply x W from u _ = ⊤
@@ -107,7 +110,8 @@ IsNested tops t = (tops.is_top t ≡ false) × (tops.is_serial t ≡ false)
 -- An end: of a top, of a serializing action, or of a nested action, which has nothing prepared.
 abbrev pub ClaimsEnd : Kinds → World → ℕ → Uid × End → Type 0
 ClaimsEnd tops W to (u, ending.Commit) = ClaimsCommit W u to ⊎ IsNested tops (uid_number u)
-ClaimsEnd tops W to (u, ending.Abort) = ((tops.is_top (uid_number u) ≡ true) × ClaimsAbort W u to) ⊎ (((W.disk.serial (uid_number u) ≡ true) × In (mail.ToldSerial (uid_number u) to) W.sent) ⊎ IsNested tops (uid_number u))
+ClaimsEnd tops W to (u, ending.Abort) = ((tops.is_top (uid_number u) ≡ true) × ClaimsAbort W u to)
+    ⊎ (((W.disk.serial (uid_number u) ≡ true) × In (mail.ToldSerial (uid_number u) to) W.sent) ⊎ IsNested tops (uid_number u))
 
 -- where it is to be acknowledged, it is a commit with a record
 abbrev pub ClaimsLast : Kinds → World → ℕ → Bool → Option (Uid × End) → Type 0
@@ -158,15 +162,17 @@ pub record IsNamedCommit (b : Branch) (d : Doing) : Type 0 where
   pub committed : b.ended ≡ Some ending.Commit
   pub named : order.has d.took naming ≡ true
 
--- A coordinator of this incarnation: what its open actions wait for; who isn't open is at its end, if its commit began; who is still to begin is
--- idle; and a commit without a record was one that naming took part in.
+-- A coordinator of this incarnation: what its open actions wait for; who isn't open is at its end, if its commit began; who is still to
+-- begin is idle; and a commit without a record was one that naming took part in.
 pub record SeesCoord (x k inc : ℕ) (tops : Kinds) (c : Coord) (S : State) : Type 0 where
   pub node : c.tree.node ≡ k
   pub present : c.tree.inc ≡ inc
-  pub working : (u : Uid) (b : Branch) (d : Doing) → branch_of u c.tree ≡ Some b → b.ended ≡ None → doing_of u c ≡ Some d → Works x tops S (uid_number u) b.kind d.now
+  pub working : (u : Uid) (b : Branch) (d : Doing) → branch_of u c.tree ≡ Some b → b.ended ≡ None → doing_of u c ≡ Some d →
+      Works x tops S (uid_number u) b.kind d.now
   pub closed : (u : Uid) → u.node ≡ k → is_open u c.tree ≡ false → S.begun (uid_number u) ≡ true → is_gone (S.stage (uid_number u)) ≡ true
   pub future : (u : Uid) → u.node ≡ k → IsFuture c u → S.stage (uid_number u) ≡ disk.Idle
-  pub bare : (u : Uid) (b : Branch) (d : Doing) → branch_of u c.tree ≡ Some b → doing_of u c ≡ Some d → S.bare (uid_number u) ≡ true → IsNamedCommit b d
+  pub bare : (u : Uid) (b : Branch) (d : Doing) → branch_of u c.tree ≡ Some b → doing_of u c ≡ Some d → S.bare (uid_number u) ≡ true →
+      IsNamedCommit b d
 
 -- a node that is down: each commit that began is at its end, and who is of a later incarnation is idle
 pub record SeesDown (k inc : ℕ) (S : State) : Type 0 where
@@ -211,13 +217,15 @@ pub record IsSettled (u : Uid) (i : Intent) (telling : List (Uid × Intent)) (W 
 -- part in one that was decided, or needed no record; and the states that were loaded were the last ones once.
 pub record SeesNotes (x : ℕ) (intents : List (Uid × Intent)) (c : Coord) (W : World) : Type 0 where
   pub settled : (u : Uid) (i : Intent) → at_uid u intents ≡ Some i → (is_open u c.tree ≡ true) ⊎ IsSettled u i c.telling W
-  pub taken : (u : Uid) (q : Doing) (n : ℕ) → doing_of u c ≡ Some q → order.has q.took n ≡ true → (disk.decided W.disk (uid_number u) ≡ true) ⊎ (W.disk.bare (uid_number u) ≡ true)
+  pub taken : (u : Uid) (q : Doing) (n : ℕ) → doing_of u c ≡ Some q → order.has q.took n ≡ true →
+      (disk.decided W.disk (uid_number u) ≡ true) ⊎ (W.disk.bare (uid_number u) ≡ true)
   pub roots : AllByRecursion (λ (r : ℕ × Root). KnowsRoot x W r.1) c.roots
   pub plans : (u : Uid) (q : Doing) → doing_of u c ≡ Some q → KnowsNow x W q.now
 
 -- whom naming confirmed is confirmed
 abbrev pub SeesConfirmed : Naming → State → Type 0
-SeesConfirmed o S = (a : Uid) → is_on o.confirmed a ≡ true → (S.begun (uid_number a) ≡ true) × (undecided S (uid_number a) ≡ true → (S.conf (uid_number a) ≡ true) ⊎ (S.light (uid_number a) ≡ true))
+SeesConfirmed o S = (a : Uid) → is_on o.confirmed a ≡ true →
+    (S.begun (uid_number a) ≡ true) × (undecided S (uid_number a) ≡ true → (S.conf (uid_number a) ≡ true) ⊎ (S.light (uid_number a) ≡ true))
 
 -- ---- the disk half
 
@@ -259,7 +267,8 @@ pub record IsLater (W V : World) : Type 0 where
   pub known : (g : disk.Packed) → Known W.disk g → Known V.disk g
   pub gone : (t : ℕ) → is_gone (W.disk.stage t) ≡ true → is_gone (V.disk.stage t) ≡ true
   pub opened : (t : ℕ) → W.disk.begun t ≡ true → undecided V.disk t ≡ true → undecided W.disk t ≡ true
-  pub taken : (t : ℕ) → W.disk.begun t ≡ true → (V.disk.conf t ≡ true) ⊎ (V.disk.light t ≡ true) → ((W.disk.conf t ≡ true) ⊎ (W.disk.light t ≡ true)) ⊎ (undecided W.disk t ≡ true)
+  pub taken : (t : ℕ) → W.disk.begun t ≡ true → (V.disk.conf t ≡ true) ⊎ (V.disk.light t ≡ true) →
+      ((W.disk.conf t ≡ true) ⊎ (W.disk.light t ≡ true)) ⊎ (undecided W.disk t ≡ true)
 
 -- each effect that is allowed leads to a later state, and what a message claims stays true, whatever lines are said
 abbrev pub EffectsAreLater : Type 0
@@ -267,7 +276,8 @@ EffectsAreLater = (W : World) (es : List machine.Effect) → Follows W es → Wh
 
 -- what a message claims stays true
 abbrev pub ClaimsStay : Type 0
-ClaimsStay = (x : ℕ) (tops : Kinds) (W V : World) (lines more : List Line) (p : Post) → Whole W → IsLater W V → Claims x tops W lines p → Claims x tops V (lines ++ more) p
+ClaimsStay = (x : ℕ) (tops : Kinds) (W V : World) (lines more : List Line) (p : Post) → Whole W → IsLater W V → Claims x tops W lines p →
+    Claims x tops V (lines ++ more) p
 
 -- from here on the walk is followed, where this may be noted
 abbrev pub followed : Kinds → World → (Note → Bool) → Kinds
@@ -275,14 +285,17 @@ followed tops W f = record tops { walk = Some (record { from = W; noted = f }) }
 
 -- another walk may be followed, or none, where the machine is along it
 abbrev pub WalksAreFollowed : Type 0
-WalksAreFollowed = (x : ℕ) (tops : Kinds) (o : Option Walk) (W : World) (M : Seen) → IsAlong o W → SeesDisks x tops W M → SeesDisks x (record tops { walk = o }) W M
+WalksAreFollowed = (x : ℕ) (tops : Kinds) (o : Option Walk) (W : World) (M : Seen) → IsAlong o W → SeesDisks x tops W M →
+    SeesDisks x (record tops { walk = o }) W M
 
 -- ---- what handlers keep of the disk half
 
 -- a request that is taken is walked through, wherever a stop falls
 abbrev pub RequestIsWalked : (Ask → Type 0) → Type 0
-RequestIsWalked Kind = (x : ℕ) (tops : Kinds) (e k : ℕ) (d : Disk) (t v : Parts) (from : ℕ) (h : Head) (a : Ask) (outs : List Effect) (M : Seen)
-    → Kind a → IsSeenByDisks x tops (up k d t M) → ((W : World) → SeesDisks x tops W (up k d t M) → ClaimsAsk x W k h a) → serve k d t from h a ≡ Took v outs → Walks (IsSeenByDisks x tops) e k outs (Up (IsSeenByDisks x tops) k v) d M
+RequestIsWalked Kind =
+    (x : ℕ) (tops : Kinds) (e k : ℕ) (d : Disk) (t v : Parts) (from : ℕ) (h : Head) (a : Ask) (outs : List Effect) (M : Seen)
+    → Kind a → IsSeenByDisks x tops (up k d t M) → ((W : World) → SeesDisks x tops W (up k d t M) → ClaimsAsk x W k h a) →
+    serve k d t from h a ≡ Took v outs → Walks (IsSeenByDisks x tops) e k outs (Up (IsSeenByDisks x tops) k v) d M
 
 -- a Load, and a Prepare
 abbrev pub IsLoad : Ask → Type 0
@@ -306,13 +319,17 @@ IsServed _ = ⊥
 -- A node is up again: the other nodes ask about its earlier actions, which have begun.
 abbrev pub HellosAreWalked : Type 0
 HellosAreWalked = (x : ℕ) (tops : Kinds) (e k : ℕ) (d : Disk) (t v : Parts) (node inc : ℕ) (outs : List Effect) (M : Seen)
-    → AllByRecursion (λ u. was_begun u M.lines ≡ true) (holders d t) → IsSeenByDisks x tops (up k d t M) → handle_hello d t node inc ≡ Took v outs → Walks (IsSeenByDisks x tops) e k outs (Up (IsSeenByDisks x tops) k v) d M
+    → AllByRecursion (λ u. was_begun u M.lines ≡ true) (holders d t) → IsSeenByDisks x tops (up k d t M) →
+    handle_hello d t node inc ≡ Took v outs → Walks (IsSeenByDisks x tops) e k outs (Up (IsSeenByDisks x tops) k v) d M
 
 -- An end that is told to a node without naming, to be acknowledged or not.
 abbrev pub EndsAreWalked : Type 0
-EndsAreWalked = (x : ℕ) (tops : Kinds) (e k : ℕ) (d : Disk) (t v : Parts) (from : ℕ) (ack : Bool) (ends : List (Uid × End)) (outs : List Effect) (M : Seen)
-    → (k == 1) ≡ false → t.naming ≡ None → IsSeenByDisks x tops (up k d t M) → ((W : World) → SeesDisks x tops W (up k d t M) → ClaimsLast tops W k ack (last_end ends))
-    → handle_ends k d t from ack ends (last_end ends) ≡ Took v outs → Walks (IsSeenByDisks x tops) e k outs (Up (IsSeenByDisks x tops) k v) d M
+EndsAreWalked = (x : ℕ) (tops : Kinds) (e k : ℕ) (d : Disk) (t v : Parts) (from : ℕ) (ack : Bool) (ends : List (Uid × End))
+    (outs : List Effect) (M : Seen)
+    → (k == 1) ≡ false → t.naming ≡ None → IsSeenByDisks x tops (up k d t M) →
+    ((W : World) → SeesDisks x tops W (up k d t M) → ClaimsLast tops W k ack (last_end ends))
+    → handle_ends k d t from ack ends (last_end ends) ≡ Took v outs →
+    Walks (IsSeenByDisks x tops) e k outs (Up (IsSeenByDisks x tops) k v) d M
 
 -- A store's answer to a Prepare that isn't Old: it is taken, and with the last one the coordinator asks naming.
 abbrev pub IsTaken : PreparedReply → Type 0
@@ -337,15 +354,21 @@ pub record WaitsForStore (t : Parts) (from : ℕ) (act : Uid) (p : commit.Plan) 
 
 -- A top takes the answer of a store.
 abbrev pub PreparedIsHeard : Type 0
-PreparedIsHeard = (x : ℕ) (tops : Kinds) (e k : ℕ) (d : Disk) (t : Parts) (from : ℕ) (act : Uid) (r : PreparedReply) (p : commit.Plan) (left : List ℕ) (intents : List (Uid × Intent)) (M : Seen)
-    → WaitsForStore t from act p left → tops.is_top (uid_number act) ≡ true → may_note tops.walk (Begins (uid_number act)) ≡ true → IsTaken r → (W : World) → SeesDisks x tops W (up k d t M) → ClaimsReply x W from act (Reply.Prepared r)
-    → let did = moved_commit act (commit.answered from (Preparing p left) (Reply.Prepared r)) intents t.coord in Walks (IsSeenByDisks x tops) e k did.outs (Up (IsSeenByDisks x tops) k (with_coord t did.part)) d M
+PreparedIsHeard = (x : ℕ) (tops : Kinds) (e k : ℕ) (d : Disk) (t : Parts) (from : ℕ) (act : Uid) (r : PreparedReply) (p : commit.Plan)
+    (left : List ℕ) (intents : List (Uid × Intent)) (M : Seen)
+    → WaitsForStore t from act p left → tops.is_top (uid_number act) ≡ true → may_note tops.walk (Begins (uid_number act)) ≡ true →
+    IsTaken r → (W : World) → SeesDisks x tops W (up k d t M) → ClaimsReply x W from act (Reply.Prepared r)
+    → let did = moved_commit act (commit.answered from (Preparing p left) (Reply.Prepared r)) intents t.coord in
+    Walks (IsSeenByDisks x tops) e k did.outs (Up (IsSeenByDisks x tops) k (with_coord t did.part)) d M
 
 -- Stores that don't answer are given up: the coordinator asks naming.
 abbrev pub SilentAreGivenUp : Type 0
-SilentAreGivenUp = (x : ℕ) (tops : Kinds) (e k : ℕ) (d : Disk) (t : Parts) (from : ℕ) (act : Uid) (p : commit.Plan) (left : List ℕ) (intents : List (Uid × Intent)) (M : Seen)
-    → WaitsForStore t from act p left → tops.is_top (uid_number act) ≡ true → may_note tops.walk (Begins (uid_number act)) ≡ true → (W : World) → SeesDisks x tops W (up k d t M)
-    → let did = gives_up act intents t.coord (Committing (Preparing p left)) in Walks (IsSeenByDisks x tops) e k did.outs (Up (IsSeenByDisks x tops) k (with_coord t did.part)) d M
+SilentAreGivenUp = (x : ℕ) (tops : Kinds) (e k : ℕ) (d : Disk) (t : Parts) (from : ℕ) (act : Uid) (p : commit.Plan) (left : List ℕ)
+    (intents : List (Uid × Intent)) (M : Seen)
+    → WaitsForStore t from act p left → tops.is_top (uid_number act) ≡ true → may_note tops.walk (Begins (uid_number act)) ≡ true →
+    (W : World) → SeesDisks x tops W (up k d t M)
+    → let did = gives_up act intents t.coord (Committing (Preparing p left)) in
+    Walks (IsSeenByDisks x tops) e k did.outs (Up (IsSeenByDisks x tops) k (with_coord t did.part)) d M
 
 -- An open top that is to begin its prepare step: it waits for its votes, or its commit just starts.
 pub record MayPrepare (x k : ℕ) (tops : Kinds) (W : World) (t : Parts) (act : Uid) (p : commit.Plan) : Type 0 where
@@ -363,9 +386,12 @@ pub record MayPrepare (x k : ℕ) (tops : Kinds) (W : World) (t : Parts) (act : 
 
 -- The prepare step begins: each target is sent its states.
 abbrev pub PreparesAreAsked : Type 0
-PreparesAreAsked = (x : ℕ) (tops : Kinds) (e k : ℕ) (d : Disk) (t : Parts) (act : Uid) (p : commit.Plan) (s : ℕ) (ss : List ℕ) (intents : List (Uid × Intent)) (M : Seen) (W : World)
-    → targets_of p ≡ s ∷ ss → MayPrepare x k tops W t act p → may_note tops.walk (Begins (uid_number act)) ≡ true → SeesDisks x tops W (up k d t M)
-    → let did = step_commit act (begin_prepare (targets_of p) p) intents t.coord in Walks (IsSeenByDisks x tops) e k did.outs (Up (IsSeenByDisks x tops) k (with_coord t did.part)) d M
+PreparesAreAsked = (x : ℕ) (tops : Kinds) (e k : ℕ) (d : Disk) (t : Parts) (act : Uid) (p : commit.Plan) (s : ℕ) (ss : List ℕ)
+    (intents : List (Uid × Intent)) (M : Seen) (W : World)
+    → targets_of p ≡ s ∷ ss → MayPrepare x k tops W t act p → may_note tops.walk (Begins (uid_number act)) ≡ true →
+    SeesDisks x tops W (up k d t M)
+    → let did = step_commit act (begin_prepare (targets_of p) p) intents t.coord in
+    Walks (IsSeenByDisks x tops) e k did.outs (Up (IsSeenByDisks x tops) k (with_coord t did.part)) d M
 
 -- what a plan changes: of each object one state, of an object that it uses
 pub record IsOneChange (p : commit.Plan) (x : ℕ) (st : ObjectState) : Type 0 where
@@ -392,5 +418,7 @@ pub record WaitsForNaming (t : Parts) (intents : List (Uid × Intent)) (act : Ui
 -- Naming's Yes: the record is written where there is one, the top is decided, and all nodes that it sent something are told.
 abbrev pub ConfirmedIsHeard : Type 0
 ConfirmedIsHeard = (x : ℕ) (tops : Kinds) (e k : ℕ) (d : Disk) (t : Parts) (from : ℕ) (act : Uid) (p : commit.Plan) (M : Seen)
-    → WaitsForNaming t d.intents act p → tops.is_top (uid_number act) ≡ true → may_note tops.walk (Decides (uid_number act)) ≡ true → (W : World) → SeesDisks x tops W (up k d t M) → ClaimsReply x W from act (Reply.Confirmed confirmed.Yes)
-    → let did = moved_commit act (commit.answered from (Confirming p) (Reply.Confirmed confirmed.Yes)) d.intents t.coord in Walks (IsSeenByDisks x tops) e k did.outs (Up (IsSeenByDisks x tops) k (with_coord t did.part)) d M
+    → WaitsForNaming t d.intents act p → tops.is_top (uid_number act) ≡ true → may_note tops.walk (Decides (uid_number act)) ≡ true →
+    (W : World) → SeesDisks x tops W (up k d t M) → ClaimsReply x W from act (Reply.Confirmed confirmed.Yes)
+    → let did = moved_commit act (commit.answered from (Confirming p) (Reply.Confirmed confirmed.Yes)) d.intents t.coord in
+    Walks (IsSeenByDisks x tops) e k did.outs (Up (IsSeenByDisks x tops) k (with_coord t did.part)) d M

@@ -1,18 +1,15 @@
--- A copy that has a write is that of its active binding, in the incarnation of which the maker's root heard; and a binding that may count might
--- before.
-use Rattle.std.proofs.Common.{arith, ◌≡◌, ◌<◌, ◌⊎◌, ℕ, true, not, inl, inr, refl, sym, ◌∙◌, ap, subst}
-use Rattle.arj_law_lock.specs.machine.Actions.{at, In}
-use Rattle.arj_law_lock.specs.machine.State.{Entry, Invoke, Server, State}
-use Rattle.arj_law_lock.specs.machine.Steps.{Event, CrashNaming, BindLive, BindNew, Grant, Record, ConfirmTop, PassEntry, DropEntry, CrashServer, ActivateCopy, Apply, Refuse, Change, PassRow, PassTop, DropRows, VoteTop, Keep, Name, Load, SendInvoke, Answered, TurnedDown, Lost, GiveUp, CommitNested, Abort, CommitTop, SendVote, SendConfirm, Decide, Report, EndUnit, Included, IsCurrent}
-use Rattle.arj_law_lock.specs.machine.Machine.{Guard, Run, handed, next, start, stay, step}
-use Rattle.arj_law_lock.proofs.machine.Claims.{Holds}
-use Rattle.arj_law_lock.proofs.machine.Later.{Later}
-use Rattle.arj_law_lock.proofs.machine.Order.{run_keeps, start_holds, step_keeps}
-use Rattle.arj_law_lock.proofs.machine.Paths.{at_cases}
-use Rattle.arj_law_lock.proofs.machine.ValueLogs.{in_filter, in_map}
-use Rattle.arj_law_lock.specs.machine.Actions.{on, Root, Sub}
-use Rattle.arj_law_lock.proofs.machine.Later.{first_rises}
-use Rattle.arj_law_lock.specs.logs.Under.{CountingIsOld, MayCount}
+-- A copy that has a write is that of its active binding, in the incarnation of which the maker's root heard; and a binding that may count
+-- might before.
+use Rattle.arj_law_lock.proofs.Terms
+use Terms.{arith, ◌≡◌, ◌<◌, ◌⊎◌, ℕ, true, not, inl, inr, refl, sym, ◌∙◌, ap, subst, at, In, Entry, Invoke, Server, State, Event}
+use Terms.{CrashNaming, BindLive, BindNew, Grant, Record, ConfirmTop, PassEntry, DropEntry, CrashServer, ActivateCopy, Apply, Refuse}
+use Terms.{Change, PassRow, PassTop, DropRows, VoteTop, Keep, Name, Load, SendInvoke, Answered, TurnedDown, Lost, GiveUp, CommitNested}
+use Terms.{Abort, CommitTop, SendVote, SendConfirm, Decide, Report, EndUnit, Included, IsCurrent, Guard, Run, handed, next, start, stay}
+use Terms.{step, on, Root, Sub, MayCount}
+use Rattle.arj_law_lock.proofs.machine
+use machine.{Claims.Holds, Later.Later, Later.first_rises, Order.run_keeps, Order.start_holds, Order.step_keeps, Paths.at_cases}
+use machine.{ValueLogs.in_filter, ValueLogs.in_map}
+use Rattle.arj_law_lock.specs.logs.Under.{CountingIsOld}
 
 -- ---- where a copy with writes is
 
@@ -28,7 +25,8 @@ HaveHomes s = (n : ℕ) (e : Entry) → In e (s.server n).log → IsHome s n
 module _ (s : State) (h : Holds s) where
   -- it had writes, under the same binding in the same incarnation; or the first write comes to the server of its binding
   abbrev Comes : ℕ → Server → Type 0
-  Comes n w = (d : Entry) → In d w.log → (((f : Entry) × In f (s.server n).log) × (w.incarnation ≡ (s.server n).incarnation) × (w.active ≡ (s.server n).active))
+  Comes n w = (d : Entry) → In d w.log →
+      (((f : Entry) × In f (s.server n).log) × (w.incarnation ≡ (s.server n).incarnation) × (w.active ≡ (s.server n).active))
       ⊎ ((((s.binding w.active).named ≡ true) × ((s.binding w.active).server ≡ n)) × (w.incarnation ≡ (s.binding w.active).incarnation))
 
   still : (n : ℕ) → Comes n (s.server n)
@@ -48,12 +46,20 @@ module _ (s : State) (h : Holds s) where
   comes (DropEntry a) guard = still
   comes (CrashServer n i) guard = only_at n _ (λ d j. absurd j)
   comes (ActivateCopy n b w) guard = only_at n _ (λ d j. absurd j)
-  comes (Apply n q g) guard = only_at n _ (λ d j. inr (((subst (λ (b : ℕ). (s.binding b).named ≡ true) (sym guard.1.2) (h.mail (Invoke q) guard.0).2, subst (λ (b : ℕ). (s.binding b).server ≡ n) (sym guard.1.2) guard.1.0), guard.1.1 ∙ ap (λ (b : ℕ). (s.binding b).incarnation) (sym guard.1.2))))
+  comes (Apply n q g) guard = only_at n _ (λ d j. inr ((
+    (
+      subst (λ (b : ℕ). (s.binding b).named ≡ true) (sym guard.1.2) (h.mail (Invoke q) guard.0).2,
+      subst (λ (b : ℕ). (s.binding b).server ≡ n) (sym guard.1.2) guard.1.0,
+    ),
+    guard.1.1 ∙ ap (λ (b : ℕ). (s.binding b).incarnation) (sym guard.1.2),
+  )))
   comes (Refuse n q) guard = only_at n _ (λ d j. inl ((d, j), refl, refl))
   comes (Change n q) guard = still
   comes (PassRow n a j) guard = only_at n _ (λ d k. let p = in_map (handed a j) d (s.server n).log k in inl ((p.0, p.1), refl, refl))
-  comes (PassTop n u j) guard = only_at n _ (λ d k. inl ((d, (in_filter (λ (e : Entry). not (on e.holder (Sub (Root u) j))) d (s.server n).log k).0), refl, refl))
-  comes (DropRows n a) guard = only_at n _ (λ d k. inl ((d, (in_filter (λ (e : Entry). not (on e.holder a)) d (s.server n).log k).0), refl, refl))
+  comes (PassTop n u j) guard =
+      only_at n _ (λ d k. inl ((d, (in_filter (λ (e : Entry). not (on e.holder (Sub (Root u) j))) d (s.server n).log k).0), refl, refl))
+  comes (DropRows n a) guard =
+      only_at n _ (λ d k. inl ((d, (in_filter (λ (e : Entry). not (on e.holder a)) d (s.server n).log k).0), refl, refl))
   comes (VoteTop n a b i) guard = only_at n _ (λ d j. inl ((d, j), refl, refl))
   comes (Keep a b) guard = still
   comes (Name b i) guard = still
@@ -77,12 +83,16 @@ module _ (s : State) (h : Holds s) where
   home_step e guard later homes n d i = by (comes e guard n d i)
     where
       -- a binding that was named is what it was
-      of : (b : ℕ) → (s.binding b).named ≡ true → (((next e s).binding b).named ≡ true) × (((next e s).binding b).server ≡ (s.binding b).server) × (((next e s).binding b).incarnation ≡ (s.binding b).incarnation)
+      of : (b : ℕ) → (s.binding b).named ≡ true → (((next e s).binding b).named ≡ true)
+          × (((next e s).binding b).server ≡ (s.binding b).server) × (((next e s).binding b).incarnation ≡ (s.binding b).incarnation)
       of b named = let p = later.named b named in (p.0, (later.made b (h.bindings b named).below).0, p.1)
 
-      by : (((f : Entry) × In f (s.server n).log) × (((next e s).server n).incarnation ≡ (s.server n).incarnation) × (((next e s).server n).active ≡ (s.server n).active))
-          ⊎ ((((s.binding ((next e s).server n).active).named ≡ true) × ((s.binding ((next e s).server n).active).server ≡ n)) × (((next e s).server n).incarnation ≡ (s.binding ((next e s).server n).active).incarnation)) → IsHome (next e s) n
-      by (inr new) = let p = of ((next e s).server n).active (new.0).0 in record { named = p.0; server = p.1 ∙ (new.0).1; incarnation = new.1 ∙ sym p.2 }
+      by : (((f : Entry) × In f (s.server n).log) × (((next e s).server n).incarnation ≡ (s.server n).incarnation)
+          × (((next e s).server n).active ≡ (s.server n).active))
+          ⊎ ((((s.binding ((next e s).server n).active).named ≡ true) × ((s.binding ((next e s).server n).active).server ≡ n))
+          × (((next e s).server n).incarnation ≡ (s.binding ((next e s).server n).active).incarnation)) → IsHome (next e s) n
+      by (inr new) = let p = of ((next e s).server n).active (new.0).0 in
+          record { named = p.0; server = p.1 ∙ (new.0).1; incarnation = new.1 ∙ sym p.2 }
       by (inl old) =
           let z = homes n (old.0).0 (old.0).1 in
           let same = old.2 in
@@ -103,7 +113,8 @@ homes_of first s reached = home_run reached (start_holds first) (λ n e i. absur
 -- ---- bindings that may count
 
 -- who is recorded was, or might still be
-recorded_step : (e : Event) (s : State) → Guard e s → ((next e s).naming.recorded ≡ s.naming.recorded) ⊎ IsCurrent s.naming (s.binding (next e s).naming.recorded).maker (next e s).naming.recorded
+recorded_step : (e : Event) (s : State) → Guard e s → ((next e s).naming.recorded ≡ s.naming.recorded)
+    ⊎ IsCurrent s.naming (s.binding (next e s).naming.recorded).maker (next e s).naming.recorded
 recorded_step (CrashNaming g) s guard = inl refl
 recorded_step (BindLive a) s guard = inl refl
 recorded_step (BindNew a b n) s guard = inl refl

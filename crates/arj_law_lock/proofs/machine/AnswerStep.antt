@@ -1,25 +1,18 @@
 -- A call gets its ok line.
-use Rattle.std.proofs.Common.{◌≡◌, ◌≢◌, ◌≤◌, ◌<◌, ◌+◌, ◌⊎◌, ℕ, List, ◌∷◌, true, false, inl, inr, refl, sym, ◌∙◌, ap, subst, arith}
-use Rattle.arj_law_lock.specs.machine.Actions.{Act, Root, on, root, top, is_action, In}
-use Rattle.arj_law_lock.specs.machine.Rows.{mode}
-use Rattle.arj_law_lock.specs.machine.State.{Action, Call, Answer, Invoked, State, Alive, Passed}
-use Rattle.arj_law_lock.proofs.machine.Paths.{by_cases, differ, top_root, top_is, on_top}
-use Rattle.arj_law_lock.proofs.machine.Claims.{GoesOn, Covers, Good, Pending, Conflict, Mean, CallHolds, WaitHolds, Waits, Follows, Counts, Pairs, Nested, Holds}
-use Rattle.arj_law_lock.proofs.machine.Later.{Later, passed_on, done_on, before_on, covers_on, mode_positive, sure_on}
-use Rattle.arj_law_lock.specs.machine.Machine.{Guard, next}
-use Rattle.std.proofs.Common.{ℕ}
-use Rattle.arj_law_lock.specs.machine.Actions.{same}
-use Rattle.arj_law_lock.proofs.machine.Paths.{act_cases, same_self, on_base}
-use Rattle.arj_law_lock.proofs.machine.Lasts.{top_on, wait_on, binding_on}
-use Rattle.arj_law_lock.specs.machine.Steps.{Answered}
-use Rattle.arj_law_lock.specs.machine.Machine.{stopped}
-use Rattle.arj_law_lock.proofs.machine.Later.{sure_on, covers_on, before_on, done_on}
-use Rattle.arj_law_lock.proofs.machine.Lasts.{mean_on, call_on, include_on, pairs_on, nested_on, counts_back}
-use Rattle.arj_law_lock.proofs.machine.ActionSteps.{Moves, alive_before, later_action, naming_action, turns_action, anti_action, low_requests}
-use Rattle.arj_law_lock.proofs.machine.Core.{follows, passes}
+use Rattle.arj_law_lock.proofs.Terms
+use Terms.{◌≡◌, ◌≢◌, ◌≤◌, ◌<◌, ◌+◌, ◌⊎◌, ℕ, List, ◌∷◌, true, false, inl, inr, refl, sym, ◌∙◌, ap, subst, arith, Act, Root, on, root, top}
+use Terms.{is_action, In, mode, Action, Call, Answer, Invoked, State, Alive, Passed, Guard, next, same, Answered, stopped}
+use Rattle.arj_law_lock.proofs.machine
+use machine.{Core.follows, Core.passes}
+use machine.ActionSteps.{Moves, alive_before, later_action, naming_action, turns_action, anti_action, low_requests}
+use machine.Claims.{GoesOn, Covers, Good, Pending, Conflict, Mean, CallHolds, WaitHolds, Waits, Follows, Counts, Pairs, Nested, Holds}
+use machine.Lasts.{top_on, wait_on, binding_on, mean_on, call_on, include_on, pairs_on, nested_on, counts_back}
+use machine.Later.{Later, passed_on, done_on, before_on, covers_on, mode_positive, sure_on}
+use machine.Paths.{by_cases, differ, top_root, top_is, on_top, act_cases, same_self, on_base}
 
 -- A call gets its ok line.
-pub answered : (s : State) (r : Answer) (p : ℕ) → Guard (Answered r p) s → Holds s → Later s (next (Answered r p) s) × Holds (next (Answered r p) s)
+pub answered : (s : State) (r : Answer) (p : ℕ) → Guard (Answered r p) s → Holds s →
+    Later s (next (Answered r p) s) × Holds (next (Answered r p) s)
 answered s r p guard h = (
   later,
   record {
@@ -67,16 +60,43 @@ answered s r p guard h = (
     zero = guard.3
 
     pending : Pending s r.request.act r.request.number
-    pending = record { last = guard.1; waits = guard.2; alive = λ u o. (let z = guard.3 u o in omega (arith, z)); going = (let z = guard.3 (Root (root r.request.act)) (on_base r.request.act) in omega (arith, z)) }
+    pending = record {
+      last = guard.1;
+      waits = guard.2;
+      alive = λ u o. (let z = guard.3 u o in omega (arith, z));
+      going = (let z = guard.3 (Root (root r.request.act)) (on_base r.request.act) in omega (arith, z));
+    }
 
     wait : WaitHolds s r.request.act
     wait = h.waits r.request.act pending.waits pending.alive pending.going
 
     m : Moves s a x (p + 1) cs s.net
-    m = record { now = (let n = now in omega (arith, n)); stage = omega arith; ends = λ e. (e, refl); fresh = λ ac e. inl e; place = λ l. refl; placed = λ l. (let n = now in omega (arith, n, l)); going = λ is l g. inl l; request = omega arith; unit = inl refl; pend = λ j low e v. (let never : false ≡ true = v in absurd (cc)) }
+    m = record {
+      now = (let n = now in omega (arith, n));
+      stage = omega arith;
+      ends = λ e. (e, refl);
+      fresh = λ ac e. inl e;
+      place = λ l. refl;
+      placed = λ l. (let n = now in omega (arith, n, l));
+      going = λ is l g. inl l;
+      request = omega arith;
+      unit = inl refl;
+      pend = λ j low e v. (let never : false ≡ true = v in absurd (cc));
+    }
 
     m' : Moves s a x (p + 1) s.calls s.net
-    m' = record { now = (let n = now in omega (arith, n)); stage = omega arith; ends = λ e. (e, refl); fresh = λ ac e. inl e; place = λ l. refl; placed = λ l. (let n = now in omega (arith, n, l)); going = λ is l g. inl l; request = omega arith; unit = inl refl; pend = λ j low e v. (let never : false ≡ true = v in absurd (cc)) }
+    m' = record {
+      now = (let n = now in omega (arith, n));
+      stage = omega arith;
+      ends = λ e. (e, refl);
+      fresh = λ ac e. inl e;
+      place = λ l. refl;
+      placed = λ l. (let n = now in omega (arith, n, l));
+      going = λ is l g. inl l;
+      request = omega arith;
+      unit = inl refl;
+      pend = λ j low e v. (let never : false ≡ true = v in absurd (cc));
+    }
 
     stage_same : (u : Act) → (t.action u).stage ≡ (s.action u).stage
     stage_same = act_cases (λ (b : Act) (v : Action). v.stage ≡ (s.action b).stage) s.action a x refl (λ b f. refl)
@@ -85,11 +105,13 @@ answered s r p guard h = (
     top_zero = zero (top r.request.act) (on_top r.request.act)
 
     fresh : (c : Call) → In c cs → In c s.calls ⊎ (((t.action (top c.act)).stage ≡ 0) × (s.now ≤ c.line))
-    fresh c (inl is) = inr (subst (λ (d : Call). ((t.action (top d.act)).stage ≡ 0) × (s.now ≤ d.line)) (sym is) (stage_same (top r.request.act) ∙ top_zero, now))
+    fresh c (inl is) = inr (subst (λ (d : Call). ((t.action (top d.act)).stage ≡ 0) × (s.now ≤ d.line)) (sym is)
+        (stage_same (top r.request.act) ∙ top_zero, now))
     fresh c (inr i) = inl i
 
     never : (c : Call) → s.confirmed (top c.act) ≡ true → In c cs → (t.action (top c.act)).stage ≡ 0 → ⊥
-    never c conf i z = let l = (h.tops (top c.act) (top_is c.act (acts c i))).asked conf in let e = stage_same (top c.act) in omega (arith, l, e, z)
+    never c conf i z = let l = (h.tops (top c.act) (top_is c.act (acts c i))).asked conf in let e = stage_same (top c.act) in
+        omega (arith, l, e, z)
       where
         acts : (c : Call) → In c cs → is_action c.act ≡ true
         acts c (inl is) = ap (λ (d : Call). is_action d.act) is ∙ act
@@ -99,14 +121,20 @@ answered s r p guard h = (
     later = later_action s a x (p + 1) cs s.net m (λ c i. inr i) fresh never
 
     ended : (y : Act) → is_action y ≡ true → (t.action y).stage ≡ 3 → (t.action y).done < p + 1
-    ended = act_cases (λ (b : Act) (v : Action). is_action b ≡ true → v.stage ≡ 3 → v.done < p + 1) s.action a x (λ ac e. (let l = h.ended r.request.act ac e in let n = now in omega (arith, l, n))) (λ b f ac e. (let l = h.ended b ac e in let n = now in omega (arith, l, n)))
+    ended = act_cases (λ (b : Act) (v : Action). is_action b ≡ true → v.stage ≡ 3 →
+        v.done < p + 1) s.action a x (λ ac e. (let l = h.ended r.request.act ac e in let n = now in omega (arith, l, n)))
+        (λ b f ac e. (let l = h.ended b ac e in let n = now in omega (arith, l, n)))
 
     calls : (c : Call) → In c cs → CallHolds t c
     calls c (inl is) = subst (λ (d : Call). CallHolds t d) (sym is) (record {
       acts = act;
       before = omega arith;
-      sure = λ alive. sure_on later (top r.request.act) (top_is r.request.act act) (let e = stage_same (top r.request.act) in let z = top_zero in omega (arith, e, z)) refl (h.naming.kept_below (root (top r.request.act))) (λ three. absurd (let z = top_zero in omega (arith, z, three))) wait.sure;
-      covers = λ alive. covers_on later (s.kept (root r.request.act)) named (h.bindings (s.kept (root r.request.act)) named).below r.request.act (mode r.request.write) (mode_positive later r.request.write) alive (λ three. absurd (let z = top_zero in omega (arith, z, three))) (subst (λ (j : ℕ). Covers s r.request.act j (mode r.request.write)) binding (mean.2 pending).0);
+      sure = λ alive. sure_on later (top r.request.act) (top_is r.request.act act) (let e = stage_same (top r.request.act) in
+          let z = top_zero in omega (arith, e, z)) refl (h.naming.kept_below (root (top r.request.act)))
+          (λ three. absurd (let z = top_zero in omega (arith, z, three))) wait.sure;
+      covers = λ alive. covers_on later (s.kept (root r.request.act)) named (h.bindings (s.kept (root r.request.act)) named).below
+          r.request.act (mode r.request.write) (mode_positive later r.request.write) alive (λ three. absurd (let z = top_zero in
+          omega (arith, z, three))) (subst (λ (j : ℕ). Covers s r.request.act j (mode r.request.write)) binding (mean.2 pending).0);
     })
       where
         binding : r.request.binding ≡ s.kept (root r.request.act)
@@ -117,15 +145,18 @@ answered s r p guard h = (
     calls c (inr i) = call_on h later c i
 
     waits : (b : Act) → Waits t b
-    waits b w alive goes = wait_on h later b (low_requests s h a x (p + 1) s.net m' (omega arith) b) (λ u o ac z w' alive'. stage_same u ∙ z) new w alive goes
+    waits b w alive goes =
+        wait_on h later b (low_requests s h a x (p + 1) s.net m' (omega arith) b) (λ u o ac z w' alive'. stage_same u ∙ z) new w alive goes
       where
         waits_before : (c : Act) → (t.action c).waits ≡ true → (same c a ≡ false) × ((s.action c).waits ≡ true)
-        waits_before = act_cases (λ (c : Act) (v : Action). v.waits ≡ true → (same c a ≡ false) × ((s.action c).waits ≡ true)) s.action a x (λ v. (let never : false ≡ true = v in absurd (cc))) (λ c f v. (f, v))
+        waits_before = act_cases (λ (c : Act) (v : Action). v.waits ≡ true → (same c a ≡ false) × ((s.action c).waits ≡ true)) s.action a x
+            (λ v. (let never : false ≡ true = v in absurd (cc))) (λ c f v. (f, v))
 
         new : (c : Call) → In c cs → In c s.calls ⊎ (on c.act b ≡ false)
         new c (inr i) = inl i
         new c (inl is) = inr (subst (λ (d : Call). on d.act b ≡ false) (sym is) (elim (by_cases (on r.request.act b)) [
-          | inl o ↦ (let q = waits_before b w in differ (subst (λ (y : Act). same y a ≡ true) (h.anti r.request.act b guard.2 pending.alive q.1 (alive_before s a x (p + 1) cs s.net m b alive) o) (same_self r.request.act)) q.0)
+          | inl o ↦ (let q = waits_before b w in differ (subst (λ (y : Act). same y a ≡ true) (h.anti r.request.act b guard.2 pending.alive
+              q.1 (alive_before s a x (p + 1) cs s.net m b alive) o) (same_self r.request.act)) q.0)
           | inr f ↦ f
         ]))
 
@@ -139,20 +170,31 @@ answered s r p guard h = (
     old_line c i = let l = (h.calls c i).before in let n = now in omega (arith, l, n)
 
     pairs : Pairs t
-    pairs c d y (inl ic) (inl id) line = absurd (let e : c.line ≡ p = ap (λ (z : Call). z.line) ic in let f : d.line ≡ p = ap (λ (z : Call). z.line) id in omega (arith, e, f, line))
-    pairs c d y (inl ic) (inr id) line = absurd (let e : c.line ≡ p = ap (λ (z : Call). z.line) ic in let l = old_line d id in omega (arith, e, l, line))
-    pairs c d y (inr ic) (inl id) line = subst (λ (e : Call). root c.act ≢ root e.act → Counts t c y → Alive t e.act → Good t (top e.act) → Follows t c e.act e.write e.line y) (sym id) new
+    pairs c d y (inl ic) (inl id) line = absurd (let e : c.line ≡ p = ap (λ (z : Call). z.line) ic in
+        let f : d.line ≡ p = ap (λ (z : Call). z.line) id in omega (arith, e, f, line))
+    pairs c d y (inl ic) (inr id) line =
+        absurd (let e : c.line ≡ p = ap (λ (z : Call). z.line) ic in let l = old_line d id in omega (arith, e, l, line))
+    pairs c d y (inr ic) (inl id) line = subst (λ (e : Call). root c.act ≢ root e.act → Counts t c y → Alive t e.act → Good t (top e.act) →
+        Follows t c e.act e.write e.line y) (sym id) new
       where
-        new : root c.act ≢ root r.request.act → Counts t c y → Alive t r.request.act → Good t (top r.request.act) → Follows t c r.request.act r.request.write p y
-        new apart k alive good = record { node = elim f.node [ inl q ↦ inl (before_on later y p q) | inr e ↦ inr e ]; order = λ conflict. let o = f.order conflict in (before_on later y p o.0, λ write. done_on later (top c.act) p (o.1 write)) }
+        new : root c.act ≢ root r.request.act → Counts t c y → Alive t r.request.act → Good t (top r.request.act) →
+            Follows t c r.request.act r.request.write p y
+        new apart k alive good = record {
+          node = elim f.node [ inl q ↦ inl (before_on later y p q) | inr e ↦ inr e ];
+          order = λ conflict. let o = f.order conflict in (before_on later y p o.0, λ write. done_on later (top c.act) p (o.1 write));
+        }
           where
             f : Follows s c r.request.act r.request.write p y
             f = follows h r guard.0 pending (good_before good) c y ic (counts_back h later c y ic k) apart p now
     pairs c d y (inr ic) (inr id) line = pairs_on h later c d y ic id line
 
     nested : Nested t
-    nested c d (inl ic) (inl id) line = absurd (let e : c.line ≡ p = ap (λ (z : Call). z.line) ic in let f : d.line ≡ p = ap (λ (z : Call). z.line) id in omega (arith, e, f, line))
-    nested c d (inl ic) (inr id) line = absurd (let e : c.line ≡ p = ap (λ (z : Call). z.line) ic in let l = old_line d id in omega (arith, e, l, line))
-    nested c d (inr ic) (inl id) line = subst (λ (e : Call). root c.act ≡ root e.act → Conflict c.write e.write → Alive t c.act → Alive t e.act → Good t (top e.act) → Passed t c.act e.act e.line) (sym id)
-        (λ kin conflict ca alive good. passed_on later c.act r.request.act p (passes h r guard.0 pending (good_before good) c ic (alive_before s a x (p + 1) cs s.net m c.act ca) kin conflict p now))
+    nested c d (inl ic) (inl id) line = absurd (let e : c.line ≡ p = ap (λ (z : Call). z.line) ic in
+        let f : d.line ≡ p = ap (λ (z : Call). z.line) id in omega (arith, e, f, line))
+    nested c d (inl ic) (inr id) line =
+        absurd (let e : c.line ≡ p = ap (λ (z : Call). z.line) ic in let l = old_line d id in omega (arith, e, l, line))
+    nested c d (inr ic) (inl id) line = subst (λ (e : Call). root c.act ≡ root e.act → Conflict c.write e.write → Alive t c.act →
+        Alive t e.act → Good t (top e.act) → Passed t c.act e.act e.line) (sym id)
+        (λ kin conflict ca alive good. passed_on later c.act r.request.act p
+        (passes h r guard.0 pending (good_before good) c ic (alive_before s a x (p + 1) cs s.net m c.act ca) kin conflict p now))
     nested c d (inr ic) (inr id) line = nested_on h later c d ic id line

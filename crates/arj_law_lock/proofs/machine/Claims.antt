@@ -1,10 +1,9 @@
 -- What holds in every state of a run, as definitions: claims on copies and on naming's rows, what each message means for
 -- ever, and the invariant.
-use Rattle.std.proofs.Common.{◌≡◌, ◌≢◌, ◌≤◌, ◌<◌, ◌⊎◌, ℕ, Bool, true, false}
-use Rattle.arj_law_lock.specs.machine.Actions.{Act, Root, on, root, top, is_top, is_action, In}
-use Rattle.arj_law_lock.specs.machine.Rows.{mode, Apart}
-use Rattle.arj_law_lock.specs.machine.State.{Naming, Server, Call, Include, Request, Message, Live, Made, Granted, Activate, Activated, Recorded, Invoke, Invoked, Refused, Changed, Vote, Confirm, State, Alive, Merged, Passed, Covered}
-use Rattle.arj_law_lock.specs.machine.Steps.{NobodyInDoubt, IsCurrent}
+use Rattle.arj_law_lock.proofs.Terms
+use Terms.{◌≡◌, ◌≢◌, ◌≤◌, ◌<◌, ◌⊎◌, ℕ, Bool, true, false, Act, Root, on, root, top, is_top, is_action, In, mode, Apart, Naming, Server}
+use Terms.{Call, Include, Request, Message, Live, Made, Granted, Activate, Activated, Recorded, Invoke, Invoked, Refused, Changed, Vote}
+use Terms.{Confirm, State, Alive, Merged, Passed, Covered, NobodyInDoubt, IsCurrent}
 
 -- Claims on a copy.
 
@@ -19,7 +18,8 @@ abbrev pub Reached : Server → ℕ → ℕ → Type 0
 Reached v i b = (i < v.incarnation) ⊎ ((i ≡ v.incarnation) × (b ≤ v.active))
 
 abbrev pub IsPast : State → ℕ → Type 0
-IsPast s b = ((s.binding b).incarnation < (server_of s b).incarnation) ⊎ (((s.binding b).incarnation ≡ (server_of s b).incarnation) × (b < (server_of s b).active))
+IsPast s b = ((s.binding b).incarnation < (server_of s b).incarnation)
+    ⊎ (((s.binding b).incarnation ≡ (server_of s b).incarnation) × (b < (server_of s b).active))
 
 abbrev pub GoesOn : State → ℕ → Type 0
 GoesOn s u = (s.action (Root u)).stage ≤ 2
@@ -40,7 +40,8 @@ HoldsTop n k m = (k ≤ n.rows m) × (2 ≤ k → n.asked m ≡ true)
 pub data Anchor (s : State) (k : ℕ) (m : Act) : Type 0 where
   own : HoldsTop s.naming k m → Anchor s k m
   unit : k ≤ s.naming.rows (Root (root m)) → Anchor s k m
-  sibling : (t : Act) → is_top t ≡ true → root t ≡ root m → (s.action t).stage ≡ 3 → s.naming.confirmed t ≡ true → HoldsTop s.naming k t → Anchor s k m
+  sibling : (t : Act) → is_top t ≡ true → root t ≡ root m → (s.action t).stage ≡ 3 → s.naming.confirmed t ≡ true → HoldsTop s.naming k t →
+      Anchor s k m
 
 pub record Sure (s : State) (m : Act) : Type 0 where
   pub named : (s.binding (s.kept (root m))).named ≡ true
@@ -54,7 +55,8 @@ pub record Good (s : State) (m : Act) : Type 0 where
   pub present : (s.naming.first ≤ s.kept (root m)) ⊎ (s.confirmed m ≡ true)
 
 abbrev pub Own : State → Act → ℕ → Type 0
-Own s m b = s.naming.first ≤ b → s.naming.told m ≡ false → (1 ≤ s.naming.rows m) × ((s.naming.recorded < b) ⊎ ((s.naming.recorded ≡ b) ⊎ (b < s.kept (root m))))
+Own s m b = s.naming.first ≤ b → s.naming.told m ≡ false →
+    (1 ≤ s.naming.rows m) × ((s.naming.recorded < b) ⊎ ((s.naming.recorded ≡ b) ⊎ (b < s.kept (root m))))
 
 abbrev pub Wrote : State → Act → ℕ → Type 0
 Wrote s m g = g ≡ s.naming.first → s.naming.told m ≡ false → HoldsTop s.naming 2 m
@@ -81,21 +83,27 @@ Order s a w p = (c : Call) → In c s.calls → root c.act ≡ root a → c.line
 -- What a message means, for ever.
 
 abbrev pub Asked : State → Request → Type 0
-Asked s q = (is_action q.act ≡ true) × (q.number ≤ (s.action q.act).request) × ((s.binding q.binding).named ≡ true) × (Pending s q.act q.number → q.binding ≡ s.kept (root q.act))
+Asked s q = (is_action q.act ≡ true) × (q.number ≤ (s.action q.act).request) × ((s.binding q.binding).named ≡ true)
+    × (Pending s q.act q.number → q.binding ≡ s.kept (root q.act))
 
 abbrev pub Mean : State → Message → Type 0
 Mean s (Live m b) = (is_top m ≡ true) × ((s.binding b).named ≡ true) × (b ≤ s.naming.recorded) × Own s m b
 Mean s (Made m b) = (is_top m ≡ true) × ((s.binding b).maker ≡ m) × (1 ≤ b) × (b < s.naming.bound) × Own s m b
 Mean s (Granted m g) = (is_top m ≡ true) × (g ≤ s.naming.first) × Wrote s m g
-Mean s (Activate b v) = (1 ≤ b) × (b < s.naming.bound) × (b ≤ s.kept (root (s.binding b).maker)) × (is_top (s.binding b).maker ≡ true) × Doubtless s b
-Mean s (Activated b i) = (1 ≤ b) × (b < s.naming.bound) × (b ≤ s.kept (root (s.binding b).maker)) × (is_top (s.binding b).maker ≡ true) × Reached (server_of s b) i b × Doubtless s b
+Mean s (Activate b v) =
+    (1 ≤ b) × (b < s.naming.bound) × (b ≤ s.kept (root (s.binding b).maker)) × (is_top (s.binding b).maker ≡ true) × Doubtless s b
+Mean s (Activated b i) = (1 ≤ b) × (b < s.naming.bound) × (b ≤ s.kept (root (s.binding b).maker)) × (is_top (s.binding b).maker ≡ true)
+    × Reached (server_of s b) i b × Doubtless s b
 Mean s (Recorded b) = ((s.binding b).named ≡ true) × (b ≤ s.naming.recorded)
 Mean s (Invoke q) = Asked s q
-Mean s (Invoked r) = Asked s r.request × (r.place ≤ s.now) × (Pending s r.request.act r.request.number → Covers s r.request.act r.request.binding (mode r.request.write) × ((s.action r.request.act).since ≤ r.place) × Order s r.request.act r.request.write r.place)
+Mean s (Invoked r) = Asked s r.request × (r.place ≤ s.now) × (Pending s r.request.act r.request.number → Covers s r.request.act
+    r.request.binding (mode r.request.write) × ((s.action r.request.act).since ≤ r.place) × Order s r.request.act r.request.write r.place)
 Mean s (Refused q) = Unit {0}
 Mean s (Changed b) = Unit {0}
-Mean s (Vote m b i) = (is_top m ≡ true) × ((s.binding b).named ≡ true) × (b ≤ s.kept (root m)) × (i ≤ (s.binding b).incarnation) × (1 ≤ (s.action m).stage)
-Mean s (Confirm m q) = (is_top m ≡ true) × (1 ≤ (s.action m).stage) × ((c : Call) → In c s.calls → Alive s c.act → Covered s m c.act → q ≤ s.kept (root m)) × ((c : Include) → In c s.includes → Alive s c.act → Covered s m c.act → q ≤ c.grant)
+Mean s (Vote m b i) =
+    (is_top m ≡ true) × ((s.binding b).named ≡ true) × (b ≤ s.kept (root m)) × (i ≤ (s.binding b).incarnation) × (1 ≤ (s.action m).stage)
+Mean s (Confirm m q) = (is_top m ≡ true) × (1 ≤ (s.action m).stage) × ((c : Call) → In c s.calls → Alive s c.act → Covered s m c.act →
+    q ≤ s.kept (root m)) × ((c : Include) → In c s.includes → Alive s c.act → Covered s m c.act → q ≤ c.grant)
 
 -- The invariant, part by part.
 
@@ -108,7 +116,8 @@ pub record NamingHolds (s : State) : Type 0 where
   pub first_above : 1 ≤ s.naming.first
   pub kept_below : (u : ℕ) → s.kept u < s.naming.bound
   pub made_below : (m : Act) → s.naming.made m < s.naming.bound
-  pub making : (m : Act) → is_top m ≡ true → s.naming.told m ≡ false → s.naming.first ≤ s.naming.made m → s.naming.recorded < s.naming.made m → 2 ≤ s.naming.rows m
+  pub making : (m : Act) → is_top m ≡ true → s.naming.told m ≡ false → s.naming.first ≤ s.naming.made m →
+      s.naming.recorded < s.naming.made m → 2 ≤ s.naming.rows m
   pub doubt : s.naming.first ≤ s.naming.recorded → NobodyInDoubt s
 
 pub record NamedHolds (s : State) (b : ℕ) : Type 0 where
@@ -135,10 +144,13 @@ pub record TopHolds (s : State) (m : Act) : Type 0 where
   pub before : (s.action m).place < s.now
   pub ordered : (s.action m).stage ≡ 3 → (s.action m).place < (s.action m).done
   pub goes : 1 ≤ (s.action m).stage → (s.action m).stage ≤ 2 → GoesOn s (root m)
-  pub called : 2 ≤ (s.action m).stage → (s.action m).stage ≤ 3 → (c : Call) → In c s.calls → Alive s c.act → Covered s m c.act → (s.yes m ≡ s.kept (root m)) × (s.confirmed m ≡ true)
-  pub included : 2 ≤ (s.action m).stage → (s.action m).stage ≤ 3 → (c : Include) → In c s.includes → Alive s c.act → Covered s m c.act → s.confirmed m ≡ true
+  pub called : 2 ≤ (s.action m).stage → (s.action m).stage ≤ 3 → (c : Call) → In c s.calls → Alive s c.act → Covered s m c.act →
+      (s.yes m ≡ s.kept (root m)) × (s.confirmed m ≡ true)
+  pub included : 2 ≤ (s.action m).stage → (s.action m).stage ≤ 3 → (c : Include) → In c s.includes → Alive s c.act → Covered s m c.act →
+      s.confirmed m ≡ true
   pub asked : s.confirmed m ≡ true → 1 ≤ (s.action m).stage
-  pub confirmed : s.confirmed m ≡ true → (s.naming.confirmed m ≡ true) ⊎ (((c : Call) → In c s.calls → Alive s c.act → Covered s m c.act → s.kept (root m) < s.naming.first) × ((c : Include) → In c s.includes → Alive s c.act → Covered s m c.act → c.grant < s.naming.first))
+  pub confirmed : s.confirmed m ≡ true → (s.naming.confirmed m ≡ true) ⊎ (((c : Call) → In c s.calls → Alive s c.act → Covered s m c.act →
+      s.kept (root m) < s.naming.first) × ((c : Include) → In c s.includes → Alive s c.act → Covered s m c.act → c.grant < s.naming.first))
   pub voting : 1 ≤ s.yes m → 1 ≤ (s.action m).stage
   pub named : 1 ≤ s.yes m → (s.binding (s.yes m)).named ≡ true
   pub voted : 1 ≤ s.yes m → IsUp s (s.yes m) → (server_of s (s.yes m)).voted m ≡ true
@@ -167,7 +179,8 @@ Before s m p = (1 ≤ (s.action m).stage) × ((s.action m).place < p)
 
 -- of two tops of one unit one committed before the other's commit was called
 abbrev pub Turns : State → Type 0
-Turns s = (m t : Act) → is_top m ≡ true → is_top t ≡ true → root m ≡ root t → m ≢ t → Live3 s m → Live3 s t → Done s m (s.action t).place ⊎ Done s t (s.action m).place
+Turns s = (m t : Act) → is_top m ≡ true → is_top t ≡ true → root m ≡ root t → m ≢ t → Live3 s m → Live3 s t →
+    Done s m (s.action t).place ⊎ Done s t (s.action m).place
 
 abbrev pub Member : State → Act → Act → Type 0
 Member s m a = ((s.action m).stage ≡ 0) ⊎ Covered s m a
@@ -187,10 +200,12 @@ pub record Counts (s : State) (c : Call) (m : Act) : Type 0 where
   pub counts : Good s m
 
 abbrev pub Pairs : State → Type 0
-Pairs s = (c d : Call) (m : Act) → In c s.calls → In d s.calls → c.line < d.line → root c.act ≢ root d.act → Counts s c m → Alive s d.act → Good s (top d.act) → Follows s c d.act d.write d.line m
+Pairs s = (c d : Call) (m : Act) → In c s.calls → In d s.calls → c.line < d.line → root c.act ≢ root d.act → Counts s c m → Alive s d.act →
+    Good s (top d.act) → Follows s c d.act d.write d.line m
 
 abbrev pub Nested : State → Type 0
-Nested s = (c d : Call) → In c s.calls → In d s.calls → c.line < d.line → root c.act ≡ root d.act → Conflict c.write d.write → Alive s c.act → Alive s d.act → Good s (top d.act) → Passed s c.act d.act d.line
+Nested s = (c d : Call) → In c s.calls → In d s.calls → c.line < d.line → root c.act ≡ root d.act → Conflict c.write d.write →
+    Alive s c.act → Alive s d.act → Good s (top d.act) → Passed s c.act d.act d.line
 
 pub record Holds (s : State) : Type 0 where
   pub naming : NamingHolds s

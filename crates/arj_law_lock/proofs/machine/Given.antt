@@ -1,17 +1,15 @@
 -- A vote that was given stands.
-use Rattle.std.proofs.Common.{◌≡◌, ◌≤◌, ◌==◌, ◌⊎◌, ℕ, Bool, true, false, cond, max, inl, inr, refl, sym, ◌∙◌, ap, subst, arith, eq-eqb, eqb-true}
-use Rattle.arj_law_lock.specs.machine.Actions.{Act, In, root, same, top}
-use Rattle.arj_law_lock.specs.machine.State.{Alive, Call, State, Vote}
-use Rattle.arj_law_lock.specs.machine.Steps.{Event, CrashNaming, BindLive, BindNew, Grant, Record, ConfirmTop, PassEntry, DropEntry, CrashServer, ActivateCopy, Apply, Refuse, Change, PassRow, PassTop, DropRows, VoteTop, Keep, Name, Load, SendInvoke, Answered, TurnedDown, Lost, GiveUp, CommitNested, Abort, CommitTop, SendVote, SendConfirm, Decide, Report, EndUnit, Included}
-use Rattle.arj_law_lock.specs.machine.Machine.{Guard, Run, ballot, next, stay, step}
-use Rattle.arj_law_lock.specs.machine.Laws.{GivenStands, given_by}
-use Rattle.arj_law_lock.proofs.machine.Paths.{act_here, same_is}
-use Rattle.arj_law_lock.proofs.machine.Claims.{Holds}
-use Rattle.arj_law_lock.proofs.machine.Later.{Later, alive_back, first_rises}
-use Rattle.arj_law_lock.proofs.machine.Order.{step_keeps}
-use Rattle.arj_law_lock.proofs.machine.ValueClaims.{Values}
-use Rattle.arj_law_lock.proofs.machine.VoteLasts.{Votes}
-use Rattle.arj_law_lock.proofs.machine.VoteSteps.{votes_agree}
+use Rattle.arj_law_lock.proofs.Terms
+use Terms.{◌≡◌, ◌≤◌, ◌==◌, ℕ, Bool, true, false, cond, max, inl, inr, refl, sym, ◌∙◌, ap, subst, arith, Act, In, root, same, top, Alive}
+use Terms.{Call, State, Vote, Event, CrashNaming, BindLive, BindNew, Grant, Record, ConfirmTop, PassEntry, DropEntry, CrashServer}
+use Terms.{ActivateCopy, Apply, Refuse, Change, PassRow, PassTop, DropRows, VoteTop, Keep, Name, Load, SendInvoke, Answered, TurnedDown}
+use Terms.{Lost, GiveUp, CommitNested, Abort, CommitTop, SendVote, SendConfirm, Decide, Report, EndUnit, Included, Guard, Run, ballot, next}
+use Terms.{stay, step, given_by}
+use Rattle.arj_law_lock.proofs.machine
+use machine.{Claims.Holds, Later.Later, Later.alive_back, Later.first_rises, Order.step_keeps, Paths.act_here, Paths.same_is}
+use machine.{ValueClaims.Values, VoteLasts.Votes, VoteSteps.votes_agree}
+use Rattle.arj_law_lock.specs.machine.Laws.{GivenStands}
+use Rattle.std.proofs.Common.{eq-eqb, eqb-true}
 
 -- ---- one step
 
@@ -19,10 +17,12 @@ use Rattle.arj_law_lock.proofs.machine.VoteSteps.{votes_agree}
 abbrev IsVoteLater : Act → State → State → Type 0
 IsVoteLater m s t = (s.yes m ≤ t.yes m) × (t.yes m ≡ s.yes m → t.vote m ≡ s.vote m)
 
-step_vote : (e : Event) (s : State) (m : Act) → (s.yes m ≤ (let t = next e s in t.yes m)) × ((let t = next e s in t.yes m) ≡ s.yes m → (let t = next e s in t.vote m) ≡ s.vote m)
+step_vote : (e : Event) (s : State) (m : Act) →
+    (s.yes m ≤ (let t = next e s in t.yes m)) × ((let t = next e s in t.yes m) ≡ s.yes m → (let t = next e s in t.vote m) ≡ s.vote m)
 step_vote (VoteTop n a b i) s m = by (same m a) refl
   where
-    by : (w : Bool) → same m a ≡ w → (s.yes m ≤ cond w (max (s.yes a) b) (s.yes m)) × (cond w (max (s.yes a) b) (s.yes m) ≡ s.yes m → cond w (ballot s n a b) (s.vote m) ≡ s.vote m)
+    by : (w : Bool) → same m a ≡ w → (s.yes m ≤ cond w (max (s.yes a) b) (s.yes m))
+        × (cond w (max (s.yes a) b) (s.yes m) ≡ s.yes m → cond w (ballot s n a b) (s.vote m) ≡ s.vote m)
     by false other = (omega arith, λ stays. refl)
     by true is =
         let one : m ≡ a = same_is m a is in
@@ -66,8 +66,8 @@ step_vote (Included a b c) s m = (omega arith, λ same. refl)
 
 -- ---- a run
 
--- What a run leaves of a top whose commit was called: nothing that was known of it is taken back, no call of it is new, and what was aborted
--- stays so.
+-- What a run leaves of a top whose commit was called: nothing that was known of it is taken back, no call of it is new, and what was
+-- aborted stays so.
 record Since (m : Act) (s t : State) : Type 0 where
   pub stage : (s.action m).stage ≤ (t.action m).stage
   pub first : s.naming.first ≤ t.naming.first
@@ -77,7 +77,14 @@ record Since (m : Act) (s t : State) : Type 0 where
   pub alive : (a : Act) → Alive t a → Alive s a
 
 since_none : (m : Act) (s : State) → Since m s s
-since_none m s = record { stage = omega arith; first = omega arith; kept = λ u. omega arith; vote = (omega arith, λ same. refl); calls = λ one c i is. i; alive = λ a h. h }
+since_none m s = record {
+  stage = omega arith;
+  first = omega arith;
+  kept = λ u. omega arith;
+  vote = (omega arith, λ same. refl);
+  calls = λ one c i is. i;
+  alive = λ a h. h;
+}
 
 since_step : (m : Act) (e : Event) (s : State) → Later s (next e s) → Since m s (next e s)
 since_step m e s later = record {
@@ -85,7 +92,11 @@ since_step m e s later = record {
   first = first_rises later;
   kept = later.kept;
   vote = step_vote e s m;
-  calls = λ one c i is. elim (later.fresh_call c i) [ inl old ↦ old | inr new ↦ (let zero : (let t = next e s in (t.action m).stage) ≡ 0 = ap (λ (a : Act). (let t = next e s in (t.action a).stage)) (sym is) ∙ new.0 in let up = later.stage m in absurd (omega (arith, one, zero, up))) ];
+  calls = λ one c i is. elim (later.fresh_call c i) [
+    | inl old ↦ old
+    | inr new ↦ (let zero : (let t = next e s in (t.action m).stage) ≡ 0 = ap (λ (a : Act). (let t = next e s in (t.action a).stage))
+        (sym is) ∙ new.0 in let up = later.stage m in absurd (omega (arith, one, zero, up)))
+  ];
   alive = alive_back later;
 }
 
@@ -96,7 +107,8 @@ since_both m s t u a b = record {
   kept = λ k. (let x = a.kept k in let y = b.kept k in omega (arith, x, y));
   vote = (
     (let x = a.vote in let y = b.vote in let p = x.0 in let q = y.0 in omega (arith, p, q)),
-    λ stays. (let x = a.vote in let y = b.vote in let p = x.0 in let q = y.0 in let last : u.yes m ≡ t.yes m = omega (arith, p, q, stays) in let early : t.yes m ≡ s.yes m = omega (arith, p, q, stays) in y.1 last ∙ x.1 early),
+    λ stays. (let x = a.vote in let y = b.vote in let p = x.0 in let q = y.0 in let last : u.yes m ≡ t.yes m = omega (arith, p, q, stays) in
+        let early : t.yes m ≡ s.yes m = omega (arith, p, q, stays) in y.1 last ∙ x.1 early),
   );
   calls = λ one c i is. (let x = a.stage in a.calls one c (b.calls (omega (arith, x, one)) c i is) is);
   alive = λ k h. a.alive k (b.alive k h);
@@ -104,7 +116,8 @@ since_both m s t u a b = record {
 
 since : (m : Act) {s t : State} → Run s t → Holds s → Since m s t
 since m {s} stay h = since_none m s
-since m {s} {t} (step e guard more) h = let k = step_keeps e s guard h in since_both m s (next e s) t (since_step m e s k.0) (since m more k.1)
+since m {s} {t} (step e guard more) h = let k = step_keeps e s guard h in
+    since_both m s (next e s) t (since_step m e s k.0) (since m more k.1)
 
 -- ---- what was given
 
@@ -125,7 +138,8 @@ given_stands {s} h v o n m b i t c guard run one given kept first ci write tops 
 
     -- the vote is what it was right behind it
     stays : t.vote m ≡ ballot s n m b
-    stays = (let z = behind.vote in let up = z.0 in let e = its_yes in z.1 (omega (arith, up, e, given))) ∙ act_here s.vote m (ballot s n m b)
+    stays =
+        (let z = behind.vote in let up = z.0 in let e = its_yes in z.1 (omega (arith, up, e, given))) ∙ act_here s.vote m (ballot s n m b)
 
     again : max (s.yes m) b ≡ s.yes m → s.vote m ≡ given_by s n m
     again same =
@@ -133,7 +147,9 @@ given_stands {s} h v o n m b i t c guard run one given kept first ci write tops 
         let z = whole.vote in let up = z.0 in
         let is : s.yes m ≡ b = omega (arith, same, up, given) in
         let named = mean.2 in let most = whole.kept (root m) in let stage = whole.stage in let least = mean.4 in let rises = whole.first in
-        votes_agree h v o n m i c (subst (λ (k : ℕ). Guard (VoteTop n m k i) s) (sym is) guard) (omega (arith, stage, least, one)) (omega (arith, is, named, most, kept)) (omega (arith, rises, first, named)) (whole.calls least c ci tops) write tops (whole.alive c.act alive)
+        votes_agree h v o n m i c (subst (λ (k : ℕ). Guard (VoteTop n m k i) s) (sym is) guard) (omega (arith, stage, least, one))
+        (omega (arith, is, named, most, kept)) (omega (arith, rises, first, named)) (whole.calls least c ci tops) write tops
+        (whole.alive c.act alive)
 
     by : (w : Bool) → (max (s.yes m) b == s.yes m) ≡ w → t.vote m ≡ given_by s n m
     by true is = stays ∙ (λ j. cond (is j) (s.vote m) (given_by s n m)) ∙ again (eqb-true (max (s.yes m) b) (s.yes m) is)

@@ -1,10 +1,10 @@
 -- What no step takes back, and that every claim lasts.
-use Rattle.std.proofs.Common.{◌≡◌, ◌≤◌, ◌<◌, ◌⊎◌, ℕ, Bool, true, false, inl, inr, refl, sym, ◌∙◌, ap, subst, arith}
-use Rattle.arj_law_lock.specs.machine.Actions.{Act, Root, Sub, on, root, top, is_top, is_action, In}
-use Rattle.arj_law_lock.specs.machine.Rows.{mode}
-use Rattle.arj_law_lock.specs.machine.State.{Server, Call, Include, State, Alive, Merged, Passed, Covered}
-use Rattle.arj_law_lock.proofs.machine.Claims.{server_of, IsUp, Reached, IsPast, GoesOn, Covers, gone, over, dropped, stands, Anchor, Sure, Good, Own, Wrote, Entered, Doubtless, Pending, NamedHolds, Done, Before, Member}
-use Rattle.arj_law_lock.specs.machine.Steps.{IsCurrent, NobodyInDoubt}
+use Rattle.arj_law_lock.proofs.Terms
+use Terms.{◌≡◌, ◌≤◌, ◌<◌, ◌⊎◌, ℕ, Bool, true, false, inl, inr, refl, sym, ◌∙◌, ap, subst, arith, Act, Root, Sub, on, root, top, is_top}
+use Terms.{is_action, In, mode, Server, Call, Include, State, Alive, Merged, Passed, Covered, IsCurrent, NobodyInDoubt}
+use Rattle.arj_law_lock.proofs.machine
+use machine.Claims.{server_of, IsUp, Reached, IsPast, GoesOn, Covers, gone, over, dropped, stands, Anchor, Sure, Good, Own, Wrote, Entered}
+use machine.Claims.{Doubtless, Pending, NamedHolds, Done, Before, Member}
 
 pub record ServerLater (v w : Server) : Type 0 where
   pub rises : v.incarnation ≤ w.incarnation
@@ -25,26 +25,34 @@ pub record Later (s t : State) : Type 0 where
   pub place : (a : Act) → 1 ≤ (s.action a).stage → (t.action a).place ≡ (s.action a).place
   pub placed : (a : Act) → (s.action a).place < s.now → (t.action a).place < t.now
   pub going : (m : Act) → is_top m ≡ true → 1 ≤ (t.action m).stage → (t.action m).stage ≤ 3 → (1 ≤ (s.action m).stage) ⊎ GoesOn s (root m)
-  pub units : (m : Act) → is_top m ≡ true → 1 ≤ (t.action m).stage → (t.action m).stage ≤ 2 → (1 ≤ (s.action m).stage → (s.action m).stage ≤ 2 → GoesOn s (root m)) → GoesOn t (root m)
+  pub units : (m : Act) → is_top m ≡ true → 1 ≤ (t.action m).stage → (t.action m).stage ≤ 2 →
+      (1 ≤ (s.action m).stage → (s.action m).stage ≤ 2 → GoesOn s (root m)) → GoesOn t (root m)
   pub kept : (u : ℕ) → s.kept u ≤ t.kept u
   pub keeps : (c : Call) → In c s.calls → Alive t c.act → t.kept (root c.act) ≡ s.kept (root c.act)
   pub calls : (c : Call) → In c s.calls → In c t.calls
   pub fresh_call : (c : Call) → In c t.calls → In c s.calls ⊎ (((t.action (top c.act)).stage ≡ 0) × (s.now ≤ c.line))
   pub includes : (c : Include) → In c s.includes → In c t.includes
   pub fresh_include : (c : Include) → In c t.includes → In c s.includes ⊎ (((t.action (top c.act)).stage ≡ 0) × (s.now ≤ c.line))
-  pub pend : (a : Act) (k : ℕ) → k ≤ (s.action a).request → Pending t a k → Pending s a k × ((t.action a).since ≡ (s.action a).since) × (t.kept (root a) ≡ s.kept (root a))
+  pub pend : (a : Act) (k : ℕ) → k ≤ (s.action a).request → Pending t a k →
+      Pending s a k × ((t.action a).since ≡ (s.action a).since) × (t.kept (root a) ≡ s.kept (root a))
   pub request : (a : Act) → (s.action a).request ≤ (t.action a).request
   pub own : (m : Act) (b : ℕ) → is_top m ≡ true → b < s.naming.bound → Own s m b → Own t m b
   pub wrote : (m : Act) (g : ℕ) → is_top m ≡ true → g ≤ s.naming.first → Wrote s m g → Wrote t m g
-  pub anchored : (k : ℕ) (m : Act) → is_top m ≡ true → 1 ≤ k → k ≤ 2 → t.naming.first ≡ s.naming.first → (t.action m).stage ≤ 3 → GoesOn t (root m) → ((s.action m).stage ≡ 3 → s.naming.confirmed m ≡ true) → Anchor s k m → Anchor t k m
-  pub same_recorded : (m : Act) → is_top m ≡ true → t.naming.first ≡ s.naming.first → s.naming.recorded ≡ s.kept (root m) → Anchor s 1 m → t.naming.recorded ≡ s.naming.recorded
+  pub anchored : (k : ℕ) (m : Act) → is_top m ≡ true → 1 ≤ k → k ≤ 2 → t.naming.first ≡ s.naming.first → (t.action m).stage ≤ 3 →
+      GoesOn t (root m) → ((s.action m).stage ≡ 3 → s.naming.confirmed m ≡ true) → Anchor s k m → Anchor t k m
+  pub same_recorded : (m : Act) → is_top m ≡ true → t.naming.first ≡ s.naming.first → s.naming.recorded ≡ s.kept (root m) → Anchor s 1 m →
+      t.naming.recorded ≡ s.naming.recorded
   pub current : (b : ℕ) → b < s.naming.bound → IsCurrent t.naming (t.binding b).maker b → IsCurrent s.naming (s.binding b).maker b
   pub settled : t.naming.first ≡ s.naming.first → NobodyInDoubt s → NobodyInDoubt t
-  pub stays : (a : Act) (b k : ℕ) (h : Act) → (s.binding b).named ≡ true → Alive t a → 1 ≤ k → ((s.action (top a)).stage ≡ 3 → IsUp s b → (server_of s b).voted (top a) ≡ true) → IsUp s b → on a h ≡ true → k ≤ (server_of s b).rows h → Merged s a h → Covers t a b k
-  pub confirmed : (m : Act) → s.naming.confirmed m ≡ true → (t.naming.confirmed m ≡ true) ⊎ ((s.naming.bound ≤ t.naming.first) × (s.naming.first < t.naming.first))
+  pub stays : (a : Act) (b k : ℕ) (h : Act) → (s.binding b).named ≡ true → Alive t a → 1 ≤ k → ((s.action (top a)).stage ≡ 3 → IsUp s b →
+      (server_of s b).voted (top a) ≡ true) → IsUp s b → on a h ≡ true → k ≤ (server_of s b).rows h → Merged s a h → Covers t a b k
+  pub confirmed : (m : Act) → s.naming.confirmed m ≡ true →
+      (t.naming.confirmed m ≡ true) ⊎ ((s.naming.bound ≤ t.naming.first) × (s.naming.first < t.naming.first))
   pub yes : (m : Act) (b : ℕ) → (s.binding b).named ≡ true → t.yes m ≡ b → (s.yes m ≡ b) ⊎ IsUp s b
-  pub confirms : (c : Call) → In c s.calls → Alive t c.act → (m : Act) → is_top m ≡ true → Member s m c.act → t.confirmed m ≡ true → (s.confirmed m ≡ true) ⊎ (s.naming.first ≤ s.kept (root m))
-  pub confirms_include : (c : Include) → In c s.includes → Alive t c.act → (m : Act) → is_top m ≡ true → Member s m c.act → t.confirmed m ≡ true → (s.confirmed m ≡ true) ⊎ (s.naming.first ≤ c.grant)
+  pub confirms : (c : Call) → In c s.calls → Alive t c.act → (m : Act) → is_top m ≡ true → Member s m c.act → t.confirmed m ≡ true →
+      (s.confirmed m ≡ true) ⊎ (s.naming.first ≤ s.kept (root m))
+  pub confirms_include : (c : Include) → In c s.includes → Alive t c.act → (m : Act) → is_top m ≡ true → Member s m c.act →
+      t.confirmed m ≡ true → (s.confirmed m ≡ true) ⊎ (s.naming.first ≤ c.grant)
 
 -- Paths and ends.
 
@@ -65,7 +73,8 @@ module _ {s t : State} (later : Later s t) where
   done_on m p h = let k = later.ends m h.0 in (k.0, (let l = h.1 in let e = k.1 in omega (arith, l, e)))
 
   pub before_on : (m : Act) (p : ℕ) → Before s m p → Before t m p
-  before_on m p h = let e = later.place m h.0 in let l = later.stage m in ((let l0 = h.0 in omega (arith, l, l0)), (let l1 = h.1 in omega (arith, e, l1)))
+  before_on m p h = let e = later.place m h.0 in let l = later.stage m in
+      ((let l0 = h.0 in omega (arith, l, l0)), (let l1 = h.1 in omega (arith, e, l1)))
 
   pub covered_back : (m a : Act) → is_action a ≡ true → 1 ≤ (s.action m).stage → (s.action m).place < s.now → Covered t m a → Covered s m a
   covered_back m a act one line (r, inl is) = (r, inl is)
@@ -88,7 +97,10 @@ module _ {s t : State} (later : Later s t) where
 
   -- nothing of a current binding is in doubt
   pub doubt_on : (b : ℕ) → b < s.naming.bound → Doubtless s b → Doubtless t b
-  doubt_on b l d current = elim later.first [ inl e ↦ later.settled e (d (later.current b l current)) | inr crash ↦ absurd (let g = crash.0 in let p = current.present in omega (arith, g, p, l)) ]
+  doubt_on b l d current = elim later.first [
+    | inl e ↦ later.settled e (d (later.current b l current))
+    | inr crash ↦ absurd (let g = crash.0 in let p = current.present in omega (arith, g, p, l))
+  ]
 
   -- Copies.
 
@@ -99,7 +111,8 @@ module _ {s t : State} (later : Later s t) where
       leq : (x y : ℕ) → x ≤ y → (x < y) ⊎ (x ≡ y)
       leq x y l = grind arith
 
-      by : ((s.server n).incarnation < (t.server n).incarnation) ⊎ ((s.server n).incarnation ≡ (t.server n).incarnation) → Reached (t.server n) i b
+      by : ((s.server n).incarnation < (t.server n).incarnation) ⊎ ((s.server n).incarnation ≡ (t.server n).incarnation) →
+          Reached (t.server n) i b
       by (inl up) = inl (omega (arith, up, e))
       by (inr same) = let l = (later.server n).active same in inr (e ∙ same, omega (arith, less, l))
 
@@ -114,10 +127,12 @@ module _ {s t : State} (later : Later s t) where
     same_server = ap t.server server_is
 
     pub reached_lasts : Reached (server_of s b) (s.binding b).incarnation b → Reached (server_of t b) (t.binding b).incarnation b
-    reached_lasts h = subst (λ (i : ℕ). Reached (server_of t b) i b) (sym incarnation_is) (subst (λ (v : Server). Reached v (s.binding b).incarnation b) (sym same_server) (reached_on (s.binding b).server (s.binding b).incarnation b h))
+    reached_lasts h = subst (λ (i : ℕ). Reached (server_of t b) i b) (sym incarnation_is) (subst (λ (v : Server).
+        Reached v (s.binding b).incarnation b) (sym same_server) (reached_on (s.binding b).server (s.binding b).incarnation b h))
 
     pub past_lasts : IsPast s b → IsPast t b
-    past_lasts h = let e = incarnation_is in subst (λ (v : Server). ((t.binding b).incarnation < v.incarnation) ⊎ (((t.binding b).incarnation ≡ v.incarnation) × (b < v.active))) (sym same_server) (by h)
+    past_lasts h = let e = incarnation_is in subst (λ (v : Server). ((t.binding b).incarnation < v.incarnation)
+        ⊎ (((t.binding b).incarnation ≡ v.incarnation) × (b < v.active))) (sym same_server) (by h)
       where
         leq : (x y : ℕ) → x ≤ y → (x < y) ⊎ (x ≡ y)
         leq x y l = grind arith
@@ -125,7 +140,8 @@ module _ {s t : State} (later : Later s t) where
         n : ℕ
         n = (s.binding b).server
 
-        by : IsPast s b → ((t.binding b).incarnation < (t.server n).incarnation) ⊎ (((t.binding b).incarnation ≡ (t.server n).incarnation) × (b < (t.server n).active))
+        by : IsPast s b → ((t.binding b).incarnation < (t.server n).incarnation)
+            ⊎ (((t.binding b).incarnation ≡ (t.server n).incarnation) × (b < (t.server n).active))
         by (inl less) = let l = (later.server n).rises in let e = incarnation_is in inl (omega (arith, less, l, e))
         by (inr (is, less)) = elim (leq (s.server n).incarnation (t.server n).incarnation (later.server n).rises) [
           | inl up ↦ (let e = incarnation_is in inl (omega (arith, up, is, e)))
@@ -133,7 +149,8 @@ module _ {s t : State} (later : Later s t) where
         ]
 
     -- a copy that is up was up, in the same incarnation
-    pub up_back : Reached (server_of s b) (s.binding b).incarnation b → IsUp t b → IsUp s b × ((server_of s b).incarnation ≡ (t.server (s.binding b).server).incarnation)
+    pub up_back : Reached (server_of s b) (s.binding b).incarnation b → IsUp t b →
+        IsUp s b × ((server_of s b).incarnation ≡ (t.server (s.binding b).server).incarnation)
     up_back h up = by h
       where
         n : ℕ
@@ -147,9 +164,11 @@ module _ {s t : State} (later : Later s t) where
 
         by : Reached (server_of s b) (s.binding b).incarnation b → IsUp s b × ((s.server n).incarnation ≡ (t.server n).incarnation)
         by (inl less) = let l = (later.server n).rises in let e = inc in absurd (omega (arith, less, l, e))
-        by (inr (is, less)) = let a = (later.server n).active (sym is ∙ sym inc) in let e = act in ((sym is, omega (arith, a, less, e)), sym is ∙ sym inc)
+        by (inr (is, less)) = let a = (later.server n).active (sym is ∙ sym inc) in let e = act in
+            ((sym is, omega (arith, a, less, e)), sym is ∙ sym inc)
 
-    pub covers_on : (a : Act) (k : ℕ) → 1 ≤ k → Alive t a → ((s.action (top a)).stage ≡ 3 → IsUp s b → (server_of s b).voted (top a) ≡ true) → Covers s a b k → Covers t a b k
+    pub covers_on : (a : Act) (k : ℕ) → 1 ≤ k → Alive t a →
+        ((s.action (top a)).stage ≡ 3 → IsUp s b → (server_of s b).voted (top a) ≡ true) → Covers s a b k → Covers t a b k
     covers_on a k one alive voted (gone h) = gone (past_lasts h)
     covers_on a k one alive voted (over h) = let l = later.stage (Root (root a)) in over (omega (arith, h, l))
     covers_on a k one alive voted (dropped u o h) = let l = later.stage u in dropped u o (omega (arith, h, l))
@@ -161,28 +180,41 @@ module _ {s t : State} (later : Later s t) where
 
   -- Tops.
 
-  pub sure_on : (m : Act) → is_top m ≡ true → (t.action m).stage ≤ 3 → t.kept (root m) ≡ s.kept (root m) → s.kept (root m) < s.naming.bound → ((s.action m).stage ≡ 3 → s.naming.first ≤ s.kept (root m) → s.naming.confirmed m ≡ true) → Sure s m → Sure t m
-  sure_on m is alive same below confirmed h = record { named = subst (λ (b : ℕ). (t.binding b).named ≡ true) (sym same) (later.named (s.kept (root m)) h.named).0; here = here }
+  pub sure_on : (m : Act) → is_top m ≡ true → (t.action m).stage ≤ 3 → t.kept (root m) ≡ s.kept (root m) → s.kept (root m) < s.naming.bound
+      → ((s.action m).stage ≡ 3 → s.naming.first ≤ s.kept (root m) → s.naming.confirmed m ≡ true) → Sure s m → Sure t m
+  sure_on m is alive same below confirmed h =
+      record { named = subst (λ (b : ℕ). (t.binding b).named ≡ true) (sym same) (later.named (s.kept (root m)) h.named).0; here = here }
     where
       here : t.naming.first ≤ t.kept (root m) → GoesOn t (root m) → (t.naming.recorded ≡ t.kept (root m)) × Anchor t 1 m
       here present goes = by later.first
         where
-          by : (t.naming.first ≡ s.naming.first) ⊎ ((s.naming.bound ≤ t.naming.first) × (s.naming.first < t.naming.first)) → (t.naming.recorded ≡ t.kept (root m)) × Anchor t 1 m
+          by : (t.naming.first ≡ s.naming.first) ⊎ ((s.naming.bound ≤ t.naming.first) × (s.naming.first < t.naming.first)) →
+              (t.naming.recorded ≡ t.kept (root m)) × Anchor t 1 m
           by (inl e) =
               let old : s.naming.first ≤ s.kept (root m) = omega (arith, e, same, present) in
-              let p = h.here old (goes_back (root m) goes) in
-              (later.same_recorded m is e p.0 p.1 ∙ p.0 ∙ sym same, later.anchored 1 m is (omega arith) (omega arith) e alive goes (λ three. confirmed three old) p.1)
+              let p = h.here old (goes_back (root m) goes) in (
+                later.same_recorded m is e p.0 p.1 ∙ p.0 ∙ sym same,
+                later.anchored 1 m is (omega arith) (omega arith) e alive goes (λ three. confirmed three old) p.1,
+              )
           by (inr crash) = let l = crash.0 in absurd (omega (arith, l, present, same, below))
 
-  pub entered_on : (m : Act) (g : ℕ) → is_top m ≡ true → g ≤ s.naming.first → (t.action m).stage ≤ 3 → ((s.action m).stage ≡ 3 → g ≡ s.naming.first → s.naming.confirmed m ≡ true) → Entered s m g → Entered t m g
+  pub entered_on : (m : Act) (g : ℕ) → is_top m ≡ true → g ≤ s.naming.first → (t.action m).stage ≤ 3 →
+      ((s.action m).stage ≡ 3 → g ≡ s.naming.first → s.naming.confirmed m ≡ true) → Entered s m g → Entered t m g
   entered_on m g is low alive confirmed h present goes = by later.first
     where
       by : (t.naming.first ≡ s.naming.first) ⊎ ((s.naming.bound ≤ t.naming.first) × (s.naming.first < t.naming.first)) → Anchor t 2 m
-      by (inl e) = later.anchored 2 m is (omega arith) (omega arith) e alive goes (λ three. confirmed three (present ∙ e)) (h (present ∙ e) (goes_back (root m) goes))
+      by (inl e) = later.anchored 2 m is (omega arith) (omega arith) e alive goes (λ three. confirmed three (present ∙ e))
+          (h (present ∙ e) (goes_back (root m) goes))
       by (inr crash) = let l = crash.1 in absurd (omega (arith, l, present, low))
 
-  pub good_back : (c : Call) → In c s.calls → Alive t c.act → (m : Act) → is_top m ≡ true → root m ≡ root c.act → Member s m c.act → NamedHolds s (s.kept (root m)) → (s.binding (s.kept (root m))).named ≡ true → Good t m → Good s m
-  good_back c i alive m is unit member n named good = record { alive = (let l = later.stage m in let k = good.alive in omega (arith, l, k)); going = going good.going; up = up good.up; present = present good.present }
+  pub good_back : (c : Call) → In c s.calls → Alive t c.act → (m : Act) → is_top m ≡ true → root m ≡ root c.act → Member s m c.act →
+      NamedHolds s (s.kept (root m)) → (s.binding (s.kept (root m))).named ≡ true → Good t m → Good s m
+  good_back c i alive m is unit member n named good = record {
+    alive = (let l = later.stage m in let k = good.alive in omega (arith, l, k));
+    going = going good.going;
+    up = up good.up;
+    present = present good.present;
+  }
     where
       same : t.kept (root m) ≡ s.kept (root m)
       same = ap t.kept unit ∙ later.keeps c i alive ∙ ap s.kept (sym unit)

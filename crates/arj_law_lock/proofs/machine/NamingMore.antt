@@ -1,26 +1,22 @@
 -- Naming makes a binding, records one, and confirms a top.
-use Rattle.std.proofs.Common.{◌≡◌, ◌≤◌, ◌<◌, ◌+◌, ◌⊎◌, ℕ, List, ◌∷◌, Bool, true, false, inl, inr, refl, sym, ◌∙◌, ap, subst, arith}
-use Rattle.arj_law_lock.specs.machine.Actions.{Act, Root, Sub, root, top, is_top, In}
-use Rattle.arj_law_lock.specs.machine.Rows.{Rows}
-use Rattle.arj_law_lock.specs.machine.State.{Binding, Naming, Call, Include, Message, Recorded, Confirm, State, Alive, Covered}
-use Rattle.arj_law_lock.specs.machine.Steps.{NobodyInDoubt, IsCurrent}
-use Rattle.arj_law_lock.proofs.machine.Paths.{by_cases, differ, top_root, on_root}
-use Rattle.arj_law_lock.proofs.machine.Claims.{GoesOn, stands, HoldsTop, Anchor, Own, Mean, NamingHolds, NamedHolds, TopHolds, Member, Holds}
-use Rattle.arj_law_lock.proofs.machine.Later.{Later}
-use Rattle.arj_law_lock.specs.machine.Rows.{raise}
-use Rattle.arj_law_lock.specs.machine.Steps.{BindNew, Record, ConfirmTop}
-use Rattle.arj_law_lock.specs.machine.Machine.{Guard, next, lowered}
-use Rattle.std.proofs.Common.{ℕ, cond, min, ◌==◌}
-use Rattle.arj_law_lock.specs.machine.Actions.{same, at_act}
-use Rattle.arj_law_lock.proofs.machine.Claims.{own, unit, sibling}
-use Rattle.arj_law_lock.proofs.machine.Paths.{act_cases, act_here, act_other, at_cases, at_here, same_number, same_is}
-use Rattle.arj_law_lock.proofs.machine.Rows.{apart_less, apart_raise}
-use Rattle.arj_law_lock.proofs.machine.Lasts.{join, top_on, wait_on}
-use Rattle.arj_law_lock.proofs.machine.NamingSteps.{server_same, later_naming, join_naming, raise_more, raise_least}
+use Rattle.arj_law_lock.proofs.Terms
+use Terms.{◌≡◌, ◌≤◌, ◌<◌, ◌+◌, ◌⊎◌, ℕ, List, ◌∷◌, Bool, true, false, inl, inr, refl, sym, ◌∙◌, ap, subst, arith, Act, Root, Sub, root, top}
+use Terms.{is_top, In, Rows, Binding, Naming, Call, Include, Message, Recorded, Confirm, State, Alive, Covered, NobodyInDoubt, IsCurrent}
+use Terms.{raise, BindNew, Record, ConfirmTop, Guard, next, lowered, cond, min, ◌==◌, same, at_act}
+use Rattle.arj_law_lock.proofs.machine
+use machine.{Lasts.join, Lasts.top_on, Lasts.wait_on, Later.Later, Rows.apart_less, Rows.apart_raise}
+use machine.Claims.{GoesOn, stands, HoldsTop, Anchor, Own, Mean, NamingHolds, NamedHolds, TopHolds, Member, Holds, own, unit, sibling}
+use machine.NamingSteps.{server_same, later_naming, join_naming, raise_more, raise_least}
+use machine.Paths.{by_cases, differ, top_root, on_root, act_cases, act_here, act_other, at_cases, at_here, same_number, same_is}
 
 -- A top gets the write row and a new binding.
-pub bind_new : (s : State) (m : Act) (b k : ℕ) → Guard (BindNew m b k) s → Holds s → Later s (next (BindNew m b k) s) × Holds (next (BindNew m b k) s)
-bind_new s m b k guard h = (later, join h later naming bindings h.servers (λ c i. i) (λ c i. inl i) (λ x is. top_on h later x is refl refl refl) h.turns h.ended (λ a. wait_on h later a (omega arith) (λ u o act e w alive. e) (λ c i. inl i)) h.anti mail)
+pub bind_new : (s : State) (m : Act) (b k : ℕ) → Guard (BindNew m b k) s → Holds s →
+    Later s (next (BindNew m b k) s) × Holds (next (BindNew m b k) s)
+bind_new s m b k guard h = (
+  later,
+  join h later naming bindings h.servers (λ c i. i) (λ c i. inl i) (λ x is. top_on h later x is refl refl refl) h.turns h.ended
+      (λ a. wait_on h later a (omega arith) (λ u o act e w alive. e) (λ c i. inl i)) h.anti mail,
+)
   where
     x : Binding
     x = record { server = k; maker = m; named = false; incarnation = 0 }
@@ -41,10 +37,12 @@ bind_new s m b k guard h = (later, join h later naming bindings h.servers (λ c 
     other j l = λ i. cond (apart i) x (s.binding j)
       where
         apart : (j == b) ≡ false
-        apart = elim (by_cases (j == b)) [ inl e ↦ absurd (let is = same_number j b e in let g = high in omega (arith, is, g, l)) | inr f ↦ f ]
+        apart =
+            elim (by_cases (j == b)) [ inl e ↦ absurd (let is = same_number j b e in let g = high in omega (arith, is, g, l)) | inr f ↦ f ]
 
     old_made : (a : Act) (j : ℕ) → j < s.naming.bound → at_act s.naming.made m b a ≡ j → s.naming.made a ≡ j
-    old_made a j l = act_cases (λ (y : Act) (v : ℕ). v ≡ j → s.naming.made y ≡ j) s.naming.made m b (λ e. absurd (let g = high in omega (arith, e, g, l))) (λ y f e. e) a
+    old_made a j l = act_cases (λ (y : Act) (v : ℕ). v ≡ j →
+        s.naming.made y ≡ j) s.naming.made m b (λ e. absurd (let g = high in omega (arith, e, g, l))) (λ y f e. e) a
 
     named_below : (j : ℕ) → (s.binding j).named ≡ true → j < s.naming.bound
     named_below j e = (h.bindings j e).below
@@ -64,7 +62,8 @@ bind_new s m b k guard h = (later, join h later naming bindings h.servers (λ c 
       recorded = omega arith;
       bound = (let g = high in omega (arith, g));
       made = λ j l. (ap (λ (y : Binding). y.server) (other j l), ap (λ (y : Binding). y.maker) (other j l));
-      named = λ j e. (ap (λ (y : Binding). y.named) (other j (named_below j e)) ∙ e, ap (λ (y : Binding). y.incarnation) (other j (named_below j e)));
+      named = λ j e.
+          (ap (λ (y : Binding). y.named) (other j (named_below j e)) ∙ e, ap (λ (y : Binding). y.incarnation) (other j (named_below j e)));
       server = λ n. server_same (s.server n);
       stage = λ a. omega arith;
       ends = λ a e. (e, refl);
@@ -88,7 +87,8 @@ bind_new s m b k guard h = (later, join h later naming bindings h.servers (λ c 
       current = λ j l current. before j l (other j l) current;
       settled = λ e d. d;
       stays = λ a j k' z e alive one v up o row merged. stands z
-          (up_same j (named_below j e) (λ (y : Binding). ((s.server y.server).incarnation ≡ y.incarnation) × ((s.server y.server).active ≡ j)) up) o
+          (up_same j (named_below j e)
+          (λ (y : Binding). ((s.server y.server).incarnation ≡ y.incarnation) × ((s.server y.server).active ≡ j)) up) o
           (up_same j (named_below j e) (λ (y : Binding). k' ≤ (s.server y.server).rows z) row) merged;
       confirmed = λ y e. inl e;
       yes = λ y j e f. inl f;
@@ -96,8 +96,14 @@ bind_new s m b k guard h = (later, join h later naming bindings h.servers (λ c 
       confirms_include = λ c i alive y is member e. inl e;
     }
       where
-        before : (j : ℕ) → j < s.naming.bound → t.binding j ≡ s.binding j → IsCurrent t.naming (t.binding j).maker j → IsCurrent s.naming (s.binding j).maker j
-        before j l e current = subst (λ (y : Binding). IsCurrent s.naming y.maker j) e (record { present = current.present; unrecorded = current.unrecorded; untold = current.untold; last = old_made (t.binding j).maker j l current.last })
+        before : (j : ℕ) → j < s.naming.bound → t.binding j ≡ s.binding j → IsCurrent t.naming (t.binding j).maker j →
+            IsCurrent s.naming (s.binding j).maker j
+        before j l e current = subst (λ (y : Binding). IsCurrent s.naming y.maker j) e (record {
+          present = current.present;
+          unrecorded = current.unrecorded;
+          untold = current.untold;
+          last = old_made (t.binding j).maker j l current.last;
+        })
 
     naming : NamingHolds t
     naming = record {
@@ -108,20 +114,31 @@ bind_new s m b k guard h = (later, join h later naming bindings h.servers (λ c 
       first_below = (let g = high in let r = h.naming.first_below in omega (arith, g, r));
       first_above = h.naming.first_above;
       kept_below = λ u. (let g = high in let r = h.naming.kept_below u in omega (arith, g, r));
-      made_below = act_cases (λ (y : Act) (v : ℕ). v < b + 1) s.naming.made m b (omega arith) (λ y f. (let g = high in let r = h.naming.made_below y in omega (arith, g, r)));
+      made_below = act_cases (λ (y : Act) (v : ℕ). v < b + 1) s.naming.made m b (omega arith)
+          (λ y f. (let g = high in let r = h.naming.made_below y in omega (arith, g, r)));
       making = λ y is. making y is;
       doubt = h.naming.doubt;
     }
       where
-        making : (y : Act) → is_top y ≡ true → s.naming.told y ≡ false → s.naming.first ≤ at_act s.naming.made m b y → s.naming.recorded < at_act s.naming.made m b y → 2 ≤ rows y
-        making = act_cases (λ (y : Act) (v : ℕ). is_top y ≡ true → s.naming.told y ≡ false → s.naming.first ≤ v → s.naming.recorded < v → 2 ≤ rows y) s.naming.made m b
-            (λ is untold present l. raise_least s.naming.rows m 2) (λ y f is untold present l. (let p = h.naming.making y is untold present l in let r = rise y in omega (arith, p, r)))
+        making : (y : Act) → is_top y ≡ true → s.naming.told y ≡ false → s.naming.first ≤ at_act s.naming.made m b y →
+            s.naming.recorded < at_act s.naming.made m b y → 2 ≤ rows y
+        making = act_cases (λ (y : Act) (v : ℕ). is_top y ≡ true → s.naming.told y ≡ false → s.naming.first ≤ v → s.naming.recorded < v →
+            2 ≤ rows y) s.naming.made m b
+            (λ is untold present l. raise_least s.naming.rows m 2)
+            (λ y f is untold present l. (let p = h.naming.making y is untold present l in let r = rise y in omega (arith, p, r)))
 
     bindings : (j : ℕ) → (t.binding j).named ≡ true → ((s.binding j).named ≡ true) ⊎ NamedHolds t j
-    bindings = at_cases (λ (j : ℕ) (y : Binding). y.named ≡ true → ((s.binding j).named ≡ true) ⊎ NamedHolds t j) s.binding b x (λ e. (let never : false ≡ true = e in absurd (cc))) (λ j f e. inl e)
+    bindings = at_cases (λ (j : ℕ) (y : Binding). y.named ≡ true →
+        ((s.binding j).named ≡ true) ⊎ NamedHolds t j) s.binding b x (λ e. (let never : false ≡ true = e in absurd (cc))) (λ j f e. inl e)
 
     mail : (y : Message) → In y t.net → In y s.net ⊎ Mean t y
-    mail y (inl is) = inr (subst (λ (z : Message). Mean t z) (sym is) (guard.0, ap (λ (z : Binding). z.maker) (at_here s.binding b x), (let g = high in let f = h.naming.first_above in let l = h.naming.first_below in omega (arith, g, f, l)), omega arith, λ present untold. (raise_less, inl (let g = high in let r = h.naming.recorded_below in omega (arith, g, r)))))
+    mail y (inl is) = inr (subst (λ (z : Message). Mean t z) (sym is) (
+      guard.0,
+      ap (λ (z : Binding). z.maker) (at_here s.binding b x),
+      (let g = high in let f = h.naming.first_above in let l = h.naming.first_below in omega (arith, g, f, l)),
+      omega arith,
+      λ present untold. (raise_less, inl (let g = high in let r = h.naming.recorded_below in omega (arith, g, r))),
+    ))
       where
         raise_less : 1 ≤ rows m
         raise_less = let l = raise_least s.naming.rows m 2 in omega (arith, l)
@@ -150,10 +167,12 @@ record_binding s b guard h = (later, join_naming s n ms h later naming mail)
     bound = h.bindings b guard.0
 
     write : 2 ≤ s.naming.rows m
-    write = h.naming.making m bound.maker guard.1.untold (let e = guard.1.last in let l = guard.1.present in omega (arith, e, l)) (let e = guard.1.last in let l = guard.1.unrecorded in omega (arith, e, l))
+    write = h.naming.making m bound.maker guard.1.untold (let e = guard.1.last in let l = guard.1.present in
+        omega (arith, e, l)) (let e = guard.1.last in let l = guard.1.unrecorded in omega (arith, e, l))
 
     less : (a : Act) → rows a ≤ s.naming.rows a
-    less = act_cases (λ (a : Act) (v : ℕ). v ≤ s.naming.rows a) s.naming.rows m (cond (s.naming.asked m) (s.naming.rows m) (min (s.naming.rows m) 1)) (by (s.naming.asked m)) (λ a f. omega arith)
+    less = act_cases (λ (a : Act) (v : ℕ). v ≤ s.naming.rows a) s.naming.rows m
+        (cond (s.naming.asked m) (s.naming.rows m) (min (s.naming.rows m) 1)) (by (s.naming.asked m)) (λ a f. omega arith)
       where
         by : (w : Bool) → cond w (s.naming.rows m) (min (s.naming.rows m) 1) ≤ s.naming.rows m
         by true = omega arith
@@ -163,12 +182,17 @@ record_binding s b guard h = (later, join_naming s n ms h later naming mail)
     row_stays a f = act_other s.naming.rows m (cond (s.naming.asked m) (s.naming.rows m) (min (s.naming.rows m) 1)) a f
 
     holding : (k : ℕ) (x : Act) → 1 ≤ k → k ≤ 2 → HoldsTop s.naming k x → HoldsTop n k x
-    holding k x one two p = (act_cases (λ (a : Act) (v : ℕ). k ≤ s.naming.rows a → (2 ≤ k → s.naming.asked a ≡ true) → k ≤ v) s.naming.rows m (cond (s.naming.asked m) (s.naming.rows m) (min (s.naming.rows m) 1)) (λ l ask. by (s.naming.asked m) refl l ask) (λ a f l ask. l) x p.0 p.1, p.1)
+    holding k x one two p = (
+      act_cases (λ (a : Act) (v : ℕ). k ≤ s.naming.rows a → (2 ≤ k → s.naming.asked a ≡ true) → k ≤ v) s.naming.rows m (cond (s.naming.asked
+          m) (s.naming.rows m) (min (s.naming.rows m) 1)) (λ l ask. by (s.naming.asked m) refl l ask) (λ a f l ask. l) x p.0 p.1,
+      p.1,
+    )
       where
         two_cases : (j : ℕ) → 1 ≤ j → (j ≡ 1) ⊎ (2 ≤ j)
         two_cases j l = grind arith
 
-        by : (w : Bool) → s.naming.asked m ≡ w → k ≤ s.naming.rows m → (2 ≤ k → s.naming.asked m ≡ true) → k ≤ cond w (s.naming.rows m) (min (s.naming.rows m) 1)
+        by : (w : Bool) → s.naming.asked m ≡ w → k ≤ s.naming.rows m → (2 ≤ k → s.naming.asked m ≡ true) →
+            k ≤ cond w (s.naming.rows m) (min (s.naming.rows m) 1)
         by true e l ask = l
         by false e l ask = elim (two_cases k one) [ inl is ↦ omega (arith, is, l) | inr more ↦ differ (ask more) e ]
 
@@ -182,7 +206,8 @@ record_binding s b guard h = (later, join_naming s n ms h later naming mail)
     one_row : (x : Act) → HoldsTop s.naming 1 x → 1 ≤ rows x
     one_row x p = (holding 1 x (omega arith) (omega arith) p).0
 
-    anchored : (k : ℕ) (x : Act) → is_top x ≡ true → 1 ≤ k → k ≤ 2 → s.naming.first ≡ s.naming.first → (s.action x).stage ≤ 3 → GoesOn s (root x) → ((s.action x).stage ≡ 3 → s.naming.confirmed x ≡ true) → Anchor s k x → Anchor t k x
+    anchored : (k : ℕ) (x : Act) → is_top x ≡ true → 1 ≤ k → k ≤ 2 → s.naming.first ≡ s.naming.first → (s.action x).stage ≤ 3 →
+        GoesOn s (root x) → ((s.action x).stage ≡ 3 → s.naming.confirmed x ≡ true) → Anchor s k x → Anchor t k x
     anchored k x is one two e alive goes conf (own p) = own (holding k x one two p)
     anchored k x is one two e alive goes conf (unit l) = unit (unit_row (root x) k l)
     anchored k x is one two e alive goes conf (sibling z it r three c p) = sibling z it r three c (holding k z one two p)
@@ -208,15 +233,22 @@ record_binding s b guard h = (later, join_naming s n ms h later naming mail)
         after : (b < j) ⊎ ((b ≡ j) ⊎ (j < b)) → (b < j) ⊎ ((b ≡ j) ⊎ (j < s.kept (root x)))
         after (inl l) = inl l
         after (inr (inl e)) = inr (inl e)
-        after (inr (inr l)) = let r : s.kept (root m) ≡ s.kept (root x) = ap s.kept (kin_root x p.0) in let q = bound.kept in inr (inr (omega (arith, l, r, q)))
+        after (inr (inr l)) = let r : s.kept (root m) ≡ s.kept (root x) = ap s.kept (kin_root x p.0) in let q = bound.kept in
+            inr (inr (omega (arith, l, r, q)))
 
     later : Later s t
     later = later_naming s n ms (inl refl) (let l = guard.1.unrecorded in omega (arith, l)) (omega arith)
         (λ x j is l o. own_stays x j is o)
         (λ x g is l w present untold. holding 2 x (omega arith) (omega arith) (w present untold))
         anchored
-        (λ x is e f a. absurd (let r : s.kept (root m) ≡ s.kept (root x) = ap s.kept (anchor_root x a) in let q = bound.kept in let l = guard.1.unrecorded in omega (arith, f, r, q, l)))
-        (λ j l current. (record { present = current.present; unrecorded = (let u = current.unrecorded in let q = guard.1.unrecorded in omega (arith, u, q)); untold = current.untold; last = current.last }))
+        (λ x is e f a. absurd (let r : s.kept (root m) ≡ s.kept (root x) = ap s.kept (anchor_root x a) in let q = bound.kept in
+        let l = guard.1.unrecorded in omega (arith, f, r, q, l)))
+        (λ j l current. (record {
+          present = current.present;
+          unrecorded = (let u = current.unrecorded in let q = guard.1.unrecorded in omega (arith, u, q));
+          untold = current.untold;
+          last = current.last;
+        }))
         (λ x e. inl e)
 
     naming : NamingHolds t
@@ -233,17 +265,25 @@ record_binding s b guard h = (later, join_naming s n ms h later naming mail)
       doubt = λ l. bound.doubtless guard.1;
     }
       where
-        making : (x : Act) → is_top x ≡ true → s.naming.told x ≡ false → s.naming.first ≤ s.naming.made x → b < s.naming.made x → (same x m ≡ true) ⊎ (same x m ≡ false) → 2 ≤ rows x
-        making x is untold present l (inl e) = absurd (let q : s.naming.made x ≡ s.naming.made m = ap s.naming.made (same_is x m e) in let r = guard.1.last in omega (arith, q, r, l))
-        making x is untold present l (inr f) = (let e = row_stays x f in let p = h.naming.making x is untold present (let q = guard.1.unrecorded in omega (arith, q, l)) in omega (arith, e, p))
+        making : (x : Act) → is_top x ≡ true → s.naming.told x ≡ false → s.naming.first ≤ s.naming.made x → b < s.naming.made x →
+            (same x m ≡ true) ⊎ (same x m ≡ false) → 2 ≤ rows x
+        making x is untold present l (inl e) = absurd (let q : s.naming.made x ≡ s.naming.made m = ap s.naming.made (same_is x m e) in
+            let r = guard.1.last in omega (arith, q, r, l))
+        making x is untold present l (inr f) = (let e = row_stays x f in
+            let p = h.naming.making x is untold present (let q = guard.1.unrecorded in omega (arith, q, l)) in omega (arith, e, p))
 
     mail : (x : Message) → In x ms → In x s.net ⊎ Mean t x
     mail x (inl is) = inr (subst (λ (y : Message). Mean t y) (sym is) (guard.0, omega arith))
     mail x (inr i) = inl i
 
 -- A top is confirmed.
-pub confirm_top : (s : State) (m : Act) (q : ℕ) → Guard (ConfirmTop m q) s → Holds s → Later s (next (ConfirmTop m q) s) × Holds (next (ConfirmTop m q) s)
-confirm_top s m q guard h = (later, join h later naming (λ b e. inl e) h.servers (λ c i. i) (λ c i. inl i) tops h.turns h.ended (λ a. wait_on h later a (omega arith) (λ u o act e w alive. e) (λ c i. inl i)) h.anti (λ x i. inl i))
+pub confirm_top : (s : State) (m : Act) (q : ℕ) → Guard (ConfirmTop m q) s → Holds s →
+    Later s (next (ConfirmTop m q) s) × Holds (next (ConfirmTop m q) s)
+confirm_top s m q guard h = (
+  later,
+  join h later naming (λ b e. inl e) h.servers (λ c i. i) (λ c i. inl i) tops h.turns h.ended
+      (λ a. wait_on h later a (omega arith) (λ u o act e w alive. e) (λ c i. inl i)) h.anti (λ x i. inl i),
+)
   where
     t : State
     t = next (ConfirmTop m q) s
@@ -255,10 +295,12 @@ confirm_top s m q guard h = (later, join h later naming (λ b e. inl e) h.server
     line = mean.1
 
     conf_more : (a : Act) → s.naming.confirmed a ≡ true → t.naming.confirmed a ≡ true
-    conf_more = act_cases (λ (a : Act) (v : Bool). s.naming.confirmed a ≡ true → v ≡ true) s.naming.confirmed m true (λ e. refl) (λ a f e. e)
+    conf_more =
+        act_cases (λ (a : Act) (v : Bool). s.naming.confirmed a ≡ true → v ≡ true) s.naming.confirmed m true (λ e. refl) (λ a f e. e)
 
     history : (a : Act) → t.confirmed a ≡ true → (a ≡ m) ⊎ (s.confirmed a ≡ true)
-    history = act_cases (λ (a : Act) (v : Bool). v ≡ true → (a ≡ m) ⊎ (s.confirmed a ≡ true)) s.confirmed m true (λ e. inl refl) (λ a f e. inr e)
+    history =
+        act_cases (λ (a : Act) (v : Bool). v ≡ true → (a ≡ m) ⊎ (s.confirmed a ≡ true)) s.confirmed m true (λ e. inl refl) (λ a f e. inr e)
 
     anchored : (k : ℕ) (x : Act) → Anchor s k x → Anchor t k x
     anchored k x (own p) = own p
@@ -271,7 +313,8 @@ confirm_top s m q guard h = (later, join h later naming (λ b e. inl e) h.server
 
     settled : NobodyInDoubt s → NobodyInDoubt t
     settled d c i w alive conf two = elim (history (top c.act) conf) [
-      | inl is ↦ subst (λ (u : ℕ). s.naming.first ≤ s.kept u) (sym (ap root is) ∙ top_root c.act) (present c i alive (sym (top_root c.act) ∙ ap root is, inl is))
+      | inl is ↦ subst (λ (u : ℕ). s.naming.first ≤ s.kept u) (sym (ap root is) ∙ top_root c.act)
+          (present c i alive (sym (top_root c.act) ∙ ap root is, inl is))
       | inr e ↦ d c i w alive e two
     ]
 
@@ -303,16 +346,19 @@ confirm_top s m q guard h = (later, join h later naming (λ b e. inl e) h.server
       wrote = λ x g is l w. w;
       anchored = λ k x is one two e alive goes conf a. anchored k x a;
       same_recorded = λ x is e f a. refl;
-      current = λ b l current. record { present = current.present; unrecorded = current.unrecorded; untold = current.untold; last = current.last };
+      current = λ b l current.
+          record { present = current.present; unrecorded = current.unrecorded; untold = current.untold; last = current.last };
       settled = λ e d. settled d;
       stays = λ a b k z e alive one v up o row merged. stands z up o row merged;
       confirmed = λ x e. inl (conf_more x e);
       yes = λ x b e f. inl f;
       confirms = λ c i alive x is member e. elim (history x e) [
-        | inl w ↦ inr (subst (λ (y : Act). s.naming.first ≤ s.kept (root y)) (sym w) (of_member c i alive (subst (λ (y : Act). Member s y c.act) w member)))
+        | inl w ↦ inr (subst (λ (y : Act). s.naming.first ≤ s.kept (root y)) (sym w)
+            (of_member c i alive (subst (λ (y : Act). Member s y c.act) w member)))
         | inr f ↦ inl f
       ];
-      confirms_include = λ c i alive x is member e. elim (history x e) [ inl w ↦ inr (of_include c i alive (subst (λ (y : Act). Member s y c.act) w member)) | inr f ↦ inl f ];
+      confirms_include = λ c i alive x is member e.
+          elim (history x e) [ inl w ↦ inr (of_include c i alive (subst (λ (y : Act). Member s y c.act) w member)) | inr f ↦ inl f ];
     }
       where
         of_include : (c : Include) → In c s.includes → Alive s c.act → Member s m c.act → s.naming.first ≤ c.grant
@@ -324,10 +370,24 @@ confirm_top s m q guard h = (later, join h later naming (λ b e. inl e) h.server
         of_member c i alive (inr covers) = present c i alive covers
 
     naming : NamingHolds t
-    naming = record { apart = h.naming.apart; told = h.naming.told; known = h.naming.known; recorded_below = h.naming.recorded_below; first_below = h.naming.first_below; first_above = h.naming.first_above; kept_below = h.naming.kept_below; made_below = h.naming.made_below; making = h.naming.making; doubt = λ l. settled (h.naming.doubt l) }
+    naming = record {
+      apart = h.naming.apart;
+      told = h.naming.told;
+      known = h.naming.known;
+      recorded_below = h.naming.recorded_below;
+      first_below = h.naming.first_below;
+      first_above = h.naming.first_above;
+      kept_below = h.naming.kept_below;
+      made_below = h.naming.made_below;
+      making = h.naming.making;
+      doubt = λ l. settled (h.naming.doubt l);
+    }
 
     tops : (x : Act) → is_top x ≡ true → TopHolds t x
-    tops x is = elim (by_cases (same x m)) [ inl e ↦ subst (λ (y : Act). TopHolds t y) (sym (same_is x m e)) here | inr f ↦ top_on h later x is refl refl (act_other s.confirmed m true x f) ]
+    tops x is = elim (by_cases (same x m)) [
+      | inl e ↦ subst (λ (y : Act). TopHolds t y) (sym (same_is x m e)) here
+      | inr f ↦ top_on h later x is refl refl (act_other s.confirmed m true x f)
+    ]
       where
         old : TopHolds s m
         old = h.tops m mean.0

@@ -1,17 +1,17 @@
 -- Each step keeps the invariant of order, and so does each run.
-use Rattle.std.proofs.Common.{◌≡◌, ℕ, true, false, arith}
-use Rattle.arj_law_lock.specs.machine.State.{State}
-use Rattle.arj_law_lock.specs.machine.Steps.{Event, CrashNaming, BindLive, BindNew, Grant, Record, ConfirmTop, PassEntry, DropEntry, CrashServer, ActivateCopy, Apply, Refuse, Change, PassRow, PassTop, DropRows, VoteTop, Keep, Name, Load, SendInvoke, Answered, TurnedDown, Lost, GiveUp, CommitNested, Abort, CommitTop, SendVote, SendConfirm, Decide, Report, EndUnit, Included}
-use Rattle.arj_law_lock.specs.machine.Machine.{Guard, next, start, Run, stay, step}
-use Rattle.arj_law_lock.proofs.machine.Rows.{apart_none}
-use Rattle.arj_law_lock.proofs.machine.Claims.{Holds}
-use Rattle.arj_law_lock.proofs.machine.Later.{Later}
-use Rattle.arj_law_lock.proofs.machine.NamingSteps.{crash_naming, bind_live, grant, pass_entry, drop_entry}
-use Rattle.arj_law_lock.proofs.machine.NamingMore.{bind_new, record_binding, confirm_top}
-use Rattle.arj_law_lock.proofs.machine.ServerSteps.{crash_server, activate, apply, refuse, change, pass_row, pass_top, drop_rows, vote_top, load, send_vote, send_confirm}
-use Rattle.arj_law_lock.proofs.machine.CallSteps.{send_invoke, stop_call, commit_nested, abort}
-use Rattle.arj_law_lock.proofs.machine.CommitSteps.{commit_top, decide, report, end_unit, keep, name_binding, included}
-use Rattle.arj_law_lock.proofs.machine.AnswerStep.{answered}
+use Rattle.arj_law_lock.proofs.Terms
+use Terms.{◌≡◌, ℕ, true, false, arith, State, Event, CrashNaming, BindLive, BindNew, Grant, Record, ConfirmTop, PassEntry, DropEntry}
+use Terms.{CrashServer, ActivateCopy, Apply, Refuse, Change, PassRow, PassTop, DropRows, VoteTop, Keep, Name, Load, SendInvoke, Answered}
+use Terms.{TurnedDown, Lost, GiveUp, CommitNested, Abort, CommitTop, SendVote, SendConfirm, Decide, Report, EndUnit, Included, Guard, next}
+use Terms.{start, Run, stay, step}
+use Rattle.arj_law_lock.proofs.machine
+use machine.{AnswerStep.answered, Claims.Holds, Later.Later, Rows.apart_none}
+use machine.CallSteps.{send_invoke, stop_call, commit_nested, abort}
+use machine.CommitSteps.{commit_top, decide, report, end_unit, keep, name_binding, included}
+use machine.NamingMore.{bind_new, record_binding, confirm_top}
+use machine.NamingSteps.{crash_naming, bind_live, grant, pass_entry, drop_entry}
+use machine.ServerSteps.{crash_server, activate, apply, refuse, change, pass_row, pass_top, drop_rows, vote_top, load, send_vote}
+use machine.ServerSteps.{send_confirm}
 
 pub step_keeps : (e : Event) (s : State) → Guard e s → Holds s → Later s (next e s) × Holds (next e s)
 step_keeps (CrashNaming g) s guard h = crash_naming s g guard h
@@ -51,12 +51,34 @@ step_keeps (Included a g p) s guard h = included s a g p guard h
 
 pub start_holds : (v : ℕ) → Holds (start v)
 start_holds v = record {
-  naming = record { apart = apart_none; told = λ m is e. (let never : false ≡ true = e in absurd (cc)); known = λ l. absurd (omega (arith, l)); recorded_below = omega arith; first_below = omega arith; first_above = omega arith; kept_below = λ u. omega arith; made_below = λ m. omega arith; making = λ m is e l. absurd (omega (arith, l)); doubt = λ l. absurd (omega (arith, l)) };
+  naming = record {
+    apart = apart_none;
+    told = λ m is e. (let never : false ≡ true = e in absurd (cc));
+    known = λ l. absurd (omega (arith, l));
+    recorded_below = omega arith;
+    first_below = omega arith;
+    first_above = omega arith;
+    kept_below = λ u. omega arith;
+    made_below = λ m. omega arith;
+    making = λ m is e l. absurd (omega (arith, l));
+    doubt = λ l. absurd (omega (arith, l));
+  };
   bindings = λ b e. (let never : false ≡ true = e in absurd (cc));
   servers = λ n. apart_none;
   calls = λ c i. absurd i;
   includes = λ c i. absurd i;
-  tops = λ m is. record { before = omega arith; ordered = λ e. absurd (omega (arith, e)); goes = λ l k. absurd (omega (arith, l)); called = λ l k. absurd (omega (arith, l)); included = λ l k. absurd (omega (arith, l)); asked = λ e. (let never : false ≡ true = e in absurd (cc)); confirmed = λ e. (let never : false ≡ true = e in absurd (cc)); voting = λ l. absurd (omega (arith, l)); named = λ l. absurd (omega (arith, l)); voted = λ l. absurd (omega (arith, l)) };
+  tops = λ m is. record {
+    before = omega arith;
+    ordered = λ e. absurd (omega (arith, e));
+    goes = λ l k. absurd (omega (arith, l));
+    called = λ l k. absurd (omega (arith, l));
+    included = λ l k. absurd (omega (arith, l));
+    asked = λ e. (let never : false ≡ true = e in absurd (cc));
+    confirmed = λ e. (let never : false ≡ true = e in absurd (cc));
+    voting = λ l. absurd (omega (arith, l));
+    named = λ l. absurd (omega (arith, l));
+    voted = λ l. absurd (omega (arith, l));
+  };
   turns = λ m t is it r apart l k. absurd (let q = l.0 in omega (arith, q));
   ended = λ a act e. absurd (omega (arith, e));
   waits = λ a w. (let never : false ≡ true = w in absurd (cc));

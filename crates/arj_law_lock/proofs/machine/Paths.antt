@@ -1,6 +1,8 @@
 -- Actions and their paths; functions that change at one place.
-use Rattle.std.proofs.Common.{◌≡◌, ◌≤◌, ◌+◌, ◌⊎◌, ℕ, ◌==◌, Bool, true, false, cond, ◌&&◌, ◌||◌, inl, inr, refl, sym, ◌∙◌, ap, subst, arith}
-use Rattle.arj_law_lock.specs.machine.Actions.{Act, Root, Sub, depth, same, on, root, top, is_top, is_action, at, at_act}
+use Rattle.arj_law_lock.proofs.Terms
+use Terms.{◌≡◌, ◌≤◌, ◌+◌, ◌⊎◌, ℕ, ◌==◌, Bool, true, false, cond, ◌&&◌, ◌||◌, inl, inr, refl, sym, ◌∙◌, ap, subst, arith, Act, Root, Sub}
+use Terms.{same, on, root, top, is_top, is_action, at, at_act}
+use Rattle.arj_law_lock.specs.machine.Actions.{depth}
 
 pub by_cases : (b : Bool) → (b ≡ true) ⊎ (b ≡ false)
 by_cases true = inl refl
@@ -90,10 +92,12 @@ shallow (Sub a n) b p = by (shallow a b) (on_up a n b p)
 
 -- what stands below an action isn't on its path
 pub not_below : (a : Act) (n : ℕ) → on a (Sub a n) ≡ false
-not_below a n = elim (by_cases (on a (Sub a n))) [ inl t ↦ (let l : depth a + 1 ≤ depth a = shallow a (Sub a n) t in absurd (omega (arith, l))) | inr f ↦ f ]
+not_below a n = elim (by_cases (on a (Sub a n)))
+    [ inl t ↦ (let l : depth a + 1 ≤ depth a = shallow a (Sub a n) t in absurd (omega (arith, l))) | inr f ↦ f ]
 
 pub not_same : (a : Act) (n : ℕ) → same a (Sub a n) ≡ false
-not_same a n = elim (by_cases (same a (Sub a n))) [ inl t ↦ differ (subst (λ (c : Act). on a c ≡ true) (same_is a (Sub a n) t) (on_self a)) (not_below a n) | inr f ↦ f ]
+not_same a n = elim (by_cases (same a (Sub a n)))
+    [ inl t ↦ differ (subst (λ (c : Act). on a c ≡ true) (same_is a (Sub a n) t) (on_self a)) (not_below a n) | inr f ↦ f ]
 
 pub on_base : (a : Act) → on a (Root (root a)) ≡ true
 on_base (Root u) = on_self (Root u)
@@ -146,11 +150,13 @@ top_of a m e p = one_top a m (top_action m e) p ∙ top_self m e
 
 -- on a top's path stand the top and its root
 pub above_top : (m u : Act) → is_top m ≡ true → on m u ≡ true → (u ≡ m) ⊎ (u ≡ Root (root m))
-above_top m u e p = elim (by_cases (is_action u)) [ inl t ↦ inl (by t (by_cases (is_top u))) | inr f ↦ inr (root_is u f ∙ ap Root (sym (on_root m u p))) ]
+above_top m u e p =
+    elim (by_cases (is_action u)) [ inl t ↦ inl (by t (by_cases (is_top u))) | inr f ↦ inr (root_is u f ∙ ap Root (sym (on_root m u p))) ]
   where
     top_here : (m u : Act) → is_top m ≡ true → on m u ≡ true → is_action u ≡ true → u ≡ m
     top_here (Root v) u e p t = differ {b = false} (sym (let never : false ≡ true = e in absurd (cc))) refl
-    top_here (Sub (Root v) n) u e p t = elim (on_up (Root v) n u p) [ inl is ↦ is | inr o ↦ differ t (ap is_action (sym (same_is (Root v) u o))) ]
+    top_here (Sub (Root v) n) u e p t =
+        elim (on_up (Root v) n u p) [ inl is ↦ is | inr o ↦ differ t (ap is_action (sym (same_is (Root v) u o))) ]
     top_here (Sub (Sub a k) n) u e p t = let never : false ≡ true = e in absurd (cc)
 
     by : is_action u ≡ true → (is_top u ≡ true) ⊎ (is_top u ≡ false) → u ≡ m
@@ -161,7 +167,8 @@ on_kin m t e f p = sym (top_self m e) ∙ top_of m t f p
 
 -- Functions that change at one place.
 
-pub at_cases : {V : Type 0} (P : ℕ → V → Type 0) (f : ℕ → V) (k : ℕ) (v : V) → P k v → ((j : ℕ) → (j == k) ≡ false → P j (f j)) → (j : ℕ) → P j (at f k v j)
+pub at_cases : {V : Type 0} (P : ℕ → V → Type 0) (f : ℕ → V) (k : ℕ) (v : V) → P k v → ((j : ℕ) → (j == k) ≡ false → P j (f j)) → (j : ℕ) →
+    P j (at f k v j)
 at_cases P f k v here there j = by (j == k) refl
   where
     by : (b : Bool) → (j == k) ≡ b → P j (cond b v (f j))
@@ -171,7 +178,8 @@ at_cases P f k v here there j = by (j == k) refl
 pub at_here : {V : Type 0} (f : ℕ → V) (k : ℕ) (v : V) → at f k v k ≡ v
 at_here f k v = λ i. cond (number_self k i) v (f k)
 
-pub act_cases : {V : Type 0} (P : Act → V → Type 0) (f : Act → V) (a : Act) (v : V) → P a v → ((b : Act) → same b a ≡ false → P b (f b)) → (b : Act) → P b (at_act f a v b)
+pub act_cases : {V : Type 0} (P : Act → V → Type 0) (f : Act → V) (a : Act) (v : V) → P a v → ((b : Act) → same b a ≡ false → P b (f b)) →
+    (b : Act) → P b (at_act f a v b)
 act_cases P f a v here there b = by (same b a) refl
   where
     by : (w : Bool) → same b a ≡ w → P b (cond w v (f b))

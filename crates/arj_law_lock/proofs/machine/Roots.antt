@@ -1,16 +1,17 @@
 -- A unit is open or over.
-use Rattle.std.proofs.Common.{◌≡◌, ◌≤◌, ℕ, true, false, arith}
-use Rattle.arj_law_lock.specs.machine.Actions.{Act, Root, is_action, at_act}
-use Rattle.arj_law_lock.specs.machine.State.{Action, State}
-use Rattle.arj_law_lock.specs.machine.Steps.{Event, CrashNaming, BindLive, BindNew, Grant, Record, ConfirmTop, PassEntry, DropEntry, CrashServer, ActivateCopy, Apply, Refuse, Change, PassRow, PassTop, DropRows, VoteTop, Keep, Name, Load, SendInvoke, Answered, TurnedDown, Lost, GiveUp, CommitNested, Abort, CommitTop, SendVote, SendConfirm, Decide, Report, EndUnit, Included}
-use Rattle.arj_law_lock.specs.machine.Machine.{Guard, next, start, Run, stay, step, stopped}
+use Rattle.arj_law_lock.proofs.Terms
+use Terms.{◌≡◌, ◌≤◌, ℕ, true, false, arith, Act, Root, is_action, at_act, Action, State, Event, CrashNaming, BindLive, BindNew, Grant}
+use Terms.{Record, ConfirmTop, PassEntry, DropEntry, CrashServer, ActivateCopy, Apply, Refuse, Change, PassRow, PassTop, DropRows, VoteTop}
+use Terms.{Keep, Name, Load, SendInvoke, Answered, TurnedDown, Lost, GiveUp, CommitNested, Abort, CommitTop, SendVote, SendConfirm, Decide}
+use Terms.{Report, EndUnit, Included, Guard, next, start, Run, stay, step, stopped}
 use Rattle.arj_law_lock.proofs.machine.Paths.{act_cases, differ, top_action}
 
 abbrev pub RootsLow : State → Type 0
 RootsLow s = (a : Act) → is_action a ≡ false → (s.action a).stage ≤ 3
 
 -- another action of a root's stage
-one : (s : State) (a : Act) (x : Action) → (is_action a ≡ false → x.stage ≤ 3) → RootsLow s → (b : Act) → is_action b ≡ false → (at_act s.action a x b).stage ≤ 3
+one : (s : State) (a : Act) (x : Action) → (is_action a ≡ false → x.stage ≤ 3) → RootsLow s → (b : Act) → is_action b ≡ false →
+    (at_act s.action a x b).stage ≤ 3
 one s a x here low = act_cases (λ (b : Act) (v : Action). is_action b ≡ false → v.stage ≤ 3) s.action a x here (λ b f e. low b e)
 
 roots_step : (e : Event) (s : State) → Guard e s → RootsLow s → RootsLow (next e s)

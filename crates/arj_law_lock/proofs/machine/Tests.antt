@@ -1,8 +1,8 @@
 -- Tests that compute: paths as lists, messages in the net, the last value.
-use Rattle.std.proofs.Common.{◌≡◌, ◌≤◌, ◌⊎◌, ℕ, ◌==◌, List, [], ◌∷◌, Bool, true, false, cond, not, ◌&&◌, ◌||◌, max, inl, inr, refl, sym, ◌∙◌, ap, subst, arith}
-use Rattle.arj_law_lock.specs.machine.Actions.{Act, Root, Sub, same, on, is_action, In}
-use Rattle.arj_law_lock.specs.machine.State.{Call, Request, Message, Live, Made, Granted, Activate, Activated, Recorded, Invoke, Invoked, Refused, Changed, Vote, Confirm, State, Alive, Merged, Open}
-use Rattle.arj_law_lock.specs.machine.Steps.{none, newest, older, IsLast, Survives}
+use Rattle.arj_law_lock.proofs.Terms
+use Terms.{◌≡◌, ◌≤◌, ◌⊎◌, ℕ, ◌==◌, List, [], ◌∷◌, Bool, true, false, cond, not, ◌&&◌, ◌||◌, max, inl, inr, refl, sym, ◌∙◌, ap, subst, arith}
+use Terms.{Act, Root, Sub, same, on, is_action, In, Call, Request, Message, Live, Made, Granted, Activate, Activated, Recorded, Invoke}
+use Terms.{Invoked, Refused, Changed, Vote, Confirm, State, Alive, Merged, Open, none, newest, older, IsLast, Survives}
 use Rattle.arj_law_lock.proofs.machine.Paths.{differ, and_both, or_one, same_number, same_is, on_up, on_above, on_self, number_self}
 
 -- Tests.
@@ -37,7 +37,8 @@ pub some_in : {A : Type 0} (p : A → Bool) (xs : List A) → some_of p xs ≡ t
 some_in p [] e = let never : false ≡ true = e in absurd (cc)
 some_in {A} p (y ∷ ys) e = by (some_in p ys) (or_one (p y) (some_of p ys) e)
   where
-    by : (some_of p ys ≡ true → (x : A) × In x ys × (p x ≡ true)) → (p y ≡ true) ⊎ (some_of p ys ≡ true) → (x : A) × In x (y ∷ ys) × (p x ≡ true)
+    by : (some_of p ys ≡ true → (x : A) × In x ys × (p x ≡ true)) → (p y ≡ true) ⊎ (some_of p ys ≡ true) →
+        (x : A) × In x (y ∷ ys) × (p x ≡ true)
     by ih (inl t) = (y, inl refl, t)
     by ih (inr t) = let r = ih t in (r.0, inr r.1, r.2)
 
@@ -90,7 +91,8 @@ abbrev pub survives : State → Act → Bool
 survives s a = all_of (λ u. not (is_action u) || ((s.action u).stage == 3)) (path a)
 
 pub survives_is : (s : State) (a : Act) → survives s a ≡ true → Survives s a
-survives_is s a e u o act = same_number (s.action u).stage 3 (implied (is_action u) ((s.action u).stage == 3) (all_in (λ x. not (is_action x) || ((s.action x).stage == 3)) (path a) e u (on_path a u o)) act)
+survives_is s a e u o act = same_number (s.action u).stage 3 (implied (is_action u) ((s.action u).stage == 3)
+    (all_in (λ x. not (is_action x) || ((s.action x).stage == 3)) (path a) e u (on_path a u o)) act)
 
 is_survives : (s : State) (a : Act) → Survives s a → survives s a ≡ true
 is_survives s a f = in_all (λ u. not (is_action u) || ((s.action u).stage == 3)) (path a) (λ u i. by u (path_on a u i) (is_action u) refl)
@@ -103,7 +105,8 @@ abbrev pub merged : State → Act → Act → Bool
 merged s a b = all_of (λ u. on b u || ((s.action u).stage == 3)) (path a)
 
 pub merged_is : (s : State) (a b : Act) → merged s a b ≡ true → Merged s a b
-merged_is s a b e u o f = elim (or_one (on b u) ((s.action u).stage == 3) (all_in (λ x. on b x || ((s.action x).stage == 3)) (path a) e u (on_path a u o))) [ inl t ↦ differ t f | inr t ↦ same_number (s.action u).stage 3 t ]
+merged_is s a b e u o f = elim (or_one (on b u) ((s.action u).stage == 3) (all_in (λ x. on b x || ((s.action x).stage == 3)) (path a) e u
+    (on_path a u o))) [ inl t ↦ differ t f | inr t ↦ same_number (s.action u).stage 3 t ]
 
 -- Messages.
 
@@ -119,7 +122,12 @@ request_is q r e =
     let a = and_both (same q.act r.act) ((q.number == r.number) && ((q.binding == r.binding) && cond q.write r.write (not r.write))) e in
     let b = and_both (q.number == r.number) ((q.binding == r.binding) && cond q.write r.write (not r.write)) a.1 in
     let c = and_both (q.binding == r.binding) (cond q.write r.write (not r.write)) b.1 in
-    λ i. record { act = same_is q.act r.act a.0 i; number = same_number q.number r.number b.0 i; binding = same_number q.binding r.binding c.0 i; write = same_bool q.write r.write c.1 i }
+    λ i. record {
+      act = same_is q.act r.act a.0 i;
+      number = same_number q.number r.number b.0 i;
+      binding = same_number q.binding r.binding c.0 i;
+      write = same_bool q.write r.write c.1 i;
+    }
 
 abbrev pub same_message : Message → Message → Bool
 same_message (Live m b) (Live n c) = same m n && (b == c)
@@ -129,7 +137,8 @@ same_message (Activate b v) (Activate c w) = (b == c) && (v == w)
 same_message (Activated b v) (Activated c w) = (b == c) && (v == w)
 same_message (Recorded b) (Recorded c) = b == c
 same_message (Invoke q) (Invoke r) = same_request q r
-same_message (Invoked q) (Invoked r) = same_request q.request r.request && ((q.place == r.place) && ((q.sees == r.sees) && (q.gives == r.gives)))
+same_message (Invoked q) (Invoked r) =
+    same_request q.request r.request && ((q.place == r.place) && ((q.sees == r.sees) && (q.gives == r.gives)))
 same_message (Refused q) (Refused r) = same_request q r
 same_message (Changed b) (Changed c) = b == c
 same_message (Vote m b i) (Vote n c j) = same m n && ((b == c) && (i == j))
@@ -182,7 +191,8 @@ message_is (Granted m b) (Confirm n r) e = let never : false ≡ true = e in abs
 message_is (Activate b v) (Live n c) e = let never : false ≡ true = e in absurd (cc)
 message_is (Activate b v) (Made n c) e = let never : false ≡ true = e in absurd (cc)
 message_is (Activate b v) (Granted n c) e = let never : false ≡ true = e in absurd (cc)
-message_is (Activate b v) (Activate c w) e = (let p = and_both (b == c) (v == w) e in λ i. Activate (same_number b c p.0 i) (same_number v w p.1 i))
+message_is (Activate b v) (Activate c w) e =
+    (let p = and_both (b == c) (v == w) e in λ i. Activate (same_number b c p.0 i) (same_number v w p.1 i))
 message_is (Activate b v) (Activated c w) e = let never : false ≡ true = e in absurd (cc)
 message_is (Activate b v) (Recorded c) e = let never : false ≡ true = e in absurd (cc)
 message_is (Activate b v) (Invoke r) e = let never : false ≡ true = e in absurd (cc)
@@ -195,7 +205,8 @@ message_is (Activated b v) (Live n c) e = let never : false ≡ true = e in absu
 message_is (Activated b v) (Made n c) e = let never : false ≡ true = e in absurd (cc)
 message_is (Activated b v) (Granted n c) e = let never : false ≡ true = e in absurd (cc)
 message_is (Activated b v) (Activate c w) e = let never : false ≡ true = e in absurd (cc)
-message_is (Activated b v) (Activated c w) e = (let p = and_both (b == c) (v == w) e in λ i. Activated (same_number b c p.0 i) (same_number v w p.1 i))
+message_is (Activated b v) (Activated c w) e =
+    (let p = and_both (b == c) (v == w) e in λ i. Activated (same_number b c p.0 i) (same_number v w p.1 i))
 message_is (Activated b v) (Recorded c) e = let never : false ≡ true = e in absurd (cc)
 message_is (Activated b v) (Invoke r) e = let never : false ≡ true = e in absurd (cc)
 message_is (Activated b v) (Invoked r) e = let never : false ≡ true = e in absurd (cc)
@@ -234,7 +245,14 @@ message_is (Invoked q) (Activate c w) e = let never : false ≡ true = e in absu
 message_is (Invoked q) (Activated c w) e = let never : false ≡ true = e in absurd (cc)
 message_is (Invoked q) (Recorded c) e = let never : false ≡ true = e in absurd (cc)
 message_is (Invoked q) (Invoke r) e = let never : false ≡ true = e in absurd (cc)
-message_is (Invoked q) (Invoked r) e = (let a = and_both (same_request q.request r.request) ((q.place == r.place) && ((q.sees == r.sees) && (q.gives == r.gives))) e in let b = and_both (q.place == r.place) ((q.sees == r.sees) && (q.gives == r.gives)) a.1 in let c = and_both (q.sees == r.sees) (q.gives == r.gives) b.1 in λ i. Invoked (record { request = request_is q.request r.request a.0 i; place = same_number q.place r.place b.0 i; sees = same_number q.sees r.sees c.0 i; gives = same_number q.gives r.gives c.1 i }))
+message_is (Invoked q) (Invoked r) e = (let a = and_both (same_request q.request r.request) ((q.place == r.place) && ((q.sees == r.sees)
+    && (q.gives == r.gives))) e in let b = and_both (q.place == r.place) ((q.sees == r.sees) && (q.gives == r.gives)) a.1 in
+    let c = and_both (q.sees == r.sees) (q.gives == r.gives) b.1 in λ i. Invoked (record {
+      request = request_is q.request r.request a.0 i;
+      place = same_number q.place r.place b.0 i;
+      sees = same_number q.sees r.sees c.0 i;
+      gives = same_number q.gives r.gives c.1 i;
+    }))
 message_is (Invoked q) (Refused r) e = let never : false ≡ true = e in absurd (cc)
 message_is (Invoked q) (Changed c) e = let never : false ≡ true = e in absurd (cc)
 message_is (Invoked q) (Vote n c y) e = let never : false ≡ true = e in absurd (cc)
@@ -273,7 +291,8 @@ message_is (Vote m b x) (Invoke r) e = let never : false ≡ true = e in absurd 
 message_is (Vote m b x) (Invoked r) e = let never : false ≡ true = e in absurd (cc)
 message_is (Vote m b x) (Refused r) e = let never : false ≡ true = e in absurd (cc)
 message_is (Vote m b x) (Changed c) e = let never : false ≡ true = e in absurd (cc)
-message_is (Vote m b x) (Vote n c y) e = (let a = and_both (same m n) ((b == c) && (x == y)) e in let d = and_both (b == c) (x == y) a.1 in λ i. Vote (same_is m n a.0 i) (same_number b c d.0 i) (same_number x y d.1 i))
+message_is (Vote m b x) (Vote n c y) e = (let a = and_both (same m n) ((b == c) && (x == y)) e in let d = and_both (b == c) (x == y) a.1 in
+    λ i. Vote (same_is m n a.0 i) (same_number b c d.0 i) (same_number x y d.1 i))
 message_is (Vote m b x) (Confirm n r) e = let never : false ≡ true = e in absurd (cc)
 message_is (Confirm m q) (Live n c) e = let never : false ≡ true = e in absurd (cc)
 message_is (Confirm m q) (Made n c) e = let never : false ≡ true = e in absurd (cc)
@@ -301,6 +320,8 @@ pub last_is : (s : State) (v : ℕ) (cs : List Call) → last_test s v cs ≡ tr
 last_is s v [] e = none (same_number s.initial v e)
 last_is s v (c ∷ cs) e = by (last_is s v cs) (c.write && survives s c.act) refl e
   where
-    by : (last_test s v cs ≡ true → IsLast s v cs) → (b : Bool) → (c.write && survives s c.act) ≡ b → cond b (c.gives == v) (last_test s v cs) ≡ true → IsLast s v (c ∷ cs)
+    by : (last_test s v cs ≡ true → IsLast s v cs) → (b : Bool) → (c.write && survives s c.act) ≡ b →
+        cond b (c.gives == v) (last_test s v cs) ≡ true → IsLast s v (c ∷ cs)
     by ih true t q = let p = and_both c.write (survives s c.act) t in newest c p.0 (survives_is s c.act p.1) (same_number c.gives v q)
-    by ih false t q = older c (λ w f. let z : (c.write && survives s c.act) ≡ true = λ i. w i && is_survives s c.act f i in differ z t) (ih q)
+    by ih false t q =
+        older c (λ w f. let z : (c.write && survives s c.act) ≡ true = λ i. w i && is_survives s c.act f i in differ z t) (ih q)

@@ -1,8 +1,8 @@
 -- What holds of values in every state of a run, given the order: the log of applied writes against the calls.
-use Rattle.std.proofs.Common.{◌≡◌, ◌≢◌, ◌≤◌, ◌<◌, ◌⊎◌, ℕ, List, [], ◌∷◌, true, false}
-use Rattle.arj_law_lock.specs.machine.Actions.{Act, on, root, top, is_top, is_action, In}
-use Rattle.arj_law_lock.specs.machine.State.{Entry, Call, Request, Answer, Message, Live, Made, Granted, Activate, Activated, Recorded, Invoke, Invoked, Refused, Changed, Vote, Confirm, State, Alive, Merged}
-use Rattle.arj_law_lock.specs.machine.Steps.{Newest, IsLast, Survives, IsCurrent}
+use Rattle.arj_law_lock.proofs.Terms
+use Terms.{◌≡◌, ◌≢◌, ◌≤◌, ◌<◌, ◌⊎◌, ℕ, List, [], ◌∷◌, true, false, Act, on, root, top, is_top, is_action, In, Entry, Call, Request, Answer}
+use Terms.{Message, Live, Made, Granted, Activate, Activated, Recorded, Invoke, Invoked, Refused, Changed, Vote, Confirm, State, Alive}
+use Terms.{Merged, Newest, IsLast, Survives, IsCurrent}
 use Rattle.arj_law_lock.proofs.machine.Claims.{server_of, IsUp, IsPast, GoesOn, Good, Pending, Asked, Doubtless}
 
 -- No action of the path was aborted or is doomed.
@@ -27,10 +27,13 @@ IsWaiting s e = (e.request ≡ (s.action e.by).request) × ((s.action e.by).wait
 -- The log against the calls, both newest first: each entry that counts is a call's, each call that counts has its entry, and
 -- what is older is in the copy's own value.
 pub data Matches (s : State) (base : ℕ) : List Entry → List Call → Type 0 where
-  rest : {cs : List Call} → IsLast s base cs → ((c : Call) → In c cs → c.write ≡ true → Ok s c.act → Survives s c.act) → Matches s base [] cs
-  both : (e : Entry) (c : Call) {es : List Entry} {cs : List Call} → e.by ≡ c.act → e.gives ≡ c.gives → c.write ≡ true → (Fine s c.act → s.kept (root c.act) ≡ s.naming.recorded) → Matches s base es cs → Matches s base (e ∷ es) (c ∷ cs)
+  rest : {cs : List Call} → IsLast s base cs → ((c : Call) → In c cs → c.write ≡ true → Ok s c.act → Survives s c.act) →
+      Matches s base [] cs
+  both : (e : Entry) (c : Call) {es : List Entry} {cs : List Call} → e.by ≡ c.act → e.gives ≡ c.gives → c.write ≡ true →
+      (Fine s c.act → s.kept (root c.act) ≡ s.naming.recorded) → Matches s base es cs → Matches s base (e ∷ es) (c ∷ cs)
   more : (e : Entry) {es : List Entry} {cs : List Call} → (Fine s e.by → ⊥) → Matches s base es cs → Matches s base (e ∷ es) cs
-  less : (c : Call) {es : List Entry} {cs : List Call} → (c.write ≡ true → Ok s c.act → ⊥) → Matches s base es cs → Matches s base es (c ∷ cs)
+  less : (c : Call) {es : List Entry} {cs : List Call} → (c.write ≡ true → Ok s c.act → ⊥) → Matches s base es cs →
+      Matches s base es (c ∷ cs)
 
 abbrev pub NoneWaits : State → List Entry → Type 0
 NoneWaits s es = (e : Entry) → In e es → IsWaiting s e → Fine s e.by → ⊥
@@ -39,7 +42,8 @@ NoneWaits s es = (e : Entry) → In e es → IsWaiting s e → Fine s e.by → �
 pub data Logged (s : State) (base : ℕ) : List Entry → List Call → Type 0 where
   calm : {es : List Entry} {cs : List Call} → NoneWaits s es → Matches s base es cs → Logged s base es cs
   bad : (e : Entry) {es : List Entry} {cs : List Call} → (Fine s e.by → ⊥) → Logged s base es cs → Logged s base (e ∷ es) cs
-  waiting : (e : Entry) {es : List Entry} {cs : List Call} → (Fine s e.by → IsWaiting s e × (s.kept (root e.by) ≡ s.naming.recorded)) → NoneWaits s es → Matches s base es cs → Logged s base (e ∷ es) cs
+  waiting : (e : Entry) {es : List Entry} {cs : List Call} → (Fine s e.by → IsWaiting s e × (s.kept (root e.by) ≡ s.naming.recorded)) →
+      NoneWaits s es → Matches s base es cs → Logged s base (e ∷ es) cs
 
 pub record EntryHolds (s : State) (n : ℕ) (e : Entry) : Type 0 where
   pub acts : is_action e.by ≡ true
@@ -62,7 +66,8 @@ pub record CopyHolds (s : State) (n : ℕ) : Type 0 where
 -- Each call saw the newest write that counts for it among those before it.
 abbrev pub Seen : State → List Call → Type 0
 Seen s [] = Unit {0}
-Seen s (d ∷ cs) = ((c : Call) → In c cs → c.line < d.line) × (Clean s d.act → Good s (top d.act) → Newest s.initial (Mine s d.act) d.sees cs) × Seen s cs
+Seen s (d ∷ cs) =
+    ((c : Call) → In c cs → c.line < d.line) × (Clean s d.act → Good s (top d.act) → Newest s.initial (Mine s d.act) d.sees cs) × Seen s cs
 
 -- Messages.
 
@@ -73,13 +78,16 @@ abbrev pub Spent : State → Request → Type 0
 Spent s q = ((q.number ≡ (s.action q.act).request) × ((s.action q.act).waits ≡ true)) ⊎ (Fine s q.act → Used s q)
 
 abbrev pub HasEntry : State → Answer → Type 0
-HasEntry s r = r.request.write ≡ true → Pending s r.request.act r.request.number → IsPast s r.request.binding ⊎ ((e : Entry) × In e (server_of s r.request.binding).log × (e.by ≡ r.request.act) × (e.request ≡ r.request.number) × (e.gives ≡ r.gives))
+HasEntry s r = r.request.write ≡ true → Pending s r.request.act r.request.number → IsPast s r.request.binding ⊎ ((e : Entry)
+    × In e (server_of s r.request.binding).log × (e.by ≡ r.request.act) × (e.request ≡ r.request.number) × (e.gives ≡ r.gives))
 
 abbrev pub SeesNow : State → Answer → Type 0
-SeesNow s r = Pending s r.request.act r.request.number → Clean s r.request.act → s.naming.first ≤ s.kept (root r.request.act) → IsUp s (s.kept (root r.request.act)) → Newest s.initial (Mine s r.request.act) r.sees s.calls
+SeesNow s r = Pending s r.request.act r.request.number → Clean s r.request.act → s.naming.first ≤ s.kept (root r.request.act) →
+    IsUp s (s.kept (root r.request.act)) → Newest s.initial (Mine s r.request.act) r.sees s.calls
 
 abbrev pub NoEntry : State → Request → Type 0
-NoEntry s q = IsPast s q.binding ⊎ ((q.number ≤ (server_of s q.binding).request q.act) × ((e : Entry) → In e (server_of s q.binding).log → e.by ≡ q.act → e.request ≢ q.number))
+NoEntry s q = IsPast s q.binding ⊎ ((q.number ≤ (server_of s q.binding).request q.act)
+    × ((e : Entry) → In e (server_of s q.binding).log → e.by ≡ q.act → e.request ≢ q.number))
 
 abbrev pub Says : State → Message → Type 0
 Says s (Live m b) = Unit {0}
@@ -103,6 +111,7 @@ pub record Values (s : State) : Type 0 where
   pub whole : (c : Call) → In c s.calls → Alive s c.act → 1 ≤ (s.action (top c.act)).stage → Merged s c.act (top c.act)
   pub logs : (n : ℕ) (e : Entry) → In e (s.server n).log → EntryHolds s n e
   pub fresh : (n : ℕ) → 1 ≤ (s.server n).active → CopyHolds s n
-  pub copy : s.naming.first ≤ s.naming.recorded → IsUp s s.naming.recorded → Logged s (server_of s s.naming.recorded).base (server_of s s.naming.recorded).log s.calls
+  pub copy : s.naming.first ≤ s.naming.recorded → IsUp s s.naming.recorded →
+      Logged s (server_of s s.naming.recorded).base (server_of s s.naming.recorded).log s.calls
   pub seen : Seen s s.calls
   pub says : (m : Message) → In m s.net → Says s m

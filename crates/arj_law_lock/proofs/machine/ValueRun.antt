@@ -1,24 +1,21 @@
 -- Each step keeps the invariant of values, and so does each run; and what each surviving call saw.
-use Rattle.std.proofs.Common.{◌≡◌, ◌⊎◌, ℕ, List, [], ◌∷◌, true, false, cond, inl, inr, refl, sym, subst, arith}
-use Rattle.arj_law_lock.specs.machine.Actions.{Act, Root, Sub, on, top, at_act, In}
-use Rattle.arj_law_lock.specs.machine.Rows.{raise, pass, drop_below}
-use Rattle.arj_law_lock.specs.machine.State.{Call, Message, Live, Granted, State}
-use Rattle.arj_law_lock.specs.machine.Steps.{Event, CrashNaming, BindLive, BindNew, Grant, Record, ConfirmTop, PassEntry, DropEntry, CrashServer, ActivateCopy, Apply, Refuse, Change, PassRow, PassTop, DropRows, VoteTop, Keep, Name, Load, SendInvoke, Answered, TurnedDown, Lost, GiveUp, CommitNested, Abort, CommitTop, SendVote, SendConfirm, Decide, Report, EndUnit, Included, Survives, IsLast}
-use Rattle.arj_law_lock.specs.machine.Machine.{Guard, next, start, Run, stay, step}
+use Rattle.arj_law_lock.proofs.Terms
+use Terms.{◌≡◌, ◌⊎◌, ℕ, List, [], ◌∷◌, true, false, cond, inl, inr, refl, sym, subst, arith, Act, Root, Sub, on, top, at_act, In, raise}
+use Terms.{pass, drop_below, Call, Message, Live, Granted, State, Event, CrashNaming, BindLive, BindNew, Grant, Record, ConfirmTop}
+use Terms.{PassEntry, DropEntry, CrashServer, ActivateCopy, Apply, Refuse, Change, PassRow, PassTop, DropRows, VoteTop, Keep, Name, Load}
+use Terms.{SendInvoke, Answered, TurnedDown, Lost, GiveUp, CommitNested, Abort, CommitTop, SendVote, SendConfirm, Decide, Report, EndUnit}
+use Terms.{Included, Survives, IsLast, Guard, next, start, Run, stay, step}
+use Rattle.arj_law_lock.proofs.machine
+use machine.{CallSteps.top_acts, Claims.Holds, Later.Later, Order.step_keeps, Ordered.good_last, Paths.on_top, ValueAnswer.value_answered}
+use machine.ValueCalls.{value_send_invoke, value_turned_down, value_lost, value_give_up, value_commit_nested, value_abort, value_commit_top}
+use machine.ValueCalls.{value_decide, value_report, value_end_unit}
+use machine.ValueClaims.{Mine, Seen, Says, Values}
+use machine.ValueLasts.{newest_on, survives_clean, clean_alive}
+use machine.ValueMore.{value_pass_top, value_apply, value_record}
+use machine.ValueServers.{value_crash_server, value_activate, value_pass_row, value_drop_rows, survives_of}
+use machine.ValueSteps.{value_naming, value_send, value_change, value_load, value_refuse, value_vote, value_bind_new, value_confirm}
+use machine.ValueSteps.{value_keep, value_name, value_included}
 use Rattle.arj_law_lock.specs.machine.Laws.{SawTheLast}
-use Rattle.arj_law_lock.proofs.machine.Claims.{Holds}
-use Rattle.arj_law_lock.proofs.machine.Later.{Later}
-use Rattle.arj_law_lock.proofs.machine.Order.{step_keeps}
-use Rattle.arj_law_lock.proofs.machine.Ordered.{good_last}
-use Rattle.arj_law_lock.proofs.machine.Paths.{on_top}
-use Rattle.arj_law_lock.proofs.machine.CallSteps.{top_acts}
-use Rattle.arj_law_lock.proofs.machine.ValueClaims.{Mine, Seen, Says, Values}
-use Rattle.arj_law_lock.proofs.machine.ValueLasts.{newest_on, survives_clean, clean_alive}
-use Rattle.arj_law_lock.proofs.machine.ValueSteps.{value_naming, value_send, value_change, value_load, value_refuse, value_vote, value_bind_new, value_confirm, value_keep, value_name, value_included}
-use Rattle.arj_law_lock.proofs.machine.ValueCalls.{value_send_invoke, value_turned_down, value_lost, value_give_up, value_commit_nested, value_abort, value_commit_top, value_decide, value_report, value_end_unit}
-use Rattle.arj_law_lock.proofs.machine.ValueServers.{value_crash_server, value_activate, value_pass_row, value_drop_rows, survives_of}
-use Rattle.arj_law_lock.proofs.machine.ValueMore.{value_pass_top, value_apply, value_record}
-use Rattle.arj_law_lock.proofs.machine.ValueAnswer.{value_answered}
 
 -- a message that says nothing of values
 quiet : (s t : State) (m : Message) → t.net ≡ m ∷ s.net → Says t m → (x : Message) → In x t.net → In x s.net ⊎ Says t x
@@ -29,14 +26,21 @@ quiet s t m e says x i = by (subst (λ (ms : List Message). In x ms) e i)
     by (inr j) = inl j
 
 pub step_values : (e : Event) (s : State) → Guard e s → Holds s → Values s → Later s (next e s) → Values (next e s)
-step_values (CrashNaming g) s guard h v later = value_naming s (record s.naming { first = g; bound = g; rows = λ a. 0; told = λ a. false; confirmed = λ a. false; asked = λ a. false }) s.net h v later refl (λ m i. inl i)
-step_values (BindLive m) s guard h v later = value_naming s (record s.naming { rows = raise s.naming.rows m 1 }) (Live m s.naming.recorded ∷ s.net) h v later refl (quiet s (next (BindLive m) s) (Live m s.naming.recorded) refl tt)
+step_values (CrashNaming g) s guard h v later =
+    value_naming s (record s.naming { first = g; bound = g; rows = λ a. 0; told = λ a. false; confirmed = λ a. false; asked = λ a. false })
+    s.net h v later refl (λ m i. inl i)
+step_values (BindLive m) s guard h v later = value_naming s (record s.naming { rows = raise s.naming.rows m 1 })
+    (Live m s.naming.recorded ∷ s.net) h v later refl (quiet s (next (BindLive m) s) (Live m s.naming.recorded) refl tt)
 step_values (BindNew m b n) s guard h v later = value_bind_new s m b n h v later
-step_values (Grant m) s guard h v later = value_naming s (record s.naming { rows = raise s.naming.rows m 2; asked = at_act s.naming.asked m true }) (Granted m s.naming.first ∷ s.net) h v later refl (quiet s (next (Grant m) s) (Granted m s.naming.first) refl tt)
+step_values (Grant m) s guard h v later =
+    value_naming s (record s.naming { rows = raise s.naming.rows m 2; asked = at_act s.naming.asked m true })
+    (Granted m s.naming.first ∷ s.net) h v later refl (quiet s (next (Grant m) s) (Granted m s.naming.first) refl tt)
 step_values (Record b) s guard h v later = value_record s b guard h v later
 step_values (ConfirmTop m q) s guard h v later = value_confirm s m q h v later
-step_values (PassEntry u n) s guard h v later = value_naming s (record s.naming { rows = pass s.naming.rows (Root u) n; told = at_act s.naming.told (Sub (Root u) n) true }) s.net h v later refl (λ m i. inl i)
-step_values (DropEntry a) s guard h v later = value_naming s (record s.naming { rows = drop_below s.naming.rows a; told = λ b. cond (on b a) true (s.naming.told b) }) s.net h v later refl (λ m i. inl i)
+step_values (PassEntry u n) s guard h v later = value_naming s (record s.naming
+    { rows = pass s.naming.rows (Root u) n; told = at_act s.naming.told (Sub (Root u) n) true }) s.net h v later refl (λ m i. inl i)
+step_values (DropEntry a) s guard h v later = value_naming s (record s.naming
+    { rows = drop_below s.naming.rows a; told = λ b. cond (on b a) true (s.naming.told b) }) s.net h v later refl (λ m i. inl i)
 step_values (CrashServer n i) s guard h v later = value_crash_server s n i guard h v later
 step_values (ActivateCopy n b w) s guard h v later = value_activate s n b w guard h v later
 step_values (Apply n q g) s guard h v later = value_apply s n q g guard h v later
@@ -91,8 +95,10 @@ saw_the_last {s} h v = along s.calls (λ c i. i) v.seen
     along (d ∷ cs) sub (sorted, sees, tail) = (now, along cs (λ c i. sub c (inr i)) tail)
       where
         now : Survives s d.act → IsLast s d.sees cs
-        now f = newest_on s.initial s.initial (Mine s d.act) (Survives s) d.sees cs refl (λ c i write m. mine c (sub c (inr i)) m) (λ c i write g. inl g) (sees (survives_clean s v.doomed v.roots d.act f) (good_last h v.roots d (sub d (inl refl)) f))
+        now f = newest_on s.initial s.initial (Mine s d.act) (Survives s) d.sees cs refl (λ c i write m. mine c (sub c (inr i)) m)
+            (λ c i write g. inl g) (sees (survives_clean s v.doomed v.roots d.act f) (good_last h v.roots d (sub d (inl refl)) f))
           where
             mine : (c : Call) → In c s.calls → Mine s d.act c.act → Survives s c.act
             mine c i (inl g) = g
-            mine c i (inr (e, clean)) = survives_of s h v c i (clean_alive s c.act clean) (subst (λ (y : Act). (s.action y).stage ≡ 3) (sym e) (f (top d.act) (on_top d.act) (top_acts d.act (h.calls d (sub d (inl refl))).acts)))
+            mine c i (inr (e, clean)) = survives_of s h v c i (clean_alive s c.act clean) (subst (λ (y : Act). (s.action y).stage ≡ 3)
+                (sym e) (f (top d.act) (on_top d.act) (top_acts d.act (h.calls d (sub d (inl refl))).acts)))

@@ -22,7 +22,8 @@ pub record Conflicting (s : State) (c d : Call) : Type 0 where
 -- Their ok lines stand in the serial order: the commit of each committed top of the earlier call's unit was called before
 -- the later call's line; in one unit the earlier call's own; and if the earlier call writes, its top had its committed line.
 pub record IsInOrder (s : State) : Type 0 where
-  pub units : (c d : Call) (m : Act) → Conflicting s c d → root c.act ≢ root d.act → IsCommitted s m → root m ≡ root c.act → (s.action m).place < d.line
+  pub units : (c d : Call) (m : Act) → Conflicting s c d → root c.act ≢ root d.act → IsCommitted s m → root m ≡ root c.act →
+      (s.action m).place < d.line
   pub tops : (c d : Call) → Conflicting s c d → root c.act ≡ root d.act → top c.act ≢ top d.act → (s.action (top c.act)).place < d.line
   pub writes : (c d : Call) → Conflicting s c d → c.write ≡ true → top c.act ≢ top d.act → (s.action (top c.act)).done < d.line
 
@@ -33,7 +34,8 @@ IsNested s = (c d : Call) → Conflicting s c d → root c.act ≡ root d.act �
 -- Two surviving calls of different units, of which the later one's line stands before the commit call of a committed top
 -- of the earlier one's unit, ran under one binding, and so at one node.
 abbrev pub IsAtOneNode : State → Type 0
-IsAtOneNode s = (c d : Call) (m : Act) → In c s.calls → In d s.calls → c.line < d.line → Survives s c.act → Survives s d.act → root c.act ≢ root d.act → IsCommitted s m → root m ≡ root c.act → d.line ≤ (s.action m).place → s.kept (root c.act) ≡ s.kept (root d.act)
+IsAtOneNode s = (c d : Call) (m : Act) → In c s.calls → In d s.calls → c.line < d.line → Survives s c.act → Survives s d.act → root c.act
+    ≢ root d.act → IsCommitted s m → root m ≡ root c.act → d.line ≤ (s.action m).place → s.kept (root c.act) ≡ s.kept (root d.act)
 
 -- The call counts for the top's commit: it is the top's own, or its top was committed before that commit was called.
 abbrev pub CountsFor : State → Act → Act → Type 0
@@ -68,8 +70,10 @@ SawTheLast s (d ∷ cs) = (Survives s d.act → IsLast s d.sees cs) × SawTheLas
 -- its newest write; and until its committed line stands, the value that lay under it at the voting server is the last
 -- committed one, so that what it changed stands one version above that.
 pub record VotesAreRight (s : State) : Type 0 where
-  pub value : (m : Act) (c : Call) → is_top m ≡ true → 2 ≤ (s.action m).stage → (s.action m).stage ≤ 3 → In c s.calls → c.write ≡ true → top c.act ≡ m → Alive s c.act → Newest s.initial (λ a. (top a ≡ m) × Alive s a) (s.vote m).value s.calls
-  pub under : (m : Act) (c : Call) → is_top m ≡ true → (s.action m).stage ≡ 2 → In c s.calls → c.write ≡ true → top c.act ≡ m → Alive s c.act → IsLast s (s.vote m).under s.calls
+  pub value : (m : Act) (c : Call) → is_top m ≡ true → 2 ≤ (s.action m).stage → (s.action m).stage ≤ 3 → In c s.calls → c.write ≡ true →
+      top c.act ≡ m → Alive s c.act → Newest s.initial (λ a. (top a ≡ m) × Alive s a) (s.vote m).value s.calls
+  pub under : (m : Act) (c : Call) → is_top m ≡ true → (s.action m).stage ≡ 2 → In c s.calls → c.write ≡ true → top c.act ≡ m →
+      Alive s c.act → IsLast s (s.vote m).under s.calls
 
 -- what a vote of this server for the top gives now
 abbrev pub given_by : State → ℕ → Act → Ballot
@@ -78,14 +82,16 @@ given_by s n m = record { value = held_value m (s.server n).base (s.server n).lo
 -- A server that may vote again as it did, under the binding that the top's unit keeps, gives the same: while the commit is called and not
 -- decided, naming is of the binding's incarnation, and the top has a write that wasn't undone.
 abbrev pub VotesAgree : State → Type 0
-VotesAgree s = (n : ℕ) (m : Act) (i : ℕ) (c : Call) → Guard (VoteTop n m (s.yes m) i) s → (s.action m).stage ≡ 1 → s.yes m ≡ s.kept (root m) → s.naming.first ≤ s.kept (root m)
+VotesAgree s = (n : ℕ) (m : Act) (i : ℕ) (c : Call) → Guard (VoteTop n m (s.yes m) i) s → (s.action m).stage ≡ 1 →
+    s.yes m ≡ s.kept (root m) → s.naming.first ≤ s.kept (root m)
     → In c s.calls → c.write ≡ true → top c.act ≡ m → Alive s c.act → s.vote m ≡ given_by s n m
 
 -- A vote that a server gave for the top, under the binding that its unit keeps, stands as long as that is the greatest one under which a
 -- server voted: while the commit is called and not decided, naming is of the binding's incarnation, and the top has a write that wasn't
 -- undone.
 abbrev pub GivenStands : State → Type 0
-GivenStands s = (n : ℕ) (m : Act) (b i : ℕ) (t : State) (c : Call) → Guard (VoteTop n m b i) s → Run (next (VoteTop n m b i) s) t → (t.action m).stage ≡ 1 → t.yes m ≡ b → t.kept (root m) ≡ b → t.naming.first ≤ b
+GivenStands s = (n : ℕ) (m : Act) (b i : ℕ) (t : State) (c : Call) → Guard (VoteTop n m b i) s → Run (next (VoteTop n m b i) s) t →
+    (t.action m).stage ≡ 1 → t.yes m ≡ b → t.kept (root m) ≡ b → t.naming.first ≤ b
     → In c t.calls → c.write ≡ true → top c.act ≡ m → Alive t c.act → t.vote m ≡ given_by s n m
 
 -- Of the binding that a unit keeps an incarnation was heard, where a call of the unit wasn't undone; and it isn't 0.

@@ -57,7 +57,8 @@ Rebinding = Happens 9 (read second_top 4 5 ∷ written first_top 1 9 5 ∷ []) (
 -- Two constituents write one after the other, the second by the binding that its serializing action retains; another top
 -- is refused in between, and reads both writes afterwards.
 abbrev pub Serializing : Type 0
-Serializing = Happens 9 (read second_top 7 6 ∷ written second_constituent 4 5 6 ∷ written first_constituent 1 9 5 ∷ []) (first_constituent ∷ second_constituent ∷ second_top ∷ []) []
+Serializing = Happens 9 (read second_top 7 6 ∷ written second_constituent 4 5 6 ∷ written first_constituent 1 9 5 ∷ [])
+    (first_constituent ∷ second_constituent ∷ second_top ∷ []) []
 
 -- A nested call is given up and its old request applied late, over the top's write; an old state is activated late at a
 -- server that stopped. The second top reads what the first one committed.

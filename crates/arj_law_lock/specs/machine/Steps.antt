@@ -3,7 +3,8 @@
 -- again is no step: the message is in the net.
 use Rattle.std.proofs.Common.{◌≡◌, ◌≢◌, ◌≤◌, ◌<◌, ◌⊎◌, ℕ, List, [], ◌∷◌, Bool, true, false, cond}
 use Rattle.arj_law_lock.specs.machine.Actions.{Act, Root, same, on, root, top, is_action, In}
-use Rattle.arj_law_lock.specs.machine.State.{Naming, Entry, Server, Call, Request, Answer, Live, Made, Recorded, State, Alive, Merged, Retained}
+use Rattle.arj_law_lock.specs.machine.State.{Naming, Entry, Server, Call, Request, Answer, Live, Made, Recorded, State, Alive, Merged}
+use Rattle.arj_law_lock.specs.machine.State.{Retained}
 
 -- The steps.
 pub data Event : Type 0 where
@@ -71,7 +72,8 @@ IsLast s v cs = Newest s.initial (Survives s) v cs
 
 -- No top with a surviving write is confirmed and unreported, but by a binding of naming's present incarnation.
 abbrev pub NobodyInDoubt : State → Type 0
-NobodyInDoubt s = (c : Call) → In c s.calls → c.write ≡ true → Alive s c.act → s.confirmed (top c.act) ≡ true → (s.action (top c.act)).stage ≤ 2 → s.naming.first ≤ s.kept (root c.act)
+NobodyInDoubt s = (c : Call) → In c s.calls → c.write ≡ true → Alive s c.act → s.confirmed (top c.act) ≡ true →
+    (s.action (top c.act)).stage ≤ 2 → s.naming.first ≤ s.kept (root c.act)
 
 -- The binding was made last for its maker and isn't recorded, and naming wasn't told of its maker's end.
 pub record IsCurrent (n : Naming) (maker : Act) (b : ℕ) : Type 0 where
@@ -100,7 +102,8 @@ IsFolded s log m = (e : Entry) → In e log → on e.holder m ≡ true → (e.ho
 
 -- No write of a committed top with surviving writes, for which the server voted, is left there below the action.
 abbrev pub IsDrained : State → Server → Act → Type 0
-IsDrained s v a = (e : Entry) → In e v.log → on e.holder a ≡ true → (s.action (top e.by)).stage ≡ 3 → v.voted (top e.by) ≡ true → (c : Call) → In c s.calls → c.write ≡ true → Survives s c.act → top c.act ≢ top e.by
+IsDrained s v a = (e : Entry) → In e v.log → on e.holder a ≡ true → (s.action (top e.by)).stage ≡ 3 → v.voted (top e.by) ≡ true →
+    (c : Call) → In c s.calls → c.write ≡ true → Survives s c.act → top c.act ≢ top e.by
 
 -- The copy of the binding, in the incarnation that the root knows, is gone from this server.
 abbrev pub IsElsewhere : Server → ℕ → ℕ → Type 0

@@ -1,28 +1,15 @@
 -- No work takes an entry from a disk.
-use Rattle.std.proofs.Common.{◌≡◌, ◌∙◌, ◌+◌, ◌==◌, ℕ, Bool, true, false, cond, List, [], ◌∷◌, map, refl, sym, ap, subst, inl, inr, Option, Some, None, arith}
-use Rattle.std.specs.Prelude.{is_some}
-use Rattle.std.specs.Ordering.{is_eq, nat_cmp}
-use Rattle.std.specs.declared.cmp.Ordering.{Ordering}
-use Rattle.std.specs.declared.cmp.Ordering.TheVariants.{Less, Equal, Greater}
-use Rattle.arj_base.specs.Order.{uid_order}
-use Rattle.arj_lock.proofs.Members.{In, in_from}
-use Rattle.arj_protocol.specs.Words.{Header, ObjectLine, ObjectState, Uid, entry}
-use Rattle.arj_protocol.specs.Words.role
-use Rattle.arj_protocol.specs.Confirm.{named_back}
-use Rattle.arj_protocol.specs.Effect.{Abort, After, Before, Commit, Disk, Do, Effect, InPart, Look, Pair, Prepare, PutInc, PutIntent, RemoveIntent, Say, Send, Stop, Work, held_at, moved, moved_some, new_states, stopped, worked}
-use Rattle.arj_protocol.specs.Asking.{again_all, begin_action}
-use Rattle.arj_protocol.specs.Follow.{tick_outs}
-use Rattle.arj_protocol.specs.Node.{Parts, with_coord}
-use Rattle.arj_protocol.specs.Order.{at_number, at_uid, put_uid}
-use Rattle.arj_protocol.specs.Step.{first_disk, Node, acts, first_entry, parent_of, parts_in, put_states, restart_outs}
-use Rattle.arj_protocol.specs.World.{format, is_serial_kind}
-use Rattle.arj_law_parts.proofs.parts.Keys.{order_exact, put_same}
-use Rattle.arj_law_runs.proofs.addresses.Lists.{found_put}
-use Rattle.arj_law_runs.proofs.kept.Starts.{first_at}
-use Rattle.arj_law_parts.specs.moves.Seen.{at, given, posted, said}
-use Rattle.arj_promise.specs.Runs.{Seen, see}
-use Rattle.arj_law_parts.specs.moves.Walks.{Up, Walks}
+use Rattle.arj_law_parts.proofs.Words
+use Words.{◌≡◌, ◌∙◌, ◌+◌, ◌==◌, ℕ, Bool, true, false, cond, List, [], ◌∷◌, map, refl, sym, ap, subst, inl, inr, Option, Some, None, arith}
+use Words.{is_some, is_eq, nat_cmp, Ordering, Less, Equal, Greater, uid_order, In, in_from, Header, ObjectLine, ObjectState, Uid, entry}
+use Words.{named_back, Abort, After, Before, Commit, Disk, Do, Effect, InPart, Look, Pair, Prepare, PutInc, PutIntent, RemoveIntent, Say}
+use Words.{Send, Stop, Work, held_at, moved_some, new_states, stopped, worked, again_all, begin_action, tick_outs, Parts, with_coord}
+use Words.{at_number, at_uid, put_uid, first_disk, Node, acts, first_entry, parent_of, parts_in, put_states, restart_outs, format}
+use Words.{is_serial_kind, Seen, see}
+use Words.role
+use Rattle.arj_law_lock_view.proofs.Terms.{moved, order_exact, put_same, first_at, at, given, posted, said, Up, Walks}
 use Rattle.arj_law_lock_view.specs.facts.Entries.{EntriesAreFound, HandlersKeepEntries, HasObject, HoldsEntry}
+use Rattle.arj_law_runs.proofs.addresses.Lists.{found_put}
 
 some_is : {A : Type 0} {a b : A} → Some a ≡ Some b → a ≡ b
 some_is {A} {a} {b} is = let k : ◌≡◌ {A = Option A} (Some a) (Some b) = is in cc
@@ -38,7 +25,8 @@ module _ (x : ℕ) where
   moved_keeps [] held its = its
   moved_keeps (s ∷ ss) held its = moved_keeps ss (put_uid s.uid s held) (found_put (entry x) s.uid s held its)
 
-  some_keeps : (which : Uid → Bool) (ss : List ObjectState) (held : List (Uid × ObjectState)) → InHeld held → InHeld (moved_some which ss held)
+  some_keeps : (which : Uid → Bool) (ss : List ObjectState) (held : List (Uid × ObjectState)) → InHeld held →
+      InHeld (moved_some which ss held)
   some_keeps which [] held its = its
   some_keeps which (s ∷ ss) held its = some_keeps which ss (cond (which s.uid) (put_uid s.uid s held) held) (by (which s.uid))
     where
@@ -71,19 +59,28 @@ module _ (x : ℕ) where
   stop_keeps (InPart which) (RemoveIntent u) d its = its
 
   -- the node with another disk and memory
-  again : (k : ℕ) (d e : Disk) (live later : Option Parts) (M : Seen) → (IsHeld d.names → IsHeld e.names) → HoldsEntry x (at k d live M) → HoldsEntry x (at k e later M)
+  again : (k : ℕ) (d e : Disk) (live later : Option Parts) (M : Seen) → (IsHeld d.names → IsHeld e.names) → HoldsEntry x (at k d live M) →
+      HoldsEntry x (at k e later M)
   again k d e live later M keeps all n is = by (1 == k) refl is
     where
-      by : (b : Bool) → (1 == k) ≡ b → cond b (Some (record { number = k; disk = e; live = later })) (M.nodes 1) ≡ Some n → is_some (held_at (entry x) n.disk.names) ≡ true
-      by true same f = subst (λ (z : Node). is_some (held_at (entry x) z.disk.names) ≡ true) (some_is f) (keeps (all (record { number = k; disk = d; live = live }) (λ i. cond (same i) (Some (record { number = k; disk = d; live = live })) (M.nodes 1))))
+      by : (b : Bool) → (1 == k) ≡ b → cond b (Some (record { number = k; disk = e; live = later })) (M.nodes 1) ≡ Some n →
+          is_some (held_at (entry x) n.disk.names) ≡ true
+      by true same f = subst (λ (z : Node). is_some (held_at (entry x) z.disk.names) ≡ true) (some_is f)
+          (keeps (all (record { number = k; disk = d; live = live })
+          (λ i. cond (same i) (Some (record { number = k; disk = d; live = live })) (M.nodes 1))))
       by false apart f = all n ((λ i. cond (apart i) (Some (record { number = k; disk = d; live = live })) (M.nodes 1)) ∙ f)
 
   -- whatever a node does
-  walk : (e k : ℕ) (v : Parts) (outs : List Effect) (d : Disk) (M : Seen) → HoldsEntry x (at k d None M) → Walks (HoldsEntry x) e k outs (Up (HoldsEntry x) k v) d M
+  walk : (e k : ℕ) (v : Parts) (outs : List Effect) (d : Disk) (M : Seen) → HoldsEntry x (at k d None M) →
+      Walks (HoldsEntry x) e k outs (Up (HoldsEntry x) k v) d M
   walk e k v [] d M all = again k d d None (Some v) M (λ its. its) all
-  walk e k v (Do w ∷ es) d M all = (λ how. again k d (stopped how w d) None None M (stop_keeps how w d) all, walk e k v es (worked w d) M (again k d (worked w d) None None M (work_keeps w d) all))
+  walk e k v (Do w ∷ es) d M all = (
+    λ how. again k d (stopped how w d) None None M (stop_keeps how w d) all,
+    walk e k v es (worked w d) M (again k d (worked w d) None None M (work_keeps w d) all),
+  )
   walk e k v (Say b ∷ es) d M all = walk e k v es d (said e (b ∷ []) M) all
-  walk e k v (Send to m ∷ es) d M all = λ more quiet. walk e k v es d (said e more (posted (record { from = k; to = to; message = m }) M)) all
+  walk e k v (Send to m ∷ es) d M all =
+      λ more quiet. walk e k v es d (said e more (posted (record { from = k; to = to; message = m }) M)) all
 
   -- ---- at first
 
@@ -94,9 +91,12 @@ module _ (x : ℕ) where
   put_keeps [] held its = its
   put_keeps (s ∷ ss) held its = put_keeps ss (put_uid s.uid s held) (found_put (entry x) s.uid s held its)
 
-  first_held : (os : List ObjectLine) (o : ObjectLine) (held : List (Uid × ObjectState)) → In o os → o.x ≡ x → InHeld (put_states (map first_entry os) held)
+  first_held : (os : List ObjectLine) (o : ObjectLine) (held : List (Uid × ObjectState)) → In o os → o.x ≡ x →
+      InHeld (put_states (map first_entry os) held)
   first_held [] o held i is = absurd i
-  first_held (p ∷ ps) o held (inl same) is = put_keeps (map first_entry ps) (put_uid (entry p.x) (first_entry p) held) (subst (λ (n : ℕ). is_some (at_uid (entry n) (put_uid (entry p.x) (first_entry p) held)) ≡ true) (ap (λ (z : ObjectLine). z.x) same ∙ is) (put_there (entry p.x) (first_entry p) held))
+  first_held (p ∷ ps) o held (inl same) is = put_keeps (map first_entry ps) (put_uid (entry p.x) (first_entry p) held)
+      (subst (λ (n : ℕ). is_some (at_uid (entry n) (put_uid (entry p.x) (first_entry p) held)) ≡ true)
+      (ap (λ (z : ObjectLine). z.x) same ∙ is) (put_there (entry p.x) (first_entry p) held))
   first_held (p ∷ ps) o held (inr i) is = first_held ps o (put_uid (entry p.x) (first_entry p) held) i is
 
   pub first_there : (hd : Header) → HasObject hd x → is_some (held_at (entry x) (let d = first_disk hd 1 in d.names)) ≡ true
@@ -112,9 +112,13 @@ entries_keep hd x has = record {
   quiet = λ e bs M quiet all. all;
   stop = λ e k d live M all. again x k d d live None M (λ its. its) all;
   message = λ e k d t v from m outs M all there meant is. walk x e k v outs d M (again x k d d (Some t) None M (λ its. its) all);
-  act = λ e k d t i M is free all. let did = acts i d.intents t.coord in walk x e k (with_coord t did.part) did.outs d M (again x k d d (Some t) None M (λ its. its) all);
-  begin = λ e k d t l how parent M new may free all. let did = begin_action l how parent (parent_of parent t.coord) t.coord in walk x e k (with_coord t did.part) did.outs d (given l (record { node = k; serial = is_serial_kind how }) M) (again x k d d (Some t) None M (λ its. its) all);
-  tick = λ e k d t M all. walk x e k (with_coord t (again_all t.coord.doings t.coord).part) (tick_outs (record { number = k; disk = d; live = Some t }) t) d M (again x k d d (Some t) None M (λ its. its) all);
+  act = λ e k d t i M is free all. let did = acts i d.intents t.coord in
+      walk x e k (with_coord t did.part) did.outs d M (again x k d d (Some t) None M (λ its. its) all);
+  begin = λ e k d t l how parent M new may free all. let did = begin_action l how parent (parent_of parent t.coord) t.coord in
+      walk x e k (with_coord t did.part) did.outs d (given l (record { node = k; serial = is_serial_kind how }) M)
+      (again x k d d (Some t) None M (λ its. its) all);
+  tick = λ e k d t M all. walk x e k (with_coord t (again_all t.coord.doings t.coord).part)
+      (tick_outs (record { number = k; disk = d; live = Some t }) t) d M (again x k d d (Some t) None M (λ its. its) all);
   restart = λ e k d M all. walk x e k (parts_in k (d.inc + 1) d) (restart_outs hd k (d.inc + 1) d) d M all;
   first = first_so x hd has;
 }
@@ -128,14 +132,18 @@ entries_found x inc d there = by d.held there
     by [] its = absurd (cc its)
     by (e ∷ es) its = one (uid_order (entry x) e.0) refl its (by es)
       where
-        here : (b : Bool) → is_some (at_number x (map (named_back d) es)) ≡ true → is_some (cond b (Some (let f = named_back d e in f.1)) (at_number x (map (named_back d) es))) ≡ true
+        here : (b : Bool) → is_some (at_number x (map (named_back d) es)) ≡ true →
+            is_some (cond b (Some (let f = named_back d e in f.1)) (at_number x (map (named_back d) es))) ≡ true
         here true rest = refl
         here false rest = rest
 
         itself : (n : ℕ) → is_eq (nat_cmp n n) ≡ true
         itself n = grind arith
 
-        one : (r : Ordering) → uid_order (entry x) e.0 ≡ r → is_some (cond (is_eq r) (Some e.1) (at_uid (entry x) es)) ≡ true → (is_some (at_uid (entry x) es) ≡ true → is_some (at_number x (map (named_back d) es)) ≡ true) → is_some (at_number x (map (named_back d) (e ∷ es))) ≡ true
+        one : (r : Ordering) → uid_order (entry x) e.0 ≡ r → is_some (cond (is_eq r) (Some e.1) (at_uid (entry x) es)) ≡ true →
+            (is_some (at_uid (entry x) es) ≡ true → is_some (at_number x (map (named_back d) es)) ≡ true) →
+            is_some (at_number x (map (named_back d) (e ∷ es))) ≡ true
         one Less order at ih = here (is_eq (nat_cmp x e.0.num)) (ih at)
-        one Equal order at ih = ap (λ b. is_some (cond b (Some (let f = named_back d e in f.1)) (at_number x (map (named_back d) es)))) (ap (λ (u : Uid). is_eq (nat_cmp x u.num)) (sym (order_exact (entry x) e.0 order)) ∙ itself x)
+        one Equal order at ih = ap (λ b. is_some (cond b (Some (let f = named_back d e in f.1)) (at_number x (map (named_back d) es))))
+            (ap (λ (u : Uid). is_eq (nat_cmp x u.num)) (sym (order_exact (entry x) e.0 order)) ∙ itself x)
         one Greater order at ih = here (is_eq (nat_cmp x e.0.num)) (ih at)

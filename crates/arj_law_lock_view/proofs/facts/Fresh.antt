@@ -1,31 +1,18 @@
 -- Roots that weren't begun have nothing: kept by all that a coordinator does.
-use Rattle.std.proofs.Common.{◌≡◌, ◌∙◌, ◌≤◌, ◌<◌, ◌+◌, ℕ, zero, suc, Bool, true, false, List, [], ◌∷◌, length, Some, None, refl, sym, ap, subst, arith}
-use Rattle.std.specs.Prelude.{slice_get}
-use Rattle.std.specs.Ordering.{is_eq, nat_cmp}
-use Rattle.std.proofs.lemmas.List.{length-append}
-use Rattle.arj_protocol.proofs.Maps.{put_other}
-use Rattle.arj_protocol.specs.Words.{Ask, BoundReply, Op, Path, Uid, first_uid, uids_of}
-use Rattle.arj_protocol.specs.Ask.{Reply, actor}
-use Rattle.arj_protocol.specs.Asking.{again_all, asks_node, call, call_steps, doomed_by, give_up_call, goes_on, heard, heard_call, include, is_invoke_ask, kept_at, next_req, renewed, root_heard, root_lost, root_moved, step_call}
-use Rattle.arj_protocol.specs.Call as calls
-use Rattle.arj_protocol.specs.Call.{CallEnd, CallStep, Ended, On, Steps, answered, given_up, next_ask, next_node, start}
-use Rattle.arj_protocol.specs.Coord.{Calling, Coord, Doing, Idle, Root, is_free, keeping_of, on_doing, on_root, root_at, with_keeping, with_went}
-use Rattle.arj_protocol.specs.Ending.{acked, root_after}
-use Rattle.arj_protocol.specs.Order.{at_number, unbound}
-use Rattle.arj_protocol.specs.Step.{acts}
-use Rattle.arj_protocol.specs.Tree.{Branch, at_place, branch_of, ends_of, root_of, uses_object}
-use Rattle.arj_law_runs.proofs.coordinators.CoordUses.{on_roots}
-use Rattle.arj_law_parts.specs.parts.Actions.{paths_of}
-use Rattle.arj_law_parts.specs.parts.Claims.{GoesOn}
-use Rattle.arj_law_parts.specs.parts.Copies.{IsTree}
-use Rattle.arj_law_parts.proofs.parts.Begun.{begun_tree}
-use Rattle.arj_law_parts.proofs.parts.GoodTrees.{found_by}
+use Rattle.arj_law_parts.proofs.Words
+use Words.{◌≡◌, ◌∙◌, ◌≤◌, ◌<◌, ◌+◌, ℕ, zero, suc, Bool, true, false, List, [], ◌∷◌, length, Some, None, refl, sym, ap, subst, arith}
+use Words.{slice_get, is_eq, nat_cmp, length-append, put_other, Ask, BoundReply, Op, Path, Uid, first_uid, uids_of, Reply, actor, again_all}
+use Words.{asks_node, call, call_steps, doomed_by, give_up_call, goes_on, heard, heard_call, include, is_invoke_ask, kept_at, next_req}
+use Words.{renewed, root_heard, root_lost, root_moved, step_call, CallEnd, CallStep, Ended, On, Steps, answered, given_up, next_ask}
+use Words.{next_node, start, Calling, Coord, Doing, Idle, Root, is_free, keeping_of, on_doing, on_root, root_at, with_keeping, with_went}
+use Words.{acked, root_after, at_number, unbound, acts, Branch, at_place, branch_of, ends_of, root_of, uses_object, Post}
+use Words.calls
+use Rattle.arj_law_lock_view.proofs.Terms
+use Terms.{on_roots, paths_of, GoesOn, IsTree, begun_tree, found_by, well_acked, well_acts, well_again, well_heard, HasNoRoots}
+use Rattle.arj_law_lock_view.proofs.facts
+use facts.{Kept.IsKept, Kept.Place, Kept.answers_so}
+use facts.Pieces.{IsRooted, IsStep, Pieces, acked_so, acts_so, again_so, heard_so}
 use Rattle.arj_law_runs.proofs.calls.CoordKnown.{root_there}
-use Rattle.arj_law_parts.proofs.parts.TrueSteps.{well_acked, well_acts, well_again, well_heard}
-use Rattle.arj_promise.specs.Runs.{Post}
-use Rattle.arj_law_lock_view.specs.facts.Works.{HasNoRoots}
-use Rattle.arj_law_lock_view.proofs.facts.Kept.{IsKept, Place, answers_so}
-use Rattle.arj_law_lock_view.proofs.facts.Pieces.{IsRooted, IsStep, Pieces, acked_so, acts_so, again_so, heard_so}
 
 module _ (sent : List Post) (k : ℕ) (c : Coord) (place : Place sent k c) where
   abbrev its_tree : IsTree (paths_of place.actions)
@@ -35,8 +22,10 @@ module _ (sent : List Post) (k : ℕ) (c : Coord) (place : Place sent k c) where
   root_low : (p : Path) → IsRooted c p → (root_of p).num ≤ length c.tree.branches
   root_low p (u, b, found, same) =
       let g = place.good in
-      let r = root_there place.actions (paths_of place.actions) its_tree c place.good (length (paths_of place.actions u)) u b (omega arith) found in
-      let its : first_uid (paths_of place.actions u) ≡ root_of p = ap first_uid (sym (g.tree.lists.paths_are u b found)) ∙ ap root_of same in
+      let r = root_there place.actions (paths_of place.actions) its_tree c place.good (length (paths_of place.actions u)) u b (omega arith)
+      found in
+      let its : first_uid (paths_of place.actions u) ≡ root_of p = ap first_uid (sym (g.tree.lists.paths_are u b found))
+      ∙ ap root_of same in
       low (root_of p).num c.tree.branches (found_by (root_of p) c.tree r.0 (ap (λ v. branch_of v c.tree) (sym its) ∙ r.1)).1
     where
       low : {b : Branch} (n : ℕ) (bs : List Branch) → at_place n bs ≡ Some b → n ≤ length bs
@@ -52,7 +41,8 @@ module _ (sent : List Post) (k : ℕ) (c : Coord) (place : Place sent k c) where
   Fresh e = (n : ℕ) → length c.tree.branches < n → at_number n e.roots ≡ None
 
   on_fresh : (p : Path) (f : Root → Root) (e : Coord) → IsRooted c p → Fresh e → Fresh (on_root (root_of p) f e)
-  on_fresh p f e rooted fresh n above = put_other (root_of p).num n (f (root_at (root_of p) e)) e.roots (apart n (root_of p).num (root_low p rooted) above) ∙ fresh n above
+  on_fresh p f e rooted fresh n above =
+      put_other (root_of p).num n (f (root_at (root_of p) e)) e.roots (apart n (root_of p).num (root_low p rooted) above) ∙ fresh n above
     where
       apart : (n m : ℕ) → m ≤ length c.tree.branches → length c.tree.branches < n → is_eq (nat_cmp n m) ≡ false
       apart n m low high = by (is_eq (nat_cmp n m)) refl
@@ -80,7 +70,9 @@ module _ (sent : List Post) (k : ℕ) (c : Coord) (place : Place sent k c) where
   }
 
   goes_fresh : (s : Steps) (e : Coord) → IsRooted c s.path → Fresh e → Fresh (goes_on s e).part
-  goes_fresh s e rooted q = let f = on_doing (actor s.path) (λ (d : Doing). record d { req = s.req; now = Calling s }) e in asks_fresh s.path s.req (next_node s, next_ask (ends_of (root_of s.path) f.tree) s) f rooted (work_fresh (actor s.path) (λ (d : Doing). record d { req = s.req; now = Calling s }) e q)
+  goes_fresh s e rooted q = let f = on_doing (actor s.path) (λ (d : Doing). record d { req = s.req; now = Calling s }) e in
+      asks_fresh s.path s.req (next_node s, next_ask (ends_of (root_of s.path) f.tree) s) f rooted
+      (work_fresh (actor s.path) (λ (d : Doing). record d { req = s.req; now = Calling s }) e q)
 
   step_fresh : (s : Steps) (n : CallStep) (e : Coord) → IsRooted c s.path → Fresh e → Fresh (step_call s n e).part
   step_fresh s (On at) e rooted q = goes_fresh (record s { req = s.req + 1; at = at }) e rooted q
@@ -90,7 +82,8 @@ module _ (sent : List Post) (k : ℕ) (c : Coord) (place : Place sent k c) where
       told = on_root (root_of s.path) (root_heard s g) (on_doing (actor s.path) (λ (d : Doing). record d { now = Idle }) e)
 
       its : Fresh told
-      its = on_fresh s.path (root_heard s g) (on_doing (actor s.path) (λ (d : Doing). record d { now = Idle }) e) rooted (work_fresh (actor s.path) (λ (d : Doing). record d { now = Idle }) e q)
+      its = on_fresh s.path (root_heard s g) (on_doing (actor s.path) (λ (d : Doing). record d { now = Idle }) e) rooted
+          (work_fresh (actor s.path) (λ (d : Doing). record d { now = Idle }) e q)
 
       by : (h : CallEnd) → Fresh (doomed_by (actor s.path) h told)
       by (calls.Answered a) = its
@@ -106,10 +99,12 @@ module _ (sent : List Post) (k : ℕ) (c : Coord) (place : Place sent k c) where
   heard_fresh : (r : Reply) (s : Steps) → Fresh c → IsStep c s → Fresh (heard_call s r c).part
   heard_fresh r s fresh step =
       let m = answered (is_free (root_of s.path) (actor s.path) s.x c) (kept_at s c) s.goal s.at r in
-      step_fresh s m.step (on_root (root_of s.path) (root_moved s r m) c) (rooted_step s step) (on_fresh s.path (root_moved s r m) c (rooted_step s step) fresh)
+      step_fresh s m.step (on_root (root_of s.path) (root_moved s r m) c) (rooted_step s step)
+      (on_fresh s.path (root_moved s r m) c (rooted_step s step) fresh)
 
   lost_fresh : (s : Steps) → Fresh c → IsStep c s → Fresh (give_up_call s c).part
-  lost_fresh s fresh step = step_fresh s (given_up s.at) (on_root (root_of s.path) (root_lost s (given_up s.at)) c) (rooted_step s step) (on_fresh s.path (root_lost s (given_up s.at)) c (rooted_step s step) fresh)
+  lost_fresh s fresh step = step_fresh s (given_up s.at) (on_root (root_of s.path) (root_lost s (given_up s.at)) c) (rooted_step s step)
+      (on_fresh s.path (root_lost s (given_up s.at)) c (rooted_step s step) fresh)
 
   call_fresh : (b : Branch) (x : ℕ) (o : Op) → branch_of (actor b.path) c.tree ≡ Some b → Fresh c → Fresh (call b.path x o c).part
   call_fresh b x o found fresh =
@@ -118,10 +113,13 @@ module _ (sent : List Post) (k : ℕ) (c : Coord) (place : Place sent k c) where
       let old = keeping_of x r in
       let h = renewed (is_free (root_of p) (actor p) x c) old old.kept in
       let rooted : IsRooted c p = (actor p, b, found, refl) in
-      goes_fresh (call_steps p x o (next_req (actor p) c) r c h) (on_root (root_of p) (with_keeping x h) (record c { tree = uses_object p x c.tree })) rooted (on_fresh p (with_keeping x h) (record c { tree = uses_object p x c.tree }) rooted fresh)
+      goes_fresh (call_steps p x o (next_req (actor p) c) r c h)
+      (on_root (root_of p) (with_keeping x h) (record c { tree = uses_object p x c.tree })) rooted
+      (on_fresh p (with_keeping x h) (record c { tree = uses_object p x c.tree }) rooted fresh)
 
   include_fresh : (b : Branch) (x s : ℕ) → branch_of (actor b.path) c.tree ≡ Some b → Fresh c → Fresh (include b.path x s c).part
-  include_fresh b x s found fresh = goes_fresh (start b.path x (calls.Include s) None unbound (next_req (actor b.path) c)) (record c { tree = uses_object b.path x c.tree }) (actor b.path, b, found, refl) fresh
+  include_fresh b x s found fresh = goes_fresh (start b.path x (calls.Include s) None unbound (next_req (actor b.path) c))
+      (record c { tree = uses_object b.path x c.tree }) (actor b.path, b, found, refl) fresh
 
   -- a tree with as many actions
   to_roots : (e : Coord) → GoesOn c e → Fresh e → HasNoRoots e
@@ -133,14 +131,23 @@ roots_kept R = record {
   new = λ node inc telling n above. refl;
   hears = λ sent k c place from a r intents fits given fresh.
       let g = place.good in
-      to_roots sent k c place (heard from a r intents c).part (well_heard place.actions (paths_of place.actions) (begun_tree place.actions place.begun) from a r intents c place.good).0
-      (heard_so sent k c place (Fresh sent k c place) (pieces sent k c place fresh) from a r intents fits (λ s step on who. heard_fresh sent k c place r s fresh step));
-  acks = λ sent k c place from u intents fresh. to_roots sent k c place (acked from u intents c).part (well_acked place.actions (paths_of place.actions) (begun_tree place.actions place.begun) from u intents c).0 (acked_so sent k c place (Fresh sent k c place) (pieces sent k c place fresh) from u intents);
+      to_roots sent k c place (heard from a r intents c).part
+      (well_heard place.actions (paths_of place.actions) (begun_tree place.actions place.begun) from a r intents c place.good).0
+      (heard_so sent k c place (Fresh sent k c place) (pieces sent k c place fresh) from a r intents fits
+      (λ s step on who. heard_fresh sent k c place r s fresh step));
+  acks = λ sent k c place from u intents fresh. to_roots sent k c place (acked from u intents c).part
+      (well_acked place.actions (paths_of place.actions) (begun_tree place.actions place.begun) from u intents c).0
+      (acked_so sent k c place (Fresh sent k c place) (pieces sent k c place fresh) from u intents);
   does = λ sent k c place intents hd i none other fresh.
-      to_roots sent k c place (acts i intents c).part (well_acts place.actions (paths_of place.actions) (begun_tree place.actions place.begun) intents c place.good (let f = place.faithful in f.works) hd i none other).0
-      (acts_so sent k c place (Fresh sent k c place) (pieces sent k c place fresh) hd i intents none other (λ b x o found free. call_fresh sent k c place b x o found fresh) (λ b x s found free. include_fresh sent k c place b x s found fresh) (λ s step. lost_fresh sent k c place s fresh step));
-  begins = λ sent k c place l how parent may none fresh n above. fresh n (less n (length c.tree.branches) (length-append c.tree.branches _) above);
-  asks = λ sent k c place fresh. to_roots sent k c place (again_all c.doings c).part (well_again place.actions (paths_of place.actions) (begun_tree place.actions place.begun) c place.good).0 (again_so sent k c place (Fresh sent k c place) (pieces sent k c place fresh));
+      to_roots sent k c place (acts i intents c).part (well_acts place.actions (paths_of place.actions)
+      (begun_tree place.actions place.begun) intents c place.good (let f = place.faithful in f.works) hd i none other).0
+      (acts_so sent k c place (Fresh sent k c place) (pieces sent k c place fresh) hd i intents none other
+      (λ b x o found free. call_fresh sent k c place b x o found fresh)
+      (λ b x s found free. include_fresh sent k c place b x s found fresh) (λ s step. lost_fresh sent k c place s fresh step));
+  begins = λ sent k c place l how parent may none fresh n above.
+      fresh n (less n (length c.tree.branches) (length-append c.tree.branches _) above);
+  asks = λ sent k c place fresh. to_roots sent k c place (again_all c.doings c).part (well_again place.actions (paths_of place.actions)
+      (begun_tree place.actions place.begun) c place.good).0 (again_so sent k c place (Fresh sent k c place) (pieces sent k c place fresh));
 }
   where
     less : {m : ℕ} (n l : ℕ) → m ≡ l + 1 → m < n → l < n

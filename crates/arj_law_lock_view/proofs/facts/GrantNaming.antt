@@ -1,31 +1,29 @@
 -- No binding at naming is below its incarnation, and so says each answer to a Bind.
-use Rattle.std.proofs.Common.{◌≡◌, ◌+◌, ◌==◌, ◌&&◌, ◌||◌, ℕ, Bool, true, false, cond, not, nat_le, List, [], ◌∷◌, map, Option, Some, None, refl, sym, subst, arith}
-use Rattle.std.specs.Prelude.{IfSome, is_some}
-use Rattle.std.specs.List.{AllByRecursion}
-use Rattle.std.specs.Ordering.{is_eq, match_ordering, nat_cmp}
-use Rattle.std.specs.declared.cmp.Ordering.{Ordering}
-use Rattle.std.specs.declared.cmp.Ordering.TheVariants.{Less, Equal, Greater}
-use Rattle.arj_protocol.specs.Words.{Binding, BoundReply, ConfirmedReply, End, Entry, ObjectState, Path, RecordedReply, Row, Uid, is_on, lower_row, entry}
-use Rattle.arj_protocol.specs.Words.confirmed
-use Rattle.arj_protocol.specs.Words.ending
-use Rattle.arj_protocol.specs.Words.mode
-use Rattle.arj_protocol.specs.Words.recorded
-use Rattle.arj_protocol.specs.Words.what
-use Rattle.arj_protocol.specs.Ask.{top_of}
-use Rattle.arj_protocol.specs.Confirm.{Grants, Marks, checked, confirm, confirm_entries, confirm_new, confirms, entries_after, has_all, lock_all, lock_in, named_back, prepared_by, wanted}
-use Rattle.arj_protocol.specs.Effect.{Already, Did, InDoubt, Old, Pair, Prep, Ready, Served, did_nothing, is_prepared, prepare_answer, reply, void}
-use Rattle.arj_protocol.specs.Named.{Counted, Live, Made, Named, bind_call, bind_made, bind_named, conflict_on, end_named, hello_named, in_use, include_asked, is_binding, is_lowered, live_above, live_after, live_asked, locked, lower_lines, lowered, made_above, make_asked, next_server, note_made, note_named, note_other}
-use Rattle.arj_protocol.specs.Naming as naming
-use Rattle.arj_protocol.specs.Naming.{Naming, is_over, listed_entry, on_counted, on_named, taken_end, told_new}
-use Rattle.arj_protocol.specs.Order.{at_number, at_uid, binding_eq, binding_less, put_number}
-use Rattle.arj_law_runs.proofs.addresses.Lists.{all_at_uid, all_put, all_without}
-use Rattle.arj_law_lock_view.specs.facts.Grants.{AreAbove, IsAbove, IsLow, IsMadeAbove, KnowsMade}
-use Rattle.arj_law_lock_view.specs.facts.Worlds.{Said}
+use Rattle.arj_law_parts.proofs.Words
+use Words.{◌≡◌, ◌+◌, ◌==◌, ◌&&◌, ◌||◌, ℕ, Bool, true, false, cond, not, nat_le, List, [], ◌∷◌, map, Option, Some, None, refl, sym, subst}
+use Words.{arith, IfSome, is_some, AllByRecursion, is_eq, match_ordering, nat_cmp, Ordering, Less, Equal, Greater, Binding, BoundReply}
+use Words.{ConfirmedReply, End, Entry, ObjectState, Path, RecordedReply, Row, Uid, is_on, lower_row, entry, top_of, Grants, Marks, checked}
+use Words.{confirm, confirm_entries, confirm_new, confirms, entries_after, has_all, lock_all, lock_in, named_back, prepared_by, wanted}
+use Words.{Already, Did, InDoubt, Old, Pair, Prep, Ready, Served, did_nothing, is_prepared, prepare_answer, reply, void, Counted, Live}
+use Words.{Made, Named, bind_call, bind_made, bind_named, conflict_on, end_named, hello_named, in_use, include_asked, is_binding}
+use Words.{is_lowered, live_above, live_after, live_asked, locked, lower_lines, lowered, made_above, make_asked, next_server, note_made}
+use Words.{note_named, note_other, Naming, is_over, listed_entry, on_counted, on_named, taken_end, told_new, at_number, at_uid, binding_eq}
+use Words.{binding_less, put_number}
+use Words.confirmed
+use Words.ending
+use Words.mode
+use Words.recorded
+use Words.what
+use Words.naming
+use Rattle.arj_law_lock_view.proofs.Terms.{all_without, IsAbove, IsLow, KnowsMade, Said}
 use Rattle.arj_law_lock_view.proofs.facts.Kept.{IsGiven}
+use Rattle.arj_law_lock_view.specs.facts.Grants.{AreAbove, IsMadeAbove}
+use Rattle.arj_law_runs.proofs.addresses.Lists.{all_at_uid, all_put}
 
 -- ---- lists
 
-at_all : {X : Type 0} (Q : X → Type 0) (k : ℕ) (x : X) (m : List (ℕ × X)) → AllByRecursion (λ (e : ℕ × X). Q e.1) m → at_number k m ≡ Some x → Q x
+at_all : {X : Type 0} (Q : X → Type 0) (k : ℕ) (x : X) (m : List (ℕ × X)) → AllByRecursion (λ (e : ℕ × X). Q e.1) m →
+    at_number k m ≡ Some x → Q x
 at_all {X} Q k x [] all is = let no_way : ◌≡◌ {A = Option X} None (Some x) = is in absurd (cc no_way)
 at_all {X} Q k x (e ∷ es) all is = by (is_eq (nat_cmp k e.0)) is (at_all Q k x es all.1)
   where
@@ -33,11 +31,13 @@ at_all {X} Q k x (e ∷ es) all is = by (is_eq (nat_cmp k e.0)) is (at_all Q k x
     by true at ih = let same : ◌≡◌ {A = Option X} (Some e.1) (Some x) = at in subst Q (cc same) all.0
     by false at ih = ih at
 
-put_all : {X : Type 0} (Q : X → Type 0) (k : ℕ) (x : X) (m : List (ℕ × X)) → Q x → AllByRecursion (λ (e : ℕ × X). Q e.1) m → AllByRecursion (λ (e : ℕ × X). Q e.1) (put_number k x m)
+put_all : {X : Type 0} (Q : X → Type 0) (k : ℕ) (x : X) (m : List (ℕ × X)) → Q x → AllByRecursion (λ (e : ℕ × X). Q e.1) m →
+    AllByRecursion (λ (e : ℕ × X). Q e.1) (put_number k x m)
 put_all Q k x [] q all = (q, tt)
 put_all {X} Q k x (e ∷ es) q all = by (nat_cmp k e.0) (put_all Q k x es q all.1)
   where
-    by : (r : Ordering) → AllByRecursion (λ (z : ℕ × X). Q z.1) (put_number k x es) → AllByRecursion (λ (z : ℕ × X). Q z.1) (match_ordering r ((k, x) ∷ e ∷ es) ((e.0, x) ∷ es) (e ∷ put_number k x es))
+    by : (r : Ordering) → AllByRecursion (λ (z : ℕ × X). Q z.1) (put_number k x es) →
+        AllByRecursion (λ (z : ℕ × X). Q z.1) (match_ordering r ((k, x) ∷ e ∷ es) ((e.0, x) ∷ es) (e ∷ put_number k x es))
     by Less ih = (q, all)
     by Equal ih = (q, all.1)
     by Greater ih = (all.0, ih)
@@ -50,7 +50,10 @@ module _ (inc : ℕ) where
 
   -- locks alone change
   rows_alone : (o v : Named) → v.live ≡ o.live → v.made ≡ o.made → Is o → Is v
-  rows_alone o v live made its = record { live = subst (λ (q : Option Live). IfSome q (λ (l : Live). IsLow inc l.binding)) (sym live) its.live; made = subst (λ (q : List (Uid × Made)). AllByRecursion (IsMadeAbove inc) q) (sym made) its.made }
+  rows_alone o v live made its = record {
+    live = subst (λ (q : Option Live). IfSome q (λ (l : Live). IsLow inc l.binding)) (sym live) its.live;
+    made = subst (λ (q : List (Uid × Made)). AllByRecursion (IsMadeAbove inc) q) (sym made) its.made;
+  }
 
   abbrev IsBound : Served Counted BoundReply → Type 0
   IsBound r = Is (let c = r.part in c.named) × IfSome r.reply IsAbove
@@ -62,12 +65,21 @@ module _ (inc : ℕ) where
 
     made_of : (q : Option Made) → IfSome q (λ (m : Made). IsLow inc m.binding) → IsBound (bind_made inc x p e c q)
     made_of (Some m) low = (rows_alone c.named (locked x p mode.Write c.named) refl refl its, low)
-    made_of None low = (record { live = its.live; made = all_put (IsMadeAbove inc) (top_of p) (record { binding = record { inc = inc; count = c.count + 1 }; server = next_server c.named.turn e.servers; recorded = false }) c.named.made (λ w. new) its.made }, new)
+    made_of None low = (
+      record {
+        live = its.live;
+        made = all_put (IsMadeAbove inc) (top_of p)
+            (record { binding = record { inc = inc; count = c.count + 1 }; server = next_server c.named.turn e.servers; recorded = false })
+            c.named.made (λ w. new) its.made;
+      },
+      new,
+    )
       where
         new : IsLow inc (record { inc = inc; count = c.count + 1 })
         new = omega arith
 
-    above_of : (avoid : Binding) (q : Option Made) → IfSome q (λ (m : Made). IsLow inc m.binding) → IfSome (made_above avoid q) (λ (m : Made). IsLow inc m.binding)
+    above_of : (avoid : Binding) (q : Option Made) → IfSome q (λ (m : Made). IsLow inc m.binding) →
+        IfSome (made_above avoid q) (λ (m : Made). IsLow inc m.binding)
     above_of avoid None low = tt
     above_of avoid (Some m) low = by (not m.recorded && binding_less avoid m.binding)
       where
@@ -81,9 +93,11 @@ module _ (inc : ℕ) where
 
     make_of : (avoid : Binding) (r : Option Row) → IsBound (make_asked inc x p avoid e c r)
     make_of avoid (Some r) = (its, tt)
-    make_of avoid None = made_of (made_above avoid (at_uid (top_of p) c.named.made)) (above_of avoid (at_uid (top_of p) c.named.made) (found_of (top_of p) (at_uid (top_of p) c.named.made) refl))
+    make_of avoid None = made_of (made_above avoid (at_uid (top_of p) c.named.made))
+        (above_of avoid (at_uid (top_of p) c.named.made) (found_of (top_of p) (at_uid (top_of p) c.named.made) refl))
 
-    above_live : (avoid : Binding) (l : Option Live) → IfSome l (λ (k : Live). IsLow inc k.binding) → IfSome (live_above avoid l) (λ (k : Live). IsLow inc k.binding)
+    above_live : (avoid : Binding) (l : Option Live) → IfSome l (λ (k : Live). IsLow inc k.binding) →
+        IfSome (live_above avoid l) (λ (k : Live). IsLow inc k.binding)
     above_live avoid None so = tt
     above_live avoid (Some l) so = by (binding_less avoid l.binding)
       where
@@ -118,9 +132,11 @@ module _ (inc : ℕ) where
       made : (m : Made) → IsLow inc m.binding → Is (note_made x top i o m).part
       made m low = one m.recorded
         where
-          one : (w : Bool) → Is (cond {A = Served Named RecordedReply} w (reply o recorded.Yes) (record { part = lowered x top (in_use top m i o); outs = lower_lines x top o; reply = Some recorded.Yes })).part
+          one : (w : Bool) → Is (cond {A = Served Named RecordedReply} w (reply o recorded.Yes)
+              (record { part = lowered x top (in_use top m i o); outs = lower_lines x top o; reply = Some recorded.Yes })).part
           one true = its
-          one false = lower (in_use top m i o) (record { live = low; made = all_put (IsMadeAbove inc) top (record m { recorded = true }) o.made (λ w. low) its.made })
+          one false = lower (in_use top m i o)
+              (record { live = low; made = all_put (IsMadeAbove inc) top (record m { recorded = true }) o.made (λ w. low) its.made })
 
       other : (q : Option Made) → at_uid top o.made ≡ q → Is (note_other x top b i o q).part
       other None is = its
@@ -141,7 +157,8 @@ module _ (inc : ℕ) where
   hello_of : (node k : ℕ) (o : Named) → Is o → Is (hello_named node k o)
   hello_of node k o its = record { live = after o.live its.live; made = its.made }
     where
-      after : (l : Option Live) → IfSome l (λ (q : Live). IsLow inc q.binding) → IfSome (live_after node k l) (λ (q : Live). IsLow inc q.binding)
+      after : (l : Option Live) → IfSome l (λ (q : Live). IsLow inc q.binding) →
+          IfSome (live_after node k l) (λ (q : Live). IsLow inc q.binding)
       after None so = tt
       after (Some l) so = by ((l.server == node) && not (nat_le k l.inc))
         where
@@ -151,11 +168,14 @@ module _ (inc : ℕ) where
 
 -- ---- naming
 
-each_of : (inc : ℕ) (f : ℕ → Named → Named) → ((x : ℕ) (o : Named) → AreAbove inc o → AreAbove inc (f x o)) → (m : List (ℕ × Named)) → AllByRecursion (λ (e : ℕ × Named). AreAbove inc e.1) m → AllByRecursion (λ (e : ℕ × Named). AreAbove inc e.1) (map {A = ℕ × Named} {B = ℕ × Named} (λ e. (e.0, f e.0 e.1)) m)
+each_of : (inc : ℕ) (f : ℕ → Named → Named) → ((x : ℕ) (o : Named) → AreAbove inc o → AreAbove inc (f x o)) → (m : List (ℕ × Named)) →
+    AllByRecursion (λ (e : ℕ × Named). AreAbove inc e.1) m →
+    AllByRecursion (λ (e : ℕ × Named). AreAbove inc e.1) (map {A = ℕ × Named} {B = ℕ × Named} (λ e. (e.0, f e.0 e.1)) m)
 each_of inc f keeps [] all = tt
 each_of inc f keeps (e ∷ es) all = (keeps e.0 e.1 all.0, each_of inc f keeps es all.1)
 
-binds_of : (p : Path) (x : ℕ) (include : Bool) (avoid : Binding) (d : Pair) (n : Naming) → KnowsMade n → (let s = naming.bind p x include avoid d n in KnowsMade s.part × IfSome s.reply IsAbove)
+binds_of : (p : Path) (x : ℕ) (include : Bool) (avoid : Binding) (d : Pair) (n : Naming) → KnowsMade n →
+    (let s = naming.bind p x include avoid d n in KnowsMade s.part × IfSome s.reply IsAbove)
 binds_of p x include avoid d n all = by (is_over p n)
   where
     Well : Served Naming BoundReply → Type 0
@@ -165,10 +185,14 @@ binds_of p x include avoid d n all = by (is_over p n)
     at None is = (all, tt)
     at (Some o) is =
         let its = at_all (AreAbove n.inc) x o n.objects all is in
-        let g = bound_of n.inc p x (listed_entry x d) (record { named = o; count = n.count }) its include avoid in
-        (put_all (AreAbove n.inc) x (bind_named n.inc x p include avoid (listed_entry x d) (record { named = o; count = n.count })).part.named n.objects g.0 all, g.1)
+        let g = bound_of n.inc p x (listed_entry x d) (record { named = o; count = n.count }) its include avoid in (
+          put_all (AreAbove n.inc) x
+              (bind_named n.inc x p include avoid (listed_entry x d) (record { named = o; count = n.count })).part.named n.objects g.0 all,
+          g.1,
+        )
 
-    by : (b : Bool) → Well (cond b (void n) (on_counted x (bind_named n.inc x p include avoid (listed_entry x d)) n (at_number x n.objects)))
+    by : (b : Bool) →
+        Well (cond b (void n) (on_counted x (bind_named n.inc x p include avoid (listed_entry x d)) n (at_number x n.objects)))
     by true = (all, tt)
     by false = at (at_number x n.objects) refl
 
@@ -177,9 +201,11 @@ notes_of p x b i g n all = by (is_over p n || not (is_some (at_number x n.object
   where
     at : (o : Option Named) → at_number x n.objects ≡ o → KnowsMade (on_named x (note_named x (top_of p) b i) n o).part
     at None is = all
-    at (Some o) is = put_all (AreAbove n.inc) x (note_named x (top_of p) b i o).part n.objects (note_of n.inc x (top_of p) b i o (at_all (AreAbove n.inc) x o n.objects all is)) all
+    at (Some o) is = put_all (AreAbove n.inc) x (note_named x (top_of p) b i o).part n.objects
+        (note_of n.inc x (top_of p) b i o (at_all (AreAbove n.inc) x o n.objects all is)) all
 
-    by : (v w : Bool) → KnowsMade (cond {A = Served Naming RecordedReply} v (void n) (cond {A = Served Naming RecordedReply} w (on_named x (note_named x (top_of p) b i) n (at_number x n.objects)) (reply n (recorded.Changed (what.Inc g n.inc))))).part
+    by : (v w : Bool) → KnowsMade (cond {A = Served Naming RecordedReply} v (void n) (cond {A = Served Naming RecordedReply} w
+        (on_named x (note_named x (top_of p) b i) n (at_number x n.objects)) (reply n (recorded.Changed (what.Inc g n.inc))))).part
     by true w = all
     by false true = at (at_number x n.objects) refl
     by false false = all
@@ -191,8 +217,10 @@ tells_of u e d n all = by (is_on n.told u)
     by true = all
     by false = each_of n.inc (λ x. end_named u (taken_end u e n)) (λ x o its. end_of n.inc u (taken_end u e n) o its) n.objects all
 
-confirms_of : (p : Path) (grants : Grants) (excluded included : Marks) (d : Pair) (n : Naming) → KnowsMade n → KnowsMade (confirm p grants excluded included d n).part
-confirms_of p grants excluded included d n all = by (is_over p n || not (has_all grants n)) (is_on n.confirmed (top_of p) || is_prepared (top_of p) d)
+confirms_of : (p : Path) (grants : Grants) (excluded included : Marks) (d : Pair) (n : Naming) → KnowsMade n →
+    KnowsMade (confirm p grants excluded included d n).part
+confirms_of p grants excluded included d n all =
+    by (is_over p n || not (has_all grants n)) (is_on n.confirmed (top_of p) || is_prepared (top_of p) d)
   where
     locks : (xs : List ℕ) (m : Naming) → KnowsMade m → KnowsMade (lock_all xs p m).part
     locks [] m so = so
@@ -200,9 +228,11 @@ confirms_of p grants excluded included d n all = by (is_over p n || not (has_all
       where
         one : (o : Option Named) → at_number x m.objects ≡ o → KnowsMade (lock_in x p m o).part
         one None is = so
-        one (Some o) is = put_all (AreAbove m.inc) x (locked x p mode.Exclude o) m.objects (rows_alone m.inc o (locked x p mode.Exclude o) refl refl (at_all (AreAbove m.inc) x o m.objects so is)) so
+        one (Some o) is = put_all (AreAbove m.inc) x (locked x p mode.Exclude o) m.objects
+            (rows_alone m.inc o (locked x p mode.Exclude o) refl refl (at_all (AreAbove m.inc) x o m.objects so is)) so
 
-    answered : (states : List ObjectState) (t : Did Naming) (a : Prep) → KnowsMade t.part → KnowsMade (prepared_by (top_of p) states t a).part
+    answered : (states : List ObjectState) (t : Did Naming) (a : Prep) → KnowsMade t.part →
+        KnowsMade (prepared_by (top_of p) states t a).part
     answered states t Ready so = so
     answered states t (Already u) so = so
     answered states t (Old u v) so = so
@@ -214,9 +244,12 @@ confirms_of p grants excluded included d n all = by (is_over p n || not (has_all
 
     new : (c : Option ConfirmedReply) → KnowsMade (confirm_new p grants excluded included d n c).part
     new (Some r) = all
-    new None = entries (entries_after (top_of p) grants excluded included d) (lock_all (wanted (top_of p) grants excluded d) p n) (locks (wanted (top_of p) grants excluded d) n all)
+    new None = entries (entries_after (top_of p) grants excluded included d) (lock_all (wanted (top_of p) grants excluded d) p n)
+        (locks (wanted (top_of p) grants excluded d) n all)
 
-    by : (over again : Bool) → KnowsMade (cond {A = Served Naming ConfirmedReply} over (void n) (cond {A = Served Naming ConfirmedReply} again (reply (confirms (top_of p) n) confirmed.Yes) (confirm_new p grants excluded included d n (checked p grants excluded included d n)))).part
+    by : (over again : Bool) →
+        KnowsMade (cond {A = Served Naming ConfirmedReply} over (void n) (cond {A = Served Naming ConfirmedReply} again (reply
+        (confirms (top_of p) n) confirmed.Yes) (confirm_new p grants excluded included d n (checked p grants excluded included d n)))).part
     by true again = all
     by false true = all
     by false false = new (checked p grants excluded included d n)
@@ -225,14 +258,16 @@ confirms_of p grants excluded included d n all = by (is_over p n || not (has_all
 pub given_so : (S : Said) → ((r : BoundReply) → IsAbove r → S.answer r) → IsGiven S KnowsMade
 given_so S gives = record {
   starts = λ inc d. starts inc d d.held;
-  binds = λ p x include avoid d n so. let g = binds_of p x include avoid d n so in (g.0, each (let s = naming.bind p x include avoid d n in s.reply) g.1);
+  binds = λ p x include avoid d n so. let g = binds_of p x include avoid d n so in
+      (g.0, each (let s = naming.bind p x include avoid d n in s.reply) g.1);
   notes = λ p x b i g n so. notes_of p x b i g n so;
   tells = λ u e d n so. tells_of u e d n so;
   hellos = λ node k n so. each_of n.inc (λ x. hello_named node k) (λ x o its. hello_of n.inc node k o its) n.objects so;
   confirms = λ p grants excluded included d n so. confirms_of p grants excluded included d n so;
 }
   where
-    starts : (inc : ℕ) (d : Pair) (es : List (Uid × ObjectState)) → AllByRecursion (λ (e : ℕ × Named). AreAbove inc e.1) (map (named_back d) es)
+    starts : (inc : ℕ) (d : Pair) (es : List (Uid × ObjectState)) →
+        AllByRecursion (λ (e : ℕ × Named). AreAbove inc e.1) (map (named_back d) es)
     starts inc d [] = tt
     starts inc d (e ∷ es) = (record { live = tt; made = tt }, starts inc d es)
 

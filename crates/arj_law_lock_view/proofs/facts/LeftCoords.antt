@@ -1,21 +1,15 @@
 -- A commit that waits for votes waits for servers of its plan: kept by all that a coordinator does.
-use Rattle.std.proofs.Common.{◌≡◌, ◌≢◌, ◌==◌, ◌||◌, ℕ, List, [], ◌∷◌, Bool, true, false, cond, not, Option, refl, subst}
-use Rattle.arj_protocol.specs.Words.{Asked, Kind, Label, Uid}
-use Rattle.arj_protocol.specs.Words.confirmed
-use Rattle.arj_protocol.specs.Words.prepared
-use Rattle.arj_protocol.specs.Words.voted
-use Rattle.arj_protocol.specs.Ask.{Reply, actor}
-use Rattle.arj_protocol.specs.Asking.{again_all, begin_action, heard, last_req}
-use Rattle.arj_protocol.specs.Commit as commit
-use Rattle.arj_protocol.specs.Commit.{Aborts, Asks, CommitStep, Confirming, Decides, Machine, Plan, Preparing, Stays, Used, Voting, begin_confirm, begin_prepare, begin_vote, servers_of, targets_of}
-use Rattle.arj_protocol.specs.Coord.{Calling, Committing, Coord, Doing, Idle, Now, doing_of, plan_for, root_at}
-use Rattle.arj_protocol.specs.Effect.{Intent}
-use Rattle.arj_protocol.specs.Ending.{acked}
-use Rattle.arj_protocol.specs.Order.{has, with_number, without_number}
-use Rattle.arj_protocol.specs.Step.{Input, acts, parent_of}
-use Rattle.arj_protocol.specs.Step as input
-use Rattle.arj_protocol.specs.Tree.{root_of}
-use Rattle.arj_law_lock_view.specs.facts.Parted.{AreLeft, IsLeft}
+use Rattle.arj_law_parts.proofs.Words
+use Words.{◌≡◌, ◌≢◌, ◌==◌, ◌||◌, ℕ, List, [], ◌∷◌, Bool, true, false, cond, not, Option, refl, subst, Asked, Kind, Label, Uid, Reply, actor}
+use Words.{again_all, begin_action, heard, last_req, Aborts, Asks, CommitStep, Confirming, Decides, Machine, Plan, Preparing, Stays, Used}
+use Words.{Voting, begin_confirm, begin_prepare, begin_vote, servers_of, targets_of, Calling, Committing, Coord, Doing, Idle, Now, doing_of}
+use Words.{plan_for, root_at, Intent, acked, has, with_number, without_number, Input, acts, parent_of, root_of}
+use Words.confirmed
+use Words.prepared
+use Words.voted
+use Words.commit
+use Words.input
+use Rattle.arj_law_lock_view.proofs.Terms.{AreLeft, IsLeft}
 use Rattle.arj_law_lock_view.proofs.facts.CommitCoords.{AreAt, IsNext, at_acked, at_acts, at_again, at_begins, at_heard}
 
 -- ---- the steps of a commit
@@ -54,7 +48,8 @@ less k (m ∷ ns) n is = by (m == k) is (less k ns n)
     second true b it = refl
     second false b it = it
 
-    by : (b : Bool) → has (cond (not b) (m ∷ without_number k ns) (without_number k ns)) n ≡ true → (has (without_number k ns) n ≡ true → has ns n ≡ true) → has (m ∷ ns) n ≡ true
+    by : (b : Bool) → has (cond (not b) (m ∷ without_number k ns) (without_number k ns)) n ≡ true →
+        (has (without_number k ns) n ≡ true → has ns n ≡ true) → has (m ∷ ns) n ≡ true
     by true it ih = second (m == n) (has ns n) (ih it)
     by false it ih = one (m == n) it
       where
@@ -63,7 +58,8 @@ less k (m ∷ ns) n is = by (m == k) is (less k ns n)
         one false e = ih e
 
 answer_left : (from : ℕ) (m : Machine) (r : Reply) → IsLeft (Committing m) → StepIsLeft (commit.answered from m r).step
-answer_left from (Voting p left) (Reply.Voted (voted.Yes states)) its = votes_left (without_number from left) (record p { changed = commit.with_states states p.changed }) (λ n is. its n (less from left n is))
+answer_left from (Voting p left) (Reply.Voted (voted.Yes states)) its =
+    votes_left (without_number from left) (record p { changed = commit.with_states states p.changed }) (λ n is. its n (less from left n is))
 answer_left from (Voting p left) (Reply.Voted (voted.Changed w)) its = tt
 answer_left from (Voting p left) (Reply.Bound r) its = its
 answer_left from (Voting p left) (Reply.Loaded r) its = its
@@ -72,8 +68,10 @@ answer_left from (Voting p left) (Reply.Noted r) its = its
 answer_left from (Voting p left) (Reply.Invoked r) its = its
 answer_left from (Voting p left) (Reply.Prepared r) its = its
 answer_left from (Voting p left) (Reply.Confirmed r) its = its
-answer_left from (Preparing p left) (Reply.Prepared prepared.Yes) its = stores_left (without_number from left) (record p { prepared = with_number from p.prepared })
-answer_left from (Preparing p left) (Reply.Prepared (prepared.InDoubt x h)) its = stores_left (without_number from left) (commit.marks_store from p)
+answer_left from (Preparing p left) (Reply.Prepared prepared.Yes) its =
+    stores_left (without_number from left) (record p { prepared = with_number from p.prepared })
+answer_left from (Preparing p left) (Reply.Prepared (prepared.InDoubt x h)) its =
+    stores_left (without_number from left) (commit.marks_store from p)
 answer_left from (Preparing p left) (Reply.Prepared (prepared.Old x v)) its = tt
 answer_left from (Preparing p left) (Reply.Bound r) its = tt
 answer_left from (Preparing p left) (Reply.Loaded r) its = tt
@@ -124,11 +122,15 @@ next_left u (Aborts why p) its = tt
 
 module _ (c : Coord) (left : AreLeft c) where
   pub left_heard : (from : ℕ) (a : Asked) (r : Reply) (intents : List (Uid × Intent)) → AreLeft (heard from a r intents c).part
-  left_heard from a r intents = from_at (heard from a r intents c).part (at_heard Left c (to_at c left) from a r intents (λ d m found is waits its. next_left a.act (commit.answered from m r).step (answer_left from m r its)))
+  left_heard from a r intents = from_at (heard from a r intents c).part (at_heard Left c (to_at c left) from a r intents
+      (λ d m found is waits its. next_left a.act (commit.answered from m r).step (answer_left from m r its)))
 
-  pub left_acts : (i : Input) (intents : List (Uid × Intent)) → ((l : Label) (q : Kind) (parent : Option Label) → i ≢ input.Begin l q parent) → AreLeft (acts i intents c).part
-  left_acts i intents other = from_at (acts i intents c).part (at_acts Left c (to_at c left) (λ u m its. next_left u (commit.given_up m).step (giveup_left m))
-      (λ b. let p = plan_for b.path (last_req (doing_of (actor b.path) c)) (root_at (root_of b.path) c) c in next_left (actor b.path) (commit.start p).step (start_left (servers_of p) p (λ n is. is))) i intents other)
+  pub left_acts : (i : Input) (intents : List (Uid × Intent)) →
+      ((l : Label) (q : Kind) (parent : Option Label) → i ≢ input.Begin l q parent) → AreLeft (acts i intents c).part
+  left_acts i intents other =
+      from_at (acts i intents c).part (at_acts Left c (to_at c left) (λ u m its. next_left u (commit.given_up m).step (giveup_left m))
+      (λ b. let p = plan_for b.path (last_req (doing_of (actor b.path) c)) (root_at (root_of b.path) c) c in
+      next_left (actor b.path) (commit.start p).step (start_left (servers_of p) p (λ n is. is))) i intents other)
 
   pub left_acked : (from : ℕ) (u : Uid) (intents : List (Uid × Intent)) → AreLeft (acked from u intents c).part
   left_acked from u intents = from_at (acked from u intents c).part (at_acked Left c (to_at c left) from u intents)

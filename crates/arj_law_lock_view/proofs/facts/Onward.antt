@@ -1,34 +1,29 @@
 -- How what an action waits for goes on: its number doesn't fall, and by the same number it asks the same.
-use Rattle.std.proofs.Common.{◌≡◌, ◌≢◌, ◌≤◌, ◌<◌, ◌+◌, ◌++◌, ◌∙◌, arith, ℕ, zero, suc, List, [], ◌∷◌, Bool, true, false, cond, Option, Some, None, refl, sym, ap, subst, ⊎_elim}
-use Rattle.std.specs.Prelude.{⊤, slice_get}
-use Rattle.arj_base.proofs.Uids.{uid_cases}
-use Rattle.arj_protocol.specs.Words.{Ask, Asked, End, Kind, Label, Path, Uid}
-use Rattle.arj_protocol.specs.Words.cause
-use Rattle.arj_protocol.specs.Words.confirmed
-use Rattle.arj_protocol.specs.Words.ending
-use Rattle.arj_protocol.specs.Words.kind
-use Rattle.arj_protocol.specs.Words.prepared
-use Rattle.arj_protocol.specs.Words.voted
-use Rattle.arj_protocol.specs.Ask.{Reply, actor}
-use Rattle.arj_protocol.specs.Asking.{again_all, again_now, asks_all, asks_node, begin_action, call, call_steps, commit_action, commit_open, commit_top, commits_in, doomed_by, give_up, give_up_doing, gives_up, goes_on, heard, heard_by, heard_call, heard_doing, heard_none, heard_now, include, kept_at, last_req, moved_commit, next_req, renewed, root_heard, root_lost, root_moved, step_call, step_commit, waits_for_call, waits_for_commit}
-use Rattle.arj_protocol.specs.Call as calls
-use Rattle.arj_protocol.specs.Call.{Answered, CallEnd, CallStep, Changed, Conflict, Ended, Included, Lost, Moved, On, Steps, answered, given_up, start}
-use Rattle.arj_protocol.specs.Commit as commit
-use Rattle.arj_protocol.specs.Commit.{Aborts, Asks, CommitStep, Confirming, Decides, Machine, Plan, Preparing, Stays, Used, Voting, ask_of, begin_confirm, begin_prepare, begin_vote, has_record, marks_store, marks_stores, participants, plan_of, servers_of, stores_left, targets_of, votes_left, with_states}
-use Rattle.arj_protocol.specs.Coord.{Calling, Committing, Coord, Doing, Idle, Now, change_doing, doing_of, is_free, keeping_of, on_doing, on_root, plan_for, root_at, with_keeping}
-use Rattle.arj_protocol.specs.Effect.{Did, Intent, Served}
-use Rattle.arj_protocol.specs.Ending.{abort_action, aborts_with, acked, acked_by, acked_left, all_aborted, decide, ended, root_after}
-use Rattle.arj_protocol.specs.Order.{at_uid, has, put_uid, unbound, with_number, without_number}
-use Rattle.arj_protocol.specs.Step as input
-use Rattle.arj_protocol.specs.Step.{Input, acts, branch_named, on_branch, parent_of}
-use Rattle.arj_protocol.specs.Tree.{Branch, at_place, doomed_at, ended_at, is_own, open_below, root_of, uses_object}
-use Rattle.arj_law_parts.specs.parts.Actions.{Action}
-use Rattle.arj_law_parts.specs.parts.Coords.{IsAsking, IsBusy, IsGoodCoord}
-use Rattle.arj_law_parts.specs.parts.Copies.{IsTree, Paths}
-use Rattle.arj_law_parts.specs.parts.Requests.{AreNumbered, IsNumbered}
-use Rattle.arj_law_parts.proofs.parts.GoodCoords.{actor_is, doomed_same, uses_same}
-use Rattle.arj_law_parts.proofs.parts.Settled.{doing_other, end_tree_on}
-use Rattle.arj_law_runs.proofs.calls.CoordKnown.{doing_here}
+use Rattle.arj_law_parts.proofs.Words
+use Words.{◌≡◌, ◌≢◌, ◌≤◌, ◌<◌, ◌+◌, ◌++◌, ◌∙◌, arith, ℕ, zero, suc, List, [], ◌∷◌, Bool, true, false, cond, Option, Some, None, refl, sym}
+use Words.{ap, subst, ⊎_elim, ⊤, slice_get, uid_cases, Ask, Asked, End, Kind, Label, Path, Uid, Reply, actor, again_all, again_now}
+use Words.{asks_all, asks_node, begin_action, call, call_steps, commit_action, commit_open, commit_top, commits_in, doomed_by, give_up}
+use Words.{give_up_doing, gives_up, goes_on, heard, heard_by, heard_call, heard_doing, heard_none, heard_now, include, kept_at, last_req}
+use Words.{moved_commit, next_req, renewed, root_heard, root_lost, root_moved, step_call, step_commit, waits_for_call, waits_for_commit}
+use Words.{Answered, CallEnd, CallStep, Changed, Conflict, Ended, Included, Lost, Moved, On, Steps, answered, given_up, start, Aborts, Asks}
+use Words.{CommitStep, Confirming, Decides, Machine, Plan, Preparing, Stays, Used, Voting, ask_of, begin_confirm, begin_prepare, begin_vote}
+use Words.{has_record, marks_store, marks_stores, participants, plan_of, servers_of, stores_left, targets_of, votes_left, with_states}
+use Words.{Calling, Committing, Coord, Doing, Idle, Now, change_doing, doing_of, is_free, keeping_of, on_doing, on_root, plan_for, root_at}
+use Words.{with_keeping, Did, Intent, Served, abort_action, aborts_with, acked, acked_by, acked_left, all_aborted, decide, ended}
+use Words.{root_after, at_uid, has, put_uid, unbound, with_number, without_number, Input, acts, branch_named, on_branch, parent_of, Branch}
+use Words.{at_place, doomed_at, ended_at, is_own, open_below, root_of, uses_object}
+use Words.cause
+use Words.confirmed
+use Words.ending
+use Words.kind
+use Words.prepared
+use Words.voted
+use Words.calls
+use Words.commit
+use Words.input
+use Rattle.arj_law_lock_view.proofs.Terms
+use Terms.{Action, IsAsking, IsBusy, IsGoodCoord, IsTree, Paths, AreNumbered, IsNumbered, actor_is, doomed_same, uses_same, doing_other}
+use Terms.{end_tree_on, doing_here}
 
 some_is : {A : Type 0} {a b : A} → Some a ≡ Some b → a ≡ b
 some_is {A} {a} {b} is = let k : ◌≡◌ {A = Option A} (Some a) (Some b) = is in cc
@@ -37,7 +32,8 @@ some_is {A} {a} {b} is = let k : ◌≡◌ {A = Option A} (Some a) (Some b) = is
 abbrev pub AsksSame : Now → Now → Type 0
 AsksSame n Idle = ⊤
 AsksSame n (Calling s) = n ≡ Calling s
-AsksSame n (Committing m) = (k : Machine) × (n ≡ Committing k) × ((let p = plan_of m in p.path) ≡ (let p = plan_of k in p.path)) × ((to : ℕ) → ask_of m to ≡ ask_of k to)
+AsksSame n (Committing m) = (k : Machine) × (n ≡ Committing k) × ((let p = plan_of m in p.path) ≡ (let p = plan_of k in p.path))
+    × ((to : ℕ) → ask_of m to ≡ ask_of k to)
 
 -- an action's work goes on to this number, and waits for this
 pub record IsLater (d : Doing) (req : ℕ) (n : Now) : Type 0 where
@@ -60,7 +56,8 @@ later_more d req n less = record { low = omega (arith, less); same = λ is. absu
 
 -- a step from a commit with this machine: where it waits on it asks the same by the same number, else by a greater one
 abbrev IsNextOf : Machine → CommitStep → Type 0
-IsNextOf k (Stays m) = ((let p = plan_of m in p.req) ≡ (let p = plan_of k in p.req)) × ((let p = plan_of m in p.path) ≡ (let p = plan_of k in p.path)) × ((to : ℕ) → ask_of m to ≡ ask_of k to)
+IsNextOf k (Stays m) = ((let p = plan_of m in p.req) ≡ (let p = plan_of k in p.req))
+    × ((let p = plan_of m in p.path) ≡ (let p = plan_of k in p.path)) × ((to : ℕ) → ask_of m to ≡ ask_of k to)
 IsNextOf k (Asks m) = (let p = plan_of k in p.req) < (let p = plan_of m in p.req)
 IsNextOf k (Decides p) = ⊤
 IsNextOf k (Aborts why p) = ⊤
@@ -97,11 +94,14 @@ marked_req : (ss : List ℕ) (p : Plan) → (marks_stores ss p).req ≡ p.req
 marked_req [] p = refl
 marked_req (s ∷ ss) p = marked_req ss (marks_store s p)
 
-votes_next : (ns left : List ℕ) (p q : Plan) → q.req ≡ p.req → q.path ≡ p.path → ((to : ℕ) → commit.vote_ask q to ≡ commit.vote_ask p to) → IsNextOf (Voting p left) (votes_left ns q)
-votes_next [] left p q number path same = next_of (Voting p left) (begin_prepare (targets_of q) q) (prepares_more (targets_of q) q p.req number)
+votes_next : (ns left : List ℕ) (p q : Plan) → q.req ≡ p.req → q.path ≡ p.path → ((to : ℕ) → commit.vote_ask q to ≡ commit.vote_ask p to) →
+    IsNextOf (Voting p left) (votes_left ns q)
+votes_next [] left p q number path same =
+    next_of (Voting p left) (begin_prepare (targets_of q) q) (prepares_more (targets_of q) q p.req number)
 votes_next (n ∷ ns) left p q number path same = (number, path, same)
 
-stores_next : (ns left : List ℕ) (p q : Plan) → q.req ≡ p.req → q.path ≡ p.path → ((to : ℕ) → ask_of (Preparing q ns) to ≡ ask_of (Preparing p left) to) → IsNextOf (Preparing p left) (stores_left ns q).step
+stores_next : (ns left : List ℕ) (p q : Plan) → q.req ≡ p.req → q.path ≡ p.path →
+    ((to : ℕ) → ask_of (Preparing q ns) to ≡ ask_of (Preparing p left) to) → IsNextOf (Preparing p left) (stores_left ns q).step
 stores_next [] left p q number path same = next_of (Preparing p left) (begin_confirm q.used q) (confirms_more q.used q p.req number)
 stores_next (n ∷ ns) left p q number path same = (number, path, same)
 
@@ -109,7 +109,8 @@ still : (k : Machine) → IsNextOf k (Stays k)
 still k = (refl, refl, λ to. refl)
 
 answer_next : (from : ℕ) (k : Machine) (r : Reply) → IsNextOf k (commit.answered from k r).step
-answer_next from (Voting p left) (Reply.Voted (voted.Yes states)) = votes_next (without_number from left) left p (record p { changed = with_states states p.changed }) refl refl (λ to. refl)
+answer_next from (Voting p left) (Reply.Voted (voted.Yes states)) =
+    votes_next (without_number from left) left p (record p { changed = with_states states p.changed }) refl refl (λ to. refl)
 answer_next from (Voting p left) (Reply.Voted (voted.Changed w)) = tt
 answer_next from (Voting p left) (Reply.Bound r) = still (Voting p left)
 answer_next from (Voting p left) (Reply.Loaded r) = still (Voting p left)
@@ -118,8 +119,10 @@ answer_next from (Voting p left) (Reply.Noted r) = still (Voting p left)
 answer_next from (Voting p left) (Reply.Invoked r) = still (Voting p left)
 answer_next from (Voting p left) (Reply.Prepared r) = still (Voting p left)
 answer_next from (Voting p left) (Reply.Confirmed r) = still (Voting p left)
-answer_next from (Preparing p left) (Reply.Prepared prepared.Yes) = stores_next (without_number from left) left p (record p { prepared = with_number from p.prepared }) refl refl (λ to. refl)
-answer_next from (Preparing p left) (Reply.Prepared (prepared.InDoubt x h)) = stores_next (without_number from left) left p (marks_store from p) refl refl (λ to. refl)
+answer_next from (Preparing p left) (Reply.Prepared prepared.Yes) =
+    stores_next (without_number from left) left p (record p { prepared = with_number from p.prepared }) refl refl (λ to. refl)
+answer_next from (Preparing p left) (Reply.Prepared (prepared.InDoubt x h)) =
+    stores_next (without_number from left) left p (marks_store from p) refl refl (λ to. refl)
 answer_next from (Preparing p left) (Reply.Prepared (prepared.Old x v)) = tt
 answer_next from (Preparing p left) (Reply.Bound r) = still (Preparing p left)
 answer_next from (Preparing p left) (Reply.Loaded r) = still (Preparing p left)
@@ -143,7 +146,8 @@ answer_next from (Confirming p) (Reply.Prepared r) = still (Confirming p)
 
 giveup_next : (k : Machine) → IsNextOf k (commit.given_up k).step
 giveup_next (Voting p left) = tt
-giveup_next (Preparing p left) = next_of (Preparing p left) (begin_confirm (marks_stores left p).used (marks_stores left p)) (confirms_more (marks_stores left p).used (marks_stores left p) p.req (marked_req left p))
+giveup_next (Preparing p left) = next_of (Preparing p left) (begin_confirm (marks_stores left p).used (marks_stores left p))
+    (confirms_more (marks_stores left p).used (marks_stores left p) p.req (marked_req left p))
 giveup_next (Confirming p) = tt
 
 -- ---- a coordinator
@@ -165,9 +169,14 @@ module _ (c : Coord) where
   further_own e f own doings t u d found = let q = t u d found in (q.0, (λ i. cond (own u i) (at_place u.num (doings i)) None) ∙ q.1, q.2)
 
   -- another work of one action
-  further_do : (u : Uid) (f : Doing → Doing) (e : Coord) → ((d x : Doing) → doing_of u c ≡ Some d → IsLater d x.req x.now → let y = f x in IsLater d y.req y.now) → IsFurther e → IsFurther (on_doing u f e)
+  further_do : (u : Uid) (f : Doing → Doing) (e : Coord) → ((d x : Doing) → doing_of u c ≡ Some d → IsLater d x.req x.now → let y = f x in
+      IsLater d y.req y.now) → IsFurther e → IsFurther (on_doing u f e)
   further_do u f e its t w d found = ⊎_elim
-      (λ (same : w ≡ u). let q = t w d found in (f q.0, ap (λ v. doing_of v (on_doing u f e)) same ∙ doing_here u f e q.0 (ap (λ v. doing_of v e) (sym same) ∙ q.1), its d q.0 (ap (λ v. doing_of v c) (sym same) ∙ found) q.2))
+      (λ (same : w ≡ u). let q = t w d found in (
+        f q.0,
+        ap (λ v. doing_of v (on_doing u f e)) same ∙ doing_here u f e q.0 (ap (λ v. doing_of v e) (sym same) ∙ q.1),
+        its d q.0 (ap (λ v. doing_of v c) (sym same) ∙ found) q.2,
+      ))
       (λ other. let q = t w d found in (q.0, left (doing_of u e) refl other ∙ q.1, q.2)) (uid_cases w u)
     where
       left : (o : Option Doing) → doing_of u e ≡ o → w ≢ u → doing_of w (change_doing f u e o) ≡ doing_of w e
@@ -175,16 +184,20 @@ module _ (c : Coord) where
       left (Some x) at other = doing_other u w (f x) x e at other
 
   further_idle : (u : Uid) (e : Coord) → IsFurther e → IsFurther (on_doing u (λ (d : Doing). record d { now = Idle }) e)
-  further_idle u e t = further_do u (λ (d : Doing). record d { now = Idle }) e (λ d x found later. record { low = later.low; same = λ is. tt }) t
+  further_idle u e t =
+      further_do u (λ (d : Doing). record d { now = Idle }) e (λ d x found later. record { low = later.low; same = λ is. tt }) t
 
   further_took : (u : Uid) (ns : List ℕ) (e : Coord) → IsFurther e → IsFurther (on_doing u (λ (d : Doing). record d { took = ns }) e)
   further_took u ns e t = further_do u (λ (d : Doing). record d { took = ns }) e (λ d x found later. later) t
 
   -- it waits in a step of a greater number
-  further_goes : (s : Steps) (e : Coord) → ((d : Doing) → doing_of (actor s.path) c ≡ Some d → d.req < s.req) → IsFurther e → IsFurther (goes_on s e).part
-  further_goes s e more t u d found = further_do (actor s.path) (λ (d : Doing). record d { req = s.req; now = Calling s }) e (λ y x at later. later_more y s.req (Calling s) (more y at)) t u d found
+  further_goes : (s : Steps) (e : Coord) → ((d : Doing) → doing_of (actor s.path) c ≡ Some d → d.req < s.req) → IsFurther e →
+      IsFurther (goes_on s e).part
+  further_goes s e more t u d found = further_do (actor s.path) (λ (d : Doing). record d { req = s.req; now = Calling s }) e
+      (λ y x at later. later_more y s.req (Calling s) (more y at)) t u d found
 
-  further_step_call : (s : Steps) (n : CallStep) (e : Coord) → ((d : Doing) → doing_of (actor s.path) c ≡ Some d → d.req < s.req + 1) → IsFurther e → IsFurther (step_call s n e).part
+  further_step_call : (s : Steps) (n : CallStep) (e : Coord) → ((d : Doing) → doing_of (actor s.path) c ≡ Some d → d.req < s.req + 1) →
+      IsFurther e → IsFurther (step_call s n e).part
   further_step_call s (On at) e more t = further_goes (record s { req = s.req + 1; at = at }) e more t
   further_step_call s (Ended g) e more t = by g
     where
@@ -200,10 +213,12 @@ module _ (c : Coord) where
       by (Conflict h x k) = rests
       by (Changed k w) = rests
       by (Lost k false) = rests
-      by (Lost k true) = let q = doomed_same (actor s.path) idle.tree in further_own idle (record idle { tree = doomed_at (actor s.path) idle.tree }) q.own refl rests
+      by (Lost k true) = let q = doomed_same (actor s.path) idle.tree in
+          further_own idle (record idle { tree = doomed_at (actor s.path) idle.tree }) q.own refl rests
 
   further_ended : (u : Uid) (how : End) (e : Coord) → IsFurther e → IsFurther (ended u how e)
-  further_ended u how e t = let g = end_tree_on u how e in further_idle u (record e { tree = ended_at u how e.tree }) (further_own e (record e { tree = ended_at u how e.tree }) g.own refl t)
+  further_ended u how e t = let g = end_tree_on u how e in
+      further_idle u (record e { tree = ended_at u how e.tree }) (further_own e (record e { tree = ended_at u how e.tree }) g.own refl t)
 
   further_all : (us : List Uid) (e : Coord) → IsFurther e → IsFurther (all_aborted us e).part
   further_all [] e t = t
@@ -225,7 +240,8 @@ module _ (c : Coord) where
       its : IsFurther r
       its u d found = further_took (actor p.path) (participants p) f (further_ended (actor p.path) ending.Commit e t) u d found
 
-      by : (b : Bool) → IsFurther (cond b (record r { telling = put_uid (actor p.path) (record { root = root_of p.path; nodes = participants p }) r.telling }) r)
+      by : (b : Bool) → IsFurther
+          (cond b (record r { telling = put_uid (actor p.path) (record { root = root_of p.path; nodes = participants p }) r.telling }) r)
       by true = λ u d found. its u d found
       by false = its
 
@@ -238,24 +254,32 @@ module _ (c : Coord) where
   IsNextStep u (Decides p) = ⊤
   IsNextStep u (Aborts why p) = ⊤
 
-  further_commits : (u : Uid) (m : Machine) → ((d : Doing) → doing_of u c ≡ Some d → IsLater d (let p = plan_of m in p.req) (Committing m)) → IsFurther (commits_in u m c)
-  further_commits u m its = further_do u (λ (d : Doing). record d { req = (plan_of m).req; now = Committing m }) c (λ d x found later. its d found) further_same
+  further_commits : (u : Uid) (m : Machine) →
+      ((d : Doing) → doing_of u c ≡ Some d → IsLater d (let p = plan_of m in p.req) (Committing m)) → IsFurther (commits_in u m c)
+  further_commits u m its =
+      further_do u (λ (d : Doing). record d { req = (plan_of m).req; now = Committing m }) c (λ d x found later. its d found) further_same
 
   further_step : (u : Uid) (st : CommitStep) (intents : List (Uid × Intent)) → IsNextStep u st → IsFurther (step_commit u st intents c).part
   further_step u (Stays m) intents its = further_commits u m its
-  further_step u (Asks m) intents its = further_asked (plan_of m).path (plan_of m).req (commit.waiting m) (commits_in u m c) (further_commits u m its)
+  further_step u (Asks m) intents its =
+      further_asked (plan_of m).path (plan_of m).req (commit.waiting m) (commits_in u m c) (further_commits u m its)
   further_step u (Decides p) intents its = further_decide p c further_same
   further_step u (Aborts why p) intents its = further_ended u ending.Abort c further_same
 
   -- from a commit under way
-  next_step : (u : Uid) (d : Doing) (k : Machine) → doing_of u c ≡ Some d → d.now ≡ Committing k → (let p = plan_of k in p.req) ≡ d.req → (st : CommitStep) → IsNextOf k st → IsNextStep u st
+  next_step : (u : Uid) (d : Doing) (k : Machine) → doing_of u c ≡ Some d → d.now ≡ Committing k → (let p = plan_of k in p.req) ≡ d.req →
+      (st : CommitStep) → IsNextOf k st → IsNextStep u st
   next_step u d k found is number (Stays m) next = λ x at.
       let one : d ≡ x = some_is (sym found ∙ at) in
-      subst (λ (y : Doing). IsLater y (let p = plan_of m in p.req) (Committing m)) one (record { low = low_is (let p = plan_of m in p.req) (let p = plan_of k in p.req) d.req next.0 number; same = λ same. (k, is, next.1, next.2) })
+      subst (λ (y : Doing). IsLater y (let p = plan_of m in p.req) (Committing m)) one (record {
+        low = low_is (let p = plan_of m in p.req) (let p = plan_of k in p.req) d.req next.0 number;
+        same = λ same. (k, is, next.1, next.2);
+      })
     where
       low_is : (i j l : ℕ) → i ≡ j → j ≡ l → l ≤ i
       low_is i j l a b = omega (arith, a, b)
-  next_step u d k found is number (Asks m) next = λ x at. later_more x (let p = plan_of m in p.req) (Committing m) (more x.req (let p = plan_of k in p.req) (let p = plan_of m in p.req) (number ∙ ap (λ (y : Doing). y.req) (some_is (sym found ∙ at))) next)
+  next_step u d k found is number (Asks m) next = λ x at. later_more x (let p = plan_of m in p.req) (Committing m) (more x.req
+      (let p = plan_of k in p.req) (let p = plan_of m in p.req) (number ∙ ap (λ (y : Doing). y.req) (some_is (sym found ∙ at))) next)
     where
       more : (i j l : ℕ) → j ≡ i → j < l → i < l
       more i j l a b = omega (arith, a, b)
@@ -271,9 +295,11 @@ module _ (c : Coord) where
 
   -- ---- all that it does
 
-  module _ (actions : List Action) (paths : Paths) (tree : IsTree paths) (good : IsGoodCoord actions paths c) (numbered : AreNumbered c) where
+  module _ (actions : List Action) (paths : Paths) (tree : IsTree paths) (good : IsGoodCoord actions paths c)
+      (numbered : AreNumbered c) where
     -- a call that waits, with its number
-    waits_by : (u : Uid) (d : Doing) (s : Steps) → doing_of u c ≡ Some d → d.now ≡ Calling s → (x : Doing) → doing_of (actor s.path) c ≡ Some x → x.req < s.req + 1
+    waits_by : (u : Uid) (d : Doing) (s : Steps) → doing_of u c ≡ Some d → d.now ≡ Calling s → (x : Doing) →
+        doing_of (actor s.path) c ≡ Some x → x.req < s.req + 1
     waits_by u d s found is x at =
         let a : IsAsking c.tree u s.path = subst (IsBusy c.tree u) is (good.busy u d found) in
         let one : d ≡ x = some_is (sym found ∙ ap (λ v. doing_of v c) (sym (actor_is actions paths tree u s.path c good a)) ∙ at) in
@@ -297,8 +323,10 @@ module _ (c : Coord) where
             one false = further_same
         now d found (Committing m) is = one (waits_for_commit from a r m)
           where
-            one : (w : Bool) → IsFurther (cond {A = Served Coord (Unit {0})} w (heard_by (moved_commit a.act (commit.answered from m r) intents c)) (heard_none c)).part
-            one true = further_step a.act (commit.answered from m r).step intents (next_step a.act d m found is (commits_by a.act d m found is) (commit.answered from m r).step (answer_next from m r))
+            one : (w : Bool) → IsFurther (cond {A = Served Coord (Unit {0})} w
+                (heard_by (moved_commit a.act (commit.answered from m r) intents c)) (heard_none c)).part
+            one true = further_step a.act (commit.answered from m r).step intents
+                (next_step a.act d m found is (commits_by a.act d m found is) (commit.answered from m r).step (answer_next from m r))
             one false = further_same
 
         by : (o : Option Doing) → doing_of a.act c ≡ o → IsFurther (heard_doing from a r intents c o).part
@@ -310,8 +338,10 @@ module _ (c : Coord) where
       where
         now : (d : Doing) → doing_of u c ≡ Some d → (q : Now) → d.now ≡ q → IsFurther (gives_up u intents c q).part
         now d found Idle is = further_same
-        now d found (Calling s) is = further_step_call s (given_up s.at) (on_root (root_of s.path) (root_lost s (given_up s.at)) c) (waits_by u d s found is) further_same
-        now d found (Committing m) is = further_step u (commit.given_up m).step intents (next_step u d m found is (commits_by u d m found is) (commit.given_up m).step (giveup_next m))
+        now d found (Calling s) is = further_step_call s (given_up s.at) (on_root (root_of s.path) (root_lost s (given_up s.at)) c)
+            (waits_by u d s found is) further_same
+        now d found (Committing m) is = further_step u (commit.given_up m).step intents
+            (next_step u d m found is (commits_by u d m found is) (commit.given_up m).step (giveup_next m))
 
         by : (o : Option Doing) → doing_of u c ≡ o → IsFurther (give_up_doing u intents c o).part
         by None is = further_same
@@ -321,7 +351,8 @@ module _ (c : Coord) where
     next_number : (u : Uid) (d : Doing) → doing_of u c ≡ Some d → d.req < next_req u c
     next_number u d found = above d.req (last_req (doing_of u c)) (ap last_req found)
 
-    pub further_acts : (i : Input) (intents : List (Uid × Intent)) → ((l : Label) (q : Kind) (parent : Option Label) → i ≢ input.Begin l q parent) → IsFurther (acts i intents c).part
+    pub further_acts : (i : Input) (intents : List (Uid × Intent)) →
+        ((l : Label) (q : Kind) (parent : Option Label) → i ≢ input.Begin l q parent) → IsFurther (acts i intents c).part
     further_acts (input.Begin l q parent) intents other = absurd (other l q parent refl)
     further_acts (input.Call l x o) intents other = by (branch_named l c)
       where
@@ -334,14 +365,17 @@ module _ (c : Coord) where
             let k = renewed (is_free (root_of p) (actor p) x c) old old.kept in
             let u : Coord = record c { tree = uses_object p x c.tree } in
             let q = uses_same p x c.tree in
-            further_goes (call_steps p x o (next_req (actor p) c) r c k) (on_root (root_of p) (with_keeping x k) u) (next_number (actor p)) (further_own c u q.own refl further_same)
+            further_goes (call_steps p x o (next_req (actor p) c) r c k) (on_root (root_of p) (with_keeping x k) u) (next_number (actor p))
+            (further_own c u q.own refl further_same)
     further_acts (input.Include l x s) intents other = by (branch_named l c)
       where
         by : (f : Option Branch) → IsFurther (on_branch (λ b. include b.path x s c) c f).part
         by None = further_same
         by (Some b) =
             let q = uses_same b.path x c.tree in
-            further_goes (start b.path x (calls.Include s) None unbound (next_req (actor b.path) c)) (record c { tree = uses_object b.path x c.tree }) (next_number (actor b.path)) (further_own c (record c { tree = uses_object b.path x c.tree }) q.own refl further_same)
+            further_goes (start b.path x (calls.Include s) None unbound (next_req (actor b.path) c))
+            (record c { tree = uses_object b.path x c.tree }) (next_number (actor b.path))
+            (further_own c (record c { tree = uses_object b.path x c.tree }) q.own refl further_same)
     further_acts (input.Commit l) intents other = by (branch_named l c)
       where
         by : (f : Option Branch) → IsFurther (on_branch (λ b. commit_action b intents c) c f).part
@@ -355,7 +389,8 @@ module _ (c : Coord) where
             plan = plan_for b.path (last_req (doing_of u c)) (root_at (root_of b.path) c) c
 
             top : IsFurther (commit_top b.path intents c).part
-            top = further_step u (commit.start plan).step intents (first_step u (commit.start plan).step (λ d found. votes_more (servers_of plan) plan d.req (ap last_req found)))
+            top = further_step u (commit.start plan).step intents
+                (first_step u (commit.start plan).step (λ d found. votes_more (servers_of plan) plan d.req (ap last_req found)))
 
             kinds : (q : Kind) → IsFurther (commit_open b intents c q).part
             kinds kind.Nested = further_ended u ending.Commit c further_same
@@ -364,7 +399,8 @@ module _ (c : Coord) where
             kinds kind.Independent = top
             kinds kind.Constituent = top
 
-            doomed : (d : Bool) → IsFurther (cond {A = Did Coord} d (aborts_with u cause.Doomed intents c) (commit_open b intents c b.kind)).part
+            doomed : (d : Bool) →
+                IsFurther (cond {A = Did Coord} d (aborts_with u cause.Doomed intents c) (commit_open b intents c b.kind)).part
             doomed true = further_ended u ending.Abort c further_same
             doomed false = kinds b.kind
     further_acts (input.Abort l) intents other = by (branch_named l c)
@@ -394,7 +430,8 @@ module _ (c : Coord) where
       by None = further_same
       by (Some i) = one (has i.nodes from)
         where
-          one : (b : Bool) → IsFurther (cond {A = Served Coord (Unit {0})} b (acked_left u i intents c (without_number from i.nodes)) (record { part = c; outs = []; reply = None })).part
+          one : (b : Bool) → IsFurther (cond {A = Served Coord (Unit {0})} b (acked_left u i intents c (without_number from i.nodes))
+              (record { part = c; outs = []; reply = None })).part
           one true = left i (without_number from i.nodes)
           one false = further_same
 

@@ -1,35 +1,25 @@
 -- What a commit has asked stays asked by what it comes to, until its top has ended; and who was asked by a committed top took part.
-use Rattle.std.proofs.Common.{arith, ◌≡◌, ◌≢◌, ◌∙◌, ◌+◌, ◌==◌, ◌||◌, ℕ, List, [], ◌∷◌, ◌++◌, Bool, true, false, cond, Option, Some, None, refl, sym, ap, subst, inl, inr, ⊎_elim}
-use Rattle.std.specs.Prelude.{is_some}
-use Rattle.std.proofs.lemmas.Bool.{or_cases, eqb-true}
-use Rattle.arj_base.proofs.Uids.{uid_cases}
-use Rattle.arj_lock.proofs.Members as list
-use Rattle.arj_lock.proofs.Passes.{in_left, in_right}
-use Rattle.arj_protocol.specs.Words.{Ask, End, Path, Uid}
-use Rattle.arj_protocol.specs.Words.ask
-use Rattle.arj_protocol.specs.Words.confirmed
-use Rattle.arj_protocol.specs.Words.ending
-use Rattle.arj_protocol.specs.Words.prepared
-use Rattle.arj_protocol.specs.Words.voted
-use Rattle.arj_protocol.specs.Ask.{Reply, actor}
-use Rattle.arj_protocol.specs.Asking.{asks_all, asks_node, commits_in, doomed_by, goes_on, root_heard, step_call, step_commit}
-use Rattle.arj_protocol.specs.Call.{Answered, CallEnd, CallStep, Changed, Conflict, Ended, Included, Lost, On, Steps}
-use Rattle.arj_protocol.specs.Commit as commit
-use Rattle.arj_protocol.specs.Commit.{Aborts, Asks, CommitStep, Confirming, Decides, Machine, Plan, Preparing, Stays, Used, Voting, begin_confirm, begin_prepare, confirm_ask, has_record, naming_node, participants, plan_of, servers_of, targets_of}
-use Rattle.arj_protocol.specs.Coord.{Calling, Committing, Coord, Doing, Idle, change_doing, doing_of, on_doing, on_root}
-use Rattle.arj_protocol.specs.Effect.{Intent}
-use Rattle.arj_protocol.specs.Ending.{all_aborted, decide, ended, root_after}
-use Rattle.arj_protocol.specs.Order.{has, put_uid, with_number, without_number}
-use Rattle.arj_protocol.specs.Tree.{Branch, Tree, at_place, branch_of, doomed_at, ended_at, ended_branch, is_own, root_of}
-use Rattle.arj_law_parts.specs.parts.Actions.{Action}
-use Rattle.arj_law_parts.specs.parts.Coords.{AreBusy, IsBusy, IsVoting}
-use Rattle.arj_law_parts.specs.parts.Copies.{IsTree, Paths}
-use Rattle.arj_law_parts.proofs.parts.GoodCoords.{IsSameTree, busy_ended, doomed_same, on_tree}
-use Rattle.arj_law_parts.proofs.parts.GoodTrees.{at_others, at_u}
-use Rattle.arj_law_parts.proofs.parts.Settled.{doing_other, doing_put, end_tree_on}
-use Rattle.arj_law_runs.proofs.calls.CoordKnown.{doing_here}
+use Rattle.arj_law_parts.proofs.Words
+use Words.{arith, ◌≡◌, ◌≢◌, ◌∙◌, ◌+◌, ◌==◌, ◌||◌, ℕ, List, [], ◌∷◌, ◌++◌, Bool, true, false, cond, Option, Some, None, refl, sym, ap, subst}
+use Words.{inl, inr, ⊎_elim, is_some, or_cases, eqb-true, uid_cases, in_left, in_right, Ask, End, Path, Uid, Reply, actor, asks_all}
+use Words.{asks_node, commits_in, doomed_by, goes_on, root_heard, step_call, step_commit, Answered, CallEnd, CallStep, Changed, Conflict}
+use Words.{Ended, Included, Lost, On, Steps, Aborts, Asks, CommitStep, Confirming, Decides, Machine, Plan, Preparing, Stays, Used, Voting}
+use Words.{begin_confirm, begin_prepare, confirm_ask, has_record, naming_node, participants, plan_of, servers_of, targets_of, Calling}
+use Words.{Committing, Coord, Doing, Idle, change_doing, doing_of, on_doing, on_root, Intent, all_aborted, decide, ended, root_after, has}
+use Words.{put_uid, with_number, without_number, Branch, Tree, at_place, branch_of, doomed_at, ended_at, ended_branch, is_own, root_of}
+use Words.list
+use Words.ask
+use Words.confirmed
+use Words.ending
+use Words.prepared
+use Words.voted
+use Words.commit
+use Rattle.arj_law_lock_view.proofs.Terms
+use Terms.{Action, IsBusy, IsVoting, IsTree, Paths, IsSameTree, doomed_same, on_tree, at_others, at_u, doing_other, doing_put, end_tree_on}
+use Terms.{doing_here, IsPart, IsSought}
 use Rattle.arj_law_lock_view.proofs.view.PlanSteps.{in_set_of}
-use Rattle.arj_law_lock_view.specs.facts.Parted.{IsPart, IsSought}
+use Rattle.arj_law_parts.proofs.parts.GoodCoords.{busy_ended}
+use Rattle.arj_law_parts.specs.parts.Coords.{AreBusy}
 
 some_is : {A : Type 0} {a b : A} → Some a ≡ Some b → a ≡ b
 some_is {A} {a} {b} is = let k : ◌≡◌ {A = Option A} (Some a) (Some b) = is in cc
@@ -58,10 +48,12 @@ has_in (m ∷ ns) n (inr i) = second (m == n) (has ns n) (has_in ns n i)
 
 -- each server of the plan takes part, and so does naming where it has confirmed
 server_takes : (p : Plan) (n : ℕ) → has (servers_of p) n ≡ true → has (participants p) n ≡ true
-server_takes p n is = has_in (participants p) n (in_set_of n (servers_of p ++ p.prepared ++ naming_node p) (in_left n (servers_of p ++ p.prepared) (naming_node p) (in_left n (servers_of p) p.prepared (in_has (servers_of p) n is))))
+server_takes p n is = has_in (participants p) n (in_set_of n (servers_of p ++ p.prepared ++ naming_node p)
+    (in_left n (servers_of p ++ p.prepared) (naming_node p) (in_left n (servers_of p) p.prepared (in_has (servers_of p) n is))))
 
 naming_takes : (p : Plan) → p.confirmed ≡ true → has (participants p) 1 ≡ true
-naming_takes p is = has_in (participants p) 1 (in_set_of 1 (servers_of p ++ p.prepared ++ naming_node p) (in_right 1 (servers_of p ++ p.prepared) (naming_node p) (subst (λ (b : Bool). list.In {X = ℕ} 1 (cond b (1 ∷ []) [])) (sym is) (inl refl))))
+naming_takes p is = has_in (participants p) 1 (in_set_of 1 (servers_of p ++ p.prepared ++ naming_node p) (in_right 1
+    (servers_of p ++ p.prepared) (naming_node p) (subst (λ (b : Bool). list.In {X = ℕ} 1 (cond b (1 ∷ []) [])) (sym is) (inl refl))))
 
 -- ---- what a step of a commit has asked
 
@@ -123,7 +115,8 @@ vote_takes p q same to (ask.Prepare states) is = absurd is
 vote_takes p q same to (ask.Confirm grants excluded included) is = absurd is
 
 -- what waits for naming asked for votes too
-confirming_takes : (p : Plan) (to : ℕ) (a : Ask) → IsSought (Confirming p) to a → has (participants (record p { confirmed = true })) to ≡ true
+confirming_takes : (p : Plan) (to : ℕ) (a : Ask) → IsSought (Confirming p) to a →
+    has (participants (record p { confirmed = true })) to ≡ true
 confirming_takes p to a is = by a is
   where
     named : (b : Ask) → (to ≡ 1) × (b ≡ confirm_ask p) → has (participants (record p { confirmed = true })) to ≡ true
@@ -163,7 +156,8 @@ marks_same [] p = refl
 marks_same (n ∷ ns) p = marks_same ns (commit.marks_store n p)
 
 pub answer_on : (from : ℕ) (m : Machine) (r : Reply) → StepsOn m (commit.answered from m r).step
-answer_on from (Voting p left) (Reply.Voted (voted.Yes states)) = votes_on (Voting p left) p (voting_asks p left) (without_number from left) (record p { changed = commit.with_states states p.changed }) refl
+answer_on from (Voting p left) (Reply.Voted (voted.Yes states)) = votes_on (Voting p left) p (voting_asks p left) (without_number from left)
+    (record p { changed = commit.with_states states p.changed }) refl
 answer_on from (Voting p left) (Reply.Voted (voted.Changed w)) = tt
 answer_on from (Voting p left) (Reply.Bound r) = λ to a is. is
 answer_on from (Voting p left) (Reply.Loaded r) = λ to a is. is
@@ -172,8 +166,10 @@ answer_on from (Voting p left) (Reply.Noted r) = λ to a is. is
 answer_on from (Voting p left) (Reply.Invoked r) = λ to a is. is
 answer_on from (Voting p left) (Reply.Prepared r) = λ to a is. is
 answer_on from (Voting p left) (Reply.Confirmed r) = λ to a is. is
-answer_on from (Preparing p left) (Reply.Prepared prepared.Yes) = stores_on (Preparing p left) p (preparing_asks p left) (without_number from left) (record p { prepared = with_number from p.prepared }) refl
-answer_on from (Preparing p left) (Reply.Prepared (prepared.InDoubt x h)) = stores_on (Preparing p left) p (preparing_asks p left) (without_number from left) (commit.marks_store from p) refl
+answer_on from (Preparing p left) (Reply.Prepared prepared.Yes) = stores_on (Preparing p left) p (preparing_asks p left)
+    (without_number from left) (record p { prepared = with_number from p.prepared }) refl
+answer_on from (Preparing p left) (Reply.Prepared (prepared.InDoubt x h)) =
+    stores_on (Preparing p left) p (preparing_asks p left) (without_number from left) (commit.marks_store from p) refl
 answer_on from (Preparing p left) (Reply.Prepared (prepared.Old x v)) = tt
 answer_on from (Preparing p left) (Reply.Bound r) = λ to a is. is
 answer_on from (Preparing p left) (Reply.Loaded r) = λ to a is. is
@@ -210,40 +206,72 @@ pub part_then : (c d e : Coord) → StaysPart c d → StaysPart d e → StaysPar
 part_then c d e one two u to a is = two u to a (one u to a is)
 
 -- where one action alone changes
-pub part_at : (w : Uid) (c e : Coord) → ((u : Uid) → u ≢ w → doing_of u e ≡ doing_of u c) → ((u : Uid) (b : Branch) → u ≢ w → branch_of u c.tree ≡ Some b → (d : Branch) × (branch_of u e.tree ≡ Some d) × (d.ended ≡ b.ended)) → ((to : ℕ) (a : Ask) → IsPart c w to a → IsPart e w to a) → StaysPart c e
-part_at w c e works found its u to a is = ⊎_elim (λ same. subst (λ v. IsPart e v to a) (sym same) (its to a (subst (λ v. IsPart c v to a) same is))) (λ other. away other is) (uid_cases u w)
+pub part_at : (w : Uid) (c e : Coord) → ((u : Uid) → u ≢ w → doing_of u e ≡ doing_of u c) →
+    ((u : Uid) (b : Branch) → u ≢ w → branch_of u c.tree ≡ Some b → (d : Branch) × (branch_of u e.tree ≡ Some d) × (d.ended ≡ b.ended)) →
+    ((to : ℕ) (a : Ask) → IsPart c w to a → IsPart e w to a) → StaysPart c e
+part_at w c e works found its u to a is = ⊎_elim (λ same.
+    subst (λ v. IsPart e v to a) (sym same) (its to a (subst (λ v. IsPart c v to a) same is))) (λ other. away other is) (uid_cases u w)
   where
     away : u ≢ w → IsPart c u to a → IsPart e u to a
-    away other (inl s) = inl (record { doing = s.doing; machine = s.machine; works = works u other ∙ s.works; now = s.now; sought = s.sought })
-    away other (inr h) = let f = found u h.branch other h.found in inr (record { branch = f.0; doing = h.doing; found = f.1; works = works u other ∙ h.works; ended = ap is_some f.2 ∙ h.ended; took = λ is. h.took (sym f.2 ∙ is) })
+    away other (inl s) =
+        inl (record { doing = s.doing; machine = s.machine; works = works u other ∙ s.works; now = s.now; sought = s.sought })
+    away other (inr h) = let f = found u h.branch other h.found in inr (record {
+      branch = f.0;
+      doing = h.doing;
+      found = f.1;
+      works = works u other ∙ h.works;
+      ended = ap is_some f.2 ∙ h.ended;
+      took = λ is. h.took (sym f.2 ∙ is);
+    })
 
 -- where none does
-pub part_same : (c e : Coord) → ((u : Uid) → doing_of u e ≡ doing_of u c) → ((u : Uid) (b : Branch) → branch_of u c.tree ≡ Some b → (d : Branch) × (branch_of u e.tree ≡ Some d) × (d.ended ≡ b.ended)) → StaysPart c e
-part_same c e works found u to a (inl s) = inl (record { doing = s.doing; machine = s.machine; works = works u ∙ s.works; now = s.now; sought = s.sought })
-part_same c e works found u to a (inr h) = let f = found u h.branch h.found in inr (record { branch = f.0; doing = h.doing; found = f.1; works = works u ∙ h.works; ended = ap is_some f.2 ∙ h.ended; took = λ is. h.took (sym f.2 ∙ is) })
+pub part_same : (c e : Coord) → ((u : Uid) → doing_of u e ≡ doing_of u c) → ((u : Uid) (b : Branch) → branch_of u c.tree ≡ Some b →
+    (d : Branch) × (branch_of u e.tree ≡ Some d) × (d.ended ≡ b.ended)) → StaysPart c e
+part_same c e works found u to a (inl s) =
+    inl (record { doing = s.doing; machine = s.machine; works = works u ∙ s.works; now = s.now; sought = s.sought })
+part_same c e works found u to a (inr h) = let f = found u h.branch h.found in inr (record {
+  branch = f.0;
+  doing = h.doing;
+  found = f.1;
+  works = works u ∙ h.works;
+  ended = ap is_some f.2 ∙ h.ended;
+  took = λ is. h.took (sym f.2 ∙ is);
+})
 
 -- roots and tolds don't count
 pub part_aside : (c e : Coord) → e.tree ≡ c.tree → e.doings ≡ c.doings → StaysPart c e
-part_aside c e tree doings = part_same c e (λ u i. cond (is_own u (tree i)) (at_place u.num (doings i)) None) (λ u b found. (b, ap (branch_of u) tree ∙ found, refl))
+part_aside c e tree doings =
+    part_same c e (λ u i. cond (is_own u (tree i)) (at_place u.num (doings i)) None) (λ u b found. (b, ap (branch_of u) tree ∙ found, refl))
 
 -- nor does a tree of the same actions
 pub part_tree : (c : Coord) (v : Tree) → IsSameTree c.tree v → StaysPart c (record c { tree = v })
-part_tree c v same = part_same c (record c { tree = v }) (λ u i. cond (same.own u i) (at_place u.num c.doings) None) (λ u b found. (let q = same.forth u b found in (q.0, q.1, sym q.4)))
+part_tree c v same = part_same c (record c { tree = v }) (λ u i. cond (same.own u i) (at_place u.num c.doings) None)
+    (λ u b found. (let q = same.forth u b found in (q.0, q.1, sym q.4)))
 
 -- one action's work changes: who took part in its commit stays, and at its commit it goes on
-pub part_do : (w : Uid) (f : Doing → Doing) (c : Coord) → ((d : Doing) → (f d).took ≡ d.took) → ((d : Doing) (m : Machine) → doing_of w c ≡ Some d → d.now ≡ Committing m → (k : Machine) × ((f d).now ≡ Committing k) × SeeksOn m k) → StaysPart c (on_doing w f c)
+pub part_do : (w : Uid) (f : Doing → Doing) (c : Coord) → ((d : Doing) → (f d).took ≡ d.took) → ((d : Doing) (m : Machine) →
+    doing_of w c ≡ Some d → d.now ≡ Committing m → (k : Machine) × ((f d).now ≡ Committing k) × SeeksOn m k) → StaysPart c (on_doing w f c)
 part_do w f c took goes = by (doing_of w c) refl
   where
     by : (o : Option Doing) → doing_of w c ≡ o → StaysPart c (change_doing f w c o)
     by None none = λ u to a is. is
-    by (Some old) found = part_at w c (change_doing f w c (Some old)) (λ u other. doing_other w u (f old) old c found other) (λ u b other at. (b, at, refl)) its
+    by (Some old) found = part_at w c (change_doing f w c (Some old)) (λ u other. doing_other w u (f old) old c found other)
+        (λ u b other at. (b, at, refl)) its
       where
         one : (d : Doing) → doing_of w c ≡ Some d → d ≡ old
         one d at = some_is (sym at ∙ found)
 
         its : (to : ℕ) (a : Ask) → IsPart c w to a → IsPart (change_doing f w c (Some old)) w to a
-        its to a (inl s) = let g = goes old s.machine found (ap (λ (d : Doing). d.now) (sym (one s.doing s.works)) ∙ s.now) in inl (record { doing = f old; machine = g.0; works = doing_put w (f old) old c found; now = g.1; sought = g.2 to a s.sought })
-        its to a (inr h) = inr (record { branch = h.branch; doing = f old; found = h.found; works = doing_put w (f old) old c found; ended = h.ended; took = λ is. ap (λ ns. has ns to) (took old ∙ ap (λ (d : Doing). d.took) (sym (one h.doing h.works))) ∙ h.took is })
+        its to a (inl s) = let g = goes old s.machine found (ap (λ (d : Doing). d.now) (sym (one s.doing s.works)) ∙ s.now) in
+            inl (record { doing = f old; machine = g.0; works = doing_put w (f old) old c found; now = g.1; sought = g.2 to a s.sought })
+        its to a (inr h) = inr (record {
+          branch = h.branch;
+          doing = f old;
+          found = h.found;
+          works = doing_put w (f old) old c found;
+          ended = h.ended;
+          took = λ is. ap (λ ns. has ns to) (took old ∙ ap (λ (d : Doing). d.took) (sym (one h.doing h.works))) ∙ h.took is;
+        })
 
 -- ---- ends
 
@@ -282,20 +310,33 @@ module _ (w : Uid) (how : End) (c : Coord) where
       by (Some b) found = at_others w how c.tree b found u other
 
 -- who is part is there, and at work
-pub part_there : (c : Coord) → AreBusy c → (u : Uid) (to : ℕ) (a : Ask) → IsPart c u to a → (b : Branch) × (branch_of u c.tree ≡ Some b) × ((d : Doing) × (doing_of u c ≡ Some d))
-part_there c busy u to a (inl s) = let v : IsVoting c.tree u (plan_of s.machine) = subst (IsBusy c.tree u) s.now (busy u s.doing s.works) in (v.asking.branch, v.asking.found, (s.doing, s.works))
+pub part_there : (c : Coord) → AreBusy c → (u : Uid) (to : ℕ) (a : Ask) → IsPart c u to a →
+    (b : Branch) × (branch_of u c.tree ≡ Some b) × ((d : Doing) × (doing_of u c ≡ Some d))
+part_there c busy u to a (inl s) = let v : IsVoting c.tree u (plan_of s.machine) = subst (IsBusy c.tree u) s.now (busy u s.doing s.works) in
+    (v.asking.branch, v.asking.found, (s.doing, s.works))
 part_there c busy u to a (inr h) = (h.branch, h.found, (h.doing, h.works))
 
 -- an end of one that isn't part of a commit, or an abort
-pub part_ended : (w : Uid) (how : End) (c : Coord) → AreBusy c → (how ≡ ending.Commit → (to : ℕ) (a : Ask) → IsPart c w to a → ⊥) → StaysPart c (ended w how c)
-part_ended w how c busy none = part_at w c (ended w how c) (ended_off w how c) (λ u b other found. (b, ended_others w how c u other ∙ found, refl)) (λ to a is. its how none to a is (part_there c busy w to a is))
+pub part_ended : (w : Uid) (how : End) (c : Coord) → AreBusy c → (how ≡ ending.Commit → (to : ℕ) (a : Ask) → IsPart c w to a → ⊥) →
+    StaysPart c (ended w how c)
+part_ended w how c busy none = part_at w c (ended w how c) (ended_off w how c)
+    (λ u b other found. (b, ended_others w how c u other ∙ found, refl)) (λ to a is. its how none to a is (part_there c busy w to a is))
   where
-    its : (e : End) → (e ≡ ending.Commit → (to : ℕ) (a : Ask) → IsPart c w to a → ⊥) → (to : ℕ) (a : Ask) → IsPart c w to a → (b : Branch) × (branch_of w c.tree ≡ Some b) × ((d : Doing) × (doing_of w c ≡ Some d)) → IsPart (ended w e c) w to a
+    its : (e : End) → (e ≡ ending.Commit → (to : ℕ) (a : Ask) → IsPart c w to a → ⊥) → (to : ℕ) (a : Ask) → IsPart c w to a →
+        (b : Branch) × (branch_of w c.tree ≡ Some b) × ((d : Doing) × (doing_of w c ≡ Some d)) → IsPart (ended w e c) w to a
     its ending.Commit never to a is there = absurd (never refl to a is)
-    its ending.Abort never to a is (b, found, work) = inr (record { branch = record b { ended = Some ending.Abort }; doing = record work.0 { now = Idle }; found = ended_found w ending.Abort c b found; works = ended_work w ending.Abort c work.0 work.1; ended = refl; took = λ same. absurd (cc same) })
+    its ending.Abort never to a is (b, found, work) = inr (record {
+      branch = record b { ended = Some ending.Abort };
+      doing = record work.0 { now = Idle };
+      found = ended_found w ending.Abort c b found;
+      works = ended_work w ending.Abort c work.0 work.1;
+      ended = refl;
+      took = λ same. absurd (cc same);
+    })
 
 -- a decision: who was asked takes part
-pub part_decided : (p : Plan) (c : Coord) → AreBusy c → ((to : ℕ) (a : Ask) → IsPart c (actor p.path) to a → has (participants p) to ≡ true) → StaysPart c (decide p c).part
+pub part_decided : (p : Plan) (c : Coord) → AreBusy c →
+    ((to : ℕ) (a : Ask) → IsPart c (actor p.path) to a → has (participants p) to ≡ true) → StaysPart c (decide p c).part
 part_decided p c busy its = by (has_record p)
   where
     w : Uid
@@ -316,33 +357,47 @@ part_decided p c busy its = by (has_record p)
         inr (record {
           branch = record t.0 { ended = Some ending.Commit };
           doing = record (let x = t.2 in x.0) { now = Idle; took = participants p };
-          found = ap (branch_of w) (on_tree w (λ (d : Doing). record d { took = participants p }) e) ∙ ended_found w ending.Commit c t.0 t.1;
-          works = doing_here w (λ (d : Doing). record d { took = participants p }) e (record (let x = t.2 in x.0) { now = Idle }) (ended_work w ending.Commit c (let x = t.2 in x.0) (let x = t.2 in x.1));
+          found =
+              ap (branch_of w) (on_tree w (λ (d : Doing). record d { took = participants p }) e) ∙ ended_found w ending.Commit c t.0 t.1;
+          works = doing_here w (λ (d : Doing). record d { took = participants p }) e (record (let x = t.2 in x.0) { now = Idle })
+              (ended_work w ending.Commit c (let x = t.2 in x.0) (let x = t.2 in x.1));
           ended = refl;
           took = λ same. its to a is;
         })
 
     so : StaysPart c f
-    so = part_at w c f (λ u other. doing_off w (λ (d : Doing). record d { took = participants p }) e u other ∙ ended_off w ending.Commit c u other)
-        (λ u b other found. (b, ap (branch_of u) (on_tree w (λ (d : Doing). record d { took = participants p }) e) ∙ ended_others w ending.Commit c u other ∙ found, refl)) here
+    so = part_at w c f
+        (λ u other. doing_off w (λ (d : Doing). record d { took = participants p }) e u other ∙ ended_off w ending.Commit c u other)
+        (λ u b other found. (
+          b,
+          ap (branch_of u) (on_tree w (λ (d : Doing). record d { took = participants p }) e) ∙ ended_others w ending.Commit c u other
+              ∙ found,
+          refl,
+        )) here
 
-    by : (b : Bool) → StaysPart c (cond b (record r { telling = put_uid w (record { root = root_of p.path; nodes = participants p }) r.telling }) r)
-    by true = part_then c f (record r { telling = put_uid w (record { root = root_of p.path; nodes = participants p }) r.telling }) so (part_aside f (record r { telling = put_uid w (record { root = root_of p.path; nodes = participants p }) r.telling }) refl refl)
+    by : (b : Bool) →
+        StaysPart c (cond b (record r { telling = put_uid w (record { root = root_of p.path; nodes = participants p }) r.telling }) r)
+    by true = part_then c f (record r { telling = put_uid w (record { root = root_of p.path; nodes = participants p }) r.telling }) so
+        (part_aside f (record r { telling = put_uid w (record { root = root_of p.path; nodes = participants p }) r.telling }) refl refl)
     by false = part_then c f r so (part_aside f r refl refl)
 
 -- ---- steps of calls and commits
 
 pub part_asked : (p : Path) (req : ℕ) (asked : List (ℕ × Ask)) (c : Coord) → StaysPart c (asks_all p req asked c).part
 part_asked p req [] c = λ u to a is. is
-part_asked p req (x ∷ rest) c = let d = asks_node p req x c in part_then c d.part (asks_all p req rest d.part).part (part_aside c d.part refl refl) (part_asked p req rest d.part)
+part_asked p req (x ∷ rest) c = let d = asks_node p req x c in
+    part_then c d.part (asks_all p req rest d.part).part (part_aside c d.part refl refl) (part_asked p req rest d.part)
 
 -- who waits in no commit goes on in a call
-pub part_goes : (s : Steps) (c : Coord) → ((d : Doing) (m : Machine) → doing_of (actor s.path) c ≡ Some d → d.now ≡ Committing m → ⊥) → StaysPart c (goes_on s c).part
+pub part_goes : (s : Steps) (c : Coord) → ((d : Doing) (m : Machine) → doing_of (actor s.path) c ≡ Some d → d.now ≡ Committing m → ⊥) →
+    StaysPart c (goes_on s c).part
 part_goes s c none =
     let e = on_doing (actor s.path) (λ (d : Doing). record d { req = s.req; now = Calling s }) c in
-    part_then c e (goes_on s c).part (part_do (actor s.path) (λ (d : Doing). record d { req = s.req; now = Calling s }) c (λ d. refl) (λ d m found now. absurd (none d m found now))) (part_aside e (goes_on s c).part refl refl)
+    part_then c e (goes_on s c).part (part_do (actor s.path) (λ (d : Doing). record d { req = s.req; now = Calling s }) c (λ d. refl)
+    (λ d m found now. absurd (none d m found now))) (part_aside e (goes_on s c).part refl refl)
 
-pub part_step_call : (s : Steps) (n : CallStep) (c : Coord) → ((d : Doing) (m : Machine) → doing_of (actor s.path) c ≡ Some d → d.now ≡ Committing m → ⊥) → StaysPart c (step_call s n c).part
+pub part_step_call : (s : Steps) (n : CallStep) (c : Coord) →
+    ((d : Doing) (m : Machine) → doing_of (actor s.path) c ≡ Some d → d.now ≡ Committing m → ⊥) → StaysPart c (step_call s n c).part
 part_step_call s (On at) c none = part_goes (record s { req = s.req + 1; at = at }) c none
 part_step_call s (Ended g) c none = by g
   where
@@ -353,7 +408,8 @@ part_step_call s (Ended g) c none = by g
     idle = on_root (root_of s.path) (root_heard s g) rest
 
     so : StaysPart c idle
-    so = part_then c rest idle (part_do (actor s.path) (λ (d : Doing). record d { now = Idle }) c (λ d. refl) (λ d m found now. absurd (none d m found now))) (part_aside rest idle refl refl)
+    so = part_then c rest idle (part_do (actor s.path) (λ (d : Doing). record d { now = Idle }) c (λ d. refl)
+        (λ d m found now. absurd (none d m found now))) (part_aside rest idle refl refl)
 
     by : (h : CallEnd) → StaysPart c (doomed_by (actor s.path) h idle)
     by (Answered a) = so
@@ -361,7 +417,8 @@ part_step_call s (Ended g) c none = by g
     by (Conflict h m n) = so
     by (Changed n w) = so
     by (Lost n false) = so
-    by (Lost n true) = part_then c idle (record idle { tree = doomed_at (actor s.path) idle.tree }) so (part_tree idle (doomed_at (actor s.path) idle.tree) (doomed_same (actor s.path) idle.tree))
+    by (Lost n true) = part_then c idle (record idle { tree = doomed_at (actor s.path) idle.tree }) so
+        (part_tree idle (doomed_at (actor s.path) idle.tree) (doomed_same (actor s.path) idle.tree))
 
 -- what a commit's step comes to, for what was asked
 abbrev pub ComesTo : CommitStep → ℕ → Ask → Type 0
@@ -370,24 +427,36 @@ ComesTo (Asks k) to a = IsSought k to a
 ComesTo (Decides p) to a = has (participants p) to ≡ true
 ComesTo (Aborts why p) to a = Unit {0}
 
-pub part_commits : (u : Uid) (k : Machine) (c : Coord) → AreBusy c → ((to : ℕ) (a : Ask) → IsPart c u to a → IsSought k to a) → StaysPart c (commits_in u k c)
-part_commits u k c busy its = part_at u c (commits_in u k c) (λ w other. doing_off u f c w other) (λ w b other found. (b, ap (branch_of w) (on_tree u f c) ∙ found, refl))
-    (λ to a is. (let t = part_there c busy u to a is in inl (record { doing = f (let x = t.2 in x.0); machine = k; works = doing_here u f c (let x = t.2 in x.0) (let x = t.2 in x.1); now = refl; sought = its to a is })))
+pub part_commits : (u : Uid) (k : Machine) (c : Coord) → AreBusy c → ((to : ℕ) (a : Ask) → IsPart c u to a → IsSought k to a) →
+    StaysPart c (commits_in u k c)
+part_commits u k c busy its = part_at u c (commits_in u k c) (λ w other. doing_off u f c w other)
+    (λ w b other found. (b, ap (branch_of w) (on_tree u f c) ∙ found, refl))
+    (λ to a is. (let t = part_there c busy u to a is in inl (record {
+      doing = f (let x = t.2 in x.0);
+      machine = k;
+      works = doing_here u f c (let x = t.2 in x.0) (let x = t.2 in x.1);
+      now = refl;
+      sought = its to a is;
+    })))
   where
     f : Doing → Doing
     f d = record d { req = (plan_of k).req; now = Committing k }
 
-pub part_step : (u : Uid) (s : CommitStep) (intents : List (Uid × Intent)) (c : Coord) → AreBusy c → ((p : Plan) → s ≡ Decides p → actor p.path ≡ u) → ((to : ℕ) (a : Ask) → IsPart c u to a → ComesTo s to a) → StaysPart c (step_commit u s intents c).part
+pub part_step : (u : Uid) (s : CommitStep) (intents : List (Uid × Intent)) (c : Coord) → AreBusy c → ((p : Plan) → s ≡ Decides p →
+    actor p.path ≡ u) → ((to : ℕ) (a : Ask) → IsPart c u to a → ComesTo s to a) → StaysPart c (step_commit u s intents c).part
 part_step u (Stays k) intents c busy who its = part_commits u k c busy its
-part_step u (Asks k) intents c busy who its = part_then c (commits_in u k c) (step_commit u (Asks k) intents c).part (part_commits u k c busy its) (part_asked (plan_of k).path (plan_of k).req (commit.waiting k) (commits_in u k c))
+part_step u (Asks k) intents c busy who its = part_then c (commits_in u k c) (step_commit u (Asks k) intents c).part
+    (part_commits u k c busy its) (part_asked (plan_of k).path (plan_of k).req (commit.waiting k) (commits_in u k c))
 part_step u (Decides p) intents c busy who its = part_decided p c busy (λ to a is. its to a (subst (λ w. IsPart c w to a) (who p refl) is))
 part_step u (Aborts why p) intents c busy who its = part_ended u ending.Abort c busy (λ same. absurd (cc same))
 
 -- from a commit under way
-pub comes_on : (c : Coord) → AreBusy c → (u : Uid) (d : Doing) (m : Machine) → doing_of u c ≡ Some d → d.now ≡ Committing m → (s : CommitStep) → StepsOn m s → (to : ℕ) (a : Ask) → IsPart c u to a → ComesTo s to a
+pub comes_on : (c : Coord) → AreBusy c → (u : Uid) (d : Doing) (m : Machine) → doing_of u c ≡ Some d → d.now ≡ Committing m →
+    (s : CommitStep) → StepsOn m s → (to : ℕ) (a : Ask) → IsPart c u to a → ComesTo s to a
 comes_on c busy u d m found now s on to a (inr h) =
     let v : IsVoting c.tree u (plan_of m) = subst (IsBusy c.tree u) now (busy u d found) in
-    let bad : true ≡ false = sym h.ended ∙ ap (λ (b : Branch). is_some b.ended) (some_is (sym h.found ∙ v.asking.found)) ∙ v.asking.opened in
+    let bad : true ≡ false = sym h.ended ∙ ap (λ (b : Branch). is_some b.ended) (some_is (sym h.found ∙ v.asking.found))
+    ∙ v.asking.opened in
     absurd (cc bad)
 comes_on c busy u d m found now s on to a (inl q) = by s on
   where
@@ -407,6 +476,9 @@ comes_on c busy u d m found now s on to a (inl q) = by s on
     by (Aborts why p) it = tt
 
 -- aborts one after another
-pub part_all : (actions : List Action) (paths : Paths) → IsTree paths → (us : List Uid) (c : Coord) → AreBusy c → StaysPart c (all_aborted us c).part
+pub part_all : (actions : List Action) (paths : Paths) → IsTree paths → (us : List Uid) (c : Coord) → AreBusy c →
+    StaysPart c (all_aborted us c).part
 part_all actions paths tree [] c busy = λ u to a is. is
-part_all actions paths tree (w ∷ ws) c busy = part_then c (ended w ending.Abort c) (all_aborted ws (ended w ending.Abort c)).part (part_ended w ending.Abort c busy (λ same. absurd (cc same))) (part_all actions paths tree ws (ended w ending.Abort c) (busy_ended actions paths tree w ending.Abort c busy))
+part_all actions paths tree (w ∷ ws) c busy = part_then c (ended w ending.Abort c) (all_aborted ws (ended w ending.Abort c)).part
+    (part_ended w ending.Abort c busy (λ same. absurd (cc same)))
+    (part_all actions paths tree ws (ended w ending.Abort c) (busy_ended actions paths tree w ending.Abort c busy))

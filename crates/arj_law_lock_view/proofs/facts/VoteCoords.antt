@@ -1,23 +1,15 @@
 -- Commits under way know the votes on an object, whatever their coordinator does.
-use Rattle.std.proofs.Common.{◌≡◌, ◌∙◌, ◌&&◌, ◌==◌, ℕ, List, [], ◌∷◌, map, true, refl, sym, ap, inl, inr}
-use Rattle.std.proofs.lemmas.Bool.{and_parts}
-use Rattle.arj_lock.proofs.Members as list
-use Rattle.arj_lock.proofs.Members.{in_from}
-use Rattle.arj_protocol.specs.Words.{Asked, Uid}
-use Rattle.arj_protocol.specs.Ask.{Reply, actor, reply_kind, ask_kind}
-use Rattle.arj_protocol.specs.Asking.{last_req, waits_for_commit}
-use Rattle.arj_protocol.specs.Commit as commit
-use Rattle.arj_protocol.specs.Commit.{Aborts, Asks, CommitStep, Decides, Machine, Stays, Used, ask_of, left_of, plan_of}
-use Rattle.arj_protocol.specs.Coord.{Coord, Root, doing_of, objects_in, plan_for, root_at, used_of}
-use Rattle.arj_protocol.specs.Order.{has}
-use Rattle.arj_protocol.specs.Tree.{Branch, root_of}
-use Rattle.arj_law_lock.specs.machine.State.{State}
-use Rattle.arj_law_lock_view.specs.view.Acts.{Acts}
-use Rattle.arj_law_lock_view.specs.view.Copies.{Codes}
-use Rattle.arj_law_lock_view.specs.view.Voted.{KnowsNext, KnowsVotes, Side, UsesOnce, voters_left}
-use Rattle.arj_law_lock_view.proofs.view.VotedSteps.{votes_are_heard, votes_are_lost, votes_set_out, votes_stay}
-use Rattle.arj_law_lock_view.specs.facts.Votes.{ActsAreVoted, HeardIsVoted, OthersAreVoted, StaysVoted, side_at}
+use Rattle.arj_law_parts.proofs.Words
+use Words.{◌≡◌, ◌∙◌, ◌&&◌, ◌==◌, ℕ, List, [], ◌∷◌, map, true, refl, sym, ap, inl, inr, and_parts, in_from, Asked, Uid, Reply, actor}
+use Words.{reply_kind, ask_kind, last_req, waits_for_commit, Aborts, Asks, CommitStep, Decides, Machine, Stays, Used, ask_of, left_of}
+use Words.{plan_of, Coord, Root, doing_of, objects_in, plan_for, root_at, used_of, has, Branch, root_of}
+use Words.list
+use Words.commit
+use Rattle.arj_law_lock_view.proofs.Terms.{State, Acts, Codes, KnowsNext, Side, side_at}
 use Rattle.arj_law_lock_view.proofs.facts.CommitCoords.{IsNext, at_acked, at_acts, at_again, at_begins, at_heard}
+use Rattle.arj_law_lock_view.proofs.view.VotedSteps.{votes_are_heard, votes_are_lost, votes_set_out, votes_stay}
+use Rattle.arj_law_lock_view.specs.facts.Votes.{ActsAreVoted, HeardIsVoted, OthersAreVoted, StaysVoted}
+use Rattle.arj_law_lock_view.specs.view.Voted.{KnowsVotes, UsesOnce, voters_left}
 
 -- ---- a plan uses an object once
 
@@ -47,21 +39,26 @@ module _ (act : Acts) (code : Codes) (x : ℕ) (S : State) where
   next u (Decides p) its = tt
   next u (Aborts why p) its = tt
 
-  starts : (c : Coord) (b : Branch) → let p = plan_for b.path (last_req (doing_of (actor b.path) c)) (root_at (root_of b.path) c) c in IsNext Voted (actor b.path) (commit.start p).step
+  starts : (c : Coord) (b : Branch) → let p = plan_for b.path (last_req (doing_of (actor b.path) c)) (root_at (root_of b.path) c) c in
+      IsNext Voted (actor b.path) (commit.start p).step
   starts c b =
       let p = plan_for b.path (last_req (doing_of (actor b.path) c)) (root_at (root_of b.path) c) c in
-      next (actor b.path) (commit.start p).step (votes_set_out (side_at act code x (actor b.path)) p S (uses_once (side_at act code x (actor b.path)) b (last_req (doing_of (actor b.path) c)) c) refl)
+      next (actor b.path) (commit.start p).step (votes_set_out (side_at act code x (actor b.path)) p S
+      (uses_once (side_at act code x (actor b.path)) b (last_req (doing_of (actor b.path) c)) c) refl)
 
 waits_has : (from : ℕ) (a : Asked) (r : Reply) (m : Machine) → waits_for_commit from a r m ≡ true → has (left_of m) from ≡ true
-waits_has from a r m waits = (and_parts (reply_kind r == ask_kind (ask_of m from)) (has (left_of m) from) (and_parts (let p = plan_of m in p.req == a.req) ((reply_kind r == ask_kind (ask_of m from)) && has (left_of m) from) waits).1).1
+waits_has from a r m waits = (and_parts (reply_kind r == ask_kind (ask_of m from)) (has (left_of m) from)
+    (and_parts (let p = plan_of m in p.req == a.req) ((reply_kind r == ask_kind (ask_of m from)) && has (left_of m) from) waits).1).1
 
 pub heard_is_voted : HeardIsVoted
 heard_is_voted act code x from a r intents c S shows votes =
-    at_heard (Voted act code x S) c votes from a r intents (λ d m found is waits its. next act code x S a.act (commit.answered from m r).step (votes_are_heard (side_at act code x a.act) m from r S (waits_has from a r m waits) (shows d m found is waits) its))
+    at_heard (Voted act code x S) c votes from a r intents (λ d m found is waits its. next act code x S a.act (commit.answered from m
+    r).step (votes_are_heard (side_at act code x a.act) m from r S (waits_has from a r m waits) (shows d m found is waits) its))
 
 pub acts_are_voted : ActsAreVoted
 acts_are_voted act code x i intents c S other votes =
-    at_acts (Voted act code x S) c votes (λ u m its. next act code x S u (commit.given_up m).step (votes_are_lost (side_at act code x u) m S its)) (starts act code x S c) i intents other
+    at_acts (Voted act code x S) c votes (λ u m its. next act code x S u (commit.given_up m).step
+    (votes_are_lost (side_at act code x u) m S its)) (starts act code x S c) i intents other
 
 pub others_are_voted : OthersAreVoted
 others_are_voted act code x c S votes = (
@@ -71,4 +68,5 @@ others_are_voted act code x c S votes = (
 )
 
 pub stays_voted : StaysVoted
-stays_voted act code x c S T run votes u d m found is = votes_stay (side_at act code x u) (plan_of m) (voters_left m) S T run (votes u d m found is)
+stays_voted act code x c S T run votes u d m found is =
+    votes_stay (side_at act code x u) (plan_of m) (voters_left m) S T run (votes u d m found is)

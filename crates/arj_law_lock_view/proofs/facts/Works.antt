@@ -1,31 +1,27 @@
 -- Who waits, that new roots are empty, and whose ends are listed, at all coordinators in every run.
-use Rattle.std.proofs.Common.{◌≤◌, ℕ, None, Option, Some, refl, subst, sym}
-use Rattle.std.specs.Prelude.{⊤, IfSome}
-use Rattle.arj_protocol.specs.Words.{Ask, BoundReply, Head}
-use Rattle.arj_protocol.specs.Words.ask
-use Rattle.arj_protocol.specs.Ask.{actor}
-use Rattle.arj_protocol.specs.Coord.{Coord}
-use Rattle.arj_protocol.specs.Naming.{Naming, bind}
-use Rattle.arj_law_parts.specs.parts.Actions.{paths_of}
-use Rattle.arj_law_parts.proofs.parts.Begun.{begun_tree}
+use Rattle.arj_law_parts.proofs.Words
+use Words.{◌≤◌, ℕ, None, Option, Some, refl, subst, sym, ⊤, IfSome, Ask, BoundReply, Head, actor, Coord, Naming, bind}
+use Words.ask
+use Rattle.arj_law_lock_view.proofs.Terms.{paths_of, begun_tree, HasNoRoots, KnowsEnds, KnowsWaits, IsFromOne, Said, IsSentBy}
+use Rattle.arj_law_lock_view.proofs.facts
+use facts.{Fresh.roots_kept, Inner.ends_kept, Waits.waits_kept}
+use facts.Kept.{IsGiven, IsKept, answers_so, keeps_so}
+use Rattle.arj_law_lock_view.specs.facts.Worlds.{HandlersKeepWorks, KnowsWorks, says_works}
 use Rattle.arj_law_runs.proofs.coordinators.RunCoords as coords
-use Rattle.arj_law_lock_view.specs.facts.Works.{HasNoRoots, KnowsEnds, KnowsWaits}
-use Rattle.arj_law_lock_view.specs.facts.Worlds.{HandlersKeepWorks, IsFromOne, KnowsWorks, Said, says_works}
-use Rattle.arj_law_lock_view.proofs.facts.Fresh.{roots_kept}
-use Rattle.arj_law_lock_view.proofs.facts.Inner.{ends_kept}
-use Rattle.arj_law_lock_view.proofs.facts.Kept.{IsGiven, IsKept, answers_so, keeps_so}
-use Rattle.arj_law_runs.proofs.calls.CoordSends.{IsSentBy}
-use Rattle.arj_law_lock_view.proofs.facts.Waits.{waits_kept}
 
 -- what is kept without known Binds is kept with them
-pub kept_with : (S : Said) (Q : Coord → Type 0) → ((c : Coord) → Q c → (to : ℕ) (h : Head) (a : Ask) → IsSentBy c to h a → S.request h a) → coords.IsKept Q → IsKept S Q
+pub kept_with : (S : Said) (Q : Coord → Type 0) → ((c : Coord) → Q c → (to : ℕ) (h : Head) (a : Ask) → IsSentBy c to h a → S.request h a) →
+    coords.IsKept Q → IsKept S Q
 kept_with S Q says kept = record {
   says = says;
   new = kept.new;
-  hears = λ sent k c place from a r intents fits given q. kept.hears place.actions (paths_of place.actions) (begun_tree place.actions place.begun) from a r intents c place.good q;
+  hears = λ sent k c place from a r intents fits given q.
+      kept.hears place.actions (paths_of place.actions) (begun_tree place.actions place.begun) from a r intents c place.good q;
   acks = λ sent k c place from u intents q. kept.acks from u intents c q;
-  does = λ sent k c place intents hd i none other q. kept.does place.actions (paths_of place.actions) (begun_tree place.actions place.begun) intents c place.good q hd i none other;
-  begins = λ sent k c place l how parent may none q. kept.begins place.actions place.begun (paths_of place.actions) (begun_tree place.actions place.begun) l how parent c place.good may none q;
+  does = λ sent k c place intents hd i none other q.
+      kept.does place.actions (paths_of place.actions) (begun_tree place.actions place.begun) intents c place.good q hd i none other;
+  begins = λ sent k c place l how parent may none q. kept.begins place.actions place.begun (paths_of place.actions)
+      (begun_tree place.actions place.begun) l how parent c place.good may none q;
   asks = λ sent k c place q. kept.asks c.doings c q;
 }
 
@@ -47,11 +43,28 @@ pub works_kept : (R : BoundReply → Type 0) → IsKept (record { request = IsFr
 works_kept R = record {
   says = λ c q to h a sent. from_one c q.waits to h a sent;
   new = λ node inc telling. record { waits = w.new node inc telling; roots = r.new node inc telling; ends = e.new node inc telling };
-  hears = λ sent k c place from a x intents fits given q. record { waits = w.hears sent k c place from a x intents fits given q.waits; roots = r.hears sent k c place from a x intents fits given q.roots; ends = e.hears sent k c place from a x intents fits given q.ends };
-  acks = λ sent k c place from u intents q. record { waits = w.acks sent k c place from u intents q.waits; roots = r.acks sent k c place from u intents q.roots; ends = e.acks sent k c place from u intents q.ends };
-  does = λ sent k c place intents hd i none other q. record { waits = w.does sent k c place intents hd i none other q.waits; roots = r.does sent k c place intents hd i none other q.roots; ends = e.does sent k c place intents hd i none other q.ends };
-  begins = λ sent k c place l how parent may none q. record { waits = w.begins sent k c place l how parent may none q.waits; roots = r.begins sent k c place l how parent may none q.roots; ends = e.begins sent k c place l how parent may none q.ends };
-  asks = λ sent k c place q. record { waits = w.asks sent k c place q.waits; roots = r.asks sent k c place q.roots; ends = e.asks sent k c place q.ends };
+  hears = λ sent k c place from a x intents fits given q. record {
+    waits = w.hears sent k c place from a x intents fits given q.waits;
+    roots = r.hears sent k c place from a x intents fits given q.roots;
+    ends = e.hears sent k c place from a x intents fits given q.ends;
+  };
+  acks = λ sent k c place from u intents q. record {
+    waits = w.acks sent k c place from u intents q.waits;
+    roots = r.acks sent k c place from u intents q.roots;
+    ends = e.acks sent k c place from u intents q.ends;
+  };
+  does = λ sent k c place intents hd i none other q. record {
+    waits = w.does sent k c place intents hd i none other q.waits;
+    roots = r.does sent k c place intents hd i none other q.roots;
+    ends = e.does sent k c place intents hd i none other q.ends;
+  };
+  begins = λ sent k c place l how parent may none q. record {
+    waits = w.begins sent k c place l how parent may none q.waits;
+    roots = r.begins sent k c place l how parent may none q.roots;
+    ends = e.begins sent k c place l how parent may none q.ends;
+  };
+  asks = λ sent k c place q.
+      record { waits = w.asks sent k c place q.waits; roots = r.asks sent k c place q.roots; ends = e.asks sent k c place q.ends };
 }
   where
     w : IsKept (answers_so R) KnowsWaits

@@ -1,36 +1,25 @@
 -- A coordinator's lines about calls and includes.
-use Rattle.std.proofs.Common.{◌≡◌, ◌≢◌, ◌≤◌, ◌⊎◌, ◌==◌, ◌&&◌, ℕ, ◌+◌, ◌*◌, List, [], ◌∷◌, ◌++◌, length, Bool, true, false, cond, Option, Some, None, refl, sym, ◌∙◌, ap, subst, inl, inr, ⊎_elim, arith}
-use Rattle.arj_journal.specs.declared.body.Body.{Body}
-use Rattle.arj_journal.specs.declared.body.Body.TheVariants as body
-use Rattle.arj_protocol.specs.Words.{Answer, BoundReply, Label, ObjectState, Op, Uid, Value, answer_of, answer_text, value_after, writes}
-use Rattle.arj_protocol.specs.Words.bound
-use Rattle.arj_protocol.specs.Words.invoked
-use Rattle.arj_protocol.specs.Words.loaded
-use Rattle.arj_protocol.specs.Words.recorded
-use Rattle.arj_protocol.specs.Ask.{Reply, actor}
-use Rattle.arj_protocol.specs.Asking.{end_line, kept_at, store_of}
-use Rattle.arj_protocol.specs.Call as protocol
-use Rattle.arj_protocol.specs.Call.{At, AtActivate, AtBind, AtInvoke, AtLoad, AtNote, CallEnd, CallStep, Ended, Goal, Include as IncludeStore, Known, Moved, On, Run, Steps, answered, bound_answer, bound_by, given_up, load_from, load_given_up, made_by, or_lost, other_binding, same_binding, with_inc}
-use Rattle.arj_protocol.specs.Coord.{Coord, Doing, is_call, is_free}
-use Rattle.arj_protocol.specs.Order.{binding_eq, binding_less}
-use Rattle.arj_protocol.specs.Tree.{Branch, root_of}
-use Rattle.arj_protocol.specs.World.{numbered}
-use Rattle.arj_law_lock.specs.machine.Actions.{Act, root, top}
-use Rattle.arj_law_lock.specs.machine.State.{Action, State}
-use Rattle.arj_law_lock.proofs.machine.Paths.{by_cases, differ}
-use Rattle.arj_law_parts.specs.parts.Copies.{Paths}
-use Rattle.arj_law_lock_view.specs.view.Acts.{Acts}
-use Rattle.arj_law_lock_view.specs.view.Calling.{IsAtWork, IsCalling, IsWaiting, OnlyCalled, WritesLine, WritesNone}
-use Rattle.arj_law_lock_view.specs.view.Copies.{Codes}
-use Rattle.arj_law_lock_view.specs.view.Ending.{KeepsEnds, SameEnd}
-use Rattle.arj_law_lock_view.specs.view.Including.{OnlyIncluded, WritesInclude, included_by}
-use Rattle.arj_law_lock_view.specs.view.Inputs.{SeesWhole}
-use Rattle.arj_law_lock_view.specs.view.Roots.{is_early}
-use Rattle.arj_law_lock_view.specs.journal.Coordinators.{IsLabelled, IsOnPage, Page}
-use Rattle.arj_law_lock_view.specs.journal.Lines.{IsTiedToLines}
-use Rattle.arj_law_lock_view.specs.journal.Steps.{CallsStay, EndsStay, is_plain}
-use Rattle.arj_law_lock_view.proofs.journal.Pages.{behind_none, none_tied, one_tied, same_stay}
-use Rattle.arj_law_lock_view.proofs.journal.Ties.{plain_goes}
+use Rattle.arj_law_parts.proofs.Words
+use Words.{◌≡◌, ◌≢◌, ◌≤◌, ◌⊎◌, ◌==◌, ◌&&◌, ℕ, ◌+◌, ◌*◌, List, [], ◌∷◌, ◌++◌, length, Bool, true, false, cond, Option, Some, None, refl, sym}
+use Words.{◌∙◌, ap, subst, inl, inr, ⊎_elim, arith, Body, Answer, BoundReply, Label, ObjectState, Op, Uid, Value, answer_of, answer_text}
+use Words.{value_after, writes, Reply, actor, end_line, kept_at, store_of, At, AtActivate, AtBind, AtInvoke, AtLoad, AtNote, CallEnd}
+use Words.{CallStep, Ended, Goal, Include as IncludeStore, Known, Moved, On, Run, Steps, answered, bound_answer, bound_by, given_up}
+use Words.{load_from, made_by, or_lost, other_binding, same_binding, with_inc, Coord, Doing, is_call, is_free, binding_eq, binding_less}
+use Words.{Branch, root_of, numbered}
+use Words.bound
+use Words.invoked
+use Words.loaded
+use Words.recorded
+use Words.calls as protocol
+use Rattle.arj_law_lock_view.proofs.Terms
+use Terms.{Act, root, top, State, by_cases, differ, Paths, Acts, IsAtWork, IsWaiting, OnlyCalled, WritesLine, WritesNone, Codes, KeepsEnds}
+use Terms.{SameEnd, OnlyIncluded, WritesInclude, included_by, SeesWhole, is_early, IsLabelled, IsOnPage, Page, IsTiedToLines, CallsStay}
+use Terms.{EndsStay, is_plain}
+use Terms.body
+use Rattle.arj_law_lock.specs.machine.State.{Action}
+use Rattle.arj_law_lock_view.proofs.journal.{Pages.behind_none, Pages.none_tied, Pages.one_tied, Pages.same_stay, Ties.plain_goes}
+use Rattle.arj_law_lock_view.specs.view.Calling.{IsCalling}
+use Rattle.arj_protocol.specs.Call.{load_given_up}
 
 -- ---- what a step of a call says
 
@@ -48,7 +37,8 @@ bare_inc : (i : ℕ) (k : Known) (at : At) (o : Option ℕ) → is_bare (let m =
 bare_inc i k at None = refl
 bare_inc i k at (Some first) = by (first == i)
   where
-    by : (t : Bool) → is_bare (let m = cond t (protocol.moves (Some k) at) (protocol.finds (Some k) (protocol.Changed k.server (protocol.two_incs first i))) in m.step) ≡ true
+    by : (t : Bool) → is_bare (let m = cond t (protocol.moves (Some k) at)
+        (protocol.finds (Some k) (protocol.Changed k.server (protocol.two_incs first i))) in m.step) ≡ true
     by true = refl
     by false = refl
 
@@ -59,7 +49,8 @@ bare_same old k at (Some i) = bare_inc i (protocol.named_again old k) at old.inc
 bare_other : (free : Bool) (old k : Known) (at : At) → is_bare (let m = other_binding free old k at in m.step) ≡ true
 bare_other free old k at = by (free && binding_less old.binding k.binding)
   where
-    by : (t : Bool) → is_bare (let m = cond t (protocol.moves (Some k) at) (protocol.finds (Some old) (protocol.Changed 1 (protocol.two_bindings old.binding k.binding))) in m.step) ≡ true
+    by : (t : Bool) → is_bare (let m = cond t (protocol.moves (Some k) at)
+        (protocol.finds (Some old) (protocol.Changed 1 (protocol.two_bindings old.binding k.binding))) in m.step) ≡ true
     by true = refl
     by false = refl
 
@@ -83,7 +74,8 @@ bare_active : (k : Known) (i : ℕ) (o : Option Known) → is_bare (let m = prot
 bare_active k i None = refl
 bare_active k i (Some old) = by (binding_eq old.binding k.binding)
   where
-    by : (t : Bool) → is_bare (let m = cond t (with_inc i old (AtNote k i) old.inc) (protocol.moves (Some old) (AtNote k i)) in m.step) ≡ true
+    by : (t : Bool) →
+        is_bare (let m = cond t (with_inc i old (AtNote k i) old.inc) (protocol.moves (Some old) (AtNote k i)) in m.step) ≡ true
     by true = bare_inc i old (AtNote k i) old.inc
     by false = refl
 
@@ -99,8 +91,10 @@ bare_given (AtNote k i) = refl
 bare_given (AtInvoke k i) = refl
 
 bare_bind : (free : Bool) (kept : Option Known) (r : BoundReply) → is_bare (let m = bound_answer free kept r in m.step) ≡ true
-bare_bind free kept (bound.Live w server i g stores) = bare_bound free (protocol.live_known w server i g stores) (AtInvoke (protocol.live_known w server i g stores) i) kept
-bare_bind free kept (bound.Make w server g stores) = bare_made free (protocol.made_known w server g stores) kept (load_from (protocol.made_known w server g stores) stores)
+bare_bind free kept (bound.Live w server i g stores) =
+    bare_bound free (protocol.live_known w server i g stores) (AtInvoke (protocol.live_known w server i g stores) i) kept
+bare_bind free kept (bound.Make w server g stores) =
+    bare_made free (protocol.made_known w server g stores) kept (load_from (protocol.made_known w server g stores) stores)
 bare_bind free kept (bound.Write g stores) = bare_lost kept (load_from (protocol.write_known g stores) stores)
 bare_bind free kept (bound.Conflict h m) = refl
 
@@ -124,9 +118,12 @@ module _ (act : Acts) (code : Codes) (x : ℕ) (p : Page) (c : Coord) (S T : Sta
   now_S = let t = on.tied in t.now
 
   -- a step without an answer
-  pub bare_tied : (s : Steps) (t : CallStep) (l : Label) → is_bare t ≡ true → T.initial ≡ S.initial → CallsStay S T → EndsStay S T → T.now ≡ S.now → IsTiedToLines act code p.values x (p.lines ++ numbered p.event (call_says s t l)) T
-  bare_tied s (On at) l bare first calls ends same = subst (λ (q : Page). IsTiedToLines act code p.values x q.lines T) (sym (behind_none p)) (none_tied act code x p c S T on first (let k = now_S in omega (arith, k, same)) calls ends)
-  bare_tied s (Ended e) l bare first calls ends same = one_tied act code x p c S T on (end_line s.x s.goal e l) first (let k = now_S in omega (arith, k, same)) (plain_goes act code x p.lines (end_line s.x s.goal e l) S T (plain_end s.x s.goal e l bare) calls ends)
+  pub bare_tied : (s : Steps) (t : CallStep) (l : Label) → is_bare t ≡ true → T.initial ≡ S.initial → CallsStay S T → EndsStay S T →
+      T.now ≡ S.now → IsTiedToLines act code p.values x (p.lines ++ numbered p.event (call_says s t l)) T
+  bare_tied s (On at) l bare first calls ends same = subst (λ (q : Page). IsTiedToLines act code p.values x q.lines T) (sym (behind_none p))
+      (none_tied act code x p c S T on first (let k = now_S in omega (arith, k, same)) calls ends)
+  bare_tied s (Ended e) l bare first calls ends same = one_tied act code x p c S T on (end_line s.x s.goal e l) first (let k = now_S in
+      omega (arith, k, same)) (plain_goes act code x p.lines (end_line s.x s.goal e l) S T (plain_end s.x s.goal e l bare) calls ends)
 
 -- ---- a call begins, or is given up
 
@@ -141,27 +138,40 @@ stay_called : (S T : State) → KeepsEnds S T → EndsStay S T
 stay_called S T keeps a its = (let k = keeps a in k.end)
 
 -- nothing is said, and no call comes
-pub none_called : (act : Acts) (code : Codes) (x : ℕ) (p : Page) (c : Coord) (S T : State) → IsOnPage act code x p c S → (unit : ℕ) → OnlyCalled unit S T → WritesNone S T → IsTiedToLines act code p.values x p.lines T
-none_called act code x p c S T on unit only none = none_tied act code x p c S T on (first_called unit S T only) (let t = on.tied in let k = t.now in let e = none.1 in omega (arith, k, e)) (none.0, includes_called unit S T only) (stay_called S T none.2)
+pub none_called : (act : Acts) (code : Codes) (x : ℕ) (p : Page) (c : Coord) (S T : State) → IsOnPage act code x p c S → (unit : ℕ) →
+    OnlyCalled unit S T → WritesNone S T → IsTiedToLines act code p.values x p.lines T
+none_called act code x p c S T on unit only none = none_tied act code x p c S T on (first_called unit S T only) (let t = on.tied in
+    let k = t.now in let e = none.1 in omega (arith, k, e)) (none.0, includes_called unit S T only) (stay_called S T none.2)
 
 -- whose step it is
-module _ (act : Acts) (paths : Paths) (c : Coord) (u : Uid) (b : Branch) (d : Doing) (s : Steps) (work : IsAtWork act paths c u b d) (path : s.path ≡ b.path) where
+module _ (act : Acts) (paths : Paths) (c : Coord) (u : Uid) (b : Branch) (d : Doing) (s : Steps) (work : IsAtWork act paths c u b d)
+    (path : s.path ≡ b.path) where
   its_actor : actor s.path ≡ u
   its_actor = ap actor path ∙ work.steady.good.tree.lists.places u b work.there
 
 -- what is given up says, and no call comes
-pub lost_said : (act : Acts) (code : Codes) (x : ℕ) (p : Page) (c : Coord) (S T : State) → IsOnPage act code x p c S → (unit : ℕ) → OnlyCalled unit S T → WritesNone S T → (s : Steps) (l : Label) → IsTiedToLines act code p.values x (p.lines ++ numbered p.event (call_says s (given_up s.at) l)) T
-lost_said act code x p c S T on unit only none s l = bare_tied act code x p c S T on s (given_up s.at) l (bare_given s.at) (first_called unit S T only) (none.0, includes_called unit S T only) (stay_called S T none.2) none.1
+pub lost_said : (act : Acts) (code : Codes) (x : ℕ) (p : Page) (c : Coord) (S T : State) → IsOnPage act code x p c S → (unit : ℕ) →
+    OnlyCalled unit S T → WritesNone S T → (s : Steps) (l : Label) →
+    IsTiedToLines act code p.values x (p.lines ++ numbered p.event (call_says s (given_up s.at) l)) T
+lost_said act code x p c S T on unit only none s l = bare_tied act code x p c S T on s (given_up s.at) l (bare_given s.at)
+    (first_called unit S T only) (none.0, includes_called unit S T only) (stay_called S T none.2) none.1
 
 -- ---- an answer to a call on the object
 
 -- the call is answered, and has its line; or nothing comes
 Outcome : Acts → Codes → ℕ → Steps → Op → State → State → CallStep → Type 0
 Outcome act code p s o S T t =
-    ((a : Answer) × (v : Value) × (by : Act) × (t ≡ Ended (protocol.Answered a)) × (a ≡ answer_of o v) × (T.calls ≡ record { act = act (actor s.path); write = writes o; line = p; sees = code v by; gives = code (value_after o v) (top (act (actor s.path))) } ∷ S.calls) × (T.now ≡ p + 1) × KeepsEnds S T)
+    ((a : Answer) × (v : Value) × (by : Act) × (t ≡ Ended (protocol.Answered a)) × (a ≡ answer_of o v) × (T.calls ≡ record {
+      act = act (actor s.path);
+      write = writes o;
+      line = p;
+      sees = code v by;
+      gives = code (value_after o v) (top (act (actor s.path)));
+    } ∷ S.calls) × (T.now ≡ p + 1) × KeepsEnds S T)
     ⊎ ((is_bare t ≡ true) × ((T.calls ≡ S.calls) × (T.now ≡ S.now) × KeepsEnds S T))
 
-outcome : (act : Acts) (code : Codes) (p : ℕ) (s : Steps) (o : Op) (S T : State) (free : Bool) (kept : Option Known) (at : At) (r : Reply) → WritesLine act code p s o S T at r → Outcome act code p s o S T (let m = answered free kept (Run o) at r in m.step)
+outcome : (act : Acts) (code : Codes) (p : ℕ) (s : Steps) (o : Op) (S T : State) (free : Bool) (kept : Option Known) (at : At) (r : Reply) →
+    WritesLine act code p s o S T at r → Outcome act code p s o S T (let m = answered free kept (Run o) at r in m.step)
 unfolding Outcome
 outcome act code p s o S T free kept (AtInvoke k i) (Reply.Invoked (invoked.Answered a)) w = inl (a, w.0, w.1, refl, w.2, w.3, w.4, w.5)
 outcome act code p s o S T free kept (AtInvoke k i) (Reply.Invoked (invoked.Conflict h m)) w = inr (refl, w)
@@ -179,10 +189,14 @@ abbrev pub moved_at : Steps → Coord → Reply → Moved
 moved_at s c r = answered (is_free (root_of s.path) (actor s.path) s.x c) (kept_at s c) s.goal s.at r
 
 -- a step at which a call on the object is answered
-pub answer_said : (act : Acts) (code : Codes) (paths : Paths) (x : ℕ) (p : Page) (c : Coord) (u : Uid) (b : Branch) (d : Doing) (s : Steps) (o : Op) (r : Reply) (S T : State) → IsAtWork act paths c u b d → IsCalling x b d s o → IsOnPage act code x p c S
-    → OnlyCalled (root (act u)) S T → WritesLine act code (length p.lines + 1) s o S T s.at r → IsTiedToLines act code p.values x (p.lines ++ numbered p.event (call_says s (let m = moved_at s c r in m.step) d.label)) T
+pub answer_said : (act : Acts) (code : Codes) (paths : Paths) (x : ℕ) (p : Page) (c : Coord) (u : Uid) (b : Branch) (d : Doing) (s : Steps)
+    (o : Op) (r : Reply) (S T : State) → IsAtWork act paths c u b d → IsCalling x b d s o → IsOnPage act code x p c S
+    → OnlyCalled (root (act u)) S T → WritesLine act code (length p.lines + 1) s o S T s.at r →
+    IsTiedToLines act code p.values x (p.lines ++ numbered p.event (call_says s (let m = moved_at s c r in m.step) d.label)) T
 unfolding Outcome
-answer_said act code paths x p c u b d s o r S T work calling on only heard = by (subst (λ (g : Goal). Outcome act code (length p.lines + 1) s o S T (let m = answered free (kept_at s c) g s.at r in m.step)) (sym calling.goal) (outcome act code (length p.lines + 1) s o S T free (kept_at s c) s.at r heard))
+answer_said act code paths x p c u b d s o r S T work calling on only heard =
+    by (subst (λ (g : Goal). Outcome act code (length p.lines + 1) s o S T (let m = answered free (kept_at s c) g s.at r in m.step))
+    (sym calling.goal) (outcome act code (length p.lines + 1) s o S T free (kept_at s c) s.at r heard))
   where
     free : Bool
     free = is_free (root_of s.path) (actor s.path) s.x c
@@ -193,16 +207,40 @@ answer_said act code paths x p c u b d s o r S T work calling on only heard = by
     l : IsLabelled p.lines u b d
     l = on.labels u b d work.there work.works
 
-    by : Outcome act code (length p.lines + 1) s o S T mv.step → IsTiedToLines act code p.values x (p.lines ++ numbered p.event (call_says s mv.step d.label)) T
-    by (inr (bare, (calls, now, keeps))) = bare_tied act code x p c S T on s mv.step d.label bare (first_called (root (act u)) S T only) (calls, includes_called (root (act u)) S T only) (stay_called S T keeps) now
-    by (inl (a, v, writer, is, fits, calls, now, keeps)) = subst (λ bs. IsTiedToLines act code p.values x (p.lines ++ numbered p.event bs) T) (sym ((λ i. call_says s (is i) d.label) ∙ (λ i. end_line s.x (calling.goal i) (protocol.Answered a) d.label ∷ [])))
-        (one_tied act code x p c S T on (body.Ok d.label s.x o (answer_text a)) (first_called (root (act u)) S T only) (omega (arith, now))
-        (includes_called (root (act u)) S T only, stay_called S T keeps, (l.0, l.1, inr (calling.about, v, writer, ap answer_text fits, calls ∙ (λ i. record { act = act ((its_actor act paths c u b d s work calling.path ∙ sym l.2) i); write = writes o; line = length p.lines + 1; sees = code v writer; gives = code (value_after o v) (top (act ((its_actor act paths c u b d s work calling.path ∙ sym l.2) i))) } ∷ S.calls)))))
+    by : Outcome act code (length p.lines + 1) s o S T mv.step →
+        IsTiedToLines act code p.values x (p.lines ++ numbered p.event (call_says s mv.step d.label)) T
+    by (inr (bare, (calls, now, keeps))) = bare_tied act code x p c S T on s mv.step d.label bare (first_called (root (act u)) S T only)
+        (calls, includes_called (root (act u)) S T only) (stay_called S T keeps) now
+    by (inl (a, v, writer, is, fits, calls, now, keeps)) = subst (λ bs. IsTiedToLines act code p.values x (p.lines ++ numbered p.event bs)
+        T) (sym ((λ i. call_says s (is i) d.label) ∙ (λ i. end_line s.x (calling.goal i) (protocol.Answered a) d.label ∷ [])))
+        (one_tied act code x p c S T on (body.Ok d.label s.x o (answer_text a)) (first_called (root (act u)) S T only)
+        (omega (arith, now)) (
+          includes_called (root (act u)) S T only,
+          stay_called S T keeps,
+          (
+            l.0,
+            l.1,
+            inr (
+              calling.about,
+              v,
+              writer,
+              ap answer_text fits,
+              calls ∙ (λ i. record {
+                act = act ((its_actor act paths c u b d s work calling.path ∙ sym l.2) i);
+                write = writes o;
+                line = length p.lines + 1;
+                sees = code v writer;
+                gives = code (value_after o v) (top (act ((its_actor act paths c u b d s work calling.path ∙ sym l.2) i)));
+              } ∷ S.calls),
+            ),
+          ),
+        ))
 
 -- ---- an answer about another object
 
 -- it says what is nothing to the machine
-pub other_said : (act : Acts) (code : Codes) (paths : Paths) (x : ℕ) (p : Page) (c : Coord) (u : Uid) (b : Branch) (d : Doing) (s : Steps) (r : Reply) (S : State) → IsAtWork act paths c u b d → s.x ≢ x → IsOnPage act code x p c S
+pub other_said : (act : Acts) (code : Codes) (paths : Paths) (x : ℕ) (p : Page) (c : Coord) (u : Uid) (b : Branch) (d : Doing) (s : Steps)
+    (r : Reply) (S : State) → IsAtWork act paths c u b d → s.x ≢ x → IsOnPage act code x p c S
     → IsTiedToLines act code p.values x (p.lines ++ numbered p.event (call_says s (let m = moved_at s c r in m.step) d.label)) S
 other_said act code paths x p c u b d s r S work other on = by (let m = moved_at s c r in m.step)
   where
@@ -213,30 +251,40 @@ other_said act code paths x p c u b d s r S work other on = by (let m = moved_at
     now_more = let t = on.tied in let k = t.now in omega (arith, k)
 
     includes_line : (k : ℕ) → IsTiedToLines act code p.values x (p.lines ++ numbered p.event (body.Includes d.label s.x k ∷ [])) S
-    includes_line k = one_tied act code x p c S S on (body.Includes d.label s.x k) refl now_more (refl, same_stay S, (l.0, l.1, inl (other, refl)))
+    includes_line k =
+        one_tied act code x p c S S on (body.Includes d.label s.x k) refl now_more (refl, same_stay S, (l.0, l.1, inl (other, refl)))
 
-    answer : (g : Goal) (a : Answer) → IsTiedToLines act code p.values x (p.lines ++ numbered p.event (end_line s.x g (protocol.Answered a) d.label ∷ [])) S
-    answer (Run o) a = one_tied act code x p c S S on (body.Ok d.label s.x o (answer_text a)) refl now_more (refl, same_stay S, (l.0, l.1, inl (other, refl)))
+    answer : (g : Goal) (a : Answer) →
+        IsTiedToLines act code p.values x (p.lines ++ numbered p.event (end_line s.x g (protocol.Answered a) d.label ∷ [])) S
+    answer (Run o) a = one_tied act code x p c S S on (body.Ok d.label s.x o (answer_text a)) refl now_more
+        (refl, same_stay S, (l.0, l.1, inl (other, refl)))
     answer (IncludeStore k) a = includes_line k
 
     by : (t : CallStep) → IsTiedToLines act code p.values x (p.lines ++ numbered p.event (call_says s t d.label)) S
     by (On at) = bare_tied act code x p c S S on s (On at) d.label refl refl (refl, refl) (same_stay S) refl
     by (Ended (protocol.Answered a)) = answer s.goal a
     by (Ended (protocol.Included st)) = includes_line (store_of s.goal)
-    by (Ended (protocol.Conflict h m n)) = bare_tied act code x p c S S on s (Ended (protocol.Conflict h m n)) d.label refl refl (refl, refl) (same_stay S) refl
-    by (Ended (protocol.Changed n w)) = bare_tied act code x p c S S on s (Ended (protocol.Changed n w)) d.label refl refl (refl, refl) (same_stay S) refl
-    by (Ended (protocol.Lost n sent)) = bare_tied act code x p c S S on s (Ended (protocol.Lost n sent)) d.label refl refl (refl, refl) (same_stay S) refl
+    by (Ended (protocol.Conflict h m n)) =
+        bare_tied act code x p c S S on s (Ended (protocol.Conflict h m n)) d.label refl refl (refl, refl) (same_stay S) refl
+    by (Ended (protocol.Changed n w)) =
+        bare_tied act code x p c S S on s (Ended (protocol.Changed n w)) d.label refl refl (refl, refl) (same_stay S) refl
+    by (Ended (protocol.Lost n sent)) =
+        bare_tied act code x p c S S on s (Ended (protocol.Lost n sent)) d.label refl refl (refl, refl) (same_stay S) refl
 
 -- ---- an answer to an include on the object
 
 Included : Acts → ℕ → Steps → State → State → CallStep → Type 0
 Included act p s S T t =
-    ((st : ObjectState) × (grant : ℕ) × (t ≡ Ended (protocol.Included st)) × (T.includes ≡ record { act = act (actor s.path); line = p; grant = grant } ∷ S.includes) × (T.now ≡ p + 1))
+    ((st : ObjectState) × (grant : ℕ) × (t ≡ Ended (protocol.Included st))
+    × (T.includes ≡ record { act = act (actor s.path); line = p; grant = grant } ∷ S.includes) × (T.now ≡ p + 1))
     ⊎ ((is_bare t ≡ true) × ((T.includes ≡ S.includes) × (T.now ≡ S.now)))
 
-included_so : (act : Acts) (p : ℕ) (s : Steps) (k : ℕ) (S T : State) (free : Bool) (kept : Option Known) (at : At) (r : Reply) → is_early at ≡ true → WritesInclude act p s (included_by at r) S T → Included act p s S T (let m = answered free kept (IncludeStore k) at r in m.step)
+included_so : (act : Acts) (p : ℕ) (s : Steps) (k : ℕ) (S T : State) (free : Bool) (kept : Option Known) (at : At) (r : Reply) →
+    is_early at ≡ true → WritesInclude act p s (included_by at r) S T →
+    Included act p s S T (let m = answered free kept (IncludeStore k) at r in m.step)
 unfolding Included
-included_so act p s k S T free kept (AtLoad q n rest) (Reply.Loaded (loaded.State st)) early w = inl (st, q.grant * 4294967296, refl, w.0, w.1)
+included_so act p s k S T free kept (AtLoad q n rest) (Reply.Loaded (loaded.State st)) early w =
+    inl (st, q.grant * 4294967296, refl, w.0, w.1)
 included_so act p s k S T free kept (AtLoad q n rest) (Reply.Loaded (loaded.InDoubt h)) early w = inr (refl, w)
 included_so act p s k S T free kept (AtBind avoid) (Reply.Bound r) early w = inr (bare_bind free kept r, w)
 included_so act p s k S T free kept (AtActivate q st) r early w = absurd (cc early)
@@ -245,10 +293,15 @@ included_so act p s k S T free kept (AtInvoke q i) r early w = absurd (cc early)
 included_so act p s k S T free kept at r early w = inr (refl, w)
 
 -- a step at which an include of the object is answered
-pub include_said : (act : Acts) (code : Codes) (paths : Paths) (x store : ℕ) (p : Page) (c : Coord) (u : Uid) (b : Branch) (d : Doing) (s : Steps) (r : Reply) (S T : State) → IsAtWork act paths c u b d → IsWaiting b d s → s.x ≡ x → s.goal ≡ IncludeStore store → IsOnPage act code x p c S → SeesWhole act code x c S
-    → OnlyIncluded S T → WritesInclude act (length p.lines + 1) s (included_by s.at r) S T → IsTiedToLines act code p.values x (p.lines ++ numbered p.event (call_says s (let m = moved_at s c r in m.step) d.label)) T
+pub include_said : (act : Acts) (code : Codes) (paths : Paths) (x store : ℕ) (p : Page) (c : Coord) (u : Uid) (b : Branch) (d : Doing)
+    (s : Steps) (r : Reply) (S T : State) → IsAtWork act paths c u b d → IsWaiting b d s → s.x ≡ x → s.goal ≡ IncludeStore store →
+    IsOnPage act code x p c S → SeesWhole act code x c S
+    → OnlyIncluded S T → WritesInclude act (length p.lines + 1) s (included_by s.at r) S T →
+    IsTiedToLines act code p.values x (p.lines ++ numbered p.event (call_says s (let m = moved_at s c r in m.step) d.label)) T
 unfolding Included
-include_said act code paths x store p c u b d s r S T work waiting about goal on whole only heard = by (subst (λ (g : Goal). Included act (length p.lines + 1) s S T (let m = answered free (kept_at s c) g s.at r in m.step)) (sym goal) (included_so act (length p.lines + 1) s store S T free (kept_at s c) s.at r early heard))
+include_said act code paths x store p c u b d s r S T work waiting about goal on whole only heard =
+    by (subst (λ (g : Goal). Included act (length p.lines + 1) s S T (let m = answered free (kept_at s c) g s.at r in m.step)) (sym goal)
+    (included_so act (length p.lines + 1) s store S T free (kept_at s c) s.at r early heard))
   where
     free : Bool
     free = is_free (root_of s.path) (actor s.path) s.x c
@@ -260,13 +313,34 @@ include_said act code paths x store p c u b d s r S T work waiting about goal on
     l = on.labels u b d work.there work.works
 
     early : is_early s.at ≡ true
-    early = ⊎_elim (λ is. is) (λ isnt. absurd (let k = whole.coord in differ (k.plain u d s work.works waiting.calling about isnt) (ap is_call goal))) (by_cases (is_early s.at))
+    early = ⊎_elim (λ is. is) (λ isnt. absurd (let k = whole.coord in
+        differ (k.plain u d s work.works waiting.calling about isnt) (ap is_call goal))) (by_cases (is_early s.at))
 
     stays : EndsStay S T
-    stays a its = subst (λ (f : Act → Action). SameEnd (S.action a) (f a)) (sym (ap (λ (v : State). v.action) only)) (record { stage = refl; place = refl; done = refl })
+    stays a its = subst (λ (f : Act → Action). SameEnd (S.action a) (f a)) (sym (ap (λ (v : State). v.action) only))
+        (record { stage = refl; place = refl; done = refl })
 
-    by : Included act (length p.lines + 1) s S T mv.step → IsTiedToLines act code p.values x (p.lines ++ numbered p.event (call_says s mv.step d.label)) T
-    by (inr (bare, (includes, now))) = bare_tied act code x p c S T on s mv.step d.label bare (ap (λ (v : State). v.initial) only) (ap (λ (v : State). v.calls) only, includes) stays now
-    by (inl (st, grant, is, includes, now)) = subst (λ bs. IsTiedToLines act code p.values x (p.lines ++ numbered p.event bs) T) (sym ((λ i. call_says s (is i) d.label)))
-        (one_tied act code x p c S T on (body.Includes d.label s.x (store_of s.goal)) (ap (λ (v : State). v.initial) only) (omega (arith, now))
-        (ap (λ (v : State). v.calls) only, stays, (l.0, l.1, inr (about, grant, includes ∙ (λ i. record { act = act ((its_actor act paths c u b d s work waiting.path ∙ sym l.2) i); line = length p.lines + 1; grant = grant } ∷ S.includes)))))
+    by : Included act (length p.lines + 1) s S T mv.step →
+        IsTiedToLines act code p.values x (p.lines ++ numbered p.event (call_says s mv.step d.label)) T
+    by (inr (bare, (includes, now))) = bare_tied act code x p c S T on s mv.step d.label bare (ap (λ (v : State). v.initial) only)
+        (ap (λ (v : State). v.calls) only, includes) stays now
+    by (inl (st, grant, is, includes, now)) =
+        subst (λ bs. IsTiedToLines act code p.values x (p.lines ++ numbered p.event bs) T) (sym ((λ i. call_says s (is i) d.label)))
+        (one_tied act code x p c S T on (body.Includes d.label s.x (store_of s.goal)) (ap (λ (v : State). v.initial) only)
+        (omega (arith, now)) (
+          ap (λ (v : State). v.calls) only,
+          stays,
+          (
+            l.0,
+            l.1,
+            inr (
+              about,
+              grant,
+              includes ∙ (λ i. record {
+                act = act ((its_actor act paths c u b d s work waiting.path ∙ sym l.2) i);
+                line = length p.lines + 1;
+                grant = grant;
+              } ∷ S.includes),
+            ),
+          ),
+        ))

@@ -1,15 +1,13 @@
 -- Actions of a journal have the numbers of their places, and what a journal says of one it says behind its beginning.
-use Rattle.std.proofs.Common.{◌≡◌, ◌≤◌, ◌<◌, ℕ, ◌+◌, List, [], ◌∷◌, length, Option, Some, None, refl, sym, ◌∙◌, ap, subst, inl, inr, arith}
+use Rattle.arj_law_parts.proofs.Words
+use Words.{◌≡◌, ◌≤◌, ◌<◌, ℕ, ◌+◌, List, [], ◌∷◌, length, Option, Some, None, refl, sym, ◌∙◌, ap, subst, inl, inr, arith, Body, Line, In}
+use Words.{name}
+use Rattle.arj_law_lock_view.proofs.Terms
+use Terms.{option_map, Begun, Halt, Placed, act_in, acts, acts_after, begun_of, committed_of, ended_of, halt_of, numbered, put, read}
+use Terms.{called_of, named_in}
+use Terms.body
+use Rattle.arj_model.specs.Actions.{Act, acts_from, id_in}
 use Rattle.std.specs.Bool.{⊤}
-use Rattle.std.specs.Option.{option_map}
-use Rattle.arj_journal.specs.declared.body.Body.{Body}
-use Rattle.arj_journal.specs.declared.body.Body.TheVariants as body
-use Rattle.arj_journal.specs.declared.body.Line.{Line}
-use Rattle.arj_lock.proofs.Members.{In}
-use Rattle.arj_text.specs.Label.{name}
-use Rattle.arj_model.specs.Actions.{Act, Begun, Halt, Placed, act_in, acts, acts_after, acts_from, begun_of, committed_of, ended_of, halt_of, id_in, numbered, put, read}
-use Rattle.arj_law_runs.specs.journal.Laws.{called_of}
-use Rattle.arj_law_runs.proofs.journal.Models.{named_in}
 
 abbrev pub AreNumbered : List Act → Type 0
 AreNumbered [] = ⊤
@@ -32,8 +30,10 @@ low (x ∷ us) a s (inr i) = omega (arith, low us a s.1 i)
 pub one_id : (us : List Act) (a b : Act) → AreNumbered us → In a us → In b us → a.id ≡ b.id → a ≡ b
 one_id [] a b s none j is = absurd none
 one_id (x ∷ us) a b s (inl e) (inl f) is = sym e ∙ f
-one_id (x ∷ us) a b s (inl e) (inr j) is = absurd (let l = low us b s.1 j in let k : x.id ≡ a.id = ap (λ (y : Act). y.id) e in omega (arith, l, k, is, s.0))
-one_id (x ∷ us) a b s (inr i) (inl f) is = absurd (let l = low us a s.1 i in let k : x.id ≡ b.id = ap (λ (y : Act). y.id) f in omega (arith, l, k, is, s.0))
+one_id (x ∷ us) a b s (inl e) (inr j) is =
+    absurd (let l = low us b s.1 j in let k : x.id ≡ a.id = ap (λ (y : Act). y.id) e in omega (arith, l, k, is, s.0))
+one_id (x ∷ us) a b s (inr i) (inl f) is =
+    absurd (let l = low us a s.1 i in let k : x.id ≡ b.id = ap (λ (y : Act). y.id) f in omega (arith, l, k, is, s.0))
 one_id (x ∷ us) a b s (inr i) (inr j) is = one_id us a b s.1 i j is
 
 longer_turn : (us : List Act) (o : Option Begun) → length us ≤ length (numbered us o)
@@ -45,14 +45,18 @@ longer us [] = omega arith
 longer us (l ∷ ls) = let a = longer_turn us (begun_of l.body) in let b = longer (acts_after us l.body) ls in omega (arith, a, b)
 
 -- a reading whose items are below the count of actions
-module _ {A : Type 0} (f : List Act → Body → Option A) (P : ℕ → A → Type 0) (up : (m n : ℕ) (a : A) → m ≤ n → P m a → P n a) (each : (us : List Act) (b : Body) (a : A) → AreNumbered us → f us b ≡ Some a → P (length us) a) where
-  pub all_low : (us : List Act) (n : ℕ) (ls : List Line) → AreNumbered us → (e : Placed A) → In e (read f us n ls) → P (length (acts_from us ls)) e.it
+module _ {A : Type 0} (f : List Act → Body → Option A) (P : ℕ → A → Type 0) (up : (m n : ℕ) (a : A) → m ≤ n → P m a →
+    P n a) (each : (us : List Act) (b : Body) (a : A) → AreNumbered us → f us b ≡ Some a → P (length us) a) where
+  pub all_low : (us : List Act) (n : ℕ) (ls : List Line) → AreNumbered us → (e : Placed A) → In e (read f us n ls) →
+      P (length (acts_from us ls)) e.it
   all_low us n [] s e none = absurd none
   all_low us n (l ∷ ls) s e i = by (all_low (acts_after us l.body) (n + 1) ls (numbered_turn us (begun_of l.body) s) e) (f us l.body) refl i
     where
-      by : (In e (read f (acts_after us l.body) (n + 1) ls) → P (length (acts_from us (l ∷ ls))) e.it) → (o : Option A) → f us l.body ≡ o → In e (put n o (read f (acts_after us l.body) (n + 1) ls)) → P (length (acts_from us (l ∷ ls))) e.it
+      by : (In e (read f (acts_after us l.body) (n + 1) ls) → P (length (acts_from us (l ∷ ls))) e.it) → (o : Option A) → f us l.body ≡ o →
+          In e (put n o (read f (acts_after us l.body) (n + 1) ls)) → P (length (acts_from us (l ∷ ls))) e.it
       by rest None is j = rest j
-      by rest (Some a) is (inl same) = up (length us) (length (acts_from us (l ∷ ls))) e.it (longer us (l ∷ ls)) (subst (P (length us)) (ap (λ (p : Placed A). p.it) same) (each us l.body a s is))
+      by rest (Some a) is (inl same) = up (length us) (length (acts_from us (l ∷ ls))) e.it (longer us (l ∷ ls))
+          (subst (P (length us)) (ap (λ (p : Placed A). p.it) same) (each us l.body a s is))
       by rest (Some a) is (inr j) = rest j
 
 id_low : (us : List Act) (l : List ℕ) (k : ℕ) → AreNumbered us → id_in us l ≡ Some k → k < length us
@@ -80,7 +84,8 @@ ended_each us (body.Aborted l c) k s is = id_low us (name l) k s is
 ended_each us b k s is = absurd (cc is)
 
 halt_each : (us : List Act) (b : Body) (h : Halt) → AreNumbered us → halt_of us b ≡ Some h → h.begun ≤ length us
-halt_each us (body.Halted n) h s is = let one : ◌≡◌ {A = Halt} (record { node = n; begun = length us }) h = cc is in let e : length us ≡ h.begun = ap (λ (y : Halt). y.begun) one in omega (arith, e)
+halt_each us (body.Halted n) h s is = let one : ◌≡◌ {A = Halt} (record { node = n; begun = length us }) h = cc is in
+    let e : length us ≡ h.begun = ap (λ (y : Halt). y.begun) one in omega (arith, e)
 halt_each us b h s is = absurd (cc is)
 
 module _ (lines : List Line) where

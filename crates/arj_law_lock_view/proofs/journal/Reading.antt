@@ -1,12 +1,10 @@
 -- What is read of a journal with one line more.
-use Rattle.std.proofs.Common.{◌≡◌, ℕ, ◌+◌, List, [], ◌∷◌, ◌++◌, length, Bool, true, false, ◌||◌, Option, Some, None, refl, sym, ◌∙◌, ap, subst, inl, inr, ⊎_elim, ◌⊎◌, arith}
-use Rattle.std.proofs.lemmas.List.{append-nil}
-use Rattle.std.specs.List.{list_any}
-use Rattle.arj_journal.specs.declared.body.Body.{Body}
-use Rattle.arj_journal.specs.declared.body.Line.{Line}
-use Rattle.arj_lock.proofs.Members.{In}
-use Rattle.arj_model.specs.Actions.{Act, Placed, acts, acts_after, put, read}
+use Rattle.arj_law_parts.proofs.Words
+use Words.{◌≡◌, ℕ, ◌+◌, List, [], ◌∷◌, ◌++◌, length, Bool, true, false, ◌||◌, Option, Some, None, refl, sym, ◌∙◌, ap, subst, inl, inr}
+use Words.{⊎_elim, ◌⊎◌, arith, append-nil, list_any, Body, Line, In}
+use Rattle.arj_law_lock_view.proofs.Terms.{Placed, acts, acts_after, put, read}
 use Rattle.arj_model.proofs.Read.{acts-append, read-append}
+use Rattle.arj_model.specs.Actions.{Act}
 
 -- the journal with one more line
 abbrev pub more : List Line → ℕ → Body → List Line
@@ -35,7 +33,8 @@ in_either a [] ys i = inr i
 in_either a (x ∷ xs) ys (inl is) = inl (inl is)
 in_either a (x ∷ xs) ys (inr i) = ⊎_elim (λ l. inl (inr l)) (λ r. inr r) (in_either a xs ys i)
 
-any_step : {A : Type 0} (p : A → Bool) (x : A) (xs : List A) → (list_any p xs ≡ true → (a : A) × In a xs × (p a ≡ true)) → (b : Bool) → p x ≡ b → (b || list_any p xs) ≡ true → (a : A) × In a (x ∷ xs) × (p a ≡ true)
+any_step : {A : Type 0} (p : A → Bool) (x : A) (xs : List A) → (list_any p xs ≡ true → (a : A) × In a xs × (p a ≡ true)) → (b : Bool) →
+    p x ≡ b → (b || list_any p xs) ≡ true → (a : A) × In a (x ∷ xs) × (p a ≡ true)
 any_step p x xs ih true is h = (x, inl refl, is)
 any_step p x xs ih false is h = let r = ih h in (r.0, inr r.1, r.2)
 
@@ -60,7 +59,8 @@ module _ {A : Type 0} (f : List Act → Body → Option A) (lines : List Line) (
   now = f (acts lines) b
 
   read_more : read f [] 0 (more lines event b) ≡ read f [] 0 lines ++ put (length lines) now []
-  read_more = read-append f [] 0 lines (record { event = event; body = b }) ∙ ap (λ (n : ℕ). read f [] 0 lines ++ put n now []) (let e : 0 + length lines ≡ length lines = omega arith in e)
+  read_more = read-append f [] 0 lines (record { event = event; body = b })
+      ∙ ap (λ (n : ℕ). read f [] 0 lines ++ put n now []) (let e : 0 + length lines ≡ length lines = omega arith in e)
 
   pub read_none : now ≡ None → read f [] 0 (more lines event b) ≡ read f [] 0 lines
   read_none is = read_more ∙ ap (λ (o : Option A). read f [] 0 lines ++ put (length lines) o []) is ∙ append-nil (read f [] 0 lines)
@@ -72,10 +72,13 @@ module _ {A : Type 0} (f : List Act → Body → Option A) (lines : List Line) (
   in_old e i = subst (In e) (sym read_more) (in_left e (read f [] 0 lines) (put (length lines) now []) i)
 
   pub in_new : (a : A) → now ≡ Some a → In (record { at = length lines; it = a }) (read f [] 0 (more lines event b))
-  in_new a is = subst (In (record { at = length lines; it = a })) (sym (read_some a is)) (in_right (record { at = length lines; it = a }) (read f [] 0 lines) (record { at = length lines; it = a } ∷ []) (inl refl))
+  in_new a is = subst (In (record { at = length lines; it = a })) (sym (read_some a is))
+      (in_right (record { at = length lines; it = a }) (read f [] 0 lines) (record { at = length lines; it = a } ∷ []) (inl refl))
 
-  pub in_cases : (e : Placed A) → In e (read f [] 0 (more lines event b)) → In e (read f [] 0 lines) ⊎ ((now ≡ Some e.it) × (e.at ≡ length lines))
-  in_cases e i = ⊎_elim (λ old. inl old) (λ new. inr (last now refl new)) (in_either e (read f [] 0 lines) (put (length lines) now []) (subst (In e) read_more i))
+  pub in_cases : (e : Placed A) → In e (read f [] 0 (more lines event b)) →
+      In e (read f [] 0 lines) ⊎ ((now ≡ Some e.it) × (e.at ≡ length lines))
+  in_cases e i = ⊎_elim (λ old. inl old) (λ new. inr (last now refl new))
+      (in_either e (read f [] 0 lines) (put (length lines) now []) (subst (In e) read_more i))
     where
       last : (o : Option A) → now ≡ o → In e (put (length lines) o []) → (now ≡ Some e.it) × (e.at ≡ length lines)
       last None is none = absurd none

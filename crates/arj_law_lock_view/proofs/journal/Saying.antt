@@ -1,13 +1,10 @@
 -- What a coordinator's effects say.
-use Rattle.std.proofs.Common.{◌≡◌, ℕ, List, [], ◌∷◌, ◌++◌, Bool, true, false, cond, Option, Some, refl, ◌∙◌, ap}
-use Rattle.arj_journal.specs.declared.body.Body.{Body}
-use Rattle.arj_journal.specs.declared.body.Body.TheVariants as body
-use Rattle.arj_protocol.specs.Words.{Label, Uid}
-use Rattle.arj_protocol.specs.Commit.{Aborts, Asks, CommitStep, Decides, Stays}
-use Rattle.arj_protocol.specs.Coord.{Coord, Doing, doing_of}
-use Rattle.arj_protocol.specs.Effect.{Do, Effect, Say, Send}
-use Rattle.arj_protocol.specs.Ending.{say_for, says}
-use Rattle.arj_law_lock_view.specs.journal.Coordinators.{bodies_of}
+use Rattle.arj_law_parts.proofs.Words
+use Words.{◌≡◌, List, [], ◌∷◌, ◌++◌, Option, Some, refl, ap, Body, Label, Uid, Aborts, Asks, CommitStep, Decides, Stays, Coord, Doing}
+use Words.{doing_of, Do, Effect, Say, Send, say_for, says}
+use Rattle.arj_law_lock_view.proofs.Terms
+use Terms.{bodies_of}
+use Terms.body
 
 pub bodies_app : (xs ys : List Effect) → bodies_of (xs ++ ys) ≡ bodies_of xs ++ bodies_of ys
 bodies_app [] ys = refl

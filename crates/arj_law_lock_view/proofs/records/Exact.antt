@@ -1,14 +1,8 @@
 -- The tests that pass for no more than what is so at naming.
-use Rattle.std.proofs.Common.{◌≡◌, ◌⊎◌, ◌∙◌, ◌≤◌, ◌<◌, ◌+◌, ◌*◌, ◌==◌, ◌&&◌, ◌||◌, ℕ, Bool, true, false, Option, Some, None, nat_lt, refl, sym, ap, subst, inl, inr, ⊎_elim, arith}
-use Rattle.std.proofs.lemmas.Bool.{and_parts, or_cases}
-use Rattle.arj_protocol.specs.Words.{Binding, Uid, is_on}
-use Rattle.arj_protocol.specs.Effect.{Disk}
-use Rattle.arj_protocol.specs.Named.{Named}
-use Rattle.arj_protocol.specs.Naming.{Naming}
-use Rattle.arj_protocol.specs.Node.{Parts}
-use Rattle.arj_protocol.specs.Order.{at_number, binding_number}
-use Rattle.arj_law_runs.proofs.addresses.Lists.{some_is}
-use Rattle.arj_law_lock_view.specs.records.Tests.{PassesNaming, PassesNode, Tests}
+use Rattle.arj_law_parts.proofs.Words
+use Words.{◌≡◌, ◌⊎◌, ◌∙◌, ◌≤◌, ◌<◌, ◌+◌, ◌*◌, ◌==◌, ◌&&◌, ◌||◌, ℕ, Bool, true, false, Option, Some, None, nat_lt, refl, sym, ap, subst, inl}
+use Words.{inr, ⊎_elim, arith, and_parts, or_cases, Binding, Uid, is_on, Disk, Named, Naming, Parts, at_number, binding_number}
+use Rattle.arj_law_lock_view.proofs.Terms.{some_is, PassesNaming, PassesNode, Tests}
 
 lt_is : (a b : ℕ) → a < b → nat_lt a b ≡ true
 lt_is a b h = grind (arith, h)
@@ -47,8 +41,11 @@ exact inc n = record {
 pub exact_zero : (inc : ℕ) (n : Naming) → (let T = exact inc n in T.made 0) ≡ true
 exact_zero inc n = lt_is 0 (n.inc * 4294967296 + n.count + 1) (omega arith)
 
-pub exact_down : (inc : ℕ) (n : Naming) (x v w : ℕ) → w ≤ v → (let T = exact inc n in T.past x v) ≡ true → (let T = exact inc n in T.past x w) ≡ true
-exact_down inc n x v w le on = ⊎_elim (λ low. first (past_in w (at_number x n.objects)) (lt_is w (n.inc * 4294967296) (less w v (n.inc * 4294967296) le (is_lt v (n.inc * 4294967296) low)))) (λ at. second (nat_lt w (n.inc * 4294967296)) (by (at_number x n.objects) at)) (or_cases (nat_lt v (n.inc * 4294967296)) (past_in v (at_number x n.objects)) on)
+pub exact_down : (inc : ℕ) (n : Naming) (x v w : ℕ) → w ≤ v → (let T = exact inc n in T.past x v) ≡ true →
+    (let T = exact inc n in T.past x w) ≡ true
+exact_down inc n x v w le on = ⊎_elim (λ low. first (past_in w (at_number x n.objects)) (lt_is w (n.inc * 4294967296)
+    (less w v (n.inc * 4294967296) le (is_lt v (n.inc * 4294967296) low)))) (λ at. second (nat_lt w (n.inc * 4294967296))
+    (by (at_number x n.objects) at)) (or_cases (nat_lt v (n.inc * 4294967296)) (past_in v (at_number x n.objects)) on)
   where
     less : (a b c : ℕ) → a ≤ b → b < c → a < c
     less a b c i j = omega (arith, i, j)
@@ -65,7 +62,8 @@ exact_naming : (inc : ℕ) (n : Naming) → PassesNaming (exact inc n) n
 exact_naming inc n = record {
   made = λ v le. lt_is v (n.inc * 4294967296 + n.count + 1) (up v (n.inc * 4294967296 + n.count) le);
   objects = λ x o at. record {
-    recorded = λ b v is le. second (nat_lt v (n.inc * 4294967296)) (ap (past_in v) at ∙ ap (past_at v) is ∙ lt_is v (binding_number b + 1) (up v (binding_number b) le));
+    recorded = λ b v is le. second (nat_lt v (n.inc * 4294967296))
+        (ap (past_in v) at ∙ ap (past_at v) is ∙ lt_is v (binding_number b + 1) (up v (binding_number b) le));
     asked = λ u on. second (nat_lt n.inc n.inc) ((λ i. same n.inc i && asked_in u n (at i)) ∙ on);
   };
 }
@@ -76,12 +74,14 @@ exact_naming inc n = record {
     same : (a : ℕ) → (a == a) ≡ true
     same a = grind arith
 
-pub exact_passes : (k : ℕ) (d : Disk) (t : Parts) (n : Naming) → t.naming ≡ Some n → n.inc ≡ d.inc → PassesNode (exact d.inc n) (record { number = k; disk = d; live = Some t })
+pub exact_passes : (k : ℕ) (d : Disk) (t : Parts) (n : Naming) → t.naming ≡ Some n → n.inc ≡ d.inc →
+    PassesNode (exact d.inc n) (record { number = k; disk = d; live = Some t })
 exact_passes k d t n at same = record {
   low = λ i le. lt_is i (d.inc + 1) (up i d.inc le);
   before = record {
     made = λ v lt. lt_is v (n.inc * 4294967296 + n.count + 1) (below v d.inc n.inc n.count lt same);
-    past = λ x v lt. first (past_in v (at_number x n.objects)) (lt_is v (n.inc * 4294967296) (subst (λ i. v < i * 4294967296) (sym same) lt));
+    past =
+        λ x v lt. first (past_in v (at_number x n.objects)) (lt_is v (n.inc * 4294967296) (subst (λ i. v < i * 4294967296) (sym same) lt));
     asked = λ x u i lt. first ((i == n.inc) && asked_in u n (at_number x n.objects)) (lt_is i n.inc (subst (λ j. i < j) (sym same) lt));
     listed = λ x v s lt. refl;
   };
@@ -108,8 +108,10 @@ exact_low inc n i on = down i inc (is_lt i (inc + 1) on)
     down : (a b : ℕ) → a < b + 1 → a ≤ b
     down a b lt = omega (arith, lt)
 
-pub exact_past : (inc : ℕ) (n : Naming) (x v : ℕ) (o : Named) → at_number x n.objects ≡ Some o → (let T = exact inc n in T.past x v) ≡ true → (v < n.inc * 4294967296) ⊎ ((b : Binding) × (o.recorded ≡ Some b) × (v ≤ binding_number b))
-exact_past inc n x v o at on = ⊎_elim (λ low. inl (is_lt v (n.inc * 4294967296) low)) (λ here. inr (by o.recorded refl (sym (ap (past_in v) at) ∙ here))) (or_cases (nat_lt v (n.inc * 4294967296)) (past_in v (at_number x n.objects)) on)
+pub exact_past : (inc : ℕ) (n : Naming) (x v : ℕ) (o : Named) → at_number x n.objects ≡ Some o →
+    (let T = exact inc n in T.past x v) ≡ true → (v < n.inc * 4294967296) ⊎ ((b : Binding) × (o.recorded ≡ Some b) × (v ≤ binding_number b))
+exact_past inc n x v o at on = ⊎_elim (λ low. inl (is_lt v (n.inc * 4294967296) low)) (λ here. inr
+    (by o.recorded refl (sym (ap (past_in v) at) ∙ here))) (or_cases (nat_lt v (n.inc * 4294967296)) (past_in v (at_number x n.objects)) on)
   where
     down : (a b : ℕ) → a < b + 1 → a ≤ b
     down a b lt = omega (arith, lt)
@@ -118,8 +120,11 @@ exact_past inc n x v o at on = ⊎_elim (λ low. inl (is_lt v (n.inc * 429496729
     by None is h = absurd (let no_way : false ≡ true = h in cc no_way)
     by (Some b) is h = (b, is, down v (binding_number b) (is_lt v (binding_number b + 1) h))
 
-pub exact_asked : (inc : ℕ) (n : Naming) (x : ℕ) (u : Uid) (i : ℕ) (o : Named) → at_number x n.objects ≡ Some o → n.inc ≤ i → (let T = exact inc n in T.asked x u i) ≡ true → (is_on o.asked u ≡ true) ⊎ (is_on n.told u ≡ true)
-exact_asked inc n x u i o at le on = ⊎_elim (λ low. absurd (not_both i n.inc le (is_lt i n.inc low))) (λ here. or_cases (is_on o.asked u) (is_on n.told u) (sym (ap (asked_in u n) at) ∙ (and_parts (i == n.inc) (asked_in u n (at_number x n.objects)) here).1)) (or_cases (nat_lt i n.inc) ((i == n.inc) && asked_in u n (at_number x n.objects)) on)
+pub exact_asked : (inc : ℕ) (n : Naming) (x : ℕ) (u : Uid) (i : ℕ) (o : Named) → at_number x n.objects ≡ Some o → n.inc ≤ i →
+    (let T = exact inc n in T.asked x u i) ≡ true → (is_on o.asked u ≡ true) ⊎ (is_on n.told u ≡ true)
+exact_asked inc n x u i o at le on = ⊎_elim (λ low. absurd (not_both i n.inc le (is_lt i n.inc low))) (λ here. or_cases (is_on o.asked u)
+    (is_on n.told u) (sym (ap (asked_in u n) at) ∙ (and_parts (i == n.inc) (asked_in u n (at_number x n.objects)) here).1))
+    (or_cases (nat_lt i n.inc) ((i == n.inc) && asked_in u n (at_number x n.objects)) on)
   where
     not_both : (a b : ℕ) → b ≤ a → a < b → ⊥
     not_both a b h l = omega (arith, h, l)

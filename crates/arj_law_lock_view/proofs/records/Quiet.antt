@@ -1,28 +1,22 @@
 -- What neither answers nor prepares entries: all effects of coordinators and servers, and those of naming at a Bind, a Record and an end.
-use Rattle.std.proofs.Common.{◌≡◌, ◌==◌, ◌||◌, ◌+◌, ◌≤◌, refl, ℕ, Bool, true, false, cond, not, List, [], ◌∷◌, ◌++◌, map, Option, Some, None}
-use Rattle.std.specs.Prelude.{⊤, is_some}
-use Rattle.std.specs.List.{AllByRecursion, flat_map, list_all}
-use Rattle.std.proofs.lemmas.Bool.{and_parts}
-use Rattle.arj_protocol.specs.Words.{Binding, BoundReply, End, Entry, Message, Mode, Path, RecordedReply, Row, Uid, entry, is_on, last_uid}
-use Rattle.arj_protocol.specs.Words.body
-use Rattle.arj_protocol.specs.Words.ending
-use Rattle.arj_protocol.specs.Words.mode
-use Rattle.arj_protocol.specs.Words.part
-use Rattle.arj_protocol.specs.Words.recorded
-use Rattle.arj_protocol.specs.Words.role
-use Rattle.arj_protocol.specs.Words.what
-use Rattle.arj_protocol.specs.Ask.{answers, top_of}
-use Rattle.arj_protocol.specs.Coord.{Coord}
-use Rattle.arj_protocol.specs.Copy.{grant_lines, is_granted}
-use Rattle.arj_protocol.specs.Effect.{Abort, Commit, Did, Do, Effect, Look, Pair, Prepare, PutInc, PutIntent, RemoveIntent, Say, Send, Served, did_nothing, is_prepared, reply, void}
-use Rattle.arj_protocol.specs.Named.{Counted, Live, Made, Named, bind_call, bind_made, bind_named, conflict_on, include_asked, is_binding, entry_row, in_use, is_lowered, live_above, live_asked, lock_lines, lower_lines, lowered, made_above, make_asked, note_made, next_server, note_named, note_other}
-use Rattle.arj_protocol.specs.Naming as naming
-use Rattle.arj_protocol.specs.Naming.{Naming, end_entries, end_lines, end_orphans, has_locks, is_over, listed_entry, on_counted, on_named, orphans, own_entries, taken_end, told_new}
-use Rattle.arj_protocol.specs.Node.{query_about}
-use Rattle.arj_protocol.specs.Order.{at_number, at_uid, binding_eq}
-use Rattle.arj_protocol.specs.Says.{AreAll, is_coord_effect, is_server_effect}
-use Rattle.arj_law_parts.specs.parts.Claims.{AreTrue}
-use Rattle.arj_law_runs.proofs.calls.WorldSteps.{no_answer}
+use Rattle.arj_law_parts.proofs.Words
+use Words.{◌≡◌, ◌==◌, ◌||◌, ◌+◌, ◌≤◌, refl, ℕ, Bool, true, false, cond, not, List, [], ◌∷◌, ◌++◌, map, Option, Some, None, ⊤, is_some}
+use Words.{AllByRecursion, flat_map, list_all, and_parts, Binding, BoundReply, End, Entry, Message, Mode, Path, RecordedReply, Row, Uid}
+use Words.{entry, is_on, last_uid, answers, top_of, Coord, grant_lines, is_granted, Abort, Commit, Did, Do, Effect, Look, Pair, Prepare}
+use Words.{PutInc, PutIntent, RemoveIntent, Say, Send, Served, did_nothing, is_prepared, reply, void, Counted, Live, Made, Named, bind_call}
+use Words.{bind_made, bind_named, conflict_on, include_asked, is_binding, entry_row, in_use, is_lowered, live_above, live_asked, lock_lines}
+use Words.{lower_lines, lowered, made_above, make_asked, note_made, next_server, note_named, note_other, Naming, end_entries, end_lines}
+use Words.{end_orphans, has_locks, is_over, listed_entry, on_counted, on_named, orphans, own_entries, taken_end, told_new, query_about}
+use Words.{at_number, at_uid, binding_eq, AreAll, is_coord_effect, is_server_effect}
+use Words.body
+use Words.ending
+use Words.mode
+use Words.part
+use Words.recorded
+use Words.role
+use Words.what
+use Words.naming
+use Rattle.arj_law_lock_view.proofs.Terms.{AreTrue, no_answer}
 
 -- what neither answers, nor prepares entries, nor puts an incarnation
 abbrev pub IsQuiet : Effect → Type 0
@@ -135,7 +129,8 @@ module _ (x : ℕ) (p : Path) (inc : ℕ) (e : Entry) (c : Counted) (avoid : Bin
 
   made_said : (m : Option Made) → Fine (bind_made inc x p e c m)
   made_said (Some m) = lock_said mode.Write
-  made_said None = said_both (lock_lines x p mode.Write c.named) (Say (body.Bound x (record { inc = inc; count = c.count + 1 }) (next_server c.named.turn e.servers)) ∷ []) (lock_said mode.Write) (tt, tt)
+  made_said None = said_both (lock_lines x p mode.Write c.named) (Say
+      (body.Bound x (record { inc = inc; count = c.count + 1 }) (next_server c.named.turn e.servers)) ∷ []) (lock_said mode.Write) (tt, tt)
 
   make_said : (r : Option Row) → Fine (make_asked inc x p avoid e c r)
   make_said (Some r) = tt
@@ -153,18 +148,21 @@ module _ (x : ℕ) (p : Path) (inc : ℕ) (e : Entry) (c : Counted) (avoid : Bin
   named_said true = include_said (conflict_on x p mode.Write c.named)
   named_said false = call_said (live_above avoid c.named.live)
 
-pub bind_said : (p : Path) (x : ℕ) (include : Bool) (avoid : Binding) (d : Pair) (n : Naming) → AllSaid (let s = naming.bind p x include avoid d n in s.outs)
+pub bind_said : (p : Path) (x : ℕ) (include : Bool) (avoid : Binding) (d : Pair) (n : Naming) →
+    AllSaid (let s = naming.bind p x include avoid d n in s.outs)
 bind_said p x include avoid d n = by (is_over p n)
   where
     there : (q : Option Named) → AllSaid (let s = on_counted x (bind_named n.inc x p include avoid (listed_entry x d)) n q in s.outs)
     there None = tt
     there (Some o) = named_said x p n.inc (listed_entry x d) (record { named = o; count = n.count }) avoid include
 
-    by : (b : Bool) → AllSaid (let s = cond b (void n) (on_counted x (bind_named n.inc x p include avoid (listed_entry x d)) n (at_number x n.objects)) in s.outs)
+    by : (b : Bool) → AllSaid
+        (let s = cond b (void n) (on_counted x (bind_named n.inc x p include avoid (listed_entry x d)) n (at_number x n.objects)) in s.outs)
     by true = tt
     by false = there (at_number x n.objects)
 
-pub bind_quiet : (p : Path) (x : ℕ) (include : Bool) (avoid : Binding) (d : Pair) (n : Naming) → AllQuiet (let s = naming.bind p x include avoid d n in s.outs)
+pub bind_quiet : (p : Path) (x : ℕ) (include : Bool) (avoid : Binding) (d : Pair) (n : Naming) →
+    AllQuiet (let s = naming.bind p x include avoid d n in s.outs)
 bind_quiet p x include avoid d n = said_quiet (let s = naming.bind p x include avoid d n in s.outs) (bind_said p x include avoid d n)
 
 lower_quiet : (x : ℕ) (top : Uid) (o : Named) → AllQuiet (lower_lines x top o)
@@ -184,12 +182,14 @@ noted_quiet x top b i o = by (is_binding b o.recorded)
         at : (e : Bool) → AllQuiet (let s = cond {A = Served Named RecordedReply} e (note_made x top i o m) (void o) in s.outs)
         at true = one m.recorded
           where
-            one : (r : Bool) → AllQuiet (let s = cond {A = Served Named RecordedReply} r (reply o recorded.Yes) (record { part = lowered x top (in_use top m i o); outs = lower_lines x top o; reply = Some recorded.Yes }) in s.outs)
+            one : (r : Bool) → AllQuiet (let s = cond {A = Served Named RecordedReply} r (reply o recorded.Yes)
+                (record { part = lowered x top (in_use top m i o); outs = lower_lines x top o; reply = Some recorded.Yes }) in s.outs)
             one true = tt
             one false = lower_quiet x top o
         at false = tt
 
-    by : (e : Bool) → AllQuiet (let s = cond {A = Served Named RecordedReply} e (reply o recorded.Yes) (note_other x top b i o (at_uid top o.made)) in s.outs)
+    by : (e : Bool) → AllQuiet
+        (let s = cond {A = Served Named RecordedReply} e (reply o recorded.Yes) (note_other x top b i o (at_uid top o.made)) in s.outs)
     by true = tt
     by false = other (at_uid top o.made)
 
@@ -200,14 +200,17 @@ note_quiet p x b i g n = by (is_over p n) (is_some (at_number x n.objects)) (g =
     there None = tt
     there (Some o) = noted_quiet x (top_of p) b i o
 
-    by : (over known ours : Bool) → AllQuiet (let s = cond {A = Served Naming RecordedReply} (over || not known) (void n) (cond {A = Served Naming RecordedReply} ours (on_named x (note_named x (top_of p) b i) n (at_number x n.objects)) (reply n (recorded.Changed (what.Inc g n.inc)))) in s.outs)
+    by : (over known ours : Bool) →
+        AllQuiet (let s = cond {A = Served Naming RecordedReply} (over || not known) (void n) (cond {A = Served Naming RecordedReply} ours
+        (on_named x (note_named x (top_of p) b i) n (at_number x n.objects)) (reply n (recorded.Changed (what.Inc g n.inc)))) in s.outs)
     by true known ours = tt
     by false false ours = tt
     by false true true = there (at_number x n.objects)
     by false true false = tt
 
 pub told_quiet : (u : Uid) (how : End) (d : Pair) (n : Naming) → AllQuiet (let s = naming.told u how d n in s.outs)
-told_quiet u how d n = quiet_both (own_entries u how d) (let t = cond {A = Did Naming} (is_on n.told u) (did_nothing n) (told_new u (taken_end u how n) d n) in t.outs) (own (is_prepared u d)) (by (is_on n.told u))
+told_quiet u how d n = quiet_both (own_entries u how d) (let t = cond {A = Did Naming} (is_on n.told u) (did_nothing n)
+    (told_new u (taken_end u how n) d n) in t.outs) (own (is_prepared u d)) (by (is_on n.told u))
   where
     ends : (v : Uid) (e : End) → AllQuiet (end_entries v e)
     ends v ending.Commit = (tt, (tt, tt))
@@ -231,4 +234,5 @@ told_quiet u how d n = quiet_both (own_entries u how d) (let t = cond {A = Did N
 
     by : (b : Bool) → AllQuiet (let t = cond {A = Did Naming} b (did_nothing n) (told_new u (taken_end u how n) d n) in t.outs)
     by true = tt
-    by false = quiet_both (end_orphans u (taken_end u how n) d n) (end_lines u (taken_end u how n) n) (orphaned (taken_end u how n)) (lines (taken_end u how n) (has_locks u n))
+    by false = quiet_both (end_orphans u (taken_end u how n) d n) (end_lines u (taken_end u how n) n) (orphaned (taken_end u how n))
+        (lines (taken_end u how n) (has_locks u n))

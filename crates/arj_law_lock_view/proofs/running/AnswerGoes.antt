@@ -1,58 +1,28 @@
 -- Answers go in the whole world: what a message shows that was sent is what the step, or the commit, that waits for it counts on.
-use Rattle.std.proofs.Common.{◌<◌, inl, inr, [], ⊎_elim, ◌≡◌, ◌≢◌, ◌⊎◌, ◌∙◌, ◌==◌, ◌&&◌, ℕ, List, Bool, true, false, cond, Option, Some, None, refl, sym, ap, subst, arith, eqb-true}
-use Rattle.std.specs.Prelude.{⊤}
-use Rattle.std.proofs.lemmas.Bool.{and_parts}
-use Rattle.arj_lock.proofs.Members.{in_from}
-use Rattle.arj_protocol.specs.Words.{Ask, Asked, Binding, End, Head, Uid}
-use Rattle.arj_protocol.specs.Ask.{Reply, actor, answers, ask_kind, reply_kind, response, top_of}
-use Rattle.arj_protocol.specs.Asking.{heard, heard_by, heard_call, heard_doing, heard_none, heard_now, moved_commit, waits_for_call, waits_for_commit}
-use Rattle.arj_protocol.specs.Call.{At, AtActivate, AtBind, AtInvoke, AtLoad, AtNote, Goal, Include as IncludeStore, Run, Steps, ask_at, next_ask, next_node}
-use Rattle.arj_protocol.specs.Commit as commit
-use Rattle.arj_protocol.specs.Commit.{Machine, ask_of, left_of, plan_of}
-use Rattle.arj_protocol.specs.Coord.{Calling, Committing, Coord, Doing, Idle, Now, doing_of}
-use Rattle.arj_protocol.specs.Effect.{Served}
-use Rattle.arj_protocol.specs.Node.{reply_is_meant}
-use Rattle.arj_protocol.specs.Order.{binding_number, has}
-use Rattle.arj_protocol.specs.Tree.{Branch, is_own}
-use Rattle.arj_law_parts.specs.parts.Actions.{AreBegun, action_of, paths_of}
-use Rattle.arj_law_parts.specs.parts.Coords.{IsAsking, IsBusy, IsVoting}
-use Rattle.arj_law_parts.specs.parts.Ends.{ask_ends}
-use Rattle.arj_law_parts.specs.parts.Requests.{IsNumbered}
-use Rattle.arj_law_parts.proofs.parts.Begun.{begun_tree, path_found}
+use Rattle.arj_law_parts.proofs.Words
+use Words.{◌<◌, inl, inr, [], ⊎_elim, ◌≡◌, ◌≢◌, ◌⊎◌, ◌∙◌, ◌==◌, ◌&&◌, ℕ, List, Bool, true, false, cond, Option, Some, None, refl, sym, ap}
+use Words.{subst, arith, eqb-true, ⊤, and_parts, in_from, Ask, Asked, Binding, End, Head, Uid, Reply, actor, answers, ask_kind, reply_kind}
+use Words.{response, top_of, heard, heard_by, heard_call, heard_doing, heard_none, heard_now, moved_commit, waits_for_call}
+use Words.{waits_for_commit, At, AtActivate, AtBind, AtInvoke, AtLoad, AtNote, Goal, Include as IncludeStore, Run, Steps, ask_at, next_ask}
+use Words.{next_node, Machine, ask_of, left_of, plan_of, Calling, Committing, Coord, Doing, Idle, Now, doing_of, Served, reply_is_meant}
+use Words.{binding_number, has, Branch, is_own, Post}
+use Words.commit
+use Rattle.arj_law_lock_view.proofs.Terms
+use Terms.{AreBegun, action_of, paths_of, IsAsking, IsBusy, IsVoting, ask_ends, IsNumbered, begun_tree, path_found, doing_by, good_heard}
+use Terms.{well_heard, IsOfStep, AnswersAt, AnswersWaiting, answers_fit, IsAskedBy, KnowsEnds, same_number as number_same, stay, IsWaiting}
+use Terms.{ShowsReply, ShowsNamingReply, ShowsToCommit, head_of, View, KnowsAnswer, Case, HoldsNamingIn, IsSeenIn, Spot, view_in, world_at}
+use Terms.{IsWorking, KnowsAsks, StepGoes, coord_at, records_at, Fixed, IsAnswerSeen}
+use Rattle.arj_law_lock_view.proofs.facts
+use facts.{Confirms.top_own, Inner.ends_kept, Kept.Place, States.states_heard}
+use facts.Asked.{AreWaiting, IsNewAt, waiting_heard}
+use Rattle.arj_law_lock_view.proofs.running
+use running.{AskedSteps.step_back, CommitGoes.commit_answers_go, GoodSteps.its}
+use running.CallGoes.{call_answers_go, include_answers_go, other_answers_go}
+use running.ShownAnswers.{answer_shown, call_shown, commit_shown, include_shown}
+use running.WorkSteps.{Behind, at_commit, behind_step, placed, waits_in, works_in}
+use Rattle.arj_law_lock_view.specs.running.Answers.{AnswersGo}
 use Rattle.arj_law_parts.proofs.parts.EndsSaid.{sure_heard}
-use Rattle.arj_law_parts.proofs.parts.GoodCoords.{doing_by, good_heard}
-use Rattle.arj_law_parts.proofs.parts.TrueSteps.{well_heard}
-use Rattle.arj_law_runs.specs.calls.Coords.{IsOfStep}
-use Rattle.arj_law_runs.specs.addresses.Binds.{AnswersAt, AnswersWaiting}
-use Rattle.arj_law_runs.proofs.addresses.BindRuns.{answers_fit}
-use Rattle.arj_law_lock_view.specs.facts.Requests.{IsAskedBy}
-use Rattle.arj_law_lock_view.specs.facts.Works.{KnowsEnds}
-use Rattle.arj_law_lock_view.proofs.facts.Asked.{AreWaiting, IsNewAt, waiting_heard}
-use Rattle.arj_law_lock_view.proofs.facts.Inner.{ends_kept}
-use Rattle.arj_law_lock_view.proofs.facts.Kept.{Place}
-use Rattle.arj_law_lock_view.proofs.facts.States.{states_heard}
-use Rattle.arj_law_runs.proofs.kept.Walked.{same_number as number_same}
-use Rattle.arj_law_lock_view.proofs.facts.Confirms.{top_own}
 use Rattle.arj_law_parts.specs.moves.Seen.{In}
-use Rattle.arj_promise.specs.Runs.{Post}
-use Rattle.arj_law_lock.specs.machine.Machine.{stay}
-use Rattle.arj_law_lock_view.specs.view.Calling.{IsWaiting}
-use Rattle.arj_law_lock_view.specs.view.Handling.{ShowsReply}
-use Rattle.arj_law_lock_view.specs.view.Hearing.{ShowsNamingReply}
-use Rattle.arj_law_lock_view.specs.view.Plans.{ShowsToCommit}
-use Rattle.arj_law_lock_view.specs.view.Replies.{head_of}
-use Rattle.arj_law_lock_view.specs.view.Telling.{View}
-use Rattle.arj_law_lock_view.specs.running.Answers.{AnswersGo, KnowsAnswer}
-use Rattle.arj_law_lock_view.specs.running.Beside.{Case, HoldsNamingIn, IsSeenIn, Spot, view_in, world_at}
-use Rattle.arj_law_lock_view.specs.running.Coordinating.{IsWorking, KnowsAsks, StepGoes, coord_at, records_at}
-use Rattle.arj_law_lock_view.specs.running.Fixed.{Fixed}
-use Rattle.arj_law_lock_view.specs.running.Posts.{IsAnswerSeen}
-use Rattle.arj_law_lock_view.proofs.running.AskedSteps.{step_back}
-use Rattle.arj_law_lock_view.proofs.running.CallGoes.{call_answers_go, include_answers_go, other_answers_go}
-use Rattle.arj_law_lock_view.proofs.running.CommitGoes.{commit_answers_go}
-use Rattle.arj_law_lock_view.proofs.running.GoodSteps.{its}
-use Rattle.arj_law_lock_view.proofs.running.ShownAnswers.{answer_shown, call_shown, commit_shown, include_shown}
-use Rattle.arj_law_lock_view.proofs.running.WorkSteps.{Behind, at_commit, behind_step, placed, waits_in, works_in}
 
 pub answers_back : (a : Asked) (r : Reply) → answers (response a r) ≡ Some (a, r)
 answers_back a (Reply.Bound r) = refl
@@ -64,7 +34,8 @@ answers_back a (Reply.Voted r) = refl
 answers_back a (Reply.Prepared r) = refl
 answers_back a (Reply.Confirmed r) = refl
 
-module _ (c : Case) (s : Spot) (e from : ℕ) (a : Asked) (r : Reply) (is_seen : IsSeenIn c (world_at s)) (holds : HoldsNamingIn c s.node (let t = s.parts in t.naming)) (knows : KnowsAnswer c s from a r)
+module _ (c : Case) (s : Spot) (e from : ℕ) (a : Asked) (r : Reply) (is_seen : IsSeenIn c (world_at s))
+    (holds : HoldsNamingIn c s.node (let t = s.parts in t.naming)) (knows : KnowsAnswer c s from a r)
     (sent : In (record { from = from; to = s.node; message = response a r }) (let M = s.seen in M.sent)) where
   abbrev f : Fixed
   f = c.fixed
@@ -93,10 +64,12 @@ module _ (c : Case) (s : Spot) (e from : ℕ) (a : Asked) (r : Reply) (is_seen :
 
     -- what was asked by that number is what waits
     was_asked : IsAskedBy C from shown.head shown.ask
-    was_asked = knows.requests (record { from = s.node; to = from; message = shown.request }) shown.head shown.ask shown.asked refl shown.is (ap (λ (u : Uid). is_own u C.tree) who ∙ (doing_by a.act C d found).0)
+    was_asked = knows.requests (record { from = s.node; to = from; message = shown.request }) shown.head shown.ask shown.asked refl shown.is
+        (ap (λ (u : Uid). is_own u C.tree) who ∙ (doing_by a.act C d found).0)
 
     same_doing : was_asked.doing ≡ d
-    same_doing = let two : ◌≡◌ {A = Option Doing} (Some was_asked.doing) (Some d) = sym was_asked.found ∙ ap (λ (u : Uid). doing_of u C) who ∙ found in cc two
+    same_doing = let two : ◌≡◌ {A = Option Doing} (Some was_asked.doing) (Some d) = sym was_asked.found ∙ ap (λ (u : Uid). doing_of u C) who
+        ∙ found in cc two
 
     same_number : a.req ≡ d.req → (let h = shown.head in h.req) ≡ (let y = was_asked.doing in y.req)
     same_number last = ap (λ (z : Asked). z.req) shown.of ∙ last ∙ ap (λ (z : Doing). z.req) (sym same_doing)
@@ -120,10 +93,12 @@ module _ (c : Case) (s : Spot) (e from : ℕ) (a : Asked) (r : Reply) (is_seen :
       ask_is = step_back shown.ask w of_step.same
 
       server : ShowsReply V (head_of w) (next_ask (ask_ends shown.ask) w) c.state r
-      server = subst (λ (h : Head). ShowsReply V h (next_ask (ask_ends shown.ask) w) c.state r) of_step.head (subst (λ (q : Ask). ShowsReply V shown.head q c.state r) ask_is shown.server)
+      server = subst (λ (h : Head). ShowsReply V h (next_ask (ask_ends shown.ask) w) c.state r) of_step.head
+          (subst (λ (q : Ask). ShowsReply V shown.head q c.state r) ask_is shown.server)
 
       naming : ShowsNamingReply V (head_of w) (next_ask (ask_ends shown.ask) w) c.state r
-      naming = subst (λ (h : Head). ShowsNamingReply V h (next_ask (ask_ends shown.ask) w) c.state r) of_step.head (subst (λ (q : Ask). ShowsNamingReply V shown.head q c.state r) ask_is shown.naming)
+      naming = subst (λ (h : Head). ShowsNamingReply V h (next_ask (ask_ends shown.ask) w) c.state r) of_step.head
+          (subst (λ (q : Ask). ShowsNamingReply V shown.head q c.state r) ask_is shown.naming)
 
       asking : IsAsking C.tree a.act w.path
       asking = subst (IsBusy C.tree a.act) is (let p = placed c s is_seen in let q = p.good in q.busy a.act d found)
@@ -137,7 +112,8 @@ module _ (c : Case) (s : Spot) (e from : ℕ) (a : Asked) (r : Reply) (is_seen :
       waiting : IsWaiting b d w
       waiting = waits_in c s is_seen a.act b asking.found knows.waits d w found is
 
-      kind_at : (g : Goal) (ends : List (Uid × End)) (at : At) → (reply_kind r == ask_kind (ask_at w.x g [] at)) ≡ true → (reply_kind r == ask_kind (ask_at w.x g ends at)) ≡ true
+      kind_at : (g : Goal) (ends : List (Uid × End)) (at : At) → (reply_kind r == ask_kind (ask_at w.x g [] at)) ≡ true →
+          (reply_kind r == ask_kind (ask_at w.x g ends at)) ≡ true
       kind_at g ends (AtBind avoid) is = is
       kind_at g ends (AtLoad k n rest) is = is
       kind_at g ends (AtActivate k st) is = is
@@ -145,7 +121,8 @@ module _ (c : Case) (s : Spot) (e from : ℕ) (a : Asked) (r : Reply) (is_seen :
       kind_at g ends (AtInvoke k i) is = is
 
       step_goes : let D = heard_call w r C in Behind c s D.part → StepGoes c s e D
-      step_goes after = ⊎_elim (λ about. by about w.goal refl) (λ other. other_answers_go c s e a.act b d w r is_seen work waiting other after.coord after.asks) (about_it w.x c.x)
+      step_goes after = ⊎_elim (λ about. by about w.goal refl)
+          (λ other. other_answers_go c s e a.act b d w r is_seen work waiting other after.coord after.asks) (about_it w.x c.x)
         where
           about_it : (m n : ℕ) → (m ≡ n) ⊎ (m ≢ n)
           about_it m n = grind arith
@@ -154,8 +131,10 @@ module _ (c : Case) (s : Spot) (e from : ℕ) (a : Asked) (r : Reply) (is_seen :
           fits_goal g goal = subst (λ (y : Goal). AnswersAt y w.at r) goal (fits d w found is waits)
 
           by : w.x ≡ c.x → (g : Goal) → w.goal ≡ g → StepGoes c s e (heard_call w r C)
-          by about (Run o) goal = call_answers_go c s e a.act b d w o r is_seen work (record { calling = is; about = about; goal = goal; path = waiting.path; last = waiting.last })
-              (call_shown V w c.state about (ask_ends shown.ask) o w.at r (kind_at (Run o) (ask_ends shown.ask) w.at (subst (λ (g : Goal). (reply_kind r == ask_kind (ask_at w.x g [] w.at)) ≡ true) goal kinds))
+          by about (Run o) goal = call_answers_go c s e a.act b d w o r is_seen work
+              (record { calling = is; about = about; goal = goal; path = waiting.path; last = waiting.last })
+              (call_shown V w c.state about (ask_ends shown.ask) o w.at r (kind_at (Run o) (ask_ends shown.ask) w.at
+              (subst (λ (g : Goal). (reply_kind r == ask_kind (ask_at w.x g [] w.at)) ≡ true) goal kinds))
               (subst (λ (g : Goal). ShowsReply V (head_of w) (ask_at w.x g (ask_ends shown.ask) w.at) c.state r) goal server)
               (subst (λ (g : Goal). ShowsNamingReply V (head_of w) (ask_at w.x g (ask_ends shown.ask) w.at) c.state r) goal naming)
               (fits_goal (Run o) goal)
@@ -163,7 +142,8 @@ module _ (c : Case) (s : Spot) (e from : ℕ) (a : Asked) (r : Reply) (is_seen :
               (λ k n rest st at reply. knows.last d w k n rest o st found is about goal at reply waits))
               after.coord after.asks
           by about (IncludeStore store) goal = include_answers_go c s e store a.act b d w r is_seen work waiting about goal
-              (include_shown V w c.state about (ask_ends shown.ask) store w.at r (kind_at (IncludeStore store) (ask_ends shown.ask) w.at (subst (λ (g : Goal). (reply_kind r == ask_kind (ask_at w.x g [] w.at)) ≡ true) goal kinds))
+              (include_shown V w c.state about (ask_ends shown.ask) store w.at r (kind_at (IncludeStore store) (ask_ends shown.ask) w.at
+              (subst (λ (g : Goal). (reply_kind r == ask_kind (ask_at w.x g [] w.at)) ≡ true) goal kinds))
               (subst (λ (g : Goal). ShowsNamingReply V (head_of w) (ask_at w.x g (ask_ends shown.ask) w.at) c.state r) goal naming)
               (fits_goal (IncludeStore store) goal))
               after.coord after.asks
@@ -172,7 +152,9 @@ module _ (c : Case) (s : Spot) (e from : ℕ) (a : Asked) (r : Reply) (is_seen :
 
     module _ (m : Machine) (is : d.now ≡ Committing m) (waits : waits_for_commit from a r m ≡ true) where
       commit_number : a.req ≡ d.req
-      commit_number = sym (eqb-true (let p = plan_of m in p.req) a.req (and_parts ((let p = plan_of m in p.req) == a.req) ((reply_kind r == ask_kind (ask_of m from)) && has (left_of m) from) waits).0) ∙ (subst (IsNumbered d.req) is (let i = its c s is_seen in i.numbered a.act d found)).0
+      commit_number = sym (eqb-true (let p = plan_of m in p.req) a.req
+          (and_parts ((let p = plan_of m in p.req) == a.req) ((reply_kind r == ask_kind (ask_of m from)) && has (left_of m) from) waits).0)
+          ∙ (subst (IsNumbered d.req) is (let i = its c s is_seen in i.numbered a.act d found)).0
 
       pub of_commit : ((let h = shown.head in h.path) ≡ (let p = plan_of m in p.path)) × (shown.ask ≡ ask_of m from)
       of_commit = was_asked.commit m (ap (λ (z : Doing). z.now) same_doing ∙ is) (same_number commit_number)
@@ -188,14 +170,18 @@ module _ (c : Case) (s : Spot) (e from : ℕ) (a : Asked) (r : Reply) (is_seen :
       own_top =
           let q = voting.asking in
           let path : (let h = shown.head in h.path) ≡ top_branch.path = of_commit.0 ∙ sym q.path in
-          ap top_of path ∙ top_own c.begun (let p = placed c s is_seen in let w = p.whole in w.begun) (action_of top_branch) (in_from (action_of top_branch) c.begun (let p = placed c s is_seen in let g = p.good in g.known a.act top_branch q.found)) (voting.top top_branch q.found) q.unserial ∙ ap actor (sym path)
+          ap top_of path ∙ top_own c.begun (let p = placed c s is_seen in let w = p.whole in
+          w.begun) (action_of top_branch) (in_from (action_of top_branch) c.begun (let p = placed c s is_seen in let g = p.good in
+          g.known a.act top_branch q.found)) (voting.top top_branch q.found) q.unserial ∙ ap actor (sym path)
 
       shows : ShowsToCommit c.x (f.act a.act) m from r c.state
       shows = subst (λ (u : Uid). ShowsToCommit c.x (f.act u) m from r c.state) who
-          (commit_shown V shown.head m from r c.state (ap f.act own_top) (subst (λ (q : Ask). ShowsReply V shown.head q c.state r) of_commit.1 shown.server) (subst (λ (q : Ask). ShowsNamingReply V shown.head q c.state r) of_commit.1 shown.naming))
+          (commit_shown V shown.head m from r c.state (ap f.act own_top) (subst (λ (q : Ask). ShowsReply V shown.head q c.state r)
+          of_commit.1 shown.server) (subst (λ (q : Ask). ShowsNamingReply V shown.head q c.state r) of_commit.1 shown.naming))
 
       commit_goes : let D = moved_commit a.act (commit.answered from m r) (records_at s) C in Behind c s D.part → StepGoes c s e D
-      commit_goes after = commit_answers_go c s e from a.act top_branch d m r is_seen holds (at_commit c s is_seen a.act top_branch (let v = voting.asking in v.found) d m found is) shows after.coord after.asks after.ends
+      commit_goes after = commit_answers_go c s e from a.act top_branch d m r is_seen holds
+          (at_commit c s is_seen a.act top_branch (let v = voting.asking in v.found) d m found is) shows after.coord after.asks after.ends
 
   -- ---- what waits
 
@@ -215,7 +201,8 @@ module _ (c : Case) (s : Spot) (e from : ℕ) (a : Asked) (r : Reply) (is_seen :
       by false off = stays
   now_goes d found (Committing m) is = by (waits_for_commit from a r m) refl
     where
-      by : (t : Bool) → waits_for_commit from a r m ≡ t → Goes (cond t (heard_by (moved_commit a.act (commit.answered from m r) (records_at s) C)) (heard_none C))
+      by : (t : Bool) → waits_for_commit from a r m ≡ t →
+          Goes (cond t (heard_by (moved_commit a.act (commit.answered from m r) (records_at s) C)) (heard_none C))
       by true on = commit_goes d found m is on
       by false off = stays
 
@@ -238,14 +225,18 @@ module _ (c : Case) (s : Spot) (e from : ℕ) (a : Asked) (r : Reply) (is_seen :
   place = record {
     actions = c.begun;
     begun = actions_begun;
-    good = (let i = its c s is_seen in let n = i.good (paths_of c.begun) (begun_tree c.begun actions_begun) (path_found c.begun actions_begun) in n.coord);
+    good = (let i = its c s is_seen in
+        let n = i.good (paths_of c.begun) (begun_tree c.begun actions_begun) (path_found c.begun actions_begun) in n.coord);
     numbered = (let i = its c s is_seen in i.numbered);
     faithful = (let i = its c s is_seen in i.faithful);
-    binds = (let b = knows.binds in b.nodes s.node (record { number = s.node; disk = s.disk; live = Some s.parts }) s.parts (λ i. cond (number_same s.node i) (Some (record { number = s.node; disk = s.disk; live = Some s.parts })) (let M = s.seen in M.nodes s.node)) refl);
+    binds = (let b = knows.binds in
+        b.nodes s.node (record { number = s.node; disk = s.disk; live = Some s.parts }) s.parts (λ i. cond (number_same s.node i)
+        (Some (record { number = s.node; disk = s.disk; live = Some s.parts })) (let M = s.seen in M.nodes s.node)) refl);
   }
 
   ends_behind : KnowsEnds behind
-  ends_behind = let k = ends_kept (λ b. ⊤) in k.hears (let M = s.seen in M.sent) s.node C place from a r (records_at s) fits (λ b same. tt) knows.ends
+  ends_behind = let k = ends_kept (λ b. ⊤) in
+      k.hears (let M = s.seen in M.sent) s.node C place from a r (records_at s) fits (λ b same. tt) knows.ends
 
   -- the Bind of a step of the object avoids a binding that was made
   abbrev HasAvoided : Steps → Type 0
@@ -253,16 +244,19 @@ module _ (c : Case) (s : Spot) (e from : ℕ) (a : Asked) (r : Reply) (is_seen :
 
   asks_behind : reply_is_meant C a r ≡ true → KnowsAsks c behind
   asks_behind meant = record {
-    states = states_heard (record { node = s.node; sent = (let M = s.seen in M.sent) }) C place from a r (records_at s) fits meant (let q = knows.asks in q.states);
+    states = states_heard (record { node = s.node; sent = (let M = s.seen in M.sent) }) C place from a r (records_at s) fits meant
+        (let q = knows.asks in q.states);
     avoids = λ u d w b found is at about. all u d w found is b at about;
   }
     where
-      next : (w : Steps) (d : Doing) (req : ℕ) (at : At) → doing_of a.act C ≡ Some d → d.now ≡ Calling w → HasAvoided w → (at ≡ w.at) ⊎ IsNewAt r at → HasAvoided (record w { req = req; at = at })
+      next : (w : Steps) (d : Doing) (req : ℕ) (at : At) → doing_of a.act C ≡ Some d → d.now ≡ Calling w → HasAvoided w →
+          (at ≡ w.at) ⊎ IsNewAt r at → HasAvoided (record w { req = req; at = at })
       next w d req at found is known (inl same) b at_it about = known b (sym same ∙ at_it) about
       next w d req at found is known (inr new) b at_it about = absurd (subst (IsNewAt r) at_it new)
 
       all : AreWaiting HasAvoided behind
-      all = waiting_heard HasAvoided (let M = s.seen in M.sent) s.node C place from a r (records_at s) fits next (λ u d w found is b at about. (let q = knows.asks in q.avoids u d w b found is at about))
+      all = waiting_heard HasAvoided (let M = s.seen in M.sent) s.node C place from a r (records_at s) fits next
+          (λ u d w found is b at about. (let q = knows.asks in q.avoids u d w b found is at about))
 
   -- it goes on, is good and sure, by the protocol alone
   behind_it : reply_is_meant C a r ≡ true → Behind c s behind
@@ -276,4 +270,5 @@ module _ (c : Case) (s : Spot) (e from : ℕ) (a : Asked) (r : Reply) (is_seen :
       (record { asks = asks_behind meant; ends = ends_behind })
 
 pub answers_go : AnswersGo
-answers_go c s e from a r is_seen holds knows sent meant = answer_goes c s e from a r is_seen holds knows sent (behind_it c s e from a r is_seen holds knows sent meant)
+answers_go c s e from a r is_seen holds knows sent meant =
+    answer_goes c s e from a r is_seen holds knows sent (behind_it c s e from a r is_seen holds knows sent meant)

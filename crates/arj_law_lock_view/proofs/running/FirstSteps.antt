@@ -1,35 +1,18 @@
 -- As a run begins each node has started in the machine.
-use Rattle.std.proofs.Common.{◌≡◌, ◌≤◌, ◌<◌, ◌∙◌, ◌+◌, ◌⊎◌, ℕ, zero, suc, List, [], ◌∷◌, ◌==◌, Bool, true, false, cond, Option, Some, None, refl, sym, ap, subst, inl, inr, ⊎_elim, arith, length, map}
-use Rattle.std.specs.Prelude.{is_some, slice_get}
-use Rattle.arj_lock.proofs.Members.{in_from}
-use Rattle.arj_protocol.specs.Words.{Header, Line, Uid, is_on}
-use Rattle.arj_protocol.specs.Confirm.{recovered_naming}
-use Rattle.arj_protocol.specs.Effect.{Disk, Intent}
-use Rattle.arj_protocol.specs.Naming.{Naming}
-use Rattle.arj_protocol.specs.Node.{Parts}
-use Rattle.arj_protocol.specs.Order.{at_number}
-use Rattle.arj_protocol.specs.Step.{Node, first_disk, first_node, numbers_to, parts_in}
-use Rattle.arj_protocol.specs.Tree.{at_place, new_tree}
-use Rattle.arj_protocol.specs.World.{format}
-use Rattle.arj_law_lock.specs.machine.Actions.{Act}
-use Rattle.arj_law_lock.specs.machine.Machine as machine
-use Rattle.arj_law_lock.specs.machine.Machine.{start}
-use Rattle.arj_law_lock.specs.machine.State.{State}
-use Rattle.arj_law_runs.proofs.kept.Starts.{first_at}
-use Rattle.arj_law_parts.specs.moves.Seen.{up}
-use Rattle.arj_promise.specs.Runs.{Post, Seen, see}
-use Rattle.arj_law_lock_view.specs.journal.Lines.{AreCallsOf, AreIncludesOf, included_on, said_on}
-use Rattle.arj_law_lock_view.specs.view.Going.{NobodyConfirmed}
-use Rattle.arj_law_lock_view.proofs.view.ServerSteps.{servers_are_down}
-use Rattle.arj_law_lock_view.proofs.view.StartNamingSteps.{naming_is_down}
-use Rattle.arj_law_lock_view.specs.running.Beside.{KnowsEntry}
-use Rattle.arj_law_lock_view.specs.running.Fixed.{Fixed, view_of}
-use Rattle.arj_law_lock_view.specs.running.Sees.{HasConfirm, HaveConfirms, IsConfirmedAt, IsFresh, SeesDown, SeesLocks, SeesMemory, WereConfirmed}
-use Rattle.arj_law_lock_view.specs.running.Tied.{AreTied}
+use Rattle.arj_law_parts.proofs.Words
+use Words.{◌≡◌, ◌≤◌, ◌<◌, ◌∙◌, ◌+◌, ◌⊎◌, ℕ, zero, suc, List, [], ◌∷◌, ◌==◌, Bool, true, false, cond, Option, Some, None, refl, sym, ap}
+use Words.{subst, inl, inr, ⊎_elim, arith, length, map, is_some, slice_get, in_from, Header, Line, Uid, is_on, recovered_naming, Disk}
+use Words.{Intent, Naming, Parts, at_number, Node, first_disk, first_node, numbers_to, parts_in, at_place, new_tree, format, Post, Seen}
+use Words.{see}
+use Rattle.arj_law_lock_view.proofs.Terms
+use Terms.{Act, start, State, first_at, up, AreCallsOf, AreIncludesOf, included_on, said_on, NobodyConfirmed, KnowsEntry, Fixed, view_of}
+use Terms.{HasConfirm, HaveConfirms, IsConfirmedAt, IsFresh, SeesDown, SeesLocks, SeesMemory, WereConfirmed, AreTied}
+use Terms.machine_run as machine
+use Rattle.arj_law_lock_view.proofs.running
+use running.{StartSteps.no_branch, StartSteps.started, TieSteps.IsMoved}
+use running.OtherSteps.{node_here, node_there, with_here}
+use Rattle.arj_law_lock_view.proofs.view.{ServerSteps.servers_are_down, StartNamingSteps.naming_is_down}
 use Rattle.arj_law_lock_view.specs.running.World.{FirstGoes}
-use Rattle.arj_law_lock_view.proofs.running.OtherSteps.{node_here, node_there, with_here}
-use Rattle.arj_law_lock_view.proofs.running.TieSteps.{IsMoved}
-use Rattle.arj_law_lock_view.proofs.running.StartSteps.{no_branch, started}
 
 module _ (hd : Header) (f : Fixed) (x : ℕ) (entry : KnowsEntry x 1 (first_disk hd 1)) where
   -- a disk before its node starts
@@ -48,7 +31,14 @@ module _ (hd : Header) (f : Fixed) (x : ℕ) (entry : KnowsEntry x 1 (first_disk
   fresh_start : IsFresh f [] (start f.first)
   fresh_start = record {
     actions = λ u un. record { stage = refl; request = refl; waits = refl; doomed = refl };
-    units = λ n none. record { stage = refl; waits = refl; idle = λ a home its. record { stage = refl; waits = refl }; kept = refl; calls = λ d there. absurd there; includes = λ d there. absurd there };
+    units = λ n none. record {
+      stage = refl;
+      waits = refl;
+      idle = λ a home its. record { stage = refl; waits = refl };
+      kept = refl;
+      calls = λ d there. absurd there;
+      includes = λ d there. absurd there;
+    };
   }
 
   down_start : (k : ℕ) → SeesDown (view_of f x [] k) (start f.first) (before k)
@@ -74,8 +64,10 @@ module _ (hd : Header) (f : Fixed) (x : ℕ) (entry : KnowsEntry x 1 (first_disk
   unfolding some_up
   up_at zero k low high = absurd (omega (arith, low, high))
   up_at (suc j) k low high = ⊎_elim
-      (λ (same : k ≡ j + 1). subst (λ (i : ℕ). (let N = some_up (suc j) in N.nodes i) ≡ Some (first_node hd i)) (sym same) (node_here f x [] (j + 1) (first_disk hd (j + 1)) (Some (parts_in (j + 1) 1 (first_disk hd (j + 1)))) (some_up j)))
-      (λ (other : k ≡ j + 1 → ⊥). node_there f x [] (j + 1) (first_disk hd (j + 1)) (Some (parts_in (j + 1) 1 (first_disk hd (j + 1)))) (some_up j) k other ∙ up_at j k low (less k j high other))
+      (λ (same : k ≡ j + 1). subst (λ (i : ℕ). (let N = some_up (suc j) in N.nodes i) ≡ Some (first_node hd i)) (sym same)
+      (node_here f x [] (j + 1) (first_disk hd (j + 1)) (Some (parts_in (j + 1) 1 (first_disk hd (j + 1)))) (some_up j)))
+      (λ (other : k ≡ j + 1 → ⊥). node_there f x [] (j + 1) (first_disk hd (j + 1)) (Some (parts_in (j + 1) 1 (first_disk hd (j + 1))))
+      (some_up j) k other ∙ up_at j k low (less k j high other))
       (equal k (j + 1))
     where
       equal : (a b : ℕ) → (a ≡ b) ⊎ (a ≡ b → ⊥)
@@ -87,12 +79,14 @@ module _ (hd : Header) (f : Fixed) (x : ℕ) (entry : KnowsEntry x 1 (first_disk
   down_at : (j k : ℕ) → j < k → (let N = some_up j in N.nodes k) ≡ Some (record { number = k; disk = before k; live = None })
   unfolding some_up
   down_at zero k low = refl
-  down_at (suc j) k low = node_there f x [] (j + 1) (first_disk hd (j + 1)) (Some (parts_in (j + 1) 1 (first_disk hd (j + 1)))) (some_up j) k (λ same. omega (arith, same, low)) ∙ down_at j k (omega (arith, low))
+  down_at (suc j) k low = node_there f x [] (j + 1) (first_disk hd (j + 1)) (Some (parts_in (j + 1) 1 (first_disk hd (j + 1)))) (some_up j)
+      k (λ same. omega (arith, same, low)) ∙ down_at j k (omega (arith, low))
 
   zero_down : (j : ℕ) → (let N = some_up j in N.nodes 0) ≡ Some (record { number = 0; disk = before 0; live = None })
   unfolding some_up
   zero_down zero = refl
-  zero_down (suc j) = node_there f x [] (j + 1) (first_disk hd (j + 1)) (Some (parts_in (j + 1) 1 (first_disk hd (j + 1)))) (some_up j) 0 (λ same. omega (arith, same)) ∙ zero_down j
+  zero_down (suc j) = node_there f x [] (j + 1) (first_disk hd (j + 1)) (Some (parts_in (j + 1) 1 (first_disk hd (j + 1)))) (some_up j) 0
+      (λ same. omega (arith, same)) ∙ zero_down j
 
   none_decided : (k : ℕ) (S : State) (s : SeesDown (view_of f x [] k) S (before k)) → s.last ≡ None
   none_decided k S s = by s.last refl
@@ -135,8 +129,10 @@ module _ (hd : Header) (f : Fixed) (x : ℕ) (entry : KnowsEntry x 1 (first_disk
       who u (inl prepared) = absurd (cc prepared)
       who u (inr (t, n, is, at, on)) = absurd (cc is)
 
-  none_up : (k : ℕ) (S : State) (sent : List Post) → NobodyConfirmed (start f.first) S → HaveConfirms f x k S sent (first_disk hd k) (Some (parts_in k 1 (first_disk hd k)))
-  none_up k S sent nobody = (who, λ one u top on. absurd (let no_way : false ≡ true = sym (ap (λ (g : Act → Bool). g (f.act u)) nobody) ∙ on in cc no_way))
+  none_up : (k : ℕ) (S : State) (sent : List Post) → NobodyConfirmed (start f.first) S →
+      HaveConfirms f x k S sent (first_disk hd k) (Some (parts_in k 1 (first_disk hd k)))
+  none_up k S sent nobody =
+      (who, λ one u top on. absurd (let no_way : false ≡ true = sym (ap (λ (g : Act → Bool). g (f.act u)) nobody) ∙ on in cc no_way))
     where
       who : (u : Uid) → IsConfirmedAt u (first_disk hd k) (Some (parts_in k 1 (first_disk hd k))) → HasConfirm f x S sent u
       who u (inl prepared) = absurd (cc prepared)
@@ -148,7 +144,8 @@ module _ (hd : Header) (f : Fixed) (x : ℕ) (entry : KnowsEntry x 1 (first_disk
           by : (b : Bool) → cond b (Some (recovered_naming 1 (let d = first_disk hd k in d.names))) None ≡ Some n → ⊥
           by true its = (let no_way : false ≡ true = ap (λ (z : Naming). is_on z.confirmed u) (same its) ∙ on in cc no_way)
             where
-              same : ◌≡◌ {A = Option Naming} (Some (recovered_naming 1 (let d = first_disk hd k in d.names))) (Some n) → recovered_naming 1 (let d = first_disk hd k in d.names) ≡ n
+              same : ◌≡◌ {A = Option Naming} (Some (recovered_naming 1 (let d = first_disk hd k in d.names))) (Some n) →
+                  recovered_naming 1 (let d = first_disk hd k in d.names) ≡ n
               same q = cc q
           by false its = cc its
 
@@ -169,16 +166,31 @@ module _ (hd : Header) (f : Fixed) (x : ℕ) (entry : KnowsEntry x 1 (first_disk
     refl,
   )
     where
-      its : (k : ℕ) (n : Node) → ◌≡◌ {A = Option Node} (Some (record { number = k; disk = before k; live = None })) (Some n) → record { number = k; disk = before k; live = None } ≡ n
+      its : (k : ℕ) (n : Node) → ◌≡◌ {A = Option Node} (Some (record { number = k; disk = before k; live = None })) (Some n) →
+          record { number = k; disk = before k; live = None } ≡ n
       its k n is = cc is
   first_seen (suc j) =
       let h = first_seen j in
       let k : ℕ = j + 1 in
       let s = h.1 in
       let down : SeesDown (view_of f x [] k) h.0 (before k) = s.nodes k _ (down_at j k (omega arith)) in
-      let g = started f x [] k h.0 (before k) (some_up j) (record { run = s.run; nodes = λ i n other is. s.nodes i n is; absent = λ i other is. s.absent i is; confirms = λ i n other is. s.confirms i n is; posts = s.posts; fresh = s.fresh; now = s.now }) down (none_decided k h.0 down)
-      (λ one inc. subst (λ (i : ℕ). is_some (at_number x (let n = recovered_naming inc (let d = first_disk hd i in d.names) in n.objects)) ≡ true) (sym one) (entry refl inc)) in
-      (g.0, (let t = g.1 in with_here f x [] k (first_disk hd k) (Some (parts_in k 1 (first_disk hd k))) g.0 (some_up j) t.others t.up (none_up k g.0 (let N = some_up j in N.sent) (t.nobody ∙ h.3))), tied_still h.0 g.0 (let t = g.1 in t.moved) h.2, (let t = g.1 in t.nobody ∙ h.3))
+      let g = started f x [] k h.0 (before k) (some_up j) (record {
+        run = s.run;
+        nodes = λ i n other is. s.nodes i n is;
+        absent = λ i other is. s.absent i is;
+        confirms = λ i n other is. s.confirms i n is;
+        posts = s.posts;
+        fresh = s.fresh;
+        now = s.now;
+      }) down (none_decided k h.0 down)
+      (λ one inc. subst (λ (i : ℕ). is_some (at_number x (let n = recovered_naming inc (let d = first_disk hd i in d.names) in n.objects))
+      ≡ true) (sym one) (entry refl inc)) in (
+        g.0,
+        (let t = g.1 in with_here f x [] k (first_disk hd k) (Some (parts_in k 1 (first_disk hd k))) g.0 (some_up j) t.others t.up
+            (none_up k g.0 (let N = some_up j in N.sent) (t.nobody ∙ h.3))),
+        tied_still h.0 g.0 (let t = g.1 in t.moved) h.2,
+        (let t = g.1 in t.nobody ∙ h.3),
+      )
 
   -- a place is within the list
   within : {A : Type 0} (items : List A) (k : ℕ) (a : A) → slice_get items k ≡ Some a → k < length items
@@ -199,7 +211,8 @@ module _ (hd : Header) (f : Fixed) (x : ℕ) (entry : KnowsEntry x 1 (first_disk
   outside {A} (i ∷ items) zero is = absurd (let no_way : ◌≡◌ {A = Option A} (Some i) None = is in cc no_way)
   outside {A} (i ∷ items) (suc k) is = let h = outside items k is in omega (arith, h)
 
-  still_down : (k : ℕ) → at_place k all ≡ None → (let N = some_up (length all) in N.nodes k) ≡ Some (record { number = k; disk = before k; live = None })
+  still_down : (k : ℕ) → at_place k all ≡ None →
+      (let N = some_up (length all) in N.nodes k) ≡ Some (record { number = k; disk = before k; live = None })
   still_down zero is = zero_down (length all)
   still_down (suc k) is = down_at (length all) (suc k) (let h = outside all k is in omega (arith, h))
 
@@ -212,7 +225,8 @@ module _ (hd : Header) (f : Fixed) (x : ℕ) (entry : KnowsEntry x 1 (first_disk
           run = s.run;
           nodes = λ k n is. (let p = placed k n is in s.nodes k n (up_at (length all) k p.0 p.1 ∙ ap Some (first_at hd k n is)));
           absent = λ k is. (before k, s.nodes k (record { number = k; disk = before k; live = None }) (still_down k is));
-          confirms = λ k n is. (let p = placed k n is in subst (λ (ps : List Post). HaveConfirms f x k h.0 ps n.disk n.live) (sent_none (length all)) (s.confirms k n (up_at (length all) k p.0 p.1 ∙ ap Some (first_at hd k n is))));
+          confirms = λ k n is. (let p = placed k n is in subst (λ (ps : List Post). HaveConfirms f x k h.0 ps n.disk n.live)
+              (sent_none (length all)) (s.confirms k n (up_at (length all) k p.0 p.1 ∙ ap Some (first_at hd k n is))));
           posts = λ p there. absurd there;
           fresh = s.fresh;
           now = subst (λ (ls : List Line). (let S = h.0 in S.now) ≤ length ls + 1) (lines_none (length all)) s.now;

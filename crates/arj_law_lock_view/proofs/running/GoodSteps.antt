@@ -1,18 +1,13 @@
 -- What a good node gives: its coordinator is steady, and its server is of the actions that were begun.
-use Rattle.std.proofs.Common.{◌≡◌, ◌∙◌, ℕ, List, subst}
-use Rattle.arj_protocol.specs.Words.{Message, Uid}
-use Rattle.arj_protocol.specs.Effect.{Effect}
-use Rattle.arj_protocol.specs.Node.{Parts, Took, handle}
-use Rattle.arj_law_parts.specs.parts.Actions.{AreBegun, action_of}
-use Rattle.arj_law_parts.specs.parts.Incs.{IsTrulyHandled}
-use Rattle.arj_law_parts.specs.parts.Nodes.{IsGoodNode}
+use Rattle.arj_law_parts.proofs.Words.{◌≡◌, ◌∙◌, ℕ, List, subst, Message, Uid, Effect, Parts, Took, handle}
+use Rattle.arj_law_lock_view.proofs.Terms
+use Terms.{AreBegun, action_of, IsUp, own_of_disk, tops_of_disk, IsPlaced, IsSteady, AreOneTree, IsOfFamily, Case, IsSeenIn, Spot, world_at}
+use Terms.{family_of}
+use Rattle.arj_law_lock_view.specs.running.Beside.{KnowsServer}
 use Rattle.arj_law_parts.proofs.parts.SaidIncs.{truly_handled}
-use Rattle.arj_law_runs.specs.kept.Worlds.{IsGood, IsUp}
-use Rattle.arj_law_runs.proofs.kept.Handled.{it, own_of_disk, tops_of_disk}
-use Rattle.arj_law_lock_view.specs.view.Actions.{IsPlaced, IsSteady}
-use Rattle.arj_law_lock_view.specs.view.Telling.{AreOneTree, IsOfFamily}
-use Rattle.arj_law_lock_view.specs.running.Beside.{Case, IsSeenIn, KnowsServer, Spot, world_at}
-use Rattle.arj_law_lock_view.specs.running.Fixed.{family_of}
+use Rattle.arj_law_parts.specs.parts.{Incs.IsTrulyHandled, Nodes.IsGoodNode}
+use Rattle.arj_law_runs.proofs.kept.Handled.{it}
+use Rattle.arj_law_runs.specs.kept.Worlds.{IsGood}
 
 module _ (c : Case) (s : Spot) (seen : IsSeenIn c (world_at s)) where
   abbrev tree_of : AreOneTree (family_of c.fixed c.begun)
@@ -31,7 +26,8 @@ module _ (c : Case) (s : Spot) (seen : IsSeenIn c (world_at s)) where
     alike = tree_of.alike;
     whole = tree_of.tree;
     works = (let f = its.faithful in f.works);
-    placed = λ u b found. subst (λ (w : Uid). IsPlaced (let f = c.fixed in f.act w) b.kind) (let g = good_node.coord in let r = g.tree in let l = r.lists in l.places u b found) (tree_of.placed (action_of b) (let g = good_node.coord in g.known u b found));
+    placed = λ u b found. subst (λ (w : Uid). IsPlaced (let f = c.fixed in f.act w) b.kind) (let g = good_node.coord in let r = g.tree in
+        let l = r.lists in l.places u b found) (tree_of.placed (action_of b) (let g = good_node.coord in g.known u b found));
   }
 
   pub steady_begun : AreBegun (let z = steady in z.actions)
@@ -42,9 +38,12 @@ module _ (c : Case) (s : Spot) (seen : IsSeenIn c (world_at s)) where
   of_family knows = record { good = good_node.server; knows = good_node.knows; listed = knows.listed }
 
   -- a server stays in the incarnation of the disk
-  pub server_level : (from : ℕ) (m : Message) (v : Parts) (outs : List Effect) → handle s.node s.disk s.parts from m ≡ Took v outs → (let w = v.server in w.inc) ≡ (let d = s.disk in d.inc)
+  pub server_level : (from : ℕ) (m : Message) (v : Parts) (outs : List Effect) → handle s.node s.disk s.parts from m ≡ Took v outs →
+      (let w = v.server in w.inc) ≡ (let d = s.disk in d.inc)
   server_level from m v outs is =
       let g : IsGood (world_at s) = (c.begun, seen.good) in
       let f = c.fixed in
-      let t : IsTrulyHandled s.node s.parts (Took v outs) = subst (IsTrulyHandled s.node s.parts) is (truly_handled s.node s.parts c.begun f.paths tree_of.tree good_node.coord s.disk (own_of_disk 0 s.node s.disk s.parts s.seen g) from m (tops_of_disk 0 s.node s.disk s.parts s.seen g)) in
+      let t : IsTrulyHandled s.node s.parts (Took v outs) = subst (IsTrulyHandled s.node s.parts) is
+      (truly_handled s.node s.parts c.begun f.paths tree_of.tree good_node.coord s.disk (own_of_disk 0 s.node s.disk s.parts s.seen g)
+      from m (tops_of_disk 0 s.node s.disk s.parts s.seen g)) in
       t.1 ∙ its.server

@@ -1,44 +1,42 @@
 -- What a node does at a message that isn't for its coordinator: that stays as it was, naming stays in its incarnation, records are
 -- left, and what is sent is the answer to a request, or says nothing.
-use Rattle.std.proofs.Common.{◌≡◌, ◌⊎◌, ◌∙◌, ℕ, List, [], ◌∷◌, ◌++◌, ◌==◌, Bool, true, false, cond, Option, Some, None, refl, sym, ap, subst, inl, inr, ⊎_elim, not, filter, map}
-use Rattle.std.specs.Prelude.{⊤, is_some, ◌||◌, ◌&&◌, option_map}
-use Rattle.std.specs.List.{list_all}
-use Rattle.std.proofs.lemmas.Bool.{and_parts}
-use Rattle.arj_lock.proofs.Members as list
-use Rattle.arj_protocol.specs.Words.{Ask, Asked, Binding, ConfirmedReply, End, Head, Message, ObjectState, Path, Uid, asks, is_on, object}
-use Rattle.arj_protocol.specs.Words.ask
-use Rattle.arj_protocol.specs.Words.body
-use Rattle.arj_protocol.specs.Words.confirmed
-use Rattle.arj_protocol.specs.Words.ending
-use Rattle.arj_protocol.specs.Words.loaded
-use Rattle.arj_protocol.specs.Words.message
-use Rattle.arj_protocol.specs.Words.prepared
-use Rattle.arj_protocol.specs.Words.recorded
-use Rattle.arj_protocol.specs.Words.role
-use Rattle.arj_protocol.specs.Words.what
-use Rattle.arj_protocol.specs.Ask.{Reply, actor, answers, asked_by, last_end, response, top_of}
-use Rattle.arj_protocol.specs.Confirm.{Grants, Marks, checked, confirm, confirm_entries, confirm_new, confirms, entries_after, has_all, lock_all, lock_in, prepared_by, wanted}
-use Rattle.arj_protocol.specs.Effect.{Abort, Already, Commit, Did, Disk, Do, Effect, InDoubt, Look, Old, Pair, Prep, Prepare, PutInc, PutIntent, Ready, RemoveIntent, Say, Send, Served, Work, did_nothing, held_at, holder_of, is_prepared, prepare_answer, reply, void}
-use Rattle.arj_protocol.specs.Named.{Named, bind_named, note_named}
-use Rattle.arj_protocol.specs.Naming as naming
-use Rattle.arj_protocol.specs.Naming.{Naming, is_over, listed_entry, on_counted, on_named}
-use Rattle.arj_protocol.specs.Node.{Handled, Parts, Took, Void, ack_told, end_states, handle, handle_answer, handle_ask, handle_ends, handle_hello, handle_other, handle_told, holders, if_naming, is_earlier, load_by, load_held, naming_hello, naming_told, prepare_by, query_about, sends_answer, serve, served, store_told, with_naming, with_server}
-use Rattle.arj_protocol.specs.Order.{at_number}
-use Rattle.arj_protocol.specs.Says.{AreAll, is_names_work, is_naming_effect, is_server_effect}
-use Rattle.arj_protocol.specs.Server as server
-use Rattle.arj_protocol.proofs.PartSays.{activate_own, all_both, bind_own, confirm_own, ends_own, invoke_own, note_own, told_own, vote_own}
-use Rattle.arj_law_lock_view.specs.view.Hearing.{is_for_naming}
-use Rattle.arj_law_lock_view.proofs.view.HandledSteps.{sent_last}
-use Rattle.arj_law_lock_view.proofs.journal.Pages.{parts_say_plain}
-use Rattle.arj_law_lock_view.specs.running.World.{is_for_parts}
-use Rattle.arj_law_lock_view.proofs.running.WalkSteps.{leaves, leaves_work}
+use Rattle.arj_law_parts.proofs.Words
+use Words.{◌≡◌, ◌⊎◌, ◌∙◌, ℕ, List, [], ◌∷◌, ◌++◌, ◌==◌, Bool, true, false, cond, Option, Some, None, refl, sym, ap, subst, inl, inr, ⊎_elim}
+use Words.{not, filter, map, ⊤, is_some, ◌||◌, ◌&&◌, option_map, list_all, and_parts, Ask, Asked, Binding, ConfirmedReply, End, Head}
+use Words.{Message, ObjectState, Path, Uid, asks, is_on, object, Reply, actor, answers, asked_by, last_end, response, top_of, Grants, Marks}
+use Words.{checked, confirm, confirm_entries, confirm_new, confirms, entries_after, has_all, lock_all, lock_in, prepared_by, wanted, Abort}
+use Words.{Already, Commit, Did, Disk, Do, Effect, InDoubt, Look, Old, Pair, Prep, Prepare, PutInc, PutIntent, Ready, RemoveIntent, Say}
+use Words.{Send, Served, Work, did_nothing, held_at, holder_of, is_prepared, prepare_answer, reply, void, Named, bind_named, note_named}
+use Words.{Naming, is_over, listed_entry, on_counted, on_named, Handled, Parts, Took, Void, ack_told, end_states, handle, handle_answer}
+use Words.{handle_ask, handle_ends, handle_hello, handle_other, handle_told, holders, if_naming, is_earlier, load_by, load_held}
+use Words.{naming_hello, naming_told, prepare_by, query_about, sends_answer, serve, served, store_told, with_naming, with_server, at_number}
+use Words.{AreAll, is_names_work, is_naming_effect, is_server_effect, activate_own, all_both, bind_own, confirm_own, ends_own, invoke_own}
+use Words.{note_own, told_own, vote_own}
+use Words.list
+use Words.ask
+use Words.body
+use Words.confirmed
+use Words.ending
+use Words.loaded
+use Words.message
+use Words.prepared
+use Words.recorded
+use Words.role
+use Words.what
+use Words.naming
+use Words.server
+use Rattle.arj_law_lock_view.proofs.Terms.{is_for_naming, is_for_parts}
+use Rattle.arj_law_lock_view.proofs.{journal.Pages.parts_say_plain, running.WalkSteps.leaves, running.WalkSteps.leaves_work}
+use Rattle.arj_law_lock_view.proofs.{view.HandledSteps.sent_last}
 
 -- ---- naming stays in its incarnation
 
-bind_inc : (p : Path) (x : ℕ) (include : Bool) (avoid : Binding) (d : Pair) (n : Naming) → (let r = naming.bind p x include avoid d n in let m = r.part in m.inc) ≡ n.inc
+bind_inc : (p : Path) (x : ℕ) (include : Bool) (avoid : Binding) (d : Pair) (n : Naming) →
+    (let r = naming.bind p x include avoid d n in let m = r.part in m.inc) ≡ n.inc
 bind_inc p x include avoid d n = by (is_over p n) (at_number x n.objects)
   where
-    by : (b : Bool) (o : Option Named) → (let r = cond b (void n) (on_counted x (bind_named n.inc x p include avoid (listed_entry x d)) n o) in let m = r.part in m.inc) ≡ n.inc
+    by : (b : Bool) (o : Option Named) → (let r = cond b (void n)
+        (on_counted x (bind_named n.inc x p include avoid (listed_entry x d)) n o) in let m = r.part in m.inc) ≡ n.inc
     by true o = refl
     by false None = refl
     by false (Some o) = refl
@@ -46,7 +44,8 @@ bind_inc p x include avoid d n = by (is_over p n) (at_number x n.objects)
 note_inc : (p : Path) (x : ℕ) (b : Binding) (i g : ℕ) (n : Naming) → (let r = naming.note p x b i g n in let m = r.part in m.inc) ≡ n.inc
 note_inc p x b i g n = by (is_over p n || not (is_some (at_number x n.objects))) (g == n.inc) (at_number x n.objects)
   where
-    by : (c e : Bool) (o : Option Named) → (let r = cond c (void n) (cond e (on_named x (note_named x (top_of p) b i) n o) (reply n (recorded.Changed (what.Inc g n.inc)))) in let m = r.part in m.inc) ≡ n.inc
+    by : (c e : Bool) (o : Option Named) → (let r = cond c (void n) (cond e (on_named x (note_named x (top_of p) b i) n o)
+        (reply n (recorded.Changed (what.Inc g n.inc)))) in let m = r.part in m.inc) ≡ n.inc
     by true e o = refl
     by false true None = refl
     by false true (Some o) = refl
@@ -67,8 +66,10 @@ lock_inc (x ∷ xs) p n = (let d = lock_in x p n (at_number x n.objects) in lock
     one None = refl
     one (Some o) = refl
 
-confirm_inc : (p : Path) (grants : Grants) (excluded included : Marks) (d : Pair) (n : Naming) → (let r = confirm p grants excluded included d n in let m = r.part in m.inc) ≡ n.inc
-confirm_inc p grants excluded included d n = by (is_over p n || not (has_all grants n)) (is_on n.confirmed (top_of p) || is_prepared (top_of p) d) (checked p grants excluded included d n)
+confirm_inc : (p : Path) (grants : Grants) (excluded included : Marks) (d : Pair) (n : Naming) →
+    (let r = confirm p grants excluded included d n in let m = r.part in m.inc) ≡ n.inc
+confirm_inc p grants excluded included d n = by (is_over p n || not (has_all grants n))
+    (is_on n.confirmed (top_of p) || is_prepared (top_of p) d) (checked p grants excluded included d n)
   where
     t : Did Naming
     t = lock_all (wanted (top_of p) grants excluded d) p n
@@ -90,7 +91,9 @@ confirm_inc p grants excluded included d n = by (is_over p n || not (has_all gra
     new (Some r) = refl
     new None = entries (entries_after (top_of p) grants excluded included d)
 
-    by : (b c : Bool) (o : Option ConfirmedReply) → (let r = cond {A = Served Naming ConfirmedReply} b (void n) (cond {A = Served Naming ConfirmedReply} c (reply (confirms (top_of p) n) confirmed.Yes) (confirm_new p grants excluded included d n o)) in let m = r.part in m.inc) ≡ n.inc
+    by : (b c : Bool) (o : Option ConfirmedReply) →
+        (let r = cond {A = Served Naming ConfirmedReply} b (void n) (cond {A = Served Naming ConfirmedReply} c
+        (reply (confirms (top_of p) n) confirmed.Yes) (confirm_new p grants excluded included d n o)) in let m = r.part in m.inc) ≡ n.inc
     by true c o = refl
     by false true o = refl
     by false false o = new o
@@ -98,14 +101,18 @@ confirm_inc p grants excluded included d n = by (is_over p n || not (has_all gra
 -- ---- effects
 
 -- of such effects none is sent, and they leave records
-none_in : (test : Effect → Bool) → ((to : ℕ) (z : Message) → test (Send to z) ≡ false) → (outs : List Effect) → AreAll test outs → (to : ℕ) (z : Message) → list.In (Send to z) outs → ⊥
+none_in : (test : Effect → Bool) → ((to : ℕ) (z : Message) → test (Send to z) ≡ false) → (outs : List Effect) → AreAll test outs →
+    (to : ℕ) (z : Message) → list.In (Send to z) outs → ⊥
 none_in test never [] all to z i = i
-none_in test never (e ∷ es) all to z (inl is) = let p = and_parts (test e) (list_all test es) all in let no_way : true ≡ false = sym p.0 ∙ ap test is ∙ never to z in cc no_way
+none_in test never (e ∷ es) all to z (inl is) = let p = and_parts (test e) (list_all test es) all in
+    let no_way : true ≡ false = sym p.0 ∙ ap test is ∙ never to z in cc no_way
 none_in test never (e ∷ es) all to z (inr i) = none_in test never es (and_parts (test e) (list_all test es) all).1 to z i
 
-leave_by : (test : Effect → Bool) → ((e : Effect) → test e ≡ true → leaves e ≡ true) → (outs : List Effect) → AreAll test outs → AreAll leaves outs
+leave_by : (test : Effect → Bool) → ((e : Effect) → test e ≡ true → leaves e ≡ true) → (outs : List Effect) → AreAll test outs →
+    AreAll leaves outs
 leave_by test each [] all = refl
-leave_by test each (e ∷ es) all = let p = and_parts (test e) (list_all test es) all in both (leaves e) (list_all leaves es) (each e p.0) (leave_by test each es p.1)
+leave_by test each (e ∷ es) all = let p = and_parts (test e) (list_all test es) all in
+    both (leaves e) (list_all leaves es) (each e p.0) (leave_by test each es p.1)
   where
     both : (b c : Bool) → b ≡ true → c ≡ true → (b && c) ≡ true
     both b c x y = (λ i. x i && c) ∙ y
@@ -179,14 +186,22 @@ module _ (n : ℕ) (d : Disk) (t : Parts) (from : ℕ) where
     abbrev Answers : Handled → Type 0
     Answers r = Leaves t from (Some (h, a)) r
 
-    answers_left : (w : Parts) (outs : List Effect) (o : Option Reply) → IsLeft t w outs → ((to : ℕ) (z : Message) → list.In (Send to z) outs → ⊥) → Answers (sends_answer from h w outs o)
+    answers_left : (w : Parts) (outs : List Effect) (o : Option Reply) → IsLeft t w outs →
+        ((to : ℕ) (z : Message) → list.In (Send to z) outs → ⊥) → Answers (sends_answer from h w outs o)
     answers_left w outs None left none = tt
     answers_left w outs (Some r) left none = (
-      record { coord = left.coord; place = left.place; inc = left.inc; plain = all_both leaves outs (Send from (response (asked_by h) r) ∷ []) left.plain refl },
-      (λ to z i. ⊎_elim (λ (j : list.In (Send to z) outs). absurd (none to z j)) (λ (is : z ≡ response (asked_by h) r). (last_to to z outs (λ j. none to z j) i, (r, is))) (sent_last outs from (response (asked_by h) r) to z i)),
+      record {
+        coord = left.coord;
+        place = left.place;
+        inc = left.inc;
+        plain = all_both leaves outs (Send from (response (asked_by h) r) ∷ []) left.plain refl;
+      },
+      (λ to z i. ⊎_elim (λ (j : list.In (Send to z) outs). absurd (none to z j)) (λ (is : z ≡ response (asked_by h) r).
+          (last_to to z outs (λ j. none to z j) i, (r, is))) (sent_last outs from (response (asked_by h) r) to z i)),
     )
       where
-        last_to : (to : ℕ) (z : Message) (es : List Effect) → (list.In (Send to z) es → ⊥) → list.In (Send to z) (es ++ Send from (response (asked_by h) r) ∷ []) → to ≡ from
+        last_to : (to : ℕ) (z : Message) (es : List Effect) → (list.In (Send to z) es → ⊥) →
+            list.In (Send to z) (es ++ Send from (response (asked_by h) r) ∷ []) → to ≡ from
         last_to to z [] never (inl is) = its is
           where
             its : Send from (response (asked_by h) r) ≡ Send to z → to ≡ from
@@ -199,12 +214,24 @@ module _ (n : ℕ) (d : Disk) (t : Parts) (from : ℕ) where
     same_left : (outs : List Effect) → AreAll leaves outs → IsLeft t t outs
     same_left outs plain = record { coord = refl; place = refl; inc = λ m is. (m, is, refl); plain = plain }
 
-    by_server : {R : Type 0} (say : R → Reply) (r : Served server.Server R) → AreAll (is_server_effect n) r.outs → Answers (served from h (with_server t) say r)
-    by_server say r own = answers_left (with_server t r.part) r.outs (option_map say r.reply) (record { coord = refl; place = refl; inc = λ m is. (m, is, refl); plain = leave_by (is_server_effect n) (server_leaves n) r.outs own }) (none_in (is_server_effect n) (λ to z. refl) r.outs own)
+    by_server : {R : Type 0} (say : R → Reply) (r : Served server.Server R) → AreAll (is_server_effect n) r.outs →
+        Answers (served from h (with_server t) say r)
+    by_server say r own = answers_left (with_server t r.part) r.outs (option_map say r.reply) (record {
+      coord = refl;
+      place = refl;
+      inc = λ m is. (m, is, refl);
+      plain = leave_by (is_server_effect n) (server_leaves n) r.outs own;
+    }) (none_in (is_server_effect n) (λ to z. refl) r.outs own)
 
-    by_naming : {R : Type 0} (o : Naming) → t.naming ≡ Some o → (say : R → Reply) (r : Served Naming R) → AreAll is_naming_effect r.outs → (let m = r.part in m.inc) ≡ o.inc → Answers (served from h (with_naming t) say r)
+    by_naming : {R : Type 0} (o : Naming) → t.naming ≡ Some o → (say : R → Reply) (r : Served Naming R) → AreAll is_naming_effect r.outs →
+        (let m = r.part in m.inc) ≡ o.inc → Answers (served from h (with_naming t) say r)
     by_naming o is say r own inc = answers_left (with_naming t r.part) r.outs (option_map say r.reply)
-        (record { coord = refl; place = ap (λ (z : Option Naming). is_some z) (sym is); inc = λ m it. (o, is, ap (λ (z : Naming). z.inc) (same m it) ∙ inc); plain = leave_by is_naming_effect naming_leaves r.outs own })
+        (record {
+          coord = refl;
+          place = ap (λ (z : Option Naming). is_some z) (sym is);
+          inc = λ m it. (o, is, ap (λ (z : Naming). z.inc) (same m it) ∙ inc);
+          plain = leave_by is_naming_effect naming_leaves r.outs own;
+        })
         (none_in is_naming_effect (λ to z. refl) r.outs own)
       where
         same : (m : Naming) → ◌≡◌ {A = Option Naming} (Some r.part) (Some m) → m ≡ r.part
@@ -213,50 +240,66 @@ module _ (n : ℕ) (d : Disk) (t : Parts) (from : ℕ) where
   request_left : (h : Head) (a : Ask) → Leaves t from (Some (h, a)) (serve n d t from h a)
   request_left h (ask.Bind x include avoid) = by t.naming refl
     where
-      by : (o : Option Naming) → t.naming ≡ o → Leaves t from (Some (h, ask.Bind x include avoid)) (if_naming (λ q. served from h (with_naming t) Reply.Bound (naming.bind h.path x include avoid d.names q)) o)
+      by : (o : Option Naming) → t.naming ≡ o → Leaves t from (Some (h, ask.Bind x include avoid))
+          (if_naming (λ q. served from h (with_naming t) Reply.Bound (naming.bind h.path x include avoid d.names q)) o)
       by None is = tt
-      by (Some o) is = by_naming h (ask.Bind x include avoid) o is Reply.Bound (naming.bind h.path x include avoid d.names o) (bind_own h.path x include avoid d.names o) (bind_inc h.path x include avoid d.names o)
+      by (Some o) is = by_naming h (ask.Bind x include avoid) o is Reply.Bound (naming.bind h.path x include avoid d.names o)
+          (bind_own h.path x include avoid d.names o) (bind_inc h.path x include avoid d.names o)
   request_left h (ask.Record x b i g) = by t.naming refl
     where
-      by : (o : Option Naming) → t.naming ≡ o → Leaves t from (Some (h, ask.Record x b i g)) (if_naming (λ q. served from h (with_naming t) Reply.Noted (naming.note h.path x b i g q)) o)
+      by : (o : Option Naming) → t.naming ≡ o → Leaves t from (Some (h, ask.Record x b i g))
+          (if_naming (λ q. served from h (with_naming t) Reply.Noted (naming.note h.path x b i g q)) o)
       by None is = tt
-      by (Some o) is = by_naming h (ask.Record x b i g) o is Reply.Noted (naming.note h.path x b i g o) (note_own h.path x b i g o) (note_inc h.path x b i g o)
+      by (Some o) is = by_naming h (ask.Record x b i g) o is Reply.Noted (naming.note h.path x b i g o) (note_own h.path x b i g o)
+          (note_inc h.path x b i g o)
   request_left h (ask.Confirm grants excluded included) = by t.naming refl
     where
-      by : (o : Option Naming) → t.naming ≡ o → Leaves t from (Some (h, ask.Confirm grants excluded included)) (if_naming (λ q. served from h (with_naming t) Reply.Confirmed (confirm h.path grants excluded included d.names q)) o)
+      by : (o : Option Naming) → t.naming ≡ o → Leaves t from (Some (h, ask.Confirm grants excluded included))
+          (if_naming (λ q. served from h (with_naming t) Reply.Confirmed (confirm h.path grants excluded included d.names q)) o)
       by None is = tt
-      by (Some o) is = by_naming h (ask.Confirm grants excluded included) o is Reply.Confirmed (confirm h.path grants excluded included d.names o) (confirm_own h.path grants excluded included d.names o) (confirm_inc h.path grants excluded included d.names o)
-  request_left h (ask.Activate b st) = by_server h (ask.Activate b st) Reply.Activated (server.activate n h.path b st t.server) (activate_own n h.path b st t.server)
-  request_left h (ask.Invoke x b i ends o) = by_server h (ask.Invoke x b i ends o) Reply.Invoked (server.invoke n h x b i ends o t.server) (invoke_own n h x b i ends o t.server)
-  request_left h (ask.Vote i ties ends) = by_server h (ask.Vote i ties ends) Reply.Voted (server.vote n h.path i ties ends t.server) (vote_own n h.path i ties ends t.server)
+      by (Some o) is = by_naming h (ask.Confirm grants excluded included) o is Reply.Confirmed (confirm h.path grants excluded included
+          d.names o) (confirm_own h.path grants excluded included d.names o) (confirm_inc h.path grants excluded included d.names o)
+  request_left h (ask.Activate b st) =
+      by_server h (ask.Activate b st) Reply.Activated (server.activate n h.path b st t.server) (activate_own n h.path b st t.server)
+  request_left h (ask.Invoke x b i ends o) =
+      by_server h (ask.Invoke x b i ends o) Reply.Invoked (server.invoke n h x b i ends o t.server) (invoke_own n h x b i ends o t.server)
+  request_left h (ask.Vote i ties ends) =
+      by_server h (ask.Vote i ties ends) Reply.Voted (server.vote n h.path i ties ends t.server) (vote_own n h.path i ties ends t.server)
   request_left h (ask.Load x) = load (holder_of (object x) d.store)
     where
       load : (o : Option Uid) → Leaves t from (Some (h, ask.Load x)) (load_by x d.store from h t o)
-      load (Some u) = answers_left h (ask.Load x) t [] (Some (Reply.Loaded (loaded.InDoubt u))) (same_left h (ask.Load x) [] refl) (λ to z i. i)
+      load (Some u) =
+          answers_left h (ask.Load x) t [] (Some (Reply.Loaded (loaded.InDoubt u))) (same_left h (ask.Load x) [] refl) (λ to z i. i)
       load None = held (held_at (object x) d.store)
         where
           held : (o : Option ObjectState) → Leaves t from (Some (h, ask.Load x)) (load_held from h t o)
           held None = tt
-          held (Some st) = answers_left h (ask.Load x) t (Do Look ∷ []) (Some (Reply.Loaded (loaded.State st))) (same_left h (ask.Load x) (Do Look ∷ []) refl) (λ to z i. ⊎_elim (λ is. cc is) (λ j. j) i)
+          held (Some st) = answers_left h (ask.Load x) t (Do Look ∷ []) (Some (Reply.Loaded (loaded.State st)))
+              (same_left h (ask.Load x) (Do Look ∷ []) refl) (λ to z i. ⊎_elim (λ is. cc is) (λ j. j) i)
   request_left h (ask.Prepare states) = by (is_prepared (actor h.path) d.store)
     where
       looked : (o : Option Reply) → Leaves t from (Some (h, ask.Prepare states)) (sends_answer from h t (Do Look ∷ []) o)
-      looked o = answers_left h (ask.Prepare states) t (Do Look ∷ []) o (same_left h (ask.Prepare states) (Do Look ∷ []) refl) (λ to z i. ⊎_elim (λ is. cc is) (λ j. j) i)
+      looked o = answers_left h (ask.Prepare states) t (Do Look ∷ []) o (same_left h (ask.Prepare states) (Do Look ∷ []) refl)
+          (λ to z i. ⊎_elim (λ is. cc is) (λ j. j) i)
 
       new : (p : Prep) → Leaves t from (Some (h, ask.Prepare states)) (prepare_by n states from h t p)
-      new Ready = answers_left h (ask.Prepare states) t (Do Look ∷ Do (Prepare role.Store (actor h.path) states) ∷ Say (body.Prepared n (actor h.path) role.Store) ∷ []) (Some (Reply.Prepared prepared.Yes)) (same_left h (ask.Prepare states) _ refl)
+      new Ready = answers_left h (ask.Prepare states) t (Do Look ∷ Do (Prepare role.Store (actor h.path) states) ∷ Say
+          (body.Prepared n (actor h.path) role.Store) ∷ []) (Some (Reply.Prepared prepared.Yes)) (same_left h (ask.Prepare states) _ refl)
           (λ to z i. ⊎_elim (λ is. cc is) (λ j. ⊎_elim (λ is. cc is) (λ k. ⊎_elim (λ is. cc is) (λ l. l) k) j) i)
       new (Already u) = tt
       new (Old u v) = looked (Some (Reply.Prepared (prepared.Old u.num v)))
       new (InDoubt u holder) = looked (Some (Reply.Prepared (prepared.InDoubt u.num holder)))
 
-      by : (b : Bool) → Leaves t from (Some (h, ask.Prepare states)) (cond b (sends_answer from h t [] (Some (Reply.Prepared prepared.Yes))) (prepare_by n states from h t (prepare_answer (actor h.path) states d.store)))
-      by true = answers_left h (ask.Prepare states) t [] (Some (Reply.Prepared prepared.Yes)) (same_left h (ask.Prepare states) [] refl) (λ to z i. i)
+      by : (b : Bool) → Leaves t from (Some (h, ask.Prepare states)) (cond b (sends_answer from h t []
+          (Some (Reply.Prepared prepared.Yes))) (prepare_by n states from h t (prepare_answer (actor h.path) states d.store)))
+      by true = answers_left h (ask.Prepare states) t [] (Some (Reply.Prepared prepared.Yes)) (same_left h (ask.Prepare states) [] refl)
+          (λ to z i. i)
       by false = new (prepare_answer (actor h.path) states d.store)
 
   -- ---- other messages
 
-  sent_both : (es fs : List Effect) (to : ℕ) (z : Message) → list.In (Send to z) (es ++ fs) → list.In (Send to z) es ⊎ list.In (Send to z) fs
+  sent_both : (es fs : List Effect) (to : ℕ) (z : Message) → list.In (Send to z) (es ++ fs) →
+      list.In (Send to z) es ⊎ list.In (Send to z) fs
   sent_both [] fs to z i = inr i
   sent_both (e ∷ es) fs to z (inl is) = inl (inl is)
   sent_both (e ∷ es) fs to z (inr i) = elim (sent_both es fs to z i) [ inl j ↦ inl (inr j) | inr j ↦ inr j ]
@@ -267,11 +310,14 @@ module _ (n : ℕ) (d : Disk) (t : Parts) (from : ℕ) where
       coord = refl;
       place = place t.naming;
       inc = inc t.naming refl;
-      plain = all_both leaves ((stores ++ names) ++ servers) acks (all_both leaves (stores ++ names) servers (all_both leaves stores names (stores_plain (is_prepared u d.store) e) (names_plain t.naming)) (leave_by (is_server_effect n) (server_leaves n) servers (ends_own n ends t.server))) (acks_plain ack);
+      plain = all_both leaves ((stores ++ names) ++ servers) acks (all_both leaves (stores ++ names) servers
+          (all_both leaves stores names (stores_plain (is_prepared u d.store) e) (names_plain t.naming))
+          (leave_by (is_server_effect n) (server_leaves n) servers (ends_own n ends t.server))) (acks_plain ack);
     },
     (λ to z i. ⊎_elim
         (λ j. ⊎_elim
-        (λ k. ⊎_elim (λ l. absurd (stores_none (is_prepared u d.store) e to z l)) (λ l. absurd (names_none t.naming to z l)) (sent_both stores names to z k))
+        (λ k. ⊎_elim (λ l. absurd (stores_none (is_prepared u d.store) e to z l)) (λ l. absurd (names_none t.naming to z l))
+        (sent_both stores names to z k))
         (λ k. absurd (none_in (is_server_effect n) (λ q y. refl) servers (ends_own n ends t.server) to z k))
         (sent_both (stores ++ names) servers to z j))
         (λ j. acks_are ack to z j)
@@ -294,11 +340,13 @@ module _ (n : ℕ) (d : Disk) (t : Parts) (from : ℕ) where
       place None = refl
       place (Some m) = refl
 
-      inc : (o : Option Naming) → t.naming ≡ o → (m : Naming) → (let r = naming_told u e d.names o in r.part) ≡ Some m → (k : Naming) × (t.naming ≡ Some k) × (m.inc ≡ k.inc)
+      inc : (o : Option Naming) → t.naming ≡ o → (m : Naming) → (let r = naming_told u e d.names o in r.part) ≡ Some m →
+          (k : Naming) × (t.naming ≡ Some k) × (m.inc ≡ k.inc)
       inc None is m at = absurd (cc at)
       inc (Some k) is m at = (k, is, ap (λ (z : Naming). z.inc) (same at) ∙ told_inc u e d.names k)
         where
-          same : ◌≡◌ {A = Option Naming} (Some (let r = naming.told u e d.names k in r.part)) (Some m) → m ≡ (let r = naming.told u e d.names k in r.part)
+          same : ◌≡◌ {A = Option Naming} (Some (let r = naming.told u e d.names k in r.part)) (Some m) →
+              m ≡ (let r = naming.told u e d.names k in r.part)
           same q = sym (cc q)
 
       stores_plain : (b : Bool) (f : End) → AreAll leaves (cond b (end_states n u f) [])
@@ -317,7 +365,8 @@ module _ (n : ℕ) (d : Disk) (t : Parts) (from : ℕ) where
 
       names_none : (o : Option Naming) (to : ℕ) (z : Message) → list.In (Send to z) (let r = naming_told u e d.names o in r.outs) → ⊥
       names_none None to z i = i
-      names_none (Some m) to z i = none_in is_naming_effect (λ q y. refl) (let r = naming.told u e d.names m in r.outs) (told_own u e d.names m) to z i
+      names_none (Some m) to z i =
+          none_in is_naming_effect (λ q y. refl) (let r = naming.told u e d.names m in r.outs) (told_own u e d.names m) to z i
 
       acks_plain : (b : Bool) → AreAll leaves (ack_told from u b)
       acks_plain true = refl
@@ -345,7 +394,8 @@ module _ (n : ℕ) (d : Disk) (t : Parts) (from : ℕ) where
       place None = refl
       place (Some m) = refl
 
-      same : (o : Option Naming) → t.naming ≡ o → (m : Naming) → naming_hello node inc o ≡ Some m → (k : Naming) × (t.naming ≡ Some k) × (m.inc ≡ k.inc)
+      same : (o : Option Naming) → t.naming ≡ o → (m : Naming) → naming_hello node inc o ≡ Some m →
+          (k : Naming) × (t.naming ≡ Some k) × (m.inc ≡ k.inc)
       same None is m at = absurd (cc at)
       same (Some k) is m at = (k, is, ap (λ (z : Naming). z.inc) (its at))
         where
@@ -384,7 +434,10 @@ module _ (n : ℕ) (d : Disk) (t : Parts) (from : ℕ) where
 
   -- a request to naming is void without it
   pub void_without : (h : Head) (a : Ask) → is_for_naming a ≡ true → t.naming ≡ None → serve n d t from h a ≡ Void []
-  void_without h (ask.Bind x include avoid) mine none = ap (if_naming (λ q. served from h (with_naming t) Reply.Bound (naming.bind h.path x include avoid d.names q))) none
-  void_without h (ask.Record x b i g) mine none = ap (if_naming (λ q. served from h (with_naming t) Reply.Noted (naming.note h.path x b i g q))) none
-  void_without h (ask.Confirm grants excluded included) mine none = ap (if_naming (λ q. served from h (with_naming t) Reply.Confirmed (confirm h.path grants excluded included d.names q))) none
+  void_without h (ask.Bind x include avoid) mine none =
+      ap (if_naming (λ q. served from h (with_naming t) Reply.Bound (naming.bind h.path x include avoid d.names q))) none
+  void_without h (ask.Record x b i g) mine none =
+      ap (if_naming (λ q. served from h (with_naming t) Reply.Noted (naming.note h.path x b i g q))) none
+  void_without h (ask.Confirm grants excluded included) mine none =
+      ap (if_naming (λ q. served from h (with_naming t) Reply.Confirmed (confirm h.path grants excluded included d.names q))) none
   void_without h _ mine none = absurd (cc mine)

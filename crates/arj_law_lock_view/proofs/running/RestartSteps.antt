@@ -1,36 +1,19 @@
 -- A node restarts: who was decided has its line, and its server and naming start anew in the machine.
-use Rattle.std.proofs.Common.{◌≡◌, ◌≢◌, ◌∙◌, ◌+◌, ℕ, List, [], ◌∷◌, Bool, true, false, Option, Some, None, refl, sym, ap, subst, inr, ⊎_elim, arith, length, Contains}
-use Rattle.std.proofs.lemmas.List.{length-append}
-use Rattle.arj_lock.proofs.Members.{in_from, in_to}
-use Rattle.arj_protocol.specs.Words.{Body, Kind, Uid, is_on, uids_of}
-use Rattle.arj_protocol.specs.Words.body
-use Rattle.arj_protocol.specs.Words.ending
-use Rattle.arj_protocol.specs.Words.kind
-use Rattle.arj_protocol.specs.Effect.{Disk}
-use Rattle.arj_protocol.specs.Tree.{Branch, branch_of}
-use Rattle.arj_law_lock.specs.machine.Actions.{Act, In, Root, is_action, is_top, on, root, same}
-use Rattle.arj_law_lock.specs.machine.Machine.{Run}
-use Rattle.arj_law_lock.specs.machine.State as state
-use Rattle.arj_law_lock.specs.machine.State.{State}
-use Rattle.arj_law_lock.proofs.machine.Paths.{by_cases, differ, on_base, root_is, same_is, top_action}
-use Rattle.arj_law_parts.specs.parts.Actions.{Action, act_of}
-use Rattle.arj_law_parts.specs.parts.Messages.{IsTopAction}
-use Rattle.arj_law_parts.specs.moves.Seen.{said}
-use Rattle.arj_promise.specs.Runs.{Seen}
-use Rattle.arj_law_lock_view.specs.view.Acting.{OnlyActed}
-use Rattle.arj_law_lock_view.specs.view.Actions.{IsIdle, IsPlaced}
-use Rattle.arj_law_lock_view.specs.view.Begins.{IsUntouched}
-use Rattle.arj_law_lock_view.specs.view.Ending.{ChangesOne, committed_at}
-use Rattle.arj_law_lock_view.specs.view.Going.{Goes, NobodyConfirmed}
-use Rattle.arj_law_lock_view.specs.view.Stops.{HasStopped}
-use Rattle.arj_law_lock_view.specs.view.Telling.{AreOneTree, HasEnded, View}
+use Rattle.arj_law_parts.proofs.Words
+use Words.{◌≡◌, ◌≢◌, ◌∙◌, ◌+◌, ℕ, List, [], ◌∷◌, Bool, true, false, Option, Some, None, refl, sym, ap, subst, inr, ⊎_elim, arith, length}
+use Words.{Contains, length-append, in_from, in_to, Body, Kind, Uid, is_on, uids_of, Disk, Branch, branch_of, Seen}
+use Words.body
+use Words.ending
+use Words.kind
+use Rattle.arj_law_lock_view.proofs.Terms
+use Terms.{Act, In, Root, is_action, is_top, on, root, same, Run, State, by_cases, differ, on_base, root_is, same_is, top_action, Action}
+use Terms.{act_of, IsTopAction, said, OnlyActed, IsIdle, IsPlaced, IsUntouched, ChangesOne, committed_at, Goes, NobodyConfirmed, HasStopped}
+use Terms.{AreOneTree, HasEnded, View, Fixed, family_of, view_of, IsFresh, IsUnbegun, SeesDown}
+use Terms.machine as state
+use Rattle.arj_law_lock_view.proofs.running
+use running.{MoveSteps.memory_acted, MoveSteps.nothing_on, TieSteps.IsTiedNow, TieSteps.tied_found, TopSteps.path_begun}
+use running.OtherSteps.{SeesOthers, committed_on, others_go, past_on, reached_of, said_others}
 use Rattle.arj_law_lock_view.proofs.view.StopSteps.{records_are_found}
-use Rattle.arj_law_lock_view.specs.running.Fixed.{Fixed, family_of, view_of}
-use Rattle.arj_law_lock_view.specs.running.Sees.{IsFresh, IsUnbegun, SeesDown}
-use Rattle.arj_law_lock_view.proofs.running.MoveSteps.{memory_acted, nothing_on}
-use Rattle.arj_law_lock_view.proofs.running.OtherSteps.{SeesOthers, committed_on, others_go, past_on, reached_of, said_others}
-use Rattle.arj_law_lock_view.proofs.running.TieSteps.{IsTiedNow, tied_found}
-use Rattle.arj_law_lock_view.proofs.running.TopSteps.{path_begun}
 
 unserial_top : (a : Act) (k : Kind) → IsPlaced a k → is_top a ≡ true → k ≢ kind.Serial
 unserial_top a k placed top serial = differ (top_action a top) (subst (IsPlaced a) serial placed)
@@ -41,7 +24,8 @@ module _ (f : Fixed) (x : ℕ) (begun : List Action) (k : ℕ) (whole : AreOneTr
 
   -- ---- a record that is found
 
-  module _ (S : State) (d : Disk) (w : Uid) (M : Seen) (e : ℕ) (others : SeesOthers f x begun k S M) (s : SeesDown v S d) (its : s.last ≡ Some w) (top : IsTopAction begun w) where
+  module _ (S : State) (d : Disk) (w : Uid) (M : Seen) (e : ℕ) (others : SeesOthers f x begun k S M) (s : SeesDown v S d)
+      (its : s.last ≡ Some w) (top : IsTopAction begun w) where
     pub stopped : HasStopped f.act s.tree (Some w) S
     stopped = subst (λ (o : Option Uid). HasStopped f.act s.tree o S) its s.stopped
 
@@ -60,7 +44,8 @@ module _ (f : Fixed) (x : ℕ) (begun : List Action) (k : ℕ) (whole : AreOneTr
     abbrev N : Seen
     N = said e (line ∷ []) M
 
-    pub g : Goes S (λ T. HasStopped f.act s.tree None T × OnlyActed (root (f.act w)) S T × (T.now ≡ (length M.lines + 1) + 1) × ((T.action (f.act w)).stage ≡ 3) × ChangesOne (f.act w) (committed_at (length M.lines + 1) (S.action (f.act w))) S T)
+    pub g : Goes S (λ T. HasStopped f.act s.tree None T × OnlyActed (root (f.act w)) S T × (T.now ≡ (length M.lines + 1) + 1)
+        × ((T.action (f.act w)).stage ≡ 3) × ChangesOne (f.act w) (committed_at (length M.lines + 1) (S.action (f.act w))) S T)
     g = records_are_found f.act s.tree w (length M.lines + 1) S stopped others.now
 
     abbrev T : State
@@ -79,7 +64,8 @@ module _ (f : Fixed) (x : ℕ) (begun : List Action) (k : ℕ) (whole : AreOneTr
     untouched : (u : Uid) → IsUnbegun begun u → T.action (f.act u) ≡ S.action (f.act u)
     untouched u un = ⊎_elim
         (λ acts. changes.others (f.act u) acts (other (same (f.act u) (f.act w)) refl))
-        (λ isnt. only.others (f.act u) (λ home. (let up = above isnt home in let b = path_begun begun whole.begun its_action (in_from its_action begun top.1) u up in un b.0 (in_to b.0 begun b.1) b.2)))
+        (λ isnt. only.others (f.act u) (λ home. (let up = above isnt home in
+        let b = path_begun begun whole.begun its_action (in_from its_action begun top.1) u up in un b.0 (in_to b.0 begun b.1) b.2)))
         (by_cases (is_action (f.act u)))
       where
         other : (b : Bool) → same (f.act u) (f.act w) ≡ b → b ≡ false
@@ -89,7 +75,8 @@ module _ (f : Fixed) (x : ℕ) (begun : List Action) (k : ℕ) (whole : AreOneTr
         above : is_action (f.act u) ≡ false → root (f.act u) ≡ root (f.act w) → is_on (uids_of its_action.path) u ≡ true
         above isnt home =
             let stands : f.act u ≡ Root (root (f.act w)) = root_is (f.act u) isnt ∙ ap Root home in
-            ap (λ us. is_on us u) (sym (whole.agree its_action top.1) ∙ ap f.paths top.2) ∙ sym (let l = whole.alike in l.above w u) ∙ ap (on (f.act w)) stands ∙ on_base (f.act w)
+            ap (λ us. is_on us u) (sym (whole.agree its_action top.1) ∙ ap f.paths top.2) ∙ sym (let l = whole.alike in l.above w u)
+            ∙ ap (on (f.act w)) stands ∙ on_base (f.act w)
 
     fresh_found : IsFresh f begun T
     fresh_found = (let fresh = others.fresh in record {
@@ -104,8 +91,10 @@ module _ (f : Fixed) (x : ℕ) (begun : List Action) (k : ℕ) (whole : AreOneTr
       });
     })
       where
-        same_in : (n : ℕ) → ((a : Action) → Contains begun a → root (f.act (act_of a)) ≡ n → ⊥) → (a : Act) → root a ≡ n → T.action a ≡ S.action a
-        same_in n none a home = only.others a (λ same_unit. none its_action top.1 (ap (λ (z : Uid). root (f.act z)) top.2 ∙ sym same_unit ∙ home))
+        same_in : (n : ℕ) → ((a : Action) → Contains begun a → root (f.act (act_of a)) ≡ n → ⊥) → (a : Act) → root a ≡ n →
+            T.action a ≡ S.action a
+        same_in n none a home =
+            only.others a (λ same_unit. none its_action top.1 (ap (λ (z : Uid). root (f.act z)) top.2 ∙ sym same_unit ∙ home))
 
     pub nobody_found : NobodyConfirmed S T
     nobody_found = ap (λ (z : State). z.confirmed) only.rest
@@ -113,12 +102,15 @@ module _ (f : Fixed) (x : ℕ) (begun : List Action) (k : ℕ) (whole : AreOneTr
     pub others_found : SeesOthers f x begun k T N
     others_found =
         let o = said_others f x begun k e (line ∷ []) S M others in
-        others_go f x begun k S T N o g.run (λ elsewhere. nobody_found) (λ j disk live other seen_there. memory_acted S T (reached_of f x begun k S N o) g.run v w whole.alike (s.home w branch found) only j disk live other seen_there) fresh_found
+        others_go f x begun k S T N o g.run (λ elsewhere. nobody_found) (λ j disk live other seen_there. memory_acted S T
+        (reached_of f x begun k S N o) g.run v w whole.alike (s.home w branch found) only j disk live other seen_there) fresh_found
         (let h = g.holds.2 in let l : length N.lines ≡ length M.lines + 1 = length-append M.lines _ in omega (arith, h, l))
 
     -- the journal is tied with the line
     pub tied_record : IsTiedNow f x begun S M.lines → IsTiedNow f x begun T N.lines
-    tied_record now = tied_found f x begun e k w S T M.lines (ap (λ (z : State). z.initial) only.rest) (ap (λ (z : State). z.calls) only.rest, ap (λ (z : State). z.includes) only.rest) (let h = g.holds.2 in omega (arith, h)) (let two = (stopped.top w refl).3 in omega (arith, two)) changes now
+    tied_record now = tied_found f x begun e k w S T M.lines (ap (λ (z : State). z.initial) only.rest)
+        (ap (λ (z : State). z.calls) only.rest, ap (λ (z : State). z.includes) only.rest) (let h = g.holds.2 in
+        omega (arith, h)) (let two = (stopped.top w refl).3 in omega (arith, two)) changes now
 
     pub run_record : Run S T
     run_record = g.run
@@ -129,7 +121,8 @@ module _ (f : Fixed) (x : ℕ) (begun : List Action) (k : ℕ) (whole : AreOneTr
       action = its_action;
       begun = top.1;
       of = top.2;
-      unserial = unserial_top (f.act (act_of its_action)) its_action.kind (whole.placed its_action top.1) (ap (λ (z : Uid). is_top (f.act z)) top.2 ∙ is_top_w);
+      unserial = unserial_top (f.act (act_of its_action)) its_action.kind (whole.placed its_action top.1)
+          (ap (λ (z : Uid). is_top (f.act z)) top.2 ∙ is_top_w);
       committed = g.holds.3;
       over = λ plain. ⊎_elim (λ h. absurd (cc h.1)) (λ three. three) ((g.holds.0).units w branch found);
     }
@@ -145,7 +138,8 @@ module _ (f : Fixed) (x : ℕ) (begun : List Action) (k : ℕ) (whole : AreOneTr
         decided = λ u is. absurd (cc is);
         home = s.home;
         past = past_on S T only.ended v s.tree s.past;
-        records = λ u i there. inr (⊎_elim (λ is. subst (λ (z : Uid). HasEnded v T z ending.Commit) (one_last u is) committed_found) (λ so. committed_on S T only.ended v u so) (s.records u i there));
+        records = λ u i there. inr (⊎_elim (λ is. subst (λ (z : Uid). HasEnded v T z ending.Commit) (one_last u is) committed_found)
+            (λ so. committed_on S T only.ended v u so) (s.records u i there));
       },
       refl,
     )

@@ -1,43 +1,19 @@
 -- A node is up again: its server and its naming are new in the machine, its coordinator has nothing.
-use Rattle.std.proofs.Common.{◌≡◌, ◌≤◌, ◌∙◌, ◌+◌, ◌==◌, ℕ, List, [], Bool, true, false, cond, eqb-true, Option, Some, None, refl, sym, ap, subst, inr, ⊎_elim, arith, length}
-use Rattle.std.specs.Prelude.{is_some}
-use Rattle.arj_protocol.specs.Words.{Message, Uid}
-use Rattle.arj_protocol.specs.Words.message
-use Rattle.arj_protocol.specs.Confirm.{recovered_naming}
-use Rattle.arj_protocol.specs.Coord.{Doing, doing_of, new_coord}
-use Rattle.arj_protocol.specs.Effect.{Disk}
-use Rattle.arj_protocol.specs.Named.{Named}
-use Rattle.arj_protocol.specs.Naming.{Naming}
-use Rattle.arj_protocol.specs.Order.{at_number}
-use Rattle.arj_protocol.specs.Server.{new_server}
-use Rattle.arj_protocol.specs.Step.{naming_at, parts_in}
-use Rattle.arj_protocol.specs.Tree.{Branch, branch_of, new_tree}
-use Rattle.arj_law_lock.specs.machine.Actions.{Act, same}
-use Rattle.arj_law_lock.specs.machine.Machine.{Run}
-use Rattle.arj_law_lock.specs.machine.State as state
-use Rattle.arj_law_lock.specs.machine.State.{State}
-use Rattle.arj_law_lock.proofs.machine.Order.{go_on}
-use Rattle.arj_law_parts.specs.parts.Actions.{Action, act_of}
-use Rattle.arj_law_parts.proofs.parts.GoodCoords.{doing_by}
-use Rattle.arj_law_parts.proofs.parts.GoodTrees.{found_by, place_in}
-use Rattle.arj_promise.specs.Runs.{Seen}
-use Rattle.arj_law_lock_view.specs.view.Calling.{IsReached}
-use Rattle.arj_law_lock_view.specs.view.Copies.{OnlyServer}
-use Rattle.arj_law_lock_view.specs.view.Going.{Goes, NobodyConfirmed, OnlyNaming}
-use Rattle.arj_law_lock_view.specs.view.Handling.{OnlyServing}
-use Rattle.arj_law_lock_view.specs.view.Hearing.{SeesNamingIn}
-use Rattle.arj_law_lock_view.specs.view.Namings.{SeesNaming}
-use Rattle.arj_law_lock_view.specs.view.Stops.{HasStopped}
-use Rattle.arj_law_lock_view.specs.view.Telling.{Sees, View}
-use Rattle.arj_law_lock_view.proofs.view.CallInputSteps.{restarts_are_taken}
-use Rattle.arj_law_lock_view.proofs.view.ServerSteps.{servers_start}
-use Rattle.arj_law_lock_view.proofs.view.StartNamingSteps.{naming_starts}
-use Rattle.arj_law_lock_view.specs.running.Beside.{KnowsEntry}
-use Rattle.arj_law_lock_view.specs.running.Fixed.{Fixed, view_of}
-use Rattle.arj_law_lock_view.specs.running.Sees.{ArePast, IsPast, SeesDown, SeesUp}
-use Rattle.arj_law_lock_view.proofs.running.MoveSteps.{action_is, action_named, memory_named, memory_serving, naming_is, nothing_on, sees_named}
-use Rattle.arj_law_lock_view.proofs.running.TieSteps.{IsMoved, moved_named, moved_serving, moved_then}
-use Rattle.arj_law_lock_view.proofs.running.OtherSteps.{SeesOthers, fresh_named, fresh_on, now_named, others_go, past_on, reached_of, records_on}
+use Rattle.arj_law_parts.proofs.Words
+use Words.{◌≡◌, ◌≤◌, ◌∙◌, ◌+◌, ◌==◌, ℕ, List, [], Bool, true, false, cond, eqb-true, Option, Some, None, refl, sym, ap, subst, inr, ⊎_elim}
+use Words.{arith, length, is_some, Message, Uid, recovered_naming, Doing, doing_of, new_coord, Disk, Named, Naming, at_number, new_server}
+use Words.{naming_at, parts_in, Branch, branch_of, new_tree, Seen}
+use Words.message
+use Rattle.arj_law_lock_view.proofs.Terms
+use Terms.{Act, same, Run, State, go_on, Action, act_of, doing_by, found_by, place_in, IsReached, OnlyServer, Goes, NobodyConfirmed}
+use Terms.{OnlyNaming, OnlyServing, SeesNamingIn, SeesNaming, HasStopped, Sees, View, KnowsEntry, Fixed, view_of, ArePast, IsPast, SeesDown}
+use Terms.{SeesUp}
+use Terms.machine as state
+use Rattle.arj_law_lock_view.proofs.running
+use running.MoveSteps.{action_is, action_named, memory_named, memory_serving, naming_is, nothing_on, sees_named}
+use running.OtherSteps.{SeesOthers, fresh_named, fresh_on, now_named, others_go, past_on, reached_of, records_on}
+use running.TieSteps.{IsMoved, moved_named, moved_serving, moved_then}
+use Rattle.arj_law_lock_view.proofs.view.{CallInputSteps.restarts_are_taken, ServerSteps.servers_start, StartNamingSteps.naming_starts}
 
 -- a server that starts changes as one that takes a message
 pub serving_of : (v : View) (m : Message) (S T : State) → OnlyServer v.node S T → OnlyServing v m S T
@@ -86,14 +62,16 @@ module _ (f : Fixed) (x : ℕ) (begun : List Action) (k : ℕ) where
     pub others : SeesOthers f x begun k T M
     pub up : SeesUp v T (record d { inc = d.inc + 1 }) (parts_in k (d.inc + 1) d)
 
-  module _ (S : State) (d : Disk) (M : Seen) (others : SeesOthers f x begun k S M) (s : SeesDown v S d) (none : s.last ≡ None) (entry : KnowsEntry x k d) where
+  module _ (S : State) (d : Disk) (M : Seen) (others : SeesOthers f x begun k S M) (s : SeesDown v S d) (none : s.last ≡ None)
+      (entry : KnowsEntry x k d) where
     abbrev inc : ℕ
     inc = d.inc + 1
 
     g : Goes S (λ T. Sees v (new_server inc) T × OnlyServer v.node S T)
     g = servers_start v d.inc inc S (omega arith) s.server
 
-    module _ (behind_server : State) (run_serving : Run S behind_server) (server_behind : Sees v (new_server inc) behind_server) (only : OnlyServer v.node S behind_server) where
+    module _ (behind_server : State) (run_serving : Run S behind_server) (server_behind : Sees v (new_server inc) behind_server)
+        (only : OnlyServer v.node S behind_server) where
       abbrev m : Message
       m = message.Hello (record { node = k; inc = inc })
 
@@ -104,14 +82,17 @@ module _ (f : Fixed) (x : ℕ) (begun : List Action) (k : ℕ) where
       nobody_behind = ap (λ (z : State). z.confirmed) only.rest
 
       others_behind : SeesOthers f x begun k behind_server M
-      others_behind = others_go f x begun k S behind_server M others run_serving (λ elsewhere. nobody_behind) (λ j disk live other seen_there. memory_serving v m S behind_server serving (view_of f x begun j) disk live other seen_there)
-          (fresh_on f begun S behind_server (action_is v m S behind_server serving) (ap (λ (z : State). z.kept) only.rest) (ap (λ (z : State). z.calls) only.rest) (ap (λ (z : State). z.includes) only.rest) others.fresh)
+      others_behind = others_go f x begun k S behind_server M others run_serving (λ elsewhere. nobody_behind)
+          (λ j disk live other seen_there. memory_serving v m S behind_server serving (view_of f x begun j) disk live other seen_there)
+          (fresh_on f begun S behind_server (action_is v m S behind_server serving) (ap (λ (z : State). z.kept) only.rest)
+          (ap (λ (z : State). z.calls) only.rest) (ap (λ (z : State). z.includes) only.rest) others.fresh)
           (let o = others.now in let e : behind_server.now ≡ S.now = ap (λ (z : State). z.now) only.rest in omega (arith, o, e))
 
       reached_behind : IsReached behind_server
       reached_behind = reached_of f x begun k behind_server M others_behind
 
-      up_with : (T : State) → T.action ≡ S.action → Sees v (new_server inc) T → SeesNamingIn v T (naming_at k inc d.names) → SeesUp v T (record d { inc = inc }) (parts_in k inc d)
+      up_with : (T : State) → T.action ≡ S.action → Sees v (new_server inc) T → SeesNamingIn v T (naming_at k inc d.names) →
+          SeesUp v T (record d { inc = inc }) (parts_in k inc d)
       up_with T same server naming = record {
         server = server;
         coord = restarts_are_taken f.act f.code x k inc d.intents T;
@@ -120,7 +101,8 @@ module _ (f : Fixed) (x : ℕ) (begun : List Action) (k : ℕ) where
         place = its_place (k == 1);
         home = λ u b there. absurd (no_branch k inc u b there);
         past = past_on S T ends v (new_tree k inc) (past_all S d s none inc);
-        records = records_on S T ends v None d.intents (λ u i there. inr (⊎_elim (λ is. absurd (let bad : None ≡ Some u = sym none ∙ is in cc bad)) (λ so. so) (s.records u i there)));
+        records = records_on S T ends v None d.intents
+            (λ u i there. inr (⊎_elim (λ is. absurd (let bad : None ≡ Some u = sym none ∙ is in cc bad)) (λ so. so) (s.records u i there)));
       }
         where
           ends : (a : Act) → 3 ≤ (S.action a).stage → T.action a ≡ S.action a
@@ -138,21 +120,40 @@ module _ (f : Fixed) (x : ℕ) (begun : List Action) (k : ℕ) where
           its_inc false n is = absurd (cc is)
 
       -- naming starts at node 1
-      named : (one : (k == 1) ≡ true) (behind_naming : State) → Run behind_server behind_naming → SeesNaming v (recovered_naming inc d.names) behind_naming → OnlyNaming behind_server behind_naming → NobodyConfirmed behind_server behind_naming → HasStarted S d M behind_naming
+      named : (one : (k == 1) ≡ true) (behind_naming : State) → Run behind_server behind_naming →
+          SeesNaming v (recovered_naming inc d.names) behind_naming → OnlyNaming behind_server behind_naming →
+          NobodyConfirmed behind_server behind_naming → HasStarted S d M behind_naming
       named one behind_naming run seen_naming only_named nobody = record {
-        moved = moved_then S behind_server behind_naming (moved_serving v m S behind_server serving) (moved_named behind_server behind_naming only_named);
+        moved = moved_then S behind_server behind_naming (moved_serving v m S behind_server serving)
+            (moved_named behind_server behind_naming only_named);
         run = go_on run_serving run;
         nobody = nobody ∙ nobody_behind;
-        others = others_go f x begun k behind_server behind_naming M others_behind run (λ elsewhere. nobody) (λ j disk live other seen_there. memory_named behind_server behind_naming reached_behind run only_named (view_of f x begun j) disk live (λ its. other (its ∙ sym (eqb-true k 1 one))) seen_there) (fresh_named f begun behind_server behind_naming only_named others_behind.fresh) (now_named behind_server behind_naming (length M.lines) only_named others_behind.now);
-        up = up_with behind_naming (action_named behind_server behind_naming reached_behind run only_named ∙ action_is v m S behind_server serving) (sees_named behind_server behind_naming reached_behind run only_named v (parts_in k inc d) server_behind) (subst (λ (b : Bool). SeesNamingIn v behind_naming (cond b (Some (recovered_naming inc d.names)) None)) (sym one) seen_naming);
+        others = others_go f x begun k behind_server behind_naming M others_behind run (λ elsewhere. nobody)
+            (λ j disk live other seen_there. memory_named behind_server behind_naming reached_behind run only_named (view_of f x begun j)
+            disk live (λ its. other (its ∙ sym (eqb-true k 1 one))) seen_there) (fresh_named f begun behind_server behind_naming only_named
+            others_behind.fresh) (now_named behind_server behind_naming (length M.lines) only_named others_behind.now);
+        up = up_with behind_naming (action_named behind_server behind_naming reached_behind run only_named ∙ action_is v m S behind_server
+            serving) (sees_named behind_server behind_naming reached_behind run only_named v (parts_in k inc d) server_behind)
+            (subst (λ (b : Bool). SeesNamingIn v behind_naming (cond b (Some (recovered_naming inc d.names)) None)) (sym one) seen_naming);
       }
 
       starts : (b : Bool) → (k == 1) ≡ b → (T : State) × HasStarted S d M T
-      starts false is = (behind_server, record { moved = moved_serving v m S behind_server serving; run = run_serving; nobody = nobody_behind; others = others_behind; up = up_with behind_server (action_is v m S behind_server serving) server_behind (subst (λ (b : Bool). SeesNamingIn v behind_server (cond b (Some (recovered_naming inc d.names)) None)) (sym is) tt) })
+      starts false is = (
+        behind_server,
+        record {
+          moved = moved_serving v m S behind_server serving;
+          run = run_serving;
+          nobody = nobody_behind;
+          others = others_behind;
+          up = up_with behind_server (action_is v m S behind_server serving) server_behind
+              (subst (λ (b : Bool). SeesNamingIn v behind_server (cond b (Some (recovered_naming inc d.names)) None)) (sym is) tt);
+        },
+      )
       starts true is =
           let one : k ≡ 1 = eqb-true k 1 is in
           let o = there (at_number x (let n = recovered_naming inc d.names in n.objects)) (entry one inc) in
-          let h = naming_starts v d.inc inc d.names o.0 behind_server (omega arith) o.1 (nothing_on d.inc S behind_server (naming_is v m S behind_server serving) (s.naming one)) in
+          let h = naming_starts v d.inc inc d.names o.0 behind_server (omega arith) o.1
+          (nothing_on d.inc S behind_server (naming_is v m S behind_server serving) (s.naming one)) in
           (h.state, named is h.state h.run h.holds.0 h.holds.1 h.holds.2)
         where
           there : (o : Option Named) → is_some o ≡ true → (n : Named) × (o ≡ Some n)

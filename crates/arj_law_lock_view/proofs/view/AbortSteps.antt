@@ -1,43 +1,28 @@
 -- An action goes in the machine with all that is open below it.
-use Rattle.std.proofs.Common.{◌≡◌, ◌≢◌, ◌≤◌, ◌⊎◌, ◌∙◌, ◌==◌, ◌&&◌, ◌++◌, not, filter, ℕ, List, [], ◌∷◌, Bool, true, false, cond, length, Option, Some, None, refl, sym, ap, subst, inl, inr, ⊎_elim, is_some, arith}
-use Rattle.std.proofs.lemmas.Bool.{and_parts}
+use Rattle.arj_law_parts.proofs.Words
+use Words.{◌≡◌, ◌≢◌, ◌≤◌, ◌⊎◌, ◌∙◌, ◌==◌, ◌&&◌, ◌++◌, not, filter, ℕ, List, [], ◌∷◌, Bool, true, false, cond, length, Option, Some, None}
+use Words.{refl, sym, ap, subst, inl, inr, ⊎_elim, is_some, arith, and_parts, uid_cases, uid_same, in_filter, in_to, Uid, first_uid, is_on}
+use Words.{uid_eq, uids_of, actor, Coord, Doing, Idle, doing_of, Intent, abort_action, all_aborted, ended, Branch, Tree, at_place}
+use Words.{branch_of, ended_so, is_open_below, open_below, root_of}
+use Words.list
+use Words.ending
+use Rattle.arj_law_lock_view.proofs.Terms
+use Terms.{Act, Root, is_action, on, root, same, stay, State, by_cases, differ, on_root, root_is, same_is, Paths, GoesOn, IsGoodCoord}
+use Terms.{HasLists, on_own, path_some, in_more, over_below, placed, work_there, OnlyActed, IsPlaced, IsSteady, SeesAction, SeesActions}
+use Terms.{stage_of, Acts, AreOne, Codes, AbortsOnly, ChangesOne, IsOpenAt, KeepsActions, aborted, Goes, SeesCoord, AreAborted}
+use Terms.{AreUnitsOver}
+use Rattle.arj_law_lock.specs.machine.State.{Action}
+use Rattle.arj_law_lock_view.proofs.view
+use view.{RunSteps.goes_then, RunSteps.goes_to, TreeSteps.first_on}
+use view.ActingSteps.{abort_goes, own_root, plain_goes, unit_ends, unit_open}
+use view.OneSteps.{OnlyOne, end_changed, one_changed}
+use view.WholeSteps.{ended_roots, one_stays, units_keep_roots}
+use Rattle.arj_law_lock_view.specs.view.Stops.{AbortionsGoDown}
+use Rattle.arj_law_parts.proofs.parts
+use parts.{GoodCoords.good_abort, Truths.well_abort}
+use parts.GoodTrees.{aborted_tree, all_left, in_latest}
+use Rattle.arj_protocol.specs.Tree.{is_below}
 use Rattle.std.proofs.lemmas.List.Elements.{Contains-append_left, Contains-append_right}
-use Rattle.arj_base.proofs.Uids.{uid_cases, uid_same}
-use Rattle.arj_lock.proofs.Members as list
-use Rattle.arj_lock.proofs.Members.{in_filter, in_to}
-use Rattle.arj_protocol.specs.Words.{Uid, first_uid, is_on, uid_eq, uids_of}
-use Rattle.arj_protocol.specs.Words.ending
-use Rattle.arj_protocol.specs.Ask.{actor}
-use Rattle.arj_protocol.specs.Coord.{Coord, Doing, Idle, doing_of}
-use Rattle.arj_protocol.specs.Effect.{Intent}
-use Rattle.arj_protocol.specs.Ending.{abort_action, all_aborted, ended}
-use Rattle.arj_protocol.specs.Tree.{Branch, Tree, at_place, branch_of, ended_so, is_below, is_open_below, open_below, root_of}
-use Rattle.arj_law_lock.specs.machine.Actions.{Act, Root, is_action, on, root, same}
-use Rattle.arj_law_lock.specs.machine.Machine.{stay}
-use Rattle.arj_law_lock.specs.machine.State.{Action, State}
-use Rattle.arj_law_lock.proofs.machine.Paths.{by_cases, differ, on_root, root_is, same_is}
-use Rattle.arj_law_parts.specs.parts.Copies.{Paths}
-use Rattle.arj_law_parts.specs.parts.Claims.{GoesOn}
-use Rattle.arj_law_parts.specs.parts.Coords.{IsGoodCoord}
-use Rattle.arj_law_parts.specs.parts.Trees.{HasLists}
-use Rattle.arj_law_parts.proofs.parts.GoodCoords.{good_abort}
-use Rattle.arj_law_parts.proofs.parts.Begun.{on_own, path_some}
-use Rattle.arj_law_parts.proofs.parts.GoodTrees.{aborted_tree, all_left, in_latest, in_more, over_below, placed}
-use Rattle.arj_law_parts.proofs.parts.Truths.{well_abort}
-use Rattle.arj_law_parts.proofs.parts.TrueSteps.{work_there}
-use Rattle.arj_law_lock_view.specs.view.Acting.{OnlyActed}
-use Rattle.arj_law_lock_view.specs.view.Actions.{IsPlaced, IsSteady, SeesAction, SeesActions, stage_of}
-use Rattle.arj_law_lock_view.specs.view.Acts.{Acts, AreOne}
-use Rattle.arj_law_lock_view.specs.view.Copies.{Codes}
-use Rattle.arj_law_lock_view.specs.view.Ending.{AbortsOnly, ChangesOne, IsOpenAt, KeepsActions, aborted}
-use Rattle.arj_law_lock_view.specs.view.Going.{Goes}
-use Rattle.arj_law_lock_view.specs.view.Roots.{SeesCoord}
-use Rattle.arj_law_lock_view.specs.view.Stops.{AbortionsGoDown, AreAborted, AreUnitsOver}
-use Rattle.arj_law_lock_view.proofs.view.ActingSteps.{abort_goes, own_root, plain_goes, unit_ends, unit_open}
-use Rattle.arj_law_lock_view.proofs.view.OneSteps.{OnlyOne, end_changed, one_changed}
-use Rattle.arj_law_lock_view.proofs.view.RunSteps.{goes_then, goes_to}
-use Rattle.arj_law_lock_view.proofs.view.TreeSteps.{first_on}
-use Rattle.arj_law_lock_view.proofs.view.WholeSteps.{ended_roots, one_stays, units_keep_roots}
 
 -- ---- what changes of actions
 
@@ -76,7 +61,8 @@ module _ (act : Acts) (code : Codes) (x : ℕ) (apart : AreOne act) where
     only : OnlyActed unit S T
     now : T.now ≡ S.now
     units : (n : ℕ) → T.action (Root n) ≡ S.action (Root n)
-    was : (w : Uid) (q : Branch) → branch_of w e.tree ≡ Some q → (r : Branch) × (branch_of w c.tree ≡ Some r) × ((q ≡ r) ⊎ (q ≡ record r { ended = Some ending.Abort }))
+    was : (w : Uid) (q : Branch) → branch_of w e.tree ≡ Some q →
+        (r : Branch) × (branch_of w c.tree ≡ Some r) × ((q ≡ r) ⊎ (q ≡ record r { ended = Some ending.Abort }))
     works : (w : Uid) (d : Doing) → doing_of w c ≡ Some d → (k : Doing) × (doing_of w e ≡ Some k)
     elsewhere : (w : Uid) → (list.In w ws → ⊥) → branch_of w e.tree ≡ branch_of w c.tree
     ends : (a : Act) → is_action a ≡ true → IsGoneOr ws S a (T.action a)
@@ -96,15 +82,18 @@ module _ (act : Acts) (code : Codes) (x : ℕ) (apart : AreOne act) where
     only_one : OnlyOne c w b' d' e
     only_one = end_changed c w a.branch a.work a.there a.works ending.Abort
 
-    gone : (T : State) → SeesActions act x e T.action → OnlyActed (root (act w)) S T → T.now ≡ S.now → ((n : ℕ) → T.action (Root n) ≡ S.action (Root n)) → ((a : Act) → is_action a ≡ true → IsGoneOr (w ∷ []) S a (T.action a)) → AreGone (root (act w)) (w ∷ []) c e S T
+    gone : (T : State) → SeesActions act x e T.action → OnlyActed (root (act w)) S T → T.now ≡ S.now → ((n : ℕ) → T.action (Root n) ≡
+        S.action (Root n)) → ((a : Act) → is_action a ≡ true → IsGoneOr (w ∷ []) S a (T.action a)) → AreGone (root (act w)) (w ∷ []) c e S T
     gone T acts only now units ends = record {
-      sees = one_stays act code x c e w a.branch b' d' S T a.there (λ h. ap (ended_so ending.Abort) only_one.branch) sees only.rest acts only_one refl (ended_roots w ending.Abort c) (λ s is. absurd (cc is));
+      sees = one_stays act code x c e w a.branch b' d' S T a.there (λ h. ap (ended_so ending.Abort) only_one.branch) sees only.rest acts
+          only_one refl (ended_roots w ending.Abort c) (λ s is. absurd (cc is));
       only = only;
       now = now;
       units = units;
       was = λ v q there. ⊎_elim
           (λ (is : v ≡ w).
-          let two : ◌≡◌ {A = Option Branch} (Some b') (Some q) = sym only_one.branch ∙ ap (λ (y : Uid). branch_of y e.tree) (sym is) ∙ there in
+          let two : ◌≡◌ {A = Option Branch} (Some b') (Some q) = sym only_one.branch ∙ ap (λ (y : Uid). branch_of y e.tree) (sym is)
+          ∙ there in
           let same : b' ≡ q = cc two in
           (a.branch, ap (λ (y : Uid). branch_of y c.tree) is ∙ a.there, inr (sym same)))
           (λ (other : v ≢ w). (q, sym (only_one.branches v other) ∙ there, inl refl))
@@ -123,24 +112,38 @@ module _ (act : Acts) (code : Codes) (x : ℕ) (apart : AreOne act) where
     -- it was aborted before: the machine waits
     again : (let q = a.branch in q.ended) ≡ Some ending.Abort → SeesActions act x e S.action
     again is = one_changed c w a.branch b' d' e a.there only_one refl (λ un. absurd (cc un)) act x S.action S.action apart sees.actions
-        (λ h. let s = its_was in record { stage = s.stage ∙ (λ i. stage_of (is i) (let k = a.work in k.now)); request = s.request; waits = λ k. absurd (cc k); last = λ k. absurd (cc k); doomed = s.doomed })
+        (λ h. let s = its_was in record {
+          stage = s.stage ∙ (λ i. stage_of (is i) (let k = a.work in k.now));
+          request = s.request;
+          waits = λ k. absurd (cc k);
+          last = λ k. absurd (cc k);
+          doomed = s.doomed;
+        })
         (λ v other h. refl) (λ v q r there root_is_there un. refl) (λ n. refl)
 
     one_gone : Goes S (AreGone (root (act w)) (w ∷ []) c e S)
     one_gone = ⊎_elim
-        (λ un. goes_to (abort_goes act x c S apart sees.actions w a.branch a.work a.there a.works a.its un) (λ T h. gone T h.0 h.1 h.2.0 h.2.2 (gone_one T h.2.3)))
-        (λ is. record { state = S; run = stay; holds = gone S (again is) (acted_none (root (act w)) S) refl (λ n. refl) (λ q its. inl refl) })
+        (λ un. goes_to (abort_goes act x c S apart sees.actions w a.branch a.work a.there a.works a.its un)
+        (λ T h. gone T h.0 h.1 h.2.0 h.2.2 (gone_one T h.2.3)))
+        (λ is.
+        record { state = S; run = stay; holds = gone S (again is) (acted_none (root (act w)) S) refl (λ n. refl) (λ q its. inl refl) })
         a.left
       where
-        gone_one : (T : State) → ChangesOne (act w) (aborted (S.action (act w))) S T → (q : Act) → is_action q ≡ true → IsGoneOr (w ∷ []) S q (T.action q)
+        gone_one : (T : State) → ChangesOne (act w) (aborted (S.action (act w))) S T → (q : Act) → is_action q ≡ true →
+            IsGoneOr (w ∷ []) S q (T.action q)
         gone_one T o q its = ⊎_elim
-            (λ (is : same q (act w) ≡ true). inr (subst (λ (k : Act). T.action k ≡ aborted (S.action k)) (sym (same_is q (act w) is)) (o.one (ap is_action (sym (same_is q (act w) is)) ∙ its)), (w, inl refl, same_is q (act w) is)))
+            (λ (is : same q (act w) ≡ true). inr (
+              subst (λ (k : Act). T.action k ≡ aborted (S.action k)) (sym (same_is q (act w) is))
+                  (o.one (ap is_action (sym (same_is q (act w) is)) ∙ its)),
+              (w, inl refl, same_is q (act w) is),
+            ))
             (λ (isnt : same q (act w) ≡ false). inl (o.others q its isnt))
             (by_cases (same q (act w)))
 
   -- ---- one after another
 
-  still_may : (c : Coord) (S : State) (sees : SeesCoord act code x c S) (w v : Uid) (a : IsAbortable act c w) → IsAbortable act c v → IsAbortable act (ended w ending.Abort c) v
+  still_may : (c : Coord) (S : State) (sees : SeesCoord act code x c S) (w v : Uid) (a : IsAbortable act c w) → IsAbortable act c v →
+      IsAbortable act (ended w ending.Abort c) v
   still_may c S sees w v a may = ⊎_elim
       (λ (is : v ≡ w). record {
         branch = let q = a.branch in record q { ended = Some ending.Abort };
@@ -150,13 +153,22 @@ module _ (act : Acts) (code : Codes) (x : ℕ) (apart : AreOne act) where
         left = inr refl;
         its = may.its;
       })
-      (λ (other : v ≢ w). record { branch = may.branch; work = may.work; there = one.branches v other ∙ may.there; works = one.doings v other ∙ may.works; left = may.left; its = may.its })
+      (λ (other : v ≢ w). record {
+        branch = may.branch;
+        work = may.work;
+        there = one.branches v other ∙ may.there;
+        works = one.doings v other ∙ may.works;
+        left = may.left;
+        its = may.its;
+      })
       (uid_cases v w)
     where
-      one : OnlyOne c w (let q = a.branch in record q { ended = Some ending.Abort }) (let q = a.work in record q { now = Idle }) (ended w ending.Abort c)
+      one : OnlyOne c w (let q = a.branch in record q { ended = Some ending.Abort }) (let q = a.work in
+          record q { now = Idle }) (ended w ending.Abort c)
       one = only_one c S sees w a
 
-  both_gone : (unit : ℕ) (w : Uid) (ws : List Uid) (c d e : Coord) (S T V : State) → AreGone unit (w ∷ []) c d S T → AreGone unit ws d e T V → AreGone unit (w ∷ ws) c e S V
+  both_gone : (unit : ℕ) (w : Uid) (ws : List Uid) (c d e : Coord) (S T V : State) → AreGone unit (w ∷ []) c d S T →
+      AreGone unit ws d e T V → AreGone unit (w ∷ ws) c e S V
   both_gone unit w ws c d e S T V g h = record {
     sees = h.sees;
     only = acted_both unit S T V g.only h.only;
@@ -181,17 +193,34 @@ module _ (act : Acts) (code : Codes) (x : ℕ) (apart : AreOne act) where
       last p r q (inl is) (inr same) = inr (same ∙ ap gone_of is)
       last p r q (inr is) (inr same) = inr (same ∙ ap gone_of is)
 
-  all_gone : (ws : List Uid) (unit : ℕ) (c : Coord) (S : State) → ((w : Uid) → list.In w ws → IsAbortable act c w × (root (act w) ≡ unit)) → SeesCoord act code x c S → Goes S (AreGone unit ws c (let d = all_aborted ws c in d.part) S)
-  all_gone [] unit c S may sees = record { state = S; run = stay; holds = record { sees = sees; only = acted_none unit S; now = refl; units = λ n. refl; was = λ w q there. (q, there, inl refl); works = λ w d found. (d, found); elsewhere = λ w other. refl; ends = λ q its. inl refl } }
+  all_gone : (ws : List Uid) (unit : ℕ) (c : Coord) (S : State) → ((w : Uid) → list.In w ws → IsAbortable act c w × (root (act w) ≡ unit)) →
+      SeesCoord act code x c S → Goes S (AreGone unit ws c (let d = all_aborted ws c in d.part) S)
+  all_gone [] unit c S may sees = record {
+    state = S;
+    run = stay;
+    holds = record {
+      sees = sees;
+      only = acted_none unit S;
+      now = refl;
+      units = λ n. refl;
+      was = λ w q there. (q, there, inl refl);
+      works = λ w d found. (d, found);
+      elsewhere = λ w other. refl;
+      ends = λ q its. inl refl;
+    };
+  }
   all_gone (w ∷ ws) unit c S may sees =
       let a = may w (inl refl) in
-      goes_then (one_gone c S sees w a.0) (λ T g. goes_to (all_gone ws unit (ended w ending.Abort c) T (λ v i. (still_may c S sees w v a.0 (may v (inr i)).0, (may v (inr i)).1)) g.sees)
-      (λ V h. both_gone unit w ws c (ended w ending.Abort c) (let d = all_aborted ws (ended w ending.Abort c) in d.part) S T V (subst (λ (n : ℕ). AreGone n (w ∷ []) c (ended w ending.Abort c) S T) a.1 g) h))
+      goes_then (one_gone c S sees w a.0) (λ T g. goes_to
+      (all_gone ws unit (ended w ending.Abort c) T (λ v i. (still_may c S sees w v a.0 (may v (inr i)).0, (may v (inr i)).1)) g.sees)
+      (λ V h. both_gone unit w ws c (ended w ending.Abort c) (let d = all_aborted ws (ended w ending.Abort c) in
+      d.part) S T V (subst (λ (n : ℕ). AreGone n (w ∷ []) c (ended w ending.Abort c) S T) a.1 g) h))
 
 -- ---- what is open below an action
 
 -- a branch of the tree is found by its action
-pub branch_found : (paths : Paths) (t : Tree) (lists : HasLists paths t) (b : Branch) → list.In b t.branches → branch_of (actor b.path) t ≡ Some b
+pub branch_found : (paths : Paths) (t : Tree) (lists : HasLists paths t) (b : Branch) → list.In b t.branches →
+    branch_of (actor b.path) t ≡ Some b
 branch_found paths t lists b i = subst (λ (v : Uid). branch_of v t ≡ Some b) (sym (lists.places it b there)) there
   where
     k : (n : ℕ) × (at_place n t.branches ≡ Some b)
@@ -207,11 +236,14 @@ branch_found paths t lists b i = subst (λ (v : Uid). branch_of v t ≡ Some b) 
     there = (λ j. cond (itself t.node j && itself t.inc j) (at_place k.0 t.branches) None) ∙ k.1
 
 -- the last of a list of aborts
-aborted_last : (ws : List Uid) (u : Uid) (c : Coord) → (let d = all_aborted (ws ++ u ∷ []) c in d.part) ≡ ended u ending.Abort (let d = all_aborted ws c in d.part)
+aborted_last : (ws : List Uid) (u : Uid) (c : Coord) →
+    (let d = all_aborted (ws ++ u ∷ []) c in d.part) ≡ ended u ending.Abort (let d = all_aborted ws c in d.part)
 aborted_last [] u c = refl
 aborted_last (w ∷ ws) u c = aborted_last ws u (ended w ending.Abort c)
 
-module _ (act : Acts) (code : Codes) (paths : Paths) (x : ℕ) (c : Coord) (u : Uid) (b : Branch) (intents : List (Uid × Intent)) (S : State) (steady : IsSteady act paths c) (found : branch_of u c.tree ≡ Some b) (unended : is_some b.ended ≡ false) (units : AreUnitsOver act c.tree S) (sees : SeesCoord act code x c S) where
+module _ (act : Acts) (code : Codes) (paths : Paths) (x : ℕ) (c : Coord) (u : Uid) (b : Branch) (intents : List (Uid × Intent)) (S : State)
+    (steady : IsSteady act paths c) (found : branch_of u c.tree ≡ Some b) (unended : is_some b.ended ≡ false)
+    (units : AreUnitsOver act c.tree S) (sees : SeesCoord act code x c S) where
   abbrev pub below : List Uid
   below = open_below u c.tree
 
@@ -225,14 +257,16 @@ module _ (act : Acts) (code : Codes) (paths : Paths) (x : ℕ) (c : Coord) (u : 
   d0 = work_there c steady.works u b found
 
   -- one of them is another action of the unit, and open
-  pub is_below_it : (w : Uid) → list.In w below → (q : Branch) × (branch_of w c.tree ≡ Some q) × (is_some q.ended ≡ false) × (w ≢ u) × (is_on (paths w) u ≡ true)
+  pub is_below_it : (w : Uid) → list.In w below →
+      (q : Branch) × (branch_of w c.tree ≡ Some q) × (is_some q.ended ≡ false) × (w ≢ u) × (is_on (paths w) u ≡ true)
   is_below_it w i = ⊎_elim (λ none. absurd none) (λ f. by f.0 f.1 f.2) (in_latest w (filter (is_open_below u) c.tree.branches) [] i)
     where
       not_true : (t : Bool) → not t ≡ true → t ≡ false
       not_true true h = absurd (cc h)
       not_true false h = refl
 
-      by : (q : Branch) → list.In q (filter (is_open_below u) c.tree.branches) → actor q.path ≡ w → (q : Branch) × (branch_of w c.tree ≡ Some q) × (is_some q.ended ≡ false) × (w ≢ u) × (is_on (paths w) u ≡ true)
+      by : (q : Branch) → list.In q (filter (is_open_below u) c.tree.branches) → actor q.path ≡ w →
+          (q : Branch) × (branch_of w c.tree ≡ Some q) × (is_some q.ended ≡ false) × (w ≢ u) × (is_on (paths w) u ≡ true)
       by q j is =
           let f = in_filter (is_open_below u) q c.tree.branches j in
           let two = and_parts (is_below u q) (not (is_some q.ended)) f.1 in
@@ -258,7 +292,8 @@ module _ (act : Acts) (code : Codes) (paths : Paths) (x : ℕ) (c : Coord) (u : 
       on_u = steady.alike.above w u ∙ q.4
 
       its : is_action (act w) ≡ true
-      its = ⊎_elim (λ holds. holds) (λ isnt. absurd (q.3 (steady.alike.one w u (root_is (act w) isnt ∙ same_is (Root (root (act w))) (act u) (ap (λ (a : Act). on a (act u)) (sym (root_is (act w) isnt)) ∙ on_u))))) (by_cases (is_action (act w)))
+      its = ⊎_elim (λ holds. holds) (λ isnt. absurd (q.3 (steady.alike.one w u (root_is (act w) isnt ∙ same_is (Root (root (act w))) (act u)
+          (ap (λ (a : Act). on a (act u)) (sym (root_is (act w) isnt)) ∙ on_u))))) (by_cases (is_action (act w)))
 
   -- ---- the coordinator after it
 
@@ -269,7 +304,8 @@ module _ (act : Acts) (code : Codes) (paths : Paths) (x : ℕ) (c : Coord) (u : 
   on_E = let w = well_abort steady.actions paths steady.whole u intents c steady.good in w.on
 
   own_ended : (q : Branch) → branch_of u E.tree ≡ Some q → is_some q.ended ≡ true
-  own_ended q there = let l = all_left paths steady.whole (below ++ u ∷ []) c.tree steady.good.tree.lists in l.done u q (last_in below) (ap (branch_of u) (sym (aborted_tree (below ++ u ∷ []) c)) ∙ there)
+  own_ended q there = let l = all_left paths steady.whole (below ++ u ∷ []) c.tree steady.good.tree.lists in
+      l.done u q (last_in below) (ap (branch_of u) (sym (aborted_tree (below ++ u ∷ []) c)) ∙ there)
     where
       last_in : (ws : List Uid) → list.In u (ws ++ u ∷ [])
       last_in [] = inl refl
@@ -280,11 +316,13 @@ module _ (act : Acts) (code : Codes) (paths : Paths) (x : ℕ) (c : Coord) (u : 
 
   -- all at the action and below it has ended
   pub over_E : (w : Uid) (q : Branch) → branch_of w E.tree ≡ Some q → is_on (paths w) u ≡ true → is_some q.ended ≡ true
-  over_E w q there above = let k = still_there u b found in over_below paths steady.whole E.tree good_E.tree.lists good_E.tree.closed u k.0 k.1 (own_ended k.0 k.1) w q there above
+  over_E w q there above = let k = still_there u b found in
+      over_below paths steady.whole E.tree good_E.tree.lists good_E.tree.closed u k.0 k.1 (own_ended k.0 k.1) w q there above
 
   -- of a root's unit is whoever has it on its path
   in_unit : root_of b.path ≡ u → (w : Uid) (q : Branch) → uids_of q.path ≡ paths w → root (act w) ≡ unit → is_on (paths w) u ≡ true
-  in_unit own w q path home = ap (is_on (paths w)) (sym first_is) ∙ first_on (paths w) (subst (λ (us : List Uid). 1 ≤ length us) path (path_some q.path))
+  in_unit own w q path home =
+      ap (is_on (paths w)) (sym first_is) ∙ first_on (paths w) (subst (λ (us : List Uid). 1 ≤ length us) path (path_some q.path))
     where
       first_is : first_uid (paths w) ≡ u
       first_is = steady.alike.units w u home ∙ ap first_uid (sym (steady.good.tree.lists.paths_are u b found)) ∙ own
@@ -293,8 +331,10 @@ module _ (act : Acts) (code : Codes) (paths : Paths) (x : ℕ) (c : Coord) (u : 
   root_apart : (w : Uid) (r : Branch) → branch_of w c.tree ≡ Some r → root_of r.path ≡ w → w ≢ u → is_on (paths w) u ≡ true → ⊥
   root_apart w r there own other above =
       let home : root (act w) ≡ root (act u) = on_root (act w) (act u) (steady.alike.above w u ∙ above) in
-      let first_is : first_uid (paths u) ≡ w = sym (steady.alike.units w u home) ∙ ap first_uid (sym (steady.good.tree.lists.paths_are w r there)) ∙ own in
-      let some : 1 ≤ length (paths u) = subst (λ (us : List Uid). 1 ≤ length us) (steady.good.tree.lists.paths_are u b found) (path_some b.path) in
+      let first_is : first_uid (paths u) ≡ w = sym (steady.alike.units w u home)
+      ∙ ap first_uid (sym (steady.good.tree.lists.paths_are w r there)) ∙ own in
+      let some : 1 ≤ length (paths u) = subst (λ (us : List Uid). 1 ≤ length us) (steady.good.tree.lists.paths_are u b found)
+      (path_some b.path) in
       other (steady.whole.anti w u above (ap (is_on (paths u)) (sym first_is) ∙ first_on (paths u) some))
 
   unit_zero : (S.action (Root unit)).stage ≡ 0
@@ -313,25 +353,45 @@ module _ (act : Acts) (code : Codes) (paths : Paths) (x : ℕ) (c : Coord) (u : 
   kind_is w q (r, there, inr is) = ap (λ (v : Branch). v.kind) is
 
   abbrev Result : State → Type 0
-  Result T = SeesCoord act code x E T × OnlyActed unit S T × (T.now ≡ S.now) × AreAborted act paths c.tree u T × AreUnitsOver act E.tree T × AbortsOnly act paths c.tree u S T
+  Result T = SeesCoord act code x E T × OnlyActed unit S T × (T.now ≡ S.now) × AreAborted act paths c.tree u T × AreUnitsOver act E.tree T
+      × AbortsOnly act paths c.tree u S T
 
   -- those of a list are open at the action or below it
-  aborts_of : (ws : List Uid) → ((w : Uid) → list.In w ws → IsOpenAt act paths c.tree u (act w)) → (T V : State) → ((a : Act) → is_action a ≡ true → IsGoneOr act code x steady.alike.one ws S a (T.action a)) → KeepsActions T V → AbortsOnly act paths c.tree u S V
+  aborts_of : (ws : List Uid) → ((w : Uid) → list.In w ws → IsOpenAt act paths c.tree u (act w)) → (T V : State) → ((a : Act) →
+      is_action a ≡ true → IsGoneOr act code x steady.alike.one ws S a (T.action a)) → KeepsActions T V → AbortsOnly act paths c.tree u S V
   aborts_of ws opens T V ends keeps a its = ⊎_elim
       (λ is. inl (keeps a its ∙ is))
       (λ g. inr (keeps a its ∙ g.0, subst (IsOpenAt act paths c.tree u) (sym g.1.2) (opens g.1.0 g.1.1)))
       (ends a its)
 
   open_below_it : (w : Uid) → list.In w below → IsOpenAt act paths c.tree u (act w)
-  open_below_it w i = let q = is_below_it w i in record { uid = w; branch = q.0; there = q.1; unended = q.2; below = q.4; is = refl; listed = Contains-append_left below (u ∷ []) w (in_to w below i) }
+  open_below_it w i = let q = is_below_it w i in record {
+    uid = w;
+    branch = q.0;
+    there = q.1;
+    unended = q.2;
+    below = q.4;
+    is = refl;
+    listed = Contains-append_left below (u ∷ []) w (in_to w below i);
+  }
 
   open_there : (w : Uid) → list.In w (below ++ u ∷ []) → IsOpenAt act paths c.tree u (act w)
-  open_there w i = ⊎_elim (λ j. open_below_it w j) (λ (is : u ≡ w). subst (λ (v : Uid). IsOpenAt act paths c.tree u (act v)) is (record { uid = u; branch = b; there = found; unended = unended; below = on_itself; is = refl; listed = Contains-append_right below (u ∷ []) u (in_to u (u ∷ []) (inl refl)) })) (in_more w below u i)
+  open_there w i = ⊎_elim (λ j. open_below_it w j) (λ (is : u ≡ w). subst (λ (v : Uid). IsOpenAt act paths c.tree u (act v)) is (record {
+    uid = u;
+    branch = b;
+    there = found;
+    unended = unended;
+    below = on_itself;
+    is = refl;
+    listed = Contains-append_right below (u ∷ []) u (in_to u (u ∷ []) (inl refl));
+  })) (in_more w below u i)
     where
       on_itself : is_on (paths u) u ≡ true
-      on_itself = ap (λ (vs : List Uid). is_on vs u) (sym (steady.good.tree.lists.paths_are u b found)) ∙ ap (is_on (uids_of b.path)) (sym (steady.good.tree.lists.places u b found)) ∙ on_own b.path
+      on_itself = ap (λ (vs : List Uid). is_on vs u) (sym (steady.good.tree.lists.paths_are u b found))
+          ∙ ap (is_on (uids_of b.path)) (sym (steady.good.tree.lists.places u b found)) ∙ on_own b.path
 
-  module _ (was : (w : Uid) (q : Branch) → branch_of w E.tree ≡ Some q → Was w q) (elsewhere : (w : Uid) → w ≢ u → (list.In w below → ⊥) → branch_of w E.tree ≡ branch_of w c.tree) where
+  module _ (was : (w : Uid) (q : Branch) → branch_of w E.tree ≡ Some q → Was w q) (elsewhere : (w : Uid) → w ≢ u → (list.In w below → ⊥) →
+      branch_of w E.tree ≡ branch_of w c.tree) where
     steady_E : IsSteady act paths E
     steady_E = record {
       actions = steady.actions;
@@ -349,7 +409,8 @@ module _ (act : Acts) (code : Codes) (paths : Paths) (x : ℕ) (c : Coord) (u : 
         q = still_there w r there
 
         by : (q : Branch) → branch_of w E.tree ≡ Some q → Was w q → is_some q.ended ≡ true → (T.action (act w)).stage ≡ 4
-        by q found_q (r', there', inl is) gone = let two : ◌≡◌ {A = Option Branch} (Some r) (Some r') = sym there ∙ there' in let same : r ≡ r' = cc two in differ gone (ap (λ (v : Branch). is_some v.ended) (is ∙ sym same) ∙ un)
+        by q found_q (r', there', inl is) gone = let two : ◌≡◌ {A = Option Branch} (Some r) (Some r') = sym there ∙ there' in
+            let same : r ≡ r' = cc two in differ gone (ap (λ (v : Branch). is_some v.ended) (is ∙ sym same) ∙ un)
         by q found_q (r', there', inr is) gone =
             let d = work_there E steady_E.works w q found_q in
             let a = sees_E.actions in
@@ -362,7 +423,8 @@ module _ (act : Acts) (code : Codes) (paths : Paths) (x : ℕ) (c : Coord) (u : 
         let r = was w q there in
         let two : ◌≡◌ {A = Option Branch} (Some b) (Some r.0) = sym found ∙ ap (λ (v : Uid). branch_of v c.tree) (sym is) ∙ r.1 in
         let same : b ≡ r.0 = cc two in
-        ap (λ (v : Uid). (T.action (Root (root (act v)))).stage) is ∙ mine (ap (λ (v : Branch). root_of v.path) same ∙ ap (λ p. root_of p) (sym (path_is w q r)) ∙ own ∙ is))
+        ap (λ (v : Uid). (T.action (Root (root (act v)))).stage) is
+        ∙ mine (ap (λ (v : Branch). root_of v.path) same ∙ ap (λ p. root_of p) (sym (path_is w q r)) ∙ own ∙ is))
         (λ (other : w ≢ u).
         let r = was w q there in
         let own_before = ap (λ p. root_of p) (sym (path_is w q r)) ∙ own in
@@ -378,23 +440,50 @@ module _ (act : Acts) (code : Codes) (paths : Paths) (x : ℕ) (c : Coord) (u : 
 
     may_all : (w : Uid) → list.In w us → IsAbortable act c w × (root (act w) ≡ unit)
     may_all w i = ⊎_elim (λ j. may_go w j)
-        (λ (is : u ≡ w). (record { branch = b; work = d0.0; there = ap (λ (v : Uid). branch_of v c.tree) (sym is) ∙ found; works = ap (λ (v : Uid). doing_of v c) (sym is) ∙ d0.1; left = inl unended; its = ap (λ (v : Uid). is_action (act v)) (sym is) ∙ its }, ap (λ (v : Uid). root (act v)) (sym is)))
+        (λ (is : u ≡ w). (
+          record {
+            branch = b;
+            work = d0.0;
+            there = ap (λ (v : Uid). branch_of v c.tree) (sym is) ∙ found;
+            works = ap (λ (v : Uid). doing_of v c) (sym is) ∙ d0.1;
+            left = inl unended;
+            its = ap (λ (v : Uid). is_action (act v)) (sym is) ∙ its;
+          },
+          ap (λ (v : Uid). root (act v)) (sym is),
+        ))
         (in_more w below u i)
 
     ends_action : Goes S Result
-    ends_action = goes_then (all_gone act code x steady.alike.one us unit c S may_all sees) (λ T g. ⊎_elim (unit_too T g) (λ other. record { state = T; run = stay; holds = all T g.sees g.only g.now g.was g.elsewhere (λ own. absurd (other own)) (aborts_of us open_there T T g.ends (λ a its_one. refl)) }) (uid_cases (root_of b.path) u))
+    ends_action = goes_then (all_gone act code x steady.alike.one us unit c S may_all sees) (λ T g. ⊎_elim (unit_too T g) (λ other. record {
+      state = T;
+      run = stay;
+      holds =
+          all T g.sees g.only g.now g.was g.elsewhere (λ own. absurd (other own)) (aborts_of us open_there T T g.ends (λ a its_one. refl));
+    }) (uid_cases (root_of b.path) u))
       where
         not_in : (w : Uid) → w ≢ u → (list.In w below → ⊥) → list.In w us → ⊥
         not_in w other none i = ⊎_elim none (λ is. other (sym is)) (in_more w below u i)
 
-        all : (T : State) → SeesCoord act code x E T → OnlyActed unit S T → T.now ≡ S.now → ((w : Uid) (q : Branch) → branch_of w E.tree ≡ Some q → Was w q) → ((w : Uid) → (list.In w us → ⊥) → branch_of w E.tree ≡ branch_of w c.tree) → (root_of b.path ≡ u → (T.action (Root unit)).stage ≡ 3) → AbortsOnly act paths c.tree u S T → Result T
-        all T sees_E only now was elsewhere mine ends = (sees_E, only, now, all_aborted_now was (λ w other none. elsewhere w (not_in w other none)) T sees_E, units_then was (λ w other none. elsewhere w (not_in w other none)) T only mine, ends)
+        all : (T : State) → SeesCoord act code x E T → OnlyActed unit S T → T.now ≡ S.now → ((w : Uid) (q : Branch) →
+            branch_of w E.tree ≡ Some q → Was w q) → ((w : Uid) → (list.In w us → ⊥) → branch_of w E.tree ≡ branch_of w c.tree) →
+            (root_of b.path ≡ u → (T.action (Root unit)).stage ≡ 3) → AbortsOnly act paths c.tree u S T → Result T
+        all T sees_E only now was elsewhere mine ends = (
+          sees_E,
+          only,
+          now,
+          all_aborted_now was (λ w other none. elsewhere w (not_in w other none)) T sees_E,
+          units_then was (λ w other none. elsewhere w (not_in w other none)) T only mine,
+          ends,
+        )
 
         unit_too : (T : State) → AreGone act code x steady.alike.one unit us c E S T → root_of b.path ≡ u → Goes T Result
         unit_too T g own =
             let k = still_there u b found in
-            goes_to (plain_goes act paths x E u k.0 unit T (steady_E g.was (λ w other none. g.elsewhere w (not_in w other none))) g.sees.actions k.1 refl (λ w e there home. over_E w e there (in_unit own w e (good_E.tree.lists.paths_are w e there) home)) (ap (λ (a : Action). a.stage) (g.units unit) ∙ unit_zero))
-            (λ V h. all V (units_keep_roots act code x unit E T V g.sees h.1 h.0) (acted_both unit S T V g.only h.1) (h.2 ∙ g.now) g.was g.elsewhere (λ is. h.3) (aborts_of us open_there T V g.ends h.4))
+            goes_to (plain_goes act paths x E u k.0 unit T (steady_E g.was (λ w other none. g.elsewhere w (not_in w other none)))
+            g.sees.actions k.1 refl (λ w e there home. over_E w e there (in_unit own w e (good_E.tree.lists.paths_are w e there) home))
+            (ap (λ (a : Action). a.stage) (g.units unit) ∙ unit_zero))
+            (λ V h. all V (units_keep_roots act code x unit E T V g.sees h.1 h.0) (acted_both unit S T V g.only h.1) (h.2 ∙ g.now) g.was
+            g.elsewhere (λ is. h.3) (aborts_of us open_there T V g.ends h.4))
 
   -- ---- or a unit
 
@@ -409,7 +498,8 @@ module _ (act : Acts) (code : Codes) (paths : Paths) (x : ℕ) (c : Coord) (u : 
     unit_after T g = goes_to (unit_ends act paths x c1 T steady.alike g.sees.actions u b d1.0 found_1 d1.1 its own
         (λ w q there. (let r = g.was w q there in ap uids_of (path_is w q r) ∙ steady.good.tree.lists.paths_are w r.0 r.1))
         (λ w q there. (let r = g.was w q there in let k = work_there c steady.works w r.0 r.1 in g.works w k.0 k.1))
-        (λ w q there home other. over_E w q (ap (λ (v : Coord). branch_of w v.tree) last ∙ one.branches w other ∙ there) (in_unit own w q (let r = g.was w q there in ap uids_of (path_is w q r) ∙ steady.good.tree.lists.paths_are w r.0 r.1) home))
+        (λ w q there home other. over_E w q (ap (λ (v : Coord). branch_of w v.tree) last ∙ one.branches w other ∙ there)
+        (in_unit own w q (let r = g.was w q there in ap uids_of (path_is w q r) ∙ steady.good.tree.lists.paths_are w r.0 r.1) home))
         (ap (λ (a : Action). a.stage) (g.units unit) ∙ unit_zero) ending.Abort) (λ V h. all V h.0 h.1 h.2.0 h.2.1 h.2.2)
       where
         d1 : (k : Doing) × (doing_of u c1 ≡ Some k)
@@ -427,7 +517,8 @@ module _ (act : Acts) (code : Codes) (paths : Paths) (x : ℕ) (c : Coord) (u : 
         was : (w : Uid) (q : Branch) → branch_of w E.tree ≡ Some q → Was w q
         was w q there = ⊎_elim
             (λ (is : w ≡ u).
-            let two : ◌≡◌ {A = Option Branch} (Some (record b { ended = Some ending.Abort })) (Some q) = sym one.branch ∙ ap (λ (v : Coord). branch_of u v.tree) (sym last) ∙ ap (λ (v : Uid). branch_of v E.tree) (sym is) ∙ there in
+            let two : ◌≡◌ {A = Option Branch} (Some (record b { ended = Some ending.Abort })) (Some q) = sym one.branch
+            ∙ ap (λ (v : Coord). branch_of u v.tree) (sym last) ∙ ap (λ (v : Uid). branch_of v E.tree) (sym is) ∙ there in
             let same : record b { ended = Some ending.Abort } ≡ q = cc two in
             (b, ap (λ (v : Uid). branch_of v c.tree) is ∙ found, inr (sym same)))
             (λ (other : w ≢ u). g.was w q (sym (one.branches w other) ∙ ap (λ (v : Coord). branch_of w v.tree) (sym last) ∙ there))
@@ -436,11 +527,21 @@ module _ (act : Acts) (code : Codes) (paths : Paths) (x : ℕ) (c : Coord) (u : 
         elsewhere : (w : Uid) → w ≢ u → (list.In w below → ⊥) → branch_of w E.tree ≡ branch_of w c.tree
         elsewhere w other none = ap (λ (v : Coord). branch_of w v.tree) last ∙ one.branches w other ∙ g.elsewhere w none
 
-        all : (V : State) → SeesActions act x (ended u ending.Abort c1) V.action → OnlyActed unit T V → V.now ≡ T.now → (V.action (act u)).stage ≡ 3 → KeepsActions T V → Result V
+        all : (V : State) → SeesActions act x (ended u ending.Abort c1) V.action → OnlyActed unit T V → V.now ≡ T.now →
+            (V.action (act u)).stage ≡ 3 → KeepsActions T V → Result V
         all V acts only now stage keeps =
-            let sees_E : SeesCoord act code x E V = subst (λ (e : Coord). SeesCoord act code x e V) (sym last) (one_stays act code x c1 (ended u ending.Abort c1) u b (record b { ended = Some ending.Abort }) (let k = d1.0 in record k { now = Idle }) T V found_1 (λ h. ap (ended_so ending.Abort) one.branch) g.sees only.rest acts one refl (ended_roots u ending.Abort c1) (λ s is. absurd (cc is))) in
-            let both = acted_both unit S T V g.only only in
-            (sees_E, both, now ∙ g.now, all_aborted_now was elsewhere V sees_E, units_then was elsewhere V both (λ is. ap (λ (a : Act). (V.action a).stage) (sym (root_is (act u) its)) ∙ stage), aborts_of below open_below_it T V g.ends keeps)
+            let sees_E : SeesCoord act code x E V = subst (λ (e : Coord). SeesCoord act code x e V) (sym last)
+            (one_stays act code x c1 (ended u ending.Abort c1) u b (record b { ended = Some ending.Abort }) (let k = d1.0 in
+            record k { now = Idle }) T V found_1 (λ h. ap (ended_so ending.Abort) one.branch) g.sees only.rest acts one refl
+            (ended_roots u ending.Abort c1) (λ s is. absurd (cc is))) in
+            let both = acted_both unit S T V g.only only in (
+              sees_E,
+              both,
+              now ∙ g.now,
+              all_aborted_now was elsewhere V sees_E,
+              units_then was elsewhere V both (λ is. ap (λ (a : Act). (V.action a).stage) (sym (root_is (act u) its)) ∙ stage),
+              aborts_of below open_below_it T V g.ends keeps,
+            )
 
     ends_unit : Goes S Result
     ends_unit = goes_then (all_gone act code x steady.alike.one below unit c S may_go sees) unit_after

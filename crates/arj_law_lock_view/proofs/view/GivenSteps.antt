@@ -1,44 +1,25 @@
 -- A whole server votes.
-use Rattle.std.proofs.Common.{◌≡◌, ◌≢◌, ◌≤◌, ◌<◌, ◌⊎◌, ◌∙◌, ◌==◌, ℕ, List, [], ◌∷◌, Bool, true, false, cond, Option, Some, None, refl, sym, ap, subst, inl, inr, ⊎_elim, Contains, arith, eqb-true}
-use Rattle.arj_base.proofs.Uids.{uid_cases}
-use Rattle.arj_lock.proofs.Members as list
-use Rattle.arj_lock.proofs.Members.{in_from, in_to}
-use Rattle.arj_lock.proofs.OneEach.{none_in}
-use Rattle.arj_protocol.specs.Words.{Binding, End, Head, ObjectState, Row, Uid, VotedReply, What, is_on, last_uid}
-use Rattle.arj_protocol.specs.Words.ask
-use Rattle.arj_protocol.specs.Words.voted
-use Rattle.arj_protocol.specs.Words.what
-use Rattle.arj_protocol.specs.Ask.{actor}
-use Rattle.arj_protocol.specs.Copy.{Copy}
-use Rattle.arj_protocol.specs.Effect.{Served, either, void}
-use Rattle.arj_protocol.specs.Order.{at_number, at_uid, binding_eq, binding_number, with_uid}
-use Rattle.arj_protocol.specs.Server.{Server, apply_ends, changed_copy, changed_states, first_unbound, has_ended, other_inc, vote, vote_now}
-use Rattle.arj_law_lock.specs.machine.Actions.{Act, In}
-use Rattle.arj_law_lock.specs.machine.Machine.{Run, stay}
-use Rattle.arj_law_lock.specs.machine.State as machine
-use Rattle.arj_law_lock.specs.machine.State.{Ballot, State}
-use Rattle.arj_law_lock.proofs.machine.Order.{go_on}
-use Rattle.arj_law_lock.proofs.machine.Paths.{act_other, differ}
-use Rattle.arj_law_parts.specs.parts.Actions.{act_of}
-use Rattle.arj_law_parts.specs.parts.Copies.{IsLowest}
-use Rattle.arj_law_parts.proofs.parts.Begun.{on_own}
+use Rattle.arj_law_parts.proofs.Words
+use Words.{◌≡◌, ◌≢◌, ◌≤◌, ◌<◌, ◌⊎◌, ◌∙◌, ◌==◌, ℕ, List, [], ◌∷◌, Bool, true, false, cond, Option, Some, None, refl, sym, ap, subst, inl}
+use Words.{inr, ⊎_elim, Contains, arith, eqb-true, uid_cases, in_from, in_to, none_in, Binding, End, Head, ObjectState, Row, Uid}
+use Words.{VotedReply, What, is_on, last_uid, actor, Copy, Served, either, void, at_number, at_uid, binding_eq, binding_number, with_uid}
+use Words.{Server, apply_ends, changed_copy, changed_states, first_unbound, has_ended, other_inc, vote, vote_now}
+use Words.list
+use Words.ask
+use Words.voted
+use Words.what
+use Rattle.arj_law_lock_view.proofs.Terms
+use Terms.{Act, In, Run, stay, Ballot, State, go_on, act_other, differ, act_of, IsLowest, on_own, with_on, told_follows, Acts, IsReached}
+use Terms.{HasVoted, IsCommitting, IsVoteOf, OnlyVote, ballot_for, OnlyEnds, SeesCopy, Goes, IsServedBy, SeesObject, last_of, IsShown}
+use Terms.{IsVotedBy, ListsEach, HaveOne, AreBrought, IsOfFamily, Sees, View}
+use Terms.machine
+use Rattle.arj_law_lock_view.proofs.view
+use view.{BindSteps.other_act, RunSteps.goes_along, RunSteps.goes_to, VoteSteps.votes_are_seen}
+use view.LeftSteps.{ends_sent, shows_later}
+use view.StateSteps.{ends_list, voted_once, voted_state}
+use view.ToldSteps.{brought_go, copy_told, family_told, told_of, turn_of}
+use Rattle.arj_law_lock_view.specs.view.Serving.{HasVotedHere, VotesAreTaken}
 use Rattle.arj_law_parts.proofs.parts.InTurn.{all_told}
-use Rattle.arj_law_parts.proofs.parts.Keys.{with_on}
-use Rattle.arj_law_parts.proofs.parts.ServerRuns.{told_follows}
-use Rattle.arj_law_lock_view.specs.view.Acts.{Acts}
-use Rattle.arj_law_lock_view.specs.view.Calling.{IsReached}
-use Rattle.arj_law_lock_view.specs.view.Commits.{HasVoted, IsCommitting, IsVoteOf, OnlyVote, ballot_for}
-use Rattle.arj_law_lock_view.specs.view.Copies.{OnlyEnds, SeesCopy}
-use Rattle.arj_law_lock_view.specs.view.Going.{Goes, IsServedBy}
-use Rattle.arj_law_lock_view.specs.view.Servers.{SeesObject, last_of}
-use Rattle.arj_law_lock_view.specs.view.Serving.{HasVotedHere, IsShown, IsVotedBy, ListsEach, VotesAreTaken, HaveOne}
-use Rattle.arj_law_lock_view.specs.view.Telling.{AreBrought, IsOfFamily, Sees, View}
-use Rattle.arj_law_lock_view.proofs.view.BindSteps.{other_act}
-use Rattle.arj_law_lock_view.proofs.view.LeftSteps.{ends_sent, shows_later}
-use Rattle.arj_law_lock_view.proofs.view.RunSteps.{goes_along, goes_to}
-use Rattle.arj_law_lock_view.proofs.view.StateSteps.{ends_list, voted_once, voted_state}
-use Rattle.arj_law_lock_view.proofs.view.ToldSteps.{brought_go, copy_told, family_told, told_of, turn_of}
-use Rattle.arj_law_lock_view.proofs.view.VoteSteps.{votes_are_seen}
 
 -- who isn't on the longer list isn't on the list, nor who was put on it
 not_on : (v u : Uid) (us : List Uid) → is_on (with_uid u us) v ≡ false → (v ≢ u) × (is_on us v ≡ false)
@@ -49,21 +30,27 @@ not_on v u us off = ((λ same. cc (sym (with_on v u us (inl same)) ∙ off)), by
     by false on = refl
 
 -- each tie is to a copy of its binding
-tied_copy : (ties : List (ℕ × Binding)) (s : Server) (x : ℕ) (b : Binding) → first_unbound ties s ≡ None → list.In (x, b) ties → (c : Copy) × (at_number x s.objects ≡ Some c) × (binding_number b ≡ binding_number c.binding)
+tied_copy : (ties : List (ℕ × Binding)) (s : Server) (x : ℕ) (b : Binding) → first_unbound ties s ≡ None → list.In (x, b) ties →
+    (c : Copy) × (at_number x s.objects ≡ Some c) × (binding_number b ≡ binding_number c.binding)
 tied_copy [] s x b none i = absurd i
 tied_copy (t ∷ ts) s x b none i = by (changed_copy t.1 (at_number t.0 s.objects)) refl none i (tied_copy ts s x b)
   where
-    of_copy : (y : ℕ) (d : Binding) (o : Option Copy) → at_number y s.objects ≡ o → changed_copy d o ≡ None → (c : Copy) × (at_number y s.objects ≡ Some c) × (binding_number d ≡ binding_number c.binding)
+    of_copy : (y : ℕ) (d : Binding) (o : Option Copy) → at_number y s.objects ≡ o → changed_copy d o ≡ None →
+        (c : Copy) × (at_number y s.objects ≡ Some c) × (binding_number d ≡ binding_number c.binding)
     of_copy y d None is un = absurd (cc un)
     of_copy y d (Some c) is un = at (binding_eq d c.binding) refl un
       where
-        at : (e : Bool) → binding_eq d c.binding ≡ e → cond e None (Some (what.Bind d c.binding)) ≡ None → (c : Copy) × (at_number y s.objects ≡ Some c) × (binding_number d ≡ binding_number c.binding)
+        at : (e : Bool) → binding_eq d c.binding ≡ e → cond e None (Some (what.Bind d c.binding)) ≡ None →
+            (c : Copy) × (at_number y s.objects ≡ Some c) × (binding_number d ≡ binding_number c.binding)
         at true same_one un = (c, is, eqb-true (binding_number d) (binding_number c.binding) same_one)
         at false same_one un = absurd (cc un)
 
-    by : (w : Option What) → changed_copy t.1 (at_number t.0 s.objects) ≡ w → either w (first_unbound ts s) ≡ None → list.In (x, b) (t ∷ ts) → (first_unbound ts s ≡ None → list.In (x, b) ts → (c : Copy) × (at_number x s.objects ≡ Some c) × (binding_number b ≡ binding_number c.binding)) → (c : Copy) × (at_number x s.objects ≡ Some c) × (binding_number b ≡ binding_number c.binding)
+    by : (w : Option What) → changed_copy t.1 (at_number t.0 s.objects) ≡ w → either w (first_unbound ts s) ≡ None → list.In (x, b)
+        (t ∷ ts) → (first_unbound ts s ≡ None → list.In (x, b) ts → (c : Copy) × (at_number x s.objects ≡ Some c) × (binding_number b
+        ≡ binding_number c.binding)) → (c : Copy) × (at_number x s.objects ≡ Some c) × (binding_number b ≡ binding_number c.binding)
     by (Some d) is un i ih = absurd (cc un)
-    by None is un (inl same_one) ih = subst (λ (z : ℕ × Binding). (c : Copy) × (at_number z.0 s.objects ≡ Some c) × (binding_number z.1 ≡ binding_number c.binding)) same_one (of_copy t.0 t.1 (at_number t.0 s.objects) refl is)
+    by None is un (inl same_one) ih = subst (λ (z : ℕ × Binding). (c : Copy) × (at_number z.0 s.objects ≡ Some c)
+        × (binding_number z.1 ≡ binding_number c.binding)) same_one (of_copy t.0 t.1 (at_number t.0 s.objects) refl is)
     by None is un (inr more) ih = ih un more
 
 only_no_vote : (n : ℕ) (m : Act) (S : State) → OnlyVote n m S S
@@ -81,23 +68,28 @@ vote_after {n} {m} {S} {T} {V} a b = record {
 ends_and_no_vote : (n : ℕ) (m : Act) (S T : State) → OnlyEnds n S T → OnlyVote n m S T
 ends_and_no_vote n m S T a = vote_after a (only_no_vote n m T)
 
-voted_after : (n : ℕ) (m : Act) (b : ℕ) (given : Ballot) (S T V : State) → OnlyEnds n S T → HasVoted n m b given T V → HasVoted n m b given S V
+voted_after : (n : ℕ) (m : Act) (b : ℕ) (given : Ballot) (S T V : State) → OnlyEnds n S T → HasVoted n m b given T V →
+    HasVoted n m b given S V
 voted_after n m b given S T V only h = record {
   voted = h.voted;
   yes = h.yes;
   first = λ less. h.first (subst (λ (k : ℕ). k < b) (sym yes_is) less);
-  again = λ more. (let k = h.again (subst (λ (k : ℕ). b ≤ k) (sym yes_is) more) in (k.0 ∙ ap (λ (z : State). z.vote m) only.rest, k.1 ∙ yes_is));
+  again = λ more. (let k = h.again (subst (λ (k : ℕ). b ≤ k) (sym yes_is) more) in
+      (k.0 ∙ ap (λ (z : State). z.vote m) only.rest, k.1 ∙ yes_is));
 }
   where
     yes_is : T.yes m ≡ S.yes m
     yes_is = ap (λ (z : State). z.yes m) only.rest
 
 -- a tie of the object, or none
-tie_of : (x : ℕ) (ties : List (ℕ × Binding)) → ((b : Binding) × list.In {X = ℕ × Binding} (x, b) ties) ⊎ ((b : Binding) → list.In {X = ℕ × Binding} (x, b) ties → ⊥)
+tie_of : (x : ℕ) (ties : List (ℕ × Binding)) →
+    ((b : Binding) × list.In {X = ℕ × Binding} (x, b) ties) ⊎ ((b : Binding) → list.In {X = ℕ × Binding} (x, b) ties → ⊥)
 tie_of x [] = inr (λ b i. i)
 tie_of x (t ∷ ts) = by (t.0 == x) refl (tie_of x ts)
   where
-    by : (e : Bool) → (t.0 == x) ≡ e → ((b : Binding) × list.In {X = ℕ × Binding} (x, b) ts) ⊎ ((b : Binding) → list.In {X = ℕ × Binding} (x, b) ts → ⊥) → ((b : Binding) × list.In {X = ℕ × Binding} (x, b) (t ∷ ts)) ⊎ ((b : Binding) → list.In {X = ℕ × Binding} (x, b) (t ∷ ts) → ⊥)
+    by : (e : Bool) → (t.0 == x) ≡ e →
+        ((b : Binding) × list.In {X = ℕ × Binding} (x, b) ts) ⊎ ((b : Binding) → list.In {X = ℕ × Binding} (x, b) ts → ⊥) →
+        ((b : Binding) × list.In {X = ℕ × Binding} (x, b) (t ∷ ts)) ⊎ ((b : Binding) → list.In {X = ℕ × Binding} (x, b) (t ∷ ts) → ⊥)
     by true is rest = inl (t.1, inl (λ j. (eqb-true t.0 x is j, t.1)))
     by false is (inl f) = inl (f.0, inr f.1)
     by false is (inr none) = inr (λ b i. off b i)
@@ -115,7 +107,8 @@ is_yes (Some (voted.Yes states)) = true
 is_yes (Some (voted.Changed w)) = false
 is_yes None = false
 
-module _ (v : View) (h : Head) (i : ℕ) (ties : List (ℕ × Binding)) (ends : List (Uid × End)) (s : Server) (S : State) (reached : IsReached S) (lists : ListsEach s) (shown : IsShown v h (ask.Vote i ties ends) s S) (sees : Sees v s S) where
+module _ (v : View) (h : Head) (i : ℕ) (ties : List (ℕ × Binding)) (ends : List (Uid × End)) (s : Server) (S : State)
+    (reached : IsReached S) (lists : ListsEach s) (shown : IsShown v h (ask.Vote i ties ends) s S) (sees : Sees v s S) where
   abbrev act : Acts
   act = v.family.act
 
@@ -129,7 +122,8 @@ module _ (v : View) (h : Head) (i : ℕ) (ties : List (ℕ × Binding)) (ends : 
   t = let d = apply_ends n ends s in d.part
 
   abbrev Votes : Served Server VotedReply → Type 0
-  Votes r = Goes S (λ T. Sees v r.part T × OnlyVote n (act u) S T × ((b : Binding) (states : List ObjectState) → Contains {X = ℕ × Binding} ties (v.x, b) → r.reply ≡ Some (voted.Yes states) → HasVotedHere v u b r.part S T × IsVotedBy v u b states T × HaveOne v.x states))
+  Votes r = Goes S (λ T. Sees v r.part T × OnlyVote n (act u) S T × ((b : Binding) (states : List ObjectState) → Contains {X = ℕ × Binding}
+      ties (v.x, b) → r.reply ≡ Some (voted.Yes states) → HasVotedHere v u b r.part S T × IsVotedBy v u b states T × HaveOne v.x states))
 
   brought : AreBrought v ends s S
   brought = record { whole = shown.whole; server = shown.server; ordered = shown.fits.2; shown = shown.shown }
@@ -144,12 +138,19 @@ module _ (v : View) (h : Head) (i : ℕ) (ties : List (ℕ × Binding)) (ends : 
       let d = after.knows.rows v.x c r there k in
       ⊎_elim (λ (is : act_of d.0 ≡ u). ap last_uid d.2 ∙ is)
       (λ (other : act_of d.0 ≢ u).
-      let told_of_it = all_told v.family.begun shown.whole.begun n ends s (act_of d.0) (shown.fits.1 d.0 d.1 (ap (λ us. is_on us u) (sym d.2) ∙ on) other) in
-      absurd (differ (ap (λ us. is_on us (act_of d.0)) d.2 ∙ on_own (let a = d.0 in a.path)) (none_in (λ (q : Row). is_on q.holder (act_of d.0)) r c.rows (after.good.none v.x c (act_of d.0) there told_of_it) (in_from r c.rows k))))
+      let told_of_it = all_told v.family.begun shown.whole.begun n ends s (act_of d.0)
+      (shown.fits.1 d.0 d.1 (ap (λ us. is_on us u) (sym d.2) ∙ on) other) in
+      absurd (differ (ap (λ us. is_on us (act_of d.0)) d.2 ∙ on_own (let a = d.0 in a.path)) (none_in
+      (λ (q : Row). is_on q.holder (act_of d.0)) r c.rows (after.good.none v.x c (act_of d.0) there told_of_it) (in_from r c.rows k))))
       (uid_cases (act_of d.0) u)
 
   committing : (c : Copy) → at_number v.x t.objects ≡ Some c → IsCommitting act v.family.paths v.x u c
-  committing c there = record { one = (let w = shown.whole in let k = w.alike in k.one); good = after.good.copies v.x c there; lowest = lowest c there; told = told_of act v.family.paths v.x c shown.whole.alike (after.good.copies v.x c there) u }
+  committing c there = record {
+    one = (let w = shown.whole in let k = w.alike in k.one);
+    good = after.good.copies v.x c there;
+    lowest = lowest c there;
+    told = told_of act v.family.paths v.x c shown.whole.alike (after.good.copies v.x c there) u;
+  }
 
   -- ---- yes
 
@@ -164,7 +165,9 @@ module _ (v : View) (h : Head) (i : ℕ) (ties : List (ℕ × Binding)) (ends : 
     sent_later T V only m j = subst (λ (net : List machine.Message). In m net) (sym (ap (λ (z : State). z.net) only.rest)) j
 
     -- the server that voted, where the machine's may have too
-    voted_too : (T V : State) → Sees v t T → SeesObject act v.code v.x t.inc (at_number v.x t.objects) (V.server n) V → OnlyVote n (act u) T V → (let m = V.server n in m.incarnation) ≡ (let m = T.server n in m.incarnation) → (let m = V.server n in m.request) ≡ (let m = T.server n in m.request)
+    voted_too : (T V : State) → Sees v t T → SeesObject act v.code v.x t.inc (at_number v.x t.objects) (V.server n) V →
+        OnlyVote n (act u) T V → (let m = V.server n in m.incarnation) ≡ (let m = T.server n in m.incarnation) →
+        (let m = V.server n in m.request) ≡ (let m = T.server n in m.request)
         → ((w : Uid) → w ≢ u → (let m = V.server n in m.voted (act w)) ≡ (let m = T.server n in m.voted (act w))) → Sees v bound_server V
     voted_too T V k object only inc request others = record {
       incarnation = inc ∙ k.incarnation;
@@ -178,10 +181,12 @@ module _ (v : View) (h : Head) (i : ℕ) (ties : List (ℕ × Binding)) (ends : 
     yes_part = record { part = bound_server; outs = (let d = apply_ends n ends s in d.outs); reply = Some (voted.Yes (changed_states u t)) }
 
     abbrev Yes : State → State → Type 0
-    Yes T V = Sees v bound_server V × OnlyVote n (act u) T V × ((b : Binding) → Contains {X = ℕ × Binding} ties (v.x, b) → HasVotedHere v u b bound_server S V × IsVotedBy v u b (changed_states u t) V × HaveOne v.x (changed_states u t))
+    Yes T V = Sees v bound_server V × OnlyVote n (act u) T V × ((b : Binding) → Contains {X = ℕ × Binding} ties (v.x, b) →
+        HasVotedHere v u b bound_server S V × IsVotedBy v u b (changed_states u t) V × HaveOne v.x (changed_states u t))
 
     -- the object is tied to a binding, which its copy has
-    module _ (b : Binding) (j : list.In {X = ℕ × Binding} (v.x, b) ties) (T : State) (run : Run S T) (k : Sees v t T) (only : OnlyEnds n S T) where
+    module _ (b : Binding) (j : list.In {X = ℕ × Binding} (v.x, b) ties) (T : State) (run : Run S T) (k : Sees v t T)
+        (only : OnlyEnds n S T) where
       f : (c : Copy) × (at_number v.x s.objects ≡ Some c) × (binding_number b ≡ binding_number c.binding)
       f = tied_copy ties s v.x b untied j
 
@@ -207,29 +212,63 @@ module _ (v : View) (h : Head) (i : ℕ) (ties : List (ℕ × Binding)) (ends : 
 
       tied_votes : Goes T (λ V. Yes T V)
       tied_votes = goes_to (votes_are_seen act v.code v.family.paths n v.x i u c T (reached.0, go_on reached.1 run) (committing c there)
-          (subst (λ (z : ℕ). In (machine.Vote (act u) z i) T.net) (number_of b j) (ends_sent only (machine.Vote (act u) (binding_number b) i) asked.1))
-          (ap (λ (z : ℕ). (let w = T.binding z in w.server)) (sym (number_of b j)) ∙ ap (λ (z : State). (let w = z.binding (binding_number b) in w.server)) only.rest ∙ asked.0)
+          (subst (λ (z : ℕ). In (machine.Vote (act u) z i) T.net) (number_of b j)
+          (ends_sent only (machine.Vote (act u) (binding_number b) i) asked.1))
+          (ap (λ (z : ℕ). (let w = T.binding z in w.server)) (sym (number_of b j))
+          ∙ ap (λ (z : State). (let w = z.binding (binding_number b) in w.server)) only.rest ∙ asked.0)
           (k.incarnation ∙ inc_after ∙ sym inc_is) has_copy.0) (λ V g. (let keeps = g.2 in (
-            voted_too T V k (subst (λ (z : Option Copy). SeesObject act v.code v.x t.inc z (V.server n) V) (sym there) (g.0, sent_later T V g.1 (machine.Activated (binding_number c.binding) t.inc) has_copy.1)) g.1 keeps.incarnation keeps.request
-                (λ w other. ap (λ (z : Act → Bool). z (act w)) keeps.voted ∙ act_other (let m = T.server n in m.voted) (act u) true (act w) (other_act act (let l = shown.whole in let e = l.alike in e.one) w u other)),
+            voted_too T V k (subst (λ (z : Option Copy). SeesObject act v.code v.x t.inc z (V.server n) V) (sym there)
+                (g.0, sent_later T V g.1 (machine.Activated (binding_number c.binding) t.inc) has_copy.1)) g.1 keeps.incarnation
+                keeps.request
+                (λ w other. ap (λ (z : Act → Bool). z (act w)) keeps.voted ∙ act_other (let m = T.server n in
+                m.voted) (act u) true (act w) (other_act act (let l = shown.whole in let e = l.alike in e.one) w u other)),
             g.1,
-            (λ d l. (let is = number_of d (in_from {X = ℕ × Binding} (v.x, d) ties l) in (record { copy = c; there = there; bound = is; voted = subst (λ (z : ℕ). HasVoted n (act u) z (ballot_for act v.code u c) S V) (sym is) (voted_after n (act u) (binding_number c.binding) (ballot_for act v.code u c) S T V only g.3) }, (let o = subst (λ (z : ℕ). (o : IsVoteOf (act u) z (ballot_for act v.code u c) V) × SeesCopy act v.code v.x c ((let k = o.before in k.server) o.node)) (sym is) g.4 in record { copy = c; vote = o.0; state = voted_state u t v.x c (ends_list n ends s lists) there; sees = o.1 }), voted_once u t v.x c (ends_list n ends s lists) there))),
+            (λ d l. (let is = number_of d (in_from {X = ℕ × Binding} (v.x, d) ties l) in (
+              record {
+                copy = c;
+                there = there;
+                bound = is;
+                voted = subst (λ (z : ℕ). HasVoted n (act u) z (ballot_for act v.code u c) S V) (sym is)
+                    (voted_after n (act u) (binding_number c.binding) (ballot_for act v.code u c) S T V only g.3);
+              },
+              (let o = subst (λ (z : ℕ). (o : IsVoteOf (act u) z (ballot_for act v.code u c) V)
+                  × SeesCopy act v.code v.x c ((let k = o.before in k.server) o.node)) (sym is) g.4 in
+                  record { copy = c; vote = o.0; state = voted_state u t v.x c (ends_list n ends s lists) there; sees = o.1 }),
+              voted_once u t v.x c (ends_list n ends s lists) there,
+            ))),
           )))
 
     votes_yes : Votes yes_part
     votes_yes = goes_along (brought_go v ends s S brought sees) (λ T run g. ⊎_elim
-        (λ (some : (b : Binding) × list.In {X = ℕ × Binding} (v.x, b) ties). goes_to (tied_votes some.0 some.1 T run g.0 g.1) (λ V y. (y.0, vote_after g.1 y.1, λ b states l is. (let given : voted.Yes (changed_states u t) ≡ voted.Yes states = cc is in let same : changed_states u t ≡ states = cc given in let h = y.2 b l in (h.0, subst (λ z. IsVotedBy v u b z V) same h.1, subst (HaveOne v.x) same h.2)))))
+        (λ (some : (b : Binding) × list.In {X = ℕ × Binding} (v.x, b) ties). goes_to (tied_votes some.0 some.1 T run g.0 g.1) (λ V y. (
+          y.0,
+          vote_after g.1 y.1,
+          λ b states l is. (let given : voted.Yes (changed_states u t) ≡ voted.Yes states = cc is in let same : changed_states u t ≡
+              states = cc given in let h = y.2 b l in (h.0, subst (λ z. IsVotedBy v u b z V) same h.1, subst (HaveOne v.x) same h.2)),
+        )))
         (λ (none : (b : Binding) → list.In {X = ℕ × Binding} (v.x, b) ties → ⊥). record {
           state = T;
           run = stay;
-          holds = (voted_too T T g.0 (let k = g.0 in k.object) (only_no_vote n (act u) T) refl refl (λ w other. refl), ends_and_no_vote n (act u) S T g.1, λ b states l is. absurd (none b (in_from {X = ℕ × Binding} (v.x, b) ties l)));
+          holds = (
+            voted_too T T g.0 (let k = g.0 in k.object) (only_no_vote n (act u) T) refl refl (λ w other. refl),
+            ends_and_no_vote n (act u) S T g.1,
+            λ b states l is. absurd (none b (in_from {X = ℕ × Binding} (v.x, b) ties l)),
+          );
         })
         (tie_of v.x ties))
 
   -- ---- any vote
 
   as_it_was : (r : Served Server VotedReply) → r.part ≡ s → is_yes r.reply ≡ false → Votes r
-  as_it_was r same none = record { state = S; run = stay; holds = (subst (λ (z : Server). Sees v z S) (sym same) sees, only_no_vote n (act u) S, λ b states l is. absurd (differ (ap is_yes is) none)) }
+  as_it_was r same none = record {
+    state = S;
+    run = stay;
+    holds = (
+      subst (λ (z : Server). Sees v z S) (sym same) sees,
+      only_no_vote n (act u) S,
+      λ b states l is. absurd (differ (ap is_yes is) none),
+    );
+  }
 
   now : Votes (vote_now n u ends s (either (other_inc i s.inc) (first_unbound ties s)))
   now = by_inc (i == s.inc) refl
@@ -238,7 +277,8 @@ module _ (v : View) (h : Head) (i : ℕ) (ties : List (ℕ × Binding)) (ends : 
       by_ties inc_is (Some w) is = as_it_was (vote_now n u ends s (Some w)) refl refl
       by_ties inc_is None is = votes_yes is inc_is
 
-      by_inc : (e : Bool) → (i == s.inc) ≡ e → Votes (vote_now n u ends s (either (cond e None (Some (what.Inc i s.inc))) (first_unbound ties s)))
+      by_inc : (e : Bool) → (i == s.inc) ≡ e →
+          Votes (vote_now n u ends s (either (cond e None (Some (what.Inc i s.inc))) (first_unbound ties s)))
       by_inc true is = by_ties (eqb-true i s.inc is) (first_unbound ties s) refl
       by_inc false is = as_it_was (vote_now n u ends s (Some (what.Inc i s.inc))) refl refl
 

@@ -1,54 +1,39 @@
 -- A whole message goes, as far as the node's server does.
-use Rattle.std.proofs.Common.{◌≡◌, ◌≤◌, ◌⊎◌, ◌∙◌, ◌&&◌, ◌||◌, ◌++◌, ◌==◌, ℕ, List, [], ◌∷◌, Bool, true, false, cond, Option, Some, None, refl, sym, ap, subst, inl, inr, ⊎_elim, Contains, arith}
-use Rattle.std.specs.Prelude.{⊤, option_map}
-use Rattle.std.specs.List.{list_all}
-use Rattle.arj_lock.proofs.Members as list
-use Rattle.arj_lock.proofs.Members.{in_from}
-use Rattle.arj_protocol.specs.Words.{Ask, Asked, Binding, End, Head, InvokedReply, Message, ObjectState, Op, Row, Uid, VotedReply, What, asks, first_conflict, object, op_mode, uids_of}
-use Rattle.arj_protocol.specs.Words.ask
-use Rattle.arj_protocol.specs.Words.message
-use Rattle.arj_protocol.specs.Words.prepared
-use Rattle.arj_protocol.specs.Words.voted
-use Rattle.arj_protocol.specs.Ask.{Reply, actor, answers, asked_by, last_end, response}
-use Rattle.arj_protocol.specs.Asking.{heard}
-use Rattle.arj_protocol.specs.Confirm.{confirm}
-use Rattle.arj_protocol.specs.Coord.{Coord}
-use Rattle.arj_protocol.specs.Copy.{Copy, ask_copy, invoke_copy}
-use Rattle.arj_protocol.specs.Effect.{Already, Disk, Do, Effect, InDoubt, Old, Prep, Ready, Say, Send, Served, either, held_at, holder_of, is_prepared, prepare_answer, reply, void}
-use Rattle.arj_protocol.specs.Ending.{acked}
-use Rattle.arj_protocol.specs.Naming as naming
-use Rattle.arj_protocol.specs.Naming.{Naming}
-use Rattle.arj_protocol.specs.Node.{Handled, Parts, Void, by_reply, coord_heard, handle, handle_answer, handle_ask, handle_ends, handle_other, if_naming, is_meant, load_by, load_held, prepare_by, sends_answer, serve, served, taken, with_coord, with_naming, with_server}
-use Rattle.arj_protocol.specs.Order.{at_number, at_uid, binding_eq, binding_less, binding_number}
-use Rattle.arj_protocol.specs.Says.{AreAll, is_server_effect}
-use Rattle.arj_protocol.specs.Server as server
-use Rattle.arj_protocol.specs.Server.{Kept, Server, active_binding, after_outs, apply_ends, changed_by, first_unbound, has_ended, invoke_kept, invoke_new, invoke_now, is_below, kept_after, on_copy, other_inc, took_copy, vote_now}
-use Rattle.arj_protocol.proofs.PartSays.{activate_own, invoke_own, vote_own}
-use Rattle.arj_law_lock.specs.machine.Actions.{Act, In, same}
-use Rattle.arj_law_lock.specs.machine.Machine.{stay}
-use Rattle.arj_law_lock.specs.machine.State as machine
-use Rattle.arj_law_lock.specs.machine.State.{State}
-use Rattle.arj_law_lock.proofs.machine.Paths.{same_is}
-use Rattle.arj_law_parts.specs.parts.Frames.{outs_of}
-use Rattle.arj_law_lock_view.specs.view.Commits.{OnlyVote}
-use Rattle.arj_law_lock_view.specs.view.Copies.{OnlyServer}
-use Rattle.arj_law_lock_view.specs.view.Going.{Goes}
-use Rattle.arj_law_lock_view.specs.view.Handling.{AreAnswersShown, IsAskingShown, IsMessageShown, IsTellingShown, MessagesAreTaken, OnlyServing, ShowsReply, is_for_server, is_vote_for, server_after}
-use Rattle.arj_law_lock_view.specs.view.Servers.{ShowsIfInvoked}
-use Rattle.arj_law_lock_view.specs.view.Serving.{IsShown, IsVotedBy, ListsEach, ShowsActivated, HaveOne}
-use Rattle.arj_law_lock_view.specs.view.Telling.{AreBrought, Sees, View}
-use Rattle.arj_law_lock_view.proofs.view.GivenSteps.{votes_are_taken}
-use Rattle.arj_law_lock_view.proofs.view.LeftSteps.{only_server}
-use Rattle.arj_law_lock_view.proofs.view.RunSteps.{goes_to}
-use Rattle.arj_law_lock_view.proofs.view.ServerSteps.{activates_are_seen, invokes_are_seen}
-use Rattle.arj_law_lock_view.proofs.view.ToldSteps.{ends_are_taken}
-use Rattle.arj_law_lock_view.specs.view.Calling.{IsReached}
+use Rattle.arj_law_parts.proofs.Words
+use Words.{◌≡◌, ◌≤◌, ◌⊎◌, ◌∙◌, ◌&&◌, ◌||◌, ◌++◌, ◌==◌, ℕ, List, [], ◌∷◌, Bool, true, false, cond, Option, Some, None, refl, sym, ap, subst}
+use Words.{inl, inr, ⊎_elim, Contains, arith, ⊤, option_map, list_all, in_from, Ask, Asked, Binding, End, Head, InvokedReply, Message}
+use Words.{ObjectState, Op, Row, Uid, VotedReply, What, asks, first_conflict, object, op_mode, uids_of, Reply, actor, answers, asked_by}
+use Words.{last_end, response, heard, confirm, Coord, Copy, ask_copy, invoke_copy, Already, Disk, Do, Effect, InDoubt, Old, Prep, Ready}
+use Words.{Say, Send, Served, either, held_at, holder_of, is_prepared, prepare_answer, reply, void, acked, Naming, Handled, Parts, Void}
+use Words.{by_reply, coord_heard, handle, handle_answer, handle_ask, handle_ends, handle_other, if_naming, is_meant, load_by, load_held}
+use Words.{prepare_by, sends_answer, serve, served, taken, with_coord, with_naming, with_server, at_number, at_uid, binding_eq}
+use Words.{binding_less, binding_number, AreAll, is_server_effect, Kept, Server, active_binding, apply_ends, changed_by, first_unbound}
+use Words.{has_ended, invoke_kept, invoke_new, invoke_now, is_below, on_copy, other_inc, took_copy, vote_now, activate_own, invoke_own}
+use Words.{vote_own}
+use Words.list
+use Words.ask
+use Words.message
+use Words.prepared
+use Words.voted
+use Words.naming
+use Words.server
+use Rattle.arj_law_lock_view.proofs.Terms
+use Terms.{kept_after, Act, In, same, stay, State, same_is, outs_of, OnlyVote, OnlyServer, Goes, AreAnswersShown, IsAskingShown}
+use Terms.{IsMessageShown, IsTellingShown, OnlyServing, ShowsReply, server_after, ShowsIfInvoked, IsShown, IsVotedBy, ListsEach}
+use Terms.{ShowsActivated, HaveOne, AreBrought, Sees, View, IsReached}
+use Terms.machine
+use Rattle.arj_law_lock_view.proofs.view
+use view.{GivenSteps.votes_are_taken, LeftSteps.only_server, RunSteps.goes_to, ToldSteps.ends_are_taken}
+use view.ServerSteps.{activates_are_seen, invokes_are_seen}
+use Rattle.arj_law_lock_view.specs.view.Handling.{MessagesAreTaken, is_for_server, is_vote_for}
+use Rattle.arj_protocol.specs.Server.{after_outs}
 
 -- ---- what else stays
 
 module _ (v : View) (m : Message) where
   serving_itself : (S : State) → OnlyServing v m S S
-  serving_itself S = record { rest = refl; others = λ k other. refl; sent = λ z i. i; tops = λ a none. (refl, refl); raised = λ a. omega arith }
+  serving_itself S =
+      record { rest = refl; others = λ k other. refl; sent = λ z i. i; tops = λ a none. (refl, refl); raised = λ a. omega arith }
 
   serving_server : (S T : State) → OnlyServer v.node S T → OnlyServing v m S T
   serving_server S T only = record {
@@ -65,7 +50,8 @@ module _ (v : View) (m : Message) where
       vote_is : T.vote ≡ S.vote
       vote_is = ap (λ (z : State). z.vote) only.rest
 
-  serving_vote : (u : Uid) (S T : State) → ((a : Act) → is_vote_for v a (asks m) ≡ same a (v.family.act u)) → OnlyVote v.node (v.family.act u) S T → OnlyServing v m S T
+  serving_vote : (u : Uid) (S T : State) → ((a : Act) → is_vote_for v a (asks m) ≡ same a (v.family.act u)) →
+      OnlyVote v.node (v.family.act u) S T → OnlyServing v m S T
   serving_vote u S T asked only = record {
     rest = only.rest ∙ (λ i. record S { server = T.server; yes = T.yes; vote = T.vote; net = sym net_is i });
     others = only.others;
@@ -88,7 +74,8 @@ none_sent : (n : ℕ) (outs : List Effect) → AreAll (is_server_effect n) outs 
 none_sent n [] all to z i = i
 none_sent n (e ∷ es) all to z i = by e (none_sent n es) all i
   where
-    by : (f : Effect) → (AreAll (is_server_effect n) es → (k : ℕ) (w : Message) → list.In (Send k w) es → ⊥) → (is_server_effect n f && list_all (is_server_effect n) es) ≡ true → (f ≡ Send to z) ⊎ list.In (Send to z) es → ⊥
+    by : (f : Effect) → (AreAll (is_server_effect n) es → (k : ℕ) (w : Message) → list.In (Send k w) es → ⊥) →
+        (is_server_effect n f && list_all (is_server_effect n) es) ≡ true → (f ≡ Send to z) ⊎ list.In (Send to z) es → ⊥
     by (Say b) rest own (inl is) = cc is
     by (Say b) rest own (inr j) = rest (second (is_server_effect n (Say b)) own) to z j
       where
@@ -98,7 +85,8 @@ none_sent n (e ∷ es) all to z i = by e (none_sent n es) all i
     by (Send k w) rest own i = cc own
     by (Do w) rest own i = cc own
 
-pub sent_last : (outs : List Effect) (from : ℕ) (w : Message) (to : ℕ) (z : Message) → list.In (Send to z) (outs ++ Send from w ∷ []) → list.In (Send to z) outs ⊎ (z ≡ w)
+pub sent_last : (outs : List Effect) (from : ℕ) (w : Message) (to : ℕ) (z : Message) → list.In (Send to z) (outs ++ Send from w ∷ []) →
+    list.In (Send to z) outs ⊎ (z ≡ w)
 sent_last [] from w to z (inl is) = inr (message_of is)
   where
     message_of : Send from w ≡ Send to z → z ≡ w
@@ -114,24 +102,30 @@ abbrev IsVoid : {R : Type 0} → Server → Served Server R → Type 0
 IsVoid s r = r.reply ≡ None → r.part ≡ s
 
 void_activate : (n : ℕ) (h : Head) (b : Binding) (st : ObjectState) (s : Server) → IsVoid s (server.activate n h.path b st s)
-void_activate n h b st s = by (has_ended h.path s || binding_less b (active_binding st.uid.num s)) (binding_eq b (active_binding st.uid.num s))
+void_activate n h b st s =
+    by (has_ended h.path s || binding_less b (active_binding st.uid.num s)) (binding_eq b (active_binding st.uid.num s))
   where
-    by : (e q : Bool) → IsVoid s (cond {A = Served Server ℕ} e (void s) (cond {A = Served Server ℕ} q (reply s s.inc) (took_copy n st.uid.num b st s)))
+    by : (e q : Bool) →
+        IsVoid s (cond {A = Served Server ℕ} e (void s) (cond {A = Served Server ℕ} q (reply s s.inc) (took_copy n st.uid.num b st s)))
     by true q none = refl
     by false true none = absurd (cc none)
     by false false none = absurd (cc none)
 
-void_invoke : (n : ℕ) (h : Head) (y : ℕ) (b : Binding) (i : ℕ) (ends : List (Uid × End)) (o : Op) (s : Server) → IsVoid s (server.invoke n h y b i ends o s)
+void_invoke : (n : ℕ) (h : Head) (y : ℕ) (b : Binding) (i : ℕ) (ends : List (Uid × End)) (o : Op) (s : Server) →
+    IsVoid s (server.invoke n h y b i ends o s)
 void_invoke n h y b i ends o s = by (has_ended h.path s || is_below h.req (at_uid (actor h.path) s.kept)) (changed_by i y b s)
   where
     new : IsVoid s (invoke_new n h y ends o s)
     new = copied (at_number y (let d = apply_ends n ends s in let t = d.part in t.objects))
       where
-        copied : (f : Option Copy) → IsVoid s (after_outs (let d = apply_ends n ends s in d.outs) (kept_after h (on_copy y (invoke_copy n h.path y o) (let d = apply_ends n ends s in d.part) f)))
+        copied : (f : Option Copy) → IsVoid s (after_outs (let d = apply_ends n ends s in
+            d.outs) (kept_after h (on_copy y (invoke_copy n h.path y o) (let d = apply_ends n ends s in d.part) f)))
         copied None none = absurd (cc none)
         copied (Some c) none = asked (first_conflict (uids_of h.path) (object y) (op_mode o) c.rows) none
           where
-            asked : (r : Option Row) → (let k = ask_copy n h.path y o c r in k.reply) ≡ None → (let k = after_outs (let d = apply_ends n ends s in d.outs) (kept_after h (on_copy y (invoke_copy n h.path y o) (let d = apply_ends n ends s in d.part) (Some c))) in k.part) ≡ s
+            asked : (r : Option Row) → (let k = ask_copy n h.path y o c r in k.reply) ≡ None →
+                (let k = after_outs (let d = apply_ends n ends s in d.outs)
+                (kept_after h (on_copy y (invoke_copy n h.path y o) (let d = apply_ends n ends s in d.part) (Some c))) in k.part) ≡ s
             asked None e = absurd (cc e)
             asked (Some r) e = absurd (cc e)
 
@@ -151,7 +145,8 @@ void_invoke n h y b i ends o s = by (has_ended h.path s || is_below h.req (at_ui
     by true w none = refl
     by false w none = now w none
 
-void_vote : (n : ℕ) (h : Head) (i : ℕ) (ties : List (ℕ × Binding)) (ends : List (Uid × End)) (s : Server) → IsVoid s (server.vote n h.path i ties ends s)
+void_vote : (n : ℕ) (h : Head) (i : ℕ) (ties : List (ℕ × Binding)) (ends : List (Uid × End)) (s : Server) →
+    IsVoid s (server.vote n h.path i ties ends s)
 void_vote n h i ties ends s = by (has_ended h.path s) (either (other_inc i s.inc) (first_unbound ties s))
   where
     by : (e : Bool) (w : Option What) → IsVoid s (cond {A = Served Server VotedReply} e (void s) (vote_now n (actor h.path) ends s w))
@@ -171,7 +166,8 @@ some_reply say (Some r) a is = (r, refl, said (say r) is)
     said : (b : Reply) → ◌≡◌ {A = Option Reply} (Some b) (Some a) → b ≡ a
     said b e = cc e
 
-module _ (v : View) (d : Disk) (t : Parts) (from : ℕ) (m : Message) (S : State) (reached : IsReached S) (lists : ListsEach t.server) (sees : Sees v t.server S) where
+module _ (v : View) (d : Disk) (t : Parts) (from : ℕ) (m : Message) (S : State) (reached : IsReached S) (lists : ListsEach t.server)
+    (sees : Sees v t.server S) where
   abbrev n : ℕ
   n = v.node
 
@@ -189,23 +185,30 @@ module _ (v : View) (d : Disk) (t : Parts) (from : ℕ) (m : Message) (S : State
   no_answer (Some q) other T outs = λ mine. absurd (cc (sym mine ∙ other))
 
   left : (q : Option (Head × Ask)) → Leaves q → (r : Handled) → server_after t r ≡ t.server → Takes q r
-  left q other r same_one = record { state = S; run = stay; holds = (subst (λ (z : Server). Sees v z S) (sym same_one) sees, serving_itself v m S, no_answer q other S (outs_of r)) }
+  left q other r same_one = record {
+    state = S;
+    run = stay;
+    holds = (subst (λ (z : Server). Sees v z S) (sym same_one) sees, serving_itself v m S, no_answer q other S (outs_of r));
+  }
 
-  answered_same : (to : ℕ) (h : Head) (w : Parts) (outs : List Effect) (o : Option Reply) → w.server ≡ t.server → server_after t (sends_answer to h w outs o) ≡ t.server
+  answered_same : (to : ℕ) (h : Head) (w : Parts) (outs : List Effect) (o : Option Reply) → w.server ≡ t.server →
+      server_after t (sends_answer to h w outs o) ≡ t.server
   answered_same to h w outs None is = refl
   answered_same to h w outs (Some r) is = is
 
   -- ---- requests to the server
 
   -- its answer, and nothing else, goes out
-  answers_go : (h : Head) (a : Ask) (T : State) (w : Parts) (outs : List Effect) (o : Option Reply) → AreAll (is_server_effect n) outs → ((r : Reply) → o ≡ Some r → ShowsReply v h a T r) → AreAnswersShown v T (outs_of (sends_answer from h w outs o)) (Some (h, a))
+  answers_go : (h : Head) (a : Ask) (T : State) (w : Parts) (outs : List Effect) (o : Option Reply) → AreAll (is_server_effect n) outs →
+      ((r : Reply) → o ≡ Some r → ShowsReply v h a T r) → AreAnswersShown v T (outs_of (sends_answer from h w outs o)) (Some (h, a))
   answers_go h a T w outs None own shows mine to z k = absurd (in_from (Send to z) [] k)
   answers_go h a T w outs (Some r) own shows mine to z k = ⊎_elim
       (λ (i : list.In (Send to z) outs). absurd (none_sent n outs own to z i))
       (λ (is : z ≡ response (asked_by h) r). (r, is, shows r refl))
       (sent_last outs from (response (asked_by h) r) to z (in_from (Send to z) (outs ++ Send from (response (asked_by h) r) ∷ []) k))
 
-  seen_after : (h : Head) (w : Server) (outs : List Effect) (o : Option Reply) (T : State) → (o ≡ None → w ≡ t.server) → Sees v w T → Sees v (server_after t (sends_answer from h (with_server t w) outs o)) T
+  seen_after : (h : Head) (w : Server) (outs : List Effect) (o : Option Reply) (T : State) → (o ≡ None → w ≡ t.server) → Sees v w T →
+      Sees v (server_after t (sends_answer from h (with_server t w) outs o)) T
   seen_after h w outs None T void_same k = subst (λ (z : Server). Sees v z T) (void_same refl) k
   seen_after h w outs (Some r) T void_same k = k
 
@@ -214,39 +217,56 @@ module _ (v : View) (d : Disk) (t : Parts) (from : ℕ) (m : Message) (S : State
     abbrev activated : Binding → ObjectState → Served Server ℕ
     activated b st = server.activate n h.path b st t.server
 
-    activate_goes : (b : Binding) (st : ObjectState) → IsShown v h (ask.Activate b st) t.server S → Takes (Some (h, ask.Activate b st)) (serve n d t from h (ask.Activate b st))
+    activate_goes : (b : Binding) (st : ObjectState) → IsShown v h (ask.Activate b st) t.server S →
+        Takes (Some (h, ask.Activate b st)) (serve n d t from h (ask.Activate b st))
     activate_goes b st shown = goes_to (activates_are_seen v h b st t.server S shown sees) (λ T g. (
-      seen_after h (activated b st).part (activated b st).outs (option_map Reply.Activated (activated b st).reply) T (λ none. void_activate n h b st t.server (no_reply Reply.Activated (activated b st).reply none)) g.0,
+      seen_after h (activated b st).part (activated b st).outs (option_map Reply.Activated (activated b st).reply) T
+          (λ none. void_activate n h b st t.server (no_reply Reply.Activated (activated b st).reply none)) g.0,
       serving_server v m S T g.1,
-      answers_go h (ask.Activate b st) T (with_server t (activated b st).part) (activated b st).outs (option_map Reply.Activated (activated b st).reply) (activate_own n h.path b st t.server) (λ a is.
-          (let f = some_reply Reply.Activated (activated b st).reply a is in subst (ShowsReply v h (ask.Activate b st) T) f.2 (λ about. subst (ShowsActivated b T) f.1 (g.2 about)))),
+      answers_go h (ask.Activate b st) T (with_server t (activated b st).part) (activated b st).outs
+          (option_map Reply.Activated (activated b st).reply) (activate_own n h.path b st t.server) (λ a is.
+          (let f = some_reply Reply.Activated (activated b st).reply a is in
+          subst (ShowsReply v h (ask.Activate b st) T) f.2 (λ about. subst (ShowsActivated b T) f.1 (g.2 about)))),
     ))
 
     -- an Invoke
     abbrev invoked_by : ℕ → Binding → ℕ → List (Uid × End) → Op → Served Server InvokedReply
     invoked_by y b i ends o = server.invoke n h y b i ends o t.server
 
-    invoke_goes : (y : ℕ) (b : Binding) (i : ℕ) (ends : List (Uid × End)) (o : Op) → IsShown v h (ask.Invoke y b i ends o) t.server S → Takes (Some (h, ask.Invoke y b i ends o)) (serve n d t from h (ask.Invoke y b i ends o))
+    invoke_goes : (y : ℕ) (b : Binding) (i : ℕ) (ends : List (Uid × End)) (o : Op) → IsShown v h (ask.Invoke y b i ends o) t.server S →
+        Takes (Some (h, ask.Invoke y b i ends o)) (serve n d t from h (ask.Invoke y b i ends o))
     invoke_goes y b i ends o shown = goes_to (invokes_are_seen v h y b i ends o t.server S shown sees) (λ T g. (
-      seen_after h (invoked_by y b i ends o).part (invoked_by y b i ends o).outs (option_map Reply.Invoked (invoked_by y b i ends o).reply) T (λ none. void_invoke n h y b i ends o t.server (no_reply Reply.Invoked (invoked_by y b i ends o).reply none)) g.0,
+      seen_after h (invoked_by y b i ends o).part (invoked_by y b i ends o).outs (option_map Reply.Invoked (invoked_by y b i ends o).reply)
+          T (λ none. void_invoke n h y b i ends o t.server (no_reply Reply.Invoked (invoked_by y b i ends o).reply none)) g.0,
       serving_server v m S T g.1,
-      answers_go h (ask.Invoke y b i ends o) T (with_server t (invoked_by y b i ends o).part) (invoked_by y b i ends o).outs (option_map Reply.Invoked (invoked_by y b i ends o).reply) (invoke_own n h y b i ends o t.server) (λ a is.
-          (let f = some_reply Reply.Invoked (invoked_by y b i ends o).reply a is in subst (ShowsReply v h (ask.Invoke y b i ends o) T) f.2 (λ about. subst (ShowsIfInvoked v.family.act v.code (actor h.path) h.req (record { binding = b; op = o }) T) f.1 (g.2 about)))),
+      answers_go h (ask.Invoke y b i ends o) T (with_server t (invoked_by y b i ends o).part) (invoked_by y b i ends o).outs
+          (option_map Reply.Invoked (invoked_by y b i ends o).reply) (invoke_own n h y b i ends o t.server) (λ a is.
+          (let f = some_reply Reply.Invoked (invoked_by y b i ends o).reply a is in
+          subst (ShowsReply v h (ask.Invoke y b i ends o) T) f.2 (λ about.
+          subst (ShowsIfInvoked v.family.act v.code (actor h.path) h.req (record { binding = b; op = o }) T) f.1 (g.2 about)))),
     ))
 
     -- a Vote
     abbrev voted_by : ℕ → List (ℕ × Binding) → List (Uid × End) → Served Server VotedReply
     voted_by i ties ends = server.vote n h.path i ties ends t.server
 
-    vote_goes : (i : ℕ) (ties : List (ℕ × Binding)) (ends : List (Uid × End)) → ((a : Act) → is_vote_for v a (asks m) ≡ same a (v.family.act (actor h.path))) → IsShown v h (ask.Vote i ties ends) t.server S → Takes (Some (h, ask.Vote i ties ends)) (serve n d t from h (ask.Vote i ties ends))
+    vote_goes : (i : ℕ) (ties : List (ℕ × Binding)) (ends : List (Uid × End)) →
+        ((a : Act) → is_vote_for v a (asks m) ≡ same a (v.family.act (actor h.path))) → IsShown v h (ask.Vote i ties ends) t.server S →
+        Takes (Some (h, ask.Vote i ties ends)) (serve n d t from h (ask.Vote i ties ends))
     vote_goes i ties ends its shown = goes_to (votes_are_taken v h i ties ends t.server S reached lists shown sees) (λ T g. (
-      seen_after h (voted_by i ties ends).part (voted_by i ties ends).outs (option_map Reply.Voted (voted_by i ties ends).reply) T (λ none. void_vote n h i ties ends t.server (no_reply Reply.Voted (voted_by i ties ends).reply none)) g.0,
+      seen_after h (voted_by i ties ends).part (voted_by i ties ends).outs (option_map Reply.Voted (voted_by i ties ends).reply) T
+          (λ none. void_vote n h i ties ends t.server (no_reply Reply.Voted (voted_by i ties ends).reply none)) g.0,
       serving_vote v m (actor h.path) S T its g.1,
-      answers_go h (ask.Vote i ties ends) T (with_server t (voted_by i ties ends).part) (voted_by i ties ends).outs (option_map Reply.Voted (voted_by i ties ends).reply) (vote_own n h.path i ties ends t.server) (λ a is.
-          (let f = some_reply Reply.Voted (voted_by i ties ends).reply a is in subst (ShowsReply v h (ask.Vote i ties ends) T) f.2 (vote_shown T f.0 (λ b states tied yes. (let k = g.2 b states tied (f.1 ∙ yes) in let k0 = k.0 in let w = k0.voted in (w.yes, k.1, k.2)))))),
+      answers_go h (ask.Vote i ties ends) T (with_server t (voted_by i ties ends).part) (voted_by i ties ends).outs
+          (option_map Reply.Voted (voted_by i ties ends).reply) (vote_own n h.path i ties ends t.server) (λ a is.
+          (let f = some_reply Reply.Voted (voted_by i ties ends).reply a is in
+          subst (ShowsReply v h (ask.Vote i ties ends) T) f.2 (vote_shown T f.0
+          (λ b states tied yes. (let k = g.2 b states tied (f.1 ∙ yes) in let k0 = k.0 in let w = k0.voted in (w.yes, k.1, k.2)))))),
     ))
       where
-        vote_shown : (T : State) (r : VotedReply) → ((b : Binding) (states : List ObjectState) → Contains {X = ℕ × Binding} ties (v.x, b) → Some r ≡ Some (voted.Yes states) → (binding_number b ≤ T.yes (v.family.act (actor h.path))) × IsVotedBy v (actor h.path) b states T × HaveOne v.x states) → ShowsReply v h (ask.Vote i ties ends) T (Reply.Voted r)
+        vote_shown : (T : State) (r : VotedReply) → ((b : Binding) (states : List ObjectState) → Contains {X = ℕ × Binding} ties (v.x, b) →
+            Some r ≡ Some (voted.Yes states) → (binding_number b ≤ T.yes (v.family.act (actor h.path)))
+            × IsVotedBy v (actor h.path) b states T × HaveOne v.x states) → ShowsReply v h (ask.Vote i ties ends) T (Reply.Voted r)
         vote_shown T (voted.Yes states) shows = λ b tied. shows b states tied refl
         vote_shown T (voted.Changed w) shows = tt
 
@@ -255,12 +275,16 @@ module _ (v : View) (d : Disk) (t : Parts) (from : ℕ) (m : Message) (S : State
     asked_goes (ask.Activate b st) is shown = activate_goes b st shown
     asked_goes (ask.Invoke y b i ends o) is shown = invoke_goes y b i ends o shown
     asked_goes (ask.Vote i ties ends) is shown = vote_goes i ties ends (λ a. ap (is_vote_for v a) is) shown
-    asked_goes (ask.Bind x include avoid) is shown = left (Some (h, ask.Bind x include avoid)) refl (serve n d t from h (ask.Bind x include avoid)) (by t.naming)
+    asked_goes (ask.Bind x include avoid) is shown =
+        left (Some (h, ask.Bind x include avoid)) refl (serve n d t from h (ask.Bind x include avoid)) (by t.naming)
       where
-        by : (o : Option Naming) → server_after t (if_naming (λ q. served from h (with_naming t) Reply.Bound (naming.bind h.path x include avoid d.names q)) o) ≡ t.server
+        by : (o : Option Naming) → server_after t
+            (if_naming (λ q. served from h (with_naming t) Reply.Bound (naming.bind h.path x include avoid d.names q)) o) ≡ t.server
         by None = refl
-        by (Some q) = let r = naming.bind h.path x include avoid d.names q in answered_same from h (with_naming t r.part) r.outs (option_map Reply.Bound r.reply) refl
-    asked_goes (ask.Load x) is shown = left (Some (h, ask.Load x)) refl (serve n d t from h (ask.Load x)) (load (holder_of (object x) d.store))
+        by (Some q) = let r = naming.bind h.path x include avoid d.names q in
+            answered_same from h (with_naming t r.part) r.outs (option_map Reply.Bound r.reply) refl
+    asked_goes (ask.Load x) is shown =
+        left (Some (h, ask.Load x)) refl (serve n d t from h (ask.Load x)) (load (holder_of (object x) d.store))
       where
         held : (o : Option ObjectState) → server_after t (load_held from h t o) ≡ t.server
         held None = refl
@@ -269,12 +293,16 @@ module _ (v : View) (d : Disk) (t : Parts) (from : ℕ) (m : Message) (S : State
         load : (o : Option Uid) → server_after t (load_by x d.store from h t o) ≡ t.server
         load (Some u) = refl
         load None = held (held_at (object x) d.store)
-    asked_goes (ask.Record x b i g) is shown = left (Some (h, ask.Record x b i g)) refl (serve n d t from h (ask.Record x b i g)) (by t.naming)
+    asked_goes (ask.Record x b i g) is shown =
+        left (Some (h, ask.Record x b i g)) refl (serve n d t from h (ask.Record x b i g)) (by t.naming)
       where
-        by : (o : Option Naming) → server_after t (if_naming (λ q. served from h (with_naming t) Reply.Noted (naming.note h.path x b i g q)) o) ≡ t.server
+        by : (o : Option Naming) →
+            server_after t (if_naming (λ q. served from h (with_naming t) Reply.Noted (naming.note h.path x b i g q)) o) ≡ t.server
         by None = refl
-        by (Some q) = let r = naming.note h.path x b i g q in answered_same from h (with_naming t r.part) r.outs (option_map Reply.Noted r.reply) refl
-    asked_goes (ask.Prepare states) is shown = left (Some (h, ask.Prepare states)) refl (serve n d t from h (ask.Prepare states)) (by (is_prepared (actor h.path) d.store))
+        by (Some q) = let r = naming.note h.path x b i g q in
+            answered_same from h (with_naming t r.part) r.outs (option_map Reply.Noted r.reply) refl
+    asked_goes (ask.Prepare states) is shown =
+        left (Some (h, ask.Prepare states)) refl (serve n d t from h (ask.Prepare states)) (by (is_prepared (actor h.path) d.store))
       where
         new : (a : Prep) → server_after t (prepare_by n states from h t a) ≡ t.server
         new Ready = refl
@@ -282,14 +310,18 @@ module _ (v : View) (d : Disk) (t : Parts) (from : ℕ) (m : Message) (S : State
         new (Old u w) = refl
         new (InDoubt u holder) = refl
 
-        by : (b : Bool) → server_after t (cond b (sends_answer from h t [] (Some (Reply.Prepared prepared.Yes))) (prepare_by n states from h t (prepare_answer (actor h.path) states d.store))) ≡ t.server
+        by : (b : Bool) → server_after t (cond b (sends_answer from h t [] (Some (Reply.Prepared prepared.Yes)))
+            (prepare_by n states from h t (prepare_answer (actor h.path) states d.store))) ≡ t.server
         by true = refl
         by false = new (prepare_answer (actor h.path) states d.store)
-    asked_goes (ask.Confirm grants excluded included) is shown = left (Some (h, ask.Confirm grants excluded included)) refl (serve n d t from h (ask.Confirm grants excluded included)) (by t.naming)
+    asked_goes (ask.Confirm grants excluded included) is shown =
+        left (Some (h, ask.Confirm grants excluded included)) refl (serve n d t from h (ask.Confirm grants excluded included)) (by t.naming)
       where
-        by : (o : Option Naming) → server_after t (if_naming (λ q. served from h (with_naming t) Reply.Confirmed (confirm h.path grants excluded included d.names q)) o) ≡ t.server
+        by : (o : Option Naming) → server_after t (if_naming
+            (λ q. served from h (with_naming t) Reply.Confirmed (confirm h.path grants excluded included d.names q)) o) ≡ t.server
         by None = refl
-        by (Some q) = let r = confirm h.path grants excluded included d.names q in answered_same from h (with_naming t r.part) r.outs (option_map Reply.Confirmed r.reply) refl
+        by (Some q) = let r = confirm h.path grants excluded included d.names q in
+            answered_same from h (with_naming t r.part) r.outs (option_map Reply.Confirmed r.reply) refl
 
   -- ---- other messages
 
@@ -300,7 +332,8 @@ module _ (v : View) (d : Disk) (t : Parts) (from : ℕ) (m : Message) (S : State
       by None = refl
       by (Some u) = refl
 
-  told_goes : (ack : Bool) (ends : List (Uid × End)) → AreBrought v ends t.server S → Takes None (handle_ends n d t from ack ends (last_end ends))
+  told_goes : (ack : Bool) (ends : List (Uid × End)) → AreBrought v ends t.server S →
+      Takes None (handle_ends n d t from ack ends (last_end ends))
   told_goes ack ends brought = by (last_end ends)
     where
       by : (o : Option (Uid × End)) → Takes None (handle_ends n d t from ack ends o)
@@ -309,7 +342,8 @@ module _ (v : View) (d : Disk) (t : Parts) (from : ℕ) (m : Message) (S : State
 
   other_goes : (q : Message) → IsTellingShown v t.server S q → Takes None (handle_other n d t from q)
   other_goes (message.Told q) shown = told_goes q.ack q.ends shown
-  other_goes (message.Acked q) shown = left None tt (handle_other n d t from (message.Acked q)) (coord_same (acked from q.act d.intents t.coord))
+  other_goes (message.Acked q) shown =
+      left None tt (handle_other n d t from (message.Acked q)) (coord_same (acked from q.act d.intents t.coord))
   other_goes (message.Query q) shown = left None tt (handle_other n d t from (message.Query q)) refl
   other_goes (message.Hello q) shown = left None tt (handle_other n d t from (message.Hello q)) refl
   other_goes (message.Bind q) shown = left None tt (Void []) refl

@@ -1,36 +1,29 @@
 -- An action that begins is seen.
-use Rattle.std.proofs.Common.{◌≡◌, ◌≤◌, ◌+◌, ◌⊎◌, ◌∙◌, ◌||◌, ◌++◌, zero, suc, ℕ, List, [], ◌∷◌, true, false, cond, length, Option, Some, None, is_some, refl, sym, ap, subst, inl, inr, ⊎_elim, arith}
-use Rattle.std.specs.Prelude.{Contains, slice_get}
-use Rattle.arj_base.specs.Path.{before_last, first_uid}
-use Rattle.arj_base.specs.Rows.{front, last_uid}
-use Rattle.arj_lock.proofs.Members.{in_from}
-use Rattle.arj_protocol.specs.Words.{Kind, Label, Path, Uid, uids_of}
-use Rattle.arj_protocol.specs.Words.ending
-use Rattle.arj_protocol.specs.Asking.{begin_action}
-use Rattle.arj_protocol.specs.Coord.{Calling, Committing, Coord, Doing, Idle, Root, doing_of, new_coord, root_at}
-use Rattle.arj_protocol.specs.Tree.{Branch, at_place, branch_of, ended_so, is_aborted, is_open, is_open_branch, is_own, is_spent, new_tree, next_uid, path_below, root_of}
-use Rattle.arj_law_lock.specs.machine.Actions.{Act, root}
-use Rattle.arj_law_lock.specs.machine.Actions as machine
-use Rattle.arj_law_lock.specs.machine.State.{Include, State}
-use Rattle.arj_law_lock.proofs.machine.Paths.{on_root as same_unit}
-use Rattle.arj_law_parts.specs.parts.Copies.{Paths}
-use Rattle.arj_law_parts.proofs.parts.Begun.{before_on}
-use Rattle.arj_law_parts.proofs.parts.GoodCoords.{doing_by}
-use Rattle.arj_law_parts.proofs.parts.GoodTrees.{found_by, get_more, grown_cases, grown_still, new, not_yet, place_in}
-use Rattle.arj_law_lock_view.specs.view.Acts.{Acts}
-use Rattle.arj_law_lock_view.specs.view.Actions.{IsHere, IsIdle, SeesAction, SeesActions}
-use Rattle.arj_law_lock_view.specs.view.Begins.{IsBeginning, NewCoordsAreSeen}
-use Rattle.arj_law_lock_view.specs.view.Copies.{Codes}
-use Rattle.arj_law_lock_view.specs.view.Including.{IsNoted, SeesIncludes}
-use Rattle.arj_law_lock_view.specs.view.Inputs.{BeginsAreTaken, SeesWhole}
-use Rattle.arj_law_lock_view.specs.view.Roots.{SeesCoord, SeesRoot}
+use Rattle.arj_law_parts.proofs.Words
+use Words.{◌≡◌, ◌≤◌, ◌+◌, ◌⊎◌, ◌∙◌, ◌||◌, ◌++◌, zero, suc, ℕ, List, [], ◌∷◌, true, false, cond, length, Option, Some, None, is_some, refl}
+use Words.{sym, ap, subst, inl, inr, ⊎_elim, arith, Contains, slice_get, before_last, first_uid, front, last_uid, in_from, Kind, Label}
+use Words.{Path, Uid, uids_of, begin_action, Calling, Committing, Coord, Doing, Idle, Root, doing_of, new_coord, root_at, Branch, at_place}
+use Words.{branch_of, ended_so, is_aborted, is_open, is_open_branch, is_own, is_spent, new_tree, next_uid, path_below, root_of}
+use Words.ending
+use Rattle.arj_law_lock_view.proofs.Terms
+use Terms.{Act, root, Include, State, on_root as same_unit, Paths, doing_by, found_by, get_more, grown_cases, grown_still, new, not_yet}
+use Terms.{place_in, Acts, IsHere, IsIdle, SeesAction, SeesActions, IsBeginning, Codes, IsNoted, SeesIncludes, SeesWhole, SeesCoord}
+use Terms.{SeesRoot}
 use Rattle.arj_law_lock_view.proofs.view.TreeSteps.{root_there}
+use Rattle.arj_law_lock_view.specs.view.{Begins.NewCoordsAreSeen, Inputs.BeginsAreTaken}
+use Rattle.arj_law_parts.proofs.parts.Begun.{before_on}
+use Rattle.arj_law_lock.specs.machine.Actions as machine
 
 -- ---- a coordinator that has just started
 
 pub new_coords_are_seen : NewCoordsAreSeen
 new_coords_are_seen act code x node inc S = record {
-  actions = record { each = λ u b d there. absurd (none u b there); opened = λ u b r there. absurd (none u b there); quiet = λ u b there. absurd (none u b there); others = λ u b a there. absurd (none u b there) };
+  actions = record {
+    each = λ u b d there. absurd (none u b there);
+    opened = λ u b r there. absurd (none u b there);
+    quiet = λ u b there. absurd (none u b there);
+    others = λ u b a there. absurd (none u b there);
+  };
   roots = λ u b there. absurd (none u b there);
   calls = λ u d s o works. absurd (idle u d works);
   plain = λ u d s works. absurd (idle u d works);
@@ -60,7 +53,8 @@ first_only (u ∷ w ∷ us) none = absurd (more u w us none)
     more u w [] is = let no_way : ◌≡◌ {A = Option Uid} (Some u) None = is in cc no_way
     more u w (v ∷ us) is = more w v us is
 
-module _ (act : Acts) (code : Codes) (paths : Paths) (x : ℕ) (l : Label) (k : Kind) (parent : Option Label) (above : Option Branch) (c : Coord) (S : State) (begins : IsBeginning act paths k above c S) (sees : SeesCoord act code x c S) where
+module _ (act : Acts) (code : Codes) (paths : Paths) (x : ℕ) (l : Label) (k : Kind) (parent : Option Label) (above : Option Branch)
+    (c : Coord) (S : State) (begins : IsBeginning act paths k above c S) (sees : SeesCoord act code x c S) where
   abbrev u : Uid
   u = next_uid c.tree
 
@@ -83,11 +77,13 @@ module _ (act : Acts) (code : Codes) (paths : Paths) (x : ℕ) (l : Label) (k : 
   cases = grown_cases k p c.tree
 
   unborn : (w : Uid) (b : Branch) → w ≡ u → branch_of w c.tree ≡ Some b → ⊥
-  unborn w b is there = let no_way : ◌≡◌ {A = Option Branch} None (Some b) = sym (not_yet k p c.tree) ∙ ap (λ (v : Uid). branch_of v c.tree) (sym is) ∙ there in cc no_way
+  unborn w b is there = let no_way : ◌≡◌ {A = Option Branch} None (Some b) = sym (not_yet k p c.tree)
+      ∙ ap (λ (v : Uid). branch_of v c.tree) (sym is) ∙ there in cc no_way
 
   -- ---- who is at work
 
-  place_cases : (j : ℕ) (d : Doing) → at_place j (c.doings ++ idle ∷ []) ≡ Some d → (at_place j c.doings ≡ Some d) ⊎ ((j ≡ length c.doings + 1) × (idle ≡ d))
+  place_cases : (j : ℕ) (d : Doing) → at_place j (c.doings ++ idle ∷ []) ≡ Some d →
+      (at_place j c.doings ≡ Some d) ⊎ ((j ≡ length c.doings + 1) × (idle ≡ d))
   place_cases zero d is = absurd (let no_way : ◌≡◌ {A = Option Doing} None (Some d) = is in cc no_way)
   place_cases (suc j) d is = ⊎_elim (λ old. inl old) (λ f. inr (one j (length c.doings) f.0, f.1)) (get_more j idle d c.doings is)
     where
@@ -107,7 +103,8 @@ module _ (act : Acts) (code : Codes) (paths : Paths) (x : ℕ) (l : Label) (k : 
   old_work : (w : Uid) (d : Doing) (b : Branch) → branch_of w c.tree ≡ Some b → doing_of w e ≡ Some d → doing_of w c ≡ Some d
   old_work w d b there works = ⊎_elim
       (λ (old : at_place w.num c.doings ≡ Some d). (λ i. cond (own i) (at_place w.num c.doings) None) ∙ old)
-      (λ (f : (w.num ≡ length c.doings + 1) × (idle ≡ d)). absurd (beyond w.num (length c.doings) (length (let t = c.tree in t.branches)) f.0 begins.steady.works (in_place w.num b (let t = c.tree in t.branches) (found_by w c.tree b there).1)))
+      (λ (f : (w.num ≡ length c.doings + 1) × (idle ≡ d)). absurd (beyond w.num (length c.doings) (length (let t = c.tree in t.branches))
+      f.0 begins.steady.works (in_place w.num b (let t = c.tree in t.branches) (found_by w c.tree b there).1)))
       (place_cases w.num d (doing_by w e d works).1)
     where
       own : is_own w c.tree ≡ true
@@ -118,7 +115,8 @@ module _ (act : Acts) (code : Codes) (paths : Paths) (x : ℕ) (l : Label) (k : 
 
   new_work : (d : Doing) → doing_of u e ≡ Some d → d ≡ idle
   new_work d works = ⊎_elim
-      (λ (old : at_place u.num c.doings ≡ Some d). absurd (beyond (length c.doings) (length (let t = c.tree in t.branches)) begins.steady.works (in_place u.num d c.doings old)))
+      (λ (old : at_place u.num c.doings ≡ Some d).
+      absurd (beyond (length c.doings) (length (let t = c.tree in t.branches)) begins.steady.works (in_place u.num d c.doings old)))
       (λ f. sym f.1)
       (place_cases u.num d (doing_by u e d works).1)
     where
@@ -157,7 +155,8 @@ module _ (act : Acts) (code : Codes) (paths : Paths) (x : ℕ) (l : Label) (k : 
             w = h;
             b = b;
             there = there;
-            root_is = ap first_uid path_is ∙ first_front (paths u) h up ∙ ap first_uid ((begins.steady.whole.heir u h up).0 ∙ sym (begins.steady.good.tree.lists.paths_are h b there));
+            root_is = ap first_uid path_is ∙ first_front (paths u) h up
+                ∙ ap first_uid ((begins.steady.whole.heir u h up).0 ∙ sym (begins.steady.good.tree.lists.paths_are h b there));
             unit_is = same_unit (act u) (act h) (begins.steady.alike.above u h ∙ before_on (paths u) h up);
           }
 
@@ -172,23 +171,29 @@ module _ (act : Acts) (code : Codes) (paths : Paths) (x : ℕ) (l : Label) (k : 
     opened = λ w b r there root_is_there un. ⊎_elim
         (λ (old : branch_of w c.tree ≡ Some b). old_open w b r old root_is_there un)
         (λ (f : (w ≡ u) × (fresh ≡ b)). ⊎_elim
-        (λ (own : root_of p ≡ u). let n = (begins.unit own).0 in ap (λ (v : Uid). (let a = S.action (machine.Root (root (act v))) in a.stage)) f.0 ∙ n.stage)
-        (λ (below : IsBelow). ap (λ (v : Uid). (let a = S.action (machine.Root (root (act v))) in a.stage)) f.0 ∙ ap (λ (n : ℕ). (let a = S.action (machine.Root n) in a.stage)) below.unit_is
-        ∙ old_open below.w below.b r below.there (ap (λ (v : Uid). branch_of v e.tree) (sym below.root_is ∙ ap (λ (v : Branch). root_of v.path) f.1) ∙ root_is_there) un)
+        (λ (own : root_of p ≡ u). let n = (begins.unit own).0 in
+        ap (λ (v : Uid). (let a = S.action (machine.Root (root (act v))) in a.stage)) f.0 ∙ n.stage)
+        (λ (below : IsBelow). ap (λ (v : Uid). (let a = S.action (machine.Root (root (act v))) in a.stage)) f.0
+        ∙ ap (λ (n : ℕ). (let a = S.action (machine.Root n) in a.stage)) below.unit_is
+        ∙ old_open below.w below.b r below.there
+        (ap (λ (v : Uid). branch_of v e.tree) (sym below.root_is ∙ ap (λ (v : Branch). root_of v.path) f.1) ∙ root_is_there) un)
         place)
         (cases w b there);
     quiet = λ w b there. ⊎_elim
         (λ (old : branch_of w c.tree ≡ Some b). sees.actions.quiet w b old)
         (λ (f : (w ≡ u) × (fresh ≡ b)). ⊎_elim
-        (λ (own : root_of p ≡ u). let n = (begins.unit own).0 in ap (λ (v : Uid). (let a = S.action (machine.Root (root (act v))) in a.waits)) f.0 ∙ n.waits)
-        (λ (below : IsBelow). ap (λ (v : Uid). (let a = S.action (machine.Root (root (act v))) in a.waits)) f.0 ∙ ap (λ (n : ℕ). (let a = S.action (machine.Root n) in a.waits)) below.unit_is ∙ sees.actions.quiet below.w below.b below.there)
+        (λ (own : root_of p ≡ u). let n = (begins.unit own).0 in
+        ap (λ (v : Uid). (let a = S.action (machine.Root (root (act v))) in a.waits)) f.0 ∙ n.waits)
+        (λ (below : IsBelow). ap (λ (v : Uid). (let a = S.action (machine.Root (root (act v))) in a.waits)) f.0
+        ∙ ap (λ (n : ℕ). (let a = S.action (machine.Root n) in a.waits)) below.unit_is ∙ sees.actions.quiet below.w below.b below.there)
         place)
         (cases w b there);
     others = λ w b a there home action. ⊎_elim
         (λ (old : branch_of w c.tree ≡ Some b). here a (sees.actions.others w b a old home action))
         (λ (f : (w ≡ u) × (fresh ≡ b)). ⊎_elim
         (λ (own : root_of p ≡ u). let n = (begins.unit own).0 in inr (n.idle a (home ∙ ap (λ (v : Uid). root (act v)) f.0) action))
-        (λ (below : IsBelow). here a (sees.actions.others below.w below.b a below.there (home ∙ ap (λ (v : Uid). root (act v)) f.0 ∙ below.unit_is) action))
+        (λ (below : IsBelow).
+        here a (sees.actions.others below.w below.b a below.there (home ∙ ap (λ (v : Uid). root (act v)) f.0 ∙ below.unit_is) action))
         place)
         (cases w b there);
   }
@@ -196,10 +201,18 @@ module _ (act : Acts) (code : Codes) (paths : Paths) (x : ℕ) (l : Label) (k : 
       its : (w : Uid) (d : Doing) → w ≡ u → doing_of w e ≡ Some d → SeesAction x fresh d (S.action (act w))
       its w d is works =
           let i = new_work d (ap (λ (v : Uid). doing_of v e) (sym is) ∙ works) in
-          subst (λ (v : Doing). SeesAction x fresh v (S.action (act w))) (sym i) (subst (λ (v : Uid). SeesAction x fresh idle (S.action (act v))) (sym is)
-          (let n = begins.untouched in record { stage = n.stage; request = subst (λ (m : ℕ). m ≤ 0) (sym n.request) (omega arith); waits = λ h. n.waits; last = λ h. n.request; doomed = λ h. n.doomed }))
+          subst (λ (v : Doing). SeesAction x fresh v (S.action (act w))) (sym i)
+          (subst (λ (v : Uid). SeesAction x fresh idle (S.action (act v))) (sym is)
+          (let n = begins.untouched in record {
+            stage = n.stage;
+            request = subst (λ (m : ℕ). m ≤ 0) (sym n.request) (omega arith);
+            waits = λ h. n.waits;
+            last = λ h. n.request;
+            doomed = λ h. n.doomed;
+          }))
 
-      old_open : (w : Uid) (b r : Branch) → branch_of w c.tree ≡ Some b → branch_of (root_of b.path) e.tree ≡ Some r → is_some r.ended ≡ false → (let a = S.action (machine.Root (root (act w))) in a.stage) ≡ 0
+      old_open : (w : Uid) (b r : Branch) → branch_of w c.tree ≡ Some b → branch_of (root_of b.path) e.tree ≡ Some r →
+          is_some r.ended ≡ false → (let a = S.action (machine.Root (root (act w))) in a.stage) ≡ 0
       old_open w b r there root_is_there un =
           let q = root_there act paths x c S.action begins.steady sees.actions w b there in
           let two : ◌≡◌ {A = Option Branch} (Some q.0) (Some r) = sym (grows (root_of b.path) q.0 q.1) ∙ root_is_there in
@@ -223,7 +236,8 @@ module _ (act : Acts) (code : Codes) (paths : Paths) (x : ℕ) (l : Label) (k : 
           at None is = ap (ended_so ending.Abort) (is ∙ sym none)
           at (Some b) is = ⊎_elim
               (λ (old : branch_of w c.tree ≡ Some b). ap (ended_so ending.Abort) (is ∙ sym old))
-              (λ (f : (w ≡ u) × (fresh ≡ b)). ap (ended_so ending.Abort) is ∙ ap (λ (v : Branch). ended_so ending.Abort (Some v)) (sym f.1) ∙ sym (ap (ended_so ending.Abort) none))
+              (λ (f : (w ≡ u) × (fresh ≡ b)). ap (ended_so ending.Abort) is ∙ ap (λ (v : Branch). ended_so ending.Abort (Some v)) (sym f.1)
+              ∙ sym (ap (ended_so ending.Abort) none))
               (cases w b is)
 
   spent_same : (us : List Uid) → is_spent us e.tree ≡ is_spent us c.tree
@@ -234,7 +248,15 @@ module _ (act : Acts) (code : Codes) (paths : Paths) (x : ℕ) (l : Label) (k : 
   old_root w s = record {
     keeping = s.keeping;
     spent = λ none z i about. spent_same z.path ∙ s.spent none z i about;
-    said = λ z i about. (let y = s.said z i about in record { branch = y.branch; there = grows (last_uid z.path) y.branch y.there; path = y.path; of = y.of; call = y.call; called = y.called; by = y.by });
+    said = λ z i about. (let y = s.said z i about in record {
+      branch = y.branch;
+      there = grows (last_uid z.path) y.branch y.there;
+      path = y.path;
+      of = y.of;
+      call = y.call;
+      called = y.called;
+      by = y.by;
+    });
     calls = s.calls;
     heard = s.heard;
   }
@@ -253,7 +275,8 @@ module _ (act : Acts) (code : Codes) (paths : Paths) (x : ℕ) (l : Label) (k : 
     actions = actions;
     roots = λ w b there own. ⊎_elim
         (λ (old : branch_of w c.tree ≡ Some b). old_root w (sees.roots w b old own))
-        (λ (f : (w ≡ u) × (fresh ≡ b)). let mine : root_of p ≡ u = ap (λ (v : Branch). root_of v.path) f.1 ∙ own ∙ f.0 in subst (λ (v : Uid). SeesRoot act x v (root_at v c) e.tree S) (sym f.0) (new_root mine))
+        (λ (f : (w ≡ u) × (fresh ≡ b)). let mine : root_of p ≡ u = ap (λ (v : Branch). root_of v.path) f.1 ∙ own ∙ f.0 in
+        subst (λ (v : Uid). SeesRoot act x v (root_at v c) e.tree S) (sym f.0) (new_root mine))
         (cases w b there);
     calls = λ w d s o works calling. ⊎_elim
         (λ (is : d ≡ idle). absurd (let no_way = ap (λ (v : Doing). v.now) (sym is) ∙ calling in cc no_way))
@@ -272,7 +295,8 @@ module _ (act : Acts) (code : Codes) (paths : Paths) (x : ℕ) (l : Label) (k : 
     inc = whole.includes
 
     -- who included was begun before
-    noted : (w : Uid) (b : Branch) (i : Include) → branch_of w c.tree ≡ Some b → root_of b.path ≡ w → IsNoted act x i (root_at w c) c.tree → IsNoted act x i (root_at w c) e.tree
+    noted : (w : Uid) (b : Branch) (i : Include) → branch_of w c.tree ≡ Some b → root_of b.path ≡ w → IsNoted act x i (root_at w c) c.tree →
+        IsNoted act x i (root_at w c) e.tree
     noted w b i there own n = record {
       join = n.join;
       there = n.there;
@@ -280,7 +304,8 @@ module _ (act : Acts) (code : Codes) (paths : Paths) (x : ℕ) (l : Label) (k : 
       by = n.by;
       granted = λ q found. ⊎_elim
           (λ (old : branch_of (last_uid (let j = n.join in j.path)) c.tree ≡ Some q). n.granted q old)
-          (λ (f : (last_uid (let j = n.join in j.path) ≡ u) × (fresh ≡ q)). absurd (let j = inc.joins w b n.join there own n.there n.about in unborn (last_uid (let y = n.join in y.path)) j.branch f.0 j.found))
+          (λ (f : (last_uid (let j = n.join in j.path) ≡ u) × (fresh ≡ q)). absurd
+          (let j = inc.joins w b n.join there own n.there n.about in unborn (last_uid (let y = n.join in y.path)) j.branch f.0 j.found))
           (cases (last_uid (let j = n.join in j.path)) q found);
     }
 
@@ -293,11 +318,14 @@ module _ (act : Acts) (code : Codes) (paths : Paths) (x : ℕ) (l : Label) (k : 
       includes = record {
         lines = λ w b i there own has home. ⊎_elim
             (λ (old : branch_of w c.tree ≡ Some b). noted w b i old own (inc.lines w b i old own has home))
-            (λ (f : (w ≡ u) × (fresh ≡ b)). absurd (let n = (begins.unit (mine w b own f)).0 in n.includes i has (home ∙ ap (λ (v : Uid). root (act v)) f.0)))
+            (λ (f : (w ≡ u) × (fresh ≡ b)). absurd (let n = (begins.unit (mine w b own f)).0 in
+            n.includes i has (home ∙ ap (λ (v : Uid). root (act v)) f.0)))
             (cases w b there);
         joins = λ w b j there own has about. ⊎_elim
-            (λ (old : branch_of w c.tree ≡ Some b). let n = inc.joins w b j old own has about in record { branch = n.branch; found = grows (last_uid j.path) n.branch n.found; path = n.path })
-            (λ (f : (w ≡ u) × (fresh ≡ b)). absurd (let n = begins.unit (mine w b own f) in in_from j [] (subst (λ (r : Root). Contains r.joined j) (ap (λ (v : Uid). root_at v c) f.0 ∙ n.1) has)))
+            (λ (old : branch_of w c.tree ≡ Some b). let n = inc.joins w b j old own has about in
+            record { branch = n.branch; found = grows (last_uid j.path) n.branch n.found; path = n.path })
+            (λ (f : (w ≡ u) × (fresh ≡ b)). absurd (let n = begins.unit (mine w b own f) in
+            in_from j [] (subst (λ (r : Root). Contains r.joined j) (ap (λ (v : Uid). root_at v c) f.0 ∙ n.1) has)))
             (cases w b there);
         waits = λ w d s y works is load. ⊎_elim
             (λ (new : d ≡ idle). absurd (let bad : Idle ≡ Calling s = sym (ap (λ (v : Doing). v.now) new) ∙ is in cc bad))
@@ -315,4 +343,5 @@ module _ (act : Acts) (code : Codes) (paths : Paths) (x : ℕ) (l : Label) (k : 
     }
 
 pub begins_are_taken : BeginsAreTaken
-begins_are_taken act code paths x l k parent above c S begins whole = begins_whole act code paths x l k parent above c S begins whole.coord whole
+begins_are_taken act code paths x l k parent above c S begins whole =
+    begins_whole act code paths x l k parent above c S begins whole.coord whole

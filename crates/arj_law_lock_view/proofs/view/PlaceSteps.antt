@@ -1,36 +1,28 @@
 -- Where actions that were begun stand, in the protocol and in the machine.
-use Rattle.std.proofs.Common.{◌≡◌, ◌≢◌, ◌≤◌, ◌∙◌, ◌++◌, ◌+◌, ◌||◌, ℕ, List, [], ◌∷◌, length, take, Bool, true, false, Some, refl, sym, ap, subst, inl, inr, ⊎_elim, Contains, arith}
-use Rattle.std.specs.List.{list_any}
-use Rattle.std.proofs.lemmas.Bool.{or_cases}
-use Rattle.std.proofs.lemmas.List.{length-append, take-append-le}
-use Rattle.arj_base.specs.Path.{before_last}
-use Rattle.arj_base.proofs.Uids.{uid_is}
-use Rattle.arj_lock.proofs.Members as list
-use Rattle.arj_lock.proofs.Members.{in_from, in_to}
-use Rattle.arj_lock.proofs.PassLeaves.{which}
-use Rattle.arj_protocol.specs.Words.{Kind, Row, Uid, first_uid, is_on, tops_of, uid_eq, uids_of}
-use Rattle.arj_protocol.specs.Words.kind
-use Rattle.arj_protocol.specs.Copy.{Copy, is_top_in}
-use Rattle.arj_protocol.specs.Server.{Server, is_top}
-use Rattle.arj_law_lock.specs.machine.Actions.{Act, Root, Sub, depth, is_action, on, root}
-use Rattle.arj_law_lock.specs.machine.Actions as machine
-use Rattle.arj_law_lock.specs.machine.State.{State}
-use Rattle.arj_law_lock.proofs.machine.Paths.{differ, not_below, on_above, on_base, on_root, on_self, on_trans, on_up, root_is, same_is, top_action}
-use Rattle.arj_law_parts.specs.parts.Actions.{Action, AreBegun, Stands, act_of}
-use Rattle.arj_law_parts.proofs.parts.Begun.{before_more, on_more, one_action, path_length, path_some, serial_alone, where_stands}
-use Rattle.arj_law_lock_view.specs.view.Actions.{IsPlaced}
-use Rattle.arj_law_lock_view.specs.view.Acts.{IsCaller, IsDeep}
-use Rattle.arj_law_lock_view.specs.view.Commits.{IsAlone, IsRightBelow}
-use Rattle.arj_law_lock_view.specs.view.Telling.{AreOneTree, Family, IsOfFamily, is_plain}
+use Rattle.arj_law_parts.proofs.Words
+use Words.{◌≡◌, ◌≢◌, ◌≤◌, ◌∙◌, ◌++◌, ◌+◌, ◌||◌, ℕ, List, [], ◌∷◌, length, take, Bool, true, false, Some, refl, sym, ap, subst, inl, inr}
+use Words.{⊎_elim, Contains, arith, list_any, or_cases, length-append, take-append-le, before_last, uid_is, in_from, in_to, which, Kind}
+use Words.{Row, Uid, first_uid, is_on, tops_of, uid_eq, uids_of, Copy, is_top_in, Server, is_top}
+use Words.list
+use Words.kind
+use Rattle.arj_law_lock_view.proofs.Terms
+use Terms.{Act, Root, Sub, depth, is_action, on, root, State, differ, not_below, on_above, on_base, on_root, on_self, on_trans, on_up}
+use Terms.{root_is, same_is, top_action, Action, AreBegun, Stands, act_of, on_more, one_action, path_length, path_some, serial_alone}
+use Terms.{where_stands, IsPlaced, IsCaller, IsDeep, IsAlone, IsRightBelow, AreOneTree, Family, IsOfFamily}
 use Rattle.arj_law_lock_view.proofs.view.TreeSteps.{first_on}
+use Rattle.arj_law_lock_view.specs.view.Telling.{is_plain}
+use Rattle.arj_law_parts.proofs.parts.Begun.{before_more}
+use Rattle.arj_law_lock.specs.machine.Actions as machine
 
 -- ---- the first Uids of a path
 
 -- the Uids of a path up to its top are of actions that were begun, none of them nested
-pub leads : (acts : List Action) → AreBegun acts → (d : Action) → list.In d acts → (u : Uid) → is_on (take (tops_of d.path) (uids_of d.path)) u ≡ true → (b : Action) × list.In b acts × (act_of b ≡ u) × (b.kind ≢ kind.Nested)
+pub leads : (acts : List Action) → AreBegun acts → (d : Action) → list.In d acts → (u : Uid) →
+    is_on (take (tops_of d.path) (uids_of d.path)) u ≡ true → (b : Action) × list.In b acts × (act_of b ≡ u) × (b.kind ≢ kind.Nested)
 leads [] begun d i u above = absurd i
 leads (a ∷ acts) begun d (inr i) u above = let f = leads acts begun.1 d i u above in (f.0, inr f.1, f.2, f.3)
-leads (a ∷ acts) begun d (inl is) u above = of (leads acts begun.1) a.kind refl (let new = begun.0 in new.stands) (subst (λ (z : Action). is_on (take (tops_of z.path) (uids_of z.path)) u ≡ true) (sym is) above)
+leads (a ∷ acts) begun d (inl is) u above = of (leads acts begun.1) a.kind refl (let new = begun.0 in
+    new.stands) (subst (λ (z : Action). is_on (take (tops_of z.path) (uids_of z.path)) u ≡ true) (sym is) above)
   where
     Found : Type 0
     Found = (b : Action) × list.In b (a ∷ acts) × (act_of b ≡ u) × (b.kind ≢ kind.Nested)
@@ -41,14 +33,17 @@ leads (a ∷ acts) begun d (inl is) u above = of (leads acts begun.1) a.kind ref
     alone : uids_of a.path ≡ act_of a ∷ [] → tops_of a.path ≡ 1 → is_on (take (tops_of a.path) (uids_of a.path)) u ≡ true → act_of a ≡ u
     alone path tops o = one (subst (λ (us : List Uid). is_on us u ≡ true) (λ j. take (tops j) (path j)) o)
 
-    of : ((d : Action) → list.In d acts → (w : Uid) → is_on (take (tops_of d.path) (uids_of d.path)) w ≡ true → (b : Action) × list.In b acts × (act_of b ≡ w) × (b.kind ≢ kind.Nested)) → (k : Kind) → a.kind ≡ k → Stands acts a k → is_on (take (tops_of a.path) (uids_of a.path)) u ≡ true → Found
+    of : ((d : Action) → list.In d acts → (w : Uid) → is_on (take (tops_of d.path) (uids_of d.path)) w ≡ true →
+        (b : Action) × list.In b acts × (act_of b ≡ w) × (b.kind ≢ kind.Nested)) → (k : Kind) → a.kind ≡ k → Stands acts a k →
+        is_on (take (tops_of a.path) (uids_of a.path)) u ≡ true → Found
     of ih kind.Top kind_is s o = (a, inl refl, alone s.0 s.1 o, λ nested. cc (sym kind_is ∙ nested))
     of ih kind.Serial kind_is s o = (a, inl refl, alone s.0 s.1 o, λ nested. cc (sym kind_is ∙ nested))
     of ih kind.Independent kind_is s o = (a, inl refl, alone s.0 s.1 o, λ nested. cc (sym kind_is ∙ nested))
     of ih kind.Nested kind_is s o =
         let b : Action = s.0 in
         let inside : tops_of b.path ≤ length (uids_of b.path) = omega (arith, b.path.within, path_length b.path) in
-        let same : take (tops_of a.path) (uids_of a.path) ≡ take (tops_of b.path) (uids_of b.path) = (λ j. take (s.4 j) (s.3 j)) ∙ take-append-le (tops_of b.path) (uids_of b.path) (act_of a ∷ []) inside in
+        let same : take (tops_of a.path) (uids_of a.path) ≡ take (tops_of b.path) (uids_of b.path) = (λ j. take (s.4 j) (s.3 j))
+        ∙ take-append-le (tops_of b.path) (uids_of b.path) (act_of a ∷ []) inside in
         let f = ih b (in_from b acts s.1) u (subst (λ (us : List Uid). is_on us u ≡ true) same o) in
         (f.0, inr f.1, f.2, f.3)
     of ih kind.Constituent kind_is s o =
@@ -57,7 +52,8 @@ leads (a ∷ acts) begun d (inl is) u above = of (leads acts begun.1) a.kind ref
         let path : uids_of a.path ≡ act_of b ∷ act_of a ∷ [] = s.3 ∙ ap (λ us. us ++ act_of a ∷ []) up.0 in
         ⊎_elim (λ same. (b, inr (in_from b acts s.1), uid_is (act_of b) u same, λ nested. cc (sym s.2 ∙ nested)))
         (λ rest. (a, inl refl, one rest, λ nested. cc (sym kind_is ∙ nested)))
-        (or_cases (uid_eq (act_of b) u) (is_on (act_of a ∷ []) u) (subst (λ (us : List Uid). is_on us u ≡ true) (λ j. take (s.4 j) (path j)) o))
+        (or_cases (uid_eq (act_of b) u) (is_on (act_of a ∷ []) u)
+        (subst (λ (us : List Uid). is_on us u ≡ true) (λ j. take (s.4 j) (path j)) o))
 
 -- ---- paths of the machine
 
@@ -99,7 +95,8 @@ module _ (g : Family) (all : AreOneTree g) where
     where
       -- the parent isn't below itself
       other : (u ≡ h) → ⊥
-      other same = let up = all.tree.heir u h parent in differ (on_path u) (ap (λ (v : Uid). is_on (paths v) u) same ∙ ap (λ us. is_on us u) (sym up.0) ∙ up.1)
+      other same = let up = all.tree.heir u h parent in
+          differ (on_path u) (ap (λ (v : Uid). is_on (paths v) u) same ∙ ap (λ us. is_on us u) (sym up.0) ∙ up.1)
 
       up : on (act u) (act h) ≡ true
       up = all.alike.above u h ∙ ap (λ us. is_on us h) path ∙ in_more (paths h) (on_path h)
@@ -108,12 +105,14 @@ module _ (g : Family) (all : AreOneTree g) where
           in_more [] o = absurd (cc o)
           in_more (w ∷ us) o = more (uid_eq w h) (in_more us) o
             where
-              more : (b : Bool) → (is_on us h ≡ true → is_on (us ++ u ∷ []) h ≡ true) → (b || is_on us h) ≡ true → (b || is_on (us ++ u ∷ []) h) ≡ true
+              more : (b : Bool) → (is_on us h ≡ true → is_on (us ++ u ∷ []) h ≡ true) → (b || is_on us h) ≡ true →
+                  (b || is_on (us ++ u ∷ []) h) ≡ true
               more true ih k = refl
               more false ih k = ih k
 
       above_h : on p (act h) ≡ true
-      above_h = ⊎_elim (λ same. absurd (other (all.alike.one u h (is ∙ sym same)))) (λ o. o) (on_up p j (act h) (ap (λ (b : Act). on b (act h)) (sym is) ∙ up))
+      above_h = ⊎_elim (λ same. absurd (other (all.alike.one u h (is ∙ sym same)))) (λ o. o)
+          (on_up p j (act h) (ap (λ (b : Act). on b (act h)) (sym is) ∙ up))
 
       by : (q : Act) → p ≡ q → p ≡ act h
       by (Root k) root_too = root_too ∙ same_is (Root k) (act h) (ap (λ (b : Act). on b (act h)) (sym root_too) ∙ above_h)
@@ -122,20 +121,26 @@ module _ (g : Family) (all : AreOneTree g) where
           let w = all.alike.filled u p over (ap is_action sub) in
           let far : is_on (paths w.0) h ≡ true = sym (all.alike.above w.0 h) ∙ ap (λ (b : Act). on b (act h)) (sym w.1) ∙ above_h in
           let near : is_on (paths u) w.0 ≡ true = sym (all.alike.above u w.0) ∙ ap (on (act u)) (sym w.1) ∙ over in
-          let apart : (u ≡ w.0) → ⊥ = λ same. differ (ap (λ (b : Act). on b (Sub p j)) (w.1 ∙ ap act (sym same) ∙ is) ∙ on_self (Sub p j)) (not_below p j) in
-          let under : is_on (paths h) w.0 ≡ true = ⊎_elim (λ o. o) (λ same. absurd (apart same)) (on_more (paths h) u w.0 (ap (λ us. is_on us w.0) (sym path) ∙ near)) in
+          let apart : (u ≡ w.0) → ⊥ = λ same.
+          differ (ap (λ (b : Act). on b (Sub p j)) (w.1 ∙ ap act (sym same) ∙ is) ∙ on_self (Sub p j)) (not_below p j) in
+          let under : is_on (paths h) w.0 ≡ true = ⊎_elim (λ o. o) (λ same. absurd (apart same))
+          (on_more (paths h) u w.0 (ap (λ us. is_on us w.0) (sym path) ∙ near)) in
           w.1 ∙ ap act (all.tree.anti w.0 h far under)
 
   -- so does one that was begun
-  sub_of : (a : Action) → Contains g.begun a → a.kind ≢ kind.Serial → (b : Action) → Contains g.begun b → uids_of a.path ≡ uids_of b.path ++ act_of a ∷ [] → (j : ℕ) × (act (act_of a) ≡ Sub (act (act_of b)) j) × (before_last (paths (act_of a)) ≡ Some (act_of b))
+  sub_of : (a : Action) → Contains g.begun a → a.kind ≢ kind.Serial → (b : Action) → Contains g.begun b → uids_of a.path ≡ uids_of b.path
+      ++ act_of a ∷ [] → (j : ℕ) × (act (act_of a) ≡ Sub (act (act_of b)) j) × (before_last (paths (act_of a)) ≡ Some (act_of b))
   sub_of a i unserial b k path =
-      let its : paths (act_of a) ≡ paths (act_of b) ++ act_of a ∷ [] = all.agree a i ∙ path ∙ ap (λ us. us ++ act_of a ∷ []) (sym (all.agree b k)) in
-      let parent : before_last (paths (act_of a)) ≡ Some (act_of b) = ap before_last (all.agree a i ∙ path) ∙ before_more (uids_of b.path) (act_of a) (path_some b.path) in
+      let its : paths (act_of a) ≡ paths (act_of b) ++ act_of a ∷ [] = all.agree a i ∙ path
+      ∙ ap (λ us. us ++ act_of a ∷ []) (sym (all.agree b k)) in
+      let parent : before_last (paths (act_of a)) ≡ Some (act_of b) = ap before_last (all.agree a i ∙ path)
+      ∙ before_more (uids_of b.path) (act_of a) (path_some b.path) in
       let s = split (act (act_of a)) (acts_in (act (act_of a)) a.kind (all.placed a i) unserial) in
       (s.1, s.2 ∙ ap (λ (p : Act). Sub p s.1) (below (act_of a) (act_of b) its parent s.0 s.1 s.2), parent)
 
   -- the machine has it as deep below its unit as it stands below its top
-  deep_in : (acts : List Action) → AreBegun acts → ((b : Action) → list.In b acts → Contains g.begun b) → (a : Action) → list.In a acts → a.kind ≢ kind.Serial → IsDeep act (uids_of a.path) (tops_of a.path)
+  deep_in : (acts : List Action) → AreBegun acts → ((b : Action) → list.In b acts → Contains g.begun b) → (a : Action) → list.In a acts →
+      a.kind ≢ kind.Serial → IsDeep act (uids_of a.path) (tops_of a.path)
   deep_in [] begun there a i unserial = absurd i
   deep_in (c ∷ acts) begun there a (inr i) unserial = deep_in acts begun.1 (λ b j. there b (inr j)) a i unserial
   deep_in (c ∷ acts) begun there a (inl is) unserial = subst (λ (z : Action). IsDeep act (uids_of z.path) (tops_of z.path)) is
@@ -150,10 +155,12 @@ module _ (g : Family) (all : AreOneTree g) where
       one_deep : machine.is_top (act (act_of c)) ≡ true → depth (act (act_of c)) ≡ 1
       one_deep top = let s = top_split (act (act_of c)) top in ap depth s.2
 
-      alone_deep : uids_of c.path ≡ act_of c ∷ [] → tops_of c.path ≡ 1 → machine.is_top (act (act_of c)) ≡ true → IsDeep act (uids_of c.path) (tops_of c.path)
+      alone_deep : uids_of c.path ≡ act_of c ∷ [] → tops_of c.path ≡ 1 → machine.is_top (act (act_of c)) ≡ true →
+          IsDeep act (uids_of c.path) (tops_of c.path)
       alone_deep path tops top = let l = ap length path in let k = one_deep top in omega (arith, l, tops, k)
 
-      of : ((b : Action) → list.In b acts → b.kind ≢ kind.Serial → IsDeep act (uids_of b.path) (tops_of b.path)) → (k : Kind) → c.kind ≡ k → Stands acts c k → IsPlaced (act (act_of c)) k → IsDeep act (uids_of c.path) (tops_of c.path)
+      of : ((b : Action) → list.In b acts → b.kind ≢ kind.Serial → IsDeep act (uids_of b.path) (tops_of b.path)) → (k : Kind) →
+          c.kind ≡ k → Stands acts c k → IsPlaced (act (act_of c)) k → IsDeep act (uids_of c.path) (tops_of c.path)
       of ih kind.Top kind_is s top = alone_deep s.0 s.1 top
       of ih kind.Independent kind_is s top = alone_deep s.0 s.1 top
       of ih kind.Serial kind_is s placed = absurd (unserial_too kind_is)
@@ -184,14 +191,17 @@ module _ (g : Family) (all : AreOneTree g) where
     deep = deep_in g.begun all.begun (λ b j. in_to b g.begun j) a (in_from a g.begun i) unserial;
   }
 
-  module _ (a : Action) (i : Contains g.begun a) (unserial : a.kind ≢ kind.Serial) (S : State) (committed : (let z = S.action (act (act_of a)) in z.stage) ≡ 3) where
+  module _ (a : Action) (i : Contains g.begun a) (unserial : a.kind ≢ kind.Serial) (S : State)
+      (committed : (let z = S.action (act (act_of a)) in z.stage) ≡ 3) where
     abbrev u : Uid
     u = act_of a
 
     stands_below : (b : Action) → Contains g.begun b → uids_of a.path ≡ uids_of b.path ++ u ∷ [] → IsRightBelow act paths u (act_of b) S
-    stands_below b k path = let s = sub_of a i unserial b k path in record { number = s.0; below = s.1; parent = s.2; committed = committed }
+    stands_below b k path = let s = sub_of a i unserial b k path in
+        record { number = s.0; below = s.1; parent = s.2; committed = committed }
 
-    stands_alone : uids_of a.path ≡ u ∷ [] → machine.is_top (act u) ≡ true → (let z = S.action (Root (root (act u))) in z.stage) ≡ 3 → IsAlone act u S
+    stands_alone : uids_of a.path ≡ u ∷ [] → machine.is_top (act u) ≡ true → (let z = S.action (Root (root (act u))) in z.stage) ≡ 3 →
+        IsAlone act u S
     stands_alone path top over =
         let s = top_split (act u) top in
         let unit_is : root (act u) ≡ s.0 = ap root s.2 in
@@ -227,10 +237,12 @@ module _ (g : Family) (all : AreOneTree g) where
         of kind.Top is s top = alone (λ nest. cc (sym is ∙ nest)) (stands_alone s.0 top (over (ap is_plain is)))
         of kind.Independent is s top = alone (λ nest. cc (sym is ∙ nest)) (stands_alone s.0 top (over (ap is_plain is)))
         of kind.Serial is s placed = absurd (unserial is)
-        of kind.Nested is s placed = nested (act_of s.0) is (stands_below s.0 s.1 s.3) (acts_in (act (act_of s.0)) (let b : Action = s.0 in b.kind) (all.placed s.0 s.1) s.2)
+        of kind.Nested is s placed = nested (act_of s.0) is (stands_below s.0 s.1 s.3)
+            (acts_in (act (act_of s.0)) (let b : Action = s.0 in b.kind) (all.placed s.0 s.1) s.2)
         of kind.Constituent is s placed =
             let serial : is_action (act (act_of s.0)) ≡ false = subst (IsPlaced (act (act_of s.0))) s.2 (all.placed s.0 s.1) in
-            constituent (act_of s.0) (root (act (act_of s.0))) (λ nest. cc (sym is ∙ nest)) (stands_below s.0 s.1 s.3) (root_is (act (act_of s.0)) serial)
+            constituent (act_of s.0) (root (act (act_of s.0))) (λ nest. cc (sym is ∙ nest)) (stands_below s.0 s.1 s.3)
+            (root_is (act (act_of s.0)) serial)
 
   -- ---- in which locks an action is a top
 
@@ -238,16 +250,20 @@ module _ (g : Family) (all : AreOneTree g) where
   some_in p [] e = absurd (cc e)
   some_in {X} p (y ∷ ys) e = by (p y) refl e (some_in p ys)
     where
-      by : (b : Bool) → p y ≡ b → (b || list_any p ys) ≡ true → (list_any p ys ≡ true → (z : X) × list.In z ys × (p z ≡ true)) → (z : X) × list.In z (y ∷ ys) × (p z ≡ true)
+      by : (b : Bool) → p y ≡ b → (b || list_any p ys) ≡ true → (list_any p ys ≡ true → (z : X) × list.In z ys × (p z ≡ true)) →
+          (z : X) × list.In z (y ∷ ys) × (p z ≡ true)
       by true is h rest = (y, inl refl, is)
       by false is h rest = let f = rest h in (f.0, inr f.1, f.2)
 
   module _ (s : Server) (of : IsOfFamily g s) (a : Action) (i : Contains g.begun a) where
     other_kind : (b : Action) → list.In b g.begun → act_of b ≡ act_of a → b.kind ≢ kind.Nested → a.kind ≢ kind.Nested
-    other_kind b j same unlike nest = unlike (ap (λ (z : Action). z.kind) (one_action g.begun all.begun b a j (in_from a g.begun i) same) ∙ nest)
+    other_kind b j same unlike nest =
+        unlike (ap (λ (z : Action). z.kind) (one_action g.begun all.begun b a j (in_from a g.begun i) same) ∙ nest)
 
-    leads_here : (r : Row) (d : Action) → Contains g.begun d → r.holder ≡ uids_of d.path → r.tops ≡ tops_of d.path → is_on (take r.tops r.holder) (act_of a) ≡ true → a.kind ≢ kind.Nested
-    leads_here r d k holder tops above = let b = leads g.begun all.begun d (in_from d g.begun k) (act_of a) (subst (λ (us : List Uid). is_on us (act_of a) ≡ true) (λ j. take (tops j) (holder j)) above) in other_kind b.0 b.1 b.2 b.3
+    leads_here : (r : Row) (d : Action) → Contains g.begun d → r.holder ≡ uids_of d.path → r.tops ≡ tops_of d.path →
+        is_on (take r.tops r.holder) (act_of a) ≡ true → a.kind ≢ kind.Nested
+    leads_here r d k holder tops above = let b = leads g.begun all.begun d (in_from d g.begun k) (act_of a)
+        (subst (λ (us : List Uid). is_on us (act_of a) ≡ true) (λ j. take (tops j) (holder j)) above) in other_kind b.0 b.1 b.2 b.3
 
     top_here : (y : ℕ) (c : Copy) → list.In {X = ℕ × Copy} (y, c) s.objects → is_top_in (act_of a) c.rows ≡ true → a.kind ≢ kind.Nested
     top_here y c j top =
@@ -261,4 +277,5 @@ module _ (g : Family) (all : AreOneTree g) where
       where
         by : (b : Bool) → is_top (act_of a) s ≡ b → b ≡ false
         by false is = refl
-        by true is = let f = some_in (λ (e : ℕ × Copy). is_top_in (act_of a) e.1.rows) s.objects is in absurd (top_here f.0.0 f.0.1 f.1 f.2 nest)
+        by true is = let f = some_in (λ (e : ℕ × Copy). is_top_in (act_of a) e.1.rows) s.objects is in
+            absurd (top_here f.0.0 f.0.1 f.1 f.2 nest)

@@ -1,10 +1,6 @@
 -- Runs of the machine, one after another.
-use Rattle.std.proofs.Common.{◌∙◌, ℕ, ap}
-use Rattle.arj_law_lock.specs.machine.State.{State}
-use Rattle.arj_law_lock.proofs.machine.Order.{go_on}
-use Rattle.arj_law_lock_view.specs.view.Copies.{OnlyServer}
-use Rattle.arj_law_lock_view.specs.view.Going.{Goes}
-use Rattle.arj_law_lock.specs.machine.Machine.{Run}
+use Rattle.arj_law_parts.proofs.Words.{◌∙◌, ℕ, ap}
+use Rattle.arj_law_lock_view.proofs.Terms.{State, go_on, OnlyServer, Goes, Run}
 
 -- what holds where it goes gives more
 pub goes_to : {S : State} {P Q : State → Type 0} → Goes S P → ((T : State) → P T → Q T) → Goes S Q

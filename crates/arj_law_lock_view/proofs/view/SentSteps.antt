@@ -1,7 +1,6 @@
 -- What was sent to a server is shown when it comes.
-use Rattle.std.proofs.Common.{List}
-use Rattle.arj_law_lock_view.specs.view.Sent.{SentAreShown}
 use Rattle.arj_law_lock_view.proofs.view.ShownSteps.{ended_are_shown}
+use Rattle.arj_law_lock_view.specs.view.Sent.{SentAreShown}
 
 pub sent_are_shown : SentAreShown
 sent_are_shown v h a s S reached whole of fits sent = record {

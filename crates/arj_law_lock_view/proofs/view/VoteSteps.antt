@@ -1,24 +1,16 @@
 -- A vote of a server goes in the machine.
-use Rattle.std.proofs.Common.{◌≡◌, ◌≤◌, ◌<◌, ◌∙◌, ◌==◌, ℕ, Bool, true, false, cond, max, refl, sym, ap, subst, arith, eqb-true}
-use Rattle.arj_protocol.specs.Words.{Uid}
-use Rattle.arj_protocol.specs.Copy.{Copy}
-use Rattle.arj_protocol.specs.Order.{binding_number}
-use Rattle.arj_law_lock.specs.machine.Actions.{Act, In, at_act}
-use Rattle.arj_law_lock.specs.machine.Machine.{ballot, next, stay, step, Guard}
-use Rattle.arj_law_lock.specs.machine.State as machine
-use Rattle.arj_law_lock.specs.machine.State.{Ballot, Server, State}
-use Rattle.arj_law_lock.specs.machine.Steps.{VoteTop, held_value}
-use Rattle.arj_law_lock.proofs.machine.Paths.{act_here, act_other, at_here, number_self}
-use Rattle.arj_law_parts.specs.parts.Copies.{Paths}
-use Rattle.arj_law_lock_view.specs.view.Acts.{Acts}
-use Rattle.arj_law_lock_view.specs.view.Commits.{HasVoted, KeepsVoter, IsCommitting, OnlyVote, VotesAreSeen, ballot_for, IsVoteOf}
-use Rattle.arj_law_lock_view.specs.view.Copies.{Codes, SeesCopy}
-use Rattle.arj_law_lock_view.specs.view.Going.{Goes}
-use Rattle.arj_law_lock_view.proofs.view.CopySteps.{server_else}
-use Rattle.arj_law_lock_view.proofs.view.LogSteps.{folded_here, held_seen}
-use Rattle.arj_law_lock_view.specs.view.Calling.{IsReached}
+use Rattle.arj_law_parts.proofs.Words
+use Words.{◌≡◌, ◌≤◌, ◌<◌, ◌∙◌, ◌==◌, ℕ, Bool, true, false, cond, max, refl, sym, ap, subst, arith, eqb-true, Uid, Copy, binding_number}
+use Rattle.arj_law_lock_view.proofs.Terms
+use Terms.{Act, In, at_act, next, stay, step, Guard, Ballot, Server, State, VoteTop, held_value, act_here, act_other, at_here, number_self}
+use Terms.{Paths, Acts, HasVoted, IsCommitting, OnlyVote, ballot_for, IsVoteOf, Codes, SeesCopy, Goes, IsReached}
+use Terms.machine
+use Rattle.arj_law_lock.specs.machine.Machine.{ballot}
+use Rattle.arj_law_lock_view.proofs.view.{CopySteps.server_else, LogSteps.folded_here, LogSteps.held_seen}
+use Rattle.arj_law_lock_view.specs.view.Commits.{KeepsVoter, VotesAreSeen}
 
-module _ (act : Acts) (code : Codes) (paths : Paths) (n x i : ℕ) (u : Uid) (c : Copy) (S : State) (reached : IsReached S) (ends : IsCommitting act paths x u c) (sees : SeesCopy act code x c (S.server n)) where
+module _ (act : Acts) (code : Codes) (paths : Paths) (n x i : ℕ) (u : Uid) (c : Copy) (S : State) (reached : IsReached S)
+    (ends : IsCommitting act paths x u c) (sees : SeesCopy act code x c (S.server n)) where
   abbrev b : ℕ
   b = binding_number c.binding
 
@@ -63,13 +55,21 @@ module _ (act : Acts) (code : Codes) (paths : Paths) (n x i : ℕ) (u : Uid) (c 
   may : In (machine.Vote m b i) S.net → (let k = S.binding b in k.server) ≡ n → v.incarnation ≡ i → Guard (VoteTop n m b i) S
   may sent server incarnation = (sent, server, incarnation, sees.active, folded_here act paths x u c ends code S v.log sees.overs)
 
-  votes_go : In (machine.Vote m b i) S.net → (let k = S.binding b in k.server) ≡ n → v.incarnation ≡ i → Goes S (λ V. SeesCopy act code x c (V.server n) × OnlyVote n m S V × KeepsVoter m v (V.server n) × HasVoted n m b (ballot_for act code u c) S V × ((o : IsVoteOf m b (ballot_for act code u c) V) × SeesCopy act code x c ((let k = o.before in k.server) o.node)))
+  votes_go : In (machine.Vote m b i) S.net → (let k = S.binding b in k.server) ≡ n → v.incarnation ≡ i → Goes S (λ V.
+      SeesCopy act code x c (V.server n) × OnlyVote n m S V × KeepsVoter m v (V.server n) × HasVoted n m b (ballot_for act code u c) S V
+      × ((o : IsVoteOf m b (ballot_for act code u c) V) × SeesCopy act code x c ((let k = o.before in k.server) o.node)))
   votes_go sent server incarnation = record {
     state = T;
     run = step (VoteTop n m b i) (may sent server incarnation) stay;
     holds = (
-      subst (SeesCopy act code x c) (sym (at_here S.server n bound)) (record { active = sees.active; base = sees.base; overs = sees.overs; rows = sees.rows }),
-      record { rest = refl; others = λ k other. server_else S n k bound other; tops = λ a other. (act_other S.yes m (max (S.yes m) b) a other, act_other S.vote m (ballot S n m b) a other); raised = subst (λ (k : ℕ). S.yes m ≤ k) (sym (act_here S.yes m (max (S.yes m) b))) (omega arith) },
+      subst (SeesCopy act code x c) (sym (at_here S.server n bound))
+          (record { active = sees.active; base = sees.base; overs = sees.overs; rows = sees.rows }),
+      record {
+        rest = refl;
+        others = λ k other. server_else S n k bound other;
+        tops = λ a other. (act_other S.yes m (max (S.yes m) b) a other, act_other S.vote m (ballot S n m b) a other);
+        raised = subst (λ (k : ℕ). S.yes m ≤ k) (sym (act_here S.yes m (max (S.yes m) b))) (omega arith);
+      },
       subst (KeepsVoter m v) (sym (at_here S.server n bound)) (record { incarnation = refl; request = refl; voted = refl }),
       record {
         voted = ap (λ (w : Server). w.voted m) (at_here S.server n bound) ∙ act_here v.voted m true;
@@ -82,4 +82,5 @@ module _ (act : Acts) (code : Codes) (paths : Paths) (n x i : ℕ) (u : Uid) (c 
   }
 
 pub votes_are_seen : VotesAreSeen
-votes_are_seen act code paths n x i u c S reached ends sent server incarnation sees = votes_go act code paths n x i u c S reached ends sees sent server incarnation
+votes_are_seen act code paths n x i u c S reached ends sent server incarnation sees =
+    votes_go act code paths n x i u c S reached ends sees sent server incarnation

@@ -22,17 +22,24 @@ begins_in how parent t = record { path = path_below how (parent_of parent t.coor
 -- Each handler before which nodes are good, and something else holds, keeps the relation for the actions that were begun, with one more
 -- where one begins; and it holds at first, of none.
 pub record KeepsOf (hd : Header) (G : List Action → Seen → Type 0) (R : List Action → Seen → Type 0) : Type 0 where
-  pub quiet : (begun : List Action) (e : ℕ) (bs : List Body) (M : Seen) → AreQuiet bs → G begun M → IsGoodOf begun M → R begun M → R begun (said e bs M)
-  pub stop : (begun : List Action) (e k : ℕ) (d : Disk) (live : Option Parts) (M : Seen) → G begun (at k d live M) → IsGoodOf begun (at k d live M) → R begun (at k d live M) → R begun (halted e k d M)
+  pub quiet : (begun : List Action) (e : ℕ) (bs : List Body) (M : Seen) → AreQuiet bs → G begun M → IsGoodOf begun M → R begun M →
+      R begun (said e bs M)
+  pub stop : (begun : List Action) (e k : ℕ) (d : Disk) (live : Option Parts) (M : Seen) → G begun (at k d live M) →
+      IsGoodOf begun (at k d live M) → R begun (at k d live M) → R begun (halted e k d M)
   pub message : (begun : List Action) (e k : ℕ) (d : Disk) (t v : Parts) (from : ℕ) (m : Message) (outs : List Effect) (M : Seen)
-      → G begun (up k d t M) → IsGoodOf begun (up k d t M) → R begun (up k d t M) → In (record { from = from; to = k; message = m }) M.sent → is_meant t m ≡ true → handle k d t from m ≡ Took v outs → Walks (R begun) e k outs (Up (R begun) k v) d M
+      → G begun (up k d t M) → IsGoodOf begun (up k d t M) → R begun (up k d t M) → In (record { from = from; to = k; message = m })
+      M.sent → is_meant t m ≡ true → handle k d t from m ≡ Took v outs → Walks (R begun) e k outs (Up (R begun) k v) d M
   pub act : (begun : List Action) (e k : ℕ) (d : Disk) (t : Parts) (i : Input) (M : Seen) → is_act i ≡ true → refusal_up hd i t.coord ≡ None
       → G begun (up k d t M) → IsGoodOf begun (up k d t M) → R begun (up k d t M) → DidKeeps (R begun) e k d t (acts i d.intents t.coord) M
   pub begin : (begun : List Action) (e k : ℕ) (d : Disk) (t : Parts) (l : Label) (how : Kind) (parent : Option Label) (M : Seen)
       → label_at l M.labels ≡ None → MayGive M.labels k how parent → begin_refusal how t.coord parent ≡ None
       → G begun (up k d t M) → IsGoodOf begun (up k d t M) → R begun (up k d t M)
-      → DidKeeps (R (begins_in how parent t ∷ begun)) e k d t (begin_action l how parent (parent_of parent t.coord) t.coord) (given l (record { node = k; serial = is_serial_kind how }) M)
-  pub tick : (begun : List Action) (e k : ℕ) (d : Disk) (t : Parts) (M : Seen) → G begun (up k d t M) → IsGoodOf begun (up k d t M) → R begun (up k d t M)
-      → Walks (R begun) e k (tick_outs (record { number = k; disk = d; live = Some t }) t) (Up (R begun) k (with_coord t (again_all t.coord.doings t.coord).part)) d M
-  pub restart : (begun : List Action) (e k : ℕ) (d : Disk) (M : Seen) → G begun (down k d M) → IsGoodOf begun (down k d M) → R begun (down k d M) → Walks (R begun) e k (restart_outs hd k (d.inc + 1) d) (Up (R begun) k (parts_in k (d.inc + 1) d)) d M
+      → DidKeeps (R (begins_in how parent t ∷ begun)) e k d t (begin_action l how parent (parent_of parent t.coord) t.coord)
+      (given l (record { node = k; serial = is_serial_kind how }) M)
+  pub tick : (begun : List Action) (e k : ℕ) (d : Disk) (t : Parts) (M : Seen) → G begun (up k d t M) → IsGoodOf begun (up k d t M) →
+      R begun (up k d t M)
+      → Walks (R begun) e k (tick_outs (record { number = k; disk = d; live = Some t }) t)
+      (Up (R begun) k (with_coord t (again_all t.coord.doings t.coord).part)) d M
+  pub restart : (begun : List Action) (e k : ℕ) (d : Disk) (M : Seen) → G begun (down k d M) → IsGoodOf begun (down k d M) →
+      R begun (down k d M) → Walks (R begun) e k (restart_outs hd k (d.inc + 1) d) (Up (R begun) k (parts_in k (d.inc + 1) d)) d M
   pub first : R [] (see [] (format hd))

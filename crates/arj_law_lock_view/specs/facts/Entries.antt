@@ -22,4 +22,5 @@ HandlersKeepEntries = (hd : Header) (x : ℕ) → HasObject hd x → Keeps hd (H
 
 -- So naming finds the object as it starts.
 abbrev pub EntriesAreFound : Type 0
-EntriesAreFound = (x inc : ℕ) (d : Pair) → is_some (held_at (entry x) d) ≡ true → is_some (at_number x (let n = recovered_naming inc d in n.objects)) ≡ true
+EntriesAreFound = (x inc : ℕ) (d : Pair) → is_some (held_at (entry x) d) ≡ true →
+    is_some (at_number x (let n = recovered_naming inc d in n.objects)) ≡ true

@@ -82,8 +82,11 @@ is_bind _ = false
 -- of each call past its Bind.
 pub record KnowsGrantsBy (c e : Coord) : Type 0 where
   pub named : (root : Uid) (g : Grant) (b : Binding) → list.In g (let r = root_at root e in r.grants) → g.named ≡ Some b → IsLow g.least b
-  pub said : (root : Uid) (s : Said) (k : Known) → list.In s (let r = root_at root e in r.said) → kept_of s.x (root_at root e) ≡ Some k → IsSpent c.tree s.path ⊎ HasGrant c (root_at root e) s.x (binding_number k.binding) (last_uid s.path)
-  pub steps : (u : Uid) (d : Doing) (s : Steps) (k : Known) → doing_of u e ≡ Some d → d.now ≡ Calling s → is_call s.goal ≡ true → is_bind s.at ≡ false → kept_of s.x (root_at (root_of s.path) e) ≡ Some k → HasGrant c (root_at (root_of s.path) e) s.x (binding_number k.binding) (actor s.path)
+  pub said : (root : Uid) (s : Said) (k : Known) → list.In s (let r = root_at root e in r.said) → kept_of s.x (root_at root e) ≡ Some k →
+      IsSpent c.tree s.path ⊎ HasGrant c (root_at root e) s.x (binding_number k.binding) (last_uid s.path)
+  pub steps : (u : Uid) (d : Doing) (s : Steps) (k : Known) → doing_of u e ≡ Some d → d.now ≡ Calling s → is_call s.goal ≡ true →
+      is_bind s.at ≡ false → kept_of s.x (root_at (root_of s.path) e) ≡ Some k →
+      HasGrant c (root_at (root_of s.path) e) s.x (binding_number k.binding) (actor s.path)
 
 -- so it is of all calls of a coordinator
 abbrev pub KnowsGrants : Coord → Type 0
@@ -104,6 +107,8 @@ HandlersKeepGrants = (hd : Header) → Keeps hd GrantsAreKnown
 -- As a top's commit is called, the grant that its plan says of an object isn't above the binding that its unit keeps, where a call of the
 -- unit counts.
 abbrev pub PlansGrantLow : Type 0
-PlansGrantLow = (act : Acts) (code : Codes) (paths : Paths) (x : ℕ) (sent : List Post) (node : ℕ) (c : Coord) (u : Uid) (b : Branch) (d : Doing) (S : State)
-    → IsReached S → (free : IsFreeToEnd act paths c u b d) → AreBegun (let k = free.steady in k.actions) → AreTopped act c → b.kind ≢ kind.Serial → b.kind ≢ kind.Nested → has_open_child u c.tree ≡ false
+PlansGrantLow = (act : Acts) (code : Codes) (paths : Paths) (x : ℕ) (sent : List Post) (node : ℕ) (c : Coord) (u : Uid) (b : Branch)
+    (d : Doing) (S : State)
+    → IsReached S → (free : IsFreeToEnd act paths c u b d) → AreBegun (let k = free.steady in k.actions) → AreTopped act c →
+    b.kind ≢ kind.Serial → b.kind ≢ kind.Nested → has_open_child u c.tree ≡ false
     → KnowsBinds sent node c → KnowsGrants c → SeesWhole act code x c S → HasLowGrant x (act u) (plan_now b c) S

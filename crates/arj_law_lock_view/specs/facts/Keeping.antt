@@ -17,5 +17,7 @@ use Rattle.arj_law_lock_view.specs.view.Plans.{AreKept}
 
 -- Of a called object the plan of a top that may commit has the binding that its unit keeps, its server and the incarnation that was heard.
 abbrev pub PlansHaveKept : Type 0
-PlansHaveKept = (act : Acts) (code : Codes) (paths : Paths) (x : ℕ) (sent : List Post) (node : ℕ) (c : Coord) (u : Uid) (b : Branch) (d : Doing) (S : State)
-    → IsReached S → IsFreeToEnd act paths c u b d → b.kind ≢ kind.Serial → KnowsBinds sent node c → SeesWhole act code x c S → AreKept x (act u) (plan_now b c) S
+PlansHaveKept = (act : Acts) (code : Codes) (paths : Paths) (x : ℕ) (sent : List Post) (node : ℕ) (c : Coord) (u : Uid) (b : Branch)
+    (d : Doing) (S : State)
+    → IsReached S → IsFreeToEnd act paths c u b d → b.kind ≢ kind.Serial → KnowsBinds sent node c → SeesWhole act code x c S →
+    AreKept x (act u) (plan_now b c) S

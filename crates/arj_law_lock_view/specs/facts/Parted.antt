@@ -59,7 +59,8 @@ IsPart c u to a = IsSeeking c u to a ⊎ HasPart c u to
 
 -- so it is of each Vote and Confirm that it sent
 abbrev pub KnowsParts : List Post → Coord → Type 0
-KnowsParts sent c = (p : Post) (h : Head) (a : Ask) → In p sent → asks p.message ≡ Some (h, a) → asks_part a ≡ true → is_own (actor h.path) c.tree ≡ true → IsPart c (actor h.path) p.to a
+KnowsParts sent c = (p : Post) (h : Head) (a : Ask) → In p sent → asks p.message ≡ Some (h, a) → asks_part a ≡ true →
+    is_own (actor h.path) c.tree ≡ true → IsPart c (actor h.path) p.to a
 
 -- A Vote or a Confirm that is sent is what a commit under way asks of a node for which it waits.
 pub record IsAskedNow (c : Coord) (to : ℕ) (h : Head) (a : Ask) : Type 0 where
@@ -89,13 +90,16 @@ is_confirm _ = false
 
 -- all Confirms of one action are one
 abbrev pub AreOneConfirm : List Post → Type 0
-AreOneConfirm sent = (p q : Post) (h j : Head) (a b : Ask) → In p sent → In q sent → asks p.message ≡ Some (h, a) → asks q.message ≡ Some (j, b) → is_confirm a ≡ true → is_confirm b ≡ true → actor h.path ≡ actor j.path → a ≡ b
+AreOneConfirm sent = (p q : Post) (h j : Head) (a b : Ask) → In p sent → In q sent → asks p.message ≡ Some (h, a) →
+    asks q.message ≡ Some (j, b) → is_confirm a ≡ true → is_confirm b ≡ true → actor h.path ≡ actor j.path → a ≡ b
 
--- Each Vote and Confirm that was sent is by a top of its sender, and all Confirms of one top are one; each coordinator knows who is part of its
--- commits, and waits for servers of its plans.
+-- Each Vote and Confirm that was sent is by a top of its sender, and all Confirms of one top are one; each coordinator knows who is part of
+-- its commits, and waits for servers of its plans.
 pub record KnowsParted (begun : List Action) (M : Seen) : Type 0 where
-  pub senders : (p : Post) (h : Head) (a : Ask) → In p M.sent → asks p.message ≡ Some (h, a) → asks_part a ≡ true → (let u = actor h.path in u.node) ≡ p.from
-  pub tops : (p : Post) (h : Head) (a : Ask) → In p M.sent → asks p.message ≡ Some (h, a) → asks_part a ≡ true → IsTopOf begun (actor h.path)
+  pub senders : (p : Post) (h : Head) (a : Ask) → In p M.sent → asks p.message ≡ Some (h, a) → asks_part a ≡ true →
+      (let u = actor h.path in u.node) ≡ p.from
+  pub tops : (p : Post) (h : Head) (a : Ask) → In p M.sent → asks p.message ≡ Some (h, a) → asks_part a ≡ true →
+      IsTopOf begun (actor h.path)
   pub one : AreOneConfirm M.sent
   pub coords : (j : ℕ) (n : Node) (t : Parts) → M.nodes j ≡ Some n → n.live ≡ Some t → KnowsParts M.sent t.coord × AreLeft t.coord
 

@@ -26,7 +26,8 @@ pub record IsAskedBy (c : Coord) (to : ℕ) (h : Head) (a : Ask) : Type 0 where
 
 -- So it is of each request that this node sent for an action that its coordinator has.
 abbrev pub KnowsRequests : List Post → ℕ → Coord → Type 0
-KnowsRequests sent k c = (p : Post) (h : Head) (a : Ask) → In p sent → p.from ≡ k → asks p.message ≡ Some (h, a) → is_own (actor h.path) c.tree ≡ true → IsAskedBy c p.to h a
+KnowsRequests sent k c = (p : Post) (h : Head) (a : Ask) → In p sent → p.from ≡ k → asks p.message ≡ Some (h, a) →
+    is_own (actor h.path) c.tree ≡ true → IsAskedBy c p.to h a
 
 -- So it is at each node that is up, beside good nodes and known Binds.
 abbrev pub AreAsked : Seen → Type 0

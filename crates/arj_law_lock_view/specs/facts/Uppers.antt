@@ -66,8 +66,10 @@ PreparesUpper acts e = ⊤
 
 -- At naming of a node that is up a nested action has nothing.
 abbrev pub NestedHaveNothing : Type 0
-NestedHaveNothing = (acts : List Action) (k : ℕ) (n : Node) (t : Parts) (o : Naming) (M : Seen) → IsGoodOf acts M → AreUppers acts M → M.nodes k ≡ Some n → n.live ≡ Some t → t.naming ≡ Some o
-    → (x : ℕ) (q : Named) (a : Action) → at_number x o.objects ≡ Some q → Contains acts a → a.kind ≡ kind.Nested → HasNothingAt o q (act_of a)
+NestedHaveNothing = (acts : List Action) (k : ℕ) (n : Node) (t : Parts) (o : Naming) (M : Seen) → IsGoodOf acts M → AreUppers acts M →
+    M.nodes k ≡ Some n → n.live ≡ Some t → t.naming ≡ Some o
+    → (x : ℕ) (q : Named) (a : Action) → at_number x o.objects ≡ Some q → Contains acts a → a.kind ≡ kind.Nested →
+    HasNothingAt o q (act_of a)
 
 -- ---- objects at naming
 
@@ -92,4 +94,5 @@ HandlersKeepObjects = (hd : Header) → Keeps hd ObjectsAreHeld
 
 -- At naming of a node that is up each object is good, in the words of the machine's view.
 abbrev pub ObjectsAreGood : Type 0
-ObjectsAreGood = (v : View) (acts : List Action) (k : ℕ) (n : Node) (t : Parts) (o : Naming) (M : Seen) → AreUppersOf HoldsObjects acts M → M.nodes k ≡ Some n → n.live ≡ Some t → t.naming ≡ Some o → IsGoodAt v (owners_of acts) o
+ObjectsAreGood = (v : View) (acts : List Action) (k : ℕ) (n : Node) (t : Parts) (o : Naming) (M : Seen) → AreUppersOf HoldsObjects acts M →
+    M.nodes k ≡ Some n → n.live ≡ Some t → t.naming ≡ Some o → IsGoodAt v (owners_of acts) o

@@ -10,7 +10,8 @@ use Rattle.arj_protocol.specs.Tree.{Branch, Tree, branch_of, ends_of}
 
 -- Of two actions that wait none stands above the other.
 abbrev pub WaitApart : Coord → Type 0
-WaitApart c = (u w : Uid) (d e : Doing) (b : Branch) → doing_of u c ≡ Some d → doing_of w c ≡ Some e → is_waiting_now d.now ≡ true → is_waiting_now e.now ≡ true → branch_of u c.tree ≡ Some b → is_on (uids_of b.path) w ≡ true → u ≡ w
+WaitApart c = (u w : Uid) (d e : Doing) (b : Branch) → doing_of u c ≡ Some d → doing_of w c ≡ Some e → is_waiting_now d.now ≡ true →
+    is_waiting_now e.now ≡ true → branch_of u c.tree ≡ Some b → is_on (uids_of b.path) w ≡ true → u ≡ w
 
 -- the request of a call or an include that waits has a number from 1 on
 abbrev pub AskFromOne : Coord → Type 0
@@ -27,9 +28,11 @@ HasNoRoots c = (n : ℕ) → length (let t = c.tree in t.branches) < n → at_nu
 
 -- each end in the list is of an action that stands below another one
 abbrev pub AreInner : Tree → List (Uid × End) → Type 0
-AreInner t ends = (u : Uid) (e : End) (b : Branch) → Contains {X = Uid × End} ends (u, e) → branch_of u t ≡ Some b → 2 ≤ length (uids_of b.path)
+AreInner t ends = (u : Uid) (e : End) (b : Branch) → Contains {X = Uid × End} ends (u, e) → branch_of u t ≡ Some b →
+    2 ≤ length (uids_of b.path)
 
 -- so are those that the tree lists, and those that a commit brings
 pub record KnowsEnds (c : Coord) : Type 0 where
   pub lists : (root : Uid) → AreInner c.tree (ends_of root c.tree)
-  pub plans : (u : Uid) (d : Doing) (m : Machine) → doing_of u c ≡ Some d → d.now ≡ Committing m → AreInner c.tree (let p = plan_of m in p.ends)
+  pub plans : (u : Uid) (d : Doing) (m : Machine) → doing_of u c ≡ Some d → d.now ≡ Committing m →
+      AreInner c.tree (let p = plan_of m in p.ends)

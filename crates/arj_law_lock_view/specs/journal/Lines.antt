@@ -63,12 +63,13 @@ AreIncludesOf act included includes = ⊥
 
 -- the action's committed line stands at the place, or a restart found its record there
 abbrev pub IsDecidedAt : List Line → model.Act → ℕ → Type 0
-IsDecidedAt lines a n = ((e : Placed ℕ) × Contains (committed lines) e × (e.it ≡ a.id) × (n ≡ e.at + 1)) ⊎ ((e : Placed Uid) × Contains (recovered lines) e × (e.it ≡ a.uid) × (n ≡ e.at + 1))
+IsDecidedAt lines a n = ((e : Placed ℕ) × Contains (committed lines) e × (e.it ≡ a.id) × (n ≡ e.at + 1))
+    ⊎ ((e : Placed Uid) × Contains (recovered lines) e × (e.it ≡ a.uid) × (n ≡ e.at + 1))
 
 -- What the machine has of an action. Its commit is called where that line stands, it is committed where its line stands, or by then where
 -- a restart found its record. Who is committed in the machine is so in the journal, and by a line that stands, at its place; who is
--- aborted there has an end, or its node halted. An action that has an end in the journal has one in the machine, and one whose node halted has an end or
--- is decided.
+-- aborted there has an end, or its node halted. An action that has an end in the journal has one in the machine, and one whose node halted
+-- has an end or is decided.
 pub record EndsSo (lines : List Line) (a : model.Act) (m : machine.Action) : Type 0 where
   pub place : (e : Placed ℕ) → Contains (called lines) e → e.it ≡ a.id → (m.place ≡ e.at + 1) × (1 ≤ m.stage)
   pub commit : (e : Placed ℕ) → Contains (committed lines) e → e.it ≡ a.id → (m.stage ≡ 3) × (m.done ≡ e.at + 1)

@@ -55,15 +55,33 @@ StopsSo a b = SameEnd a b ⊎ ((a.stage ≤ 2) × ((b.stage ≡ 4) ⊎ (b.stage 
 -- action that began there has an end or is decided. An answered call on the object comes at the line, and an include. Beside
 -- any other line no action changes in how far it is.
 abbrev pub GoesBeside : Acts → Codes → ℕ → List Line → Body → State → State → Type 0
-GoesBeside act code x lines (body.Began l k u p) S T = CallsStay S T × EndsStay S T × ((let m = T.action (act u) in m.stage) ≡ 0) × ((e : Placed Uid) → Contains (recovered lines) e → e.it ≢ u)
-GoesBeside act code x lines (body.Committing l) S T = CallsStay S T × ((a : model.Act) × IsNamed lines l a × (is_action (act a.uid) ≡ true → (let m = S.action (act a.uid) in m.stage) ≡ 0) × ChangesOne (act a.uid) (called_at (length lines + 1) (S.action (act a.uid))) S T)
-GoesBeside act code x lines (body.Committed l) S T = CallsStay S T × ((a : model.Act) × IsNamed lines l a × (is_action (act a.uid) ≡ true → (let m = S.action (act a.uid) in m.stage) ≤ 2) × ChangesOne (act a.uid) (committed_at (length lines + 1) (S.action (act a.uid))) S T)
-GoesBeside act code x lines (body.Aborted l c) S T = CallsStay S T × ((a : model.Act) × IsNamed lines l a × (is_action (act a.uid) ≡ true → (let m = S.action (act a.uid) in m.stage) ≢ 3) × ChangesOne (act a.uid) (aborted (S.action (act a.uid))) S T)
-GoesBeside act code x lines (body.Ended l) S T = CallsStay S T × EndsStay S T × ((a : model.Act) × IsNamed lines l a × (is_serial a.kind ≡ true))
-GoesBeside act code x lines (body.Recovered n u) S T = CallsStay S T × ((((let m = S.action (act u) in m.stage) ≡ 3) × EndsStay S T) ⊎ (((let m = S.action (act u) in m.stage) ≤ 2) × ChangesOne (act u) (committed_at (length lines + 1) (S.action (act u))) S T))
-GoesBeside act code x lines (body.Halted n) S T = CallsStay S T × ((a : model.Act) → Contains (acts lines) a → is_serial a.kind ≡ false → (let u = a.uid in u.node) ≢ n → SameEnd (S.action (act a.uid)) (T.action (act a.uid))) × ((a : model.Act) → Contains (acts lines) a → is_serial a.kind ≡ false → (let u = a.uid in u.node) ≡ n → StopsSo (S.action (act a.uid)) (T.action (act a.uid)) × (2 ≤ (let m = T.action (act a.uid) in m.stage)))
-GoesBeside act code x lines (body.Ok l y o r) S T = (T.includes ≡ S.includes) × EndsStay S T × ((a : model.Act) × IsNamed lines l a × (((y ≢ x) × (T.calls ≡ S.calls)) ⊎ ((y ≡ x) × (v : Value) × (by : Act) × (r ≡ answer_text (answer_of o v)) × (T.calls ≡ record { act = act a.uid; write = writes o; line = length lines + 1; sees = code v by; gives = code (value_after o v) (top (act a.uid)) } ∷ S.calls))))
-GoesBeside act code x lines (body.Includes l y n) S T = (T.calls ≡ S.calls) × EndsStay S T × ((a : model.Act) × IsNamed lines l a × (((y ≢ x) × (T.includes ≡ S.includes)) ⊎ ((y ≡ x) × (grant : ℕ) × (T.includes ≡ record { act = act a.uid; line = length lines + 1; grant = grant } ∷ S.includes))))
+GoesBeside act code x lines (body.Began l k u p) S T = CallsStay S T × EndsStay S T × ((let m = T.action (act u) in m.stage) ≡ 0)
+    × ((e : Placed Uid) → Contains (recovered lines) e → e.it ≢ u)
+GoesBeside act code x lines (body.Committing l) S T = CallsStay S T × ((a : model.Act) × IsNamed lines l a × (is_action (act a.uid) ≡ true →
+    (let m = S.action (act a.uid) in m.stage) ≡ 0) × ChangesOne (act a.uid) (called_at (length lines + 1) (S.action (act a.uid))) S T)
+GoesBeside act code x lines (body.Committed l) S T = CallsStay S T × ((a : model.Act) × IsNamed lines l a × (is_action (act a.uid) ≡ true →
+    (let m = S.action (act a.uid) in m.stage) ≤ 2) × ChangesOne (act a.uid) (committed_at (length lines + 1) (S.action (act a.uid))) S T)
+GoesBeside act code x lines (body.Aborted l c) S T = CallsStay S T × ((a : model.Act) × IsNamed lines l a × (is_action (act a.uid) ≡ true →
+    (let m = S.action (act a.uid) in m.stage) ≢ 3) × ChangesOne (act a.uid) (aborted (S.action (act a.uid))) S T)
+GoesBeside act code x lines (body.Ended l) S T =
+    CallsStay S T × EndsStay S T × ((a : model.Act) × IsNamed lines l a × (is_serial a.kind ≡ true))
+GoesBeside act code x lines (body.Recovered n u) S T = CallsStay S T × ((((let m = S.action (act u) in m.stage) ≡ 3) × EndsStay S T)
+    ⊎ (((let m = S.action (act u) in m.stage) ≤ 2) × ChangesOne (act u) (committed_at (length lines + 1) (S.action (act u))) S T))
+GoesBeside act code x lines (body.Halted n) S T =
+    CallsStay S T × ((a : model.Act) → Contains (acts lines) a → is_serial a.kind ≡ false → (let u = a.uid in u.node) ≢ n →
+    SameEnd (S.action (act a.uid)) (T.action (act a.uid))) × ((a : model.Act) → Contains (acts lines) a → is_serial a.kind ≡ false →
+    (let u = a.uid in u.node) ≡ n → StopsSo (S.action (act a.uid)) (T.action (act a.uid)) × (2 ≤ (let m = T.action (act a.uid) in m.stage)))
+GoesBeside act code x lines (body.Ok l y o r) S T = (T.includes ≡ S.includes) × EndsStay S T × ((a : model.Act) × IsNamed lines l a
+    × (((y ≢ x) × (T.calls ≡ S.calls)) ⊎ ((y ≡ x) × (v : Value) × (by : Act) × (r ≡ answer_text (answer_of o v)) × (T.calls ≡ record {
+      act = act a.uid;
+      write = writes o;
+      line = length lines + 1;
+      sees = code v by;
+      gives = code (value_after o v) (top (act a.uid));
+    } ∷ S.calls))))
+GoesBeside act code x lines (body.Includes l y n) S T =
+    (T.calls ≡ S.calls) × EndsStay S T × ((a : model.Act) × IsNamed lines l a × (((y ≢ x) × (T.includes ≡ S.includes))
+    ⊎ ((y ≡ x) × (grant : ℕ) × (T.includes ≡ record { act = act a.uid; line = length lines + 1; grant = grant } ∷ S.includes))))
 GoesBeside act code x lines b S T = CallsStay S T × EndsStay S T
 
 -- lines that say nothing of actions' beginnings and ends, and of calls
@@ -98,4 +116,5 @@ PlainsAreTied = (act : Acts) (code : Codes) (values : Values) (x event : ℕ) (l
 
 -- Lines of frames, and those of servers and naming, are plain.
 abbrev pub PartsSayPlain : Type 0
-PartsSayPlain = ((b : Body) → is_quiet_line b ≡ true → is_plain b ≡ true) × (((n : ℕ) (b : Body) → is_server_line n b ≡ true → is_plain b ≡ true) × ((b : Body) → is_naming_line b ≡ true → is_plain b ≡ true))
+PartsSayPlain = ((b : Body) → is_quiet_line b ≡ true → is_plain b ≡ true)
+    × (((n : ℕ) (b : Body) → is_server_line n b ≡ true → is_plain b ≡ true) × ((b : Body) → is_naming_line b ≡ true → is_plain b ≡ true))

@@ -16,11 +16,13 @@ use Rattle.arj_law_lock_view.specs.records.Tests.{Tests}
 
 -- ---- answers
 
--- An answer to a Bind names a binding above the one to avoid; a live one was recorded, and one that was made comes with stores of the entry;
--- and an include asked the lock.
+-- An answer to a Bind names a binding above the one to avoid; a live one was recorded, and one that was made comes with stores of the
+-- entry; and an include asked the lock.
 abbrev pub SaysBound : Tests → ℕ → Binding → Uid → BoundReply → Type 0
-SaysBound T x avoid top (bound.Live b server i g stores) = (T.past x (binding_number b) ≡ true) × (T.made (binding_number b) ≡ true) × (binding_less avoid b ≡ true) × (T.low g ≡ true)
-SaysBound T x avoid top (bound.Make b server g stores) = (T.made (binding_number b) ≡ true) × (binding_less avoid b ≡ true) × (T.low g ≡ true) × ((s : ℕ) → has stores s ≡ true → T.listed x (binding_number b) s ≡ true)
+SaysBound T x avoid top (bound.Live b server i g stores) =
+    (T.past x (binding_number b) ≡ true) × (T.made (binding_number b) ≡ true) × (binding_less avoid b ≡ true) × (T.low g ≡ true)
+SaysBound T x avoid top (bound.Make b server g stores) = (T.made (binding_number b) ≡ true) × (binding_less avoid b ≡ true)
+    × (T.low g ≡ true) × ((s : ℕ) → has stores s ≡ true → T.listed x (binding_number b) s ≡ true)
 SaysBound T x avoid top (bound.Write g stores) = (T.asked x top g ≡ true) × (T.low g ≡ true)
 SaysBound T x avoid top (bound.Conflict holder m) = ⊤
 
@@ -111,25 +113,28 @@ HasIncluded T x top grants = (c g : ℕ) × list.In (x, c) grants × (c ≤ g) �
 
 -- Of an object that a top's Confirm marks, each binding that the top asked to record was recorded by then, or the top included a store.
 abbrev pub ConfirmsSettle : Tests → List Post → Type 0
-ConfirmsSettle T sent = (top : Uid) (grants : Grants) (excluded included : Marks) (x : ℕ) (b : Binding) (g : ℕ) → IsConfirm sent top grants excluded included → IsRecord sent top x b g → IsMarked x excluded included
+ConfirmsSettle T sent = (top : Uid) (grants : Grants) (excluded included : Marks) (x : ℕ) (b : Binding) (g : ℕ) →
+    IsConfirm sent top grants excluded included → IsRecord sent top x b g → IsMarked x excluded included
     → (T.past x (binding_number b) ≡ true) ⊎ HasIncluded T x top grants
 
 -- No Record is sent behind a Confirm of its top.
 abbrev pub RecordsAreFirst : List Post → Type 0
 RecordsAreFirst [] = ⊤
-RecordsAreFirst (p ∷ sent) = ((h : Head) (x : ℕ) (b : Binding) (i g : ℕ) → asks p.message ≡ Some (h, ask.Record x b i g) → (grants : Grants) (excluded included : Marks) → IsConfirm sent (top_of h.path) grants excluded included → ⊥) × RecordsAreFirst sent
+RecordsAreFirst (p ∷ sent) = ((h : Head) (x : ℕ) (b : Binding) (i g : ℕ) → asks p.message ≡ Some (h, ask.Record x b i g) →
+    (grants : Grants) (excluded included : Marks) → IsConfirm sent (top_of h.path) grants excluded included → ⊥) × RecordsAreFirst sent
 
 -- What is known of all that was sent: of requests, of Confirms, which are by tops, and of Records and Confirms.
 pub record SentAreKnown (sent : List Post) : Type 0 where
   pub senders : AreByOwn sent
-  pub tops : (p : Post) (h : Head) (grants : Grants) (excluded included : Marks) → In p sent → asks p.message ≡ Some (h, ask.Confirm grants excluded included) → actor h.path ≡ top_of h.path
+  pub tops : (p : Post) (h : Head) (grants : Grants) (excluded included : Marks) → In p sent →
+      asks p.message ≡ Some (h, ask.Confirm grants excluded included) → actor h.path ≡ top_of h.path
   pub first : RecordsAreFirst sent
   pub claims : (T : Tests) → AreFitting T sent → AllSay T sent × ConfirmsSettle T sent
 
 -- ---- entries
 
--- A prepared entry: its top's Confirm marks the object, with grants of one incarnation, which no Record of the top for the object names a later
--- one than.
+-- A prepared entry: its top's Confirm marks the object, with grants of one incarnation, which no Record of the top for the object names a
+-- later one than.
 pub record WasConfirmed (sent : List Post) (top : Uid) (x : ℕ) : Type 0 where
   pub grants : Grants
   pub excluded : Marks
@@ -142,4 +147,5 @@ pub record WasConfirmed (sent : List Post) (top : Uid) (x : ℕ) : Type 0 where
 
 -- so it is of each entry that is prepared
 abbrev pub AreConfirmed : List Post → Pair → Type 0
-AreConfirmed sent d = AllByRecursion (λ (e : Uid × List ObjectState). (s : ObjectState) → list.In s e.1 → WasConfirmed sent e.0 (let u = s.uid in u.num)) d.pend
+AreConfirmed sent d = AllByRecursion (λ (e : Uid × List ObjectState). (s : ObjectState) → list.In s e.1 →
+    WasConfirmed sent e.0 (let u = s.uid in u.num)) d.pend

@@ -7,7 +7,8 @@ use Rattle.arj_protocol.specs.Ask.{actor, top_of}
 use Rattle.arj_protocol.specs.Call.{At, AtActivate, AtBind, AtInvoke, AtLoad, AtNote, Goal, Include, Known, Run, Steps}
 use Rattle.arj_protocol.specs.Commit.{Plan, Used, plan_of, Machine}
 use Rattle.arj_protocol.specs.Confirm.{Grants, Marks}
-use Rattle.arj_protocol.specs.Coord.{Calling, Committing, Coord, Doing, Grant, Joined, Keeping, Root, Said, doing_of, keeping_of, kept_of, root_at}
+use Rattle.arj_protocol.specs.Coord.{Calling, Committing, Coord, Doing, Grant, Joined, Keeping, Root, Said, doing_of, keeping_of, kept_of}
+use Rattle.arj_protocol.specs.Coord.{root_at}
 use Rattle.arj_protocol.specs.Order.{at_number, binding_number, has}
 use Rattle.arj_protocol.specs.Tree.{Branch, branch_of, is_own, root_of}
 use Rattle.arj_law_runs.specs.calls.Coords.{IsSpent}
@@ -62,7 +63,8 @@ HasNumber kept k = (old : Known) × (kept ≡ Some old) × (binding_number old.b
 -- it; and once it invokes that is recorded.
 abbrev pub CallStands : Tests → ℕ → Option Known → Binding → At → Type 0
 CallStands T x kept avoid (AtBind b) = binding_number b ≡ binding_number avoid
-CallStands T x kept avoid (AtLoad z n rest) = HasNumber kept z × (T.low z.grant ≡ true) × ((s : ℕ) → has (n ∷ rest) s ≡ true → T.listed x (binding_number z.binding) s ≡ true)
+CallStands T x kept avoid (AtLoad z n rest) =
+    HasNumber kept z × (T.low z.grant ≡ true) × ((s : ℕ) → has (n ∷ rest) s ≡ true → T.listed x (binding_number z.binding) s ≡ true)
 CallStands T x kept avoid (AtActivate z st) = HasNumber kept z × (T.low z.grant ≡ true)
 CallStands T x kept avoid (AtNote z i) = HasNumber kept z × (T.low z.grant ≡ true)
 CallStands T x kept avoid (AtInvoke z i) = IsRecorded kept
@@ -82,17 +84,20 @@ StepStands T (Include s) x top r at = IncludeStands T x top r at
 
 -- each binding of the object that this top asked this node's naming to record was recorded
 abbrev pub AreRecorded : Tests → List Post → ℕ → Uid → ℕ → Type 0
-AreRecorded T sent k u x = (p : Post) (h : Head) (b : Binding) (i g : ℕ) → In p sent → p.from ≡ k → asks p.message ≡ Some (h, ask.Record x b i g) → top_of h.path ≡ u → T.past x (binding_number b) ≡ true
+AreRecorded T sent k u x = (p : Post) (h : Head) (b : Binding) (i g : ℕ) → In p sent → p.from ≡ k →
+    asks p.message ≡ Some (h, ask.Record x b i g) → top_of h.path ≡ u → T.past x (binding_number b) ≡ true
 
 -- what is used has this store, or includes it
 abbrev pub has_store : Used → ℕ → Bool
 has_store w s = has w.stores s || has w.joins s
 
--- A plan: of what it uses at some store its top asked the lock by an include, in no earlier incarnation than the grant, or the bindings that
--- it asked to record were recorded; what it includes was loaded of its object; and what it marks it uses at some store.
+-- A plan: of what it uses at some store its top asked the lock by an include, in no earlier incarnation than the grant, or the bindings
+-- that it asked to record were recorded; what it includes was loaded of its object; and what it marks it uses at some store.
 pub record IsPlanSo (T : Tests) (sent : List Post) (k : ℕ) (u : Uid) (p : Plan) : Type 0 where
-  pub used : (w : Used) (s : ℕ) → list.In w p.used → has_store w s ≡ true → ((g : ℕ) × (w.grant ≤ g) × (T.asked w.x u g ≡ true)) ⊎ AreRecorded T sent k u w.x
-  pub loaded : (w : Used) (s : ℕ) (st : ObjectState) → list.In w p.used → has w.joins s ≡ true → w.loaded ≡ Some st → (let v = st.uid in v.num) ≡ w.x
+  pub used : (w : Used) (s : ℕ) → list.In w p.used → has_store w s ≡ true →
+      ((g : ℕ) × (w.grant ≤ g) × (T.asked w.x u g ≡ true)) ⊎ AreRecorded T sent k u w.x
+  pub loaded : (w : Used) (s : ℕ) (st : ObjectState) → list.In w p.used → has w.joins s ≡ true → w.loaded ≡ Some st →
+      (let v = st.uid in v.num) ≡ w.x
   pub marks : (m : ℕ × ℕ) → list.In m p.excluded → (w : Used) × (s : ℕ) × list.In w p.used × (w.x ≡ m.0) × (has_store w s ≡ true)
 
 -- ---- a coordinator
@@ -109,18 +114,26 @@ pub record IsJoin (c : Coord) (T : Tests) (r : Root) (j : Joined) : Type 0 where
 -- What is known of a coordinator's roots and calls, with the tree of another one.
 pub record KnowsKept (c : Coord) (T : Tests) (sent : List Post) (e : Coord) : Type 0 where
   pub keeps : (root : Uid) (x : ℕ) → IsOrdered T x (keeping_of x (root_at root e))
-  pub said : (root : Uid) (s : Said) → list.In s (let r = root_at root e in r.said) → IsSpent c.tree s.path ⊎ IsRecorded (kept_of s.x (root_at root e))
+  pub said : (root : Uid) (s : Said) → list.In s (let r = root_at root e in r.said) →
+      IsSpent c.tree s.path ⊎ IsRecorded (kept_of s.x (root_at root e))
   pub joined : (root : Uid) (j : Joined) → list.In j (let r = root_at root e in r.joined) → IsJoin c T (root_at root e) j
-  pub states : (root : Uid) (x : ℕ) (s : ObjectState) → at_number x (let r = root_at root e in r.states) ≡ Some s → (let u = s.uid in u.num) ≡ x
-  pub steps : (u : Uid) (d : Doing) (s : Steps) → doing_of u e ≡ Some d → d.now ≡ Calling s → StepStands T s.goal s.x (top_of s.path) (root_at (root_of s.path) e) s.at
-  pub records : (p : Post) (h : Head) (x : ℕ) (b : Binding) (i g : ℕ) → In p sent → p.from ≡ (let t = c.tree in t.node) → asks p.message ≡ Some (h, ask.Record x b i g) → is_own (top_of h.path) e.tree ≡ true → binding_number b ≤ height (keeping_of x (root_at (root_of h.path) e))
+  pub states : (root : Uid) (x : ℕ) (s : ObjectState) → at_number x (let r = root_at root e in r.states) ≡ Some s →
+      (let u = s.uid in u.num) ≡ x
+  pub steps : (u : Uid) (d : Doing) (s : Steps) → doing_of u e ≡ Some d → d.now ≡ Calling s →
+      StepStands T s.goal s.x (top_of s.path) (root_at (root_of s.path) e) s.at
+  pub records : (p : Post) (h : Head) (x : ℕ) (b : Binding) (i g : ℕ) → In p sent → p.from ≡ (let t = c.tree in t.node) →
+      asks p.message ≡ Some (h, ask.Record x b i g) → is_own (top_of h.path) e.tree ≡ true →
+      binding_number b ≤ height (keeping_of x (root_at (root_of h.path) e))
 
--- What a coordinator of this node knows of its Records and Confirms, whatever passes: a top that asked to record has its branch, at the root
--- of the one who asked; and who sent a Confirm has ended, or is at its commit.
+-- What a coordinator of this node knows of its Records and Confirms, whatever passes: a top that asked to record has its branch, at the
+-- root of the one who asked; and who sent a Confirm has ended, or is at its commit.
 pub record KnowsSent (sent : List Post) (k : ℕ) (c : Coord) : Type 0 where
   pub node : (let t = c.tree in t.node) ≡ k
-  pub rooted : (p : Post) (h : Head) (x : ℕ) (b : Binding) (i g : ℕ) → In p sent → p.from ≡ k → asks p.message ≡ Some (h, ask.Record x b i g) → is_own (top_of h.path) c.tree ≡ true → (q : Branch) × (branch_of (top_of h.path) c.tree ≡ Some q) × (root_of q.path ≡ root_of h.path)
-  pub settled : (p : Post) (h : Head) (grants : Grants) (excluded included : Marks) → In p sent → p.from ≡ k → asks p.message ≡ Some (h, ask.Confirm grants excluded included) → is_own (actor h.path) c.tree ≡ true → IsSettled (actor h.path) c
+  pub rooted : (p : Post) (h : Head) (x : ℕ) (b : Binding) (i g : ℕ) → In p sent → p.from ≡ k →
+      asks p.message ≡ Some (h, ask.Record x b i g) → is_own (top_of h.path) c.tree ≡ true →
+      (q : Branch) × (branch_of (top_of h.path) c.tree ≡ Some q) × (root_of q.path ≡ root_of h.path)
+  pub settled : (p : Post) (h : Head) (grants : Grants) (excluded included : Marks) → In p sent → p.from ≡ k →
+      asks p.message ≡ Some (h, ask.Confirm grants excluded included) → is_own (actor h.path) c.tree ≡ true → IsSettled (actor h.path) c
 
 -- for these tests, with its plans
 pub record KnowsRecords (T : Tests) (sent : List Post) (k : ℕ) (c : Coord) : Type 0 where

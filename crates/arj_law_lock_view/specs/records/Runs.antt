@@ -72,8 +72,8 @@ RecordsKnown M = ((RecordsSettle M × Below M) × AreSaid M) × NamingKnows M
 abbrev pub RecordsRun : Seen → Type 0
 RecordsRun M = (IsGood M × AreSaid M) × (HasFewBindings M.lines → (LivesRun M × KnowsRun M) × RecordsKnown M)
 
--- A Record that came to naming: of the binding that naming made for its top last and didn't record yet, of naming's incarnation, of a path of
--- which nobody was told, by a top that didn't ask the lock by an include.
+-- A Record that came to naming: of the binding that naming made for its top last and didn't record yet, of naming's incarnation, of a path
+-- of which nobody was told, by a top that didn't ask the lock by an include.
 pub record IsNewRecord (x : ℕ) (h : Head) (b : Binding) (g : ℕ) (n : Naming) : Type 0 where
   pub named : Named
   pub made : Made
@@ -87,8 +87,10 @@ pub record IsNewRecord (x : ℕ) (h : Head) (b : Binding) (g : ℕ) (n : Naming)
 
 -- such a Record is of a top that has no entry of the object prepared
 abbrev pub RecordsAreFree : Seen → Type 0
-RecordsAreFree M = (q : Node) (t : Parts) (n : Naming) (p : Post) (h : Head) (x : ℕ) (b : Binding) (i g : ℕ) → M.nodes 1 ≡ Some q → q.live ≡ Some t → t.naming ≡ Some n → In p M.sent → asks p.message ≡ Some (h, ask.Record x b i g) → IsNewRecord x h b g n
-    → (states : List ObjectState) (s : ObjectState) → at_uid (top_of h.path) (let d = q.disk in let e = d.names in e.pend) ≡ Some states → list.In s states → s.uid ≡ entry x → ⊥
+RecordsAreFree M = (q : Node) (t : Parts) (n : Naming) (p : Post) (h : Head) (x : ℕ) (b : Binding) (i g : ℕ) → M.nodes 1 ≡ Some q →
+    q.live ≡ Some t → t.naming ≡ Some n → In p M.sent → asks p.message ≡ Some (h, ask.Record x b i g) → IsNewRecord x h b g n
+    → (states : List ObjectState) (s : ObjectState) → at_uid (top_of h.path) (let d = q.disk in let e = d.names in e.pend) ≡ Some states →
+    list.In s states → s.uid ≡ entry x → ⊥
 
 -- so it is in every such run, wherever disks stop
 abbrev pub RunsFreeRecords : Type 0

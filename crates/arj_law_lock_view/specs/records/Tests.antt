@@ -1,4 +1,5 @@
--- What is so at naming, as tests that pass for all that is so there. What messages and coordinators claim is claimed for each tests that pass.
+-- What is so at naming, as tests that pass for all that is so there. What messages and coordinators claim is claimed for each tests that
+-- pass.
 use Rattle.std.specs.Prelude.{◌≡◌, ◌≤◌, ◌<◌, ◌+◌, ◌*◌, ◌||◌, ℕ, Bool, true, Option, Some, None}
 use Rattle.arj_protocol.specs.Words.{Uid, Binding, is_on}
 use Rattle.arj_protocol.specs.Named.{Made, Named}
@@ -10,8 +11,8 @@ use Rattle.arj_promise.specs.Runs.{Seen}
 
 -- Of a number, that naming has given a binding none above it; of an object and a number, that a binding of no lower number was recorded, or
 -- naming is in a later incarnation than that of the binding; of an object, a top and an incarnation, that the top asked the lock by an
--- include in it, or naming was told of the top, or is in a later one; of an incarnation, that naming isn't in an earlier one; and of an object,
--- a binding's number and a store, that the object's entry lists the store, if it was made for a top and matters still.
+-- include in it, or naming was told of the top, or is in a later one; of an incarnation, that naming isn't in an earlier one; and of an
+-- object, a binding's number and a store, that the object's entry lists the store, if it was made for a top and matters still.
 pub record Tests : Type 0 where
   pub made : ℕ → Bool
   pub past : ℕ → ℕ → Bool
@@ -54,4 +55,5 @@ Passes T M = (T.made 0 ≡ true) × ((n : Node) → M.nodes 1 ≡ Some n → Pas
 
 -- each binding that was recorded for a top isn't above the one that was recorded last
 abbrev pub AreBelowLast : Named → Type 0
-AreBelowLast o = (u : Uid) (m : Made) → at_uid u o.made ≡ Some m → m.recorded ≡ true → (b : Binding) × (o.recorded ≡ Some b) × (binding_number m.binding ≤ binding_number b)
+AreBelowLast o = (u : Uid) (m : Made) → at_uid u o.made ≡ Some m → m.recorded ≡ true →
+    (b : Binding) × (o.recorded ≡ Some b) × (binding_number m.binding ≤ binding_number b)

@@ -18,12 +18,14 @@ use Rattle.arj_law_lock_view.specs.running.World.{IsSeenSo}
 
 -- what it tells again is on the disk
 abbrev pub TellsRecords : Spot → Type 0
-TellsRecords s = (u : Uid) (i : Intent) → Contains {X = Uid × Intent} (let c = coord_at s in c.telling) (u, i) → (j : Intent) × Contains {X = Uid × Intent} (records_at s) (u, j)
+TellsRecords s = (u : Uid) (i : Intent) → Contains {X = Uid × Intent} (let c = coord_at s in c.telling) (u, i) →
+    (j : Intent) × Contains {X = Uid × Intent} (records_at s) (u, j)
 
 -- A tick: what waits is asked again, what isn't acknowledged is told again, and holders of locks are asked about.
 abbrev pub TicksGo : Type 0
 TicksGo = (c : Case) (s : Spot) (e : ℕ) → IsSeenIn c (world_at s) → KnowsAsks c (coord_at s) → KnowsEnds (coord_at s) → TellsRecords s
-    → Walks (IsSeenSo c) e s.node (tick_outs (record { number = s.node; disk = s.disk; live = Some s.parts }) s.parts) (Up (IsSeenSo c) s.node (with_coord s.parts (let d = again_all (let q = coord_at s in q.doings) (coord_at s) in d.part))) s.disk s.seen
+    → Walks (IsSeenSo c) e s.node (tick_outs (record { number = s.node; disk = s.disk; live = Some s.parts }) s.parts) (Up (IsSeenSo c)
+    s.node (with_coord s.parts (let d = again_all (let q = coord_at s in q.doings) (coord_at s) in d.part))) s.disk s.seen
 
 -- The action that is asked about was begun at this node, and isn't nested.
 abbrev pub IsAskedAbout : Case → Spot → Uid → Type 0
@@ -36,10 +38,13 @@ QueriesGo = (c : Case) (s : Spot) (e from : ℕ) (u : Uid) → IsSeenIn c (world
 
 -- The root of a record is no nested action, where it is known.
 abbrev pub HasWholeRoots : Spot → Uid → Type 0
-HasWholeRoots s u = (i : Intent) (b : Branch) → at_uid u (records_at s) ≡ Some i → branch_of i.root (let q = coord_at s in q.tree) ≡ Some b → b.kind ≢ kind.Nested
+HasWholeRoots s u = (i : Intent) (b : Branch) → at_uid u (records_at s) ≡ Some i →
+    branch_of i.root (let q = coord_at s in q.tree) ≡ Some b → b.kind ≢ kind.Nested
 
 -- A node that was told an end acknowledges it. The last one removes the record from the disk; then, where a record of a constituent was the
 -- last to list a node for a serializing action that has ended, the node is told that.
 abbrev pub AcksGo : Type 0
-AcksGo = (c : Case) (s : Spot) (e from : ℕ) (u : Uid) → IsSeenIn c (world_at s) → HoldsNamingIn c s.node (let t = s.parts in t.naming) → HasWholeRoots s u
-    → let D = acked from u (records_at s) (coord_at s) in Walks (IsSeenSo c) e s.node D.outs (Up (IsSeenSo c) s.node (with_coord s.parts D.part)) s.disk s.seen
+AcksGo = (c : Case) (s : Spot) (e from : ℕ) (u : Uid) → IsSeenIn c (world_at s) → HoldsNamingIn c s.node (let t = s.parts in t.naming) →
+    HasWholeRoots s u
+    → let D = acked from u (records_at s) (coord_at s) in
+    Walks (IsSeenSo c) e s.node D.outs (Up (IsSeenSo c) s.node (with_coord s.parts D.part)) s.disk s.seen

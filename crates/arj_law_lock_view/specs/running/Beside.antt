@@ -106,13 +106,16 @@ pub record IsToldCommit (s : Spot) (u : Uid) : Type 0 where
 abbrev pub server_at : Spot → Server
 server_at s = let t = s.parts in t.server
 
--- A server lists each copy under its object. Where an abort comes to it of an action that isn't aborted, whose unit is over, and that is new
--- to it, nothing is left there of a committed top with a surviving write, for which it voted, but what is below an aborted action; and where
--- one comes of a committed top whose unit isn't over, it didn't vote for that.
+-- A server lists each copy under its object. Where an abort comes to it of an action that isn't aborted, whose unit is over, and that is
+-- new to it, nothing is left there of a committed top with a surviving write, for which it voted, but what is below an aborted action; and
+-- where one comes of a committed top whose unit isn't over, it didn't vote for that.
 pub record KnowsServer (c : Case) (s : Spot) : Type 0 where
-  pub listed : (y : ℕ) (o : Copy) → Contains {X = ℕ × Copy} (let v = server_at s in v.objects) (y, o) → at_number y (let v = server_at s in v.objects) ≡ Some o
-  pub left : (u : Uid) → IsToldAbort s u → is_told u (server_at s) ≡ false → IsUnitOver c u → (IsAborted c u → ⊥) → HasNoneLeft (view_in c s.node) u (server_at s) c.state
-  pub unvoted : (u : Uid) → IsToldAbort s u → is_told u (server_at s) ≡ false → IsCommittedTop c u → (IsUnitOver c u → ⊥) → is_on (let v = server_at s in v.voted) u ≡ false
+  pub listed : (y : ℕ) (o : Copy) → Contains {X = ℕ × Copy} (let v = server_at s in v.objects) (y, o) →
+      at_number y (let v = server_at s in v.objects) ≡ Some o
+  pub left : (u : Uid) → IsToldAbort s u → is_told u (server_at s) ≡ false → IsUnitOver c u → (IsAborted c u → ⊥) →
+      HasNoneLeft (view_in c s.node) u (server_at s) c.state
+  pub unvoted : (u : Uid) → IsToldAbort s u → is_told u (server_at s) ≡ false → IsCommittedTop c u → (IsUnitOver c u → ⊥) →
+      is_on (let v = server_at s in v.voted) u ≡ false
 
 -- ---- what is known of naming
 
@@ -134,11 +137,15 @@ HoldsNamingIn c k o = (n : Naming) → o ≡ Some n → HoldsNaming c k n
 -- loses a row with another action stands below that.
 pub record KnowsNaming (c : Case) (s : Spot) (n : Naming) : Type 0 where
   pub holds : HoldsNaming c s.node n
-  pub unconfirmed : (u : Uid) → IsToldAbort s u → is_on n.told u ≡ false → IsCommittedTop c u → (IsUnitOver c u → ⊥) → IsConfirmedNow c u → ⊥
-  pub heirs : (o : Named) (a : Action) → at_number c.x n.objects ≡ Some o → Contains c.begun a → a.kind ≡ kind.Constituent → IsToldCommit s (act_of a) → is_on n.told (act_of a) ≡ false → IsConfirmedNow c (act_of a)
+  pub unconfirmed : (u : Uid) → IsToldAbort s u → is_on n.told u ≡ false → IsCommittedTop c u → (IsUnitOver c u → ⊥) → IsConfirmedNow c u →
+      ⊥
+  pub heirs : (o : Named) (a : Action) → at_number c.x n.objects ≡ Some o → Contains c.begun a → a.kind ≡ kind.Constituent →
+      IsToldCommit s (act_of a) → is_on n.told (act_of a) ≡ false → IsConfirmedNow c (act_of a)
       → (r : Row) → Contains o.rows r → is_held_by (act_of a) r ≡ true → before_last r.holder ≡ before_last (uids_of a.path)
-  pub nothing : (o : Named) (a : Action) → at_number c.x n.objects ≡ Some o → Contains c.begun a → a.kind ≡ kind.Nested → IsToldCommit s (act_of a) → is_on n.told (act_of a) ≡ false → HasNothingAt n o (act_of a)
-  pub lost : (w u : Uid) → uid_eq u w ≡ false → loses_row w u n ≡ true → (a : Action) × Contains c.begun a × (act_of a ≡ u) × (is_on (uids_of a.path) w ≡ true)
+  pub nothing : (o : Named) (a : Action) → at_number c.x n.objects ≡ Some o → Contains c.begun a → a.kind ≡ kind.Nested →
+      IsToldCommit s (act_of a) → is_on n.told (act_of a) ≡ false → HasNothingAt n o (act_of a)
+  pub lost : (w u : Uid) → uid_eq u w ≡ false → loses_row w u n ≡ true →
+      (a : Action) × Contains c.begun a × (act_of a ≡ u) × (is_on (uids_of a.path) w ≡ true)
 
 -- What is known at the node; and who takes part in each commit is known in the world: all Confirms of a top are one.
 pub record KnowsSpot (c : Case) (s : Spot) : Type 0 where

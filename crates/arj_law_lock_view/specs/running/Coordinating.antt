@@ -45,9 +45,9 @@ use Rattle.arj_law_lock_view.specs.running.World.{IsSeenSo}
 
 -- ---- one unit
 
--- Of the machine only what coordinators have changed, and of them only what one unit has: its actions that hadn't ended, the binding that is
--- kept for it, calls and includes of it. A binding's server and maker stay, and all of it once an incarnation was heard. A
--- coordinator without an action of the unit is seen as before.
+-- Of the machine only what coordinators have changed, and of them only what one unit has: its actions that hadn't ended, the binding that
+-- is kept for it, calls and includes of it. A binding's server and maker stay, and all of it once an incarnation was heard. A coordinator
+-- without an action of the unit is seen as before.
 pub record OnlyUnit (f : Fixed) (x unit : ℕ) (S T : State) : Type 0 where
   pub naming : T.naming ≡ S.naming
   pub confirmed : NobodyConfirmed S T
@@ -70,12 +70,14 @@ pub record HasStepped (c : Case) (s : Spot) (u : Uid) (says : ℕ) (C : Coord) (
   pub run : Run c.state T
   pub coord : SeesWhole (let f = c.fixed in f.act) (let f = c.fixed in f.code) c.x C T
   pub only : OnlyUnit c.fixed c.x (root (let f = c.fixed in f.act u)) c.state T
-  pub changed : (w : Uid) → IsUnbegun c.begun w → T.action (let f = c.fixed in f.act w) ≡ (let S = c.state in S.action (let f = c.fixed in f.act w))
+  pub changed : (w : Uid) → IsUnbegun c.begun w →
+      T.action (let f = c.fixed in f.act w) ≡ (let S = c.state in S.action (let f = c.fixed in f.act w))
   pub now : T.now ≤ length (let M = s.seen in M.lines) + says + 1
 
 -- what is sent is shown in the machine's state, whatever else was sent
 abbrev pub IsSendShown : Case → Spot → State → Effect → Type 0
-IsSendShown c s T (Send to m) = (wide : List Post) → Within (let M = s.seen in M.sent) wide → IsPostSeen c.fixed c.x c.begun wide T (record { from = s.node; to = to; message = m })
+IsSendShown c s T (Send to m) = (wide : List Post) → Within (let M = s.seen in M.sent) wide →
+    IsPostSeen c.fixed c.x c.begun wide T (record { from = s.node; to = to; message = m })
 IsSendShown c s T _ = ⊤
 
 -- so it is of all effects
@@ -99,13 +101,15 @@ StepGoes c s e d = Walks (IsSeenSo c) e s.node d.outs (Up (IsSeenSo c) s.node (w
 -- what is sent is shown, the object is seen in the whole world.
 abbrev pub CoordsGo : Type 0
 CoordsGo = (c : Case) (s : Spot) (e : ℕ) (u : Uid) (b : Branch) (bs : List Body) (sends : List Effect) (C : Coord) (T : State)
-    → IsSeenIn c (world_at s) → branch_of u (let t = s.parts in let d = t.coord in d.tree) ≡ Some b → GoesOn (let t = s.parts in t.coord) C → AreSends sends → HasStepped c s u (length bs) C T → AreSendsShown c s T sends → BeginNone bs → AreTied c.fixed c.x ((let M = s.seen in M.lines) ++ numbered e bs) T
+    → IsSeenIn c (world_at s) → branch_of u (let t = s.parts in let d = t.coord in d.tree) ≡ Some b →
+    GoesOn (let t = s.parts in t.coord) C → AreSends sends → HasStepped c s u (length bs) C T → AreSendsShown c s T sends →
+    BeginNone bs → AreTied c.fixed c.x ((let M = s.seen in M.lines) ++ numbered e bs) T
     → StepGoes c s e (record { part = C; outs = map Say bs ++ sends })
 
 -- ---- ends and aborts
 
--- What is known of a coordinator behind its step, by the protocol alone: it goes on, is good, has of ends what was decided, and lists no end of
--- a serializing action.
+-- What is known of a coordinator behind its step, by the protocol alone: it goes on, is good, has of ends what was decided, and lists no
+-- end of a serializing action.
 pub record KnowsCoord (c : Case) (s : Spot) (C : Coord) : Type 0 where
   pub on : GoesOn (let t = s.parts in t.coord) C
   pub good : IsGoodCoord c.begun (let f = c.fixed in f.paths) C
@@ -123,13 +127,15 @@ records_at s = let d = s.disk in d.intents
 -- The commit of a nested action, and the end of a serializing action.
 abbrev pub NestedCommitsGo : Type 0
 NestedCommitsGo = (c : Case) (s : Spot) (e : ℕ) (u : Uid) (b : Branch) (d : Doing)
-    → IsSeenIn c (world_at s) → IsFreeToEnd (let f = c.fixed in f.act) (let f = c.fixed in f.paths) (coord_at s) u b d → (b.kind ≡ kind.Nested) ⊎ (b.kind ≡ kind.Serial) → b.doomed ≡ false → has_open_child u (let q = coord_at s in q.tree) ≡ false
+    → IsSeenIn c (world_at s) → IsFreeToEnd (let f = c.fixed in f.act) (let f = c.fixed in f.paths) (coord_at s) u b d →
+    (b.kind ≡ kind.Nested) ⊎ (b.kind ≡ kind.Serial) → b.doomed ≡ false → has_open_child u (let q = coord_at s in q.tree) ≡ false
     → let D = commit_action b (records_at s) (coord_at s) in KnowsCoord c s D.part → StepGoes c s e D
 
 -- A doomed action is aborted.
 abbrev pub DoomedCommitsGo : Type 0
 DoomedCommitsGo = (c : Case) (s : Spot) (e : ℕ) (u : Uid) (b : Branch) (d : Doing)
-    → IsSeenIn c (world_at s) → IsFreeToEnd (let f = c.fixed in f.act) (let f = c.fixed in f.paths) (coord_at s) u b d → b.doomed ≡ true → has_open_child u (let q = coord_at s in q.tree) ≡ false
+    → IsSeenIn c (world_at s) → IsFreeToEnd (let f = c.fixed in f.act) (let f = c.fixed in f.paths) (coord_at s) u b d → b.doomed ≡ true →
+    has_open_child u (let q = coord_at s in q.tree) ≡ false
     → let D = commit_action b (records_at s) (coord_at s) in KnowsCoord c s D.part → StepGoes c s e D
 
 -- An open action is aborted with all that is open below it.
@@ -143,8 +149,10 @@ AbortsGo = (c : Case) (s : Spot) (e : ℕ) (u : Uid) (b : Branch)
 -- What is known of the calls that wait behind a step: the state that came for a binding is the object's, and a Bind of the object avoids a
 -- binding that was made before.
 pub record KnowsAsks (c : Case) (C : Coord) : Type 0 where
-  pub states : (u : Uid) (d : Doing) (w : Steps) (k : Known) (o : ObjectState) → doing_of u C ≡ Some d → d.now ≡ Calling w → w.at ≡ AtActivate k o → (let q = o.uid in q.num) ≡ w.x
-  pub avoids : (u : Uid) (d : Doing) (w : Steps) (a : Binding) → doing_of u C ≡ Some d → d.now ≡ Calling w → w.at ≡ AtBind a → w.x ≡ c.x → binding_number a < (let S = c.state in let n = S.naming in n.bound)
+  pub states : (u : Uid) (d : Doing) (w : Steps) (k : Known) (o : ObjectState) → doing_of u C ≡ Some d → d.now ≡ Calling w →
+      w.at ≡ AtActivate k o → (let q = o.uid in q.num) ≡ w.x
+  pub avoids : (u : Uid) (d : Doing) (w : Steps) (a : Binding) → doing_of u C ≡ Some d → d.now ≡ Calling w → w.at ≡ AtBind a → w.x ≡ c.x →
+      binding_number a < (let S = c.state in let n = S.naming in n.bound)
 
 -- an action at work at this coordinator
 abbrev pub IsWorking : Case → Spot → Uid → Branch → Doing → Type 0
@@ -165,13 +173,15 @@ IncludesGo = (c : Case) (s : Spot) (e y store : ℕ) (u : Uid) (b : Branch) (d :
 -- An answer to a call on the object is taken; one to an include of it; and one about another object.
 abbrev pub CallAnswersGo : Type 0
 CallAnswersGo = (c : Case) (s : Spot) (e : ℕ) (u : Uid) (b : Branch) (d : Doing) (w : Steps) (o : Op) (r : Reply)
-    → IsSeenIn c (world_at s) → IsWorking c s u b d → IsCalling c.x b d w o → ShowsAnswer (let f = c.fixed in f.act) (let f = c.fixed in f.code) w o c.state w.at r
+    → IsSeenIn c (world_at s) → IsWorking c s u b d → IsCalling c.x b d w o →
+    ShowsAnswer (let f = c.fixed in f.act) (let f = c.fixed in f.code) w o c.state w.at r
     → let D = heard_call w r (coord_at s) in KnowsCoord c s D.part → KnowsAsks c D.part → StepGoes c s e D
 
 -- an answer to an include of the object is taken
 abbrev pub IncludeAnswersGo : Type 0
 IncludeAnswersGo = (c : Case) (s : Spot) (e store : ℕ) (u : Uid) (b : Branch) (d : Doing) (w : Steps) (r : Reply)
-    → IsSeenIn c (world_at s) → IsWorking c s u b d → IsWaiting b d w → w.x ≡ c.x → w.goal ≡ IncludeStore store → ShowsInclude (let f = c.fixed in f.act) (top_of w.path) c.state r
+    → IsSeenIn c (world_at s) → IsWorking c s u b d → IsWaiting b d w → w.x ≡ c.x → w.goal ≡ IncludeStore store →
+    ShowsInclude (let f = c.fixed in f.act) (top_of w.path) c.state r
     → let D = heard_call w r (coord_at s) in KnowsCoord c s D.part → KnowsAsks c D.part → StepGoes c s e D
 
 -- an answer about another object is taken
@@ -197,10 +207,15 @@ OtherLostGo = (c : Case) (s : Spot) (e : ℕ) (u : Uid) (b : Branch) (d : Doing)
 -- The commit of a top that isn't doomed is called: its line is said, and the first nodes are asked, or it is decided at once.
 abbrev pub TopCommitsGo : Type 0
 TopCommitsGo = (c : Case) (s : Spot) (e : ℕ) (u : Uid) (b : Branch) (d : Doing)
-    → IsSeenIn c (world_at s) → HoldsNamingIn c s.node (let t = s.parts in t.naming) → (free : IsFreeToEnd (let f = c.fixed in f.act) (let f = c.fixed in f.paths) (coord_at s) u b d) → AreBegun (let k = free.steady in k.actions) → AreTopped (let f = c.fixed in f.act) (coord_at s)
-    → b.kind ≢ kind.Serial → b.kind ≢ kind.Nested → b.doomed ≡ false → has_open_child u (let q = coord_at s in q.tree) ≡ false → IsFirst (let f = c.fixed in f.act) (coord_at s) u
-    → HasLowGrant c.x (let f = c.fixed in f.act u) (plan_now b (coord_at s)) c.state → AreKept c.x (let f = c.fixed in f.act u) (plan_now b (coord_at s)) c.state
-    → let D = commit_action b (records_at s) (coord_at s) in KnowsCoord c s D.part → KnowsAsks c D.part → KnowsEnds D.part → StepGoes c s e D
+    → IsSeenIn c (world_at s) → HoldsNamingIn c s.node (let t = s.parts in t.naming) →
+    (free : IsFreeToEnd (let f = c.fixed in f.act) (let f = c.fixed in f.paths) (coord_at s) u b d) →
+    AreBegun (let k = free.steady in k.actions) → AreTopped (let f = c.fixed in f.act) (coord_at s)
+    → b.kind ≢ kind.Serial → b.kind ≢ kind.Nested → b.doomed ≡ false → has_open_child u (let q = coord_at s in q.tree) ≡ false →
+    IsFirst (let f = c.fixed in f.act) (coord_at s) u
+    → HasLowGrant c.x (let f = c.fixed in f.act u) (plan_now b (coord_at s)) c.state →
+    AreKept c.x (let f = c.fixed in f.act u) (plan_now b (coord_at s)) c.state
+    → let D = commit_action b (records_at s) (coord_at s) in
+    KnowsCoord c s D.part → KnowsAsks c D.part → KnowsEnds D.part → StepGoes c s e D
 
 -- an open action at its commit at this coordinator
 pub record IsAtCommit (s : Spot) (u : Uid) (b : Branch) (d : Doing) (k : Machine) : Type 0 where
@@ -214,14 +229,17 @@ pub record IsAtCommit (s : Spot) (u : Uid) (b : Branch) (d : Doing) (k : Machine
 -- leaves it decided, and without a line.
 abbrev pub CommitAnswersGo : Type 0
 CommitAnswersGo = (c : Case) (s : Spot) (e from : ℕ) (u : Uid) (b : Branch) (d : Doing) (k : Machine) (r : Reply)
-    → IsSeenIn c (world_at s) → HoldsNamingIn c s.node (let t = s.parts in t.naming) → IsAtCommit s u b d k → ShowsToCommit c.x (let f = c.fixed in f.act u) k from r c.state
-    → let D = moved_commit u (commit.answered from k r) (records_at s) (coord_at s) in KnowsCoord c s D.part → KnowsAsks c D.part → KnowsEnds D.part → StepGoes c s e D
+    → IsSeenIn c (world_at s) → HoldsNamingIn c s.node (let t = s.parts in t.naming) → IsAtCommit s u b d k →
+    ShowsToCommit c.x (let f = c.fixed in f.act u) k from r c.state
+    → let D = moved_commit u (commit.answered from k r) (records_at s) (coord_at s) in
+    KnowsCoord c s D.part → KnowsAsks c D.part → KnowsEnds D.part → StepGoes c s e D
 
 -- So it does where it is given up, behind the lines of whom it waited for.
 abbrev pub LostCommitsGo : Type 0
 LostCommitsGo = (c : Case) (s : Spot) (e : ℕ) (u : Uid) (b : Branch) (d : Doing) (k : Machine)
     → IsSeenIn c (world_at s) → HoldsNamingIn c s.node (let t = s.parts in t.naming) → IsAtCommit s u b d k
-    → let D = gives_up u (records_at s) (coord_at s) (Committing k) in KnowsCoord c s D.part → KnowsAsks c D.part → KnowsEnds D.part → StepGoes c s e D
+    → let D = gives_up u (records_at s) (coord_at s) (Committing k) in
+    KnowsCoord c s D.part → KnowsAsks c D.part → KnowsEnds D.part → StepGoes c s e D
 
 -- ---- beginnings
 
@@ -236,6 +254,8 @@ with_action a c = record c { begun = a ∷ c.begun }
 -- An action begins, which is new and may stand there, where its root has nothing yet: the machine waits, and the object is seen with it.
 abbrev pub BeginsGo : Type 0
 BeginsGo = (c : Case) (s : Spot) (e : ℕ) (l : Label) (g : Labelled) (k : Kind) (parent : Option Label) (above : Option Branch)
-    → IsSeenIn c (world_at s) → Begins (beginning k above (coord_at s)) c.begun → MayStand (let f = c.fixed in f.paths) k (let q = coord_at s in q.tree) (let a = beginning k above (coord_at s) in a.path) → root_at (next_uid (let q = coord_at s in q.tree)) (coord_at s) ≡ no_root
+    → IsSeenIn c (world_at s) → Begins (beginning k above (coord_at s)) c.begun →
+    MayStand (let f = c.fixed in f.paths) k (let q = coord_at s in q.tree) (let a = beginning k above (coord_at s) in a.path) →
+    root_at (next_uid (let q = coord_at s in q.tree)) (coord_at s) ≡ no_root
     → let D = begin_action l k parent above (coord_at s) in let b = with_action (beginning k above (coord_at s)) c in
     Walks (IsSeenSo b) e s.node D.outs (Up (IsSeenSo b) s.node (with_coord s.parts D.part)) s.disk (given l g s.seen)

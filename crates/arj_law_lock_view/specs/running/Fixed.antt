@@ -34,7 +34,8 @@ view_of f x begun k = record { family = family_of f begun; code = f.code; wants 
 -- what is said here.
 pub record Agrees (f : Fixed) (x : ℕ) (begun : List Action) (sent : List Post) : Type 0 where
   pub whole : AreOneTree (family_of f begun)
-  pub wanted : (p : Post) (h : Head) (a : Ask) → In p sent → asks (let q = p in q.message) ≡ Some (h, a) → IsWanted (view_of f x begun p.to) h a
+  pub wanted : (p : Post) (h : Head) (a : Ask) → In p sent → asks (let q = p in q.message) ≡ Some (h, a) →
+      IsWanted (view_of f x begun p.to) h a
 
 -- the number of the object's first value stands for this one, which nobody wrote
 abbrev pub BeginsAs : Values → ℕ → Fixed → Type 0

@@ -37,19 +37,29 @@ pub record HasCome (s : Spot) (from : ℕ) (m : Message) (v : Parts) (outs : Lis
   pub meant : is_meant (let q = s in q.parts) m ≡ true
   pub takes : handle s.node s.disk s.parts from m ≡ Took v outs
 
--- What a relation gives, where it holds of the machine's state and the object is seen in it: what naming, servers, records, questions, answers, inputs about actions and
--- new roots are known for.
+-- What a relation gives, where it holds of the machine's state and the object is seen in it: what naming, servers, records, questions,
+-- answers, inputs about actions and new roots are known for.
 pub record GivesLocks (hd : Header) (f : Fixed) (x : ℕ) (R : List Action → State → Seen → Type 0) : Type 0 where
-  pub holds : (begun : List Action) (S : State) (s : Spot) → R begun S (world_at s) → IsSeenIn (case_of f x begun S) (world_at s) → HoldsNamingIn (case_of f x begun S) s.node (let t = s.parts in t.naming)
-  pub parts : (begun : List Action) (S : State) (s : Spot) (from : ℕ) (m : Message) (v : Parts) (outs : List Effect) → R begun S (world_at s) → IsSeenIn (case_of f x begun S) (world_at s) → HasCome s from m v outs → is_for_parts m ≡ true
+  pub holds : (begun : List Action) (S : State) (s : Spot) → R begun S (world_at s) → IsSeenIn (case_of f x begun S) (world_at s) →
+      HoldsNamingIn (case_of f x begun S) s.node (let t = s.parts in t.naming)
+  pub parts : (begun : List Action) (S : State) (s : Spot) (from : ℕ) (m : Message) (v : Parts) (outs : List Effect) →
+      R begun S (world_at s) → IsSeenIn (case_of f x begun S) (world_at s) → HasCome s from m v outs → is_for_parts m ≡ true
       → KnowsSpot (case_of f x begun S) s × HoldsNamingIn (case_of f x begun S) s.node v.naming
-  pub asked : (begun : List Action) (S : State) (s : Spot) (from : ℕ) (u : Uid) (v : Parts) (outs : List Effect) → R begun S (world_at s) → IsSeenIn (case_of f x begun S) (world_at s) → HasCome s from (message.Query (record { act = u })) v outs → IsAskedAbout (case_of f x begun S) s u
-  pub acked : (begun : List Action) (S : State) (s : Spot) (from : ℕ) (u : Uid) (v : Parts) (outs : List Effect) → R begun S (world_at s) → IsSeenIn (case_of f x begun S) (world_at s) → HasCome s from (message.Acked (record { act = u })) v outs → HasWholeRoots s u
-  pub heard : (begun : List Action) (S : State) (s : Spot) (from : ℕ) (m : Message) (a : Asked × Reply) (v : Parts) (outs : List Effect) → R begun S (world_at s) → IsSeenIn (case_of f x begun S) (world_at s) → HasCome s from m v outs → answers m ≡ Some a
+  pub asked : (begun : List Action) (S : State) (s : Spot) (from : ℕ) (u : Uid) (v : Parts) (outs : List Effect) → R begun S (world_at s) →
+      IsSeenIn (case_of f x begun S) (world_at s) → HasCome s from (message.Query (record { act = u })) v outs →
+      IsAskedAbout (case_of f x begun S) s u
+  pub acked : (begun : List Action) (S : State) (s : Spot) (from : ℕ) (u : Uid) (v : Parts) (outs : List Effect) → R begun S (world_at s) →
+      IsSeenIn (case_of f x begun S) (world_at s) → HasCome s from (message.Acked (record { act = u })) v outs → HasWholeRoots s u
+  pub heard : (begun : List Action) (S : State) (s : Spot) (from : ℕ) (m : Message) (a : Asked × Reply) (v : Parts) (outs : List Effect) →
+      R begun S (world_at s) → IsSeenIn (case_of f x begun S) (world_at s) → HasCome s from m v outs → answers m ≡ Some a
       → KnowsAnswer (case_of f x begun S) s from a.0 a.1
-  pub act : (begun : List Action) (S : State) (s : Spot) (i : Input) → R begun S (world_at s) → IsSeenIn (case_of f x begun S) (world_at s) → is_act i ≡ true → refusal_up hd i (coord_at s) ≡ None
+  pub act : (begun : List Action) (S : State) (s : Spot) (i : Input) → R begun S (world_at s) →
+      IsSeenIn (case_of f x begun S) (world_at s) → is_act i ≡ true → refusal_up hd i (coord_at s) ≡ None
       → KnowsInput s × KnowsAfter (case_of f x begun S) (let D = acts i (let d = s.disk in d.intents) (coord_at s) in D.part)
-  pub begin : (begun : List Action) (S : State) (s : Spot) → R begun S (world_at s) → IsSeenIn (case_of f x begun S) (world_at s) → root_at (next_uid (let q = coord_at s in q.tree)) (coord_at s) ≡ no_root
-  pub tick : (begun : List Action) (S : State) (s : Spot) → R begun S (world_at s) → IsSeenIn (case_of f x begun S) (world_at s) → KnowsAsks (case_of f x begun S) (coord_at s) × KnowsEnds (coord_at s) × TellsRecords s
-  pub restart : (begun : List Action) (S : State) (k : ℕ) (d : Disk) (M : Seen) → R begun S (down k d M) → IsSeenIn (case_of f x begun S) (down k d M) → KnowsEntry x k d
+  pub begin : (begun : List Action) (S : State) (s : Spot) → R begun S (world_at s) → IsSeenIn (case_of f x begun S) (world_at s) →
+      root_at (next_uid (let q = coord_at s in q.tree)) (coord_at s) ≡ no_root
+  pub tick : (begun : List Action) (S : State) (s : Spot) → R begun S (world_at s) → IsSeenIn (case_of f x begun S) (world_at s) →
+      KnowsAsks (case_of f x begun S) (coord_at s) × KnowsEnds (coord_at s) × TellsRecords s
+  pub restart : (begun : List Action) (S : State) (k : ℕ) (d : Disk) (M : Seen) → R begun S (down k d M) →
+      IsSeenIn (case_of f x begun S) (down k d M) → KnowsEntry x k d
   pub first : KnowsEntry x 1 (first_disk hd 1)

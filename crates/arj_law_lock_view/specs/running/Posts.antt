@@ -29,7 +29,8 @@ use Rattle.arj_law_lock_view.specs.running.Fixed.{Fixed, view_of}
 abbrev pub SaysToNaming : View → Head → Ask → State → Type 0
 SaysToNaming v h (ask.Bind y include avoid) S = y ≡ v.x → binding_number avoid < S.naming.bound
 SaysToNaming v h (ask.Record y b i g) S = y ≡ v.x → ShowsAsk v.family.act v.code (post_to v h) S (ask.Record y b i g)
-SaysToNaming v h (ask.Confirm grants excluded included) S = (g : ℕ) → Contains {X = ℕ × ℕ} grants (v.x, g) → machine.In (machine_state.Confirm (v.family.act (top_of h.path)) (g * 4294967296)) S.net
+SaysToNaming v h (ask.Confirm grants excluded included) S = (g : ℕ) → Contains {X = ℕ × ℕ} grants (v.x, g) →
+    machine.In (machine_state.Confirm (v.family.act (top_of h.path)) (g * 4294967296)) S.net
 SaysToNaming v h _ S = ⊤
 
 -- A request shows what its coordinator did about the object, and brings ends that their actions have.
@@ -57,7 +58,9 @@ pub record IsAnswerSeen (v : View) (sent : List Post) (p : Post) (r : Asked × R
 -- that is committed.
 abbrev pub IsToldSo : View → State → Uid → End → Type 0
 IsToldSo v S u ending.Commit = HasEnded v S u ending.Commit
-IsToldSo v S u ending.Abort = HasEnded v S u ending.Abort ⊎ ((((let a = S.action (Root (root (v.family.act u))) in a.stage) ≡ 3) × (is_action (v.family.act u) ≡ true → is_top (v.family.act u) ≡ true)) ⊎ ((is_top (v.family.act u) ≡ true) × ((let a = S.action (v.family.act u) in a.stage) ≡ 3)))
+IsToldSo v S u ending.Abort = HasEnded v S u ending.Abort
+    ⊎ ((((let a = S.action (Root (root (v.family.act u))) in a.stage) ≡ 3) × (is_action (v.family.act u) ≡ true →
+    is_top (v.family.act u) ≡ true)) ⊎ ((is_top (v.family.act u) ≡ true) × ((let a = S.action (v.family.act u) in a.stage) ≡ 3)))
 
 -- so it is of all ends
 abbrev pub AreToldSo : View → List (Uid × End) → State → Type 0

@@ -40,7 +40,8 @@ pub record IsPast (v : View) (u : Uid) (S : State) : Type 0 where
 
 -- each action that was begun at this node is one of the tree, or is past
 abbrev pub ArePast : View → Tree → State → Type 0
-ArePast v t S = (a : Action) → Contains v.family.begun a → (let u = act_of a in u.node) ≡ v.node → ((b : Branch) × (branch_of (act_of a) t ≡ Some b)) ⊎ IsPast v (act_of a) S
+ArePast v t S = (a : Action) → Contains v.family.begun a → (let u = act_of a in u.node) ≡ v.node →
+    ((b : Branch) × (branch_of (act_of a) t ≡ Some b)) ⊎ IsPast v (act_of a) S
 
 -- each action of the tree has its root at this node
 abbrev pub AreHome : View → Tree → Type 0
@@ -48,7 +49,8 @@ AreHome v t = (u : Uid) (b : Branch) → branch_of u t ≡ Some b → (let r = f
 
 -- a top with this record is committed, but for one
 abbrev pub AreRecordsOf : View → Option Uid → List (Uid × Intent) → State → Type 0
-AreRecordsOf v last intents S = (u : Uid) (i : Intent) → Contains {X = Uid × Intent} intents (u, i) → (last ≡ Some u) ⊎ HasEnded v S u ending.Commit
+AreRecordsOf v last intents S = (u : Uid) (i : Intent) → Contains {X = Uid × Intent} intents (u, i) →
+    (last ≡ Some u) ⊎ HasEnded v S u ending.Commit
 
 -- ---- a node
 
@@ -86,7 +88,8 @@ SeesMemory v S d (Some t) = SeesUp v S d t
 
 -- naming has confirmed the action in this incarnation, or has entries of it prepared
 abbrev pub IsConfirmedAt : Uid → Disk → Option Parts → Type 0
-IsConfirmedAt u d live = (is_prepared u (let k = d in k.names) ≡ true) ⊎ ((t : Parts) × (n : Naming) × (live ≡ Some t) × (t.naming ≡ Some n) × (is_on n.confirmed u ≡ true))
+IsConfirmedAt u d live = (is_prepared u (let k = d in k.names) ≡ true)
+    ⊎ ((t : Parts) × (n : Naming) × (live ≡ Some t) × (t.naming ≡ Some n) × (is_on n.confirmed u ≡ true))
 
 -- A Confirm of it was sent, and if it names the object the machine's naming confirmed the action once.
 pub record HasConfirm (f : Fixed) (x : ℕ) (S : State) (sent : List Post) (u : Uid) : Type 0 where
@@ -112,7 +115,11 @@ pub record WasAnsweredYes (x : ℕ) (sent : List Post) (u : Uid) : Type 0 where
   pub to : (let p = post in p.to) ≡ 1
   pub top : top_of (let h = head in h.path) ≡ u
   pub names : names_object x grants ≡ true
-  pub yes : In (record { from = (let p = post in p.to); to = (let p = post in p.from); message = response (asked_by head) (Reply.Confirmed confirmed.Yes) }) sent
+  pub yes : In (record {
+    from = (let p = post in p.to);
+    to = (let p = post in p.from);
+    message = response (asked_by head) (Reply.Confirmed confirmed.Yes);
+  }) sent
 
 -- the action has ended in the machine, or its unit is over
 abbrev pub IsOverIn : Act → State → Type 0
@@ -144,8 +151,8 @@ pub record IsFresh (f : Fixed) (begun : List Action) (S : State) : Type 0 where
 -- ---- the world
 
 -- The object in the whole world: a run of the machine from its first value, whose state is seen at each node, and where there is none as at
--- one that never starts, in whom naming confirmed, in each message that was sent, and of what wasn't begun; and no line of the machine stands
--- behind the journal's.
+-- one that never starts, in whom naming confirmed, in each message that was sent, and of what wasn't begun; and no line of the machine
+-- stands behind the journal's.
 pub record SeesLocks (f : Fixed) (x : ℕ) (begun : List Action) (S : State) (M : Seen) : Type 0 where
   pub run : Run (start f.first) S
   pub nodes : (k : ℕ) (n : Node) → M.nodes k ≡ Some n → SeesMemory (view_of f x begun k) S n.disk n.live

@@ -22,7 +22,8 @@ use Rattle.arj_law_lock_view.specs.running.Tied.{AreTied}
 
 -- Where what is fixed agrees with it, the object is seen, in a state to which the machine has gone, and to which the journal is tied.
 abbrev pub IsSeenSo : Case → Seen → Type 0
-IsSeenSo c M = Agrees c.fixed c.x c.begun M.sent → (S : State) × SeesLocks c.fixed c.x c.begun S M × AreTied c.fixed c.x M.lines S × Run c.state S
+IsSeenSo c M = Agrees c.fixed c.x c.begun M.sent →
+    (S : State) × SeesLocks c.fixed c.x c.begun S M × AreTied c.fixed c.x M.lines S × Run c.state S
 
 -- the message isn't for the coordinator
 abbrev pub is_for_parts : Message → Bool
@@ -34,12 +35,14 @@ is_for_parts m = not (is_some (answers m))
 -- stop falls. Naming has few bindings and a good object after it too.
 abbrev pub MessagesGo : Type 0
 MessagesGo = (c : Case) (s : Spot) (e from : ℕ) (m : Message) (v : Parts) (outs : List Effect)
-    → IsSeenIn c (world_at s) → KnowsSpot c s → HoldsNamingIn c s.node v.naming → In (record { from = from; to = s.node; message = m }) (let M = s.seen in M.sent) → is_for_parts m ≡ true → is_meant s.parts m ≡ true → handle s.node s.disk s.parts from m ≡ Took v outs
+    → IsSeenIn c (world_at s) → KnowsSpot c s → HoldsNamingIn c s.node v.naming → In (record { from = from; to = s.node; message = m })
+    (let M = s.seen in M.sent) → is_for_parts m ≡ true → is_meant s.parts m ≡ true → handle s.node s.disk s.parts from m ≡ Took v outs
     → Walks (IsSeenSo c) e s.node outs (Up (IsSeenSo c) s.node v) s.disk s.seen
 
 -- A node stops, or is down and is said to have stopped: the object is seen again.
 abbrev pub StopsGo : Type 0
-StopsGo = (c : Case) (s : Spot) (e : ℕ) → IsSeenIn c (world_at s) → HoldsNamingIn c s.node (let t = s.parts in t.naming) → IsSeenSo c (halted e s.node s.disk s.seen)
+StopsGo = (c : Case) (s : Spot) (e : ℕ) → IsSeenIn c (world_at s) → HoldsNamingIn c s.node (let t = s.parts in t.naming) →
+    IsSeenSo c (halted e s.node s.disk s.seen)
 
 -- a node that is down is said to have stopped
 abbrev pub DownStays : Type 0
@@ -53,17 +56,21 @@ RestartsGo = (hd : Header) (c : Case) (e k : ℕ) (d : Disk) (M : Seen) → IsSe
 
 -- As a run begins the object is seen, where it has an entry, for all that may be fixed.
 abbrev pub FirstGoes : Type 0
-FirstGoes = (hd : Header) (f : Fixed) (x : ℕ) → KnowsEntry x 1 (first_disk hd 1) → let M = see [] (format hd) in (S : State) × SeesLocks f x [] S M × AreTied f x M.lines S
+FirstGoes = (hd : Header) (f : Fixed) (x : ℕ) → KnowsEntry x 1 (first_disk hd 1) → let M = see [] (format hd) in
+    (S : State) × SeesLocks f x [] S M × AreTied f x M.lines S
 
 -- Lines leave it seen, whatever they say.
 abbrev pub LinesStay : Type 0
-LinesStay = (c : Case) (e : ℕ) (bs : List Body) (M : Seen) → SeesLocks c.fixed c.x c.begun c.state M → SeesLocks c.fixed c.x c.begun c.state (said e bs M)
+LinesStay = (c : Case) (e : ℕ) (bs : List Body) (M : Seen) → SeesLocks c.fixed c.x c.begun c.state M →
+    SeesLocks c.fixed c.x c.begun c.state (said e bs M)
 
 -- The journal stays tied with lines at which no view looks.
 abbrev pub QuietsStay : Type 0
-QuietsStay = (c : Case) (e : ℕ) (bs : List Body) (M : Seen) → AreQuiet bs → IsSeenIn c M → AreTied c.fixed c.x (let N = said e bs M in N.lines) c.state
+QuietsStay = (c : Case) (e : ℕ) (bs : List Body) (M : Seen) → AreQuiet bs → IsSeenIn c M →
+    AreTied c.fixed c.x (let N = said e bs M in N.lines) c.state
 
 -- What a message shows it shows in every later state of the machine, as more is sent and more actions begin.
 abbrev pub PostsStay : Type 0
 PostsStay = (f : Fixed) (x : ℕ) (begun later : List Action) (sent more : List Post) (p : Post) (S T : State)
-    → ((a : Action) → Contains begun a → Contains later a) → Within sent more → IsReached S → Run S T → IsPostSeen f x begun sent S p → IsPostSeen f x later more T p
+    → ((a : Action) → Contains begun a → Contains later a) → Within sent more → IsReached S → Run S T → IsPostSeen f x begun sent S p →
+    IsPostSeen f x later more T p

@@ -65,10 +65,13 @@ IsHere act t a = (u : Uid) × (b : Branch) × (branch_of u t ≡ Some b) × (a �
 
 -- The actions of a coordinator: each is seen, the unit of an open root is open, and of their units nobody else does anything.
 pub record SeesActions (act : Acts) (x : ℕ) (c : Coord) (f : Act → machine.Action) : Type 0 where
-  pub each : (u : Uid) (b : Branch) (d : Doing) → branch_of u c.tree ≡ Some b → doing_of u c ≡ Some d → is_action (act u) ≡ true → SeesAction x b d (f (act u))
-  pub opened : (u : Uid) (b r : Branch) → branch_of u c.tree ≡ Some b → branch_of (root_of b.path) c.tree ≡ Some r → is_some r.ended ≡ false → (let a = f (Root (root (act u))) in a.stage) ≡ 0
+  pub each : (u : Uid) (b : Branch) (d : Doing) → branch_of u c.tree ≡ Some b → doing_of u c ≡ Some d → is_action (act u) ≡ true →
+      SeesAction x b d (f (act u))
+  pub opened : (u : Uid) (b r : Branch) → branch_of u c.tree ≡ Some b → branch_of (root_of b.path) c.tree ≡ Some r →
+      is_some r.ended ≡ false → (let a = f (Root (root (act u))) in a.stage) ≡ 0
   pub quiet : (u : Uid) (b : Branch) → branch_of u c.tree ≡ Some b → (let a = f (Root (root (act u))) in a.waits) ≡ false
-  pub others : (u : Uid) (b : Branch) (a : Act) → branch_of u c.tree ≡ Some b → root a ≡ root (act u) → is_action a ≡ true → IsHere act c.tree a ⊎ IsIdle (f a)
+  pub others : (u : Uid) (b : Branch) (a : Act) → branch_of u c.tree ≡ Some b → root a ≡ root (act u) → is_action a ≡ true →
+      IsHere act c.tree a ⊎ IsIdle (f a)
 
 -- ---- what is known of a coordinator alone
 
@@ -83,4 +86,5 @@ pub record IsSteady (act : Acts) (paths : Paths) (c : Coord) : Type 0 where
 
 -- no other action that waits stands above this one, or below it
 abbrev pub IsLone : Paths → Uid → Coord → Type 0
-IsLone paths u c = (w : Uid) (e : Doing) → doing_of w c ≡ Some e → is_waiting_now e.now ≡ true → w ≢ u → (is_on (paths u) w ≡ false) × (is_on (paths w) u ≡ false)
+IsLone paths u c = (w : Uid) (e : Doing) → doing_of w c ≡ Some e → is_waiting_now e.now ≡ true → w ≢ u →
+    (is_on (paths u) w ≡ false) × (is_on (paths w) u ≡ false)

@@ -33,28 +33,37 @@ pub record Post : Type 0 where
 abbrev pub ShowsAsk : Acts → Codes → Post → State → Ask → Type 0
 ShowsAsk act code o S (ask.Activate b st) = IsServedBy S b o.node × In (machine.Activate (binding_number b) (state_code act code st)) S.net
 ShowsAsk act code o S (ask.Record y b i g) = In (machine.Made (act (top_of o.path)) (binding_number b)) S.net × IsNamedSo S b i
-ShowsAsk act code o S (ask.Invoke y b i ends op) = IsServedBy S b o.node × IsNamedSo S b i × In (machine.Invoke (record { act = act (actor o.path); number = o.number; binding = binding_number b; write = writes op })) S.net
-ShowsAsk act code o S (ask.Vote i ties ends) = (b : Binding) → Contains ties (o.x, b) → IsServedBy S b o.node × In (machine.Vote (act (actor o.path)) (binding_number b) i) S.net
-ShowsAsk act code o S (ask.Confirm grants excluded included) = (g : ℕ) → Contains grants (o.x, g) → In (machine.Confirm (act (actor o.path)) (g * 4294967296)) S.net
+ShowsAsk act code o S (ask.Invoke y b i ends op) = IsServedBy S b o.node × IsNamedSo S b i
+    × In (machine.Invoke (record { act = act (actor o.path); number = o.number; binding = binding_number b; write = writes op })) S.net
+ShowsAsk act code o S (ask.Vote i ties ends) = (b : Binding) → Contains ties (o.x, b) →
+    IsServedBy S b o.node × In (machine.Vote (act (actor o.path)) (binding_number b) i) S.net
+ShowsAsk act code o S (ask.Confirm grants excluded included) = (g : ℕ) → Contains grants (o.x, g) →
+    In (machine.Confirm (act (actor o.path)) (g * 4294967296)) S.net
 ShowsAsk act code o S a = ⊤
 
 -- The request of a call that waits is shown, whatever ends it says.
 abbrev pub RequestsAreShown : Type 0
-RequestsAreShown = (act : Acts) (code : Codes) (x : ℕ) (c : Coord) (u : Uid) (d : Doing) (s : Steps) (o : Op) (ends : List (Uid × End)) (S : State)
-    → SeesCoord act code x c S → doing_of u c ≡ Some d → d.now ≡ Calling s → s.x ≡ x → s.goal ≡ Run o → ShowsAsk act code (record { x = x; path = s.path; number = s.req; node = next_node s }) S (next_ask ends s)
+RequestsAreShown =
+    (act : Acts) (code : Codes) (x : ℕ) (c : Coord) (u : Uid) (d : Doing) (s : Steps) (o : Op) (ends : List (Uid × End)) (S : State)
+    → SeesCoord act code x c S → doing_of u c ≡ Some d → d.now ≡ Calling s → s.x ≡ x → s.goal ≡ Run o →
+    ShowsAsk act code (record { x = x; path = s.path; number = s.req; node = next_node s }) S (next_ask ends s)
 
 -- What a request shows it shows in every later state of the machine.
 abbrev pub RequestsStayShown : Type 0
-RequestsStayShown = (act : Acts) (code : Codes) (o : Post) (a : Ask) (S T : State) → IsReached S → MachineRun S T → ShowsAsk act code o S a → ShowsAsk act code o T a
+RequestsStayShown = (act : Acts) (code : Codes) (o : Post) (a : Ask) (S T : State) → IsReached S → MachineRun S T →
+    ShowsAsk act code o S a → ShowsAsk act code o T a
 
 -- Requests are sent: the coordinator is seen in the same state.
 abbrev pub AsksAreNothing : Type 0
-AsksAreNothing = (act : Acts) (code : Codes) (x : ℕ) (p : Path) (number : ℕ) (asked : List (ℕ × Ask)) (c : Coord) (S : State) → SeesCoord act code x c S → SeesCoord act code x (let e = asks_all p number asked c in e.part) S
+AsksAreNothing = (act : Acts) (code : Codes) (x : ℕ) (p : Path) (number : ℕ) (asked : List (ℕ × Ask)) (c : Coord) (S : State) →
+    SeesCoord act code x c S → SeesCoord act code x (let e = asks_all p number asked c in e.part) S
 
 -- So it is where a commit asks all nodes that it waits for,
 abbrev pub CommitsAskOnly : Type 0
-CommitsAskOnly = (act : Acts) (code : Codes) (x : ℕ) (m : Machine) (c : Coord) (S : State) → SeesCoord act code x c S → SeesCoord act code x (let e = asks_machine m c in e.part) S
+CommitsAskOnly = (act : Acts) (code : Codes) (x : ℕ) (m : Machine) (c : Coord) (S : State) → SeesCoord act code x c S →
+    SeesCoord act code x (let e = asks_machine m c in e.part) S
 
 -- and where a tick sends again what waits.
 abbrev pub TicksAreNothing : Type 0
-TicksAreNothing = (act : Acts) (code : Codes) (x : ℕ) (works : List Doing) (c : Coord) (S : State) → SeesCoord act code x c S → SeesCoord act code x (let e = again_all works c in e.part) S
+TicksAreNothing = (act : Acts) (code : Codes) (x : ℕ) (works : List Doing) (c : Coord) (S : State) → SeesCoord act code x c S →
+    SeesCoord act code x (let e = again_all works c in e.part) S

@@ -34,7 +34,8 @@ pub record IsBeginning (act : Acts) (paths : Paths) (k : Kind) (above : Option B
   pub steady : IsSteady act paths c
   pub stands : MayStand paths k c.tree (path_below k above (next_uid c.tree))
   pub untouched : IsUntouched (S.action (act (next_uid c.tree)))
-  pub unit : root_of (path_below k above (next_uid c.tree)) ≡ next_uid c.tree → IsNewUnit (root (act (next_uid c.tree))) S × (root_at (next_uid c.tree) c ≡ no_root)
+  pub unit : root_of (path_below k above (next_uid c.tree)) ≡ next_uid c.tree →
+      IsNewUnit (root (act (next_uid c.tree))) S × (root_at (next_uid c.tree) c ≡ no_root)
 
 -- A coordinator that has just started is seen in every state.
 abbrev pub NewCoordsAreSeen : Type 0

@@ -15,13 +15,16 @@ use Rattle.arj_law_lock_view.specs.view.Named.{IsNamedSo, Place, SeesNamed}
 abbrev pub IsGood : Owners → ℕ → Place → Named → Type 0
 IsGood owner x n o = IsGoodObject owner n.told n.inc n.count x o
 
--- A Bind of an action with a top, that avoids a binding which was made before, at an object that is seen: the machine gives the top a row and the live binding, or a new
--- one, or the write row for an include; or it does nothing, where a lock conflicts or the answer is one that was given.
+-- A Bind of an action with a top, that avoids a binding which was made before, at an object that is seen: the machine gives the top a row
+-- and the live binding, or a new one, or the write row for an include; or it does nothing, where a lock conflicts or the answer is one that
+-- was given.
 abbrev pub BindsAreSeen : Type 0
-BindsAreSeen = (act : Acts) (owner : Owners) (x : ℕ) (n : Place) (o : Named) (p : Path) (include : Bool) (avoid : Binding) (e : Entry) (S : State)
+BindsAreSeen =
+    (act : Acts) (owner : Owners) (x : ℕ) (n : Place) (o : Named) (p : Path) (include : Bool) (avoid : Binding) (e : Entry) (S : State)
     → AreOne act → IsTopped act p → binding_number avoid < S.naming.bound → IsGood owner x n o → SeesNamed act x n o S
     → let r = bind_named n.inc x p include avoid e (record { named = o; count = n.count }) in
-    Goes S (λ T. SeesNamed act x (record n { count = (let c = r.part in c.count) }) (let c = r.part in c.named) T × OnlyNaming S T × NobodyTold S T × ShowsBound act (top_of p) avoid T r.reply)
+    Goes S (λ T. SeesNamed act x (record n { count = (let c = r.part in c.count) }) (let c = r.part in c.named) T × OnlyNaming S T
+    × NobodyTold S T × ShowsBound act (top_of p) avoid T r.reply)
 
 -- Nobody told naming of the top's end, or of its owner's: neither in the protocol nor in the machine.
 pub record IsUntold (act : Acts) (owner : Owners) (n : Place) (S : State) (t : Uid) : Type 0 where
@@ -37,4 +40,5 @@ NotesAreSeen = (act : Acts) (owner : Owners) (x : ℕ) (n : Place) (o : Named) (
 
 -- A Hello may take a live binding away: the machine does nothing.
 abbrev pub HellosAreSeen : Type 0
-HellosAreSeen = (act : Acts) (x : ℕ) (n : Place) (o : Named) (node inc : ℕ) (S : State) → SeesNamed act x n o S → SeesNamed act x n (hello_named node inc o) S
+HellosAreSeen = (act : Acts) (x : ℕ) (n : Place) (o : Named) (node inc : ℕ) (S : State) → SeesNamed act x n o S →
+    SeesNamed act x n (hello_named node inc o) S

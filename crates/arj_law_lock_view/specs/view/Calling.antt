@@ -78,25 +78,37 @@ pub record IsApplied (code : Codes) (q : Request) (o : Op) (v : Value) (S : Stat
 -- What an answer shows to the step that waits for it; one of another kind is none.
 abbrev pub ShowsAnswer : Acts → Codes → Steps → Op → State → At → Reply → Type 0
 ShowsAnswer act code s o S (AtBind avoid) (Reply.Bound r) = IsToCall r × ShowsBound act (top_of s.path) avoid S (Some r)
-ShowsAnswer act code s o S (AtLoad k n rest) (Reply.Loaded (loaded.State st)) = IsCurrent S.naming (let b = binding_at S k.binding in b.maker) (binding_number k.binding) → LoadsTheLast S (state_code act code st)
+ShowsAnswer act code s o S (AtLoad k n rest) (Reply.Loaded (loaded.State st)) =
+    IsCurrent S.naming (let b = binding_at S k.binding in b.maker) (binding_number k.binding) → LoadsTheLast S (state_code act code st)
 ShowsAnswer act code s o S (AtLoad k n rest) (Reply.Loaded (loaded.InDoubt h)) = ⊤
 ShowsAnswer act code s o S (AtActivate k st) (Reply.Activated i) = In (machine.Activated (binding_number k.binding) i) S.net
 ShowsAnswer act code s o S (AtNote k i) (Reply.Noted r) = ShowsNoted k.binding S (Some r)
-ShowsAnswer act code s o S (AtInvoke k i) (Reply.Invoked (invoked.Answered a)) = (v : Value) × (a ≡ answer_of o v) × IsApplied code (invoke_of act s o k) o v S
+ShowsAnswer act code s o S (AtInvoke k i) (Reply.Invoked (invoked.Answered a)) =
+    (v : Value) × (a ≡ answer_of o v) × IsApplied code (invoke_of act s o k) o v S
 ShowsAnswer act code s o S (AtInvoke k i) (Reply.Invoked (invoked.Conflict h m)) = In (machine.Refused (invoke_of act s o k)) S.net
 ShowsAnswer act code s o S (AtInvoke k i) (Reply.Invoked (invoked.Changed w)) = In (machine.Changed (binding_number k.binding)) S.net
 ShowsAnswer act code s o S at r = ⊥
 
 -- the call's line, where the answer makes one: at this place, with the value met and the one left; and no action ends
 abbrev pub WritesLine : Acts → Codes → ℕ → Steps → Op → State → State → At → Reply → Type 0
-WritesLine act code p s o S T (AtInvoke k i) (Reply.Invoked (invoked.Answered a)) = (v : Value) × (by : Act) × (a ≡ answer_of o v) × (T.calls ≡ record { act = act (actor s.path); write = writes o; line = p; sees = code v by; gives = code (value_after o v) (top (act (actor s.path))) } ∷ S.calls) × (T.now ≡ p + 1) × KeepsEnds S T
+WritesLine act code p s o S T (AtInvoke k i) (Reply.Invoked (invoked.Answered a)) =
+    (v : Value) × (by : Act) × (a ≡ answer_of o v) × (T.calls ≡ record {
+      act = act (actor s.path);
+      write = writes o;
+      line = p;
+      sees = code v by;
+      gives = code (value_after o v) (top (act (actor s.path)));
+    } ∷ S.calls) × (T.now ≡ p + 1) × KeepsEnds S T
 WritesLine act code p s o S T at r = (T.calls ≡ S.calls) × (T.now ≡ S.now) × KeepsEnds S T
 
 -- An answer to a call on the object is taken: the machine goes along, and the coordinator is seen.
 abbrev pub AnswersAreTaken : Type 0
-AnswersAreTaken = (act : Acts) (code : Codes) (paths : Paths) (x p : ℕ) (c : Coord) (u : Uid) (b : Branch) (d : Doing) (s : Steps) (o : Op) (r : Reply) (S : State)
-    → IsReached S → IsAtWork act paths c u b d → IsCalling x b d s o → S.now ≤ p → ShowsAnswer act code s o S s.at r → SeesCoord act code x c S
-    → Goes S (λ T. SeesCoord act code x (let e = heard_call s r c in e.part) T × OnlyCalled (root (act u)) S T × WritesLine act code p s o S T s.at r)
+AnswersAreTaken = (act : Acts) (code : Codes) (paths : Paths) (x p : ℕ) (c : Coord) (u : Uid) (b : Branch) (d : Doing) (s : Steps) (o : Op)
+    (r : Reply) (S : State)
+    → IsReached S → IsAtWork act paths c u b d → IsCalling x b d s o → S.now ≤ p → ShowsAnswer act code s o S s.at r →
+    SeesCoord act code x c S
+    → Goes S (λ T. SeesCoord act code x (let e = heard_call s r c in e.part) T × OnlyCalled (root (act u)) S T
+    × WritesLine act code p s o S T s.at r)
 
 -- The lines and calls of the machine are as they were, and so are the ends of its actions.
 abbrev pub WritesNone : State → State → Type 0
@@ -112,7 +124,8 @@ CallsBegin = (act : Acts) (code : Codes) (paths : Paths) (x : ℕ) (c : Coord) (
 -- A call on the object is given up: a Load goes to the next store, any other step ends the call; after an Invoke its action is
 -- doomed.
 abbrev pub CallsAreGivenUp : Type 0
-CallsAreGivenUp = (act : Acts) (code : Codes) (paths : Paths) (x : ℕ) (c : Coord) (u : Uid) (b : Branch) (d : Doing) (s : Steps) (o : Op) (S : State)
+CallsAreGivenUp =
+    (act : Acts) (code : Codes) (paths : Paths) (x : ℕ) (c : Coord) (u : Uid) (b : Branch) (d : Doing) (s : Steps) (o : Op) (S : State)
     → IsReached S → IsAtWork act paths c u b d → IsCalling x b d s o → SeesCoord act code x c S
     → Goes S (λ T. SeesCoord act code x (let e = give_up_call s c in e.part) T × OnlyCalled (root (act u)) S T × WritesNone S T)
 
@@ -137,19 +150,25 @@ pub record IsWaiting (b : Branch) (d : Doing) (s : Steps) : Type 0 where
 -- The machine waits where such a call begins, is answered, or is given up: the coordinator is seen in the same state.
 abbrev pub OtherCallsBegin : Type 0
 OtherCallsBegin = (act : Acts) (code : Codes) (paths : Paths) (x y : ℕ) (c : Coord) (u : Uid) (b : Branch) (d : Doing) (o : Op) (S : State)
-    → IsAtWork act paths c u b d → d.now ≡ Idle → b.kind ≢ kind.Serial → y ≢ x → SeesCoord act code x c S → SeesCoord act code x (let e = call b.path y o c in e.part) S
+    → IsAtWork act paths c u b d → d.now ≡ Idle → b.kind ≢ kind.Serial → y ≢ x → SeesCoord act code x c S →
+    SeesCoord act code x (let e = call b.path y o c in e.part) S
 
 -- an include begins, of any object
 abbrev pub IncludesBegin : Type 0
 IncludesBegin = (act : Acts) (code : Codes) (paths : Paths) (x y store : ℕ) (c : Coord) (u : Uid) (b : Branch) (d : Doing) (S : State)
-    → IsAtWork act paths c u b d → d.now ≡ Idle → b.kind ≢ kind.Serial → SeesCoord act code x c S → SeesCoord act code x (let e = include b.path y store c in e.part) S
+    → IsAtWork act paths c u b d → d.now ≡ Idle → b.kind ≢ kind.Serial → SeesCoord act code x c S →
+    SeesCoord act code x (let e = include b.path y store c in e.part) S
 
 -- an answer to it is taken
 abbrev pub OtherAnswersAreTaken : Type 0
-OtherAnswersAreTaken = (act : Acts) (code : Codes) (paths : Paths) (x : ℕ) (c : Coord) (u : Uid) (b : Branch) (d : Doing) (s : Steps) (r : Reply) (S : State)
-    → IsAtWork act paths c u b d → IsWaiting b d s → IsElsewhere x s → ((s.x ≡ x) → IsToInclude r) → SeesCoord act code x c S → SeesCoord act code x (let e = heard_call s r c in e.part) S
+OtherAnswersAreTaken =
+    (act : Acts) (code : Codes) (paths : Paths) (x : ℕ) (c : Coord) (u : Uid) (b : Branch) (d : Doing) (s : Steps) (r : Reply) (S : State)
+    → IsAtWork act paths c u b d → IsWaiting b d s → IsElsewhere x s → ((s.x ≡ x) → IsToInclude r) → SeesCoord act code x c S →
+    SeesCoord act code x (let e = heard_call s r c in e.part) S
 
 -- it is given up
 abbrev pub OtherCallsAreGivenUp : Type 0
-OtherCallsAreGivenUp = (act : Acts) (code : Codes) (paths : Paths) (x : ℕ) (c : Coord) (u : Uid) (b : Branch) (d : Doing) (s : Steps) (S : State)
-    → IsAtWork act paths c u b d → IsWaiting b d s → IsElsewhere x s → SeesCoord act code x c S → SeesCoord act code x (let e = give_up_call s c in e.part) S
+OtherCallsAreGivenUp =
+    (act : Acts) (code : Codes) (paths : Paths) (x : ℕ) (c : Coord) (u : Uid) (b : Branch) (d : Doing) (s : Steps) (S : State)
+    → IsAtWork act paths c u b d → IsWaiting b d s → IsElsewhere x s → SeesCoord act code x c S →
+    SeesCoord act code x (let e = give_up_call s c in e.part) S

@@ -37,12 +37,14 @@ pub record IsRightBelow (act : Acts) (paths : Paths) (u h : Uid) (S : State) : T
 -- A commit of a nested action: the machine passes its rows and writes to its parent.
 abbrev pub FoldingsAreSeen : Type 0
 FoldingsAreSeen = (act : Acts) (code : Codes) (paths : Paths) (n x : ℕ) (u h : Uid) (c : Copy) (S : State)
-    → IsTree paths → IsCommitting act paths x u c → IsRightBelow act paths u h S → is_action (act h) ≡ true → SeesCopy act code x c (S.server n) → IsCommitSeen act code n x u c S
+    → IsTree paths → IsCommitting act paths x u c → IsRightBelow act paths u h S → is_action (act h) ≡ true →
+    SeesCopy act code x c (S.server n) → IsCommitSeen act code n x u c S
 
 -- A commit of a constituent: what it wrote becomes the copy's own value, and its rows pass to its serializing action.
 abbrev pub RetainingsAreSeen : Type 0
 RetainingsAreSeen = (act : Acts) (code : Codes) (paths : Paths) (n x : ℕ) (u h : Uid) (unit : ℕ) (c : Copy) (S : State)
-    → IsCommitting act paths x u c → IsRightBelow act paths u h S → act h ≡ Root unit → SeesCopy act code x c (S.server n) → IsCommitSeen act code n x u c S
+    → IsCommitting act paths x u c → IsRightBelow act paths u h S → act h ≡ Root unit → SeesCopy act code x c (S.server n) →
+    IsCommitSeen act code n x u c S
 
 -- A committed top that is alone in its unit, which is over.
 pub record IsAlone (act : Acts) (u : Uid) (S : State) : Type 0 where
@@ -72,7 +74,10 @@ maker_in act b (Some o) = writer_of act o
 
 -- what a vote for the top gives: the value that it left here, and the copy's own
 abbrev pub ballot_for : Acts → Codes → Uid → Copy → Ballot
-ballot_for act code u c = record { value = code (value_in c.base (over_of u c.stack)) (maker_in act c.base (over_of u c.stack)); under = base_code act code c.base }
+ballot_for act code u c = record {
+  value = code (value_in c.base (over_of u c.stack)) (maker_in act c.base (over_of u c.stack));
+  under = base_code act code c.base;
+}
 
 -- Only the server of this node changed, and what votes for this top gave: under no lesser binding.
 pub record OnlyVote (n : ℕ) (m : Act) (S T : State) : Type 0 where
@@ -109,5 +114,8 @@ pub record IsVoteOf (m : Act) (b : ℕ) (given : Ballot) (T : State) : Type 0 wh
 -- were applied: the copy was seen there as it was given.
 abbrev pub VotesAreSeen : Type 0
 VotesAreSeen = (act : Acts) (code : Codes) (paths : Paths) (n x i : ℕ) (u : Uid) (c : Copy) (S : State)
-    → IsReached S → IsCommitting act paths x u c → In (machine.Vote (act u) (binding_number c.binding) i) S.net → (let b = S.binding (binding_number c.binding) in b.server) ≡ n → (let v = S.server n in v.incarnation) ≡ i
-    → SeesCopy act code x c (S.server n) → Goes S (λ T. SeesCopy act code x c (T.server n) × OnlyVote n (act u) S T × KeepsVoter (act u) (S.server n) (T.server n) × HasVoted n (act u) (binding_number c.binding) (ballot_for act code u c) S T × ((o : IsVoteOf (act u) (binding_number c.binding) (ballot_for act code u c) T) × SeesCopy act code x c ((let k = o.before in k.server) o.node)))
+    → IsReached S → IsCommitting act paths x u c → In (machine.Vote (act u) (binding_number c.binding) i) S.net →
+    (let b = S.binding (binding_number c.binding) in b.server) ≡ n → (let v = S.server n in v.incarnation) ≡ i
+    → SeesCopy act code x c (S.server n) → Goes S (λ T. SeesCopy act code x c (T.server n) × OnlyVote n (act u) S T × KeepsVoter (act u)
+    (S.server n) (T.server n) × HasVoted n (act u) (binding_number c.binding) (ballot_for act code u c) S T × ((o : IsVoteOf (act u)
+    (binding_number c.binding) (ballot_for act code u c) T) × SeesCopy act code x c ((let k = o.before in k.server) o.node)))

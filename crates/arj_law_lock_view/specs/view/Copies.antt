@@ -1,7 +1,8 @@
 -- One object at a server, as the lock machine has it, and what a server does with it.
 use Rattle.std.specs.Prelude.{⊤, ◌≡◌, ◌≢◌, ◌⊎◌, ◌<◌, ℕ, true, List, [], ◌∷◌, ◌++◌, None}
 use Rattle.std.specs.List.{AllByRecursion}
-use Rattle.arj_protocol.specs.Words.{Path, Op, Value, ObjectState, Binding, object, is_on, last_uid, uids_of, op_mode, writes, value_after, first_conflict, Uid, Row}
+use Rattle.arj_protocol.specs.Words.{Path, Op, Value, ObjectState, Binding, object, is_on, last_uid, uids_of, op_mode, writes, value_after}
+use Rattle.arj_protocol.specs.Words.{first_conflict, Uid, Row}
 use Rattle.arj_protocol.specs.Words.ending
 use Rattle.arj_protocol.specs.Ask.{actor}
 use Rattle.arj_protocol.specs.Copy.{Base, Copy, Over, current, end_copy, run_copy, taken_copy}
@@ -54,7 +55,8 @@ pub record IsOver (act : Acts) (code : Codes) (o : Over) (own : List Entry) : Ty
 -- the overlays, the deepest first, are the machine's log
 abbrev pub SeesOvers : Acts → Codes → List Over → List Entry → Type 0
 SeesOvers act code [] log = log ≡ []
-SeesOvers act code (o ∷ os) log = (own : List Entry) × (rest : List Entry) × (log ≡ own ++ rest) × IsOver act code o own × SeesOvers act code os rest
+SeesOvers act code (o ∷ os) log =
+    (own : List Entry) × (rest : List Entry) × (log ≡ own ++ rest) × IsOver act code o own × SeesOvers act code os rest
 
 -- The copy of object x: its binding is active, what lies under all overlays is the machine's own value, and the overlays its log.
 pub record SeesCopy (act : Acts) (code : Codes) (x : ℕ) (c : Copy) (v : machine.Server) : Type 0 where
@@ -78,7 +80,8 @@ pub record KeepsServer (requests : Act → ℕ) (v w : machine.Server) : Type 0 
 -- Each write of the second log stands in the first one, held by the same action or by one below it; and below whom of the aborted ones it
 -- was held it still is.
 abbrev pub AreLeft : State → List Entry → List Entry → Type 0
-AreLeft S before after = (e : Entry) → In e after → (f : Entry) × In f before × (e.by ≡ f.by) × ((a : Act) → on e.holder a ≡ true → on f.holder a ≡ true) × ((a : Act) → on f.holder a ≡ true → (S.action a).stage ≡ 4 → on e.holder a ≡ true)
+AreLeft S before after = (e : Entry) → In e after → (f : Entry) × In f before × (e.by ≡ f.by) × ((a : Act) → on e.holder a ≡ true →
+    on f.holder a ≡ true) × ((a : Act) → on f.holder a ≡ true → (S.action a).stage ≡ 4 → on e.holder a ≡ true)
 
 -- Only rows and writes at the server of this node changed: rows passed or went, and no write is new.
 pub record OnlyEnds (n : ℕ) (S T : State) : Type 0 where
@@ -99,7 +102,12 @@ pub record IsNew (S : State) (n : ℕ) (q : Request) : Type 0 where
 
 -- what the answer to an operation shows: the value that it met, and the one that it left
 abbrev pub answer_for : Acts → Codes → State → Request → Op → Copy → Answer
-answer_for act code S q o c = record { request = q; place = S.now; sees = code (current c.base c.stack) (writer_in act c.base c.stack); gives = code (value_after o (current c.base c.stack)) (top q.act) }
+answer_for act code S q o c = record {
+  request = q;
+  place = S.now;
+  sees = code (current c.base c.stack) (writer_in act c.base c.stack);
+  gives = code (value_after o (current c.base c.stack)) (top q.act);
+}
 
 -- A new request that meets no conflict is applied: the copy is seen again, and the answer is shown.
 abbrev pub OperationsAreSeen : Type 0
@@ -107,20 +115,24 @@ OperationsAreSeen = (act : Acts) (code : Codes) (n x number : ℕ) (p : Path) (o
     → AreOne act → IsCaller act p → first_conflict (uids_of p) (object x) (op_mode o) c.rows ≡ None
     → SeesCopy act code x c (S.server n) → IsNew S n (request_for act p number o c)
     → let r = run_copy n p x o c in
-    Goes S (λ T. SeesCopy act code x r.part (T.server n) × OnlyServer n S T × KeepsServer (at_act (let v = S.server n in v.request) (act (actor p)) number) (S.server n) (T.server n) × In (machine.Invoked (answer_for act code S (request_for act p number o c) o c)) T.net)
+    Goes S (λ T. SeesCopy act code x r.part (T.server n) × OnlyServer n S T
+    × KeepsServer (at_act (let v = S.server n in v.request) (act (actor p)) number) (S.server n) (T.server n)
+    × In (machine.Invoked (answer_for act code S (request_for act p number o c) o c)) T.net)
 
 -- One that meets a conflict changes nothing of the copy, and the refusal is shown.
 abbrev pub RefusalsAreSeen : Type 0
 RefusalsAreSeen = (act : Acts) (code : Codes) (n x number : ℕ) (p : Path) (o : Op) (c : Copy) (S : State)
     → SeesCopy act code x c (S.server n) → IsNew S n (request_for act p number o c)
-    → Goes S (λ T. SeesCopy act code x c (T.server n) × OnlyServer n S T × KeepsServer (at_act (let v = S.server n in v.request) (act (actor p)) number) (S.server n) (T.server n) × In (machine.Refused (request_for act p number o c)) T.net)
+    → Goes S (λ T. SeesCopy act code x c (T.server n) × OnlyServer n S T × KeepsServer (at_act (let v = S.server n in
+    v.request) (act (actor p)) number) (S.server n) (T.server n) × In (machine.Refused (request_for act p number o c)) T.net)
 
 -- A state came for a binding of this node that is above the active one: the copy is taken.
 abbrev pub ActivationsAreSeen : Type 0
 ActivationsAreSeen = (act : Acts) (code : Codes) (n x : ℕ) (b : Binding) (st : ObjectState) (S : State)
     → In (machine.Activate (binding_number b) (state_code act code st)) S.net
     → (let c = S.binding (binding_number b) in c.server) ≡ n → (let v = S.server n in v.active) < binding_number b
-    → Goes S (λ T. SeesCopy act code x (taken_copy b st) (T.server n) × OnlyServer n S T × KeepsServer (let v = S.server n in v.request) (S.server n) (T.server n) × In (machine.Activated (binding_number b) (let v = S.server n in v.incarnation)) T.net)
+    → Goes S (λ T. SeesCopy act code x (taken_copy b st) (T.server n) × OnlyServer n S T × KeepsServer (let v = S.server n in
+    v.request) (S.server n) (T.server n) × In (machine.Activated (binding_number b) (let v = S.server n in v.incarnation)) T.net)
 
 -- Whose overlays and rows an end takes in the protocol and in the machine are the same: each holder's path stands in the machine
 -- as it does there.
@@ -134,7 +146,8 @@ IsDead S h a = (b : Act) × (on h b ≡ true) × (on b a ≡ true) × ((S.action
 
 -- it is of no committed top with a surviving write, for which the server voted
 abbrev pub CountsForNone : ℕ → State → Entry → Type 0
-CountsForNone n S e = (S.action (top e.by)).stage ≡ 3 → (S.server n).voted (top e.by) ≡ true → (c : Call) → In c S.calls → c.write ≡ true → Survives S c.act → top c.act ≢ top e.by
+CountsForNone n S e = (S.action (top e.by)).stage ≡ 3 → (S.server n).voted (top e.by) ≡ true → (c : Call) → In c S.calls → c.write ≡ true →
+    Survives S c.act → top c.act ≢ top e.by
 
 -- each write at the server below the action is dead, or counts for none
 abbrev pub AreUndone : ℕ → State → Act → Type 0

@@ -74,4 +74,5 @@ pub record IsOpenAt (act : Acts) (paths : Paths) (t : Tree) (u : Uid) (a : Act) 
 
 -- Of the machine's actions only such were aborted, and nothing else of actions changed.
 abbrev pub AbortsOnly : Acts → Paths → Tree → Uid → State → State → Type 0
-AbortsOnly act paths t u S T = (a : Act) → is_action a ≡ true → (T.action a ≡ S.action a) ⊎ ((T.action a ≡ aborted (S.action a)) × IsOpenAt act paths t u a)
+AbortsOnly act paths t u S T = (a : Act) → is_action a ≡ true →
+    (T.action a ≡ S.action a) ⊎ ((T.action a ≡ aborted (S.action a)) × IsOpenAt act paths t u a)

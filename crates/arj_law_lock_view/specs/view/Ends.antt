@@ -32,14 +32,16 @@ MayGo S a = IsGone S a ⊎ ((is_top a ≡ true) × ((S.action a).stage ≡ 3) ×
 abbrev pub AbortsAreSeen : Type 0
 AbortsAreSeen = (act : Acts) (owner : Owners) (x : ℕ) (n : Place) (told : Told) (o : Named) (u : Uid) (S : State)
     → AreOwned act owner → IsToldOf n.told told u → MayGo S (act u) → IsGood owner x n o → SeesNamed act x n o S
-    → Goes S (λ T. SeesNamed act x (record n { told = told }) (end_named u ending.Abort o) T × OnlyNaming S T × OnlyTold act u S T × SameConfirmed S T)
+    → Goes S (λ T. SeesNamed act x (record n { told = told }) (end_named u ending.Abort o) T × OnlyNaming S T × OnlyTold act u S T
+    × SameConfirmed S T)
 
 -- A commit of a plain top, whose unit is over, or of a top that the machine's naming didn't confirm in this incarnation: the
 -- machine drops its rows.
 abbrev pub CommitsAreSeen : Type 0
 CommitsAreSeen = (act : Acts) (owner : Owners) (x : ℕ) (n : Place) (told : Told) (o : Named) (u : Uid) (S : State)
     → AreOne act → IsToldOf n.told told u → MayGo S (act u) → IsGood owner x n o → SeesNamed act x n o S
-    → Goes S (λ T. SeesNamed act x (record n { told = told }) (end_named u ending.Commit o) T × OnlyNaming S T × OnlyTold act u S T × SameConfirmed S T)
+    → Goes S (λ T. SeesNamed act x (record n { told = told }) (end_named u ending.Commit o) T × OnlyNaming S T × OnlyTold act u S T
+    × SameConfirmed S T)
 
 -- A committed constituent stands right below its serializing action, and each of its rows can pass to that. A row that a restart
 -- gave back can't, since it has its action alone as its path: the machine has no row for it, and didn't confirm its action since.
@@ -55,14 +57,16 @@ pub record MayPass (act : Acts) (u s : Uid) (o : Named) (S : State) : Type 0 whe
 abbrev pub PassesAreSeen : Type 0
 PassesAreSeen = (act : Acts) (owner : Owners) (x : ℕ) (n : Place) (told : Told) (o : Named) (u s : Uid) (S : State)
     → AreOne act → IsToldOf n.told told u → MayPass act u s o S → IsGood owner x n o → SeesNamed act x n o S
-    → Goes S (λ T. SeesNamed act x (record n { told = told }) (end_named u ending.Commit o) T × OnlyNaming S T × OnlyTold act u S T × SameConfirmed S T)
+    → Goes S (λ T. SeesNamed act x (record n { told = told }) (end_named u ending.Commit o) T × OnlyNaming S T × OnlyTold act u S T
+    × SameConfirmed S T)
 
 -- An exclude lock that a Confirm takes is no row of the machine's, which does nothing.
 abbrev pub ExcludesAreSeen : Type 0
-ExcludesAreSeen = (act : Acts) (x : ℕ) (n : Place) (o : Named) (p : Path) (S : State) → SeesNamed act x n o S → SeesNamed act x n (locked x p mode.Exclude o) S
+ExcludesAreSeen = (act : Acts) (x : ℕ) (n : Place) (o : Named) (p : Path) (S : State) → SeesNamed act x n o S →
+    SeesNamed act x n (locked x p mode.Exclude o) S
 
--- Naming is down, and its last incarnation was this one: the machine's naming has no rows, asked for nobody's, was told of nobody and confirmed
--- nobody, and made no binding, in an incarnation that is at most the next one.
+-- Naming is down, and its last incarnation was this one: the machine's naming has no rows, asked for nobody's, was told of nobody and
+-- confirmed nobody, and made no binding, in an incarnation that is at most the next one.
 pub record SeesNothing (inc : ℕ) (S : State) : Type 0 where
   pub bound : S.naming.bound ≤ (inc + 1) * 4294967296
   pub first : S.naming.first ≤ (inc + 1) * 4294967296
@@ -73,10 +77,12 @@ pub record SeesNothing (inc : ℕ) (S : State) : Type 0 where
 
 -- Naming stops: so does the machine's. Counts of bindings have 32 bits.
 abbrev pub FallsAreSeen : Type 0
-FallsAreSeen = (act : Acts) (owner : Owners) (x : ℕ) (n : Place) (o : Named) (S : State) → n.count < 4294967296 → IsReached S → IsGood owner x n o → SeesNamed act x n o S → Goes S (λ T. SeesNothing n.inc T × OnlyNaming S T × NobodyConfirmed S T)
+FallsAreSeen = (act : Acts) (owner : Owners) (x : ℕ) (n : Place) (o : Named) (S : State) → n.count < 4294967296 → IsReached S →
+    IsGood owner x n o → SeesNamed act x n o S → Goes S (λ T. SeesNothing n.inc T × OnlyNaming S T × NobodyConfirmed S T)
 
 -- Naming is up again in a later incarnation, whatever rows it gives back: the machine's naming restarts, unless it did already,
 -- and nobody is told of or confirmed.
 abbrev pub RestartsAreSeen : Type 0
 RestartsAreSeen = (act : Acts) (x inc : ℕ) (n : Place) (rows : List Row) (S : State) → inc < n.inc → n.count ≡ 0 → SeesNothing inc S
-    → Goes S (λ T. SeesNamed act x n (unnamed rows) T × OnlyNaming S T × NobodyConfirmed S T × ((a : Act) → (T.naming.told a ≡ false) × (T.naming.confirmed a ≡ false)))
+    → Goes S (λ T. SeesNamed act x n (unnamed rows) T × OnlyNaming S T × NobodyConfirmed S T
+    × ((a : Act) → (T.naming.told a ≡ false) × (T.naming.confirmed a ≡ false)))

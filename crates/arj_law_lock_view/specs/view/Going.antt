@@ -42,8 +42,10 @@ IsServedBy T b server = (let c = binding_at T b in c.server) ≡ server
 -- What an answer to a Bind shows to the top: a live binding, or one that is made for it, above the one to avoid; or the write
 -- lock for an include, with the first binding of naming's incarnation.
 abbrev pub ShowsBound : Acts → Uid → Binding → State → Option BoundReply → Type 0
-ShowsBound act t avoid T (Some (bound.Live b server i g stores)) = In (machine.Live (act t) (binding_number b)) T.net × IsServedBy T b server × IsNamedSo T b i × (binding_number avoid < binding_number b)
-ShowsBound act t avoid T (Some (bound.Make b server g stores)) = In (machine.Made (act t) (binding_number b)) T.net × IsServedBy T b server × ((let c = binding_at T b in c.maker) ≡ act t) × (binding_number avoid < binding_number b)
+ShowsBound act t avoid T (Some (bound.Live b server i g stores)) =
+    In (machine.Live (act t) (binding_number b)) T.net × IsServedBy T b server × IsNamedSo T b i × (binding_number avoid < binding_number b)
+ShowsBound act t avoid T (Some (bound.Make b server g stores)) = In (machine.Made (act t) (binding_number b)) T.net × IsServedBy T b server
+    × ((let c = binding_at T b in c.maker) ≡ act t) × (binding_number avoid < binding_number b)
 ShowsBound act t avoid T (Some (bound.Write g stores)) = In (machine.Granted (act t) (g * 4294967296)) T.net
 ShowsBound act t avoid T _ = ⊤
 

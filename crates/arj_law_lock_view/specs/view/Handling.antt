@@ -38,11 +38,15 @@ IsMessageShown v s S m = IsAskingShown v s S m (asks m)
 -- ---- what answers show
 
 -- What an answer of a server to this request shows, where the request is about the object: the copy is active, the operation was applied
--- or refused, or the copy has changed; and a Yes, that the machine has a vote for the top under the binding, or a greater one, and what the vote gave.
+-- or refused, or the copy has changed; and a Yes, that the machine has a vote for the top under the binding, or a greater one, and what the
+-- vote gave.
 abbrev pub ShowsReply : View → Head → Ask → State → Reply → Type 0
-ShowsReply v h (ask.Activate b st) T (Reply.Activated i) = (let u = st.uid in u.num) ≡ v.x → In (machine.Activated (binding_number b) i) T.net
-ShowsReply v h (ask.Invoke y b i ends o) T (Reply.Invoked r) = y ≡ v.x → ShowsInvoked v.family.act v.code (actor h.path) h.req (record { binding = b; op = o }) T r
-ShowsReply v h (ask.Vote i ties ends) T (Reply.Voted (voted.Yes states)) = (b : Binding) → Contains {X = ℕ × Binding} ties (v.x, b) → (binding_number b ≤ T.yes (v.family.act (actor h.path))) × IsVotedBy v (actor h.path) b states T × HaveOne v.x states
+ShowsReply v h (ask.Activate b st) T (Reply.Activated i) = (let u = st.uid in u.num) ≡ v.x →
+    In (machine.Activated (binding_number b) i) T.net
+ShowsReply v h (ask.Invoke y b i ends o) T (Reply.Invoked r) = y ≡ v.x →
+    ShowsInvoked v.family.act v.code (actor h.path) h.req (record { binding = b; op = o }) T r
+ShowsReply v h (ask.Vote i ties ends) T (Reply.Voted (voted.Yes states)) = (b : Binding) → Contains {X = ℕ × Binding} ties (v.x, b) →
+    (binding_number b ≤ T.yes (v.family.act (actor h.path))) × IsVotedBy v (actor h.path) b states T × HaveOne v.x states
 ShowsReply v h a T r = ⊤
 
 -- a request that is for the server
@@ -55,7 +59,8 @@ is_for_server _ = false
 -- what goes out at such a request is an answer to it, and shown
 abbrev pub AreAnswersShown : View → State → List Effect → Option (Head × Ask) → Type 0
 AreAnswersShown v T outs None = ⊤
-AreAnswersShown v T outs (Some q) = is_for_server q.1 ≡ true → (to : ℕ) (z : Message) → Contains outs (Send to z) → (r : Reply) × (z ≡ response (asked_by q.0) r) × ShowsReply v q.0 q.1 T r
+AreAnswersShown v T outs (Some q) = is_for_server q.1 ≡ true → (to : ℕ) (z : Message) → Contains outs (Send to z) →
+    (r : Reply) × (z ≡ response (asked_by q.0) r) × ShowsReply v q.0 q.1 T r
 
 -- ---- what the node does with it
 
@@ -86,4 +91,5 @@ server_after t (Took u outs) = u.server
 abbrev pub MessagesAreTaken : Type 0
 MessagesAreTaken = (v : View) (d : Disk) (t : Parts) (from : ℕ) (m : Message) (S : State)
     → IsReached S → ListsEach t.server → IsMessageShown v t.server S m → Sees v t.server S
-    → let r = taken v.node d t from m in Goes S (λ T. Sees v (server_after t r) T × OnlyServing v m S T × AreAnswersShown v T (outs_of r) (asks m))
+    → let r = taken v.node d t from m in
+    Goes S (λ T. Sees v (server_after t r) T × OnlyServing v m S T × AreAnswersShown v T (outs_of r) (asks m))

@@ -33,12 +33,15 @@ SeesNamingIn v S (Some n) = SeesNaming v n S
 
 -- ---- what a message shows
 
--- A request to naming, about any object: it is of a top. A Bind of this object avoids a binding that was made before, a Record shows what its
--- coordinator heard, and a Confirm shows what was sent for it.
+-- A request to naming, about any object: it is of a top. A Bind of this object avoids a binding that was made before, a Record shows what
+-- its coordinator heard, and a Confirm shows what was sent for it.
 abbrev pub IsRequestShown : Site → Naming → State → Head → Ask → Type 0
-IsRequestShown a n S h (ask.Bind y include avoid) = IsAsking a.view a.owner h.path n × (y ≡ a.view.x → binding_number avoid < S.naming.bound)
-IsRequestShown a n S h (ask.Record y b i g) = IsAsking a.view a.owner h.path n × (y ≡ a.view.x → ShowsAsk a.view.family.act a.view.code (post_to a.view h) S (ask.Record y b i g))
-IsRequestShown a n S h (ask.Confirm grants excluded included) = IsAsking a.view a.owner h.path n × IsConfirming a.view h.path grants a.disk.names n S
+IsRequestShown a n S h (ask.Bind y include avoid) =
+    IsAsking a.view a.owner h.path n × (y ≡ a.view.x → binding_number avoid < S.naming.bound)
+IsRequestShown a n S h (ask.Record y b i g) =
+    IsAsking a.view a.owner h.path n × (y ≡ a.view.x → ShowsAsk a.view.family.act a.view.code (post_to a.view h) S (ask.Record y b i g))
+IsRequestShown a n S h (ask.Confirm grants excluded included) =
+    IsAsking a.view a.owner h.path n × IsConfirming a.view h.path grants a.disk.names n S
 IsRequestShown a n S h _ = ⊤
 
 -- of ends that are told naming acts on the last one
@@ -80,7 +83,8 @@ is_for_naming _ = false
 -- what goes out at such a request is an answer to it, and shown
 abbrev pub AreRepliesShown : View → State → List Effect → Option (Head × Ask) → Type 0
 AreRepliesShown v T outs None = ⊤
-AreRepliesShown v T outs (Some q) = is_for_naming q.1 ≡ true → (to : ℕ) (z : Message) → Contains outs (Send to z) → (r : Reply) × (z ≡ response (asked_by q.0) r) × ShowsNamingReply v q.0 q.1 T r
+AreRepliesShown v T outs (Some q) = is_for_naming q.1 ≡ true → (to : ℕ) (z : Message) → Contains outs (Send to z) →
+    (r : Reply) × (z ≡ response (asked_by q.0) r) × ShowsNamingReply v q.0 q.1 T r
 
 -- The request is a Confirm of this top, which has a grant on the object, and is answered Yes.
 pub record IsAnsweredYes (v : View) (from : ℕ) (q : Option (Head × Ask)) (outs : List Effect) (a : Act) : Type 0 where
@@ -109,4 +113,5 @@ naming_after t (Took u outs) = u.naming
 abbrev pub MessagesAreHeard : Type 0
 MessagesAreHeard = (a : Site) (t : Parts) (from : ℕ) (m : Message) (S : State)
     → IsShownBy a S m (asks m) t.naming → SeesNamingIn a.view S t.naming
-    → let r = taken a.view.node a.disk t from m in Goes S (λ T. SeesNamingIn a.view T (naming_after t r) × OnlyNaming S T × AreRepliesShown a.view T (outs_of r) (asks m) × AreConfirmsAnswered a.view from S T (outs_of r) (asks m))
+    → let r = taken a.view.node a.disk t from m in Goes S (λ T. SeesNamingIn a.view T (naming_after t r) × OnlyNaming S T
+    × AreRepliesShown a.view T (outs_of r) (asks m) × AreConfirmsAnswered a.view from S T (outs_of r) (asks m))

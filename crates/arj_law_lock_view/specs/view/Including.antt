@@ -49,9 +49,12 @@ pub record IsGranted (act : Acts) (x : ℕ) (s : Steps) (k : Known) (r : Root) (
 
 -- The includes of a coordinator: the machine's are those of its roots, and one that waits for a state has the write row.
 pub record SeesIncludes (act : Acts) (x : ℕ) (c : Coord) (S : State) : Type 0 where
-  pub lines : (u : Uid) (b : Branch) (k : Include) → branch_of u c.tree ≡ Some b → root_of b.path ≡ u → In k S.includes → root k.act ≡ root (act u) → IsNoted act x k (root_at u c) c.tree
-  pub joins : (u : Uid) (b : Branch) (j : Joined) → branch_of u c.tree ≡ Some b → root_of b.path ≡ u → Contains (let r = root_at u c in r.joined) j → j.x ≡ x → IsJoined j c.tree
-  pub waits : (u : Uid) (d : Doing) (s : Steps) (k : Known) → doing_of u c ≡ Some d → d.now ≡ Calling s → IsLoading x s k → IsGranted act x s k (root_at (root_of s.path) c) S
+  pub lines : (u : Uid) (b : Branch) (k : Include) → branch_of u c.tree ≡ Some b → root_of b.path ≡ u → In k S.includes →
+      root k.act ≡ root (act u) → IsNoted act x k (root_at u c) c.tree
+  pub joins : (u : Uid) (b : Branch) (j : Joined) → branch_of u c.tree ≡ Some b → root_of b.path ≡ u →
+      Contains (let r = root_at u c in r.joined) j → j.x ≡ x → IsJoined j c.tree
+  pub waits : (u : Uid) (d : Doing) (s : Steps) (k : Known) → doing_of u c ≡ Some d → d.now ≡ Calling s → IsLoading x s k →
+      IsGranted act x s k (root_at (root_of s.path) c) S
 
 -- ---- an answer
 
@@ -74,15 +77,20 @@ included_by at r = None
 -- The include's line, where it ends well: at this place, by its grant.
 abbrev pub WritesInclude : Acts → ℕ → Steps → Option (ℕ × ObjectState) → State → State → Type 0
 WritesInclude act p s None S T = (T.includes ≡ S.includes) × (T.now ≡ S.now)
-WritesInclude act p s (Some o) S T = (T.includes ≡ record { act = act (actor s.path); line = p; grant = o.0 * 4294967296 } ∷ S.includes) × (T.now ≡ p + 1)
+WritesInclude act p s (Some o) S T =
+    (T.includes ≡ record { act = act (actor s.path); line = p; grant = o.0 * 4294967296 } ∷ S.includes) × (T.now ≡ p + 1)
 
 -- The root has a state for the include's store, not older than the one that was loaded.
 abbrev pub HasState : Steps → Option (ℕ × ObjectState) → Root → Type 0
 HasState s None r = ⊤
-HasState s (Some o) r = (j : Joined) × Contains r.joined j × (last_uid j.path ≡ actor s.path) × (j.x ≡ s.x) × (s.goal ≡ IncludeStore j.store) × ((let st = o.1 in st.version) ≤ (let l = j.loaded in l.version))
+HasState s (Some o) r = (j : Joined) × Contains r.joined j × (last_uid j.path ≡ actor s.path) × (j.x ≡ s.x)
+    × (s.goal ≡ IncludeStore j.store) × ((let st = o.1 in st.version) ≤ (let l = j.loaded in l.version))
 
 -- An answer to an include on the object is taken: the machine has its line where it ends well, and the coordinator is seen.
 abbrev pub IncludeAnswersAreTaken : Type 0
-IncludeAnswersAreTaken = (act : Acts) (code : Codes) (paths : Paths) (x p store : ℕ) (c : Coord) (u : Uid) (b : Branch) (d : Doing) (s : Steps) (r : Reply) (S : State)
-    → IsReached S → IsAtWork act paths c u b d → IsWaiting b d s → s.x ≡ x → s.goal ≡ IncludeStore store → S.now ≤ p → ShowsInclude act (top_of s.path) S r → SeesCoord act code x c S → SeesIncludes act x c S
-    → let e = heard_call s r c in Goes S (λ T. SeesCoord act code x e.part T × SeesIncludes act x e.part T × OnlyIncluded S T × WritesInclude act p s (included_by s.at r) S T × HasState s (included_by s.at r) (root_at (root_of s.path) e.part))
+IncludeAnswersAreTaken = (act : Acts) (code : Codes) (paths : Paths) (x p store : ℕ) (c : Coord) (u : Uid) (b : Branch) (d : Doing)
+    (s : Steps) (r : Reply) (S : State)
+    → IsReached S → IsAtWork act paths c u b d → IsWaiting b d s → s.x ≡ x → s.goal ≡ IncludeStore store → S.now ≤ p →
+    ShowsInclude act (top_of s.path) S r → SeesCoord act code x c S → SeesIncludes act x c S
+    → let e = heard_call s r c in Goes S (λ T. SeesCoord act code x e.part T × SeesIncludes act x e.part T × OnlyIncluded S T
+    × WritesInclude act p s (included_by s.at r) S T × HasState s (included_by s.at r) (root_at (root_of s.path) e.part))

@@ -11,7 +11,8 @@ use Rattle.arj_law_lock_view.specs.view.Actions.{SeesActions}
 use Rattle.arj_law_lock_view.specs.view.Stops.{AreUnitsOver}
 use Rattle.arj_law_lock_view.specs.view.Telling.{AreOneTree, HasEnded, View}
 
--- A coordinator of these actions is good, each of its actions has its work, they are seen, and the unit of each root that has ended is over.
+-- A coordinator of these actions is good, each of its actions has its work, they are seen, and the unit of each root that has ended is
+-- over.
 pub record IsTelling (v : View) (c : Coord) (S : State) : Type 0 where
   pub whole : AreOneTree v.family
   pub good : IsGoodCoord (let g = v.family in g.begun) (let g = v.family in g.paths) c
@@ -26,9 +27,11 @@ DecidedHaveEnded = (v : View) (c : Coord) (u : Uid) (e : End) (b : Branch) (S : 
 
 -- no end in the list is that of a serializing action
 abbrev pub AreUnserial : Coord → List (Uid × End) → Type 0
-AreUnserial c ends = (u : Uid) (e : End) (b : Branch) → Contains {X = Uid × End} ends (u, e) → branch_of u c.tree ≡ Some b → b.kind ≢ kind.Serial
+AreUnserial c ends = (u : Uid) (e : End) (b : Branch) → Contains {X = Uid × End} ends (u, e) → branch_of u c.tree ≡ Some b →
+    b.kind ≢ kind.Serial
 
 -- So do all in such a list that are as they were decided.
 abbrev pub ListedHaveEnded : Type 0
 ListedHaveEnded = (v : View) (c : Coord) (ends : List (Uid × End)) (S : State)
-    → IsTelling v c S → AreDecided ends c.tree → AreUnserial c ends → (u : Uid) (e : End) → Contains {X = Uid × End} ends (u, e) → HasEnded v S u e
+    → IsTelling v c S → AreDecided ends c.tree → AreUnserial c ends → (u : Uid) (e : End) → Contains {X = Uid × End} ends (u, e) →
+    HasEnded v S u e

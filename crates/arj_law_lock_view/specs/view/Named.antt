@@ -55,4 +55,5 @@ pub record SeesNamed (act : Acts) (x : ℕ) (n : Place) (o : Named) (S : State) 
   pub live : (l : Live) → o.live ≡ Some l → SeesLive l S
   pub made : (t : Uid) (m : Made) → at_uid t o.made ≡ Some m → SeesMade act t m S
   pub asked : (t : Uid) → S.naming.asked (act t) ≡ true → (n.told t ≡ true) ⊎ (is_on o.asked t ≡ true)
-  pub making : (t : Uid) → is_top (act t) ≡ true → S.naming.first ≤ S.naming.made (act t) → S.naming.told (act t) ≡ false → HasLast act o S.naming t
+  pub making : (t : Uid) → is_top (act t) ≡ true → S.naming.first ≤ S.naming.made (act t) → S.naming.told (act t) ≡ false →
+      HasLast act o S.naming t

@@ -20,22 +20,27 @@ IsAway act unit c = (u : Uid) (b : Branch) → branch_of u c.tree ≡ Some b →
 
 -- Actions of a unit end, or are at their commit: a coordinator that has none of it is seen,
 abbrev pub EndsElsewhere : Type 0
-EndsElsewhere = (act : Acts) (code : Codes) (x unit : ℕ) (c : Coord) (S T : State) → IsReached S → Run S T → IsAway act unit c → OnlyEnded unit S T → SeesWhole act code x c S → SeesWhole act code x c T
+EndsElsewhere = (act : Acts) (code : Codes) (x unit : ℕ) (c : Coord) (S T : State) → IsReached S → Run S T → IsAway act unit c →
+    OnlyEnded unit S T → SeesWhole act code x c S → SeesWhole act code x c T
 
 -- a unit calls the object,
 abbrev pub CallsElsewhere : Type 0
-CallsElsewhere = (act : Acts) (code : Codes) (x unit : ℕ) (c : Coord) (S T : State) → IsReached S → Run S T → IsAway act unit c → OnlyCalled unit S T → SeesWhole act code x c S → SeesWhole act code x c T
+CallsElsewhere = (act : Acts) (code : Codes) (x unit : ℕ) (c : Coord) (S T : State) → IsReached S → Run S T → IsAway act unit c →
+    OnlyCalled unit S T → SeesWhole act code x c S → SeesWhole act code x c T
 
 -- an include of a unit has its line,
 abbrev pub IncludesElsewhere : Type 0
 IncludesElsewhere = (act : Acts) (code : Codes) (x unit : ℕ) (c : Coord) (S T : State)
-    → IsReached S → Run S T → IsAway act unit c → OnlyIncluded S T → ((k : Include) → In k T.includes → In k S.includes ⊎ (root k.act ≡ unit)) → SeesWhole act code x c S → SeesWhole act code x c T
+    → IsReached S → Run S T → IsAway act unit c → OnlyIncluded S T →
+    ((k : Include) → In k T.includes → In k S.includes ⊎ (root k.act ≡ unit)) → SeesWhole act code x c S → SeesWhole act code x c T
 
 -- naming takes a Bind, a Record, an end, or starts again,
 abbrev pub NamingElsewhere : Type 0
-NamingElsewhere = (act : Acts) (code : Codes) (x : ℕ) (c : Coord) (S T : State) → IsReached S → Run S T → OnlyNaming S T → SeesWhole act code x c S → SeesWhole act code x c T
+NamingElsewhere = (act : Acts) (code : Codes) (x : ℕ) (c : Coord) (S T : State) → IsReached S → Run S T → OnlyNaming S T →
+    SeesWhole act code x c S → SeesWhole act code x c T
 
 -- And so it is where another coordinator stops, of which it has no unit.
 abbrev pub StopsElsewhere : Type 0
 StopsElsewhere = (act : Acts) (code : Codes) (x : ℕ) (t : Tree) (c : Coord) (S T : State)
-    → IsReached S → Run S T → ((u : Uid) (b : Branch) → branch_of u c.tree ≡ Some b → IsUnitOf act t (root (act u)) → ⊥) → OnlyStopped act t S T → SeesWhole act code x c S → SeesWhole act code x c T
+    → IsReached S → Run S T → ((u : Uid) (b : Branch) → branch_of u c.tree ≡ Some b → IsUnitOf act t (root (act u)) → ⊥) →
+    OnlyStopped act t S T → SeesWhole act code x c S → SeesWhole act code x c T

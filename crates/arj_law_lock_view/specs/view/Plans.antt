@@ -4,7 +4,8 @@ use Rattle.arj_protocol.specs.Words.{Uid}
 use Rattle.arj_protocol.specs.Words.confirmed
 use Rattle.arj_protocol.specs.Words.voted
 use Rattle.arj_protocol.specs.Ask.{Reply, actor}
-use Rattle.arj_protocol.specs.Commit.{Aborts, Asks, CommitStep, Confirming, Decides, Machine, Plan, Preparing, Stays, Used, Voting, answered, ask_of, begin_vote, given_up, is_at_server, least_of, servers_of}
+use Rattle.arj_protocol.specs.Commit.{Aborts, Asks, CommitStep, Confirming, Decides, Machine, Plan, Preparing, Stays, Used, Voting}
+use Rattle.arj_protocol.specs.Commit.{answered, ask_of, begin_vote, given_up, is_at_server, least_of, servers_of}
 use Rattle.arj_protocol.specs.Order.{binding_number, has}
 use Rattle.arj_law_lock.specs.machine.Actions.{Act, In, is_top, root}
 use Rattle.arj_law_lock.specs.machine.Machine.{Run}
@@ -50,7 +51,8 @@ least_inc p s = least_of (map (λ u. u.inc) (filter (is_at_server s) p.used))
 
 -- The object's server was asked for its vote, and has given it unless it is left.
 pub record SeesVotes (x : ℕ) (m : Act) (p : Plan) (left : List ℕ) (S : State) : Type 0 where
-  pub asked : (q : Used) → Contains p.used q → q.x ≡ x → q.called ≡ true → IsServedBy S q.binding q.server × In (machine.Vote m (binding_number q.binding) (least_inc p q.server)) S.net
+  pub asked : (q : Used) → Contains p.used q → q.x ≡ x → q.called ≡ true →
+      IsServedBy S q.binding q.server × In (machine.Vote m (binding_number q.binding) (least_inc p q.server)) S.net
   pub given : (q : Used) → Contains p.used q → q.x ≡ x → q.called ≡ true → has left q.server ≡ false → binding_number q.binding ≤ S.yes m
 
 -- Naming was asked to confirm the object's grant.
@@ -69,7 +71,8 @@ CommitsStaySeen = (x : ℕ) (m : Act) (k : Machine) (S T : State) → IsReached 
 
 -- What it asks of a node shows the machine's Vote, with the binding that the unit keeps, or its Confirm.
 abbrev pub CommitRequestsAreShown : Type 0
-CommitRequestsAreShown = (act : Acts) (code : Codes) (x : ℕ) (u : Uid) (k : Machine) (o : Post) (S : State) → o.x ≡ x → actor o.path ≡ u → SeesMachine x (act u) k S → ShowsAsk act code o S (ask_of k o.node)
+CommitRequestsAreShown = (act : Acts) (code : Codes) (x : ℕ) (u : Uid) (k : Machine) (o : Post) (S : State) → o.x ≡ x → actor o.path ≡ u →
+    SeesMachine x (act u) k S → ShowsAsk act code o S (ask_of k o.node)
 
 -- ---- how it goes on
 
@@ -88,25 +91,30 @@ pub record OnlySent (S T : State) : Type 0 where
 -- What an answer shows to a commit: a server that voted yes has voted in the machine under the binding that the plan has there, and
 -- naming that says yes has confirmed the top where the plan has the object.
 abbrev pub ShowsToCommit : ℕ → Act → Machine → ℕ → Reply → State → Type 0
-ShowsToCommit x m (Voting p left) from (Reply.Voted (voted.Yes states)) S = (q : Used) → Contains p.used q → q.x ≡ x → q.called ≡ true → q.server ≡ from → binding_number q.binding ≤ S.yes m
+ShowsToCommit x m (Voting p left) from (Reply.Voted (voted.Yes states)) S = (q : Used) → Contains p.used q → q.x ≡ x → q.called ≡ true →
+    q.server ≡ from → binding_number q.binding ≤ S.yes m
 ShowsToCommit x m (Confirming p) from (Reply.Confirmed confirmed.Yes) S = (q : Used) → Contains p.used q → q.x ≡ x → S.confirmed m ≡ true
 ShowsToCommit x m k from r S = ⊤
 
 -- An answer is taken: the machine's top asks naming for its confirmation where the protocol's does, and the commit is seen.
 abbrev pub CommitAnswersAreTaken : Type 0
 CommitAnswersAreTaken = (x : ℕ) (m : Act) (k : Machine) (from : ℕ) (r : Reply) (S : State)
-    → IsReached S → (S.action m).stage ≡ 1 → ShowsToCommit x m k from r S → SeesMachine x m k S → Goes S (λ T. SeesNext x m (let j = answered from k r in j.step) T × OnlySent S T)
+    → IsReached S → (S.action m).stage ≡ 1 → ShowsToCommit x m k from r S → SeesMachine x m k S →
+    Goes S (λ T. SeesNext x m (let j = answered from k r in j.step) T × OnlySent S T)
 
 -- It is given up: in the prepare step it goes on without the stores that didn't answer, else it is to be aborted.
 abbrev pub CommitsAreGivenUp : Type 0
 CommitsAreGivenUp = (x : ℕ) (m : Act) (k : Machine) (S : State)
-    → IsReached S → (S.action m).stage ≡ 1 → SeesMachine x m k S → Goes S (λ T. SeesNext x m (let j = given_up k in j.step) T × OnlySent S T)
+    → IsReached S → (S.action m).stage ≡ 1 → SeesMachine x m k S →
+    Goes S (λ T. SeesNext x m (let j = given_up k in j.step) T × OnlySent S T)
 
 -- what the plan has of a called object is what the unit keeps: the binding, its server and the incarnation that was heard
 abbrev pub AreKept : ℕ → Act → Plan → State → Type 0
-AreKept x m p S = (q : Used) → Contains p.used q → q.x ≡ x → q.called ≡ true → (S.kept (root m) ≡ binding_number q.binding) × IsServedBy S q.binding q.server × IsNamedSo S q.binding q.inc
+AreKept x m p S = (q : Used) → Contains p.used q → q.x ≡ x → q.called ≡ true →
+    (S.kept (root m) ≡ binding_number q.binding) × IsServedBy S q.binding q.server × IsNamedSo S q.binding q.inc
 
 -- It sets out by its plan: the object's server is asked for its vote, with the least incarnation over the objects that it has there.
 abbrev pub CommitsSetOut : Type 0
 CommitsSetOut = (x : ℕ) (m : Act) (p : Plan) (S : State)
-    → IsReached S → (S.action m).stage ≡ 1 → AreKept x m p S → SeesPlan x m p S → Goes S (λ T. SeesNext x m (begin_vote (servers_of p) p) T × OnlySent S T)
+    → IsReached S → (S.action m).stage ≡ 1 → AreKept x m p S → SeesPlan x m p S →
+    Goes S (λ T. SeesNext x m (begin_vote (servers_of p) p) T × OnlySent S T)

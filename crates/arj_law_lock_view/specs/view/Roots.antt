@@ -24,7 +24,8 @@ pub record SeesKept (unit : ℕ) (k : Known) (S : State) : Type 0 where
   pub kept : S.kept unit ≡ binding_number k.binding
   pub server : IsServedBy S k.binding k.server
   pub named : (i : ℕ) → k.inc ≡ Some i → IsNamedSo S k.binding i
-  pub unnamed : k.inc ≡ None → ((let b = binding_at S k.binding in b.named) ≡ false) × (root (let b = binding_at S k.binding in b.maker) ≡ unit)
+  pub unnamed : k.inc ≡ None →
+      ((let b = binding_at S k.binding in b.named) ≡ false) × (root (let b = binding_at S k.binding in b.maker) ≡ unit)
   pub recorded : k.recorded ≡ true → KnowsRecorded S (binding_number k.binding) × ((i : ℕ) × (k.inc ≡ Some i))
 
 -- or it keeps none, and the machine's isn't above the one to avoid
@@ -52,7 +53,8 @@ pub record SeesRoot (act : Acts) (x : ℕ) (u : Uid) (r : Root) (t : Tree) (S : 
   pub keeping : SeesKeeping (root (act u)) (kept_of x r) (let k = keeping_of x r in k.avoid) S
   pub spent : kept_of x r ≡ None → (s : Said) → Contains r.said s → s.x ≡ x → is_spent s.path t ≡ true
   pub said : (s : Said) → Contains r.said s → s.x ≡ x → IsSaid act u s t S
-  pub calls : (d : Call) → In d S.calls → root d.act ≡ root (act u) → (s : Said) × Contains r.said s × (s.x ≡ x) × (d.act ≡ act (last_uid s.path))
+  pub calls : (d : Call) → In d S.calls → root d.act ≡ root (act u) →
+      (s : Said) × Contains r.said s × (s.x ≡ x) × (d.act ≡ act (last_uid s.path))
   pub heard : (g : Grant) (b : Binding) → Contains r.grants g → g.x ≡ x → g.named ≡ Some b → HasHeard (act g.top) (binding_number b) S
 
 -- ---- what a call stands on
@@ -76,9 +78,11 @@ invoke_of act s o k = record { act = act (actor s.path); number = s.req; binding
 abbrev pub SeesStep : Acts → Codes → Steps → Op → Keeping → State → At → Type 0
 SeesStep act code s o kp S (AtBind avoid) = kp.kept ≡ None → avoid ≡ kp.avoid
 SeesStep act code s o kp S (AtLoad k n rest) = IsTied kp.kept k × IsMadeFor (act (top_of s.path)) k S
-SeesStep act code s o kp S (AtActivate k st) = IsTied kp.kept k × IsMadeFor (act (top_of s.path)) k S × In (machine.Activate (binding_number k.binding) (state_code act code st)) S.net
+SeesStep act code s o kp S (AtActivate k st) =
+    IsTied kp.kept k × IsMadeFor (act (top_of s.path)) k S × In (machine.Activate (binding_number k.binding) (state_code act code st)) S.net
 SeesStep act code s o kp S (AtNote k i) = IsTied kp.kept k × IsMadeFor (act (top_of s.path)) k S × IsNamedSo S k.binding i
-SeesStep act code s o kp S (AtInvoke k i) = IsTied kp.kept k × IsServedBy S k.binding k.server × IsNamedSo S k.binding i × In (machine.Invoke (invoke_of act s o k)) S.net
+SeesStep act code s o kp S (AtInvoke k i) =
+    IsTied kp.kept k × IsServedBy S k.binding k.server × IsNamedSo S k.binding i × In (machine.Invoke (invoke_of act s o k)) S.net
 
 -- a Bind or a Load waits
 abbrev pub is_early : At → Bool
@@ -92,5 +96,7 @@ is_early _ = false
 pub record SeesCoord (act : Acts) (code : Codes) (x : ℕ) (c : Coord) (S : State) : Type 0 where
   pub actions : SeesActions act x c S.action
   pub roots : (u : Uid) (b : Branch) → branch_of u c.tree ≡ Some b → root_of b.path ≡ u → SeesRoot act x u (root_at u c) c.tree S
-  pub calls : (u : Uid) (d : Doing) (s : Steps) (o : Op) → doing_of u c ≡ Some d → d.now ≡ Calling s → s.x ≡ x → s.goal ≡ Run o → SeesStep act code s o (keeping_of x (root_at (root_of s.path) c)) S s.at
-  pub plain : (u : Uid) (d : Doing) (s : Steps) → doing_of u c ≡ Some d → d.now ≡ Calling s → s.x ≡ x → is_early s.at ≡ false → is_call s.goal ≡ true
+  pub calls : (u : Uid) (d : Doing) (s : Steps) (o : Op) → doing_of u c ≡ Some d → d.now ≡ Calling s → s.x ≡ x → s.goal ≡ Run o →
+      SeesStep act code s o (keeping_of x (root_at (root_of s.path) c)) S s.at
+  pub plain : (u : Uid) (d : Doing) (s : Steps) → doing_of u c ≡ Some d → d.now ≡ Calling s → s.x ≡ x → is_early s.at ≡ false →
+      is_call s.goal ≡ true

@@ -15,7 +15,8 @@ strength mode.Write = 2
 -- the strength of the rows that an action of the machine holds on the object
 abbrev pub held_in : Acts → Uid → Act → List Row → ℕ
 held_in act object a [] = 0
-held_in act object a (r ∷ rs) = max (cond (uid_eq r.object object && same (act (last_uid r.holder)) a) (strength r.mode) 0) (held_in act object a rs)
+held_in act object a (r ∷ rs) =
+    max (cond (uid_eq r.object object && same (act (last_uid r.holder)) a) (strength r.mode) 0) (held_in act object a rs)
 
 -- The machine's rows are at most these: the protocol may keep rows of which the machine doesn't know.
 abbrev pub SeesRows : Acts → Uid → List Row → machine.Rows → Type 0

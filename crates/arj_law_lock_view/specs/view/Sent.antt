@@ -1,4 +1,5 @@
--- Requests and ends that were sent to a server, in the machine of one object: what they show for ever, as actions begin and the machine goes on.
+-- Requests and ends that were sent to a server, in the machine of one object: what they show for ever, as actions begin and the machine
+-- goes on.
 use Rattle.std.specs.Prelude.{List, [], Contains}
 use Rattle.arj_protocol.specs.Words.{Ask, End, Head, Uid}
 use Rattle.arj_protocol.specs.Server.{Server}
@@ -23,4 +24,5 @@ pub record IsSent (v : View) (h : Head) (a : Ask) (S : State) : Type 0 where
 -- Where it comes to a good server it is shown.
 abbrev pub SentAreShown : Type 0
 SentAreShown = (v : View) (h : Head) (a : Ask) (s : Server) (S : State)
-    → IsReached S → AreOneTree v.family → IsOfFamily v.family s → FitsAsk (let g = v.family in g.begun) h a → IsSent v h a S → IsShown v h a s S
+    → IsReached S → AreOneTree v.family → IsOfFamily v.family s → FitsAsk (let g = v.family in g.begun) h a → IsSent v h a S →
+    IsShown v h a s S

@@ -29,7 +29,8 @@ wanted_by act u number w = record { act = act u; number = number; binding = bind
 
 -- what an answer to such a request shows
 abbrev pub ShowsInvoked : Acts → Codes → Uid → ℕ → Wanted → State → InvokedReply → Type 0
-ShowsInvoked act code u number w S (invoked.Answered a) = (v : Value) × (a ≡ answer_of w.op v) × IsApplied code (wanted_by act u number w) w.op v S
+ShowsInvoked act code u number w S (invoked.Answered a) =
+    (v : Value) × (a ≡ answer_of w.op v) × IsApplied code (wanted_by act u number w) w.op v S
 ShowsInvoked act code u number w S (invoked.Conflict h m) = In (machine.Refused (wanted_by act u number w)) S.net
 ShowsInvoked act code u number w S (invoked.Changed d) = In (machine.Changed (binding_number w.binding)) S.net
 
@@ -56,5 +57,6 @@ pub record SeesServer (act : Acts) (code : Codes) (wants : Wants) (x n : ℕ) (s
   pub incarnation : (let m = S.server n in m.incarnation) ≡ s.inc
   pub object : SeesObject act code x s.inc (at_number x s.objects) (S.server n) S
   pub latest : (u : Uid) → is_told u s ≡ false → (let m = S.server n in m.request (act u)) ≤ last_of (at_uid u s.kept)
-  pub kept : (u : Uid) (k : Kept) (w : Wanted) → at_uid u s.kept ≡ Some k → wants u k.req ≡ Some w → ShowsInvoked act code u k.req w S k.answer
+  pub kept : (u : Uid) (k : Kept) (w : Wanted) → at_uid u s.kept ≡ Some k → wants u k.req ≡ Some w →
+      ShowsInvoked act code u k.req w S k.answer
   pub voted : (u : Uid) → is_told u s ≡ false → is_on s.voted u ≡ false → (let m = S.server n in m.voted (act u)) ≡ false

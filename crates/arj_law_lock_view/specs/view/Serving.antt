@@ -40,7 +40,8 @@ ServersAreDown = (v : View) (first inc : ℕ) → IsDown v.node inc (start first
 
 -- It starts in a later incarnation, with nothing: so does the machine's, unless it did already.
 abbrev pub ServersStart : Type 0
-ServersStart = (v : View) (inc i : ℕ) (S : State) → inc < i → IsDown v.node inc S → Goes S (λ T. Sees v (new_server i) T × OnlyServer v.node S T)
+ServersStart = (v : View) (inc i : ℕ) (S : State) → inc < i → IsDown v.node inc S →
+    Goes S (λ T. Sees v (new_server i) T × OnlyServer v.node S T)
 
 -- ---- what requests show
 
@@ -58,7 +59,8 @@ IsForServer x a = ⊥
 -- An Invoke has a number, and is what its action wants of the object by that; one of another object is no request that wants something of
 -- this one.
 abbrev pub IsWanted : View → Head → Ask → Type 0
-IsWanted v h (ask.Invoke y b i ends o) = (1 ≤ h.req) × (y ≡ v.x → v.wants (actor h.path) h.req ≡ Some (record { binding = b; op = o })) × (y ≢ v.x → v.wants (actor h.path) h.req ≡ None)
+IsWanted v h (ask.Invoke y b i ends o) = (1 ≤ h.req) × (y ≡ v.x → v.wants (actor h.path) h.req ≡ Some (record { binding = b; op = o }))
+    × (y ≢ v.x → v.wants (actor h.path) h.req ≡ None)
 IsWanted v h a = ⊤
 
 -- A request comes to the server: both are of the actions that were begun, and it shows what its coordinator did about the object, what it
@@ -83,7 +85,8 @@ ShowsActivated b S (Some i) = In (machine.Activated (binding_number b) i) S.net
 abbrev pub ActivatesAreSeen : Type 0
 ActivatesAreSeen = (v : View) (h : Head) (b : Binding) (st : ObjectState) (s : Server) (S : State)
     → IsShown v h (ask.Activate b st) s S → Sees v s S
-    → let r = activate v.node h.path b st s in Goes S (λ T. Sees v r.part T × OnlyServer v.node S T × ((let u = st.uid in u.num) ≡ v.x → ShowsActivated b T r.reply))
+    → let r = activate v.node h.path b st s in
+    Goes S (λ T. Sees v r.part T × OnlyServer v.node S T × ((let u = st.uid in u.num) ≡ v.x → ShowsActivated b T r.reply))
 
 -- An Invoke: the server answers that it has changed, answers as it did, or applies the ends that are new to it and then the operation, or
 -- refuses that.
@@ -91,7 +94,8 @@ abbrev pub InvokesAreSeen : Type 0
 InvokesAreSeen = (v : View) (h : Head) (y : ℕ) (b : Binding) (i : ℕ) (ends : List (Uid × End)) (o : Op) (s : Server) (S : State)
     → IsShown v h (ask.Invoke y b i ends o) s S → Sees v s S
     → let r = invoke v.node h y b i ends o s in
-    Goes S (λ T. Sees v r.part T × OnlyServer v.node S T × (y ≡ v.x → ShowsIfInvoked v.family.act v.code (actor h.path) h.req (record { binding = b; op = o }) T r.reply))
+    Goes S (λ T. Sees v r.part T × OnlyServer v.node S T
+    × (y ≡ v.x → ShowsIfInvoked v.family.act v.code (actor h.path) h.req (record { binding = b; op = o }) T r.reply))
 
 -- each copy that the server lists is the one that it has of the object
 abbrev pub ListsEach : Server → Type 0
@@ -110,8 +114,8 @@ pub record Yes : Type 0 where
   pub binding : Binding
   pub states : List ObjectState
 
--- It was given for the top: among its states the object's is what the top left in a copy, and the machine has what it left there; there it saw that
--- copy.
+-- It was given for the top: among its states the object's is what the top left in a copy, and the machine has what it left there; there it
+-- saw that copy.
 pub record IsVotedSo (act : Acts) (code : Codes) (x : ℕ) (u : Uid) (y : Yes) (T : State) : Type 0 where
   pub copy : Copy
   pub vote : IsVoteOf (act u) (binding_number y.binding) (ballot_for act code u copy) T
@@ -134,4 +138,6 @@ abbrev pub VotesAreTaken : Type 0
 VotesAreTaken = (v : View) (h : Head) (i : ℕ) (ties : List (ℕ × Binding)) (ends : List (Uid × End)) (s : Server) (S : State)
     → IsReached S → ListsEach s → IsShown v h (ask.Vote i ties ends) s S → Sees v s S
     → let r = vote v.node h.path i ties ends s in
-    Goes S (λ T. Sees v r.part T × OnlyVote v.node (v.family.act (actor h.path)) S T × ((b : Binding) (states : List ObjectState) → Contains {X = ℕ × Binding} ties (v.x, b) → r.reply ≡ Some (voted.Yes states) → HasVotedHere v (actor h.path) b r.part S T × IsVotedBy v (actor h.path) b states T × HaveOne v.x states))
+    Goes S (λ T. Sees v r.part T × OnlyVote v.node (v.family.act (actor h.path)) S T
+    × ((b : Binding) (states : List ObjectState) → Contains {X = ℕ × Binding} ties (v.x, b) → r.reply ≡ Some (voted.Yes states) →
+    HasVotedHere v (actor h.path) b r.part S T × IsVotedBy v (actor h.path) b states T × HaveOne v.x states))

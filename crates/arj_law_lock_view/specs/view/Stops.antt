@@ -22,19 +22,24 @@ use Rattle.arj_law_lock_view.specs.view.Roots.{SeesCoord}
 
 -- the unit of each root that has ended is over
 abbrev pub AreUnitsOver : Acts → Tree → State → Type 0
-AreUnitsOver act t S = (u : Uid) (b : Branch) → branch_of u t ≡ Some b → root_of b.path ≡ u → is_some b.ended ≡ true → (let a = S.action (Root (root (act u))) in a.stage) ≡ 3
+AreUnitsOver act t S = (u : Uid) (b : Branch) → branch_of u t ≡ Some b → root_of b.path ≡ u → is_some b.ended ≡ true →
+    (let a = S.action (Root (root (act u))) in a.stage) ≡ 3
 
 -- ---- an action with all that is open below it
 
 -- whatever was open at the action and below it is aborted
 abbrev pub AreAborted : Acts → Paths → Tree → Uid → State → Type 0
-AreAborted act paths t u T = (w : Uid) (b : Branch) → branch_of w t ≡ Some b → is_some b.ended ≡ false → is_on (paths w) u ≡ true → is_action (act w) ≡ true → (let a = T.action (act w) in a.stage) ≡ 4
+AreAborted act paths t u T = (w : Uid) (b : Branch) → branch_of w t ≡ Some b → is_some b.ended ≡ false → is_on (paths w) u ≡ true →
+    is_action (act w) ≡ true → (let a = T.action (act w) in a.stage) ≡ 4
 
 -- An open action is aborted with all that is open below it, whatever these wait for; a root's unit is over then.
 abbrev pub AbortionsGoDown : Type 0
-AbortionsGoDown = (act : Acts) (code : Codes) (paths : Paths) (x : ℕ) (c : Coord) (u : Uid) (b : Branch) (intents : List (Uid × Intent)) (S : State)
+AbortionsGoDown =
+    (act : Acts) (code : Codes) (paths : Paths) (x : ℕ) (c : Coord) (u : Uid) (b : Branch) (intents : List (Uid × Intent)) (S : State)
     → IsSteady act paths c → branch_of u c.tree ≡ Some b → is_some b.ended ≡ false → AreUnitsOver act c.tree S → SeesCoord act code x c S
-    → Goes S (λ T. SeesCoord act code x (let e = abort_action u intents c in e.part) T × OnlyActed (root (act u)) S T × (T.now ≡ S.now) × AreAborted act paths c.tree u T × AreUnitsOver act (let e = abort_action u intents c in let k = e.part in k.tree) T × AbortsOnly act paths c.tree u S T)
+    → Goes S (λ T. SeesCoord act code x (let e = abort_action u intents c in e.part) T × OnlyActed (root (act u)) S T × (T.now ≡ S.now)
+    × AreAborted act paths c.tree u T × AreUnitsOver act (let e = abort_action u intents c in let k = e.part in k.tree) T
+    × AbortsOnly act paths c.tree u S T)
 
 -- ---- a stop
 
@@ -63,10 +68,13 @@ HasEnded a = (a.stage ≡ 3) ⊎ (a.stage ≡ 4)
 -- What a coordinator leaves in the machine when its node stops. Each of its actions has ended and each unit is over, but for one top
 -- that is decided and has no line yet, and its unit.
 pub record HasStopped (act : Acts) (t : Tree) (last : Option Uid) (S : State) : Type 0 where
-  pub top : (u : Uid) → last ≡ Some u → (b : Branch) × (branch_of u t ≡ Some b) × (is_top (act u) ≡ true) × ((let a = S.action (act u) in a.stage) ≡ 2)
+  pub top : (u : Uid) → last ≡ Some u →
+      (b : Branch) × (branch_of u t ≡ Some b) × (is_top (act u) ≡ true) × ((let a = S.action (act u) in a.stage) ≡ 2)
   pub each : (u : Uid) (b : Branch) → branch_of u t ≡ Some b → is_action (act u) ≡ true → (last ≡ Some u) ⊎ HasEnded (S.action (act u))
-  pub units : (u : Uid) (b : Branch) → branch_of u t ≡ Some b → ((w : Uid) × (last ≡ Some w) × (root (act w) ≡ root (act u)) × ((let a = S.action (Root (root (act u))) in a.stage) ≡ 0)) ⊎ ((let a = S.action (Root (root (act u))) in a.stage) ≡ 3)
-  pub others : (u : Uid) (b : Branch) (a : Act) → branch_of u t ≡ Some b → root a ≡ root (act u) → is_action a ≡ true → IsHere act t a ⊎ ((let k = S.action a in k.stage) ≡ 0)
+  pub units : (u : Uid) (b : Branch) → branch_of u t ≡ Some b → ((w : Uid) × (last ≡ Some w) × (root (act w) ≡ root (act u))
+      × ((let a = S.action (Root (root (act u))) in a.stage) ≡ 0)) ⊎ ((let a = S.action (Root (root (act u))) in a.stage) ≡ 3)
+  pub others : (u : Uid) (b : Branch) (a : Act) → branch_of u t ≡ Some b → root a ≡ root (act u) → is_action a ≡ true →
+      IsHere act t a ⊎ ((let k = S.action a in k.stage) ≡ 0)
 
 -- the unit is of one of the tree's actions
 abbrev pub IsUnitOf : Acts → Tree → ℕ → Type 0
@@ -77,16 +85,19 @@ pub record OnlyStopped (act : Acts) (t : Tree) (S T : State) : Type 0 where
   pub rest : T ≡ record S { action = T.action }
   pub others : (a : Act) → (IsUnitOf act t (root a) → ⊥) → T.action a ≡ S.action a
   pub ended : (a : Act) → 3 ≤ (let k = S.action a in k.stage) → T.action a ≡ S.action a
-  pub ends : (a : Act) → is_action a ≡ true → (T.action a ≡ S.action a) ⊎ (IsHere act t a × ((T.action a ≡ aborted (S.action a)) ⊎ (T.action a ≡ decided (S.action a))))
+  pub ends : (a : Act) → is_action a ≡ true →
+      (T.action a ≡ S.action a) ⊎ (IsHere act t a × ((T.action a ≡ aborted (S.action a)) ⊎ (T.action a ≡ decided (S.action a))))
 
 -- A node stops: the coordinator's open actions are aborted, but for a top whose decision is on the disk, which is decided.
 abbrev pub StopsAreSeen : Type 0
 StopsAreSeen = (act : Acts) (code : Codes) (paths : Paths) (x : ℕ) (c : Coord) (last : Option Uid) (S : State)
-    → IsSteady act paths c → IfDecided act c last S → AreUnitsOver act c.tree S → SeesCoord act code x c S → Goes S (λ T. HasStopped act c.tree last T × OnlyStopped act c.tree S T)
+    → IsSteady act paths c → IfDecided act c last S → AreUnitsOver act c.tree S → SeesCoord act code x c S →
+    Goes S (λ T. HasStopped act c.tree last T × OnlyStopped act c.tree S T)
 
 -- It stays so while nobody else changes its units.
 abbrev pub StopsStay : Type 0
-StopsStay = (act : Acts) (t : Tree) (last : Option Uid) (S T : State) → ((a : Act) → IsUnitOf act t (root a) → T.action a ≡ S.action a) → HasStopped act t last S → HasStopped act t last T
+StopsStay = (act : Acts) (t : Tree) (last : Option Uid) (S T : State) → ((a : Act) → IsUnitOf act t (root a) → T.action a ≡ S.action a) →
+    HasStopped act t last S → HasStopped act t last T
 
 -- ---- a restart
 
@@ -94,7 +105,8 @@ StopsStay = (act : Acts) (t : Tree) (last : Option Uid) (S T : State) → ((a : 
 -- coordinator has ended.
 abbrev pub RecordsAreFound : Type 0
 RecordsAreFound = (act : Acts) (t : Tree) (u : Uid) (p : ℕ) (S : State) → HasStopped act t (Some u) S → S.now ≤ p
-    → Goes S (λ T. HasStopped act t None T × OnlyActed (root (act u)) S T × (T.now ≡ p + 1) × ((let a = T.action (act u) in a.stage) ≡ 3) × ChangesOne (act u) (committed_at p (S.action (act u))) S T)
+    → Goes S (λ T. HasStopped act t None T × OnlyActed (root (act u)) S T × (T.now ≡ p + 1) × ((let a = T.action (act u) in a.stage) ≡ 3)
+    × ChangesOne (act u) (committed_at p (S.action (act u))) S T)
 
 -- The new coordinator, with the records that it found, is seen in every state.
 abbrev pub RestartedCoordsAreSeen : Type 0

@@ -112,18 +112,23 @@ EndedAreShown = (v : View) (u : Uid) (e : End) (S : State) → HasEnded v S u e 
 
 -- where a top is committed for which the server didn't vote,
 abbrev pub UnvotedAreShown : Type 0
-UnvotedAreShown = (v : View) (u : Uid) (s : Server) (S : State) → Sees v s S → is_told u s ≡ false → is_on s.voted u ≡ false → is_top (v.family.act u) ≡ true → (let a = S.action (v.family.act u) in a.stage) ≡ 3 → ShowsEnd v S u ending.Abort
+UnvotedAreShown = (v : View) (u : Uid) (s : Server) (S : State) → Sees v s S → is_told u s ≡ false → is_on s.voted u ≡ false →
+    is_top (v.family.act u) ≡ true → (let a = S.action (v.family.act u) in a.stage) ≡ 3 → ShowsEnd v S u ending.Abort
 
 -- an overlay below the action, with no aborted action between
 abbrev pub IsOfLiving : View → Uid → State → Over → Type 0
-IsOfLiving v u S o = (is_on o.holder u ≡ true) × ((w : Uid) → is_on o.holder w ≡ true → on (v.family.act w) (v.family.act u) ≡ true → (let a = S.action (v.family.act w) in a.stage) ≢ 4)
+IsOfLiving v u S o = (is_on o.holder u ≡ true) ×
+    ((w : Uid) → is_on o.holder w ≡ true → on (v.family.act w) (v.family.act u) ≡ true → (let a = S.action (v.family.act w) in a.stage) ≢ 4)
 
 -- No committed top of the action's unit that has a surviving write, and for which the server voted, has an overlay here below the action,
 -- nor has an action below it, but what is below an aborted one.
 abbrev pub HasNoneLeft : View → Uid → Server → State → Type 0
-HasNoneLeft v u s S = (t : Uid) (k : Call) (c : Copy) (o : Over) → root (v.family.act t) ≡ root (v.family.act u) → (let a = S.action (v.family.act t) in a.stage) ≡ 3 → In k S.calls → k.write ≡ true → Survives S k.act → top k.act ≡ v.family.act t
-    → (let m = S.server v.node in m.voted (v.family.act t)) ≡ true → at_number v.x s.objects ≡ Some c → Contains c.stack o → IsOfLiving v u S o → is_on o.holder t ≡ false
+HasNoneLeft v u s S = (t : Uid) (k : Call) (c : Copy) (o : Over) → root (v.family.act t) ≡ root (v.family.act u) →
+    (let a = S.action (v.family.act t) in a.stage) ≡ 3 → In k S.calls → k.write ≡ true → Survives S k.act → top k.act ≡ v.family.act t
+    → (let m = S.server v.node in m.voted (v.family.act t)) ≡ true → at_number v.x s.objects ≡ Some c → Contains c.stack o →
+    IsOfLiving v u S o → is_on o.holder t ≡ false
 
 -- and where the unit is over, and nothing of it is left here that counts.
 abbrev pub OverAreShown : Type 0
-OverAreShown = (v : View) (u : Uid) (s : Server) (S : State) → IsReached S → AreOneTree v.family → IsOfFamily v.family s → Sees v s S → (let a = S.action (Root (root (v.family.act u))) in a.stage) ≡ 3 → HasNoneLeft v u s S → ShowsEnd v S u ending.Abort
+OverAreShown = (v : View) (u : Uid) (s : Server) (S : State) → IsReached S → AreOneTree v.family → IsOfFamily v.family s → Sees v s S →
+    (let a = S.action (Root (root (v.family.act u))) in a.stage) ≡ 3 → HasNoneLeft v u s S → ShowsEnd v S u ending.Abort

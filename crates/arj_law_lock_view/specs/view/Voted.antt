@@ -3,7 +3,8 @@ use Rattle.std.specs.Prelude.{⊤, ◌≡◌, ◌≤◌, ℕ, List, [], true, fa
 use Rattle.arj_protocol.specs.Words.{Head, ObjectState, Uid, VotedReply, object}
 use Rattle.arj_protocol.specs.Words.voted
 use Rattle.arj_protocol.specs.Ask.{Reply, actor}
-use Rattle.arj_protocol.specs.Commit.{Aborts, Asks, CommitStep, Confirming, Decides, Machine, Plan, Preparing, Stays, Used, Voting, answered, begin_vote, given_up, left_of, plan_of, servers_of, vote_ask}
+use Rattle.arj_protocol.specs.Commit.{Aborts, Asks, CommitStep, Confirming, Decides, Machine, Plan, Preparing, Stays, Used, Voting}
+use Rattle.arj_protocol.specs.Commit.{answered, begin_vote, given_up, left_of, plan_of, servers_of, vote_ask}
 use Rattle.arj_protocol.specs.Order.{has}
 use Rattle.arj_law_lock.specs.machine.Actions.{top}
 use Rattle.arj_law_lock.specs.machine.Machine.{Run}
@@ -37,7 +38,8 @@ UsesOnce w p = (q r : Used) → IsCalledIn w p q → IsCalledIn w p r → q ≡ 
 -- that, and where it wasn't called, there is none.
 pub record HasVotes (w : Side) (p : Plan) (left : List ℕ) (S : State) : Type 0 where
   pub once : UsesOnce w p
-  pub given : (q : Used) → IsCalledIn w p q → has left q.server ≡ false → IsVotedSo w.act w.code w.x w.top (record { binding = q.binding; states = p.changed }) S
+  pub given : (q : Used) → IsCalledIn w p q → has left q.server ≡ false →
+      IsVotedSo w.act w.code w.x w.top (record { binding = q.binding; states = p.changed }) S
   pub awaited : (q : Used) → IsCalledIn w p q → has left q.server ≡ true → state_in w.x p.changed ≡ None
   pub uncalled : ((q : Used) → IsCalledIn w p q → ⊥) → state_in w.x p.changed ≡ None
 
@@ -63,7 +65,8 @@ KnowsNext w (Aborts why p) S = ⊤
 -- A Yes of a server: for what was called there it is a vote under the plan's binding, with one state of the object at most; and where
 -- nothing was called there it has none.
 pub record IsVoteFor (w : Side) (p : Plan) (from : ℕ) (states : List ObjectState) (S : State) : Type 0 where
-  pub given : (q : Used) → IsCalledIn w p q → q.server ≡ from → IsVotedSo w.act w.code w.x w.top (record { binding = q.binding; states = states }) S × HaveOne w.x states
+  pub given : (q : Used) → IsCalledIn w p q → q.server ≡ from →
+      IsVotedSo w.act w.code w.x w.top (record { binding = q.binding; states = states }) S × HaveOne w.x states
   pub used : (s : ObjectState) → Contains states s → s.uid ≡ object w.x → (q : Used) × IsCalledIn w p q × (q.server ≡ from)
 
 -- so an answer shows it to the step that waits
@@ -83,7 +86,8 @@ VotesSetOut = (w : Side) (p : Plan) (S : State) → UsesOnce w p → p.changed �
 
 -- takes an answer that it waits for,
 abbrev pub VotesAreHeard : Type 0
-VotesAreHeard = (w : Side) (k : Machine) (from : ℕ) (r : Reply) (S : State) → has (left_of k) from ≡ true → ShowsVotes w k from r S → KnowsVotes w k S → KnowsNext w (let j = answered from k r in j.step) S
+VotesAreHeard = (w : Side) (k : Machine) (from : ℕ) (r : Reply) (S : State) → has (left_of k) from ≡ true → ShowsVotes w k from r S →
+    KnowsVotes w k S → KnowsNext w (let j = answered from k r in j.step) S
 
 -- is given up,
 abbrev pub VotesAreLost : Type 0
@@ -96,5 +100,6 @@ VotesStay = (w : Side) (p : Plan) (left : List ℕ) (S T : State) → Run S T �
 -- A server's answer shows it, where it votes no state but of what was called there.
 abbrev pub VotesAreShown : Type 0
 VotesAreShown = (v : View) (p : Plan) (left : List ℕ) (h : Head) (from : ℕ) (r : VotedReply) (T : State)
-    → ((states : List ObjectState) (s : ObjectState) → r ≡ voted.Yes states → Contains states s → s.uid ≡ object v.x → (q : Used) × IsCalledIn (side_of v (actor h.path)) p q × (q.server ≡ from))
+    → ((states : List ObjectState) (s : ObjectState) → r ≡ voted.Yes states → Contains states s → s.uid ≡ object v.x →
+    (q : Used) × IsCalledIn (side_of v (actor h.path)) p q × (q.server ≡ from))
     → ShowsReply v h (vote_ask p from) T (Reply.Voted r) → ShowsVotes (side_of v (actor h.path)) (Voting p left) from (Reply.Voted r) T

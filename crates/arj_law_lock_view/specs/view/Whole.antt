@@ -25,19 +25,25 @@ pub record IsOpen (act : Acts) (paths : Paths) (c : Coord) (u : Uid) (b : Branch
 
 -- An action ends: where its actions are seen after it, the whole coordinator is.
 abbrev pub EndsKeepRoots : Type 0
-EndsKeepRoots = (act : Acts) (code : Codes) (paths : Paths) (x unit : ℕ) (c : Coord) (u : Uid) (b : Branch) (d : Doing) (e : End) (S T : State)
-    → IsOpen act paths c u b d → SeesCoord act code x c S → OnlyActed unit S T → SeesActions act x (ended u e c) T.action → SeesCoord act code x (ended u e c) T
+EndsKeepRoots =
+    (act : Acts) (code : Codes) (paths : Paths) (x unit : ℕ) (c : Coord) (u : Uid) (b : Branch) (d : Doing) (e : End) (S T : State)
+    → IsOpen act paths c u b d → SeesCoord act code x c S → OnlyActed unit S T → SeesActions act x (ended u e c) T.action →
+    SeesCoord act code x (ended u e c) T
 
 -- So it is where an action is at its commit.
 abbrev pub CommitsKeepRoots : Type 0
-CommitsKeepRoots = (act : Acts) (code : Codes) (paths : Paths) (x unit : ℕ) (c : Coord) (u : Uid) (b : Branch) (d : Doing) (m : Machine) (S T : State)
-    → IsOpen act paths c u b d → SeesCoord act code x c S → OnlyActed unit S T → SeesActions act x (commits_in u m c) T.action → SeesCoord act code x (commits_in u m c) T
+CommitsKeepRoots =
+    (act : Acts) (code : Codes) (paths : Paths) (x unit : ℕ) (c : Coord) (u : Uid) (b : Branch) (d : Doing) (m : Machine) (S T : State)
+    → IsOpen act paths c u b d → SeesCoord act code x c S → OnlyActed unit S T → SeesActions act x (commits_in u m c) T.action →
+    SeesCoord act code x (commits_in u m c) T
 
 -- And where only a unit ends.
 abbrev pub UnitsKeepRoots : Type 0
-UnitsKeepRoots = (act : Acts) (code : Codes) (x unit : ℕ) (c : Coord) (S T : State) → SeesCoord act code x c S → OnlyActed unit S T → SeesActions act x c T.action → SeesCoord act code x c T
+UnitsKeepRoots = (act : Acts) (code : Codes) (x unit : ℕ) (c : Coord) (S T : State) → SeesCoord act code x c S → OnlyActed unit S T →
+    SeesActions act x c T.action → SeesCoord act code x c T
 
 -- A decision changes the store lists that its root keeps, and what is awaited: nothing at which the machine looks.
 abbrev pub DecisionsKeepRoots : Type 0
 DecisionsKeepRoots = (act : Acts) (code : Codes) (x : ℕ) (c : Coord) (u : Uid) (d : Doing) (p : commit.Plan) (S : State)
-    → doing_of u (ended u ending.Commit c) ≡ Some d → d.now ≡ Idle → SeesCoord act code x (ended u ending.Commit c) S → SeesCoord act code x (decided u p c) S
+    → doing_of u (ended u ending.Commit c) ≡ Some d → d.now ≡ Idle → SeesCoord act code x (ended u ending.Commit c) S →
+    SeesCoord act code x (decided u p c) S

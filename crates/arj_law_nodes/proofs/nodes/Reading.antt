@@ -1,15 +1,10 @@
 -- Lines that were read as a script have a header in form, and events in form.
-use Rattle.std.proofs.Common.{◌≡◌, ◌≤◌, ℕ, suc, List, [], ◌∷◌, length, Some, refl, subst, arith}
-use Rattle.std.specs.List.{AllByRecursion}
-use Rattle.arj_journal.specs.declared.event.Event.{Event}
-use Rattle.arj_journal.specs.declared.header.ObjectLine.{ObjectLine}
-use Rattle.arj_journal.specs.ScriptForm.{EventInForm, HeaderInForm}
-use Rattle.arj_loop.specs.Forms.{HaveForms}
-use Rattle.arj_loop.specs.Input.{header_from}
-use Rattle.arj_protocol.specs.Words.{Header}
-use Rattle.arj_script.specs.Grammar.{Asks, Blank, Fits, Form, Nodes, Object, Objects, Place, PlaceInForm, Run, Running, Start, next_place}
-use Rattle.arj_script.specs.Input.{events_of}
+use Rattle.arj_law_parts.proofs.Words
+use Words.{◌≡◌, ◌≤◌, ℕ, suc, List, [], ◌∷◌, length, Some, refl, subst, arith, AllByRecursion, Event, ObjectLine, Header}
+use Rattle.arj_law_nodes.proofs.Terms.{EventInForm, HeaderInForm, Place, Start, events_of}
+use Rattle.arj_loop.specs.{Forms.HaveForms, Input.header_from}
 use Rattle.arj_script.proofs.Headers.{insert_in_form}
+use Rattle.arj_script.specs.Grammar.{Asks, Blank, Fits, Form, Nodes, Object, Objects, PlaceInForm, Run, Running, next_place}
 
 -- ---- headers
 
@@ -31,7 +26,8 @@ place_next Running (Object o) fits p = absurd fits
 place_next Running Run fits p = absurd fits
 place_next Running (Asks e) fits p = tt
 
-header_so : (lines : List (List ℕ)) (forms : List Form) (place end : Place) (n : ℕ) (os : List ObjectLine) → HaveForms place lines forms end → PlaceInForm place → header_from place forms ≡ Some (n, os) → PlaceInForm (Objects n os)
+header_so : (lines : List (List ℕ)) (forms : List Form) (place end : Place) (n : ℕ) (os : List ObjectLine) →
+    HaveForms place lines forms end → PlaceInForm place → header_from place forms ≡ Some (n, os) → PlaceInForm (Objects n os)
 header_so [] [] place end n os have p is = absurd (cc is)
 header_so [] (form ∷ forms) place end n os have p is = absurd have
 header_so (line ∷ lines) [] place end n os have p is = absurd have
@@ -39,7 +35,8 @@ header_so (line ∷ lines) (form ∷ forms) place end n os have p is =
     let fits = (let h = have.0 in h.fits) in
     by place form fits p is (header_so lines forms (next_place place form) end n os have.1 (place_next place form fits p))
   where
-    by : (place : Place) (form : Form) → Fits place form → PlaceInForm place → header_from place (form ∷ forms) ≡ Some (n, os) → (header_from (next_place place form) forms ≡ Some (n, os) → PlaceInForm (Objects n os)) → PlaceInForm (Objects n os)
+    by : (place : Place) (form : Form) → Fits place form → PlaceInForm place → header_from place (form ∷ forms) ≡ Some (n, os) →
+        (header_from (next_place place form) forms ≡ Some (n, os) → PlaceInForm (Objects n os)) → PlaceInForm (Objects n os)
     by Start Blank fits p is rest = rest is
     by Start (Nodes m) fits p is rest = rest is
     by Start (Object o) fits p is rest = rest is
@@ -48,7 +45,8 @@ header_so (line ∷ lines) (form ∷ forms) place end n os have p is =
     by (Objects m us) Blank fits p is rest = rest is
     by (Objects m us) (Nodes k) fits p is rest = rest is
     by (Objects m us) (Object o) fits p is rest = rest is
-    by (Objects m us) Run fits p is rest = let same : ◌≡◌ {A = ℕ × List ObjectLine} (m, us) (n, os) = cc is in subst (λ (q : ℕ × List ObjectLine). PlaceInForm (Objects q.0 q.1)) same p
+    by (Objects m us) Run fits p is rest = let same : ◌≡◌ {A = ℕ × List ObjectLine} (m, us) (n, os) = cc is in
+        subst (λ (q : ℕ × List ObjectLine). PlaceInForm (Objects q.0 q.1)) same p
     by (Objects m us) (Asks e) fits p is rest = rest is
     by Running Blank fits p is rest = rest is
     by Running (Nodes m) fits p is rest = rest is
@@ -56,12 +54,15 @@ header_so (line ∷ lines) (form ∷ forms) place end n os have p is =
     by Running Run fits p is rest = rest is
     by Running (Asks e) fits p is rest = rest is
 
-pub header_in_form : (lines : List (List ℕ)) (forms : List Form) (end : Place) (header : Header) → HaveForms Start lines forms end → header_from Start forms ≡ Some (header.nodes, header.objects) → HeaderInForm header
-header_in_form lines forms end header have is = let so = header_so lines forms Start end header.nodes header.objects have tt is in record { nodes = so.0; objects = so.1 }
+pub header_in_form : (lines : List (List ℕ)) (forms : List Form) (end : Place) (header : Header) → HaveForms Start lines forms end →
+    header_from Start forms ≡ Some (header.nodes, header.objects) → HeaderInForm header
+header_in_form lines forms end header have is = let so = header_so lines forms Start end header.nodes header.objects have tt is in
+    record { nodes = so.0; objects = so.1 }
 
 -- ---- events
 
-pub events_in_form : (lines : List (List ℕ)) (forms : List Form) (place end : Place) → HaveForms place lines forms end → AllByRecursion EventInForm (events_of forms)
+pub events_in_form : (lines : List (List ℕ)) (forms : List Form) (place end : Place) → HaveForms place lines forms end →
+    AllByRecursion EventInForm (events_of forms)
 events_in_form [] [] place end have = tt
 events_in_form [] (form ∷ forms) place end have = absurd have
 events_in_form (line ∷ lines) [] place end have = absurd have
@@ -73,7 +74,8 @@ events_in_form (line ∷ lines) (form ∷ forms) place end have =
     asked (Objects n os) e fits = absurd fits
     asked Running e fits = fits
 
-    by : (place : Place) (form : Form) → Fits place form → AllByRecursion EventInForm (events_of forms) → AllByRecursion EventInForm (events_of (form ∷ forms))
+    by : (place : Place) (form : Form) → Fits place form → AllByRecursion EventInForm (events_of forms) →
+        AllByRecursion EventInForm (events_of (form ∷ forms))
     by place Blank fits rest = rest
     by place (Nodes n) fits rest = rest
     by place (Object o) fits rest = rest

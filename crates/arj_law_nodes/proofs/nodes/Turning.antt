@@ -1,60 +1,33 @@
 -- Turns of nodes are moves.
-use Rattle.std.proofs.Common.{append-nil, ◌≡◌, ◌≤◌, ◌<◌, ◌++◌, ℕ, zero, suc, Bool, true, false, inl, inr, List, [], ◌∷◌, length, map, Option, Some, None, refl, sym, ◌∙◌, ap, subst, arith}
-use Rattle.std.specs.Prelude.{slice_get}
-use Rattle.std.proofs.Math.Logic.{⊎_elim}
-use Rattle.std.specs.List.{AllByRecursion}
-use Rattle.std.proofs.lemmas.List.{length-map}
-use Rattle.arj_core.specs.declared.node.Core as core
-use Rattle.arj_disk.specs.declared.disk.Disk as disk
-use Rattle.arj_journal.specs.ScriptForm.{EventInForm}
-use Rattle.arj_journal.specs.declared.event.Event.{Event}
-use Rattle.arj_journal.specs.declared.body.Line.{Line}
-use Rattle.arj_loop.specs.Input.{Arrived, script_of}
-use Rattle.arj_loop.specs.Replayed.{EndsSo}
-use Rattle.arj_loop.specs.Running as loop
-use Rattle.arj_loop.specs.Running.{MachineRuns, Stage, Why, events_run, last_body, last_lines}
-use Rattle.arj_loop.specs.declared.ending.End.{End}
-use Rattle.arj_loop.specs.declared.ending.End.TheVariants as ending
-use Rattle.arj_loop.specs.declared.machine.Machine.{Ghosts}
-use Rattle.arj_nodes.specs.AllNodes.{Task, task, world_after}
-use Rattle.arj_nodes.specs.AsMachine.{all_nodes}
-use Rattle.arj_nodes.specs.declared.all_nodes.AllNodes.{AllNodes}
-use Rattle.arj_protocol.specs.Words.{Header}
-use Rattle.arj_protocol.specs.World.{World, format, is_quiet}
-use Rattle.arj_script.specs.Grammar.{Place, Start}
-use Rattle.arj_script.specs.Input.{events_of}
-use Rattle.arj_script.specs.declared.limits.TheConstants.{SCRIPT_LINES}
-use Rattle.arj_promise.specs.Runs.{Move, all_moved, journal_by, moved, world_by}
-use Rattle.arj_promise.specs.Runs.{see}
-use Rattle.arj_world.specs.Stands.{Hand, Stands, hand}
-use Rattle.arj_world.specs.Turns.{FallsAtWorks, Turn, all_turned, turned}
-use Rattle.arj_world.proofs.Stepping.{is_there}
-use Rattle.arj_promise.specs.Runs.{most_events}
-use Rattle.arj_promise.specs.Runs.{AreMovesInForm, AreStopsInForm}
-use Rattle.arj_promise.specs.Disks.{DisksAre, IsReadingOf}
+use Rattle.arj_law_parts.proofs.Words
+use Words.{append-nil, ◌≡◌, ◌≤◌, ◌<◌, ◌++◌, ℕ, zero, suc, Bool, true, false, inl, inr, List, [], ◌∷◌, length, map, Option, Some, None, refl}
+use Words.{sym, ◌∙◌, ap, subst, arith, slice_get, AllByRecursion, length-map, Event, Line, Header, World, format, is_quiet, Move, all_moved}
+use Words.{journal_by, moved, world_by, see, most_events, AreMovesInForm, AreStopsInForm, DisksAre, IsReadingOf, EndsAtRest, IsSerialBy}
+use Words.{DisksAreInTime, ShowsOneOutcome, HoldsEach, HoldAllStates}
+use Words.event
+use Words.body
+use Rattle.arj_law_nodes.proofs.Terms
+use Terms.{⊎_elim, EventInForm, Task, task, Place, Start, events_of, hand, Turn, all_turned, turned, KeepsTheBook, Clean, Disks}
+use Terms.{first_values, SaysReadings, EndsBehind, IsLast, ends_run, EndsIdle, ShowsThePromise, Reads, readings_of}
+use Terms.core
+use Terms.disk
 use Rattle.arj_law_nodes.proofs.nodes.Ending.{one_behind, promises_stay, two_behind}
 use Rattle.arj_law_nodes.proofs.nodes.Reading.{events_in_form, few_events, header_in_form}
-use Rattle.arj_protocol.specs.Words.event
-use Rattle.arj_protocol.specs.Words.body
-use Rattle.arj_promise.specs.Promise.{EndsAtRest, KeepsThePromise}
-use Rattle.arj_law_runs.proofs.resting.GiveUps.{over_before}
-use Rattle.arj_law_promise.proofs.settling.Idle.{quiesce_said}
+use Rattle.arj_law_nodes.specs.{nodes.Promised.event_of, nodes.Readings.files_at}
+use Rattle.arj_law_nodes.specs.nodes.Turns.{Came, ClosesMove, ClosesShow, HasMoved, NodesMove, RunsShow, ScriptsMove, SoFarShows, StopsShow}
+use Rattle.arj_law_nodes.specs.nodes.Turns.{as_move}
 use Rattle.arj_law_parts.proofs.moves.Moving.{more_moves}
-use Rattle.arj_promise.specs.Serial.{IsSerialBy}
-use Rattle.arj_law_serial.specs.joint.Booked.{KeepsTheBook}
-use Rattle.arj_promise.specs.Excluded.{DisksAreInTime}
-use Rattle.arj_promise.specs.Outcome.{ShowsOneOutcome}
-use Rattle.arj_promise.specs.Held.{HoldsEach}
-use Rattle.arj_model.specs.Clean.{Clean}
-use Rattle.arj_model.specs.Disks.{Disks}
-use Rattle.arj_model.specs.Last.{first_values}
-use Rattle.arj_promise.specs.Resting.{HoldAllStates}
-use Rattle.arj_law_promise.proofs.statement.Keeping.{quiet_end, runs_keep}
-use Rattle.arj_law_nodes.specs.nodes.Cores.{SaysReadings}
-use Rattle.arj_law_nodes.specs.nodes.Last.{EndsBehind, IsLast, ends_run}
-use Rattle.arj_law_nodes.specs.nodes.Promised.{EndsIdle, ShowsThePromise, event_of}
-use Rattle.arj_law_nodes.specs.nodes.Readings.{Reads, files_at, readings_of}
-use Rattle.arj_law_nodes.specs.nodes.Turns.{Came, ClosesMove, ClosesShow, HasMoved, NodesMove, RunsShow, ScriptsMove, SoFarShows, StopsShow, as_move}
+use Rattle.arj_law_promise.proofs.{settling.Idle.quiesce_said, statement.Keeping.quiet_end, statement.Keeping.runs_keep}
+use Rattle.arj_law_runs.proofs.resting.GiveUps.{over_before}
+use Rattle.arj_loop.specs.{Input.Arrived, Input.script_of, Replayed.EndsSo, declared.ending.End.End, declared.machine.Machine.Ghosts}
+use Rattle.arj_loop.specs.Running.{MachineRuns, Stage, Why, events_run, last_body, last_lines}
+use Rattle.arj_nodes.specs.{AllNodes.world_after, AsMachine.all_nodes, declared.all_nodes.AllNodes.AllNodes}
+use Rattle.arj_promise.specs.Promise.{KeepsThePromise}
+use Rattle.arj_script.specs.declared.limits.TheConstants.{SCRIPT_LINES}
+use Rattle.arj_world.proofs.Stepping.{is_there}
+use Rattle.arj_world.specs.{Stands.Hand, Stands.Stands, Turns.FallsAtWorks}
+use Rattle.arj_loop.specs.Running as loop
+use Rattle.arj_loop.specs.declared.ending.End.TheVariants as ending
 
 pub turns_move : (ts : List Turn) (w : World) → all_turned ts w ≡ all_moved (map as_move ts) w
 turns_move [] w = refl
@@ -81,9 +54,12 @@ within (suc i) (x ∷ xs) a is = more i (length xs) (within i xs a is)
     more j k less = omega (arith, less)
 
 module _ {C D : Type 0} (c : core.Ghosts C) (d : disk.Ghosts D) (read : Reads) (says : SaysReadings c read) where
-  disks_are : (now : Hand C D) (w : World) → Stands c d.file now (record w { over = false }) → DisksAre (see [] w) (readings_of d read now.disks)
+  disks_are : (now : Hand C D) (w : World) → Stands c d.file now (record w { over = false }) →
+      DisksAre (see [] w) (readings_of d read now.disks)
   disks_are now w s zero n is = absurd (cc is)
-  disks_are now w s (suc i) n is = by (is_there i now.kept.cores (cores i (length w.nodes) now.kept.header.nodes (length now.kept.cores) (within i w.nodes n is) s.nodes.nodes_count s.nodes.cores_count)) (is_there i now.disks (disks i (length w.nodes) now.kept.header.nodes (length now.disks) (within i w.nodes n is) s.nodes.nodes_count s.nodes.disks_count))
+  disks_are now w s (suc i) n is = by (is_there i now.kept.cores (cores i (length w.nodes) now.kept.header.nodes (length now.kept.cores)
+      (within i w.nodes n is) s.nodes.nodes_count s.nodes.cores_count)) (is_there i now.disks
+      (disks i (length w.nodes) now.kept.header.nodes (length now.disks) (within i w.nodes n is) s.nodes.nodes_count s.nodes.disks_count))
     where
       cores : (i n h k : ℕ) → i < n → n ≡ h → k ≡ h → i < k
       cores i n h k less a b = omega (arith, less, a, b)
@@ -91,7 +67,8 @@ module _ {C D : Type 0} (c : core.Ghosts C) (d : disk.Ghosts D) (read : Reads) (
       disks : (i n h k : ℕ) → i < n → n ≡ h → h ≤ k → i < k
       disks i n h k less a b = omega (arith, less, a, b)
 
-      by : (one : C) × (slice_get now.kept.cores i ≡ Some one) → (one : D) × (slice_get now.disks i ≡ Some one) → IsReadingOf (readings_of d read now.disks (suc i)) n.disk
+      by : (one : C) × (slice_get now.kept.cores i ≡ Some one) → (one : D) × (slice_get now.disks i ≡ Some one) →
+          IsReadingOf (readings_of d read now.disks (suc i)) n.disk
       by (one, here) (on, there) =
           subst (λ o. IsReadingOf (read (files_at d o)) n.disk) (sym there)
           (says now.kept.header one (d.file on) n (s.nodes.each i one on n here there is))
@@ -111,7 +88,8 @@ nodes_move {C} {D} c d t over now form r =
         header = form.header;
         events = in_form r.turns (subst (AllByRecursion EventInForm) (sym r.are) form.events);
         stops = stopped r.turns r.works;
-        few = few (length (map as_move r.turns)) (length r.turns) (length (map (λ (s : Turn). s.event) r.turns)) (length t.events) (length-map r.turns as_move) (length-map r.turns (λ (s : Turn). s.event)) (ap length r.are) form.few;
+        few = few (length (map as_move r.turns)) (length r.turns) (length (map (λ (s : Turn). s.event) r.turns)) (length t.events)
+            (length-map r.turns as_move) (length-map r.turns (λ (s : Turn). s.event)) (ap length r.are) form.few;
       };
       journal = sym r.stands.lines ∙ ap (λ (v : World). v.lines) same;
       event = sym r.counted ∙ sym r.stands.event ∙ ap (λ (v : World). v.event) same;
@@ -137,7 +115,8 @@ scripts_move {C} {D} c d first rack lines place at s nodes is =
 -- ---- what that shows
 
 -- the last of moves whose events end so
-split_last : (ms : List Move) (es : List Event) (e : Event) → map event_of ms ≡ es ++ e ∷ [] → (front : List Move) × (m : Move) × (ms ≡ front ++ m ∷ []) × (event_of m ≡ e)
+split_last : (ms : List Move) (es : List Event) (e : Event) → map event_of ms ≡ es ++ e ∷ [] →
+    (front : List Move) × (m : Move) × (ms ≡ front ++ m ∷ []) × (event_of m ≡ e)
 split_last [] [] e is = absurd (cc is)
 split_last [] (x ∷ es) e is = absurd (cc is)
 split_last (m ∷ []) [] e is = ([], m, refl, cc is)
@@ -145,24 +124,39 @@ split_last (m ∷ n ∷ ms) [] e is = absurd (cc is)
 split_last (m ∷ ms) (x ∷ es) e is = let r = split_last ms es e (cc is) in (m ∷ r.0, r.1, ap (λ ns. m ∷ ns) r.2, r.3)
 
 -- where a quiesce ends a run in which no frame was too many, a line within it stands last
-ends_said : (hd : Header) (ms front : List Move) (m : Move) → ms ≡ front ++ m ∷ [] → event_of m ≡ event.Quiesce → (world_by hd ms).over ≡ false → (before : List Line) × (l : Line) × (journal_by hd ms ≡ before ++ l ∷ []) × (ends_run l.body ≡ false)
+ends_said : (hd : Header) (ms front : List Move) (m : Move) → ms ≡ front ++ m ∷ [] → event_of m ≡ event.Quiesce →
+    (world_by hd ms).over ≡ false → (before : List Line) × (l : Line) × (journal_by hd ms ≡ before ++ l ∷ []) × (ends_run l.body ≡ false)
 ends_said hd ms front m are is going =
-    let end : world_by hd ms ≡ moved m (world_by hd front) = ap (λ l. all_moved l (format hd)) are ∙ more_moves front (m ∷ []) (format hd) in
+    let end : world_by hd ms ≡ moved m (world_by hd front) = ap (λ l. all_moved l (format hd)) are
+    ∙ more_moves front (m ∷ []) (format hd) in
     let last : (moved m (world_by hd front)).over ≡ false = ap (λ (w : World). w.over) (sym end) ∙ going in
-    let s = quiesce_said m.asked (record (world_by hd front) { arms = m.falls }) is (over_before m (world_by hd front) last) last in
-    (s.0, record { event = (let v = moved m (world_by hd front) in v.event); body = body.Quiet (is_quiet (moved m (world_by hd front))) }, ap (λ (w : World). w.lines) end ∙ s.1, refl)
+    let s = quiesce_said m.asked (record (world_by hd front) { arms = m.falls }) is (over_before m (world_by hd front) last) last in (
+      s.0,
+      record { event = (let v = moved m (world_by hd front) in v.event); body = body.Quiet (is_quiet (moved m (world_by hd front))) },
+      ap (λ (w : World). w.lines) end ∙ s.1,
+      refl,
+    )
 
 module _ {C D : Type 0} (c : core.Ghosts C) (d : disk.Ghosts D) (read : Reads) (says : SaysReadings c read) where
   -- what is at hand shows the promise
   moved_shows : (t : Task D) (over : Bool) (now : Hand C D) → HasMoved c d t over now → ShowsThePromise d read t over now.journal now.disks
   moved_shows t over now h = record {
-    run = record { moves = h.moves; are = h.are; form = h.form; last = []; outside = tt; lines = h.journal ∙ sym (append-nil (journal_by t.header h.moves)); disks = are };
+    run = record {
+      moves = h.moves;
+      are = h.are;
+      form = h.form;
+      last = [];
+      outside = tt;
+      lines = h.journal ∙ sym (append-nil (journal_by t.header h.moves));
+      disks = are;
+    };
     serial = subst (IsSerialBy t.header) (sym h.journal) k.serial;
     book = subst (KeepsTheBook (first_values t.header)) (sym h.journal) k.book;
     held = subst HoldsEach (sym h.journal) k.held;
     outcome = subst ShowsOneOutcome (sym h.journal) k.outcome;
     clean = subst (λ ls. Clean t.header ls disks) (sym h.journal) (k.clean disks are);
-    in_time = subst (λ (p : ℕ × List Line). DisksAreInTime t.header p.0 p.1 disks) (λ i. (sym h.event i, sym h.journal i)) (k.in_time disks are);
+    in_time =
+        subst (λ (p : ℕ × List Line). DisksAreInTime t.header p.0 p.1 disks) (λ i. (sym h.event i, sym h.journal i)) (k.in_time disks are);
     rest = at_rest;
   }
     where
@@ -186,11 +180,20 @@ module _ {C D : Type 0} (c : core.Ghosts C) (d : disk.Ghosts D) (read : Reads) (
 
           by : (last : List Line) → IsLast last → now.journal ≡ ends.front ++ quiet ∷ last → HoldAllStates t.header now.journal disks
           by [] out line =
-              let rest : EndsAtRest t.header h.moves = quiet_end t.header h.moves l.0 h.form (record { last = l.1; are = l.2; quiesces = l.3; unlimited = h.is_over ∙ going; front = ends.front; number = ends.number; line = sym h.journal ∙ line }) in
+              let rest : EndsAtRest t.header h.moves = quiet_end t.header h.moves l.0 h.form (record {
+                last = l.1;
+                are = l.2;
+                quiesces = l.3;
+                unlimited = h.is_over ∙ going;
+                front = ends.front;
+                number = ends.number;
+                line = sym h.journal ∙ line;
+              }) in
               subst (λ ls. HoldAllStates t.header ls disks) (sym h.journal) (rest.last disks are)
           by (k ∷ []) out line =
               let s = ends_said t.header h.moves l.0 l.1 l.2 l.3 (h.is_over ∙ going) in
-              let same : k ≡ s.1 = (one_behind (ends.front ++ quiet ∷ []) s.0 k s.1 (sym (line ∙ two_behind ends.front quiet k) ∙ h.journal ∙ s.2)).1 in
+              let same : k ≡ s.1 =
+              (one_behind (ends.front ++ quiet ∷ []) s.0 k s.1 (sym (line ∙ two_behind ends.front quiet k) ∙ h.journal ∙ s.2)).1 in
               let never : true ≡ false = sym out ∙ ap (λ (z : Line). ends_run z.body) same ∙ s.3 in
               absurd (cc never)
           by (k ∷ m ∷ ks) out line = absurd out
@@ -198,10 +201,12 @@ module _ {C D : Type 0} (c : core.Ghosts C) (d : disk.Ghosts D) (read : Reads) (
   pub runs_show : RunsShow c d read
   runs_show t over now form r = moved_shows t over now (nodes_move c d t over now form r)
 
-  script_shows : (first rack : List D) (lines : List (List ℕ)) (place : Place) (at : loop.Hand (AllNodes C)) (s : Stage (all_nodes c d) first rack lines place at) (nodes : AllNodes C)
+  script_shows : (first rack : List D) (lines : List (List ℕ)) (place : Place) (at : loop.Hand (AllNodes C))
+      (s : Stage (all_nodes c d) first rack lines place at) (nodes : AllNodes C)
       → at.machine ≡ Some nodes → ShowsThePromise d read (task first s.header (events_of s.forms)) nodes.over at.journal rack
   script_shows first rack lines place at s nodes is =
-      moved_shows (task first s.header (events_of s.forms)) nodes.over (hand nodes.world rack at.journal) (scripts_move c d first rack lines place at s nodes is)
+      moved_shows (task first s.header (events_of s.forms)) nodes.over (hand nodes.world rack at.journal)
+      (scripts_move c d first rack lines place at s nodes is)
 
 -- ---- what a run leaves
 
@@ -217,7 +222,8 @@ last_is m ending.Labels count event = refl
 last_is m ending.Frames count event = tt
 last_is m ending.Format count event = tt
 
-module _ {C D : Type 0} (c : core.Ghosts C) (d : disk.Ghosts D) (given : Arrived) (first after : List D) (end : End) (journal : List Line) (e : EndsSo (all_nodes c d) given first after end journal) where
+module _ {C D : Type 0} (c : core.Ghosts C) (d : disk.Ghosts D) (given : Arrived) (first after : List D) (end : End) (journal : List Line)
+    (e : EndsSo (all_nodes c d) given first after end journal) where
   abbrev at : loop.Hand (AllNodes C)
   at = e.at
 
@@ -227,18 +233,21 @@ module _ {C D : Type 0} (c : core.Ghosts C) (d : disk.Ghosts D) (given : Arrived
   abbrev last : List Line
   last = last_lines (last_body end at.count) (events_run (all_nodes c d) at.machine)
 
-  bare : (o : Option (AllNodes C)) → o ≡ None → MachineRuns (all_nodes c d) first e.mid stage.forms (let r = e.reached in r.place) stage.header at.journal o → at.journal ≡ []
+  bare : (o : Option (AllNodes C)) → o ≡ None →
+      MachineRuns (all_nodes c d) first e.mid stage.forms (let r = e.reached in r.place) stage.header at.journal o → at.journal ≡ []
   bare None is runs = runs.4
   bare (Some nodes) is runs = absurd (cc is)
 
   none_move : at.machine ≡ None → IsLast journal
-  none_move is = subst IsLast (sym (e.journal_is ∙ ap (λ ls. ls ++ last) (bare at.machine is stage.machine_is))) (last_is (all_nodes c d) end at.count (events_run (all_nodes c d) at.machine))
+  none_move is = subst IsLast (sym (e.journal_is ∙ ap (λ ls. ls ++ last) (bare at.machine is stage.machine_is)))
+      (last_is (all_nodes c d) end at.count (events_run (all_nodes c d) at.machine))
 
   same : (nodes : AllNodes C) → at.machine ≡ Some nodes → after ≡ e.mid
   same nodes is = ⊎_elim
       (λ format.
       let r = e.reached in
-      let why = subst (λ x. Why (all_nodes c d) x (let s = script_of given in s.stopped) r.rest r.place e.mid at stage.header) format.0 r.why in
+      let why = subst (λ x. Why (all_nodes c d) x (let s = script_of given in s.stopped) r.rest r.place e.mid at stage.header) format.0
+      r.why in
       let never : Some nodes ≡ None = sym is ∙ why.5 in
       absurd (cc never))
       (λ other. other.1) e.racks
@@ -246,26 +255,38 @@ module _ {C D : Type 0} (c : core.Ghosts C) (d : disk.Ghosts D) (given : Arrived
   behind : EndsBehind at.journal journal
   behind = (last, last_is (all_nodes c d) end at.count (events_run (all_nodes c d) at.machine), e.journal_is)
 
-  ends_move : (nodes : AllNodes C) → at.machine ≡ Some nodes → HasMoved c d (task first stage.header (events_of stage.forms)) nodes.over (hand nodes.world after at.journal) × EndsBehind at.journal journal
-  ends_move nodes is =
-      (subst (λ rack. HasMoved c d (task first stage.header (events_of stage.forms)) nodes.over (hand nodes.world rack at.journal)) (sym (same nodes is)) (scripts_move c d first e.mid (let r = e.reached in r.done) (let r = e.reached in r.place) at stage nodes is), behind)
+  ends_move : (nodes : AllNodes C) → at.machine ≡ Some nodes → HasMoved c d (task first stage.header (events_of stage.forms)) nodes.over
+      (hand nodes.world after at.journal) × EndsBehind at.journal journal
+  ends_move nodes is = (
+    subst (λ rack. HasMoved c d (task first stage.header (events_of stage.forms)) nodes.over (hand nodes.world rack at.journal))
+        (sym (same nodes is)) (scripts_move c d first e.mid (let r = e.reached in r.done) (let r = e.reached in r.place) at stage nodes is),
+    behind,
+  )
 
-  ends_show : (read : Reads) → SaysReadings c read → (nodes : AllNodes C) → at.machine ≡ Some nodes → ShowsThePromise d read (task first stage.header (events_of stage.forms)) nodes.over journal after
+  ends_show : (read : Reads) → SaysReadings c read → (nodes : AllNodes C) → at.machine ≡ Some nodes →
+      ShowsThePromise d read (task first stage.header (events_of stage.forms)) nodes.over journal after
   ends_show read says nodes is =
       promises_stay d read (task first stage.header (events_of stage.forms)) nodes.over at.journal journal after behind
-      (subst (ShowsThePromise d read (task first stage.header (events_of stage.forms)) nodes.over at.journal) (sym (same nodes is)) (script_shows c d read says first e.mid (let r = e.reached in r.done) (let r = e.reached in r.place) at stage nodes is))
+      (subst (ShowsThePromise d read (task first stage.header (events_of stage.forms)) nodes.over at.journal) (sym (same nodes is))
+      (script_shows c d read says first e.mid (let r = e.reached in r.done) (let r = e.reached in r.place) at stage nodes is))
 
 pub closes_move : {C D : Type 0} (c : core.Ghosts C) (d : disk.Ghosts D) → ClosesMove c d
-closes_move c d before after answer closes = (none_move c d closes.given before.rack after.rack closes.end answer.journal closes.ends, ends_move c d closes.given before.rack after.rack closes.end answer.journal closes.ends)
+closes_move c d before after answer closes = (
+  none_move c d closes.given before.rack after.rack closes.end answer.journal closes.ends,
+  ends_move c d closes.given before.rack after.rack closes.end answer.journal closes.ends,
+)
 
 pub closes_show : {C D : Type 0} (c : core.Ghosts C) (d : disk.Ghosts D) (read : Reads) → SaysReadings c read → ClosesShow c d read
-closes_show c d read says before after answer closes = ends_show c d closes.given before.rack after.rack closes.end answer.journal closes.ends read says
+closes_show c d read says before after answer closes =
+    ends_show c d closes.given before.rack after.rack closes.end answer.journal closes.ends read says
 
 pub stops_show : {C D : Type 0} (c : core.Ghosts C) (d : disk.Ghosts D) (read : Reads) → SaysReadings c read → StopsShow c d read
 stops_show {C} {D} c d read says before after status stop = by stop.run
   where
-    by : (run : Came c d stop.given before.rack after.rack status stop.journal) → SoFarShows c d read stop.given before.rack after.rack status stop.journal run
+    by : (run : Came c d stop.given before.rack after.rack status stop.journal) →
+        SoFarShows c d read stop.given before.rack after.rack status stop.journal run
     by (inl (now, half, is, went)) = λ nodes there.
-        subst (λ ls. ShowsThePromise d read (task before.rack half.stage.header (events_of half.stage.forms)) nodes.over ls half.mid) (sym is)
+        subst (λ ls. ShowsThePromise d read (task before.rack half.stage.header (events_of half.stage.forms)) nodes.over ls half.mid)
+        (sym is)
         (script_shows c d read says before.rack half.mid half.done half.place now half.stage nodes there)
     by (inr (four, (end, ends))) = ends_show c d stop.given before.rack after.rack end stop.journal ends read says

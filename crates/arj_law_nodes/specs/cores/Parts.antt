@@ -14,4 +14,5 @@ PartsRest {O} o = (n : ℕ) (file : FileMap) (d : Disk) → RestsOn o n file d �
 
 -- and those of parts in memory
 abbrev pub PartsStand : {O : Type 0} → Ghosts O → Type 0
-PartsStand {O} o = (n : ℕ) (p : Kept O) (file : FileMap) (h : Here) → StandsOn o n p file h → IsReadingOf (reading_of o file) (let g = h in g.disk)
+PartsStand {O} o = (n : ℕ) (p : Kept O) (file : FileMap) (h : Here) → StandsOn o n p file h →
+    IsReadingOf (reading_of o file) (let g = h in g.disk)

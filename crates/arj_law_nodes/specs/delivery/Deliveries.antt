@@ -30,15 +30,18 @@ pub record Delivers (e : Event) (k : FrameNo) (w : World) : Type 0 where
 
 -- In each world that a run of events leaves, whatever stops fall, a delivery is said to be taken.
 abbrev pub RunsTake : Type 0
-RunsTake = (hd : Header) → HeaderInForm hd → (ms : List Move) (m : Move) (k : FrameNo) → (let w = world_by hd ms in Delivers m.asked.event k w → IsTaken (frame_number k w) w (moved m w))
+RunsTake = (hd : Header) → HeaderInForm hd → (ms : List Move) (m : Move) (k : FrameNo) →
+    (let w = world_by hd ms in Delivers m.asked.event k w → IsTaken (frame_number k w) w (moved m w))
 
 -- and so it is in each that turns of nodes leave, with the stops that disks make
 abbrev pub TurnsTake : Type 0
-TurnsTake = (hd : Header) → HeaderInForm hd → (ts : List Turn) (t : Turn) (k : FrameNo) → (let w = all_turned ts (format hd) in Delivers t.event k w → IsTaken (frame_number k w) w (turned t w))
+TurnsTake = (hd : Header) → HeaderInForm hd → (ts : List Turn) (t : Turn) (k : FrameNo) →
+    (let w = all_turned ts (format hd) in Delivers t.event k w → IsTaken (frame_number k w) w (turned t w))
 
 -- each event of a kind with a line of its own writes it, or why it didn't
 abbrev pub RunsWriteTheirLines : Type 0
-RunsWriteTheirLines = (hd : Header) → HeaderInForm hd → (ms : List Move) (m : Move) → has_own m.asked.event ≡ true → (let w = world_by hd ms in w.over ≡ false → Writes m.asked.event w (moved m w))
+RunsWriteTheirLines = (hd : Header) → HeaderInForm hd → (ms : List Move) (m : Move) → has_own m.asked.event ≡ true →
+    (let w = world_by hd ms in w.over ≡ false → Writes m.asked.event w (moved m w))
 
 -- and it owes that line whatever stops fell where in turns of nodes
 abbrev pub TurnsOweTheirLines : Type 0

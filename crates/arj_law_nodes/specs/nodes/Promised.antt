@@ -36,8 +36,8 @@ pub record EndsIdle (events : List Event) (lines : List Line) : Type 0 where
 abbrev pub event_of : Move → Event
 event_of m = let a = m.asked in a.event
 
--- The journal, but for lines outside of events, is that of a run in form of the protocol with these events, whatever stops fell in it; and each
--- node's disk is what the files of its disk say: its pairs, its records and its incarnation.
+-- The journal, but for lines outside of events, is that of a run in form of the protocol with these events, whatever stops fell in it; and
+-- each node's disk is what the files of its disk say: its pairs, its records and its incarnation.
 pub record IsOfRun {D : Type 0} (d : disk.Ghosts D) (read : Reads) (t : Task D) (journal : List Line) (rack : List D) : Type 0 where
   pub moves : List Move
   pub are : map event_of moves ≡ t.events
@@ -47,9 +47,10 @@ pub record IsOfRun {D : Type 0} (d : disk.Ghosts D) (read : Reads) (t : Task D) 
   pub lines : journal ≡ journal_by t.header moves ++ last
   pub disks : DisksAre (see [] (world_by t.header moves)) (readings_of d read rack)
 
--- A run shows the promise (`arj_law_promise/statement`): by its journal, which may have a line outside of events behind it, and by the files of its disks, as
--- they are read. Whether the run is over, since a frame was too many, is told beside.
-pub record ShowsThePromise {D : Type 0} (d : disk.Ghosts D) (read : Reads) (t : Task D) (over : Bool) (journal : List Line) (rack : List D) : Type 0 where
+-- A run shows the promise (`arj_law_promise/statement`): by its journal, which may have a line outside of events behind it, and by the
+-- files of its disks, as they are read. Whether the run is over, since a frame was too many, is told beside.
+pub record ShowsThePromise {D : Type 0} (d : disk.Ghosts D) (read : Reads) (t : Task D) (over : Bool) (journal : List Line)
+    (rack : List D) : Type 0 where
   -- it is a run of the protocol, whose nodes' disks the files say
   pub run : IsOfRun d read t journal rack
   -- committed tops got the answers of running them alone, one after another, and so did nested actions, each whole at its commit
@@ -65,8 +66,10 @@ pub record ShowsThePromise {D : Type 0} (d : disk.Ghosts D) (read : Reads) (t : 
   -- each listed store of what a top of the last event wrote holds the last state, has it prepared, or is about to be taken out
   pub in_time : DisksAreInTime (let a = t in a.header) (let a = t in length a.events) journal (readings_of d read rack)
   -- and where the last event left nothing to do, and said so, disks hold all of these with no exception
-  pub rest : over ≡ false → EndsIdle (let a = t in a.events) journal → HoldAllStates (let a = t in a.header) journal (readings_of d read rack)
+  pub rest : over ≡ false → EndsIdle (let a = t in a.events) journal →
+      HoldAllStates (let a = t in a.header) journal (readings_of d read rack)
 
 -- a line outside of events, behind a journal, takes nothing of what the journal shows
 abbrev pub PromisesStay : {D : Type 0} → disk.Ghosts D → Type 0
-PromisesStay {D} d = (read : Reads) (t : Task D) (over : Bool) (core journal : List Line) (rack : List D) → EndsBehind core journal → ShowsThePromise d read t over core rack → ShowsThePromise d read t over journal rack
+PromisesStay {D} d = (read : Reads) (t : Task D) (over : Bool) (core journal : List Line) (rack : List D) → EndsBehind core journal →
+    ShowsThePromise d read t over core rack → ShowsThePromise d read t over journal rack

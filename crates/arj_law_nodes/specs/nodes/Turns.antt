@@ -42,8 +42,8 @@ pub record IsTaskInForm {D : Type 0} (t : Task D) : Type 0 where
   pub events : AllByRecursion EventInForm t.events
   pub few : length t.events ≤ most_events
 
--- What is at hand is what a run in form makes of these events: its journal, its count of events and whether it is over; and the disks are those of
--- its nodes, in whichever way of reading files cores say so.
+-- What is at hand is what a run in form makes of these events: its journal, its count of events and whether it is over; and the disks are
+-- those of its nodes, in whichever way of reading files cores say so.
 pub record HasMoved {C D : Type 0} (c : core.Ghosts C) (d : disk.Ghosts D) (t : Task D) (over : Bool) (now : Hand C D) : Type 0 where
   pub moves : List Move
   pub are : map event_of moves ≡ t.events
@@ -59,51 +59,65 @@ NodesMove {C} {D} c d = (t : Task D) (over : Bool) (now : Hand C D) → IsTaskIn
 
 -- and so it is of what they ran of a script's lines, once they are there, however the script's run ends
 abbrev pub ScriptsMove : {C D : Type 0} → core.Ghosts C → disk.Ghosts D → Type 0
-ScriptsMove {C} {D} c d = (first rack : List D) (lines : List (List ℕ)) (place : Place) (at : loop.Hand (AllNodes C)) (s : Stage (all_nodes c d) first rack lines place at) (nodes : AllNodes C)
+ScriptsMove {C} {D} c d = (first rack : List D) (lines : List (List ℕ)) (place : Place) (at : loop.Hand (AllNodes C))
+    (s : Stage (all_nodes c d) first rack lines place at) (nodes : AllNodes C)
     → at.machine ≡ Some nodes → HasMoved c d (task first s.header (events_of s.forms)) nodes.over (hand nodes.world rack at.journal)
 
 -- ---- what a run leaves
 
 -- So it is of what a run of a script leaves at each status but 4 and 5: where nodes were formatted its journal is that of the events
--- that came, and the files of the disks that it leaves are theirs; a line outside of events may stand behind. Else there is that line at most.
+-- that came, and the files of the disks that it leaves are theirs; a line outside of events may stand behind. Else there is that line at
+-- most.
 abbrev pub ClosesMove : {C D : Type 0} → core.Ghosts C → disk.Ghosts D → Type 0
 ClosesMove {C} {D} c d = (before after : Outside D) (answer : Answer (AllNodes C)) (closes : Closes (all_nodes c d) before after answer)
     → ((let e = closes.ends in let at = e.at in at.machine) ≡ None → IsLast answer.journal)
     × ((nodes : AllNodes C) → (let e = closes.ends in let at = e.at in at.machine) ≡ Some nodes
-    → (let e = closes.ends in let r = e.reached in let s = r.stage in let at = e.at in HasMoved c d (task before.rack s.header (events_of s.forms)) nodes.over (hand nodes.world after.rack at.journal))
+    → (let e = closes.ends in let r = e.reached in let s = r.stage in let at = e.at in
+    HasMoved c d (task before.rack s.header (events_of s.forms)) nodes.over (hand nodes.world after.rack at.journal))
     × EndsBehind (let e = closes.ends in let at = e.at in at.journal) answer.journal)
 
 -- ---- what that shows
 
 -- where cores say by their files, read so, what their nodes have on disk, all that nodes run over disks shows the promise
 abbrev pub RunsShow : {C D : Type 0} → core.Ghosts C → disk.Ghosts D → Reads → Type 0
-RunsShow {C} {D} c d read = (t : Task D) (over : Bool) (now : Hand C D) → IsTaskInForm t → RanAll c d t over now → ShowsThePromise d read t over now.journal now.disks
+RunsShow {C} {D} c d read = (t : Task D) (over : Bool) (now : Hand C D) → IsTaskInForm t → RanAll c d t over now →
+    ShowsThePromise d read t over now.journal now.disks
 
 -- What a run of a script leaves at each status but 4 and 5 shows it, once nodes were formatted.
-abbrev pub CloseShows : {C D : Type 0} (c : core.Ghosts C) (d : disk.Ghosts D) → Reads → (before after : Outside D) (answer : Answer (AllNodes C)) → Closes (all_nodes c d) before after answer → Type 0
-CloseShows {C} c d read before after answer closes = (nodes : AllNodes C) → (let e = closes.ends in let at = e.at in at.machine) ≡ Some nodes
-    → (let e = closes.ends in let r = e.reached in let s = r.stage in ShowsThePromise d read (task before.rack s.header (events_of s.forms)) nodes.over answer.journal after.rack)
+abbrev pub CloseShows : {C D : Type 0} (c : core.Ghosts C) (d : disk.Ghosts D) → Reads →
+    (before after : Outside D) (answer : Answer (AllNodes C)) → Closes (all_nodes c d) before after answer → Type 0
+CloseShows {C} c d read before after answer closes = (nodes : AllNodes C) →
+    (let e = closes.ends in let at = e.at in at.machine) ≡ Some nodes
+    → (let e = closes.ends in let r = e.reached in let s = r.stage in
+    ShowsThePromise d read (task before.rack s.header (events_of s.forms)) nodes.over answer.journal after.rack)
 
 -- so it does
 abbrev pub ClosesShow : {C D : Type 0} → core.Ghosts C → disk.Ghosts D → Reads → Type 0
-ClosesShow {C} {D} c d read = (before after : Outside D) (answer : Answer (AllNodes C)) (closes : Closes (all_nodes c d) before after answer) → CloseShows c d read before after answer closes
+ClosesShow {C} {D} c d read = (before after : Outside D) (answer : Answer (AllNodes C))
+    (closes : Closes (all_nodes c d) before after answer) → CloseShows c d read before after answer closes
 
 -- How far a run came that stopped short.
 abbrev pub Came : {C D : Type 0} → core.Ghosts C → disk.Ghosts D → Arrived → List D → List D → ℕ → List Line → Type 0
-Came c d given first after status journal = ComesSoFar (all_nodes c d) given first after journal ⊎ ((status ≡ 4) × ((end : End) × EndsSo (all_nodes c d) given first after end journal))
+Came c d given first after status journal = ComesSoFar (all_nodes c d) given first after journal
+    ⊎ ((status ≡ 4) × ((end : End) × EndsSo (all_nodes c d) given first after end journal))
 
--- Of a run that came so far the journal shows it, once nodes were formatted: with the disks as they were behind it, or with those that the run left
--- where it came to its end.
-abbrev pub SoFarShows : {C D : Type 0} (c : core.Ghosts C) (d : disk.Ghosts D) → Reads → (given : Arrived) (first after : List D) (status : ℕ) (journal : List Line) → Came c d given first after status journal → Type 0
+-- Of a run that came so far the journal shows it, once nodes were formatted: with the disks as they were behind it, or with those that the
+-- run left where it came to its end.
+abbrev pub SoFarShows : {C D : Type 0} (c : core.Ghosts C) (d : disk.Ghosts D) → Reads →
+    (given : Arrived) (first after : List D) (status : ℕ) (journal : List Line) → Came c d given first after status journal → Type 0
 SoFarShows {C} c d read given first after status journal (inl (at, half, is, went)) = (nodes : AllNodes C) → at.machine ≡ Some nodes
     → (let h = half in let s = h.stage in ShowsThePromise d read (task first s.header (events_of s.forms)) nodes.over journal h.mid)
-SoFarShows {C} c d read given first after status journal (inr (is, (end, ends))) = (nodes : AllNodes C) → (let e = ends in let at = e.at in at.machine) ≡ Some nodes
-    → (let e = ends in let r = e.reached in let s = r.stage in ShowsThePromise d read (task first s.header (events_of s.forms)) nodes.over journal after)
+SoFarShows {C} c d read given first after status journal (inr (is, (end, ends))) = (nodes : AllNodes C) →
+    (let e = ends in let at = e.at in at.machine) ≡ Some nodes
+    → (let e = ends in let r = e.reached in let s = r.stage in
+    ShowsThePromise d read (task first s.header (events_of s.forms)) nodes.over journal after)
 
 -- so it is of the journal of which the sink took a front, at the status 4 and 5
-abbrev pub StopShows : {C D : Type 0} (c : core.Ghosts C) (d : disk.Ghosts D) → Reads → (before after : Outside D) (status : ℕ) → StopsShort (all_nodes c d) before after status → Type 0
+abbrev pub StopShows : {C D : Type 0} (c : core.Ghosts C) (d : disk.Ghosts D) → Reads → (before after : Outside D) (status : ℕ) →
+    StopsShort (all_nodes c d) before after status → Type 0
 StopShows c d read before after status s = SoFarShows c d read s.given before.rack after.rack status s.journal s.run
 
 -- of every such run
 abbrev pub StopsShow : {C D : Type 0} → core.Ghosts C → disk.Ghosts D → Reads → Type 0
-StopsShow {C} {D} c d read = (before after : Outside D) (status : ℕ) (s : StopsShort (all_nodes c d) before after status) → StopShows c d read before after status s
+StopsShow {C} {D} c d read = (before after : Outside D) (status : ℕ) (s : StopsShort (all_nodes c d) before after status) →
+    StopShows c d read before after status s

@@ -1,29 +1,28 @@
--- What a coordinator does, as a trace of small steps, each with its reason. Reasons speak of the coordinator as it was when what came came to it.
+-- What a coordinator does, as a trace of small steps, each with its reason. Reasons speak of the coordinator as it was when what came came
+-- to it.
 -- `Walks` shows that each handler is a trace; a law on coordinators shows what the small steps do with it, and takes the rest from here.
-use Rattle.std.proofs.Common.{◌≡◌, ◌⊎◌, ◌+◌, ℕ, List, [], ◌∷◌, ◌++◌, true, false, Option, Some, None}
-use Rattle.std.specs.List.{AllByRecursion}
-use Rattle.arj_lock.proofs.Members.{In}
-use Rattle.arj_protocol.specs.Words.{Uid, End, Kind, Path, Op, Body, Cause, Label, ObjectState, Ask, Asked, uids_of, request}
-use Rattle.arj_protocol.specs.Words.body
-use Rattle.arj_protocol.specs.Words.cause
-use Rattle.arj_protocol.specs.Words.ending
-use Rattle.arj_protocol.specs.Words.kind
-use Rattle.arj_protocol.specs.Words.voted
-use Rattle.arj_protocol.specs.Words.prepared
-use Rattle.arj_protocol.specs.Words.confirmed
-use Rattle.arj_protocol.specs.Ask.{Reply, actor}
-use Rattle.arj_protocol.specs.Asking.{began_line, begin_action, call_steps, renewed, next_req, last_req, root_heard, root_moved, root_lost, kept_at, end_line, commits_in, waits_for_call, waits_for_commit, is_invoke_ask}
-use Rattle.arj_protocol.specs.Call.{Steps, At, CallStep, On, Ended, CallEnd, Lost, Moved, answered, given_up, next_node, next_ask, start}
-use Rattle.arj_protocol.specs.Call as calls
-use Rattle.arj_protocol.specs.Commit.{Plan, Machine, Stays, Asks, Decides, Aborts, Marked, plan_of, left_of, ask_of, participants, has_record, servers_of, targets_of, nodes_given_up, further, marks_store, with_states, is_empty}
-use Rattle.arj_protocol.specs.Commit as commit
-use Rattle.arj_protocol.specs.Coord.{Coord, Doing, Now, Idle, Calling, Committing, Keeping, doing_of, on_doing, on_root, root_at, keeping_of, is_free, nodes_sent, servers_told, plan_for, with_keeping, with_went}
-use Rattle.arj_protocol.specs.Effect.{Effect, Say, Send, Do, PutIntent, RemoveIntent, Intent}
-use Rattle.arj_protocol.specs.Ending.{tell, up_to, is_deferred, ended, root_after, is_over, let_go}
-use Rattle.arj_protocol.specs.Order.{at_uid, has, put_uid, unbound, with_number, without_number, without_uid}
-use Rattle.arj_protocol.specs.Step.{Input, branch_named, parent_of}
-use Rattle.arj_protocol.specs.Step as input
-use Rattle.arj_protocol.specs.Tree.{Branch, branch_of, next_uid, ends_of, is_nested, is_serial, root_of, open_below, uses_object, doomed_at}
+use Rattle.arj_law_parts.proofs.Words
+use Words.{◌≡◌, ◌⊎◌, ◌+◌, ℕ, List, [], ◌∷◌, ◌++◌, true, false, Option, Some, None, AllByRecursion, In, Uid, End, Kind, Path, Op, Body}
+use Words.{Cause, Label, ObjectState, Ask, Asked, uids_of, request, Reply, actor, began_line, begin_action, call_steps, renewed, next_req}
+use Words.{last_req, root_heard, root_moved, root_lost, kept_at, end_line, commits_in, waits_for_call, waits_for_commit, is_invoke_ask}
+use Words.{Steps, At, CallStep, On, Ended, CallEnd, Lost, Moved, answered, given_up, next_node, next_ask, start, Plan, Machine, Stays, Asks}
+use Words.{Decides, Aborts, Marked, plan_of, left_of, ask_of, participants, has_record, servers_of, targets_of, nodes_given_up, further}
+use Words.{marks_store, with_states, is_empty, Coord, Doing, Now, Idle, Calling, Committing, Keeping, doing_of, on_doing, on_root, root_at}
+use Words.{keeping_of, is_free, nodes_sent, servers_told, plan_for, with_keeping, with_went, Effect, Say, Send, Do, PutIntent, RemoveIntent}
+use Words.{Intent, tell, up_to, is_deferred, ended, root_after, let_go, at_uid, has, put_uid, unbound, with_number, without_number}
+use Words.{without_uid, Input, branch_named, parent_of, Branch, branch_of, next_uid, ends_of, is_nested, is_serial, root_of, open_below}
+use Words.{uses_object, doomed_at}
+use Words.body
+use Words.cause
+use Words.ending
+use Words.kind
+use Words.voted
+use Words.prepared
+use Words.confirmed
+use Words.calls
+use Words.commit
+use Words.input
+use Rattle.arj_law_parts.proofs.Terms.{is_over}
 
 -- What comes to a coordinator: an input, an answer, an acknowledgement, a tick. With the records on its disk, where they matter.
 pub data Came : Type 0 where
@@ -46,9 +45,11 @@ turned s r c = answered (is_free (root_of s.path) (actor s.path) s.x c) (kept_at
 
 -- A call that waits is answered, or given up: what comes next, and the coordinator once the root has noted it.
 pub data CallTurn (c : Coord) : Came → Steps → CallStep → Coord → Type 0 where
-  Answers : (from : ℕ) (a : Asked) (r : Reply) (intents : List (Uid × Intent)) (d : Doing) (s : Steps) → doing_of a.act c ≡ Some d → d.now ≡ Calling s → waits_for_call from a r s ≡ true
+  Answers : (from : ℕ) (a : Asked) (r : Reply) (intents : List (Uid × Intent)) (d : Doing) (s : Steps) → doing_of a.act c ≡ Some d →
+      d.now ≡ Calling s → waits_for_call from a r s ≡ true
       → CallTurn c (Hears from a r intents) s (turned s r c).step (on_root (root_of s.path) (root_moved s r (turned s r c)) c)
-  GivesUp : (l : Label) (b : Branch) (intents : List (Uid × Intent)) (d : Doing) (s : Steps) → branch_named l c ≡ Some b → doing_of (actor b.path) c ≡ Some d → d.now ≡ Calling s
+  GivesUp : (l : Label) (b : Branch) (intents : List (Uid × Intent)) (d : Doing) (s : Steps) → branch_named l c ≡ Some b →
+      doing_of (actor b.path) c ≡ Some d → d.now ≡ Calling s
       → CallTurn c (Takes (input.GiveUp l) intents) s (given_up s.at) (on_root (root_of s.path) (root_lost s (given_up s.at)) c)
 
 -- what is kept of the object of a call that begins
@@ -65,28 +66,37 @@ renewed_at p x c = on_root (root_of p) (with_keeping x (kept_at_start p x c)) (u
 -- The action waits in these steps of a call, from this coordinator on or still.
 pub data Calls (c : Coord) : Came → Coord → Uid → Steps → Type 0 where
   StartsCall : (l : Label) (x : ℕ) (o : Op) (b : Branch) (intents : List (Uid × Intent)) → branch_named l c ≡ Some b
-      → Calls c (Takes (input.Call l x o) intents) (renewed_at b.path x c) (actor b.path) (call_steps b.path x o (next_req (actor b.path) c) (root_at (root_of b.path) c) c (kept_at_start b.path x c))
+      → Calls c (Takes (input.Call l x o) intents) (renewed_at b.path x c) (actor b.path)
+      (call_steps b.path x o (next_req (actor b.path) c) (root_at (root_of b.path) c) c (kept_at_start b.path x c))
   StartsInclude : (l : Label) (x store : ℕ) (b : Branch) (intents : List (Uid × Intent)) → branch_named l c ≡ Some b
-      → Calls c (Takes (input.Include l x store) intents) (used_at b.path x c) (actor b.path) (start b.path x (calls.Include store) None unbound (next_req (actor b.path) c))
-  GoesOn : {came : Came} (s : Steps) (t : CallStep) (e : Coord) (at : At) → CallTurn c came s t e → t ≡ On at → Calls c came e (actor s.path) (record s { req = s.req + 1; at = at })
+      → Calls c (Takes (input.Include l x store) intents) (used_at b.path x c) (actor b.path)
+      (start b.path x (calls.Include store) None unbound (next_req (actor b.path) c))
+  GoesOn : {came : Came} (s : Steps) (t : CallStep) (e : Coord) (at : At) → CallTurn c came s t e → t ≡ On at →
+      Calls c came e (actor s.path) (record s { req = s.req + 1; at = at })
   CallsAgain : (u : Uid) (d : Doing) (s : Steps) → doing_of u c ≡ Some d → d.now ≡ Calling s → Calls c Ticks c u s
 
 -- ---- commits
 
 -- A commit begins, is answered, or is given up: what comes next.
 pub data CommitTurn (c : Coord) : Came → Uid → Marked → Type 0 where
-  BeginsCommit : (l : Label) (b : Branch) (intents : List (Uid × Intent)) → branch_named l c ≡ Some b → b.doomed ≡ false → is_nested b.kind ≡ false → is_serial b.kind ≡ false
-      → CommitTurn c (Takes (input.Commit l) intents) (actor b.path) (commit.start (plan_for b.path (last_req (doing_of (actor b.path) c)) (root_at (root_of b.path) c) c))
-  AnswersCommit : (from : ℕ) (a : Asked) (r : Reply) (intents : List (Uid × Intent)) (d : Doing) (m : Machine) → doing_of a.act c ≡ Some d → d.now ≡ Committing m → waits_for_commit from a r m ≡ true
+  BeginsCommit : (l : Label) (b : Branch) (intents : List (Uid × Intent)) → branch_named l c ≡ Some b → b.doomed ≡ false →
+      is_nested b.kind ≡ false → is_serial b.kind ≡ false
+      → CommitTurn c (Takes (input.Commit l) intents) (actor b.path)
+      (commit.start (plan_for b.path (last_req (doing_of (actor b.path) c)) (root_at (root_of b.path) c) c))
+  AnswersCommit : (from : ℕ) (a : Asked) (r : Reply) (intents : List (Uid × Intent)) (d : Doing) (m : Machine) → doing_of a.act c ≡ Some d →
+      d.now ≡ Committing m → waits_for_commit from a r m ≡ true
       → CommitTurn c (Hears from a r intents) a.act (commit.answered from m r)
-  GivesCommitUp : (l : Label) (b : Branch) (intents : List (Uid × Intent)) (d : Doing) (m : Machine) → branch_named l c ≡ Some b → doing_of (actor b.path) c ≡ Some d → d.now ≡ Committing m
+  GivesCommitUp : (l : Label) (b : Branch) (intents : List (Uid × Intent)) (d : Doing) (m : Machine) → branch_named l c ≡ Some b →
+      doing_of (actor b.path) c ≡ Some d → d.now ≡ Committing m
       → CommitTurn c (Takes (input.GiveUp l) intents) (actor b.path) (commit.given_up m)
 
 -- the plan that a commit has as it turns, with the nodes that haven't answered
 pub data PlanFrom (c : Coord) : Came → Uid → Plan → List ℕ → Type 0 where
   NewPlan : (l : Label) (b : Branch) (intents : List (Uid × Intent)) → branch_named l c ≡ Some b
-      → PlanFrom c (Takes (input.Commit l) intents) (actor b.path) (plan_for b.path (last_req (doing_of (actor b.path) c)) (root_at (root_of b.path) c) c) []
-  OldPlan : {came : Came} (u : Uid) (d : Doing) (m : Machine) → doing_of u c ≡ Some d → d.now ≡ Committing m → PlanFrom c came u (plan_of m) (left_of m)
+      → PlanFrom c (Takes (input.Commit l) intents) (actor b.path)
+      (plan_for b.path (last_req (doing_of (actor b.path) c)) (root_at (root_of b.path) c) c) []
+  OldPlan : {came : Came} (u : Uid) (d : Doing) (m : Machine) → doing_of u c ≡ Some d → d.now ≡ Committing m →
+      PlanFrom c came u (plan_of m) (left_of m)
 
 -- whom the next step of a commit asks: the servers, the stores, or naming
 pub data IsAsked (p : Plan) : List ℕ → Type 0 where
@@ -100,7 +110,8 @@ pub data PlanMove : Came → Plan → Plan → Type 0 where
       → PlanMove (Hears from a (Reply.Voted (voted.Yes states)) intents) p (record p { changed = with_states states p.changed })
   Prepares : (from : ℕ) (a : Asked) (intents : List (Uid × Intent)) (p : Plan)
       → PlanMove (Hears from a (Reply.Prepared prepared.Yes) intents) p (record p { prepared = with_number from p.prepared })
-  Confirms : (from : ℕ) (a : Asked) (intents : List (Uid × Intent)) (p : Plan) → PlanMove (Hears from a (Reply.Confirmed confirmed.Yes) intents) p (record p { confirmed = true })
+  Confirms : (from : ℕ) (a : Asked) (intents : List (Uid × Intent)) (p : Plan) →
+      PlanMove (Hears from a (Reply.Confirmed confirmed.Yes) intents) p (record p { confirmed = true })
   Marks : {came : Came} (n : ℕ) (p : Plan) → PlanMove came p (marks_store n p)
   GoesFurther : {came : Came} (ns : List ℕ) (p : Plan) → IsAsked p ns → PlanMove came p (further ns p)
 
@@ -147,28 +158,37 @@ pub data Commits (c : Coord) : Came → Uid → Machine → Type 0 where
 
 -- An action ends so, with this line.
 pub data Ends (c : Coord) : Came → Uid → End → (Label → Body) → Type 0 where
-  EndsNested : (l : Label) (b : Branch) (intents : List (Uid × Intent)) → branch_named l c ≡ Some b → b.doomed ≡ false → b.kind ≡ kind.Nested
+  EndsNested : (l : Label) (b : Branch) (intents : List (Uid × Intent)) → branch_named l c ≡ Some b → b.doomed ≡ false →
+      b.kind ≡ kind.Nested
       → Ends c (Takes (input.Commit l) intents) (actor b.path) ending.Commit body.Committed
-  EndsSerial : (l : Label) (b : Branch) (intents : List (Uid × Intent)) → branch_named l c ≡ Some b → b.doomed ≡ false → b.kind ≡ kind.Serial
+  EndsSerial : (l : Label) (b : Branch) (intents : List (Uid × Intent)) → branch_named l c ≡ Some b → b.doomed ≡ false →
+      b.kind ≡ kind.Serial
       → Ends c (Takes (input.Commit l) intents) (actor b.path) ending.Commit body.Ended
   EndsDoomed : (l : Label) (b : Branch) (intents : List (Uid × Intent)) → branch_named l c ≡ Some b → b.doomed ≡ true
       → Ends c (Takes (input.Commit l) intents) (actor b.path) ending.Abort (λ k. body.Aborted k cause.Doomed)
-  EndsAsked : (l : Label) (b : Branch) (intents : List (Uid × Intent)) (u : Uid) → branch_named l c ≡ Some b → In u (open_below (actor b.path) c.tree ++ actor b.path ∷ [])
+  EndsAsked : (l : Label) (b : Branch) (intents : List (Uid × Intent)) (u : Uid) → branch_named l c ≡ Some b →
+      In u (open_below (actor b.path) c.tree ++ actor b.path ∷ [])
       → Ends c (Takes (input.Abort l) intents) u ending.Abort (λ k. body.Aborted k cause.Asked)
-  EndsFailed : {came : Came} (u : Uid) (k : Marked) (why : Cause) (p : Plan) → CommitTurn c came u k → k.step ≡ Aborts why p → Ends c came u ending.Abort (λ l. body.Aborted l why)
+  EndsFailed : {came : Came} (u : Uid) (k : Marked) (why : Cause) (p : Plan) → CommitTurn c came u k → k.step ≡ Aborts why p →
+      Ends c came u ending.Abort (λ l. body.Aborted l why)
   EndsDecided : {came : Came} (u : Uid) (p : Plan) → CommitEnds c came u p → Ends c came (actor p.path) ending.Commit body.Committed
 
 -- ---- what is said and asked
 
 -- a line about an action
 pub data Lines (c : Coord) : Came → Uid → (Label → Body) → Type 0 where
-  CallEnds : {came : Came} (s : Steps) (t : CallStep) (e : Coord) (g : CallEnd) → CallTurn c came s t e → t ≡ Ended g → Lines c came (actor s.path) (end_line s.x s.goal g)
-  Excludes : {came : Came} (u : Uid) (k : Marked) (m : ℕ × ℕ) → CommitTurn c came u k → In m k.marks → Lines c came u (λ l. body.Excluded l m.0 m.1)
-  GaveUpCall : (l : Label) (b : Branch) (intents : List (Uid × Intent)) (d : Doing) (s : Steps) → branch_named l c ≡ Some b → doing_of (actor b.path) c ≡ Some d → d.now ≡ Calling s
+  CallEnds : {came : Came} (s : Steps) (t : CallStep) (e : Coord) (g : CallEnd) → CallTurn c came s t e → t ≡ Ended g →
+      Lines c came (actor s.path) (end_line s.x s.goal g)
+  Excludes : {came : Came} (u : Uid) (k : Marked) (m : ℕ × ℕ) → CommitTurn c came u k → In m k.marks →
+      Lines c came u (λ l. body.Excluded l m.0 m.1)
+  GaveUpCall : (l : Label) (b : Branch) (intents : List (Uid × Intent)) (d : Doing) (s : Steps) → branch_named l c ≡ Some b →
+      doing_of (actor b.path) c ≡ Some d → d.now ≡ Calling s
       → Lines c (Takes (input.GiveUp l) intents) (actor b.path) (λ k. body.GaveUp k (next_node s))
-  GaveUpCommit : (l : Label) (b : Branch) (intents : List (Uid × Intent)) (d : Doing) (m : Machine) (n : ℕ) → branch_named l c ≡ Some b → doing_of (actor b.path) c ≡ Some d → d.now ≡ Committing m → In n (nodes_given_up m)
+  GaveUpCommit : (l : Label) (b : Branch) (intents : List (Uid × Intent)) (d : Doing) (m : Machine) (n : ℕ) → branch_named l c ≡ Some b →
+      doing_of (actor b.path) c ≡ Some d → d.now ≡ Committing m → In n (nodes_given_up m)
       → Lines c (Takes (input.GiveUp l) intents) (actor b.path) (λ k. body.GaveUp k n)
-  CommitBegins : (l : Label) (b : Branch) (intents : List (Uid × Intent)) → branch_named l c ≡ Some b → b.doomed ≡ false → is_nested b.kind ≡ false → is_serial b.kind ≡ false
+  CommitBegins : (l : Label) (b : Branch) (intents : List (Uid × Intent)) → branch_named l c ≡ Some b → b.doomed ≡ false →
+      is_nested b.kind ≡ false → is_serial b.kind ≡ false
       → Lines c (Takes (input.Commit l) intents) (actor b.path) body.Committing
   ActionEnds : {came : Came} (u : Uid) (how : End) (f : Label → Body) → Ends c came u how f → Lines c came u f
 
@@ -182,8 +202,10 @@ IsEndedSo e u how = (b : Branch) → branch_of u e.tree ≡ Some b → b.ended �
 
 -- A request: of an action with this path, by this number, to a node. The action waits for its answer.
 pub data Requests (c : Coord) : Came → Coord → Path → ℕ → ℕ → Ask → Type 0 where
-  OfCall : {came : Came} (u : Uid) (s : Steps) (f e : Coord) → Calls c came f u s → e.tree ≡ f.tree → IsAt e u (Calling s) → Requests c came e s.path s.req (next_node s) (next_ask (ends_of (root_of s.path) e.tree) s)
-  OfCommit : {came : Came} (u : Uid) (m : Machine) (n : ℕ) (e : Coord) → Commits c came u m → In n (left_of m) → e.tree ≡ c.tree → IsAt e u (Committing m) → Requests c came e (plan_of m).path (plan_of m).req n (ask_of m n)
+  OfCall : {came : Came} (u : Uid) (s : Steps) (f e : Coord) → Calls c came f u s → e.tree ≡ f.tree → IsAt e u (Calling s) →
+      Requests c came e s.path s.req (next_node s) (next_ask (ends_of (root_of s.path) e.tree) s)
+  OfCommit : {came : Came} (u : Uid) (m : Machine) (n : ℕ) (e : Coord) → Commits c came u m → In n (left_of m) → e.tree ≡ c.tree →
+      IsAt e u (Committing m) → Requests c came e (plan_of m).path (plan_of m).req n (ask_of m n)
 
 -- ---- small steps
 
@@ -204,57 +226,80 @@ settled_by p c = on_root (root_of p.path) (root_after p) (took_part p c)
 -- A small step of a coordinator. Those that lead on from the coordinator as it was say so.
 pub data Move (c : Coord) : Came → Coord → Coord → Type 0 where
   -- actions, and the objects that they use
-  Begins : (l : Label) (k : Kind) (parent : Option Label) (intents : List (Uid × Intent)) → Move c (Takes (input.Begin l k parent) intents) c (begin_action l k parent (parent_of parent c) c).part
+  Begins : (l : Label) (k : Kind) (parent : Option Label) (intents : List (Uid × Intent)) →
+      Move c (Takes (input.Begin l k parent) intents) c (begin_action l k parent (parent_of parent c) c).part
   Uses : {came : Came} (l : Label) (b : Branch) (x : ℕ) → branch_named l c ≡ Some b → Move c came c (used_at b.path x c)
   -- what waits, and what the root keeps
   Renews : {came : Came} (p : Path) (x : ℕ) → Move c came (used_at p x c) (renewed_at p x c)
-  Waits : {came : Came} (s : Steps) (e : Coord) → Calls c came e (actor s.path) s → Move c came e (on_doing (actor s.path) (λ (d : Doing). record d { req = s.req; now = Calling s }) e)
+  Waits : {came : Came} (s : Steps) (e : Coord) → Calls c came e (actor s.path) s →
+      Move c came e (on_doing (actor s.path) (λ (d : Doing). record d { req = s.req; now = Calling s }) e)
   Turns : {came : Came} (s : Steps) (t : CallStep) (e : Coord) → CallTurn c came s t e → Move c came c e
-  Rests : {came : Came} (s : Steps) (t : CallStep) (e : Coord) (g : CallEnd) → CallTurn c came s t e → t ≡ Ended g → Move c came e (rested s e)
-  Notes : {came : Came} (s : Steps) (t : CallStep) (e : Coord) (g : CallEnd) → CallTurn c came s t e → t ≡ Ended g → Move c came (rested s e) (noted s g e)
+  Rests : {came : Came} (s : Steps) (t : CallStep) (e : Coord) (g : CallEnd) → CallTurn c came s t e → t ≡ Ended g →
+      Move c came e (rested s e)
+  Notes : {came : Came} (s : Steps) (t : CallStep) (e : Coord) (g : CallEnd) → CallTurn c came s t e → t ≡ Ended g →
+      Move c came (rested s e) (noted s g e)
   Dooms : {came : Came} (s : Steps) (t : CallStep) (e : Coord) (n : ℕ) → CallTurn c came s t e → t ≡ Ended (Lost n true)
-      → Move c came (noted s (Lost n true) e) (record (noted s (Lost n true) e) { tree = doomed_at (actor s.path) (noted s (Lost n true) e).tree })
+      → Move c came (noted s (Lost n true) e)
+      (record (noted s (Lost n true) e) { tree = doomed_at (actor s.path) (noted s (Lost n true) e).tree })
   CommitsIn : {came : Came} (u : Uid) (m : Machine) → CommitOn c came u m → Move c came c (commits_in u m c)
   -- ends and decisions
   EndsAt : {came : Came} (u : Uid) (how : End) (f : Label → Body) (e : Coord) → Ends c came u how f → Move c came e (ended u how e)
-  TakesPart : {came : Came} (u : Uid) (p : Plan) → CommitEnds c came u p → Move c came (ended (actor p.path) ending.Commit c) (took_part p c)
+  TakesPart : {came : Came} (u : Uid) (p : Plan) → CommitEnds c came u p →
+      Move c came (ended (actor p.path) ending.Commit c) (took_part p c)
   KeepsAfter : {came : Came} (u : Uid) (p : Plan) → CommitEnds c came u p → Move c came (took_part p c) (settled_by p c)
   Awaits : {came : Came} (u : Uid) (p : Plan) → CommitEnds c came u p → has_record p ≡ true
-      → Move c came (settled_by p c) (record (settled_by p c) { telling = put_uid (actor p.path) (record { root = root_of p.path; nodes = participants p }) (settled_by p c).telling })
+      → Move c came (settled_by p c) (record (settled_by p c)
+      { telling = put_uid (actor p.path) (record { root = root_of p.path; nodes = participants p }) (settled_by p c).telling })
   -- a request is noted
-  SentTo : {came : Came} (p : Path) (req n : ℕ) (a : Ask) (e : Coord) → Requests c came e p req n a → Move c came e (on_root (root_of p) (with_went (record { path = uids_of p; node = n; invoke = is_invoke_ask a })) e)
+  SentTo : {came : Came} (p : Path) (req n : ℕ) (a : Ask) (e : Coord) → Requests c came e p req n a →
+      Move c came e (on_root (root_of p) (with_went (record { path = uids_of p; node = n; invoke = is_invoke_ask a })) e)
   -- acknowledgements
-  LastAck : (from : ℕ) (u : Uid) (intents : List (Uid × Intent)) (i : Intent) → at_uid u c.telling ≡ Some i → has i.nodes from ≡ true → without_number from i.nodes ≡ []
+  LastAck : (from : ℕ) (u : Uid) (intents : List (Uid × Intent)) (i : Intent) → at_uid u c.telling ≡ Some i → has i.nodes from ≡ true →
+      without_number from i.nodes ≡ []
       → Move c (IsAcked from u intents) c (record c { telling = without_uid u c.telling })
-  SomeAck : (from : ℕ) (u : Uid) (intents : List (Uid × Intent)) (i : Intent) (n : ℕ) (ns : List ℕ) → at_uid u c.telling ≡ Some i → has i.nodes from ≡ true → without_number from i.nodes ≡ n ∷ ns
+  SomeAck : (from : ℕ) (u : Uid) (intents : List (Uid × Intent)) (i : Intent) (n : ℕ) (ns : List ℕ) → at_uid u c.telling ≡ Some i →
+      has i.nodes from ≡ true → without_number from i.nodes ≡ n ∷ ns
       → Move c (IsAcked from u intents) c (record c { telling = put_uid u (record i { nodes = n ∷ ns }) c.telling })
 
 -- What a coordinator puts out, as it is then.
 pub data Out (c : Coord) : Came → Coord → Effect → Type 0 where
   -- lines
-  SaysBegan : (l : Label) (k : Kind) (parent : Option Label) (intents : List (Uid × Intent)) → Out c (Takes (input.Begin l k parent) intents) c (Say (began_line l k (next_uid c.tree) parent))
-  Says : {came : Came} (u : Uid) (f : Label → Body) (d : Doing) (e : Coord) → Lines c came u f → doing_of u e ≡ Some d → Out c came e (Say (f d.label))
+  SaysBegan : (l : Label) (k : Kind) (parent : Option Label) (intents : List (Uid × Intent)) →
+      Out c (Takes (input.Begin l k parent) intents) c (Say (began_line l k (next_uid c.tree) parent))
+  Says : {came : Came} (u : Uid) (f : Label → Body) (d : Doing) (e : Coord) → Lines c came u f → doing_of u e ≡ Some d →
+      Out c came e (Say (f d.label))
   -- tolds of ends
-  TellsNested : {came : Came} (u : Uid) (how : End) (f : Label → Body) (b : Branch) (n : ℕ) (e : Coord) → Ends c came u how f → IsEndedSo e u how → branch_of u e.tree ≡ Some b → b.kind ≡ kind.Nested
-      → In n (servers_told u (root_at (root_of b.path) e) e) → Out c came e (tell (root_of b.path) false (up_to u (ends_of (root_of b.path) e.tree)) n)
-  TellsSerial : {came : Came} (u : Uid) (how : End) (f : Label → Body) (b : Branch) (n : ℕ) (e : Coord) → Ends c came u how f → IsEndedSo e u how → branch_of u e.tree ≡ Some b → b.kind ≡ kind.Serial
-      → In n (nodes_sent u (root_at u e)) → is_deferred u (intents_of came) n ≡ false → Out c came e (tell u false ((u, ending.Abort) ∷ []) n)
-  TellsTop : {came : Came} (u : Uid) (how : End) (f : Label → Body) (b : Branch) (n : ℕ) (e : Coord) → Ends c came u how f → IsEndedSo e u how → branch_of u e.tree ≡ Some b → is_nested b.kind ≡ false → is_serial b.kind ≡ false
+  TellsNested : {came : Came} (u : Uid) (how : End) (f : Label → Body) (b : Branch) (n : ℕ) (e : Coord) → Ends c came u how f →
+      IsEndedSo e u how → branch_of u e.tree ≡ Some b → b.kind ≡ kind.Nested
+      → In n (servers_told u (root_at (root_of b.path) e) e) →
+      Out c came e (tell (root_of b.path) false (up_to u (ends_of (root_of b.path) e.tree)) n)
+  TellsSerial : {came : Came} (u : Uid) (how : End) (f : Label → Body) (b : Branch) (n : ℕ) (e : Coord) → Ends c came u how f →
+      IsEndedSo e u how → branch_of u e.tree ≡ Some b → b.kind ≡ kind.Serial
+      → In n (nodes_sent u (root_at u e)) → is_deferred u (intents_of came) n ≡ false →
+      Out c came e (tell u false ((u, ending.Abort) ∷ []) n)
+  TellsTop : {came : Came} (u : Uid) (how : End) (f : Label → Body) (b : Branch) (n : ℕ) (e : Coord) → Ends c came u how f →
+      IsEndedSo e u how → branch_of u e.tree ≡ Some b → is_nested b.kind ≡ false → is_serial b.kind ≡ false
       → In n (nodes_sent u (root_at (root_of b.path) e)) → Out c came e (tell (root_of b.path) false ((u, ending.Abort) ∷ []) n)
   -- a decision: its record, and its tolds
-  PutsRecord : {came : Came} (u : Uid) (p : Plan) → CommitEnds c came u p → has_record p ≡ true → Out c came c (Do (PutIntent (actor p.path) (record { root = root_of p.path; nodes = participants p })))
-  TellsCommitted : {came : Came} (u : Uid) (p : Plan) (n : ℕ) (e : Coord) → CommitEnds c came u p → In n p.sent → has (participants p) n ≡ true
+  PutsRecord : {came : Came} (u : Uid) (p : Plan) → CommitEnds c came u p → has_record p ≡ true →
+      Out c came c (Do (PutIntent (actor p.path) (record { root = root_of p.path; nodes = participants p })))
+  TellsCommitted : {came : Came} (u : Uid) (p : Plan) (n : ℕ) (e : Coord) → CommitEnds c came u p → In n p.sent →
+      has (participants p) n ≡ true
       → Out c came e (tell (root_of p.path) (has_record p) ((actor p.path, ending.Commit) ∷ []) n)
   TellsLeft : {came : Came} (u : Uid) (p : Plan) (n : ℕ) (e : Coord) → CommitEnds c came u p → In n p.sent → has (participants p) n ≡ false
       → Out c came e (tell (root_of p.path) false ((actor p.path, ending.Abort) ∷ []) n)
   -- acknowledgements
-  RemovesRecord : (from : ℕ) (u : Uid) (intents : List (Uid × Intent)) (i : Intent) → at_uid u c.telling ≡ Some i → has i.nodes from ≡ true → without_number from i.nodes ≡ []
+  RemovesRecord : (from : ℕ) (u : Uid) (intents : List (Uid × Intent)) (i : Intent) → at_uid u c.telling ≡ Some i →
+      has i.nodes from ≡ true → without_number from i.nodes ≡ []
       → Out c (IsAcked from u intents) c (Do (RemoveIntent u))
-  TellsLetGo : (from : ℕ) (u : Uid) (intents : List (Uid × Intent)) (i : Intent) (n : ℕ) (e : Coord) → at_uid u intents ≡ Some i → is_over (branch_of i.root e.tree) ≡ true
-      → In n (let_go i.root (without_uid u intents) e i.nodes) → Out c (IsAcked from u intents) e (tell i.root false ((i.root, ending.Abort) ∷ []) n)
+  TellsLetGo : (from : ℕ) (u : Uid) (intents : List (Uid × Intent)) (i : Intent) (n : ℕ) (e : Coord) → at_uid u intents ≡ Some i →
+      is_over (branch_of i.root e.tree) ≡ true
+      → In n (let_go i.root (without_uid u intents) e i.nodes) →
+      Out c (IsAcked from u intents) e (tell i.root false ((i.root, ending.Abort) ∷ []) n)
   -- requests, once noted
   AsksIt : {came : Came} (p : Path) (req n : ℕ) (a : Ask) (e : Coord) → Requests c came e p req n a
-      → Out c came (on_root (root_of p) (with_went (record { path = uids_of p; node = n; invoke = is_invoke_ask a })) e) (Send n (request (record { path = p; req = req }) a))
+      → Out c came (on_root (root_of p) (with_went (record { path = uids_of p; node = n; invoke = is_invoke_ask a })) e)
+      (Send n (request (record { path = p; req = req }) a))
 
 -- What a coordinator did: its small steps and what it put out, in order, from one coordinator to another.
 pub data Trace (c : Coord) (came : Came) : Coord → List Effect → Coord → Type 0 where
@@ -272,12 +317,14 @@ module _ {c : Coord} {came : Came} (P : Coord → Type 0) (move : (e f : Coord) 
   trace_keeps (Puts x e g o t) h = trace_keeps t h
 
   -- and this holds of all that is put out
-  pub trace_says : (E : Effect → Type 0) → ((e : Coord) (x : Effect) → Out c came e x → P e → E x) → {e g : Coord} {outs : List Effect} → Trace c came e outs g → P e → P g × AllByRecursion E outs
+  pub trace_says : (E : Effect → Type 0) → ((e : Coord) (x : Effect) → Out c came e x → P e → E x) → {e g : Coord} {outs : List Effect} →
+      Trace c came e outs g → P e → P g × AllByRecursion E outs
   trace_says E out (Done e) h = (h, tt)
   trace_says E out (Goes e f g m t) h = trace_says E out t (move e f m h)
   trace_says E out (Puts x e g o t) h = let r = trace_says E out t h in (r.0, (out e x o h, r.1))
 
-  module _ (E : Coord → Effect → Type 0) (out : (e : Coord) (x : Effect) → Out c came e x → P e → E e x) (later : (e f : Coord) (x : Effect) → Move c came e f → P e → E e x → E f x) where
+  module _ (E : Coord → Effect → Type 0) (out : (e : Coord) (x : Effect) → Out c came e x → P e →
+      E e x) (later : (e f : Coord) (x : Effect) → Move c came e f → P e → E e x → E f x) where
     -- what holds of an effect and the coordinator that put it out, and goes on to hold once the coordinator goes on
     still : {e g : Coord} {outs : List Effect} (x : Effect) → Trace c came e outs g → P e → E e x → E g x
     still x (Done e) h k = k
@@ -298,6 +345,7 @@ module _ {c : Coord} {came : Came} where
   along (Puts x e g o s) t = Puts x e _ o (along s t)
 
 -- small steps of a plan keep this of it
-pub plan_keeps : {came : Came} (Q : Plan → Type 0) → ((p q : Plan) → PlanMove came p q → Q p → Q q) → {p q : Plan} → Plans came p q → Q p → Q q
+pub plan_keeps : {came : Came} (Q : Plan → Type 0) → ((p q : Plan) → PlanMove came p q → Q p → Q q) → {p q : Plan} → Plans came p q → Q p →
+    Q q
 plan_keeps Q move SamePlan h = h
 plan_keeps Q move (MovesPlan q r t m) h = move q r m (plan_keeps Q move t h)

@@ -1,13 +1,8 @@
 -- Effects as they come out of a step, without the messages of the node to itself: what was sent is then more than these say.
-use Rattle.std.proofs.Common.{◌≡◌, ℕ, Bool, true, false, List, [], ◌∷◌, ◌++◌, refl, subst, inl, inr, append-nil, ◌==◌, eqb-true}
-use Rattle.std.specs.List.{AllByRecursion}
-use Rattle.std.specs.Prelude.{if◌then◌else◌}
-use Rattle.arj_protocol.specs.Words.{Body, Message}
-use Rattle.arj_protocol.specs.Effect.{Disk, Effect, Say, Send, Do, Stop, worked, stopped}
-use Rattle.arj_protocol.specs.Node.{Parts, Ran, ran, first_queued, first_done}
-use Rattle.arj_law_parts.specs.moves.Seen.{In, Within, AreQuiet, said, posted, with_sent}
-use Rattle.arj_promise.specs.Runs.{Post, Seen}
-use Rattle.arj_law_parts.specs.moves.Walks.{Walks, halted}
+use Rattle.arj_law_parts.proofs.Words
+use Words.{◌≡◌, ℕ, Bool, true, false, List, [], ◌∷◌, ◌++◌, refl, subst, inl, inr, append-nil, ◌==◌, eqb-true, AllByRecursion, if◌then◌else◌}
+use Words.{Body, Message, Disk, Effect, Say, Send, Do, Stop, worked, stopped, Parts, Ran, ran, first_queued, first_done, Post, Seen}
+use Rattle.arj_law_parts.proofs.Terms.{In, Within, AreQuiet, said, posted, with_sent, Walks, halted}
 
 -- what holds for something that was sent besides
 abbrev pub Behind : (Seen → Type 0) → Seen → Type 0
@@ -17,7 +12,8 @@ abbrev pub Flat : (Seen → Type 0) → ℕ → ℕ → List Effect → (Disk �
 Flat P e k [] end d M = Behind (end d) M
 Flat P e k (Do w ∷ es) end d M = ((how : Stop) → Behind (λ N. P (halted e k (stopped how w d) N)) M) × Flat P e k es end (worked w d) M
 Flat P e k (Say b ∷ es) end d M = Flat P e k es end d (said e (b ∷ []) M)
-Flat P e k (Send to m ∷ es) end d M = (more : List Body) → AreQuiet more → Flat P e k es end d (said e more (posted (record { from = k; to = to; message = m }) M))
+Flat P e k (Send to m ∷ es) end d M = (more : List Body) → AreQuiet more →
+    Flat P e k es end d (said e more (posted (record { from = k; to = to; message = m }) M))
 
 pub within_same : (sent : List Post) → Within sent sent
 within_same sent p h = h
@@ -30,10 +26,12 @@ within_more q a b f p (inl h) = inl h
 within_more q a b f p (inr h) = inr (f p h)
 
 -- where less was sent before
-pub flat_less : (P : Seen → Type 0) (e k : ℕ) (es : List Effect) (end : Disk → Seen → Type 0) (d : Disk) (M : Seen) (sent : List Post) → Within M.sent sent
+pub flat_less : (P : Seen → Type 0) (e k : ℕ) (es : List Effect) (end : Disk → Seen → Type 0) (d : Disk) (M : Seen) (sent : List Post) →
+    Within M.sent sent
     → Flat P e k es end d (with_sent sent M) → Flat P e k es end d M
 flat_less P e k [] end d M sent fewer f = (f.0, within_on M.sent sent f.0 fewer f.1, f.2)
-flat_less P e k (Do w ∷ es) end d M sent fewer f = ((λ how. let s = f.0 how in (s.0, within_on M.sent sent s.0 fewer s.1, s.2)), flat_less P e k es end (worked w d) M sent fewer f.1)
+flat_less P e k (Do w ∷ es) end d M sent fewer f =
+    ((λ how. let s = f.0 how in (s.0, within_on M.sent sent s.0 fewer s.1, s.2)), flat_less P e k es end (worked w d) M sent fewer f.1)
 flat_less P e k (Say b ∷ es) end d M sent fewer f = flat_less P e k es end d (said e (b ∷ []) M) sent fewer f
 flat_less P e k (Send to m ∷ es) end d M sent fewer f = λ more quiet.
     let p : Post = record { from = k; to = to; message = m } in
@@ -45,7 +43,8 @@ pub flat_to : (P : Seen → Type 0) (e k : ℕ) (es : List Effect) (end last : D
 flat_to P e k [] end last d M g f = (f.0, f.1, g d (with_sent f.0 M) f.2)
 flat_to P e k (Do w ∷ es) end last d M g f = (f.0, flat_to P e k es end last (worked w d) M g f.1)
 flat_to P e k (Say b ∷ es) end last d M g f = flat_to P e k es end last d (said e (b ∷ []) M) g f
-flat_to P e k (Send to m ∷ es) end last d M g f = λ more quiet. flat_to P e k es end last d (said e more (posted (record { from = k; to = to; message = m }) M)) g (f more quiet)
+flat_to P e k (Send to m ∷ es) end last d M g f =
+    λ more quiet. flat_to P e k es end last d (said e more (posted (record { from = k; to = to; message = m }) M)) g (f more quiet)
 
 -- one list after another
 pub flat_on : (P : Seen → Type 0) (e k : ℕ) (es fs : List Effect) (end last : Disk → Seen → Type 0) (d : Disk) (M : Seen)
@@ -53,14 +52,16 @@ pub flat_on : (P : Seen → Type 0) (e k : ℕ) (es fs : List Effect) (end last 
 flat_on P e k [] fs end last d M f g = flat_less P e k fs last d M f.0 f.1 (g d (with_sent f.0 M) f.2)
 flat_on P e k (Do w ∷ es) fs end last d M f g = (f.0, flat_on P e k es fs end last (worked w d) M f.1 g)
 flat_on P e k (Say b ∷ es) fs end last d M f g = flat_on P e k es fs end last d (said e (b ∷ []) M) f g
-flat_on P e k (Send to m ∷ es) fs end last d M f g = λ more quiet. flat_on P e k es fs end last d (said e more (posted (record { from = k; to = to; message = m }) M)) (f more quiet) g
+flat_on P e k (Send to m ∷ es) fs end last d M f g =
+    λ more quiet. flat_on P e k es fs end last d (said e more (posted (record { from = k; to = to; message = m }) M)) (f more quiet) g
 
 -- at the end and these were sent
 abbrev pub With : List Post → (Disk → Seen → Type 0) → Disk → Seen → Type 0
 With base end d M = end d M × Within base M.sent
 
 -- what was sent before was sent at the end
-pub flat_keeps : (P : Seen → Type 0) (e k : ℕ) (base : List Post) (es : List Effect) (end : Disk → Seen → Type 0) (d : Disk) (M : Seen) → Within base M.sent
+pub flat_keeps : (P : Seen → Type 0) (e k : ℕ) (base : List Post) (es : List Effect) (end : Disk → Seen → Type 0) (d : Disk) (M : Seen) →
+    Within base M.sent
     → Flat P e k es end d M → Flat P e k es (With base end) d M
 flat_keeps P e k base [] end d M fewer f = (f.0, f.1, (f.2, within_on base M.sent f.0 fewer f.1))
 flat_keeps P e k base (Do w ∷ es) end d M fewer f = (f.0, flat_keeps P e k base es end (worked w d) M fewer f.1)
@@ -86,7 +87,8 @@ ran_parts k t (Say b ∷ es) d = ran_parts k t es d
 ran_parts k t (Do w ∷ es) d = ran_parts k t es (worked w d)
 ran_parts k t (Send to m ∷ es) d = by (to == k) (ran_parts k t es d)
   where
-    by : (b : Bool) → (ran k t es d).here.parts ≡ t → (if b then first_queued m (ran k t es d) else first_done (Send to m) (ran k t es d)).here.parts ≡ t
+    by : (b : Bool) → (ran k t es d).here.parts ≡ t →
+        (if b then first_queued m (ran k t es d) else first_done (Send to m) (ran k t es d)).here.parts ≡ t
     by true ih = ih
     by false ih = ih
 
@@ -109,7 +111,8 @@ walks_flat P e k t (Send to m ∷ es) end d M w = by (to == k) refl (walks_flat 
 
     -- with no line besides
     alone : Walks P e k es end d (posted p M)
-    alone = subst (λ ls. Walks P e k es end d (record { sent = p ∷ M.sent; lines = ls; labels = M.labels; nodes = M.nodes })) (append-nil M.lines) (w [] refl)
+    alone = subst (λ ls. Walks P e k es end d (record { sent = p ∷ M.sent; lines = ls; labels = M.labels; nodes = M.nodes }))
+        (append-nil M.lines) (w [] refl)
 
     itself : to ≡ k → (N : Seen) → In p N.sent → In (record { from = k; to = k; message = m }) N.sent
     itself is N h = subst (λ n. In (record { from = k; to = n; message = m }) N.sent) is h
@@ -120,5 +123,6 @@ walks_flat P e k t (Send to m ∷ es) end d M w = by (to == k) refl (walks_flat 
         flat_to P e k (ran k t es d).outs (With (p ∷ []) (Left k (ran k t es d) end)) (Left k (one true) end) d M
         (λ c N f. (f.0.0, (itself (eqb-true to k is) N (f.1 p (inl refl)), f.0.1), f.0.2))
         (flat_less P e k (ran k t es d).outs (With (p ∷ []) (Left k (ran k t es d) end)) d M (p ∷ M.sent) (λ q h. inr h)
-        (flat_keeps P e k (p ∷ []) (ran k t es d).outs (Left k (ran k t es d) end) d (posted p M) (within_more p [] M.sent (λ q h. absurd h)) (ih (posted p M) alone)))
+        (flat_keeps P e k (p ∷ []) (ran k t es d).outs (Left k (ran k t es d) end) d (posted p M)
+        (within_more p [] M.sent (λ q h. absurd h)) (ih (posted p M) alone)))
     by false is ih = λ more quiet. ih (said e more (posted p M)) (w more quiet)

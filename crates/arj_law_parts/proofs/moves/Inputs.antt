@@ -1,26 +1,19 @@
 -- The steps of a node, input by input: each keeps the relation, done to the end or stopped.
-use Rattle.std.proofs.Common.{◌≡◌, ℕ, ◌+◌, Bool, true, false, List, [], ◌∷◌, refl, sym, ap, subst, Option, Some, None, ◌==◌, IfSome}
-use Rattle.std.specs.Prelude.{⊤, if◌then◌else◌}
-use Rattle.std.specs.List.{list_all}
-use Rattle.std.proofs.lemmas.Bool.{and_parts}
-use Rattle.arj_protocol.specs.Words.{Header, Label, Kind, Message, ObjectState, Uid, object, entry}
-use Rattle.arj_protocol.specs.Words.body
-use Rattle.arj_protocol.specs.Effect.{Disk, Pair, Effect, Say, Send, Do, Look, Prepare, Stop, Before, After, InPart, stopped, holder_of, held_at}
-use Rattle.arj_protocol.specs.Asking.{again_all, begin_action}
-use Rattle.arj_protocol.specs.Follow.{tick_outs}
-use Rattle.arj_protocol.specs.Node.{Parts, Handled, Void, Took, taken, whole, with_coord}
-use Rattle.arj_protocol.specs.Says.{AreAll}
-use Rattle.arj_protocol.specs.Step.{Node, Input, Step, step, step_up, step_down, step_unless, refusal_at, frame_step, handled_step, void_step, node_did, coord_did, restart_outs, parts_in, show_step, show_outs, show_entry, shown, entry_line, copy_line, only_says, does_nothing, crash_step, acts, parent_of}
-use Rattle.arj_protocol.specs.Step as input
-use Rattle.arj_protocol.specs.World.{Labelled, is_serial_kind}
-use Rattle.arj_protocol.proofs.PartSays.{all_both}
-use Rattle.arj_protocol.proofs.Taken.{taken_took}
-use Rattle.arj_law_parts.specs.moves.Seen.{In, at, up, down, with_node, said, given, is_quiet_line}
-use Rattle.arj_promise.specs.Runs.{Seen}
-use Rattle.arj_law_parts.specs.moves.Walks.{Walks, Up, halted}
-use Rattle.arj_law_parts.specs.moves.Keeps.{AsksNode, KeepsFrom, MayGive, label_at, is_act}
-use Rattle.arj_law_parts.proofs.moves.Flat.{Flat, Behind, within_same, flat_to}
-use Rattle.arj_law_parts.proofs.moves.Rounds.{AreLooks, LooksAlone, taken_looks, taken_meant, whole_ended, Ended}
+use Rattle.arj_law_parts.proofs.Words
+use Words.{◌≡◌, ℕ, ◌+◌, Bool, true, false, List, [], ◌∷◌, refl, sym, ap, subst, Option, Some, None, ◌==◌, IfSome, ⊤, if◌then◌else◌}
+use Words.{list_all, and_parts, Header, Label, Kind, Message, ObjectState, Uid, object, entry, Disk, Pair, Effect, Say, Send, Do, Look}
+use Words.{Prepare, Stop, Before, After, InPart, stopped, holder_of, held_at, again_all, begin_action, tick_outs, Parts, Handled, Void}
+use Words.{Took, taken, whole, with_coord, AreAll, Node, Input, Step, step, step_up, step_down, step_unless, refusal_at, frame_step}
+use Words.{handled_step, void_step, node_did, coord_did, restart_outs, parts_in, show_outs, show_entry, shown, entry_line, copy_line}
+use Words.{only_says, acts, parent_of, Labelled, is_serial_kind, all_both, taken_took, Seen}
+use Words.body
+use Words.input
+use Rattle.arj_law_parts.proofs.Terms.{In, at, up, down, with_node, said, Walks, Up, halted, KeepsFrom, MayGive, label_at}
+use Rattle.arj_law_parts.proofs.moves
+use moves.Flat.{Flat, Behind, within_same, flat_to}
+use moves.Rounds.{AreLooks, LooksAlone, taken_looks, taken_meant, whole_ended, Ended}
+use Rattle.arj_law_parts.specs.moves.{Keeps.AsksNode, Keeps.is_act, Seen.given, Seen.is_quiet_line}
+use Rattle.arj_protocol.specs.Step.{show_step, does_nothing, crash_step}
 
 -- looks at the disk, and lines at which no view looks
 abbrev is_still : Effect → Bool
@@ -35,12 +28,14 @@ looks_still (Say b ∷ es) h = absurd (cc h)
 looks_still (Send to m ∷ es) h = absurd (cc h)
 looks_still (Do w ∷ es) h = absurd (cc h)
 
-shown_still : (line : Option ObjectState → List Effect) → ((s : Option ObjectState) → AreAll is_still (line s)) → (u : Uid) (d : Pair) (o : Option Uid) → AreAll is_still (shown line u d o)
+shown_still : (line : Option ObjectState → List Effect) → ((s : Option ObjectState) → AreAll is_still (line s)) →
+    (u : Uid) (d : Pair) (o : Option Uid) → AreAll is_still (shown line u d o)
 shown_still line each u d None = each (held_at u d)
 shown_still line each u d (Some holder) = refl
 
 show_still : (k x : ℕ) (d : Disk) → AreAll is_still (show_outs k x d)
-show_still k x d = all_both is_still (show_entry k x d.names) (shown (copy_line k x) (object x) d.store (holder_of (object x) d.store)) (by (k == 1)) (shown_still (copy_line k x) copies (object x) d.store (holder_of (object x) d.store))
+show_still k x d = all_both is_still (show_entry k x d.names) (shown (copy_line k x) (object x) d.store (holder_of (object x) d.store))
+    (by (k == 1)) (shown_still (copy_line k x) copies (object x) d.store (holder_of (object x) d.store))
   where
     copies : (s : Option ObjectState) → AreAll is_still (copy_line k x s)
     copies None = refl
@@ -57,9 +52,11 @@ show_still k x d = all_both is_still (show_entry k x d.names) (shown (copy_line 
 module _ (hd : Header) (P : Seen → Type 0) {F : Type 0} (keeps : KeepsFrom hd F P) (e k : ℕ) where
   -- the relation holds after the step, and where a stop falls into it; the node keeps its number
   abbrev pub Goes : Disk → Step → Seen → Type 0
-  Goes d s M = Flat P e k s.outs (λ c N. P (with_node k s.after N)) d M × Flat P e k s.halting (λ c N. P (halted e k c N)) d M × (s.after.number ≡ k)
+  Goes d s M =
+      Flat P e k s.outs (λ c N. P (with_node k s.after N)) d M × Flat P e k s.halting (λ c N. P (halted e k c N)) d M × (s.after.number ≡ k)
 
-  still_flat : (outs : List Effect) (d : Disk) (live : Option Parts) (M : Seen) → AreAll is_still outs → P (at k d live M) → Flat P e k outs (λ c N. (c ≡ d) × P (at k d live N)) d M
+  still_flat : (outs : List Effect) (d : Disk) (live : Option Parts) (M : Seen) → AreAll is_still outs → P (at k d live M) →
+      Flat P e k outs (λ c N. (c ≡ d) × P (at k d live N)) d M
   still_flat [] d live M still h = (M.sent, within_same M.sent, (refl, h))
   still_flat (Do Look ∷ es) d live M still h = (stops, still_flat es d live M still h)
     where
@@ -75,30 +72,40 @@ module _ (hd : Header) (P : Seen → Type 0) {F : Type 0} (keeps : KeepsFrom hd 
   still_flat (Do w ∷ es) d live M still h = absurd (cc still)
 
   -- a step that leaves the node as it is
-  still_goes : (s : Step) (d : Disk) (live : Option Parts) (M : Seen) → s.after ≡ record { number = k; disk = d; live = live } → AreAll is_still s.outs → AreAll is_still s.halting → P (at k d live M) → Goes d s M
+  still_goes : (s : Step) (d : Disk) (live : Option Parts) (M : Seen) → s.after ≡ record { number = k; disk = d; live = live } →
+      AreAll is_still s.outs → AreAll is_still s.halting → P (at k d live M) → Goes d s M
   still_goes s d live M same outs halting h = (
-    flat_to P e k s.outs (λ c N. (c ≡ d) × P (at k d live N)) (λ c N. P (with_node k s.after N)) d M (λ c N f. subst (λ n. P (with_node k n N)) (sym same) f.1) (still_flat s.outs d live M outs h),
-    flat_to P e k s.halting (λ c N. (c ≡ d) × P (at k d live N)) (λ c N. P (halted e k c N)) d M (λ c N f. subst (λ x. P (halted e k x N)) (sym f.0) (keeps.stop e k d live N f.1)) (still_flat s.halting d live M halting h),
+    flat_to P e k s.outs (λ c N. (c ≡ d) × P (at k d live N)) (λ c N. P (with_node k s.after N)) d M
+        (λ c N f. subst (λ n. P (with_node k n N)) (sym same) f.1) (still_flat s.outs d live M outs h),
+    flat_to P e k s.halting (λ c N. (c ≡ d) × P (at k d live N)) (λ c N. P (halted e k c N)) d M
+        (λ c N f. subst (λ x. P (halted e k x N)) (sym f.0) (keeps.stop e k d live N f.1)) (still_flat s.halting d live M halting h),
     ap (λ (n : Node). n.number) same,
   )
 
-  void_goes : (f : ℕ) (outs : List Effect) (d : Disk) (live : Option Parts) (M : Seen) → AreLooks outs → P (at k d live M) → Goes d (void_step f (record { number = k; disk = d; live = live }) outs) M
-  void_goes f outs d live M looks h = still_goes (void_step f (record { number = k; disk = d; live = live }) outs) d live M refl (all_both is_still outs (Say (body.Void f) ∷ []) (looks_still outs looks) refl) (looks_still outs looks) h
+  void_goes : (f : ℕ) (outs : List Effect) (d : Disk) (live : Option Parts) (M : Seen) → AreLooks outs → P (at k d live M) →
+      Goes d (void_step f (record { number = k; disk = d; live = live }) outs) M
+  void_goes f outs d live M looks h = still_goes (void_step f (record { number = k; disk = d; live = live }) outs) d live M refl
+      (all_both is_still outs (Say (body.Void f) ∷ []) (looks_still outs looks) refl) (looks_still outs looks) h
 
   -- a step that a handler walks through
-  did_goes : (live : Option Parts) (v : Parts) (outs : List Effect) (d : Disk) (M : Seen) → Walks P e k outs (Up P k v) d M → Goes d (node_did (record { number = k; disk = d; live = live }) [] v outs) M
+  did_goes : (live : Option Parts) (v : Parts) (outs : List Effect) (d : Disk) (M : Seen) → Walks P e k outs (Up P k v) d M →
+      Goes d (node_did (record { number = k; disk = d; live = live }) [] v outs) M
   did_goes live v outs d M w =
       let r = whole k v outs d in
       let f = whole_ended hd P keeps e k v outs d M w in (
-        flat_to P e k r.outs (Ended hd P keeps e k r) (λ c N. P (up k r.here.disk r.here.parts N)) d M (λ c N g. subst (λ x. P (up k x r.here.parts N)) g.0 g.2) f,
-        flat_to P e k r.outs (Ended hd P keeps e k r) (λ c N. P (halted e k c N)) d M (λ c N g. keeps.stop e k c (Some r.here.parts) N g.2) f,
+        flat_to P e k r.outs (Ended hd P keeps e k r) (λ c N. P (up k r.here.disk r.here.parts N)) d M
+            (λ c N g. subst (λ x. P (up k x r.here.parts N)) g.0 g.2) f,
+        flat_to P e k r.outs (Ended hd P keeps e k r) (λ c N. P (halted e k c N)) d M (λ c N g. keeps.stop e k c (Some r.here.parts) N g.2)
+            f,
         refl,
       )
 
-  got_goes : (f : ℕ) (live : Option Parts) (v : Parts) (outs : List Effect) (d : Disk) (M : Seen) → Walks P e k outs (Up P k v) d (said e (body.Got f ∷ []) M) → Goes d (node_did (record { number = k; disk = d; live = live }) (Say (body.Got f) ∷ []) v outs) M
+  got_goes : (f : ℕ) (live : Option Parts) (v : Parts) (outs : List Effect) (d : Disk) (M : Seen) → Walks P e k outs (Up P k v) d
+      (said e (body.Got f ∷ []) M) → Goes d (node_did (record { number = k; disk = d; live = live }) (Say (body.Got f) ∷ []) v outs) M
   got_goes f live v outs d M w = did_goes live v outs d (said e (body.Got f ∷ []) M) w
 
-  frame_goes : (f from : ℕ) (m : Option Message) (d : Disk) (t : Parts) (M : Seen) → IfSome m (λ x. In (record { from = from; to = k; message = x }) M.sent) → P (up k d t M)
+  frame_goes : (f from : ℕ) (m : Option Message) (d : Disk) (t : Parts) (M : Seen) →
+      IfSome m (λ x. In (record { from = from; to = k; message = x }) M.sent) → P (up k d t M)
       → Goes d (frame_step f from (record { number = k; disk = d; live = Some t }) t m) M
   frame_goes f from None d t M sent h = void_goes f [] d (Some t) M refl h
   frame_goes f from (Some m) d t M sent h = by (taken k d t from m) (taken_looks k d t from m) refl
@@ -106,9 +113,11 @@ module _ (hd : Header) (P : Seen → Type 0) {F : Type 0} (keeps : KeepsFrom hd 
       got : P (up k d t (said e (body.Got f ∷ []) M))
       got = keeps.quiet e (body.Got f ∷ []) (up k d t M) refl h
 
-      by : (a : Handled) → LooksAlone a → taken k d t from m ≡ a → Goes d (handled_step f (record { number = k; disk = d; live = Some t }) a) M
+      by : (a : Handled) → LooksAlone a → taken k d t from m ≡ a →
+          Goes d (handled_step f (record { number = k; disk = d; live = Some t }) a) M
       by (Void outs) looks is = void_goes f outs d (Some t) M looks h
-      by (Took v outs) looks is = got_goes f (Some t) v outs d M (keeps.message e k d t v from m outs (said e (body.Got f ∷ []) M) got sent (taken_meant k d t v from m outs is) (taken_took k d t v from m outs is))
+      by (Took v outs) looks is = got_goes f (Some t) v outs d M (keeps.message e k d t v from m outs (said e (body.Got f ∷ []) M) got sent
+          (taken_meant k d t v from m outs is) (taken_took k d t v from m outs is))
 
   crash_goes : (d : Disk) (t : Parts) (M : Seen) → P (up k d t M) → Goes d (crash_step (record { number = k; disk = d; live = Some t })) M
   crash_goes d t M h =
@@ -121,17 +130,22 @@ module _ (hd : Header) (P : Seen → Type 0) {F : Type 0} (keeps : KeepsFrom hd 
   IsSentTo (input.Include l x s) M = AsksNode hd (input.Include l x s)
   IsSentTo i M = ⊤
 
-  act_goes : (i : Input) (d : Disk) (t : Parts) (M : Seen) → is_act i ≡ true → AsksNode hd i → input.refusal_up hd i t.coord ≡ None → P (up k d t M) → Goes d (coord_did (record { number = k; disk = d; live = Some t }) t (acts i d.intents t.coord)) M
-  act_goes i d t M is asks free h = let a = acts i d.intents t.coord in did_goes (Some t) (with_coord t a.part) a.outs d M (keeps.act e k d t i M is asks free h)
+  act_goes : (i : Input) (d : Disk) (t : Parts) (M : Seen) → is_act i ≡ true → AsksNode hd i → input.refusal_up hd i t.coord ≡ None →
+      P (up k d t M) → Goes d (coord_did (record { number = k; disk = d; live = Some t }) t (acts i d.intents t.coord)) M
+  act_goes i d t M is asks free h = let a = acts i d.intents t.coord in
+      did_goes (Some t) (with_coord t a.part) a.outs d M (keeps.act e k d t i M is asks free h)
 
-  up_goes : (i : Input) (d : Disk) (t : Parts) (M : Seen) → IsSentTo i M → input.refusal_up hd i t.coord ≡ None → P (up k d t M) → Goes d (step_up i (record { number = k; disk = d; live = Some t }) t) M
+  up_goes : (i : Input) (d : Disk) (t : Parts) (M : Seen) → IsSentTo i M → input.refusal_up hd i t.coord ≡ None → P (up k d t M) →
+      Goes d (step_up i (record { number = k; disk = d; live = Some t }) t) M
   up_goes (input.Frame f from m) d t M sent free h = frame_goes f from m d t M sent h
   up_goes input.Tick d t M sent free h =
       let n : Node = record { number = k; disk = d; live = Some t } in
       did_goes (Some t) (with_coord t (again_all t.coord.doings t.coord).part) (tick_outs n t) d M (keeps.tick e k d t M h)
-  up_goes input.Restart d t M sent free h = still_goes (does_nothing (record { number = k; disk = d; live = Some t })) d (Some t) M refl refl refl h
+  up_goes input.Restart d t M sent free h =
+      still_goes (does_nothing (record { number = k; disk = d; live = Some t })) d (Some t) M refl refl refl h
   up_goes input.Crash d t M sent free h = crash_goes d t M h
-  up_goes (input.Show x) d t M sent free h = still_goes (show_step x (record { number = k; disk = d; live = Some t })) d (Some t) M refl (show_still k x d) (show_still k x d) h
+  up_goes (input.Show x) d t M sent free h =
+      still_goes (show_step x (record { number = k; disk = d; live = Some t })) d (Some t) M refl (show_still k x d) (show_still k x d) h
   up_goes (input.Begin l how parent) d t M sent free h = absurd sent
   up_goes (input.Call l x o) d t M sent free h = act_goes (input.Call l x o) d t M refl sent free h
   up_goes (input.Include l x s) d t M sent free h = act_goes (input.Include l x s) d t M refl sent free h
@@ -155,14 +169,18 @@ module _ (hd : Header) (P : Seen → Type 0) {F : Type 0} (keeps : KeepsFrom hd 
   down_goes (input.Abort l) d M h = nothing_goes d M h
   down_goes (input.GiveUp l) d M h = nothing_goes d M h
 
-  refused_goes : (c : ℕ) (d : Disk) (live : Option Parts) (M : Seen) → P (at k d live M) → Goes d (only_says (record { number = k; disk = d; live = live }) (body.Refused c)) M
-  refused_goes c d live M h = still_goes (only_says (record { number = k; disk = d; live = live }) (body.Refused c)) d live M refl refl refl h
+  refused_goes : (c : ℕ) (d : Disk) (live : Option Parts) (M : Seen) → P (at k d live M) →
+      Goes d (only_says (record { number = k; disk = d; live = live }) (body.Refused c)) M
+  refused_goes c d live M h =
+      still_goes (only_says (record { number = k; disk = d; live = live }) (body.Refused c)) d live M refl refl refl h
 
   -- any input but the beginning of an action
-  pub step_goes : (i : Input) (d : Disk) (live : Option Parts) (M : Seen) → IsSentTo i M → P (at k d live M) → Goes d (step hd (record { number = k; disk = d; live = live }) i) M
+  pub step_goes : (i : Input) (d : Disk) (live : Option Parts) (M : Seen) → IsSentTo i M → P (at k d live M) →
+      Goes d (step hd (record { number = k; disk = d; live = live }) i) M
   step_goes i d live M sent h = by (refusal_at hd i live) live refl sent h
     where
-      by : (r : Option ℕ) (live : Option Parts) → refusal_at hd i live ≡ r → IsSentTo i M → P (at k d live M) → Goes d (step_unless hd i (record { number = k; disk = d; live = live }) r) M
+      by : (r : Option ℕ) (live : Option Parts) → refusal_at hd i live ≡ r → IsSentTo i M → P (at k d live M) →
+          Goes d (step_unless hd i (record { number = k; disk = d; live = live }) r) M
       by (Some c) live is sent h = refused_goes c d live M h
       by None None is sent h = down_goes i d M h
       by None (Some t) is sent h = up_goes i d t M sent is h
@@ -176,7 +194,8 @@ module _ (hd : Header) (P : Seen → Type 0) {F : Type 0} (keeps : KeepsFrom hd 
   pub begin_goes : (l : Label) (how : Kind) (parent : Option Label) (d : Disk) (live : Option Parts) (M : Seen)
       → label_at l M.labels ≡ None → MayGive M.labels k how parent → P (at k d live M)
       → (r : Option ℕ) → refusal_at hd (input.Begin l how parent) live ≡ r
-      → Goes d (step_unless hd (input.Begin l how parent) (record { number = k; disk = d; live = live }) r) (unless_refused l (record { node = k; serial = is_serial_kind how }) M r)
+      → Goes d (step_unless hd (input.Begin l how parent) (record { number = k; disk = d; live = live }) r)
+      (unless_refused l (record { node = k; serial = is_serial_kind how }) M r)
   begin_goes l how parent d live M free gives h (Some c) is = refused_goes c d live M h
   begin_goes l how parent d None M free gives h None is = absurd (cc is)
   begin_goes l how parent d (Some t) M free gives h None is =

@@ -1,17 +1,16 @@
 -- Whatever each handler keeps holds after moves; and the run of a script is one of moves.
-use Rattle.std.proofs.Common.{◌≡◌, List, [], ◌∷◌, ◌++◌, refl}
-use Rattle.arj_protocol.specs.Words.{Header}
-use Rattle.arj_protocol.specs.World.{Asked, World, format, run_all, run_event}
-use Rattle.arj_law_parts.specs.moves.Keeps.{Holds, KeepsAsked}
-use Rattle.arj_promise.specs.Runs.{Seen}
-use Rattle.arj_promise.specs.Runs.{Move, all_moved, as_moves, moved, moves_of, world_by}
+use Rattle.arj_law_parts.proofs.Words
+use Words.{◌≡◌, List, [], ◌∷◌, ◌++◌, refl, Header, World, format, run_all, run_event, Seen, Move, all_moved, as_moves, moved, world_by}
+use Rattle.arj_law_parts.proofs.Terms.{Asked, Holds, KeepsAsked}
 use Rattle.arj_law_parts.proofs.moves.Happens.{arms_hold, event_asked, first_asked}
+use Rattle.arj_promise.specs.Runs.{moves_of}
 
 -- ---- what is kept
 
 module _ (hd : Header) (P : Seen → Type 0) (keeps : KeepsAsked hd P) where
   pub move_asked : (m : Move) (w : World) → Holds hd P w → Holds hd P (moved m w)
-  move_asked m w h = arms_hold hd P [] (run_event m.asked (record w { arms = m.falls })) (event_asked hd P keeps m.asked (record w { arms = m.falls }) (arms_hold hd P m.falls w h))
+  move_asked m w h = arms_hold hd P [] (run_event m.asked (record w { arms = m.falls }))
+      (event_asked hd P keeps m.asked (record w { arms = m.falls }) (arms_hold hd P m.falls w h))
 
   pub moves_go_on : (ms : List Move) (w : World) → Holds hd P w → Holds hd P (all_moved ms w)
   moves_go_on [] w h = h

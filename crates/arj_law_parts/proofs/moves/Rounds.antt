@@ -1,27 +1,22 @@
 -- A node's step with all messages to itself: what holds when it is up is kept by each message, and so by all rounds.
-use Rattle.std.proofs.Common.{◌≡◌, ℕ, zero, suc, Bool, true, false, List, [], ◌∷◌, ◌++◌, refl, sym, subst, Option, Some, None}
-use Rattle.std.specs.Prelude.{⊤, if◌then◌else◌, option_map}
-use Rattle.std.specs.List.{list_all}
-use Rattle.arj_protocol.specs.Words.{Uid, Header, Head, Asked, Ask, asks, Message, ObjectState, object}
-use Rattle.arj_protocol.specs.Words.ask
-use Rattle.arj_protocol.specs.Words.message
-use Rattle.arj_protocol.specs.Words.prepared
-use Rattle.arj_protocol.specs.Effect.{Disk, Effect, Say, Send, Do, Look, Prepare, Before, After, InPart, Served, Prep, Ready, Already, Old, InDoubt, prepare_answer, holder_of, held_at, is_prepared}
-use Rattle.arj_protocol.specs.Ask.{Reply, answers, actor, last_end}
-use Rattle.arj_protocol.specs.Server as server
-use Rattle.arj_protocol.specs.Naming as naming
-use Rattle.arj_protocol.specs.Naming.{Naming}
-use Rattle.arj_protocol.specs.Confirm.{confirm}
-use Rattle.arj_protocol.specs.Coord.{Coord}
-use Rattle.arj_protocol.specs.Asking.{heard}
-use Rattle.arj_protocol.specs.Ending.{acked}
-use Rattle.arj_protocol.specs.Node.{Parts, Handled, Void, Took, Here, Ran, ran, ran_handled, handle_all, next_round, rounds, whole, most_rounds, handle, is_meant, taken, handle_ask, handle_answer, handle_other, handle_ends, coord_heard, by_reply, serve, served, sends_answer, if_naming, load_by, load_held, prepare_by, prepare_states, with_naming, with_server, with_coord}
-use Rattle.arj_law_parts.specs.moves.Seen.{In, at, up}
-use Rattle.arj_promise.specs.Runs.{Seen}
-use Rattle.arj_law_parts.specs.moves.Walks.{Walks, Stops, Up}
-use Rattle.arj_law_parts.specs.moves.Keeps.{KeepsFrom}
-use Rattle.arj_protocol.proofs.Taken.{taken_as, taken_took}
-use Rattle.arj_law_parts.proofs.moves.Flat.{Flat, With, Left, AreSent, within_same, are_sent, flat_to, flat_on, flat_keeps, walks_flat, ran_parts}
+use Rattle.arj_law_parts.proofs.Words
+use Words.{◌≡◌, ℕ, zero, suc, Bool, true, false, List, [], ◌∷◌, ◌++◌, refl, sym, subst, Option, Some, None, ⊤, if◌then◌else◌, option_map}
+use Words.{list_all, Uid, Header, Head, Asked, Ask, asks, Message, ObjectState, object, Disk, Effect, Say, Send, Do, Look, Prepare, Before}
+use Words.{After, InPart, Served, Prep, Ready, Already, Old, InDoubt, prepare_answer, holder_of, held_at, is_prepared, Reply, answers}
+use Words.{actor, last_end, Naming, confirm, Coord, heard, acked, Parts, Handled, Void, Took, Here, Ran, ran, ran_handled, handle_all}
+use Words.{next_round, rounds, whole, most_rounds, handle, is_meant, taken, handle_ask, handle_answer, handle_other, handle_ends}
+use Words.{coord_heard, by_reply, serve, served, sends_answer, if_naming, load_by, load_held, prepare_by, prepare_states, with_naming}
+use Words.{with_server, with_coord, Seen, taken_took}
+use Words.ask
+use Words.message
+use Words.prepared
+use Words.server
+use Words.naming
+use Rattle.arj_law_parts.proofs.Terms.{In, at, up, Walks, Up, KeepsFrom}
+use Rattle.arj_law_parts.proofs.moves
+use moves.Flat.{Flat, With, Left, AreSent, within_same, are_sent, flat_to, flat_on, flat_keeps, walks_flat, ran_parts}
+use Rattle.arj_law_parts.specs.moves.Walks.{Stops}
+use Rattle.arj_protocol.proofs.Taken.{taken_as}
 
 -- ---- what is void
 
@@ -53,7 +48,8 @@ load_looks x n d from h t None = by (held_at (object x) d.store)
     by None = refl
     by (Some s) = tt
 
-prepare_looks : (n : ℕ) (d : Disk) (states : List ObjectState) (from : ℕ) (h : Head) (t : Parts) → LooksAlone (prepare_states n d.store states from h t)
+prepare_looks : (n : ℕ) (d : Disk) (states : List ObjectState) (from : ℕ) (h : Head) (t : Parts) →
+    LooksAlone (prepare_states n d.store states from h t)
 prepare_looks n d states from h t = twice (is_prepared (actor h.path) d.store)
   where
     by : (a : Prep) → LooksAlone (prepare_by n states from h t a)
@@ -62,22 +58,31 @@ prepare_looks n d states from h t = twice (is_prepared (actor h.path) d.store)
     by (Old u v) = tt
     by (InDoubt u holder) = tt
 
-    twice : (b : Bool) → LooksAlone (if b then sends_answer from h t [] (Some (Reply.Prepared prepared.Yes)) else prepare_by n states from h t (prepare_answer (actor h.path) states d.store))
+    twice : (b : Bool) → LooksAlone (if b then sends_answer from h t [] (Some (Reply.Prepared prepared.Yes)) else prepare_by n states from h
+        t (prepare_answer (actor h.path) states d.store))
     twice true = tt
     twice false = by (prepare_answer (actor h.path) states d.store)
 
 serve_looks : (n : ℕ) (d : Disk) (t : Parts) (from : ℕ) (h : Head) (a : Ask) → LooksAlone (serve n d t from h a)
-serve_looks n d t from h (ask.Bind x include avoid) = naming_looks (λ o. served from h (with_naming t) Reply.Bound (naming.bind h.path x include avoid d.names o)) t.naming
-    (λ o. let r = naming.bind h.path x include avoid d.names o in answer_looks from h (with_naming t r.part) r.outs (option_map Reply.Bound r.reply))
+serve_looks n d t from h (ask.Bind x include avoid) =
+    naming_looks (λ o. served from h (with_naming t) Reply.Bound (naming.bind h.path x include avoid d.names o)) t.naming
+    (λ o. let r = naming.bind h.path x include avoid d.names o in
+    answer_looks from h (with_naming t r.part) r.outs (option_map Reply.Bound r.reply))
 serve_looks n d t from h (ask.Load x) = load_looks x n d from h t (holder_of (object x) d.store)
-serve_looks n d t from h (ask.Activate b st) = let r = server.activate n h.path b st t.server in answer_looks from h (with_server t r.part) r.outs (option_map Reply.Activated r.reply)
-serve_looks n d t from h (ask.Record x b i g) = naming_looks (λ o. served from h (with_naming t) Reply.Noted (naming.note h.path x b i g o)) t.naming
+serve_looks n d t from h (ask.Activate b st) = let r = server.activate n h.path b st t.server in
+    answer_looks from h (with_server t r.part) r.outs (option_map Reply.Activated r.reply)
+serve_looks n d t from h (ask.Record x b i g) =
+    naming_looks (λ o. served from h (with_naming t) Reply.Noted (naming.note h.path x b i g o)) t.naming
     (λ o. let r = naming.note h.path x b i g o in answer_looks from h (with_naming t r.part) r.outs (option_map Reply.Noted r.reply))
-serve_looks n d t from h (ask.Invoke x b i ends op) = let r = server.invoke n h x b i ends op t.server in answer_looks from h (with_server t r.part) r.outs (option_map Reply.Invoked r.reply)
-serve_looks n d t from h (ask.Vote i ties ends) = let r = server.vote n h.path i ties ends t.server in answer_looks from h (with_server t r.part) r.outs (option_map Reply.Voted r.reply)
+serve_looks n d t from h (ask.Invoke x b i ends op) = let r = server.invoke n h x b i ends op t.server in
+    answer_looks from h (with_server t r.part) r.outs (option_map Reply.Invoked r.reply)
+serve_looks n d t from h (ask.Vote i ties ends) = let r = server.vote n h.path i ties ends t.server in
+    answer_looks from h (with_server t r.part) r.outs (option_map Reply.Voted r.reply)
 serve_looks n d t from h (ask.Prepare states) = prepare_looks n d states from h t
-serve_looks n d t from h (ask.Confirm grants excluded included) = naming_looks (λ o. served from h (with_naming t) Reply.Confirmed (confirm h.path grants excluded included d.names o)) t.naming
-    (λ o. let r = confirm h.path grants excluded included d.names o in answer_looks from h (with_naming t r.part) r.outs (option_map Reply.Confirmed r.reply))
+serve_looks n d t from h (ask.Confirm grants excluded included) =
+    naming_looks (λ o. served from h (with_naming t) Reply.Confirmed (confirm h.path grants excluded included d.names o)) t.naming
+    (λ o. let r = confirm h.path grants excluded included d.names o in
+    answer_looks from h (with_naming t r.part) r.outs (option_map Reply.Confirmed r.reply))
 
 heard_looks : (t : Parts) (r : Served Coord (Unit {0})) → LooksAlone (coord_heard t r)
 heard_looks t r = by r.reply
@@ -124,7 +129,8 @@ handle_looks n d t from m = by (asks m)
     by (Some a) = serve_looks n d t from a.0 a.1
 
 -- what isn't void can be meant
-pub taken_meant : (n : ℕ) (d : Disk) (t v : Parts) (from : ℕ) (m : Message) (outs : List Effect) → taken n d t from m ≡ Took v outs → is_meant t m ≡ true
+pub taken_meant : (n : ℕ) (d : Disk) (t v : Parts) (from : ℕ) (m : Message) (outs : List Effect) → taken n d t from m ≡ Took v outs →
+    is_meant t m ≡ true
 taken_meant n d t v from m outs = by (is_meant t m)
   where
     by : (b : Bool) → (if b then handle n d t from m else Void []) ≡ Took v outs → b ≡ true
@@ -136,7 +142,8 @@ taken_looks n d t from m = taken_as LooksAlone n d t from m refl (handle_looks n
 
 module _ (hd : Header) (P : Seen → Type 0) {F : Type 0} (keeps : KeepsFrom hd F P) (e k : ℕ) where
   -- looks change nothing, and a stop at one is a stop
-  pub looks_walk : (outs : List Effect) (d : Disk) (live : Option Parts) (M : Seen) → AreLooks outs → P (at k d live M) → Walks P e k outs (λ c N. P (at k c live N)) d M
+  pub looks_walk : (outs : List Effect) (d : Disk) (live : Option Parts) (M : Seen) → AreLooks outs → P (at k d live M) →
+      Walks P e k outs (λ c N. P (at k c live N)) d M
   looks_walk [] d live M looks h = h
   looks_walk (Do Look ∷ es) d live M looks h = (stops, looks_walk es d live M looks h)
     where
@@ -154,31 +161,37 @@ module _ (hd : Header) (P : Seen → Type 0) {F : Type 0} (keeps : KeepsFrom hd 
   Handles from d t M (Void outs) = Walks P e k outs (Up P k t) d M
   Handles from d t M (Took v outs) = Walks P e k outs (Up P k v) d M
 
-  pub handled : (from : ℕ) (m : Message) (d : Disk) (t : Parts) (M : Seen) → P (up k d t M) → In (record { from = from; to = k; message = m }) M.sent → Handles from d t M (taken k d t from m)
+  pub handled : (from : ℕ) (m : Message) (d : Disk) (t : Parts) (M : Seen) → P (up k d t M) →
+      In (record { from = from; to = k; message = m }) M.sent → Handles from d t M (taken k d t from m)
   handled from m d t M h sent = by (taken k d t from m) refl (taken_looks k d t from m)
     where
       by : (a : Handled) → taken k d t from m ≡ a → LooksAlone a → Handles from d t M a
       by (Void outs) is looks = looks_walk outs d (Some t) M looks h
-      by (Took v outs) is looks = keeps.message e k d t v from m outs M h sent (taken_meant k d t v from m outs is) (taken_took k d t v from m outs is)
+      by (Took v outs) is looks =
+          keeps.message e k d t v from m outs M h sent (taken_meant k d t v from m outs is) (taken_took k d t v from m outs is)
 
   -- the node is up with what was left, and the relation holds
   abbrev pub Ended : Ran → Disk → Seen → Type 0
   Ended r = Left k r (Up P k r.here.parts)
 
-  pub walk_ended : (v : Parts) (outs : List Effect) (d : Disk) (M : Seen) → Walks P e k outs (Up P k v) d M → Flat P e k (ran k v outs d).outs (Ended (ran k v outs d)) d M
+  pub walk_ended : (v : Parts) (outs : List Effect) (d : Disk) (M : Seen) → Walks P e k outs (Up P k v) d M →
+      Flat P e k (ran k v outs d).outs (Ended (ran k v outs d)) d M
   walk_ended v outs d M w = flat_to P e k (ran k v outs d).outs (Left k (ran k v outs d) (Up P k v)) (Ended (ran k v outs d)) d M
       (λ c N h. (h.0, h.1, subst (λ p. P (up k c p N)) (sym (ran_parts k v outs d)) h.2))
       (walks_flat P e k v outs (Up P k v) d M w)
 
-  one_ended : (from : ℕ) (h : Here) (M : Seen) (a : Handled) → Handles from h.disk h.parts M a → Flat P e k (ran_handled k h a).outs (Ended (ran_handled k h a)) h.disk M
+  one_ended : (from : ℕ) (h : Here) (M : Seen) (a : Handled) → Handles from h.disk h.parts M a →
+      Flat P e k (ran_handled k h a).outs (Ended (ran_handled k h a)) h.disk M
   one_ended from h M (Void outs) w = walk_ended h.parts outs h.disk M w
   one_ended from h M (Took v outs) w = walk_ended v outs h.disk M w
 
-  pub all_ended : (ms : List Message) (h : Here) (M : Seen) → AreSent k ms M.sent → P (up k h.disk h.parts M) → Flat P e k (handle_all k ms h).outs (Ended (handle_all k ms h)) h.disk M
+  pub all_ended : (ms : List Message) (h : Here) (M : Seen) → AreSent k ms M.sent → P (up k h.disk h.parts M) →
+      Flat P e k (handle_all k ms h).outs (Ended (handle_all k ms h)) h.disk M
   all_ended [] h M sent holds = (M.sent, within_same M.sent, (refl, tt, holds))
   all_ended (m ∷ ms) h M sent holds =
       flat_on P e k r.outs t.outs (With M.sent (Ended r)) (Ended (handle_all k (m ∷ ms) h)) h.disk M
-      (flat_keeps P e k M.sent r.outs (Ended r) h.disk M (within_same M.sent) (one_ended k h M (taken k h.disk h.parts k m) (handled k m h.disk h.parts M holds sent.0)))
+      (flat_keeps P e k M.sent r.outs (Ended r) h.disk M (within_same M.sent)
+      (one_ended k h M (taken k h.disk h.parts k m) (handled k m h.disk h.parts M holds sent.0)))
       (rest (all_ended ms r.here))
     where
       r : Ran
@@ -201,7 +214,8 @@ module _ (hd : Header) (P : Seen → Type 0) {F : Type 0} (keeps : KeepsFrom hd 
           (flat_to P e k t.outs (With N.sent (Ended t)) (Ended (handle_all k (m ∷ ms) h)) r.here.disk N
           (λ b L g. (g.0.0, both r.queue t.queue L (are_sent k r.queue N.sent L.sent g.1 f.0.1) g.0.1, g.0.2)) kept)
 
-  pub rounds_ended : (j : ℕ) (r : Ran) (d : Disk) (M : Seen) → Flat P e k r.outs (Ended r) d M → Flat P e k (rounds k j r).outs (Ended (rounds k j r)) d M
+  pub rounds_ended : (j : ℕ) (r : Ran) (d : Disk) (M : Seen) → Flat P e k r.outs (Ended r) d M →
+      Flat P e k (rounds k j r).outs (Ended (rounds k j r)) d M
   rounds_ended zero r d M f = f
   rounds_ended (suc j) r d M f = by r.queue refl (rounds_ended j (next_round k r) d M)
     where
@@ -210,16 +224,19 @@ module _ (hd : Header) (P : Seen → Type 0) {F : Type 0} (keeps : KeepsFrom hd 
 
       next : Flat P e k (next_round k r).outs (Ended (next_round k r)) d M
       next = flat_on P e k r.outs t.outs (Ended r) (Ended (next_round k r)) d M f
-          (λ c N g. subst (λ x. Flat P e k t.outs (Ended (next_round k r)) x N) (sym g.0) (all_ended r.queue r.here N g.1 (subst (λ x. P (up k x r.here.parts N)) g.0 g.2)))
+          (λ c N g. subst (λ x. Flat P e k t.outs (Ended (next_round k r)) x N) (sym g.0)
+          (all_ended r.queue r.here N g.1 (subst (λ x. P (up k x r.here.parts N)) g.0 g.2)))
 
       one : List Message → Ran
       one q = elim q [ [] ↦ r | m ∷ ms ↦ rounds k j (next_round k r) ]
 
-      by : (q : List Message) → r.queue ≡ q → (Flat P e k (next_round k r).outs (Ended (next_round k r)) d M → Flat P e k (rounds k j (next_round k r)).outs (Ended (rounds k j (next_round k r))) d M)
+      by : (q : List Message) → r.queue ≡ q → (Flat P e k (next_round k r).outs (Ended (next_round k r)) d M →
+          Flat P e k (rounds k j (next_round k r)).outs (Ended (rounds k j (next_round k r))) d M)
           → Flat P e k (one q).outs (Ended (one q)) d M
       by [] is ih = f
       by (m ∷ ms) is ih = ih next
 
   -- what a handler walks through holds at the end of its whole step
-  pub whole_ended : (v : Parts) (outs : List Effect) (d : Disk) (M : Seen) → Walks P e k outs (Up P k v) d M → Flat P e k (whole k v outs d).outs (Ended (whole k v outs d)) d M
+  pub whole_ended : (v : Parts) (outs : List Effect) (d : Disk) (M : Seen) → Walks P e k outs (Up P k v) d M →
+      Flat P e k (whole k v outs d).outs (Ended (whole k v outs d)) d M
   whole_ended v outs d M w = rounds_ended most_rounds (ran k v outs d) d M (walk_ended v outs d M w)

@@ -1,21 +1,14 @@
 -- The tree that begun actions make, and that a coordinator's next action begins in it.
-use Rattle.std.proofs.Common.{◌≡◌, ◌≢◌, ◌⊎◌, ◌≤◌, ◌<◌, ◌+◌, ℕ, List, [], ◌∷◌, ◌++◌, length, take, Bool, true, false, cond, ◌||◌, Option, Some, None, refl, sym, ◌∙◌, ap, subst, inl, inr, ⊎_elim, Contains, arith}
-use Rattle.std.proofs.lemmas.Bool.{or_cases}
-use Rattle.std.proofs.lemmas.List.{length-take-le, length-append, take-append-le}
-use Rattle.arj_base.specs.Path.{before_last, first_uid}
-use Rattle.arj_base.specs.Rows.{last_uid, front, is_on}
-use Rattle.arj_base.specs.Uid.{uid_eq}
-use Rattle.arj_base.proofs.Uids.{uid_is, uid_same, uid_other, uid_cases}
-use Rattle.arj_lock.proofs.Members.{In, in_from, in_to}
-use Rattle.arj_lock.proofs.Paths.{heir_is, on_last, on_front}
-use Rattle.arj_msg.proofs.PathLaws.{path_is}
-use Rattle.arj_protocol.specs.Words.{Uid, Path, Kind, uids_of, tops_of, path_of}
-use Rattle.arj_protocol.specs.Words.kind
-use Rattle.arj_protocol.specs.Ask.{actor, top_path, top_of}
-use Rattle.arj_protocol.specs.Tree.{Branch, Tree, root_of, next_uid, path_below}
-use Rattle.arj_law_parts.specs.parts.Actions.{Action, act_of, action_of, paths_of, owner_in, owners_of, IsNew, Stands, Begins, AreBegun, Agree, IsCounted, AreCounted, MayBegin}
-use Rattle.arj_law_parts.specs.parts.Copies.{Paths, IsTree}
-use Rattle.arj_law_parts.specs.parts.Tops.{IsTop, IsHolder, Fits}
+use Rattle.arj_law_parts.proofs.Words
+use Words.{◌≡◌, ◌≢◌, ◌⊎◌, ◌≤◌, ◌<◌, ◌+◌, ℕ, List, [], ◌∷◌, ◌++◌, length, take, Bool, true, false, cond, ◌||◌, Option, Some, None, refl, sym}
+use Words.{◌∙◌, ap, subst, inl, inr, ⊎_elim, Contains, arith, or_cases, length-take-le, length-append, take-append-le, before_last}
+use Words.{first_uid, last_uid, front, is_on, uid_eq, uid_is, uid_same, uid_other, uid_cases, In, in_from, in_to, heir_is, on_last}
+use Words.{on_front, path_is, Uid, Path, Kind, uids_of, tops_of, path_of, actor, top_path, top_of, Branch, Tree, root_of, next_uid}
+use Words.{path_below}
+use Words.kind
+use Rattle.arj_law_parts.proofs.Terms
+use Terms.{Action, act_of, action_of, Stands, AreBegun, Agree, AreCounted, MayBegin, Paths, IsTree, IsTop, IsHolder, Fits}
+use Rattle.arj_law_parts.specs.parts.Actions.{paths_of, owner_in, owners_of, IsNew, Begins, IsCounted}
 
 never : {P : Type 0} (b : Bool) → b ≡ true → b ≡ false → P
 never b holds fails = let no_way : true ≡ false = sym holds ∙ fails in cc
@@ -55,7 +48,8 @@ pub on_more : (us : List Uid) (u w : Uid) → is_on (us ++ u ∷ []) w ≡ true 
 on_more [] u w on = ⊎_elim (λ same. inr (uid_is u w same)) (λ none. let no_way : false ≡ true = none in cc) (or_cases (uid_eq u w) false on)
 on_more (v ∷ us) u w on = by (uid_eq v w) (on_more us u w) on
   where
-    by : (b : Bool) → (is_on (us ++ u ∷ []) w ≡ true → (is_on us w ≡ true) ⊎ (u ≡ w)) → (b || is_on (us ++ u ∷ []) w) ≡ true → ((b || is_on us w) ≡ true) ⊎ (u ≡ w)
+    by : (b : Bool) → (is_on (us ++ u ∷ []) w ≡ true → (is_on us w ≡ true) ⊎ (u ≡ w)) → (b || is_on (us ++ u ∷ []) w) ≡ true →
+        ((b || is_on us w) ≡ true) ⊎ (u ≡ w)
     by true ih h = inl refl
     by false ih h = ih h
 
@@ -66,20 +60,26 @@ older_new u a acts new = λ b c. new b (in_to b (a ∷ acts) (inr (in_from b act
 
 -- a new action isn't an earlier one
 apart : (a b : Action) (acts : List Action) → IsNew (act_of a) acts → In b acts → act_of a ≢ act_of b
-apart a b acts new i same = never (is_on (uids_of b.path) (act_of a)) (ap (is_on (uids_of b.path)) same ∙ on_own b.path) (new b (in_to b acts i))
+apart a b acts new i same =
+    never (is_on (uids_of b.path) (act_of a)) (ap (is_on (uids_of b.path)) same ∙ on_own b.path) (new b (in_to b acts i))
 
 pub path_found : (acts : List Action) → AreBegun acts → Agree acts (paths_of acts)
 path_found [] begun a c = absurd (in_from a [] c)
 path_found (b ∷ acts) begun a c = by (in_from a (b ∷ acts) c) (path_found acts begun.1 a)
   where
-    by : (b ≡ a) ⊎ In a acts → (Contains acts a → paths_of acts (act_of a) ≡ uids_of a.path) → paths_of (b ∷ acts) (act_of a) ≡ uids_of a.path
-    by (inl same) ih = subst (λ (d : Action). paths_of (b ∷ acts) (act_of d) ≡ uids_of d.path) same (λ i. cond (uid_same (act_of b) i) (uids_of b.path) (paths_of acts (act_of b)))
-    by (inr i) ih = (λ j. cond (uid_other (act_of b) (act_of a) (apart b a acts begun.0.new i) j) (uids_of b.path) (paths_of acts (act_of a))) ∙ ih (in_to a acts i)
+    by : (b ≡ a) ⊎ In a acts → (Contains acts a → paths_of acts (act_of a) ≡ uids_of a.path) →
+        paths_of (b ∷ acts) (act_of a) ≡ uids_of a.path
+    by (inl same) ih = subst (λ (d : Action). paths_of (b ∷ acts) (act_of d) ≡ uids_of d.path) same
+        (λ i. cond (uid_same (act_of b) i) (uids_of b.path) (paths_of acts (act_of b)))
+    by (inr i) ih = (λ j. cond (uid_other (act_of b) (act_of a) (apart b a acts begun.0.new i) j) (uids_of b.path)
+        (paths_of acts (act_of a))) ∙ ih (in_to a acts i)
 
 owner_found : (acts : List Action) → AreBegun acts → (a : Action) → In a acts → owners_of acts (act_of a) ≡ owner_in a a.kind
 owner_found [] begun a i = absurd i
-owner_found (b ∷ acts) begun a (inl same) = subst (λ (d : Action). owners_of (b ∷ acts) (act_of d) ≡ owner_in d d.kind) same (λ i. cond (uid_same (act_of b) i) (owner_in b b.kind) (owners_of acts (act_of b)))
-owner_found (b ∷ acts) begun a (inr i) = (λ j. cond (uid_other (act_of b) (act_of a) (apart b a acts begun.0.new i) j) (owner_in b b.kind) (owners_of acts (act_of a))) ∙ owner_found acts begun.1 a i
+owner_found (b ∷ acts) begun a (inl same) = subst (λ (d : Action). owners_of (b ∷ acts) (act_of d) ≡ owner_in d d.kind) same
+    (λ i. cond (uid_same (act_of b) i) (owner_in b b.kind) (owners_of acts (act_of b)))
+owner_found (b ∷ acts) begun a (inr i) = (λ j. cond (uid_other (act_of b) (act_of a) (apart b a acts begun.0.new i) j) (owner_in b b.kind)
+    (owners_of acts (act_of a))) ∙ owner_found acts begun.1 a i
 
 -- actions with one Uid are one
 pub one_action : (acts : List Action) → AreBegun acts → (a b : Action) → In a acts → In b acts → act_of a ≡ act_of b → a ≡ b
@@ -112,15 +112,18 @@ still_stands c a acts kind.Independent s = s
 
 pub where_stands : (acts : List Action) → AreBegun acts → (a : Action) → In a acts → Stands acts a a.kind
 where_stands [] begun a i = absurd i
-where_stands (b ∷ acts) begun a (inl same) = subst (λ (d : Action). Stands (b ∷ acts) d d.kind) same (still_stands b b acts b.kind begun.0.stands)
+where_stands (b ∷ acts) begun a (inl same) =
+    subst (λ (d : Action). Stands (b ∷ acts) d d.kind) same (still_stands b b acts b.kind begun.0.stands)
 where_stands (b ∷ acts) begun a (inr i) = still_stands b a acts a.kind (where_stands acts begun.1 a i)
 
 -- a serializing action stands alone
-pub serial_alone : (acts : List Action) → AreBegun acts → (s : Action) → In s acts → s.kind ≡ kind.Serial → (uids_of s.path ≡ act_of s ∷ []) × (tops_of s.path ≡ 1)
+pub serial_alone : (acts : List Action) → AreBegun acts → (s : Action) → In s acts → s.kind ≡ kind.Serial →
+    (uids_of s.path ≡ act_of s ∷ []) × (tops_of s.path ≡ 1)
 serial_alone acts begun s i is = subst (Stands acts s) is (where_stands acts begun s i)
 
 -- an action stands alone, or right below an earlier one
-parts : (acts : List Action) (a : Action) (k : Kind) → Stands acts a k → (uids_of a.path ≡ act_of a ∷ []) ⊎ ((b : Action) × In b acts × (uids_of a.path ≡ uids_of b.path ++ act_of a ∷ []))
+parts : (acts : List Action) (a : Action) (k : Kind) → Stands acts a k →
+    (uids_of a.path ≡ act_of a ∷ []) ⊎ ((b : Action) × In b acts × (uids_of a.path ≡ uids_of b.path ++ act_of a ∷ []))
 parts acts a kind.Nested s = inr (s.0, in_from s.0 acts s.1, s.3)
 parts acts a kind.Constituent s = inr (s.0, in_from s.0 acts s.1, s.3)
 parts acts a kind.Top s = inl s.0
@@ -158,15 +161,20 @@ module _ (a : Action) (acts : List Action) (new : Begins a acts) (found : Agree 
       old other =
           let up : before_last (paths_of acts u) ≡ Some h = ap before_last (sym (at_old u other)) ∙ parent in
           let t = tree.heir u h up in
-          let apart_h : h ≢ act_of a = λ same. never (is_on (paths_of acts u) (act_of a)) (ap (is_on (paths_of acts u)) (sym same) ∙ before_on (paths_of acts u) h up) (off_old (act_of a) acts new.new u other) in
+          let apart_h : h ≢ act_of a = λ same. never (is_on (paths_of acts u) (act_of a))
+          (ap (is_on (paths_of acts u)) (sym same) ∙ before_on (paths_of acts u) h up) (off_old (act_of a) acts new.new u other) in
           (ap front (at_old u other) ∙ t.0 ∙ sym (at_old h apart_h), ap (λ us. is_on (front us) u) (at_old u other) ∙ t.1)
 
       first : u ≡ act_of a → (front (after u) ≡ after h) × (is_on (front (after u)) u ≡ false)
       first same = one (parts acts a a.kind new.stands)
         where
-          one : (uids_of a.path ≡ act_of a ∷ []) ⊎ ((b : Action) × In b acts × (uids_of a.path ≡ uids_of b.path ++ act_of a ∷ [])) → (front (after u) ≡ after h) × (is_on (front (after u)) u ≡ false)
+          one : (uids_of a.path ≡ act_of a ∷ []) ⊎ ((b : Action) × In b acts × (uids_of a.path ≡ uids_of b.path ++ act_of a ∷ [])) →
+              (front (after u) ≡ after h) × (is_on (front (after u)) u ≡ false)
           one (inl alone) = let no_way : ◌≡◌ {A = Option Uid} None (Some h) = sym (ap before_last (at_new u same ∙ alone)) ∙ parent in cc
-          one (inr (b, i, is)) = (front_is ∙ sym (found b (in_to b acts i)) ∙ ap (paths_of acts) (sym its) ∙ sym (at_old h apart_h), ap (λ us. is_on us u) front_is ∙ ap (is_on (uids_of b.path)) same ∙ new.new b (in_to b acts i))
+          one (inr (b, i, is)) = (
+            front_is ∙ sym (found b (in_to b acts i)) ∙ ap (paths_of acts) (sym its) ∙ sym (at_old h apart_h),
+            ap (λ us. is_on us u) front_is ∙ ap (is_on (uids_of b.path)) same ∙ new.new b (in_to b acts i),
+          )
             where
               whole : after u ≡ uids_of b.path ++ act_of a ∷ []
               whole = at_new u same ∙ is
@@ -175,7 +183,8 @@ module _ (a : Action) (acts : List Action) (new : Begins a acts) (found : Agree 
               front_is = ap front whole ∙ front_more (uids_of b.path) (act_of a)
 
               its : h ≡ act_of b
-              its = let e : ◌≡◌ {A = Option Uid} (Some h) (Some (act_of b)) = sym parent ∙ ap before_last whole ∙ before_more (uids_of b.path) (act_of a) (path_some b.path) in cc
+              its = let e : ◌≡◌ {A = Option Uid} (Some h) (Some (act_of b)) = sym parent ∙ ap before_last whole
+                  ∙ before_more (uids_of b.path) (act_of a) (path_some b.path) in cc
 
               apart_h : h ≢ act_of a
               apart_h is_new = apart a b acts new.new i (sym is_new ∙ its)
@@ -205,13 +214,16 @@ record HasTop (acts : List Action) (a : Action) : Type 0 where
   there : In top acts
   path : top_path a.path ≡ uids_of top.path
   unserial : top.kind ≢ kind.Serial
-  owned : ((uids_of top.path ≡ act_of top ∷ []) × (owner_in top top.kind ≡ act_of top)) ⊎ ((s : Action) × In s acts × (s.kind ≡ kind.Serial) × (uids_of top.path ≡ act_of s ∷ act_of top ∷ []) × (top.kind ≡ kind.Constituent))
+  owned : ((uids_of top.path ≡ act_of top ∷ []) × (owner_in top top.kind ≡ act_of top)) ⊎ ((s : Action) × In s acts × (s.kind ≡ kind.Serial)
+      × (uids_of top.path ≡ act_of s ∷ act_of top ∷ []) × (top.kind ≡ kind.Constituent))
 
 top_still : (c : Action) (acts : List Action) (a : Action) → HasTop acts a → HasTop (c ∷ acts) a
 top_still c acts a h = record { top = h.top; there = inr h.there; path = h.path; unserial = h.unserial; owned = by h.owned }
   where
-    by : ((uids_of h.top.path ≡ act_of h.top ∷ []) × (owner_in h.top h.top.kind ≡ act_of h.top)) ⊎ ((s : Action) × In s acts × (s.kind ≡ kind.Serial) × (uids_of h.top.path ≡ act_of s ∷ act_of h.top ∷ []) × (h.top.kind ≡ kind.Constituent))
-        → ((uids_of h.top.path ≡ act_of h.top ∷ []) × (owner_in h.top h.top.kind ≡ act_of h.top)) ⊎ ((s : Action) × In s (c ∷ acts) × (s.kind ≡ kind.Serial) × (uids_of h.top.path ≡ act_of s ∷ act_of h.top ∷ []) × (h.top.kind ≡ kind.Constituent))
+    by : ((uids_of h.top.path ≡ act_of h.top ∷ []) × (owner_in h.top h.top.kind ≡ act_of h.top)) ⊎ ((s : Action) × In s acts
+        × (s.kind ≡ kind.Serial) × (uids_of h.top.path ≡ act_of s ∷ act_of h.top ∷ []) × (h.top.kind ≡ kind.Constituent))
+        → ((uids_of h.top.path ≡ act_of h.top ∷ []) × (owner_in h.top h.top.kind ≡ act_of h.top)) ⊎ ((s : Action) × In s (c ∷ acts)
+        × (s.kind ≡ kind.Serial) × (uids_of h.top.path ≡ act_of s ∷ act_of h.top ∷ []) × (h.top.kind ≡ kind.Constituent))
     by (inl alone) = inl alone
     by (inr (s, i, is, path, top)) = inr (s, inr i, is, path, top)
 
@@ -230,8 +242,15 @@ has_top (c ∷ acts) begun a (inl same) unserial = subst (HasTop (c ∷ acts)) s
     is_other : c.kind ≢ kind.Serial
     is_other is = unserial (ap (λ (d : Action). d.kind) (sym same) ∙ is)
 
-    alone : (k : Kind) → c.kind ≡ k → owner_in c k ≡ act_of c → (uids_of c.path ≡ act_of c ∷ []) × (tops_of c.path ≡ 1) → HasTop (c ∷ acts) c
-    alone k is own s = record { top = c; there = inl refl; path = whole_top c.path (act_of c ∷ []) s.0 s.1; unserial = is_other; owned = inl (s.0, ap (owner_in c) is ∙ own) }
+    alone : (k : Kind) → c.kind ≡ k → owner_in c k ≡ act_of c → (uids_of c.path ≡ act_of c ∷ []) × (tops_of c.path ≡ 1) →
+        HasTop (c ∷ acts) c
+    alone k is own s = record {
+      top = c;
+      there = inl refl;
+      path = whole_top c.path (act_of c ∷ []) s.0 s.1;
+      unserial = is_other;
+      owned = inl (s.0, ap (owner_in c) is ∙ own);
+    }
 
     by : (k : Kind) → c.kind ≡ k → Stands acts c k → ((b : Action) → In b acts → b.kind ≢ kind.Serial → HasTop acts b) → HasTop (c ∷ acts) c
     by kind.Top is s ih = alone kind.Top is refl s
@@ -250,15 +269,23 @@ has_top (c ∷ acts) begun a (inl same) unserial = subst (HasTop (c ∷ acts)) s
     by kind.Constituent is s ih =
         let up = serial_alone acts begun.1 s.0 (in_from s.0 acts s.1) s.2 in
         let path : uids_of c.path ≡ act_of s.0 ∷ act_of c ∷ [] = s.3 ∙ ap (λ us. us ++ act_of c ∷ []) up.0 in
-        record { top = c; there = inl refl; path = whole_top c.path (act_of s.0 ∷ act_of c ∷ []) path s.4; unserial = is_other; owned = inr (s.0, inr (in_from s.0 acts s.1), s.2, path, is) }
+        record {
+          top = c;
+          there = inl refl;
+          path = whole_top c.path (act_of s.0 ∷ act_of c ∷ []) path s.4;
+          unserial = is_other;
+          owned = inr (s.0, inr (in_from s.0 acts s.1), s.2, path, is);
+        }
 
 -- whoever has an owner other than itself is a constituent
-owner_cases : (acts : List Action) (u : Uid) → (owners_of acts u ≡ u) ⊎ ((a : Action) × In a acts × (a.kind ≡ kind.Constituent) × (act_of a ≡ u) × (owners_of acts u ≡ root_of a.path))
+owner_cases : (acts : List Action) (u : Uid) →
+    (owners_of acts u ≡ u) ⊎ ((a : Action) × In a acts × (a.kind ≡ kind.Constituent) × (act_of a ≡ u) × (owners_of acts u ≡ root_of a.path))
 owner_cases [] u = inl refl
 owner_cases (a ∷ acts) u = by (uid_eq (act_of a) u) refl (owner_cases acts u)
   where
     Cases : Bool → Type 0
-    Cases b = (cond b (owner_in a a.kind) (owners_of acts u) ≡ u) ⊎ ((d : Action) × In d (a ∷ acts) × (d.kind ≡ kind.Constituent) × (act_of d ≡ u) × (cond b (owner_in a a.kind) (owners_of acts u) ≡ root_of d.path))
+    Cases b = (cond b (owner_in a a.kind) (owners_of acts u) ≡ u) ⊎ ((d : Action) × In d (a ∷ acts) × (d.kind ≡ kind.Constituent)
+        × (act_of d ≡ u) × (cond b (owner_in a a.kind) (owners_of acts u) ≡ root_of d.path))
 
     own : (k : Kind) → a.kind ≡ k → act_of a ≡ u → Cases true
     own kind.Constituent is same = inr (a, inl refl, is, same, ap (owner_in a) is)
@@ -267,13 +294,15 @@ owner_cases (a ∷ acts) u = by (uid_eq (act_of a) u) refl (owner_cases acts u)
     own kind.Serial is same = inl (ap (owner_in a) is ∙ same)
     own kind.Independent is same = inl (ap (owner_in a) is ∙ same)
 
-    by : (b : Bool) → uid_eq (act_of a) u ≡ b → (owners_of acts u ≡ u) ⊎ ((d : Action) × In d acts × (d.kind ≡ kind.Constituent) × (act_of d ≡ u) × (owners_of acts u ≡ root_of d.path)) → Cases b
+    by : (b : Bool) → uid_eq (act_of a) u ≡ b → (owners_of acts u ≡ u)
+        ⊎ ((d : Action) × In d acts × (d.kind ≡ kind.Constituent) × (act_of d ≡ u) × (owners_of acts u ≡ root_of d.path)) → Cases b
     by true same ih = own a.kind refl (uid_is (act_of a) u same)
     by false other (inl ih) = inl ih
     by false other (inr (d, i, is, same, e)) = inr (d, inr i, is, same, e)
 
 -- the root of a constituent is a serializing action
-constituent_root : (acts : List Action) → AreBegun acts → (a : Action) → In a acts → a.kind ≡ kind.Constituent → (s : Action) × In s acts × (s.kind ≡ kind.Serial) × (root_of a.path ≡ act_of s)
+constituent_root : (acts : List Action) → AreBegun acts → (a : Action) → In a acts → a.kind ≡ kind.Constituent →
+    (s : Action) × In s acts × (s.kind ≡ kind.Serial) × (root_of a.path ≡ act_of s)
 constituent_root acts begun a i is =
     let s : Stands acts a kind.Constituent = subst (Stands acts a) is (where_stands acts begun a i) in
     let up = serial_alone acts begun s.0 (in_from s.0 acts s.1) s.2 in
@@ -291,22 +320,29 @@ begun_fits acts begun a c unserial = by h.owned
     only : IsTop (owners_of acts) (act_of h.top)
     only u is = one (owner_cases acts u)
       where
-        one : (owners_of acts u ≡ u) ⊎ ((d : Action) × In d acts × (d.kind ≡ kind.Constituent) × (act_of d ≡ u) × (owners_of acts u ≡ root_of d.path)) → u ≡ act_of h.top
+        one : (owners_of acts u ≡ u) ⊎ ((d : Action) × In d acts × (d.kind ≡ kind.Constituent) × (act_of d ≡ u)
+            × (owners_of acts u ≡ root_of d.path)) → u ≡ act_of h.top
         one (inl own) = sym own ∙ is
         one (inr (d, i, also, same, e)) =
             let r = constituent_root acts begun d i also in
             absurd (h.unserial (ap (λ (b : Action). b.kind) (one_action acts begun h.top r.0 h.there r.1 (sym is ∙ e ∙ r.3)) ∙ r.2))
 
-    with : (us : List Uid) → top_path a.path ≡ us → IsHolder (owners_of acts) us → is_on us (owners_of acts (act_of h.top)) ≡ true → Fits (owners_of acts) a.path
+    with : (us : List Uid) → top_path a.path ≡ us → IsHolder (owners_of acts) us → is_on us (owners_of acts (act_of h.top)) ≡ true →
+        Fits (owners_of acts) a.path
     with us path holder owned = record {
       holder = subst (IsHolder (owners_of acts)) (sym path) holder;
       top = subst (IsTop (owners_of acts)) (sym top_is) only;
       owned = (λ i. is_on (path i) (owners_of acts (top_is i))) ∙ owned;
     }
 
-    by : ((uids_of h.top.path ≡ act_of h.top ∷ []) × (owner_in h.top h.top.kind ≡ act_of h.top)) ⊎ ((s : Action) × In s acts × (s.kind ≡ kind.Serial) × (uids_of h.top.path ≡ act_of s ∷ act_of h.top ∷ []) × (h.top.kind ≡ kind.Constituent)) → Fits (owners_of acts) a.path
-    by (inl alone) = with (act_of h.top ∷ []) (h.path ∙ alone.0) (inl refl) (ap (is_on (act_of h.top ∷ [])) (owner_found acts begun h.top h.there ∙ alone.1) ∙ on_last (act_of h.top ∷ []) (omega arith))
-    by (inr (s, i, serial, path, constituent)) = with (act_of s ∷ act_of h.top ∷ []) (h.path ∙ path) (inr (ap (λ u. u ∷ act_of h.top ∷ []) (sym owner_is), ap (λ u. uid_eq u (act_of h.top)) owner_is ∙ uid_other (act_of s) (act_of h.top) other)) (ap (is_on (act_of s ∷ act_of h.top ∷ [])) owner_is ∙ (λ j. uid_same (act_of s) j || is_on (act_of h.top ∷ []) (act_of s)))
+    by : ((uids_of h.top.path ≡ act_of h.top ∷ []) × (owner_in h.top h.top.kind ≡ act_of h.top)) ⊎ ((s : Action) × In s acts × (s.kind ≡
+        kind.Serial) × (uids_of h.top.path ≡ act_of s ∷ act_of h.top ∷ []) × (h.top.kind ≡ kind.Constituent)) → Fits (owners_of acts) a.path
+    by (inl alone) = with (act_of h.top ∷ []) (h.path ∙ alone.0) (inl refl)
+        (ap (is_on (act_of h.top ∷ [])) (owner_found acts begun h.top h.there ∙ alone.1) ∙ on_last (act_of h.top ∷ []) (omega arith))
+    by (inr (s, i, serial, path, constituent)) = with (act_of s ∷ act_of h.top ∷ []) (h.path ∙ path) (inr (
+      ap (λ u. u ∷ act_of h.top ∷ []) (sym owner_is),
+      ap (λ u. uid_eq u (act_of h.top)) owner_is ∙ uid_other (act_of s) (act_of h.top) other,
+    )) (ap (is_on (act_of s ∷ act_of h.top ∷ [])) owner_is ∙ (λ j. uid_same (act_of s) j || is_on (act_of h.top ∷ []) (act_of s)))
       where
         owner_is : owners_of acts (act_of h.top) ≡ act_of s
         owner_is = owner_found acts begun h.top h.there ∙ ap (owner_in h.top) constituent ∙ ap first_uid path
@@ -321,9 +357,11 @@ next_new t acts counted a c = by (is_on (uids_of a.path) (next_uid t)) refl
   where
     by : (b : Bool) → is_on (uids_of a.path) (next_uid t) ≡ b → b ≡ false
     by false is = refl
-    by true is = ⊎_elim (λ earlier. absurd (omega (arith, earlier))) (λ now. absurd (omega (arith, now.1))) (counted a (next_uid t) c is refl)
+    by true is =
+        ⊎_elim (λ earlier. absurd (omega (arith, earlier))) (λ now. absurd (omega (arith, now.1))) (counted a (next_uid t) c is refl)
 
-pub begins_in_tree : (acts : List Action) → AreBegun acts → (k : Kind) (parent : Option Branch) (t : Tree) → AreCounted t.node t.inc (length t.branches) acts → MayBegin acts k parent → Begins (record { path = path_below k parent (next_uid t); kind = k }) acts
+pub begins_in_tree : (acts : List Action) → AreBegun acts → (k : Kind) (parent : Option Branch) (t : Tree) → AreCounted t.node t.inc
+    (length t.branches) acts → MayBegin acts k parent → Begins (record { path = path_below k parent (next_uid t); kind = k }) acts
 begins_in_tree acts begun k parent t counted may = by k parent may
   where
     u : Uid
@@ -332,14 +370,17 @@ begins_in_tree acts begun k parent t counted may = by k parent may
     fresh : IsNew u acts
     fresh = next_new t acts counted
 
-    begins : (k' : Kind) (p : Path) → actor p ≡ u → Stands acts (record { path = p; kind = k' }) k' → Begins (record { path = p; kind = k' }) acts
+    begins : (k' : Kind) (p : Path) → actor p ≡ u → Stands acts (record { path = p; kind = k' }) k' →
+        Begins (record { path = p; kind = k' }) acts
     begins k' p is stands = record { new = subst (λ w. IsNew w acts) (sym is) fresh; stands = stands }
 
-    root : (k' : Kind) → ((a : Action) → (uids_of a.path ≡ act_of a ∷ []) × (tops_of a.path ≡ 1) → Stands acts a k') → Begins (record { path = path_of (u ∷ []) 1; kind = k' }) acts
+    root : (k' : Kind) → ((a : Action) → (uids_of a.path ≡ act_of a ∷ []) × (tops_of a.path ≡ 1) → Stands acts a k') →
+        Begins (record { path = path_of (u ∷ []) 1; kind = k' }) acts
     root k' to =
         let m = path_is (u ∷ []) 1 (omega arith) (omega arith) (omega arith) (omega arith) (omega arith) in
         let is : actor (path_of (u ∷ []) 1) ≡ u = ap last_uid m.has in
-        begins k' (path_of (u ∷ []) 1) is (to (record { path = path_of (u ∷ []) 1; kind = k' }) (m.has ∙ ap (λ w. w ∷ []) (sym is), m.ends_with))
+        begins k' (path_of (u ∷ []) 1) is
+        (to (record { path = path_of (u ∷ []) 1; kind = k' }) (m.has ∙ ap (λ w. w ∷ []) (sym is), m.ends_with))
 
     longer : (us : List Uid) → length (us ++ u ∷ []) ≡ length us + 1
     longer us = length-append us (u ∷ [])
@@ -351,7 +392,8 @@ begins_in_tree acts begun k parent t counted may = by k parent may
         let tops : ℕ = tops_of b.path in
         let p : Path = path_of (us ++ u ∷ []) tops in
         let long = longer us in
-        let made = path_is (us ++ u ∷ []) tops (omega (arith, long)) (omega (arith, long, m.2)) b.path.one_top b.path.two_tops (omega (arith, long, b.path.within, path_length b.path)) in
+        let made = path_is (us ++ u ∷ []) tops (omega (arith, long)) (omega (arith, long, m.2)) b.path.one_top b.path.two_tops
+        (omega (arith, long, b.path.within, path_length b.path)) in
         let is : actor p ≡ u = ap last_uid made.has ∙ last_more us u in
         begins kind.Nested p is (action_of b, m.0, m.1, made.has ∙ ap (λ w. us ++ w ∷ []) (sym is), made.ends_with)
     by kind.Constituent None m = absurd m
@@ -372,7 +414,8 @@ begins_in_tree acts begun k parent t counted may = by k parent may
 
 -- ---- counting
 
-pub counted_more : (node inc count more_now : ℕ) (a : Action) (acts : List Action) → AreCounted node inc count acts → Begins a acts → count ≤ more_now → IsCounted node inc more_now (act_of a) → AreCounted node inc more_now (a ∷ acts)
+pub counted_more : (node inc count more_now : ℕ) (a : Action) (acts : List Action) → AreCounted node inc count acts → Begins a acts →
+    count ≤ more_now → IsCounted node inc more_now (act_of a) → AreCounted node inc more_now (a ∷ acts)
 counted_more node inc count more_now a acts counted begins up its b w c on here = by (in_from b (a ∷ acts) c)
   where
     old : (d : Action) → In d acts → is_on (uids_of d.path) w ≡ true → (w.inc < inc) ⊎ ((w.inc ≡ inc) × (w.num ≤ more_now))
@@ -381,13 +424,17 @@ counted_more node inc count more_now a acts counted begins up its b w c on here 
     own : act_of a ≡ w → (w.inc < inc) ⊎ ((w.inc ≡ inc) × (w.num ≤ more_now))
     own same = subst (IsCounted node inc more_now) same its here
 
-    new : is_on (uids_of a.path) w ≡ true → (uids_of a.path ≡ act_of a ∷ []) ⊎ ((d : Action) × In d acts × (uids_of a.path ≡ uids_of d.path ++ act_of a ∷ [])) → (w.inc < inc) ⊎ ((w.inc ≡ inc) × (w.num ≤ more_now))
-    new is (inl alone) = ⊎_elim (λ none. let no_way : false ≡ true = none in cc) own (on_more [] (act_of a) w (ap (λ us. is_on us w) (sym alone) ∙ is))
+    new : is_on (uids_of a.path) w ≡ true → (uids_of a.path ≡ act_of a ∷ []) ⊎ ((d : Action) × In d acts
+        × (uids_of a.path ≡ uids_of d.path ++ act_of a ∷ [])) → (w.inc < inc) ⊎ ((w.inc ≡ inc) × (w.num ≤ more_now))
+    new is (inl alone) =
+        ⊎_elim (λ none. let no_way : false ≡ true = none in cc) own (on_more [] (act_of a) w (ap (λ us. is_on us w) (sym alone) ∙ is))
     new is (inr (d, i, path)) = ⊎_elim (old d i) own (on_more (uids_of d.path) (act_of a) w (ap (λ us. is_on us w) (sym path) ∙ is))
 
     by : (a ≡ b) ⊎ In b acts → (w.inc < inc) ⊎ ((w.inc ≡ inc) × (w.num ≤ more_now))
     by (inl same) = new (ap (λ (d : Action). is_on (uids_of d.path) w) same ∙ on) (parts acts a a.kind begins.stands)
     by (inr i) = old b i on
 
-pub counted_anew : (node inc later count : ℕ) (acts : List Action) → AreCounted node inc count acts → inc < later → AreCounted node later 0 acts
-counted_anew node inc later count acts counted up a u c on here = ⊎_elim (λ earlier. inl (omega (arith, earlier, up))) (λ now. inl (omega (arith, now.0, up))) (counted a u c on here)
+pub counted_anew : (node inc later count : ℕ) (acts : List Action) → AreCounted node inc count acts → inc < later →
+    AreCounted node later 0 acts
+counted_anew node inc later count acts counted up a u c on here =
+    ⊎_elim (λ earlier. inl (omega (arith, earlier, up))) (λ now. inl (omega (arith, now.0, up))) (counted a u c on here)

@@ -1,34 +1,25 @@
 -- Ends that a coordinator tells come in their turn.
-use Rattle.std.proofs.Common.{◌≡◌, ◌≢◌, ◌⊎◌, ◌≤◌, ℕ, List, [], ◌∷◌, ◌++◌, length, take, Bool, true, false, cond, not, ◌&&◌, ◌||◌, nat_lt, ◌==◌, Option, Some, None, refl, sym, ◌∙◌, ap, subst, inl, inr, ⊎_elim, Contains, arith}
-use Rattle.std.specs.Prelude.{is_some}
-use Rattle.std.proofs.lemmas.Bool.{or_cases}
-use Rattle.arj_base.specs.Path.{before_last}
-use Rattle.arj_base.specs.Rows.{Row, last_uid, front, is_on, grant_row, drop_rows, pass_rows, strengthened, first_conflict}
-use Rattle.arj_base.specs.Uid.{uid_eq, object}
-use Rattle.arj_base.proofs.Uids.{uid_is, uid_cases}
-use Rattle.arj_lock.specs.Passing.{CameBy, stayed, passed_on}
-use Rattle.arj_lock.proofs.Leaves.{grant_each}
-use Rattle.arj_lock.proofs.Members.{In, in_from, in_to, in_filter}
-use Rattle.arj_lock.proofs.OneEach.{none_in}
-use Rattle.arj_lock.proofs.PassLeaves.{came_by, has}
-use Rattle.arj_protocol.specs.Words.{Uid, Binding, Path, Head, End, Op, ObjectState, What, InvokedReply, VotedReply, Kind, uids_of, tops_of, op_mode}
-use Rattle.arj_protocol.specs.Words.ending
-use Rattle.arj_protocol.specs.Words.kind
-use Rattle.arj_protocol.specs.Ask.{actor}
-use Rattle.arj_protocol.specs.Copy.{Copy, taken_copy, end_copy, row_for, is_granted, is_top_in, run_copy, ask_copy, invoke_copy}
-use Rattle.arj_protocol.specs.Effect.{Served, Did, either, reply, void, did_nothing}
-use Rattle.arj_protocol.specs.Order.{at_number, put_number, at_uid, binding_less, binding_eq}
-use Rattle.arj_protocol.specs.Server.{Server, Kept, new_server, is_told, has_ended, is_top, active_binding, took_copy, activate, other_inc, changed_by, taken_end, end_new, end_one, apply_ends, told, keeps, on_copy, invoke_new, invoke_kept, invoke_now, is_below, invoke, first_unbound, vote_now, vote}
-use Rattle.arj_protocol.proofs.Maps.{put_same as put_number_same, put_other as put_number_other}
-use Rattle.arj_protocol.proofs.RowSteps.{one_or_two}
-use Rattle.arj_law_parts.specs.parts.Actions.{Action, act_of, AreBegun, Stands}
-use Rattle.arj_law_parts.specs.parts.Copies.{Paths, IsTree, IsLowest}
-use Rattle.arj_law_parts.specs.parts.Servers.{Follows, IsGoodServer, IsInTurn, AreInTurn, has_end_of, KnowsActions, HasAllBelow, IsTopOn, AreOrdered, IsBegun}
-use Rattle.arj_law_parts.proofs.parts.Begun.{on_own, path_length, front_more, where_stands, serial_alone}
-use Rattle.arj_law_parts.proofs.parts.GoodServers.{good_end_one}
-use Rattle.arj_law_parts.proofs.parts.Keys.{put_same, on_drop, on_with}
-use Rattle.arj_law_parts.proofs.parts.Pairs.{at_each, number_in}
-use Rattle.arj_law_parts.proofs.parts.ServerRuns.{told_follows, one_follows}
+use Rattle.arj_law_parts.proofs.Words
+use Words.{◌≡◌, ◌≢◌, ◌⊎◌, ◌≤◌, ℕ, List, [], ◌∷◌, ◌++◌, length, take, Bool, true, false, cond, not, ◌&&◌, ◌||◌, nat_lt, ◌==◌, Option, Some}
+use Words.{None, refl, sym, ◌∙◌, ap, subst, inl, inr, ⊎_elim, Contains, arith, is_some, or_cases, before_last, Row, last_uid, front, is_on}
+use Words.{grant_row, drop_rows, pass_rows, strengthened, first_conflict, uid_eq, object, uid_is, uid_cases, CameBy, stayed, passed_on}
+use Words.{grant_each, In, in_from, in_to, in_filter, none_in, came_by, Uid, Binding, Path, Head, End, Op, ObjectState, What, InvokedReply}
+use Words.{VotedReply, Kind, uids_of, tops_of, op_mode, actor, Copy, taken_copy, end_copy, row_for, is_granted, is_top_in, run_copy}
+use Words.{ask_copy, invoke_copy, Served, Did, either, reply, void, did_nothing, at_number, put_number, at_uid, binding_less, binding_eq}
+use Words.{Server, Kept, new_server, is_told, has_ended, is_top, active_binding, took_copy, activate, other_inc, changed_by, end_new}
+use Words.{end_one, apply_ends, told, keeps, on_copy, invoke_new, invoke_kept, invoke_now, is_below, invoke, first_unbound, vote_now, vote}
+use Words.{put_same as put_number_same, put_other as put_number_other, one_or_two}
+use Words.ending
+use Words.kind
+use Rattle.arj_law_parts.proofs.Terms
+use Terms.{taken_end, Action, act_of, AreBegun, Stands, Paths, IsTree, IsLowest, Follows, IsGoodServer, IsInTurn, AreInTurn, has_end_of}
+use Terms.{HasAllBelow, IsTopOn, AreOrdered, IsBegun}
+use Rattle.arj_law_parts.proofs.parts
+use parts.{GoodServers.good_end_one, Keys.put_same, Keys.on_drop, Keys.on_with, Pairs.at_each, Pairs.number_in}
+use parts.Begun.{on_own, path_length, front_more, where_stands, serial_alone}
+use parts.ServerRuns.{told_follows, one_follows}
+use Rattle.arj_law_parts.specs.parts.Servers.{KnowsActions}
+use Rattle.arj_lock.proofs.PassLeaves.{has}
 
 never : {P : Type 0} (b : Bool) → b ≡ true → b ≡ false → P
 never b holds fails = let no_way : true ≡ false = sym holds ∙ fails in cc
@@ -50,11 +41,14 @@ tells n u e s = by (is_told u s) refl
     by true is = is
     by false is = ap is_some (put_same u (taken_end u e s) s.ends)
 
-pub end_of_more : (u : Uid) (es : List (Uid × End)) (e : Uid × End) → has_end_of u (es ++ e ∷ []) ≡ true → (has_end_of u es ≡ true) ⊎ (e.0 ≡ u)
-end_of_more u [] e is = ⊎_elim (λ same. inr (uid_is e.0 u same)) (λ none. let no_way : false ≡ true = none in cc) (or_cases (uid_eq e.0 u) false is)
+pub end_of_more : (u : Uid) (es : List (Uid × End)) (e : Uid × End) → has_end_of u (es ++ e ∷ []) ≡ true →
+    (has_end_of u es ≡ true) ⊎ (e.0 ≡ u)
+end_of_more u [] e is =
+    ⊎_elim (λ same. inr (uid_is e.0 u same)) (λ none. let no_way : false ≡ true = none in cc) (or_cases (uid_eq e.0 u) false is)
 end_of_more u (f ∷ fs) e is = by (uid_eq f.0 u) (end_of_more u fs e) is
   where
-    by : (b : Bool) → (has_end_of u (fs ++ e ∷ []) ≡ true → (has_end_of u fs ≡ true) ⊎ (e.0 ≡ u)) → (b || has_end_of u (fs ++ e ∷ [])) ≡ true → ((b || has_end_of u fs) ≡ true) ⊎ (e.0 ≡ u)
+    by : (b : Bool) → (has_end_of u (fs ++ e ∷ []) ≡ true → (has_end_of u fs ≡ true) ⊎ (e.0 ≡ u)) →
+        (b || has_end_of u (fs ++ e ∷ [])) ≡ true → ((b || has_end_of u fs) ≡ true) ⊎ (e.0 ≡ u)
     by true ih h = inl refl
     by false ih h = ih h
 
@@ -72,22 +66,28 @@ module _ (acts : List Action) where
     voted = λ t a is k on other. let no_way : false ≡ true = is in cc;
   }
 
-  knows_put : (x : ℕ) (c : Copy) (s : Server) → ((r : Row) → Contains c.rows r → IsKnown acts r) → KnowsActions acts s → KnowsActions acts (record s { objects = put_number x c s.objects })
+  knows_put : (x : ℕ) (c : Copy) (s : Server) → ((r : Row) → Contains c.rows r → IsKnown acts r) → KnowsActions acts s →
+      KnowsActions acts (record s { objects = put_number x c s.objects })
   knows_put x c s known was = record { rows = λ y d r is k. place y d r is k; voted = was.voted }
     where
       place : (y : ℕ) (d : Copy) (r : Row) → at_number y (put_number x c s.objects) ≡ Some d → Contains d.rows r → IsKnown acts r
-      place y d r is k = ⊎_elim (λ same. at_same same) (λ apart. was.rows y d r (sym (put_number_other x y c s.objects apart.0) ∙ is) k) (one_or_two x y)
+      place y d r is k =
+          ⊎_elim (λ same. at_same same) (λ apart. was.rows y d r (sym (put_number_other x y c s.objects apart.0) ∙ is) k) (one_or_two x y)
         where
           at_same : x ≡ y → IsKnown acts r
           at_same same =
-              let e : ◌≡◌ {A = Option Copy} (Some c) (Some d) = sym (put_number_same x c s.objects) ∙ ap (λ j. at_number j (put_number x c s.objects)) same ∙ is in
+              let e : ◌≡◌ {A = Option Copy} (Some c) (Some d) = sym (put_number_same x c s.objects)
+              ∙ ap (λ j. at_number j (put_number x c s.objects)) same ∙ is in
               let one : c ≡ d = cc in
               known r (subst (λ (w : Copy). Contains w.rows r) (sym one) k)
 
-  pub knows_activate : (n : ℕ) (p : Path) (b : Binding) (st : ObjectState) (s : Server) → KnowsActions acts s → KnowsActions acts (activate n p b st s).part
-  knows_activate n p b st s knows = by (has_ended p s) (binding_less b (active_binding st.uid.num s)) (binding_eq b (active_binding st.uid.num s))
+  pub knows_activate : (n : ℕ) (p : Path) (b : Binding) (st : ObjectState) (s : Server) → KnowsActions acts s →
+      KnowsActions acts (activate n p b st s).part
+  knows_activate n p b st s knows =
+      by (has_ended p s) (binding_less b (active_binding st.uid.num s)) (binding_eq b (active_binding st.uid.num s))
     where
-      by : (over lower equal : Bool) → KnowsActions acts (cond {A = Served Server ℕ} (over || lower) (void s) (cond equal (reply s s.inc) (took_copy n st.uid.num b st s))).part
+      by : (over lower equal : Bool) → KnowsActions acts
+          (cond {A = Served Server ℕ} (over || lower) (void s) (cond equal (reply s s.inc) (took_copy n st.uid.num b st s))).part
       by true lower equal = knows
       by false true equal = knows
       by false false true = knows
@@ -98,11 +98,13 @@ module _ (acts : List Action) (begun : AreBegun acts) where
   least long tops = cond (nat_lt long tops) long tops
 
   -- the parent of an action was begun, and its top is the action's, or it is a serializing action
-  parent_known : (a : Action) → In a acts → (h : Uid) → before_last (uids_of a.path) ≡ Some h → (b : Action) × Contains acts b × (front (uids_of a.path) ≡ uids_of b.path) × (least (length (front (uids_of a.path))) (tops_of a.path) ≡ tops_of b.path)
+  parent_known : (a : Action) → In a acts → (h : Uid) → before_last (uids_of a.path) ≡ Some h → (b : Action) × Contains acts b
+      × (front (uids_of a.path) ≡ uids_of b.path) × (least (length (front (uids_of a.path))) (tops_of a.path) ≡ tops_of b.path)
   parent_known a i h parent = by a.kind (where_stands acts begun a i)
     where
       Found : Type 0
-      Found = (b : Action) × Contains acts b × (front (uids_of a.path) ≡ uids_of b.path) × (least (length (front (uids_of a.path))) (tops_of a.path) ≡ tops_of b.path)
+      Found = (b : Action) × Contains acts b × (front (uids_of a.path) ≡ uids_of b.path)
+          × (least (length (front (uids_of a.path))) (tops_of a.path) ≡ tops_of b.path)
 
       alone : uids_of a.path ≡ act_of a ∷ [] → Found
       alone is = let no_way : ◌≡◌ {A = Option Uid} None (Some h) = sym (ap before_last is) ∙ parent in cc
@@ -117,16 +119,23 @@ module _ (acts : List Action) (begun : AreBegun acts) where
       by kind.Nested s =
           let b : Action = s.0 in
           let path : front (uids_of a.path) ≡ uids_of b.path = ap front s.3 ∙ front_more (uids_of b.path) (act_of a) in
-          let inside : tops_of b.path ≤ length (uids_of b.path) = omega (arith, b.path.within, path_length b.path) in
-          (b, s.1, path, (λ j. least (length (path j)) (s.4 j)) ∙ (λ j. cond (within (length (uids_of b.path)) (tops_of b.path) inside j) (length (uids_of b.path)) (tops_of b.path)))
+          let inside : tops_of b.path ≤ length (uids_of b.path) = omega (arith, b.path.within, path_length b.path) in (
+            b,
+            s.1,
+            path,
+            (λ j. least (length (path j)) (s.4 j))
+                ∙ (λ j. cond (within (length (uids_of b.path)) (tops_of b.path) inside j) (length (uids_of b.path)) (tops_of b.path)),
+          )
       by kind.Constituent s =
           let b : Action = s.0 in
           let up = serial_alone acts begun b (in_from b acts s.1) s.2 in
           let path : front (uids_of a.path) ≡ uids_of b.path = ap front s.3 ∙ front_more (uids_of b.path) (act_of a) in
           (b, s.1, path, (λ j. least (length ((path ∙ up.0) j)) (s.4 j)) ∙ sym up.1)
 
-  pub known_end : (u : Uid) (e : End) (c : Copy) → ((r : Row) → Contains c.rows r → IsKnown acts r) → (y : Row) → Contains (end_copy u e c).rows y → IsKnown acts y
-  known_end u ending.Abort c known y k = known y (in_to y c.rows (in_filter (λ r. not (is_on r.holder u)) y c.rows (in_from y (drop_rows u c.rows) k)).0)
+  pub known_end : (u : Uid) (e : End) (c : Copy) → ((r : Row) → Contains c.rows r → IsKnown acts r) → (y : Row) →
+      Contains (end_copy u e c).rows y → IsKnown acts y
+  known_end u ending.Abort c known y k =
+      known y (in_to y c.rows (in_filter (λ r. not (is_on r.holder u)) y c.rows (in_from y (drop_rows u c.rows) k)).0)
   known_end u ending.Commit c known y k = by (came_by u c.rows y (in_from y (pass_rows u c.rows) k))
     where
       strong : (r : Row) (o : Option Row) → ((strengthened r o).holder ≡ r.holder) × ((strengthened r o).tops ≡ r.tops)
@@ -134,28 +143,38 @@ module _ (acts : List Action) (begun : AreBegun acts) where
       strong r (Some s) = (refl, refl)
 
       by : CameBy u c.rows y → IsKnown acts y
-      by (stayed r there other is) = let f = known r there in let s = strong r _ in (f.0, f.1, ap (λ (q : Row). q.holder) is ∙ s.0 ∙ f.2, ap (λ (q : Row). q.tops) is ∙ s.1 ∙ f.3)
+      by (stayed r there other is) = let f = known r there in let s = strong r _ in
+          (f.0, f.1, ap (λ (q : Row). q.holder) is ∙ s.0 ∙ f.2, ap (λ (q : Row). q.tops) is ∙ s.1 ∙ f.3)
       by (passed_on r there own heir parent free is) =
           let f = known r there in
-          let p = parent_known f.0 (in_from f.0 acts f.1) heir (ap before_last (sym f.2) ∙ parent) in
-          (p.0, p.1, ap (λ (q : Row). q.holder) is ∙ ap front f.2 ∙ p.2, ap (λ (q : Row). q.tops) is ∙ (λ j. least (length (front (f.2 j))) (f.3 j)) ∙ p.3)
+          let p = parent_known f.0 (in_from f.0 acts f.1) heir (ap before_last (sym f.2) ∙ parent) in (
+            p.0,
+            p.1,
+            ap (λ (q : Row). q.holder) is ∙ ap front f.2 ∙ p.2,
+            ap (λ (q : Row). q.tops) is ∙ (λ j. least (length (front (f.2 j))) (f.3 j)) ∙ p.3,
+          )
 
   knows_end_one : (n : ℕ) (u : Uid) (e : End) (s : Server) → KnowsActions acts s → KnowsActions acts (end_one n u e s).part
   knows_end_one n u e s knows = by (is_told u s) (one_follows n u e s)
     where
-      by : (b : Bool) → Follows s (cond {A = Did Server} b (did_nothing s) (end_new n u (taken_end u e s) s)).part → KnowsActions acts (cond {A = Did Server} b (did_nothing s) (end_new n u (taken_end u e s) s)).part
+      by : (b : Bool) → Follows s (cond {A = Did Server} b (did_nothing s) (end_new n u (taken_end u e s) s)).part →
+          KnowsActions acts (cond {A = Did Server} b (did_nothing s) (end_new n u (taken_end u e s) s)).part
       by true f = knows
       by false f = record {
-        rows = λ x d r is k. let g = at_each (λ y. end_copy u (taken_end u e s)) x s.objects d is in known_end u (taken_end u e s) g.0 (λ q. knows.rows x g.0 q g.1) r (subst (λ (c : Copy). Contains c.rows r) g.2 k);
-        voted = λ t a is k on other. told_stays s (end_new n u (taken_end u e s) s).part f (act_of a) (knows.voted t a (on_drop t u s.voted is).1 k on other);
+        rows = λ x d r is k. let g = at_each (λ y. end_copy u (taken_end u e s)) x s.objects d is in
+            known_end u (taken_end u e s) g.0 (λ q. knows.rows x g.0 q g.1) r (subst (λ (c : Copy). Contains c.rows r) g.2 k);
+        voted = λ t a is k on other.
+            told_stays s (end_new n u (taken_end u e s) s).part f (act_of a) (knows.voted t a (on_drop t u s.voted is).1 k on other);
       }
 
   pub knows_told : (n : ℕ) (es : List (Uid × End)) (s : Server) → KnowsActions acts s → KnowsActions acts (told n es s).part
   knows_told n [] s knows = knows
   knows_told n (e ∷ es) s knows = let d = end_one n e.0 e.1 s in knows_told n es d.part (knows_end_one n e.0 e.1 s knows)
 
-  pub known_run : (n : ℕ) (p : Path) (x : ℕ) (o : Op) (c : Copy) → IsBegun acts p → ((r : Row) → Contains c.rows r → IsKnown acts r) → (r : Row) → Contains (run_copy n p x o c).part.rows r → IsKnown acts r
-  known_run n p x o c its known r k = by (is_granted (object x) (last_uid (uids_of p)) (op_mode o) c.rows) (in_from r (run_copy n p x o c).part.rows k)
+  pub known_run : (n : ℕ) (p : Path) (x : ℕ) (o : Op) (c : Copy) → IsBegun acts p → ((r : Row) → Contains c.rows r → IsKnown acts r) →
+      (r : Row) → Contains (run_copy n p x o c).part.rows r → IsKnown acts r
+  known_run n p x o c its known r k =
+      by (is_granted (object x) (last_uid (uids_of p)) (op_mode o) c.rows) (in_from r (run_copy n p x o c).part.rows k)
     where
       new : Row
       new = row_for (object x) (uids_of p) (tops_of p) (op_mode o)
@@ -165,9 +184,11 @@ module _ (acts : List Action) (begun : AreBegun acts) where
 
       by : (b : Bool) → In r (cond b c.rows (grant_row new c.rows)) → IsKnown acts r
       by true j = known r (in_to r c.rows j)
-      by false j = ⊎_elim (λ old. known r (in_to r c.rows old)) (λ q. ⊎_elim mine (λ f. let g = known f.0 (in_to f.0 c.rows f.1) in (g.0, g.1, ap (λ (w : Row). w.holder) f.3 ∙ g.2, ap (λ (w : Row). w.tops) f.3 ∙ g.3)) q) (grant_each new r c.rows j)
+      by false j = ⊎_elim (λ old. known r (in_to r c.rows old)) (λ q. ⊎_elim mine (λ f. let g = known f.0 (in_to f.0 c.rows f.1) in
+          (g.0, g.1, ap (λ (w : Row). w.holder) f.3 ∙ g.2, ap (λ (w : Row). w.tops) f.3 ∙ g.3)) q) (grant_each new r c.rows j)
 
-  knows_on_copy : (n : ℕ) (p : Path) (x : ℕ) (o : Op) (s : Server) → IsBegun acts p → KnowsActions acts s → (f : Option Copy) → at_number x s.objects ≡ f → KnowsActions acts (on_copy x (invoke_copy n p x o) s f).part
+  knows_on_copy : (n : ℕ) (p : Path) (x : ℕ) (o : Op) (s : Server) → IsBegun acts p → KnowsActions acts s → (f : Option Copy) →
+      at_number x s.objects ≡ f → KnowsActions acts (on_copy x (invoke_copy n p x o) s f).part
   knows_on_copy n p x o s its knows None there = knows
   knows_on_copy n p x o s its knows (Some c) there = by (first_conflict (uids_of p) (object x) (op_mode o) c.rows)
     where
@@ -179,7 +200,8 @@ module _ (acts : List Action) (begun : AreBegun acts) where
   knows_keeps act req None s knows = knows
   knows_keeps act req (Some a) s knows = record { rows = knows.rows; voted = knows.voted }
 
-  pub knows_invoke : (n : ℕ) (h : Head) (x : ℕ) (b : Binding) (i : ℕ) (ends : List (Uid × End)) (o : Op) (s : Server) → IsBegun acts h.path → KnowsActions acts s → KnowsActions acts (invoke n h x b i ends o s).part
+  pub knows_invoke : (n : ℕ) (h : Head) (x : ℕ) (b : Binding) (i : ℕ) (ends : List (Uid × End)) (o : Op) (s : Server) →
+      IsBegun acts h.path → KnowsActions acts s → KnowsActions acts (invoke n h x b i ends o s).part
   knows_invoke n h x b i ends o s its knows = by (has_ended h.path s || is_below h.req (at_uid (actor h.path) s.kept))
     where
       new : KnowsActions acts (invoke_new n h x ends o s).part
@@ -187,7 +209,8 @@ module _ (acts : List Action) (begun : AreBegun acts) where
           let d = apply_ends n ends s in
           let t = d.part in
           let r = on_copy x (invoke_copy n h.path x o) t (at_number x t.objects) in
-          knows_keeps (actor h.path) h.req r.reply r.part (knows_on_copy n h.path x o t its (knows_told n ends s knows) (at_number x t.objects) refl)
+          knows_keeps (actor h.path) h.req r.reply r.part
+          (knows_on_copy n h.path x o t its (knows_told n ends s knows) (at_number x t.objects) refl)
 
       kept : (k : Option Kept) → KnowsActions acts (invoke_kept n h x ends o s k).part
       kept None = new
@@ -201,7 +224,8 @@ module _ (acts : List Action) (begun : AreBegun acts) where
       now (Some w) = knows
       now None = kept (at_uid (actor h.path) s.kept)
 
-      by : (c : Bool) → KnowsActions acts (cond {A = Served Server InvokedReply} c (void s) (invoke_now n h x ends o s (changed_by i x b s))).part
+      by : (c : Bool) →
+          KnowsActions acts (cond {A = Served Server InvokedReply} c (void s) (invoke_now n h x ends o s (changed_by i x b s))).part
       by true = knows
       by false = now (changed_by i x b s)
 
@@ -210,9 +234,11 @@ module _ (acts : List Action) (begun : AreBegun acts) where
   all_told n [] s u is = let no_way : false ≡ true = is in cc
   all_told n (e ∷ es) s u is =
       let d = end_one n e.0 e.1 s in
-      ⊎_elim (λ same. told_stays d.part (told n es d.part).part (told_follows n es d.part) u (subst (λ w. is_told w d.part ≡ true) (uid_is e.0 u same) (tells n e.0 e.1 s))) (λ rest. all_told n es d.part u rest) (or_cases (uid_eq e.0 u) (has_end_of u es) is)
+      ⊎_elim (λ same. told_stays d.part (told n es d.part).part (told_follows n es d.part) u (subst (λ w. is_told w d.part ≡ true)
+      (uid_is e.0 u same) (tells n e.0 e.1 s))) (λ rest. all_told n es d.part u rest) (or_cases (uid_eq e.0 u) (has_end_of u es) is)
 
-  pub knows_vote : (n : ℕ) (p : Path) (i : ℕ) (ties : List (ℕ × Binding)) (ends : List (Uid × End)) (s : Server) → HasAllBelow acts (actor p) ends → KnowsActions acts s → KnowsActions acts (vote n p i ties ends s).part
+  pub knows_vote : (n : ℕ) (p : Path) (i : ℕ) (ties : List (ℕ × Binding)) (ends : List (Uid × End)) (s : Server) →
+      HasAllBelow acts (actor p) ends → KnowsActions acts s → KnowsActions acts (vote n p i ties ends s).part
   knows_vote n p i ties ends s below knows = by (has_ended p s)
     where
       yes : (w : Option What) → KnowsActions acts (vote_now n (actor p) ends s w).part
@@ -222,10 +248,12 @@ module _ (acts : List Action) (begun : AreBegun acts) where
           let g = knows_told n ends s knows in
           record {
             rows = g.rows;
-            voted = λ t a is k on other. ⊎_elim (λ same. all_told n ends s (act_of a) (below a k (ap (is_on (uids_of a.path)) (sym same) ∙ on) (λ it. other (it ∙ sym same)))) (λ old. g.voted t a old k on other) (on_with t (actor p) d.part.voted is);
+            voted = λ t a is k on other. ⊎_elim (λ same. all_told n ends s (act_of a) (below a k (ap (is_on (uids_of a.path)) (sym same)
+                ∙ on) (λ it. other (it ∙ sym same)))) (λ old. g.voted t a old k on other) (on_with t (actor p) d.part.voted is);
           }
 
-      by : (b : Bool) → KnowsActions acts (cond {A = Served Server VotedReply} b (void s) (vote_now n (actor p) ends s (either (other_inc i s.inc) (first_unbound ties s)))).part
+      by : (b : Bool) → KnowsActions acts (cond {A = Served Server VotedReply} b (void s)
+          (vote_now n (actor p) ends s (either (other_inc i s.inc) (first_unbound ties s)))).part
       by true = knows
       by false = yes (either (other_inc i s.inc) (first_unbound ties s))
 
@@ -233,41 +261,59 @@ module _ (acts : List Action) (begun : AreBegun acts) where
 
   module _ (paths : Paths) (tree : IsTree paths) where
     -- where all descendants were told, none of them has a lock
-    lowest_told : (u : Uid) (s : Server) → IsGoodServer paths s → KnowsActions acts s → ((a : Action) → Contains acts a → is_on (uids_of a.path) u ≡ true → act_of a ≢ u → is_told (act_of a) s ≡ true) → (x : ℕ) (c : Copy) → at_number x s.objects ≡ Some c → IsLowest u c.rows
-    lowest_told u s good knows ended x c there r k on = ⊎_elim (λ same. ap last_uid f.2 ∙ same) (λ other. never (is_on r.holder (act_of f.0)) (ap (λ us. is_on us (act_of f.0)) f.2 ∙ on_own f.0.path) (none_in (λ q. is_on q.holder (act_of f.0)) r c.rows (good.none x c (act_of f.0) there (ended f.0 f.1 (ap (λ us. is_on us u) (sym f.2) ∙ on) other)) (in_from r c.rows k))) (uid_cases (act_of f.0) u)
+    lowest_told : (u : Uid) (s : Server) → IsGoodServer paths s → KnowsActions acts s →
+        ((a : Action) → Contains acts a → is_on (uids_of a.path) u ≡ true → act_of a ≢ u → is_told (act_of a) s ≡ true) →
+        (x : ℕ) (c : Copy) → at_number x s.objects ≡ Some c → IsLowest u c.rows
+    lowest_told u s good knows ended x c there r k on = ⊎_elim (λ same. ap last_uid f.2 ∙ same) (λ other. never (is_on r.holder (act_of
+        f.0)) (ap (λ us. is_on us (act_of f.0)) f.2 ∙ on_own f.0.path) (none_in (λ q. is_on q.holder (act_of f.0)) r c.rows (good.none x c
+        (act_of f.0) there (ended f.0 f.1 (ap (λ us. is_on us u) (sym f.2) ∙ on) other)) (in_from r c.rows k))) (uid_cases (act_of f.0) u)
       where
         f : IsKnown acts r
         f = knows.rows x c r there k
 
     -- where the action is no top in a lock, and yet a top wherever it is, it is in none
-    lowest_free : (u : Uid) (s : Server) → KnowsActions acts s → IsTopOn acts u → is_top u s ≡ false → (x : ℕ) (c : Copy) → at_number x s.objects ≡ Some c → IsLowest u c.rows
+    lowest_free : (u : Uid) (s : Server) → KnowsActions acts s → IsTopOn acts u → is_top u s ≡ false → (x : ℕ) (c : Copy) →
+        at_number x s.objects ≡ Some c → IsLowest u c.rows
     lowest_free u s knows top none x c there r k on =
         let f = knows.rows x c r there k in
-        let up : is_on (take r.tops r.holder) u ≡ true = (λ j. is_on (take (f.3 j) (f.2 j)) u) ∙ top f.0 f.1 (ap (λ us. is_on us u) (sym f.2) ∙ on) in
-        never (is_top_in u c.rows) (has (λ (q : Row). is_on (take q.tops q.holder) u) r c.rows (in_from r c.rows k) up) (none_in (λ (e : ℕ × Copy). is_top_in u e.1.rows) (x, c) s.objects none (number_in x s.objects c there))
+        let up : is_on (take r.tops r.holder) u ≡ true = (λ j. is_on (take (f.3 j) (f.2 j)) u)
+        ∙ top f.0 f.1 (ap (λ us. is_on us u) (sym f.2) ∙ on) in
+        never (is_top_in u c.rows) (has (λ (q : Row). is_on (take q.tops q.holder) u) r c.rows (in_from r c.rows k) up)
+        (none_in (λ (e : ℕ × Copy). is_top_in u e.1.rows) (x, c) s.objects none (number_in x s.objects c there))
 
-    turn_of : (u : Uid) (e : End) (before : List (Uid × End)) (s : Server) → (e ≡ ending.Commit → IsTopOn acts u ⊎ HasAllBelow acts u before) → ((w : Uid) → has_end_of w before ≡ true → is_told w s ≡ true) → IsGoodServer paths s → KnowsActions acts s → IsInTurn u e s
+    turn_of : (u : Uid) (e : End) (before : List (Uid × End)) (s : Server) →
+        (e ≡ ending.Commit → IsTopOn acts u ⊎ HasAllBelow acts u before) → ((w : Uid) → has_end_of w before ≡ true → is_told w s ≡ true) →
+        IsGoodServer paths s → KnowsActions acts s → IsInTurn u e s
     turn_of u ending.Abort before s ordered over good knows fresh taken = let no_way : ending.Abort ≡ ending.Commit = taken in cc
-    turn_of u ending.Commit before s ordered over good knows fresh taken = ⊎_elim top (λ below. lowest_told u s good knows (λ a k on other. over (act_of a) (below a k on other))) (ordered refl)
+    turn_of u ending.Commit before s ordered over good knows fresh taken =
+        ⊎_elim top (λ below. lowest_told u s good knows (λ a k on other. over (act_of a) (below a k on other))) (ordered refl)
       where
         top : IsTopOn acts u → (x : ℕ) (c : Copy) → at_number x s.objects ≡ Some c → IsLowest u c.rows
         top is = by (is_top u s) (is_on s.voted u) refl refl taken
           where
-            by : (a b : Bool) → is_top u s ≡ a → is_on s.voted u ≡ b → cond (a && not b) ending.Abort ending.Commit ≡ ending.Commit → (x : ℕ) (c : Copy) → at_number x s.objects ≡ Some c → IsLowest u c.rows
+            by : (a b : Bool) → is_top u s ≡ a → is_on s.voted u ≡ b → cond (a && not b) ending.Abort ending.Commit ≡ ending.Commit →
+                (x : ℕ) (c : Copy) → at_number x s.objects ≡ Some c → IsLowest u c.rows
             by true true a b t = lowest_told u s good knows (λ d k on other. knows.voted u d b k on other)
             by true false a b t = let no_way : ending.Abort ≡ ending.Commit = t in cc
             by false b' a b t = lowest_free u s knows is a
 
-    pub in_turn : (n : ℕ) (before es : List (Uid × End)) (s : Server) → AreOrdered acts before es → ((w : Uid) → has_end_of w before ≡ true → is_told w s ≡ true) → IsGoodServer paths s → KnowsActions acts s → AreInTurn n es s
+    pub in_turn : (n : ℕ) (before es : List (Uid × End)) (s : Server) → AreOrdered acts before es →
+        ((w : Uid) → has_end_of w before ≡ true → is_told w s ≡ true) → IsGoodServer paths s → KnowsActions acts s → AreInTurn n es s
     in_turn n before [] s ordered over good knows = tt
     in_turn n before (e ∷ es) s ordered over good knows =
         let d = end_one n e.0 e.1 s in
-        let turn = turn_of e.0 e.1 before s ordered.0 over good knows in
-        (turn, in_turn n (before ++ e ∷ []) es d.part ordered.1 (λ w is. ⊎_elim (λ old. told_stays s d.part (one_follows n e.0 e.1 s) w (over w old)) (λ same. subst (λ v. is_told v d.part ≡ true) same (tells n e.0 e.1 s)) (end_of_more w before e is)) (good_end_one paths tree n e.0 e.1 s turn good) (knows_end_one n e.0 e.1 s knows))
+        let turn = turn_of e.0 e.1 before s ordered.0 over good knows in (
+          turn,
+          in_turn n (before ++ e ∷ []) es d.part ordered.1 (λ w is. ⊎_elim (λ old. told_stays s d.part (one_follows n e.0 e.1 s) w
+              (over w old)) (λ same. subst (λ v. is_told v d.part ≡ true) same (tells n e.0 e.1 s)) (end_of_more w before e is))
+              (good_end_one paths tree n e.0 e.1 s turn good) (knows_end_one n e.0 e.1 s knows),
+        )
 
 -- one action more, that isn't below a top for which the server voted
-pub knows_more : (a : Action) (acts : List Action) (s : Server) → ((t : Uid) → is_on s.voted t ≡ true → is_on (uids_of a.path) t ≡ false) → KnowsActions acts s → KnowsActions (a ∷ acts) s
+pub knows_more : (a : Action) (acts : List Action) (s : Server) → ((t : Uid) → is_on s.voted t ≡ true → is_on (uids_of a.path) t ≡ false) →
+    KnowsActions acts s → KnowsActions (a ∷ acts) s
 knows_more a acts s unvoted knows = record {
   rows = λ x c r there k. let f = knows.rows x c r there k in (f.0, in_to f.0 (a ∷ acts) (inr (in_from f.0 acts f.1)), f.2, f.3);
-  voted = λ t b is k on other. ⊎_elim (λ same. never (is_on (uids_of a.path) t) (ap (λ (d : Action). is_on (uids_of d.path) t) same ∙ on) (unvoted t is)) (λ i. knows.voted t b is (in_to b acts i) on other) (in_from b (a ∷ acts) k);
+  voted = λ t b is k on other. ⊎_elim (λ same. never (is_on (uids_of a.path) t) (ap (λ (d : Action). is_on (uids_of d.path) t) same ∙ on)
+      (unvoted t is)) (λ i. knows.voted t b is (in_to b acts i) on other) (in_from b (a ∷ acts) k);
 }

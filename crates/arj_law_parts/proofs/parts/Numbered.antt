@@ -1,24 +1,14 @@
 -- Request numbers, the objects that plans use, and whom commits wait for, through all that a coordinator does.
-use Rattle.std.proofs.Common.{◌≡◌, ◌<◌, ◌+◌, arith, ℕ, List, [], ◌∷◌, ◌++◌, map, refl, subst}
-use Rattle.std.specs.Prelude.{⊤}
-use Rattle.std.specs.List.{AllByRecursion}
-use Rattle.std.specs.Ordering.{match_ordering, nat_cmp}
-use Rattle.std.specs.declared.cmp.Ordering.{Ordering}
-use Rattle.std.specs.declared.cmp.Ordering.TheVariants.{Less, Equal, Greater}
-use Rattle.arj_protocol.specs.Words.{Uid, Path, Asked}
-use Rattle.arj_protocol.specs.Ask.{Reply, actor}
-use Rattle.arj_protocol.specs.Asking.{last_req, heard, again_all}
-use Rattle.arj_protocol.specs.Commit.{Used, Plan}
-use Rattle.arj_protocol.specs.Coord.{Coord, new_coord, Doing, Root, doing_of, root_at, objects_in, plan_for, used_of, said_in, joined_in}
-use Rattle.arj_protocol.specs.Effect.{Effect, Intent}
-use Rattle.arj_protocol.specs.Ending.{acked}
-use Rattle.arj_protocol.specs.Order.{number_set, with_number}
-use Rattle.arj_protocol.specs.Step.{Input, acts}
-use Rattle.arj_protocol.specs.Tree.{root_of}
+use Rattle.arj_law_parts.proofs.Words
+use Words.{◌≡◌, ◌<◌, arith, ℕ, List, [], ◌∷◌, ◌++◌, map, refl, subst, ⊤, AllByRecursion, match_ordering, nat_cmp, Ordering, Less, Equal}
+use Words.{Greater, Uid, Path, Asked, Reply, actor, last_req, heard, again_all, Used, Plan, Coord, new_coord, Doing, Root, doing_of}
+use Words.{root_at, objects_in, plan_for, used_of, said_in, joined_in, Effect, Intent, acked, number_set, with_number, Input, acts, root_of}
+use Words.{Kind, Label, Option, begin_action, parent_of}
+use Rattle.arj_law_parts.proofs.coordinator
+use coordinator.{Works.KeepsWorks, Works.works_begun, Works.works_move, Works.works_new}
+use coordinator.Trace.{Came, PlanFrom, NewPlan, OldPlan, PlanMove, Marks, Plans, plan_keeps, Trace, trace_keeps}
+use coordinator.Walks.{acts_trace, heard_trace, acked_trace, again_keeps}
 use Rattle.arj_law_parts.specs.parts.Requests.{AreNumbered, AreOnce, IsNumbered}
-use Rattle.arj_law_parts.proofs.coordinator.Trace.{Came, PlanFrom, NewPlan, OldPlan, PlanMove, Marks, Plans, plan_keeps, Trace, trace_keeps}
-use Rattle.arj_law_parts.proofs.coordinator.Walks.{acts_trace, heard_trace, acked_trace, again_keeps}
-use Rattle.arj_law_parts.proofs.coordinator.Works.{KeepsWorks, works_move, works_new}
 
 -- ---- sets of numbers
 
@@ -31,7 +21,8 @@ above_put : (k n : ℕ) (ns : List ℕ) → k < n → AllByRecursion (λ (m : �
 above_put k n [] less all = (less, tt)
 above_put k n (m ∷ ms) less all = by (nat_cmp n m) (above_put k n ms less all.1)
   where
-    by : (r : Ordering) → AllByRecursion (λ (j : ℕ). k < j) (with_number n ms) → AllByRecursion (λ (j : ℕ). k < j) (match_ordering r (n ∷ m ∷ ms) (m ∷ ms) (m ∷ with_number n ms))
+    by : (r : Ordering) → AllByRecursion (λ (j : ℕ). k < j) (with_number n ms) →
+        AllByRecursion (λ (j : ℕ). k < j) (match_ordering r (n ∷ m ∷ ms) (m ∷ ms) (m ∷ with_number n ms))
     by Less ih = (less, all)
     by Equal ih = all
     by Greater ih = (all.0, ih)
@@ -65,9 +56,11 @@ abbrev Once : Plan → Type 0
 Once p = AreOnce p.used
 
 pub plan_once : (p : Path) (req : ℕ) (r : Root) (c : Coord) → Once (plan_for p req r c)
-plan_once p req r c = by (objects_in (actor p) r c) (set_up (map (λ s. s.x) (said_in (actor p) r c) ++ map (λ j. j.x) (joined_in (actor p) r c)))
+plan_once p req r c =
+    by (objects_in (actor p) r c) (set_up (map (λ s. s.x) (said_in (actor p) r c) ++ map (λ j. j.x) (joined_in (actor p) r c)))
   where
-    above : (x : ℕ) (xs : List ℕ) → AllByRecursion (λ (m : ℕ). x < m) xs → AllByRecursion (λ (v : Used). x < v.x) (map (used_of (actor p) r c) xs)
+    above : (x : ℕ) (xs : List ℕ) → AllByRecursion (λ (m : ℕ). x < m) xs →
+        AllByRecursion (λ (v : Used). x < v.x) (map (used_of (actor p) r c) xs)
     above x [] all = tt
     above x (y ∷ ys) all = (all.0, above x ys all.1)
 
@@ -81,7 +74,8 @@ plan_once p req r c = by (objects_in (actor p) r c) (set_up (map (λ s. s.x) (sa
 abbrev Its : Uid → Doing → Type 0
 Its u d = IsNumbered d.req d.now
 
-plan_so : {c : Coord} {came : Came} {u : Uid} {p q : Plan} {left : List ℕ} → AreNumbered c → PlanFrom c came u p left → Plans came p q → Once q
+plan_so : {c : Coord} {came : Came} {u : Uid} {p q : Plan} {left : List ℕ} → AreNumbered c → PlanFrom c came u p left → Plans came p q →
+    Once q
 plan_so {c} n from plans = plan_keeps Once move plans (before from)
   where
     before : {came : Came} {u : Uid} {p : Plan} {left : List ℕ} → PlanFrom c came u p left → Once p
@@ -104,10 +98,15 @@ numbered {c} {came} n t = trace_keeps AreNumbered (works_move Its keeps) t n
       commits = λ u m d on h. (refl, (plan_so n on.from on.plans, on.left));
     }
 
+pub num_begins : (l : Label) (q : Kind) (parent : Option Label) (c : Coord) → AreNumbered c
+    → AreNumbered (begin_action l q parent (parent_of parent c) c).part
+num_begins l q parent c = works_begun Its l q parent (parent_of parent c) c (λ u. tt)
+
 pub num_acts : (i : Input) (intents : List (Uid × Intent)) (c : Coord) → AreNumbered c → AreNumbered (acts i intents c).part
 num_acts i intents c n = numbered n (acts_trace c i intents)
 
-pub num_heard : (from : ℕ) (a : Asked) (r : Reply) (intents : List (Uid × Intent)) (c : Coord) → AreNumbered c → AreNumbered (heard from a r intents c).part
+pub num_heard : (from : ℕ) (a : Asked) (r : Reply) (intents : List (Uid × Intent)) (c : Coord) → AreNumbered c →
+    AreNumbered (heard from a r intents c).part
 num_heard from a r intents c n = numbered n (heard_trace c from a r intents)
 
 pub num_again : (ds : List Doing) (c : Coord) → AreNumbered c → AreNumbered (again_all ds c).part

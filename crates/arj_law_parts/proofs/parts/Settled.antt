@@ -1,19 +1,13 @@
 -- What is settled at a coordinator stays so.
-use Rattle.std.proofs.Common.{◌≡◌, ◌≢◌, ◌⊎◌, ◌≤◌, zero, suc, ℕ, List, [], ◌∷◌, ◌++◌, length, Bool, true, false, cond, nat_le, Option, Some, None, slice_set, refl, sym, ◌∙◌, ap, subst, inl, inr, ⊎_elim, Contains, ◌==◌, ◌&&◌, arith}
-use Rattle.std.proofs.lemmas.Bool.{and_parts, eqb-true}
-use Rattle.std.specs.Prelude.{is_some}
-use Rattle.arj_base.proofs.Uids.{uid_cases}
-use Rattle.arj_protocol.specs.Words.{Uid, End, uids_of}
-use Rattle.arj_protocol.specs.Commit.{Machine}
-use Rattle.arj_protocol.specs.Coord.{Coord, Doing, Idle, Committing, doing_of, set_doing, change_doing, on_doing}
-use Rattle.arj_protocol.specs.Effect.{Intent}
-use Rattle.arj_protocol.specs.Ending.{ended}
-use Rattle.arj_protocol.specs.Tree.{Tree, Branch, branch_of, is_own, at_place, set_place, root_of, family_of, with_family, ended_at, ended_branch}
-use Rattle.arj_protocol.proofs.Maps.{place_other}
-use Rattle.arj_law_parts.specs.parts.Claims.{IsSettled, IsClaimed, GoesOn}
-use Rattle.arj_law_parts.specs.parts.Coords.{IsBusy, AreBusy, IsOver, IsCommitting}
-use Rattle.arj_law_parts.proofs.parts.GoodCoords.{IsSameTree, doing_by}
-use Rattle.arj_law_parts.proofs.parts.GoodTrees.{found_by, place_same, own_is, after, at_u, at_others, still_there, ended_b}
+use Rattle.arj_law_parts.proofs.Words
+use Words.{◌≡◌, ◌≢◌, ◌⊎◌, ◌≤◌, zero, suc, ℕ, List, [], ◌∷◌, ◌++◌, length, Bool, true, false, cond, nat_le, Option, Some, None, slice_set}
+use Words.{refl, sym, ◌∙◌, ap, subst, inl, inr, ⊎_elim, Contains, ◌==◌, ◌&&◌, arith, and_parts, eqb-true, is_some, uid_cases, Uid, End}
+use Words.{uids_of, Machine, Coord, Doing, Idle, Committing, doing_of, set_doing, change_doing, on_doing, Intent, ended, Tree, Branch}
+use Words.{branch_of, is_own, at_place, set_place, root_of, family_of, with_family, ended_at, ended_branch, place_other}
+use Rattle.arj_law_parts.proofs.Terms.{IsSettled, IsClaimed, GoesOn, IsBusy, AreBusy, IsOver, IsCommitting}
+use Rattle.arj_law_parts.proofs.parts
+use parts.GoodCoords.{IsSameTree, doing_by}
+use parts.GoodTrees.{found_by, place_same, own_is, after, at_u, at_others, still_there, ended_b}
 
 -- ---- lists
 
@@ -29,7 +23,8 @@ place_length (suc k) a items = set_length items k a
 -- ---- from one coordinator to the next
 
 pub node_on : (c e : Coord) → GoesOn c e → c.tree.node ≡ e.tree.node
-node_on c e g = eqb-true c.tree.node e.tree.node (and_parts (c.tree.node == e.tree.node) (c.tree.inc == e.tree.inc) (g.own one ∙ (λ i. itself c.tree.node i && itself c.tree.inc i))).0
+node_on c e g = eqb-true c.tree.node e.tree.node
+    (and_parts (c.tree.node == e.tree.node) (c.tree.inc == e.tree.inc) (g.own one ∙ (λ i. itself c.tree.node i && itself c.tree.inc i))).0
   where
     one : Uid
     one = record { node = c.tree.node; inc = c.tree.inc; num = 0 }
@@ -38,7 +33,8 @@ node_on c e g = eqb-true c.tree.node e.tree.node (and_parts (c.tree.node == e.tr
     itself n = grind arith
 
 pub inc_on : (c e : Coord) → GoesOn c e → c.tree.inc ≡ e.tree.inc
-inc_on c e g = eqb-true c.tree.inc e.tree.inc (and_parts (c.tree.node == e.tree.node) (c.tree.inc == e.tree.inc) (g.own one ∙ (λ i. itself c.tree.node i && itself c.tree.inc i))).1
+inc_on c e g = eqb-true c.tree.inc e.tree.inc
+    (and_parts (c.tree.node == e.tree.node) (c.tree.inc == e.tree.inc) (g.own one ∙ (λ i. itself c.tree.node i && itself c.tree.inc i))).1
   where
     one : Uid
     one = record { node = c.tree.node; inc = c.tree.inc; num = 0 }
@@ -47,7 +43,8 @@ inc_on c e g = eqb-true c.tree.inc e.tree.inc (and_parts (c.tree.node == e.tree.
     itself n = grind arith
 
 pub claim_on : (c e : Coord) → GoesOn c e → (u : Uid) → IsClaimed u c → IsClaimed u e
-claim_on c e g u claim = (claim.0 ∙ node_on c e g, λ own. g.settled u (claim.1 (sym (g.own u) ∙ own)), subst (λ i. u.inc ≤ i) (inc_on c e g) claim.2)
+claim_on c e g u claim =
+    (claim.0 ∙ node_on c e g, λ own. g.settled u (claim.1 (sym (g.own u) ∙ own)), subst (λ i. u.inc ≤ i) (inc_on c e g) claim.2)
 
 -- what is there is of this coordinator
 there_at : (c : Coord) (u : Uid) (b : Branch) → branch_of u c.tree ≡ Some b → (u.node ≡ c.tree.node) × (u.inc ≤ c.tree.inc)
@@ -70,7 +67,8 @@ then_on c d e g h = record {
   branches = h.branches ∙ g.branches;
   labels = h.labels ∙ g.labels;
   kinds = λ u b f. let x = g.kinds u b f in let y = h.kinds u x.0 x.1 in (y.0, y.1, y.2 ∙ x.2);
-  told = λ u i k. ⊎_elim (λ old. ⊎_elim (λ older. inl older) (λ claim. inr (claim_on d e h u claim)) (g.told u old.0 old.1)) (λ new. inr new) (h.told u i k);
+  told = λ u i k. ⊎_elim (λ old. ⊎_elim (λ older. inl older) (λ claim. inr (claim_on d e h u claim)) (g.told u old.0 old.1))
+      (λ new. inr new) (h.told u i k);
 }
 
 pub same_on : (c e : Coord) → e.tree ≡ c.tree → e.doings ≡ c.doings → e.telling ≡ c.telling → e.labels ≡ c.labels → GoesOn c e
@@ -89,7 +87,8 @@ same_on c e tree doings telling labels = record {
 
 pub tree_on : (c : Coord) (v : Tree) → IsSameTree c.tree v → length v.branches ≡ length c.tree.branches → GoesOn c (record c { tree = v })
 tree_on c v same long = record {
-  settled = λ u s. ⊎_elim (λ o. let q = same.forth u o.0 o.1 in inl (q.0, q.1, ap is_some (sym q.4) ∙ o.2)) (λ q. inr (q.0, q.1, same_doing u ∙ q.2, q.3)) s;
+  settled = λ u s. ⊎_elim (λ o. let q = same.forth u o.0 o.1 in
+      inl (q.0, q.1, ap is_some (sym q.4) ∙ o.2)) (λ q. inr (q.0, q.1, same_doing u ∙ q.2, q.3)) s;
   own = same.own;
   works = refl;
   branches = long;
@@ -105,15 +104,18 @@ tree_on c v same long = record {
 
 -- what an action at work becomes: at its commit again, where it was there and hasn't ended
 abbrev pub KeepsCommit : Uid → (Doing → Doing) → Coord → Type 0
-KeepsCommit u f c = (d : Doing) (m : Machine) → doing_of u c ≡ Some d → d.now ≡ Committing m → IsOver u c.tree ⊎ ((k : Machine) × ((f d).now ≡ Committing k))
+KeepsCommit u f c = (d : Doing) (m : Machine) → doing_of u c ≡ Some d → d.now ≡ Committing m →
+    IsOver u c.tree ⊎ ((k : Machine) × ((f d).now ≡ Committing k))
 
 pub doing_put : (u : Uid) (d old : Doing) (c : Coord) → doing_of u c ≡ Some old → doing_of u (set_doing u d c) ≡ Some d
-doing_put u d old c found = let q = doing_by u c old found in (λ i. cond (q.0 i) (at_place u.num (set_place u.num d c.doings)) None) ∙ place_same u.num d old c.doings q.1
+doing_put u d old c found = let q = doing_by u c old found in
+    (λ i. cond (q.0 i) (at_place u.num (set_place u.num d c.doings)) None) ∙ place_same u.num d old c.doings q.1
 
 pub doing_other : (u w : Uid) (d old : Doing) (c : Coord) → doing_of u c ≡ Some old → w ≢ u → doing_of w (set_doing u d c) ≡ doing_of w c
 doing_other u w d old c found other = one (is_own w c.tree) refl
   where
-    one : (o : Bool) → is_own w c.tree ≡ o → cond o (at_place w.num (set_place u.num d c.doings)) None ≡ cond o (at_place w.num c.doings) None
+    one : (o : Bool) → is_own w c.tree ≡ o →
+        cond o (at_place w.num (set_place u.num d c.doings)) None ≡ cond o (at_place w.num c.doings) None
     one true own = place_other u.num w.num d c.doings (λ same. other (own_is w u c.tree own (doing_by u c old found).0 same))
     one false own = refl
 
@@ -139,10 +141,13 @@ work_on u f c keeps = by (doing_of u c) refl
         its w same q =
             let k : ◌≡◌ {A = Option Doing} (Some q.0) (Some old) = sym q.2 ∙ ap (λ v. doing_of v c) same ∙ found in
             let one : q.0 ≡ old = cc in
-            ⊎_elim (λ over. inl (subst (λ v. IsOver v c.tree) (sym same) over)) (λ g. inr (f old, g.0, ap (λ v. doing_of v new) same ∙ doing_put u (f old) old c found, g.1)) (keeps old q.1 found (ap (λ (d : Doing). d.now) (sym one) ∙ q.3))
+            ⊎_elim (λ over. inl (subst (λ v. IsOver v c.tree) (sym same) over))
+            (λ g. inr (f old, g.0, ap (λ v. doing_of v new) same ∙ doing_put u (f old) old c found, g.1))
+            (keeps old q.1 found (ap (λ (d : Doing). d.now) (sym one) ∙ q.3))
 
         commits : (w : Uid) → IsCommitting w c → IsSettled w new
-        commits w q = ⊎_elim (λ same. its w same q) (λ other. inr (q.0, q.1, doing_other u w (f old) old c found other ∙ q.2, q.3)) (uid_cases w u)
+        commits w q =
+            ⊎_elim (λ same. its w same q) (λ other. inr (q.0, q.1, doing_other u w (f old) old c found other ∙ q.2, q.3)) (uid_cases w u)
 
 -- ---- an end
 
@@ -157,7 +162,11 @@ end_tree_on u e c = by (branch_of u c.tree) refl
       works = refl;
       branches = long (nat_le (length (uids_of b.path)) 1);
       labels = refl;
-      kinds = λ w d at. ⊎_elim (λ same. (ended_b u e c.tree b is, ap (λ v. branch_of v (after u e c.tree b is)) same ∙ at_u u e c.tree b is, ap (λ (x : Branch). x.kind) (one b d (sym is ∙ ap (λ v. branch_of v c.tree) (sym same) ∙ at)))) (λ other. (d, at_others u e c.tree b is w other ∙ at, refl)) (uid_cases w u);
+      kinds = λ w d at. ⊎_elim (λ same. (
+        ended_b u e c.tree b is,
+        ap (λ v. branch_of v (after u e c.tree b is)) same ∙ at_u u e c.tree b is,
+        ap (λ (x : Branch). x.kind) (one b d (sym is ∙ ap (λ v. branch_of v c.tree) (sym same) ∙ at)),
+      )) (λ other. (d, at_others u e c.tree b is w other ∙ at, refl)) (uid_cases w u);
       told = λ w i k. inl (i, k);
     }
       where
@@ -165,7 +174,8 @@ end_tree_on u e c = by (branch_of u c.tree) refl
         m = record c.tree { branches = set_place u.num (record b { ended = Some e }) c.tree.branches }
 
         listed : Bool → Tree
-        listed s = cond s m (with_family (root_of b.path) (let f = family_of (root_of b.path) m in record f { ends = f.ends ++ (u, e) ∷ [] }) m)
+        listed s =
+            cond s m (with_family (root_of b.path) (let f = family_of (root_of b.path) m in record f { ends = f.ends ++ (u, e) ∷ [] }) m)
 
         one : (x y : Branch) → Some x ≡ Some y → x ≡ y
         one x y s = let k : ◌≡◌ {A = Option Branch} (Some x) (Some y) = s in cc
@@ -173,11 +183,13 @@ end_tree_on u e c = by (branch_of u c.tree) refl
         own : (w : Uid) → is_own w (ended_branch u e c.tree (Some b)) ≡ is_own w c.tree
         own w = one (nat_le (length (uids_of b.path)) 1)
           where
-            one : (s : Bool) → is_own w (cond s m (with_family (root_of b.path) (let f = family_of (root_of b.path) m in record f { ends = f.ends ++ (u, e) ∷ [] }) m)) ≡ is_own w c.tree
+            one : (s : Bool) → is_own w (cond s m (with_family (root_of b.path) (let f = family_of (root_of b.path) m in
+                record f { ends = f.ends ++ (u, e) ∷ [] }) m)) ≡ is_own w c.tree
             one true = refl
             one false = refl
 
-        long : (s : Bool) → length (let t = cond s m (with_family (root_of b.path) (let f = family_of (root_of b.path) m in record f { ends = f.ends ++ (u, e) ∷ [] }) m) in t.branches) ≡ length c.tree.branches
+        long : (s : Bool) → length (let t = cond s m (with_family (root_of b.path) (let f = family_of (root_of b.path) m in
+            record f { ends = f.ends ++ (u, e) ∷ [] }) m) in t.branches) ≡ length c.tree.branches
         long true = place_length u.num (record b { ended = Some e }) c.tree.branches
         long false = place_length u.num (record b { ended = Some e }) c.tree.branches
 
@@ -189,11 +201,13 @@ pub end_over : (u : Uid) (e : End) (t : Tree) (b : Branch) → branch_of u t ≡
 end_over u e t b found = subst (λ o. IsOver u (ended_branch u e t o)) (sym found) (ended_b u e t b found, at_u u e t b found, refl)
 
 -- who commits is there
-pub commit_there : (c : Coord) → AreBusy c → (u : Uid) (d : Doing) (m : Machine) → doing_of u c ≡ Some d → d.now ≡ Committing m → (b : Branch) × (branch_of u c.tree ≡ Some b)
+pub commit_there : (c : Coord) → AreBusy c → (u : Uid) (d : Doing) (m : Machine) → doing_of u c ≡ Some d → d.now ≡ Committing m →
+    (b : Branch) × (branch_of u c.tree ≡ Some b)
 commit_there c busy u d m found is = let v = subst (IsBusy c.tree u) is (busy u d found) in (v.asking.branch, v.asking.found)
 
 pub ended_on : (u : Uid) (e : End) (c : Coord) → AreBusy c → GoesOn c (ended u e c)
-ended_on u e c busy = then_on c mid (ended u e c) step (work_on u (λ (d : Doing). record d { now = Idle }) mid (λ d m found is. inl (over d m (sym (same_doing (step.own u)) ∙ found) is)))
+ended_on u e c busy = then_on c mid (ended u e c) step
+    (work_on u (λ (d : Doing). record d { now = Idle }) mid (λ d m found is. inl (over d m (sym (same_doing (step.own u)) ∙ found) is)))
   where
     mid : Coord
     mid = record c { tree = ended_at u e c.tree }

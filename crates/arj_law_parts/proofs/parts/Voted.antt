@@ -1,28 +1,22 @@
 -- For whom a server votes.
-use Rattle.std.proofs.Common.{◌≡◌, ◌⊎◌, ◌==◌, ℕ, List, [], ◌∷◌, Bool, true, false, cond, Option, Some, None, inl, inr, ⊎_elim}
-use Rattle.std.specs.Prelude.{option_map, ◌||◌}
-use Rattle.arj_base.specs.Rows.{is_on}
-use Rattle.arj_protocol.specs.Words.{Uid, End, Head, Asked, Ask, Message, Path, Binding, Op, ObjectState, What, InvokedReply, VotedReply, asks, object}
-use Rattle.arj_protocol.specs.Words.ask
-use Rattle.arj_protocol.specs.Words.message
-use Rattle.arj_protocol.specs.Words.loaded
-use Rattle.arj_protocol.specs.Words.prepared
-use Rattle.arj_protocol.specs.Ask.{Reply, actor, answers, last_end}
-use Rattle.arj_protocol.specs.Asking.{heard}
-use Rattle.arj_protocol.specs.Confirm.{confirm}
-use Rattle.arj_protocol.specs.Coord.{Coord}
-use Rattle.arj_protocol.specs.Copy.{Copy, invoke_copy}
-use Rattle.arj_protocol.specs.Effect.{Effect, Do, Look, Served, Did, Disk, Prep, Ready, Already, Old, InDoubt, did_nothing, either, held_at, holder_of, is_prepared, prepare_answer, reply, void}
-use Rattle.arj_protocol.specs.Ending.{acked}
-use Rattle.arj_protocol.specs.Naming as naming
-use Rattle.arj_protocol.specs.Naming.{Naming}
-use Rattle.arj_protocol.specs.Node.{Parts, Handled, sends_answer, served, with_server, with_naming, with_coord, if_naming, load_held, load_by, prepare_by, serve, handle_ends, by_reply, coord_heard, handle_other, handle_answer, handle_ask, handle}
-use Rattle.arj_protocol.specs.Order.{at_number, at_uid, binding_eq, binding_less}
-use Rattle.arj_protocol.specs.Server as server
-use Rattle.arj_protocol.specs.Server.{Server, Kept, active_binding, apply_ends, changed_by, end_new, end_one, first_unbound, has_ended, invoke, invoke_kept, invoke_new, invoke_now, is_below, is_told, keeps, on_copy, other_inc, taken_end, told, took_copy, vote, vote_now}
-use Rattle.arj_law_parts.specs.parts.Messages.{Seals, SealsAsk, SealsAsked}
-use Rattle.arj_law_parts.specs.parts.Nodes.{VotesOnly, VotesOnlyAfter}
+use Rattle.arj_law_parts.proofs.Words
+use Words.{◌≡◌, ◌⊎◌, ◌==◌, ℕ, List, [], ◌∷◌, Bool, true, false, cond, Option, Some, None, inl, inr, ⊎_elim, option_map, ◌||◌, is_on, Uid}
+use Words.{End, Head, Asked, Ask, Message, Path, Binding, Op, ObjectState, What, InvokedReply, VotedReply, asks, object, Reply, actor}
+use Words.{answers, last_end, heard, confirm, Coord, Copy, invoke_copy, Effect, Do, Look, Served, Did, Disk, Prep, Ready, Already, Old}
+use Words.{InDoubt, did_nothing, either, held_at, holder_of, is_prepared, prepare_answer, reply, void, acked, Naming, Parts, Handled}
+use Words.{sends_answer, served, with_server, with_naming, with_coord, if_naming, load_held, load_by, prepare_by, serve, handle_ends}
+use Words.{by_reply, coord_heard, handle_other, handle_answer, handle_ask, handle, at_number, at_uid, binding_eq, binding_less, Server}
+use Words.{Kept, active_binding, apply_ends, changed_by, end_new, end_one, first_unbound, has_ended, invoke, invoke_kept, invoke_new}
+use Words.{invoke_now, is_below, is_told, keeps, on_copy, other_inc, told, took_copy, vote, vote_now}
+use Words.ask
+use Words.message
+use Words.loaded
+use Words.prepared
+use Words.naming
+use Words.server
+use Rattle.arj_law_parts.proofs.Terms.{taken_end, Seals, SealsAsk, SealsAsked}
 use Rattle.arj_law_parts.proofs.parts.Keys.{on_drop, on_with}
+use Rattle.arj_law_parts.specs.parts.Nodes.{VotesOnly, VotesOnlyAfter}
 
 -- who is voted for in the second was voted for in the first
 abbrev Fewer : Server → Server → Type 0
@@ -42,7 +36,8 @@ fewer_told n (e ∷ es) s w is = let d = end_one n e.0 e.1 s in fewer_one n e.0 
 fewer_activate : (n : ℕ) (p : Path) (b : Binding) (st : ObjectState) (s : Server) → Fewer s (server.activate n p b st s).part
 fewer_activate n p b st s = by (has_ended p s || binding_less b (active_binding st.uid.num s)) (binding_eq b (active_binding st.uid.num s))
   where
-    by : (v e : Bool) → Fewer s (cond {A = Served Server ℕ} v (void s) (cond {A = Served Server ℕ} e (reply s s.inc) (took_copy n st.uid.num b st s))).part
+    by : (v e : Bool) →
+        Fewer s (cond {A = Served Server ℕ} v (void s) (cond {A = Served Server ℕ} e (reply s s.inc) (took_copy n st.uid.num b st s))).part
     by true e w is = is
     by false true w is = is
     by false false w is = is
@@ -55,7 +50,8 @@ fewer_keeps : (act : Uid) (req : ℕ) (a : Option InvokedReply) (s : Server) →
 fewer_keeps act req None s w is = is
 fewer_keeps act req (Some a) s w is = is
 
-fewer_invoke : (n : ℕ) (h : Head) (x : ℕ) (b : Binding) (i : ℕ) (ends : List (Uid × End)) (o : Op) (s : Server) → Fewer s (invoke n h x b i ends o s).part
+fewer_invoke : (n : ℕ) (h : Head) (x : ℕ) (b : Binding) (i : ℕ) (ends : List (Uid × End)) (o : Op) (s : Server) →
+    Fewer s (invoke n h x b i ends o s).part
 fewer_invoke n h x b i ends o s = by (has_ended h.path s || is_below h.req (at_uid (actor h.path) s.kept))
   where
     new : Fewer s (invoke_new n h x ends o s).part
@@ -63,7 +59,8 @@ fewer_invoke n h x b i ends o s = by (has_ended h.path s || is_below h.req (at_u
         let d = apply_ends n ends s in
         let t = d.part in
         let r = on_copy x (invoke_copy n h.path x o) t (at_number x t.objects) in
-        fewer_told n ends s w (fewer_on_copy n h.path x o t (at_number x t.objects) w (fewer_keeps (actor h.path) h.req r.reply r.part w is))
+        fewer_told n ends s w
+        (fewer_on_copy n h.path x o t (at_number x t.objects) w (fewer_keeps (actor h.path) h.req r.reply r.part w is))
 
     kept : (k : Option Kept) → Fewer s (invoke_kept n h x ends o s k).part
     kept None = new
@@ -82,14 +79,18 @@ fewer_invoke n h x b i ends o s = by (has_ended h.path s || is_below h.req (at_u
     by false w is = now (changed_by i x b s) w is
 
 -- a vote is for its own top
-voted_by : (n : ℕ) (p : Path) (i : ℕ) (ties : List (ℕ × Binding)) (ends : List (Uid × End)) (s : Server) (w : Uid) → is_on (let r = vote n p i ties ends s in let t = r.part in t.voted) w ≡ true → (is_on s.voted w ≡ true) ⊎ (w ≡ actor p)
+voted_by : (n : ℕ) (p : Path) (i : ℕ) (ties : List (ℕ × Binding)) (ends : List (Uid × End)) (s : Server) (w : Uid) →
+    is_on (let r = vote n p i ties ends s in let t = r.part in t.voted) w ≡ true → (is_on s.voted w ≡ true) ⊎ (w ≡ actor p)
 voted_by n p i ties ends s w = by (has_ended p s)
   where
-    yes : (q : Option What) → is_on (let r = vote_now n (actor p) ends s q in let t = r.part in t.voted) w ≡ true → (is_on s.voted w ≡ true) ⊎ (w ≡ actor p)
+    yes : (q : Option What) → is_on (let r = vote_now n (actor p) ends s q in let t = r.part in t.voted) w ≡ true →
+        (is_on s.voted w ≡ true) ⊎ (w ≡ actor p)
     yes (Some q) is = inl is
-    yes None is = let d = apply_ends n ends s in ⊎_elim (λ same. inr same) (λ old. inl (fewer_told n ends s w old)) (on_with w (actor p) d.part.voted is)
+    yes None is = let d = apply_ends n ends s in
+        ⊎_elim (λ same. inr same) (λ old. inl (fewer_told n ends s w old)) (on_with w (actor p) d.part.voted is)
 
-    by : (b : Bool) → is_on (let r = cond {A = Served Server VotedReply} b (void s) (vote_now n (actor p) ends s (either (other_inc i s.inc) (first_unbound ties s))) in let t = r.part in t.voted) w ≡ true → (is_on s.voted w ≡ true) ⊎ (w ≡ actor p)
+    by : (b : Bool) → is_on (let r = cond {A = Served Server VotedReply} b (void s) (vote_now n (actor p) ends s (either
+        (other_inc i s.inc) (first_unbound ties s))) in let t = r.part in t.voted) w ≡ true → (is_on s.voted w ≡ true) ⊎ (w ≡ actor p)
     by true is = inl is
     by false is = yes (either (other_inc i s.inc) (first_unbound ties s)) is
 
@@ -97,7 +98,8 @@ module _ (n : ℕ) (d : Disk) (t : Parts) (from : ℕ) (m : Message) where
   abbrev Only : Handled → Type 0
   Only h = VotesOnlyAfter m t h
 
-  answered_only : (to : ℕ) (h : Head) (v : Parts) (outs : List Effect) (o : Option Reply) → VotesOnly m t v → Only (sends_answer to h v outs o)
+  answered_only : (to : ℕ) (h : Head) (v : Parts) (outs : List Effect) (o : Option Reply) → VotesOnly m t v →
+      Only (sends_answer to h v outs o)
   answered_only to h v outs None only = tt
   answered_only to h v outs (Some r) only = only
 
@@ -107,9 +109,11 @@ module _ (n : ℕ) (d : Disk) (t : Parts) (from : ℕ) (m : Message) where
   asked : (h : Head) (a : Ask) → ((u : Uid) → SealsAsk h a u → Seals m u) → Only (serve n d t from h a)
   asked h (ask.Bind x include avoid) s = by t.naming
     where
-      by : (o : Option Naming) → Only (if_naming (λ q. served from h (with_naming t) Reply.Bound (naming.bind h.path x include avoid d.names q)) o)
+      by : (o : Option Naming) →
+          Only (if_naming (λ q. served from h (with_naming t) Reply.Bound (naming.bind h.path x include avoid d.names q)) o)
       by None = tt
-      by (Some q) = let r = naming.bind h.path x include avoid d.names q in answered_only from h (with_naming t r.part) r.outs (option_map Reply.Bound r.reply) (λ w is. inl is)
+      by (Some q) = let r = naming.bind h.path x include avoid d.names q in
+          answered_only from h (with_naming t r.part) r.outs (option_map Reply.Bound r.reply) (λ w is. inl is)
   asked h (ask.Load x) s = load (holder_of (object x) d.store)
     where
       held : (o : Option ObjectState) → Only (load_held from h t o)
@@ -119,14 +123,19 @@ module _ (n : ℕ) (d : Disk) (t : Parts) (from : ℕ) (m : Message) where
       load : (o : Option Uid) → Only (load_by x d.store from h t o)
       load (Some u) = answered_only from h t [] (Some (Reply.Loaded (loaded.InDoubt u))) (λ w is. inl is)
       load None = held (held_at (object x) d.store)
-  asked h (ask.Activate b st) s = let r = server.activate n h.path b st t.server in answered_only from h (with_server t r.part) r.outs (option_map Reply.Activated r.reply) (fewer (with_server t r.part) (fewer_activate n h.path b st t.server))
+  asked h (ask.Activate b st) s = let r = server.activate n h.path b st t.server in answered_only from h (with_server t r.part) r.outs
+      (option_map Reply.Activated r.reply) (fewer (with_server t r.part) (fewer_activate n h.path b st t.server))
   asked h (ask.Record x b i g) s = by t.naming
     where
       by : (o : Option Naming) → Only (if_naming (λ q. served from h (with_naming t) Reply.Noted (naming.note h.path x b i g q)) o)
       by None = tt
-      by (Some q) = let r = naming.note h.path x b i g q in answered_only from h (with_naming t r.part) r.outs (option_map Reply.Noted r.reply) (λ w is. inl is)
-  asked h (ask.Invoke x b i ends o) s = let r = server.invoke n h x b i ends o t.server in answered_only from h (with_server t r.part) r.outs (option_map Reply.Invoked r.reply) (fewer (with_server t r.part) (fewer_invoke n h x b i ends o t.server))
-  asked h (ask.Vote i ties ends) s = let r = server.vote n h.path i ties ends t.server in answered_only from h (with_server t r.part) r.outs (option_map Reply.Voted r.reply) (λ w is. ⊎_elim (λ old. inl old) (λ same. inr (s w (inr same))) (voted_by n h.path i ties ends t.server w is))
+      by (Some q) = let r = naming.note h.path x b i g q in
+          answered_only from h (with_naming t r.part) r.outs (option_map Reply.Noted r.reply) (λ w is. inl is)
+  asked h (ask.Invoke x b i ends o) s = let r = server.invoke n h x b i ends o t.server in answered_only from h (with_server t r.part)
+      r.outs (option_map Reply.Invoked r.reply) (fewer (with_server t r.part) (fewer_invoke n h x b i ends o t.server))
+  asked h (ask.Vote i ties ends) s = let r = server.vote n h.path i ties ends t.server in
+      answered_only from h (with_server t r.part) r.outs (option_map Reply.Voted r.reply)
+      (λ w is. ⊎_elim (λ old. inl old) (λ same. inr (s w (inr same))) (voted_by n h.path i ties ends t.server w is))
   asked h (ask.Prepare states) s = by (is_prepared (actor h.path) d.store)
     where
       same : VotesOnly m t t
@@ -138,14 +147,17 @@ module _ (n : ℕ) (d : Disk) (t : Parts) (from : ℕ) (m : Message) where
       new (Old u v) = same
       new (InDoubt u holder) = same
 
-      by : (b : Bool) → Only (cond b (sends_answer from h t [] (Some (Reply.Prepared prepared.Yes))) (prepare_by n states from h t (prepare_answer (actor h.path) states d.store)))
+      by : (b : Bool) → Only (cond b (sends_answer from h t [] (Some (Reply.Prepared prepared.Yes)))
+          (prepare_by n states from h t (prepare_answer (actor h.path) states d.store)))
       by true = same
       by false = new (prepare_answer (actor h.path) states d.store)
   asked h (ask.Confirm grants excluded included) s = by t.naming
     where
-      by : (o : Option Naming) → Only (if_naming (λ q. served from h (with_naming t) Reply.Confirmed (confirm h.path grants excluded included d.names q)) o)
+      by : (o : Option Naming) →
+          Only (if_naming (λ q. served from h (with_naming t) Reply.Confirmed (confirm h.path grants excluded included d.names q)) o)
       by None = tt
-      by (Some q) = let r = confirm h.path grants excluded included d.names q in answered_only from h (with_naming t r.part) r.outs (option_map Reply.Confirmed r.reply) (λ w is. inl is)
+      by (Some q) = let r = confirm h.path grants excluded included d.names q in
+          answered_only from h (with_naming t r.part) r.outs (option_map Reply.Confirmed r.reply) (λ w is. inl is)
 
   coord_only : (r : Served Coord (Unit {0})) → Only (coord_heard t r)
   coord_only r = by r.reply

@@ -1,33 +1,30 @@
 -- A commit, an abort and a giveup write their lines.
-use Rattle.std.proofs.Common.{◌≡◌, ◌∙◌, ◌+◌, ◌==◌, ◌&&◌, ℕ, zero, suc, Bool, true, false, not, cond, List, [], ◌∷◌, ◌++◌, length, map, nat_le, refl, sym, ap, subst, inl, inr, arith, Option, Some, None}
-use Rattle.std.specs.Prelude.{is_some, slice_get}
-use Rattle.std.proofs.lemmas.List.{append_assoc}
-use Rattle.arj_law_parts.specs.steps.Named.{AnswersEnd, AreNamed, EndHalted, EndRefused, EndsWriteTheirLines, IsEndAnswered, IsEndOf, KnowsNames, OwnEnd, ends_label, names_of}
-use Rattle.arj_law_parts.specs.steps.Writes.{IsDone, IsRun, IsWhole, asks, node_refusal, refused_to}
-use Rattle.arj_law_parts.proofs.steps.CoordNames.{same_all}
-use Rattle.arj_law_parts.proofs.steps.Spoken.{first_not, given_node, not_not}
-use Rattle.arj_law_parts.proofs.steps.Written.{Halt, Its, Or, Says, Stands, first_stands, node_refuses, node_says, numbered_in, said_of, stands_before, stands_behind, whole_says}
-use Rattle.arj_protocol.proofs.Steps.{steps_lines}
-use Rattle.arj_protocol.specs.Ask.{actor}
-use Rattle.arj_protocol.specs.Asking.{commit_action, commit_open, gaveup_lines, give_up, give_up_call, give_up_doing, gives_up, moved_commit}
-use Rattle.arj_protocol.specs.Call.{next_node}
-use Rattle.arj_protocol.specs.Commit.{Confirming, Machine, Preparing, Voting, first_of, given_up, is_empty, left_of, nodes_given_up}
-use Rattle.arj_protocol.specs.Coord.{Calling, Committing, Coord, Doing, Idle, Now, change_doing, doing_of, number_of, on_doing, uid_at}
-use Rattle.arj_protocol.specs.Effect.{Did, Disk, Effect, Intent, Say, Send, Do, worked}
-use Rattle.arj_protocol.specs.Ending.{abort_action, aborts_with, all_aborted, ended, say_for, says}
-use Rattle.arj_protocol.specs.Laws.{effects_of}
-use Rattle.arj_protocol.specs.Node.{Parts, Ran, first_done, first_queued, ran, with_coord}
-use Rattle.arj_protocol.specs.Step as input
-use Rattle.arj_protocol.specs.Step.{Input, Node, Step, abort_reasons, branch_named, branch_numbered, commit_reasons, first_reason, giveup_reasons, is_waiting, is_waiting_now, on_branch, refusal, refusal_at, refusal_up, refused_by, step, step_of, step_unless, waits}
-use Rattle.arj_protocol.specs.Tree.{Branch, Tree, at_place, branch_of, ended_at, ended_branch, family_of, is_own, open_below, root_of, set_place, with_family}
-use Rattle.arj_protocol.specs.Words.{Body, End, Event, Header, Kind, Label, Line, Uid, name, uids_of}
-use Rattle.arj_protocol.specs.Words.body
-use Rattle.arj_protocol.specs.Words.cause
-use Rattle.arj_protocol.specs.Words.event
-use Rattle.arj_protocol.specs.Words.kind
-use Rattle.arj_protocol.specs.Words.ending
-use Rattle.arj_protocol.specs.Words.which
-use Rattle.arj_protocol.specs.World.{Arm, World, bodies, counted, happens, is_given, limited, node_of, numbered, reasons, refused_at, run_unless, says as world_says, steps}
+use Rattle.arj_law_parts.proofs.Words
+use Words.{◌≡◌, ◌∙◌, ◌+◌, ◌==◌, ◌&&◌, ℕ, zero, suc, Bool, true, false, not, cond, List, [], ◌∷◌, ◌++◌, length, map, nat_le, refl, sym, ap}
+use Words.{subst, inl, inr, arith, Option, Some, None, is_some, slice_get, append_assoc, steps_lines, actor, commit_action, commit_open}
+use Words.{gaveup_lines, give_up, give_up_call, give_up_doing, gives_up, moved_commit, next_node, Confirming, Machine, Preparing, Voting}
+use Words.{first_of, is_empty, left_of, nodes_given_up, Calling, Committing, Coord, Doing, Idle, Now, change_doing, doing_of, number_of}
+use Words.{on_doing, uid_at, Did, Disk, Effect, Intent, Say, Send, Do, worked, abort_action, aborts_with, all_aborted, ended, say_for, says}
+use Words.{effects_of, Parts, Ran, first_done, first_queued, ran, with_coord, Input, Node, Step, abort_reasons, branch_named}
+use Words.{branch_numbered, commit_reasons, first_reason, giveup_reasons, is_waiting, is_waiting_now, on_branch, refusal, refusal_at}
+use Words.{refusal_up, refused_by, step, step_of, step_unless, waits, Branch, Tree, at_place, branch_of, ended_at, ended_branch, family_of}
+use Words.{is_own, open_below, root_of, set_place, with_family, Body, End, Event, Header, Kind, Label, Line, Uid, name, uids_of, Arm, World}
+use Words.{bodies, counted, happens, is_given, limited, node_of, numbered, reasons, refused_at, run_unless, steps}
+use Words.input
+use Words.body
+use Words.cause
+use Words.event
+use Words.kind
+use Words.ending
+use Rattle.arj_law_parts.proofs.Terms
+use Terms.{names_of, IsDone, IsRun, IsWhole, asks, node_refusal, refused_to, says as world_says}
+use Terms.which
+use Rattle.arj_law_parts.proofs.steps.{CoordNames.same_all, Spoken.first_not, Spoken.given_node, Spoken.not_not}
+use Rattle.arj_law_parts.proofs.steps.Written.{Halt, Its, Or, Says, Stands, first_stands, node_refuses, node_says, numbered_in, said_of}
+use Rattle.arj_law_parts.proofs.steps.Written.{stands_before, stands_behind, whole_says}
+use Rattle.arj_law_parts.specs.steps.Named.{AnswersEnd, AreNamed, EndHalted, EndRefused, EndsWriteTheirLines, IsEndAnswered, IsEndOf}
+use Rattle.arj_law_parts.specs.steps.Named.{KnowsNames, OwnEnd, ends_label}
+use Rattle.arj_protocol.specs.Commit.{given_up}
 
 -- ---- a line in the middle of a step
 
@@ -35,7 +32,8 @@ use Rattle.arj_protocol.specs.World.{Arm, World, bodies, counted, happens, is_gi
 ran_says : (n : ℕ) (t : Parts) (b : Body) (front back : List Effect) (d : Disk) → Stands (Say b) (ran n t (front ++ Say b ∷ back) d).outs
 ran_says n t b [] back d = first_stands (Say b) (ran n t back d).outs
 ran_says n t b (Say c ∷ es) back d = stands_behind (Say b) (Say c ∷ []) (ran n t (es ++ Say b ∷ back) d).outs (ran_says n t b es back d)
-ran_says n t b (Do w ∷ es) back d = stands_behind (Say b) (Do w ∷ []) (ran n t (es ++ Say b ∷ back) (worked w d)).outs (ran_says n t b es back (worked w d))
+ran_says n t b (Do w ∷ es) back d =
+    stands_behind (Say b) (Do w ∷ []) (ran n t (es ++ Say b ∷ back) (worked w d)).outs (ran_says n t b es back (worked w d))
 ran_says n t b (Send to m ∷ es) back d = by (to == n) (ran_says n t b es back d)
   where
     r : Ran
@@ -46,7 +44,8 @@ ran_says n t b (Send to m ∷ es) back d = by (to == n) (ran_says n t b es back 
     by false s = stands_behind (Say b) (Send to m ∷ []) r.outs s
 
 did_says : (n : Node) (t : Parts) (es : List Effect) (b : Body) → Stands (Say b) es → Stands (Say b) ([] ++ (input.node_did n [] t es).outs)
-did_says n t es b s = whole_says n.number t es n.disk (Say b) (subst (λ xs. Stands (Say b) (ran n.number t xs n.disk).outs) (sym s.are) (ran_says n.number t b s.before s.after n.disk))
+did_says n t es b s = whole_says n.number t es n.disk (Say b)
+    (subst (λ xs. Stands (Say b) (ran n.number t xs n.disk).outs) (sym s.are) (ran_says n.number t b s.before s.after n.disk))
 
 -- ---- the action of a label
 
@@ -56,7 +55,8 @@ record IsAt (l : Label) (u : Uid) (c : Coord) : Type 0 where
   found : doing_of u c ≡ Some doing
   named : name doing.label ≡ name l
 
-doing_there : (ds : List Doing) (i : ℕ) (m : Label) → slice_get (map (λ (d : Doing). d.label) ds) i ≡ Some m → (d : Doing) × (slice_get ds i ≡ Some d) × (d.label ≡ m)
+doing_there : (ds : List Doing) (i : ℕ) (m : Label) → slice_get (map (λ (d : Doing). d.label) ds) i ≡ Some m →
+    (d : Doing) × (slice_get ds i ≡ Some d) × (d.label ≡ m)
 doing_there [] i m is = absurd (cc is)
 doing_there (d ∷ ds) zero m is = (d, refl, cc is)
 doing_there (d ∷ ds) (suc i) m is = doing_there ds i m is
@@ -80,10 +80,13 @@ module _ (l : Label) (c : Coord) (known : KnowsNames c) where
     where
       by : (o : Option ℕ) → number_of l c ≡ o → branch_numbered c o ≡ Some b → IsAt l (actor b.path) c
       by None at e = let no_way : ◌≡◌ {A = Option Branch} None (Some b) = e in cc
-      by (Some j) at e = let n = known.names.named l j at in subst (λ u. IsAt l u c) (sym (known.places j b e)) (at_number l j n.0 c n.1 n.2)
+      by (Some j) at e = let n = known.names.named l j at in
+          subst (λ u. IsAt l u c) (sym (known.places j b e)) (at_number l j n.0 c n.1 n.2)
 
   -- after others have ended it has its label still
-  still_doing : (us : List Uid) (b : Branch) → branch_named l c ≡ Some b → ((let e = all_aborted us c in let x = e.part in x.tree.node) ≡ c.tree.node) → ((let e = all_aborted us c in let x = e.part in x.tree.inc) ≡ c.tree.inc) → IsAt l (actor b.path) (all_aborted us c).part
+  still_doing : (us : List Uid) (b : Branch) → branch_named l c ≡ Some b →
+      ((let e = all_aborted us c in let x = e.part in x.tree.node) ≡ c.tree.node) →
+      ((let e = all_aborted us c in let x = e.part in x.tree.inc) ≡ c.tree.inc) → IsAt l (actor b.path) (all_aborted us c).part
   still_doing us b is node inc = by (number_of l c) refl is
     where
       e : Coord
@@ -106,9 +109,13 @@ on_tree u f c = by (doing_of u c)
 
 -- an end leaves the coordinator's node and incarnation
 ended_own : (u : Uid) (e : End) (c : Coord) → ((ended u e c).tree.node ≡ c.tree.node) × ((ended u e c).tree.inc ≡ c.tree.inc)
-ended_own u e c = subst (λ (t : Tree). (t.node ≡ c.tree.node) × (t.inc ≡ c.tree.inc)) (sym (on_tree u (λ (d : Doing). record d { now = Idle }) (record c { tree = ended_at u e c.tree }))) (by (branch_of u c.tree))
+ended_own u e c = subst (λ (t : Tree). (t.node ≡ c.tree.node) × (t.inc ≡ c.tree.inc))
+    (sym (on_tree u (λ (d : Doing). record d { now = Idle }) (record c { tree = ended_at u e c.tree }))) (by (branch_of u c.tree))
   where
-    listed : (b : Branch) (x : Bool) → (let m : Tree = record c.tree { branches = set_place u.num (record b { ended = Some e }) c.tree.branches } in let t = cond x m (with_family (root_of b.path) (let f = family_of (root_of b.path) m in record f { ends = f.ends ++ (u, e) ∷ [] }) m) in (t.node ≡ c.tree.node) × (t.inc ≡ c.tree.inc))
+    listed : (b : Branch) (x : Bool) →
+        (let m : Tree = record c.tree { branches = set_place u.num (record b { ended = Some e }) c.tree.branches } in let t = cond x m
+        (with_family (root_of b.path) (let f = family_of (root_of b.path) m in record f { ends = f.ends ++ (u, e) ∷ [] }) m) in
+        (t.node ≡ c.tree.node) × (t.inc ≡ c.tree.inc))
     listed b true = (refl, refl)
     listed b false = (refl, refl)
 
@@ -116,14 +123,18 @@ ended_own u e c = subst (λ (t : Tree). (t.node ≡ c.tree.node) × (t.inc ≡ c
     by None = (refl, refl)
     by (Some b) = listed b (nat_le (length (uids_of b.path)) 1)
 
-all_own : (us : List Uid) (c : Coord) → (let d = all_aborted us c in let e = d.part in (e.tree.node ≡ c.tree.node) × (e.tree.inc ≡ c.tree.inc))
+all_own : (us : List Uid) (c : Coord) →
+    (let d = all_aborted us c in let e = d.part in (e.tree.node ≡ c.tree.node) × (e.tree.inc ≡ c.tree.inc))
 all_own [] c = (refl, refl)
-all_own (u ∷ us) c = let first = ended_own u ending.Abort c in let rest = all_own us (ended u ending.Abort c) in (rest.0 ∙ first.0, rest.1 ∙ first.1)
+all_own (u ∷ us) c = let first = ended_own u ending.Abort c in let rest = all_own us (ended u ending.Abort c) in
+    (rest.0 ∙ first.0, rest.1 ∙ first.1)
 
 -- ---- what a coordinator says
 
-says_first : (u : Uid) (f : Label → Body) (c : Coord) (d : Doing) (rest : List Effect) → doing_of u c ≡ Some d → Stands (Say (f d.label)) (says u f c ++ rest)
-says_first u f c d rest found = subst (λ o. Stands (Say (f d.label)) (say_for f o ++ rest)) (sym found) (first_stands (Say (f d.label)) rest)
+says_first : (u : Uid) (f : Label → Body) (c : Coord) (d : Doing) (rest : List Effect) → doing_of u c ≡ Some d →
+    Stands (Say (f d.label)) (says u f c ++ rest)
+says_first u f c d rest found =
+    subst (λ o. Stands (Say (f d.label)) (say_for f o ++ rest)) (sym found) (first_stands (Say (f d.label)) rest)
 
 -- the line of an end, or of a commit that was called
 record Speaks (e : Event) (m : Label) (es : List Effect) : Type 0 where
@@ -131,7 +142,8 @@ record Speaks (e : Event) (m : Label) (es : List Effect) : Type 0 where
   stands : Stands (Say line) es
   is : IsEndOf e m line
 
-commit_speaks : (l : Label) (b : Branch) (intents : List (Uid × Intent)) (c : Coord) (d : Doing) → doing_of (actor b.path) c ≡ Some d → Speaks (event.Commit l) d.label (commit_action b intents c).outs
+commit_speaks : (l : Label) (b : Branch) (intents : List (Uid × Intent)) (c : Coord) (d : Doing) → doing_of (actor b.path) c ≡ Some d →
+    Speaks (event.Commit l) d.label (commit_action b intents c).outs
 commit_speaks l b intents c d found = by b.doomed
   where
     u : Uid
@@ -145,32 +157,48 @@ commit_speaks l b intents c d found = by b.doomed
     kinds kind.Constituent = record { line = body.Committing d.label; stands = says_first u body.Committing c d _ found; is = inl refl }
 
     by : (x : Bool) → Speaks (event.Commit l) d.label (cond x (aborts_with u cause.Doomed intents c) (commit_open b intents c b.kind)).outs
-    by true = record { line = body.Aborted d.label cause.Doomed; stands = says_first u (λ m. body.Aborted m cause.Doomed) c d _ found; is = inr (inr (inr refl)) }
+    by true = record {
+      line = body.Aborted d.label cause.Doomed;
+      stands = says_first u (λ m. body.Aborted m cause.Doomed) c d _ found;
+      is = inr (inr (inr refl));
+    }
     by false = kinds b.kind
 
-aborted_last : (us : List Uid) (u : Uid) (c : Coord) (d : Doing) → doing_of u (all_aborted us c).part ≡ Some d → Stands (Say (body.Aborted d.label cause.Asked)) (all_aborted (us ++ u ∷ []) c).outs
+aborted_last : (us : List Uid) (u : Uid) (c : Coord) (d : Doing) → doing_of u (all_aborted us c).part ≡ Some d →
+    Stands (Say (body.Aborted d.label cause.Asked)) (all_aborted (us ++ u ∷ []) c).outs
 aborted_last [] u c d found = says_first u (λ m. body.Aborted m cause.Asked) c d [] found
-aborted_last (v ∷ us) u c d found = stands_behind (Say (body.Aborted d.label cause.Asked)) (says v (λ m. body.Aborted m cause.Asked) c) (all_aborted (us ++ u ∷ []) (ended v ending.Abort c)).outs (aborted_last us u (ended v ending.Abort c) d found)
+aborted_last (v ∷ us) u c d found = stands_behind (Say (body.Aborted d.label cause.Asked)) (says v (λ m. body.Aborted m cause.Asked) c)
+    (all_aborted (us ++ u ∷ []) (ended v ending.Abort c)).outs (aborted_last us u (ended v ending.Abort c) d found)
 
-abort_speaks : (l : Label) (b : Branch) (intents : List (Uid × Intent)) (c : Coord) (d : Doing) → doing_of (actor b.path) (all_aborted (open_below (actor b.path) c.tree) c).part ≡ Some d → Speaks (event.Abort l) d.label (abort_action (actor b.path) intents c).outs
+abort_speaks : (l : Label) (b : Branch) (intents : List (Uid × Intent)) (c : Coord) (d : Doing) → doing_of (actor b.path) (all_aborted
+    (open_below (actor b.path) c.tree) c).part ≡ Some d → Speaks (event.Abort l) d.label (abort_action (actor b.path) intents c).outs
 abort_speaks l b intents c d found = record {
   line = body.Aborted d.label cause.Asked;
-  stands = stands_before (Say (body.Aborted d.label cause.Asked)) (all_aborted (open_below (actor b.path) c.tree ++ actor b.path ∷ []) c).outs _ (aborted_last (open_below (actor b.path) c.tree) (actor b.path) c d found);
+  stands = stands_before (Say (body.Aborted d.label cause.Asked)) (all_aborted (open_below (actor b.path) c.tree ++ actor b.path ∷ [])
+      c).outs _ (aborted_last (open_below (actor b.path) c.tree) (actor b.path) c d found);
   is = refl;
 }
 
 -- a giveup says of some node that it isn't waited for any more
-giveup_speaks : (l : Label) (u : Uid) (intents : List (Uid × Intent)) (c : Coord) → KnowsNames c → (d : Doing) → doing_of u c ≡ Some d → is_waiting_now d.now ≡ true → Speaks (event.GiveUp l) d.label (give_up u intents c).outs
-giveup_speaks l u intents c known d found waits = subst (λ o. Speaks (event.GiveUp l) d.label (give_up_doing u intents c o).outs) (sym found) (now d.now refl waits)
+giveup_speaks : (l : Label) (u : Uid) (intents : List (Uid × Intent)) (c : Coord) → KnowsNames c → (d : Doing) → doing_of u c ≡ Some d →
+    is_waiting_now d.now ≡ true → Speaks (event.GiveUp l) d.label (give_up u intents c).outs
+giveup_speaks l u intents c known d found waits =
+    subst (λ o. Speaks (event.GiveUp l) d.label (give_up_doing u intents c o).outs) (sym found) (now d.now refl waits)
   where
     first : (n : ℕ) (ns : List ℕ) (rest : List Effect) → Speaks (event.GiveUp l) d.label (gaveup_lines u (n ∷ ns) c ++ rest)
-    first n ns rest = record { line = body.GaveUp d.label n; stands = stands_before (Say (body.GaveUp d.label n)) (gaveup_lines u (n ∷ ns) c) rest (says_first u (λ m. body.GaveUp m n) c d (gaveup_lines u ns c) found); is = (n, refl) }
+    first n ns rest = record {
+      line = body.GaveUp d.label n;
+      stands = stands_before (Say (body.GaveUp d.label n)) (gaveup_lines u (n ∷ ns) c) rest
+          (says_first u (λ m. body.GaveUp m n) c d (gaveup_lines u ns c) found);
+      is = (n, refl);
+    }
 
     some : (ns : List ℕ) (rest : List Effect) → is_empty ns ≡ false → Speaks (event.GiveUp l) d.label (gaveup_lines u ns c ++ rest)
     some [] rest none = let no_way : true ≡ false = none in cc
     some (n ∷ ns) rest there = first n ns rest
 
-    machine : (m : Machine) (rest : List Effect) → is_empty (left_of m) ≡ false → Speaks (event.GiveUp l) d.label (gaveup_lines u (nodes_given_up m) c ++ rest)
+    machine : (m : Machine) (rest : List Effect) → is_empty (left_of m) ≡ false →
+        Speaks (event.GiveUp l) d.label (gaveup_lines u (nodes_given_up m) c ++ rest)
     machine (Voting p left) rest there = first (first_of left) [] rest
     machine (Preparing p left) rest there = some left rest there
     machine (Confirming p) rest there = first 1 [] rest
@@ -186,18 +214,23 @@ giveup_speaks l u intents c known d found waits = subst (λ o. Speaks (event.Giv
 abbrev SaysEnd : Event → Label → Body → Type 0
 SaysEnd e l b = (m : Label) × (name m ≡ name l) × IsEndOf e m b
 
-module _ (e : Event) (l : Label) (i : Input) (reasons : Branch → Coord → List (ℕ × Bool)) (f : Branch → List (Uid × Intent) → Coord → Did Coord) where
+module _ (e : Event) (l : Label) (i : Input) (reasons : Branch → Coord → List (ℕ × Bool)) (f : Branch → List (Uid × Intent) → Coord →
+    Did Coord) where
   -- an input about an action by its label, which speaks where it isn't refused
   record IsSpoken : Type 0 where
     down : (hd : Header) → refusal_at hd i None ≡ Some 6
     refuses : (hd : Header) (c : Coord) → refusal_up hd i c ≡ refused_by reasons c (branch_named l c)
-    does : (hd : Header) (n : Node) (t : Parts) → step_of hd i n (Some t) ≡ input.coord_did n t (on_branch (λ b. f b n.disk.intents t.coord) t.coord (branch_named l t.coord))
-    speaks : (b : Branch) (intents : List (Uid × Intent)) (c : Coord) → KnowsNames c → branch_named l c ≡ Some b → first_reason (reasons b c) ≡ None → (m : Label) × (name m ≡ name l) × Speaks e m (f b intents c).outs
+    does : (hd : Header) (n : Node) (t : Parts) →
+        step_of hd i n (Some t) ≡ input.coord_did n t (on_branch (λ b. f b n.disk.intents t.coord) t.coord (branch_named l t.coord))
+    speaks : (b : Branch) (intents : List (Uid × Intent)) (c : Coord) → KnowsNames c → branch_named l c ≡ Some b →
+        first_reason (reasons b c) ≡ None → (m : Label) × (name m ≡ name l) × Speaks e m (f b intents c).outs
 
-  node_speaks : IsSpoken → (hd : Header) (n : Node) → ((t : Parts) → n.live ≡ Some t → KnowsNames t.coord) → refusal hd i n ≡ None → Says (SaysEnd e l) (step hd n i).outs
+  node_speaks : IsSpoken → (hd : Header) (n : Node) → ((t : Parts) → n.live ≡ Some t → KnowsNames t.coord) → refusal hd i n ≡ None →
+      Says (SaysEnd e l) (step hd n i).outs
   node_speaks spoken hd n known none = subst (λ r. Says (SaysEnd e l) (step_unless hd i n r).outs) (sym none) (by n.live refl none)
     where
-      done : (t : Parts) → KnowsNames t.coord → (o : Option Branch) → branch_named l t.coord ≡ o → refused_by reasons t.coord o ≡ None → Says (SaysEnd e l) (input.coord_did n t (on_branch (λ b. f b n.disk.intents t.coord) t.coord o)).outs
+      done : (t : Parts) → KnowsNames t.coord → (o : Option Branch) → branch_named l t.coord ≡ o → refused_by reasons t.coord o ≡ None →
+          Says (SaysEnd e l) (input.coord_did n t (on_branch (λ b. f b n.disk.intents t.coord) t.coord o)).outs
       done t knows None is none = let no_way : ◌≡◌ {A = Option ℕ} (Some 6) None = none in cc
       done t knows (Some b) is none =
           let s = spoken.speaks b n.disk.intents t.coord knows is none in
@@ -206,14 +239,16 @@ module _ (e : Event) (l : Label) (i : Input) (reasons : Branch → Coord → Lis
 
       by : (o : Option Parts) → n.live ≡ o → refusal_at hd i o ≡ None → Says (SaysEnd e l) (step_of hd i n o).outs
       by None is down = let no_way : ◌≡◌ {A = Option ℕ} (Some 6) None = sym (spoken.down hd) ∙ down in cc
-      by (Some t) is up = subst (λ (s : Step). Says (SaysEnd e l) s.outs) (sym (spoken.does hd n t)) (done t (known t is) (branch_named l t.coord) refl (sym (spoken.refuses hd t.coord) ∙ up))
+      by (Some t) is up = subst (λ (s : Step). Says (SaysEnd e l) s.outs) (sym (spoken.does hd n t))
+          (done t (known t is) (branch_named l t.coord) refl (sym (spoken.refuses hd t.coord) ∙ up))
 
 commit_spoken : (l : Label) → IsSpoken (event.Commit l) l (input.Commit l) commit_reasons (λ b intents c. commit_action b intents c)
 commit_spoken l = record {
   down = λ hd. refl;
   refuses = λ hd c. refl;
   does = λ hd n t. refl;
-  speaks = λ b intents c known is none. let d = its_doing l c known b is in (d.doing.label, d.named, commit_speaks l b intents c d.doing d.found);
+  speaks = λ b intents c known is none. let d = its_doing l c known b is in
+      (d.doing.label, d.named, commit_speaks l b intents c d.doing d.found);
 }
 
 abort_spoken : (l : Label) → IsSpoken (event.Abort l) l (input.Abort l) abort_reasons (λ b intents c. abort_action (actor b.path) intents c)
@@ -235,21 +270,29 @@ giveup_spoken l = record {
   does = λ hd n t. refl;
   speaks = λ b intents c known is none.
       let d = its_doing l c known b is in
-      let busy = (first_not 8 (not (waits c (actor b.path))) [] (first_not 6 (is_some b.ended) ((8, not (waits c (actor b.path))) ∷ []) none).1).0 in
-      (d.doing.label, d.named, giveup_speaks l (actor b.path) intents c known d.doing d.found (subst (λ o. is_waiting o ≡ true) d.found (not_not (waits c (actor b.path)) busy)));
+      let busy = (first_not 8 (not (waits c (actor b.path))) []
+      (first_not 6 (is_some b.ended) ((8, not (waits c (actor b.path))) ∷ []) none).1).0 in (
+        d.doing.label,
+        d.named,
+        giveup_speaks l (actor b.path) intents c known d.doing d.found
+            (subst (λ o. is_waiting o ≡ true) d.found (not_not (waits c (actor b.path)) busy)),
+      );
 }
 
 -- ---- what an event writes
 
 -- what a node says of an end is written
-said_end : (e : Event) (l : Label) (w v : World) (k : ℕ) (i : Input) (P : Body → Type 0) → v.lines ≡ w.lines → Says P (effects_of k i v) → ((b : Body) → P b → AnswersEnd e l w b) → IsEndAnswered e l w (steps k i v).lines
+said_end : (e : Event) (l : Label) (w v : World) (k : ℕ) (i : Input) (P : Body → Type 0) → v.lines ≡ w.lines → Says P (effects_of k i v) →
+    ((b : Body) → P b → AnswersEnd e l w b) → IsEndAnswered e l w (steps k i v).lines
 said_end e l w v k i P same says_it good =
-    let s = numbered_in v.event says_it.line (bodies k (length v.frames) (effects_of k i v)) (said_of k (length v.frames) says_it.line (effects_of k i v) says_it.stands) in
+    let s = numbered_in v.event says_it.line (bodies k (length v.frames) (effects_of k i v))
+    (said_of k (length v.frames) says_it.line (effects_of k i v) says_it.stands) in
     record {
       before = s.before;
       line = record { event = v.event; body = says_it.line };
       after = s.after;
-      are = steps_lines k i v ∙ ((λ j. same j ++ numbered v.event (bodies k (length v.frames) (effects_of k i v))) ∙ ap (λ ls. w.lines ++ ls) s.are);
+      are = steps_lines k i v
+          ∙ ((λ j. same j ++ numbered v.event (bodies k (length v.frames) (effects_of k i v))) ∙ ap (λ ls. w.lines ++ ls) s.are);
       answers = good says_it.line says_it.holds;
     }
 
@@ -270,13 +313,15 @@ limited_end e l w v x = by v.full
       before = x.before;
       line = x.line;
       after = x.after ++ more ∷ [];
-      are = ap (λ ls. ls ++ more ∷ []) x.are ∙ (append_assoc w.lines (x.before ++ x.line ∷ x.after) (more ∷ []) ∙ ap (λ ls. w.lines ++ ls) (append_assoc x.before (x.line ∷ x.after) (more ∷ [])));
+      are = ap (λ ls. ls ++ more ∷ []) x.are ∙ (append_assoc w.lines (x.before ++ x.line ∷ x.after) (more ∷ [])
+          ∙ ap (λ ls. w.lines ++ ls) (append_assoc x.before (x.line ∷ x.after) (more ∷ [])));
       answers = x.answers;
     }
 
 module _ (l : Label) (w : World) (whole : IsWhole w) (named : AreNamed w) where
   -- the node of a label that was given says it, or that it refuses it
-  node_says_end : (e : Event) (i : Input) → IsRun e w → asks e w ≡ Some (node_of l w, i) → is_given l w ≡ true → ((hd : Header) (n : Node) → ((t : Parts) → n.live ≡ Some t → KnowsNames t.coord) → refusal hd i n ≡ None → Says (SaysEnd e l) (step hd n i).outs)
+  node_says_end : (e : Event) (i : Input) → IsRun e w → asks e w ≡ Some (node_of l w, i) → is_given l w ≡ true → ((hd : Header) (n : Node) →
+      ((t : Parts) → n.live ≡ Some t → KnowsNames t.coord) → refusal hd i n ≡ None → Says (SaysEnd e l) (step hd n i).outs)
       → IsEndAnswered e l w (limited (steps (node_of l w) i (counted w))).lines
   node_says_end e i run asked given spoken = limited_end e l w (steps k i (counted w)) (by (refused_at i w (at_place k w.nodes)) refl)
     where
@@ -288,32 +333,48 @@ module _ (l : Label) (w : World) (whole : IsWhole w) (named : AreNamed w) where
 
       by : (r : Option ℕ) → refused_at i w (at_place k w.nodes) ≡ r → IsEndAnswered e l w (steps k i (counted w)).lines
       by None none = said_end e l w (counted w) k i (Or (SaysEnd e l) k) refl
-          (node_says (SaysEnd e l) k i (counted w) (whole.nodes k (given_node w l whole given)) (λ n at. spoken w.header n (λ t live. named k n t at live) (ap (refused_at i w) (sym at) ∙ none)))
+          (node_says (SaysEnd e l) k i (counted w) (whole.nodes k (given_node w l whole given))
+          (λ n at. spoken w.header n (λ t live. named k n t at live) (ap (refused_at i w) (sym at) ∙ none)))
           (end_answers e l w (record { run = run; granted = refusal_is None none }))
-      by (Some c) some = said_end e l w (counted w) k i (λ b. b ≡ body.Refused c) refl (node_refuses k i c (counted w) some) (λ b is. EndRefused c (inr (run, refusal_is (Some c) some)) is)
+      by (Some c) some = said_end e l w (counted w) k i (λ b. b ≡ body.Refused c) refl (node_refuses k i c (counted w) some)
+          (λ b is. EndRefused c (inr (run, refusal_is (Some c) some)) is)
 
   given : (x : Label) → x ≡ l → first_reason ((5, not (is_given x w)) ∷ []) ≡ None → is_given l w ≡ true
   given x same none = subst (λ y. is_given y w ≡ true) same (not_not (is_given x w) (first_not 5 (not (is_given x w)) [] none).0)
 
-  refused : (e : Event) (c : ℕ) → first_reason (reasons e w) ≡ Some c → IsEndAnswered e l w (world_says (body.Refused c ∷ []) (counted w)).lines
-  refused e c is = record { before = []; line = record { event = w.event + 1; body = body.Refused c }; after = []; are = refl; answers = EndRefused c (inl is) refl }
+  refused : (e : Event) (c : ℕ) → first_reason (reasons e w) ≡ Some c →
+      IsEndAnswered e l w (world_says (body.Refused c ∷ []) (counted w)).lines
+  refused e c is = record {
+    before = [];
+    line = record { event = w.event + 1; body = body.Refused c };
+    after = [];
+    are = refl;
+    answers = EndRefused c (inl is) refl;
+  }
 
-  event_ends : (e : Event) (a : Arm) → ends_label e l → (r : Option ℕ) → first_reason (reasons e w) ≡ r → IsEndAnswered e l w (run_unless e a w r).lines
+  event_ends : (e : Event) (a : Arm) → ends_label e l → (r : Option ℕ) → first_reason (reasons e w) ≡ r →
+      IsEndAnswered e l w (run_unless e a w r).lines
   event_ends (event.Commit m) a is (Some c) at = refused (event.Commit m) c at
   event_ends (event.Abort m) a is (Some c) at = refused (event.Abort m) c at
   event_ends (event.GiveUp m) a is (Some c) at = refused (event.GiveUp m) c at
   event_ends (event.Commit m) a is None at =
-      let at_l : first_reason (reasons (event.Commit l) w) ≡ None = subst (λ x. first_reason (reasons (event.Commit x) w) ≡ None) (sym is) at in
+      let at_l : first_reason (reasons (event.Commit l) w) ≡ None = subst (λ x. first_reason (reasons (event.Commit x) w) ≡ None) (sym is)
+      at in
       subst (λ x. IsEndAnswered (event.Commit x) l w (limited (happens (event.Commit x) a (counted w))).lines) is
-      (node_says_end (event.Commit l) (input.Commit l) (record { accepted = at_l; labels = refl }) refl (given m (sym is) at) (node_speaks (event.Commit l) l (input.Commit l) commit_reasons (λ b intents c. commit_action b intents c) (commit_spoken l)))
+      (node_says_end (event.Commit l) (input.Commit l) (record { accepted = at_l; labels = refl }) refl (given m (sym is) at)
+      (node_speaks (event.Commit l) l (input.Commit l) commit_reasons (λ b intents c. commit_action b intents c) (commit_spoken l)))
   event_ends (event.Abort m) a is None at =
-      let at_l : first_reason (reasons (event.Abort l) w) ≡ None = subst (λ x. first_reason (reasons (event.Abort x) w) ≡ None) (sym is) at in
+      let at_l : first_reason (reasons (event.Abort l) w) ≡ None = subst (λ x. first_reason (reasons (event.Abort x) w) ≡ None) (sym is)
+      at in
       subst (λ x. IsEndAnswered (event.Abort x) l w (limited (happens (event.Abort x) a (counted w))).lines) is
-      (node_says_end (event.Abort l) (input.Abort l) (record { accepted = at_l; labels = refl }) refl (given m (sym is) at) (node_speaks (event.Abort l) l (input.Abort l) abort_reasons (λ b intents c. abort_action (actor b.path) intents c) (abort_spoken l)))
+      (node_says_end (event.Abort l) (input.Abort l) (record { accepted = at_l; labels = refl }) refl (given m (sym is) at) (node_speaks
+      (event.Abort l) l (input.Abort l) abort_reasons (λ b intents c. abort_action (actor b.path) intents c) (abort_spoken l)))
   event_ends (event.GiveUp m) a is None at =
-      let at_l : first_reason (reasons (event.GiveUp l) w) ≡ None = subst (λ x. first_reason (reasons (event.GiveUp x) w) ≡ None) (sym is) at in
+      let at_l : first_reason (reasons (event.GiveUp l) w) ≡ None = subst (λ x. first_reason (reasons (event.GiveUp x) w) ≡ None) (sym is)
+      at in
       subst (λ x. IsEndAnswered (event.GiveUp x) l w (limited (happens (event.GiveUp x) a (counted w))).lines) is
-      (node_says_end (event.GiveUp l) (input.GiveUp l) (record { accepted = at_l; labels = refl }) refl (given m (sym is) at) (node_speaks (event.GiveUp l) l (input.GiveUp l) giveup_reasons (λ b intents c. give_up (actor b.path) intents c) (giveup_spoken l)))
+      (node_says_end (event.GiveUp l) (input.GiveUp l) (record { accepted = at_l; labels = refl }) refl (given m (sym is) at) (node_speaks
+      (event.GiveUp l) l (input.GiveUp l) giveup_reasons (λ b intents c. give_up (actor b.path) intents c) (giveup_spoken l)))
   event_ends (event.Begin m n) a is r at = absurd is
   event_ends (event.BeginIn m p) a is r at = absurd is
   event_ends (event.Top m p) a is r at = absurd is
@@ -332,4 +393,5 @@ module _ (l : Label) (w : World) (whole : IsWhole w) (named : AreNamed w) where
   event_ends (event.Show x) a is r at = absurd is
 
 pub ends_write : EndsWriteTheirLines
-ends_write e l w whole named over is = subst (λ b. IsEndAnswered e.event l w (cond b w (run_unless e.event e.arm w (first_reason (reasons e.event w)))).lines) (sym over) (event_ends l w whole named e.event e.arm is (first_reason (reasons e.event w)) refl)
+ends_write e l w whole named over is = subst (λ b. IsEndAnswered e.event l w (cond b w (run_unless e.event e.arm w (first_reason
+    (reasons e.event w)))).lines) (sym over) (event_ends l w whole named e.event e.arm is (first_reason (reasons e.event w)) refl)

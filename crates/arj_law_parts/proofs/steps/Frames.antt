@@ -1,11 +1,9 @@
 -- Frames that are over, and what a step adds.
-use Rattle.std.proofs.Common.{◌≡◌, ◌∙◌, ◌≤◌, ◌+◌, ◌-◌, ℕ, zero, suc, Bool, true, false, cond, List, [], ◌∷◌, ◌++◌, length, take, refl, sym, ap, arith, Option, Some, None}
-use Rattle.std.specs.Prelude.{nat_lt, slice_get, slice_set}
-use Rattle.std.proofs.lemmas.List.{length-append}
-use Rattle.arj_protocol.specs.Order.{at_number}
-use Rattle.arj_protocol.specs.Step.{Node, Input, Step, step}
-use Rattle.arj_protocol.specs.Tree.{at_place}
-use Rattle.arj_protocol.specs.World.{World, Frame, Arm, armed, cut, count_works, disarmed, done_step, frames_with, halted_at, halted_outs, is_open_frame, lowest_from, most_frames, sends, step_node, step_with, steps}
+use Rattle.arj_law_parts.proofs.Words
+use Words.{◌≡◌, ◌∙◌, ◌≤◌, ◌+◌, ◌-◌, ℕ, zero, suc, Bool, true, false, cond, List, [], ◌∷◌, ◌++◌, length, take, refl, sym, ap, arith, Option}
+use Words.{Some, None, nat_lt, slice_get, slice_set, length-append, at_number, Node, Input, Step, step, at_place, World, Frame, Arm, armed}
+use Words.{cut, count_works, disarmed, done_step, frames_with, halted_at, halted_outs, is_open_frame, lowest_from, most_frames, sends}
+use Words.{step_node, step_with, steps}
 
 -- how many frames were delivered or lost
 abbrev pub over : List Frame → ℕ
@@ -33,7 +31,8 @@ pub none_open : (k : ℕ) (fs : List Frame) → length fs ≤ over fs → lowest
 none_open k [] all = refl
 none_open k (f ∷ fs) all = by (is_open_frame f) all (over_few fs) (λ rest. none_open (k + 1) fs rest)
   where
-    by : (b : Bool) → suc (length fs) ≤ cond b (over fs) (suc (over fs)) → over fs ≤ length fs → (length fs ≤ over fs → lowest_from (k + 1) fs ≡ None) → cond b (Some k) (lowest_from (k + 1) fs) ≡ None
+    by : (b : Bool) → suc (length fs) ≤ cond b (over fs) (suc (over fs)) → over fs ≤ length fs →
+        (length fs ≤ over fs → lowest_from (k + 1) fs ≡ None) → cond b (Some k) (lowest_from (k + 1) fs) ≡ None
     by true all few rest = absurd (omega (arith, all, few))
     by false all few rest = rest (omega (arith, all))
 
@@ -54,18 +53,23 @@ lowest_open k j (f ∷ fs) is = by (is_open_frame f) refl is (λ low. lowest_ope
     behind : IsOpenAt (k + 1) j fs → IsOpenAt k j (f ∷ fs)
     behind o = record { place = suc o.place; is = omega (arith, o.is); frame = o.frame; there = o.there; is_open = o.is_open }
 
-    by : (b : Bool) → is_open_frame f ≡ b → cond b (Some k) (lowest_from (k + 1) fs) ≡ Some j → (lowest_from (k + 1) fs ≡ Some j → IsOpenAt (k + 1) j fs) → IsOpenAt k j (f ∷ fs)
-    by true opens is rest = let same : k ≡ j = cc is in record { place = 0; is = omega (arith, same); frame = f; there = refl; is_open = opens }
+    by : (b : Bool) → is_open_frame f ≡ b → cond b (Some k) (lowest_from (k + 1) fs) ≡ Some j →
+        (lowest_from (k + 1) fs ≡ Some j → IsOpenAt (k + 1) j fs) → IsOpenAt k j (f ∷ fs)
+    by true opens is rest = let same : k ≡ j = cc is in
+        record { place = 0; is = omega (arith, same); frame = f; there = refl; is_open = opens }
     by false opens is rest = behind (rest is)
 
-pub over_marked : (fs : List Frame) (i : ℕ) (f g : Frame) → slice_get fs i ≡ Some f → is_open_frame f ≡ true → is_open_frame g ≡ false → over (slice_set fs i g) ≡ suc (over fs)
+pub over_marked : (fs : List Frame) (i : ℕ) (f g : Frame) → slice_get fs i ≡ Some f → is_open_frame f ≡ true → is_open_frame g ≡ false →
+    over (slice_set fs i g) ≡ suc (over fs)
 over_marked [] i f g at opens closed = absurd (cc at)
 over_marked (e ∷ es) zero f g at opens closed =
     let same : e ≡ f = cc at in
-    (λ i. cond (closed i) (over es) (suc (over es))) ∙ sym (ap (λ b. suc (cond b (over es) (suc (over es)))) (ap is_open_frame same ∙ opens))
+    (λ i. cond (closed i) (over es) (suc (over es)))
+    ∙ sym (ap (λ b. suc (cond b (over es) (suc (over es)))) (ap is_open_frame same ∙ opens))
 over_marked (e ∷ es) (suc i) f g at opens closed = by (is_open_frame e) (over_marked es i f g at opens closed)
   where
-    by : (b : Bool) → over (slice_set es i g) ≡ suc (over es) → cond b (over (slice_set es i g)) (suc (over (slice_set es i g))) ≡ suc (cond b (over es) (suc (over es)))
+    by : (b : Bool) → over (slice_set es i g) ≡ suc (over es) →
+        cond b (over (slice_set es i g)) (suc (over (slice_set es i g))) ≡ suc (cond b (over es) (suc (over es)))
     by true more = more
     by false more = ap suc more
 
@@ -96,7 +100,8 @@ pub record Adds (old new : List Frame) : Type 0 where
 adds_with : (fs new : List Frame) → Adds fs (frames_with fs new)
 adds_with fs new = record { over_too = over_more fs (take (most_frames - length fs) new); few = fits fs new }
 
-armed_adds : (k : ℕ) (n : Node) (s : Step) (w : World) (a : Arm) (b : Bool) → Adds w.frames (cond b (done_step k s (armed k (record a { works = a.works - count_works s.halting }) w)) (halted_at k n (cut (a.works - 1) a.how s.halting n.disk) (disarmed k w))).frames
+armed_adds : (k : ℕ) (n : Node) (s : Step) (w : World) (a : Arm) (b : Bool) → Adds w.frames (cond b (done_step k s (armed k (record a
+    { works = a.works - count_works s.halting }) w)) (halted_at k n (cut (a.works - 1) a.how s.halting n.disk) (disarmed k w))).frames
 armed_adds k n s w a true = adds_with w.frames (sends k s.outs)
 armed_adds k n s w a false = adds_with w.frames (sends k (halted_outs k (cut (a.works - 1) a.how s.halting n.disk)))
 

@@ -1,31 +1,29 @@
 -- No step but a crash says that a node halted, and none says that a disk was armed.
-use Rattle.std.proofs.Common.{◌≡◌, ◌∙◌, ◌==◌, ◌&&◌, ℕ, zero, suc, Bool, true, false, cond, List, [], ◌∷◌, ◌++◌, ◌+◌, map, filter, refl, sym, Option, Some, None, arith}
-use Rattle.std.specs.Prelude.{option_map}
-use Rattle.std.specs.List.{list_all}
-use Rattle.std.proofs.lemmas.Bool.{and_parts}
+use Rattle.arj_law_parts.proofs.Words
+use Words.{◌≡◌, ◌∙◌, ◌==◌, ◌&&◌, ℕ, zero, suc, Bool, true, false, cond, List, [], ◌∷◌, ◌++◌, ◌+◌, map, filter, refl, sym, Option, Some}
+use Words.{None, arith, option_map, list_all, and_parts, acked_own, acts_own, again_own, heard_own, query_own, tolds_again_own}
+use Words.{activate_own, all_both, all_flat, bind_own, confirm_own, ends_own, invoke_own, note_own, told_own, vote_own, Reply, actor}
+use Words.{answers, asked_by, last_end, response, again_all, heard, back_lines, confirm, Disk, Effect, Pair, Work, Say, Send, Do, Look}
+use Words.{PutInc, Served, Prep, Ready, Already, Old, InDoubt, held_at, holder_of, is_prepared, prepare_answer, worked, acked, answer_query}
+use Words.{Named, Naming, Handled, Void, Took, Here, Parts, Ran, prepared_actions, ack_told, by_reply, end_states, first_done, first_queued}
+use Words.{handle, handle_all, handle_answer, handle_ask, handle_ends, handle_other, handle_told, holders, if_naming, is_earlier, is_meant}
+use Words.{load_by, load_held, most_rounds, naming_told, next_round, prepare_by, prepare_states, query_about, ran, ran_handled, rounds}
+use Words.{sends_answer, serve, served, store_told, taken, whole, with_coord, with_naming, with_server, uid_set, without_number, AreAll}
+use Words.{is_coord_effect, is_coord_line, is_naming_effect, is_naming_line, is_server_effect, is_server_line, Node, Input, Step, Begin}
+use Words.{Call, GiveUp, Tick, Restart, Crash, Show, acts, copy_line, entry_line, frame_step, handled_step, hello_to, naming_at}
+use Words.{naming_back, node_did, numbers_to, parts_in, recovered_records, refusal, restart_outs, show_entry, show_outs, shown, step_down}
+use Words.{step_of, step_unless, step_up, tick_step, tolds_again, void_step, Uid, End, Head, Asked, ObjectState, Body, Message, Header}
+use Words.{object, entry, Ask, asks}
+use Words.naming
+use Words.server
+use Words.input as step
+use Words.ask
+use Words.body
+use Words.ending
+use Words.message
+use Words.prepared
 use Rattle.arj_law_parts.specs.steps.Halts.{is_crash, is_no_arm, is_no_halt, says_no_arm, says_no_halt, says_own_halt}
-use Rattle.arj_protocol.proofs.CoordSays.{acked_own, acts_own, again_own, heard_own, query_own, tolds_again_own}
-use Rattle.arj_protocol.proofs.PartSays.{activate_own, all_both, all_flat, bind_own, confirm_own, ends_own, invoke_own, note_own, told_own, vote_own}
-use Rattle.arj_protocol.specs.Ask.{Reply, actor, answers, asked_by, last_end, response}
-use Rattle.arj_protocol.specs.Asking.{again_all, heard}
-use Rattle.arj_protocol.specs.Confirm.{back_lines, confirm}
-use Rattle.arj_protocol.specs.Effect.{Disk, Effect, Pair, Work, Say, Send, Do, Look, PutInc, Served, Prep, Ready, Already, Old, InDoubt, held_at, holder_of, is_prepared, prepare_answer, worked}
-use Rattle.arj_protocol.specs.Ending.{acked, answer_query}
-use Rattle.arj_protocol.specs.Named.{Named}
-use Rattle.arj_protocol.specs.Naming as naming
-use Rattle.arj_protocol.specs.Naming.{Naming}
-use Rattle.arj_protocol.specs.Node.{Handled, Void, Took, Here, Parts, Ran, prepared_actions, ack_told, by_reply, end_states, first_done, first_queued, handle, handle_all, handle_answer, handle_ask, handle_ends, handle_other, handle_told, holders, if_naming, is_earlier, is_meant, load_by, load_held, most_rounds, naming_told, next_round, prepare_by, prepare_states, query_about, ran, ran_handled, rounds, sends_answer, serve, served, store_told, taken, whole, with_coord, with_naming, with_server}
-use Rattle.arj_protocol.specs.Order.{uid_set, without_number}
-use Rattle.arj_protocol.specs.Says.{AreAll, is_coord_effect, is_coord_line, is_naming_effect, is_naming_line, is_server_effect, is_server_line}
-use Rattle.arj_protocol.specs.Server as server
-use Rattle.arj_protocol.specs.Step as step
-use Rattle.arj_protocol.specs.Step.{Node, Input, Step, Begin, Call, Include, Commit, Abort, GiveUp, Frame, Tick, Restart, Crash, Show, acts, copy_line, entry_line, frame_step, handled_step, hello_to, naming_at, naming_back, node_did, numbers_to, parts_in, recovered_records, refusal, restart_outs, show_entry, show_outs, shown, step_down, step_of, step_unless, step_up, tick_step, tolds_again, void_step}
-use Rattle.arj_protocol.specs.Words.{Uid, End, Head, Asked, ObjectState, Body, Message, Header, object, entry, Ask, asks}
-use Rattle.arj_protocol.specs.Words.ask
-use Rattle.arj_protocol.specs.Words.body
-use Rattle.arj_protocol.specs.Words.ending
-use Rattle.arj_protocol.specs.Words.message
-use Rattle.arj_protocol.specs.Words.prepared
+use Rattle.arj_protocol.specs.Step.{Include, Commit, Abort, Frame}
 
 -- a line says neither
 abbrev is_no_stop : Body → Bool
@@ -43,7 +41,8 @@ outs_of (Void outs) = outs
 outs_of (Took t outs) = outs
 
 -- a line of a kind to which neither belongs is none
-other_line : (test : Body → Bool) → ((n : ℕ) → test (body.Halted n) ≡ false) → ((n : ℕ) → test (body.Armed n) ≡ false) → (b : Body) → test b ≡ true → is_no_stop b ≡ true
+other_line : (test : Body → Bool) → ((n : ℕ) → test (body.Halted n) ≡ false) → ((n : ℕ) → test (body.Armed n) ≡ false) → (b : Body) →
+    test b ≡ true → is_no_stop b ≡ true
 other_line test none unarmed (body.Began a b c d) is = refl
 other_line test none unarmed (body.Ok a b c d) is = refl
 other_line test none unarmed (body.Includes a b c) is = refl
@@ -79,14 +78,17 @@ other_line test none unarmed (body.Bad a) is = refl
 other_line test none unarmed (body.Limit a) is = refl
 
 -- effects of a kind to which neither belongs
-good_all : (test : Effect → Bool) (line : Body → Bool) → ((b : Body) → test (Say b) ≡ line b) → ((n : ℕ) → line (body.Halted n) ≡ false) → ((n : ℕ) → line (body.Armed n) ≡ false) → (es : List Effect) → AreAll test es → Good es
+good_all : (test : Effect → Bool) (line : Body → Bool) → ((b : Body) → test (Say b) ≡ line b) → ((n : ℕ) → line (body.Halted n) ≡ false) →
+    ((n : ℕ) → line (body.Armed n) ≡ false) → (es : List Effect) → AreAll test es → Good es
 good_all test line same none unarmed [] all = refl
 good_all test line same none unarmed (Say b ∷ es) all =
     let own = and_parts (test (Say b)) (list_all test es) all in
     let good = other_line line none unarmed b (sym (same b) ∙ own.0) in
     λ i. good i && good_all test line same none unarmed es own.1 i
-good_all test line same none unarmed (Send to m ∷ es) all = good_all test line same none unarmed es (and_parts (test (Send to m)) (list_all test es) all).1
-good_all test line same none unarmed (Do w ∷ es) all = good_all test line same none unarmed es (and_parts (test (Do w)) (list_all test es) all).1
+good_all test line same none unarmed (Send to m ∷ es) all =
+    good_all test line same none unarmed es (and_parts (test (Send to m)) (list_all test es) all).1
+good_all test line same none unarmed (Do w ∷ es) all =
+    good_all test line same none unarmed es (and_parts (test (Do w)) (list_all test es) all).1
 
 server_good : (n : ℕ) (es : List Effect) → AreAll (is_server_effect n) es → Good es
 server_good n = good_all (is_server_effect n) (is_server_line n) (λ b. refl) (λ m. refl) (λ m. refl)
@@ -111,7 +113,8 @@ module _ (from : ℕ) (h : Head) where
   served_good : {S R : Type 0} (put : S → Parts) (say : R → Reply) (r : Served S R) → Good r.outs → Good (outs_of (served from h put say r))
   served_good put say r all = answer_good (put r.part) r.outs (option_map say r.reply) all
 
-  naming_served : {R : Type 0} (put : Naming → Parts) (say : R → Reply) (f : Naming → Served Naming R) (o : Option Naming) → ((n : Naming) → AreAll is_naming_effect (f n).outs) → Good (outs_of (if_naming (λ n. served from h put say (f n)) o))
+  naming_served : {R : Type 0} (put : Naming → Parts) (say : R → Reply) (f : Naming → Served Naming R) (o : Option Naming) →
+      ((n : Naming) → AreAll is_naming_effect (f n).outs) → Good (outs_of (if_naming (λ n. served from h put say (f n)) o))
   naming_served put say f None all = refl
   naming_served put say f (Some n) all = served_good put say (f n) (naming_good (f n).outs (all n))
 
@@ -132,25 +135,35 @@ module _ (from : ℕ) (h : Head) where
       answer (Old u v) = refl
       answer (InDoubt u holder) = refl
 
-      by : (b : Bool) → Good (outs_of (cond b (sends_answer from h t [] (Some (Reply.Prepared prepared.Yes))) (prepare_by n states from h t (prepare_answer (actor h.path) states d))))
+      by : (b : Bool) → Good (outs_of (cond b (sends_answer from h t [] (Some (Reply.Prepared prepared.Yes)))
+          (prepare_by n states from h t (prepare_answer (actor h.path) states d))))
       by true = refl
       by false = answer (prepare_answer (actor h.path) states d)
 
   serve_good : (n : ℕ) (d : Disk) (t : Parts) (a : Ask) → Good (outs_of (serve n d t from h a))
-  serve_good n d t (ask.Bind x include avoid) = naming_served (with_naming t) Reply.Bound (naming.bind h.path x include avoid d.names) t.naming (bind_own h.path x include avoid d.names)
+  serve_good n d t (ask.Bind x include avoid) = naming_served (with_naming t) Reply.Bound (naming.bind h.path x include avoid d.names)
+      t.naming (bind_own h.path x include avoid d.names)
   serve_good n d t (ask.Load x) = load_good x d.store t (holder_of (object x) d.store)
-  serve_good n d t (ask.Activate b st) = served_good (with_server t) Reply.Activated (server.activate n h.path b st t.server) (server_good n (server.activate n h.path b st t.server).outs (activate_own n h.path b st t.server))
-  serve_good n d t (ask.Record x b i g) = naming_served (with_naming t) Reply.Noted (naming.note h.path x b i g) t.naming (note_own h.path x b i g)
-  serve_good n d t (ask.Invoke x b i ends op) = served_good (with_server t) Reply.Invoked (server.invoke n h x b i ends op t.server) (server_good n (server.invoke n h x b i ends op t.server).outs (invoke_own n h x b i ends op t.server))
-  serve_good n d t (ask.Vote i ties ends) = served_good (with_server t) Reply.Voted (server.vote n h.path i ties ends t.server) (server_good n (server.vote n h.path i ties ends t.server).outs (vote_own n h.path i ties ends t.server))
+  serve_good n d t (ask.Activate b st) = served_good (with_server t) Reply.Activated (server.activate n h.path b st t.server)
+      (server_good n (server.activate n h.path b st t.server).outs (activate_own n h.path b st t.server))
+  serve_good n d t (ask.Record x b i g) =
+      naming_served (with_naming t) Reply.Noted (naming.note h.path x b i g) t.naming (note_own h.path x b i g)
+  serve_good n d t (ask.Invoke x b i ends op) = served_good (with_server t) Reply.Invoked (server.invoke n h x b i ends op t.server)
+      (server_good n (server.invoke n h x b i ends op t.server).outs (invoke_own n h x b i ends op t.server))
+  serve_good n d t (ask.Vote i ties ends) = served_good (with_server t) Reply.Voted (server.vote n h.path i ties ends t.server)
+      (server_good n (server.vote n h.path i ties ends t.server).outs (vote_own n h.path i ties ends t.server))
   serve_good n d t (ask.Prepare states) = prepare_good n d.store states t
-  serve_good n d t (ask.Confirm grants excluded included) = naming_served (with_naming t) Reply.Confirmed (confirm h.path grants excluded included d.names) t.naming (confirm_own h.path grants excluded included d.names)
+  serve_good n d t (ask.Confirm grants excluded included) = naming_served (with_naming t) Reply.Confirmed
+      (confirm h.path grants excluded included d.names) t.naming (confirm_own h.path grants excluded included d.names)
 
-told_good : (n : ℕ) (d : Disk) (t : Parts) (from : ℕ) (ack : Bool) (ends : List (Uid × End)) (u : Uid) (e : End) → Good (outs_of (handle_told n d t from ack ends u e))
+told_good : (n : ℕ) (d : Disk) (t : Parts) (from : ℕ) (ack : Bool) (ends : List (Uid × End)) (u : Uid) (e : End) →
+    Good (outs_of (handle_told n d t from ack ends u e))
 told_good n d t from ack ends u e =
-    all_both says_no_stop (store_told n u e d.store ++ (naming_told u e d.names t.naming).outs ++ (server.told n ends t.server).outs) (ack_told from u ack)
+    all_both says_no_stop (store_told n u e d.store ++ (naming_told u e d.names t.naming).outs ++ (server.told n ends t.server).outs)
+    (ack_told from u ack)
     (all_both says_no_stop (store_told n u e d.store ++ (naming_told u e d.names t.naming).outs) (server.told n ends t.server).outs
-    (all_both says_no_stop (store_told n u e d.store) (naming_told u e d.names t.naming).outs (store (is_prepared u d.store) e) (names t.naming))
+    (all_both says_no_stop (store_told n u e d.store) (naming_told u e d.names t.naming).outs (store (is_prepared u d.store) e)
+    (names t.naming))
     (server_good n (server.told n ends t.server).outs (ends_own n ends t.server)))
     (acks ack)
   where
@@ -177,7 +190,9 @@ other_good n d t from (message.Told m) = by (last_end m.ends)
     by : (o : Option (Uid × End)) → Good (outs_of (handle_ends n d t from m.ack m.ends o))
     by None = refl
     by (Some e) = told_good n d t from m.ack m.ends e.0 e.1
-other_good n d t from (message.Acked m) = reply_good (with_coord t (acked from m.act d.intents t.coord).part) (acked from m.act d.intents t.coord).outs (acked from m.act d.intents t.coord).reply (coord_good (acked from m.act d.intents t.coord).outs (acked_own from m.act d.intents t.coord))
+other_good n d t from (message.Acked m) =
+    reply_good (with_coord t (acked from m.act d.intents t.coord).part) (acked from m.act d.intents t.coord).outs (acked from m.act
+    d.intents t.coord).reply (coord_good (acked from m.act d.intents t.coord).outs (acked_own from m.act d.intents t.coord))
 other_good n d t from (message.Query m) = coord_good (answer_query from m.act d.intents t.coord) (query_own from m.act d.intents t.coord)
 other_good n d t from (message.Hello m) = map_good query_about (filter (is_earlier m.node m.inc) (holders d t)) (λ u. refl)
 other_good n d t from (message.Bind m) = refl
@@ -202,7 +217,9 @@ taken_good n d t from m = by (is_meant t m)
   where
     answered : (a : Option (Asked × Reply)) → Good (outs_of (handle_answer n d t from m a))
     answered None = other_good n d t from m
-    answered (Some a) = reply_good (with_coord t (heard from a.0 a.1 d.intents t.coord).part) (heard from a.0 a.1 d.intents t.coord).outs (heard from a.0 a.1 d.intents t.coord).reply (coord_good (heard from a.0 a.1 d.intents t.coord).outs (heard_own from a.0 a.1 d.intents t.coord))
+    answered (Some a) =
+        reply_good (with_coord t (heard from a.0 a.1 d.intents t.coord).part) (heard from a.0 a.1 d.intents t.coord).outs (heard from a.0
+        a.1 d.intents t.coord).reply (coord_good (heard from a.0 a.1 d.intents t.coord).outs (heard_own from a.0 a.1 d.intents t.coord))
 
     asked : (a : Option (Head × Ask)) → Good (outs_of (handle_ask n d t from m a))
     asked None = answered (answers m)
@@ -216,7 +233,8 @@ taken_good n d t from m = by (is_meant t m)
 
 ran_good : (n : ℕ) (t : Parts) (es : List Effect) (d : Disk) → Good es → Good (ran n t es d).outs
 ran_good n t [] d all = refl
-ran_good n t (Say b ∷ es) d all = let own = and_parts (is_no_stop b) (list_all says_no_stop es) all in λ i. own.0 i && ran_good n t es d own.1 i
+ran_good n t (Say b ∷ es) d all = let own = and_parts (is_no_stop b) (list_all says_no_stop es) all in
+    λ i. own.0 i && ran_good n t es d own.1 i
 ran_good n t (Do w ∷ es) d all = ran_good n t es (worked w d) all
 ran_good n t (Send to m ∷ es) d all = by (to == n) (ran_good n t es d all)
   where
@@ -232,11 +250,13 @@ all_good : (n : ℕ) (ms : List Message) (h : Here) → Good (handle_all n ms h)
 all_good n [] h = refl
 all_good n (m ∷ ms) h =
     let r = ran_handled n h (taken n h.disk h.parts n m) in
-    all_both says_no_stop r.outs (handle_all n ms r.here).outs (handled_good n h (taken n h.disk h.parts n m) (taken_good n h.disk h.parts n m)) (all_good n ms r.here)
+    all_both says_no_stop r.outs (handle_all n ms r.here).outs
+    (handled_good n h (taken n h.disk h.parts n m) (taken_good n h.disk h.parts n m)) (all_good n ms r.here)
 
 rounds_good : (n k : ℕ) (r : Ran) → Good r.outs → Good (rounds n k r).outs
 rounds_good n zero r all = all
-rounds_good n (suc k) r all = by r.queue (rounds_good n k (next_round n r) (all_both says_no_stop r.outs (handle_all n r.queue r.here).outs all (all_good n r.queue r.here)))
+rounds_good n (suc k) r all = by r.queue
+    (rounds_good n k (next_round n r) (all_both says_no_stop r.outs (handle_all n r.queue r.here).outs all (all_good n r.queue r.here)))
   where
     after : List Message → Ran
     after q = elim q [ [] ↦ r | m ∷ ms ↦ rounds n k (next_round n r) ]
@@ -245,8 +265,10 @@ rounds_good n (suc k) r all = by r.queue (rounds_good n k (next_round n r) (all_
     by [] more = all
     by (m ∷ ms) more = more
 
-did_good : (n : Node) (before : List Effect) (t : Parts) (outs : List Effect) → Good before → Good outs → Good (node_did n before t outs).outs
-did_good n before t outs first all = all_both says_no_stop before (whole n.number t outs n.disk).outs first (rounds_good n.number most_rounds (ran n.number t outs n.disk) (ran_good n.number t outs n.disk all))
+did_good : (n : Node) (before : List Effect) (t : Parts) (outs : List Effect) → Good before → Good outs →
+    Good (node_did n before t outs).outs
+did_good n before t outs first all = all_both says_no_stop before (whole n.number t outs n.disk).outs first
+    (rounds_good n.number most_rounds (ran n.number t outs n.disk) (ran_good n.number t outs n.disk all))
 
 -- both of a step
 abbrev Both : Step → Type 0
@@ -271,13 +293,16 @@ tick_both n t =
     let d = again_all t.coord.doings t.coord in
     did_both n [] (with_coord t d.part) (d.outs ++ tolds_again t.coord.telling ++ map query_about (holders n.disk t)) refl
     (all_both says_no_stop (d.outs ++ tolds_again t.coord.telling) (map query_about (holders n.disk t))
-    (all_both says_no_stop d.outs (tolds_again t.coord.telling) (coord_good d.outs (again_own t.coord.doings t.coord)) (coord_good (tolds_again t.coord.telling) (tolds_again_own t.coord.telling)))
+    (all_both says_no_stop d.outs (tolds_again t.coord.telling) (coord_good d.outs (again_own t.coord.doings t.coord))
+    (coord_good (tolds_again t.coord.telling) (tolds_again_own t.coord.telling)))
     (map_good query_about (holders n.disk t) (λ u. refl)))
 
 acts_both : (n : Node) (t : Parts) (i : Input) → Both (step.coord_did n t (acts i n.disk.intents t.coord))
-acts_both n t i = did_both n [] (with_coord t (acts i n.disk.intents t.coord).part) (acts i n.disk.intents t.coord).outs refl (coord_good (acts i n.disk.intents t.coord).outs (acts_own i n.disk.intents t.coord))
+acts_both n t i = did_both n [] (with_coord t (acts i n.disk.intents t.coord).part) (acts i n.disk.intents t.coord).outs refl
+    (coord_good (acts i n.disk.intents t.coord).outs (acts_own i n.disk.intents t.coord))
 
-shown_good : (line : Option ObjectState → List Effect) (u : Uid) (d : Pair) → ((s : Option ObjectState) → Good (line s)) → Good (shown line u d (holder_of u d))
+shown_good : (line : Option ObjectState → List Effect) (u : Uid) (d : Pair) → ((s : Option ObjectState) → Good (line s)) →
+    Good (shown line u d (holder_of u d))
 shown_good line u d each = by (holder_of u d)
   where
     by : (o : Option Uid) → Good (shown line u d o)
@@ -285,7 +310,8 @@ shown_good line u d each = by (holder_of u d)
     by None = each (held_at u d)
 
 show_good : (n x : ℕ) (d : Disk) → Good (show_outs n x d)
-show_good n x d = all_both says_no_stop (show_entry n x d.names) (shown (copy_line n x) (object x) d.store (holder_of (object x) d.store)) (by (n == 1)) (shown_good (copy_line n x) (object x) d.store copy)
+show_good n x d = all_both says_no_stop (show_entry n x d.names) (shown (copy_line n x) (object x) d.store (holder_of (object x) d.store))
+    (by (n == 1)) (shown_good (copy_line n x) (object x) d.store copy)
   where
     copy : (s : Option ObjectState) → Good (copy_line n x s)
     copy None = refl
@@ -333,7 +359,8 @@ up_both n t (GiveUp l) isnt = acts_both n t (GiveUp l)
 
 down_both : (hd : Header) (n : Node) (i : Input) → Both (step_down hd i n)
 down_both hd n (Frame k from m) = void_both k n [] refl
-down_both hd n Restart = did_both n [] (parts_in n.number (n.disk.inc + 1) n.disk) (restart_outs hd n.number (n.disk.inc + 1) n.disk) refl (restart_good hd n.number (n.disk.inc + 1) n.disk)
+down_both hd n Restart = did_both n [] (parts_in n.number (n.disk.inc + 1) n.disk) (restart_outs hd n.number (n.disk.inc + 1) n.disk) refl
+    (restart_good hd n.number (n.disk.inc + 1) n.disk)
 down_both hd n Tick = (refl, refl)
 down_both hd n Crash = (refl, refl)
 down_both hd n (Show x) = (refl, refl)
@@ -356,13 +383,16 @@ step_good hd n i isnt = by (refusal hd i n)
     by None = live n.live
 
 -- each of the two by itself
-weaker : (some : Effect → Bool) → ((b : Body) → is_no_stop b ≡ true → some (Say b) ≡ true) → ((to : ℕ) (m : Message) → some (Send to m) ≡ true) → ((w : Work) → some (Do w) ≡ true) → (es : List Effect) → Good es → AreAll some es
+weaker : (some : Effect → Bool) → ((b : Body) → is_no_stop b ≡ true → some (Say b) ≡ true) →
+    ((to : ℕ) (m : Message) → some (Send to m) ≡ true) → ((w : Work) → some (Do w) ≡ true) → (es : List Effect) → Good es → AreAll some es
 weaker some say send works [] all = refl
-weaker some say send works (Say b ∷ es) all = let own = and_parts (is_no_stop b) (list_all says_no_stop es) all in λ i. say b own.0 i && weaker some say send works es own.1 i
+weaker some say send works (Say b ∷ es) all = let own = and_parts (is_no_stop b) (list_all says_no_stop es) all in
+    λ i. say b own.0 i && weaker some say send works es own.1 i
 weaker some say send works (Send to m ∷ es) all = λ i. send to m i && weaker some say send works es all i
 weaker some say send works (Do w ∷ es) all = λ i. works w i && weaker some say send works es all i
 
-pub step_both : (hd : Header) (n : Node) (i : Input) → is_crash i ≡ false → AreAll says_no_halt (step.step hd n i).outs × AreAll says_no_halt (step.step hd n i).halting
+pub step_both : (hd : Header) (n : Node) (i : Input) → is_crash i ≡ false →
+    AreAll says_no_halt (step.step hd n i).outs × AreAll says_no_halt (step.step hd n i).halting
 step_both hd n i isnt =
     let good = step_good hd n i isnt in
     let halt = weaker says_no_halt (λ b is. (and_parts (is_no_halt b) (is_no_arm b) is).0) (λ to m. refl) (λ w. refl) in
@@ -389,7 +419,8 @@ crash_own hd n = by (refusal hd Crash n)
 
 -- ---- arms
 
-pub step_unarmed : (hd : Header) (n : Node) (i : Input) → AreAll says_no_arm (step.step hd n i).outs × AreAll says_no_arm (step.step hd n i).halting
+pub step_unarmed : (hd : Header) (n : Node) (i : Input) →
+    AreAll says_no_arm (step.step hd n i).outs × AreAll says_no_arm (step.step hd n i).halting
 step_unarmed hd n i = by i (is_crash i) refl
   where
     Unarmed : Step → Type 0

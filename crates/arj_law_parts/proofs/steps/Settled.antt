@@ -1,16 +1,17 @@
 -- Each delivery of a settle uses up a frame.
-use Rattle.std.proofs.Common.{◌≡◌, ◌∙◌, ◌≤◌, ◌+◌, ◌⊎◌, ℕ, zero, suc, Bool, true, false, not, cond, List, [], ◌∷◌, length, inl, inr, refl, sym, ap, subst, arith, Option, Some, None}
-use Rattle.std.specs.Prelude.{◌||◌, slice_set}
+use Rattle.arj_law_parts.proofs.Words
+use Words.{◌≡◌, ◌∙◌, ◌≤◌, ◌+◌, ◌⊎◌, ℕ, zero, suc, Bool, true, false, not, cond, List, [], ◌∷◌, length, inl, inr, refl, sym, ap, subst}
+use Words.{arith, Option, Some, None, ◌||◌, slice_set, at_place, set_place, first_reason, Event, World, Frame, as_delivered, change_frame}
+use Words.{counted, deliver, deliver_frame, is_open_frame, is_quiet, is_up_at, limited, lowest, lowest_from, most_frames, node_numbers}
+use Words.{quiesce, quiet_line, reasons, run_unless, settle, settle_for, steps, tick_all, tick_up}
+use Words.input
+use Words.body
+use Words.event
+use Rattle.arj_law_parts.proofs.Terms
+use Terms.{says}
+use Terms.which
 use Rattle.arj_law_parts.proofs.steps.Frames.{IsOpenAt, lowest_open, none_open, over, over_marked, length_marked, steps_add}
 use Rattle.arj_law_parts.specs.steps.Settles.{EventsLeaveNothing, IsSettled}
-use Rattle.arj_protocol.specs.Step as input
-use Rattle.arj_protocol.specs.Tree.{at_place, set_place}
-use Rattle.arj_protocol.specs.Step.{first_reason}
-use Rattle.arj_protocol.specs.Words.{Event}
-use Rattle.arj_protocol.specs.Words.body
-use Rattle.arj_protocol.specs.Words.event
-use Rattle.arj_protocol.specs.Words.which
-use Rattle.arj_protocol.specs.World.{World, Frame, as_delivered, change_frame, counted, deliver, deliver_frame, is_open_frame, is_quiet, is_up_at, limited, lowest, lowest_from, most_frames, node_numbers, quiesce, quiet_line, reasons, run_unless, says, settle, settle_for, steps, tick_all, tick_up}
 
 -- one more frame is over, and there are no more than a run may have
 pub record UsesUp (old new : World) : Type 0 where
@@ -23,7 +24,8 @@ closed f = refl
 delivered : (j : ℕ) (w : World) (f : Frame) (o : IsOpenAt 1 j w.frames) → UsesUp w (deliver_frame j w (Some o.frame))
 delivered j w f o =
     let adds = steps_add o.frame.to (input.Frame j o.frame.from o.frame.message) (change_frame j as_delivered o.frame w) in
-    let at : (change_frame j as_delivered o.frame w).frames ≡ slice_set w.frames o.place (as_delivered o.frame) = subst (λ k. set_place k (as_delivered o.frame) w.frames ≡ slice_set w.frames o.place (as_delivered o.frame)) (sym (o.is ∙ one o.place)) refl in
+    let at : (change_frame j as_delivered o.frame w).frames ≡ slice_set w.frames o.place (as_delivered o.frame) = subst (λ k.
+    set_place k (as_delivered o.frame) w.frames ≡ slice_set w.frames o.place (as_delivered o.frame)) (sym (o.is ∙ one o.place)) refl in
     let marked = over_marked w.frames o.place o.frame (as_delivered o.frame) o.there o.is_open (closed o.frame) in
     let same = ap over at ∙ marked in
     let count = ap (λ fs. length fs) at ∙ length_marked w.frames o.place (as_delivered o.frame) in
@@ -42,7 +44,8 @@ uses_up j w is =
     one k = grind arith
 
 -- one more delivery, and the rest of the fuel
-next_settled : (fuel : ℕ) (w : World) → ((v : World) → length v.frames ≤ most_frames → most_frames ≤ fuel + over v.frames → IsSettled (settle_for fuel v)) → length w.frames ≤ most_frames → most_frames ≤ suc fuel + over w.frames → IsSettled (settle_for (suc fuel) w)
+next_settled : (fuel : ℕ) (w : World) → ((v : World) → length v.frames ≤ most_frames → most_frames ≤ fuel + over v.frames → IsSettled
+    (settle_for fuel v)) → length w.frames ≤ most_frames → most_frames ≤ suc fuel + over w.frames → IsSettled (settle_for (suc fuel) w)
 next_settled fuel w rest few enough = full w.full refl
   where
     next : (o : Option ℕ) → lowest_from 1 w.frames ≡ o → IsSettled (elim o [ None ↦ w | Some k ↦ settle_for fuel (deliver k w) ])
@@ -50,10 +53,13 @@ next_settled fuel w rest few enough = full w.full refl
     next (Some k) is = let up = uses_up k w is in rest (deliver k w) (up.few few) (omega (arith, enough, up.more))
 
     full : (b : Bool) → w.full ≡ b → IsSettled (elim (lowest w) [ None ↦ w | Some k ↦ settle_for fuel (deliver k w) ])
-    full true is = subst (λ o. IsSettled (elim o [ None ↦ w | Some k ↦ settle_for fuel (deliver k w) ])) (sym (ap (λ b. cond b None (lowest_from 1 w.frames)) is)) (inl is)
-    full false is = subst (λ o. IsSettled (elim o [ None ↦ w | Some k ↦ settle_for fuel (deliver k w) ])) (sym (ap (λ b. cond b None (lowest_from 1 w.frames)) is)) (next (lowest_from 1 w.frames) refl)
+    full true is = subst (λ o. IsSettled (elim o [ None ↦ w | Some k ↦ settle_for fuel (deliver k w) ]))
+        (sym (ap (λ b. cond b None (lowest_from 1 w.frames)) is)) (inl is)
+    full false is = subst (λ o. IsSettled (elim o [ None ↦ w | Some k ↦ settle_for fuel (deliver k w) ]))
+        (sym (ap (λ b. cond b None (lowest_from 1 w.frames)) is)) (next (lowest_from 1 w.frames) refl)
 
-pub settled_for : (fuel : ℕ) (w : World) → length w.frames ≤ most_frames → most_frames ≤ fuel + over w.frames → IsSettled (settle_for fuel w)
+pub settled_for : (fuel : ℕ) (w : World) → length w.frames ≤ most_frames → most_frames ≤ fuel + over w.frames →
+    IsSettled (settle_for fuel w)
 settled_for zero w few enough = inr (none_open 1 w.frames (omega (arith, few, enough)))
 settled_for (suc fuel) w few enough = next_settled fuel w (settled_for fuel) few enough
 
@@ -74,13 +80,15 @@ deliver_few k w few = by (at_place k w.frames)
 
     by : (o : Option Frame) → Few (deliver_frame k w o)
     by None = few
-    by (Some f) = let adds = steps_add f.to (input.Frame k f.from f.message) (change_frame k as_delivered f w) in adds.few (omega (arith, few, marked k (as_delivered f)))
+    by (Some f) = let adds = steps_add f.to (input.Frame k f.from f.message) (change_frame k as_delivered f w) in
+        adds.few (omega (arith, few, marked k (as_delivered f)))
 
 settle_few : (fuel : ℕ) (w : World) → Few w → Few (settle_for fuel w)
 settle_few zero w few = few
 settle_few (suc fuel) w few = by (lowest w) (λ k. settle_few fuel (deliver k w) (deliver_few k w few))
   where
-    by : (o : Option ℕ) → ((k : ℕ) → Few (settle_for fuel (deliver k w))) → Few (elim o [ None ↦ w | Some k ↦ settle_for fuel (deliver k w) ])
+    by : (o : Option ℕ) → ((k : ℕ) → Few (settle_for fuel (deliver k w))) →
+        Few (elim o [ None ↦ w | Some k ↦ settle_for fuel (deliver k w) ])
     by None rest = few
     by (Some k) rest = rest k
 
@@ -109,17 +117,20 @@ quiesced w few =
 goes_on : (w : World) → IsSettled w → (limited w).over ≡ false → lowest_from 1 (limited w).frames ≡ None
 goes_on w is = by w.full refl is
   where
-    by : (b : Bool) → w.full ≡ b → IsSettled w → (cond b (says (body.Limit which.Frames ∷ []) (record w { over = true })) w).over ≡ false → lowest_from 1 (cond b (says (body.Limit which.Frames ∷ []) (record w { over = true })) w).frames ≡ None
+    by : (b : Bool) → w.full ≡ b → IsSettled w → (cond b (says (body.Limit which.Frames ∷ []) (record w { over = true })) w).over ≡ false →
+        lowest_from 1 (cond b (says (body.Limit which.Frames ∷ []) (record w { over = true })) w).frames ≡ None
     by true full is over = absurd (cc over)
     by false full (inl isnt) over = absurd (cc (sym full ∙ isnt))
     by false full (inr none) over = none
 
 pub events_settle : EventsLeaveNothing
 events_settle e w which few over =
-    subst (λ b. (cond b w (run_unless e.event e.arm w (first_reason (reasons e.event w)))).over ≡ false → lowest_from 1 (cond b w (run_unless e.event e.arm w (first_reason (reasons e.event w)))).frames ≡ None) (sym over) (by which)
+    subst (λ b. (cond b w (run_unless e.event e.arm w (first_reason (reasons e.event w)))).over ≡ false →
+    lowest_from 1 (cond b w (run_unless e.event e.arm w (first_reason (reasons e.event w)))).frames ≡ None) (sym over) (by which)
   where
     Leaves : Event → Type 0
-    Leaves x = (run_unless x e.arm w (first_reason (reasons x w))).over ≡ false → lowest_from 1 (run_unless x e.arm w (first_reason (reasons x w))).frames ≡ None
+    Leaves x = (run_unless x e.arm w (first_reason (reasons x w))).over ≡ false →
+        lowest_from 1 (run_unless x e.arm w (first_reason (reasons x w))).frames ≡ None
 
     by : (e.event ≡ event.Settle) ⊎ (e.event ≡ event.Quiesce) → Leaves e.event
     by (inl is) = subst Leaves (sym is) (goes_on (settle (counted w)) (settled (counted w) few))

@@ -1,29 +1,24 @@
 -- Worlds keep their nodes, and labels are of actions of these.
-use Rattle.std.proofs.Common.{◌≡◌, ◌∙◌, ◌+◌, ◌-◌, ◌<◌, ℕ, zero, suc, Bool, true, false, not, ◌&&◌, cond, List, [], ◌∷◌, ◌++◌, map, length, refl, sym, ap, subst, arith, Option, Some, None}
-use Rattle.std.specs.Prelude.{is_some, nat_lt, nat_le, slice_get, slice_set, ◌||◌}
-use Rattle.std.specs.BTreeMap.{insert_entry}
-use Rattle.std.specs.List.{AllByRecursion}
-use Rattle.std.proofs.lemmas.Bool.{and_parts}
-use Rattle.std.proofs.lemmas.Bool.Decides.{nat_tests}
-use Rattle.std.proofs.lemmas.List.{length-append, map-append}
-use Rattle.std.specs.Ordering.{match_ordering}
-use Rattle.std.specs.declared.cmp.Ordering.{Ordering}
-use Rattle.std.specs.declared.cmp.Ordering.TheVariants.{Less, Equal, Greater}
-use Rattle.arj_law_parts.specs.steps.Writes.{IsWhole}
+use Rattle.arj_law_parts.proofs.Words
+use Words.{◌≡◌, ◌∙◌, ◌+◌, ◌-◌, ◌<◌, ℕ, zero, suc, Bool, true, false, not, ◌&&◌, cond, List, [], ◌∷◌, ◌++◌, map, length, refl, sym, ap}
+use Words.{subst, arith, Option, Some, None, is_some, nat_lt, nat_le, slice_get, slice_set, ◌||◌, insert_entry, AllByRecursion, and_parts}
+use Words.{nat_tests, length-append, map-append, match_ordering, Ordering, Less, Equal, Greater, Handled, Void, Took, Parts, taken}
+use Words.{at_number, Node, Input, first_reason, frame_step, handled_step, numbers_to, first_node, refusal, step, step_down, step_of}
+use Words.{step_unless, step_up, at_place, set_place, Event, Header, Label, Message, label_cmp, World, Arm, Frame, Giving, Labelled, armed}
+use Words.{gives_label, is_given, is_serial_kind, kind_below, labels_unless, node_of, refused_at, giving, as_delivered, begins}
+use Words.{change_frame, count_works, counted, cut, deliver, deliver_frame, disarmed, done_step, format, halted_at, happens, is_node}
+use Words.{is_quiet, is_up_at, junk_fits, lacks_labels, limited, lose, lose_frame, lowest, most_frames, no_labels, node_numbers, quiesce}
+use Words.{quiet_line, reasons, run_event, run_unless, settle, settle_for, show_all, show_up, step_node, step_with, steps, tick_all}
+use Words.{tick_up, Move, all_moved, moved, world_by}
+use Words.input
+use Words.body
+use Words.event
+use Words.frame_no
+use Words.kind
+use Rattle.arj_law_parts.proofs.Terms
+use Terms.{IsWhole, Asked, says}
+use Terms.which
 use Rattle.arj_law_parts.proofs.steps.Spoken.{first_not, given_node, not_not}
-use Rattle.arj_protocol.specs.Node.{Handled, Void, Took, Parts, taken}
-use Rattle.arj_protocol.specs.Order.{at_number}
-use Rattle.arj_protocol.specs.Step as input
-use Rattle.arj_protocol.specs.Step.{Node, Input, first_reason, frame_step, handled_step, numbers_to, first_node, refusal, step, step_down, step_of, step_unless, step_up}
-use Rattle.arj_protocol.specs.Tree.{at_place, set_place}
-use Rattle.arj_protocol.specs.Words.{Event, Header, Label, Message, label_cmp}
-use Rattle.arj_protocol.specs.Words.body
-use Rattle.arj_protocol.specs.Words.which
-use Rattle.arj_protocol.specs.Words.event
-use Rattle.arj_protocol.specs.Words.frame_no
-use Rattle.arj_protocol.specs.Words.kind
-use Rattle.arj_protocol.specs.World.{World, Arm, Asked, Frame, Giving, Labelled, armed, gives_label, is_given, is_serial_kind, kind_below, labels_unless, node_of, refused_at, giving, as_delivered, begins, change_frame, count_works, counted, cut, deliver, deliver_frame, disarmed, done_step, format, halted_at, happens, is_node, is_quiet, is_up_at, junk_fits, lacks_labels, limited, lose, lose_frame, lowest, most_frames, no_labels, node_numbers, quiesce, quiet_line, reasons, run_event, run_unless, says, settle, settle_for, show_all, show_up, step_node, step_with, steps, tick_all, tick_up}
-use Rattle.arj_promise.specs.Runs.{Move, all_moved, moved, world_by}
 
 -- ---- a step keeps the node's number
 
@@ -96,9 +91,11 @@ set_places (m ∷ ms) zero (suc j) x = refl
 set_places (m ∷ ms) (suc i) zero x = refl
 set_places (m ∷ ms) (suc i) (suc j) x = set_places ms i j x
 
-set_numbers : (ns : List Node) (i : ℕ) (x y : Node) → slice_get ns i ≡ Some y → x.number ≡ y.number → (j : ℕ) (m : Node) → slice_get (slice_set ns i x) j ≡ Some m → (o : Node) × (slice_get ns j ≡ Some o) × (m.number ≡ o.number)
+set_numbers : (ns : List Node) (i : ℕ) (x y : Node) → slice_get ns i ≡ Some y → x.number ≡ y.number → (j : ℕ) (m : Node) →
+    slice_get (slice_set ns i x) j ≡ Some m → (o : Node) × (slice_get ns j ≡ Some o) × (m.number ≡ o.number)
 set_numbers [] i x y at same j m is = absurd (cc at)
-set_numbers (n ∷ ns) zero x y at same zero m is = let here : n ≡ y = cc at in let new : x ≡ m = cc is in (n, refl, ap (λ (k : Node). k.number) (sym new) ∙ (same ∙ ap (λ (k : Node). k.number) (sym here)))
+set_numbers (n ∷ ns) zero x y at same zero m is = let here : n ≡ y = cc at in let new : x ≡ m = cc is in
+    (n, refl, ap (λ (k : Node). k.number) (sym new) ∙ (same ∙ ap (λ (k : Node). k.number) (sym here)))
 set_numbers (n ∷ ns) zero x y at same (suc j) m is = (m, is, refl)
 set_numbers (n ∷ ns) (suc i) x y at same zero m is = (m, is, refl)
 set_numbers (n ∷ ns) (suc i) x y at same (suc j) m is = set_numbers ns i x y at same j m is
@@ -124,21 +121,32 @@ pub record Keeps (w v : World) : Type 0 where
   pub nodes : Alike w.nodes v.nodes
 
 keeps_same : (w v : World) → v.header ≡ w.header → v.labels ≡ w.labels → v.nodes ≡ w.nodes → Keeps w v
-keeps_same w v header labels nodes = record { header = header; labels = labels; nodes = subst (Alike w.nodes) (sym nodes) (alike_same w.nodes) }
+keeps_same w v header labels nodes =
+    record { header = header; labels = labels; nodes = subst (Alike w.nodes) (sym nodes) (alike_same w.nodes) }
 
 keeps_on : (u v w : World) → Keeps u v → Keeps v w → Keeps u w
-keeps_on u v w a b = record { header = b.header ∙ a.header; labels = b.labels ∙ a.labels; nodes = alike_on u.nodes v.nodes w.nodes a.nodes b.nodes }
+keeps_on u v w a b =
+    record { header = b.header ∙ a.header; labels = b.labels ∙ a.labels; nodes = alike_on u.nodes v.nodes w.nodes a.nodes b.nodes }
 
 steps_keep : (k : ℕ) (i : Input) (w : World) → Keeps w (steps k i w)
 steps_keep k i w = by (at_place k w.nodes) refl
   where
     armed_keeps : (n : Node) (a : Arm) → at_place k w.nodes ≡ Some n → (b : Bool)
-        → Keeps w (cond b (done_step k (step w.header n i) (armed k (record a { works = a.works - count_works (step w.header n i).halting }) w)) (halted_at k n (cut (a.works - 1) a.how (step w.header n i).halting n.disk) (disarmed k w)))
-    armed_keeps n a at true = record { header = refl; labels = refl; nodes = set_alike w.nodes k (step w.header n i).after n at (step_number w.header n i) }
-    armed_keeps n a at false = record { header = refl; labels = refl; nodes = set_alike w.nodes k (record n { disk = (cut (a.works - 1) a.how (step w.header n i).halting n.disk).disk; live = None }) n at refl }
+        → Keeps w
+        (cond b (done_step k (step w.header n i) (armed k (record a { works = a.works - count_works (step w.header n i).halting }) w))
+        (halted_at k n (cut (a.works - 1) a.how (step w.header n i).halting n.disk) (disarmed k w)))
+    armed_keeps n a at true =
+        record { header = refl; labels = refl; nodes = set_alike w.nodes k (step w.header n i).after n at (step_number w.header n i) }
+    armed_keeps n a at false = record {
+      header = refl;
+      labels = refl;
+      nodes = set_alike w.nodes k (record n { disk = (cut (a.works - 1) a.how (step w.header n i).halting n.disk).disk; live = None }) n
+          at refl;
+    }
 
     with_keeps : (n : Node) → at_place k w.nodes ≡ Some n → (a : Option Arm) → Keeps w (step_with k n (step w.header n i) w a)
-    with_keeps n at None = record { header = refl; labels = refl; nodes = set_alike w.nodes k (step w.header n i).after n at (step_number w.header n i) }
+    with_keeps n at None =
+        record { header = refl; labels = refl; nodes = set_alike w.nodes k (step w.header n i).after n at (step_number w.header n i) }
     with_keeps n at (Some a) = armed_keeps n a at (nat_lt (count_works (step w.header n i).halting) a.works)
 
     by : (o : Option Node) → at_place k w.nodes ≡ o → Keeps w (step_node k i w o)
@@ -150,7 +158,9 @@ deliver_keeps k w = by (at_place k w.frames)
   where
     by : (o : Option Frame) → Keeps w (deliver_frame k w o)
     by None = keeps_same w w refl refl refl
-    by (Some f) = keeps_on w (change_frame k as_delivered f w) (steps f.to (input.Frame k f.from f.message) (change_frame k as_delivered f w)) (keeps_same w (change_frame k as_delivered f w) refl refl refl) (steps_keep f.to (input.Frame k f.from f.message) (change_frame k as_delivered f w))
+    by (Some f) = keeps_on w (change_frame k as_delivered f w) (steps f.to (input.Frame k f.from f.message)
+        (change_frame k as_delivered f w)) (keeps_same w (change_frame k as_delivered f w) refl refl refl)
+        (steps_keep f.to (input.Frame k f.from f.message) (change_frame k as_delivered f w))
 
 lose_keeps : (k : ℕ) (w : World) → Keeps w (lose k w)
 lose_keeps k w = by (at_place k w.frames)
@@ -194,7 +204,8 @@ quiesce_keeps w = last (settle w) (settle_keeps most_frames w)
     last : (first : World) → Keeps w first → Keeps w (quiet_line (settle (tick_all (node_numbers w) first)))
     last first keeps =
         let ticked = tick_all (node_numbers w) first in
-        keeps_on w (settle ticked) (quiet_line (settle ticked)) (keeps_on w ticked (settle ticked) (keeps_on w first ticked keeps (ticks_keep (node_numbers w) first)) (settle_keeps most_frames ticked)) (quiet_keeps (settle ticked))
+        keeps_on w (settle ticked) (quiet_line (settle ticked)) (keeps_on w ticked (settle ticked) (keeps_on w first ticked keeps
+        (ticks_keep (node_numbers w) first)) (settle_keeps most_frames ticked)) (quiet_keeps (settle ticked))
 
 show_keeps : (x n : ℕ) (w : World) → Keeps w (show_up x n w)
 show_keeps x n w = by (is_up_at n w)
@@ -220,16 +231,19 @@ whole_kept : (w v : World) → Keeps w v → IsWhole w → IsWhole v
 whole_kept w v keeps whole = record {
   nodes = λ n there. keeps.nodes.places n ∙ whole.nodes n (subst (λ hd. (nat_le 1 n && nat_le n hd.nodes) ≡ true) keeps.header there);
   numbers = λ n m is. let o = keeps.nodes.numbers n m is in o.2 ∙ whole.numbers n o.0 o.1;
-  labels = subst (λ hd. AllByRecursion (λ (e : Label × Labelled). (nat_le 1 e.1.node && nat_le e.1.node hd.nodes) ≡ true) v.labels) (sym keeps.header)
+  labels = subst (λ hd. AllByRecursion (λ (e : Label × Labelled). (nat_le 1 e.1.node && nat_le e.1.node hd.nodes) ≡ true) v.labels)
+      (sym keeps.header)
       (subst (AllByRecursion (λ (e : Label × Labelled). is_node e.1.node w ≡ true)) (sym keeps.labels) whole.labels);
 }
 
 -- a label is given to an action of a node
-label_put : {X : Type 0} (P : X → Type 0) (k : Label) (x : X) (es : List (Label × X)) → AllByRecursion (λ (e : Label × X). P e.1) es → P x → AllByRecursion (λ (e : Label × X). P e.1) (insert_entry label_cmp es k x)
+label_put : {X : Type 0} (P : X → Type 0) (k : Label) (x : X) (es : List (Label × X)) → AllByRecursion (λ (e : Label × X). P e.1) es → P x →
+    AllByRecursion (λ (e : Label × X). P e.1) (insert_entry label_cmp es k x)
 label_put {X = X} P k x [] all p = (p, tt)
 label_put {X = X} P k x (e ∷ es) all p = by (label_cmp k e.0) (label_put P k x es all.1 p)
   where
-    by : (o : Ordering) → AllByRecursion (λ (f : Label × X). P f.1) (insert_entry label_cmp es k x) → AllByRecursion (λ (f : Label × X). P f.1) (match_ordering o ((k, x) ∷ e ∷ es) ((e.0, x) ∷ es) (e ∷ insert_entry label_cmp es k x))
+    by : (o : Ordering) → AllByRecursion (λ (f : Label × X). P f.1) (insert_entry label_cmp es k x) →
+        AllByRecursion (λ (f : Label × X). P f.1) (match_ordering o ((k, x) ∷ e ∷ es) ((e.0, x) ∷ es) (e ∷ insert_entry label_cmp es k x))
     by Less rest = (p, all)
     by Equal rest = (p, all.1)
     by Greater rest = (all.0, rest)
@@ -238,7 +252,8 @@ label_given : (w : World) (g : Giving) → is_node g.node w ≡ true → IsWhole
 label_given w g there whole = record {
   nodes = whole.nodes;
   numbers = whole.numbers;
-  labels = label_put (λ (x : Labelled). is_node x.node w ≡ true) g.label (record { node = g.node; serial = is_serial_kind g.kind }) w.labels whole.labels there;
+  labels = label_put (λ (x : Labelled). is_node x.node w ≡ true) g.label (record { node = g.node; serial = is_serial_kind g.kind }) w.labels
+      whole.labels there;
 }
 
 begins_whole : (w : World) (g : Giving) → is_node g.node w ≡ true → IsWhole w → IsWhole (begins g w)
@@ -248,7 +263,8 @@ begins_whole w g there whole = by (refused_at i w (at_place g.node w.nodes))
     i = input.Begin g.label g.kind g.parent
 
     by : (r : Option ℕ) → IsWhole (steps g.node i (labels_unless g w r))
-    by None = whole_kept (gives_label g w) (steps g.node i (gives_label g w)) (steps_keep g.node i (gives_label g w)) (label_given w g there whole)
+    by None = whole_kept (gives_label g w) (steps g.node i (gives_label g w)) (steps_keep g.node i (gives_label g w))
+        (label_given w g there whole)
     by (Some c) = whole_kept w (steps g.node i w) (steps_keep g.node i w) whole
 
 -- ---- events
@@ -263,25 +279,34 @@ module _ (w : World) (whole : IsWhole w) (a : Arm) where
   happens_whole : (e : Event) → first_reason (reasons e w) ≡ None → IsWhole (happens e a (counted w))
   happens_whole (event.Begin l n) none =
       let r = first_not 1 (not (is_node n w)) ((2, not (is_up_at n w)) ∷ (4, is_given l w) ∷ []) none in
-      begins_whole (counted w) (record { label = l; kind = kind.Top; parent = None; node = n }) (not_not (is_node n w) r.0) (counted_whole w whole)
+      begins_whole (counted w) (record { label = l; kind = kind.Top; parent = None; node = n }) (not_not (is_node n w) r.0)
+      (counted_whole w whole)
   happens_whole (event.Serial l n) none =
       let r = first_not 1 (not (is_node n w)) ((2, not (is_up_at n w)) ∷ (4, is_given l w) ∷ []) none in
-      begins_whole (counted w) (record { label = l; kind = kind.Serial; parent = None; node = n }) (not_not (is_node n w) r.0) (counted_whole w whole)
+      begins_whole (counted w) (record { label = l; kind = kind.Serial; parent = None; node = n }) (not_not (is_node n w) r.0)
+      (counted_whole w whole)
   happens_whole (event.BeginIn l p) none =
       let r = first_not 4 (is_given l w) ((5, not (is_given p w)) ∷ []) none in
       let q = first_not 5 (not (is_given p w)) [] r.1 in
-      begins_whole (counted w) (record { label = l; kind = kind_below p w; parent = Some p; node = node_of p w }) (given_node w p whole (not_not (is_given p w) q.0)) (counted_whole w whole)
+      begins_whole (counted w) (record { label = l; kind = kind_below p w; parent = Some p; node = node_of p w })
+      (given_node w p whole (not_not (is_given p w) q.0)) (counted_whole w whole)
   happens_whole (event.Top l p) none =
       let r = first_not 4 (is_given l w) ((5, not (is_given p w)) ∷ []) none in
       let q = first_not 5 (not (is_given p w)) [] r.1 in
-      begins_whole (counted w) (record { label = l; kind = kind.Independent; parent = Some p; node = node_of p w }) (given_node w p whole (not_not (is_given p w) q.0)) (counted_whole w whole)
-  happens_whole (event.Call l x o) none = kept (happens (event.Call l x o) a (counted w)) (steps_keep (node_of l w) (input.Call l x o) (counted w))
-  happens_whole (event.Include l x n) none = kept (happens (event.Include l x n) a (counted w)) (steps_keep (node_of l w) (input.Include l x n) (counted w))
-  happens_whole (event.Commit l) none = kept (happens (event.Commit l) a (counted w)) (steps_keep (node_of l w) (input.Commit l) (counted w))
+      begins_whole (counted w) (record { label = l; kind = kind.Independent; parent = Some p; node = node_of p w })
+      (given_node w p whole (not_not (is_given p w) q.0)) (counted_whole w whole)
+  happens_whole (event.Call l x o) none =
+      kept (happens (event.Call l x o) a (counted w)) (steps_keep (node_of l w) (input.Call l x o) (counted w))
+  happens_whole (event.Include l x n) none =
+      kept (happens (event.Include l x n) a (counted w)) (steps_keep (node_of l w) (input.Include l x n) (counted w))
+  happens_whole (event.Commit l) none =
+      kept (happens (event.Commit l) a (counted w)) (steps_keep (node_of l w) (input.Commit l) (counted w))
   happens_whole (event.Abort l) none = kept (happens (event.Abort l) a (counted w)) (steps_keep (node_of l w) (input.Abort l) (counted w))
-  happens_whole (event.GiveUp l) none = kept (happens (event.GiveUp l) a (counted w)) (steps_keep (node_of l w) (input.GiveUp l) (counted w))
+  happens_whole (event.GiveUp l) none =
+      kept (happens (event.GiveUp l) a (counted w)) (steps_keep (node_of l w) (input.GiveUp l) (counted w))
   happens_whole (event.Deliver (frame_no.Number k)) none = kept (deliver k (counted w)) (deliver_keeps k (counted w))
-  happens_whole (event.Deliver frame_no.Last) none = kept (deliver (length w.frames) (counted w)) (deliver_keeps (length w.frames) (counted w))
+  happens_whole (event.Deliver frame_no.Last) none =
+      kept (deliver (length w.frames) (counted w)) (deliver_keeps (length w.frames) (counted w))
   happens_whole (event.Lose (frame_no.Number k)) none = kept (lose k (counted w)) (lose_keeps k (counted w))
   happens_whole (event.Lose frame_no.Last) none = kept (lose (length w.frames) (counted w)) (lose_keeps (length w.frames) (counted w))
   happens_whole (event.Tick n) none = kept (steps n input.Tick (counted w)) (steps_keep n input.Tick (counted w))
@@ -289,23 +314,28 @@ module _ (w : World) (whole : IsWhole w) (a : Arm) where
   happens_whole event.Quiesce none = kept (quiesce (counted w)) (quiesce_keeps (counted w))
   happens_whole (event.Crash n) none = kept (steps n input.Crash (counted w)) (steps_keep n input.Crash (counted w))
   happens_whole (event.Restart n) none = kept (steps n input.Restart (counted w)) (steps_keep n input.Restart (counted w))
-  happens_whole (event.Stop n c how) none = kept (says (body.Armed n ∷ []) (armed n a (counted w))) (keeps_same (counted w) (says (body.Armed n ∷ []) (armed n a (counted w))) refl refl refl)
+  happens_whole (event.Stop n c how) none = kept (says (body.Armed n ∷ []) (armed n a (counted w)))
+      (keeps_same (counted w) (says (body.Armed n ∷ []) (armed n a (counted w))) refl refl refl)
   happens_whole (event.Junk n bytes) none = by (nat_lt (length w.frames) most_frames)
     where
       by : (b : Bool) → IsWhole (junk_fits n (counted w) b)
       by true = kept (junk_fits n (counted w) true) (keeps_same (counted w) (junk_fits n (counted w) true) refl refl refl)
       by false = kept (junk_fits n (counted w) false) (keeps_same (counted w) (junk_fits n (counted w) false) refl refl refl)
-  happens_whole (event.Show x) none = kept (show_all x (node_numbers (counted w)) (counted w)) (shows_keep x (node_numbers (counted w)) (counted w))
+  happens_whole (event.Show x) none =
+      kept (show_all x (node_numbers (counted w)) (counted w)) (shows_keep x (node_numbers (counted w)) (counted w))
 
 pub event_whole : (e : Asked) (w : World) → IsWhole w → IsWhole (run_event e w)
 event_whole e w whole = over w.over
   where
-    accepted : (b : Bool) → first_reason (reasons e.event w) ≡ None → IsWhole (cond b (no_labels w) (limited (happens e.event e.arm (counted w))))
+    accepted : (b : Bool) → first_reason (reasons e.event w) ≡ None →
+        IsWhole (cond b (no_labels w) (limited (happens e.event e.arm (counted w))))
     accepted true none = whole_kept w (no_labels w) (keeps_same w (no_labels w) refl refl refl) whole
-    accepted false none = whole_kept (happens e.event e.arm (counted w)) (limited (happens e.event e.arm (counted w))) (limited_keeps (happens e.event e.arm (counted w))) (happens_whole w whole e.arm e.event none)
+    accepted false none = whole_kept (happens e.event e.arm (counted w)) (limited (happens e.event e.arm (counted w)))
+        (limited_keeps (happens e.event e.arm (counted w))) (happens_whole w whole e.arm e.event none)
 
     by : (r : Option ℕ) → first_reason (reasons e.event w) ≡ r → IsWhole (run_unless e.event e.arm w r)
-    by (Some c) is = whole_kept w (says (body.Refused c ∷ []) (counted w)) (keeps_same w (says (body.Refused c ∷ []) (counted w)) refl refl refl) whole
+    by (Some c) is =
+        whole_kept w (says (body.Refused c ∷ []) (counted w)) (keeps_same w (says (body.Refused c ∷ []) (counted w)) refl refl refl) whole
     by None is = accepted (lacks_labels (giving e.event w) w) is
 
     over : (b : Bool) → IsWhole (cond b w (run_unless e.event e.arm w (first_reason (reasons e.event w))))
@@ -317,7 +347,8 @@ pub whole_with : (arms : List (ℕ × Arm)) (w : World) → IsWhole w → IsWhol
 whole_with arms w whole = record { nodes = whole.nodes; numbers = whole.numbers; labels = whole.labels }
 
 pub move_whole : (m : Move) (w : World) → IsWhole w → IsWhole (moved m w)
-move_whole m w whole = whole_with [] (run_event m.asked (record w { arms = m.falls })) (event_whole m.asked (record w { arms = m.falls }) (whole_with m.falls w whole))
+move_whole m w whole = whole_with [] (run_event m.asked (record w { arms = m.falls }))
+    (event_whole m.asked (record w { arms = m.falls }) (whole_with m.falls w whole))
 
 moves_whole : (ms : List Move) (w : World) → IsWhole w → IsWhole (all_moved ms w)
 moves_whole [] w whole = whole
@@ -353,11 +384,13 @@ module _ (hd : Header) where
 
   firsts_count : (n : ℕ) → length (firsts n) ≡ n
   firsts_count zero = refl
-  firsts_count (suc n) = ap length (firsts_next n) ∙ (length-append (firsts n) (first_node hd (suc n) ∷ []) ∙ (ap (λ k. k + 1) (firsts_count n) ∙ grind arith))
+  firsts_count (suc n) =
+      ap length (firsts_next n) ∙ (length-append (firsts n) (first_node hd (suc n) ∷ []) ∙ (ap (λ k. k + 1) (firsts_count n) ∙ grind arith))
 
   firsts_numbered : (n : ℕ) → AreNumbered 1 (firsts n)
   firsts_numbered zero = tt
-  firsts_numbered (suc n) = subst (AreNumbered 1) (sym (firsts_next n)) (one_more 1 (firsts n) (first_node hd (suc n)) (firsts_numbered n) (sym (ap (λ k. 1 + k) (firsts_count n) ∙ grind arith)))
+  firsts_numbered (suc n) = subst (AreNumbered 1) (sym (firsts_next n))
+      (one_more 1 (firsts n) (first_node hd (suc n)) (firsts_numbered n) (sym (ap (λ k. 1 + k) (firsts_count n) ∙ grind arith)))
 
   pub format_whole : IsWhole (format hd)
   format_whole = record { nodes = nodes; numbers = numbers; labels = tt }

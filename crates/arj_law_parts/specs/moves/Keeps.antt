@@ -54,15 +54,19 @@ pub record Keeps (hd : Header) (P : Seen → Type 0) : Type 0 where
   pub quiet : (e : ℕ) (bs : List Body) (M : Seen) → AreQuiet bs → P M → P (said e bs M)
   pub stop : (e k : ℕ) (d : Disk) (live : Option Parts) (M : Seen) → P (at k d live M) → P (halted e k d M)
   pub message : (e k : ℕ) (d : Disk) (t v : Parts) (from : ℕ) (m : Message) (outs : List Effect) (M : Seen)
-      → P (up k d t M) → In (record { from = from; to = k; message = m }) M.sent → is_meant t m ≡ true → handle k d t from m ≡ Took v outs → Walks P e k outs (Up P k v) d M
+      → P (up k d t M) → In (record { from = from; to = k; message = m }) M.sent → is_meant t m ≡ true →
+      handle k d t from m ≡ Took v outs → Walks P e k outs (Up P k v) d M
   pub act : (e k : ℕ) (d : Disk) (t : Parts) (i : Input) (M : Seen) → is_act i ≡ true → refusal_up hd i t.coord ≡ None
       → P (up k d t M) → DidKeeps P e k d t (acts i d.intents t.coord) M
   pub begin : (e k : ℕ) (d : Disk) (t : Parts) (l : Label) (how : Kind) (parent : Option Label) (M : Seen)
       → label_at l M.labels ≡ None → MayGive M.labels k how parent → begin_refusal how t.coord parent ≡ None
-      → P (up k d t M) → DidKeeps P e k d t (begin_action l how parent (parent_of parent t.coord) t.coord) (given l (record { node = k; serial = is_serial_kind how }) M)
+      → P (up k d t M) → DidKeeps P e k d t (begin_action l how parent (parent_of parent t.coord) t.coord)
+      (given l (record { node = k; serial = is_serial_kind how }) M)
   pub tick : (e k : ℕ) (d : Disk) (t : Parts) (M : Seen) → P (up k d t M)
-      → Walks P e k (tick_outs (record { number = k; disk = d; live = Some t }) t) (Up P k (with_coord t (again_all t.coord.doings t.coord).part)) d M
-  pub restart : (e k : ℕ) (d : Disk) (M : Seen) → P (down k d M) → Walks P e k (restart_outs hd k (d.inc + 1) d) (Up P k (parts_in k (d.inc + 1) d)) d M
+      → Walks P e k (tick_outs (record { number = k; disk = d; live = Some t }) t)
+      (Up P k (with_coord t (again_all t.coord.doings t.coord).part)) d M
+  pub restart : (e k : ℕ) (d : Disk) (M : Seen) → P (down k d M) →
+      Walks P e k (restart_outs hd k (d.inc + 1) d) (Up P k (parts_in k (d.inc + 1) d)) d M
   pub first : P (see [] (format hd))
 
 -- a store to include is a node of the header
@@ -75,15 +79,19 @@ pub record KeepsFrom (hd : Header) (F : Type 0) (P : Seen → Type 0) : Type 0 w
   pub quiet : (e : ℕ) (bs : List Body) (M : Seen) → AreQuiet bs → P M → P (said e bs M)
   pub stop : (e k : ℕ) (d : Disk) (live : Option Parts) (M : Seen) → P (at k d live M) → P (halted e k d M)
   pub message : (e k : ℕ) (d : Disk) (t v : Parts) (from : ℕ) (m : Message) (outs : List Effect) (M : Seen)
-      → P (up k d t M) → In (record { from = from; to = k; message = m }) M.sent → is_meant t m ≡ true → handle k d t from m ≡ Took v outs → Walks P e k outs (Up P k v) d M
+      → P (up k d t M) → In (record { from = from; to = k; message = m }) M.sent → is_meant t m ≡ true →
+      handle k d t from m ≡ Took v outs → Walks P e k outs (Up P k v) d M
   pub act : (e k : ℕ) (d : Disk) (t : Parts) (i : Input) (M : Seen) → is_act i ≡ true → AsksNode hd i → refusal_up hd i t.coord ≡ None
       → P (up k d t M) → DidKeeps P e k d t (acts i d.intents t.coord) M
   pub begin : (e k : ℕ) (d : Disk) (t : Parts) (l : Label) (how : Kind) (parent : Option Label) (M : Seen)
       → label_at l M.labels ≡ None → MayGive M.labels k how parent → begin_refusal how t.coord parent ≡ None
-      → P (up k d t M) → DidKeeps P e k d t (begin_action l how parent (parent_of parent t.coord) t.coord) (given l (record { node = k; serial = is_serial_kind how }) M)
+      → P (up k d t M) → DidKeeps P e k d t (begin_action l how parent (parent_of parent t.coord) t.coord)
+      (given l (record { node = k; serial = is_serial_kind how }) M)
   pub tick : (e k : ℕ) (d : Disk) (t : Parts) (M : Seen) → P (up k d t M)
-      → Walks P e k (tick_outs (record { number = k; disk = d; live = Some t }) t) (Up P k (with_coord t (again_all t.coord.doings t.coord).part)) d M
-  pub restart : (e k : ℕ) (d : Disk) (M : Seen) → P (down k d M) → Walks P e k (restart_outs hd k (d.inc + 1) d) (Up P k (parts_in k (d.inc + 1) d)) d M
+      → Walks P e k (tick_outs (record { number = k; disk = d; live = Some t }) t)
+      (Up P k (with_coord t (again_all t.coord.doings t.coord).part)) d M
+  pub restart : (e k : ℕ) (d : Disk) (M : Seen) → P (down k d M) →
+      Walks P e k (restart_outs hd k (d.inc + 1) d) (Up P k (parts_in k (d.inc + 1) d)) d M
   pub first : F
 
 -- so it is, and the relation holds at first
@@ -103,8 +111,8 @@ abbrev pub HasPlace : Header → ℕ → Option Message → Type 0
 HasPlace hd to None = (nat_le 1 to && nat_le to hd.nodes) ≡ true
 HasPlace hd to (Some m) = ⊤
 
--- What is seen of a world rests on: the frames were sent, or are bytes for a node, the header is the script's, each node has its number, there are as
--- many nodes as the header says, and each label is of one of them.
+-- What is seen of a world rests on: the frames were sent, or are bytes for a node, the header is the script's, each node has its number,
+-- there are as many nodes as the header says, and each label is of one of them.
 pub record Stands (hd : Header) (sent : List Post) (w : World) : Type 0 where
   pub frames : AllByRecursion (IsSent sent) w.frames
   pub junk : AllByRecursion (λ (f : Frame). HasPlace hd f.to f.message) w.frames

@@ -20,7 +20,8 @@ abbrev pub Walks : (Seen → Type 0) → ℕ → ℕ → List Effect → (Disk �
 Walks P e k [] end d M = end d M
 Walks P e k (Do w ∷ es) end d M = Stops P e k w d M × Walks P e k es end (worked w d) M
 Walks P e k (Say b ∷ es) end d M = Walks P e k es end d (said e (b ∷ []) M)
-Walks P e k (Send to m ∷ es) end d M = (more : List Body) → AreQuiet more → Walks P e k es end d (said e more (posted (record { from = k; to = to; message = m }) M))
+Walks P e k (Send to m ∷ es) end d M = (more : List Body) → AreQuiet more →
+    Walks P e k es end d (said e more (posted (record { from = k; to = to; message = m }) M))
 
 -- at the end the node is up with these parts, and the relation holds
 abbrev pub Up : (Seen → Type 0) → ℕ → Parts → Disk → Seen → Type 0

@@ -1,5 +1,6 @@
 -- The actions that were begun, by all nodes, and the tree that they make.
-use Rattle.std.specs.Prelude.{◌≡◌, ◌≢◌, ◌⊎◌, ◌≤◌, ◌<◌, ℕ, List, [], ◌∷◌, ◌++◌, length, true, false, if◌then◌else◌, Option, Some, None, Contains, ⊤}
+use Rattle.std.specs.Prelude.{◌≡◌, ◌≢◌, ◌⊎◌, ◌≤◌, ◌<◌, ℕ, List, [], ◌∷◌, ◌++◌, length, true, false, if◌then◌else◌, Option, Some, None}
+use Rattle.std.specs.Prelude.{Contains, ⊤}
 use Rattle.arj_protocol.specs.Words.{Uid, Path, Kind, uid_eq, uids_of, tops_of, is_on}
 use Rattle.arj_protocol.specs.Words.kind
 use Rattle.arj_protocol.specs.Ask.{actor}
@@ -42,8 +43,10 @@ IsNew u acts = (a : Action) → Contains acts a → is_on (uids_of a.path) u ≡
 -- Where an action of this kind stands: a nested one in an action that isn't serializing, with that one's top; a
 -- constituent in a serializing one, as its own top; any other alone.
 abbrev pub Stands : List Action → Action → Kind → Type 0
-Stands acts a kind.Nested = (b : Action) × Contains acts b × (b.kind ≢ kind.Serial) × (uids_of a.path ≡ uids_of b.path ++ act_of a ∷ []) × (tops_of a.path ≡ tops_of b.path)
-Stands acts a kind.Constituent = (b : Action) × Contains acts b × (b.kind ≡ kind.Serial) × (uids_of a.path ≡ uids_of b.path ++ act_of a ∷ []) × (tops_of a.path ≡ 2)
+Stands acts a kind.Nested = (b : Action) × Contains acts b × (b.kind ≢ kind.Serial) × (uids_of a.path ≡ uids_of b.path ++ act_of a ∷ [])
+    × (tops_of a.path ≡ tops_of b.path)
+Stands acts a kind.Constituent =
+    (b : Action) × Contains acts b × (b.kind ≡ kind.Serial) × (uids_of a.path ≡ uids_of b.path ++ act_of a ∷ []) × (tops_of a.path ≡ 2)
 Stands acts a _ = (uids_of a.path ≡ act_of a ∷ []) × (tops_of a.path ≡ 1)
 
 -- the action begins after these, with a new Uid

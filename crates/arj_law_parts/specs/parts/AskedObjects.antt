@@ -42,7 +42,8 @@ AreOfRoots t outs = AllByRecursion (IsOfRoots t) outs
 abbrev pub IsNowOf : Tree → Now → Type 0
 IsNowOf t Idle = ⊤
 IsNowOf t (Calling s) = IsUsedIn t (let r = root_of s.path in r.num) s.x
-IsNowOf t (Committing m) = AllByRecursion (λ (u : Used). IsUsedIn t (let p = plan_of m in let r = root_of p.path in r.num) u.x) (let p = plan_of m in p.used)
+IsNowOf t (Committing m) =
+    AllByRecursion (λ (u : Used). IsUsedIn t (let p = plan_of m in let r = root_of p.path in r.num) u.x) (let p = plan_of m in p.used)
 
 -- and so is what the root was answered and included
 abbrev pub IsRootOf : Tree → ℕ → Root → Type 0

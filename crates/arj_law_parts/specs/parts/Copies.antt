@@ -21,7 +21,8 @@ pub record IsTree (paths : Paths) : Type 0 where
 -- each overlay is of a descendant of those under it
 abbrev pub IsChain : List Over → Type 0
 IsChain [] = ⊤
-IsChain (e ∷ es) = ((f : Over) → Contains es f → (is_on e.holder (last_uid f.holder) ≡ true) × (uid_eq (last_uid f.holder) (last_uid e.holder) ≡ false)) × IsChain es
+IsChain (e ∷ es) = ((f : Over) → Contains es f →
+    (is_on e.holder (last_uid f.holder) ≡ true) × (uid_eq (last_uid f.holder) (last_uid e.holder) ≡ false)) × IsChain es
 
 -- What holds of a copy: holders have their paths, an action has one lock, overlays are a chain, and who has an overlay
 -- has the write lock.

@@ -24,7 +24,8 @@ AreOfCommits records t = (u : Uid) (i : Intent) → Contains records (u, i) → 
 -- records that it tells.
 pub record IsSure (c : Coord) : Type 0 where
   pub lists : (root : Uid) → AreDecided (ends_of root c.tree) c.tree
-  pub plans : (u : Uid) (d : Doing) (m : Machine) → doing_of u c ≡ Some d → d.now ≡ Committing m → AreDecided (let p = plan_of m in p.ends) c.tree
+  pub plans : (u : Uid) (d : Doing) (m : Machine) → doing_of u c ≡ Some d → d.now ≡ Committing m →
+      AreDecided (let p = plan_of m in p.ends) c.tree
   pub records : AreOfCommits c.telling c.tree
 
 -- the ends that a request brings, and those that a told tells

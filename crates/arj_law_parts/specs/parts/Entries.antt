@@ -1,5 +1,6 @@
 -- Naming with its pair of entries, as both stay whatever comes.
-use Rattle.std.specs.Prelude.{◌≡◌, ◌⊎◌, ◌<◌, ℕ, List, [], ◌∷◌, Bool, true, false, Option, Some, None, Contains, not, ◌||◌, if◌then◌else◌, unwrap_or}
+use Rattle.std.specs.Prelude.{◌≡◌, ◌⊎◌, ◌<◌, ℕ, List, [], ◌∷◌, Bool, true, false, Option, Some, None, Contains, not, ◌||◌, if◌then◌else◌}
+use Rattle.std.specs.Prelude.{unwrap_or}
 use Rattle.arj_protocol.specs.Words.{Uid, Path, ObjectState, entry, is_on, mode_code, ConfirmedReply, uid_eq}
 use Rattle.std.specs.List.{list_any}
 use Rattle.arj_protocol.specs.Words.confirmed
@@ -78,7 +79,8 @@ pub record IsGoodNaming (owner : Owners) (past : Past) (n : Naming) (d : Pair) :
   pub objects : (x : ℕ) (o : Named) → at_number x n.objects ≡ Some o → IsGoodObject owner (is_on n.told) n.inc n.count x o
   pub pair : IsGoodPair owner d
   pub confirmed : (a : Uid) → is_on n.confirmed a ≡ true → IsTop owner a
-  pub prepared : (a : Uid) (states : List ObjectState) → at_uid a d.pend ≡ Some states → (is_on n.confirmed a ≡ true) × (is_on n.told a ≡ false)
+  pub prepared : (a : Uid) (states : List ObjectState) → at_uid a d.pend ≡ Some states →
+      (is_on n.confirmed a ≡ true) × (is_on n.told a ≡ false)
   pub guarded : (a : Uid) (x : ℕ) (s : ObjectState) → HasPrepared a x s d → HasLockOn a (guard_of x s d) x n
   pub writers : (u : Uid) (s : ObjectState) → at_uid u d.held ≡ Some s → (past s.writer ≡ true) ⊎ (is_on n.told s.writer ≡ true)
 
@@ -88,7 +90,8 @@ pub record IsGoodNaming (owner : Owners) (past : Past) (n : Naming) (d : Pair) :
 -- coordinator decides after its calls were answered, and each names a binding that was recorded then: the world will show
 -- it of every Record that was ever sent.
 abbrev pub IsNoted : Path → ℕ → Naming → Pair → Type 0
-IsNoted p x n d = (s : ObjectState) (o : Named) → HasPrepared (top_of p) x s d → at_number x n.objects ≡ Some o → is_on o.asked (top_of p) ≡ true
+IsNoted p x n d = (s : ObjectState) (o : Named) → HasPrepared (top_of p) x s d → at_number x n.objects ≡ Some o →
+    is_on o.asked (top_of p) ≡ true
 
 -- A Confirm of a top. Each store that it includes it asked for in this incarnation, as the grants say that the checks look
 -- at; none of its own entries was committed before this incarnation, since its grants would be older; and versions stay
@@ -105,7 +108,8 @@ pub record IsConfirmed (past : Past) (p : Path) (included : Marks) (n : Naming) 
 abbrev pub confirm_answer : Path → Grants → Marks → Marks → Pair → Naming → Option ConfirmedReply
 confirm_answer p grants excluded included d n =
     if is_over p n || not (has_all grants n) then None
-    else Some (if is_on n.confirmed (top_of p) || is_prepared (top_of p) d then confirmed.Yes else unwrap_or (checked p grants excluded included d n) confirmed.Yes)
+    else Some (if is_on n.confirmed (top_of p)
+    || is_prepared (top_of p) d then confirmed.Yes else unwrap_or (checked p grants excluded included d n) confirmed.Yes)
 
 -- the actions that wrote the committed entries
 abbrev pub wrote_of : Pair → Past

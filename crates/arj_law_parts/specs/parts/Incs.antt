@@ -43,4 +43,5 @@ IsClaimsOf c (Do w) = IsOwnRecord c.tree.node c.tree.inc w
 -- What a node makes of a message: its coordinator goes on, its server stays in its incarnation, and what it sends is true.
 abbrev pub IsTrulyHandled : ℕ → Parts → Handled → Type 0
 IsTrulyHandled n t (Void outs) = AllByRecursion (IsClaimsOf t.coord) outs × AreOfInc n t.server.inc outs
-IsTrulyHandled n t (Took v outs) = GoesOn t.coord v.coord × (v.server.inc ≡ t.server.inc) × AllByRecursion (IsClaimsOf v.coord) outs × AreOfInc n t.server.inc outs
+IsTrulyHandled n t (Took v outs) =
+    GoesOn t.coord v.coord × (v.server.inc ≡ t.server.inc) × AllByRecursion (IsClaimsOf v.coord) outs × AreOfInc n t.server.inc outs

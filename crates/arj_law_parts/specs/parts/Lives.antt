@@ -173,4 +173,5 @@ pub record KnowsServers (home : Homes) (reach : Reach) (c : Coord) : Type 0 wher
 
 -- where a call waits for this answer of the node, it answers what the call asked, about its object
 abbrev pub FitsCall : Homes → Reach → ℕ → Asked → Reply → Coord → Type 0
-FitsCall home reach from a r c = (d : Doing) (s : Steps) → doing_of a.act c ≡ Some d → d.now ≡ Calling s → waits_for_call from a r s ≡ true → NamesReply home reach from (next_ask [] s) r × IsOfObject s.x r
+FitsCall home reach from a r c = (d : Doing) (s : Steps) → doing_of a.act c ≡ Some d → d.now ≡ Calling s →
+    waits_for_call from a r s ≡ true → NamesReply home reach from (next_ask [] s) r × IsOfObject s.x r

@@ -37,7 +37,8 @@ pub record IsGoodServer (paths : Paths) (s : Server) : Type 0 where
 
 -- An end that is new and is taken as a commit finds no lock of a descendant of its action.
 abbrev pub IsInTurn : Uid → End → Server → Type 0
-IsInTurn u e s = is_told u s ≡ false → taken_end u e s ≡ ending.Commit → (x : ℕ) (c : Copy) → at_number x s.objects ≡ Some c → IsLowest u c.rows
+IsInTurn u e s = is_told u s ≡ false → taken_end u e s ≡ ending.Commit → (x : ℕ) (c : Copy) → at_number x s.objects ≡ Some c →
+    IsLowest u c.rows
 
 -- Each end of a list comes in its turn. A coordinator's lists do: `ends_come_in_turn` shows it from what they say.
 abbrev pub AreInTurn : ℕ → List (Uid × End) → Server → Type 0
@@ -60,7 +61,8 @@ AreOfOthers p ends = (u : Uid) → is_on (uids_of p) u ≡ true → has_end_of u
 -- path has the lock.
 pub record IsKeptCall (path : List Uid) (x : ℕ) (b : Binding) (strength : ℕ) (s : Server) : Type 0 where
   pub reached : binding_less (active_binding x s) b ≡ false
-  pub holds : (c : Copy) → at_number x s.objects ≡ Some c → binding_eq b c.binding ≡ true → ((u : Uid) → is_on path u ≡ true → at_uid u s.ends ≢ Some ending.Abort) → is_told (first_uid path) s ≡ false
+  pub holds : (c : Copy) → at_number x s.objects ≡ Some c → binding_eq b c.binding ≡ true →
+      ((u : Uid) → is_on path u ≡ true → at_uid u s.ends ≢ Some ending.Abort) → is_told (first_uid path) s ≡ false
       → (h : Uid) × (is_on path h ≡ true) × HasLock h strength c.rows
 
 -- ---- with the actions that were begun
@@ -68,12 +70,15 @@ pub record IsKeptCall (path : List Uid) (x : ℕ) (b : Binding) (strength : ℕ)
 -- Locks are of actions that were begun, by their paths; and a server has voted for a top after the ends of all actions
 -- below it.
 pub record KnowsActions (acts : List Action) (s : Server) : Type 0 where
-  pub rows : (x : ℕ) (c : Copy) (r : Row) → at_number x s.objects ≡ Some c → Contains c.rows r → (a : Action) × Contains acts a × (r.holder ≡ uids_of a.path) × (r.tops ≡ tops_of a.path)
-  pub voted : (t : Uid) (a : Action) → is_on s.voted t ≡ true → Contains acts a → is_on (uids_of a.path) t ≡ true → act_of a ≢ t → is_told (act_of a) s ≡ true
+  pub rows : (x : ℕ) (c : Copy) (r : Row) → at_number x s.objects ≡ Some c → Contains c.rows r →
+      (a : Action) × Contains acts a × (r.holder ≡ uids_of a.path) × (r.tops ≡ tops_of a.path)
+  pub voted : (t : Uid) (a : Action) → is_on s.voted t ≡ true → Contains acts a → is_on (uids_of a.path) t ≡ true → act_of a ≢ t →
+      is_told (act_of a) s ≡ true
 
 -- the ends of all descendants of the action that were begun are in the list
 abbrev pub HasAllBelow : List Action → Uid → List (Uid × End) → Type 0
-HasAllBelow acts u ends = (a : Action) → Contains acts a → is_on (uids_of a.path) u ≡ true → act_of a ≢ u → has_end_of (act_of a) ends ≡ true
+HasAllBelow acts u ends = (a : Action) → Contains acts a → is_on (uids_of a.path) u ≡ true → act_of a ≢ u →
+    has_end_of (act_of a) ends ≡ true
 
 -- on each path on which the action is, it is a top or a serializing action
 abbrev pub IsTopOn : List Action → Uid → Type 0
@@ -82,7 +87,8 @@ IsTopOn acts u = (a : Action) → Contains acts a → is_on (uids_of a.path) u �
 -- Ends as a coordinator tells them: each commit stands behind the ends of all descendants, or is that of a top.
 abbrev pub AreOrdered : List Action → List (Uid × End) → List (Uid × End) → Type 0
 AreOrdered acts before [] = ⊤
-AreOrdered acts before (e ∷ es) = (e.1 ≡ ending.Commit → IsTopOn acts e.0 ⊎ HasAllBelow acts e.0 before) × AreOrdered acts (before ++ e ∷ []) es
+AreOrdered acts before (e ∷ es) =
+    (e.1 ≡ ending.Commit → IsTopOn acts e.0 ⊎ HasAllBelow acts e.0 before) × AreOrdered acts (before ++ e ∷ []) es
 
 -- the path is that of an action that was begun
 abbrev pub IsBegun : List Action → Path → Type 0

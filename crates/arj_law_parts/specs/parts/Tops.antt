@@ -21,7 +21,8 @@ IsTop owner t = (u : Uid) → owner u ≡ t → u ≡ t
 
 -- the holder of a lock on an entry: an action alone, or behind its owner, which is another one
 abbrev pub IsHolder : Owners → List Uid → Type 0
-IsHolder owner us = (us ≡ last_uid us ∷ []) ⊎ ((us ≡ owner (last_uid us) ∷ last_uid us ∷ []) × (uid_eq (owner (last_uid us)) (last_uid us) ≡ false))
+IsHolder owner us =
+    (us ≡ last_uid us ∷ []) ⊎ ((us ≡ owner (last_uid us) ∷ last_uid us ∷ []) × (uid_eq (owner (last_uid us)) (last_uid us) ≡ false))
 
 -- A request is of a top, and its path has the top's owner. `begun_actions_make_a_tree` shows it of each action that isn't
 -- serializing, and `coordinators_send_what_fits` that requests are by such paths alone.

@@ -25,13 +25,15 @@ pub record HasLists (paths : Paths) (t : Tree) : Type 0 where
   pub paths_are : (u : Uid) (b : Branch) → branch_of u t ≡ Some b → uids_of b.path ≡ paths u
   pub every : (b : Branch) → Contains t.branches b → uids_of b.path ≡ paths (actor b.path)
   pub parents : (u h : Uid) (b : Branch) → branch_of u t ≡ Some b → before_last (paths u) ≡ Some h → (p : Branch) × (branch_of h t ≡ Some p)
-  pub listed : (u : Uid) (b : Branch) → branch_of u t ≡ Some b → 2 ≤ length (uids_of b.path) → is_some b.ended ≡ true → has_end_of u (ends_of (root_of b.path) t) ≡ true
+  pub listed : (u : Uid) (b : Branch) → branch_of u t ≡ Some b → 2 ≤ length (uids_of b.path) → is_some b.ended ≡ true →
+      has_end_of u (ends_of (root_of b.path) t) ≡ true
   pub over : (root u : Uid) → has_end_of u (ends_of root t) ≡ true → (b : Branch) × (branch_of u t ≡ Some b) × (is_some b.ended ≡ true)
   pub whole : (root : Uid) → AreWhole t [] (ends_of root t)
 
 -- what was begun in an action that ended has ended
 abbrev pub IsClosed : Paths → Tree → Type 0
-IsClosed paths t = (u h : Uid) (b p : Branch) → branch_of u t ≡ Some b → before_last (paths u) ≡ Some h → branch_of h t ≡ Some p → is_some p.ended ≡ true → is_some b.ended ≡ true
+IsClosed paths t = (u h : Uid) (b p : Branch) → branch_of u t ≡ Some b → before_last (paths u) ≡ Some h → branch_of h t ≡ Some p →
+    is_some p.ended ≡ true → is_some b.ended ≡ true
 
 -- A tree whose roots have the lists of their ends, and in which whatever was begun in an ended action has ended.
 pub record IsGoodTree (paths : Paths) (t : Tree) : Type 0 where
@@ -47,4 +49,5 @@ pub record MayStand (paths : Paths) (k : Kind) (t : Tree) (p : Path) : Type 0 wh
 
 -- All actions below one of this coordinator's are its own. Nested actions and constituents begin where their parents do.
 abbrev pub AreAtHome : List Action → Tree → Type 0
-AreAtHome acts t = (a : Action) (u : Uid) → Contains acts a → is_on (uids_of a.path) u ≡ true → is_own u t ≡ true → (b : Branch) × (branch_of (actor a.path) t ≡ Some b) × (b.path ≡ a.path)
+AreAtHome acts t = (a : Action) (u : Uid) → Contains acts a → is_on (uids_of a.path) u ≡ true → is_own u t ≡ true →
+    (b : Branch) × (branch_of (actor a.path) t ≡ Some b) × (b.path ≡ a.path)

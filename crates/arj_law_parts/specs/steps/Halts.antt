@@ -41,7 +41,8 @@ is_crash _ = false
 
 -- neither what a step does nor what a stop cuts says so, but at a crash
 abbrev pub OnlyCrashesSayHalted : Type 0
-OnlyCrashesSayHalted = (hd : Header) (n : Node) (i : Input) → is_crash i ≡ false → AreAll says_no_halt (step hd n i).outs × AreAll says_no_halt (step hd n i).halting
+OnlyCrashesSayHalted = (hd : Header) (n : Node) (i : Input) → is_crash i ≡ false →
+    AreAll says_no_halt (step hd n i).outs × AreAll says_no_halt (step hd n i).halting
 
 -- no other node than this one
 abbrev pub is_only : ℕ → Option ℕ → Bool
@@ -55,4 +56,5 @@ says_own_halt k _ = true
 
 -- and a crash says it of no other node
 abbrev pub CrashesSayTheirOwn : Type 0
-CrashesSayTheirOwn = (hd : Header) (n : Node) → AreAll (says_own_halt n.number) (step hd n Crash).outs × AreAll (says_own_halt n.number) (step hd n Crash).halting
+CrashesSayTheirOwn = (hd : Header) (n : Node) →
+    AreAll (says_own_halt n.number) (step hd n Crash).outs × AreAll (says_own_halt n.number) (step hd n Crash).halting

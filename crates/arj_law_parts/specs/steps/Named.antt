@@ -64,4 +64,5 @@ pub record IsEndAnswered (e : Event) (l : Label) (old : World) (lines : List Lin
 
 -- a commit, an abort and a giveup write their lines
 abbrev pub EndsWriteTheirLines : Type 0
-EndsWriteTheirLines = (e : Asked) (l : Label) (w : World) → IsWhole w → AreNamed w → w.over ≡ false → ends_label e.event l → IsEndAnswered e.event l w (let v = run_event e w in v.lines)
+EndsWriteTheirLines = (e : Asked) (l : Label) (w : World) → IsWhole w → AreNamed w → w.over ≡ false → ends_label e.event l →
+    IsEndAnswered e.event l w (let v = run_event e w in v.lines)

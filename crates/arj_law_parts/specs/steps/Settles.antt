@@ -9,5 +9,6 @@ IsSettled w = (w.full ≡ true) ⊎ (lowest_from 1 w.frames ≡ None)
 
 -- after a settle or a quiesce no frame is open, unless the run is over
 abbrev pub EventsLeaveNothing : Type 0
-EventsLeaveNothing = (e : Asked) (w : World) → (e.event ≡ event.Settle) ⊎ (e.event ≡ event.Quiesce) → length w.frames ≤ most_frames → w.over ≡ false
+EventsLeaveNothing = (e : Asked) (w : World) → (e.event ≡ event.Settle) ⊎ (e.event ≡ event.Quiesce) → length w.frames ≤ most_frames →
+    w.over ≡ false
     → (run_event e w).over ≡ false → lowest_from 1 (run_event e w).frames ≡ None

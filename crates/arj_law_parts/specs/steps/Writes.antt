@@ -9,7 +9,8 @@ use Rattle.arj_protocol.specs.Words.body
 use Rattle.arj_protocol.specs.Words.event
 use Rattle.arj_protocol.specs.Words.frame
 use Rattle.arj_protocol.specs.Words.which
-use Rattle.arj_protocol.specs.World.{Asked, Frame, Giving, Labelled, World, frame_number, format, giving, is_node, kind_below, lacks_labels, most_frames, node_of, reasons, refused_at, run_event}
+use Rattle.arj_protocol.specs.World.{Asked, Frame, Giving, Labelled, World, frame_number, format, giving, is_node, kind_below, lacks_labels}
+use Rattle.arj_protocol.specs.World.{most_frames, node_of, reasons, refused_at, run_event}
 use Rattle.arj_protocol.specs.Words.kind
 use Rattle.arj_promise.specs.Runs.{Move, world_by}
 

@@ -1,44 +1,35 @@
--- What a node makes of a message, as far as naming's entries go: what its parts do beside, a confirmation, an end, and what its coordinator hears.
-use Rattle.std.proofs.Common.{◌≡◌, ◌⊎◌, ◌==◌, ◌∙◌, ◌||◌, ◌&&◌, ℕ, Bool, true, false, cond, not, List, [], ◌∷◌, ◌++◌, filter, map, Option, Some, None, refl, sym, ap, subst, inl, inr, ⊎_elim, eqb-true, arith}
-use Rattle.std.specs.Prelude.{⊤, option_map}
-use Rattle.std.specs.List.{AllByRecursion, cons_option, list_all}
-use Rattle.std.proofs.lemmas.Bool.{and_parts, or_cases}
-use Rattle.arj_lock.proofs.Members as list
-use Rattle.arj_protocol.specs.Values.{state_entry}
-use Rattle.arj_protocol.specs.Words.{Ask, Asked, Body, ConfirmedReply, End, Head, Message, ObjectState, Path, Role, Row, Uid, asks, entry, is_listed, is_on, last_uid, object}
-use Rattle.arj_protocol.specs.Words.ask
-use Rattle.arj_protocol.specs.Words.body
-use Rattle.arj_protocol.specs.Words.confirmed
-use Rattle.arj_protocol.specs.Words.ending
-use Rattle.arj_protocol.specs.Words.loaded
-use Rattle.arj_protocol.specs.Words.message
-use Rattle.arj_protocol.specs.Words.prepared
-use Rattle.arj_protocol.specs.Words.role
-use Rattle.arj_protocol.specs.Words.what
-use Rattle.arj_protocol.specs.Ask.{Reply, actor, answers, asked_by, last_end, response, top_of}
-use Rattle.arj_protocol.specs.Asking.{heard}
-use Rattle.arj_protocol.specs.Confirm.{Grants, Marks, checked, confirm, conflict_in, confirm_entries, confirm_new, confirms, entries_after, entry_after, entry_state, first_of_each, has_all, is_bare, is_there, lock_all, other_grant, prepared_by, refused_exclude, same_nodes, wanted}
-use Rattle.arj_protocol.specs.Effect.{Abort, Already, Commit, Disk, Do, Effect, InDoubt, Look, Old, Pair, Prep, Prepare, PutInc, PutIntent, Ready, RemoveIntent, Say, Send, Served, Work, either, held_at, holder_of, is_prepared, prepare_answer, reply, void}
-use Rattle.arj_protocol.specs.Ending.{acked, answer_query}
-use Rattle.arj_protocol.specs.Naming as naming
-use Rattle.arj_protocol.specs.Naming.{Naming, is_over, listed_entry}
-use Rattle.arj_protocol.specs.Node.{Handled, Parts, Took, Void, ack_told, handle, handle_ends, handle_other, holders, if_naming, is_earlier, load_by, load_held, naming_hello, naming_told, prepare_by, query_about, sends_answer, serve, store_told, with_coord, with_naming, with_server}
-use Rattle.arj_protocol.specs.Order.{at_number}
-use Rattle.arj_protocol.specs.Says.{AreAll, is_server_effect}
-use Rattle.arj_protocol.specs.Server as server
-use Rattle.arj_protocol.proofs.Messages.{response_reads_back}
-use Rattle.arj_protocol.proofs.PartSays.{activate_own, ends_own, invoke_own, vote_own}
-use Rattle.arj_law_parts.specs.parts.Ends.{told_by}
-use Rattle.arj_law_parts.proofs.parts.Keys.{on_with}
-use Rattle.arj_law_parts.proofs.parts.SaidIncs.{all_both, all_map}
-use Rattle.arj_law_runs.proofs.calls.WorldSteps.{no_request}
+-- What a node makes of a message, as far as naming's entries go: what its parts do beside, a confirmation, an end, and what its coordinator
+-- hears.
+use Rattle.arj_law_parts.proofs.Words
+use Words.{◌≡◌, ◌⊎◌, ◌==◌, ◌∙◌, ◌||◌, ◌&&◌, ℕ, Bool, true, false, cond, not, List, [], ◌∷◌, ◌++◌, filter, map, Option, Some, None, refl}
+use Words.{sym, ap, subst, inl, inr, ⊎_elim, eqb-true, arith, ⊤, option_map, AllByRecursion, cons_option, list_all, and_parts, or_cases}
+use Words.{state_entry, Ask, Asked, Body, ConfirmedReply, End, Head, Message, ObjectState, Path, Role, Row, Uid, asks, entry, is_listed}
+use Words.{is_on, last_uid, object, Reply, actor, answers, asked_by, last_end, response, top_of, heard, Grants, Marks, checked, confirm}
+use Words.{conflict_in, confirm_entries, confirm_new, confirms, entries_after, entry_after, entry_state, first_of_each, has_all, is_bare}
+use Words.{is_there, lock_all, other_grant, prepared_by, refused_exclude, same_nodes, wanted, Abort, Already, Commit, Disk, Do, Effect}
+use Words.{InDoubt, Look, Old, Pair, Prep, Prepare, PutInc, PutIntent, Ready, RemoveIntent, Say, Send, Served, Work, either, held_at}
+use Words.{holder_of, is_prepared, prepare_answer, reply, void, acked, answer_query, Naming, is_over, listed_entry, Handled, Parts, Took}
+use Words.{Void, ack_told, handle, handle_ends, handle_other, holders, if_naming, is_earlier, load_by, load_held, naming_hello, naming_told}
+use Words.{prepare_by, query_about, sends_answer, serve, store_told, with_coord, with_naming, with_server, at_number, AreAll}
+use Words.{is_server_effect, response_reads_back, activate_own, ends_own, invoke_own, vote_own}
+use Words.list
+use Words.ask
+use Words.body
+use Words.confirmed
+use Words.ending
+use Words.loaded
+use Words.message
+use Words.prepared
+use Words.role
+use Words.what
+use Words.naming
+use Words.server
+use Rattle.arj_law_promise.proofs.Terms.{told_by, all_both, all_map, no_request, asks_part, acked_in, by_coord, by_message, some_is}
 use Rattle.arj_law_disk_view.proofs.view.ConfirmWalks.{both_none}
-use Rattle.arj_law_lock_view.specs.facts.Parted.{asks_part}
-use Rattle.arj_law_serial.specs.whole.Acks.{acked_in}
-use Rattle.arj_law_promise.proofs.settling.Confirms.{IsSameMemory, has_marks, same_memory}
-use Rattle.arj_law_promise.proofs.settling.NamesLines.{IsKept, all_locks, bind_locks, bind_memory, is_lock_line, locks_keep, note_locks, note_memory}
-use Rattle.arj_law_serial.proofs.joint.ByMessage.{by_coord, by_message}
-use Rattle.arj_law_runs.proofs.addresses.Lists.{some_is}
+use Rattle.arj_law_parts.proofs.parts.Keys.{on_with}
+use Rattle.arj_law_promise.proofs.settling
+use settling.Confirms.{IsSameMemory, has_marks, same_memory}
+use settling.NamesLines.{IsKept, all_locks, bind_locks, bind_memory, is_lock_line, locks_keep, note_locks, note_memory}
 
 -- ---- effects beside naming's entries
 
@@ -72,7 +63,8 @@ IsApart (RemoveIntent u) = ⊥
 
 -- it asks for no part of a commit, doesn't say that naming confirmed, and acknowledges nothing
 abbrev pub IsMute : Message → Type 0
-IsMute m = ((h : Head) (a : Ask) → asks m ≡ Some (h, a) → asks_part a ≡ true → ⊥) × (((a : Asked) → answers m ≡ Some (a, Reply.Confirmed confirmed.Yes) → ⊥) × (acked_in m ≡ None))
+IsMute m = ((h : Head) (a : Ask) → asks m ≡ Some (h, a) → asks_part a ≡ true → ⊥)
+    × (((a : Asked) → answers m ≡ Some (a, Reply.Confirmed confirmed.Yes) → ⊥) × (acked_in m ≡ None))
 
 abbrev pub IsAside : Effect → Type 0
 IsAside (Say b) = IsCalm b
@@ -100,7 +92,10 @@ locks_aside (e ∷ es) all = let p = and_parts (is_lock_line e) (list_all is_loc
 
 pub server_aside : (n : ℕ) (es : List Effect) → AreAll (is_server_effect n) es → AllAside es
 server_aside n [] own = tt
-server_aside n (Say b ∷ es) own = (line b (and_parts (is_server_effect n (Say b)) (list_all (is_server_effect n) es) own).0, server_aside n es (and_parts (is_server_effect n (Say b)) (list_all (is_server_effect n) es) own).1)
+server_aside n (Say b ∷ es) own = (
+  line b (and_parts (is_server_effect n (Say b)) (list_all (is_server_effect n) es) own).0,
+  server_aside n es (and_parts (is_server_effect n (Say b)) (list_all (is_server_effect n) es) own).1,
+)
   where
     line : (c : Body) → is_server_effect n (Say c) ≡ true → IsCalm c
     line (body.Committed l) is = absurd (cc is)
@@ -126,11 +121,14 @@ none_changed top (g ∷ gs) d = (λ i. cons_option (one (held_at (entry g.0) d) 
   where
     one : (o : Option ObjectState) → entry_after top [] [] g.0 o ≡ None
     one None = refl
-    one (Some s) = (λ i. cond (same_itself (let e = state_entry s in e.stores) i) None (Some (entry_state g.0 top s (let e = state_entry s in e.stores))))
+    one (Some s) = (λ i.
+        cond (same_itself (let e = state_entry s in e.stores) i) None (Some (entry_state g.0 top s (let e = state_entry s in e.stores))))
 
 -- where one changes, a store is marked
-changed_marks : (top : Uid) (grants : Grants) (excluded included : Marks) (d : Pair) (s : ObjectState) (ss : List ObjectState) → entries_after top grants excluded included d ≡ s ∷ ss → has_marks excluded included ≡ true
-changed_marks top grants [] [] d s ss is = absurd (let no_way : ◌≡◌ {A = List ObjectState} [] (s ∷ ss) = sym (none_changed top grants d) ∙ is in cc no_way)
+changed_marks : (top : Uid) (grants : Grants) (excluded included : Marks) (d : Pair) (s : ObjectState) (ss : List ObjectState) →
+    entries_after top grants excluded included d ≡ s ∷ ss → has_marks excluded included ≡ true
+changed_marks top grants [] [] d s ss is =
+    absurd (let no_way : ◌≡◌ {A = List ObjectState} [] (s ∷ ss) = sym (none_changed top grants d) ∙ is in cc no_way)
 changed_marks top grants (m ∷ ms) included d s ss is = refl
 changed_marks top grants [] (m ∷ ms) d s ss is = refl
 
@@ -138,7 +136,8 @@ changed_marks top grants [] (m ∷ ms) d s ss is = refl
 abbrev pub HasSome : Grants → Type 0
 HasSome grants = (g : ℕ × ℕ) × list.In g grants
 
-changed_some : (top : Uid) (grants : Grants) (excluded included : Marks) (d : Pair) (s : ObjectState) (ss : List ObjectState) → entries_after top grants excluded included d ≡ s ∷ ss → HasSome grants
+changed_some : (top : Uid) (grants : Grants) (excluded included : Marks) (d : Pair) (s : ObjectState) (ss : List ObjectState) →
+    entries_after top grants excluded included d ≡ s ∷ ss → HasSome grants
 changed_some top [] excluded included d s ss is = absurd (let no_way : ◌≡◌ {A = List ObjectState} [] (s ∷ ss) = is in cc no_way)
 changed_some top (g ∷ gs) excluded included d s ss is = (g, inl refl)
 
@@ -156,7 +155,8 @@ all_granted n (h ∷ gs) none g i =
   where
     one : (b : Bool) → (h.1 == n.inc) ≡ b → cond b None (Some (confirmed.Changed (what.Inc h.1 n.inc))) ≡ None → h.1 ≡ n.inc
     one true same e = eqb-true h.1 n.inc same
-    one false other e = absurd (let no_way : ◌≡◌ {A = Option ConfirmedReply} (Some (confirmed.Changed (what.Inc h.1 n.inc))) None = e in cc no_way)
+    one false other e =
+        absurd (let no_way : ◌≡◌ {A = Option ConfirmedReply} (Some (confirmed.Changed (what.Inc h.1 n.inc))) None = e in cc no_way)
 
 -- ---- no check answers Yes
 
@@ -164,7 +164,8 @@ all_granted n (h ∷ gs) none g i =
 abbrev Refuses_each : {A : Type 0} → (A → Option ConfirmedReply) → Type 0
 Refuses_each {A} f = (a : A) → f a ≡ Some confirmed.Yes → ⊥
 
-either_refuses : (a b : Option ConfirmedReply) → (a ≡ Some confirmed.Yes → ⊥) → (b ≡ Some confirmed.Yes → ⊥) → either a b ≡ Some confirmed.Yes → ⊥
+either_refuses : (a b : Option ConfirmedReply) → (a ≡ Some confirmed.Yes → ⊥) → (b ≡ Some confirmed.Yes → ⊥) →
+    either a b ≡ Some confirmed.Yes → ⊥
 either_refuses None b f g is = g is
 either_refuses (Some r) b f g is = f is
 
@@ -205,9 +206,12 @@ module _ (p : Path) (grants : Grants) (excluded included : Marks) (d : Pair) (n 
   checks_refuse =
       let xs = wanted (top_of p) grants excluded d in
       let ss = entries_after (top_of p) grants excluded included d in
-      either_refuses (first_of_each (other_grant n) grants) (either (first_of_each (refused_exclude p n) xs) (either (first_of_each (is_there d) included) (first_of_each is_bare ss))) (first_refuses (other_grant n) other_refuses grants)
-      (either_refuses (first_of_each (refused_exclude p n) xs) (either (first_of_each (is_there d) included) (first_of_each is_bare ss)) (first_refuses (refused_exclude p n) lock_refuses xs)
-      (either_refuses (first_of_each (is_there d) included) (first_of_each is_bare ss) (first_refuses (is_there d) there_refuses included) (first_refuses is_bare bare_refuses ss)))
+      either_refuses (first_of_each (other_grant n) grants) (either (first_of_each (refused_exclude p n) xs)
+      (either (first_of_each (is_there d) included) (first_of_each is_bare ss))) (first_refuses (other_grant n) other_refuses grants)
+      (either_refuses (first_of_each (refused_exclude p n) xs) (either (first_of_each (is_there d) included) (first_of_each is_bare ss))
+      (first_refuses (refused_exclude p n) lock_refuses xs)
+      (either_refuses (first_of_each (is_there d) included) (first_of_each is_bare ss) (first_refuses (is_there d) there_refuses included)
+      (first_refuses is_bare bare_refuses ss)))
 
   -- the top isn't over, and asks by marks and grants of this incarnation
   abbrev pub IsNew : Type 0
@@ -227,7 +231,8 @@ module _ (p : Path) (grants : Grants) (excluded included : Marks) (d : Pair) (n 
   -- it refuses; or it confirms what it did, or has prepared, or what has grants of its incarnation
   pub data ConfirmCase (r : Served Naming ConfirmedReply) : Type 0 where
     Refuses : IsSameMemory n r.part → AllAside r.outs → (r.reply ≡ Some confirmed.Yes → ⊥) → ConfirmCase r
-    Takes : (is_on n.confirmed (top_of p) ≡ true) ⊎ (is_prepared (top_of p) d ≡ true) ⊎ AllGranted grants n.inc → IsTaken r.part → AllByRecursion IsTaking r.outs → ConfirmCase r
+    Takes : (is_on n.confirmed (top_of p) ≡ true) ⊎ (is_prepared (top_of p) d ≡ true) ⊎ AllGranted grants n.inc → IsTaken r.part →
+        AllByRecursion IsTaking r.outs → ConfirmCase r
 
   aside_taking : (es : List Effect) → AllAside es → AllByRecursion IsTaking es
   aside_taking [] all = tt
@@ -247,10 +252,19 @@ module _ (p : Path) (grants : Grants) (excluded included : Marks) (d : Pair) (n 
 
   -- this top is confirmed
   with_top : (m : Naming) → IsKept n m → IsTaken (confirms (top_of p) m)
-  with_top m k = record { inc = k.inc; told = λ u on. ap (λ us. is_on us u) k.told ∙ on; confirmed = λ u on. ⊎_elim (λ one. inr one) (λ old. inl (ap (λ us. is_on us u) (sym k.confirmed) ∙ old)) (on_with u (top_of p) m.confirmed on) }
+  with_top m k = record {
+    inc = k.inc;
+    told = λ u on. ap (λ us. is_on us u) k.told ∙ on;
+    confirmed =
+        λ u on. ⊎_elim (λ one. inr one) (λ old. inl (ap (λ us. is_on us u) (sym k.confirmed) ∙ old)) (on_with u (top_of p) m.confirmed on);
+  }
 
   kept_memory : (m : Naming) → IsKept n m → IsSameMemory n m
-  kept_memory m k = record { inc = k.inc; told = λ u on. ap (λ us. is_on us u) k.told ∙ on; confirmed = λ u on. ap (λ us. is_on us u) (sym k.confirmed) ∙ on }
+  kept_memory m k = record {
+    inc = k.inc;
+    told = λ u on. ap (λ us. is_on us u) k.told ∙ on;
+    confirmed = λ u on. ap (λ us. is_on us u) (sym k.confirmed) ∙ on;
+  }
 
   pub confirm_case : ConfirmCase (confirm p grants excluded included d n)
   confirm_case = by (is_over p n || not (has_all grants n)) refl (is_on n.confirmed (top_of p) || is_prepared (top_of p) d) refl
@@ -271,26 +285,38 @@ module _ (p : Path) (grants : Grants) (excluded included : Marks) (d : Pair) (n 
       off false b is = refl
       off true b is = absurd (cc is)
 
-      answered : is_over p n ≡ false → AllGranted grants n.inc → HasSome grants → (s : ObjectState) (ss : List ObjectState) → has_marks excluded included ≡ true → (a : Prep) → ConfirmCase (prepared_by (top_of p) (s ∷ ss) (lock_all (wanted (top_of p) grants excluded d) p n) a)
+      answered : is_over p n ≡ false → AllGranted grants n.inc → HasSome grants → (s : ObjectState) (ss : List ObjectState) →
+          has_marks excluded included ≡ true → (a : Prep) →
+          ConfirmCase (prepared_by (top_of p) (s ∷ ss) (lock_all (wanted (top_of p) grants excluded d) p n) a)
       answered untold granted some s ss marks Ready = Takes (inr (inr granted)) (with_top (lock_all xs p n).part kept)
-          (all_both IsTaking (lock_all xs p n).outs (Do Look ∷ Do (Prepare role.Names (top_of p) (s ∷ ss)) ∷ Say (body.Prepared 1 (top_of p) role.Names) ∷ []) (aside_taking (lock_all xs p n).outs lines) (tt, ((refl, (marks, (untold, (granted, some)))), (tt, tt))))
+          (all_both IsTaking (lock_all xs p n).outs (Do Look ∷ Do (Prepare role.Names (top_of p) (s ∷ ss)) ∷ Say (body.Prepared 1 (top_of p)
+          role.Names) ∷ []) (aside_taking (lock_all xs p n).outs lines) (tt, ((refl, (marks, (untold, (granted, some)))), (tt, tt))))
       answered untold granted some s ss marks (Already u) = Refuses (kept_memory (lock_all xs p n).part kept) looks (λ is. absurd (cc is))
       answered untold granted some s ss marks (Old u v) = Refuses (kept_memory (lock_all xs p n).part kept) looks (λ is. absurd (cc is))
       answered untold granted some s ss marks (InDoubt u h) = Refuses (kept_memory (lock_all xs p n).part kept) looks (λ is. absurd (cc is))
 
-      entries : is_over p n ≡ false → AllGranted grants n.inc → (ss : List ObjectState) → entries_after (top_of p) grants excluded included d ≡ ss → ConfirmCase (confirm_entries (top_of p) ss d (lock_all (wanted (top_of p) grants excluded d) p n))
-      entries untold granted [] is = Takes (inr (inr granted)) (with_top (lock_all xs p n).part kept) (aside_taking (lock_all xs p n).outs lines)
-      entries untold granted (s ∷ ss) is = answered untold granted (changed_some (top_of p) grants excluded included d s ss is) s ss (changed_marks (top_of p) grants excluded included d s ss is) (prepare_answer (top_of p) (s ∷ ss) d)
+      entries : is_over p n ≡ false → AllGranted grants n.inc → (ss : List ObjectState) → entries_after (top_of p) grants excluded included
+          d ≡ ss → ConfirmCase (confirm_entries (top_of p) ss d (lock_all (wanted (top_of p) grants excluded d) p n))
+      entries untold granted [] is =
+          Takes (inr (inr granted)) (with_top (lock_all xs p n).part kept) (aside_taking (lock_all xs p n).outs lines)
+      entries untold granted (s ∷ ss) is = answered untold granted (changed_some (top_of p) grants excluded included d s ss is) s ss
+          (changed_marks (top_of p) grants excluded included d s ss is) (prepare_answer (top_of p) (s ∷ ss) d)
 
-      new : is_over p n ≡ false → (o : Option ConfirmedReply) → checked p grants excluded included d n ≡ o → ConfirmCase (confirm_new p grants excluded included d n o)
-      new untold None is = entries untold (all_granted n grants (both_none (first_of_each (other_grant n) grants) (either (first_of_each (refused_exclude p n) xs) (either (first_of_each (is_there d) included) (first_of_each is_bare (entries_after (top_of p) grants excluded included d)))) is).0) (entries_after (top_of p) grants excluded included d) refl
+      new : is_over p n ≡ false → (o : Option ConfirmedReply) → checked p grants excluded included d n ≡ o →
+          ConfirmCase (confirm_new p grants excluded included d n o)
+      new untold None is = entries untold (all_granted n grants (both_none (first_of_each (other_grant n) grants)
+          (either (first_of_each (refused_exclude p n) xs) (either (first_of_each (is_there d) included) (first_of_each is_bare
+          (entries_after (top_of p) grants excluded included d)))) is).0) (entries_after (top_of p) grants excluded included d) refl
       new untold (Some r) is = Refuses (same_memory n) tt (λ yes_it. checks_refuse (is ∙ yes_it))
 
       again : (is_on n.confirmed (top_of p) || is_prepared (top_of p) d) ≡ true → ConfirmCase (reply (confirms (top_of p) n) confirmed.Yes)
-      again on = Takes (⊎_elim (λ a. inl a) (λ b. inr (inl b)) (or_cases (is_on n.confirmed (top_of p)) (is_prepared (top_of p) d) on)) (with_top n (record { inc = refl; told = refl; confirmed = refl })) tt
+      again on = Takes (⊎_elim (λ a. inl a) (λ b. inr (inl b)) (or_cases (is_on n.confirmed (top_of p)) (is_prepared (top_of p) d) on))
+          (with_top n (record { inc = refl; told = refl; confirmed = refl })) tt
 
-      by : (a : Bool) → (is_over p n || not (has_all grants n)) ≡ a → (b : Bool) → (is_on n.confirmed (top_of p) || is_prepared (top_of p) d) ≡ b
-          → ConfirmCase (cond {A = Served Naming ConfirmedReply} a (void n) (cond {A = Served Naming ConfirmedReply} b (reply (confirms (top_of p) n) confirmed.Yes) (confirm_new p grants excluded included d n (checked p grants excluded included d n))))
+      by : (a : Bool) → (is_over p n || not (has_all grants n)) ≡ a → (b : Bool) →
+          (is_on n.confirmed (top_of p) || is_prepared (top_of p) d) ≡ b
+          → ConfirmCase (cond {A = Served Naming ConfirmedReply} a (void n) (cond {A = Served Naming ConfirmedReply} b (reply
+          (confirms (top_of p) n) confirmed.Yes) (confirm_new p grants excluded included d n (checked p grants excluded included d n))))
       by true is b was = Refuses (same_memory n) tt (λ e. absurd (cc e))
       by false is true was = again was
       by false is false was = new (off (is_over p n) (not (has_all grants n)) is) (checked p grants excluded included d n) refl
@@ -306,14 +332,22 @@ naming_same o n is = (n, is, same_memory n)
 
 pub data NamesCase (k : ℕ) (d : Disk) (t : Parts) (from : ℕ) (m : Message) (v : Parts) (outs : List Effect) : Type 0 where
   Aside : v.coord ≡ t.coord → NamingStays t.naming v.naming → AllAside outs → NamesCase k d t from m v outs
-  Confirms : (h : Head) (grants : Grants) (excluded included : Marks) (n : Naming) (x : ConfirmedReply) → asks m ≡ Some (h, ask.Confirm grants excluded included) → t.naming ≡ Some n
-      → v ≡ with_naming t (let r = confirm h.path grants excluded included d.names n in r.part) → (let r = confirm h.path grants excluded included d.names n in r.reply) ≡ Some x
-      → outs ≡ (let r = confirm h.path grants excluded included d.names n in r.outs) ++ Send from (response (asked_by h) (Reply.Confirmed x)) ∷ [] → NamesCase k d t from m v outs
-  Tells : (u : Uid) (e : End) (ack : Bool) (lines : List Effect) → last_end (told_by m) ≡ Some (u, e) → v.coord ≡ t.coord → v.naming ≡ (let o = naming_told u e d.names t.naming in o.part) → AreAll (is_server_effect k) lines
-      → outs ≡ ((store_told k u e d.store ++ (let o = naming_told u e d.names t.naming in o.outs)) ++ lines) ++ ack_told from u ack → NamesCase k d t from m v outs
-  Asks : (u : Uid) → v ≡ t → m ≡ message.Query (record { act = u }) → outs ≡ answer_query from u d.intents t.coord → NamesCase k d t from m v outs
-  Hears : (a : Asked) (r : Reply) → answers m ≡ Some (a, r) → v ≡ with_coord t (let q = heard from a r d.intents t.coord in q.part) → outs ≡ (let q = heard from a r d.intents t.coord in q.outs) → NamesCase k d t from m v outs
-  Acks : (u : Uid) → m ≡ message.Acked (record { act = u }) → v ≡ with_coord t (let q = acked from u d.intents t.coord in q.part) → outs ≡ (let q = acked from u d.intents t.coord in q.outs) → NamesCase k d t from m v outs
+  Confirms : (h : Head) (grants : Grants) (excluded included : Marks) (n : Naming) (x : ConfirmedReply) →
+      asks m ≡ Some (h, ask.Confirm grants excluded included) → t.naming ≡ Some n
+      → v ≡ with_naming t (let r = confirm h.path grants excluded included d.names n in r.part) →
+      (let r = confirm h.path grants excluded included d.names n in r.reply) ≡ Some x
+      → outs ≡ (let r = confirm h.path grants excluded included d.names n in
+      r.outs) ++ Send from (response (asked_by h) (Reply.Confirmed x)) ∷ [] → NamesCase k d t from m v outs
+  Tells : (u : Uid) (e : End) (ack : Bool) (lines : List Effect) → last_end (told_by m) ≡ Some (u, e) → v.coord ≡ t.coord →
+      v.naming ≡ (let o = naming_told u e d.names t.naming in o.part) → AreAll (is_server_effect k) lines
+      → outs ≡ ((store_told k u e d.store ++ (let o = naming_told u e d.names t.naming in o.outs)) ++ lines) ++ ack_told from u ack →
+      NamesCase k d t from m v outs
+  Asks : (u : Uid) → v ≡ t → m ≡ message.Query (record { act = u }) → outs ≡ answer_query from u d.intents t.coord →
+      NamesCase k d t from m v outs
+  Hears : (a : Asked) (r : Reply) → answers m ≡ Some (a, r) → v ≡ with_coord t (let q = heard from a r d.intents t.coord in q.part) →
+      outs ≡ (let q = heard from a r d.intents t.coord in q.outs) → NamesCase k d t from m v outs
+  Acks : (u : Uid) → m ≡ message.Acked (record { act = u }) → v ≡ with_coord t (let q = acked from u d.intents t.coord in q.part) →
+      outs ≡ (let q = acked from u d.intents t.coord in q.outs) → NamesCase k d t from m v outs
 
 -- an answer that isn't naming's Yes
 abbrev pub IsOtherReply : Reply → Type 0
@@ -331,7 +365,14 @@ response_acks a (Reply.Prepared r) = refl
 response_acks a (Reply.Confirmed r) = refl
 
 pub reply_mute : (a : Asked) (r : Reply) → IsOtherReply r → IsMute (response a r)
-reply_mute a r other = ((λ h q is part. let no_way : ◌≡◌ {A = Option (Head × Ask)} None (Some (h, q)) = sym (no_request a r) ∙ is in cc no_way), ((λ b is. let q : Some (a, r) ≡ Some (b, Reply.Confirmed confirmed.Yes) = sym (response_reads_back a r) ∙ is in let s : r ≡ Reply.Confirmed confirmed.Yes = ap (λ (z : Asked × Reply). z.1) (some_is q) in subst IsOtherReply s other), response_acks a r))
+reply_mute a r other = (
+  (λ h q is part. let no_way : ◌≡◌ {A = Option (Head × Ask)} None (Some (h, q)) = sym (no_request a r) ∙ is in cc no_way),
+  (
+    (λ b is. let q : Some (a, r) ≡ Some (b, Reply.Confirmed confirmed.Yes) = sym (response_reads_back a r) ∙ is in
+        let s : r ≡ Reply.Confirmed confirmed.Yes = ap (λ (z : Asked × Reply). z.1) (some_is q) in subst IsOtherReply s other),
+    response_acks a r,
+  ),
+)
 
 queries_aside : (us : List Uid) → AllAside (map query_about us)
 queries_aside us = all_map IsAside query_about us (λ u. ((λ h a is part. cc is), ((λ a is. cc is), refl)))
@@ -341,15 +382,19 @@ module _ (k : ℕ) (d : Disk) (t : Parts) (from : ℕ) (m : Message) where
   Case (Void outs) = ⊤
   Case (Took v outs) = NamesCase k d t from m v outs
 
-  answered : (h : Head) (v : Parts) (outs : List Effect) (o : Option Reply) → v.coord ≡ t.coord → NamingStays t.naming v.naming → AllAside outs → ((r : Reply) → o ≡ Some r → IsOtherReply r) → Case (sends_answer from h v outs o)
+  answered : (h : Head) (v : Parts) (outs : List Effect) (o : Option Reply) → v.coord ≡ t.coord → NamingStays t.naming v.naming →
+      AllAside outs → ((r : Reply) → o ≡ Some r → IsOtherReply r) → Case (sends_answer from h v outs o)
   answered h v outs None same stays all other = tt
-  answered h v outs (Some r) same stays all other = Aside same stays (all_both IsAside outs (Send from (response (asked_by h) r) ∷ []) all (reply_mute (asked_by h) r (other r refl), tt))
+  answered h v outs (Some r) same stays all other =
+      Aside same stays (all_both IsAside outs (Send from (response (asked_by h) r) ∷ []) all (reply_mute (asked_by h) r (other r refl), tt))
 
-  mapped : {R : Type 0} (say : R → Reply) → ((x : R) → IsOtherReply (say x)) → (o : Option R) (r : Reply) → option_map say o ≡ Some r → IsOtherReply r
+  mapped : {R : Type 0} (say : R → Reply) → ((x : R) → IsOtherReply (say x)) → (o : Option R) (r : Reply) → option_map say o ≡ Some r →
+      IsOtherReply r
   mapped say other None r is = absurd (cc is)
   mapped say other (Some x) r is = subst IsOtherReply (some_is is) (other x)
 
-  with_it : (f : Naming → Handled) (o : Option Naming) → t.naming ≡ o → ((n : Naming) → t.naming ≡ Some n → Case (f n)) → Case (if_naming f o)
+  with_it : (f : Naming → Handled) (o : Option Naming) → t.naming ≡ o → ((n : Naming) → t.naming ≡ Some n → Case (f n)) →
+      Case (if_naming f o)
   with_it f None is each = tt
   with_it f (Some n) is each = each n is
 
@@ -358,52 +403,77 @@ module _ (k : ℕ) (d : Disk) (t : Parts) (from : ℕ) (m : Message) where
   moved n z is same w e = (n, is, subst (IsSameMemory n) (some_is e) same)
 
   asked : (h : Head) (a : Ask) → asks m ≡ Some (h, a) → Case (serve k d t from h a)
-  asked h (ask.Bind x include avoid) is = with_it _ t.naming refl (λ n at. let s = naming.bind h.path x include avoid d.names n in answered h (with_naming t s.part) s.outs (option_map Reply.Bound s.reply) refl (moved n s.part at (bind_memory h.path x include avoid d.names n)) (locks_aside s.outs (bind_locks h.path x include avoid d.names n)) (mapped Reply.Bound (λ z. tt) s.reply))
+  asked h (ask.Bind x include avoid) is = with_it _ t.naming refl (λ n at. let s = naming.bind h.path x include avoid d.names n in
+      answered h (with_naming t s.part) s.outs (option_map Reply.Bound s.reply) refl (moved n s.part at (bind_memory h.path x include avoid
+      d.names n)) (locks_aside s.outs (bind_locks h.path x include avoid d.names n)) (mapped Reply.Bound (λ z. tt) s.reply))
   asked h (ask.Load x) is = load (holder_of (object x) d.store)
     where
       held : (s : Option ObjectState) → Case (load_held from h t s)
       held None = tt
-      held (Some s) = answered h t (Do Look ∷ []) (Some (Reply.Loaded (loaded.State s))) refl (naming_same t.naming) (tt, tt) (mapped Reply.Loaded (λ z. tt) (Some (loaded.State s)))
+      held (Some s) = answered h t (Do Look ∷ []) (Some (Reply.Loaded (loaded.State s))) refl (naming_same t.naming) (tt, tt)
+          (mapped Reply.Loaded (λ z. tt) (Some (loaded.State s)))
 
       load : (o : Option Uid) → Case (load_by x d.store from h t o)
-      load (Some u) = answered h t [] (Some (Reply.Loaded (loaded.InDoubt u))) refl (naming_same t.naming) tt (mapped Reply.Loaded (λ z. tt) (Some (loaded.InDoubt u)))
+      load (Some u) = answered h t [] (Some (Reply.Loaded (loaded.InDoubt u))) refl (naming_same t.naming) tt
+          (mapped Reply.Loaded (λ z. tt) (Some (loaded.InDoubt u)))
       load None = held (held_at (object x) d.store)
-  asked h (ask.Activate b st) is = let r = server.activate k h.path b st t.server in answered h (with_server t r.part) r.outs (option_map Reply.Activated r.reply) refl (naming_same t.naming) (server_aside k r.outs (activate_own k h.path b st t.server)) (mapped Reply.Activated (λ z. tt) r.reply)
-  asked h (ask.Record x b i g) is = with_it _ t.naming refl (λ n at. let r = naming.note h.path x b i g n in answered h (with_naming t r.part) r.outs (option_map Reply.Noted r.reply) refl (moved n r.part at (note_memory h.path x b i g n)) (locks_aside r.outs (note_locks h.path x b i g n)) (mapped Reply.Noted (λ z. tt) r.reply))
-  asked h (ask.Invoke x b i ends o) is = let r = server.invoke k h x b i ends o t.server in answered h (with_server t r.part) r.outs (option_map Reply.Invoked r.reply) refl (naming_same t.naming) (server_aside k r.outs (invoke_own k h x b i ends o t.server)) (mapped Reply.Invoked (λ z. tt) r.reply)
-  asked h (ask.Vote i ties ends) is = let r = server.vote k h.path i ties ends t.server in answered h (with_server t r.part) r.outs (option_map Reply.Voted r.reply) refl (naming_same t.naming) (server_aside k r.outs (vote_own k h.path i ties ends t.server)) (mapped Reply.Voted (λ z. tt) r.reply)
+  asked h (ask.Activate b st) is = let r = server.activate k h.path b st t.server in
+      answered h (with_server t r.part) r.outs (option_map Reply.Activated r.reply) refl (naming_same t.naming)
+      (server_aside k r.outs (activate_own k h.path b st t.server)) (mapped Reply.Activated (λ z. tt) r.reply)
+  asked h (ask.Record x b i g) is = with_it _ t.naming refl (λ n at. let r = naming.note h.path x b i g n in
+      answered h (with_naming t r.part) r.outs (option_map Reply.Noted r.reply) refl (moved n r.part at (note_memory h.path x b i g n))
+      (locks_aside r.outs (note_locks h.path x b i g n)) (mapped Reply.Noted (λ z. tt) r.reply))
+  asked h (ask.Invoke x b i ends o) is = let r = server.invoke k h x b i ends o t.server in
+      answered h (with_server t r.part) r.outs (option_map Reply.Invoked r.reply) refl (naming_same t.naming)
+      (server_aside k r.outs (invoke_own k h x b i ends o t.server)) (mapped Reply.Invoked (λ z. tt) r.reply)
+  asked h (ask.Vote i ties ends) is = let r = server.vote k h.path i ties ends t.server in
+      answered h (with_server t r.part) r.outs (option_map Reply.Voted r.reply) refl (naming_same t.naming)
+      (server_aside k r.outs (vote_own k h.path i ties ends t.server)) (mapped Reply.Voted (λ z. tt) r.reply)
   asked h (ask.Prepare states) is = each (is_prepared (actor h.path) d.store)
     where
       new : (a : Prep) → Case (prepare_by k states from h t a)
-      new Ready = answered h t (Do Look ∷ Do (Prepare role.Store (actor h.path) states) ∷ Say (body.Prepared k (actor h.path) role.Store) ∷ []) (Some (Reply.Prepared prepared.Yes)) refl (naming_same t.naming) (tt, (tt, (tt, tt))) (λ r q. subst IsOtherReply (some_is q) tt)
+      new Ready =
+          answered h t (Do Look ∷ Do (Prepare role.Store (actor h.path) states) ∷ Say (body.Prepared k (actor h.path) role.Store) ∷ [])
+          (Some (Reply.Prepared prepared.Yes)) refl (naming_same t.naming) (tt, (tt, (tt, tt))) (λ r q. subst IsOtherReply (some_is q) tt)
       new (Already u) = tt
-      new (Old u w) = answered h t (Do Look ∷ []) (Some (Reply.Prepared (prepared.Old u.num w))) refl (naming_same t.naming) (tt, tt) (λ r q. subst IsOtherReply (some_is q) tt)
-      new (InDoubt u holder) = answered h t (Do Look ∷ []) (Some (Reply.Prepared (prepared.InDoubt u.num holder))) refl (naming_same t.naming) (tt, tt) (λ r q. subst IsOtherReply (some_is q) tt)
+      new (Old u w) = answered h t (Do Look ∷ []) (Some (Reply.Prepared (prepared.Old u.num w))) refl (naming_same t.naming) (tt, tt)
+          (λ r q. subst IsOtherReply (some_is q) tt)
+      new (InDoubt u holder) = answered h t (Do Look ∷ []) (Some (Reply.Prepared (prepared.InDoubt u.num holder))) refl
+          (naming_same t.naming) (tt, tt) (λ r q. subst IsOtherReply (some_is q) tt)
 
-      each : (b : Bool) → Case (cond b (sends_answer from h t [] (Some (Reply.Prepared prepared.Yes))) (prepare_by k states from h t (prepare_answer (actor h.path) states d.store)))
-      each true = answered h t [] (Some (Reply.Prepared prepared.Yes)) refl (naming_same t.naming) tt (λ r q. subst IsOtherReply (some_is q) tt)
+      each : (b : Bool) → Case (cond b (sends_answer from h t [] (Some (Reply.Prepared prepared.Yes)))
+          (prepare_by k states from h t (prepare_answer (actor h.path) states d.store)))
+      each true =
+          answered h t [] (Some (Reply.Prepared prepared.Yes)) refl (naming_same t.naming) tt (λ r q. subst IsOtherReply (some_is q) tt)
       each false = new (prepare_answer (actor h.path) states d.store)
-  asked h (ask.Confirm grants excluded included) is = with_it _ t.naming refl (λ n at. by n at (confirm h.path grants excluded included d.names n).reply refl)
+  asked h (ask.Confirm grants excluded included) is =
+      with_it _ t.naming refl (λ n at. by n at (confirm h.path grants excluded included d.names n).reply refl)
     where
       by : (n : Naming) → t.naming ≡ Some n → (o : Option ConfirmedReply) → (confirm h.path grants excluded included d.names n).reply ≡ o
-          → Case (sends_answer from h (with_naming t (confirm h.path grants excluded included d.names n).part) (confirm h.path grants excluded included d.names n).outs (option_map Reply.Confirmed o))
+          → Case (sends_answer from h (with_naming t (confirm h.path grants excluded included d.names n).part)
+          (confirm h.path grants excluded included d.names n).outs (option_map Reply.Confirmed o))
       by n at None none = tt
       by n at (Some x) said = Confirms h grants excluded included n x is at refl said refl
 
-  ends_case : (ack : Bool) (ends : List (Uid × End)) (o : Option (Uid × End)) → last_end (told_by m) ≡ o → Case (handle_ends k d t from ack ends o)
+  ends_case : (ack : Bool) (ends : List (Uid × End)) (o : Option (Uid × End)) → last_end (told_by m) ≡ o →
+      Case (handle_ends k d t from ack ends o)
   ends_case ack ends None is = Aside refl (naming_same t.naming) tt
-  ends_case ack ends (Some e) is = let s = server.told k ends t.server in Tells e.0 e.1 ack s.outs is refl refl (ends_own k ends t.server) refl
+  ends_case ack ends (Some e) is = let s = server.told k ends t.server in
+      Tells e.0 e.1 ack s.outs is refl refl (ends_own k ends t.server) refl
 
   hello_stays : (node inc : ℕ) (o : Option Naming) → NamingStays o (naming_hello node inc o)
   hello_stays node inc None n is = absurd (let no_way : ◌≡◌ {A = Option Naming} None (Some n) = is in cc no_way)
-  hello_stays node inc (Some z) n is = (z, refl, subst (IsSameMemory z) (some_is is) (record { inc = refl; told = λ u on. on; confirmed = λ u on. on }))
+  hello_stays node inc (Some z) n is =
+      (z, refl, subst (IsSameMemory z) (some_is is) (record { inc = refl; told = λ u on. on; confirmed = λ u on. on }))
 
   other : (z : Message) → m ≡ z → Case (handle_other k d t from z)
   other (message.Told z) is = ends_case z.ack z.ends (last_end z.ends) (ap (λ w. last_end (told_by w)) is)
   other (message.Acked z) is = by_coord k d t from Case tt (acked from z.act d.intents t.coord) (Acks z.act is refl refl)
   other (message.Query z) is = Asks z.act refl is refl
-  other (message.Hello z) is = Aside refl (hello_stays z.node z.inc t.naming) (queries_aside (filter (is_earlier z.node z.inc) (holders d t)))
+  other (message.Hello z) is =
+      Aside refl (hello_stays z.node z.inc t.naming) (queries_aside (filter (is_earlier z.node z.inc) (holders d t)))
   other z is = tt
 
   pub names_case : (v : Parts) (outs : List Effect) → handle k d t from m ≡ Took v outs → NamesCase k d t from m v outs
-  names_case v outs is = subst Case is (by_message k d t from Case tt m asked (λ a r of. by_coord k d t from Case tt (heard from a r d.intents t.coord) (Hears a r of refl refl)) (other m refl))
+  names_case v outs is = subst Case is (by_message k d t from Case tt m asked
+      (λ a r of. by_coord k d t from Case tt (heard from a r d.intents t.coord) (Hears a r of refl refl)) (other m refl))

@@ -1,41 +1,24 @@
--- What is known of nodes in every run, as far as naming's confirmations count on it: a top that has an entry prepared isn't decided where its abort
--- is told, or that of its serializing action.
-use Rattle.std.proofs.Common.{◌≡◌, ◌≢◌, ◌∙◌, ◌==◌, ℕ, true, false, List, [], ◌∷◌, Option, Some, None, refl, sym, ap, subst, inl, inr, Contains, eqb-true}
-use Rattle.std.specs.Prelude.{is_some}
-use Rattle.std.specs.List.{AllByRecursion}
-use Rattle.arj_lock.proofs.Members as list
-use Rattle.arj_protocol.specs.Words.{End, Head, ObjectState, Uid, asks}
-use Rattle.arj_protocol.specs.Words.ask
-use Rattle.arj_protocol.specs.Words.ending
-use Rattle.arj_protocol.specs.Ask.{actor, top_of}
-use Rattle.arj_protocol.specs.Confirm.{Grants, Marks}
-use Rattle.arj_protocol.specs.Effect.{Pair, is_prepared}
-use Rattle.arj_protocol.specs.Naming.{Naming}
-use Rattle.arj_protocol.specs.Node.{Parts}
-use Rattle.arj_protocol.specs.Order.{at_uid}
-use Rattle.arj_protocol.specs.Step.{Node}
-use Rattle.arj_law_parts.specs.parts.Actions.{Action}
-use Rattle.arj_law_parts.specs.parts.Ends.{told_by}
-use Rattle.arj_law_parts.proofs.parts.Keys.{at_in, in_at}
-use Rattle.arj_law_runs.specs.kept.Worlds.{IsGoodOf, IsMemory, IsUp}
-use Rattle.arj_law_parts.specs.moves.Seen.{In}
-use Rattle.arj_promise.specs.Runs.{Post, Seen}
+-- What is known of nodes in every run, as far as naming's confirmations count on it: a top that has an entry prepared isn't decided where
+-- its abort is told, or that of its serializing action.
+use Rattle.arj_law_parts.proofs.Words
+use Words.{◌≡◌, ◌≢◌, ◌∙◌, ◌==◌, ℕ, true, false, List, [], ◌∷◌, Option, Some, None, refl, sym, ap, subst, inl, inr, Contains, eqb-true}
+use Words.{is_some, AllByRecursion, End, Head, ObjectState, Uid, asks, actor, top_of, Grants, Marks, Pair, is_prepared, Naming, Parts}
+use Words.{at_uid, Node, Post, Seen}
+use Words.list
+use Words.ask
+use Words.ending
+use Rattle.arj_law_promise.proofs.Terms
+use Terms.{Action, told_by, at_in, in_at, IsGoodOf, IsMemory, IsUp, In, AreRecorded, IsPathedOf, KnowsParted, WorksAreKnown, IsPartAsked}
+use Terms.{AcksAreKnown, HasAcked, IsPartOf, WasRecorded, records_in, ArePastIn, AsksForItself, HasPrepared, IsForItself}
 use Rattle.arj_law_disk_view.specs.view.Pairs.{AreSorted}
-use Rattle.arj_law_disk_view.specs.running.Records.{AreRecorded}
-use Rattle.arj_law_runs.proofs.journal.Paths.{IsPathedOf}
-use Rattle.arj_law_lock_view.specs.facts.Parted.{KnowsParted}
-use Rattle.arj_law_lock_view.specs.facts.Worlds.{WorksAreKnown}
-use Rattle.arj_law_serial.specs.whole.Aborts.{IsPartAsked}
-use Rattle.arj_law_serial.specs.whole.Acks.{AcksAreKnown, HasAcked, IsPartOf, WasRecorded, records_in}
-use Rattle.arj_law_serial.specs.past.Told.{ArePastIn}
-use Rattle.arj_law_promise.specs.settling.Prepared.{AsksForItself, HasPrepared, IsForItself}
-use Rattle.arj_law_promise.proofs.settling.Confirms.{AsksConfirm, IsConfirming, part_of_it}
-use Rattle.arj_law_promise.proofs.settling.Settled.{sorted_as}
-use Rattle.arj_law_promise.proofs.settling.Stills.{IsRight}
+use Rattle.arj_law_promise.proofs.settling
+use settling.{Settled.sorted_as, Stills.IsRight}
+use settling.Confirms.{AsksConfirm, IsConfirming, part_of_it}
 
 -- who was told of ends, records, who takes part, what waits, who acknowledges, and which actions the journal has
 abbrev pub KnowsNaming : List Action → Seen → Type 0
-KnowsNaming begun M = ((ArePastIn begun M × AreRecorded begun M) × (KnowsParted begun M × WorksAreKnown M)) × (AcksAreKnown false begun M × IsPathedOf begun M)
+KnowsNaming begun M = ((ArePastIn begun M × AreRecorded begun M) × (KnowsParted begun M × WorksAreKnown M))
+    × (AcksAreKnown false begun M × IsPathedOf begun M)
 
 abbrev pub NamingKnown : Seen → Type 0
 NamingKnown M = (begun : List Action) × IsGoodOf begun M × KnowsNaming begun M
@@ -53,7 +36,8 @@ IsNaming M = AllKnown M × IsConfirming M
 pub prepared_so : (Q : Uid → Type 0) (d : Pair) (u : Uid) → HasPrepared Q d → is_prepared u d ≡ true → Q u
 prepared_so Q d u h on = by (at_uid u d.pend) refl
   where
-    each : (es : List (Uid × List ObjectState)) → AllByRecursion (λ (e : Uid × List ObjectState). Q e.0) es → (e : Uid × List ObjectState) → list.In e es → Q e.0
+    each : (es : List (Uid × List ObjectState)) → AllByRecursion (λ (e : Uid × List ObjectState). Q e.0) es → (e : Uid × List ObjectState) →
+        list.In e es → Q e.0
     each [] all e i = absurd i
     each (x ∷ es) all e (inl same) = subst (λ (z : Uid × List ObjectState). Q z.0) same all.0
     each (x ∷ es) all e (inr i) = each es all.1 e i
@@ -64,9 +48,13 @@ prepared_so Q d u h on = by (at_uid u d.pend) refl
 
 -- and so that it is prepared
 pub prepared_itself : (d : Pair) → AreSorted d.pend → HasPrepared (λ u. is_prepared u d ≡ true) d
-prepared_itself d sorted = record { sorted = sorted; each = each d.pend (λ e i. ap (λ (z : Option (List ObjectState)). is_some z) (in_at e d.pend (sorted_as d.pend sorted) i)) }
+prepared_itself d sorted = record {
+  sorted = sorted;
+  each = each d.pend (λ e i. ap (λ (z : Option (List ObjectState)). is_some z) (in_at e d.pend (sorted_as d.pend sorted) i));
+}
   where
-    each : (es : List (Uid × List ObjectState)) → ((e : Uid × List ObjectState) → list.In e es → is_prepared e.0 d ≡ true) → AllByRecursion (λ (e : Uid × List ObjectState). is_prepared e.0 d ≡ true) es
+    each : (es : List (Uid × List ObjectState)) → ((e : Uid × List ObjectState) → list.In e es → is_prepared e.0 d ≡ true) →
+        AllByRecursion (λ (e : Uid × List ObjectState). is_prepared e.0 d ≡ true) es
     each [] so = tt
     each (e ∷ es) so = (so e (inl refl), each es (λ z i. so z (inr i)))
 
@@ -83,11 +71,14 @@ module _ (M : Seen) (known : AllKnown M) where
   -- all that naming is asked to confirm of a top is one
   pub one_confirm : (u : Uid) (c e : AsksConfirm M.sent u) → (e.grants ≡ c.grants) × (e.excluded ≡ c.excluded) × (e.included ≡ c.included)
   one_confirm u c e =
-      let same : ask.Confirm c.grants c.excluded c.included ≡ ask.Confirm e.grants e.excluded e.included = parted.one c.post e.post c.head e.head (ask.Confirm c.grants c.excluded c.included) (ask.Confirm e.grants e.excluded e.included) c.posted e.posted c.asking e.asking refl refl (c.by ∙ sym e.by) in
+      let same : ask.Confirm c.grants c.excluded c.included ≡ ask.Confirm e.grants e.excluded e.included = parted.one c.post e.post c.head
+      e.head (ask.Confirm c.grants c.excluded c.included) (ask.Confirm e.grants e.excluded e.included) c.posted e.posted c.asking
+      e.asking refl refl (c.by ∙ sym e.by) in
       (cc (sym same), cc (sym same), cc (sym same))
 
   -- a top asks itself
-  pub its_top : (p : Post) (h : Head) (grants : Grants) (excluded included : Marks) → In p M.sent → asks p.message ≡ Some (h, ask.Confirm grants excluded included) → actor h.path ≡ top_of h.path
+  pub its_top : (p : Post) (h : Head) (grants : Grants) (excluded included : Marks) → In p M.sent →
+      asks p.message ≡ Some (h, ask.Confirm grants excluded included) → actor h.path ≡ top_of h.path
   its_top p h grants excluded included there is =
       let d = (let z = known.0.0 in z.0.1) in
       let all = (let z = d.2 in z.1) in
@@ -95,10 +86,12 @@ module _ (M : Seen) (known : AllKnown M) where
       f.same
 
   -- where an end of it was told, or of its serializing action, a recorded top that naming was asked about was acknowledged
-  pub told_acked : (p : Post) (w u : Uid) → In p M.sent → p.to ≡ 1 → Contains {X = Uid × End} (told_by p.message) (w, ending.Abort) → IsPartOf (let n = known.1 in n.0) u w → AsksConfirm M.sent u → WasRecorded (records_in M.nodes) M.sent u → HasAcked M.sent u 1
+  pub told_acked : (p : Post) (w u : Uid) → In p M.sent → p.to ≡ 1 → Contains {X = Uid × End} (told_by p.message) (w, ending.Abort) →
+      IsPartOf (let n = known.1 in n.0) u w → AsksConfirm M.sent u → WasRecorded (records_in M.nodes) M.sent u → HasAcked M.sent u 1
   told_acked p w u there to told part asked was =
       let l = acks.world in
-      subst (HasAcked M.sent u) to (l.aborts p w u there told part (subst (λ n. IsPartAsked M.sent u n) (sym to) (part_of_it M.sent u asked)) was)
+      subst (HasAcked M.sent u) to
+      (l.aborts p w u there told part (subst (λ n. IsPartAsked M.sent u n) (sym to) (part_of_it M.sent u asked)) was)
 
   -- ---- nodes
 
@@ -124,10 +117,12 @@ module _ (M : Seen) (known : AllKnown M) where
       let q = all.nodes k a here in
       let h = q.names in h.sorted
 
-  pub its_inc : (k : ℕ) (a : Node) (t : Parts) → M.nodes k ≡ Some a → a.live ≡ Some t → (let c = t.coord in let z = c.tree in z.inc) ≡ (let d = a.disk in d.inc)
+  pub its_inc : (k : ℕ) (a : Node) (t : Parts) → M.nodes k ≡ Some a → a.live ≡ Some t →
+      (let c = t.coord in let z = c.tree in z.inc) ≡ (let d = a.disk in d.inc)
   its_inc k a t here up_it =
       let n = known.1 in
       let g : IsGoodOf n.0 M = n.1 in
       let p = g.places k a here in
-      let m : IsUp n.0 M.sent M.labels k (let d = a.disk in d.inc) t = subst (IsMemory n.0 M.sent M.labels k (let d = a.disk in d.inc)) up_it p.memory in
+      let m : IsUp n.0 M.sent M.labels k (let d = a.disk in
+      d.inc) t = subst (IsMemory n.0 M.sent M.labels k (let d = a.disk in d.inc)) up_it p.memory in
       m.inc

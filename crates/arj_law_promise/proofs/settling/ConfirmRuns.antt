@@ -1,61 +1,28 @@
 -- What holds of naming's confirmations is kept by each handler, and so in every run.
-use Rattle.std.proofs.Common.{◌≡◌, ◌∙◌, ◌++◌, ℕ, false, cond, List, [], ◌∷◌, Option, Some, None, refl, sym, ap, subst, inl, inr, arith}
-use Rattle.std.specs.Prelude.{⊤}
-use Rattle.std.specs.List.{AllByRecursion, list_all}
-use Rattle.std.proofs.lemmas.Bool.{and_parts}
-use Rattle.arj_protocol.specs.Words.{Body, Header, Kind, Label, Line, Message, Uid}
-use Rattle.arj_protocol.specs.Words.body
-use Rattle.arj_protocol.specs.Asking.{begin_action, heard}
-use Rattle.arj_protocol.specs.Effect.{Disk, Effect}
-use Rattle.arj_protocol.specs.Ending.{answer_query}
-use Rattle.arj_protocol.specs.Naming.{Naming}
-use Rattle.arj_protocol.specs.Node.{Parts, ack_told, naming_told, store_told, with_coord}
-use Rattle.arj_protocol.specs.Step.{first_disk, parent_of, parts_in}
-use Rattle.arj_protocol.specs.Tree.{next_uid}
-use Rattle.arj_protocol.specs.World as world
-use Rattle.arj_protocol.specs.World.{format, is_serial_kind, numbered}
-use Rattle.arj_law_parts.specs.parts.Actions.{Action}
-use Rattle.arj_law_parts.specs.moves.Keeps.{Holds, Keeps}
-use Rattle.arj_promise.specs.Runs.{Move, world_by}
-use Rattle.arj_law_parts.specs.moves.Seen.{AreQuiet, In, given, is_quiet_line, said, up}
-use Rattle.arj_promise.specs.Runs.{Seen, see}
-use Rattle.arj_law_parts.specs.moves.Walks.{Up, Walks}
-use Rattle.arj_law_parts.proofs.moves.Happens.{keeps_asked}
-use Rattle.arj_law_parts.proofs.moves.Moving.{moves_asked}
-use Rattle.arj_law_runs.proofs.calls.Given.{keeps_given, kept_both}
-use Rattle.arj_law_disk_view.specs.running.Records.{AreRecorded}
-use Rattle.arj_law_disk_view.proofs.view.FirstSeen.{first_at}
-use Rattle.arj_law_runs.proofs.journal.Paths.{IsPathedOf, act_pathed, begin_pathed, first_pathed, message_pathed, quiet_pathed, restart_pathed, stop_pathed, tick_pathed}
-use Rattle.arj_law_lock_view.specs.facts.Acts.{KeepsOf}
-use Rattle.arj_law_lock_view.specs.facts.Parted.{KnowsParted}
-use Rattle.arj_law_lock_view.specs.facts.Worlds.{WorksAreKnown}
-use Rattle.arj_law_lock_view.proofs.facts.Acts.{kept_of}
-use Rattle.arj_law_lock_view.proofs.facts.PartWalks.{parted_keep}
-use Rattle.arj_law_lock_view.proofs.facts.Works.{works_keep}
-use Rattle.arj_law_serial.specs.whole.Acks.{AcksAreKnown, acked_in}
-use Rattle.arj_law_serial.proofs.whole.AckRuns.{acks_of}
-use Rattle.arj_law_serial.proofs.whole.AckWalks.{AcksNeed}
-use Rattle.arj_law_serial.proofs.whole.Of.{of_both, of_kept, of_more}
-use Rattle.arj_law_serial.proofs.whole.Whole.{records_of}
-use Rattle.arj_law_serial.specs.past.Told.{ArePastIn}
-use Rattle.arj_law_serial.proofs.past.Past.{past_of}
-use Rattle.arj_law_promise.proofs.settling.ConfirmAcks.{acked_naming}
-use Rattle.arj_law_promise.proofs.settling.ConfirmCases.{Acks, Aside, Asks, Confirms, Hears, IsCalmBut, NamesCase, Tells, names_case}
-use Rattle.arj_law_promise.proofs.settling.ConfirmEnds.{naming_walk}
-use Rattle.arj_law_promise.proofs.settling.ConfirmKnown.{AllKnown, IsNaming, KnowsNaming, NamingKnown}
-use Rattle.arj_law_promise.proofs.settling.ConfirmMoves.{act_naming, heard_naming, tick_naming}
-use Rattle.arj_law_promise.proofs.settling.ConfirmParts.{all_undeciding, aside_walk, lost_so, mute_confirms, part_memory, query_walk, quiet_calm, stop_confirms}
-use Rattle.arj_law_promise.proofs.settling.Confirms.{IsConfirming, IsNamer, IsNamesNode, further, same_memory, still_names, to_records}
-use Rattle.arj_law_promise.proofs.settling.ConfirmStarts.{restart_naming}
-use Rattle.arj_law_promise.proofs.settling.ConfirmTaken.{confirm_walk}
-use Rattle.arj_law_promise.proofs.settling.ConfirmTells.{apart_told}
-use Rattle.arj_law_promise.proofs.settling.Cores.{IsDone}
-use Rattle.arj_law_promise.proofs.settling.Lights.{undecided}
-use Rattle.arj_law_promise.proofs.settling.Milds.{here_is, the_node}
-use Rattle.arj_law_promise.proofs.settling.Rights.{right_keep}
-use Rattle.arj_law_promise.proofs.settling.Stills.{IsRight}
-use Rattle.arj_law_promise.proofs.settling.Trails.{Went}
-use Rattle.arj_law_runs.proofs.addresses.Lists.{some_is}
+use Rattle.arj_law_parts.proofs.Words
+use Words.{◌≡◌, ◌∙◌, ◌++◌, ℕ, false, cond, List, [], ◌∷◌, Option, Some, None, refl, sym, ap, subst, inl, inr, arith, ⊤, AllByRecursion}
+use Words.{list_all, and_parts, Body, Header, Kind, Label, Line, Message, Uid, begin_action, heard, Disk, Effect, answer_query, Naming}
+use Words.{Parts, ack_told, naming_told, store_told, with_coord, first_disk, parent_of, parts_in, next_uid, format, is_serial_kind}
+use Words.{numbered, Move, world_by, Seen, see}
+use Words.body
+use Words.world
+use Rattle.arj_law_promise.proofs.Terms
+use Terms.{Action, Holds, Keeps, AreQuiet, In, given, is_quiet_line, said, up, Up, Walks, keeps_asked, moves_asked, keeps_given, kept_both}
+use Terms.{AreRecorded, first_at, IsPathedOf, KeepsOf, KnowsParted, WorksAreKnown, kept_of, AcksAreKnown, acked_in, of_both, of_more}
+use Terms.{records_of, ArePastIn, some_is}
+use Rattle.arj_law_lock_view.proofs.facts.{PartWalks.parted_keep, Works.works_keep}
+use Rattle.arj_law_promise.proofs.settling
+use settling.{ConfirmAcks.acked_naming, ConfirmEnds.naming_walk, ConfirmStarts.restart_naming, ConfirmTaken.confirm_walk}
+use settling.{ConfirmTells.apart_told, Cores.IsDone, Lights.undecided, Milds.here_is, Milds.the_node, Rights.right_keep, Stills.IsRight}
+use settling.{Trails.Went}
+use settling.ConfirmCases.{Acks, Aside, Asks, Confirms, Hears, IsCalmBut, NamesCase, Tells, names_case}
+use settling.ConfirmKnown.{AllKnown, IsNaming, KnowsNaming, NamingKnown}
+use settling.ConfirmMoves.{act_naming, heard_naming, tick_naming}
+use settling.ConfirmParts.{all_undeciding, aside_walk, lost_so, mute_confirms, part_memory, query_walk, quiet_calm, stop_confirms}
+use settling.Confirms.{IsConfirming, IsNamer, IsNamesNode, further, same_memory, still_names, to_records}
+use Rattle.arj_law_runs.proofs.journal
+use journal.Paths.{act_pathed, begin_pathed, first_pathed, message_pathed, quiet_pathed, restart_pathed, stop_pathed, tick_pathed}
+use Rattle.arj_law_serial.proofs.{past.Past.past_of, whole.AckRuns.acks_of, whole.AckWalks.AcksNeed, whole.Of.of_kept}
 
 nothing_more : {A : Type 0} (xs : List A) → xs ++ [] ≡ xs
 nothing_more [] = refl
@@ -101,14 +68,16 @@ module _ (hd : Header) where
   ended = of_both hd Free ArePastIn AreRecorded (free AreRecorded ArePastIn (past_of hd)) (free ArePastIn AreRecorded (records_of hd))
 
   working : KeepsOf hd Free Working
-  working = of_both hd Free KnowsParted (λ begun M. WorksAreKnown M) (free (λ begun M. WorksAreKnown M) KnowsParted (parted_keep hd)) (of_kept hd (With KnowsParted) WorksAreKnown (works_keep hd))
+  working = of_both hd Free KnowsParted (λ begun M. WorksAreKnown M) (free (λ begun M. WorksAreKnown M) KnowsParted (parted_keep hd))
+      (of_kept hd (With KnowsParted) WorksAreKnown (works_keep hd))
 
   told : KeepsOf hd Free Told
   told = of_both hd Free Ended Working (free Working Ended ended) (free Ended Working working)
 
   acked : KeepsOf hd (With Told) Acked
   acked = of_both hd (With Told) (AcksAreKnown false) IsPathedOf
-      (of_more hd (AcksNeed false) (λ begun M. With Told begun M × IsPathedOf begun M) (AcksAreKnown false) (λ begun M h. ((λ few. absurd (cc few)), (h.0.1.0.0, (h.0.1.0.1, (h.0.1.1.0, h.0.1.1.1))))) (acks_of hd false))
+      (of_more hd (AcksNeed false) (λ begun M. With Told begun M × IsPathedOf begun M) (AcksAreKnown false)
+      (λ begun M h. ((λ few. absurd (cc few)), (h.0.1.0.0, (h.0.1.0.1, (h.0.1.1.0, h.0.1.1.1))))) (acks_of hd false))
       (of_more hd Free (λ begun M. With Told begun M × AcksAreKnown false begun M) IsPathedOf (λ begun M h. tt) (pathed_of hd))
 
   knows_of : KeepsOf hd Free KnowsNaming
@@ -121,7 +90,8 @@ module _ (hd : Header) where
 
 all_quiet : (e : ℕ) (bs : List Body) → AreQuiet bs → AllByRecursion (λ (l : Line). IsCalmBut (λ u. ⊥) l.body) (numbered e bs)
 all_quiet e [] q = tt
-all_quiet e (b ∷ bs) q = let p = and_parts (is_quiet_line b) (list_all is_quiet_line bs) q in (quiet_calm (λ u. ⊥) b p.0, all_quiet e bs p.1)
+all_quiet e (b ∷ bs) q = let p = and_parts (is_quiet_line b) (list_all is_quiet_line bs) q in
+    (quiet_calm (λ u. ⊥) b p.0, all_quiet e bs p.1)
 
 quiet_confirms : (e : ℕ) (bs : List Body) (M : Seen) → AreQuiet bs → IsConfirming M → IsConfirming (said e bs M)
 quiet_confirms e bs M quiet core = further M (said e bs M) core (record {
@@ -132,7 +102,8 @@ quiet_confirms e bs M quiet core = further M (said e bs M) core (record {
   asked = λ u asked. inl asked;
   recorded = λ u r. inl (to_records M u r);
   clean = λ before line behind n u is says decided. lost_so (λ x. ⊥) (numbered e bs) before line behind n u (all_quiet e bs quiet) is says;
-  node = λ a is. still_names M (said e bs M) a a (core.node a is) (omega arith) (λ u on. on) (λ p i. i) (λ u has done asked. (has, was_done u done, asked)) (λ u y. y) (λ t n up_it named. (t, n, up_it, named, same_memory n, refl));
+  node = λ a is. still_names M (said e bs M) a a (core.node a is) (omega arith) (λ u on. on) (λ p i. i)
+      (λ u has done asked. (has, was_done u done, asked)) (λ u y. y) (λ t n up_it named. (t, n, up_it, named, same_memory n, refl));
 })
   where
     was_done : (u : Uid) → IsDone (said e bs M) u → IsDone M u
@@ -141,12 +112,14 @@ quiet_confirms e bs M quiet core = further M (said e bs M) core (record {
 
 -- ---- an action begins
 
-module _ (k : ℕ) (d : Disk) (t : Parts) (M : Seen) (core : IsConfirming (up k d t M)) (e : ℕ) (l : Label) (how : Kind) (parent : Option Label) (labels : List (Label × world.Labelled)) where
+module _ (k : ℕ) (d : Disk) (t : Parts) (M : Seen) (core : IsConfirming (up k d t M)) (e : ℕ) (l : Label) (how : Kind)
+    (parent : Option Label) (labels : List (Label × world.Labelled)) where
   abbrev v : Parts
   v = with_coord t (begin_action l how parent (parent_of parent t.coord) t.coord).part
 
   abbrev Begun : Seen
-  Begun = up k d (with_coord t (begin_action l how parent (parent_of parent t.coord) t.coord).part) (said e (body.Began l how (next_uid t.coord.tree) parent ∷ []) (record M { labels = labels }))
+  Begun = up k d (with_coord t (begin_action l how parent (parent_of parent t.coord) t.coord).part)
+      (said e (body.Began l how (next_uid t.coord.tree) parent ∷ []) (record M { labels = labels }))
 
   abbrev Same : Disk → Option Parts → Type 0
   Same c live = (c ≡ d) × (live ≡ Some (with_coord t (begin_action l how parent (parent_of parent t.coord) t.coord).part))
@@ -166,30 +139,52 @@ module _ (k : ℕ) (d : Disk) (t : Parts) (M : Seen) (core : IsConfirming (up k 
   }
 
   begun_confirms : IsConfirming Begun
-  begun_confirms = mute_confirms k d (Some t) M (λ p. ⊥) Same Begun began (λ p so. absurd so) (λ x j is. is) (λ x j is. inl is) (omega arith) (λ u on. on)
-      (λ s n up_it named. let one : v ≡ s = some_is up_it in (t, n, refl, ap (λ (z : Parts). z.naming) one ∙ named, same_memory n, ap (λ (z : Parts). let c = z.coord in let q = c.tree in q.inc) (sym one))) core
+  begun_confirms = mute_confirms k d (Some t) M (λ p. ⊥) Same Begun began (λ p so. absurd so) (λ x j is. is) (λ x j is. inl is)
+      (omega arith) (λ u on. on)
+      (λ s n up_it named. let one : v ≡ s = some_is up_it in (
+        t,
+        n,
+        refl,
+        ap (λ (z : Parts). z.naming) one ∙ named,
+        same_memory n,
+        ap (λ (z : Parts). let c = z.coord in let q = c.tree in q.inc) (sym one),
+      )) core
 
 -- ---- a message
 
-message_naming : (k : ℕ) (d : Disk) (t v : Parts) (from : ℕ) (m : Message) (outs : List Effect) (M : Seen) (right : IsNaming (up k d t M)) → In (record { from = from; to = k; message = m }) M.sent → (e : ℕ) → NamesCase k d t from m v outs → Walks AllKnown e k outs (Up AllKnown k v) d M → Walks IsNaming e k outs (Up IsNaming k v) d M
-message_naming k d t v from m outs M right there e (Aside same stays all) known = aside_walk k d t v M e right.1 (part_memory t v same stays) outs all known
-message_naming k d t v from m outs M right there e (Confirms h grants excluded included n x asking named v_is said_it are) known = confirm_walk k d t M right from m there e h grants excluded included n asking named v x outs v_is said_it are known
+message_naming : (k : ℕ) (d : Disk) (t v : Parts) (from : ℕ) (m : Message) (outs : List Effect) (M : Seen) (right : IsNaming (up k d t M)) →
+    In (record { from = from; to = k; message = m }) M.sent → (e : ℕ) → NamesCase k d t from m v outs →
+    Walks AllKnown e k outs (Up AllKnown k v) d M → Walks IsNaming e k outs (Up IsNaming k v) d M
+message_naming k d t v from m outs M right there e (Aside same stays all) known =
+    aside_walk k d t v M e right.1 (part_memory t v same stays) outs all known
+message_naming k d t v from m outs M right there e (Confirms h grants excluded included n x asking named v_is said_it are) known =
+    confirm_walk k d t M right from m there e h grants excluded included n asking named v x outs v_is said_it are known
 message_naming k d t v from m outs M right there e (Tells u how ack lines last same moved own are) known = by t.naming refl moved are
   where
-    by : (o : Option Naming) → t.naming ≡ o → v.naming ≡ (naming_told u how d.names o).part → outs ≡ ((store_told k u how d.store ++ (naming_told u how d.names o).outs) ++ lines) ++ ack_told from u ack → Walks IsNaming e k outs (Up IsNaming k v) d M
+    by : (o : Option Naming) → t.naming ≡ o → v.naming ≡ (naming_told u how d.names o).part → outs ≡ ((store_told k u how d.store
+        ++ (naming_told u how d.names o).outs) ++ lines) ++ ack_told from u ack → Walks IsNaming e k outs (Up IsNaming k v) d M
     by None none its z =
-        let y : outs ≡ (store_told k u how d.store ++ lines) ++ ack_told from u ack = z ∙ ap (λ es. (es ++ lines) ++ ack_told from u ack) (nothing_more (store_told k u how d.store)) in
-        subst (λ es. Walks IsNaming e k es (Up IsNaming k v) d M) (sym y) (apart_told k d t M right from m there e u how last v same ack lines own none (subst (λ es. Walks AllKnown e k es (Up AllKnown k v) d M) y known))
-    by (Some n) named its z = subst (λ es. Walks IsNaming e k es (Up IsNaming k v) d M) (sym z) (naming_walk k d t M right from m there e u how last n named v same its ack lines own (subst (λ es. Walks AllKnown e k es (Up AllKnown k v) d M) z known))
+        let y : outs ≡ (store_told k u how d.store ++ lines) ++ ack_told from u ack = z
+        ∙ ap (λ es. (es ++ lines) ++ ack_told from u ack) (nothing_more (store_told k u how d.store)) in
+        subst (λ es. Walks IsNaming e k es (Up IsNaming k v) d M) (sym y) (apart_told k d t M right from m there e u how last v same ack
+        lines own none (subst (λ es. Walks AllKnown e k es (Up AllKnown k v) d M) y known))
+    by (Some n) named its z = subst (λ es. Walks IsNaming e k es (Up IsNaming k v) d M) (sym z) (naming_walk k d t M right from m there e u
+        how last n named v same its ack lines own (subst (λ es. Walks AllKnown e k es (Up AllKnown k v) d M) z known))
 message_naming k d t v from m outs M right there e (Asks u same is are) known =
-    subst (λ x. Walks IsNaming e k outs (Up IsNaming k x) d M) (sym same) (subst (λ es. Walks IsNaming e k es (Up IsNaming k t) d M) (sym are)
-    (query_walk k d t M e from u right.1 (subst (λ x. Walks AllKnown e k (answer_query from u d.intents t.coord) (Up AllKnown k x) d M) same (subst (λ es. Walks AllKnown e k es (Up AllKnown k v) d M) are known))))
+    subst (λ x. Walks IsNaming e k outs (Up IsNaming k x) d M) (sym same)
+    (subst (λ es. Walks IsNaming e k es (Up IsNaming k t) d M) (sym are)
+    (query_walk k d t M e from u right.1 (subst (λ x. Walks AllKnown e k (answer_query from u d.intents t.coord) (Up AllKnown k x) d M) same
+    (subst (λ es. Walks AllKnown e k es (Up AllKnown k v) d M) are known))))
 message_naming k d t v from m outs M right there e (Hears a r of is are) known =
     let z = heard from a r d.intents t.coord in
-    subst (λ x. Walks IsNaming e k outs (Up IsNaming k x) d M) (sym is) (subst (λ es. Walks IsNaming e k es (Up IsNaming k (with_coord t z.part)) d M) (sym are)
-    (heard_naming k d t M right e from m there a r of (subst (λ x. Walks AllKnown e k z.outs (Up AllKnown k x) d M) is (subst (λ es. Walks AllKnown e k es (Up AllKnown k v) d M) are known))))
+    subst (λ x. Walks IsNaming e k outs (Up IsNaming k x) d M) (sym is)
+    (subst (λ es. Walks IsNaming e k es (Up IsNaming k (with_coord t z.part)) d M) (sym are)
+    (heard_naming k d t M right e from m there a r of (subst (λ x. Walks AllKnown e k z.outs (Up AllKnown k x) d M) is
+    (subst (λ es. Walks AllKnown e k es (Up AllKnown k v) d M) are known))))
 message_naming k d t v from m outs M right there e (Acks u is part are) known =
-    acked_naming k d t M right e from u (record { post = record { from = from; to = k; message = m }; posted = there; from = refl; acks = ap acked_in is }) v outs (ap (λ (x : Parts). x.naming) part) (ap (λ (x : Parts). x.coord) part) are known
+    acked_naming k d t M right e from u
+    (record { post = record { from = from; to = k; message = m }; posted = there; from = refl; acks = ap acked_in is }) v outs
+    (ap (λ (x : Parts). x.naming) part) (ap (λ (x : Parts). x.coord) part) are known
 
 -- ---- at first
 
@@ -210,10 +205,12 @@ first_confirms hd = record {
       held = λ u on. absurd (cc on);
       yeses = λ u y. absurd y.1;
       acked = λ u has done asked. absurd (let z = has in z.posted);
-      live = λ t n up_it named. let one : parts_in 1 1 (first_disk hd 1) ≡ t = some_is up_it in subst (λ z. IsNamer (see [] (format hd)) z n) one (fresh n (ap (λ (z : Parts). z.naming) one ∙ named));
+      live = λ t n up_it named. let one : parts_in 1 1 (first_disk hd 1) ≡ t = some_is up_it in
+          subst (λ z. IsNamer (see [] (format hd)) z n) one (fresh n (ap (λ (z : Parts). z.naming) one ∙ named));
     }
       where
-        fresh : (n : Naming) → (let t = parts_in 1 1 (first_disk hd 1) in t.naming) ≡ Some n → IsNamer (see [] (format hd)) (parts_in 1 1 (first_disk hd 1)) n
+        fresh : (n : Naming) → (let t = parts_in 1 1 (first_disk hd 1) in t.naming) ≡ Some n →
+            IsNamer (see [] (format hd)) (parts_in 1 1 (first_disk hd 1)) n
         fresh n named = subst (IsNamer (see [] (format hd)) (parts_in 1 1 (first_disk hd 1))) (some_is named) (record {
           inc = refl;
           confirmed = λ u on. absurd (cc on);
@@ -226,9 +223,13 @@ pub naming_keep : (hd : Header) → Keeps hd IsNaming
 naming_keep hd = record {
   quiet = λ e bs M quiet right. (its.quiet e bs M quiet right.0, quiet_confirms e bs M quiet right.1);
   stop = λ e k d live M right. (its.stop e k d live M right.0, stop_confirms k d live M right.1 e);
-  message = λ e k d t v from m outs M right there meant is. message_naming k d t v from m outs M right there e (names_case k d t from m v outs is) (its.message e k d t v from m outs M right.0 there meant is);
+  message = λ e k d t v from m outs M right there meant is. message_naming k d t v from m outs M right there e
+      (names_case k d t from m v outs is) (its.message e k d t v from m outs M right.0 there meant is);
   act = λ e k d t i M is free right. act_naming k d t M right e hd i is free (its.act e k d t i M is free right.0);
-  begin = λ e k d t l how parent M new may free right. (its.begin e k d t l how parent M new may free right.0, begun_confirms k d t M right.1 e l how parent (let G = given l (record { node = k; serial = is_serial_kind how }) M in G.labels));
+  begin = λ e k d t l how parent M new may free right. (
+    its.begin e k d t l how parent M new may free right.0,
+    begun_confirms k d t M right.1 e l how parent (let G = given l (record { node = k; serial = is_serial_kind how }) M in G.labels),
+  );
   tick = λ e k d t M right. tick_naming k d t M right e (its.tick e k d t M right.0);
   restart = λ e k d M right. restart_naming hd k d M right e (its.restart e k d M right.0);
   first = (its.first, first_confirms hd);

@@ -1,26 +1,18 @@
 -- What holds in every run of tops that naming was asked to confirm, so that naming aborts nothing that it prepared for a decided one.
-use Rattle.std.proofs.Common.{◌≡◌, ◌⊎◌, ◌≤◌, ◌<◌, ◌∙◌, ◌++◌, ◌&&◌, ℕ, List, [], ◌∷◌, Bool, true, false, not, Option, Some, None, refl, sym, ap, subst, inl, inr, ⊎_elim, arith}
-use Rattle.arj_lock.proofs.Members as list
-use Rattle.arj_journal.specs.declared.body.Body.TheVariants as body
-use Rattle.arj_journal.specs.declared.body.Line.{Line}
-use Rattle.arj_journal.specs.declared.body.Role.TheVariants as role
-use Rattle.arj_protocol.specs.Words.{Asked, Head, Uid, asks, is_on}
-use Rattle.arj_protocol.specs.Words.ask
-use Rattle.arj_protocol.specs.Words.confirmed
-use Rattle.arj_protocol.specs.Words.ending
-use Rattle.arj_protocol.specs.Ask.{Reply, actor, answers}
-use Rattle.arj_protocol.specs.Commit.{is_empty}
-use Rattle.arj_protocol.specs.Confirm.{Grants, Marks}
-use Rattle.arj_protocol.specs.Effect.{Intent, is_prepared}
-use Rattle.arj_protocol.specs.Naming.{Naming}
-use Rattle.arj_protocol.specs.Node.{Parts}
-use Rattle.arj_protocol.specs.Step.{Node}
-use Rattle.arj_law_parts.specs.moves.Seen.{In}
-use Rattle.arj_promise.specs.Runs.{Post, Seen}
-use Rattle.arj_law_runs.specs.journal.Book.{book, is_decided}
-use Rattle.arj_law_serial.specs.whole.Aborts.{IsPartAsked}
-use Rattle.arj_law_serial.specs.whole.Acks.{HasAcked, IsDemanded, WasRecorded, record_in, records_in}
+use Rattle.arj_law_parts.proofs.Words
+use Words.{◌≡◌, ◌⊎◌, ◌≤◌, ◌<◌, ◌∙◌, ◌++◌, ◌&&◌, ℕ, List, [], ◌∷◌, Bool, true, false, not, Option, Some, None, refl, sym, ap, subst, inl}
+use Words.{inr, ⊎_elim, arith, Line, Asked, Head, Uid, asks, is_on, Reply, actor, answers, is_empty, Grants, Marks, Intent, is_prepared}
+use Words.{Naming, Parts, Node, Post, Seen}
+use Words.list
+use Words.ask
+use Words.confirmed
+use Words.ending
+use Rattle.arj_law_promise.proofs.Terms
+use Terms.{In, book, is_decided, IsPartAsked, HasAcked, IsDemanded, WasRecorded, records_in}
+use Terms.body
+use Terms.role
 use Rattle.arj_law_promise.proofs.settling.Cores.{IsDone, Recorded, split}
+use Rattle.arj_law_serial.specs.whole.Acks.{record_in}
 
 pub none_not : {A P : Type 0} {x : A} → None ≡ Some x → P
 none_not {A} {P} {x} is = let no_way : ◌≡◌ {A = Option A} None (Some x) = is in absurd (cc no_way)
@@ -61,10 +53,11 @@ SaidConfirmed sent u = (p : Post) × In p sent × (a : Asked) × (answers p.mess
 
 -- in these lines, behind those, naming aborts nothing of a decided top
 abbrev pub AreUndecided : List Line → List Line → Type 0
-AreUndecided first lines = (before : List Line) (line : Line) (behind : List Line) (n : ℕ) (u : Uid) → lines ≡ before ++ line ∷ behind → line.body ≡ body.Done n u role.Names ending.Abort → is_decided (book (first ++ before)) u ≡ true → ⊥
+AreUndecided first lines = (before : List Line) (line : Line) (behind : List Line) (n : ℕ) (u : Uid) → lines ≡ before ++ line ∷ behind →
+    line.body ≡ body.Done n u role.Names ending.Abort → is_decided (book (first ++ before)) u ≡ true → ⊥
 
--- Naming's memory: it has the disk's incarnation; whom it confirmed named grants of no later one; and what it acknowledged of a decided top it
--- was told, or the top's grants are of earlier incarnations.
+-- Naming's memory: it has the disk's incarnation; whom it confirmed named grants of no later one; and what it acknowledged of a decided top
+-- it was told, or the top's grants are of earlier incarnations.
 pub record IsNamer (M : Seen) (t : Parts) (n : Naming) : Type 0 where
   pub inc : n.inc ≡ (let c = t.coord in let z = c.tree in z.inc)
   pub confirmed : (u : Uid) → is_on n.confirmed u ≡ true → IsFixed n.inc M.sent u
@@ -78,7 +71,8 @@ pub record IsNamesNode (M : Seen) (a : Node) : Type 0 where
   pub acked : (u : Uid) → HasAcked M.sent u 1 → IsDone M u → AsksMarked M.sent u → is_prepared u (let d = a.disk in d.names) ≡ false
   pub live : (t : Parts) (n : Naming) → a.live ≡ Some t → t.naming ≡ Some n → IsNamer M t n
 
--- A decided top that asked naming by marks was recorded, and naming confirmed it; naming aborts nothing of a decided top; and so it is of node 1.
+-- A decided top that asked naming by marks was recorded, and naming confirmed it; naming aborts nothing of a decided top; and so it is of
+-- node 1.
 pub record IsConfirming (M : Seen) : Type 0 where
   pub recorded : (u : Uid) → AsksMarked M.sent u → IsDone M u → WasRecorded (records_in M.nodes) M.sent u
   pub said : (u : Uid) → AsksMarked M.sent u → IsDone M u → SaidConfirmed M.sent u
@@ -88,12 +82,23 @@ pub record IsConfirming (M : Seen) : Type 0 where
 -- ---- more that was sent
 
 abbrev asks_on : (sent more : List Post) → ((p : Post) → In p sent → In p more) → (u : Uid) → AsksConfirm sent u → AsksConfirm more u
-asks_on sent more on u c = record { post = c.post; head = c.head; grants = c.grants; excluded = c.excluded; included = c.included; posted = on c.post c.posted; to = c.to; asking = c.asking; by = c.by }
+asks_on sent more on u c = record {
+  post = c.post;
+  head = c.head;
+  grants = c.grants;
+  excluded = c.excluded;
+  included = c.included;
+  posted = on c.post c.posted;
+  to = c.to;
+  asking = c.asking;
+  by = c.by;
+}
 
 pub marked_on : (sent more : List Post) → ((p : Post) → In p sent → In p more) → (u : Uid) → AsksMarked sent u → AsksMarked more u
 marked_on sent more on u c = (asks_on sent more on u c.0, c.1)
 
-pub fixed_on : (inc next : ℕ) (sent more : List Post) → inc ≤ next → ((p : Post) → In p sent → In p more) → (u : Uid) → IsFixed inc sent u → IsFixed next more u
+pub fixed_on : (inc next : ℕ) (sent more : List Post) → inc ≤ next → ((p : Post) → In p sent → In p more) → (u : Uid) → IsFixed inc sent u →
+    IsFixed next more u
 fixed_on inc next sent more up on u c = (asks_on sent more on u c.0, λ g i. let low = c.1 g i in omega (arith, low, up))
 
 pub late_on : (inc : ℕ) (sent more : List Post) → ((p : Post) → In p sent → In p more) → (u : Uid) → IsLate inc sent u → IsLate inc more u
@@ -108,7 +113,16 @@ demanded_on sent more on u a = record { post = a.post; posted = on a.post a.post
 
 -- it was asked for a part
 pub part_of_it : (sent : List Post) (u : Uid) → AsksConfirm sent u → IsPartAsked sent u 1
-part_of_it sent u c = record { post = c.post; head = c.head; ask = ask.Confirm c.grants c.excluded c.included; there = c.posted; to_it = c.to; is = c.asking; part = refl; by = c.by }
+part_of_it sent u c = record {
+  post = c.post;
+  head = c.head;
+  ask = ask.Confirm c.grants c.excluded c.included;
+  there = c.posted;
+  to_it = c.to;
+  is = c.asking;
+  part = refl;
+  by = c.by;
+}
 
 -- the records, by either name
 pub to_records : (M : Seen) (u : Uid) → Recorded M u → (i : Intent) × (records_in M.nodes u ≡ Some i)
@@ -128,7 +142,8 @@ pub record IsFurther (M N : Seen) : Type 0 where
   pub more : List Line
   pub lines : N.lines ≡ M.lines ++ more
   pub sent : (p : Post) → In p M.sent → In p N.sent
-  pub done : (u : Uid) → IsDone N u → IsDone M u ⊎ (AsksMarked M.sent u → WasRecorded (records_in N.nodes) N.sent u × SaidConfirmed N.sent u)
+  pub done : (u : Uid) → IsDone N u →
+      IsDone M u ⊎ (AsksMarked M.sent u → WasRecorded (records_in N.nodes) N.sent u × SaidConfirmed N.sent u)
   pub asked : (u : Uid) → AsksMarked N.sent u → AsksMarked M.sent u ⊎ (IsDone N u → ⊥)
   pub recorded : (u : Uid) → Recorded M u → WasRecorded (records_in N.nodes) N.sent u
   pub clean : AreUndecided M.lines more
@@ -136,8 +151,10 @@ pub record IsFurther (M N : Seen) : Type 0 where
 
 pub further : (M N : Seen) → IsConfirming M → IsFurther M N → IsConfirming N
 further M N h f = record {
-  recorded = λ u asked done. ⊎_elim (λ old. ⊎_elim (λ was. stays u (h.recorded u old was)) (λ new. (new old).0) (f.done u done)) (λ new. absurd (new done)) (f.asked u asked);
-  said = λ u asked done. ⊎_elim (λ old. ⊎_elim (λ was. let s = h.said u old was in (s.0, f.sent s.0 s.1, s.2, s.3, s.4)) (λ new. (new old).1) (f.done u done)) (λ new. absurd (new done)) (f.asked u asked);
+  recorded = λ u asked done. ⊎_elim (λ old. ⊎_elim (λ was. stays u (h.recorded u old was)) (λ new. (new old).0) (f.done u done))
+      (λ new. absurd (new done)) (f.asked u asked);
+  said = λ u asked done. ⊎_elim (λ old. ⊎_elim (λ was. let s = h.said u old was in
+      (s.0, f.sent s.0 s.1, s.2, s.3, s.4)) (λ new. (new old).1) (f.done u done)) (λ new. absurd (new done)) (f.asked u asked);
   lines = λ before line behind n u is says decided. ⊎_elim
       (λ front. h.lines before line front.0 n u front.1 says decided)
       (λ s. f.clean s.0 line behind n u s.2 says (subst (λ ls. is_decided (book ls) u ≡ true) s.1 decided))
@@ -163,9 +180,11 @@ same_memory n = record { inc = refl; told = λ u on. on; confirmed = λ u on. on
 -- so it is of naming, where it is there
 abbrev pub Remembers : Option Parts → Option Parts → Type 0
 Remembers before after = (t : Parts) (n : Naming) → after ≡ Some t → t.naming ≡ Some n
-    → (s : Parts) × (m : Naming) × (before ≡ Some s) × (s.naming ≡ Some m) × IsSameMemory m n × ((let c = t.coord in let z = c.tree in z.inc) ≡ (let c = s.coord in let z = c.tree in z.inc))
+    → (s : Parts) × (m : Naming) × (before ≡ Some s) × (s.naming ≡ Some m) × IsSameMemory m n
+    × ((let c = t.coord in let z = c.tree in z.inc) ≡ (let c = s.coord in let z = c.tree in z.inc))
 
-module _ (M N : Seen) (a b : Node) (h : IsNamesNode M a) (inc : (let d = a.disk in d.inc) ≤ (let d = b.disk in d.inc)) (names : (u : Uid) → is_prepared u (let d = b.disk in d.names) ≡ true → is_prepared u (let d = a.disk in d.names) ≡ true)
+module _ (M N : Seen) (a b : Node) (h : IsNamesNode M a) (inc : (let d = a.disk in d.inc) ≤ (let d = b.disk in d.inc)) (names : (u : Uid) →
+    is_prepared u (let d = b.disk in d.names) ≡ true → is_prepared u (let d = a.disk in d.names) ≡ true)
     (sent : (p : Post) → In p M.sent → In p N.sent)
     (acked : (u : Uid) → HasAcked N.sent u 1 → IsDone N u → AsksMarked N.sent u → HasAcked M.sent u 1 × IsDone M u × AsksMarked M.sent u)
     (yes_said : (u : Uid) → SaidConfirmed N.sent u → SaidConfirmed M.sent u) where
@@ -173,9 +192,11 @@ module _ (M N : Seen) (a b : Node) (h : IsNamesNode M a) (inc : (let d = a.disk 
   module _ (live : (t : Parts) (n : Naming) → b.live ≡ Some t → t.naming ≡ Some n → IsNamer N t n) where
     pub with_memory : IsNamesNode N b
     with_memory = record {
-      held = λ u on. let p = h.held u (names u on) in (fixed_on (let d = a.disk in d.inc) (let d = b.disk in d.inc) M.sent N.sent inc sent u p.0, marked_on M.sent N.sent sent u p.1);
+      held = λ u on. let p = h.held u (names u on) in
+          (fixed_on (let d = a.disk in d.inc) (let d = b.disk in d.inc) M.sent N.sent inc sent u p.0, marked_on M.sent N.sent sent u p.1);
       yeses = λ u y. fixed_on (let d = a.disk in d.inc) (let d = b.disk in d.inc) M.sent N.sent inc sent u (h.yeses u (yes_said u y));
-      acked = λ u has done asked. let o = acked u has done asked in off (is_prepared u (let d = b.disk in d.names)) (is_prepared u (let d = a.disk in d.names)) (names u) (h.acked u o.0 o.1 o.2);
+      acked = λ u has done asked. let o = acked u has done asked in
+          off (is_prepared u (let d = b.disk in d.names)) (is_prepared u (let d = a.disk in d.names)) (names u) (h.acked u o.0 o.1 o.2);
       live = live;
     }
       where
@@ -194,6 +215,8 @@ module _ (M N : Seen) (a b : Node) (h : IsNamesNode M a) (inc : (let d = a.disk 
           let same : n.inc ≡ (let z = r.1 in z.inc) = m.inc in
           record {
             inc = same ∙ o.inc ∙ sym r.5;
-            confirmed = λ u on. subst (λ i. IsFixed i N.sent u) (sym same) (fixed_on (let z = r.1 in z.inc) (let z = r.1 in z.inc) M.sent N.sent (omega arith) sent u (o.confirmed u (m.confirmed u on)));
-            acked = λ u has done asked. let q = acked u has done asked in ⊎_elim (λ told. inl (m.told u told)) (λ late. inr (subst (λ i. IsLate i N.sent u) (sym same) (late_on (let z = r.1 in z.inc) M.sent N.sent sent u late))) (o.acked u q.0 q.1 q.2);
+            confirmed = λ u on. subst (λ i. IsFixed i N.sent u) (sym same) (fixed_on (let z = r.1 in z.inc) (let z = r.1 in
+                z.inc) M.sent N.sent (omega arith) sent u (o.confirmed u (m.confirmed u on)));
+            acked = λ u has done asked. let q = acked u has done asked in ⊎_elim (λ told. inl (m.told u told)) (λ late. inr (subst
+                (λ i. IsLate i N.sent u) (sym same) (late_on (let z = r.1 in z.inc) M.sent N.sent sent u late))) (o.acked u q.0 q.1 q.2);
           }

@@ -1,29 +1,16 @@
 -- What holds in every run of tops that stores have prepared something for, so that each abort of a decided one has a cause.
-use Rattle.std.proofs.Common.{◌≡◌, ◌⊎◌, ◌∙◌, ◌++◌, ℕ, List, [], ◌∷◌, true, Some, refl, sym, ap, subst, inl, inr, ⊎_elim}
-use Rattle.std.specs.Prelude.{⊤, Contains}
-use Rattle.arj_base.specs.Rows.{is_on}
-use Rattle.arj_journal.specs.declared.body.Body.TheVariants as body
-use Rattle.arj_journal.specs.declared.body.Line.{Line}
-use Rattle.arj_journal.specs.declared.body.Role.TheVariants as role
-use Rattle.arj_protocol.specs.Words.{End, Uid}
-use Rattle.arj_protocol.specs.Words.ending
-use Rattle.arj_protocol.specs.Words.message
-use Rattle.arj_protocol.specs.Ask.{last_end}
-use Rattle.arj_protocol.specs.Commit.{Confirming, Machine, Preparing, Voting}
-use Rattle.arj_protocol.specs.Effect.{Intent, is_prepared}
-use Rattle.arj_protocol.specs.Node.{Parts}
-use Rattle.arj_protocol.specs.Order.{at_uid, has}
-use Rattle.arj_protocol.specs.Step.{Node}
-use Rattle.arj_law_parts.specs.parts.Coords.{IsCommitting}
-use Rattle.arj_law_parts.specs.parts.Ends.{told_by}
-use Rattle.arj_law_parts.specs.moves.Seen.{In}
-use Rattle.arj_promise.specs.Runs.{Post, Seen}
-use Rattle.arj_law_disk_view.specs.view.Sees.{is_awaited_by}
-use Rattle.arj_law_runs.specs.journal.Book.{book, is_decided}
-use Rattle.arj_law_lock_view.proofs.facts.CommitCoords.{AreAt}
-use Rattle.arj_model.specs.Outcome.{was_excluded}
-use Rattle.arj_law_promise.proofs.settling.Causes.{HasCause, cause_more, excluded_more}
-use Rattle.arj_law_promise.proofs.settling.Yeses.{AskedFrom, IsMarked, SaidYes, Votes}
+use Rattle.arj_law_parts.proofs.Words
+use Words.{◌≡◌, ◌⊎◌, ◌∙◌, ◌++◌, ℕ, List, [], ◌∷◌, true, Some, refl, sym, ap, subst, inl, inr, ⊎_elim, ⊤, Contains, is_on, Line, End, Uid}
+use Words.{last_end, Confirming, Machine, Preparing, Voting, Intent, is_prepared, Parts, at_uid, has, Node, Post, Seen}
+use Words.ending
+use Words.message
+use Rattle.arj_law_promise.proofs.Terms
+use Terms.{IsCommitting, told_by, In, is_awaited_by, book, is_decided, AreAt, was_excluded}
+use Terms.body
+use Terms.role
+use Rattle.arj_law_promise.proofs.settling
+use settling.Causes.{HasCause, cause_more, excluded_more}
+use settling.Yeses.{AskedFrom, IsMarked, SaidYes, Votes}
 
 -- ---- what stands of a top at a store
 
@@ -41,7 +28,8 @@ IsDone M u = (is_decided (book M.lines) u ≡ true) ⊎ Recorded M u
 
 -- the record lists the node
 abbrev pub Lists : Seen → Uid → ℕ → Type 0
-Lists M u n = (a : Node) × (i : Intent) × (M.nodes u.node ≡ Some a) × (at_uid u (let d = a.disk in d.intents) ≡ Some i) × (has i.nodes n ≡ true)
+Lists M u n =
+    (a : Node) × (i : Intent) × (M.nodes u.node ≡ Some a) × (at_uid u (let d = a.disk in d.intents) ≡ Some i) × (has i.nodes n ≡ true)
 
 -- the node's store has something prepared for it
 abbrev pub IsHeld : Seen → ℕ → Uid → Type 0
@@ -65,7 +53,8 @@ WasTold sent u = (p : Post) × In p sent × (e : End) × Contains (told_by p.mes
 
 -- a store's abort in these lines has a cause, behind those
 abbrev pub AreCaused : List Line → List Line → Type 0
-AreCaused first lines = (before : List Line) (line : Line) (behind : List Line) (n : ℕ) (u : Uid) → lines ≡ before ++ line ∷ behind → line.body ≡ body.Done n u role.Store ending.Abort → is_decided (book (first ++ before)) u ≡ true → HasCause (first ++ before) n u
+AreCaused first lines = (before : List Line) (line : Line) (behind : List Line) (n : ℕ) (u : Uid) → lines ≡ before ++ line ∷ behind →
+    line.body ≡ body.Done n u role.Store ending.Abort → is_decided (book (first ++ before)) u ≡ true → HasCause (first ++ before) n u
 
 -- no store is marked while the servers vote; and marked stores of a commit that naming is asked to confirm have their lines
 abbrev pub HasMarks : List Line → Uid → Machine → Type 0
@@ -78,13 +67,14 @@ marks_on lines more u (Voting p left) has = has
 marks_on lines more u (Preparing p left) has = tt
 marks_on lines more u (Confirming p) has = λ n marked. excluded_more lines more n u (has n marked)
 
--- a coordinator: marked stores of a commit that naming is asked to confirm have their lines; who is at its commit and was answered Yes has something
--- prepared there; of each commit what it has heard; and each node of a record is awaited or has acknowledged
+-- a coordinator: marked stores of a commit that naming is asked to confirm have their lines; who is at its commit and was answered Yes has
+-- something prepared there; of each commit what it has heard; and each node of a record is awaited or has acknowledged
 pub record IsWatched (M : Seen) (k : ℕ) (a : Node) (t : Parts) : Type 0 where
   pub marked : AreAt (HasMarks M.lines) t.coord
   pub held : (u : Uid) (n : ℕ) → u.node ≡ k → IsCommitting u t.coord → SaidYes M.sent n u → IsHeld M n u
   pub votes : AreAt (Votes k M.sent) t.coord
-  pub telling : (u : Uid) (i : Intent) (n : ℕ) → at_uid u (let d = a.disk in d.intents) ≡ Some i → has i.nodes n ≡ true → (is_awaited_by n (at_uid u t.coord.telling) ≡ true) ⊎ IsAcked M.sent n u
+  pub telling : (u : Uid) (i : Intent) (n : ℕ) → at_uid u (let d = a.disk in d.intents) ≡ Some i → has i.nodes n ≡ true →
+      (is_awaited_by n (at_uid u t.coord.telling) ≡ true) ⊎ IsAcked M.sent n u
 
 pub record IsCore (M : Seen) : Type 0 where
   pub done : (u : Uid) (n : ℕ) → IsDone M u → IsAsked M u n → IsSafe M u n
@@ -108,7 +98,8 @@ pub record Onward (M N : Seen) : Type 0 where
   pub done : (u : Uid) (n : ℕ) → IsDone N u → IsAsked M u n → IsDone M u ⊎ (IsSafe N u n × (IsAcked M.sent n u → ⊥))
   pub safe : (u : Uid) (n : ℕ) → IsDone M u → IsAsked M u n → IsSafe M u n → IsSafe N u n
   pub asked : (u : Uid) (n : ℕ) → IsAsked N u n → IsAsked M u n ⊎ ((IsDone N u → ⊥) × (is_on (let B = book N.lines in B.called) u ≡ true))
-  pub acked : (u : Uid) (n : ℕ) → IsAcked N.sent n u → IsAcked M.sent n u ⊎ ((IsDone N u → IsAsked N u n → HasCause N.lines n u) × WasTold N.sent u)
+  pub acked : (u : Uid) (n : ℕ) → IsAcked N.sent n u →
+      IsAcked M.sent n u ⊎ ((IsDone N u → IsAsked N u n → HasCause N.lines n u) × WasTold N.sent u)
   pub tells : (u : Uid) (n : ℕ) → TellsAbort N.sent u n → IsAsked M u n → Lists N u n → TellsAbort M.sent u n × Lists M u n
   pub held : (u : Uid) (n : ℕ) → IsHeld N n u → IsHeld M n u ⊎ IsAsked M u n
   pub yeses : (u : Uid) (n : ℕ) → SaidYes N.sent n u → SaidYes M.sent n u ⊎ IsAsked M u n
@@ -122,7 +113,8 @@ listed : (M : Seen) (u : Uid) (n : ℕ) → Lists M u n → IsDone M u
 listed M u n l = inr (l.0, l.1, l.2, l.3)
 
 -- a line stands in the first lines, or in those behind them
-pub split : (xs ys before : List Line) (line : Line) (behind : List Line) → xs ++ ys ≡ before ++ line ∷ behind → ((rest : List Line) × (xs ≡ before ++ line ∷ rest)) ⊎ ((rest : List Line) × (before ≡ xs ++ rest) × (ys ≡ rest ++ line ∷ behind))
+pub split : (xs ys before : List Line) (line : Line) (behind : List Line) → xs ++ ys ≡ before ++ line ∷ behind →
+    ((rest : List Line) × (xs ≡ before ++ line ∷ rest)) ⊎ ((rest : List Line) × (before ≡ xs ++ rest) × (ys ≡ rest ++ line ∷ behind))
 split [] ys before line behind is = inr (before, refl, is)
 split (x ∷ xs) ys [] line behind is = let one : x ≡ line = cc is in inl (xs, ap (λ z. z ∷ xs) one)
 split (x ∷ xs) ys (b ∷ before) line behind is =
@@ -132,20 +124,24 @@ split (x ∷ xs) ys (b ∷ before) line behind is =
 
 pub core_on : (M N : Seen) → IsCore M → Onward M N → IsCore N
 core_on M N c o = record {
-  done = λ u n done asked. ⊎_elim (λ old. ⊎_elim (λ was. o.safe u n was old (c.done u n was old)) (λ now. now.0) (o.done u n done old)) (λ new. absurd (new.0 done)) (o.asked u n asked);
+  done = λ u n done asked. ⊎_elim (λ old. ⊎_elim (λ was. o.safe u n was old (c.done u n was old)) (λ now. now.0) (o.done u n done old))
+      (λ new. absurd (new.0 done)) (o.asked u n asked);
   acked = λ u n acked done asked. ⊎_elim
       (λ old. ⊎_elim
-      (λ first. ⊎_elim (λ was. subst (λ ls. HasCause ls n u) (sym o.lines) (cause_more M.lines o.more n u (c.acked u n old was first))) (λ now. absurd (now.1 old)) (o.done u n done first))
+      (λ first. ⊎_elim (λ was. subst (λ ls. HasCause ls n u) (sym o.lines) (cause_more M.lines o.more n u (c.acked u n old was first)))
+      (λ now. absurd (now.1 old)) (o.done u n done first))
       (λ new. absurd (new.0 done)) (o.asked u n asked))
       (λ new. new.0 done asked) (o.acked u n acked);
-  told = λ u n tells asked lists. ⊎_elim (λ old. let t = o.tells u n tells old lists in c.told u n t.0 old t.1) (λ new. new.0 (listed N u n lists)) (o.asked u n asked);
+  told = λ u n tells asked lists. ⊎_elim (λ old. let t = o.tells u n tells old lists in
+      c.told u n t.0 old t.1) (λ new. new.0 (listed N u n lists)) (o.asked u n asked);
   held = λ u n held. asked_on M N o.sent u n (⊎_elim (λ old. c.held u n old) (λ new. new) (o.held u n held));
   yeses = λ u n yes_said. asked_on M N o.sent u n (⊎_elim (λ old. c.yeses u n old) (λ new. new) (o.yeses u n yes_said));
   ends = λ u n acked. ⊎_elim (λ old. let w = c.ends u n old in (w.0, o.sent w.0 w.1, w.2, w.3)) (λ new. new.1) (o.acked u n acked);
   called = λ u n asked. ⊎_elim (λ old. o.called u (c.called u n old)) (λ new. new.1) (o.asked u n asked);
   lines = λ before line behind n u is says decided. ⊎_elim
       (λ f. c.lines before line f.0 n u f.1 says decided)
-      (λ s. subst (λ ls. HasCause ls n u) (sym s.1) (o.clean s.0 line behind n u s.2 says (subst (λ ls. is_decided (book ls) u ≡ true) s.1 decided)))
+      (λ s. subst (λ ls. HasCause ls n u) (sym s.1)
+      (o.clean s.0 line behind n u s.2 says (subst (λ ls. is_decided (book ls) u ≡ true) s.1 decided)))
       (split M.lines o.more before line behind (sym o.lines ∙ is));
   coords = o.coords;
 }

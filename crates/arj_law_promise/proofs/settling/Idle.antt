@@ -1,31 +1,20 @@
 -- A quiesce, and the stated round, leave every node idle: in every run.
-use Rattle.std.proofs.Common.{◌≡◌, true, ◌∙◌, ◌++◌, ℕ, zero, suc, Bool, false, cond, List, [], ◌∷◌, Some, refl, sym, ap, subst}
-use Rattle.arj_protocol.specs.Words.{Body, Header, Line}
-use Rattle.arj_protocol.specs.Words.body
-use Rattle.arj_protocol.specs.Words.event
+use Rattle.arj_law_parts.proofs.Words
+use Words.{◌≡◌, true, ◌∙◌, ◌++◌, ℕ, zero, suc, Bool, false, cond, List, [], ◌∷◌, Some, refl, sym, ap, subst, Body, Header, Line, Node}
+use Words.{first_reason, is_idle, World, counted, is_quiet, limited, node_numbers, numbered, quiesce, quiet_line, reasons, run_event}
+use Words.{run_unless, settle, tick_all, Move, all_moved, moved, world_by, Seen, AreQuiet, EndsQuiet, ◌&&◌, nat_le, slice_get, list_all}
+use Words.{and_parts}
+use Words.body
+use Words.event
+use Rattle.arj_law_promise.proofs.Terms
+use Terms.{IsGood, Holds, KeepsAsked, move_asked, moves_asked, AreAddressed, IsNode, kept, SettlesAll, over_before, asked_both, keeps_good}
+use Terms.{KnowsPrepared}
+use Rattle.arj_law_parts.proofs.moves.Moving.{moves_go_on}
+use Rattle.arj_law_promise.proofs.settling.{Settled.handlers_settle, Waiting.AllKnown, Waiting.all_answer, Waiting.all_kept}
+use Rattle.arj_law_promise.specs.settling.Settled.{QuiescesIdle, RoundsIdle}
+use Rattle.arj_law_runs.proofs.resting.{Fits.runs_few, GiveUps.over_front, GiveUps.round_settles, Quiets.move_settles}
+use Rattle.arj_protocol.specs.World.{Asked, says}
 use Rattle.arj_protocol.specs.Words.which
-use Rattle.arj_protocol.specs.Step.{Node, first_reason, is_idle}
-use Rattle.arj_protocol.specs.World.{Asked, World, counted, is_quiet, limited, node_numbers, numbered, quiesce, quiet_line, reasons, run_event, run_unless, says, settle, tick_all}
-use Rattle.arj_law_runs.specs.kept.Worlds.{IsGood}
-use Rattle.arj_law_parts.specs.moves.Keeps.{Holds, KeepsAsked}
-use Rattle.arj_promise.specs.Runs.{Move, all_moved, moved, world_by}
-use Rattle.arj_promise.specs.Runs.{Seen}
-use Rattle.arj_law_parts.proofs.moves.Moving.{move_asked, moves_asked, moves_go_on}
-use Rattle.arj_law_runs.specs.addresses.Addresses.{AreAddressed, IsNode}
-use Rattle.arj_law_runs.proofs.addresses.Runs.{kept}
-use Rattle.arj_law_runs.specs.resting.Quiet.{SettlesAll}
-use Rattle.arj_promise.specs.Resting.{AreQuiet}
-use Rattle.arj_law_runs.proofs.resting.Fits.{runs_few}
-use Rattle.arj_law_runs.proofs.resting.GiveUps.{over_before, over_front, round_settles}
-use Rattle.arj_law_runs.proofs.resting.Quiesces.{asked_both, keeps_good}
-use Rattle.arj_law_runs.proofs.resting.Quiets.{move_settles}
-use Rattle.arj_law_promise.specs.settling.Settled.{KnowsPrepared, QuiescesIdle, RoundsIdle}
-use Rattle.arj_promise.specs.Resting.{EndsQuiet}
-use Rattle.arj_law_promise.proofs.settling.Settled.{handlers_settle}
-use Rattle.arj_law_promise.proofs.settling.Waiting.{AllKnown, all_answer, all_kept}
-use Rattle.std.specs.Prelude.{◌&&◌, nat_le, slice_get}
-use Rattle.std.specs.List.{list_all}
-use Rattle.std.proofs.lemmas.Bool.{and_parts}
 
 -- what holds where more is known
 settles_less : (hd : Header) (P Q : Seen → Type 0) → ((M : Seen) → Q M → P M) → SettlesAll hd P → SettlesAll hd Q
@@ -47,15 +36,20 @@ Said v = (before : List Line) × (v.lines ≡ before ++ numbered v.event (body.Q
 line_said : (s : World) → (limited (quiet_line s)).over ≡ false → Said (limited (quiet_line s))
 line_said s = by s.full refl
   where
-    by : (b : Bool) → s.full ≡ b → (limited (cond b s (says (body.Quiet (is_quiet s) ∷ []) s))).over ≡ false → Said (limited (cond b s (says (body.Quiet (is_quiet s) ∷ []) s)))
-    by true full over = let no_way : true ≡ false = (λ i. (cond (sym full i) (says (body.Limit which.Frames ∷ []) (record s { over = true })) s).over) ∙ over in absurd (cc no_way)
-    by false full over = subst Said (λ i. cond (sym full i) (says (body.Limit which.Frames ∷ []) (record (says (body.Quiet (is_quiet s) ∷ []) s) { over = true })) (says (body.Quiet (is_quiet s) ∷ []) s)) (s.lines, refl)
+    by : (b : Bool) → s.full ≡ b → (limited (cond b s (says (body.Quiet (is_quiet s) ∷ []) s))).over ≡ false →
+        Said (limited (cond b s (says (body.Quiet (is_quiet s) ∷ []) s)))
+    by true full over = let no_way : true ≡ false =
+        (λ i. (cond (sym full i) (says (body.Limit which.Frames ∷ []) (record s { over = true })) s).over) ∙ over in absurd (cc no_way)
+    by false full over = subst Said (λ i. cond (sym full i) (says (body.Limit which.Frames ∷ [])
+        (record (says (body.Quiet (is_quiet s) ∷ []) s) { over = true })) (says (body.Quiet (is_quiet s) ∷ []) s)) (s.lines, refl)
 
 pub quiesce_said : (e : Asked) (w : World) → e.event ≡ event.Quiesce → w.over ≡ false → (run_event e w).over ≡ false → Said (run_event e w)
-quiesce_said e w is over last = subst Said (sym run_is) (line_said (settle (tick_all (node_numbers (counted w)) (settle (counted w)))) (ap (λ (v : World). v.over) (sym run_is) ∙ last))
+quiesce_said e w is over last = subst Said (sym run_is)
+    (line_said (settle (tick_all (node_numbers (counted w)) (settle (counted w)))) (ap (λ (v : World). v.over) (sym run_is) ∙ last))
   where
     run_is : run_event e w ≡ limited (quiesce (counted w))
-    run_is = (λ i. cond (over i) w (run_unless e.event e.arm w (first_reason (reasons e.event w)))) ∙ (λ i. run_unless (is i) e.arm w (first_reason (reasons (is i) w)))
+    run_is = (λ i. cond (over i) w (run_unless e.event e.arm w (first_reason (reasons e.event w))))
+        ∙ (λ i. run_unless (is i) e.arm w (first_reason (reasons (is i) w)))
 
 -- each node of the world is one of the header
 all_idle : (ns : List Node) → ((k : ℕ) (a : Node) → slice_get ns k ≡ Some a → is_idle a ≡ true) → list_all is_idle ns ≡ true
@@ -73,11 +67,13 @@ world_idle hd w h idle = all_idle w.nodes each
         let at_k : a.number ≡ suc k = h.stands.numbers (suc k) a is in
         idle (suc k) a ((λ i. nat_le 1 (sym at_k i) && nat_le (sym at_k i) (let x = h.stands.header i in x.nodes)) ∙ node) is
 
-ends_quiet : (hd : Header) (m : Move) (w : World) → Holds hd (AreAddressed hd) (moved m w) → m.asked.event ≡ event.Quiesce → w.over ≡ false → (moved m w).over ≡ false → AreQuiet (moved m w) → EndsQuiet (moved m w)
+ends_quiet : (hd : Header) (m : Move) (w : World) → Holds hd (AreAddressed hd) (moved m w) → m.asked.event ≡ event.Quiesce →
+    w.over ≡ false → (moved m w).over ≡ false → AreQuiet (moved m w) → EndsQuiet (moved m w)
 ends_quiet hd m w h is over last idle = record {
   idle = idle;
   quiet = quiet;
-  line = let s = quiesce_said m.asked (record w { arms = m.falls }) is over last in (s.0, s.1 ∙ (λ i. s.0 ++ numbered (let v = moved m w in v.event) (body.Quiet (quiet i) ∷ [])));
+  line = let s = quiesce_said m.asked (record w { arms = m.falls }) is over last in
+      (s.0, s.1 ∙ (λ i. s.0 ++ numbered (let v = moved m w in v.event) (body.Quiet (quiet i) ∷ [])));
 }
   where
     quiet : is_quiet (moved m w) ≡ true
@@ -99,12 +95,14 @@ abbrev tells : Body → Bool
 tells (body.Quiet b) = b
 tells b = true
 
-same_quiet : (e n : ℕ) (b c : Bool) → ◌≡◌ {A = Line} (record { event = e; body = body.Quiet b }) (record { event = n; body = body.Quiet c }) → b ≡ c
+same_quiet : (e n : ℕ) (b c : Bool) →
+    ◌≡◌ {A = Line} (record { event = e; body = body.Quiet b }) (record { event = n; body = body.Quiet c }) → b ≡ c
 same_quiet e n b c is = ap (λ (l : Line). tells l.body) is
 
 each_idle : (ns : List Node) → list_all is_idle ns ≡ true → (k : ℕ) (a : Node) → slice_get ns k ≡ Some a → is_idle a ≡ true
 each_idle [] all k a is = absurd (cc is)
-each_idle (n ∷ ns) all zero a is = let same : n ≡ a = cc is in (λ i. is_idle (sym same i)) ∙ (and_parts (is_idle n) (list_all is_idle ns) all).0
+each_idle (n ∷ ns) all zero a is = let same : n ≡ a = cc is in
+    (λ i. is_idle (sym same i)) ∙ (and_parts (is_idle n) (list_all is_idle ns) all).0
 each_idle (n ∷ ns) all (suc k) a is = each_idle ns (and_parts (is_idle n) (list_all is_idle ns) all).1 k a is
 
 -- where the line of a quiesce says so, every node is idle
@@ -120,7 +118,9 @@ line_tells m w is over last front n line = record {
     s = quiesce_said m.asked (record w { arms = m.falls }) is over last
 
     quiet : is_quiet (moved m w) ≡ true
-    quiet = same_quiet (let v = moved m w in v.event) n (is_quiet (moved m w)) true (last_is s.0 front (record { event = (let v = moved m w in v.event); body = body.Quiet (is_quiet (moved m w)) }) (record { event = n; body = body.Quiet true }) (sym s.1 ∙ line))
+    quiet = same_quiet (let v = moved m w in v.event) n (is_quiet (moved m w)) true
+        (last_is s.0 front (record { event = (let v = moved m w in v.event); body = body.Quiet (is_quiet (moved m w)) })
+        (record { event = n; body = body.Quiet true }) (sym s.1 ∙ line))
 
     idle : AreQuiet (moved m w)
     idle zero a node there = absurd (cc there)
@@ -129,9 +129,11 @@ line_tells m w is over last front n line = record {
 -- ---- in every run
 
 pub quiesces_idle : QuiescesIdle
-quiesces_idle hd form ms m none nobody is last ups = ends_quiet hd m (world_by hd ms) (move_asked hd (AreAddressed hd) (kept hd form) m (world_by hd ms) (moves_asked hd (AreAddressed hd) (kept hd form) ms)) is over last
+quiesces_idle hd form ms m none nobody is last ups = ends_quiet hd m (world_by hd ms)
+    (move_asked hd (AreAddressed hd) (kept hd form) m (world_by hd ms) (moves_asked hd (AreAddressed hd) (kept hd form) ms)) is over last
     (move_settles hd (KnowsPrepared hd) s.0 (settles_less hd (KnowsPrepared hd) (λ M. KnowsPrepared hd M × IsGood M) (λ M q. q.0) s.1)
-    m (world_by hd ms) (moves_asked hd (λ M. KnowsPrepared hd M × IsGood M) (keeps_good hd (KnowsPrepared hd) s.0) ms) (runs_few hd ms) none nobody is over last ups)
+    m (world_by hd ms) (moves_asked hd (λ M. KnowsPrepared hd M × IsGood M) (keeps_good hd (KnowsPrepared hd) s.0) ms) (runs_few hd ms)
+    none nobody is over last ups)
   where
     over : (world_by hd ms).over ≡ false
     over = over_before m (world_by hd ms) last
@@ -140,10 +142,12 @@ quiesces_idle hd form ms m none nobody is last ups = ends_quiet hd m (world_by h
     s = handlers_settle hd form
 
 pub rounds_idle : RoundsIdle
-rounds_idle hd form ms gs m n is all last ups nobody over_n ups_n = ends_quiet hd n (all_moved gs (moved m (world_by hd ms))) addressed last over_w over_n
+rounds_idle hd form ms gs m n is all last ups nobody over_n ups_n =
+    ends_quiet hd n (all_moved gs (moved m (world_by hd ms))) addressed last over_w over_n
     (round_settles hd (λ M. KnowsPrepared hd M × AllKnown hd M) (asked_both hd (KnowsPrepared hd) (AllKnown hd) s.0 (all_kept hd form))
     (all_answer hd form (λ M. (KnowsPrepared hd M × AllKnown hd M) × IsGood M) (λ M q. q.0.1))
-    (settles_less hd (KnowsPrepared hd) (λ M. (KnowsPrepared hd M × AllKnown hd M) × IsGood M) (λ M q. q.0.0) s.1) ms gs m n is all last over went ups over_w nobody over_n ups_n)
+    (settles_less hd (KnowsPrepared hd) (λ M. (KnowsPrepared hd M × AllKnown hd M) × IsGood M) (λ M q. q.0.0) s.1) ms gs m n is all last
+    over went ups over_w nobody over_n ups_n)
   where
     over_w : (all_moved gs (moved m (world_by hd ms))).over ≡ false
     over_w = over_before n (all_moved gs (moved m (world_by hd ms))) over_n
@@ -158,7 +162,8 @@ rounds_idle hd form ms gs m n is all last ups nobody over_n ups_n = ends_quiet h
     keeps = kept hd form
 
     addressed : Holds hd (AreAddressed hd) (moved n (all_moved gs (moved m (world_by hd ms))))
-    addressed = move_asked hd (AreAddressed hd) keeps n (all_moved gs (moved m (world_by hd ms))) (moves_go_on hd (AreAddressed hd) keeps gs (moved m (world_by hd ms)) (move_asked hd (AreAddressed hd) keeps m (world_by hd ms) (moves_asked hd (AreAddressed hd) keeps ms)))
+    addressed = move_asked hd (AreAddressed hd) keeps n (all_moved gs (moved m (world_by hd ms))) (moves_go_on hd (AreAddressed hd) keeps gs
+        (moved m (world_by hd ms)) (move_asked hd (AreAddressed hd) keeps m (world_by hd ms) (moves_asked hd (AreAddressed hd) keeps ms)))
 
     s : KeepsAsked hd (KnowsPrepared hd) × SettlesAll hd (KnowsPrepared hd)
     s = handlers_settle hd form

@@ -1,38 +1,32 @@
 -- What a commit under way has heard of the stores that it includes, and what it asked them to prepare: each said Yes, or is marked for the
 -- object, or hasn't answered; and each was asked to prepare a state of the object.
-use Rattle.std.proofs.Common.{arith, ◌≡◌, ◌⊎◌, ◌∙◌, ◌==◌, ◌&&◌, ◌||◌, ◌++◌, ℕ, List, [], ◌∷◌, Bool, true, false, cond, flat_map, map, Option, Some, None, refl, sym, ap, subst, inl, inr, ⊎_elim, eqb-true}
-use Rattle.std.specs.Prelude.{IfSome, is_some}
-use Rattle.std.specs.List.{AllByRecursion, cons_option, filter_map, list_any}
-use Rattle.std.proofs.lemmas.Bool.{or_cases}
-use Rattle.arj_base.proofs.Uids.{uid_is}
-use Rattle.arj_lock.proofs.Members.{In as Among, in_find}
-use Rattle.arj_protocol.specs.Words.{Head, ObjectState, Path, Uid, asks, object, uid_eq}
-use Rattle.arj_protocol.specs.Words.ask
-use Rattle.arj_protocol.specs.Words.confirmed
-use Rattle.arj_protocol.specs.Words.prepared
-use Rattle.arj_protocol.specs.Words.voted
-use Rattle.arj_protocol.specs.Ask.{Reply, actor}
-use Rattle.arj_protocol.specs.Commit as commit
-use Rattle.arj_protocol.specs.Commit.{CommitStep, Confirming, Machine, Plan, Preparing, Used, Voting, begin_confirm, begin_prepare, begin_vote, changed_of, is_marked, marks_at, marks_store, marks_stores, plan_of, servers_of, state_by, state_for, states_for, stores_by, targets_of, with_marks, with_mark}
-use Rattle.arj_protocol.specs.Confirm.{Grants, Marks}
-use Rattle.arj_protocol.specs.Coord.{Coord, Root, plan_for}
-use Rattle.arj_protocol.specs.Order.{has, with_number, without_number}
-use Rattle.arj_law_parts.specs.moves.Seen.{In}
-use Rattle.arj_promise.specs.Runs.{Post}
-use Rattle.arj_law_disk_view.specs.running.States.{OwnOf, Fits, PlanIsSo}
-use Rattle.arj_law_disk_view.proofs.view.Planned.{has_set, has_with}
-use Rattle.arj_law_lock_view.proofs.facts.CommitCoords.{IsNext}
+use Rattle.arj_law_parts.proofs.Words
+use Words.{arith, ◌≡◌, ◌⊎◌, ◌∙◌, ◌==◌, ◌&&◌, ◌||◌, ◌++◌, ℕ, List, [], ◌∷◌, Bool, true, false, cond, map, Option, Some, None, refl, sym, ap}
+use Words.{subst, inl, inr, ⊎_elim, eqb-true, IfSome, is_some, AllByRecursion, cons_option, filter_map, list_any, or_cases, uid_is}
+use Words.{In as Among, in_find, Head, ObjectState, Path, Uid, asks, object, uid_eq, Reply, actor, CommitStep, Confirming, Machine, Plan}
+use Words.{Preparing, Used, Voting, begin_confirm, begin_prepare, begin_vote, changed_of, is_marked, marks_at, marks_store, marks_stores}
+use Words.{plan_of, servers_of, state_by, state_for, states_for, stores_by, targets_of, with_marks, with_mark, Grants, Marks, Coord, Root}
+use Words.{plan_for, has, with_number, without_number, Post}
+use Words.ask
+use Words.confirmed
+use Words.prepared
+use Words.voted
+use Words.commit
+use Rattle.arj_law_promise.proofs.Terms.{flat_map, In, OwnOf, Fits, has_set, has_with, IsNext}
+use Rattle.arj_law_disk_view.specs.running.States.{PlanIsSo}
 use Rattle.arj_law_promise.proofs.settling.Yeses.{Loads, SaidYes, left_cases, mark_has, marks_keep, plan_loads}
 
 -- ---- what was sent
 
 -- node k sent a Confirm of the top by which this store of the object is included
 abbrev pub IncludedFrom : ℕ → List Post → Uid → ℕ → ℕ → Type 0
-IncludedFrom k sent u x n = (p : Post) × In p sent × (p.from ≡ k) × (h : Head) × (g : Grants) × (e : Marks) × (i : Marks) × (asks p.message ≡ Some (h, ask.Confirm g e i)) × (actor h.path ≡ u) × Among (x, n) i
+IncludedFrom k sent u x n = (p : Post) × In p sent × (p.from ≡ k) × (h : Head) × (g : Grants) × (e : Marks) × (i : Marks)
+    × (asks p.message ≡ Some (h, ask.Confirm g e i)) × (actor h.path ≡ u) × Among (x, n) i
 
 -- node k asked this node to prepare these states of the top
 abbrev pub PreparedFrom : ℕ → List Post → Uid → ℕ → List ObjectState → Type 0
-PreparedFrom k sent u n states = (p : Post) × In p sent × (p.from ≡ k) × (p.to ≡ n) × (h : Head) × (asks p.message ≡ Some (h, ask.Prepare states)) × (actor h.path ≡ u)
+PreparedFrom k sent u n states =
+    (p : Post) × In p sent × (p.from ≡ k) × (p.to ≡ n) × (h : Head) × (asks p.message ≡ Some (h, ask.Prepare states)) × (actor h.path ≡ u)
 
 -- one of the states is of the object with this number
 abbrev pub names_number : ℕ → List ObjectState → Bool
@@ -62,9 +56,12 @@ AreNamed k sent u p = EachJoin p (λ x n. (states : List ObjectState) → Prepar
 
 -- Nobody was asked while the servers vote, and naming wasn't before the stores have answered.
 abbrev pub Joins : ℕ → List Post → Uid → Machine → Type 0
-Joins k sent u (Voting p left) = Loads p × ((n : ℕ) (states : List ObjectState) → PreparedFrom k sent u n states → ⊥) × ((x n : ℕ) → IncludedFrom k sent u x n → ⊥)
-Joins k sent u (Preparing p left) = Loads p × EachJoin p (λ x n. (has left n ≡ true) ⊎ WasJoined sent u p x n) × AreNamed k sent u p × ((x n : ℕ) → IncludedFrom k sent u x n → ⊥)
-Joins k sent u (Confirming p) = EachJoin p (WasJoined sent u p) × AreNamed k sent u p × ((x n : ℕ) → IncludedFrom k sent u x n → has p.prepared n ≡ true)
+Joins k sent u (Voting p left) =
+    Loads p × ((n : ℕ) (states : List ObjectState) → PreparedFrom k sent u n states → ⊥) × ((x n : ℕ) → IncludedFrom k sent u x n → ⊥)
+Joins k sent u (Preparing p left) = Loads p × EachJoin p (λ x n. (has left n ≡ true) ⊎ WasJoined sent u p x n) × AreNamed k sent u p
+    × ((x n : ℕ) → IncludedFrom k sent u x n → ⊥)
+Joins k sent u (Confirming p) =
+    EachJoin p (WasJoined sent u p) × AreNamed k sent u p × ((x n : ℕ) → IncludedFrom k sent u x n → has p.prepared n ≡ true)
 
 all_in : {A : Type 0} (Q : A → Type 0) (a : A) (xs : List A) → AllByRecursion Q xs → Among a xs → Q a
 all_in Q a [] all i = absurd i
@@ -72,14 +69,16 @@ all_in Q a (x ∷ xs) all (inl same) = subst Q same all.0
 all_in Q a (x ∷ xs) all (inr i) = all_in Q a xs all.1 i
 
 pub owns_of : (p : Plan) → Loads p → AreOwn p → Owns p
-owns_of p loads own v i n on = by v.loaded refl (all_in (λ (w : Used). (s : ℕ) → has w.joins s ≡ true → is_some w.loaded ≡ true) v p.used loads i n on)
+owns_of p loads own v i n on =
+    by v.loaded refl (all_in (λ (w : Used). (s : ℕ) → has w.joins s ≡ true → is_some w.loaded ≡ true) v p.used loads i n on)
   where
     by : (o : Option ObjectState) → v.loaded ≡ o → is_some o ≡ true → (st : ObjectState) × (v.loaded ≡ Some st) × (st.uid.num ≡ v.x)
     by None is some = absurd (cc some)
     by (Some st) is some = (st, is, own v i st is)
 
 pub plan_own : (F : Fits) (p : Plan) → PlanIsSo F p → AreOwn p
-plan_own F p so v i st is = (subst (λ o. IfSome o (OwnOf (let z = F in z.kept) v.x)) is (all_in (λ (w : Used). IfSome w.loaded (OwnOf (let z = F in z.kept) w.x)) v p.used so.used i)).1
+plan_own F p so v i st is = (subst (λ o. IfSome o (OwnOf (let z = F in z.kept) v.x)) is
+    (all_in (λ (w : Used). IfSome w.loaded (OwnOf (let z = F in z.kept) w.x)) v p.used so.used i)).1
 
 -- ---- what a store is sent
 
@@ -100,16 +99,22 @@ second true b e = refl
 second false b e = e
 
 -- a state of each object that the store is included for
-sent_state : (n : ℕ) (p : Plan) (v : Used) → has v.joins n ≡ true → (loads : (st : ObjectState) × (v.loaded ≡ Some st) × (st.uid.num ≡ v.x)) → (st : ObjectState) × (state_for n p v ≡ Some st) × (st.uid.num ≡ v.x)
+sent_state : (n : ℕ) (p : Plan) (v : Used) → has v.joins n ≡ true → (loads : (st : ObjectState) × (v.loaded ≡ Some st) × (st.uid.num ≡ v.x))
+    → (st : ObjectState) × (state_for n p v ≡ Some st) × (st.uid.num ≡ v.x)
 sent_state n p v on loads = by (changed_of v.x p) refl
   where
     by : (o : Option ObjectState) → changed_of v.x p ≡ o → (st : ObjectState) × (state_by n v o ≡ Some st) × (st.uid.num ≡ v.x)
     by None none = (loads.0, ap (λ b. cond b v.loaded None) on ∙ loads.1, loads.2)
-    by (Some st) found = (st, ap (λ b. cond b (Some st) None) (second (has v.stores n) (has v.joins n) on), ap (λ (u : Uid). u.num) (uid_is st.uid (object v.x) (in_find (λ (s : ObjectState). uid_eq s.uid (object v.x)) st p.changed found).1))
+    by (Some st) found = (
+      st,
+      ap (λ b. cond b (Some st) None) (second (has v.stores n) (has v.joins n) on),
+      ap (λ (u : Uid). u.num) (uid_is st.uid (object v.x) (in_find (λ (s : ObjectState). uid_eq s.uid (object v.x)) st p.changed found).1),
+    )
 
 names_one : (x : ℕ) (st : ObjectState) (states : List ObjectState) → Among st states → st.uid.num ≡ x → names_number x states ≡ true
 names_one x st [] i is = absurd i
-names_one x st (s ∷ ss) (inl same) is = ap (λ b. b || names_number x ss) (ap (λ (z : ObjectState). z.uid.num == x) same ∙ ap (λ y. y == x) is ∙ same_number x)
+names_one x st (s ∷ ss) (inl same) is =
+    ap (λ b. b || names_number x ss) (ap (λ (z : ObjectState). z.uid.num == x) same ∙ ap (λ y. y == x) is ∙ same_number x)
 names_one x st (s ∷ ss) (inr i) is = second (s.uid.num == x) (names_number x ss) (names_one x st ss i is)
 
 pub sent_names : (n : ℕ) (p : Plan) → Owns p → EachJoin p (λ x m. m ≡ n → names_number x (states_for n p) ≡ true)
@@ -175,7 +180,8 @@ in_flat f v n (u ∷ us) (inr i) is = has_right (f u) (flat_map f us) n (in_flat
 
 -- whoever is included is a target
 are_targets : (p : Plan) → EachJoin p (λ x n. has (targets_of p) n ≡ true)
-are_targets p v i n on = has_set (flat_map (λ (u : Used). stores_by u (changed_of u.x p)) p.used) n (in_flat (λ (u : Used). stores_by u (changed_of u.x p)) v n p.used i (by (changed_of v.x p)))
+are_targets p v i n on = has_set (flat_map (λ (u : Used). stores_by u (changed_of u.x p)) p.used) n
+    (in_flat (λ (u : Used). stores_by u (changed_of u.x p)) v n p.used i (by (changed_of v.x p)))
   where
     by : (o : Option ObjectState) → has (stores_by v o) n ≡ true
     by None = on
@@ -197,21 +203,28 @@ module _ (k : ℕ) (sent : List Post) (u : Uid) where
   confirm_next [] q each named unsaid = tt
   confirm_next (x ∷ us) q each named unsaid = (each, named, λ y n i. absurd (unsaid y n i))
 
-  prepare_next : (ns : List ℕ) (q : Plan) → Loads q → EachJoin q (λ x n. has ns n ≡ true) → NoPrepare → NoConfirm → Next (begin_prepare ns q)
-  prepare_next [] q loads each none unsaid = confirm_next q.used q (λ v i n on. absurd (cc (each v i n on))) (λ v i n on states asked. absurd (none n states asked)) unsaid
-  prepare_next (s ∷ ss) q loads each none unsaid = (loads, (λ v i n on. inl (each v i n on)), (λ v i n on states asked. absurd (none n states asked)), unsaid)
+  prepare_next : (ns : List ℕ) (q : Plan) → Loads q → EachJoin q (λ x n. has ns n ≡ true) → NoPrepare → NoConfirm →
+      Next (begin_prepare ns q)
+  prepare_next [] q loads each none unsaid =
+      confirm_next q.used q (λ v i n on. absurd (cc (each v i n on))) (λ v i n on states asked. absurd (none n states asked)) unsaid
+  prepare_next (s ∷ ss) q loads each none unsaid =
+      (loads, (λ v i n on. inl (each v i n on)), (λ v i n on states asked. absurd (none n states asked)), unsaid)
 
   votes_next : (ns : List ℕ) (q : Plan) → Loads q → NoPrepare → NoConfirm → Next (commit.votes_left ns q)
   votes_next [] q loads none unsaid = prepare_next (targets_of q) q loads (are_targets q) none unsaid
   votes_next (s ∷ ss) q loads none unsaid = (loads, none, unsaid)
 
-  stores_next : (ns : List ℕ) (q : Plan) → Loads q → EachJoin q (λ x n. (has ns n ≡ true) ⊎ WasJoined sent u q x n) → AreNamed k sent u q → NoConfirm → Next (commit.stores_left ns q).step
-  stores_next [] q loads each named unsaid = confirm_next q.used q (λ v i n on. ⊎_elim (λ there. absurd (cc there)) (λ heard. heard) (each v i n on)) named unsaid
+  stores_next : (ns : List ℕ) (q : Plan) → Loads q → EachJoin q (λ x n. (has ns n ≡ true) ⊎ WasJoined sent u q x n) → AreNamed k sent u q →
+      NoConfirm → Next (commit.stores_left ns q).step
+  stores_next [] q loads each named unsaid =
+      confirm_next q.used q (λ v i n on. ⊎_elim (λ there. absurd (cc there)) (λ heard. heard) (each v i n on)) named unsaid
   stores_next (s ∷ ss) q loads each named unsaid = (loads, each, named, unsaid)
 
   -- an answer
-  pub answer_joins : (from : ℕ) (m : Machine) (r : Reply) → (r ≡ Reply.Prepared prepared.Yes → SaidYes sent from u) → AreOwn (plan_of m) → Joins k sent u m → Next (commit.answered from m r).step
-  answer_joins from (Voting p left) (Reply.Voted (voted.Yes states)) said own j = votes_next (without_number from left) (record p { changed = commit.with_states states p.changed }) j.0 j.1 j.2
+  pub answer_joins : (from : ℕ) (m : Machine) (r : Reply) → (r ≡ Reply.Prepared prepared.Yes → SaidYes sent from u) → AreOwn (plan_of m) →
+      Joins k sent u m → Next (commit.answered from m r).step
+  answer_joins from (Voting p left) (Reply.Voted (voted.Yes states)) said own j =
+      votes_next (without_number from left) (record p { changed = commit.with_states states p.changed }) j.0 j.1 j.2
   answer_joins from (Voting p left) (Reply.Voted (voted.Changed w)) said own j = tt
   answer_joins from (Voting p left) (Reply.Bound r) said own j = j
   answer_joins from (Voting p left) (Reply.Loaded r) said own j = j
@@ -220,13 +233,18 @@ module _ (k : ℕ) (sent : List Post) (u : Uid) where
   answer_joins from (Voting p left) (Reply.Invoked r) said own j = j
   answer_joins from (Voting p left) (Reply.Prepared r) said own j = j
   answer_joins from (Voting p left) (Reply.Confirmed r) said own j = j
-  answer_joins from (Preparing p left) (Reply.Prepared prepared.Yes) said own j = stores_next (without_number from left) (record p { prepared = with_number from p.prepared }) j.0
+  answer_joins from (Preparing p left) (Reply.Prepared prepared.Yes) said own j =
+      stores_next (without_number from left) (record p { prepared = with_number from p.prepared }) j.0
       (λ v i n on. ⊎_elim
-      (λ there. ⊎_elim (λ same. inr (inl (has_with from p.prepared n (inl same), subst (λ z. SaidYes sent z u) (sym same) (said refl)))) (λ rest. inl rest) (left_cases k sent u from n left there))
-      (λ heard. inr (⊎_elim (λ old. inl (has_with from p.prepared n (inr old.0), old.1)) (λ marked. inr marked) heard)) (j.1 v i n on)) j.2 j.3
-  answer_joins from (Preparing p left) (Reply.Prepared (prepared.InDoubt x h)) said own j = stores_next (without_number from left) (marks_store from p) j.0
+      (λ there. ⊎_elim (λ same. inr (inl (has_with from p.prepared n (inl same), subst (λ z. SaidYes sent z u) (sym same) (said refl))))
+      (λ rest. inl rest) (left_cases k sent u from n left there))
+      (λ heard. inr (⊎_elim (λ old. inl (has_with from p.prepared n (inr old.0), old.1)) (λ marked. inr marked) heard)) (j.1 v i n on)) j.2
+      j.3
+  answer_joins from (Preparing p left) (Reply.Prepared (prepared.InDoubt x h)) said own j =
+      stores_next (without_number from left) (marks_store from p) j.0
       (λ v i n on. ⊎_elim
-      (λ there. ⊎_elim (λ same. inr (inr (one_marked from p (owns_of p j.0 own) v i n on same))) (λ rest. inl rest) (left_cases k sent u from n left there))
+      (λ there. ⊎_elim (λ same. inr (inr (one_marked from p (owns_of p j.0 own) v i n on same))) (λ rest. inl rest)
+      (left_cases k sent u from n left there))
       (λ heard. inr (⊎_elim (λ old. inl old) (λ marked. inr (marked_one from v.x n p marked)) heard)) (j.1 v i n on)) j.2 j.3
   answer_joins from (Preparing p left) (Reply.Prepared (prepared.Old x w)) said own j = tt
   answer_joins from (Preparing p left) (Reply.Bound r) said own j = j
@@ -264,7 +282,9 @@ module _ (k : ℕ) (sent : List Post) (u : Uid) where
   pub giveup_joins : (m : Machine) → AreOwn (plan_of m) → Joins k sent u m → Next (commit.given_up m).step
   giveup_joins (Voting p left) own j = tt
   giveup_joins (Preparing p left) own j = stores_next [] (marks_stores left p) (marks_loads left p j.0)
-      (λ v i n on. ⊎_elim (λ there. inr (inr (all_marked left p (owns_of p j.0 own) v (was v i) n on there))) (λ heard. inr (⊎_elim (λ old. inl (ap (λ ns. has ns n) (marks_prepared left p) ∙ old.0, old.1)) (λ marked. inr (marked_all left v.x n p marked)) heard)) (j.1 v (was v i) n on))
+      (λ v i n on. ⊎_elim (λ there. inr (inr (all_marked left p (owns_of p j.0 own) v (was v i) n on there))) (λ heard. inr (⊎_elim
+      (λ old. inl (ap (λ ns. has ns n) (marks_prepared left p) ∙ old.0, old.1)) (λ marked. inr (marked_all left v.x n p marked)) heard))
+      (j.1 v (was v i) n on))
       (λ v i n on. j.2 v (was v i) n on) j.3
     where
       was : (v : Used) → Among v (marks_stores left p).used → Among v p.used
@@ -272,9 +292,11 @@ module _ (k : ℕ) (sent : List Post) (u : Uid) where
   giveup_joins (Confirming p) own j = tt
 
   -- as a commit begins nobody was asked
-  pub start_joins : (path : Path) (req : ℕ) (r : Root) (c : Coord) → NoPrepare → NoConfirm → Next (commit.start (plan_for path req r c)).step
+  pub start_joins : (path : Path) (req : ℕ) (r : Root) (c : Coord) → NoPrepare → NoConfirm →
+      Next (commit.start (plan_for path req r c)).step
   start_joins path req r c none unsaid = by (servers_of (plan_for path req r c))
     where
       by : (ns : List ℕ) → Next (begin_vote ns (plan_for path req r c))
-      by [] = prepare_next (targets_of (plan_for path req r c)) (plan_for path req r c) (plan_loads path req r c) (are_targets (plan_for path req r c)) none unsaid
+      by [] = prepare_next (targets_of (plan_for path req r c)) (plan_for path req r c) (plan_loads path req r c)
+          (are_targets (plan_for path req r c)) none unsaid
       by (s ∷ ss) = (plan_loads path req r c, none, unsaid)

@@ -1,44 +1,22 @@
 -- What is known of nodes in every run, as far as outcomes count on it.
-use Rattle.std.proofs.Common.{◌≡◌, ◌≢◌, ◌⊎◌, ◌∙◌, ◌||◌, ℕ, Bool, true, false, cond, List, length, Option, Some, None, refl, sym, ap, subst, inl, inr, ⊎_elim}
-use Rattle.std.specs.Prelude.{is_some}
-use Rattle.arj_base.specs.Rows.{is_on}
-use Rattle.arj_lock.proofs.Members.{in_from, in_to}
-use Rattle.arj_protocol.specs.Words.{End, Kind, Uid}
-use Rattle.arj_protocol.specs.Words.ask
-use Rattle.arj_protocol.specs.Words.ending
-use Rattle.arj_protocol.specs.Words.kind
-use Rattle.arj_protocol.specs.Commit.{plan_of}
-use Rattle.arj_protocol.specs.Coord.{Doing, doing_of}
-use Rattle.arj_protocol.specs.Effect.{Intent}
-use Rattle.arj_protocol.specs.Node.{Parts}
-use Rattle.arj_protocol.specs.Order.{at_uid}
-use Rattle.arj_protocol.specs.Step.{Node, is_committing_now}
-use Rattle.arj_protocol.specs.Tree.{Branch, branch_of, is_own}
-use Rattle.arj_law_parts.specs.parts.Actions.{Action, action_of, paths_of}
-use Rattle.arj_law_parts.specs.parts.Claims.{IsSettled}
-use Rattle.arj_law_parts.specs.parts.Coords.{IsBusy, IsCommitting, IsGoodCoord, IsVoting}
-use Rattle.arj_law_parts.specs.parts.Ends.{AreOfCommits, IsSure}
-use Rattle.arj_law_parts.specs.parts.Requests.{AreNumbered}
-use Rattle.arj_law_parts.proofs.parts.Begun.{begun_tree, one_action, path_found}
-use Rattle.arj_law_parts.proofs.parts.GoodCoords.{doing_by}
-use Rattle.arj_law_parts.proofs.parts.GoodTrees.{found_by}
-use Rattle.arj_law_parts.proofs.parts.Keys.{at_in}
-use Rattle.arj_law_parts.proofs.parts.TrueSteps.{work_there}
-use Rattle.arj_law_runs.specs.kept.Worlds.{AreCommittedIn, IsGood, IsGoodOf, IsGoodPlace, IsMemory, IsUp}
-use Rattle.arj_promise.specs.Runs.{Seen}
-use Rattle.arj_law_runs.specs.addresses.Binds.{BindsAreKnown}
+use Rattle.arj_law_parts.proofs.Words
+use Words.{◌≡◌, ◌≢◌, ◌⊎◌, ◌∙◌, ◌||◌, ℕ, Bool, true, false, cond, List, length, Option, Some, None, refl, sym, ap, subst, inl, inr, ⊎_elim}
+use Words.{is_some, is_on, in_from, in_to, End, Kind, Uid, plan_of, Doing, doing_of, Intent, Parts, at_uid, Node, is_committing_now, Branch}
+use Words.{branch_of, is_own, Seen}
+use Words.ask
+use Words.ending
+use Words.kind
+use Rattle.arj_law_promise.proofs.Terms
+use Terms.{Action, action_of, paths_of, IsSettled, IsBusy, IsCommitting, IsGoodCoord, IsVoting, AreNumbered, begun_tree, one_action}
+use Terms.{path_found, doing_by, found_by, at_in, work_there, IsGood, IsGoodOf, IsMemory, IsUp, BindsAreKnown, book, is_decided, IsKept}
+use Terms.{IsKnown, KnowsNode, is_serial, IsTopOf, EndsArePast, IsClosedAt, live_in, AsksForItself, IsForItself, AskersSettle}
+use Terms.{DisksAreKnown, some_is}
 use Rattle.arj_law_disk_view.proofs.view.TopFrames.{branch_at}
-use Rattle.arj_law_runs.specs.journal.Book.{book, is_decided, is_over}
-use Rattle.arj_law_runs.specs.journal.Knows.{IsEnd, IsKept, IsKnown, KnowsNode, KnowsUp}
+use Rattle.arj_law_parts.specs.parts.Ends.{AreOfCommits, IsSure}
+use Rattle.arj_law_promise.proofs.settling.{Cores.IsDone, Cores.WasTold, Yeses.AskedFrom}
 use Rattle.arj_law_runs.proofs.journal.Books.{open_is}
-use Rattle.arj_model.specs.Actions.{is_serial}
-use Rattle.arj_law_lock_view.specs.facts.Uppers.{IsTopOf}
-use Rattle.arj_law_serial.specs.past.Told.{EndsArePast, IsClosedAt, live_in}
-use Rattle.arj_law_promise.specs.settling.Prepared.{AsksForItself, IsForItself}
-use Rattle.arj_law_promise.specs.settling.Settled.{AskersSettle, DisksAreKnown}
-use Rattle.arj_law_promise.proofs.settling.Cores.{IsDone, WasTold}
-use Rattle.arj_law_promise.proofs.settling.Yeses.{AskedFrom}
-use Rattle.arj_law_runs.proofs.addresses.Lists.{some_is}
+use Rattle.arj_law_runs.specs.journal.{Book.is_over, Knows.IsEnd, Knows.KnowsUp}
+use Rattle.arj_law_runs.specs.kept.Worlds.{AreCommittedIn, IsGoodPlace}
 
 -- the journal, who was told of ends, what is prepared, and who asked for it
 abbrev pub Known : Seen → Type 0
@@ -102,16 +80,20 @@ module _ (M : Seen) (known : Known M) where
 
     -- who is at its commit is open, and a top
     pub committing : (u : Uid) → IsCommitting u t.coord → (b : Branch) × (branch_of u t.coord.tree ≡ Some b) × (is_some b.ended ≡ false)
-    committing u (d, m, found, now) = let v : IsVoting t.coord.tree u (plan_of m) = subst (IsBusy t.coord.tree u) now (let g = coord in g.busy u d found) in (v.asking.branch, v.asking.found, v.asking.opened)
+    committing u (d, m, found, now) = let v : IsVoting t.coord.tree u (plan_of m) = subst (IsBusy t.coord.tree u) now (let g = coord in
+        g.busy u d found) in (v.asking.branch, v.asking.found, v.asking.opened)
 
     end_of : (u : Uid) (b : Branch) → branch_of u t.coord.tree ≡ Some b → IsEnd (book M.lines) u b.kind b.ended
-    end_of u b found = let w = work_there t.coord works u b found in let l = knows in let q = l.knows in let s : IsKnown (book M.lines) u b.kind b.ended (let z = w.0 in z.label) = q.acts u b w.0 found w.1 in s.end
+    end_of u b found = let w = work_there t.coord works u b found in let l = knows in let q = l.knows in
+        let s : IsKnown (book M.lines) u b.kind b.ended (let z = w.0 in z.label) = q.acts u b w.0 found w.1 in s.end
 
     -- the record of an action of this incarnation is of a committed one
-    pub record_committed : (u : Uid) (i : Intent) → at_uid u (let d = a.disk in d.intents) ≡ Some i → is_own u t.coord.tree ≡ true → (b : Branch) × (branch_of u t.coord.tree ≡ Some b) × (b.ended ≡ Some ending.Commit)
+    pub record_committed : (u : Uid) (i : Intent) → at_uid u (let d = a.disk in d.intents) ≡ Some i → is_own u t.coord.tree ≡ true →
+        (b : Branch) × (branch_of u t.coord.tree ≡ Some b) × (b.ended ≡ Some ending.Commit)
     record_committed u i at own = records u i (in_to (u, i) (let d = a.disk in d.intents) (at_in u i (let d = a.disk in d.intents) at)) own
 
-    open_over : (u : Uid) (b : Branch) → branch_of u t.coord.tree ≡ Some b → is_some b.ended ≡ false → (is_over (book M.lines) u ≡ false) × (is_decided (book M.lines) u ≡ false)
+    open_over : (u : Uid) (b : Branch) → branch_of u t.coord.tree ≡ Some b → is_some b.ended ≡ false →
+        (is_over (book M.lines) u ≡ false) × (is_decided (book M.lines) u ≡ false)
     open_over u b found opened =
         let e = subst (IsEnd (book M.lines) u b.kind) (none_of b.ended opened) (end_of u b found) in
         let o = open_is (book M.lines) u e.0 in
@@ -122,12 +104,14 @@ module _ (M : Seen) (known : Known M) where
     open_undone u b found opened (inl decided) = never decided (open_over u b found opened).1
     open_undone u b found opened (inr (x, i, there, at)) =
         let same : x ≡ a = some_is (sym there ∙ ap M.nodes (node_is u b found) ∙ here) in
-        let c = record_committed u i (subst (λ (z : Node). at_uid u (let d = z.disk in d.intents) ≡ Some i) same at) (let f = found_by u t.coord.tree b found in f.0) in
+        let c = record_committed u i (subst (λ (z : Node). at_uid u (let d = z.disk in d.intents) ≡ Some i) same at)
+        (let f = found_by u t.coord.tree b found in f.0) in
         let one : c.0 ≡ b = some_is (sym c.1 ∙ found) in
         never (ap (λ (o : Option End). is_some o) (ap (λ (z : Branch). z.ended) (sym one) ∙ c.2)) opened
 
     -- who has ended, and isn't serializing, was committed or aborted by the journal
-    pub ended_so : (u : Uid) (b : Branch) → branch_of u t.coord.tree ≡ Some b → is_some b.ended ≡ true → b.kind ≢ kind.Serial → (is_on (let B = book M.lines in B.committed) u ≡ true) ⊎ (is_on (let B = book M.lines in B.aborted) u ≡ true)
+    pub ended_so : (u : Uid) (b : Branch) → branch_of u t.coord.tree ≡ Some b → is_some b.ended ≡ true → b.kind ≢ kind.Serial →
+        (is_on (let B = book M.lines in B.committed) u ≡ true) ⊎ (is_on (let B = book M.lines in B.aborted) u ≡ true)
     ended_so u b found ended unserial = by b.ended refl (end_of u b found) ended
       where
         plain : (k : Kind) → k ≢ kind.Serial → is_serial k ≡ false
@@ -137,21 +121,27 @@ module _ (M : Seen) (known : Known M) where
         plain kind.Constituent n = refl
         plain kind.Independent n = refl
 
-        by : (o : Option End) → b.ended ≡ o → IsEnd (book M.lines) u b.kind b.ended → is_some b.ended ≡ true → (is_on (let B = book M.lines in B.committed) u ≡ true) ⊎ (is_on (let B = book M.lines in B.aborted) u ≡ true)
+        by : (o : Option End) → b.ended ≡ o → IsEnd (book M.lines) u b.kind b.ended → is_some b.ended ≡ true →
+            (is_on (let B = book M.lines in B.committed) u ≡ true) ⊎ (is_on (let B = book M.lines in B.aborted) u ≡ true)
         by None none end some = never some (ap (λ (o : Option End). is_some o) none)
-        by (Some ending.Commit) is end some = inl (subst (λ s. cond s (is_on (let B = book M.lines in B.ended) u) (is_on (let B = book M.lines in B.committed) u) ≡ true) (plain b.kind unserial) (subst (IsEnd (book M.lines) u b.kind) is end))
+        by (Some ending.Commit) is end some = inl (subst (λ s. cond s (is_on (let B = book M.lines in B.ended) u)
+            (is_on (let B = book M.lines in B.committed) u) ≡ true) (plain b.kind unserial) (subst (IsEnd (book M.lines) u b.kind) is end))
         by (Some ending.Abort) is end some = inr (subst (IsEnd (book M.lines) u b.kind) is end)
 
     -- and isn't open
-    pub ended_closed : (u : Uid) → (is_on (let B = book M.lines in B.committed) u ≡ true) ⊎ (is_on (let B = book M.lines in B.aborted) u ≡ true) → (b : Branch) → branch_of u t.coord.tree ≡ Some b → is_some b.ended ≡ false → ⊥
-    ended_closed u on b found opened = let o = open_is (book M.lines) u (open_over u b found opened).0 in ⊎_elim (λ c. never c o.0) (λ c. never c o.1) on
+    pub ended_closed : (u : Uid) → (is_on (let B = book M.lines in B.committed) u ≡ true) ⊎ (is_on (let B = book M.lines in B.aborted) u
+        ≡ true) → (b : Branch) → branch_of u t.coord.tree ≡ Some b → is_some b.ended ≡ false → ⊥
+    ended_closed u on b found opened = let o = open_is (book M.lines) u (open_over u b found opened).0 in
+        ⊎_elim (λ c. never c o.0) (λ c. never c o.1) on
 
     -- of who is at its commit that was called
     pub commit_called : (u : Uid) → IsCommitting u t.coord → is_on (let B = book M.lines in B.called) u ≡ true
-    commit_called u (d, m, found, now) = let c = committing u (d, m, found, now) in let l = knows in l.calls u c.0 d c.1 found (none_of (let b = c.0 in b.ended) c.2) ∙ ap is_committing_now now
+    commit_called u (d, m, found, now) = let c = committing u (d, m, found, now) in let l = knows in
+        l.calls u c.0 d c.1 found (none_of (let b = c.0 in b.ended) c.2) ∙ ap is_committing_now now
 
     -- who was told of its end has ended
-    pub told_closed : (u : Uid) → u.node ≡ j → WasTold M.sent u → (b : Branch) → branch_of u t.coord.tree ≡ Some b → is_some b.ended ≡ false → ⊥
+    pub told_closed : (u : Uid) → u.node ≡ j → WasTold M.sent u → (b : Branch) → branch_of u t.coord.tree ≡ Some b →
+        is_some b.ended ≡ false → ⊥
     told_closed u home (p, i, e, there) b found opened =
         let past = known.0.0.1 in
         let all = past.2 in
@@ -162,7 +152,8 @@ module _ (M : Seen) (known : Known M) where
 
     -- whoever was asked by this coordinator has ended, or is at its commit
     pub asked_settled : (u : Uid) (n : ℕ) → AskedFrom j M.sent u n → is_own u t.coord.tree ≡ true → IsSettled u t.coord
-    asked_settled u n (p, i, from, to, h, states, is, act) own = subst (λ v. IsSettled v t.coord) act (known.1.1 j a t here live p h (ask.Prepare states) i from is refl (ap (λ v. is_own v t.coord.tree) act ∙ own))
+    asked_settled u n (p, i, from, to, h, states, is, act) own = subst (λ v. IsSettled v t.coord) act
+        (known.1.1 j a t here live p h (ask.Prepare states) i from is refl (ap (λ v. is_own v t.coord.tree) act ∙ own))
 
     -- the branch of a top is of a top's kind
     pub top_kind : (u : Uid) (b : Branch) → branch_of u t.coord.tree ≡ Some b → IsTopOf (let d = known.0.1 in d.0) u → b.kind ≢ kind.Serial
@@ -170,8 +161,10 @@ module _ (M : Seen) (known : Known M) where
         let d = known.0.1 in
         let g : IsGoodOf d.0 M = d.1 in
         let p = g.places j a here in
-        let m : IsUp d.0 M.sent M.labels j (let z = a.disk in z.inc) t = subst (IsMemory d.0 M.sent M.labels j (let z = a.disk in z.inc)) live p.memory in
+        let m : IsUp d.0 M.sent M.labels j (let z = a.disk in
+        z.inc) t = subst (IsMemory d.0 M.sent M.labels j (let z = a.disk in z.inc)) live p.memory in
         let c = (let n = m.good (paths_of d.0) (begun_tree d.0 g.begun) (path_found d.0 g.begun) in n.coord) in
         let there = c.known u b found in
-        let same = one_action d.0 g.begun (action_of b) top.0 (in_from (action_of b) d.0 there) (in_from top.0 d.0 top.1) (c.tree.lists.places u b found ∙ sym top.2) in
+        let same = one_action d.0 g.begun (action_of b) top.0 (in_from (action_of b) d.0 there) (in_from top.0 d.0 top.1)
+        (c.tree.lists.places u b found ∙ sym top.2) in
         top.4 (ap (λ (z : Action). z.kind) (sym same) ∙ serial)

@@ -1,33 +1,28 @@
 -- On the disks of idle nodes nothing is left.
-use Rattle.std.proofs.Common.{◌≡◌, ◌∙◌, arith, ℕ, true, List, [], ◌∷◌, Option, Some, None, refl, sym, ap, subst}
-use Rattle.std.specs.Prelude.{◌&&◌, is_some, nat_le, option_map}
-use Rattle.std.proofs.lemmas.Bool.{and_parts}
-use Rattle.std.proofs.lemmas.Bool.Decides.{nat_tests}
-use Rattle.arj_base.specs.Uid.{entry, object}
-use Rattle.arj_disk.specs.Says.{names}
-use Rattle.arj_disk.specs.declared.slot.Role.{Role}
+use Rattle.arj_law_parts.proofs.Words
+use Words.{◌≡◌, ◌∙◌, arith, ℕ, true, List, [], ◌∷◌, Option, Some, None, refl, sym, ap, subst, ◌&&◌, is_some, nat_le, option_map, and_parts}
+use Words.{nat_tests, entry, object, IsReadingOf, record_of, Parts, at_uid, Node, has_none, is_idle, at_place, Header, Uid}
+use Rattle.arj_disk.specs.{Says.names, declared.slot.Role.Role}
 use Rattle.arj_disk.specs.declared.slot.Role.TheVariants.{Names, Store}
-use Rattle.arj_promise.specs.Disks.{IsReadingOf, record_of}
-use Rattle.arj_model.specs.Disks.{InDoubt, Reading}
-use Rattle.arj_protocol.specs.Node.{Parts}
-use Rattle.arj_protocol.specs.Order.{at_uid}
-use Rattle.arj_protocol.specs.Step.{Node, has_none, is_idle, is_idle_with, is_settled, waits_for_nothing}
-use Rattle.arj_protocol.specs.Tree.{at_place}
-use Rattle.arj_protocol.specs.Words.{Header, Uid}
-use Rattle.arj_store.specs.Pair.{packed}
 use Rattle.arj_law_promise.specs.settling.Last.{IdleDisksHoldTheLast}
+use Rattle.arj_model.specs.Disks.{InDoubt, Reading}
 use Rattle.arj_promise.specs.Resting.{HasNothingLeft}
+use Rattle.arj_protocol.specs.Step.{is_idle_with, is_settled, waits_for_nothing}
+use Rattle.arj_store.specs.Pair.{packed}
 
 -- nothing is prepared on the disk of an idle node, and it has no record
-idle_free : (a : Node) → is_idle a ≡ true → (has_none (let d = a.disk in let p = d.store in p.pend) ≡ true) × (has_none (let d = a.disk in let p = d.names in p.pend) ≡ true) × (has_none (let d = a.disk in d.intents) ≡ true)
+idle_free : (a : Node) → is_idle a ≡ true → (has_none (let d = a.disk in let p = d.store in p.pend) ≡ true)
+    × (has_none (let d = a.disk in let p = d.names in p.pend) ≡ true) × (has_none (let d = a.disk in d.intents) ≡ true)
 idle_free a idle = by a.live idle
   where
     by : (o : Option Parts) → is_idle_with a.disk o ≡ true
-        → (has_none (let d = a.disk in let p = d.store in p.pend) ≡ true) × (has_none (let d = a.disk in let p = d.names in p.pend) ≡ true) × (has_none (let d = a.disk in d.intents) ≡ true)
+        → (has_none (let d = a.disk in let p = d.store in p.pend) ≡ true)
+        × (has_none (let d = a.disk in let p = d.names in p.pend) ≡ true) × (has_none (let d = a.disk in d.intents) ≡ true)
     by None is = absurd (cc is)
     by (Some t) is =
         let d = a.disk in
-        let s = and_parts (has_none (let p = d.store in p.pend)) (has_none (let p = d.names in p.pend) && has_none d.intents) (and_parts (waits_for_nothing t.coord) (is_settled a.disk) is).1 in
+        let s = and_parts (has_none (let p = d.store in p.pend)) (has_none (let p = d.names in p.pend) && has_none d.intents)
+        (and_parts (waits_for_nothing t.coord) (is_settled a.disk) is).1 in
         let r = and_parts (has_none (let p = d.names in p.pend)) (has_none d.intents) s.1 in
         (s.0, r.0, r.1)
 
@@ -43,9 +38,12 @@ nothing_left read a are idle = record {
   records = λ top. are.records top ∙ ap (option_map record_of) (none_there (let d = a.disk in d.intents) top (idle_free a idle).2);
 }
   where
-    by : (r : Role) → (has_none (let d = a.disk in let p = d.store in p.pend) ≡ true) × (has_none (let d = a.disk in let p = d.names in p.pend) ≡ true) × (has_none (let d = a.disk in d.intents) ≡ true) → (act : Uid) → read.pend r act ≡ None
-    by Store none act = (let p = are.store in p.pend act ∙ ap (option_map packed) (none_there (let d = a.disk in let q = d.store in q.pend) act none.0))
-    by Names none act = (let p = are.names in p.pend act ∙ ap (option_map packed) (none_there (let d = a.disk in let q = d.names in q.pend) act none.1))
+    by : (r : Role) → (has_none (let d = a.disk in let p = d.store in p.pend) ≡ true) × (has_none (let d = a.disk in let p = d.names in
+        p.pend) ≡ true) × (has_none (let d = a.disk in d.intents) ≡ true) → (act : Uid) → read.pend r act ≡ None
+    by Store none act =
+        (let p = are.store in p.pend act ∙ ap (option_map packed) (none_there (let d = a.disk in let q = d.store in q.pend) act none.0))
+    by Names none act =
+        (let p = are.names in p.pend act ∙ ap (option_map packed) (none_there (let d = a.disk in let q = d.names in q.pend) act none.1))
 
 -- and so nothing is in doubt
 free_disk : (read : Reading) (r : Role) (u : Uid) → HasNothingLeft read → InDoubt read r u → ⊥

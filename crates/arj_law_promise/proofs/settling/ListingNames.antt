@@ -1,46 +1,38 @@
 -- What nodes do to naming's entries: each store that is listed goes on to be one of which this is claimed.
-use Rattle.std.proofs.Common.{◌≡◌, ◌∙◌, ◌++◌, ◌||◌, ◌==◌, ◌+◌, ℕ, Bool, true, false, cond, filter, map, not, List, [], ◌∷◌, Option, Some, None, refl, sym, ap, subst, inl, inr, ⊎_elim, eqb-true}
-use Rattle.std.specs.Prelude.{⊤, option_map, unwrap_or}
-use Rattle.std.specs.List.{AllByRecursion, cons_option, flat_map, list_all}
-use Rattle.std.proofs.lemmas.Bool.{and_parts}
-use Rattle.arj_lock.proofs.Members.{In as Among}
-use Rattle.arj_protocol.proofs.PartSays.{activate_own, ends_own, invoke_own, vote_own}
-use Rattle.arj_protocol.proofs.Payloads.{entry_back}
-use Rattle.arj_protocol.specs.Words.{Ask, Asked, Binding, BoundReply, ConfirmedReply, End, Entry, Head, Header, Message, ObjectState, Path, Row, Uid, asks, last_uid, entry, is_listed, object, is_on, with_store, without_store}
-use Rattle.arj_protocol.specs.Words.ask
-use Rattle.arj_protocol.specs.Words.body
-use Rattle.arj_protocol.specs.Words.bound
-use Rattle.arj_protocol.specs.Words.confirmed
-use Rattle.arj_protocol.specs.Words.ending
-use Rattle.arj_protocol.specs.Words.message
-use Rattle.arj_protocol.specs.Words.mode
-use Rattle.arj_protocol.specs.Words.part
-use Rattle.arj_protocol.specs.Words.prepared
-use Rattle.arj_protocol.specs.Words.role
-use Rattle.arj_protocol.specs.Ask.{Reply, actor, answers, asked_by, last_end, response, top_of}
-use Rattle.arj_protocol.specs.Asking.{heard}
-use Rattle.arj_protocol.specs.Confirm.{Grants, Marks, checked, confirm, confirm_entries, confirm_new, confirms, entries_after, entry_after, entry_state, has_all, lock_all, lock_in, marked, prepared_by, same_nodes, stores_after, wanted, with_stores, without_stores}
-use Rattle.arj_protocol.specs.Effect.{Abort, After, Already, Before, Commit, Did, Disk, Do, Effect, InDoubt, InPart, Intent, Look, Old, Pair, Prep, Prepare, PutInc, PutIntent, Ready, RemoveIntent, Say, Send, Served, Stop, Work, did_nothing, held_at, holder_of, is_prepared, moved, moved_some, new_states, prepare_answer, reply, stopped, void, worked}
-use Rattle.arj_protocol.specs.Ending.{acked, answer_query, tell_all}
-use Rattle.arj_protocol.specs.Named.{Counted, Live, Made, Named, bind_call, bind_made, bind_named, conflict_on, include_asked, live_above, live_asked, lock_lines, made_above, make_asked, next_server}
-use Rattle.arj_protocol.specs.Naming as naming
-use Rattle.arj_protocol.specs.Naming.{Naming, end_entries, end_lines, end_orphans, is_over, orphans, own_entries, taken_end, told_new}
-use Rattle.arj_protocol.specs.Node.{Handled, Parts, Took, Void, ack_told, end_states, handle, handle_ends, handle_other, holders, if_naming, is_earlier, load_by, load_held, naming_told, prepare_by, query_about, sends_answer, serve, served, store_told, with_naming, with_server}
-use Rattle.arj_protocol.specs.Order.{at_number, at_uid, put_uid}
-use Rattle.arj_protocol.specs.Says.{AreAll, is_coord_effect, is_server_effect}
-use Rattle.arj_protocol.specs.Server as server
-use Rattle.arj_protocol.specs.Step.{restart_outs, tolds_again}
-use Rattle.arj_protocol.specs.Values.{state_entry}
-use Rattle.arj_law_parts.proofs.parts.SaidIncs.{all_both, all_map}
-use Rattle.arj_law_parts.specs.parts.Ends.{told_by}
-use Rattle.arj_law_disk_view.proofs.view.HeardWalks.{is_say}
-use Rattle.arj_law_disk_view.proofs.view.ServedWalks.{bind_says, lock_says, note_says}
-use Rattle.arj_law_runs.proofs.addresses.Lists.{all_append, all_filter, all_without, some_is}
-use Rattle.arj_law_serial.proofs.joint.ByMessage.{by_coord, by_message}
-use Rattle.arj_law_serial.proofs.joint.Restarting.{restart_said}
-use Rattle.arj_law_promise.proofs.waiting.Known.{keyed_at}
-use Rattle.arj_law_promise.proofs.waiting.WriterNodes.{put_at}
+use Rattle.arj_law_parts.proofs.Words
+use Words.{◌≡◌, ◌∙◌, ◌++◌, ◌||◌, ◌==◌, ◌+◌, ℕ, Bool, true, false, cond, filter, map, not, List, [], ◌∷◌, Option, Some, None, refl, sym, ap}
+use Words.{subst, inl, inr, ⊎_elim, eqb-true, ⊤, option_map, unwrap_or, AllByRecursion, cons_option, flat_map, list_all, and_parts}
+use Words.{In as Among, activate_own, ends_own, invoke_own, vote_own, entry_back, Ask, Asked, Binding, BoundReply, ConfirmedReply, End}
+use Words.{Entry, Head, Header, Message, ObjectState, Path, Row, Uid, asks, last_uid, entry, is_listed, object, is_on, with_store}
+use Words.{without_store, Reply, actor, answers, asked_by, last_end, response, top_of, heard, Grants, Marks, checked, confirm}
+use Words.{confirm_entries, confirm_new, confirms, entries_after, entry_after, entry_state, has_all, lock_all, lock_in, marked, prepared_by}
+use Words.{same_nodes, stores_after, wanted, with_stores, without_stores, Abort, After, Already, Before, Commit, Did, Disk, Do, Effect}
+use Words.{InDoubt, InPart, Intent, Look, Old, Pair, Prep, Prepare, PutInc, PutIntent, Ready, RemoveIntent, Say, Send, Served, Stop, Work}
+use Words.{did_nothing, held_at, holder_of, is_prepared, moved_some, new_states, prepare_answer, reply, stopped, void, worked, acked}
+use Words.{answer_query, tell_all, Counted, Live, Made, Named, bind_call, bind_made, bind_named, conflict_on, include_asked, live_above}
+use Words.{live_asked, lock_lines, made_above, make_asked, next_server, Naming, end_entries, end_lines, end_orphans, is_over, orphans}
+use Words.{own_entries, taken_end, told_new, Handled, Parts, Took, Void, ack_told, end_states, handle, handle_ends, handle_other, holders}
+use Words.{if_naming, is_earlier, load_by, load_held, naming_told, prepare_by, query_about, sends_answer, serve, served, store_told}
+use Words.{with_naming, with_server, at_number, at_uid, put_uid, AreAll, is_coord_effect, is_server_effect, restart_outs, tolds_again}
+use Words.{state_entry}
+use Words.ask
+use Words.body
+use Words.bound
+use Words.confirmed
+use Words.ending
+use Words.message
+use Words.mode
+use Words.part
+use Words.prepared
+use Words.role
+use Words.naming
+use Words.server
+use Rattle.arj_law_promise.proofs.Terms
+use Terms.{moved, all_both, all_map, told_by, is_say, bind_says, note_says, all_append, all_filter, all_without, some_is, by_coord}
+use Terms.{by_message, restart_said}
+use Rattle.arj_law_disk_view.proofs.view.ServedWalks.{lock_says}
 use Rattle.arj_law_promise.proofs.settling.Listings.{BoundHas, EntryHas, NamesHave, Of, OrBy}
+use Rattle.arj_law_promise.proofs.waiting.{Known.keyed_at, WriterNodes.put_at}
 
 module _ (P : Of) (I : Uid → ℕ → ℕ → Type 0) where
   -- ---- the disk
@@ -71,7 +63,8 @@ module _ (P : Of) (I : Uid → ℕ → ℕ → Type 0) where
   moved_so [] held its so = so
   moved_so (s ∷ ss) held its so = moved_so ss (put_uid s.uid s held) its.1 (put_so s held its.0 so)
 
-  some_so : (which : Uid → Bool) (ss : List ObjectState) (held : List (Uid × ObjectState)) → AllByRecursion Plain ss → Held held → Held (moved_some which ss held)
+  some_so : (which : Uid → Bool) (ss : List ObjectState) (held : List (Uid × ObjectState)) → AllByRecursion Plain ss → Held held →
+      Held (moved_some which ss held)
   some_so which [] held its so = so
   some_so which (s ∷ ss) held its so = some_so which ss (cond (which s.uid) (put_uid s.uid s held) held) its.1 (by (which s.uid))
     where
@@ -97,19 +90,26 @@ module _ (P : Of) (I : Uid → ℕ → ℕ → Type 0) where
   worked_so : (w : Work) (d : Disk) → IsFine (Do w) → NamesHave P I d.names → NamesHave P I (let c = worked w d in c.names)
   worked_so Look d its so = so
   worked_so (PutInc i) d its so = so
-  worked_so (Prepare role.Names u states) d its so = record { held = so.held; pend = put_at (λ w (z : List ObjectState). AllByRecursion (OfTop w) z) u states d.names.pend its so.pend }
+  worked_so (Prepare role.Names u states) d its so =
+      record { held = so.held; pend = put_at (λ w (z : List ObjectState). AllByRecursion (OfTop w) z) u states d.names.pend its so.pend }
   worked_so (Prepare role.Store u states) d its so = so
-  worked_so (Commit role.Names u) d its so = record { held = moved_so (new_states u d.names) d.names.held (new_so u d.names its so) so.held; pend = all_without (λ (e : Uid × List ObjectState). AllByRecursion (OfTop e.0) e.1) u d.names.pend so.pend }
+  worked_so (Commit role.Names u) d its so = record {
+    held = moved_so (new_states u d.names) d.names.held (new_so u d.names its so) so.held;
+    pend = all_without (λ (e : Uid × List ObjectState). AllByRecursion (OfTop e.0) e.1) u d.names.pend so.pend;
+  }
   worked_so (Commit role.Store u) d its so = so
-  worked_so (Abort role.Names u) d its so = record { held = so.held; pend = all_without (λ (e : Uid × List ObjectState). AllByRecursion (OfTop e.0) e.1) u d.names.pend so.pend }
+  worked_so (Abort role.Names u) d its so =
+      record { held = so.held; pend = all_without (λ (e : Uid × List ObjectState). AllByRecursion (OfTop e.0) e.1) u d.names.pend so.pend }
   worked_so (Abort role.Store u) d its so = so
   worked_so (PutIntent u i) d its so = so
   worked_so (RemoveIntent u) d its so = so
 
-  pub stopped_so : (how : Stop) (w : Work) (d : Disk) → IsFine (Do w) → NamesHave P I d.names → NamesHave P I (let c = stopped how w d in c.names)
+  pub stopped_so : (how : Stop) (w : Work) (d : Disk) → IsFine (Do w) → NamesHave P I d.names →
+      NamesHave P I (let c = stopped how w d in c.names)
   stopped_so Before w d its so = so
   stopped_so After w d its so = worked_so w d its so
-  stopped_so (InPart which) (Commit role.Names u) d its so = record { held = some_so which (new_states u d.names) d.names.held (new_so u d.names its so) so.held; pend = so.pend }
+  stopped_so (InPart which) (Commit role.Names u) d its so =
+      record { held = some_so which (new_states u d.names) d.names.held (new_so u d.names its so) so.held; pend = so.pend }
   stopped_so (InPart which) (Commit role.Store u) d its so = so
   stopped_so (InPart which) Look d its so = so
   stopped_so (InPart which) (PutInc i) d its so = so
@@ -160,7 +160,8 @@ module _ (P : Of) (I : Uid → ℕ → ℕ → Type 0) where
 
   pub tells_fine : (telling : List (Uid × Intent)) → Fine (tolds_again telling)
   tells_fine [] = tt
-  tells_fine (e ∷ es) = let i = e.1 in fine_both (tell_all i.root true ((e.0, ending.Commit) ∷ []) i.nodes) (tolds_again es) (all_map IsFine _ i.nodes (λ w. tt)) (tells_fine es)
+  tells_fine (e ∷ es) = let i = e.1 in fine_both (tell_all i.root true ((e.0, ending.Commit) ∷ []) i.nodes) (tolds_again es)
+      (all_map IsFine _ i.nodes (λ w. tt)) (tells_fine es)
 
   pub restart_fine : (hd : Header) (k inc : ℕ) (d : Disk) → Fine (restart_outs hd k inc d)
   restart_fine hd k inc d = restart_said IsFine (λ b. tt) hd k inc d tt tt (tells_fine d.intents) (λ u. tt) (λ n. tt)
@@ -184,7 +185,8 @@ module _ (P : Of) (I : Uid → ℕ → ℕ → Type 0) where
   marks_of Q x [] each = tt
   marks_of Q x (m ∷ ms) each = by (m.0 == x) refl (marks_of Q x ms (λ n i. each n (inr i)))
     where
-      by : (b : Bool) → (m.0 == x) ≡ b → AllByRecursion Q (marked x ms) → AllByRecursion Q (map (λ (z : ℕ × ℕ). z.1) (cond b (m ∷ filter (λ (z : ℕ × ℕ). z.0 == x) ms) (filter (λ (z : ℕ × ℕ). z.0 == x) ms)))
+      by : (b : Bool) → (m.0 == x) ≡ b → AllByRecursion Q (marked x ms) → AllByRecursion Q
+          (map (λ (z : ℕ × ℕ). z.1) (cond b (m ∷ filter (λ (z : ℕ × ℕ). z.0 == x) ms) (filter (λ (z : ℕ × ℕ). z.0 == x) ms)))
       by true same ih = (each m.1 (inl (λ i. (eqb-true m.0 x same i, m.1))), ih)
       by false apart ih = ih
 
@@ -193,55 +195,71 @@ module _ (P : Of) (I : Uid → ℕ → ℕ → Type 0) where
     entries_so [] d so = tt
     entries_so (g ∷ gs) d so = by (held_at (entry g.0) d) refl (entries_so gs d so)
       where
-        stores : (s : ObjectState) → held_at (entry g.0) d ≡ Some s → AllByRecursion (OrBy P I top g.0) (stores_after g.0 excluded included (state_entry s))
+        stores : (s : ObjectState) → held_at (entry g.0) d ≡ Some s →
+            AllByRecursion (OrBy P I top g.0) (stores_after g.0 excluded included (state_entry s))
         stores s is = with_of (OrBy P I top g.0) (marked g.0 included) (without_stores (marked g.0 excluded) (state_entry s).stores)
             (marks_of (OrBy P I top g.0) g.0 included (λ n i. inr (includes g.0 n i)))
-            (without_of (OrBy P I top g.0) (marked g.0 excluded) (state_entry s).stores (old (state_entry s).stores (keyed_at (λ u (z : ObjectState). EntryHas (P u.num) z) (entry g.0) d.held s so.held is)))
+            (without_of (OrBy P I top g.0) (marked g.0 excluded) (state_entry s).stores
+            (old (state_entry s).stores (keyed_at (λ u (z : ObjectState). EntryHas (P u.num) z) (entry g.0) d.held s so.held is)))
           where
             old : (ns : List ℕ) → AllByRecursion (P g.0) ns → AllByRecursion (OrBy P I top g.0) ns
             old [] all = tt
             old (n ∷ ns) all = (inl all.0, old ns all.1)
 
-        entry_so : (s : ObjectState) → held_at (entry g.0) d ≡ Some s → OfTop top (entry_state g.0 top s (stores_after g.0 excluded included (state_entry s)))
-        entry_so s is = subst (λ (e : Entry). AllByRecursion (OrBy P I top g.0) e.stores) (sym (entry_back (record { servers = (state_entry s).servers; stores = stores_after g.0 excluded included (state_entry s) }))) (stores s is)
+        entry_so : (s : ObjectState) → held_at (entry g.0) d ≡ Some s →
+            OfTop top (entry_state g.0 top s (stores_after g.0 excluded included (state_entry s)))
+        entry_so s is = subst (λ (e : Entry). AllByRecursion (OrBy P I top g.0) e.stores) (sym (entry_back
+            (record { servers = (state_entry s).servers; stores = stores_after g.0 excluded included (state_entry s) }))) (stores s is)
 
-        made : (s : ObjectState) (b : Bool) → held_at (entry g.0) d ≡ Some s → AllByRecursion (OfTop top) (entries_after top gs excluded included d) → AllByRecursion (OfTop top) (cons_option (cond b None (Some (entry_state g.0 top s (stores_after g.0 excluded included (state_entry s))))) (entries_after top gs excluded included d))
+        made : (s : ObjectState) (b : Bool) → held_at (entry g.0) d ≡ Some s →
+            AllByRecursion (OfTop top) (entries_after top gs excluded included d) → AllByRecursion (OfTop top) (cons_option (cond b None
+            (Some (entry_state g.0 top s (stores_after g.0 excluded included (state_entry s))))) (entries_after top gs excluded included d))
         made s true is ih = ih
         made s false is ih = (entry_so s is, ih)
 
-        by : (o : Option ObjectState) → held_at (entry g.0) d ≡ o → AllByRecursion (OfTop top) (entries_after top gs excluded included d) → AllByRecursion (OfTop top) (cons_option (entry_after top excluded included g.0 o) (entries_after top gs excluded included d))
+        by : (o : Option ObjectState) → held_at (entry g.0) d ≡ o → AllByRecursion (OfTop top) (entries_after top gs excluded included d) →
+            AllByRecursion (OfTop top) (cons_option (entry_after top excluded included g.0 o) (entries_after top gs excluded included d))
         by None is ih = ih
         by (Some s) is ih = made s (same_nodes (stores_after g.0 excluded included (state_entry s)) (state_entry s).stores) is ih
 
   locks_so : (xs : List ℕ) (p : Path) (n : Naming) → Fine (let d = lock_all xs p n in d.outs)
   locks_so [] p n = tt
-  locks_so (x ∷ xs) p n = fine_both (let d = lock_in x p n (at_number x n.objects) in d.outs) (let t = lock_all xs p (let d = lock_in x p n (at_number x n.objects) in d.part) in t.outs) (by (at_number x n.objects)) (locks_so xs p (let d = lock_in x p n (at_number x n.objects) in d.part))
+  locks_so (x ∷ xs) p n = fine_both (let d = lock_in x p n (at_number x n.objects) in
+      d.outs) (let t = lock_all xs p (let d = lock_in x p n (at_number x n.objects) in d.part) in
+      t.outs) (by (at_number x n.objects)) (locks_so xs p (let d = lock_in x p n (at_number x n.objects) in d.part))
     where
       by : (o : Option Named) → Fine (let d = lock_in x p n o in d.outs)
       by None = tt
       by (Some o) = said_fine (lock_lines x p mode.Exclude o) (lock_says x p mode.Exclude o)
 
-  prepares_so : (top : Uid) (states : List ObjectState) (t : Did Naming) (a : Prep) → AllByRecursion (OfTop top) states → Fine t.outs → Fine (let r = prepared_by top states t a in r.outs)
-  prepares_so top states t Ready its so = fine_both t.outs (Do Look ∷ Do (Prepare role.Names top states) ∷ Say (body.Prepared 1 top role.Names) ∷ []) so (tt, (its, (tt, tt)))
+  prepares_so : (top : Uid) (states : List ObjectState) (t : Did Naming) (a : Prep) → AllByRecursion (OfTop top) states → Fine t.outs →
+      Fine (let r = prepared_by top states t a in r.outs)
+  prepares_so top states t Ready its so =
+      fine_both t.outs (Do Look ∷ Do (Prepare role.Names top states) ∷ Say (body.Prepared 1 top role.Names) ∷ []) so (tt, (its, (tt, tt)))
   prepares_so top states t (InDoubt u holder) its so = fine_both t.outs (Do Look ∷ []) so (tt, tt)
   prepares_so top states t (Already u) its so = fine_both t.outs (Do Look ∷ []) so (tt, tt)
   prepares_so top states t (Old u v) its so = fine_both t.outs (Do Look ∷ []) so (tt, tt)
 
-  confirm_so : (p : Path) (grants : Grants) (excluded included : Marks) (d : Pair) (n : Naming) → ((x m : ℕ) → Among (x, m) included → I (top_of p) x m) → NamesHave P I d → Fine (let r = confirm p grants excluded included d n in r.outs)
-  confirm_so p grants excluded included d n includes so = by (is_over p n || not (has_all grants n)) (is_on n.confirmed (top_of p) || is_prepared (top_of p) d)
+  confirm_so : (p : Path) (grants : Grants) (excluded included : Marks) (d : Pair) (n : Naming) → ((x m : ℕ) → Among (x, m) included →
+      I (top_of p) x m) → NamesHave P I d → Fine (let r = confirm p grants excluded included d n in r.outs)
+  confirm_so p grants excluded included d n includes so =
+      by (is_over p n || not (has_all grants n)) (is_on n.confirmed (top_of p) || is_prepared (top_of p) d)
     where
       locks : Did Naming
       locks = lock_all (wanted (top_of p) grants excluded d) p n
 
-      found : (states : List ObjectState) → AllByRecursion (OfTop (top_of p)) states → Fine (let r = confirm_entries (top_of p) states d (lock_all (wanted (top_of p) grants excluded d) p n) in r.outs)
+      found : (states : List ObjectState) → AllByRecursion (OfTop (top_of p)) states →
+          Fine (let r = confirm_entries (top_of p) states d (lock_all (wanted (top_of p) grants excluded d) p n) in r.outs)
       found [] its = locks_so (wanted (top_of p) grants excluded d) p n
-      found (s ∷ ss) its = prepares_so (top_of p) (s ∷ ss) locks (prepare_answer (top_of p) (s ∷ ss) d) its (locks_so (wanted (top_of p) grants excluded d) p n)
+      found (s ∷ ss) its = prepares_so (top_of p) (s ∷ ss) locks (prepare_answer (top_of p) (s ∷ ss) d) its
+          (locks_so (wanted (top_of p) grants excluded d) p n)
 
       new : (o : Option ConfirmedReply) → Fine (let r = confirm_new p grants excluded included d n o in r.outs)
       new None = found (entries_after (top_of p) grants excluded included d) (entries_so (top_of p) excluded included includes grants d so)
       new (Some r) = tt
 
-      by : (a b : Bool) → Fine (let r = cond {A = Served Naming ConfirmedReply} a (void n) (cond b (reply (confirms (top_of p) n) confirmed.Yes) (confirm_new p grants excluded included d n (checked p grants excluded included d n))) in r.outs)
+      by : (a b : Bool) → Fine (let r = cond {A = Served Naming ConfirmedReply} a (void n) (cond b (reply (confirms (top_of p) n)
+          confirmed.Yes) (confirm_new p grants excluded included d n (checked p grants excluded included d n))) in r.outs)
       by true b = tt
       by false true = tt
       by false false = new (checked p grants excluded included d n)
@@ -251,10 +269,12 @@ module _ (P : Of) (I : Uid → ℕ → ℕ → Type 0) where
   module _ (u : Uid) (e : End) (decided : e ≡ ending.Commit → (x n : ℕ) → I u x n → P x n) where
     orphans_so : (us : List Uid) → Fine (flat_map (λ act. end_entries act ending.Abort) us)
     orphans_so [] = tt
-    orphans_so (w ∷ ws) = fine_both (end_entries w ending.Abort) (flat_map (λ act. end_entries act ending.Abort) ws) (tt, (tt, tt)) (orphans_so ws)
+    orphans_so (w ∷ ws) =
+        fine_both (end_entries w ending.Abort) (flat_map (λ act. end_entries act ending.Abort) ws) (tt, (tt, tt)) (orphans_so ws)
 
     told_naming : (d : Pair) (n : Naming) → Fine (let t = naming.told u e d n in t.outs)
-    told_naming d n = fine_both (own_entries u e d) (let t = cond {A = Did Naming} (is_on n.told u) (did_nothing n) (told_new u (taken_end u e n) d n) in t.outs) (own (is_prepared u d)) (by (is_on n.told u))
+    told_naming d n = fine_both (own_entries u e d) (let t = cond {A = Did Naming} (is_on n.told u) (did_nothing n)
+        (told_new u (taken_end u e n) d n) in t.outs) (own (is_prepared u d)) (by (is_on n.told u))
       where
         ended_so : (q : End) → e ≡ q → Fine (end_entries u q)
         ended_so ending.Commit is = (decided is, (tt, tt))
@@ -274,12 +294,16 @@ module _ (P : Of) (I : Uid → ℕ → ℕ → Type 0) where
 
         by : (b : Bool) → Fine (let t = cond {A = Did Naming} b (did_nothing n) (told_new u (taken_end u e n) d n) in t.outs)
         by true = tt
-        by false = fine_both (end_orphans u (taken_end u e n) d n) (end_lines u (taken_end u e n) n) (orphaned (taken_end u e n)) (said_so (taken_end u e n) (naming.has_locks u n))
+        by false = fine_both (end_orphans u (taken_end u e n) d n) (end_lines u (taken_end u e n) n) (orphaned (taken_end u e n))
+            (said_so (taken_end u e n) (naming.has_locks u n))
 
   -- ---- one message
 
-  module _ (k : ℕ) (d : Disk) (t : Parts) (from : ℕ) (m : Message) (names : NamesHave P I d.names) (includes : (h : Head) (g : Grants) (x i : Marks) → asks m ≡ Some (h, ask.Confirm g x i) → (y n : ℕ) → Among (y, n) i → I (top_of h.path) y n) (decided : (u : Uid) → last_end (told_by m) ≡ Some (u, ending.Commit) → (x n : ℕ) → I u x n → P x n)
-      (hears : (a : Asked) (r : Reply) → answers m ≡ Some (a, r) → Fine (heard from a r d.intents t.coord).outs) (acks : (u : Uid) → Fine (acked from u d.intents t.coord).outs) (tells : (u : Uid) → Fine (answer_query from u d.intents t.coord)) where
+  module _ (k : ℕ) (d : Disk) (t : Parts) (from : ℕ) (m : Message) (names : NamesHave P I d.names)
+      (includes : (h : Head) (g : Grants) (x i : Marks) → asks m ≡ Some (h, ask.Confirm g x i) → (y n : ℕ) → Among (y, n) i →
+      I (top_of h.path) y n) (decided : (u : Uid) → last_end (told_by m) ≡ Some (u, ending.Commit) → (x n : ℕ) → I u x n → P x n)
+      (hears : (a : Asked) (r : Reply) → answers m ≡ Some (a, r) → Fine (heard from a r d.intents t.coord).outs) (acks : (u : Uid) →
+      Fine (acked from u d.intents t.coord).outs) (tells : (u : Uid) → Fine (answer_query from u d.intents t.coord)) where
     abbrev By : Handled → Type 0
     By (Void outs) = ⊤
     By (Took v outs) = Fine outs
@@ -293,8 +317,10 @@ module _ (P : Of) (I : Uid → ℕ → ℕ → Type 0) where
     with_it f (Some n) each = each n
 
     asked : (h : Head) (a : Ask) → asks m ≡ Some (h, a) → By (serve k d t from h a)
-    asked h (ask.Bind x include avoid) is = with_it (λ o. served from h (with_naming t) Reply.Bound (naming.bind h.path x include avoid d.names o)) t.naming
-        (λ n. let r = naming.bind h.path x include avoid d.names n in answered h (with_naming t r.part) r.outs (option_map Reply.Bound r.reply) (said_fine r.outs (bind_says h.path x include avoid d.names n)))
+    asked h (ask.Bind x include avoid) is =
+        with_it (λ o. served from h (with_naming t) Reply.Bound (naming.bind h.path x include avoid d.names o)) t.naming
+        (λ n. let r = naming.bind h.path x include avoid d.names n in answered h (with_naming t r.part) r.outs
+        (option_map Reply.Bound r.reply) (said_fine r.outs (bind_says h.path x include avoid d.names n)))
     asked h (ask.Load x) is = load (holder_of (object x) d.store)
       where
         held_so : (o : Option ObjectState) → By (load_held from h t o)
@@ -304,11 +330,15 @@ module _ (P : Of) (I : Uid → ℕ → ℕ → Type 0) where
         load : (o : Option Uid) → By (load_by x d.store from h t o)
         load (Some u) = (tt, tt)
         load None = held_so (held_at (object x) d.store)
-    asked h (ask.Activate b st) is = let r = server.activate k h.path b st t.server in answered h (with_server t r.part) r.outs (option_map Reply.Activated r.reply) (server_fine k r.outs (activate_own k h.path b st t.server))
+    asked h (ask.Activate b st) is = let r = server.activate k h.path b st t.server in answered h (with_server t r.part) r.outs
+        (option_map Reply.Activated r.reply) (server_fine k r.outs (activate_own k h.path b st t.server))
     asked h (ask.Record x b i g) is = with_it (λ o. served from h (with_naming t) Reply.Noted (naming.note h.path x b i g o)) t.naming
-        (λ n. let r = naming.note h.path x b i g n in answered h (with_naming t r.part) r.outs (option_map Reply.Noted r.reply) (said_fine r.outs (note_says h.path x b i g n)))
-    asked h (ask.Invoke x b i ends o) is = let r = server.invoke k h x b i ends o t.server in answered h (with_server t r.part) r.outs (option_map Reply.Invoked r.reply) (server_fine k r.outs (invoke_own k h x b i ends o t.server))
-    asked h (ask.Vote i ties ends) is = let r = server.vote k h.path i ties ends t.server in answered h (with_server t r.part) r.outs (option_map Reply.Voted r.reply) (server_fine k r.outs (vote_own k h.path i ties ends t.server))
+        (λ n. let r = naming.note h.path x b i g n in
+        answered h (with_naming t r.part) r.outs (option_map Reply.Noted r.reply) (said_fine r.outs (note_says h.path x b i g n)))
+    asked h (ask.Invoke x b i ends o) is = let r = server.invoke k h x b i ends o t.server in answered h (with_server t r.part) r.outs
+        (option_map Reply.Invoked r.reply) (server_fine k r.outs (invoke_own k h x b i ends o t.server))
+    asked h (ask.Vote i ties ends) is = let r = server.vote k h.path i ties ends t.server in answered h (with_server t r.part) r.outs
+        (option_map Reply.Voted r.reply) (server_fine k r.outs (vote_own k h.path i ties ends t.server))
     asked h (ask.Prepare states) is = each (is_prepared (actor h.path) d.store)
       where
         new : (a : Prep) → By (prepare_by k states from h t a)
@@ -317,18 +347,24 @@ module _ (P : Of) (I : Uid → ℕ → ℕ → Type 0) where
         new (Old u v) = (tt, (tt, tt))
         new (InDoubt u holder) = (tt, (tt, tt))
 
-        each : (b : Bool) → By (cond b (sends_answer from h t [] (Some (Reply.Prepared prepared.Yes))) (prepare_by k states from h t (prepare_answer (actor h.path) states d.store)))
+        each : (b : Bool) → By (cond b (sends_answer from h t [] (Some (Reply.Prepared prepared.Yes)))
+            (prepare_by k states from h t (prepare_answer (actor h.path) states d.store)))
         each true = (tt, tt)
         each false = new (prepare_answer (actor h.path) states d.store)
-    asked h (ask.Confirm grants excluded included) is = with_it (λ o. served from h (with_naming t) Reply.Confirmed (confirm h.path grants excluded included d.names o)) t.naming
-        (λ n. let r = confirm h.path grants excluded included d.names n in answered h (with_naming t r.part) r.outs (option_map Reply.Confirmed r.reply) (confirm_so h.path grants excluded included d.names n (includes h grants excluded included is) names))
+    asked h (ask.Confirm grants excluded included) is =
+        with_it (λ o. served from h (with_naming t) Reply.Confirmed (confirm h.path grants excluded included d.names o)) t.naming
+        (λ n. let r = confirm h.path grants excluded included d.names n in answered h (with_naming t r.part) r.outs (option_map
+        Reply.Confirmed r.reply) (confirm_so h.path grants excluded included d.names n (includes h grants excluded included is) names))
 
-    ends_left : (ack : Bool) (ends : List (Uid × End)) (o : Option (Uid × End)) → ((u : Uid) → o ≡ Some (u, ending.Commit) → (x n : ℕ) → I u x n → P x n) → By (handle_ends k d t from ack ends o)
+    ends_left : (ack : Bool) (ends : List (Uid × End)) (o : Option (Uid × End)) →
+        ((u : Uid) → o ≡ Some (u, ending.Commit) → (x n : ℕ) → I u x n → P x n) → By (handle_ends k d t from ack ends o)
     ends_left ack ends None sure = tt
     ends_left ack ends (Some e) sure =
         let s = server.told k ends t.server in
         let o = naming_told e.0 e.1 d.names t.naming in
-        fine_both (store_told k e.0 e.1 d.store ++ o.outs ++ s.outs) (ack_told from e.0 ack) (fine_both (store_told k e.0 e.1 d.store ++ o.outs) s.outs (fine_both (store_told k e.0 e.1 d.store) o.outs (ended (is_prepared e.0 d.store) e.1) (named t.naming)) (server_fine k s.outs (ends_own k ends t.server))) (acked_told ack)
+        fine_both (store_told k e.0 e.1 d.store ++ o.outs ++ s.outs) (ack_told from e.0 ack)
+        (fine_both (store_told k e.0 e.1 d.store ++ o.outs) s.outs (fine_both (store_told k e.0 e.1 d.store) o.outs
+        (ended (is_prepared e.0 d.store) e.1) (named t.naming)) (server_fine k s.outs (ends_own k ends t.server))) (acked_told ack)
       where
         ended : (b : Bool) (how : End) → Fine (cond b (end_states k e.0 how) [])
         ended false how = tt
@@ -344,14 +380,16 @@ module _ (P : Of) (I : Uid → ℕ → ℕ → Type 0) where
         acked_told false = tt
 
     other : (p : Message) → m ≡ p → By (handle_other k d t from p)
-    other (message.Told p) is = ends_left p.ack p.ends (last_end p.ends) (λ u last. decided u (ap (λ (z : Message). last_end (told_by z)) is ∙ last))
+    other (message.Told p) is =
+        ends_left p.ack p.ends (last_end p.ends) (λ u last. decided u (ap (λ (z : Message). last_end (told_by z)) is ∙ last))
     other (message.Acked p) is = by_coord k d t from By tt (acked from p.act d.intents t.coord) (acks p.act)
     other (message.Query p) is = tells p.act
     other (message.Hello p) is = queries (filter (is_earlier p.node p.inc) (holders d t))
     other p is = tt
 
     handled : By (handle k d t from m)
-    handled = by_message k d t from By tt m asked (λ a r is. by_coord k d t from By tt (heard from a r d.intents t.coord) (hears a r is)) (other m refl)
+    handled = by_message k d t from By tt m asked (λ a r is. by_coord k d t from By tt (heard from a r d.intents t.coord) (hears a r is))
+        (other m refl)
 
     pub handled_fine : (v : Parts) (outs : List Effect) → handle k d t from m ≡ Took v outs → Fine outs
     handled_fine v outs is = subst By is handled
@@ -368,7 +406,8 @@ module _ (P : Of) (x : ℕ) (path : Path) (e : Entry) (all : AllByRecursion (P x
   none_gives : Gives None
   none_gives q is = absurd (cc is)
 
-  named_gives : (inc : ℕ) (include : Bool) (avoid : Binding) (c : Counted) → Gives (let r = bind_named inc x path include avoid e c in r.reply)
+  named_gives : (inc : ℕ) (include : Bool) (avoid : Binding) (c : Counted) →
+      Gives (let r = bind_named inc x path include avoid e c in r.reply)
   named_gives inc true avoid c = by (conflict_on x path mode.Write c.named)
     where
       by : (o : Option Row) → Gives (let r = include_asked inc x path e c o in r.reply)
@@ -382,7 +421,8 @@ module _ (P : Of) (x : ℕ) (path : Path) (e : Entry) (all : AllByRecursion (P x
 
       made : (m : Option Made) → Gives (let r = bind_made inc x path e c m in r.reply)
       made (Some m) = one_gives (bound.Make m.binding m.server inc e.stores) all
-      made None = let s = next_server c.named.turn e.servers in one_gives (bound.Make (record { inc = inc; count = c.count + 1 }) s inc e.stores) all
+      made None = let s = next_server c.named.turn e.servers in
+          one_gives (bound.Make (record { inc = inc; count = c.count + 1 }) s inc e.stores) all
 
       make : (o : Option Row) → Gives (let r = make_asked inc x path avoid e c o in r.reply)
       make (Some r) = one_gives (bound.Conflict (last_uid r.holder) r.mode) tt
@@ -392,13 +432,17 @@ module _ (P : Of) (x : ℕ) (path : Path) (e : Entry) (all : AllByRecursion (P x
       by (Some l) = live l (conflict_on x path mode.Read c.named)
       by None = make (conflict_on x path mode.Write c.named)
 
-pub binds : (P : Of) (x : ℕ) (path : Path) (include : Bool) (avoid : Binding) (d : Pair) (n : Naming) → AllByRecursion (P x) (let e = naming.listed_entry x d in e.stores) → (q : BoundReply) → (let r = naming.bind path x include avoid d n in r.reply) ≡ Some q → BoundHas P x q
+pub binds : (P : Of) (x : ℕ) (path : Path) (include : Bool) (avoid : Binding) (d : Pair) (n : Naming) →
+    AllByRecursion (P x) (let e = naming.listed_entry x d in e.stores) → (q : BoundReply) →
+    (let r = naming.bind path x include avoid d n in r.reply) ≡ Some q → BoundHas P x q
 binds P x path include avoid d n all = by (is_over path n)
   where
-    there : (o : Option Named) → Gives P x path (naming.listed_entry x d) all (let r = naming.on_counted x (bind_named n.inc x path include avoid (naming.listed_entry x d)) n o in r.reply)
+    there : (o : Option Named) → Gives P x path (naming.listed_entry x d) all
+        (let r = naming.on_counted x (bind_named n.inc x path include avoid (naming.listed_entry x d)) n o in r.reply)
     there None = none_gives P x path (naming.listed_entry x d) all
     there (Some o) = named_gives P x path (naming.listed_entry x d) all n.inc include avoid (record { named = o; count = n.count })
 
-    by : (b : Bool) → Gives P x path (naming.listed_entry x d) all (let r = cond {A = Served Naming BoundReply} b (void n) (naming.on_counted x (bind_named n.inc x path include avoid (naming.listed_entry x d)) n (at_number x n.objects)) in r.reply)
+    by : (b : Bool) → Gives P x path (naming.listed_entry x d) all (let r = cond {A = Served Naming BoundReply} b (void n)
+        (naming.on_counted x (bind_named n.inc x path include avoid (naming.listed_entry x d)) n (at_number x n.objects)) in r.reply)
     by true = none_gives P x path (naming.listed_entry x d) all
     by false = there (at_number x n.objects)

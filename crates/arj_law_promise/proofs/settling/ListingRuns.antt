@@ -1,80 +1,37 @@
 -- Each store that a list names has the object, or a decided top includes it: in every run.
-use Rattle.std.proofs.Common.{◌≡◌, ◌≢◌, ◌⊎◌, ◌∙◌, ◌++◌, ◌==◌, ◌||◌, ◌+◌, ℕ, Bool, true, false, cond, filter, length, map, List, [], ◌∷◌, Option, Some, None, refl, sym, ap, subst, inl, inr, ⊎_elim}
-use Rattle.std.specs.Prelude.{⊤, is_some}
-use Rattle.std.specs.List.{AllByRecursion}
-use Rattle.std.proofs.lemmas.Bool.{or_cases}
-use Rattle.arj_base.specs.Rows.{is_on}
-use Rattle.arj_base.specs.Uid.{object}
-use Rattle.arj_lock.proofs.Members.{In as Among}
-use Rattle.arj_protocol.proofs.CoordSays.{acked_own, acts_own, again_own, heard_own, query_own}
-use Rattle.arj_protocol.proofs.Payloads.{entry_back}
-use Rattle.arj_protocol.specs.Words.{Ask, Asked, Binding, Body, BoundReply, End, Entry, Head, Header, Kind, Label, Message, ObjectState, Uid, asks, entry}
-use Rattle.arj_protocol.specs.Words.ask
-use Rattle.arj_protocol.specs.Words.body
-use Rattle.arj_protocol.specs.Words.ending
-use Rattle.arj_protocol.specs.Words.role
-use Rattle.arj_protocol.specs.Ask.{Reply, answers, last_end, top_of}
-use Rattle.arj_protocol.specs.Asking.{again_all, begin_action, heard, waits_for_call}
-use Rattle.arj_protocol.specs.Call.{At, AtActivate, AtBind, AtInvoke, AtLoad, AtNote, Steps}
-use Rattle.arj_protocol.specs.Confirm.{Grants, Marks}
-use Rattle.arj_protocol.specs.Coord.{Calling, Coord, Doing, doing_of}
-use Rattle.arj_protocol.specs.Effect.{Abort, After, Before, Commit, Disk, Do, Effect, InPart, Look, Prepare, PutInc, PutIntent, RemoveIntent, Say, Send, Stop, Work, held_at, new_states, stopped}
-use Rattle.arj_protocol.specs.Ending.{acked, answer_query}
-use Rattle.arj_protocol.specs.Follow.{tick_outs}
-use Rattle.arj_protocol.specs.Naming as naming
-use Rattle.arj_protocol.specs.Naming.{Naming}
-use Rattle.arj_protocol.specs.Node.{Handled, Parts, Took, Void, handle, holders, query_about, with_coord}
-use Rattle.arj_protocol.specs.Order.{at_uid, has, put_uid}
-use Rattle.arj_protocol.specs.Server.{Server}
-use Rattle.arj_protocol.specs.Step as input
-use Rattle.arj_protocol.specs.Step.{Input, Node, acts, first_disk, first_entry, first_state, parent_of, parts_in, put_states, refusal_up, restart_outs, tolds_again}
-use Rattle.arj_protocol.specs.World.{Labelled, format, is_serial_kind, numbered}
-use Rattle.arj_journal.specs.ScriptForm.{HeaderInForm}
-use Rattle.arj_journal.specs.declared.header.ObjectLine.{ObjectLine}
-use Rattle.arj_law_parts.specs.parts.Actions.{paths_of}
-use Rattle.arj_law_parts.specs.parts.Coords.{IsGoodCoord}
-use Rattle.arj_law_parts.specs.parts.Copies.{IsTree}
-use Rattle.arj_law_parts.specs.parts.Ends.{told_by}
-use Rattle.arj_law_parts.proofs.parts.Begun.{begun_tree}
-use Rattle.arj_law_parts.proofs.parts.Keys.{put_same}
-use Rattle.arj_law_runs.specs.kept.Worlds.{IsGoodOf, IsUp}
-use Rattle.arj_law_runs.proofs.kept.Handled.{good_coord, it}
-use Rattle.arj_law_runs.proofs.kept.Walked.{same_number}
-use Rattle.arj_law_parts.specs.moves.Keeps.{Keeps, is_act}
-use Rattle.arj_law_parts.specs.moves.Seen.{In, at, down, given, said, up}
-use Rattle.arj_promise.specs.Runs.{Post, Seen, see}
-use Rattle.arj_law_parts.specs.moves.Walks.{Up, Walks, halted}
-use Rattle.arj_law_parts.proofs.moves.Together.{walks_to}
-use Rattle.arj_law_runs.specs.addresses.Binds.{BindsAreKnown}
-use Rattle.arj_law_runs.proofs.addresses.BindRuns.{answers_fit}
-use Rattle.arj_law_runs.proofs.addresses.Lists.{some_is}
-use Rattle.arj_law_runs.specs.calls.Coords.{IsOfStep}
-use Rattle.arj_law_runs.proofs.calls.CoordOuts.{acked_so, heard_so, query_so}
-use Rattle.arj_law_runs.proofs.calls.Given.{KeepsGiven, keeps_given, kept_both}
-use Rattle.arj_law_disk_view.proofs.view.FirstSeen.{first_at}
-use Rattle.arj_law_disk_view.proofs.view.Frames.{node_here}
-use Rattle.arj_law_runs.specs.journal.Book.{book, is_decided, new_book}
-use Rattle.arj_law_runs.specs.journal.Right.{IsSaid}
-use Rattle.arj_law_runs.proofs.journal.Books.{Later, book_more, later_from}
-use Rattle.arj_law_lock_view.specs.facts.Requests.{AreAsked, RequestsAreKnown}
-use Rattle.arj_law_lock_view.proofs.facts.Kept.{Place}
-use Rattle.arj_law_lock_view.proofs.facts.Requests.{requests_keep}
-use Rattle.arj_law_promise.specs.waiting.Asked.{IsAnsweredBy}
-use Rattle.arj_law_promise.proofs.waiting.AskedRuns.{acked_quiet, acts_quiet, heard_quiet, query_quiet, tick_quiet}
-use Rattle.arj_law_promise.proofs.waiting.Known.{binds_own}
-use Rattle.arj_law_promise.proofs.waiting.Named.{by_more}
-use Rattle.arj_law_promise.proofs.waiting.WriterNodes.{put_at}
-use Rattle.arj_law_serial.proofs.joint.Mute.{AllSilent, restart_silent}
-use Rattle.arj_law_promise.proofs.waiting.Serving.{AllSend, AnswerSo, IsKeptIn, message_served, quiet_silent, quiet_so}
-use Rattle.arj_law_promise.specs.settling.Prepared.{AsksForItself, IsForItself}
-use Rattle.arj_law_promise.proofs.settling.Listings.{BoundHas, Brings, EntryHas, NamesHave, Of, ReplyHas, StepsHave, acked_has, acts_has, again_has, begins_has, heard_has, names_more, new_has, reply_more, steps_more}
-use Rattle.arj_law_promise.proofs.settling.ListingNames.{Fine, binds, coord_fine, fine_both, handled_fine, listed_so, queries, restart_fine, stopped_so, tells_fine}
-use Rattle.arj_law_promise.proofs.settling.Milds.{here_is, now_cases, the_node}
-use Rattle.arj_law_promise.proofs.settling.StockParts.{moved_keeps, put_keeps, some_keeps}
-use Rattle.arj_law_promise.proofs.settling.StockRuns.{StocksAreKnown, stocks_keep}
-use Rattle.arj_law_promise.proofs.settling.Stocks.{IsIncluded}
-use Rattle.arj_law_promise.proofs.settling.Trails.{Down, FitsSo, UpBy, Went, halt_went, went}
-use Rattle.arj_law_promise.proofs.waiting.Stepping.{of_waiting}
+use Rattle.arj_law_parts.proofs.Words
+use Words.{◌≡◌, ◌≢◌, ◌⊎◌, ◌∙◌, ◌++◌, ◌==◌, ◌||◌, ◌+◌, ℕ, Bool, true, false, cond, filter, length, map, List, [], ◌∷◌, Option, Some, None}
+use Words.{refl, sym, ap, subst, inl, inr, ⊎_elim, ⊤, is_some, AllByRecursion, or_cases, is_on, object, In as Among, acked_own, acts_own}
+use Words.{again_own, heard_own, query_own, entry_back, Ask, Asked, Binding, Body, BoundReply, End, Entry, Head, Header, Kind, Label}
+use Words.{Message, ObjectState, Uid, asks, entry, Reply, answers, last_end, top_of, again_all, begin_action, heard, waits_for_call, At}
+use Words.{AtActivate, AtBind, AtInvoke, AtLoad, AtNote, Steps, Grants, Marks, Calling, Coord, Doing, doing_of, Abort, After, Before}
+use Words.{Commit, Disk, Do, Effect, InPart, Look, Prepare, PutInc, PutIntent, RemoveIntent, Say, Send, Stop, Work, held_at, new_states}
+use Words.{stopped, acked, answer_query, tick_outs, Naming, Handled, Parts, Took, Void, handle, holders, query_about, with_coord, at_uid}
+use Words.{has, put_uid, Server, Input, Node, acts, first_disk, first_entry, first_state, parent_of, parts_in, put_states, refusal_up}
+use Words.{restart_outs, tolds_again, Labelled, format, is_serial_kind, numbered, ObjectLine, Post, Seen, see}
+use Words.ask
+use Words.body
+use Words.ending
+use Words.role
+use Words.naming
+use Words.input
+use Rattle.arj_law_promise.proofs.Terms
+use Terms.{HeaderInForm, paths_of, IsGoodCoord, IsTree, told_by, begun_tree, put_same, IsGoodOf, IsUp, good_coord, it, same_number, Keeps}
+use Terms.{is_act, In, at, down, given, said, up, Up, Walks, halted, walks_to, BindsAreKnown, answers_fit, some_is, IsOfStep, acked_so}
+use Terms.{heard_so, query_so, KeepsGiven, keeps_given, kept_both, first_at, node_here, book, is_decided, new_book, IsSaid, Later}
+use Terms.{book_more, later_from, AreAsked, RequestsAreKnown, Place, requests_keep, IsAnsweredBy, AllSilent, restart_silent, AsksForItself}
+use Terms.{IsForItself}
+use Rattle.arj_law_promise.proofs.settling
+use settling.{Milds.here_is, Milds.now_cases, Milds.the_node, StockRuns.StocksAreKnown, StockRuns.stocks_keep, Stocks.IsIncluded}
+use settling.ListingNames.{Fine, binds, coord_fine, fine_both, handled_fine, listed_so, queries, restart_fine, stopped_so, tells_fine}
+use settling.Listings.{BoundHas, Brings, EntryHas, NamesHave, Of, ReplyHas, StepsHave, acked_has, acts_has, again_has, begins_has}
+use settling.Listings.{heard_has, names_more, new_has, reply_more, steps_more}
+use settling.StockParts.{moved_keeps, put_keeps, some_keeps}
+use settling.Trails.{Down, FitsSo, UpBy, Went, halt_went, went}
+use Rattle.arj_law_promise.proofs.waiting
+use waiting.{Known.binds_own, Named.by_more, Stepping.of_waiting, WriterNodes.put_at}
+use waiting.AskedRuns.{acked_quiet, acts_quiet, heard_quiet, query_quiet, tick_quiet}
+use waiting.Serving.{AllSend, AnswerSo, IsKeptIn, message_served, quiet_silent, quiet_so}
 
 -- the node, if it's there, has a committed state of the object
 abbrev pub IsHeldAt : Seen → ℕ → ℕ → Type 0
@@ -101,12 +58,14 @@ decided_on first more u on = by (subst (Later (book first)) (sym (book_more new_
     right false b is = is
 
     by : Later (book first) (book (first ++ more)) → is_decided (book (first ++ more)) u ≡ true
-    by l = ⊎_elim (λ c. left _ _ (l.committed u c)) (λ f. right _ _ (l.found u f)) (or_cases (is_on (book first).committed u) (is_on (book first).found u) on)
+    by l = ⊎_elim (λ c. left _ _ (l.committed u c)) (λ f. right _ _ (l.found u f))
+        (or_cases (is_on (book first).committed u) (is_on (book first).found u) on)
 
 -- ---- states that stay
 
 -- no work takes a committed state
-pub held_stays : (y : Uid) (how : Stop) (w : Work) (d : Disk) → is_some (held_at y d.store) ≡ true → is_some (held_at y (let c = stopped how w d in c.store)) ≡ true
+pub held_stays : (y : Uid) (how : Stop) (w : Work) (d : Disk) → is_some (held_at y d.store) ≡ true →
+    is_some (held_at y (let c = stopped how w d in c.store)) ≡ true
 held_stays y Before w d on = on
 held_stays y After Look d on = on
 held_stays y After (PutInc i) d on = on
@@ -136,7 +95,8 @@ AnyLine b = ⊤
 module _ (k : ℕ) (d : Disk) (live : Option Parts) (M : Seen) where
   -- its disk goes on with what it had
   abbrev Goes : Disk → Type 0
-  Goes c = ((y : Uid) → is_some (held_at y d.store) ≡ true → is_some (held_at y c.store) ≡ true) × NamesHave (HasIt (at k d live M)) (IsIncluded (at k d live M)) c.names
+  Goes c = ((y : Uid) → is_some (held_at y d.store) ≡ true → is_some (held_at y c.store) ≡ true)
+      × NamesHave (HasIt (at k d live M)) (IsIncluded (at k d live M)) c.names
 
   -- and its coordinator
   abbrev Fits : Disk → Option Parts → Type 0
@@ -152,12 +112,14 @@ module _ (k : ℕ) (d : Disk) (live : Option Parts) (M : Seen) where
       included_on u x n (p, i, from, h, g, e, l, is, act, there) = (p, w.on p i, from, h, g, e, l, is, act, there)
 
       more : (x n : ℕ) → HasIt (at k d live M) x n → HasIt Z x n
-      more x n (inr (u, included, decided)) = inr (u, included_on u x n included, subst (λ ls. is_decided (book ls) u ≡ true) (sym w.lines) (decided_on M.lines w.more u decided))
+      more x n (inr (u, included, decided)) = inr
+          (u, included_on u x n included, subst (λ ls. is_decided (book ls) u ≡ true) (sym w.lines) (decided_on M.lines w.more u decided))
       more x n (inl held) = inl stays
         where
           stays : IsHeldAt Z n x
           stays a is = ⊎_elim
-              (λ here. ap (λ (z : Node). is_some (held_at (object x) (let c = z.disk in c.store))) here.1 ∙ w.fits.0.0 (object x) (held (the_node k d live) (ap (λ j. (let X = at k d live M in X.nodes j)) here.0 ∙ here_is k d live M)))
+              (λ here. ap (λ (z : Node). is_some (held_at (object x) (let c = z.disk in c.store))) here.1 ∙ w.fits.0.0 (object x)
+              (held (the_node k d live) (ap (λ j. (let X = at k d live M in X.nodes j)) here.0 ∙ here_is k d live M)))
               (λ there. held a there.1) (now_cases k d live M AnyLine Sends Fits Z w n a is)
 
       by_on : (p : Post) (a : Asked) (h : Head) (b : Ask) → IsAnsweredBy M.sent p a h b → IsAnsweredBy Z.sent p a h b
@@ -166,10 +128,14 @@ module _ (k : ℕ) (d : Disk) (live : Option Parts) (M : Seen) where
       listed_on : AreListed Z
       listed_on = record {
         names = λ j n is. ⊎_elim
-            (λ here. subst (λ (z : Node). NamesHave (HasIt Z) (IsIncluded Z) (let c = z.disk in c.names)) (sym here.1) (names_more (HasIt (at k d live M)) (HasIt Z) more (IsIncluded (at k d live M)) (IsIncluded Z) included_on (let c = w.disk in c.names) w.fits.0.1))
-            (λ there. names_more (HasIt (at k d live M)) (HasIt Z) more (IsIncluded (at k d live M)) (IsIncluded Z) included_on (let c = n.disk in c.names) (lists.names j n there.1))
+            (λ here. subst (λ (z : Node). NamesHave (HasIt Z) (IsIncluded Z) (let c = z.disk in c.names)) (sym here.1)
+            (names_more (HasIt (at k d live M)) (HasIt Z) more (IsIncluded (at k d live M)) (IsIncluded Z) included_on
+            (let c = w.disk in c.names) w.fits.0.1))
+            (λ there. names_more (HasIt (at k d live M)) (HasIt Z) more (IsIncluded (at k d live M)) (IsIncluded Z) included_on
+            (let c = n.disk in c.names) (lists.names j n there.1))
             (now_cases k d live M AnyLine Sends Fits Z w j n is);
-        replies = λ p a r i is. reply_more (HasIt (at k d live M)) (HasIt Z) more M.sent Z.sent by_on p a r (⊎_elim (λ old. lists.replies p a r old is) (λ new. new.1 a r is) (w.back p i));
+        replies = λ p a r i is. reply_more (HasIt (at k d live M)) (HasIt Z) more M.sent Z.sent by_on p a r
+            (⊎_elim (λ old. lists.replies p a r old is) (λ new. new.1 a r is) (w.back p i));
         steps = λ j n t is live_is. steps_more (HasIt (at k d live M)) (HasIt Z) more t.coord (⊎_elim
             (λ here. w.fits.1 t (ap (λ (z : Node). z.live) (sym here.1) ∙ live_is))
             (λ there. lists.steps j n t there.1 live_is)
@@ -190,32 +156,67 @@ module _ (k : ℕ) (d : Disk) (live : Option Parts) (M : Seen) where
     Replies (Send to m) = Sends (record { from = k; to = to; message = m })
     Replies f = ⊤
 
-    fits : (outs : List Effect) → Fine (HasIt (at k d live M)) (IsIncluded (at k d live M)) outs → AllByRecursion Replies outs → AllByRecursion FitsHere outs
+    fits : (outs : List Effect) → Fine (HasIt (at k d live M)) (IsIncluded (at k d live M)) outs → AllByRecursion Replies outs →
+        AllByRecursion FitsHere outs
     fits [] fine all = tt
     fits (Say b ∷ es) fine all = (tt, fits es fine.1 all.1)
     fits (Send to m ∷ es) fine all = (all.0, fits es fine.1 all.1)
-    fits (Do w ∷ es) fine all = ((λ c goes how. ((λ y on. held_stays y how w c (goes.0 y on)), stopped_so (HasIt (at k d live M)) (IsIncluded (at k d live M)) how w c fine.0 goes.1)), fits es fine.1 all.1)
+    fits (Do w ∷ es) fine all = (
+      (λ c goes how. (
+        (λ y on. held_stays y how w c (goes.0 y on)),
+        stopped_so (HasIt (at k d live M)) (IsIncluded (at k d live M)) how w c fine.0 goes.1,
+      )),
+      fits es fine.1 all.1,
+    )
 
     down_lists : (Z : Seen) → Went k M AnyLine Sends (Down k M AnyLine Sends (λ b q. tt) tt Goes) Z → AreListed Z
-    down_lists Z w = listed_on Z (record { more = w.more; lines = w.lines; said_so = w.said_so; back = w.back; on = w.on; others = w.others; disk = w.disk; live = w.live; here = w.here; fits = (w.fits.0, λ t is. let no_way : ◌≡◌ {A = Option Parts} None (Some t) = sym w.fits.1 ∙ is in absurd (cc no_way)) })
+    down_lists Z w = listed_on Z (record {
+      more = w.more;
+      lines = w.lines;
+      said_so = w.said_so;
+      back = w.back;
+      on = w.on;
+      others = w.others;
+      disk = w.disk;
+      live = w.live;
+      here = w.here;
+      fits = (w.fits.0, λ t is. let no_way : ◌≡◌ {A = Option Parts} None (Some t) = sym w.fits.1 ∙ is in absurd (cc no_way));
+    })
 
     pub halt_lists : (e : ℕ) → AreListed (halted e k d M)
     halt_lists e = down_lists (halted e k d M) (halt_went k M AnyLine Sends (λ b q. tt) tt Goes e d goes_here)
 
-    pub go : (e : ℕ) (v : Parts) (outs : List Effect) → StepsHave (HasIt (at k d live M)) v.coord → Fine (HasIt (at k d live M)) (IsIncluded (at k d live M)) outs → AllByRecursion Replies outs → Walks AreListed e k outs (Up AreListed k v) d M
-    go e v outs steps fine all = walks_to (Went k M AnyLine Sends (Down k M AnyLine Sends (λ b q. tt) tt Goes)) AreListed e k outs (λ c N. Went k M AnyLine Sends (UpBy k M AnyLine Sends (λ b q. tt) tt Goes v) (up k c v N)) (Up AreListed k v) d M
+    pub go : (e : ℕ) (v : Parts) (outs : List Effect) → StepsHave (HasIt (at k d live M)) v.coord → Fine (HasIt (at k d live M))
+        (IsIncluded (at k d live M)) outs → AllByRecursion Replies outs → Walks AreListed e k outs (Up AreListed k v) d M
+    go e v outs steps fine all = walks_to (Went k M AnyLine Sends (Down k M AnyLine Sends (λ b q. tt) tt Goes)) AreListed e k outs
+        (λ c N. Went k M AnyLine Sends (UpBy k M AnyLine Sends (λ b q. tt) tt Goes v) (up k c v N)) (Up AreListed k v) d M
         down_lists
-        (λ c N w. listed_on (up k c v N) (record { more = w.more; lines = w.lines; said_so = w.said_so; back = w.back; on = w.on; others = w.others; disk = w.disk; live = w.live; here = w.here; fits = (w.fits.0, λ t is. subst (λ (z : Parts). StepsHave (HasIt (at k d live M)) z.coord) (some_is (sym w.fits.1 ∙ is)) steps) }))
+        (λ c N w. listed_on (up k c v N) (record {
+          more = w.more;
+          lines = w.lines;
+          said_so = w.said_so;
+          back = w.back;
+          on = w.on;
+          others = w.others;
+          disk = w.disk;
+          live = w.live;
+          here = w.here;
+          fits = (w.fits.0, λ t is. subst (λ (z : Parts). StepsHave (HasIt (at k d live M)) z.coord) (some_is (sym w.fits.1 ∙ is)) steps);
+        }))
         (went k M AnyLine Sends (λ b q. tt) tt Goes e v outs d (fits outs fine all) goes_here)
 
     silent_replies : (outs : List Effect) → AllSilent outs → AllByRecursion Replies outs
     silent_replies [] q = tt
     silent_replies (Say b ∷ es) q = (tt, silent_replies es q.1)
     silent_replies (Do w ∷ es) q = (tt, silent_replies es q.1)
-    silent_replies (Send to m ∷ es) q = ((λ a r is. let no_way : ◌≡◌ {A = Option (Asked × Reply)} None (Some (a, r)) = sym q.0 ∙ is in absurd (cc no_way)), silent_replies es q.1)
+    silent_replies (Send to m ∷ es) q = (
+      (λ a r is. let no_way : ◌≡◌ {A = Option (Asked × Reply)} None (Some (a, r)) = sym q.0 ∙ is in absurd (cc no_way)),
+      silent_replies es q.1,
+    )
 
     -- an action that begins
-    pub begun_lists : (e : ℕ) (v : Parts) (b : Body) (l : Label) (g : Labelled) → StepsHave (HasIt (at k d live M)) v.coord → AreListed (up k d v (said e (b ∷ []) (given l g M)))
+    pub begun_lists : (e : ℕ) (v : Parts) (b : Body) (l : Label) (g : Labelled) → StepsHave (HasIt (at k d live M)) v.coord →
+        AreListed (up k d v (said e (b ∷ []) (given l g M)))
     begun_lists e v b l g steps = listed_on (up k d v (said e (b ∷ []) (given l g M))) (record {
       more = numbered e (b ∷ []);
       lines = refl;
@@ -233,7 +234,8 @@ module _ (k : ℕ) (d : Disk) (live : Option Parts) (M : Seen) where
 
 quiet_lists : (e : ℕ) (bs : List Body) (M : Seen) → AreListed M → AreListed (said e bs M)
 quiet_lists e bs M lists = record {
-  names = λ j n is. names_more (HasIt M) (HasIt (said e bs M)) more (IsIncluded M) (IsIncluded M) (λ u x n i. i) (let d = n.disk in d.names) (lists.names j n is);
+  names = λ j n is. names_more (HasIt M) (HasIt (said e bs M)) more (IsIncluded M) (IsIncluded M) (λ u x n i. i) (let d = n.disk in
+      d.names) (lists.names j n is);
   replies = λ p a r i is. reply_more (HasIt M) (HasIt (said e bs M)) more M.sent M.sent (λ p a h b z. z) p a r (lists.replies p a r i is);
   steps = λ j n t is live. steps_more (HasIt M) (HasIt (said e bs M)) more t.coord (lists.steps j n t is live);
 }
@@ -279,14 +281,23 @@ module _ (hd : Header) (e k : ℕ) (d : Disk) (t : Parts) (M : Seen) (base : Lis
   its_up = it e k d t M (base.0.0.0.0, good)
 
   place : Place M.sent k t.coord
-  place = let u = its_up in record { actions = base.0.0.0.0; begun = good.begun; good = coord_good; numbered = u.numbered; faithful = u.faithful; binds = bound_all.nodes k here t (node_here M k here) refl }
+  place = let u = its_up in record {
+    actions = base.0.0.0.0;
+    begun = good.begun;
+    good = coord_good;
+    numbered = u.numbered;
+    faithful = u.faithful;
+    binds = bound_all.nodes k here t (node_here M k here) refl;
+  }
 
   works : length t.coord.doings ≡ length t.coord.tree.branches
   works = let u = its_up in let f = u.faithful in f.works
 
   -- ---- an answer that comes
 
-  module _ (from : ℕ) (m : Message) (there : In (record { from = from; to = k; message = m }) M.sent) (a : Asked) (r : Reply) (of : answers m ≡ Some (a, r)) (q : Doing) (s : Steps) (does : doing_of a.act t.coord ≡ Some q) (now : q.now ≡ Calling s) (waits : waits_for_call from a r s ≡ true) where
+  module _ (from : ℕ) (m : Message) (there : In (record { from = from; to = k; message = m }) M.sent) (a : Asked) (r : Reply)
+      (of : answers m ≡ Some (a, r)) (q : Doing) (s : Steps) (does : doing_of a.act t.coord ≡ Some q) (now : q.now ≡ Calling s)
+      (waits : waits_for_call from a r s ≡ true) where
     -- the stores that naming names are of the object that was asked
     names_them : (b : BoundReply) → r ≡ Reply.Bound b → BoundHas (HasIt (up k d t M)) s.x b
     names_them b is = subst (λ y. BoundHas (HasIt (up k d t M)) y b) x_is w.5
@@ -298,7 +309,8 @@ module _ (hd : Header) (e k : ℕ) (d : Disk) (t : Parts) (M : Seen) (base : Lis
         h = w.0
 
         of_step : IsOfStep s w.4.post.to h (ask.Bind w.1 w.2 w.3)
-        of_step = of_waiting k d t M asked from a r q s does now (let u = its_up in u.numbered a.act q does) waits (record { from = from; to = k; message = m }) refl h (ask.Bind w.1 w.2 w.3) w.4
+        of_step = of_waiting k d t M asked from a r q s does now (let u = its_up in
+            u.numbered a.act q does) waits (record { from = from; to = k; message = m }) refl h (ask.Bind w.1 w.2 w.3) w.4
 
         x_is : w.1 ≡ s.x
         x_is = binds_own s.x w.1 w.2 w.3 s.goal s.at of_step.same
@@ -327,15 +339,18 @@ module _ (hd : Header) (e k : ℕ) (d : Disk) (t : Parts) (M : Seen) (base : Lis
     p = record { from = from; to = k; message = m }
 
     -- what a Confirm includes its top includes
-    includes : (h : Head) (g : Grants) (x i : Marks) → asks m ≡ Some (h, ask.Confirm g x i) → (y n : ℕ) → Among (y, n) i → IsIncluded (up k d t M) (top_of h.path) y n
+    includes : (h : Head) (g : Grants) (x i : Marks) → asks m ≡ Some (h, ask.Confirm g x i) → (y n : ℕ) → Among (y, n) i →
+        IsIncluded (up k d t M) (top_of h.path) y n
     includes h g x i is y n among =
         let known = base.1.0.0.0.0.0.1 in
         let prepared = known.2.1 in
-        let f : IsForItself known.0 from h (top_of h.path) = subst (AsksForItself known.0 from) is (prepared.sent p there) (top_of h.path) refl in
+        let f : IsForItself known.0 from h (top_of h.path) = subst (AsksForItself known.0 from) is (prepared.sent p there) (top_of h.path)
+        refl in
         (p, there, sym f.home, h, g, x, i, is, f.same, among)
 
     -- whose commit is told, is decided
-    told_decided : (u : Uid) → last_end (told_by m) ≡ Some (u, ending.Commit) → (x n : ℕ) → IsIncluded (up k d t M) u x n → HasIt (up k d t M) x n
+    told_decided : (u : Uid) → last_end (told_by m) ≡ Some (u, ending.Commit) → (x n : ℕ) → IsIncluded (up k d t M) u x n →
+        HasIt (up k d t M) x n
     told_decided u last x n included =
         let written = (let kept = base.1.0.0.0.0.0.0.0 in kept.1) in
         let claims = written.posts p there in
@@ -348,8 +363,10 @@ module _ (hd : Header) (e k : ℕ) (d : Disk) (t : Parts) (M : Seen) (base : Lis
     abbrev Any : Head → ℕ → ObjectState → Type 0
     Any h x st = ⊤
 
-    bind_names : (h : Head) (x : ℕ) (include : Bool) (avoid : Binding) (n : Naming) (q : BoundReply) → (let r = naming.bind h.path x include avoid d.names n in r.reply) ≡ Some q → BoundHas (HasIt (up k d t M)) x q
-    bind_names h x include avoid n q is = binds (HasIt (up k d t M)) x h.path include avoid d.names n (listed_so (HasIt (up k d t M)) (IsIncluded (up k d t M)) x d.names (names_here k d (Some t) M lists)) q is
+    bind_names : (h : Head) (x : ℕ) (include : Bool) (avoid : Binding) (n : Naming) (q : BoundReply) →
+        (let r = naming.bind h.path x include avoid d.names n in r.reply) ≡ Some q → BoundHas (HasIt (up k d t M)) x q
+    bind_names h x include avoid n q is = binds (HasIt (up k d t M)) x h.path include avoid d.names n
+        (listed_so (HasIt (up k d t M)) (IsIncluded (up k d t M)) x d.names (names_here k d (Some t) M lists)) q is
 
     abbrev ItsServer : Server → Type 0
     ItsServer s = ⊤
@@ -381,17 +398,32 @@ module _ (hd : Header) (e k : ℕ) (d : Disk) (t : Parts) (M : Seen) (base : Lis
     By (Void es) = ⊤
     By (Took w es) = ((ItsServer w.server × ItsNaming w.naming) × ItsCoord w.coord) × AllSend Names Any from m w.coord es
 
-    served : (v : Parts) (outs : List Effect) → handle k d t from m ≡ Took v outs → ((ItsServer v.server × ItsNaming v.naming) × ItsCoord v.coord) × AllSend Names Any from m v.coord outs
+    served : (v : Parts) (outs : List Effect) → handle k d t from m ≡ Took v outs →
+        ((ItsServer v.server × ItsNaming v.naming) × ItsCoord v.coord) × AllSend Names Any from m v.coord outs
     served v outs is = subst By is (message_served Names Any from m k d t ItsServer ItsNaming ItsCoord kept
         (λ a r of. let q = heard from a r d.intents t.coord in (
-          heard_has (HasIt (up k d t M)) M.sent k t.coord place steps from a r d.intents (answers_fit base.0.0.0.0 e k d t M good bound_all from m there a r of) (λ z s does now waits. brings from m there a r of z s does now waits),
-          quiet_so Names Any from m q.part q.outs (heard_quiet base.0.0.0.0 e k d t M good from a r) (heard_so base.0.0.0.0 (paths_of base.0.0.0.0) tree_is t.coord coord_good (let u = its_up in u.numbered) works from a r d.intents),
+          heard_has (HasIt (up k d t M)) M.sent k t.coord place steps from a r d.intents (answers_fit base.0.0.0.0 e k d t M good bound_all
+              from m there a r of) (λ z s does now waits. brings from m there a r of z s does now waits),
+          quiet_so Names Any from m q.part q.outs (heard_quiet base.0.0.0.0 e k d t M good from a r) (heard_so base.0.0.0.0
+              (paths_of base.0.0.0.0) tree_is t.coord coord_good (let u = its_up in u.numbered) works from a r d.intents),
         ))
-        (λ u. let q = acked from u d.intents t.coord in (acked_has (HasIt (up k d t M)) M.sent k t.coord place steps from u d.intents, quiet_so Names Any from m q.part q.outs (acked_quiet base.0.0.0.0 e k d t M good from u) (acked_so from u d.intents t.coord)))
-        (λ u. quiet_so Names Any from m t.coord (answer_query from u d.intents t.coord) (query_quiet base.0.0.0.0 e k d t M good from u) (query_so t.coord from u d.intents t.coord)))
+        (λ u. let q = acked from u d.intents t.coord in (
+          acked_has (HasIt (up k d t M)) M.sent k t.coord place steps from u d.intents,
+          quiet_so Names Any from m q.part q.outs (acked_quiet base.0.0.0.0 e k d t M good from u) (acked_so from u d.intents t.coord),
+        ))
+        (λ u. quiet_so Names Any from m t.coord (answer_query from u d.intents t.coord) (query_quiet base.0.0.0.0 e k d t M good from u)
+        (query_so t.coord from u d.intents t.coord)))
 
-    answer_has : (to : ℕ) (o : Message) (a : Asked) (r : Reply) → AnswerSo Names Any from m to a r → ReplyHas (HasIt (up k d t M)) M.sent (record { from = k; to = to; message = o }) a r
-    answer_has to o a (Reply.Bound r) so = (so.head, so.object, so.include, so.avoid, record { post = p; posted = there; from = sym so.back; asking = so.asking; asker = so.asker }, so.so)
+    answer_has : (to : ℕ) (o : Message) (a : Asked) (r : Reply) → AnswerSo Names Any from m to a r →
+        ReplyHas (HasIt (up k d t M)) M.sent (record { from = k; to = to; message = o }) a r
+    answer_has to o a (Reply.Bound r) so = (
+      so.head,
+      so.object,
+      so.include,
+      so.avoid,
+      record { post = p; posted = there; from = sym so.back; asking = so.asking; asker = so.asker },
+      so.so,
+    )
     answer_has to o a (Reply.Loaded r) so = tt
     answer_has to o a (Reply.Activated r) so = tt
     answer_has to o a (Reply.Noted r) so = tt
@@ -411,60 +443,79 @@ module _ (hd : Header) (e k : ℕ) (d : Disk) (t : Parts) (M : Seen) (base : Lis
         let s = served v outs is in
         go k d (Some t) M lists e v outs s.0.1
         (handled_fine (HasIt (up k d t M)) (IsIncluded (up k d t M)) k d t from m (names_here k d (Some t) M lists) includes told_decided
-        (λ a r of. coord_fine (HasIt (up k d t M)) (IsIncluded (up k d t M)) (heard from a r d.intents t.coord).outs (heard_own from a r d.intents t.coord))
-        (λ u. coord_fine (HasIt (up k d t M)) (IsIncluded (up k d t M)) (acked from u d.intents t.coord).outs (acked_own from u d.intents t.coord))
-        (λ u. coord_fine (HasIt (up k d t M)) (IsIncluded (up k d t M)) (answer_query from u d.intents t.coord) (query_own from u d.intents t.coord)) v outs is)
+        (λ a r of. coord_fine (HasIt (up k d t M)) (IsIncluded (up k d t M)) (heard from a r d.intents t.coord).outs
+        (heard_own from a r d.intents t.coord))
+        (λ u. coord_fine (HasIt (up k d t M)) (IsIncluded (up k d t M)) (acked from u d.intents t.coord).outs
+        (acked_own from u d.intents t.coord))
+        (λ u. coord_fine (HasIt (up k d t M)) (IsIncluded (up k d t M)) (answer_query from u d.intents t.coord)
+        (query_own from u d.intents t.coord)) v outs is)
         (all_replies v.coord outs s.1)
 
   -- ---- an act, and a tick
 
-  act_lists : (i : Input) → is_act i ≡ true → refusal_up hd i t.coord ≡ None → Walks AreListed e k (let r = acts i d.intents t.coord in r.outs) (Up AreListed k (with_coord t (acts i d.intents t.coord).part)) d M
+  act_lists : (i : Input) → is_act i ≡ true → refusal_up hd i t.coord ≡ None →
+      Walks AreListed e k (let r = acts i d.intents t.coord in r.outs) (Up AreListed k (with_coord t (acts i d.intents t.coord).part)) d M
   act_lists i is free =
       let r = acts i d.intents t.coord in
-      go k d (Some t) M lists e (with_coord t r.part) r.outs (acts_has (HasIt (up k d t M)) M.sent k t.coord place steps hd i d.intents free other)
+      go k d (Some t) M lists e (with_coord t r.part) r.outs
+      (acts_has (HasIt (up k d t M)) M.sent k t.coord place steps hd i d.intents free other)
       (coord_fine (HasIt (up k d t M)) (IsIncluded (up k d t M)) r.outs (acts_own i d.intents t.coord))
       (silent_replies k d (Some t) M lists r.outs (quiet_silent r.outs (acts_quiet base.0.0.0.0 e k d t M good hd i is free)))
     where
       other : (l : Label) (how : Kind) (parent : Option Label) → i ≢ input.Begin l how parent
       other l how parent same = let no_way : false ≡ true = sym (ap is_act same) ∙ is in cc no_way
 
-  tick_lists : Walks AreListed e k (tick_outs (record { number = k; disk = d; live = Some t }) t) (Up AreListed k (with_coord t (again_all t.coord.doings t.coord).part)) d M
+  tick_lists : Walks AreListed e k (tick_outs (record { number = k; disk = d; live = Some t }) t)
+      (Up AreListed k (with_coord t (again_all t.coord.doings t.coord).part)) d M
   tick_lists =
       let r = again_all t.coord.doings t.coord in
       let tolds = tolds_again t.coord.telling in
       let outs = tick_outs (record { number = k; disk = d; live = Some t }) t in
       go k d (Some t) M lists e (with_coord t r.part) outs (again_has (HasIt (up k d t M)) M.sent k t.coord place steps)
-      (fine_both (HasIt (up k d t M)) (IsIncluded (up k d t M)) (r.outs ++ tolds) (map query_about (holders d t)) (fine_both (HasIt (up k d t M)) (IsIncluded (up k d t M)) r.outs tolds (coord_fine (HasIt (up k d t M)) (IsIncluded (up k d t M)) r.outs (again_own t.coord.doings t.coord)) (tells_fine (HasIt (up k d t M)) (IsIncluded (up k d t M)) t.coord.telling)) (queries (HasIt (up k d t M)) (IsIncluded (up k d t M)) (holders d t)))
+      (fine_both (HasIt (up k d t M)) (IsIncluded (up k d t M)) (r.outs ++ tolds) (map query_about (holders d t))
+      (fine_both (HasIt (up k d t M)) (IsIncluded (up k d t M)) r.outs tolds (coord_fine (HasIt (up k d t M)) (IsIncluded (up k d t M))
+      r.outs (again_own t.coord.doings t.coord)) (tells_fine (HasIt (up k d t M)) (IsIncluded (up k d t M)) t.coord.telling))
+      (queries (HasIt (up k d t M)) (IsIncluded (up k d t M)) (holders d t)))
       (silent_replies k d (Some t) M lists outs (quiet_silent outs (tick_quiet base.0.0.0.0 e k d t M good)))
 
 -- ---- a restart
 
 module _ (hd : Header) (e k : ℕ) (d : Disk) (M : Seen) (lists : AreListed (down k d M)) where
   restart_lists : Walks AreListed e k (restart_outs hd k (d.inc + 1) d) (Up AreListed k (parts_in k (d.inc + 1) d)) d M
-  restart_lists = go k d None M lists e (parts_in k (d.inc + 1) d) (restart_outs hd k (d.inc + 1) d) (new_has (HasIt (down k d M)) k (d.inc + 1) d.intents)
+  restart_lists = go k d None M lists e (parts_in k (d.inc + 1) d) (restart_outs hd k (d.inc + 1) d)
+      (new_has (HasIt (down k d M)) k (d.inc + 1) d.intents)
       (restart_fine (HasIt (down k d M)) (IsIncluded (down k d M)) hd k (d.inc + 1) d)
       (silent_replies k d None M lists (restart_outs hd k (d.inc + 1) d) (restart_silent hd k (d.inc + 1) d))
 
 -- ---- at first
 
 -- a state that is put is there, and those before it stay
-puts_keep : (y : Uid) (ss : List ObjectState) (held : List (Uid × ObjectState)) → is_some (at_uid y held) ≡ true → is_some (at_uid y (put_states ss held)) ≡ true
+puts_keep : (y : Uid) (ss : List ObjectState) (held : List (Uid × ObjectState)) → is_some (at_uid y held) ≡ true →
+    is_some (at_uid y (put_states ss held)) ≡ true
 puts_keep y [] held on = on
 puts_keep y (s ∷ ss) held on = puts_keep y ss (put_uid s.uid s held) (put_keeps y s s.uid held on)
 
 -- each store of an object's line has its first state
-line_held : (o : ObjectLine) (n : ℕ) (os : List ObjectLine) (held : List (Uid × ObjectState)) → has o.stores n ≡ true → Among o os → is_some (at_uid (object o.x) (put_states (map first_state (filter (λ (z : ObjectLine). has z.stores n) os)) held)) ≡ true
+line_held : (o : ObjectLine) (n : ℕ) (os : List ObjectLine) (held : List (Uid × ObjectState)) → has o.stores n ≡ true → Among o os →
+    is_some (at_uid (object o.x) (put_states (map first_state (filter (λ (z : ObjectLine). has z.stores n) os)) held)) ≡ true
 line_held o n [] held on i = absurd i
 line_held o n (z ∷ zs) held on (inl same) = by (has z.stores n) (ap (λ (l : ObjectLine). has l.stores n) same ∙ on)
   where
-    by : (b : Bool) → b ≡ true → is_some (at_uid (object o.x) (put_states (map first_state (cond b (z ∷ filter (λ (l : ObjectLine). has l.stores n) zs) (filter (λ (l : ObjectLine). has l.stores n) zs))) held)) ≡ true
-    by true is = puts_keep (object o.x) (map first_state (filter (λ (l : ObjectLine). has l.stores n) zs)) (put_uid (object z.x) (first_state z) held)
-        (ap (λ (l : ObjectLine). is_some (at_uid (object l.x) (put_uid (object z.x) (first_state z) held))) (sym same) ∙ ap (λ (q : Option ObjectState). is_some q) (put_same (object z.x) (first_state z) held))
+    by : (b : Bool) → b ≡ true → is_some (at_uid (object o.x) (put_states (map first_state
+        (cond b (z ∷ filter (λ (l : ObjectLine). has l.stores n) zs) (filter (λ (l : ObjectLine). has l.stores n) zs))) held)) ≡ true
+    by true is = puts_keep (object o.x) (map first_state (filter (λ (l : ObjectLine). has l.stores n) zs))
+        (put_uid (object z.x) (first_state z) held)
+        (ap (λ (l : ObjectLine). is_some (at_uid (object l.x) (put_uid (object z.x) (first_state z) held))) (sym same)
+        ∙ ap (λ (q : Option ObjectState). is_some q) (put_same (object z.x) (first_state z) held))
     by false is = absurd (cc is)
-line_held o n (z ∷ zs) held on (inr i) = by (has z.stores n) (line_held o n zs held on i) (line_held o n zs (put_uid (object z.x) (first_state z) held) on i)
+line_held o n (z ∷ zs) held on (inr i) =
+    by (has z.stores n) (line_held o n zs held on i) (line_held o n zs (put_uid (object z.x) (first_state z) held) on i)
   where
-    by : (b : Bool) → is_some (at_uid (object o.x) (put_states (map first_state (filter (λ (l : ObjectLine). has l.stores n) zs)) held)) ≡ true → is_some (at_uid (object o.x) (put_states (map first_state (filter (λ (l : ObjectLine). has l.stores n) zs)) (put_uid (object z.x) (first_state z) held))) ≡ true
-        → is_some (at_uid (object o.x) (put_states (map first_state (cond b (z ∷ filter (λ (l : ObjectLine). has l.stores n) zs) (filter (λ (l : ObjectLine). has l.stores n) zs))) held)) ≡ true
+    by : (b : Bool) → is_some (at_uid (object o.x) (put_states (map first_state (filter (λ (l : ObjectLine). has l.stores n) zs)) held))
+        ≡ true → is_some (at_uid (object o.x)
+        (put_states (map first_state (filter (λ (l : ObjectLine). has l.stores n) zs)) (put_uid (object z.x) (first_state z) held))) ≡ true
+        → is_some (at_uid (object o.x) (put_states (map first_state
+        (cond b (z ∷ filter (λ (l : ObjectLine). has l.stores n) zs) (filter (λ (l : ObjectLine). has l.stores n) zs))) held)) ≡ true
     by true old new = new
     by false old new = old
 
@@ -479,9 +530,11 @@ of_has Q (n ∷ ns) each = (each n (ap (λ b. b || has ns n) (same_number n)), o
 
 first_lists : (hd : Header) → AreListed (see [] (format hd))
 first_lists hd = record {
-  names = λ j n is. subst (λ (z : Node). NamesHave P0 I0 (let d = z.disk in d.names)) (first_at hd j n is) (record { held = by_node (j == 1); pend = tt });
+  names = λ j n is. subst (λ (z : Node). NamesHave P0 I0 (let d = z.disk in d.names)) (first_at hd j n is)
+      (record { held = by_node (j == 1); pend = tt });
   replies = λ p a r i is. absurd i;
-  steps = λ j n t is live. subst (λ (z : Parts). StepsHave P0 z.coord) (some_is (ap (λ (z : Node). z.live) (first_at hd j n is) ∙ live)) (new_has P0 j 1 (let d = first_disk hd j in d.intents));
+  steps = λ j n t is live. subst (λ (z : Parts). StepsHave P0 z.coord) (some_is (ap (λ (z : Node). z.live) (first_at hd j n is) ∙ live))
+      (new_has P0 j 1 (let d = first_disk hd j in d.intents));
 }
   where
     P0 : Of
@@ -494,14 +547,18 @@ first_lists hd = record {
     Its held = AllByRecursion (λ (e : Uid × ObjectState). EntryHas (HasIt (see [] (format hd)) (let u = e.0 in u.num)) e.1) held
 
     has_line : (o : ObjectLine) → Among o hd.objects → (n : ℕ) → has o.stores n ≡ true → HasIt (see [] (format hd)) o.x n
-    has_line o i n on = inl (λ a is. subst (λ (z : Node). is_some (held_at (object o.x) (let d = z.disk in d.store)) ≡ true) (first_at hd n a is) (line_held o n hd.objects [] on i))
+    has_line o i n on = inl (λ a is. subst (λ (z : Node). is_some (held_at (object o.x) (let d = z.disk in d.store)) ≡ true)
+        (first_at hd n a is) (line_held o n hd.objects [] on i))
 
     one : (o : ObjectLine) → Among o hd.objects → EntryHas (HasIt (see [] (format hd)) o.x) (first_entry o)
-    one o i = subst (λ (e : Entry). AllByRecursion (HasIt (see [] (format hd)) o.x) e.stores) (sym (entry_back (record { servers = o.servers; stores = o.stores }))) (of_has (HasIt (see [] (format hd)) o.x) o.stores (has_line o i))
+    one o i = subst (λ (e : Entry). AllByRecursion (HasIt (see [] (format hd)) o.x) e.stores) (sym
+        (entry_back (record { servers = o.servers; stores = o.stores }))) (of_has (HasIt (see [] (format hd)) o.x) o.stores (has_line o i))
 
-    lines : (os : List ObjectLine) (held : List (Uid × ObjectState)) → ((o : ObjectLine) → Among o os → Among o hd.objects) → Its held → Its (put_states (map first_entry os) held)
+    lines : (os : List ObjectLine) (held : List (Uid × ObjectState)) → ((o : ObjectLine) → Among o os → Among o hd.objects) → Its held →
+        Its (put_states (map first_entry os) held)
     lines [] held within so = so
-    lines (o ∷ os) held within so = lines os (put_uid (entry o.x) (first_entry o) held) (λ z i. within z (inr i)) (put_at (λ u (z : ObjectState). EntryHas (HasIt (see [] (format hd)) u.num) z) (entry o.x) (first_entry o) held (one o (within o (inl refl))) so)
+    lines (o ∷ os) held within so = lines os (put_uid (entry o.x) (first_entry o) held) (λ z i. within z (inr i)) (put_at (λ u
+        (z : ObjectState). EntryHas (HasIt (see [] (format hd)) u.num) z) (entry o.x) (first_entry o) held (one o (within o (inl refl))) so)
 
     by_node : (b : Bool) → Its (put_states (cond b (map first_entry hd.objects) []) [])
     by_node true = lines hd.objects [] (λ o i. i) tt
@@ -515,7 +572,9 @@ lists_given hd = record {
   stop = λ e k d live M base lists. halt_lists k d live M lists e;
   message = λ e k d t v from m outs M base lists there meant is. message_lists hd e k d t M base lists from m there v outs is;
   act = λ e k d t i M is free base lists. act_lists hd e k d t M base lists i is free;
-  begin = λ e k d t l how parent M new may free base lists. begun_lists k d (Some t) M lists e (with_coord t (begin_action l how parent (parent_of parent t.coord) t.coord).part) (body.Began l how _ parent) l (record { node = k; serial = is_serial_kind how }) (begins_has (HasIt (up k d t M)) l how parent t.coord (steps hd e k d t M base lists));
+  begin = λ e k d t l how parent M new may free base lists. begun_lists k d (Some t) M lists e (with_coord t (begin_action l how parent
+      (parent_of parent t.coord) t.coord).part) (body.Began l how _ parent) l (record { node = k; serial = is_serial_kind how })
+      (begins_has (HasIt (up k d t M)) l how parent t.coord (steps hd e k d t M base lists));
   tick = λ e k d t M base lists. tick_lists hd e k d t M base lists;
   restart = λ e k d M base lists. restart_lists hd e k d M lists;
   first = first_lists hd;
@@ -526,4 +585,5 @@ abbrev pub ListsAreKnown : Header → Seen → Type 0
 ListsAreKnown hd M = ListBase hd M × AreListed M
 
 pub lists_keep : (hd : Header) → HeaderInForm hd → Keeps hd (ListsAreKnown hd)
-lists_keep hd form = kept_both hd (ListBase hd) AreListed (kept_both hd RequestsAreKnown (StocksAreKnown hd) (requests_keep hd) (keeps_given hd RequestsAreKnown (StocksAreKnown hd) (stocks_keep hd form))) (lists_given hd)
+lists_keep hd form = kept_both hd (ListBase hd) AreListed (kept_both hd RequestsAreKnown (StocksAreKnown hd) (requests_keep hd)
+    (keeps_given hd RequestsAreKnown (StocksAreKnown hd) (stocks_keep hd form))) (lists_given hd)

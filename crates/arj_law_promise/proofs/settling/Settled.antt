@@ -1,50 +1,21 @@
 -- What is known in every run gives all that a quiesce takes of records and of what is prepared.
-use Rattle.std.proofs.Common.{◌≡◌, ◌≢◌, ◌==◌, ◌∙◌, ℕ, Bool, true, false, cond, List, [], ◌∷◌, Option, Some, None, refl, sym, ap, subst, inl, inr, ⊎_elim, Contains, ◌++◌}
-use Rattle.std.specs.Prelude.{⊤, ◌&&◌, ◌||◌, not, is_some, nat_le}
-use Rattle.std.specs.List.{AllByRecursion, list_any}
-use Rattle.std.specs.Ordering.{is_eq}
-use Rattle.std.specs.declared.cmp.Ordering.{Ordering}
-use Rattle.std.specs.declared.cmp.Ordering.TheVariants.{Less, Equal, Greater}
-use Rattle.arj_base.specs.Order.{uid_order}
-use Rattle.arj_base.proofs.Uids.{uid_is, uid_same}
-use Rattle.arj_lock.proofs.Members.{in_from, in_to}
-use Rattle.arj_protocol.specs.Words.{Ask, Head, Header, Kind, ObjectState, Uid, asks, first_uid, uid_eq, uids_of}
-use Rattle.arj_protocol.specs.Words.kind
-use Rattle.arj_protocol.specs.Effect.{Disk, Intent, is_prepared}
-use Rattle.arj_protocol.specs.Ending.{is_deferred, is_member_of}
-use Rattle.arj_protocol.specs.Node.{Parts}
-use Rattle.arj_protocol.specs.Order.{at_uid, has}
-use Rattle.arj_protocol.specs.Step.{Node}
-use Rattle.arj_protocol.specs.Tree.{at_place, is_open, is_open_branch, is_own, root_of}
-use Rattle.arj_law_parts.specs.parts.Actions.{Action, AreBegun, Stands, act_of}
-use Rattle.arj_law_parts.specs.parts.Claims.{IsSettled}
-use Rattle.arj_law_parts.specs.parts.Coords.{IsCommitting}
-use Rattle.arj_law_parts.specs.parts.Messages.{AreOfTops}
-use Rattle.arj_law_parts.specs.parts.Objects as objects
-use Rattle.arj_law_parts.proofs.parts.Begun.{one_action, serial_alone, where_stands}
-use Rattle.arj_law_parts.proofs.parts.Keys.{in_at, order_exact}
-use Rattle.arj_law_runs.specs.kept.Worlds.{IsGood, IsGoodOf}
-use Rattle.arj_law_runs.proofs.kept.Walked.{same_number}
-use Rattle.arj_law_parts.specs.moves.Seen.{In, up}
-use Rattle.arj_promise.specs.Runs.{Post, Seen}
-use Rattle.arj_law_parts.proofs.moves.Happens.{keeps_asked}
-use Rattle.arj_law_runs.specs.addresses.Addresses.{AreAddressed}
-use Rattle.arj_law_runs.specs.addresses.Binds.{BindsAreKnown}
-use Rattle.arj_law_runs.proofs.addresses.Runs.{kept as addresses_keep}
+use Rattle.arj_law_parts.proofs.Words
+use Words.{◌≡◌, ◌≢◌, ◌==◌, ◌∙◌, ℕ, Bool, true, false, cond, List, [], ◌∷◌, Option, Some, None, refl, sym, ap, subst, inl, inr, ⊎_elim}
+use Words.{Contains, ◌++◌, ⊤, ◌&&◌, ◌||◌, not, is_some, nat_le, AllByRecursion, list_any, is_eq, Ordering, Less, Equal, Greater, uid_order}
+use Words.{uid_is, uid_same, in_from, in_to, Ask, Head, Header, Kind, ObjectState, Uid, asks, first_uid, uid_eq, uids_of, Disk, Intent}
+use Words.{is_prepared, is_deferred, is_member_of, Parts, at_uid, has, Node, at_place, is_open, is_open_branch, is_own, root_of, Post, Seen}
+use Words.kind
+use Rattle.arj_law_promise.proofs.Terms
+use Terms.{Action, AreBegun, Stands, act_of, IsSettled, IsCommitting, AreOfTops, one_action, serial_alone, where_stands, in_at, order_exact}
+use Terms.{IsGood, IsGoodOf, same_number, In, up, keeps_asked, AreAddressed, BindsAreKnown, kept as addresses_keep, AreRecorded, IsRecorded}
+use Terms.{IsRooted, KeepsOf, IsTopOf, kept_of, coords_plain, of_both, of_more, records_of, SettlesAll, asked_both, AskersAreSettled}
+use Terms.{AsksForItself, IsAskedNode, IsForItself, PreparedWereAsked, WasAsked, preparer, preparer_in, AskersSettle, DisksAreKnown}
+use Terms.{KnowsPrepared}
+use Terms.objects
+use Rattle.arj_law_promise.proofs.settling.{AskedWalks.asked_of, Askers.askers_kept}
+use Rattle.arj_law_promise.specs.settling.Settled.{HandlersSettle}
+use Rattle.arj_law_runs.specs.resting.Quiet.{AreKept, IsPrepared}
 use Rattle.arj_law_disk_view.specs.view.Pairs as pairs
-use Rattle.arj_law_disk_view.specs.running.Records.{AreRecorded, IsRecorded, IsRooted}
-use Rattle.arj_law_lock_view.specs.facts.Acts.{KeepsOf}
-use Rattle.arj_law_lock_view.specs.facts.Uppers.{IsTopOf}
-use Rattle.arj_law_lock_view.proofs.facts.Acts.{kept_of}
-use Rattle.arj_law_lock_view.proofs.facts.CoordRuns.{coords_plain}
-use Rattle.arj_law_serial.proofs.whole.Of.{of_both, of_more}
-use Rattle.arj_law_serial.proofs.whole.Whole.{records_of}
-use Rattle.arj_law_runs.specs.resting.Quiet.{AreKept, IsPrepared, SettlesAll}
-use Rattle.arj_law_runs.proofs.resting.Quiesces.{asked_both}
-use Rattle.arj_law_promise.specs.settling.Prepared.{AskersAreSettled, AsksForItself, IsAskedNode, IsForItself, PreparedWereAsked, WasAsked, preparer, preparer_in}
-use Rattle.arj_law_promise.specs.settling.Settled.{AskersSettle, DisksAreKnown, HandlersSettle, KnowsPrepared}
-use Rattle.arj_law_promise.proofs.settling.AskedWalks.{asked_of}
-use Rattle.arj_law_promise.proofs.settling.Askers.{askers_kept}
 
 never : {P : Type 0} {b : Bool} → b ≡ true → b ≡ false → P
 never holds fails = let no_way : true ≡ false = sym holds ∙ fails in absurd (cc no_way)
@@ -77,12 +48,15 @@ module _ (acts : List Action) (begun : AreBegun acts) where
       by kind.Constituent is s =
           let from = serial_alone acts begun s.0 (in_from s.0 acts s.1) s.2 in
           let same : act_of s.0 ≡ act_of top.0 = sym (ap first_uid (s.3 ∙ ap (λ us. us ++ act_of a ∷ []) from.0)) ∙ root ∙ sym top.2 in
-          absurd (top.4 (ap (λ (b : Action). b.kind) (sym (one_action acts begun s.0 top.0 (in_from s.0 acts s.1) (in_from top.0 acts top.1) same)) ∙ s.2))
+          absurd (top.4 (ap (λ (b : Action). b.kind)
+          (sym (one_action acts begun s.0 top.0 (in_from s.0 acts s.1) (in_from top.0 acts top.1) same)) ∙ s.2))
 
   -- so no record of another action is kept for it
-  undeferred : (intents : List (Uid × Intent)) (u : Uid) (k : ℕ) → AreOfTops acts intents → ((w : Uid) (i : Intent) → Contains {X = Uid × Intent} intents (w, i) → IsRooted acts w i) → IsTopOf acts u → is_deferred u intents k ≡ false
+  undeferred : (intents : List (Uid × Intent)) (u : Uid) (k : ℕ) → AreOfTops acts intents → ((w : Uid) (i : Intent) →
+      Contains {X = Uid × Intent} intents (w, i) → IsRooted acts w i) → IsTopOf acts u → is_deferred u intents k ≡ false
   undeferred [] u k tops rooted top = refl
-  undeferred (e ∷ es) u k tops rooted top = (λ i. member (uid_eq e.1.root u) refl (uid_eq e.0 u) refl i || list_any (is_member_of u k) es) ∙ undeferred es u k tops.1 (λ w i there. rooted w i (later (w, i) there)) top
+  undeferred (e ∷ es) u k tops rooted top = (λ i. member (uid_eq e.1.root u) refl (uid_eq e.0 u) refl i || list_any (is_member_of u k) es)
+      ∙ undeferred es u k tops.1 (λ w i there. rooted w i (later (w, i) there)) top
     where
       later : (x : Uid × Intent) → Contains es x → Contains (e ∷ es) x
       later x there = in_to x (e ∷ es) (inr (in_from x es there))
@@ -103,7 +77,8 @@ module _ (acts : List Action) (begun : AreBegun acts) where
 -- ---- what is taken
 
 module _ (hd : Header) where
-  here : (n : ℕ) (d : Disk) (t : Parts) (M : Seen) → (let S = up n d t M in S.nodes n) ≡ Some (record { number = n; disk = d; live = Some t })
+  here : (n : ℕ) (d : Disk) (t : Parts) (M : Seen) →
+      (let S = up n d t M in S.nodes n) ≡ Some (record { number = n; disk = d; live = Some t })
   here n d t M = λ i. cond (same_number n i) (Some (record { number = n; disk = d; live = Some t })) (M.nodes n)
 
   within : (M : Seen) (p : Post) → KnowsPrepared hd M → In p M.sent → (nat_le 1 p.to && nat_le p.to hd.nodes) ≡ true
@@ -140,11 +115,13 @@ module _ (hd : Header) where
     awaited u i is = let r = recorded in let h = (r.live t refl).0 in h.awaited u i is
 
     -- of whom something is prepared this holds
-    each_of : (Q : Uid → Type 0) (u : Uid) (m : List (Uid × List ObjectState)) → AllByRecursion (λ (e : Uid × List ObjectState). Q e.0) m → is_some (at_uid u m) ≡ true → Q u
+    each_of : (Q : Uid → Type 0) (u : Uid) (m : List (Uid × List ObjectState)) → AllByRecursion (λ (e : Uid × List ObjectState). Q e.0) m →
+        is_some (at_uid u m) ≡ true → Q u
     each_of Q u [] all is = absurd (cc is)
     each_of Q u (e ∷ es) all is = by (uid_order u e.0) refl is (each_of Q u es all.1)
       where
-        by : (r : Ordering) → uid_order u e.0 ≡ r → is_some (cond (is_eq r) (Some e.1) (at_uid u es)) ≡ true → (is_some (at_uid u es) ≡ true → Q u) → Q u
+        by : (r : Ordering) → uid_order u e.0 ≡ r → is_some (cond (is_eq r) (Some e.1) (at_uid u es)) ≡ true →
+            (is_some (at_uid u es) ≡ true → Q u) → Q u
         by Less order is rest = rest is
         by Equal order is rest = subst Q (sym (order_exact u e.0 order)) all.0
         by Greater order is rest = rest is
@@ -160,10 +137,13 @@ module _ (hd : Header) where
     was_asked : (j : ℕ) (a : Node) (u : Uid) → (up n d t M).nodes j ≡ Some a → IsPrepared u a.disk → WasAsked M.sent u
     was_asked j a u found is = let z = asked in let m = z.nodes j a found in ⊎_elim
         (λ stored. let s = m.store in each_of (WasAsked M.sent) u (let c = a.disk in let p = c.store in p.pend) s.each stored)
-        (λ named. let s = m.names in (each_of (λ w. WasAsked M.sent w × (j ≡ 1)) u (let c = a.disk in let p = c.names in p.pend) s.each named).0) is
+        (λ named. let s = m.names in
+        (each_of (λ w. WasAsked M.sent w × (j ≡ 1)) u (let c = a.disk in let p = c.names in p.pend) s.each named).0) is
 
-    prepared : (j : ℕ) (a : Node) (u : Uid) → (up n d t M).nodes j ≡ Some a → IsPrepared u a.disk → u.node ≡ n → (is_open u t.coord.tree ≡ true → IsCommitting u t.coord) × (is_deferred u d.intents j ≡ false)
-    prepared j a u found is home = (at_commit, undeferred k.0.0.0 (let g = good in g.begun) d.intents u j tops rooted (let f = itself in f.top))
+    prepared : (j : ℕ) (a : Node) (u : Uid) → (up n d t M).nodes j ≡ Some a → IsPrepared u a.disk → u.node ≡ n →
+        (is_open u t.coord.tree ≡ true → IsCommitting u t.coord) × (is_deferred u d.intents j ≡ false)
+    prepared j a u found is home =
+        (at_commit, undeferred k.0.0.0 (let g = good in g.begun) d.intents u j tops rooted (let f = itself in f.top))
       where
         w : WasAsked M.sent u
         w = was_asked j a u found is
@@ -171,7 +151,8 @@ module _ (hd : Header) where
         request : (q : Head × Ask) × (asks w.0.message ≡ Some q) × (preparer q.0 q.1 ≡ Some u)
         request = by (asks w.0.message) refl w.2
           where
-            by : (o : Option (Head × Ask)) → asks w.0.message ≡ o → preparer_in o ≡ Some u → (q : Head × Ask) × (asks w.0.message ≡ Some q) × (preparer q.0 q.1 ≡ Some u)
+            by : (o : Option (Head × Ask)) → asks w.0.message ≡ o → preparer_in o ≡ Some u →
+                (q : Head × Ask) × (asks w.0.message ≡ Some q) × (preparer q.0 q.1 ≡ Some u)
             by None none is = absurd (cc is)
             by (Some q) is for = (q, is, for)
 
@@ -182,22 +163,27 @@ module _ (hd : Header) where
         settled own =
             let f = itself in
             let at_n : w.0.from ≡ n = sym f.home ∙ home in
-            subst (λ v. IsSettled v t.coord) f.same (k.0.1.1 n (record { number = n; disk = d; live = Some t }) t (here n d t M) refl w.0 request.0.0 request.0.1 w.1 at_n request.1 (ap (λ (o : Option Uid). is_some o) request.2) (ap (λ v. is_own v t.coord.tree) f.same ∙ own))
+            subst (λ v. IsSettled v t.coord) f.same
+            (k.0.1.1 n (record { number = n; disk = d; live = Some t }) t (here n d t M) refl w.0 request.0.0 request.0.1 w.1 at_n
+            request.1 (ap (λ (o : Option Uid). is_some o) request.2) (ap (λ v. is_own v t.coord.tree) f.same ∙ own))
 
         at_commit : is_open u t.coord.tree ≡ true → IsCommitting u t.coord
         at_commit opened = ⊎_elim
             (λ over. never opened (ap is_open_branch over.1 ∙ ap not over.2))
             (λ commits. commits) (settled (own_of (is_own u t.coord.tree) refl opened))
           where
-            own_of : (b : Bool) → is_own u t.coord.tree ≡ b → is_open_branch (cond b (at_place u.num t.coord.tree.branches) None) ≡ true → is_own u t.coord.tree ≡ true
+            own_of : (b : Bool) → is_own u t.coord.tree ≡ b → is_open_branch (cond b (at_place u.num t.coord.tree.branches) None) ≡ true →
+                is_own u t.coord.tree ≡ true
             own_of true is some = is
             own_of false is some = absurd (cc some)
 
         tops : AreOfTops k.0.0.0 d.intents
-        tops = let g = good in let p = g.places n (record { number = n; disk = d; live = Some t }) (here n d t M) in let c = p.disk in c.tops
+        tops = let g = good in let p = g.places n (record { number = n; disk = d; live = Some t }) (here n d t M) in let c = p.disk in
+            c.tops
 
         rooted : (v : Uid) (i : Intent) → Contains {X = Uid × Intent} d.intents (v, i) → IsRooted k.0.0.0 v i
-        rooted v i there = let r = recorded in let c = r.disk in c.each v i (in_at (v, i) d.intents (sorted_as d.intents c.sorted) (in_from (v, i) d.intents there))
+        rooted v i there = let r = recorded in let c = r.disk in
+            c.each v i (in_at (v, i) d.intents (sorted_as d.intents c.sorted) (in_from (v, i) d.intents there))
 
   pub settles : SettlesAll hd (KnowsPrepared hd)
   settles = record {
@@ -212,14 +198,17 @@ module _ (hd : Header) where
 -- ---- kept
 
 pub disks_keep : (hd : Header) → KeepsOf hd (λ begun M. ⊤) (λ begun M. AreRecorded begun M × PreparedWereAsked begun M)
-disks_keep hd = of_both hd (λ begun M. ⊤) AreRecorded PreparedWereAsked (of_more hd (λ begun M. ⊤) (λ begun M. ⊤ × PreparedWereAsked begun M) AreRecorded (λ begun M h. tt) (records_of hd)) (of_more hd (λ begun M. ⊤) (λ begun M. ⊤ × AreRecorded begun M) PreparedWereAsked (λ begun M h. tt) (asked_of hd))
+disks_keep hd = of_both hd (λ begun M. ⊤) AreRecorded PreparedWereAsked
+    (of_more hd (λ begun M. ⊤) (λ begun M. ⊤ × PreparedWereAsked begun M) AreRecorded (λ begun M h. tt) (records_of hd))
+    (of_more hd (λ begun M. ⊤) (λ begun M. ⊤ × AreRecorded begun M) PreparedWereAsked (λ begun M h. tt) (asked_of hd))
 
 pub handlers_settle : HandlersSettle
 handlers_settle hd form = (
   asked_both hd (λ M. DisksAreKnown M × ((IsGood M × BindsAreKnown M) × AskersSettle M)) (AreAddressed hd)
       (asked_both hd DisksAreKnown (λ M. (IsGood M × BindsAreKnown M) × AskersSettle M)
       (keeps_asked hd DisksAreKnown (kept_of hd (λ begun M. AreRecorded begun M × PreparedWereAsked begun M) (disks_keep hd)))
-      (keeps_asked hd (λ M. (IsGood M × BindsAreKnown M) × AskersSettle M) (coords_plain (λ s c. AskersAreSettled s.sent s.node c) askers_kept hd)))
+      (keeps_asked hd (λ M. (IsGood M × BindsAreKnown M) × AskersSettle M)
+      (coords_plain (λ s c. AskersAreSettled s.sent s.node c) askers_kept hd)))
       (addresses_keep hd form),
   settles hd,
 )

@@ -1,37 +1,25 @@
 -- The laws of every run, put together for one.
-use Rattle.std.proofs.Common.{◌≡◌, ◌≤◌, ◌∙◌, ◌++◌, false, List, [], ◌∷◌, length-append, arith, sym, ap, subst, ◌⊎◌, inl, inr, ⊎_elim}
-use Rattle.std.specs.List.{AllByRecursion}
+use Rattle.arj_law_parts.proofs.Words
+use Words.{◌≡◌, ◌≤◌, ◌∙◌, ◌++◌, false, List, [], ◌∷◌, length-append, arith, sym, ap, subst, ◌⊎◌, inl, inr, ⊎_elim, AllByRecursion, Header}
+use Words.{Line, World, format, Move, all_moved, journal_by, moved, world_by, most_events, IsInForm, AreGivenUp, NobodyWaits, HasAnswer}
+use Words.{IsPlainIn, AreUp, WaitsOvertaken, EndsQuiet, EndsAtRest}
+use Rattle.arj_law_promise.proofs.Terms.{Holds, moves_asked, over_before, KnowsPrepared}
 use Rattle.arj_journal.specs.ScriptForm.{EventInForm}
-use Rattle.arj_protocol.specs.Words.{Header, Line}
-use Rattle.arj_protocol.specs.World.{World, format}
-use Rattle.arj_law_parts.specs.moves.Keeps.{Holds}
-use Rattle.arj_promise.specs.Runs.{Move, all_moved, journal_by, moved, world_by}
-use Rattle.arj_law_parts.proofs.moves.Moving.{more_moves, moves_asked, scripts_are_moves}
-use Rattle.arj_promise.specs.Runs.{most_events}
-use Rattle.arj_law_runs.proofs.bindings.Events.{as_many}
-use Rattle.arj_law_runs.proofs.calls.Reaching.{moves_keep}
-use Rattle.arj_law_serial.proofs.joint.BookRuns.{lists_nodes, runs_keep_the_book}
-use Rattle.arj_law_serial.proofs.joint.Clean.{joined_runs_are_serial, runs_are_clean}
-use Rattle.arj_law_serial.proofs.joint.DisksInTime.{runs_exclude_on_disks}
-use Rattle.arj_law_serial.proofs.joint.FitRuns.{scripts_in_form}
-use Rattle.arj_law_serial.proofs.joint.FitStops.{script_stops}
-use Rattle.arj_promise.specs.Runs.{IsInForm, IsStoppedInForm}
-use Rattle.arj_law_serial.proofs.holding.AlongMoves.{runs_hold_each}
-use Rattle.arj_promise.specs.Resting.{AreGivenUp, NobodyWaits}
-use Rattle.arj_promise.specs.Waiting.{HasAnswer, IsPlainIn}
-use Rattle.arj_promise.specs.Resting.{AreUp}
-use Rattle.arj_law_runs.proofs.resting.PlainRuns.{quiesces_give_nothing_up}
-use Rattle.arj_law_runs.proofs.resting.GiveUps.{over_before}
+use Rattle.arj_law_parts.proofs.moves.Moving.{more_moves, scripts_are_moves}
+use Rattle.arj_law_promise.proofs.settling
+use settling.{Aborting.runs_show, Idle.line_tells, Idle.quiesces_idle, Idle.rounds_idle, Last.idle_disks_hold, Settled.handlers_settle}
+use settling.{Waiting.quiesces_answer_the_rest, Waiting.runs_leave_overtaken}
 use Rattle.arj_law_promise.specs.settling.Last.{HoldTheLast}
-use Rattle.arj_promise.specs.Waiting.{OnlyOvertakenWait, WaitsOvertaken}
-use Rattle.arj_law_promise.specs.settling.Settled.{KnowsPrepared}
-use Rattle.arj_promise.specs.Resting.{EndsQuiet}
-use Rattle.arj_law_promise.proofs.settling.Aborting.{runs_show}
-use Rattle.arj_law_promise.proofs.settling.Idle.{line_tells, quiesces_idle, rounds_idle}
-use Rattle.arj_law_promise.proofs.settling.Last.{idle_disks_hold}
-use Rattle.arj_law_promise.proofs.settling.Settled.{handlers_settle}
-use Rattle.arj_law_promise.proofs.settling.Waiting.{quiesces_answer_the_rest, runs_leave_overtaken}
-use Rattle.arj_promise.specs.Promise.{CalmQuiescesEndAtRest, EndsAtRest, EndsInQuiesce, EndsInRound, KeptAfterEveryEvent, QuiescesAnswerWhoWaits, QuiescesGiveUpNothing, QuiescesLeaveOvertaken, QuietDisksHoldAll, QuietLinesTell, RoundsEndAtRest, RunsKeepThePromise, ScriptsAreRuns}
+use Rattle.arj_law_runs.proofs.{bindings.Events.as_many, calls.Reaching.moves_keep, resting.PlainRuns.quiesces_give_nothing_up}
+use Rattle.arj_law_serial.proofs.holding.AlongMoves.{runs_hold_each}
+use Rattle.arj_law_serial.proofs.joint
+use joint.{BookRuns.lists_nodes, BookRuns.runs_keep_the_book, Clean.joined_runs_are_serial, Clean.runs_are_clean}
+use joint.{DisksInTime.runs_exclude_on_disks, FitRuns.scripts_in_form, FitStops.script_stops}
+use Rattle.arj_promise.specs.Promise.{CalmQuiescesEndAtRest, EndsInQuiesce, EndsInRound, KeptAfterEveryEvent, QuiescesAnswerWhoWaits}
+use Rattle.arj_promise.specs.Promise.{QuiescesGiveUpNothing, QuiescesLeaveOvertaken, QuietDisksHoldAll, QuietLinesTell, RoundsEndAtRest}
+use Rattle.arj_promise.specs.Promise.{RunsKeepThePromise, ScriptsAreRuns}
+use Rattle.arj_promise.specs.Runs.{IsStoppedInForm}
+use Rattle.arj_promise.specs.Waiting.{OnlyOvertakenWait}
 
 -- ---- the promise
 
@@ -64,7 +52,12 @@ fronts_keep hd front rest f = let g = front_in_form hd front rest f in (g, runs_
 
 pub scripts_run : ScriptsAreRuns
 scripts_run hd es form fit short = (
-  record { header = form; events = scripts_in_form es (format hd) fit; few = subst (λ n. n ≤ most_events) (sym (as_many es (format hd))) short; stops = script_stops es (format hd) fit tt },
+  record {
+    header = form;
+    events = scripts_in_form es (format hd) fit;
+    few = subst (λ n. n ≤ most_events) (sym (as_many es (format hd))) short;
+    stops = script_stops es (format hd) fit tt;
+  },
   scripts_are_moves hd es,
 )
 
@@ -72,7 +65,11 @@ scripts_run hd es form fit short = (
 
 -- where every node is idle, clean files hold the last states
 pub quiet_hold : QuietDisksHoldAll
-quiet_hold hd ms disks f idle are = record { entries = held.entries; stores = λ x s listed. held.stores x s listed (lists_nodes hd f.header (world_by hd ms) (moves_keep hd ms) x s listed).0; nothing = held.nothing }
+quiet_hold hd ms disks f idle are = record {
+  entries = held.entries;
+  stores = λ x s listed. held.stores x s listed (lists_nodes hd f.header (world_by hd ms) (moves_keep hd ms) x s listed).0;
+  nothing = held.nothing;
+}
   where
     h : Holds hd (KnowsPrepared hd) (world_by hd ms)
     h = moves_asked hd (KnowsPrepared hd) (handlers_settle hd f.header).0 ms
@@ -99,24 +96,32 @@ module _ (hd : Header) (ms before : List Move) (q : EndsInQuiesce hd ms before) 
   up_at_end = subst AreUp end_is q.up
 
 pub overtaken : QuiescesLeaveOvertaken
-overtaken hd ms before f q = subst OnlyOvertakenWait (sym (end_is hd ms before q)) (runs_leave_overtaken hd f.header before q.last q.quiesces (open_at_end hd ms before q) (up_at_end hd ms before q))
+overtaken hd ms before f q = subst OnlyOvertakenWait (sym (end_is hd ms before q))
+    (runs_leave_overtaken hd f.header before q.last q.quiesces (open_at_end hd ms before q) (up_at_end hd ms before q))
 
 pub who_waits_is_answered : QuiescesAnswerWhoWaits
-who_waits_is_answered hd ms before f q k c u d node coord does waits = subst (λ (v : World). WaitsOvertaken v k u d ⊎ HasAnswer d (journal_by hd before) v.lines) (sym (end_is hd ms before q))
-    (quiesces_answer_the_rest hd f.header before q.last k c u d q.quiesces (open_at_end hd ms before q) (up_at_end hd ms before q) node coord does waits)
+who_waits_is_answered hd ms before f q k c u d node coord does waits =
+    subst (λ (v : World). WaitsOvertaken v k u d ⊎ HasAnswer d (journal_by hd before) v.lines) (sym (end_is hd ms before q))
+    (quiesces_answer_the_rest hd f.header before q.last k c u d q.quiesces (open_at_end hd ms before q) (up_at_end hd ms before q) node
+    coord does waits)
 
 pub nothing_given_up : QuiescesGiveUpNothing
-nothing_given_up hd ms before q = subst (λ (v : World). (more : List Line) × (v.lines ≡ journal_by hd before ++ more) × AllByRecursion (IsPlainIn v) more) (sym (end_is hd ms before q))
-    (let m = q.last in quiesces_give_nothing_up m.asked (record (world_by hd before) { arms = m.falls }) q.quiesces (open_before hd ms before q))
+nothing_given_up hd ms before q = subst (λ (v : World). (more : List Line) × (v.lines ≡ journal_by hd before ++ more)
+    × AllByRecursion (IsPlainIn v) more) (sym (end_is hd ms before q))
+    (let m = q.last in
+    quiesces_give_nothing_up m.asked (record (world_by hd before) { arms = m.falls }) q.quiesces (open_before hd ms before q))
 
 pub calm_end : CalmQuiescesEndAtRest
-calm_end hd ms before f q calm = at_rest hd ms f (subst EndsQuiet (sym (end_is hd ms before q)) (quiesces_idle hd f.header before q.last calm.1 calm.0 q.quiesces (open_at_end hd ms before q) (up_at_end hd ms before q)))
+calm_end hd ms before f q calm = at_rest hd ms f (subst EndsQuiet (sym (end_is hd ms before q))
+    (quiesces_idle hd f.header before q.last calm.1 calm.0 q.quiesces (open_at_end hd ms before q) (up_at_end hd ms before q)))
 
 pub quiet_end : QuietLinesTell
 quiet_end hd ms before f q =
-    let end : world_by hd ms ≡ moved q.last (world_by hd before) = ap (λ l. all_moved l (format hd)) q.are ∙ more_moves before (q.last ∷ []) (format hd) in
+    let end : world_by hd ms ≡ moved q.last (world_by hd before) = ap (λ l. all_moved l (format hd)) q.are
+    ∙ more_moves before (q.last ∷ []) (format hd) in
     let open_end : (moved q.last (world_by hd before)).over ≡ false = ap (λ (w : World). w.over) (sym end) ∙ q.unlimited in
-    at_rest hd ms f (subst EndsQuiet (sym end) (line_tells q.last (world_by hd before) q.quiesces (over_before q.last (world_by hd before) open_end) open_end q.front q.number (ap (λ (w : World). w.lines) (sym end) ∙ q.line)))
+    at_rest hd ms f (subst EndsQuiet (sym end) (line_tells q.last (world_by hd before) q.quiesces
+    (over_before q.last (world_by hd before) open_end) open_end q.front q.number (ap (λ (w : World). w.lines) (sym end) ∙ q.line)))
 
 -- ---- the stated round
 
@@ -138,7 +143,8 @@ module _ (hd : Header) (ms : List Move) (f : IsInForm hd ms) (r : EndsInRound hd
   last_is = end_is hd ms (r.between ++ r.giveups) r.second ∙ ap (moved r.second.last) w_is
 
   quiet_at_end : EndsQuiet (world_by hd ms)
-  quiet_at_end = subst EndsQuiet (sym last_is) (rounds_idle hd f.header r.before r.giveups r.first.last r.second.last r.first.quiesces r.give_up r.second.quiesces
+  quiet_at_end = subst EndsQuiet (sym last_is)
+      (rounds_idle hd f.header r.before r.giveups r.first.last r.second.last r.first.quiesces r.give_up r.second.quiesces
       (up_at_end hd r.between r.before r.first) who open_last (subst AreUp last_is r.second.up))
     where
       open_last : (moved r.second.last w).over ≡ false

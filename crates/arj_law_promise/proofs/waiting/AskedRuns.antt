@@ -1,73 +1,45 @@
 -- Each handler keeps that answers go to who asked, and that what servers have was asked for.
-use Rattle.std.proofs.Common.{Bool, List, None, Option, Some, [], ap, arith, cond, eqb-true, false, inl, inr, length, map, refl, subst, suc, sym, true, zero, ℕ, ⊎_elim, ◌++◌, ◌+◌, ◌==◌, ◌∙◌, ◌∷◌, ◌≡◌, ◌≢◌, ◌≤◌, ◌⊎◌}
-use Rattle.std.specs.Prelude.{option_map, ⊤}
-use Rattle.std.specs.List.{AllByRecursion}
-use Rattle.arj_base.specs.Uid.{object}
-use Rattle.arj_protocol.specs.Words.{Ask, Asked, Binding, Body, BoundReply, Head, Header, Kind, Label, Message, ObjectState, Path, Uid, asks}
-use Rattle.arj_protocol.specs.Words.ask
-use Rattle.arj_protocol.specs.Words.loaded
-use Rattle.arj_protocol.specs.Ask.{Reply, answers, asked_by, response, top_of}
-use Rattle.arj_protocol.specs.Asking.{again_all, begin_action, heard, waits_for_call}
-use Rattle.arj_protocol.specs.Effect.{Abort, Commit, Disk, Do, Effect, Look, Pair, Prepare, PutInc, PutIntent, RemoveIntent, Say, Send, Served, Stop, held_at, stopped, worked}
-use Rattle.arj_protocol.specs.Ending.{acked, answer_query}
-use Rattle.arj_protocol.specs.Follow.{tick_outs}
-use Rattle.arj_protocol.specs.Naming as naming
-use Rattle.arj_protocol.specs.Naming.{Naming}
-use Rattle.arj_protocol.specs.Node.{Handled, Parts, Took, Void, answer_is_meant, asked_is_meant, handle, handle_ask, holders, if_naming, is_loaded_for, is_loaded_in, is_meant, query_about, reply_is_meant, sends_answer, served, with_coord, with_naming}
-use Rattle.arj_protocol.specs.Server.{Server}
-use Rattle.arj_protocol.specs.Step.{Input, Node, acts as acts_of, first_disk, first_node, naming_at, numbers_to, parent_of, parts_in, refusal_up, restart_outs, tolds_again}
-use Rattle.arj_protocol.specs.Step as input
-use Rattle.arj_protocol.specs.Tree.{at_place}
-use Rattle.arj_protocol.specs.World.{Labelled, format, is_serial_kind, numbered}
-use Rattle.arj_protocol.proofs.CoordSays.{acked_own, acts_own, again_own, heard_own, query_own, tolds_again_own}
-use Rattle.arj_law_parts.specs.parts.Actions.{Action, paths_of}
-use Rattle.arj_law_parts.specs.parts.Coords.{IsGoodCoord}
-use Rattle.arj_law_parts.specs.parts.Copies.{IsTree}
-use Rattle.arj_law_parts.proofs.parts.Begun.{begun_tree}
-use Rattle.arj_law_parts.proofs.parts.TrueSteps.{true_query, true_records, well_acked, well_acts, well_again, well_heard}
-use Rattle.arj_law_runs.specs.kept.Worlds.{IsGoodOf, IsUp}
-use Rattle.arj_law_runs.proofs.kept.Handled.{good_coord, it, own_of_disk, tops_of_disk}
-use Rattle.arj_law_runs.proofs.kept.Starts.{first_at}
-use Rattle.arj_law_runs.proofs.kept.Walked.{other_number, same_number}
-use Rattle.arj_law_parts.specs.moves.Keeps.{is_act}
-use Rattle.arj_law_parts.specs.moves.Seen.{In, at, down, given, posted, said, up}
-use Rattle.arj_promise.specs.Runs.{Post, Seen, see}
-use Rattle.arj_law_parts.specs.moves.Walks.{Up, Walks, halted}
-use Rattle.arj_law_runs.proofs.addresses.Lists.{some_is}
-use Rattle.arj_law_parts.proofs.parts.SaidIncs.{all_map, truly_handled}
-use Rattle.arj_law_runs.proofs.calls.Given.{KeepsGiven}
-use Rattle.arj_law_disk_view.proofs.view.Frames.{node_here}
-use Rattle.arj_law_lock_view.proofs.records.Quiet.{AllQuiet, AllSaid, IncsUp, bind_said, coord_quiet, queries, quiet_both, quiet_incs}
-use Rattle.arj_law_promise.specs.waiting.Asked.{ActivateNamed, Claims, HaveForms, IsAnsweredBy, IsPlaced, MadeWasSaid, ReplyWasAsked, ServerWasAsked, StandsAt, StandsIn, StepsNamed, WasMade, WasNamed, WereAsked}
-use Rattle.arj_law_promise.proofs.waiting.AskedServers.{activate_asked, invoke_asked, none_asked, server_more, told_asked, vote_asked}
-use Rattle.arj_law_serial.proofs.joint.Mute.{AllSilent, restart_silent}
-use Rattle.arj_law_promise.proofs.waiting.Serving.{AllSend, AnswerSo, IsKeptIn, message_served, quiet_silent, quiet_so, restart_asks}
-use Rattle.arj_law_runs.proofs.calls.CoordOuts.{acked_so, acts_so, again_so, heard_so, query_so, tolds_so}
-use Rattle.arj_law_runs.proofs.calls.CoordSends.{AllSo, SendsSo, so_both}
-use Rattle.arj_protocol.specs.Call.{At, AtActivate, AtBind, AtInvoke, AtLoad, AtNote, Steps}
-use Rattle.arj_law_runs.specs.addresses.Binds.{BindsAreKnown}
-use Rattle.arj_promise.specs.Waiting.{IsSaid}
-use Rattle.arj_protocol.specs.Coord.{Calling, Coord, Doing, doing_of}
-use Rattle.arj_law_lock_view.specs.facts.Requests.{AreAsked, RequestsAreKnown}
-use Rattle.arj_law_runs.specs.calls.Coords.{IsOfStep}
-use Rattle.arj_law_lock_view.proofs.facts.Kept.{Place}
-use Rattle.std.proofs.lemmas.Bool.{and_parts}
-use Rattle.arj_law_runs.proofs.addresses.BindRuns.{answers_fit}
-use Rattle.arj_base.proofs.Uids.{uid_is}
-use Rattle.arj_law_promise.proofs.waiting.Known.{binds_own}
-use Rattle.arj_protocol.specs.Words.bound
-use Rattle.arj_law_promise.proofs.waiting.Named.{Brings, acked_named, acts_named, again_named, begins_named, by_more, heard_named, named_more, new_named, sends_named, steps_more}
-use Rattle.arj_law_promise.proofs.waiting.Made.{MakeSaid, SaidIn, back_made_said, bind_made_said, confirm_made_said, hello_made_said, line_new, line_stays, made_more, note_made_said, told_made_said}
-use Rattle.arj_protocol.specs.Confirm.{confirm, recovered_naming}
-use Rattle.arj_protocol.specs.Words.body
+use Rattle.arj_law_parts.proofs.Words
+use Words.{Bool, List, None, Option, Some, [], ap, arith, cond, eqb-true, false, inl, inr, length, map, refl, subst, suc, sym, true, zero}
+use Words.{ℕ, ⊎_elim, ◌++◌, ◌+◌, ◌==◌, ◌∙◌, ◌∷◌, ◌≡◌, ◌≢◌, ◌≤◌, ◌⊎◌, option_map, ⊤, AllByRecursion, object, Ask, Asked, Binding, Body}
+use Words.{BoundReply, Head, Header, Kind, Label, Message, ObjectState, Path, Uid, asks, Reply, answers, asked_by, response, top_of}
+use Words.{again_all, begin_action, heard, waits_for_call, Abort, Commit, Disk, Do, Effect, Look, Pair, Prepare, PutInc, PutIntent}
+use Words.{RemoveIntent, Say, Send, Served, Stop, held_at, stopped, worked, acked, answer_query, tick_outs, Naming, Handled, Parts, Took}
+use Words.{Void, answer_is_meant, asked_is_meant, handle, handle_ask, holders, if_naming, is_loaded_for, is_loaded_in, is_meant}
+use Words.{query_about, reply_is_meant, sends_answer, served, with_coord, with_naming, Server, Input, Node, acts as acts_of, first_disk}
+use Words.{first_node, naming_at, numbers_to, parent_of, parts_in, refusal_up, restart_outs, tolds_again, at_place, Labelled, format}
+use Words.{is_serial_kind, numbered, acked_own, acts_own, again_own, heard_own, query_own, tolds_again_own, Post, Seen, see, At, AtActivate}
+use Words.{AtBind, AtInvoke, AtLoad, AtNote, Steps, IsSaid, Calling, Coord, Doing, doing_of, and_parts, uid_is, confirm, recovered_naming}
+use Words.{Named, at_number}
+use Words.ask
+use Words.loaded
+use Words.naming
+use Words.input
+use Words.bound
+use Words.body
+use Rattle.arj_law_promise.proofs.Terms
+use Terms.{Action, paths_of, IsGoodCoord, IsTree, begun_tree, true_query, well_acked, well_acts, well_again, well_heard, IsGoodOf, IsUp}
+use Terms.{good_coord, it, own_of_disk, tops_of_disk, other_number, same_number, is_act, In, at, down, given, posted, said, up, Up, Walks}
+use Terms.{halted, some_is, all_map, KeepsGiven, node_here, AllQuiet, ActivateNamed, Claims, HaveForms, IsAnsweredBy, MadeWasSaid}
+use Terms.{ReplyWasAsked, ServerWasAsked, StandsIn, StepsNamed, WasMade, WasNamed, WereAsked, AllSilent, restart_silent, acked_so, acts_so}
+use Terms.{again_so, heard_so, query_so, tolds_so, AllSo, SendsSo, so_both, BindsAreKnown, AreAsked, RequestsAreKnown, IsOfStep, Place}
+use Terms.{answers_fit, ObjectsAreHeld}
+use Rattle.arj_law_lock_view.proofs.records
+use records.{NamingKept.rest, NamingKept.rest_quiet, NamingRuns.inc_stopped, NamingRuns.inc_worked}
+use records.Quiet.{AllSaid, IncsUp, bind_said, coord_quiet, queries, quiet_both, quiet_incs}
+use Rattle.arj_law_parts.proofs.parts.{SaidIncs.truly_handled, TrueSteps.true_records}
 use Rattle.arj_law_parts.specs.parts.Incs.{AreOfInc, IsTrulyHandled}
-use Rattle.arj_law_promise.proofs.waiting.Standing.{Counts, Goes, MakeStands, bind_stands, confirm_goes, goes_same, hello_goes, note_goes, told_goes}
-use Rattle.arj_protocol.specs.Named.{Named}
-use Rattle.arj_law_lock_view.specs.facts.Uppers.{ObjectsAreHeld}
-use Rattle.arj_protocol.specs.Order.{at_number}
-use Rattle.arj_law_lock_view.proofs.records.NamingRuns.{inc_stopped, inc_worked}
-use Rattle.arj_law_lock_view.proofs.records.NamingKept.{rest, rest_quiet}
-use Rattle.arj_law_promise.proofs.waiting.Stepping.{of_waiting}
+use Rattle.arj_law_promise.proofs.waiting
+use waiting.{Known.binds_own, Stepping.of_waiting}
+use waiting.AskedServers.{activate_asked, invoke_asked, none_asked, server_more, told_asked, vote_asked}
+use waiting.Made.{MakeSaid, SaidIn, back_made_said, bind_made_said, confirm_made_said, hello_made_said, line_new, line_stays, made_more}
+use waiting.Made.{note_made_said, told_made_said}
+use waiting.Named.{Brings, acked_named, acts_named, again_named, begins_named, by_more, heard_named, named_more, new_named, sends_named}
+use waiting.Named.{steps_more}
+use waiting.Serving.{AllSend, AnswerSo, IsKeptIn, message_served, quiet_silent, quiet_so, restart_asks}
+use waiting.Standing.{Counts, Goes, MakeStands, bind_stands, confirm_goes, goes_same, hello_goes, note_goes, told_goes}
+use Rattle.arj_law_promise.specs.waiting.Asked.{IsPlaced, StandsAt}
+use Rattle.arj_law_runs.proofs.kept.Starts.{first_at}
 
 -- ---- what coordinators send answers nobody
 
@@ -79,19 +51,24 @@ module _ (begun : List Action) (e k : ℕ) (d : Disk) (t : Parts) (M : Seen) (go
   its_coord = good_coord e k d t M (begun, good)
 
   pub heard_quiet : (from : ℕ) (a : Asked) (r : Reply) → AllQuiet (heard from a r d.intents t.coord).outs
-  heard_quiet from a r = coord_quiet (heard from a r d.intents t.coord).part (heard from a r d.intents t.coord).outs (well_heard begun (paths_of begun) tree from a r d.intents t.coord its_coord).1 (heard_own from a r d.intents t.coord)
+  heard_quiet from a r = coord_quiet (heard from a r d.intents t.coord).part (heard from a r d.intents t.coord).outs
+      (well_heard begun (paths_of begun) tree from a r d.intents t.coord its_coord).1 (heard_own from a r d.intents t.coord)
 
   pub acked_quiet : (from : ℕ) (u : Uid) → AllQuiet (acked from u d.intents t.coord).outs
-  acked_quiet from u = coord_quiet (acked from u d.intents t.coord).part (acked from u d.intents t.coord).outs (well_acked begun (paths_of begun) tree from u d.intents t.coord).1 (acked_own from u d.intents t.coord)
+  acked_quiet from u = coord_quiet (acked from u d.intents t.coord).part (acked from u d.intents t.coord).outs
+      (well_acked begun (paths_of begun) tree from u d.intents t.coord).1 (acked_own from u d.intents t.coord)
 
   pub query_quiet : (from : ℕ) (u : Uid) → AllQuiet (answer_query from u d.intents t.coord)
-  query_quiet from u = coord_quiet t.coord (answer_query from u d.intents t.coord) (true_query begun (paths_of begun) tree from u d.intents t.coord (tops_of_disk e k d t M (begun, good)) (own_of_disk e k d t M (begun, good)) its_coord) (query_own from u d.intents t.coord)
+  query_quiet from u = coord_quiet t.coord (answer_query from u d.intents t.coord) (true_query begun (paths_of begun) tree from u d.intents
+      t.coord (tops_of_disk e k d t M (begun, good)) (own_of_disk e k d t M (begun, good)) its_coord) (query_own from u d.intents t.coord)
 
-  pub acts_quiet : (hd : Header) (i : Input) → is_act i ≡ true → refusal_up hd i t.coord ≡ None → AllQuiet (let r = acts_of i d.intents t.coord in r.outs)
+  pub acts_quiet : (hd : Header) (i : Input) → is_act i ≡ true → refusal_up hd i t.coord ≡ None →
+      AllQuiet (let r = acts_of i d.intents t.coord in r.outs)
   acts_quiet hd i is free =
       let r = acts_of i d.intents t.coord in
       let u = it e k d t M (begun, good) in
-      coord_quiet r.part r.outs (well_acts begun (paths_of begun) tree d.intents t.coord its_coord (let f = u.faithful in f.works) hd i free other).1 (acts_own i d.intents t.coord)
+      coord_quiet r.part r.outs (well_acts begun (paths_of begun) tree d.intents t.coord its_coord (let f = u.faithful in
+      f.works) hd i free other).1 (acts_own i d.intents t.coord)
     where
       other : (l : Label) (how : Kind) (parent : Option Label) → i ≢ input.Begin l how parent
       other l how parent same = let no_way : false ≡ true = sym (ap is_act same) ∙ is in cc no_way
@@ -101,15 +78,19 @@ module _ (begun : List Action) (e k : ℕ) (d : Disk) (t : Parts) (M : Seen) (go
       let r = again_all t.coord.doings t.coord in
       let u = it e k d t M (begun, good) in
       let tolds = tolds_again t.coord.telling in
-      quiet_both (r.outs ++ tolds) (map query_about (holders d t)) (quiet_both r.outs tolds (coord_quiet r.part r.outs (well_again begun (paths_of begun) tree t.coord its_coord).1 (again_own t.coord.doings t.coord)) (coord_quiet t.coord tolds (true_records t.coord u.faithful) (tolds_again_own t.coord.telling))) (queries (holders d t))
+      quiet_both (r.outs ++ tolds) (map query_about (holders d t)) (quiet_both r.outs tolds
+      (coord_quiet r.part r.outs (well_again begun (paths_of begun) tree t.coord its_coord).1 (again_own t.coord.doings t.coord))
+      (coord_quiet t.coord tolds (true_records t.coord u.faithful) (tolds_again_own t.coord.telling))) (queries (holders d t))
 
 -- ---- more was sent, and more was said
 
-module _ (few many : List Post) (in_it : (p : Post) → In p few → In p many) (less more : Claims) (grows : (p : Path) (x : ℕ) (b : Binding) (s g : ℕ) → less p x b s g → more p x b s g) where
+module _ (few many : List Post) (in_it : (p : Post) → In p few →
+    In p many) (less more : Claims) (grows : (p : Path) (x : ℕ) (b : Binding) (s g : ℕ) → less p x b s g → more p x b s g) where
   reply_more : (p : Post) (a : Asked) (r : Reply) → ReplyWasAsked few less p a r → ReplyWasAsked many more p a r
   reply_more p a (Reply.Loaded (loaded.State st)) w = (w.0, w.1, by_more few many in_it p a w.0 (ask.Load w.1) w.2, w.3)
   reply_more p a (Reply.Loaded (loaded.InDoubt h)) w = tt
-  reply_more p a (Reply.Bound (bound.Make b server g stores)) w = (w.0, w.1, w.2, w.3, by_more few many in_it p a w.0 (ask.Bind w.1 w.2 w.3) w.4, grows w.0.path w.1 b server g w.5)
+  reply_more p a (Reply.Bound (bound.Make b server g stores)) w =
+      (w.0, w.1, w.2, w.3, by_more few many in_it p a w.0 (ask.Bind w.1 w.2 w.3) w.4, grows w.0.path w.1 b server g w.5)
   reply_more p a (Reply.Bound (bound.Live b server i g stores)) w = tt
   reply_more p a (Reply.Bound (bound.Write g stores)) w = tt
   reply_more p a (Reply.Bound (bound.Conflict h m)) w = tt
@@ -129,7 +110,8 @@ abbrev Replies : List Post → Claims → Type 0
 Replies sent claims = (p : Post) (a : Asked) (r : Reply) → In p sent → answers p.message ≡ Some (a, r) → ReplyWasAsked sent claims p a r
 
 abbrev Activates : List Post → Claims → Type 0
-Activates sent claims = (p : Post) (h : Head) (b : Binding) (st : ObjectState) → In p sent → asks p.message ≡ Some (h, ask.Activate b st) → ActivateNamed sent claims h b st
+Activates sent claims = (p : Post) (h : Head) (b : Binding) (st : ObjectState) → In p sent → asks p.message ≡ Some (h, ask.Activate b st) →
+    ActivateNamed sent claims h b st
 
 -- what is known of a node that is up
 abbrev PartsSo : List Post → (Body → Type 0) → Claims → Parts → Type 0
@@ -141,19 +123,28 @@ record IsMore (few many : List Post) (less more : Body → Type 0) (old new : Cl
   said : (z : Body) → less z → more z
   made : (p : Path) (x : ℕ) (b : Binding) (s g : ℕ) → old p x b s g → new p x b s g
 
-parts_more : (few many : List Post) (less more : Body → Type 0) (old new : Claims) → IsMore few many less more old new → (t : Parts) → PartsSo few less old t → PartsSo many more new t
-parts_more few many less more old new m t w = ((server_more few many m.sent t.server w.0.0, steps_more few many m.sent old new m.made t.coord w.0.1), made_more less more m.said t.naming w.1)
+parts_more : (few many : List Post) (less more : Body → Type 0) (old new : Claims) → IsMore few many less more old new → (t : Parts) →
+    PartsSo few less old t → PartsSo many more new t
+parts_more few many less more old new m t w = (
+  (server_more few many m.sent t.server w.0.0, steps_more few many m.sent old new m.made t.coord w.0.1),
+  made_more less more m.said t.naming w.1,
+)
 
 abbrev Others : ℕ → Seen → (Body → Type 0) → Claims → Type 0
-Others k M lines claims = (j : ℕ) (n : Node) (t : Parts) → (j ≡ k → ⊥) → M.nodes j ≡ Some n → n.live ≡ Some t → PartsSo M.sent lines claims t × IsPlaced j (let d = n.disk in d.inc) t.naming
+Others k M lines claims = (j : ℕ) (n : Node) (t : Parts) → (j ≡ k → ⊥) → M.nodes j ≡ Some n → n.live ≡ Some t →
+    PartsSo M.sent lines claims t × IsPlaced j (let d = n.disk in d.inc) t.naming
 
-others_of : (k : ℕ) (d : Disk) (live : Option Parts) (M : Seen) → WereAsked (at k d live M) → Others k M (IsSaid M.lines) (WasMade (at k d live M))
+others_of : (k : ℕ) (d : Disk) (live : Option Parts) (M : Seen) → WereAsked (at k d live M) →
+    Others k M (IsSaid M.lines) (WasMade (at k d live M))
 others_of k d live M all j n t apart is live_is =
     let found = (λ i. cond (other_number j k apart i) (Some (record { number = k; disk = d; live = live })) (M.nodes j)) ∙ is in
     (((all.servers j n t found live_is, all.steps j n t found live_is), all.namings j n t found live_is), all.places j n t found live_is)
 
-own_of : (k : ℕ) (d : Disk) (t : Parts) (M : Seen) → WereAsked (up k d t M) → PartsSo M.sent (IsSaid M.lines) (WasMade (up k d t M)) t × IsPlaced k d.inc t.naming
-own_of k d t M all = let here = node_here M k (record { number = k; disk = d; live = Some t }) in let n : Node = record { number = k; disk = d; live = Some t } in (((all.servers k n t here refl, all.steps k n t here refl), all.namings k n t here refl), all.places k n t here refl)
+own_of : (k : ℕ) (d : Disk) (t : Parts) (M : Seen) → WereAsked (up k d t M) →
+    PartsSo M.sent (IsSaid M.lines) (WasMade (up k d t M)) t × IsPlaced k d.inc t.naming
+own_of k d t M all = let here = node_here M k (record { number = k; disk = d; live = Some t }) in
+    let n : Node = record { number = k; disk = d; live = Some t } in
+    (((all.servers k n t here refl, all.steps k n t here refl), all.namings k n t here refl), all.places k n t here refl)
 
 -- What is known, with these lines and claims: of the node itself, of the others, and of what was sent.
 record AreSo (k : ℕ) (live : Option Parts) (M : Seen) (lines : Body → Type 0) (claims : Claims) : Type 0 where
@@ -162,7 +153,8 @@ record AreSo (k : ℕ) (live : Option Parts) (M : Seen) (lines : Body → Type 0
   replies : Replies M.sent claims
   activates : Activates M.sent claims
 
-back : (k : ℕ) (d : Disk) (live : Option Parts) (M : Seen) → AreSo k live M (IsSaid M.lines) (WasMade (at k d live M)) → ((t : Parts) → live ≡ Some t → IsPlaced k d.inc t.naming) → WereAsked (at k d live M)
+back : (k : ℕ) (d : Disk) (live : Option Parts) (M : Seen) → AreSo k live M (IsSaid M.lines) (WasMade (at k d live M)) →
+    ((t : Parts) → live ≡ Some t → IsPlaced k d.inc t.naming) → WereAsked (at k d live M)
 back k d live M so placed = record {
   replies = so.replies;
   activates = so.activates;
@@ -172,15 +164,22 @@ back k d live M so placed = record {
   places = λ j n t is live_is. (by j n t (j == k) refl is live_is).1;
 }
   where
-    by : (j : ℕ) (n : Node) (t : Parts) (b : Bool) → (j == k) ≡ b → cond b (Some (record { number = k; disk = d; live = live })) (M.nodes j) ≡ Some n → n.live ≡ Some t → PartsSo M.sent (IsSaid M.lines) (WasMade (at k d live M)) t × IsPlaced j (let e = n.disk in e.inc) t.naming
+    by : (j : ℕ) (n : Node) (t : Parts) (b : Bool) → (j == k) ≡ b →
+        cond b (Some (record { number = k; disk = d; live = live })) (M.nodes j) ≡ Some n → n.live ≡ Some t →
+        PartsSo M.sent (IsSaid M.lines) (WasMade (at k d live M)) t × IsPlaced j (let e = n.disk in e.inc) t.naming
     by j n t true same e live_is =
         let here : record { number = k; disk = d; live = live } ≡ n = some_is e in
-        let its_live = ap (λ (z : Node). z.live) here ∙ live_is in
-        (so.its t its_live, subst (λ (z : Node). IsPlaced j (let e = z.disk in e.inc) t.naming) here (subst (λ i. IsPlaced i d.inc t.naming) (sym (eqb-true j k same)) (placed t its_live)))
-    by j n t false apart e live_is = so.others j n t (λ same. let no_way : true ≡ false = sym (ap (λ z. z == k) same ∙ same_number k) ∙ apart in absurd (cc no_way)) e live_is
+        let its_live = ap (λ (z : Node). z.live) here ∙ live_is in (
+          so.its t its_live,
+          subst (λ (z : Node). IsPlaced j (let e = z.disk in e.inc) t.naming) here
+              (subst (λ i. IsPlaced i d.inc t.naming) (sym (eqb-true j k same)) (placed t its_live)),
+        )
+    by j n t false apart e live_is = so.others j n t
+        (λ same. let no_way : true ≡ false = sym (ap (λ z. z == k) same ∙ same_number k) ∙ apart in absurd (cc no_way)) e live_is
 
 -- where more was said and made it stays so
-so_more : (k : ℕ) (live : Option Parts) (M : Seen) (less more : Body → Type 0) → ((z : Body) → less z → more z) → (old new : Claims) → ((p : Path) (x : ℕ) (b : Binding) (s g : ℕ) → old p x b s g → new p x b s g) → AreSo k live M less old → AreSo k live M more new
+so_more : (k : ℕ) (live : Option Parts) (M : Seen) (less more : Body → Type 0) → ((z : Body) → less z → more z) → (old new : Claims) →
+    ((p : Path) (x : ℕ) (b : Binding) (s g : ℕ) → old p x b s g → new p x b s g) → AreSo k live M less old → AreSo k live M more new
 so_more k live M less more grows old new makes so = record {
   its = λ t is. parts_more M.sent M.sent less more old new m t (so.its t is);
   others = λ j n t apart is live_is. let o = so.others j n t apart is live_is in (parts_more M.sent M.sent less more old new m t o.0, o.1);
@@ -195,7 +194,8 @@ so_more k live M less more grows old new makes so = record {
 quiet_asked : (e : ℕ) (bs : List Body) (M : Seen) → WereAsked M → WereAsked (said e bs M)
 quiet_asked e bs M p = record {
   replies = λ q a r i is. reply_more M.sent M.sent (λ p i. i) (WasMade M) (WasMade (said e bs M)) makes q a r (p.replies q a r i is);
-  activates = λ q h b st i is. activate_more M.sent M.sent (λ p i. i) (WasMade M) (WasMade (said e bs M)) makes h b st (p.activates q h b st i is);
+  activates =
+      λ q h b st i is. activate_more M.sent M.sent (λ p i. i) (WasMade M) (WasMade (said e bs M)) makes h b st (p.activates q h b st i is);
   servers = p.servers;
   steps = λ j n t is live. steps_more M.sent M.sent (λ p i. i) (WasMade M) (WasMade (said e bs M)) makes t.coord (p.steps j n t is live);
   namings = λ j n t is live. made_more (IsSaid M.lines) (IsSaid (M.lines ++ numbered e bs)) grows t.naming (p.namings j n t is live);
@@ -210,18 +210,27 @@ quiet_asked e bs M p = record {
 
 -- what an effect answers was asked for, and for which copy it asks naming answered
 abbrev Fine : List Post → Claims → ℕ → Effect → Type 0
-Fine sent claims k (Send to m) = ((a : Asked) (r : Reply) → answers m ≡ Some (a, r) → ReplyWasAsked sent claims (record { from = k; to = to; message = m }) a r) × ((h : Head) (b : Binding) (st : ObjectState) → asks m ≡ Some (h, ask.Activate b st) → ActivateNamed sent claims h b st)
+Fine sent claims k (Send to m) =
+    ((a : Asked) (r : Reply) → answers m ≡ Some (a, r) → ReplyWasAsked sent claims (record { from = k; to = to; message = m }) a r)
+    × ((h : Head) (b : Binding) (st : ObjectState) → asks m ≡ Some (h, ask.Activate b st) → ActivateNamed sent claims h b st)
 Fine sent claims k (Say b) = ⊤
 Fine sent claims k (Do w) = ⊤
 
 -- one more is sent
-sent_so : (base : List Post) (lines : Body → Type 0) (claims : Claims) (k : ℕ) (live : Option Parts) (M : Seen) → ((p : Post) → In p base → In p M.sent) → (to : ℕ) (m : Message) → Fine base claims k (Send to m) → AreSo k live M lines claims → AreSo k live (posted (record { from = k; to = to; message = m }) M) lines claims
+sent_so : (base : List Post) (lines : Body → Type 0) (claims : Claims) (k : ℕ) (live : Option Parts) (M : Seen) →
+    ((p : Post) → In p base → In p M.sent) → (to : ℕ) (m : Message) → Fine base claims k (Send to m) → AreSo k live M lines claims →
+    AreSo k live (posted (record { from = k; to = to; message = m }) M) lines claims
 sent_so base lines claims k live M within to m fine so = record {
   its = λ t is. parts_more M.sent (post ∷ M.sent) lines lines claims claims one t (so.its t is);
-  others = λ j n t apart is live_is. let o = so.others j n t apart is live_is in (parts_more M.sent (post ∷ M.sent) lines lines claims claims one t o.0, o.1);
-  replies = λ p a r i is. ⊎_elim (λ same. subst (λ (q : Post). ReplyWasAsked (post ∷ M.sent) claims q a r) same (reply_more base (post ∷ M.sent) (λ q j. inr (within q j)) claims claims (λ p x b s g c. c) post a r (fine.0 a r (ap (λ (q : Post). answers q.message) same ∙ is))))
+  others = λ j n t apart is live_is. let o = so.others j n t apart is live_is in
+      (parts_more M.sent (post ∷ M.sent) lines lines claims claims one t o.0, o.1);
+  replies =
+      λ p a r i is. ⊎_elim (λ same. subst (λ (q : Post). ReplyWasAsked (post ∷ M.sent) claims q a r) same (reply_more base (post ∷ M.sent)
+      (λ q j. inr (within q j)) claims claims (λ p x b s g c. c) post a r (fine.0 a r (ap (λ (q : Post). answers q.message) same ∙ is))))
       (λ old. reply_more M.sent (post ∷ M.sent) older claims claims (λ p x b s g c. c) p a r (so.replies p a r old is)) i;
-  activates = λ p h b st i is. ⊎_elim (λ same. activate_more base (post ∷ M.sent) (λ q j. inr (within q j)) claims claims (λ p x b s g c. c) h b st (fine.1 h b st (ap (λ (q : Post). asks q.message) same ∙ is))) (λ old. activate_more M.sent (post ∷ M.sent) older claims claims (λ p x b s g c. c) h b st (so.activates p h b st old is)) i;
+  activates = λ p h b st i is. ⊎_elim (λ same. activate_more base (post ∷ M.sent) (λ q j. inr (within q j)) claims claims (λ p x b s g c. c)
+      h b st (fine.1 h b st (ap (λ (q : Post). asks q.message) same ∙ is)))
+      (λ old. activate_more M.sent (post ∷ M.sent) older claims claims (λ p x b s g c. c) h b st (so.activates p h b st old is)) i;
 }
   where
     post : Post
@@ -234,12 +243,15 @@ sent_so base lines claims k live M within to m fine so = record {
     one = record { sent = older; said = λ z s. s; made = λ p x b s g c. c }
 
 -- lines alone change nothing
-said_so : (k : ℕ) (live : Option Parts) (e : ℕ) (bs : List Body) (M : Seen) (lines : Body → Type 0) (claims : Claims) → AreSo k live M lines claims → AreSo k live (said e bs M) lines claims
+said_so : (k : ℕ) (live : Option Parts) (e : ℕ) (bs : List Body) (M : Seen) (lines : Body → Type 0) (claims : Claims) →
+    AreSo k live M lines claims → AreSo k live (said e bs M) lines claims
 said_so k live e bs M lines claims so = record { its = so.its; others = so.others; replies = so.replies; activates = so.activates }
 
 -- a stop leaves the others
-halted_so : (k : ℕ) (t : Parts) (M : Seen) (lines : Body → Type 0) (claims : Claims) → AreSo k (Some t) M lines claims → AreSo k None M lines claims
-halted_so k t M lines claims so = record { its = λ v is. absurd (cc is); others = so.others; replies = so.replies; activates = so.activates }
+halted_so : (k : ℕ) (t : Parts) (M : Seen) (lines : Body → Type 0) (claims : Claims) → AreSo k (Some t) M lines claims →
+    AreSo k None M lines claims
+halted_so k t M lines claims so =
+    record { its = λ v is. absurd (cc is); others = so.others; replies = so.replies; activates = so.activates }
 
 -- ---- bindings that stand, while a node goes on
 
@@ -252,23 +264,32 @@ abbrev Made : (Body → Type 0) → ℕ → ℕ → Option Naming → (ℕ → O
 Made lines k inc o nodes p x b s g = lines (body.Bound x b s) × Stands k inc o nodes p x b g
 
 -- so it is of the disk on which it goes on
-was_made : (lines : Body → Type 0) (k inc : ℕ) (o : Option Naming) (d : Disk) (live : Option Parts) (M : Seen) → ((z : Body) → lines z → IsSaid M.lines z) → inc ≤ d.inc → ((t : Parts) → live ≡ Some t → t.naming ≡ o) → (p : Path) (x : ℕ) (b : Binding) (s g : ℕ) → Made lines k inc o M.nodes p x b s g → WasMade (at k d live M) p x b s g
+was_made : (lines : Body → Type 0) (k inc : ℕ) (o : Option Naming) (d : Disk) (live : Option Parts) (M : Seen) →
+    ((z : Body) → lines z → IsSaid M.lines z) → inc ≤ d.inc → ((t : Parts) → live ≡ Some t → t.naming ≡ o) →
+    (p : Path) (x : ℕ) (b : Binding) (s g : ℕ) → Made lines k inc o M.nodes p x b s g → WasMade (at k d live M) p x b s g
 was_made lines k inc o d live M were low its p x b s g c = (were (body.Bound x b s) c.0, λ n found. by (1 == k) refl n found)
   where
     up_to : (a b c : ℕ) → a ≤ b → b ≤ c → a ≤ c
     up_to a b c x y = omega (arith, x, y)
 
-    by : (is : Bool) → (1 == k) ≡ is → (n : Node) → cond is (Some (record { number = k; disk = d; live = live })) (M.nodes 1) ≡ Some n → StandsAt n p x b g
+    by : (is : Bool) → (1 == k) ≡ is → (n : Node) → cond is (Some (record { number = k; disk = d; live = live })) (M.nodes 1) ≡ Some n →
+        StandsAt n p x b g
     by true same n found =
         let h = c.1.here (sym (eqb-true 1 k same)) in
-        subst (λ (z : Node). StandsAt z p x b g) (some_is found) (record { low = up_to g inc d.inc h.0 low; stands = λ t n live_is naming_is ours. h.1 n (sym (its t live_is) ∙ naming_is) ours })
+        subst (λ (z : Node). StandsAt z p x b g) (some_is found) (record {
+          low = up_to g inc d.inc h.0 low;
+          stands = λ t n live_is naming_is ours. h.1 n (sym (its t live_is) ∙ naming_is) ours;
+        })
     by false apart n found = c.1.there (λ one. let no_way : true ≡ false = sym (ap (λ z. 1 == z) one) ∙ apart in absurd (cc no_way)) n found
 
 -- All of it is of lines that were said before, and of bindings that were made before.
-walk : (base : List Post) (lines : Body → Type 0) (inc e k : ℕ) (v : Parts) (outs : List Effect) (d : Disk) (M : Seen) → ((p : Post) → In p base → In p M.sent) → ((z : Body) → lines z → IsSaid M.lines z) → IsPlaced k inc v.naming → inc ≤ d.inc → IncsUp inc outs
-    → AllByRecursion (Fine base (Made lines k inc v.naming M.nodes) k) outs → AreSo k (Some v) M lines (Made lines k inc v.naming M.nodes) → Walks WereAsked e k outs (Up WereAsked k v) d M
+walk : (base : List Post) (lines : Body → Type 0) (inc e k : ℕ) (v : Parts) (outs : List Effect) (d : Disk) (M : Seen) → ((p : Post) →
+    In p base → In p M.sent) → ((z : Body) → lines z → IsSaid M.lines z) → IsPlaced k inc v.naming → inc ≤ d.inc → IncsUp inc outs
+    → AllByRecursion (Fine base (Made lines k inc v.naming M.nodes) k) outs →
+    AreSo k (Some v) M lines (Made lines k inc v.naming M.nodes) → Walks WereAsked e k outs (Up WereAsked k v) d M
 walk base lines inc e k v [] d M within were placed low incs fine so =
-    back k d (Some v) M (so_more k (Some v) M lines (IsSaid M.lines) were (Made lines k inc v.naming M.nodes) (WasMade (up k d v M)) (was_made lines k inc v.naming d (Some v) M were low (λ t is. ap (λ (z : Parts). z.naming) (sym (some_is is)))) so)
+    back k d (Some v) M (so_more k (Some v) M lines (IsSaid M.lines) were (Made lines k inc v.naming M.nodes) (WasMade (up k d v M))
+    (was_made lines k inc v.naming d (Some v) M were low (λ t is. ap (λ (z : Parts). z.naming) (sym (some_is is)))) so)
     (λ t is n there. let q = placed n (ap (λ (z : Parts). z.naming) (some_is is) ∙ there) in (q.0, up_to n.inc inc d.inc q.1 low))
   where
     up_to : (a b c : ℕ) → a ≤ b → b ≤ c → a ≤ c
@@ -278,19 +299,33 @@ walk base lines inc e k v (Do w ∷ es) d M within were placed low incs fine so 
   where
     stops : (how : Stop) → WereAsked (halted e k (stopped how w d) M)
     stops how = quiet_asked e (body.Halted k ∷ []) (down k (stopped how w d) M)
-        (back k (stopped how w d) None M (so_more k None M lines (IsSaid M.lines) were (Made lines k inc v.naming M.nodes) (WasMade (down k (stopped how w d) M)) (was_made lines k inc v.naming (stopped how w d) None M were (inc_stopped inc how w d incs.0 low) (λ t is. absurd (cc is))) (halted_so k v M lines (Made lines k inc v.naming M.nodes) so)) (λ t is. absurd (cc is)))
-walk base lines inc e k v (Say b ∷ es) d M within were placed low incs fine so = walk base lines inc e k v es d (said e (b ∷ []) M) within (λ z s. line_stays M.lines (numbered e (b ∷ [])) z (were z s)) placed low incs.1 fine.1 (said_so k (Some v) e (b ∷ []) M lines (Made lines k inc v.naming M.nodes) so)
-walk base lines inc e k v (Send to m ∷ es) d M within were placed low incs fine so = λ more quiet. walk base lines inc e k v es d (said e more (posted (record { from = k; to = to; message = m }) M)) (λ p i. inr (within p i)) (λ z s. line_stays M.lines (numbered e more) z (were z s)) placed low incs.1 fine.1
-    (said_so k (Some v) e more (posted (record { from = k; to = to; message = m }) M) lines (Made lines k inc v.naming M.nodes) (sent_so base lines (Made lines k inc v.naming M.nodes) k (Some v) M within to m fine.0 so))
+        (back k (stopped how w d) None M (so_more k None M lines (IsSaid M.lines) were (Made lines k inc v.naming M.nodes) (WasMade
+        (down k (stopped how w d) M)) (was_made lines k inc v.naming (stopped how w d) None M were (inc_stopped inc how w d incs.0 low)
+        (λ t is. absurd (cc is))) (halted_so k v M lines (Made lines k inc v.naming M.nodes) so)) (λ t is. absurd (cc is)))
+walk base lines inc e k v (Say b ∷ es) d M within were placed low incs fine so =
+    walk base lines inc e k v es d (said e (b ∷ []) M) within (λ z s. line_stays M.lines (numbered e (b ∷ [])) z (were z s)) placed low
+    incs.1 fine.1 (said_so k (Some v) e (b ∷ []) M lines (Made lines k inc v.naming M.nodes) so)
+walk base lines inc e k v (Send to m ∷ es) d M within were placed low incs fine so =
+    λ more quiet. walk base lines inc e k v es d (said e more (posted (record { from = k; to = to; message = m }) M))
+    (λ p i. inr (within p i)) (λ z s. line_stays M.lines (numbered e more) z (were z s)) placed low incs.1 fine.1
+    (said_so k (Some v) e more (posted (record { from = k; to = to; message = m }) M) lines (Made lines k inc v.naming M.nodes)
+    (sent_so base lines (Made lines k inc v.naming M.nodes) k (Some v) M within to m fine.0 so))
 
 -- where all that is still to be said comes first
-walk_lines : (base : List Post) (lines : Body → Type 0) (inc e k : ℕ) (v : Parts) (says behind : List Effect) (d : Disk) (M : Seen) → ((p : Post) → In p base → In p M.sent) → AllSaid says → ((z : Body) → lines z → IsSaid M.lines z ⊎ SaidIn says z) → IsPlaced k inc v.naming → inc ≤ d.inc → IncsUp inc behind
-    → AllByRecursion (Fine base (Made lines k inc v.naming M.nodes) k) behind → AreSo k (Some v) M lines (Made lines k inc v.naming M.nodes) → Walks WereAsked e k (says ++ behind) (Up WereAsked k v) d M
-walk_lines base lines inc e k v [] behind d M within none were placed low incs fine so = walk base lines inc e k v behind d M within (λ z s. ⊎_elim (λ old. old) (λ no. absurd no) (were z s)) placed low incs fine so
-walk_lines base lines inc e k v (Say b ∷ es) behind d M within all were placed low incs fine so = walk_lines base lines inc e k v es behind d (said e (b ∷ []) M) within all.1 then placed low incs fine (said_so k (Some v) e (b ∷ []) M lines (Made lines k inc v.naming M.nodes) so)
+walk_lines : (base : List Post) (lines : Body → Type 0) (inc e k : ℕ) (v : Parts) (says behind : List Effect) (d : Disk) (M : Seen) →
+    ((p : Post) → In p base → In p M.sent) → AllSaid says → ((z : Body) → lines z → IsSaid M.lines z ⊎ SaidIn says z) →
+    IsPlaced k inc v.naming → inc ≤ d.inc → IncsUp inc behind
+    → AllByRecursion (Fine base (Made lines k inc v.naming M.nodes) k) behind →
+    AreSo k (Some v) M lines (Made lines k inc v.naming M.nodes) → Walks WereAsked e k (says ++ behind) (Up WereAsked k v) d M
+walk_lines base lines inc e k v [] behind d M within none were placed low incs fine so =
+    walk base lines inc e k v behind d M within (λ z s. ⊎_elim (λ old. old) (λ no. absurd no) (were z s)) placed low incs fine so
+walk_lines base lines inc e k v (Say b ∷ es) behind d M within all were placed low incs fine so =
+    walk_lines base lines inc e k v es behind d (said e (b ∷ []) M) within all.1 then placed low incs fine
+    (said_so k (Some v) e (b ∷ []) M lines (Made lines k inc v.naming M.nodes) so)
   where
     then : (z : Body) → lines z → IsSaid (M.lines ++ numbered e (b ∷ [])) z ⊎ SaidIn es z
-    then z s = ⊎_elim (λ old. inl (line_stays M.lines (numbered e (b ∷ [])) z old)) (λ now. ⊎_elim (λ same. inl (line_new M.lines e b z same)) (λ late. inr late) now) (were z s)
+    then z s = ⊎_elim (λ old. inl (line_stays M.lines (numbered e (b ∷ [])) z old))
+        (λ now. ⊎_elim (λ same. inl (line_new M.lines e b z same)) (λ late. inr late) now) (were z s)
 walk_lines base lines inc e k v (Send to m ∷ es) behind d M within all were placed low incs fine so = absurd all.0
 walk_lines base lines inc e k v (Do w ∷ es) behind d M within all were placed low incs fine so = absurd all.0
 
@@ -339,13 +374,20 @@ start_placed k inc d n is = (by (k == 1) refl is, subst (λ i. i ≤ inc) (sym (
 
 -- a stop leaves what was made
 stop_so : (e k : ℕ) (d : Disk) (live : Option Parts) (M : Seen) → WereAsked (at k d live M) → WereAsked (halted e k d M)
-stop_so e k d live M p = quiet_asked e (body.Halted k ∷ []) (down k d M) (back k d None M (so_more k None M (IsSaid M.lines) (IsSaid M.lines) (λ z s. s) (WasMade (at k d live M)) (WasMade (down k d M)) (λ q x b s g w. (w.0, stays q x b g w.1)) (record { its = λ t is. absurd (cc is); others = others_of k d live M p; replies = p.replies; activates = p.activates })) (λ t is. absurd (cc is)))
+stop_so e k d live M p = quiet_asked e (body.Halted k ∷ []) (down k d M) (back k d None M (so_more k None M (IsSaid M.lines)
+    (IsSaid M.lines) (λ z s. s) (WasMade (at k d live M)) (WasMade (down k d M)) (λ q x b s g w. (w.0, stays q x b g w.1))
+    (record { its = λ t is. absurd (cc is); others = others_of k d live M p; replies = p.replies; activates = p.activates }))
+    (λ t is. absurd (cc is)))
   where
-    stays : (q : Path) (x : ℕ) (b : Binding) (g : ℕ) → ((n : Node) → (let w = at k d live M in w.nodes) 1 ≡ Some n → StandsAt n q x b g) → (n : Node) → (let w = down k d M in w.nodes) 1 ≡ Some n → StandsAt n q x b g
+    stays : (q : Path) (x : ℕ) (b : Binding) (g : ℕ) → ((n : Node) → (let w = at k d live M in w.nodes) 1 ≡ Some n → StandsAt n q x b g) →
+        (n : Node) → (let w = down k d M in w.nodes) 1 ≡ Some n → StandsAt n q x b g
     stays q x b g was n found = by (1 == k) refl found
       where
-        by : (is : Bool) → (1 == k) ≡ is → cond is (Some (record { number = k; disk = d; live = None })) (M.nodes 1) ≡ Some n → StandsAt n q x b g
-        by true same it = let w = was (record { number = k; disk = d; live = live }) (λ i. cond (same i) (Some (record { number = k; disk = d; live = live })) (M.nodes 1)) in subst (λ (z : Node). StandsAt z q x b g) (some_is it) (record { low = w.low; stands = λ t o up_is. absurd (cc up_is) })
+        by : (is : Bool) → (1 == k) ≡ is → cond is (Some (record { number = k; disk = d; live = None })) (M.nodes 1) ≡ Some n →
+            StandsAt n q x b g
+        by true same it = let w = was (record { number = k; disk = d; live = live })
+            (λ i. cond (same i) (Some (record { number = k; disk = d; live = live })) (M.nodes 1)) in
+            subst (λ (z : Node). StandsAt z q x b g) (some_is it) (record { low = w.low; stands = λ t o up_is. absurd (cc up_is) })
         by false apart it = was n ((λ i. cond (apart i) (Some (record { number = k; disk = d; live = live })) (M.nodes 1)) ∙ it)
 
 -- ---- each handler
@@ -359,11 +401,25 @@ abbrev Bound : Claims → Head → ℕ → Bool → Binding → BoundReply → T
 Bound claims h x include avoid (bound.Make b server g stores) = claims h.path x b server g
 Bound claims h x include avoid r = ⊤
 
-module _ (sent : List Post) (claims : Claims) (k from : ℕ) (m : Message) (there : In (record { from = from; to = k; message = m }) sent) where
-  answer_fine : (to : ℕ) (p : Message) (a : Asked) (r : Reply) → AnswerSo (Bound claims) IsOf from m to a r → ReplyWasAsked sent claims (record { from = k; to = to; message = p }) a r
-  answer_fine to p a (Reply.Loaded (loaded.State st)) so = (so.head, so.object, record { post = record { from = from; to = k; message = m }; posted = there; from = sym so.back; asking = so.asking; asker = so.asker }, so.so)
+module _ (sent : List Post) (claims : Claims) (k from : ℕ) (m : Message)
+    (there : In (record { from = from; to = k; message = m }) sent) where
+  answer_fine : (to : ℕ) (p : Message) (a : Asked) (r : Reply) → AnswerSo (Bound claims) IsOf from m to a r →
+      ReplyWasAsked sent claims (record { from = k; to = to; message = p }) a r
+  answer_fine to p a (Reply.Loaded (loaded.State st)) so = (
+    so.head,
+    so.object,
+    record { post = record { from = from; to = k; message = m }; posted = there; from = sym so.back; asking = so.asking; asker = so.asker },
+    so.so,
+  )
   answer_fine to p a (Reply.Loaded (loaded.InDoubt h)) so = tt
-  answer_fine to p a (Reply.Bound (bound.Make b server g stores)) so = (so.head, so.object, so.include, so.avoid, record { post = record { from = from; to = k; message = m }; posted = there; from = sym so.back; asking = so.asking; asker = so.asker }, so.so)
+  answer_fine to p a (Reply.Bound (bound.Make b server g stores)) so = (
+    so.head,
+    so.object,
+    so.include,
+    so.avoid,
+    record { post = record { from = from; to = k; message = m }; posted = there; from = sym so.back; asking = so.asking; asker = so.asker },
+    so.so,
+  )
   answer_fine to p a (Reply.Bound (bound.Live b server i g stores)) so = tt
   answer_fine to p a (Reply.Bound (bound.Write g stores)) so = tt
   answer_fine to p a (Reply.Bound (bound.Conflict h l)) so = tt
@@ -374,20 +430,33 @@ module _ (sent : List Post) (claims : Claims) (k from : ℕ) (m : Message) (ther
   answer_fine to p a (Reply.Prepared r) so = tt
   answer_fine to p a (Reply.Confirmed r) so = tt
 
-  all_fine : (c : Coord) → StepsNamed sent claims c → (outs : List Effect) → AllSend (Bound claims) IsOf from m c outs → AllByRecursion (Fine sent claims k) outs
+  all_fine : (c : Coord) → StepsNamed sent claims c → (outs : List Effect) → AllSend (Bound claims) IsOf from m c outs →
+      AllByRecursion (Fine sent claims k) outs
   all_fine c steps [] so = tt
   all_fine c steps (Say b ∷ es) so = (tt, all_fine c steps es so.1)
   all_fine c steps (Do w ∷ es) so = (tt, all_fine c steps es so.1)
-  all_fine c steps (Send to p ∷ es) so = (((λ a r is. answer_fine to p a r (so.0.0 a r is)), λ h b st is. sends_named sent claims c to p so.0.1 steps h b st is), all_fine c steps es so.1)
+  all_fine c steps (Send to p ∷ es) so = (
+    ((λ a r is. answer_fine to p a r (so.0.0 a r is)), λ h b st is. sends_named sent claims c to p so.0.1 steps h b st is),
+    all_fine c steps es so.1,
+  )
 
 -- what a coordinator sends
-own_fine : (sent : List Post) (claims : Claims) (k : ℕ) (c : Coord) → StepsNamed sent claims c → (outs : List Effect) → AllSilent outs → AllSo c outs → AllByRecursion (Fine sent claims k) outs
+own_fine : (sent : List Post) (claims : Claims) (k : ℕ) (c : Coord) → StepsNamed sent claims c → (outs : List Effect) → AllSilent outs →
+    AllSo c outs → AllByRecursion (Fine sent claims k) outs
 own_fine sent claims k c steps [] q so = tt
 own_fine sent claims k c steps (Say b ∷ es) q so = (tt, own_fine sent claims k c steps es q.1 so.1)
 own_fine sent claims k c steps (Do w ∷ es) q so = (tt, own_fine sent claims k c steps es q.1 so.1)
-own_fine sent claims k c steps (Send to p ∷ es) q so = (((λ a r is. let no_way : ◌≡◌ {A = Option (Asked × Reply)} None (Some (a, r)) = sym q.0 ∙ is in absurd (cc no_way)), λ h b st is. sends_named sent claims c to p so.0 steps h b st is), own_fine sent claims k c steps es q.1 so.1)
+own_fine sent claims k c steps (Send to p ∷ es) q so = (
+  (
+    (λ a r is. let no_way : ◌≡◌ {A = Option (Asked × Reply)} None (Some (a, r)) = sym q.0 ∙ is in absurd (cc no_way)),
+    λ h b st is. sends_named sent claims c to p so.0 steps h b st is,
+  ),
+  own_fine sent claims k c steps es q.1 so.1,
+)
 
-module _ (hd : Header) (begun : List Action) (e k : ℕ) (d : Disk) (t : Parts) (M : Seen) (good : IsGoodOf begun (up k d t M)) (bound_all : BindsAreKnown (up k d t M)) (asked : AreAsked (up k d t M)) (forms : HaveForms hd (up k d t M)) (held : ObjectsAreHeld (up k d t M)) (all : WereAsked (up k d t M)) where
+module _ (hd : Header) (begun : List Action) (e k : ℕ) (d : Disk) (t : Parts) (M : Seen) (good : IsGoodOf begun (up k d t M))
+    (bound_all : BindsAreKnown (up k d t M)) (asked : AreAsked (up k d t M)) (forms : HaveForms hd (up k d t M))
+    (held : ObjectsAreHeld (up k d t M)) (all : WereAsked (up k d t M)) where
   abbrev here : Node
   here = record { number = k; disk = d; live = Some t }
 
@@ -405,11 +474,19 @@ module _ (hd : Header) (begun : List Action) (e k : ℕ) (d : Disk) (t : Parts) 
   own : PartsSo M.sent lines old t × IsPlaced k d.inc t.naming
   own = own_of k d t M all
 
-  still : (more : Body → Type 0) → ((z : Body) → lines z → more z) → (o : Option Naming) → NamingGoes t.naming o → (p : Path) (x : ℕ) (b : Binding) (s g : ℕ) → old p x b s g → Made more k d.inc o M.nodes p x b s g
-  still more grows o goes p x b s g w = (grows (body.Bound x b s) w.0, record { here = one; there = λ apart n found. w.1 n ((λ i. cond (other_number 1 k (λ same. apart (sym same)) i) (Some here) (M.nodes 1)) ∙ found) })
+  still : (more : Body → Type 0) → ((z : Body) → lines z → more z) → (o : Option Naming) → NamingGoes t.naming o →
+      (p : Path) (x : ℕ) (b : Binding) (s g : ℕ) → old p x b s g → Made more k d.inc o M.nodes p x b s g
+  still more grows o goes p x b s g w = (
+    grows (body.Bound x b s) w.0,
+    record {
+      here = one;
+      there = λ apart n found. w.1 n ((λ i. cond (other_number 1 k (λ same. apart (sym same)) i) (Some here) (M.nodes 1)) ∙ found);
+    },
+  )
     where
       one : k ≡ 1 → (g ≤ d.inc) × ((m : Naming) → o ≡ Some m → g ≡ m.inc → StandsIn m (top_of p) x b)
-      one is = let z = w.1 here (ap (λ i. (up k d t M).nodes i) (sym is) ∙ node_here M k here) in (z.low, λ m there ours. let q = goes m there in q.2.1 (top_of p) x b (z.stands t q.0 refl q.1 (ours ∙ q.2.0)))
+      one is = let z = w.1 here (ap (λ i. (up k d t M).nodes i) (sym is) ∙ node_here M k here) in
+          (z.low, λ m there ours. let q = goes m there in q.2.1 (top_of p) x b (z.stands t q.0 refl q.1 (ours ∙ q.2.0)))
 
   placed_on : (o : Option Naming) → NamingGoes t.naming o → IsPlaced k d.inc o
   placed_on o goes m there = let q = goes m there in let w = own.1 q.0 q.1 in (w.0, subst (λ i. i ≤ d.inc) (sym q.2.0) w.1)
@@ -419,10 +496,17 @@ module _ (hd : Header) (begun : List Action) (e k : ℕ) (d : Disk) (t : Parts) 
 
   -- the node goes on with these parts
   goes_on : (v : Parts) → PartsSo M.sent lines old v → AreSo k (Some v) M lines old
-  goes_on v its = record { its = λ w is. subst (PartsSo M.sent lines old) (some_is is) its; others = others_of k d (Some t) M all; replies = all.replies; activates = all.activates }
+  goes_on v its = record {
+    its = λ w is. subst (PartsSo M.sent lines old) (some_is is) its;
+    others = others_of k d (Some t) M all;
+    replies = all.replies;
+    activates = all.activates;
+  }
 
-  walk_on : (v : Parts) (outs : List Effect) → NamingGoes t.naming v.naming → IncsUp d.inc outs → AllByRecursion (Fine M.sent (new v.naming) k) outs → PartsSo M.sent lines old v → Walks WereAsked e k outs (Up WereAsked k v) d M
-  walk_on v outs goes incs fine its = walk M.sent lines d.inc e k v outs d M (λ p i. i) (λ z s. s) (placed_on v.naming goes) (omega arith) incs fine (so_more k (Some v) M lines lines (λ z s. s) old (new v.naming) (still lines (λ z s. s) v.naming goes) (goes_on v its))
+  walk_on : (v : Parts) (outs : List Effect) → NamingGoes t.naming v.naming → IncsUp d.inc outs →
+      AllByRecursion (Fine M.sent (new v.naming) k) outs → PartsSo M.sent lines old v → Walks WereAsked e k outs (Up WereAsked k v) d M
+  walk_on v outs goes incs fine its = walk M.sent lines d.inc e k v outs d M (λ p i. i) (λ z s. s) (placed_on v.naming goes) (omega arith)
+      incs fine (so_more k (Some v) M lines lines (λ z s. s) old (new v.naming) (still lines (λ z s. s) v.naming goes) (goes_on v its))
 
   -- steps that stood stand
   steps_on : (o : Option Naming) → NamingGoes t.naming o → (c : Coord) → StepsNamed M.sent old c → StepsNamed M.sent (new o) c
@@ -438,7 +522,14 @@ module _ (hd : Header) (begun : List Action) (e k : ℕ) (d : Disk) (t : Parts) 
   its_up = it e k d t M (begun, good)
 
   place : Place M.sent k t.coord
-  place = let u = its_up in record { actions = begun; begun = good.begun; good = coord_good; numbered = u.numbered; faithful = u.faithful; binds = bound_all.nodes k here t (node_here M k here) refl }
+  place = let u = its_up in record {
+    actions = begun;
+    begun = good.begun;
+    good = coord_good;
+    numbered = u.numbered;
+    faithful = u.faithful;
+    binds = bound_all.nodes k here t (node_here M k here) refl;
+  }
 
   works : length t.coord.doings ≡ length t.coord.tree.branches
   works = let u = its_up in let f = u.faithful in f.works
@@ -449,12 +540,16 @@ module _ (hd : Header) (begun : List Action) (e k : ℕ) (d : Disk) (t : Parts) 
 
   -- ---- an answer that comes
 
-  module _ (from : ℕ) (m : Message) (there : In (record { from = from; to = k; message = m }) M.sent) (meant : is_meant t m ≡ true) (a : Asked) (r : Reply) (of : answers m ≡ Some (a, r)) (q : Doing) (s : Steps) (does : doing_of a.act t.coord ≡ Some q) (now : q.now ≡ Calling s) (waits : waits_for_call from a r s ≡ true) where
+  module _ (from : ℕ) (m : Message) (there : In (record { from = from; to = k; message = m }) M.sent) (meant : is_meant t m ≡ true)
+      (a : Asked) (r : Reply) (of : answers m ≡ Some (a, r)) (q : Doing) (s : Steps) (does : doing_of a.act t.coord ≡ Some q)
+      (now : q.now ≡ Calling s) (waits : waits_for_call from a r s ≡ true) where
     reply_meant : reply_is_meant t.coord a r ≡ true
-    reply_meant = ap (answer_is_meant t.coord) (sym of) ∙ (and_parts (asked_is_meant t.server (asks m)) (answer_is_meant t.coord (answers m)) meant).1
+    reply_meant =
+        ap (answer_is_meant t.coord) (sym of) ∙ (and_parts (asked_is_meant t.server (asks m)) (answer_is_meant t.coord (answers m)) meant).1
 
     -- a binding that naming made for it was asked by its Bind
-    was_named : (b : Binding) (server g : ℕ) (stores : List ℕ) → r ≡ Reply.Bound (bound.Make b server g stores) → WasNamed M.sent old s.path s.x b g
+    was_named : (b : Binding) (server g : ℕ) (stores : List ℕ) → r ≡ Reply.Bound (bound.Make b server g stores) →
+        WasNamed M.sent old s.path s.x b g
     was_named b server g stores is = record {
       reply = record { from = from; to = k; message = m };
       asked = a;
@@ -471,19 +566,22 @@ module _ (hd : Header) (begun : List Action) (e k : ℕ) (d : Disk) (t : Parts) 
     }
       where
         w : ReplyWasAsked M.sent old (record { from = from; to = k; message = m }) a (Reply.Bound (bound.Make b server g stores))
-        w = all.replies (record { from = from; to = k; message = m }) a (Reply.Bound (bound.Make b server g stores)) there (of ∙ (λ i. Some (a, is i)))
+        w = all.replies (record { from = from; to = k; message = m }) a (Reply.Bound (bound.Make b server g stores)) there
+            (of ∙ (λ i. Some (a, is i)))
 
         h : Head
         h = w.0
 
         of_step : IsOfStep s w.4.post.to h (ask.Bind w.1 w.2 w.3)
-        of_step = of_waiting k d t M asked from a r q s does now (let u = its_up in u.numbered a.act q does) waits (record { from = from; to = k; message = m }) refl h (ask.Bind w.1 w.2 w.3) w.4
+        of_step = of_waiting k d t M asked from a r q s does now (let u = its_up in
+            u.numbered a.act q does) waits (record { from = from; to = k; message = m }) refl h (ask.Bind w.1 w.2 w.3) w.4
 
         x_is : w.1 ≡ s.x
         x_is = binds_own s.x w.1 w.2 w.3 s.goal s.at of_step.same
 
     loads_it : (st : ObjectState) → r ≡ Reply.Loaded (loaded.State st) → st.uid.num ≡ s.x
-    loads_it st is = ap (λ (u : Uid). u.num) (uid_is st.uid (object s.x) (sym (ap (is_loaded_for st) does ∙ ap (is_loaded_in st) now) ∙ ap (reply_is_meant t.coord a) (sym is) ∙ reply_meant))
+    loads_it st is = ap (λ (u : Uid). u.num) (uid_is st.uid (object s.x)
+        (sym (ap (is_loaded_for st) does ∙ ap (is_loaded_in st) now) ∙ ap (reply_is_meant t.coord a) (sym is) ∙ reply_meant))
 
     brings : Brings M.sent old s.path s.x s.at r
     brings = by s.at r refl
@@ -517,8 +615,10 @@ module _ (hd : Header) (begun : List Action) (e k : ℕ) (d : Disk) (t : Parts) 
     Left (Took w es) = Walks WereAsked e k es (Up WereAsked k w) d M
 
     -- other than a Bind
-    plain : ((h : Head) (x : ℕ) (include : Bool) (avoid : Binding) → asks m ≡ Some (h, ask.Bind x include avoid) → ⊥) → (v : Parts) (outs : List Effect) → handle k d t from m ≡ Took v outs → Walks WereAsked e k outs (Up WereAsked k v) d M
-    plain off v outs is = walk_on v outs h.0.0.1.1 (of_incs k d.inc outs incs) (all_fine M.sent (new v.naming) k from m there v.coord (steps_on v.naming h.0.0.1.1 v.coord h.0.1) outs h.1) ((h.0.0.0, h.0.1), h.0.0.1.0)
+    plain : ((h : Head) (x : ℕ) (include : Bool) (avoid : Binding) → asks m ≡ Some (h, ask.Bind x include avoid) → ⊥) →
+        (v : Parts) (outs : List Effect) → handle k d t from m ≡ Took v outs → Walks WereAsked e k outs (Up WereAsked k v) d M
+    plain off v outs is = walk_on v outs h.0.0.1.1 (of_incs k d.inc outs incs) (all_fine M.sent (new v.naming) k from m there v.coord
+        (steps_on v.naming h.0.0.1.1 v.coord h.0.1) outs h.1) ((h.0.0.0, h.0.1), h.0.0.1.0)
       where
         S : Server → Type 0
         S s = ServerWasAsked M.sent s
@@ -536,7 +636,8 @@ module _ (hd : Header) (begun : List Action) (e k : ℕ) (d : Disk) (t : Parts) 
         to n m there goes w same = (n, there, subst (Goes n) (some_is same) goes)
 
         truly : IsTrulyHandled k t (Took v outs)
-        truly = subst (IsTrulyHandled k t) is (truly_handled k t begun (paths_of begun) tree_is coord_good d (own_of_disk e k d t M (begun, good)) from m (tops_of_disk e k d t M (begun, good)))
+        truly = subst (IsTrulyHandled k t) is (truly_handled k t begun (paths_of begun) tree_is coord_good d
+            (own_of_disk e k d t M (begun, good)) from m (tops_of_disk e k d t M (begun, good)))
 
         incs : AreOfInc k d.inc outs
         incs = subst (λ i. AreOfInc k i outs) (let u = its_up in u.server) truly.3
@@ -551,10 +652,20 @@ module _ (hd : Header) (begun : List Action) (e k : ℕ) (d : Disk) (t : Parts) 
           told = λ ends. told_asked M.sent k ends t.server own.0.0.0;
           its_naming = (own.0.1, same_naming);
           bind = λ h x include avoid n asked there. absurd (off h x include avoid asked);
-          note = λ h x b i g n there. (note_made_said lines h.path x b i g n (made n there), to n (let r = naming.note h.path x b i g n in r.part) there (note_goes h.path x b i g n));
-          confirm = λ h grants ex inc n there. (confirm_made_said lines h.path grants ex inc d.names n (made n there), to n (let r = confirm h.path grants ex inc d.names n in r.part) there (confirm_goes h.path grants ex inc d.names n));
-          ended = λ u how n there. (told_made_said lines u how d.names n (made n there), to n (let r = naming.told u how d.names n in r.part) there (told_goes u how d.names n));
-          hello = λ node inc n there. (hello_made_said lines node inc n (made n there), to n (naming.hello node inc n) there (hello_goes node inc n));
+          note = λ h x b i g n there. (
+            note_made_said lines h.path x b i g n (made n there),
+            to n (let r = naming.note h.path x b i g n in r.part) there (note_goes h.path x b i g n),
+          );
+          confirm = λ h grants ex inc n there. (
+            confirm_made_said lines h.path grants ex inc d.names n (made n there),
+            to n (let r = confirm h.path grants ex inc d.names n in r.part) there (confirm_goes h.path grants ex inc d.names n),
+          );
+          ended = λ u how n there. (
+            told_made_said lines u how d.names n (made n there),
+            to n (let r = naming.told u how d.names n in r.part) there (told_goes u how d.names n),
+          );
+          hello = λ node inc n there.
+              (hello_made_said lines node inc n (made n there), to n (naming.hello node inc n) there (hello_goes node inc n));
           load = λ h x st is. held_is x st is;
         }
 
@@ -565,15 +676,23 @@ module _ (hd : Header) (begun : List Action) (e k : ℕ) (d : Disk) (t : Parts) 
         h : ((S v.server × N v.naming) × C v.coord) × AllSend (Bound (new v.naming)) IsOf from m v.coord outs
         h = subst By is (message_served (Bound (new v.naming)) IsOf from m k d t S N C kept
             (λ a r of. let q = heard from a r d.intents t.coord in (
-              heard_named M.sent old k t.coord place own.0.0.1 from a r d.intents (answers_fit begun e k d t M good bound_all from m there a r of) (λ z s does now waits. brings from m there meant a r of z s does now waits),
-              quiet_so (Bound (new v.naming)) IsOf from m q.part q.outs (heard_quiet begun e k d t M good from a r) (heard_so begun (paths_of begun) tree_is t.coord coord_good (let u = its_up in u.numbered) works from a r d.intents),
+              heard_named M.sent old k t.coord place own.0.0.1 from a r d.intents (answers_fit begun e k d t M good bound_all from m there a
+                  r of) (λ z s does now waits. brings from m there meant a r of z s does now waits),
+              quiet_so (Bound (new v.naming)) IsOf from m q.part q.outs (heard_quiet begun e k d t M good from a r)
+                  (heard_so begun (paths_of begun) tree_is t.coord coord_good (let u = its_up in u.numbered) works from a r d.intents),
             ))
-            (λ u. let q = acked from u d.intents t.coord in (acked_named M.sent old k t.coord place own.0.0.1 from u d.intents, quiet_so (Bound (new v.naming)) IsOf from m q.part q.outs (acked_quiet begun e k d t M good from u) (acked_so from u d.intents t.coord)))
-            (λ u. quiet_so (Bound (new v.naming)) IsOf from m t.coord (answer_query from u d.intents t.coord) (query_quiet begun e k d t M good from u) (query_so t.coord from u d.intents t.coord)))
+            (λ u. let q = acked from u d.intents t.coord in (
+              acked_named M.sent old k t.coord place own.0.0.1 from u d.intents,
+              quiet_so (Bound (new v.naming)) IsOf from m q.part q.outs (acked_quiet begun e k d t M good from u)
+                  (acked_so from u d.intents t.coord),
+            ))
+            (λ u. quiet_so (Bound (new v.naming)) IsOf from m t.coord (answer_query from u d.intents t.coord)
+            (query_quiet begun e k d t M good from u) (query_so t.coord from u d.intents t.coord)))
 
     -- A Bind: the line that a binding was made comes before the answer.
     module _ (h : Head) (x : ℕ) (include : Bool) (avoid : Binding) (comes : asks m ≡ Some (h, ask.Bind x include avoid)) where
-      named_by : (n : Naming) → t.naming ≡ Some n → Left (served from h (with_naming t) Reply.Bound (naming.bind h.path x include avoid d.names n))
+      named_by : (n : Naming) → t.naming ≡ Some n →
+          Left (served from h (with_naming t) Reply.Bound (naming.bind h.path x include avoid d.names n))
       named_by n is = by r.reply refl
         where
           r : Served Naming BoundReply
@@ -583,11 +702,13 @@ module _ (hd : Header) (begun : List Action) (e k : ℕ) (d : Disk) (t : Parts) 
           after z = lines z ⊎ SaidIn r.outs z
 
           told : MadeWasSaid after (Some r.part) × MakeSaid lines after (λ z s. inl s) x r.reply
-          told = bind_made_said lines after (λ z s. inl s) h.path x include avoid d.names n (subst (MadeWasSaid lines) is own.0.1) (λ z s. inr s)
+          told = bind_made_said lines after (λ z s. inl s) h.path x include avoid d.names n (subst (MadeWasSaid lines) is own.0.1)
+              (λ z s. inr s)
 
           -- objects at naming are good
           counts : (y : ℕ) (o : Named) → at_number y n.objects ≡ Some o → Counts n.inc n.count o
-          counts y o there u z at_u = let a = held.2 k here (node_here M k here) in let b = a.live t n refl is in let c = b.objects y o there in (c.made u z at_u).1
+          counts y o there u z at_u = let a = held.2 k here (node_here M k here) in let b = a.live t n refl is in
+              let c = b.objects y o there in (c.made u z at_u).1
 
           stood : Goes n r.part × MakeStands r.part h.path x r.reply
           stood = bind_stands h.path x include avoid d.names n counts
@@ -608,36 +729,72 @@ module _ (hd : Header) (begun : List Action) (e k : ℕ) (d : Disk) (t : Parts) 
           v = with_naming t r.part
 
           goes : AreSo k (Some v) M after made
-          goes = record { its = λ w same. subst (PartsSo M.sent after made) (some_is same) ((own.0.0.0, steps_more M.sent M.sent (λ q i. i) old made stays t.coord own.0.0.1), told.0); others = so.others; replies = so.replies; activates = so.activates }
+          goes = record {
+            its = λ w same. subst (PartsSo M.sent after made) (some_is same)
+                ((own.0.0.0, steps_more M.sent M.sent (λ q i. i) old made stays t.coord own.0.0.1), told.0);
+            others = so.others;
+            replies = so.replies;
+            activates = so.activates;
+          }
 
           back_to : Post
           back_to = record { from = from; to = k; message = m }
 
-          answer : (q : BoundReply) → MakeSaid lines after (λ z s. inl s) x (Some q) → MakeStands r.part h.path x (Some q) → (o : Post) → o.to ≡ from → ReplyWasAsked M.sent made o (asked_by h) (Reply.Bound q)
-          answer (bound.Make b server g stores) line stand o to = (h, x, include, avoid, record { post = back_to; posted = there; from = sym to; asking = comes; asker = refl }, (line, record { here = λ one. (subst (λ i. i ≤ d.inc) (sym (stand.0 ∙ stood.0.0)) (own.1 n is).1, λ m same ours. subst (λ z. StandsIn z (top_of h.path) x b) (some_is same) stand.1); there = λ apart. absurd (apart (own.1 n is).0) }))
+          answer : (q : BoundReply) → MakeSaid lines after (λ z s. inl s) x (Some q) → MakeStands r.part h.path x (Some q) → (o : Post) →
+              o.to ≡ from → ReplyWasAsked M.sent made o (asked_by h) (Reply.Bound q)
+          answer (bound.Make b server g stores) line stand o to = (
+            h,
+            x,
+            include,
+            avoid,
+            record { post = back_to; posted = there; from = sym to; asking = comes; asker = refl },
+            (
+              line,
+              record {
+                here = λ one. (
+                  subst (λ i. i ≤ d.inc) (sym (stand.0 ∙ stood.0.0)) (own.1 n is).1,
+                  λ m same ours. subst (λ z. StandsIn z (top_of h.path) x b) (some_is same) stand.1,
+                );
+                there = λ apart. absurd (apart (own.1 n is).0);
+              },
+            ),
+          )
           answer (bound.Live b server i g stores) line stand o to = tt
           answer (bound.Write g stores) line stand o to = tt
           answer (bound.Conflict z l) line stand o to = tt
 
-          fine : (q : BoundReply) → MakeSaid lines after (λ z s. inl s) x (Some q) → MakeStands r.part h.path x (Some q) → Fine M.sent made k (Send from (response (asked_by h) (Reply.Bound q)))
-          fine q line stand = ((λ a z same. let two : ◌≡◌ {A = Asked × Reply} (asked_by h, Reply.Bound q) (a, z) = some_is same in subst (λ (y : Asked × Reply). ReplyWasAsked M.sent made (record { from = k; to = from; message = response (asked_by h) (Reply.Bound q) }) y.0 y.1) two (answer q line stand (record { from = k; to = from; message = response (asked_by h) (Reply.Bound q) }) refl)), λ g b st same. absurd (cc same))
+          fine : (q : BoundReply) → MakeSaid lines after (λ z s. inl s) x (Some q) → MakeStands r.part h.path x (Some q) →
+              Fine M.sent made k (Send from (response (asked_by h) (Reply.Bound q)))
+          fine q line stand = (
+            (λ a z same. let two : ◌≡◌ {A = Asked × Reply} (asked_by h, Reply.Bound q) (a, z) = some_is same in subst (λ (y : Asked ×
+                Reply). ReplyWasAsked M.sent made (record { from = k; to = from; message = response (asked_by h) (Reply.Bound q) }) y.0 y.1)
+                two (answer q line stand (record { from = k; to = from; message = response (asked_by h) (Reply.Bound q) }) refl)),
+            λ g b st same. absurd (cc same),
+          )
 
           by : (o : Option BoundReply) → r.reply ≡ o → Left (sends_answer from h v r.outs (option_map Reply.Bound o))
           by None none = tt
-          by (Some q) there = walk_lines M.sent after d.inc e k v r.outs (Send from (response (asked_by h) (Reply.Bound q)) ∷ []) d M (λ z i. i) (bind_said h.path x include avoid d.names n) (λ z s. s) (placed_on (Some r.part) goes_to) (omega arith) (tt, tt) (fine q (subst (MakeSaid lines after (λ z s. inl s) x) there told.1) (subst (MakeStands r.part h.path x) there stood.1), tt) goes
+          by (Some q) there = walk_lines M.sent after d.inc e k v r.outs (Send from (response (asked_by h) (Reply.Bound q)) ∷ []) d M
+              (λ z i. i) (bind_said h.path x include avoid d.names n) (λ z s. s) (placed_on (Some r.part) goes_to) (omega arith) (tt, tt)
+              (fine q (subst (MakeSaid lines after (λ z s. inl s) x) there told.1) (subst (MakeStands r.part h.path x) there stood.1), tt)
+              goes
 
-      bind_walk : (o : Option Naming) → t.naming ≡ o → Left (if_naming (λ n. served from h (with_naming t) Reply.Bound (naming.bind h.path x include avoid d.names n)) o)
+      bind_walk : (o : Option Naming) → t.naming ≡ o →
+          Left (if_naming (λ n. served from h (with_naming t) Reply.Bound (naming.bind h.path x include avoid d.names n)) o)
       bind_walk None is = tt
       bind_walk (Some n) is = named_by n is
 
     message_walk : (v : Parts) (outs : List Effect) → handle k d t from m ≡ Took v outs → Walks WereAsked e k outs (Up WereAsked k v) d M
     message_walk v outs is = by (asks m) refl
       where
-        other : (h : Head) (b : Ask) → asks m ≡ Some (h, b) → ((x : ℕ) (include : Bool) (avoid : Binding) → b ≢ ask.Bind x include avoid) → Walks WereAsked e k outs (Up WereAsked k v) d M
-        other h b it not_it = plain (λ g x include avoid its. let two : ◌≡◌ {A = Head × Ask} (h, b) (g, ask.Bind x include avoid) = some_is (sym it ∙ its) in not_it x include avoid (ap (λ (z : Head × Ask). z.1) two)) v outs is
+        other : (h : Head) (b : Ask) → asks m ≡ Some (h, b) → ((x : ℕ) (include : Bool) (avoid : Binding) → b ≢ ask.Bind x include avoid) →
+            Walks WereAsked e k outs (Up WereAsked k v) d M
+        other h b it not_it = plain (λ g x include avoid its. let two : ◌≡◌ {A = Head × Ask} (h, b) (g, ask.Bind x include avoid) = some_is
+            (sym it ∙ its) in not_it x include avoid (ap (λ (z : Head × Ask). z.1) two)) v outs is
 
         one : (h : Head) (b : Ask) → asks m ≡ Some (h, b) → Walks WereAsked e k outs (Up WereAsked k v) d M
-        one h (ask.Bind x include avoid) it = subst Left (sym (ap (handle_ask k d t from m) it) ∙ is) (bind_walk h x include avoid it t.naming refl)
+        one h (ask.Bind x include avoid) it =
+            subst Left (sym (ap (handle_ask k d t from m) it) ∙ is) (bind_walk h x include avoid it t.naming refl)
         one h (ask.Load x) it = other h (ask.Load x) it (λ y i a same. cc same)
         one h (ask.Activate b st) it = other h (ask.Activate b st) it (λ y i a same. cc same)
         one h (ask.Record x b i g) it = other h (ask.Record x b i g) it (λ y i a same. cc same)
@@ -647,37 +804,57 @@ module _ (hd : Header) (begun : List Action) (e k : ℕ) (d : Disk) (t : Parts) 
         one h (ask.Confirm g ex inc) it = other h (ask.Confirm g ex inc) it (λ y i a same. cc same)
 
         by : (o : Option (Head × Ask)) → asks m ≡ o → Walks WereAsked e k outs (Up WereAsked k v) d M
-        by None it = plain (λ g x include avoid its. let no_way : ◌≡◌ {A = Option (Head × Ask)} None (Some (g, ask.Bind x include avoid)) = sym it ∙ its in absurd (cc no_way)) v outs is
+        by None it = plain (λ g x include avoid its. let no_way : ◌≡◌ {A = Option (Head × Ask)} None (Some (g, ask.Bind x include avoid)) =
+            sym it ∙ its in absurd (cc no_way)) v outs is
         by (Some o) it = one o.0 o.1 it
 
-  act_walk : (i : Input) → is_act i ≡ true → refusal_up hd i t.coord ≡ None → Walks WereAsked e k (let r = acts_of i d.intents t.coord in r.outs) (Up WereAsked k (with_coord t (acts_of i d.intents t.coord).part)) d M
+  act_walk : (i : Input) → is_act i ≡ true → refusal_up hd i t.coord ≡ None → Walks WereAsked e k (let r = acts_of i d.intents t.coord in
+      r.outs) (Up WereAsked k (with_coord t (acts_of i d.intents t.coord).part)) d M
   act_walk i is free =
       let r = acts_of i d.intents t.coord in
       let steps = acts_named M.sent old k t.coord place own.0.0.1 hd i d.intents free other in
-      walk_on (with_coord t r.part) r.outs same_naming (quiet_incs d.inc r.outs (acts_quiet begun e k d t M good hd i is free)) (own_fine M.sent (new t.naming) k r.part (steps_on t.naming same_naming r.part steps) r.outs (quiet_silent r.outs (acts_quiet begun e k d t M good hd i is free)) (acts_so begun (paths_of begun) tree_is t.coord coord_good (let u = its_up in u.numbered) works i d.intents other)) ((own.0.0.0, steps), own.0.1)
+      walk_on (with_coord t r.part) r.outs same_naming (quiet_incs d.inc r.outs (acts_quiet begun e k d t M good hd i is free))
+      (own_fine M.sent (new t.naming) k r.part (steps_on t.naming same_naming r.part steps) r.outs
+      (quiet_silent r.outs (acts_quiet begun e k d t M good hd i is free)) (acts_so begun (paths_of begun) tree_is t.coord coord_good
+      (let u = its_up in u.numbered) works i d.intents other)) ((own.0.0.0, steps), own.0.1)
     where
       other : (l : Label) (how : Kind) (parent : Option Label) → i ≢ input.Begin l how parent
       other l how parent same = let no_way : false ≡ true = sym (ap is_act same) ∙ is in cc no_way
 
-  tick_walk : Walks WereAsked e k (tick_outs (record { number = k; disk = d; live = Some t }) t) (Up WereAsked k (with_coord t (again_all t.coord.doings t.coord).part)) d M
+  tick_walk : Walks WereAsked e k (tick_outs (record { number = k; disk = d; live = Some t }) t)
+      (Up WereAsked k (with_coord t (again_all t.coord.doings t.coord).part)) d M
   tick_walk =
       let r = again_all t.coord.doings t.coord in
       let tolds = tolds_again t.coord.telling in
       let steps = again_named M.sent old k t.coord place own.0.0.1 in
       let outs = tick_outs (record { number = k; disk = d; live = Some t }) t in
-      walk_on (with_coord t r.part) outs same_naming (quiet_incs d.inc outs (tick_quiet begun e k d t M good)) (own_fine M.sent (new t.naming) k r.part (steps_on t.naming same_naming r.part steps) outs (quiet_silent outs (tick_quiet begun e k d t M good))
-      (so_both r.part (r.outs ++ tolds) (map query_about (holders d t)) (so_both r.part r.outs tolds (again_so begun (paths_of begun) tree_is t.coord coord_good (let u = its_up in u.numbered) works) (tolds_so r.part t.coord.telling)) (all_map (SendsSo r.part) query_about (holders d t) (λ w h a is. absurd (cc is)))))
+      walk_on (with_coord t r.part) outs same_naming (quiet_incs d.inc outs (tick_quiet begun e k d t M good)) (own_fine M.sent
+      (new t.naming) k r.part (steps_on t.naming same_naming r.part steps) outs (quiet_silent outs (tick_quiet begun e k d t M good))
+      (so_both r.part (r.outs ++ tolds) (map query_about (holders d t))
+      (so_both r.part r.outs tolds (again_so begun (paths_of begun) tree_is t.coord coord_good (let u = its_up in u.numbered) works)
+      (tolds_so r.part t.coord.telling)) (all_map (SendsSo r.part) query_about (holders d t) (λ w h a is. absurd (cc is)))))
       ((own.0.0.0, steps), own.0.1)
 
-  begin_walk : (l : Label) (how : Kind) (parent : Option Label) (g : Labelled) → Walks WereAsked e k (let r = begin_action l how parent (parent_of parent t.coord) t.coord in r.outs) (Up WereAsked k (with_coord t (begin_action l how parent (parent_of parent t.coord) t.coord).part)) d (given l g M)
+  begin_walk : (l : Label) (how : Kind) (parent : Option Label) (g : Labelled) →
+      Walks WereAsked e k (let r = begin_action l how parent (parent_of parent t.coord) t.coord in
+      r.outs) (Up WereAsked k (with_coord t (begin_action l how parent (parent_of parent t.coord) t.coord).part)) d (given l g M)
   begin_walk l how parent g =
       let r = begin_action l how parent (parent_of parent t.coord) t.coord in
       let v = with_coord t r.part in
-      let so = so_more k (Some v) M lines lines (λ z s. s) old (new t.naming) (still lines (λ z s. s) t.naming same_naming) (goes_on v ((own.0.0.0, begins_named M.sent old l how parent t.coord own.0.0.1), own.0.1)) in
-      walk M.sent lines d.inc e k v r.outs d (given l g M) (λ p i. i) (λ z s. s) (placed_on t.naming same_naming) (omega arith) (tt, tt) (tt, tt) (record { its = so.its; others = so.others; replies = so.replies; activates = so.activates })
+      let so = so_more k (Some v) M lines lines (λ z s. s) old (new t.naming) (still lines (λ z s. s) t.naming same_naming)
+      (goes_on v ((own.0.0.0, begins_named M.sent old l how parent t.coord own.0.0.1), own.0.1)) in
+      walk M.sent lines d.inc e k v r.outs d (given l g M) (λ p i. i) (λ z s. s) (placed_on t.naming same_naming) (omega arith) (tt, tt)
+      (tt, tt) (record { its = so.its; others = so.others; replies = so.replies; activates = so.activates })
 
 first_asked : (hd : Header) → WereAsked (see [] (format hd))
-first_asked hd = record { replies = λ p a r i. absurd i; activates = λ p h b st i. absurd i; servers = λ j n t is live. (by j n t is live).0.0.0; steps = λ j n t is live. (by j n t is live).0.0.1; namings = λ j n t is live. (by j n t is live).0.1; places = λ j n t is live. (by j n t is live).1 }
+first_asked hd = record {
+  replies = λ p a r i. absurd i;
+  activates = λ p h b st i. absurd i;
+  servers = λ j n t is live. (by j n t is live).0.0.0;
+  steps = λ j n t is live. (by j n t is live).0.0.1;
+  namings = λ j n t is live. (by j n t is live).0.1;
+  places = λ j n t is live. (by j n t is live).1;
+}
   where
     L : Body → Type 0
     L = let w = format hd in IsSaid w.lines
@@ -685,31 +862,48 @@ first_asked hd = record { replies = λ p a r i. absurd i; activates = λ p h b s
     C : Claims
     C = WasMade (see [] (format hd))
 
-    by : (j : ℕ) (n : Node) (t : Parts) → at_place j (map (first_node hd) (numbers_to hd.nodes)) ≡ Some n → n.live ≡ Some t → PartsSo [] L C t × IsPlaced j (let d = n.disk in d.inc) t.naming
+    by : (j : ℕ) (n : Node) (t : Parts) → at_place j (map (first_node hd) (numbers_to hd.nodes)) ≡ Some n → n.live ≡ Some t →
+        PartsSo [] L C t × IsPlaced j (let d = n.disk in d.inc) t.naming
     by zero n t is live = absurd (cc is)
     by (suc j) n t is live =
         let at_first = first_at hd (suc j) n is in
-        let same = some_is (ap (λ (z : Node). z.live) at_first ∙ live) in
-        (subst (PartsSo [] L C) same ((none_asked [] 1, new_named [] C (suc j) 1 (let d = first_disk hd (suc j) in d.intents)), start_made L (suc j) 1 (let d = first_disk hd (suc j) in d.names)), subst (λ (z : Node). IsPlaced (suc j) (let d = z.disk in d.inc) t.naming) at_first (subst (λ (z : Parts). IsPlaced (suc j) 1 z.naming) same (start_placed (suc j) 1 (let d = first_disk hd (suc j) in d.names))))
+        let same = some_is (ap (λ (z : Node). z.live) at_first ∙ live) in (
+          subst (PartsSo [] L C) same (
+            (none_asked [] 1, new_named [] C (suc j) 1 (let d = first_disk hd (suc j) in d.intents)),
+            start_made L (suc j) 1 (let d = first_disk hd (suc j) in d.names),
+          ),
+          subst (λ (z : Node). IsPlaced (suc j) (let d = z.disk in d.inc) t.naming) at_first
+              (subst (λ (z : Parts). IsPlaced (suc j) 1 z.naming) same (start_placed (suc j) 1 (let d = first_disk hd (suc j) in d.names))),
+        )
 
 -- a restart
 module _ (hd : Header) (e k : ℕ) (d : Disk) (M : Seen) (p : WereAsked (down k d M)) where
   -- where the node is still down, on a later disk
   halts : (c : Disk) → d.inc ≤ c.inc → WereAsked (halted e k c M)
-  halts c low = quiet_asked e (body.Halted k ∷ []) (down k c M) (back k c None M (so_more k None M (IsSaid M.lines) (IsSaid M.lines) (λ z s. s) (WasMade (down k d M)) (WasMade (down k c M)) (λ q x b s g w. (w.0, stays q x b g w.1)) (record { its = λ t is. absurd (cc is); others = others_of k d None M p; replies = p.replies; activates = p.activates })) (λ t is. absurd (cc is)))
+  halts c low = quiet_asked e (body.Halted k ∷ []) (down k c M) (back k c None M (so_more k None M (IsSaid M.lines) (IsSaid M.lines)
+      (λ z s. s) (WasMade (down k d M)) (WasMade (down k c M)) (λ q x b s g w. (w.0, stays q x b g w.1))
+      (record { its = λ t is. absurd (cc is); others = others_of k d None M p; replies = p.replies; activates = p.activates }))
+      (λ t is. absurd (cc is)))
     where
       up_to : (a b c : ℕ) → a ≤ b → b ≤ c → a ≤ c
       up_to a b c x y = omega (arith, x, y)
 
-      stays : (q : Path) (x : ℕ) (b : Binding) (g : ℕ) → ((n : Node) → (let w = down k d M in w.nodes) 1 ≡ Some n → StandsAt n q x b g) → (n : Node) → (let w = down k c M in w.nodes) 1 ≡ Some n → StandsAt n q x b g
+      stays : (q : Path) (x : ℕ) (b : Binding) (g : ℕ) → ((n : Node) → (let w = down k d M in w.nodes) 1 ≡ Some n → StandsAt n q x b g) →
+          (n : Node) → (let w = down k c M in w.nodes) 1 ≡ Some n → StandsAt n q x b g
       stays q x b g was n found = by (1 == k) refl found
         where
-          by : (is : Bool) → (1 == k) ≡ is → cond is (Some (record { number = k; disk = c; live = None })) (M.nodes 1) ≡ Some n → StandsAt n q x b g
-          by true same it = let w = was (record { number = k; disk = d; live = None }) (λ i. cond (same i) (Some (record { number = k; disk = d; live = None })) (M.nodes 1)) in subst (λ (z : Node). StandsAt z q x b g) (some_is it) (record { low = up_to g d.inc c.inc w.low low; stands = λ t o live. absurd (cc live) })
+          by : (is : Bool) → (1 == k) ≡ is → cond is (Some (record { number = k; disk = c; live = None })) (M.nodes 1) ≡ Some n →
+              StandsAt n q x b g
+          by true same it = let w = was (record { number = k; disk = d; live = None }) (λ i.
+              cond (same i) (Some (record { number = k; disk = d; live = None })) (M.nodes 1)) in subst (λ (z : Node). StandsAt z q x b g)
+              (some_is it) (record { low = up_to g d.inc c.inc w.low low; stands = λ t o live. absurd (cc live) })
           by false apart it = was n ((λ i. cond (apart i) (Some (record { number = k; disk = d; live = None })) (M.nodes 1)) ∙ it)
 
   restart_walk : Walks WereAsked e k (restart_outs hd k (d.inc + 1) d) (Up WereAsked k (parts_in k (d.inc + 1) d)) d M
-  restart_walk = (λ how. halts (stopped how Look d) (inc_stopped d.inc how Look d tt (omega arith)), (λ how. halts (stopped how (PutInc (d.inc + 1)) d) (inc_stopped d.inc how (PutInc (d.inc + 1)) d (omega arith) (omega arith)), goes))
+  restart_walk = (
+    λ how. halts (stopped how Look d) (inc_stopped d.inc how Look d tt (omega arith)),
+    (λ how. halts (stopped how (PutInc (d.inc + 1)) d) (inc_stopped d.inc how (PutInc (d.inc + 1)) d (omega arith) (omega arith)), goes),
+  )
     where
       v : Parts
       v = parts_in k (d.inc + 1) d
@@ -721,7 +915,14 @@ module _ (hd : Header) (e k : ℕ) (d : Disk) (M : Seen) (p : WereAsked (down k 
       C = Made (IsSaid M.lines) k (d.inc + 1) v.naming M.nodes
 
       stays : (q : Path) (x : ℕ) (b : Binding) (s g : ℕ) → WasMade (down k d M) q x b s g → C q x b s g
-      stays q x b s g w = (w.0, record { here = one; there = λ apart n found. w.1 n ((λ i. cond (other_number 1 k (λ same. apart (sym same)) i) (Some (record { number = k; disk = d; live = None })) (M.nodes 1)) ∙ found) })
+      stays q x b s g w = (
+        w.0,
+        record {
+          here = one;
+          there = λ apart n found. w.1 n ((λ i. cond (other_number 1 k (λ same. apart (sym same)) i)
+              (Some (record { number = k; disk = d; live = None })) (M.nodes 1)) ∙ found);
+        },
+      )
         where
           under : (a b : ℕ) → a ≤ b → a ≤ b + 1
           under a b le = omega (arith, le)
@@ -731,26 +932,38 @@ module _ (hd : Header) (e k : ℕ) (d : Disk) (M : Seen) (p : WereAsked (down k 
 
           one : k ≡ 1 → (g ≤ d.inc + 1) × ((m : Naming) → v.naming ≡ Some m → g ≡ m.inc → StandsIn m (top_of q) x b)
           one is =
-              let z = w.1 (record { number = k; disk = d; live = None }) (ap (λ i. (let w = down k d M in w.nodes) i) (sym is) ∙ node_here M k (record { number = k; disk = d; live = None })) in
+              let z = w.1 (record { number = k; disk = d; live = None })
+              (ap (λ i. (let w = down k d M in w.nodes) i) (sym is) ∙ node_here M k (record { number = k; disk = d; live = None })) in
               (under g d.inc z.low, λ m there ours. absurd (apart_from g d.inc m.inc z.low ours (start_inc k (d.inc + 1) d.names m there)))
 
       steps : StepsNamed M.sent C v.coord
       steps = new_named M.sent C k (d.inc + 1) d.intents
 
       so : AreSo k None M (IsSaid M.lines) C
-      so = so_more k None M (IsSaid M.lines) (IsSaid M.lines) (λ z s. s) (WasMade (down k d M)) C stays (record { its = λ t is. absurd (cc is); others = others_of k d None M p; replies = p.replies; activates = p.activates })
+      so = so_more k None M (IsSaid M.lines) (IsSaid M.lines) (λ z s. s) (WasMade (down k d M)) C stays
+          (record { its = λ t is. absurd (cc is); others = others_of k d None M p; replies = p.replies; activates = p.activates })
 
       goes : Walks WereAsked e k (rest hd k d) (Up WereAsked k v) after M
-      goes = walk M.sent (IsSaid M.lines) (d.inc + 1) e k v (rest hd k d) after M (λ p i. i) (λ z s. s) (start_placed k (d.inc + 1) d.names) (omega arith) (quiet_incs (d.inc + 1) (rest hd k d) (rest_quiet hd k d)) (own_fine M.sent C k v.coord steps (restart_outs hd k (d.inc + 1) d) (restart_silent hd k (d.inc + 1) d) (restart_asks hd k (d.inc + 1) d)).1.1
-          (record { its = λ t is. subst (PartsSo M.sent (IsSaid M.lines) C) (some_is is) ((none_asked M.sent (d.inc + 1), steps), start_made (IsSaid M.lines) k (d.inc + 1) d.names); others = so.others; replies = so.replies; activates = so.activates })
+      goes = walk M.sent (IsSaid M.lines) (d.inc + 1) e k v (rest hd k d) after M (λ p i. i) (λ z s. s) (start_placed k (d.inc + 1) d.names)
+          (omega arith) (quiet_incs (d.inc + 1) (rest hd k d) (rest_quiet hd k d)) (own_fine M.sent C k v.coord steps
+          (restart_outs hd k (d.inc + 1) d) (restart_silent hd k (d.inc + 1) d) (restart_asks hd k (d.inc + 1) d)).1.1
+          (record {
+            its = λ t is. subst (PartsSo M.sent (IsSaid M.lines) C) (some_is is)
+                ((none_asked M.sent (d.inc + 1), steps), start_made (IsSaid M.lines) k (d.inc + 1) d.names);
+            others = so.others;
+            replies = so.replies;
+            activates = so.activates;
+          })
 
 pub asked_given : (hd : Header) → KeepsGiven hd (λ M. (RequestsAreKnown M × HaveForms hd M) × ObjectsAreHeld M) WereAsked
 asked_given hd = record {
   quiet = λ e bs M quiet g p. quiet_asked e bs M p;
   stop = λ e k d live M g p. stop_so e k d live M p;
-  message = λ e k d t v from m outs M g p there meant is. message_walk hd g.0.0.0.0.0 e k d t M g.0.0.0.0.1 g.0.0.0.1 g.0.0.1 g.0.1 g.1 p from m there meant v outs is;
+  message = λ e k d t v from m outs M g p there meant is.
+      message_walk hd g.0.0.0.0.0 e k d t M g.0.0.0.0.1 g.0.0.0.1 g.0.0.1 g.0.1 g.1 p from m there meant v outs is;
   act = λ e k d t i M is free g p. act_walk hd g.0.0.0.0.0 e k d t M g.0.0.0.0.1 g.0.0.0.1 g.0.0.1 g.0.1 g.1 p i is free;
-  begin = λ e k d t l how parent M new may free g p. begin_walk hd g.0.0.0.0.0 e k d t M g.0.0.0.0.1 g.0.0.0.1 g.0.0.1 g.0.1 g.1 p l how parent (record { node = k; serial = is_serial_kind how });
+  begin = λ e k d t l how parent M new may free g p. begin_walk hd g.0.0.0.0.0 e k d t M g.0.0.0.0.1 g.0.0.0.1 g.0.0.1 g.0.1 g.1 p l how
+      parent (record { node = k; serial = is_serial_kind how });
   tick = λ e k d t M g p. tick_walk hd g.0.0.0.0.0 e k d t M g.0.0.0.0.1 g.0.0.0.1 g.0.0.1 g.0.1 g.1 p;
   restart = λ e k d M g p. restart_walk hd e k d M p;
   first = first_asked hd;

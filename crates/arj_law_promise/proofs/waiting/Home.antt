@@ -1,31 +1,20 @@
 -- Each request is by an action of the node that sent it, in every run.
-use Rattle.std.proofs.Common.{Bool, None, Some, ap, cond, eqb-true, false, refl, sym, true, ℕ, ⊎_elim, ◌==◌, ◌∙◌, ◌≡◌}
-use Rattle.arj_law_lock_view.proofs.facts.CoordRuns.{IsKeptBy, PlaceAt, Sender, coords_keep}
-use Rattle.arj_protocol.specs.Words.{Ask, Head, Header, Message, asks}
-use Rattle.arj_protocol.specs.Coord.{Coord, Doing}
-use Rattle.arj_law_parts.specs.parts.Claims.{GoesOn}
-use Rattle.arj_law_parts.specs.parts.Copies.{IsTree}
-use Rattle.arj_law_parts.specs.moves.Keeps.{Keeps}
-use Rattle.arj_promise.specs.Runs.{Post}
-use Rattle.arj_law_promise.specs.waiting.Asked.{AreHome, RequestsAreHome}
-use Rattle.arj_protocol.specs.Effect.{Send}
-use Rattle.arj_law_runs.proofs.calls.CoordSends.{SendsSo}
-use Rattle.arj_protocol.specs.Ending.{acked}
-use Rattle.arj_protocol.specs.Ask.{actor}
-use Rattle.arj_protocol.specs.Step.{acts}
-use Rattle.arj_protocol.specs.Asking.{again_all, heard}
-use Rattle.std.proofs.lemmas.Bool.{and_parts}
-use Rattle.arj_protocol.specs.Tree.{at_place, is_own}
-use Rattle.arj_law_parts.proofs.parts.Begun.{begun_tree}
-use Rattle.arj_law_parts.proofs.parts.Settled.{node_on}
-use Rattle.arj_law_parts.specs.parts.Actions.{paths_of}
-use Rattle.arj_law_parts.proofs.parts.TrueSteps.{well_acked, well_acts, well_again, well_heard}
+use Rattle.arj_law_parts.proofs.Words
+use Words.{Bool, None, Some, ap, cond, eqb-true, false, refl, sym, true, ℕ, ⊎_elim, ◌==◌, ◌∙◌, ◌≡◌, Ask, Head, Header, Message, asks, Coord}
+use Words.{Doing, Post, Send, acked, actor, acts, again_all, heard, and_parts, at_place, is_own}
+use Rattle.arj_law_promise.proofs.Terms
+use Terms.{IsKeptBy, PlaceAt, Sender, coords_keep, GoesOn, IsTree, Keeps, RequestsAreHome, SendsSo, begun_tree, node_on, paths_of}
+use Terms.{well_acked, well_acts, well_again, well_heard}
+use Rattle.arj_law_promise.specs.waiting.Asked.{AreHome}
 
 -- who asks is of the coordinator's node
-own_node : (e : Coord) (to : ℕ) (m : Message) → SendsSo e (Send to m) → (h : Head) (a : Ask) → asks m ≡ Some (h, a) → (actor h.path).node ≡ e.tree.node
-own_node e to m so h a is = let s = so h a is in eqb-true (actor h.path).node e.tree.node (and_parts ((actor h.path).node == e.tree.node) ((actor h.path).inc == e.tree.inc) (by (is_own (actor h.path) e.tree) refl s.found)).0
+own_node : (e : Coord) (to : ℕ) (m : Message) → SendsSo e (Send to m) → (h : Head) (a : Ask) → asks m ≡ Some (h, a) →
+    (actor h.path).node ≡ e.tree.node
+own_node e to m so h a is = let s = so h a is in eqb-true (actor h.path).node e.tree.node
+    (and_parts ((actor h.path).node == e.tree.node) ((actor h.path).inc == e.tree.inc) (by (is_own (actor h.path) e.tree) refl s.found)).0
   where
-    by : {d : Doing} (b : Bool) → is_own (actor h.path) e.tree ≡ b → cond b (at_place (actor h.path).num e.doings) None ≡ Some d → is_own (actor h.path) e.tree ≡ true
+    by : {d : Doing} (b : Bool) → is_own (actor h.path) e.tree ≡ b → cond b (at_place (actor h.path).num e.doings) None ≡ Some d →
+        is_own (actor h.path) e.tree ≡ true
     by true own found = own
     by false own found = absurd (cc found)
 
@@ -45,12 +34,20 @@ home_kept = record {
   none = λ p h a there. absurd there;
   new = λ s inc telling fresh. refl;
   apart = λ s c p other its. its;
-  sends = λ s c to m stands so all its. ((λ p h a there is. ⊎_elim (λ same. own_node c to m so h a (ap (λ (q : Post). asks q.message) same ∙ is) ∙ its ∙ ap (λ (q : Post). q.from) same) (λ old. all p h a old is) there), its);
-  hears = λ s c place from a r intents posted fits meant its. goes_on s c place its (heard from a r intents c).part (well_heard place.actions (paths_of place.actions) (tree s c place its) from a r intents c place.good).0;
-  acks = λ s c place from u intents its. goes_on s c place its (acked from u intents c).part (well_acked place.actions (paths_of place.actions) (tree s c place its) from u intents c).0;
-  does = λ s c place intents hd i free other its. goes_on s c place its (acts i intents c).part (well_acts place.actions (paths_of place.actions) (tree s c place its) intents c place.good (let f = place.faithful in f.works) hd i free other).0;
+  sends = λ s c to m stands so all its. (
+    (λ p h a there is. ⊎_elim (λ same. own_node c to m so h a (ap (λ (q : Post). asks q.message) same ∙ is) ∙ its
+        ∙ ap (λ (q : Post). q.from) same) (λ old. all p h a old is) there),
+    its,
+  );
+  hears = λ s c place from a r intents posted fits meant its. goes_on s c place its (heard from a r intents c).part
+      (well_heard place.actions (paths_of place.actions) (tree s c place its) from a r intents c place.good).0;
+  acks = λ s c place from u intents its. goes_on s c place its (acked from u intents c).part
+      (well_acked place.actions (paths_of place.actions) (tree s c place its) from u intents c).0;
+  does = λ s c place intents hd i free other its. goes_on s c place its (acts i intents c).part (well_acts place.actions
+      (paths_of place.actions) (tree s c place its) intents c place.good (let f = place.faithful in f.works) hd i free other).0;
   begins = λ s c place l how parent its. its;
-  asks = λ s c place its. goes_on s c place its (again_all c.doings c).part (well_again place.actions (paths_of place.actions) (tree s c place its) c place.good).0;
+  asks = λ s c place its. goes_on s c place its (again_all c.doings c).part
+      (well_again place.actions (paths_of place.actions) (tree s c place its) c place.good).0;
 }
 
 pub home_keep : (hd : Header) → Keeps hd RequestsAreHome

@@ -1,52 +1,24 @@
 -- What is known of whoever waits is kept by each handler, where an include asks for a store of the header.
-use Rattle.std.proofs.Common.{◌≡◌, ◌≤◌, ◌+◌, arith, ℕ, true, List, [], ◌∷◌, length, Some}
-use Rattle.std.specs.Prelude.{◌&&◌, nat_le}
-use Rattle.std.specs.List.{AllByRecursion, list_all}
-use Rattle.std.proofs.lemmas.Bool.{and_parts, leb-true}
-use Rattle.std.proofs.lemmas.Bool.Decides.{nat_tests}
-use Rattle.arj_journal.specs.ScriptForm.{HeaderInForm, ObjectLineInForm}
+use Rattle.arj_law_parts.proofs.Words
+use Words.{◌≡◌, ◌≤◌, ◌+◌, arith, ℕ, true, List, [], ◌∷◌, length, Some, ◌&&◌, nat_le, AllByRecursion, list_all, and_parts, leb-true}
+use Words.{nat_tests, Header, ObjectLine, again_all, begin_action, Disk, Effect, tick_outs, Parts, with_coord, acts, parent_of, parts_in}
+use Words.{restart_outs, is_serial_kind, Seen}
+use Rattle.arj_law_promise.proofs.Terms
+use Terms.{HeaderInForm, ObjectLineInForm, Keeps, KeepsAsked, given, Up, Walks, keeps_asked, all_keep, IsGood, keeps_given, kept_both}
+use Terms.{BindsAreKnown, HasObject, AreAddressed, IsNode, ObjectsAreHeld, RequestsAreKnown, requests_keep, asked_both, EndsArePast}
+use Terms.{past_keep, HaveForms, RequestsAreHome, WereAsked, kept_forms, AreSo, kind_of, ArePastWriters}
 use Rattle.arj_journal.specs.declared.limits.TheConstants.{SERVERS, STORES}
-use Rattle.arj_text.specs.Fields.{NodesInForm, is_distinct}
-use Rattle.arj_protocol.specs.Words.{Header, ObjectLine}
-use Rattle.arj_protocol.specs.Asking.{again_all, begin_action}
-use Rattle.arj_protocol.specs.Effect.{Disk, Effect}
-use Rattle.arj_protocol.specs.Follow.{tick_outs}
-use Rattle.arj_protocol.specs.Node.{Parts, with_coord}
-use Rattle.arj_protocol.specs.Step.{acts, parent_of, parts_in, restart_outs}
-use Rattle.arj_protocol.specs.World.{is_serial_kind}
-use Rattle.arj_law_parts.specs.moves.Keeps.{Keeps, KeepsAsked}
-use Rattle.arj_law_parts.specs.moves.Seen.{given}
-use Rattle.arj_promise.specs.Runs.{Seen}
-use Rattle.arj_law_parts.specs.moves.Walks.{Up, Walks}
-use Rattle.arj_law_parts.proofs.moves.Happens.{keeps_asked}
-use Rattle.arj_law_runs.proofs.kept.AllRuns.{all_keep}
-use Rattle.arj_law_parts.proofs.moves.Together.{walks_each}
-use Rattle.arj_law_runs.specs.kept.Worlds.{IsGood}
-use Rattle.arj_law_runs.proofs.calls.Given.{keeps_given, kept_both}
-use Rattle.arj_law_runs.specs.addresses.Binds.{BindsAreKnown}
-use Rattle.arj_law_disk_view.specs.running.Entries.{HaveEntries}
 use Rattle.arj_law_disk_view.proofs.running.EntryKeeps.{keeps_entries}
-use Rattle.arj_law_lock_view.specs.facts.Entries.{HasObject}
-use Rattle.arj_law_lock_view.proofs.facts.Entries.{entries_keep}
-use Rattle.arj_law_serial.specs.whole.Called.{CallsAreOfHeader}
-use Rattle.arj_law_serial.proofs.whole.CalledWalks.{calls_keep}
-use Rattle.arj_law_runs.specs.addresses.Addresses.{AreAddressed, AreOf, IsNode, LineOf}
+use Rattle.arj_law_disk_view.specs.running.Entries.{HaveEntries}
+use Rattle.arj_law_lock_view.proofs.facts.{Entries.entries_keep, GoodNaming.objects_keep as objects_held}
+use Rattle.arj_law_parts.proofs.moves.Together.{walks_each}
+use Rattle.arj_law_promise.proofs.waiting.{AskedRuns.asked_given, Home.home_keep, WriterRuns.writers_given}
+use Rattle.arj_law_promise.specs.waiting.{Waits.AskersAreKnown, Waits.HandlersKeepWaits, Waits.ObjectsAreKnown, Writers.WritersArePast}
 use Rattle.arj_law_runs.proofs.addresses.Runs.{so_kept}
-use Rattle.arj_law_lock_view.proofs.facts.GoodNaming.{objects_keep as objects_held}
-use Rattle.arj_law_lock_view.specs.facts.Uppers.{ObjectsAreHeld}
-use Rattle.arj_law_lock_view.specs.facts.Requests.{RequestsAreKnown}
-use Rattle.arj_law_lock_view.proofs.facts.Requests.{requests_keep}
-use Rattle.arj_law_runs.proofs.resting.Quiesces.{asked_both}
-use Rattle.arj_law_serial.specs.past.Told.{EndsArePast}
-use Rattle.arj_law_promise.specs.waiting.Waits.{AskersAreKnown, HandlersKeepWaits, ObjectsAreKnown}
-use Rattle.arj_law_serial.proofs.past.Past.{past_keep}
-use Rattle.arj_law_promise.specs.waiting.Asked.{HaveForms, RequestsAreHome, WereAsked}
-use Rattle.arj_law_serial.proofs.joint.FormRuns.{kept_forms}
-use Rattle.arj_law_serial.specs.joint.Forms.{AreSo, kind_of}
-use Rattle.arj_law_promise.proofs.waiting.AskedRuns.{asked_given}
-use Rattle.arj_law_promise.proofs.waiting.Home.{home_keep}
-use Rattle.arj_law_promise.proofs.waiting.WriterRuns.{writers_given}
-use Rattle.arj_law_promise.specs.waiting.Writers.{ArePastWriters, WritersArePast}
+use Rattle.arj_law_runs.specs.addresses.Addresses.{AreOf, LineOf}
+use Rattle.arj_law_serial.proofs.whole.CalledWalks.{calls_keep}
+use Rattle.arj_law_serial.specs.whole.Called.{CallsAreOfHeader}
+use Rattle.arj_text.specs.Fields.{NodesInForm, is_distinct}
 
 -- ---- addresses
 
@@ -59,16 +31,21 @@ module _ (hd : Header) (form : HeaderInForm hd) where
 
   listed : (ns : List ℕ) → list_all (λ m. nat_le 1 m && nat_le m hd.nodes) ns ≡ true → AreOf Fits ns
   listed [] are = tt
-  listed (n ∷ ns) are = let p = and_parts (nat_le 1 n && nat_le n hd.nodes) (list_all (λ m. nat_le 1 m && nat_le m hd.nodes) ns) are in (p.0, listed ns p.1)
+  listed (n ∷ ns) are = let p = and_parts (nat_le 1 n && nat_le n hd.nodes) (list_all (λ m. nat_le 1 m && nat_le m hd.nodes) ns) are in
+      (p.0, listed ns p.1)
 
   in_form : (most : ℕ) (ns : List ℕ) → NodesInForm hd.nodes most ns → AreOf Fits ns × (1 ≤ length ns)
   in_form most ns are =
-      let p = and_parts (nat_le 1 (length ns) && nat_le (length ns) most) (list_all (λ m. nat_le 1 m && nat_le m hd.nodes) ns && is_distinct ns) are in
-      (listed ns (and_parts (list_all (λ m. nat_le 1 m && nat_le m hd.nodes) ns) (is_distinct ns) p.1).0, leb-true 1 (length ns) (and_parts (nat_le 1 (length ns)) (nat_le (length ns) most) p.0).0)
+      let p = and_parts (nat_le 1 (length ns) && nat_le (length ns) most)
+      (list_all (λ m. nat_le 1 m && nat_le m hd.nodes) ns && is_distinct ns) are in (
+        listed ns (and_parts (list_all (λ m. nat_le 1 m && nat_le m hd.nodes) ns) (is_distinct ns) p.1).0,
+        leb-true 1 (length ns) (and_parts (nat_le 1 (length ns)) (nat_le (length ns) most) p.0).0,
+      )
 
   lines : (os : List ObjectLine) → AllByRecursion (ObjectLineInForm hd.nodes) os → AllByRecursion (LineOf Fits) os
   lines [] all = tt
-  lines (o ∷ os) all = let f = all.0 in let s = in_form SERVERS o.servers f.servers in ((s.0, (in_form STORES o.stores f.stores).0, s.1), lines os all.1)
+  lines (o ∷ os) all = let f = all.0 in let s = in_form SERVERS o.servers f.servers in
+      ((s.0, (in_form STORES o.stores f.stores).0, s.1), lines os all.1)
 
   addressed : KeepsAsked hd (AreAddressed hd)
   addressed = so_kept Fits fits_one hd (λ s is. is) (lines hd.objects form.objects.0)
@@ -80,33 +57,49 @@ keeps_each : {A : Type 0} (hd : Header) (P : A → Seen → Type 0) → ((x : A)
 keeps_each {A} hd P each = record {
   quiet = λ e bs M quiet p x. (each x).quiet e bs M quiet (p x);
   stop = λ e k d live M p x. (each x).stop e k d live M (p x);
-  message = λ e k d t v from m outs M p there meant is. many e k outs v d M (λ x. (each x).message e k d t v from m outs M (p x) there meant is);
-  act = λ e k d t i M is free p. let did = acts i d.intents t.coord in many e k did.outs (with_coord t did.part) d M (λ x. (each x).act e k d t i M is free (p x));
+  message =
+      λ e k d t v from m outs M p there meant is. many e k outs v d M (λ x. (each x).message e k d t v from m outs M (p x) there meant is);
+  act = λ e k d t i M is free p. let did = acts i d.intents t.coord in
+      many e k did.outs (with_coord t did.part) d M (λ x. (each x).act e k d t i M is free (p x));
   begin = λ e k d t l how parent M new may free p.
       let did = begin_action l how parent (parent_of parent t.coord) t.coord in
-      many e k did.outs (with_coord t did.part) d (given l (record { node = k; serial = is_serial_kind how }) M) (λ x. (each x).begin e k d t l how parent M new may free (p x));
-  tick = λ e k d t M p. many e k (tick_outs (record { number = k; disk = d; live = Some t }) t) (with_coord t (again_all t.coord.doings t.coord).part) d M (λ x. (each x).tick e k d t M (p x));
+      many e k did.outs (with_coord t did.part) d (given l (record { node = k; serial = is_serial_kind how }) M)
+      (λ x. (each x).begin e k d t l how parent M new may free (p x));
+  tick = λ e k d t M p. many e k (tick_outs (record { number = k; disk = d; live = Some t }) t)
+      (with_coord t (again_all t.coord.doings t.coord).part) d M (λ x. (each x).tick e k d t M (p x));
   restart = λ e k d M p. many e k (restart_outs hd k (d.inc + 1) d) (parts_in k (d.inc + 1) d) d M (λ x. (each x).restart e k d M (p x));
   first = λ x. (each x).first;
 }
   where
-    many : (e k : ℕ) (outs : List Effect) (v : Parts) (d : Disk) (M : Seen) → ((x : A) → Walks (P x) e k outs (Up (P x) k v) d M) → Walks (λ N. (x : A) → P x N) e k outs (Up (λ N. (x : A) → P x N) k v) d M
+    many : (e k : ℕ) (outs : List Effect) (v : Parts) (d : Disk) (M : Seen) → ((x : A) → Walks (P x) e k outs (Up (P x) k v) d M) →
+        Walks (λ N. (x : A) → P x N) e k outs (Up (λ N. (x : A) → P x N) k v) d M
     many e k outs v d M walks = walks_each P e k outs (λ x. Up (P x) k v) d M walks
 
 objects_keep : (hd : Header) → KeepsAsked hd (ObjectsAreKnown hd)
-objects_keep hd = asked_both hd (λ M. (IsGood M × BindsAreKnown M) × CallsAreOfHeader hd M) (λ M. (x : ℕ) → HasObject hd x → HaveEntries x M)
+objects_keep hd =
+    asked_both hd (λ M. (IsGood M × BindsAreKnown M) × CallsAreOfHeader hd M) (λ M. (x : ℕ) → HasObject hd x → HaveEntries x M)
     (calls_keep hd)
-    (keeps_asked hd (λ M. (x : ℕ) → HasObject hd x → HaveEntries x M) (keeps_each {A = ℕ} hd (λ x M. HasObject hd x → HaveEntries x M) (λ x. keeps_each {A = HasObject hd x} hd (λ has M. HaveEntries x M) (λ has. keeps_entries x hd (let k = entries_keep hd x has in k.first)))))
+    (keeps_asked hd (λ M. (x : ℕ) → HasObject hd x →
+    HaveEntries x M) (keeps_each {A = ℕ} hd (λ x M. HasObject hd x → HaveEntries x M) (λ x. keeps_each {A = HasObject hd x} hd
+    (λ has M. HaveEntries x M) (λ has. keeps_entries x hd (let k = entries_keep hd x has in k.first)))))
 
 -- states, answers, and what servers have
 askers_keep : (hd : Header) → HeaderInForm hd → KeepsAsked hd (AskersAreKnown hd)
-askers_keep hd form = asked_both hd (λ M. ((RequestsAreKnown M × HaveForms hd M) × ObjectsAreHeld M) × WereAsked M) (λ M. RequestsAreHome M × WritersArePast M)
-    (keeps_asked hd (λ M. ((RequestsAreKnown M × HaveForms hd M) × ObjectsAreHeld M) × WereAsked M) (kept_both hd (λ M. (RequestsAreKnown M × HaveForms hd M) × ObjectsAreHeld M) WereAsked (kept_both hd (λ M. RequestsAreKnown M × HaveForms hd M) ObjectsAreHeld (kept_both hd RequestsAreKnown (HaveForms hd) (requests_keep hd) (keeps_given hd RequestsAreKnown (HaveForms hd) (keeps_each hd (λ x. AreSo (kind_of hd x)) (λ x. kept_forms hd x form)))) (keeps_given hd (λ M. RequestsAreKnown M × HaveForms hd M) ObjectsAreHeld (objects_held hd))) (asked_given hd)))
-    (keeps_asked hd (λ M. RequestsAreHome M × WritersArePast M) (kept_both hd RequestsAreHome WritersArePast (home_keep hd) (keeps_given hd RequestsAreHome WritersArePast (kept_both hd IsGood ArePastWriters (all_keep hd) (writers_given hd)))))
+askers_keep hd form = asked_both hd (λ M. ((RequestsAreKnown M × HaveForms hd M) × ObjectsAreHeld M) × WereAsked M)
+    (λ M. RequestsAreHome M × WritersArePast M)
+    (keeps_asked hd (λ M. ((RequestsAreKnown M × HaveForms hd M) × ObjectsAreHeld M) × WereAsked M)
+    (kept_both hd (λ M. (RequestsAreKnown M × HaveForms hd M) × ObjectsAreHeld M) WereAsked (kept_both hd
+    (λ M. RequestsAreKnown M × HaveForms hd M) ObjectsAreHeld (kept_both hd RequestsAreKnown (HaveForms hd) (requests_keep hd)
+    (keeps_given hd RequestsAreKnown (HaveForms hd) (keeps_each hd (λ x. AreSo (kind_of hd x)) (λ x. kept_forms hd x form))))
+    (keeps_given hd (λ M. RequestsAreKnown M × HaveForms hd M) ObjectsAreHeld (objects_held hd))) (asked_given hd)))
+    (keeps_asked hd (λ M. RequestsAreHome M × WritersArePast M) (kept_both hd RequestsAreHome WritersArePast (home_keep hd)
+    (keeps_given hd RequestsAreHome WritersArePast (kept_both hd IsGood ArePastWriters (all_keep hd) (writers_given hd)))))
 
 pub waits_keep : HandlersKeepWaits
-waits_keep hd form = asked_both hd (λ M. ((EndsArePast M × RequestsAreKnown M) × AreAddressed hd M) × ObjectsAreKnown hd M) (AskersAreKnown hd)
+waits_keep hd form =
+    asked_both hd (λ M. ((EndsArePast M × RequestsAreKnown M) × AreAddressed hd M) × ObjectsAreKnown hd M) (AskersAreKnown hd)
     (asked_both hd (λ M. (EndsArePast M × RequestsAreKnown M) × AreAddressed hd M) (ObjectsAreKnown hd)
-    (asked_both hd (λ M. EndsArePast M × RequestsAreKnown M) (AreAddressed hd) (asked_both hd EndsArePast RequestsAreKnown (keeps_asked hd EndsArePast (past_keep hd)) (keeps_asked hd RequestsAreKnown (requests_keep hd))) (addressed hd form))
+    (asked_both hd (λ M. EndsArePast M × RequestsAreKnown M) (AreAddressed hd) (asked_both hd EndsArePast RequestsAreKnown
+    (keeps_asked hd EndsArePast (past_keep hd)) (keeps_asked hd RequestsAreKnown (requests_keep hd))) (addressed hd form))
     (objects_keep hd))
     (askers_keep hd form)

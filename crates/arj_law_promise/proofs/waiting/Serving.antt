@@ -1,35 +1,23 @@
--- What a node makes of a message for its server, naming and its coordinator, whatever is kept of them, and what it sends: answers to who asked, and
--- requests of what waits.
-use Rattle.std.proofs.Common.{◌≡◌, ℕ, List, [], ◌∷◌, ◌++◌, Bool, true, false, cond, filter, map, Option, Some, None, refl, sym, ◌∙◌, subst}
-use Rattle.std.specs.Prelude.{⊤, option_map}
-use Rattle.std.specs.List.{AllByRecursion, list_all}
-use Rattle.std.proofs.lemmas.Bool.{and_parts}
-use Rattle.arj_law_runs.proofs.addresses.Lists.{all_append, some_is}
-use Rattle.arj_protocol.specs.Words.{Ask, Asked, Binding, BoundReply, End, Head, Header, Message, ObjectState, Op, Uid, asks, object}
-use Rattle.arj_protocol.specs.Words.ask
-use Rattle.arj_protocol.specs.Words.ending
-use Rattle.arj_protocol.specs.Words.loaded
-use Rattle.arj_protocol.specs.Words.message
-use Rattle.arj_protocol.specs.Words.prepared
-use Rattle.arj_protocol.specs.Ask.{Reply, actor, answers, asked_by, last_end, response}
-use Rattle.arj_protocol.specs.Asking.{heard}
-use Rattle.arj_protocol.specs.Confirm.{Grants, Marks, confirm}
-use Rattle.arj_protocol.specs.Coord.{Coord}
-use Rattle.arj_protocol.specs.Effect.{Already, Disk, Do, Effect, InDoubt, Look, Old, Prep, Ready, Say, Send, Served, held_at, holder_of, is_prepared, prepare_answer}
-use Rattle.arj_protocol.specs.Ending.{acked, answer_query}
-use Rattle.arj_protocol.specs.Naming as naming
-use Rattle.arj_protocol.specs.Naming.{Naming}
-use Rattle.arj_protocol.specs.Node.{Handled, Parts, Took, Void, ack_told, coord_heard, end_states, handle, handle_ends, handle_other, holders, if_naming, is_earlier, load_by, load_held, naming_hello, naming_told, prepare_by, query_about, sends_answer, serve, served, store_told, with_naming, with_server}
-use Rattle.arj_protocol.specs.Says.{AreAll, is_naming_effect, is_server_effect}
-use Rattle.arj_protocol.specs.Server as server
-use Rattle.arj_protocol.specs.Server.{Server}
-use Rattle.arj_protocol.specs.Step.{parts_in, restart_outs}
-use Rattle.arj_protocol.proofs.PartSays.{activate_own, bind_own, confirm_own, ends_own, invoke_own, note_own, told_own, vote_own}
-use Rattle.arj_law_lock_view.proofs.records.Quiet.{AllQuiet}
-use Rattle.arj_law_runs.proofs.calls.CoordSends.{AllSo, SendsSo}
-use Rattle.arj_law_serial.proofs.joint.Mute.{AllMute, AllSilent, restart_mute}
-use Rattle.arj_law_runs.proofs.calls.WorldSteps.{no_request}
-use Rattle.arj_law_serial.proofs.joint.ByMessage.{by_coord, by_message}
+-- What a node makes of a message for its server, naming and its coordinator, whatever is kept of them, and what it sends: answers to who
+-- asked, and requests of what waits.
+use Rattle.arj_law_parts.proofs.Words
+use Words.{◌≡◌, ℕ, List, [], ◌∷◌, ◌++◌, Bool, true, false, cond, filter, map, Option, Some, None, refl, sym, ◌∙◌, subst, ⊤, option_map}
+use Words.{AllByRecursion, list_all, and_parts, Ask, Asked, Binding, BoundReply, End, Head, Header, Message, ObjectState, Op, Uid, asks}
+use Words.{object, Reply, actor, answers, asked_by, last_end, response, heard, Grants, Marks, confirm, Coord, Already, Disk, Do, Effect}
+use Words.{InDoubt, Look, Old, Prep, Ready, Say, Send, Served, held_at, holder_of, is_prepared, prepare_answer, acked, answer_query, Naming}
+use Words.{Handled, Parts, Took, Void, ack_told, coord_heard, end_states, handle, handle_ends, handle_other, holders, if_naming, is_earlier}
+use Words.{load_by, load_held, naming_hello, naming_told, prepare_by, query_about, sends_answer, serve, served, store_told, with_naming}
+use Words.{with_server, AreAll, is_naming_effect, is_server_effect, Server, parts_in, restart_outs, activate_own, bind_own, confirm_own}
+use Words.{ends_own, invoke_own, note_own, told_own, vote_own}
+use Words.ask
+use Words.ending
+use Words.loaded
+use Words.message
+use Words.prepared
+use Words.naming
+use Words.server
+use Rattle.arj_law_promise.proofs.Terms.{all_append, some_is, AllQuiet, AllSo, SendsSo, AllSilent, no_request, by_coord, by_message}
+use Rattle.arj_law_serial.proofs.joint.Mute.{AllMute, restart_mute}
 
 -- ---- without answers
 
@@ -47,7 +35,8 @@ restart_asks hd k inc d = by (restart_outs hd k inc d) (restart_mute hd k inc d)
     by [] m = tt
     by (Say b ∷ es) m = (tt, by es m.1)
     by (Do w ∷ es) m = (tt, by es m.1)
-    by (Send to p ∷ es) m = ((λ h a is. let no_way : ◌≡◌ {A = Option (Head × Ask)} None (Some (h, a)) = sym (m.0).1 ∙ is in absurd (cc no_way)), by es m.1)
+    by (Send to p ∷ es) m =
+        ((λ h a is. let no_way : ◌≡◌ {A = Option (Head × Ask)} None (Some (h, a)) = sym (m.0).1 ∙ is in absurd (cc no_way)), by es m.1)
 
 -- ---- what a node makes of a message
 
@@ -92,28 +81,36 @@ module _ (RB : Head → ℕ → Bool → Binding → BoundReply → Type 0) (RL 
       by [] s so = tt
       by (Say b ∷ fs) s so = (tt, by fs s.1 so.1)
       by (Do w ∷ fs) s so = (tt, by fs s.1 so.1)
-      by (Send to p ∷ fs) s so = (((λ a r is. let no_way : ◌≡◌ {A = Option (Asked × Reply)} None (Some (a, r)) = sym s.0 ∙ is in absurd (cc no_way)), so.0), by fs s.1 so.1)
+      by (Send to p ∷ fs) s so = (
+        ((λ a r is. let no_way : ◌≡◌ {A = Option (Asked × Reply)} None (Some (a, r)) = sym s.0 ∙ is in absurd (cc no_way)), so.0),
+        by fs s.1 so.1,
+      )
 
   module _ (c : Coord) where
     so_both : (es fs : List Effect) → AllSend c es → AllSend c fs → AllSend c (es ++ fs)
     so_both es fs a b = all_append (EffectSo c) es fs a b
 
     -- without messages nothing is answered
-    silent : (test : Effect → Bool) → ((to : ℕ) (p : Message) → test (Send to p) ≡ false) → (es : List Effect) → AreAll test es → AllSend c es
+    silent : (test : Effect → Bool) → ((to : ℕ) (p : Message) → test (Send to p) ≡ false) → (es : List Effect) → AreAll test es →
+        AllSend c es
     silent test none [] own = tt
     silent test none (Say b ∷ es) own = (tt, silent test none es (and_parts (test (Say b)) (list_all test es) own).1)
     silent test none (Do w ∷ es) own = (tt, silent test none es (and_parts (test (Do w)) (list_all test es) own).1)
-    silent test none (Send to p ∷ es) own = let no_way : true ≡ false = sym (and_parts (test (Send to p)) (list_all test es) own).0 ∙ none to p in absurd (cc no_way)
+    silent test none (Send to p ∷ es) own =
+        let no_way : true ≡ false = sym (and_parts (test (Send to p)) (list_all test es) own).0 ∙ none to p in absurd (cc no_way)
 
     queries_so : (us : List Uid) → AllSend c (map query_about us)
     queries_so [] = tt
     queries_so (u ∷ us) = (((λ a r is. absurd (cc is)), λ h a is. absurd (cc is)), queries_so us)
 
-    same_answer : (to : ℕ) (a b : Asked) (q r : Reply) → ◌≡◌ {A = Option (Asked × Reply)} (Some (a, q)) (Some (b, r)) → AnswerSo to a q → AnswerSo to b r
-    same_answer to a b q r is so = let two : ◌≡◌ {A = Asked × Reply} (a, q) (b, r) = some_is is in subst (λ (z : Asked × Reply). AnswerSo to z.0 z.1) two so
+    same_answer : (to : ℕ) (a b : Asked) (q r : Reply) → ◌≡◌ {A = Option (Asked × Reply)} (Some (a, q)) (Some (b, r)) → AnswerSo to a q →
+        AnswerSo to b r
+    same_answer to a b q r is so = let two : ◌≡◌ {A = Asked × Reply} (a, q) (b, r) = some_is is in
+        subst (λ (z : Asked × Reply). AnswerSo to z.0 z.1) two so
 
     response_so : (to : ℕ) (a : Asked) (r : Reply) → AnswerSo to a r → EffectSo c (Send to (response a r))
-    response_so to a r so = (by r so, λ h q is. absurd (let no_way : ◌≡◌ {A = Option (Head × Ask)} None (Some (h, q)) = sym (no_request a r) ∙ is in cc no_way))
+    response_so to a r so =
+        (by r so, λ h q is. absurd (let no_way : ◌≡◌ {A = Option (Head × Ask)} None (Some (h, q)) = sym (no_request a r) ∙ is in cc no_way))
       where
         by : (q : Reply) → AnswerSo to a q → (b : Asked) (r : Reply) → answers (response a q) ≡ Some (b, r) → AnswerSo to b r
         by (Reply.Bound q) so b r is = same_answer to a b (Reply.Bound q) r is so
@@ -129,15 +126,22 @@ module _ (RB : Head → ℕ → Bool → Binding → BoundReply → Type 0) (RL 
     -- what is kept of the server and of naming, and what the answers are
     pub record IsKeptIn : Type 0 where
       pub its_server : S t.server
-      pub activate : (h : Head) (b : Binding) (st : ObjectState) → asks m ≡ Some (h, ask.Activate b st) → S (server.activate k h.path b st t.server).part
-      pub invoke : (h : Head) (x : ℕ) (b : Binding) (i : ℕ) (ends : List (Uid × End)) (o : Op) → asks m ≡ Some (h, ask.Invoke x b i ends o) → S (server.invoke k h x b i ends o t.server).part
-      pub vote : (h : Head) (i : ℕ) (ties : List (ℕ × Binding)) (ends : List (Uid × End)) → S (server.vote k h.path i ties ends t.server).part
+      pub activate : (h : Head) (b : Binding) (st : ObjectState) → asks m ≡ Some (h, ask.Activate b st) →
+          S (server.activate k h.path b st t.server).part
+      pub invoke : (h : Head) (x : ℕ) (b : Binding) (i : ℕ) (ends : List (Uid × End)) (o : Op) →
+          asks m ≡ Some (h, ask.Invoke x b i ends o) → S (server.invoke k h x b i ends o t.server).part
+      pub vote : (h : Head) (i : ℕ) (ties : List (ℕ × Binding)) (ends : List (Uid × End)) →
+          S (server.vote k h.path i ties ends t.server).part
       pub told : (ends : List (Uid × End)) → S (server.told k ends t.server).part
       pub its_naming : N t.naming
       pub its_coord : C t.coord
-      pub bind : (h : Head) (x : ℕ) (include : Bool) (avoid : Binding) (n : Naming) → asks m ≡ Some (h, ask.Bind x include avoid) → t.naming ≡ Some n → let r = naming.bind h.path x include avoid d.names n in N (Some r.part) × ((q : BoundReply) → r.reply ≡ Some q → RB h x include avoid q)
-      pub note : (h : Head) (x : ℕ) (b : Binding) (i g : ℕ) (n : Naming) → t.naming ≡ Some n → N (Some (let r = naming.note h.path x b i g n in r.part))
-      pub confirm : (h : Head) (grants : Grants) (excluded included : Marks) (n : Naming) → t.naming ≡ Some n → N (Some (let r = confirm h.path grants excluded included d.names n in r.part))
+      pub bind : (h : Head) (x : ℕ) (include : Bool) (avoid : Binding) (n : Naming) → asks m ≡ Some (h, ask.Bind x include avoid) →
+          t.naming ≡ Some n → let r = naming.bind h.path x include avoid d.names n in
+          N (Some r.part) × ((q : BoundReply) → r.reply ≡ Some q → RB h x include avoid q)
+      pub note : (h : Head) (x : ℕ) (b : Binding) (i g : ℕ) (n : Naming) → t.naming ≡ Some n →
+          N (Some (let r = naming.note h.path x b i g n in r.part))
+      pub confirm : (h : Head) (grants : Grants) (excluded included : Marks) (n : Naming) → t.naming ≡ Some n →
+          N (Some (let r = confirm h.path grants excluded included d.names n in r.part))
       pub ended : (u : Uid) (e : End) (n : Naming) → t.naming ≡ Some n → N (Some (let r = naming.told u e d.names n in r.part))
       pub hello : (node inc : ℕ) (n : Naming) → t.naming ≡ Some n → N (Some (naming.hello node inc n))
       pub load : (h : Head) (x : ℕ) (st : ObjectState) → held_at (object x) d.store ≡ Some st → RL h x st
@@ -147,16 +151,22 @@ module _ (RB : Head → ℕ → Bool → Binding → BoundReply → Type 0) (RL 
       By (Void outs) = ⊤
       By (Took v outs) = ((S v.server × N v.naming) × C v.coord) × AllSend v.coord outs
 
-      answered : (h : Head) (v : Parts) (outs : List Effect) (o : Option Reply) → S v.server → N v.naming → C v.coord → AllSend v.coord outs → ((r : Reply) → o ≡ Some r → AnswerSo from (asked_by h) r) → By (sends_answer from h v outs o)
+      answered : (h : Head) (v : Parts) (outs : List Effect) (o : Option Reply) → S v.server → N v.naming → C v.coord →
+          AllSend v.coord outs → ((r : Reply) → o ≡ Some r → AnswerSo from (asked_by h) r) → By (sends_answer from h v outs o)
       answered h v outs None s n c so each = tt
-      answered h v outs (Some r) s n c so each = (((s, n), c), so_both v.coord outs (Send from (response (asked_by h) r) ∷ []) so (response_so v.coord from (asked_by h) r (each r refl), tt))
+      answered h v outs (Some r) s n c so each = (
+        ((s, n), c),
+        so_both v.coord outs (Send from (response (asked_by h) r) ∷ []) so (response_so v.coord from (asked_by h) r (each r refl), tt),
+      )
 
       -- an answer of another kind
-      plain : {Q : Type 0} (h : Head) (say : Q → Reply) → ((q : Q) → AnswerSo from (asked_by h) (say q)) → (o : Option Q) (r : Reply) → option_map say o ≡ Some r → AnswerSo from (asked_by h) r
+      plain : {Q : Type 0} (h : Head) (say : Q → Reply) → ((q : Q) → AnswerSo from (asked_by h) (say q)) → (o : Option Q) (r : Reply) →
+          option_map say o ≡ Some r → AnswerSo from (asked_by h) r
       plain h say each None r is = absurd (cc is)
       plain h say each (Some q) r is = subst (AnswerSo from (asked_by h)) (some_is is) (each q)
 
-      with_it : (f : Naming → Handled) (o : Option Naming) → t.naming ≡ o → ((n : Naming) → t.naming ≡ Some n → By (f n)) → By (if_naming f o)
+      with_it : (f : Naming → Handled) (o : Option Naming) → t.naming ≡ o → ((n : Naming) → t.naming ≡ Some n → By (f n)) →
+          By (if_naming f o)
       with_it f None is each = tt
       with_it f (Some n) is each = each n is
 
@@ -166,45 +176,80 @@ module _ (RB : Head → ℕ → Bool → Binding → BoundReply → Type 0) (RL 
       own_server : (es : List Effect) → AreAll (is_server_effect k) es → AllSend t.coord es
       own_server es own = silent t.coord (is_server_effect k) (λ to p. refl) es own
 
-      bound_so : (h : Head) (x : ℕ) (include : Bool) (avoid : Binding) → asks m ≡ Some (h, ask.Bind x include avoid) → (o : Option BoundReply) → ((q : BoundReply) → o ≡ Some q → RB h x include avoid q) → (r : Reply) → option_map Reply.Bound o ≡ Some r → AnswerSo from (asked_by h) r
+      bound_so : (h : Head) (x : ℕ) (include : Bool) (avoid : Binding) → asks m ≡ Some (h, ask.Bind x include avoid) →
+          (o : Option BoundReply) → ((q : BoundReply) → o ≡ Some q → RB h x include avoid q) → (r : Reply) →
+          option_map Reply.Bound o ≡ Some r → AnswerSo from (asked_by h) r
       bound_so h x include avoid is None each r of = absurd (cc of)
       bound_so h x include avoid is (Some q) each r of =
-          subst (AnswerSo from (asked_by h)) (some_is of) (record { head = h; object = x; include = include; avoid = avoid; asking = is; asker = refl; back = refl; so = each q refl })
+          subst (AnswerSo from (asked_by h)) (some_is of)
+          (record { head = h; object = x; include = include; avoid = avoid; asking = is; asker = refl; back = refl; so = each q refl })
 
       asked : (h : Head) (a : Ask) → asks m ≡ Some (h, a) → By (serve k d t from h a)
-      asked h (ask.Bind x include avoid) is = with_it (λ o. served from h (with_naming t) Reply.Bound (naming.bind h.path x include avoid d.names o)) t.naming refl
+      asked h (ask.Bind x include avoid) is =
+          with_it (λ o. served from h (with_naming t) Reply.Bound (naming.bind h.path x include avoid d.names o)) t.naming refl
           (λ n at. let r = naming.bind h.path x include avoid d.names n in let b = kept.bind h x include avoid n is at in
-          answered h (with_naming t r.part) r.outs (option_map Reply.Bound r.reply) kept.its_server b.0 kept.its_coord (own_naming r.outs (bind_own h.path x include avoid d.names n)) (bound_so h x include avoid is r.reply b.1))
+          answered h (with_naming t r.part) r.outs (option_map Reply.Bound r.reply) kept.its_server b.0 kept.its_coord
+          (own_naming r.outs (bind_own h.path x include avoid d.names n)) (bound_so h x include avoid is r.reply b.1))
       asked h (ask.Load x) is = load (holder_of (object x) d.store)
         where
           state : (o : Option ObjectState) → held_at (object x) d.store ≡ o → By (load_held from h t o)
           state None at = tt
-          state (Some st) at = answered h t (Do Look ∷ []) (Some (Reply.Loaded (loaded.State st))) kept.its_server kept.its_naming kept.its_coord (tt, tt) one
+          state (Some st) at = answered h t (Do Look ∷ []) (Some (Reply.Loaded (loaded.State st))) kept.its_server kept.its_naming
+              kept.its_coord (tt, tt) one
             where
               one : (r : Reply) → Some (Reply.Loaded (loaded.State st)) ≡ Some r → AnswerSo from (asked_by h) r
-              one r of = subst (AnswerSo from (asked_by h)) (some_is of) (record { head = h; object = x; asking = is; asker = refl; back = refl; so = kept.load h x st at })
+              one r of = subst (AnswerSo from (asked_by h)) (some_is of)
+                  (record { head = h; object = x; asking = is; asker = refl; back = refl; so = kept.load h x st at })
 
           load : (o : Option Uid) → By (load_by x d.store from h t o)
-          load (Some u) = (((kept.its_server, kept.its_naming), kept.its_coord), (response_so t.coord from (asked_by h) (Reply.Loaded (loaded.InDoubt u)) tt, tt))
+          load (Some u) = (
+            ((kept.its_server, kept.its_naming), kept.its_coord),
+            (response_so t.coord from (asked_by h) (Reply.Loaded (loaded.InDoubt u)) tt, tt),
+          )
           load None = state (held_at (object x) d.store) refl
-      asked h (ask.Activate b st) is = let r = server.activate k h.path b st t.server in answered h (with_server t r.part) r.outs (option_map Reply.Activated r.reply) (kept.activate h b st is) kept.its_naming kept.its_coord (own_server r.outs (activate_own k h.path b st t.server)) (plain h Reply.Activated (λ q. tt) r.reply)
-      asked h (ask.Record x b i g) is = with_it (λ o. served from h (with_naming t) Reply.Noted (naming.note h.path x b i g o)) t.naming refl
-          (λ n at. let r = naming.note h.path x b i g n in answered h (with_naming t r.part) r.outs (option_map Reply.Noted r.reply) kept.its_server (kept.note h x b i g n at) kept.its_coord (own_naming r.outs (note_own h.path x b i g n)) (plain h Reply.Noted (λ q. tt) r.reply))
-      asked h (ask.Invoke x b i ends o) is = let r = server.invoke k h x b i ends o t.server in answered h (with_server t r.part) r.outs (option_map Reply.Invoked r.reply) (kept.invoke h x b i ends o is) kept.its_naming kept.its_coord (own_server r.outs (invoke_own k h x b i ends o t.server)) (plain h Reply.Invoked (λ q. tt) r.reply)
-      asked h (ask.Vote i ties ends) is = let r = server.vote k h.path i ties ends t.server in answered h (with_server t r.part) r.outs (option_map Reply.Voted r.reply) (kept.vote h i ties ends) kept.its_naming kept.its_coord (own_server r.outs (vote_own k h.path i ties ends t.server)) (plain h Reply.Voted (λ q. tt) r.reply)
+      asked h (ask.Activate b st) is = let r = server.activate k h.path b st t.server in
+          answered h (with_server t r.part) r.outs (option_map Reply.Activated r.reply) (kept.activate h b st is) kept.its_naming
+          kept.its_coord (own_server r.outs (activate_own k h.path b st t.server)) (plain h Reply.Activated (λ q. tt) r.reply)
+      asked h (ask.Record x b i g) is =
+          with_it (λ o. served from h (with_naming t) Reply.Noted (naming.note h.path x b i g o)) t.naming refl
+          (λ n at. let r = naming.note h.path x b i g n in
+          answered h (with_naming t r.part) r.outs (option_map Reply.Noted r.reply) kept.its_server (kept.note h x b i g n at)
+          kept.its_coord (own_naming r.outs (note_own h.path x b i g n)) (plain h Reply.Noted (λ q. tt) r.reply))
+      asked h (ask.Invoke x b i ends o) is = let r = server.invoke k h x b i ends o t.server in
+          answered h (with_server t r.part) r.outs (option_map Reply.Invoked r.reply) (kept.invoke h x b i ends o is) kept.its_naming
+          kept.its_coord (own_server r.outs (invoke_own k h x b i ends o t.server)) (plain h Reply.Invoked (λ q. tt) r.reply)
+      asked h (ask.Vote i ties ends) is = let r = server.vote k h.path i ties ends t.server in
+          answered h (with_server t r.part) r.outs (option_map Reply.Voted r.reply) (kept.vote h i ties ends) kept.its_naming kept.its_coord
+          (own_server r.outs (vote_own k h.path i ties ends t.server)) (plain h Reply.Voted (λ q. tt) r.reply)
       asked h (ask.Prepare states) is = each (is_prepared (actor h.path) d.store)
         where
           new : (a : Prep) → By (prepare_by k states from h t a)
-          new Ready = (((kept.its_server, kept.its_naming), kept.its_coord), (tt, (tt, (tt, (response_so t.coord from (asked_by h) (Reply.Prepared prepared.Yes) tt, tt)))))
+          new Ready = (
+            ((kept.its_server, kept.its_naming), kept.its_coord),
+            (tt, (tt, (tt, (response_so t.coord from (asked_by h) (Reply.Prepared prepared.Yes) tt, tt)))),
+          )
           new (Already u) = tt
-          new (Old u v) = (((kept.its_server, kept.its_naming), kept.its_coord), (tt, (response_so t.coord from (asked_by h) (Reply.Prepared (prepared.Old u.num v)) tt, tt)))
-          new (InDoubt u holder) = (((kept.its_server, kept.its_naming), kept.its_coord), (tt, (response_so t.coord from (asked_by h) (Reply.Prepared (prepared.InDoubt u.num holder)) tt, tt)))
+          new (Old u v) = (
+            ((kept.its_server, kept.its_naming), kept.its_coord),
+            (tt, (response_so t.coord from (asked_by h) (Reply.Prepared (prepared.Old u.num v)) tt, tt)),
+          )
+          new (InDoubt u holder) = (
+            ((kept.its_server, kept.its_naming), kept.its_coord),
+            (tt, (response_so t.coord from (asked_by h) (Reply.Prepared (prepared.InDoubt u.num holder)) tt, tt)),
+          )
 
-          each : (b : Bool) → By (cond b (sends_answer from h t [] (Some (Reply.Prepared prepared.Yes))) (prepare_by k states from h t (prepare_answer (actor h.path) states d.store)))
-          each true = (((kept.its_server, kept.its_naming), kept.its_coord), (response_so t.coord from (asked_by h) (Reply.Prepared prepared.Yes) tt, tt))
+          each : (b : Bool) → By (cond b (sends_answer from h t [] (Some (Reply.Prepared prepared.Yes)))
+              (prepare_by k states from h t (prepare_answer (actor h.path) states d.store)))
+          each true = (
+            ((kept.its_server, kept.its_naming), kept.its_coord),
+            (response_so t.coord from (asked_by h) (Reply.Prepared prepared.Yes) tt, tt),
+          )
           each false = new (prepare_answer (actor h.path) states d.store)
-      asked h (ask.Confirm grants excluded included) is = with_it (λ o. served from h (with_naming t) Reply.Confirmed (confirm h.path grants excluded included d.names o)) t.naming refl
-          (λ n at. let r = confirm h.path grants excluded included d.names n in answered h (with_naming t r.part) r.outs (option_map Reply.Confirmed r.reply) kept.its_server (kept.confirm h grants excluded included n at) kept.its_coord (own_naming r.outs (confirm_own h.path grants excluded included d.names n)) (plain h Reply.Confirmed (λ q. tt) r.reply))
+      asked h (ask.Confirm grants excluded included) is =
+          with_it (λ o. served from h (with_naming t) Reply.Confirmed (confirm h.path grants excluded included d.names o)) t.naming refl
+          (λ n at. let r = confirm h.path grants excluded included d.names n in answered h (with_naming t r.part) r.outs
+          (option_map Reply.Confirmed r.reply) kept.its_server (kept.confirm h grants excluded included n at) kept.its_coord
+          (own_naming r.outs (confirm_own h.path grants excluded included d.names n)) (plain h Reply.Confirmed (λ q. tt) r.reply))
 
       coord_left : (r : Served Coord (Unit {0})) → C r.part × AllSend r.part r.outs → By (coord_heard t r)
       coord_left r so = by_coord k d t from By tt r (((kept.its_server, kept.its_naming), so.0), so.1)
@@ -215,7 +260,9 @@ module _ (RB : Head → ℕ → Bool → Binding → BoundReply → Type 0) (RL 
           let s = server.told k ends t.server in
           let o = naming_told e.0 e.1 d.names t.naming in (
             ((kept.told ends, named t.naming refl), kept.its_coord),
-            so_both t.coord (store_told k e.0 e.1 d.store ++ o.outs ++ s.outs) (ack_told from e.0 ack) (so_both t.coord (store_told k e.0 e.1 d.store ++ o.outs) s.outs (so_both t.coord (store_told k e.0 e.1 d.store) o.outs (stored (is_prepared e.0 d.store) e.1) (said t.naming)) (own_server s.outs (ends_own k ends t.server))) (acked_told ack),
+            so_both t.coord (store_told k e.0 e.1 d.store ++ o.outs ++ s.outs) (ack_told from e.0 ack)
+                (so_both t.coord (store_told k e.0 e.1 d.store ++ o.outs) s.outs (so_both t.coord (store_told k e.0 e.1 d.store) o.outs
+                (stored (is_prepared e.0 d.store) e.1) (said t.naming)) (own_server s.outs (ends_own k ends t.server))) (acked_told ack),
           )
         where
           stored : (b : Bool) (how : End) → AllSend t.coord (cond b (end_states k e.0 how) [])
@@ -239,13 +286,19 @@ module _ (RB : Head → ℕ → Bool → Binding → BoundReply → Type 0) (RL 
       hello_left node inc None is = subst N is kept.its_naming
       hello_left node inc (Some n) is = kept.hello node inc n is
 
-      module _ (hears : (a : Asked) (r : Reply) → answers m ≡ Some (a, r) → let q = heard from a r d.intents t.coord in C q.part × AllSend q.part q.outs) (acks : (u : Uid) → let q = acked from u d.intents t.coord in C q.part × AllSend q.part q.outs) (tells : (u : Uid) → AllSend t.coord (answer_query from u d.intents t.coord)) where
+      module _ (hears : (a : Asked) (r : Reply) → answers m ≡ Some (a, r) → let q = heard from a r d.intents t.coord in
+          C q.part × AllSend q.part q.outs) (acks : (u : Uid) → let q = acked from u d.intents t.coord in
+          C q.part × AllSend q.part q.outs) (tells : (u : Uid) → AllSend t.coord (answer_query from u d.intents t.coord)) where
         other : (p : Message) → By (handle_other k d t from p)
         other (message.Told p) = ends_left p.ack p.ends (last_end p.ends)
         other (message.Acked p) = coord_left (acked from p.act d.intents t.coord) (acks p.act)
         other (message.Query p) = (((kept.its_server, kept.its_naming), kept.its_coord), tells p.act)
-        other (message.Hello p) = (((kept.its_server, hello_left p.node p.inc t.naming refl), kept.its_coord), queries_so t.coord (filter (is_earlier p.node p.inc) (holders d t)))
+        other (message.Hello p) = (
+          ((kept.its_server, hello_left p.node p.inc t.naming refl), kept.its_coord),
+          queries_so t.coord (filter (is_earlier p.node p.inc) (holders d t)),
+        )
         other p = tt
 
         pub message_served : By (handle k d t from m)
-        message_served = by_message k d t from By tt m asked (λ a r is. coord_left (heard from a r d.intents t.coord) (hears a r is)) (other m)
+        message_served =
+            by_message k d t from By tt m asked (λ a r is. coord_left (heard from a r d.intents t.coord) (hears a r is)) (other m)

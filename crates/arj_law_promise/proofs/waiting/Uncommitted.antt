@@ -1,27 +1,16 @@
 -- No store has committed a state of a top that is still at its commit.
-use Rattle.std.proofs.Common.{Bool, List, None, Option, Some, [], cond, false, refl, sym, true, ℕ, ◌∙◌, ◌∷◌, ◌≡◌, ap, subst, ⊎_elim}
-use Rattle.std.specs.Prelude.{unwrap_or}
-use Rattle.arj_base.proofs.Uids.{uid_is}
-use Rattle.arj_protocol.specs.Words.{ObjectState, Uid, is_on, nobody, uid_eq, uids_of}
-use Rattle.arj_protocol.specs.Ask.{actor}
-use Rattle.arj_protocol.specs.Coord.{Coord, Doing, doing_of}
-use Rattle.arj_protocol.specs.Effect.{Already, Old, Pair, Prep, Ready, by_holder, either, first_refusal, held_at, holder_of, is_old, prepare_answer, refusal_in, refusal_of}
-use Rattle.arj_protocol.specs.Node.{Parts}
-use Rattle.arj_protocol.specs.Step.{Node}
-use Rattle.arj_protocol.specs.Tree.{at_place, is_own}
-use Rattle.arj_protocol.specs.Words.{Path}
-use Rattle.arj_law_parts.specs.parts.Actions.{Action}
-use Rattle.arj_law_parts.specs.parts.Coords.{IsAsking}
-use Rattle.arj_law_parts.proofs.parts.Begun.{on_own}
-use Rattle.arj_law_runs.specs.kept.Worlds.{IsGoodOf}
-use Rattle.arj_promise.specs.Runs.{Seen}
-use Rattle.arj_law_runs.proofs.addresses.Lists.{all_at_uid}
-use Rattle.arj_law_serial.specs.past.Told.{ArePastIn, IsPast, live_in}
-use Rattle.arj_law_promise.specs.waiting.Writers.{ArePastWriters, IsBy, IsPastWriter}
+use Rattle.arj_law_parts.proofs.Words
+use Words.{Bool, List, None, Option, Some, [], cond, false, refl, sym, true, ℕ, ◌∙◌, ◌∷◌, ◌≡◌, ap, subst, ⊎_elim, unwrap_or, uid_is}
+use Words.{ObjectState, Uid, is_on, nobody, uid_eq, uids_of, actor, Coord, Doing, doing_of, Already, Old, Pair, Prep, Ready, by_holder}
+use Words.{either, first_refusal, held_at, holder_of, is_old, prepare_answer, refusal_in, refusal_of, Parts, Node, at_place, is_own, Path}
+use Words.{Seen}
+use Rattle.arj_law_promise.proofs.Terms
+use Terms.{Action, IsAsking, on_own, IsGoodOf, all_at_uid, ArePastIn, IsPast, live_in, ArePastWriters, IsBy, IsPastWriter}
 use Rattle.arj_law_promise.proofs.waiting.Untold.{unpast}
 
 -- such an answer stands on a committed state that the action wrote
-pub already_written : (act : Uid) (d : Pair) (states : List ObjectState) (w : Uid) → prepare_answer act states d ≡ Already w → (u : Uid) × (st : ObjectState) × (held_at u d ≡ Some st) × (st.writer ≡ act)
+pub already_written : (act : Uid) (d : Pair) (states : List ObjectState) (w : Uid) → prepare_answer act states d ≡ Already w →
+    (u : Uid) × (st : ObjectState) × (held_at u d ≡ Some st) × (st.writer ≡ act)
 already_written act d [] w is = absurd (cc is)
 already_written act d (s ∷ ss) w is = by (refusal_in act d s) refl is (already_written act d ss w)
   where
@@ -33,15 +22,20 @@ already_written act d (s ∷ ss) w is = by (refusal_in act d s) refl is (already
     old_none true h e = cc e
     old_none false h e = holder_none (holder_of s.uid d) e
 
-    of_held : (o : Option ObjectState) → held_at s.uid d ≡ o → refusal_of act s o (holder_of s.uid d) ≡ Some (Already w) → (u : Uid) × (st : ObjectState) × (held_at u d ≡ Some st) × (st.writer ≡ act)
+    of_held : (o : Option ObjectState) → held_at s.uid d ≡ o → refusal_of act s o (holder_of s.uid d) ≡ Some (Already w) →
+        (u : Uid) × (st : ObjectState) × (held_at u d ≡ Some st) × (st.writer ≡ act)
     of_held None there e = absurd (holder_none (holder_of s.uid d) e)
     of_held (Some h) there e = one (uid_eq h.writer act) refl e
       where
-        one : (b : Bool) → uid_eq h.writer act ≡ b → cond b (Some (Already s.uid)) (cond (is_old s h) (Some (Old s.uid h.version)) (by_holder s (holder_of s.uid d))) ≡ Some (Already w) → (u : Uid) × (st : ObjectState) × (held_at u d ≡ Some st) × (st.writer ≡ act)
+        one : (b : Bool) → uid_eq h.writer act ≡ b →
+            cond b (Some (Already s.uid)) (cond (is_old s h) (Some (Old s.uid h.version)) (by_holder s (holder_of s.uid d)))
+            ≡ Some (Already w) → (u : Uid) × (st : ObjectState) × (held_at u d ≡ Some st) × (st.writer ≡ act)
         one true same f = (s.uid, h, there, uid_is h.writer act same)
         one false other f = absurd (old_none (is_old s h) h f)
 
-    by : (o : Option Prep) → refusal_in act d s ≡ o → unwrap_or (either o (first_refusal act d ss)) Ready ≡ Already w → (prepare_answer act ss d ≡ Already w → (u : Uid) × (st : ObjectState) × (held_at u d ≡ Some st) × (st.writer ≡ act)) → (u : Uid) × (st : ObjectState) × (held_at u d ≡ Some st) × (st.writer ≡ act)
+    by : (o : Option Prep) → refusal_in act d s ≡ o → unwrap_or (either o (first_refusal act d ss)) Ready ≡ Already w →
+        (prepare_answer act ss d ≡ Already w → (u : Uid) × (st : ObjectState) × (held_at u d ≡ Some st) × (st.writer ≡ act)) →
+        (u : Uid) × (st : ObjectState) × (held_at u d ≡ Some st) × (st.writer ≡ act)
     by None none e ih = ih e
     by (Some p) found e ih = of_held (held_at s.uid d) refl (found ∙ ap Some e)
 
@@ -55,12 +49,16 @@ nobody_works c q is = by (is_own nobody c.tree) is
 
 -- at node k an action asks; and at node j a state is committed: another one wrote it
 module _ (acts : List Action) (M : Seen) (good : IsGoodOf acts M) (past : ArePastIn acts M) (written : ArePastWriters M) where
-  pub uncommitted : (k : ℕ) (n : Node) (t : Parts) → M.nodes k ≡ Some n → n.live ≡ Some t → (u : Uid) (q : Doing) → doing_of u t.coord ≡ Some q → (p : Path) → actor p ≡ u → IsAsking t.coord.tree u p
-      → (j : ℕ) (m : Node) → M.nodes j ≡ Some m → (w : Uid) (st : ObjectState) → held_at w (let d = m.disk in d.store) ≡ Some st → st.writer ≡ u → ⊥
+  pub uncommitted : (k : ℕ) (n : Node) (t : Parts) → M.nodes k ≡ Some n → n.live ≡ Some t → (u : Uid) (q : Doing) →
+      doing_of u t.coord ≡ Some q → (p : Path) → actor p ≡ u → IsAsking t.coord.tree u p
+      → (j : ℕ) (m : Node) → M.nodes j ≡ Some m → (w : Uid) (st : ObjectState) → held_at w (let d = m.disk in d.store) ≡ Some st →
+      st.writer ≡ u → ⊥
   uncommitted k n t found live u q does p by_u asks j m there w st held same = ⊎_elim
       (λ (first : st.writer ≡ nobody). nobody_works t.coord q (ap (λ v. doing_of v t.coord) (sym first ∙ same) ∙ does))
-      (λ told. let x = past.posts told.0 told.1 in unpast acts M good k n t found live u p asks u (ap (is_on (uids_of p)) (sym by_u) ∙ on_own p) (subst (λ v. IsPast acts (λ i. live_in (M.nodes i)) v) same (x.told st.writer told.2 told.3)))
+      (λ told. let x = past.posts told.0 told.1 in unpast acts M good k n t found live u p asks u (ap (is_on (uids_of p)) (sym by_u)
+      ∙ on_own p) (subst (λ v. IsPast acts (λ i. live_in (M.nodes i)) v) same (x.told st.writer told.2 told.3)))
       its
     where
       its : IsPastWriter M.sent st.writer
-      its = let x = written.nodes j m there in let y = x.store in all_at_uid (IsBy (IsPastWriter M.sent)) w st (let d = m.disk in d.store.held) y.held held
+      its = let x = written.nodes j m there in let y = x.store in
+          all_at_uid (IsBy (IsPastWriter M.sent)) w st (let d = m.disk in d.store.held) y.held held

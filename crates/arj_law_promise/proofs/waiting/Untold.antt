@@ -1,29 +1,19 @@
 -- No action on the path of one that waits was told to have ended.
-use Rattle.std.proofs.Common.{◌≡◌, ◌≤◌, ◌==◌, arith, ℕ, zero, suc, Bool, true, false, List, [], ◌∷◌, length, take, refl, sym, ◌∙◌, ap, subst, ⊎_elim, eqb-true, Option, Some}
-use Rattle.std.specs.Prelude.{◌||◌, is_some}
-use Rattle.std.specs.List.{list_any}
-use Rattle.std.proofs.lemmas.Bool.{and_parts, false_from_ne_true, or_cases}
-use Rattle.arj_base.proofs.Uids.{uid_is, uid_same}
-use Rattle.arj_protocol.specs.Words.{Path, Uid, is_on, tops_of, uid_eq, uids_of}
-use Rattle.arj_protocol.specs.Ask.{top_path}
-use Rattle.arj_protocol.specs.Naming.{Naming, is_over}
-use Rattle.arj_protocol.specs.Node.{Parts}
-use Rattle.arj_protocol.specs.Server.{Server, has_ended, is_told}
-use Rattle.arj_protocol.specs.Step.{Node}
-use Rattle.arj_protocol.specs.Tree.{Branch, branch_of}
-use Rattle.arj_law_parts.specs.parts.Actions.{Action, paths_of}
-use Rattle.arj_law_parts.specs.parts.Coords.{IsAsking, IsGoodCoord}
-use Rattle.arj_law_parts.specs.parts.Copies.{IsTree}
-use Rattle.arj_law_parts.proofs.parts.Begun.{begun_tree, path_found}
-use Rattle.arj_law_parts.proofs.parts.GoodTrees.{above_of, found_by, over_below, shorter}
-use Rattle.arj_law_runs.specs.kept.Worlds.{IsGoodOf, IsMemory, IsUp}
-use Rattle.arj_promise.specs.Runs.{Seen}
-use Rattle.arj_law_serial.specs.past.Told.{ArePastIn, IsClosedAt, IsPast, ToldPast, live_in}
+use Rattle.arj_law_parts.proofs.Words
+use Words.{◌≡◌, ◌≤◌, ◌==◌, arith, ℕ, zero, suc, Bool, true, false, List, [], ◌∷◌, length, take, refl, sym, ◌∙◌, ap, subst, ⊎_elim, eqb-true}
+use Words.{Option, Some, ◌||◌, is_some, list_any, and_parts, false_from_ne_true, or_cases, uid_is, uid_same, Path, Uid, is_on, tops_of}
+use Words.{uid_eq, uids_of, top_path, Naming, is_over, Parts, Server, has_ended, is_told, Node, Branch, branch_of, Seen}
+use Rattle.arj_law_promise.proofs.Terms
+use Terms.{Action, paths_of, IsAsking, IsGoodCoord, IsTree, begun_tree, path_found, found_by, IsGoodOf, IsMemory, IsUp, ArePastIn}
+use Terms.{IsClosedAt, IsPast, live_in}
+use Rattle.arj_law_parts.proofs.parts.GoodTrees.{above_of, over_below, shorter}
+use Rattle.arj_law_serial.specs.past.Told.{ToldPast}
 
 -- who passes the test stands in the list
 any_on : (test : Uid → Bool) (us : List Uid) → list_any test us ≡ true → (w : Uid) × (is_on us w ≡ true) × (test w ≡ true)
 any_on test [] is = absurd (cc is)
-any_on test (u ∷ us) is = ⊎_elim (λ here. (u, (λ i. same u i || is_on us u), here)) (λ rest. let w = any_on test us rest in (w.0, further (uid_eq u w.0) w.1, w.2)) (or_cases (test u) (list_any test us) is)
+any_on test (u ∷ us) is = ⊎_elim (λ here. (u, (λ i. same u i || is_on us u), here)) (λ rest. let w = any_on test us rest in
+    (w.0, further (uid_eq u w.0) w.1, w.2)) (or_cases (test u) (list_any test us) is)
   where
     same : (u : Uid) → uid_eq u u ≡ true
     same u = uid_same u
@@ -46,9 +36,11 @@ untold_server : (p : Path) (s : Server) → ((w : Uid) → is_on (uids_of p) w �
 untold_server p s none = false_from_ne_true (has_ended p s) (λ is. let w = any_on (λ u. is_told u s) (uids_of p) is in none w.0 w.1 w.2)
 
 untold_naming : (p : Path) (n : Naming) → ((w : Uid) → is_on (uids_of p) w ≡ true → is_on n.told w ≡ true → ⊥) → is_over p n ≡ false
-untold_naming p n none = false_from_ne_true (is_over p n) (λ is. let w = any_on (λ u. is_on n.told u) (top_path p) is in none w.0 (on_front (tops_of p) (uids_of p) w.0 w.1) w.2)
+untold_naming p n none = false_from_ne_true (is_over p n) (λ is. let w = any_on (λ u. is_on n.told u) (top_path p) is in
+    none w.0 (on_front (tops_of p) (uids_of p) w.0 w.1) w.2)
 
-module _ (acts : List Action) (M : Seen) (good : IsGoodOf acts M) (k : ℕ) (n : Node) (t : Parts) (found : M.nodes k ≡ Some n) (up_it : n.live ≡ Some t) where
+module _ (acts : List Action) (M : Seen) (good : IsGoodOf acts M) (k : ℕ) (n : Node) (t : Parts) (found : M.nodes k ≡ Some n)
+    (up_it : n.live ≡ Some t) where
   pub its_up : IsUp acts M.sent M.labels k (let d = n.disk in d.inc) t
   its_up = let p = good.places k n found in subst (IsMemory acts M.sent M.labels k (let d = n.disk in d.inc)) up_it p.memory
 
@@ -59,7 +51,8 @@ module _ (acts : List Action) (M : Seen) (good : IsGoodOf acts M) (k : ℕ) (n :
   its_coord = let g = its_up.good (paths_of acts) tree (path_found acts good.begun) in g.coord
 
   -- all that stands above an action has a branch
-  there_on : (j : ℕ) (w : Uid) (y : Branch) → length (paths_of acts w) ≤ j → branch_of w t.coord.tree ≡ Some y → (z : Uid) → is_on (paths_of acts w) z ≡ true → (r : Branch) × (branch_of z t.coord.tree ≡ Some r)
+  there_on : (j : ℕ) (w : Uid) (y : Branch) → length (paths_of acts w) ≤ j → branch_of w t.coord.tree ≡ Some y → (z : Uid) →
+      is_on (paths_of acts w) z ≡ true → (r : Branch) × (branch_of z t.coord.tree ≡ Some r)
   there_on zero w y short is z on = absurd (empty (paths_of acts w) short on)
     where
       empty : (us : List Uid) → length us ≤ 0 → is_on us z ≡ true → ⊥
@@ -67,7 +60,9 @@ module _ (acts : List Action) (M : Seen) (good : IsGoodOf acts M) (k : ℕ) (n :
       empty (x ∷ us) le o = omega (arith, le)
   there_on (suc j) w y short is z on = by (uid_eq w z) refl (λ v x less at above. there_on j v x less at z above)
     where
-      by : (b : Bool) → uid_eq w z ≡ b → ((v : Uid) (x : Branch) → length (paths_of acts v) ≤ j → branch_of v t.coord.tree ≡ Some x → is_on (paths_of acts v) z ≡ true → (r : Branch) × (branch_of z t.coord.tree ≡ Some r)) → (r : Branch) × (branch_of z t.coord.tree ≡ Some r)
+      by : (b : Bool) → uid_eq w z ≡ b → ((v : Uid) (x : Branch) → length (paths_of acts v) ≤ j → branch_of v t.coord.tree ≡ Some x →
+          is_on (paths_of acts v) z ≡ true → (r : Branch) × (branch_of z t.coord.tree ≡ Some r)) →
+          (r : Branch) × (branch_of z t.coord.tree ≡ Some r)
       by true same ih = (y, ap (λ v. branch_of v t.coord.tree) (sym (uid_is w z same)) ∙ is)
       by false off ih =
           let up = above_of (paths_of acts) tree t.coord.tree its_coord.tree.lists z w y is on (λ same. other same off) in
@@ -78,8 +73,10 @@ module _ (acts : List Action) (M : Seen) (good : IsGoodOf acts M) (k : ℕ) (n :
           other same off = let no_way : true ≡ false = sym (ap (uid_eq w) (sym same) ∙ uid_same w) ∙ off in cc no_way
 
   -- nobody on the path of an open action is past
-  pub unpast : (u : Uid) (p : Path) → IsAsking t.coord.tree u p → (w : Uid) → is_on (uids_of p) w ≡ true → IsPast acts (λ j. live_in (M.nodes j)) w → ⊥
-  unpast u p asks w on past = never (over_below (paths_of acts) tree t.coord.tree its_coord.tree.lists its_coord.tree.closed w r.0 r.1 ended u asks.branch asks.found above) asks.opened
+  pub unpast : (u : Uid) (p : Path) → IsAsking t.coord.tree u p → (w : Uid) → is_on (uids_of p) w ≡ true →
+      IsPast acts (λ j. live_in (M.nodes j)) w → ⊥
+  unpast u p asks w on past = never (over_below (paths_of acts) tree t.coord.tree its_coord.tree.lists its_coord.tree.closed w r.0 r.1 ended
+      u asks.branch asks.found above) asks.opened
     where
       above : is_on (paths_of acts u) w ≡ true
       above = ap (λ us. is_on us w) (sym (its_coord.tree.lists.paths_are u asks.branch asks.found) ∙ ap uids_of asks.path) ∙ on
@@ -91,7 +88,8 @@ module _ (acts : List Action) (M : Seen) (good : IsGoodOf acts M) (k : ℕ) (n :
           itself n = omega arith
 
       node : w.node ≡ k
-      node = eqb-true w.node (let x = t.coord.tree in x.node) (and_parts (w.node == (let x = t.coord.tree in x.node)) (w.inc == (let x = t.coord.tree in x.inc)) (found_by w t.coord.tree r.0 r.1).0).0 ∙ its_up.node
+      node = eqb-true w.node (let x = t.coord.tree in x.node) (and_parts (w.node == (let x = t.coord.tree in x.node))
+          (w.inc == (let x = t.coord.tree in x.inc)) (found_by w t.coord.tree r.0 r.1).0).0 ∙ its_up.node
 
       live : live_in (M.nodes w.node) ≡ Some t
       live = ap (λ j. live_in (M.nodes j)) node ∙ ap live_in found ∙ up_it
@@ -102,7 +100,8 @@ module _ (acts : List Action) (M : Seen) (good : IsGoodOf acts M) (k : ℕ) (n :
       never : {b : Bool} → b ≡ true → b ≡ false → ⊥
       never yes_it no_it = let no_way : true ≡ false = sym yes_it ∙ no_it in cc no_way
 
-  module _ (past : ArePastIn acts M) (j : ℕ) (m : Node) (v : Parts) (at_j : M.nodes j ≡ Some m) (up_j : m.live ≡ Some v) (u : Uid) (p : Path) (asks : IsAsking t.coord.tree u p) where
+  module _ (past : ArePastIn acts M) (j : ℕ) (m : Node) (v : Parts) (at_j : M.nodes j ≡ Some m) (up_j : m.live ≡ Some v) (u : Uid)
+      (p : Path) (asks : IsAsking t.coord.tree u p) where
     pub told_there : ToldPast acts (λ j. live_in (M.nodes j)) j v
     told_there = let x = past.nodes j m at_j in x.live v up_j
 

@@ -1,34 +1,28 @@
 -- Who wrote what a coordinator has, where commits go on and are decided: who was decided is told so.
-use Rattle.std.proofs.Common.{◌≡◌, ◌⊎◌, ◌++◌, Bool, true, false, cond, List, [], ◌∷◌, map, Contains, Option, Some, None, refl, sym, subst, inl, inr, ⊎_elim, ℕ, arith}
-use Rattle.std.specs.Prelude.{⊤, nat_lt}
-use Rattle.std.specs.List.{AllByRecursion}
-use Rattle.arj_lock.proofs.Members.{in_to}
-use Rattle.arj_protocol.specs.Words.{Asked, End, Kind, Label, ObjectState, Uid}
-use Rattle.arj_protocol.specs.Words.cause
-use Rattle.arj_protocol.specs.Words.body
-use Rattle.arj_protocol.specs.Words.confirmed
-use Rattle.arj_protocol.specs.Words.ending
-use Rattle.arj_protocol.specs.Words.kind
-use Rattle.arj_protocol.specs.Words.loaded
-use Rattle.arj_protocol.specs.Words.prepared
-use Rattle.arj_protocol.specs.Words.voted
-use Rattle.arj_protocol.specs.Ask.{Reply, actor}
-use Rattle.arj_protocol.specs.Asking.{asks_machine, begin_action, call, commit_action, commit_open, commit_top, commits_in, gaveup_lines, give_up, give_up_doing, gives_up, heard, heard_by, heard_call, heard_doing, heard_none, heard_now, include, last_req, mark_lines, moved_commit, step_commit, waits_for_call, waits_for_commit}
-use Rattle.arj_protocol.specs.Commit.{Aborts, Asks, CommitStep, Confirming, Decides, Machine, Marked, Plan, Preparing, Stays, Used, Voting, begin_confirm, begin_prepare, begin_vote, has_record, is_empty, marks_store, marks_stores, nodes_given_up, participants, plan_of, servers_of, stores_left, targets_of, votes_left, waiting, with_state, with_states}
-use Rattle.arj_protocol.specs.Commit as commit
-use Rattle.arj_protocol.specs.Coord.{Calling, Committing, Coord, Doing, Idle, Joined, Now, Root, doing_of, on_doing, on_root, plan_for, root_at}
-use Rattle.arj_protocol.specs.Effect.{Did, Do, Effect, Intent, Say, Send, Served}
-use Rattle.arj_protocol.specs.Ending.{abort_action, aborts_with, decide, decided_told, ended, ends_with, record_work, root_after, says, states_after, tell}
-use Rattle.arj_protocol.specs.Order.{has, number_set, put_number, put_uid, with_number, without_number}
-use Rattle.arj_protocol.specs.Step.{Input, acts, branch_named, on_branch, parent_of}
-use Rattle.arj_protocol.specs.Step as input
-use Rattle.arj_protocol.specs.Tree.{Branch, open_below, root_of}
-use Rattle.arj_law_parts.specs.parts.Ends.{told_by}
-use Rattle.arj_law_parts.proofs.parts.LivesNamed.{all_put, keyed_put}
-use Rattle.arj_law_disk_view.proofs.running.Lists.{all_each}
-use Rattle.arj_law_disk_view.proofs.view.Planned.{has_set}
-use Rattle.arj_law_promise.specs.waiting.Writers.{CoordIsBy, IsBy, NowIsBy, PlanIsBy, RootIsBy}
-use Rattle.arj_law_promise.proofs.waiting.WriterCoords.{So, all_so, asked_so, begins_so, call_so, commits_so, ended_so, given_up_so, heard_call_so, include_so, on_do_so, plan_so, root_so}
+use Rattle.arj_law_parts.proofs.Words
+use Words.{◌≡◌, ◌⊎◌, ◌++◌, Bool, true, false, cond, List, [], ◌∷◌, map, Contains, Option, Some, None, refl, sym, subst, inl, inr, ⊎_elim, ℕ}
+use Words.{arith, ⊤, nat_lt, AllByRecursion, in_to, Asked, End, Kind, Label, ObjectState, Uid, Reply, actor, asks_machine, begin_action}
+use Words.{call, commit_action, commit_open, commit_top, commits_in, gaveup_lines, give_up, give_up_doing, gives_up, heard, heard_by}
+use Words.{heard_call, heard_doing, heard_none, heard_now, include, last_req, mark_lines, moved_commit, step_commit, waits_for_call}
+use Words.{waits_for_commit, Aborts, Asks, CommitStep, Confirming, Decides, Machine, Marked, Plan, Preparing, Stays, Used, Voting}
+use Words.{begin_confirm, begin_prepare, begin_vote, has_record, is_empty, marks_store, marks_stores, nodes_given_up, participants, plan_of}
+use Words.{servers_of, stores_left, targets_of, votes_left, waiting, with_state, with_states, Calling, Committing, Coord, Doing, Idle}
+use Words.{Joined, Now, Root, doing_of, on_doing, on_root, plan_for, root_at, Did, Do, Effect, Intent, Say, Send, Served, abort_action}
+use Words.{aborts_with, decide, decided_told, ended, ends_with, record_work, root_after, says, states_after, tell, has, number_set}
+use Words.{put_number, put_uid, with_number, without_number, Input, acts, branch_named, on_branch, parent_of, Branch, open_below, root_of}
+use Words.cause
+use Words.body
+use Words.confirmed
+use Words.ending
+use Words.kind
+use Words.loaded
+use Words.prepared
+use Words.voted
+use Words.commit
+use Words.input
+use Rattle.arj_law_promise.proofs.Terms.{told_by, all_put, keyed_put, all_each, has_set, CoordIsBy, IsBy, NowIsBy, PlanIsBy, RootIsBy}
+use Rattle.arj_law_promise.proofs.waiting.WriterCoords.{So, all_so, asked_so, begins_so, call_so, commits_so, ended_so, given_up_so}
+use Rattle.arj_law_promise.proofs.waiting.WriterCoords.{heard_call_so, include_so, on_do_so, plan_so, root_so}
 
 -- ---- who is told
 
@@ -50,7 +44,8 @@ tells_decided : (root u : Uid) (p : Plan) (nodes : List ℕ) → is_empty nodes 
 tells_decided root u p [] some = absurd (cc some)
 tells_decided root u p (n ∷ ns) some = by (has (participants p) n)
   where
-    by : (b : Bool) → TellsIn (cond b (tell root (has_record p) ((u, ending.Commit) ∷ []) n) (tell root false ((u, ending.Abort) ∷ []) n) ∷ map (decided_told root u p) ns) u
+    by : (b : Bool) → TellsIn (cond b (tell root (has_record p) ((u, ending.Commit) ∷ []) n) (tell root false ((u, ending.Abort) ∷ []) n)
+        ∷ map (decided_told root u p) ns) u
     by true = inl (ending.Commit, in_to (u, ending.Commit) ((u, ending.Commit) ∷ []) (inl refl))
     by false = inl (ending.Abort, in_to (u, ending.Abort) ((u, ending.Abort) ∷ []) (inl refl))
 
@@ -79,15 +74,18 @@ module _ (G : Uid → Type 0) where
     where
       wide : (r : Root) → RootIsBy P r → RootIsBy Q r
       wide r its = record {
-        joined = all_each (λ (j : Joined). IsBy P j.loaded) (λ (j : Joined). IsBy Q j.loaded) r.joined (λ j. more j.loaded.writer) its.joined;
-        states = all_each (λ (e : ℕ × ObjectState). IsBy P e.1) (λ (e : ℕ × ObjectState). IsBy Q e.1) r.states (λ e. more e.1.writer) its.states;
+        joined =
+            all_each (λ (j : Joined). IsBy P j.loaded) (λ (j : Joined). IsBy Q j.loaded) r.joined (λ j. more j.loaded.writer) its.joined;
+        states =
+            all_each (λ (e : ℕ × ObjectState). IsBy P e.1) (λ (e : ℕ × ObjectState). IsBy Q e.1) r.states (λ e. more e.1.writer) its.states;
       }
 
   pub plainly : (d : Did Coord) → So G d.part → IsTold d
   plainly d so = wider G (λ w. G w ⊎ TellsIn d.outs w) (λ w g. inl g) d.part so
 
   pub behind : (before : List Effect) (d : Did Coord) → IsTold d → IsTold (record { part = d.part; outs = before ++ d.outs })
-  behind before d so = wider (λ w. G w ⊎ TellsIn d.outs w) (λ w. G w ⊎ TellsIn (before ++ d.outs) w) (λ w. ⊎_elim (λ g. inl g) (λ t. inr (tells_behind before d.outs w t))) d.part so
+  behind before d so = wider (λ w. G w ⊎ TellsIn d.outs w) (λ w. G w ⊎ TellsIn (before ++ d.outs) w)
+      (λ w. ⊎_elim (λ g. inl g) (λ t. inr (tells_behind before d.outs w t))) d.part so
 
   -- ---- the steps of a commit
 
@@ -112,7 +110,8 @@ module _ (G : Uid → Type 0) where
   vote_step u [] q so sent = prepare_step u (targets_of q) q so sent
   vote_step u (n ∷ ns) q so sent = (record { top = so.top; loaded = so.loaded; changed = so.changed }, asked_some q.sent n ns)
 
-  stores_step : (u : Uid) (ns : List ℕ) (q : Plan) → PlanIsBy G u q → is_empty q.sent ≡ false → IsNext u (let m = stores_left ns q in m.step)
+  stores_step : (u : Uid) (ns : List ℕ) (q : Plan) → PlanIsBy G u q → is_empty q.sent ≡ false →
+      IsNext u (let m = stores_left ns q in m.step)
   stores_step u [] q so sent = confirm_step u q.used q so (inr sent)
   stores_step u (n ∷ ns) q so sent = (so, sent)
 
@@ -123,7 +122,8 @@ module _ (G : Uid → Type 0) where
   abbrev Of : Uid → ObjectState → Type 0
   Of u st = IsBy (λ w. w ≡ u) st
 
-  with_one : (u : Uid) (s : ObjectState) (every : List ObjectState) → Of u s → AllByRecursion (Of u) every → AllByRecursion (Of u) (with_state s every)
+  with_one : (u : Uid) (s : ObjectState) (every : List ObjectState) → Of u s → AllByRecursion (Of u) every →
+      AllByRecursion (Of u) (with_state s every)
   with_one u s [] its all = (its, tt)
   with_one u s (t ∷ ts) its all = by (nat_lt t.uid.num s.uid.num) (with_one u s ts its all.1)
     where
@@ -131,25 +131,34 @@ module _ (G : Uid → Type 0) where
       by true ih = (all.0, ih)
       by false ih = (its, all)
 
-  with_each : (u : Uid) (states every : List ObjectState) → AllByRecursion (Of u) states → AllByRecursion (Of u) every → AllByRecursion (Of u) (with_states states every)
+  with_each : (u : Uid) (states every : List ObjectState) → AllByRecursion (Of u) states → AllByRecursion (Of u) every →
+      AllByRecursion (Of u) (with_states states every)
   with_each u [] every its all = all
   with_each u (s ∷ ss) every its all = with_each u ss (with_state s every) its.1 (with_one u s every its.0 all)
 
-  marks_so : (u : Uid) (ns : List ℕ) (q : Plan) → NowIsBy G u (Committing (Preparing q [])) → NowIsBy G u (Committing (Preparing (marks_stores ns q) []))
+  marks_so : (u : Uid) (ns : List ℕ) (q : Plan) → NowIsBy G u (Committing (Preparing q [])) →
+      NowIsBy G u (Committing (Preparing (marks_stores ns q) []))
   marks_so u [] q so = so
-  marks_so u (n ∷ ns) q so = marks_so u ns (marks_store n q) (let p = so.0 in record { top = p.top; loaded = p.loaded; changed = p.changed }, so.1)
+  marks_so u (n ∷ ns) q so =
+      marks_so u ns (marks_store n q) (let p = so.0 in record { top = p.top; loaded = p.loaded; changed = p.changed }, so.1)
 
   -- a vote that is taken is for its plan's top
   abbrev pub VotesFor : Uid → Reply → Type 0
   VotesFor u r = (states : List ObjectState) → r ≡ Reply.Voted (voted.Yes states) → AllByRecursion (Of u) states
 
-  answer_step : (u : Uid) (from : ℕ) (m : Machine) (r : Reply) → NowIsBy G u (Committing m) → VotesFor u r → IsNext u (commit.answered from m r).step
-  answer_step u from (Voting p left) (Reply.Voted (voted.Yes states)) so votes = let q = so.0 in votes_step u (without_number from left) (record p { changed = with_states states p.changed }) (record { top = q.top; loaded = q.loaded; changed = with_each u states p.changed (votes states refl) q.changed }) so.1
+  answer_step : (u : Uid) (from : ℕ) (m : Machine) (r : Reply) → NowIsBy G u (Committing m) → VotesFor u r →
+      IsNext u (commit.answered from m r).step
+  answer_step u from (Voting p left) (Reply.Voted (voted.Yes states)) so votes = let q = so.0 in
+      votes_step u (without_number from left) (record p { changed = with_states states p.changed })
+      (record { top = q.top; loaded = q.loaded; changed = with_each u states p.changed (votes states refl) q.changed }) so.1
   answer_step u from (Voting p left) (Reply.Voted (voted.Changed w)) so votes = tt
-  answer_step u from (Preparing p left) (Reply.Prepared prepared.Yes) so votes = let q = so.0 in stores_step u (without_number from left) (record p { prepared = with_number from p.prepared }) (record { top = q.top; loaded = q.loaded; changed = q.changed }) so.1
-  answer_step u from (Preparing p left) (Reply.Prepared (prepared.InDoubt x h)) so votes = let q = so.0 in stores_step u (without_number from left) (marks_store from p) (record { top = q.top; loaded = q.loaded; changed = q.changed }) so.1
+  answer_step u from (Preparing p left) (Reply.Prepared prepared.Yes) so votes = let q = so.0 in stores_step u (without_number from left)
+      (record p { prepared = with_number from p.prepared }) (record { top = q.top; loaded = q.loaded; changed = q.changed }) so.1
+  answer_step u from (Preparing p left) (Reply.Prepared (prepared.InDoubt x h)) so votes = let q = so.0 in
+      stores_step u (without_number from left) (marks_store from p) (record { top = q.top; loaded = q.loaded; changed = q.changed }) so.1
   answer_step u from (Preparing p left) (Reply.Prepared (prepared.Old x v)) so votes = tt
-  answer_step u from (Confirming p) (Reply.Confirmed confirmed.Yes) so votes = let q = so.0 in (record { top = q.top; loaded = q.loaded; changed = q.changed }, inr so.1)
+  answer_step u from (Confirming p) (Reply.Confirmed confirmed.Yes) so votes = let q = so.0 in
+      (record { top = q.top; loaded = q.loaded; changed = q.changed }, inr so.1)
   answer_step u from (Confirming p) (Reply.Confirmed (confirmed.Conflict h m)) so votes = tt
   answer_step u from (Confirming p) (Reply.Confirmed (confirmed.Changed w)) so votes = tt
   answer_step u from (Confirming p) (Reply.Confirmed (confirmed.NoStores x)) so votes = tt
@@ -203,17 +212,21 @@ module _ (G : Uid → Type 0) where
     ke = ended_so G (actor p.path) ending.Commit c so
 
     kt : So G took
-    kt = on_do_so G (actor p.path) (λ (d : Doing). record d { took = participants p }) e (λ d found. let z = ke in z.works (actor p.path) d found) ke
+    kt = on_do_so G (actor p.path) (λ (d : Doing). record d { took = participants p }) e (λ d found. let z = ke in
+        z.works (actor p.path) d found) ke
 
     told_end : is_empty p.sent ≡ false → TellsIn outs act
-    told_end some = tells_behind (record_work act p ++ says act body.Committed c) (map (decided_told (root_of p.path) act p) p.sent) act (tells_decided (root_of p.path) act p p.sent some)
+    told_end some = tells_behind (record_work act p ++ says act body.Committed c) (map (decided_told (root_of p.path) act p) p.sent) act
+        (tells_decided (root_of p.path) act p p.sent some)
 
     abbrev Has : ℕ × ObjectState → Type 0
     Has z = IsBy H z.1
 
-    states_so : H u → (ss : List ObjectState) (states : List (ℕ × ObjectState)) → AllByRecursion (Of u) ss → AllByRecursion Has states → AllByRecursion Has (states_after ss states)
+    states_so : H u → (ss : List ObjectState) (states : List (ℕ × ObjectState)) → AllByRecursion (Of u) ss → AllByRecursion Has states →
+        AllByRecursion Has (states_after ss states)
     states_so h [] states of all = all
-    states_so h (s ∷ ss) states of all = states_so h ss (put_number s.uid.num s states) of.1 (keyed_put (λ (n : ℕ) (z : ObjectState). IsBy H z) s.uid.num s states (subst H (sym of.0) h) all)
+    states_so h (s ∷ ss) states of all = states_so h ss (put_number s.uid.num s states) of.1
+        (keyed_put (λ (n : ℕ) (z : ObjectState). IsBy H z) s.uid.num s states (subst H (sym of.0) h) all)
 
     after_so : (r : Root) → RootIsBy H r → RootIsBy H (root_after p r)
     after_so r rs = record { joined = rs.joined; states = by sent }
@@ -224,8 +237,10 @@ module _ (G : Uid → Type 0) where
 
     root_here : RootIsBy H (root_at (root_of p.path) took)
     root_here = let r = root_so G (root_of p.path) took kt in record {
-      joined = all_each (λ (j : Joined). IsBy G j.loaded) (λ (j : Joined). IsBy H j.loaded) (root_at (root_of p.path) took).joined (λ j g. inl g) r.joined;
-      states = all_each (λ (z : ℕ × ObjectState). IsBy G z.1) (λ (z : ℕ × ObjectState). IsBy H z.1) (root_at (root_of p.path) took).states (λ z g. inl g) r.states;
+      joined = all_each (λ (j : Joined). IsBy G j.loaded) (λ (j : Joined). IsBy H j.loaded) (root_at (root_of p.path) took).joined
+          (λ j g. inl g) r.joined;
+      states = all_each (λ (z : ℕ × ObjectState). IsBy G z.1) (λ (z : ℕ × ObjectState). IsBy H z.1) (root_at (root_of p.path) took).states
+          (λ z g. inl g) r.states;
     }
 
     abbrev r : Coord
@@ -234,24 +249,31 @@ module _ (G : Uid → Type 0) where
     kr : CoordIsBy G H r
     kr = let w = wider G H (λ w g. inl g) took kt in let z = kt in record {
       works = z.works;
-      roots = all_put (RootIsBy H) (root_of p.path).num (root_after p (root_at (root_of p.path) took)) took.roots (after_so (root_at (root_of p.path) took) root_here) w.roots;
+      roots = all_put (RootIsBy H) (root_of p.path).num (root_after p (root_at (root_of p.path) took)) took.roots
+          (after_so (root_at (root_of p.path) took) root_here) w.roots;
     }
 
     decide_so : IsTold (decide p c)
     decide_so = let z = kr in by (has_record p) z.works z.roots
       where
-        by : (w : Bool) → ((v : Uid) (d : Doing) → doing_of v r ≡ Some d → NowIsBy G v d.now) → AllByRecursion (λ (x : ℕ × Root). RootIsBy H x.1) r.roots → CoordIsBy G H (cond w (record r { telling = put_uid act (record { root = root_of p.path; nodes = participants p }) r.telling }) r)
+        by : (w : Bool) → ((v : Uid) (d : Doing) → doing_of v r ≡ Some d → NowIsBy G v d.now) →
+            AllByRecursion (λ (x : ℕ × Root). RootIsBy H x.1) r.roots → CoordIsBy G H
+            (cond w (record r { telling = put_uid act (record { root = root_of p.path; nodes = participants p }) r.telling }) r)
         by true works roots = record { works = works; roots = roots }
         by false works roots = record { works = works; roots = roots }
 
-  step_commit_so : (u : Uid) (s : CommitStep) (intents : List (Uid × Intent)) (c : Coord) → So G c → IsNext u s → IsTold (step_commit u s intents c)
+  step_commit_so : (u : Uid) (s : CommitStep) (intents : List (Uid × Intent)) (c : Coord) → So G c → IsNext u s →
+      IsTold (step_commit u s intents c)
   step_commit_so u (Stays m) intents c so its = plainly (record { part = commits_in u m c; outs = [] }) (commits_so G u m c so its)
-  step_commit_so u (Asks m) intents c so its = plainly (asks_machine m (commits_in u m c)) (asked_so G (plan_of m).path (plan_of m).req (waiting m) (commits_in u m c) (commits_so G u m c so its))
+  step_commit_so u (Asks m) intents c so its = plainly (asks_machine m (commits_in u m c))
+      (asked_so G (plan_of m).path (plan_of m).req (waiting m) (commits_in u m c) (commits_so G u m c so its))
   step_commit_so u (Decides p) intents c so its = decide_so u p c its.0 its.1 so
   step_commit_so u (Aborts why p) intents c so its = plainly (aborts_with u why intents c) (ended_so G u ending.Abort c so)
 
-  moved_commit_so : (u : Uid) (m : Marked) (intents : List (Uid × Intent)) (c : Coord) → So G c → IsNext u m.step → IsTold (moved_commit u m intents c)
-  moved_commit_so u m intents c so its = behind (mark_lines u m.marks c) (step_commit u m.step intents c) (step_commit_so u m.step intents c so its)
+  moved_commit_so : (u : Uid) (m : Marked) (intents : List (Uid × Intent)) (c : Coord) → So G c → IsNext u m.step →
+      IsTold (moved_commit u m intents c)
+  moved_commit_so u m intents c so its =
+      behind (mark_lines u m.marks c) (step_commit u m.step intents c) (step_commit_so u m.step intents c so its)
 
   -- ---- what a coordinator hears, and inputs
 
@@ -259,7 +281,8 @@ module _ (G : Uid → Type 0) where
   abbrev pub IsHeard : Served Coord (Unit {0}) → Type 0
   IsHeard d = CoordIsBy G (λ w. G w ⊎ TellsIn d.outs w) d.part
 
-  pub hears_so : (from : ℕ) (a : Asked) (r : Reply) (intents : List (Uid × Intent)) (c : Coord) → So G c → ((st : ObjectState) → r ≡ Reply.Loaded (loaded.State st) → IsBy G st) → VotesFor a.act r → IsHeard (heard from a r intents c)
+  pub hears_so : (from : ℕ) (a : Asked) (r : Reply) (intents : List (Uid × Intent)) (c : Coord) → So G c →
+      ((st : ObjectState) → r ≡ Reply.Loaded (loaded.State st) → IsBy G st) → VotesFor a.act r → IsHeard (heard from a r intents c)
   hears_so from a r intents c so loads votes = by (doing_of a.act c) refl
     where
       none : IsHeard (heard_none c)
@@ -274,7 +297,8 @@ module _ (G : Uid → Type 0) where
           each false = none
       now d found (Committing m) is its = each (waits_for_commit from a r m)
         where
-          each : (w : Bool) → IsHeard (cond {A = Served Coord (Unit {0})} w (heard_by (moved_commit a.act (commit.answered from m r) intents c)) (heard_none c))
+          each : (w : Bool) → IsHeard
+              (cond {A = Served Coord (Unit {0})} w (heard_by (moved_commit a.act (commit.answered from m r) intents c)) (heard_none c))
           each true = moved_commit_so a.act (commit.answered from m r) intents c so (answer_step a.act from m r its votes)
           each false = none
 
@@ -288,7 +312,8 @@ module _ (G : Uid → Type 0) where
       now : (n : Now) → NowIsBy G u n → IsTold (gives_up u intents c n)
       now Idle its = plainly (record { part = c; outs = [] }) so
       now (Calling s) its = plainly (gives_up u intents c (Calling s)) (given_up_so G s c so)
-      now (Committing m) its = behind (gaveup_lines u (nodes_given_up m) c) (moved_commit u (commit.given_up m) intents c) (moved_commit_so u (commit.given_up m) intents c so (giveup_step u m its))
+      now (Committing m) its = behind (gaveup_lines u (nodes_given_up m) c) (moved_commit u (commit.given_up m) intents c)
+          (moved_commit_so u (commit.given_up m) intents c so (giveup_step u m its))
 
       by : (o : Option Doing) → doing_of u c ≡ o → IsTold (give_up_doing u intents c o)
       by None is = plainly (record { part = c; outs = [] }) so
@@ -304,7 +329,9 @@ module _ (G : Uid → Type 0) where
       plan = plan_for b.path (last_req (doing_of u c)) (root_at (root_of b.path) c) c
 
       top : IsTold (commit_top b.path intents c)
-      top = behind (says u body.Committing c) (moved_commit u (commit.start plan) intents c) (moved_commit_so u (commit.start plan) intents c so (vote_step u (servers_of plan) plan (plan_so G b.path (last_req (doing_of u c)) (root_at (root_of b.path) c) c (root_so G (root_of b.path) c so)) (inl refl)))
+      top = behind (says u body.Committing c) (moved_commit u (commit.start plan) intents c)
+          (moved_commit_so u (commit.start plan) intents c so (vote_step u (servers_of plan) plan
+          (plan_so G b.path (last_req (doing_of u c)) (root_at (root_of b.path) c) c (root_so G (root_of b.path) c so)) (inl refl)))
 
       kinds : (q : Kind) → IsTold (commit_open b intents c q)
       kinds kind.Nested = plainly (ends_with u ending.Commit body.Committed intents c) (ended_so G u ending.Commit c so)
@@ -317,7 +344,8 @@ module _ (G : Uid → Type 0) where
       by true = plainly (aborts_with u cause.Doomed intents c) (ended_so G u ending.Abort c so)
       by false = kinds b.kind
 
-  on_named : (l : Label) (f : Branch → Did Coord) (c : Coord) → So G c → ((b : Branch) → IsTold (f b)) → IsTold (on_branch f c (branch_named l c))
+  on_named : (l : Label) (f : Branch → Did Coord) (c : Coord) → So G c → ((b : Branch) → IsTold (f b)) →
+      IsTold (on_branch f c (branch_named l c))
   on_named l f c so each = by (branch_named l c)
     where
       by : (o : Option Branch) → IsTold (on_branch f c o)
@@ -325,12 +353,17 @@ module _ (G : Uid → Type 0) where
       by (Some b) = each b
 
   pub acts_so : (i : Input) (intents : List (Uid × Intent)) (c : Coord) → So G c → IsTold (acts i intents c)
-  acts_so (input.Begin l q parent) intents c so = plainly (begin_action l q parent (parent_of parent c) c) (begins_so G l q parent (parent_of parent c) c so)
-  acts_so (input.Call l x o) intents c so = on_named l (λ b. call b.path x o c) c so (λ b. plainly (call b.path x o c) (call_so G b.path x o c so))
-  acts_so (input.Include l x s) intents c so = on_named l (λ b. include b.path x s c) c so (λ b. plainly (include b.path x s c) (include_so G b.path x s c so))
+  acts_so (input.Begin l q parent) intents c so =
+      plainly (begin_action l q parent (parent_of parent c) c) (begins_so G l q parent (parent_of parent c) c so)
+  acts_so (input.Call l x o) intents c so =
+      on_named l (λ b. call b.path x o c) c so (λ b. plainly (call b.path x o c) (call_so G b.path x o c so))
+  acts_so (input.Include l x s) intents c so =
+      on_named l (λ b. include b.path x s c) c so (λ b. plainly (include b.path x s c) (include_so G b.path x s c so))
   acts_so (input.Commit l) intents c so = on_named l (λ b. commit_action b intents c) c so (λ b. commit_so b intents c so)
-  acts_so (input.Abort l) intents c so = on_named l (λ b. abort_action (actor b.path) intents c) c so (λ b. plainly (abort_action (actor b.path) intents c) (all_so G (open_below (actor b.path) c.tree ++ actor b.path ∷ []) c so))
-  acts_so (input.GiveUp l) intents c so = on_named l (λ b. give_up (actor b.path) intents c) c so (λ b. give_up_so (actor b.path) intents c so)
+  acts_so (input.Abort l) intents c so = on_named l (λ b. abort_action (actor b.path) intents c) c so
+      (λ b. plainly (abort_action (actor b.path) intents c) (all_so G (open_below (actor b.path) c.tree ++ actor b.path ∷ []) c so))
+  acts_so (input.GiveUp l) intents c so =
+      on_named l (λ b. give_up (actor b.path) intents c) c so (λ b. give_up_so (actor b.path) intents c so)
   acts_so (input.Frame j from m) intents c so = plainly (record { part = c; outs = [] }) so
   acts_so input.Tick intents c so = plainly (record { part = c; outs = [] }) so
   acts_so input.Restart intents c so = plainly (record { part = c; outs = [] }) so

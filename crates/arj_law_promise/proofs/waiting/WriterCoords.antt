@@ -1,28 +1,25 @@
 -- Who wrote what a coordinator has: through all that it does and hears, but for the decision of a commit.
-use Rattle.std.proofs.Common.{◌≡◌, ◌∙◌, ◌++◌, ◌+◌, ℕ, zero, suc, Bool, true, false, cond, List, [], ◌∷◌, map, Option, Some, None, refl, sym, ap, subst, ⊎_elim}
-use Rattle.std.specs.Prelude.{IfSome, nat_lt, ◌&&◌}
-use Rattle.std.specs.List.{AllByRecursion, list_any}
-use Rattle.arj_base.proofs.Uids.{uid_cases}
-use Rattle.arj_protocol.specs.Words.{Ask, End, Kind, Label, ObjectState, Op, Path, Uid, uids_of}
-use Rattle.arj_protocol.specs.Words.ending
-use Rattle.arj_protocol.specs.Words.loaded
-use Rattle.arj_protocol.specs.Ask.{Reply, actor, top_of}
-use Rattle.arj_protocol.specs.Asking.{again_all, again_now, asks_all, asks_node, asks_step, begin_action, call, call_steps, commits_in, doomed_by, goes_on, granted_by, heard_call, include, is_ended, is_invoke_ask, keeps_after, kept_at, next_req, notes_grant, renewed, root_heard, root_lost, root_moved, step_call, store_of}
-use Rattle.arj_protocol.specs.Call.{Answered, CallEnd, CallStep, Changed, Conflict, Ended, Included, Lost, Moved, On, Steps, answered, has_changed, next_ask, next_node, spoils, start}
-use Rattle.arj_protocol.specs.Call as calls
-use Rattle.arj_protocol.specs.Commit.{Machine, Used, plan_of, waiting}
-use Rattle.arj_protocol.specs.Coord.{Calling, Committing, Coord, Doing, Grant, Idle, Joined, Keeping, Now, Root, Said, Went, change_doing, doing_of, is_free, joined_with, joins_on, keeping_of, later_state, latest_of, loaded_for, no_root, objects_in, on_doing, on_root, or_kept_state, plan_for, root_at, same_join, same_said, same_went, set_doing, used_of, with_keeping, with_said, with_went}
-use Rattle.arj_protocol.specs.Effect.{Intent}
-use Rattle.arj_protocol.specs.Ending.{acked, acked_by, acked_left, all_aborted, ended}
-use Rattle.arj_protocol.specs.Order.{at_number, at_uid, has, unbound, without_number}
-use Rattle.arj_protocol.specs.Tree.{Branch, Tree, at_place, doomed_at, ended_at, ends_of, is_own, root_of, uses_object}
-use Rattle.arj_law_parts.proofs.parts.GoodCoords.{doomed_same, uses_same}
-use Rattle.arj_law_parts.proofs.parts.GoodTrees.{get_more}
-use Rattle.arj_law_parts.proofs.parts.LivesNamed.{all_at, all_put, keyed_found}
-use Rattle.arj_law_parts.proofs.parts.Settled.{doing_other, doing_put, end_tree_on}
+use Rattle.arj_law_parts.proofs.Words
+use Words.{◌≡◌, ◌∙◌, ◌++◌, ◌+◌, ℕ, zero, suc, Bool, true, false, cond, List, [], ◌∷◌, map, Option, Some, None, refl, sym, ap, subst, ⊎_elim}
+use Words.{IfSome, nat_lt, ◌&&◌, AllByRecursion, list_any, uid_cases, Ask, End, Kind, Label, ObjectState, Op, Path, Uid, uids_of, Reply}
+use Words.{actor, top_of, again_all, again_now, asks_all, asks_node, asks_step, begin_action, call, call_steps, commits_in, doomed_by}
+use Words.{goes_on, granted_by, heard_call, include, is_ended, is_invoke_ask, keeps_after, kept_at, next_req, notes_grant, renewed}
+use Words.{root_heard, root_lost, root_moved, step_call, store_of, Answered, CallEnd, CallStep, Changed, Conflict, Ended, Included, Lost}
+use Words.{Moved, On, Steps, answered, has_changed, next_ask, next_node, spoils, start, Machine, Used, plan_of, waiting, Calling}
+use Words.{Committing, Coord, Doing, Grant, Idle, Joined, Keeping, Now, Root, Said, Went, change_doing, doing_of, is_free, joined_with}
+use Words.{joins_on, keeping_of, later_state, latest_of, loaded_for, no_root, objects_in, on_doing, on_root, or_kept_state, plan_for}
+use Words.{root_at, same_join, same_said, same_went, set_doing, used_of, with_keeping, with_said, with_went, Intent, acked, acked_by}
+use Words.{acked_left, all_aborted, ended, at_number, at_uid, has, unbound, without_number, Branch, Tree, at_place, doomed_at, ended_at}
+use Words.{ends_of, is_own, root_of, uses_object}
+use Words.ending
+use Words.loaded
+use Words.calls
+use Rattle.arj_law_promise.proofs.Terms
+use Terms.{doomed_same, all_at, all_put, keyed_found, all_filter, CoordIsBy, IsBy, NowIsBy, PlanIsBy, RootIsBy}
 use Rattle.arj_law_disk_view.proofs.view.CallWalks.{EndIs, StepIs, lost_is, step_is}
-use Rattle.arj_law_runs.proofs.addresses.Lists.{all_filter}
-use Rattle.arj_law_promise.specs.waiting.Writers.{CoordIsBy, IsBy, NowIsBy, PlanIsBy, RootIsBy}
+use Rattle.arj_law_parts.proofs.parts
+use parts.{GoodCoords.uses_same, GoodTrees.get_more}
+use parts.Settled.{doing_other, doing_put, end_tree_on}
 
 module _ (G : Uid → Type 0) where
   abbrev pub Is : ObjectState → Type 0
@@ -64,7 +61,8 @@ module _ (G : Uid → Type 0) where
   joined_so j [] its all = (its, tt)
   joined_so j (i ∷ js) its all = by (same_join j i) (joined_so j js its all.1)
     where
-      by : (b : Bool) → AllByRecursion Loads (joined_with j js) → AllByRecursion Loads (cond b (record i { loaded = later_state i.loaded j.loaded } ∷ js) (i ∷ joined_with j js))
+      by : (b : Bool) → AllByRecursion Loads (joined_with j js) →
+          AllByRecursion Loads (cond b (record i { loaded = later_state i.loaded j.loaded } ∷ js) (i ∷ joined_with j js))
       by true ih = (later_so i.loaded j.loaded all.0 its, all.1)
       by false ih = (all.0, ih)
 
@@ -73,7 +71,10 @@ module _ (G : Uid → Type 0) where
 
   heard_so : (s : Steps) (e : CallEnd) (r : Root) → EndIs Is e → RootIsBy G r → RootIsBy G (root_heard s e r)
   heard_so s (Answered a) r its so = said_so (record { path = uids_of s.path; x = s.x }) r so
-  heard_so s (Included st) r its so = record { joined = joined_so (record { path = uids_of s.path; x = s.x; store = store_of s.goal; loaded = st }) r.joined its so.joined; states = so.states }
+  heard_so s (Included st) r its so = record {
+    joined = joined_so (record { path = uids_of s.path; x = s.x; store = store_of s.goal; loaded = st }) r.joined its so.joined;
+    states = so.states;
+  }
   heard_so s (Conflict h m n) r its so = so
   heard_so s (Changed n w) r its so = so
   heard_so s (Lost n b) r its so = so
@@ -85,17 +86,23 @@ module _ (G : Uid → Type 0) where
   moved_so : (s : Steps) (r : Reply) (m : Moved) (q : Root) → RootIsBy G q → RootIsBy G (root_moved s r m q)
   moved_so s r m q so =
       let kept = keeping_of s.x q in
-      keep_so s.x (keeps_after s.goal (has_changed m.step) m.kept kept) (notes_grant (granted_by (top_of s.path) s.x r) q) (granted_so (granted_by (top_of s.path) s.x r) q so)
+      keep_so s.x (keeps_after s.goal (has_changed m.step) m.kept kept) (notes_grant (granted_by (top_of s.path) s.x r) q)
+      (granted_so (granted_by (top_of s.path) s.x r) q so)
 
   pub lost_so : (s : Steps) (t : CallStep) (q : Root) → RootIsBy G q → RootIsBy G (root_lost s t q)
   lost_so s t q so = let kept = keeping_of s.x q in keep_so s.x (keeps_after s.goal (is_ended t && spoils s.at) kept.kept kept) q so
 
   -- ---- from one coordinator to the next
 
-  pub on_root_so : (root : Uid) (f : Root → Root) (c : Coord) → ((r : Root) → RootIsBy G r → RootIsBy G (f r)) → So c → So (on_root root f c)
-  on_root_so root f c step so = record { works = so.works; roots = all_put (RootIsBy G) root.num (f (root_at root c)) c.roots (step (root_at root c) (root_so root c so)) so.roots }
+  pub on_root_so : (root : Uid) (f : Root → Root) (c : Coord) → ((r : Root) → RootIsBy G r → RootIsBy G (f r)) → So c →
+      So (on_root root f c)
+  on_root_so root f c step so = record {
+    works = so.works;
+    roots = all_put (RootIsBy G) root.num (f (root_at root c)) c.roots (step (root_at root c) (root_so root c so)) so.roots;
+  }
 
-  pub on_do_so : (u : Uid) (f : Doing → Doing) (c : Coord) → ((d : Doing) → doing_of u c ≡ Some d → NowIsBy G u (f d).now) → So c → So (on_doing u f c)
+  pub on_do_so : (u : Uid) (f : Doing → Doing) (c : Coord) → ((d : Doing) → doing_of u c ≡ Some d → NowIsBy G u (f d).now) → So c →
+      So (on_doing u f c)
   on_do_so u f c its so = by (doing_of u c) refl
     where
       some_is : (a b : Doing) → Some a ≡ Some b → a ≡ b
@@ -104,7 +111,9 @@ module _ (G : Uid → Type 0) where
       by : (o : Option Doing) → doing_of u c ≡ o → So (change_doing f u c o)
       by None missing = so
       by (Some old) found = record {
-        works = λ w d at. ⊎_elim (λ same. subst (λ v. NowIsBy G v d.now) (sym same) (subst (λ (q : Doing). NowIsBy G u q.now) (some_is (f old) d (sym (doing_put u (f old) old c found) ∙ ap (λ v. doing_of v (set_doing u (f old) c)) (sym same) ∙ at)) (its old found))) (λ other. so.works w d (sym (doing_other u w (f old) old c found other) ∙ at)) (uid_cases w u);
+        works = λ w d at. ⊎_elim (λ same. subst (λ v. NowIsBy G v d.now) (sym same) (subst (λ (q : Doing). NowIsBy G u q.now) (some_is (f
+            old) d (sym (doing_put u (f old) old c found) ∙ ap (λ v. doing_of v (set_doing u (f old) c)) (sym same) ∙ at)) (its old found)))
+            (λ other. so.works w d (sym (doing_other u w (f old) old c found other) ∙ at)) (uid_cases w u);
         roots = so.roots;
       }
 
@@ -124,7 +133,8 @@ module _ (G : Uid → Type 0) where
   doomed_so u c so = let same = doomed_same u c.tree in on_tree_so c (doomed_at u c.tree) same.own so
 
   pub ended_so : (u : Uid) (e : End) (c : Coord) → So c → So (ended u e c)
-  ended_so u e c so = let g = end_tree_on u e c in idle_so u (record c { tree = ended_at u e c.tree }) (on_tree_so c (ended_at u e c.tree) g.own so)
+  ended_so u e c so = let g = end_tree_on u e c in
+      idle_so u (record c { tree = ended_at u e c.tree }) (on_tree_so c (ended_at u e c.tree) g.own so)
 
   pub all_so : (us : List Uid) (c : Coord) → So c → So (all_aborted us c).part
   all_so [] c so = so
@@ -133,7 +143,8 @@ module _ (G : Uid → Type 0) where
   -- ---- requests
 
   asks_so : (p : Path) (req : ℕ) (a : ℕ × Ask) (c : Coord) → So c → So (asks_node p req a c).part
-  asks_so p req a c so = on_root_so (root_of p) (with_went (record { path = uids_of p; node = a.0; invoke = is_invoke_ask a.1 })) c (λ r s. went_so (record { path = uids_of p; node = a.0; invoke = is_invoke_ask a.1 }) r s) so
+  asks_so p req a c so = on_root_so (root_of p) (with_went (record { path = uids_of p; node = a.0; invoke = is_invoke_ask a.1 })) c
+      (λ r s. went_so (record { path = uids_of p; node = a.0; invoke = is_invoke_ask a.1 }) r s) so
 
   pub asked_so : (p : Path) (req : ℕ) (asked : List (ℕ × Ask)) (c : Coord) → So c → So (asks_all p req asked c).part
   asked_so p req [] c so = so
@@ -143,7 +154,8 @@ module _ (G : Uid → Type 0) where
   step_so s c so = asks_so s.path s.req (next_node s, next_ask (ends_of (root_of s.path) c.tree) s) c so
 
   goes_so : (s : Steps) (c : Coord) → So c → So (goes_on s c).part
-  goes_so s c so = step_so s (on_doing (actor s.path) (λ (d : Doing). record d { req = s.req; now = Calling s }) c) (on_do_so (actor s.path) (λ (d : Doing). record d { req = s.req; now = Calling s }) c (λ d found. tt) so)
+  goes_so s c so = step_so s (on_doing (actor s.path) (λ (d : Doing). record d { req = s.req; now = Calling s }) c)
+      (on_do_so (actor s.path) (λ (d : Doing). record d { req = s.req; now = Calling s }) c (λ d found. tt) so)
 
   pub call_so : (p : Path) (x : ℕ) (o : Op) (c : Coord) → So c → So (call p x o c).part
   call_so p x o c so =
@@ -151,10 +163,12 @@ module _ (G : Uid → Type 0) where
       let old = keeping_of x r in
       let kept = renewed (is_free (root_of p) (actor p) x c) old old.kept in
       let u : Coord = record c { tree = uses_object p x c.tree } in
-      goes_so (call_steps p x o (next_req (actor p) c) r c kept) (on_root (root_of p) (with_keeping x kept) u) (on_root_so (root_of p) (with_keeping x kept) u (λ q its. keep_so x kept q its) (uses_so p x c so))
+      goes_so (call_steps p x o (next_req (actor p) c) r c kept) (on_root (root_of p) (with_keeping x kept) u)
+      (on_root_so (root_of p) (with_keeping x kept) u (λ q its. keep_so x kept q its) (uses_so p x c so))
 
   pub include_so : (p : Path) (x s : ℕ) (c : Coord) → So c → So (include p x s c).part
-  include_so p x s c so = goes_so (start p x (calls.Include s) None unbound (next_req (actor p) c)) (record c { tree = uses_object p x c.tree }) (uses_so p x c so)
+  include_so p x s c so = goes_so (start p x (calls.Include s) None unbound (next_req (actor p) c))
+      (record c { tree = uses_object p x c.tree }) (uses_so p x c so)
 
   pub step_call_so : (s : Steps) (t : CallStep) (c : Coord) → So c → StepIs Is t → So (step_call s t c).part
   step_call_so s (On at) c so its = goes_so (record s { req = s.req + 1; at = at }) c so
@@ -164,9 +178,11 @@ module _ (G : Uid → Type 0) where
       i = on_root (root_of s.path) (root_heard s e) (on_doing (actor s.path) (λ (d : Doing). record d { now = Idle }) c)
 
       so_far : So (on_root (root_of s.path) (root_heard s e) (on_doing (actor s.path) (λ (d : Doing). record d { now = Idle }) c))
-      so_far = on_root_so (root_of s.path) (root_heard s e) (on_doing (actor s.path) (λ (d : Doing). record d { now = Idle }) c) (λ r q. heard_so s e r its q) (idle_so (actor s.path) c so)
+      so_far = on_root_so (root_of s.path) (root_heard s e) (on_doing (actor s.path) (λ (d : Doing). record d { now = Idle }) c)
+          (λ r q. heard_so s e r its q) (idle_so (actor s.path) c so)
 
-      by : (g : CallEnd) → So (doomed_by (actor s.path) g (on_root (root_of s.path) (root_heard s e) (on_doing (actor s.path) (λ (d : Doing). record d { now = Idle }) c)))
+      by : (g : CallEnd) → So (doomed_by (actor s.path) g
+          (on_root (root_of s.path) (root_heard s e) (on_doing (actor s.path) (λ (d : Doing). record d { now = Idle }) c)))
       by (Answered a) = so_far
       by (Included st) = so_far
       by (Conflict h x n) = so_far
@@ -174,13 +190,17 @@ module _ (G : Uid → Type 0) where
       by (Lost n false) = so_far
       by (Lost n true) = doomed_so (actor s.path) i so_far
 
-  pub heard_call_so : (s : Steps) (r : Reply) (c : Coord) → So c → ((st : ObjectState) → r ≡ Reply.Loaded (loaded.State st) → Is st) → So (heard_call s r c).part
+  pub heard_call_so : (s : Steps) (r : Reply) (c : Coord) → So c → ((st : ObjectState) → r ≡ Reply.Loaded (loaded.State st) → Is st) →
+      So (heard_call s r c).part
   heard_call_so s r c so loads =
       let m = answered (is_free (root_of s.path) (actor s.path) s.x c) (kept_at s c) s.goal s.at r in
-      step_call_so s m.step (on_root (root_of s.path) (root_moved s r m) c) (on_root_so (root_of s.path) (root_moved s r m) c (moved_so s r m) so) (step_is Is (is_free (root_of s.path) (actor s.path) s.x c) (kept_at s c) s.goal s.at r loads)
+      step_call_so s m.step (on_root (root_of s.path) (root_moved s r m) c) (on_root_so (root_of s.path) (root_moved s r m) c
+      (moved_so s r m) so) (step_is Is (is_free (root_of s.path) (actor s.path) s.x c) (kept_at s c) s.goal s.at r loads)
 
-  pub given_up_so : (s : Steps) (c : Coord) → So c → So (step_call s (calls.given_up s.at) (on_root (root_of s.path) (root_lost s (calls.given_up s.at)) c)).part
-  given_up_so s c so = step_call_so s (calls.given_up s.at) (on_root (root_of s.path) (root_lost s (calls.given_up s.at)) c) (on_root_so (root_of s.path) (root_lost s (calls.given_up s.at)) c (lost_so s (calls.given_up s.at)) so) (lost_is Is s.at)
+  pub given_up_so : (s : Steps) (c : Coord) → So c →
+      So (step_call s (calls.given_up s.at) (on_root (root_of s.path) (root_lost s (calls.given_up s.at)) c)).part
+  given_up_so s c so = step_call_so s (calls.given_up s.at) (on_root (root_of s.path) (root_lost s (calls.given_up s.at)) c)
+      (on_root_so (root_of s.path) (root_lost s (calls.given_up s.at)) c (lost_so s (calls.given_up s.at)) so) (lost_is Is s.at)
 
   -- ---- commits
 
@@ -195,7 +215,8 @@ module _ (G : Uid → Type 0) where
   latest_so (Some s) (j ∷ js) its all = latest_so (Some (later_state s j.loaded)) js (later_so s j.loaded its all.0) all.1
 
   loads_from : (x : ℕ) (top : Uid) (r : Root) (c : Coord) → RootIsBy G r → IfSome (loaded_for x top r c) Is
-  loads_from x top r c so = by (latest_of None (joins_on x top r c)) (at_number x r.states) refl (latest_so None (joins_on x top r c) tt (all_filter Loads _ r.joined so.joined))
+  loads_from x top r c so = by (latest_of None (joins_on x top r c)) (at_number x r.states) refl
+      (latest_so None (joins_on x top r c) tt (all_filter Loads _ r.joined so.joined))
     where
       by : (o s : Option ObjectState) → at_number x r.states ≡ s → IfSome o Is → IfSome (or_kept_state o s) Is
       by None s is its = tt
@@ -222,7 +243,8 @@ module _ (G : Uid → Type 0) where
       by None = so
       by (Some i) = one (has i.nodes from)
         where
-          one : (b : Bool) → So (cond b (acked_left u i intents c (without_number from i.nodes)) (record { part = c; outs = []; reply = None })).part
+          one : (b : Bool) →
+              So (cond b (acked_left u i intents c (without_number from i.nodes)) (record { part = c; outs = []; reply = None })).part
           one true = left i (without_number from i.nodes)
           one false = so
 
@@ -235,13 +257,16 @@ module _ (G : Uid → Type 0) where
       now (Calling s) = step_so s c so
       now (Committing m) = asked_so (plan_of m).path (plan_of m).req (waiting m) c so
 
-  pub begins_so : (l : Label) (q : Kind) (parent : Option Label) (above : Option Branch) (c : Coord) → So c → So (begin_action l q parent above c).part
+  pub begins_so : (l : Label) (q : Kind) (parent : Option Label) (above : Option Branch) (c : Coord) → So c →
+      So (begin_action l q parent above c).part
   begins_so l q parent above c so = record { works = λ u d at. was (is_own u c.tree) u u.num d at (λ f. so.works u d f); roots = so.roots }
     where
       fresh : Doing
       fresh = record { label = l; req = 0; now = Idle; took = [] }
 
-      was : (b : Bool) (u : Uid) (j : ℕ) (d : Doing) → cond b (at_place j (c.doings ++ fresh ∷ [])) None ≡ Some d → (cond b (at_place j c.doings) None ≡ Some d → NowIsBy G u d.now) → NowIsBy G u d.now
+      was : (b : Bool) (u : Uid) (j : ℕ) (d : Doing) → cond b (at_place j (c.doings ++ fresh ∷ [])) None ≡ Some d →
+          (cond b (at_place j c.doings) None ≡ Some d → NowIsBy G u d.now) → NowIsBy G u d.now
       was true u zero d at f = let no_way : ◌≡◌ {A = Option Doing} None (Some d) = at in cc
-      was true u (suc j) d at f = ⊎_elim (λ old. f old) (λ new. subst (λ (x : Doing). NowIsBy G u x.now) new.1 tt) (get_more j fresh d c.doings at)
+      was true u (suc j) d at f =
+          ⊎_elim (λ old. f old) (λ new. subst (λ (x : Doing). NowIsBy G u x.now) new.1 tt) (get_more j fresh d c.doings at)
       was false u j d at f = let no_way : ◌≡◌ {A = Option Doing} None (Some d) = at in cc

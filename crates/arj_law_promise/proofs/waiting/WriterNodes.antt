@@ -1,36 +1,21 @@
 -- Who wrote what a node has on its disk, prepares and sends.
-use Rattle.std.proofs.Common.{◌≡◌, ◌∙◌, ◌++◌, ℕ, Bool, true, false, cond, find, List, [], ◌∷◌, map, Option, Some, None, refl, sym, ap, subst, inl, inr, ⊎_elim}
-use Rattle.std.specs.Prelude.{IfSome, unwrap_or, ◌||◌}
-use Rattle.std.specs.List.{AllByRecursion, list_all}
-use Rattle.std.specs.Ordering.{match_ordering}
-use Rattle.std.specs.declared.cmp.Ordering.{Ordering}
-use Rattle.std.specs.declared.cmp.Ordering.TheVariants.{Less, Equal, Greater}
-use Rattle.std.proofs.lemmas.Bool.{and_parts}
-use Rattle.arj_base.specs.Order.{uid_order}
-use Rattle.arj_protocol.specs.Words.{Ask, Asked, Head, Header, Message, ObjectState, Uid, asks}
-use Rattle.arj_protocol.specs.Words.ask
-use Rattle.arj_protocol.specs.Words.ending
-use Rattle.arj_protocol.specs.Words.message
-use Rattle.arj_protocol.specs.Words.role
-use Rattle.arj_protocol.specs.Ask.{Reply, actor, answers, response}
-use Rattle.arj_protocol.specs.Call.{At, AtActivate, AtBind, AtInvoke, AtLoad, AtNote, Goal, ask_at}
-use Rattle.arj_protocol.specs.Commit.{Machine, Confirming, Plan, Preparing, Used, Voting, ask_of, changed_of, state_by, state_for, states_for}
-use Rattle.arj_protocol.specs.Coord.{Calling, Committing, Coord, Idle, Now}
-use Rattle.arj_protocol.specs.Effect.{Abort, After, Before, Commit, Disk, Do, Effect, InPart, Intent, Look, Pair, Prepare, PutInc, PutIntent, RemoveIntent, Say, Send, Stop, Work, moved, moved_some, new_states, stopped, worked}
-use Rattle.arj_protocol.specs.Ending.{tell_all}
-use Rattle.arj_protocol.specs.Node.{query_about}
-use Rattle.arj_protocol.specs.Order.{at_uid, has, put_uid}
-use Rattle.arj_protocol.specs.Says.{AreAll, is_coord_effect, is_naming_effect, is_server_effect}
-use Rattle.arj_protocol.specs.Step.{restart_outs, tolds_again}
-use Rattle.arj_law_parts.specs.parts.Claims.{AreTrue, is_of_coord}
-use Rattle.arj_law_parts.proofs.parts.Keys.{order_exact}
-use Rattle.arj_law_parts.proofs.parts.SaidIncs.{all_both, all_map}
-use Rattle.arj_law_runs.specs.calls.Coords.{bare}
-use Rattle.arj_law_runs.proofs.calls.CoordSends.{AllSo, IsSentBy}
-use Rattle.arj_law_runs.proofs.addresses.Lists.{all_put, all_some, all_without}
-use Rattle.arj_law_promise.specs.waiting.Writers.{AnsweredIsBy, AskIsBy, AskedIsBy, CoordIsBy, EffectIsBy, IsBy, IsOwnOrBy, NowIsBy, PairIsBy, PlanIsBy, ReplyIsBy}
+use Rattle.arj_law_parts.proofs.Words
+use Words.{◌≡◌, ◌∙◌, ◌++◌, ℕ, Bool, true, false, cond, find, List, [], ◌∷◌, map, Option, Some, None, refl, sym, ap, subst, inl, inr, ⊎_elim}
+use Words.{IfSome, unwrap_or, ◌||◌, AllByRecursion, list_all, match_ordering, Ordering, Less, Equal, Greater, and_parts, uid_order, Ask}
+use Words.{Asked, Head, Header, Message, ObjectState, Uid, asks, Reply, actor, answers, response, At, AtActivate, AtBind, AtInvoke, AtLoad}
+use Words.{AtNote, Goal, ask_at, Machine, Confirming, Plan, Preparing, Used, Voting, ask_of, changed_of, state_by, state_for, states_for}
+use Words.{Calling, Committing, Coord, Idle, Now, Abort, After, Before, Commit, Disk, Do, Effect, InPart, Intent, Look, Pair, Prepare}
+use Words.{PutInc, PutIntent, RemoveIntent, Say, Send, Stop, Work, moved_some, new_states, stopped, worked, tell_all, query_about, at_uid}
+use Words.{has, put_uid, AreAll, is_coord_effect, is_naming_effect, is_server_effect, restart_outs, tolds_again}
+use Words.ask
+use Words.ending
+use Words.message
+use Words.role
+use Rattle.arj_law_promise.proofs.Terms
+use Terms.{moved, AreTrue, is_of_coord, order_exact, all_both, all_map, bare, AllSo, IsSentBy, all_some, all_without, AnsweredIsBy, AskIsBy}
+use Terms.{AskedIsBy, CoordIsBy, EffectIsBy, IsBy, IsOwnOrBy, NowIsBy, PairIsBy, PlanIsBy, ReplyIsBy, restart_said}
 use Rattle.arj_law_promise.proofs.waiting.Known.{keyed_at}
-use Rattle.arj_law_serial.proofs.joint.Restarting.{restart_said}
+use Rattle.arj_law_runs.proofs.addresses.Lists.{all_put}
 
 -- a step of a call prepares nothing
 step_none : (x : ℕ) (g : Goal) (at : At) {states : List ObjectState} → ask.Prepare states ≡ ask_at x g [] at → ⊥
@@ -43,11 +28,13 @@ step_none x g (AtInvoke k i) is = cc is
 -- ---- pairs
 
 -- an entry that is put into a map, by its key
-pub put_at : {X : Type 0} (Q : Uid → X → Type 0) (u : Uid) (v : X) (m : List (Uid × X)) → Q u v → AllByRecursion (λ (e : Uid × X). Q e.0 e.1) m → AllByRecursion (λ (e : Uid × X). Q e.0 e.1) (put_uid u v m)
+pub put_at : {X : Type 0} (Q : Uid → X → Type 0) (u : Uid) (v : X) (m : List (Uid × X)) → Q u v →
+    AllByRecursion (λ (e : Uid × X). Q e.0 e.1) m → AllByRecursion (λ (e : Uid × X). Q e.0 e.1) (put_uid u v m)
 put_at Q u v [] its all = (its, tt)
 put_at {X} Q u v (e ∷ es) its all = by (uid_order u e.0) refl (put_at Q u v es its all.1)
   where
-    by : (r : Ordering) → uid_order u e.0 ≡ r → AllByRecursion (λ (z : Uid × X). Q z.0 z.1) (put_uid u v es) → AllByRecursion (λ (z : Uid × X). Q z.0 z.1) (match_ordering r ((u, v) ∷ e ∷ es) ((e.0, v) ∷ es) (e ∷ put_uid u v es))
+    by : (r : Ordering) → uid_order u e.0 ≡ r → AllByRecursion (λ (z : Uid × X). Q z.0 z.1) (put_uid u v es) →
+        AllByRecursion (λ (z : Uid × X). Q z.0 z.1) (match_ordering r ((u, v) ∷ e ∷ es) ((e.0, v) ∷ es) (e ∷ put_uid u v es))
     by Less order ih = (its, all)
     by Equal order ih = (subst (λ w. Q w v) (order_exact u e.0 order) its, all.1)
     by Greater order ih = (all.0, ih)
@@ -63,7 +50,8 @@ module _ (P : Uid → Type 0) where
   moved_so [] held its so = so
   moved_so (s ∷ ss) held its so = moved_so ss (put_uid s.uid s held) its.1 (put_so s held its.0 so)
 
-  some_so : (which : Uid → Bool) (ss : List ObjectState) (held : List (Uid × ObjectState)) → AllByRecursion (IsBy P) ss → Held held → Held (moved_some which ss held)
+  some_so : (which : Uid → Bool) (ss : List ObjectState) (held : List (Uid × ObjectState)) → AllByRecursion (IsBy P) ss → Held held →
+      Held (moved_some which ss held)
   some_so which [] held its so = so
   some_so which (s ∷ ss) held its so = some_so which ss (cond (which s.uid) (put_uid s.uid s held) held) its.1 (by (which s.uid))
     where
@@ -89,11 +77,20 @@ module _ (P : Uid → Type 0) where
   worked_so : (w : Work) (d : Disk) → EffectIsBy P (Do w) → Disks d → Disks (worked w d)
   worked_so Look d its so = so
   worked_so (PutInc i) d its so = so
-  worked_so (Prepare role.Store u states) d its so = record { held = so.held; pend = put_at (λ w (z : List ObjectState). AllByRecursion (IsOwnOrBy P w) z) u states d.store.pend its so.pend }
+  worked_so (Prepare role.Store u states) d its so = record {
+    held = so.held;
+    pend = put_at (λ w (z : List ObjectState). AllByRecursion (IsOwnOrBy P w) z) u states d.store.pend its so.pend;
+  }
   worked_so (Prepare role.Names u states) d its so = so
-  worked_so (Commit role.Store u) d its so = record { held = moved_so (new_states u d.store) d.store.held (new_so u d.store its so) so.held; pend = all_without (λ (e : Uid × List ObjectState). AllByRecursion (IsOwnOrBy P e.0) e.1) u d.store.pend so.pend }
+  worked_so (Commit role.Store u) d its so = record {
+    held = moved_so (new_states u d.store) d.store.held (new_so u d.store its so) so.held;
+    pend = all_without (λ (e : Uid × List ObjectState). AllByRecursion (IsOwnOrBy P e.0) e.1) u d.store.pend so.pend;
+  }
   worked_so (Commit role.Names u) d its so = so
-  worked_so (Abort role.Store u) d its so = record { held = so.held; pend = all_without (λ (e : Uid × List ObjectState). AllByRecursion (IsOwnOrBy P e.0) e.1) u d.store.pend so.pend }
+  worked_so (Abort role.Store u) d its so = record {
+    held = so.held;
+    pend = all_without (λ (e : Uid × List ObjectState). AllByRecursion (IsOwnOrBy P e.0) e.1) u d.store.pend so.pend;
+  }
   worked_so (Abort role.Names u) d its so = so
   worked_so (PutIntent u i) d its so = so
   worked_so (RemoveIntent u) d its so = so
@@ -101,7 +98,8 @@ module _ (P : Uid → Type 0) where
   pub stopped_so : (how : Stop) (w : Work) (d : Disk) → EffectIsBy P (Do w) → Disks d → Disks (stopped how w d)
   stopped_so Before w d its so = so
   stopped_so After w d its so = worked_so w d its so
-  stopped_so (InPart which) (Commit role.Store u) d its so = record { held = some_so which (new_states u d.store) d.store.held (new_so u d.store its so) so.held; pend = so.pend }
+  stopped_so (InPart which) (Commit role.Store u) d its so =
+      record { held = some_so which (new_states u d.store) d.store.held (new_so u d.store its so) so.held; pend = so.pend }
   stopped_so (InPart which) (Commit role.Names u) d its so = so
   stopped_so (InPart which) Look d its so = so
   stopped_so (InPart which) (PutInc i) d its so = so
@@ -179,9 +177,11 @@ module _ (P : Uid → Type 0) where
 
   module _ (Q : Uid → Type 0) (e : Coord) (so : CoordIsBy P Q e) where
     states_by : (n : ℕ) (u : Uid) (p : Plan) → PlanIsBy P u p → AllByRecursion (IsOwnOrBy P u) (states_for n p)
-    states_by n u p its = all_some (λ (v : Used). IfSome v.loaded (IsBy P)) (IsOwnOrBy P u) (state_for n p) p.used (λ v of. by v of (changed_of v.x p) (found _ p.changed its.changed)) its.loaded
+    states_by n u p its = all_some (λ (v : Used). IfSome v.loaded (IsBy P)) (IsOwnOrBy P u) (state_for n p) p.used
+        (λ v of. by v of (changed_of v.x p) (found _ p.changed its.changed)) its.loaded
       where
-        found : (test : ObjectState → Bool) (states : List ObjectState) → AllByRecursion (IsBy (λ w. w ≡ u)) states → IfSome (find test states) (IsBy (λ w. w ≡ u))
+        found : (test : ObjectState → Bool) (states : List ObjectState) → AllByRecursion (IsBy (λ w. w ≡ u)) states →
+            IfSome (find test states) (IsBy (λ w. w ≡ u))
         found test [] all = tt
         found test (s ∷ ss) all = one (test s) (found test ss all.1)
           where
@@ -193,7 +193,8 @@ module _ (P : Uid → Type 0) where
         loads None of = tt
         loads (Some st) of = inr of
 
-        by : (v : Used) → IfSome v.loaded (IsBy P) → (o : Option ObjectState) → IfSome o (IsBy (λ w. w ≡ u)) → IfSome (state_by n v o) (IsOwnOrBy P u)
+        by : (v : Used) → IfSome v.loaded (IsBy P) → (o : Option ObjectState) → IfSome o (IsBy (λ w. w ≡ u)) →
+            IfSome (state_by n v o) (IsOwnOrBy P u)
         by v of None none = one (has v.joins n)
           where
             one : (b : Bool) → IfSome (cond b v.loaded None) (IsOwnOrBy P u)
@@ -211,9 +212,11 @@ module _ (P : Uid → Type 0) where
         prepares : (states : List ObjectState) → a ≡ ask.Prepare states → AllByRecursion (IsOwnOrBy P (actor h.path)) states
         prepares states is = now s.doing.now refl (so.works (actor h.path) s.doing s.found)
           where
-            of_machine : (m : Machine) → ask.Prepare states ≡ ask_of m to → NowIsBy P (actor h.path) (Committing m) → AllByRecursion (IsOwnOrBy P (actor h.path)) states
+            of_machine : (m : Machine) → ask.Prepare states ≡ ask_of m to → NowIsBy P (actor h.path) (Committing m) →
+                AllByRecursion (IsOwnOrBy P (actor h.path)) states
             of_machine (Voting p left) same its = absurd (cc same)
-            of_machine (Preparing p left) same its = let e : states ≡ states_for to p = cc same in subst (AllByRecursion (IsOwnOrBy P (actor h.path))) (sym e) (states_by to (actor h.path) p its.0)
+            of_machine (Preparing p left) same its = let e : states ≡ states_for to p = cc same in
+                subst (AllByRecursion (IsOwnOrBy P (actor h.path))) (sym e) (states_by to (actor h.path) p its.0)
             of_machine (Confirming p) same its = absurd (cc same)
 
             now : (n : Now) → s.doing.now ≡ n → NowIsBy P (actor h.path) n → AllByRecursion (IsOwnOrBy P (actor h.path)) states
@@ -234,8 +237,12 @@ module _ (P : Uid → Type 0) where
     -- each message that it sends, and each record that it writes
     pub coord_fine : (es : List Effect) → AllSo e es → AreTrue e es → AreAll is_coord_effect es → Fine es
     coord_fine [] all true_it own = tt
-    coord_fine (Say b ∷ es) all true_it own = (tt, coord_fine es all.1 true_it.1 (and_parts (is_coord_effect (Say b)) (list_all is_coord_effect es) own).1)
-    coord_fine (Send to m ∷ es) all true_it own = ((asked (asks m) refl, answered), coord_fine es all.1 true_it.1 (and_parts (is_coord_effect (Send to m)) (list_all is_coord_effect es) own).1)
+    coord_fine (Say b ∷ es) all true_it own =
+        (tt, coord_fine es all.1 true_it.1 (and_parts (is_coord_effect (Say b)) (list_all is_coord_effect es) own).1)
+    coord_fine (Send to m ∷ es) all true_it own = (
+      (asked (asks m) refl, answered),
+      coord_fine es all.1 true_it.1 (and_parts (is_coord_effect (Send to m)) (list_all is_coord_effect es) own).1,
+    )
       where
         asked : (o : Option (Head × Ask)) → asks m ≡ o → AskedIsBy P o
         asked None is = tt
@@ -253,7 +260,8 @@ module _ (P : Uid → Type 0) where
 
   pub tells_fine : (telling : List (Uid × Intent)) → Fine (tolds_again telling)
   tells_fine [] = tt
-  tells_fine (e ∷ es) = let i = e.1 in fine_both (tell_all i.root true ((e.0, ending.Commit) ∷ []) i.nodes) (tolds_again es) (all_map (EffectIsBy P) _ i.nodes (λ w. (tt, tt))) (tells_fine es)
+  tells_fine (e ∷ es) = let i = e.1 in fine_both (tell_all i.root true ((e.0, ending.Commit) ∷ []) i.nodes) (tolds_again es)
+      (all_map (EffectIsBy P) _ i.nodes (λ w. (tt, tt))) (tells_fine es)
 
   -- ---- a restart
 

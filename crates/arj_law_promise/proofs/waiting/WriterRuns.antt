@@ -1,50 +1,31 @@
 -- Who wrote the states that stores have, at all nodes and in all messages: kept by each handler.
-use Rattle.std.proofs.Common.{◌≡◌, ◌≢◌, ◌⊎◌, ◌+◌, ◌==◌, ◌∙◌, ◌++◌, ℕ, zero, suc, Bool, true, false, cond, filter, List, [], ◌∷◌, length, map, Option, Some, None, refl, sym, ap, subst, inl, inr, ⊎_elim}
-use Rattle.std.specs.Prelude.{IfSome}
-use Rattle.std.specs.List.{AllByRecursion}
-use Rattle.arj_protocol.specs.Words.{Ask, Asked, Head, Header, Kind, Label, Message, ObjectLine, ObjectState, Uid, asks}
-use Rattle.arj_protocol.specs.Words.ask
-use Rattle.arj_protocol.specs.Words.loaded
-use Rattle.arj_protocol.specs.Words.role
-use Rattle.arj_protocol.specs.Words.voted
-use Rattle.arj_protocol.specs.Ask.{Reply, answers}
-use Rattle.arj_protocol.specs.Asking.{again_all, begin_action, heard}
-use Rattle.arj_protocol.specs.Commit.{Used, plan_of}
-use Rattle.arj_protocol.specs.Coord.{Calling, Committing, Coord, Doing, Idle, Now}
-use Rattle.arj_protocol.specs.Effect.{Abort, Commit, Disk, Do, Effect, Look, Pair, Prepare, PutInc, PutIntent, RemoveIntent, Say, Send, stopped, worked, After}
-use Rattle.arj_protocol.specs.Ending.{acked, answer_query}
-use Rattle.arj_protocol.specs.Follow.{tick_outs}
-use Rattle.arj_protocol.specs.Node.{Parts, Took, handle, holders, query_about, with_coord}
-use Rattle.arj_protocol.specs.Order.{has}
-use Rattle.arj_protocol.specs.Step.{Input, Node, acts, first_disk, first_state, parent_of, parts_in, put_states, refusal_up, restart_outs, tolds_again}
-use Rattle.arj_protocol.specs.Step as input
-use Rattle.arj_protocol.specs.Tree.{at_place, is_own}
-use Rattle.arj_protocol.specs.World.{format, is_serial_kind}
-use Rattle.arj_protocol.proofs.CoordSays.{acked_own, acts_own, again_own, heard_own, query_own}
-use Rattle.arj_law_parts.specs.parts.Actions.{Action, paths_of}
-use Rattle.arj_law_parts.specs.parts.Copies.{IsTree, Paths}
-use Rattle.arj_law_parts.specs.parts.Coords.{IsGoodCoord}
-use Rattle.arj_law_parts.proofs.parts.Begun.{begun_tree, path_found}
-use Rattle.arj_law_parts.proofs.parts.TrueSteps.{true_query, well_acked, well_acts, well_again, well_heard}
-use Rattle.arj_law_runs.specs.kept.Worlds.{IsGood, IsGoodOf, IsUp}
-use Rattle.arj_law_runs.proofs.kept.Handled.{it, own_of_disk, tops_of_disk}
-use Rattle.arj_law_parts.specs.moves.Keeps.{is_act}
-use Rattle.arj_law_parts.specs.moves.Seen.{In, at, given, posted, said, up}
-use Rattle.arj_promise.specs.Runs.{Post, Seen, see}
-use Rattle.arj_law_parts.specs.moves.Walks.{Up, Walks, halted}
-use Rattle.arj_law_runs.proofs.calls.CoordOuts.{acked_so, acts_so, again_so, heard_so, query_so}
-use Rattle.arj_law_runs.proofs.calls.Given.{KeepsGiven}
-use Rattle.arj_law_disk_view.proofs.view.FirstSeen.{first_at}
-use Rattle.arj_law_disk_view.proofs.view.Frames.{node_cases, node_here}
-use Rattle.arj_law_disk_view.proofs.running.Lists.{all_each}
-use Rattle.arj_law_promise.specs.waiting.Writers.{AnsweredIsBy, ArePastWriters, AskIsBy, AskedIsBy, CoordIsBy, EffectIsBy, IsBy, IsOwnOrBy, IsPastWriter, MessageIsBy, NodeIsBy, NowIsBy, PairIsBy, ReplyIsBy}
+use Rattle.arj_law_parts.proofs.Words
+use Words.{◌≡◌, ◌≢◌, ◌⊎◌, ◌+◌, ◌==◌, ◌∙◌, ◌++◌, ℕ, zero, suc, Bool, true, false, cond, filter, List, [], ◌∷◌, length, map, Option, Some}
+use Words.{None, refl, sym, ap, subst, inl, inr, ⊎_elim, IfSome, AllByRecursion, Ask, Asked, Head, Header, Kind, Label, Message, ObjectLine}
+use Words.{ObjectState, Uid, asks, Reply, answers, again_all, begin_action, heard, Used, plan_of, Calling, Committing, Coord, Doing, Idle}
+use Words.{Now, Abort, Commit, Disk, Do, Effect, Look, Pair, Prepare, PutInc, PutIntent, RemoveIntent, Say, Send, stopped, worked, After}
+use Words.{acked, answer_query, tick_outs, Parts, Took, handle, holders, query_about, with_coord, has, Input, Node, acts, first_disk}
+use Words.{first_state, parent_of, parts_in, put_states, refusal_up, restart_outs, tolds_again, at_place, is_own, format, is_serial_kind}
+use Words.{acked_own, acts_own, again_own, heard_own, query_own, Post, Seen, see}
+use Words.ask
+use Words.loaded
+use Words.role
+use Words.voted
+use Words.input
+use Rattle.arj_law_promise.proofs.Terms
+use Terms.{Action, paths_of, IsTree, Paths, IsGoodCoord, begun_tree, path_found, true_query, well_acked, well_acts, well_again, well_heard}
+use Terms.{IsGood, IsGoodOf, IsUp, it, own_of_disk, tops_of_disk, is_act, In, at, given, posted, said, up, Up, Walks, halted, acked_so}
+use Terms.{acts_so, again_so, heard_so, query_so, KeepsGiven, first_at, node_here, all_each, AnsweredIsBy, ArePastWriters, AskIsBy}
+use Terms.{AskedIsBy, CoordIsBy, EffectIsBy, IsBy, IsOwnOrBy, IsPastWriter, NowIsBy, PairIsBy, ReplyIsBy, some_is}
+use Rattle.arj_law_disk_view.proofs.view.Frames.{node_cases}
+use Rattle.arj_law_promise.proofs.waiting
+use waiting.{WriterHandled.handled_by}
+use waiting.WriterCommits.{IsTold, TellsIn, hears_so, plainly}
+use waiting.WriterCoords.{So, begins_so}
+use waiting.WriterNodes.{Fine, Held, coord_fine, fine_both, put_so, queries, restart_fine, stopped_so, tells_fine}
+use Rattle.arj_law_promise.specs.waiting.Writers.{MessageIsBy, NodeIsBy}
 use Rattle.arj_law_promise.proofs.waiting.WriterCommits as commits
-use Rattle.arj_law_promise.proofs.waiting.WriterCommits.{IsTold, TellsIn, hears_so, plainly}
-use Rattle.arj_law_promise.proofs.waiting.WriterCoords.{So, begins_so}
 use Rattle.arj_law_promise.proofs.waiting.WriterCoords as coords
-use Rattle.arj_law_promise.proofs.waiting.WriterHandled.{handled_by}
-use Rattle.arj_law_promise.proofs.waiting.WriterNodes.{Fine, Held, coord_fine, fine_both, put_so, queries, restart_fine, stopped_so, tells_fine}
-use Rattle.arj_law_runs.proofs.addresses.Lists.{some_is}
 
 -- ---- more writers
 
@@ -55,7 +36,8 @@ module _ (P Q : Uid → Type 0) (more : (w : Uid) → P w → Q w) where
   pair_wider : (d : Pair) → PairIsBy P d → PairIsBy Q d
   pair_wider d its = record {
     held = all_each (λ (e : Uid × ObjectState). IsBy P e.1) (λ (e : Uid × ObjectState). IsBy Q e.1) d.held (λ e. more e.1.writer) its.held;
-    pend = all_each (λ (e : Uid × List ObjectState). AllByRecursion (IsOwnOrBy P e.0) e.1) (λ (e : Uid × List ObjectState). AllByRecursion (IsOwnOrBy Q e.0) e.1) d.pend (λ e. all_each (IsOwnOrBy P e.0) (IsOwnOrBy Q e.0) e.1 (own_wider e.0)) its.pend;
+    pend = all_each (λ (e : Uid × List ObjectState). AllByRecursion (IsOwnOrBy P e.0) e.1) (λ (e : Uid × List ObjectState).
+        AllByRecursion (IsOwnOrBy Q e.0) e.1) d.pend (λ e. all_each (IsOwnOrBy P e.0) (IsOwnOrBy Q e.0) e.1 (own_wider e.0)) its.pend;
   }
 
   message_wider : (m : Message) → MessageIsBy P m → MessageIsBy Q m
@@ -94,7 +76,15 @@ module _ (P Q : Uid → Type 0) (more : (w : Uid) → P w → Q w) where
   works_wider : (u : Uid) (n : Now) → NowIsBy P u n → NowIsBy Q u n
   works_wider u Idle its = tt
   works_wider u (Calling s) its = tt
-  works_wider u (Committing m) its = let p = its.0 in (record { top = p.top; loaded = all_each (λ (v : Used). IfSome v.loaded (IsBy P)) (λ (v : Used). IfSome v.loaded (IsBy Q)) (plan_of m).used (λ v. by v.loaded) p.loaded; changed = p.changed }, its.1)
+  works_wider u (Committing m) its = let p = its.0 in (
+    record {
+      top = p.top;
+      loaded = all_each (λ (v : Used). IfSome v.loaded (IsBy P)) (λ (v : Used). IfSome v.loaded (IsBy Q)) (plan_of m).used
+          (λ v. by v.loaded) p.loaded;
+      changed = p.changed;
+    },
+    its.1,
+  )
     where
       by : (o : Option ObjectState) → IfSome o (IsBy P) → IfSome o (IsBy Q)
       by None so = tt
@@ -117,7 +107,8 @@ module _ (P Q : Uid → Type 0) (more : (w : Uid) → P w → Q w) where
   fine_wider es its = all_each (EffectIsBy P) (EffectIsBy Q) es effect_wider its
 
   coord_wider : (X Y : Uid → Type 0) → ((w : Uid) → X w → Y w) → (c : Coord) → CoordIsBy P X c → CoordIsBy Q Y c
-  coord_wider X Y to c so = let w = commits.wider P X Y to c so in record { works = λ u d does. works_wider u d.now (so.works u d does); roots = w.roots }
+  coord_wider X Y to c so = let w = commits.wider P X Y to c so in
+      record { works = λ u d does. works_wider u d.now (so.works u d does); roots = w.roots }
 
   node_wider : (n : Node) → NodeIsBy P n → NodeIsBy Q n
   node_wider n its = record { store = pair_wider n.disk.store its.store; live = λ t is. coord_wider P Q more t.coord (its.live t is) }
@@ -136,33 +127,50 @@ Others k M = (j : ℕ) (n : Node) → (j == k) ≡ false → M.nodes j ≡ Some 
 abbrev Posts : Seen → Type 0
 Posts M = (p : Post) → In p M.sent → MessageIsBy (IsPastWriter M.sent) p.message
 
-mine : (k : ℕ) (d : Disk) (live : Option Parts) (M : Seen) → ArePastWriters (at k d live M) → NodeIsBy (IsPastWriter M.sent) (record { number = k; disk = d; live = live })
-mine k d live M all = all.nodes k (record { number = k; disk = d; live = live }) (node_here M k (record { number = k; disk = d; live = live }))
+mine : (k : ℕ) (d : Disk) (live : Option Parts) (M : Seen) → ArePastWriters (at k d live M) →
+    NodeIsBy (IsPastWriter M.sent) (record { number = k; disk = d; live = live })
+mine k d live M all =
+    all.nodes k (record { number = k; disk = d; live = live }) (node_here M k (record { number = k; disk = d; live = live }))
 
 others : (k : ℕ) (d : Disk) (live : Option Parts) (M : Seen) → ArePastWriters (at k d live M) → Others k M
-others k d live M all j n apart is = all.nodes j n ((λ i. cond (apart i) (Some (record { number = k; disk = d; live = live })) (M.nodes j)) ∙ is)
+others k d live M all j n apart is =
+    all.nodes j n ((λ i. cond (apart i) (Some (record { number = k; disk = d; live = live })) (M.nodes j)) ∙ is)
 
-back : (k : ℕ) (d : Disk) (live : Option Parts) (M : Seen) → NodeIsBy (IsPastWriter M.sent) (record { number = k; disk = d; live = live }) → Others k M → Posts M → ArePastWriters (at k d live M)
+back : (k : ℕ) (d : Disk) (live : Option Parts) (M : Seen) → NodeIsBy (IsPastWriter M.sent) (record { number = k; disk = d; live = live }) →
+    Others k M → Posts M → ArePastWriters (at k d live M)
 back k d live M its o posts = record {
-  nodes = λ j n there. ⊎_elim (λ (z : (j ≡ k) × (record { number = k; disk = d; live = live } ≡ n)). subst (NodeIsBy (IsPastWriter M.sent)) z.1 its) (λ (z : ((j == k) ≡ false) × (M.nodes j ≡ Some n)). o j n z.0 z.1) (node_cases M k (record { number = k; disk = d; live = live }) j n there);
+  nodes = λ j n there. ⊎_elim (λ (z : (j ≡ k) × (record { number = k; disk = d; live = live } ≡ n)).
+      subst (NodeIsBy (IsPastWriter M.sent)) z.1 its) (λ (z : ((j == k) ≡ false) × (M.nodes j ≡ Some n)). o j n z.0 z.1)
+      (node_cases M k (record { number = k; disk = d; live = live }) j n there);
   posts = posts;
 }
 
 down_by : (e k : ℕ) (d : Disk) (M : Seen) → PairIsBy (IsPastWriter M.sent) d.store → Others k M → Posts M → ArePastWriters (halted e k d M)
-down_by e k d M its o posts = let b = back k d None M (record { store = its; live = λ t is. absurd (cc is) }) o posts in record { nodes = b.nodes; posts = b.posts }
+down_by e k d M its o posts = let b = back k d None M (record { store = its; live = λ t is. absurd (cc is) }) o posts in
+    record { nodes = b.nodes; posts = b.posts }
 
 -- whatever a node does
-walk : (e k : ℕ) (v : Parts) (outs : List Effect) (d : Disk) (M : Seen) → PairIsBy (IsPastWriter M.sent) d.store → IsTold (IsPastWriter M.sent) (record { part = v.coord; outs = outs }) → Fine (IsPastWriter M.sent) outs → Others k M → Posts M → Walks ArePastWriters e k outs (Up ArePastWriters k v) d M
-walk e k v [] d M its told fine o posts = back k d (Some v) M (record { store = its; live = λ t is. subst (λ (z : Parts). So (IsPastWriter M.sent) z.coord) (some_is is) (coord_wider (IsPastWriter M.sent) (IsPastWriter M.sent) (λ w z. z) (λ w. IsPastWriter M.sent w ⊎ TellsIn [] w) (IsPastWriter M.sent) (λ w. ⊎_elim (λ z. z) (λ none. absurd none)) v.coord told) }) o posts
+walk : (e k : ℕ) (v : Parts) (outs : List Effect) (d : Disk) (M : Seen) → PairIsBy (IsPastWriter M.sent) d.store →
+    IsTold (IsPastWriter M.sent) (record { part = v.coord; outs = outs }) → Fine (IsPastWriter M.sent) outs → Others k M → Posts M →
+    Walks ArePastWriters e k outs (Up ArePastWriters k v) d M
+walk e k v [] d M its told fine o posts = back k d (Some v) M (record {
+  store = its;
+  live = λ t is. subst (λ (z : Parts). So (IsPastWriter M.sent) z.coord) (some_is is)
+      (coord_wider (IsPastWriter M.sent) (IsPastWriter M.sent) (λ w z. z) (λ w. IsPastWriter M.sent w ⊎ TellsIn [] w) (IsPastWriter M.sent)
+      (λ w. ⊎_elim (λ z. z) (λ none. absurd none)) v.coord told);
+}) o posts
 walk e k v (Do w ∷ es) d M its told fine o posts = (
   (λ how. down_by e k (stopped how w d) M (stopped_so (IsPastWriter M.sent) how w d fine.0 its) o posts),
   walk e k v es (worked w d) M (stopped_so (IsPastWriter M.sent) After w d fine.0 its) told fine.1 o posts,
 )
 walk e k v (Say b ∷ es) d M its told fine o posts = walk e k v es d (said e (b ∷ []) M) its told fine.1 o posts
-walk e k v (Send to m ∷ es) d M its told fine o posts = λ many quiet. walk e k v es d (said e many (posted (record { from = k; to = to; message = m }) M))
-    (pair_wider P Q more d.store its) (coord_wider P Q more (λ w. P w ⊎ TellsIn (Send to m ∷ es) w) (λ w. Q w ⊎ TellsIn es w) tells v.coord told) (fine_wider P Q more es fine.1)
+walk e k v (Send to m ∷ es) d M its told fine o posts =
+    λ many quiet. walk e k v es d (said e many (posted (record { from = k; to = to; message = m }) M))
+    (pair_wider P Q more d.store its) (coord_wider P Q more (λ w. P w ⊎ TellsIn (Send to m ∷ es) w) (λ w. Q w ⊎ TellsIn es w) tells v.coord
+    told) (fine_wider P Q more es fine.1)
     (λ j n apart is. node_wider P Q more n (o j n apart is))
-    (λ p. ⊎_elim (λ same. subst (λ (z : Post). MessageIsBy Q z.message) same (message_wider P Q more m fine.0)) (λ old. message_wider P Q more p.message (posts p old)))
+    (λ p. ⊎_elim (λ same. subst (λ (z : Post). MessageIsBy Q z.message) same (message_wider P Q more m fine.0))
+    (λ old. message_wider P Q more p.message (posts p old)))
   where
     P : Uid → Type 0
     P = IsPastWriter M.sent
@@ -173,14 +181,16 @@ walk e k v (Send to m ∷ es) d M its told fine o posts = λ many quiet. walk e 
     more : (w : Uid) → IsPastWriter M.sent w → IsPastWriter (record { from = k; to = to; message = m } ∷ M.sent) w
     more w = past_more (record { from = k; to = to; message = m }) M.sent w
 
-    tells : (w : Uid) → IsPastWriter M.sent w ⊎ TellsIn (Send to m ∷ es) w → IsPastWriter (record { from = k; to = to; message = m } ∷ M.sent) w ⊎ TellsIn es w
+    tells : (w : Uid) → IsPastWriter M.sent w ⊎ TellsIn (Send to m ∷ es) w →
+        IsPastWriter (record { from = k; to = to; message = m } ∷ M.sent) w ⊎ TellsIn es w
     tells w (inl old) = inl (more w old)
     tells w (inr (inl t)) = inl (inr (record { from = k; to = to; message = m }, inl refl, t.0, t.1))
     tells w (inr (inr late)) = inr late
 
 -- ---- a node of a good world
 
-module _ (begun : List Action) (e k : ℕ) (d : Disk) (t : Parts) (M : Seen) (good : IsGoodOf begun (up k d t M)) (all : ArePastWriters (up k d t M)) where
+module _ (begun : List Action) (e k : ℕ) (d : Disk) (t : Parts) (M : Seen) (good : IsGoodOf begun (up k d t M))
+    (all : ArePastWriters (up k d t M)) where
   abbrev paths : Paths
   paths = paths_of begun
 
@@ -205,10 +215,12 @@ module _ (begun : List Action) (e k : ℕ) (d : Disk) (t : Parts) (M : Seen) (go
   disk : PairIsBy (IsPastWriter M.sent) d.store
   disk = let n = mine k d (Some t) M all in n.store
 
-  go : (v : Parts) (outs : List Effect) → IsTold (IsPastWriter M.sent) (record { part = v.coord; outs = outs }) → Fine (IsPastWriter M.sent) outs → Walks ArePastWriters e k outs (Up ArePastWriters k v) d M
+  go : (v : Parts) (outs : List Effect) → IsTold (IsPastWriter M.sent) (record { part = v.coord; outs = outs }) →
+      Fine (IsPastWriter M.sent) outs → Walks ArePastWriters e k outs (Up ArePastWriters k v) d M
   go v outs told fine = walk e k v outs d M disk told fine (others k d (Some t) M all) all.posts
 
-  message_walk : (from : ℕ) (m : Message) (v : Parts) (outs : List Effect) → In (record { from = from; to = k; message = m }) M.sent → handle k d t from m ≡ Took v outs → Walks ArePastWriters e k outs (Up ArePastWriters k v) d M
+  message_walk : (from : ℕ) (m : Message) (v : Parts) (outs : List Effect) → In (record { from = from; to = k; message = m }) M.sent →
+      handle k d t from m ≡ Took v outs → Walks ArePastWriters e k outs (Up ArePastWriters k v) d M
   message_walk from m v outs there is = go v outs f.1 f.0
     where
       u : IsUp begun M.sent M.labels k d.inc t
@@ -217,38 +229,55 @@ module _ (begun : List Action) (e k : ℕ) (d : Disk) (t : Parts) (M : Seen) (go
       says : MessageIsBy (IsPastWriter M.sent) m
       says = all.posts (record { from = from; to = k; message = m }) there
 
-      hears : (a : Asked) (r : Reply) → answers m ≡ Some (a, r) → Fine (IsPastWriter M.sent) (heard from a r d.intents t.coord).outs × IsTold (IsPastWriter M.sent) (let q = heard from a r d.intents t.coord in record { part = q.part; outs = q.outs })
+      hears : (a : Asked) (r : Reply) → answers m ≡ Some (a, r) → Fine (IsPastWriter M.sent) (heard from a r d.intents t.coord).outs
+          × IsTold (IsPastWriter M.sent) (let q = heard from a r d.intents t.coord in record { part = q.part; outs = q.outs })
       hears a r of =
-          let q = heard from a r d.intents t.coord in
-          (coord_fine P (λ w. IsPastWriter M.sent w ⊎ TellsIn q.outs w) q.part so q.outs (heard_so begun paths tree t.coord coord u.numbered works from a r d.intents) (well_heard begun paths tree from a r d.intents t.coord coord).1 (heard_own from a r d.intents t.coord), so)
+          let q = heard from a r d.intents t.coord in (
+            coord_fine P (λ w. IsPastWriter M.sent w ⊎ TellsIn q.outs w) q.part so q.outs
+                (heard_so begun paths tree t.coord coord u.numbered works from a r d.intents)
+                (well_heard begun paths tree from a r d.intents t.coord coord).1 (heard_own from a r d.intents t.coord),
+            so,
+          )
         where
           by : ReplyIsBy (IsPastWriter M.sent) a r
           by = subst (AnsweredIsBy (IsPastWriter M.sent)) of says.1
 
           so : IsTold (IsPastWriter M.sent) (let q = heard from a r d.intents t.coord in record { part = q.part; outs = q.outs })
-          so = hears_so P from a r d.intents t.coord its (λ st same. subst (ReplyIsBy (IsPastWriter M.sent) a) same by) (λ states same. subst (ReplyIsBy (IsPastWriter M.sent) a) same by)
+          so = hears_so P from a r d.intents t.coord its (λ st same. subst (ReplyIsBy (IsPastWriter M.sent) a) same by)
+              (λ states same. subst (ReplyIsBy (IsPastWriter M.sent) a) same by)
 
-      acks : (w : Uid) → Fine (IsPastWriter M.sent) (acked from w d.intents t.coord).outs × So (IsPastWriter M.sent) (acked from w d.intents t.coord).part
-      acks w = let q = acked from w d.intents t.coord in let so = coords.acked_so P from w d.intents t.coord its in
-          (coord_fine P P q.part so q.outs (acked_so from w d.intents t.coord) (well_acked begun paths tree from w d.intents t.coord).1 (acked_own from w d.intents t.coord), so)
+      acks : (w : Uid) →
+          Fine (IsPastWriter M.sent) (acked from w d.intents t.coord).outs × So (IsPastWriter M.sent) (acked from w d.intents t.coord).part
+      acks w = let q = acked from w d.intents t.coord in let so = coords.acked_so P from w d.intents t.coord its in (
+        coord_fine P P q.part so q.outs (acked_so from w d.intents t.coord) (well_acked begun paths tree from w d.intents t.coord).1
+            (acked_own from w d.intents t.coord),
+        so,
+      )
 
       answers_it : (w : Uid) → Fine (IsPastWriter M.sent) (answer_query from w d.intents t.coord)
-      answers_it w = coord_fine P P t.coord its (answer_query from w d.intents t.coord) (query_so t.coord from w d.intents t.coord) (true_query begun paths tree from w d.intents t.coord (tops_of_disk e k d t M (begun, good)) (own_of_disk e k d t M (begun, good)) coord) (query_own from w d.intents t.coord)
+      answers_it w = coord_fine P P t.coord its (answer_query from w d.intents t.coord) (query_so t.coord from w d.intents t.coord)
+          (true_query begun paths tree from w d.intents t.coord (tops_of_disk e k d t M (begun, good)) (own_of_disk e k d t M (begun, good))
+          coord) (query_own from w d.intents t.coord)
 
       f : Fine (IsPastWriter M.sent) outs × IsTold (IsPastWriter M.sent) (record { part = v.coord; outs = outs })
-      f = handled_by M.sent k d t from disk its m (λ w how i. (record { from = from; to = k; message = m }, there, how, i)) hears acks answers_it says.0 v outs is
+      f = handled_by M.sent k d t from disk its m (λ w how i. (record { from = from; to = k; message = m }, there, how, i)) hears acks
+          answers_it says.0 v outs is
 
-  act_walk : (hd : Header) (i : Input) → is_act i ≡ true → refusal_up hd i t.coord ≡ None → Walks ArePastWriters e k (let r = acts i d.intents t.coord in r.outs) (Up ArePastWriters k (with_coord t (acts i d.intents t.coord).part)) d M
+  act_walk : (hd : Header) (i : Input) → is_act i ≡ true → refusal_up hd i t.coord ≡ None → Walks ArePastWriters e k
+      (let r = acts i d.intents t.coord in r.outs) (Up ArePastWriters k (with_coord t (acts i d.intents t.coord).part)) d M
   act_walk hd i is free =
       let r = acts i d.intents t.coord in
       let u = its_up in
       let so = commits.acts_so P i d.intents t.coord its in
-      go (with_coord t r.part) r.outs so (coord_fine P (λ w. IsPastWriter M.sent w ⊎ TellsIn r.outs w) r.part so r.outs (acts_so begun paths tree t.coord coord u.numbered works i d.intents other) (well_acts begun paths tree d.intents t.coord coord works hd i free other).1 (acts_own i d.intents t.coord))
+      go (with_coord t r.part) r.outs so (coord_fine P (λ w. IsPastWriter M.sent w ⊎ TellsIn r.outs w) r.part so r.outs
+      (acts_so begun paths tree t.coord coord u.numbered works i d.intents other)
+      (well_acts begun paths tree d.intents t.coord coord works hd i free other).1 (acts_own i d.intents t.coord))
     where
       other : (l : Label) (how : Kind) (parent : Option Label) → i ≢ input.Begin l how parent
       other l how parent same = let no_way : false ≡ true = sym (ap is_act same) ∙ is in cc no_way
 
-  tick_walk : Walks ArePastWriters e k (tick_outs (record { number = k; disk = d; live = Some t }) t) (Up ArePastWriters k (with_coord t (again_all t.coord.doings t.coord).part)) d M
+  tick_walk : Walks ArePastWriters e k (tick_outs (record { number = k; disk = d; live = Some t }) t)
+      (Up ArePastWriters k (with_coord t (again_all t.coord.doings t.coord).part)) d M
   tick_walk =
       let r = again_all t.coord.doings t.coord in
       let u = its_up in
@@ -256,7 +285,8 @@ module _ (begun : List Action) (e k : ℕ) (d : Disk) (t : Parts) (M : Seen) (go
       let outs = tick_outs (record { number = k; disk = d; live = Some t }) t in
       go (with_coord t r.part) outs (plainly P (record { part = r.part; outs = outs }) so)
       (fine_both P (r.outs ++ tolds_again t.coord.telling) (map query_about (holders d t)) (fine_both P r.outs (tolds_again t.coord.telling)
-      (coord_fine P P r.part so r.outs (again_so begun paths tree t.coord coord u.numbered works) (well_again begun paths tree t.coord coord).1 (again_own t.coord.doings t.coord))
+      (coord_fine P P r.part so r.outs (again_so begun paths tree t.coord coord u.numbered works)
+      (well_again begun paths tree t.coord coord).1 (again_own t.coord.doings t.coord))
       (tells_fine P t.coord.telling)) (queries P (holders d t)))
 
 -- ---- at first
@@ -272,11 +302,15 @@ fresh_by P k inc d = record { works = λ u q does. absurd (nothing u (is_own u (
 
 first_by : (hd : Header) → ArePastWriters (see [] (format hd))
 first_by hd = record {
-  nodes = λ k n is. subst (NodeIsBy (IsPastWriter [])) (first_at hd k n is) (record { store = record { held = states (filter (λ (o : ObjectLine). has o.stores k) hd.objects) [] tt; pend = tt }; live = λ t its. subst (λ (z : Parts). So (IsPastWriter []) z.coord) (some_is its) (fresh_by (IsPastWriter []) k 1 (first_disk hd k)) });
+  nodes = λ k n is. subst (NodeIsBy (IsPastWriter [])) (first_at hd k n is) (record {
+    store = record { held = states (filter (λ (o : ObjectLine). has o.stores k) hd.objects) [] tt; pend = tt };
+    live = λ t its. subst (λ (z : Parts). So (IsPastWriter []) z.coord) (some_is its) (fresh_by (IsPastWriter []) k 1 (first_disk hd k));
+  });
   posts = λ p none. absurd none;
 }
   where
-    states : (os : List ObjectLine) (held : List (Uid × ObjectState)) → Held (IsPastWriter []) held → Held (IsPastWriter []) (put_states (map first_state os) held)
+    states : (os : List ObjectLine) (held : List (Uid × ObjectState)) → Held (IsPastWriter []) held →
+        Held (IsPastWriter []) (put_states (map first_state os) held)
     states [] held so = so
     states (o ∷ os) held so = states os _ (put_so (IsPastWriter []) (first_state o) held (inl refl) so)
 
@@ -289,9 +323,13 @@ writers_given hd = record {
   begin = λ e k d t l how parent M new may free g p.
       let did = begin_action l how parent (parent_of parent t.coord) t.coord in
       let m = mine k d (Some t) M p in
-      walk e k (with_coord t did.part) did.outs d (given l (record { node = k; serial = is_serial_kind how }) M) m.store (plainly (IsPastWriter M.sent) did (begins_so (IsPastWriter M.sent) l how parent (parent_of parent t.coord) t.coord (m.live t refl))) (tt, tt) (others k d (Some t) M p) p.posts;
+      walk e k (with_coord t did.part) did.outs d (given l (record { node = k; serial = is_serial_kind how }) M) m.store (plainly
+      (IsPastWriter M.sent) did (begins_so (IsPastWriter M.sent) l how parent (parent_of parent t.coord) t.coord (m.live t refl)))
+      (tt, tt) (others k d (Some t) M p) p.posts;
   tick = λ e k d t M g p. tick_walk g.0 e k d t M g.1 p;
   restart = λ e k d M g p. let m = mine k d None M p in
-      walk e k (parts_in k (d.inc + 1) d) (restart_outs hd k (d.inc + 1) d) d M m.store (plainly (IsPastWriter M.sent) (record { part = (parts_in k (d.inc + 1) d).coord; outs = restart_outs hd k (d.inc + 1) d }) (fresh_by (IsPastWriter M.sent) k (d.inc + 1) d)) (restart_fine (IsPastWriter M.sent) hd k (d.inc + 1) d) (others k d None M p) p.posts;
+      walk e k (parts_in k (d.inc + 1) d) (restart_outs hd k (d.inc + 1) d) d M m.store (plainly (IsPastWriter M.sent)
+      (record { part = (parts_in k (d.inc + 1) d).coord; outs = restart_outs hd k (d.inc + 1) d }) (fresh_by (IsPastWriter M.sent) k
+      (d.inc + 1) d)) (restart_fine (IsPastWriter M.sent) hd k (d.inc + 1) d) (others k d None M p) p.posts;
   first = first_by hd;
 }

@@ -16,13 +16,15 @@ use Rattle.arj_promise.specs.Resting.{AreQuiet}
 use Rattle.arj_promise.specs.Disks.{DisksAre}
 use Rattle.arj_promise.specs.Resting.{HasNothingLeft}
 
--- Naming holds each entry as the journal gives it, and each listed store that is a node of the header the object's last committed state; and on
--- the disks of the header's nodes nothing is left.
+-- Naming holds each entry as the journal gives it, and each listed store that is a node of the header the object's last committed state;
+-- and on the disks of the header's nodes nothing is left.
 pub record HoldTheLast (hd : Header) (lines : List Line) (disks : Disks) : Type 0 where
   pub entries : (x : ℕ) → is_some (object_line hd x) ≡ true → held (disks 1) Names (entry x) ≡ Some (state_bytes (entry_state hd lines x))
-  pub stores : (x s : ℕ) → is_among (listed hd lines x) s ≡ true → (nat_le 1 s && nat_le s hd.nodes) ≡ true → held (disks s) Store (object x) ≡ Some (state_bytes (last_state hd lines x))
+  pub stores : (x s : ℕ) → is_among (listed hd lines x) s ≡ true → (nat_le 1 s && nat_le s hd.nodes) ≡ true →
+      held (disks s) Store (object x) ≡ Some (state_bytes (last_state hd lines x))
   pub nothing : (s : ℕ) → (nat_le 1 s && nat_le s hd.nodes) ≡ true → HasNothingLeft (disks s)
 
 -- So it is of clean disks where every node is idle.
 abbrev pub IdleDisksHoldTheLast : Type 0
-IdleDisksHoldTheLast = (hd : Header) (lines : List Line) (sent : List Post) (w : World) (disks : Disks) → HeaderInForm hd → Stands hd sent w → AreQuiet w → DisksAre (see [] w) disks → Clean hd lines disks → HoldTheLast hd lines disks
+IdleDisksHoldTheLast = (hd : Header) (lines : List Line) (sent : List Post) (w : World) (disks : Disks) → HeaderInForm hd →
+    Stands hd sent w → AreQuiet w → DisksAre (see [] w) disks → Clean hd lines disks → HoldTheLast hd lines disks

@@ -1,5 +1,5 @@
--- Each run shows one outcome of each top, whatever stops fall in it: what stores abort of a decided one has a cause, and naming aborts nothing
--- of it.
+-- Each run shows one outcome of each top, whatever stops fall in it: what stores abort of a decided one has a cause, and naming aborts
+-- nothing of it.
 use Rattle.std.specs.Prelude.{◌≡◌, ℕ, true, false, List, ◌∷◌, ◌++◌}
 use Rattle.arj_base.specs.declared.mode.End.TheVariants as ending
 use Rattle.arj_base.specs.declared.uid.Uid.{Uid}
@@ -13,7 +13,8 @@ use Rattle.arj_promise.specs.Outcome.{ShowsOneOutcome}
 
 -- what a store aborts of a decided top has a cause
 abbrev pub StoresHaveCauses : List Line → Type 0
-StoresHaveCauses lines = (before : List Line) (line : Line) (behind : List Line) (n : ℕ) (u : Uid) → lines ≡ before ++ line ∷ behind → line.body ≡ body.Done n u role.Store ending.Abort → is_said before u ≡ true → may_abort before role.Store n u ≡ true
+StoresHaveCauses lines = (before : List Line) (line : Line) (behind : List Line) (n : ℕ) (u : Uid) → lines ≡ before ++ line ∷ behind →
+    line.body ≡ body.Done n u role.Store ending.Abort → is_said before u ≡ true → may_abort before role.Store n u ≡ true
 
 -- so it is in every run
 abbrev pub StoresAbortByCauses : Type 0
@@ -21,7 +22,8 @@ StoresAbortByCauses = (hd : Header) (ms : List Move) → StoresHaveCauses (journ
 
 -- naming aborts nothing that it prepared for an action that was decided before
 abbrev pub AbortsNoneDecided : List Line → Type 0
-AbortsNoneDecided lines = (before : List Line) (line : Line) (behind : List Line) (n : ℕ) (u : Uid) → lines ≡ before ++ line ∷ behind → line.body ≡ body.Done n u role.Names ending.Abort → is_said before u ≡ false
+AbortsNoneDecided lines = (before : List Line) (line : Line) (behind : List Line) (n : ℕ) (u : Uid) → lines ≡ before ++ line ∷ behind →
+    line.body ≡ body.Done n u role.Names ending.Abort → is_said before u ≡ false
 
 -- so it is in every run
 abbrev pub NamingAbortsNoneDecided : Type 0

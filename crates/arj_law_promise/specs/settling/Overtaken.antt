@@ -16,10 +16,13 @@ use Rattle.arj_promise.specs.Waiting.{OnlyOvertakenWait, WaitsOvertaken}
 
 -- So it is after a quiesce of a run at whose end every node is up, whatever stops fall, and in which no limit is met.
 abbrev pub RunsLeaveOvertaken : Type 0
-RunsLeaveOvertaken = (hd : Header) → HeaderInForm hd → (ms : List Move) (m : Move) → let w = world_by hd ms in m.asked.event ≡ event.Quiesce → (moved m w).over ≡ false → AreUp (moved m w) → OnlyOvertakenWait (moved m w)
+RunsLeaveOvertaken = (hd : Header) → HeaderInForm hd → (ms : List Move) (m : Move) → let w = world_by hd ms in
+    m.asked.event ≡ event.Quiesce → (moved m w).over ≡ false → AreUp (moved m w) → OnlyOvertakenWait (moved m w)
 
--- So does whoever waits as such a quiesce begins, or a line of it answers it: an `ok` or `includes`, `committed`, a refusal with its cause, or `lost` where
--- naming has no store to ask.
+-- So does whoever waits as such a quiesce begins, or a line of it answers it: an `ok` or `includes`, `committed`, a refusal with its cause,
+-- or `lost` where naming has no store to ask.
 abbrev pub QuiescesAnswerTheRest : Type 0
-QuiescesAnswerTheRest = (hd : Header) → HeaderInForm hd → (ms : List Move) (m : Move) (k : ℕ) (c : Coord) (u : Uid) (q : Doing) → let w = world_by hd ms in m.asked.event ≡ event.Quiesce → (moved m w).over ≡ false → AreUp (moved m w)
-    → is_node k w ≡ true → coord_in (at_place k w.nodes) ≡ Some c → doing_of u c ≡ Some q → is_waiting_now q.now ≡ true → let v = moved m w in WaitsOvertaken v k u q ⊎ HasAnswer q w.lines v.lines
+QuiescesAnswerTheRest = (hd : Header) → HeaderInForm hd → (ms : List Move) (m : Move) (k : ℕ) (c : Coord) (u : Uid) (q : Doing) →
+    let w = world_by hd ms in m.asked.event ≡ event.Quiesce → (moved m w).over ≡ false → AreUp (moved m w)
+    → is_node k w ≡ true → coord_in (at_place k w.nodes) ≡ Some c → doing_of u c ≡ Some q → is_waiting_now q.now ≡ true →
+    let v = moved m w in WaitsOvertaken v k u q ⊎ HasAnswer q w.lines v.lines

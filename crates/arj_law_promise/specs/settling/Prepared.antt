@@ -75,4 +75,5 @@ pub record PreparedWereAsked (acts : List Action) (M : Seen) : Type 0 where
 
 -- Of this node's coordinator: each action that had something prepared by a request has ended there, or is at its commit.
 abbrev pub AskersAreSettled : List Post → ℕ → Coord → Type 0
-AskersAreSettled sent k c = (p : Post) (h : Head) (a : Ask) → In p sent → p.from ≡ k → asks p.message ≡ Some (h, a) → is_some (preparer h a) ≡ true → is_own (actor h.path) c.tree ≡ true → IsSettled (actor h.path) c
+AskersAreSettled sent k c = (p : Post) (h : Head) (a : Ask) → In p sent → p.from ≡ k → asks p.message ≡ Some (h, a) →
+    is_some (preparer h a) ≡ true → is_own (actor h.path) c.tree ≡ true → IsSettled (actor h.path) c

@@ -41,12 +41,14 @@ HandlersSettle = (hd : Header) → HeaderInForm hd → KeepsAsked hd (KnowsPrepa
 -- In every run a quiesce that begins where nobody waits and no frame is open, at whose end every node is up, whatever stops fall, and in
 -- which no limit is met, leaves every node idle, and its line says so.
 abbrev pub QuiescesIdle : Type 0
-QuiescesIdle = (hd : Header) → HeaderInForm hd → (ms : List Move) (m : Move) → let w = world_by hd ms in lowest_from 1 w.frames ≡ None → NobodyWaits w
+QuiescesIdle = (hd : Header) → HeaderInForm hd → (ms : List Move) (m : Move) → let w = world_by hd ms in
+    lowest_from 1 w.frames ≡ None → NobodyWaits w
     → m.asked.event ≡ event.Quiesce → (moved m w).over ≡ false → AreUp (moved m w) → EndsQuiet (moved m w)
 
 -- So does the stated round, in every run: a quiesce, giveups of each action that waits then, and a second quiesce, where every node is up
 -- at the end of both, whatever stops fall, and no limit is met (or any giveups behind which nobody waits).
 abbrev pub RoundsIdle : Type 0
 RoundsIdle = (hd : Header) → HeaderInForm hd
-    → (ms gs : List Move) (m n : Move) → let u = world_by hd ms in let v = moved m u in let w = all_moved gs v in m.asked.event ≡ event.Quiesce → AllByRecursion IsGiveUp gs → n.asked.event ≡ event.Quiesce
+    → (ms gs : List Move) (m n : Move) → let u = world_by hd ms in let v = moved m u in let w = all_moved gs v in
+    m.asked.event ≡ event.Quiesce → AllByRecursion IsGiveUp gs → n.asked.event ≡ event.Quiesce
     → AreUp v → AreGivenUp gs v ⊎ NobodyWaits w → (moved n w).over ≡ false → AreUp (moved n w) → EndsQuiet (moved n w)

@@ -81,8 +81,10 @@ Claims = Path → ℕ → Binding → ℕ → ℕ → Type 0
 
 -- A state that is sent is of the object for which was asked. A new binding goes to a Bind, and this is claimed of it.
 abbrev pub ReplyWasAsked : List Post → Claims → Post → Asked → Reply → Type 0
-ReplyWasAsked sent claims p a (Reply.Loaded (loaded.State st)) = (h : Head) × (x : ℕ) × IsAnsweredBy sent p a h (ask.Load x) × (st.uid ≡ object x)
-ReplyWasAsked sent claims p a (Reply.Bound (bound.Make b server g stores)) = (h : Head) × (x : ℕ) × (include : Bool) × (avoid : Binding) × IsAnsweredBy sent p a h (ask.Bind x include avoid) × claims h.path x b server g
+ReplyWasAsked sent claims p a (Reply.Loaded (loaded.State st)) =
+    (h : Head) × (x : ℕ) × IsAnsweredBy sent p a h (ask.Load x) × (st.uid ≡ object x)
+ReplyWasAsked sent claims p a (Reply.Bound (bound.Make b server g stores)) = (h : Head) × (x : ℕ) × (include : Bool) × (avoid : Binding)
+    × IsAnsweredBy sent p a h (ask.Bind x include avoid) × claims h.path x b server g
 ReplyWasAsked sent claims p a r = ⊤
 
 -- ---- calls
@@ -163,7 +165,8 @@ IsPlaced j inc o = (n : Naming) → o ≡ Some n → (j ≡ 1) × (n.inc ≤ inc
 -- made, and it is at node 1.
 pub record WereAsked (M : Seen) : Type 0 where
   pub replies : (p : Post) (a : Asked) (r : Reply) → In p M.sent → answers p.message ≡ Some (a, r) → ReplyWasAsked M.sent (WasMade M) p a r
-  pub activates : (p : Post) (h : Head) (b : Binding) (st : ObjectState) → In p M.sent → asks p.message ≡ Some (h, ask.Activate b st) → ActivateNamed M.sent (WasMade M) h b st
+  pub activates : (p : Post) (h : Head) (b : Binding) (st : ObjectState) → In p M.sent → asks p.message ≡ Some (h, ask.Activate b st) →
+      ActivateNamed M.sent (WasMade M) h b st
   pub servers : (j : ℕ) (n : Node) (t : Parts) → M.nodes j ≡ Some n → n.live ≡ Some t → ServerWasAsked M.sent t.server
   pub steps : (j : ℕ) (n : Node) (t : Parts) → M.nodes j ≡ Some n → n.live ≡ Some t → StepsNamed M.sent (WasMade M) t.coord
   pub namings : (j : ℕ) (n : Node) (t : Parts) → M.nodes j ≡ Some n → n.live ≡ Some t → MadeWasSaid (IsSaid M.lines) t.naming

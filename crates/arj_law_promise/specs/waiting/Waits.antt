@@ -49,8 +49,11 @@ HasStored d x = (is_some (holder_of (object x) d.store) || is_some (held_at (obj
 
 -- So it is where a Load that a call waits for has come. `settling/` gives it in every run.
 abbrev pub LoadsFind : (Seen → Type 0) → Type 0
-LoadsFind R = (j : ℕ) (d : Disk) (t : Parts) (M : Seen) (c : Coord) (u : Uid) (q : Doing) (s : Steps) (k : Known) (n : ℕ) (later : List ℕ) → R (up j d t M) → doing_of u c ≡ Some q → q.now ≡ Calling s → s.at ≡ AtLoad k n later → HasCome j (up j d t M) c (want_of_call u s) → HasStored d s.x
+LoadsFind R = (j : ℕ) (d : Disk) (t : Parts) (M : Seen) (c : Coord) (u : Uid) (q : Doing) (s : Steps) (k : Known) (n : ℕ) (later : List ℕ) →
+    R (up j d t M) → doing_of u c ≡ Some q → q.now ≡ Calling s → s.at ≡ AtLoad k n later → HasCome j (up j d t M) c (want_of_call u s) →
+    HasStored d s.x
 
 -- With it no request for which somebody waits is void, but one of a call that is overtaken. No other request needs anything.
 abbrev pub KnownGive : Type 0
-KnownGive = (hd : Header) → HeaderInForm hd → (test : Seen → Bool) → LoadsFind (λ M. WaitsAreKnown hd M × (test M ≡ true)) → AnswersWaits hd (λ M. WaitsAreKnown hd M × (test M ≡ true))
+KnownGive = (hd : Header) → HeaderInForm hd → (test : Seen → Bool) → LoadsFind (λ M. WaitsAreKnown hd M × (test M ≡ true)) →
+    AnswersWaits hd (λ M. WaitsAreKnown hd M × (test M ≡ true))

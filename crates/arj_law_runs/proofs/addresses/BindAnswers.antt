@@ -1,18 +1,16 @@
 -- What a root keeps of an object stays through each answer, and the next step stands on it.
-use Rattle.std.proofs.Common.{◌≡◌, ◌==◌, ◌&&◌, refl, ℕ, List, [], ◌∷◌, Bool, true, false, cond, Option, Some, None}
-use Rattle.std.specs.Prelude.{⊤}
-use Rattle.arj_protocol.specs.Words.{BoundReply, Op}
-use Rattle.arj_protocol.specs.Words.bound
-use Rattle.arj_protocol.specs.Words.invoked
-use Rattle.arj_protocol.specs.Words.loaded
-use Rattle.arj_protocol.specs.Words.recorded
-use Rattle.arj_protocol.specs.Ask.{Reply}
-use Rattle.arj_protocol.specs.Asking.{keeps_after}
-use Rattle.arj_protocol.specs.Call as calls
-use Rattle.arj_protocol.specs.Call.{At, AtActivate, AtBind, AtInvoke, AtLoad, AtNote, CallEnd, CallStep, Changed, Ended, Goal, Include, Known, Moved, On, Run, activated_by, answered, bound_answer, bound_by, finds, given_up, live_known, load_from, made_by, made_known, moves, named_again, or_lost, other_binding, recorded_kept, same_binding, two_bindings, two_incs, with_inc, write_known}
-use Rattle.arj_protocol.specs.Coord.{Keeping, is_call}
-use Rattle.arj_protocol.specs.Order.{binding_eq, binding_less}
-use Rattle.arj_law_runs.specs.addresses.Binds.{Answers, AnswersAt, IsThere, StandsOn}
+use Rattle.arj_law_parts.proofs.Words
+use Words.{◌≡◌, ◌==◌, ◌&&◌, refl, ℕ, List, [], ◌∷◌, Bool, true, false, cond, Option, Some, None, ⊤, BoundReply, Op, Reply, keeps_after, At}
+use Words.{AtActivate, AtBind, AtInvoke, AtLoad, AtNote, CallEnd, CallStep, Changed, Ended, Goal, Include, Known, Moved, On, Run}
+use Words.{activated_by, answered, bound_answer, bound_by, finds, given_up, live_known, load_from, made_by, made_known, moves, named_again}
+use Words.{or_lost, other_binding, recorded_kept, same_binding, two_bindings, two_incs, with_inc, write_known, Keeping, is_call, binding_eq}
+use Words.{binding_less}
+use Words.bound
+use Words.invoked
+use Words.loaded
+use Words.recorded
+use Words.calls
+use Rattle.arj_law_runs.proofs.Terms.{Answers, AnswersAt, IsThere, StandsOn}
 
 -- ---- what stands on a keeping
 
@@ -37,7 +35,8 @@ include_stands (Include x) old new (AtNote k i) none s = s
 include_stands (Include x) old new (AtInvoke k i) none s = s
 
 -- Of an include nothing is kept, so its keeping stays; a call's is the one after the step.
-pub after_there : (g : Goal) (b : Bool) (kept : Option Known) (k : Keeping) → (IsThere k.kept → IsThere kept) → IsThere k.kept → IsThere (let q = keeps_after g b kept k in q.kept)
+pub after_there : (g : Goal) (b : Bool) (kept : Option Known) (k : Keeping) → (IsThere k.kept → IsThere kept) → IsThere k.kept →
+    IsThere (let q = keeps_after g b kept k in q.kept)
 after_there (Run o) b kept k up there = up there
 after_there (Include s) b kept k up there = there
 
@@ -80,7 +79,8 @@ module _ (o : Op) (kept : Option Known) where
       by true = goes old at (s old)
       by false = record { keeps = λ there. tt; next = tt }
 
-  bound_well : (free : Bool) (k : Known) (at : At) (q : Option Known) → ((x : Known) → StandsOn (Run o) (Some x) at) → Well (bound_by free k at q)
+  bound_well : (free : Bool) (k : Known) (at : At) (q : Option Known) → ((x : Known) → StandsOn (Run o) (Some x) at) →
+      Well (bound_by free k at q)
   bound_well free k at None s = record { keeps = λ there. tt; next = s k }
   bound_well free k at (Some old) s = by (binding_eq old.binding k.binding)
     where
@@ -97,7 +97,8 @@ module _ (o : Op) (kept : Option Known) where
       by false = other (free && binding_less old.binding k.binding)
 
   naming_well : (free : Bool) (r : BoundReply) → Answers (Run o) r → Well (bound_answer free kept r)
-  naming_well free (bound.Live b server i n stores) fits = bound_well free (live_known b server i n stores) (AtInvoke (live_known b server i n stores) i) kept (λ k. tt)
+  naming_well free (bound.Live b server i n stores) fits =
+      bound_well free (live_known b server i n stores) (AtInvoke (live_known b server i n stores) i) kept (λ k. tt)
   naming_well free (bound.Make b server n stores) fits = by stores
     where
       by : (ss : List ℕ) → Well (made_by free (made_known b server n stores) kept (load_from (made_known b server n stores) ss))
@@ -122,7 +123,8 @@ module _ (o : Op) (kept : Option Known) where
       by true = goes (record old { recorded = true }) (AtInvoke k i) tt
       by false = goes old (AtInvoke k i) tt
 
-  pub call_moved : (free : Bool) (at : At) (r : Reply) → AnswersAt (Run o) at r → StandsOn (Run o) kept at → Well (answered free kept (Run o) at r)
+  pub call_moved : (free : Bool) (at : At) (r : Reply) → AnswersAt (Run o) at r → StandsOn (Run o) kept at →
+      Well (answered free kept (Run o) at r)
   call_moved free (AtBind avoid) (Reply.Bound r) fits s = naming_well free r fits
   call_moved free (AtLoad k n rest) (Reply.Loaded (loaded.State st)) fits s = record { keeps = λ there. there; next = s }
   call_moved free (AtLoad k n rest) (Reply.Loaded (loaded.InDoubt h)) fits s = ends _ tt
@@ -175,7 +177,8 @@ module _ (n : ℕ) (kept : Option Known) where
   Fine m = IsMoved (Include n) kept m
 
   -- an include that waits for a Bind or a Load
-  pub include_moved : (free : Bool) (at : At) (r : Reply) → AnswersAt (Include n) at r → StandsOn (Include n) kept at → Fine (answered free kept (Include n) at r)
+  pub include_moved : (free : Bool) (at : At) (r : Reply) → AnswersAt (Include n) at r → StandsOn (Include n) kept at →
+      Fine (answered free kept (Include n) at r)
   include_moved free (AtBind avoid) (Reply.Bound (bound.Live b server i g stores)) fits s = absurd fits
   include_moved free (AtBind avoid) (Reply.Bound (bound.Make b server g stores)) fits s = absurd fits
   include_moved free (AtBind avoid) (Reply.Bound (bound.Write g stores)) fits s = by stores
@@ -204,7 +207,8 @@ module _ (n : ℕ) (kept : Option Known) where
   include_moved free (AtNote k i) r fits s = absurd s
   include_moved free (AtInvoke k i) r fits s = absurd s
 
-pub moved_on : (free : Bool) (kept : Option Known) (g : Goal) (at : At) (r : Reply) → AnswersAt g at r → StandsOn g kept at → IsMoved g kept (answered free kept g at r)
+pub moved_on : (free : Bool) (kept : Option Known) (g : Goal) (at : At) (r : Reply) → AnswersAt g at r → StandsOn g kept at →
+    IsMoved g kept (answered free kept g at r)
 moved_on free kept (Run o) at r fits s = call_moved o kept free at r fits s
 moved_on free kept (Include n) at r fits s = include_moved n kept free at r fits s
 

@@ -1,42 +1,35 @@
 -- What nodes send: Binds of the steps that wait, and answers to the Binds that came.
-use Rattle.std.proofs.Common.{◌≡◌, ◌≤◌, ℕ, List, [], ◌∷◌, ◌++◌, Bool, true, false, cond, Option, Some, None, refl, sym, ◌∙◌, ap, subst, arith, map, filter}
-use Rattle.std.specs.Prelude.{⊤, IfSome, option_map}
-use Rattle.std.specs.List.{AllByRecursion, list_all}
-use Rattle.std.proofs.lemmas.Bool.{and_parts}
-use Rattle.arj_protocol.specs.Words.{Ask, Asked, Binding, BoundReply, End, Entry, Head, Message, ObjectState, Path, PreparedReply, Row, Uid, asks, object}
-use Rattle.arj_protocol.specs.Words.ask
-use Rattle.arj_protocol.specs.Words.ending
-use Rattle.arj_protocol.specs.Words.loaded
-use Rattle.arj_protocol.specs.Words.message
-use Rattle.arj_protocol.specs.Words.mode
-use Rattle.arj_protocol.specs.Words.prepared
-use Rattle.arj_protocol.specs.Ask.{Reply, actor, answers, asked_by, last_end, response}
-use Rattle.arj_protocol.specs.Asking.{heard}
-use Rattle.arj_protocol.specs.Call.{At, AtActivate, AtBind, AtInvoke, AtLoad, AtNote, Steps, ask_at, is_include}
-use Rattle.arj_protocol.specs.Confirm.{confirm}
-use Rattle.arj_protocol.specs.Coord.{Coord}
-use Rattle.arj_protocol.specs.Effect.{Already, Disk, Do, Effect, InDoubt, Old, Pair, Prep, Ready, Say, Send, Served, held_at, holder_of, is_prepared, prepare_answer, void}
-use Rattle.arj_protocol.specs.Ending.{acked, answer_query}
-use Rattle.arj_protocol.specs.Named.{Counted, Live, Made, Named, bind_call, bind_made, bind_named, conflict_on, include_asked, live_above, live_asked, made_above, make_asked}
-use Rattle.arj_protocol.specs.Naming as naming
-use Rattle.arj_protocol.specs.Naming.{Naming, is_over, listed_entry, on_counted}
-use Rattle.arj_protocol.specs.Node.{Handled, Parts, Took, Void, ack_told, by_reply, coord_heard, end_states, handle, handle_answer, handle_ask, handle_ends, handle_other, holders, if_naming, is_earlier, load_by, load_held, naming_told, prepare_by, query_about, sends_answer, serve, store_told, with_coord, with_naming, with_server}
-use Rattle.arj_protocol.specs.Order.{at_number, at_uid}
-use Rattle.arj_protocol.specs.Says.{AreAll, is_naming_effect, is_server_effect}
-use Rattle.arj_protocol.specs.Server as server
-use Rattle.arj_protocol.proofs.PartSays.{activate_own, bind_own, confirm_own, ends_own, invoke_own, note_own, told_own, vote_own}
-use Rattle.arj_law_parts.specs.parts.Claims.{AreTrue}
-use Rattle.arj_law_parts.specs.moves.Seen.{In}
-use Rattle.arj_promise.specs.Runs.{Post}
-use Rattle.arj_law_runs.proofs.calls.CoordOuts.{query_so}
-use Rattle.arj_law_runs.proofs.calls.CoordSends.{AllSo, IsSentBy}
-use Rattle.arj_law_runs.proofs.calls.WorldSteps.{no_answer, no_request, reads_back}
-use Rattle.arj_law_runs.specs.addresses.Binds.{IsAnswerOf, IsAsked, IsCounted, KnowsBinds}
+use Rattle.arj_law_parts.proofs.Words
+use Words.{◌≡◌, ◌≤◌, ℕ, List, [], ◌∷◌, ◌++◌, Bool, true, false, cond, Option, Some, None, refl, sym, ◌∙◌, ap, subst, arith, map, filter, ⊤}
+use Words.{IfSome, option_map, AllByRecursion, list_all, and_parts, Ask, Asked, Binding, BoundReply, End, Entry, Head, Message, ObjectState}
+use Words.{Path, PreparedReply, Row, Uid, asks, object, Reply, actor, answers, asked_by, last_end, response, heard, At, AtActivate, AtBind}
+use Words.{AtInvoke, AtLoad, AtNote, Steps, ask_at, is_include, confirm, Coord, Already, Disk, Do, Effect, InDoubt, Old, Pair, Prep, Ready}
+use Words.{Say, Send, Served, held_at, holder_of, is_prepared, prepare_answer, void, acked, answer_query, Counted, Live, Made, Named}
+use Words.{bind_call, bind_made, bind_named, conflict_on, include_asked, live_above, live_asked, made_above, make_asked, Naming, is_over}
+use Words.{listed_entry, on_counted, Handled, Parts, Took, Void, ack_told, by_reply, coord_heard, end_states, handle, handle_answer}
+use Words.{handle_ask, handle_ends, handle_other, holders, if_naming, is_earlier, load_by, load_held, naming_told, prepare_by, query_about}
+use Words.{sends_answer, serve, store_told, with_coord, with_naming, with_server, at_number, at_uid, AreAll, is_naming_effect}
+use Words.{is_server_effect, activate_own, bind_own, confirm_own, ends_own, invoke_own, note_own, told_own, vote_own, Post}
+use Words.ask
+use Words.ending
+use Words.loaded
+use Words.message
+use Words.mode
+use Words.prepared
+use Words.naming
+use Words.server
+use Rattle.arj_law_runs.proofs.Terms.{AreTrue, In, IsAnswerOf, KnowsBinds}
 use Rattle.arj_law_runs.proofs.addresses.Lists.{all_append, some_is}
+use Rattle.arj_law_runs.proofs.calls
+use calls.{CoordOuts.query_so}
+use calls.CoordSends.{AllSo, IsSentBy}
+use calls.WorldSteps.{no_answer, no_request, reads_back}
+use Rattle.arj_law_runs.specs.addresses.Binds.{IsAsked, IsCounted}
 
 -- ---- what naming answers to a Bind
 
-answers_so : (n x : ℕ) (p : Path) (include : Bool) (avoid : Binding) (e : Entry) (c : Counted) → IfSome (bind_named n x p include avoid e c).reply (IsAnswerOf include)
+answers_so : (n x : ℕ) (p : Path) (include : Bool) (avoid : Binding) (e : Entry) (c : Counted) →
+    IfSome (bind_named n x p include avoid e c).reply (IsAnswerOf include)
 answers_so n x p true avoid e c = by (conflict_on x p mode.Write c.named)
   where
     by : (r : Option Row) → IfSome (include_asked n x p e c r).reply (IsAnswerOf true)
@@ -60,7 +53,8 @@ answers_so n x p false avoid e c = by (live_above avoid c.named.live)
     by (Some l) = live l (conflict_on x p mode.Read c.named)
     by None = new (conflict_on x p mode.Write c.named)
 
-bind_answers : (p : Path) (x : ℕ) (include : Bool) (avoid : Binding) (d : Pair) (n : Naming) → IfSome (naming.bind p x include avoid d n).reply (IsAnswerOf include)
+bind_answers : (p : Path) (x : ℕ) (include : Bool) (avoid : Binding) (d : Pair) (n : Naming) →
+    IfSome (naming.bind p x include avoid d n).reply (IsAnswerOf include)
 bind_answers p x include avoid d n = by (is_over p n)
   where
     call : Counted → Served Counted BoundReply
@@ -79,7 +73,8 @@ bind_answers p x include avoid d n = by (is_over p n)
 -- A message that is sent: a Bind is of a step that waits at this coordinator, and an answer to a Bind is one to it.
 pub record IsFine (sent : List Post) (c : Coord) (to : ℕ) (m : Message) : Type 0 where
   pub bind : (h : Head) (x : ℕ) (include : Bool) (avoid : Binding) → asks m ≡ Some (h, ask.Bind x include avoid) → IsCounted c h include
-  pub reply : (a : Asked) (r : BoundReply) → answers m ≡ Some (a, Reply.Bound r) → (include : Bool) × IsAnswerOf include r × IsAsked sent to a include
+  pub reply : (a : Asked) (r : BoundReply) → answers m ≡ Some (a, Reply.Bound r) →
+      (include : Bool) × IsAnswerOf include r × IsAsked sent to a include
 
 abbrev pub FineEffect : List Post → Coord → Effect → Type 0
 FineEffect sent c (Send to m) = IsFine sent c to m
@@ -101,11 +96,18 @@ module _ (sent : List Post) (c : Coord) where
 
   -- neither a request nor an answer
   pub quiet : (to : ℕ) (m : Message) → asks m ≡ None → answers m ≡ None → IsFine sent c to m
-  quiet to m none no_reply = record { bind = λ h x include avoid is. absurd (none_at none is); reply = λ a r is. absurd (none_at no_reply is) }
+  quiet to m none no_reply =
+      record { bind = λ h x include avoid is. absurd (none_at none is); reply = λ a r is. absurd (none_at no_reply is) }
 
   -- a Bind of a coordinator is that of the step that waits
-  counts : (to : ℕ) (h : Head) (x : ℕ) (include : Bool) (avoid : Binding) → IsSentBy c to h (ask.Bind x include avoid) → IsCounted c h include
-  counts to h x include avoid s = record { doing = s.doing; found = s.found; low = number h.req (let d = s.doing in d.req) s.last; last = λ z now same. let f = s.step z now in flag z z.at f.same }
+  counts : (to : ℕ) (h : Head) (x : ℕ) (include : Bool) (avoid : Binding) → IsSentBy c to h (ask.Bind x include avoid) →
+      IsCounted c h include
+  counts to h x include avoid s = record {
+    doing = s.doing;
+    found = s.found;
+    low = number h.req (let d = s.doing in d.req) s.last;
+    last = λ z now same. let f = s.step z now in flag z z.at f.same;
+  }
     where
       number : (i j : ℕ) → i ≡ j → i ≤ j
       number i j is = omega (arith, is)
@@ -123,7 +125,13 @@ module _ (sent : List Post) (c : Coord) where
   -- what a coordinator sends
   pub sent_fine : (outs : List Effect) → AreTrue c outs → AllSo c outs → Fine outs
   sent_fine [] true_all so = tt
-  sent_fine (Send to m ∷ es) true_all so = let f = true_all.0 in (record { bind = λ h x include avoid is. counts to h x include avoid (so.0 h (ask.Bind x include avoid) is); reply = λ a r is. absurd (none_at (no_answer m f.plain) is) }, sent_fine es true_all.1 so.1)
+  sent_fine (Send to m ∷ es) true_all so = let f = true_all.0 in (
+    record {
+      bind = λ h x include avoid is. counts to h x include avoid (so.0 h (ask.Bind x include avoid) is);
+      reply = λ a r is. absurd (none_at (no_answer m f.plain) is);
+    },
+    sent_fine es true_all.1 so.1,
+  )
   sent_fine (Say b ∷ es) true_all so = (tt, sent_fine es true_all.1 so.1)
   sent_fine (Do w ∷ es) true_all so = (tt, sent_fine es true_all.1 so.1)
 
@@ -149,44 +157,70 @@ module _ (sent : List Post) (c : Coord) where
   IsOther r = (q : BoundReply) → r ≡ Reply.Bound q → ⊥
 
   response_fine : (to : ℕ) (a : Asked) (r : Reply) → IsOther r → IsFine sent c to (response a r)
-  response_fine to a r other = record { bind = λ h x include avoid is. absurd (none_at (no_request a r) is); reply = λ b q is. absurd (other q (ap (λ (z : Asked × Reply). z.1) (some_is (sym (reads_back a r) ∙ is)))) }
+  response_fine to a r other = record {
+    bind = λ h x include avoid is. absurd (none_at (no_request a r) is);
+    reply = λ b q is. absurd (other q (ap (λ (z : Asked × Reply). z.1) (some_is (sym (reads_back a r) ∙ is))));
+  }
 
 -- ---- one message
 
-module _ (sent : List Post) (k : ℕ) (d : Disk) (t : Parts) (from : ℕ) (m : Message) (posted : In (record { from = from; to = k; message = m }) sent) (its : KnowsBinds sent k t.coord) where
+module _ (sent : List Post) (k : ℕ) (d : Disk) (t : Parts) (from : ℕ) (m : Message)
+    (posted : In (record { from = from; to = k; message = m }) sent) (its : KnowsBinds sent k t.coord) where
   -- the coordinator knows its calls, and what is sent is fine
   abbrev By : Handled → Type 0
   By (Void outs) = ⊤
   By (Took v outs) = KnowsBinds sent k v.coord × AllFine sent v.coord outs
 
-  answered : (h : Head) (v : Parts) (outs : List Effect) (o : Option Reply) → KnowsBinds sent k v.coord → AllFine sent v.coord outs → ((r : Reply) → o ≡ Some r → IsFine sent v.coord from (response (asked_by h) r)) → By (sends_answer from h v outs o)
+  answered : (h : Head) (v : Parts) (outs : List Effect) (o : Option Reply) → KnowsBinds sent k v.coord → AllFine sent v.coord outs →
+      ((r : Reply) → o ≡ Some r → IsFine sent v.coord from (response (asked_by h) r)) → By (sends_answer from h v outs o)
   answered h v outs None knows all each = tt
-  answered h v outs (Some r) knows all each = (knows, fine_both sent v.coord outs (Send from (response (asked_by h) r) ∷ []) all (each r refl, tt))
+  answered h v outs (Some r) knows all each =
+      (knows, fine_both sent v.coord outs (Send from (response (asked_by h) r) ∷ []) all (each r refl, tt))
 
   -- answers of another kind
-  plain : {R : Type 0} (say : R → Reply) → ((q : R) → IsOther sent t.coord (say q)) → (v : Parts) (h : Head) (o : Option R) (r : Reply) → option_map say o ≡ Some r → IsFine sent v.coord from (response (asked_by h) r)
+  plain : {R : Type 0} (say : R → Reply) → ((q : R) → IsOther sent t.coord (say q)) → (v : Parts) (h : Head) (o : Option R) (r : Reply) →
+      option_map say o ≡ Some r → IsFine sent v.coord from (response (asked_by h) r)
   plain say other v h None r is = absurd (cc is)
-  plain say other v h (Some q) r is = subst (λ z. IsFine sent v.coord from (response (asked_by h) z)) (some_is is) (response_fine sent v.coord from (asked_by h) (say q) (other q))
+  plain say other v h (Some q) r is = subst (λ z. IsFine sent v.coord from (response (asked_by h) z)) (some_is is)
+      (response_fine sent v.coord from (asked_by h) (say q) (other q))
 
   with_it : (f : Naming → Handled) (o : Option Naming) → ((n : Naming) → By (f n)) → By (if_naming f o)
   with_it f None each = tt
   with_it f (Some n) each = each n
 
   asked : (h : Head) (a : Ask) → asks m ≡ Some (h, a) → By (serve k d t from h a)
-  asked h (ask.Bind x include avoid) is = with_it _ t.naming (λ n. let r = naming.bind h.path x include avoid d.names n in answered h (with_naming t r.part) r.outs (option_map Reply.Bound r.reply) its (naming_fine sent t.coord r.outs (bind_own h.path x include avoid d.names n)) (λ q at. bounds r.reply (bind_answers h.path x include avoid d.names n) q at))
+  asked h (ask.Bind x include avoid) is = with_it _ t.naming (λ n. let r = naming.bind h.path x include avoid d.names n in
+      answered h (with_naming t r.part) r.outs (option_map Reply.Bound r.reply) its (naming_fine sent t.coord r.outs
+      (bind_own h.path x include avoid d.names n)) (λ q at. bounds r.reply (bind_answers h.path x include avoid d.names n) q at))
     where
       was_asked : IsAsked sent from (asked_by h) include
-      was_asked = record { post = record { from = from; to = k; message = m }; head = h; object = x; avoid = avoid; posted = posted; sender = refl; asking = is; asker = refl }
+      was_asked = record {
+        post = record { from = from; to = k; message = m };
+        head = h;
+        object = x;
+        avoid = avoid;
+        posted = posted;
+        sender = refl;
+        asking = is;
+        asker = refl;
+      }
 
-      same_reply : (b : BoundReply) (a : Asked) (r : BoundReply) → ◌≡◌ {A = Option (Asked × Reply)} (Some (asked_by h, Reply.Bound b)) (Some (a, Reply.Bound r)) → (asked_by h ≡ a) × (b ≡ r)
-      same_reply b a r e = let same : ◌≡◌ {A = Asked × Reply} (asked_by h, Reply.Bound b) (a, Reply.Bound r) = some_is e in (ap (λ (z : Asked × Reply). z.0) same, bound_is b r (ap (λ (z : Asked × Reply). z.1) same))
+      same_reply : (b : BoundReply) (a : Asked) (r : BoundReply) →
+          ◌≡◌ {A = Option (Asked × Reply)} (Some (asked_by h, Reply.Bound b)) (Some (a, Reply.Bound r)) → (asked_by h ≡ a) × (b ≡ r)
+      same_reply b a r e = let same : ◌≡◌ {A = Asked × Reply} (asked_by h, Reply.Bound b) (a, Reply.Bound r) = some_is e in
+          (ap (λ (z : Asked × Reply). z.0) same, bound_is b r (ap (λ (z : Asked × Reply). z.1) same))
         where
           bound_is : (b r : BoundReply) → Reply.Bound b ≡ Reply.Bound r → b ≡ r
           bound_is b r e = let same : ◌≡◌ {A = Reply} (Reply.Bound b) (Reply.Bound r) = e in cc
 
-      bounds : (o : Option BoundReply) → IfSome o (IsAnswerOf include) → (q : Reply) → option_map Reply.Bound o ≡ Some q → IsFine sent t.coord from (response (asked_by h) q)
+      bounds : (o : Option BoundReply) → IfSome o (IsAnswerOf include) → (q : Reply) → option_map Reply.Bound o ≡ Some q →
+          IsFine sent t.coord from (response (asked_by h) q)
       bounds None answer q at = absurd (cc at)
-      bounds (Some b) answer q at = subst (λ z. IsFine sent t.coord from (response (asked_by h) z)) (some_is at) (record { bind = λ h2 y flag low no_way. absurd (none_at refl no_way); reply = λ a r e. let f = same_reply b a r e in (include, subst (IsAnswerOf include) f.1 answer, subst (λ z. IsAsked sent from z include) f.0 was_asked) })
+      bounds (Some b) answer q at = subst (λ z. IsFine sent t.coord from (response (asked_by h) z)) (some_is at) (record {
+        bind = λ h2 y flag low no_way. absurd (none_at refl no_way);
+        reply = λ a r e. let f = same_reply b a r e in
+            (include, subst (IsAnswerOf include) f.1 answer, subst (λ z. IsAsked sent from z include) f.0 was_asked);
+      })
   asked h (ask.Load x) is = load (holder_of (object x) d.store)
     where
       held : (s : Option ObjectState) → By (load_held from h t s)
@@ -196,10 +230,18 @@ module _ (sent : List Post) (k : ℕ) (d : Disk) (t : Parts) (from : ℕ) (m : M
       load : (o : Option Uid) → By (load_by x d.store from h t o)
       load (Some u) = (its, (response_fine sent t.coord from (asked_by h) (Reply.Loaded (loaded.InDoubt u)) (λ q e. cc e), tt))
       load None = held (held_at (object x) d.store)
-  asked h (ask.Activate b st) is = let r = server.activate k h.path b st t.server in answered h (with_server t r.part) r.outs (option_map Reply.Activated r.reply) its (server_fine sent t.coord k r.outs (activate_own k h.path b st t.server)) (plain Reply.Activated (λ i q e. cc e) (with_server t r.part) h r.reply)
-  asked h (ask.Record x b i g) is = with_it _ t.naming (λ n. let r = naming.note h.path x b i g n in answered h (with_naming t r.part) r.outs (option_map Reply.Noted r.reply) its (naming_fine sent t.coord r.outs (note_own h.path x b i g n)) (plain Reply.Noted (λ i q e. cc e) (with_naming t r.part) h r.reply))
-  asked h (ask.Invoke x b i ends o) is = let r = server.invoke k h x b i ends o t.server in answered h (with_server t r.part) r.outs (option_map Reply.Invoked r.reply) its (server_fine sent t.coord k r.outs (invoke_own k h x b i ends o t.server)) (plain Reply.Invoked (λ i q e. cc e) (with_server t r.part) h r.reply)
-  asked h (ask.Vote i ties ends) is = let r = server.vote k h.path i ties ends t.server in answered h (with_server t r.part) r.outs (option_map Reply.Voted r.reply) its (server_fine sent t.coord k r.outs (vote_own k h.path i ties ends t.server)) (plain Reply.Voted (λ i q e. cc e) (with_server t r.part) h r.reply)
+  asked h (ask.Activate b st) is = let r = server.activate k h.path b st t.server in
+      answered h (with_server t r.part) r.outs (option_map Reply.Activated r.reply) its (server_fine sent t.coord k r.outs
+      (activate_own k h.path b st t.server)) (plain Reply.Activated (λ i q e. cc e) (with_server t r.part) h r.reply)
+  asked h (ask.Record x b i g) is = with_it _ t.naming (λ n. let r = naming.note h.path x b i g n in
+      answered h (with_naming t r.part) r.outs (option_map Reply.Noted r.reply) its
+      (naming_fine sent t.coord r.outs (note_own h.path x b i g n)) (plain Reply.Noted (λ i q e. cc e) (with_naming t r.part) h r.reply))
+  asked h (ask.Invoke x b i ends o) is = let r = server.invoke k h x b i ends o t.server in
+      answered h (with_server t r.part) r.outs (option_map Reply.Invoked r.reply) its (server_fine sent t.coord k r.outs
+      (invoke_own k h x b i ends o t.server)) (plain Reply.Invoked (λ i q e. cc e) (with_server t r.part) h r.reply)
+  asked h (ask.Vote i ties ends) is = let r = server.vote k h.path i ties ends t.server in
+      answered h (with_server t r.part) r.outs (option_map Reply.Voted r.reply) its (server_fine sent t.coord k r.outs
+      (vote_own k h.path i ties ends t.server)) (plain Reply.Voted (λ i q e. cc e) (with_server t r.part) h r.reply)
   asked h (ask.Prepare states) is = each (is_prepared (actor h.path) d.store)
     where
       one : (p : PreparedReply) → IsFine sent t.coord from (response (asked_by h) (Reply.Prepared p))
@@ -211,10 +253,13 @@ module _ (sent : List Post) (k : ℕ) (d : Disk) (t : Parts) (from : ℕ) (m : M
       new (Old u v) = (its, (tt, (one (prepared.Old u.num v), tt)))
       new (InDoubt u holder) = (its, (tt, (one (prepared.InDoubt u.num holder), tt)))
 
-      each : (b : Bool) → By (cond b (sends_answer from h t [] (Some (Reply.Prepared prepared.Yes))) (prepare_by k states from h t (prepare_answer (actor h.path) states d.store)))
+      each : (b : Bool) → By (cond b (sends_answer from h t [] (Some (Reply.Prepared prepared.Yes)))
+          (prepare_by k states from h t (prepare_answer (actor h.path) states d.store)))
       each true = (its, (one prepared.Yes, tt))
       each false = new (prepare_answer (actor h.path) states d.store)
-  asked h (ask.Confirm grants excluded included) is = with_it _ t.naming (λ n. let r = confirm h.path grants excluded included d.names n in answered h (with_naming t r.part) r.outs (option_map Reply.Confirmed r.reply) its (naming_fine sent t.coord r.outs (confirm_own h.path grants excluded included d.names n)) (plain Reply.Confirmed (λ i q e. cc e) (with_naming t r.part) h r.reply))
+  asked h (ask.Confirm grants excluded included) is = with_it _ t.naming (λ n. let r = confirm h.path grants excluded included d.names n in
+      answered h (with_naming t r.part) r.outs (option_map Reply.Confirmed r.reply) its (naming_fine sent t.coord r.outs
+      (confirm_own h.path grants excluded included d.names n)) (plain Reply.Confirmed (λ i q e. cc e) (with_naming t r.part) h r.reply))
 
   coord_left : (r : Served Coord (Unit {0})) → KnowsBinds sent k r.part × AllFine sent r.part r.outs → By (coord_heard t r)
   coord_left r all = by r.reply
@@ -227,8 +272,12 @@ module _ (sent : List Post) (k : ℕ) (d : Disk) (t : Parts) (from : ℕ) (m : M
   ends_left ack ends None = (its, tt)
   ends_left ack ends (Some e) =
       let s = server.told k ends t.server in
-      let o = naming_told e.0 e.1 d.names t.naming in
-      (its, both (store_told k e.0 e.1 d.store ++ o.outs ++ s.outs) (ack_told from e.0 ack) (both (store_told k e.0 e.1 d.store ++ o.outs) s.outs (both (store_told k e.0 e.1 d.store) o.outs (stored (is_prepared e.0 d.store) e.1) (named t.naming)) (server_fine sent t.coord k s.outs (ends_own k ends t.server))) (acked_told ack))
+      let o = naming_told e.0 e.1 d.names t.naming in (
+        its,
+        both (store_told k e.0 e.1 d.store ++ o.outs ++ s.outs) (ack_told from e.0 ack) (both (store_told k e.0 e.1 d.store ++ o.outs)
+            s.outs (both (store_told k e.0 e.1 d.store) o.outs (stored (is_prepared e.0 d.store) e.1) (named t.naming))
+            (server_fine sent t.coord k s.outs (ends_own k ends t.server))) (acked_told ack),
+      )
     where
       both : (es fs : List Effect) → AllFine sent t.coord es → AllFine sent t.coord fs → AllFine sent t.coord (es ++ fs)
       both es fs a b = fine_both sent t.coord es fs a b
@@ -246,11 +295,16 @@ module _ (sent : List Post) (k : ℕ) (d : Disk) (t : Parts) (from : ℕ) (m : M
       acked_told true = (quiet sent t.coord from _ refl refl, tt)
       acked_told false = tt
 
-  module _ (hears : (a : Asked) (r : Reply) → answers m ≡ Some (a, r) → (let q = heard from a r d.intents t.coord in KnowsBinds sent k q.part × AllFine sent q.part q.outs)) (acks : (u : Uid) → (let q = acked from u d.intents t.coord in KnowsBinds sent k q.part × AllFine sent q.part q.outs)) (asks_query : (u : Uid) → AreTrue t.coord (answer_query from u d.intents t.coord)) where
+  module _ (hears : (a : Asked) (r : Reply) → answers m ≡ Some (a, r) → (let q = heard from a r d.intents t.coord in
+      KnowsBinds sent k q.part × AllFine sent q.part q.outs)) (acks : (u : Uid) → (let q = acked from u d.intents t.coord in KnowsBinds sent
+      k q.part × AllFine sent q.part q.outs)) (asks_query : (u : Uid) → AreTrue t.coord (answer_query from u d.intents t.coord)) where
     other : (m : Message) → By (handle_other k d t from m)
     other (message.Told m) = ends_left m.ack m.ends (last_end m.ends)
     other (message.Acked m) = coord_left (acked from m.act d.intents t.coord) (acks m.act)
-    other (message.Query m) = (its, sent_fine sent t.coord (answer_query from m.act d.intents t.coord) (asks_query m.act) (query_so t.coord from m.act d.intents t.coord))
+    other (message.Query m) = (
+      its,
+      sent_fine sent t.coord (answer_query from m.act d.intents t.coord) (asks_query m.act) (query_so t.coord from m.act d.intents t.coord),
+    )
     other (message.Hello m) = (its, queries sent t.coord (filter (is_earlier m.node m.inc) (holders d t)))
     other (message.Bind m) = tt
     other (message.Bound m) = tt
@@ -269,7 +323,8 @@ module _ (sent : List Post) (k : ℕ) (d : Disk) (t : Parts) (from : ℕ) (m : M
     other (message.Confirm m) = tt
     other (message.Confirmed m) = tt
 
-    pub handled_fine : (v : Parts) (outs : List Effect) → handle k d t from m ≡ Took v outs → KnowsBinds sent k v.coord × AllFine sent v.coord outs
+    pub handled_fine : (v : Parts) (outs : List Effect) → handle k d t from m ≡ Took v outs →
+        KnowsBinds sent k v.coord × AllFine sent v.coord outs
     handled_fine v outs is = subst By is (by (asks m) refl)
       where
         answer : (o : Option (Asked × Reply)) → answers m ≡ o → By (handle_answer k d t from m o)

@@ -1,17 +1,18 @@
 -- The steps of a call: whom they ask.
-use Rattle.std.proofs.Common.{◌==◌, ℕ, List, [], ◌∷◌, Bool, true, false, cond, ◌&&◌, Option, Some, None}
-use Rattle.std.specs.Prelude.{IfSome}
-use Rattle.arj_protocol.specs.Words.{Uid, Ask, Binding, BoundReply, End, Head, InvokedReply, LoadedReply, RecordedReply, request}
-use Rattle.arj_protocol.specs.Words.ask
-use Rattle.arj_protocol.specs.Words.bound
-use Rattle.arj_protocol.specs.Words.invoked
-use Rattle.arj_protocol.specs.Words.loaded
-use Rattle.arj_protocol.specs.Words.recorded
-use Rattle.arj_protocol.specs.Ask.{Reply}
-use Rattle.arj_protocol.specs.Call.{At, AtActivate, AtBind, AtInvoke, AtLoad, AtNote, Changed, Goal, Include, Known, Run, activated_by, answered, ask_at, bound_answer, bound_by, finds, given_up, invoked_answer, live_known, load_from, loaded_answer, made_by, made_known, moves, named_again, node_at, or_lost, other_binding, recorded_answer, recorded_kept, same_binding, start_at, two_bindings, two_incs, with_inc, write_known}
-use Rattle.arj_protocol.specs.Order.{binding_eq, binding_less}
-use Rattle.arj_law_runs.specs.addresses.Addresses.{AreOf, AskOf, AtOf, BoundOf, GoalOf, KeptOf, KnownFor, KnownOf, MessageOf, MovedOf, PathOf, ReplyOf, StepOf}
-use Rattle.arj_law_runs.specs.addresses.Binds.{Answers, AnswersAt}
+use Rattle.arj_law_parts.proofs.Words
+use Words.{◌==◌, ℕ, List, [], ◌∷◌, Bool, true, false, cond, ◌&&◌, Option, Some, None, IfSome, Uid, Ask, Binding, BoundReply, End, Head}
+use Words.{InvokedReply, LoadedReply, RecordedReply, request, Reply, At, AtActivate, AtBind, AtInvoke, AtLoad, AtNote, Changed, Goal}
+use Words.{Include, Known, Run, activated_by, answered, ask_at, bound_answer, bound_by, finds, given_up, invoked_answer, live_known}
+use Words.{load_from, loaded_answer, made_by, made_known, moves, named_again, node_at, or_lost, other_binding, recorded_answer}
+use Words.{recorded_kept, same_binding, start_at, two_bindings, two_incs, with_inc, write_known, binding_eq, binding_less}
+use Words.ask
+use Words.bound
+use Words.invoked
+use Words.loaded
+use Words.recorded
+use Rattle.arj_law_runs.proofs.Terms
+use Terms.{AreOf, AskOf, BoundOf, KeptOf, KnownOf, MessageOf, MovedOf, PathOf, ReplyOf, StepOf, Answers, AnswersAt}
+use Rattle.arj_law_runs.specs.addresses.Addresses.{AtOf, GoalOf, KnownFor}
 
 module _ (G : ℕ → Type 0) (one : G 1) where
   module _ (g : Goal) where
@@ -23,7 +24,8 @@ module _ (G : ℕ → Type 0) (one : G 1) where
         by true = (s, ks)
         by false = (tt, ks)
 
-    by_of : (free : Bool) (k : Known) (at : At) (kept : Option Known) → KnownOf G k → KeptOf G kept → AtOf G g at → MovedOf G g (bound_by free k at kept)
+    by_of : (free : Bool) (k : Known) (at : At) (kept : Option Known) → KnownOf G k → KeptOf G kept → AtOf G g at →
+        MovedOf G g (bound_by free k at kept)
     by_of free k at None ks had s = (s, ks)
     by_of free k at (Some old) ks had s = by (binding_eq old.binding k.binding)
       where
@@ -54,7 +56,8 @@ module _ (G : ℕ → Type 0) (one : G 1) where
         by true = with_of i old (AtNote k i) old.inc ks its
         by false = (its, ks)
 
-    noted_of : (k : Known) (i : ℕ) (kept : Option Known) → KeptOf G kept → KnownOf G k → (r : RecordedReply) → MovedOf G g (recorded_answer kept k i r)
+    noted_of : (k : Known) (i : ℕ) (kept : Option Known) → KeptOf G kept → KnownOf G k → (r : RecordedReply) →
+        MovedOf G g (recorded_answer kept k i r)
     noted_of k i kept ks its recorded.Yes = (its, by kept ks)
       where
         by : (o : Option Known) → KeptOf G o → KeptOf G (recorded_kept k o)
@@ -80,27 +83,33 @@ module _ (G : ℕ → Type 0) (one : G 1) where
   write_for (Run o) i stores fits all = absurd fits
   write_for (Include n) i stores fits all = all
 
-  bound_of : (free : Bool) (kept : Option Known) (g : Goal) → KeptOf G kept → (r : BoundReply) → Answers g r → BoundOf G r → MovedOf G g (bound_answer free kept r)
-  bound_of free kept g ks (bound.Live b server i n stores) fits rs = by_of g free (live_known b server i n stores) (AtInvoke (live_known b server i n stores) i) kept rs ks rs
-  bound_of free kept g ks (bound.Make b server n stores) fits rs = by (load_from (made_known b server n stores) stores) (loads_of g (made_known b server n stores) stores (known_for g (made_known b server n stores) rs) rs.1)
+  bound_of : (free : Bool) (kept : Option Known) (g : Goal) → KeptOf G kept → (r : BoundReply) → Answers g r → BoundOf G r →
+      MovedOf G g (bound_answer free kept r)
+  bound_of free kept g ks (bound.Live b server i n stores) fits rs =
+      by_of g free (live_known b server i n stores) (AtInvoke (live_known b server i n stores) i) kept rs ks rs
+  bound_of free kept g ks (bound.Make b server n stores) fits rs = by (load_from (made_known b server n stores) stores)
+      (loads_of g (made_known b server n stores) stores (known_for g (made_known b server n stores) rs) rs.1)
     where
       by : (o : Option At) → IfSome o (AtOf G g) → MovedOf G g (made_by free (made_known b server n stores) kept o)
       by None its = (tt, ks)
       by (Some at) its = by_of g free (made_known b server n stores) at kept rs ks its
-  bound_of free kept g ks (bound.Write n stores) fits rs = by (load_from (write_known n stores) stores) (loads_of g (write_known n stores) stores (write_for g n stores fits rs) rs)
+  bound_of free kept g ks (bound.Write n stores) fits rs =
+      by (load_from (write_known n stores) stores) (loads_of g (write_known n stores) stores (write_for g n stores fits rs) rs)
     where
       by : (o : Option At) → IfSome o (AtOf G g) → MovedOf G g (or_lost kept o)
       by None its = (tt, ks)
       by (Some at) its = (its, ks)
   bound_of free kept g ks (bound.Conflict holder m) fits rs = (tt, ks)
 
-  loaded_of : (kept : Option Known) → KeptOf G kept → (k : Known) (s : ℕ) (g : Goal) → GoalOf G g → KnownFor G g k → (r : LoadedReply) → MovedOf G g (loaded_answer kept k s g r)
+  loaded_of : (kept : Option Known) → KeptOf G kept → (k : Known) (s : ℕ) (g : Goal) → GoalOf G g → KnownFor G g k → (r : LoadedReply) →
+      MovedOf G g (loaded_answer kept k s g r)
   loaded_of kept ks k s (Run o) goal its (loaded.State st) = (its, ks)
   loaded_of kept ks k s (Include n) goal its (loaded.State st) = (goal, ks)
   loaded_of kept ks k s (Run o) goal its (loaded.InDoubt holder) = (tt, ks)
   loaded_of kept ks k s (Include n) goal its (loaded.InDoubt holder) = (tt, ks)
 
-  pub answered_of : (free : Bool) (kept : Option Known) (g : Goal) (at : At) (r : Reply) → GoalOf G g → AnswersAt g at r → KeptOf G kept → AtOf G g at → ReplyOf G r → MovedOf G g (answered free kept g at r)
+  pub answered_of : (free : Bool) (kept : Option Known) (g : Goal) (at : At) (r : Reply) → GoalOf G g → AnswersAt g at r → KeptOf G kept →
+      AtOf G g at → ReplyOf G r → MovedOf G g (answered free kept g at r)
   answered_of free kept g (AtBind avoid) (Reply.Bound r) goal fits ks so rs = bound_of free kept g ks r fits rs
   answered_of free kept g (AtLoad k s rest) (Reply.Loaded r) goal fits ks so rs = loaded_of kept ks k s g goal so.0 r
   answered_of free kept g (AtActivate k st) (Reply.Activated j) goal fits ks so rs = activated_of g k j kept ks so

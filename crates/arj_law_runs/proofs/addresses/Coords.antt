@@ -1,40 +1,47 @@
 -- What a coordinator does: whom it asks, tells and lists.
-use Rattle.std.proofs.Common.{◌≡◌, ◌∙◌, ◌+◌, ◌==◌, ℕ, zero, suc, List, [], ◌∷◌, ◌++◌, Bool, true, false, cond, not, ◌&&◌, ◌||◌, length, map, filter, nat_le, Option, Some, None, refl, sym, ap, subst, inl, inr, ⊎_elim, arith}
-use Rattle.std.specs.Prelude.{⊤, IfSome, unwrap_or}
-use Rattle.std.specs.List.{AllByRecursion, flat_map, list_any}
-use Rattle.arj_base.proofs.Uids.{uid_cases}
-use Rattle.arj_lock.proofs.Members.{In}
-use Rattle.arj_protocol.specs.Words.{Ask, Asked, Body, End, Kind, Label, ObjectState, Op, Path, Uid, uid_eq, uids_of}
-use Rattle.arj_protocol.specs.Words.body
-use Rattle.arj_protocol.specs.Words.cause
-use Rattle.arj_protocol.specs.Words.confirmed
-use Rattle.arj_protocol.specs.Words.ending
-use Rattle.arj_protocol.specs.Words.kind
-use Rattle.arj_protocol.specs.Words.prepared
-use Rattle.arj_protocol.specs.Words.voted
-use Rattle.arj_protocol.specs.Ask.{Reply, actor, top_of}
-use Rattle.arj_protocol.specs.Asking.{again_all, again_now, asks_all, asks_machine, asks_node, asks_step, begin_action, call, call_steps, commit_action, commit_open, commit_top, commits_in, doomed_by, end_line, gaveup_lines, give_up, give_up_doing, given_away, gives_up, goes_on, granted_by, heard, heard_by, heard_call, heard_doing, heard_none, heard_now, include, is_ended, is_invoke_ask, keeps_after, kept_at, known_at_start, last_req, mark_lines, moved_commit, next_req, notes_grant, renewed, root_heard, root_lost, root_moved, step_call, step_commit, store_of, waits_for_call, waits_for_commit, was_named}
-use Rattle.arj_protocol.specs.Call.{Answered, CallEnd, CallStep, Changed, Conflict, Ended, Goal, Included, Known, Lost, Moved, On, Steps, answered, given_up, has_changed, next_ask, next_node, spoils, start}
-use Rattle.arj_protocol.specs.Call as calls
-use Rattle.arj_protocol.specs.Commit.{Aborts, Asks, CommitStep, Confirming, Decides, Machine, Plan, Preparing, Stays, Used, Voting, ask_of, begin_confirm, begin_prepare, begin_vote, changed_of, further, has_record, included_of, is_marked, joins_left, left_of, marks_store, marks_stores, naming_node, nodes_given_up, participants, plan_of, servers_of, stores_by, stores_left, targets_of, votes_left, with_states}
-use Rattle.arj_protocol.specs.Commit as commit
-use Rattle.arj_protocol.specs.Coord.{Calling, Committing, Coord, Doing, Grant, Idle, Joined, Keeping, Now, Root, Said, Went, change_doing, doing_of, is_called, is_free, is_invoked_by, joined_with, joins_on, keeping_of, kept_of, known_for, later_state, new_coord, no_keeping, no_root, nodes_of, nodes_sent, nothing_known, objects_in, on_doing, on_root, plan_for, retains, root_at, same_join, same_said, same_went, servers_told, set_doing, used_of, used_with, with_keeping, with_said, with_went}
-use Rattle.arj_protocol.specs.Effect.{Did, Do, Effect, Intent, PutIntent, Served}
-use Rattle.arj_protocol.specs.Ending.{abort_action, aborts_with, acked, acked_by, acked_left, all_aborted, answer_decided, answer_query, answer_recorded, decide, decided_told, ended, ends_with, is_deferred, is_kept_commit, is_over, keeping_after, kept_after, let_go, root_after, root_or_self, say_for, says, tell, tell_all, tolds_by, tolds_let_go, tolds_of, tolds_of_branch, up_to}
-use Rattle.arj_protocol.specs.Order.{at_uid, each, has, number_set, put_uid, unbound, with_number, without_number, without_uid}
-use Rattle.arj_protocol.specs.Step.{Input, acts, begin_refusal, branch_named, branch_numbered, on_branch, parent_of, tolds_again}
-use Rattle.arj_protocol.specs.Step as input
-use Rattle.arj_protocol.specs.Tree.{Branch, Tree, at_place, branch_of, doomed_at, doomed_branch, ended_at, ended_branch, ends_of, family_of, is_open, is_own, next_uid, open_below, path_below, root_of, set_place, uses_object, with_family}
-use Rattle.arj_law_parts.proofs.parts.GoodCoords.{doomed_same, uses_same}
-use Rattle.arj_law_parts.proofs.parts.GoodTrees.{get_more, placed}
-use Rattle.arj_law_parts.proofs.parts.LivesNamed.{all_at, all_each, all_put as all_put_number}
-use Rattle.arj_law_parts.proofs.parts.Settled.{doing_other, doing_put, end_tree_on}
-use Rattle.arj_law_runs.specs.addresses.Addresses.{AllOf, AreOf, AskOf, CoordOf, EndOf, KeptOf, KnownOf, MachineOf, MovedOf, NowOf, PathOf, PlanOf, ReplyOf, RootOf, StepOf, StepsOf, StoreOf, UsedOf}
-use Rattle.arj_law_runs.specs.addresses.Binds.{AnswersAt, AnswersWaiting, IsThere, KeepsCalled}
-use Rattle.arj_law_runs.proofs.addresses.Begins.{below_is, shallow}
-use Rattle.arj_law_runs.proofs.addresses.Calls.{answered_of, asks_of, given_up_of, node_of, request_of, start_of}
-use Rattle.arj_law_runs.proofs.addresses.Lists.{all_append, all_at_uid, all_filter, all_flat, all_map, all_number, all_numbers, all_placed, all_put, all_set, all_without}
-use Rattle.arj_law_runs.proofs.addresses.Namings.{listed_after}
+use Rattle.arj_law_parts.proofs.Words
+use Words.{◌≡◌, ◌∙◌, ◌+◌, ◌==◌, ℕ, zero, suc, List, [], ◌∷◌, ◌++◌, Bool, true, false, cond, not, ◌&&◌, ◌||◌, length, map, filter, nat_le}
+use Words.{Option, Some, None, refl, sym, ap, subst, inl, inr, ⊎_elim, arith, ⊤, IfSome, unwrap_or, AllByRecursion, flat_map, list_any}
+use Words.{uid_cases, In, Ask, Asked, Body, End, Kind, Label, ObjectState, Op, Path, Uid, uid_eq, uids_of, Reply, actor, top_of, again_all}
+use Words.{again_now, asks_all, asks_machine, asks_node, asks_step, begin_action, call, call_steps, commit_action, commit_open, commit_top}
+use Words.{commits_in, doomed_by, end_line, gaveup_lines, give_up, give_up_doing, given_away, gives_up, goes_on, granted_by, heard}
+use Words.{heard_by, heard_call, heard_doing, heard_none, heard_now, include, is_ended, is_invoke_ask, keeps_after, kept_at, known_at_start}
+use Words.{last_req, mark_lines, moved_commit, next_req, notes_grant, renewed, root_heard, root_lost, root_moved, step_call, step_commit}
+use Words.{store_of, waits_for_call, waits_for_commit, was_named, Answered, CallEnd, CallStep, Changed, Conflict, Ended, Goal, Included}
+use Words.{Known, Lost, Moved, On, Steps, answered, given_up, has_changed, next_ask, next_node, spoils, start, Aborts, Asks, CommitStep}
+use Words.{Confirming, Decides, Machine, Plan, Preparing, Stays, Used, Voting, ask_of, begin_confirm, begin_prepare, begin_vote, changed_of}
+use Words.{further, has_record, included_of, is_marked, joins_left, left_of, marks_store, marks_stores, naming_node, nodes_given_up}
+use Words.{participants, plan_of, servers_of, stores_by, stores_left, targets_of, votes_left, with_states, Calling, Committing, Coord}
+use Words.{Doing, Grant, Idle, Joined, Keeping, Now, Root, Said, Went, change_doing, doing_of, is_called, is_free, joined_with, joins_on}
+use Words.{keeping_of, kept_of, known_for, later_state, new_coord, no_keeping, no_root, nodes_sent, nothing_known, objects_in, on_doing}
+use Words.{on_root, plan_for, retains, root_at, same_join, same_said, same_went, servers_told, set_doing, used_of, used_with, with_keeping}
+use Words.{with_said, with_went, Did, Do, Effect, Intent, PutIntent, Served, abort_action, aborts_with, acked, acked_by, acked_left}
+use Words.{all_aborted, answer_decided, answer_query, answer_recorded, decide, decided_told, ended, ends_with, is_deferred, is_kept_commit}
+use Words.{keeping_after, kept_after, let_go, root_after, root_or_self, say_for, says, tell, tell_all, tolds_by, tolds_let_go, tolds_of}
+use Words.{tolds_of_branch, up_to, at_uid, each, has, number_set, put_uid, unbound, with_number, without_number, without_uid, Input, acts}
+use Words.{begin_refusal, branch_named, branch_numbered, on_branch, parent_of, tolds_again, Branch, Tree, at_place, branch_of, doomed_at}
+use Words.{doomed_branch, ended_at, ended_branch, ends_of, family_of, is_open, is_own, next_uid, open_below, path_below, root_of, set_place}
+use Words.{uses_object, with_family}
+use Words.body
+use Words.cause
+use Words.confirmed
+use Words.ending
+use Words.kind
+use Words.prepared
+use Words.voted
+use Words.calls
+use Words.commit
+use Words.input
+use Rattle.arj_law_runs.proofs.Terms
+use Terms.{doomed_same, uses_same, get_more, placed, all_at, all_each, all_put as all_put_number, doing_other, doing_put, end_tree_on}
+use Terms.{AllOf, AreOf, AskOf, CoordOf, KeptOf, KnownOf, MovedOf, PathOf, ReplyOf, StepOf, AnswersAt, AnswersWaiting, IsThere, KeepsCalled}
+use Rattle.arj_law_runs.proofs.addresses
+use addresses.{Begins.below_is, Begins.shallow, Namings.listed_after}
+use addresses.Calls.{answered_of, asks_of, given_up_of, node_of, request_of, start_of}
+use addresses.Lists.{all_append, all_at_uid, all_filter, all_flat, all_map, all_number, all_numbers, all_placed, all_put, all_set}
+use addresses.Lists.{all_without}
+use Rattle.arj_law_runs.specs.addresses.Addresses.{EndOf, MachineOf, NowOf, PlanOf, RootOf, StepsOf, StoreOf, UsedOf}
+use Rattle.arj_protocol.specs.{Coord.is_invoked_by, Coord.nodes_of, Ending.is_over}
 
 module _ (G : ℕ → Type 0) (one : G 1) where
   -- ---- effects
@@ -69,7 +76,8 @@ module _ (G : ℕ → Type 0) (one : G 1) where
   kept_is x r so = all_at (λ (q : Keeping). KeptOf G q.kept) no_keeping tt x r.keeping so.keeping
 
   nodes_is : (ws : List Went) → AllByRecursion (λ (w : Went). G w.node) ws → AreOf G (nodes_of ws)
-  nodes_is ws all = all_numbers G (map (λ (w : Went). w.node) ws) (all_map (λ (w : Went). G w.node) G (λ (w : Went). w.node) ws (λ w s. s) all)
+  nodes_is ws all =
+      all_numbers G (map (λ (w : Went). w.node) ws) (all_map (λ (w : Went). G w.node) G (λ (w : Went). w.node) ws (λ w s. s) all)
 
   sent_is : (u : Uid) (r : Root) → RootOf G r → AreOf G (nodes_sent u r)
   sent_is u r so = nodes_is (filter _ r.went) (all_filter (λ (w : Went). G w.node) _ r.went so.went)
@@ -91,16 +99,22 @@ module _ (G : ℕ → Type 0) (one : G 1) where
       by true = so
       by false = record { went = so.went; joined = so.joined; keeping = so.keeping }
 
-  joined_is : (j : Joined) (js : List Joined) → G j.store → AllByRecursion (λ (i : Joined). G i.store) js → AllByRecursion (λ (i : Joined). G i.store) (joined_with j js)
+  joined_is : (j : Joined) (js : List Joined) → G j.store → AllByRecursion (λ (i : Joined). G i.store) js →
+      AllByRecursion (λ (i : Joined). G i.store) (joined_with j js)
   joined_is j [] its all = (its, tt)
   joined_is j (i ∷ js) its all = by (same_join j i) (joined_is j js its all.1)
     where
-      by : (b : Bool) → AllByRecursion (λ (h : Joined). G h.store) (joined_with j js) → AllByRecursion (λ (h : Joined). G h.store) (cond b (record i { loaded = later_state i.loaded j.loaded } ∷ js) (i ∷ joined_with j js))
+      by : (b : Bool) → AllByRecursion (λ (h : Joined). G h.store) (joined_with j js) → AllByRecursion (λ (h : Joined). G h.store)
+          (cond b (record i { loaded = later_state i.loaded j.loaded } ∷ js) (i ∷ joined_with j js))
       by true ih = all
       by false ih = (all.0, ih)
 
   keep_is : (x : ℕ) (k : Keeping) (r : Root) → KeptOf G k.kept → RootOf G r → RootOf G (with_keeping x k r)
-  keep_is x k r its so = record { went = so.went; joined = so.joined; keeping = all_put_number (λ (q : Keeping). KeptOf G q.kept) x k r.keeping its so.keeping }
+  keep_is x k r its so = record {
+    went = so.went;
+    joined = so.joined;
+    keeping = all_put_number (λ (q : Keeping). KeptOf G q.kept) x k r.keeping its so.keeping;
+  }
 
   goal_store : (g : Goal) → StoreOf G g → G (store_of g)
   goal_store (calls.Run o) its = absurd its
@@ -108,21 +122,35 @@ module _ (G : ℕ → Type 0) (one : G 1) where
 
   heard_is : (s : Steps) (e : CallEnd) (r : Root) → EndOf G s.goal e → RootOf G r → RootOf G (root_heard s e r)
   heard_is s (Answered a) r its so = said_is (record { path = uids_of s.path; x = s.x }) r so
-  heard_is s (Included st) r its so = record { went = so.went; joined = joined_is (record { path = uids_of s.path; x = s.x; store = store_of s.goal; loaded = st }) r.joined (goal_store s.goal its) so.joined; keeping = so.keeping }
+  heard_is s (Included st) r its so = record {
+    went = so.went;
+    joined = joined_is (record { path = uids_of s.path; x = s.x; store = store_of s.goal; loaded = st }) r.joined (goal_store s.goal its)
+        so.joined;
+    keeping = so.keeping;
+  }
   heard_is s (Conflict h m n) r its so = so
   heard_is s (Changed n w) r its so = so
   heard_is s (Lost n b) r its so = so
 
-  after_is : (g : Goal) (spoilt : Bool) (kept : Option Known) (k : Keeping) → KeptOf G kept → KeptOf G k.kept → KeptOf G (let q = keeps_after g spoilt kept k in q.kept)
+  after_is : (g : Goal) (spoilt : Bool) (kept : Option Known) (k : Keeping) → KeptOf G kept → KeptOf G k.kept →
+      KeptOf G (let q = keeps_after g spoilt kept k in q.kept)
   after_is (calls.Run o) spoilt kept k a b = a
   after_is (calls.Include s) spoilt kept k a b = b
 
   -- ---- from one coordinator to the next
 
-  on_root_is : (root : Uid) (f : Root → Root) (c : Coord) → ((r : Root) → RootOf G r → RootOf G (f r)) → CoordOf G c → CoordOf G (on_root root f c)
-  on_root_is root f c step k = record { node = k.node; paths = k.paths; works = k.works; roots = all_put_number (RootOf G) root.num (f (root_at root c)) c.roots (step (root_at root c) (root_is root c k)) k.roots; telling = k.telling }
+  on_root_is : (root : Uid) (f : Root → Root) (c : Coord) → ((r : Root) → RootOf G r → RootOf G (f r)) → CoordOf G c →
+      CoordOf G (on_root root f c)
+  on_root_is root f c step k = record {
+    node = k.node;
+    paths = k.paths;
+    works = k.works;
+    roots = all_put_number (RootOf G) root.num (f (root_at root c)) c.roots (step (root_at root c) (root_is root c k)) k.roots;
+    telling = k.telling;
+  }
 
-  on_do_is : (u : Uid) (f : Doing → Doing) (c : Coord) → ((d : Doing) → doing_of u c ≡ Some d → NowOf G (f d).now) → CoordOf G c → CoordOf G (on_doing u f c)
+  on_do_is : (u : Uid) (f : Doing → Doing) (c : Coord) → ((d : Doing) → doing_of u c ≡ Some d → NowOf G (f d).now) → CoordOf G c →
+      CoordOf G (on_doing u f c)
   on_do_is u f c so k = by (doing_of u c) refl
     where
       some_is : (a b : Doing) → Some a ≡ Some b → a ≡ b
@@ -133,13 +161,22 @@ module _ (G : ℕ → Type 0) (one : G 1) where
       by (Some old) found = record {
         node = k.node;
         paths = k.paths;
-        works = λ w d at. ⊎_elim (λ same. subst (λ (q : Doing). NowOf G q.now) (some_is (f old) d (sym (doing_put u (f old) old c found) ∙ ap (λ v. doing_of v (set_doing u (f old) c)) (sym same) ∙ at)) (so old found)) (λ other. k.works w d (sym (doing_other u w (f old) old c found other) ∙ at)) (uid_cases w u);
+        works = λ w d at. ⊎_elim (λ same. subst (λ (q : Doing). NowOf G q.now) (some_is (f old) d
+            (sym (doing_put u (f old) old c found) ∙ ap (λ v. doing_of v (set_doing u (f old) c)) (sym same) ∙ at)) (so old found))
+            (λ other. k.works w d (sym (doing_other u w (f old) old c found other) ∙ at)) (uid_cases w u);
         roots = k.roots;
         telling = k.telling;
       }
 
-  on_tree_is : (c : Coord) (v : Tree) → ((u : Uid) → is_own u v ≡ is_own u c.tree) → v.node ≡ c.tree.node → AllByRecursion (λ (b : Branch). PathOf G b.path) v.branches → CoordOf G c → CoordOf G (record c { tree = v })
-  on_tree_is c v own node paths k = record { node = subst G (sym node) k.node; paths = paths; works = λ u d at. k.works u d (sym (same u) ∙ at); roots = k.roots; telling = k.telling }
+  on_tree_is : (c : Coord) (v : Tree) → ((u : Uid) → is_own u v ≡ is_own u c.tree) → v.node ≡ c.tree.node →
+      AllByRecursion (λ (b : Branch). PathOf G b.path) v.branches → CoordOf G c → CoordOf G (record c { tree = v })
+  on_tree_is c v own node paths k = record {
+    node = subst G (sym node) k.node;
+    paths = paths;
+    works = λ u d at. k.works u d (sym (same u) ∙ at);
+    roots = k.roots;
+    telling = k.telling;
+  }
     where
       same : (u : Uid) → doing_of u (record c { tree = v }) ≡ doing_of u c
       same u = λ i. cond (own u i) (at_place u.num c.doings) None
@@ -158,18 +195,22 @@ module _ (G : ℕ → Type 0) (one : G 1) where
       by false at = let no_way : ◌≡◌ {A = Option Branch} None (Some b) = at in cc
 
   doomed_is : (u : Uid) (c : Coord) → CoordOf G c → CoordOf G (record c { tree = doomed_at u c.tree })
-  doomed_is u c k = let same = doomed_same u c.tree in on_tree_is c (doomed_at u c.tree) same.own (node_is (branch_of u c.tree)) (by (branch_of u c.tree) refl) k
+  doomed_is u c k = let same = doomed_same u c.tree in
+      on_tree_is c (doomed_at u c.tree) same.own (node_is (branch_of u c.tree)) (by (branch_of u c.tree) refl) k
     where
       node_is : (o : Option Branch) → (let t = doomed_branch u c.tree o in t.node) ≡ c.tree.node
       node_is None = refl
       node_is (Some b) = refl
 
-      by : (o : Option Branch) → branch_of u c.tree ≡ o → AllByRecursion (λ (b : Branch). PathOf G b.path) (let t = doomed_branch u c.tree o in t.branches)
+      by : (o : Option Branch) → branch_of u c.tree ≡ o →
+          AllByRecursion (λ (b : Branch). PathOf G b.path) (let t = doomed_branch u c.tree o in t.branches)
       by None is = k.paths
-      by (Some b) is = all_set (λ (q : Branch). PathOf G q.path) u.num (record b { doomed = true }) c.tree.branches (branch_is u b c is k) k.paths
+      by (Some b) is =
+          all_set (λ (q : Branch). PathOf G q.path) u.num (record b { doomed = true }) c.tree.branches (branch_is u b c is k) k.paths
 
   ended_is : (u : Uid) (e : End) (c : Coord) → CoordOf G c → CoordOf G (ended u e c)
-  ended_is u e c k = let g = end_tree_on u e c in idle_is u (record c { tree = ended_at u e c.tree }) (on_tree_is c (ended_at u e c.tree) g.own (node_is (branch_of u c.tree)) (by (branch_of u c.tree) refl) k)
+  ended_is u e c k = let g = end_tree_on u e c in idle_is u (record c { tree = ended_at u e c.tree })
+      (on_tree_is c (ended_at u e c.tree) g.own (node_is (branch_of u c.tree)) (by (branch_of u c.tree) refl) k)
     where
       listed : Branch → Bool → Tree
       listed b s =
@@ -188,7 +229,8 @@ module _ (G : ℕ → Type 0) (one : G 1) where
       paths_by b its true = all_set (λ (q : Branch). PathOf G q.path) u.num (record b { ended = Some e }) c.tree.branches its k.paths
       paths_by b its false = all_set (λ (q : Branch). PathOf G q.path) u.num (record b { ended = Some e }) c.tree.branches its k.paths
 
-      by : (o : Option Branch) → branch_of u c.tree ≡ o → AllByRecursion (λ (b : Branch). PathOf G b.path) (let t = ended_branch u e c.tree o in t.branches)
+      by : (o : Option Branch) → branch_of u c.tree ≡ o →
+          AllByRecursion (λ (b : Branch). PathOf G b.path) (let t = ended_branch u e c.tree o in t.branches)
       by None is = k.paths
       by (Some b) is = paths_by b (branch_is u b c is k) (nat_le (length (uids_of b.path)) 1)
 
@@ -199,17 +241,20 @@ module _ (G : ℕ → Type 0) (one : G 1) where
 
   asks_is : (p : Path) (req : ℕ) (a : ℕ × Ask) (c : Coord) → CoordOf G c → PathOf G p → G a.0 → AskOf G a.1 → IsDone (asks_node p req a c)
   asks_is p req a c k path to so = (
-    on_root_is (root_of p) (with_went (record { path = uids_of p; node = a.0; invoke = is_invoke_ask a.1 })) c (λ r s. went_is (record { path = uids_of p; node = a.0; invoke = is_invoke_ask a.1 }) r to s) k,
+    on_root_is (root_of p) (with_went (record { path = uids_of p; node = a.0; invoke = is_invoke_ask a.1 })) c
+        (λ r s. went_is (record { path = uids_of p; node = a.0; invoke = is_invoke_ask a.1 }) r to s) k,
     ((to, request_of G one (record { path = p; req = req }) a.1 path so), tt),
   )
 
   -- ---- calls
 
   step_is : (s : Steps) (c : Coord) → CoordOf G c → StepsOf G s → IsDone (asks_step s c)
-  step_is s c k so = asks_is s.path s.req (next_node s, next_ask (ends_of (root_of s.path) c.tree) s) c k so.path (node_of G one s.goal s.at so.at) (asks_of G one s.x s.goal (ends_of (root_of s.path) c.tree) s.at)
+  step_is s c k so = asks_is s.path s.req (next_node s, next_ask (ends_of (root_of s.path) c.tree) s) c k so.path
+      (node_of G one s.goal s.at so.at) (asks_of G one s.x s.goal (ends_of (root_of s.path) c.tree) s.at)
 
   goes_is : (s : Steps) (c : Coord) → CoordOf G c → StepsOf G s → IsDone (goes_on s c)
-  goes_is s c k so = step_is s (on_doing (actor s.path) (λ (d : Doing). record d { req = s.req; now = Calling s }) c) (on_do_is (actor s.path) (λ (d : Doing). record d { req = s.req; now = Calling s }) c (λ d found. so) k) so
+  goes_is s c k so = step_is s (on_doing (actor s.path) (λ (d : Doing). record d { req = s.req; now = Calling s }) c)
+      (on_do_is (actor s.path) (λ (d : Doing). record d { req = s.req; now = Calling s }) c (λ d found. so) k) so
 
   known_is : (top : Uid) (x : ℕ) (r : Root) (c : Coord) (o : Option Known) → KeptOf G o → KeptOf G (known_at_start top x r c o)
   known_is top x r c None so = tt
@@ -234,23 +279,32 @@ module _ (G : ℕ → Type 0) (one : G 1) where
       let kept = renewed (is_free (root_of p) (actor p) x c) old old.kept in
       let its = renewed_is (is_free (root_of p) (actor p) x c) old old.kept (kept_is x r (root_is (root_of p) c k)) in
       let u : Coord = record c { tree = uses_object p x c.tree } in
-      goes_is (call_steps p x o (next_req (actor p) c) r c kept) (on_root (root_of p) (with_keeping x kept) u) (on_root_is (root_of p) (with_keeping x kept) u (λ q so. keep_is x kept q its so) (uses_is p x c k))
-      (record { path = path; at = start_of G one (calls.Run o) (known_at_start (top_of p) x r c kept.kept) kept.avoid (known_is (top_of p) x r c kept.kept its); goal = tt })
+      goes_is (call_steps p x o (next_req (actor p) c) r c kept) (on_root (root_of p) (with_keeping x kept) u)
+      (on_root_is (root_of p) (with_keeping x kept) u (λ q so. keep_is x kept q its so) (uses_is p x c k))
+      (record {
+        path = path;
+        at = start_of G one (calls.Run o) (known_at_start (top_of p) x r c kept.kept) kept.avoid (known_is (top_of p) x r c kept.kept its);
+        goal = tt;
+      })
 
   include_is : (p : Path) (x s : ℕ) (c : Coord) → PathOf G p → G s → CoordOf G c → IsDone (include p x s c)
-  include_is p x s c path store k = goes_is (start p x (calls.Include s) None unbound (next_req (actor p) c)) (record c { tree = uses_object p x c.tree }) (uses_is p x c k) (record { path = path; at = tt; goal = store })
+  include_is p x s c path store k = goes_is (start p x (calls.Include s) None unbound (next_req (actor p) c))
+      (record c { tree = uses_object p x c.tree }) (uses_is p x c k) (record { path = path; at = tt; goal = store })
 
   step_call_is : (s : Steps) (t : CallStep) (c : Coord) → StepsOf G s → CoordOf G c → StepOf G s.goal t → IsDone (step_call s t c)
-  step_call_is s (On at) c its k so = goes_is (record s { req = s.req + 1; at = at }) c k (record { path = its.path; at = so; goal = its.goal })
+  step_call_is s (On at) c its k so =
+      goes_is (record s { req = s.req + 1; at = at }) c k (record { path = its.path; at = so; goal = its.goal })
   step_call_is s (Ended e) c its k so = (by e, lines (actor s.path) (end_line s.x s.goal e) c)
     where
       i : Coord
       i = on_root (root_of s.path) (root_heard s e) (on_doing (actor s.path) (λ (d : Doing). record d { now = Idle }) c)
 
       so_far : CoordOf G (on_root (root_of s.path) (root_heard s e) (on_doing (actor s.path) (λ (d : Doing). record d { now = Idle }) c))
-      so_far = on_root_is (root_of s.path) (root_heard s e) (on_doing (actor s.path) (λ (d : Doing). record d { now = Idle }) c) (λ r q. heard_is s e r so q) (idle_is (actor s.path) c k)
+      so_far = on_root_is (root_of s.path) (root_heard s e) (on_doing (actor s.path) (λ (d : Doing). record d { now = Idle }) c)
+          (λ r q. heard_is s e r so q) (idle_is (actor s.path) c k)
 
-      by : (g : CallEnd) → CoordOf G (doomed_by (actor s.path) g (on_root (root_of s.path) (root_heard s e) (on_doing (actor s.path) (λ (d : Doing). record d { now = Idle }) c)))
+      by : (g : CallEnd) → CoordOf G (doomed_by (actor s.path) g
+          (on_root (root_of s.path) (root_heard s e) (on_doing (actor s.path) (λ (d : Doing). record d { now = Idle }) c)))
       by (Answered a) = so_far
       by (Included st) = so_far
       by (Conflict h x n) = so_far
@@ -265,16 +319,21 @@ module _ (G : ℕ → Type 0) (one : G 1) where
   moved_is : (s : Steps) (r : Reply) (m : Moved) → MovedOf G s.goal m → (q : Root) → RootOf G q → RootOf G (root_moved s r m q)
   moved_is s r m its q so =
       let k = keeping_of s.x q in
-      keep_is s.x (keeps_after s.goal (has_changed m.step) m.kept k) (notes_grant (granted_by (top_of s.path) s.x r) q) (after_is s.goal (has_changed m.step) m.kept k its.1 (kept_is s.x q so)) (granted_is (granted_by (top_of s.path) s.x r) q so)
+      keep_is s.x (keeps_after s.goal (has_changed m.step) m.kept k) (notes_grant (granted_by (top_of s.path) s.x r) q)
+      (after_is s.goal (has_changed m.step) m.kept k its.1 (kept_is s.x q so)) (granted_is (granted_by (top_of s.path) s.x r) q so)
 
-  heard_call_is : (s : Steps) (r : Reply) (c : Coord) → CoordOf G c → StepsOf G s → AnswersAt s.goal s.at r → ReplyOf G r → IsDone (heard_call s r c)
+  heard_call_is : (s : Steps) (r : Reply) (c : Coord) → CoordOf G c → StepsOf G s → AnswersAt s.goal s.at r → ReplyOf G r →
+      IsDone (heard_call s r c)
   heard_call_is s r c k so fits rs =
       let m = answered (is_free (root_of s.path) (actor s.path) s.x c) (kept_at s c) s.goal s.at r in
-      let its = answered_of G one (is_free (root_of s.path) (actor s.path) s.x c) (kept_at s c) s.goal s.at r so.goal fits (kept_is s.x (root_at (root_of s.path) c) (root_is (root_of s.path) c k)) so.at rs in
-      step_call_is s m.step (on_root (root_of s.path) (root_moved s r m) c) so (on_root_is (root_of s.path) (root_moved s r m) c (moved_is s r m its) k) its.0
+      let its = answered_of G one (is_free (root_of s.path) (actor s.path) s.x c) (kept_at s c) s.goal s.at r so.goal fits
+      (kept_is s.x (root_at (root_of s.path) c) (root_is (root_of s.path) c k)) so.at rs in
+      step_call_is s m.step (on_root (root_of s.path) (root_moved s r m) c) so
+      (on_root_is (root_of s.path) (root_moved s r m) c (moved_is s r m its) k) its.0
 
   lost_is : (s : Steps) (t : CallStep) (q : Root) → RootOf G q → RootOf G (root_lost s t q)
-  lost_is s t q so = let k = keeping_of s.x q in let kept = kept_is s.x q so in keep_is s.x (keeps_after s.goal (is_ended t && spoils s.at) k.kept k) q (after_is s.goal (is_ended t && spoils s.at) k.kept k kept kept) so
+  lost_is s t q so = let k = keeping_of s.x q in let kept = kept_is s.x q so in keep_is s.x
+      (keeps_after s.goal (is_ended t && spoils s.at) k.kept k) q (after_is s.goal (is_ended t && spoils s.at) k.kept k kept kept) so
 
   -- ---- ends
 
@@ -282,29 +341,41 @@ module _ (G : ℕ → Type 0) (one : G 1) where
   tolds_is intents c u k = by (branch_of u c.tree)
     where
       kinds : (q : Kind) (p : Path) → AllOf G (tolds_by u q p intents c)
-      kinds kind.Nested p = tells (root_of p) false (up_to u (ends_of (root_of p) c.tree)) (servers_told u (root_at (root_of p) c) c) (told_is u (root_at (root_of p) c) c (root_is (root_of p) c k))
-      kinds kind.Serial p = tells u false ((u, ending.Abort) ∷ []) (filter (λ n. not (is_deferred u intents n)) (nodes_sent u (root_at u c))) (all_filter G (λ n. not (is_deferred u intents n)) (nodes_sent u (root_at u c)) (sent_is u (root_at u c) (root_is u c k)))
-      kinds kind.Top p = tells (root_of p) false ((u, ending.Abort) ∷ []) (nodes_sent u (root_at (root_of p) c)) (sent_is u (root_at (root_of p) c) (root_is (root_of p) c k))
-      kinds kind.Independent p = tells (root_of p) false ((u, ending.Abort) ∷ []) (nodes_sent u (root_at (root_of p) c)) (sent_is u (root_at (root_of p) c) (root_is (root_of p) c k))
-      kinds kind.Constituent p = tells (root_of p) false ((u, ending.Abort) ∷ []) (nodes_sent u (root_at (root_of p) c)) (sent_is u (root_at (root_of p) c) (root_is (root_of p) c k))
+      kinds kind.Nested p = tells (root_of p) false (up_to u (ends_of (root_of p) c.tree)) (servers_told u (root_at (root_of p) c) c)
+          (told_is u (root_at (root_of p) c) c (root_is (root_of p) c k))
+      kinds kind.Serial p = tells u false ((u, ending.Abort) ∷ []) (filter (λ n. not (is_deferred u intents n)) (nodes_sent u (root_at u
+          c))) (all_filter G (λ n. not (is_deferred u intents n)) (nodes_sent u (root_at u c)) (sent_is u (root_at u c) (root_is u c k)))
+      kinds kind.Top p = tells (root_of p) false ((u, ending.Abort) ∷ []) (nodes_sent u (root_at (root_of p) c))
+          (sent_is u (root_at (root_of p) c) (root_is (root_of p) c k))
+      kinds kind.Independent p = tells (root_of p) false ((u, ending.Abort) ∷ []) (nodes_sent u (root_at (root_of p) c))
+          (sent_is u (root_at (root_of p) c) (root_is (root_of p) c k))
+      kinds kind.Constituent p = tells (root_of p) false ((u, ending.Abort) ∷ []) (nodes_sent u (root_at (root_of p) c))
+          (sent_is u (root_at (root_of p) c) (root_is (root_of p) c k))
 
       by : (b : Option Branch) → AllOf G (tolds_of_branch u intents c b)
       by None = tt
       by (Some b) = kinds b.kind b.path
 
-  ends_is : (u : Uid) (e : End) (f : Label → Body) (intents : List (Uid × Intent)) (c : Coord) → CoordOf G c → IsDone (ends_with u e f intents c)
-  ends_is u e f intents c k = (ended_is u e c k, both (says u f c) (tolds_of intents (ended u e c) u) (lines u f c) (tolds_is intents (ended u e c) u (ended_is u e c k)))
+  ends_is : (u : Uid) (e : End) (f : Label → Body) (intents : List (Uid × Intent)) (c : Coord) → CoordOf G c →
+      IsDone (ends_with u e f intents c)
+  ends_is u e f intents c k = (
+    ended_is u e c k,
+    both (says u f c) (tolds_of intents (ended u e c) u) (lines u f c) (tolds_is intents (ended u e c) u (ended_is u e c k)),
+  )
 
   all_is : (us : List Uid) (c : Coord) → CoordOf G c → IsDone (all_aborted us c)
   all_is [] c k = (k, tt)
-  all_is (u ∷ us) c k = let r = all_is us (ended u ending.Abort c) (ended_is u ending.Abort c k) in (r.0, both (says u (λ l. body.Aborted l cause.Asked) c) _ (lines u (λ l. body.Aborted l cause.Asked) c) r.1)
+  all_is (u ∷ us) c k = let r = all_is us (ended u ending.Abort c) (ended_is u ending.Abort c k) in
+      (r.0, both (says u (λ l. body.Aborted l cause.Asked) c) _ (lines u (λ l. body.Aborted l cause.Asked) c) r.1)
 
   abort_is : (u : Uid) (intents : List (Uid × Intent)) (c : Coord) → CoordOf G c → IsDone (abort_action u intents c)
   abort_is u intents c k =
       let us : List Uid = open_below u c.tree ++ u ∷ [] in
       let r = all_is us c k in
-      let t = all_aborted us c in
-      (r.0, both t.outs (flat_map (tolds_of intents t.part) us) r.1 (flat (tolds_of intents t.part) us (λ w. tolds_is intents t.part w r.0)))
+      let t = all_aborted us c in (
+        r.0,
+        both t.outs (flat_map (tolds_of intents t.part) us) r.1 (flat (tolds_of intents t.part) us (λ w. tolds_is intents t.part w r.0)),
+      )
 
   -- ---- commits
 
@@ -315,7 +386,12 @@ module _ (G : ℕ → Type 0) (one : G 1) where
   IsNext (Aborts why q) = ⊤
 
   further_is : (ns : List ℕ) (p : Plan) → AreOf G ns → PlanOf G p → PlanOf G (further ns p)
-  further_is ns p all so = record { path = so.path; used = so.used; sent = all_numbers G (p.sent ++ ns) (all_append G p.sent ns so.sent all); prepared = so.prepared }
+  further_is ns p all so = record {
+    path = so.path;
+    used = so.used;
+    sent = all_numbers G (p.sent ++ ns) (all_append G p.sent ns so.sent all);
+    prepared = so.prepared;
+  }
 
   servers_is : (p : Plan) → PlanOf G p → AreOf G (servers_of p)
   servers_is p so = all_numbers G (map (λ (u : Used). u.server) (filter (λ (u : Used). u.called) p.used)) (called p.used so.used)
@@ -324,19 +400,22 @@ module _ (G : ℕ → Type 0) (one : G 1) where
       called [] all = tt
       called (u ∷ us) all = by u.called refl (called us all.1)
         where
-          by : (b : Bool) → u.called ≡ b → AreOf G (map (λ (v : Used). v.server) (filter (λ (v : Used). v.called) us)) → AreOf G (map (λ (v : Used). v.server) (cond b (u ∷ filter (λ (v : Used). v.called) us) (filter (λ (v : Used). v.called) us)))
+          by : (b : Bool) → u.called ≡ b → AreOf G (map (λ (v : Used). v.server) (filter (λ (v : Used). v.called) us)) →
+              AreOf G (map (λ (v : Used). v.server) (cond b (u ∷ filter (λ (v : Used). v.called) us) (filter (λ (v : Used). v.called) us)))
           by true is ih = (all.0.0 is, ih)
           by false is ih = ih
 
   targets_is : (p : Plan) → PlanOf G p → AreOf G (targets_of p)
-  targets_is p so = all_numbers G (flat_map (λ (u : Used). stores_by u (changed_of u.x p)) p.used) (all_flat (UsedOf G) G (λ (u : Used). stores_by u (changed_of u.x p)) p.used (λ u s. by u s (changed_of u.x p)) so.used)
+  targets_is p so = all_numbers G (flat_map (λ (u : Used). stores_by u (changed_of u.x p)) p.used)
+      (all_flat (UsedOf G) G (λ (u : Used). stores_by u (changed_of u.x p)) p.used (λ u s. by u s (changed_of u.x p)) so.used)
     where
       by : (u : Used) → UsedOf G u → (o : Option ObjectState) → AreOf G (stores_by u o)
       by u s None = s.2
       by u s (Some st) = all_append G u.stores u.joins s.1 s.2
 
   included_is : (p : Plan) → PlanOf G p → AllByRecursion (λ (m : ℕ × ℕ). G m.1) (included_of p)
-  included_is p so = all_flat (UsedOf G) (λ (m : ℕ × ℕ). G m.1) (joins_left p) p.used (λ u s. all_map G (λ (m : ℕ × ℕ). G m.1) _ (filter (λ n. not (is_marked u.x n p)) u.joins) (λ n q. q) (all_filter G (λ n. not (is_marked u.x n p)) u.joins s.2)) so.used
+  included_is p so = all_flat (UsedOf G) (λ (m : ℕ × ℕ). G m.1) (joins_left p) p.used (λ u s. all_map G (λ (m : ℕ × ℕ). G m.1)
+      _ (filter (λ n. not (is_marked u.x n p)) u.joins) (λ n q. q) (all_filter G (λ n. not (is_marked u.x n p)) u.joins s.2)) so.used
 
   confirm_step : (us : List Used) (q : Plan) → PlanOf G q → IsNext (begin_confirm us q)
   confirm_step [] q so = so
@@ -359,7 +438,12 @@ module _ (G : ℕ → Type 0) (one : G 1) where
   votes_step (n ∷ ns) q all so = (so, all)
 
   same_plan : (p q : Plan) → q.path ≡ p.path → q.used ≡ p.used → q.sent ≡ p.sent → q.prepared ≡ p.prepared → PlanOf G p → PlanOf G q
-  same_plan p q path used sent stores so = record { path = subst (PathOf G) (sym path) so.path; used = subst (AllByRecursion (UsedOf G)) (sym used) so.used; sent = subst (AreOf G) (sym sent) so.sent; prepared = subst (AreOf G) (sym stores) so.prepared }
+  same_plan p q path used sent stores so = record {
+    path = subst (PathOf G) (sym path) so.path;
+    used = subst (AllByRecursion (UsedOf G)) (sym used) so.used;
+    sent = subst (AreOf G) (sym sent) so.sent;
+    prepared = subst (AreOf G) (sym stores) so.prepared;
+  }
 
   marks_is : (ns : List ℕ) (q : Plan) → PlanOf G q → PlanOf G (marks_stores ns q)
   marks_is [] q so = so
@@ -369,12 +453,18 @@ module _ (G : ℕ → Type 0) (one : G 1) where
   without_is from ns all = all_filter G (λ m. not (m == from)) ns all
 
   answer_step : (from : ℕ) (m : Machine) (r : Reply) → G from → MachineOf G m → IsNext (commit.answered from m r).step
-  answer_step from (Voting p left) (Reply.Voted (voted.Yes states)) its so = votes_step (without_number from left) (record p { changed = with_states states p.changed }) (without_is from left so.1) (same_plan p (record p { changed = with_states states p.changed }) refl refl refl refl so.0)
+  answer_step from (Voting p left) (Reply.Voted (voted.Yes states)) its so =
+      votes_step (without_number from left) (record p { changed = with_states states p.changed }) (without_is from left so.1)
+      (same_plan p (record p { changed = with_states states p.changed }) refl refl refl refl so.0)
   answer_step from (Voting p left) (Reply.Voted (voted.Changed w)) its so = tt
-  answer_step from (Preparing p left) (Reply.Prepared prepared.Yes) its so = stores_step (without_number from left) (record p { prepared = with_number from p.prepared }) (without_is from left so.1) (let q = so.0 in record { path = q.path; used = q.used; sent = q.sent; prepared = all_number G from p.prepared its q.prepared })
-  answer_step from (Preparing p left) (Reply.Prepared (prepared.InDoubt x h)) its so = stores_step (without_number from left) (marks_store from p) (without_is from left so.1) (same_plan p (marks_store from p) refl refl refl refl so.0)
+  answer_step from (Preparing p left) (Reply.Prepared prepared.Yes) its so =
+      stores_step (without_number from left) (record p { prepared = with_number from p.prepared }) (without_is from left so.1)
+      (let q = so.0 in record { path = q.path; used = q.used; sent = q.sent; prepared = all_number G from p.prepared its q.prepared })
+  answer_step from (Preparing p left) (Reply.Prepared (prepared.InDoubt x h)) its so = stores_step (without_number from left)
+      (marks_store from p) (without_is from left so.1) (same_plan p (marks_store from p) refl refl refl refl so.0)
   answer_step from (Preparing p left) (Reply.Prepared (prepared.Old x v)) its so = tt
-  answer_step from (Confirming p) (Reply.Confirmed confirmed.Yes) its so = same_plan p (record p { confirmed = true }) refl refl refl refl so.0
+  answer_step from (Confirming p) (Reply.Confirmed confirmed.Yes) its so =
+      same_plan p (record p { confirmed = true }) refl refl refl refl so.0
   answer_step from (Confirming p) (Reply.Confirmed (confirmed.Conflict h m)) its so = tt
   answer_step from (Confirming p) (Reply.Confirmed (confirmed.Changed w)) its so = tt
   answer_step from (Confirming p) (Reply.Confirmed (confirmed.NoStores x)) its so = tt
@@ -411,7 +501,8 @@ module _ (G : ℕ → Type 0) (one : G 1) where
   ask_is (Preparing p left) n so = tt
   ask_is (Confirming p) n so = included_is p so.0
 
-  asked_is : (p : Path) (req : ℕ) (asked : List (ℕ × Ask)) (c : Coord) → PathOf G p → CoordOf G c → AllByRecursion (λ (a : ℕ × Ask). G a.0 × AskOf G a.1) asked → IsDone (asks_all p req asked c)
+  asked_is : (p : Path) (req : ℕ) (asked : List (ℕ × Ask)) (c : Coord) → PathOf G p → CoordOf G c →
+      AllByRecursion (λ (a : ℕ × Ask). G a.0 × AskOf G a.1) asked → IsDone (asks_all p req asked c)
   asked_is p req [] c path k all = (k, tt)
   asked_is p req (a ∷ rest) c path k all =
       let first = asks_is p req a c k path all.0.0 all.0.1 in
@@ -421,7 +512,8 @@ module _ (G : ℕ → Type 0) (one : G 1) where
   machine_is : (m : Machine) (c : Coord) → CoordOf G c → MachineOf G m → IsDone (asks_machine m c)
   machine_is m c k so = asked_is (plan_of m).path (plan_of m).req (commit.waiting m) c so.0.path k (waits (left_of m) so.1)
     where
-      waits : (ns : List ℕ) → AreOf G ns → AllByRecursion (λ (a : ℕ × Ask). G a.0 × AskOf G a.1) (map {A = ℕ} {B = ℕ × Ask} (λ n. (n, ask_of m n)) ns)
+      waits : (ns : List ℕ) → AreOf G ns →
+          AllByRecursion (λ (a : ℕ × Ask). G a.0 × AskOf G a.1) (map {A = ℕ} {B = ℕ × Ask} (λ n. (n, ask_of m n)) ns)
       waits [] all = tt
       waits (n ∷ ns) all = ((all.0, ask_is m n so), waits ns all.1)
 
@@ -429,14 +521,19 @@ module _ (G : ℕ → Type 0) (one : G 1) where
   commits_is u m c k so = on_do_is u (λ (d : Doing). record d { req = (plan_of m).req; now = Committing m }) c (λ d found. so) k
 
   lists_is : (p : Plan) (r : Root) → PlanOf G p → RootOf G r → RootOf G (root_after p r)
-  lists_is p r its so = record { went = so.went; joined = so.joined; keeping = all_each (λ (q : Keeping). KeptOf G q.kept) (keeping_after p) (λ x q s. by x q.kept s) r.keeping so.keeping }
+  lists_is p r its so = record {
+    went = so.went;
+    joined = so.joined;
+    keeping = all_each (λ (q : Keeping). KeptOf G q.kept) (keeping_after p) (λ x q s. by x q.kept s) r.keeping so.keeping;
+  }
     where
       by : (x : ℕ) (o : Option Known) → KeptOf G o → KeptOf G (kept_after p x o)
       by x None s = tt
       by x (Some k) s = (s.0, listed_after G x p.excluded (included_of p) k.stores (included_is p its) s.1)
 
   participants_is : (p : Plan) → PlanOf G p → AreOf G (participants p)
-  participants_is p so = all_numbers G (servers_of p ++ p.prepared ++ naming_node p) (all_append G (servers_of p ++ p.prepared) (naming_node p) (all_append G (servers_of p) p.prepared (servers_is p so) so.prepared) (by p.confirmed))
+  participants_is p so = all_numbers G (servers_of p ++ p.prepared ++ naming_node p) (all_append G (servers_of p ++ p.prepared)
+      (naming_node p) (all_append G (servers_of p) p.prepared (servers_is p so) so.prepared) (by p.confirmed))
     where
       by : (b : Bool) → AreOf G (cond b (1 ∷ []) [])
       by true = (one, tt)
@@ -461,13 +558,15 @@ module _ (G : ℕ → Type 0) (one : G 1) where
       ke = ended_is (actor p.path) ending.Commit c k
 
       kr : CoordOf G r
-      kr = on_root_is (root_of p.path) (root_after p) took (λ q s. lists_is p q so s) (on_do_is (actor p.path) (λ (d : Doing). record d { took = participants p }) e (λ d found. ke.works (actor p.path) d found) ke)
+      kr = on_root_is (root_of p.path) (root_after p) took (λ q s. lists_is p q so s)
+          (on_do_is (actor p.path) (λ (d : Doing). record d { took = participants p }) e (λ d found. ke.works (actor p.path) d found) ke)
 
       told : (ns : List ℕ) → AreOf G ns → AllOf G (map (decided_told (root_of p.path) (actor p.path) p) ns)
       told [] all = tt
       told (n ∷ ns) all = ((each_told (has (participants p) n)).0, told ns all.1)
         where
-          each_told : (x : Bool) → AllOf G (cond x (tell (root_of p.path) (has_record p) ((actor p.path, ending.Commit) ∷ []) n) (tell (root_of p.path) false ((actor p.path, ending.Abort) ∷ []) n) ∷ [])
+          each_told : (x : Bool) → AllOf G (cond x (tell (root_of p.path) (has_record p) ((actor p.path, ending.Commit) ∷ []) n)
+              (tell (root_of p.path) false ((actor p.path, ending.Abort) ∷ []) n) ∷ [])
           each_told true = ((all.0, (tt, tt)), tt)
           each_told false = ((all.0, (tt, tt)), tt)
 
@@ -475,24 +574,46 @@ module _ (G : ℕ → Type 0) (one : G 1) where
       work true = (participants_is p so, tt)
       work false = tt
 
-      outs : (w : Bool) → AllOf G (cond w (Do (PutIntent (actor p.path) i) ∷ []) [] ++ says (actor p.path) body.Committed c ++ map (decided_told (root_of p.path) (actor p.path) p) p.sent)
-      outs w = both (cond w (Do (PutIntent (actor p.path) i) ∷ []) [] ++ says (actor p.path) body.Committed c) (map (decided_told (root_of p.path) (actor p.path) p) p.sent) (both (cond w (Do (PutIntent (actor p.path) i) ∷ []) []) (says (actor p.path) body.Committed c) (work w) (lines (actor p.path) body.Committed c)) (told p.sent so.sent)
+      outs : (w : Bool) → AllOf G (cond w (Do (PutIntent (actor p.path) i) ∷ []) [] ++ says (actor p.path) body.Committed c
+          ++ map (decided_told (root_of p.path) (actor p.path) p) p.sent)
+      outs w = both (cond w (Do (PutIntent (actor p.path) i) ∷ []) [] ++ says (actor p.path) body.Committed c)
+          (map (decided_told (root_of p.path) (actor p.path) p) p.sent) (both (cond w (Do (PutIntent (actor p.path) i) ∷ []) [])
+          (says (actor p.path) body.Committed c) (work w) (lines (actor p.path) body.Committed c)) (told p.sent so.sent)
 
-      by : (w : Bool) → IsDone (record { part = cond w (record r { telling = put_uid (actor p.path) i r.telling }) r; outs = cond w (Do (PutIntent (actor p.path) i) ∷ []) [] ++ says (actor p.path) body.Committed c ++ map (decided_told (root_of p.path) (actor p.path) p) p.sent })
-      by true = (record { node = kr.node; paths = kr.paths; works = kr.works; roots = kr.roots; telling = all_put (λ (x : Uid × Intent). AreOf G (let j = x.1 in j.nodes)) (actor p.path) i r.telling (λ w. participants_is p so) kr.telling }, outs true)
+      by : (w : Bool) → IsDone (record {
+        part = cond w (record r { telling = put_uid (actor p.path) i r.telling }) r;
+        outs = cond w (Do (PutIntent (actor p.path) i) ∷ []) [] ++ says (actor p.path) body.Committed c
+            ++ map (decided_told (root_of p.path) (actor p.path) p) p.sent;
+      })
+      by true = (
+        record {
+          node = kr.node;
+          paths = kr.paths;
+          works = kr.works;
+          roots = kr.roots;
+          telling = all_put (λ (x : Uid × Intent). AreOf G (let j = x.1 in j.nodes)) (actor p.path) i r.telling (λ w. participants_is p so)
+              kr.telling;
+        },
+        outs true,
+      )
       by false = (kr, outs false)
 
-  step_commit_is : (u : Uid) (s : CommitStep) (intents : List (Uid × Intent)) (c : Coord) → CoordOf G c → IsNext s → IsDone (step_commit u s intents c)
+  step_commit_is : (u : Uid) (s : CommitStep) (intents : List (Uid × Intent)) (c : Coord) → CoordOf G c → IsNext s →
+      IsDone (step_commit u s intents c)
   step_commit_is u (Stays m) intents c k so = (commits_is u m c k so, tt)
   step_commit_is u (Asks m) intents c k so = machine_is m (commits_in u m c) (commits_is u m c k so) so
   step_commit_is u (Decides p) intents c k so = decide_is p c so k
   step_commit_is u (Aborts why p) intents c k so = ends_is u ending.Abort (λ l. body.Aborted l why) intents c k
 
-  moved_commit_is : (u : Uid) (m : commit.Marked) (intents : List (Uid × Intent)) (c : Coord) → CoordOf G c → IsNext m.step → IsDone (moved_commit u m intents c)
+  moved_commit_is : (u : Uid) (m : commit.Marked) (intents : List (Uid × Intent)) (c : Coord) → CoordOf G c → IsNext m.step →
+      IsDone (moved_commit u m intents c)
   moved_commit_is u m intents c k so =
       let t = step_commit u m.step intents c in
-      let w = step_commit_is u m.step intents c k so in
-      (w.0, both (mark_lines u m.marks c) t.outs (flat (λ (x : ℕ × ℕ). says u (λ l. body.Excluded l x.0 x.1) c) m.marks (λ x. lines u (λ l. body.Excluded l x.0 x.1) c)) w.1)
+      let w = step_commit_is u m.step intents c k so in (
+        w.0,
+        both (mark_lines u m.marks c) t.outs
+            (flat (λ (x : ℕ × ℕ). says u (λ l. body.Excluded l x.0 x.1) c) m.marks (λ x. lines u (λ l. body.Excluded l x.0 x.1) c)) w.1,
+      )
 
   -- what a plan uses
   used_is : (top : Uid) (r : Root) (c : Coord) (x : ℕ) → KeepsCalled top r c → RootOf G r → UsedOf G (used_of top r c x)
@@ -503,7 +624,8 @@ module _ (G : ℕ → Type 0) (one : G 1) where
       kept (Some k) there s = s
 
       joins : AreOf G (number_set (map (λ (j : Joined). j.store) (joins_on x top r c)))
-      joins = all_numbers G (map (λ (j : Joined). j.store) (joins_on x top r c)) (all_map (λ (j : Joined). G j.store) G (λ (j : Joined). j.store) (joins_on x top r c) (λ j s. s) (all_filter (λ (j : Joined). G j.store) _ r.joined so.joined))
+      joins = all_numbers G (map (λ (j : Joined). j.store) (joins_on x top r c)) (all_map (λ (j : Joined). G j.store) G
+          (λ (j : Joined). j.store) (joins_on x top r c) (λ j s. s) (all_filter (λ (j : Joined). G j.store) _ r.joined so.joined))
 
       no_call : false ≡ true → G 0
       no_call is = let no_way : false ≡ true = is in cc
@@ -512,8 +634,10 @@ module _ (G : ℕ → Type 0) (one : G 1) where
       by true is = let s = kept (kept_of x r) (keeps x is) (kept_is x r so) in ((λ called. s.0), s.1, joins)
       by false is = (no_call, tt, joins)
 
-  plan_is : (p : Path) (req : ℕ) (r : Root) (c : Coord) → KeepsCalled (actor p) r c → PathOf G p → RootOf G r → PlanOf G (plan_for p req r c)
-  plan_is p req r c keeps path so = record { path = path; used = by (objects_in (actor p) r c); sent = sent_is (actor p) r so; prepared = tt }
+  plan_is : (p : Path) (req : ℕ) (r : Root) (c : Coord) → KeepsCalled (actor p) r c → PathOf G p → RootOf G r →
+      PlanOf G (plan_for p req r c)
+  plan_is p req r c keeps path so =
+      record { path = path; used = by (objects_in (actor p) r c); sent = sent_is (actor p) r so; prepared = tt }
     where
       by : (xs : List ℕ) → AllByRecursion (UsedOf G) (map (used_of (actor p) r c) xs)
       by [] = tt
@@ -524,19 +648,22 @@ module _ (G : ℕ → Type 0) (one : G 1) where
   abbrev IsServed : Served Coord (Unit {0}) → Type 0
   IsServed d = CoordOf G d.part × AllOf G d.outs
 
-  pub heard_of : (from : ℕ) (a : Asked) (r : Reply) (intents : List (Uid × Intent)) (c : Coord) → G from → CoordOf G c → ReplyOf G r → AnswersWaiting from a r c → IsServed (heard from a r intents c)
+  pub heard_of : (from : ℕ) (a : Asked) (r : Reply) (intents : List (Uid × Intent)) (c : Coord) → G from → CoordOf G c → ReplyOf G r →
+      AnswersWaiting from a r c → IsServed (heard from a r intents c)
   heard_of from a r intents c its k rs fits = by (doing_of a.act c) refl
     where
       now : (d : Doing) → doing_of a.act c ≡ Some d → (n : Now) → d.now ≡ n → NowOf G n → IsServed (heard_now from a r intents c n)
       now d found Idle at so = (k, tt)
       now d found (Calling s) at so = each (waits_for_call from a r s) refl
         where
-          each : (w : Bool) → waits_for_call from a r s ≡ w → IsServed (cond {A = Served Coord (Unit {0})} w (heard_by (heard_call s r c)) (heard_none c))
+          each : (w : Bool) → waits_for_call from a r s ≡ w →
+              IsServed (cond {A = Served Coord (Unit {0})} w (heard_by (heard_call s r c)) (heard_none c))
           each true on = heard_call_is s r c k so (fits d s found at on) rs
           each false off = (k, tt)
       now d found (Committing m) at so = each (waits_for_commit from a r m)
         where
-          each : (w : Bool) → IsServed (cond {A = Served Coord (Unit {0})} w (heard_by (moved_commit a.act (commit.answered from m r) intents c)) (heard_none c))
+          each : (w : Bool) → IsServed
+              (cond {A = Served Coord (Unit {0})} w (heard_by (moved_commit a.act (commit.answered from m r) intents c)) (heard_none c))
           each true = moved_commit_is a.act (commit.answered from m r) intents c k (answer_step from m r its so)
           each false = (k, tt)
 
@@ -548,15 +675,21 @@ module _ (G : ℕ → Type 0) (one : G 1) where
   give_up_is u intents c k = by (doing_of u c) refl
     where
       with_lines : (nodes : List ℕ) (d : Did Coord) → IsDone d → IsDone (record { part = d.part; outs = gaveup_lines u nodes c ++ d.outs })
-      with_lines nodes d w = (w.0, both (gaveup_lines u nodes c) d.outs (flat (λ n. says u (λ l. body.GaveUp l n) c) nodes (λ n. lines u (λ l. body.GaveUp l n) c)) w.1)
+      with_lines nodes d w = (
+        w.0,
+        both (gaveup_lines u nodes c) d.outs (flat (λ n. says u (λ l. body.GaveUp l n) c) nodes (λ n. lines u (λ l. body.GaveUp l n) c))
+            w.1,
+      )
 
       now : (n : Now) → NowOf G n → IsDone (gives_up u intents c n)
       now Idle so = (k, tt)
       now (Calling s) so =
           let t : Coord = on_root (root_of s.path) (root_lost s (given_up s.at)) c in
           let x = step_call s (given_up s.at) t in
-          with_lines (next_node s ∷ []) x (step_call_is s (given_up s.at) t so (on_root_is (root_of s.path) (root_lost s (given_up s.at)) c (lost_is s (given_up s.at)) k) (given_up_of G one s.goal s.at so.at))
-      now (Committing m) so = let x = moved_commit u (commit.given_up m) intents c in with_lines (nodes_given_up m) x (moved_commit_is u (commit.given_up m) intents c k (giveup_step m so))
+          with_lines (next_node s ∷ []) x (step_call_is s (given_up s.at) t so (on_root_is (root_of s.path) (root_lost s (given_up s.at)) c
+          (lost_is s (given_up s.at)) k) (given_up_of G one s.goal s.at so.at))
+      now (Committing m) so = let x = moved_commit u (commit.given_up m) intents c in
+          with_lines (nodes_given_up m) x (moved_commit_is u (commit.given_up m) intents c k (giveup_step m so))
 
       by : (o : Option Doing) → doing_of u c ≡ o → IsDone (give_up_doing u intents c o)
       by None is = (k, tt)
@@ -582,13 +715,17 @@ module _ (G : ℕ → Type 0) (one : G 1) where
       same n = grind arith
 
       found : (d : Doing) → In d c.doings → (u : Uid) × (doing_of u c ≡ Some d)
-      found d i = let p = placed d c.doings i in (record { node = c.tree.node; inc = c.tree.inc; num = p.0 }, (λ j. cond (same c.tree.node j && same c.tree.inc j) (at_place p.0 c.doings) None) ∙ p.1)
+      found d i = let p = placed d c.doings i in (
+        record { node = c.tree.node; inc = c.tree.inc; num = p.0 },
+        (λ j. cond (same c.tree.node j && same c.tree.inc j) (at_place p.0 c.doings) None) ∙ p.1,
+      )
 
       all : (ds : List Doing) → ((d : Doing) → In d ds → In d c.doings) → AllByRecursion (λ (d : Doing). NowOf G d.now) ds
       all [] there = tt
       all (d ∷ ds) there = (let f = found d (there d (inl refl)) in k.works f.0 d f.1, all ds (λ e i. there e (inr i)))
 
-  commit_is : (b : Branch) (intents : List (Uid × Intent)) (c : Coord) → KeepsCalled (actor b.path) (root_at (root_of b.path) c) c → PathOf G b.path → CoordOf G c → IsDone (commit_action b intents c)
+  commit_is : (b : Branch) (intents : List (Uid × Intent)) (c : Coord) → KeepsCalled (actor b.path) (root_at (root_of b.path) c) c →
+      PathOf G b.path → CoordOf G c → IsDone (commit_action b intents c)
   commit_is b intents c keeps path k = by b.doomed
     where
       u : Uid
@@ -621,7 +758,8 @@ module _ (G : ℕ → Type 0) (one : G 1) where
   named_is c None b is k = let no_way : ◌≡◌ {A = Option Branch} None (Some b) = is in cc
   named_is c (Some j) b is k = all_placed (λ (q : Branch). PathOf G q.path) j c.tree.branches b k.paths is
 
-  on_named : (l : Label) (f : Branch → Did Coord) (c : Coord) → CoordOf G c → ((b : Branch) → branch_named l c ≡ Some b → PathOf G b.path → IsDone (f b)) → IsDone (on_branch f c (branch_named l c))
+  on_named : (l : Label) (f : Branch → Did Coord) (c : Coord) → CoordOf G c →
+      ((b : Branch) → branch_named l c ≡ Some b → PathOf G b.path → IsDone (f b)) → IsDone (on_branch f c (branch_named l c))
   on_named l f c k each = by (branch_named l c) refl
     where
       by : (o : Option Branch) → branch_named l c ≡ o → IsDone (on_branch f c o)
@@ -630,11 +768,14 @@ module _ (G : ℕ → Type 0) (one : G 1) where
 
   -- ---- actions that begin
 
-  pub begin_of : (l : Label) (q : Kind) (parent : Option Label) (c : Coord) → begin_refusal q c parent ≡ None → CoordOf G c → IsDone (begin_action l q parent (parent_of parent c) c)
+  pub begin_of : (l : Label) (q : Kind) (parent : Option Label) (c : Coord) → begin_refusal q c parent ≡ None → CoordOf G c →
+      IsDone (begin_action l q parent (parent_of parent c) c)
   begin_of l q parent c free k = (
     record {
       node = k.node;
-      paths = all_append _ c.tree.branches (record { path = path_below q (parent_of parent c) (next_uid c.tree); kind = q; ended = None; doomed = false } ∷ []) k.paths (below_is G q (parent_of parent c) (next_uid c.tree) (shallow q c parent free) k.node (above parent), tt);
+      paths = all_append _ c.tree.branches
+          (record { path = path_below q (parent_of parent c) (next_uid c.tree); kind = q; ended = None; doomed = false } ∷ []) k.paths
+          (below_is G q (parent_of parent c) (next_uid c.tree) (shallow q c parent free) k.node (above parent), tt);
       works = λ u d at. was (is_own u c.tree) u.num d at (λ f. k.works u d f);
       roots = k.roots;
       telling = k.telling;
@@ -653,9 +794,11 @@ module _ (G : ℕ → Type 0) (one : G 1) where
           by None is = tt
           by (Some b) is = named_is c _ b is k
 
-      was : (b : Bool) (j : ℕ) (d : Doing) → cond b (at_place j (c.doings ++ fresh ∷ [])) None ≡ Some d → (cond b (at_place j c.doings) None ≡ Some d → NowOf G d.now) → NowOf G d.now
+      was : (b : Bool) (j : ℕ) (d : Doing) → cond b (at_place j (c.doings ++ fresh ∷ [])) None ≡ Some d →
+          (cond b (at_place j c.doings) None ≡ Some d → NowOf G d.now) → NowOf G d.now
       was true zero d at f = let no_way : ◌≡◌ {A = Option Doing} None (Some d) = at in cc
-      was true (suc j) d at f = ⊎_elim (λ old. f old) (λ new. subst (λ (x : Doing). NowOf G x.now) new.1 tt) (get_more j fresh d c.doings at)
+      was true (suc j) d at f =
+          ⊎_elim (λ old. f old) (λ new. subst (λ (x : Doing). NowOf G x.now) new.1 tt) (get_more j fresh d c.doings at)
       was false j d at f = let no_way : ◌≡◌ {A = Option Doing} None (Some d) = at in cc
 
   -- an include names a node, and of what a commit has called its root keeps bindings
@@ -668,10 +811,14 @@ module _ (G : ℕ → Type 0) (one : G 1) where
   pub acts_of : (i : Input) (intents : List (Uid × Intent)) (c : Coord) → Needs i c → CoordOf G c → IsDone (acts i intents c)
   acts_of (input.Begin l q parent) intents c its k = absurd its
   acts_of (input.Call l x o) intents c its k = on_named l (λ b. call b.path x o c) c k (λ b is path. call_is b.path x o c path k)
-  acts_of (input.Include l x s) intents c its k = on_named l (λ b. include b.path x s c) c k (λ b is path. include_is b.path x s c path its k)
-  acts_of (input.Commit l) intents c its k = on_named l (λ b. commit_action b intents c) c k (λ b is path. commit_is b intents c (its b is) path k)
-  acts_of (input.Abort l) intents c its k = on_named l (λ b. abort_action (actor b.path) intents c) c k (λ b is path. abort_is (actor b.path) intents c k)
-  acts_of (input.GiveUp l) intents c its k = on_named l (λ b. give_up (actor b.path) intents c) c k (λ b is path. give_up_is (actor b.path) intents c k)
+  acts_of (input.Include l x s) intents c its k =
+      on_named l (λ b. include b.path x s c) c k (λ b is path. include_is b.path x s c path its k)
+  acts_of (input.Commit l) intents c its k =
+      on_named l (λ b. commit_action b intents c) c k (λ b is path. commit_is b intents c (its b is) path k)
+  acts_of (input.Abort l) intents c its k =
+      on_named l (λ b. abort_action (actor b.path) intents c) c k (λ b is path. abort_is (actor b.path) intents c k)
+  acts_of (input.GiveUp l) intents c its k =
+      on_named l (λ b. give_up (actor b.path) intents c) c k (λ b is path. give_up_is (actor b.path) intents c k)
   acts_of (input.Frame j from m) intents c its k = (k, tt)
   acts_of input.Tick intents c its k = (k, tt)
   acts_of input.Restart intents c its k = (k, tt)
@@ -683,7 +830,8 @@ module _ (G : ℕ → Type 0) (one : G 1) where
   abbrev AreRecords : List (Uid × Intent) → Type 0
   AreRecords intents = AllByRecursion (λ (e : Uid × Intent). AreOf G (let i = e.1 in i.nodes)) intents
 
-  pub acked_of : (from : ℕ) (u : Uid) (intents : List (Uid × Intent)) (c : Coord) → AreRecords intents → CoordOf G c → IsServed (acked from u intents c)
+  pub acked_of : (from : ℕ) (u : Uid) (intents : List (Uid × Intent)) (c : Coord) → AreRecords intents → CoordOf G c →
+      IsServed (acked from u intents c)
   acked_of from u intents c records k = by (at_uid u c.telling) refl
     where
       told : (m : List (Uid × Intent)) → AreRecords m → CoordOf G (record c { telling = m })
@@ -693,8 +841,10 @@ module _ (G : ℕ → Type 0) (one : G 1) where
       gone None its = tt
       gone (Some i) its = each (not (uid_eq i.root u) && is_over (branch_of i.root c.tree))
         where
-          each : (b : Bool) → AllOf G (cond b (tell_all i.root false ((i.root, ending.Abort) ∷ []) (let_go i.root (without_uid u intents) c i.nodes)) [])
-          each true = tells i.root false ((i.root, ending.Abort) ∷ []) (let_go i.root (without_uid u intents) c i.nodes) (all_filter G _ i.nodes its)
+          each : (b : Bool) →
+              AllOf G (cond b (tell_all i.root false ((i.root, ending.Abort) ∷ []) (let_go i.root (without_uid u intents) c i.nodes)) [])
+          each true = tells i.root false ((i.root, ending.Abort) ∷ []) (let_go i.root (without_uid u intents) c i.nodes)
+              (all_filter G _ i.nodes its)
           each false = tt
 
       recorded : (o : Option Intent) → at_uid u intents ≡ o → IfSome o (λ (i : Intent). AreOf G i.nodes)
@@ -702,15 +852,24 @@ module _ (G : ℕ → Type 0) (one : G 1) where
       recorded (Some i) is = all_at_uid (λ (j : Intent). AreOf G j.nodes) u i intents records is
 
       left : (i : Intent) (ns : List ℕ) → AreOf G ns → IsServed (acked_left u i intents c ns)
-      left i [] all = (told (without_uid u c.telling) (all_without _ u c.telling k.telling), (tt, gone (at_uid u intents) (recorded (at_uid u intents) refl)))
-      left i (n ∷ ns) all = (told (put_uid u (record i { nodes = n ∷ ns }) c.telling) (all_put (λ (x : Uid × Intent). AreOf G (let j = x.1 in j.nodes)) u (record i { nodes = n ∷ ns }) c.telling (λ w. all) k.telling), tt)
+      left i [] all = (
+        told (without_uid u c.telling) (all_without _ u c.telling k.telling),
+        (tt, gone (at_uid u intents) (recorded (at_uid u intents) refl)),
+      )
+      left i (n ∷ ns) all = (
+        told (put_uid u (record i { nodes = n ∷ ns }) c.telling) (all_put (λ (x : Uid × Intent). AreOf G (let j = x.1 in j.nodes)) u
+            (record i { nodes = n ∷ ns }) c.telling (λ w. all) k.telling),
+        tt,
+      )
 
       by : (o : Option Intent) → at_uid u c.telling ≡ o → IsServed (acked_by from u intents c o)
       by None is = (k, tt)
       by (Some i) is = each (has i.nodes from)
         where
-          each : (b : Bool) → IsServed (cond {A = Served Coord (Unit {0})} b (acked_left u i intents c (without_number from i.nodes)) (record { part = c; outs = []; reply = None }))
-          each true = left i (without_number from i.nodes) (without_is from i.nodes (all_at_uid (λ (j : Intent). AreOf G j.nodes) u i c.telling k.telling is))
+          each : (b : Bool) → IsServed (cond {A = Served Coord (Unit {0})} b (acked_left u i intents c (without_number from i.nodes))
+              (record { part = c; outs = []; reply = None }))
+          each true = left i (without_number from i.nodes)
+              (without_is from i.nodes (all_at_uid (λ (j : Intent). AreOf G j.nodes) u i c.telling k.telling is))
           each false = (k, tt)
 
   pub query_of : (from : ℕ) (u : Uid) (intents : List (Uid × Intent)) (c : Coord) → G from → AllOf G (answer_query from u intents c)
@@ -722,7 +881,8 @@ module _ (G : ℕ → Type 0) (one : G 1) where
       decided : AllOf G (answer_decided from u c)
       decided = each (is_kept_commit from u c)
         where
-          each : (b : Bool) → AllOf G (cond b (tell (root_or_self u (branch_of u c.tree)) false ((u, ending.Commit) ∷ []) from ∷ []) (tell (root_or_self u (branch_of u c.tree)) false ((u, ending.Abort) ∷ []) from ∷ []))
+          each : (b : Bool) → AllOf G (cond b (tell (root_or_self u (branch_of u c.tree)) false ((u, ending.Commit) ∷ []) from ∷ [])
+              (tell (root_or_self u (branch_of u c.tree)) false ((u, ending.Abort) ∷ []) from ∷ []))
           each true = told (root_or_self u (branch_of u c.tree)) false ending.Commit
           each false = told (root_or_self u (branch_of u c.tree)) false ending.Abort
 
@@ -740,10 +900,18 @@ module _ (G : ℕ → Type 0) (one : G 1) where
 
   pub told_again_of : (telling : List (Uid × Intent)) → AreRecords telling → AllOf G (tolds_again telling)
   told_again_of [] all = tt
-  told_again_of (e ∷ es) all = let i = e.1 in both (tell_all i.root true ((e.0, ending.Commit) ∷ []) i.nodes) (tolds_again es) (tells i.root true ((e.0, ending.Commit) ∷ []) i.nodes all.0) (told_again_of es all.1)
+  told_again_of (e ∷ es) all = let i = e.1 in both (tell_all i.root true ((e.0, ending.Commit) ∷ []) i.nodes) (tolds_again es)
+      (tells i.root true ((e.0, ending.Commit) ∷ []) i.nodes all.0) (told_again_of es all.1)
 
-  pub new_of : (node inc : ℕ) (records : List (Uid × Intent)) → G node → AreRecords records → CoordOf G (record (new_coord node inc) { telling = records })
-  new_of node inc records its all = record { node = its; paths = tt; works = λ u d at. nothing (is_own u (let c = new_coord node inc in c.tree)) u.num d at; roots = tt; telling = all }
+  pub new_of : (node inc : ℕ) (records : List (Uid × Intent)) → G node → AreRecords records →
+      CoordOf G (record (new_coord node inc) { telling = records })
+  new_of node inc records its all = record {
+    node = its;
+    paths = tt;
+    works = λ u d at. nothing (is_own u (let c = new_coord node inc in c.tree)) u.num d at;
+    roots = tt;
+    telling = all;
+  }
     where
       nothing : (b : Bool) (j : ℕ) (d : Doing) → cond b (at_place j []) None ≡ Some d → NowOf G d.now
       nothing true zero d is = let no_way : ◌≡◌ {A = Option Doing} None (Some d) = is in cc

@@ -1,15 +1,9 @@
 -- What holds of each item of a list, through what is done with lists.
-use Rattle.std.proofs.Common.{◌≡◌, ℕ, zero, suc, List, [], ◌∷◌, ◌++◌, Bool, true, false, cond, filter, map, Option, Some, None, refl, sym, ◌∙◌, ap, subst, ⊎_elim}
-use Rattle.std.specs.Prelude.{IfSome, is_some, slice_get, slice_set}
-use Rattle.std.specs.List.{AllByRecursion, cons_option, filter_map, flat_map}
-use Rattle.std.specs.Ordering.{is_eq, match_ordering, nat_cmp}
-use Rattle.std.specs.declared.cmp.Ordering.{Ordering}
-use Rattle.std.specs.declared.cmp.Ordering.TheVariants.{Less, Equal, Greater}
-use Rattle.arj_base.specs.Order.{uid_order}
-use Rattle.arj_protocol.specs.Order.{at_number, at_uid, each, number_set, put_number, put_uid, uid_set, with_number, with_uid, without_uid}
-use Rattle.arj_protocol.specs.Tree.{at_place, set_place}
-use Rattle.arj_protocol.specs.Words.{Uid}
-use Rattle.arj_protocol.proofs.RowSteps.{one_or_two}
+use Rattle.arj_law_parts.proofs.Words
+use Words.{◌≡◌, ℕ, zero, suc, List, [], ◌∷◌, ◌++◌, Bool, true, false, cond, filter, map, Option, Some, None, refl, sym, ◌∙◌, ap, subst}
+use Words.{⊎_elim, IfSome, is_some, slice_get, slice_set, AllByRecursion, cons_option, filter_map, flat_map, is_eq, match_ordering, nat_cmp}
+use Words.{Ordering, Less, Equal, Greater, uid_order, at_number, at_uid, each, number_set, put_number, put_uid, uid_set, with_number}
+use Words.{with_uid, without_uid, at_place, set_place, Uid, one_or_two}
 use Rattle.arj_law_parts.proofs.parts.Keys.{order_itself}
 
 pub all_append : {A : Type 0} (Q : A → Type 0) (xs ys : List A) → AllByRecursion Q xs → AllByRecursion Q ys → AllByRecursion Q (xs ++ ys)
@@ -24,11 +18,13 @@ all_filter {A} Q test (x ∷ xs) all = by (test x) (all_filter Q test xs all.1)
     by true ih = (all.0, ih)
     by false ih = ih
 
-pub all_map : {A B : Type 0} (P : A → Type 0) (Q : B → Type 0) (f : A → B) (xs : List A) → ((x : A) → P x → Q (f x)) → AllByRecursion P xs → AllByRecursion Q (map f xs)
+pub all_map : {A B : Type 0} (P : A → Type 0) (Q : B → Type 0) (f : A → B) (xs : List A) → ((x : A) → P x → Q (f x)) → AllByRecursion P xs →
+    AllByRecursion Q (map f xs)
 all_map P Q f [] to all = tt
 all_map P Q f (x ∷ xs) to all = (to x all.0, all_map P Q f xs to all.1)
 
-pub all_some : {A B : Type 0} (P : A → Type 0) (Q : B → Type 0) (f : A → Option B) (xs : List A) → ((x : A) → P x → IfSome (f x) Q) → AllByRecursion P xs → AllByRecursion Q (filter_map f xs)
+pub all_some : {A B : Type 0} (P : A → Type 0) (Q : B → Type 0) (f : A → Option B) (xs : List A) → ((x : A) → P x → IfSome (f x) Q) →
+    AllByRecursion P xs → AllByRecursion Q (filter_map f xs)
 all_some P Q f [] to all = tt
 all_some {A} {B} P Q f (x ∷ xs) to all = by (f x) (to x all.0) (all_some P Q f xs to all.1)
   where
@@ -36,7 +32,8 @@ all_some {A} {B} P Q f (x ∷ xs) to all = by (f x) (to x all.0) (all_some P Q f
     by None its ih = ih
     by (Some b) its ih = (its, ih)
 
-pub all_flat : {A B : Type 0} (P : A → Type 0) (Q : B → Type 0) (f : A → List B) (xs : List A) → ((x : A) → P x → AllByRecursion Q (f x)) → AllByRecursion P xs → AllByRecursion Q (flat_map f xs)
+pub all_flat : {A B : Type 0} (P : A → Type 0) (Q : B → Type 0) (f : A → List B) (xs : List A) → ((x : A) → P x → AllByRecursion Q (f x)) →
+    AllByRecursion P xs → AllByRecursion Q (flat_map f xs)
 all_flat P Q f [] to all = tt
 all_flat P Q f (x ∷ xs) to all = all_append Q (f x) (flat_map f xs) (to x all.0) (all_flat P Q f xs to all.1)
 
@@ -64,7 +61,8 @@ pub all_number : (Q : ℕ → Type 0) (n : ℕ) (ns : List ℕ) → Q n → AllB
 all_number Q n [] its all = (its, tt)
 all_number Q n (m ∷ ms) its all = by (nat_cmp n m) (all_number Q n ms its all.1)
   where
-    by : (r : Ordering) → AllByRecursion Q (with_number n ms) → AllByRecursion Q (match_ordering r (n ∷ m ∷ ms) (m ∷ ms) (m ∷ with_number n ms))
+    by : (r : Ordering) → AllByRecursion Q (with_number n ms) →
+        AllByRecursion Q (match_ordering r (n ∷ m ∷ ms) (m ∷ ms) (m ∷ with_number n ms))
     by Less ih = (its, all)
     by Equal ih = all
     by Greater ih = (all.0, ih)
@@ -75,26 +73,31 @@ all_numbers Q (n ∷ ns) all = all_number Q n (number_set ns) all.0 (all_numbers
 
 -- ---- maps and sets by Uid
 
-pub all_put : {X : Type 0} (Q : Uid × X → Type 0) (u : Uid) (v : X) (m : List (Uid × X)) → ((w : Uid) → Q (w, v)) → AllByRecursion Q m → AllByRecursion Q (put_uid u v m)
+pub all_put : {X : Type 0} (Q : Uid × X → Type 0) (u : Uid) (v : X) (m : List (Uid × X)) → ((w : Uid) → Q (w, v)) → AllByRecursion Q m →
+    AllByRecursion Q (put_uid u v m)
 all_put Q u v [] its all = (its u, tt)
 all_put {X} Q u v (e ∷ es) its all = by (uid_order u e.0) (all_put Q u v es its all.1)
   where
-    by : (r : Ordering) → AllByRecursion Q (put_uid u v es) → AllByRecursion Q (match_ordering r ((u, v) ∷ e ∷ es) ((e.0, v) ∷ es) (e ∷ put_uid u v es))
+    by : (r : Ordering) → AllByRecursion Q (put_uid u v es) →
+        AllByRecursion Q (match_ordering r ((u, v) ∷ e ∷ es) ((e.0, v) ∷ es) (e ∷ put_uid u v es))
     by Less ih = (its u, all)
     by Equal ih = (its e.0, all.1)
     by Greater ih = (all.0, ih)
 
 -- a key of which this holds, with a value of which that holds
-pub all_key : {X : Type 0} (K : Uid → Type 0) (V : X → Type 0) (u : Uid) (v : X) (m : List (Uid × X)) → K u → V v → AllByRecursion (λ (e : Uid × X). K e.0 × V e.1) m → AllByRecursion (λ (e : Uid × X). K e.0 × V e.1) (put_uid u v m)
+pub all_key : {X : Type 0} (K : Uid → Type 0) (V : X → Type 0) (u : Uid) (v : X) (m : List (Uid × X)) → K u → V v →
+    AllByRecursion (λ (e : Uid × X). K e.0 × V e.1) m → AllByRecursion (λ (e : Uid × X). K e.0 × V e.1) (put_uid u v m)
 all_key K V u v [] key its all = ((key, its), tt)
 all_key {X} K V u v (e ∷ es) key its all = by (uid_order u e.0) (all_key K V u v es key its all.1)
   where
-    by : (r : Ordering) → AllByRecursion (λ (z : Uid × X). K z.0 × V z.1) (put_uid u v es) → AllByRecursion (λ (z : Uid × X). K z.0 × V z.1) (match_ordering r ((u, v) ∷ e ∷ es) ((e.0, v) ∷ es) (e ∷ put_uid u v es))
+    by : (r : Ordering) → AllByRecursion (λ (z : Uid × X). K z.0 × V z.1) (put_uid u v es) →
+        AllByRecursion (λ (z : Uid × X). K z.0 × V z.1) (match_ordering r ((u, v) ∷ e ∷ es) ((e.0, v) ∷ es) (e ∷ put_uid u v es))
     by Less ih = ((key, its), all)
     by Equal ih = ((all.0.0, its), all.1)
     by Greater ih = (all.0, ih)
 
-pub all_without : {X : Type 0} (Q : Uid × X → Type 0) (u : Uid) (m : List (Uid × X)) → AllByRecursion Q m → AllByRecursion Q (without_uid u m)
+pub all_without : {X : Type 0} (Q : Uid × X → Type 0) (u : Uid) (m : List (Uid × X)) → AllByRecursion Q m →
+    AllByRecursion Q (without_uid u m)
 all_without Q u [] all = tt
 all_without {X} Q u (e ∷ es) all = by (uid_order u e.0) (all_without Q u es all.1)
   where
@@ -103,7 +106,8 @@ all_without {X} Q u (e ∷ es) all = by (uid_order u e.0) (all_without Q u es al
     by Equal ih = all.1
     by Greater ih = (all.0, ih)
 
-pub all_at_uid : {X : Type 0} (Q : X → Type 0) (u : Uid) (v : X) (m : List (Uid × X)) → AllByRecursion (λ (e : Uid × X). Q e.1) m → at_uid u m ≡ Some v → Q v
+pub all_at_uid : {X : Type 0} (Q : X → Type 0) (u : Uid) (v : X) (m : List (Uid × X)) → AllByRecursion (λ (e : Uid × X). Q e.1) m →
+    at_uid u m ≡ Some v → Q v
 all_at_uid {X} Q u v [] all is = let no_way : ◌≡◌ {A = Option X} None (Some v) = is in cc
 all_at_uid {X} Q u v (e ∷ es) all is = by (is_eq (uid_order u e.0)) is (all_at_uid Q u v es all.1)
   where
@@ -140,8 +144,10 @@ module _ {X : Type 0} (K : ℕ → Type 0) (P : X → Type 0) where
   keyed_found k [] x all is = let no_way : ◌≡◌ {A = Option X} None (Some x) = is in cc
   keyed_found k (e ∷ es) x all is = by (is_eq (nat_cmp k e.0)) refl is (keyed_found k es x all.1)
     where
-      by : (b : Bool) → is_eq (nat_cmp k e.0) ≡ b → cond b (Some e.1) (at_number k es) ≡ Some x → (at_number k es ≡ Some x → K k × P x) → K k × P x
-      by true at s ih = let same : e.1 ≡ x = some_is s in let key : e.0 ≡ k = ⊎_elim (λ is. is) (λ apart. never at apart.0) (one_or_two e.0 k) in (subst K key all.0.0, subst P same all.0.1)
+      by : (b : Bool) → is_eq (nat_cmp k e.0) ≡ b → cond b (Some e.1) (at_number k es) ≡ Some x → (at_number k es ≡ Some x → K k × P x) →
+          K k × P x
+      by true at s ih = let same : e.1 ≡ x = some_is s in let key : e.0 ≡ k = ⊎_elim (λ is. is) (λ apart. never at apart.0)
+          (one_or_two e.0 k) in (subst K key all.0.0, subst P same all.0.1)
       by false at s ih = ih s
 
   pub keyed_put : (k : ℕ) (v : X) (m : List (ℕ × X)) → K k → P v → Keyed m → Keyed (put_number k v m)
@@ -166,16 +172,21 @@ keys_found {X} m = by m (λ u found. found)
     itself : (u : Uid) → is_eq (uid_order u u) ≡ true
     itself u = ap is_eq (order_itself u)
 
-    by : (es : List (Uid × X)) → ((u : Uid) → is_some (at_uid u es) ≡ true → is_some (at_uid u m) ≡ true) → AllByRecursion (λ (e : Uid × X). is_some (at_uid e.0 m) ≡ true) es
+    by : (es : List (Uid × X)) → ((u : Uid) → is_some (at_uid u es) ≡ true → is_some (at_uid u m) ≡ true) →
+        AllByRecursion (λ (e : Uid × X). is_some (at_uid e.0 m) ≡ true) es
     by [] up = tt
-    by (e ∷ es) up = (up e.0 (λ i. is_some (cond (itself e.0 i) (Some e.1) (at_uid e.0 es))), by es (λ u found. up u (one u (is_eq (uid_order u e.0)) found)))
+    by (e ∷ es) up = (
+      up e.0 (λ i. is_some (cond (itself e.0 i) (Some e.1) (at_uid e.0 es))),
+      by es (λ u found. up u (one u (is_eq (uid_order u e.0)) found)),
+    )
       where
         one : (u : Uid) (b : Bool) → is_some (at_uid u es) ≡ true → is_some (cond b (Some e.1) (at_uid u es)) ≡ true
         one u true found = refl
         one u false found = found
 
 -- what is found is found after a put
-pub found_put : {X : Type 0} (u w : Uid) (v : X) (m : List (Uid × X)) → is_some (at_uid u m) ≡ true → is_some (at_uid u (put_uid w v m)) ≡ true
+pub found_put : {X : Type 0} (u w : Uid) (v : X) (m : List (Uid × X)) → is_some (at_uid u m) ≡ true →
+    is_some (at_uid u (put_uid w v m)) ≡ true
 found_put u w v [] found = let no_way : false ≡ true = found in cc
 found_put {X} u w v (e ∷ es) found = by (uid_order w e.0) (is_eq (uid_order u e.0)) refl found (found_put u w v es)
   where
@@ -183,7 +194,9 @@ found_put {X} u w v (e ∷ es) found = by (uid_order w e.0) (is_eq (uid_order u 
     first true h = refl
     first false h = h
 
-    by : (r : Ordering) (b : Bool) → is_eq (uid_order u e.0) ≡ b → is_some (cond b (Some e.1) (at_uid u es)) ≡ true → (is_some (at_uid u es) ≡ true → is_some (at_uid u (put_uid w v es)) ≡ true) → is_some (at_uid u (match_ordering r ((w, v) ∷ e ∷ es) ((e.0, v) ∷ es) (e ∷ put_uid w v es))) ≡ true
+    by : (r : Ordering) (b : Bool) → is_eq (uid_order u e.0) ≡ b → is_some (cond b (Some e.1) (at_uid u es)) ≡ true →
+        (is_some (at_uid u es) ≡ true → is_some (at_uid u (put_uid w v es)) ≡ true) →
+        is_some (at_uid u (match_ordering r ((w, v) ∷ e ∷ es) ((e.0, v) ∷ es) (e ∷ put_uid w v es))) ≡ true
     by Less b is h ih = either (is_eq (uid_order u w)) ((λ i. is_some (cond (is i) (Some e.1) (at_uid u es))) ∙ h)
       where
         either : (c : Bool) → is_some (at_uid u (e ∷ es)) ≡ true → is_some (cond c (Some v) (at_uid u (e ∷ es))) ≡ true

@@ -1,29 +1,34 @@
 -- What naming does: the nodes that it has, that it answers, and that it writes.
-use Rattle.std.proofs.Common.{◌≡◌, ◌≤◌, ◌+◌, ◌==◌, ◌||◌, ◌&&◌, arith, length, ℕ, List, [], ◌∷◌, ◌++◌, Bool, true, false, cond, filter, find, map, nat_le, not, Option, Some, None, refl, sym, ◌∙◌, ap, subst}
-use Rattle.std.specs.Prelude.{⊤, IfSome, is_some, option_map}
-use Rattle.std.specs.List.{AllByRecursion, flat_map}
-use Rattle.arj_protocol.proofs.Payloads.{entry_back}
-use Rattle.arj_protocol.specs.Words.{Uid, Binding, BoundReply, ConfirmedReply, End, Entry, Mode, ObjectState, Path, RecordedReply, Row, entry, is_listed, is_on, last_uid, lower_row, tops_of, uid_eq, uids_of, with_store, without_store}
-use Rattle.arj_protocol.specs.Words.body
-use Rattle.arj_protocol.specs.Words.confirmed
-use Rattle.arj_protocol.specs.Words.ending
-use Rattle.arj_protocol.specs.Words.mode
-use Rattle.arj_protocol.specs.Words.part
-use Rattle.arj_protocol.specs.Words.recorded
-use Rattle.arj_protocol.specs.Words.role
-use Rattle.arj_protocol.specs.Words.what
-use Rattle.arj_protocol.specs.Ask.{top_of}
-use Rattle.arj_protocol.specs.Confirm.{Grants, Marks, back_lines, checked, confirm, confirm_entries, confirm_new, confirms, entries_after, entry_after, entry_state, has_all, lock_all, lock_in, marked, named_back, pending_of, prepared_by, recovered_lines, recovered_naming, rows_back, same_nodes, stores_after, wanted, with_stores, without_stores}
-use Rattle.arj_protocol.specs.Copy.{grant_lines, is_granted}
-use Rattle.arj_protocol.specs.Effect.{Already, Did, Do, InDoubt, Look, Old, Pair, Prep, Prepare, Ready, Say, Served, did_nothing, either, held_at, is_prepared, prepare_answer, reply, void}
-use Rattle.arj_protocol.specs.Named.{Counted, Live, Made, Named, bind_call, bind_made, bind_named, conflict_on, end_named, entry_row, first_server, hello_named, in_use, include_asked, is_binding, is_lowered, live_above, live_after, live_asked, lock_lines, locked, lower_lines, lowered, made_above, make_asked, next_server, note_made, note_named, note_other, server_behind}
-use Rattle.arj_protocol.specs.Naming.{Naming, bind, end_entries, end_lines, end_orphans, entry_of, has_locks, hello, is_over, listed_entry, naming_holders, note, on_counted, on_named, orphans, own_entries, taken_end, told, told_new}
-use Rattle.arj_protocol.specs.Order.{at_number, at_uid, binding_eq, binding_less}
-use Rattle.arj_protocol.specs.Server.{row_top}
-use Rattle.arj_protocol.specs.Values.{state_entry}
-use Rattle.arj_law_runs.specs.addresses.Addresses.{AllOf, AreOf, BoundOf, EntryOf, HasEntry, IsEntry, LiveOf, NamedOf, NamingOf, PathOf, RowsOf, StateOf, UidsOf}
-use Rattle.arj_law_runs.proofs.addresses.Lists.{all_append, all_at_uid, all_filter, all_flat, all_map, all_put, all_some, all_without, keyed_each, keyed_found, keyed_put, keys_found}
-use Rattle.arj_law_runs.proofs.addresses.Servers.{asked_of, drop_of, lower_of, pass_of, take_of, top_fits, tops_of_rows}
+use Rattle.arj_law_parts.proofs.Words
+use Words.{◌≡◌, ◌≤◌, ◌+◌, ◌==◌, ◌||◌, ◌&&◌, arith, length, ℕ, List, [], ◌∷◌, ◌++◌, Bool, true, false, cond, filter, find, map, nat_le, not}
+use Words.{Option, Some, None, refl, sym, ◌∙◌, ap, subst, ⊤, IfSome, is_some, option_map, AllByRecursion, flat_map, entry_back, Uid}
+use Words.{Binding, BoundReply, ConfirmedReply, End, Entry, Mode, ObjectState, Path, RecordedReply, Row, entry, is_listed, is_on, last_uid}
+use Words.{lower_row, tops_of, uid_eq, uids_of, with_store, without_store, top_of, Grants, Marks, back_lines, checked, confirm}
+use Words.{confirm_entries, confirm_new, confirms, entries_after, entry_after, entry_state, has_all, lock_all, lock_in, marked, named_back}
+use Words.{pending_of, prepared_by, recovered_lines, recovered_naming, rows_back, same_nodes, stores_after, wanted, with_stores}
+use Words.{without_stores, grant_lines, is_granted, Already, Did, Do, InDoubt, Look, Old, Pair, Prep, Prepare, Ready, Say, Served}
+use Words.{did_nothing, either, held_at, is_prepared, prepare_answer, reply, void, Counted, Live, Made, Named, bind_call, bind_made}
+use Words.{bind_named, conflict_on, end_named, entry_row, hello_named, in_use, include_asked, is_binding, is_lowered, live_above}
+use Words.{live_after, live_asked, lock_lines, locked, lower_lines, lowered, made_above, make_asked, next_server, note_made, note_named}
+use Words.{note_other, Naming, bind, end_entries, end_lines, end_orphans, entry_of, has_locks, hello, is_over, listed_entry, note}
+use Words.{on_counted, on_named, orphans, own_entries, taken_end, told_new, at_number, at_uid, binding_eq, binding_less, row_top}
+use Words.{state_entry}
+use Words.body
+use Words.confirmed
+use Words.ending
+use Words.mode
+use Words.part
+use Words.recorded
+use Words.role
+use Words.what
+use Rattle.arj_law_runs.proofs.Terms
+use Terms.{told, AllOf, AreOf, BoundOf, EntryOf, HasEntry, IsEntry, NamedOf, NamingOf, PathOf, RowsOf, StateOf, UidsOf}
+use Rattle.arj_law_runs.proofs.addresses
+use addresses.Lists.{all_append, all_at_uid, all_filter, all_flat, all_map, all_put, all_some, all_without, keyed_each, keyed_found}
+use addresses.Lists.{keyed_put, keys_found}
+use addresses.Servers.{asked_of, drop_of, lower_of, pass_of, take_of, top_fits, tops_of_rows}
+use Rattle.arj_law_runs.specs.addresses.Addresses.{LiveOf}
+use Rattle.arj_protocol.specs.{Named.first_server, Named.server_behind, Naming.naming_holders}
 
 module _ (G : ℕ → Type 0) where
   abbrev IsMade : Uid × Made → Type 0
@@ -65,22 +70,41 @@ module _ (G : ℕ → Type 0) where
 
   module _ (p : Path) (path : PathOf G p) where
     locked_of : (x : ℕ) (m : Mode) (o : Named) → Is o → Is (locked x p m o)
-    locked_of x m o its = record { rows = asked_of G (entry_row x p m) o.rows (take_of G (tops_of p) (uids_of p) path, top_fits p) its.rows; live = its.live; made = its.made; turn = its.turn }
+    locked_of x m o its = record {
+      rows = asked_of G (entry_row x p m) o.rows (take_of G (tops_of p) (uids_of p) path, top_fits p) its.rows;
+      live = its.live;
+      made = its.made;
+      turn = its.turn;
+    }
 
     module _ (inc x : ℕ) (e : Entry) (its_entry : EntryOf G e) (c : Counted) (its : Is c.named) where
       live_asked_of : (l : Live) → G l.server → (r : Option Row) → IsBound (live_asked inc x p e c l r)
       live_asked_of l server (Some r) = (its, tt, tt)
-      live_asked_of l server None = (locked_of x mode.Read c.named its, (server, its_entry.stores), lines_of 1 (entry_row x p mode.Read) c.named.rows)
+      live_asked_of l server None =
+          (locked_of x mode.Read c.named its, (server, its_entry.stores), lines_of 1 (entry_row x p mode.Read) c.named.rows)
 
       made_of : (q : Option Made) → IfSome q (λ (m : Made). G m.server) → IsBound (bind_made inc x p e c q)
-      made_of (Some m) server = (locked_of x mode.Write c.named its, (server, its_entry.stores), lines_of 1 (entry_row x p mode.Write) c.named.rows)
+      made_of (Some m) server =
+          (locked_of x mode.Write c.named its, (server, its_entry.stores), lines_of 1 (entry_row x p mode.Write) c.named.rows)
       made_of None tells =
           let s = next_server c.named.turn e.servers in
           let next = next_of c.named.turn e.servers its_entry.some its_entry.servers in
-          let l = locked_of x mode.Write c.named its in
-          (record { rows = l.rows; live = l.live; made = all_put IsMade (top_of p) (record { binding = record { inc = inc; count = c.count + 1 }; server = s; recorded = false }) c.named.made (λ w. next) its.made; turn = next }, (next, its_entry.stores), all_append _ (lock_lines x p mode.Write c.named) (Say (body.Bound x (record { inc = inc; count = c.count + 1 }) s) ∷ []) (lines_of 1 (entry_row x p mode.Write) c.named.rows) (tt, tt))
+          let l = locked_of x mode.Write c.named its in (
+            record {
+              rows = l.rows;
+              live = l.live;
+              made =
+                  all_put IsMade (top_of p) (record { binding = record { inc = inc; count = c.count + 1 }; server = s; recorded = false })
+                  c.named.made (λ w. next) its.made;
+              turn = next;
+            },
+            (next, its_entry.stores),
+            all_append _ (lock_lines x p mode.Write c.named) (Say (body.Bound x (record { inc = inc; count = c.count + 1 }) s) ∷ [])
+                (lines_of 1 (entry_row x p mode.Write) c.named.rows) (tt, tt),
+          )
 
-      above_of : (avoid : Binding) (q : Option Made) → IfSome q (λ (m : Made). G m.server) → IfSome (made_above avoid q) (λ (m : Made). G m.server)
+      above_of : (avoid : Binding) (q : Option Made) → IfSome q (λ (m : Made). G m.server) →
+          IfSome (made_above avoid q) (λ (m : Made). G m.server)
       above_of avoid None server = tt
       above_of avoid (Some m) server = by (not m.recorded && binding_less avoid m.binding)
         where
@@ -88,13 +112,15 @@ module _ (G : ℕ → Type 0) where
           by true = server
           by false = tt
 
-      found_of : (u : Uid) (ms : List (Uid × Made)) → AllByRecursion IsMade ms → (q : Option Made) → at_uid u ms ≡ q → IfSome q (λ (m : Made). G m.server)
+      found_of : (u : Uid) (ms : List (Uid × Made)) → AllByRecursion IsMade ms → (q : Option Made) → at_uid u ms ≡ q →
+          IfSome q (λ (m : Made). G m.server)
       found_of u ms all None is = tt
       found_of u ms all (Some m) is = all_at_uid (λ (k : Made). G k.server) u m ms all is
 
       make_of : (avoid : Binding) (r : Option Row) → IsBound (make_asked inc x p avoid e c r)
       make_of avoid (Some r) = (its, tt, tt)
-      make_of avoid None = made_of (made_above avoid (at_uid (top_of p) c.named.made)) (above_of avoid (at_uid (top_of p) c.named.made) (found_of (top_of p) c.named.made its.made (at_uid (top_of p) c.named.made) refl))
+      make_of avoid None = made_of (made_above avoid (at_uid (top_of p) c.named.made)) (above_of avoid (at_uid (top_of p) c.named.made)
+          (found_of (top_of p) c.named.made its.made (at_uid (top_of p) c.named.made) refl))
 
       live_of : (avoid : Binding) (l : Option Live) → LiveOf G l → LiveOf G (live_above avoid l)
       live_of avoid None so = tt
@@ -110,7 +136,11 @@ module _ (G : ℕ → Type 0) where
 
       include_of : (r : Option Row) → IsBound (include_asked inc x p e c r)
       include_of (Some r) = (its, tt, tt)
-      include_of None = let l = locked_of x mode.Write c.named its in (record { rows = l.rows; live = l.live; made = l.made; turn = l.turn }, its_entry.stores, lines_of 1 (entry_row x p mode.Write) c.named.rows)
+      include_of None = let l = locked_of x mode.Write c.named its in (
+        record { rows = l.rows; live = l.live; made = l.made; turn = l.turn },
+        its_entry.stores,
+        lines_of 1 (entry_row x p mode.Write) c.named.rows,
+      )
 
       bound_of : (include : Bool) (avoid : Binding) → IsBound (bind_named inc x p include avoid e c)
       bound_of true avoid = include_of (conflict_on x p mode.Write c.named)
@@ -135,7 +165,8 @@ module _ (G : ℕ → Type 0) where
       by None is = let no_way : false ≡ true = sym (ap is_some is) ∙ has in absurd (cc no_way)
       by (Some s) is = (held_of (entry x) s d.held held is).1
 
-  pub bind_of : (p : Path) (x : ℕ) (include : Bool) (avoid : Binding) (d : Pair) (n : Naming) → PathOf G p → IsHeld d.held → NamingOf G d n → (let r = bind p x include avoid d n in NamingOf G d r.part × IfSome r.reply (BoundOf G) × AllOf G r.outs)
+  pub bind_of : (p : Path) (x : ℕ) (include : Bool) (avoid : Binding) (d : Pair) (n : Naming) → PathOf G p → IsHeld d.held →
+      NamingOf G d n → (let r = bind p x include avoid d n in NamingOf G d r.part × IfSome r.reply (BoundOf G) × AllOf G r.outs)
   bind_of p x include avoid d n path held all = by (is_over p n)
     where
       call : Counted → Served Counted BoundReply
@@ -146,7 +177,9 @@ module _ (G : ℕ → Type 0) where
 
       there : (o : Option Named) → at_number x n.objects ≡ o → Well (on_counted x call n o)
       there None is = (all, tt, tt)
-      there (Some o) is = let f = keyed_found (HasEntry d) Is x n.objects o all is in let r = bound_of p path n.inc x (listed_entry x d) (listed_of x d f.0 held) (record { named = o; count = n.count }) f.1 include avoid in (keyed_put (HasEntry d) Is x _ n.objects f.0 r.0 all, r.1, r.2)
+      there (Some o) is = let f = keyed_found (HasEntry d) Is x n.objects o all is in let r = bound_of p path n.inc x (listed_entry x d)
+          (listed_of x d f.0 held) (record { named = o; count = n.count }) f.1 include avoid in
+          (keyed_put (HasEntry d) Is x _ n.objects f.0 r.0 all, r.1, r.2)
 
       by : (b : Bool) → Well (cond b (void n) (on_counted x call n (at_number x n.objects)))
       by true = (all, tt, tt)
@@ -167,9 +200,15 @@ module _ (G : ℕ → Type 0) where
       made : (m : Made) → G m.server → Is (note_made x top i o m).part
       made m its = one m.recorded
         where
-          one : (c : Bool) → Is (cond {A = Served Named RecordedReply} c (reply o recorded.Yes) (record { part = lowered x top (in_use top m i o); outs = lower_lines x top o; reply = Some recorded.Yes })).part
+          one : (c : Bool) → Is (cond {A = Served Named RecordedReply} c (reply o recorded.Yes)
+              (record { part = lowered x top (in_use top m i o); outs = lower_lines x top o; reply = Some recorded.Yes })).part
           one true = so
-          one false = lowered_of (in_use top m i o) (record { rows = so.rows; live = its; made = all_put IsMade top (record m { recorded = true }) o.made (λ w. its) so.made; turn = so.turn })
+          one false = lowered_of (in_use top m i o) (record {
+            rows = so.rows;
+            live = its;
+            made = all_put IsMade top (record m { recorded = true }) o.made (λ w. its) so.made;
+            turn = so.turn;
+          })
 
       other : (q : Option Made) → at_uid top o.made ≡ q → Is (note_other x top b i o q).part
       other None is = so
@@ -179,7 +218,8 @@ module _ (G : ℕ → Type 0) where
           one true = made m (all_at_uid (λ (k : Made). G k.server) top m o.made so.made is)
           one false = so
 
-      by : (c : Bool) → Is (cond {A = Served Named RecordedReply} c (reply o recorded.Yes) (note_other x top b i o (at_uid top o.made))).part
+      by : (c : Bool) →
+          Is (cond {A = Served Named RecordedReply} c (reply o recorded.Yes) (note_other x top b i o (at_uid top o.made))).part
       by true = so
       by false = other (at_uid top o.made) refl
 
@@ -190,7 +230,8 @@ module _ (G : ℕ → Type 0) where
       low true = (tt, tt)
       low false = tt
 
-      made : (m : Made) (c : Bool) → AllOf G (cond {A = Served Named RecordedReply} c (reply o recorded.Yes) (record { part = lowered x top (in_use top m i o); outs = lower_lines x top o; reply = Some recorded.Yes })).outs
+      made : (m : Made) (c : Bool) → AllOf G (cond {A = Served Named RecordedReply} c (reply o recorded.Yes)
+          (record { part = lowered x top (in_use top m i o); outs = lower_lines x top o; reply = Some recorded.Yes })).outs
       made m true = tt
       made m false = low (is_lowered x top o)
 
@@ -202,11 +243,13 @@ module _ (G : ℕ → Type 0) where
       other None = tt
       other (Some m) = same m (binding_eq b m.binding)
 
-      by : (c : Bool) → AllOf G (cond {A = Served Named RecordedReply} c (reply o recorded.Yes) (note_other x top b i o (at_uid top o.made))).outs
+      by : (c : Bool) →
+          AllOf G (cond {A = Served Named RecordedReply} c (reply o recorded.Yes) (note_other x top b i o (at_uid top o.made))).outs
       by true = tt
       by false = other (at_uid top o.made)
 
-  pub note_of : (p : Path) (x : ℕ) (b : Binding) (i g : ℕ) (d : Pair) (n : Naming) → NamingOf G d n → (let r = note p x b i g n in NamingOf G d r.part × AllOf G r.outs)
+  pub note_of : (p : Path) (x : ℕ) (b : Binding) (i g : ℕ) (d : Pair) (n : Naming) → NamingOf G d n →
+      (let r = note p x b i g n in NamingOf G d r.part × AllOf G r.outs)
   note_of p x b i g d n all = by (is_over p n || not (is_some (at_number x n.objects))) (g == n.inc)
     where
       Well : Served Naming RecordedReply → Type 0
@@ -214,9 +257,13 @@ module _ (G : ℕ → Type 0) where
 
       there : (o : Option Named) → at_number x n.objects ≡ o → Well (on_named x (note_named x (top_of p) b i) n o)
       there None is = (all, tt)
-      there (Some o) is = let f = keyed_found (HasEntry d) Is x n.objects o all is in (keyed_put (HasEntry d) Is x (note_named x (top_of p) b i o).part n.objects f.0 (noted_of x (top_of p) b i o f.1) all, note_says x (top_of p) b i o)
+      there (Some o) is = let f = keyed_found (HasEntry d) Is x n.objects o all is in (
+        keyed_put (HasEntry d) Is x (note_named x (top_of p) b i o).part n.objects f.0 (noted_of x (top_of p) b i o f.1) all,
+        note_says x (top_of p) b i o,
+      )
 
-      by : (over ours : Bool) → Well (cond {A = Served Naming RecordedReply} over (void n) (cond {A = Served Naming RecordedReply} ours (on_named x (note_named x (top_of p) b i) n (at_number x n.objects)) (reply n (recorded.Changed (what.Inc g n.inc)))))
+      by : (over ours : Bool) → Well (cond {A = Served Naming RecordedReply} over (void n) (cond {A = Served Naming RecordedReply} ours
+          (on_named x (note_named x (top_of p) b i) n (at_number x n.objects)) (reply n (recorded.Changed (what.Inc g n.inc)))))
       by true ours = (all, tt)
       by false true = there (at_number x n.objects) refl
       by false false = (all, tt)
@@ -235,14 +282,18 @@ module _ (G : ℕ → Type 0) where
   without_of [] stores all = all
   without_of (s ∷ ss) stores all = without_of ss (without_store s stores) (all_filter G _ stores all)
 
-  pub listed_after : (x : ℕ) (excluded included : Marks) (stores : List ℕ) → AllByRecursion (λ (m : ℕ × ℕ). G m.1) included → AreOf G stores → AreOf G (with_stores (marked x included) (without_stores (marked x excluded) stores))
+  pub listed_after : (x : ℕ) (excluded included : Marks) (stores : List ℕ) → AllByRecursion (λ (m : ℕ × ℕ). G m.1) included →
+      AreOf G stores → AreOf G (with_stores (marked x included) (without_stores (marked x excluded) stores))
   listed_after x excluded included stores its all =
       with_of (marked x included) (without_stores (marked x excluded) stores)
-      (all_map (λ (m : ℕ × ℕ). G m.1) G (λ (m : ℕ × ℕ). m.1) (filter (λ (m : ℕ × ℕ). m.0 == x) included) (λ m s. s) (all_filter (λ (m : ℕ × ℕ). G m.1) (λ (m : ℕ × ℕ). m.0 == x) included its))
+      (all_map (λ (m : ℕ × ℕ). G m.1) G (λ (m : ℕ × ℕ). m.1) (filter (λ (m : ℕ × ℕ). m.0 == x) included) (λ m s. s)
+      (all_filter (λ (m : ℕ × ℕ). G m.1) (λ (m : ℕ × ℕ). m.0 == x) included its))
       (without_of (marked x excluded) stores all)
 
-  entries_of : (top : Uid) (grants : Grants) (excluded included : Marks) (d : Pair) → AllByRecursion (λ (m : ℕ × ℕ). G m.1) included → IsHeld d.held → AllByRecursion (StateOf G) (entries_after top grants excluded included d)
-  entries_of top grants excluded included d its held = all_some (λ (g : ℕ × ℕ). ⊤) (StateOf G) (λ (g : ℕ × ℕ). entry_after top excluded included g.0 (held_at (entry g.0) d)) grants (λ g u. by g.0 (held_at (entry g.0) d) refl) (anything grants)
+  entries_of : (top : Uid) (grants : Grants) (excluded included : Marks) (d : Pair) → AllByRecursion (λ (m : ℕ × ℕ). G m.1) included →
+      IsHeld d.held → AllByRecursion (StateOf G) (entries_after top grants excluded included d)
+  entries_of top grants excluded included d its held = all_some (λ (g : ℕ × ℕ). ⊤) (StateOf G) (λ (g : ℕ × ℕ).
+      entry_after top excluded included g.0 (held_at (entry g.0) d)) grants (λ g u. by g.0 (held_at (entry g.0) d) refl) (anything grants)
     where
       anything : (gs : Grants) → AllByRecursion (λ (g : ℕ × ℕ). ⊤) gs
       anything [] = tt
@@ -260,41 +311,65 @@ module _ (G : ℕ → Type 0) where
 
           one : (b : Bool) → IfSome (cond b None (Some (entry_state x top s stores))) (StateOf G)
           one true = tt
-          one false = (refl, subst (EntryOf G) (sym (entry_back (record { servers = (state_entry s).servers; stores = stores }))) (record { servers = was.servers; stores = listed_after x excluded included (state_entry s).stores its was.stores; some = was.some }))
+          one false = (
+            refl,
+            subst (EntryOf G) (sym (entry_back (record { servers = (state_entry s).servers; stores = stores }))) (record {
+              servers = was.servers;
+              stores = listed_after x excluded included (state_entry s).stores its was.stores;
+              some = was.some;
+            }),
+          )
 
   module _ (p : Path) (path : PathOf G p) (act : G (let u = top_of p in u.node)) where
     locks_of : (q : Pair) (xs : List ℕ) (n : Naming) → NamingOf G q n → (let d = lock_all xs p n in NamingOf G q d.part × AllOf G d.outs)
     locks_of q [] n all = (all, tt)
     locks_of q (x ∷ xs) n all =
         let f = one (at_number x n.objects) refl in
-        let r = locks_of q xs (lock_in x p n (at_number x n.objects)).part f.0 in
-        (r.0, all_append _ (lock_in x p n (at_number x n.objects)).outs (lock_all xs p (lock_in x p n (at_number x n.objects)).part).outs f.1 r.1)
+        let r = locks_of q xs (lock_in x p n (at_number x n.objects)).part f.0 in (
+          r.0,
+          all_append _ (lock_in x p n (at_number x n.objects)).outs (lock_all xs p (lock_in x p n (at_number x n.objects)).part).outs f.1
+              r.1,
+        )
       where
         one : (o : Option Named) → at_number x n.objects ≡ o → (let d = lock_in x p n o in NamingOf G q d.part × AllOf G d.outs)
         one None is = (all, tt)
-        one (Some o) is = let f = keyed_found (HasEntry q) Is x n.objects o all is in (keyed_put (HasEntry q) Is x (locked x p mode.Exclude o) n.objects f.0 (locked_of p path x mode.Exclude o f.1) all, lines_of 1 (entry_row x p mode.Exclude) o.rows)
+        one (Some o) is = let f = keyed_found (HasEntry q) Is x n.objects o all is in (
+          keyed_put (HasEntry q) Is x (locked x p mode.Exclude o) n.objects f.0 (locked_of p path x mode.Exclude o f.1) all,
+          lines_of 1 (entry_row x p mode.Exclude) o.rows,
+        )
 
-    pub confirm_of : (grants : Grants) (excluded included : Marks) (d : Pair) (n : Naming) → AllByRecursion (λ (m : ℕ × ℕ). G m.1) included → IsHeld d.held → NamingOf G d n → (let r = confirm p grants excluded included d n in NamingOf G d r.part × AllOf G r.outs)
-    confirm_of grants excluded included d n its held all = by (is_over p n || not (has_all grants n)) (is_on n.confirmed (top_of p) || is_prepared (top_of p) d)
+    pub confirm_of : (grants : Grants) (excluded included : Marks) (d : Pair) (n : Naming) → AllByRecursion (λ (m : ℕ × ℕ). G m.1) included
+        → IsHeld d.held → NamingOf G d n → (let r = confirm p grants excluded included d n in NamingOf G d r.part × AllOf G r.outs)
+    confirm_of grants excluded included d n its held all =
+        by (is_over p n || not (has_all grants n)) (is_on n.confirmed (top_of p) || is_prepared (top_of p) d)
       where
         Well : Served Naming ConfirmedReply → Type 0
         Well r = NamingOf G d r.part × AllOf G r.outs
 
-        answered : (states : List ObjectState) (t : Did Naming) (a : Prep) → AllByRecursion (StateOf G) states → NamingOf G d t.part × AllOf G t.outs → Well (prepared_by (top_of p) states t a)
-        answered states t Ready all_states s = (s.0, all_append _ t.outs (Do Look ∷ Do (Prepare role.Names (top_of p) states) ∷ Say (body.Prepared 1 (top_of p) role.Names) ∷ []) s.1 (tt, ((act, all_states), (tt, tt))))
+        answered : (states : List ObjectState) (t : Did Naming) (a : Prep) → AllByRecursion (StateOf G) states →
+            NamingOf G d t.part × AllOf G t.outs → Well (prepared_by (top_of p) states t a)
+        answered states t Ready all_states s = (
+          s.0,
+          all_append _ t.outs (Do Look ∷ Do (Prepare role.Names (top_of p) states) ∷ Say (body.Prepared 1 (top_of p) role.Names) ∷ []) s.1
+              (tt, ((act, all_states), (tt, tt))),
+        )
         answered states t (Already u) all_states s = (s.0, all_append _ t.outs (Do Look ∷ []) s.1 (tt, tt))
         answered states t (Old u v) all_states s = (s.0, all_append _ t.outs (Do Look ∷ []) s.1 (tt, tt))
         answered states t (InDoubt u v) all_states s = (s.0, all_append _ t.outs (Do Look ∷ []) s.1 (tt, tt))
 
-        entries : (states : List ObjectState) (t : Did Naming) → AllByRecursion (StateOf G) states → NamingOf G d t.part × AllOf G t.outs → Well (confirm_entries (top_of p) states d t)
+        entries : (states : List ObjectState) (t : Did Naming) → AllByRecursion (StateOf G) states → NamingOf G d t.part × AllOf G t.outs →
+            Well (confirm_entries (top_of p) states d t)
         entries [] t all_states s = s
         entries (x ∷ xs) t all_states s = answered (x ∷ xs) t (prepare_answer (top_of p) (x ∷ xs) d) all_states s
 
         new : (c : Option ConfirmedReply) → Well (confirm_new p grants excluded included d n c)
         new (Some r) = (all, tt)
-        new None = entries (entries_after (top_of p) grants excluded included d) (lock_all (wanted (top_of p) grants excluded d) p n) (entries_of (top_of p) grants excluded included d its held) (locks_of d (wanted (top_of p) grants excluded d) n all)
+        new None = entries (entries_after (top_of p) grants excluded included d) (lock_all (wanted (top_of p) grants excluded d) p n)
+            (entries_of (top_of p) grants excluded included d its held) (locks_of d (wanted (top_of p) grants excluded d) n all)
 
-        by : (over again : Bool) → Well (cond {A = Served Naming ConfirmedReply} over (void n) (cond {A = Served Naming ConfirmedReply} again (reply (confirms (top_of p) n) confirmed.Yes) (confirm_new p grants excluded included d n (checked p grants excluded included d n))))
+        by : (over again : Bool) →
+            Well (cond {A = Served Naming ConfirmedReply} over (void n) (cond {A = Served Naming ConfirmedReply} again (reply
+            (confirms (top_of p) n) confirmed.Yes) (confirm_new p grants excluded included d n (checked p grants excluded included d n))))
         by true again = (all, tt)
         by false true = (all, tt)
         by false false = new (checked p grants excluded included d n)
@@ -305,12 +380,19 @@ module _ (G : ℕ → Type 0) where
   ends_of u ending.Commit = (tt, (tt, tt))
   ends_of u ending.Abort = (tt, (tt, tt))
 
-  pub told_of : (u : Uid) (e : End) (d : Pair) (n : Naming) → NamingOf G d n → (let r = told u e d n in NamingOf G d r.part × AllOf G r.outs)
-  told_of u e d n all = (part_of (is_on n.told u), all_append _ (own_entries u e d) (let t = cond {A = Did Naming} (is_on n.told u) (did_nothing n) (told_new u (taken_end u e n) d n) in t.outs) (own (is_prepared u d)) (outs_of (is_on n.told u)))
+  pub told_of : (u : Uid) (e : End) (d : Pair) (n : Naming) → NamingOf G d n →
+      (let r = told u e d n in NamingOf G d r.part × AllOf G r.outs)
+  told_of u e d n all = (
+    part_of (is_on n.told u),
+    all_append _ (own_entries u e d) (let t = cond {A = Did Naming} (is_on n.told u) (did_nothing n) (told_new u (taken_end u e n) d n) in
+        t.outs) (own (is_prepared u d)) (outs_of (is_on n.told u)),
+  )
     where
       ended : (end : End) (o : Named) → Is o → Is (end_named u end o)
-      ended ending.Commit o s = record { rows = pass_of G u o.rows s.rows; live = s.live; made = all_without IsMade u o.made s.made; turn = s.turn }
-      ended ending.Abort o s = record { rows = drop_of G u o.rows s.rows; live = s.live; made = all_without IsMade u o.made s.made; turn = s.turn }
+      ended ending.Commit o s =
+          record { rows = pass_of G u o.rows s.rows; live = s.live; made = all_without IsMade u o.made s.made; turn = s.turn }
+      ended ending.Abort o s =
+          record { rows = drop_of G u o.rows s.rows; live = s.live; made = all_without IsMade u o.made s.made; turn = s.turn }
 
       part_of : (b : Bool) → NamingOf G d (cond {A = Did Naming} b (did_nothing n) (told_new u (taken_end u e n) d n)).part
       part_of true = all
@@ -322,7 +404,8 @@ module _ (G : ℕ → Type 0) where
 
       all_ends : (us : List Uid) → AllOf G (flat_map (λ act. end_entries act ending.Abort) us)
       all_ends [] = tt
-      all_ends (w ∷ ws) = all_append _ (end_entries w ending.Abort) (flat_map (λ act. end_entries act ending.Abort) ws) (ends_of w ending.Abort) (all_ends ws)
+      all_ends (w ∷ ws) = all_append _ (end_entries w ending.Abort) (flat_map (λ act. end_entries act ending.Abort) ws)
+          (ends_of w ending.Abort) (all_ends ws)
 
       orphan : (end : End) → AllOf G (end_orphans u end d n)
       orphan ending.Commit = tt
@@ -334,10 +417,12 @@ module _ (G : ℕ → Type 0) where
 
       outs_of : (b : Bool) → AllOf G (cond {A = Did Naming} b (did_nothing n) (told_new u (taken_end u e n) d n)).outs
       outs_of true = tt
-      outs_of false = all_append _ (end_orphans u (taken_end u e n) d n) (end_lines u (taken_end u e n) n) (orphan (taken_end u e n)) (lines (taken_end u e n) (has_locks u n))
+      outs_of false = all_append _ (end_orphans u (taken_end u e n) d n) (end_lines u (taken_end u e n) n) (orphan (taken_end u e n))
+          (lines (taken_end u e n) (has_locks u n))
 
   pub hello_of : (node inc : ℕ) (d : Pair) (n : Naming) → NamingOf G d n → NamingOf G d (hello node inc n)
-  hello_of node inc d n all = keyed_each (HasEntry d) Is (λ k. hello_named node inc) (λ k o s. record { rows = s.rows; live = after o.live s.live; made = s.made; turn = s.turn }) n.objects all
+  hello_of node inc d n all = keyed_each (HasEntry d) Is (λ k. hello_named node inc)
+      (λ k o s. record { rows = s.rows; live = after o.live s.live; made = s.made; turn = s.turn }) n.objects all
     where
       after : (l : Option Live) → LiveOf G l → LiveOf G (live_after node inc l)
       after None its = tt
@@ -348,26 +433,38 @@ module _ (G : ℕ → Type 0) where
           by false = its
 
   pub holders_of : (d : Pair) (n : Naming) → NamingOf G d n → UidsOf G (naming_holders n)
-  holders_of d n all = all_flat (λ (e : ℕ × Named). HasEntry d e.0 × Is e.1) (λ (u : Uid). G u.node) (λ (e : ℕ × Named). map row_top e.1.rows) n.objects (λ e its. tops_of_rows G e.1.rows its.1.rows) all
+  holders_of d n all = all_flat (λ (e : ℕ × Named). HasEntry d e.0 × Is e.1) (λ (u : Uid). G u.node)
+      (λ (e : ℕ × Named). map row_top e.1.rows) n.objects (λ e its. tops_of_rows G e.1.rows its.1.rows) all
 
-  pub recovered_of : (inc : ℕ) (d : Pair) → AllByRecursion (λ (e : Uid × List ObjectState). G e.0.node × AllByRecursion (StateOf G) e.1) d.pend → IsHeld d.held → NamingOf G d (recovered_naming inc d)
+  pub recovered_of : (inc : ℕ) (d : Pair) → AllByRecursion (λ (e : Uid × List ObjectState). G e.0.node × AllByRecursion (StateOf G) e.1)
+      d.pend → IsHeld d.held → NamingOf G d (recovered_naming inc d)
   recovered_of inc d pend held = by d.held held (keys_found d.held)
     where
-      pending : (u : Uid) (ps : List (Uid × List ObjectState)) → AllByRecursion (λ (e : Uid × List ObjectState). G e.0.node × AllByRecursion (StateOf G) e.1) ps → IfSome (pending_of u ps) (λ (q : Uid × ObjectState). G q.0.node)
+      pending : (u : Uid) (ps : List (Uid × List ObjectState)) → AllByRecursion (λ (e : Uid × List ObjectState). G e.0.node
+          × AllByRecursion (StateOf G) e.1) ps → IfSome (pending_of u ps) (λ (q : Uid × ObjectState). G q.0.node)
       pending u [] all = tt
       pending u (p ∷ ps) all = one (find (λ s. uid_eq s.uid u) p.1) (pending u ps all.1)
         where
-          one : (o : Option ObjectState) → IfSome (pending_of u ps) (λ (q : Uid × ObjectState). G q.0.node) → IfSome (either (option_map (λ s. (p.0, s)) o) (pending_of u ps)) (λ (q : Uid × ObjectState). G q.0.node)
+          one : (o : Option ObjectState) → IfSome (pending_of u ps) (λ (q : Uid × ObjectState). G q.0.node) →
+              IfSome (either (option_map (λ s. (p.0, s)) o) (pending_of u ps)) (λ (q : Uid × ObjectState). G q.0.node)
           one None ih = ih
           one (Some s) ih = all.0.0
 
-      back : (u : Uid) (held : ObjectState) (q : Option (Uid × ObjectState)) → IfSome q (λ (p : Uid × ObjectState). G p.0.node) → RowsOf G (rows_back u held q)
+      back : (u : Uid) (held : ObjectState) (q : Option (Uid × ObjectState)) → IfSome q (λ (p : Uid × ObjectState). G p.0.node) →
+          RowsOf G (rows_back u held q)
       back u held None its = tt
       back u held (Some p) its = (((its, tt), omega arith), tt)
 
-      by : (es : List (Uid × ObjectState)) → IsHeld es → AllByRecursion (λ (e : Uid × ObjectState). is_some (at_uid e.0 d.held) ≡ true) es → AllByRecursion (λ (e : ℕ × Named). HasEntry d e.0 × Is e.1) (map (named_back d) es)
+      by : (es : List (Uid × ObjectState)) → IsHeld es → AllByRecursion (λ (e : Uid × ObjectState). is_some (at_uid e.0 d.held) ≡ true) es
+          → AllByRecursion (λ (e : ℕ × Named). HasEntry d e.0 × Is e.1) (map (named_back d) es)
       by [] all found = tt
-      by (e ∷ es) all found = ((ap (λ u. is_some (at_uid u d.held)) (sym all.0.0) ∙ found.0, record { rows = back e.0 e.1 (pending_of e.0 d.pend) (pending e.0 d.pend pend); live = tt; made = tt; turn = tt }), by es all.1 found.1)
+      by (e ∷ es) all found = (
+        (
+          ap (λ u. is_some (at_uid u d.held)) (sym all.0.0) ∙ found.0,
+          record { rows = back e.0 e.1 (pending_of e.0 d.pend) (pending e.0 d.pend pend); live = tt; made = tt; turn = tt },
+        ),
+        by es all.1 found.1,
+      )
 
   pub back_of : (n : Naming) → AllOf G (recovered_lines n)
   back_of n = by n.objects

@@ -1,43 +1,35 @@
 -- What a node makes of a message, and what it does at a tick and as it comes up.
-use Rattle.std.proofs.Common.{◌≡◌, ◌==◌, ◌+◌, ℕ, List, [], ◌∷◌, ◌++◌, Bool, true, false, cond, filter, map, Option, Some, None, refl, subst}
-use Rattle.std.specs.Prelude.{⊤, IfSome, is_some, option_map, unwrap_or}
-use Rattle.std.specs.Ordering.{match_ordering}
-use Rattle.std.specs.declared.cmp.Ordering.{Ordering}
-use Rattle.std.specs.declared.cmp.Ordering.TheVariants.{Less, Equal, Greater}
-use Rattle.arj_base.specs.Order.{uid_order}
-use Rattle.std.specs.List.{AllByRecursion, list_all}
-use Rattle.std.proofs.lemmas.Bool.{and_parts}
-use Rattle.arj_protocol.proofs.PartSays.{activate_own, ends_own, invoke_own, vote_own}
-use Rattle.arj_protocol.specs.Words.{Ask, Asked, BoundReply, End, Head, Header, Message, ObjectState, Uid, asks, entry, object}
-use Rattle.arj_protocol.specs.Words.ask
-use Rattle.arj_protocol.specs.Words.body
-use Rattle.arj_protocol.specs.Words.ending
-use Rattle.arj_protocol.specs.Words.message
-use Rattle.arj_protocol.specs.Words.prepared
-use Rattle.arj_protocol.specs.Words.role
-use Rattle.arj_protocol.specs.Ask.{Reply, actor, answers, asked_by, last_end, response}
-use Rattle.arj_protocol.specs.Asking.{again_all, heard}
-use Rattle.arj_protocol.specs.Confirm.{confirm, recovered_naming}
-use Rattle.arj_protocol.specs.Coord.{Coord}
-use Rattle.arj_protocol.specs.Effect.{Abort, After, Already, Before, Commit, Disk, Do, Effect, InDoubt, InPart, Intent, Look, Old, Pair, Prep, Prepare, PutInc, PutIntent, Ready, RemoveIntent, Say, Send, Served, Stop, Work, held_at, holder_of, is_prepared, moved, moved_some, new_states, prepare_answer, stopped, worked}
-use Rattle.arj_protocol.specs.Ending.{acked}
-use Rattle.arj_protocol.specs.Follow.{tick_outs}
-use Rattle.arj_protocol.specs.Named.{Named}
-use Rattle.arj_protocol.specs.Naming as naming
-use Rattle.arj_protocol.specs.Naming.{Naming}
-use Rattle.arj_protocol.specs.Node.{Handled, Parts, Took, Void, ack_told, by_reply, coord_heard, end_states, handle, handle_answer, handle_ask, handle_ends, handle_other, holders, if_naming, is_earlier, load_by, load_held, locks_of, naming_hello, naming_told, prepare_by, prepared_actions, query_about, sends_answer, serve, served, store_told, with_coord, with_naming, with_server}
-use Rattle.arj_protocol.specs.Order.{at_uid, put_uid, uid_set, without_number}
-use Rattle.arj_protocol.specs.Says.{AreAll, is_server_effect}
-use Rattle.arj_protocol.specs.Server as server
-use Rattle.arj_protocol.specs.Server.{Server, server_holders}
-use Rattle.arj_protocol.specs.Step.{Node, hello_to, naming_at, naming_back, numbers_to, parts_in, recovered_records, restart_outs, tolds_again}
-use Rattle.arj_law_runs.specs.addresses.Addresses.{AllOf, AnsweredOf, AreOf, AskOf, AskedOf, BoundOf, CoordOf, CopiesOf, DiskOf, EffectOf, HasEntry, IsEntry, MessageOf, NamedOf, NamesOf, NamingOf, PartsOf, PathOf, ReplyOf, StateOf, UidsOf, WorkOf}
-use Rattle.arj_law_runs.specs.addresses.Binds.{AnswersWaiting}
-use Rattle.arj_law_runs.proofs.addresses.Coords.{acked_of, again_of, heard_of, new_of, query_of, told_again_of}
-use Rattle.arj_law_runs.proofs.addresses.Lists.{all_append, all_at_uid, all_filter, all_key, all_map, all_put, all_uids, all_without, found_put}
+use Rattle.arj_law_parts.proofs.Words
+use Words.{◌≡◌, ◌==◌, ◌+◌, ℕ, List, [], ◌∷◌, ◌++◌, Bool, true, false, cond, filter, map, Option, Some, None, refl, subst, ⊤, IfSome}
+use Words.{is_some, option_map, unwrap_or, match_ordering, Ordering, Less, Equal, Greater, uid_order, AllByRecursion, list_all, and_parts}
+use Words.{activate_own, ends_own, invoke_own, vote_own, Ask, Asked, BoundReply, End, Head, Header, Message, ObjectState, Uid, asks, entry}
+use Words.{object, Reply, actor, answers, asked_by, last_end, response, again_all, heard, confirm, recovered_naming, Coord, Abort, After}
+use Words.{Already, Before, Commit, Disk, Do, Effect, InDoubt, InPart, Intent, Look, Old, Pair, Prep, Prepare, PutInc, PutIntent, Ready}
+use Words.{RemoveIntent, Say, Send, Served, Stop, Work, held_at, holder_of, is_prepared, moved_some, new_states, prepare_answer, stopped}
+use Words.{worked, acked, tick_outs, Named, Naming, Handled, Parts, Took, Void, ack_told, by_reply, coord_heard, end_states, handle}
+use Words.{handle_answer, handle_ask, handle_ends, handle_other, holders, if_naming, is_earlier, load_by, load_held, locks_of, naming_hello}
+use Words.{naming_told, prepare_by, prepared_actions, query_about, sends_answer, serve, served, store_told, with_coord, with_naming}
+use Words.{with_server, at_uid, put_uid, uid_set, without_number, AreAll, is_server_effect, Server, server_holders, Node, hello_to}
+use Words.{naming_at, naming_back, numbers_to, parts_in, recovered_records, restart_outs, tolds_again}
+use Words.ask
+use Words.body
+use Words.ending
+use Words.message
+use Words.prepared
+use Words.role
+use Words.naming
+use Words.server
+use Rattle.arj_law_runs.proofs.Terms
+use Terms.{AllOf, AreOf, AskOf, BoundOf, CoordOf, CopiesOf, DiskOf, HasEntry, IsEntry, MessageOf, NamedOf, NamingOf, PartsOf, PathOf}
+use Terms.{ReplyOf, StateOf, UidsOf, AnswersWaiting}
+use Rattle.arj_law_runs.proofs.addresses
+use addresses.{Servers.actor_of}
+use addresses.Coords.{acked_of, again_of, heard_of, new_of, query_of, told_again_of}
+use addresses.Lists.{all_append, all_at_uid, all_filter, all_key, all_map, all_put, all_uids, all_without, found_put}
+use Rattle.arj_law_runs.specs.addresses.Addresses.{AnsweredOf, AskedOf, EffectOf, NamesOf, WorkOf}
+use Rattle.arj_protocol.specs.Effect.{moved}
 use Rattle.arj_law_runs.proofs.addresses.Namings as names
 use Rattle.arj_law_runs.proofs.addresses.Servers as servers
-use Rattle.arj_law_runs.proofs.addresses.Servers.{actor_of}
 
 module _ (G : ℕ → Type 0) (one : G 1) where
   both : (es fs : List Effect) → AllOf G es → AllOf G fs → AllOf G (es ++ fs)
@@ -46,7 +38,8 @@ module _ (G : ℕ → Type 0) (one : G 1) where
   -- a server's lines
   server_lines : (n : ℕ) (es : List Effect) → AreAll (is_server_effect n) es → AllOf G es
   server_lines n [] own = tt
-  server_lines n (Say b ∷ es) own = (tt, server_lines n es (and_parts (is_server_effect n (Say b)) (list_all (is_server_effect n) es) own).1)
+  server_lines n (Say b ∷ es) own =
+      (tt, server_lines n es (and_parts (is_server_effect n (Say b)) (list_all (is_server_effect n) es) own).1)
   server_lines n (Send to m ∷ es) own = absurd (cc own)
   server_lines n (Do w ∷ es) own = absurd (cc own)
 
@@ -67,13 +60,16 @@ module _ (G : ℕ → Type 0) (one : G 1) where
   -- ---- disks
 
   keys : (d : Pair) → AllByRecursion (λ (e : Uid × List ObjectState). G (let u = e.0 in u.node)) d.pend → UidsOf G (prepared_actions d)
-  keys d all = all_map (λ (e : Uid × List ObjectState). G (let u = e.0 in u.node)) (λ (u : Uid). G u.node) (λ (e : Uid × List ObjectState). e.0) d.pend (λ e s. s) all
+  keys d all = all_map (λ (e : Uid × List ObjectState). G (let u = e.0 in u.node)) (λ (u : Uid). G u.node)
+      (λ (e : Uid × List ObjectState). e.0) d.pend (λ e s. s) all
 
-  firsts : (m : List (Uid × List ObjectState)) → AllByRecursion (λ (e : Uid × List ObjectState). G (let u = e.0 in u.node) × AllByRecursion (StateOf G) e.1) m → AllByRecursion (λ (e : Uid × List ObjectState). G (let u = e.0 in u.node)) m
+  firsts : (m : List (Uid × List ObjectState)) → AllByRecursion (λ (e : Uid × List ObjectState). G (let u = e.0 in u.node)
+      × AllByRecursion (StateOf G) e.1) m → AllByRecursion (λ (e : Uid × List ObjectState). G (let u = e.0 in u.node)) m
   firsts [] all = tt
   firsts (e ∷ es) all = (all.0.0, firsts es all.1)
 
-  seconds : (m : List (Uid × List ObjectState)) → AllByRecursion (λ (e : Uid × List ObjectState). G (let u = e.0 in u.node) × AllByRecursion (StateOf G) e.1) m → AllByRecursion (λ (e : Uid × List ObjectState). AllByRecursion (StateOf G) e.1) m
+  seconds : (m : List (Uid × List ObjectState)) → AllByRecursion (λ (e : Uid × List ObjectState). G (let u = e.0 in u.node)
+      × AllByRecursion (StateOf G) e.1) m → AllByRecursion (λ (e : Uid × List ObjectState). AllByRecursion (StateOf G) e.1) m
   seconds [] all = tt
   seconds (e ∷ es) all = (all.0.1, seconds es all.1)
 
@@ -84,26 +80,33 @@ module _ (G : ℕ → Type 0) (one : G 1) where
   moved_is [] held all had = had
   moved_is (s ∷ ss) held all had = moved_is ss (put_uid s.uid s held) all.1 (all_key IsEntry (StateOf G) s.uid s held all.0.0 all.0 had)
 
-  moved_some_is : (which : Uid → Bool) (ss : List ObjectState) (held : List (Uid × ObjectState)) → AllByRecursion (StateOf G) ss → Held held → Held (moved_some which ss held)
+  moved_some_is : (which : Uid → Bool) (ss : List ObjectState) (held : List (Uid × ObjectState)) → AllByRecursion (StateOf G) ss →
+      Held held → Held (moved_some which ss held)
   moved_some_is which [] held all had = had
-  moved_some_is which (s ∷ ss) held all had = moved_some_is which ss (cond (which s.uid) (put_uid s.uid s held) held) all.1 (by (which s.uid))
+  moved_some_is which (s ∷ ss) held all had =
+      moved_some_is which ss (cond (which s.uid) (put_uid s.uid s held) held) all.1 (by (which s.uid))
     where
       by : (b : Bool) → Held (cond b (put_uid s.uid s held) held)
       by true = all_key IsEntry (StateOf G) s.uid s held all.0.0 all.0 had
       by false = had
 
-  new_is : (u : Uid) (d : Pair) → AllByRecursion (λ (e : Uid × List ObjectState). G (let v = e.0 in v.node) × AllByRecursion (StateOf G) e.1) d.pend → AllByRecursion (StateOf G) (new_states u d)
+  new_is : (u : Uid) (d : Pair) → AllByRecursion (λ (e : Uid × List ObjectState). G (let v = e.0 in v.node)
+      × AllByRecursion (StateOf G) e.1) d.pend → AllByRecursion (StateOf G) (new_states u d)
   new_is u d all = by (at_uid u d.pend) refl
     where
       by : (o : Option (List ObjectState)) → at_uid u d.pend ≡ o → AllByRecursion (StateOf G) (unwrap_or o [])
       by None is = tt
       by (Some ss) is = all_at_uid (AllByRecursion (StateOf G)) u ss d.pend (seconds d.pend all) is
 
-  put_key : (u : Uid) (v : List ObjectState) (m : List (Uid × List ObjectState)) → G u.node → AllByRecursion (λ (e : Uid × List ObjectState). G (let w = e.0 in w.node)) m → AllByRecursion (λ (e : Uid × List ObjectState). G (let w = e.0 in w.node)) (put_uid u v m)
+  put_key : (u : Uid) (v : List ObjectState) (m : List (Uid × List ObjectState)) → G u.node →
+      AllByRecursion (λ (e : Uid × List ObjectState). G (let w = e.0 in w.node)) m →
+      AllByRecursion (λ (e : Uid × List ObjectState). G (let w = e.0 in w.node)) (put_uid u v m)
   put_key u v [] its all = (its, tt)
   put_key u v (e ∷ es) its all = by (uid_order u e.0) (put_key u v es its all.1)
     where
-      by : (r : Ordering) → AllByRecursion (λ (z : Uid × List ObjectState). G (let w = z.0 in w.node)) (put_uid u v es) → AllByRecursion (λ (z : Uid × List ObjectState). G (let w = z.0 in w.node)) (match_ordering r ((u, v) ∷ e ∷ es) ((e.0, v) ∷ es) (e ∷ put_uid u v es))
+      by : (r : Ordering) → AllByRecursion (λ (z : Uid × List ObjectState). G (let w = z.0 in w.node)) (put_uid u v es) →
+          AllByRecursion (λ (z : Uid × List ObjectState). G (let w = z.0 in w.node))
+          (match_ordering r ((u, v) ∷ e ∷ es) ((e.0, v) ∷ es) (e ∷ put_uid u v es))
       by Less ih = (its, all)
       by Equal ih = (all.0, all.1)
       by Greater ih = (all.0, ih)
@@ -111,20 +114,45 @@ module _ (G : ℕ → Type 0) (one : G 1) where
   pub worked_of : (w : Work) (d : Disk) → WorkOf G w → DiskOf G d → DiskOf G (worked w d)
   worked_of Look d its k = k
   worked_of (PutInc i) d its k = record { store = k.store; names = k.names; held = k.held; intents = k.intents }
-  worked_of (Prepare role.Store u states) d its k = record { store = put_key u states d.store.pend its k.store; names = k.names; held = k.held; intents = k.intents }
-  worked_of (Prepare role.Names u states) d its k = record { store = k.store; names = all_key (λ (w : Uid). G w.node) (AllByRecursion (StateOf G)) u states d.names.pend its.0 its.1 k.names; held = k.held; intents = k.intents }
-  worked_of (Commit role.Store u) d its k = record { store = all_without _ u d.store.pend k.store; names = k.names; held = k.held; intents = k.intents }
-  worked_of (Commit role.Names u) d its k = record { store = k.store; names = all_without _ u d.names.pend k.names; held = moved_is (new_states u d.names) d.names.held (new_is u d.names k.names) k.held; intents = k.intents }
-  worked_of (Abort role.Store u) d its k = record { store = all_without _ u d.store.pend k.store; names = k.names; held = k.held; intents = k.intents }
-  worked_of (Abort role.Names u) d its k = record { store = k.store; names = all_without _ u d.names.pend k.names; held = k.held; intents = k.intents }
-  worked_of (PutIntent u i) d its k = record { store = k.store; names = k.names; held = k.held; intents = all_put (λ (e : Uid × Intent). AreOf G (let j = e.1 in j.nodes)) u i d.intents (λ w. its) k.intents }
-  worked_of (RemoveIntent u) d its k = record { store = k.store; names = k.names; held = k.held; intents = all_without _ u d.intents k.intents }
+  worked_of (Prepare role.Store u states) d its k =
+      record { store = put_key u states d.store.pend its k.store; names = k.names; held = k.held; intents = k.intents }
+  worked_of (Prepare role.Names u states) d its k = record {
+    store = k.store;
+    names = all_key (λ (w : Uid). G w.node) (AllByRecursion (StateOf G)) u states d.names.pend its.0 its.1 k.names;
+    held = k.held;
+    intents = k.intents;
+  }
+  worked_of (Commit role.Store u) d its k =
+      record { store = all_without _ u d.store.pend k.store; names = k.names; held = k.held; intents = k.intents }
+  worked_of (Commit role.Names u) d its k = record {
+    store = k.store;
+    names = all_without _ u d.names.pend k.names;
+    held = moved_is (new_states u d.names) d.names.held (new_is u d.names k.names) k.held;
+    intents = k.intents;
+  }
+  worked_of (Abort role.Store u) d its k =
+      record { store = all_without _ u d.store.pend k.store; names = k.names; held = k.held; intents = k.intents }
+  worked_of (Abort role.Names u) d its k =
+      record { store = k.store; names = all_without _ u d.names.pend k.names; held = k.held; intents = k.intents }
+  worked_of (PutIntent u i) d its k = record {
+    store = k.store;
+    names = k.names;
+    held = k.held;
+    intents = all_put (λ (e : Uid × Intent). AreOf G (let j = e.1 in j.nodes)) u i d.intents (λ w. its) k.intents;
+  }
+  worked_of (RemoveIntent u) d its k =
+      record { store = k.store; names = k.names; held = k.held; intents = all_without _ u d.intents k.intents }
 
   pub stopped_of : (how : Stop) (w : Work) (d : Disk) → WorkOf G w → DiskOf G d → DiskOf G (stopped how w d)
   stopped_of Before w d its k = k
   stopped_of After w d its k = worked_of w d its k
   stopped_of (InPart which) (Commit role.Store u) d its k = record { store = k.store; names = k.names; held = k.held; intents = k.intents }
-  stopped_of (InPart which) (Commit role.Names u) d its k = record { store = k.store; names = k.names; held = moved_some_is which (new_states u d.names) d.names.held (new_is u d.names k.names) k.held; intents = k.intents }
+  stopped_of (InPart which) (Commit role.Names u) d its k = record {
+    store = k.store;
+    names = k.names;
+    held = moved_some_is which (new_states u d.names) d.names.held (new_is u d.names k.names) k.held;
+    intents = k.intents;
+  }
   stopped_of (InPart which) Look d its k = k
   stopped_of (InPart which) (PutInc i) d its k = k
   stopped_of (InPart which) (Prepare r u states) d its k = k
@@ -156,7 +184,8 @@ module _ (G : ℕ → Type 0) (one : G 1) where
   pub parts_stay : (w : Work) (d : Disk) (t : Parts) → PartsOf G d t → PartsOf G (worked w d) t
   parts_stay w d t its = record { server = its.server; naming = by t.naming its.naming; coord = its.coord }
     where
-      each : (es : List (ℕ × Named)) → AllByRecursion (λ (e : ℕ × Named). HasEntry d.names e.0 × NamedOf G e.1) es → AllByRecursion (λ (e : ℕ × Named). HasEntry (worked w d).names e.0 × NamedOf G e.1) es
+      each : (es : List (ℕ × Named)) → AllByRecursion (λ (e : ℕ × Named). HasEntry d.names e.0 × NamedOf G e.1) es →
+          AllByRecursion (λ (e : ℕ × Named). HasEntry (worked w d).names e.0 × NamedOf G e.1) es
       each [] all = tt
       each (e ∷ es) all = ((entry_stays w d e.0 all.0.0, all.0.1), each es all.1)
 
@@ -167,8 +196,12 @@ module _ (G : ℕ → Type 0) (one : G 1) where
   -- ---- who is asked about
 
   holders_of : (d : Disk) (t : Parts) → DiskOf G d → PartsOf G d t → UidsOf G (holders d t)
-  holders_of d t disk parts = all_uids (λ (u : Uid). G u.node) (server_holders t.server ++ locks_of t.naming ++ prepared_actions d.store ++ prepared_actions d.names)
-      (all_append _ (server_holders t.server ++ locks_of t.naming ++ prepared_actions d.store) (prepared_actions d.names) (all_append _ (server_holders t.server ++ locks_of t.naming) (prepared_actions d.store) (all_append _ (server_holders t.server) (locks_of t.naming) (servers.holders_of G t.server parts.server) (locks t.naming parts.naming)) (keys d.store disk.store)) (keys d.names (firsts d.names.pend disk.names)))
+  holders_of d t disk parts = all_uids (λ (u : Uid). G u.node)
+      (server_holders t.server ++ locks_of t.naming ++ prepared_actions d.store ++ prepared_actions d.names)
+      (all_append _ (server_holders t.server ++ locks_of t.naming ++ prepared_actions d.store) (prepared_actions d.names)
+      (all_append _ (server_holders t.server ++ locks_of t.naming) (prepared_actions d.store) (all_append _ (server_holders t.server)
+      (locks_of t.naming) (servers.holders_of G t.server parts.server) (locks t.naming parts.naming)) (keys d.store disk.store))
+      (keys d.names (firsts d.names.pend disk.names)))
     where
       locks : (o : Option Naming) → NamesOf G d.names o → UidsOf G (locks_of o)
       locks None its = tt
@@ -181,9 +214,11 @@ module _ (G : ℕ → Type 0) (one : G 1) where
     By (Void outs) = ⊤
     By (Took v outs) = PartsOf G d v × AllOf G outs
 
-    answered : (h : Head) (v : Parts) (outs : List Effect) (o : Option Reply) → PartsOf G d v → AllOf G outs → IfSome o (ReplyOf G) → By (sends_answer from h v outs o)
+    answered : (h : Head) (v : Parts) (outs : List Effect) (o : Option Reply) → PartsOf G d v → AllOf G outs → IfSome o (ReplyOf G) →
+        By (sends_answer from h v outs o)
     answered h v outs None part all so = tt
-    answered h v outs (Some r) part all so = (part, both outs (Send from (response (asked_by h) r) ∷ []) all (response_of from (asked_by h) r sender so, tt))
+    answered h v outs (Some r) part all so =
+        (part, both outs (Send from (response (asked_by h) r) ∷ []) all (response_of from (asked_by h) r sender so, tt))
 
     -- an answer of another kind names no node
     plain : {R : Type 0} (say : R → Reply) → ((r : R) → ReplyOf G (say r)) → (o : Option R) → IfSome (option_map say o) (ReplyOf G)
@@ -194,7 +229,8 @@ module _ (G : ℕ → Type 0) (one : G 1) where
     bounds None so = tt
     bounds (Some r) so = so
 
-    with_it : (f : Naming → Handled) (o : Option Naming) → NamesOf G d.names o → ((m : Naming) → NamingOf G d.names m → By (f m)) → By (if_naming f o)
+    with_it : (f : Naming → Handled) (o : Option Naming) → NamesOf G d.names o → ((m : Naming) → NamingOf G d.names m → By (f m)) →
+        By (if_naming f o)
     with_it f None is each = tt
     with_it f (Some m) is each = each m is
 
@@ -205,8 +241,11 @@ module _ (G : ℕ → Type 0) (one : G 1) where
     named_so n all = record { server = its.server; naming = all; coord = its.coord }
 
     asked : (h : Head) (a : Ask) → PathOf G h.path → AskOf G a → By (serve k d t from h a)
-    asked h (ask.Bind x include avoid) path so = with_it (λ o. served from h (with_naming t) Reply.Bound (naming.bind h.path x include avoid d.names o)) t.naming its.naming
-        (λ m all. let r = naming.bind h.path x include avoid d.names m in let b = names.bind_of G h.path x include avoid d.names m path disk.held all in answered h (with_naming t r.part) r.outs (option_map Reply.Bound r.reply) (named_so r.part b.0) b.2 (bounds r.reply b.1))
+    asked h (ask.Bind x include avoid) path so =
+        with_it (λ o. served from h (with_naming t) Reply.Bound (naming.bind h.path x include avoid d.names o)) t.naming its.naming
+        (λ m all. let r = naming.bind h.path x include avoid d.names m in
+        let b = names.bind_of G h.path x include avoid d.names m path disk.held all in
+        answered h (with_naming t r.part) r.outs (option_map Reply.Bound r.reply) (named_so r.part b.0) b.2 (bounds r.reply b.1))
     asked h (ask.Load x) path so = load (holder_of (object x) d.store)
       where
         held : (s : Option ObjectState) → By (load_held from h t s)
@@ -216,11 +255,19 @@ module _ (G : ℕ → Type 0) (one : G 1) where
         load : (o : Option Uid) → By (load_by x d.store from h t o)
         load (Some u) = (its, ((sender, (tt, tt)), tt))
         load None = held (held_at (object x) d.store)
-    asked h (ask.Activate b st) path so = let r = server.activate k h.path b st t.server in answered h (with_server t r.part) r.outs (option_map Reply.Activated r.reply) (served_so r.part (servers.activate_of G k h.path b st t.server its.server)) (server_lines k r.outs (activate_own k h.path b st t.server)) (plain Reply.Activated (λ r. tt) r.reply)
-    asked h (ask.Record x b i g) path so = with_it (λ o. served from h (with_naming t) Reply.Noted (naming.note h.path x b i g o)) t.naming its.naming
-        (λ m all. let r = naming.note h.path x b i g m in let b = names.note_of G h.path x b i g d.names m all in answered h (with_naming t r.part) r.outs (option_map Reply.Noted r.reply) (named_so r.part b.0) b.1 (plain Reply.Noted (λ r. tt) r.reply))
-    asked h (ask.Invoke x b i ends o) path so = let r = server.invoke k h x b i ends o t.server in answered h (with_server t r.part) r.outs (option_map Reply.Invoked r.reply) (served_so r.part (servers.invoke_of G k h x b i ends o t.server path its.server)) (server_lines k r.outs (invoke_own k h x b i ends o t.server)) (plain Reply.Invoked (λ r. tt) r.reply)
-    asked h (ask.Vote i ties ends) path so = let r = server.vote k h.path i ties ends t.server in answered h (with_server t r.part) r.outs (option_map Reply.Voted r.reply) (served_so r.part (servers.vote_of G k h.path i ties ends t.server its.server)) (server_lines k r.outs (vote_own k h.path i ties ends t.server)) (plain Reply.Voted (λ r. tt) r.reply)
+    asked h (ask.Activate b st) path so = let r = server.activate k h.path b st t.server in answered h (with_server t r.part) r.outs
+        (option_map Reply.Activated r.reply) (served_so r.part (servers.activate_of G k h.path b st t.server its.server))
+        (server_lines k r.outs (activate_own k h.path b st t.server)) (plain Reply.Activated (λ r. tt) r.reply)
+    asked h (ask.Record x b i g) path so =
+        with_it (λ o. served from h (with_naming t) Reply.Noted (naming.note h.path x b i g o)) t.naming its.naming
+        (λ m all. let r = naming.note h.path x b i g m in let b = names.note_of G h.path x b i g d.names m all in answered h
+        (with_naming t r.part) r.outs (option_map Reply.Noted r.reply) (named_so r.part b.0) b.1 (plain Reply.Noted (λ r. tt) r.reply))
+    asked h (ask.Invoke x b i ends o) path so = let r = server.invoke k h x b i ends o t.server in answered h (with_server t r.part) r.outs
+        (option_map Reply.Invoked r.reply) (served_so r.part (servers.invoke_of G k h x b i ends o t.server path its.server))
+        (server_lines k r.outs (invoke_own k h x b i ends o t.server)) (plain Reply.Invoked (λ r. tt) r.reply)
+    asked h (ask.Vote i ties ends) path so = let r = server.vote k h.path i ties ends t.server in answered h (with_server t r.part) r.outs
+        (option_map Reply.Voted r.reply) (served_so r.part (servers.vote_of G k h.path i ties ends t.server its.server))
+        (server_lines k r.outs (vote_own k h.path i ties ends t.server)) (plain Reply.Voted (λ r. tt) r.reply)
     asked h (ask.Prepare states) path so = each (is_prepared (actor h.path) d.store)
       where
         new : (a : Prep) → By (prepare_by k states from h t a)
@@ -229,11 +276,15 @@ module _ (G : ℕ → Type 0) (one : G 1) where
         new (Old u v) = (its, (tt, ((sender, (tt, tt)), tt)))
         new (InDoubt u holder) = (its, (tt, ((sender, (tt, tt)), tt)))
 
-        each : (b : Bool) → By (cond b (sends_answer from h t [] (Some (Reply.Prepared prepared.Yes))) (prepare_by k states from h t (prepare_answer (actor h.path) states d.store)))
+        each : (b : Bool) → By (cond b (sends_answer from h t [] (Some (Reply.Prepared prepared.Yes)))
+            (prepare_by k states from h t (prepare_answer (actor h.path) states d.store)))
         each true = (its, ((sender, (tt, tt)), tt))
         each false = new (prepare_answer (actor h.path) states d.store)
-    asked h (ask.Confirm grants excluded included) path so = with_it (λ o. served from h (with_naming t) Reply.Confirmed (confirm h.path grants excluded included d.names o)) t.naming its.naming
-        (λ m all. let r = confirm h.path grants excluded included d.names m in let b = names.confirm_of G h.path path (servers.top_is G h.path path) grants excluded included d.names m so disk.held all in answered h (with_naming t r.part) r.outs (option_map Reply.Confirmed r.reply) (named_so r.part b.0) b.1 (plain Reply.Confirmed (λ r. tt) r.reply))
+    asked h (ask.Confirm grants excluded included) path so =
+        with_it (λ o. served from h (with_naming t) Reply.Confirmed (confirm h.path grants excluded included d.names o)) t.naming its.naming
+        (λ m all. let r = confirm h.path grants excluded included d.names m in let b = names.confirm_of G h.path path
+        (servers.top_is G h.path path) grants excluded included d.names m so disk.held all in answered h (with_naming t r.part) r.outs
+        (option_map Reply.Confirmed r.reply) (named_so r.part b.0) b.1 (plain Reply.Confirmed (λ r. tt) r.reply))
 
     coord_left : (r : Served Coord (Unit {0})) → CoordOf G r.part × AllOf G r.outs → By (coord_heard t r)
     coord_left r so = by r.reply
@@ -249,7 +300,9 @@ module _ (G : ℕ → Type 0) (one : G 1) where
         let o = naming_told e.0 e.1 d.names t.naming in
         let n = named t.naming its.naming in (
           record { server = servers.told_of G k ends t.server its.server; naming = n.0; coord = its.coord },
-          both (store_told k e.0 e.1 d.store ++ o.outs ++ s.outs) (ack_told from e.0 ack) (both (store_told k e.0 e.1 d.store ++ o.outs) s.outs (both (store_told k e.0 e.1 d.store) o.outs (stored (is_prepared e.0 d.store) e.1) n.1) (server_lines k s.outs (ends_own k ends t.server))) (acked_told ack),
+          both (store_told k e.0 e.1 d.store ++ o.outs ++ s.outs) (ack_told from e.0 ack) (both (store_told k e.0 e.1 d.store ++ o.outs)
+              s.outs (both (store_told k e.0 e.1 d.store) o.outs (stored (is_prepared e.0 d.store) e.1) n.1)
+              (server_lines k s.outs (ends_own k ends t.server))) (acked_told ack),
         )
       where
         stored : (b : Bool) (how : End) → AllOf G (cond b (end_states k e.0 how) [])
@@ -257,7 +310,8 @@ module _ (G : ℕ → Type 0) (one : G 1) where
         stored true ending.Commit = (tt, (tt, tt))
         stored true ending.Abort = (tt, (tt, tt))
 
-        named : (o : Option Naming) → NamesOf G d.names o → (let r = naming_told e.0 e.1 d.names o in NamesOf G d.names r.part × AllOf G r.outs)
+        named : (o : Option Naming) → NamesOf G d.names o →
+            (let r = naming_told e.0 e.1 d.names o in NamesOf G d.names r.part × AllOf G r.outs)
         named None so = (tt, tt)
         named (Some m) so = names.told_of G e.0 e.1 d.names m so
 
@@ -271,9 +325,14 @@ module _ (G : ℕ → Type 0) (one : G 1) where
 
     other : (m : Message) → By (handle_other k d t from m)
     other (message.Told m) = ends_left m.ack m.ends (last_end m.ends)
-    other (message.Acked m) = coord_left (acked from m.act d.intents t.coord) (acked_of G one from m.act d.intents t.coord disk.intents its.coord)
+    other (message.Acked m) =
+        coord_left (acked from m.act d.intents t.coord) (acked_of G one from m.act d.intents t.coord disk.intents its.coord)
     other (message.Query m) = (its, query_of G one from m.act d.intents t.coord sender)
-    other (message.Hello m) = (record { server = its.server; naming = hello_so m.node m.inc t.naming its.naming; coord = its.coord }, queries (filter (is_earlier m.node m.inc) (holders d t)) (all_filter (λ (u : Uid). G u.node) (is_earlier m.node m.inc) (holders d t) (holders_of d t disk its)))
+    other (message.Hello m) = (
+      record { server = its.server; naming = hello_so m.node m.inc t.naming its.naming; coord = its.coord },
+      queries (filter (is_earlier m.node m.inc) (holders d t))
+          (all_filter (λ (u : Uid). G u.node) (is_earlier m.node m.inc) (holders d t) (holders_of d t disk its)),
+    )
     other (message.Bind m) = tt
     other (message.Bound m) = tt
     other (message.Load m) = tt
@@ -300,23 +359,27 @@ module _ (G : ℕ → Type 0) (one : G 1) where
       where
         answer : (o : Option (Asked × Reply)) → answers m ≡ o → AnsweredOf G o → By (handle_answer k d t from m o)
         answer None is its_reply = other m
-        answer (Some a) is its_reply = coord_left (heard from a.0 a.1 d.intents t.coord) (heard_of G one from a.0 a.1 d.intents t.coord sender its.coord its_reply (hears a.0 a.1 is))
+        answer (Some a) is its_reply = coord_left (heard from a.0 a.1 d.intents t.coord)
+            (heard_of G one from a.0 a.1 d.intents t.coord sender its.coord its_reply (hears a.0 a.1 is))
 
         by : (o : Option (Head × Ask)) → AskedOf G o → By (handle_ask k d t from m o)
         by None its_ask = answer (answers m) refl so.1
         by (Some a) its_ask = asked a.0 a.1 its_ask.0 its_ask.1
 
-    pub handled_of : (m : Message) (v : Parts) (outs : List Effect) → Hears m → MessageOf G m → handle k d t from m ≡ Took v outs → PartsOf G d v × AllOf G outs
+    pub handled_of : (m : Message) (v : Parts) (outs : List Effect) → Hears m → MessageOf G m → handle k d t from m ≡ Took v outs →
+        PartsOf G d v × AllOf G outs
     handled_of m v outs hears so is = subst By is (handled m hears so)
 
   -- ---- ticks and restarts
 
-  pub tick_of : (n : Node) (t : Parts) → DiskOf G n.disk → PartsOf G n.disk t → PartsOf G n.disk (with_coord t (again_all t.coord.doings t.coord).part) × AllOf G (tick_outs n t)
+  pub tick_of : (n : Node) (t : Parts) → DiskOf G n.disk → PartsOf G n.disk t →
+      PartsOf G n.disk (with_coord t (again_all t.coord.doings t.coord).part) × AllOf G (tick_outs n t)
   tick_of n t disk its =
       let a = again_of G one t.coord its.coord in
       let q = again_all t.coord.doings t.coord in (
         record { server = its.server; naming = its.naming; coord = a.0 },
-        both (q.outs ++ tolds_again t.coord.telling) (map query_about (holders n.disk t)) (both q.outs (tolds_again t.coord.telling) a.1 (told_again_of G one t.coord.telling its.coord.telling)) (queries (holders n.disk t) (holders_of n.disk t disk its)),
+        both (q.outs ++ tolds_again t.coord.telling) (map query_about (holders n.disk t)) (both q.outs (tolds_again t.coord.telling) a.1
+            (told_again_of G one t.coord.telling its.coord.telling)) (queries (holders n.disk t) (holders_of n.disk t disk its)),
       )
 
   pub starts_of : (k inc : ℕ) (d : Disk) → G k → DiskOf G d → PartsOf G d (parts_in k inc d)
@@ -327,8 +390,13 @@ module _ (G : ℕ → Type 0) (one : G 1) where
       by false = tt
 
   pub restart_of : (hd : Header) (k : ℕ) (d : Disk) → AreOf G (numbers_to hd.nodes) → DiskOf G d → AllOf G (restart_outs hd k (d.inc + 1) d)
-  restart_of hd k d all disk = both (first ++ second ++ tolds_again d.intents ++ asking) hellos (both (first ++ second ++ tolds_again d.intents) asking (both (first ++ second) (tolds_again d.intents) (both first second (tt, (tt, (tt, (tt, back (naming_at k (d.inc + 1) d.names))))) (tt, records d.intents)) (told_again_of G one d.intents disk.intents))
-      (queries (uid_set (prepared_actions d.store ++ prepared_actions d.names)) (all_uids (λ (u : Uid). G u.node) (prepared_actions d.store ++ prepared_actions d.names) (all_append _ (prepared_actions d.store) (prepared_actions d.names) (keys d.store disk.store) (keys d.names (firsts d.names.pend disk.names)))))) (greets (without_number k (numbers_to hd.nodes)) (all_filter G _ (numbers_to hd.nodes) all))
+  restart_of hd k d all disk = both (first ++ second ++ tolds_again d.intents ++ asking) hellos
+      (both (first ++ second ++ tolds_again d.intents) asking (both (first ++ second) (tolds_again d.intents) (both first second
+      (tt, (tt, (tt, (tt, back (naming_at k (d.inc + 1) d.names))))) (tt, records d.intents)) (told_again_of G one d.intents disk.intents))
+      (queries (uid_set (prepared_actions d.store ++ prepared_actions d.names))
+      (all_uids (λ (u : Uid). G u.node) (prepared_actions d.store ++ prepared_actions d.names) (all_append _ (prepared_actions d.store)
+      (prepared_actions d.names) (keys d.store disk.store) (keys d.names (firsts d.names.pend disk.names))))))
+      (greets (without_number k (numbers_to hd.nodes)) (all_filter G _ (numbers_to hd.nodes) all))
     where
       first : List Effect
       first = Do Look ∷ Do (PutInc (d.inc + 1)) ∷ Say (body.Up k (d.inc + 1)) ∷ Do Look ∷ naming_back (naming_at k (d.inc + 1) d.names)

@@ -1,36 +1,25 @@
 -- Each number that stands for a node, wherever it's named, in every run.
-use Rattle.std.proofs.Common.{◌≡◌, ◌∙◌, ◌≤◌, ◌+◌, ◌==◌, ◌&&◌, ℕ, zero, suc, Bool, true, false, cond, List, [], ◌∷◌, length, map, refl, sym, subst, arith, ⊎_elim, Option, Some, None}
-use Rattle.std.specs.Prelude.{IfSome, if◌then◌else◌, nat_le, slice_get}
-use Rattle.std.specs.List.{AllByRecursion, list_all}
-use Rattle.std.proofs.lemmas.Bool.{and_parts, leb-true}
-use Rattle.std.proofs.lemmas.Bool.Decides.{nat_tests}
+use Rattle.arj_law_parts.proofs.Words
+use Words.{◌≡◌, ◌∙◌, ◌≤◌, ◌+◌, ◌==◌, ◌&&◌, ℕ, zero, suc, Bool, true, false, cond, List, [], ◌∷◌, length, map, refl, sym, subst, arith}
+use Words.{⊎_elim, Option, Some, None, IfSome, if◌then◌else◌, nat_le, slice_get, AllByRecursion, list_all, and_parts, leb-true, nat_tests}
+use Words.{Header, Message, ObjectLine, ObjectState, Uid, again_all, begin_action, Coord, Disk, Do, Effect, Say, Send, stopped, worked}
+use Words.{tick_outs, Parts, with_coord, put_uid, Input, Node, acts, entries_at, first_disk, first_entry, first_node, numbers_to, parent_of}
+use Words.{parts_in, put_states, refusal_up, restart_outs, Frame, World, format, is_serial_kind, run_event, entry_back, Move, world_by}
+use Words.{Post, Seen, see}
+use Words.input
+use Rattle.arj_law_runs.proofs.Terms
+use Terms.{Asked, HasPlace, Holds, IsSent, KeepsAsked, is_act, In, at, given, posted, said, up, Up, Walks, event_asked, keeps_asked}
+use Terms.{moves_asked, walks_both, AllOf, AreOf, CoordOf, DiskOf, EntryOf, IsEntry, PartsOf, StateOf}
 use Rattle.arj_journal.specs.ScriptForm.{HeaderInForm, ObjectLineInForm}
 use Rattle.arj_journal.specs.declared.limits.TheConstants.{SERVERS, STORES}
+use Rattle.arj_law_parts.proofs.moves.Happens.{first_asked}
+use Rattle.arj_law_parts.specs.moves.Keeps.{AsksNode}
+use Rattle.arj_law_runs.proofs.addresses
+use addresses.{Coords.Needs, Coords.acts_of, Coords.begin_of, Lists.all_append, Lists.all_key, Lists.all_map}
+use addresses.BindRuns.{AreBound, answers_fit, binds_keep, commit_keeps}
+use addresses.Nodes.{handled_of, parts_stay, restart_of, starts_of, stopped_of, tick_of, worked_of}
+use Rattle.arj_law_runs.specs.addresses.Addresses.{AreAddressed, AreSo, GoWithin, IsNode, LineOf, NodeOf, PostOf}
 use Rattle.arj_text.specs.Fields.{NodesInForm, is_distinct}
-use Rattle.arj_protocol.specs.Words.{Header, Message, ObjectLine, ObjectState, Uid}
-use Rattle.arj_protocol.specs.Asking.{again_all, begin_action}
-use Rattle.arj_protocol.specs.Coord.{Coord}
-use Rattle.arj_protocol.specs.Effect.{Disk, Do, Effect, Say, Send, stopped, worked}
-use Rattle.arj_protocol.specs.Follow.{tick_outs}
-use Rattle.arj_protocol.specs.Node.{Parts, with_coord}
-use Rattle.arj_protocol.specs.Order.{put_uid}
-use Rattle.arj_protocol.specs.Step as input
-use Rattle.arj_protocol.specs.Step.{Input, Node, acts, entries_at, first_disk, first_entry, first_node, numbers_to, parent_of, parts_in, put_states, refusal_up, restart_outs}
-use Rattle.arj_protocol.specs.World.{Asked, Frame, World, format, is_serial_kind, run_event}
-use Rattle.arj_protocol.proofs.Payloads.{entry_back}
-use Rattle.arj_law_parts.specs.moves.Keeps.{AsksNode, HasPlace, Holds, IsSent, KeepsAsked, is_act}
-use Rattle.arj_promise.specs.Runs.{Move, world_by}
-use Rattle.arj_law_parts.specs.moves.Seen.{In, at, given, posted, said, up}
-use Rattle.arj_promise.specs.Runs.{Post, Seen, see}
-use Rattle.arj_law_parts.specs.moves.Walks.{Up, Walks}
-use Rattle.arj_law_parts.proofs.moves.Happens.{event_asked, first_asked, keeps_asked}
-use Rattle.arj_law_parts.proofs.moves.Moving.{moves_asked}
-use Rattle.arj_law_parts.proofs.moves.Together.{walks_both}
-use Rattle.arj_law_runs.specs.addresses.Addresses.{AllOf, AreAddressed, AreOf, AreSo, CoordOf, DiskOf, EntryOf, GoWithin, IsEntry, IsNode, LineOf, NodeOf, PartsOf, PostOf, StateOf}
-use Rattle.arj_law_runs.proofs.addresses.BindRuns.{AreBound, answers_fit, binds_keep, commit_keeps}
-use Rattle.arj_law_runs.proofs.addresses.Lists.{all_append, all_key, all_map}
-use Rattle.arj_law_runs.proofs.addresses.Coords.{Needs, acts_of, begin_of}
-use Rattle.arj_law_runs.proofs.addresses.Nodes.{handled_of, parts_stay, restart_of, starts_of, stopped_of, tick_of, worked_of}
 
 module _ (G : ℕ → Type 0) where
   abbrev Is : Node → Type 0
@@ -44,15 +33,18 @@ module _ (G : ℕ → Type 0) where
   RestIsSo k M = ((j : ℕ) (n : Node) → (j == k) ≡ false → M.nodes j ≡ Some n → Is n) × ((p : Post) → In p M.sent → PostOf G p)
 
   rest : (k : ℕ) (d : Disk) (live : Option Parts) (M : Seen) → All (at k d live M) → RestIsSo k M
-  rest k d live M all = (λ j n apart is. all.0 j n ((λ i. cond (apart i) (Some (record { number = k; disk = d; live = live })) (M.nodes j)) ∙ is), all.1)
+  rest k d live M all =
+      (λ j n apart is. all.0 j n ((λ i. cond (apart i) (Some (record { number = k; disk = d; live = live })) (M.nodes j)) ∙ is), all.1)
 
   own : (k : ℕ) (d : Disk) (live : Option Parts) (M : Seen) → All (at k d live M) → Is (record { number = k; disk = d; live = live })
-  own k d live M all = all.0 k (record { number = k; disk = d; live = live }) (λ i. cond (same k i) (Some (record { number = k; disk = d; live = live })) (M.nodes k))
+  own k d live M all = all.0 k (record { number = k; disk = d; live = live })
+      (λ i. cond (same k i) (Some (record { number = k; disk = d; live = live })) (M.nodes k))
     where
       same : (k : ℕ) → (k == k) ≡ true
       same k = grind (arith, nat_tests)
 
-  back : (k : ℕ) (d : Disk) (live : Option Parts) (M : Seen) → Is (record { number = k; disk = d; live = live }) → RestIsSo k M → All (at k d live M)
+  back : (k : ℕ) (d : Disk) (live : Option Parts) (M : Seen) → Is (record { number = k; disk = d; live = live }) → RestIsSo k M →
+      All (at k d live M)
   back k d live M its all = (λ j n is. by j n (j == k) refl is, all.1)
     where
       x : Node
@@ -64,7 +56,8 @@ module _ (G : ℕ → Type 0) where
 
   module _ (one : G 1) where
     -- whatever a node does
-    walk : (e k : ℕ) (outs : List Effect) (v : Parts) (d : Disk) (M : Seen) → G k → DiskOf G d → PartsOf G d v → AllOf G outs → RestIsSo k M → Walks All e k outs (Up All k v) d M
+    walk : (e k : ℕ) (outs : List Effect) (v : Parts) (d : Disk) (M : Seen) → G k → DiskOf G d → PartsOf G d v → AllOf G outs →
+        RestIsSo k M → Walks All e k outs (Up All k v) d M
     walk e k [] v d M num disk its outs all = back k d (Some v) M (num, disk, its) all
     walk e k (Do w ∷ es) v d M num disk its outs all = (
       λ how. back k (stopped how w d) None (said e [] M) (num, stopped_of G one how w d outs.0 disk, tt) all,
@@ -75,7 +68,8 @@ module _ (G : ℕ → Type 0) where
         walk e k es v d (said e more (posted (record { from = k; to = to; message = m }) M)) num disk its outs.1
         (all.0, λ p. ⊎_elim (λ same. subst (PostOf G) same (num, outs.0.0, outs.0.1)) (λ old. all.1 p old))
 
-    module _ (hd : Header) (nodes : (s : ℕ) → (nat_le 1 s && nat_le s hd.nodes) ≡ true → G s) (objects : AllByRecursion (LineOf G) hd.objects) where
+    module _ (hd : Header) (nodes : (s : ℕ) → (nat_le 1 s && nat_le s hd.nodes) ≡ true →
+        G s) (objects : AllByRecursion (LineOf G) hd.objects) where
       numbers : AreOf G (numbers_to hd.nodes)
       numbers = upto hd.nodes (λ s a b. nodes s (both a b))
         where
@@ -93,17 +87,24 @@ module _ (G : ℕ → Type 0) where
 
           upto : (n : ℕ) → ((s : ℕ) → nat_le 1 s ≡ true → nat_le s n ≡ true → G s) → AreOf G (numbers_to n)
           upto zero each = tt
-          upto (suc n) each = all_append G (numbers_to n) (suc n ∷ []) (upto n (λ s a b. each s a (still s n b))) (each (suc n) (first n) (last n), tt)
+          upto (suc n) each =
+              all_append G (numbers_to n) (suc n ∷ []) (upto n (λ s a b. each s a (still s n b))) (each (suc n) (first n) (last n), tt)
 
       -- ---- as a run begins
 
-      states : (ss : List ObjectState) (held : List (Uid × ObjectState)) → AllByRecursion (StateOf G) ss → AllByRecursion (λ (e : Uid × ObjectState). IsEntry e.0 × StateOf G e.1) held → AllByRecursion (λ (e : Uid × ObjectState). IsEntry e.0 × StateOf G e.1) (put_states ss held)
+      states : (ss : List ObjectState) (held : List (Uid × ObjectState)) → AllByRecursion (StateOf G) ss →
+          AllByRecursion (λ (e : Uid × ObjectState). IsEntry e.0 × StateOf G e.1) held →
+          AllByRecursion (λ (e : Uid × ObjectState). IsEntry e.0 × StateOf G e.1) (put_states ss held)
       states [] held all had = had
       states (s ∷ ss) held all had = states ss (put_uid s.uid s held) all.1 (all_key IsEntry (StateOf G) s.uid s held all.0.0 all.0 had)
 
       entries : (b : Bool) → AllByRecursion (StateOf G) (if b then map first_entry hd.objects else [])
       entries true = all_map (LineOf G) (StateOf G) first_entry hd.objects
-          (λ o l. (refl, subst (EntryOf G) (sym (entry_back (record { servers = o.servers; stores = o.stores }))) (record { servers = l.0; stores = l.1; some = l.2 }))) objects
+          (λ o l. (
+            refl,
+            subst (EntryOf G) (sym (entry_back (record { servers = o.servers; stores = o.stores })))
+                (record { servers = l.0; stores = l.1; some = l.2 }),
+          )) objects
       entries false = tt
 
       disk_of : (k : ℕ) → DiskOf G (first_disk hd k)
@@ -126,7 +127,8 @@ module _ (G : ℕ → Type 0) where
 
       -- ---- handlers
 
-      needs : (i : Input) (e k : ℕ) (d : Disk) (t : Parts) (M : Seen) → AreBound (up k d t M) → is_act i ≡ true → AsksNode hd i → refusal_up hd i t.coord ≡ None → Needs G one i t.coord
+      needs : (i : Input) (e k : ℕ) (d : Disk) (t : Parts) (M : Seen) → AreBound (up k d t M) → is_act i ≡ true → AsksNode hd i →
+          refusal_up hd i t.coord ≡ None → Needs G one i t.coord
       needs (input.Begin l q parent) e k d t M known is asks free = let no_way : false ≡ true = is in cc
       needs (input.Include l x s) e k d t M known is asks free = nodes s asks
       needs (input.Commit l) e k d t M known is asks free = let h = known.0 in commit_keeps h.0 e k d t M h.1 known.1 hd l free
@@ -142,7 +144,8 @@ module _ (G : ℕ → Type 0) where
       abbrev Whole : Seen → Type 0
       Whole M = AreBound M × All M
 
-      both : (e k : ℕ) (outs : List Effect) (v : Parts) (d : Disk) (M : Seen) → Walks AreBound e k outs (Up AreBound k v) d M → Walks All e k outs (Up All k v) d M → Walks Whole e k outs (Up Whole k v) d M
+      both : (e k : ℕ) (outs : List Effect) (v : Parts) (d : Disk) (M : Seen) → Walks AreBound e k outs (Up AreBound k v) d M →
+          Walks All e k outs (Up All k v) d M → Walks Whole e k outs (Up Whole k v) d M
       both e k outs v d M a b = walks_both AreBound All e k outs (Up AreBound k v) (Up All k v) d M a b
 
       base : KeepsAsked hd AreBound
@@ -151,34 +154,41 @@ module _ (G : ℕ → Type 0) where
       pub so_kept : KeepsAsked hd Whole
       so_kept = record {
         quiet = λ e bs M quiet all. (base.quiet e bs M quiet all.0, all.1);
-        stop = λ e k d live M all. let n = own k d live M all.1 in (base.stop e k d live M all.0, back k d None M (n.0, n.1, tt) (rest k d live M all.1));
+        stop = λ e k d live M all. let n = own k d live M all.1 in
+            (base.stop e k d live M all.0, back k d None M (n.0, n.1, tt) (rest k d live M all.1));
         message = λ e k d t v from m outs M all there meant is.
             let n = own k d (Some t) M all.1 in
             let known = all.0 in
             let good = known.0 in
             let p = all.1.1 (record { from = from; to = k; message = m }) there in
             let h = handled_of G one k d t from p.0 n.1 n.2 m v outs (answers_fit good.0 e k d t M good.1 known.1 from m there) p.2 is in
-            both e k outs v d M (base.message e k d t v from m outs M known there meant is) (walk e k outs v d M n.0 n.1 h.0 h.1 (rest k d (Some t) M all.1));
+            both e k outs v d M (base.message e k d t v from m outs M known there meant is)
+            (walk e k outs v d M n.0 n.1 h.0 h.1 (rest k d (Some t) M all.1));
         act = λ e k d t i M is asks free all.
             let n = own k d (Some t) M all.1 in
             let did = acts i d.intents t.coord in
             let a = acts_of G one i d.intents t.coord (needs i e k d t M all.0 is asks free) n.2.coord in
-            both e k did.outs (with_coord t did.part) d M (base.act e k d t i M is asks free all.0) (walk e k did.outs (with_coord t did.part) d M n.0 n.1 (with_it d t did.part n.2 a.0) a.1 (rest k d (Some t) M all.1));
+            both e k did.outs (with_coord t did.part) d M (base.act e k d t i M is asks free all.0)
+            (walk e k did.outs (with_coord t did.part) d M n.0 n.1 (with_it d t did.part n.2 a.0) a.1 (rest k d (Some t) M all.1));
         begin = λ e k d t l how parent M new may free all.
             let n = own k d (Some t) M all.1 in
             let did = begin_action l how parent (parent_of parent t.coord) t.coord in
             let a = begin_of G one l how parent t.coord free n.2.coord in
             let N = given l (record { node = k; serial = is_serial_kind how }) M in
-            both e k did.outs (with_coord t did.part) d N (base.begin e k d t l how parent M new may free all.0) (walk e k did.outs (with_coord t did.part) d N n.0 n.1 (with_it d t did.part n.2 a.0) a.1 (rest k d (Some t) M all.1));
+            both e k did.outs (with_coord t did.part) d N (base.begin e k d t l how parent M new may free all.0)
+            (walk e k did.outs (with_coord t did.part) d N n.0 n.1 (with_it d t did.part n.2 a.0) a.1 (rest k d (Some t) M all.1));
         tick = λ e k d t M all.
             let n = own k d (Some t) M all.1 in
             let x : Node = record { number = k; disk = d; live = Some t } in
             let a = tick_of G one x t n.1 n.2 in
             let v = with_coord t (again_all t.coord.doings t.coord).part in
-            both e k (tick_outs x t) v d M (base.tick e k d t M all.0) (walk e k (tick_outs x t) v d M n.0 n.1 a.0 a.1 (rest k d (Some t) M all.1));
+            both e k (tick_outs x t) v d M (base.tick e k d t M all.0)
+            (walk e k (tick_outs x t) v d M n.0 n.1 a.0 a.1 (rest k d (Some t) M all.1));
         restart = λ e k d M all.
             let n = own k d None M all.1 in
-            both e k (restart_outs hd k (d.inc + 1) d) (parts_in k (d.inc + 1) d) d M (base.restart e k d M all.0) (walk e k (restart_outs hd k (d.inc + 1) d) (parts_in k (d.inc + 1) d) d M n.0 n.1 (starts_of G one k (d.inc + 1) d n.0 n.1) (restart_of G one hd k d numbers n.1) (rest k d None M all.1));
+            both e k (restart_outs hd k (d.inc + 1) d) (parts_in k (d.inc + 1) d) d M (base.restart e k d M all.0)
+            (walk e k (restart_outs hd k (d.inc + 1) d) (parts_in k (d.inc + 1) d) d M n.0 n.1 (starts_of G one k (d.inc + 1) d n.0 n.1)
+            (restart_of G one hd k d numbers n.1) (rest k d None M all.1));
         first = (base.first, first_so);
       }
         where
@@ -186,7 +196,8 @@ module _ (G : ℕ → Type 0) where
           with_it d t c its k = record { server = its.server; naming = its.naming; coord = k }
 
       pub runs_so : (ms : List Move) → Holds hd All (world_by hd ms)
-      runs_so ms = let h = moves_asked hd Whole so_kept ms in record { sent = h.sent; stands = h.stands; holds = let all = h.holds in all.1 }
+      runs_so ms = let h = moves_asked hd Whole so_kept ms in
+          record { sent = h.sent; stands = h.stands; holds = let all = h.holds in all.1 }
 
 -- ---- the numbers up to the header's
 
@@ -199,22 +210,30 @@ module _ (hd : Header) (form : HeaderInForm hd) where
 
   listed : (ns : List ℕ) → list_all (λ m. nat_le 1 m && nat_le m hd.nodes) ns ≡ true → AreOf Fits ns
   listed [] are = tt
-  listed (n ∷ ns) are = let p = and_parts (nat_le 1 n && nat_le n hd.nodes) (list_all (λ m. nat_le 1 m && nat_le m hd.nodes) ns) are in (p.0, listed ns p.1)
+  listed (n ∷ ns) are = let p = and_parts (nat_le 1 n && nat_le n hd.nodes) (list_all (λ m. nat_le 1 m && nat_le m hd.nodes) ns) are in
+      (p.0, listed ns p.1)
 
   in_form : (most : ℕ) (ns : List ℕ) → NodesInForm hd.nodes most ns → AreOf Fits ns × (1 ≤ length ns)
   in_form most ns are =
-      let p = and_parts (nat_le 1 (length ns) && nat_le (length ns) most) (list_all (λ m. nat_le 1 m && nat_le m hd.nodes) ns && is_distinct ns) are in
-      (listed ns (and_parts (list_all (λ m. nat_le 1 m && nat_le m hd.nodes) ns) (is_distinct ns) p.1).0, leb-true 1 (length ns) (and_parts (nat_le 1 (length ns)) (nat_le (length ns) most) p.0).0)
+      let p = and_parts (nat_le 1 (length ns) && nat_le (length ns) most)
+      (list_all (λ m. nat_le 1 m && nat_le m hd.nodes) ns && is_distinct ns) are in (
+        listed ns (and_parts (list_all (λ m. nat_le 1 m && nat_le m hd.nodes) ns) (is_distinct ns) p.1).0,
+        leb-true 1 (length ns) (and_parts (nat_le 1 (length ns)) (nat_le (length ns) most) p.0).0,
+      )
 
   lines : (os : List ObjectLine) → AllByRecursion (ObjectLineInForm hd.nodes) os → AllByRecursion (LineOf Fits) os
   lines [] all = tt
-  lines (o ∷ os) all = let f = all.0 in let s = in_form SERVERS o.servers f.servers in ((s.0, (in_form STORES o.stores f.stores).0, s.1), lines os all.1)
+  lines (o ∷ os) all = let f = all.0 in let s = in_form SERVERS o.servers f.servers in
+      ((s.0, (in_form STORES o.stores f.stores).0, s.1), lines os all.1)
 
-  frames_fit : (sent : List Post) → ((p : Post) → In p sent → PostOf Fits p) → (fs : List Frame) → AllByRecursion (IsSent sent) fs → AllByRecursion (λ (f : Frame). HasPlace hd f.to f.message) fs → AllByRecursion (λ (f : Frame). (nat_le 1 f.to && nat_le f.to hd.nodes) ≡ true) fs
+  frames_fit : (sent : List Post) → ((p : Post) → In p sent → PostOf Fits p) → (fs : List Frame) → AllByRecursion (IsSent sent) fs →
+      AllByRecursion (λ (f : Frame). HasPlace hd f.to f.message) fs →
+      AllByRecursion (λ (f : Frame). (nat_le 1 f.to && nat_le f.to hd.nodes) ≡ true) fs
   frames_fit sent posts [] are have = tt
   frames_fit sent posts (f ∷ fs) are have = (by f.message are.0 have.0, frames_fit sent posts fs are.1 have.1)
     where
-      by : (m : Option Message) → IfSome m (λ x. In (record { from = f.from; to = f.to; message = x }) sent) → HasPlace hd f.to m → Fits f.to
+      by : (m : Option Message) → IfSome m (λ x. In (record { from = f.from; to = f.to; message = x }) sent) → HasPlace hd f.to m →
+          Fits f.to
       by None there place = place
       by (Some m) there place = let p = posts (record { from = f.from; to = f.to; message = m }) there in p.1
 

@@ -1,24 +1,19 @@
 -- Locks, and what a server does with them.
-use Rattle.std.proofs.Common.{◌≡◌, ◌≤◌, ◌<◌, ◌-◌, ◌==◌, ◌||◌, ℕ, zero, suc, List, [], ◌∷◌, Bool, true, false, cond, length, map, nat_lt, not, take, Option, Some, None, refl, arith}
-use Rattle.std.specs.Prelude.{IfSome, find, slice_index_or}
-use Rattle.arj_base.specs.Rows.{first_conflict, goes_to, handed_on, has_row, is_held_by, passed, renamed, strengthened}
-use Rattle.std.proofs.lemmas.Bool.Decides.{nat_tests}
-use Rattle.std.proofs.lemmas.List.{length-take-le}
-use Rattle.arj_base.specs.Mode.{stronger}
-use Rattle.arj_base.specs.Path.{before_last}
-use Rattle.arj_base.specs.Uid.{nobody}
-use Rattle.arj_protocol.specs.Words.{Uid, Binding, End, Head, InvokedReply, ObjectState, Op, Path, Row, VotedReply, What, drop_rows, front, grant_row, is_on, is_row_of, last_uid, lower_row, object, op_mode, pass_rows, tops_of, uids_of}
-use Rattle.arj_protocol.specs.Words.ending
-use Rattle.arj_protocol.specs.Words.mode
-use Rattle.arj_protocol.specs.Ask.{actor, top_of}
-use Rattle.arj_protocol.specs.Copy.{Copy, ask_copy, end_copy, invoke_copy, is_granted, row_for, rows_asked, run_copy, taken_copy}
-use Rattle.arj_protocol.specs.Effect.{Served, Did, did_nothing, either, reply, void}
-use Rattle.arj_protocol.specs.Order.{at_number, at_uid, binding_eq, binding_less, put_number}
-use Rattle.arj_protocol.specs.Server.{Kept, Server, activate, active_binding, apply_ends, changed_by, end_new, end_one, first_unbound, has_ended, invoke, invoke_kept, invoke_new, invoke_now, is_below, is_told, keeps, on_copy, other_inc, row_top, server_holders, taken_end, told, took_copy, vote, vote_now}
-use Rattle.arj_law_parts.proofs.parts.Begun.{path_length, path_some}
-use Rattle.arj_law_parts.proofs.parts.LivesNamed.{all_each, all_found, all_put}
-use Rattle.arj_law_runs.specs.addresses.Addresses.{CopiesOf, PathOf, RowOf, RowsOf, UidsOf}
+use Rattle.arj_law_parts.proofs.Words
+use Words.{◌≡◌, ◌≤◌, ◌<◌, ◌-◌, ◌==◌, ◌||◌, ℕ, zero, suc, List, [], ◌∷◌, Bool, true, false, cond, length, map, nat_lt, not, take, Option}
+use Words.{Some, None, refl, arith, IfSome, find, slice_index_or, first_conflict, goes_to, handed_on, has_row, is_held_by, passed, renamed}
+use Words.{strengthened, nat_tests, length-take-le, stronger, before_last, nobody, Uid, Binding, End, Head, InvokedReply, ObjectState, Op}
+use Words.{Path, Row, VotedReply, What, drop_rows, front, grant_row, is_on, is_row_of, last_uid, lower_row, object, op_mode, pass_rows}
+use Words.{tops_of, uids_of, actor, top_of, Copy, ask_copy, end_copy, invoke_copy, is_granted, row_for, rows_asked, run_copy, taken_copy}
+use Words.{Served, Did, did_nothing, either, reply, void, at_number, at_uid, binding_eq, binding_less, put_number, Kept, Server, activate}
+use Words.{active_binding, apply_ends, changed_by, end_new, end_one, first_unbound, has_ended, invoke, invoke_kept, invoke_new, invoke_now}
+use Words.{is_below, is_told, keeps, on_copy, other_inc, row_top, server_holders, told, took_copy, vote, vote_now}
+use Words.ending
+use Words.mode
+use Rattle.arj_law_runs.proofs.Terms.{taken_end, path_length, path_some, all_each, all_put, CopiesOf, PathOf, RowsOf, UidsOf}
+use Rattle.arj_law_parts.proofs.parts.LivesNamed.{all_found}
 use Rattle.arj_law_runs.proofs.addresses.Lists.{all_filter, all_flat, all_map, all_some}
+use Rattle.arj_law_runs.specs.addresses.Addresses.{RowOf}
 
 -- ---- where the top of a path stands
 
@@ -81,7 +76,8 @@ module _ (G : ℕ → Type 0) where
   grant_of new [] its all = (its, tt)
   grant_of new (r ∷ rs) its all = by (is_row_of new.object (last_uid new.holder) r) (grant_of new rs its all.1)
     where
-      by : (b : Bool) → RowsOf G (grant_row new rs) → RowsOf G (cond b (record r { mode = stronger r.mode new.mode } ∷ rs) (r ∷ grant_row new rs))
+      by : (b : Bool) → RowsOf G (grant_row new rs) →
+          RowsOf G (cond b (record r { mode = stronger r.mode new.mode } ∷ rs) (r ∷ grant_row new rs))
       by true ih = all
       by false ih = (all.0, ih)
 
@@ -117,7 +113,8 @@ module _ (G : ℕ → Type 0) where
           one true = tt
           one false = (front_of row.holder its.0, passes_fit (length (front row.holder)) row.tops (front_some row.holder is))
 
-      by : (row : Row) (b : Bool) → RowOf G row → IfSome (cond b (handed_on rows row (before_last row.holder)) (Some (strengthened row (find (goes_to u row) rows)))) (RowOf G)
+      by : (row : Row) (b : Bool) → RowOf G row →
+          IfSome (cond b (handed_on rows row (before_last row.holder)) (Some (strengthened row (find (goes_to u row) rows)))) (RowOf G)
       by row true its = heir row (before_last row.holder) refl its
       by row false its = strong row (find (goes_to u row) rows) its
 
@@ -134,12 +131,15 @@ module _ (G : ℕ → Type 0) where
   All s = CopiesOf G s.objects
 
   pub holders_of : (s : Server) → All s → UidsOf G (server_holders s)
-  holders_of s all = all_flat (λ (e : ℕ × Copy). IsOf e.1) (λ (u : Uid). G u.node) (λ (e : ℕ × Copy). map row_top e.1.rows) s.objects (λ e its. tops_of_rows e.1.rows its) all
+  holders_of s all = all_flat (λ (e : ℕ × Copy). IsOf e.1) (λ (u : Uid). G u.node) (λ (e : ℕ × Copy). map row_top e.1.rows) s.objects
+      (λ e its. tops_of_rows e.1.rows its) all
 
   pub activate_of : (n : ℕ) (p : Path) (b : Binding) (st : ObjectState) (s : Server) → All s → All (activate n p b st s).part
-  activate_of n p b st s all = by (has_ended p s) (binding_less b (active_binding st.uid.num s)) (binding_eq b (active_binding st.uid.num s))
+  activate_of n p b st s all =
+      by (has_ended p s) (binding_less b (active_binding st.uid.num s)) (binding_eq b (active_binding st.uid.num s))
     where
-      by : (over lower equal : Bool) → All (cond {A = Served Server ℕ} (over || lower) (void s) (cond equal (reply s s.inc) (took_copy n st.uid.num b st s))).part
+      by : (over lower equal : Bool) →
+          All (cond {A = Served Server ℕ} (over || lower) (void s) (cond equal (reply s s.inc) (took_copy n st.uid.num b st s))).part
       by true lower equal = all
       by false true equal = all
       by false false true = all
@@ -160,7 +160,8 @@ module _ (G : ℕ → Type 0) where
   told_of n [] s all = all
   told_of n (e ∷ es) s all = told_of n es (end_one n e.0 e.1 s).part (end_one_of n e.0 e.1 s all)
 
-  on_copy_of : (n : ℕ) (p : Path) (x : ℕ) (o : Op) (s : Server) → PathOf G p → All s → (f : Option Copy) → at_number x s.objects ≡ f → All (on_copy x (invoke_copy n p x o) s f).part
+  on_copy_of : (n : ℕ) (p : Path) (x : ℕ) (o : Op) (s : Server) → PathOf G p → All s → (f : Option Copy) → at_number x s.objects ≡ f →
+      All (on_copy x (invoke_copy n p x o) s f).part
   on_copy_of n p x o s path all None there = all
   on_copy_of n p x o s path all (Some c) there = by (first_conflict (uids_of p) (object x) (op_mode o) c.rows)
     where
@@ -168,10 +169,12 @@ module _ (G : ℕ → Type 0) where
       its = all_found IsOf x s.objects c all there
 
       by : (r : Option Row) → All (let a = ask_copy n p x o c r in record s { objects = put_number x a.part s.objects })
-      by None = all_put IsOf x (run_copy n p x o c).part s.objects (asked_of (row_for (object x) (uids_of p) (tops_of p) (op_mode o)) c.rows (path, path_fits p) its) all
+      by None = all_put IsOf x (run_copy n p x o c).part s.objects
+          (asked_of (row_for (object x) (uids_of p) (tops_of p) (op_mode o)) c.rows (path, path_fits p) its) all
       by (Some r) = all_put IsOf x c s.objects its all
 
-  pub invoke_of : (n : ℕ) (h : Head) (x : ℕ) (b : Binding) (i : ℕ) (ends : List (Uid × End)) (o : Op) (s : Server) → PathOf G h.path → All s → All (invoke n h x b i ends o s).part
+  pub invoke_of : (n : ℕ) (h : Head) (x : ℕ) (b : Binding) (i : ℕ) (ends : List (Uid × End)) (o : Op) (s : Server) → PathOf G h.path →
+      All s → All (invoke n h x b i ends o s).part
   invoke_of n h x b i ends o s path all = by (has_ended h.path s || is_below h.req (at_uid (actor h.path) s.kept))
     where
       Left : Served Server InvokedReply → Type 0
@@ -203,13 +206,15 @@ module _ (G : ℕ → Type 0) where
       by true = all
       by false = now (changed_by i x b s)
 
-  pub vote_of : (n : ℕ) (p : Path) (i : ℕ) (ties : List (ℕ × Binding)) (ends : List (Uid × End)) (s : Server) → All s → All (vote n p i ties ends s).part
+  pub vote_of : (n : ℕ) (p : Path) (i : ℕ) (ties : List (ℕ × Binding)) (ends : List (Uid × End)) (s : Server) → All s →
+      All (vote n p i ties ends s).part
   vote_of n p i ties ends s all = by (has_ended p s)
     where
       now : (w : Option What) → All (vote_now n (actor p) ends s w).part
       now (Some w) = all
       now None = told_of n ends s all
 
-      by : (b : Bool) → All (cond {A = Served Server VotedReply} b (void s) (vote_now n (actor p) ends s (either (other_inc i s.inc) (first_unbound ties s)))).part
+      by : (b : Bool) → All (cond {A = Served Server VotedReply} b (void s)
+          (vote_now n (actor p) ends s (either (other_inc i s.inc) (first_unbound ties s)))).part
       by true = all
       by false = now (either (other_inc i s.inc) (first_unbound ties s))

@@ -1,35 +1,36 @@
 -- A coordinator sends a Bind where a call or an include begins, and at a tick again for each that waits; and at no answer.
-use Rattle.std.proofs.Common.{◌≡◌, ◌≤◌, ◌==◌, ◌+◌, ◌&&◌, ℕ, suc, Bool, true, false, cond, List, [], ◌∷◌, ◌++◌, length, map, Option, Some, None, refl, ◌∙◌, ap, arith}
-use Rattle.std.specs.Prelude.{⊤, if◌then◌else◌}
-use Rattle.std.specs.List.{AllByRecursion, flat_map}
-use Rattle.std.proofs.lemmas.Bool.{and_parts}
-use Rattle.arj_protocol.specs.Words.{Uid, Asked, Ask, BoundReply, End, Head, InvokedReply, Kind, LoadedReply, Op, Path, RecordedReply, request}
-use Rattle.arj_protocol.specs.Words.ask
-use Rattle.arj_protocol.specs.Words.bound
-use Rattle.arj_protocol.specs.Words.body
-use Rattle.arj_protocol.specs.Words.cause
-use Rattle.arj_protocol.specs.Words.ending
-use Rattle.arj_protocol.specs.Words.invoked
-use Rattle.arj_protocol.specs.Words.kind
-use Rattle.arj_protocol.specs.Words.loaded
-use Rattle.arj_protocol.specs.Words.recorded
-use Rattle.arj_protocol.specs.Ask.{Reply, actor, ask_kind, reply_kind}
-use Rattle.arj_protocol.specs.Asking.{again_all, again_now, asks_all, asks_machine, asks_node, call, commit_action, commit_open, commit_top, commits_in, end_line, gaveup_lines, give_up, give_up_doing, gives_up, heard, heard_by, heard_call, heard_doing, heard_none, heard_now, include, kept_at, last_req, mark_lines, moved_commit, next_req, root_lost, step_call, step_commit, waits_for_call, waits_for_commit}
-use Rattle.arj_protocol.specs.Call.{At, AtActivate, AtBind, AtInvoke, AtLoad, AtNote, CallStep, Changed, Ended, Goal, Include, Known, On, Run, Steps, activated_by, answered, ask_at, bound_answer, bound_by, finds, given_up, invoked_answer, live_known, loaded_answer, made_known, moves, named_again, next_ask, next_node, node_at, recorded_answer, same_binding, two_bindings, two_incs, with_inc}
-use Rattle.arj_protocol.specs.Commit.{Aborts, Asks, CommitStep, Confirming, Decides, Machine, Marked, Preparing, Stays, Voting, ask_of, left_of, nodes_given_up, plan_of, waiting}
-use Rattle.arj_protocol.specs.Commit as commit
-use Rattle.arj_protocol.specs.Coord.{Calling, Committing, Coord, Doing, Idle, Now, doing_of, is_free, on_root, plan_for, root_at}
-use Rattle.arj_protocol.specs.Effect.{Did, Do, Effect, Intent, Say, Send, Served}
-use Rattle.arj_protocol.specs.Ending.{abort_action, acked, all_aborted, answer_query, aborts_with, decide, ends_with, says, tolds_of}
-use Rattle.arj_protocol.specs.Order.{binding_eq, binding_less, unbound}
-use Rattle.arj_protocol.specs.Says.{AreAll, is_coord_effect, is_coord_line}
-use Rattle.arj_protocol.specs.Step.{Input, acts, branch_named, on_branch, tolds_again}
-use Rattle.arj_protocol.specs.Step as input
-use Rattle.arj_protocol.specs.Tree.{Branch, ends_of, open_below, root_of}
-use Rattle.arj_protocol.proofs.CoordSays.{acked_own, acts_own, heard_own, query_own, tolds_again_own}
-use Rattle.arj_law_runs.proofs.calls.CoordOuts.{quiet_acked, quiet_again, quiet_all, quiet_query}
-use Rattle.arj_law_runs.proofs.calls.CoordSends.{AllQuiet, quiet_both, quiet_decide, quiet_ends, quiet_flat, quiet_gaveup, quiet_marks, quiet_says, quiet_tolds}
-use Rattle.arj_law_runs.proofs.bindings.Weights.{AllLight, IsNoBind, NoBinds, bind_ask, bind_by, class_light, every_both, light_weighs, request_no_bind, sent_few, weigh, weigh_both, weighs_less}
+use Rattle.arj_law_parts.proofs.Words
+use Words.{◌≡◌, ◌≤◌, ◌==◌, ◌+◌, ◌&&◌, ℕ, suc, Bool, true, false, cond, List, [], ◌∷◌, ◌++◌, length, map, Option, Some, None, refl, ◌∙◌, ap}
+use Words.{arith, ⊤, if◌then◌else◌, AllByRecursion, flat_map, and_parts, Uid, Asked, Ask, BoundReply, End, Head, InvokedReply, Kind}
+use Words.{LoadedReply, Op, Path, RecordedReply, request, Reply, actor, ask_kind, reply_kind, again_all, again_now, asks_all, asks_machine}
+use Words.{asks_node, call, commit_action, commit_open, commit_top, commits_in, end_line, gaveup_lines, give_up, give_up_doing, gives_up}
+use Words.{heard, heard_by, heard_call, heard_doing, heard_none, heard_now, include, kept_at, last_req, mark_lines, moved_commit, next_req}
+use Words.{root_lost, step_call, step_commit, waits_for_call, waits_for_commit, At, AtActivate, AtBind, AtInvoke, AtLoad, AtNote, CallStep}
+use Words.{Changed, Ended, Goal, Include, Known, On, Run, Steps, activated_by, answered, ask_at, bound_answer, bound_by, finds, given_up}
+use Words.{invoked_answer, live_known, loaded_answer, made_known, moves, named_again, next_ask, next_node, node_at, recorded_answer}
+use Words.{same_binding, two_bindings, two_incs, with_inc, Aborts, Asks, CommitStep, Confirming, Decides, Machine, Marked, Preparing, Stays}
+use Words.{Voting, ask_of, left_of, nodes_given_up, plan_of, waiting, Calling, Committing, Coord, Doing, Idle, Now, doing_of, is_free}
+use Words.{on_root, plan_for, root_at, Did, Do, Effect, Intent, Say, Send, Served, abort_action, acked, all_aborted, answer_query}
+use Words.{aborts_with, decide, ends_with, says, tolds_of, binding_eq, binding_less, unbound, AreAll, is_coord_effect, is_coord_line, Input}
+use Words.{acts, branch_named, on_branch, tolds_again, Branch, ends_of, open_below, root_of, acked_own, acts_own, heard_own, query_own}
+use Words.{tolds_again_own}
+use Words.ask
+use Words.bound
+use Words.body
+use Words.cause
+use Words.ending
+use Words.invoked
+use Words.kind
+use Words.loaded
+use Words.recorded
+use Words.commit
+use Words.input
+use Rattle.arj_law_runs.proofs.bindings
+use bindings.Weights.{AllLight, IsNoBind, NoBinds, bind_ask, bind_by, class_light, every_both, light_weighs, request_no_bind, sent_few}
+use bindings.Weights.{weigh, weigh_both, weighs_less}
+use Rattle.arj_law_runs.proofs.calls
+use calls.CoordOuts.{quiet_acked, quiet_again, quiet_all, quiet_query}
+use calls.CoordSends.{AllQuiet, quiet_both, quiet_decide, quiet_ends, quiet_flat, quiet_gaveup, quiet_marks, quiet_says, quiet_tolds}
 
 no_both : (es fs : List Effect) → NoBinds es → NoBinds fs → NoBinds (es ++ fs)
 no_both es fs a b = every_both IsNoBind es fs a b
@@ -51,9 +52,11 @@ ask_none (Voting p left) n = refl
 ask_none (Preparing p left) n = refl
 ask_none (Confirming p) n = refl
 
-all_none : (p : _) (req : ℕ) (asked : List (ℕ × Ask)) (c : Coord) → AllByRecursion (λ (a : ℕ × Ask). bind_ask a.1 ≡ 0) asked → NoBinds (asks_all p req asked c).outs
+all_none : (p : _) (req : ℕ) (asked : List (ℕ × Ask)) (c : Coord) → AllByRecursion (λ (a : ℕ × Ask). bind_ask a.1 ≡ 0) asked →
+    NoBinds (asks_all p req asked c).outs
 all_none p req [] c none = tt
-all_none p req (a ∷ rest) c none = (request_no_bind (record { path = p; req = req }) a.1 none.0, all_none p req rest (asks_node p req a c).part none.1)
+all_none p req (a ∷ rest) c none =
+    (request_no_bind (record { path = p; req = req }) a.1 none.0, all_none p req rest (asks_node p req a c).part none.1)
 
 machine_none : (m : Machine) (c : Coord) → NoBinds (asks_machine m c).outs
 machine_none m c = all_none (plan_of m).path (plan_of m).req (waiting m) c (each (left_of m))
@@ -66,10 +69,12 @@ commit_step_none : (u : Uid) (s : CommitStep) (intents : List (Uid × Intent)) (
 commit_step_none u (Stays m) intents c = tt
 commit_step_none u (Asks m) intents c = machine_none m (commits_in u m c)
 commit_step_none u (Decides p) intents c = quiet_none (decide p c).outs (quiet_decide p c)
-commit_step_none u (Aborts why p) intents c = quiet_none (aborts_with u why intents c).outs (quiet_ends u ending.Abort (λ l. body.Aborted l why) intents c)
+commit_step_none u (Aborts why p) intents c =
+    quiet_none (aborts_with u why intents c).outs (quiet_ends u ending.Abort (λ l. body.Aborted l why) intents c)
 
 moved_none : (u : Uid) (m : Marked) (intents : List (Uid × Intent)) (c : Coord) → NoBinds (moved_commit u m intents c).outs
-moved_none u m intents c = no_both (mark_lines u m.marks c) (step_commit u m.step intents c).outs (quiet_none (mark_lines u m.marks c) (quiet_marks u m.marks c)) (commit_step_none u m.step intents c)
+moved_none u m intents c = no_both (mark_lines u m.marks c) (step_commit u m.step intents c).outs
+    (quiet_none (mark_lines u m.marks c) (quiet_marks u m.marks c)) (commit_step_none u m.step intents c)
 
 -- ---- calls
 
@@ -91,7 +96,8 @@ at_none x g ends (AtInvoke k i) other = refl
 
 step_none : (s : Steps) (t : CallStep) (c : Coord) → GoesToOther t → NoBinds (step_call s t c).outs
 step_none s (On at) c other = (request_no_bind (record { path = s.path; req = s.req + 1 }) _ (at_none s.x s.goal _ at other), tt)
-step_none s (Ended e) c other = quiet_none (says (actor s.path) (end_line s.x s.goal e) c) (quiet_says (actor s.path) (end_line s.x s.goal e) c)
+step_none s (Ended e) c other =
+    quiet_none (says (actor s.path) (end_line s.x s.goal e) c) (quiet_says (actor s.path) (end_line s.x s.goal e) c)
 
 inc_other : (i : ℕ) (kept : Known) (at : At) (o : Option ℕ) → IsOther at → GoesToOther (with_inc i kept at o).step
 inc_other i kept at None other = other
@@ -109,15 +115,18 @@ bound_other free k at (Some old) other = by (binding_eq old.binding k.binding) (
     same None = other
     same (Some i) = inc_other i (named_again old k) at old.inc other
 
-    by : (b greater : Bool) → GoesToOther (cond b (same_binding old k at k.inc) (cond greater (moves (Some k) at) (finds (Some old) (Changed 1 (two_bindings old.binding k.binding))))).step
+    by : (b greater : Bool) → GoesToOther (cond b (same_binding old k at k.inc)
+        (cond greater (moves (Some k) at) (finds (Some old) (Changed 1 (two_bindings old.binding k.binding))))).step
     by true greater = same k.inc
     by false true = other
     by false false = tt
 
 naming_other : (free : Bool) (kept : Option Known) (r : BoundReply) → GoesToOther (bound_answer free kept r).step
-naming_other free kept (bound.Live b server i g stores) = bound_other free (live_known b server i g stores) (AtInvoke (live_known b server i g stores) i) kept tt
+naming_other free kept (bound.Live b server i g stores) =
+    bound_other free (live_known b server i g stores) (AtInvoke (live_known b server i g stores) i) kept tt
 naming_other free kept (bound.Make b server g []) = tt
-naming_other free kept (bound.Make b server g (s ∷ ss)) = bound_other free (made_known b server g (s ∷ ss)) (AtLoad (made_known b server g (s ∷ ss)) s ss) kept tt
+naming_other free kept (bound.Make b server g (s ∷ ss)) =
+    bound_other free (made_known b server g (s ∷ ss)) (AtLoad (made_known b server g (s ∷ ss)) s ss) kept tt
 naming_other free kept (bound.Write g []) = tt
 naming_other free kept (bound.Write g (s ∷ ss)) = tt
 naming_other free kept (bound.Conflict holder m) = tt
@@ -146,7 +155,8 @@ invoked_other kept k (invoked.Conflict holder m) = tt
 invoked_other kept k (invoked.Changed w) = tt
 
 -- an answer of the kind that the step waits for leads to no Bind
-answered_other : (free : Bool) (kept : Option Known) (x : ℕ) (g : Goal) (at : At) (r : Reply) → (reply_kind r == ask_kind (ask_at x g [] at)) ≡ true → GoesToOther (answered free kept g at r).step
+answered_other : (free : Bool) (kept : Option Known) (x : ℕ) (g : Goal) (at : At) (r : Reply) →
+    (reply_kind r == ask_kind (ask_at x g [] at)) ≡ true → GoesToOther (answered free kept g at r).step
 answered_other free kept x g (AtBind avoid) (Reply.Bound r) is = naming_other free kept r
 answered_other free kept x g (AtBind avoid) (Reply.Loaded r) is = absurd (cc is)
 answered_other free kept x g (AtBind avoid) (Reply.Activated r) is = absurd (cc is)
@@ -205,13 +215,17 @@ heard_none_bound from a r intents c = by (doing_of a.act c)
     now Idle = tt
     now (Calling s) = one (waits_for_call from a r s) refl
       where
-        one : (w : Bool) → waits_for_call from a r s ≡ w → NoBinds (cond {A = Served Coord (Unit {0})} w (heard_by (heard_call s r c)) (heard_none c)).outs
+        one : (w : Bool) → waits_for_call from a r s ≡ w →
+            NoBinds (cond {A = Served Coord (Unit {0})} w (heard_by (heard_call s r c)) (heard_none c)).outs
         one true waits = step_none s (answered (is_free (root_of s.path) (actor s.path) s.x c) (kept_at s c) s.goal s.at r).step _
-            (answered_other (is_free (root_of s.path) (actor s.path) s.x c) (kept_at s c) s.x s.goal s.at r (and_parts (reply_kind r == ask_kind (next_ask [] s)) (next_node s == from) (and_parts (s.req == a.req) ((reply_kind r == ask_kind (next_ask [] s)) && (next_node s == from)) waits).1).0)
+            (answered_other (is_free (root_of s.path) (actor s.path) s.x c) (kept_at s c) s.x s.goal s.at r
+            (and_parts (reply_kind r == ask_kind (next_ask [] s)) (next_node s == from)
+            (and_parts (s.req == a.req) ((reply_kind r == ask_kind (next_ask [] s)) && (next_node s == from)) waits).1).0)
         one false waits = tt
     now (Committing m) = one (waits_for_commit from a r m)
       where
-        one : (w : Bool) → NoBinds (cond {A = Served Coord (Unit {0})} w (heard_by (moved_commit a.act (commit.answered from m r) intents c)) (heard_none c)).outs
+        one : (w : Bool) → NoBinds
+            (cond {A = Served Coord (Unit {0})} w (heard_by (moved_commit a.act (commit.answered from m r) intents c)) (heard_none c)).outs
         one true = moved_none a.act (commit.answered from m r) intents c
         one false = tt
 
@@ -220,13 +234,16 @@ heard_none_bound from a r intents c = by (doing_of a.act c)
     by (Some d) = now d.now
 
 pub heard_light : (from : ℕ) (a : Asked) (r : Reply) (intents : List (Uid × Intent)) (c : Coord) → AllLight (heard from a r intents c).outs
-heard_light from a r intents c = coord_light (heard from a r intents c).outs (heard_own from a r intents c) (heard_none_bound from a r intents c)
+heard_light from a r intents c =
+    coord_light (heard from a r intents c).outs (heard_own from a r intents c) (heard_none_bound from a r intents c)
 
 pub acked_light : (from : ℕ) (u : Uid) (intents : List (Uid × Intent)) (c : Coord) → AllLight (acked from u intents c).outs
-acked_light from u intents c = coord_light (acked from u intents c).outs (acked_own from u intents c) (quiet_none (acked from u intents c).outs (quiet_acked from u intents c))
+acked_light from u intents c = coord_light (acked from u intents c).outs (acked_own from u intents c)
+    (quiet_none (acked from u intents c).outs (quiet_acked from u intents c))
 
 pub query_light : (from : ℕ) (u : Uid) (intents : List (Uid × Intent)) (c : Coord) → AllLight (answer_query from u intents c)
-query_light from u intents c = coord_light (answer_query from u intents c) (query_own from u intents c) (quiet_none (answer_query from u intents c) (quiet_query from u intents c))
+query_light from u intents c = coord_light (answer_query from u intents c) (query_own from u intents c)
+    (quiet_none (answer_query from u intents c) (quiet_query from u intents c))
 
 pub tolds_light : (telling : List (Uid × Intent)) → AllLight (tolds_again telling)
 tolds_light telling = coord_light (tolds_again telling) (tolds_again_own telling) (quiet_none (tolds_again telling) (quiet_again telling))
@@ -238,8 +255,11 @@ give_up_none u intents c = by (doing_of u c)
   where
     now : (n : Now) → NoBinds (gives_up u intents c n).outs
     now Idle = tt
-    now (Calling s) = no_both (gaveup_lines u (next_node s ∷ []) c) (step_call s (given_up s.at) (on_root (root_of s.path) (root_lost s (given_up s.at)) c)).outs (quiet_none (gaveup_lines u (next_node s ∷ []) c) (quiet_gaveup u (next_node s ∷ []) c)) (step_none s (given_up s.at) (on_root (root_of s.path) (root_lost s (given_up s.at)) c) (given_up_other s.at))
-    now (Committing m) = no_both (gaveup_lines u (nodes_given_up m) c) (moved_commit u (commit.given_up m) intents c).outs (quiet_none (gaveup_lines u (nodes_given_up m) c) (quiet_gaveup u (nodes_given_up m) c)) (moved_none u (commit.given_up m) intents c)
+    now (Calling s) = no_both (gaveup_lines u (next_node s ∷ []) c) (step_call s (given_up s.at) (on_root (root_of s.path)
+        (root_lost s (given_up s.at)) c)).outs (quiet_none (gaveup_lines u (next_node s ∷ []) c) (quiet_gaveup u (next_node s ∷ []) c))
+        (step_none s (given_up s.at) (on_root (root_of s.path) (root_lost s (given_up s.at)) c) (given_up_other s.at))
+    now (Committing m) = no_both (gaveup_lines u (nodes_given_up m) c) (moved_commit u (commit.given_up m) intents c).outs (quiet_none
+        (gaveup_lines u (nodes_given_up m) c) (quiet_gaveup u (nodes_given_up m) c)) (moved_none u (commit.given_up m) intents c)
 
     by : (o : Option Doing) → NoBinds (give_up_doing u intents c o).outs
     by None = tt
@@ -249,24 +269,31 @@ commit_none : (b : Branch) (intents : List (Uid × Intent)) (c : Coord) → NoBi
 commit_none b intents c = by b.doomed
   where
     top : NoBinds (commit_top b.path intents c).outs
-    top = let m : Marked = commit.start (plan_for b.path (last_req (doing_of (actor b.path) c)) (root_at (root_of b.path) c) c) in no_both (says (actor b.path) body.Committing c) (moved_commit (actor b.path) m intents c).outs (quiet_none (says (actor b.path) body.Committing c) (quiet_says (actor b.path) body.Committing c)) (moved_none (actor b.path) m intents c)
+    top = let m : Marked = commit.start (plan_for b.path (last_req (doing_of (actor b.path) c)) (root_at (root_of b.path) c) c) in
+        no_both (says (actor b.path) body.Committing c) (moved_commit (actor b.path) m intents c).outs (quiet_none
+        (says (actor b.path) body.Committing c) (quiet_says (actor b.path) body.Committing c)) (moved_none (actor b.path) m intents c)
 
     kinds : (k : Kind) → NoBinds (commit_open b intents c k).outs
-    kinds kind.Nested = quiet_none (ends_with (actor b.path) ending.Commit body.Committed intents c).outs (quiet_ends (actor b.path) ending.Commit body.Committed intents c)
-    kinds kind.Serial = quiet_none (ends_with (actor b.path) ending.Commit body.Ended intents c).outs (quiet_ends (actor b.path) ending.Commit body.Ended intents c)
+    kinds kind.Nested = quiet_none (ends_with (actor b.path) ending.Commit body.Committed intents c).outs
+        (quiet_ends (actor b.path) ending.Commit body.Committed intents c)
+    kinds kind.Serial = quiet_none (ends_with (actor b.path) ending.Commit body.Ended intents c).outs
+        (quiet_ends (actor b.path) ending.Commit body.Ended intents c)
     kinds kind.Top = top
     kinds kind.Independent = top
     kinds kind.Constituent = top
 
-    by : (d : Bool) → NoBinds (cond {A = Did Coord} d (aborts_with (actor b.path) cause.Doomed intents c) (commit_open b intents c b.kind)).outs
-    by true = quiet_none (aborts_with (actor b.path) cause.Doomed intents c).outs (quiet_ends (actor b.path) ending.Abort (λ l. body.Aborted l cause.Doomed) intents c)
+    by : (d : Bool) →
+        NoBinds (cond {A = Did Coord} d (aborts_with (actor b.path) cause.Doomed intents c) (commit_open b intents c b.kind)).outs
+    by true = quiet_none (aborts_with (actor b.path) cause.Doomed intents c).outs
+        (quiet_ends (actor b.path) ending.Abort (λ l. body.Aborted l cause.Doomed) intents c)
     by false = kinds b.kind
 
 abort_none : (u : Uid) (intents : List (Uid × Intent)) (c : Coord) → NoBinds (abort_action u intents c).outs
 abort_none u intents c =
     let us : List Uid = open_below u c.tree ++ u ∷ [] in
     let t = all_aborted us c in
-    quiet_none (t.outs ++ flat_map (tolds_of intents t.part) us) (quiet_both t.outs (flat_map (tolds_of intents t.part) us) (quiet_all us c) (quiet_flat (tolds_of intents t.part) us (quiet_tolds intents t.part)))
+    quiet_none (t.outs ++ flat_map (tolds_of intents t.part) us) (quiet_both t.outs (flat_map (tolds_of intents t.part) us) (quiet_all us c)
+    (quiet_flat (tolds_of intents t.part) us (quiet_tolds intents t.part)))
 
 call_few : (n : ℕ) (p : Path) (x : ℕ) (o : Op) (c : Coord) → weigh n (call p x o c).outs ≤ 1
 call_few n p x o c = sent_few n _ _
@@ -293,9 +320,12 @@ acts_weigh n i intents c = by i
     by (input.Begin l k parent) = light (input.Begin l k parent) (tt, tt)
     by (input.Call l x o) = some_of (λ b. call b.path x o c) (branch_named l c) (λ b. call_few n b.path x o c)
     by (input.Include l x s) = some_of (λ b. include b.path x s c) (branch_named l c) (λ b. include_few n b.path x s c)
-    by (input.Commit l) = light (input.Commit l) (none_of (λ b. commit_action b intents c) (branch_named l c) (λ b. commit_none b intents c))
-    by (input.Abort l) = light (input.Abort l) (none_of (λ b. abort_action (actor b.path) intents c) (branch_named l c) (λ b. abort_none (actor b.path) intents c))
-    by (input.GiveUp l) = light (input.GiveUp l) (none_of (λ b. give_up (actor b.path) intents c) (branch_named l c) (λ b. give_up_none (actor b.path) intents c))
+    by (input.Commit l) =
+        light (input.Commit l) (none_of (λ b. commit_action b intents c) (branch_named l c) (λ b. commit_none b intents c))
+    by (input.Abort l) = light (input.Abort l)
+        (none_of (λ b. abort_action (actor b.path) intents c) (branch_named l c) (λ b. abort_none (actor b.path) intents c))
+    by (input.GiveUp l) = light (input.GiveUp l)
+        (none_of (λ b. give_up (actor b.path) intents c) (branch_named l c) (λ b. give_up_none (actor b.path) intents c))
     by (input.Frame k from m) = omega arith
     by input.Tick = omega arith
     by input.Restart = omega arith
@@ -314,9 +344,11 @@ again_one n c Idle = some (n == 1)
     some : (b : Bool) → 0 ≤ cond b 1 0
     some true = omega arith
     some false = omega arith
-again_one n c (Committing m) = some (n == 1) (light_weighs n (asks_machine m c).outs (machine_light (plan_of m).path (plan_of m).req (waiting m) c (machine_none m c)))
+again_one n c (Committing m) =
+    some (n == 1) (light_weighs n (asks_machine m c).outs (machine_light (plan_of m).path (plan_of m).req (waiting m) c (machine_none m c)))
   where
-    machine_light : (p : _) (req : ℕ) (asked : List (ℕ × Ask)) (c : Coord) → NoBinds (asks_all p req asked c).outs → AllLight (asks_all p req asked c).outs
+    machine_light : (p : _) (req : ℕ) (asked : List (ℕ × Ask)) (c : Coord) → NoBinds (asks_all p req asked c).outs →
+        AllLight (asks_all p req asked c).outs
     machine_light p req [] c none = tt
     machine_light p req (a ∷ rest) c none = (none.0, machine_light p req rest (asks_node p req a c).part none.1)
 
@@ -337,7 +369,8 @@ again_one n c (Calling s) = by (n == 1) refl
     flip : (1 == n) ≡ (n == 1)
     flip = grind arith
 
-    elsewhere : (n == 1) ≡ false → (at : At) → weigh n (Send (node_at at) (request h (ask_at s.x s.goal (ends_of (root_of s.path) c.tree) at)) ∷ []) ≤ 0
+    elsewhere : (n == 1) ≡ false → (at : At) →
+        weigh n (Send (node_at at) (request h (ask_at s.x s.goal (ends_of (root_of s.path) c.tree) at)) ∷ []) ≤ 0
     elsewhere off (AtBind avoid) = none (1 == n) (flip ∙ off)
       where
         none : (b : Bool) → b ≡ false → cond b 1 0 + 0 ≤ 0
@@ -377,7 +410,8 @@ again_weigh n [] c = by (n == 1)
 again_weigh n (d ∷ ds) c =
     let t = again_now c d.now in
     let q = again_all ds t.part in
-    by (n == 1) (weigh n t.outs) (weigh n q.outs) (weigh n (t.outs ++ q.outs)) (length ds) (again_one n c d.now) (again_weigh n ds t.part) (weigh_both n t.outs q.outs)
+    by (n == 1) (weigh n t.outs) (weigh n q.outs) (weigh n (t.outs ++ q.outs)) (length ds) (again_one n c d.now) (again_weigh n ds t.part)
+    (weigh_both n t.outs q.outs)
   where
     by : (b : Bool) (x y z k : ℕ) → x ≤ cond b 1 0 → y ≤ cond b k 0 → z ≡ x + y → z ≤ cond b (suc k) 0
     by true x y z k one rest is = omega (arith, one, rest, is)

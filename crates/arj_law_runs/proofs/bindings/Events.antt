@@ -1,38 +1,29 @@
 -- What each event adds to the lines of new bindings: no more than it has actions at work, beside the frames that it uses up.
-use Rattle.std.proofs.Common.{◌≡◌, ◌≤◌, ◌<◌, ◌==◌, ◌+◌, ◌*◌, ℕ, zero, suc, Bool, true, false, not, cond, List, [], ◌∷◌, ◌++◌, length, Option, Some, None, refl, sym, ◌∙◌, ap, subst, arith}
-use Rattle.std.specs.Prelude.{nat_le, nat_lt, slice_set, ◌||◌}
-use Rattle.std.specs.BTreeMap.{insert_entry}
-use Rattle.std.specs.Ordering.{match_ordering}
-use Rattle.std.specs.declared.cmp.Ordering.{Ordering}
-use Rattle.std.specs.declared.cmp.Ordering.TheVariants.{Less, Equal, Greater}
-use Rattle.std.proofs.lemmas.List.{length-append}
-use Rattle.arj_protocol.specs.Words.{Body, Event, Header, Label, label_cmp}
-use Rattle.arj_protocol.specs.Words.body
-use Rattle.arj_protocol.specs.Words.event
-use Rattle.arj_protocol.specs.Words.kind
-use Rattle.arj_protocol.specs.Words.which
-use Rattle.arj_protocol.specs.Words.frame
-use Rattle.arj_protocol.specs.Node.{Parts}
-use Rattle.arj_protocol.specs.Step as input
-use Rattle.arj_protocol.specs.Step.{Input, Node, first_reason, numbers_to}
-use Rattle.arj_protocol.specs.Tree.{at_place, set_place}
-use Rattle.arj_protocol.specs.World.{Arm, Asked, Frame, Giving, Labelled, World, armed, as_delivered, as_lost, begins, change_frame, counted, deliver, deliver_frame, format, frame_number, giving, happens, is_open_frame, is_quiet, is_serial_kind, is_up_at, junk, junk_fits, kind_below, labels_unless, lacks_labels, limited, lose, lose_frame, lowest, lowest_from, most_frames, most_labels, new_frame, no_labels, node_numbers, node_of, numbered, quiesce, quiet_line, reasons, refused_at, run_event, run_unless, says, settle, settle_for, show_all, show_up, steps, tick_all, tick_up}
-use Rattle.arj_law_parts.proofs.steps.Frames.{length_marked, over, over_few, over_more, steps_add}
-use Rattle.arj_law_parts.proofs.steps.Settled.{uses_up}
-use Rattle.arj_law_parts.specs.moves.Keeps.{Holds, KeepsAsked}
-use Rattle.arj_promise.specs.Runs.{Move, all_moved, as_moves, moved, world_by}
-use Rattle.arj_law_parts.proofs.moves.Happens.{arms_hold, deliver_holds, first_holds, keeps_asked, steps_hold}
-use Rattle.arj_law_parts.proofs.moves.Moving.{move_asked}
-use Rattle.arj_law_runs.specs.calls.Bindings.{bindings_made}
-use Rattle.arj_law_runs.specs.calls.Reached.{IsReached}
-use Rattle.arj_law_runs.proofs.calls.MadeLines.{lines_both}
-use Rattle.arj_law_runs.proofs.calls.Reaching.{moves_keep}
+use Rattle.arj_law_parts.proofs.Words
+use Words.{◌≡◌, ◌≤◌, ◌<◌, ◌==◌, ◌+◌, ◌*◌, ℕ, zero, suc, Bool, true, false, not, cond, List, [], ◌∷◌, ◌++◌, length, Option, Some, None, refl}
+use Words.{sym, ◌∙◌, ap, subst, arith, nat_le, nat_lt, slice_set, ◌||◌, insert_entry, match_ordering, Ordering, Less, Equal, Greater}
+use Words.{length-append, Body, Event, Header, Label, label_cmp, Parts, Input, Node, first_reason, numbers_to, at_place, set_place, Arm}
+use Words.{Frame, Giving, Labelled, World, armed, as_delivered, as_lost, begins, change_frame, counted, deliver, deliver_frame, format}
+use Words.{frame_number, giving, happens, is_open_frame, is_quiet, is_serial_kind, is_up_at, junk, junk_fits, kind_below, labels_unless}
+use Words.{lacks_labels, limited, lose, lose_frame, lowest, lowest_from, most_frames, most_labels, new_frame, no_labels, node_numbers}
+use Words.{node_of, numbered, quiesce, quiet_line, reasons, refused_at, run_event, run_unless, settle, settle_for, show_all, show_up, steps}
+use Words.{tick_all, tick_up, Move, all_moved, as_moves, moved, world_by, most_events}
+use Words.body
+use Words.event
+use Words.kind
+use Words.frame
+use Words.input
+use Rattle.arj_law_runs.proofs.Terms
+use Terms.{Asked, says, length_marked, steps_add, Holds, KeepsAsked, arms_hold, deliver_holds, keeps_asked, steps_hold, move_asked}
+use Terms.{bindings_made, IsReached}
+use Terms.which
+use Rattle.arj_law_parts.proofs.moves.Happens.{first_holds}
+use Rattle.arj_law_parts.proofs.steps.{Frames.over, Frames.over_few, Frames.over_more, Settled.uses_up}
+use Rattle.arj_law_runs.proofs.bindings
+use bindings.{CoordBinds.at_naming, Doings.HaveLabels, Doings.labels_go, Steps.tick_cost}
+use bindings.Worlds.{cost_at, made, steps_labels, steps_made}
+use Rattle.arj_law_runs.proofs.calls.{MadeLines.lines_both, Reaching.moves_keep}
 use Rattle.arj_law_runs.specs.bindings.Scripts.{MovesMakeFew}
-use Rattle.arj_promise.specs.Runs.{most_events}
-use Rattle.arj_law_runs.proofs.bindings.CoordBinds.{at_naming}
-use Rattle.arj_law_runs.proofs.bindings.Doings.{HaveLabels, labels_go}
-use Rattle.arj_law_runs.proofs.bindings.Worlds.{cost_at, made, steps_labels, steps_made}
-use Rattle.arj_law_runs.proofs.bindings.Steps.{tick_cost}
 
 -- ---- what a world grows by
 
@@ -48,21 +39,32 @@ stays c w = record { lines = same (made w) (over w.frames); few = λ f. f }
     same a b = omega arith
 
 then_grew : (a b c : ℕ) (w v u : World) → a + b ≤ c → Grew a w v → Grew b v u → Grew c w u
-then_grew a b c w v u le one two = record { lines = sum (made w) (made v) (made u) (over w.frames) (over v.frames) (over u.frames) one.lines two.lines; few = λ f. two.few (one.few f) }
+then_grew a b c w v u le one two = record {
+  lines = sum (made w) (made v) (made u) (over w.frames) (over v.frames) (over u.frames) one.lines two.lines;
+  few = λ f. two.few (one.few f);
+}
   where
     sum : (w v u x y z : ℕ) → v + x ≤ w + y + a → u + y ≤ v + z + b → u + x ≤ w + z + c
     sum w v u x y z p q = omega (arith, p, q, le)
 
 -- a step of a node
 steps_grew : (c k : ℕ) (i : Input) (w : World) → cost_at i (at_place k w.nodes) ≤ c → Grew c w (steps k i w)
-steps_grew c k i w le = let a = steps_add k i w in record { lines = sum (made w) (made (steps k i w)) (over w.frames) (over (steps k i w).frames) (cost_at i (at_place k w.nodes)) (steps_made k i w) a.over_too le; few = a.few }
+steps_grew c k i w le = let a = steps_add k i w in record {
+  lines = sum (made w) (made (steps k i w)) (over w.frames) (over (steps k i w).frames) (cost_at i (at_place k w.nodes)) (steps_made k i w)
+      a.over_too le;
+  few = a.few;
+}
   where
     sum : (w v x y s : ℕ) → v ≤ w + s → x ≤ y → s ≤ c → v + x ≤ w + y + c
     sum w v x y s p q r = omega (arith, p, q, r)
 
 -- lines of the world's own, of another kind
 says_grew : (bs : List Body) (w : World) → bindings_made (numbered w.event bs) ≡ 0 → Grew 0 w (says bs w)
-says_grew bs w none = record { lines = sum (made w) (made (says bs w)) (bindings_made (numbered w.event bs)) (over w.frames) (lines_both w.lines (numbered w.event bs)) none; few = λ f. f }
+says_grew bs w none = record {
+  lines =
+      sum (made w) (made (says bs w)) (bindings_made (numbered w.event bs)) (over w.frames) (lines_both w.lines (numbered w.event bs)) none;
+  few = λ f. f;
+}
   where
     sum : (w v b x : ℕ) → v ≡ w + b → b ≡ 0 → v + x ≤ w + x + 0
     sum w v b x is none = omega (arith, is, none)
@@ -83,7 +85,8 @@ over_set (f ∷ fs) zero g closed = less (is_open_frame f) (over fs) (over (g �
     less false a c is = omega (arith, is)
 over_set (f ∷ fs) (suc j) g closed = by (is_open_frame f) (over_set fs j g closed)
   where
-    by : (b : Bool) → over fs ≤ over (slice_set fs j g) → cond b (over fs) (suc (over fs)) ≤ cond b (over (slice_set fs j g)) (suc (over (slice_set fs j g)))
+    by : (b : Bool) → over fs ≤ over (slice_set fs j g) →
+        cond b (over fs) (suc (over fs)) ≤ cond b (over (slice_set fs j g)) (suc (over (slice_set fs j g)))
     by true le = le
     by false le = omega (arith, le)
 
@@ -99,7 +102,10 @@ placed_few zero g fs = refl
 placed_few (suc j) g fs = length_marked fs j g
 
 marked_grew : (k : ℕ) (mark : Frame → Frame) (f : Frame) (w : World) → is_open_frame (mark f) ≡ false → Grew 0 w (change_frame k mark f w)
-marked_grew k mark f w closed = record { lines = sum (made w) (over w.frames) (over (set_place k (mark f) w.frames)) (over_placed k (mark f) w.frames closed); few = λ le. less (length w.frames) (length (set_place k (mark f) w.frames)) (placed_few k (mark f) w.frames) le }
+marked_grew k mark f w closed = record {
+  lines = sum (made w) (over w.frames) (over (set_place k (mark f) w.frames)) (over_placed k (mark f) w.frames closed);
+  few = λ le. less (length w.frames) (length (set_place k (mark f) w.frames)) (placed_few k (mark f) w.frames) le;
+}
   where
     sum : (m x y : ℕ) → x ≤ y → m + x ≤ m + y + 0
     sum m x y le = omega (arith, le)
@@ -127,7 +133,8 @@ deliver_grew k w = by (at_place k w.frames)
 
     by : (o : Option Frame) → Grew 1 w (deliver_frame k w o)
     by None = stays 1 w
-    by (Some f) = let v = change_frame k as_delivered f w in let i = input.Frame k f.from f.message in then_grew 0 1 1 w v (steps f.to i v) le (marked_grew k as_delivered f w refl) (plain_grew f.to i v (frame_cost k f.from f.message))
+    by (Some f) = let v = change_frame k as_delivered f w in let i = input.Frame k f.from f.message in
+        then_grew 0 1 1 w v (steps f.to i v) le (marked_grew k as_delivered f w refl) (plain_grew f.to i v (frame_cost k f.from f.message))
 
 lose_grew : (k : ℕ) (w : World) → Grew 0 w (lose k w)
 lose_grew k w = by (at_place k w.frames)
@@ -137,11 +144,15 @@ lose_grew k w = by (at_place k w.frames)
 
     by : (o : Option Frame) → Grew 0 w (lose_frame k w o)
     by None = stays 0 w
-    by (Some f) = let v = change_frame k as_lost f w in then_grew 0 0 0 w v (says (body.Dropped k ∷ []) v) le (marked_grew k as_lost f w (closed_by f)) (says_grew (body.Dropped k ∷ []) v refl)
+    by (Some f) = let v = change_frame k as_lost f w in then_grew 0 0 0 w v (says (body.Dropped k ∷ []) v) le
+        (marked_grew k as_lost f w (closed_by f)) (says_grew (body.Dropped k ∷ []) v refl)
 
 -- a delivery of a settle uses up what it adds
 used_grew : (k : ℕ) (w : World) → lowest_from 1 w.frames ≡ Some k → Grew 0 w (deliver k w)
-used_grew k w is = let u = uses_up k w is in let d = deliver_grew k w in record { lines = sum (made w) (made (deliver k w)) (over w.frames) (over (deliver k w).frames) (delivered_made k w) u.more; few = u.few }
+used_grew k w is = let u = uses_up k w is in let d = deliver_grew k w in record {
+  lines = sum (made w) (made (deliver k w)) (over w.frames) (over (deliver k w).frames) (delivered_made k w) u.more;
+  few = u.few;
+}
   where
     delivered_made : (k : ℕ) (w : World) → made (deliver k w) ≤ made w + 1
     delivered_made k w = by (at_place k w.frames)
@@ -154,7 +165,8 @@ used_grew k w is = let u = uses_up k w is in let d = deliver_grew k w in record 
 
         by : (o : Option Frame) → made (deliver_frame k w o) ≤ made w + 1
         by None = more (made w)
-        by (Some f) = let v = change_frame k as_delivered f w in let i = input.Frame k f.from f.message in within (made (steps f.to i v)) (made w) (cost_at i (at_place f.to v.nodes)) (steps_made f.to i v) (frame_cost k f.from f.message (at_place f.to v.nodes))
+        by (Some f) = let v = change_frame k as_delivered f w in let i = input.Frame k f.from f.message in within (made (steps f.to i v))
+            (made w) (cost_at i (at_place f.to v.nodes)) (steps_made f.to i v) (frame_cost k f.from f.message (at_place f.to v.nodes))
 
     sum : (w v x y : ℕ) → v ≤ w + 1 → suc x ≤ y → v + x ≤ w + y + 0
     sum w v x y p q = omega (arith, p, q)
@@ -178,7 +190,8 @@ settle_grew (suc fuel) w = full w.full refl (λ k. settle_grew fuel (deliver k w
 
     full : (b : Bool) → w.full ≡ b → Rest → Grew 0 w (After (lowest w))
     full true is rest = subst (λ o. Grew 0 w (After o)) (sym (ap (λ b. cond b None (lowest_from 1 w.frames)) is)) (stays 0 w)
-    full false is rest = subst (λ o. Grew 0 w (After o)) (sym (ap (λ b. cond b None (lowest_from 1 w.frames)) is)) (next (lowest_from 1 w.frames) refl rest)
+    full false is rest =
+        subst (λ o. Grew 0 w (After o)) (sym (ap (λ b. cond b None (lowest_from 1 w.frames)) is)) (next (lowest_from 1 w.frames) refl rest)
 
 -- ---- what most inputs cost
 
@@ -226,7 +239,8 @@ nothing_more = omega arith
 
 shows_grew : (x : ℕ) (ns : List ℕ) (w : World) → Grew 0 w (show_all x ns w)
 shows_grew x [] w = stays 0 w
-shows_grew x (n ∷ ns) w = then_grew 0 0 0 w (show_up x n w) (show_all x ns (show_up x n w)) nothing_more (by (is_up_at n w)) (shows_grew x ns (show_up x n w))
+shows_grew x (n ∷ ns) w =
+    then_grew 0 0 0 w (show_up x n w) (show_all x ns (show_up x n w)) nothing_more (by (is_up_at n w)) (shows_grew x ns (show_up x n w))
   where
     by : (b : Bool) → Grew 0 w (cond b (steps n (input.Show x) w) w)
     by true = steps_grew 0 n (input.Show x) w (show_free x (at_place n w.nodes))
@@ -239,7 +253,8 @@ junk_grew n w = by (nat_lt (length w.frames) most_frames) refl
     sum m v x y is le = omega (arith, is, le)
 
     room : nat_lt (length w.frames) most_frames ≡ true → length (w.frames ++ new_frame 0 n None ∷ []) ≤ most_frames
-    room less = long (length w.frames) (length (w.frames ++ new_frame 0 n None ∷ [])) (length-append w.frames (new_frame 0 n None ∷ [])) less
+    room less =
+        long (length w.frames) (length (w.frames ++ new_frame 0 n None ∷ [])) (length-append w.frames (new_frame 0 n None ∷ [])) less
       where
         long : (a b : ℕ) → b ≡ a + 1 → nat_lt a most_frames ≡ true → b ≤ most_frames
         long a b is less = under b (a + 1) is (grind (arith, less))
@@ -248,7 +263,11 @@ junk_grew n w = by (nat_lt (length w.frames) most_frames) refl
             under b c is le = omega (arith, is, le)
 
     by : (b : Bool) → nat_lt (length w.frames) most_frames ≡ b → Grew 0 w (junk_fits n w b)
-    by true less = record { lines = sum (made w) (made (junk_fits n w true)) (over w.frames) (over (w.frames ++ new_frame 0 n None ∷ [])) (lines_both w.lines (numbered w.event (body.Sent (length w.frames + 1) 0 n frame.Junk ∷ []))) (over_more w.frames (new_frame 0 n None ∷ [])); few = λ f. room less }
+    by true less = record {
+      lines = sum (made w) (made (junk_fits n w true)) (over w.frames) (over (w.frames ++ new_frame 0 n None ∷ [])) (lines_both w.lines
+          (numbered w.event (body.Sent (length w.frames + 1) 0 n frame.Junk ∷ []))) (over_more w.frames (new_frame 0 n None ∷ []));
+      few = λ f. room less;
+    }
     by false less = let s = stays 0 w in record { lines = s.lines; few = s.few }
 
 -- ---- ticks
@@ -278,9 +297,12 @@ module _ (hd : Header) where
       within : (a b c : ℕ) → a ≤ b → b ≤ c → a ≤ c
       within a b c x y = omega (arith, x, y)
 
-      live : (n : Node) → n.number ≡ k → at_place k w.nodes ≡ Some n → (o : Option Parts) → n.live ≡ o → cost_at input.Tick (Some n) ≤ at_naming k most_labels
+      live : (n : Node) → n.number ≡ k → at_place k w.nodes ≡ Some n → (o : Option Parts) → n.live ≡ o →
+          cost_at input.Tick (Some n) ≤ at_naming k most_labels
       live n is there None down = subst (λ o. tick_cost n.number o ≤ at_naming k most_labels) (sym down) (none (k == 1))
-      live n is there (Some t) up = subst (λ o. tick_cost n.number o ≤ at_naming k most_labels) (sym up) (subst (λ z. at_naming z (length t.coord.doings) ≤ at_naming k most_labels) (sym is) (some (k == 1) (length t.coord.doings) (within (length t.coord.doings) (length w.labels) most_labels (h.holds k n there t up) few)))
+      live n is there (Some t) up = subst (λ o. tick_cost n.number o ≤ at_naming k most_labels) (sym up)
+          (subst (λ z. at_naming z (length t.coord.doings) ≤ at_naming k most_labels) (sym is) (some (k == 1) (length t.coord.doings)
+          (within (length t.coord.doings) (length w.labels) most_labels (h.holds k n there t up) few)))
 
       by : (o : Option Node) → at_place k w.nodes ≡ o → cost_at input.Tick o ≤ at_naming k most_labels
       by None is = none (k == 1)
@@ -288,20 +310,23 @@ module _ (hd : Header) where
 
   -- a step of a node leaves it so
   steps_fit : (k : ℕ) (w : World) → Fits w → Fits (steps k input.Tick w)
-  steps_fit k w (h, few) = (steps_hold hd HaveLabels asked k input.Tick w h tt, subst (λ ls. length ls ≤ most_labels) (sym (steps_labels k input.Tick w)) few)
+  steps_fit k w (h, few) =
+      (steps_hold hd HaveLabels asked k input.Tick w h tt, subst (λ ls. length ls ≤ most_labels) (sym (steps_labels k input.Tick w)) few)
 
   deliver_fit : (k : ℕ) (w : World) → Fits w → Fits (deliver k w)
   deliver_fit k w (h, few) = (deliver_holds hd HaveLabels asked k w h, by (at_place k w.frames))
     where
       by : (o : Option Frame) → HasRoom (deliver_frame k w o)
       by None = few
-      by (Some f) = subst (λ ls. length ls ≤ most_labels) (sym (steps_labels f.to (input.Frame k f.from f.message) (change_frame k as_delivered f w))) few
+      by (Some f) = subst (λ ls. length ls ≤ most_labels)
+          (sym (steps_labels f.to (input.Frame k f.from f.message) (change_frame k as_delivered f w))) few
 
   settle_fit : (fuel : ℕ) (w : World) → Fits w → Fits (settle_for fuel w)
   settle_fit zero w fits = fits
   settle_fit (suc fuel) w fits = by (lowest w) (λ k. settle_fit fuel (deliver k w) (deliver_fit k w fits))
     where
-      by : (o : Option ℕ) → ((k : ℕ) → Fits (settle_for fuel (deliver k w))) → Fits (elim o [ None ↦ w | Some k ↦ settle_for fuel (deliver k w) ])
+      by : (o : Option ℕ) → ((k : ℕ) → Fits (settle_for fuel (deliver k w))) →
+          Fits (elim o [ None ↦ w | Some k ↦ settle_for fuel (deliver k w) ])
       by None rest = fits
       by (Some k) rest = rest k
 
@@ -325,7 +350,9 @@ module _ (hd : Header) where
 
   ticks_grew : (ns : List ℕ) (w : World) → Fits w → Grew (all_ticks ns) w (tick_all ns w)
   ticks_grew [] w fits = stays 0 w
-  ticks_grew (n ∷ ns) w fits = then_grew (at_naming n most_labels) (all_ticks ns) (at_naming n most_labels + all_ticks ns) w (tick_up n w) (tick_all ns (tick_up n w)) (same (at_naming n most_labels + all_ticks ns)) (tick_grew n w fits) (ticks_grew ns (tick_up n w) (tick_fit n w fits))
+  ticks_grew (n ∷ ns) w fits =
+      then_grew (at_naming n most_labels) (all_ticks ns) (at_naming n most_labels + all_ticks ns) w (tick_up n w) (tick_all ns
+      (tick_up n w)) (same (at_naming n most_labels + all_ticks ns)) (tick_grew n w fits) (ticks_grew ns (tick_up n w) (tick_fit n w fits))
     where
       same : (a : ℕ) → a ≤ a
       same a = omega arith
@@ -336,7 +363,8 @@ module _ (hd : Header) where
     where
       none : (k : ℕ) → k ≡ 0 + k
       none k = omega arith
-  both_ticks (x ∷ xs) ys = ap (λ k. at_naming x most_labels + k) (both_ticks xs ys) ∙ three (at_naming x most_labels) (all_ticks xs) (all_ticks ys)
+  both_ticks (x ∷ xs) ys =
+      ap (λ k. at_naming x most_labels + k) (both_ticks xs ys) ∙ three (at_naming x most_labels) (all_ticks xs) (all_ticks ys)
     where
       three : (a b c : ℕ) → a + (b + c) ≡ a + b + c
       three a b c = omega arith
@@ -344,7 +372,8 @@ module _ (hd : Header) where
   nodes_tick : (n : ℕ) → all_ticks (numbers_to n) ≤ most_labels
   nodes_tick zero = omega arith
   nodes_tick (suc zero) = omega arith
-  nodes_tick (suc (suc n)) = more (all_ticks (numbers_to (suc n) ++ suc (suc n) ∷ [])) (all_ticks (numbers_to (suc n))) (both_ticks (numbers_to (suc n)) (suc (suc n) ∷ [])) (nodes_tick (suc n)) (suc (suc n) == 1) other
+  nodes_tick (suc (suc n)) = more (all_ticks (numbers_to (suc n) ++ suc (suc n) ∷ [])) (all_ticks (numbers_to (suc n)))
+      (both_ticks (numbers_to (suc n)) (suc (suc n) ∷ [])) (nodes_tick (suc n)) (suc (suc n) == 1) other
     where
       other : (suc (suc n) == 1) ≡ false
       other = grind arith
@@ -363,7 +392,8 @@ module _ (hd : Header) where
       let last = settle ticked in
       then_grew most_labels 0 most_labels w last (quiet_line last) (omega arith)
       (then_grew most_labels 0 most_labels w ticked last (omega arith)
-      (then_grew 0 (all_ticks ns) most_labels w first ticked (below (all_ticks ns) (nodes_tick (let d = w.header in d.nodes))) (settle_grew most_frames w) (ticks_grew ns first (settle_fit most_frames w fits)))
+      (then_grew 0 (all_ticks ns) most_labels w first ticked (below (all_ticks ns) (nodes_tick (let d = w.header in d.nodes)))
+      (settle_grew most_frames w) (ticks_grew ns first (settle_fit most_frames w fits)))
       (settle_grew most_frames ticked)) (quiet last)
     where
       below : (a : ℕ) → a ≤ most_labels → 0 + a ≤ most_labels
@@ -403,7 +433,8 @@ module _ (hd : Header) where
       i : Input
       i = input.Begin g.label g.kind g.parent
 
-      by : (r : Option ℕ) → Grew most_labels (labels_unless g w r) (steps g.node i (labels_unless g w r)) → Grew most_labels w (steps g.node i (labels_unless g w r))
+      by : (r : Option ℕ) → Grew most_labels (labels_unless g w r) (steps g.node i (labels_unless g w r)) →
+          Grew most_labels w (steps g.node i (labels_unless g w r))
       by None s = record { lines = s.lines; few = s.few }
       by (Some c) s = s
 
@@ -420,7 +451,8 @@ module _ (hd : Header) where
   happens_grew : (e : Event) (a : Arm) (w : World) → Fits w → Grew most_labels w (happens e a w)
   happens_grew (event.Begin l n) a w fits = begins_grew (record { label = l; kind = kind.Top; parent = None; node = n }) w
   happens_grew (event.Serial l n) a w fits = begins_grew (record { label = l; kind = kind.Serial; parent = None; node = n }) w
-  happens_grew (event.BeginIn l p) a w fits = begins_grew (record { label = l; kind = kind_below p w; parent = Some p; node = node_of p w }) w
+  happens_grew (event.BeginIn l p) a w fits =
+      begins_grew (record { label = l; kind = kind_below p w; parent = Some p; node = node_of p w }) w
   happens_grew (event.Top l p) a w fits = begins_grew (record { label = l; kind = kind.Independent; parent = Some p; node = node_of p w }) w
   happens_grew (event.Call l x o) a w fits = plainly (node_of l w) (input.Call l x o) w (plain_call l x o)
   happens_grew (event.Include l x n) a w fits = plainly (node_of l w) (input.Include l x n) w (plain_include l x n)
@@ -434,7 +466,8 @@ module _ (hd : Header) where
   happens_grew event.Quiesce a w fits = quiesce_grew w fits
   happens_grew (event.Crash n) a w fits = plainly n input.Crash w plain_crash
   happens_grew (event.Restart n) a w fits = plainly n input.Restart w plain_restart
-  happens_grew (event.Stop n c how) a w fits = weaker 0 w (says (body.Armed n ∷ []) (armed n a w)) none (let s = says_grew (body.Armed n ∷ []) (armed n a w) refl in record { lines = s.lines; few = s.few })
+  happens_grew (event.Stop n c how) a w fits = weaker 0 w (says (body.Armed n ∷ []) (armed n a w)) none
+      (let s = says_grew (body.Armed n ∷ []) (armed n a w) refl in record { lines = s.lines; few = s.few })
   happens_grew (event.Junk n bytes) a w fits = weaker 0 w (junk n w) none (junk_grew n w)
   happens_grew (event.Show x) a w fits = weaker 0 w (show_all x (node_numbers w) w) none (shows_grew x (node_numbers w) w)
 
@@ -453,7 +486,8 @@ module _ (hd : Header) where
       less : (a : ℕ) → a ≤ suc a
       less a = omega arith
 
-      by : (o : Ordering) → length (insert_entry label_cmp es l g) ≤ suc (length es) → length (match_ordering o ((l, g) ∷ e ∷ es) ((e.0, g) ∷ es) (e ∷ insert_entry label_cmp es l g)) ≤ suc (suc (length es))
+      by : (o : Ordering) → length (insert_entry label_cmp es l g) ≤ suc (length es) →
+          length (match_ordering o ((l, g) ∷ e ∷ es) ((e.0, g) ∷ es) (e ∷ insert_entry label_cmp es l g)) ≤ suc (suc (length es))
       by Less rest = same (suc (suc (length es)))
       by Equal rest = less (suc (length es))
       by Greater rest = up_one (length (insert_entry label_cmp es l g)) (length es) rest
@@ -481,12 +515,14 @@ module _ (hd : Header) where
   settle_room zero w few = few
   settle_room (suc fuel) w few = by (lowest w) (λ k. settle_room fuel (deliver k w) (deliver_room k w few))
     where
-      by : (o : Option ℕ) → ((k : ℕ) → HasRoom (settle_for fuel (deliver k w))) → HasRoom (elim o [ None ↦ w | Some k ↦ settle_for fuel (deliver k w) ])
+      by : (o : Option ℕ) → ((k : ℕ) → HasRoom (settle_for fuel (deliver k w))) →
+          HasRoom (elim o [ None ↦ w | Some k ↦ settle_for fuel (deliver k w) ])
       by None rest = few
       by (Some k) rest = rest k
 
   quiesce_room : (w : World) → HasRoom w → HasRoom (quiesce w)
-  quiesce_room w few = quiet (settle (tick_all (node_numbers w) (settle w))) (settle_room most_frames (tick_all (node_numbers w) (settle w)) (ticks_room (node_numbers w) (settle w) (settle_room most_frames w few)))
+  quiesce_room w few = quiet (settle (tick_all (node_numbers w) (settle w))) (settle_room most_frames (tick_all (node_numbers w) (settle w))
+      (ticks_room (node_numbers w) (settle w) (settle_room most_frames w few)))
     where
       quiet : (v : World) → HasRoom v → HasRoom (quiet_line v)
       quiet v few = by v.full
@@ -533,14 +569,17 @@ module _ (hd : Header) where
           under a b x y = omega (arith, x, y)
 
       by : (r : Option ℕ) → HasRoom (labels_unless g w r)
-      by None = below (length (insert_entry label_cmp w.labels g.label (record { node = g.node; serial = is_serial_kind g.kind }))) (length w.labels) free (one_more g.label (record { node = g.node; serial = is_serial_kind g.kind }) w.labels)
+      by None = below (length (insert_entry label_cmp w.labels g.label (record { node = g.node; serial = is_serial_kind g.kind })))
+          (length w.labels) free (one_more g.label (record { node = g.node; serial = is_serial_kind g.kind }) w.labels)
       by (Some c) = few
 
   happens_room : (e : Event) (a : Arm) (w : World) → lacks_labels (giving e w) w ≡ false → HasRoom w → HasRoom (happens e a w)
   happens_room (event.Begin l n) a w free few = begins_room (record { label = l; kind = kind.Top; parent = None; node = n }) w free few
   happens_room (event.Serial l n) a w free few = begins_room (record { label = l; kind = kind.Serial; parent = None; node = n }) w free few
-  happens_room (event.BeginIn l p) a w free few = begins_room (record { label = l; kind = kind_below p w; parent = Some p; node = node_of p w }) w free few
-  happens_room (event.Top l p) a w free few = begins_room (record { label = l; kind = kind.Independent; parent = Some p; node = node_of p w }) w free few
+  happens_room (event.BeginIn l p) a w free few =
+      begins_room (record { label = l; kind = kind_below p w; parent = Some p; node = node_of p w }) w free few
+  happens_room (event.Top l p) a w free few =
+      begins_room (record { label = l; kind = kind.Independent; parent = Some p; node = node_of p w }) w free few
   happens_room (event.Call l x o) a w free few = same_room (node_of l w) (input.Call l x o) w few
   happens_room (event.Include l x n) a w free few = same_room (node_of l w) (input.Include l x n) w few
   happens_room (event.Commit l) a w free few = same_room (node_of l w) (input.Commit l) w few
@@ -561,7 +600,21 @@ module _ (hd : Header) where
 
   -- the event's number is nothing to what fits
   counted_fits : (w : World) → Fits w → Fits (counted w)
-  counted_fits w (h, few) = (record { sent = h.sent; stands = record { frames = h.stands.frames; junk = h.stands.junk; header = h.stands.header; numbers = h.stands.numbers; places = h.stands.places; labels = h.stands.labels }; holds = h.holds }, few)
+  counted_fits w (h, few) = (
+    record {
+      sent = h.sent;
+      stands = record {
+        frames = h.stands.frames;
+        junk = h.stands.junk;
+        header = h.stands.header;
+        numbers = h.stands.numbers;
+        places = h.stands.places;
+        labels = h.stands.labels;
+      };
+      holds = h.holds;
+    },
+    few,
+  )
 
   limited_grew : (w : World) → Grew 0 w (limited w)
   limited_grew w = by w.full
@@ -583,12 +636,19 @@ module _ (hd : Header) where
       same_sum : most_labels + 0 ≤ most_labels
       same_sum = omega arith
 
-      lacks : (b : Bool) → lacks_labels (giving e.event w) w ≡ b → Grew most_labels w (cond b (no_labels w) (limited (happens e.event e.arm (counted w)))) × HasRoom (cond b (no_labels w) (limited (happens e.event e.arm (counted w))))
-      lacks true is = (weaker 0 w (no_labels w) none (let s = says_grew (body.Limit which.Labels ∷ []) (record w { over = true }) refl in record { lines = s.lines; few = s.few }), fits.1)
+      lacks : (b : Bool) → lacks_labels (giving e.event w) w ≡ b → Grew most_labels w (cond b (no_labels w)
+          (limited (happens e.event e.arm (counted w)))) × HasRoom (cond b (no_labels w) (limited (happens e.event e.arm (counted w))))
+      lacks true is = (
+        weaker 0 w (no_labels w) none (let s = says_grew (body.Limit which.Labels ∷ []) (record w { over = true }) refl in
+            record { lines = s.lines; few = s.few }),
+        fits.1,
+      )
       lacks false is =
           let v = happens e.event e.arm (counted w) in
-          let g = happens_grew e.event e.arm (counted w) (counted_fits w fits) in
-          (then_grew most_labels 0 most_labels w v (limited v) same_sum (record { lines = g.lines; few = g.few }) (limited_grew v), limited_room v (happens_room e.event e.arm (counted w) (free e.event is) fits.1))
+          let g = happens_grew e.event e.arm (counted w) (counted_fits w fits) in (
+            then_grew most_labels 0 most_labels w v (limited v) same_sum (record { lines = g.lines; few = g.few }) (limited_grew v),
+            limited_room v (happens_room e.event e.arm (counted w) (free e.event is) fits.1),
+          )
         where
           free : (x : Event) → lacks_labels (giving x w) w ≡ false → lacks_labels (giving x (counted w)) (counted w) ≡ false
           free (event.Begin l n) is = is
@@ -612,10 +672,15 @@ module _ (hd : Header) where
           free (event.Show x) is = is
 
       refused : (r : Option ℕ) → Grew most_labels w (run_unless e.event e.arm w r) × HasRoom (run_unless e.event e.arm w r)
-      refused (Some c) = (weaker 0 w (says (body.Refused c ∷ []) (counted w)) none (let s = says_grew (body.Refused c ∷ []) (counted w) refl in record { lines = s.lines; few = s.few }), fits.1)
+      refused (Some c) = (
+        weaker 0 w (says (body.Refused c ∷ []) (counted w)) none (let s = says_grew (body.Refused c ∷ []) (counted w) refl in
+            record { lines = s.lines; few = s.few }),
+        fits.1,
+      )
       refused None = lacks (lacks_labels (giving e.event w) w) refl
 
-      over_by : (b : Bool) → Grew most_labels w (cond b w (run_unless e.event e.arm w (first_reason (reasons e.event w)))) × HasRoom (cond b w (run_unless e.event e.arm w (first_reason (reasons e.event w))))
+      over_by : (b : Bool) → Grew most_labels w (cond b w (run_unless e.event e.arm w (first_reason (reasons e.event w))))
+          × HasRoom (cond b w (run_unless e.event e.arm w (first_reason (reasons e.event w))))
       over_by true = (stays most_labels w, fits.1)
       over_by false = refused (first_reason (reasons e.event w))
 
@@ -631,8 +696,11 @@ module _ (hd : Header) where
   all_grew [] w fits = (stays (0 * most_labels) w, fits.1)
   all_grew (m ∷ ms) w fits =
       let g = move_grew m w fits in
-      let rest = all_grew ms (moved m w) g.1 in
-      (then_grew most_labels (length ms * most_labels) (suc (length ms) * most_labels) w (moved m w) (all_moved ms (moved m w)) (one_move (length ms)) g.0 rest.0, rest.1)
+      let rest = all_grew ms (moved m w) g.1 in (
+        then_grew most_labels (length ms * most_labels) (suc (length ms) * most_labels) w (moved m w) (all_moved ms (moved m w))
+            (one_move (length ms)) g.0 rest.0,
+        rest.1,
+      )
     where
       one_move : (k : ℕ) → most_labels + k * most_labels ≤ suc k * most_labels
       one_move k = omega arith

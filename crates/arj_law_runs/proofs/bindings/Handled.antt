@@ -1,34 +1,33 @@
 -- What a node makes of a message weighs no more than the message: one for a Bind, else nothing.
-use Rattle.std.proofs.Common.{◌≡◌, ◌≤◌, ◌+◌, ℕ, Bool, true, false, cond, List, [], ◌∷◌, ◌++◌, filter, Option, Some, None, refl, ap, arith}
-use Rattle.std.specs.Prelude.{option_map}
-use Rattle.arj_protocol.specs.Words.{Uid, Ask, Asked, End, Head, Message, ObjectState, asks, object}
-use Rattle.arj_protocol.specs.Words.ask
-use Rattle.arj_protocol.specs.Words.ending
-use Rattle.arj_protocol.specs.Words.loaded
-use Rattle.arj_protocol.specs.Words.message
-use Rattle.arj_protocol.specs.Words.prepared
-use Rattle.arj_protocol.specs.Ask.{Reply, actor, answers, asked_by, last_end, response}
-use Rattle.arj_protocol.specs.Asking.{heard}
-use Rattle.arj_protocol.specs.Confirm.{confirm}
-use Rattle.arj_protocol.specs.Effect.{Already, Disk, Effect, InDoubt, Old, Pair, Prep, Ready, Send, Served, held_at, holder_of, is_prepared, prepare_answer}
-use Rattle.arj_protocol.specs.Ending.{acked}
-use Rattle.arj_protocol.specs.Naming as naming
-use Rattle.arj_protocol.specs.Naming.{Naming}
-use Rattle.arj_protocol.specs.Node.{Handled, Parts, Took, Void, ack_told, by_reply, end_states, handle, handle_answer, handle_ask, handle_ends, handle_other, handle_told, holders, if_naming, is_earlier, is_meant, load_by, load_held, naming_told, prepare_by, prepare_states, query_about, sends_answer, serve, served, store_told, taken, with_coord, with_naming, with_server}
-use Rattle.arj_protocol.specs.Says.{AreAll, is_server_effect, is_server_line}
-use Rattle.arj_protocol.specs.Server as server
-use Rattle.arj_protocol.proofs.PartSays.{activate_own, ends_own, invoke_own, vote_own}
+use Rattle.arj_law_parts.proofs.Words
+use Words.{◌≡◌, ◌≤◌, ◌+◌, ℕ, Bool, true, false, cond, List, [], ◌∷◌, ◌++◌, filter, Option, Some, None, refl, ap, arith, option_map, Uid}
+use Words.{Ask, Asked, End, Head, Message, ObjectState, asks, object, Reply, actor, answers, asked_by, last_end, response, heard, confirm}
+use Words.{Already, Disk, Effect, InDoubt, Old, Pair, Prep, Ready, Send, Served, held_at, holder_of, is_prepared, prepare_answer, acked}
+use Words.{Naming, Handled, Parts, Took, Void, ack_told, by_reply, end_states, handle, handle_answer, handle_ask, handle_ends, handle_other}
+use Words.{handle_told, holders, if_naming, is_earlier, is_meant, load_by, load_held, naming_told, prepare_by, prepare_states, query_about}
+use Words.{sends_answer, serve, served, store_told, taken, with_coord, with_naming, with_server, AreAll, is_server_effect, is_server_line}
+use Words.{activate_own, ends_own, invoke_own, vote_own}
+use Words.ask
+use Words.ending
+use Words.loaded
+use Words.message
+use Words.prepared
+use Words.naming
+use Words.server
+use Rattle.arj_law_runs.proofs.bindings
+use bindings.CoordBinds.{acked_light, heard_light, query_light}
+use bindings.NamingLight.{bind_one, confirm_light, note_light, told_light}
+use bindings.Weights.{AllLight, IsLight, bind_by, binds, class_light, every_both, every_map, light_weighs, unsent, weigh, weigh_both}
+use bindings.Weights.{weighs_less}
 use Rattle.arj_law_runs.proofs.calls.WorldSteps.{no_request}
-use Rattle.arj_law_runs.proofs.bindings.CoordBinds.{acked_light, heard_light, query_light}
-use Rattle.arj_law_runs.proofs.bindings.NamingLight.{bind_one, confirm_light, note_light, told_light}
-use Rattle.arj_law_runs.proofs.bindings.Weights.{AllLight, IsLight, bind_by, binds, class_light, every_both, every_map, light_weighs, unsent, weigh, weigh_both, weighs_less}
 
 abbrev pub outs_of : Handled → List Effect
 outs_of (Void outs) = outs
 outs_of (Took t outs) = outs
 
 server_light : (n : ℕ) (outs : List Effect) → AreAll (is_server_effect n) outs → AllLight outs
-server_light n outs own = class_light (is_server_effect n) (is_server_line n) (λ b. refl) (λ x b s. refl) outs own (unsent (is_server_effect n) (λ to m. refl) outs own)
+server_light n outs own = class_light (is_server_effect n) (is_server_line n) (λ b. refl) (λ x b s. refl) outs own
+    (unsent (is_server_effect n) (λ to m. refl) outs own)
 
 answer_light : (from : ℕ) (h : Head) (r : Reply) → AllLight (Send from (response (asked_by h) r) ∷ [])
 answer_light from h r = (ap bind_by (no_request (asked_by h) r), tt)
@@ -38,10 +37,12 @@ module _ (from : ℕ) (h : Head) where
   sent_light t outs None light = tt
   sent_light t outs (Some r) light = every_both IsLight outs (Send from (response (asked_by h) r) ∷ []) light (answer_light from h r)
 
-  served_light : {S R : Type 0} (put : S → Parts) (say : R → Reply) (r : Served S R) → AllLight r.outs → AllLight (outs_of (served from h put say r))
+  served_light : {S R : Type 0} (put : S → Parts) (say : R → Reply) (r : Served S R) → AllLight r.outs →
+      AllLight (outs_of (served from h put say r))
   served_light put say r light = sent_light (put r.part) r.outs (option_map say r.reply) light
 
-  naming_light : {R : Type 0} (put : Naming → Parts) (say : R → Reply) (f : Naming → Served Naming R) (o : Option Naming) → ((n : Naming) → AllLight (f n).outs) → AllLight (outs_of (if_naming (λ n. served from h put say (f n)) o))
+  naming_light : {R : Type 0} (put : Naming → Parts) (say : R → Reply) (f : Naming → Served Naming R) (o : Option Naming) →
+      ((n : Naming) → AllLight (f n).outs) → AllLight (outs_of (if_naming (λ n. served from h put say (f n)) o))
   naming_light put say f None each = tt
   naming_light put say f (Some n) each = served_light put say (f n) (each n)
 
@@ -62,14 +63,18 @@ module _ (from : ℕ) (h : Head) where
       answer (Old u v) = (tt, answer_light from h (Reply.Prepared (prepared.Old u.num v)))
       answer (InDoubt u holder) = (tt, answer_light from h (Reply.Prepared (prepared.InDoubt u.num holder)))
 
-      by : (b : Bool) → AllLight (outs_of (cond b (sends_answer from h t [] (Some (Reply.Prepared prepared.Yes))) (prepare_by n states from h t (prepare_answer (actor h.path) states d))))
+      by : (b : Bool) → AllLight (outs_of (cond b (sends_answer from h t [] (Some (Reply.Prepared prepared.Yes)))
+          (prepare_by n states from h t (prepare_answer (actor h.path) states d))))
       by true = answer_light from h (Reply.Prepared prepared.Yes)
       by false = answer (prepare_answer (actor h.path) states d)
 
   -- a Bind's answer, with one binding at most
-  bound_one : (n : ℕ) (t : Parts) (outs : List Effect) (r : Option Reply) → weigh n outs ≤ 1 → weigh n (outs_of (sends_answer from h t outs r)) ≤ 1
+  bound_one : (n : ℕ) (t : Parts) (outs : List Effect) (r : Option Reply) → weigh n outs ≤ 1 →
+      weigh n (outs_of (sends_answer from h t outs r)) ≤ 1
   bound_one n t outs None one = omega arith
-  bound_one n t outs (Some r) one = less (weigh n (outs ++ Send from (response (asked_by h) r) ∷ [])) (weigh n outs) (weigh n (Send from (response (asked_by h) r) ∷ [])) (weigh_both n outs (Send from (response (asked_by h) r) ∷ [])) one (light_weighs n (Send from (response (asked_by h) r) ∷ []) (answer_light from h r))
+  bound_one n t outs (Some r) one = less (weigh n (outs ++ Send from (response (asked_by h) r) ∷ [])) (weigh n outs)
+      (weigh n (Send from (response (asked_by h) r) ∷ [])) (weigh_both n outs (Send from (response (asked_by h) r) ∷ [])) one
+      (light_weighs n (Send from (response (asked_by h) r) ∷ []) (answer_light from h r))
     where
       less : (a b c : ℕ) → a ≡ b + c → b ≤ 1 → c ≡ 0 → a ≤ 1
       less a b c is one none = omega (arith, is, one, none)
@@ -77,22 +82,38 @@ module _ (from : ℕ) (h : Head) where
   serve_weigh : (n : ℕ) (d : Disk) (t : Parts) (a : Ask) → weigh n (outs_of (serve n d t from h a)) ≤ bind_by (Some (h, a))
   serve_weigh n d t (ask.Bind x include avoid) = by t.naming
     where
-      by : (o : Option Naming) → weigh n (outs_of (if_naming (λ q. served from h (with_naming t) Reply.Bound (naming.bind h.path x include avoid d.names q)) o)) ≤ 1
+      by : (o : Option Naming) → weigh n
+          (outs_of (if_naming (λ q. served from h (with_naming t) Reply.Bound (naming.bind h.path x include avoid d.names q)) o)) ≤ 1
       by None = omega arith
-      by (Some q) = let r = naming.bind h.path x include avoid d.names q in bound_one n (with_naming t r.part) r.outs (option_map Reply.Bound r.reply) (bind_one n h.path x include avoid d.names q)
-  serve_weigh n d t (ask.Load x) = weighs_less n 0 (outs_of (serve n d t from h (ask.Load x))) (load_light x d.store t (holder_of (object x) d.store))
-  serve_weigh n d t (ask.Activate b st) = weighs_less n 0 (outs_of (serve n d t from h (ask.Activate b st))) (served_light (with_server t) Reply.Activated (server.activate n h.path b st t.server) (server_light n (server.activate n h.path b st t.server).outs (activate_own n h.path b st t.server)))
-  serve_weigh n d t (ask.Record x b i g) = weighs_less n 0 (outs_of (serve n d t from h (ask.Record x b i g))) (naming_light (with_naming t) Reply.Noted (naming.note h.path x b i g) t.naming (note_light h.path x b i g))
-  serve_weigh n d t (ask.Invoke x b i ends op) = weighs_less n 0 (outs_of (serve n d t from h (ask.Invoke x b i ends op))) (served_light (with_server t) Reply.Invoked (server.invoke n h x b i ends op t.server) (server_light n (server.invoke n h x b i ends op t.server).outs (invoke_own n h x b i ends op t.server)))
-  serve_weigh n d t (ask.Vote i ties ends) = weighs_less n 0 (outs_of (serve n d t from h (ask.Vote i ties ends))) (served_light (with_server t) Reply.Voted (server.vote n h.path i ties ends t.server) (server_light n (server.vote n h.path i ties ends t.server).outs (vote_own n h.path i ties ends t.server)))
-  serve_weigh n d t (ask.Prepare states) = weighs_less n 0 (outs_of (serve n d t from h (ask.Prepare states))) (prepare_light n d.store states t)
-  serve_weigh n d t (ask.Confirm grants excluded included) = weighs_less n 0 (outs_of (serve n d t from h (ask.Confirm grants excluded included))) (naming_light (with_naming t) Reply.Confirmed (confirm h.path grants excluded included d.names) t.naming (confirm_light h.path grants excluded included d.names))
+      by (Some q) = let r = naming.bind h.path x include avoid d.names q in
+          bound_one n (with_naming t r.part) r.outs (option_map Reply.Bound r.reply) (bind_one n h.path x include avoid d.names q)
+  serve_weigh n d t (ask.Load x) =
+      weighs_less n 0 (outs_of (serve n d t from h (ask.Load x))) (load_light x d.store t (holder_of (object x) d.store))
+  serve_weigh n d t (ask.Activate b st) =
+      weighs_less n 0 (outs_of (serve n d t from h (ask.Activate b st))) (served_light (with_server t) Reply.Activated (server.activate n
+      h.path b st t.server) (server_light n (server.activate n h.path b st t.server).outs (activate_own n h.path b st t.server)))
+  serve_weigh n d t (ask.Record x b i g) = weighs_less n 0 (outs_of (serve n d t from h (ask.Record x b i g)))
+      (naming_light (with_naming t) Reply.Noted (naming.note h.path x b i g) t.naming (note_light h.path x b i g))
+  serve_weigh n d t (ask.Invoke x b i ends op) =
+      weighs_less n 0 (outs_of (serve n d t from h (ask.Invoke x b i ends op))) (served_light (with_server t) Reply.Invoked (server.invoke n
+      h x b i ends op t.server) (server_light n (server.invoke n h x b i ends op t.server).outs (invoke_own n h x b i ends op t.server)))
+  serve_weigh n d t (ask.Vote i ties ends) =
+      weighs_less n 0 (outs_of (serve n d t from h (ask.Vote i ties ends))) (served_light (with_server t) Reply.Voted (server.vote n h.path
+      i ties ends t.server) (server_light n (server.vote n h.path i ties ends t.server).outs (vote_own n h.path i ties ends t.server)))
+  serve_weigh n d t (ask.Prepare states) =
+      weighs_less n 0 (outs_of (serve n d t from h (ask.Prepare states))) (prepare_light n d.store states t)
+  serve_weigh n d t (ask.Confirm grants excluded included) =
+      weighs_less n 0 (outs_of (serve n d t from h (ask.Confirm grants excluded included))) (naming_light (with_naming t) Reply.Confirmed
+      (confirm h.path grants excluded included d.names) t.naming (confirm_light h.path grants excluded included d.names))
 
-told_handled : (n : ℕ) (d : Disk) (t : Parts) (from : ℕ) (ack : Bool) (ends : List (Uid × End)) (u : Uid) (e : End) → AllLight (outs_of (handle_told n d t from ack ends u e))
+told_handled : (n : ℕ) (d : Disk) (t : Parts) (from : ℕ) (ack : Bool) (ends : List (Uid × End)) (u : Uid) (e : End) →
+    AllLight (outs_of (handle_told n d t from ack ends u e))
 told_handled n d t from ack ends u e =
-    every_both IsLight (store_told n u e d.store ++ (naming_told u e d.names t.naming).outs ++ (server.told n ends t.server).outs) (ack_told from u ack)
+    every_both IsLight (store_told n u e d.store ++ (naming_told u e d.names t.naming).outs ++ (server.told n ends t.server).outs)
+    (ack_told from u ack)
     (every_both IsLight (store_told n u e d.store ++ (naming_told u e d.names t.naming).outs) (server.told n ends t.server).outs
-    (every_both IsLight (store_told n u e d.store) (naming_told u e d.names t.naming).outs (store (is_prepared u d.store) e) (names t.naming))
+    (every_both IsLight (store_told n u e d.store) (naming_told u e d.names t.naming).outs (store (is_prepared u d.store) e)
+    (names t.naming))
     (server_light n (server.told n ends t.server).outs (ends_own n ends t.server)))
     (acks ack)
   where
@@ -119,7 +140,8 @@ other_light n d t from (message.Told m) = by (last_end m.ends)
     by : (o : Option (Uid × End)) → AllLight (outs_of (handle_ends n d t from m.ack m.ends o))
     by None = tt
     by (Some e) = told_handled n d t from m.ack m.ends e.0 e.1
-other_light n d t from (message.Acked m) = reply_light (with_coord t (acked from m.act d.intents t.coord).part) (acked from m.act d.intents t.coord).outs (acked from m.act d.intents t.coord).reply (acked_light from m.act d.intents t.coord)
+other_light n d t from (message.Acked m) = reply_light (with_coord t (acked from m.act d.intents t.coord).part)
+    (acked from m.act d.intents t.coord).outs (acked from m.act d.intents t.coord).reply (acked_light from m.act d.intents t.coord)
 other_light n d t from (message.Query m) = query_light from m.act d.intents t.coord
 other_light n d t from (message.Hello m) = every_map IsLight query_about (filter (is_earlier m.node m.inc) (holders d t)) (λ u. refl)
 other_light n d t from (message.Bind m) = tt
@@ -144,7 +166,8 @@ taken_weigh n d t from m = by (is_meant t m)
   where
     answered : (a : Option (Asked × Reply)) → AllLight (outs_of (handle_answer n d t from m a))
     answered None = other_light n d t from m
-    answered (Some a) = reply_light (with_coord t (heard from a.0 a.1 d.intents t.coord).part) (heard from a.0 a.1 d.intents t.coord).outs (heard from a.0 a.1 d.intents t.coord).reply (heard_light from a.0 a.1 d.intents t.coord)
+    answered (Some a) = reply_light (with_coord t (heard from a.0 a.1 d.intents t.coord).part) (heard from a.0 a.1 d.intents t.coord).outs
+        (heard from a.0 a.1 d.intents t.coord).reply (heard_light from a.0 a.1 d.intents t.coord)
 
     asked : (a : Option (Head × Ask)) → weigh n (outs_of (handle_ask n d t from m a)) ≤ bind_by a
     asked None = weighs_less n 0 (outs_of (handle_answer n d t from m (answers m))) (answered (answers m))

@@ -1,23 +1,22 @@
 -- Naming makes a binding at a Bind alone, and one at most.
-use Rattle.std.proofs.Common.{◌≡◌, ◌≤◌, ◌==◌, ◌+◌, ◌||◌, ℕ, Bool, true, false, cond, List, [], ◌∷◌, ◌++◌, Option, Some, None, refl, arith}
-use Rattle.std.specs.Prelude.{not, is_some}
-use Rattle.arj_protocol.specs.Words.{Uid, Binding, BoundReply, ConfirmedReply, End, Entry, Mode, ObjectState, Path, RecordedReply, Row, entry, is_on, last_uid}
-use Rattle.arj_protocol.specs.Words.body
-use Rattle.arj_protocol.specs.Words.confirmed
-use Rattle.arj_protocol.specs.Words.ending
-use Rattle.arj_protocol.specs.Words.mode
-use Rattle.arj_protocol.specs.Words.part
-use Rattle.arj_protocol.specs.Words.recorded
-use Rattle.arj_protocol.specs.Words.role
-use Rattle.arj_protocol.specs.Words.what
-use Rattle.arj_protocol.specs.Ask.{top_of, top_path}
-use Rattle.arj_protocol.specs.Confirm.{Grants, Marks, checked, confirm, confirm_entries, confirm_new, confirms, entries_after, has_all, lock_all, lock_in, prepared_by, wanted}
-use Rattle.arj_protocol.specs.Copy.{is_granted}
-use Rattle.arj_protocol.specs.Effect.{Already, Did, Do, Effect, InDoubt, Look, Old, Pair, Prep, Prepare, Ready, Say, Served, did_nothing, is_prepared, prepare_answer, reply, void}
-use Rattle.arj_protocol.specs.Named.{Counted, Live, Made, Named, bind_call, bind_made, bind_named, conflict_on, in_use, include_asked, is_binding, is_lowered, live_above, live_asked, lock_lines, lower_lines, lowered, made_above, make_asked, next_server, note_made, note_named, note_other}
-use Rattle.arj_protocol.specs.Naming as naming
-use Rattle.arj_protocol.specs.Naming.{Naming, end_entries, end_lines, end_orphans, has_locks, is_over, listed_entry, on_counted, on_named, orphans, own_entries, told_new}
-use Rattle.arj_protocol.specs.Order.{at_number, at_uid, binding_eq}
+use Rattle.arj_law_parts.proofs.Words
+use Words.{◌≡◌, ◌≤◌, ◌==◌, ◌+◌, ◌||◌, ℕ, Bool, true, false, cond, List, [], ◌∷◌, ◌++◌, Option, Some, None, refl, arith, not, is_some, Uid}
+use Words.{Binding, BoundReply, ConfirmedReply, End, Entry, Mode, ObjectState, Path, RecordedReply, Row, entry, is_on, last_uid, top_of}
+use Words.{top_path, Grants, Marks, checked, confirm, confirm_entries, confirm_new, confirms, entries_after, has_all, lock_all, lock_in}
+use Words.{prepared_by, wanted, is_granted, Already, Did, Do, Effect, InDoubt, Look, Old, Pair, Prep, Prepare, Ready, Say, Served}
+use Words.{did_nothing, is_prepared, prepare_answer, reply, void, Counted, Live, Made, Named, bind_call, bind_made, bind_named, conflict_on}
+use Words.{in_use, include_asked, is_binding, is_lowered, live_above, live_asked, lock_lines, lower_lines, lowered, made_above, make_asked}
+use Words.{next_server, note_made, note_named, note_other, Naming, end_entries, end_lines, end_orphans, has_locks, is_over, listed_entry}
+use Words.{on_counted, on_named, orphans, own_entries, told_new, at_number, at_uid, binding_eq}
+use Words.body
+use Words.confirmed
+use Words.ending
+use Words.mode
+use Words.part
+use Words.recorded
+use Words.role
+use Words.what
+use Words.naming
 use Rattle.arj_law_runs.proofs.bindings.Weights.{AllLight, IsLight, every_both, every_flat, light_weighs, weigh, weigh_both, weighs_less}
 
 light_both : (es fs : List Effect) → AllLight es → AllLight fs → AllLight (es ++ fs)
@@ -28,7 +27,8 @@ light_if true es fs x y = x
 light_if false es fs x y = y
 
 locks_light : (x : ℕ) (p : Path) (m : Mode) (o : Named) → AllLight (lock_lines x p m o)
-locks_light x p m o = light_if (is_granted (entry x) (last_uid (top_path p)) m o.rows) [] (Say (body.Granted 1 (last_uid (top_path p)) (entry x) m) ∷ []) tt (refl, tt)
+locks_light x p m o = light_if (is_granted (entry x) (last_uid (top_path p)) m o.rows) []
+    (Say (body.Granted 1 (last_uid (top_path p)) (entry x) m) ∷ []) tt (refl, tt)
 
 -- ---- bind
 
@@ -69,10 +69,12 @@ module _ (n inc x : ℕ) (p : Path) (e : Entry) (c : Counted) where
   named_one true avoid = include_one (conflict_on x p mode.Write c.named)
   named_one false avoid = call_one avoid (live_above avoid c.named.live)
 
-pub bind_one : (n : ℕ) (p : Path) (x : ℕ) (include : Bool) (avoid : Binding) (d : Pair) (o : Naming) → weigh n (naming.bind p x include avoid d o).outs ≤ 1
+pub bind_one : (n : ℕ) (p : Path) (x : ℕ) (include : Bool) (avoid : Binding) (d : Pair) (o : Naming) →
+    weigh n (naming.bind p x include avoid d o).outs ≤ 1
 bind_one n p x include avoid d o = by (is_over p o) (at_number x o.objects)
   where
-    by : (b : Bool) (q : Option Named) → weigh n (cond b (void o) (on_counted x (bind_named o.inc x p include avoid (listed_entry x d)) o q)).outs ≤ 1
+    by : (b : Bool) (q : Option Named) →
+        weigh n (cond b (void o) (on_counted x (bind_named o.inc x p include avoid (listed_entry x d)) o q)).outs ≤ 1
     by true q = omega arith
     by false None = omega arith
     by false (Some q) = named_one n o.inc x p (listed_entry x d) (record { named = q; count = o.count }) include avoid
@@ -85,7 +87,8 @@ lower_light x top o = light_if (is_lowered x top o) (Say (body.Lowered 1 top (en
 note_made_light : (x : ℕ) (top : Uid) (i : ℕ) (o : Named) (m : Made) → AllLight (note_made x top i o m).outs
 note_made_light x top i o m = by m.recorded
   where
-    by : (b : Bool) → AllLight (cond {A = Served Named RecordedReply} b (reply o recorded.Yes) (record { part = lowered x top (in_use top m i o); outs = lower_lines x top o; reply = Some recorded.Yes })).outs
+    by : (b : Bool) → AllLight (cond {A = Served Named RecordedReply} b (reply o recorded.Yes)
+        (record { part = lowered x top (in_use top m i o); outs = lower_lines x top o; reply = Some recorded.Yes })).outs
     by true = tt
     by false = lower_light x top o
 
@@ -96,7 +99,8 @@ note_named_light x top b i o = by (is_binding b o.recorded) (at_uid top o.made)
     other m true = note_made_light x top i o m
     other m false = tt
 
-    by : (v : Bool) (m : Option Made) → AllLight (cond {A = Served Named RecordedReply} v (reply o recorded.Yes) (note_other x top b i o m)).outs
+    by : (v : Bool) (m : Option Made) →
+        AllLight (cond {A = Served Named RecordedReply} v (reply o recorded.Yes) (note_other x top b i o m)).outs
     by true m = tt
     by false None = tt
     by false (Some m) = other m (binding_eq b m.binding)
@@ -104,7 +108,8 @@ note_named_light x top b i o = by (is_binding b o.recorded) (at_uid top o.made)
 pub note_light : (p : Path) (x : ℕ) (b : Binding) (i g : ℕ) (n : Naming) → AllLight (naming.note p x b i g n).outs
 note_light p x b i g n = by (is_over p n || not (is_some (at_number x n.objects))) (g == n.inc) (at_number x n.objects)
   where
-    by : (v e : Bool) (o : Option Named) → AllLight (cond {A = Served Naming RecordedReply} v (void n) (cond {A = Served Naming RecordedReply} e (on_named x (note_named x (top_of p) b i) n o) (reply n (recorded.Changed (what.Inc g n.inc))))).outs
+    by : (v e : Bool) (o : Option Named) → AllLight (cond {A = Served Naming RecordedReply} v (void n) (cond {A = Served Naming
+        RecordedReply} e (on_named x (note_named x (top_of p) b i) n o) (reply n (recorded.Changed (what.Inc g n.inc))))).outs
     by true e o = tt
     by false false o = tt
     by false true None = tt
@@ -121,24 +126,31 @@ all_light (x ∷ xs) p n =
     one None = tt
     one (Some o) = locks_light x p mode.Exclude o
 
-prepared_light : (top : Uid) (states : List ObjectState) (t : Did Naming) (a : Prep) → AllLight t.outs → AllLight (prepared_by top states t a).outs
-prepared_light top states t Ready own = light_both t.outs (Do Look ∷ Do (Prepare role.Names top states) ∷ Say (body.Prepared 1 top role.Names) ∷ []) own (tt, (tt, (refl, tt)))
+prepared_light : (top : Uid) (states : List ObjectState) (t : Did Naming) (a : Prep) → AllLight t.outs →
+    AllLight (prepared_by top states t a).outs
+prepared_light top states t Ready own =
+    light_both t.outs (Do Look ∷ Do (Prepare role.Names top states) ∷ Say (body.Prepared 1 top role.Names) ∷ []) own (tt, (tt, (refl, tt)))
 prepared_light top states t (Already u) own = light_both t.outs (Do Look ∷ []) own (tt, tt)
 prepared_light top states t (Old u v) own = light_both t.outs (Do Look ∷ []) own (tt, tt)
 prepared_light top states t (InDoubt u holder) own = light_both t.outs (Do Look ∷ []) own (tt, tt)
 
-entries_light : (top : Uid) (states : List ObjectState) (d : Pair) (t : Did Naming) → AllLight t.outs → AllLight (confirm_entries top states d t).outs
+entries_light : (top : Uid) (states : List ObjectState) (d : Pair) (t : Did Naming) → AllLight t.outs →
+    AllLight (confirm_entries top states d t).outs
 entries_light top [] d t own = own
 entries_light top (s ∷ ss) d t own = prepared_light top (s ∷ ss) t (prepare_answer top (s ∷ ss) d) own
 
-pub confirm_light : (p : Path) (grants : Grants) (excluded included : Marks) (d : Pair) (n : Naming) → AllLight (confirm p grants excluded included d n).outs
-confirm_light p grants excluded included d n = by (is_over p n || not (has_all grants n)) (is_on n.confirmed (top_of p) || is_prepared (top_of p) d) (checked p grants excluded included d n)
+pub confirm_light : (p : Path) (grants : Grants) (excluded included : Marks) (d : Pair) (n : Naming) →
+    AllLight (confirm p grants excluded included d n).outs
+confirm_light p grants excluded included d n = by (is_over p n || not (has_all grants n))
+    (is_on n.confirmed (top_of p) || is_prepared (top_of p) d) (checked p grants excluded included d n)
   where
-    by : (v e : Bool) (r : Option ConfirmedReply) → AllLight (cond {A = Served Naming ConfirmedReply} v (void n) (cond {A = Served Naming ConfirmedReply} e (reply (confirms (top_of p) n) confirmed.Yes) (confirm_new p grants excluded included d n r))).outs
+    by : (v e : Bool) (r : Option ConfirmedReply) → AllLight (cond {A = Served Naming ConfirmedReply} v (void n) (cond {A = Served Naming
+        ConfirmedReply} e (reply (confirms (top_of p) n) confirmed.Yes) (confirm_new p grants excluded included d n r))).outs
     by true e r = tt
     by false true r = tt
     by false false (Some r) = tt
-    by false false None = entries_light (top_of p) (entries_after (top_of p) grants excluded included d) d (lock_all (wanted (top_of p) grants excluded d) p n) (all_light (wanted (top_of p) grants excluded d) p n)
+    by false false None = entries_light (top_of p) (entries_after (top_of p) grants excluded included d) d
+        (lock_all (wanted (top_of p) grants excluded d) p n) (all_light (wanted (top_of p) grants excluded d) p n)
 
 pub told_light : (u : Uid) (e : End) (d : Pair) (n : Naming) → AllLight (naming.told u e d n).outs
 told_light u e d n = light_both (own_entries u e d) _ (light_if (is_prepared u d) (end_entries u e) [] (ended e) tt) (by (is_on n.told u))
@@ -152,7 +164,8 @@ told_light u e d n = light_both (own_entries u e d) _ (light_if (is_prepared u d
     orphaned ending.Abort = every_flat IsLight (λ act. end_entries act ending.Abort) (orphans u d n) (λ act. (tt, (refl, tt)))
 
     new : (e : End) → AllLight (told_new u e d n).outs
-    new e = light_both (end_orphans u e d n) (end_lines u e n) (orphaned e) (light_if (has_locks u n) (Say (body.Told 1 u e part.Naming) ∷ []) [] (refl, tt) tt)
+    new e = light_both (end_orphans u e d n) (end_lines u e n) (orphaned e)
+        (light_if (has_locks u n) (Say (body.Told 1 u e part.Naming) ∷ []) [] (refl, tt) tt)
 
     by : (b : Bool) → AllLight (cond {A = Did Naming} b (did_nothing n) (told_new u (naming.taken_end u e n) d n)).outs
     by true = tt

@@ -1,20 +1,20 @@
 -- What a whole step of a node weighs, with all messages to itself.
-use Rattle.std.proofs.Common.{◌≡◌, ◌≤◌, ◌==◌, ◌+◌, ℕ, zero, suc, Bool, true, false, cond, List, [], ◌∷◌, ◌++◌, length, map, Option, Some, None, refl, sym, ◌∙◌, ap, subst, arith}
-use Rattle.arj_protocol.specs.Words.{Uid, Header, Message, ObjectState, entry, object}
-use Rattle.arj_protocol.specs.Words.body
-use Rattle.arj_protocol.specs.Asking.{again_all}
-use Rattle.arj_protocol.specs.Confirm.{back_lines}
-use Rattle.arj_protocol.specs.Effect.{Disk, Do, Effect, Intent, Look, Pair, PutInc, Say, Send, holder_of, held_at, worked}
-use Rattle.arj_protocol.specs.Named.{Named}
-use Rattle.arj_protocol.specs.Naming.{Naming}
-use Rattle.arj_protocol.specs.Node.{Handled, Here, Parts, Ran, Took, Void, first_done, first_queued, handle_all, holders, most_rounds, next_round, prepared_actions, query_about, ran, ran_handled, rounds, taken, whole, with_coord}
-use Rattle.arj_protocol.specs.Order.{uid_set, without_number}
-use Rattle.arj_protocol.specs.Step as step
-use Rattle.arj_protocol.specs.Step.{Abort, Begin, Call, Commit, Crash, Frame, GiveUp, Include, Input, Node, Restart, Show, Step, Tick, acts, copy_line, coord_did, entry_line, frame_step, handled_step, hello_to, naming_at, naming_back, node_did, numbers_to, parts_in, recovered_records, refusal, restart_outs, show_entry, show_outs, shown, step_down, step_of, step_unless, step_up, tick_step, tolds_again, void_step}
-use Rattle.arj_law_runs.specs.calls.Bindings.{bound_by}
-use Rattle.arj_law_runs.proofs.bindings.CoordBinds.{acts_weigh, again_weigh, at_naming, tolds_light}
-use Rattle.arj_law_runs.proofs.bindings.Handled.{outs_of, taken_weigh}
-use Rattle.arj_law_runs.proofs.bindings.Weights.{AllLight, IsLight, binds, binds_few, every_both, every_flat, every_map, light_weighs, weigh, weigh_both, weighs_less}
+use Rattle.arj_law_parts.proofs.Words
+use Words.{◌≡◌, ◌≤◌, ◌==◌, ◌+◌, ℕ, zero, suc, Bool, true, false, cond, List, [], ◌∷◌, ◌++◌, length, map, Option, Some, None, refl, sym, ◌∙◌}
+use Words.{ap, subst, arith, Uid, Header, Message, ObjectState, entry, object, again_all, back_lines, Disk, Do, Effect, Intent, Look, Pair}
+use Words.{PutInc, Say, Send, holder_of, held_at, worked, Named, Naming, Handled, Here, Parts, Ran, Took, Void, first_done, first_queued}
+use Words.{handle_all, holders, most_rounds, next_round, prepared_actions, query_about, ran, ran_handled, rounds, taken, whole, with_coord}
+use Words.{uid_set, without_number, Begin, Call, Crash, GiveUp, Input, Node, Restart, Show, Step, Tick, acts, copy_line, coord_did}
+use Words.{entry_line, frame_step, handled_step, hello_to, naming_at, naming_back, node_did, numbers_to, parts_in, recovered_records}
+use Words.{refusal, restart_outs, show_entry, show_outs, shown, step_down, step_of, step_unless, step_up, tick_step, tolds_again, void_step}
+use Words.body
+use Words.input as step
+use Rattle.arj_law_runs.proofs.Terms.{Frame, bound_by}
+use Rattle.arj_law_runs.proofs.bindings
+use bindings.{Handled.outs_of, Handled.taken_weigh}
+use bindings.CoordBinds.{acts_weigh, again_weigh, at_naming, tolds_light}
+use bindings.Weights.{AllLight, IsLight, binds, binds_few, every_both, every_flat, every_map, light_weighs, weigh, weigh_both, weighs_less}
+use Rattle.arj_protocol.specs.Step.{Abort, Commit, Include}
 
 -- ---- messages to itself
 
@@ -41,16 +41,20 @@ shift w a b c is = omega (arith, is)
 -- what is sent to the node itself waits, and weighs as much there
 ran_weigh : (n : ℕ) (t : Parts) (es : List Effect) (d : Disk) → all_of n (ran n t es d) ≡ weigh n es
 ran_weigh n t [] d = refl
-ran_weigh n t (Say b ∷ es) d = shift (bound_by b) (weigh n (ran n t es d).outs) (queued (ran n t es d).queue) (weigh n es) (ran_weigh n t es d)
-ran_weigh n t (Do w ∷ es) d = shift 0 (weigh n (ran n t es (worked w d)).outs) (queued (ran n t es (worked w d)).queue) (weigh n es) (ran_weigh n t es (worked w d))
+ran_weigh n t (Say b ∷ es) d =
+    shift (bound_by b) (weigh n (ran n t es d).outs) (queued (ran n t es d).queue) (weigh n es) (ran_weigh n t es d)
+ran_weigh n t (Do w ∷ es) d =
+    shift 0 (weigh n (ran n t es (worked w d)).outs) (queued (ran n t es (worked w d)).queue) (weigh n es) (ran_weigh n t es (worked w d))
 ran_weigh n t (Send to m ∷ es) d = by (to == n) refl (ran_weigh n t es d)
   where
     waits : (w a b c : ℕ) → a + b ≡ c → a + (w + b) ≡ w + c
     waits w a b c is = omega (arith, is)
 
-    by : (q : Bool) → (to == n) ≡ q → all_of n (ran n t es d) ≡ weigh n es → all_of n (cond q (first_queued m (ran n t es d)) (first_done (Send to m) (ran n t es d))) ≡ cond q (binds m) 0 + weigh n es
+    by : (q : Bool) → (to == n) ≡ q → all_of n (ran n t es d) ≡ weigh n es →
+        all_of n (cond q (first_queued m (ran n t es d)) (first_done (Send to m) (ran n t es d))) ≡ cond q (binds m) 0 + weigh n es
     by true is rest = waits (binds m) (weigh n (ran n t es d).outs) (queued (ran n t es d).queue) (weigh n es) rest
-    by false is rest = (λ i. cond (is i) (binds m) 0 + weigh n (ran n t es d).outs + queued (ran n t es d).queue) ∙ shift 0 (weigh n (ran n t es d).outs) (queued (ran n t es d).queue) (weigh n es) rest
+    by false is rest = (λ i. cond (is i) (binds m) 0 + weigh n (ran n t es d).outs + queued (ran n t es d).queue)
+        ∙ shift 0 (weigh n (ran n t es d).outs) (queued (ran n t es d).queue) (weigh n es) rest
 
 handled_weigh : (n : ℕ) (h : Here) (v : Handled) → all_of n (ran_handled n h v) ≡ weigh n (outs_of v)
 handled_weigh n h (Void outs) = ran_weigh n h.parts outs h.disk
@@ -62,14 +66,17 @@ messages_weigh n (m ∷ ms) h =
     let v = taken n h.disk h.parts n m in
     let r = ran_handled n h v in
     let t = handle_all n ms r.here in
-    more (weigh n (r.outs ++ t.outs)) (queued (r.queue ++ t.queue)) (weigh n r.outs) (queued r.queue) (weigh n t.outs) (queued t.queue) (weigh n (outs_of v)) (binds m) (queued ms)
-    (weigh_both n r.outs t.outs) (queued_both r.queue t.queue) (handled_weigh n h v) (taken_weigh n h.disk h.parts n m) (messages_weigh n ms r.here)
+    more (weigh n (r.outs ++ t.outs)) (queued (r.queue ++ t.queue)) (weigh n r.outs) (queued r.queue) (weigh n t.outs) (queued t.queue)
+    (weigh n (outs_of v)) (binds m) (queued ms)
+    (weigh_both n r.outs t.outs) (queued_both r.queue t.queue) (handled_weigh n h v) (taken_weigh n h.disk h.parts n m)
+    (messages_weigh n ms r.here)
   where
     more : (o q a b c e v m k : ℕ) → o ≡ a + c → q ≡ b + e → a + b ≡ v → v ≤ m → c + e ≤ k → o + q ≤ m + k
     more o q a b c e v m k x y z le rest = omega (arith, x, y, z, le, rest)
 
 round_weigh : (n : ℕ) (r : Ran) → all_of n (next_round n r) ≤ all_of n r
-round_weigh n r = let t = handle_all n r.queue r.here in more (weigh n (r.outs ++ t.outs)) (weigh n r.outs) (weigh n t.outs) (queued t.queue) (queued r.queue) (weigh_both n r.outs t.outs) (messages_weigh n r.queue r.here)
+round_weigh n r = let t = handle_all n r.queue r.here in more (weigh n (r.outs ++ t.outs)) (weigh n r.outs) (weigh n t.outs)
+    (queued t.queue) (queued r.queue) (weigh_both n r.outs t.outs) (messages_weigh n r.queue r.here)
   where
     more : (o a b c q : ℕ) → o ≡ a + b → b + c ≤ q → o + c ≤ a + q
     more o a b c q is le = omega (arith, is, le)
@@ -79,7 +86,8 @@ rounds_weigh n zero r = same (all_of n r)
   where
     same : (a : ℕ) → a ≤ a
     same a = omega arith
-rounds_weigh n (suc k) r = by r.queue (within (all_of n (rounds n k (next_round n r))) (all_of n (next_round n r)) (all_of n r) (rounds_weigh n k (next_round n r)) (round_weigh n r))
+rounds_weigh n (suc k) r = by r.queue (within (all_of n (rounds n k (next_round n r))) (all_of n (next_round n r)) (all_of n r)
+    (rounds_weigh n k (next_round n r)) (round_weigh n r))
   where
     within : (a b c : ℕ) → a ≤ b → b ≤ c → a ≤ c
     within a b c x y = omega (arith, x, y)
@@ -95,7 +103,8 @@ rounds_weigh n (suc k) r = by r.queue (within (all_of n (rounds n k (next_round 
     by (m ∷ ms) more = more
 
 whole_weigh : (n : ℕ) (t : Parts) (outs : List Effect) (d : Disk) → weigh n (whole n t outs d).outs ≤ weigh n outs
-whole_weigh n t outs d = front (weigh n (whole n t outs d).outs) (queued (whole n t outs d).queue) (all_of n (ran n t outs d)) (weigh n outs) (rounds_weigh n most_rounds (ran n t outs d)) (ran_weigh n t outs d)
+whole_weigh n t outs d = front (weigh n (whole n t outs d).outs) (queued (whole n t outs d).queue) (all_of n (ran n t outs d))
+    (weigh n outs) (rounds_weigh n most_rounds (ran n t outs d)) (ran_weigh n t outs d)
   where
     front : (a b c w : ℕ) → a + b ≤ c → c ≡ w → a ≤ w
     front a b c w le is = omega (arith, le, is)
@@ -120,17 +129,23 @@ Both n c s = (weigh n s.outs ≤ c) × (weigh n s.halting ≤ c)
 light_step : (n c : ℕ) (s : Step) → AllLight s.outs → AllLight s.halting → Both n c s
 light_step n c s a b = (weighs_less n c s.outs a, weighs_less n c s.halting b)
 
-did_both : (c : ℕ) (n : Node) (before : List Effect) (t : Parts) (outs : List Effect) → AllLight before → weigh n.number outs ≤ c → Both n.number c (node_did n before t outs)
+did_both : (c : ℕ) (n : Node) (before : List Effect) (t : Parts) (outs : List Effect) → AllLight before → weigh n.number outs ≤ c →
+    Both n.number c (node_did n before t outs)
 did_both c n before t outs first le = (all, all)
   where
     within : (a b w o c : ℕ) → a ≡ b + w → b ≡ 0 → w ≤ o → o ≤ c → a ≤ c
     within a b w o c is none less le = omega (arith, is, none, less, le)
 
     all : weigh n.number (before ++ (whole n.number t outs n.disk).outs) ≤ c
-    all = within (weigh n.number (before ++ (whole n.number t outs n.disk).outs)) (weigh n.number before) (weigh n.number (whole n.number t outs n.disk).outs) (weigh n.number outs) c (weigh_both n.number before (whole n.number t outs n.disk).outs) (light_weighs n.number before first) (whole_weigh n.number t outs n.disk) le
+    all = within (weigh n.number (before ++ (whole n.number t outs n.disk).outs)) (weigh n.number before) (weigh n.number
+        (whole n.number t outs n.disk).outs) (weigh n.number outs) c (weigh_both n.number before (whole n.number t outs n.disk).outs)
+        (light_weighs n.number before first) (whole_weigh n.number t outs n.disk) le
 
 void_both : (c k : ℕ) (n : Node) (outs : List Effect) → weigh n.number outs ≤ c → Both n.number c (void_step k n outs)
-void_both c k n outs le = (behind (weigh n.number (outs ++ Say (body.Void k) ∷ [])) (weigh n.number outs) c (weigh_both n.number outs (Say (body.Void k) ∷ [])) le, before (weigh n.number outs) c le)
+void_both c k n outs le = (
+  behind (weigh n.number (outs ++ Say (body.Void k) ∷ [])) (weigh n.number outs) c (weigh_both n.number outs (Say (body.Void k) ∷ [])) le,
+  before (weigh n.number outs) c le,
+)
   where
     behind : (a b c : ℕ) → a ≡ b + (0 + 0) → b ≤ c → a ≤ c
     behind a b c is le = omega (arith, is, le)
@@ -140,7 +155,8 @@ void_both c k n outs le = (behind (weigh n.number (outs ++ Say (body.Void k) ∷
 
 frame_both : (k from : ℕ) (n : Node) (t : Parts) (m : Option Message) → Both n.number 1 (frame_step k from n t m)
 frame_both k from n t None = void_both 1 k n [] (omega arith)
-frame_both k from n t (Some m) = by (taken n.number n.disk t from m) (within (weigh n.number (outs_of (taken n.number n.disk t from m))) (binds m) (taken_weigh n.number n.disk t from m) (binds_few m))
+frame_both k from n t (Some m) = by (taken n.number n.disk t from m)
+    (within (weigh n.number (outs_of (taken n.number n.disk t from m))) (binds m) (taken_weigh n.number n.disk t from m) (binds_few m))
   where
     within : (a b : ℕ) → a ≤ b → b ≤ 1 → a ≤ 1
     within a b x y = omega (arith, x, y)
@@ -155,19 +171,25 @@ tick_both n t =
     let tolds = tolds_again t.coord.telling in
     let asks = map query_about (holders n.disk t) in
     did_both (at_naming n.number (length t.coord.doings)) n [] (with_coord t d.part) (d.outs ++ tolds ++ asks) tt
-    (within (weigh n.number (d.outs ++ tolds ++ asks)) (weigh n.number (d.outs ++ tolds)) (weigh n.number d.outs) (weigh n.number tolds) (weigh n.number asks) (at_naming n.number (length t.coord.doings))
-    (weigh_both n.number (d.outs ++ tolds) asks) (weigh_both n.number d.outs tolds) (light_weighs n.number tolds (tolds_light t.coord.telling)) (light_weighs n.number asks (every_map IsLight query_about (holders n.disk t) (λ u. refl))) (again_weigh n.number t.coord.doings t.coord))
+    (within (weigh n.number (d.outs ++ tolds ++ asks)) (weigh n.number (d.outs ++ tolds)) (weigh n.number d.outs) (weigh n.number tolds)
+    (weigh n.number asks) (at_naming n.number (length t.coord.doings))
+    (weigh_both n.number (d.outs ++ tolds) asks) (weigh_both n.number d.outs tolds) (light_weighs n.number tolds
+    (tolds_light t.coord.telling)) (light_weighs n.number asks (every_map IsLight query_about (holders n.disk t) (λ u. refl)))
+    (again_weigh n.number t.coord.doings t.coord))
   where
     within : (a b d t q c : ℕ) → a ≡ b + q → b ≡ d + t → t ≡ 0 → q ≡ 0 → d ≤ c → a ≤ c
     within a b d t q c x y z w le = omega (arith, x, y, z, w, le)
 
 acts_both : (n : Node) (t : Parts) (i : Input) → Both n.number 1 (coord_did n t (acts i n.disk.intents t.coord))
-acts_both n t i = did_both 1 n [] (with_coord t (acts i n.disk.intents t.coord).part) (acts i n.disk.intents t.coord).outs tt (acts_weigh n.number i n.disk.intents t.coord)
+acts_both n t i = did_both 1 n [] (with_coord t (acts i n.disk.intents t.coord).part) (acts i n.disk.intents t.coord).outs tt
+    (acts_weigh n.number i n.disk.intents t.coord)
 
 show_light : (n x : ℕ) (d : Disk) → AllLight (show_outs n x d)
-show_light n x d = every_both IsLight (show_entry n x d.names) (shown (copy_line n x) (object x) d.store (holder_of (object x) d.store)) (by (n == 1)) (one (copy_line n x) (object x) d.store copy (holder_of (object x) d.store))
+show_light n x d = every_both IsLight (show_entry n x d.names) (shown (copy_line n x) (object x) d.store (holder_of (object x) d.store))
+    (by (n == 1)) (one (copy_line n x) (object x) d.store copy (holder_of (object x) d.store))
   where
-    one : (line : Option ObjectState → List Effect) (u : Uid) (d : Pair) → ((s : Option ObjectState) → AllLight (line s)) → (o : Option Uid) → AllLight (shown line u d o)
+    one : (line : Option ObjectState → List Effect) (u : Uid) (d : Pair) → ((s : Option ObjectState) → AllLight (line s)) →
+        (o : Option Uid) → AllLight (shown line u d o)
     one line u d each (Some holder) = tt
     one line u d each None = (tt, each (held_at u d))
 
@@ -197,7 +219,8 @@ restart_light hd n inc d =
     every_both IsLight (first ++ records ++ tolds_again d.intents ++ asks) hellos
     (every_both IsLight (first ++ records ++ tolds_again d.intents) asks
     (every_both IsLight (first ++ records) (tolds_again d.intents)
-    (every_both IsLight first records (tt, (tt, (refl, (tt, back_light (naming_at n inc d.names))))) (tt, every_map IsLight (λ (e : Uid × Intent). Say (body.Recovered n e.0)) d.intents (λ e. refl)))
+    (every_both IsLight first records (tt, (tt, (refl, (tt, back_light (naming_at n inc d.names)))))
+    (tt, every_map IsLight (λ (e : Uid × Intent). Say (body.Recovered n e.0)) d.intents (λ e. refl)))
     (tolds_light d.intents))
     (every_map IsLight query_about (uid_set (prepared_actions d.store ++ prepared_actions d.names)) (λ u. refl)))
     (every_map IsLight (hello_to n inc) (without_number n (numbers_to hd.nodes)) (λ m. refl))
@@ -217,7 +240,8 @@ up_both n t (GiveUp l) is = acts_both n t (GiveUp l)
 
 down_both : (hd : Header) (n : Node) (i : Input) → Both n.number (cost i n) (step_down hd i n)
 down_both hd n (Frame k from m) = void_both 1 k n [] (omega arith)
-down_both hd n Restart = did_both 1 n [] (parts_in n.number (n.disk.inc + 1) n.disk) (restart_outs hd n.number (n.disk.inc + 1) n.disk) tt (weighs_less n.number 1 (restart_outs hd n.number (n.disk.inc + 1) n.disk) (restart_light hd n.number (n.disk.inc + 1) n.disk))
+down_both hd n Restart = did_both 1 n [] (parts_in n.number (n.disk.inc + 1) n.disk) (restart_outs hd n.number (n.disk.inc + 1) n.disk) tt
+    (weighs_less n.number 1 (restart_outs hd n.number (n.disk.inc + 1) n.disk) (restart_light hd n.number (n.disk.inc + 1) n.disk))
 down_both hd n Tick = light_step n.number (cost Tick n) (step_down hd Tick n) tt tt
 down_both hd n Crash = light_step n.number 1 (step_down hd Crash n) tt tt
 down_both hd n (Show x) = light_step n.number 0 (step_down hd (Show x) n) tt tt
@@ -228,7 +252,8 @@ down_both hd n (Commit l) = light_step n.number 1 (step_down hd (Commit l) n) tt
 down_both hd n (Abort l) = light_step n.number 1 (step_down hd (Abort l) n) tt tt
 down_both hd n (GiveUp l) = light_step n.number 1 (step_down hd (GiveUp l) n) tt tt
 
-pub step_weigh : (hd : Header) (n : Node) (i : Input) → (weigh n.number (step.step hd n i).outs ≤ cost i n) × (weigh n.number (step.step hd n i).halting ≤ cost i n)
+pub step_weigh : (hd : Header) (n : Node) (i : Input) →
+    (weigh n.number (step.step hd n i).outs ≤ cost i n) × (weigh n.number (step.step hd n i).halting ≤ cost i n)
 step_weigh hd n i = by (refusal hd i n)
   where
     live : (o : Option Parts) → n.live ≡ o → Both n.number (cost i n) (step_of hd i n o)

@@ -1,14 +1,11 @@
 -- What effects of a node weigh: its lines of new bindings, and the Binds that it sends to itself.
-use Rattle.std.proofs.Common.{◌≡◌, ◌≤◌, ◌==◌, ◌+◌, ℕ, Bool, true, false, cond, List, [], ◌∷◌, ◌++◌, map, Option, Some, None, refl, sym, ◌∙◌, ap, arith}
-use Rattle.std.specs.Prelude.{⊤, if◌then◌else◌}
-use Rattle.std.specs.List.{AllByRecursion, flat_map, list_all}
-use Rattle.std.proofs.lemmas.Bool.{and_parts}
-use Rattle.arj_protocol.specs.Words.{Ask, Body, Head, Message, asks, request}
-use Rattle.arj_protocol.specs.Words.ask
-use Rattle.arj_protocol.specs.Words.body
-use Rattle.arj_protocol.specs.Effect.{Do, Effect, Say, Send}
-use Rattle.arj_protocol.specs.Says.{AreAll}
-use Rattle.arj_law_runs.specs.calls.Bindings.{bound_by}
+use Rattle.arj_law_parts.proofs.Words
+use Words.{◌≡◌, ◌≤◌, ◌==◌, ◌+◌, ℕ, Bool, true, false, cond, List, [], ◌∷◌, ◌++◌, map, Option, Some, None, refl, sym, ◌∙◌, ap, arith, ⊤}
+use Words.{if◌then◌else◌, AllByRecursion, flat_map, list_all, and_parts, Ask, Body, Head, Message, asks, request, Do, Effect, Say, Send}
+use Words.{AreAll}
+use Words.ask
+use Words.body
+use Rattle.arj_law_runs.proofs.Terms.{bound_by}
 
 -- 1 for a Bind, 0 for anything else
 abbrev pub bind_ask : Ask → ℕ
@@ -91,7 +88,8 @@ module _ (P : Effect → Type 0) where
   every_both [] fs a b = b
   every_both (e ∷ es) fs a b = (a.0, every_both es fs a.1 b)
 
-  pub every_flat : {A : Type 0} (f : A → List Effect) (items : List A) → ((a : A) → AllByRecursion P (f a)) → AllByRecursion P (flat_map f items)
+  pub every_flat : {A : Type 0} (f : A → List Effect) (items : List A) → ((a : A) → AllByRecursion P (f a)) →
+      AllByRecursion P (flat_map f items)
   every_flat f [] each = tt
   every_flat f (a ∷ rest) each = every_both (f a) (flat_map f rest) (each a) (every_flat f rest each)
 
@@ -122,7 +120,8 @@ weighs_less n k outs light = less (weigh n outs) (light_weighs n outs light)
     less a is = omega (arith, is)
 
 -- a line of a kind to which new bindings don't belong is none
-pub other_line : (test : Body → Bool) → ((x : ℕ) (b : _) (s : ℕ) → test (body.Bound x b s) ≡ false) → (b : Body) → test b ≡ true → bound_by b ≡ 0
+pub other_line : (test : Body → Bool) → ((x : ℕ) (b : _) (s : ℕ) → test (body.Bound x b s) ≡ false) → (b : Body) → test b ≡ true →
+    bound_by b ≡ 0
 other_line test none (body.Began a b c d) is = refl
 other_line test none (body.Ok a b c d) is = refl
 other_line test none (body.Includes a b c) is = refl
@@ -158,14 +157,19 @@ other_line test none (body.Bad a) is = refl
 other_line test none (body.Limit a) is = refl
 
 -- effects of a kind to which new bindings don't belong, without a Bind
-pub class_light : (test : Effect → Bool) (line : Body → Bool) → ((b : Body) → test (Say b) ≡ line b) → ((x : ℕ) (b : _) (s : ℕ) → line (body.Bound x b s) ≡ false) → (outs : List Effect) → AreAll test outs → NoBinds outs → AllLight outs
+pub class_light : (test : Effect → Bool) (line : Body → Bool) → ((b : Body) → test (Say b) ≡ line b) →
+    ((x : ℕ) (b : _) (s : ℕ) → line (body.Bound x b s) ≡ false) → (outs : List Effect) → AreAll test outs → NoBinds outs → AllLight outs
 class_light test line same none [] all no_binds = tt
-class_light test line same none (Say b ∷ es) all no_binds = let own = and_parts (test (Say b)) (list_all test es) all in (other_line line none b (sym (same b) ∙ own.0), class_light test line same none es own.1 no_binds.1)
-class_light test line same none (Send to m ∷ es) all no_binds = (no_binds.0, class_light test line same none es (and_parts (test (Send to m)) (list_all test es) all).1 no_binds.1)
-class_light test line same none (Do w ∷ es) all no_binds = (tt, class_light test line same none es (and_parts (test (Do w)) (list_all test es) all).1 no_binds.1)
+class_light test line same none (Say b ∷ es) all no_binds = let own = and_parts (test (Say b)) (list_all test es) all in
+    (other_line line none b (sym (same b) ∙ own.0), class_light test line same none es own.1 no_binds.1)
+class_light test line same none (Send to m ∷ es) all no_binds =
+    (no_binds.0, class_light test line same none es (and_parts (test (Send to m)) (list_all test es) all).1 no_binds.1)
+class_light test line same none (Do w ∷ es) all no_binds =
+    (tt, class_light test line same none es (and_parts (test (Do w)) (list_all test es) all).1 no_binds.1)
 
 -- what is of a kind that never sends sends no Bind
-pub unsent : (test : Effect → Bool) → ((to : ℕ) (m : Message) → test (Send to m) ≡ false) → (outs : List Effect) → AreAll test outs → NoBinds outs
+pub unsent : (test : Effect → Bool) → ((to : ℕ) (m : Message) → test (Send to m) ≡ false) → (outs : List Effect) → AreAll test outs →
+    NoBinds outs
 unsent test none [] all = tt
 unsent test none (Say b ∷ es) all = (tt, unsent test none es (and_parts (test (Say b)) (list_all test es) all).1)
 unsent test none (Send to m ∷ es) all = absurd (cc (sym (and_parts (test (Send to m)) (list_all test es) all).0 ∙ none to m))

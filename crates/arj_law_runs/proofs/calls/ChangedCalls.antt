@@ -1,28 +1,16 @@
 -- What a commit has as changed was called in its top: the call survives there.
-use Rattle.std.proofs.Common.{◌≡◌, ◌≤◌, ◌==◌, ◌&&◌, ◌||◌, ℕ, List, [], ◌∷◌, ◌++◌, Bool, true, false, not, Some, refl, sym, ◌∙◌, ap, subst, length, arith}
-use Rattle.std.specs.List.{list_any}
-use Rattle.arj_base.proofs.Uids.{uid_same}
-use Rattle.arj_lock.proofs.Members as list
-use Rattle.arj_protocol.specs.Words.{Ask, Head, Uid, asks, first_uid, is_on, uid_eq, uids_of}
-use Rattle.arj_protocol.specs.Words.ending
-use Rattle.arj_protocol.specs.Ask.{actor}
-use Rattle.arj_protocol.specs.Commit.{Machine, plan_of}
-use Rattle.arj_protocol.specs.Coord.{Committing, Coord, Doing, Joined, Root, Said, doing_of, root_at, survives, top_uses}
-use Rattle.arj_protocol.specs.Tree.{behind, ended_so, has_end, is_committed, root_of}
-use Rattle.arj_law_parts.specs.parts.Actions.{Action, paths_of}
-use Rattle.arj_law_parts.specs.parts.Coords.{IsBusy, IsGoodCoord, IsVoting}
-use Rattle.arj_law_parts.specs.parts.Copies.{IsTree, Paths}
-use Rattle.arj_law_parts.specs.parts.Ends.{IsSaidSo}
-use Rattle.arj_law_parts.specs.parts.Messages.{FitsMessage, Seals}
-use Rattle.arj_law_parts.proofs.parts.Begun.{begun_tree, on_own, path_found, path_some}
-use Rattle.arj_law_parts.specs.moves.Seen.{In}
-use Rattle.arj_promise.specs.Runs.{Post, Seen}
-use Rattle.arj_law_runs.specs.calls.Coords.{IsCalledBy, KnowsCalls}
-use Rattle.arj_law_runs.specs.calls.Runs.{AllChangesAreCalled, KnowsRun, Trees}
-use Rattle.arj_law_runs.proofs.calls.CommitPlans.{any_in}
-use Rattle.arj_law_runs.proofs.calls.CoordTrees.{nothing_behind}
-use Rattle.arj_law_runs.proofs.calls.WorldRuns.{coord_at, says_at}
-use Rattle.arj_law_runs.proofs.calls.WorldVotes.{behind_after, on_first, said_commit}
+use Rattle.arj_law_parts.proofs.Words
+use Words.{◌≡◌, ◌≤◌, ◌==◌, ◌&&◌, ◌||◌, ℕ, List, [], ◌∷◌, ◌++◌, Bool, true, false, not, Some, refl, sym, ◌∙◌, ap, subst, length, arith}
+use Words.{list_any, uid_same, Ask, Head, Uid, asks, first_uid, is_on, uid_eq, uids_of, actor, Machine, plan_of, Committing, Coord, Doing}
+use Words.{Joined, Root, Said, doing_of, root_at, survives, top_uses, behind, ended_so, has_end, is_committed, root_of, Post, Seen}
+use Words.list
+use Words.ending
+use Rattle.arj_law_runs.proofs.Terms
+use Terms.{Action, paths_of, IsBusy, IsGoodCoord, IsVoting, IsTree, Paths, IsSaidSo, FitsMessage, Seals, begun_tree, on_own, path_found}
+use Terms.{path_some, In, IsCalledBy, KnowsCalls, AllChangesAreCalled, KnowsRun, Trees}
+use Rattle.arj_law_runs.proofs.calls
+use calls.{CommitPlans.any_in, CoordTrees.nothing_behind, WorldRuns.coord_at, WorldRuns.says_at}
+use calls.WorldVotes.{behind_after, on_first, said_commit}
 
 first_of : (us vs : List Uid) → 1 ≤ length us → first_uid (us ++ vs) ≡ first_uid us
 first_of [] vs some = absurd (omega (arith, some))
@@ -45,10 +33,15 @@ none_such f (u ∷ us) all = λ i. not (all u (here u us) i) || none_such f us (
 same_number : (n : ℕ) → (n == n) ≡ true
 same_number n = grind arith
 
-module _ (acts : List Action) (paths : Paths) (tree : IsTree paths) (sent : List Post) (senders : (p : Post) (h : Head) (a : Ask) → In p sent → asks p.message ≡ Some (h, a) → (let u = actor h.path in u.node) ≡ p.from) (fit : (p : Post) → In p sent → FitsMessage acts p.message)
-    (c : Coord) (good : IsGoodCoord acts paths c) (knows : KnowsCalls paths sent c) (seals : (p : Post) (u : Uid) → In p sent → Seals p.message u → u.node ≡ p.from) (says : (p : Post) → In p sent → p.from ≡ c.tree.node → IsSaidSo c.tree p.message) where
-  called_uses : (u : Uid) (d : Doing) (m : Machine) (x : ℕ) → doing_of u c ≡ Some d → d.now ≡ Committing m → IsCalledBy sent c (uids_of (plan_of m).path) x → top_uses u x (root_at (root_of (plan_of m).path) c) c ≡ true
-  called_uses u d m x found now a = ap (λ b. b || list_any (λ (j : Joined). (j.x == x) && survives u j.path c) r.joined) (any_in (λ (s : Said). (s.x == x) && survives u s.path c) (let z = a.answered in z.said) r.said there (λ i. number i && lives i))
+module _ (acts : List Action) (paths : Paths) (tree : IsTree paths) (sent : List Post) (senders : (p : Post) (h : Head) (a : Ask) →
+    In p sent → asks p.message ≡ Some (h, a) → (let u = actor h.path in u.node) ≡ p.from) (fit : (p : Post) → In p sent →
+    FitsMessage acts p.message)
+    (c : Coord) (good : IsGoodCoord acts paths c) (knows : KnowsCalls paths sent c) (seals : (p : Post) (u : Uid) → In p sent →
+    Seals p.message u → u.node ≡ p.from) (says : (p : Post) → In p sent → p.from ≡ c.tree.node → IsSaidSo c.tree p.message) where
+  called_uses : (u : Uid) (d : Doing) (m : Machine) (x : ℕ) → doing_of u c ≡ Some d → d.now ≡ Committing m →
+      IsCalledBy sent c (uids_of (plan_of m).path) x → top_uses u x (root_at (root_of (plan_of m).path) c) c ≡ true
+  called_uses u d m x found now a = ap (λ b. b || list_any (λ (j : Joined). (j.x == x) && survives u j.path c) r.joined)
+      (any_in (λ (s : Said). (s.x == x) && survives u s.path c) (let z = a.answered in z.said) r.said there (λ i. number i && lives i))
     where
       r : Root
       r = root_at (root_of (plan_of m).path) c
@@ -60,16 +53,19 @@ module _ (acts : List Action) (paths : Paths) (tree : IsTree paths) (sent : List
       path_is = let b = voting.asking in ap uids_of (sym b.path) ∙ good.tree.lists.paths_are u b.branch b.found
 
       its_own : is_on (uids_of (plan_of m).path) u ≡ true
-      its_own = let b = voting.asking in ap (is_on (uids_of (plan_of m).path)) (sym (good.tree.lists.places u b.branch b.found) ∙ ap actor b.path) ∙ on_own (plan_of m).path
+      its_own = let b = voting.asking in ap (is_on (uids_of (plan_of m).path))
+          (sym (good.tree.lists.places u b.branch b.found) ∙ ap actor b.path) ∙ on_own (plan_of m).path
 
       there : list.In (let z = a.answered in z.said) (root_at (root_of (plan_of m).path) c).said
-      there = subst (λ w. list.In (let z = a.answered in z.said) (root_at w c).said) (first_of (uids_of (plan_of m).path) a.rest (path_some (plan_of m).path)) (let z = a.answered in z.there)
+      there = subst (λ w. list.In (let z = a.answered in z.said) (root_at w c).said)
+          (first_of (uids_of (plan_of m).path) a.rest (path_some (plan_of m).path)) (let z = a.answered in z.there)
 
       number : ((let z = a.answered in let s = z.said in s.x) == x) ≡ true
       number = ap (λ n. n == x) (let z = a.answered in z.object) ∙ same_number x
 
       behind_it : behind u (uids_of (plan_of m).path ++ a.rest) ≡ a.rest
-      behind_it = behind_after u (uids_of (plan_of m).path) a.rest (ap (behind u) path_is ∙ (let b = voting.asking in nothing_behind paths tree c.tree good.tree.lists good.tree.closed u b.branch b.found)) its_own
+      behind_it = behind_after u (uids_of (plan_of m).path) a.rest (ap (behind u) path_is
+          ∙ (let b = voting.asking in nothing_behind paths tree c.tree good.tree.lists good.tree.closed u b.branch b.found)) its_own
 
       committed : (w : Uid) → is_on a.rest w ≡ true → is_committed w c.tree ≡ true
       committed w on =
@@ -89,4 +85,5 @@ changes_in M (acts, good, known) k n t at live u d q found now s i =
     let j = w.nodes k n at in
     let c = j.coord t live in
     let z = c.plans u d q found now in
-    called_uses acts p.0 p.1 M.sent w.senders good.fits t.coord (coord_at acts p.0 p.1 p.2 M good w k n t at live) c good.senders (says_at acts p.0 p.1 p.2 M good w k n t at live) u d q s.uid.num found now (z.changed s i)
+    called_uses acts p.0 p.1 M.sent w.senders good.fits t.coord (coord_at acts p.0 p.1 p.2 M good w k n t at live) c good.senders
+    (says_at acts p.0 p.1 p.2 M good w k n t at live) u d q s.uid.num found now (z.changed s i)

@@ -1,25 +1,18 @@
 -- A commit's plan goes on with what it uses, and at first has each call that a top was answered.
-use Rattle.std.proofs.Common.{◌≡◌, ◌⊎◌, ◌≤◌, ◌==◌, ◌||◌, ◌+◌, ℕ, List, [], ◌∷◌, ◌++◌, Bool, true, false, cond, Some, refl, sym, ◌∙◌, ap, inl, inr, ⊎_elim, nat_lt, arith, map, filter, find}
-use Rattle.std.specs.Prelude.{⊤, not, unwrap_or}
-use Rattle.std.specs.List.{list_any}
-use Rattle.std.specs.Ordering.{match_ordering, nat_cmp}
-use Rattle.std.specs.declared.cmp.Ordering.{Ordering}
-use Rattle.std.specs.declared.cmp.Ordering.TheVariants.{Less, Equal, Greater}
-use Rattle.std.proofs.lemmas.Bool.{eqb-true}
-use Rattle.arj_base.proofs.Uids.{uid_same}
-use Rattle.arj_lock.proofs.Members as list
-use Rattle.arj_protocol.specs.Words.{ObjectState, Uid, Path, is_on, uid_eq}
-use Rattle.arj_protocol.specs.Words.voted
-use Rattle.arj_protocol.specs.Words.prepared
-use Rattle.arj_protocol.specs.Words.confirmed
-use Rattle.arj_protocol.specs.Ask.{Reply, actor}
-use Rattle.arj_protocol.specs.Call.{Known}
-use Rattle.arj_protocol.specs.Commit as commit
-use Rattle.arj_protocol.specs.Commit.{Aborts, Asks, CommitStep, Confirming, Decides, Machine, Plan, Preparing, Stays, Used, Voting, begin_confirm, begin_prepare, begin_vote, marks_store, marks_stores, plan_of, stores_left, targets_of, votes_left, with_state, with_states}
-use Rattle.arj_protocol.specs.Coord.{Coord, Joined, Root, Said, counts, is_called, joined_in, kept_of, known_for, nothing_known, objects_in, plan_for, said_in, survives, used_of, is_retained}
-use Rattle.arj_protocol.specs.Order.{number_set, with_number, without_number}
-use Rattle.arj_protocol.specs.Tree.{Tree, behind, is_committed, is_merged}
-use Rattle.arj_law_runs.specs.calls.Coords.{IsUsed}
+use Rattle.arj_law_parts.proofs.Words
+use Words.{◌≡◌, ◌⊎◌, ◌≤◌, ◌==◌, ◌||◌, ◌+◌, ℕ, List, [], ◌∷◌, ◌++◌, Bool, true, false, cond, Some, refl, sym, ◌∙◌, ap, inl, inr, ⊎_elim}
+use Words.{nat_lt, arith, map, filter, find, ⊤, not, unwrap_or, list_any, match_ordering, nat_cmp, Ordering, Less, Equal, Greater, eqb-true}
+use Words.{uid_same, ObjectState, Uid, Path, is_on, uid_eq, Reply, actor, Known, Aborts, Asks, CommitStep, Confirming, Decides, Machine}
+use Words.{Plan, Preparing, Stays, Used, Voting, begin_confirm, begin_prepare, begin_vote, marks_store, marks_stores, plan_of, stores_left}
+use Words.{targets_of, votes_left, with_state, with_states, Coord, Joined, Root, Said, counts, is_called, joined_in, kept_of, known_for}
+use Words.{nothing_known, objects_in, plan_for, said_in, survives, used_of, is_retained, number_set, with_number, without_number, Tree}
+use Words.{behind, is_committed, is_merged}
+use Words.list
+use Words.voted
+use Words.prepared
+use Words.confirmed
+use Words.commit
+use Rattle.arj_law_runs.proofs.Terms.{IsUsed}
 use Rattle.arj_law_runs.proofs.calls.ServerCalls.{never}
 
 -- ---- a plan goes on
@@ -74,7 +67,8 @@ heard_plan (Voting p left) r = record p { changed = changed_by p r }
 heard_plan (Preparing p left) r = p
 heard_plan (Confirming p) r = p
 
-pub heard_same : (m : Machine) (r : Reply) → ((heard_plan m r).used ≡ (plan_of m).used) × ((plan_of m).req ≤ (heard_plan m r).req) × ((heard_plan m r).path ≡ (plan_of m).path)
+pub heard_same : (m : Machine) (r : Reply) →
+    ((heard_plan m r).used ≡ (plan_of m).used) × ((plan_of m).req ≤ (heard_plan m r).req) × ((heard_plan m r).path ≡ (plan_of m).path)
 heard_same (Voting p left) r = (refl, omega arith, refl)
 heard_same (Preparing p left) r = (refl, omega arith, refl)
 heard_same (Confirming p) r = (refl, omega arith, refl)
@@ -83,18 +77,22 @@ with_one : (s w : ObjectState) (all : List ObjectState) → list.In s (with_stat
 with_one s w [] i = i
 with_one s w (t ∷ ts) i = by (nat_lt t.uid.num w.uid.num) i (with_one s w ts)
   where
-    by : (b : Bool) → list.In s (cond b (t ∷ with_state w ts) (w ∷ t ∷ ts)) → (list.In s (with_state w ts) → (w ≡ s) ⊎ list.In s ts) → (w ≡ s) ⊎ list.In s (t ∷ ts)
+    by : (b : Bool) → list.In s (cond b (t ∷ with_state w ts) (w ∷ t ∷ ts)) → (list.In s (with_state w ts) → (w ≡ s) ⊎ list.In s ts) →
+        (w ≡ s) ⊎ list.In s (t ∷ ts)
     by true (inl same) ih = inr (inl same)
     by true (inr more) ih = ⊎_elim (λ same. inl same) (λ old. inr (inr old)) (ih more)
     by false i ih = i
 
 with_all : (s : ObjectState) (new all : List ObjectState) → list.In s (with_states new all) → list.In s new ⊎ list.In s all
 with_all s [] all i = inr i
-with_all s (w ∷ ws) all i = ⊎_elim (λ more. inl (inr more)) (λ rest. ⊎_elim (λ same. inl (inl same)) (λ old. inr old) (with_one s w all rest)) (with_all s ws (with_state w all) i)
+with_all s (w ∷ ws) all i = ⊎_elim (λ more. inl (inr more))
+    (λ rest. ⊎_elim (λ same. inl (inl same)) (λ old. inr old) (with_one s w all rest)) (with_all s ws (with_state w all) i)
 
 -- what the plan has as changed it had before, or it is voted
-pub changed_from : (m : Machine) (r : Reply) (s : ObjectState) → list.In s (heard_plan m r).changed → list.In s (plan_of m).changed ⊎ ((states : List ObjectState) × (r ≡ Reply.Voted (voted.Yes states)) × list.In s states)
-changed_from (Voting p left) (Reply.Voted (voted.Yes states)) s i = ⊎_elim (λ new. inr (states, refl, new)) (λ old. inl old) (with_all s states p.changed i)
+pub changed_from : (m : Machine) (r : Reply) (s : ObjectState) → list.In s (heard_plan m r).changed →
+    list.In s (plan_of m).changed ⊎ ((states : List ObjectState) × (r ≡ Reply.Voted (voted.Yes states)) × list.In s states)
+changed_from (Voting p left) (Reply.Voted (voted.Yes states)) s i =
+    ⊎_elim (λ new. inr (states, refl, new)) (λ old. inl old) (with_all s states p.changed i)
 changed_from (Voting p left) (Reply.Voted (voted.Changed w)) s i = inl i
 changed_from (Voting p left) (Reply.Bound r) s i = inl i
 changed_from (Voting p left) (Reply.Loaded r) s i = inl i
@@ -107,7 +105,8 @@ changed_from (Preparing p left) r s i = inl i
 changed_from (Confirming p) r s i = inl i
 
 pub answer_next : (from : ℕ) (m : Machine) (r : Reply) → IsNextOf (heard_plan m r) (commit.answered from m r).step
-answer_next from (Voting p left) (Reply.Voted (voted.Yes states)) = let q : Plan = record p { changed = with_states states p.changed } in votes_next (without_number from left) q q (itself q)
+answer_next from (Voting p left) (Reply.Voted (voted.Yes states)) = let q : Plan = record p { changed = with_states states p.changed } in
+    votes_next (without_number from left) q q (itself q)
 answer_next from (Voting p left) (Reply.Voted (voted.Changed w)) = tt
 answer_next from (Voting p left) (Reply.Bound r) = itself p
 answer_next from (Voting p left) (Reply.Loaded r) = itself p
@@ -116,8 +115,10 @@ answer_next from (Voting p left) (Reply.Noted r) = itself p
 answer_next from (Voting p left) (Reply.Invoked r) = itself p
 answer_next from (Voting p left) (Reply.Prepared r) = itself p
 answer_next from (Voting p left) (Reply.Confirmed r) = itself p
-answer_next from (Preparing p left) (Reply.Prepared prepared.Yes) = stores_next (without_number from left) p (record p { prepared = with_number from p.prepared }) (itself p)
-answer_next from (Preparing p left) (Reply.Prepared (prepared.InDoubt x h)) = stores_next (without_number from left) p (marks_store from p) (itself p)
+answer_next from (Preparing p left) (Reply.Prepared prepared.Yes) =
+    stores_next (without_number from left) p (record p { prepared = with_number from p.prepared }) (itself p)
+answer_next from (Preparing p left) (Reply.Prepared (prepared.InDoubt x h)) =
+    stores_next (without_number from left) p (marks_store from p) (itself p)
 answer_next from (Preparing p left) (Reply.Prepared (prepared.Old x v)) = tt
 answer_next from (Preparing p left) (Reply.Bound r) = itself p
 answer_next from (Preparing p left) (Reply.Loaded r) = itself p
@@ -154,7 +155,8 @@ in_with n x (m ∷ ms) i = by (nat_cmp n m) refl i (λ j. in_with n x ms j)
     same_is : nat_cmp n m ≡ Equal → n ≡ m
     same_is e = grind (arith, e)
 
-    by : (r : Ordering) → nat_cmp n m ≡ r → (n ≡ x) ⊎ list.In x (m ∷ ms) → ((n ≡ x) ⊎ list.In x ms → list.In x (with_number n ms)) → list.In x (match_ordering r (n ∷ m ∷ ms) (m ∷ ms) (m ∷ with_number n ms))
+    by : (r : Ordering) → nat_cmp n m ≡ r → (n ≡ x) ⊎ list.In x (m ∷ ms) → ((n ≡ x) ⊎ list.In x ms → list.In x (with_number n ms)) →
+        list.In x (match_ordering r (n ∷ m ∷ ms) (m ∷ ms) (m ∷ with_number n ms))
     by Less e (inl same) ih = inl same
     by Less e (inr j) ih = inr j
     by Equal e (inl same) ih = inl (sym (same_is e) ∙ same)
@@ -182,7 +184,8 @@ pub in_kept : {A : Type 0} (p : A → Bool) (a : A) (items : List A) → list.In
 in_kept p a [] i on = absurd i
 in_kept {A} p a (x ∷ xs) i on = by (p x) refl i (λ j. in_kept p a xs j on)
   where
-    by : (b : Bool) → p x ≡ b → list.In a (x ∷ xs) → (list.In a xs → list.In a (filter p xs)) → list.In a (cond b (x ∷ filter p xs) (filter p xs))
+    by : (b : Bool) → p x ≡ b → list.In a (x ∷ xs) → (list.In a xs → list.In a (filter p xs)) →
+        list.In a (cond b (x ∷ filter p xs) (filter p xs))
     by true e (inl same) ih = inl same
     by true e (inr j) ih = inr (ih j)
     by false e (inl same) ih = absurd (never on (ap p (sym same) ∙ e))
@@ -201,18 +204,26 @@ same_number : (n : ℕ) → (n == n) ≡ true
 same_number n = grind arith
 
 -- the object is found among what is used of each
-found : (f : ℕ → Used) → ((y : ℕ) → (f y).x ≡ y) → (x : ℕ) (xs : List ℕ) → list.In x xs → find (λ (u : Used). u.x == x) (map f xs) ≡ Some (f x)
+found : (f : ℕ → Used) → ((y : ℕ) → (f y).x ≡ y) → (x : ℕ) (xs : List ℕ) → list.In x xs →
+    find (λ (u : Used). u.x == x) (map f xs) ≡ Some (f x)
 found f of x [] i = absurd i
 found f of x (y ∷ ys) i = by ((f y).x == x) refl i (found f of x ys)
   where
-    by : (b : Bool) → ((f y).x == x) ≡ b → list.In x (y ∷ ys) → (list.In x ys → find (λ (u : Used). u.x == x) (map f ys) ≡ Some (f x)) → cond b (Some (f y)) (find (λ (u : Used). u.x == x) (map f ys)) ≡ Some (f x)
+    by : (b : Bool) → ((f y).x == x) ≡ b → list.In x (y ∷ ys) → (list.In x ys → find (λ (u : Used). u.x == x) (map f ys) ≡ Some (f x)) →
+        cond b (Some (f y)) (find (λ (u : Used). u.x == x) (map f ys)) ≡ Some (f x)
     by true e j ih = ap (λ z. Some (f z)) (sym (of y) ∙ eqb-true (f y).x x e)
     by false e (inl same) ih = absurd (never (ap (λ z. z == x) (of y ∙ same) ∙ same_number x) e)
     by false e (inr j) ih = ih j
 
 -- a call that a top was answered and that survives in it is used at the server of what is kept
-pub is_used : (p : Path) (req : ℕ) (r : Root) (c : Coord) (s : Said) (k : Known) → list.In s r.said → kept_of s.x r ≡ Some k → survives (actor p) s.path c ≡ true → IsUsed (let q = plan_for p req r c in q.used) s.x k.server
-is_used p req r c s k i kept on = (used_of top r c s.x, found (used_of top r c) (λ y. refl) s.x (objects_in top r c) object, ap (λ b. (known_for b s.x r).server) called ∙ ap (λ o. (unwrap_or o nothing_known).server) kept, called)
+pub is_used : (p : Path) (req : ℕ) (r : Root) (c : Coord) (s : Said) (k : Known) → list.In s r.said → kept_of s.x r ≡ Some k →
+    survives (actor p) s.path c ≡ true → IsUsed (let q = plan_for p req r c in q.used) s.x k.server
+is_used p req r c s k i kept on = (
+  used_of top r c s.x,
+  found (used_of top r c) (λ y. refl) s.x (objects_in top r c) object,
+  ap (λ b. (known_for b s.x r).server) called ∙ ap (λ o. (unwrap_or o nothing_known).server) kept,
+  called,
+)
   where
     top : Uid
     top = actor p
@@ -221,13 +232,16 @@ is_used p req r c s k i kept on = (used_of top r c s.x, found (used_of top r c) 
     here = in_kept (λ (z : Said). counts (actor p) z.path c) s r.said i (ap (λ b. b || is_retained s.path c) on)
 
     object : list.In s.x (objects_in (actor p) r c)
-    object = in_set s.x (map (λ (z : Said). z.x) (said_in (actor p) r c) ++ map (λ (j : Joined). j.x) (joined_in (actor p) r c)) (in_more s.x (map (λ (z : Said). z.x) (said_in (actor p) r c)) (map (λ (j : Joined). j.x) (joined_in (actor p) r c)) (in_map (λ (z : Said). z.x) s (said_in (actor p) r c) here))
+    object = in_set s.x (map (λ (z : Said). z.x) (said_in (actor p) r c) ++ map (λ (j : Joined). j.x) (joined_in (actor p) r c))
+        (in_more s.x (map (λ (z : Said). z.x) (said_in (actor p) r c)) (map (λ (j : Joined). j.x) (joined_in (actor p) r c))
+        (in_map (λ (z : Said). z.x) s (said_in (actor p) r c) here))
 
     called : is_called s.x (actor p) r c ≡ true
     called = any_in (λ (z : Said). z.x == s.x) s (said_in (actor p) r c) here (same_number s.x)
 
 -- a path on which some action behind this one hasn't committed
-pub unmerged : (u : Uid) (path : List Uid) (t : Tree) → is_merged u path t ≡ false → (w : Uid) × (is_on (behind u path) w ≡ true) × (is_committed w t ≡ false)
+pub unmerged : (u : Uid) (path : List Uid) (t : Tree) → is_merged u path t ≡ false →
+    (w : Uid) × (is_on (behind u path) w ≡ true) × (is_committed w t ≡ false)
 unmerged u path t off = by (behind u path) (inverse (list_any (λ w. not (is_committed w t)) (behind u path)) off)
   where
     inverse : (b : Bool) → not b ≡ false → b ≡ true
@@ -238,7 +252,9 @@ unmerged u path t off = by (behind u path) (inverse (list_any (λ w. not (is_com
     by [] on = let no_way : false ≡ true = on in cc
     by (v ∷ vs) on = one (is_committed v t) refl on (by vs)
       where
-        one : (b : Bool) → is_committed v t ≡ b → (not b || list_any (λ w. not (is_committed w t)) vs) ≡ true → (list_any (λ w. not (is_committed w t)) vs ≡ true → (w : Uid) × (is_on vs w ≡ true) × (is_committed w t ≡ false)) → (w : Uid) × (is_on (v ∷ vs) w ≡ true) × (is_committed w t ≡ false)
+        one : (b : Bool) → is_committed v t ≡ b → (not b || list_any (λ w. not (is_committed w t)) vs) ≡ true →
+            (list_any (λ w. not (is_committed w t)) vs ≡ true → (w : Uid) × (is_on vs w ≡ true) × (is_committed w t ≡ false)) →
+            (w : Uid) × (is_on (v ∷ vs) w ≡ true) × (is_committed w t ≡ false)
         one false e h ih = (v, (λ i. uid_same v i || is_on vs v), e)
         one true e h ih = let f = ih h in (f.0, last (uid_eq v f.0) f.1, f.2)
           where

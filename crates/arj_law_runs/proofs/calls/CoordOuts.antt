@@ -1,36 +1,32 @@
 -- Whatever a coordinator hears, does and begins, it sends the requests of what waits.
-use Rattle.std.proofs.Common.{◌≡◌, ◌≢◌, ◌==◌, ◌&&◌, ◌||◌, ℕ, List, [], ◌∷◌, ◌++◌, Bool, true, false, cond, Option, Some, None, refl, sym, ◌∙◌, ap, subst, inl, inr, arith, length}
-use Rattle.std.specs.List.{flat_map}
-use Rattle.arj_lock.proofs.Members as list
-use Rattle.arj_protocol.specs.Words.{Uid, Ask, Asked, End, Kind, Label, Path}
-use Rattle.arj_protocol.specs.Words.body
-use Rattle.arj_protocol.specs.Words.cause
-use Rattle.arj_protocol.specs.Words.ending
-use Rattle.arj_protocol.specs.Words.kind
-use Rattle.arj_protocol.specs.Ask.{Reply, actor}
-use Rattle.arj_protocol.specs.Asking.{again_all, again_now, asks_all, asks_node, call, call_steps, commit_action, commit_open, commit_top, gaveup_lines, give_up, give_up_doing, gives_up, heard, heard_by, heard_call, heard_doing, heard_none, heard_now, include, kept_at, last_req, moved_commit, next_req, renewed, root_lost, root_moved, step_call, waits_for_call, waits_for_commit}
-use Rattle.arj_protocol.specs.Call as calls
-use Rattle.arj_protocol.specs.Call.{Moved, Steps, answered, given_up, next_node, start}
-use Rattle.arj_protocol.specs.Commit as commit
-use Rattle.arj_protocol.specs.Commit.{Aborts, Asks, CommitStep, Decides, Machine, Plan, Stays, nodes_given_up, plan_of, servers_of}
-use Rattle.arj_protocol.specs.Coord.{Calling, Committing, Coord, Doing, Idle, Now, doing_of, is_free, keeping_of, on_root, plan_for, root_at, with_keeping}
-use Rattle.arj_protocol.specs.Effect.{Did, Intent, Served}
-use Rattle.arj_protocol.specs.Ending.{abort_action, aborts_with, acked, acked_by, acked_left, all_aborted, answer_decided, answer_query, answer_recorded, ended, ends_with, is_deferred, is_kept_commit, let_go, root_or_self, says, tell, tell_all, tolds_let_go, tolds_of}
-use Rattle.arj_protocol.specs.Order.{at_uid, has, unbound, without_number, without_uid}
-use Rattle.arj_protocol.specs.Step.{Input, acts, branch_named, on_branch, tolds_again}
-use Rattle.arj_protocol.specs.Step as input
-use Rattle.arj_protocol.specs.Tree.{Branch, at_place, branch_of, ends_of, is_open, open_below, root_of, uses_object}
-use Rattle.arj_law_parts.specs.parts.Actions.{Action}
-use Rattle.arj_law_parts.specs.parts.Coords.{IsAsking, IsBusy, IsGoodCoord, IsVoting}
-use Rattle.arj_law_parts.specs.parts.Copies.{IsTree, Paths}
-use Rattle.arj_law_parts.specs.parts.Requests.{AreNumbered, IsNumbered}
-use Rattle.arj_law_parts.proofs.parts.CoordInputs.{named_found}
-use Rattle.arj_law_parts.proofs.parts.GoodCoords.{IsStepOf, actor_is, answer_step, giveup_step, vote_step}
-use Rattle.arj_law_parts.proofs.parts.GoodTrees.{placed}
-use Rattle.arj_law_parts.proofs.parts.TrueSteps.{work_there}
-use Rattle.arj_law_runs.proofs.calls.CoordSends.{AllQuiet, AllSo, asks_work, goes_so, machine_so, moved_so, quiet_both, quiet_ends, quiet_flat, quiet_gaveup, quiet_says, quiet_so, quiet_tells, quiet_tolds, so_both, step_call_so, step_so}
+use Rattle.arj_law_parts.proofs.Words
+use Words.{◌≡◌, ◌≢◌, ◌==◌, ◌&&◌, ◌||◌, ℕ, List, [], ◌∷◌, ◌++◌, Bool, true, false, cond, Option, Some, None, refl, sym, ◌∙◌, ap, subst, inl}
+use Words.{inr, arith, length, flat_map, Uid, Ask, Asked, End, Kind, Label, Path, Reply, actor, again_all, again_now, asks_all, asks_node}
+use Words.{call, call_steps, commit_action, commit_open, commit_top, gaveup_lines, give_up, give_up_doing, gives_up, heard, heard_by}
+use Words.{heard_call, heard_doing, heard_none, heard_now, include, kept_at, last_req, moved_commit, next_req, renewed, root_lost}
+use Words.{root_moved, step_call, waits_for_call, waits_for_commit, Moved, Steps, answered, given_up, next_node, start, Aborts, Asks}
+use Words.{CommitStep, Decides, Machine, Plan, Stays, nodes_given_up, plan_of, servers_of, Calling, Committing, Coord, Doing, Idle, Now}
+use Words.{doing_of, is_free, keeping_of, on_root, plan_for, root_at, with_keeping, Did, Intent, Served, abort_action, aborts_with, acked}
+use Words.{acked_by, acked_left, all_aborted, answer_decided, answer_query, answer_recorded, ended, ends_with, is_deferred, is_kept_commit}
+use Words.{let_go, root_or_self, says, tell, tell_all, tolds_let_go, tolds_of, at_uid, has, unbound, without_number, without_uid, Input}
+use Words.{acts, branch_named, on_branch, tolds_again, Branch, at_place, branch_of, ends_of, is_open, open_below, root_of, uses_object}
+use Words.list
+use Words.body
+use Words.cause
+use Words.ending
+use Words.kind
+use Words.calls
+use Words.commit
+use Words.input
+use Rattle.arj_law_runs.proofs.Terms
+use Terms.{Action, IsAsking, IsBusy, IsGoodCoord, IsVoting, IsTree, Paths, AreNumbered, IsNumbered, named_found, IsStepOf, actor_is}
+use Terms.{answer_step, giveup_step, vote_step, placed, work_there}
+use Rattle.arj_law_runs.proofs.calls.CoordSends.{AllQuiet, AllSo, asks_work, goes_so, machine_so, moved_so, quiet_both, quiet_ends}
+use Rattle.arj_law_runs.proofs.calls.CoordSends.{quiet_flat, quiet_gaveup, quiet_says, quiet_so, quiet_tells, quiet_tolds, so_both}
+use Rattle.arj_law_runs.proofs.calls.CoordSends.{step_call_so, step_so}
 
-asks_path : (acts_begun : List Action) (paths : Paths) (tree : IsTree paths) (p : Plan) (s : CommitStep) → IsStepOf acts_begun paths tree p s → (m : Machine) → s ≡ Asks m → (plan_of m).path ≡ p.path
+asks_path : (acts_begun : List Action) (paths : Paths) (tree : IsTree paths) (p : Plan) (s : CommitStep) →
+    IsStepOf acts_begun paths tree p s → (m : Machine) → s ≡ Asks m → (plan_of m).path ≡ p.path
 asks_path acts_begun paths tree p (Asks z) same m is = let e : z ≡ m = asks_is is in ap (λ (y : Machine). (plan_of y).path) (sym e) ∙ same.0
   where
     asks_is : {a b : Machine} → Asks a ≡ Asks b → a ≡ b
@@ -44,7 +40,8 @@ asks_path acts_begun paths tree p (Aborts why z) same m is = absurd (cc is)
 pub quiet_query : (from : ℕ) (u : Uid) (intents : List (Uid × Intent)) (c : Coord) → AllQuiet (answer_query from u intents c)
 quiet_query from u intents c = by (is_open u c.tree || is_deferred u intents from)
   where
-    decided : (b : Bool) → AllQuiet (cond b (tell (root_or_self u (branch_of u c.tree)) false ((u, ending.Commit) ∷ []) from ∷ []) (tell (root_or_self u (branch_of u c.tree)) false ((u, ending.Abort) ∷ []) from ∷ []))
+    decided : (b : Bool) → AllQuiet (cond b (tell (root_or_self u (branch_of u c.tree)) false ((u, ending.Commit) ∷ []) from ∷ [])
+        (tell (root_or_self u (branch_of u c.tree)) false ((u, ending.Abort) ∷ []) from ∷ []))
     decided true = (refl, tt)
     decided false = (refl, tt)
 
@@ -70,7 +67,8 @@ quiet_acked from u intents c = by (at_uid u c.telling)
     gone None = tt
     gone (Some i) = one _
       where
-        one : (b : Bool) → AllQuiet (cond b (tell_all i.root false ((i.root, ending.Abort) ∷ []) (let_go i.root (without_uid u intents) c i.nodes)) [])
+        one : (b : Bool) →
+            AllQuiet (cond b (tell_all i.root false ((i.root, ending.Abort) ∷ []) (let_go i.root (without_uid u intents) c i.nodes)) [])
         one true = quiet_tells i.root false ((i.root, ending.Abort) ∷ []) (let_go i.root (without_uid u intents) c i.nodes)
         one false = tt
 
@@ -82,15 +80,18 @@ quiet_acked from u intents c = by (at_uid u c.telling)
     by None = tt
     by (Some i) = one (has i.nodes from)
       where
-        one : (b : Bool) → AllQuiet (cond {A = Served Coord (Unit {0})} b (acked_left u i intents c (without_number from i.nodes)) (record { part = c; outs = []; reply = None })).outs
+        one : (b : Bool) → AllQuiet (cond {A = Served Coord (Unit {0})} b (acked_left u i intents c (without_number from i.nodes))
+            (record { part = c; outs = []; reply = None })).outs
         one true = left i (without_number from i.nodes)
         one false = tt
 
-pub acked_so : (from : ℕ) (u : Uid) (intents : List (Uid × Intent)) (c : Coord) → AllSo (acked from u intents c).part (acked from u intents c).outs
+pub acked_so : (from : ℕ) (u : Uid) (intents : List (Uid × Intent)) (c : Coord) →
+    AllSo (acked from u intents c).part (acked from u intents c).outs
 acked_so from u intents c = quiet_so (acked from u intents c).part (acked from u intents c).outs (quiet_acked from u intents c)
 
 pub quiet_again : (telling : List (Uid × Intent)) → AllQuiet (tolds_again telling)
-quiet_again telling = quiet_flat (λ (z : Uid × Intent). tell_all z.1.root true ((z.0, ending.Commit) ∷ []) z.1.nodes) telling (λ z. quiet_tells (let i = z.1 in i.root) true ((z.0, ending.Commit) ∷ []) (let i = z.1 in i.nodes))
+quiet_again telling = quiet_flat (λ (z : Uid × Intent). tell_all z.1.root true ((z.0, ending.Commit) ∷ []) z.1.nodes) telling
+    (λ z. quiet_tells (let i = z.1 in i.root) true ((z.0, ending.Commit) ∷ []) (let i = z.1 in i.nodes))
 
 pub tolds_so : (e : Coord) (telling : List (Uid × Intent)) → AllSo e (tolds_again telling)
 tolds_so e telling = quiet_so e (tolds_again telling) (quiet_again telling)
@@ -99,35 +100,46 @@ tolds_so e telling = quiet_so e (tolds_again telling) (quiet_again telling)
 
 pub quiet_all : (us : List Uid) (c : Coord) → AllQuiet (all_aborted us c).outs
 quiet_all [] c = tt
-quiet_all (u ∷ us) c = quiet_both (says u (λ l. body.Aborted l cause.Asked) c) (all_aborted us (ended u ending.Abort c)).outs (quiet_says u (λ l. body.Aborted l cause.Asked) c) (quiet_all us (ended u ending.Abort c))
+quiet_all (u ∷ us) c = quiet_both (says u (λ l. body.Aborted l cause.Asked) c) (all_aborted us (ended u ending.Abort c)).outs
+    (quiet_says u (λ l. body.Aborted l cause.Asked) c) (quiet_all us (ended u ending.Abort c))
 
-module _ (acts_begun : List Action) (paths : Paths) (tree : IsTree paths) (c : Coord) (good : IsGoodCoord acts_begun paths c) (numbered : AreNumbered c) (works : length c.doings ≡ length c.tree.branches) where
-  asks_who : (u : Uid) (p : Plan) (step : CommitStep) → actor p.path ≡ u → IsStepOf acts_begun paths tree p step → (m : Machine) → step ≡ Asks m → actor (plan_of m).path ≡ u
+module _ (acts_begun : List Action) (paths : Paths) (tree : IsTree paths) (c : Coord) (good : IsGoodCoord acts_begun paths c)
+    (numbered : AreNumbered c) (works : length c.doings ≡ length c.tree.branches) where
+  asks_who : (u : Uid) (p : Plan) (step : CommitStep) → actor p.path ≡ u → IsStepOf acts_begun paths tree p step → (m : Machine) →
+      step ≡ Asks m → actor (plan_of m).path ≡ u
   asks_who u p step who same m is = ap actor (asks_path acts_begun paths tree p step same m is) ∙ who
 
   voting : (u : Uid) (d : Doing) (m : Machine) → doing_of u c ≡ Some d → d.now ≡ Committing m → actor (plan_of m).path ≡ u
-  voting u d m found now = let v : IsVoting c.tree u (plan_of m) = subst (IsBusy c.tree u) now (good.busy u d found) in actor_is acts_begun paths tree u (plan_of m).path c good v.asking
+  voting u d m found now = let v : IsVoting c.tree u (plan_of m) = subst (IsBusy c.tree u) now (good.busy u d found) in
+      actor_is acts_begun paths tree u (plan_of m).path c good v.asking
 
   calling : (u : Uid) (d : Doing) (s : Steps) → doing_of u c ≡ Some d → d.now ≡ Calling s → actor s.path ≡ u
-  calling u d s found now = let v : IsAsking c.tree u s.path = subst (IsBusy c.tree u) now (good.busy u d found) in actor_is acts_begun paths tree u s.path c good v
+  calling u d s found now = let v : IsAsking c.tree u s.path = subst (IsBusy c.tree u) now (good.busy u d found) in
+      actor_is acts_begun paths tree u s.path c good v
 
-  pub heard_so : (from : ℕ) (a : Asked) (r : Reply) (intents : List (Uid × Intent)) → AllSo (heard from a r intents c).part (heard from a r intents c).outs
+  pub heard_so : (from : ℕ) (a : Asked) (r : Reply) (intents : List (Uid × Intent)) →
+      AllSo (heard from a r intents c).part (heard from a r intents c).outs
   heard_so from a r intents = by (doing_of a.act c) refl
     where
-      by_now : (d : Doing) → doing_of a.act c ≡ Some d → (n : Now) → d.now ≡ n → AllSo (heard_now from a r intents c n).part (heard_now from a r intents c n).outs
+      by_now : (d : Doing) → doing_of a.act c ≡ Some d → (n : Now) → d.now ≡ n →
+          AllSo (heard_now from a r intents c n).part (heard_now from a r intents c n).outs
       by_now d found Idle at = tt
       by_now d found (Calling s) at = one (waits_for_call from a r s)
         where
           m : Moved
           m = answered (is_free (root_of s.path) (actor s.path) s.x c) (kept_at s c) s.goal s.at r
 
-          one : (w : Bool) → let z = cond {A = Served Coord (Unit {0})} w (heard_by (heard_call s r c)) (heard_none c) in AllSo z.part z.outs
-          one true = step_call_so s m.step (on_root (root_of s.path) (root_moved s r m) c) d (ap (λ z. doing_of z c) (calling a.act d s found at) ∙ found)
+          one : (w : Bool) → let z = cond {A = Served Coord (Unit {0})} w (heard_by (heard_call s r c)) (heard_none c) in
+              AllSo z.part z.outs
+          one true = step_call_so s m.step (on_root (root_of s.path) (root_moved s r m) c) d
+              (ap (λ z. doing_of z c) (calling a.act d s found at) ∙ found)
           one false = tt
       by_now d found (Committing n) at = one (waits_for_commit from a r n)
         where
-          one : (w : Bool) → let z = cond {A = Served Coord (Unit {0})} w (heard_by (moved_commit a.act (commit.answered from n r) intents c)) (heard_none c) in AllSo z.part z.outs
-          one true = moved_so a.act (commit.answered from n r) intents c d found (asks_who a.act (plan_of n) (commit.answered from n r).step (voting a.act d n found at) (answer_step acts_begun paths tree from n r))
+          one : (w : Bool) → let z = cond {A = Served Coord (Unit {0})} w
+              (heard_by (moved_commit a.act (commit.answered from n r) intents c)) (heard_none c) in AllSo z.part z.outs
+          one true = moved_so a.act (commit.answered from n r) intents c d found (asks_who a.act (plan_of n) (commit.answered from n r).step
+              (voting a.act d n found at) (answer_step acts_begun paths tree from n r))
           one false = tt
 
       by : (o : Option Doing) → doing_of a.act c ≡ o → AllSo (heard_doing from a r intents c o).part (heard_doing from a r intents c o).outs
@@ -137,24 +149,31 @@ module _ (acts_begun : List Action) (paths : Paths) (tree : IsTree paths) (c : C
   give_up_so : (u : Uid) (intents : List (Uid × Intent)) → AllSo (give_up u intents c).part (give_up u intents c).outs
   give_up_so u intents = by (doing_of u c) refl
     where
-      by_now : (d : Doing) → doing_of u c ≡ Some d → (n : Now) → d.now ≡ n → AllSo (gives_up u intents c n).part (gives_up u intents c n).outs
+      by_now : (d : Doing) → doing_of u c ≡ Some d → (n : Now) → d.now ≡ n →
+          AllSo (gives_up u intents c n).part (gives_up u intents c n).outs
       by_now d found Idle at = tt
       by_now d found (Calling s) at =
           let t = step_call s (given_up s.at) (on_root (root_of s.path) (root_lost s (given_up s.at)) c) in
-          so_both t.part (gaveup_lines u (next_node s ∷ []) c) t.outs (quiet_so t.part (gaveup_lines u (next_node s ∷ []) c) (quiet_gaveup u (next_node s ∷ []) c)) (step_call_so s (given_up s.at) (on_root (root_of s.path) (root_lost s (given_up s.at)) c) d (ap (λ z. doing_of z c) (calling u d s found at) ∙ found))
+          so_both t.part (gaveup_lines u (next_node s ∷ []) c) t.outs
+          (quiet_so t.part (gaveup_lines u (next_node s ∷ []) c) (quiet_gaveup u (next_node s ∷ []) c)) (step_call_so s (given_up s.at)
+          (on_root (root_of s.path) (root_lost s (given_up s.at)) c) d (ap (λ z. doing_of z c) (calling u d s found at) ∙ found))
       by_now d found (Committing n) at =
           let t = moved_commit u (commit.given_up n) intents c in
-          so_both t.part (gaveup_lines u (nodes_given_up n) c) t.outs (quiet_so t.part (gaveup_lines u (nodes_given_up n) c) (quiet_gaveup u (nodes_given_up n) c)) (moved_so u (commit.given_up n) intents c d found (asks_who u (plan_of n) (commit.given_up n).step (voting u d n found at) (giveup_step acts_begun paths tree n)))
+          so_both t.part (gaveup_lines u (nodes_given_up n) c) t.outs (quiet_so t.part (gaveup_lines u (nodes_given_up n) c)
+          (quiet_gaveup u (nodes_given_up n) c)) (moved_so u (commit.given_up n) intents c d found
+          (asks_who u (plan_of n) (commit.given_up n).step (voting u d n found at) (giveup_step acts_begun paths tree n)))
 
       by : (o : Option Doing) → doing_of u c ≡ o → AllSo (give_up_doing u intents c o).part (give_up_doing u intents c o).outs
       by None none = tt
       by (Some d) found = by_now d found d.now refl
 
-  commit_so : (b : Branch) (intents : List (Uid × Intent)) (d : Doing) → doing_of (actor b.path) c ≡ Some d → AllSo (commit_action b intents c).part (commit_action b intents c).outs
+  commit_so : (b : Branch) (intents : List (Uid × Intent)) (d : Doing) → doing_of (actor b.path) c ≡ Some d →
+      AllSo (commit_action b intents c).part (commit_action b intents c).outs
   commit_so b intents d found = by b.doomed
     where
       ends : (e : End) (f : _) → AllSo (ends_with (actor b.path) e f intents c).part (ends_with (actor b.path) e f intents c).outs
-      ends e f = quiet_so (ends_with (actor b.path) e f intents c).part (ends_with (actor b.path) e f intents c).outs (quiet_ends (actor b.path) e f intents c)
+      ends e f = quiet_so (ends_with (actor b.path) e f intents c).part (ends_with (actor b.path) e f intents c).outs
+          (quiet_ends (actor b.path) e f intents c)
 
       plan : Plan
       plan = plan_for b.path (last_req (doing_of (actor b.path) c)) (root_at (root_of b.path) c) c
@@ -162,7 +181,9 @@ module _ (acts_begun : List Action) (paths : Paths) (tree : IsTree paths) (c : C
       top : AllSo (commit_top b.path intents c).part (commit_top b.path intents c).outs
       top =
           let t = moved_commit (actor b.path) (commit.start plan) intents c in
-          so_both t.part (says (actor b.path) body.Committing c) t.outs (quiet_so t.part (says (actor b.path) body.Committing c) (quiet_says (actor b.path) body.Committing c)) (moved_so (actor b.path) (commit.start plan) intents c d found (asks_who (actor b.path) plan (commit.start plan).step refl (vote_step acts_begun paths tree (servers_of plan) plan plan (refl, refl))))
+          so_both t.part (says (actor b.path) body.Committing c) t.outs (quiet_so t.part (says (actor b.path) body.Committing c)
+          (quiet_says (actor b.path) body.Committing c)) (moved_so (actor b.path) (commit.start plan) intents c d found (asks_who
+          (actor b.path) plan (commit.start plan).step refl (vote_step acts_begun paths tree (servers_of plan) plan plan (refl, refl))))
 
       kinds : (k : Kind) → AllSo (commit_open b intents c k).part (commit_open b intents c k).outs
       kinds kind.Nested = ends ending.Commit body.Committed
@@ -171,11 +192,13 @@ module _ (acts_begun : List Action) (paths : Paths) (tree : IsTree paths) (c : C
       kinds kind.Independent = top
       kinds kind.Constituent = top
 
-      by : (w : Bool) → let z = cond {A = Did Coord} w (aborts_with (actor b.path) cause.Doomed intents c) (commit_open b intents c b.kind) in AllSo z.part z.outs
+      by : (w : Bool) → let z = cond {A = Did Coord} w (aborts_with (actor b.path) cause.Doomed intents c)
+          (commit_open b intents c b.kind) in AllSo z.part z.outs
       by true = ends ending.Abort (λ l. body.Aborted l cause.Doomed)
       by false = kinds b.kind
 
-  pub acts_so : (i : Input) (intents : List (Uid × Intent)) → ((l : Label) (k : Kind) (parent : Option Label) → i ≢ input.Begin l k parent) → AllSo (acts i intents c).part (acts i intents c).outs
+  pub acts_so : (i : Input) (intents : List (Uid × Intent)) →
+      ((l : Label) (k : Kind) (parent : Option Label) → i ≢ input.Begin l k parent) → AllSo (acts i intents c).part (acts i intents c).outs
   acts_so (input.Begin l k parent) intents other = absurd (other l k parent refl)
   acts_so (input.Call l x o) intents other = by (branch_named l c) refl
     where
@@ -185,19 +208,22 @@ module _ (acts_begun : List Action) (paths : Paths) (tree : IsTree paths) (c : C
           let d = work_there c works (actor b.path) b (named_found acts_begun paths tree intents c good l b is) in
           let old = keeping_of x (root_at (root_of b.path) c) in
           let k = renewed (is_free (root_of b.path) (actor b.path) x c) old old.kept in
-          goes_so (call_steps b.path x o (next_req (actor b.path) c) (root_at (root_of b.path) c) c k) (on_root (root_of b.path) (with_keeping x k) (record c { tree = uses_object b.path x c.tree })) d.0 d.1
+          goes_so (call_steps b.path x o (next_req (actor b.path) c) (root_at (root_of b.path) c) c k)
+          (on_root (root_of b.path) (with_keeping x k) (record c { tree = uses_object b.path x c.tree })) d.0 d.1
   acts_so (input.Include l x s) intents other = by (branch_named l c) refl
     where
       by : (f : Option Branch) → branch_named l c ≡ f → let z = on_branch (λ b. include b.path x s c) c f in AllSo z.part z.outs
       by None is = tt
       by (Some b) is =
           let d = work_there c works (actor b.path) b (named_found acts_begun paths tree intents c good l b is) in
-          goes_so (start b.path x (calls.Include s) None unbound (next_req (actor b.path) c)) (record c { tree = uses_object b.path x c.tree }) d.0 d.1
+          goes_so (start b.path x (calls.Include s) None unbound (next_req (actor b.path) c))
+          (record c { tree = uses_object b.path x c.tree }) d.0 d.1
   acts_so (input.Commit l) intents other = by (branch_named l c) refl
     where
       by : (f : Option Branch) → branch_named l c ≡ f → let z = on_branch (λ b. commit_action b intents c) c f in AllSo z.part z.outs
       by None is = tt
-      by (Some b) is = let d = work_there c works (actor b.path) b (named_found acts_begun paths tree intents c good l b is) in commit_so b intents d.0 d.1
+      by (Some b) is = let d = work_there c works (actor b.path) b (named_found acts_begun paths tree intents c good l b is) in
+          commit_so b intents d.0 d.1
   acts_so (input.Abort l) intents other = by (branch_named l c)
     where
       by : (f : Option Branch) → let z = on_branch (λ b. abort_action (actor b.path) intents c) c f in AllSo z.part z.outs
@@ -205,7 +231,8 @@ module _ (acts_begun : List Action) (paths : Paths) (tree : IsTree paths) (c : C
       by (Some b) =
           let us = open_below (actor b.path) c.tree ++ actor b.path ∷ [] in
           let t = all_aborted us c in
-          quiet_so t.part (t.outs ++ flat_map (tolds_of intents t.part) us) (quiet_both t.outs (flat_map (tolds_of intents t.part) us) (quiet_all us c) (quiet_flat (tolds_of intents t.part) us (quiet_tolds intents t.part)))
+          quiet_so t.part (t.outs ++ flat_map (tolds_of intents t.part) us) (quiet_both t.outs (flat_map (tolds_of intents t.part) us)
+          (quiet_all us c) (quiet_flat (tolds_of intents t.part) us (quiet_tolds intents t.part)))
   acts_so (input.GiveUp l) intents other = by (branch_named l c)
     where
       by : (f : Option Branch) → let z = on_branch (λ b. give_up (actor b.path) intents c) c f in AllSo z.part z.outs
@@ -241,9 +268,11 @@ module _ (acts_begun : List Action) (paths : Paths) (tree : IsTree paths) (c : C
   again_all_tree [] e = refl
   again_all_tree (d ∷ ds) e = again_all_tree ds (again_now e d.now).part ∙ again_tree e d.now
 
-  again_from : (ds : List Doing) (e last : Coord) → e.tree ≡ last.tree → ((u : Uid) → doing_of u last ≡ doing_of u c) → ((d : Doing) → list.In d ds → (u : Uid) × (doing_of u c ≡ Some d)) → AllSo last (again_all ds e).outs
+  again_from : (ds : List Doing) (e last : Coord) → e.tree ≡ last.tree → ((u : Uid) → doing_of u last ≡ doing_of u c) →
+      ((d : Doing) → list.In d ds → (u : Uid) × (doing_of u c ≡ Some d)) → AllSo last (again_all ds e).outs
   again_from [] e last tree_is same there = tt
-  again_from (d ∷ ds) e last tree_is same there = so_both last (again_now e d.now).outs (again_all ds (again_now e d.now).part).outs (now d.now refl) (again_from ds (again_now e d.now).part last (again_tree e d.now ∙ tree_is) same (λ q i. there q (inr i)))
+  again_from (d ∷ ds) e last tree_is same there = so_both last (again_now e d.now).outs (again_all ds (again_now e d.now).part).outs
+      (now d.now refl) (again_from ds (again_now e d.now).part last (again_tree e d.now ∙ tree_is) same (λ q i. there q (inr i)))
     where
       u : Uid
       u = (there d (inl refl)).0
@@ -253,14 +282,23 @@ module _ (acts_begun : List Action) (paths : Paths) (tree : IsTree paths) (c : C
 
       now : (n : Now) → d.now ≡ n → AllSo last (again_now e n).outs
       now Idle is = tt
-      now (Calling s) is = (step_so last s (ends_of (root_of s.path) e.tree) (ap (ends_of (root_of s.path)) tree_is) d (same (actor s.path) ∙ ap (λ z. doing_of z c) (calling u d s found is) ∙ found) (sym (subst (IsNumbered d.req) is (numbered u d found))) is, tt)
-      now (Committing m) is = machine_so last m (commit.left_of m) d (same (actor (plan_of m).path) ∙ ap (λ z. doing_of z c) (voting u d m found is) ∙ found) (sym (subst (IsNumbered d.req) is (numbered u d found)).0) is e
+      now (Calling s) is = (
+        step_so last s (ends_of (root_of s.path) e.tree) (ap (ends_of (root_of s.path)) tree_is) d (same (actor s.path)
+            ∙ ap (λ z. doing_of z c) (calling u d s found is) ∙ found) (sym (subst (IsNumbered d.req) is (numbered u d found))) is,
+        tt,
+      )
+      now (Committing m) is = machine_so last m (commit.left_of m) d (same (actor (plan_of m).path)
+          ∙ ap (λ z. doing_of z c) (voting u d m found is) ∙ found) (sym (subst (IsNumbered d.req) is (numbered u d found)).0) is e
 
   pub again_so : AllSo (again_all c.doings c).part (again_all c.doings c).outs
-  again_so = again_from c.doings c (again_all c.doings c).part (sym (again_all_tree c.doings c)) (again_work c.doings c) (λ d i. by d (placed d c.doings i))
+  again_so = again_from c.doings c (again_all c.doings c).part (sym (again_all_tree c.doings c)) (again_work c.doings c)
+      (λ d i. by d (placed d c.doings i))
     where
       same : (n : ℕ) → (n == n) ≡ true
       same n = grind arith
 
       by : (d : Doing) → (k : ℕ) × (at_place k c.doings ≡ Some d) → (u : Uid) × (doing_of u c ≡ Some d)
-      by d p = (record { node = c.tree.node; inc = c.tree.inc; num = p.0 }, (λ i. cond (same c.tree.node i && same c.tree.inc i) (at_place p.0 c.doings) None) ∙ p.1)
+      by d p = (
+        record { node = c.tree.node; inc = c.tree.inc; num = p.0 },
+        (λ i. cond (same c.tree.node i && same c.tree.inc i) (at_place p.0 c.doings) None) ∙ p.1,
+      )

@@ -1,16 +1,15 @@
 -- Which actions of a tree can only abort, and what has ended below an action.
-use Rattle.std.proofs.Common.{◌≡◌, ◌≢◌, ◌⊎◌, ◌≤◌, ℕ, zero, suc, List, [], ◌∷◌, ◌++◌, Bool, true, false, cond, ◌||◌, Option, Some, None, refl, sym, ◌∙◌, ap, subst, inl, inr, ⊎_elim, arith, length}
-use Rattle.std.specs.Prelude.{is_some}
-use Rattle.arj_base.proofs.Uids.{uid_cases, uid_is, uid_same}
-use Rattle.arj_base.specs.Path.{before_last}
-use Rattle.arj_protocol.specs.Words.{Uid, End, Kind, Path, first_uid, front, is_on, last_uid, uid_eq}
-use Rattle.arj_protocol.specs.Words.ending
-use Rattle.arj_protocol.specs.Tree.{Branch, Tree, at_place, begun_by, behind, branch_of, doomed_at, doomed_branch, ended_at, ended_branch, has_open_child, is_own, set_place}
-use Rattle.arj_protocol.proofs.Maps.{place_other}
-use Rattle.arj_law_parts.specs.parts.Copies.{IsTree, Paths}
-use Rattle.arj_law_parts.specs.parts.Trees.{HasLists, IsClosed}
-use Rattle.arj_law_parts.proofs.parts.GoodTrees.{above_of, after, all_over, at_others, at_u, ended_b, found_by, grown_cases, grown_still, own_is, place_same, shorter}
-use Rattle.arj_law_runs.specs.calls.Coords.{IsDoomed, IsFree}
+use Rattle.arj_law_parts.proofs.Words
+use Words.{◌≡◌, ◌≢◌, ◌⊎◌, ◌≤◌, ℕ, zero, suc, List, [], ◌∷◌, ◌++◌, Bool, true, false, cond, ◌||◌, Option, Some, None, refl, sym, ◌∙◌, ap}
+use Words.{subst, inl, inr, ⊎_elim, arith, length, is_some, uid_cases, uid_is, uid_same, before_last, Uid, End, Kind, Path, first_uid}
+use Words.{front, is_on, last_uid, uid_eq, Branch, Tree, at_place, begun_by, behind, branch_of, doomed_at, doomed_branch, ended_at}
+use Words.{ended_branch, has_open_child, is_own, set_place, place_other}
+use Words.ending
+use Rattle.arj_law_runs.proofs.Terms
+use Terms.{IsTree, Paths, HasLists, above_of, after, all_over, at_others, at_u, ended_b, found_by, grown_cases, grown_still, own_is}
+use Terms.{shorter, IsDoomed, IsFree}
+use Rattle.arj_law_parts.proofs.parts.GoodTrees.{place_same}
+use Rattle.arj_law_parts.specs.parts.Trees.{IsClosed}
 use Rattle.arj_law_runs.proofs.calls.ServerCalls.{never, some_is}
 
 -- From one tree to the next, who can only abort can so still, and nobody else but this action.
@@ -33,7 +32,15 @@ doom_doomed u t = by (branch_of u t) refl
   where
     by : (o : Option Branch) → branch_of u t ≡ o → KeepsDoom u t (doomed_branch u t o)
     by None none = doom_is u t t refl
-    by (Some b) found = record { doomed = λ w d. ⊎_elim (λ same. (new, ap (λ z. branch_of z v) same ∙ here, refl, λ is. d.3 (ap (λ (z : Branch). z.ended) (some_is (sym d.1 ∙ ap (λ z. branch_of z t) same ∙ found)) ∙ is))) (λ other. (d.0, there w other ∙ d.1, d.2, d.3)) (uid_cases w u); free = λ w other f q is. f q (sym (there w other) ∙ is) }
+    by (Some b) found = record {
+      doomed = λ w d. ⊎_elim (λ same. (
+        new,
+        ap (λ z. branch_of z v) same ∙ here,
+        refl,
+        λ is. d.3 (ap (λ (z : Branch). z.ended) (some_is (sym d.1 ∙ ap (λ z. branch_of z t) same ∙ found)) ∙ is),
+      )) (λ other. (d.0, there w other ∙ d.1, d.2, d.3)) (uid_cases w u);
+      free = λ w other f q is. f q (sym (there w other) ∙ is);
+    }
       where
         new : Branch
         new = record b { doomed = true }
@@ -41,18 +48,29 @@ doom_doomed u t = by (branch_of u t) refl
         v : Tree
         v = record t { branches = set_place u.num (record b { doomed = true }) t.branches }
 
-        here : branch_of u (record t { branches = set_place u.num (record b { doomed = true }) t.branches }) ≡ Some (record b { doomed = true })
-        here = let q = found_by u t b found in (λ i. cond (q.0 i) (at_place u.num (set_place u.num (record b { doomed = true }) t.branches)) None) ∙ place_same u.num (record b { doomed = true }) b t.branches q.1
+        here : branch_of u (record t { branches = set_place u.num (record b { doomed = true }) t.branches })
+            ≡ Some (record b { doomed = true })
+        here = let q = found_by u t b found in (λ i. cond (q.0 i) (at_place u.num (set_place u.num (record b { doomed = true }) t.branches))
+            None) ∙ place_same u.num (record b { doomed = true }) b t.branches q.1
 
-        there : (w : Uid) → w ≢ u → branch_of w (record t { branches = set_place u.num (record b { doomed = true }) t.branches }) ≡ branch_of w t
+        there : (w : Uid) → w ≢ u →
+            branch_of w (record t { branches = set_place u.num (record b { doomed = true }) t.branches }) ≡ branch_of w t
         there w other = one (is_own w t) refl
           where
-            one : (c : Bool) → is_own w t ≡ c → cond c (at_place w.num (set_place u.num (record b { doomed = true }) t.branches)) None ≡ cond c (at_place w.num t.branches) None
-            one true own = place_other u.num w.num (record b { doomed = true }) t.branches (λ same. other (own_is w u t own (found_by u t b found).0 same))
+            one : (c : Bool) → is_own w t ≡ c → cond c (at_place w.num (set_place u.num (record b { doomed = true }) t.branches)) None
+                ≡ cond c (at_place w.num t.branches) None
+            one true own = place_other u.num w.num (record b { doomed = true }) t.branches
+                (λ same. other (own_is w u t own (found_by u t b found).0 same))
             one false own = refl
 
 pub doomed_there : (u : Uid) (t : Tree) (b : Branch) → branch_of u t ≡ Some b → b.ended ≢ Some ending.Commit → IsDoomed (doomed_at u t) u
-doomed_there u t b found open_yet = subst (λ o. IsDoomed (doomed_branch u t o) u) (sym found) (record b { doomed = true }, (let q = found_by u t b found in (λ i. cond (q.0 i) (at_place u.num (set_place u.num (record b { doomed = true }) t.branches)) None) ∙ place_same u.num (record b { doomed = true }) b t.branches q.1), refl, open_yet)
+doomed_there u t b found open_yet = subst (λ o. IsDoomed (doomed_branch u t o) u) (sym found) (
+  record b { doomed = true },
+  (let q = found_by u t b found in (λ i. cond (q.0 i) (at_place u.num (set_place u.num (record b { doomed = true }) t.branches)) None)
+      ∙ place_same u.num (record b { doomed = true }) b t.branches q.1),
+  refl,
+  open_yet,
+)
 
 -- an end: an abort, or the commit of an action that isn't doomed
 pub doom_ended : (x u : Uid) (e : End) (t : Tree) → (e ≡ ending.Commit → IsFree t u) → KeepsDoom x t (ended_at u e t)
@@ -62,18 +80,27 @@ doom_ended x u e t free = by (branch_of u t) refl
     by None none = doom_is x t t refl
     by (Some b) found = record {
       doomed = λ w d. ⊎_elim (λ same. own w same d) (λ other. (d.0, at_others u e t b found w other ∙ d.1, d.2, d.3)) (uid_cases w u);
-      free = λ w other f q is. ⊎_elim (λ same. ap (λ (z : Branch). z.doomed) (some_is (sym is ∙ ap (λ z. branch_of z (after u e t b found)) same ∙ at_u u e t b found)) ∙ f b (ap (λ z. branch_of z t) same ∙ found)) (λ apart. f q (sym (at_others u e t b found w apart) ∙ is)) (uid_cases w u);
+      free = λ w other f q is. ⊎_elim
+          (λ same. ap (λ (z : Branch). z.doomed) (some_is (sym is ∙ ap (λ z. branch_of z (after u e t b found)) same ∙ at_u u e t b found))
+          ∙ f b (ap (λ z. branch_of z t) same ∙ found)) (λ apart. f q (sym (at_others u e t b found w apart) ∙ is)) (uid_cases w u);
     }
       where
         own : (w : Uid) → w ≡ u → IsDoomed t w → IsDoomed (after u e t b found) w
         own w same d =
             let its : d.0 ≡ b = some_is (sym d.1 ∙ ap (λ z. branch_of z t) same ∙ found) in
-            let on : b.doomed ≡ true = ap (λ (z : Branch). z.doomed) (sym its) ∙ d.2 in
-            (ended_b u e t b found, ap (λ z. branch_of z (after u e t b found)) same ∙ at_u u e t b found, on, λ is. never on (free (some_is is) b found))
+            let on : b.doomed ≡ true = ap (λ (z : Branch). z.doomed) (sym its) ∙ d.2 in (
+              ended_b u e t b found,
+              ap (λ z. branch_of z (after u e t b found)) same ∙ at_u u e t b found,
+              on,
+              λ is. never on (free (some_is is) b found),
+            )
 
 -- an action begins
 pub doom_begun : (x : Uid) (k : Kind) (p : Path) (t : Tree) → KeepsDoom x t (begun_by k p t)
-doom_begun x k p t = record { doomed = λ w d. (d.0, grown_still k p t w d.0 d.1, d.2, d.3); free = λ w other f b is. ⊎_elim (λ old. f b old) (λ new. ap (λ (z : Branch). z.doomed) (sym new.1)) (grown_cases k p t w b is) }
+doom_begun x k p t = record {
+  doomed = λ w d. (d.0, grown_still k p t w d.0 d.1, d.2, d.3);
+  free = λ w other f b is. ⊎_elim (λ old. f b old) (λ new. ap (λ (z : Branch). z.doomed) (sym new.1)) (grown_cases k p t w b is);
+}
 
 -- ---- below an action
 
@@ -81,7 +108,8 @@ behind_more : (u : Uid) (us : List Uid) (w : Uid) → is_on us u ≡ true → be
 behind_more u [] w on = let no_way : false ≡ true = on in cc
 behind_more u (v ∷ vs) w on = by (uid_eq v u) refl on (behind_more u vs w)
   where
-    by : (b : Bool) → uid_eq v u ≡ b → (b || is_on vs u) ≡ true → (is_on vs u ≡ true → behind u (vs ++ w ∷ []) ≡ behind u vs ++ w ∷ []) → cond b (vs ++ w ∷ []) (behind u (vs ++ w ∷ [])) ≡ cond b vs (behind u vs) ++ w ∷ []
+    by : (b : Bool) → uid_eq v u ≡ b → (b || is_on vs u) ≡ true → (is_on vs u ≡ true → behind u (vs ++ w ∷ []) ≡ behind u vs ++ w ∷ []) →
+        cond b (vs ++ w ∷ []) (behind u (vs ++ w ∷ [])) ≡ cond b vs (behind u vs) ++ w ∷ []
     by true same on ih = refl
     by false other on ih = ih on
 
@@ -90,7 +118,8 @@ behind_last : (u : Uid) (us : List Uid) → is_on us u ≡ false → behind u (u
 behind_last u [] off = λ i. cond (uid_same u i) [] []
 behind_last u (v ∷ vs) off = by (uid_eq v u) refl off (behind_last u vs)
   where
-    by : (b : Bool) → uid_eq v u ≡ b → (b || is_on vs u) ≡ false → (is_on vs u ≡ false → behind u (vs ++ u ∷ []) ≡ []) → cond b (vs ++ u ∷ []) (behind u (vs ++ u ∷ [])) ≡ []
+    by : (b : Bool) → uid_eq v u ≡ b → (b || is_on vs u) ≡ false → (is_on vs u ≡ false → behind u (vs ++ u ∷ []) ≡ []) →
+        cond b (vs ++ u ∷ []) (behind u (vs ++ u ∷ [])) ≡ []
     by true same off ih = let no_way : true ≡ false = off in cc
     by false other off ih = ih off
 
@@ -102,7 +131,8 @@ on_split [] w v on = one (uid_eq v w) refl on
     one false other h = let no_way : false ≡ true = h in cc
 on_split (x ∷ xs) w v on = one (uid_eq x w) refl on (on_split xs w v)
   where
-    one : (b : Bool) → uid_eq x w ≡ b → (b || is_on (xs ++ v ∷ []) w) ≡ true → (is_on (xs ++ v ∷ []) w ≡ true → (is_on xs w ≡ true) ⊎ (v ≡ w)) → ((b || is_on xs w) ≡ true) ⊎ (v ≡ w)
+    one : (b : Bool) → uid_eq x w ≡ b → (b || is_on (xs ++ v ∷ []) w) ≡ true →
+        (is_on (xs ++ v ∷ []) w ≡ true → (is_on xs w ≡ true) ⊎ (v ≡ w)) → ((b || is_on xs w) ≡ true) ⊎ (v ≡ w)
     one true same h ih = inl refl
     one false other h ih = ih h
 
@@ -124,10 +154,12 @@ on_some : (us : List Uid) (u : Uid) → is_on us u ≡ true → 1 ≤ length us
 on_some [] u on = let no_way : false ≡ true = on in cc
 on_some (x ∷ xs) u on = omega arith
 
-module _ (paths : Paths) (tree : IsTree paths) (t : Tree) (lists : HasLists paths t) (closed : IsClosed paths t) (u : Uid) (c : Branch) (there : branch_of u t ≡ Some c) where
+module _ (paths : Paths) (tree : IsTree paths) (t : Tree) (lists : HasLists paths t) (closed : IsClosed paths t) (u : Uid) (c : Branch)
+    (there : branch_of u t ≡ Some c) where
   -- what stands on its path behind an action in which nothing is open has ended, and is of its root
   pub record IsBelow (path : List Uid) : Type 0 where
-    pub over : has_open_child u t ≡ false → (w : Uid) → is_on (behind u path) w ≡ true → (b : Branch) × (branch_of w t ≡ Some b) × (is_some b.ended ≡ true)
+    pub over : has_open_child u t ≡ false → (w : Uid) → is_on (behind u path) w ≡ true →
+        (b : Branch) × (branch_of w t ≡ Some b) × (is_some b.ended ≡ true)
     pub root : first_uid path ≡ first_uid (paths u)
 
   pub nothing_behind : behind u (paths u) ≡ []
@@ -137,7 +169,8 @@ module _ (paths : Paths) (tree : IsTree paths) (t : Tree) (lists : HasLists path
       own = ap last_uid (sym (lists.paths_are u c there)) ∙ lists.places u c there
 
       by : (o : Option Uid) → before_last (paths u) ≡ o → behind u (paths u) ≡ []
-      by (Some h) is = let f = tree.heir u h is in ap (behind u) (split_last (paths u) is ∙ ap (λ z. front (paths u) ++ z ∷ []) own) ∙ behind_last u (front (paths u)) f.1
+      by (Some h) is = let f = tree.heir u h is in
+          ap (behind u) (split_last (paths u) is ∙ ap (λ z. front (paths u) ++ z ∷ []) own) ∙ behind_last u (front (paths u)) f.1
       by None is = by_length (paths u) is own
         where
           by_length : (us : List Uid) → before_last us ≡ None → last_uid us ≡ u → behind u us ≡ []
@@ -149,19 +182,30 @@ module _ (paths : Paths) (tree : IsTree paths) (t : Tree) (lists : HasLists path
               by_same false = refl
           by_length (x ∷ y ∷ us) none last = absurd (none_short x y us none)
 
-  pub is_below : (k : ℕ) (w : Uid) (b : Branch) → length (paths w) ≤ k → branch_of w t ≡ Some b → is_on (paths w) u ≡ true → IsBelow (paths w)
+  pub is_below : (k : ℕ) (w : Uid) (b : Branch) → length (paths w) ≤ k → branch_of w t ≡ Some b → is_on (paths w) u ≡ true →
+      IsBelow (paths w)
   is_below zero w b short found on = absurd (let z = on_some (paths w) u on in omega (arith, z, short))
   is_below (suc k) w b short found on = ⊎_elim
-      (λ same. record { over = λ none v on_it. let no_way : false ≡ true = sym (ap (λ us. is_on us v) (ap (λ z. behind u (paths z)) same ∙ nothing_behind)) ∙ on_it in cc; root = ap (λ z. first_uid (paths z)) same })
+      (λ same. record {
+        over = λ none v on_it. let no_way : false ≡ true = sym (ap (λ us. is_on us v) (ap (λ z. behind u (paths z)) same ∙ nothing_behind))
+            ∙ on_it in cc;
+        root = ap (λ z. first_uid (paths z)) same;
+      })
       (λ other. up other (λ h p. is_below k h p) (above_of paths tree t lists u w b found on other)) (uid_cases w u)
     where
-      up : w ≢ u → ((h : Uid) (p : Branch) → length (paths h) ≤ k → branch_of h t ≡ Some p → is_on (paths h) u ≡ true → IsBelow (paths h)) → (h : Uid) × (before_last (paths w) ≡ Some h) × (is_on (paths h) u ≡ true) × (front (paths w) ≡ paths h) → IsBelow (paths w)
+      up : w ≢ u → ((h : Uid) (p : Branch) → length (paths h) ≤ k → branch_of h t ≡ Some p → is_on (paths h) u ≡ true → IsBelow (paths h))
+          → (h : Uid) × (before_last (paths w) ≡ Some h) × (is_on (paths h) u ≡ true) × (front (paths w) ≡ paths h) → IsBelow (paths w)
       up other rest (h, parent, above, is) =
           let p = lists.parents w h b found parent in
           let ih = rest h p.0 (shorter paths tree t lists w h k parent is short) p.1 above in
           let own : last_uid (paths w) ≡ w = ap last_uid (sym (lists.paths_are w b found)) ∙ lists.places w b found in
           let whole : paths w ≡ paths h ++ w ∷ [] = split_last (paths w) parent ∙ (λ i. is i ++ own i ∷ []) in
           record {
-            over = λ none v on_it. ⊎_elim (λ low. ih.over none v low) (λ last. (b, ap (λ z. branch_of z t) (sym last) ∙ found, all_over paths tree t lists u closed none w b found (ap (λ us. is_on us u) (lists.paths_are w b found) ∙ on) other)) (on_split (behind u (paths h)) v w (sym (ap (λ us. is_on us v) (ap (behind u) whole ∙ behind_more u (paths h) w above)) ∙ on_it));
+            over = λ none v on_it. ⊎_elim (λ low. ih.over none v low) (λ last. (
+              b,
+              ap (λ z. branch_of z t) (sym last) ∙ found,
+              all_over paths tree t lists u closed none w b found (ap (λ us. is_on us u) (lists.paths_are w b found) ∙ on) other,
+            )) (on_split (behind u (paths h)) v w
+                (sym (ap (λ us. is_on us v) (ap (behind u) whole ∙ behind_more u (paths h) w above)) ∙ on_it));
             root = ap first_uid whole ∙ first_more (paths h) w (on_some (paths h) u above) ∙ ih.root;
           }

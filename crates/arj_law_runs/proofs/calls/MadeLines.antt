@@ -1,24 +1,16 @@
 -- Naming's count of bindings is no more than the journal's lines of new bindings, in each run.
-use Rattle.std.proofs.Common.{◌≡◌, ◌≤◌, ◌==◌, ◌+◌, ℕ, List, [], ◌∷◌, ◌++◌, Bool, true, false, cond, Option, Some, None, refl, sym, ◌∙◌, ap, subst, arith}
-use Rattle.arj_protocol.specs.Words.{Body, Header, Line, Message}
-use Rattle.arj_protocol.specs.Words.body
-use Rattle.arj_protocol.specs.Asking.{again_all, begin_action}
-use Rattle.arj_protocol.specs.Confirm.{recovered_naming}
-use Rattle.arj_protocol.specs.Effect.{Disk, Do, Effect, Say, Send, stopped, worked}
-use Rattle.arj_protocol.specs.Follow.{tick_outs}
-use Rattle.arj_protocol.specs.Naming.{Naming}
-use Rattle.arj_protocol.specs.Node.{Parts, Took, handle, with_coord}
-use Rattle.arj_protocol.specs.Step.{Node, acts, first_disk, naming_at, parent_of, parts_in, restart_outs}
-use Rattle.arj_protocol.specs.World.{is_serial_kind, numbered}
-use Rattle.arj_law_runs.proofs.kept.Starts.{first_at}
-use Rattle.arj_law_runs.proofs.kept.Walked.{other_number, same_number}
-use Rattle.arj_law_parts.specs.moves.Keeps.{Keeps}
-use Rattle.arj_law_parts.specs.moves.Seen.{at, down, given, posted, said, up}
-use Rattle.arj_promise.specs.Runs.{Seen}
-use Rattle.arj_law_parts.specs.moves.Walks.{Up, Walks, halted}
-use Rattle.arj_law_runs.specs.calls.Bindings.{AreSaid, IsSaidBy, bindings_made, bound_by}
-use Rattle.arj_law_runs.proofs.calls.LivedCounts.{GrowsBy, made_in, message_grows}
-use Rattle.arj_law_runs.proofs.calls.ServerCalls.{never, some_is}
+use Rattle.arj_law_parts.proofs.Words
+use Words.{◌≡◌, ◌≤◌, ◌==◌, ◌+◌, ℕ, List, [], ◌∷◌, ◌++◌, Bool, true, false, cond, Option, Some, None, refl, sym, ◌∙◌, ap, subst, arith, Body}
+use Words.{Header, Line, Message, again_all, begin_action, recovered_naming, Disk, Do, Effect, Say, Send, stopped, worked, tick_outs}
+use Words.{Naming, Parts, Took, handle, with_coord, Node, acts, first_disk, naming_at, parent_of, parts_in, restart_outs, is_serial_kind}
+use Words.{numbered, Seen}
+use Words.body
+use Rattle.arj_law_runs.proofs.Terms.{Keeps, at, down, given, posted, said, up, Up, Walks, halted, bindings_made, bound_by}
+use Rattle.arj_law_runs.proofs.calls
+use calls.LivedCounts.{GrowsBy, made_in, message_grows}
+use calls.ServerCalls.{never, some_is}
+use Rattle.arj_law_runs.proofs.kept.{Starts.first_at, Walked.other_number, Walked.same_number}
+use Rattle.arj_law_runs.specs.calls.Bindings.{AreSaid, IsSaidBy}
 
 none_is : {A : Type 0} {x : A} → None ≡ Some x → ⊥
 none_is {A} {x} is = let no_way : ◌≡◌ {A = Option A} None (Some x) = is in cc
@@ -49,54 +41,70 @@ at_most : (a b c : ℕ) → a ≤ b → b ≤ c → a ≤ c
 at_most a b c x y = omega (arith, x, y)
 
 more_lines : (e : ℕ) (bs : List Body) (M : Seen) → AreSaid M → AreSaid (said e bs M)
-more_lines e bs M s j n is t o up its = at_most o.count (bindings_made M.lines) (bindings_made (M.lines ++ numbered e bs)) (s j n is t o up its) (fewer M.lines (numbered e bs))
+more_lines e bs M s j n is t o up its =
+    at_most o.count (bindings_made M.lines) (bindings_made (M.lines ++ numbered e bs)) (s j n is t o up its) (fewer M.lines (numbered e bs))
 
 module _ (k : ℕ) where
   off_more : (e : ℕ) (bs : List Body) (M : Seen) → AreSaidOff k M → AreSaidOff k (said e bs M)
-  off_more e bs M s j n other is t o up its = at_most o.count (bindings_made M.lines) (bindings_made (M.lines ++ numbered e bs)) (s j n other is t o up its) (fewer M.lines (numbered e bs))
+  off_more e bs M s j n other is t o up its = at_most o.count (bindings_made M.lines) (bindings_made (M.lines ++ numbered e bs))
+      (s j n other is t o up its) (fewer M.lines (numbered e bs))
 
   whole : (d : Disk) (live : Option Parts) (M : Seen) → AreSaidOff k M → IsSaidBy M.lines live → AreSaid (at k d live M)
   whole d live M others own j n = by (j == k) refl
     where
-      by : (b : Bool) → (j == k) ≡ b → cond b (Some (record { number = k; disk = d; live = live })) (M.nodes j) ≡ Some n → IsSaidBy M.lines n.live
+      by : (b : Bool) → (j == k) ≡ b → cond b (Some (record { number = k; disk = d; live = live })) (M.nodes j) ≡ Some n →
+          IsSaidBy M.lines n.live
       by true at_k is = subst (λ (z : Node). IsSaidBy M.lines z.live) (some_is is) own
       by false off is = others j n (λ same. never (ap (λ z. z == k) same ∙ same_number k) off) is
 
   others_of : (d : Disk) (live : Option Parts) (M : Seen) → AreSaid (at k d live M) → AreSaidOff k M
-  others_of d live M s j n other is = s j n ((λ i. cond (other_number j k other i) (Some (record { number = k; disk = d; live = live })) (M.nodes j)) ∙ is)
+  others_of d live M s j n other is =
+      s j n ((λ i. cond (other_number j k other i) (Some (record { number = k; disk = d; live = live })) (M.nodes j)) ∙ is)
 
   own_of : (d : Disk) (live : Option Parts) (M : Seen) → AreSaid (at k d live M) → IsSaidBy M.lines live
-  own_of d live M s = s k (record { number = k; disk = d; live = live }) (λ i. cond (same_number k i) (Some (record { number = k; disk = d; live = live })) (M.nodes k))
+  own_of d live M s = s k (record { number = k; disk = d; live = live })
+      (λ i. cond (same_number k i) (Some (record { number = k; disk = d; live = live })) (M.nodes k))
 
   stops : (e : ℕ) (d : Disk) (M : Seen) → AreSaidOff k M → AreSaid (halted e k d M)
   stops e d M others = more_lines e (body.Halted k ∷ []) (down k d M) (whole d None M others (λ t o up its. absurd (none_is up)))
 
   -- with what the effects say from here on
-  said_walk : (e : ℕ) (v : Parts) (es : List Effect) (d : Disk) (M : Seen) → AreSaidOff k M → ((o : Naming) → v.naming ≡ Some o → o.count ≤ bindings_made M.lines + made_in es) → Walks AreSaid e k es (Up AreSaid k v) d M
-  said_walk e v [] d M others own = whole d (Some v) M others (λ t o up its. none_more o.count (bindings_made M.lines) (own o (ap (λ (z : Parts). z.naming) (some_is up) ∙ its)))
+  said_walk : (e : ℕ) (v : Parts) (es : List Effect) (d : Disk) (M : Seen) → AreSaidOff k M →
+      ((o : Naming) → v.naming ≡ Some o → o.count ≤ bindings_made M.lines + made_in es) → Walks AreSaid e k es (Up AreSaid k v) d M
+  said_walk e v [] d M others own = whole d (Some v) M others
+      (λ t o up its. none_more o.count (bindings_made M.lines) (own o (ap (λ (z : Parts). z.naming) (some_is up) ∙ its)))
     where
       none_more : (a b : ℕ) → a ≤ b + 0 → a ≤ b
       none_more a b le = omega (arith, le)
   said_walk e v (Do w ∷ es) d M others own = (λ how. stops e (stopped how w d) M others, said_walk e v es (worked w d) M others own)
-  said_walk e v (Say b ∷ es) d M others own = said_walk e v es d (said e (b ∷ []) M) (off_more e (b ∷ []) M others) (λ o its. moved o.count (bindings_made M.lines) (bound_by b) (made_in es) (bindings_made (M.lines ++ numbered e (b ∷ []))) (own o its) (lines_both M.lines (numbered e (b ∷ []))))
+  said_walk e v (Say b ∷ es) d M others own =
+      said_walk e v es d (said e (b ∷ []) M) (off_more e (b ∷ []) M others) (λ o its. moved o.count (bindings_made M.lines) (bound_by b)
+      (made_in es) (bindings_made (M.lines ++ numbered e (b ∷ []))) (own o its) (lines_both M.lines (numbered e (b ∷ []))))
     where
       moved : (a l b m n : ℕ) → a ≤ l + (b + m) → n ≡ l + (b + 0) → a ≤ n + m
       moved a l b m n le is = omega (arith, le, is)
   said_walk e v (Send to m ∷ es) d M others own = λ more quiet.
-      said_walk e v es d (said e more (posted (record { from = k; to = to; message = m }) M)) (off_more e more M others) (λ o its. later o.count (bindings_made M.lines) (bindings_made (M.lines ++ numbered e more)) (made_in es) (own o its) (fewer M.lines (numbered e more)))
+      said_walk e v es d (said e more (posted (record { from = k; to = to; message = m }) M)) (off_more e more M others)
+      (λ o its. later o.count (bindings_made M.lines) (bindings_made (M.lines ++ numbered e more)) (made_in es) (own o its)
+      (fewer M.lines (numbered e more)))
     where
       later : (a b c m : ℕ) → a ≤ b + m → b ≤ c → a ≤ c + m
       later a b c m le less = omega (arith, le, less)
 
   -- with the naming part that it had
-  same_walk : (e : ℕ) (t v : Parts) (es : List Effect) (d c : Disk) (M : Seen) → v.naming ≡ t.naming → AreSaid (up k c t M) → Walks AreSaid e k es (Up AreSaid k v) d M
-  same_walk e t v es d c M same s = said_walk e v es d M (others_of c (Some t) M s) (λ o its. added o.count (bindings_made M.lines) (made_in es) (own_of c (Some t) M s t o refl (sym same ∙ its)))
+  same_walk : (e : ℕ) (t v : Parts) (es : List Effect) (d c : Disk) (M : Seen) → v.naming ≡ t.naming → AreSaid (up k c t M) →
+      Walks AreSaid e k es (Up AreSaid k v) d M
+  same_walk e t v es d c M same s = said_walk e v es d M (others_of c (Some t) M s)
+      (λ o its. added o.count (bindings_made M.lines) (made_in es) (own_of c (Some t) M s t o refl (sym same ∙ its)))
     where
       added : (a b m : ℕ) → a ≤ b → a ≤ b + m
       added a b m le = omega (arith, le)
 
-  message_said : (e : ℕ) (d : Disk) (t v : Parts) (from : ℕ) (m : Message) (outs : List Effect) (M : Seen) → AreSaid (up k d t M) → handle k d t from m ≡ Took v outs → Walks AreSaid e k outs (Up AreSaid k v) d M
-  message_said e d t v from m outs M s is = said_walk e v outs d M (others_of d (Some t) M s) (λ p its. let g = (subst (GrowsBy k d t from) is (message_grows k d t from m)).1 p its in counted p.count (let o = g.0 in o.count) (made_in outs) (bindings_made M.lines) g.3 (own_of d (Some t) M s t g.0 refl g.1))
+  message_said : (e : ℕ) (d : Disk) (t v : Parts) (from : ℕ) (m : Message) (outs : List Effect) (M : Seen) → AreSaid (up k d t M) →
+      handle k d t from m ≡ Took v outs → Walks AreSaid e k outs (Up AreSaid k v) d M
+  message_said e d t v from m outs M s is = said_walk e v outs d M (others_of d (Some t) M s)
+      (λ p its. let g = (subst (GrowsBy k d t from) is (message_grows k d t from m)).1 p its in
+      counted p.count (let o = g.0 in o.count) (made_in outs) (bindings_made M.lines) g.3 (own_of d (Some t) M s t g.0 refl g.1))
     where
       counted : (p o m l : ℕ) → p ≤ o + m → o ≤ l → p ≤ l + m
       counted p o m l x y = omega (arith, x, y)
@@ -117,8 +125,12 @@ counts_are_said hd = record {
   stop = λ e k d live M s. stops k e d M (others_of k d live M s);
   message = λ e k d t v from m outs M s there meant is. message_said k e d t v from m outs M s is;
   act = λ e k d t i M is none s. let did = acts i d.intents t.coord in same_walk k e t (with_coord t did.part) did.outs d d M refl s;
-  begin = λ e k d t l how parent M new may none s. let did = begin_action l how parent (parent_of parent t.coord) t.coord in same_walk k e t (with_coord t did.part) did.outs d d (given l (record { node = k; serial = is_serial_kind how }) M) refl s;
-  tick = λ e k d t M s. same_walk k e t (with_coord t (again_all t.coord.doings t.coord).part) (tick_outs (record { number = k; disk = d; live = Some t }) t) d d M refl s;
-  restart = λ e k d M s. said_walk k e (parts_in k (d.inc + 1) d) (restart_outs hd k (d.inc + 1) d) d M (others_of k d None M s) (λ o its. none_counted k (d.inc + 1) d o _ its);
-  first = λ j n is t o up its. none_counted j 1 (first_disk hd j) o 0 (ap (λ (z : Parts). z.naming) (some_is (ap (λ (z : Node). z.live) (first_at hd j n is) ∙ up)) ∙ its);
+  begin = λ e k d t l how parent M new may none s. let did = begin_action l how parent (parent_of parent t.coord) t.coord in
+      same_walk k e t (with_coord t did.part) did.outs d d (given l (record { node = k; serial = is_serial_kind how }) M) refl s;
+  tick = λ e k d t M s. same_walk k e t (with_coord t (again_all t.coord.doings t.coord).part)
+      (tick_outs (record { number = k; disk = d; live = Some t }) t) d d M refl s;
+  restart = λ e k d M s. said_walk k e (parts_in k (d.inc + 1) d) (restart_outs hd k (d.inc + 1) d) d M (others_of k d None M s)
+      (λ o its. none_counted k (d.inc + 1) d o _ its);
+  first = λ j n is t o up its. none_counted j 1 (first_disk hd j) o 0
+      (ap (λ (z : Parts). z.naming) (some_is (ap (λ (z : Node). z.live) (first_at hd j n is) ∙ up)) ∙ its);
 }

@@ -1,13 +1,6 @@
 -- Whatever each handler keeps holds of a world that is reached: so it is of what moves come to.
-use Rattle.std.proofs.Common.{List}
-use Rattle.arj_protocol.specs.Words.{Header}
-use Rattle.arj_protocol.specs.World.{World}
-use Rattle.arj_law_parts.specs.moves.Keeps.{Holds, Keeps}
-use Rattle.arj_promise.specs.Runs.{Move, world_by}
-use Rattle.arj_promise.specs.Runs.{Seen}
-use Rattle.arj_law_parts.proofs.moves.Happens.{keeps_asked}
-use Rattle.arj_law_parts.proofs.moves.Moving.{moves_asked}
-use Rattle.arj_law_runs.specs.calls.Reached.{IsReached, Keeping}
+use Rattle.arj_law_parts.proofs.Words.{List, Header, World, Move, world_by, Seen}
+use Rattle.arj_law_runs.proofs.Terms.{Holds, Keeps, keeps_asked, moves_asked, IsReached, Keeping}
 
 pub moves_keep : (hd : Header) (ms : List Move) → Keeping hd (world_by hd ms)
 moves_keep hd ms P keeps = moves_asked hd P keeps ms

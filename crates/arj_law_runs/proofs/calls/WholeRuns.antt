@@ -1,48 +1,24 @@
 -- What servers vote is used in each run: servers that are named, and calls, together.
-use Rattle.std.proofs.Common.{◌≡◌, ◌≤◌, ◌<◌, ◌==◌, ◌+◌, ◌&&◌, ◌||◌, not, nat_lt, ℕ, List, [], ◌∷◌, ◌++◌, Bool, true, false, cond, Option, Some, None, refl, sym, ◌∙◌, ap, subst, inl, inr, arith, eqb-true}
-use Rattle.std.specs.List.{AllByRecursion}
-use Rattle.std.proofs.lemmas.Bool.{and_parts}
-use Rattle.arj_protocol.specs.Words.{Ask, Binding, Header, Line, asks}
-use Rattle.arj_protocol.specs.Words.ask
-use Rattle.arj_protocol.specs.Words.bound
-use Rattle.arj_protocol.specs.Ask.{Reply}
-use Rattle.arj_protocol.specs.Asking.{kept_at}
-use Rattle.arj_protocol.specs.Call.{Steps}
-use Rattle.arj_protocol.specs.Coord.{Coord, Keeping, Root, no_keeping, no_root, root_at}
-use Rattle.arj_protocol.specs.Copy.{Copy}
-use Rattle.arj_protocol.specs.Effect.{Disk}
-use Rattle.arj_protocol.specs.Node.{Parts}
-use Rattle.arj_protocol.specs.Order.{at_number, binding_number}
-use Rattle.arj_protocol.specs.Server.{Server}
-use Rattle.arj_protocol.specs.Step.{Node}
-use Rattle.arj_protocol.specs.Tree.{root_of}
-use Rattle.arj_protocol.specs.World.{World}
-use Rattle.arj_law_parts.specs.parts.Lives.{Homes, IsKeptSo, IsRootSo, IsUnbound, KnowsServers, NamesAsk, NamesAsked, NamesBind, NamesReply, Reach}
-use Rattle.arj_law_parts.proofs.parts.LivesNamed.{all_at, keyed_at}
-use Rattle.arj_law_runs.specs.kept.Worlds.{IsGood}
-use Rattle.arj_law_runs.proofs.kept.AllRuns.{all_keep}
-use Rattle.arj_law_runs.proofs.kept.Walked.{same_number}
-use Rattle.arj_law_parts.specs.moves.Keeps.{Holds, Keeps}
-use Rattle.arj_promise.specs.Runs.{world_by}
-use Rattle.arj_law_parts.specs.moves.Seen.{up}
-use Rattle.arj_promise.specs.Runs.{Seen, see}
-use Rattle.arj_law_runs.specs.calls.Bindings.{AreSaid, HasFewBindings, bindings_made}
-use Rattle.arj_law_runs.specs.calls.Calls.{Call, call_in}
-use Rattle.arj_law_runs.specs.calls.Homes.{NamesIn}
-use Rattle.arj_law_runs.specs.calls.Lived.{AreApart, AreBelow, CountFits, Gifts, IsHome, LivesRun, LivesWith, NamesPost, PassesAll, PassesIn}
-use Rattle.arj_law_runs.specs.calls.Reached.{Keeping as KeepingIn}
-use Rattle.arj_law_runs.specs.calls.Runs.{AllChangesAreCalled, AllVotesAreUsed, HasHomes, KnowsFew, KnowsRun}
-use Rattle.arj_law_runs.specs.calls.Servers.{HasReached, IsSoUp, Since}
-use Rattle.arj_law_runs.specs.calls.Voting.{RunsCall, RunsVote}
-use Rattle.arj_law_runs.specs.calls.Worlds.{CallsReach}
-use Rattle.arj_law_runs.proofs.calls.CoordSends.{asked_call}
-use Rattle.arj_law_runs.proofs.calls.Given.{KeepsGiven, both_given, given_more, kept_both, keeps_given, while_given}
-use Rattle.arj_law_runs.proofs.calls.LivedRuns.{lives_given}
-use Rattle.arj_law_runs.proofs.calls.MadeLines.{counts_are_said, fewer}
-use Rattle.arj_law_runs.proofs.calls.Reaching.{kept_holds, moves_keep}
-use Rattle.arj_law_runs.proofs.calls.ChangedCalls.{changes_in}
-use Rattle.arj_law_runs.proofs.calls.ServerCalls.{some_is}
-use Rattle.arj_law_runs.proofs.calls.WorldRuns.{calls_given, votes_in}
+use Rattle.arj_law_parts.proofs.Words
+use Words.{◌≡◌, ◌≤◌, ◌<◌, ◌==◌, ◌+◌, ◌&&◌, ◌||◌, not, nat_lt, ℕ, List, [], ◌∷◌, ◌++◌, Bool, true, false, cond, Option, Some, None, refl}
+use Words.{sym, ◌∙◌, ap, subst, inl, inr, arith, eqb-true, AllByRecursion, and_parts, Ask, Binding, Header, Line, asks, Reply, kept_at}
+use Words.{Steps, Coord, Keeping, Root, no_keeping, no_root, root_at, Copy, Disk, Parts, at_number, binding_number, Server, Node, root_of}
+use Words.{World, world_by, Seen, see}
+use Words.ask
+use Words.bound
+use Rattle.arj_law_runs.proofs.Terms
+use Terms.{Homes, KnowsServers, NamesAsked, NamesReply, Reach, all_at, IsGood, Holds, Keeps, up, bindings_made, Call, call_in, NamesIn}
+use Terms.{AreApart, AreBelow, CountFits, Gifts, IsHome, LivesRun, LivesWith, NamesPost, PassesAll, Keeping as KeepingIn}
+use Terms.{AllChangesAreCalled, AllVotesAreUsed, HasHomes, KnowsRun, HasReached, IsSoUp, Since, CallsReach}
+use Rattle.arj_law_parts.proofs.parts.LivesNamed.{keyed_at}
+use Rattle.arj_law_parts.specs.parts.Lives.{IsKeptSo, IsRootSo, IsUnbound, NamesAsk, NamesBind}
+use Rattle.arj_law_runs.proofs.calls
+use calls.{ChangedCalls.changes_in, CoordSends.asked_call, LivedRuns.lives_given, MadeLines.counts_are_said, MadeLines.fewer}
+use calls.{Reaching.kept_holds, Reaching.moves_keep, ServerCalls.some_is, WorldRuns.calls_given, WorldRuns.votes_in}
+use calls.Given.{KeepsGiven, both_given, given_more, kept_both, keeps_given, while_given}
+use Rattle.arj_law_runs.proofs.kept.{AllRuns.all_keep, Walked.same_number}
+use Rattle.arj_law_runs.specs.calls.{Bindings.AreSaid, Bindings.HasFewBindings, Lived.PassesIn, Runs.KnowsFew, Voting.RunsCall}
+use Rattle.arj_law_runs.specs.calls.{Voting.RunsVote}
 
 -- ---- the servers that were given
 
@@ -50,7 +26,8 @@ abbrev pub home_in : Gifts → Homes
 home_in [] n = 0
 home_in (g ∷ gs) n = cond (g.0 == n) g.1 (home_in gs n)
 
-agree_more : (g : ℕ × ℕ) (gs xs : Gifts) → AreBelow g.0 xs → AllByRecursion (λ (f : ℕ × ℕ). home_in gs f.0 ≡ f.1) xs → AllByRecursion (λ (f : ℕ × ℕ). home_in (g ∷ gs) f.0 ≡ f.1) xs
+agree_more : (g : ℕ × ℕ) (gs xs : Gifts) → AreBelow g.0 xs → AllByRecursion (λ (f : ℕ × ℕ). home_in gs f.0 ≡ f.1) xs →
+    AllByRecursion (λ (f : ℕ × ℕ). home_in (g ∷ gs) f.0 ≡ f.1) xs
 agree_more g gs [] below all = tt
 agree_more g gs (f ∷ fs) below all = ((λ i. cond (off g.0 f.0 below.0 i) g.1 (home_in gs f.0)) ∙ all.0, agree_more g gs fs below.1 all.1)
   where
@@ -61,7 +38,10 @@ pub is_home : (gs : Gifts) → AreApart gs → IsHome gs (home_in gs)
 is_home [] apart = record { nobody = refl; agrees = tt }
 is_home (g ∷ gs) apart =
     let h = is_home gs apart.2 in
-    record { nobody = (λ i. cond (off g.0 apart.0 i) g.1 (home_in gs 0)) ∙ h.nobody; agrees = (λ i. cond (itself g.0 i) g.1 (home_in gs g.0), agree_more g gs gs apart.1 h.agrees) }
+    record {
+      nobody = (λ i. cond (off g.0 apart.0 i) g.1 (home_in gs 0)) ∙ h.nobody;
+      agrees = (λ i. cond (itself g.0 i) g.1 (home_in gs g.0), agree_more g gs gs apart.1 h.agrees);
+    }
   where
     off : (a : ℕ) → 0 < a → (a == 0) ≡ false
     off a lt = grind (arith, lt)
@@ -89,7 +69,13 @@ abbrev reach_of : Seen → Reach
 reach_of M j x n i = reached_at (M.nodes j) x n i
 
 passes_of : (given : Gifts) (M : Seen) → LivesWith given M → PassesAll (reach_of M) M
-passes_of given M l = record { zero = λ j x n. zero j x n (M.nodes j) refl; nodes = λ j m is. record { past = λ x n h less. (λ i. reached_at (is i) x n h) ∙ first (nat_lt h m.disk.inc) _ (lower h m.disk.inc less); here = up j m is m.live refl } }
+passes_of given M l = record {
+  zero = λ j x n. zero j x n (M.nodes j) refl;
+  nodes = λ j m is. record {
+    past = λ x n h less. (λ i. reached_at (is i) x n h) ∙ first (nat_lt h m.disk.inc) _ (lower h m.disk.inc less);
+    here = up j m is m.live refl;
+  };
+}
   where
     lower : (a b : ℕ) → a < b → nat_lt a b ≡ true
     lower a b less = grind (arith, less)
@@ -109,16 +95,21 @@ passes_of given M l = record { zero = λ j x n. zero j x n (M.nodes j) refl; nod
     zero j x n (Some m) is = first (nat_lt 0 m.disk.inc) _ (lower 0 m.disk.inc (let p = l.places j m is in p.first))
 
     up : (j : ℕ) (m : Node) → M.nodes j ≡ Some m → (o : Option Parts) → m.live ≡ o → PassesIn (reach_of M) j m.disk.inc o
-    up j m is None down = λ x n. (λ i. reached_at (is i) x n m.disk.inc) ∙ second (nat_lt m.disk.inc m.disk.inc) (m.disk.inc == m.disk.inc) (reached_up m.live x n) (same_number m.disk.inc) (ap (λ z. reached_up z x n) down)
-    up j m is (Some t) live = λ x n c at low. (λ i. reached_at (is i) x n m.disk.inc) ∙ second (nat_lt m.disk.inc m.disk.inc) (m.disk.inc == m.disk.inc) (reached_up m.live x n) (same_number m.disk.inc) (ap (λ z. reached_up z x n) live ∙ ap (λ z. has_copy z n) at ∙ ap not low)
+    up j m is None down = λ x n. (λ i. reached_at (is i) x n m.disk.inc) ∙ second (nat_lt m.disk.inc m.disk.inc) (m.disk.inc == m.disk.inc)
+        (reached_up m.live x n) (same_number m.disk.inc) (ap (λ z. reached_up z x n) down)
+    up j m is (Some t) live =
+        λ x n c at low. (λ i. reached_at (is i) x n m.disk.inc) ∙ second (nat_lt m.disk.inc m.disk.inc) (m.disk.inc == m.disk.inc)
+        (reached_up m.live x n) (same_number m.disk.inc) (ap (λ z. reached_up z x n) live ∙ ap (λ z. has_copy z n) at ∙ ap not low)
 
 -- ---- calls name what their servers reached
 
 reached_of : (M : Seen) → LivesRun M → CallsReach M
-reached_of M (given, l) j m is from c asked = by (nat_lt c.inc m.disk.inc) refl ((λ i. reached_at (sym is i) c.x (binding_number c.binding) c.inc) ∙ named q.0 q.2 (subst (NamesAsked (home_in given) (reach_of M) j) q.1 its.asking))
+reached_of M (given, l) j m is from c asked = by (nat_lt c.inc m.disk.inc) refl ((λ i. reached_at (sym is i) c.x (binding_number c.binding)
+    c.inc) ∙ named q.0 q.2 (subst (NamesAsked (home_in given) (reach_of M) j) q.1 its.asking))
   where
     its : NamesPost (home_in given) (reach_of M) M.sent (record { from = from; to = j; message = asked.message })
-    its = let f = l.lived (home_in given) (reach_of M) (is_home given l.apart) (passes_of given M l) in f.sent (record { from = from; to = j; message = asked.message }) asked.posted
+    its = let f = l.lived (home_in given) (reach_of M) (is_home given l.apart) (passes_of given M l) in
+        f.sent (record { from = from; to = j; message = asked.message }) asked.posted
 
     q : (a : Ask) × (asks asked.message ≡ Some (c.head, a)) × (call_in c.head a ≡ Some c)
     q = asked_call asked.message c asked.call
@@ -126,8 +117,10 @@ reached_of M (given, l) j m is from c asked = by (nat_lt c.inc m.disk.inc) refl 
     none_is : {P : Type 0} → ◌≡◌ {A = Option Call} None (Some c) → P
     none_is is = absurd (cc is)
 
-    named : (a : Ask) → call_in c.head a ≡ Some c → NamesAsk (home_in given) (reach_of M) j a → reach_of M j c.x (binding_number c.binding) c.inc ≡ true
-    named (ask.Invoke x b i ends op) same n = subst (λ (z : Call). reach_of M j z.x (binding_number z.binding) z.inc ≡ true) (some_is same) n.1
+    named : (a : Ask) → call_in c.head a ≡ Some c → NamesAsk (home_in given) (reach_of M) j a →
+        reach_of M j c.x (binding_number c.binding) c.inc ≡ true
+    named (ask.Invoke x b i ends op) same n =
+        subst (λ (z : Call). reach_of M j z.x (binding_number z.binding) z.inc ≡ true) (some_is same) n.1
     named (ask.Bind x i avoid) same n = none_is same
     named (ask.Load x) same n = none_is same
     named (ask.Activate b st) same n = none_is same
@@ -139,7 +132,8 @@ reached_of M (given, l) j m is from c asked = by (nat_lt c.inc m.disk.inc) refl 
     lower : (a b : ℕ) → nat_lt a b ≡ true → a < b
     lower a b less = grind (arith, less)
 
-    copy : (s : Server) (o : Option Copy) → at_number c.x s.objects ≡ o → has_copy o (binding_number c.binding) ≡ true → HasReached c.x c.binding s
+    copy : (s : Server) (o : Option Copy) → at_number c.x s.objects ≡ o → has_copy o (binding_number c.binding) ≡ true →
+        HasReached c.x c.binding s
     copy s None at has = absurd (cc has)
     copy s (Some e) at has = (e, at, low (nat_lt (binding_number e.binding) (binding_number c.binding)) has)
       where
@@ -151,15 +145,18 @@ reached_of M (given, l) j m is from c asked = by (nat_lt c.inc m.disk.inc) refl 
     present None has = tt
     present (Some t) has = copy t.server (at_number c.x t.server.objects) refl has
 
-    by : (b : Bool) → nat_lt c.inc m.disk.inc ≡ b → (b || ((c.inc == m.disk.inc) && reached_up m.live c.x (binding_number c.binding))) ≡ true → Since c.inc (HasReached c.x c.binding) m
+    by : (b : Bool) → nat_lt c.inc m.disk.inc ≡ b →
+        (b || ((c.inc == m.disk.inc) && reached_up m.live c.x (binding_number c.binding))) ≡ true → Since c.inc (HasReached c.x c.binding) m
     by true less has = inl (lower c.inc m.disk.inc less)
-    by false less has = let p = and_parts (c.inc == m.disk.inc) (reached_up m.live c.x (binding_number c.binding)) has in inr (eqb-true c.inc m.disk.inc p.0, present m.live p.1)
+    by false less has = let p = and_parts (c.inc == m.disk.inc) (reached_up m.live c.x (binding_number c.binding)) has in
+        inr (eqb-true c.inc m.disk.inc p.0, present m.live p.1)
 
 -- ---- a binding has one server
 
 module _ (home : Homes) (reach : Reach) where
   kept_so : (s : Steps) (c : Coord) → KnowsServers home reach c → IsKeptSo home reach s.x (kept_at s c)
-  kept_so s c knows = keyed_at (λ y (z : Keeping). IsKeptSo home reach y z.kept) no_keeping s.x tt (let r = root_at_of in r.keeping) (all_at (IsRootSo home reach) no_root tt (let u = root_of s.path in u.num) c.roots knows.roots)
+  kept_so s c knows = keyed_at (λ y (z : Keeping). IsKeptSo home reach y z.kept) no_keeping s.x tt (let r = root_at_of in
+      r.keeping) (all_at (IsRootSo home reach) no_root tt (let u = root_of s.path in u.num) c.roots knows.roots)
     where
       root_at_of : Root
       root_at_of = root_at (root_of s.path) c
@@ -188,7 +185,8 @@ module _ (home : Homes) (reach : Reach) where
   unbound_so (Reply.Prepared r) b n so names = absurd names
   unbound_so (Reply.Confirmed r) b n so names = absurd names
 
-  reply_so : (from : ℕ) (a : Ask) (r : Reply) (b : Binding) (n : ℕ) → NamesReply home reach from a r → NamesIn r b n → n ≡ home (binding_number b)
+  reply_so : (from : ℕ) (a : Ask) (r : Reply) (b : Binding) (n : ℕ) → NamesReply home reach from a r → NamesIn r b n →
+      n ≡ home (binding_number b)
   reply_so from (ask.Bind x include avoid) r b n so names = named_so x r b n so names
   reply_so from (ask.Load x) r b n so names = unbound_so r b n so names
   reply_so from (ask.Activate c st) r b n so names = unbound_so r b n so.1 names
@@ -203,7 +201,8 @@ homes_of k d t M (gs, l) from m a r there is q s found now waits old b n keeps n
     let home = home_in gs in
     let reach = reach_of (up k d t M) in
     let f = l.lived home reach (is_home gs l.apart) (passes_of gs (up k d t M) l) in
-    let mine = (f.nodes k (record { number = k; disk = d; live = Some t }) (λ i. cond (same_number k i) (Some (record { number = k; disk = d; live = Some t })) (M.nodes k)) t refl).0 in
+    let mine = (f.nodes k (record { number = k; disk = d; live = Some t })
+    (λ i. cond (same_number k i) (Some (record { number = k; disk = d; live = Some t })) (M.nodes k)) t refl).0 in
     let its = (f.sent (record { from = from; to = k; message = m }) there).answering a r is in
     let known = subst (IsKeptSo home reach s.x) keeps (kept_so home reach s t.coord mine) in
     known.0 ∙ ap home same ∙ sym (reply_so home reach from its.ask r b n its.so names)
@@ -211,7 +210,8 @@ homes_of k d t M (gs, l) from m a r there is q s found now waits old b n keeps n
 -- ---- all runs
 
 -- where nodes are good and naming's count fits
-pub calls_go : (hd : Header) (G : Seen → Type 0) → ((M : Seen) → G M → IsGood M) → ((k : ℕ) (d : Disk) (t : Parts) (M : Seen) → G (up k d t M) → CountFits t) → KeepsGiven hd G (λ M. LivesRun M × KnowsRun M)
+pub calls_go : (hd : Header) (G : Seen → Type 0) → ((M : Seen) → G M → IsGood M) →
+    ((k : ℕ) (d : Disk) (t : Parts) (M : Seen) → G (up k d t M) → CountFits t) → KeepsGiven hd G (λ M. LivesRun M × KnowsRun M)
 calls_go hd G good fits = both_given hd G LivesRun KnowsRun
     (lives_given hd (λ M. G M × KnowsRun M) (λ M g. good M g.0) (λ M g. g.1) (λ k d t M g. fits k d t M g.0))
     (calls_given hd (λ M. G M × LivesRun M) (record { reached = λ M g. reached_of M g.1; homes = λ k d t M g. homes_of k d t M g.1 }))
@@ -232,7 +232,9 @@ few_go hd P kept = kept_both hd Counted (λ M. HasFewBindings M.lines → Known 
     (kept_both hd IsGood AreSaid (all_keep hd) (keeps_given hd IsGood AreSaid (counts_are_said hd)))
     (while_given HasFewBindings few_before (λ M. Known M × P M) hd Counted
     (both_given hd Few Known P
-    (given_more hd Few (λ M. Few M × P M) Known (λ M g. g.0) (calls_go hd Few (λ M g. g.0.0) (λ k d t M g o its. few (bindings_made M.lines) o.count (g.0.1 k (record { number = k; disk = d; live = Some t }) (λ i. cond (same_number k i) (Some (record { number = k; disk = d; live = Some t })) (M.nodes k)) t o refl its) g.1)))
+    (given_more hd Few (λ M. Few M × P M) Known (λ M g. g.0) (calls_go hd Few (λ M g. g.0.0)
+    (λ k d t M g o its. few (bindings_made M.lines) o.count (g.0.1 k (record { number = k; disk = d; live = Some t })
+    (λ i. cond (same_number k i) (Some (record { number = k; disk = d; live = Some t })) (M.nodes k)) t o refl its) g.1)))
     (given_more hd KnowsFew (λ M. Few M × Known M) P (λ M g. (g.0.1, g.1)) kept)))
   where
     Counted : Seen → Type 0
@@ -248,7 +250,8 @@ few_go hd P kept = kept_both hd Counted (λ M. HasFewBindings M.lines → Known 
     few n c le less = omega (arith, le, less)
 
 -- what is known of servers and of calls where few bindings were made
-known_in : (hd : Header) (w : World) → KeepingIn hd w → HasFewBindings w.lines → (P : Seen → Type 0) → ((M : Seen) → LivesRun M × KnowsRun M → P M) → Holds hd P w
+known_in : (hd : Header) (w : World) → KeepingIn hd w → HasFewBindings w.lines → (P : Seen → Type 0) →
+    ((M : Seen) → LivesRun M × KnowsRun M → P M) → Holds hd P w
 known_in hd w keeping few P so =
     let h = kept_holds hd w keeping (WhileFew IsGood) (few_go hd IsGood (keeps_given hd KnowsFew IsGood (all_keep hd))) in
     record { sent = h.sent; stands = h.stands; holds = so (see h.sent w) (h.holds.1 few).0 }

@@ -1,27 +1,18 @@
 -- In every run each coordinator has the labels of its actions, and who took part in its commits.
-use Rattle.std.proofs.Common.{◌≡◌, ◌⊎◌, ◌∙◌, ℕ, zero, suc, Bool, true, false, cond, List, [], ◌∷◌, ◌++◌, length, refl, sym, ap, inl, inr, ⊎_elim, Option, Some, None}
-use Rattle.std.specs.Prelude.{slice_get}
-use Rattle.arj_law_parts.proofs.steps.CoordNames.{names_kept, same_acked, same_acts, same_again, same_heard}
-use Rattle.arj_lock.proofs.Members.{in_from}
-use Rattle.arj_law_parts.proofs.parts.GoodTrees.{get_more, grown_cases, grown_still}
-use Rattle.arj_law_parts.proofs.parts.TrueSteps.{work_there}
-use Rattle.arj_protocol.specs.Asking.{again_all, again_now, begin_action}
-use Rattle.arj_protocol.specs.Call.{next_ask, next_node}
-use Rattle.arj_protocol.specs.Commit.{plan_of}
-use Rattle.arj_protocol.specs.Commit as commit
-use Rattle.arj_protocol.specs.Coord.{Calling, Committing, Coord, Doing, Idle, Now, doing_of, new_coord, no_root}
-use Rattle.arj_protocol.specs.Effect.{Intent}
-use Rattle.arj_protocol.specs.Ending.{acked, acked_by, acked_left}
-use Rattle.arj_protocol.specs.Order.{at_uid, has, without_number}
-use Rattle.arj_protocol.specs.Step.{parent_of}
-use Rattle.arj_protocol.specs.Tree.{Branch, at_place, branch_of, ended_so, ends_of, root_of, is_aborted, next_uid, path_below}
-use Rattle.arj_protocol.specs.Words.{End, Kind, Label, Path, Uid}
-use Rattle.arj_protocol.specs.Words.ending
-use Rattle.arj_law_runs.specs.coordinators.Uses.{IsUsed, KnowsTops, KnowsUses}
-use Rattle.arj_law_runs.proofs.coordinators.CoordUses.{Any, Uses, uses_all, uses_of}
-use Rattle.arj_law_runs.proofs.coordinators.NewNames.{names_begin, names_new}
-use Rattle.arj_law_runs.proofs.coordinators.RunCoords.{IsKept}
-use Rattle.arj_law_runs.proofs.coordinators.UsesCommits.{uses_acts, uses_asks, uses_heard}
+use Rattle.arj_law_parts.proofs.Words
+use Words.{◌≡◌, ◌⊎◌, ◌∙◌, ℕ, zero, suc, Bool, true, false, cond, List, [], ◌∷◌, ◌++◌, length, refl, sym, ap, inl, inr, ⊎_elim, Option, Some}
+use Words.{None, slice_get, in_from, again_all, again_now, begin_action, next_ask, next_node, plan_of, Calling, Committing, Coord, Doing}
+use Words.{Idle, Now, doing_of, new_coord, no_root, Intent, acked, acked_by, acked_left, at_uid, has, without_number, parent_of, Branch}
+use Words.{at_place, branch_of, ended_so, ends_of, root_of, is_aborted, next_uid, path_below, End, Kind, Label, Path, Uid}
+use Words.commit
+use Words.ending
+use Rattle.arj_law_runs.proofs.Terms
+use Terms.{names_kept, same_acked, same_acts, same_again, same_heard, get_more, grown_cases, grown_still, work_there, KnowsTops, KnowsUses}
+use Rattle.arj_law_runs.proofs.coordinators
+use coordinators.{NewNames.names_begin, NewNames.names_new, RunCoords.IsKept}
+use coordinators.CoordUses.{Any, Uses, uses_all, uses_of}
+use coordinators.UsesCommits.{uses_acts, uses_asks, uses_heard}
+use Rattle.arj_law_runs.specs.coordinators.Uses.{IsUsed}
 
 -- ---- a coordinator that starts
 
@@ -57,7 +48,20 @@ uses_again (d ∷ ds) c u = uses_again ds (again_now c d.now).part (now d.now)
 
 -- an acknowledgement changes what is told alone
 uses_told : (c : Coord) (telling : List (Uid × Intent)) → Uses Any c → Uses Any (record c { telling = telling })
-uses_told c telling k = record { paths = k.paths; plans = k.plans; alone = λ w so q. k.alone w so (record { branch = q.branch; doing = q.doing; found = q.found; does = q.does; committed = q.committed; unnested = q.unnested; unserial = q.unserial; took = q.took }) }
+uses_told c telling k = record {
+  paths = k.paths;
+  plans = k.plans;
+  alone = λ w so q. k.alone w so (record {
+    branch = q.branch;
+    doing = q.doing;
+    found = q.found;
+    does = q.does;
+    committed = q.committed;
+    unnested = q.unnested;
+    unserial = q.unserial;
+    took = q.took;
+  });
+}
 
 uses_acked : (from : ℕ) (u : Uid) (intents : List (Uid × Intent)) (c : Coord) → Uses Any c → Uses Any (acked from u intents c).part
 uses_acked from u intents c k = by (at_uid u c.telling)
@@ -70,13 +74,15 @@ uses_acked from u intents c k = by (at_uid u c.telling)
     by None = k
     by (Some i) = one (has i.nodes from)
       where
-        one : (b : Bool) → Uses Any (cond b (acked_left u i intents c (without_number from i.nodes)) (record { part = c; outs = []; reply = None })).part
+        one : (b : Bool) →
+            Uses Any (cond b (acked_left u i intents c (without_number from i.nodes)) (record { part = c; outs = []; reply = None })).part
         one true = left i (without_number from i.nodes)
         one false = k
 
 -- ---- an action begins
 
-module _ (l : Label) (how : Kind) (parent : Option Label) (c : Coord) (works : length c.doings ≡ length c.tree.branches) (k : KnowsUses c) where
+module _ (l : Label) (how : Kind) (parent : Option Label) (c : Coord) (works : length c.doings ≡ length c.tree.branches)
+    (k : KnowsUses c) where
   abbrev fresh : Doing
   fresh = record { label = l; req = 0; now = Idle; took = [] }
 
@@ -94,7 +100,8 @@ module _ (l : Label) (how : Kind) (parent : Option Label) (c : Coord) (works : l
       place zero e = absurd (cc e)
       place (suc j) e = ⊎_elim (λ old. inl old) (λ last. inr last.1) (get_more j fresh q c.doings e)
 
-      by : (b : Bool) → cond b (at_place w.num (c.doings ++ fresh ∷ [])) None ≡ Some q → (cond b (at_place w.num c.doings) None ≡ Some q) ⊎ (fresh ≡ q)
+      by : (b : Bool) → cond b (at_place w.num (c.doings ++ fresh ∷ [])) None ≡ Some q →
+          (cond b (at_place w.num c.doings) None ≡ Some q) ⊎ (fresh ≡ q)
       by true at = place w.num at
       by false at = absurd (cc at)
 
@@ -111,32 +118,55 @@ module _ (l : Label) (how : Kind) (parent : Option Label) (c : Coord) (works : l
       at_there zero d e = absurd (cc e)
       at_there (suc j) d e = there c.doings j d e
 
-      still : (x : Bool) (d : Doing) → cond x (at_place w.num c.doings) None ≡ Some d → cond x (at_place w.num (c.doings ++ fresh ∷ [])) None ≡ Some d
+      still : (x : Bool) (d : Doing) → cond x (at_place w.num c.doings) None ≡ Some d →
+          cond x (at_place w.num (c.doings ++ fresh ∷ [])) None ≡ Some d
       still true d is = at_there w.num d is
       still false d is = absurd (cc is)
 
   uses_begun : KnowsUses began
   uses_begun = record {
     paths = λ root us i. let q = k.paths root us i in (q.0, q.1, grown_still how p c.tree q.0 q.1 q.2, q.3);
-    plans = λ u q m does is. ⊎_elim (λ old. k.plans u q m old is) (λ new. let no_way : ◌≡◌ {A = Now} Idle (Committing m) = ap (λ (d : Doing). d.now) new ∙ is in absurd (cc no_way)) (doing_cases u q does);
+    plans = λ u q m does is. ⊎_elim (λ old. k.plans u q m old is) (λ new.
+        let no_way : ◌≡◌ {A = Now} Idle (Committing m) = ap (λ (d : Doing). d.now) new ∙ is in absurd (cc no_way)) (doing_cases u q does);
     alone = λ u a us i on. ⊎_elim
-        (λ old. let x = k.alone u (record { branch = a.branch; doing = a.doing; found = old; does = old_doing u a.branch a.doing old a.does; committed = a.committed; unnested = a.unnested; unserial = a.unserial; took = a.took }) us i on in (x.0, x.1, still x.0 (branch_of x.0 c.tree) refl x.2))
-        (λ new. let no_way : ◌≡◌ {A = Option End} None (Some ending.Commit) = ap (λ (b : Branch). b.ended) new.1 ∙ a.committed in absurd (cc no_way))
+        (λ old. let x = k.alone u (record {
+          branch = a.branch;
+          doing = a.doing;
+          found = old;
+          does = old_doing u a.branch a.doing old a.does;
+          committed = a.committed;
+          unnested = a.unnested;
+          unserial = a.unserial;
+          took = a.took;
+        }) us i on in (x.0, x.1, still x.0 (branch_of x.0 c.tree) refl x.2))
+        (λ new. let no_way : ◌≡◌ {A = Option End} None (Some ending.Commit) = ap (λ (b : Branch). b.ended) new.1 ∙ a.committed in
+        absurd (cc no_way))
         (grown_cases how p c.tree u a.branch a.found);
   }
     where
       still : (w : Uid) (o : Option Branch) → branch_of w c.tree ≡ o → is_aborted w c.tree ≡ true → is_aborted w began.tree ≡ true
       still w None none is = let no_way : false ≡ true = ap (λ x. ended_so ending.Abort x) (sym none) ∙ is in absurd (cc no_way)
-      still w (Some b) found is = ap (λ x. ended_so ending.Abort x) (grown_still how p c.tree w b found) ∙ ap (λ x. ended_so ending.Abort x) (sym found) ∙ is
+      still w (Some b) found is =
+          ap (λ x. ended_so ending.Abort x) (grown_still how p c.tree w b found) ∙ ap (λ x. ended_so ending.Abort x) (sym found) ∙ is
 
 -- ---- all of it
 
 pub tops_are_kept : IsKept KnowsTops
 tops_are_kept = record {
   new = λ node inc telling. record { names = names_new node inc telling; uses = uses_new node inc telling };
-  hears = λ actions paths tree from a r intents c good q. record { names = names_kept c _ (same_heard from a r intents c) q.names; uses = uses_all _ (uses_heard actions paths tree from a r intents c good (uses_of c q.uses)) };
-  acks = λ from u intents c q. record { names = names_kept c _ (same_acked from u intents c) q.names; uses = uses_all _ (uses_acked from u intents c (uses_of c q.uses)) };
-  does = λ actions paths tree intents c good q hd i none other. record { names = names_kept c _ (same_acts i intents c other) q.names; uses = uses_all _ (uses_acts actions paths tree intents c good (uses_of c q.uses) hd i none other) };
-  begins = λ actions begun paths tree l k parent c good may none q. record { names = names_begin l k parent c q.names; uses = uses_begun l k parent c (let n = q.names in n.count) q.uses };
+  hears = λ actions paths tree from a r intents c good q. record {
+    names = names_kept c _ (same_heard from a r intents c) q.names;
+    uses = uses_all _ (uses_heard actions paths tree from a r intents c good (uses_of c q.uses));
+  };
+  acks = λ from u intents c q. record {
+    names = names_kept c _ (same_acked from u intents c) q.names;
+    uses = uses_all _ (uses_acked from u intents c (uses_of c q.uses));
+  };
+  does = λ actions paths tree intents c good q hd i none other. record {
+    names = names_kept c _ (same_acts i intents c other) q.names;
+    uses = uses_all _ (uses_acts actions paths tree intents c good (uses_of c q.uses) hd i none other);
+  };
+  begins = λ actions begun paths tree l k parent c good may none q.
+      record { names = names_begin l k parent c q.names; uses = uses_begun l k parent c (let n = q.names in n.count) q.uses };
   asks = λ ds c q. record { names = names_kept c _ (same_again ds c) q.names; uses = uses_all _ (uses_again ds c (uses_of c q.uses)) };
 }

@@ -1,18 +1,14 @@
 -- What changes a tree leaves room in it.
-use Rattle.std.proofs.Common.{◌≡◌, ◌⊎◌, ◌∙◌, ◌≤◌, ◌<◌, ◌+◌, ◌==◌, ◌&&◌, ◌||◌, ℕ, zero, suc, Bool, true, false, cond, not, List, [], ◌∷◌, ◌++◌, length, nat_le, refl, sym, ap, subst, inl, inr, ⊎_elim, arith, Option, Some, None}
-use Rattle.std.specs.Prelude.{is_some, slice_get, slice_set, unwrap_or}
-use Rattle.std.specs.List.{AllByRecursion}
-use Rattle.std.specs.Ordering.{match_ordering, nat_cmp}
-use Rattle.std.specs.declared.cmp.Ordering.{Ordering}
-use Rattle.std.specs.declared.cmp.Ordering.TheVariants.{Less, Equal, Greater}
-use Rattle.std.proofs.lemmas.List.{length-append}
-use Rattle.arj_lock.proofs.Members.{In, in_from, in_to}
-use Rattle.arj_law_parts.proofs.parts.GoodTrees.{found_by, in_set, place_in, same_or_not}
-use Rattle.arj_protocol.proofs.Maps.{put_other, put_same}
-use Rattle.arj_protocol.specs.Order.{at_number, has, put_number, with_number}
-use Rattle.arj_protocol.specs.Tree.{Branch, Family, Tree, at_place, begun_by, branch_of, doomed_at, doomed_branch, ended_at, ended_branch, family_of, most_actions, most_objects, new_tree, no_family, root_of, set_place, uses_object, with_family}
-use Rattle.arj_protocol.specs.Words.{End, Kind, Path, Uid, uids_of}
-use Rattle.arj_law_runs.specs.coordinators.Rooms.{AreFewObjects, AreRising, HasRoom, actions_at, count_open, ends_at, family_at, is_open_in, objects_at, open_in}
+use Rattle.arj_law_parts.proofs.Words
+use Words.{◌≡◌, ◌⊎◌, ◌∙◌, ◌≤◌, ◌<◌, ◌+◌, ◌==◌, ◌&&◌, ◌||◌, ℕ, zero, suc, Bool, true, false, cond, not, List, [], ◌∷◌, ◌++◌, length, nat_le}
+use Words.{refl, sym, ap, subst, inl, inr, ⊎_elim, arith, Option, Some, None, is_some, slice_get, slice_set, unwrap_or, AllByRecursion}
+use Words.{match_ordering, nat_cmp, Ordering, Less, Equal, Greater, length-append, In, in_from, in_to, put_other, put_same, at_number, has}
+use Words.{put_number, with_number, Branch, Family, Tree, at_place, begun_by, branch_of, doomed_at, doomed_branch, ended_at, ended_branch}
+use Words.{family_of, most_actions, new_tree, no_family, root_of, set_place, uses_object, with_family, End, Kind, Path, Uid, uids_of}
+use Rattle.arj_law_runs.proofs.Terms.{found_by, place_in, HasRoom, actions_at}
+use Rattle.arj_law_parts.proofs.parts.GoodTrees.{in_set, same_or_not}
+use Rattle.arj_law_runs.specs.coordinators.Rooms.{AreFewObjects, AreRising, count_open, ends_at, family_at, is_open_in, objects_at, open_in}
+use Rattle.arj_protocol.specs.Tree.{most_objects}
 
 -- ---- counts of open actions
 
@@ -28,12 +24,15 @@ count_more k [] c = omega arith
 count_more k (b ∷ bs) c = let rest = count_more k bs c in omega (arith, rest)
 
 -- another one in its place
-count_set : (k : ℕ) (bs : List Branch) (i : ℕ) (b c : Branch) → slice_get bs i ≡ Some b → count_open k (slice_set bs i c) + one k b ≡ count_open k bs + one k c
+count_set : (k : ℕ) (bs : List Branch) (i : ℕ) (b c : Branch) → slice_get bs i ≡ Some b →
+    count_open k (slice_set bs i c) + one k b ≡ count_open k bs + one k c
 count_set k [] i b c at = absurd (cc at)
-count_set k (x ∷ xs) zero b c at = let same : x ≡ b = cc at in subst (λ w. one k c + count_open k xs + one k w ≡ one k x + count_open k xs + one k c) same (omega arith)
+count_set k (x ∷ xs) zero b c at = let same : x ≡ b = cc at in
+    subst (λ w. one k c + count_open k xs + one k w ≡ one k x + count_open k xs + one k c) same (omega arith)
 count_set k (x ∷ xs) (suc i) b c at = let rest = count_set k xs i b c at in omega (arith, rest)
 
-count_place : (k : ℕ) (bs : List Branch) (j : ℕ) (b c : Branch) → at_place j bs ≡ Some b → count_open k (set_place j c bs) + one k b ≡ count_open k bs + one k c
+count_place : (k : ℕ) (bs : List Branch) (j : ℕ) (b c : Branch) → at_place j bs ≡ Some b →
+    count_open k (set_place j c bs) + one k b ≡ count_open k bs + one k c
 count_place k bs zero b c at = absurd (cc at)
 count_place k bs (suc i) b c at = count_set k bs i b c at
 
@@ -54,7 +53,8 @@ module _ (n : ℕ) where
   above_with k [] less all = (less, tt)
   above_with k (x ∷ xs) less all = by (nat_cmp n x) (above_with k xs less all.1)
     where
-      by : (o : Ordering) → AllByRecursion (λ m. k < m) (with_number n xs) → AllByRecursion (λ m. k < m) (match_ordering o (n ∷ x ∷ xs) (x ∷ xs) (x ∷ with_number n xs))
+      by : (o : Ordering) → AllByRecursion (λ m. k < m) (with_number n xs) →
+          AllByRecursion (λ m. k < m) (match_ordering o (n ∷ x ∷ xs) (x ∷ xs) (x ∷ with_number n xs))
       by Less rest = (less, all)
       by Equal rest = all
       by Greater rest = (all.0, rest)
@@ -67,7 +67,8 @@ module _ (n : ℕ) where
   rising_with [] rising = (tt, tt)
   rising_with (x ∷ xs) rising = by (nat_cmp n x) refl (rising_with xs rising.1)
     where
-      by : (o : Ordering) → nat_cmp n x ≡ o → AreRising (with_number n xs) → AreRising (match_ordering o (n ∷ x ∷ xs) (x ∷ xs) (x ∷ with_number n xs))
+      by : (o : Ordering) → nat_cmp n x ≡ o → AreRising (with_number n xs) →
+          AreRising (match_ordering o (n ∷ x ∷ xs) (x ∷ xs) (x ∷ with_number n xs))
       by Less is rest = let less : n < x = grind (arith, is) in ((less, above_more n x xs less rising.0), rising)
       by Equal is rest = rising
       by Greater is rest = (above_with x xs (grind (arith, is)) rising.0, rest)
@@ -76,7 +77,8 @@ module _ (n : ℕ) where
   with_more [] = omega arith
   with_more (x ∷ xs) = by (nat_cmp n x) (with_more xs)
     where
-      by : (o : Ordering) → length (with_number n xs) ≤ length xs + 1 → length (match_ordering o (n ∷ x ∷ xs) (x ∷ xs) (x ∷ with_number n xs)) ≤ suc (length xs) + 1
+      by : (o : Ordering) → length (with_number n xs) ≤ length xs + 1 →
+          length (match_ordering o (n ∷ x ∷ xs) (x ∷ xs) (x ∷ with_number n xs)) ≤ suc (length xs) + 1
       by Less rest = omega arith
       by Equal rest = omega arith
       by Greater rest = omega (arith, rest)
@@ -84,13 +86,15 @@ module _ (n : ℕ) where
   -- what is above a number isn't that number
   not_above : (k : ℕ) (xs : List ℕ) → n < k ⊎ (n ≡ k) → AllByRecursion (λ m. k < m) xs → has xs n ≡ false
   not_above k [] low all = refl
-  not_above k (x ∷ xs) low all = let apart : (x == n) ≡ false = ⊎_elim (λ less. grind (arith, less, all.0)) (λ same. grind (arith, same, all.0)) low in λ i. apart i || not_above k xs low all.1 i
+  not_above k (x ∷ xs) low all = let apart : (x == n) ≡ false = ⊎_elim (λ less. grind (arith, less, all.0))
+      (λ same. grind (arith, same, all.0)) low in λ i. apart i || not_above k xs low all.1 i
 
   with_there : (xs : List ℕ) → AreRising xs → has xs n ≡ true → length (with_number n xs) ≡ length xs
   with_there [] rising is = absurd (cc is)
   with_there (x ∷ xs) rising is = by (nat_cmp n x) refl (with_there xs rising.1)
     where
-      by : (o : Ordering) → nat_cmp n x ≡ o → (has xs n ≡ true → length (with_number n xs) ≡ length xs) → length (match_ordering o (n ∷ x ∷ xs) (x ∷ xs) (x ∷ with_number n xs)) ≡ suc (length xs)
+      by : (o : Ordering) → nat_cmp n x ≡ o → (has xs n ≡ true → length (with_number n xs) ≡ length xs) →
+          length (match_ordering o (n ∷ x ∷ xs) (x ∷ xs) (x ∷ with_number n xs)) ≡ suc (length xs)
       by Less at rest =
           let less : n < x = grind (arith, at) in
           let apart : (x == n) ≡ false = grind (arith, less) in
@@ -102,7 +106,8 @@ module _ (n : ℕ) where
           ap suc (rest ((λ i. sym apart i || has xs n) ∙ is))
 
   -- an object more, where there is room or it is there
-  pub few_with : (xs : List ℕ) → AreFewObjects xs → (not (has xs n) && nat_le most_objects (length xs)) ≡ false → AreFewObjects (with_number n xs)
+  pub few_with : (xs : List ℕ) → AreFewObjects xs → (not (has xs n) && nat_le most_objects (length xs)) ≡ false →
+      AreFewObjects (with_number n xs)
   few_with xs few room = (by (has xs n) refl room, rising_with xs few.1)
     where
       by : (b : Bool) → has xs n ≡ b → (not b && nat_le most_objects (length xs)) ≡ false → length (with_number n xs) ≤ most_objects
@@ -113,27 +118,39 @@ module _ (n : ℕ) where
 
 module _ (root : Uid) (f : Family) (t : Tree) where
   there : (k : ℕ) → k ≡ root.num → family_at k (with_family root f t) ≡ f
-  there k same = (λ i. unwrap_or (at_number (same i) (put_number root.num f t.families)) no_family) ∙ ap (λ o. unwrap_or o no_family) (put_same root.num f t.families)
+  there k same = (λ i. unwrap_or (at_number (same i) (put_number root.num f t.families)) no_family)
+      ∙ ap (λ o. unwrap_or o no_family) (put_same root.num f t.families)
 
   elsewhere : (k : ℕ) → (k ≡ root.num → ⊥) → family_at k (with_family root f t) ≡ family_at k t
   elsewhere k other = ap (λ o. unwrap_or o no_family) (put_other root.num k f t.families (grind (arith, other)))
 
   -- something holds of what each root has, where it holds of the new one and of all others as they were
-  each_family : (P : ℕ → Family → Type 0) → P root.num f → ((k : ℕ) → (k ≡ root.num → ⊥) → P k (family_at k t)) → (k : ℕ) → P k (family_at k (with_family root f t))
-  each_family P here others k = ⊎_elim (λ same. subst (P k) (sym (there k same)) (subst (λ j. P j f) (sym same) here)) (λ other. subst (P k) (sym (elsewhere k other)) (others k other)) (same_or_not k root.num)
+  each_family : (P : ℕ → Family → Type 0) → P root.num f → ((k : ℕ) → (k ≡ root.num → ⊥) → P k (family_at k t)) → (k : ℕ) →
+      P k (family_at k (with_family root f t))
+  each_family P here others k = ⊎_elim (λ same. subst (P k) (sym (there k same)) (subst (λ j. P j f) (sym same) here))
+      (λ other. subst (P k) (sym (elsewhere k other)) (others k other)) (same_or_not k root.num)
 
 -- ---- trees
 
 pub room_new : (node inc : ℕ) → HasRoom (new_tree node inc)
-room_new node inc = record { ends = λ k. omega arith; actions = λ k. omega arith; objects = λ k. (omega arith, tt); roots = λ b i. absurd (in_from b [] i); fresh = λ k less. refl }
+room_new node inc = record {
+  ends = λ k. omega arith;
+  actions = λ k. omega arith;
+  objects = λ k. (omega arith, tt);
+  roots = λ b i. absurd (in_from b [] i);
+  fresh = λ k less. refl;
+}
 
 -- a branch in its place, of the same root, and open only where it was
-replaced : (t : Tree) (u : Uid) (b c : Branch) → branch_of u t ≡ Some b → c.path ≡ b.path → ((k : ℕ) → one k c ≤ one k b) → HasRoom t → HasRoom (record t { branches = set_place u.num c t.branches })
+replaced : (t : Tree) (u : Uid) (b c : Branch) → branch_of u t ≡ Some b → c.path ≡ b.path → ((k : ℕ) → one k c ≤ one k b) → HasRoom t →
+    HasRoom (record t { branches = set_place u.num c t.branches })
 replaced t u b c found path less room = record {
   ends = λ k. omega (arith, room.ends k, count_place k t.branches u.num b c at, less k);
   actions = room.actions;
   objects = room.objects;
-  roots = λ d i. subst (λ n. (root_of d.path).num ≤ n) (sym same) (⊎_elim (λ is. subst (λ p. (root_of p).num ≤ length t.branches) (sym path ∙ ap (λ (x : Branch). x.path) is) (room.roots b (in_to b t.branches (place_in u.num b t.branches at)))) (λ old. room.roots d (in_to d t.branches old)) (in_set u.num c d t.branches (in_from d (set_place u.num c t.branches) i)));
+  roots = λ d i. subst (λ n. (root_of d.path).num ≤ n) (sym same) (⊎_elim (λ is. subst (λ p. (root_of p).num ≤ length t.branches)
+      (sym path ∙ ap (λ (x : Branch). x.path) is) (room.roots b (in_to b t.branches (place_in u.num b t.branches at))))
+      (λ old. room.roots d (in_to d t.branches old)) (in_set u.num c d t.branches (in_from d (set_place u.num c t.branches) i)));
   fresh = λ k more. room.fresh k (subst (λ n. n < k) same more);
 }
   where
@@ -151,7 +168,8 @@ room_doomed u t room = by (branch_of u t) refl
     by (Some b) is = replaced t u b (record b { doomed = true }) is refl (λ k. at_most (cond (is_open_in k b) 1 0)) room
 
 -- an end of an open action
-pub room_ended : (u : Uid) (e : End) (t : Tree) (b : Branch) → branch_of u t ≡ Some b → is_some b.ended ≡ false → HasRoom t → HasRoom (ended_at u e t)
+pub room_ended : (u : Uid) (e : End) (t : Tree) (b : Branch) → branch_of u t ≡ Some b → is_some b.ended ≡ false → HasRoom t →
+    HasRoom (ended_at u e t)
 room_ended u e t b found opened room = subst (λ o. HasRoom (ended_branch u e t o)) (sym found) (by (nat_le (length (uids_of b.path)) 1))
   where
     c : Branch
@@ -185,22 +203,28 @@ room_ended u e t b found opened room = subst (λ o. HasRoom (ended_branch u e t 
 
     listed : HasRoom (with_family (root_of b.path) f m)
     listed = record {
-      ends = each_family (root_of b.path) f m (λ k g. length g.ends + open_in k m ≤ g.actions) (omega (arith, room.ends (root_of b.path).num, fewer, length-append (ends_at (root_of b.path).num m) ((u, e) ∷ []))) (λ k other. shut.ends k);
-      actions = each_family (root_of b.path) f m (λ k g. g.actions ≤ most_actions) (room.actions (root_of b.path).num) (λ k other. shut.actions k);
-      objects = each_family (root_of b.path) f m (λ k g. AreFewObjects g.objects) (room.objects (root_of b.path).num) (λ k other. shut.objects k);
+      ends = each_family (root_of b.path) f m (λ k g. length g.ends + open_in k m ≤ g.actions)
+          (omega (arith, room.ends (root_of b.path).num, fewer, length-append (ends_at (root_of b.path).num m) ((u, e) ∷ [])))
+          (λ k other. shut.ends k);
+      actions = each_family (root_of b.path) f m (λ k g. g.actions ≤ most_actions) (room.actions (root_of b.path).num)
+          (λ k other. shut.actions k);
+      objects =
+          each_family (root_of b.path) f m (λ k g. AreFewObjects g.objects) (room.objects (root_of b.path).num) (λ k other. shut.objects k);
       roots = shut.roots;
       fresh = λ k more. elsewhere (root_of b.path) f m k (λ same. omega (arith, more, same, old)) ∙ shut.fresh k more;
     }
       where
         old : (root_of b.path).num ≤ length m.branches
-        old = subst (λ n. (root_of b.path).num ≤ n) (sym (length_set t.branches u.num c)) (room.roots b (in_to b t.branches (place_in u.num b t.branches (found_by u t b found).1)))
+        old = subst (λ n. (root_of b.path).num ≤ n) (sym (length_set t.branches u.num c))
+            (room.roots b (in_to b t.branches (place_in u.num b t.branches (found_by u t b found).1)))
 
     by : (x : Bool) → HasRoom (cond x m (with_family (root_of b.path) f m))
     by true = shut
     by false = listed
 
 -- an object of a root that has room for it
-pub room_uses : (p : Path) (x : ℕ) (t : Tree) → (root_of p).num ≤ length t.branches → AreFewObjects (with_number x (objects_at (root_of p).num t)) → HasRoom t → HasRoom (uses_object p x t)
+pub room_uses : (p : Path) (x : ℕ) (t : Tree) → (root_of p).num ≤ length t.branches →
+    AreFewObjects (with_number x (objects_at (root_of p).num t)) → HasRoom t → HasRoom (uses_object p x t)
 room_uses p x t old few room = record {
   ends = each_family (root_of p) f t (λ k g. length g.ends + open_in k t ≤ g.actions) (room.ends (root_of p).num) (λ k other. room.ends k);
   actions = each_family (root_of p) f t (λ k g. g.actions ≤ most_actions) (room.actions (root_of p).num) (λ k other. room.actions k);
@@ -213,13 +237,18 @@ room_uses p x t old few room = record {
     f = let g = family_of (root_of p) t in record g { objects = with_number x g.objects }
 
 -- an action more, of a root that has room for it
-pub room_begun : (how : Kind) (p : Path) (t : Tree) → (root_of p).num ≤ length t.branches + 1 → actions_at (root_of p).num t < most_actions → HasRoom t → HasRoom (begun_by how p t)
+pub room_begun : (how : Kind) (p : Path) (t : Tree) → (root_of p).num ≤ length t.branches + 1 →
+    actions_at (root_of p).num t < most_actions → HasRoom t → HasRoom (begun_by how p t)
 room_begun how p t old few room = record {
-  ends = each_family (root_of p) f m (λ k g. length g.ends + open_in k m ≤ g.actions) (here (root_of p).num refl) (λ k other. omega (arith, room.ends k, count_more k t.branches b, apart k other));
+  ends = each_family (root_of p) f m (λ k g. length g.ends + open_in k m ≤ g.actions) (here (root_of p).num refl)
+      (λ k other. omega (arith, room.ends k, count_more k t.branches b, apart k other));
   actions = each_family (root_of p) f m (λ k g. g.actions ≤ most_actions) (omega (arith, few)) (λ k other. room.actions k);
   objects = each_family (root_of p) f m (λ k g. AreFewObjects g.objects) (room.objects (root_of p).num) (λ k other. room.objects k);
-  roots = λ d i. let n = longer in ⊎_elim (λ was. let r = room.roots d (in_to d t.branches was) in omega (arith, r, n)) (λ same. subst (λ (x : Branch). (root_of x.path).num ≤ length m.branches) same (omega (arith, old, n))) (in_last d t.branches (in_from d m.branches i));
-  fresh = λ k more. let n = longer in elsewhere (root_of p) f m k (λ same. omega (arith, more, same, old, n)) ∙ room.fresh k (omega (arith, more, n));
+  roots = λ d i. let n = longer in ⊎_elim (λ was. let r = room.roots d (in_to d t.branches was) in
+      omega (arith, r, n)) (λ same. subst (λ (x : Branch). (root_of x.path).num ≤ length m.branches) same (omega (arith, old, n)))
+      (in_last d t.branches (in_from d m.branches i));
+  fresh = λ k more. let n = longer in
+      elsewhere (root_of p) f m k (λ same. omega (arith, more, same, old, n)) ∙ room.fresh k (omega (arith, more, n));
 }
   where
     b : Branch

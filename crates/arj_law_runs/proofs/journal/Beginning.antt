@@ -1,36 +1,15 @@
 -- An action begins: its path, and what it begins in.
-use Rattle.std.proofs.Common.{◌≡◌, ◌&&◌, ◌==◌, arith, ℕ, zero, suc, ◌+◌, List, [], ◌∷◌, ◌++◌, length, map, Bool, true, false, cond, slice_get, Option, Some, None, refl, sym, ◌∙◌, ap, subst, length-append, eqb-true}
-use Rattle.std.specs.Prelude.{option_map}
-use Rattle.std.proofs.lemmas.Bool.{and_parts}
-use Rattle.std.proofs.lemmas.List.{map-append}
-use Rattle.arj_base.specs.Rows.{is_on}
-use Rattle.arj_law_parts.specs.steps.Named.{HasNames}
-use Rattle.arj_lock.proofs.Members.{in_from, in_to}
-use Rattle.arj_model.specs.Actions.{Act, act_in, path, path_in, uids, upwards}
-use Rattle.arj_msg.proofs.PathLaws.{path_is}
-use Rattle.arj_law_parts.specs.parts.Actions.{Action, AreBegun, MayBegin, action_of}
-use Rattle.arj_law_parts.specs.parts.Coords.{IsGoodCoord}
-use Rattle.arj_law_parts.specs.parts.Copies.{IsTree, Paths}
-use Rattle.arj_law_parts.proofs.parts.Begun.{path_length, serial_alone}
-use Rattle.arj_law_parts.proofs.parts.CoordInputs.{behind, off}
-use Rattle.arj_law_parts.proofs.parts.GoodTrees.{found_by}
-use Rattle.arj_protocol.specs.Words.{Kind, Label, Uid, name, path_of, tops_of, uids_of}
-use Rattle.arj_protocol.specs.Words.kind
-use Rattle.arj_protocol.specs.Ask.{actor}
-use Rattle.arj_protocol.specs.Coord.{Coord, Doing, doing_of, number_of}
-use Rattle.arj_protocol.specs.Step.{begin_reasons, begin_refusal, branch_named, branch_numbered, parent_of, refused_by}
-use Rattle.arj_protocol.specs.Tree.{Branch, at_place, branch_of, next_uid, path_below}
+use Rattle.arj_law_parts.proofs.Words
+use Words.{◌≡◌, ◌&&◌, ◌==◌, arith, ℕ, zero, suc, ◌+◌, List, [], ◌∷◌, ◌++◌, length, map, Bool, true, false, cond, slice_get, Option, Some}
+use Words.{None, refl, sym, ◌∙◌, ap, subst, length-append, eqb-true, option_map, and_parts, map-append, is_on, in_from, in_to, path_is}
+use Words.{Kind, Label, Uid, name, path_of, tops_of, uids_of, actor, Coord, Doing, doing_of, number_of, begin_reasons, begin_refusal}
+use Words.{branch_named, branch_numbered, parent_of, refused_by, Branch, at_place, branch_of, next_uid, path_below, Labelled}
+use Words.kind
+use Rattle.arj_law_runs.proofs.Terms
+use Terms.{HasNames, Act, act_in, path, path_in, uids, upwards, Action, AreBegun, MayBegin, action_of, IsGoodCoord, IsTree, Paths}
+use Terms.{path_length, serial_alone, behind, off, found_by, MayGive, Book, is_over, Calls, IsKnown, Knows, BeginsIn}
+use Rattle.arj_law_runs.proofs.journal.{Coords.waits_free, Likes.not_committing, Models.named_in, Opens.none_of, Ties.named_label}
 use Rattle.arj_law_runs.proofs.kept.Walked.{same_number}
-use Rattle.arj_law_parts.specs.moves.Keeps.{MayGive}
-use Rattle.arj_protocol.specs.World.{Labelled}
-use Rattle.arj_law_runs.specs.journal.Book.{Book, is_over}
-use Rattle.arj_law_runs.specs.journal.Knows.{Calls, IsKnown, Knows}
-use Rattle.arj_law_runs.specs.journal.Right.{BeginsIn}
-use Rattle.arj_law_runs.proofs.journal.Coords.{waits_free}
-use Rattle.arj_law_runs.proofs.journal.Likes.{not_committing}
-use Rattle.arj_law_runs.proofs.journal.Models.{named_in}
-use Rattle.arj_law_runs.proofs.journal.Opens.{none_of}
-use Rattle.arj_law_runs.proofs.journal.Ties.{named_label}
 
 -- the path above an action that begins
 abbrev pub above_of : Kind → Option Branch → List Uid
@@ -38,7 +17,8 @@ above_of kind.Nested (Some b) = uids_of b.path
 above_of kind.Constituent (Some b) = uids_of b.path
 above_of k o = []
 
-pub new_path : (begun : List Action) → AreBegun begun → (k : Kind) (o : Option Branch) (u : Uid) → MayBegin begun k o → uids_of (path_below k o u) ≡ above_of k o ++ u ∷ []
+pub new_path : (begun : List Action) → AreBegun begun → (k : Kind) (o : Option Branch) (u : Uid) → MayBegin begun k o →
+    uids_of (path_below k o u) ≡ above_of k o ++ u ∷ []
 new_path begun all k o u may = by k o may
   where
     longer : (us : List Uid) → length (us ++ u ∷ []) ≡ length us + 1
@@ -52,7 +32,8 @@ new_path begun all k o u may = by k o may
     by kind.Nested (Some b) m =
         let us : List Uid = uids_of b.path in
         let long = longer us in
-        let made = path_is (us ++ u ∷ []) (tops_of b.path) (omega (arith, long)) (omega (arith, long, m.2)) b.path.one_top b.path.two_tops (omega (arith, long, b.path.within, path_length b.path)) in
+        let made = path_is (us ++ u ∷ []) (tops_of b.path) (omega (arith, long)) (omega (arith, long, m.2)) b.path.one_top b.path.two_tops
+        (omega (arith, long, b.path.within, path_length b.path)) in
         made.has
     by kind.Constituent None m = absurd m
     by kind.Constituent (Some b) m =
@@ -79,12 +60,14 @@ pub record IsNamed (c : Coord) (p : Label) (b : Branch) : Type 0 where
 pub named_at : (c : Coord) → HasNames c → (p : Label) (b : Branch) → branch_named p c ≡ Some b → IsNamed c p b
 named_at c names p b is = by (number_of p c) refl is
   where
-    got : (ds : List Doing) (j : ℕ) (m : Label) → slice_get (map (λ (x : Doing). x.label) ds) j ≡ Some m → (x : Doing) × (slice_get ds j ≡ Some x) × (x.label ≡ m)
+    got : (ds : List Doing) (j : ℕ) (m : Label) → slice_get (map (λ (x : Doing). x.label) ds) j ≡ Some m →
+        (x : Doing) × (slice_get ds j ≡ Some x) × (x.label ≡ m)
     got [] j m at = absurd (cc at)
     got (x ∷ ds) zero m at = (x, refl, cc at)
     got (x ∷ ds) (suc j) m at = got ds j m at
 
-    placed : (j : ℕ) (m : Label) → at_place j (map (λ (x : Doing). x.label) c.doings) ≡ Some m → (x : Doing) × (at_place j c.doings ≡ Some x) × (x.label ≡ m)
+    placed : (j : ℕ) (m : Label) → at_place j (map (λ (x : Doing). x.label) c.doings) ≡ Some m →
+        (x : Doing) × (at_place j c.doings ≡ Some x) × (x.label ≡ m)
     placed zero m at = absurd (cc at)
     placed (suc j) m at = got c.doings j m at
 
@@ -101,16 +84,19 @@ named_at c names p b is = by (number_of p c) refl is
           name_is = ap name x.2 ∙ n.2;
         }
 
-module _ (k : ℕ) (begun : List Action) (all : AreBegun begun) (paths : Paths) (tree : IsTree paths) (B : Book) (c : Coord) (good : IsGoodCoord begun paths c) (knows : Knows B c) (calls : Calls B c) (names : HasNames c) where
+module _ (k : ℕ) (begun : List Action) (all : AreBegun begun) (paths : Paths) (tree : IsTree paths) (B : Book) (c : Coord)
+    (good : IsGoodCoord begun paths c) (knows : Knows B c) (calls : Calls B c) (names : HasNames c) where
   -- the book's action of a label
   known_at : (p : Label) (b : Branch) → (n : IsNamed c p b) → IsKnown B (let u = n.act in u) b.kind b.ended p
-  known_at p b n = let s = knows.acts n.act b n.doing n.found n.does in record { act = s.act; named = ap (act_in B.acts) (sym n.name_is) ∙ s.named; uid = s.uid; kind = s.kind; end = s.end }
+  known_at p b n = let s = knows.acts n.act b n.doing n.found n.does in
+      record { act = s.act; named = ap (act_in B.acts) (sym n.name_is) ∙ s.named; uid = s.uid; kind = s.kind; end = s.end }
 
   label_path : (p : Label) (b : Branch) → branch_named p c ≡ Some b → uids (path B.acts (name p)) ≡ uids_of b.path
   label_path p b is =
       let n = named_at c names p b is in
       let s = known_at p b n in
-      ap (λ l. uids (path B.acts l)) (sym (named_label B.acts (name p) s.act s.named)) ∙ knows.ties.paths s.act b (in_to s.act B.acts (named_in B.acts (name p) s.act s.named)) (ap (λ u. branch_of u c.tree) s.uid ∙ n.found)
+      ap (λ l. uids (path B.acts l)) (sym (named_label B.acts (name p) s.act s.named)) ∙ knows.ties.paths s.act b
+      (in_to s.act B.acts (named_in B.acts (name p) s.act s.named)) (ap (λ u. branch_of u c.tree) s.uid ∙ n.found)
 
   -- what an action begins in is open, and its commit isn't called
   pub begins_in : (how : Kind) (parent : Option Label) → begin_refusal how c parent ≡ None → BeginsIn B (next_uid c.tree) parent
@@ -134,13 +120,16 @@ module _ (k : ℕ) (begun : List Action) (all : AreBegun begun) (paths : Paths) 
           let parts = and_parts (let u = n.act in u.node == c.tree.node) (let u = n.act in u.inc == c.tree.inc) own in (
             s.act,
             record { named = s.named; unended = ap (λ u. is_over B u) s.uid ∙ i.0; unfound = ap (is_on B.found) s.uid ∙ i.1 },
-            ap (is_on B.called) s.uid ∙ calls n.act b n.doing n.found n.does open_b ∙ not_committing q.now (λ m at. free q m (ap (λ u. doing_of u c) actor_is ∙ n.does) at),
+            ap (is_on B.called) s.uid ∙ calls n.act b n.doing n.found n.does open_b
+                ∙ not_committing q.now (λ m at. free q m (ap (λ u. doing_of u c) actor_is ∙ n.does) at),
             ap (λ (u : Uid). u.node) s.uid ∙ eqb-true (let u = n.act in u.node) c.tree.node parts.0,
             ap (λ (u : Uid). u.inc) s.uid ∙ eqb-true (let u = n.act in u.inc) c.tree.inc parts.1,
           )
 
   -- the path of the new action
-  pub new_path_is : (labels : List (Label × Labelled)) (at : ℕ) (how : Kind) (parent : Option Label) (new : Act) → new.uid ≡ next_uid c.tree → new.kind ≡ how → new.parent ≡ option_map name parent → MayGive labels at how parent → begin_refusal how c parent ≡ None → MayBegin begun how (parent_of parent c)
+  pub new_path_is : (labels : List (Label × Labelled)) (at : ℕ) (how : Kind) (parent : Option Label) (new : Act) →
+      new.uid ≡ next_uid c.tree → new.kind ≡ how → new.parent ≡ option_map name parent → MayGive labels at how parent →
+      begin_refusal how c parent ≡ None → MayBegin begun how (parent_of parent c)
       → uids (path_in B.acts new) ≡ uids_of (path_below how (parent_of parent c) (next_uid c.tree))
   new_path_is labels at how parent new uid kind_is parent_is give free may =
       map-append (λ (x : Act). x.uid) (upwards new.parent new.kind (path B.acts)) (new ∷ [])
@@ -156,15 +145,18 @@ module _ (k : ℕ) (begun : List Action) (all : AreBegun begun) (paths : Paths) 
       no_serial true is = absurd (cc is)
       no_serial false is = absurd (cc is)
 
-      nested : (p : Label) (f : Option Branch) → branch_named p c ≡ f → refused_by (begin_reasons kind.Nested) c f ≡ None → uids (path B.acts (name p)) ≡ above_of kind.Nested f
+      nested : (p : Label) (f : Option Branch) → branch_named p c ≡ f → refused_by (begin_reasons kind.Nested) c f ≡ None →
+          uids (path B.acts (name p)) ≡ above_of kind.Nested f
       nested p None is off = absurd (cc off)
       nested p (Some b) is off = label_path p b is
 
-      constituent : (p : Label) (f : Option Branch) → branch_named p c ≡ f → refused_by (begin_reasons kind.Constituent) c f ≡ None → uids (path B.acts (name p)) ≡ above_of kind.Constituent f
+      constituent : (p : Label) (f : Option Branch) → branch_named p c ≡ f → refused_by (begin_reasons kind.Constituent) c f ≡ None →
+          uids (path B.acts (name p)) ≡ above_of kind.Constituent f
       constituent p None is off = absurd (cc off)
       constituent p (Some b) is off = label_path p b is
 
-      above : (h : Kind) (q : Option Label) → MayGive labels at h q → begin_refusal h c q ≡ None → uids (upwards (option_map name q) h (path B.acts)) ≡ above_of h (parent_of q c)
+      above : (h : Kind) (q : Option Label) → MayGive labels at h q → begin_refusal h c q ≡ None →
+          uids (upwards (option_map name q) h (path B.acts)) ≡ above_of h (parent_of q c)
       above kind.Top None g f = refl
       above kind.Top (Some p) g f = no_top (let x = g.0 in x.serial) g.3
       above kind.Serial None g f = refl

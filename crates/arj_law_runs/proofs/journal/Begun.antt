@@ -1,37 +1,19 @@
 -- An action begins, with a new label and a new Uid: its coordinator knows the book.
-use Rattle.std.proofs.Common.{◌≡◌, ◌⊎◌, arith, ℕ, zero, suc, ◌+◌, ◌||◌, List, [], ◌∷◌, ◌++◌, length, Bool, true, false, cond, slice_get, Option, Some, None, refl, sym, ◌∙◌, ap, subst, inl, inr, ⊎_elim}
-use Rattle.std.specs.Prelude.{option_map}
-use Rattle.std.specs.List.{AllByRecursion}
-use Rattle.std.specs.Map.{lookup}
-use Rattle.std.specs.Str.{bytes_eq}
-use Rattle.std.specs.BTreeMap.{insert_entry}
-use Rattle.std.specs.Ordering.{is_eq, nat_cmp}
-use Rattle.std.specs.Cmp.Lexicographic.{slice_cmp}
-use Rattle.std.proofs.lemmas.Slice.Eq.{bytes_eq-Decides}
-use Rattle.arj_base.proofs.Uids.{uid_is}
-use Rattle.arj_text.proofs.Labels.{same_key}
-use Rattle.arj_base.specs.Rows.{is_on}
-use Rattle.arj_base.specs.Uid.{uid_eq}
-use Rattle.arj_model.specs.Actions.{Act, act_in, path_in, uids}
-use Rattle.arj_protocol.specs.Words.{Body, End, Kind, Label, Path, Uid, label_cmp, name, uids_of}
-use Rattle.arj_protocol.specs.Words.body
-use Rattle.arj_protocol.specs.Asking.{begin_action}
-use Rattle.arj_protocol.specs.Coord.{Committing, Coord, Doing, Idle, Now, doing_of}
-use Rattle.arj_protocol.specs.Step.{is_committing_now, parent_of}
-use Rattle.arj_protocol.specs.Tree.{Branch, at_place, branch_of, next_uid, path_below}
-use Rattle.arj_protocol.specs.World.{Labelled}
-use Rattle.arj_law_parts.specs.parts.Actions.{IsCounted}
-use Rattle.arj_law_parts.proofs.parts.GoodTrees.{get_more, grown_cases, new, same_ends}
-use Rattle.arj_law_parts.proofs.parts.TrueSteps.{work_there}
+use Rattle.arj_law_parts.proofs.Words
+use Words.{◌≡◌, ◌⊎◌, arith, ℕ, zero, suc, ◌+◌, ◌||◌, List, [], ◌∷◌, ◌++◌, length, Bool, true, false, cond, slice_get, Option, Some, None}
+use Words.{refl, sym, ◌∙◌, ap, subst, inl, inr, ⊎_elim, option_map, AllByRecursion, lookup, bytes_eq, insert_entry, is_eq, nat_cmp}
+use Words.{slice_cmp, bytes_eq-Decides, uid_is, is_on, uid_eq, Body, End, Kind, Label, Path, Uid, label_cmp, name, uids_of, begin_action}
+use Words.{Committing, Coord, Doing, Idle, Now, doing_of, is_committing_now, parent_of, Branch, at_place, branch_of, next_uid, path_below}
+use Words.{Labelled}
+use Words.body
+use Rattle.arj_law_runs.proofs.Terms
+use Terms.{same_key, Act, act_in, path_in, uids, IsCounted, get_more, grown_cases, new, work_there, label_at, Book, turned, AreSaid, Calls}
+use Terms.{IsEnd, IsGiven, IsKnown, Knows, has_act}
+use Rattle.arj_law_parts.proofs.parts.GoodTrees.{same_ends}
+use Rattle.arj_law_runs.proofs.journal
+use journal.{Effects.are_later, Endings.end_same, Ties.ties_begun}
+use journal.Books.{Sane, decided_later, later_turn, never, still_named}
 use Rattle.arj_law_runs.proofs.kept.Labels.{one_name, put_label}
-use Rattle.arj_law_parts.specs.moves.Keeps.{label_at}
-use Rattle.arj_law_runs.specs.journal.Book.{Book, turned}
-use Rattle.arj_law_runs.specs.journal.Knows.{AreSaid, Calls, IsEnd, IsGiven, IsKnown, Knows}
-use Rattle.arj_law_runs.specs.journal.Right.{has_act}
-use Rattle.arj_law_runs.proofs.journal.Books.{Sane, decided_later, later_turn, never, still_named}
-use Rattle.arj_law_runs.proofs.journal.Effects.{are_later}
-use Rattle.arj_law_runs.proofs.journal.Endings.{end_same}
-use Rattle.arj_law_runs.proofs.journal.Ties.{ties_begun}
 
 -- ---- a new label and a new Uid
 
@@ -39,18 +21,21 @@ use Rattle.arj_law_runs.proofs.journal.Ties.{ties_begun}
 by_name : (labels : List (Label × Labelled)) (q l : Label) → name q ≡ name l → label_at q labels ≡ label_at l labels
 by_name labels q l same = ap (λ m. lookup (λ x. is_eq (slice_cmp nat_cmp m (name x))) labels) same
 
-pub new_label : (labels : List (Label × Labelled)) (acts : List Act) (l : Label) → label_at l labels ≡ None → AllByRecursion (IsGiven labels) acts → act_in acts (name l) ≡ None
+pub new_label : (labels : List (Label × Labelled)) (acts : List Act) (l : Label) → label_at l labels ≡ None →
+    AllByRecursion (IsGiven labels) acts → act_in acts (name l) ≡ None
 new_label labels [] l new given = refl
 new_label labels (a ∷ acts) l new given = by (bytes_eq a.label (name l)) refl (new_label labels acts l new given.1)
   where
     by : (b : Bool) → bytes_eq a.label (name l) ≡ b → act_in acts (name l) ≡ None → cond b (Some a) (act_in acts (name l)) ≡ None
     by true same ih =
         let g = given.0 in
-        let no_way : ◌≡◌ {A = Option Labelled} (Some g.1) None = sym g.3 ∙ by_name labels g.0 l (g.2 ∙ (bytes_eq-Decides a.label (name l)).0 same) ∙ new in
+        let no_way : ◌≡◌ {A = Option Labelled} (Some g.1) None = sym g.3
+        ∙ by_name labels g.0 l (g.2 ∙ (bytes_eq-Decides a.label (name l)).0 same) ∙ new in
         absurd (cc no_way)
     by false other ih = ih
 
-pub still_given : (labels : List (Label × Labelled)) (l : Label) (g : Labelled) (acts : List Act) → label_at l labels ≡ None → AllByRecursion (IsGiven labels) acts → AllByRecursion (IsGiven (insert_entry label_cmp labels l g)) acts
+pub still_given : (labels : List (Label × Labelled)) (l : Label) (g : Labelled) (acts : List Act) → label_at l labels ≡ None →
+    AllByRecursion (IsGiven labels) acts → AllByRecursion (IsGiven (insert_entry label_cmp labels l g)) acts
 still_given labels l g [] new given = tt
 still_given labels l g (a ∷ acts) new given = (one given.0, still_given labels l g acts new given.1)
   where
@@ -58,25 +43,29 @@ still_given labels l g (a ∷ acts) new given = (one given.0, still_given labels
     one h = (h.0, h.1, h.2, put_label h.0 l g labels ∙ by (is_eq (label_cmp h.0 l)) refl, h.4)
       where
         by : (b : Bool) → is_eq (label_cmp h.0 l) ≡ b → cond b (Some g) (label_at h.0 labels) ≡ Some h.1
-        by true same = let no_way : ◌≡◌ {A = Option Labelled} (Some h.1) None = sym h.3 ∙ by_name labels h.0 l (one_name h.0 l same) ∙ new in absurd (cc no_way)
+        by true same = let no_way : ◌≡◌ {A = Option Labelled} (Some h.1) None = sym h.3 ∙ by_name labels h.0 l (one_name h.0 l same)
+            ∙ new in absurd (cc no_way)
         by false other = h.3
 
 pub given_now : (labels : List (Label × Labelled)) (l : Label) (g : Labelled) → label_at l (insert_entry label_cmp labels l g) ≡ Some g
-given_now labels l g = put_label l l g labels ∙ ap (λ b. cond b (Some g) (label_at l labels)) (same_key l l ∙ (bytes_eq-Decides (name l) (name l)).1 refl)
+given_now labels l g =
+    put_label l l g labels ∙ ap (λ b. cond b (Some g) (label_at l labels)) (same_key l l ∙ (bytes_eq-Decides (name l) (name l)).1 refl)
 
 -- the label of the newest action is its own
 pub named_first : (a : Act) (acts : List Act) → act_in (a ∷ acts) a.label ≡ Some a
 named_first a acts = ap (λ b. cond b (Some a) (act_in acts a.label)) ((bytes_eq-Decides a.label a.label).1 refl)
 
 -- the next Uid of a node is none of those that are counted
-pub new_uid : (k inc count : ℕ) (u : Uid) (acts : List Act) → u.node ≡ k → u.inc ≡ inc → u.num ≡ count + 1 → AllByRecursion (λ (a : Act). IsCounted k inc count a.uid) acts → has_act acts u ≡ false
+pub new_uid : (k inc count : ℕ) (u : Uid) (acts : List Act) → u.node ≡ k → u.inc ≡ inc → u.num ≡ count + 1 →
+    AllByRecursion (λ (a : Act). IsCounted k inc count a.uid) acts → has_act acts u ≡ false
 new_uid k inc count u [] node at num all = refl
 new_uid k inc count u (a ∷ acts) node at num all = by (uid_eq a.uid u) refl (new_uid k inc count u acts node at num all.1)
   where
     by : (b : Bool) → uid_eq a.uid u ≡ b → has_act acts u ≡ false → (b || has_act acts u) ≡ false
     by true same ih =
         let is = uid_is a.uid u same in
-        absurd (⊎_elim (λ lower. omega (arith, lower, at, ap (λ (w : Uid). w.inc) is)) (λ here. omega (arith, here.1, num, ap (λ (w : Uid). w.num) is)) (all.0 (ap (λ (w : Uid). w.node) is ∙ node)))
+        absurd (⊎_elim (λ lower. omega (arith, lower, at, ap (λ (w : Uid). w.inc) is))
+        (λ here. omega (arith, here.1, num, ap (λ (w : Uid). w.num) is)) (all.0 (ap (λ (w : Uid). w.node) is ∙ node)))
     by false other ih = ih
 
 -- ---- the coordinator
@@ -87,13 +76,17 @@ get_there (x ∷ xs) zero a b is = is
 get_there (x ∷ xs) (suc k) a b is = get_there xs k a b is
 
 -- what is behind a list stands at its end
-place_cases : {A : Type 0} (xs : List A) (b a : A) (k : ℕ) → at_place k (xs ++ b ∷ []) ≡ Some a → (at_place k xs ≡ Some a) ⊎ ((k ≡ suc (length xs)) × (b ≡ a))
+place_cases : {A : Type 0} (xs : List A) (b a : A) (k : ℕ) → at_place k (xs ++ b ∷ []) ≡ Some a →
+    (at_place k xs ≡ Some a) ⊎ ((k ≡ suc (length xs)) × (b ≡ a))
 place_cases xs b a zero is = absurd (cc is)
 place_cases xs b a (suc k) is = ⊎_elim (λ old. inl old) (λ last. inr (ap suc last.0, last.1)) (get_more k b a xs is)
 
-module _ (B : Book) (sane : Sane B) (c : Coord) (l : Label) (how : Kind) (parent : Option Label) (works : length c.doings ≡ length c.tree.branches) (knows : Knows B c) (calls : Calls B c)
+module _ (B : Book) (sane : Sane B) (c : Coord) (l : Label) (how : Kind) (parent : Option Label)
+    (works : length c.doings ≡ length c.tree.branches) (knows : Knows B c) (calls : Calls B c)
     (named : act_in B.acts (name l) ≡ None) (unknown : has_act B.acts (next_uid c.tree) ≡ false)
-    (its_path : uids (path_in B.acts (record { id = length B.acts; label = name l; kind = how; uid = next_uid c.tree; parent = option_map name parent })) ≡ uids_of (path_below how (parent_of parent c) (next_uid c.tree))) where
+    (its_path : uids
+    (path_in B.acts (record { id = length B.acts; label = name l; kind = how; uid = next_uid c.tree; parent = option_map name parent }))
+    ≡ uids_of (path_below how (parent_of parent c) (next_uid c.tree))) where
   abbrev fresh : Doing
   fresh = record { label = l; req = 0; now = Idle; took = [] }
 
@@ -121,10 +114,12 @@ module _ (B : Book) (sane : Sane B) (c : Coord) (l : Label) (how : Kind) (parent
   same_end w h o is = end_same B V w h o (record { called = refl; committed = refl; aborted = refl; ended = refl; found = refl }) is
 
   -- actions at work: those that were there, and the new one
-  doing_cases : (w : Uid) (q : Doing) → doing_of w began ≡ Some q → (doing_of w c ≡ Some q) ⊎ ((w.num ≡ suc (length c.doings)) × (fresh ≡ q))
+  doing_cases : (w : Uid) (q : Doing) → doing_of w began ≡ Some q →
+      (doing_of w c ≡ Some q) ⊎ ((w.num ≡ suc (length c.doings)) × (fresh ≡ q))
   doing_cases w q is = by (_) is
     where
-      by : (b : Bool) → cond b (at_place w.num (c.doings ++ fresh ∷ [])) None ≡ Some q → (cond b (at_place w.num c.doings) None ≡ Some q) ⊎ ((w.num ≡ suc (length c.doings)) × (fresh ≡ q))
+      by : (b : Bool) → cond b (at_place w.num (c.doings ++ fresh ∷ [])) None ≡ Some q →
+          (cond b (at_place w.num c.doings) None ≡ Some q) ⊎ ((w.num ≡ suc (length c.doings)) × (fresh ≡ q))
       by true at = place_cases c.doings fresh q w.num at
       by false at = absurd (cc at)
 
@@ -134,7 +129,8 @@ module _ (B : Book) (sane : Sane B) (c : Coord) (l : Label) (how : Kind) (parent
       let d = work_there c works w b found in
       d.1 ∙ sym (still (_) d.0 d.1) ∙ does
     where
-      still : (x : Bool) (d : Doing) → cond x (at_place w.num c.doings) None ≡ Some d → cond x (at_place w.num (c.doings ++ fresh ∷ [])) None ≡ Some d
+      still : (x : Bool) (d : Doing) → cond x (at_place w.num c.doings) None ≡ Some d →
+          cond x (at_place w.num (c.doings ++ fresh ∷ [])) None ≡ Some d
       still true d is = at_there w.num is
         where
           at_there : (j : ℕ) → at_place j c.doings ≡ Some d → at_place j (c.doings ++ fresh ∷ []) ≡ Some d
@@ -152,7 +148,8 @@ module _ (B : Book) (sane : Sane B) (c : Coord) (l : Label) (how : Kind) (parent
 
       at_end : (j : ℕ) (d : Doing) → j ≡ length c.doings + 1 → at_place j c.doings ≡ Some d → ⊥
       at_end zero d long e = absurd (cc e)
-      at_end (suc j) d long e = let here : j ≡ length c.doings = omega (arith, long) in none_there c.doings d (subst (λ i. slice_get c.doings i ≡ Some d) here e)
+      at_end (suc j) d long e = let here : j ≡ length c.doings = omega (arith, long) in
+          none_there c.doings d (subst (λ i. slice_get c.doings i ≡ Some d) here e)
 
       none : (w : Uid) (d : Doing) → w ≡ next_uid c.tree → doing_of w c ≡ Some d → ⊥
       none w d is e = by (_) e
@@ -173,11 +170,19 @@ module _ (B : Book) (sane : Sane B) (c : Coord) (l : Label) (how : Kind) (parent
   pub begun_knows : Knows V began
   begun_knows = record {
     acts = λ w b q found does. ⊎_elim
-        (λ old. let s = knows.acts w b q old (old_doing w b q old does) in record { act = s.act; named = still_named B.acts act named (name q.label) s.act s.named; uid = s.uid; kind = s.kind; end = same_end w b.kind b.ended s.end })
-        (λ fresh_one. subst (λ (x : Branch). IsKnown V w x.kind x.ended q.label) fresh_one.1 (new_known w q fresh_one.0 (new_doing w q fresh_one.0 does)))
+        (λ old. let s = knows.acts w b q old (old_doing w b q old does) in record {
+          act = s.act;
+          named = still_named B.acts act named (name q.label) s.act s.named;
+          uid = s.uid;
+          kind = s.kind;
+          end = same_end w b.kind b.ended s.end;
+        })
+        (λ fresh_one. subst (λ (x : Branch). IsKnown V w x.kind x.ended q.label) fresh_one.1
+        (new_known w q fresh_one.0 (new_doing w q fresh_one.0 does)))
         (grown_cases how p c.tree w b found);
     lists = λ r. subst (AreSaid V) (sym (same_ends how p c.tree r)) (are_later B V (later_turn B line) _ (knows.lists r));
-    plans = λ w q m does is. ⊎_elim (λ old. are_later B V (later_turn B line) _ (knows.plans w q m old is)) (λ last. let no_way : ◌≡◌ {A = Now} Idle (Committing m) = ap (λ (d : Doing). d.now) last.1 ∙ is in absurd (cc no_way)) (doing_cases w q does);
+    plans = λ w q m does is. ⊎_elim (λ old. are_later B V (later_turn B line) _ (knows.plans w q m old is)) (λ last. let no_way : ◌≡◌ {A =
+        Now} Idle (Committing m) = ap (λ (d : Doing). d.now) last.1 ∙ is in absurd (cc no_way)) (doing_cases w q does);
     telling = λ w i there. decided_later B V (later_turn B line) w (knows.telling w i there);
     ties = ties_begun B.acts B.accesses c.tree c.roots how p act refl named unknown its_path sane.acted knows.ties;
   }
@@ -191,5 +196,6 @@ module _ (B : Book) (sane : Sane B) (c : Coord) (l : Label) (how : Kind) (parent
   pub begun_calls : Calls V began
   begun_calls w b q found does opened = ⊎_elim
       (λ old. calls w b q old (old_doing w b q old does) opened)
-      (λ fresh_one. ap (is_on B.called) fresh_one.0 ∙ off B.called sane.called ∙ ap (λ (d : Doing). is_committing_now d.now) (new_doing w q fresh_one.0 does))
+      (λ fresh_one. ap (is_on B.called) fresh_one.0 ∙ off B.called sane.called
+      ∙ ap (λ (d : Doing). is_committing_now d.now) (new_doing w q fresh_one.0 does))
       (grown_cases how (path_below how (parent_of parent c) (next_uid c.tree)) c.tree w b found)

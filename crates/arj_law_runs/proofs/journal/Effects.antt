@@ -1,21 +1,18 @@
 -- Effects behind one another, and what a coordinator's step has to show.
-use Rattle.std.proofs.Common.{◌≡◌, arith, ℕ, suc, List, [], ◌∷◌, ◌++◌, length, Bool, Option, Some, None, map, refl, sym, ◌∙◌, ap, subst, inl, inr}
-use Rattle.std.specs.List.{AllByRecursion, cons_option, flat_map}
-use Rattle.arj_lock.proofs.Members.{In}
-use Rattle.arj_law_parts.specs.parts.Ends.{ask_ends, brought, told_by}
-use Rattle.arj_protocol.specs.Words.{Uid, Ask, Asked, Body, End, Head, Label, Message, request}
-use Rattle.arj_protocol.specs.Words.ask
-use Rattle.arj_protocol.specs.Words.body
-use Rattle.arj_protocol.specs.Words.ending
-use Rattle.arj_protocol.specs.Words.message
-use Rattle.arj_protocol.specs.Ask.{Reply, response}
-use Rattle.arj_protocol.specs.Coord.{Coord, Doing, doing_of}
-use Rattle.arj_protocol.specs.Effect.{Effect, Say, Send, Do, Look, PutInc, Prepare, Commit, Abort, PutIntent, RemoveIntent}
-use Rattle.arj_protocol.specs.Ending.{say_for, says, tell, tell_all}
-use Rattle.arj_law_runs.specs.journal.Book.{Book, turned}
-use Rattle.arj_law_runs.specs.journal.Knows.{AreIdle, AreLate, AreLined, AreSaid, Calls, Claims, HasBranch, IsIdle, IsLined, Knows, Puts, after, decides, turned_by}
-use Rattle.arj_law_runs.specs.journal.Right.{IsSaid}
+use Rattle.arj_law_parts.proofs.Words
+use Words.{◌≡◌, arith, ℕ, suc, List, [], ◌∷◌, ◌++◌, length, Bool, Option, Some, None, map, refl, sym, ◌∙◌, ap, subst, inl, inr}
+use Words.{AllByRecursion, cons_option, flat_map, In, Uid, Ask, Asked, Body, End, Head, Label, Message, request, Reply, response, Coord}
+use Words.{Doing, doing_of, Effect, Say, Send, Do, Look, PutInc, Prepare, Commit, Abort, PutIntent, RemoveIntent, say_for, says, tell}
+use Words.{tell_all}
+use Words.ask
+use Words.body
+use Words.ending
+use Words.message
+use Rattle.arj_law_runs.proofs.Terms
+use Terms.{ask_ends, brought, told_by, Book, turned, AreIdle, AreLate, AreLined, AreSaid, Calls, Claims, HasBranch, IsLined, Knows, Puts}
+use Terms.{decides, IsSaid}
 use Rattle.arj_law_runs.proofs.journal.Books.{Later, decided_later, later_on, later_same, later_turn}
+use Rattle.arj_law_runs.specs.journal.Knows.{IsIdle, after, turned_by}
 
 -- ---- lists
 
@@ -27,7 +24,8 @@ pub all_map : {A B : Type 0} (P : B → Type 0) (f : A → B) (xs : List A) → 
 all_map P f [] each = tt
 all_map P f (x ∷ xs) each = (each x (inl refl), all_map P f xs (λ y i. each y (inr i)))
 
-pub all_flat : {A B : Type 0} (P : B → Type 0) (f : A → List B) (xs : List A) → ((x : A) → In x xs → AllByRecursion P (f x)) → AllByRecursion P (flat_map f xs)
+pub all_flat : {A B : Type 0} (P : B → Type 0) (f : A → List B) (xs : List A) → ((x : A) → In x xs → AllByRecursion P (f x)) →
+    AllByRecursion P (flat_map f xs)
 all_flat P f [] each = tt
 all_flat P f (x ∷ xs) each = all_both P (f x) (flat_map f xs) (each x (inl refl)) (all_flat P f xs (λ y i. each y (inr i)))
 
@@ -42,7 +40,8 @@ said_later B V l u ending.Commit is = decided_later B V l u is
 said_later B V l u ending.Abort is = tt
 
 pub are_later : (B V : Book) → Later B V → (ends : List (Uid × End)) → AreSaid B ends → AreSaid V ends
-are_later B V l ends all = all_to (λ (e : Uid × End). IsSaid B e.0 e.1) (λ (e : Uid × End). IsSaid V e.0 e.1) ends (λ e is. said_later B V l e.0 e.1 is) all
+are_later B V l ends all =
+    all_to (λ (e : Uid × End). IsSaid B e.0 e.1) (λ (e : Uid × End). IsSaid V e.0 e.1) ends (λ e is. said_later B V l e.0 e.1 is) all
 
 pub claims_later : (B V : Book) → Later B V → (m : Message) → Claims B m → Claims V m
 claims_later B V l m c = (are_later B V l (brought m) c.0, are_later B V l (told_by m) c.1)
@@ -123,7 +122,8 @@ no_longer x xs is = let longer : suc (length xs) ≡ length xs = ap length is in
 
 -- a line on which the book doesn't turn decides nobody
 undeciding : (B : Book) (b : Body) (u : Uid) → turned B b ≡ B → decides B b ≡ Some u → ⊥
-undeciding B (body.Committed l) u same is = no_longer u B.committed ((λ i. cons_option (sym is i) B.committed) ∙ ap (λ (X : Book). X.committed) same)
+undeciding B (body.Committed l) u same is =
+    no_longer u B.committed ((λ i. cons_option (sym is i) B.committed) ∙ ap (λ (X : Book). X.committed) same)
 undeciding B (body.Recovered n w) u same is = no_longer w B.found (ap (λ (X : Book). X.found) same)
 undeciding B (body.Began l h w p) u same is = cc is
 undeciding B (body.Committing l) u same is = cc is
@@ -133,19 +133,23 @@ undeciding B b u same is = cc is
 
 late_partly : (Q : Uid → Type 0) (k : ℕ) (B : Book) (es : List Effect) → ArePartly k B es → AreLate Q B es
 late_partly Q k B [] all = tt
-late_partly Q k B (Say b ∷ es) all = let p = all.0 in ((λ u is. absurd (undeciding B b u p.same is)), subst (λ X. AreLate Q X es) (sym p.same) (late_partly Q k B es all.1))
+late_partly Q k B (Say b ∷ es) all = let p = all.0 in
+    ((λ u is. absurd (undeciding B b u p.same is)), subst (λ X. AreLate Q X es) (sym p.same) (late_partly Q k B es all.1))
 late_partly Q k B (Send to m ∷ es) all = late_partly Q k B es all.1
 late_partly Q k B (Do w ∷ es) all = late_partly Q k B es all.1
 
 late_behind : (Q : Uid → Type 0) (k : ℕ) (B : Book) (es fs : List Effect) → ArePartly k B es → AreLate Q B fs → AreLate Q B (es ++ fs)
 late_behind Q k B [] fs all late = late
-late_behind Q k B (Say b ∷ es) fs all late = let p = all.0 in ((λ u is. absurd (undeciding B b u p.same is)), subst (λ X. AreLate Q X (es ++ fs)) (sym p.same) (late_behind Q k B es fs all.1 late))
+late_behind Q k B (Say b ∷ es) fs all late = let p = all.0 in
+    ((λ u is. absurd (undeciding B b u p.same is)), subst (λ X. AreLate Q X (es ++ fs)) (sym p.same) (late_behind Q k B es fs all.1 late))
 late_behind Q k B (Send to m ∷ es) fs all late = late_behind Q k B es fs all.1 late
 late_behind Q k B (Do w ∷ es) fs all late = late_behind Q k B es fs all.1 late
 
-late_before : (Q : Uid → Type 0) (B : Book) (es fs : List Effect) → AreLate Q B es → AreLate Q (after B es) fs → AreIdle fs → AreLate Q B (es ++ fs)
+late_before : (Q : Uid → Type 0) (B : Book) (es fs : List Effect) → AreLate Q B es → AreLate Q (after B es) fs → AreIdle fs →
+    AreLate Q B (es ++ fs)
 late_before Q B [] fs late more idle = more
-late_before Q B (Say b ∷ es) fs late more idle = ((λ u is. let h = late.0 u is in (h.0, all_both IsIdle es fs h.1 idle)), late_before Q (turned B b) es fs late.1 more idle)
+late_before Q B (Say b ∷ es) fs late more idle =
+    ((λ u is. let h = late.0 u is in (h.0, all_both IsIdle es fs h.1 idle)), late_before Q (turned B b) es fs late.1 more idle)
 late_before Q B (Send to m ∷ es) fs late more idle = late_before Q B es fs late more idle
 late_before Q B (Do w ∷ es) fs late more idle = late_before Q B es fs late more idle
 
@@ -181,7 +185,8 @@ goes_partly k B outs v all knows calls =
     }
 
 -- behind effects that the book doesn't turn on
-pub goes_behind : {Q : Uid → Type 0} (k : ℕ) (B : Book) (es fs : List Effect) (v : Coord) → ArePartly k B es → GoesBy Q k B fs v → GoesBy Q k B (es ++ fs) v
+pub goes_behind : {Q : Uid → Type 0} (k : ℕ) (B : Book) (es fs : List Effect) (v : Coord) → ArePartly k B es → GoesBy Q k B fs v →
+    GoesBy Q k B (es ++ fs) v
 goes_behind {Q} k B es fs v all g =
     let same = partly_after k B es all in
     let end : after B (es ++ fs) ≡ after B fs = after_both B es fs ∙ ap (λ X. after X fs) same in
@@ -189,27 +194,31 @@ goes_behind {Q} k B es fs v all g =
       lined = lined_both k B es fs (partly_lined k B es all) (subst (λ X. AreLined k X fs) (sym same) g.lined);
       knows = subst (λ X. Knows X v) (sym end) g.knows;
       calls = subst (λ X. Calls X v) (sym end) g.calls;
-      puts = subst (λ X. AllByRecursion (Puts X) (es ++ fs)) (sym end) (all_both (Puts (after B fs)) es fs (all_to (IsPartly k B) (Puts (after B fs)) es (λ e p. puts_later B (after B fs) (later_after B fs) e p.puts) all) g.puts);
+      puts = subst (λ X. AllByRecursion (Puts X) (es ++ fs)) (sym end) (all_both (Puts (after B fs)) es fs
+          (all_to (IsPartly k B) (Puts (after B fs)) es (λ e p. puts_later B (after B fs) (later_after B fs) e p.puts) all) g.puts);
       acts = ap (λ (X : Book). X.acts) end ∙ g.acts;
       late = late_behind Q k B es fs all g.late;
     }
 
 -- before them, where they do nothing on the disk
-pub goes_before : {Q : Uid → Type 0} (k : ℕ) (B : Book) (es fs : List Effect) (v : Coord) → GoesBy Q k B es v → ArePartly k (after B es) fs → AreIdle fs → GoesBy Q k B (es ++ fs) v
+pub goes_before : {Q : Uid → Type 0} (k : ℕ) (B : Book) (es fs : List Effect) (v : Coord) → GoesBy Q k B es v →
+    ArePartly k (after B es) fs → AreIdle fs → GoesBy Q k B (es ++ fs) v
 goes_before {Q} k B es fs v g all idle =
     let end : after B (es ++ fs) ≡ after B es = after_both B es fs ∙ partly_after k (after B es) fs all in
     record {
       lined = lined_both k B es fs g.lined (partly_lined k (after B es) fs all);
       knows = subst (λ X. Knows X v) (sym end) g.knows;
       calls = subst (λ X. Calls X v) (sym end) g.calls;
-      puts = subst (λ X. AllByRecursion (Puts X) (es ++ fs)) (sym end) (all_both (Puts (after B es)) es fs g.puts (all_to (IsPartly k (after B es)) (Puts (after B es)) fs (λ e p. p.puts) all));
+      puts = subst (λ X. AllByRecursion (Puts X) (es ++ fs)) (sym end)
+          (all_both (Puts (after B es)) es fs g.puts (all_to (IsPartly k (after B es)) (Puts (after B es)) fs (λ e p. p.puts) all));
       acts = ap (λ (X : Book). X.acts) end ∙ g.acts;
       late = late_before Q B es fs g.late (late_partly Q k (after B es) fs all) idle;
     }
 
 -- ---- lines and messages
 
-pub says_partly : (k : ℕ) (B : Book) (u : Uid) (f : Label → Body) (c : Coord) → ((l : Label) → IsPartly k B (Say (f l))) → ArePartly k B (says u f c)
+pub says_partly : (k : ℕ) (B : Book) (u : Uid) (f : Label → Body) (c : Coord) → ((l : Label) → IsPartly k B (Say (f l))) →
+    ArePartly k B (says u f c)
 says_partly k B u f c each = by (doing_of u c)
   where
     by : (o : Option Doing) → ArePartly k B (say_for f o)
@@ -219,5 +228,7 @@ says_partly k B u f c each = by (doing_of u c)
 pub sends_partly : (k : ℕ) (B : Book) (to : ℕ) (m : Message) → Claims B m → IsPartly k B (Send to m)
 sends_partly k B to m c = record { lined = c; same = refl; puts = tt }
 
-pub tells_partly : (k : ℕ) (B : Book) (root : Uid) (ack : Bool) (ends : List (Uid × End)) (nodes : List ℕ) → AreSaid B ends → ArePartly k B (tell_all root ack ends nodes)
-tells_partly k B root ack ends nodes s = all_map (IsPartly k B) (tell root ack ends) nodes (λ n i. sends_partly k B n (message.Told (record { root = root; ack = ack; ends = ends })) (tt, s))
+pub tells_partly : (k : ℕ) (B : Book) (root : Uid) (ack : Bool) (ends : List (Uid × End)) (nodes : List ℕ) → AreSaid B ends →
+    ArePartly k B (tell_all root ack ends nodes)
+tells_partly k B root ack ends nodes s = all_map (IsPartly k B) (tell root ack ends) nodes
+    (λ n i. sends_partly k B n (message.Told (record { root = root; ack = ack; ends = ends })) (tt, s))

@@ -1,20 +1,10 @@
 -- Open actions: those below one of them are open too, and each is none of the others.
-use Rattle.std.proofs.Common.{◌≡◌, ◌≢◌, ◌<◌, arith, ℕ, suc, ◌+◌, ◌==◌, ◌&&◌, not, List, [], ◌∷◌, ◌++◌, Bool, true, false, cond, filter, slice_get, Option, Some, None, refl, sym, ◌∙◌, ap, subst, inl, inr}
-use Rattle.std.specs.Prelude.{is_some}
-use Rattle.std.specs.List.{AllByRecursion}
-use Rattle.std.proofs.lemmas.Bool.{and_parts}
-use Rattle.arj_base.proofs.Uids.{uid_same}
-use Rattle.arj_base.specs.Rows.{is_on}
-use Rattle.arj_base.specs.Uid.{uid_eq}
-use Rattle.arj_lock.proofs.Members.{In, in_filter}
-use Rattle.arj_protocol.specs.Ask.{actor}
-use Rattle.arj_protocol.specs.Coord.{Coord, Doing, Idle, change_doing, doing_of}
-use Rattle.arj_protocol.specs.Ending.{ended}
-use Rattle.arj_protocol.specs.Tree.{Branch, Tree, at_place, branch_of, ended_at, ended_branch, is_below, is_open_below, latest_first, open_below}
-use Rattle.arj_protocol.specs.Words.{End, Uid, uids_of}
-use Rattle.arj_law_parts.proofs.parts.GoodCoords.{on_tree}
-use Rattle.arj_law_parts.proofs.parts.GoodTrees.{at_others, placed}
-use Rattle.arj_law_parts.proofs.parts.Settled.{doing_other, end_tree_on}
+use Rattle.arj_law_parts.proofs.Words
+use Words.{◌≡◌, ◌≢◌, ◌<◌, arith, ℕ, suc, ◌+◌, ◌==◌, ◌&&◌, not, List, [], ◌∷◌, ◌++◌, Bool, true, false, cond, filter, slice_get, Option}
+use Words.{Some, None, refl, sym, ◌∙◌, ap, subst, inl, inr, is_some, AllByRecursion, and_parts, uid_same, is_on, uid_eq, In, in_filter}
+use Words.{actor, Coord, Doing, Idle, change_doing, doing_of, ended, Branch, Tree, at_place, branch_of, ended_at, ended_branch}
+use Words.{is_open_below, latest_first, open_below, End, Uid, uids_of}
+use Rattle.arj_law_runs.proofs.Terms.{is_below, on_tree, at_others, placed, doing_other, end_tree_on}
 
 -- an open action at work, of this node
 pub record IsAtWork (k : ℕ) (c : Coord) (u : Uid) : Type 0 where
@@ -34,7 +24,8 @@ still_at_work : (k : ℕ) (c : Coord) (u w : Uid) (e : End) → IsAtWork k c u �
 still_at_work k c u w e it other a = record {
   branch = a.branch;
   doing = a.doing;
-  found = ap (branch_of w) (on_tree u f mid ∙ ap (λ o. ended_branch u e c.tree o) it.found) ∙ at_others u e c.tree it.branch it.found w other ∙ a.found;
+  found = ap (branch_of w) (on_tree u f mid ∙ ap (λ o. ended_branch u e c.tree o) it.found)
+      ∙ at_others u e c.tree it.branch it.found w other ∙ a.found;
   opened = a.opened;
   does = by (doing_of u mid) refl ∙ same ∙ a.does;
   here = a.here;
@@ -58,7 +49,8 @@ abbrev pub AreApart : List Uid → Type 0
 AreApart [] = Unit {0}
 AreApart (u ∷ us) = AllByRecursion (λ w. w ≢ u) us × AreApart us
 
-pub all_still : (k : ℕ) (c : Coord) (u : Uid) (e : End) (us : List Uid) → IsAtWork k c u → AllByRecursion (λ w. w ≢ u) us → AllByRecursion (IsAtWork k c) us → AllByRecursion (IsAtWork k (ended u e c)) us
+pub all_still : (k : ℕ) (c : Coord) (u : Uid) (e : End) (us : List Uid) → IsAtWork k c u → AllByRecursion (λ w. w ≢ u) us →
+    AllByRecursion (IsAtWork k c) us → AllByRecursion (IsAtWork k (ended u e c)) us
 all_still k c u e [] it apart opened = tt
 all_still k c u e (w ∷ us) it apart opened = (still_at_work k c u w e it apart.0 opened.0, all_still k c u e us it apart.1 opened.1)
 
@@ -73,7 +65,8 @@ all_behind P (w ∷ us) u all its = (all.0, all_behind P us u all.1 its)
 
 apart_behind : (us : List Uid) (u : Uid) → AreApart us → AllByRecursion (λ w. w ≢ u) us → AreApart (us ++ u ∷ [])
 apart_behind [] u apart others = (tt, tt)
-apart_behind (w ∷ us) u apart others = (all_behind (λ x. x ≢ w) us u apart.0 (λ same. others.0 (sym same)), apart_behind us u apart.1 others.1)
+apart_behind (w ∷ us) u apart others =
+    (all_behind (λ x. x ≢ w) us u apart.0 (λ same. others.0 (sym same)), apart_behind us u apart.1 others.1)
 
 is_off : (x : Bool) → not x ≡ true → x ≡ false
 is_off true isnt = absurd (cc isnt)
@@ -88,37 +81,47 @@ module _ (u : Uid) where
   lower_more k [] all = tt
   lower_more k (w ∷ us) all = (omega (arith, all.0), lower_more k us all.1)
 
-  found_apart : (k : ℕ) (bs : List Branch) (found : List Uid) → AreNumbered k bs → AllByRecursion (λ (w : Uid). w.num < k) found → AreApart found → AreApart (latest_first (filter (is_open_below u) bs) found)
+  found_apart : (k : ℕ) (bs : List Branch) (found : List Uid) → AreNumbered k bs → AllByRecursion (λ (w : Uid). w.num < k) found →
+      AreApart found → AreApart (latest_first (filter (is_open_below u) bs) found)
   found_apart k [] found numbers below apart = apart
   found_apart k (b ∷ bs) found numbers below apart = by (is_open_below u b) (λ more. found_apart (suc k) bs more numbers.1)
     where
-      by : (x : Bool) → ((more : List Uid) → AllByRecursion (λ (w : Uid). w.num < suc k) more → AreApart more → AreApart (latest_first (filter (is_open_below u) bs) more)) → AreApart (latest_first (cond x (b ∷ filter (is_open_below u) bs) (filter (is_open_below u) bs)) found)
-      by true rest = rest (actor b.path ∷ found) (omega (arith, numbers.0), lower_more k found below) (lower_not k (actor b.path) found numbers.0 below, apart)
+      by : (x : Bool) → ((more : List Uid) → AllByRecursion (λ (w : Uid). w.num < suc k) more → AreApart more →
+          AreApart (latest_first (filter (is_open_below u) bs) more)) →
+          AreApart (latest_first (cond x (b ∷ filter (is_open_below u) bs) (filter (is_open_below u) bs)) found)
+      by true rest = rest (actor b.path ∷ found) (omega (arith, numbers.0), lower_more k found below)
+          (lower_not k (actor b.path) found numbers.0 below, apart)
       by false rest = rest found (lower_more k found below) apart
 
   -- what holds of each that is found
-  found_all : (P : Uid → Type 0) (bs : List Branch) (found : List Uid) → ((b : Branch) → In b bs → P (actor b.path)) → AllByRecursion P found → AllByRecursion P (latest_first bs found)
+  found_all : (P : Uid → Type 0) (bs : List Branch) (found : List Uid) → ((b : Branch) → In b bs → P (actor b.path)) →
+      AllByRecursion P found → AllByRecursion P (latest_first bs found)
   found_all P [] found each all = all
   found_all P (b ∷ bs) found each all = found_all P bs (actor b.path ∷ found) (λ c i. each c (inr i)) (each b (inl refl), all)
 
 -- where each branch stands at the place of its action
 module _ (t : Tree) (places : (v : Uid) (b : Branch) → branch_of v t ≡ Some b → actor b.path ≡ v) where
-  own_at : (k : ℕ) (b : Branch) → at_place k t.branches ≡ Some b → (let v : Uid = record { node = t.node; inc = t.inc; num = k } in branch_of v t) ≡ Some b
+  own_at : (k : ℕ) (b : Branch) → at_place k t.branches ≡ Some b →
+      (let v : Uid = record { node = t.node; inc = t.inc; num = k } in branch_of v t) ≡ Some b
   own_at k b at = (λ i. cond (itself t.node i && itself t.inc i) (at_place k t.branches) None) ∙ at
     where
       itself : (n : ℕ) → (n == n) ≡ true
       itself n = grind arith
 
-  numbered : (bs : List Branch) (k : ℕ) → ((i : ℕ) (b : Branch) → slice_get bs i ≡ Some b → at_place (k + i) t.branches ≡ Some b) → AreNumbered k bs
+  numbered : (bs : List Branch) (k : ℕ) → ((i : ℕ) (b : Branch) → slice_get bs i ≡ Some b → at_place (k + i) t.branches ≡ Some b) →
+      AreNumbered k bs
   numbered [] k at = tt
   numbered (b ∷ bs) k at =
       let here : k + 0 ≡ k = omega arith in (
-        ap (λ (w : Uid). w.num) (places (record { node = t.node; inc = t.inc; num = k }) b (own_at k b (subst (λ n. at_place n t.branches ≡ Some b) here (at 0 b refl)))),
-        numbered bs (suc k) (λ i c is. let next : k + suc i ≡ suc k + i = omega arith in subst (λ n. at_place n t.branches ≡ Some c) next (at (suc i) c is)),
+        ap (λ (w : Uid). w.num) (places (record { node = t.node; inc = t.inc; num = k }) b
+            (own_at k b (subst (λ n. at_place n t.branches ≡ Some b) here (at 0 b refl)))),
+        numbered bs (suc k) (λ i c is. let next : k + suc i ≡ suc k + i = omega arith in
+            subst (λ n. at_place n t.branches ≡ Some c) next (at (suc i) c is)),
       )
 
   -- an open branch below another action
-  open_at : (u : Uid) (b : Branch) → In b (filter (is_open_below u) t.branches) → (branch_of (actor b.path) t ≡ Some b) × (is_some b.ended ≡ false) × (actor b.path ≢ u)
+  open_at : (u : Uid) (b : Branch) → In b (filter (is_open_below u) t.branches) →
+      (branch_of (actor b.path) t ≡ Some b) × (is_some b.ended ≡ false) × (actor b.path ≢ u)
   open_at u b i =
       let f = in_filter (is_open_below u) b t.branches i in
       let p = placed b t.branches f.0 in
@@ -134,11 +137,15 @@ module _ (t : Tree) (places : (v : Uid) (b : Branch) → branch_of v t ≡ Some 
           cc
 
   -- what holds of open actions holds of what is open below one, and then of this one; and each is none of the others
-  pub below_all : (P : Uid → Type 0) (u : Uid) → ((w : Uid) (b : Branch) → branch_of w t ≡ Some b → is_some b.ended ≡ false → P w) → P u → AllByRecursion P (open_below u t ++ u ∷ [])
-  below_all P u each its = all_behind P (open_below u t) u (found_all u P (filter (is_open_below u) t.branches) [] (λ b i. let o = open_at u b i in each (actor b.path) b o.0 o.1) tt) its
+  pub below_all : (P : Uid → Type 0) (u : Uid) → ((w : Uid) (b : Branch) → branch_of w t ≡ Some b → is_some b.ended ≡ false → P w) → P u →
+      AllByRecursion P (open_below u t ++ u ∷ [])
+  below_all P u each its = all_behind P (open_below u t) u
+      (found_all u P (filter (is_open_below u) t.branches) [] (λ b i. let o = open_at u b i in each (actor b.path) b o.0 o.1) tt) its
 
   pub below_apart : (u : Uid) → AreApart (open_below u t ++ u ∷ [])
-  below_apart u = apart_behind (open_below u t) u (found_apart u 1 t.branches [] all_numbered tt tt) (found_all u (λ w. w ≢ u) (filter (is_open_below u) t.branches) [] (λ b i. let o = open_at u b i in o.2) tt)
+  below_apart u = apart_behind (open_below u t) u (found_apart u 1 t.branches [] all_numbered tt tt)
+      (found_all u (λ w. w ≢ u) (filter (is_open_below u) t.branches) [] (λ b i. let o = open_at u b i in o.2) tt)
     where
       all_numbered : AreNumbered 1 t.branches
-      all_numbered = numbered t.branches 1 (λ i b is. let first : suc i ≡ 1 + i = omega arith in subst (λ n. at_place n t.branches ≡ Some b) first is)
+      all_numbered =
+          numbered t.branches 1 (λ i b is. let first : suc i ≡ 1 + i = omega arith in subst (λ n. at_place n t.branches ≡ Some b) first is)

@@ -1,51 +1,33 @@
 -- The beginning of an action leaves all that holds of nodes and messages.
-use Rattle.std.specs.Prelude.{slice_get}
-use Rattle.std.specs.Map.{lookup}
-use Rattle.std.specs.Ordering.{is_eq, nat_cmp}
-use Rattle.std.specs.Cmp.Lexicographic.{slice_cmp}
-use Rattle.std.specs.BTreeMap.{insert_entry}
-use Rattle.std.proofs.Common.{◌≡◌, ◌≢◌, ◌≤◌, ◌<◌, ◌+◌, ◌==◌, arith, ℕ, List, [], ◌∷◌, ◌++◌, length, Bool, true, false, cond, nat_le, Option, Some, None, Contains, refl, sym, ◌∙◌, ap, subst, inl, inr, eqb-true, length-append, zero, suc}
-use Rattle.std.proofs.lemmas.Bool.{and_parts, false_from_ne_true}
-use Rattle.std.proofs.lemmas.Bool.Decides.{nat_tests}
-use Rattle.arj_base.specs.Rows.{is_on}
-use Rattle.arj_lock.proofs.Members.{in_to}
-use Rattle.arj_protocol.specs.Words.ending
-use Rattle.arj_protocol.specs.Words.{Uid, Label, label_cmp, Kind, Path, name, uids_of, End}
-use Rattle.arj_protocol.specs.Words.kind
-use Rattle.arj_protocol.specs.Ask.{actor}
-use Rattle.arj_protocol.specs.Asking.{begin_action, began_line}
-use Rattle.arj_protocol.specs.Coord.{Coord, number_of}
-use Rattle.arj_protocol.specs.Effect.{Disk}
-use Rattle.arj_protocol.specs.Node.{Parts, with_coord}
-use Rattle.arj_protocol.specs.Step.{Node, begin_reasons, begin_refusal, branch_named, branch_numbered, first_reason, parent_of, refused_by}
-use Rattle.arj_protocol.specs.Tree.{Branch, at_place, is_own, is_serial, next_uid, path_below}
-use Rattle.arj_protocol.specs.World.{Labelled, is_serial_kind}
-use Rattle.arj_law_parts.specs.parts.Actions.{Action, Agree, AreBegun, AreCounted, Begins, MayBegin, action_of, paths_of}
-use Rattle.arj_law_parts.specs.parts.Claims.{IsSettled}
-use Rattle.arj_law_parts.specs.parts.Coords.{IsGoodCoord}
-use Rattle.arj_law_parts.specs.parts.Copies.{IsTree, Paths}
-use Rattle.arj_law_parts.specs.parts.Incs.{SaysInc}
-use Rattle.arj_law_parts.specs.parts.Messages.{Seals, IsDecided}
-use Rattle.arj_law_parts.proofs.parts.ObjectsAsked.{obj_begins}
-use Rattle.arj_law_parts.proofs.parts.Numbered.{num_begins}
-use Rattle.arj_law_parts.proofs.parts.Decided.{stand_begins}
-use Rattle.arj_law_parts.proofs.parts.EndsSaid.{said_on, sure_begins}
-use Rattle.arj_law_parts.proofs.parts.Begun.{agree_less, begins_in_tree, begun_tree, counted_more, path_found}
-use Rattle.arj_law_parts.proofs.parts.CoordInputs.{behind, named_found, next_path, off}
-use Rattle.arj_law_parts.proofs.parts.GoodNodes.{begin_well, elsewhere_well, tops_more}
-use Rattle.arj_law_parts.proofs.parts.TrueSteps.{begins_clear, claim_begins, faithful_begins, fits_begins, own_on}
-use Rattle.arj_law_runs.specs.kept.Worlds.{IsGood, IsGoodOf, IsGoodPlace, IsMemory, IsUp, KnowsLabels}
-use Rattle.arj_law_runs.proofs.kept.Handled.{begun_of, good_coord, it, one_tree, others_of, place_of, so_of}
-use Rattle.arj_law_runs.proofs.kept.Labels.{one_name, put_label}
-use Rattle.arj_law_runs.proofs.kept.Walked.{IsMine, Others, others_said, up_good}
-use Rattle.arj_law_parts.specs.moves.Keeps.{DidKeeps, MayGive, kind_below, label_at}
-use Rattle.arj_law_parts.specs.moves.Seen.{In, given, said, up}
-use Rattle.arj_promise.specs.Runs.{Post, Seen}
+use Rattle.arj_law_parts.proofs.Words
+use Words.{slice_get, lookup, is_eq, nat_cmp, slice_cmp, insert_entry, ◌≡◌, ◌≢◌, ◌≤◌, ◌<◌, ◌+◌, ◌==◌, arith, ℕ, List, [], ◌∷◌, ◌++◌, length}
+use Words.{Bool, true, false, cond, nat_le, Option, Some, None, Contains, refl, sym, ◌∙◌, ap, subst, inl, inr, eqb-true, length-append}
+use Words.{zero, suc, and_parts, false_from_ne_true, nat_tests, is_on, in_to, Uid, Label, label_cmp, Kind, Path, name, uids_of, End, actor}
+use Words.{begin_action, began_line, Coord, number_of, Disk, Parts, with_coord, Node, begin_reasons, begin_refusal, branch_named}
+use Words.{branch_numbered, first_reason, parent_of, refused_by, Branch, at_place, is_own, is_serial, next_uid, path_below, Labelled}
+use Words.{is_serial_kind, Post, Seen}
+use Words.ending
+use Words.kind
+use Rattle.arj_law_runs.proofs.Terms
+use Terms.{Action, Agree, AreBegun, AreCounted, MayBegin, action_of, paths_of, IsSettled, IsGoodCoord, IsTree, Paths, SaysInc, Seals}
+use Terms.{IsDecided, stand_begins, said_on, agree_less, begun_tree, path_found, behind, named_found, off, IsGood, IsGoodOf, IsGoodPlace}
+use Terms.{IsMemory, IsUp, KnowsLabels, DidKeeps, MayGive, label_at, In, given, said, up}
+use Rattle.arj_law_parts.proofs.parts
+use parts.{Begun.begins_in_tree, Begun.counted_more, CoordInputs.next_path, EndsSaid.sure_begins, Numbered.num_begins}
+use parts.{ObjectsAsked.obj_begins}
+use parts.GoodNodes.{begin_well, elsewhere_well, tops_more}
+use parts.TrueSteps.{begins_clear, claim_begins, faithful_begins, fits_begins, own_on}
+use Rattle.arj_law_parts.specs.{moves.Keeps.kind_below, parts.Actions.Begins}
+use Rattle.arj_law_runs.proofs.kept
+use kept.{Labels.one_name, Labels.put_label}
+use kept.Handled.{begun_of, good_coord, it, one_tree, others_of, place_of, so_of}
+use kept.Walked.{IsMine, Others, others_said, up_good}
 
 -- ---- labels
 
 -- a label that is new leaves what others stand for
-label_stays : (l : Label) (g : Labelled) (labels : List (Label × Labelled)) → label_at l labels ≡ None → (q : Label) (h : Labelled) → label_at q labels ≡ Some h → label_at q (insert_entry label_cmp labels l g) ≡ Some h
+label_stays : (l : Label) (g : Labelled) (labels : List (Label × Labelled)) → label_at l labels ≡ None → (q : Label) (h : Labelled) →
+    label_at q labels ≡ Some h → label_at q (insert_entry label_cmp labels l g) ≡ Some h
 label_stays l g labels new q h is = put_label q l g labels ∙ by (is_eq (label_cmp q l)) refl
   where
     by : (b : Bool) → is_eq (label_cmp q l) ≡ b → cond b (Some g) (label_at q labels) ≡ Some h
@@ -55,7 +37,8 @@ label_stays l g labels new q h is = put_label q l g labels ∙ by (is_eq (label_
         found n = ap (λ m. lookup (λ x. is_eq (slice_cmp nat_cmp m (name x))) labels) (sym n)
     by false same = is
 
-known_more : (l : Label) (g : Labelled) (labels : List (Label × Labelled)) (c : Coord) → label_at l labels ≡ None → KnowsLabels labels c → KnowsLabels (insert_entry label_cmp labels l g) c
+known_more : (l : Label) (g : Labelled) (labels : List (Label × Labelled)) (c : Coord) → label_at l labels ≡ None → KnowsLabels labels c →
+    KnowsLabels (insert_entry label_cmp labels l g) c
 known_more l g labels c new known q j is = let k = known q j is in (k.0, k.1, label_stays l g labels new q k.0 k.2, k.3, k.4)
 
 -- ---- places
@@ -86,7 +69,8 @@ serial_same kind.Independent = refl
 some_is : {A : Type 0} (a b : A) → Some a ≡ Some b → a ≡ b
 some_is {A} a b is = let k : ◌≡◌ {A = Option A} (Some a) (Some b) = is in cc
 
-module _ (e k : ℕ) (d : Disk) (t : Parts) (l : Label) (how : Kind) (parent : Option Label) (M : Seen) (new : label_at l M.labels ≡ None) (may_give : MayGive M.labels k how parent) (none : begin_refusal how t.coord parent ≡ None) (good : IsGood (up k d t M)) where
+module _ (e k : ℕ) (d : Disk) (t : Parts) (l : Label) (how : Kind) (parent : Option Label) (M : Seen) (new : label_at l M.labels ≡ None)
+    (may_give : MayGive M.labels k how parent) (none : begin_refusal how t.coord parent ≡ None) (good : IsGood (up k d t M)) where
   abbrev c : Coord
   c = t.coord
 
@@ -102,24 +86,32 @@ module _ (e k : ℕ) (d : Disk) (t : Parts) (l : Label) (how : Kind) (parent : O
   -- ---- it may begin
 
   -- the branch of a label that isn't refused
-  parent_is : (p : Label) → begin_refusal how c (Some p) ≡ None → (g : Labelled) → label_at p M.labels ≡ Some g → (b : Branch) × (branch_named p c ≡ Some b) × (is_serial b.kind ≡ g.serial) × (first_reason (begin_reasons how b c) ≡ None)
+  parent_is : (p : Label) → begin_refusal how c (Some p) ≡ None → (g : Labelled) → label_at p M.labels ≡ Some g →
+      (b : Branch) × (branch_named p c ≡ Some b) × (is_serial b.kind ≡ g.serial) × (first_reason (begin_reasons how b c) ≡ None)
   parent_is p free g is = by (number_of p c) refl free
     where
-      by : (q : Option ℕ) → number_of p c ≡ q → refused_by (begin_reasons how) c (branch_numbered c q) ≡ None → (b : Branch) × (branch_named p c ≡ Some b) × (is_serial b.kind ≡ g.serial) × (first_reason (begin_reasons how b c) ≡ None)
+      by : (q : Option ℕ) → number_of p c ≡ q → refused_by (begin_reasons how) c (branch_numbered c q) ≡ None →
+          (b : Branch) × (branch_named p c ≡ Some b) × (is_serial b.kind ≡ g.serial) × (first_reason (begin_reasons how b c) ≡ None)
       by None at f = let no_way : ◌≡◌ {A = Option ℕ} (Some 6) None = f in cc
       by (Some j) at f =
           let q = was.known p j at in
-          let same : q.0 ≡ g = some_is q.0 g (sym q.2 ∙ is) in
-          (q.1, ap (branch_numbered c) at ∙ q.3, q.4 ∙ ap (λ (x : Labelled). x.serial) same, ap (refused_by (begin_reasons how) c) (sym q.3) ∙ f)
+          let same : q.0 ≡ g = some_is q.0 g (sym q.2 ∙ is) in (
+            q.1,
+            ap (branch_numbered c) at ∙ q.3,
+            q.4 ∙ ap (λ (x : Labelled). x.serial) same,
+            ap (refused_by (begin_reasons how) c) (sym q.3) ∙ f,
+          )
 
   contained : (p : Label) (b : Branch) → branch_named p c ≡ Some b → Contains good.0 (action_of b)
-  contained p b is = let g = good_coord e k d t M good in g.known (actor b.path) b (named_found good.0 (paths_of good.0) (one_tree e k d t M good) [] c g p b is)
+  contained p b is = let g = good_coord e k d t M good in
+      g.known (actor b.path) b (named_found good.0 (paths_of good.0) (one_tree e k d t M good) [] c g p b is)
 
   pub may : MayBegin good.0 how o
   may = by how parent may_give none (λ p free g is. parent_is p free g is)
     where
       Finds : Kind → Type 0
-      Finds h = (p : Label) → begin_refusal h c (Some p) ≡ None → (g : Labelled) → label_at p M.labels ≡ Some g → (b : Branch) × (branch_named p c ≡ Some b) × (is_serial b.kind ≡ g.serial) × (first_reason (begin_reasons h b c) ≡ None)
+      Finds h = (p : Label) → begin_refusal h c (Some p) ≡ None → (g : Labelled) → label_at p M.labels ≡ Some g →
+          (b : Branch) × (branch_named p c ≡ Some b) × (is_serial b.kind ≡ g.serial) × (first_reason (begin_reasons h b c) ≡ None)
 
       plain_parent : (g : Labelled) → kind.Nested ≡ kind_below g → g.serial ≡ false
       plain_parent g = is_off g.serial
@@ -165,11 +157,13 @@ module _ (e k : ℕ) (d : Disk) (t : Parts) (l : Label) (how : Kind) (parent : O
       by kind.Nested None give free finds = absurd give
       by kind.Nested (Some p) give free finds =
           let f = finds p free give.0 give.1 in
-          subst (λ q. MayBegin good.0 kind.Nested q) (sym f.1) (contained p f.0 f.1, unserial f.0.kind (f.2 ∙ plain_parent give.0 give.3), short f.0 f.3)
+          subst (λ q. MayBegin good.0 kind.Nested q) (sym f.1)
+          (contained p f.0 f.1, unserial f.0.kind (f.2 ∙ plain_parent give.0 give.3), short f.0 f.3)
       by kind.Constituent None give free finds = absurd give
       by kind.Constituent (Some p) give free finds =
           let f = finds p free give.0 give.1 in
-          subst (λ q. MayBegin good.0 kind.Constituent q) (sym f.1) (contained p f.0 f.1, serial_is f.0.kind (f.2 ∙ serial_parent give.0 give.3))
+          subst (λ q. MayBegin good.0 kind.Constituent q) (sym f.1)
+          (contained p f.0 f.1, serial_is f.0.kind (f.2 ∙ serial_parent give.0 give.3))
 
   -- ---- the new action
 
@@ -189,7 +183,8 @@ module _ (e k : ℕ) (d : Disk) (t : Parts) (l : Label) (how : Kind) (parent : O
   its_uid = let n = next_path good.0 begun how o c.tree may in n.uid
 
   begins : Begins a good.0
-  begins = begins_in_tree good.0 begun how o c.tree (subst (λ n. AreCounted n c.tree.inc (length c.tree.branches) good.0) (sym was.node) (subst (λ i. AreCounted k i (length c.tree.branches) good.0) (sym was.inc) was.counted)) may
+  begins = begins_in_tree good.0 begun how o c.tree (subst (λ n. AreCounted n c.tree.inc (length c.tree.branches) good.0) (sym was.node)
+      (subst (λ i. AreCounted k i (length c.tree.branches) good.0) (sym was.inc) was.counted)) may
 
   abbrev acts : List Action
   acts = a ∷ good.0
@@ -208,7 +203,8 @@ module _ (e k : ℕ) (d : Disk) (t : Parts) (l : Label) (how : Kind) (parent : O
 
   -- who is on its path is of this node
   pub its_node : (u : Uid) → is_on (uids_of p) u ≡ true → (u.node ≡ c.tree.node) × (u.inc ≡ c.tree.inc)
-  its_node u on = let q = and_parts (u.node == c.tree.node) (u.inc == c.tree.inc) (own_on good.0 begun (paths_of acts) new_tree l how parent c coord_now may none (path_is (paths_of acts) new_agrees) u on) in (eqb-true u.node c.tree.node q.0, eqb-true u.inc c.tree.inc q.1)
+  its_node u on = let q = and_parts (u.node == c.tree.node) (u.inc == c.tree.inc) (own_on good.0 begun (paths_of acts) new_tree l how parent
+      c coord_now may none (path_is (paths_of acts) new_agrees) u on) in (eqb-true u.node c.tree.node q.0, eqb-true u.inc c.tree.inc q.1)
 
   -- what a message says committed, or at its commit, is settled here where it is own
   settled : (q : Post) → In q M.sent → (u : Uid) → Seals q.message u → is_own u c.tree ≡ true → IsSettled u c
@@ -219,19 +215,26 @@ module _ (e k : ℕ) (d : Disk) (t : Parts) (l : Label) (how : Kind) (parent : O
       (h.seals u s).1 own
 
   clear : (q : Post) → In q M.sent → (u : Uid) → Seals q.message u → is_on (uids_of p) u ≡ false
-  clear q there u s = begins_clear good.0 begun (paths_of acts) new_tree l how parent c coord_now may none (path_is (paths_of acts) new_agrees) u (settled q there u s)
+  clear q there u s = begins_clear good.0 begun (paths_of acts) new_tree l how parent c coord_now may none
+      (path_is (paths_of acts) new_agrees) u (settled q there u s)
 
   -- an action of another node isn't counted there
   counted_elsewhere : (j i count : ℕ) → (j ≡ k → ⊥) → AreCounted j i count good.0 → AreCounted j i count acts
-  counted_elsewhere j i count other counted = counted_more j i count count a good.0 counted begins (omega arith) (λ same. absurd (other (sym same ∙ ap (λ (u : Uid). u.node) its_uid ∙ was.node)))
+  counted_elsewhere j i count other counted = counted_more j i count count a good.0 counted begins (omega arith)
+      (λ same. absurd (other (sym same ∙ ap (λ (u : Uid). u.node) its_uid ∙ was.node)))
 
   place_on : (j : ℕ) (n : Node) → (j ≡ k → ⊥) → IsGoodPlace good.0 M.sent M.labels j n → IsGoodPlace acts M.sent labels j n
-  place_on j n other g = record { disk = record { tops = tops_more a good.0 (let x = n.disk in x.intents) g.disk.tops; own = g.disk.own }; memory = by n.live g.memory; records = g.records }
+  place_on j n other g = record {
+    disk = record { tops = tops_more a good.0 (let x = n.disk in x.intents) g.disk.tops; own = g.disk.own };
+    memory = by n.live g.memory;
+    records = g.records;
+  }
     where
       by : (q : Option Parts) → IsMemory good.0 M.sent M.labels j n.disk.inc q → IsMemory acts M.sent labels j n.disk.inc q
       by None m = (m.0, counted_elsewhere j n.disk.inc m.0 other m.1)
       by (Some w) m = record {
-        good = λ paths tree agree. elsewhere_well a good.0 paths w off_it (λ x on. let f = m.voted x on in clear f.0 f.1 x f.2) (m.good paths tree (agree_less a good.0 paths agree));
+        good = λ paths tree agree. elsewhere_well a good.0 paths w off_it (λ x on. let f = m.voted x on in
+            clear f.0 f.1 x f.2) (m.good paths tree (agree_less a good.0 paths agree));
         node = m.node;
         inc = m.inc;
         server = m.server;
@@ -245,7 +248,8 @@ module _ (e k : ℕ) (d : Disk) (t : Parts) (l : Label) (how : Kind) (parent : O
       }
         where
           off_it : (u : Uid) → is_on (uids_of p) u ≡ true → is_own u w.coord.tree ≡ false
-          off_it u on = false_from_ne_true (is_own u w.coord.tree) (λ own. other (sym (sym (its_node u on).0 ∙ eqb-true u.node w.coord.tree.node (and_parts (u.node == w.coord.tree.node) (u.inc == w.coord.tree.inc) own).0 ∙ m.node) ∙ was.node))
+          off_it u on = false_from_ne_true (is_own u w.coord.tree) (λ own. other (sym (sym (its_node u on).0 ∙ eqb-true u.node
+              w.coord.tree.node (and_parts (u.node == w.coord.tree.node) (u.inc == w.coord.tree.inc) own).0 ∙ m.node) ∙ was.node))
 
   stands : (u : Uid) (x : End) → IsDecided u x c.tree → IsDecided u x v.coord.tree
   stands = let s = stand_begins how p c.tree in s.ends
@@ -257,7 +261,10 @@ module _ (e k : ℕ) (d : Disk) (t : Parts) (l : Label) (how : Kind) (parent : O
       record {
         inc = subst (λ f. SaysInc f d.inc q.message) from h.inc;
         node = λ u s. w.senders q u there s ∙ from;
-        seals = λ u s. let z = h.seals u s in (z.0, (claim_begins l how parent c u (w.senders q u there s ∙ from ∙ sym was.node, z.1, subst (λ i. u.inc ≤ i) (sym was.inc) z.0)).1);
+        seals = λ u s. let z = h.seals u s in (
+          z.0,
+          (claim_begins l how parent c u (w.senders q u there s ∙ from ∙ sym was.node, z.1, subst (λ i. u.inc ≤ i) (sym was.inc) z.0)).1,
+        );
         past = h.past;
         said = said_on c v.coord q.message (λ u. refl) stands h.said;
       }
@@ -269,7 +276,8 @@ module _ (e k : ℕ) (d : Disk) (t : Parts) (l : Label) (how : Kind) (parent : O
       record {
         begun = (begins, begun);
         places = λ j n other is. place_on j n other (f.places j n other is);
-        fits = λ q there. fits_begins good.0 begun (paths_of acts) new_tree l how parent c coord_now may none (path_is (paths_of acts) new_agrees) q.message (λ u s own. settled q there u s own) (w.fits q there);
+        fits = λ q there. fits_begins good.0 begun (paths_of acts) new_tree l how parent c coord_now may none
+            (path_is (paths_of acts) new_agrees) q.message (λ u s own. settled q there u s own) (w.fits q there);
         senders = w.senders;
         so = f.so;
         mine = mine_on;
@@ -284,21 +292,32 @@ module _ (e k : ℕ) (d : Disk) (t : Parts) (l : Label) (how : Kind) (parent : O
       x : Branch
       x = record { path = p; kind = how; ended = None; doomed = false }
 
-      by : (b : Bool) → is_eq (label_cmp q l) ≡ b → cond b (Some (let u = next_uid c.tree in u.num)) (number_of q c) ≡ Some j → (h : Labelled) × (b : Branch) × (label_at q labels ≡ Some h) × (at_place j (c.tree.branches ++ x ∷ []) ≡ Some b) × (is_serial b.kind ≡ h.serial)
-      by true same found = (g, x, put_label q l g M.labels ∙ ap (λ b. cond b (Some g) (label_at q M.labels)) same, place_last c.tree.branches x j (sym (some_is (length c.tree.branches + 1) j found) ∙ next (length c.tree.branches)), serial_same how)
+      by : (b : Bool) → is_eq (label_cmp q l) ≡ b → cond b (Some (let u = next_uid c.tree in u.num)) (number_of q c) ≡ Some j →
+          (h : Labelled) × (b : Branch) × (label_at q labels ≡ Some h) × (at_place j (c.tree.branches ++ x ∷ []) ≡ Some b)
+          × (is_serial b.kind ≡ h.serial)
+      by true same found = (
+        g,
+        x,
+        put_label q l g M.labels ∙ ap (λ b. cond b (Some g) (label_at q M.labels)) same,
+        place_last c.tree.branches x j (sym (some_is (length c.tree.branches + 1) j found) ∙ next (length c.tree.branches)),
+        serial_same how,
+      )
         where
           next : (n : ℕ) → n + 1 ≡ suc n
           next n = omega arith
-      by false apart found = let z = was.known q j found in (z.0, z.1, label_stays l g M.labels new q z.0 z.2, place_still c.tree.branches j z.1 x z.3, z.4)
+      by false apart found = let z = was.known q j found in
+          (z.0, z.1, label_stays l g M.labels new q z.0 z.2, place_still c.tree.branches j z.1 x z.3, z.4)
 
   up_now : IsUp acts M.sent labels k d.inc v
   up_now = record {
-    good = λ paths tree agree. begin_well good.0 begun paths tree (agree_less a good.0 paths agree) l how parent t may none (path_is paths agree) (λ w on. let f = was.voted w on in clear f.0 f.1 w f.2) (was.good paths tree (agree_less a good.0 paths agree));
+    good = λ paths tree agree. begin_well good.0 begun paths tree (agree_less a good.0 paths agree) l how parent t may none (path_is paths
+        agree) (λ w on. let f = was.voted w on in clear f.0 f.1 w f.2) (was.good paths tree (agree_less a good.0 paths agree));
     node = was.node;
     inc = was.inc;
     server = was.server;
     faithful = faithful_begins l how parent c was.faithful;
-    counted = counted_more k d.inc (length c.tree.branches) (length v.coord.tree.branches) a good.0 was.counted begins (omega (arith, longer)) (λ same. inr (ap (λ (u : Uid). u.inc) its_uid ∙ was.inc, its_number));
+    counted = counted_more k d.inc (length c.tree.branches) (length v.coord.tree.branches) a good.0 was.counted begins
+        (omega (arith, longer)) (λ same. inr (ap (λ (u : Uid). u.inc) its_uid ∙ was.inc, its_number));
     known = known_now;
     voted = was.voted;
     sure = sure_begins l how parent c was.sure;
@@ -310,10 +329,14 @@ module _ (e k : ℕ) (d : Disk) (t : Parts) (l : Label) (how : Kind) (parent : O
       longer = length-append c.tree.branches (record { path = p; kind = how; ended = None; doomed = false } ∷ [])
 
       its_number : (let u = actor p in u.num) ≤ length v.coord.tree.branches
-      its_number = let same : (let u = actor p in u.num) ≡ length c.tree.branches + 1 = ap (λ (u : Uid). u.num) its_uid in omega (arith, same, longer)
+      its_number = let same : (let u = actor p in u.num) ≡ length c.tree.branches + 1 = ap (λ (u : Uid). u.num) its_uid in
+          omega (arith, same, longer)
 
-  pub begin_good : DidKeeps (IsGoodOf acts) e k d t (begin_action l how parent o c) (given l (record { node = k; serial = is_serial_kind how }) M)
+  pub begin_good :
+      DidKeeps (IsGoodOf acts) e k d t (begin_action l how parent o c) (given l (record { node = k; serial = is_serial_kind how }) M)
   begin_good =
       let M2 = given l (record { node = k; serial = is_serial_kind how }) M in
       let x = place_of k d (Some t) M good in
-      up_good acts k d.inc v d (said e (began_line l how (next_uid c.tree) parent ∷ []) M2) (others_said acts k d.inc v e (began_line l how (next_uid c.tree) parent ∷ []) M2 others) (record { tops = tops_more a good.0 d.intents x.disk.tops; own = x.disk.own }) refl up_now (λ u i r own. stands u ending.Commit (x.records u i r own))
+      up_good acts k d.inc v d (said e (began_line l how (next_uid c.tree) parent ∷ []) M2) (others_said acts k d.inc v e (began_line l how
+      (next_uid c.tree) parent ∷ []) M2 others) (record { tops = tops_more a good.0 d.intents x.disk.tops; own = x.disk.own }) refl
+      up_now (λ u i r own. stands u ending.Commit (x.records u i r own))

@@ -1,12 +1,9 @@
 -- Labels and what they stand for.
-use Rattle.std.specs.Map.{lookup}
-use Rattle.std.specs.Ordering.{match_ordering, is_eq}
-use Rattle.std.specs.BTreeMap.{insert_entry, is_at}
-use Rattle.std.specs.Str.{bytes_eq}
-use Rattle.std.proofs.Common.{◌≡◌, List, [], ◌∷◌, Bool, true, false, cond, Option, Some, refl, sym, ◌∙◌, ap, Ordering, Less, Equal, Greater}
-use Rattle.std.proofs.lemmas.Slice.Eq.{bytes_eq-Decides}
-use Rattle.arj_text.proofs.Labels.{same_key}
-use Rattle.arj_protocol.specs.Words.{Label, label_cmp, name}
+use Rattle.arj_law_parts.proofs.Words
+use Words.{lookup, match_ordering, is_eq, insert_entry, is_at, bytes_eq, ◌≡◌, List, [], ◌∷◌, Bool, true, false, cond, Option, Some, refl}
+use Words.{sym, ◌∙◌, ap, bytes_eq-Decides, Label, label_cmp, name}
+use Rattle.arj_law_runs.proofs.Terms.{same_key}
+use Rattle.std.proofs.Common.{Ordering, Less, Equal, Greater}
 
 -- labels that compare as equal have one name
 pub one_name : (a b : Label) → is_eq (label_cmp a b) ≡ true → name a ≡ name b
@@ -19,12 +16,15 @@ abbrev pub at_label : {V : Type 0} → Label → List (Label × V) → Option V
 at_label l m = lookup (is_at (label_cmp l)) m
 
 -- what is found after a label is put: its value under the same name, else what was found before
-pub put_label : {V : Type 0} (q l : Label) (v : V) (m : List (Label × V)) → at_label q (insert_entry label_cmp m l v) ≡ cond (is_eq (label_cmp q l)) (Some v) (at_label q m)
+pub put_label : {V : Type 0} (q l : Label) (v : V) (m : List (Label × V)) →
+    at_label q (insert_entry label_cmp m l v) ≡ cond (is_eq (label_cmp q l)) (Some v) (at_label q m)
 put_label q l v [] = refl
 put_label {V} q l v (e ∷ es) = by (label_cmp l e.0) refl (put_label q l v es)
   where
-    by : (r : Ordering) → label_cmp l e.0 ≡ r → at_label q (insert_entry label_cmp es l v) ≡ cond (is_eq (label_cmp q l)) (Some v) (at_label q es)
-        → at_label q (match_ordering r ((l, v) ∷ e ∷ es) ((e.0, v) ∷ es) (e ∷ insert_entry label_cmp es l v)) ≡ cond (is_eq (label_cmp q l)) (Some v) (at_label q (e ∷ es))
+    by : (r : Ordering) → label_cmp l e.0 ≡ r →
+        at_label q (insert_entry label_cmp es l v) ≡ cond (is_eq (label_cmp q l)) (Some v) (at_label q es)
+        → at_label q (match_ordering r ((l, v) ∷ e ∷ es) ((e.0, v) ∷ es) (e ∷ insert_entry label_cmp es l v))
+        ≡ cond (is_eq (label_cmp q l)) (Some v) (at_label q (e ∷ es))
     by Less is ih = refl
     by Equal is ih = two
       where
@@ -41,9 +41,11 @@ put_label {V} q l v (e ∷ es) = by (label_cmp l e.0) refl (put_label q l v es)
             split true b k = refl
             split false true k = let no_way : true ≡ false = k in cc
             split false false k = refl
-    by Greater is ih = ap (λ o. cond (is_eq (label_cmp q e.0)) (Some e.1) o) ih ∙ split (is_eq (label_cmp q l)) (is_eq (label_cmp q e.0)) refl refl
+    by Greater is ih =
+        ap (λ o. cond (is_eq (label_cmp q e.0)) (Some e.1) o) ih ∙ split (is_eq (label_cmp q l)) (is_eq (label_cmp q e.0)) refl refl
       where
-        split : (a b : Bool) → is_eq (label_cmp q l) ≡ a → is_eq (label_cmp q e.0) ≡ b → cond b (Some e.1) (cond a (Some v) (at_label q es)) ≡ cond a (Some v) (cond b (Some e.1) (at_label q es))
+        split : (a b : Bool) → is_eq (label_cmp q l) ≡ a → is_eq (label_cmp q e.0) ≡ b →
+            cond b (Some e.1) (cond a (Some v) (at_label q es)) ≡ cond a (Some v) (cond b (Some e.1) (at_label q es))
         split true true k h =
             let one : name l ≡ name e.0 = sym (one_name q l k) ∙ one_name q e.0 h in
             let no_way : true ≡ false = sym (itself l) ∙ same_key l l ∙ ap (bytes_eq (name l)) one ∙ sym (same_key l e.0) ∙ ap is_eq is in

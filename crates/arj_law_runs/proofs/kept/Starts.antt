@@ -1,48 +1,32 @@
 -- All that holds of nodes and messages holds at first, and a restart leaves it.
-use Rattle.std.specs.Prelude.{slice_get}
-use Rattle.std.specs.List.{AllByRecursion}
-use Rattle.std.proofs.Common.{◌≡◌, ◌+◌, arith, ℕ, List, [], ◌∷◌, ◌++◌, length, map, zero, suc, true, false, Option, Some, None, refl, sym, ◌∙◌, ap, subst, ⊎_elim, length-append}
-use Rattle.arj_lock.proofs.Members.{in_from}
-use Rattle.arj_protocol.specs.Words.{Uid, Header}
-use Rattle.arj_protocol.specs.Words.body
-use Rattle.arj_protocol.specs.Coord.{Coord, new_coord}
-use Rattle.arj_protocol.specs.Confirm.{back_lines}
-use Rattle.arj_protocol.specs.Effect.{Disk, Effect, Say, Do, Look, PutInc, Before, After, InPart, Intent}
-use Rattle.arj_protocol.specs.Named.{Named}
-use Rattle.arj_protocol.specs.Naming.{Naming}
-use Rattle.arj_protocol.specs.Node.{Parts, query_about, prepared_actions}
-use Rattle.arj_protocol.specs.Order.{uid_set, without_number}
-use Rattle.arj_protocol.specs.Step.{Node, first_disk, first_node, hello_to, naming_at, naming_back, numbers_to, parts_in, recovered_records, restart_outs, tolds_again}
-use Rattle.arj_protocol.specs.Tree.{at_place, new_tree}
-use Rattle.arj_protocol.specs.World.{format}
-use Rattle.arj_law_parts.specs.parts.Ends.{AllSayEnds, AreOfCommits, IsSure, SaysEndsIn}
-use Rattle.arj_law_parts.specs.parts.Actions.{Agree, AreBegun, AreCounted, paths_of}
-use Rattle.arj_law_parts.specs.parts.Claims.{IsFaithful}
-use Rattle.arj_law_parts.specs.parts.Copies.{IsTree, Paths}
-use Rattle.arj_law_parts.specs.parts.Incs.{IsClaimsOf}
-use Rattle.arj_law_parts.specs.parts.Messages.{AllFit}
-use Rattle.arj_law_parts.specs.parts.Nodes.{IsGoodNode}
-use Rattle.arj_law_parts.proofs.parts.ObjectsAsked.{obj_new}
-use Rattle.arj_law_parts.proofs.parts.Numbered.{num_new}
-use Rattle.arj_law_parts.proofs.parts.EndsHandled.{says_queries}
-use Rattle.arj_law_parts.proofs.parts.EndsSaid.{none_in, sure_new, sure_records}
-use Rattle.arj_law_parts.proofs.parts.Begun.{begun_tree, counted_anew, path_found}
-use Rattle.arj_law_parts.proofs.parts.GoodNodes.{restart_well}
-use Rattle.arj_law_parts.proofs.parts.GoodTrees.{get_more}
-use Rattle.arj_law_parts.proofs.parts.SaidIncs.{all_both, all_flat, all_map, restart_of, true_inc}
-use Rattle.arj_law_parts.proofs.parts.TrueSteps.{faithful_new, later_home, true_records}
-use Rattle.arj_law_runs.specs.kept.Worlds.{IsGood, IsGoodOf, IsGoodDisk, IsGoodPlace, IsUp}
-use Rattle.arj_law_runs.proofs.kept.Handled.{counted_of, mine_anew, others_of, place_of, stopped_good}
-use Rattle.arj_law_runs.proofs.kept.Walked.{Others, are_kept, down_good, walked}
-use Rattle.arj_law_parts.specs.moves.Seen.{down}
-use Rattle.arj_promise.specs.Runs.{Seen, see}
-use Rattle.arj_law_parts.specs.moves.Walks.{Stops, Up, Walks}
+use Rattle.arj_law_parts.proofs.Words
+use Words.{slice_get, AllByRecursion, ◌≡◌, ◌+◌, arith, ℕ, List, [], ◌∷◌, ◌++◌, length, map, zero, suc, true, false, Option, Some, None}
+use Words.{refl, sym, ◌∙◌, ap, subst, ⊎_elim, length-append, in_from, Uid, Header, Coord, new_coord, back_lines, Disk, Effect, Say, Do}
+use Words.{Look, PutInc, Before, After, InPart, Intent, Named, Naming, Parts, query_about, prepared_actions, uid_set, without_number, Node}
+use Words.{first_disk, first_node, hello_to, naming_at, naming_back, numbers_to, parts_in, recovered_records, restart_outs, tolds_again}
+use Words.{at_place, new_tree, format, Seen, see}
+use Words.body
+use Rattle.arj_law_runs.proofs.Terms
+use Terms.{AllSayEnds, AreOfCommits, IsSure, SaysEndsIn, Agree, AreBegun, AreCounted, paths_of, IsTree, Paths, IsClaimsOf, AllFit}
+use Terms.{IsGoodNode, says_queries, none_in, sure_records, begun_tree, path_found, restart_well, get_more, all_both, all_flat, all_map}
+use Terms.{restart_of, true_inc, true_records, IsGood, IsGoodOf, IsGoodDisk, IsGoodPlace, IsUp, down, Up, Walks}
+use Rattle.arj_law_parts.proofs.parts
+use parts.{Begun.counted_anew, EndsSaid.sure_new, Numbered.num_new, ObjectsAsked.obj_new, TrueSteps.faithful_new, TrueSteps.later_home}
+use Rattle.arj_law_parts.specs.{moves.Walks.Stops, parts.Claims.IsFaithful}
+use Rattle.arj_law_runs.proofs.kept
+use kept.Handled.{counted_of, mine_anew, others_of, place_of, stopped_good}
+use kept.Walked.{Others, are_kept, down_good, walked}
 
 -- ---- a restart
 
 -- what a node says as it starts is so
-restart_claims : (hd : Header) (n inc : ℕ) (d : Disk) → (let v = parts_in n inc d in IsFaithful v.coord) → (let v = parts_in n inc d in AllByRecursion (IsClaimsOf v.coord) (restart_outs hd n inc d))
-restart_claims hd n inc d faithful = all_both P four hellos (all_both P three queries (all_both P two tolds (all_both P one records (tt, (tt, (tt, (tt, back (naming_at n inc d.names))))) (tt, all_map P (λ (e : Uid × Intent). Say (body.Recovered n e.0)) d.intents (λ e. tt))) (true_inc n inc c tolds (true_records c faithful)).0) (all_map P query_about (uid_set (prepared_actions d.store ++ prepared_actions d.names)) (λ w u s. absurd s))) (all_map P (hello_to n inc) (without_number n (numbers_to hd.nodes)) (λ w u s. absurd s))
+restart_claims : (hd : Header) (n inc : ℕ) (d : Disk) → (let v = parts_in n inc d in IsFaithful v.coord) →
+    (let v = parts_in n inc d in AllByRecursion (IsClaimsOf v.coord) (restart_outs hd n inc d))
+restart_claims hd n inc d faithful = all_both P four hellos
+    (all_both P three queries (all_both P two tolds (all_both P one records (tt, (tt, (tt, (tt, back (naming_at n inc d.names)))))
+    (tt, all_map P (λ (e : Uid × Intent). Say (body.Recovered n e.0)) d.intents (λ e. tt))) (true_inc n inc c tolds (true_records c
+    faithful)).0) (all_map P query_about (uid_set (prepared_actions d.store ++ prepared_actions d.names)) (λ w u s. absurd s)))
+    (all_map P (hello_to n inc) (without_number n (numbers_to hd.nodes)) (λ w u s. absurd s))
   where
     c : Coord
     c = record (new_coord n inc) { telling = d.intents }
@@ -79,15 +63,21 @@ restart_claims hd n inc d faithful = all_both P four hellos (all_both P three qu
     hellos = map (hello_to n inc) (without_number n (numbers_to hd.nodes))
 
 -- and what it says of ends
-restart_says : (hd : Header) (n inc : ℕ) (d : Disk) → (let v = parts_in n inc d in AreOfCommits d.intents v.coord.tree) → (let v = parts_in n inc d in AllSayEnds v.coord.tree (restart_outs hd n inc d))
-restart_says hd n inc d records = all_both P four hellos (all_both P three queries (all_both P two tolds (all_both P one recovered (tt, (tt, (tt, (tt, back (naming_at n inc d.names))))) (tt, all_map P (λ (e : Uid × Intent). Say (body.Recovered n e.0)) d.intents (λ e. tt))) (sure_records (new_tree n inc) d.intents records)) (says_queries (new_tree n inc) (uid_set (prepared_actions d.store ++ prepared_actions d.names)))) (all_map P (hello_to n inc) (without_number n (numbers_to hd.nodes)) (λ w. record { brings = λ u e k. none_in u e k; tells = λ u e k. none_in u e k }))
+restart_says : (hd : Header) (n inc : ℕ) (d : Disk) → (let v = parts_in n inc d in AreOfCommits d.intents v.coord.tree) →
+    (let v = parts_in n inc d in AllSayEnds v.coord.tree (restart_outs hd n inc d))
+restart_says hd n inc d records = all_both P four hellos
+    (all_both P three queries (all_both P two tolds (all_both P one recovered (tt, (tt, (tt, (tt, back (naming_at n inc d.names)))))
+    (tt, all_map P (λ (e : Uid × Intent). Say (body.Recovered n e.0)) d.intents (λ e. tt))) (sure_records (new_tree n inc) d.intents
+    records)) (says_queries (new_tree n inc) (uid_set (prepared_actions d.store ++ prepared_actions d.names)))) (all_map P (hello_to n inc)
+    (without_number n (numbers_to hd.nodes)) (λ w. record { brings = λ u e k. none_in u e k; tells = λ u e k. none_in u e k }))
   where
     P : Effect → Type 0
     P e = SaysEndsIn (new_tree n inc) e
 
     back : (o : Option Naming) → AllByRecursion (SaysEndsIn (new_tree n inc)) (naming_back o)
     back None = tt
-    back (Some o) = all_flat (SaysEndsIn (new_tree n inc)) (λ (e : ℕ × Named). back_lines e.1) o.objects (λ e. all_map (SaysEndsIn (new_tree n inc)) _ e.1.rows (λ r. tt))
+    back (Some o) = all_flat (SaysEndsIn (new_tree n inc)) (λ (e : ℕ × Named). back_lines e.1) o.objects
+        (λ e. all_map (SaysEndsIn (new_tree n inc)) _ e.1.rows (λ r. tt))
 
     one : List Effect
     one = Do Look ∷ Do (PutInc inc) ∷ Say (body.Up n inc) ∷ Do Look ∷ naming_back (naming_at n inc d.names)
@@ -185,14 +175,17 @@ module _ (hd : Header) (e k : ℕ) (d : Disk) (M : Seen) (good : IsGood (down k 
     (
       stops_inc,
       walked good.0 k (d.inc + 1) v 0 anew e (rest (rest (restart_outs hd k (d.inc + 1) d))) raised M
-          (are_kept good.0 k (d.inc + 1) v refl refl (rest (rest (restart_outs hd k (d.inc + 1) d))) (well (paths_of good.0) (begun_tree good.0 begun) (path_found good.0 begun)).1.1.1 (restart_claims hd k (d.inc + 1) d faithful).1.1 (restart_of hd k d).1.1 (restart_says hd k (d.inc + 1) d sure.records).1.1)
+          (are_kept good.0 k (d.inc + 1) v refl refl (rest (rest (restart_outs hd k (d.inc + 1) d)))
+          (well (paths_of good.0) (begun_tree good.0 begun) (path_found good.0 begun)).1.1.1
+          (restart_claims hd k (d.inc + 1) d faithful).1.1 (restart_of hd k d).1.1 (restart_says hd k (d.inc + 1) d sure.records).1.1)
           others raised_good refl started sure.records,
     ),
   )
 
 -- ---- at first
 
-got_map : {A B : Type 0} (f : A → B) (xs : List A) (k : ℕ) (b : B) → slice_get (map f xs) k ≡ Some b → (a : A) × (slice_get xs k ≡ Some a) × (f a ≡ b)
+got_map : {A B : Type 0} (f : A → B) (xs : List A) (k : ℕ) (b : B) → slice_get (map f xs) k ≡ Some b →
+    (a : A) × (slice_get xs k ≡ Some a) × (f a ≡ b)
 got_map {A} {B} f [] k b is = let no_way : ◌≡◌ {A = Option B} None (Some b) = is in cc
 got_map {A} {B} f (x ∷ xs) zero b is = (x, refl, (let s : ◌≡◌ {A = Option B} (Some (f x)) (Some b) = is in cc))
 got_map f (x ∷ xs) (suc k) b is = got_map f xs k b is
@@ -206,19 +199,22 @@ as_many (suc n) = length-append (numbers_to n) (suc n ∷ []) ∙ (λ i. as_many
 
 number_at : (n k j : ℕ) → slice_get (numbers_to n) k ≡ Some j → j ≡ suc k
 number_at zero k j is = let no_way : ◌≡◌ {A = Option ℕ} None (Some j) = is in cc
-number_at (suc n) k j is = ⊎_elim (λ old. number_at n k j old) (λ new. sym new.1 ∙ ap suc (sym (new.0 ∙ as_many n))) (get_more k (suc n) j (numbers_to n) is)
+number_at (suc n) k j is =
+    ⊎_elim (λ old. number_at n k j old) (λ new. sym new.1 ∙ ap suc (sym (new.0 ∙ as_many n))) (get_more k (suc n) j (numbers_to n) is)
 
 module _ (hd : Header) where
   pub first_at : (k : ℕ) (n : Node) → at_place k (map (first_node hd) (numbers_to hd.nodes)) ≡ Some n → first_node hd k ≡ n
   first_at zero n is = let no_way : ◌≡◌ {A = Option Node} None (Some n) = is in cc
-  first_at (suc k) n is = let q = got_map (first_node hd) (numbers_to hd.nodes) k n is in ap (first_node hd) (sym (number_at hd.nodes k q.0 q.1)) ∙ q.2
+  first_at (suc k) n is = let q = got_map (first_node hd) (numbers_to hd.nodes) k n is in
+      ap (first_node hd) (sym (number_at hd.nodes k q.0 q.1)) ∙ q.2
 
   none_counted : (k i count : ℕ) → AreCounted k i count []
   none_counted k i count a u there = absurd (in_from a [] there)
 
   started_up : (k : ℕ) → IsUp [] [] [] k 1 (parts_in k 1 (first_disk hd k))
   started_up k = record {
-    good = λ paths tree agree. (restart_well [] tt paths tree agree hd k 0 (record (first_disk hd k) { inc = 0 }) (none_counted k 0 0) tt).0;
+    good =
+        λ paths tree agree. (restart_well [] tt paths tree agree hd k 0 (record (first_disk hd k) { inc = 0 }) (none_counted k 0 0) tt).0;
     node = refl;
     inc = refl;
     server = refl;
@@ -232,7 +228,11 @@ module _ (hd : Header) where
   }
 
   place_first : (k : ℕ) → IsGoodPlace [] [] [] k (first_node hd k)
-  place_first k = record { disk = record { tops = tt; own = tt }; memory = started_up k; records = let s = sure_new [] k 0 1 0 [] (none_counted k 0 0) (omega arith) tt in s.records }
+  place_first k = record {
+    disk = record { tops = tt; own = tt };
+    memory = started_up k;
+    records = let s = sure_new [] k 0 1 0 [] (none_counted k 0 0) (omega arith) tt in s.records;
+  }
 
   -- before any action began
   pub first_of : IsGoodOf [] (see [] (format hd))

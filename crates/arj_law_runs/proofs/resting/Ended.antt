@@ -1,39 +1,29 @@
 -- What becomes of an action that waits: it goes on waiting for the same, or a line says what ends that.
-use Rattle.std.proofs.Common.{◌≡◌, ◌≢◌, ◌⊎◌, ◌∙◌, ◌+◌, ℕ, zero, suc, Bool, true, false, cond, List, [], ◌∷◌, ◌++◌, refl, sym, ap, subst, inl, inr, ⊎_elim, Option, Some, None, map}
-use Rattle.std.specs.Prelude.{⊤, ◌&&◌, ◌||◌, ◌==◌, slice_get}
-use Rattle.std.specs.List.{flat_map, list_any}
-use Rattle.arj_base.proofs.Uids.{uid_cases}
-use Rattle.arj_base.specs.Uid.{nobody}
-use Rattle.arj_lock.proofs.Members.{In}
-use Rattle.arj_lock.proofs.Passes.{in_left, in_right}
-use Rattle.arj_law_runs.proofs.coordinators.CoordUses.{some_is}
+use Rattle.arj_law_parts.proofs.Words
+use Words.{◌≡◌, ◌≢◌, ◌⊎◌, ◌∙◌, ◌+◌, ℕ, zero, suc, Bool, true, false, cond, List, [], ◌∷◌, ◌++◌, refl, sym, ap, subst, inl, inr, ⊎_elim}
+use Words.{Option, Some, None, map, ⊤, ◌&&◌, ◌||◌, ◌==◌, slice_get, flat_map, list_any, uid_cases, nobody, In, in_left, in_right, Asked}
+use Words.{Body, End, Header, Kind, Label, Op, Path, Uid, last_uid, uids_of, Reply, actor, ask_kind, reply_kind, again_all, begin_action}
+use Words.{call, call_steps, commit_action, commit_open, commits_in, end_line, ends_call, gaveup_lines, give_up, give_up_doing, gives_up}
+use Words.{goes_on, heard, heard_by, heard_call, heard_doing, heard_none, heard_now, include, kept_at, last_req, mark_lines, moved_commit}
+use Words.{next_req, renewed, root_heard, root_lost, root_moved, step_call, step_commit, waits_for_call, waits_for_commit, CallEnd}
+use Words.{CallStep, Ended, On, Steps, next_node, Aborts, Asks, CommitStep, Confirming, Decides, Machine, Marked, Plan, Preparing, Stays}
+use Words.{Voting, ask_of, left_of, nodes_given_up, plan_of, waiting, Calling, Committing, Coord, Doing, Idle, Now, change_doing, doing_of}
+use Words.{is_free, keeping_of, on_doing, on_root, plan_for, root_at, with_keeping, Did, Effect, Intent, Say, Served, abort_action}
+use Words.{aborts_with, all_aborted, decide, decided_told, ended, record_work, root_after, say_for, says, tolds_of, has, put_uid, unbound}
+use Words.{Input, acts, branch_named, first_reason, is_waiting, is_waiting_now, on_branch, refusal_up, waits, waits_above, Branch, at_place}
+use Words.{ended_at, is_own, open_below, root_of, uses_object, IsAnswerTo, IsSameWork, eqb-true, and_parts}
+use Words.body
+use Words.cause
+use Words.ending
+use Words.kind
+use Words.calls
+use Words.commit
+use Words.input
+use Rattle.arj_law_runs.proofs.Terms.{doing_other, doing_put, is_act, EndsWait, IsAborted}
 use Rattle.arj_law_parts.proofs.steps.Spoken.{first_not}
-use Rattle.arj_law_parts.proofs.parts.Settled.{doing_other, doing_put}
-use Rattle.arj_protocol.specs.Words.{Asked, Body, End, Header, Kind, Label, Op, Path, Uid, last_uid, uids_of}
-use Rattle.arj_protocol.specs.Words.body
-use Rattle.arj_protocol.specs.Words.cause
-use Rattle.arj_protocol.specs.Words.ending
-use Rattle.arj_protocol.specs.Words.kind
-use Rattle.arj_protocol.specs.Ask.{Reply, actor, ask_kind, reply_kind}
-use Rattle.arj_protocol.specs.Asking.{again_all, begin_action, call, call_steps, commit_action, commit_open, commits_in, end_line, ends_call, gaveup_lines, give_up, give_up_doing, gives_up, goes_on, heard, heard_by, heard_call, heard_doing, heard_none, heard_now, include, kept_at, last_req, mark_lines, moved_commit, next_req, renewed, root_heard, root_lost, root_moved, step_call, step_commit, waits_for_call, waits_for_commit}
-use Rattle.arj_protocol.specs.Call as calls
-use Rattle.arj_protocol.specs.Call.{CallEnd, CallStep, Ended, On, Steps, next_node}
-use Rattle.arj_protocol.specs.Commit as commit
-use Rattle.arj_protocol.specs.Commit.{Aborts, Asks, CommitStep, Confirming, Decides, Machine, Marked, Plan, Preparing, Stays, Voting, ask_of, left_of, nodes_given_up, plan_of, waiting}
-use Rattle.arj_protocol.specs.Coord.{Calling, Committing, Coord, Doing, Idle, Now, change_doing, doing_of, is_free, keeping_of, on_doing, on_root, plan_for, root_at, with_keeping}
-use Rattle.arj_protocol.specs.Effect.{Did, Effect, Intent, Say, Served}
-use Rattle.arj_protocol.specs.Ending.{abort_action, aborts_with, all_aborted, decide, decided_told, ended, record_work, root_after, say_for, says, tolds_of}
-use Rattle.arj_protocol.specs.Order.{has, put_uid, unbound}
-use Rattle.arj_protocol.specs.Step as input
-use Rattle.arj_protocol.specs.Step.{Input, acts, branch_named, first_reason, is_waiting, is_waiting_now, on_branch, refusal_up, waits, waits_above}
-use Rattle.arj_protocol.specs.Tree.{Branch, at_place, ended_at, is_own, open_below, root_of, uses_object}
-use Rattle.arj_law_parts.specs.moves.Keeps.{is_act}
-use Rattle.arj_law_runs.specs.resting.Answered.{EndsWait, IsAborted, IsAnswered}
-use Rattle.arj_promise.specs.Waiting.{IsAnswerTo, IsSameWork}
+use Rattle.arj_law_runs.proofs.{coordinators.CoordUses.some_is, resting.Quiesces.again_doing}
 use Rattle.arj_law_runs.proofs.resting.Hearing.{Fits, IsHome, all_doing, answered_fits, doomed_work, end_work}
-use Rattle.arj_law_runs.proofs.resting.Quiesces.{again_doing}
-use Rattle.std.proofs.Common.{eqb-true}
-use Rattle.std.proofs.lemmas.Bool.{and_parts}
+use Rattle.arj_law_runs.specs.resting.Answered.{IsAnswered}
 
 -- ---- one action at work
 
@@ -48,12 +38,14 @@ own_work : (v : Uid) (f : Doing → Doing) (c : Coord) (d : Doing) → doing_of 
 own_work v f c d found = (λ i. doing_of v (change_doing f v c (found i))) ∙ doing_put v (f d) d c found
 
 ended_other : (v : Uid) (e : End) (c : Coord) (u : Uid) → u ≢ v → doing_of u (ended v e c) ≡ doing_of u c
-ended_other v e c u apart = other_work v (λ (d : Doing). record d { now = Idle }) (record c { tree = ended_at v e c.tree }) u apart ∙ end_work v e c u
+ended_other v e c u apart =
+    other_work v (λ (d : Doing). record d { now = Idle }) (record c { tree = ended_at v e c.tree }) u apart ∙ end_work v e c u
 
 -- ---- what goes on
 
 -- a request more is of the same work
-same_steps : (n : Now) (s : Steps) (req : ℕ) (at : calls.At) → IsSameWork n (Calling s) → IsSameWork n (Calling (record s { req = req; at = at }))
+same_steps : (n : Now) (s : Steps) (req : ℕ) (at : calls.At) → IsSameWork n (Calling s) →
+    IsSameWork n (Calling (record s { req = req; at = at }))
 same_steps (Calling r) s req at same = same
 same_steps (Committing m) s req at same = absurd same
 same_steps Idle s req at same = absurd same
@@ -151,12 +143,18 @@ module _ (k : ℕ) (l : Label) (u : Uid) (before : Now) where
   behind more outs s = record { line = s.line; said = in_right (Say s.line) more outs s.said; ends = s.ends }
 
   says_it : (f : Label → Body) (c : Coord) → IsStill c → EndsWait k l before (f l) → IsSaidIn (says u f c)
-  says_it f c s ends = subst (λ o. IsSaidIn (say_for f o)) (sym s.does) (record { line = f s.doing.label; said = inl refl; ends = subst (λ m. EndsWait k l before (f m)) (sym s.label) ends })
+  says_it f c s ends = subst (λ o. IsSaidIn (say_for f o)) (sym s.does)
+      (record { line = f s.doing.label; said = inl refl; ends = subst (λ m. EndsWait k l before (f m)) (sym s.label) ends })
 
   -- ---- calls
 
   goes_own : (s : Steps) (c : Coord) → u ≡ actor s.path → IsStill c → IsSameWork before (Calling s) → IsStill (goes_on s c).part
-  goes_own s c own st same = record { doing = f st.doing; does = ap (λ v. doing_of u (on_doing v f c)) (sym own) ∙ own_work u f c st.doing st.does; label = st.label; same = same }
+  goes_own s c own st same = record {
+    doing = f st.doing;
+    does = ap (λ v. doing_of u (on_doing v f c)) (sym own) ∙ own_work u f c st.doing st.does;
+    label = st.label;
+    same = same;
+  }
     where
       f : Doing → Doing
       f d = record d { req = s.req; now = Calling s }
@@ -166,15 +164,21 @@ module _ (k : ℕ) (l : Label) (u : Uid) (before : Now) where
   answers_it (Committing m) s e same = absurd same
   answers_it Idle s e same = absurd same
 
-  ends_own : (s : Steps) (e : CallEnd) (c : Coord) → u ≡ actor s.path → IsStill c → IsSameWork before (Calling s) → IsSaidIn (ends_call s e c).outs
-  ends_own s e c own st same = subst (λ v. IsSaidIn (says v (end_line s.x s.goal e) c)) own (says_it (end_line s.x s.goal e) c st (IsAnswered (answers_it before s e same)))
+  ends_own : (s : Steps) (e : CallEnd) (c : Coord) → u ≡ actor s.path → IsStill c → IsSameWork before (Calling s) →
+      IsSaidIn (ends_call s e c).outs
+  ends_own s e c own st same = subst (λ v. IsSaidIn (says v (end_line s.x s.goal e) c)) own
+      (says_it (end_line s.x s.goal e) c st (IsAnswered (answers_it before s e same)))
 
   steps_other : (s : Steps) (step : CallStep) (c : Coord) → u ≢ actor s.path → doing_of u (step_call s step c).part ≡ doing_of u c
-  steps_other s (On at) c apart = other_work (actor s.path) (λ (d : Doing). record d { req = s.req + 1; now = Calling (record s { req = s.req + 1; at = at }) }) c u apart
-  steps_other s (Ended e) c apart = doomed_work (actor s.path) e (on_root (root_of s.path) (root_heard s e) (on_doing (actor s.path) (λ (d : Doing). record d { now = Idle }) c)) u ∙ other_work (actor s.path) (λ (d : Doing). record d { now = Idle }) c u apart
+  steps_other s (On at) c apart = other_work (actor s.path)
+      (λ (d : Doing). record d { req = s.req + 1; now = Calling (record s { req = s.req + 1; at = at }) }) c u apart
+  steps_other s (Ended e) c apart = doomed_work (actor s.path) e (on_root (root_of s.path) (root_heard s e) (on_doing (actor s.path)
+      (λ (d : Doing). record d { now = Idle }) c)) u ∙ other_work (actor s.path) (λ (d : Doing). record d { now = Idle }) c u apart
 
-  steps_become : (s : Steps) (step : CallStep) (c : Coord) → (u ≡ actor s.path → IsStill c → IsSameWork before (Calling s)) → Becomes c (step_call s step c).part (step_call s step c).outs
-  steps_become s step c its st = ⊎_elim (λ own. mine own step) (λ apart. inl (same_still c (step_call s step c).part (steps_other s step c apart) st)) (uid_cases u (actor s.path))
+  steps_become : (s : Steps) (step : CallStep) (c : Coord) → (u ≡ actor s.path → IsStill c → IsSameWork before (Calling s)) →
+      Becomes c (step_call s step c).part (step_call s step c).outs
+  steps_become s step c its st = ⊎_elim (λ own. mine own step)
+      (λ apart. inl (same_still c (step_call s step c).part (steps_other s step c apart) st)) (uid_cases u (actor s.path))
     where
       mine : u ≡ actor s.path → (t : CallStep) → IsStill (step_call s t c).part ⊎ IsSaidIn (step_call s t c).outs
       mine own (On at) = inl (goes_own (record s { req = s.req + 1; at = at }) c own st (same_steps before s (s.req + 1) at (its own st)))
@@ -183,13 +187,19 @@ module _ (k : ℕ) (l : Label) (u : Uid) (before : Now) where
   -- ---- commits
 
   commits_own : (v : Uid) (m : Machine) (c : Coord) → u ≡ v → IsStill c → IsSameWork before (Committing m) → IsStill (commits_in v m c)
-  commits_own v m c own st same = record { doing = f st.doing; does = ap (λ w. doing_of u (on_doing w f c)) (sym own) ∙ own_work u f c st.doing st.does; label = st.label; same = same }
+  commits_own v m c own st same = record {
+    doing = f st.doing;
+    does = ap (λ w. doing_of u (on_doing w f c)) (sym own) ∙ own_work u f c st.doing st.does;
+    label = st.label;
+    same = same;
+  }
     where
       f : Doing → Doing
       f d = record d { req = (plan_of m).req; now = Committing m }
 
   decided_other : (p : Plan) (c : Coord) → u ≢ actor p.path → doing_of u (decide p c).part ≡ doing_of u c
-  decided_other p c apart = by (commit.has_record p) ∙ other_work (actor p.path) (λ (d : Doing). record d { took = commit.participants p }) (ended (actor p.path) ending.Commit c) u apart ∙ ended_other (actor p.path) ending.Commit c u apart
+  decided_other p c apart = by (commit.has_record p) ∙ other_work (actor p.path) (λ (d : Doing). record d { took = commit.participants p })
+      (ended (actor p.path) ending.Commit c) u apart ∙ ended_other (actor p.path) ending.Commit c u apart
     where
       took : Coord
       took = on_doing (actor p.path) (λ (d : Doing). record d { took = commit.participants p }) (ended (actor p.path) ending.Commit c)
@@ -197,7 +207,9 @@ module _ (k : ℕ) (l : Label) (u : Uid) (before : Now) where
       r : Coord
       r = on_root (root_of p.path) (root_after p) took
 
-      by : (b : Bool) → doing_of u (cond b (record r { telling = put_uid (actor p.path) (record { root = root_of p.path; nodes = commit.participants p }) r.telling }) r) ≡ doing_of u took
+      by : (b : Bool) → doing_of u (cond b
+          (record r { telling = put_uid (actor p.path) (record { root = root_of p.path; nodes = commit.participants p }) r.telling }) r)
+          ≡ doing_of u took
       by true = refl
       by false = refl
 
@@ -206,51 +218,74 @@ module _ (k : ℕ) (l : Label) (u : Uid) (before : Now) where
   committed_it (Committing r) m same = refl
   committed_it Idle m same = absurd same
 
-  commit_other : (v : Uid) (step : CommitStep) (intents : List (Uid × Intent)) (c : Coord) → IsPathed v step → u ≢ v → doing_of u (step_commit v step intents c).part ≡ doing_of u c
-  commit_other v (Stays m) intents c pathed apart = other_work v (λ (d : Doing). record d { req = (plan_of m).req; now = Committing m }) c u apart
-  commit_other v (Asks m) intents c pathed apart = all_doing (plan_of m).path (plan_of m).req (waiting m) (commits_in v m c) u ∙ other_work v (λ (d : Doing). record d { req = (plan_of m).req; now = Committing m }) c u apart
+  commit_other : (v : Uid) (step : CommitStep) (intents : List (Uid × Intent)) (c : Coord) → IsPathed v step → u ≢ v →
+      doing_of u (step_commit v step intents c).part ≡ doing_of u c
+  commit_other v (Stays m) intents c pathed apart =
+      other_work v (λ (d : Doing). record d { req = (plan_of m).req; now = Committing m }) c u apart
+  commit_other v (Asks m) intents c pathed apart = all_doing (plan_of m).path (plan_of m).req (waiting m) (commits_in v m c) u
+      ∙ other_work v (λ (d : Doing). record d { req = (plan_of m).req; now = Committing m }) c u apart
   commit_other v (Decides p) intents c pathed apart = decided_other p c (λ own. apart (own ∙ pathed))
   commit_other v (Aborts why p) intents c pathed apart = ended_other v ending.Abort c u apart
 
-  commit_own : (v : Uid) (step : CommitStep) (intents : List (Uid × Intent)) (c : Coord) → IsPathed v step → u ≡ v → (st : IsStill c) → (m : Machine) → IsSameWork before (Committing m) → IsStill (step_commit v step intents c).part ⊎ IsSaidIn (step_commit v step intents c).outs
+  commit_own : (v : Uid) (step : CommitStep) (intents : List (Uid × Intent)) (c : Coord) → IsPathed v step → u ≡ v → (st : IsStill c) →
+      (m : Machine) → IsSameWork before (Committing m) →
+      IsStill (step_commit v step intents c).part ⊎ IsSaidIn (step_commit v step intents c).outs
   commit_own v (Stays n) intents c pathed own st m same = inl (commits_own v n c own st (same_commit before m n same))
-  commit_own v (Asks n) intents c pathed own st m same = inl (same_still (commits_in v n c) (step_commit v (Asks n) intents c).part (all_doing (plan_of n).path (plan_of n).req (waiting n) (commits_in v n c) u) (commits_own v n c own st (same_commit before m n same)))
-  commit_own v (Decides p) intents c pathed own st m same = inr (in_front (record_work (actor p.path) p ++ says (actor p.path) body.Committed c) (map (decided_told (root_of p.path) (actor p.path) p) p.sent)
-      (behind (record_work (actor p.path) p) (says (actor p.path) body.Committed c) (subst (λ w. IsSaidIn (says w body.Committed c)) (own ∙ sym pathed) (says_it body.Committed c st (IsAnswered (committed_it before m same))))))
-  commit_own v (Aborts why p) intents c pathed own st m same = inr (in_front (says v (λ m. body.Aborted m why) c) (tolds_of intents (ended v ending.Abort c) v)
+  commit_own v (Asks n) intents c pathed own st m same =
+      inl (same_still (commits_in v n c) (step_commit v (Asks n) intents c).part (all_doing (plan_of n).path (plan_of n).req (waiting n)
+      (commits_in v n c) u) (commits_own v n c own st (same_commit before m n same)))
+  commit_own v (Decides p) intents c pathed own st m same = inr (in_front
+      (record_work (actor p.path) p ++ says (actor p.path) body.Committed c) (map (decided_told (root_of p.path) (actor p.path) p) p.sent)
+      (behind (record_work (actor p.path) p) (says (actor p.path) body.Committed c) (subst (λ w. IsSaidIn (says w body.Committed c))
+      (own ∙ sym pathed) (says_it body.Committed c st (IsAnswered (committed_it before m same))))))
+  commit_own v (Aborts why p) intents c pathed own st m same =
+      inr (in_front (says v (λ m. body.Aborted m why) c) (tolds_of intents (ended v ending.Abort c) v)
       (subst (λ w. IsSaidIn (says w (λ m. body.Aborted m why) c)) own (says_it (λ m. body.Aborted m why) c st (IsAborted why refl))))
 
-  moved_become : (v : Uid) (marked : Marked) (intents : List (Uid × Intent)) (c : Coord) → IsPathed v marked.step → (u ≡ v → IsStill c → (m : Machine) × IsSameWork before (Committing m)) → Becomes c (moved_commit v marked intents c).part (moved_commit v marked intents c).outs
+  moved_become : (v : Uid) (marked : Marked) (intents : List (Uid × Intent)) (c : Coord) → IsPathed v marked.step →
+      (u ≡ v → IsStill c → (m : Machine) × IsSameWork before (Committing m)) →
+      Becomes c (moved_commit v marked intents c).part (moved_commit v marked intents c).outs
   moved_become v marked intents c pathed its st = ⊎_elim
-      (λ own. let m = its own st in ⊎_elim (λ still. inl still) (λ said. inr (behind (mark_lines v marked.marks c) (step_commit v marked.step intents c).outs said)) (commit_own v marked.step intents c pathed own st m.0 m.1))
-      (λ apart. inl (same_still c (step_commit v marked.step intents c).part (commit_other v marked.step intents c pathed apart) st)) (uid_cases u v)
+      (λ own. let m = its own st in ⊎_elim (λ still. inl still) (λ said. inr (behind (mark_lines v marked.marks c)
+      (step_commit v marked.step intents c).outs said)) (commit_own v marked.step intents c pathed own st m.0 m.1))
+      (λ apart. inl (same_still c (step_commit v marked.step intents c).part (commit_other v marked.step intents c pathed apart) st))
+      (uid_cases u v)
 
   -- ---- answers
 
   -- the action that waits is the one that is answered
   work_is : (c : Coord) (v : Uid) (q : Doing) (n : Now) → doing_of v c ≡ Some q → q.now ≡ n → u ≡ v → IsStill c → IsSameWork before n
-  work_is c v q n found is own st = subst (IsSameWork before) (ap (λ (d : Doing). d.now) (some_is st.doing q (sym st.does ∙ ap (λ w. doing_of w c) own ∙ found)) ∙ is) st.same
+  work_is c v q n found is own st = subst (IsSameWork before)
+      (ap (λ (d : Doing). d.now) (some_is st.doing q (sym st.does ∙ ap (λ w. doing_of w c) own ∙ found)) ∙ is) st.same
 
-  pub heard_becomes : (from : ℕ) (a : Asked) (r : Reply) (intents : List (Uid × Intent)) (c : Coord) → IsHome c → Becomes c (heard from a r intents c).part (heard from a r intents c).outs
+  pub heard_becomes : (from : ℕ) (a : Asked) (r : Reply) (intents : List (Uid × Intent)) (c : Coord) → IsHome c →
+      Becomes c (heard from a r intents c).part (heard from a r intents c).outs
   heard_becomes from a r intents c home = by (doing_of a.act c) refl
     where
-      call_so : (q : Doing) (s : Steps) → doing_of a.act c ≡ Some q → q.now ≡ Calling s → (b : Bool) → let x : Served Coord (Unit {0}) = cond b (heard_by (heard_call s r c)) (heard_none c) in Becomes c x.part x.outs
+      call_so : (q : Doing) (s : Steps) → doing_of a.act c ≡ Some q → q.now ≡ Calling s → (b : Bool) →
+          let x : Served Coord (Unit {0}) = cond b (heard_by (heard_call s r c)) (heard_none c) in Becomes c x.part x.outs
       call_so q s found is false = λ st. inl st
       call_so q s found is true = λ st.
           let m = calls.answered (is_free (root_of s.path) (actor s.path) s.x c) (kept_at s c) s.goal s.at r in
           let e : Coord = on_root (root_of s.path) (root_moved s r m) c in
-          steps_become s m.step e (λ own still. work_is c a.act q (Calling s) found is (own ∙ home.calls a.act q s found is) st) (same_still c e refl st)
+          steps_become s m.step e (λ own still. work_is c a.act q (Calling s) found is (own ∙ home.calls a.act q s found is) st)
+          (same_still c e refl st)
 
-      commit_so : (q : Doing) (m : Machine) → doing_of a.act c ≡ Some q → q.now ≡ Committing m → (b : Bool) → waits_for_commit from a r m ≡ b → let x : Served Coord (Unit {0}) = cond b (heard_by (moved_commit a.act (commit.answered from m r) intents c)) (heard_none c) in Becomes c x.part x.outs
+      commit_so : (q : Doing) (m : Machine) → doing_of a.act c ≡ Some q → q.now ≡ Committing m → (b : Bool) →
+          waits_for_commit from a r m ≡ b → let x : Served Coord (Unit {0}) = cond b
+          (heard_by (moved_commit a.act (commit.answered from m r) intents c)) (heard_none c) in Becomes c x.part x.outs
       commit_so q m found is false waits = λ st. inl st
       commit_so q m found is true waits = moved_become a.act (commit.answered from m r) intents c
-          (pathed_of from (Committing m) a.act (commit.answered from m r).step (answered_fits from a.act m r (home.commits a.act q m found is) (eqb-true (reply_kind r) (ask_kind (ask_of m from)) kinds.0)))
+          (pathed_of from (Committing m) a.act (commit.answered from m r).step
+          (answered_fits from a.act m r (home.commits a.act q m found is) (eqb-true (reply_kind r) (ask_kind (ask_of m from)) kinds.0)))
           (λ own still. (m, work_is c a.act q (Committing m) found is own still))
         where
           kinds : ((reply_kind r == ask_kind (ask_of m from)) ≡ true) × (has (left_of m) from ≡ true)
-          kinds = and_parts (reply_kind r == ask_kind (ask_of m from)) (has (left_of m) from) (and_parts ((plan_of m).req == a.req) ((reply_kind r == ask_kind (ask_of m from)) && has (left_of m) from) waits).1
+          kinds = and_parts (reply_kind r == ask_kind (ask_of m from)) (has (left_of m) from)
+              (and_parts ((plan_of m).req == a.req) ((reply_kind r == ask_kind (ask_of m from)) && has (left_of m) from) waits).1
 
-      now : (q : Doing) (n : Now) → doing_of a.act c ≡ Some q → q.now ≡ n → let x = heard_now from a r intents c n in Becomes c x.part x.outs
+      now : (q : Doing) (n : Now) → doing_of a.act c ≡ Some q → q.now ≡ n → let x = heard_now from a r intents c n in
+          Becomes c x.part x.outs
       now q Idle found is = λ st. inl st
       now q (Calling s) found is = call_so q s found is (waits_for_call from a r s)
       now q (Committing m) found is = commit_so q m found is (waits_for_commit from a r m) refl
@@ -295,7 +330,8 @@ module _ (k : ℕ) (l : Label) (u : Uid) (before : Now) where
   start_pathed [] p = begin_pathed (commit.targets_of p) p
   start_pathed (s ∷ ss) p = tt
 
-  commit_same : (b : Branch) (intents : List (Uid × Intent)) (c : Coord) → u ≢ actor b.path → doing_of u (commit_action b intents c).part ≡ doing_of u c
+  commit_same : (b : Branch) (intents : List (Uid × Intent)) (c : Coord) → u ≢ actor b.path →
+      doing_of u (commit_action b intents c).part ≡ doing_of u c
   commit_same b intents c apart = by b.doomed
     where
       plan : Plan
@@ -311,15 +347,18 @@ module _ (k : ℕ) (l : Label) (u : Uid) (before : Now) where
       kinds kind.Independent = top
       kinds kind.Constituent = top
 
-      by : (x : Bool) → doing_of u (cond x (aborts_with (actor b.path) cause.Doomed intents c) (commit_open b intents c b.kind)).part ≡ doing_of u c
+      by : (x : Bool) →
+          doing_of u (cond x (aborts_with (actor b.path) cause.Doomed intents c) (commit_open b intents c b.kind)).part ≡ doing_of u c
       by true = ended_other (actor b.path) ending.Abort c u apart
       by false = kinds b.kind
 
   all_become : (us : List Uid) (c : Coord) → Becomes c (all_aborted us c).part (all_aborted us c).outs
   all_become [] c st = inl st
   all_become (v ∷ vs) c st = ⊎_elim
-      (λ own. inr (in_front (says v (λ m. body.Aborted m cause.Asked) c) rest.outs (subst (λ w. IsSaidIn (says w (λ m. body.Aborted m cause.Asked) c)) own (says_it (λ m. body.Aborted m cause.Asked) c st (IsAborted cause.Asked refl)))))
-      (λ apart. ⊎_elim (λ still. inl still) (λ said. inr (behind (says v (λ m. body.Aborted m cause.Asked) c) rest.outs said)) (all_become vs e (same_still c e (ended_other v ending.Abort c u apart) st))) (uid_cases u v)
+      (λ own. inr (in_front (says v (λ m. body.Aborted m cause.Asked) c) rest.outs (subst (λ w. IsSaidIn
+      (says w (λ m. body.Aborted m cause.Asked) c)) own (says_it (λ m. body.Aborted m cause.Asked) c st (IsAborted cause.Asked refl)))))
+      (λ apart. ⊎_elim (λ still. inl still) (λ said. inr (behind (says v (λ m. body.Aborted m cause.Asked) c) rest.outs said))
+      (all_become vs e (same_still c e (ended_other v ending.Abort c u apart) st))) (uid_cases u v)
     where
       e : Coord
       e = ended v ending.Abort c
@@ -334,50 +373,65 @@ module _ (k : ℕ) (l : Label) (u : Uid) (before : Now) where
 
   given_pathed : (m : Machine) (v : Uid) → actor (plan_of m).path ≡ v → IsPathed v (commit.given_up m).step
   given_pathed (Voting p left) v is = tt
-  given_pathed (Preparing p left) v is = confirm_pathed (commit.marks_stores left p).used (commit.marks_stores left p) v (ap actor (marks_path left p) ∙ is)
+  given_pathed (Preparing p left) v is =
+      confirm_pathed (commit.marks_stores left p).used (commit.marks_stores left p) v (ap actor (marks_path left p) ∙ is)
   given_pathed (Confirming p) v is = tt
 
-  give_up_becomes : (v : Uid) (intents : List (Uid × Intent)) (c : Coord) → IsHome c → Becomes c (give_up v intents c).part (give_up v intents c).outs
+  give_up_becomes : (v : Uid) (intents : List (Uid × Intent)) (c : Coord) → IsHome c →
+      Becomes c (give_up v intents c).part (give_up v intents c).outs
   give_up_becomes v intents c home = by (doing_of v c) refl
     where
-      now : (q : Doing) (n : Now) → doing_of v c ≡ Some q → q.now ≡ n → Becomes c (gives_up v intents c n).part (gives_up v intents c n).outs
+      now : (q : Doing) (n : Now) → doing_of v c ≡ Some q → q.now ≡ n →
+          Becomes c (gives_up v intents c n).part (gives_up v intents c n).outs
       now q Idle found is st = inl st
       now q (Calling s) found is st =
           let e : Coord = on_root (root_of s.path) (root_lost s (calls.given_up s.at)) c in
           let t = step_call s (calls.given_up s.at) e in
           ⊎_elim (λ still. inl still) (λ said. inr (behind (gaveup_lines v (next_node s ∷ []) c) t.outs said))
-          (steps_become s (calls.given_up s.at) e (λ own still. work_is c v q (Calling s) found is (own ∙ home.calls v q s found is) st) (same_still c e refl st))
+          (steps_become s (calls.given_up s.at) e (λ own still. work_is c v q (Calling s) found is (own ∙ home.calls v q s found is) st)
+          (same_still c e refl st))
       now q (Committing m) found is st =
-          ⊎_elim (λ still. inl still) (λ said. inr (behind (gaveup_lines v (nodes_given_up m) c) (moved_commit v (commit.given_up m) intents c).outs said))
-          (moved_become v (commit.given_up m) intents c (given_pathed m v (home.commits v q m found is)) (λ own still. (m, work_is c v q (Committing m) found is own still)) st)
+          ⊎_elim (λ still. inl still)
+          (λ said. inr (behind (gaveup_lines v (nodes_given_up m) c) (moved_commit v (commit.given_up m) intents c).outs said))
+          (moved_become v (commit.given_up m) intents c (given_pathed m v (home.commits v q m found is))
+          (λ own still. (m, work_is c v q (Committing m) found is own still)) st)
 
       by : (o : Option Doing) → doing_of v c ≡ o → Becomes c (give_up_doing v intents c o).part (give_up_doing v intents c o).outs
       by None none st = inl st
       by (Some q) found st = now q q.now found refl st
 
-  pub acts_become : (hd : Header) (i : Input) (intents : List (Uid × Intent)) (c : Coord) → IsHome c → is_act i ≡ true → refusal_up hd i c ≡ None → Becomes c (acts i intents c).part (acts i intents c).outs
+  pub acts_become : (hd : Header) (i : Input) (intents : List (Uid × Intent)) (c : Coord) → IsHome c → is_act i ≡ true →
+      refusal_up hd i c ≡ None → Becomes c (acts i intents c).part (acts i intents c).outs
   acts_become hd (input.Call m x o) intents c home is free st = by (branch_named m c) free
     where
-      by : (f : Option Branch) → input.refused_by (input.call_reasons hd x o) c f ≡ None → let d = on_branch (λ b. call b.path x o c) c f in IsStill d.part ⊎ IsSaidIn d.outs
+      by : (f : Option Branch) → input.refused_by (input.call_reasons hd x o) c f ≡ None →
+          let d = on_branch (λ b. call b.path x o c) c f in IsStill d.part ⊎ IsSaidIn d.outs
       by None none = inl st
-      by (Some b) none = let g = second_free (input.call_reasons hd x o b c) none in inl (same_still c (call b.path x o c).part (call_same b.path x o c (apart_of c b (first_false (waits_above b c) (input.waits_below b c) g) st)) st)
+      by (Some b) none = let g = second_free (input.call_reasons hd x o b c) none in inl (same_still c (call b.path x o c).part
+          (call_same b.path x o c (apart_of c b (first_false (waits_above b c) (input.waits_below b c) g) st)) st)
   acts_become hd (input.Include m x s) intents c home is free st = by (branch_named m c) free
     where
-      by : (f : Option Branch) → input.refused_by (input.include_reasons hd x) c f ≡ None → let d = on_branch (λ b. include b.path x s c) c f in IsStill d.part ⊎ IsSaidIn d.outs
+      by : (f : Option Branch) → input.refused_by (input.include_reasons hd x) c f ≡ None →
+          let d = on_branch (λ b. include b.path x s c) c f in IsStill d.part ⊎ IsSaidIn d.outs
       by None none = inl st
-      by (Some b) none = let g = second_free (input.include_reasons hd x b c) none in inl (same_still c (include b.path x s c).part (include_same b.path x s c (apart_of c b (first_false (waits_above b c) (input.waits_below b c) g) st)) st)
+      by (Some b) none = let g = second_free (input.include_reasons hd x b c) none in inl (same_still c (include b.path x s c).part
+          (include_same b.path x s c (apart_of c b (first_false (waits_above b c) (input.waits_below b c) g) st)) st)
   acts_become hd (input.Commit m) intents c home is free st = by (branch_named m c) free
     where
-      by : (f : Option Branch) → input.refused_by input.commit_reasons c f ≡ None → let d = on_branch (λ b. commit_action b intents c) c f in IsStill d.part ⊎ IsSaidIn d.outs
+      by : (f : Option Branch) → input.refused_by input.commit_reasons c f ≡ None →
+          let d = on_branch (λ b. commit_action b intents c) c f in IsStill d.part ⊎ IsSaidIn d.outs
       by None none = inl st
-      by (Some b) none = let g = second_free (input.commit_reasons b c) none in inl (same_still c (commit_action b intents c).part (commit_same b intents c (apart_of c b (first_false (waits_above b c) (input.waits_below b c) (first_false (waits_above b c || input.waits_below b c) (input.sibling_waits b c) g)) st)) st)
+      by (Some b) none = let g = second_free (input.commit_reasons b c) none in
+          inl (same_still c (commit_action b intents c).part (commit_same b intents c (apart_of c b (first_false (waits_above b c)
+          (input.waits_below b c) (first_false (waits_above b c || input.waits_below b c) (input.sibling_waits b c) g)) st)) st)
   acts_become hd (input.Abort m) intents c home is free st = by (branch_named m c)
     where
       by : (f : Option Branch) → let d = on_branch (λ b. abort_action (actor b.path) intents c) c f in IsStill d.part ⊎ IsSaidIn d.outs
       by None = inl st
       by (Some b) =
           let us = open_below (actor b.path) c.tree ++ actor b.path ∷ [] in
-          ⊎_elim (λ still. inl still) (λ said. inr (in_front (all_aborted us c).outs (flat_map (tolds_of intents (all_aborted us c).part) us) said)) (all_become us c st)
+          ⊎_elim (λ still. inl still) (λ said.
+          inr (in_front (all_aborted us c).outs (flat_map (tolds_of intents (all_aborted us c).part) us) said)) (all_become us c st)
   acts_become hd (input.GiveUp m) intents c home is free st = by (branch_named m c)
     where
       by : (f : Option Branch) → let d = on_branch (λ b. give_up (actor b.path) intents c) c f in IsStill d.part ⊎ IsSaidIn d.outs
@@ -400,13 +454,15 @@ module _ (k : ℕ) (l : Label) (u : Uid) (before : Now) where
       at (x ∷ xs) zero is = is
       at (x ∷ xs) (suc i) is = at xs i is
 
-  pub begin_still : (m : Label) (how : Kind) (parent : Option Label) (above : Option Branch) (c : Coord) → IsStill c → IsStill (begin_action m how parent above c).part
+  pub begin_still : (m : Label) (how : Kind) (parent : Option Label) (above : Option Branch) (c : Coord) → IsStill c →
+      IsStill (begin_action m how parent above c).part
   begin_still m how parent above c st = record { doing = st.doing; does = by (is_own u c.tree) st.does; label = st.label; same = st.same }
     where
       one : Doing
       one = record { label = m; req = 0; now = Idle; took = [] }
 
-      by : (b : Bool) → cond b (at_place u.num c.doings) None ≡ Some st.doing → cond b (at_place u.num (c.doings ++ one ∷ [])) None ≡ Some st.doing
+      by : (b : Bool) → cond b (at_place u.num c.doings) None ≡ Some st.doing →
+          cond b (at_place u.num (c.doings ++ one ∷ [])) None ≡ Some st.doing
       by true is = place_front c.doings (one ∷ []) u.num st.doing is
       by false is = absurd (cc is)
 

@@ -1,24 +1,20 @@
 -- What ends, acknowledgements, questions and greetings leave: what is prepared, what is told again, and what is under way.
-use Rattle.std.proofs.Common.{◌≡◌, ◌≢◌, ◌∙◌, ℕ, Bool, true, false, List, [], ◌∷◌, ◌++◌, refl, sym, ap, subst, inl, inr, Option, Some, None}
-use Rattle.std.specs.Prelude.{◌&&◌, not, is_some, if◌then◌else◌}
-use Rattle.std.proofs.lemmas.Bool.{and_parts}
-use Rattle.std.specs.List.{AllByRecursion, flat_map}
-use Rattle.arj_lock.proofs.Members as members
+use Rattle.arj_law_parts.proofs.Words
+use Words.{◌≡◌, ◌≢◌, ◌∙◌, ℕ, Bool, true, false, List, [], ◌∷◌, ◌++◌, refl, sym, ap, subst, inl, inr, Option, Some, None, ◌&&◌, not, is_some}
+use Words.{if◌then◌else◌, and_parts, AllByRecursion, flat_map, End, Message, Uid, asks, is_on, answers, Abort, Commit, Disk, Do, Effect}
+use Words.{Look, Pair, Prepare, PutInc, PutIntent, RemoveIntent, Say, Send, Work, did_nothing, is_prepared, worked, Naming, end_entries}
+use Words.{end_lines, end_orphans, orphans, own_entries, taken_end, ack_told, end_states, naming_told, store_told, at_uid, without_uid}
+use Words.{Server, is_told}
+use Words.list as members
+use Words.ending
+use Words.body
+use Words.part
+use Words.role
+use Words.naming
+use Words.server
+use Rattle.arj_law_runs.proofs.Terms.{without_cases}
+use Rattle.arj_law_parts.proofs.parts.Keys.{sorted_without, without_same}
 use Rattle.arj_law_parts.specs.parts.Objects.{AreSorted}
-use Rattle.arj_law_parts.proofs.parts.Keys.{sorted_without, without_cases, without_same}
-use Rattle.arj_protocol.specs.Words.{End, Message, Uid, asks, is_on}
-use Rattle.arj_protocol.specs.Words.ending
-use Rattle.arj_protocol.specs.Words.body
-use Rattle.arj_protocol.specs.Words.part
-use Rattle.arj_protocol.specs.Words.role
-use Rattle.arj_protocol.specs.Ask.{answers}
-use Rattle.arj_protocol.specs.Effect.{Abort, Commit, Disk, Do, Effect, Look, Pair, Prepare, PutInc, PutIntent, RemoveIntent, Say, Send, Work, did_nothing, is_prepared, worked}
-use Rattle.arj_protocol.specs.Naming as naming
-use Rattle.arj_protocol.specs.Naming.{Naming, end_entries, end_lines, end_orphans, orphans, own_entries, taken_end}
-use Rattle.arj_protocol.specs.Node.{ack_told, end_states, naming_told, store_told}
-use Rattle.arj_protocol.specs.Order.{at_uid, without_uid}
-use Rattle.arj_protocol.specs.Server as server
-use Rattle.arj_protocol.specs.Server.{Server, is_told}
 use Rattle.arj_law_runs.proofs.resting.Effects.{works}
 
 -- ---- works that end what is prepared
@@ -62,7 +58,8 @@ sent_plain (e ∷ es) to m only (inl is) =
 sent_plain (e ∷ es) to m only (inr i) = sent_plain es to m only.1 i
 
 -- what stands after one is taken out stood before, and isn't that one
-without_less : {X : Type 0} (u w : Uid) (m : List (Uid × X)) → AreSorted m → is_some (at_uid u (without_uid w m)) ≡ true → (u ≢ w) × (is_some (at_uid u m) ≡ true)
+without_less : {X : Type 0} (u w : Uid) (m : List (Uid × X)) → AreSorted m → is_some (at_uid u (without_uid w m)) ≡ true →
+    (u ≢ w) × (is_some (at_uid u m) ≡ true)
 without_less {X} u w m sorted is = by (at_uid u (without_uid w m)) refl is
   where
     by : (o : Option X) → at_uid u (without_uid w m) ≡ o → is_some o ≡ true → (u ≢ w) × (is_some (at_uid u m) ≡ true)
@@ -88,10 +85,26 @@ then_fewer d c b f g = record { order = g.order; store = λ u is. f.store u (g.s
 
 -- an end takes its own
 end_fewer : (w : Work) (d : Disk) → ends_prepared (Do w) ≡ true → AreInOrder d → Fewer d (worked w d)
-end_fewer (Commit role.Store a) d is o = record { order = record { store = sorted_without a d.store.pend o.store; names = o.names }; store = λ u p. (without_less u a d.store.pend o.store p).1; names = λ u p. p }
-end_fewer (Commit role.Names a) d is o = record { order = record { store = o.store; names = sorted_without a d.names.pend o.names }; store = λ u p. p; names = λ u p. (without_less u a d.names.pend o.names p).1 }
-end_fewer (Abort role.Store a) d is o = record { order = record { store = sorted_without a d.store.pend o.store; names = o.names }; store = λ u p. (without_less u a d.store.pend o.store p).1; names = λ u p. p }
-end_fewer (Abort role.Names a) d is o = record { order = record { store = o.store; names = sorted_without a d.names.pend o.names }; store = λ u p. p; names = λ u p. (without_less u a d.names.pend o.names p).1 }
+end_fewer (Commit role.Store a) d is o = record {
+  order = record { store = sorted_without a d.store.pend o.store; names = o.names };
+  store = λ u p. (without_less u a d.store.pend o.store p).1;
+  names = λ u p. p;
+}
+end_fewer (Commit role.Names a) d is o = record {
+  order = record { store = o.store; names = sorted_without a d.names.pend o.names };
+  store = λ u p. p;
+  names = λ u p. (without_less u a d.names.pend o.names p).1;
+}
+end_fewer (Abort role.Store a) d is o = record {
+  order = record { store = sorted_without a d.store.pend o.store; names = o.names };
+  store = λ u p. (without_less u a d.store.pend o.store p).1;
+  names = λ u p. p;
+}
+end_fewer (Abort role.Names a) d is o = record {
+  order = record { store = o.store; names = sorted_without a d.names.pend o.names };
+  store = λ u p. p;
+  names = λ u p. (without_less u a d.names.pend o.names p).1;
+}
 end_fewer (PutInc i) d is o = absurd (cc is)
 end_fewer (Prepare r u s) d is o = absurd (cc is)
 end_fewer (PutIntent u i) d is o = absurd (cc is)
@@ -102,7 +115,8 @@ pub ends_fewer : (es : List Effect) (d : Disk) → OnlyEnd es → AreInOrder d �
 ends_fewer [] d only o = same_fewer d o
 ends_fewer (Say b ∷ es) d only o = ends_fewer es d only.1 o
 ends_fewer (Send to m ∷ es) d only o = ends_fewer es d only.1 o
-ends_fewer (Do w ∷ es) d only o = let f = end_fewer w d only.0 o in then_fewer d (worked w d) (works es (worked w d)) f (ends_fewer es (worked w d) only.1 f.order)
+ends_fewer (Do w ∷ es) d only o = let f = end_fewer w d only.0 o in
+    then_fewer d (worked w d) (works es (worked w d)) f (ends_fewer es (worked w d) only.1 f.order)
 
 -- ---- an end that is told
 
@@ -135,7 +149,8 @@ own_end u e d = by (is_prepared u d)
     by true = entries_end u e
     by false = tt
 
-own_over : (u : Uid) (e : End) (pair : Pair) (d : Disk) → AreInOrder d → (is_prepared u d.names ≡ true → is_prepared u pair ≡ true) → is_prepared u (works (own_entries u e pair) d).names ≡ false
+own_over : (u : Uid) (e : End) (pair : Pair) (d : Disk) → AreInOrder d → (is_prepared u d.names ≡ true → is_prepared u pair ≡ true) →
+    is_prepared u (works (own_entries u e pair) d).names ≡ false
 own_over u e pair d o there = by (is_prepared u pair) refl e
   where
     not_there : (b : Bool) → is_prepared u d.names ≡ b → is_prepared u pair ≡ false → b ≡ false
@@ -149,7 +164,8 @@ own_over u e pair d o there = by (is_prepared u pair) refl e
 
 orphans_end : (us : List Uid) → OnlyEnd (flat_map (λ act. end_entries act ending.Abort) us)
 orphans_end [] = tt
-orphans_end (u ∷ us) = only_on (end_entries u ending.Abort) (flat_map (λ act. end_entries act ending.Abort) us) (entries_end u ending.Abort) (orphans_end us)
+orphans_end (u ∷ us) =
+    only_on (end_entries u ending.Abort) (flat_map (λ act. end_entries act ending.Abort) us) (entries_end u ending.Abort) (orphans_end us)
 
 lines_end : (u : Uid) (e : End) (n : Naming) → OnlyEnd (end_lines u e n)
 lines_end u e n = by (naming.has_locks u n)
@@ -160,19 +176,23 @@ lines_end u e n = by (naming.has_locks u n)
 
 new_end : (u : Uid) (e : End) (d : Pair) (n : Naming) → OnlyEnd (naming.told_new u e d n).outs
 new_end u ending.Commit d n = lines_end u ending.Commit n
-new_end u ending.Abort d n = only_on (end_orphans u ending.Abort d n) (end_lines u ending.Abort n) (orphans_end (orphans u d n)) (lines_end u ending.Abort n)
+new_end u ending.Abort d n =
+    only_on (end_orphans u ending.Abort d n) (end_lines u ending.Abort n) (orphans_end (orphans u d n)) (lines_end u ending.Abort n)
 
-rest_end : (u : Uid) (e : End) (d : Pair) (n : Naming) (b : Bool) → OnlyEnd (if b then did_nothing n else naming.told_new u (taken_end u e n) d n).outs
+rest_end : (u : Uid) (e : End) (d : Pair) (n : Naming) (b : Bool) →
+    OnlyEnd (if b then did_nothing n else naming.told_new u (taken_end u e n) d n).outs
 rest_end u e d n true = tt
 rest_end u e d n false = new_end u (taken_end u e n) d n
 
 pub naming_ends : (u : Uid) (e : End) (d : Pair) (o : Option Naming) → OnlyEnd (naming_told u e d o).outs
 naming_ends u e d None = tt
-naming_ends u e d (Some n) = only_on (own_entries u e d) (if is_on n.told u then did_nothing n else naming.told_new u (taken_end u e n) d n).outs (own_end u e d) (rest_end u e d n (is_on n.told u))
+naming_ends u e d (Some n) = only_on (own_entries u e d) (if is_on n.told u then did_nothing n else naming.told_new u (taken_end u e n) d
+    n).outs (own_end u e d) (rest_end u e d n (is_on n.told u))
 
 pub server_ends : (n : ℕ) (ends : List (Uid × End)) (s : Server) → OnlyEnd (server.told n ends s).outs
 server_ends n [] s = tt
-server_ends n (e ∷ es) s = let d = server.end_one n e.0 e.1 s in only_on d.outs (server.apply_ends n es d.part).outs (one (is_told e.0 s)) (server_ends n es d.part)
+server_ends n (e ∷ es) s = let d = server.end_one n e.0 e.1 s in
+    only_on d.outs (server.apply_ends n es d.part).outs (one (is_told e.0 s)) (server_ends n es d.part)
   where
     lines : (u : Uid) (f : End) (b : Bool) → OnlyEnd (if b then Say (body.Told n u f part.Server) ∷ [] else [])
     lines u f true = (refl, tt)
@@ -192,12 +212,15 @@ pub record HasTold (u : Uid) (d c : Disk) : Type 0 where
   pub store : is_prepared u c.store ≡ false
   pub names : is_prepared u c.names ≡ false
 
-pub told_leaves : (n : ℕ) (u : Uid) (e : End) (d : Disk) (o : Option Naming) (rest : List Effect) → AreInOrder d → (is_prepared u d.names ≡ true → is_some o ≡ true) → OnlyEnd rest → HasTold u d (works (store_told n u e d.store ++ (naming_told u e d.names o).outs ++ rest) d)
-told_leaves n u e d o rest order home only = subst (HasTold u d) (sym (works_on (store_told n u e d.store ++ (naming_told u e d.names o).outs) rest d ∙ ap (works rest) (works_on (store_told n u e d.store) (naming_told u e d.names o).outs d))) (record {
-  fewer = then_fewer d a c one (then_fewer a b c two three);
-  store = not_more (is_prepared u b.store) (is_prepared u c.store) (λ is. three.store u is) (not_more (is_prepared u a.store) (is_prepared u b.store) (λ is. two.store u is) (store_over n u e d order));
-  names = not_more (is_prepared u b.names) (is_prepared u c.names) (λ is. three.names u is) (over o home);
-})
+pub told_leaves : (n : ℕ) (u : Uid) (e : End) (d : Disk) (o : Option Naming) (rest : List Effect) → AreInOrder d → (is_prepared u d.names
+    ≡ true → is_some o ≡ true) → OnlyEnd rest → HasTold u d (works (store_told n u e d.store ++ (naming_told u e d.names o).outs ++ rest) d)
+told_leaves n u e d o rest order home only = subst (HasTold u d) (sym (works_on (store_told n u e d.store ++ (naming_told u e d.names
+    o).outs) rest d ∙ ap (works rest) (works_on (store_told n u e d.store) (naming_told u e d.names o).outs d))) (record {
+      fewer = then_fewer d a c one (then_fewer a b c two three);
+      store = not_more (is_prepared u b.store) (is_prepared u c.store) (λ is. three.store u is)
+          (not_more (is_prepared u a.store) (is_prepared u b.store) (λ is. two.store u is) (store_over n u e d order));
+      names = not_more (is_prepared u b.names) (is_prepared u c.names) (λ is. three.names u is) (over o home);
+    })
   where
     a : Disk
     a = works (store_told n u e d.store) d
@@ -221,8 +244,10 @@ told_leaves n u e d o rest order home only = subst (HasTold u d) (sym (works_on 
     not_more x true up is = absurd (cc (sym (up refl) ∙ is))
     not_more x false up is = refl
 
-    over : (o : Option Naming) → (is_prepared u d.names ≡ true → is_some o ≡ true) → is_prepared u (works (naming_told u e d.names o).outs a).names ≡ false
-    over None home = not_more (is_prepared u d.names) (is_prepared u a.names) (λ is. one.names u is) (none (is_prepared u d.names) (λ is. home is))
+    over : (o : Option Naming) → (is_prepared u d.names ≡ true → is_some o ≡ true) →
+        is_prepared u (works (naming_told u e d.names o).outs a).names ≡ false
+    over None home =
+        not_more (is_prepared u d.names) (is_prepared u a.names) (λ is. one.names u is) (none (is_prepared u d.names) (λ is. home is))
       where
         none : (x : Bool) → (x ≡ true → false ≡ true) → x ≡ false
         none true h = absurd (cc (h refl))
@@ -233,4 +258,5 @@ told_leaves n u e d o rest order home only = subst (HasTold u d) (sym (works_on 
         let own : Fewer a mid = ends_fewer (own_entries u e d.names) a (own_end u e d.names) one.order in
         let more : Fewer mid (works tail mid) = ends_fewer tail mid (rest_end u e d.names m (is_on m.told u)) own.order in
         ap (λ (x : Disk). is_prepared u x.names) (works_on (own_entries u e d.names) tail a)
-        ∙ not_more (is_prepared u mid.names) (is_prepared u (works tail mid).names) (λ is. more.names u is) (own_over u e d.names a one.order (λ is. one.names u is))
+        ∙ not_more (is_prepared u mid.names) (is_prepared u (works tail mid).names) (λ is. more.names u is)
+        (own_over u e d.names a one.order (λ is. one.names u is))

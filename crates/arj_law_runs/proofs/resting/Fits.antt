@@ -1,17 +1,17 @@
 -- In each run there are no more frames than a run may have.
-use Rattle.std.proofs.Common.{◌≡◌, ◌≤◌, ◌+◌, ℕ, zero, suc, Bool, true, false, List, [], ◌∷◌, ◌++◌, refl, Option, Some, None, arith, length, length-append}
-use Rattle.std.specs.Prelude.{◌||◌, not, nat_lt, if◌then◌else◌}
-use Rattle.std.proofs.lemmas.Bool.Decides.{nat_tests}
-use Rattle.arj_law_parts.proofs.steps.Frames.{length_marked, steps_add}
-use Rattle.arj_protocol.specs.Words.{Event, Header}
-use Rattle.arj_protocol.specs.Words.body
-use Rattle.arj_protocol.specs.Words.event
-use Rattle.arj_protocol.specs.Words.which
-use Rattle.arj_protocol.specs.Step as input
-use Rattle.arj_protocol.specs.Step.{Input, first_reason}
-use Rattle.arj_protocol.specs.Tree.{at_place, set_place}
-use Rattle.arj_protocol.specs.World.{Arm, Asked, Frame, Giving, World, as_delivered, as_lost, begins, begins_any, counted, deliver, deliver_frame, format, frame_number, giving, happens, is_quiet, is_up_at, junk_fits, labels_unless, lacks_labels, limited, lose_frame, lowest, most_frames, new_frame, no_labels, node_numbers, node_of, quiesce, quiet_line, reasons, refused_at, run_event, run_unless, says, settle, settle_for, show_all, show_up, steps, tick_all, tick_up}
-use Rattle.arj_promise.specs.Runs.{Move, all_moved, moved, world_by}
+use Rattle.arj_law_parts.proofs.Words
+use Words.{◌≡◌, ◌≤◌, ◌+◌, ℕ, zero, suc, Bool, true, false, List, [], ◌∷◌, ◌++◌, refl, Option, Some, None, arith, length, length-append}
+use Words.{◌||◌, not, nat_lt, if◌then◌else◌, nat_tests, Event, Header, Input, first_reason, at_place, set_place, Arm, Frame, Giving, World}
+use Words.{as_delivered, as_lost, begins, begins_any, counted, deliver, deliver_frame, format, frame_number, giving, happens, is_quiet}
+use Words.{is_up_at, junk_fits, labels_unless, lacks_labels, limited, lose_frame, lowest, most_frames, new_frame, no_labels, node_numbers}
+use Words.{node_of, quiesce, quiet_line, reasons, refused_at, run_event, run_unless, settle, settle_for, show_all, show_up, steps, tick_all}
+use Words.{tick_up, Move, all_moved, moved, world_by}
+use Words.body
+use Words.event
+use Words.input
+use Rattle.arj_law_runs.proofs.Terms
+use Terms.{length_marked, steps_add, Asked, says}
+use Terms.which
 
 abbrev pub Few : World → Type 0
 Few w = length w.frames ≤ most_frames
@@ -32,23 +32,27 @@ delivers_few k w few = by (at_place k w.frames)
   where
     by : (o : Option Frame) → Few (deliver_frame k w o)
     by None = few
-    by (Some f) = steps_few f.to (input.Frame k f.from f.message) (record w { frames = set_place k (as_delivered f) w.frames }) (marked_few k (as_delivered f) w.frames few)
+    by (Some f) = steps_few f.to (input.Frame k f.from f.message) (record w { frames = set_place k (as_delivered f) w.frames })
+        (marked_few k (as_delivered f) w.frames few)
 
 settles_few : (fuel : ℕ) (w : World) → Few w → Few (settle_for fuel w)
 settles_few zero w few = few
 settles_few (suc fuel) w few = by (lowest w) (λ k. settles_few fuel (deliver k w) (delivers_few k w few))
   where
-    by : (o : Option ℕ) → ((k : ℕ) → Few (settle_for fuel (deliver k w))) → Few (elim o [ None ↦ w | Some k ↦ settle_for fuel (deliver k w) ])
+    by : (o : Option ℕ) → ((k : ℕ) → Few (settle_for fuel (deliver k w))) →
+        Few (elim o [ None ↦ w | Some k ↦ settle_for fuel (deliver k w) ])
     by None rest = few
     by (Some k) rest = rest k
 
 ticking_few : (ns : List ℕ) (w : World) → Few w → Few (tick_all ns w)
 ticking_few [] w few = few
-ticking_few (n ∷ ns) w few = ticking_few ns (tick_up n w) (either_few (w.full || not (is_up_at n w)) w (steps n input.Tick w) few (steps_few n input.Tick w few))
+ticking_few (n ∷ ns) w few =
+    ticking_few ns (tick_up n w) (either_few (w.full || not (is_up_at n w)) w (steps n input.Tick w) few (steps_few n input.Tick w few))
 
 showing_few : (x : ℕ) (ns : List ℕ) (w : World) → Few w → Few (show_all x ns w)
 showing_few x [] w few = few
-showing_few x (n ∷ ns) w few = showing_few x ns (show_up x n w) (either_few (is_up_at n w) (steps n (input.Show x) w) w (steps_few n (input.Show x) w few) few)
+showing_few x (n ∷ ns) w few =
+    showing_few x ns (show_up x n w) (either_few (is_up_at n w) (steps n (input.Show x) w) w (steps_few n (input.Show x) w few) few)
 
 quiet_few : (w : World) → Few w → Few (quiet_line w)
 quiet_few w few = either_few w.full w (says (body.Quiet (is_quiet w) ∷ []) w) few few
@@ -64,7 +68,8 @@ loses_few k w None few = few
 loses_few k w (Some f) few = marked_few k (as_lost f) w.frames few
 
 junk_few : (n : ℕ) (w : World) (b : Bool) → nat_lt (length w.frames) most_frames ≡ b → Few w → Few (junk_fits n w b)
-junk_few n w true room few = let long = length-append w.frames (new_frame 0 n None ∷ []) in more (length w.frames) (length (w.frames ++ new_frame 0 n None ∷ [])) room long
+junk_few n w true room few = let long = length-append w.frames (new_frame 0 n None ∷ []) in
+    more (length w.frames) (length (w.frames ++ new_frame 0 n None ∷ [])) room long
   where
     more : (a b : ℕ) → nat_lt a most_frames ≡ true → b ≡ a + 1 → b ≤ most_frames
     more a b room is = grind (arith, nat_tests)
@@ -107,7 +112,8 @@ happens_few (event.Show x) a w few = showing_few x (node_numbers w) w few
 
 unless_few : (e : Event) (a : Arm) (w : World) (r : Option ℕ) → Few w → Few (run_unless e a w r)
 unless_few e a w (Some c) few = few
-unless_few e a w None few = either_few (lacks_labels (giving e w) w) (no_labels w) (limited v) few (either_few v.full (says (body.Limit which.Frames ∷ []) (record v { over = true })) v there there)
+unless_few e a w None few = either_few (lacks_labels (giving e w) w) (no_labels w) (limited v) few
+    (either_few v.full (says (body.Limit which.Frames ∷ []) (record v { over = true })) v there there)
   where
     v : World
     v = happens e a (counted w)
@@ -116,7 +122,8 @@ unless_few e a w None few = either_few (lacks_labels (giving e w) w) (no_labels 
     there = happens_few e a (counted w) few
 
 events_few : (e : Asked) (w : World) → Few w → Few (run_event e w)
-events_few e w few = either_few w.over w (run_unless e.event e.arm w (first_reason (reasons e.event w))) few (unless_few e.event e.arm w (first_reason (reasons e.event w)) few)
+events_few e w few = either_few w.over w (run_unless e.event e.arm w (first_reason (reasons e.event w))) few
+    (unless_few e.event e.arm w (first_reason (reasons e.event w)) few)
 
 pub all_few : (ms : List Move) (w : World) → Few w → Few (all_moved ms w)
 all_few [] w few = few

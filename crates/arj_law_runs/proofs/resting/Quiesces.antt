@@ -1,50 +1,28 @@
 -- A quiesce answers whoever waits: what answers it is under way from the tick of its node on.
-use Rattle.std.proofs.Common.{◌≤◌, Bool, List, None, Option, Some, [], ap, arith, eqb-true, false, inl, inr, length, map, refl, subst, suc, sym, true, zero, ℕ, ⊎_elim, ◌++◌, ◌+◌, ◌∙◌, ◌∷◌, ◌≡◌, ◌⊎◌}
-use Rattle.std.specs.Prelude.{◌&&◌, ◌||◌, ◌==◌, nat_le, slice_get, if◌then◌else◌}
-use Rattle.std.proofs.lemmas.Bool.Decides.{nat_tests}
-use Rattle.arj_lock.proofs.Members as members
-use Rattle.arj_lock.proofs.Passes.{in_left, in_right}
+use Rattle.arj_law_parts.proofs.Words
+use Words.{◌≤◌, Bool, List, None, Option, Some, [], ap, arith, eqb-true, false, inl, inr, length, map, refl, subst, suc, sym, true, zero, ℕ}
+use Words.{⊎_elim, ◌++◌, ◌+◌, ◌∙◌, ◌∷◌, ◌≡◌, ◌⊎◌, ◌&&◌, ◌||◌, ◌==◌, nat_le, slice_get, if◌then◌else◌, nat_tests, in_left, in_right, Body}
+use Words.{Header, Message, Path, Uid, actor, again_all, again_now, asks_step, begin_action, Steps, Machine, left_of, plan_of, waiting}
+use Words.{Calling, Committing, Coord, Doing, Idle, Now, doing_of, Did, Disk, Effect, Send, tick_outs, Handled, Parts, Took, Void, holders}
+use Words.{query_about, taken, with_coord, has, Node, acts, is_waiting_now, parent_of, parts_in, restart_outs, tolds_again, at_place}
+use Words.{ends_of, is_own, root_of, World, is_serial_kind, lowest_from, most_frames, numbered, run_event, Move, moved, world_by, Post}
+use Words.{Seen, AreUp, IsOvertaken, IsSaid, coord_in}
+use Words.list as members
+use Words.event
+use Words.body
+use Rattle.arj_law_runs.proofs.Terms
+use Terms.{begun_tree, path_found, AreBegun, paths_of, IsAsking, IsBusy, IsGoodCoord, Asked, says, IsGood, IsGoodPlace, Holds, KeepsAsked}
+use Terms.{In, given, up, Up, arms_hold, keeps_asked, moves_asked, walks_both, AnswersWaits, WaitOvertaken, AreBrought, Asking, HasWay}
+use Terms.{Want, want_of_call, want_of_commit}
 use Rattle.arj_law_runs.proofs.coordinators.CoordUses.{some_is}
-use Rattle.arj_law_parts.proofs.parts.Begun.{begun_tree, path_found}
-use Rattle.arj_law_parts.specs.parts.Actions.{AreBegun, paths_of}
-use Rattle.arj_law_parts.specs.parts.Coords.{IsAsking, IsBusy, IsGoodCoord}
-use Rattle.arj_protocol.specs.Words.event
-use Rattle.arj_protocol.specs.Words.{Body, Header, Message, Path, Uid}
-use Rattle.arj_protocol.specs.Words.body
-use Rattle.arj_protocol.specs.Ask.{actor}
-use Rattle.arj_protocol.specs.Asking.{again_all, again_now, asks_step, begin_action}
-use Rattle.arj_protocol.specs.Call.{Steps}
-use Rattle.arj_protocol.specs.Commit.{Machine, left_of, plan_of, waiting}
-use Rattle.arj_protocol.specs.Coord.{Calling, Committing, Coord, Doing, Idle, Now, doing_of}
-use Rattle.arj_protocol.specs.Effect.{Did, Disk, Effect, Send}
-use Rattle.arj_protocol.specs.Follow.{tick_outs}
-use Rattle.arj_protocol.specs.Node.{Handled, Parts, Took, Void, holders, query_about, taken, with_coord}
-use Rattle.arj_protocol.specs.Order.{has}
-use Rattle.arj_protocol.specs.Step.{Node, acts, is_waiting_now, parent_of, parts_in, restart_outs, tolds_again}
-use Rattle.arj_protocol.specs.Tree.{at_place, ends_of, is_own, root_of}
-use Rattle.arj_protocol.specs.World.{Asked, World, is_serial_kind, lowest_from, most_frames, numbered, run_event, says}
 use Rattle.arj_law_runs.proofs.kept.AllRuns.{all_keep}
-use Rattle.arj_law_runs.specs.kept.Worlds.{IsGood, IsGoodPlace}
-use Rattle.arj_law_parts.specs.moves.Keeps.{Holds, KeepsAsked}
-use Rattle.arj_promise.specs.Runs.{Move, moved, world_by}
-use Rattle.arj_law_parts.specs.moves.Seen.{In, given, up}
-use Rattle.arj_promise.specs.Runs.{Post, Seen}
-use Rattle.arj_law_parts.specs.moves.Walks.{Up}
-use Rattle.arj_law_parts.proofs.moves.Happens.{arms_hold, keeps_asked}
-use Rattle.arj_law_parts.proofs.moves.Moving.{moves_asked}
-use Rattle.arj_law_parts.proofs.moves.Together.{walks_both}
-use Rattle.arj_law_runs.specs.resting.Rounds.{AnswersWaits, WaitOvertaken}
-use Rattle.arj_promise.specs.Resting.{AreUp}
-use Rattle.arj_law_runs.specs.resting.Waits.{AreBrought, Asking, HasWay, Want, want_of_call, want_of_commit}
-use Rattle.arj_promise.specs.Waiting.{IsOvertaken, IsSaid, coord_in}
-use Rattle.arj_law_runs.proofs.resting.Effects.{works}
-use Rattle.arj_law_runs.proofs.resting.Fits.{runs_few}
-use Rattle.arj_law_runs.proofs.resting.Flights.{Left, SameWay, with_here}
-use Rattle.arj_law_runs.proofs.resting.Hearing.{AsksIn, IsHome, all_doing, machine_asked, step_asked}
-use Rattle.arj_law_runs.proofs.resting.Passing.{Brought, coords, message_brings}
-use Rattle.arj_law_runs.proofs.resting.Settles.{Also, quiesce_leaves}
-use Rattle.arj_law_runs.proofs.resting.Ways.{AllBut, Then, brought_more, brought_of, post_of, put}
-use Rattle.arj_law_runs.proofs.resting.Worlds.{Of, Under, none_under, said_more}
+use Rattle.arj_law_runs.proofs.resting
+use resting.{Effects.works, Fits.runs_few, Settles.Also, Settles.quiesce_leaves}
+use resting.Flights.{Left, SameWay, with_here}
+use resting.Hearing.{AsksIn, IsHome, all_doing, machine_asked, step_asked}
+use resting.Passing.{Brought, coords, message_brings}
+use resting.Ways.{AllBut, Then, brought_more, brought_of, post_of, put}
+use resting.Worlds.{Of, Under, none_under, said_more}
 
 -- ---- what a tick asks again
 
@@ -58,10 +36,19 @@ again_doing (d ∷ ds) c w = again_doing ds (again_now c d.now).part w ∙ by d.
     by (Committing m) = all_doing (plan_of m).path (plan_of m).req (waiting m) c w
 
 -- what somebody waits for is asked again
-again_asked : (w : Want) (ds : List Doing) (c : Coord) (q : Doing) → members.In q ds → ((e : Coord) → AsksIn (again_now e q.now).outs w) → AsksIn (again_all ds c).outs w
+again_asked : (w : Want) (ds : List Doing) (c : Coord) (q : Doing) → members.In q ds → ((e : Coord) → AsksIn (again_now e q.now).outs w) →
+    AsksIn (again_all ds c).outs w
 again_asked w [] c q i each = absurd i
-again_asked w (d ∷ ds) c q (inl is) each = let a = subst (λ (x : Doing). AsksIn (again_now c x.now).outs w) (sym is) (each c) in record { message = a.message; sent = in_left (Send w.node a.message) (again_now c d.now).outs (again_all ds (again_now c d.now).part).outs a.sent; asks = a.asks }
-again_asked w (d ∷ ds) c q (inr i) each = let a = again_asked w ds (again_now c d.now).part q i each in record { message = a.message; sent = in_right (Send w.node a.message) (again_now c d.now).outs (again_all ds (again_now c d.now).part).outs a.sent; asks = a.asks }
+again_asked w (d ∷ ds) c q (inl is) each = let a = subst (λ (x : Doing). AsksIn (again_now c x.now).outs w) (sym is) (each c) in record {
+  message = a.message;
+  sent = in_left (Send w.node a.message) (again_now c d.now).outs (again_all ds (again_now c d.now).part).outs a.sent;
+  asks = a.asks;
+}
+again_asked w (d ∷ ds) c q (inr i) each = let a = again_asked w ds (again_now c d.now).part q i each in record {
+  message = a.message;
+  sent = in_right (Send w.node a.message) (again_now c d.now).outs (again_all ds (again_now c d.now).part).outs a.sent;
+  asks = a.asks;
+}
 
 pub doing_there : (u : Uid) (c : Coord) (q : Doing) → doing_of u c ≡ Some q → members.In q c.doings
 doing_there u c q = by (is_own u c.tree)
@@ -85,34 +72,47 @@ doing_there u c q = by (is_own u c.tree)
 abbrev Ways : (ℕ → Type 0) → (ℕ → Option Node) → (Post → Type 0) → (Body → Type 0) → Type 0
 Ways nodes found F B = AreBrought nodes (coords found) F B
 
-module _ (hd : Header) (P : Seen → Type 0) (gives : AnswersWaits hd P) (homes : (k : ℕ) (d : Disk) (t : Parts) (M : Seen) → P (up k d t M) → IsHome t.coord) where
-  ways_more : (nodes : ℕ → Type 0) (found : ℕ → Option Node) (F U : Post → Type 0) (B D : Body → Type 0) → SameWay F U → ((b : Body) → B b → D b) → Ways nodes found F B → Ways nodes found U D
+module _ (hd : Header) (P : Seen → Type 0) (gives : AnswersWaits hd P) (homes : (k : ℕ) (d : Disk) (t : Parts) (M : Seen) → P (up k d t M) →
+    IsHome t.coord) where
+  ways_more : (nodes : ℕ → Type 0) (found : ℕ → Option Node) (F U : Post → Type 0) (B D : Body → Type 0) → SameWay F U →
+      ((b : Body) → B b → D b) → Ways nodes found F B → Ways nodes found U D
   ways_more nodes found F U B D on said a = brought_more nodes (coords found) F U B D on.0 said a
 
-  ways_fewer : (nodes other : ℕ → Type 0) (found : ℕ → Option Node) (F : Post → Type 0) (B : Body → Type 0) → ((k : ℕ) → other k → nodes k) → Ways nodes found F B → Ways other found F B
+  ways_fewer : (nodes other : ℕ → Type 0) (found : ℕ → Option Node) (F : Post → Type 0) (B : Body → Type 0) →
+      ((k : ℕ) → other k → nodes k) → Ways nodes found F B → Ways other found F B
   ways_fewer nodes other found F B less c = record {
     calls = λ k e u q s there is does now. c.calls k e u q s (less k there) is does now;
     commits = λ k e u q m n there is does now left. c.commits k e u q m n (less k there) is does now left;
   }
 
-  ways_message : (nodes : ℕ → Type 0) (n : ℕ) (d : Disk) (t : Parts) (from : ℕ) (m : Message) (M : Seen) → P (up n d t M) → In (post_of from n m) M.sent → (F G : Post → Type 0) (B : Body → Type 0) → F (post_of from n m) → AllBut (post_of from n m) F G → ((q : Post) → G q → F q)
-      → ((b : Body) → IsSaid M.lines b → B b) → Ways nodes (up n d t M).nodes F B → Left (Ways nodes) n (record { disk = d; parts = t }) M.nodes G B (taken n d t from m)
-  ways_message nodes n d t from m M holds sent F G B under less back lines brought = by (taken n d t from m) (message_brings hd P gives homes nodes n d t from m M holds sent F G B less lines brought)
+  ways_message : (nodes : ℕ → Type 0) (n : ℕ) (d : Disk) (t : Parts) (from : ℕ) (m : Message) (M : Seen) → P (up n d t M) →
+      In (post_of from n m) M.sent → (F G : Post → Type 0) (B : Body → Type 0) → F (post_of from n m) → AllBut (post_of from n m) F G →
+      ((q : Post) → G q → F q)
+      → ((b : Body) → IsSaid M.lines b → B b) → Ways nodes (up n d t M).nodes F B →
+      Left (Ways nodes) n (record { disk = d; parts = t }) M.nodes G B (taken n d t from m)
+  ways_message nodes n d t from m M holds sent F G B under less back lines brought =
+      by (taken n d t from m) (message_brings hd P gives homes nodes n d t from m M holds sent F G B less lines brought)
     where
-      same : (v : Parts) (outs : List Effect) (k : ℕ) → coords (with_here n (record { disk = works outs d; parts = v }) M.nodes) k ≡ put n v.coord (coords (up n d t M).nodes) k
+      same : (v : Parts) (outs : List Effect) (k : ℕ) →
+          coords (with_here n (record { disk = works outs d; parts = v }) M.nodes) k ≡ put n v.coord (coords (up n d t M).nodes) k
       same v outs k = one (k == n)
         where
-          one : (b : Bool) → coord_in (if b then Some (record { number = n; disk = works outs d; live = Some v }) else M.nodes k) ≡ (if b then Some v.coord else coord_in (if b then Some (record { number = n; disk = d; live = Some t }) else M.nodes k))
+          one : (b : Bool) → coord_in (if b then Some (record { number = n; disk = works outs d; live = Some v }) else M.nodes k)
+              ≡ (if b then Some v.coord else coord_in (if b then Some (record { number = n; disk = d; live = Some t }) else M.nodes k))
           one true = refl
           one false = refl
 
-      by : (r : Handled) → Brought hd P gives homes nodes n (coords (up n d t M).nodes) G B r → Left (Ways nodes) n (record { disk = d; parts = t }) M.nodes G B r
+      by : (r : Handled) → Brought hd P gives homes nodes n (coords (up n d t M).nodes) G B r →
+          Left (Ways nodes) n (record { disk = d; parts = t }) M.nodes G B r
       by (Void outs) b = b
-      by (Took v outs) b = brought_of nodes (put n v.coord (coords (up n d t M).nodes)) (coords (with_here n (record { disk = works outs d; parts = v }) M.nodes)) (Then G n outs) B (same v outs) b
+      by (Took v outs) b = brought_of nodes (put n v.coord (coords (up n d t M).nodes))
+          (coords (with_here n (record { disk = works outs d; parts = v }) M.nodes)) (Then G n outs) B (same v outs) b
 
   -- after its tick a node's own are brought too
-  ways_ticked : (nodes : ℕ → Type 0) (n : ℕ) (d : Disk) (t : Parts) (M : Seen) → P (up n d t M) → (F : Post → Type 0) (B : Body → Type 0) → Ways nodes (up n d t M).nodes F B
-      → let outs = tick_outs (record { number = n; disk = d; live = Some t }) t in Ways (Also nodes n) (with_here n (record { disk = works outs d; parts = with_coord t (again_all t.coord.doings t.coord).part }) M.nodes) (Then F n outs) B
+  ways_ticked : (nodes : ℕ → Type 0) (n : ℕ) (d : Disk) (t : Parts) (M : Seen) → P (up n d t M) → (F : Post → Type 0) (B : Body → Type 0) →
+      Ways nodes (up n d t M).nodes F B
+      → let outs = tick_outs (record { number = n; disk = d; live = Some t }) t in Ways (Also nodes n) (with_here n
+      (record { disk = works outs d; parts = with_coord t (again_all t.coord.doings t.coord).part }) M.nodes) (Then F n outs) B
   ways_ticked nodes n d t M holds F B brought = record {
     calls = λ k c u q s there found does now. call k c u q s there (k == n) refl found does now;
     commits = λ k c u q m j there found does now left. commit k c u q m j there (k == n) refl found does now left;
@@ -128,7 +128,15 @@ module _ (hd : Header) (P : Seen → Type 0) (gives : AnswersWaits hd P) (homes 
       home = homes n d t M holds
 
       sent : (v : Want) → AsksIn again.outs v → HasWay (Then F n outs) n v
-      sent v a = record { post = post_of n v.node a.message; under_way = inr (refl, in_left (Send v.node a.message) (again.outs ++ tolds_again t.coord.telling) (map query_about (holders d t)) (in_left (Send v.node a.message) again.outs (tolds_again t.coord.telling) a.sent)); brings = Asking refl refl a.asks }
+      sent v a = record {
+        post = post_of n v.node a.message;
+        under_way = inr (
+          refl,
+          in_left (Send v.node a.message) (again.outs ++ tolds_again t.coord.telling) (map query_about (holders d t))
+              (in_left (Send v.node a.message) again.outs (tolds_again t.coord.telling) a.sent),
+        );
+        brings = Asking refl refl a.asks;
+      }
 
       old : (k : ℕ) (v : Want) → HasWay F k v → HasWay (Then F n outs) k v
       old k v way = record { post = way.post; under_way = inl way.under_way; brings = way.brings }
@@ -145,28 +153,38 @@ module _ (hd : Header) (P : Seen → Type 0) (gives : AnswersWaits hd P) (homes 
 
       -- another node is as it was
       other : (k : ℕ) (c : Coord) → (k == n) ≡ false → coord_in (M.nodes k) ≡ Some c → coords (up n d t M).nodes k ≡ Some c
-      other k c apart found = ap (λ b. coord_in (if b then Some (record { number = n; disk = d; live = Some t }) else M.nodes k)) apart ∙ found
+      other k c apart found =
+          ap (λ b. coord_in (if b then Some (record { number = n; disk = d; live = Some t }) else M.nodes k)) apart ∙ found
 
-      call : (k : ℕ) (c : Coord) (u : Uid) (q : Doing) (s : Steps) → Also nodes n k → (b : Bool) → (k == n) ≡ b → coord_in (if b then Some (record { number = n; disk = works outs d; live = Some (with_coord t again.part) }) else M.nodes k) ≡ Some c → doing_of u c ≡ Some q → q.now ≡ Calling s
+      call : (k : ℕ) (c : Coord) (u : Uid) (q : Doing) (s : Steps) → Also nodes n k → (b : Bool) → (k == n) ≡ b →
+          coord_in (if b then Some (record { number = n; disk = works outs d; live = Some (with_coord t again.part) }) else M.nodes k)
+          ≡ Some c → doing_of u c ≡ Some q → q.now ≡ Calling s
           → IsOvertaken B s ⊎ HasWay (Then F n outs) k (want_of_call u s)
-      call k c u q s there false apart found does now = ⊎_elim (λ o. inl o) (λ way. inr (old k (want_of_call u s) way)) (brought.calls k c u q s (before k there apart) (other k c apart found) does now)
+      call k c u q s there false apart found does now = ⊎_elim (λ o. inl o) (λ way. inr (old k (want_of_call u s) way))
+          (brought.calls k c u q s (before k there apart) (other k c apart found) does now)
       call k c u q s there true same found does now =
           let here = was_there u c q found does in
           let asked = again_asked (want_of_call u s) t.coord.doings t.coord q (doing_there u t.coord q here)
-          (λ e. subst (λ z. AsksIn (again_now e z).outs (want_of_call u s)) (sym now) (step_asked u s (ends_of (root_of s.path) e.tree) (asks_step s e).outs (home.calls u q s here now) (inl refl))) in
+          (λ e. subst (λ z. AsksIn (again_now e z).outs (want_of_call u s)) (sym now)
+          (step_asked u s (ends_of (root_of s.path) e.tree) (asks_step s e).outs (home.calls u q s here now) (inl refl))) in
           inr (subst (λ j. HasWay (Then F n outs) j (want_of_call u s)) (sym (eqb-true k n same)) (sent (want_of_call u s) asked))
 
-      commit : (k : ℕ) (c : Coord) (u : Uid) (q : Doing) (m : Machine) (j : ℕ) → Also nodes n k → (b : Bool) → (k == n) ≡ b → coord_in (if b then Some (record { number = n; disk = works outs d; live = Some (with_coord t again.part) }) else M.nodes k) ≡ Some c → doing_of u c ≡ Some q → q.now ≡ Committing m → has (left_of m) j ≡ true
+      commit : (k : ℕ) (c : Coord) (u : Uid) (q : Doing) (m : Machine) (j : ℕ) → Also nodes n k → (b : Bool) → (k == n) ≡ b →
+          coord_in (if b then Some (record { number = n; disk = works outs d; live = Some (with_coord t again.part) }) else M.nodes k)
+          ≡ Some c → doing_of u c ≡ Some q → q.now ≡ Committing m → has (left_of m) j ≡ true
           → HasWay (Then F n outs) k (want_of_commit u m j)
-      commit k c u q m j there false apart found does now left = old k (want_of_commit u m j) (brought.commits k c u q m j (before k there apart) (other k c apart found) does now left)
+      commit k c u q m j there false apart found does now left =
+          old k (want_of_commit u m j) (brought.commits k c u q m j (before k there apart) (other k c apart found) does now left)
       commit k c u q m j there true same found does now left =
           let here = was_there u c q found does in
           let asked = again_asked (want_of_commit u m j) t.coord.doings t.coord q (doing_there u t.coord q here)
-          (λ e. subst (λ z. AsksIn (again_now e z).outs (want_of_commit u m j)) (sym now) (machine_asked u m e j (home.commits u q m here now) left)) in
+          (λ e. subst (λ z. AsksIn (again_now e z).outs (want_of_commit u m j)) (sym now)
+          (machine_asked u m e j (home.commits u q m here now) left)) in
           subst (λ i. HasWay (Then F n outs) i (want_of_commit u m j)) (sym (eqb-true k n same)) (sent (want_of_commit u m j) asked)
 
 -- where nothing is under way nobody waits who isn't overtaken
-nobody_waits : (hd : Header) (w : World) → w.header ≡ hd → lowest_from 1 w.frames ≡ None → AreBrought (Of hd) (coords (λ k. at_place k w.nodes)) (Under w.frames) (IsSaid w.lines) → WaitOvertaken w
+nobody_waits : (hd : Header) (w : World) → w.header ≡ hd → lowest_from 1 w.frames ≡ None →
+    AreBrought (Of hd) (coords (λ k. at_place k w.nodes)) (Under w.frames) (IsSaid w.lines) → WaitOvertaken w
 nobody_waits hd w same none c k e u q node found does waits = by q.now refl waits
   where
     of : Of hd k
@@ -177,12 +195,14 @@ nobody_waits hd w same none c k e u q node found does waits = by q.now refl wait
 
     waits_for : (left : List ℕ) (m : Machine) → left_of m ≡ left → q.now ≡ Committing m → left_of m ≡ []
     waits_for [] m is now = is
-    waits_for (n ∷ ns) m is now = no_way (want_of_commit u m n) (c.commits k e u q m n of found does now (ap (λ xs. has xs n) is ∙ (λ i. same_number n i || has ns n)))
+    waits_for (n ∷ ns) m is now = no_way (want_of_commit u m n)
+        (c.commits k e u q m n of found does now (ap (λ xs. has xs n) is ∙ (λ i. same_number n i || has ns n)))
       where
         same_number : (j : ℕ) → (j == j) ≡ true
         same_number j = grind (arith, nat_tests)
 
-    by : (n : Now) → q.now ≡ n → is_waiting_now n ≡ true → ((s : Steps) × (q.now ≡ Calling s) × IsOvertaken (IsSaid w.lines) s) ⊎ ((m : Machine) × (q.now ≡ Committing m) × (left_of m ≡ []))
+    by : (n : Now) → q.now ≡ n → is_waiting_now n ≡ true →
+        ((s : Steps) × (q.now ≡ Calling s) × IsOvertaken (IsSaid w.lines) s) ⊎ ((m : Machine) × (q.now ≡ Committing m) × (left_of m ≡ []))
     by Idle now waits = absurd (cc waits)
     by (Calling s) now waits = inl (s, now, ⊎_elim (λ o. o) (λ way. no_way (want_of_call u s) way) (c.calls k e u q s of found does now))
     by (Committing m) now waits = inr (m, now, waits_for (left_of m) m refl now)
@@ -190,7 +210,18 @@ nobody_waits hd w same none c k e u q node found does waits = by q.now refl wait
 -- a line more
 waits_said : (c : World) (b : Body) → WaitOvertaken c → WaitOvertaken (says (b ∷ []) c)
 waits_said c b answers k e u q node found does waits = ⊎_elim
-    (λ s. inl (s.0, s.1, record { known = s.2.known; step = s.2.step; binding = s.2.binding; server = s.2.server; line = said_more c.lines (numbered c.event (b ∷ [])) (body.Bound (let x = s.0 in x.x) s.2.binding s.2.server) s.2.line; greater = s.2.greater }))
+    (λ s. inl (
+      s.0,
+      s.1,
+      record {
+        known = s.2.known;
+        step = s.2.step;
+        binding = s.2.binding;
+        server = s.2.server;
+        line = said_more c.lines (numbered c.event (b ∷ [])) (body.Bound (let x = s.0 in x.x) s.2.binding s.2.server) s.2.line;
+        greater = s.2.greater;
+      },
+    ))
     (λ m. inr m) (answers k e u q node found does waits)
 
 -- two relations together
@@ -198,12 +229,18 @@ pub asked_both : (hd : Header) (P Q : Seen → Type 0) → KeepsAsked hd P → K
 asked_both hd P Q k g = record {
   quiet = λ e bs M quiet h. (k.quiet e bs M quiet h.0, g.quiet e bs M quiet h.1);
   stop = λ e n d live M h. (k.stop e n d live M h.0, g.stop e n d live M h.1);
-  message = λ e n d t v from m outs M h sent meant is. walks_both P Q e n outs (Up P n v) (Up Q n v) d M (k.message e n d t v from m outs M h.0 sent meant is) (g.message e n d t v from m outs M h.1 sent meant is);
-  act = λ e n d t i M about asks free h. let did = acts i d.intents t.coord in walks_both P Q e n did.outs (Up P n (with_coord t did.part)) (Up Q n (with_coord t did.part)) d M (k.act e n d t i M about asks free h.0) (g.act e n d t i M about asks free h.1);
-  begin = λ e n d t l how parent M new may free h. let did = begin_action l how parent (parent_of parent t.coord) t.coord in walks_both P Q e n did.outs (Up P n (with_coord t did.part)) (Up Q n (with_coord t did.part)) d (given l (record { node = n; serial = is_serial_kind how }) M)
+  message = λ e n d t v from m outs M h sent meant is. walks_both P Q e n outs (Up P n v) (Up Q n v) d M
+      (k.message e n d t v from m outs M h.0 sent meant is) (g.message e n d t v from m outs M h.1 sent meant is);
+  act = λ e n d t i M about asks free h. let did = acts i d.intents t.coord in walks_both P Q e n did.outs (Up P n (with_coord t did.part))
+      (Up Q n (with_coord t did.part)) d M (k.act e n d t i M about asks free h.0) (g.act e n d t i M about asks free h.1);
+  begin = λ e n d t l how parent M new may free h. let did = begin_action l how parent (parent_of parent t.coord) t.coord in
+      walks_both P Q e n did.outs (Up P n (with_coord t did.part)) (Up Q n (with_coord t did.part)) d
+      (given l (record { node = n; serial = is_serial_kind how }) M)
       (k.begin e n d t l how parent M new may free h.0) (g.begin e n d t l how parent M new may free h.1);
-  tick = λ e n d t M h. let v = with_coord t (again_all t.coord.doings t.coord).part in walks_both P Q e n (tick_outs (record { number = n; disk = d; live = Some t }) t) (Up P n v) (Up Q n v) d M (k.tick e n d t M h.0) (g.tick e n d t M h.1);
-  restart = λ e n d M h. walks_both P Q e n (restart_outs hd n (d.inc + 1) d) (Up P n (parts_in n (d.inc + 1) d)) (Up Q n (parts_in n (d.inc + 1) d)) d M (k.restart e n d M h.0) (g.restart e n d M h.1);
+  tick = λ e n d t M h. let v = with_coord t (again_all t.coord.doings t.coord).part in walks_both P Q e n (tick_outs
+      (record { number = n; disk = d; live = Some t }) t) (Up P n v) (Up Q n v) d M (k.tick e n d t M h.0) (g.tick e n d t M h.1);
+  restart = λ e n d M h. walks_both P Q e n (restart_outs hd n (d.inc + 1) d) (Up P n (parts_in n (d.inc + 1) d))
+      (Up Q n (parts_in n (d.inc + 1) d)) d M (k.restart e n d M h.0) (g.restart e n d M h.1);
   first = (k.first, g.first);
 }
 
@@ -222,7 +259,8 @@ good_home k d t M g = record {
     begun = let w = g.1 in w.begun
 
     place : IsGoodPlace g.0 M.sent M.labels k (record { number = k; disk = d; live = Some t })
-    place = let w = g.1 in w.places k (record { number = k; disk = d; live = Some t }) (λ i. if same_number k i then Some (record { number = k; disk = d; live = Some t }) else M.nodes k)
+    place = let w = g.1 in w.places k (record { number = k; disk = d; live = Some t })
+        (λ i. if same_number k i then Some (record { number = k; disk = d; live = Some t }) else M.nodes k)
       where
         same_number : (j : ℕ) → (j == j) ≡ true
         same_number j = grind (arith, nat_tests)
@@ -238,9 +276,11 @@ module _ (hd : Header) (R : Seen → Type 0) (keeps : KeepsAsked hd R) (gives : 
   abbrev P : Seen → Type 0
   P M = R M × IsGood M
 
-  pub quiesce_answers : (e : Asked) (w : World) → Holds hd P w → length w.frames ≤ most_frames → e.event ≡ event.Quiesce → w.over ≡ false → (run_event e w).over ≡ false → AreUp (run_event e w) → WaitOvertaken (run_event e w)
+  pub quiesce_answers : (e : Asked) (w : World) → Holds hd P w → length w.frames ≤ most_frames → e.event ≡ event.Quiesce → w.over ≡ false →
+      (run_event e w).over ≡ false → AreUp (run_event e w) → WaitOvertaken (run_event e w)
   quiesce_answers e w h few is over last ups =
-      quiesce_leaves hd P (keeps_good hd R keeps) gives.within Ways (λ nodes. ways_more hd P gives homes nodes) (λ nodes. ways_message hd P gives homes nodes) (ways_fewer hd P gives homes) (λ nodes n of. ways_ticked hd P gives homes nodes n)
+      quiesce_leaves hd P (keeps_good hd R keeps) gives.within Ways (λ nodes. ways_more hd P gives homes nodes)
+      (λ nodes. ways_message hd P gives homes nodes) (ways_fewer hd P gives homes) (λ nodes n of. ways_ticked hd P gives homes nodes n)
       WaitOvertaken waits_said (λ c held header none up flown. nobody_waits hd c header none flown) e w h few
       (record { calls = λ k c u q s there. absurd there; commits = λ k c u q m n there. absurd there }) is over last ups
     where
@@ -248,8 +288,12 @@ module _ (hd : Header) (R : Seen → Type 0) (keeps : KeepsAsked hd R) (gives : 
       homes k d t M p = good_home k d t M p.1
 
   -- whatever stops fall in it
-  pub move_answers : (m : Move) (w : World) → Holds hd P w → length w.frames ≤ most_frames → m.asked.event ≡ event.Quiesce → w.over ≡ false → (moved m w).over ≡ false → AreUp (moved m w) → WaitOvertaken (moved m w)
-  move_answers m w h few is over last ups = quiesce_answers m.asked (record w { arms = m.falls }) (arms_hold hd P m.falls w h) few is over last ups
+  pub move_answers : (m : Move) (w : World) → Holds hd P w → length w.frames ≤ most_frames → m.asked.event ≡ event.Quiesce →
+      w.over ≡ false → (moved m w).over ≡ false → AreUp (moved m w) → WaitOvertaken (moved m w)
+  move_answers m w h few is over last ups =
+      quiesce_answers m.asked (record w { arms = m.falls }) (arms_hold hd P m.falls w h) few is over last ups
 
-  pub run_answers : (ms : List Move) (m : Move) → let w = world_by hd ms in m.asked.event ≡ event.Quiesce → w.over ≡ false → (moved m w).over ≡ false → AreUp (moved m w) → WaitOvertaken (moved m w)
-  run_answers ms m is over last ups = move_answers m (world_by hd ms) (moves_asked hd P (keeps_good hd R keeps) ms) (runs_few hd ms) is over last ups
+  pub run_answers : (ms : List Move) (m : Move) → let w = world_by hd ms in
+      m.asked.event ≡ event.Quiesce → w.over ≡ false → (moved m w).over ≡ false → AreUp (moved m w) → WaitOvertaken (moved m w)
+  run_answers ms m is over last ups =
+      move_answers m (world_by hd ms) (moves_asked hd P (keeps_good hd R keeps) ms) (runs_few hd ms) is over last ups

@@ -1,32 +1,18 @@
 -- Whatever a node does it stays up, or a line says that it halted.
-use Rattle.std.proofs.Common.{◌≡◌, ◌≢◌, ◌⊎◌, ◌∙◌, ℕ, true, cond, List, [], ◌∷◌, ◌++◌, refl, sym, ap, subst, inl, inr, ⊎_elim, Option, Some, None, append-nil, append_assoc}
-use Rattle.std.specs.Prelude.{◌&&◌, ◌==◌, ◌+◌, is_some, nat_le}
-use Rattle.std.specs.List.{AllByRecursion}
-use Rattle.arj_lock.proofs.Members.{In, in_from, in_to}
-use Rattle.arj_lock.proofs.Passes.{in_left, in_right}
+use Rattle.arj_law_parts.proofs.Words
+use Words.{◌≡◌, ◌≢◌, ◌⊎◌, ◌∙◌, ℕ, true, cond, List, [], ◌∷◌, ◌++◌, refl, sym, ap, subst, inl, inr, ⊎_elim, Option, Some, None, append-nil}
+use Words.{append_assoc, ◌&&◌, ◌==◌, ◌+◌, is_some, nat_le, AllByRecursion, In, in_from, in_to, in_left, in_right, Header, Line, again_all}
+use Words.{begin_action, Disk, Do, Effect, Say, Send, stopped, worked, tick_outs, Parts, with_coord, Node, acts, parent_of, parts_in}
+use Words.{restart_outs, at_place, World, is_node, is_serial_kind, is_up, is_up_at, numbered, all_moved, world_by, Seen, see}
+use Words.body
+use Rattle.arj_law_runs.proofs.Terms
+use Terms.{IsGood, Holds, KeepsOn, at, down, given, posted, said, up, Up, Walks, halted, keeps_asked, moves_asked, moves_go_on}
 use Rattle.arj_law_parts.specs.steps.Halts.{halted_node}
-use Rattle.arj_protocol.specs.Words.{Header, Line}
-use Rattle.arj_protocol.specs.Words.body
-use Rattle.arj_protocol.specs.Asking.{again_all, begin_action}
-use Rattle.arj_protocol.specs.Effect.{Disk, Do, Effect, Say, Send, stopped, worked}
-use Rattle.arj_protocol.specs.Follow.{tick_outs}
-use Rattle.arj_protocol.specs.Node.{Parts, with_coord}
-use Rattle.arj_protocol.specs.Step.{Node, acts, parent_of, parts_in, restart_outs}
-use Rattle.arj_protocol.specs.Tree.{at_place}
-use Rattle.arj_protocol.specs.World.{World, is_node, is_serial_kind, is_up, is_up_at, numbered}
-use Rattle.arj_law_runs.proofs.kept.AllRuns.{all_keep}
-use Rattle.arj_law_runs.proofs.kept.Walked.{other_number, same_number}
-use Rattle.arj_law_runs.specs.kept.Worlds.{IsGood}
-use Rattle.arj_law_parts.specs.moves.Keeps.{Holds, KeepsOn}
-use Rattle.arj_promise.specs.Runs.{all_moved, world_by}
-use Rattle.arj_law_parts.specs.moves.Seen.{at, down, given, posted, said, up}
-use Rattle.arj_promise.specs.Runs.{Seen, see}
-use Rattle.arj_law_parts.specs.moves.Walks.{Up, Walks, halted}
-use Rattle.arj_law_parts.proofs.moves.Happens.{keeps_asked}
-use Rattle.arj_law_parts.proofs.moves.Moving.{moves_asked, moves_go_on}
+use Rattle.arj_law_runs.proofs.kept.{AllRuns.all_keep, Walked.other_number, Walked.same_number}
+use Rattle.arj_law_runs.proofs.resting
+use resting.{PlainRuns.cancel, PlainRuns.each_of}
+use resting.EndedRuns.{in_numbered, moves_from, number_cases}
 use Rattle.arj_law_runs.specs.resting.Ups.{AllStayUp, RunsStayUp, SaysHalted}
-use Rattle.arj_law_runs.proofs.resting.EndedRuns.{in_numbered, moves_from, number_cases}
-use Rattle.arj_law_runs.proofs.resting.PlainRuns.{cancel, each_of}
 
 module _ (old : List Line) (k : ℕ) where
   record IsThere (M : Seen) : Type 0 where
@@ -67,34 +53,57 @@ module _ (old : List Line) (k : ℕ) where
   elsewhere j d live M apart t = record {
     node = t.node;
     parts = t.parts;
-    found = (λ i. cond (other_number k j (λ same. apart (sym same)) i) (Some (record { number = j; disk = d; live = live })) (M.nodes k)) ∙ t.found;
+    found = (λ i. cond (other_number k j (λ same. apart (sym same)) i) (Some (record { number = j; disk = d; live = live })) (M.nodes k))
+        ∙ t.found;
     live = t.live;
   }
 
   mine : (j : ℕ) (d : Disk) (v : Parts) (M : Seen) → j ≡ k → IsThere (up j d v M)
-  mine j d v M own = record { node = record { number = j; disk = d; live = Some v }; parts = v; found = λ i. cond ((ap (λ n. k == n) own ∙ same_number k) i) (Some (record { number = j; disk = d; live = Some v })) (M.nodes k); live = refl }
+  mine j d v M own = record {
+    node = record { number = j; disk = d; live = Some v };
+    parts = v;
+    found = λ i. cond ((ap (λ n. k == n) own ∙ same_number k) i) (Some (record { number = j; disk = d; live = Some v })) (M.nodes k);
+    live = refl;
+  }
 
   -- it is another node, or this one
   before : (j : ℕ) (d : Disk) (live : Option Parts) (M : Seen) → IsThere (at j d live M) → (j ≡ k) ⊎ ((j ≢ k) × IsThere M)
   before j d live M t = ⊎_elim (λ own. inl own)
-      (λ apart. inr (apart, record { node = t.node; parts = t.parts; found = (λ i. cond (sym (other_number k j (λ same. apart (sym same))) i) (Some (record { number = j; disk = d; live = live })) (M.nodes k)) ∙ t.found; live = t.live })) (number_cases j k)
+      (λ apart. inr (
+        apart,
+        record {
+          node = t.node;
+          parts = t.parts;
+          found = (λ i. cond (sym (other_number k j (λ same. apart (sym same))) i) (Some (record { number = j; disk = d; live = live }))
+              (M.nodes k)) ∙ t.found;
+          live = t.live;
+        },
+      )) (number_cases j k)
 
   begins : (j : ℕ) (d : Disk) (live : Option Parts) (M : Seen) (more : List Line) → IsThere (at j d live M) ⊎ IsOver more → Here j M more
   begins j d live M more (inr o) = inr (inr o)
   begins j d live M more (inl t) = ⊎_elim (λ own. inl own) (λ other. inr (inl other.1)) (before j d live M t)
 
   halts : (e j : ℕ) (d : Disk) (M : Seen) (more : List Line) → M.lines ≡ old ++ more → Here j M more → Stays (halted e j d M)
-  halts e j d M more are h = record { more = more ++ numbered e (body.Halted j ∷ []); are = lines_on M more (numbered e (body.Halted j ∷ [])) are; now = by h }
+  halts e j d M more are h =
+      record { more = more ++ numbered e (body.Halted j ∷ []); are = lines_on M more (numbered e (body.Halted j ∷ [])) are; now = by h }
     where
       said_so : j ≡ k → IsOver (more ++ numbered e (body.Halted j ∷ []))
-      said_so own = record { line = record { event = e; body = body.Halted j }; there = in_right (record { event = e; body = body.Halted j }) more (numbered e (body.Halted j ∷ [])) (in_numbered e (body.Halted j ∷ []) (body.Halted j) (inl refl)); halted = ap body.Halted own }
+      said_so own = record {
+        line = record { event = e; body = body.Halted j };
+        there = in_right (record { event = e; body = body.Halted j }) more (numbered e (body.Halted j ∷ []))
+            (in_numbered e (body.Halted j ∷ []) (body.Halted j) (inl refl));
+        halted = ap body.Halted own;
+      }
 
       by : Here j M more → IsThere (halted e j d M) ⊎ IsOver (more ++ numbered e (body.Halted j ∷ []))
       by (inl own) = inr (said_so own)
       by (inr (inr o)) = inr (over_more more (numbered e (body.Halted j ∷ [])) o)
-      by (inr (inl t)) = ⊎_elim (λ own. inr (said_so own)) (λ apart. inl (same_there (down j d M) (halted e j d M) refl (elsewhere j d None M apart t))) (number_cases j k)
+      by (inr (inl t)) = ⊎_elim (λ own. inr (said_so own))
+          (λ apart. inl (same_there (down j d M) (halted e j d M) refl (elsewhere j d None M apart t))) (number_cases j k)
 
-  walk : (e j : ℕ) (v : Parts) (outs : List Effect) (d : Disk) (M : Seen) (more : List Line) → M.lines ≡ old ++ more → Here j M more → Walks Stays e j outs (Up Stays j v) d M
+  walk : (e j : ℕ) (v : Parts) (outs : List Effect) (d : Disk) (M : Seen) (more : List Line) → M.lines ≡ old ++ more → Here j M more →
+      Walks Stays e j outs (Up Stays j v) d M
   walk e j v [] d M more are h = record { more = more; are = are; now = by h }
     where
       by : Here j M more → IsThere (up j d v M) ⊎ IsOver more
@@ -102,23 +111,31 @@ module _ (old : List Line) (k : ℕ) where
       by (inr (inr o)) = inr o
       by (inr (inl t)) = inl (⊎_elim (λ own. mine j d v M own) (λ apart. elsewhere j d (Some v) M apart t) (number_cases j k))
   walk e j v (Do w ∷ es) d M more are h = (λ how. halts e j (stopped how w d) M more are h, walk e j v es (worked w d) M more are h)
-  walk e j v (Say b ∷ es) d M more are h = walk e j v es d (said e (b ∷ []) M) (more ++ numbered e (b ∷ [])) (lines_on M more (numbered e (b ∷ [])) are) (here_on j M (said e (b ∷ []) M) more (numbered e (b ∷ [])) refl h)
+  walk e j v (Say b ∷ es) d M more are h = walk e j v es d (said e (b ∷ []) M) (more ++ numbered e (b ∷ []))
+      (lines_on M more (numbered e (b ∷ [])) are) (here_on j M (said e (b ∷ []) M) more (numbered e (b ∷ [])) refl h)
   walk e j v (Send to m ∷ es) d M more are h = λ new quiet.
       let N = said e new (posted (record { from = j; to = to; message = m }) M) in
       walk e j v es d N (more ++ numbered e new) (lines_on M more (numbered e new) are) (here_on j M N more (numbered e new) refl h)
 
   stays_keep : (hd : Header) → KeepsOn hd Stays
   stays_keep hd = record {
-    quiet = λ e bs M quiet p. record { more = p.more ++ numbered e bs; are = lines_on M p.more (numbered e bs) p.are; now = ⊎_elim (λ t. inl (same_there M (said e bs M) refl t)) (λ o. inr (over_more p.more (numbered e bs) o)) p.now };
+    quiet = λ e bs M quiet p. record {
+      more = p.more ++ numbered e bs;
+      are = lines_on M p.more (numbered e bs) p.are;
+      now = ⊎_elim (λ t. inl (same_there M (said e bs M) refl t)) (λ o. inr (over_more p.more (numbered e bs) o)) p.now;
+    };
     stop = λ e j d live M p. halts e j d M p.more p.are (begins j d live M p.more p.now);
     message = λ e j d t v from m outs M p there meant is. walk e j v outs d M p.more p.are (begins j d (Some t) M p.more p.now);
-    act = λ e j d t i M is asks free p. let did = acts i d.intents t.coord in walk e j (with_coord t did.part) did.outs d M p.more p.are (begins j d (Some t) M p.more p.now);
+    act = λ e j d t i M is asks free p. let did = acts i d.intents t.coord in
+        walk e j (with_coord t did.part) did.outs d M p.more p.are (begins j d (Some t) M p.more p.now);
     begin = λ e j d t m how parent M new may free p.
         let did = begin_action m how parent (parent_of parent t.coord) t.coord in
         let N = given m (record { node = j; serial = is_serial_kind how }) M in
         walk e j (with_coord t did.part) did.outs d N p.more p.are (given_on j M N p.more refl (begins j d (Some t) M p.more p.now));
-    tick = λ e j d t M p. walk e j (with_coord t (again_all t.coord.doings t.coord).part) (tick_outs (record { number = j; disk = d; live = Some t }) t) d M p.more p.are (begins j d (Some t) M p.more p.now);
-    restart = λ e j d M p. walk e j (parts_in j (d.inc + 1) d) (restart_outs hd j (d.inc + 1) d) d M p.more p.are (begins j d None M p.more p.now);
+    tick = λ e j d t M p. walk e j (with_coord t (again_all t.coord.doings t.coord).part)
+        (tick_outs (record { number = j; disk = d; live = Some t }) t) d M p.more p.are (begins j d (Some t) M p.more p.now);
+    restart = λ e j d M p.
+        walk e j (parts_in j (d.inc + 1) d) (restart_outs hd j (d.inc + 1) d) d M p.more p.are (begins j d None M p.more p.now);
     first = tt;
   }
     where
@@ -141,7 +158,8 @@ runs_stay_up hd ms ns k up = by (let p = after.holds in p.now)
     there : IsThere w.lines k (see good.sent w)
     there = at_node (at_place k w.nodes) refl up
       where
-        live_at : (n : Node) (o : Option Parts) → at_place k w.nodes ≡ Some n → n.live ≡ o → is_some o ≡ true → IsThere w.lines k (see good.sent w)
+        live_at : (n : Node) (o : Option Parts) → at_place k w.nodes ≡ Some n → n.live ≡ o → is_some o ≡ true →
+            IsThere w.lines k (see good.sent w)
         live_at n None is live some = absurd (cc some)
         live_at n (Some t) is live some = record { node = n; parts = t; found = is; live = live }
 
@@ -150,11 +168,19 @@ runs_stay_up hd ms ns k up = by (let p = after.holds in p.now)
         at_node (Some n) is some = live_at n n.live is refl some
 
     after : Holds hd (Stays w.lines k) (all_moved ns w)
-    after = moves_from hd (Stays w.lines k) (stays_keep w.lines k hd) ns w (record { sent = good.sent; stands = good.stands; holds = record { more = []; are = sym (append-nil w.lines); now = inl there } })
+    after = moves_from hd (Stays w.lines k) (stays_keep w.lines k hd) ns w
+        (record { sent = good.sent; stands = good.stands; holds = record { more = []; are = sym (append-nil w.lines); now = inl there } })
 
-    by : IsThere w.lines k (see after.sent (all_moved ns w)) ⊎ IsOver w.lines k (let p = after.holds in p.more) → (is_up_at k (all_moved ns w) ≡ true) ⊎ SaysHalted k w.lines (all_moved ns w).lines
+    by : IsThere w.lines k (see after.sent (all_moved ns w)) ⊎ IsOver w.lines k (let p = after.holds in p.more) →
+        (is_up_at k (all_moved ns w) ≡ true) ⊎ SaysHalted k w.lines (all_moved ns w).lines
     by (inl t) = inl (ap is_up t.found ∙ ap (λ o. is_some o) t.live)
-    by (inr o) = inr (record { more = (let p = after.holds in p.more); line = o.line; are = (let p = after.holds in p.are); there = in_to o.line (let p = after.holds in p.more) o.there; halted = o.halted })
+    by (inr o) = inr (record {
+      more = (let p = after.holds in p.more);
+      line = o.line;
+      are = (let p = after.holds in p.are);
+      there = in_to o.line (let p = after.holds in p.more) o.there;
+      halted = o.halted;
+    })
 
 pub all_stay_up : AllStayUp
 all_stay_up hd ms ns ups none k of = ⊎_elim (λ up. up) (λ said. absurd (never said)) (runs_stay_up hd ms ns k (ups k before_of))
@@ -174,6 +200,7 @@ all_stay_up hd ms ns ups none k of = ⊎_elim (λ up. up) (λ said. absurd (neve
     never : SaysHalted k w.lines (all_moved ns w).lines → ⊥
     never s =
         let same = cancel w.lines none.0 s.more (sym none.1 ∙ s.are) in
-        let its = each_of (λ (line : Line). halted_node line.body ≡ None) s.more s.line (subst (AllByRecursion (λ (line : Line). halted_node line.body ≡ None)) same none.2) (in_from s.line s.more s.there) in
+        let its = each_of (λ (line : Line). halted_node line.body ≡ None) s.more s.line
+        (subst (AllByRecursion (λ (line : Line). halted_node line.body ≡ None)) same none.2) (in_from s.line s.more s.there) in
         let no_way : Some k ≡ None = sym (ap halted_node s.halted) ∙ its in
         absurd (cc no_way)

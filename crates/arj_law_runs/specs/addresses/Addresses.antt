@@ -1,12 +1,14 @@
 -- Nodes that are named, in messages, on disks and in memory: this holds of each of their numbers.
 use Rattle.std.specs.Prelude.{⊤, ◌≡◌, ◌≤◌, ◌<◌, ◌-◌, ◌&&◌, ℕ, true, is_some, length, nat_le, List, Option, Some, None}
 use Rattle.std.specs.List.{AllByRecursion}
-use Rattle.arj_protocol.specs.Words.{Uid, Ask, Asked, BoundReply, Entry, Head, Header, Message, ObjectLine, ObjectState, Path, Row, asks, entry, uids_of}
+use Rattle.arj_protocol.specs.Words.{Uid, Ask, Asked, BoundReply, Entry, Head, Header, Message, ObjectLine, ObjectState, Path, Row, asks}
+use Rattle.arj_protocol.specs.Words.{entry, uids_of}
 use Rattle.arj_protocol.specs.Words.ask
 use Rattle.arj_protocol.specs.Words.bound
 use Rattle.arj_protocol.specs.Words.role
 use Rattle.arj_protocol.specs.Ask.{Reply, answers}
-use Rattle.arj_protocol.specs.Call.{At, AtBind, AtLoad, AtActivate, AtNote, AtInvoke, CallEnd, CallStep, Ended, Goal, Include, Included, Known, Moved, On, Run, Steps}
+use Rattle.arj_protocol.specs.Call.{At, AtBind, AtLoad, AtActivate, AtNote, AtInvoke, CallEnd, CallStep, Ended, Goal, Include, Included}
+use Rattle.arj_protocol.specs.Call.{Known, Moved, On, Run, Steps}
 use Rattle.arj_protocol.specs.Commit.{Machine, Plan, Used, left_of, plan_of}
 use Rattle.arj_protocol.specs.Coord.{Calling, Committing, Coord, Doing, Idle, Joined, Keeping, Now, Root, Went, doing_of}
 use Rattle.arj_protocol.specs.Copy.{Copy}
@@ -100,7 +102,8 @@ NamesOf G d (Some n) = NamingOf G d n
 -- who has something prepared; the entries, committed and prepared; and the participants of records
 pub record DiskOf (G : ℕ → Type 0) (d : Disk) : Type 0 where
   pub store : AllByRecursion (λ (e : Uid × List ObjectState). G (let u = e.0 in u.node)) (let p = d.store in p.pend)
-  pub names : AllByRecursion (λ (e : Uid × List ObjectState). G (let u = e.0 in u.node) × AllByRecursion (StateOf G) e.1) (let p = d.names in p.pend)
+  pub names : AllByRecursion (λ (e : Uid × List ObjectState). G (let u = e.0 in u.node) × AllByRecursion (StateOf G) e.1)
+      (let p = d.names in p.pend)
   pub held : AllByRecursion (λ (e : Uid × ObjectState). IsEntry e.0 × StateOf G e.1) (let p = d.names in p.held)
   pub intents : AllByRecursion (λ (e : Uid × Intent). AreOf G (let i = e.1 in i.nodes)) d.intents
 

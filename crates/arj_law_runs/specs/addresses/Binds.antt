@@ -31,7 +31,8 @@ AnswersAt g at r = ⊤
 
 -- an answer for which a call waits is one to its step
 abbrev pub AnswersWaiting : ℕ → Asked → Reply → Coord → Type 0
-AnswersWaiting from a r c = (d : Doing) (s : Steps) → doing_of a.act c ≡ Some d → d.now ≡ Calling s → waits_for_call from a r s ≡ true → AnswersAt s.goal s.at r
+AnswersWaiting from a r c = (d : Doing) (s : Steps) → doing_of a.act c ≡ Some d → d.now ≡ Calling s → waits_for_call from a r s ≡ true →
+    AnswersAt s.goal s.at r
 
 -- the answer is to a Bind of an include, or of a call
 abbrev pub IsAnswerOf : Bool → BoundReply → Type 0
@@ -53,7 +54,8 @@ pub record IsAsked (sent : List Post) (from : ℕ) (a : Asked) (include : Bool) 
 
 -- who is answered a Bind asked for it
 abbrev pub IsReply : List Post → Post → Type 0
-IsReply sent p = (a : Asked) (r : BoundReply) → answers p.message ≡ Some (a, Reply.Bound r) → (include : Bool) × IsAnswerOf include r × IsAsked sent p.to a include
+IsReply sent p = (a : Asked) (r : BoundReply) → answers p.message ≡ Some (a, Reply.Bound r) →
+    (include : Bool) × IsAnswerOf include r × IsAsked sent p.to a include
 
 -- ---- what calls stand on
 
@@ -73,8 +75,8 @@ StandsOn (Run o) kept at = IsThere kept
 StandsOn (Include n) kept (AtLoad k s rest) = ⊤
 StandsOn (Include n) kept at = ⊥
 
--- Of a call that was answered to an action of the root with this number: some action on its path was aborted, or the root keeps a binding of
--- the object.
+-- Of a call that was answered to an action of the root with this number: some action on its path was aborted, or the root keeps a binding
+-- of the object.
 pub record IsSaid (t : Tree) (root : ℕ) (r : Root) (s : Said) : Type 0 where
   pub branch : Branch
   pub there : branch_of (last_uid s.path) t ≡ Some branch
@@ -92,8 +94,10 @@ pub record IsCounted (c : Coord) (h : Head) (include : Bool) : Type 0 where
 -- what the coordinator of a node knows of its calls and Binds
 pub record KnowsBinds (sent : List Post) (k : ℕ) (c : Coord) : Type 0 where
   pub said : (root : Uid) (s : Said) → list.In s (let r = root_at root c in r.said) → IsSaid c.tree root.num (root_at root c) s
-  pub steps : (u : Uid) (d : Doing) (s : Steps) → doing_of u c ≡ Some d → d.now ≡ Calling s → StandsOn s.goal (kept_of s.x (root_at (root_of s.path) c)) s.at
-  pub counted : (p : Post) (h : Head) (x : ℕ) (include : Bool) (avoid : Binding) → In p sent → p.from ≡ k → asks p.message ≡ Some (h, ask.Bind x include avoid) → is_own (actor h.path) c.tree ≡ true → IsCounted c h include
+  pub steps : (u : Uid) (d : Doing) (s : Steps) → doing_of u c ≡ Some d → d.now ≡ Calling s →
+      StandsOn s.goal (kept_of s.x (root_at (root_of s.path) c)) s.at
+  pub counted : (p : Post) (h : Head) (x : ℕ) (include : Bool) (avoid : Binding) → In p sent → p.from ≡ k →
+      asks p.message ≡ Some (h, ask.Bind x include avoid) → is_own (actor h.path) c.tree ≡ true → IsCounted c h include
 
 -- so it is at each node that is up, and each answer to a Bind is one to it
 pub record BindsAreKnown (M : Seen) : Type 0 where

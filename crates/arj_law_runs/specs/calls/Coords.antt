@@ -51,7 +51,8 @@ pub record IsWaiting (c : Coord) (to : ℕ) (k : Call) : Type 0 where
 
 -- what is known of a binding is what the root keeps, and of the same server; or it has no server
 abbrev pub IsTie : Option Known → Known → Type 0
-IsTie kept k = (k.server ≡ 0) ⊎ ((old : Known) × (kept ≡ Some old) × (binding_number old.binding ≡ binding_number k.binding) × (old.server ≡ k.server))
+IsTie kept k =
+    (k.server ≡ 0) ⊎ ((old : Known) × (kept ≡ Some old) × (binding_number old.binding ≡ binding_number k.binding) × (old.server ≡ k.server))
 
 -- so it is of the step in which a call waits
 abbrev pub IsTiedAt : Option Known → At → Type 0
@@ -134,14 +135,18 @@ pub data IsPlanned (sent : List Post) (t : Tree) (c : Coord) (used : List Used) 
 
 -- each state that a server voted for this top is of an object that is used there, and was called in the top
 abbrev pub AreVoted : List Post → Coord → Uid → Plan → Type 0
-AreVoted sent c u p = (from : ℕ) (m : Message) (a : Asked) (states : List ObjectState) → In (record { from = from; to = (let t = c.tree in t.node); message = m }) sent → answers m ≡ Some (a, Reply.Voted (voted.Yes states)) → a.act ≡ u → (s : ObjectState) → list.In s states → IsVotedIn sent c p (let w = s.uid in w.num) from
+AreVoted sent c u p = (from : ℕ) (m : Message) (a : Asked) (states : List ObjectState) →
+    In (record { from = from; to = (let t = c.tree in t.node); message = m }) sent → answers m ≡ Some (a, Reply.Voted (voted.Yes states)) →
+    a.act ≡ u → (s : ObjectState) → list.In s states → IsVotedIn sent c p (let w = s.uid in w.num) from
 
 -- a commit under way: its top isn't doomed, its plan knows of each call below it, what was voted is used, and what has changed was called
 pub record IsCovered (sent : List Post) (t : Tree) (c : Coord) (u : Uid) (m : Machine) : Type 0 where
   pub free : IsFree t u
-  pub calls : (to : ℕ) (k : Call) → IsOwn sent c to k → is_on (uids_of (let h = k.head in h.path)) u ≡ true → IsPlanned sent t c (let p = plan_of m in p.used) to k
+  pub calls : (to : ℕ) (k : Call) → IsOwn sent c to k → is_on (uids_of (let h = k.head in h.path)) u ≡ true →
+      IsPlanned sent t c (let p = plan_of m in p.used) to k
   pub votes : AreVoted sent c u (plan_of m)
-  pub changed : (s : ObjectState) → list.In s (let p = plan_of m in p.changed) → IsCalledBy sent c (let p = plan_of m in uids_of p.path) (let w = s.uid in w.num)
+  pub changed : (s : ObjectState) → list.In s (let p = plan_of m in p.changed) →
+      IsCalledBy sent c (let p = plan_of m in uids_of p.path) (let w = s.uid in w.num)
 
 -- what roots were answered is by the paths of actions
 abbrev pub AreOfPaths : Paths → Coord → Type 0
@@ -150,7 +155,8 @@ AreOfPaths paths c = (root : Uid) (s : Said) → list.In s (let r = root_at root
 -- What a coordinator knows: of each request that it sent its number; of each call that writes that it's waited for, or what became of it;
 -- that calls stand on what roots keep; and that commits know of their calls.
 pub record KnowsCalls (paths : Paths) (sent : List Post) (c : Coord) : Type 0 where
-  pub counted : (p : Post) (h : Head) (a : Ask) → In p sent → p.from ≡ (let t = c.tree in t.node) → asks p.message ≡ Some (h, a) → is_own (actor h.path) c.tree ≡ true → IsCounted c p.to h a
+  pub counted : (p : Post) (h : Head) (a : Ask) → In p sent → p.from ≡ (let t = c.tree in t.node) → asks p.message ≡ Some (h, a) →
+      is_own (actor h.path) c.tree ≡ true → IsCounted c p.to h a
   pub calls : (to : ℕ) (k : Call) → IsOwn sent c to k → IsWaiting c to k ⊎ IsOver sent c.tree c to k
   pub ties : (u : Uid) (d : Doing) (s : Steps) → doing_of u c ≡ Some d → d.now ≡ Calling s → IsTied c s
   pub plans : (u : Uid) (d : Doing) (m : Machine) → doing_of u c ≡ Some d → d.now ≡ Committing m → IsCovered sent c.tree c u m

@@ -53,7 +53,8 @@ pub record NamesPost (home : Homes) (reach : Reach) (sent : List Post) (p : Post
 -- in this incarnation of the server the test passes for its copies' bindings, and for those below; once it is down, for all
 abbrev pub PassesIn : Reach → ℕ → ℕ → Option Parts → Type 0
 PassesIn reach j i None = (x n : ℕ) → reach j x n i ≡ true
-PassesIn reach j i (Some t) = (x n : ℕ) (c : Copy) → at_number x (let s = t.server in s.objects) ≡ Some c → nat_lt (binding_number c.binding) n ≡ false → reach j x n i ≡ true
+PassesIn reach j i (Some t) = (x n : ℕ) (c : Copy) → at_number x (let s = t.server in s.objects) ≡ Some c →
+    nat_lt (binding_number c.binding) n ≡ false → reach j x n i ≡ true
 
 -- the test passes for what the server reached, and for all that is named in an earlier incarnation
 pub record Passes (reach : Reach) (j i : ℕ) (live : Option Parts) : Type 0 where
@@ -74,7 +75,8 @@ pub record IsLived (home : Homes) (reach : Reach) (M : Seen) : Type 0 where
 pub record HasGiven (given : Gifts) (j : ℕ) (n : Node) : Type 0 where
   pub first : 0 < (let d = n.disk in d.inc)
   pub low : j ≡ 1 → AreBelow ((let d = n.disk in d.inc + 1) * 4294967296) given
-  pub naming : (t : Parts) (o : Naming) → n.live ≡ Some t → t.naming ≡ Some o → (j ≡ 1) × (o.inc ≡ (let d = n.disk in d.inc)) × AreBelow (binding_number (record { inc = o.inc; count = o.count + 1 })) given
+  pub naming : (t : Parts) (o : Naming) → n.live ≡ Some t → t.naming ≡ Some o →
+      (j ≡ 1) × (o.inc ≡ (let d = n.disk in d.inc)) × AreBelow (binding_number (record { inc = o.inc; count = o.count + 1 })) given
 
 -- Naming gave these numbers; and for each home that agrees, and each test that passes for what servers reached, all that is known of
 -- servers is so.

@@ -38,9 +38,11 @@ KnowsRun M = (acts : List Action) × IsGoodOf acts M × AreKnown acts M
 
 -- Where a Bind is answered with the binding that its root keeps of the object already, the answer names the same server.
 abbrev pub HasHomes : ℕ → Parts → Seen → Type 0
-HasHomes k t M = (from : ℕ) (m : Message) (a : Asked) (r : Reply) → In (record { from = from; to = k; message = m }) M.sent → answers m ≡ Some (a, r)
+HasHomes k t M = (from : ℕ) (m : Message) (a : Asked) (r : Reply) → In (record { from = from; to = k; message = m }) M.sent →
+    answers m ≡ Some (a, r)
     → (d : Doing) (s : Steps) → doing_of a.act t.coord ≡ Some d → d.now ≡ Calling s → waits_for_call from a r s ≡ true
-    → (old : Known) (b : Binding) (n : ℕ) → kept_at s t.coord ≡ Some old → NamesIn r b n → binding_number old.binding ≡ binding_number b → old.server ≡ n
+    → (old : Known) (b : Binding) (n : ℕ) → kept_at s t.coord ≡ Some old → NamesIn r b n → binding_number old.binding ≡ binding_number b →
+    old.server ≡ n
 
 -- Each call that was sent names an incarnation of its server and a binding which the server had, or a later one; and a binding has one
 -- server.
@@ -54,12 +56,16 @@ KnowsFew M = HasFewBindings M.lines × (LivesRun M × KnowsRun M)
 
 -- A vote that was sent to a node has states of objects only that the plan there uses at the server which votes.
 abbrev pub VotesAreUsed : ℕ → Parts → Seen → Type 0
-VotesAreUsed k t M = (from : ℕ) (m : Message) (a : Asked) (states : List ObjectState) → In (record { from = from; to = k; message = m }) M.sent → answers m ≡ Some (a, Reply.Voted (voted.Yes states))
-    → (d : Doing) (q : Machine) → doing_of a.act t.coord ≡ Some d → d.now ≡ Committing q → (s : ObjectState) → list.In s states → IsUsed (plan_of q).used (let u = s.uid in u.num) from
+VotesAreUsed k t M = (from : ℕ) (m : Message) (a : Asked) (states : List ObjectState) →
+    In (record { from = from; to = k; message = m }) M.sent → answers m ≡ Some (a, Reply.Voted (voted.Yes states))
+    → (d : Doing) (q : Machine) → doing_of a.act t.coord ≡ Some d → d.now ≡ Committing q → (s : ObjectState) → list.In s states →
+    IsUsed (plan_of q).used (let u = s.uid in u.num) from
 
 -- What a commit under way has as changed are states of objects on which a call survives in its top.
 abbrev pub ChangesAreCalled : Parts → Type 0
-ChangesAreCalled t = (u : Uid) (d : Doing) (q : Machine) → doing_of u t.coord ≡ Some d → d.now ≡ Committing q → (s : ObjectState) → list.In s (let p = plan_of q in p.changed) → top_uses u (let w = s.uid in w.num) (root_at (let p = plan_of q in root_of p.path) t.coord) t.coord ≡ true
+ChangesAreCalled t = (u : Uid) (d : Doing) (q : Machine) → doing_of u t.coord ≡ Some d → d.now ≡ Committing q → (s : ObjectState) →
+    list.In s (let p = plan_of q in p.changed) →
+    top_uses u (let w = s.uid in w.num) (root_at (let p = plan_of q in root_of p.path) t.coord) t.coord ≡ true
 
 -- so it is at each node that is up
 abbrev pub AllChangesAreCalled : Seen → Type 0

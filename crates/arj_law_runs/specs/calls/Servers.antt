@@ -14,7 +14,8 @@ use Rattle.arj_law_runs.specs.calls.Calls.{Call, IsAsked, IsRefused, IsSaidToCom
 -- The server doesn't run the request any more: it was told of the action's end, ran a later request of it, or answers this one as
 -- it did, with a refusal or not.
 abbrev pub HasDone : Bool → Asked → Server → Type 0
-HasDone refused a s = (is_told a.act s ≡ true) ⊎ ((k : Kept) × (at_uid a.act s.kept ≡ Some k) × ((a.req < k.req) ⊎ ((k.req ≡ a.req) × (is_refusal k.answer ≡ refused))))
+HasDone refused a s = (is_told a.act s ≡ true)
+    ⊎ ((k : Kept) × (at_uid a.act s.kept ≡ Some k) × ((a.req < k.req) ⊎ ((k.req ≡ a.req) × (is_refusal k.answer ≡ refused))))
 
 -- where the action with this path wrote the object under this binding: a call that was run here, by an action that committed up to it
 pub record IsSource (sent : List Post) (n : ℕ) (s : Server) (x : ℕ) (b : Binding) (holder : List Uid) : Type 0 where
@@ -33,7 +34,8 @@ pub record IsSource (sent : List Post) (n : ℕ) (s : Server) (x : ℕ) (b : Bin
 
 -- each overlay of a copy has its source
 abbrev pub AreFromCalls : List Post → ℕ → Server → Type 0
-AreFromCalls sent n s = (x : ℕ) (c : Copy) (e : Over) → at_number x s.objects ≡ Some c → list.In e c.stack → IsSource sent n s x c.binding e.holder
+AreFromCalls sent n s = (x : ℕ) (c : Copy) (e : Over) → at_number x s.objects ≡ Some c → list.In e c.stack →
+    IsSource sent n s x c.binding e.holder
 
 -- this holds of a server that is up
 abbrev pub IsSoUp : (Server → Type 0) → Option Parts → Type 0
@@ -71,4 +73,5 @@ HaveReached sent n m = (from : ℕ) (c : Call) → IsAsked sent from n c → Sin
 
 -- two calls with one request are of one operation, on one object, under one binding and of one incarnation
 abbrev pub AreOneCall : List Post → Type 0
-AreOneCall sent = (from from2 to to2 : ℕ) (c e : Call) → IsAsked sent from to c → IsAsked sent from2 to2 e → asked_by c.head ≡ asked_by e.head → (c.x ≡ e.x) × (c.binding ≡ e.binding) × (c.inc ≡ e.inc) × (c.op ≡ e.op)
+AreOneCall sent = (from from2 to to2 : ℕ) (c e : Call) → IsAsked sent from to c → IsAsked sent from2 to2 e →
+    asked_by c.head ≡ asked_by e.head → (c.x ≡ e.x) × (c.binding ≡ e.binding) × (c.inc ≡ e.inc) × (c.op ≡ e.op)

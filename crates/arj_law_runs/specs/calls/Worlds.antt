@@ -45,7 +45,8 @@ pub record KnowsNode (paths : Paths) (sent : List Post) (j : ℕ) (n : Node) : T
   pub server : (t : Parts) → n.live ≡ Some t → AreFromCalls sent j t.server
   pub keys : (t : Parts) → n.live ≡ Some t → AreKeyed (let s = t.server in s.objects)
   pub refusals : AreRefusals sent j n
-  pub past : (p : Post) (h : Head) (a : Ask) → In p sent → p.from ≡ j → asks p.message ≡ Some (h, a) → (let u = actor h.path in u.inc) ≤ (let d = n.disk in d.inc)
+  pub past : (p : Post) (h : Head) (a : Ask) → In p sent → p.from ≡ j → asks p.message ≡ Some (h, a) →
+      (let u = actor h.path in u.inc) ≤ (let d = n.disk in d.inc)
 
 -- So it is at each node; no node is node 0; calls of one request are on one copy; a request is by an action of its sender; and a Yes
 -- answers a vote.
@@ -53,7 +54,8 @@ pub record KnowsWorld (paths : Paths) (M : Seen) : Type 0 where
   pub none : M.nodes 0 ≡ None
   pub one : AreOneCall M.sent
   pub senders : (p : Post) (h : Head) (a : Ask) → In p M.sent → asks p.message ≡ Some (h, a) → (let u = actor h.path in u.node) ≡ p.from
-  pub votes : (p : Post) (a : Asked) (states : List ObjectState) → In p M.sent → vote_of p.message ≡ Some (a, states) → (v : Post) × In v M.sent × (v.from ≡ p.to) × Seals v.message a.act
+  pub votes : (p : Post) (a : Asked) (states : List ObjectState) → In p M.sent → vote_of p.message ≡ Some (a, states) →
+      (v : Post) × In v M.sent × (v.from ≡ p.to) × Seals v.message a.act
   pub nodes : (j : ℕ) (n : Node) → M.nodes j ≡ Some n → KnowsNode paths M.sent j n
 
 -- so each call that was sent, to whichever node, names what its server reached

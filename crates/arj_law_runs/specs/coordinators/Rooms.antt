@@ -1,5 +1,6 @@
 -- How much a coordinator's tree has of each root.
-use Rattle.std.specs.Prelude.{◌≡◌, ◌≤◌, ◌<◌, ◌+◌, ◌==◌, ◌&&◌, ℕ, Bool, not, List, [], ◌∷◌, length, if◌then◌else◌, is_some, unwrap_or, Contains, ⊤}
+use Rattle.std.specs.Prelude.{◌≡◌, ◌≤◌, ◌<◌, ◌+◌, ◌==◌, ◌&&◌, ℕ, Bool, not, List, [], ◌∷◌, length, if◌then◌else◌, is_some, unwrap_or}
+use Rattle.std.specs.Prelude.{Contains, ⊤}
 use Rattle.std.specs.List.{AllByRecursion}
 use Rattle.arj_protocol.specs.Order.{at_number}
 use Rattle.arj_protocol.specs.Tree.{Branch, Family, Tree, most_actions, most_objects, no_family, root_of}

@@ -30,9 +30,11 @@ pub record IsAlone (c : Coord) (u : Uid) : Type 0 where
 -- What a coordinator has of answered calls and includes: each is under the path of one of its actions; a commit under way uses some
 -- object; and where nobody took part in a top's commit, each call and include of its root that is below it was cut off by an abort.
 pub record KnowsUses (c : Coord) : Type 0 where
-  pub paths : (root : Uid) (us : List Uid) → IsUsed us (root_at root c) → (w : Uid) × (b : Branch) × (branch_of w c.tree ≡ Some b) × (us ≡ uids_of b.path)
+  pub paths : (root : Uid) (us : List Uid) → IsUsed us (root_at root c) →
+      (w : Uid) × (b : Branch) × (branch_of w c.tree ≡ Some b) × (us ≡ uids_of b.path)
   pub plans : (u : Uid) (q : Doing) (m : Machine) → doing_of u c ≡ Some q → q.now ≡ Committing m → (let p = plan_of m in p.used) ≢ []
-  pub alone : (u : Uid) (a : IsAlone c u) (us : List Uid) → IsUsed us (root_at (root_of (let b = a.branch in b.path)) c) → is_on us u ≡ true → IsCut c.tree u us
+  pub alone : (u : Uid) (a : IsAlone c u) (us : List Uid) → IsUsed us (root_at (root_of (let b = a.branch in b.path)) c) →
+      is_on us u ≡ true → IsCut c.tree u us
 
 -- the labels of its actions too
 pub record KnowsTops (c : Coord) : Type 0 where

@@ -15,7 +15,8 @@ use Rattle.arj_law_runs.specs.journal.Laws.{called}
 -- A top whose commit was called, and of which nothing survives: each access below it was cut off by an abort on its path.
 pub record IsIdle (B : Book) (u : Uid) : Type 0 where
   pub called : is_on B.called u ≡ true
-  pub cut : (a : Access) → Contains B.accesses a → is_on (uids (path B.acts (let c = a.act in c.label))) u ≡ true → (w : Uid) × (is_on (behind u (uids (path B.acts (let c = a.act in c.label)))) w ≡ true) × (is_on B.aborted w ≡ true)
+  pub cut : (a : Access) → Contains B.accesses a → is_on (uids (path B.acts (let c = a.act in c.label))) u ≡ true →
+      (w : Uid) × (is_on (behind u (uids (path B.acts (let c = a.act in c.label)))) w ≡ true) × (is_on B.aborted w ≡ true)
 
 -- by the journal no call of the top survives, and no include
 pub record HasNothing (lines : List Line) (a : Act) : Type 0 where
@@ -34,4 +35,5 @@ pub record IsLeftAlone (c : Coord) (u : Uid) : Type 0 where
 
 -- where the commit of a top was called each action below it has an end
 abbrev pub BelowCommitsIsOver : List Line → Type 0
-BelowCommitsIsOver lines = (top a : Act) → Contains (acts lines) top → Contains (acts lines) a → has_end (called lines) top.id ≡ true → is_on (uids (path (acts lines) a.label)) top.uid ≡ true → a.uid ≢ top.uid → has_end (ended lines) a.id ≡ true
+BelowCommitsIsOver lines = (top a : Act) → Contains (acts lines) top → Contains (acts lines) a → has_end (called lines) top.id ≡ true →
+    is_on (uids (path (acts lines) a.label)) top.uid ≡ true → a.uid ≢ top.uid → has_end (ended lines) a.id ≡ true

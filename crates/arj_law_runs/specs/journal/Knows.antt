@@ -63,16 +63,20 @@ HasNoted (Some n) x us r = ((j : Joined) × Contains r.joined j × (j.path ≡ u
 
 -- an action of this tree, with this path, accessed the object, as the book has it
 abbrev pub IsAccess : List Access → Tree → List Uid → ℕ → (Option ℕ → Type 0) → Type 0
-IsAccess accesses t us x P = (a : Access) × (b : Branch) × Contains accesses a × (branch_of (let c = a.act in c.uid) t ≡ Some b) × (us ≡ uids_of b.path) × (a.x ≡ x) × P a.store
+IsAccess accesses t us x P = (a : Access) × (b : Branch) × Contains accesses a × (branch_of (let c = a.act in c.uid) t ≡ Some b)
+    × (us ≡ uids_of b.path) × (a.x ≡ x) × P a.store
 
 -- What a coordinator's tree and roots have of the actions and accesses of a book: its actions stand at their places, with all that is below
 -- them; and its roots have noted the accesses of its actions, and no others.
 pub record Ties (acts : List Act) (accesses : List Access) (t : Tree) (roots : List (ℕ × Root)) : Type 0 where
   pub paths : (a : Act) (b : Branch) → Contains acts a → branch_of a.uid t ≡ Some b → uids (path acts a.label) ≡ uids_of b.path
-  pub homes : (a : Act) (u : Uid) → Contains acts a → is_on (uids (path acts a.label)) u ≡ true → is_own u t ≡ true → (b : Branch) × (branch_of a.uid t ≡ Some b)
-  pub noted : (a : Access) (b : Branch) → Contains accesses a → branch_of (let c = a.act in c.uid) t ≡ Some b → HasNoted a.store a.x (uids_of b.path) (root_in (root_of b.path) roots)
+  pub homes : (a : Act) (u : Uid) → Contains acts a → is_on (uids (path acts a.label)) u ≡ true → is_own u t ≡ true →
+      (b : Branch) × (branch_of a.uid t ≡ Some b)
+  pub noted : (a : Access) (b : Branch) → Contains accesses a → branch_of (let c = a.act in c.uid) t ≡ Some b →
+      HasNoted a.store a.x (uids_of b.path) (root_in (root_of b.path) roots)
   pub said : (root : Uid) (s : Said) → Contains (root_in root roots).said s → IsAccess accesses t s.path s.x (λ store. ⊤)
-  pub joined : (root : Uid) (j : Joined) → Contains (root_in root roots).joined j → IsAccess accesses t j.path j.x (λ store. store ≡ Some j.store)
+  pub joined : (root : Uid) (j : Joined) → Contains (root_in root roots).joined j →
+      IsAccess accesses t j.path j.x (λ store. store ≡ Some j.store)
 
 -- A coordinator: its actions are known, and the commits that it lists, that its commits bring and that it tells again are
 -- decided; and its tree and its roots have the book's actions and accesses.
@@ -85,7 +89,8 @@ pub record Knows (B : Book) (c : Coord) : Type 0 where
 
 -- of an open action the commit was called exactly if it is under way
 abbrev pub Calls : Book → Coord → Type 0
-Calls B c = (u : Uid) (b : Branch) (q : Doing) → branch_of u c.tree ≡ Some b → doing_of u c ≡ Some q → b.ended ≡ None → is_on B.called u ≡ is_committing_now q.now
+Calls B c = (u : Uid) (b : Branch) (q : Doing) → branch_of u c.tree ≡ Some b → doing_of u c ≡ Some q → b.ended ≡ None →
+    is_on B.called u ≡ is_committing_now q.now
 
 -- ---- effects
 
@@ -197,7 +202,8 @@ IsGiven given a = (l : Label) × (g : Labelled) × (name l ≡ a.label) × (labe
 
 -- each label that was given stands for an action that began, of its kind
 abbrev pub AreBegun : List (Label × Labelled) → List Act → Type 0
-AreBegun given acts = (l : Label) (g : Labelled) → label_at l given ≡ Some g → (a : Act) × (act_in acts (name l) ≡ Some a) × (is_serial a.kind ≡ g.serial)
+AreBegun given acts = (l : Label) (g : Labelled) → label_at l given ≡ Some g →
+    (a : Act) × (act_in acts (name l) ≡ Some a) × (is_serial a.kind ≡ g.serial)
 
 -- The lines are right, nodes know their book, the commits in all messages that were ever sent are decided by it, and its labels
 -- are those that were given.

@@ -45,11 +45,13 @@ IsCaused before _ = ⊤
 
 -- so it is of each line of the journal
 abbrev pub CommitsAreCaused : List Line → Type 0
-CommitsAreCaused lines = (before : List Line) (line : Line) (behind : List Line) → lines ≡ before ++ line ∷ behind → IsCaused before line.body
+CommitsAreCaused lines = (before : List Line) (line : Line) (behind : List Line) → lines ≡ before ++ line ∷ behind →
+    IsCaused before line.body
 
 -- a line that ends an action is its first
 abbrev pub ActionsEndOnce : List Line → Type 0
-ActionsEndOnce lines = (before : List Line) (line : Line) (behind : List Line) → lines ≡ before ++ line ∷ behind → (id : ℕ) → ended_of (acts before) line.body ≡ Some id → has_end (ended before) id ≡ false
+ActionsEndOnce lines = (before : List Line) (line : Line) (behind : List Line) → lines ≡ before ++ line ∷ behind → (id : ℕ) →
+    ended_of (acts before) line.body ≡ Some id → has_end (ended before) id ≡ false
 
 -- the number of the action that a line says was aborted
 abbrev pub aborted_of : List Act → Body → Option ℕ
@@ -87,18 +89,23 @@ excluder_of acts _ = None
 -- A call and an include is answered to an action that has no end yet, and whose commit isn't called; and an exclusion is made by
 -- one that has no end, and whose commit was called.
 abbrev pub CallsAreTimely : List Line → Type 0
-CallsAreTimely lines = (before : List Line) (line : Line) (behind : List Line) → lines ≡ before ++ line ∷ behind → (id : ℕ) → answered_of (acts before) line.body ≡ Some id → (has_end (ended before) id ≡ false) × (has_end (called before) id ≡ false)
+CallsAreTimely lines = (before : List Line) (line : Line) (behind : List Line) → lines ≡ before ++ line ∷ behind → (id : ℕ) →
+    answered_of (acts before) line.body ≡ Some id → (has_end (ended before) id ≡ false) × (has_end (called before) id ≡ false)
 
 -- each exclusion is said by an action whose commit was called and has no end yet
 abbrev pub ExclusionsAreTimely : List Line → Type 0
-ExclusionsAreTimely lines = (before : List Line) (line : Line) (behind : List Line) → lines ≡ before ++ line ∷ behind → (id : ℕ) → excluder_of (acts before) line.body ≡ Some id → (has_end (ended before) id ≡ false) × (has_end (called before) id ≡ true)
+ExclusionsAreTimely lines = (before : List Line) (line : Line) (behind : List Line) → lines ≡ before ++ line ∷ behind → (id : ℕ) →
+    excluder_of (acts before) line.body ≡ Some id → (has_end (ended before) id ≡ false) × (has_end (called before) id ≡ true)
 
 -- A commit is called once, of an action that has no end; behind the call it is decided, by its line where the action is a top, or by
 -- a record that a restart finds.
 pub record CommitsAreCalled (lines : List Line) : Type 0 where
-  pub once : (before : List Line) (line : Line) (behind : List Line) → lines ≡ before ++ line ∷ behind → (id : ℕ) → called_of (acts before) line.body ≡ Some id → (has_end (ended before) id ≡ false) × (has_end (called before) id ≡ false)
-  pub said : (before : List Line) (line : Line) (behind : List Line) → lines ≡ before ++ line ∷ behind → (l : Label) (a : Act) → line.body ≡ body.Committed l → act_in (acts before) (name l) ≡ Some a → has_end (called before) a.id ≡ is_top a.kind
-  pub found : (before : List Line) (line : Line) (behind : List Line) → lines ≡ before ++ line ∷ behind → (n : ℕ) (a : Act) → Contains (acts before) a → line.body ≡ body.Recovered n a.uid → has_end (called before) a.id ≡ true
+  pub once : (before : List Line) (line : Line) (behind : List Line) → lines ≡ before ++ line ∷ behind → (id : ℕ) →
+      called_of (acts before) line.body ≡ Some id → (has_end (ended before) id ≡ false) × (has_end (called before) id ≡ false)
+  pub said : (before : List Line) (line : Line) (behind : List Line) → lines ≡ before ++ line ∷ behind → (l : Label) (a : Act) →
+      line.body ≡ body.Committed l → act_in (acts before) (name l) ≡ Some a → has_end (called before) a.id ≡ is_top a.kind
+  pub found : (before : List Line) (line : Line) (behind : List Line) → lines ≡ before ++ line ∷ behind → (n : ℕ) (a : Act) →
+      Contains (acts before) a → line.body ≡ body.Recovered n a.uid → has_end (called before) a.id ≡ true
 
 -- the top is an action of the journal, a committed one
 pub record IsTop (lines : List Line) (t : Top) : Type 0 where
@@ -117,7 +124,8 @@ AreApart (t ∷ ts) = AllByRecursion (λ (u : Top). t.id ≢ u.id) ts × AreApar
 pub record AreItsTops (lines : List Line) : Type 0 where
   pub each : AllByRecursion (IsTop lines) (tops lines)
   pub apart : AreApart (tops lines)
-  pub all : (a : Act) → Contains (acts lines) a → is_top a.kind ≡ true → IsDone lines a → (t : Top) × Contains (tops lines) t × (t.id ≡ a.id)
+  pub all : (a : Act) → Contains (acts lines) a → is_top a.kind ≡ true → IsDone lines a →
+      (t : Top) × Contains (tops lines) t × (t.id ≡ a.id)
 
 -- what holds of a journal whose lines are right
 pub record IsSound (lines : List Line) : Type 0 where

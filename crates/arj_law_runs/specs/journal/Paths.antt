@@ -29,4 +29,5 @@ IsAlike M = (begun : List Action) × IsAlikeOf begun M
 
 -- each action that a coordinator has, of a node that is up, has its path by the journal, under its label
 abbrev pub PathsAgree : World → Type 0
-PathsAgree w = (k : ℕ) (n : Node) (t : Parts) (u : Uid) (b : Branch) (q : Doing) → at_place k w.nodes ≡ Some n → n.live ≡ Some t → branch_of u t.coord.tree ≡ Some b → doing_of u t.coord ≡ Some q → uids (path (acts w.lines) (name q.label)) ≡ uids_of b.path
+PathsAgree w = (k : ℕ) (n : Node) (t : Parts) (u : Uid) (b : Branch) (q : Doing) → at_place k w.nodes ≡ Some n → n.live ≡ Some t →
+    branch_of u t.coord.tree ≡ Some b → doing_of u t.coord ≡ Some q → uids (path (acts w.lines) (name q.label)) ≡ uids_of b.path

@@ -67,7 +67,8 @@ IsClosed B u = (a : Act) → Contains B.acts a → is_on (uids (path B.acts a.la
 -- include, is answered to an open action whose commit wasn't called; an exclusion is made by one whose commit was. And a commit is
 -- told, and done, after the line that says that it is decided.
 abbrev pub Right : Book → Body → Type 0
-Right B (body.Began l k u p) = (act_in B.acts (name l) ≡ None) × (has_act B.acts u ≡ false) × IsBelow B.acts k (option_map name p) × BeginsIn B u p
+Right B (body.Began l k u p) =
+    (act_in B.acts (name l) ≡ None) × (has_act B.acts u ≡ false) × IsBelow B.acts k (option_map name p) × BeginsIn B u p
 Right B (body.Committing l) = (a : Act) × IsOpen B l a × (is_top a.kind ≡ true) × (is_on B.called a.uid ≡ false) × IsClosed B a.uid
 Right B (body.Committed l) = (a : Act) × IsOpen B l a × (is_serial a.kind ≡ false) × (is_on B.called a.uid ≡ is_top a.kind)
 Right B (body.Ended l) = (a : Act) × IsOpen B l a × (is_serial a.kind ≡ true)

@@ -27,7 +27,8 @@ pub record IsGoodDisk (acts : List Action) (k : ℕ) (d : Disk) : Type 0 where
 
 -- each label of a coordinator has its branch, and was given, to a serializing action exactly where the branch is one
 abbrev pub KnowsLabels : List (Label × Labelled) → Coord → Type 0
-KnowsLabels given c = (l : Label) (j : ℕ) → number_of l c ≡ Some j → (g : Labelled) × (b : Branch) × (label_at l given ≡ Some g) × (at_place j c.tree.branches ≡ Some b) × (is_serial b.kind ≡ g.serial)
+KnowsLabels given c = (l : Label) (j : ℕ) → number_of l c ≡ Some j →
+    (g : Labelled) × (b : Branch) × (label_at l given ≡ Some g) × (at_place j c.tree.branches ≡ Some b) × (is_serial b.kind ≡ g.serial)
 
 -- What holds of node k that is up in incarnation i. Its server and its coordinator are good in every tree of paths that
 -- has the actions begun so far, and are of this node and incarnation; its actions are counted; its server voted for whom a

@@ -1,5 +1,6 @@
 -- When a quiesce leaves nothing to be done: nobody who waits, no record, and nothing prepared.
-use Rattle.std.specs.Prelude.{◌≡◌, ◌≢◌, ◌≤◌, ◌⊎◌, ℕ, Bool, true, false, ◌&&◌, nat_le, List, [], Option, Some, None, is_some, length, Contains}
+use Rattle.std.specs.Prelude.{◌≡◌, ◌≢◌, ◌≤◌, ◌⊎◌, ℕ, Bool, true, false, ◌&&◌, nat_le, List, [], Option, Some, None, is_some, length}
+use Rattle.std.specs.Prelude.{Contains}
 use Rattle.std.specs.List.{AllByRecursion}
 use Rattle.arj_protocol.specs.Words.{End, Header, Label, Message, Uid, asks}
 use Rattle.arj_protocol.specs.Words.ending
@@ -52,12 +53,13 @@ pub data BringsEnd (k : ℕ) (u : Uid) (p : Post) : Type 0 where
   Querying : p.from ≡ k → p.to ≡ u.node → p.message ≡ message.Query (record { act = u }) → BringsEnd k u p
   Ending : p.to ≡ k → TellsLast u p.message → BringsEnd k u p
 
--- Nobody waits at the nodes of the header, nothing is under way that asks or answers, and at these nodes, for each node that is to acknowledge
--- an end and for each action that is prepared, what brings it is under way.
+-- Nobody waits at the nodes of the header, nothing is under way that asks or answers, and at these nodes, for each node that is to
+-- acknowledge an end and for each action that is prepared, what brings it is under way.
 pub record AreSettling (of nodes : ℕ → Type 0) (found : ℕ → Option Node) (under : Post → Type 0) : Type 0 where
   pub idle : (k : ℕ) (a : Node) (t : Parts) → of k → found k ≡ Some a → a.live ≡ Some t → AreIdle t.coord
   pub plain : (p : Post) → under p → (asks p.message ≡ None) × (answers p.message ≡ None)
-  pub acks : (k : ℕ) (a : Node) (t : Parts) (u : Uid) (i : Intent) (j : ℕ) → nodes k → found k ≡ Some a → a.live ≡ Some t → at_uid u t.coord.telling ≡ Some i → has i.nodes j ≡ true → (p : Post) × under p × BringsAck k j u p
+  pub acks : (k : ℕ) (a : Node) (t : Parts) (u : Uid) (i : Intent) (j : ℕ) → nodes k → found k ≡ Some a → a.live ≡ Some t →
+      at_uid u t.coord.telling ≡ Some i → has i.nodes j ≡ true → (p : Post) × under p × BringsAck k j u p
   pub ends : (k : ℕ) (a : Node) (u : Uid) → nodes k → found k ≡ Some a → IsPrepared u a.disk → (p : Post) × under p × BringsEnd k u p
 
 -- ---- what is taken
@@ -69,15 +71,18 @@ pub record AreKept (d : Disk) (t : Parts) : Type 0 where
   pub telling : AreSorted t.coord.telling
 
 -- A relation gives that messages go to nodes of the header; that maps are sorted; that each record is told, and each end that is told wants
--- somebody's acknowledgement; that where an entry is prepared naming is; and that an action which is prepared somewhere has ended at its node, or is at its
--- commit, and is no serializing action for which records are kept.
+-- somebody's acknowledgement; that where an entry is prepared naming is; and that an action which is prepared somewhere has ended at its
+-- node, or is at its commit, and is no serializing action for which records are kept.
 pub record SettlesAll (hd : Header) (R : Seen → Type 0) : Type 0 where
   pub within : (M : Seen) (p : Post) → R M → In p M.sent → (nat_le 1 p.to && nat_le p.to hd.nodes) ≡ true
   pub sorted : (n : ℕ) (d : Disk) (t : Parts) (M : Seen) → R (up n d t M) → AreKept d t
-  pub records : (n : ℕ) (d : Disk) (t : Parts) (M : Seen) (u : Uid) → R (up n d t M) → is_some (at_uid u d.intents) ≡ true → is_some (at_uid u t.coord.telling) ≡ true
+  pub records : (n : ℕ) (d : Disk) (t : Parts) (M : Seen) (u : Uid) → R (up n d t M) → is_some (at_uid u d.intents) ≡ true →
+      is_some (at_uid u t.coord.telling) ≡ true
   pub naming : (n : ℕ) (d : Disk) (t : Parts) (M : Seen) (u : Uid) → R (up n d t M) → is_prepared u d.names ≡ true → is_some t.naming ≡ true
-  pub awaited : (n : ℕ) (d : Disk) (t : Parts) (M : Seen) (u : Uid) (i : Intent) → R (up n d t M) → at_uid u t.coord.telling ≡ Some i → i.nodes ≢ []
-  pub prepared : (n : ℕ) (d : Disk) (t : Parts) (M : Seen) (k : ℕ) (a : Node) (u : Uid) → R (up n d t M) → (up n d t M).nodes k ≡ Some a → IsPrepared u a.disk → u.node ≡ n
+  pub awaited : (n : ℕ) (d : Disk) (t : Parts) (M : Seen) (u : Uid) (i : Intent) → R (up n d t M) → at_uid u t.coord.telling ≡ Some i →
+      i.nodes ≢ []
+  pub prepared : (n : ℕ) (d : Disk) (t : Parts) (M : Seen) (k : ℕ) (a : Node) (u : Uid) → R (up n d t M) → (up n d t M).nodes k ≡ Some a →
+      IsPrepared u a.disk → u.node ≡ n
       → (is_open u t.coord.tree ≡ true → IsCommitting u t.coord) × (is_deferred u d.intents k ≡ false)
 
 -- ---- what a quiesce leaves
@@ -86,14 +91,18 @@ pub record SettlesAll (hd : Header) (R : Seen → Type 0) : Type 0 where
 -- whatever stops were to fall in it.
 abbrev pub QuiescesSettle : Type 0
 QuiescesSettle = (hd : Header) (test : Seen → Bool) → KeepsAsked hd (λ M. test M ≡ true) → SettlesAll hd (λ M. (test M ≡ true) × IsGood M)
-    → (e : Asked) (w : World) → Holds hd (λ M. (test M ≡ true) × IsGood M) w → length w.frames ≤ most_frames → lowest_from 1 w.frames ≡ None → NobodyWaits w
+    → (e : Asked) (w : World) → Holds hd (λ M. (test M ≡ true) × IsGood M) w → length w.frames ≤ most_frames →
+    lowest_from 1 w.frames ≡ None → NobodyWaits w
     → e.event ≡ event.Quiesce → w.over ≡ false → (run_event e w).over ≡ false → AreUp (run_event e w) → AreQuiet (run_event e w)
 
 -- ---- the stated round
 
--- After a quiesce, giveups of each action that waits then, and a second quiesce, each node is idle: where every node is up at the end of both,
--- whatever stops fall, and no limit is met. So it is behind any giveups where nobody waits then.
+-- After a quiesce, giveups of each action that waits then, and a second quiesce, each node is idle: where every node is up at the end of
+-- both, whatever stops fall, and no limit is met. So it is behind any giveups where nobody waits then.
 abbrev pub RoundsSettle : Type 0
-RoundsSettle = (hd : Header) (test : Seen → Bool) → KeepsAsked hd (λ M. test M ≡ true) → AnswersWaits hd (λ M. (test M ≡ true) × IsGood M) → SettlesAll hd (λ M. (test M ≡ true) × IsGood M)
-    → (ms gs : List Move) (m n : Move) → let u = world_by hd ms in let v = moved m u in let w = all_moved gs v in m.asked.event ≡ event.Quiesce → AllByRecursion IsGiveUp gs → n.asked.event ≡ event.Quiesce
-    → u.over ≡ false → v.over ≡ false → AreUp v → w.over ≡ false → AreGivenUp gs v ⊎ NobodyWaits w → (moved n w).over ≡ false → AreUp (moved n w) → AreQuiet (moved n w)
+RoundsSettle = (hd : Header) (test : Seen → Bool) → KeepsAsked hd (λ M. test M ≡ true) → AnswersWaits hd (λ M. (test M ≡ true) × IsGood M) →
+    SettlesAll hd (λ M. (test M ≡ true) × IsGood M)
+    → (ms gs : List Move) (m n : Move) → let u = world_by hd ms in let v = moved m u in let w = all_moved gs v in
+    m.asked.event ≡ event.Quiesce → AllByRecursion IsGiveUp gs → n.asked.event ≡ event.Quiesce
+    → u.over ≡ false → v.over ≡ false → AreUp v → w.over ≡ false → AreGivenUp gs v ⊎ NobodyWaits w → (moved n w).over ≡ false →
+    AreUp (moved n w) → AreQuiet (moved n w)

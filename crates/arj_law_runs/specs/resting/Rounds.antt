@@ -36,14 +36,18 @@ pub record HasCome (j : ℕ) (M : Seen) (c : Coord) (w : Want) : Type 0 where
 -- call is overtaken; that the answer for which it waits can be meant; and that a request for which a commit waits is void nowhere.
 pub record AnswersWaits (hd : Header) (R : Seen → Type 0) : Type 0 where
   pub within : (M : Seen) (p : Post) → R M → In p M.sent → (nat_le 1 p.to && nat_le p.to hd.nodes) ≡ true
-  pub calls : (j : ℕ) (d : Disk) (t : Parts) (M : Seen) (c : Coord) (u : Uid) (q : Doing) (s : Steps) → R (up j d t M) → doing_of u c ≡ Some q → q.now ≡ Calling s → (h : HasCome j (up j d t M) c (want_of_call u s))
+  pub calls : (j : ℕ) (d : Disk) (t : Parts) (M : Seen) (c : Coord) (u : Uid) (q : Doing) (s : Steps) → R (up j d t M) →
+      doing_of u c ≡ Some q → q.now ≡ Calling s → (h : HasCome j (up j d t M) c (want_of_call u s))
       → IsVoid (taken j d t (let p = h.post in p.from) (let p = h.post in p.message)) → IsOvertaken (IsSaid M.lines) s
-  pub meant : (j : ℕ) (d : Disk) (t : Parts) (M : Seen) (p : Post) (a : words.Asked) (r : Reply) (q : Doing) (s : Steps) → R (up j d t M) → In p M.sent → p.to ≡ j → answers p.message ≡ Some (a, r)
+  pub meant : (j : ℕ) (d : Disk) (t : Parts) (M : Seen) (p : Post) (a : words.Asked) (r : Reply) (q : Doing) (s : Steps) → R (up j d t M) →
+      In p M.sent → p.to ≡ j → answers p.message ≡ Some (a, r)
       → doing_of a.act t.coord ≡ Some q → q.now ≡ Calling s → waits_for_call p.from a r s ≡ true → reply_is_meant t.coord a r ≡ true
-  pub commits : (j : ℕ) (d : Disk) (t : Parts) (M : Seen) (c : Coord) (u : Uid) (q : Doing) (m : Machine) (n : ℕ) → R (up j d t M) → doing_of u c ≡ Some q → q.now ≡ Committing m → has (left_of m) n ≡ true → (h : HasCome j (up j d t M) c (want_of_commit u m n))
+  pub commits : (j : ℕ) (d : Disk) (t : Parts) (M : Seen) (c : Coord) (u : Uid) (q : Doing) (m : Machine) (n : ℕ) → R (up j d t M) →
+      doing_of u c ≡ Some q → q.now ≡ Committing m → has (left_of m) n ≡ true → (h : HasCome j (up j d t M) c (want_of_commit u m n))
       → IsVoid (taken j d t (let p = h.post in p.from) (let p = h.post in p.message)) → ⊥
 
 -- At the nodes of the header whoever waits is a call that is overtaken, or a commit that waits for no node.
 abbrev pub WaitOvertaken : World → Type 0
-WaitOvertaken w = (k : ℕ) (c : Coord) (u : Uid) (q : Doing) → is_node k w ≡ true → coord_in (at_place k w.nodes) ≡ Some c → doing_of u c ≡ Some q → is_waiting_now q.now ≡ true
+WaitOvertaken w = (k : ℕ) (c : Coord) (u : Uid) (q : Doing) → is_node k w ≡ true → coord_in (at_place k w.nodes) ≡ Some c →
+    doing_of u c ≡ Some q → is_waiting_now q.now ≡ true
     → ((s : Steps) × (q.now ≡ Calling s) × IsOvertaken (IsSaid w.lines) s) ⊎ ((m : Machine) × (q.now ≡ Committing m) × (left_of m ≡ []))

@@ -18,7 +18,8 @@ pub record SaysHalted (k : ℕ) (old new : List Line) : Type 0 where
 
 -- So it is in every run, from any of its worlds on, whatever stops fall.
 abbrev pub RunsStayUp : Type 0
-RunsStayUp = (hd : Header) (ms ns : List Move) (k : ℕ) → let w = world_by hd ms in is_up_at k w ≡ true → let v = all_moved ns w in (is_up_at k v ≡ true) ⊎ SaysHalted k w.lines v.lines
+RunsStayUp = (hd : Header) (ms ns : List Move) (k : ℕ) → let w = world_by hd ms in is_up_at k w ≡ true → let v = all_moved ns w in
+    (is_up_at k v ≡ true) ⊎ SaysHalted k w.lines v.lines
 
 -- no line behind the old ones says that some node halted
 abbrev pub NoneHalts : List Line → List Line → Type 0
@@ -26,4 +27,5 @@ NoneHalts old new = (more : List Line) × (new ≡ old ++ more) × AllByRecursio
 
 -- where every node is up, and none is said to halt from there on, every node is up
 abbrev pub AllStayUp : Type 0
-AllStayUp = (hd : Header) (ms ns : List Move) → let w = world_by hd ms in AreUp w → let v = all_moved ns w in NoneHalts w.lines v.lines → AreUp v
+AllStayUp = (hd : Header) (ms ns : List Move) → let w = world_by hd ms in AreUp w → let v = all_moved ns w in
+    NoneHalts w.lines v.lines → AreUp v

@@ -58,5 +58,7 @@ pub record HasWay (under : Post → Type 0) (k : ℕ) (w : Want) : Type 0 where
 
 -- At these coordinators, for each call, include and commit that waits, what answers it is under way, unless it is overtaken.
 pub record AreBrought (nodes : ℕ → Type 0) (coords : ℕ → Option Coord) (under : Post → Type 0) (said : Body → Type 0) : Type 0 where
-  pub calls : (k : ℕ) (c : Coord) (u : Uid) (q : Doing) (s : Steps) → nodes k → coords k ≡ Some c → doing_of u c ≡ Some q → q.now ≡ Calling s → IsOvertaken said s ⊎ HasWay under k (want_of_call u s)
-  pub commits : (k : ℕ) (c : Coord) (u : Uid) (q : Doing) (m : Machine) (n : ℕ) → nodes k → coords k ≡ Some c → doing_of u c ≡ Some q → q.now ≡ Committing m → has (left_of m) n ≡ true → HasWay under k (want_of_commit u m n)
+  pub calls : (k : ℕ) (c : Coord) (u : Uid) (q : Doing) (s : Steps) → nodes k → coords k ≡ Some c → doing_of u c ≡ Some q →
+      q.now ≡ Calling s → IsOvertaken said s ⊎ HasWay under k (want_of_call u s)
+  pub commits : (k : ℕ) (c : Coord) (u : Uid) (q : Doing) (m : Machine) (n : ℕ) → nodes k → coords k ≡ Some c → doing_of u c ≡ Some q →
+      q.now ≡ Committing m → has (left_of m) n ≡ true → HasWay under k (want_of_commit u m n)

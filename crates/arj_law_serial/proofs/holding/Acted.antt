@@ -1,12 +1,8 @@
 -- Journals by whose lines actions began, and the actions of a longer one.
-use Rattle.std.proofs.Common.{◌≡◌, ◌∙◌, ◌++◌, ℕ, zero, suc, List, [], ◌∷◌, Option, Some, None, length, take, refl, sym, ap, subst, inl, inr, append_assoc, Contains}
-use Rattle.arj_lock.proofs.Members.{In, in_from, in_to}
-use Rattle.arj_model.specs.Actions.{Act, Begun, acts, acts_from, begun_of, numbered}
-use Rattle.arj_protocol.specs.Words.{Line, uids_of}
-use Rattle.arj_law_parts.specs.parts.Actions.{Action}
-use Rattle.arj_promise.specs.Runs.{Seen}
-use Rattle.arj_law_runs.specs.journal.Paths.{AreAlike, IsAlikeOf}
-use Rattle.arj_law_runs.proofs.journal.Models.{its_acts}
+use Rattle.arj_law_parts.proofs.Words
+use Words.{◌≡◌, ◌∙◌, ◌++◌, ℕ, zero, suc, List, [], ◌∷◌, Option, Some, None, length, take, refl, sym, ap, subst, inl, inr, append_assoc}
+use Words.{Contains, In, in_from, in_to, Line, uids_of, Seen}
+use Rattle.arj_law_serial.proofs.Terms.{Act, Begun, acts, acts_from, begun_of, numbered, Action, AreAlike, IsAlikeOf, its_acts}
 use Rattle.arj_law_serial.proofs.holding.Lines.{acts_on}
 
 -- some action began by these lines
@@ -18,7 +14,8 @@ more_acts : (us : List Act) (ls : List Line) → (late : List Act) × (acts_from
 more_acts us [] = ([], refl)
 more_acts us (l ∷ ls) = by (begun_of l.body) (λ vs. more_acts vs ls)
   where
-    by : (o : Option Begun) → ((vs : List Act) → (late : List Act) × (acts_from vs ls ≡ late ++ vs)) → (late : List Act) × (acts_from (numbered us o) ls ≡ late ++ us)
+    by : (o : Option Begun) → ((vs : List Act) → (late : List Act) × (acts_from vs ls ≡ late ++ vs)) →
+        (late : List Act) × (acts_from (numbered us o) ls ≡ late ++ us)
     by None rest = rest us
     by (Some b) rest =
         let a : Act = record { id = length us; label = b.label; kind = b.kind; uid = b.uid; parent = b.parent } in
@@ -49,16 +46,23 @@ none_taken p ls none = let r = line_parts p ls in none_before (take p ls) r.0 (s
 -- ---- actions that nodes have begun
 
 -- one by one they are the same, with more in front
-alike_more : (begun more : List Action) (xs late : List Act) → AreAlike begun xs → AreAlike more (late ++ xs) → (a : Action) → In a begun → (b : Action) × In b more × (uids_of a.path ≡ uids_of b.path) × (a.kind ≡ b.kind)
+alike_more : (begun more : List Action) (xs late : List Act) → AreAlike begun xs → AreAlike more (late ++ xs) → (a : Action) → In a begun →
+    (b : Action) × In b more × (uids_of a.path ≡ uids_of b.path) × (a.kind ≡ b.kind)
 alike_more begun [] xs (l ∷ late) one two a i = absurd two
 alike_more begun (m ∷ more) xs (l ∷ late) one two a i = let r = alike_more begun more xs late one two.3 a i in (r.0, inr r.1, r.2, r.3)
 alike_more begun more xs [] one two a i = same begun more xs one two a i
   where
-    same : (begun more : List Action) (xs : List Act) → AreAlike begun xs → AreAlike more xs → (a : Action) → In a begun → (b : Action) × In b more × (uids_of a.path ≡ uids_of b.path) × (a.kind ≡ b.kind)
+    same : (begun more : List Action) (xs : List Act) → AreAlike begun xs → AreAlike more xs → (a : Action) → In a begun →
+        (b : Action) × In b more × (uids_of a.path ≡ uids_of b.path) × (a.kind ≡ b.kind)
     same [] more xs one two a i = absurd i
     same (c ∷ cs) more [] one two a i = absurd one
     same (c ∷ cs) [] (x ∷ xs) one two a i = absurd two
-    same (c ∷ cs) (m ∷ ms) (x ∷ xs) one two a (inl is) = (m, inl refl, ap (λ (z : Action). uids_of z.path) (sym is) ∙ sym one.2 ∙ two.2, ap (λ (z : Action). z.kind) (sym is) ∙ sym one.1 ∙ two.1)
+    same (c ∷ cs) (m ∷ ms) (x ∷ xs) one two a (inl is) = (
+      m,
+      inl refl,
+      ap (λ (z : Action). uids_of z.path) (sym is) ∙ sym one.2 ∙ two.2,
+      ap (λ (z : Action). z.kind) (sym is) ∙ sym one.1 ∙ two.1,
+    )
     same (c ∷ cs) (m ∷ ms) (x ∷ xs) one two a (inr i) = let r = same cs ms xs one.3 two.3 a i in (r.0, inr r.1, r.2, r.3)
 
 -- they are those of the journal
@@ -67,13 +71,16 @@ alike_acts begun M h = let w = h.2 in subst (AreAlike begun) (its_acts M.lines w
 
 -- each path of these is one of those, of an action of the same kind
 abbrev pub AreWider : List Action → List Action → Type 0
-AreWider begun more = (a : Action) → Contains begun a → (b : Action) × Contains more b × (uids_of a.path ≡ uids_of b.path) × (a.kind ≡ b.kind)
+AreWider begun more = (a : Action) → Contains begun a →
+    (b : Action) × Contains more b × (uids_of a.path ≡ uids_of b.path) × (a.kind ≡ b.kind)
 
 -- so it is behind later lines
-pub wider_by : (begun more : List Action) (M N : Seen) (new : List Line) → N.lines ≡ M.lines ++ new → IsAlikeOf begun M → IsAlikeOf more N → AreWider begun more
+pub wider_by : (begun more : List Action) (M N : Seen) (new : List Line) → N.lines ≡ M.lines ++ new → IsAlikeOf begun M → IsAlikeOf more N →
+    AreWider begun more
 wider_by begun more M N new are one two a i =
     let g = acts_grown M.lines new in
-    let r = alike_more begun more (acts M.lines) g.0 (alike_acts begun M one) (subst (AreAlike more) (ap acts are ∙ g.1) (alike_acts more N two)) a (in_from a begun i) in
+    let r = alike_more begun more (acts M.lines) g.0 (alike_acts begun M one)
+    (subst (AreAlike more) (ap acts are ∙ g.1) (alike_acts more N two)) a (in_from a begun i) in
     (r.0, in_to r.0 more r.1, r.2, r.3)
 
 -- and where none began by the journal's lines none did by others of which the same are alike

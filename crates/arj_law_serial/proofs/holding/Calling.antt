@@ -1,24 +1,14 @@
 -- No handler says both that a call was answered and that a commit is called.
-use Rattle.std.proofs.Common.{◌≡◌, ◌≢◌, ◌⊎◌, ℕ, List, [], ◌∷◌, Bool, true, false, Some, None, Option, ap, refl, sym, ◌∙◌, inl, inr}
-use Rattle.std.specs.Prelude.{is_some, not}
-use Rattle.std.specs.List.{AllByRecursion}
-use Rattle.arj_protocol.specs.Words.{Asked, Body, Kind, Label, Message, Uid}
-use Rattle.arj_protocol.specs.Words.body
-use Rattle.arj_protocol.specs.Words.message
-use Rattle.arj_protocol.specs.Ask.{Reply, answers}
-use Rattle.arj_protocol.specs.Asking.{begin_action, end_line}
-use Rattle.arj_protocol.specs.Call.{At, AtActivate, AtBind, AtInvoke, AtLoad, AtNote, CallEnd, CallStep, Ended, Goal, Include, Run, given_up}
-use Rattle.arj_protocol.specs.Call as calls
-use Rattle.arj_protocol.specs.Coord.{Coord, Doing, doing_of}
-use Rattle.arj_protocol.specs.Effect.{Disk, Effect, Intent}
-use Rattle.arj_protocol.specs.Ending.{say_for, says}
-use Rattle.arj_protocol.specs.Follow.{tick_outs}
-use Rattle.arj_protocol.specs.Node.{Parts, Took, handle}
-use Rattle.arj_protocol.specs.Step.{Input, Node, acts, parent_of}
-use Rattle.arj_protocol.specs.Step as input
-use Rattle.arj_law_parts.specs.moves.Keeps.{is_act}
-use Rattle.arj_law_lock_view.specs.running.World.{is_for_parts}
-use Rattle.arj_law_serial.specs.whole.Called.{SayOf}
+use Rattle.arj_law_parts.proofs.Words
+use Words.{◌≡◌, ◌≢◌, ◌⊎◌, ℕ, List, [], ◌∷◌, Bool, true, false, Some, None, Option, ap, refl, sym, ◌∙◌, inl, inr, is_some, not}
+use Words.{AllByRecursion, Asked, Body, Kind, Label, Message, Uid, Reply, answers, begin_action, end_line, At, AtActivate, AtBind, AtInvoke}
+use Words.{AtLoad, AtNote, CallEnd, CallStep, Ended, Goal, Include, Run, given_up, Coord, Doing, doing_of, Disk, Effect, Intent, say_for}
+use Words.{says, tick_outs, Parts, Took, handle, Input, Node, acts, parent_of}
+use Words.body
+use Words.message
+use Words.calls
+use Words.input
+use Rattle.arj_law_serial.proofs.Terms.{is_act, is_for_parts, SayOf}
 use Rattle.arj_law_serial.proofs.whole.CalledSays.{acts_fine, both, calls_commit, is_apart, message_fine, tick_fine}
 
 -- the line answers a call, or an include
@@ -61,7 +51,8 @@ marks_answer l [] = tt
 marks_answer l (z ∷ marks) = (refl, marks_answer l marks)
 
 -- who gives up answers nothing
-lost_answer : (x : ℕ) (g : Goal) (l : Label) (n : ℕ) (b : Bool) (e : CallEnd) → ◌≡◌ {A = CallStep} (Ended (calls.Lost n b)) (Ended e) → NoAnswer (end_line x g e l)
+lost_answer : (x : ℕ) (g : Goal) (l : Label) (n : ℕ) (b : Bool) (e : CallEnd) → ◌≡◌ {A = CallStep} (Ended (calls.Lost n b)) (Ended e) →
+    NoAnswer (end_line x g e l)
 lost_answer x g l n b (calls.Lost m c) is = refl
 lost_answer x g l n b (calls.Answered a) is = absurd (cc is)
 lost_answer x g l n b (calls.Included st) is = absurd (cc is)
@@ -78,8 +69,10 @@ given_answer x g (AtInvoke k i) e is l = lost_answer x g l k.server true e is
 
 module _ (k : ℕ) (d : Disk) (t v : Parts) where
   -- a message calls no commit
-  pub message_commits : (from : ℕ) (m : Message) (outs : List Effect) → handle k d t from m ≡ Took v outs → AllByRecursion (SayOf NoCommit) outs
-  message_commits from m outs is = message_fine NoCommit apart_commit k d t v from m outs is (λ a r q s of found now waits e ends l. end_commit s.x s.goal e l) (λ a r q c of found now. marks_commit q.label _)
+  pub message_commits : (from : ℕ) (m : Message) (outs : List Effect) → handle k d t from m ≡ Took v outs →
+      AllByRecursion (SayOf NoCommit) outs
+  message_commits from m outs is = message_fine NoCommit apart_commit k d t v from m outs is
+      (λ a r q s of found now waits e ends l. end_commit s.x s.goal e l) (λ a r q c of found now. marks_commit q.label _)
 
 -- nothing that isn't for the coordinator is an answer
 no_answer : (m : Message) → is_for_parts m ≡ true → (y : Asked × Reply) → answers m ≡ Some y → ⊥
@@ -92,25 +85,34 @@ no_answer m is y of = by (answers m) is of
     by (Some z) is of = cc is
 
 -- so it answers no call
-pub message_answers : (k : ℕ) (d : Disk) (t v : Parts) (from : ℕ) (m : Message) (outs : List Effect) → is_for_parts m ≡ true → handle k d t from m ≡ Took v outs → AllByRecursion (SayOf NoAnswer) outs
-message_answers k d t v from m outs mine is = message_fine NoAnswer apart_answer k d t v from m outs is (λ a r q s of found now waits e ends l. absurd (no_answer m mine (a, r) of)) (λ a r q c of found now. marks_answer q.label _)
+pub message_answers : (k : ℕ) (d : Disk) (t v : Parts) (from : ℕ) (m : Message) (outs : List Effect) → is_for_parts m ≡ true →
+    handle k d t from m ≡ Took v outs → AllByRecursion (SayOf NoAnswer) outs
+message_answers k d t v from m outs mine is = message_fine NoAnswer apart_answer k d t v from m outs is
+    (λ a r q s of found now waits e ends l. absurd (no_answer m mine (a, r) of)) (λ a r q c of found now. marks_answer q.label _)
 
 -- where an action begins none is called
-pub begin_commits : (l : Label) (how : Kind) (parent : Option Label) (c : Coord) → AllByRecursion (SayOf NoCommit) (begin_action l how parent (parent_of parent c) c).outs
+pub begin_commits : (l : Label) (how : Kind) (parent : Option Label) (c : Coord) →
+    AllByRecursion (SayOf NoCommit) (begin_action l how parent (parent_of parent c) c).outs
 begin_commits l how parent c = (refl, tt)
 
 -- an input calls none, or answers none
-pub acts_apart : (c : Coord) (i : Input) (intents : List (Uid × Intent)) → is_act i ≡ true → AllByRecursion (SayOf NoCommit) (acts i intents c).outs ⊎ AllByRecursion (SayOf NoAnswer) (acts i intents c).outs
+pub acts_apart : (c : Coord) (i : Input) (intents : List (Uid × Intent)) → is_act i ≡ true →
+    AllByRecursion (SayOf NoCommit) (acts i intents c).outs ⊎ AllByRecursion (SayOf NoAnswer) (acts i intents c).outs
 acts_apart c i intents act = by i act
   where
     plain : (j : Input) → is_act j ≡ true → ((l : Label) → j ≢ input.Commit l) → AllByRecursion (SayOf NoCommit) (acts j intents c).outs
-    plain j is none = acts_fine NoCommit apart_commit (AllByRecursion (SayOf NoCommit)) (λ es all. all) c j intents (λ l q parent same. not_begin j l q parent is same) (λ u d s found now e ends l. end_commit s.x s.goal e l) (λ u d m found now. marks_commit d.label _) (λ l same. absurd (none l same))
+    plain j is none = acts_fine NoCommit apart_commit (AllByRecursion (SayOf NoCommit)) (λ es all. all) c j intents
+        (λ l q parent same. not_begin j l q parent is same) (λ u d s found now e ends l. end_commit s.x s.goal e l)
+        (λ u d m found now. marks_commit d.label _) (λ l same. absurd (none l same))
       where
         not_begin : (j : Input) (l : Label) (q : Kind) (parent : Option Label) → is_act j ≡ true → j ≡ input.Begin l q parent → ⊥
         not_begin j l q parent is same = let no_way : false ≡ true = sym (ap is_act same) ∙ is in cc
 
-    by : (j : Input) → is_act j ≡ true → AllByRecursion (SayOf NoCommit) (acts j intents c).outs ⊎ AllByRecursion (SayOf NoAnswer) (acts j intents c).outs
-    by (input.Commit l) is = inr (acts_fine NoAnswer apart_answer (AllByRecursion (SayOf NoAnswer)) (λ es all. all) c (input.Commit l) intents (λ m q parent same. absurd (cc same)) (λ u d s found now e ends l. given_answer s.x s.goal s.at e ends l) (λ u d m found now. marks_answer d.label _)
+    by : (j : Input) → is_act j ≡ true →
+        AllByRecursion (SayOf NoCommit) (acts j intents c).outs ⊎ AllByRecursion (SayOf NoAnswer) (acts j intents c).outs
+    by (input.Commit l) is = inr
+        (acts_fine NoAnswer apart_answer (AllByRecursion (SayOf NoAnswer)) (λ es all. all) c (input.Commit l) intents (λ m q parent same.
+        absurd (cc same)) (λ u d s found now e ends l. given_answer s.x s.goal s.at e ends l) (λ u d m found now. marks_answer d.label _)
         (λ m same u es all. both NoAnswer apart_answer (says u body.Committing c) es (says_answer u) all))
       where
         says_answer : (u : Uid) → AllByRecursion (SayOf NoAnswer) (says u body.Committing c)

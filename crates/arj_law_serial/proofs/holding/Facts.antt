@@ -1,41 +1,20 @@
 -- What else is known in every run: actions have numbers, and a disk has each entry once.
-use Rattle.std.proofs.Common.{◌≡◌, ◌∙◌, ◌==◌, ◌++◌, ◌+◌, ℕ, List, [], ◌∷◌, Bool, true, false, length, Option, Some, None, refl, sym, ap, subst, arith, eqb-true, inl, inr, ⊎_elim}
-use Rattle.std.specs.Prelude.{⊤, if◌then◌else◌}
-use Rattle.std.specs.List.{AllByRecursion}
-use Rattle.std.specs.declared.cmp.Ordering.TheVariants.{Less, Equal}
-use Rattle.arj_base.specs.Order.{uid_order}
-use Rattle.arj_base.specs.Rows.{is_on}
-use Rattle.arj_base.specs.Uid.{entry, nobody, uid_eq}
-use Rattle.arj_base.proofs.Uids.{uid_other}
-use Rattle.arj_lock.proofs.Members.{In, in_from}
-use Rattle.arj_protocol.specs.Words.{Header, Kind, ObjectState, Uid, uids_of}
-use Rattle.arj_protocol.specs.Words.kind
-use Rattle.arj_protocol.specs.Words.role
-use Rattle.arj_protocol.specs.Asking.{again_all, begin_action}
-use Rattle.arj_protocol.specs.Effect.{Abort, After, Before, Commit, Disk, Do, Effect, InPart, Look, Prepare, PutInc, PutIntent, RemoveIntent, Say, Send, Stop, Work, in_part, moved, moved_some, new_states, stopped, worked}
-use Rattle.arj_protocol.specs.Follow.{AreEntries, tick_outs}
-use Rattle.arj_protocol.specs.Node.{Parts, with_coord}
-use Rattle.arj_protocol.specs.Order.{put_uid}
-use Rattle.arj_protocol.specs.Step.{Node, acts, entries_at, parent_of, parts_in, put_states, restart_outs}
-use Rattle.arj_protocol.specs.World.{is_serial_kind}
-use Rattle.arj_law_parts.specs.parts.Actions.{Action, AreBegun, Stands, act_of}
-use Rattle.arj_law_parts.specs.parts.Objects.{AreAbove, AreSorted}
-use Rattle.arj_law_parts.proofs.parts.Begun.{on_more}
-use Rattle.arj_law_parts.proofs.parts.Keys.{order_itself, sorted_put}
-use Rattle.arj_law_runs.specs.addresses.Addresses.{IsEntry}
-use Rattle.arj_law_runs.proofs.kept.Begins.{its_uid}
+use Rattle.arj_law_parts.proofs.Words
+use Words.{◌≡◌, ◌∙◌, ◌==◌, ◌++◌, ◌+◌, ℕ, List, [], ◌∷◌, Bool, true, false, length, Option, Some, None, refl, sym, ap, subst, arith}
+use Words.{eqb-true, inl, inr, ⊎_elim, ⊤, if◌then◌else◌, AllByRecursion, Less, Equal, uid_order, is_on, entry, nobody, uid_eq, uid_other}
+use Words.{In, in_from, Header, Kind, ObjectState, Uid, uids_of, again_all, begin_action, Abort, After, Before, Commit, Disk, Do, Effect}
+use Words.{InPart, Look, Prepare, PutInc, PutIntent, RemoveIntent, Say, Send, Stop, Work, in_part, moved_some, new_states, stopped, worked}
+use Words.{AreEntries, tick_outs, Parts, with_coord, put_uid, Node, acts, entries_at, parent_of, parts_in, put_states, restart_outs}
+use Words.{is_serial_kind, Seen}
+use Words.kind
+use Words.role
+use Rattle.arj_law_serial.proofs.Terms
+use Terms.{moved, Action, AreBegun, act_of, order_itself, IsEntry, its_uid, at, given, posted, said, Up, Walks, ArePastIn, KeepsOf}
+use Terms.{begins_in, AreUppersOf, uppers_of, HoldsNames}
+use Rattle.arj_law_parts.proofs.parts.{Begun.on_more, Keys.sorted_put}
+use Rattle.arj_law_parts.specs.parts.{Actions.Stands, Objects.AreAbove, Objects.AreSorted}
 use Rattle.arj_law_runs.proofs.kept.Starts.{first_at}
-use Rattle.arj_law_parts.specs.moves.Seen.{at, given, posted, said}
-use Rattle.arj_promise.specs.Runs.{Seen}
-use Rattle.arj_law_parts.specs.moves.Walks.{Up, Walks}
-use Rattle.arj_law_serial.specs.past.Told.{ArePastIn}
-use Rattle.arj_law_serial.proofs.past.Past.{past_of}
-use Rattle.arj_law_lock_view.specs.facts.Acts.{KeepsOf, begins_in}
-use Rattle.arj_law_lock_view.specs.facts.Uppers.{AreUppersOf}
-use Rattle.arj_law_lock_view.proofs.facts.UpperWalks.{uppers_of}
-use Rattle.arj_law_serial.specs.whole.Tops.{HoldsNames}
-use Rattle.arj_law_serial.proofs.whole.Names.{held_names}
-use Rattle.arj_law_serial.proofs.whole.Of.{of_both, of_more}
+use Rattle.arj_law_serial.proofs.{past.Past.past_of, whole.Names.held_names, whole.Of.of_both, whole.Of.of_more}
 
 -- ---- numbers
 
@@ -44,21 +23,27 @@ abbrev pub HaveNumbers : List Action → Type 0
 HaveNumbers begun = AllByRecursion (λ (a : Action). (let u = act_of a in u.num) ≡ 0 → ⊥) begun
 
 -- so has each on a path
-pub on_path : (begun : List Action) → AreBegun begun → HaveNumbers begun → (a : Action) → In a begun → (u : Uid) → is_on (uids_of a.path) u ≡ true → u.num ≡ 0 → ⊥
+pub on_path : (begun : List Action) → AreBegun begun → HaveNumbers begun → (a : Action) → In a begun → (u : Uid) →
+    is_on (uids_of a.path) u ≡ true → u.num ≡ 0 → ⊥
 on_path [] all numbers a i u on = absurd i
 on_path (c ∷ begun) all numbers a (inr i) u on = on_path begun all.1 numbers.1 a i u on
-on_path (c ∷ begun) all numbers a (inl is) u on = by (λ b j. on_path begun all.1 numbers.1 b j u) c.kind (let b = all.0 in b.stands) (subst (λ (z : Action). is_on (uids_of z.path) u ≡ true) (sym is) on)
+on_path (c ∷ begun) all numbers a (inl is) u on = by (λ b j. on_path begun all.1 numbers.1 b j u) c.kind (let b = all.0 in
+    b.stands) (subst (λ (z : Action). is_on (uids_of z.path) u ≡ true) (sym is) on)
   where
     itself : act_of c ≡ u → u.num ≡ 0 → ⊥
     itself same zero = numbers.0 (ap (λ (w : Uid). w.num) same ∙ zero)
 
     alone : uids_of c.path ≡ act_of c ∷ [] → is_on (uids_of c.path) u ≡ true → u.num ≡ 0 → ⊥
-    alone e here = ⊎_elim {C = u.num ≡ 0 → ⊥} (λ above. absurd (cc above)) itself (on_more [] (act_of c) u (subst (λ us. is_on us u ≡ true) e here))
+    alone e here =
+        ⊎_elim {C = u.num ≡ 0 → ⊥} (λ above. absurd (cc above)) itself (on_more [] (act_of c) u (subst (λ us. is_on us u ≡ true) e here))
 
-    below : ((b : Action) → In b begun → is_on (uids_of b.path) u ≡ true → u.num ≡ 0 → ⊥) → (b : Action) → In b begun → uids_of c.path ≡ uids_of b.path ++ act_of c ∷ [] → is_on (uids_of c.path) u ≡ true → u.num ≡ 0 → ⊥
-    below older b j e here = ⊎_elim {C = u.num ≡ 0 → ⊥} (older b j) itself (on_more (uids_of b.path) (act_of c) u (subst (λ us. is_on us u ≡ true) e here))
+    below : ((b : Action) → In b begun → is_on (uids_of b.path) u ≡ true → u.num ≡ 0 → ⊥) → (b : Action) → In b begun →
+        uids_of c.path ≡ uids_of b.path ++ act_of c ∷ [] → is_on (uids_of c.path) u ≡ true → u.num ≡ 0 → ⊥
+    below older b j e here =
+        ⊎_elim {C = u.num ≡ 0 → ⊥} (older b j) itself (on_more (uids_of b.path) (act_of c) u (subst (λ us. is_on us u ≡ true) e here))
 
-    by : ((b : Action) → In b begun → is_on (uids_of b.path) u ≡ true → u.num ≡ 0 → ⊥) → (k : Kind) → Stands begun c k → is_on (uids_of c.path) u ≡ true → u.num ≡ 0 → ⊥
+    by : ((b : Action) → In b begun → is_on (uids_of b.path) u ≡ true → u.num ≡ 0 → ⊥) → (k : Kind) → Stands begun c k →
+        is_on (uids_of c.path) u ≡ true → u.num ≡ 0 → ⊥
     by older kind.Nested s here = below older s.0 (in_from s.0 begun s.1) s.3 here
     by older kind.Constituent s here = below older s.0 (in_from s.0 begun s.1) s.3 here
     by older kind.Top s here = alone s.0 here
@@ -73,7 +58,8 @@ const_walk : (C : Type 0) (e k : ℕ) (outs : List Effect) (d : Disk) (N : Seen)
 const_walk C e k [] d N c = c
 const_walk C e k (Do w ∷ es) d N c = ((λ how. c), const_walk C e k es (worked w d) N c)
 const_walk C e k (Say b ∷ es) d N c = const_walk C e k es d (said e (b ∷ []) N) c
-const_walk C e k (Send to m ∷ es) d N c = λ more quiet. const_walk C e k es d (said e more (posted (record { from = k; to = to; message = m }) N)) c
+const_walk C e k (Send to m ∷ es) d N c =
+    λ more quiet. const_walk C e k es d (said e more (posted (record { from = k; to = to; message = m }) N)) c
 
 numbers_of : (hd : Header) → KeepsOf hd (λ begun M. ⊤) (λ begun M. HaveNumbers begun)
 numbers_of hd = record {
@@ -87,7 +73,8 @@ numbers_of hd = record {
       let same = its_uid e k d t l how parent M new may none (begun, good) in
       const_walk (HaveNumbers (a ∷ begun)) e k did.outs d (given l (record { node = k; serial = is_serial_kind how }) M)
       ((λ zero. let n : length t.coord.tree.branches + 1 ≡ 0 = sym (ap (λ (w : Uid). w.num) same) ∙ zero in absurd (omega (arith, n))), p);
-  tick = λ begun e k d t M more good p. const_walk (HaveNumbers begun) e k (tick_outs (record { number = k; disk = d; live = Some t }) t) d M p;
+  tick = λ begun e k d t M more good p.
+      const_walk (HaveNumbers begun) e k (tick_outs (record { number = k; disk = d; live = Some t }) t) d M p;
   restart = λ begun e k d M more good p. const_walk (HaveNumbers begun) e k (restart_outs hd k (d.inc + 1) d) d M p;
   first = tt;
 }
@@ -105,7 +92,8 @@ sorted_moved : (ss : List ObjectState) (held : List (Uid × ObjectState)) → Ar
 sorted_moved [] held h = h
 sorted_moved (s ∷ ss) held h = sorted_moved ss (put_uid s.uid s held) (sorted_put s.uid s held h)
 
-sorted_some : (which : Uid → Bool) (ss : List ObjectState) (held : List (Uid × ObjectState)) → AreSorted held → AreSorted (moved_some which ss held)
+sorted_some : (which : Uid → Bool) (ss : List ObjectState) (held : List (Uid × ObjectState)) → AreSorted held →
+    AreSorted (moved_some which ss held)
 sorted_some which [] held h = h
 sorted_some which (s ∷ ss) held h = sorted_some which ss (if which s.uid then put_uid s.uid s held else held) (by (which s.uid))
   where
@@ -152,26 +140,37 @@ module _ (e k : ℕ) where
   put_order : (d : Disk) (live : Option Parts) (N : Seen) → OthersIn N → HasOrder d → AreInOrder (at k d live N)
   put_order d live N others h n a = by (n == k) refl
     where
-      by : (b : Bool) → (n == k) ≡ b → (if b then Some (record { number = k; disk = d; live = live }) else N.nodes n) ≡ Some a → HasOrder a.disk
-      by true is there = let same : ◌≡◌ {A = Node} (record { number = k; disk = d; live = live }) a = cc there in subst (λ (z : Node). HasOrder z.disk) same h
+      by : (b : Bool) → (n == k) ≡ b → (if b then Some (record { number = k; disk = d; live = live }) else N.nodes n) ≡ Some a →
+          HasOrder a.disk
+      by true is there = let same : ◌≡◌ {A = Node} (record { number = k; disk = d; live = live }) a = cc there in
+          subst (λ (z : Node). HasOrder z.disk) same h
       by false is there = others n a is there
 
   others_in : (d : Disk) (live : Option Parts) (M : Seen) → AreInOrder (at k d live M) → OthersIn M
-  others_in d live M h n a off there = h n a (subst (λ b. (if b then Some (record { number = k; disk = d; live = live }) else M.nodes n) ≡ Some a) (sym off) there)
+  others_in d live M h n a off there =
+      h n a (subst (λ b. (if b then Some (record { number = k; disk = d; live = live }) else M.nodes n) ≡ Some a) (sym off) there)
 
   own_in : (d : Disk) (live : Option Parts) (M : Seen) → AreInOrder (at k d live M) → HasOrder d
-  own_in d live M h = h k (record { number = k; disk = d; live = live }) (subst (λ b. (if b then Some (record { number = k; disk = d; live = live }) else M.nodes k) ≡ Some (record { number = k; disk = d; live = live })) (sym (same k)) refl)
+  own_in d live M h = h k (record { number = k; disk = d; live = live })
+      (subst (λ b. (if b then Some (record { number = k; disk = d; live = live }) else M.nodes k)
+      ≡ Some (record { number = k; disk = d; live = live })) (sym (same k)) refl)
     where
       same : (n : ℕ) → (n == n) ≡ true
       same n = grind arith
 
-  order_walk : (v : Parts) (outs : List Effect) (d : Disk) (N : Seen) → OthersIn N → HasOrder d → Walks AreInOrder e k outs (Up AreInOrder k v) d N
+  order_walk : (v : Parts) (outs : List Effect) (d : Disk) (N : Seen) → OthersIn N → HasOrder d →
+      Walks AreInOrder e k outs (Up AreInOrder k v) d N
   order_walk v [] d N others h = put_order d (Some v) N others h
-  order_walk v (Do w ∷ es) d N others h = ((λ how. put_order (stopped how w d) None N others (order_stopped how w d h)), order_walk v es (worked w d) N others (order_worked w d h))
+  order_walk v (Do w ∷ es) d N others h = (
+    (λ how. put_order (stopped how w d) None N others (order_stopped how w d h)),
+    order_walk v es (worked w d) N others (order_worked w d h),
+  )
   order_walk v (Say b ∷ es) d N others h = order_walk v es d (said e (b ∷ []) N) others h
-  order_walk v (Send to m ∷ es) d N others h = λ more quiet. order_walk v es d (said e more (posted (record { from = k; to = to; message = m }) N)) others h
+  order_walk v (Send to m ∷ es) d N others h =
+      λ more quiet. order_walk v es d (said e more (posted (record { from = k; to = to; message = m }) N)) others h
 
-  kept_order : (live : Option Parts) (v : Parts) (outs : List Effect) (d : Disk) (M : Seen) → AreInOrder (at k d live M) → Walks AreInOrder e k outs (Up AreInOrder k v) d M
+  kept_order : (live : Option Parts) (v : Parts) (outs : List Effect) (d : Disk) (M : Seen) → AreInOrder (at k d live M) →
+      Walks AreInOrder e k outs (Up AreInOrder k v) d M
   kept_order live v outs d M h = order_walk v outs d M (others_in d live M h) (own_in d live M h)
 
 order_of : (hd : Header) → KeepsOf hd (λ begun M. ⊤) (λ begun M. AreInOrder M)
@@ -179,21 +178,25 @@ order_of hd = record {
   quiet = λ begun e bs M quiet more good p. p;
   stop = λ begun e k d live M more good p. put_order e k d None M (others_in e k d live M p) (own_in e k d live M p);
   message = λ begun e k d t v from m outs M more good p there meant is. kept_order e k (Some t) v outs d M p;
-  act = λ begun e k d t i M is none more good p. let did = acts i d.intents t.coord in kept_order e k (Some t) (with_coord t did.part) did.outs d M p;
+  act = λ begun e k d t i M is none more good p. let did = acts i d.intents t.coord in
+      kept_order e k (Some t) (with_coord t did.part) did.outs d M p;
   begin = λ begun e k d t l how parent M new may none more good p.
       let did = begin_action l how parent (parent_of parent t.coord) t.coord in
       kept_order e k (Some t) (with_coord t did.part) did.outs d (given l (record { node = k; serial = is_serial_kind how }) M) p;
-  tick = λ begun e k d t M more good p. kept_order e k (Some t) (with_coord t (let q = again_all t.coord.doings t.coord in q.part)) (tick_outs (record { number = k; disk = d; live = Some t }) t) d M p;
+  tick = λ begun e k d t M more good p. kept_order e k (Some t) (with_coord t (let q = again_all t.coord.doings t.coord in q.part))
+      (tick_outs (record { number = k; disk = d; live = Some t }) t) d M p;
   restart = λ begun e k d M more good p. kept_order e k None (parts_in k (d.inc + 1) d) (restart_outs hd k (d.inc + 1) d) d M p;
   first = λ n a there. subst (λ (z : Node). HasOrder z.disk) (first_at hd n a there) (sorted_states (entries_at n hd) [] tt);
 }
 
 -- entries that stand in order are those of different objects
-pub are_entries : (held : List (Uid × ObjectState)) → AllByRecursion (λ (e : Uid × ObjectState). IsEntry e.0 × ⊤) held → AreSorted held → AreEntries held
+pub are_entries : (held : List (Uid × ObjectState)) → AllByRecursion (λ (e : Uid × ObjectState). IsEntry e.0 × ⊤) held → AreSorted held →
+    AreEntries held
 are_entries [] all sorted = tt
 are_entries (e ∷ es) all sorted = (all.0.0, others es all.1 sorted.0, are_entries es all.1 sorted.1)
   where
-    others : (fs : List (Uid × ObjectState)) → AllByRecursion (λ (f : Uid × ObjectState). IsEntry f.0 × ⊤) fs → AreAbove e.0 fs → AllByRecursion (λ (f : Uid × ObjectState). (f.0.num == e.0.num) ≡ false) fs
+    others : (fs : List (Uid × ObjectState)) → AllByRecursion (λ (f : Uid × ObjectState). IsEntry f.0 × ⊤) fs → AreAbove e.0 fs →
+        AllByRecursion (λ (f : Uid × ObjectState). (f.0.num == e.0.num) ≡ false) fs
     others [] its above = tt
     others (f ∷ fs) its above = (by (f.0.num == e.0.num) refl, others fs its.1 above.1)
       where
@@ -211,9 +214,12 @@ abbrev pub Facts : List Action → Seen → Type 0
 Facts begun M = (ArePastIn begun M × HaveNumbers begun) × (AreUppersOf HoldsNames begun M × AreInOrder M)
 
 pub facts_of : (hd : Header) → KeepsOf hd (λ begun M. ⊤) Facts
-facts_of hd = of_both hd (λ begun M. ⊤) (λ begun M. ArePastIn begun M × HaveNumbers begun) (λ begun M. AreUppersOf HoldsNames begun M × AreInOrder M)
-    (of_more hd (λ begun M. ⊤) (λ begun M. ⊤ × (AreUppersOf HoldsNames begun M × AreInOrder M)) (λ begun M. ArePastIn begun M × HaveNumbers begun) (λ begun M h. tt) ends)
-    (of_more hd (λ begun M. ⊤) (λ begun M. ⊤ × (ArePastIn begun M × HaveNumbers begun)) (λ begun M. AreUppersOf HoldsNames begun M × AreInOrder M) (λ begun M h. tt) entries)
+facts_of hd =
+    of_both hd (λ begun M. ⊤) (λ begun M. ArePastIn begun M × HaveNumbers begun) (λ begun M. AreUppersOf HoldsNames begun M × AreInOrder M)
+    (of_more hd (λ begun M. ⊤) (λ begun M. ⊤ × (AreUppersOf HoldsNames begun M × AreInOrder M))
+    (λ begun M. ArePastIn begun M × HaveNumbers begun) (λ begun M h. tt) ends)
+    (of_more hd (λ begun M. ⊤) (λ begun M. ⊤ × (ArePastIn begun M × HaveNumbers begun))
+    (λ begun M. AreUppersOf HoldsNames begun M × AreInOrder M) (λ begun M h. tt) entries)
   where
     ends : KeepsOf hd (λ begun M. ⊤) (λ begun M. ArePastIn begun M × HaveNumbers begun)
     ends = of_both hd (λ begun M. ⊤) ArePastIn (λ begun M. HaveNumbers begun)
@@ -222,5 +228,7 @@ facts_of hd = of_both hd (λ begun M. ⊤) (λ begun M. ArePastIn begun M × Hav
 
     entries : KeepsOf hd (λ begun M. ⊤) (λ begun M. AreUppersOf HoldsNames begun M × AreInOrder M)
     entries = of_both hd (λ begun M. ⊤) (AreUppersOf HoldsNames) (λ begun M. AreInOrder M)
-        (of_more hd (λ begun M. ⊤) (λ begun M. ⊤ × AreInOrder M) (AreUppersOf HoldsNames) (λ begun M h. tt) (uppers_of HoldsNames held_names hd))
-        (of_more hd (λ begun M. ⊤) (λ begun M. ⊤ × AreUppersOf HoldsNames begun M) (λ begun M. AreInOrder M) (λ begun M h. tt) (order_of hd))
+        (of_more hd (λ begun M. ⊤) (λ begun M. ⊤ × AreInOrder M) (AreUppersOf HoldsNames) (λ begun M h. tt)
+        (uppers_of HoldsNames held_names hd))
+        (of_more hd (λ begun M. ⊤) (λ begun M. ⊤ × AreUppersOf HoldsNames begun M) (λ begun M. AreInOrder M) (λ begun M h. tt)
+        (order_of hd))

@@ -1,23 +1,13 @@
 -- What lines make of a journal's tables, of when nodes started, and of the actions that were begun.
-use Rattle.std.proofs.Common.{◌≡◌, ◌≤◌, ◌∙◌, ◌==◌, ◌++◌, ◌&&◌, ℕ, zero, suc, List, [], ◌∷◌, Bool, true, false, cond, length, refl, sym, ap, subst, arith, eqb-true, eq-eqb}
-use Rattle.std.specs.Prelude.{⊤}
-use Rattle.std.specs.List.{list_all}
-use Rattle.std.proofs.lemmas.Bool.{and_parts}
-use Rattle.arj_base.specs.Rows.{Row}
-use Rattle.arj_journal.specs.declared.body.Body.{Body}
-use Rattle.arj_journal.specs.declared.body.Body.TheVariants as body
-use Rattle.arj_journal.specs.declared.body.Part.{Part}
-use Rattle.arj_model.specs.Actions.{Act, acts, acts_after, acts_from}
-use Rattle.arj_model.specs.Table.{table, table_from, table_step, up_step}
-use Rattle.arj_law_runs.proofs.journal.Owners.{acts_more}
-use Rattle.arj_protocol.specs.Words.{Line, Uid}
-use Rattle.arj_protocol.specs.Laws.{rows_by}
-use Rattle.arj_protocol.specs.World.{numbered}
-use Rattle.arj_law_parts.specs.moves.Seen.{AreQuiet, is_quiet_line}
-use Rattle.arj_law_serial.specs.tables.Tables.{IsOfPart, holders_in, rows_on, up_from, up_of}
-use Rattle.arj_law_serial.proofs.tables.Effects.{goes_on}
-use Rattle.arj_law_serial.proofs.tables.Rows.{lines_go_by_objects}
+use Rattle.arj_law_parts.proofs.Words
+use Words.{◌≡◌, ◌≤◌, ◌∙◌, ◌==◌, ◌++◌, ◌&&◌, ℕ, zero, suc, List, [], ◌∷◌, Bool, true, false, cond, length, refl, sym, ap, subst, arith}
+use Words.{eqb-true, eq-eqb, ⊤, list_all, and_parts, Row, Body, Part, Line, Uid, rows_by, numbered}
+use Rattle.arj_law_serial.proofs.Terms
+use Terms.{Act, acts, acts_after, acts_from, table, table_from, table_step, up_step, acts_more, AreQuiet, is_quiet_line, IsOfPart}
+use Terms.{holders_in, rows_on, up_from, up_of}
+use Terms.body
 use Rattle.arj_law_serial.proofs.holding.Sorts.{IsPlain, by_kind, is_of}
+use Rattle.arj_law_serial.proofs.tables.{Effects.goes_on, Rows.lines_go_by_objects}
 
 pub never : {P : Type 0} (b : Bool) → b ≡ true → b ≡ false → P
 never b holds fails = let no_way : true ≡ false = sym holds ∙ fails in cc
@@ -43,8 +33,10 @@ apart m n k is off = by (m == n) refl
     by false e = refl
 
 -- a line of node k changes nothing in the table of node n
-other_table : (n k : ℕ) → (n == k) ≡ false → (b : Body) → is_of k b ≡ true → (begun : List Act) (up event : ℕ) (rows : List Row) → table_step n begun up event b rows ≡ rows
-other_table n k off = by_kind (λ b. is_of k b ≡ true → (begun : List Act) (up event : ℕ) (rows : List Row) → table_step n begun up event b rows ≡ rows)
+other_table : (n k : ℕ) → (n == k) ≡ false → (b : Body) → is_of k b ≡ true → (begun : List Act) (up event : ℕ) (rows : List Row) →
+    table_step n begun up event b rows ≡ rows
+other_table n k off =
+    by_kind (λ b. is_of k b ≡ true → (begun : List Act) (up event : ℕ) (rows : List Row) → table_step n begun up event b rows ≡ rows)
     (λ b plain is begun up event rows. plain.table n begun up event rows)
     (λ l h u p is begun up event rows. refl)
     (λ m u o how is begun up event rows. skips m is _ rows)
@@ -131,16 +123,19 @@ pub acts_on : (ls ms : List Line) → acts (ls ++ ms) ≡ acts_from (acts ls) ms
 acts_on ls ms = acts_more [] ls ms
 
 -- lines of node k in the table of another one
-pub other_tables : (n k e : ℕ) → (n == k) ≡ false → (bs : List Body) → list_all (is_of k) bs ≡ true → (ls : List Line) → table n (ls ++ numbered e bs) ≡ table n ls
+pub other_tables : (n k e : ℕ) → (n == k) ≡ false → (bs : List Body) → list_all (is_of k) bs ≡ true → (ls : List Line) →
+    table n (ls ++ numbered e bs) ≡ table n ls
 other_tables n k e off bs all ls = table_more n ls (numbered e bs) ∙ go bs all (acts ls) (up_of n ls) (table n ls)
   where
-    go : (bs : List Body) → list_all (is_of k) bs ≡ true → (begun : List Act) (up : ℕ) (rows : List Row) → table_from n begun up rows (numbered e bs) ≡ rows
+    go : (bs : List Body) → list_all (is_of k) bs ≡ true → (begun : List Act) (up : ℕ) (rows : List Row) →
+        table_from n begun up rows (numbered e bs) ≡ rows
     go [] all begun up rows = refl
     go (b ∷ bs) all begun up rows =
         let p = and_parts (is_of k b) (list_all (is_of k) bs) all in
         go bs p.1 (acts_after begun b) (up_step n e b up) (table_step n begun up e b rows) ∙ other_table n k off b p.0 begun up e rows
 
-pub other_starts : (n k e : ℕ) → (n == k) ≡ false → (bs : List Body) → list_all (is_of k) bs ≡ true → (ls : List Line) → up_of n (ls ++ numbered e bs) ≡ up_of n ls
+pub other_starts : (n k e : ℕ) → (n == k) ≡ false → (bs : List Body) → list_all (is_of k) bs ≡ true → (ls : List Line) →
+    up_of n (ls ++ numbered e bs) ≡ up_of n ls
 other_starts n k e off bs all ls = ups_on n 0 ls (numbered e bs) ∙ go bs all (up_of n ls)
   where
     go : (bs : List Body) → list_all (is_of k) bs ≡ true → (up : ℕ) → up_from n up (numbered e bs) ≡ up
@@ -185,8 +180,10 @@ quiet_acts e bs quiet ls = acts_on ls (numbered e bs) ∙ go bs quiet (acts ls)
         go bs p.1 (acts_after begun b) ∙ q.acts begun
 
 -- one line, in a node's own table
-pub own_line : (n : ℕ) (p : Part) (o : Uid) → IsOfPart p o → (e : ℕ) (b : Body) (ls : List Line) → rows_on o (table n (ls ++ numbered e (b ∷ []))) ≡ rows_by (holders_in (e == up_of n ls) (acts ls)) n p o b (rows_on o (table n ls))
-own_line n p o of e b ls = ap (rows_on o) (table_more n ls (numbered e (b ∷ []))) ∙ lines_go_by_objects n p o of (acts ls) (up_of n ls) e b (table n ls)
+pub own_line : (n : ℕ) (p : Part) (o : Uid) → IsOfPart p o → (e : ℕ) (b : Body) (ls : List Line) →
+    rows_on o (table n (ls ++ numbered e (b ∷ []))) ≡ rows_by (holders_in (e == up_of n ls) (acts ls)) n p o b (rows_on o (table n ls))
+own_line n p o of e b ls =
+    ap (rows_on o) (table_more n ls (numbered e (b ∷ []))) ∙ lines_go_by_objects n p o of (acts ls) (up_of n ls) e b (table n ls)
 
 -- a node that halts has no rows
 pub halted_table : (n e : ℕ) (ls : List Line) → table n (ls ++ numbered e (body.Halted n ∷ [])) ≡ []

@@ -1,33 +1,30 @@
 -- What handlers and steps say, by a test that each kind of line passes.
-use Rattle.std.proofs.Common.{◌≡◌, ◌∙◌, ◌==◌, ◌&&◌, ◌⊎◌, ℕ, zero, suc, Bool, true, false, cond, List, [], ◌∷◌, ◌++◌, ◌+◌, filter, map, refl, sym, inl, inr, ⊎_elim, Option, Some, None}
-use Rattle.std.specs.Prelude.{option_map}
-use Rattle.std.specs.List.{list_all}
-use Rattle.std.proofs.lemmas.Bool.{and_parts}
-use Rattle.arj_protocol.proofs.CoordSays.{acked_own, acts_own, again_own, heard_own, map_own, query_own, tolds_again_own}
-use Rattle.arj_protocol.proofs.PartSays.{activate_own, all_both, all_flat, bind_own, confirm_own, ends_own, invoke_own, note_own, told_own, vote_own}
-use Rattle.arj_protocol.specs.Ask.{Reply, actor, answers, asked_by, last_end, response}
-use Rattle.arj_protocol.specs.Asking.{again_all, heard}
-use Rattle.arj_protocol.specs.Confirm.{back_lines, confirm, recovered_naming}
-use Rattle.arj_protocol.specs.Effect.{Disk, Effect, Pair, Say, Send, Do, Look, PutInc, Served, Prep, Ready, Already, Old, InDoubt, held_at, holder_of, is_prepared, prepare_answer, worked}
-use Rattle.arj_protocol.specs.Ending.{acked}
-use Rattle.arj_protocol.specs.Named.{Named}
-use Rattle.arj_protocol.specs.Naming as naming
-use Rattle.arj_protocol.specs.Naming.{Naming}
-use Rattle.arj_protocol.specs.Node.{Handled, Void, Took, Here, Parts, Ran, prepared_actions, ack_told, by_reply, end_states, first_done, first_queued, handle, handle_all, handle_answer, handle_ask, handle_ends, handle_other, handle_told, holders, if_naming, is_earlier, is_meant, load_by, load_held, most_rounds, naming_told, next_round, prepare_by, prepare_states, query_about, ran, ran_handled, rounds, sends_answer, serve, served, store_told, taken, whole, with_coord, with_naming, with_server}
-use Rattle.arj_protocol.specs.Order.{uid_set, without_number}
-use Rattle.arj_protocol.specs.Says.{AreAll, is_coord_effect, is_coord_line, is_naming_effect, is_naming_line, is_server_effect, is_server_line}
-use Rattle.arj_protocol.specs.Server as server
-use Rattle.arj_protocol.specs.Step as step
-use Rattle.arj_protocol.specs.Values.{state_entry}
-use Rattle.arj_protocol.specs.Step.{Node, Input, Step, Begin, Call, Include, Commit, Abort, GiveUp, Frame, Tick, Restart, Crash, Show, acts, copy_line, entry_line, frame_step, handled_step, hello_to, naming_at, naming_back, node_did, numbers_to, parts_in, recovered_records, refusal, restart_outs, show_entry, show_outs, shown, step_down, step_of, step_unless, step_up, tick_step, tolds_again, void_step}
-use Rattle.arj_protocol.specs.Words.{Uid, End, Head, Asked, ObjectState, Body, Message, Header, Mode, Role, object, entry, Ask, asks}
-use Rattle.arj_protocol.specs.Words.ask
-use Rattle.arj_protocol.specs.Words.body
-use Rattle.arj_protocol.specs.Words.ending
-use Rattle.arj_protocol.specs.Words.message
-use Rattle.arj_protocol.specs.Words.prepared
-use Rattle.arj_protocol.specs.Words.role
-use Rattle.arj_law_parts.specs.moves.Seen.{is_quiet_line}
+use Rattle.arj_law_parts.proofs.Words
+use Words.{◌≡◌, ◌∙◌, ◌==◌, ◌&&◌, ◌⊎◌, ℕ, zero, suc, Bool, true, false, cond, List, [], ◌∷◌, ◌++◌, ◌+◌, filter, map, refl, sym, inl, inr}
+use Words.{⊎_elim, Option, Some, None, option_map, list_all, and_parts, acked_own, acts_own, again_own, heard_own, map_own, query_own}
+use Words.{tolds_again_own, activate_own, all_both, all_flat, bind_own, confirm_own, ends_own, invoke_own, note_own, told_own, vote_own}
+use Words.{Reply, actor, answers, asked_by, last_end, response, again_all, heard, back_lines, confirm, recovered_naming, Disk, Effect, Pair}
+use Words.{Say, Send, Do, Look, PutInc, Served, Prep, Ready, Already, Old, InDoubt, held_at, holder_of, is_prepared, prepare_answer, worked}
+use Words.{acked, Named, Naming, Handled, Void, Took, Here, Parts, Ran, prepared_actions, ack_told, by_reply, end_states, first_done}
+use Words.{first_queued, handle, handle_all, handle_answer, handle_ask, handle_ends, handle_other, handle_told, holders, if_naming}
+use Words.{is_earlier, is_meant, load_by, load_held, most_rounds, naming_told, next_round, prepare_by, prepare_states, query_about, ran}
+use Words.{ran_handled, rounds, sends_answer, serve, served, store_told, taken, whole, with_coord, with_naming, with_server, uid_set}
+use Words.{without_number, AreAll, is_coord_effect, is_coord_line, is_naming_effect, is_naming_line, is_server_effect, is_server_line}
+use Words.{state_entry, Node, Input, Step, Begin, Call, GiveUp, Tick, Restart, Crash, Show, acts, copy_line, entry_line, frame_step}
+use Words.{handled_step, hello_to, naming_at, naming_back, node_did, numbers_to, parts_in, recovered_records, refusal, restart_outs}
+use Words.{show_entry, show_outs, shown, step_down, step_of, step_unless, step_up, tick_step, tolds_again, void_step, Uid, End, Head, Asked}
+use Words.{ObjectState, Body, Message, Header, Mode, Role, object, entry, Ask, asks}
+use Words.naming
+use Words.server
+use Words.input as step
+use Words.ask
+use Words.body
+use Words.ending
+use Words.message
+use Words.prepared
+use Words.role
+use Rattle.arj_law_serial.proofs.Terms.{is_quiet_line}
+use Rattle.arj_protocol.specs.Step.{Include, Commit, Abort, Frame}
 
 -- the effects of one message
 abbrev pub outs_of : Handled → List Effect
@@ -44,13 +41,15 @@ module _ (test : Body → Bool) where
   All outs = AreAll says outs
 
   -- effects of a kind of which each line passes
-  pub kind_says : (kind : Effect → Bool) (line : Body → Bool) → ((b : Body) → kind (Say b) ≡ line b) → ((b : Body) → line b ≡ true → test b ≡ true) → (es : List Effect) → AreAll kind es → All es
+  pub kind_says : (kind : Effect → Bool) (line : Body → Bool) → ((b : Body) → kind (Say b) ≡ line b) →
+      ((b : Body) → line b ≡ true → test b ≡ true) → (es : List Effect) → AreAll kind es → All es
   kind_says kind line same each [] all = refl
   kind_says kind line same each (Say b ∷ es) all =
       let own = and_parts (kind (Say b)) (list_all kind es) all in
       let good = each b (sym (same b) ∙ own.0) in
       λ i. good i && kind_says kind line same each es own.1 i
-  kind_says kind line same each (Send to m ∷ es) all = kind_says kind line same each es (and_parts (kind (Send to m)) (list_all kind es) all).1
+  kind_says kind line same each (Send to m ∷ es) all =
+      kind_says kind line same each es (and_parts (kind (Send to m)) (list_all kind es) all).1
   kind_says kind line same each (Do w ∷ es) all = kind_says kind line same each es (and_parts (kind (Do w)) (list_all kind es) all).1
 
   pub map_says : {A : Type 0} (f : A → Effect) (items : List A) → ((a : A) → says (f a) ≡ true) → All (map f items)
@@ -59,8 +58,10 @@ module _ (test : Body → Bool) where
 
   -- ---- one message
 
-  module _ (n : ℕ) (May : Type 0) (by_server : (b : Body) → is_server_line n b ≡ true → test b ≡ true) (by_naming : May → (b : Body) → is_naming_line b ≡ true → test b ≡ true)
-      (prepares : (u : Uid) (r : Role) → test (body.Prepared n u r) ≡ true) (ends : (u : Uid) (r : Role) (e : End) → test (body.Done n u r e) ≡ true) where
+  module _ (n : ℕ) (May : Type 0) (by_server : (b : Body) → is_server_line n b ≡ true → test b ≡ true) (by_naming : May → (b : Body) →
+      is_naming_line b ≡ true → test b ≡ true)
+      (prepares : (u : Uid) (r : Role) → test (body.Prepared n u r) ≡ true) (ends : (u : Uid) (r : Role) (e : End) →
+      test (body.Done n u r e) ≡ true) where
     server_says : (es : List Effect) → AreAll (is_server_effect n) es → All es
     server_says = kind_says (is_server_effect n) (is_server_line n) (λ b. refl) by_server
 
@@ -72,10 +73,13 @@ module _ (test : Body → Bool) where
       answer_says t outs None all = refl
       answer_says t outs (Some r) all = all_both says outs (Send from (response (asked_by h) r) ∷ []) all refl
 
-      served_says : {S R : Type 0} (put : S → Parts) (say : R → Reply) (r : Served S R) → All r.outs → All (outs_of (served from h put say r))
+      served_says : {S R : Type 0} (put : S → Parts) (say : R → Reply) (r : Served S R) → All r.outs →
+          All (outs_of (served from h put say r))
       served_says put say r all = answer_says (put r.part) r.outs (option_map say r.reply) all
 
-      named_says : {R : Type 0} (put : Naming → Parts) (say : R → Reply) (f : Naming → Served Naming R) (o : Option Naming) → ((m : Naming) → o ≡ Some m → May) → ((m : Naming) → AreAll is_naming_effect (f m).outs) → All (outs_of (if_naming (λ m. served from h put say (f m)) o))
+      named_says : {R : Type 0} (put : Naming → Parts) (say : R → Reply) (f : Naming → Served Naming R) (o : Option Naming) →
+          ((m : Naming) → o ≡ Some m → May) → ((m : Naming) → AreAll is_naming_effect (f m).outs) →
+          All (outs_of (if_naming (λ m. served from h put say (f m)) o))
       named_says put say f None may all = refl
       named_says put say f (Some m) may all = served_says put say (f m) (naming_says (may m refl) (f m).outs (all m))
 
@@ -96,25 +100,35 @@ module _ (test : Body → Bool) where
           answer (Old u v) = refl
           answer (InDoubt u holder) = refl
 
-          by : (b : Bool) → All (outs_of (cond b (sends_answer from h t [] (Some (Reply.Prepared prepared.Yes))) (prepare_by n states from h t (prepare_answer (actor h.path) states d))))
+          by : (b : Bool) → All (outs_of (cond b (sends_answer from h t [] (Some (Reply.Prepared prepared.Yes)))
+              (prepare_by n states from h t (prepare_answer (actor h.path) states d))))
           by true = refl
           by false = answer (prepare_answer (actor h.path) states d)
 
       serve_says : (d : Disk) (t : Parts) (a : Ask) → ((m : Naming) → t.naming ≡ Some m → May) → All (outs_of (serve n d t from h a))
-      serve_says d t (ask.Bind x include avoid) may = named_says (with_naming t) Reply.Bound (naming.bind h.path x include avoid d.names) t.naming may (bind_own h.path x include avoid d.names)
+      serve_says d t (ask.Bind x include avoid) may = named_says (with_naming t) Reply.Bound (naming.bind h.path x include avoid d.names)
+          t.naming may (bind_own h.path x include avoid d.names)
       serve_says d t (ask.Load x) may = load_says x d.store t (holder_of (object x) d.store)
-      serve_says d t (ask.Activate b st) may = served_says (with_server t) Reply.Activated (server.activate n h.path b st t.server) (server_says (server.activate n h.path b st t.server).outs (activate_own n h.path b st t.server))
-      serve_says d t (ask.Record x b i g) may = named_says (with_naming t) Reply.Noted (naming.note h.path x b i g) t.naming may (note_own h.path x b i g)
-      serve_says d t (ask.Invoke x b i es op) may = served_says (with_server t) Reply.Invoked (server.invoke n h x b i es op t.server) (server_says (server.invoke n h x b i es op t.server).outs (invoke_own n h x b i es op t.server))
-      serve_says d t (ask.Vote i ties es) may = served_says (with_server t) Reply.Voted (server.vote n h.path i ties es t.server) (server_says (server.vote n h.path i ties es t.server).outs (vote_own n h.path i ties es t.server))
+      serve_says d t (ask.Activate b st) may = served_says (with_server t) Reply.Activated (server.activate n h.path b st t.server)
+          (server_says (server.activate n h.path b st t.server).outs (activate_own n h.path b st t.server))
+      serve_says d t (ask.Record x b i g) may =
+          named_says (with_naming t) Reply.Noted (naming.note h.path x b i g) t.naming may (note_own h.path x b i g)
+      serve_says d t (ask.Invoke x b i es op) may = served_says (with_server t) Reply.Invoked (server.invoke n h x b i es op t.server)
+          (server_says (server.invoke n h x b i es op t.server).outs (invoke_own n h x b i es op t.server))
+      serve_says d t (ask.Vote i ties es) may = served_says (with_server t) Reply.Voted (server.vote n h.path i ties es t.server)
+          (server_says (server.vote n h.path i ties es t.server).outs (vote_own n h.path i ties es t.server))
       serve_says d t (ask.Prepare states) may = prepare_says d.store states t
-      serve_says d t (ask.Confirm grants excluded included) may = named_says (with_naming t) Reply.Confirmed (confirm h.path grants excluded included d.names) t.naming may (confirm_own h.path grants excluded included d.names)
+      serve_says d t (ask.Confirm grants excluded included) may = named_says (with_naming t) Reply.Confirmed
+          (confirm h.path grants excluded included d.names) t.naming may (confirm_own h.path grants excluded included d.names)
 
-    told_says : (d : Disk) (t : Parts) (from : ℕ) (ack : Bool) (es : List (Uid × End)) (u : Uid) (e : End) → ((m : Naming) → t.naming ≡ Some m → May) → All (outs_of (handle_told n d t from ack es u e))
+    told_says : (d : Disk) (t : Parts) (from : ℕ) (ack : Bool) (es : List (Uid × End)) (u : Uid) (e : End) →
+        ((m : Naming) → t.naming ≡ Some m → May) → All (outs_of (handle_told n d t from ack es u e))
     told_says d t from ack es u e may =
-        all_both says (store_told n u e d.store ++ (naming_told u e d.names t.naming).outs ++ (server.told n es t.server).outs) (ack_told from u ack)
+        all_both says (store_told n u e d.store ++ (naming_told u e d.names t.naming).outs ++ (server.told n es t.server).outs)
+        (ack_told from u ack)
         (all_both says (store_told n u e d.store ++ (naming_told u e d.names t.naming).outs) (server.told n es t.server).outs
-        (all_both says (store_told n u e d.store) (naming_told u e d.names t.naming).outs (store (is_prepared u d.store) e) (names t.naming may))
+        (all_both says (store_told n u e d.store) (naming_told u e d.names t.naming).outs (store (is_prepared u d.store) e)
+        (names t.naming may))
         (server_says (server.told n es t.server).outs (ends_own n es t.server)))
         (acks ack)
       where
@@ -139,13 +153,15 @@ module _ (test : Body → Bool) where
     replied t outs None all = inr refl
     replied t outs (Some u) all = inl all
 
-    other_says : (d : Disk) (t : Parts) (from : ℕ) (m : Message) → ((o : Naming) → t.naming ≡ Some o → May) → Either (outs_of (handle_other n d t from m))
+    other_says : (d : Disk) (t : Parts) (from : ℕ) (m : Message) → ((o : Naming) → t.naming ≡ Some o → May) →
+        Either (outs_of (handle_other n d t from m))
     other_says d t from (message.Told m) may = inr (by (last_end m.ends))
       where
         by : (o : Option (Uid × End)) → All (outs_of (handle_ends n d t from m.ack m.ends o))
         by None = refl
         by (Some e) = told_says d t from m.ack m.ends e.0 e.1 may
-    other_says d t from (message.Acked m) may = replied (with_coord t (acked from m.act d.intents t.coord).part) (acked from m.act d.intents t.coord).outs (acked from m.act d.intents t.coord).reply (acked_own from m.act d.intents t.coord)
+    other_says d t from (message.Acked m) may = replied (with_coord t (acked from m.act d.intents t.coord).part)
+        (acked from m.act d.intents t.coord).outs (acked from m.act d.intents t.coord).reply (acked_own from m.act d.intents t.coord)
     other_says d t from (message.Query m) may = inl (query_own from m.act d.intents t.coord)
     other_says d t from (message.Hello m) may = inl (map_own query_about (filter (is_earlier m.node m.inc) (holders d t)) (λ u. refl))
     other_says d t from (message.Bind m) may = inr refl
@@ -166,19 +182,23 @@ module _ (test : Body → Bool) where
     other_says d t from (message.Confirmed m) may = inr refl
 
     -- what a message leads to
-    pub handle_says : (d : Disk) (t : Parts) (from : ℕ) (m : Message) → ((o : Naming) → t.naming ≡ Some o → May) → Either (outs_of (handle n d t from m))
+    pub handle_says : (d : Disk) (t : Parts) (from : ℕ) (m : Message) → ((o : Naming) → t.naming ≡ Some o → May) →
+        Either (outs_of (handle n d t from m))
     handle_says d t from m may = asked (asks m)
       where
         answered : (a : Option (Asked × Reply)) → Either (outs_of (handle_answer n d t from m a))
         answered None = other_says d t from m may
-        answered (Some a) = replied (with_coord t (heard from a.0 a.1 d.intents t.coord).part) (heard from a.0 a.1 d.intents t.coord).outs (heard from a.0 a.1 d.intents t.coord).reply (heard_own from a.0 a.1 d.intents t.coord)
+        answered (Some a) = replied (with_coord t (heard from a.0 a.1 d.intents t.coord).part) (heard from a.0 a.1 d.intents t.coord).outs
+            (heard from a.0 a.1 d.intents t.coord).reply (heard_own from a.0 a.1 d.intents t.coord)
 
         asked : (a : Option (Head × Ask)) → Either (outs_of (handle_ask n d t from m a))
         asked None = answered (answers m)
         asked (Some a) = inr (serve_says from a.0 d t a.1 may)
 
   -- the effects of a restart
-  pub restart_says : (hd : Header) (n inc : ℕ) (d : Disk) → ((b : Body) → is_coord_line b ≡ true → test b ≡ true) → ((n == 1) ≡ true → (u o : Uid) (how : Mode) → test (body.Granted 1 u o how) ≡ true) → ((u : Uid) → test (body.Recovered n u) ≡ true) → test (body.Up n inc) ≡ true → All (restart_outs hd n inc d)
+  pub restart_says : (hd : Header) (n inc : ℕ) (d : Disk) → ((b : Body) → is_coord_line b ≡ true → test b ≡ true) →
+      ((n == 1) ≡ true → (u o : Uid) (how : Mode) → test (body.Granted 1 u o how) ≡ true) → ((u : Uid) → test (body.Recovered n u) ≡ true) →
+      test (body.Up n inc) ≡ true → All (restart_outs hd n inc d)
   restart_says hd n inc d by_coord granted recovers ups =
       let back = naming_back (naming_at n inc d.names) in
       let records = Do Look ∷ recovered_records n d.intents in
@@ -195,12 +215,16 @@ module _ (test : Body → Bool) where
     where
       named : (b : Bool) → (n == 1) ≡ b → All (naming_back (cond b (Some (recovered_naming inc d.names)) None))
       named false is = refl
-      named true is = let o = recovered_naming inc d.names in all_flat says (λ (e : ℕ × Named). back_lines e.1) o.objects (λ e. map_says _ e.1.rows (λ r. granted is _ _ _))
+      named true is = let o = recovered_naming inc d.names in
+          all_flat says (λ (e : ℕ × Named). back_lines e.1) o.objects (λ e. map_says _ e.1.rows (λ r. granted is _ _ _))
 
   -- ---- a whole step
 
-  module _ (by_server : (n : ℕ) (b : Body) → is_server_line n b ≡ true → test b ≡ true) (by_naming : (b : Body) → is_naming_line b ≡ true → test b ≡ true) (by_coord : (b : Body) → is_coord_line b ≡ true → test b ≡ true) (quiet : (b : Body) → is_quiet_line b ≡ true → test b ≡ true)
-      (prepares : (n : ℕ) (u : Uid) (r : Role) → test (body.Prepared n u r) ≡ true) (ends : (n : ℕ) (u : Uid) (r : Role) (e : End) → test (body.Done n u r e) ≡ true) where
+  module _ (by_server : (n : ℕ) (b : Body) → is_server_line n b ≡ true → test b ≡ true) (by_naming : (b : Body) → is_naming_line b ≡ true →
+      test b ≡ true) (by_coord : (b : Body) → is_coord_line b ≡ true → test b ≡ true) (quiet : (b : Body) → is_quiet_line b ≡ true →
+      test b ≡ true)
+      (prepares : (n : ℕ) (u : Uid) (r : Role) → test (body.Prepared n u r) ≡ true) (ends : (n : ℕ) (u : Uid) (r : Role) (e : End) →
+      test (body.Done n u r e) ≡ true) where
     coord_says : (es : List Effect) → AreAll is_coord_effect es → All es
     coord_says = kind_says is_coord_effect is_coord_line (λ b. refl) by_coord
 
@@ -208,7 +232,8 @@ module _ (test : Body → Bool) where
     taken_says n d t from m = by (is_meant t m)
       where
         by : (b : Bool) → All (outs_of (cond b (handle n d t from m) (Void [])))
-        by true = ⊎_elim (λ coord. coord_says (outs_of (handle n d t from m)) coord) (λ all. all) (handle_says n (Unit {0}) (by_server n) (λ may. by_naming) (prepares n) (ends n) d t from m (λ o is. tt))
+        by true = ⊎_elim (λ coord. coord_says (outs_of (handle n d t from m)) coord) (λ all. all)
+            (handle_says n (Unit {0}) (by_server n) (λ may. by_naming) (prepares n) (ends n) d t from m (λ o is. tt))
         by false = refl
 
     ran_says : (n : ℕ) (t : Parts) (es : List Effect) (d : Disk) → All es → All (ran n t es d).outs
@@ -217,7 +242,8 @@ module _ (test : Body → Bool) where
     ran_says n t (Do w ∷ es) d all = ran_says n t es (worked w d) all
     ran_says n t (Send to m ∷ es) d all = by (to == n) (ran_says n t es d all)
       where
-        by : (b : Bool) → All (ran n t es d).outs → All (cond b (first_queued m (ran n t es d)) (first_done (Send to m) (ran n t es d))).outs
+        by : (b : Bool) → All (ran n t es d).outs →
+            All (cond b (first_queued m (ran n t es d)) (first_done (Send to m) (ran n t es d))).outs
         by true rest = rest
         by false rest = rest
 
@@ -229,11 +255,13 @@ module _ (test : Body → Bool) where
     each_says n [] h = refl
     each_says n (m ∷ ms) h =
         let r = ran_handled n h (taken n h.disk h.parts n m) in
-        all_both says r.outs (handle_all n ms r.here).outs (handled_says n h (taken n h.disk h.parts n m) (taken_says n h.disk h.parts n m)) (each_says n ms r.here)
+        all_both says r.outs (handle_all n ms r.here).outs (handled_says n h (taken n h.disk h.parts n m) (taken_says n h.disk h.parts n m))
+        (each_says n ms r.here)
 
     rounds_say : (n k : ℕ) (r : Ran) → All r.outs → All (rounds n k r).outs
     rounds_say n zero r all = all
-    rounds_say n (suc k) r all = by r.queue (rounds_say n k (next_round n r) (all_both says r.outs (handle_all n r.queue r.here).outs all (each_says n r.queue r.here)))
+    rounds_say n (suc k) r all = by r.queue
+        (rounds_say n k (next_round n r) (all_both says r.outs (handle_all n r.queue r.here).outs all (each_says n r.queue r.here)))
       where
         after : List Message → Ran
         after q = elim q [ [] ↦ r | m ∷ ms ↦ rounds n k (next_round n r) ]
@@ -250,12 +278,14 @@ module _ (test : Body → Bool) where
     abbrev pub BothSay : Step → Type 0
     BothSay s = All s.outs × All s.halting
 
-    did_both : (n : Node) (before : List Effect) (t : Parts) (outs : List Effect) → All before → All outs → BothSay (node_did n before t outs)
+    did_both : (n : Node) (before : List Effect) (t : Parts) (outs : List Effect) → All before → All outs →
+        BothSay (node_did n before t outs)
     did_both n before t outs first all =
         let one = all_both says before (whole n.number t outs n.disk).outs first (whole_says n.number t outs n.disk all) in (one, one)
 
     void_both : (k : ℕ) (n : Node) (outs : List Effect) → All outs → BothSay (void_step k n outs)
-    void_both k n outs all = (all_both says outs (Say (body.Void k) ∷ []) all (λ i. quiet (body.Void k) refl i && true), λ i. quiet (body.Got k) refl i && all i)
+    void_both k n outs all =
+        (all_both says outs (Say (body.Void k) ∷ []) all (λ i. quiet (body.Void k) refl i && true), λ i. quiet (body.Got k) refl i && all i)
 
     frame_both : (k from : ℕ) (n : Node) (t : Parts) (m : Option Message) → BothSay (frame_step k from n t m)
     frame_both k from n t None = void_both k n [] refl
@@ -270,13 +300,16 @@ module _ (test : Body → Bool) where
         let d = again_all t.coord.doings t.coord in
         did_both n [] (with_coord t d.part) (d.outs ++ tolds_again t.coord.telling ++ map query_about (holders n.disk t)) refl
         (all_both says (d.outs ++ tolds_again t.coord.telling) (map query_about (holders n.disk t))
-        (all_both says d.outs (tolds_again t.coord.telling) (coord_says d.outs (again_own t.coord.doings t.coord)) (coord_says (tolds_again t.coord.telling) (tolds_again_own t.coord.telling)))
+        (all_both says d.outs (tolds_again t.coord.telling) (coord_says d.outs (again_own t.coord.doings t.coord))
+        (coord_says (tolds_again t.coord.telling) (tolds_again_own t.coord.telling)))
         (map_says query_about (holders n.disk t) (λ u. refl)))
 
     acts_both : (n : Node) (t : Parts) (i : Input) → BothSay (step.coord_did n t (acts i n.disk.intents t.coord))
-    acts_both n t i = did_both n [] (with_coord t (acts i n.disk.intents t.coord).part) (acts i n.disk.intents t.coord).outs refl (coord_says (acts i n.disk.intents t.coord).outs (acts_own i n.disk.intents t.coord))
+    acts_both n t i = did_both n [] (with_coord t (acts i n.disk.intents t.coord).part) (acts i n.disk.intents t.coord).outs refl
+        (coord_says (acts i n.disk.intents t.coord).outs (acts_own i n.disk.intents t.coord))
 
-    shown_says : (line : Option ObjectState → List Effect) (u : Uid) (d : Pair) → ((s : Option ObjectState) → All (line s)) → All (shown line u d (holder_of u d))
+    shown_says : (line : Option ObjectState → List Effect) (u : Uid) (d : Pair) → ((s : Option ObjectState) → All (line s)) →
+        All (shown line u d (holder_of u d))
     shown_says line u d each = by (holder_of u d)
       where
         by : (o : Option Uid) → All (shown line u d o)
@@ -284,7 +317,8 @@ module _ (test : Body → Bool) where
         by None = each (held_at u d)
 
     show_says : (n x : ℕ) (d : Disk) → All (show_outs n x d)
-    show_says n x d = all_both says (show_entry n x d.names) (shown (copy_line n x) (object x) d.store (holder_of (object x) d.store)) (by (n == 1)) (shown_says (copy_line n x) (object x) d.store copy)
+    show_says n x d = all_both says (show_entry n x d.names) (shown (copy_line n x) (object x) d.store (holder_of (object x) d.store))
+        (by (n == 1)) (shown_says (copy_line n x) (object x) d.store copy)
       where
         copy : (s : Option ObjectState) → All (copy_line n x s)
         copy None = refl
@@ -292,7 +326,8 @@ module _ (test : Body → Bool) where
 
         line : (s : Option ObjectState) → All (entry_line x s)
         line None = refl
-        line (Some s) = λ i. quiet (body.Entry x s.version (let e = state_entry s in e.servers) (let e = state_entry s in e.stores)) refl i && true
+        line (Some s) =
+            λ i. quiet (body.Entry x s.version (let e = state_entry s in e.servers) (let e = state_entry s in e.stores)) refl i && true
 
         by : (b : Bool) → All (cond b (shown (entry_line x) (entry x) d.names (holder_of (entry x) d.names)) [])
         by true = shown_says (entry_line x) (entry x) d.names line
@@ -315,9 +350,11 @@ module _ (test : Body → Bool) where
     up_both n t (Abort l) halts = acts_both n t (Abort l)
     up_both n t (GiveUp l) halts = acts_both n t (GiveUp l)
 
-    down_both : (hd : Header) (n : Node) (i : Input) → (i ≡ Restart → All (restart_outs hd n.number (n.disk.inc + 1) n.disk)) → BothSay (step_down hd i n)
+    down_both : (hd : Header) (n : Node) (i : Input) → (i ≡ Restart → All (restart_outs hd n.number (n.disk.inc + 1) n.disk)) →
+        BothSay (step_down hd i n)
     down_both hd n (Frame k from m) starts = void_both k n [] refl
-    down_both hd n Restart starts = did_both n [] (parts_in n.number (n.disk.inc + 1) n.disk) (restart_outs hd n.number (n.disk.inc + 1) n.disk) refl (starts refl)
+    down_both hd n Restart starts =
+        did_both n [] (parts_in n.number (n.disk.inc + 1) n.disk) (restart_outs hd n.number (n.disk.inc + 1) n.disk) refl (starts refl)
     down_both hd n Tick starts = (refl, refl)
     down_both hd n Crash starts = (refl, refl)
     down_both hd n (Show x) starts = (refl, refl)
@@ -329,7 +366,8 @@ module _ (test : Body → Bool) where
     down_both hd n (GiveUp l) starts = (refl, refl)
 
     -- any step: of a restart, where its effects pass
-    pub step_says : (hd : Header) (n : Node) (i : Input) → test (body.Halted n.number) ≡ true → (i ≡ Restart → All (restart_outs hd n.number (n.disk.inc + 1) n.disk)) → BothSay (step.step hd n i)
+    pub step_says : (hd : Header) (n : Node) (i : Input) → test (body.Halted n.number) ≡ true →
+        (i ≡ Restart → All (restart_outs hd n.number (n.disk.inc + 1) n.disk)) → BothSay (step.step hd n i)
     step_says hd n i halts starts = by (refusal hd i n)
       where
         live : (o : Option Parts) → BothSay (step_of hd i n o)

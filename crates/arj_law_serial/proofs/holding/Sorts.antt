@@ -1,16 +1,10 @@
 -- Lines by kinds: those that begin an action, do something to locks, or start or stop a node, and all others.
-use Rattle.std.proofs.Common.{◌≡◌, ◌==◌, ℕ, Bool, true, false, List, Option, refl}
-use Rattle.std.specs.Prelude.{not}
-use Rattle.arj_base.specs.Rows.{Row}
-use Rattle.arj_journal.specs.declared.body.Body.{Body}
-use Rattle.arj_journal.specs.declared.body.Body.TheVariants as body
-use Rattle.arj_journal.specs.declared.body.Kind.{Kind}
-use Rattle.arj_journal.specs.declared.body.Part.{Part}
-use Rattle.arj_model.specs.Actions.{Act, acts_after}
-use Rattle.arj_model.specs.Table.{table_step, up_step}
-use Rattle.arj_protocol.specs.Words.{Binding, End, Label, Mode, Uid}
-use Rattle.arj_protocol.specs.Laws.{Holders, rows_by}
-use Rattle.arj_law_serial.specs.tables.Tables.{is_steady}
+use Rattle.arj_law_parts.proofs.Words
+use Words.{◌≡◌, ◌==◌, ℕ, Bool, true, false, List, Option, refl, not, Row, Body, Kind, Part, Binding, End, Label, Mode, Uid, Holders}
+use Words.{rows_by}
+use Rattle.arj_law_serial.proofs.Terms
+use Terms.{Act, acts_after, table_step, up_step, is_steady}
+use Terms.body
 
 -- the line says nothing of another node's locks, nor that it starts or stops
 abbrev pub is_of : ℕ → Body → Bool
@@ -49,38 +43,275 @@ pub record IsPlain (b : Body) : Type 0 where
   pub free : is_free b ≡ true
 
 -- by cases
-pub by_kind : (P : Body → Type 0) → ((b : Body) → IsPlain b → P b) → ((l : Label) (k : Kind) (u : Uid) (p : Option Label) → P (body.Began l k u p)) → ((m : ℕ) (u o : Uid) (how : Mode) → P (body.Granted m u o how)) → ((m : ℕ) (u o : Uid) → P (body.Lowered m u o)) → ((m x : ℕ) (c : Binding) → P (body.Active m x c))
-    → ((m : ℕ) (u : Uid) (e : End) (q : Part) → P (body.Told m u e q)) → ((m : ℕ) → P (body.Halted m)) → ((m i : ℕ) → P (body.Up m i)) → (b : Body) → P b
+pub by_kind : (P : Body → Type 0) → ((b : Body) → IsPlain b → P b) → ((l : Label) (k : Kind) (u : Uid) (p : Option Label) →
+    P (body.Began l k u p)) → ((m : ℕ) (u o : Uid) (how : Mode) → P (body.Granted m u o how)) →
+    ((m : ℕ) (u o : Uid) → P (body.Lowered m u o)) → ((m x : ℕ) (c : Binding) → P (body.Active m x c))
+    → ((m : ℕ) (u : Uid) (e : End) (q : Part) → P (body.Told m u e q)) → ((m : ℕ) → P (body.Halted m)) → ((m i : ℕ) → P (body.Up m i)) →
+    (b : Body) → P b
 by_kind P plain began granted lowered active told halted up (body.Began a b c d) = began a b c d
-by_kind P plain began granted lowered active told halted up (body.Ok a b c d) = plain (body.Ok a b c d) (record { table = λ n begun now event rows. refl; starts = λ n event now. refl; acts = λ begun. refl; rows = λ h n p o rows. refl; of = λ n. refl; none = λ n. refl; steady = refl; free = refl })
-by_kind P plain began granted lowered active told halted up (body.Includes a b c) = plain (body.Includes a b c) (record { table = λ n begun now event rows. refl; starts = λ n event now. refl; acts = λ begun. refl; rows = λ h n p o rows. refl; of = λ n. refl; none = λ n. refl; steady = refl; free = refl })
-by_kind P plain began granted lowered active told halted up (body.Conflict a b c d) = plain (body.Conflict a b c d) (record { table = λ n begun now event rows. refl; starts = λ n event now. refl; acts = λ begun. refl; rows = λ h n p o rows. refl; of = λ n. refl; none = λ n. refl; steady = refl; free = refl })
-by_kind P plain began granted lowered active told halted up (body.Lost a b) = plain (body.Lost a b) (record { table = λ n begun now event rows. refl; starts = λ n event now. refl; acts = λ begun. refl; rows = λ h n p o rows. refl; of = λ n. refl; none = λ n. refl; steady = refl; free = refl })
-by_kind P plain began granted lowered active told halted up (body.Changed a b c) = plain (body.Changed a b c) (record { table = λ n begun now event rows. refl; starts = λ n event now. refl; acts = λ begun. refl; rows = λ h n p o rows. refl; of = λ n. refl; none = λ n. refl; steady = refl; free = refl })
-by_kind P plain began granted lowered active told halted up (body.Committing a) = plain (body.Committing a) (record { table = λ n begun now event rows. refl; starts = λ n event now. refl; acts = λ begun. refl; rows = λ h n p o rows. refl; of = λ n. refl; none = λ n. refl; steady = refl; free = refl })
-by_kind P plain began granted lowered active told halted up (body.Committed a) = plain (body.Committed a) (record { table = λ n begun now event rows. refl; starts = λ n event now. refl; acts = λ begun. refl; rows = λ h n p o rows. refl; of = λ n. refl; none = λ n. refl; steady = refl; free = refl })
-by_kind P plain began granted lowered active told halted up (body.Ended a) = plain (body.Ended a) (record { table = λ n begun now event rows. refl; starts = λ n event now. refl; acts = λ begun. refl; rows = λ h n p o rows. refl; of = λ n. refl; none = λ n. refl; steady = refl; free = refl })
-by_kind P plain began granted lowered active told halted up (body.Aborted a b) = plain (body.Aborted a b) (record { table = λ n begun now event rows. refl; starts = λ n event now. refl; acts = λ begun. refl; rows = λ h n p o rows. refl; of = λ n. refl; none = λ n. refl; steady = refl; free = refl })
-by_kind P plain began granted lowered active told halted up (body.GaveUp a b) = plain (body.GaveUp a b) (record { table = λ n begun now event rows. refl; starts = λ n event now. refl; acts = λ begun. refl; rows = λ h n p o rows. refl; of = λ n. refl; none = λ n. refl; steady = refl; free = refl })
-by_kind P plain began granted lowered active told halted up (body.Excluded a b c) = plain (body.Excluded a b c) (record { table = λ n begun now event rows. refl; starts = λ n event now. refl; acts = λ begun. refl; rows = λ h n p o rows. refl; of = λ n. refl; none = λ n. refl; steady = refl; free = refl })
+by_kind P plain began granted lowered active told halted up (body.Ok a b c d) = plain (body.Ok a b c d) (record {
+  table = λ n begun now event rows. refl;
+  starts = λ n event now. refl;
+  acts = λ begun. refl;
+  rows = λ h n p o rows. refl;
+  of = λ n. refl;
+  none = λ n. refl;
+  steady = refl;
+  free = refl;
+})
+by_kind P plain began granted lowered active told halted up (body.Includes a b c) = plain (body.Includes a b c) (record {
+  table = λ n begun now event rows. refl;
+  starts = λ n event now. refl;
+  acts = λ begun. refl;
+  rows = λ h n p o rows. refl;
+  of = λ n. refl;
+  none = λ n. refl;
+  steady = refl;
+  free = refl;
+})
+by_kind P plain began granted lowered active told halted up (body.Conflict a b c d) = plain (body.Conflict a b c d) (record {
+  table = λ n begun now event rows. refl;
+  starts = λ n event now. refl;
+  acts = λ begun. refl;
+  rows = λ h n p o rows. refl;
+  of = λ n. refl;
+  none = λ n. refl;
+  steady = refl;
+  free = refl;
+})
+by_kind P plain began granted lowered active told halted up (body.Lost a b) = plain (body.Lost a b) (record {
+  table = λ n begun now event rows. refl;
+  starts = λ n event now. refl;
+  acts = λ begun. refl;
+  rows = λ h n p o rows. refl;
+  of = λ n. refl;
+  none = λ n. refl;
+  steady = refl;
+  free = refl;
+})
+by_kind P plain began granted lowered active told halted up (body.Changed a b c) = plain (body.Changed a b c) (record {
+  table = λ n begun now event rows. refl;
+  starts = λ n event now. refl;
+  acts = λ begun. refl;
+  rows = λ h n p o rows. refl;
+  of = λ n. refl;
+  none = λ n. refl;
+  steady = refl;
+  free = refl;
+})
+by_kind P plain began granted lowered active told halted up (body.Committing a) = plain (body.Committing a) (record {
+  table = λ n begun now event rows. refl;
+  starts = λ n event now. refl;
+  acts = λ begun. refl;
+  rows = λ h n p o rows. refl;
+  of = λ n. refl;
+  none = λ n. refl;
+  steady = refl;
+  free = refl;
+})
+by_kind P plain began granted lowered active told halted up (body.Committed a) = plain (body.Committed a) (record {
+  table = λ n begun now event rows. refl;
+  starts = λ n event now. refl;
+  acts = λ begun. refl;
+  rows = λ h n p o rows. refl;
+  of = λ n. refl;
+  none = λ n. refl;
+  steady = refl;
+  free = refl;
+})
+by_kind P plain began granted lowered active told halted up (body.Ended a) = plain (body.Ended a) (record {
+  table = λ n begun now event rows. refl;
+  starts = λ n event now. refl;
+  acts = λ begun. refl;
+  rows = λ h n p o rows. refl;
+  of = λ n. refl;
+  none = λ n. refl;
+  steady = refl;
+  free = refl;
+})
+by_kind P plain began granted lowered active told halted up (body.Aborted a b) = plain (body.Aborted a b) (record {
+  table = λ n begun now event rows. refl;
+  starts = λ n event now. refl;
+  acts = λ begun. refl;
+  rows = λ h n p o rows. refl;
+  of = λ n. refl;
+  none = λ n. refl;
+  steady = refl;
+  free = refl;
+})
+by_kind P plain began granted lowered active told halted up (body.GaveUp a b) = plain (body.GaveUp a b) (record {
+  table = λ n begun now event rows. refl;
+  starts = λ n event now. refl;
+  acts = λ begun. refl;
+  rows = λ h n p o rows. refl;
+  of = λ n. refl;
+  none = λ n. refl;
+  steady = refl;
+  free = refl;
+})
+by_kind P plain began granted lowered active told halted up (body.Excluded a b c) = plain (body.Excluded a b c) (record {
+  table = λ n begun now event rows. refl;
+  starts = λ n event now. refl;
+  acts = λ begun. refl;
+  rows = λ h n p o rows. refl;
+  of = λ n. refl;
+  none = λ n. refl;
+  steady = refl;
+  free = refl;
+})
 by_kind P plain began granted lowered active told halted up (body.Granted a b c d) = granted a b c d
 by_kind P plain began granted lowered active told halted up (body.Lowered a b c) = lowered a b c
-by_kind P plain began granted lowered active told halted up (body.Bound a b c) = plain (body.Bound a b c) (record { table = λ n begun now event rows. refl; starts = λ n event now. refl; acts = λ begun. refl; rows = λ h n p o rows. refl; of = λ n. refl; none = λ n. refl; steady = refl; free = refl })
+by_kind P plain began granted lowered active told halted up (body.Bound a b c) = plain (body.Bound a b c) (record {
+  table = λ n begun now event rows. refl;
+  starts = λ n event now. refl;
+  acts = λ begun. refl;
+  rows = λ h n p o rows. refl;
+  of = λ n. refl;
+  none = λ n. refl;
+  steady = refl;
+  free = refl;
+})
 by_kind P plain began granted lowered active told halted up (body.Active a b c) = active a b c
 by_kind P plain began granted lowered active told halted up (body.Told a b c d) = told a b c d
-by_kind P plain began granted lowered active told halted up (body.Prepared a b c) = plain (body.Prepared a b c) (record { table = λ n begun now event rows. refl; starts = λ n event now. refl; acts = λ begun. refl; rows = λ h n p o rows. refl; of = λ n. refl; none = λ n. refl; steady = refl; free = refl })
-by_kind P plain began granted lowered active told halted up (body.Done a b c d) = plain (body.Done a b c d) (record { table = λ n begun now event rows. refl; starts = λ n event now. refl; acts = λ begun. refl; rows = λ h n p o rows. refl; of = λ n. refl; none = λ n. refl; steady = refl; free = refl })
-by_kind P plain began granted lowered active told halted up (body.Sent a b c d) = plain (body.Sent a b c d) (record { table = λ n begun now event rows. refl; starts = λ n event now. refl; acts = λ begun. refl; rows = λ h n p o rows. refl; of = λ n. refl; none = λ n. refl; steady = refl; free = refl })
-by_kind P plain began granted lowered active told halted up (body.Got a) = plain (body.Got a) (record { table = λ n begun now event rows. refl; starts = λ n event now. refl; acts = λ begun. refl; rows = λ h n p o rows. refl; of = λ n. refl; none = λ n. refl; steady = refl; free = refl })
-by_kind P plain began granted lowered active told halted up (body.Void a) = plain (body.Void a) (record { table = λ n begun now event rows. refl; starts = λ n event now. refl; acts = λ begun. refl; rows = λ h n p o rows. refl; of = λ n. refl; none = λ n. refl; steady = refl; free = refl })
-by_kind P plain began granted lowered active told halted up (body.Dropped a) = plain (body.Dropped a) (record { table = λ n begun now event rows. refl; starts = λ n event now. refl; acts = λ begun. refl; rows = λ h n p o rows. refl; of = λ n. refl; none = λ n. refl; steady = refl; free = refl })
+by_kind P plain began granted lowered active told halted up (body.Prepared a b c) = plain (body.Prepared a b c) (record {
+  table = λ n begun now event rows. refl;
+  starts = λ n event now. refl;
+  acts = λ begun. refl;
+  rows = λ h n p o rows. refl;
+  of = λ n. refl;
+  none = λ n. refl;
+  steady = refl;
+  free = refl;
+})
+by_kind P plain began granted lowered active told halted up (body.Done a b c d) = plain (body.Done a b c d) (record {
+  table = λ n begun now event rows. refl;
+  starts = λ n event now. refl;
+  acts = λ begun. refl;
+  rows = λ h n p o rows. refl;
+  of = λ n. refl;
+  none = λ n. refl;
+  steady = refl;
+  free = refl;
+})
+by_kind P plain began granted lowered active told halted up (body.Sent a b c d) = plain (body.Sent a b c d) (record {
+  table = λ n begun now event rows. refl;
+  starts = λ n event now. refl;
+  acts = λ begun. refl;
+  rows = λ h n p o rows. refl;
+  of = λ n. refl;
+  none = λ n. refl;
+  steady = refl;
+  free = refl;
+})
+by_kind P plain began granted lowered active told halted up (body.Got a) = plain (body.Got a) (record {
+  table = λ n begun now event rows. refl;
+  starts = λ n event now. refl;
+  acts = λ begun. refl;
+  rows = λ h n p o rows. refl;
+  of = λ n. refl;
+  none = λ n. refl;
+  steady = refl;
+  free = refl;
+})
+by_kind P plain began granted lowered active told halted up (body.Void a) = plain (body.Void a) (record {
+  table = λ n begun now event rows. refl;
+  starts = λ n event now. refl;
+  acts = λ begun. refl;
+  rows = λ h n p o rows. refl;
+  of = λ n. refl;
+  none = λ n. refl;
+  steady = refl;
+  free = refl;
+})
+by_kind P plain began granted lowered active told halted up (body.Dropped a) = plain (body.Dropped a) (record {
+  table = λ n begun now event rows. refl;
+  starts = λ n event now. refl;
+  acts = λ begun. refl;
+  rows = λ h n p o rows. refl;
+  of = λ n. refl;
+  none = λ n. refl;
+  steady = refl;
+  free = refl;
+})
 by_kind P plain began granted lowered active told halted up (body.Halted a) = halted a
 by_kind P plain began granted lowered active told halted up (body.Up a b) = up a b
-by_kind P plain began granted lowered active told halted up (body.Armed a) = plain (body.Armed a) (record { table = λ n begun now event rows. refl; starts = λ n event now. refl; acts = λ begun. refl; rows = λ h n p o rows. refl; of = λ n. refl; none = λ n. refl; steady = refl; free = refl })
-by_kind P plain began granted lowered active told halted up (body.Recovered a b) = plain (body.Recovered a b) (record { table = λ n begun now event rows. refl; starts = λ n event now. refl; acts = λ begun. refl; rows = λ h n p o rows. refl; of = λ n. refl; none = λ n. refl; steady = refl; free = refl })
-by_kind P plain began granted lowered active told halted up (body.Refused a) = plain (body.Refused a) (record { table = λ n begun now event rows. refl; starts = λ n event now. refl; acts = λ begun. refl; rows = λ h n p o rows. refl; of = λ n. refl; none = λ n. refl; steady = refl; free = refl })
-by_kind P plain began granted lowered active told halted up (body.Entry a b c d) = plain (body.Entry a b c d) (record { table = λ n begun now event rows. refl; starts = λ n event now. refl; acts = λ begun. refl; rows = λ h n p o rows. refl; of = λ n. refl; none = λ n. refl; steady = refl; free = refl })
-by_kind P plain began granted lowered active told halted up (body.Copy a b c d e) = plain (body.Copy a b c d e) (record { table = λ n begun now event rows. refl; starts = λ n event now. refl; acts = λ begun. refl; rows = λ h n p o rows. refl; of = λ n. refl; none = λ n. refl; steady = refl; free = refl })
-by_kind P plain began granted lowered active told halted up (body.Quiet a) = plain (body.Quiet a) (record { table = λ n begun now event rows. refl; starts = λ n event now. refl; acts = λ begun. refl; rows = λ h n p o rows. refl; of = λ n. refl; none = λ n. refl; steady = refl; free = refl })
-by_kind P plain began granted lowered active told halted up (body.Bad a) = plain (body.Bad a) (record { table = λ n begun now event rows. refl; starts = λ n event now. refl; acts = λ begun. refl; rows = λ h n p o rows. refl; of = λ n. refl; none = λ n. refl; steady = refl; free = refl })
-by_kind P plain began granted lowered active told halted up (body.Limit a) = plain (body.Limit a) (record { table = λ n begun now event rows. refl; starts = λ n event now. refl; acts = λ begun. refl; rows = λ h n p o rows. refl; of = λ n. refl; none = λ n. refl; steady = refl; free = refl })
+by_kind P plain began granted lowered active told halted up (body.Armed a) = plain (body.Armed a) (record {
+  table = λ n begun now event rows. refl;
+  starts = λ n event now. refl;
+  acts = λ begun. refl;
+  rows = λ h n p o rows. refl;
+  of = λ n. refl;
+  none = λ n. refl;
+  steady = refl;
+  free = refl;
+})
+by_kind P plain began granted lowered active told halted up (body.Recovered a b) = plain (body.Recovered a b) (record {
+  table = λ n begun now event rows. refl;
+  starts = λ n event now. refl;
+  acts = λ begun. refl;
+  rows = λ h n p o rows. refl;
+  of = λ n. refl;
+  none = λ n. refl;
+  steady = refl;
+  free = refl;
+})
+by_kind P plain began granted lowered active told halted up (body.Refused a) = plain (body.Refused a) (record {
+  table = λ n begun now event rows. refl;
+  starts = λ n event now. refl;
+  acts = λ begun. refl;
+  rows = λ h n p o rows. refl;
+  of = λ n. refl;
+  none = λ n. refl;
+  steady = refl;
+  free = refl;
+})
+by_kind P plain began granted lowered active told halted up (body.Entry a b c d) = plain (body.Entry a b c d) (record {
+  table = λ n begun now event rows. refl;
+  starts = λ n event now. refl;
+  acts = λ begun. refl;
+  rows = λ h n p o rows. refl;
+  of = λ n. refl;
+  none = λ n. refl;
+  steady = refl;
+  free = refl;
+})
+by_kind P plain began granted lowered active told halted up (body.Copy a b c d e) = plain (body.Copy a b c d e) (record {
+  table = λ n begun now event rows. refl;
+  starts = λ n event now. refl;
+  acts = λ begun. refl;
+  rows = λ h n p o rows. refl;
+  of = λ n. refl;
+  none = λ n. refl;
+  steady = refl;
+  free = refl;
+})
+by_kind P plain began granted lowered active told halted up (body.Quiet a) = plain (body.Quiet a) (record {
+  table = λ n begun now event rows. refl;
+  starts = λ n event now. refl;
+  acts = λ begun. refl;
+  rows = λ h n p o rows. refl;
+  of = λ n. refl;
+  none = λ n. refl;
+  steady = refl;
+  free = refl;
+})
+by_kind P plain began granted lowered active told halted up (body.Bad a) = plain (body.Bad a) (record {
+  table = λ n begun now event rows. refl;
+  starts = λ n event now. refl;
+  acts = λ begun. refl;
+  rows = λ h n p o rows. refl;
+  of = λ n. refl;
+  none = λ n. refl;
+  steady = refl;
+  free = refl;
+})
+by_kind P plain began granted lowered active told halted up (body.Limit a) = plain (body.Limit a) (record {
+  table = λ n begun now event rows. refl;
+  starts = λ n event now. refl;
+  acts = λ begun. refl;
+  rows = λ h n p o rows. refl;
+  of = λ n. refl;
+  none = λ n. refl;
+  steady = refl;
+  free = refl;
+})

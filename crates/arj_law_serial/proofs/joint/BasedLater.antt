@@ -1,31 +1,21 @@
 -- What is known of copies and votes of an object is so still as both its machines go on.
-use Rattle.std.proofs.Common.{arith, inr, ◌≤◌, ℕ, List}
-use Rattle.arj_protocol.specs.Words as words
-use Rattle.arj_protocol.specs.Words.{Asked, ObjectState, Uid}
-use Rattle.arj_protocol.specs.Coord.{Coord}
-use Rattle.arj_law_disk_view.specs.running.States.{CoordIsSo, MessageIsSo}
-use Rattle.arj_protocol.specs.Copy.{Copy}
-use Rattle.arj_protocol.specs.Order.{binding_number}
-use Rattle.arj_protocol.specs.Server.{Server}
-use Rattle.arj_law_disk.specs.machine.Effects.{World}
-use Rattle.arj_law_disk_view.specs.view.Sees.{IsLater}
-use Rattle.arj_law_disk_view.proofs.running.Lists.{all_each}
-use Rattle.arj_law_lock.specs.machine.Actions as machine
-use Rattle.arj_law_lock.specs.machine.Machine.{Run, next, start, stay, step}
-use Rattle.arj_law_lock.specs.machine.State.{Message, State, Vote}
-use Rattle.arj_law_lock.specs.machine.Steps.{Event, CrashNaming, BindLive, BindNew, Grant, Record, ConfirmTop, PassEntry, DropEntry, CrashServer, ActivateCopy, Apply, Refuse, Change, PassRow, PassTop, DropRows, VoteTop, Keep, Name, Load, SendInvoke, Answered, TurnedDown, Lost, GiveUp, CommitNested, Abort, CommitTop, SendVote, SendConfirm, Decide, Report, EndUnit, Included}
-use Rattle.arj_law_lock.proofs.machine.Claims.{Holds}
-use Rattle.arj_law_lock.proofs.machine.Order.{go_on, run_keeps, start_holds, step_keeps}
-use Rattle.arj_law_lock.proofs.logs.Homes.{counting_is_old}
-use Rattle.arj_law_lock_view.specs.running.Fixed.{Fixed}
-use Rattle.arj_law_parts.specs.moves.Seen.{Within}
-use Rattle.arj_promise.specs.Runs.{Post}
-use Rattle.arj_law_serial.specs.joint.Based.{CopiesAreBased, IsBasedAt, IsKnownAs, IsVotedOver, IsVotedState, IsYesBased, coord_fits, post_fits}
+use Rattle.arj_law_parts.proofs.Words
+use Words.{arith, inr, ◌≤◌, ℕ, List, Asked, ObjectState, Uid, Coord, Copy, binding_number, Server, Post}
+use Words.words
+use Rattle.arj_law_serial.proofs.Terms
+use Terms.{CoordIsSo, MessageIsSo, World, IsLater, all_each, Run, next, start, stay, step, State, Vote, Event, CrashNaming, BindLive}
+use Terms.{BindNew, Grant, Record, ConfirmTop, PassEntry, DropEntry, CrashServer, ActivateCopy, Apply, Refuse, PassRow, PassTop, DropRows}
+use Terms.{VoteTop, Keep, Name, Load, SendInvoke, Answered, TurnedDown, Lost, GiveUp, CommitNested, Abort, CommitTop, SendVote, SendConfirm}
+use Terms.{Decide, Report, EndUnit, Included, Holds, go_on, run_keeps, start_holds, step_keeps, counting_is_old, Fixed, Within}
+use Terms.{CopiesAreBased, IsBasedAt, IsKnownAs, IsVotedOver, IsVotedState, IsYesBased, coord_fits, post_fits}
+use Terms.machine
+use Rattle.arj_law_lock.specs.machine.{State.Message, Steps.Change}
 use Rattle.arj_law_serial.proofs.joint.StateWider.{IsWider, coord_wider, message_wider}
 
 bound_rises : {s t : State} → Run s t → Holds s → s.naming.bound ≤ t.naming.bound
 bound_rises stay h = omega arith
-bound_rises {s} (step e guard more_steps) h = let k = step_keeps e s guard h in let later = k.0 in let a = later.bound in let b = bound_rises more_steps k.1 in omega (arith, a, b)
+bound_rises {s} (step e guard more_steps) h = let k = step_keeps e s guard h in let later = k.0 in let a = later.bound in
+    let b = bound_rises more_steps k.1 in omega (arith, a, b)
 
 -- nothing that was sent is taken back
 sent_step : (e : Event) (s : State) (m : Message) → machine.In m s.net → machine.In m (next e s).net
@@ -76,7 +66,10 @@ module _ (f : Fixed) (x : ℕ) (S T : State) (W V : World) (reached : Run (start
   known_as v u its = (its.0, later.known its.0 its.1, its.2, its.3)
 
   pub based_on : (b v : ℕ) (u : Uid) → IsBasedAt S W b v u → IsBasedAt T V b v u
-  based_on b v u its = ((let l = bound_rises run holds in let o = its.0 in omega (arith, l, o)), λ counts. known_as v u (its.1 (counting_is_old f.first S T b reached its.0 run counts)))
+  based_on b v u its = (
+    (let l = bound_rises run holds in let o = its.0 in omega (arith, l, o)),
+    λ counts. known_as v u (its.1 (counting_is_old f.first S T b reached its.0 run counts)),
+  )
 
   pub voted_on : (u : Uid) (st : ObjectState) → IsVotedOver f x u S W st → IsVotedOver f x u T V st
   voted_on u st z = record {
@@ -94,15 +87,22 @@ module _ (f : Fixed) (x : ℕ) (S T : State) (W V : World) (reached : Run (start
   }
 
   coords_wider : IsWider (coord_fits f x S W) (coord_fits f x T V)
-  coords_wider = record { loaded = λ u st its same. known_as st.version st.writer (its same); voted = λ u st its same. voted_on st.writer st (its same); kept = λ u st its. its }
+  coords_wider = record {
+    loaded = λ u st its same. known_as st.version st.writer (its same);
+    voted = λ u st its same. voted_on st.writer st (its same);
+    kept = λ u st its. its;
+  }
 
   posts_wider : IsWider (post_fits x W) (post_fits x V)
-  posts_wider = record { loaded = λ u st its same. known_as st.version st.writer (its same); voted = λ u st its. its; kept = λ u st its. its }
+  posts_wider =
+      record { loaded = λ u st its same. known_as st.version st.writer (its same); voted = λ u st its. its; kept = λ u st its. its }
 
   pub copies_on : (s : Server) → CopiesAreBased x S W s → CopiesAreBased x T V s
-  copies_on s all = all_each _ _ s.objects (λ (e : ℕ × Copy) its same. let c = e.1 in let b = c.base in based_on (binding_number c.binding) b.version b.writer (its same)) all
+  copies_on s all = all_each _ _ s.objects (λ (e : ℕ × Copy) its same. let c = e.1 in let b = c.base in
+      based_on (binding_number c.binding) b.version b.writer (its same)) all
 
-  pub yes_on : (sent more : List Post) (p : Post) (a : Asked) (states : List ObjectState) → Within sent more → IsYesBased x (IsVotedState f x S W) sent p a states → IsYesBased x (IsVotedState f x T V) more p a states
+  pub yes_on : (sent more : List Post) (p : Post) (a : Asked) (states : List ObjectState) → Within sent more →
+      IsYesBased x (IsVotedState f x S W) sent p a states → IsYesBased x (IsVotedState f x T V) more p a states
   yes_on sent more p a states within y = record {
     request = y.request;
     asked = within y.request y.asked;

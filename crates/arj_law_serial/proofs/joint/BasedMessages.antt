@@ -1,37 +1,26 @@
 -- At a message: the ends that come with it raise copies to what was planned, and a Yes is sent by a server only.
-use Rattle.std.proofs.Common.{false, ◌≡◌, ◌∙◌, ℕ, List, [], ◌∷◌, true, Option, None, Some, refl}
-use Rattle.arj_protocol.specs.Words.{Ask, Binding, Head, Message, Uid, asks}
-use Rattle.arj_protocol.specs.Words.ask
-use Rattle.arj_protocol.specs.Words.message
-use Rattle.arj_protocol.specs.Copy.{Base}
-use Rattle.arj_protocol.specs.Order.{binding_number}
-use Rattle.arj_protocol.specs.Server.{Server}
-use Rattle.arj_law_parts.specs.parts.Actions.{Action}
-use Rattle.arj_law_parts.specs.parts.Ends.{ask_ends, brought, brought_by, told_by}
-use Rattle.arj_law_disk.specs.machine.Core.{Core}
-use Rattle.arj_law_disk.specs.machine.Effects.{World}
-use Rattle.arj_law_lock.specs.machine.Actions as machine
-use Rattle.arj_law_lock.specs.machine.Actions.{top}
-use Rattle.arj_law_lock.specs.machine.Machine.{Run, start}
-use Rattle.arj_law_lock.specs.machine.State.{Alive, Call, State}
-use Rattle.arj_law_lock_view.specs.running.Fixed.{Fixed, view_of}
-use Rattle.arj_law_lock_view.specs.running.World.{is_for_parts}
-use Rattle.arj_law_lock_view.specs.view.Handling.{IsAskingShown, IsMessageShown}
-use Rattle.arj_law_lock_view.specs.view.Serving.{IsShown}
-use Rattle.arj_law_lock_view.specs.view.Telling.{Sees, View}
-use Rattle.arj_law_serial.specs.order.Tied.{AreApart}
-use Rattle.arj_law_serial.specs.joint.Based.{HasWriters, IsBasedAt, WasVotedOver}
-use Rattle.arj_law_serial.proofs.joint.BasedRaise.{all_raise}
-use Rattle.arj_law_serial.proofs.joint.BasedServers.{AreRaised}
+use Rattle.arj_law_parts.proofs.Words
+use Words.{false, ◌≡◌, ℕ, List, true, Option, None, Some, refl, Ask, Binding, Head, Message, Uid, asks, Base, binding_number, Server}
+use Words.ask
+use Words.message
+use Rattle.arj_law_serial.proofs.Terms
+use Terms.{Action, ask_ends, brought, brought_by, told_by, Core, World, top, Run, start, Alive, Call, State, Fixed, view_of, is_for_parts}
+use Terms.{IsAskingShown, IsMessageShown, IsShown, Sees, View, AreApart, HasWriters, IsBasedAt, WasVotedOver}
+use Terms.machine
+use Rattle.arj_law_serial.proofs.joint.{BasedRaise.all_raise, BasedServers.AreRaised}
 
-module _ (f : Fixed) (apart : AreApart f.code) (x k : ℕ) (begun : List Action) (S : State) (W : World) (core : Core W.disk) (writers : HasWriters W.disk) (reached : Run (start f.first) S) (s : Server) (sees : Sees (view_of f x begun k) s S)
-    (planned : (u : Uid) → (let a = S.action (f.act u) in a.stage) ≡ 3 → (c : Call) → machine.In c S.calls → c.write ≡ true → top c.act ≡ f.act u → Alive S c.act → WasVotedOver f x u S W) where
+module _ (f : Fixed) (apart : AreApart f.code) (x k : ℕ) (begun : List Action) (S : State) (W : World) (core : Core W.disk)
+    (writers : HasWriters W.disk) (reached : Run (start f.first) S) (s : Server) (sees : Sees (view_of f x begun k) s S)
+    (planned : (u : Uid) → (let a = S.action (f.act u) in a.stage) ≡ 3 → (c : Call) → machine.In c S.calls → c.write ≡ true →
+    top c.act ≡ f.act u → Alive S c.act → WasVotedOver f x u S W) where
   abbrev B : Binding → Base → Type 0
   B b base = IsBasedAt S W (binding_number b) base.version base.writer
 
   asked_raise : (h : Head) (a : Ask) → IsShown (view_of f x begun k) h a s S → AreRaised x B k (ask_ends a) s
-  asked_raise h (ask.Invoke y b i ends o) shown = all_raise f apart x k begun S W core writers reached ends s (record { whole = shown.whole; server = shown.server; ordered = (let z = shown.fits in z.2); shown = shown.shown }) sees planned
-  asked_raise h (ask.Vote i ties ends) shown = all_raise f apart x k begun S W core writers reached ends s (record { whole = shown.whole; server = shown.server; ordered = (let z = shown.fits in z.2); shown = shown.shown }) sees planned
+  asked_raise h (ask.Invoke y b i ends o) shown = all_raise f apart x k begun S W core writers reached ends s
+      (record { whole = shown.whole; server = shown.server; ordered = (let z = shown.fits in z.2); shown = shown.shown }) sees planned
+  asked_raise h (ask.Vote i ties ends) shown = all_raise f apart x k begun S W core writers reached ends s
+      (record { whole = shown.whole; server = shown.server; ordered = (let z = shown.fits in z.2); shown = shown.shown }) sees planned
   asked_raise h _ shown = tt
 
   told_raise : (m : Message) → asks m ≡ None → IsMessageShown (view_of f x begun k) s S m → AreRaised x B k (told_by m) s
@@ -39,14 +28,16 @@ module _ (f : Fixed) (apart : AreApart f.code) (x k : ℕ) (begun : List Action)
   told_raise _ none shown = tt
 
   -- of all ends that it brings, and that it tells
-  pub ends_raise : (m : Message) → IsMessageShown (view_of f x begun k) s S m → AreRaised x B k (brought m) s × AreRaised x B k (told_by m) s
+  pub ends_raise : (m : Message) → IsMessageShown (view_of f x begun k) s S m →
+      AreRaised x B k (brought m) s × AreRaised x B k (told_by m) s
   ends_raise m shown = by (asks m) refl shown
     where
       plain : (n : Message) (q : Head × Ask) → asks n ≡ Some q → AreRaised x B k (told_by n) s
       plain (message.Told z) q is = absurd (cc is)
       plain _ q is = tt
 
-      by : (o : Option (Head × Ask)) → asks m ≡ o → IsAskingShown (view_of f x begun k) s S m o → AreRaised x B k (brought_by o) s × AreRaised x B k (told_by m) s
+      by : (o : Option (Head × Ask)) → asks m ≡ o → IsAskingShown (view_of f x begun k) s S m o →
+          AreRaised x B k (brought_by o) s × AreRaised x B k (told_by m) s
       by None is its = (tt, told_raise m is shown)
       by (Some q) is its = (asked_raise q.0 q.1 its, plain m q is)
 

@@ -1,41 +1,30 @@
 -- What a node makes of a message: of its copies of the object it holds still, and of what stores gave it holds wherever that is.
-use Rattle.std.proofs.Common.{◌≡◌, ◌∙◌, ap, ℕ, List, [], ◌∷◌, ◌++◌, Bool, true, false, cond, filter, map, Option, Some, None, refl, subst}
-use Rattle.std.specs.Prelude.{⊤, IfSome, option_map}
-use Rattle.std.specs.List.{AllByRecursion, list_all}
-use Rattle.std.proofs.lemmas.Bool.{and_parts}
-use Rattle.arj_protocol.proofs.PartSays.{activate_own, bind_own, confirm_own, ends_own, invoke_own, note_own, told_own, vote_own}
-use Rattle.arj_protocol.specs.Words.{Ask, Asked, End, Head, Message, ObjectState, Uid, VotedReply, asks, object}
-use Rattle.arj_protocol.specs.Words.ask
-use Rattle.arj_protocol.specs.Words.ending
-use Rattle.arj_protocol.specs.Words.message
-use Rattle.arj_protocol.specs.Words.prepared
-use Rattle.arj_protocol.specs.Words.voted
-use Rattle.arj_protocol.specs.Ask.{Reply, actor, answers, asked_by, last_end, response}
-use Rattle.arj_protocol.specs.Asking.{heard}
-use Rattle.arj_protocol.specs.Confirm.{confirm}
-use Rattle.arj_protocol.specs.Coord.{Coord}
-use Rattle.arj_protocol.specs.Effect.{Already, Disk, Do, Effect, InDoubt, Old, Prep, Ready, Say, Send, Served, held_at, holder_of, is_prepared, prepare_answer}
-use Rattle.arj_protocol.specs.Ending.{acked, answer_query}
-use Rattle.arj_protocol.specs.Naming as naming
-use Rattle.arj_protocol.specs.Naming.{Naming}
-use Rattle.arj_protocol.specs.Node.{Handled, Parts, Took, Void, ack_told, answer_is_meant, ask_is_meant, asked_is_meant, coord_heard, end_states, handle, handle_answer, handle_ask, handle_ends, handle_other, holders, if_naming, is_earlier, is_meant, load_by, load_held, naming_told, prepare_by, query_about, sends_answer, serve, served, store_told, with_naming, with_server}
-use Rattle.arj_protocol.specs.Says.{AreAll, is_names_work, is_naming_effect}
-use Rattle.arj_protocol.specs.Server as server
-use Rattle.arj_protocol.specs.Server.{Server}
-use Rattle.arj_law_parts.specs.parts.Ends.{ask_ends, brought, brought_by, told_by}
-use Rattle.arj_protocol.specs.Words.{Binding}
-use Rattle.arj_protocol.specs.Copy.{Base, taken_copy}
-use Rattle.arj_law_disk.proofs.machine.Base.{never}
-use Rattle.arj_law_disk_view.specs.running.States.{AllSay, AskIsSo, AskedIsSo, CoordIsSo, Fits, MayKeep, MessageIsSo, Own, ReplyIsSo}
-use Rattle.arj_law_serial.specs.joint.Based.{fits_of}
-use Rattle.arj_law_serial.proofs.joint.StateWider.{IsWider, message_wider}
-use Rattle.arj_law_serial.proofs.joint.BasedServers.{AreRaised, CopiesAreSo}
-use Rattle.arj_law_disk_view.proofs.running.HeardPosts.{all_join}
-use Rattle.arj_law_disk_view.proofs.running.StateCoords.{hears_so}
-use Rattle.arj_law_disk_view.proofs.running.StateEnds.{acks_so, query_so}
+use Rattle.arj_law_parts.proofs.Words
+use Words.{◌≡◌, ◌∙◌, ap, ℕ, List, [], ◌∷◌, ◌++◌, Bool, true, false, cond, filter, map, Option, Some, None, refl, subst, ⊤, IfSome}
+use Words.{option_map, AllByRecursion, list_all, and_parts, activate_own, bind_own, confirm_own, ends_own, invoke_own, note_own, told_own}
+use Words.{vote_own, Ask, Asked, End, Head, Message, ObjectState, Uid, VotedReply, asks, object, Reply, actor, answers, asked_by, last_end}
+use Words.{response, heard, confirm, Coord, Already, Disk, Do, Effect, InDoubt, Old, Prep, Ready, Say, Send, Served, held_at, holder_of}
+use Words.{is_prepared, prepare_answer, acked, answer_query, Naming, Handled, Parts, Took, Void, ack_told, answer_is_meant, ask_is_meant}
+use Words.{asked_is_meant, coord_heard, end_states, handle, handle_answer, handle_ask, handle_ends, handle_other, holders, if_naming}
+use Words.{is_earlier, is_meant, load_by, load_held, naming_told, prepare_by, query_about, sends_answer, serve, served, store_told}
+use Words.{with_naming, with_server, AreAll, is_names_work, is_naming_effect, Server, Binding, Base, taken_copy}
+use Words.ask
+use Words.ending
+use Words.message
+use Words.prepared
+use Words.voted
+use Words.naming
+use Words.server
+use Rattle.arj_law_serial.proofs.Terms
+use Terms.{ask_ends, brought, brought_by, told_by, never, AllSay, AskIsSo, AskedIsSo, CoordIsSo, Fits, MayKeep, MessageIsSo, Own, ReplyIsSo}
+use Terms.{all_join, hears_so, acks_so, query_so}
 use Rattle.arj_law_disk_view.proofs.running.StateTicks.{queries, server_lines}
+use Rattle.arj_law_serial.proofs.joint
+use joint.{ByMessage.by_coord}
+use joint.BasedServers.{AreRaised, CopiesAreSo}
+use joint.StateWider.{IsWider, message_wider}
+use Rattle.arj_law_serial.specs.joint.Based.{fits_of}
 use Rattle.arj_law_serial.proofs.joint.BasedServers as servers
-use Rattle.arj_law_serial.proofs.joint.ByMessage.{by_coord}
 
 module _ (x : ℕ) (L Q : ObjectState → Type 0) (B : Binding → Base → Type 0) where
   -- of messages nothing is known of votes
@@ -95,14 +84,17 @@ module _ (x : ℕ) (L Q : ObjectState → Type 0) (B : Binding → Base → Type
 
   -- ---- one message
 
-  module _ (node : ℕ) (d : Disk) (t : Parts) (from : ℕ) (its : PartsAreSo t) (held : (y : ℕ) (st : ObjectState) → held_at (object y) d.store ≡ Some st → st.uid ≡ object x → L st) where
+  module _ (node : ℕ) (d : Disk) (t : Parts) (from : ℕ) (its : PartsAreSo t) (held : (y : ℕ) (st : ObjectState) →
+      held_at (object y) d.store ≡ Some st → st.uid ≡ object x → L st) where
     abbrev By : Handled → Type 0
     By (Void outs) = ⊤
     By (Took v outs) = PartsAreSo v × All outs
 
-    answered : (h : Head) (v : Parts) (outs : List Effect) (o : Option Reply) → PartsAreSo v → All outs → IfSome o (ReplyIsSo P) → By (sends_answer from h v outs o)
+    answered : (h : Head) (v : Parts) (outs : List Effect) (o : Option Reply) → PartsAreSo v → All outs → IfSome o (ReplyIsSo P) →
+        By (sends_answer from h v outs o)
     answered h v outs None part all so = tt
-    answered h v outs (Some r) part all so = (part, both outs (Send from (response (asked_by h) r) ∷ []) all (response_so from (asked_by h) r so, tt))
+    answered h v outs (Some r) part all so =
+        (part, both outs (Send from (response (asked_by h) r) ∷ []) all (response_so from (asked_by h) r so, tt))
 
     -- an answer of another kind has no state
     plain : {R : Type 0} (say : R → Reply) → ((r : R) → ReplyIsSo P (say r)) → (o : Option R) → IfSome (option_map say o) (ReplyIsSo P)
@@ -119,9 +111,13 @@ module _ (x : ℕ) (L Q : ObjectState → Type 0) (B : Binding → Base → Type
     named_so : (n : Naming) → PartsAreSo (with_naming t n)
     named_so n = its
 
-    asked : (h : Head) (a : Ask) → ((b : Binding) (st : ObjectState) → a ≡ ask.Activate b st → st.uid ≡ object x → L st → B b (let c = taken_copy b st in c.base)) → ask_is_meant t.server a ≡ true → AskIsSo P a → AreRaised x B node (ask_ends a) t.server → By (serve node d t from h a)
-    asked h (ask.Bind y include avoid) act meant so raised = with_it (λ o. served from h (with_naming t) Reply.Bound (naming.bind h.path y include avoid d.names o)) t.naming
-        (λ m. let r = naming.bind h.path y include avoid d.names m in answered h (with_naming t r.part) r.outs (option_map Reply.Bound r.reply) (named_so r.part) (names_so r.outs (bind_own h.path y include avoid d.names m)) (plain Reply.Bound (λ r. tt) r.reply))
+    asked : (h : Head) (a : Ask) →
+        ((b : Binding) (st : ObjectState) → a ≡ ask.Activate b st → st.uid ≡ object x → L st → B b (let c = taken_copy b st in c.base)) →
+        ask_is_meant t.server a ≡ true → AskIsSo P a → AreRaised x B node (ask_ends a) t.server → By (serve node d t from h a)
+    asked h (ask.Bind y include avoid) act meant so raised =
+        with_it (λ o. served from h (with_naming t) Reply.Bound (naming.bind h.path y include avoid d.names o)) t.naming
+        (λ m. let r = naming.bind h.path y include avoid d.names m in answered h (with_naming t r.part) r.outs (option_map Reply.Bound
+        r.reply) (named_so r.part) (names_so r.outs (bind_own h.path y include avoid d.names m)) (plain Reply.Bound (λ r. tt) r.reply))
     asked h (ask.Load y) act meant so raised = load (holder_of (object y) d.store)
       where
         held_so : (o : Option ObjectState) → held_at (object y) d.store ≡ o → By (load_held from h t o)
@@ -131,11 +127,21 @@ module _ (x : ℕ) (L Q : ObjectState → Type 0) (B : Binding → Base → Type
         load : (o : Option Uid) → By (load_by y d.store from h t o)
         load (Some u) = (its, ((tt, tt), tt))
         load None = held_so (held_at (object y) d.store) refl
-    asked h (ask.Activate b st) act meant so raised = let r = server.activate node h.path b st t.server in answered h (with_server t r.part) r.outs (option_map Reply.Activated r.reply) (served_so r.part (servers.activate_so x B node h.path b st t.server meant (λ same. act b st refl same (so same)) its.0)) (sends_so r.outs (server_lines F keep node r.outs (activate_own node h.path b st t.server))) (plain Reply.Activated (λ r. tt) r.reply)
-    asked h (ask.Record y b i g) act meant so raised = with_it (λ o. served from h (with_naming t) Reply.Noted (naming.note h.path y b i g o)) t.naming
-        (λ m. let r = naming.note h.path y b i g m in answered h (with_naming t r.part) r.outs (option_map Reply.Noted r.reply) (named_so r.part) (names_so r.outs (note_own h.path y b i g m)) (plain Reply.Noted (λ r. tt) r.reply))
-    asked h (ask.Invoke y b i ends o) act meant so raised = let r = server.invoke node h y b i ends o t.server in answered h (with_server t r.part) r.outs (option_map Reply.Invoked r.reply) (served_so r.part (servers.invoke_so x B node h y b i ends o t.server raised its.0)) (sends_so r.outs (server_lines F keep node r.outs (invoke_own node h y b i ends o t.server))) (plain Reply.Invoked (λ r. tt) r.reply)
-    asked h (ask.Vote i ties ends) act meant so raised = let r = server.vote node h.path i ties ends t.server in answered h (with_server t r.part) r.outs (option_map Reply.Voted r.reply) (served_so r.part (servers.vote_so x B node h.path i ties ends t.server raised its.0)) (sends_so r.outs (server_lines F keep node r.outs (vote_own node h.path i ties ends t.server))) (voted_so r.reply)
+    asked h (ask.Activate b st) act meant so raised = let r = server.activate node h.path b st t.server in
+        answered h (with_server t r.part) r.outs (option_map Reply.Activated r.reply)
+        (served_so r.part (servers.activate_so x B node h.path b st t.server meant (λ same. act b st refl same (so same)) its.0)) (sends_so
+        r.outs (server_lines F keep node r.outs (activate_own node h.path b st t.server))) (plain Reply.Activated (λ r. tt) r.reply)
+    asked h (ask.Record y b i g) act meant so raised =
+        with_it (λ o. served from h (with_naming t) Reply.Noted (naming.note h.path y b i g o)) t.naming
+        (λ m. let r = naming.note h.path y b i g m in answered h (with_naming t r.part) r.outs (option_map Reply.Noted r.reply)
+        (named_so r.part) (names_so r.outs (note_own h.path y b i g m)) (plain Reply.Noted (λ r. tt) r.reply))
+    asked h (ask.Invoke y b i ends o) act meant so raised = let r = server.invoke node h y b i ends o t.server in
+        answered h (with_server t r.part) r.outs (option_map Reply.Invoked r.reply)
+        (served_so r.part (servers.invoke_so x B node h y b i ends o t.server raised its.0)) (sends_so r.outs
+        (server_lines F keep node r.outs (invoke_own node h y b i ends o t.server))) (plain Reply.Invoked (λ r. tt) r.reply)
+    asked h (ask.Vote i ties ends) act meant so raised = let r = server.vote node h.path i ties ends t.server in answered h (with_server t
+        r.part) r.outs (option_map Reply.Voted r.reply) (served_so r.part (servers.vote_so x B node h.path i ties ends t.server raised
+        its.0)) (sends_so r.outs (server_lines F keep node r.outs (vote_own node h.path i ties ends t.server))) (voted_so r.reply)
       where
         any_states : (states : List ObjectState) → AllByRecursion (Own (let q = P in q.voted)) states
         any_states [] = tt
@@ -153,22 +159,29 @@ module _ (x : ℕ) (L Q : ObjectState → Type 0) (B : Binding → Base → Type
         new (Old u v) = (its, (tt, ((tt, tt), tt)))
         new (InDoubt u holder) = (its, (tt, ((tt, tt), tt)))
 
-        each : (b : Bool) → By (cond b (sends_answer from h t [] (Some (Reply.Prepared prepared.Yes))) (prepare_by node states from h t (prepare_answer (actor h.path) states d.store)))
+        each : (b : Bool) → By (cond b (sends_answer from h t [] (Some (Reply.Prepared prepared.Yes)))
+            (prepare_by node states from h t (prepare_answer (actor h.path) states d.store)))
         each true = (its, ((tt, tt), tt))
         each false = new (prepare_answer (actor h.path) states d.store)
-    asked h (ask.Confirm grants excluded included) act meant so raised = with_it (λ o. served from h (with_naming t) Reply.Confirmed (confirm h.path grants excluded included d.names o)) t.naming
-        (λ m. let r = confirm h.path grants excluded included d.names m in answered h (with_naming t r.part) r.outs (option_map Reply.Confirmed r.reply) (named_so r.part) (names_so r.outs (confirm_own h.path grants excluded included d.names m)) (plain Reply.Confirmed (λ r. tt) r.reply))
+    asked h (ask.Confirm grants excluded included) act meant so raised =
+        with_it (λ o. served from h (with_naming t) Reply.Confirmed (confirm h.path grants excluded included d.names o)) t.naming
+        (λ m. let r = confirm h.path grants excluded included d.names m in
+        answered h (with_naming t r.part) r.outs (option_map Reply.Confirmed r.reply) (named_so r.part)
+        (names_so r.outs (confirm_own h.path grants excluded included d.names m)) (plain Reply.Confirmed (λ r. tt) r.reply))
 
     coord_left : (r : Served Coord (Unit {0})) → CoordIsSo F r.part × AllSay F r.outs → By (coord_heard t r)
     coord_left r so = by_coord node d t from By tt r ((its.0, so.0), sends_so r.outs so.1)
 
-    ends_left : (ack : Bool) (ends : List (Uid × End)) (o : Option (Uid × End)) → AreRaised x B node ends t.server → By (handle_ends node d t from ack ends o)
+    ends_left : (ack : Bool) (ends : List (Uid × End)) (o : Option (Uid × End)) → AreRaised x B node ends t.server →
+        By (handle_ends node d t from ack ends o)
     ends_left ack ends None raised = (its, tt)
     ends_left ack ends (Some e) raised =
         let s = server.told node ends t.server in
         let o = naming_told e.0 e.1 d.names t.naming in (
           (servers.told_so x B node ends t.server raised its.0, its.1),
-          both (store_told node e.0 e.1 d.store ++ o.outs ++ s.outs) (ack_told from e.0 ack) (both (store_told node e.0 e.1 d.store ++ o.outs) s.outs (both (store_told node e.0 e.1 d.store) o.outs (ended (is_prepared e.0 d.store) e.1) (named t.naming)) (sends_so s.outs (server_lines F keep node s.outs (ends_own node ends t.server)))) (acked_told ack),
+          both (store_told node e.0 e.1 d.store ++ o.outs ++ s.outs) (ack_told from e.0 ack) (both (store_told node e.0 e.1 d.store
+              ++ o.outs) s.outs (both (store_told node e.0 e.1 d.store) o.outs (ended (is_prepared e.0 d.store) e.1) (named t.naming))
+              (sends_so s.outs (server_lines F keep node s.outs (ends_own node ends t.server)))) (acked_told ack),
         )
       where
         ended : (b : Bool) (how : End) → All (cond b (end_states node e.0 how) [])
@@ -187,20 +200,35 @@ module _ (x : ℕ) (L Q : ObjectState → Type 0) (B : Binding → Base → Type
     other : (m : Message) → EndsRaise node t.server m → By (handle_other node d t from m)
     other (message.Told m) raised = ends_left m.ack m.ends (last_end m.ends) raised.1
     other (message.Acked m) raised = coord_left (acked from m.act d.intents t.coord) (acks_so F keep from m.act d.intents t.coord its.1)
-    other (message.Query m) raised = (its, sends_so (answer_query from m.act d.intents t.coord) (query_so F keep from m.act d.intents t.coord))
-    other (message.Hello m) raised = (its, sends_so (map query_about (filter (is_earlier m.node m.inc) (holders d t))) (queries F keep (filter (is_earlier m.node m.inc) (holders d t))))
+    other (message.Query m) raised =
+        (its, sends_so (answer_query from m.act d.intents t.coord) (query_so F keep from m.act d.intents t.coord))
+    other (message.Hello m) raised = (
+      its,
+      sends_so (map query_about (filter (is_earlier m.node m.inc) (holders d t)))
+          (queries F keep (filter (is_earlier m.node m.inc) (holders d t))),
+    )
     other m raised = tt
 
-    handled : (m : Message) → ((a : Asked) (r : Reply) → answers m ≡ Some (a, r) → ReplyIsSo F r) → ((h : Head) (b : Binding) (st : ObjectState) → asks m ≡ Some (h, ask.Activate b st) → st.uid ≡ object x → L st → B b (let c = taken_copy b st in c.base)) → is_meant t m ≡ true → MessageIsSo P m → EndsRaise node t.server m → By (handle node d t from m)
-    handled m hears act meant so raised = by (asks m) refl (and_parts (asked_is_meant t.server (asks m)) (answer_is_meant t.coord (answers m)) meant).0 so.0 raised.0
+    handled : (m : Message) → ((a : Asked) (r : Reply) → answers m ≡ Some (a, r) → ReplyIsSo F r) → ((h : Head) (b : Binding)
+        (st : ObjectState) → asks m ≡ Some (h, ask.Activate b st) → st.uid ≡ object x → L st → B b (let c = taken_copy b st in c.base)) →
+        is_meant t m ≡ true → MessageIsSo P m → EndsRaise node t.server m → By (handle node d t from m)
+    handled m hears act meant so raised =
+        by (asks m) refl (and_parts (asked_is_meant t.server (asks m)) (answer_is_meant t.coord (answers m)) meant).0 so.0 raised.0
       where
         answer : (o : Option (Asked × Reply)) → answers m ≡ o → answer_is_meant t.coord o ≡ true → By (handle_answer node d t from m o)
         answer None is reply_meant = other m raised
-        answer (Some a) is reply_meant = coord_left (heard from a.0 a.1 d.intents t.coord) (hears_so F keep from a.0 a.1 d.intents t.coord its.1 reply_meant (hears a.0 a.1 is))
+        answer (Some a) is reply_meant = coord_left (heard from a.0 a.1 d.intents t.coord)
+            (hears_so F keep from a.0 a.1 d.intents t.coord its.1 reply_meant (hears a.0 a.1 is))
 
-        by : (o : Option (Head × Ask)) → asks m ≡ o → asked_is_meant t.server o ≡ true → AskedIsSo P o → AreRaised x B node (brought_by o) t.server → By (handle_ask node d t from m o)
-        by None is asked_meant its_ask its_ends = answer (answers m) refl (and_parts (asked_is_meant t.server (asks m)) (answer_is_meant t.coord (answers m)) meant).1
-        by (Some a) is asked_meant its_ask its_ends = asked a.0 a.1 (λ b st same. act a.0 b st (is ∙ ap (λ (z : Ask). Some (a.0, z)) same)) asked_meant its_ask its_ends
+        by : (o : Option (Head × Ask)) → asks m ≡ o → asked_is_meant t.server o ≡ true → AskedIsSo P o →
+            AreRaised x B node (brought_by o) t.server → By (handle_ask node d t from m o)
+        by None is asked_meant its_ask its_ends =
+            answer (answers m) refl (and_parts (asked_is_meant t.server (asks m)) (answer_is_meant t.coord (answers m)) meant).1
+        by (Some a) is asked_meant its_ask its_ends =
+            asked a.0 a.1 (λ b st same. act a.0 b st (is ∙ ap (λ (z : Ask). Some (a.0, z)) same)) asked_meant its_ask its_ends
 
-    pub handled_so : (m : Message) (v : Parts) (outs : List Effect) → ((a : Asked) (r : Reply) → answers m ≡ Some (a, r) → ReplyIsSo F r) → ((h : Head) (b : Binding) (st : ObjectState) → asks m ≡ Some (h, ask.Activate b st) → st.uid ≡ object x → L st → B b (let c = taken_copy b st in c.base)) → is_meant t m ≡ true → MessageIsSo P m → EndsRaise node t.server m → handle node d t from m ≡ Took v outs → PartsAreSo v × All outs
+    pub handled_so : (m : Message) (v : Parts) (outs : List Effect) → ((a : Asked) (r : Reply) → answers m ≡ Some (a, r) → ReplyIsSo F r) →
+        ((h : Head) (b : Binding) (st : ObjectState) → asks m ≡ Some (h, ask.Activate b st) → st.uid ≡ object x → L st →
+        B b (let c = taken_copy b st in c.base)) → is_meant t m ≡ true → MessageIsSo P m → EndsRaise node t.server m →
+        handle node d t from m ≡ Took v outs → PartsAreSo v × All outs
     handled_so m v outs hears act meant so raised is = subst By is (handled m hears act meant so raised)

@@ -1,83 +1,55 @@
 -- What is known of copies and votes of an object is kept by each handler of a run, with what is known there by the protocol alone.
-use Rattle.std.proofs.Common.{◌≡◌, ℕ, ◌+◌, List, [], ◌∷◌, Bool, true, false, Option, Some, None, refl, sym, ◌∙◌, ap, subst}
-use Rattle.std.specs.Prelude.{option_map}
-use Rattle.std.specs.List.{AllByRecursion}
-use Rattle.arj_protocol.specs.Words.{Asked, Header, Kind, Label, Message, object}
-use Rattle.arj_protocol.specs.Words.voted
-use Rattle.arj_protocol.specs.Ask.{Reply}
-use Rattle.arj_protocol.specs.Asking.{again_all, begin_action}
-use Rattle.arj_protocol.specs.Effect.{Disk, Do, Effect, Say, Send, held_at}
-use Rattle.arj_protocol.specs.Follow.{tick_outs}
-use Rattle.arj_protocol.specs.Node.{Parts, with_coord}
-use Rattle.arj_protocol.specs.Step.{Input, Node, acts, first_disk, parent_of, parts_in, restart_outs}
-use Rattle.arj_protocol.specs.World.{format, is_serial_kind}
-use Rattle.arj_law_parts.specs.parts.Actions.{Action, AreBegun, paths_of}
-use Rattle.arj_law_parts.specs.parts.Coords.{IsGoodCoord}
-use Rattle.arj_law_parts.specs.parts.Copies.{IsTree}
-use Rattle.arj_law_parts.specs.parts.Requests.{IsNumbered}
-use Rattle.arj_law_parts.proofs.parts.Begun.{begun_tree, path_found}
-use Rattle.arj_law_parts.proofs.parts.TrueSteps.{true_query, well_acked, well_heard}
-use Rattle.arj_law_runs.proofs.kept.Handled.{own_of_disk, tops_of_disk}
-use Rattle.arj_law_runs.specs.calls.Runs.{VotesAreUsed}
-use Rattle.arj_law_disk.specs.machine.Core.{Core}
-use Rattle.arj_law_disk.specs.machine.Effects.{World}
-use Rattle.arj_law_disk.specs.machine.Names.{Office}
-use Rattle.arj_law_disk_view.specs.view.Pairs.{packed}
-use Rattle.arj_law_disk_view.specs.view.Sees.{Kinds}
-use Rattle.arj_law_disk_view.specs.view.Stores.{SeesStore}
-use Rattle.arj_law_disk_view.proofs.view.FirstSeen.{first_at}
-use Rattle.arj_law_disk_view.proofs.view.Frames.{node_here}
-use Rattle.arj_law_disk_view.specs.names.Both.{SeesBoth}
-use Rattle.arj_law_disk_view.specs.running.States.{CoordIsSo, MayKeep}
-use Rattle.arj_law_disk_view.proofs.running.StateCoords.{acts_so, begins_so}
-use Rattle.arj_law_disk_view.proofs.running.StateEnds.{new_so}
+use Rattle.arj_law_parts.proofs.Words
+use Words.{◌≡◌, ℕ, ◌+◌, List, [], ◌∷◌, Bool, true, false, Option, Some, None, refl, sym, ◌∙◌, ap, subst, option_map, AllByRecursion, Asked}
+use Words.{Header, Kind, Label, Message, object, Reply, again_all, begin_action, Disk, Do, Effect, Say, Send, held_at, tick_outs, Parts}
+use Words.{with_coord, Input, Node, acts, first_disk, parent_of, parts_in, restart_outs, format, is_serial_kind, Seen, see}
+use Words.voted
+use Rattle.arj_law_serial.proofs.Terms
+use Terms.{Action, AreBegun, paths_of, IsGoodCoord, IsTree, IsNumbered, begun_tree, path_found, true_query, well_acked, well_heard}
+use Terms.{own_of_disk, tops_of_disk, VotesAreUsed, Core, World, Office, packed, Kinds, SeesStore, first_at, node_here, SeesBoth, CoordIsSo}
+use Terms.{MayKeep, acts_so, begins_so, new_so, KnowsRequests, Run, start, Case, IsSeenIn, KnowsSpot, Spot, Fixed, view_of, HasCome}
+use Terms.{case_of, SeesUp, is_for_parts, its, shown_to_server, IsMessageShown, AreApart, In, down, given, up, Up, Walks, AreBased}
+use Terms.{CopiesAreBased, HasWriters, IsKnownState, IsVotedState, coord_fits, ArePlannedOver, SendsNoYes, StaysBased}
+use Terms.state as lock
 use Rattle.arj_law_disk_view.proofs.running.StateTicks.{restart_so, tick_so}
-use Rattle.arj_law_lock_view.specs.facts.Requests.{KnowsRequests}
-use Rattle.arj_law_lock.specs.machine.Machine.{Run, start}
-use Rattle.arj_law_lock.specs.machine.State as lock
-use Rattle.arj_law_lock_view.specs.running.Beside.{Case, IsSeenIn, KnowsSpot, Spot}
-use Rattle.arj_law_lock_view.specs.running.Fixed.{Fixed, view_of}
-use Rattle.arj_law_lock_view.specs.running.Kept.{HasCome, case_of}
-use Rattle.arj_law_lock_view.specs.running.Sees.{SeesUp}
-use Rattle.arj_law_lock_view.specs.running.World.{is_for_parts}
-use Rattle.arj_law_lock_view.proofs.running.GoodSteps.{its}
-use Rattle.arj_law_lock_view.proofs.running.ShownSteps.{shown_to_server}
-use Rattle.arj_law_lock_view.specs.view.Handling.{IsMessageShown}
-use Rattle.arj_law_serial.specs.order.Tied.{AreApart}
-use Rattle.arj_law_parts.specs.moves.Seen.{In, down, given, up}
-use Rattle.arj_promise.specs.Runs.{Seen, see}
-use Rattle.arj_law_parts.specs.moves.Walks.{Up, Walks}
-use Rattle.arj_law_serial.specs.joint.Based.{AreBased, CopiesAreBased, HasWriters, IsKnownState, IsVotedState, coord_fits}
-use Rattle.arj_law_serial.specs.joint.BasedSteps.{ArePlannedOver, AreNumberedSo, HeldAreKnown, KnowsVoting, SendsNoYes, StaysBased}
-use Rattle.arj_law_serial.proofs.joint.BasedLaws.{coordinators_keep, messages_keep}
-use Rattle.arj_law_serial.proofs.joint.BasedMessages.{shown_other}
-use Rattle.arj_law_serial.proofs.joint.BasedNodes.{keep}
-use Rattle.arj_law_serial.proofs.joint.Mute.{AllSilent, restart_silent}
+use Rattle.arj_law_serial.proofs.joint
+use joint.{BasedLaws.coordinators_keep, BasedLaws.messages_keep, BasedMessages.shown_other, BasedNodes.keep, Mute.AllSilent}
+use joint.{Mute.restart_silent}
+use Rattle.arj_law_serial.specs.joint.BasedSteps.{AreNumberedSo, HeldAreKnown, KnowsVoting}
 
 -- who answers nobody votes nothing
 no_yeses : (outs : List Effect) → AllSilent outs → AllByRecursion SendsNoYes outs
 no_yeses [] silent = tt
 no_yeses (Say b ∷ es) silent = (tt, no_yeses es silent.1)
 no_yeses (Do w ∷ es) silent = (tt, no_yeses es silent.1)
-no_yeses (Send to m ∷ es) silent = ((λ a states is. let no_way : ◌≡◌ {A = Option (Asked × Reply)} None (Some (a, Reply.Voted (voted.Yes states))) = sym silent.0 ∙ is in cc no_way), no_yeses es silent.1)
+no_yeses (Send to m ∷ es) silent = (
+  (λ a states is. let no_way : ◌≡◌ {A = Option (Asked × Reply)} None (Some (a, Reply.Voted (voted.Yes states))) = sym silent.0 ∙ is in
+      cc no_way),
+  no_yeses es silent.1,
+)
 
 -- what is voted and loaded may be kept
 may_keep : (f : Fixed) (x : ℕ) (S : lock.State) (W : World) → MayKeep (coord_fits f x S W)
 may_keep f x S W = keep x (IsKnownState W) (IsVotedState f x S W) (λ b base. Unit {0})
 
 -- what a store holds is known
-pub held_known : (x : ℕ) (tops : Kinds) (A : Office) (k : ℕ) (d : Disk) (t : Parts) (M : Seen) → SeesBoth x tops A (up k d t M) → HeldAreKnown x A.world d
-held_known x tops A k d t M both y st held of = (packed st, (let z = both.disks in let w = z.whole in let c = w.core in let h = c.history in h.held k (packed st) here), refl, refl)
+pub held_known : (x : ℕ) (tops : Kinds) (A : Office) (k : ℕ) (d : Disk) (t : Parts) (M : Seen) → SeesBoth x tops A (up k d t M) →
+    HeldAreKnown x A.world d
+held_known x tops A k d t M both y st held of =
+    (packed st, (let z = both.disks in let w = z.whole in let c = w.core in let h = c.history in h.held k (packed st) here), refl, refl)
   where
     own : SeesStore x k d.store A.world.disk
-    own = let z = both.disks in z.stores k (record { number = k; disk = d; live = Some t }) (node_here M k (record { number = k; disk = d; live = Some t }))
+    own = let z = both.disks in
+        z.stores k (record { number = k; disk = d; live = Some t }) (node_here M k (record { number = k; disk = d; live = Some t }))
 
     here : A.world.disk.held k ≡ Some (packed st)
-    here = let p = own.pair in sym p.held_is ∙ ap (λ o. option_map packed o) (ap (λ u. held_at u d.store) (sym of ∙ p.keyed (object y) st held) ∙ held)
+    here = let p = own.pair in
+        sym p.held_is ∙ ap (λ o. option_map packed o) (ap (λ u. held_at u d.store) (sym of ∙ p.keyed (object y) st held) ∙ held)
 
 -- ---- a node that is up
 
-module _ (f : Fixed) (x k : ℕ) (begun : List Action) (S : lock.State) (W : World) (d : Disk) (t : Parts) (M : Seen) (seen : IsSeenIn (case_of f x begun S) (up k d t M)) (are : AreBased f x S W (up k d t M)) where
+module _ (f : Fixed) (x k : ℕ) (begun : List Action) (S : lock.State) (W : World) (d : Disk) (t : Parts) (M : Seen)
+    (seen : IsSeenIn (case_of f x begun S) (up k d t M)) (are : AreBased f x S W (up k d t M)) where
   abbrev here : (let N = up k d t M in N.nodes k) ≡ Some (record { number = k; disk = d; live = Some t })
   here = node_here M k (record { number = k; disk = d; live = Some t })
 
@@ -97,25 +69,32 @@ module _ (f : Fixed) (x k : ℕ) (begun : List Action) (S : lock.State) (W : Wor
   coord = are.coords k (record { number = k; disk = d; live = Some t }) t here refl
 
   -- its coordinator does what an input is about, an action begins, or it ticks
-  pub act_based : (e : ℕ) (i : Input) → let D = acts i d.intents t.coord in AllSilent D.outs → Walks (StaysBased f x begun S W) e k D.outs (Up (StaysBased f x begun S W) k (with_coord t D.part)) d M
+  pub act_based : (e : ℕ) (i : Input) → let D = acts i d.intents t.coord in
+      AllSilent D.outs → Walks (StaysBased f x begun S W) e k D.outs (Up (StaysBased f x begun S W) k (with_coord t D.part)) d M
   act_based e i silent =
       let D = acts i d.intents t.coord in
       let a = acts_so (coord_fits f x S W) (may_keep f x S W) i d.intents t.coord coord in
-      coordinators_keep f x k begun S W d (Some t) M M reached are refl refl e (with_coord t D.part) D.outs copies a.0 a.1 (no_yeses D.outs silent)
+      coordinators_keep f x k begun S W d (Some t) M M reached are refl refl e (with_coord t D.part) D.outs copies a.0 a.1
+      (no_yeses D.outs silent)
 
-  pub begin_based : (more : List Action) (e : ℕ) (l : Label) (how : Kind) (parent : Option Label) → let D = begin_action l how parent (parent_of parent t.coord) t.coord in AllSilent D.outs
-      → Walks (StaysBased f x more S W) e k D.outs (Up (StaysBased f x more S W) k (with_coord t D.part)) d (given l (record { node = k; serial = is_serial_kind how }) M)
+  pub begin_based : (more : List Action) (e : ℕ) (l : Label) (how : Kind) (parent : Option Label) →
+      let D = begin_action l how parent (parent_of parent t.coord) t.coord in AllSilent D.outs
+      → Walks (StaysBased f x more S W) e k D.outs (Up (StaysBased f x more S W) k (with_coord t D.part)) d
+      (given l (record { node = k; serial = is_serial_kind how }) M)
   begin_based more e l how parent silent =
       let D = begin_action l how parent (parent_of parent t.coord) t.coord in
       let a = begins_so (coord_fits f x S W) (may_keep f x S W) l how parent (parent_of parent t.coord) t.coord coord in
-      coordinators_keep f x k more S W d (Some t) M (given l (record { node = k; serial = is_serial_kind how }) M) reached are refl refl e (with_coord t D.part) D.outs copies a.0 a.1 (no_yeses D.outs silent)
+      coordinators_keep f x k more S W d (Some t) M (given l (record { node = k; serial = is_serial_kind how }) M) reached are refl refl e
+      (with_coord t D.part) D.outs copies a.0 a.1 (no_yeses D.outs silent)
 
   pub tick_based : (e : ℕ) → let outs = tick_outs (record { number = k; disk = d; live = Some t }) t in AllSilent outs
-      → Walks (StaysBased f x begun S W) e k outs (Up (StaysBased f x begun S W) k (with_coord t (let z = again_all t.coord.doings t.coord in z.part))) d M
+      → Walks (StaysBased f x begun S W) e k outs
+      (Up (StaysBased f x begun S W) k (with_coord t (let z = again_all t.coord.doings t.coord in z.part))) d M
   tick_based e silent =
       let n : Node = record { number = k; disk = d; live = Some t } in
       let a = tick_so (coord_fits f x S W) (may_keep f x S W) n t coord in
-      coordinators_keep f x k begun S W d (Some t) M M reached are refl refl e (with_coord t (let z = again_all t.coord.doings t.coord in z.part)) (tick_outs n t) copies a.0 a.1 (no_yeses (tick_outs n t) silent)
+      coordinators_keep f x k begun S W d (Some t) M M reached are refl refl e (with_coord t (let z = again_all t.coord.doings t.coord in
+      z.part)) (tick_outs n t) copies a.0 a.1 (no_yeses (tick_outs n t) silent)
 
   -- ---- it takes a message
 
@@ -138,40 +117,53 @@ module _ (f : Fixed) (x k : ℕ) (begun : List Action) (S : lock.State) (W : Wor
     numbered = numbered;
     heard_true = λ a r. (well_heard begun (paths_of begun) tree from a r d.intents t.coord good).1;
     acked_true = λ u. (well_acked begun (paths_of begun) tree from u d.intents t.coord).1;
-    query_true = λ u. true_query begun (paths_of begun) tree from u d.intents t.coord (tops_of_disk 0 k d t M (begun, seen.good)) (own_of_disk 0 k d t M (begun, seen.good)) good;
+    query_true = λ u. true_query begun (paths_of begun) tree from u d.intents t.coord (tops_of_disk 0 k d t M (begun, seen.good))
+        (own_of_disk 0 k d t M (begun, seen.good)) good;
   }
 
-  shown : (from : ℕ) (m : Message) → In (record { from = from; to = k; message = m }) M.sent → (is_for_parts m ≡ true → KnowsSpot c s) → IsMessageShown (view_of f x begun k) t.server S m
+  shown : (from : ℕ) (m : Message) → In (record { from = from; to = k; message = m }) M.sent → (is_for_parts m ≡ true → KnowsSpot c s) →
+      IsMessageShown (view_of f x begun k) t.server S m
   shown from m there spot = by (is_for_parts m) refl
     where
       by : (b : Bool) → is_for_parts m ≡ b → IsMessageShown (view_of f x begun k) t.server S m
       by true on = shown_to_server c s from m seen (spot on) there
       by false off = shown_other (view_of f x begun k) t.server S m off
 
-  pub message_based_here : (tops : Kinds) (A : Office) → A.world ≡ W → SeesBoth x tops A (up k d t M) → AreApart f.code → ArePlannedOver f x S W → KnowsRequests M.sent k t.coord → VotesAreUsed k t (up k d t M)
-      → (e from : ℕ) (m : Message) (v : Parts) (outs : List Effect) → HasCome s from m v outs → (is_for_parts m ≡ true → KnowsSpot c s) → Walks (StaysBased f x begun S W) e k outs (Up (StaysBased f x begun S W) k v) d M
+  pub message_based_here : (tops : Kinds) (A : Office) → A.world ≡ W → SeesBoth x tops A (up k d t M) → AreApart f.code →
+      ArePlannedOver f x S W → KnowsRequests M.sent k t.coord → VotesAreUsed k t (up k d t M)
+      → (e from : ℕ) (m : Message) (v : Parts) (outs : List Effect) → HasCome s from m v outs → (is_for_parts m ≡ true → KnowsSpot c s) →
+      Walks (StaysBased f x begun S W) e k outs (Up (StaysBased f x begun S W) k v) d M
   message_based_here tops A same both apart planned requests used e from m v outs come spot = messages_keep f x k begun S W d t M apart
       (subst (λ (V : World). Core V.disk) same (let z = both.disks in let w = z.whole in w.core))
       (subst (λ (V : World). HasWriters V.disk) same (let z = both.named in let p = z.plans in p.writer))
       reached are
-      (let z = seen.sees in let w : SeesUp (view_of f x begun k) S d t = z.nodes k (record { number = k; disk = d; live = Some t }) here in w.server)
-      planned (subst (λ (V : World). HeldAreKnown x V d) same (held_known x tops A k d t M both)) e from m v outs come.sent come.meant come.takes (shown from m come.sent spot) (knows from m requests used)
+      (let z = seen.sees in let w : SeesUp (view_of f x begun k) S d t = z.nodes k (record { number = k; disk = d; live = Some t }) here in
+      w.server)
+      planned (subst (λ (V : World). HeldAreKnown x V d) same (held_known x tops A k d t M both)) e from m v outs come.sent come.meant
+      come.takes (shown from m come.sent spot) (knows from m requests used)
 
 -- ---- a node that starts
 
-pub restart_based : (hd : Header) (f : Fixed) (x k : ℕ) (begun : List Action) (S : lock.State) (W : World) (d : Disk) (M : Seen) → Run (start f.first) S → AreBased f x S W (down k d M) → (e : ℕ) → let outs = restart_outs hd k (d.inc + 1) d in Walks (StaysBased f x begun S W) e k outs (Up (StaysBased f x begun S W) k (parts_in k (d.inc + 1) d)) d M
-restart_based hd f x k begun S W d M reached are e = coordinators_keep f x k begun S W d None M M reached are refl refl e (parts_in k (d.inc + 1) d) (restart_outs hd k (d.inc + 1) d) tt
-    (new_so (coord_fits f x S W) (may_keep f x S W) k (d.inc + 1) d.intents) (restart_so (coord_fits f x S W) (may_keep f x S W) hd k d) (no_yeses (restart_outs hd k (d.inc + 1) d) (restart_silent hd k (d.inc + 1) d))
+pub restart_based : (hd : Header) (f : Fixed) (x k : ℕ) (begun : List Action) (S : lock.State) (W : World) (d : Disk) (M : Seen) →
+    Run (start f.first) S → AreBased f x S W (down k d M) → (e : ℕ) → let outs = restart_outs hd k (d.inc + 1) d in
+    Walks (StaysBased f x begun S W) e k outs (Up (StaysBased f x begun S W) k (parts_in k (d.inc + 1) d)) d M
+restart_based hd f x k begun S W d M reached are e =
+    coordinators_keep f x k begun S W d None M M reached are refl refl e (parts_in k (d.inc + 1) d) (restart_outs hd k (d.inc + 1) d) tt
+    (new_so (coord_fits f x S W) (may_keep f x S W) k (d.inc + 1) d.intents) (restart_so (coord_fits f x S W) (may_keep f x S W) hd k d)
+    (no_yeses (restart_outs hd k (d.inc + 1) d) (restart_silent hd k (d.inc + 1) d))
 
 -- ---- as a run begins
 
 pub first_based : (hd : Header) (f : Fixed) (x : ℕ) (S : lock.State) (W : World) → AreBased f x S W (see [] (format hd))
 first_based hd f x S W = record {
   copies = λ j n t is live. subst (λ (p : Parts). CopiesAreBased x S W p.server) (one j n t is live) tt;
-  coords = λ j n t is live. subst (λ (p : Parts). CoordIsSo (coord_fits f x S W) p.coord) (one j n t is live) (new_so (coord_fits f x S W) (may_keep f x S W) j 1 (let d = first_disk hd j in d.intents));
+  coords = λ j n t is live. subst (λ (p : Parts). CoordIsSo (coord_fits f x S W) p.coord) (one j n t is live)
+      (new_so (coord_fits f x S W) (may_keep f x S W) j 1 (let d = first_disk hd j in d.intents));
   posts = λ p i. absurd i;
   yeses = λ p a states i is. absurd i;
 }
   where
-    one : (j : ℕ) (n : Node) (t : Parts) → (let N = see [] (format hd) in N.nodes j) ≡ Some n → n.live ≡ Some t → parts_in j 1 (first_disk hd j) ≡ t
-    one j n t is live = let e : ◌≡◌ {A = Option Parts} (Some (parts_in j 1 (first_disk hd j))) (Some t) = ap (λ (y : Node). y.live) (first_at hd j n is) ∙ live in let same : parts_in j 1 (first_disk hd j) ≡ t = cc e in same
+    one : (j : ℕ) (n : Node) (t : Parts) → (let N = see [] (format hd) in N.nodes j) ≡ Some n → n.live ≡ Some t →
+        parts_in j 1 (first_disk hd j) ≡ t
+    one j n t is live = let e : ◌≡◌ {A = Option Parts} (Some (parts_in j 1 (first_disk hd j))) (Some t) = ap (λ (y : Node). y.live)
+        (first_at hd j n is) ∙ live in let same : parts_in j 1 (first_disk hd j) ≡ t = cc e in same

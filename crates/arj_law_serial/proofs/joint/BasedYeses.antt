@@ -1,54 +1,55 @@
 -- What a server votes is of a copy whose state is known: so are the states that its Yes gives.
-use Rattle.std.proofs.Common.{◌≡◌, ℕ, List, [], ◌∷◌, Bool, true, false, cond, Option, Some, None, refl, sym, ◌∙◌, ap, subst, inl, inr, Contains, eqb-true, option_map}
-use Rattle.arj_lock.proofs.Members as list
-use Rattle.arj_lock.proofs.Members.{in_filter_map, in_from, in_to}
-use Rattle.arj_protocol.specs.Words.{Binding, End, Head, ObjectState, Uid, VotedReply, What, class_of, object, payload_of}
-use Rattle.arj_protocol.specs.Words.ask
-use Rattle.arj_protocol.specs.Words.voted
-use Rattle.arj_protocol.specs.Words.what
-use Rattle.arj_protocol.specs.Ask.{actor}
-use Rattle.arj_protocol.specs.Copy.{Copy, Over, changed_state, over_of}
-use Rattle.arj_protocol.specs.Effect.{Served, either, void}
-use Rattle.arj_protocol.specs.Order.{at_number, binding_eq, binding_number, next_version}
-use Rattle.arj_protocol.specs.Server as server
-use Rattle.arj_protocol.specs.Server.{Server, apply_ends, changed_copy, changed_states, first_unbound, has_ended, other_inc, vote_now}
-use Rattle.arj_law_parts.proofs.parts.LivesNamed.{keyed_found}
-use Rattle.arj_law_disk.specs.machine.Effects.{World}
-use Rattle.arj_law_disk.proofs.machine.Base.{some_is}
-use Rattle.arj_law_lock.specs.machine.Actions as machine
-use Rattle.arj_law_lock.specs.machine.Machine.{Run, start, stay}
-use Rattle.arj_law_lock.specs.machine.State.{State, Vote}
-use Rattle.arj_law_lock.proofs.machine.Order.{run_keeps, start_holds}
-use Rattle.arj_law_lock_view.specs.view.Asks.{ShowsAsk}
-use Rattle.arj_law_lock_view.specs.view.Copies.{SeesCopy}
-use Rattle.arj_law_lock_view.specs.view.Serving.{ListsEach}
-use Rattle.arj_law_lock_view.proofs.view.ToldSteps.{copy_told}
-use Rattle.arj_law_lock_view.specs.running.Fixed.{Fixed}
-use Rattle.arj_law_serial.specs.joint.Based.{CopiesAreBased, IsBased, IsVotedOver}
+use Rattle.arj_law_parts.proofs.Words
+use Words.{◌≡◌, ℕ, List, [], ◌∷◌, Bool, true, false, cond, Option, Some, None, refl, sym, ◌∙◌, ap, subst, inl, inr, Contains, eqb-true}
+use Words.{option_map, in_filter_map, in_from, in_to, Binding, End, Head, ObjectState, Uid, VotedReply, What, class_of, object, payload_of}
+use Words.{actor, Copy, Over, changed_state, over_of, Served, either, void, at_number, binding_eq, binding_number, next_version, Server}
+use Words.{apply_ends, changed_copy, changed_states, first_unbound, has_ended, other_inc, vote_now}
+use Words.list
+use Words.ask
+use Words.voted
+use Words.what
+use Words.server
+use Rattle.arj_law_serial.proofs.Terms
+use Terms.{keyed_found, World, some_is, Run, start, stay, State, Vote, run_keeps, start_holds, ShowsAsk, SeesCopy, ListsEach, copy_told}
+use Terms.{Fixed, CopiesAreBased, IsVotedOver}
+use Terms.machine
+use Rattle.arj_law_serial.specs.joint.Based.{IsBased}
 
 -- each tie is to a copy of its binding
-tied_copy : (ties : List (ℕ × Binding)) (s : Server) (x : ℕ) (b : Binding) → first_unbound ties s ≡ None → list.In (x, b) ties → (c : Copy) × (at_number x s.objects ≡ Some c) × (binding_number b ≡ binding_number c.binding)
+tied_copy : (ties : List (ℕ × Binding)) (s : Server) (x : ℕ) (b : Binding) → first_unbound ties s ≡ None → list.In (x, b) ties →
+    (c : Copy) × (at_number x s.objects ≡ Some c) × (binding_number b ≡ binding_number c.binding)
 tied_copy [] s x b none i = absurd i
 tied_copy (t ∷ ts) s x b none i = by (changed_copy t.1 (at_number t.0 s.objects)) refl none i (tied_copy ts s x b)
   where
-    of_copy : (y : ℕ) (d : Binding) (o : Option Copy) → at_number y s.objects ≡ o → changed_copy d o ≡ None → (c : Copy) × (at_number y s.objects ≡ Some c) × (binding_number d ≡ binding_number c.binding)
+    of_copy : (y : ℕ) (d : Binding) (o : Option Copy) → at_number y s.objects ≡ o → changed_copy d o ≡ None →
+        (c : Copy) × (at_number y s.objects ≡ Some c) × (binding_number d ≡ binding_number c.binding)
     of_copy y d None is un = absurd (cc un)
     of_copy y d (Some c) is un = at (binding_eq d c.binding) refl un
       where
-        at : (e : Bool) → binding_eq d c.binding ≡ e → cond e None (Some (what.Bind d c.binding)) ≡ None → (c : Copy) × (at_number y s.objects ≡ Some c) × (binding_number d ≡ binding_number c.binding)
+        at : (e : Bool) → binding_eq d c.binding ≡ e → cond e None (Some (what.Bind d c.binding)) ≡ None →
+            (c : Copy) × (at_number y s.objects ≡ Some c) × (binding_number d ≡ binding_number c.binding)
         at true same_one un = (c, is, eqb-true (binding_number d) (binding_number c.binding) same_one)
         at false same_one un = absurd (cc un)
 
-    by : (w : Option What) → changed_copy t.1 (at_number t.0 s.objects) ≡ w → either w (first_unbound ts s) ≡ None → list.In (x, b) (t ∷ ts) → (first_unbound ts s ≡ None → list.In (x, b) ts → (c : Copy) × (at_number x s.objects ≡ Some c) × (binding_number b ≡ binding_number c.binding)) → (c : Copy) × (at_number x s.objects ≡ Some c) × (binding_number b ≡ binding_number c.binding)
+    by : (w : Option What) → changed_copy t.1 (at_number t.0 s.objects) ≡ w → either w (first_unbound ts s) ≡ None → list.In (x, b)
+        (t ∷ ts) → (first_unbound ts s ≡ None → list.In (x, b) ts → (c : Copy) × (at_number x s.objects ≡ Some c) × (binding_number b
+        ≡ binding_number c.binding)) → (c : Copy) × (at_number x s.objects ≡ Some c) × (binding_number b ≡ binding_number c.binding)
     by (Some d) is un i ih = absurd (cc un)
-    by None is un (inl same_one) ih = subst (λ (z : ℕ × Binding). (c : Copy) × (at_number z.0 s.objects ≡ Some c) × (binding_number z.1 ≡ binding_number c.binding)) same_one (of_copy t.0 t.1 (at_number t.0 s.objects) refl is)
+    by None is un (inl same_one) ih = subst (λ (z : ℕ × Binding). (c : Copy) × (at_number z.0 s.objects ≡ Some c)
+        × (binding_number z.1 ≡ binding_number c.binding)) same_one (of_copy t.0 t.1 (at_number t.0 s.objects) refl is)
     by None is un (inr more) ih = ih un more
 
 -- whose a changed state is
 state_uid : (u : Uid) (x : ℕ) (c : Copy) (st : ObjectState) → changed_state u x c ≡ Some st → st.uid ≡ object x
 state_uid u x c st is = by (over_of u c.stack) is
   where
-    by : (w : Option Over) → option_map (λ (e : Over). record { uid = object x; class = class_of (let b = c.base in b.value); version = next_version (let b = c.base in b.version); writer = u; payload = payload_of e.value }) w ≡ Some st → st.uid ≡ object x
+    by : (w : Option Over) → option_map (λ (e : Over). record {
+      uid = object x;
+      class = class_of (let b = c.base in b.value);
+      version = next_version (let b = c.base in b.version);
+      writer = u;
+      payload = payload_of e.value;
+    }) w ≡ Some st → st.uid ≡ object x
     by None e = absurd (cc e)
     by (Some o) e = ap (λ (q : ObjectState). q.uid) (sym (some_is refl e))
 
@@ -56,11 +57,18 @@ state_uid u x c st is = by (over_of u c.stack) is
 its_writer : (u : Uid) (x : ℕ) (c : Copy) (st : ObjectState) → changed_state u x c ≡ Some st → st.writer ≡ u
 its_writer u x c st is = by (over_of u c.stack) is
   where
-    by : (w : Option Over) → option_map (λ (e : Over). record { uid = object x; class = class_of (let b = c.base in b.value); version = next_version (let b = c.base in b.version); writer = u; payload = payload_of e.value }) w ≡ Some st → st.writer ≡ u
+    by : (w : Option Over) → option_map (λ (e : Over). record {
+      uid = object x;
+      class = class_of (let b = c.base in b.value);
+      version = next_version (let b = c.base in b.version);
+      writer = u;
+      payload = payload_of e.value;
+    }) w ≡ Some st → st.writer ≡ u
     by None e = absurd (cc e)
     by (Some o) e = ap (λ (q : ObjectState). q.writer) (sym (some_is refl e))
 
-module _ (f : Fixed) (x : ℕ) (T : State) (W : World) (n : ℕ) (h : Head) (i : ℕ) (ties : List (ℕ × Binding)) (ends : List (Uid × End)) (s : Server) where
+module _ (f : Fixed) (x : ℕ) (T : State) (W : World) (n : ℕ) (h : Head) (i : ℕ) (ties : List (ℕ × Binding)) (ends : List (Uid × End))
+    (s : Server) where
   abbrev u : Uid
   u = actor h.path
 
@@ -72,22 +80,30 @@ module _ (f : Fixed) (x : ℕ) (T : State) (W : World) (n : ℕ) (h : Head) (i :
 
   module _ (states : List ObjectState) where
     abbrev Says : Served Server VotedReply → Type 0
-    Says r = r.reply ≡ Some (voted.Yes states) → (first_unbound ties s ≡ None) × ((let z = r.part in z.objects) ≡ told.objects) × (changed_states u told ≡ states)
+    Says r = r.reply ≡ Some (voted.Yes states) →
+        (first_unbound ties s ≡ None) × ((let z = r.part in z.objects) ≡ told.objects) × (changed_states u told ≡ states)
 
     by_ties : (a b : Option What) → first_unbound ties s ≡ b → Says (vote_now n u ends s (either a b))
     by_ties (Some w) b un e = let no_way : ◌≡◌ {A = VotedReply} (voted.Changed w) (voted.Yes states) = some_is refl e in absurd (cc no_way)
-    by_ties None (Some w) un e = let no_way : ◌≡◌ {A = VotedReply} (voted.Changed w) (voted.Yes states) = some_is refl e in absurd (cc no_way)
-    by_ties None None un e = (un, refl, let same : ◌≡◌ {A = VotedReply} (voted.Yes (changed_states u told)) (voted.Yes states) = some_is refl e in cc same)
+    by_ties None (Some w) un e = let no_way : ◌≡◌ {A = VotedReply} (voted.Changed w) (voted.Yes states) = some_is refl e in
+        absurd (cc no_way)
+    by_ties None None un e =
+        (un, refl, let same : ◌≡◌ {A = VotedReply} (voted.Yes (changed_states u told)) (voted.Yes states) = some_is refl e in cc same)
 
     is_yes : Says (server.vote n h.path i ties ends s)
     is_yes = by (has_ended h.path s)
       where
-        by : (e : Bool) → Says (cond {A = Served Server VotedReply} e (void s) (vote_now n u ends s (either (other_inc i s.inc) (first_unbound ties s))))
+        by : (e : Bool) →
+            Says (cond {A = Served Server VotedReply} e (void s) (vote_now n u ends s (either (other_inc i s.inc) (first_unbound ties s))))
         by true e = let no_way : ◌≡◌ {A = Option VotedReply} None (Some (voted.Yes states)) = e in absurd (cc no_way)
         by false e = by_ties (other_inc i s.inc) (first_unbound ties s) refl e
 
-  module _ (run : Run (start f.first) T) (lists : ListsEach v) (seen : (c : Copy) → at_number x v.objects ≡ Some c → SeesCopy f.act f.code x c (T.server n)) (copies : CopiesAreBased x T W v) (asked : ShowsAsk f.act f.code (record { x = x; path = h.path; number = h.req; node = n }) T (ask.Vote i ties ends)) where
-    pub votes_are_over : (states : List ObjectState) → (let r = server.vote n h.path i ties ends s in r.reply) ≡ Some (voted.Yes states) → (b : Binding) (st : ObjectState) → Contains {X = ℕ × Binding} ties (x, b) → Contains states st → st.uid ≡ object x → IsVotedOver f x st.writer T W st
+  module _ (run : Run (start f.first) T) (lists : ListsEach v) (seen : (c : Copy) → at_number x v.objects ≡ Some c →
+      SeesCopy f.act f.code x c (T.server n)) (copies : CopiesAreBased x T W v)
+      (asked : ShowsAsk f.act f.code (record { x = x; path = h.path; number = h.req; node = n }) T (ask.Vote i ties ends)) where
+    pub votes_are_over : (states : List ObjectState) → (let r = server.vote n h.path i ties ends s in r.reply) ≡ Some (voted.Yes states) →
+        (b : Binding) (st : ObjectState) → Contains {X = ℕ × Binding} ties (x, b) → Contains states st → st.uid ≡ object x →
+        IsVotedOver f x st.writer T W st
     votes_are_over states is b st tie there of = subst (λ (w : Uid). IsVotedOver f x w T W st) (sym (its_writer u x c st state)) over
       where
         y : (first_unbound ties s ≡ None) × (v.objects ≡ told.objects) × (changed_states u told ≡ states)
@@ -110,9 +126,12 @@ module _ (f : Fixed) (x : ℕ) (T : State) (W : World) (n : ℕ) (h : Head) (i :
 
         state : changed_state u x c ≡ Some st
         state =
-            let g = in_filter_map (λ (e : ℕ × Copy). changed_state u e.0 e.1) st told.objects (in_from st (changed_states u told) (subst (λ (zs : List ObjectState). Contains zs st) (sym y.2) there)) in
+            let g = in_filter_map (λ (e : ℕ × Copy). changed_state u e.0 e.1) st told.objects
+            (in_from st (changed_states u told) (subst (λ (zs : List ObjectState). Contains zs st) (sym y.2) there)) in
             let here : (g.0).0 ≡ x = ap (λ (w : Uid). w.num) (sym (state_uid u (g.0).0 (g.0).1 st g.2) ∙ of) in
-            let its : at_number x v.objects ≡ Some (g.0).1 = subst (λ (k : ℕ). at_number k v.objects ≡ Some (g.0).1) here (lists (g.0).0 (g.0).1 (subst (λ (os : List (ℕ × Copy)). Contains {X = ℕ × Copy} os g.0) (sym y.1) (in_to {X = ℕ × Copy} g.0 told.objects g.1))) in
+            let its : at_number x v.objects ≡ Some (g.0).1 = subst (λ (k : ℕ). at_number k v.objects ≡ Some (g.0).1) here
+            (lists (g.0).0 (g.0).1
+            (subst (λ (os : List (ℕ × Copy)). Contains {X = ℕ × Copy} os g.0) (sym y.1) (in_to {X = ℕ × Copy} g.0 told.objects g.1))) in
             let same : (g.0).1 ≡ c = some_is its at in
             subst (λ (z : Copy). changed_state u x z ≡ Some st) same (subst (λ (k : ℕ). changed_state u k (g.0).1 ≡ Some st) here g.2)
 

@@ -1,33 +1,13 @@
 -- The machine's first state and entry are kept, and so they are those of the header after each run.
-use Rattle.std.proofs.Common.{◌≡◌, ℕ, ◌+◌, true, List, [], None, Some, sym, ◌∙◌, subst, is_some, map, arith}
-use Rattle.std.specs.Prelude.{◌&&◌, nat_le}
-use Rattle.std.proofs.lemmas.Bool.Decides.{nat_tests}
-use Rattle.arj_journal.specs.ScriptForm.{HeaderInForm}
-use Rattle.arj_model.specs.Last.{object_line}
-use Rattle.arj_protocol.specs.Asking.{again_all, begin_action}
-use Rattle.arj_protocol.specs.Effect.{Disk, Effect}
-use Rattle.arj_protocol.specs.Follow.{tick_outs}
-use Rattle.arj_protocol.specs.Node.{Parts, with_coord}
-use Rattle.arj_protocol.specs.Step.{acts, first_node, numbers_to, parent_of, parts_in, restart_outs}
-use Rattle.arj_protocol.specs.Tree.{at_place}
-use Rattle.arj_protocol.specs.Words.{Header}
-use Rattle.arj_protocol.specs.World.{format, is_serial_kind}
-use Rattle.arj_law_disk.specs.machine.Effects as machine
-use Rattle.arj_law_disk.specs.machine.Names.{Office}
-use Rattle.arj_law_parts.specs.moves.Seen.{given}
-use Rattle.arj_promise.specs.Runs.{Seen, see}
-use Rattle.arj_law_parts.specs.moves.Walks.{Up, Walks}
+use Rattle.arj_law_parts.proofs.Words
+use Words.{◌≡◌, ℕ, ◌+◌, true, List, [], None, Some, sym, ◌∙◌, subst, is_some, map, arith, ◌&&◌, nat_le, nat_tests, again_all, begin_action}
+use Words.{Disk, Effect, tick_outs, Parts, with_coord, acts, first_node, numbers_to, parent_of, parts_in, restart_outs, at_place, Header}
+use Words.{format, is_serial_kind, Seen, see}
+use Rattle.arj_law_serial.proofs.Terms
+use Terms.{HeaderInForm, object_line, Office, given, Up, Walks, walks_to, IsGood, all_keep as parts_good, IsLater, Kinds, OnlyFound}
+use Terms.{SeesBoth, Change, Changes, Quietly, change_by, Going, HasHeard, KeepsPart, are_recorded, going_of, goes_by, goes_along, BeginsSo}
+use Terms.Effects as machine
 use Rattle.arj_law_parts.proofs.moves.Happens.{runs_hold}
-use Rattle.arj_law_parts.proofs.moves.Together.{walks_to}
-use Rattle.arj_law_runs.specs.kept.Worlds.{IsGood}
-use Rattle.arj_law_runs.proofs.kept.AllRuns.{all_keep as parts_good}
-use Rattle.arj_law_disk_view.specs.view.Sees.{IsLater, Kinds}
-use Rattle.arj_law_disk_view.specs.names.Both.{OnlyFound, SeesBoth}
-use Rattle.arj_law_disk_view.specs.names.Handlers.{Change, Changes, Quietly, change_by}
-use Rattle.arj_law_disk_view.specs.running.Part.{Going, HasHeard, KeepsPart, are_recorded, going_of}
-use Rattle.arj_law_disk_view.proofs.deciding_lines.Tying.{goes_by}
-use Rattle.arj_law_disk_view.proofs.running.Decisions.{goes_along}
-use Rattle.arj_law_serial.specs.order.Cleaned.{BeginsSo}
 use Rattle.arj_law_serial.proofs.joint.Firsts.{begins_so, line_there}
 
 -- with what is carried beside the machine's state
@@ -42,25 +22,35 @@ module _ (hd : Header) (x : ℕ) (R : machine.World → Seen → Type 0) (P : Ki
   abbrev From : Kinds → (Office → Type 0) → (Kinds → Office → Seen → Type 0) → Seen → Type 0
   From tops C Q Z = (B : Office) → C B → SeesBoth x tops B Z → Q tops B Z
 
-  along : (tops : Kinds) (C : Office → Type 0) → ((B : Office) → C B → BeginsSo hd x (let W = B.world in W.disk)) → (e k : ℕ) (outs : List Effect) (v : Parts) (d : Disk) (N : Seen)
-      → Walks (From tops C P) e k outs (Up (From tops C P) k v) d N → Walks (From tops C (WithFirst hd x P)) e k outs (Up (From tops C (WithFirst hd x P)) k v) d N
-  along tops C begun e k outs v d N w = walks_to (From tops C P) (From tops C (WithFirst hd x P)) e k outs (Up (From tops C P) k v) (Up (From tops C (WithFirst hd x P)) k v) d N (λ Z h B c s. (h B c s, begun B c)) (λ c Z h B changed s. (h B changed s, begun B changed)) w
+  along : (tops : Kinds) (C : Office → Type 0) → ((B : Office) → C B → BeginsSo hd x (let W = B.world in W.disk)) →
+      (e k : ℕ) (outs : List Effect) (v : Parts) (d : Disk) (N : Seen)
+      → Walks (From tops C P) e k outs (Up (From tops C P) k v) d N →
+      Walks (From tops C (WithFirst hd x P)) e k outs (Up (From tops C (WithFirst hd x P)) k v) d N
+  along tops C begun e k outs v d N w =
+      walks_to (From tops C P) (From tops C (WithFirst hd x P)) e k outs (Up (From tops C P) k v) (Up (From tops C (WithFirst hd x P)) k v)
+      d N (λ Z h B c s. (h B c s, begun B c)) (λ c Z h B changed s. (h B changed s, begun B changed)) w
 
-  begins_by : (o : Change) (tops : Kinds) (A B : Office) (M : Seen) → SeesBoth x tops A M → BeginsSo hd x (let W = A.world in W.disk) → Changes o A B → BeginsSo hd x (let W = B.world in W.disk)
+  begins_by : (o : Change) (tops : Kinds) (A B : Office) (M : Seen) → SeesBoth x tops A M → BeginsSo hd x (let W = A.world in W.disk) →
+      Changes o A B → BeginsSo hd x (let W = B.world in W.disk)
   begins_by o tops A B M both b changed = begins_later hd x A.world B.world (goes_by o A B (let d = both.disks in d.whole) changed).1 b
 
-  abbrev heard : (tops : Kinds) (o : Change) (A : Office) (g : Going) (M : Seen) → BeginsSo hd x (let W = A.world in W.disk) → HasHeard P x tops o A (g, M) → HasHeard (WithFirst hd x P) x tops o A (g, M)
+  abbrev heard : (tops : Kinds) (o : Change) (A : Office) (g : Going) (M : Seen) → BeginsSo hd x (let W = A.world in W.disk) →
+      HasHeard P x tops o A (g, M) → HasHeard (WithFirst hd x P) x tops o A (g, M)
   heard tops o A g M b h = record {
     office = h.office;
     only = h.only;
     both = h.both;
-    along = along tops (Changes o h.office) (λ B c. begins_by o tops h.office B _ h.both (subst (λ (W : machine.World). BeginsSo hd x W.disk) (sym (let z = h.only in z.world)) b) c) g.event g.node g.outs g.after g.disk M h.along;
+    along = along tops (Changes o h.office) (λ B c. begins_by o tops h.office B _ h.both (subst (λ (W : machine.World).
+        BeginsSo hd x W.disk) (sym (let z = h.only in z.world)) b) c) g.event g.node g.outs g.after g.disk M h.along;
   }
 
-  pub first_part : ((tops : Kinds) (A : Office) → tops.walk ≡ None → SeesBoth x tops A (see [] (format hd)) → (let W = A.world in let S = W.disk in S.tops) ≡ [] → BeginsSo hd x (let W = A.world in W.disk)) → KeepsPart hd x R (WithFirst hd x P)
+  pub first_part : ((tops : Kinds) (A : Office) → tops.walk ≡ None → SeesBoth x tops A (see [] (format hd)) →
+      (let W = A.world in let S = W.disk in S.tops) ≡ [] → BeginsSo hd x (let W = A.world in W.disk)) → KeepsPart hd x R (WithFirst hd x P)
   first_part first = record {
-    quiet = λ tops e bs M A walk quiet r both (part, b) B changed seen. (parts.quiet tops e bs M A walk quiet r both part B changed seen, begins_by Quietly tops A B M both b changed);
-    stop = λ tops e k d live M A walk r both (part, b) B changed seen. (parts.stop tops e k d live M A walk r both part B changed seen, begins_by Quietly tops A B _ both b changed);
+    quiet = λ tops e bs M A walk quiet r both (part, b) B changed seen.
+        (parts.quiet tops e bs M A walk quiet r both part B changed seen, begins_by Quietly tops A B M both b changed);
+    stop = λ tops e k d live M A walk r both (part, b) B changed seen.
+        (parts.stop tops e k d live M A walk r both part B changed seen, begins_by Quietly tops A B _ both b changed);
     message = λ tops e k d t v from m outs M A walk n r sent meant is of owned both (part, b).
         let p = parts.message tops e k d t v from m outs M A walk n r sent meant is of owned both part in
         (heard tops (change_by x d t m) A (record { event = e; node = k; disk = d; before = t; outs = outs; after = v }) M b p.0, p.1, p.2);
@@ -70,13 +60,17 @@ module _ (hd : Header) (x : ℕ) (R : machine.World → Seen → Type 0) (P : Ki
         (heard tops Quietly A (going_of e k d t did) M b p.0, p.1);
     begin = λ tops e k d t l how parent M A walk n r new may free kind both (part, b).
         let did = begin_action l how parent (parent_of parent t.coord) t.coord in
-        along tops (Changes Quietly A) (λ B c. begins_by Quietly tops A B _ both b c) e k did.outs (with_coord t did.part) d (given l (record { node = k; serial = is_serial_kind how }) M)
+        along tops (Changes Quietly A) (λ B c. begins_by Quietly tops A B _ both b c) e k did.outs (with_coord t did.part) d
+        (given l (record { node = k; serial = is_serial_kind how }) M)
         (parts.begin tops e k d t l how parent M A walk n r new may free kind both part);
     tick = λ tops e k d t M A walk n r both (part, b).
-        along tops (Changes Quietly A) (λ B c. begins_by Quietly tops A B _ both b c) e k (tick_outs (record { number = k; disk = d; live = Some t }) t) (with_coord t (again_all t.coord.doings t.coord).part) d M
+        along tops (Changes Quietly A) (λ B c. begins_by Quietly tops A B _ both b c) e k
+        (tick_outs (record { number = k; disk = d; live = Some t }) t) (with_coord t (again_all t.coord.doings t.coord).part) d M
         (parts.tick tops e k d t M A walk n r both part);
     restart = λ tops e k d M A walk r both (part, b).
-        along tops (OnlyFound (are_recorded d.intents) A) (λ B c. begins_later hd x A.world B.world (goes_along (are_recorded d.intents) A.world B.world (let z = both.disks in z.whole) c.along).1 b) e k (restart_outs hd k (d.inc + 1) d) (parts_in k (d.inc + 1) d) d M
+        along tops (OnlyFound (are_recorded d.intents) A) (λ B c. begins_later hd x A.world B.world
+        (goes_along (are_recorded d.intents) A.world B.world (let z = both.disks in z.whole) c.along).1 b) e k
+        (restart_outs hd k (d.inc + 1) d) (parts_in k (d.inc + 1) d) d M
         (parts.restart tops e k d M A walk r both part);
     first = λ tops walk kinds. let f = parts.first tops walk kinds in (f.0, f.1, (f.2, first tops f.0 walk f.1 f.3), f.3, f.4);
   }
@@ -84,7 +78,9 @@ module _ (hd : Header) (x : ℕ) (R : machine.World → Seen → Type 0) (P : Ki
 -- ---- every run
 
 -- as a run begins
-pub first_begins : (hd : Header) (x : ℕ) → HeaderInForm hd → is_some (object_line hd x) ≡ true → (tops : Kinds) (A : Office) → tops.walk ≡ None → SeesBoth x tops A (see [] (format hd)) → (let W = A.world in let S = W.disk in S.tops) ≡ [] → BeginsSo hd x (let W = A.world in W.disk)
+pub first_begins : (hd : Header) (x : ℕ) → HeaderInForm hd → is_some (object_line hd x) ≡ true → (tops : Kinds) (A : Office) →
+    tops.walk ≡ None → SeesBoth x tops A (see [] (format hd)) → (let W = A.world in let S = W.disk in S.tops) ≡ [] →
+    BeginsSo hd x (let W = A.world in W.disk)
 first_begins hd x form there tops A walk both none =
     let has_it = line_there hd x form there in
     let s = (let o = has_it.0 in o.stored) in

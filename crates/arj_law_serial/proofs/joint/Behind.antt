@@ -1,20 +1,14 @@
 -- What is committed anywhere was decided before, by a journal whose lines are right.
-use Rattle.std.proofs.Common.{◌≡◌, ◌&&◌, ◌||◌, List, [], ◌∷◌, ◌++◌, Bool, true, false, refl, sym, ◌∙◌, ap, inl, inr}
-use Rattle.std.proofs.lemmas.List.{append_assoc}
-use Rattle.std.specs.List.{list_any}
-use Rattle.arj_base.proofs.Uids.{uid_same}
-use Rattle.arj_base.specs.Uid.{uid_eq}
-use Rattle.arj_base.specs.declared.mode.End.{End}
-use Rattle.arj_base.specs.declared.mode.End.TheVariants as ending
-use Rattle.arj_base.specs.declared.uid.Uid.{Uid}
-use Rattle.arj_journal.specs.declared.body.Body.{Body}
-use Rattle.arj_journal.specs.declared.body.Body.TheVariants as body
-use Rattle.arj_journal.specs.declared.body.Line.{Line}
-use Rattle.arj_lock.proofs.Members.{In, in_from}
-use Rattle.arj_model.specs.Actions.{Act, acts, committed, is_committed, recovered}
-use Rattle.arj_law_runs.specs.journal.Laws.{IsCaused, IsCommittedIn, IsSound}
-use Rattle.arj_model.specs.Outcome.{is_behind_decision, is_said}
-use Rattle.arj_promise.specs.Outcome.{commits_are_behind, each_behind}
+use Rattle.arj_law_parts.proofs.Words
+use Words.{◌≡◌, ◌&&◌, ◌||◌, List, [], ◌∷◌, ◌++◌, Bool, true, false, refl, sym, ◌∙◌, ap, inl, inr, append_assoc, list_any, uid_same, uid_eq}
+use Words.{End, Uid, Body, Line, In, in_from, each_behind}
+use Rattle.arj_law_serial.proofs.Terms
+use Terms.{Act, acts, committed, is_committed, recovered, IsCommittedIn, IsSound, is_said}
+use Terms.ending
+use Terms.body
+use Rattle.arj_law_runs.specs.journal.Laws.{IsCaused}
+use Rattle.arj_model.specs.Outcome.{is_behind_decision}
+use Rattle.arj_promise.specs.Outcome.{commits_are_behind}
 
 pub both : (a b : Bool) → a ≡ true → b ≡ true → (a && b) ≡ true
 both a b e f = λ i. e i && f i
@@ -29,12 +23,15 @@ any_in p (y ∷ ys) x (inr i) e = by (p y) (any_in p ys x i e)
     by false f = f
 
 pub said_so : (lines : List Line) (u : Uid) → IsCommittedIn lines u → is_said lines u ≡ true
-said_so lines u (a, there, is, done) = any_in (λ (b : Act). uid_eq b.uid u && is_committed (committed lines) (recovered lines) b) (acts lines) a (in_from a (acts lines) there) (both (uid_eq a.uid u) _ (ap (uid_eq a.uid) (sym is) ∙ uid_same a.uid) done)
+said_so lines u (a, there, is, done) = any_in (λ (b : Act). uid_eq b.uid u && is_committed (committed lines) (recovered lines) b)
+    (acts lines) a (in_from a (acts lines) there) (both (uid_eq a.uid u) _ (ap (uid_eq a.uid) (sym is) ∙ uid_same a.uid) done)
 
-module _ (test : List Line → Body → Bool) (all : List Line) (each : (before : List Line) (line : Line) (behind : List Line) → all ≡ before ++ line ∷ behind → test before line.body ≡ true) where
+module _ (test : List Line → Body → Bool) (all : List Line) (each : (before : List Line) (line : Line) (behind : List Line) →
+    all ≡ before ++ line ∷ behind → test before line.body ≡ true) where
   pub each_from : (before lines : List Line) → all ≡ before ++ lines → each_behind test before lines ≡ true
   each_from before [] e = refl
-  each_from before (line ∷ lines) e = both (test before line.body) (each_behind test (before ++ line ∷ []) lines) (each before line lines e) (each_from (before ++ line ∷ []) lines (e ∙ sym (append_assoc before (line ∷ []) lines)))
+  each_from before (line ∷ lines) e = both (test before line.body) (each_behind test (before ++ line ∷ []) lines) (each before line lines e)
+      (each_from (before ++ line ∷ []) lines (e ∙ sym (append_assoc before (line ∷ []) lines)))
 
 behind : (before : List Line) (b : Body) → IsCaused before b → is_behind_decision before b ≡ true
 behind before (body.Done n u r e) c = by e c
@@ -45,4 +42,5 @@ behind before (body.Done n u r e) c = by e c
 behind before b c = refl
 
 pub right_commits : (lines : List Line) → IsSound lines → commits_are_behind lines ≡ true
-right_commits lines s = each_from is_behind_decision lines (λ before line rest e. behind before line.body (s.causes before line rest e)) [] lines refl
+right_commits lines s =
+    each_from is_behind_decision lines (λ before line rest e. behind before line.body (s.causes before line rest e)) [] lines refl

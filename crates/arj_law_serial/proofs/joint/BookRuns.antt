@@ -1,25 +1,12 @@
 -- The lock book, by the lock machines to which journals are tied; and that journals list nodes of the header.
-use Rattle.std.proofs.Common.{ℕ}
-use Rattle.arj_journal.specs.ScriptForm.{HeaderInForm}
+use Rattle.arj_law_parts.proofs.Words.{ℕ, Header, World, world_by}
+use Rattle.arj_law_serial.proofs.Terms.{HeaderInForm, first_values, new_book, AreRight, kept_right, IsReached, Keeping, OpsFit}
 use Rattle.arj_law.specs.Joined.{AreCalled}
-use Rattle.arj_model.specs.Last.{first_values}
-use Rattle.arj_protocol.specs.Words.{Header}
-use Rattle.arj_protocol.specs.World.{World}
-use Rattle.arj_promise.specs.Runs.{world_by}
-use Rattle.arj_law_runs.specs.journal.Book.{new_book}
-use Rattle.arj_law_runs.specs.journal.Right.{AreRight}
-use Rattle.arj_law_runs.proofs.journal.Runs.{kept_right}
-use Rattle.arj_law_runs.specs.calls.Reached.{IsReached, Keeping}
-use Rattle.arj_law_serial.proofs.order.Order.{all_called_first, all_freed, all_in_order, all_in_time, all_called}
-use Rattle.arj_law_serial.proofs.order.Ties.{Ties, ties_of}
-use Rattle.arj_law_serial.proofs.order.Values.{are_answered}
+use Rattle.arj_law_serial.proofs.joint.{Clean.includes_there, Clean.reached_tied, FitRuns.runs_in_form, Listing.all_there}
+use Rattle.arj_law_serial.proofs.order.{Order.all_called_first, Order.all_freed, Order.all_in_order, Order.all_in_time, Order.all_called}
+use Rattle.arj_law_serial.proofs.order.{Ties.Ties, Ties.ties_of, Values.are_answered}
+use Rattle.arj_law_serial.specs.joint.{Booked.KeepsTheBook, Booked.RunsKeepTheBook, Booked.RunsAreCalled, Shown.ListedAreThere}
 use Rattle.arj_law_serial.specs.order.Tied.{AreTied}
-use Rattle.arj_law_serial.specs.joint.Booked.{KeepsTheBook, RunsKeepTheBook, RunsAreCalled}
-use Rattle.arj_law_serial.specs.joint.Fit.{OpsFit}
-use Rattle.arj_law_serial.specs.joint.Shown.{ListedAreThere}
-use Rattle.arj_law_serial.proofs.joint.Clean.{includes_there, reached_tied}
-use Rattle.arj_law_serial.proofs.joint.FitRuns.{runs_in_form}
-use Rattle.arj_law_serial.proofs.joint.Listing.{all_there}
 
 module _ (hd : Header) (w : World) (keeping : Keeping hd w) (tied : AreTied (first_values hd) w.lines) where
   right : AreRight new_book w.lines
@@ -46,11 +33,13 @@ lists_nodes hd form w keeping = all_there hd w.lines form (includes_there hd w k
 
 -- ---- runs
 
-pub reached_book : (hd : Header) → HeaderInForm hd → (w : World) → IsReached hd w → ((x : ℕ) → OpsFit x w.lines) → KeepsTheBook (first_values hd) w.lines
+pub reached_book : (hd : Header) → HeaderInForm hd → (w : World) → IsReached hd w → ((x : ℕ) → OpsFit x w.lines) →
+    KeepsTheBook (first_values hd) w.lines
 reached_book hd form w reached fit = book_so hd w reached.keeping (reached_tied hd form w reached fit)
 
 pub runs_keep_the_book : RunsKeepTheBook
 runs_keep_the_book hd ms f = let r = runs_in_form hd ms f in reached_book hd f.header (world_by hd ms) r.0 r.1
 
 pub runs_are_called : RunsAreCalled
-runs_are_called hd ms f = let r = runs_in_form hd ms f in called_so hd (world_by hd ms) (let k = r.0 in k.keeping) (reached_tied hd f.header (world_by hd ms) r.0 r.1)
+runs_are_called hd ms f = let r = runs_in_form hd ms f in
+    called_so hd (world_by hd ms) (let k = r.0 in k.keeping) (reached_tied hd f.header (world_by hd ms) r.0 r.1)

@@ -1,11 +1,7 @@
 -- What a node makes of a message, by what the message is.
-use Rattle.std.proofs.Common.{◌≡◌, ℕ, [], Option, Some, None, refl}
-use Rattle.arj_protocol.specs.Words.{Ask, Asked, Head, Message, asks}
-use Rattle.arj_protocol.specs.Ask.{Reply, answers}
-use Rattle.arj_protocol.specs.Asking.{heard}
-use Rattle.arj_protocol.specs.Coord.{Coord}
-use Rattle.arj_protocol.specs.Effect.{Disk, Served}
-use Rattle.arj_protocol.specs.Node.{Handled, Parts, Took, Void, by_reply, coord_heard, handle, handle_answer, handle_ask, handle_other, serve, with_coord}
+use Rattle.arj_law_parts.proofs.Words
+use Words.{◌≡◌, ℕ, [], Option, Some, None, refl, Ask, Asked, Head, Message, asks, Reply, answers, heard, Coord, Disk, Served, Handled}
+use Words.{Parts, Took, Void, by_reply, coord_heard, handle, handle_answer, handle_ask, handle_other, serve, with_coord}
 
 module _ (k : ℕ) (d : Disk) (t : Parts) (from : ℕ) (Case : Handled → Type 0) (void : Case (Void [])) where
   -- the coordinator takes it, or it is void
@@ -17,7 +13,9 @@ module _ (k : ℕ) (d : Disk) (t : Parts) (from : ℕ) (Case : Handled → Type 
       by (Some u) = taken
 
   -- a request is served, an answer goes to the coordinator, and any other message is neither
-  pub by_message : (m : Message) → ((h : Head) (a : Ask) → asks m ≡ Some (h, a) → Case (serve k d t from h a)) → ((a : Asked) (r : Reply) → answers m ≡ Some (a, r) → Case (coord_heard t (heard from a r d.intents t.coord))) → Case (handle_other k d t from m) → Case (handle k d t from m)
+  pub by_message : (m : Message) → ((h : Head) (a : Ask) → asks m ≡ Some (h, a) → Case (serve k d t from h a)) →
+      ((a : Asked) (r : Reply) → answers m ≡ Some (a, r) → Case (coord_heard t (heard from a r d.intents t.coord))) →
+      Case (handle_other k d t from m) → Case (handle k d t from m)
   by_message m asked hears other = by (asks m) refl
     where
       answer : (o : Option (Asked × Reply)) → answers m ≡ o → Case (handle_answer k d t from m o)

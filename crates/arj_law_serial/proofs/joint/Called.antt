@@ -1,51 +1,27 @@
 -- Writers of one object take turns, and so their commits are called as they are decided.
-use Rattle.std.proofs.Common.{◌≡◌, ◌≢◌, ◌⊎◌, ◌<◌, ◌≤◌, ℕ, ◌+◌, ◌==◌, ◌||◌, ◌&&◌, List, [], ◌∷◌, ◌++◌, length, take, filter, cond, Bool, true, false, Contains, Option, Some, None, refl, sym, ◌∙◌, ap, subst, inl, inr, ⊎_elim, arith, eqb-true, eq-eqb}
-use Rattle.std.proofs.lemmas.Bool.{and_parts}
-use Rattle.std.specs.List.{list_any}
-use Rattle.arj_base.proofs.Uids.{uid_is, uid_same}
-use Rattle.arj_base.specs.Rows.{is_on}
-use Rattle.arj_base.specs.Uid.{uid_eq}
-use Rattle.arj_base.specs.declared.uid.Uid.{Uid}
-use Rattle.arj_class.specs.Table.{writes}
-use Rattle.arj_journal.specs.declared.body.Body.{Body}
-use Rattle.arj_journal.specs.declared.body.Line.{Line}
-use Rattle.arj_law_disk.specs.machine.Order.{counts_of}
-use Rattle.arj_law_disk.specs.machine.State.{Done, decided_in}
-use Rattle.arj_law_disk.proofs.machine.History.{in_decided}
-use Rattle.arj_law_disk.specs.machine.Words as disk
-use Rattle.arj_law_runs.specs.journal.Idle.{HasNothing}
-use Rattle.arj_lock.proofs.Members.{In, in_filter_map, in_from, in_to}
-use Rattle.arj_model.specs.Last.{uid_of_id}
-use Rattle.arj_protocol.proofs.Numbers.{number_tells}
-use Rattle.arj_protocol.specs.Order.{uid_number}
-use Rattle.arj_law_serial.specs.order.Decided.{AreDecisions, IsDecision}
-use Rattle.arj_promise.specs.Excluded.{Wrote}
-use Rattle.arj_law_serial.proofs.order.Values.{to_filter}
-use Rattle.std.specs.List.{AllByRecursion, cons_option, filter_map, list_all}
-use Rattle.arj_law.proofs.Last.{writes_conflict}
-use Rattle.arj_law.proofs.Order.{rises}
-use Rattle.arj_model.specs.Actions.{Act, Placed, acts, acts_after, acts_from, chain_in, committed, committed_of, has_end, is_committed, put, read, recovered, recovered_of, top_in}
-use Rattle.arj_model.specs.Calls.{Call, Said, Top, call_of, committed_calls, ids, kept, kept_in, made, made_by, made_in, said, surviving, tops}
-use Rattle.arj_model.specs.Serial.{Values, top_place, writes_on}
-use Rattle.arj_law_runs.specs.journal.Book.{Book, book, book_from, is_decided, is_top, new_book, turned}
-use Rattle.arj_law_runs.specs.journal.Laws.{AreApart, AreDistinct, called, called_of}
-use Rattle.arj_law_runs.specs.journal.Right.{AreRight, has_act}
-use Rattle.arj_law_runs.proofs.journal.Books.{never, or_which, sane_lines, sane_new}
-use Rattle.arj_law_runs.proofs.journal.Closed.{one_act}
-use Rattle.arj_law_runs.proofs.journal.Models.{AreSound, in_later, its_acts, its_call, its_decision, its_sound}
-use Rattle.arj_law_lock.specs.machine.Actions.{top}
-use Rattle.arj_law_lock.specs.machine.Laws.{Conflicting}
-use Rattle.arj_law_lock.specs.machine.State.{State}
-use Rattle.arj_law_lock_view.specs.journal.Lines.{IsDecidedAt}
+use Rattle.arj_law_parts.proofs.Words
+use Words.{◌≡◌, ◌≢◌, ◌⊎◌, ◌<◌, ◌≤◌, ℕ, ◌+◌, ◌==◌, ◌||◌, ◌&&◌, List, [], ◌∷◌, ◌++◌, length, take, filter, cond, Bool, true, false, Contains}
+use Words.{Option, Some, None, refl, sym, ◌∙◌, ap, subst, inl, inr, ⊎_elim, arith, eqb-true, eq-eqb, and_parts, list_any, uid_is, uid_same}
+use Words.{is_on, uid_eq, Uid, writes, Body, Line, In, in_filter_map, in_from, in_to, number_tells, uid_number, Wrote, AllByRecursion}
+use Words.{cons_option, filter_map, list_all}
+use Rattle.arj_law_serial.proofs.Terms
+use Terms.{counts_of, Done, decided_in, in_decided, HasNothing, uid_of_id, AreDecisions, IsDecision, writes_conflict, rises, Act, Placed}
+use Terms.{acts, acts_after, acts_from, chain_in, committed, committed_of, has_end, is_committed, put, read, recovered, recovered_of}
+use Terms.{top_in, Said, Top, call_of, committed_calls, ids, kept, kept_in, tops, Values, top_place, writes_on, Book, book, book_from}
+use Terms.{is_decided, is_top, new_book, turned, AreDistinct, called, called_of, AreRight, has_act, or_which, sane_lines, sane_new, one_act}
+use Terms.{AreSound, in_later, its_acts, its_call, its_sound, top, Conflicting, State, IsDecidedAt, IsTied, AreOnce, AreTurnsOf}
+use Terms.{IsCalledBefore, IsWriter, WritersAreNewestFirst}
+use Terms.words as disk
 use Rattle.arj_law_lock_view.proofs.journal.Numbers.{called_low}
-use Rattle.arj_law_serial.specs.order.Tied.{IsTied}
-use Rattle.arj_law_serial.proofs.order.Locks.{number_uid, read_below, read_taken}
-use Rattle.arj_law_serial.proofs.order.Order.{IsShown, IsTopOf, before_top, called_first, conflict_of, in_order, its_top, listed, off_one, place_of_top, same_number, shown, stage_of_top, top_item, top_plain}
-use Rattle.arj_law_serial.proofs.order.Ties.{Tie, tie_of}
-use Rattle.arj_law_serial.proofs.order.Turning.{one_call}
-use Rattle.arj_law_disk_view.specs.running.Decided.{AreOnce}
-use Rattle.arj_law_serial.specs.joint.Ordered.{AreTurnsOf, IsCalledBefore}
-use Rattle.arj_law_serial.specs.joint.Writers.{DecidedWritersStand, IsWriter, WritersAreCalledFirst, WritersAreNewestFirst}
+use Rattle.arj_law_runs.proofs.journal.{Books.never, Models.its_decision}
+use Rattle.arj_law_runs.specs.journal.Laws.{AreApart}
+use Rattle.arj_law_serial.proofs.order
+use order.{Ties.Tie, Ties.tie_of, Turning.one_call, Values.to_filter}
+use order.Locks.{number_uid, read_below, read_taken}
+use order.Order.{IsShown, IsTopOf, before_top, called_first, conflict_of, in_order, its_top, listed, off_one, place_of_top, same_number}
+use order.Order.{shown, stage_of_top, top_item, top_plain}
+use Rattle.arj_law_serial.specs.joint.Writers.{DecidedWritersStand, WritersAreCalledFirst}
+use Rattle.arj_model.specs.Calls.{Call, made, made_by, made_in, said, surviving}
 
 -- ---- the front of a journal
 
@@ -66,22 +42,26 @@ take_front [] ys = by ys
 take_front (l ∷ xs) ys = ap (λ zs. l ∷ zs) (take_front xs ys)
 
 -- what is read of it is read of the whole
-read_front : {A : Type 0} (f : List Act → Body → Option A) (us : List Act) (n : ℕ) (xs ys : List Line) (s : Placed A) → In s (read f us n xs) → In s (read f us n (xs ++ ys))
+read_front : {A : Type 0} (f : List Act → Body → Option A) (us : List Act) (n : ℕ) (xs ys : List Line) (s : Placed A) →
+    In s (read f us n xs) → In s (read f us n (xs ++ ys))
 read_front f us n [] ys s i = absurd i
 read_front {A} f us n (l ∷ xs) ys s i = by (f us l.body) i (λ j. read_front f (acts_after us l.body) (n + 1) xs ys s j)
   where
-    by : (o : Option A) → In s (put n o (read f (acts_after us l.body) (n + 1) xs)) → (In s (read f (acts_after us l.body) (n + 1) xs) → In s (read f (acts_after us l.body) (n + 1) (xs ++ ys))) → In s (put n o (read f (acts_after us l.body) (n + 1) (xs ++ ys)))
+    by : (o : Option A) → In s (put n o (read f (acts_after us l.body) (n + 1) xs)) → (In s (read f (acts_after us l.body) (n + 1) xs) →
+        In s (read f (acts_after us l.body) (n + 1) (xs ++ ys))) → In s (put n o (read f (acts_after us l.body) (n + 1) (xs ++ ys)))
     by None j ih = ih j
     by (Some a) (inl same) ih = inl same
     by (Some a) (inr j) ih = inr (ih j)
 
 pub act_with : (xs : List Act) (u : Uid) → has_act xs u ≡ true → (z : Act) × In z xs × (z.uid ≡ u)
 act_with [] u on = absurd (cc on)
-act_with (x ∷ xs) u on = ⊎_elim (λ here. (x, inl refl, uid_is x.uid u here)) (λ there. let r = act_with xs u there in (r.0, inr r.1, r.2)) (or_which (uid_eq x.uid u) (has_act xs u) on)
+act_with (x ∷ xs) u on = ⊎_elim (λ here. (x, inl refl, uid_is x.uid u here)) (λ there. let r = act_with xs u there in
+    (r.0, inr r.1, r.2)) (or_which (uid_eq x.uid u) (has_act xs u) on)
 
 pub end_in : (es : List (Placed ℕ)) (id : ℕ) → has_end es id ≡ true → (e : Placed ℕ) × In e es × (e.it ≡ id)
 end_in [] id on = absurd (cc on)
-end_in (e ∷ es) id on = ⊎_elim (λ here. (e, inl refl, eqb-true e.it id here)) (λ there. let r = end_in es id there in (r.0, inr r.1, r.2)) (or_which (e.it == id) (has_end es id) on)
+end_in (e ∷ es) id on = ⊎_elim (λ here. (e, inl refl, eqb-true e.it id here)) (λ there. let r = end_in es id there in
+    (r.0, inr r.1, r.2)) (or_which (e.it == id) (has_end es id) on)
 
 pub has_in : (es : List (Placed ℕ)) (id : ℕ) (e : Placed ℕ) → In e es → e.it ≡ id → has_end es id ≡ true
 has_in [] id e i same = absurd i
@@ -92,9 +72,11 @@ has_in (f ∷ es) id e (inr i) same = by (f.it == id) (has_in es id e i same)
     by true on = refl
     by false on = on
 
-pub found_in : (es : List (Placed Uid)) (u : Uid) (e : Placed Uid) → In e es → e.it ≡ u → list_any (λ (z : Placed Uid). uid_eq z.it u) es ≡ true
+pub found_in : (es : List (Placed Uid)) (u : Uid) (e : Placed Uid) → In e es → e.it ≡ u →
+    list_any (λ (z : Placed Uid). uid_eq z.it u) es ≡ true
 found_in [] u e i same = absurd i
-found_in (f ∷ es) u e (inl is) same = ap (λ b. b || list_any (λ (z : Placed Uid). uid_eq z.it u) es) (ap (λ w. uid_eq w u) (ap (λ (z : Placed Uid). z.it) is ∙ same) ∙ uid_same u)
+found_in (f ∷ es) u e (inl is) same = ap (λ b. b || list_any (λ (z : Placed Uid). uid_eq z.it u) es)
+    (ap (λ w. uid_eq w u) (ap (λ (z : Placed Uid). z.it) is ∙ same) ∙ uid_same u)
 found_in (f ∷ es) u e (inr i) same = by (uid_eq f.it u) (found_in es u e i same)
   where
     by : (b : Bool) → list_any (λ (z : Placed Uid). uid_eq z.it u) es ≡ true → (b || list_any (λ (z : Placed Uid). uid_eq z.it u) es) ≡ true
@@ -123,7 +105,8 @@ all_ids : (p : ℕ → Bool) (xs : List Act) → list_all (λ (b : Act). p b.id)
 all_ids p [] all = refl
 all_ids p (y ∷ ys) all = by (p y.id) all (all_ids p ys)
   where
-    by : (b : Bool) → (b && list_all (λ (z : Act). p z.id) ys) ≡ true → (list_all (λ (z : Act). p z.id) ys ≡ true → list_all p (ids ys) ≡ true) → (b && list_all p (ids ys)) ≡ true
+    by : (b : Bool) → (b && list_all (λ (z : Act). p z.id) ys) ≡ true →
+        (list_all (λ (z : Act). p z.id) ys ≡ true → list_all p (ids ys) ≡ true) → (b && list_all p (ids ys)) ≡ true
     by true is ih = ih is
     by false is ih = absurd (cc is)
 
@@ -144,7 +127,8 @@ module _ (lines : List Line) (right : AreRight new_book lines) (before behind : 
   taken = ap (take (length before)) is ∙ take_front before behind
 
   -- what stands before its end
-  to_front : {A : Type 0} (f : List Act → Body → Option A) (e : Placed A) → In e (read f [] 0 lines) → e.at < length before → In e (read f [] 0 before)
+  to_front : {A : Type 0} (f : List Act → Body → Option A) (e : Placed A) → In e (read f [] 0 lines) → e.at < length before →
+      In e (read f [] 0 before)
   to_front f e k less = subst (λ ls. In e (read f [] 0 ls)) taken (read_taken f [] 0 lines (length before) e k (omega (arith, less)))
 
   -- an action whose commit was called there is in it
@@ -155,8 +139,10 @@ module _ (lines : List Line) (right : AreRight new_book lines) (before behind : 
       subst (λ z. In z (acts before)) (same_number lines right r.0 a (acts_front r.0 r.1) there (r.2 ∙ its)) r.1
 
   -- so it was called by it
-  pub on_front : (a : Act) → In a (acts lines) → (e : Placed ℕ) → In e (called lines) → e.it ≡ a.id → e.at < length before → is_on (let B = book before in B.called) a.uid ≡ true
-  on_front a there e k its less = sym (its_call before front a (act_front a there e k its less)) ∙ has_in (called before) a.id e (to_front called_of e k less) its
+  pub on_front : (a : Act) → In a (acts lines) → (e : Placed ℕ) → In e (called lines) → e.it ≡ a.id → e.at < length before →
+      is_on (let B = book before in B.called) a.uid ≡ true
+  on_front a there e k its less =
+      sym (its_call before front a (act_front a there e k its less)) ∙ has_in (called before) a.id e (to_front called_of e k less) its
 
 -- ---- the law
 
@@ -194,8 +180,10 @@ module _ (values : Values) (lines : List Line) (right : AreRight new_book lines)
           a_front : In a (acts before)
           a_front =
               let sane = sane_lines new_book before (front lines right before behind is) sane_new in
-              let r = act_with (acts before) a.uid (subst (λ us. has_act us a.uid ≡ true) (its_acts before (front lines right before behind is)) (sane.called a.uid on)) in
-              subst (λ z. In z (acts before)) (one_act (acts lines) sound.distinct r.0 a (acts_front lines right before behind is r.0 r.1) a_there r.2) r.1
+              let r = act_with (acts before) a.uid
+              (subst (λ us. has_act us a.uid ≡ true) (its_acts before (front lines right before behind is)) (sane.called a.uid on)) in
+              subst (λ z. In z (acts before))
+              (one_act (acts lines) sound.distinct r.0 a (acts_front lines right before behind is r.0 r.1) a_there r.2) r.1
 
       -- its call
       abbrev call : Placed ℕ
@@ -205,19 +193,25 @@ module _ (values : Values) (lines : List Line) (right : AreRight new_book lines)
       call_is = ap (λ (z : Act). z.id) its_a
 
   -- of two tops one whose commit was called where that of the other wasn't was called first
-  pub called_in_turn : (u v : Top) (a b : Act) → In u (tops lines) → In v (tops lines) → In a (acts lines) → In b (acts lines) → a.id ≡ u.id → b.id ≡ v.id → IsCalledBefore lines a.uid b.uid → u.at < v.at
-  called_in_turn u v a b u_there v_there a_there b_there a_is b_is (before, behind, is, on, off) = by (cases v.at (length before)) (called_front before behind is u a u_there a_there a_is on)
+  pub called_in_turn : (u v : Top) (a b : Act) → In u (tops lines) → In v (tops lines) → In a (acts lines) → In b (acts lines) →
+      a.id ≡ u.id → b.id ≡ v.id → IsCalledBefore lines a.uid b.uid → u.at < v.at
+  called_in_turn u v a b u_there v_there a_there b_there a_is b_is (before, behind, is, on, off) =
+      by (cases v.at (length before)) (called_front before behind is u a u_there a_there a_is on)
     where
       cases : (m n : ℕ) → (m < n) ⊎ (n ≤ m)
       cases m n = grind arith
 
       by : (v.at < length before) ⊎ (length before ≤ v.at) → u.at < length before → u.at < v.at
-      by (inl less) early = absurd (never (on_front lines right before behind is b b_there (call before behind is v b v_there b_there b_is) (let k = its before behind is v b v_there b_there b_is in k.call) (call_is before behind is v b v_there b_there b_is) less) off)
+      by (inl less) early = absurd (never (on_front lines right before behind is b b_there (call before behind is v b v_there b_there b_is)
+          (let k = its before behind is v b v_there b_there b_is in k.call) (call_is before behind is v b v_there b_there b_is) less) off)
       by (inr more) early = omega (arith, more, early)
 
-  module _ (u v : Top) (a b : Act) (u_there : In u (tops lines)) (v_there : In v (tops lines)) (a_there : In a (acts lines)) (b_there : In b (acts lines)) (a_is : a.id ≡ u.id) (b_is : b.id ≡ v.id) (apart : u.id ≢ v.id)
-      (c d : Call) (i : In c (committed_calls lines)) (j : In d (committed_calls lines)) (cw : writes_on x c ≡ true) (dw : writes_on x d ≡ true) (ct : c.top ≡ u.id) (dt : d.top ≡ v.id)
-      (before behind : List Line) (is : lines ≡ before ++ behind) (on : is_on (let B = book before in B.called) a.uid ≡ true) (undone : is_decided (book before) b.uid ≡ false) where
+  module _ (u v : Top) (a b : Act) (u_there : In u (tops lines)) (v_there : In v (tops lines)) (a_there : In a (acts lines))
+      (b_there : In b (acts lines)) (a_is : a.id ≡ u.id) (b_is : b.id ≡ v.id) (apart : u.id ≢ v.id)
+      (c d : Call) (i : In c (committed_calls lines)) (j : In d (committed_calls lines)) (cw : writes_on x c ≡ true)
+      (dw : writes_on x d ≡ true) (ct : c.top ≡ u.id) (dt : d.top ≡ v.id)
+      (before behind : List Line) (is : lines ≡ before ++ behind) (on : is_on (let B = book before in B.called) a.uid ≡ true)
+      (undone : is_decided (book before) b.uid ≡ false) where
     cx : c.x ≡ x
     cx = eqb-true c.x x (and_parts (c.x == x) (writes c.op) cw).0
 
@@ -232,10 +226,12 @@ module _ (values : Values) (lines : List Line) (right : AreRight new_book lines)
 
     -- the tops of the two calls
     place_u : (let n = s_c.number in n.at) ≡ u.at
-    place_u = sym (place_of_top (tops lines) s_c.number apart_tops s_c.listed_top) ∙ ap (top_place (tops lines)) (sym s_c.top_number ∙ ct) ∙ place_of_top (tops lines) u apart_tops u_there
+    place_u = sym (place_of_top (tops lines) s_c.number apart_tops s_c.listed_top) ∙ ap (top_place (tops lines)) (sym s_c.top_number ∙ ct)
+        ∙ place_of_top (tops lines) u apart_tops u_there
 
     place_v : (let n = s_d.number in n.at) ≡ v.at
-    place_v = sym (place_of_top (tops lines) s_d.number apart_tops s_d.listed_top) ∙ ap (top_place (tops lines)) (sym s_d.top_number ∙ dt) ∙ place_of_top (tops lines) v apart_tops v_there
+    place_v = sym (place_of_top (tops lines) s_d.number apart_tops s_d.listed_top) ∙ ap (top_place (tops lines)) (sym s_d.top_number ∙ dt)
+        ∙ place_of_top (tops lines) v apart_tops v_there
 
     before_u : c.at < u.at
     before_u = let l = before_top values lines right x S tie c s_c in omega (arith, l, place_u)
@@ -259,7 +255,8 @@ module _ (values : Values) (lines : List Line) (right : AreRight new_book lines)
         other = off_one d.top c.top (λ e. apart (sym ct ∙ sym e ∙ dt))
 
         v_first : v.at < c.at
-        v_first = let l = called_first values lines right x S tie d c j i dx cx less other (writes_conflict x d c dw cw) in let e = ap (top_place (tops lines)) dt ∙ place_of_top (tops lines) v apart_tops v_there in omega (arith, l, e)
+        v_first = let l = called_first values lines right x S tie d c j i dx cx less other (writes_conflict x d c dw cw) in
+            let e = ap (top_place (tops lines)) dt ∙ place_of_top (tops lines) v apart_tops v_there in omega (arith, l, e)
 
         both : Conflicting S (let k = s_d in k.call) (let k = s_c in k.call)
         both = conflict_of values lines right x S tie d c s_d s_c less (writes_conflict x d c dw cw)
@@ -269,30 +266,42 @@ module _ (values : Values) (lines : List Line) (right : AreRight new_book lines)
             let p = tie.places in
             let m = s_d.top_of_it in
             let n = s_c.top_of_it in
-            let uid = p.one m.act n.act (in_to m.act (acts lines) m.there) (in_to n.act (acts lines) n.there) (sym (its_top values lines right x S tie d s_d) ∙ e ∙ its_top values lines right x S tie c s_c) in
+            let uid = p.one m.act n.act (in_to m.act (acts lines) m.there) (in_to n.act (acts lines) n.there)
+            (sym (its_top values lines right x S tie d s_d) ∙ e ∙ its_top values lines right x S tie c s_c) in
             let act = one_act (acts lines) sound.distinct m.act n.act m.there n.there uid in
             apart (sym ct ∙ s_c.top_number ∙ sym n.number ∙ ap (λ (z : Act). z.id) (sym act) ∙ m.number ∙ sym s_d.top_number ∙ dt)
 
         done : (S.action (tie.act b.uid)).done < c.at + 1
         done =
-            let l = (in_order values lines right x S tie).writes s_d.call s_c.call both (s_d.write ∙ (and_parts (d.x == x) (writes d.op) dw).1) differ in
+            let l = (in_order values lines right x S tie).writes s_d.call s_c.call both
+            (s_d.write ∙ (and_parts (d.x == x) (writes d.op) dw).1) differ in
             let line = s_c.line in
-            let place = ap (λ m. (S.action m).done) (its_top values lines right x S tie d s_d) ∙ ap (λ (z : Act). (S.action (tie.act z.uid)).done) its_b in
+            let place = ap (λ m. (S.action m).done) (its_top values lines right x S tie d s_d)
+            ∙ ap (λ (z : Act). (S.action (tie.act z.uid)).done) its_b in
             omega (arith, l, line, place)
 
         stage : (S.action (tie.act b.uid)).stage ≡ 3
-        stage = ap (λ (z : Act). (S.action (tie.act z.uid)).stage) (sym its_b) ∙ stage_of_top values lines right x S tie s_d.number s_d.top_of_it
+        stage = ap (λ (z : Act). (S.action (tie.act z.uid)).stage) (sym its_b)
+            ∙ stage_of_top values lines right x S tie s_d.number s_d.top_of_it
 
         -- its call is in the front, and so is it
         b_front : In b (acts before)
-        b_front = act_front lines right before behind is b b_there (call before behind is v b v_there b_there b_is) (let k = its before behind is v b v_there b_there b_is in k.call) (call_is before behind is v b v_there b_there b_is) (omega (arith, v_first, before_u, first_front))
+        b_front = act_front lines right before behind is b b_there (call before behind is v b v_there b_there b_is)
+            (let k = its before behind is v b v_there b_there b_is in
+            k.call) (call_is before behind is v b v_there b_there b_is) (omega (arith, v_first, before_u, first_front))
 
         at_line : IsDecidedAt lines b (let m = S.action (tie.act b.uid) in m.done)
-        at_line = let k = s_d.top_of_it in let said = tie.actions b (in_to b (acts lines) b_there) (top_plain b.kind (ap (λ (z : Act). is_top z.kind) (sym its_b) ∙ k.kind)) in said.decided stage
+        at_line = let k = s_d.top_of_it in let said = tie.actions b (in_to b (acts lines) b_there)
+            (top_plain b.kind (ap (λ (z : Act). is_top z.kind) (sym its_b) ∙ k.kind)) in said.decided stage
 
-        committed_front : IsDecidedAt lines b (let m = S.action (tie.act b.uid) in m.done) → is_committed (committed before) (recovered before) b ≡ true
-        committed_front (inl (e, k, same, at)) = or_left (has_end (committed before) b.id) (list_any (λ (z : Placed Uid). uid_eq z.it b.uid) (recovered before)) (has_in (committed before) b.id e (to_front lines right before behind is committed_of e (in_from e (committed lines) k) (omega (arith, at, done, before_u, first_front))) same)
-        committed_front (inr (e, k, same, at)) = or_right (has_end (committed before) b.id) (list_any (λ (z : Placed Uid). uid_eq z.it b.uid) (recovered before)) (found_in (recovered before) b.uid e (to_front lines right before behind is recovered_of e (in_from e (recovered lines) k) (omega (arith, at, done, before_u, first_front))) same)
+        committed_front : IsDecidedAt lines b (let m = S.action (tie.act b.uid) in m.done) →
+            is_committed (committed before) (recovered before) b ≡ true
+        committed_front (inl (e, k, same, at)) = or_left (has_end (committed before) b.id)
+            (list_any (λ (z : Placed Uid). uid_eq z.it b.uid) (recovered before)) (has_in (committed before) b.id e (to_front lines right
+            before behind is committed_of e (in_from e (committed lines) k) (omega (arith, at, done, before_u, first_front))) same)
+        committed_front (inr (e, k, same, at)) = or_right (has_end (committed before) b.id)
+            (list_any (λ (z : Placed Uid). uid_eq z.it b.uid) (recovered before)) (found_in (recovered before) b.uid e (to_front lines right
+            before behind is recovered_of e (in_from e (recovered lines) k) (omega (arith, at, done, before_u, first_front))) same)
 
         decided : is_decided (book before) b.uid ≡ true
         decided = sym (its_decision before (front lines right before behind is) b b_front) ∙ committed_front at_line
@@ -302,15 +311,19 @@ module _ (values : Values) (lines : List Line) (right : AreRight new_book lines)
 
     pub called_so : u.at < v.at
     called_so = ⊎_elim
-        (λ less. let l = called_first values lines right x S tie c d i j cx dx less (off_one c.top d.top (λ e. apart (sym ct ∙ e ∙ dt))) (writes_conflict x c d cw dw) in let e = ap (top_place (tops lines)) ct ∙ place_of_top (tops lines) u apart_tops u_there in omega (arith, l, e, before_v))
-        (λ rest. ⊎_elim (λ less. absurd (late less)) (λ same. absurd (apart (sym ct ∙ ap (λ (z : Call). z.top) (one_call (committed_calls lines) (rises lines) c d i j same) ∙ dt))) rest)
+        (λ less. let l = called_first values lines right x S tie c d i j cx dx less (off_one c.top d.top (λ e. apart (sym ct ∙ e ∙ dt)))
+        (writes_conflict x c d cw dw) in let e = ap (top_place (tops lines)) ct ∙ place_of_top (tops lines) u apart_tops u_there in
+        omega (arith, l, e, before_v))
+        (λ rest. ⊎_elim (λ less. absurd (late less)) (λ same.
+        absurd (apart (sym ct ∙ ap (λ (z : Call). z.top) (one_call (committed_calls lines) (rises lines) c d i j same) ∙ dt))) rest)
         (cases c.at d.at)
 
 pub writers_are_called_first : WritersAreCalledFirst
 writers_are_called_first values lines x S right t u v a b w z apart (before, behind, is, on, undone) =
     let c = w.wrote in
     let d = z.wrote in
-    called_so values lines right x S t u v a b (in_from u (tops lines) w.listed) (in_from v (tops lines) z.listed) (in_from a (acts lines) w.there) (in_from b (acts lines) z.there) w.number z.number apart
+    called_so values lines right x S t u v a b (in_from u (tops lines) w.listed) (in_from v (tops lines) z.listed)
+    (in_from a (acts lines) w.there) (in_from b (acts lines) z.there) w.number z.number apart
     c.0 d.0 (in_from c.0 (committed_calls lines) c.1) (in_from d.0 (committed_calls lines) d.1) c.2 d.2 c.3 d.3 before behind is on undone
 
 -- ---- decided tops
@@ -340,7 +353,8 @@ once_left p (d ∷ ds) once = by (p d) (once_left p ds once.1)
     none_left t [] none = refl
     none_left t (e ∷ es) none = one (p e) (e.top == t) refl none (none_left t es)
       where
-        one : (b c : Bool) → (e.top == t) ≡ c → (c || decided_in es t) ≡ false → (decided_in es t ≡ false → decided_in (filter p es) t ≡ false) → decided_in (cond b (e ∷ filter p es) (filter p es)) t ≡ false
+        one : (b c : Bool) → (e.top == t) ≡ c → (c || decided_in es t) ≡ false →
+            (decided_in es t ≡ false → decided_in (filter p es) t ≡ false) → decided_in (cond b (e ∷ filter p es) (filter p es)) t ≡ false
         one b true is off ih = absurd (cc off)
         one true false is off ih = ap (λ c. c || decided_in (filter p es) t) is ∙ ih off
         one false false is off ih = ih off
@@ -365,16 +379,20 @@ wrote_something lines x t a same (c, there, w, top) none =
     let f = in_filter_map (kept (committed lines) (recovered lines)) c (said lines) (in_from c (committed_calls lines) there) in
     subst (In c) none.calls (by f.0 f.1 (top_in (let q = f.0 in q.it.path)) refl f.2)
   where
-    by : (s : Placed Said) → In s (said lines) → (o : Option Act) → top_in s.it.path ≡ o → kept_in (committed lines) (recovered lines) s o ≡ Some c → In c (surviving lines a.id)
+    by : (s : Placed Said) → In s (said lines) → (o : Option Act) → top_in s.it.path ≡ o →
+        kept_in (committed lines) (recovered lines) s o ≡ Some c → In c (surviving lines a.id)
     by s k None e is = absurd (cc is)
-    by s k (Some u) e is = one (list_all (λ (b : Act). has_end (committed lines) b.id) (chain_in s.it.path)) refl (is_committed (committed lines) (recovered lines) u) is
+    by s k (Some u) e is = one (list_all (λ (b : Act). has_end (committed lines) b.id) (chain_in s.it.path)) refl
+        (is_committed (committed lines) (recovered lines) u) is
       where
-        one : (p : Bool) → list_all (λ (b : Act). has_end (committed lines) b.id) (chain_in s.it.path) ≡ p → (q : Bool) → cond (p && q) (Some (call_of s u)) None ≡ Some c → In c (surviving lines a.id)
+        one : (p : Bool) → list_all (λ (b : Act). has_end (committed lines) b.id) (chain_in s.it.path) ≡ p → (q : Bool) →
+            cond (p && q) (Some (call_of s u)) None ≡ Some c → In c (surviving lines a.id)
         one false pe q is_so = absurd (cc is_so)
         one true pe false is_so = absurd (cc is_so)
         one true pe true is_so =
             let same_call : call_of s u ≡ c = cc is_so in
-            let made_so : In c (made lines) = mapped (λ (z : Placed Said). made_in z (top_in z.it.path)) s c (said lines) k (ap (made_in s) e ∙ ap Some same_call) in
+            let made_so : In c (made lines) = mapped (λ (z : Placed Said). made_in z (top_in z.it.path)) s c (said lines) k
+            (ap (made_in s) e ∙ ap Some same_call) in
             let chain = all_ids (has_end (committed lines)) (chain_in s.it.path) pe in
             to_filter (λ (z : Call). list_all (has_end (committed lines)) z.chain) c (made_by lines a.id)
             (to_filter (λ (z : Call). z.top == a.id) c (made lines) made_so (eq-eqb c.top a.id (top ∙ sym same)))
@@ -394,10 +412,12 @@ module _ (values : Values) (lines : List Line) (x : ℕ) (S : State) (right : Ar
       record {
         its = k;
         listed = there;
-        number = is.number ∙ ap (λ n. uid_number (uid_of_id (acts lines) n)) (sym k.number) ∙ ap uid_number (number_uid k.act (acts lines) (λ y m e. same_number lines right y k.act m k.there e) k.there);
+        number = is.number ∙ ap (λ n. uid_number (uid_of_id (acts lines) n)) (sym k.number)
+            ∙ ap uid_number (number_uid k.act (acts lines) (λ y m e. same_number lines right y k.act m k.there e) k.there);
       }
 
-  pub decision_of : (ds : List Done) (us : List Top) → AreDecisions values lines x ds us → (u : Top) → In u us → (d : Done) × disk.In d ds × IsOf d u
+  pub decision_of : (ds : List Done) (us : List Top) → AreDecisions values lines x ds us → (u : Top) → In u us →
+      (d : Done) × disk.In d ds × IsOf d u
   decision_of [] [] are u k = absurd k
   decision_of [] (w ∷ us) are u k = absurd are
   decision_of (d ∷ ds) [] are u k = absurd k
@@ -432,7 +452,8 @@ module _ (values : Values) (lines : List Line) (x : ℕ) (S : State) (right : Ar
   other_of w (y ∷ us) all u (inr k) = other_of w us all.1 u k
 
   -- and a decision's top is one of those
-  pub those_of : (ds : List Done) (us : List Top) → AreDecisions values lines x ds us → (d : Done) → disk.In d ds → (u : Top) × In u us × IsOf d u
+  pub those_of : (ds : List Done) (us : List Top) → AreDecisions values lines x ds us → (d : Done) → disk.In d ds →
+      (u : Top) × In u us × IsOf d u
   those_of [] us are d k = absurd k
   those_of (e ∷ ds) [] are d k = absurd are
   those_of (e ∷ ds) (w ∷ us) are d (inl same) = (w, inl refl, subst (λ (z : Done). IsOf z w) same (its_top_of e w are.0))
@@ -451,12 +472,15 @@ module _ (values : Values) (lines : List Line) (x : ℕ) (S : State) (right : Ar
 
   -- a top of the journal has its action's number
   pub number_is : (u : Top) (i : IsTopOf lines u) → uid_number (uid_of_id (acts lines) u.id) ≡ uid_number (let a = i.act in a.uid)
-  number_is u i = ap (λ n. uid_number (uid_of_id (acts lines) n)) (sym i.number) ∙ ap uid_number (number_uid i.act (acts lines) (λ y m e. same_number lines right y i.act m i.there e) i.there)
+  number_is u i = ap (λ n. uid_number (uid_of_id (acts lines) n)) (sym i.number)
+      ∙ ap uid_number (number_uid i.act (acts lines) (λ y m e. same_number lines right y i.act m i.there e) i.there)
 
   writer : (d : Done) (u : Top) → (i : IsOf d u) → Wrote lines x u → IsWriter lines x u (let k = i.its in k.act)
-  writer d u i wrote = let k = i.its in record { listed = in_to u (tops lines) i.listed; wrote = wrote; there = in_to k.act (acts lines) k.there; number = k.number }
+  writer d u i wrote = let k = i.its in
+      record { listed = in_to u (tops lines) i.listed; wrote = wrote; there = in_to k.act (acts lines) k.there; number = k.number }
 
-  pub writers_stand : (ds : List Done) (us : List Top) → AreTurnsOf lines ds → AreDecisions values lines x ds us → AreApart us → WritersAreNewestFirst lines x us
+  pub writers_stand : (ds : List Done) (us : List Top) → AreTurnsOf lines ds → AreDecisions values lines x ds us → AreApart us →
+      WritersAreNewestFirst lines x us
   writers_stand [] [] turns are apart = tt
   writers_stand [] (w ∷ us) turns are apart = absurd are
   writers_stand (d ∷ ds) [] turns are apart = tt
@@ -471,11 +495,17 @@ module _ (values : Values) (lines : List Line) (x : ℕ) (S : State) (right : Ar
           let m = i.its in
           let n = j.its in
           let off = other_of w us apart.0 u (in_from u us k) in
-          let other : e.top ≢ d.top = λ same. off (sym n.number ∙ ap (λ (z : Act). z.id) (one_act (acts lines) (let q = its_sound lines right in q.distinct) n.act m.act n.there m.there (number_tells n.act.uid m.act.uid (sym j.number ∙ sym same ∙ i.number))) ∙ m.number) in
+          let other : e.top ≢ d.top = λ same.
+          off (sym n.number ∙ ap (λ (z : Act). z.id) (one_act (acts lines) (let q = its_sound lines right in q.distinct) n.act m.act
+          n.there m.there (number_tells n.act.uid m.act.uid (sym j.number ∙ sym same ∙ i.number))) ∙ m.number) in
           ⊎_elim
-          (λ first. writers_are_called_first values lines x S right t u w m.act n.act (writer e u i wrote_u) (writer d w j wrote_w) (λ same. off (sym same)) first)
+          (λ first. writers_are_called_first values lines x S right t u w m.act n.act (writer e u i wrote_u) (writer d w j wrote_w)
+          (λ same. off (sym same)) first)
           (λ none. absurd (wrote_something lines x w n.act n.number wrote_w none))
-          (turns.0 e m.act n.act r.1 (in_to m.act (acts lines) m.there) (in_to n.act (acts lines) n.there) (sym i.number) (sym j.number) n.kind other)
+          (turns.0 e m.act n.act r.1 (in_to m.act (acts lines) m.there) (in_to n.act (acts lines) n.there) (sym i.number) (sym j.number)
+          n.kind other)
 
 pub decided_writers_stand : DecidedWritersStand
-decided_writers_stand values lines x S right t ds those turns are once = let a = once_left counts_of ds once in writers_stand values lines x S right t (filter counts_of ds) those (turns_left lines counts_of ds turns) are (apart_of values lines x S right t (filter counts_of ds) those a are)
+decided_writers_stand values lines x S right t ds those turns are once = let a = once_left counts_of ds once in
+    writers_stand values lines x S right t (filter counts_of ds) those (turns_left lines counts_of ds turns) are
+    (apart_of values lines x S right t (filter counts_of ds) those a are)

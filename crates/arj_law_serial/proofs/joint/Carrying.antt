@@ -1,42 +1,16 @@
--- Both machines of an object are carried beside each other, with more of the lock machine's states; and what is known as long as few bindings were made.
-use Rattle.std.proofs.Common.{◌≡◌, ℕ, [], true, is_some}
-use Rattle.std.specs.Prelude.{⊤}
-use Rattle.arj_journal.specs.ScriptForm.{HeaderInForm}
-use Rattle.arj_model.specs.Last.{first_values, object_line}
-use Rattle.arj_protocol.specs.Words.{Header}
-use Rattle.arj_protocol.specs.World.{format}
-use Rattle.arj_law_runs.specs.kept.Worlds.{IsGood}
-use Rattle.arj_law_runs.proofs.kept.AllRuns.{all_keep as parts_good}
-use Rattle.arj_law_parts.specs.moves.Keeps.{Keeps}
-use Rattle.arj_promise.specs.Runs.{Seen, see}
-use Rattle.arj_law_runs.specs.calls.Bindings.{HasFewBindings}
-use Rattle.arj_law_runs.specs.calls.Runs.{KnowsFew}
-use Rattle.arj_law_runs.proofs.calls.Given.{KeepsGiven, given_more, keeps_given, kept_both, while_given}
-use Rattle.arj_law_runs.proofs.calls.WholeRuns.{WhileFew, few_go}
-use Rattle.arj_law_runs.specs.journal.Knows.{IsKept}
-use Rattle.arj_law_runs.proofs.journal.Runs.{lines_keep}
-use Rattle.arj_law_disk.specs.machine.Names.{Office}
-use Rattle.arj_law_disk_view.specs.view.Sees.{Kinds}
-use Rattle.arj_law_disk_view.specs.names.Both.{SeesBoth}
-use Rattle.arj_law_disk_view.specs.running.Bindings.{KnowsScript}
-use Rattle.arj_law_disk_view.specs.running.Entries.{HaveEntries}
-use Rattle.arj_law_disk_view.specs.running.Part.{KeepsPart}
-use Rattle.arj_law_disk_view.proofs.running.BothEach.{with_entries}
-use Rattle.arj_law_disk_view.proofs.running.Given.{gives_votes}
-use Rattle.arj_law_disk_view.proofs.running.Kept.{IsKeptInRun, all_keep}
-use Rattle.arj_law_disk_view.proofs.running.Scripts.{part_more}
-use Rattle.arj_law_disk_view.specs.deciding_lines.Said.{AreNotLate, WithTie}
-use Rattle.arj_law_disk_view.proofs.deciding_lines.IdleKnown.{knows_idle}
-use Rattle.arj_law_disk_view.proofs.deciding_lines.Tying.{tied_part}
+-- Both machines of an object are carried beside each other, with more of the lock machine's states; and what is known as long as few
+-- bindings were made.
+use Rattle.arj_law_parts.proofs.Words.{◌≡◌, ℕ, [], true, is_some, ⊤, Header, format, Seen, see}
+use Rattle.arj_law_serial.proofs.Terms
+use Terms.{HeaderInForm, first_values, object_line, IsGood, all_keep as parts_good, Keeps, HasFewBindings, KnowsFew, KeepsGiven, given_more}
+use Terms.{keeps_given, kept_both, IsKept, lines_keep, Office, Kinds, SeesBoth, KnowsScript, HaveEntries, KeepsPart, with_entries}
+use Terms.{part_more, AreNotLate, WithTie, knows_idle, tied_part, Run, State, Fixed, OpsFit}
 use Rattle.arj_law_disk_view.proofs.deciding_lines.Unlate.{unlate_each}
-use Rattle.arj_law_lock.specs.machine.Machine.{Run}
-use Rattle.arj_law_lock.specs.machine.State.{State}
-use Rattle.arj_law_lock_view.specs.running.Fixed.{Fixed}
-use Rattle.arj_law_serial.specs.joint.Fit.{OpsFit}
-use Rattle.arj_law_serial.proofs.joint.Fits.{fits_before}
-use Rattle.arj_law_serial.proofs.joint.JoinedParts.{Base, Carried, Early, Whole, base, locked}
-use Rattle.arj_law_serial.proofs.joint.Joining.{WithLocks}
-use Rattle.arj_law_serial.proofs.joint.LastWriters.{Idle}
+use Rattle.arj_law_disk_view.proofs.running.{Given.gives_votes, Kept.IsKeptInRun, Kept.all_keep}
+use Rattle.arj_law_runs.proofs.calls.{Given.while_given, WholeRuns.WhileFew, WholeRuns.few_go}
+use Rattle.arj_law_serial.proofs.joint
+use joint.{Fits.fits_before, Joining.WithLocks, LastWriters.Idle}
+use joint.JoinedParts.{Base, Carried, Early, Whole, base, locked}
 
 -- ---- what is carried
 
@@ -53,7 +27,8 @@ abbrev pub IsThere : ℕ → (Seen → Type 0) → (Kinds → Office → Seen �
 IsThere x R P M = IsKeptInRun (IsKnownThere x R) (IsCarriedThere x P) M
 
 -- what each handler keeps beside so much more is carried
-module _ (hd : Header) (x : ℕ) (R L : Seen → Type 0) (kept : Keeps hd R) (P : Kinds → Office → Seen → Type 0) (parts : KeepsPart hd x (λ W M. R M × ((KnowsScript M × L M) × AreNotLate W M)) P) where
+module _ (hd : Header) (x : ℕ) (R L : Seen → Type 0) (kept : Keeps hd R) (P : Kinds → Office → Seen →
+    Type 0) (parts : KeepsPart hd x (λ W M. R M × ((KnowsScript M × L M) × AreNotLate W M)) P) where
   abbrev Told : Seen → Type 0
   Told M = R M × IsKept M
 
@@ -61,10 +36,12 @@ module _ (hd : Header) (x : ℕ) (R L : Seen → Type 0) (kept : Keeps hd R) (P 
   tied = tied_part hd x R (λ W M. (KnowsScript M × L M) × AreNotLate W M) P Idle kept parts (knows_idle R)
 
   known : Keeps hd (IsKnownThere x R)
-  known = with_entries hd x Told (λ W M. Told M × ((KnowsScript M × L M) × AreNotLate W M)) (WithTie P Idle) tied (kept_both hd R IsKept kept (keeps_given hd R IsKept (lines_keep hd)))
+  known = with_entries hd x Told (λ W M. Told M × ((KnowsScript M × L M) × AreNotLate W M)) (WithTie P Idle) tied
+      (kept_both hd R IsKept kept (keeps_given hd R IsKept (lines_keep hd)))
 
   pub there_given : KeepsGiven hd (λ M. KnowsScript M × L M) (IsThere x R P)
-  there_given = all_keep hd x (IsKnownThere x R) (λ M. KnowsScript M × L M) (IsCarriedThere x P) known (λ acts k d t M h. gives_votes (IsKnownThere x R) acts k d t M (h.0, h.1.0)) (unlate_each hd x Told (λ M. KnowsScript M × L M) P Idle tied)
+  there_given = all_keep hd x (IsKnownThere x R) (λ M. KnowsScript M × L M) (IsCarriedThere x P) known (λ acts k d t M h.
+      gives_votes (IsKnownThere x R) acts k d t M (h.0, h.1.0)) (unlate_each hd x Told (λ M. KnowsScript M × L M) P Idle tied)
 
 -- ---- both machines
 
@@ -76,16 +53,20 @@ module _ (hd : Header) (x : ℕ) (form : HeaderInForm hd) (there : is_some (obje
   abbrev Fits : Seen → Type 0
   Fits M = OpsFit x M.lines
 
-  -- Where operations are in form, both machines go on beside each other with more of the lock machine's states that stays as they go on, where this holds
-  -- before each handler.
-  pub beside_given : (L : Seen → Type 0) (P : Fixed → State → Seen → Type 0) → ((M N : Seen) → L M → (f : Fixed) (S T : State) → Run S T → P f S M → P f T N) → ((f : Fixed) (S : State) → P f S (see [] (format hd)))
-      → KeepsGiven hd (λ M. KnowsScript M × L M) (λ M. OpsFit x M.lines → IsThere x (Base hd x) (WithLocks (first_values hd) x (Whole x) P (Carried hd x)) M)
+  -- Where operations are in form, both machines go on beside each other with more of the lock machine's states that stays as they go on,
+  -- where this holds before each handler.
+  pub beside_given : (L : Seen → Type 0) (P : Fixed → State → Seen → Type 0) → ((M N : Seen) → L M → (f : Fixed) (S T : State) → Run S T →
+      P f S M → P f T N) → ((f : Fixed) (S : State) → P f S (see [] (format hd)))
+      → KeepsGiven hd (λ M. KnowsScript M × L M) (λ M. OpsFit x M.lines →
+      IsThere x (Base hd x) (WithLocks (first_values hd) x (Whole x) P (Carried hd x)) M)
   beside_given L P stays starts =
       let Q : Kinds → Office → Seen → Type 0 = WithLocks (first_values hd) x (Whole x) P (Carried hd x) in
       while_given (OpsFit x) (fits_before x) (IsThere x (Base hd x) Q) hd (λ M. KnowsScript M × L M)
-      (given_more hd (λ M. KnowsScript M × (Fits M × L M)) (λ M. (KnowsScript M × L M) × Fits M) (IsThere x (Base hd x) Q) (λ M k. (k.0.0, (k.1, k.0.1)))
+      (given_more hd (λ M. KnowsScript M × (Fits M × L M)) (λ M. (KnowsScript M × L M) × Fits M) (IsThere x (Base hd x) Q)
+      (λ M k. (k.0.0, (k.1, k.0.1)))
       (there_given hd x (Base hd x) (λ M. Fits M × L M) counted Q
-      (part_more hd x (λ W M. Early hd x W M × L M) (λ W M. Base hd x M × ((KnowsScript M × (Fits M × L M)) × AreNotLate W M)) Q (λ W M q. let r = q.1 in ((q.0, ((r.0.0, r.0.1.0), r.1)), r.0.1.1)) (locked hd x form there L P stays starts))))
+      (part_more hd x (λ W M. Early hd x W M × L M) (λ W M. Base hd x M × ((KnowsScript M × (Fits M × L M)) × AreNotLate W M)) Q
+      (λ W M q. let r = q.1 in ((q.0, ((r.0.0, r.0.1.0), r.1)), r.0.1.1)) (locked hd x form there L P stays starts))))
 
 -- ---- while few bindings were made
 

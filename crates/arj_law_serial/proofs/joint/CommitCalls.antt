@@ -1,38 +1,28 @@
 -- A commit call is the first line of its event.
-use Rattle.std.proofs.Common.{◌≡◌, ◌≢◌, ◌≤◌, ◌<◌, ◌⊎◌, ◌+◌, ◌++◌, ◌==◌, ◌∙◌, ℕ, zero, suc, Bool, true, false, cond, not, List, [], ◌∷◌, Option, Some, None, append-nil, append_assoc, ap, arith, inl, inr, length, refl, subst, sym}
-use Rattle.std.specs.Prelude.{◌||◌, ◌-◌, nat_le, nat_lt}
-use Rattle.std.specs.List.{AllByRecursion}
-use Rattle.std.proofs.lemmas.List.{map-append}
-use Rattle.std.proofs.lemmas.Bool.{and_parts}
-use Rattle.std.proofs.lemmas.Bool.Decides.{nat_tests}
-use Rattle.arj_law_runs.proofs.addresses.Lists.{all_append}
-use Rattle.arj_law_serial.specs.whole.Called.{SayOf}
+use Rattle.arj_law_parts.proofs.Words
+use Words.{◌≡◌, ◌≢◌, ◌≤◌, ◌<◌, ◌⊎◌, ◌+◌, ◌++◌, ◌==◌, ◌∙◌, ℕ, zero, suc, Bool, true, false, cond, not, List, [], ◌∷◌, Option, Some, None}
+use Words.{append-nil, append_assoc, ap, arith, inl, inr, length, refl, subst, sym, ◌||◌, ◌-◌, nat_le, nat_lt, AllByRecursion, map-append}
+use Words.{and_parts, nat_tests, steps_lines, taken_took, again_all, end_line, CallEnd, Goal, Include, Run, Doing, doing_of, Disk, Do}
+use Words.{Effect, Pair, Say, Send, Stop, held_at, holder_of, worked, say_for, says as says_of, tick_outs, effects_of, effects_of_node}
+use Words.{effects_until, Handled, Here, Parts, Ran, Took, Void, first_done, first_queued, handle_all, most_rounds, next_round, ran}
+use Words.{ran_handled, rounds, taken, whole, with_coord, at_number, Input, Node, Step, acts, copy_line, entry_line, first_reason}
+use Words.{frame_step, handled_step, node_did, parts_in, refusal, restart_outs, show_entry, show_outs, shown, step, step_down, step_of}
+use Words.{step_unless, step_up, void_step, at_place, Body, Event, Header, Kind, Label, Line, Message, ObjectState, Uid, entry, object}
+use Words.{frame_kind, Arm, Frame, Giving, World, as_delivered, as_lost, armed, begins, begins_any, bodies, change_frame, count_works}
+use Words.{counted, cut, deliver, deliver_frame, disarmed, done_step, format, frame_number, giving, gives_label, halted_at, halted_outs}
+use Words.{happens, is_quiet, is_up_at, junk_fits, labels_unless, lacks_labels, limited, lose_frame, lowest, most_frames, new_frame}
+use Words.{no_labels, node_numbers, node_of, numbered, quiesce, reasons, refused_at, run_event, run_unless, sent_line, settle, settle_for}
+use Words.{show_all, show_up, step_node, step_with, steps, tick_all, tick_up, Move, all_moved, moved, world_by}
+use Words.calls
+use Words.commit
+use Words.input
+use Words.body
+use Words.event
+use Words.frame
+use Rattle.arj_law_serial.proofs.Terms
+use Terms.{all_append, SayOf, Asked, says, AreLooks, LooksAlone, taken_looks}
+use Terms.which
 use Rattle.arj_law_serial.proofs.whole.CalledSays.{acts_fine, calls_commit, is_apart, message_fine, restart_fine, tick_fine}
-use Rattle.arj_protocol.proofs.Steps.{steps_lines}
-use Rattle.arj_protocol.proofs.Taken.{taken_took}
-use Rattle.arj_protocol.specs.Asking.{again_all, end_line}
-use Rattle.arj_protocol.specs.Call as calls
-use Rattle.arj_protocol.specs.Call.{CallEnd, Goal, Include, Run}
-use Rattle.arj_protocol.specs.Commit as commit
-use Rattle.arj_protocol.specs.Coord.{Doing, doing_of}
-use Rattle.arj_protocol.specs.Effect.{Disk, Do, Effect, Pair, Say, Send, Stop, held_at, holder_of, worked}
-use Rattle.arj_protocol.specs.Ending.{say_for, says as says_of}
-use Rattle.arj_protocol.specs.Follow.{tick_outs}
-use Rattle.arj_protocol.specs.Laws.{effects_of, effects_of_node, effects_until}
-use Rattle.arj_protocol.specs.Node.{Handled, Here, Parts, Ran, Took, Void, first_done, first_queued, handle_all, most_rounds, next_round, ran, ran_handled, rounds, taken, whole, with_coord}
-use Rattle.arj_protocol.specs.Order.{at_number}
-use Rattle.arj_protocol.specs.Step as input
-use Rattle.arj_protocol.specs.Step.{Input, Node, Step, acts, copy_line, entry_line, first_reason, frame_step, handled_step, node_did, parts_in, refusal, restart_outs, show_entry, show_outs, shown, step, step_down, step_of, step_unless, step_up, void_step}
-use Rattle.arj_protocol.specs.Tree.{at_place}
-use Rattle.arj_protocol.specs.Words.{Body, Event, Header, Kind, Label, Line, Message, ObjectState, Uid, entry, object}
-use Rattle.arj_protocol.specs.Words.body
-use Rattle.arj_protocol.specs.Words.event
-use Rattle.arj_protocol.specs.Words.frame
-use Rattle.arj_protocol.specs.Words.which
-use Rattle.arj_protocol.specs.Ask.{frame_kind}
-use Rattle.arj_protocol.specs.World.{Arm, Asked, Frame, Giving, World, as_delivered, as_lost, armed, begins, begins_any, bodies, change_frame, count_works, counted, cut, deliver, deliver_frame, disarmed, done_step, format, frame_number, giving, gives_label, halted_at, halted_outs, happens, is_quiet, is_up_at, junk_fits, labels_unless, lacks_labels, limited, lose_frame, lowest, most_frames, new_frame, no_labels, node_numbers, node_of, numbered, quiesce, reasons, refused_at, run_event, run_unless, says, sent_line, settle, settle_for, show_all, show_up, step_node, step_with, steps, tick_all, tick_up}
-use Rattle.arj_law_parts.proofs.moves.Rounds.{AreLooks, LooksAlone, taken_looks}
-use Rattle.arj_promise.specs.Runs.{Move, all_moved, moved, world_by}
 use Rattle.arj_law_serial.specs.joint.Excluded.{RunsBeginWithCalls}
 
 -- ---- effects
@@ -79,13 +69,15 @@ ran_quiet n t (Say b ∷ es) d q = (q.0, ran_quiet n t es d q.1)
 ran_quiet n t (Do w ∷ es) d q = (tt, ran_quiet n t es (worked w d) q.1)
 ran_quiet n t (Send to m ∷ es) d q = by (to == n) (ran_quiet n t es d q.1)
   where
-    by : (b : Bool) → Quiet (ran n t es d).outs → Quiet (cond b (first_queued m (ran n t es d)) (first_done (Send to m) (ran n t es d))).outs
+    by : (b : Bool) → Quiet (ran n t es d).outs →
+        Quiet (cond b (first_queued m (ran n t es d)) (first_done (Send to m) (ran n t es d))).outs
     by true rest = rest
     by false rest = (tt, rest)
 
 ran_calls : (may : Bool) (n : ℕ) (t : Parts) (es : List Effect) (d : Disk) → Calls may es → Calls may (ran n t es d).outs
 ran_calls may n t es d (inl q) = inl (ran_quiet n t es d q)
-ran_calls may n t es d (inr (ok, l, rest, is, q)) = inr (ok, l, (ran n t rest d).outs, ap (λ z. (ran n t z d).outs) is, ran_quiet n t rest d q)
+ran_calls may n t es d (inr (ok, l, rest, is, q)) =
+    inr (ok, l, (ran n t rest d).outs, ap (λ z. (ran n t z d).outs) is, ran_quiet n t rest d q)
 
 looks_quiet : (outs : List Effect) → AreLooks outs → Quiet outs
 looks_quiet [] looks = tt
@@ -93,9 +85,11 @@ looks_quiet (Do w ∷ es) looks = (tt, looks_quiet es (and_parts _ _ looks).1)
 looks_quiet (Send to m ∷ es) looks = absurd (cc looks)
 looks_quiet (Say b ∷ es) looks = absurd (cc looks)
 
-taken_quiet : (n from : ℕ) (d : Disk) (t : Parts) (m : Message) → (v : Handled) → LooksAlone v → taken n d t from m ≡ v → Quiet (elim v [ Void outs ↦ outs | Took u outs ↦ outs ])
+taken_quiet : (n from : ℕ) (d : Disk) (t : Parts) (m : Message) → (v : Handled) → LooksAlone v → taken n d t from m ≡ v →
+    Quiet (elim v [ Void outs ↦ outs | Took u outs ↦ outs ])
 taken_quiet n from d t m (Void outs) looks is = looks_quiet outs looks
-taken_quiet n from d t m (Took u outs) looks is = message_fine NoCall no_call n d t u from m outs (taken_took n d t u from m outs is) (λ a r q s of found now its e ends l. end_quiet s.x s.goal e l) (λ a r q c of found now. marks_quiet q (commit.answered from c r).marks)
+taken_quiet n from d t m (Took u outs) looks is = message_fine NoCall no_call n d t u from m outs (taken_took n d t u from m outs is)
+    (λ a r q s of found now its e ends l. end_quiet s.x s.goal e l) (λ a r q c of found now. marks_quiet q (commit.answered from c r).marks)
 
 handled_quiet : (n : ℕ) (h : Here) (v : Handled) → Quiet (elim v [ Void outs ↦ outs | Took u outs ↦ outs ]) → Quiet (ran_handled n h v).outs
 handled_quiet n h (Void outs) q = ran_quiet n h.parts outs h.disk q
@@ -106,13 +100,16 @@ all_quiet n [] h = tt
 all_quiet n (m ∷ ms) h =
     let v = taken n h.disk h.parts n m in
     let r = ran_handled n h v in
-    all_append (SayOf NoCall) r.outs (handle_all n ms r.here).outs (handled_quiet n h v (taken_quiet n n h.disk h.parts m v (taken_looks n h.disk h.parts n m) refl)) (all_quiet n ms r.here)
+    all_append (SayOf NoCall) r.outs (handle_all n ms r.here).outs
+    (handled_quiet n h v (taken_quiet n n h.disk h.parts m v (taken_looks n h.disk h.parts n m) refl)) (all_quiet n ms r.here)
 
 rounds_calls : (may : Bool) (n k : ℕ) (r : Ran) → Calls may r.outs → Calls may (rounds n k r).outs
 rounds_calls may n zero r c = c
-rounds_calls may n (suc k) r c = by r.queue (rounds_calls may n k (next_round n r) (calls_behind may r.outs (handle_all n r.queue r.here).outs c (all_quiet n r.queue r.here)))
+rounds_calls may n (suc k) r c = by r.queue
+    (rounds_calls may n k (next_round n r) (calls_behind may r.outs (handle_all n r.queue r.here).outs c (all_quiet n r.queue r.here)))
   where
-    by : (q : List Message) → Calls may (rounds n k (next_round n r)).outs → Calls may (let z : Ran = elim q [ [] ↦ r | m ∷ ms ↦ rounds n k (next_round n r) ] in z.outs)
+    by : (q : List Message) → Calls may (rounds n k (next_round n r)).outs →
+        Calls may (let z : Ran = elim q [ [] ↦ r | m ∷ ms ↦ rounds n k (next_round n r) ] in z.outs)
     by [] more = c
     by (m ∷ ms) more = more
 
@@ -137,24 +134,30 @@ void_both may k n outs q = (inl (all_append (SayOf NoCall) outs (Say (body.Void 
 
 frame_both : (k from : ℕ) (n : Node) (t : Parts) (m : Option Message) → Both false (frame_step k from n t m)
 frame_both k from n t None = void_both false k n [] tt
-frame_both k from n t (Some m) = let v = taken n.number n.disk t from m in by v (taken_quiet n.number from n.disk t m v (taken_looks n.number n.disk t from m) refl)
+frame_both k from n t (Some m) = let v = taken n.number n.disk t from m in
+    by v (taken_quiet n.number from n.disk t m v (taken_looks n.number n.disk t from m) refl)
   where
     by : (v : Handled) → Quiet (elim v [ Void outs ↦ outs | Took u outs ↦ outs ]) → Both false (handled_step k n v)
     by (Void outs) q = void_both false k n outs q
-    by (Took u outs) q = let w : Calls false (Say (body.Got k) ∷ (whole n.number u outs n.disk).outs) = inl (refl, quiet_of _ (whole_calls false n.number u outs n.disk (inl q))) in (w, w)
+    by (Took u outs) q = let w : Calls false (Say (body.Got k) ∷ (whole n.number u outs n.disk).outs) = inl
+        (refl, quiet_of _ (whole_calls false n.number u outs n.disk (inl q))) in (w, w)
 
 acts_both : (n : Node) (t : Parts) (i : Input) → Both (is_commit i) (input.coord_did n t (acts i n.disk.intents t.coord))
 acts_both n t i = let a = acts i n.disk.intents t.coord in did_both (is_commit i) n (with_coord t a.part) a.outs (by i refl)
   where
-    called : (j : Input) → is_commit j ≡ true → (u : Uid) (es : List Effect) → Quiet es → Calls (is_commit j) (says_of u body.Committing t.coord ++ es)
+    called : (j : Input) → is_commit j ≡ true → (u : Uid) (es : List Effect) → Quiet es →
+        Calls (is_commit j) (says_of u body.Committing t.coord ++ es)
     called j is u es q = one (doing_of u t.coord)
       where
         one : (o : Option Doing) → Calls (is_commit j) (say_for body.Committing o ++ es)
         one None = inl q
         one (Some d) = inr (is, d.label, es, refl, q)
 
-    other : (j : Input) → ((l : Label) (q : Kind) (parent : Option Label) → j ≢ input.Begin l q parent) → Calls (is_commit j) (let a = acts j n.disk.intents t.coord in a.outs)
-    other j apart = acts_fine NoCall no_call (Calls (is_commit j)) (λ es q. inl q) t.coord j n.disk.intents apart (λ u d s found is e ends l. end_quiet s.x s.goal e l) (λ u d m found is. marks_quiet d (commit.given_up m).marks) (λ l same u es q. called j (ap is_commit same) u es q)
+    other : (j : Input) → ((l : Label) (q : Kind) (parent : Option Label) → j ≢ input.Begin l q parent) →
+        Calls (is_commit j) (let a = acts j n.disk.intents t.coord in a.outs)
+    other j apart =
+        acts_fine NoCall no_call (Calls (is_commit j)) (λ es q. inl q) t.coord j n.disk.intents apart (λ u d s found is e ends l. end_quiet
+        s.x s.goal e l) (λ u d m found is. marks_quiet d (commit.given_up m).marks) (λ l same u es q. called j (ap is_commit same) u es q)
 
     by : (j : Input) → i ≡ j → Calls (is_commit j) (let a = acts j n.disk.intents t.coord in a.outs)
     by (input.Begin l q parent) is = inl (refl, tt)
@@ -166,9 +169,11 @@ acts_both n t i = let a = acts i n.disk.intents t.coord in did_both (is_commit i
     by _ is = inl tt
 
 show_quiet : (n x : ℕ) (d : Disk) → Quiet (show_outs n x d)
-show_quiet n x d = all_append (SayOf NoCall) (show_entry n x d.names) (shown (copy_line n x) (object x) d.store (holder_of (object x) d.store)) (by (n == 1)) (looked (copy_line n x) (object x) d.store copy)
+show_quiet n x d = all_append (SayOf NoCall) (show_entry n x d.names)
+    (shown (copy_line n x) (object x) d.store (holder_of (object x) d.store)) (by (n == 1)) (looked (copy_line n x) (object x) d.store copy)
   where
-    looked : (line : Option ObjectState → List Effect) (u : Uid) (p : Pair) → ((s : Option ObjectState) → Quiet (line s)) → Quiet (shown line u p (holder_of u p))
+    looked : (line : Option ObjectState → List Effect) (u : Uid) (p : Pair) → ((s : Option ObjectState) → Quiet (line s)) →
+        Quiet (shown line u p (holder_of u p))
     looked line u p each = one (holder_of u p)
       where
         one : (o : Option Uid) → Quiet (shown line u p o)
@@ -189,7 +194,8 @@ show_quiet n x d = all_append (SayOf NoCall) (show_entry n x d.names) (shown (co
 
 up_both : (n : Node) (t : Parts) (i : Input) → Both (is_commit i) (step_up i n t)
 up_both n t (input.Frame k from m) = frame_both k from n t m
-up_both n t input.Tick = did_both false n (with_coord t (let a = again_all t.coord.doings t.coord in a.part)) (tick_outs n t) (inl (tick_fine NoCall no_call n t))
+up_both n t input.Tick = did_both false n (with_coord t (let a = again_all t.coord.doings t.coord in a.part)) (tick_outs n t)
+    (inl (tick_fine NoCall no_call n t))
 up_both n t input.Restart = (inl tt, inl tt)
 up_both n t input.Crash = (inl (refl, tt), inl (refl, tt))
 up_both n t (input.Show x) = (inl (show_quiet n.number x n.disk), inl (show_quiet n.number x n.disk))
@@ -202,7 +208,8 @@ up_both n t (input.GiveUp l) = acts_both n t (input.GiveUp l)
 
 down_both : (hd : Header) (n : Node) (i : Input) → Both (is_commit i) (step_down hd i n)
 down_both hd n (input.Frame k from m) = void_both false k n [] tt
-down_both hd n input.Restart = did_both false n (parts_in n.number (n.disk.inc + 1) n.disk) (restart_outs hd n.number (n.disk.inc + 1) n.disk) (inl (restart_fine NoCall no_call hd n.number (n.disk.inc + 1) n.disk))
+down_both hd n input.Restart = did_both false n (parts_in n.number (n.disk.inc + 1) n.disk)
+    (restart_outs hd n.number (n.disk.inc + 1) n.disk) (inl (restart_fine NoCall no_call hd n.number (n.disk.inc + 1) n.disk))
 down_both hd n i = (inl tt, inl tt)
 
 step_both : (hd : Header) (n : Node) (i : Input) → Both (is_commit i) (step hd n i)
@@ -227,7 +234,8 @@ cut_quiet k how (Send to m ∷ es) d q = (tt, cut_quiet k how es d q.1)
 
 cut_calls : (may : Bool) (k : ℕ) (how : Stop) (outs : List Effect) (d : Disk) → Calls may outs → Calls may (cut k how outs d).outs
 cut_calls may k how outs d (inl q) = inl (cut_quiet k how outs d q)
-cut_calls may k how outs d (inr (ok, l, rest, is, q)) = inr (ok, l, (cut k how rest d).outs, ap (λ z. (cut k how z d).outs) is, cut_quiet k how rest d q)
+cut_calls may k how outs d (inr (ok, l, rest, is, q)) =
+    inr (ok, l, (cut k how rest d).outs, ap (λ z. (cut k how z d).outs) is, cut_quiet k how rest d q)
 
 effects_call : (k : ℕ) (i : Input) (w : World) → Calls (is_commit i) (effects_of k i w)
 effects_call k i w = by (at_place k w.nodes)
@@ -245,13 +253,15 @@ effects_call k i w = by (at_place k w.nodes)
           where
             two : (b : Bool) → Calls (is_commit i) (cond b s.outs (halted_outs k (cut (a.works - 1) a.how s.halting n.disk)))
             two true = (step_both w.header n i).0
-            two false = calls_behind (is_commit i) (cut (a.works - 1) a.how s.halting n.disk).outs (Say (body.Halted k) ∷ []) (cut_calls (is_commit i) (a.works - 1) a.how s.halting n.disk (step_both w.header n i).1) (refl, tt)
+            two false = calls_behind (is_commit i) (cut (a.works - 1) a.how s.halting n.disk).outs (Say (body.Halted k) ∷ [])
+                (cut_calls (is_commit i) (a.works - 1) a.how s.halting n.disk (step_both w.header n i).1) (refl, tt)
 
 -- ---- lines
 
 -- no line calls a commit, or the first alone where it may
 abbrev CallsIn : Bool → List Body → Type 0
-CallsIn may bs = AllByRecursion NoCall bs ⊎ ((may ≡ true) × (l : Label) × (rest : List Body) × (bs ≡ body.Committing l ∷ rest) × AllByRecursion NoCall rest)
+CallsIn may bs = AllByRecursion NoCall bs
+    ⊎ ((may ≡ true) × (l : Label) × (rest : List Body) × (bs ≡ body.Committing l ∷ rest) × AllByRecursion NoCall rest)
 
 none_in : (bs : List Body) → CallsIn false bs → AllByRecursion NoCall bs
 none_in bs (inl q) = q
@@ -265,7 +275,8 @@ bodies_quiet : (n k : ℕ) (es : List Effect) → Quiet es → AllByRecursion No
 bodies_quiet n k [] q = tt
 bodies_quiet n k (Say b ∷ es) q = (q.0, bodies_quiet n k es q.1)
 bodies_quiet n k (Do w ∷ es) q = bodies_quiet n k es q.1
-bodies_quiet n k (Send to m ∷ es) q = all_append NoCall (sent_line (k + 1) n to (frame_kind m)) (bodies n (k + 1) es) (by (nat_le (k + 1) most_frames)) (bodies_quiet n (k + 1) es q.1)
+bodies_quiet n k (Send to m ∷ es) q = all_append NoCall (sent_line (k + 1) n to (frame_kind m)) (bodies n (k + 1) es)
+    (by (nat_le (k + 1) most_frames)) (bodies_quiet n (k + 1) es q.1)
   where
     by : (b : Bool) → AllByRecursion NoCall (cond b (body.Sent (k + 1) n to (frame_kind m) ∷ []) [])
     by true = (refl, tt)
@@ -293,7 +304,8 @@ numbered_on e bs more = map-append (λ (b : Body). record { event = e; body = b 
 adds_behind : (may : Bool) (u v w : World) → Adds may u v → Adds false v w → Adds may u w
 adds_behind may u v w a b = record {
   said = a.said ++ b.said;
-  lines = b.lines ∙ (λ i. a.lines i ++ numbered (a.event i) b.said) ∙ append_assoc u.lines (numbered u.event a.said) (numbered u.event b.said) ∙ ap (λ z. u.lines ++ z) (sym (numbered_on u.event a.said b.said));
+  lines = b.lines ∙ (λ i. a.lines i ++ numbered (a.event i) b.said) ∙ append_assoc u.lines (numbered u.event a.said)
+      (numbered u.event b.said) ∙ ap (λ z. u.lines ++ z) (sym (numbered_on u.event a.said b.said));
   event = b.event ∙ a.event;
   calls = in_behind may a.said b.said a.calls (none_in b.said b.calls);
 }
@@ -319,7 +331,8 @@ steps_event k i w = by (at_place k w.nodes)
         one None = refl
         one (Some a) = two (nat_lt (count_works s.halting) a.works)
           where
-            two : (b : Bool) → (cond b (done_step k s (armed k (record a { works = a.works - count_works s.halting }) w)) (halted_at k n (cut (a.works - 1) a.how s.halting n.disk) (disarmed k w))).event ≡ w.event
+            two : (b : Bool) → (cond b (done_step k s (armed k (record a { works = a.works - count_works s.halting }) w))
+                (halted_at k n (cut (a.works - 1) a.how s.halting n.disk) (disarmed k w))).event ≡ w.event
             two true = refl
             two false = refl
 
@@ -335,7 +348,8 @@ delivered_adds : (k : ℕ) (w : World) (o : Option Frame) → Adds false w (deli
 delivered_adds k w None = nothing_adds false w w refl refl
 delivered_adds k w (Some f) =
     let v = change_frame k as_delivered f w in
-    adds_behind false w v (deliver_frame k w (Some f)) (nothing_adds false w v refl refl) (steps_add f.to (input.Frame k f.from f.message) v)
+    adds_behind false w v (deliver_frame k w (Some f)) (nothing_adds false w v refl refl)
+    (steps_add f.to (input.Frame k f.from f.message) v)
 
 lost_adds : (k : ℕ) (w : World) (o : Option Frame) → Adds false w (lose_frame k w o)
 lost_adds k w None = nothing_adds false w w refl refl
@@ -345,31 +359,38 @@ settled_adds : (fuel : ℕ) (w : World) → Adds false w (settle_for fuel w)
 settled_adds zero w = nothing_adds false w w refl refl
 settled_adds (suc fuel) w = by (lowest w) (settled_adds fuel)
   where
-    by : (o : Option ℕ) → ((v : World) → Adds false v (settle_for fuel v)) → Adds false w (elim o [ None ↦ w | Some k ↦ settle_for fuel (deliver k w) ])
+    by : (o : Option ℕ) → ((v : World) → Adds false v (settle_for fuel v)) →
+        Adds false w (elim o [ None ↦ w | Some k ↦ settle_for fuel (deliver k w) ])
     by None rest = nothing_adds false w w refl refl
-    by (Some k) rest = adds_behind false w (deliver k w) (settle_for fuel (deliver k w)) (delivered_adds k w (at_place k w.frames)) (rest (deliver k w))
+    by (Some k) rest =
+        adds_behind false w (deliver k w) (settle_for fuel (deliver k w)) (delivered_adds k w (at_place k w.frames)) (rest (deliver k w))
 
 settle_adds : (w : World) → Adds false w (settle w)
 settle_adds w = settled_adds most_frames w
 
 ticks_add : (ns : List ℕ) (w : World) → Adds false w (tick_all ns w)
 ticks_add [] w = nothing_adds false w w refl refl
-ticks_add (n ∷ ns) w = adds_behind false w (tick_up n w) (tick_all ns (tick_up n w)) (either_adds false (w.full || not (is_up_at n w)) w w (steps n input.Tick w) (nothing_adds false w w refl refl) (steps_add n input.Tick w)) (ticks_add ns (tick_up n w))
+ticks_add (n ∷ ns) w = adds_behind false w (tick_up n w) (tick_all ns (tick_up n w)) (either_adds false (w.full || not (is_up_at n w)) w w
+    (steps n input.Tick w) (nothing_adds false w w refl refl) (steps_add n input.Tick w)) (ticks_add ns (tick_up n w))
 
 quiesce_adds : (w : World) → Adds false w (quiesce w)
 quiesce_adds w =
     let a = settle w in
     let b = tick_all (node_numbers w) a in
     let c = settle b in
-    adds_behind false w c (quiesce w) (adds_behind false w b c (adds_behind false w a b (settle_adds w) (ticks_add (node_numbers w) a)) (settle_adds b))
-    (either_adds false c.full c c (says (body.Quiet (is_quiet c) ∷ []) c) (nothing_adds false c c refl refl) (says_adds (body.Quiet (is_quiet c) ∷ []) c c (refl, tt) refl refl))
+    adds_behind false w c (quiesce w)
+    (adds_behind false w b c (adds_behind false w a b (settle_adds w) (ticks_add (node_numbers w) a)) (settle_adds b))
+    (either_adds false c.full c c (says (body.Quiet (is_quiet c) ∷ []) c) (nothing_adds false c c refl refl)
+    (says_adds (body.Quiet (is_quiet c) ∷ []) c c (refl, tt) refl refl))
 
 shows_add : (x : ℕ) (ns : List ℕ) (w : World) → Adds false w (show_all x ns w)
 shows_add x [] w = nothing_adds false w w refl refl
-shows_add x (n ∷ ns) w = adds_behind false w (show_up x n w) (show_all x ns (show_up x n w)) (either_adds false (is_up_at n w) w (steps n (input.Show x) w) w (steps_add n (input.Show x) w) (nothing_adds false w w refl refl)) (shows_add x ns (show_up x n w))
+shows_add x (n ∷ ns) w = adds_behind false w (show_up x n w) (show_all x ns (show_up x n w)) (either_adds false (is_up_at n w) w
+    (steps n (input.Show x) w) w (steps_add n (input.Show x) w) (nothing_adds false w w refl refl)) (shows_add x ns (show_up x n w))
 
 junk_adds : (n : ℕ) (w : World) (b : Bool) → Adds false w (junk_fits n w b)
-junk_adds n w true = says_adds (body.Sent (length w.frames + 1) 0 n frame.Junk ∷ []) w (record w { frames = w.frames ++ new_frame 0 n None ∷ [] }) (refl, tt) refl refl
+junk_adds n w true = says_adds (body.Sent (length w.frames + 1) 0 n frame.Junk ∷ []) w
+    (record w { frames = w.frames ++ new_frame 0 n None ∷ [] }) (refl, tt) refl refl
 junk_adds n w false = nothing_adds false w (junk_fits n w false) refl refl
 
 begins_add : (w : World) (o : Option Giving) (e : Event) → Adds false w (begins_any e w o)
@@ -410,21 +431,25 @@ happens_adds (event.Junk n bytes) a w = junk_adds n w (nat_lt (length w.frames) 
 happens_adds (event.Show x) a w = shows_add x (node_numbers w) w
 
 limited_adds : (may : Bool) (w v : World) → Adds may w v → Adds may w (limited v)
-limited_adds may w v a = either_adds may v.full w (says (body.Limit which.Frames ∷ []) (record v { over = true })) v (adds_behind may w v (says (body.Limit which.Frames ∷ []) (record v { over = true })) a (says_adds (body.Limit which.Frames ∷ []) v (record v { over = true }) (refl, tt) refl refl)) a
+limited_adds may w v a = either_adds may v.full w (says (body.Limit which.Frames ∷ []) (record v { over = true })) v
+    (adds_behind may w v (says (body.Limit which.Frames ∷ []) (record v { over = true })) a
+    (says_adds (body.Limit which.Frames ∷ []) v (record v { over = true }) (refl, tt) refl refl)) a
 
 -- ---- runs
 
 -- Lines are of events up to the last one, and no line of its event stands before a commit call.
 record AreFirst (w : World) : Type 0 where
   past : AllByRecursion (λ (k : Line). k.event ≤ w.event) w.lines
-  calls : (before : List Line) (line : Line) (behind : List Line) (l : Label) → w.lines ≡ before ++ line ∷ behind → line.body ≡ body.Committing l → AllByRecursion (λ (k : Line). k.event < line.event) before
+  calls : (before : List Line) (line : Line) (behind : List Line) (l : Label) → w.lines ≡ before ++ line ∷ behind →
+      line.body ≡ body.Committing l → AllByRecursion (λ (k : Line). k.event < line.event) before
 
 -- where a list of two parts is split: in the first part, or behind it
 data SplitsIn (xs ys before : List Line) (line : Line) (behind : List Line) : Type 0 where
   InFirst : (more : List Line) → xs ≡ before ++ line ∷ more → SplitsIn xs ys before line behind
   InSecond : (more : List Line) → before ≡ xs ++ more → ys ≡ more ++ line ∷ behind → SplitsIn xs ys before line behind
 
-splits_in : (xs ys before : List Line) (line : Line) (behind : List Line) → xs ++ ys ≡ before ++ line ∷ behind → SplitsIn xs ys before line behind
+splits_in : (xs ys before : List Line) (line : Line) (behind : List Line) → xs ++ ys ≡ before ++ line ∷ behind →
+    SplitsIn xs ys before line behind
 splits_in [] ys before line behind is = InSecond before refl is
 splits_in (x ∷ xs) ys [] line behind is = let same : x ≡ line = cc is in InFirst xs (λ i. same i ∷ xs)
 splits_in (x ∷ xs) ys (b ∷ before) line behind is =
@@ -441,11 +466,14 @@ record IsAmong (e : ℕ) (bs : List Body) (line : Line) : Type 0 where
   number : line.event ≡ e
   quiet : AllByRecursion NoCall bs → NoCall line.body
 
-among : (e : ℕ) (bs : List Body) (more : List Line) (line : Line) (behind : List Line) → numbered e bs ≡ more ++ line ∷ behind → IsAmong e bs line
+among : (e : ℕ) (bs : List Body) (more : List Line) (line : Line) (behind : List Line) → numbered e bs ≡ more ++ line ∷ behind →
+    IsAmong e bs line
 among e [] [] line behind is = absurd (cc is)
 among e [] (m ∷ more) line behind is = absurd (cc is)
-among e (b ∷ bs) [] line behind is = let same : record { event = e; body = b } ≡ line = cc is in record { number = ap (λ (k : Line). k.event) (sym same); quiet = λ q. subst (λ (k : Line). NoCall k.body) same q.0 }
-among e (b ∷ bs) (m ∷ more) line behind is = let r = among e bs more line behind (cc is) in record { number = r.number; quiet = λ q. r.quiet q.1 }
+among e (b ∷ bs) [] line behind is = let same : record { event = e; body = b } ≡ line = cc is in
+    record { number = ap (λ (k : Line). k.event) (sym same); quiet = λ q. subst (λ (k : Line). NoCall k.body) same q.0 }
+among e (b ∷ bs) (m ∷ more) line behind is = let r = among e bs more line behind (cc is) in
+    record { number = r.number; quiet = λ q. r.quiet q.1 }
 
 all_numbered : (e m : ℕ) (bs : List Body) → e ≤ m → AllByRecursion (λ (k : Line). k.event ≤ m) (numbered e bs)
 all_numbered e m [] le = tt
@@ -458,15 +486,20 @@ all_to P Q (k ∷ ls) f all = (f k all.0, all_to P Q ls f all.1)
 is_less : (a b : ℕ) → nat_lt a b ≡ true → a < b
 is_less a b is = grind (arith, nat_tests, is)
 
-module _ (w v : World) (first : AreFirst w) (said : List Body) (e : ℕ) (lines : v.lines ≡ w.lines ++ numbered e said) (same : v.event ≡ e) (later : w.event ≤ e) where
+module _ (w v : World) (first : AreFirst w) (said : List Body) (e : ℕ) (lines : v.lines ≡ w.lines ++ numbered e said) (same : v.event ≡ e)
+    (later : w.event ≤ e) where
   goes_on : CallsIn (nat_lt w.event e) said → AreFirst v
   goes_on calls = record {
     past = subst (λ ls. AllByRecursion (λ (k : Line). k.event ≤ v.event) ls) (sym lines)
-        (all_append (λ (k : Line). k.event ≤ v.event) w.lines (numbered e said) (all_to (λ (k : Line). k.event ≤ w.event) (λ (k : Line). k.event ≤ v.event) w.lines (λ k le. omega (arith, le, later, same)) first.past) (all_numbered e v.event said (omega (arith, same))));
-    calls = λ before line behind l is called. by before line behind l called (splits_in w.lines (numbered e said) before line behind (sym lines ∙ is));
+        (all_append (λ (k : Line). k.event ≤ v.event) w.lines (numbered e said) (all_to (λ (k : Line). k.event ≤ w.event)
+        (λ (k : Line). k.event ≤ v.event) w.lines (λ k le. omega (arith, le, later, same)) first.past)
+        (all_numbered e v.event said (omega (arith, same))));
+    calls = λ before line behind l is called.
+        by before line behind l called (splits_in w.lines (numbered e said) before line behind (sym lines ∙ is));
   }
     where
-      by : (before : List Line) (line : Line) (behind : List Line) (l : Label) → line.body ≡ body.Committing l → SplitsIn w.lines (numbered e said) before line behind → AllByRecursion (λ (k : Line). k.event < line.event) before
+      by : (before : List Line) (line : Line) (behind : List Line) (l : Label) → line.body ≡ body.Committing l →
+          SplitsIn w.lines (numbered e said) before line behind → AllByRecursion (λ (k : Line). k.event < line.event) before
       by before line behind l called (InFirst more is) = first.calls before line more l is called
       by before line behind l called (InSecond more at is) = one calls
         where
@@ -480,10 +513,13 @@ module _ (w v : World) (first : AreFirst w) (said : List Body) (e : ℕ) (lines 
           one (inl q) = never_quiet (it.quiet q)
           one (inr (ok, m, rest, are, q)) = two more at is
             where
-              two : (more : List Line) → before ≡ w.lines ++ more → numbered e said ≡ more ++ line ∷ behind → AllByRecursion (λ (k : Line). k.event < line.event) before
+              two : (more : List Line) → before ≡ w.lines ++ more → numbered e said ≡ more ++ line ∷ behind →
+                  AllByRecursion (λ (k : Line). k.event < line.event) before
               two [] at is = subst (λ ls. AllByRecursion (λ (k : Line). k.event < line.event) ls) (sym (at ∙ append-nil w.lines))
-                  (all_to (λ (k : Line). k.event ≤ w.event) (λ (k : Line). k.event < line.event) w.lines (λ k le. let n = it.number in let less = is_less w.event e ok in omega (arith, le, n, less)) first.past)
-              two (z ∷ more) at is = let tail : numbered e rest ≡ more ++ line ∷ behind = cc (ap (numbered e) (sym are) ∙ is) in never_quiet ((among e rest more line behind tail).quiet q)
+                  (all_to (λ (k : Line). k.event ≤ w.event) (λ (k : Line). k.event < line.event) w.lines (λ k le. let n = it.number in
+                  let less = is_less w.event e ok in omega (arith, le, n, less)) first.past)
+              two (z ∷ more) at is = let tail : numbered e rest ≡ more ++ line ∷ behind = cc (ap (numbered e) (sym are) ∙ is) in
+                  never_quiet ((among e rest more line behind tail).quiet q)
 
 event_first : (e : Asked) (w : World) → AreFirst w → AreFirst (run_event e w)
 event_first e w first = by w.over
@@ -496,14 +532,17 @@ event_first e w first = by w.over
     by false = one (first_reason (reasons e.event w))
       where
         one : (r : Option ℕ) → AreFirst (run_unless e.event e.arm w r)
-        one (Some c) = goes_on w (says (body.Refused c ∷ []) (counted w)) first (body.Refused c ∷ []) (w.event + 1) refl refl (omega arith) (inl (refl, tt))
+        one (Some c) = goes_on w (says (body.Refused c ∷ []) (counted w)) first (body.Refused c ∷ []) (w.event + 1) refl refl (omega arith)
+            (inl (refl, tt))
         one None = two (lacks_labels (giving e.event w) w)
           where
             two : (b : Bool) → AreFirst (cond b (no_labels w) (limited (happens e.event e.arm (counted w))))
             two true = goes_on w (no_labels w) first (body.Limit which.Labels ∷ []) w.event refl refl (omega arith) (inl (refl, tt))
             two false =
-                let a = limited_adds (is_commit_event e.event) (counted w) (happens e.event e.arm (counted w)) (happens_adds e.event e.arm (counted w)) in
-                goes_on w (limited (happens e.event e.arm (counted w))) first a.said (w.event + 1) a.lines a.event (omega arith) (may a.said a.calls)
+                let a = limited_adds (is_commit_event e.event) (counted w) (happens e.event e.arm (counted w))
+                (happens_adds e.event e.arm (counted w)) in
+                goes_on w (limited (happens e.event e.arm (counted w))) first a.said (w.event + 1) a.lines a.event (omega arith)
+                (may a.said a.calls)
               where
                 may : (bs : List Body) → CallsIn (is_commit_event e.event) bs → CallsIn (nat_lt w.event (w.event + 1)) bs
                 may bs (inl q) = inl q
@@ -515,16 +554,20 @@ with_arms arms w first = record { past = first.past; calls = first.calls }
 
 moves_first : (ms : List Move) (w : World) → AreFirst w → AreFirst (all_moved ms w)
 moves_first [] w first = first
-moves_first (m ∷ ms) w first = moves_first ms (moved m w) (with_arms [] (run_event m.asked (record w { arms = m.falls })) (event_first m.asked (record w { arms = m.falls }) (with_arms m.falls w first)))
+moves_first (m ∷ ms) w first = moves_first ms (moved m w) (with_arms [] (run_event m.asked (record w { arms = m.falls }))
+    (event_first m.asked (record w { arms = m.falls }) (with_arms m.falls w first)))
 
 pub commits_begin : RunsBeginWithCalls
 commits_begin hd ms before line behind l is called =
     let first = moves_first ms (format hd) (record { past = tt; calls = λ before line behind l is called. by before line behind is }) in
     let w = world_by hd ms in
-    let le : line.event ≤ w.event = at before line behind (λ (k : Line). k.event ≤ w.event) (subst (λ ls. AllByRecursion (λ (k : Line). k.event ≤ w.event) ls) is first.past) in
-    all_to (λ (k : Line). k.event < line.event) (λ (k : Line). k.event < w.event) before (λ k less. omega (arith, less, le)) (first.calls before line behind l is called)
+    let le : line.event ≤ w.event = at before line behind (λ (k : Line). k.event ≤ w.event)
+    (subst (λ ls. AllByRecursion (λ (k : Line). k.event ≤ w.event) ls) is first.past) in
+    all_to (λ (k : Line). k.event < line.event) (λ (k : Line). k.event < w.event) before (λ k less. omega (arith, less, le))
+    (first.calls before line behind l is called)
   where
-    by : (before : List Line) (line : Line) (behind : List Line) → [] ≡ before ++ line ∷ behind → AllByRecursion (λ (k : Line). k.event < line.event) before
+    by : (before : List Line) (line : Line) (behind : List Line) → [] ≡ before ++ line ∷ behind →
+        AllByRecursion (λ (k : Line). k.event < line.event) before
     by [] line behind is = absurd (cc is)
     by (b ∷ before) line behind is = absurd (cc is)
 

@@ -1,76 +1,58 @@
 -- Disks exclude stores in time where their pairs do.
-use Rattle.std.proofs.Common.{◌≡◌, ◌∙◌, ℕ, Bool, true, false, cond, List, [], ◌∷◌, Option, Some, None, refl, sym, ap, subst, inl, inr}
-use Rattle.std.specs.Prelude.{IsSomeAnd, option_map}
-use Rattle.std.specs.List.{AllByRecursion}
-use Rattle.arj_law_runs.specs.addresses.Addresses.{AreAddressed, AreSo, DiskOf, IsEntry, IsNode, StateOf}
-use Rattle.arj_law_runs.proofs.addresses.Lists.{all_at_uid}
-use Rattle.arj_law_runs.proofs.addresses.Runs.{kept}
-use Rattle.arj_law_parts.proofs.moves.Happens.{all_to}
-use Rattle.arj_protocol.specs.Values.{state_entry}
-use Rattle.arj_law_serial.proofs.joint.Listing.{in_among}
+use Rattle.arj_law_parts.proofs.Words
+use Words.{◌≡◌, ◌∙◌, ℕ, Bool, true, false, cond, List, [], ◌∷◌, Option, Some, None, refl, sym, ap, subst, inl, inr, option_map}
+use Words.{AllByRecursion, state_entry, uid_is, uid_same, state_bytes, entry, object, uid_eq, ObjectState, Uid, In, in_from, Disk, Pair}
+use Words.{held_at, at_uid, Node, Header, World, world_by, Post, see, uid_of, DiskIsInTime, DisksAreInTime, HasPrepared, DisksAre, pair_in}
+use Rattle.arj_law_serial.proofs.Terms
+use Terms.{IsEntry, all_at_uid, Role, Among, HeaderInForm, Disks, Reading, first_values, is_among, last_state, IsPairOf, IsReached, Keeping}
+use Terms.{AreExcludedInTime, CommitsBeginIt, IsInTime, IsOnly, OpsFit, committed_calls}
+use Terms.role
 use Rattle.arj_base.proofs.Packed.{state_once}
-use Rattle.arj_base.proofs.Uids.{uid_is, uid_same}
-use Rattle.arj_base.specs.State.{StateInForm, state_bytes}
-use Rattle.arj_base.specs.Uid.{entry, object, uid_eq}
-use Rattle.arj_base.specs.declared.state.ObjectState.{ObjectState}
-use Rattle.arj_base.specs.declared.uid.Uid.{Uid}
+use Rattle.arj_base.specs.State.{StateInForm}
 use Rattle.arj_disk.specs.Says.{new_of}
-use Rattle.arj_disk.specs.declared.slot.Role.{Role}
-use Rattle.arj_disk.specs.declared.slot.Role.TheVariants as role
-use Rattle.arj_law_disk_view.specs.view.Pairs.{Among}
-use Rattle.arj_journal.specs.ScriptForm.{HeaderInForm}
-use Rattle.arj_lock.proofs.Members.{In, in_from}
-use Rattle.arj_model.specs.Disks.{Disks, Reading}
-use Rattle.arj_model.specs.Last.{first_values, is_among, last_state}
-use Rattle.arj_protocol.specs.Effect.{Disk, Pair, held_at}
-use Rattle.arj_protocol.specs.Order.{at_uid}
-use Rattle.arj_protocol.specs.Step.{Node}
-use Rattle.arj_protocol.specs.Words.{Header}
-use Rattle.arj_protocol.specs.World.{World}
-use Rattle.arj_store.specs.Pair.{packed}
-use Rattle.arj_law_store.specs.store.Files.{IsPairOf}
+use Rattle.arj_law_parts.proofs.moves.Happens.{all_to}
 use Rattle.arj_law_parts.specs.moves.Keeps.{Stands}
-use Rattle.arj_promise.specs.Runs.{world_by}
-use Rattle.arj_promise.specs.Runs.{Post, see}
-use Rattle.arj_law_runs.specs.calls.Reached.{IsReached, Keeping}
-use Rattle.arj_law_serial.specs.joint.Excluded.{AreExcludedInTime, CommitsBeginIt, IsInTime, IsOnly}
-use Rattle.arj_promise.specs.Excluded.{uid_of}
-use Rattle.arj_law_serial.specs.joint.DisksInTime.{RunsExcludeInTimeOnDisks}
-use Rattle.arj_promise.specs.Excluded.{DiskIsInTime, DisksAreInTime, HasPrepared}
-use Rattle.arj_law_serial.specs.joint.Fit.{OpsFit}
-use Rattle.arj_promise.specs.Disks.{DisksAre, pair_in}
+use Rattle.arj_law_runs.proofs.addresses.Runs.{kept}
+use Rattle.arj_law_runs.specs.addresses.Addresses.{AreAddressed, AreSo, DiskOf, IsNode, StateOf}
+use Rattle.arj_law_serial.proofs.joint
+use joint.{Clean.object_some, CommitCalls.commits_begin, Excluding.all_among, Excluding.was_called, FitRuns.runs_in_form, Listing.in_among}
+use joint.{RunsInTime.reached_in_time, Showing.first_place, Showing.node_there}
 use Rattle.arj_law_serial.proofs.whole.WholeRuns.{kept_call_objects}
-use Rattle.arj_model.specs.Calls.{committed_calls}
-use Rattle.arj_law_serial.proofs.joint.Clean.{object_some}
-use Rattle.arj_law_serial.proofs.joint.CommitCalls.{commits_begin}
-use Rattle.arj_law_serial.proofs.joint.Excluding.{all_among, was_called}
-use Rattle.arj_law_serial.proofs.joint.FitRuns.{runs_in_form}
-use Rattle.arj_law_serial.proofs.joint.RunsInTime.{reached_in_time}
-use Rattle.arj_law_serial.proofs.joint.Showing.{first_place, node_there}
+use Rattle.arj_law_serial.specs.joint.DisksInTime.{RunsExcludeInTimeOnDisks}
+use Rattle.arj_store.specs.Pair.{packed}
+use Rattle.std.specs.Prelude.{IsSomeAnd}
 
 -- ---- what is prepared
 
 -- the one state of its object among some is found there, as it is packed
-found_so : (st : ObjectState) (states : List ObjectState) → Among st states → ((z : ObjectState) → Among z states → z.uid ≡ st.uid → z ≡ st) → new_of (packed states) st.uid ≡ Some (state_bytes st)
+found_so : (st : ObjectState) (states : List ObjectState) → Among st states →
+    ((z : ObjectState) → Among z states → z.uid ≡ st.uid → z ≡ st) → new_of (packed states) st.uid ≡ Some (state_bytes st)
 found_so st [] i only = absurd i
 found_so st (z ∷ states) i only = by (uid_eq st.uid z.uid) refl i (λ k. found_so st states k (λ y at is. only y (inr at) is))
   where
-    by : (b : Bool) → uid_eq st.uid z.uid ≡ b → Among st (z ∷ states) → (Among st states → new_of (packed states) st.uid ≡ Some (state_bytes st)) → cond b (Some (state_bytes z)) (new_of (packed states) st.uid) ≡ Some (state_bytes st)
+    by : (b : Bool) → uid_eq st.uid z.uid ≡ b → Among st (z ∷ states) → (Among st states → new_of (packed states) st.uid
+        ≡ Some (state_bytes st)) → cond b (Some (state_bytes z)) (new_of (packed states) st.uid) ≡ Some (state_bytes st)
     by true e j rest = ap (λ (y : ObjectState). Some (state_bytes y)) (only z (inl refl) (sym (uid_is st.uid z.uid e)))
-    by false e (inl here) rest = let no_way : true ≡ false = sym (uid_same st.uid) ∙ ap (λ (y : ObjectState). uid_eq st.uid y.uid) (sym here) ∙ e in absurd (cc no_way)
+    by false e (inl here) rest = let no_way : true ≡ false = sym (uid_same st.uid)
+        ∙ ap (λ (y : ObjectState). uid_eq st.uid y.uid) (sym here) ∙ e in absurd (cc no_way)
     by false e (inr k) rest = rest k
 
 module _ (read : Reading) (r : Role) (d : Pair) (are : IsPairOf (pair_in read r) d) where
   -- what the pair has prepared its disk says
-  has_prepared : (a : Uid) (states : List ObjectState) → at_uid a d.pend ≡ Some states → (st : ObjectState) → IsOnly st.uid states st → HasPrepared read r a st
+  has_prepared : (a : Uid) (states : List ObjectState) → at_uid a d.pend ≡ Some states → (st : ObjectState) → IsOnly st.uid states st →
+      HasPrepared read r a st
   has_prepared a states is st only =
-      subst (λ o. IsSomeAnd o (λ found. new_of found st.uid ≡ Some (state_bytes st))) (sym (are.pend a ∙ ap (option_map packed) is)) (found_so st states only.0.0 (λ z at same. only.1 z (at, same)))
+      subst (λ o. IsSomeAnd o (λ found. new_of found st.uid ≡ Some (state_bytes st))) (sym (are.pend a ∙ ap (option_map packed) is))
+      (found_so st states only.0.0 (λ z at same. only.1 z (at, same)))
 
-  prepared_form : (a : Uid) (states : List ObjectState) → at_uid a d.pend ≡ Some states → (st : ObjectState) → Among st states → StateInForm st
-  prepared_form a states is st i = let f = are.in_form in all_among StateInForm states st (all_at_uid (AllByRecursion StateInForm) a states d.pend f.pend is) i
+  prepared_form : (a : Uid) (states : List ObjectState) → at_uid a d.pend ≡ Some states → (st : ObjectState) → Among st states →
+      StateInForm st
+  prepared_form a states is st i = let f = are.in_form in
+      all_among StateInForm states st (all_at_uid (AllByRecursion StateInForm) a states d.pend f.pend is) i
 
   -- what is held by the reading the pair holds
-  held_same : (u : Uid) (st : ObjectState) → StateInForm st → (let p = pair_in read r in p.held u) ≡ Some (state_bytes st) → held_at u d ≡ Some st
+  held_same : (u : Uid) (st : ObjectState) → StateInForm st → (let p = pair_in read r in p.held u) ≡ Some (state_bytes st) →
+      held_at u d ≡ Some st
   held_same u st form is = by (held_at u d) refl (sym (are.held u) ∙ is)
     where
       by : (o : Option ObjectState) → held_at u d ≡ o → option_map state_bytes o ≡ Some (state_bytes st) → o ≡ Some st
@@ -88,41 +70,54 @@ each_in P (n ∷ ns) all s (inl same) = subst P same all.0
 each_in P (n ∷ ns) all s (inr i) = each_in P ns all.1 s i
 
 -- what naming's disk lists are nodes of the header
-listed_node : (hd : Header) (d : Disk) → DiskOf (IsNode hd) d → (u : Uid) (st : ObjectState) → held_at u d.names ≡ Some st → (s : ℕ) → is_among (let e = state_entry st in e.stores) s ≡ true → IsNode hd s
+listed_node : (hd : Header) (d : Disk) → DiskOf (IsNode hd) d → (u : Uid) (st : ObjectState) → held_at u d.names ≡ Some st → (s : ℕ) →
+    is_among (let e = state_entry st in e.stores) s ≡ true → IsNode hd s
 listed_node hd d of u st is s among =
-    let states = all_to (λ (e : Uid × ObjectState). IsEntry e.0 × StateOf (IsNode hd) e.1) (λ (e : Uid × ObjectState). StateOf (IsNode hd) e.1) d.names.held (λ e a. a.1) of.held in
+    let states = all_to (λ (e : Uid × ObjectState). IsEntry e.0 × StateOf (IsNode hd) e.1)
+    (λ (e : Uid × ObjectState). StateOf (IsNode hd) e.1) d.names.held (λ e a. a.1) of.held in
     let its : StateOf (IsNode hd) st = all_at_uid (StateOf (IsNode hd)) u st d.names.held states is in
-    each_in (IsNode hd) (let e = state_entry st in e.stores) (let e = its.1 in e.stores) s (in_among (let e = state_entry st in e.stores) s among)
+    each_in (IsNode hd) (let e = state_entry st in e.stores) (let e = its.1 in
+    e.stores) s (in_among (let e = state_entry st in e.stores) s among)
 
-module _ (hd : Header) (form : HeaderInForm hd) (w : World) (keeping : Keeping hd w) (sent : List Post) (stands : Stands hd sent w) (named : AreSo (IsNode hd) (see sent w)) (disks : Disks) (are : DisksAre (see [] w) disks) (excluded : AreExcludedInTime hd w.event (see [] w)) where
+module _ (hd : Header) (form : HeaderInForm hd) (w : World) (keeping : Keeping hd w) (sent : List Post) (stands : Stands hd sent w)
+    (named : AreSo (IsNode hd) (see sent w)) (disks : Disks) (are : DisksAre (see [] w) disks)
+    (excluded : AreExcludedInTime hd w.event (see [] w)) where
   disks_so : DisksAreInTime hd w.event w.lines disks
   disks_so t x s new wrote l =
       let c = wrote in
-      let there = object_some hd x (kept_call_objects hd w keeping x (was_called (first_values hd) w.lines x c.0 (in_from c.0 (committed_calls w.lines) c.1) c.2)) in
+      let there = object_some hd x
+      (kept_call_objects hd w keeping x (was_called (first_values hd) w.lines x c.0 (in_from c.0 (committed_calls w.lines) c.1) c.2)) in
       let n = node_there hd sent w stands 1 (first_place hd.nodes (let f = form.nodes in f.0)) in
       let names = (let a = are 1 n.0 n.1 in a.names) in
       let holds = held_same (disks 1) role.Names (let k = n.0 in let d = k.disk in d.names) names (entry x) l.state l.form l.holds in
-      let m = node_there hd sent w stands s (listed_node hd (let k = n.0 in k.disk) (named.0 1 n.0 n.1).1 (entry x) l.state holds s l.has) in
+      let m = node_there hd sent w stands s
+      (listed_node hd (let k = n.0 in k.disk) (named.0 1 n.0 n.1).1 (entry x) l.state holds s l.has) in
       by n.0 m.0 names (let a = are s m.0 m.1 in a.store) (excluded t x s n.0 m.0 l.state there new wrote n.1 m.1 holds l.has)
     where
-      by : (n m : Node) → IsPairOf (pair_in (disks 1) role.Names) (let d = n.disk in d.names) → IsPairOf (pair_in (disks s) role.Store) (let d = m.disk in d.store) → IsInTime hd w.lines x n m t s → DiskIsInTime hd w.lines x disks t s
+      by : (n m : Node) → IsPairOf (pair_in (disks 1) role.Names) (let d = n.disk in d.names) → IsPairOf (pair_in (disks s) role.Store)
+          (let d = m.disk in d.store) → IsInTime hd w.lines x n m t s → DiskIsInTime hd w.lines x disks t s
       by n m names store (inl holds) = inl (store.held (object x) ∙ ap (option_map state_bytes) holds)
-      by n m names store (inr (inl (states, at, of))) = inr (inl (has_prepared (disks s) role.Store (let d = m.disk in d.store) store (uid_of w.lines t) states at (last_state hd w.lines x) of))
+      by n m names store (inr (inl (states, at, of))) = inr (inl
+          (has_prepared (disks s) role.Store (let d = m.disk in d.store) store (uid_of w.lines t) states at (last_state hd w.lines x) of))
       by n m names store (inr (inr out)) = inr (inr (record {
         by_top = out.by_top;
         committed = out.committed;
         unit = out.unit;
         new = out.new;
-        form = prepared_form (disks 1) role.Names (let d = n.disk in d.names) names (uid_of w.lines out.by_top) out.states out.prepared out.new out.there.0.0;
+        form = prepared_form (disks 1) role.Names (let d = n.disk in
+            d.names) names (uid_of w.lines out.by_top) out.states out.prepared out.new out.there.0.0;
         of = out.there.0.1;
-        prepared = has_prepared (disks 1) role.Names (let d = n.disk in d.names) names (uid_of w.lines out.by_top) out.states out.prepared out.new (subst (λ u. IsOnly u out.states out.new) (sym out.there.0.1) out.there);
+        prepared = has_prepared (disks 1) role.Names (let d = n.disk in d.names) names (uid_of w.lines out.by_top) out.states out.prepared
+            out.new (subst (λ u. IsOnly u out.states out.new) (sym out.there.0.1) out.there);
         lacks = out.lacks;
       }))
 
-pub reached_disks_in_time : (hd : Header) → HeaderInForm hd → (w : World) → IsReached hd w → ((x : ℕ) → OpsFit x w.lines) → CommitsBeginIt w.event w.lines → (disks : Disks) → DisksAre (see [] w) disks → DisksAreInTime hd w.event w.lines disks
+pub reached_disks_in_time : (hd : Header) → HeaderInForm hd → (w : World) → IsReached hd w → ((x : ℕ) → OpsFit x w.lines) →
+    CommitsBeginIt w.event w.lines → (disks : Disks) → DisksAre (see [] w) disks → DisksAreInTime hd w.event w.lines disks
 reached_disks_in_time hd form w reached fit begins disks are =
     let h = reached.keeping (AreAddressed hd) (kept hd form) in
     disks_so hd form w reached.keeping h.sent h.stands (let a = h.holds in a.1) disks are (reached_in_time hd form w reached fit begins)
 
 pub runs_exclude_on_disks : RunsExcludeInTimeOnDisks
-runs_exclude_on_disks hd ms disks f are = let r = runs_in_form hd ms f in reached_disks_in_time hd f.header (world_by hd ms) r.0 r.1 (commits_begin hd ms) disks are
+runs_exclude_on_disks hd ms disks f are = let r = runs_in_form hd ms f in
+    reached_disks_in_time hd f.header (world_by hd ms) r.0 r.1 (commits_begin hd ms) disks are

@@ -1,28 +1,22 @@
 -- Two journals, one behind the other, exclude stores in time where the second one's run does.
-use Rattle.std.proofs.Common.{◌≡◌, ◌⊎◌, ◌<◌, ◌++◌, ◌+◌, ◌∙◌, ℕ, Bool, true, false, cond, nat_lt, List, [], ◌∷◌, length, Some, refl, sym, ap, subst, inl, inr, arith}
-use Rattle.std.specs.List.{AllByRecursion}
-use Rattle.std.proofs.lemmas.Bool.{lt-ltb}
-use Rattle.arj_base.specs.State.{state_bytes}
-use Rattle.arj_base.specs.declared.state.ObjectState.{ObjectState}
-use Rattle.arj_disk.specs.declared.slot.Role.TheVariants as role
-use Rattle.arj_journal.specs.declared.body.Line.{Line}
-use Rattle.arj_journal.specs.declared.header.Header.{Header}
-use Rattle.arj_law.specs.Joined.{AreJoined, call_behind, last_from, marks_after, top_behind}
+use Rattle.arj_law_parts.proofs.Words
+use Words.{◌≡◌, ◌<◌, ◌++◌, ◌+◌, ◌∙◌, ℕ, Bool, true, false, cond, nat_lt, List, [], ◌∷◌, length, Some, refl, sym, ap, subst, inl, inr, arith}
+use Words.{AllByRecursion, state_bytes, ObjectState, Line, Header, Wrote, DiskIsInTime, DiskTakesOut, DisksAreInTime, HasPrepared}
+use Words.{lines_before, uid_of}
+use Rattle.arj_law_serial.proofs.Terms
+use Terms.{acts, Top, Disks, last_state, writes_on}
+use Terms.role
 use Rattle.arj_law.proofs.JoinedLast.{last_join, uid_second}
 use Rattle.arj_law.proofs.JoinedSaid.{call_of_second, is_decided, new_of_second, top_of_both}
-use Rattle.arj_model.specs.Actions.{acts}
-use Rattle.arj_model.specs.Calls.{Call, Top}
-use Rattle.arj_model.specs.Disks.{Disks}
-use Rattle.arj_model.specs.Last.{last_state}
-use Rattle.arj_model.specs.Serial.{writes_on}
-use Rattle.arj_promise.specs.Excluded.{Wrote}
-use Rattle.arj_promise.specs.Excluded.{DiskIsInTime, DiskTakesOut, DisksAreInTime, HasPrepared}
+use Rattle.arj_law.specs.Joined.{AreJoined, call_behind, last_from, marks_after, top_behind}
 use Rattle.arj_law_serial.specs.joint.DisksJoined.{DiskIsInTimeFrom, DisksAreInTimeFrom, JoinedRunsAreInTime}
-use Rattle.arj_promise.specs.Excluded.{lines_before, uid_of}
+use Rattle.arj_model.specs.Calls.{Call}
+use Rattle.std.proofs.lemmas.Bool.{lt-ltb}
 
 -- ---- lines before an event
 
-before_join : (e : ℕ) (first second : List Line) → AllByRecursion (λ (line : Line). line.event < e) first → lines_before e (first ++ second) ≡ first ++ lines_before e second
+before_join : (e : ℕ) (first second : List Line) → AllByRecursion (λ (line : Line). line.event < e) first →
+    lines_before e (first ++ second) ≡ first ++ lines_before e second
 before_join e [] second h = refl
 before_join e (line ∷ first) second h = (λ i. cond (lt-ltb line.event e h.0 i) (line ∷ before_join e first second h.1 i) [])
 
@@ -31,13 +25,15 @@ front_of : (e : ℕ) (lines : List Line) → (rest : List Line) × (lines_before
 front_of e [] = ([], refl)
 front_of e (line ∷ lines) = by (front_of e lines) (nat_lt line.event e)
   where
-    by : (rest : List Line) × (lines_before e lines ++ rest ≡ lines) → (b : Bool) → (rest : List Line) × (cond b (line ∷ lines_before e lines) [] ++ rest ≡ line ∷ lines)
+    by : (rest : List Line) × (lines_before e lines ++ rest ≡ lines) → (b : Bool) →
+        (rest : List Line) × (cond b (line ∷ lines_before e lines) [] ++ rest ≡ line ∷ lines)
     by ih true = (ih.0, ap (λ ls. line ∷ ls) ih.1)
     by ih false = (line ∷ lines, refl)
 
 -- ---- both journals
 
-module _ (header next : Header) (first front rest : List Line) (e : ℕ) (disks : Disks) (joined : AreJoined header first next (front ++ rest)) (before : lines_before e (first ++ (front ++ rest)) ≡ first ++ front) (own : lines_before e (front ++ rest) ≡ front)
+module _ (header next : Header) (first front rest : List Line) (e : ℕ) (disks : Disks) (joined : AreJoined header first next
+    (front ++ rest)) (before : lines_before e (first ++ (front ++ rest)) ≡ first ++ front) (own : lines_before e (front ++ rest) ≡ front)
     (in_time : DisksAreInTimeFrom next (marks_after header first) e (front ++ rest) disks) where
   abbrev second : List Line
   second = front ++ rest
@@ -63,8 +59,12 @@ module _ (header next : Header) (first front rest : List Line) (e : ℕ) (disks 
         let number : c.top ≡ u.id + k = top ∙ ap (λ (z : Top). z.id) (sym same) in
         let g = call_of_second first second joined.apart c u.id there number in
         let d : Call = g.0 in
-        let is : call_behind n k d ≡ c = g.2 in
-        (d, g.1, subst (λ z. writes_on x z ≡ true) (sym is) writes, (let own_top : d.top + k ≡ c.top = ap (λ (z : Call). z.top) is in omega (arith, own_top, number)))
+        let is : call_behind n k d ≡ c = g.2 in (
+          d,
+          g.1,
+          subst (λ z. writes_on x z ≡ true) (sym is) writes,
+          (let own_top : d.top + k ≡ c.top = ap (λ (z : Call). z.top) is in omega (arith, own_top, number)),
+        )
 
     takes_too : DiskTakesOut second x (disks 1) u s → DiskTakesOut both x (disks 1) t s
     takes_too out = record {
@@ -74,13 +74,15 @@ module _ (header next : Header) (first front rest : List Line) (e : ℕ) (disks 
       new = out.new;
       form = out.form;
       of = out.of;
-      prepared = subst (λ w. HasPrepared (disks 1) role.Names w out.new) (sym (uid_second first second joined.apart (let b = out.by_top in b.id))) out.prepared;
+      prepared = subst (λ w. HasPrepared (disks 1) role.Names w out.new)
+          (sym (uid_second first second joined.apart (let b = out.by_top in b.id))) out.prepared;
       lacks = out.lacks;
     }
 
     so_it_is : DiskIsInTimeFrom next (marks_after header first) second x disks u s → DiskIsInTime header both x disks t s
     so_it_is (inl holds) = inl (holds ∙ ap (λ (z : ObjectState). Some (state_bytes z)) (sym (last_is x)))
-    so_it_is (inr (inl has)) = inr (inl (subst (λ w. HasPrepared (disks s) role.Store w (last_state header both x)) (sym uid_is) (subst (HasPrepared (disks s) role.Store (uid_of second u)) (sym (last_is x)) has)))
+    so_it_is (inr (inl has)) = inr (inl (subst (λ w. HasPrepared (disks s) role.Store w (last_state header both x)) (sym uid_is)
+        (subst (HasPrepared (disks s) role.Store (uid_of second u)) (sym (last_is x)) has)))
     so_it_is (inr (inr out)) = inr (inr (takes_too out))
 
   pub joined_so : DisksAreInTime header e both disks
@@ -92,5 +94,7 @@ module _ (header next : Header) (first front rest : List Line) (e : ℕ) (disks 
 pub joined_in_time : JoinedRunsAreInTime
 joined_in_time header next first second e disks joined events in_time =
     let f = front_of e second in
-    subst (λ ls. lines_before e (first ++ ls) ≡ first ++ lines_before e second → lines_before e ls ≡ lines_before e second → AreJoined header first next ls → DisksAreInTimeFrom next (marks_after header first) e ls disks → DisksAreInTime header e (first ++ ls) disks)
-    f.1 (λ before own j h. joined_so header next first (lines_before e second) f.0 e disks j before own h) (before_join e first second events) refl joined in_time
+    subst (λ ls. lines_before e (first ++ ls) ≡ first ++ lines_before e second → lines_before e ls ≡ lines_before e second → AreJoined
+    header first next ls → DisksAreInTimeFrom next (marks_after header first) e ls disks → DisksAreInTime header e (first ++ ls) disks)
+    f.1 (λ before own j h. joined_so header next first (lines_before e second) f.0 e disks j before own h)
+    (before_join e first second events) refl joined in_time

@@ -1,29 +1,18 @@
 -- Commits that end without a record in a step of the disk machine: of tops that may be decided by it, and that wrote nothing.
-use Rattle.std.proofs.Common.{◌≡◌, ◌⊎◌, ◌==◌, ℕ, List, [], ◌∷◌, Bool, true, false, cond, Option, Some, None, refl, sym, ◌∙◌, ap, subst, inl, inr, ⊎_elim, eqb-true}
-use Rattle.arj_lock.proofs.Members as list
-use Rattle.arj_protocol.specs.Words.{Ask, Asked, Binding, BoundReply, Head, Message, Uid, asks}
-use Rattle.arj_protocol.specs.Words.ask
-use Rattle.arj_protocol.specs.Ask.{Reply, answers, top_of}
-use Rattle.arj_protocol.specs.Commit.{Confirming, Preparing, Voting}
-use Rattle.arj_protocol.specs.Coord.{Calling, Committing, Doing, Idle, Now, doing_of}
-use Rattle.arj_protocol.specs.Effect.{Disk, Intent}
-use Rattle.arj_protocol.specs.Naming.{Naming, bind}
-use Rattle.arj_protocol.specs.Node.{Parts}
-use Rattle.arj_protocol.specs.Order.{uid_number}
-use Rattle.arj_protocol.proofs.Numbers.{number_tells}
-use Rattle.arj_law_disk.specs.machine.Effects
-use Rattle.arj_law_disk.specs.machine.Effects.{Allowed, Effect, Follows, Whole, World, after, run}
-use Rattle.arj_law_disk.specs.machine.Guards.{AreOnlyOf, is_only_of, only_decides}
-use Rattle.arj_law_disk.specs.machine.Names.{Office}
-use Rattle.arj_law_disk.specs.machine.State.{Plan, decided, decided_in}
-use Rattle.arj_law_disk.proofs.machine.Base.{never, or_cases, put_cases, test_is}
-use Rattle.arj_law_disk.proofs.machine.Keeps.{effect_keeps}
-use Rattle.arj_law_disk_view.specs.view.Sees.{Along}
-use Rattle.arj_law_disk_view.proofs.view.Later.{effects_are_later}
-use Rattle.arj_law_runs.proofs.journal.Books.{or_which}
-use Rattle.arj_law_disk_view.specs.names.Handlers.{Answering, Change, Changes, Deciding, Quietly, answer_change, ask_change, asked_change, bind_change, change_by, doing_change, now_change, reply_change}
+use Rattle.arj_law_parts.proofs.Words
+use Words.{◌≡◌, ◌⊎◌, ◌==◌, ℕ, List, [], ◌∷◌, Bool, true, false, cond, Option, Some, None, refl, sym, ◌∙◌, ap, subst, inl, inr, ⊎_elim}
+use Words.{eqb-true, Ask, Asked, Binding, BoundReply, Head, Message, Uid, asks, Reply, answers, top_of, Confirming, Preparing, Voting}
+use Words.{Calling, Committing, Doing, Idle, Now, doing_of, Disk, Intent, Naming, bind, Parts, uid_number, number_tells}
+use Words.list
+use Words.ask
+use Rattle.arj_law_serial.proofs.Terms
+use Terms.{Allowed, Effect, Follows, Whole, World, only_decides, Office, Plan, decided, decided_in, never, or_cases, put_cases, test_is}
+use Terms.{effect_keeps, Along, effects_are_later, or_which, Answering, Change, Changes, Deciding, Quietly, change_by, are_recorded}
+use Terms.Effects
+use Rattle.arj_law_disk.specs.machine.{Effects.after, Effects.run, Guards.AreOnlyOf, Guards.is_only_of}
 use Rattle.arj_law_disk_view.proofs.names.BareEnds.{bare_wrote, begun_bare}
-use Rattle.arj_law_disk_view.specs.running.Part.{are_recorded}
+use Rattle.arj_law_disk_view.specs.names.Handlers.{answer_change, ask_change, asked_change, bind_change, doing_change, now_change}
+use Rattle.arj_law_disk_view.specs.names.Handlers.{reply_change}
 use Rattle.arj_law_serial.proofs.joint.Recording.{IsConfirming}
 
 -- ---- the disk machine
@@ -38,7 +27,8 @@ NewlyDecides g W V = (t : ℕ) → decided V.disk t ≡ true → (decided W.disk
 
 module _ (g : ℕ → Bool) where
   effect_ends : (W : World) (e : Effect) → is_only_of (only_decides g) e ≡ true → Allowed W e → Whole W → Ends g W (after W e)
-  effect_ends W (Effects.EndBare z) only can whole t b = put_cases (λ c. c ≡ true → (W.disk.bare t ≡ true) ⊎ ((g t ≡ true) × ((let p = W.disk.plan t in p.writes) ≡ None))) z true W.disk.bare t
+  effect_ends W (Effects.EndBare z) only can whole t b = put_cases (λ c. c ≡ true →
+      (W.disk.bare t ≡ true) ⊎ ((g t ≡ true) × ((let p = W.disk.plan t in p.writes) ≡ None))) z true W.disk.bare t
       (λ same c. inr (ap g same ∙ only, ap (λ k. let p = W.disk.plan k in p.writes) same ∙ bare_wrote W z whole can)) (λ other c. inl c) b
   effect_ends W (Effects.Begin z p) only can whole t b = absurd (never only refl)
   effect_ends W (Effects.Take z s) only can whole t b = inl b
@@ -67,7 +57,11 @@ module _ (g : ℕ → Bool) where
       ⊎_elim
       (λ (here : (after W e).disk.bare t ≡ true). ⊎_elim
       (λ (old : W.disk.bare t ≡ true). inl old)
-      (λ (new : (g t ≡ true) × ((let p = (after W e).disk.plan t in p.writes) ≡ None)). inr (new.0, (let l = effects_are_later (after W e) es can.1 then in ap (λ (p : Plan). p.writes) (l.plan t (begun_bare t (after W e) then here))) ∙ new.1))
+      (λ (new : (g t ≡ true) × ((let p = (after W e).disk.plan t in p.writes) ≡ None)). inr (
+        new.0,
+        (let l = effects_are_later (after W e) es can.1 then in ap (λ (p : Plan). p.writes) (l.plan t (begun_bare t (after W e) then here)))
+            ∙ new.1,
+      ))
       (effect_ends W e only.0 can.0 whole t here))
       (λ (new : (g t ≡ true) × ((let p = (run W (e ∷ es)).disk.plan t in p.writes) ≡ None)). inr new)
       (all_end (after W e) es only.1 can.1 then t b)
@@ -76,7 +70,8 @@ module _ (g : ℕ → Bool) where
   ends_along W V whole a = subst (Ends g W) a.here (all_end W a.effects a.only a.allowed whole)
 
   effect_decides : (W : World) (e : Effect) → is_only_of (only_decides g) e ≡ true → NewlyDecides g W (after W e)
-  effect_decides W (Effects.Decide z) only t d = ⊎_elim (λ (same : (z == t) ≡ true). inr (ap g (sym (test_is z t same)) ∙ only)) (λ (old : decided W.disk t ≡ true). inl old) (or_cases (z == t) (decided W.disk t) d)
+  effect_decides W (Effects.Decide z) only t d = ⊎_elim (λ (same : (z == t) ≡ true). inr (ap g (sym (test_is z t same)) ∙ only))
+      (λ (old : decided W.disk t ≡ true). inl old) (or_cases (z == t) (decided W.disk t) d)
   effect_decides W (Effects.EndBare z) only t d = inl d
   effect_decides W (Effects.Begin z p) only t d = inl d
   effect_decides W (Effects.Take z s) only t d = inl d
@@ -99,7 +94,8 @@ module _ (g : ℕ → Bool) where
 
   all_decide : (W : World) (es : List Effect) → AreOnlyOf (only_decides g) es → NewlyDecides g W (run W es)
   all_decide W [] only t d = inl d
-  all_decide W (e ∷ es) only t d = ⊎_elim (λ (here : decided (after W e).disk t ≡ true). effect_decides W e only.0 t here) (λ (new : g t ≡ true). inr new) (all_decide (after W e) es only.1 t d)
+  all_decide W (e ∷ es) only t d = ⊎_elim (λ (here : decided (after W e).disk t ≡ true). effect_decides W e only.0 t here)
+      (λ (new : g t ≡ true). inr new) (all_decide (after W e) es only.1 t d)
 
   pub decides_along : (W V : World) → Along (record { from = W; noted = only_decides g }) V → NewlyDecides g W V
   decides_along W V a = subst (NewlyDecides g W) a.here (all_decide W a.effects a.only)
@@ -132,7 +128,8 @@ module _ (x : ℕ) (d : Disk) (t : Parts) (u : Uid) where
       by true = refl
       by false = refl
 
-  bind_ends : (y : ℕ) (include : Bool) (avoid : Binding) (h : Head) (o : Option Naming) → ends_of (bind_change x y include avoid h d o) (uid_number u) ≡ false
+  bind_ends : (y : ℕ) (include : Bool) (avoid : Binding) (h : Head) (o : Option Naming) →
+      ends_of (bind_change x y include avoid h d o) (uid_number u) ≡ false
   bind_ends y include avoid h None = refl
   bind_ends y include avoid h (Some n) = answer_ends y (top_of h.path) (let s = bind h.path y include avoid d.names n in s.reply)
 
@@ -148,13 +145,15 @@ module _ (x : ℕ) (d : Disk) (t : Parts) (u : Uid) where
 
   module _ (w : Uid) (q : Doing) (works : doing_of w t.coord ≡ Some q) where
     now_ends : (n : Now) → q.now ≡ n → ends_of (now_change x w t.coord n) (uid_number u) ≡ true → IsConfirming t.coord u
-    now_ends (Committing (Confirming p)) now is = subst (IsConfirming t.coord) (sym (number_tells u w (eqb-true (uid_number u) (uid_number w) is))) (record { doing = q; plan = p; works = works; now = now })
+    now_ends (Committing (Confirming p)) now is = subst (IsConfirming t.coord)
+        (sym (number_tells u w (eqb-true (uid_number u) (uid_number w) is))) (record { doing = q; plan = p; works = works; now = now })
     now_ends (Committing (Voting p left)) now is = absurd (never is refl)
     now_ends (Committing (Preparing p left)) now is = absurd (never is refl)
     now_ends (Calling s) now is = absurd (never is refl)
     now_ends Idle now is = absurd (never is refl)
 
-  doing_ends : (w : Uid) (o : Option Doing) → doing_of w t.coord ≡ o → ends_of (doing_change x w t.coord o) (uid_number u) ≡ true → IsConfirming t.coord u
+  doing_ends : (w : Uid) (o : Option Doing) → doing_of w t.coord ≡ o → ends_of (doing_change x w t.coord o) (uid_number u) ≡ true →
+      IsConfirming t.coord u
   doing_ends w None works is = absurd (never is refl)
   doing_ends w (Some q) works is = now_ends w q works q.now refl is
 
@@ -170,9 +169,11 @@ module _ (x : ℕ) (d : Disk) (t : Parts) (u : Uid) where
   message_ends m is = asked_ends m (asks m) is
 
 -- by a restart it is one with a record
-pub record_of : (u : Uid) (intents : List (Uid × Intent)) → are_recorded intents (uid_number u) ≡ true → (i : Intent) × list.In {X = Uid × Intent} (u, i) intents
+pub record_of : (u : Uid) (intents : List (Uid × Intent)) → are_recorded intents (uid_number u) ≡ true →
+    (i : Intent) × list.In {X = Uid × Intent} (u, i) intents
 record_of u [] is = absurd (never is refl)
 record_of u (e ∷ es) is = ⊎_elim
-    (λ (here : (uid_number e.0 == uid_number u) ≡ true). (e.1, inl (let same = number_tells e.0 u (eqb-true (uid_number e.0) (uid_number u) here) in λ i. (same i, e.1))))
+    (λ (here : (uid_number e.0 == uid_number u) ≡ true).
+    (e.1, inl (let same = number_tells e.0 u (eqb-true (uid_number e.0) (uid_number u) here) in λ i. (same i, e.1))))
     (λ (there : are_recorded es (uid_number u) ≡ true). let r = record_of u es there in (r.0, inr r.1))
     (or_which (uid_number e.0 == uid_number u) (are_recorded es (uid_number u)) is)

@@ -1,37 +1,20 @@
 -- The header's object, and the machine of it as a format leaves it.
-use Rattle.std.proofs.Common.{◌≡◌, ◌⊎◌, ◌==◌, ◌||◌, ◌<◌, ℕ, List, [], ◌∷◌, true, Option, Some, None, refl, sym, ◌∙◌, ap, subst, inl, inr, arith, length, is_some, map, eqb-true}
-use Rattle.std.specs.Prelude.{◌&&◌, nat_le, nat_lt, if◌then◌else◌}
-use Rattle.std.specs.List.{AllByRecursion, list_all, list_any}
-use Rattle.std.proofs.lemmas.Bool.{and_parts}
-use Rattle.std.proofs.lemmas.Bool.Decides.{nat_tests}
-use Rattle.arj_base.specs.Uid.{entry, object}
-use Rattle.arj_journal.specs.ScriptForm.{HeaderInForm, ObjectLineInForm, are_by_number}
-use Rattle.arj_journal.specs.declared.limits.TheConstants.{STORES}
-use Rattle.arj_text.specs.Fields.{are_nodes, is_distinct}
-use Rattle.arj_lock.proofs.Members.{In as Among, in_find}
-use Rattle.arj_model.specs.Last.{object_line, state_after, stores_of_line, value_of_line}
-use Rattle.arj_protocol.specs.Order as order
-use Rattle.arj_protocol.specs.Order.{uid_number}
-use Rattle.arj_protocol.specs.Step.{Node, first_node, first_state, numbers_to}
-use Rattle.arj_protocol.specs.Tree.{at_place}
-use Rattle.arj_protocol.specs.Words.{Header, ObjectLine, nobody}
-use Rattle.arj_protocol.specs.World.{format}
-use Rattle.arj_protocol.proofs.RowSteps.{same_number}
-use Rattle.arj_law_disk.specs.machine.Effects.{World}
-use Rattle.arj_law_disk.specs.machine.State.{Packed, State, decided, effective, effective_by, entry_in, last, last_entry, last_in}
-use Rattle.arj_law_disk.specs.machine.Words.{has}
-use Rattle.arj_law_disk.proofs.machine.Base.{some_is}
-use Rattle.arj_promise.specs.Runs.{see}
-use Rattle.arj_law_disk_view.specs.view.Entries.{SeesEntry}
-use Rattle.arj_law_disk_view.specs.view.Formats.{HasObject, IsLine}
-use Rattle.arj_law_disk_view.specs.view.Pairs.{packed, packed_entry}
-use Rattle.arj_law_disk_view.specs.view.Sees.{Kinds, SeesDisks}
-use Rattle.arj_law_disk_view.specs.view.Stores.{SeesStore}
+use Rattle.arj_law_parts.proofs.Words
+use Words.{◌≡◌, ◌⊎◌, ◌==◌, ◌||◌, ◌<◌, ℕ, List, [], ◌∷◌, true, Option, Some, None, refl, sym, ◌∙◌, ap, subst, inl, inr, arith, length}
+use Words.{is_some, map, eqb-true, ◌&&◌, nat_le, nat_lt, if◌then◌else◌, AllByRecursion, list_all, list_any, and_parts, nat_tests, entry}
+use Words.{object, In as Among, in_find, uid_number, Node, first_node, first_state, numbers_to, at_place, Header, ObjectLine, nobody}
+use Words.{format, same_number, see}
+use Words.order
+use Rattle.arj_law_serial.proofs.Terms
+use Terms.{HeaderInForm, STORES, is_distinct, object_line, state_after, stores_of_line, value_of_line, World, Packed, decided, entry_in}
+use Terms.{last, last_entry, last_in, has, some_is, SeesEntry, IsLine, packed, packed_entry, Kinds, SeesDisks, SeesStore, first_at}
+use Terms.{has_same, place_free, BeginsSo}
+use Rattle.arj_journal.specs.ScriptForm.{ObjectLineInForm, are_by_number}
+use Rattle.arj_law_disk.specs.machine.State.{State, effective, effective_by}
+use Rattle.arj_law_disk_view.proofs.view.FirstSeen.{format_seen}
+use Rattle.arj_law_disk_view.specs.view.Formats.{HasObject}
+use Rattle.arj_text.specs.Fields.{are_nodes}
 use Rattle.arj_law_disk_view.proofs.view.FirstSeen as first
-use Rattle.arj_law_disk_view.proofs.view.FirstSeen.{first_at, format_seen}
-use Rattle.arj_law_disk_view.proofs.view.Planned.{has_same}
-use Rattle.arj_law_disk_view.proofs.view.StoreSteps.{place_free}
-use Rattle.arj_law_serial.specs.order.Cleaned.{BeginsSo}
 
 -- ---- the header's lines
 
@@ -45,9 +28,11 @@ all_above : (p o : ObjectLine) (os : List ObjectLine) → are_by_number (p ∷ o
 all_above p o [] ordered i = absurd i
 all_above p o (q ∷ qs) ordered i = by (and_parts (nat_lt p.x q.x) (are_by_number (q ∷ qs)) ordered) i (all_above q o qs)
   where
-    by : (nat_lt p.x q.x ≡ true) × (are_by_number (q ∷ qs) ≡ true) → (q ≡ o) ⊎ IsLine o qs → (are_by_number (q ∷ qs) ≡ true → IsLine o qs → q.x < o.x) → p.x < o.x
+    by : (nat_lt p.x q.x ≡ true) × (are_by_number (q ∷ qs) ≡ true) → (q ≡ o) ⊎ IsLine o qs →
+        (are_by_number (q ∷ qs) ≡ true → IsLine o qs → q.x < o.x) → p.x < o.x
     by b (inl same) ih = subst (λ (r : ObjectLine). p.x < r.x) same (grind (arith, nat_tests, b.0))
-    by b (inr more) ih = let more_above : q.x < o.x = ih b.1 more in let above : p.x < q.x = grind (arith, nat_tests, b.0) in omega (arith, more_above, above)
+    by b (inr more) ih = let more_above : q.x < o.x = ih b.1 more in let above : p.x < q.x = grind (arith, nat_tests, b.0) in
+        omega (arith, more_above, above)
 
 behind : (p : ObjectLine) (os : List ObjectLine) → are_by_number (p ∷ os) ≡ true → are_by_number os ≡ true
 behind p [] ordered = refl
@@ -56,8 +41,10 @@ behind p (q ∷ qs) ordered = (and_parts (nat_lt p.x q.x) (are_by_number (q ∷ 
 pub one_line : (os : List ObjectLine) → are_by_number os ≡ true → (o p : ObjectLine) → IsLine o os → IsLine p os → o.x ≡ p.x → o ≡ p
 one_line [] ordered o p i j same = absurd i
 one_line (q ∷ qs) ordered o p (inl a) (inl b) same = sym a ∙ b
-one_line (q ∷ qs) ordered o p (inl a) (inr j) same = let less : q.x < p.x = all_above q p qs ordered j in let is : q.x ≡ o.x = ap (λ (r : ObjectLine). r.x) a in absurd (omega (arith, less, is, same))
-one_line (q ∷ qs) ordered o p (inr i) (inl b) same = let less : q.x < o.x = all_above q o qs ordered i in let is : q.x ≡ p.x = ap (λ (r : ObjectLine). r.x) b in absurd (omega (arith, less, is, same))
+one_line (q ∷ qs) ordered o p (inl a) (inr j) same = let less : q.x < p.x = all_above q p qs ordered j in
+    let is : q.x ≡ o.x = ap (λ (r : ObjectLine). r.x) a in absurd (omega (arith, less, is, same))
+one_line (q ∷ qs) ordered o p (inr i) (inl b) same = let less : q.x < o.x = all_above q o qs ordered i in
+    let is : q.x ≡ p.x = ap (λ (r : ObjectLine). r.x) b in absurd (omega (arith, less, is, same))
 one_line (q ∷ qs) ordered o p (inr i) (inr j) same = one_line qs (behind q qs ordered) o p i j same
 
 pub form_of : (n : ℕ) (o : ObjectLine) (os : List ObjectLine) → AllByRecursion (ObjectLineInForm n) os → IsLine o os → ObjectLineInForm n o
@@ -69,16 +56,21 @@ form_of n o (p ∷ ps) all (inr more) = form_of n o ps all.1 more
 first_of : (n most : ℕ) (ns : List ℕ) → are_nodes n most ns ≡ true → (s : ℕ) × (order.has ns s ≡ true) × ((nat_le 1 s && nat_le s n) ≡ true)
 first_of n most [] are = absurd (cc are)
 first_of n most (s ∷ ss) are =
-    let both = and_parts (nat_le 1 (length (s ∷ ss)) && nat_le (length (s ∷ ss)) most) (list_all (λ m. nat_le 1 m && nat_le m n) (s ∷ ss) && is_distinct (s ∷ ss)) are in
-    let each = and_parts (list_all (λ m. nat_le 1 m && nat_le m n) (s ∷ ss)) (is_distinct (s ∷ ss)) both.1 in
-    (s, ap (λ b. b || list_any (λ m. m == s) ss) (same_number s), (and_parts (nat_le 1 s && nat_le s n) (list_all (λ m. nat_le 1 m && nat_le m n) ss) each.0).0)
+    let both = and_parts (nat_le 1 (length (s ∷ ss)) && nat_le (length (s ∷ ss)) most)
+    (list_all (λ m. nat_le 1 m && nat_le m n) (s ∷ ss) && is_distinct (s ∷ ss)) are in
+    let each = and_parts (list_all (λ m. nat_le 1 m && nat_le m n) (s ∷ ss)) (is_distinct (s ∷ ss)) both.1 in (
+      s,
+      ap (λ b. b || list_any (λ m. m == s) ss) (same_number s),
+      (and_parts (nat_le 1 s && nat_le s n) (list_all (λ m. nat_le 1 m && nat_le m n) ss) each.0).0,
+    )
 
 -- a store of the object's line is a node
 abbrev pub HasStoreThere : (hd : Header) (x : ℕ) → HasObject hd x → Type 0
 HasStoreThere hd x o = (nat_le 1 (let s = o.stored in s.0) && nat_le (let s = o.stored in s.0) hd.nodes) ≡ true
 
 module _ (hd : Header) (x : ℕ) (form : HeaderInForm hd) where
-  line_by : (o : Option ObjectLine) → object_line hd x ≡ o → is_some o ≡ true → (h : HasObject hd x) × HasStoreThere hd x h × (object_line hd x ≡ Some (let g = h in g.line))
+  line_by : (o : Option ObjectLine) → object_line hd x ≡ o → is_some o ≡ true →
+      (h : HasObject hd x) × HasStoreThere hd x h × (object_line hd x ≡ Some (let g = h in g.line))
   line_by None e some = absurd (cc some)
   line_by (Some o) e some =
       let f = in_find (λ (p : ObjectLine). p.x == x) o hd.objects e in
@@ -97,12 +89,14 @@ module _ (hd : Header) (x : ℕ) (form : HeaderInForm hd) where
         e,
       )
 
-  pub line_there : is_some (object_line hd x) ≡ true → (h : HasObject hd x) × HasStoreThere hd x h × (object_line hd x ≡ Some (let g = h in g.line))
+  pub line_there : is_some (object_line hd x) ≡ true →
+      (h : HasObject hd x) × HasStoreThere hd x h × (object_line hd x ≡ Some (let g = h in g.line))
   line_there some = line_by (object_line hd x) refl some
 
 -- ---- the machine
 
-module _ (hd : Header) (x : ℕ) (tops : Kinds) (unwalked : tops.walk ≡ None) (has_it : HasObject hd x) (line : object_line hd x ≡ Some has_it.line) (W : World) (sees : SeesDisks x tops W (see [] (format hd))) (none : W.disk.tops ≡ []) where
+module _ (hd : Header) (x : ℕ) (tops : Kinds) (unwalked : tops.walk ≡ None) (has_it : HasObject hd x) (line : object_line hd x
+    ≡ Some has_it.line) (W : World) (sees : SeesDisks x tops W (see [] (format hd))) (none : W.disk.tops ≡ []) where
   abbrev started : State
   started = first.S hd x tops has_it
 
@@ -110,7 +104,8 @@ module _ (hd : Header) (x : ℕ) (tops : Kinds) (unwalked : tops.walk ≡ None) 
   seen0 = format_seen hd x tops has_it unwalked
 
   -- a node of the format
-  node_at : (k : ℕ) → is_some (at_place k (map (first_node hd) (numbers_to hd.nodes))) ≡ true → at_place k (map (first_node hd) (numbers_to hd.nodes)) ≡ Some (first_node hd k)
+  node_at : (k : ℕ) → is_some (at_place k (map (first_node hd) (numbers_to hd.nodes))) ≡ true →
+      at_place k (map (first_node hd) (numbers_to hd.nodes)) ≡ Some (first_node hd k)
   node_at k there = by (at_place k (map (first_node hd) (numbers_to hd.nodes))) refl there
     where
       by : (o : Option Node) → at_place k (map (first_node hd) (numbers_to hd.nodes)) ≡ o → is_some o ≡ true → o ≡ Some (first_node hd k)
@@ -125,7 +120,8 @@ module _ (hd : Header) (x : ℕ) (tops : Kinds) (unwalked : tops.walk ≡ None) 
     seen_entry = sees.entry (first_node hd 1) one_is
 
     entry_free : W.disk.entry_pend ≡ None
-    entry_free = let e = seen_entry in place_free (entry x) (let n = first_node hd 1 in let d = n.disk in d.names) packed_entry (Some W.disk.entry) W.disk.entry_pend e.pair refl
+    entry_free = let e = seen_entry in place_free (entry x) (let n = first_node hd 1 in let d = n.disk in
+        d.names) packed_entry (Some W.disk.entry) W.disk.entry_pend e.pair refl
 
     entry_same : W.disk.entry ≡ record { version = 0; writer = uid_number nobody; content = has_it.line.stores }
     entry_same =
@@ -134,34 +130,41 @@ module _ (hd : Header) (x : ℕ) (tops : Kinds) (unwalked : tops.walk ≡ None) 
         some_is refl (sym e.pair.held_is ∙ f.pair.held_is)
 
     last_is : last_entry W.disk ≡ record { version = 0; writer = uid_number nobody; content = has_it.line.stores }
-    last_is = sym (let w = sees.whole in w.core.effective.entry) ∙ ap (λ o. effective_by (decided W.disk) (λ (e : Packed). e) o W.disk.entry) entry_free ∙ entry_same
+    last_is = sym (let w = sees.whole in w.core.effective.entry)
+        ∙ ap (λ o. effective_by (decided W.disk) (λ (e : Packed). e) o W.disk.entry) entry_free ∙ entry_same
 
     first_entry_is : W.disk.first_entry ≡ record { version = 0; writer = uid_number nobody; content = has_it.line.stores }
     first_entry_is = sym (ap (entry_in W.disk.first_entry) none) ∙ last_is
 
-    module _ (s : ℕ) (stored : order.has has_it.line.stores s ≡ true) (there : is_some (at_place s (map (first_node hd) (numbers_to hd.nodes))) ≡ true) where
+    module _ (s : ℕ) (stored : order.has has_it.line.stores s ≡ true)
+        (there : is_some (at_place s (map (first_node hd) (numbers_to hd.nodes))) ≡ true) where
       seen_store : SeesStore x s (let n = first_node hd s in let d = n.disk in d.store) W.disk
       seen_store = sees.stores s (first_node hd s) (node_at s there)
 
       store_free : W.disk.pend s ≡ None
-      store_free = let e = seen_store in place_free (object x) (let n = first_node hd s in let d = n.disk in d.store) packed (W.disk.held s) (W.disk.pend s) e.pair refl
+      store_free = let e = seen_store in
+          place_free (object x) (let n = first_node hd s in let d = n.disk in d.store) packed (W.disk.held s) (W.disk.pend s) e.pair refl
 
       store_same : W.disk.held s ≡ Some (packed (first_state has_it.line))
       store_same =
           let e = seen_store in
-          let f : SeesStore x s (let n = first_node hd s in let d = n.disk in d.store) started = seen0.stores s (first_node hd s) (node_at s there) in
+          let f : SeesStore x s (let n = first_node hd s in let d = n.disk in
+          d.store) started = seen0.stores s (first_node hd s) (node_at s there) in
           sym e.pair.held_is ∙ f.pair.held_is ∙ ap (λ b. if b then Some (packed (first_state has_it.line)) else None) stored
 
       first_is : W.disk.first ≡ packed (first_state has_it.line)
       first_is =
           let w = sees.whole in
-          let on : has s (last_entry W.disk).content ≡ true = ap (λ (p : Packed). has s p.content) last_is ∙ has_same s has_it.line.stores ∙ stored in
+          let on : has s (last_entry W.disk).content ≡ true = ap (λ (p : Packed). has s p.content) last_is ∙ has_same s has_it.line.stores
+          ∙ stored in
           let now : effective W.disk s ≡ Some (last W.disk) = w.core.effective.store s on in
-          let held : effective W.disk s ≡ Some (packed (first_state has_it.line)) = ap (λ o. effective_by (decided W.disk) Some o (W.disk.held s)) store_free ∙ store_same in
+          let held : effective W.disk s ≡ Some (packed (first_state has_it.line)) = ap
+          (λ o. effective_by (decided W.disk) Some o (W.disk.held s)) store_free ∙ store_same in
           sym (ap (last_in W.disk.first) none) ∙ some_is refl (sym now ∙ held)
 
       pub begins_so : BeginsSo hd x W.disk
       begins_so = record {
         state = first_is ∙ ap (λ v. packed (state_after x v [])) (sym (ap value_of_line line));
-        entry = first_entry_is ∙ ap (λ (o : Option ObjectLine). record { version = 0; writer = uid_number nobody; content = stores_of_line o }) (sym line);
+        entry = first_entry_is
+            ∙ ap (λ (o : Option ObjectLine). record { version = 0; writer = uid_number nobody; content = stores_of_line o }) (sym line);
       }

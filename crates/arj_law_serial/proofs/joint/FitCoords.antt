@@ -1,26 +1,23 @@
 -- What actions wait for at a coordinator is of the calls and includes that it was asked for, whatever it does.
-use Rattle.std.proofs.Common.{◌≡◌, ◌≢◌, ◌++◌, ◌+◌, ℕ, Bool, true, false, cond, List, [], ◌∷◌, Option, Some, None, refl, subst}
-use Rattle.std.specs.Prelude.{⊤}
-use Rattle.std.specs.List.{AllByRecursion}
-use Rattle.arj_protocol.specs.Words.{Ask, Asked, End, Kind, Label, Path, Uid}
-use Rattle.arj_protocol.specs.Words.cause
-use Rattle.arj_protocol.specs.Words.ending
-use Rattle.arj_protocol.specs.Words.kind
-use Rattle.arj_protocol.specs.Ask.{Reply, actor}
-use Rattle.arj_protocol.specs.Asking.{again_all, again_now, asks_all, asks_node, begin_action, call, call_steps, commit_action, commit_open, commit_top, commits_in, doomed_by, give_up, give_up_doing, gives_up, goes_on, heard, heard_by, heard_call, heard_doing, heard_none, heard_now, include, kept_at, last_req, moved_commit, next_req, renewed, root_heard, root_lost, root_moved, step_call, step_commit, waits_for_call, waits_for_commit}
-use Rattle.arj_protocol.specs.Call as calls
-use Rattle.arj_protocol.specs.Call.{CallEnd, CallStep, Ended, Goal, Include, On, Run, Steps, answered, given_up, start}
-use Rattle.arj_protocol.specs.Commit as commit
-use Rattle.arj_protocol.specs.Commit.{Aborts, Asks, CommitStep, Decides, Machine, Plan, Stays, has_record, participants, plan_of}
-use Rattle.arj_protocol.specs.Coord.{Calling, Committing, Coord, Doing, Idle, Now, change_doing, doing_of, is_free, keeping_of, on_doing, on_root, plan_for, root_at, with_keeping}
-use Rattle.arj_protocol.specs.Effect.{Did, Intent, Served}
-use Rattle.arj_protocol.specs.Ending.{abort_action, aborts_with, acked, acked_by, acked_left, all_aborted, decide, ended, root_after}
-use Rattle.arj_protocol.specs.Order.{at_uid, has, put_uid, unbound, without_number}
-use Rattle.arj_protocol.specs.Step as input
-use Rattle.arj_protocol.specs.Step.{Input, acts, branch_named, on_branch}
-use Rattle.arj_protocol.specs.Tree.{Branch, at_place, ended_at, is_own, open_below, root_of, uses_object}
-use Rattle.arj_law_runs.proofs.addresses.Lists.{all_append, all_placed, all_set}
-use Rattle.arj_law_serial.specs.whole.Called.{WaitFor}
+use Rattle.arj_law_parts.proofs.Words
+use Words.{◌≡◌, ◌≢◌, ◌++◌, ◌+◌, ℕ, Bool, true, false, cond, List, [], ◌∷◌, Option, Some, None, refl, subst, ⊤, AllByRecursion, Ask, Asked}
+use Words.{End, Kind, Label, Path, Uid, Reply, actor, again_all, again_now, asks_all, asks_node, begin_action, call, call_steps}
+use Words.{commit_action, commit_open, commit_top, commits_in, doomed_by, give_up, give_up_doing, gives_up, goes_on, heard, heard_by}
+use Words.{heard_call, heard_doing, heard_none, heard_now, include, kept_at, last_req, moved_commit, next_req, renewed, root_heard}
+use Words.{root_lost, root_moved, step_call, step_commit, waits_for_call, waits_for_commit, CallEnd, CallStep, Ended, Goal, Include, On}
+use Words.{Run, Steps, answered, given_up, start, Aborts, Asks, CommitStep, Decides, Machine, Plan, Stays, has_record, participants}
+use Words.{plan_of, Calling, Committing, Coord, Doing, Idle, Now, change_doing, doing_of, is_free, keeping_of, on_doing, on_root, plan_for}
+use Words.{root_at, with_keeping, Did, Intent, Served, abort_action, aborts_with, acked, acked_by, acked_left, all_aborted, decide, ended}
+use Words.{root_after, at_uid, has, put_uid, unbound, without_number, Input, acts, branch_named, on_branch, Branch, at_place, ended_at}
+use Words.{is_own, open_below, root_of, uses_object}
+use Words.cause
+use Words.ending
+use Words.kind
+use Words.calls
+use Words.commit
+use Words.input
+use Rattle.arj_law_serial.proofs.Terms.{all_append, all_placed, WaitFor}
+use Rattle.arj_law_runs.proofs.addresses.Lists.{all_set}
 
 module _ (P : ℕ → Goal → Type 0) where
   -- what an action waits for is so
@@ -90,9 +87,11 @@ module _ (P : ℕ → Goal → Type 0) where
       r = on_root (root_of p.path) (root_after p) (on_doing u (λ (d : Doing). record d { took = participants p }) (ended u ending.Commit c))
 
       its : WorksOf r
-      its = on_so u (λ (d : Doing). record d { took = participants p }) (ended u ending.Commit c) (λ d k. k) (ended_so u ending.Commit c all)
+      its =
+          on_so u (λ (d : Doing). record d { took = participants p }) (ended u ending.Commit c) (λ d k. k) (ended_so u ending.Commit c all)
 
-      by : (b : Bool) → WorksOf (cond b (record r { telling = put_uid u (record { root = root_of p.path; nodes = participants p }) r.telling }) r)
+      by : (b : Bool) →
+          WorksOf (cond b (record r { telling = put_uid u (record { root = root_of p.path; nodes = participants p }) r.telling }) r)
       by true = its
       by false = its
 
@@ -127,7 +126,8 @@ module _ (P : ℕ → Goal → Type 0) where
 
   -- ---- all that a coordinator does
 
-  pub heard_so : (from : ℕ) (a : Asked) (r : Reply) (intents : List (Uid × Intent)) (c : Coord) → WorksOf c → WorksOf (heard from a r intents c).part
+  pub heard_so : (from : ℕ) (a : Asked) (r : Reply) (intents : List (Uid × Intent)) (c : Coord) → WorksOf c →
+      WorksOf (heard from a r intents c).part
   heard_so from a r intents c all = by (doing_of a.act c) refl
     where
       now : (n : Now) → NowOf n → WorksOf (heard_now from a r intents c n).part
@@ -135,11 +135,13 @@ module _ (P : ℕ → Goal → Type 0) where
       now (Calling s) its = one (waits_for_call from a r s)
         where
           one : (w : Bool) → WorksOf (cond {A = Served Coord (Unit {0})} w (heard_by (heard_call s r c)) (heard_none c)).part
-          one true = let m = answered (is_free (root_of s.path) (actor s.path) s.x c) (kept_at s c) s.goal s.at r in call_so s m.step (on_root (root_of s.path) (root_moved s r m) c) its all
+          one true = let m = answered (is_free (root_of s.path) (actor s.path) s.x c) (kept_at s c) s.goal s.at r in
+              call_so s m.step (on_root (root_of s.path) (root_moved s r m) c) its all
           one false = all
       now (Committing m) its = one (waits_for_commit from a r m)
         where
-          one : (w : Bool) → WorksOf (cond {A = Served Coord (Unit {0})} w (heard_by (moved_commit a.act (commit.answered from m r) intents c)) (heard_none c)).part
+          one : (w : Bool) → WorksOf (cond {A = Served Coord (Unit {0})} w
+              (heard_by (moved_commit a.act (commit.answered from m r) intents c)) (heard_none c)).part
           one true = step_so a.act (commit.answered from m r).step intents c all
           one false = all
 
@@ -190,7 +192,8 @@ module _ (P : ℕ → Goal → Type 0) where
       by None = all
       by (Some i) = one (has i.nodes from)
         where
-          one : (b : Bool) → WorksOf (cond {A = Served Coord (Unit {0})} b (acked_left u i intents c (without_number from i.nodes)) (record { part = c; outs = []; reply = None })).part
+          one : (b : Bool) → WorksOf (cond {A = Served Coord (Unit {0})} b (acked_left u i intents c (without_number from i.nodes))
+              (record { part = c; outs = []; reply = None })).part
           one true = left i (without_number from i.nodes)
           one false = all
 
@@ -203,23 +206,28 @@ module _ (P : ℕ → Goal → Type 0) where
       now (Calling s) = all
       now (Committing m) = asked_so (plan_of m).path (plan_of m).req (commit.waiting m) c all
 
-  pub begin_so : (l : Label) (how : Kind) (parent : Option Label) (above : Option Branch) (c : Coord) → WorksOf c → WorksOf (begin_action l how parent above c).part
+  pub begin_so : (l : Label) (how : Kind) (parent : Option Label) (above : Option Branch) (c : Coord) → WorksOf c →
+      WorksOf (begin_action l how parent above c).part
   begin_so l how parent above c all = all_append WorkOf c.doings (record { label = l; req = 0; now = Idle; took = [] } ∷ []) all (tt, tt)
 
-  pub acts_so : (i : Input) (intents : List (Uid × Intent)) (c : Coord) → AsksFor i → ((l : Label) (how : Kind) (parent : Option Label) → i ≢ input.Begin l how parent) → WorksOf c → WorksOf (acts i intents c).part
+  pub acts_so : (i : Input) (intents : List (Uid × Intent)) (c : Coord) → AsksFor i →
+      ((l : Label) (how : Kind) (parent : Option Label) → i ≢ input.Begin l how parent) → WorksOf c → WorksOf (acts i intents c).part
   acts_so (input.Begin l how parent) intents c its other all = absurd (other l how parent refl)
   acts_so (input.Call l x o) intents c its other all = by (branch_named l c)
     where
       by : (f : Option Branch) → WorksOf (on_branch (λ b. call b.path x o c) c f).part
       by None = all
       by (Some b) =
-          let k = renewed (is_free (root_of b.path) (actor b.path) x c) (keeping_of x (root_at (root_of b.path) c)) (let h = keeping_of x (root_at (root_of b.path) c) in h.kept) in
-          goes_so (call_steps b.path x o (next_req (actor b.path) c) (root_at (root_of b.path) c) c k) (on_root (root_of b.path) (with_keeping x k) (record c { tree = uses_object b.path x c.tree })) its all
+          let k = renewed (is_free (root_of b.path) (actor b.path) x c) (keeping_of x (root_at (root_of b.path) c))
+          (let h = keeping_of x (root_at (root_of b.path) c) in h.kept) in
+          goes_so (call_steps b.path x o (next_req (actor b.path) c) (root_at (root_of b.path) c) c k)
+          (on_root (root_of b.path) (with_keeping x k) (record c { tree = uses_object b.path x c.tree })) its all
   acts_so (input.Include l x s) intents c its other all = by (branch_named l c)
     where
       by : (f : Option Branch) → WorksOf (on_branch (λ b. include b.path x s c) c f).part
       by None = all
-      by (Some b) = goes_so (start b.path x (Include s) None unbound (next_req (actor b.path) c)) (record c { tree = uses_object b.path x c.tree }) its all
+      by (Some b) = goes_so (start b.path x (Include s) None unbound (next_req (actor b.path) c))
+          (record c { tree = uses_object b.path x c.tree }) its all
   acts_so (input.Commit l) intents c its other all = by (branch_named l c)
     where
       by : (f : Option Branch) → WorksOf (on_branch (λ b. commit_action b intents c) c f).part

@@ -1,32 +1,26 @@
 -- In a run in form, whatever stops fall in it, the operations that its journal answers are in form: they are those of its calls.
-use Rattle.std.proofs.Common.{◌≡◌, ◌++◌, ◌+◌, ◌-◌, ◌||◌, ℕ, zero, suc, Bool, true, false, cond, not, List, [], ◌∷◌, length, map, Option, Some, None, refl}
-use Rattle.std.specs.Prelude.{⊤, nat_le, nat_lt}
-use Rattle.std.specs.List.{AllByRecursion}
+use Rattle.arj_law_parts.proofs.Words
+use Words.{◌≡◌, ◌++◌, ◌+◌, ◌-◌, ◌||◌, ℕ, zero, suc, Bool, true, false, cond, not, List, [], ◌∷◌, length, map, Option, Some, None, refl, ⊤}
+use Words.{nat_le, nat_lt, AllByRecursion, Body, Event, Header, Line, frame_kind, Goal, Include, Run, Disk, Do, Effect, Say, Send, Stop}
+use Words.{worked, at_number, Input, Node, Step, first_node, first_reason, numbers_to, step, at_place, Arm, Frame, Giving, World, armed}
+use Words.{as_delivered, as_lost, begins, begins_any, bodies, change_frame, count_works, counted, cut, deliver, deliver_frame, disarmed}
+use Words.{done_step, format, frame_number, giving, halted_at, halted_outs, happens, is_quiet, is_up_at, junk_fits, labels_unless}
+use Words.{lacks_labels, limited, lose_frame, lowest, most_frames, new_frame, no_labels, node_numbers, node_of, numbered, put, quiesce}
+use Words.{reasons, refused_at, run_event, run_unless, set_node, settle, settle_for, show_all, show_up, step_node, step_with, steps}
+use Words.{tick_all, tick_up, Move, all_moved, as_moves, journal_by, moved, world_by, AreEventsInForm, AreMovesInForm, IsInForm}
+use Words.body
+use Words.event
+use Words.frame
+use Words.input
+use Rattle.arj_law_serial.proofs.Terms
+use Terms.{OpTextInForm, Asked, says, IsReached, all_append, all_placed, moves_reached, LinesOf, SaysOf, OpFits, OpsFit}
+use Terms.which
 use Rattle.arj_journal.specs.ScriptForm.{EventInForm}
-use Rattle.arj_text.specs.Fields.{OpTextInForm}
-use Rattle.arj_protocol.specs.Words.{Body, Event, Header, Line}
-use Rattle.arj_protocol.specs.Words.body
-use Rattle.arj_protocol.specs.Words.event
-use Rattle.arj_protocol.specs.Words.which
-use Rattle.arj_protocol.specs.Words.frame
-use Rattle.arj_protocol.specs.Ask.{frame_kind}
-use Rattle.arj_protocol.specs.Call.{Goal, Include, Run}
-use Rattle.arj_protocol.specs.Effect.{Disk, Do, Effect, Say, Send, Stop, worked}
-use Rattle.arj_protocol.specs.Order.{at_number}
-use Rattle.arj_protocol.specs.Step as input
-use Rattle.arj_protocol.specs.Step.{Input, Node, Step, first_node, first_reason, numbers_to, step}
-use Rattle.arj_protocol.specs.Tree.{at_place}
-use Rattle.arj_protocol.specs.World.{Arm, Asked, Frame, Giving, World, armed, as_delivered, as_lost, begins, begins_any, bodies, change_frame, count_works, counted, cut, deliver, deliver_frame, disarmed, done_step, format, frame_number, giving, halted_at, halted_outs, happens, is_quiet, is_up_at, junk_fits, labels_unless, lacks_labels, limited, lose_frame, lowest, most_frames, new_frame, no_labels, node_numbers, node_of, numbered, put, quiesce, reasons, refused_at, run_event, run_unless, says, set_node, settle, settle_for, show_all, show_up, step_node, step_with, steps, tick_all, tick_up}
-use Rattle.arj_promise.specs.Runs.{Move, all_moved, as_moves, journal_by, moved, world_by}
-use Rattle.arj_law_runs.specs.calls.Reached.{IsReached}
-use Rattle.arj_law_runs.proofs.addresses.Lists.{all_append, all_placed, all_set}
-use Rattle.arj_law_runs.proofs.bindings.Events.{moves_reached}
-use Rattle.arj_law_serial.specs.whole.Called.{LinesOf, SaysOf}
-use Rattle.arj_law_serial.specs.joint.Fit.{OpFits, OpsFit}
+use Rattle.arj_law_runs.proofs.addresses.Lists.{all_set}
+use Rattle.arj_law_serial.proofs.joint
+use joint.{FitCoords.AsksFor}
+use joint.FitSteps.{Fine, LiveOf, StepOf, step_so}
 use Rattle.arj_law_serial.specs.joint.FitRuns.{RunsFit}
-use Rattle.arj_promise.specs.Runs.{AreEventsInForm, AreMovesInForm, IsInForm}
-use Rattle.arj_law_serial.proofs.joint.FitCoords.{AsksFor}
-use Rattle.arj_law_serial.proofs.joint.FitSteps.{Fine, LiveOf, StepOf, step_so}
 
 module _ (P : ℕ → Goal → Type 0) (free : (x n : ℕ) → P x (Include n)) where
   abbrev NodeOf : Node → Type 0
@@ -57,7 +51,8 @@ module _ (P : ℕ → Goal → Type 0) (free : (x n : ℕ) → P x (Include n)) 
   bodies_so e k j (Do w ∷ es) fine = bodies_so e k j es fine.1
   bodies_so e k j (Send to m ∷ es) fine = by (nat_le (j + 1) most_frames) (bodies_so e k (j + 1) es fine.1)
     where
-      by : (b : Bool) → LinesOf P (numbered e (bodies k (j + 1) es)) → LinesOf P (numbered e (cond b (body.Sent (j + 1) k to (frame_kind m) ∷ []) [] ++ bodies k (j + 1) es))
+      by : (b : Bool) → LinesOf P (numbered e (bodies k (j + 1) es)) →
+          LinesOf P (numbered e (cond b (body.Sent (j + 1) k to (frame_kind m) ∷ []) [] ++ bodies k (j + 1) es))
       by true rest = (tt, rest)
       by false rest = rest
 
@@ -69,7 +64,10 @@ module _ (P : ℕ → Goal → Type 0) (free : (x n : ℕ) → P x (Include n)) 
   cut_fine k how (Send to m ∷ es) d fine = (tt, cut_fine k how es d fine.1)
 
   put_so : (k : ℕ) (outs : List Effect) (w : World) → AllFine outs → WorldOf w → WorldOf (put k outs w)
-  put_so k outs w fine its = (its.0, more_lines w.lines (numbered w.event (bodies k (length w.frames) outs)) its.1 (bodies_so w.event k (length w.frames) outs fine))
+  put_so k outs w fine its = (
+    its.0,
+    more_lines w.lines (numbered w.event (bodies k (length w.frames) outs)) its.1 (bodies_so w.event k (length w.frames) outs fine),
+  )
 
   node_so : (k : ℕ) (n : Node) (w : World) → NodeOf n → WorldOf w → WorldOf (set_node k n w)
   node_so k n w live its = (all_set NodeOf k n w.nodes live its.0, its.1)
@@ -77,24 +75,29 @@ module _ (P : ℕ → Goal → Type 0) (free : (x n : ℕ) → P x (Include n)) 
   done_so : (k : ℕ) (s : Step) (w : World) → StepOf P free s → WorldOf w → WorldOf (done_step k s w)
   done_so k s w fine its = put_so k s.outs (set_node k s.after w) fine.0 (node_so k s.after w fine.2 its)
 
-  halted_so : (k : ℕ) (n : Node) (s : Step) (c : ℕ) (how : Stop) (w : World) → StepOf P free s → WorldOf w → WorldOf (halted_at k n (cut c how s.halting n.disk) w)
+  halted_so : (k : ℕ) (n : Node) (s : Step) (c : ℕ) (how : Stop) (w : World) → StepOf P free s → WorldOf w →
+      WorldOf (halted_at k n (cut c how s.halting n.disk) w)
   halted_so k n s c how w fine its =
       let q = cut c how s.halting n.disk in
       let stopped : Node = record n { disk = q.disk; live = None } in
-      put_so k (halted_outs k q) (set_node k stopped w) (all_append _ q.outs (Say (body.Halted k) ∷ []) (cut_fine c how s.halting n.disk fine.1) (tt, tt)) (node_so k stopped w tt its)
+      put_so k (halted_outs k q) (set_node k stopped w)
+      (all_append _ q.outs (Say (body.Halted k) ∷ []) (cut_fine c how s.halting n.disk fine.1) (tt, tt)) (node_so k stopped w tt its)
 
   armed_so : (k : ℕ) (n : Node) (s : Step) (w : World) (o : Option Arm) → StepOf P free s → WorldOf w → WorldOf (step_with k n s w o)
   armed_so k n s w None fine its = done_so k s w fine its
   armed_so k n s w (Some a) fine its = by (nat_lt (count_works s.halting) a.works)
     where
-      by : (b : Bool) → WorldOf (cond b (done_step k s (armed k (record a { works = a.works - count_works s.halting }) w)) (halted_at k n (cut (a.works - 1) a.how s.halting n.disk) (disarmed k w)))
+      by : (b : Bool) → WorldOf (cond b (done_step k s (armed k (record a { works = a.works - count_works s.halting }) w))
+          (halted_at k n (cut (a.works - 1) a.how s.halting n.disk) (disarmed k w)))
       by true = done_so k s (armed k (record a { works = a.works - count_works s.halting }) w) fine its
       by false = halted_so k n s (a.works - 1) a.how (disarmed k w) fine its
 
   -- the world may have a new label by then
-  stepped_so : (k : ℕ) (i : Input) (w v : World) (o : Option Node) → AsksFor P i → ((n : Node) → o ≡ Some n → NodeOf n) → WorldOf v → WorldOf (step_node k i v o)
+  stepped_so : (k : ℕ) (i : Input) (w v : World) (o : Option Node) → AsksFor P i → ((n : Node) → o ≡ Some n → NodeOf n) → WorldOf v →
+      WorldOf (step_node k i v o)
   stepped_so k i w v None asks live its = its
-  stepped_so k i w v (Some n) asks live its = armed_so k n (step v.header n i) v (at_number k v.arms) (step_so P free v.header n i asks (live n refl)) its
+  stepped_so k i w v (Some n) asks live its =
+      armed_so k n (step v.header n i) v (at_number k v.arms) (step_so P free v.header n i asks (live n refl)) its
 
   steps_so : (k : ℕ) (i : Input) (w : World) → AsksFor P i → WorldOf w → WorldOf (steps k i w)
   steps_so k i w asks its = stepped_so k i w w (at_place k w.nodes) asks (λ n is. all_placed NodeOf k w.nodes n its.0 is) its
@@ -119,7 +122,8 @@ module _ (P : ℕ → Goal → Type 0) (free : (x n : ℕ) → P x (Include n)) 
   settle_so zero w its = its
   settle_so (suc fuel) w its = by (lowest w) (λ k. settle_so fuel (deliver k w) (deliver_so k w its))
     where
-      by : (o : Option ℕ) → ((k : ℕ) → WorldOf (settle_for fuel (deliver k w))) → WorldOf (elim o [ None ↦ w | Some k ↦ settle_for fuel (deliver k w) ])
+      by : (o : Option ℕ) → ((k : ℕ) → WorldOf (settle_for fuel (deliver k w))) →
+          WorldOf (elim o [ None ↦ w | Some k ↦ settle_for fuel (deliver k w) ])
       by None rest = its
       by (Some k) rest = rest k
 
@@ -129,7 +133,8 @@ module _ (P : ℕ → Goal → Type 0) (free : (x n : ℕ) → P x (Include n)) 
 
   ticks_so : (ns : List ℕ) (w : World) → WorldOf w → WorldOf (tick_all ns w)
   ticks_so [] w its = its
-  ticks_so (n ∷ ns) w its = ticks_so ns (tick_up n w) (either_so (w.full || not (is_up_at n w)) w (steps n input.Tick w) its (steps_so n input.Tick w tt its))
+  ticks_so (n ∷ ns) w its =
+      ticks_so ns (tick_up n w) (either_so (w.full || not (is_up_at n w)) w (steps n input.Tick w) its (steps_so n input.Tick w tt its))
 
   quiesce_so : (w : World) → WorldOf w → WorldOf (quiesce w)
   quiesce_so w its =
@@ -141,10 +146,12 @@ module _ (P : ℕ → Goal → Type 0) (free : (x n : ℕ) → P x (Include n)) 
 
   shows_so : (x : ℕ) (ns : List ℕ) (w : World) → WorldOf w → WorldOf (show_all x ns w)
   shows_so x [] w its = its
-  shows_so x (n ∷ ns) w its = shows_so x ns (show_up x n w) (either_so (is_up_at n w) (steps n (input.Show x) w) w (steps_so n (input.Show x) w tt its) its)
+  shows_so x (n ∷ ns) w its =
+      shows_so x ns (show_up x n w) (either_so (is_up_at n w) (steps n (input.Show x) w) w (steps_so n (input.Show x) w tt its) its)
 
   junk_so : (n : ℕ) (w : World) (b : Bool) → WorldOf w → WorldOf (junk_fits n w b)
-  junk_so n w true its = says_so (body.Sent (length w.frames + 1) 0 n frame.Junk) (record w { frames = w.frames ++ new_frame 0 n None ∷ [] }) tt its
+  junk_so n w true its =
+      says_so (body.Sent (length w.frames + 1) 0 n frame.Junk) (record w { frames = w.frames ++ new_frame 0 n None ∷ [] }) tt its
   junk_so n w false its = its
 
   begins_so : (g : Giving) (w : World) → WorldOf w → WorldOf (begins g w)
@@ -182,19 +189,23 @@ module _ (P : ℕ → Goal → Type 0) (free : (x n : ℕ) → P x (Include n)) 
   happens_so (event.Show x) a w own its = shows_so x (node_numbers w) w its
 
   limited_so : (w : World) → WorldOf w → WorldOf (limited w)
-  limited_so w its = either_so w.full (says (body.Limit which.Frames ∷ []) (record w { over = true })) w (says_so (body.Limit which.Frames) (record w { over = true }) tt its) its
+  limited_so w its = either_so w.full (says (body.Limit which.Frames ∷ []) (record w { over = true })) w
+      (says_so (body.Limit which.Frames) (record w { over = true }) tt its) its
 
   unless_so : (e : Event) (a : Arm) (w : World) (r : Option ℕ) → EventOf e → WorldOf w → WorldOf (run_unless e a w r)
   unless_so e a w (Some c) own its = says_so (body.Refused c) (counted w) tt its
   unless_so e a w None own its =
       either_so (lacks_labels (giving e w) w) (no_labels w) (limited (happens e a (counted w)))
-      (says_so (body.Limit which.Labels) (record w { over = true }) tt its) (limited_so (happens e a (counted w)) (happens_so e a (counted w) own its))
+      (says_so (body.Limit which.Labels) (record w { over = true }) tt its)
+      (limited_so (happens e a (counted w)) (happens_so e a (counted w) own its))
 
   event_so : (e : Asked) (w : World) → EventOf e.event → WorldOf w → WorldOf (run_event e w)
-  event_so e w own its = either_so w.over w (run_unless e.event e.arm w (first_reason (reasons e.event w))) its (unless_so e.event e.arm w (first_reason (reasons e.event w)) own its)
+  event_so e w own its = either_so w.over w (run_unless e.event e.arm w (first_reason (reasons e.event w))) its
+      (unless_so e.event e.arm w (first_reason (reasons e.event w)) own its)
 
   -- stops that fall are nothing to it
-  moves_so : (ms : List Move) (w : World) → AllByRecursion (λ (m : Move). let e = m.asked in EventOf e.event) ms → WorldOf w → WorldOf (all_moved ms w)
+  moves_so : (ms : List Move) (w : World) → AllByRecursion (λ (m : Move). let e = m.asked in EventOf e.event) ms → WorldOf w →
+      WorldOf (all_moved ms w)
   moves_so [] w all its = its
   moves_so (m ∷ ms) w all its = moves_so ms (moved m w) all.1 (event_so m.asked (record w { arms = m.falls }) all.0 its)
 
@@ -234,7 +245,8 @@ event_fits (event.Stop n c how) form = tt
 event_fits (event.Junk n bytes) form = tt
 event_fits (event.Show x) form = tt
 
-events_fit : (ms : List Move) → AreMovesInForm ms → AllByRecursion (λ (m : Move). let e = m.asked in EventOf GoalFits (λ x n. tt) e.event) ms
+events_fit : (ms : List Move) → AreMovesInForm ms →
+    AllByRecursion (λ (m : Move). let e = m.asked in EventOf GoalFits (λ x n. tt) e.event) ms
 events_fit [] all = tt
 events_fit (m ∷ ms) all = (let e = m.asked in event_fits e.event all.0, events_fit ms all.1)
 

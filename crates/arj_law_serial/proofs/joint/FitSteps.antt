@@ -1,27 +1,20 @@
 -- What a node says of calls and includes in one step is of those that it was asked for, and so is what waits then.
-use Rattle.std.proofs.Common.{◌≡◌, ◌≢◌, ◌++◌, ◌+◌, ◌==◌, ℕ, zero, suc, Bool, true, false, cond, List, [], ◌∷◌, Option, Some, None, refl, sym, subst}
-use Rattle.std.specs.Prelude.{⊤}
-use Rattle.std.specs.List.{AllByRecursion, list_all}
-use Rattle.std.proofs.lemmas.Bool.{and_parts}
-use Rattle.arj_protocol.specs.Words.{Header, Kind, Label, Message, ObjectState, Uid, entry, object}
-use Rattle.arj_protocol.specs.Words.body
-use Rattle.arj_protocol.specs.Asking.{again_all, begin_action, end_line, store_of}
-use Rattle.arj_protocol.specs.Call as calls
-use Rattle.arj_protocol.specs.Call.{CallEnd, Goal, Include, Run}
-use Rattle.arj_protocol.specs.Commit as commit
-use Rattle.arj_protocol.specs.Effect.{Disk, Do, Effect, Pair, Say, Send, held_at, holder_of, worked}
-use Rattle.arj_protocol.specs.Follow.{tick_outs}
-use Rattle.arj_protocol.specs.Node.{Handled, Here, Parts, Ran, Took, Void, first_done, first_queued, handle_all, most_rounds, next_round, ran, ran_handled, rounds, taken, whole, with_coord}
-use Rattle.arj_protocol.specs.Step as input
-use Rattle.arj_protocol.specs.Step.{Input, Node, Step, acts, copy_line, entry_line, frame_step, handled_step, node_did, parent_of, parts_in, refusal, restart_outs, show_outs, shown, step, step_down, step_of, step_unless, step_up, void_step}
-use Rattle.arj_protocol.proofs.Taken.{taken_took}
+use Rattle.arj_law_parts.proofs.Words
+use Words.{◌≡◌, ◌≢◌, ◌++◌, ◌+◌, ◌==◌, ℕ, zero, suc, Bool, true, false, cond, List, [], ◌∷◌, Option, Some, None, refl, sym, subst, ⊤}
+use Words.{AllByRecursion, list_all, and_parts, Header, Kind, Label, Message, ObjectState, Uid, entry, object, again_all, begin_action}
+use Words.{end_line, store_of, CallEnd, Goal, Include, Run, Disk, Do, Effect, Pair, Say, Send, held_at, holder_of, worked, tick_outs}
+use Words.{Handled, Here, Parts, Ran, Took, Void, first_done, first_queued, handle_all, most_rounds, next_round, ran, ran_handled, rounds}
+use Words.{taken, whole, with_coord, Input, Node, Step, acts, copy_line, entry_line, frame_step, handled_step, node_did, parent_of}
+use Words.{parts_in, refusal, restart_outs, show_outs, shown, step, step_down, step_of, step_unless, step_up, void_step, taken_took}
+use Words.body
+use Words.calls
+use Words.commit
+use Words.input
+use Rattle.arj_law_serial.proofs.Terms.{AreLooks, LooksAlone, taken_looks, all_append, SayOf, SaysOf}
+use Rattle.arj_law_parts.proofs.moves.{Flat.ran_parts, Rounds.is_look}
 use Rattle.arj_law_runs.proofs.kept.Parted.{IsLeft, coord_kept}
-use Rattle.arj_law_parts.proofs.moves.Flat.{ran_parts}
-use Rattle.arj_law_parts.proofs.moves.Rounds.{AreLooks, LooksAlone, is_look, taken_looks}
-use Rattle.arj_law_runs.proofs.addresses.Lists.{all_append}
-use Rattle.arj_law_serial.specs.whole.Called.{SayOf, SaysOf}
-use Rattle.arj_law_serial.proofs.whole.CalledSays.{acts_say, marks_say, message_fine, plain_says, restart_fine, tick_fine}
 use Rattle.arj_law_serial.proofs.joint.FitCoords.{AsksFor, WorksOf, acked_so, acts_so, again_so, begin_so, heard_so, wait_of}
+use Rattle.arj_law_serial.proofs.whole.CalledSays.{acts_say, marks_say, message_fine, plain_says, restart_fine, tick_fine}
 
 module _ (P : ℕ → Goal → Type 0) (free : (x n : ℕ) → P x (Include n)) where
   abbrev pub Fine : List Effect → Type 0
@@ -65,8 +58,10 @@ module _ (P : ℕ → Goal → Type 0) (free : (x n : ℕ) → P x (Include n)) 
       by (Void outs) is looks = looks_fine outs looks
       by (Took v outs) is looks =
           let took = taken_took n d t v from m outs is in (
-            subst (IsLeft (WorksOf P)) took (coord_kept (WorksOf P) n d t from all (λ a r. heard_so P from a r d.intents t.coord all) (λ u. acked_so P from u d.intents t.coord all) m),
-            message_fine (SaysOf P) (plain_says P) n d t v from m outs took (λ a r q s of found now its e ends l. end_says s.x s.goal e l (wait_of P t.coord all a.act q s found now)) (λ a r q c of found now. marks_say P q (commit.answered from c r).marks),
+            subst (IsLeft (WorksOf P)) took (coord_kept (WorksOf P) n d t from all (λ a r. heard_so P from a r d.intents t.coord all)
+                (λ u. acked_so P from u d.intents t.coord all) m),
+            message_fine (SaysOf P) (plain_says P) n d t v from m outs took (λ a r q s of found now its e ends l. end_says s.x s.goal e l
+                (wait_of P t.coord all a.act q s found now)) (λ a r q c of found now. marks_say P q (commit.answered from c r).marks),
           )
 
   -- ---- messages to itself
@@ -77,7 +72,8 @@ module _ (P : ℕ → Goal → Type 0) (free : (x n : ℕ) → P x (Include n)) 
   ran_fine n t (Do w ∷ es) d all = (tt, ran_fine n t es (worked w d) all.1)
   ran_fine n t (Send to m ∷ es) d all = by (to == n) (ran_fine n t es d all.1)
     where
-      by : (b : Bool) → Fine (ran n t es d).outs → Fine (cond b (first_queued m (ran n t es d)) (first_done (Send to m) (ran n t es d))).outs
+      by : (b : Bool) → Fine (ran n t es d).outs →
+          Fine (cond b (first_queued m (ran n t es d)) (first_done (Send to m) (ran n t es d))).outs
       by true rest = rest
       by false rest = (tt, rest)
 
@@ -115,7 +111,8 @@ module _ (P : ℕ → Goal → Type 0) (free : (x n : ℕ) → P x (Include n)) 
   abbrev pub StepOf : Step → Type 0
   StepOf s = Fine s.outs × Fine s.halting × LiveOf (let n = s.after in n.live)
 
-  did_so : (n : Node) (before : List Effect) (t : Parts) (outs : List Effect) → Fine before → PartsOf t → Fine outs → StepOf (node_did n before t outs)
+  did_so : (n : Node) (before : List Effect) (t : Parts) (outs : List Effect) → Fine before → PartsOf t → Fine outs →
+      StepOf (node_did n before t outs)
   did_so n before t outs first all fine =
       let r = whole n.number t outs n.disk in
       let its = rounds_so n.number most_rounds (ran n.number t outs n.disk) (ran_so n.number t outs n.disk all fine) in
@@ -132,12 +129,15 @@ module _ (P : ℕ → Goal → Type 0) (free : (x n : ℕ) → P x (Include n)) 
       by (Void outs) its = void_so k n outs its live
       by (Took v outs) its = did_so n (Say (body.Got k) ∷ []) v outs (tt, tt) its.0 its.1
 
-  shown_fine : (line : Option ObjectState → List Effect) → ((s : Option ObjectState) → Fine (line s)) → (u : Uid) (d : Pair) (o : Option Uid) → Fine (shown line u d o)
+  shown_fine : (line : Option ObjectState → List Effect) → ((s : Option ObjectState) → Fine (line s)) →
+      (u : Uid) (d : Pair) (o : Option Uid) → Fine (shown line u d o)
   shown_fine line each u d None = (tt, each (held_at u d))
   shown_fine line each u d (Some holder) = tt
 
   show_fine : (n x : ℕ) (d : Disk) → Fine (show_outs n x d)
-  show_fine n x d = both (cond (n == 1) (shown (entry_line x) (entry x) d.names (holder_of (entry x) d.names)) []) (shown (copy_line n x) (object x) d.store (holder_of (object x) d.store)) (by (n == 1)) (shown_fine (copy_line n x) copies (object x) d.store (holder_of (object x) d.store))
+  show_fine n x d = both (cond (n == 1) (shown (entry_line x) (entry x) d.names (holder_of (entry x) d.names)) [])
+      (shown (copy_line n x) (object x) d.store (holder_of (object x) d.store)) (by (n == 1))
+      (shown_fine (copy_line n x) copies (object x) d.store (holder_of (object x) d.store))
     where
       copies : (s : Option ObjectState) → Fine (copy_line n x s)
       copies None = tt
@@ -151,20 +151,25 @@ module _ (P : ℕ → Goal → Type 0) (free : (x n : ℕ) → P x (Include n)) 
       by true = shown_fine (entry_line x) entries (entry x) d.names (holder_of (entry x) d.names)
       by false = tt
 
-  act_so : (i : Input) (n : Node) (t : Parts) → AsksFor P i → ((l : Label) (how : Kind) (parent : Option Label) → i ≢ input.Begin l how parent) → PartsOf t
-      → StepOf (node_did n [] (with_coord t (let d = n.disk in (acts i d.intents t.coord).part)) (let d = n.disk in (acts i d.intents t.coord).outs))
+  act_so : (i : Input) (n : Node) (t : Parts) → AsksFor P i →
+      ((l : Label) (how : Kind) (parent : Option Label) → i ≢ input.Begin l how parent) → PartsOf t
+      → StepOf (node_did n [] (with_coord t (let d = n.disk in (acts i d.intents t.coord).part)) (let d = n.disk in
+      (acts i d.intents t.coord).outs))
   act_so i n t its other all =
       let d = n.disk in
       let r = acts i d.intents t.coord in
-      did_so n [] (with_coord t r.part) r.outs tt (acts_so P i d.intents t.coord its other all) (acts_say P t.coord (wait_of P t.coord all) i d.intents other)
+      did_so n [] (with_coord t r.part) r.outs tt (acts_so P i d.intents t.coord its other all)
+      (acts_say P t.coord (wait_of P t.coord all) i d.intents other)
 
   up_so : (i : Input) (n : Node) (t : Parts) → AsksFor P i → PartsOf t → LiveOf n.live → StepOf (step_up i n t)
   up_so (input.Frame k from m) n t its all live = frame_so k from n t m all live
-  up_so input.Tick n t its all live = let r = again_all t.coord.doings t.coord in did_so n [] (with_coord t r.part) (tick_outs n t) tt (again_so P t.coord.doings t.coord all) (tick_fine (SaysOf P) (plain_says P) n t)
+  up_so input.Tick n t its all live = let r = again_all t.coord.doings t.coord in
+      did_so n [] (with_coord t r.part) (tick_outs n t) tt (again_so P t.coord.doings t.coord all) (tick_fine (SaysOf P) (plain_says P) n t)
   up_so input.Restart n t its all live = (tt, tt, live)
   up_so input.Crash n t its all live = ((tt, tt), (tt, tt), tt)
   up_so (input.Show x) n t its all live = (show_fine n.number x n.disk, show_fine n.number x n.disk, live)
-  up_so (input.Begin l how parent) n t its all live = let r = begin_action l how parent (parent_of parent t.coord) t.coord in did_so n [] (with_coord t r.part) r.outs tt (begin_so P l how parent (parent_of parent t.coord) t.coord all) (tt, tt)
+  up_so (input.Begin l how parent) n t its all live = let r = begin_action l how parent (parent_of parent t.coord) t.coord in
+      did_so n [] (with_coord t r.part) r.outs tt (begin_so P l how parent (parent_of parent t.coord) t.coord all) (tt, tt)
   up_so (input.Call l x o) n t its all live = act_so (input.Call l x o) n t its (λ m how parent same. cc same) all
   up_so (input.Include l x s) n t its all live = act_so (input.Include l x s) n t its (λ m how parent same. cc same) all
   up_so (input.Commit l) n t its all live = act_so (input.Commit l) n t its (λ m how parent same. cc same) all
@@ -175,7 +180,8 @@ module _ (P : ℕ → Goal → Type 0) (free : (x n : ℕ) → P x (Include n)) 
   down_so hd (input.Frame k from m) n live = void_so k n [] tt live
   down_so hd input.Restart n live =
       let d = n.disk in
-      did_so n [] (parts_in n.number (d.inc + 1) d) (restart_outs hd n.number (d.inc + 1) d) tt tt (restart_fine (SaysOf P) (plain_says P) hd n.number (d.inc + 1) d)
+      did_so n [] (parts_in n.number (d.inc + 1) d) (restart_outs hd n.number (d.inc + 1) d) tt tt
+      (restart_fine (SaysOf P) (plain_says P) hd n.number (d.inc + 1) d)
   down_so hd input.Tick n live = (tt, tt, live)
   down_so hd input.Crash n live = (tt, tt, live)
   down_so hd (input.Show x) n live = (tt, tt, live)

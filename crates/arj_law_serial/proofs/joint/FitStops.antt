@@ -1,19 +1,17 @@
 -- Each stop that is armed in a script's run falls at one of the works that its disk does from then on.
-use Rattle.std.proofs.Common.{◌≡◌, ◌≤◌, ◌-◌, ◌||◌, ℕ, zero, suc, Bool, true, false, cond, not, List, [], ◌∷◌, length, Option, Some, None, refl, arith}
-use Rattle.std.proofs.lemmas.Bool.Decides.{nat_tests}
-use Rattle.std.specs.Prelude.{nat_lt}
-use Rattle.std.specs.List.{AllByRecursion}
-use Rattle.arj_law_runs.proofs.addresses.Lists.{all_filter}
+use Rattle.arj_law_parts.proofs.Words
+use Words.{◌≡◌, ◌≤◌, ◌-◌, ◌||◌, ℕ, zero, suc, Bool, true, false, cond, not, List, [], ◌∷◌, length, Option, Some, None, refl, arith}
+use Words.{nat_tests, nat_lt, AllByRecursion, at_number, Input, Node, Step, first_reason, step, at_place, Event, Arm, Frame, Giving, World}
+use Words.{armed, as_delivered, begins, begins_any, change_frame, count_works, counted, cut, deliver, deliver_frame, disarmed, done_step}
+use Words.{frame_number, giving, halted_at, happens, is_up_at, junk_fits, labels_unless, lacks_labels, limited, lose_frame, lowest}
+use Words.{most_frames, no_labels, node_numbers, node_of, quiesce, reasons, refused_at, run_event, run_unless, settle, settle_for, show_all}
+use Words.{show_up, step_node, step_with, steps, tick_all, tick_up, as_moves, AreEventsInForm, AreStopsInForm}
+use Words.input
+use Words.event
+use Rattle.arj_law_serial.proofs.Terms.{Asked}
 use Rattle.arj_law_parts.proofs.parts.LivesNamed.{all_put as all_put_number}
-use Rattle.arj_protocol.specs.Order.{at_number}
-use Rattle.arj_protocol.specs.Step as input
-use Rattle.arj_protocol.specs.Step.{Input, Node, Step, first_reason, step}
-use Rattle.arj_protocol.specs.Tree.{at_place}
-use Rattle.arj_protocol.specs.Words.{Event}
-use Rattle.arj_protocol.specs.Words.event
-use Rattle.arj_protocol.specs.World.{Arm, Asked, Frame, Giving, World, armed, as_delivered, begins, begins_any, change_frame, count_works, counted, cut, deliver, deliver_frame, disarmed, done_step, frame_number, giving, halted_at, happens, is_up_at, junk_fits, labels_unless, lacks_labels, limited, lose_frame, lowest, most_frames, no_labels, node_numbers, node_of, quiesce, reasons, refused_at, run_event, run_unless, settle, settle_for, show_all, show_up, step_node, step_with, steps, tick_all, tick_up}
-use Rattle.arj_promise.specs.Runs.{as_moves}
-use Rattle.arj_promise.specs.Runs.{AreEventsInForm, AreStopsInForm, HasWork}
+use Rattle.arj_law_runs.proofs.addresses.Lists.{all_filter}
+use Rattle.arj_promise.specs.Runs.{HasWork}
 
 -- so it is of each stop that is armed in the world
 abbrev Works : World → Type 0
@@ -25,8 +23,10 @@ with_works : (k : ℕ) (n : Node) (s : Step) (w : World) (o : Option Arm) → Wo
 with_works k n s w None its = its
 with_works k n s w (Some a) its = by (nat_lt (count_works s.halting) a.works) refl
   where
-    by : (b : Bool) → nat_lt (count_works s.halting) a.works ≡ b → Works (cond b (done_step k s (armed k (record a { works = a.works - count_works s.halting }) w)) (halted_at k n (cut (a.works - 1) a.how s.halting n.disk) (disarmed k w)))
-    by true is = all_put_number HasWork k (record a { works = a.works - count_works s.halting }) w.arms (left (count_works s.halting) a.works is) its
+    by : (b : Bool) → nat_lt (count_works s.halting) a.works ≡ b → Works (cond b (done_step k s (armed k (record a
+        { works = a.works - count_works s.halting }) w)) (halted_at k n (cut (a.works - 1) a.how s.halting n.disk) (disarmed k w)))
+    by true is =
+        all_put_number HasWork k (record a { works = a.works - count_works s.halting }) w.arms (left (count_works s.halting) a.works is) its
       where
         left : (c m : ℕ) → nat_lt c m ≡ true → 1 ≤ m - c
         left c m is = grind (arith, nat_tests, is)
@@ -60,13 +60,15 @@ settle_so : (fuel : ℕ) (w : World) → Works w → Works (settle_for fuel w)
 settle_so zero w its = its
 settle_so (suc fuel) w its = by (lowest w) (λ k. settle_so fuel (deliver k w) (deliver_so k w its))
   where
-    by : (o : Option ℕ) → ((k : ℕ) → Works (settle_for fuel (deliver k w))) → Works (elim o [ None ↦ w | Some k ↦ settle_for fuel (deliver k w) ])
+    by : (o : Option ℕ) → ((k : ℕ) → Works (settle_for fuel (deliver k w))) →
+        Works (elim o [ None ↦ w | Some k ↦ settle_for fuel (deliver k w) ])
     by None rest = its
     by (Some k) rest = rest k
 
 ticks_so : (ns : List ℕ) (w : World) → Works w → Works (tick_all ns w)
 ticks_so [] w its = its
-ticks_so (n ∷ ns) w its = ticks_so ns (tick_up n w) (either_so (w.full || not (is_up_at n w)) w (steps n input.Tick w) its (steps_so n input.Tick w its))
+ticks_so (n ∷ ns) w its =
+    ticks_so ns (tick_up n w) (either_so (w.full || not (is_up_at n w)) w (steps n input.Tick w) its (steps_so n input.Tick w its))
 
 quiesce_so : (w : World) → Works w → Works (quiesce w)
 quiesce_so w its =
@@ -78,7 +80,8 @@ quiesce_so w its =
 
 shows_so : (x : ℕ) (ns : List ℕ) (w : World) → Works w → Works (show_all x ns w)
 shows_so x [] w its = its
-shows_so x (n ∷ ns) w its = shows_so x ns (show_up x n w) (either_so (is_up_at n w) (steps n (input.Show x) w) w (steps_so n (input.Show x) w its) its)
+shows_so x (n ∷ ns) w its =
+    shows_so x ns (show_up x n w) (either_so (is_up_at n w) (steps n (input.Show x) w) w (steps_so n (input.Show x) w its) its)
 
 junk_so : (n : ℕ) (w : World) (b : Bool) → Works w → Works (junk_fits n w b)
 junk_so n w true its = its
@@ -123,10 +126,12 @@ limited_so w its = either_so w.full _ w its its
 
 unless_so : (e : Event) (a : Arm) (w : World) (r : Option ℕ) → HasWork a → Works w → Works (run_unless e a w r)
 unless_so e a w (Some c) own its = its
-unless_so e a w None own its = either_so (lacks_labels (giving e w) w) (no_labels w) (limited (happens e a (counted w))) its (limited_so (happens e a (counted w)) (happens_so e a (counted w) own its))
+unless_so e a w None own its = either_so (lacks_labels (giving e w) w) (no_labels w) (limited (happens e a (counted w))) its
+    (limited_so (happens e a (counted w)) (happens_so e a (counted w) own its))
 
 event_so : (e : Asked) (w : World) → HasWork e.arm → Works w → Works (run_event e w)
-event_so e w own its = either_so w.over w (run_unless e.event e.arm w (first_reason (reasons e.event w))) its (unless_so e.event e.arm w (first_reason (reasons e.event w)) own its)
+event_so e w own its = either_so w.over w (run_unless e.event e.arm w (first_reason (reasons e.event w))) its
+    (unless_so e.event e.arm w (first_reason (reasons e.event w)) own its)
 
 -- ---- scripts
 

@@ -1,41 +1,21 @@
 -- The form of an object's states and entries, in every run.
-use Rattle.std.proofs.Common.{◌≡◌, ◌∙◌, ◌+◌, ◌==◌, ℕ, Bool, true, false, cond, filter, List, [], ◌∷◌, map, refl, sym, subst, arith, ap, eqb-true, inl, inr, ⊎_elim, Option, Some, None}
-use Rattle.std.specs.Prelude.{if◌then◌else◌}
-use Rattle.std.specs.List.{AllByRecursion}
-use Rattle.std.proofs.lemmas.Bool.Decides.{nat_tests}
-use Rattle.arj_base.specs.Uid.{entry, object}
-use Rattle.arj_journal.specs.ScriptForm.{HeaderInForm}
-use Rattle.arj_lock.proofs.Members.{In as Listed, in_find, in_find_none}
-use Rattle.arj_model.specs.Last.{entry_payload, first_values, object_line, servers_of_line, value_of_line}
-use Rattle.arj_protocol.specs.Words.{Class, Header, ObjectLine, ObjectState, Uid, Value, class_of}
+use Rattle.arj_law_parts.proofs.Words
+use Words.{◌≡◌, ◌∙◌, ◌+◌, ◌==◌, ℕ, Bool, true, false, cond, filter, List, [], ◌∷◌, map, refl, sym, subst, arith, ap, eqb-true, inl, inr}
+use Words.{⊎_elim, Option, Some, None, if◌then◌else◌, AllByRecursion, nat_tests, entry, object, In as Listed, in_find, in_find_none, Class}
+use Words.{Header, ObjectLine, ObjectState, Uid, Value, class_of, again_all, begin_action, Coord, Disk, Do, Effect, Say, Send, stopped}
+use Words.{worked, tick_outs, Parts, with_coord, has, put_uid, Node, acts, entries_at, first_disk, first_entry, first_state, parent_of}
+use Words.{parts_in, put_states, restart_outs, value_in, World, is_serial_kind, entry_back, same_number, Post, Seen, see}
+use Rattle.arj_law_serial.proofs.Terms
+use Terms.{HeaderInForm, entry_payload, first_values, object_line, servers_of_line, value_of_line, never, Keeps, In, at, given, posted}
+use Terms.{said, Up, Walks, Keeping, kept_holds, IsLine, first_at, HaveForm, CoordIsSo, MessageIsSo, Own, acts_so, begins_so, AllAreSo}
+use Terms.{AreSo, DiskIsSo, Kind, PartsAreSo, kind_of, listed, so_of, stored}
+use Rattle.arj_law_parts.specs.moves.Keeps.{Holds}
+use Rattle.arj_law_serial.proofs.joint
+use joint.{Firsts.line_in, Firsts.one_line}
+use joint.FormNodes.{Held, handled_so, keep, put_so, restart_so, says_so, starts_so, stopped_so, tick_so, worked_so}
+use Rattle.arj_law_serial.specs.joint.Forms.{FormsAreKept, NodeIsSo}
 use Rattle.arj_protocol.specs.Words.class
 use Rattle.arj_protocol.specs.Words.value
-use Rattle.arj_protocol.specs.Asking.{again_all, begin_action}
-use Rattle.arj_protocol.specs.Coord.{Coord}
-use Rattle.arj_protocol.specs.Effect.{Disk, Do, Effect, Say, Send, stopped, worked}
-use Rattle.arj_protocol.specs.Follow.{tick_outs}
-use Rattle.arj_protocol.specs.Node.{Parts, with_coord}
-use Rattle.arj_protocol.specs.Order.{has, put_uid}
-use Rattle.arj_protocol.specs.Step.{Node, acts, entries_at, first_disk, first_entry, first_state, parent_of, parts_in, put_states, restart_outs}
-use Rattle.arj_protocol.specs.Values.{value_in}
-use Rattle.arj_protocol.specs.World.{World, is_serial_kind}
-use Rattle.arj_protocol.proofs.Payloads.{entry_back}
-use Rattle.arj_protocol.proofs.RowSteps.{same_number}
-use Rattle.arj_law_disk.proofs.machine.Base.{never}
-use Rattle.arj_law_parts.specs.moves.Keeps.{Holds, Keeps}
-use Rattle.arj_law_parts.specs.moves.Seen.{In, at, given, posted, said}
-use Rattle.arj_promise.specs.Runs.{Post, Seen, see}
-use Rattle.arj_law_parts.specs.moves.Walks.{Up, Walks}
-use Rattle.arj_law_runs.specs.calls.Reached.{Keeping}
-use Rattle.arj_law_runs.proofs.calls.Reaching.{kept_holds}
-use Rattle.arj_law_disk_view.specs.view.Formats.{IsLine}
-use Rattle.arj_law_disk_view.proofs.view.FirstSeen.{first_at}
-use Rattle.arj_law_serial.specs.order.Cleaned.{HaveForm}
-use Rattle.arj_law_disk_view.specs.running.States.{CoordIsSo, MessageIsSo, Own}
-use Rattle.arj_law_disk_view.proofs.running.StateCoords.{acts_so, begins_so}
-use Rattle.arj_law_serial.specs.joint.Forms.{AllAreSo, AreSo, DiskIsSo, FormsAreKept, Kind, NodeIsSo, PartsAreSo, kind_of, listed, so_of, stored}
-use Rattle.arj_law_serial.proofs.joint.Firsts.{line_in, one_line}
-use Rattle.arj_law_serial.proofs.joint.FormNodes.{Held, handled_so, keep, put_so, restart_so, says_so, starts_so, stopped_so, tick_so, worked_so}
 
 module _ (k : Kind) where
   abbrev Is : Node → Type 0
@@ -43,18 +23,22 @@ module _ (k : Kind) where
 
   -- of each node but this, and of all that was sent
   abbrev RestIsSo : ℕ → Seen → Type 0
-  RestIsSo n M = ((j : ℕ) (m : Node) → (j == n) ≡ false → M.nodes j ≡ Some m → Is m) × ((p : Post) → In p M.sent → MessageIsSo (so_of k) p.message)
+  RestIsSo n M =
+      ((j : ℕ) (m : Node) → (j == n) ≡ false → M.nodes j ≡ Some m → Is m) × ((p : Post) → In p M.sent → MessageIsSo (so_of k) p.message)
 
   rest : (n : ℕ) (d : Disk) (live : Option Parts) (M : Seen) → AreSo k (at n d live M) → RestIsSo n M
-  rest n d live M all = (λ j m apart is. all.0 j m ((λ i. cond (apart i) (Some (record { number = n; disk = d; live = live })) (M.nodes j)) ∙ is), all.1)
+  rest n d live M all =
+      (λ j m apart is. all.0 j m ((λ i. cond (apart i) (Some (record { number = n; disk = d; live = live })) (M.nodes j)) ∙ is), all.1)
 
   own : (n : ℕ) (d : Disk) (live : Option Parts) (M : Seen) → AreSo k (at n d live M) → Is (record { number = n; disk = d; live = live })
-  own n d live M all = all.0 n (record { number = n; disk = d; live = live }) (λ i. cond (same n i) (Some (record { number = n; disk = d; live = live })) (M.nodes n))
+  own n d live M all = all.0 n (record { number = n; disk = d; live = live })
+      (λ i. cond (same n i) (Some (record { number = n; disk = d; live = live })) (M.nodes n))
     where
       same : (n : ℕ) → (n == n) ≡ true
       same n = grind (arith, nat_tests)
 
-  back : (n : ℕ) (d : Disk) (live : Option Parts) (M : Seen) → Is (record { number = n; disk = d; live = live }) → RestIsSo n M → AreSo k (at n d live M)
+  back : (n : ℕ) (d : Disk) (live : Option Parts) (M : Seen) → Is (record { number = n; disk = d; live = live }) → RestIsSo n M →
+      AreSo k (at n d live M)
   back n d live M its all = (λ j m is. by j m (j == n) refl is, all.1)
     where
       x : Node
@@ -65,7 +49,8 @@ module _ (k : Kind) where
       by j m false apart there = all.0 j m apart there
 
   -- whatever a node does
-  walk : (e n : ℕ) (outs : List Effect) (v : Parts) (d : Disk) (M : Seen) → DiskIsSo k d → PartsAreSo k v → AllAreSo k outs → RestIsSo n M → Walks (AreSo k) e n outs (Up (AreSo k) n v) d M
+  walk : (e n : ℕ) (outs : List Effect) (v : Parts) (d : Disk) (M : Seen) → DiskIsSo k d → PartsAreSo k v → AllAreSo k outs → RestIsSo n M →
+      Walks (AreSo k) e n outs (Up (AreSo k) n v) d M
   walk e n [] v d M disk its outs all = back n d (Some v) M (disk, its) all
   walk e n (Do w ∷ es) v d M disk its outs all = (
     λ how. back n (stopped how w d) None (said e [] M) (stopped_so k how w d outs.0 disk, tt) all,
@@ -97,7 +82,8 @@ real_class class.Table v is bytes = refl
 -- ---- as a run begins
 
 module _ (P : Uid → ObjectState → Type 0) where
-  puts_so : (ss : List ObjectState) (held : List (Uid × ObjectState)) → AllByRecursion (Own P) ss → Held P held → Held P (put_states ss held)
+  puts_so : (ss : List ObjectState) (held : List (Uid × ObjectState)) → AllByRecursion (Own P) ss → Held P held →
+      Held P (put_states ss held)
   puts_so [] held its so = so
   puts_so (s ∷ ss) held its so = puts_so ss (put_uid s.uid s held) its.1 (put_so P s held its.0 so)
 
@@ -113,7 +99,8 @@ filter_line : (test : ObjectLine → Bool) (os : List ObjectLine) (o : ObjectLin
 filter_line test [] o i = absurd i
 filter_line test (p ∷ ps) o i = by (test p) i (filter_line test ps o)
   where
-    by : (b : Bool) → IsLine o (cond b (p ∷ filter test ps) (filter test ps)) → (IsLine o (filter test ps) → IsLine o ps) → IsLine o (p ∷ ps)
+    by : (b : Bool) → IsLine o (cond b (p ∷ filter test ps) (filter test ps)) → (IsLine o (filter test ps) → IsLine o ps) →
+        IsLine o (p ∷ ps)
     by true (inl same) ih = inl same
     by true (inr more) ih = inr (ih more)
     by false more ih = inr (ih more)
@@ -124,19 +111,22 @@ module _ (hd : Header) (x : ℕ) (form : HeaderInForm hd) where
   line_is o is same = by (object_line hd x) refl
     where
       by : (q : Option ObjectLine) → object_line hd x ≡ q → q ≡ Some o
-      by None none = absurd (never (ap (λ y. y == x) same ∙ same_number x) (in_find_none (λ (p : ObjectLine). p.x == x) o hd.objects none (line_out o hd.objects is)))
+      by None none = absurd (never (ap (λ y. y == x) same ∙ same_number x)
+          (in_find_none (λ (p : ObjectLine). p.x == x) o hd.objects none (line_out o hd.objects is)))
       by (Some p) found =
           let f = in_find (λ (q : ObjectLine). q.x == x) p hd.objects found in
           ap Some (one_line hd.objects (let fs = form.objects in fs.1) p o (line_in p hd.objects f.0) is (eqb-true p.x x f.1 ∙ sym same))
 
-  values_so : (os : List ObjectLine) → ((o : ObjectLine) → IsLine o os → IsLine o hd.objects) → AllByRecursion (Own (stored (kind_of hd x))) (map first_state os)
+  values_so : (os : List ObjectLine) → ((o : ObjectLine) → IsLine o os → IsLine o hd.objects) →
+      AllByRecursion (Own (stored (kind_of hd x))) (map first_state os)
   values_so [] there = tt
   values_so (o ∷ os) there = (
     (refl, λ same. ap (λ q. class_of (value_of_line q)) (sym (line_is o (there o (inl refl)) (ap (λ (u : Uid). u.num) same)))),
     values_so os (λ p i. there p (inr i)),
   )
 
-  entries_so : (os : List ObjectLine) → ((o : ObjectLine) → IsLine o os → IsLine o hd.objects) → AllByRecursion (Own (listed (kind_of hd x))) (map first_entry os)
+  entries_so : (os : List ObjectLine) → ((o : ObjectLine) → IsLine o os → IsLine o hd.objects) →
+      AllByRecursion (Own (listed (kind_of hd x))) (map first_entry os)
   entries_so [] there = tt
   entries_so (o ∷ os) there = (
     λ same.
@@ -148,8 +138,14 @@ module _ (hd : Header) (x : ℕ) (form : HeaderInForm hd) where
 
   disk_so : (n : ℕ) → DiskIsSo (kind_of hd x) (first_disk hd n)
   disk_so n = record {
-    store = record { held = puts_so (stored (kind_of hd x)) (map first_state (filter (λ (o : ObjectLine). has o.stores n) hd.objects)) [] (values_so (filter (λ (o : ObjectLine). has o.stores n) hd.objects) (λ o i. filter_line (λ (o : ObjectLine). has o.stores n) hd.objects o i)) (none_so (stored (kind_of hd x))); pend = tt };
-    names = record { held = puts_so (listed (kind_of hd x)) (entries_at n hd) [] (by (n == 1)) (none_so (listed (kind_of hd x))); pend = tt };
+    store = record {
+      held = puts_so (stored (kind_of hd x)) (map first_state (filter (λ (o : ObjectLine). has o.stores n) hd.objects)) [] (values_so
+          (filter (λ (o : ObjectLine). has o.stores n) hd.objects) (λ o i. filter_line (λ (o : ObjectLine). has o.stores n) hd.objects o i))
+          (none_so (stored (kind_of hd x)));
+      pend = tt;
+    };
+    names =
+        record { held = puts_so (listed (kind_of hd x)) (entries_at n hd) [] (by (n == 1)) (none_so (listed (kind_of hd x))); pend = tt };
   }
     where
       by : (b : Bool) → AllByRecursion (Own (listed (kind_of hd x))) (if b then map first_entry hd.objects else [])
@@ -171,12 +167,14 @@ module _ (hd : Header) (x : ℕ) (form : HeaderInForm hd) where
         let o = own k n d (Some t) M all in
         let did = acts i d.intents t.coord in
         let a = acts_so (so_of k) (keep k) i d.intents t.coord (let p = o.1 in p.coord) in
-        walk k e n did.outs (with_coord t did.part) d M o.0 (with_it k t did.part o.1 a.0) (says_so k did.outs a.1) (rest k n d (Some t) M all);
+        walk k e n did.outs (with_coord t did.part) d M o.0 (with_it k t did.part o.1 a.0) (says_so k did.outs a.1)
+        (rest k n d (Some t) M all);
     begin = λ e n d t l how parent M new may free all.
         let o = own k n d (Some t) M all in
         let did = begin_action l how parent (parent_of parent t.coord) t.coord in
         let a = begins_so (so_of k) (keep k) l how parent (parent_of parent t.coord) t.coord (let p = o.1 in p.coord) in
-        walk k e n did.outs (with_coord t did.part) d (given l (record { node = n; serial = is_serial_kind how }) M) o.0 (with_it k t did.part o.1 a.0) (says_so k did.outs a.1) (rest k n d (Some t) M all);
+        walk k e n did.outs (with_coord t did.part) d (given l (record { node = n; serial = is_serial_kind how }) M) o.0
+        (with_it k t did.part o.1 a.0) (says_so k did.outs a.1) (rest k n d (Some t) M all);
     tick = λ e n d t M all.
         let o = own k n d (Some t) M all in
         let y : Node = record { number = n; disk = d; live = Some t } in
@@ -184,7 +182,8 @@ module _ (hd : Header) (x : ℕ) (form : HeaderInForm hd) where
         walk k e n (tick_outs y t) (with_coord t (again_all t.coord.doings t.coord).part) d M o.0 a.0 a.1 (rest k n d (Some t) M all);
     restart = λ e n d M all.
         let o = own k n d None M all in
-        walk k e n (restart_outs hd n (d.inc + 1) d) (parts_in n (d.inc + 1) d) d M o.0 (starts_so k n (d.inc + 1) d) (restart_so k hd n d) (rest k n d None M all);
+        walk k e n (restart_outs hd n (d.inc + 1) d) (parts_in n (d.inc + 1) d) d M o.0 (starts_so k n (d.inc + 1) d) (restart_so k hd n d)
+        (rest k n d None M all);
     first = (λ j n is. subst (NodeIsSo k) (first_at hd j n is) (disk_so j, starts_so k j 1 (first_disk hd j)), λ p no_way. absurd no_way);
   }
     where

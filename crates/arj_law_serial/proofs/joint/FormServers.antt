@@ -1,24 +1,19 @@
 -- What a server does with copies: the object's stays of its class, and the states that it votes are of it.
-use Rattle.std.proofs.Common.{◌≡◌, ◌==◌, ◌||◌, ℕ, List, [], ◌∷◌, Bool, true, false, cond, length, not, Option, Some, None, refl, ◌∙◌, ap, min}
-use Rattle.std.specs.Prelude.{IfSome, option_map}
-use Rattle.std.specs.List.{AllByRecursion, cons_option, filter_map}
-use Rattle.std.proofs.lemmas.Bool.{and_parts}
-use Rattle.arj_base.proofs.Uids.{uid_is}
-use Rattle.arj_base.specs.Uid.{object}
-use Rattle.arj_protocol.specs.Words.{Binding, End, Head, InvokedReply, ObjectState, Op, Path, Row, Uid, Value, VotedReply, What, class_of, first_conflict, front, is_on, last_uid, op_mode, tops_of, uid_eq, uids_of, value_after, writes, payload_of}
-use Rattle.arj_protocol.specs.Words.ending
-use Rattle.arj_protocol.specs.Ask.{Reply, actor}
-use Rattle.arj_protocol.specs.Copy.{Base, Copy, Over, ask_copy, changed_state, current, end_copy, folded, invoke_copy, is_of, is_top_over, over_of, overs_committed, run_copy, settled, taken_copy, written}
-use Rattle.arj_protocol.specs.Effect.{Did, Served, did_nothing, either, reply, void}
-use Rattle.arj_protocol.specs.Node.{is_object}
-use Rattle.arj_protocol.specs.Order.{at_number, at_uid, binding_eq, binding_less, next_version}
-use Rattle.arj_protocol.specs.Server.{Kept, Server, activate, active_binding, apply_ends, changed_by, end_new, end_one, first_unbound, has_ended, invoke, invoke_kept, invoke_new, invoke_now, is_below, is_told, keeps, on_copy, other_inc, taken_end, told, took_copy, vote, vote_now}
-use Rattle.arj_protocol.specs.Values.{value_in}
-use Rattle.arj_law_parts.proofs.parts.LivesNamed.{keyed_each, keyed_found, keyed_put}
+use Rattle.arj_law_parts.proofs.Words
+use Words.{◌≡◌, ◌==◌, ◌||◌, ℕ, List, [], ◌∷◌, Bool, true, false, cond, length, not, Option, Some, None, refl, ◌∙◌, ap, min, IfSome}
+use Words.{option_map, AllByRecursion, cons_option, filter_map, and_parts, uid_is, object, Binding, End, Head, InvokedReply, ObjectState}
+use Words.{Op, Path, Row, Uid, Value, VotedReply, What, class_of, first_conflict, front, is_on, last_uid, op_mode, tops_of, uid_eq, uids_of}
+use Words.{value_after, writes, payload_of, Reply, actor, Base, Copy, Over, ask_copy, changed_state, current, end_copy, folded, invoke_copy}
+use Words.{is_of, is_top_over, over_of, overs_committed, run_copy, settled, taken_copy, written, Did, Served, did_nothing, either, reply}
+use Words.{void, is_object, at_number, at_uid, binding_eq, binding_less, next_version, Kept, Server, activate, active_binding, apply_ends}
+use Words.{changed_by, end_new, end_one, first_unbound, has_ended, invoke, invoke_kept, invoke_new, invoke_now, is_below, is_told, keeps}
+use Words.{on_copy, other_inc, told, took_copy, vote, vote_now, value_in}
+use Words.ending
+use Rattle.arj_law_serial.proofs.Terms.{taken_end, keyed_found, keyed_put, Own, ReplyIsSo, CopyIsSo, Kind, so_of, stored}
+use Rattle.arj_law_parts.proofs.parts.LivesNamed.{keyed_each}
 use Rattle.arj_law_runs.proofs.addresses.Lists.{all_filter}
 use Rattle.arj_law_serial.proofs.order.Cleaning.{class_after}
-use Rattle.arj_law_disk_view.specs.running.States.{Own, ReplyIsSo}
-use Rattle.arj_law_serial.specs.joint.Forms.{CopyIsSo, IsCopyOf, Kind, so_of, stored}
+use Rattle.arj_law_serial.specs.joint.Forms.{IsCopyOf}
 
 module _ (k : Kind) (real : (bytes : List ℕ) → class_of (value_in k.class bytes) ≡ k.class) where
   abbrev Q : ObjectState → Type 0
@@ -29,11 +24,13 @@ module _ (k : Kind) (real : (bytes : List ℕ) → class_of (value_in k.class by
 
   -- ---- overlays
 
-  written_so : (holder : List Uid) (tops : ℕ) (v : Value) (es : List Over) → class_of v ≡ k.class → AllByRecursion V es → AllByRecursion V (written holder tops v es)
+  written_so : (holder : List Uid) (tops : ℕ) (v : Value) (es : List Over) → class_of v ≡ k.class → AllByRecursion V es →
+      AllByRecursion V (written holder tops v es)
   written_so holder tops v [] its all = (its, tt)
   written_so holder tops v (e ∷ es) its all = by (is_of (last_uid holder) e)
     where
-      by : (b : Bool) → AllByRecursion V (cond b (record e { value = v } ∷ es) (record { holder = holder; tops = tops; value = v } ∷ e ∷ es))
+      by : (b : Bool) →
+          AllByRecursion V (cond b (record e { value = v } ∷ es) (record { holder = holder; tops = tops; value = v } ∷ e ∷ es))
       by true = (its, all.1)
       by false = (its, all)
 
@@ -62,7 +59,8 @@ module _ (k : Kind) (real : (bytes : List ℕ) → class_of (value_in k.class by
       by false = record { base = so.base; over = folded_so u c.stack so.over }
 
   end_so : (u : Uid) (e : End) (c : Copy) → IsCopyOf k.class c → IsCopyOf k.class (end_copy u e c)
-  end_so u ending.Commit c so = let d = committed_so u (over_of u c.stack) c (found_so u c.stack so.over) so in record { base = d.base; over = d.over }
+  end_so u ending.Commit c so = let d = committed_so u (over_of u c.stack) c (found_so u c.stack so.over) so in
+      record { base = d.base; over = d.over }
   end_so u ending.Abort c so = record { base = so.base; over = all_filter V (λ e. not (is_on e.holder u)) c.stack so.over }
 
   -- ---- a copy
@@ -75,10 +73,12 @@ module _ (k : Kind) (real : (bytes : List ℕ) → class_of (value_in k.class by
   run_so n p x o c so = record { base = so.base; over = by (writes o) }
     where
       by : (b : Bool) → AllByRecursion V (cond b (written (uids_of p) (tops_of p) (value_after o (current c.base c.stack)) c.stack) c.stack)
-      by true = written_so (uids_of p) (tops_of p) (value_after o (current c.base c.stack)) c.stack (class_after o (current c.base c.stack) ∙ current_so c.base c.stack so.base so.over) so.over
+      by true = written_so (uids_of p) (tops_of p) (value_after o (current c.base c.stack)) c.stack
+          (class_after o (current c.base c.stack) ∙ current_so c.base c.stack so.base so.over) so.over
       by false = so.over
 
-  asked_so : (n : ℕ) (p : Path) (x : ℕ) (o : Op) (c : Copy) (r : Option Row) → IsCopyOf k.class c → IsCopyOf k.class (ask_copy n p x o c r).part
+  asked_so : (n : ℕ) (p : Path) (x : ℕ) (o : Op) (c : Copy) (r : Option Row) → IsCopyOf k.class c →
+      IsCopyOf k.class (ask_copy n p x o c r).part
   asked_so n p x o c None so = run_so n p x o c so
   asked_so n p x o c (Some r) so = so
 
@@ -90,35 +90,44 @@ module _ (k : Kind) (real : (bytes : List ℕ) → class_of (value_in k.class by
   abbrev All : Server → Type 0
   All s = AllByRecursion (λ (e : ℕ × Copy). CopyIsSo k.x k.class e.0 e.1) s.objects
 
-  pub activate_so : (n : ℕ) (p : Path) (b : Binding) (st : ObjectState) (s : Server) → is_object st.uid ≡ true → Q st → All s → All (activate n p b st s).part
-  activate_so n p b st s object_is its all = by (has_ended p s) (binding_less b (active_binding st.uid.num s)) (binding_eq b (active_binding st.uid.num s))
+  pub activate_so : (n : ℕ) (p : Path) (b : Binding) (st : ObjectState) (s : Server) → is_object st.uid ≡ true → Q st → All s →
+      All (activate n p b st s).part
+  activate_so n p b st s object_is its all =
+      by (has_ended p s) (binding_less b (active_binding st.uid.num s)) (binding_eq b (active_binding st.uid.num s))
     where
       uid : st.uid ≡ object st.uid.num
       uid = uid_is st.uid (object st.uid.num) (and_parts (uid_eq st.uid (object st.uid.num)) _ object_is).0
 
-      by : (over lower equal : Bool) → All (cond {A = Served Server ℕ} (over || lower) (void s) (cond equal (reply s s.inc) (took_copy n st.uid.num b st s))).part
+      by : (over lower equal : Bool) →
+          All (cond {A = Served Server ℕ} (over || lower) (void s) (cond equal (reply s s.inc) (took_copy n st.uid.num b st s))).part
       by true lower equal = all
       by false true equal = all
       by false false true = all
-      by false false false = keyed_put (CopyIsSo k.x k.class) st.uid.num (taken_copy b st) s.objects (λ same. taken_so b st (its.1 (uid ∙ ap object same))) all
+      by false false false =
+          keyed_put (CopyIsSo k.x k.class) st.uid.num (taken_copy b st) s.objects (λ same. taken_so b st (its.1 (uid ∙ ap object same))) all
 
   end_one_so : (n : ℕ) (u : Uid) (e : End) (s : Server) → All s → All (end_one n u e s).part
   end_one_so n u e s all = by (is_told u s)
     where
       by : (b : Bool) → All (cond {A = Did Server} b (did_nothing s) (end_new n u (taken_end u e s) s)).part
       by true = all
-      by false = keyed_each (CopyIsSo k.x k.class) (λ x. end_copy u (taken_end u e s)) (λ x c its same. end_so u (taken_end u e s) c (its same)) s.objects all
+      by false = keyed_each (CopyIsSo k.x k.class) (λ x. end_copy u (taken_end u e s))
+          (λ x c its same. end_so u (taken_end u e s) c (its same)) s.objects all
 
   pub told_so : (n : ℕ) (es : List (Uid × End)) (s : Server) → All s → All (told n es s).part
   told_so n [] s all = all
   told_so n (e ∷ es) s all = told_so n es (end_one n e.0 e.1 s).part (end_one_so n e.0 e.1 s all)
 
-  on_copy_so : (n : ℕ) (p : Path) (x : ℕ) (o : Op) (s : Server) → All s → (f : Option Copy) → at_number x s.objects ≡ f → All (on_copy x (invoke_copy n p x o) s f).part
+  on_copy_so : (n : ℕ) (p : Path) (x : ℕ) (o : Op) (s : Server) → All s → (f : Option Copy) → at_number x s.objects ≡ f →
+      All (on_copy x (invoke_copy n p x o) s f).part
   on_copy_so n p x o s all None there = all
-  on_copy_so n p x o s all (Some c) there = keyed_put (CopyIsSo k.x k.class) x (ask_copy n p x o c (first_conflict (uids_of p) (object x) (op_mode o) c.rows)).part s.objects
-      (λ same. asked_so n p x o c (first_conflict (uids_of p) (object x) (op_mode o) c.rows) (keyed_found (CopyIsSo k.x k.class) x s.objects c all there same)) all
+  on_copy_so n p x o s all (Some c) there =
+      keyed_put (CopyIsSo k.x k.class) x (ask_copy n p x o c (first_conflict (uids_of p) (object x) (op_mode o) c.rows)).part s.objects
+      (λ same. asked_so n p x o c (first_conflict (uids_of p) (object x) (op_mode o) c.rows)
+      (keyed_found (CopyIsSo k.x k.class) x s.objects c all there same)) all
 
-  pub invoke_so : (n : ℕ) (h : Head) (x : ℕ) (b : Binding) (i : ℕ) (ends : List (Uid × End)) (o : Op) (s : Server) → All s → All (invoke n h x b i ends o s).part
+  pub invoke_so : (n : ℕ) (h : Head) (x : ℕ) (b : Binding) (i : ℕ) (ends : List (Uid × End)) (o : Op) (s : Server) → All s →
+      All (invoke n h x b i ends o s).part
   invoke_so n h x b i ends o s all = by (has_ended h.path s || is_below h.req (at_uid (actor h.path) s.kept))
     where
       Left : Served Server InvokedReply → Type 0
@@ -152,27 +161,37 @@ module _ (k : Kind) (real : (bytes : List ℕ) → class_of (value_in k.class by
 
   -- ---- votes
 
-  changed_so : (top : Uid) (objects : List (ℕ × Copy)) → AllByRecursion (λ (e : ℕ × Copy). CopyIsSo k.x k.class e.0 e.1) objects → AllByRecursion Q (filter_map (λ (e : ℕ × Copy). changed_state top e.0 e.1) objects)
+  changed_so : (top : Uid) (objects : List (ℕ × Copy)) → AllByRecursion (λ (e : ℕ × Copy). CopyIsSo k.x k.class e.0 e.1) objects →
+      AllByRecursion Q (filter_map (λ (e : ℕ × Copy). changed_state top e.0 e.1) objects)
   changed_so top [] all = tt
   changed_so top (e ∷ es) all = by (over_of top (let c = e.1 in c.stack)) (changed_so top es all.1)
     where
       made : Over → ObjectState
-      made o = record { uid = object e.0; class = class_of e.1.base.value; version = next_version e.1.base.version; writer = top; payload = payload_of o.value }
+      made o = record {
+        uid = object e.0;
+        class = class_of e.1.base.value;
+        version = next_version e.1.base.version;
+        writer = top;
+        payload = payload_of o.value;
+      }
 
-      by : (o : Option Over) → AllByRecursion Q (filter_map (λ (f : ℕ × Copy). changed_state top f.0 f.1) es) → AllByRecursion Q (cons_option (option_map made o) (filter_map (λ (f : ℕ × Copy). changed_state top f.0 f.1) es))
+      by : (o : Option Over) → AllByRecursion Q (filter_map (λ (f : ℕ × Copy). changed_state top f.0 f.1) es) →
+          AllByRecursion Q (cons_option (option_map made o) (filter_map (λ (f : ℕ × Copy). changed_state top f.0 f.1) es))
       by None ih = ih
       by (Some o) ih = ((refl, λ same. (all.0 (ap (λ (u : Uid). u.num) same)).base), ih)
 
   abbrev Votes : Served Server VotedReply → Type 0
   Votes r = All r.part × IfSome r.reply (λ v. ReplyIsSo (so_of k) (Reply.Voted v))
 
-  pub vote_so : (n : ℕ) (p : Path) (i : ℕ) (ties : List (ℕ × Binding)) (ends : List (Uid × End)) (s : Server) → All s → Votes (vote n p i ties ends s)
+  pub vote_so : (n : ℕ) (p : Path) (i : ℕ) (ties : List (ℕ × Binding)) (ends : List (Uid × End)) (s : Server) → All s →
+      Votes (vote n p i ties ends s)
   vote_so n p i ties ends s all = by (has_ended p s)
     where
       now : (w : Option What) → Votes (vote_now n (actor p) ends s w)
       now (Some w) = (all, tt)
       now None = let t = told_so n ends s all in (t, changed_so (actor p) (let d = apply_ends n ends s in d.part.objects) t)
 
-      by : (b : Bool) → Votes (cond {A = Served Server VotedReply} b (void s) (vote_now n (actor p) ends s (either (other_inc i s.inc) (first_unbound ties s))))
+      by : (b : Bool) → Votes
+          (cond {A = Served Server VotedReply} b (void s) (vote_now n (actor p) ends s (either (other_inc i s.inc) (first_unbound ties s))))
       by true = (all, tt)
       by false = now (either (other_inc i s.inc) (first_unbound ties s))

@@ -1,41 +1,17 @@
--- What a store gives to a call that waits for it, where both machines of the object stand in one run: by the disk machine it is the last state, and
--- so it is the last committed one by the lock machine.
-use Rattle.std.specs.Prelude.{◌≡◌, ℕ, true, List, Some, is_some}
-use Rattle.arj_journal.specs.ScriptForm.{HeaderInForm}
-use Rattle.arj_model.specs.Last.{first_values, object_line}
-use Rattle.arj_protocol.specs.Words.{Header, ObjectState, object}
-use Rattle.arj_protocol.specs.Effect.{held_at}
-use Rattle.arj_protocol.specs.Step.{Node}
-use Rattle.arj_law_parts.specs.parts.Actions.{Action}
-use Rattle.arj_law_disk.specs.machine.Names.{Office}
-use Rattle.arj_law_disk.specs.machine.State.{last, undecided}
-use Rattle.arj_law_disk_view.specs.view.Pairs.{packed}
-use Rattle.arj_law_disk_view.specs.view.Sees.{Kinds}
-use Rattle.arj_law_disk_view.specs.names.Both.{SeesBoth}
-use Rattle.arj_law_disk_view.specs.running.Bindings.{AreGoodCounted, KnowsScript}
-use Rattle.arj_law_disk_view.specs.deciding_lines.Said.{AreNotLate}
-use Rattle.arj_law_runs.specs.journal.Knows.{IsKept}
-use Rattle.arj_law_lock.specs.machine.State as lock
+-- What a store gives to a call that waits for it, where both machines of the object stand in one run: by the disk machine it is the last
+-- state, and so it is the last committed one by the lock machine.
+use Rattle.arj_law_parts.proofs.Words.{◌≡◌, ℕ, true, List, Some, is_some, Header, ObjectState, object, held_at, Node, Seen}
+use Rattle.arj_law_serial.proofs.Terms
+use Terms.{HeaderInForm, first_values, object_line, Action, Office, last, undecided, packed, Kinds, SeesBoth, AreGoodCounted, KnowsScript}
+use Terms.{AreNotLate, IsKept, state_code, IsSeenIn, Fixed, case_of, AreVotedAt, KnowsWhole, BeginsSo, AgreesApart, AreSo, kind_of}
+use Terms.{AreApart, OpsFit, ArePlannedSo, SeesRecorded, AreTurnsOf}
+use Terms.state as lock
 use Rattle.arj_law_lock.specs.machine.Steps.{LoadsTheLast}
-use Rattle.arj_law_lock_view.specs.view.Copies.{state_code}
-use Rattle.arj_law_lock_view.specs.running.Beside.{IsSeenIn}
-use Rattle.arj_law_lock_view.specs.running.Fixed.{Fixed}
-use Rattle.arj_law_lock_view.specs.running.Kept.{case_of}
-use Rattle.arj_law_lock_view.specs.running.Votes.{AreVotedAt}
-use Rattle.arj_law_serial.specs.whole.Whole.{KnowsWhole}
-use Rattle.arj_law_serial.specs.order.Cleaned.{BeginsSo}
-use Rattle.arj_promise.specs.Runs.{Seen}
-use Rattle.arj_law_serial.specs.joint.Apt.{AgreesApart}
-use Rattle.arj_law_serial.specs.joint.Forms.{AreSo, kind_of}
-use Rattle.arj_law_serial.specs.order.Tied.{AreApart}
-use Rattle.arj_law_serial.specs.joint.Fit.{OpsFit}
 use Rattle.arj_law_serial.specs.joint.Housed.{AreHoused}
-use Rattle.arj_law_serial.specs.joint.Joined.{ArePlannedSo, SeesRecorded}
-use Rattle.arj_law_serial.specs.joint.Ordered.{AreTurnsOf}
 
--- The object in one state of a run, by both machines: the disk machine, which began as the header says, whose decisions are said, none of them
--- late, recorded, and ordered as commits were called; this state of the lock machine, with all that goes with it; what is known of the protocol
--- alone, with the nodes of all labels there; and values are told apart, and operations in form.
+-- The object in one state of a run, by both machines: the disk machine, which began as the header says, whose decisions are said, none of
+-- them late, recorded, and ordered as commits were called; this state of the lock machine, with all that goes with it; what is known of the
+-- protocol alone, with the nodes of all labels there; and values are told apart, and operations in form.
 pub record AreBeside (hd : Header) (f : Fixed) (x : ℕ) (begun : List Action) (S : lock.State) (M : Seen) : Type 0 where
   pub tops : Kinds
   pub office : Office
@@ -68,5 +44,6 @@ pub record IsLastThere (x : ℕ) (A : Office) (M : Seen) (st : ObjectState) : Ty
 
 -- So a state of an object of the header is the last committed one by the lock machine, and nothing is in doubt.
 abbrev pub LastThereIsLast : Type 0
-LastThereIsLast = (hd : Header) (f : Fixed) (x : ℕ) (begun : List Action) (S : lock.State) (M : Seen) → HeaderInForm hd → is_some (object_line hd x) ≡ true → (b : AreBeside hd f x begun S M) (st : ObjectState) → IsLastThere x (let k = b in k.office) M st
+LastThereIsLast = (hd : Header) (f : Fixed) (x : ℕ) (begun : List Action) (S : lock.State) (M : Seen) → HeaderInForm hd →
+    is_some (object_line hd x) ≡ true → (b : AreBeside hd f x begun S M) (st : ObjectState) → IsLastThere x (let k = b in k.office) M st
     → LoadsTheLast S (state_code f.act f.code st)

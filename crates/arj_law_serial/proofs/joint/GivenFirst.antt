@@ -1,17 +1,12 @@
 -- The first value of an object of the header is read back as its payload spells it.
-use Rattle.std.proofs.Common.{◌≡◌, ◌<◌, ℕ, List, [], ◌∷◌, true, is_some, sym, subst, nat_lt, arith}
-use Rattle.std.specs.List.{AllByRecursion}
-use Rattle.std.proofs.lemmas.Bool.{and_parts}
-use Rattle.std.proofs.lemmas.Bool.Decides.{nat_tests}
-use Rattle.arj_class.specs.Forms.{NumbersFit, PairsFit, ValueInForm}
-use Rattle.arj_class.specs.Keys.{KeysAbove, KeysRise}
-use Rattle.arj_class.specs.declared.value.Value.{Value}
-use Rattle.arj_class.specs.declared.value.Value.TheVariants as value
-use Rattle.arj_journal.specs.ScriptForm.{HeaderInForm}
-use Rattle.arj_model.specs.Last.{first_values, object_line, value_of_line}
-use Rattle.arj_protocol.specs.Words.{Header}
-use Rattle.arj_text.specs.Fields.{NumberInForm, PairInForm, ValueTextInForm, is_below_first, is_rising}
+use Rattle.arj_law_parts.proofs.Words
+use Words.{◌≡◌, ◌<◌, ℕ, List, [], ◌∷◌, true, is_some, sym, subst, nat_lt, arith, AllByRecursion, and_parts, nat_tests, PairsFit}
+use Words.{ValueInForm, KeysRise, Value, Header}
+use Words.value
+use Rattle.arj_law_serial.proofs.Terms.{HeaderInForm, first_values, object_line, value_of_line}
+use Rattle.arj_class.specs.{Forms.NumbersFit, Keys.KeysAbove}
 use Rattle.arj_law_serial.proofs.joint.Firsts.{form_of, line_there}
+use Rattle.arj_text.specs.Fields.{NumberInForm, PairInForm, ValueTextInForm, is_below_first, is_rising}
 
 -- ---- values in form
 
@@ -39,7 +34,8 @@ all_above k (p ∷ ps) first rises =
 
 keys_rise : (ps : List (ℕ × ℕ)) → is_rising ps ≡ true → KeysRise ps
 keys_rise [] rises = tt
-keys_rise (p ∷ ps) rises = let both = and_parts (is_below_first p.0 ps) (is_rising ps) rises in (all_above p.0 ps both.0 both.1, keys_rise ps both.1)
+keys_rise (p ∷ ps) rises = let both = and_parts (is_below_first p.0 ps) (is_rising ps) rises in
+    (all_above p.0 ps both.0 both.1, keys_rise ps both.1)
 
 in_form : (v : Value) → ValueTextInForm v → ValueInForm v
 in_form (value.Counter n) f = f

@@ -1,32 +1,20 @@
 -- Where operations are in form so is each value that a surviving call leaves, and it is of the object's class.
-use Rattle.std.proofs.Common.{◌≡◌, ◌+◌, ◌-◌, ◌<◌, ◌≤◌, ◌&&◌, ◌==◌, ℕ, Bool, true, false, cond, List, [], ◌∷◌, ◌++◌, length, is_some, nat_lt, if◌then◌else◌, refl, sym, ◌∙◌, subst, inl, inr, arith}
-use Rattle.std.proofs.lemmas.Bool.Decides.{nat_tests}
-use Rattle.std.proofs.lemmas.List.{length-append}
-use Rattle.arj_class.specs.Forms.{PairsFit, ValueInForm}
-use Rattle.arj_class.specs.Keys.{KeysRise}
-use Rattle.arj_class.specs.Table.{behind_front, class_of, is_full_for, put_pair, remove_pair, value_after, writes}
-use Rattle.arj_class.specs.declared.op.Op.{Op}
+use Rattle.arj_law_parts.proofs.Words
+use Words.{◌≡◌, ◌+◌, ◌-◌, ◌<◌, ◌≤◌, ◌&&◌, ◌==◌, ℕ, Bool, true, false, cond, List, [], ◌∷◌, ◌++◌, length, is_some, nat_lt, if◌then◌else◌}
+use Words.{refl, sym, ◌∙◌, subst, inl, inr, arith, nat_tests, length-append, PairsFit, ValueInForm, KeysRise, class_of, is_full_for}
+use Words.{put_pair, value_after, writes, Op, Value, Line, In}
+use Words.value
+use Rattle.arj_law_serial.proofs.Terms
+use Terms.{Placed, committed, recovered, Said, kept, Values, OpTextInForm, new_book, AreRight, State, Survives, AreCallsOf, said_on}
+use Terms.machine
+use Terms.state
+use Rattle.arj_class.proofs.{Keeping.class_kept, Payloads.numbers_fit_append, Places.table_put, Places.table_remove}
+use Rattle.arj_class.specs.Table.{behind_front, remove_pair}
+use Rattle.arj_law_serial.proofs.order
+use order.{Ties.Tie}
+use order.Values.{ArePaired, IsMet, final, met_call, on_object, paired_in}
+use Rattle.arj_model.specs.Calls.{said}
 use Rattle.arj_class.specs.declared.op.Op.TheVariants as op
-use Rattle.arj_class.specs.declared.value.Value.{Value}
-use Rattle.arj_class.specs.declared.value.Value.TheVariants as value
-use Rattle.arj_class.proofs.Keeping.{class_kept}
-use Rattle.arj_class.proofs.Payloads.{numbers_fit_append}
-use Rattle.arj_class.proofs.Places.{table_put, table_remove}
-use Rattle.arj_journal.specs.declared.body.Line.{Line}
-use Rattle.arj_lock.proofs.Members.{In}
-use Rattle.arj_model.specs.Actions.{Placed, committed, recovered}
-use Rattle.arj_model.specs.Calls.{Said, kept, said}
-use Rattle.arj_model.specs.Serial.{Values}
-use Rattle.arj_text.specs.Fields.{OpTextInForm}
-use Rattle.arj_law_runs.specs.journal.Book.{new_book}
-use Rattle.arj_law_runs.specs.journal.Right.{AreRight}
-use Rattle.arj_law_lock.specs.machine.Actions as machine
-use Rattle.arj_law_lock.specs.machine.State as state
-use Rattle.arj_law_lock.specs.machine.State.{State}
-use Rattle.arj_law_lock.specs.machine.Steps.{Survives}
-use Rattle.arj_law_lock_view.specs.journal.Lines.{AreCallsOf, said_on}
-use Rattle.arj_law_serial.proofs.order.Ties.{Tie}
-use Rattle.arj_law_serial.proofs.order.Values.{ArePaired, IsMet, final, met_call, on_object, paired_in}
 
 -- ---- what an operation leaves
 
@@ -48,7 +36,8 @@ put_fits : (k v : ℕ) (ps : List (ℕ × ℕ)) → k < 18446744073709551616 →
 put_fits k v [] key is fit = (key, is, tt)
 put_fits k v (p ∷ ps) key is fit = by (nat_lt k p.0) (p.0 == k) (put_fits k v ps key is fit.2)
   where
-    by : (a b : Bool) → PairsFit (put_pair k v ps) → PairsFit (if a then (k, v) ∷ p ∷ ps else (if b then (k, v) ∷ ps else p ∷ put_pair k v ps))
+    by : (a b : Bool) → PairsFit (put_pair k v ps) →
+        PairsFit (if a then (k, v) ∷ p ∷ ps else (if b then (k, v) ∷ ps else p ∷ put_pair k v ps))
     by true b rest = (key, is, fit)
     by false true rest = (key, is, fit.2)
     by false false rest = (fit.0, fit.1, rest)
@@ -61,10 +50,12 @@ remove_fits k (p ∷ ps) fit = by (p.0 == k) (remove_fits k ps fit.2)
     by true rest = fit.2
     by false rest = (fit.0, fit.1, rest)
 
-put_in_form : (k v : ℕ) (ps : List (ℕ × ℕ)) → k < 18446744073709551616 → v < 18446744073709551616 → ValueInForm (value.Table ps) → ValueInForm (value_after (op.PutPair k v) (value.Table ps))
+put_in_form : (k v : ℕ) (ps : List (ℕ × ℕ)) → k < 18446744073709551616 → v < 18446744073709551616 → ValueInForm (value.Table ps) →
+    ValueInForm (value_after (op.PutPair k v) (value.Table ps))
 put_in_form k v ps key is form = by (is_full_for k ps) (table_put k v ps form.0 form.1)
   where
-    by : (b : Bool) → (let after = if b then ps else put_pair k v ps in (length after ≤ 16) × KeysRise after) → ValueInForm (if b then value.Table ps else value.Table (put_pair k v ps))
+    by : (b : Bool) → (let after = if b then ps else put_pair k v ps in (length after ≤ 16) × KeysRise after) →
+        ValueInForm (if b then value.Table ps else value.Table (put_pair k v ps))
     by true put = form
     by false put = (put.0, put.1, put_fits k v ps key is form.2)
 
@@ -73,7 +64,8 @@ pub after_in_form : (o : Op) (v : Value) → OpTextInForm o → ValueInForm v �
 after_in_form op.Get v fits form = form
 after_in_form op.Len v fits form = form
 after_in_form (op.GetKey k) v fits form = form
-after_in_form (op.Add n) (value.Counter m) fits form = one_in_form (nat_lt (m + n) 18446744073709551616) (value.Counter (m + n)) (value.Counter m) (sum_fits m n) form
+after_in_form (op.Add n) (value.Counter m) fits form =
+    one_in_form (nat_lt (m + n) 18446744073709551616) (value.Counter (m + n)) (value.Counter m) (sum_fits m n) form
 after_in_form (op.Add n) (value.Register bytes) fits form = form
 after_in_form (op.Add n) (value.Account m) fits form = form
 after_in_form (op.Add n) (value.Queue ns) fits form = form
@@ -90,18 +82,21 @@ after_in_form (op.Put new) (value.Queue ns) fits form = form
 after_in_form (op.Put new) (value.Table ps) fits form = form
 after_in_form (op.Deposit n) (value.Counter m) fits form = form
 after_in_form (op.Deposit n) (value.Register bytes) fits form = form
-after_in_form (op.Deposit n) (value.Account m) fits form = one_in_form (nat_lt (m + n) 18446744073709551616) (value.Account (m + n)) (value.Account m) (sum_fits m n) form
+after_in_form (op.Deposit n) (value.Account m) fits form =
+    one_in_form (nat_lt (m + n) 18446744073709551616) (value.Account (m + n)) (value.Account m) (sum_fits m n) form
 after_in_form (op.Deposit n) (value.Queue ns) fits form = form
 after_in_form (op.Deposit n) (value.Table ps) fits form = form
 after_in_form (op.Withdraw n) (value.Counter m) fits form = form
 after_in_form (op.Withdraw n) (value.Register bytes) fits form = form
-after_in_form (op.Withdraw n) (value.Account m) fits form = one_in_form (nat_lt m n) (value.Account m) (value.Account (m - n)) (λ e. form) (let l : m < 18446744073709551616 = form in omega (arith, l))
+after_in_form (op.Withdraw n) (value.Account m) fits form = one_in_form (nat_lt m n) (value.Account m) (value.Account (m - n)) (λ e. form)
+    (let l : m < 18446744073709551616 = form in omega (arith, l))
 after_in_form (op.Withdraw n) (value.Queue ns) fits form = form
 after_in_form (op.Withdraw n) (value.Table ps) fits form = form
 after_in_form (op.Push n) (value.Counter m) fits form = form
 after_in_form (op.Push n) (value.Register bytes) fits form = form
 after_in_form (op.Push n) (value.Account m) fits form = form
-after_in_form (op.Push n) (value.Queue ns) fits form = one_in_form (nat_lt (length ns) 32) (value.Queue (ns ++ n ∷ [])) (value.Queue ns) (λ is. (room_for ns n is, numbers_fit_append ns (n ∷ []) form.1 (fits, tt))) form
+after_in_form (op.Push n) (value.Queue ns) fits form = one_in_form (nat_lt (length ns) 32) (value.Queue (ns ++ n ∷ [])) (value.Queue ns)
+    (λ is. (room_for ns n is, numbers_fit_append ns (n ∷ []) form.1 (fits, tt))) form
 after_in_form (op.Push n) (value.Table ps) fits form = form
 after_in_form op.Pop (value.Counter m) fits form = form
 after_in_form op.Pop (value.Register bytes) fits form = form
@@ -129,18 +124,23 @@ pub record IsLike (first v : Value) : Type 0 where
 pub after_like : (o : Op) (first v : Value) → OpTextInForm o → IsLike first v → IsLike first (value_after o v)
 after_like o first v fits k = record { class = class_kept o v ∙ k.class; form = after_in_form o v fits k.form }
 
-module _ (values : Values) (lines : List Line) (x : ℕ) (fits : (s : Placed Said) → In s (said lines) → (let i = s.it in i.x) ≡ x → OpTextInForm (let i = s.it in i.op)) (first : ValueInForm (values x)) where
-  final_like : (p : ℕ) (ss : List (Placed Said)) → ((s : Placed Said) → In s ss → OpTextInForm (let i = s.it in i.op)) → IsLike (values x) (final values lines x p ss)
+module _ (values : Values) (lines : List Line) (x : ℕ) (fits : (s : Placed Said) → In s (said lines) → (let i = s.it in i.x) ≡ x →
+    OpTextInForm (let i = s.it in i.op)) (first : ValueInForm (values x)) where
+  final_like : (p : ℕ) (ss : List (Placed Said)) → ((s : Placed Said) → In s ss → OpTextInForm (let i = s.it in i.op)) →
+      IsLike (values x) (final values lines x p ss)
   final_like p [] each = record { class = refl; form = first }
-  final_like p (s ∷ ss) each = by (nat_lt s.at p && (writes s.it.op && is_some (kept (committed lines) (recovered lines) s))) (final_like p ss (λ t i. each t (inr i)))
+  final_like p (s ∷ ss) each = by (nat_lt s.at p && (writes s.it.op && is_some (kept (committed lines) (recovered lines) s)))
+      (final_like p ss (λ t i. each t (inr i)))
     where
-      by : (b : Bool) → IsLike (values x) (final values lines x p ss) → IsLike (values x) (cond b (value_after s.it.op (final values lines x p ss)) (final values lines x p ss))
+      by : (b : Bool) → IsLike (values x) (final values lines x p ss) →
+          IsLike (values x) (cond b (value_after s.it.op (final values lines x p ss)) (final values lines x p ss))
       by true k = after_like s.it.op (values x) (final values lines x p ss) (each s (inl refl)) k
       by false k = k
 
   module _ (right : AreRight new_book lines) (S : State) (tied : Tie values lines x S) where
     -- each call of the machine has its own in the journal
-    pair_of : (ss : List (Placed Said)) (cs : List state.Call) → AreCallsOf tied.act tied.code ss cs → (c : state.Call) → machine.In c cs → (s : Placed Said) × ArePaired values lines right x S tied s c ss cs
+    pair_of : (ss : List (Placed Said)) (cs : List state.Call) → AreCallsOf tied.act tied.code ss cs → (c : state.Call) → machine.In c cs →
+        (s : Placed Said) × ArePaired values lines right x S tied s c ss cs
     pair_of [] [] are c i = absurd i
     pair_of [] (d ∷ cs) are c i = absurd are
     pair_of (s ∷ ss) [] are c i = absurd are
@@ -148,12 +148,17 @@ module _ (values : Values) (lines : List Line) (x : ℕ) (fits : (s : Placed Sai
     pair_of (s ∷ ss) (d ∷ cs) are c (inr i) = let r = pair_of ss cs are.1 c i in (r.0, inr r.1)
 
     -- a surviving call left such a value
-    pub left_like : (c : state.Call) → machine.In c S.calls → Survives S c.act → (v : Value) × IsLike (values x) v × (c.gives ≡ tied.code v (machine.top c.act))
+    pub left_like : (c : state.Call) → machine.In c S.calls → Survives S c.act →
+        (v : Value) × IsLike (values x) v × (c.gives ≡ tied.code v (machine.top c.act))
     left_like c i survives =
         let p = pair_of (said_on x lines) S.calls tied.calls c i in
         let there = (paired_in values lines right x S tied (said_on x lines) S.calls tied.calls p.0 c p.1).0 in
         let o = on_object x lines p.0 there in
         let m : IsMet values lines right x S tied p.0 c (said_on x lines) = met_call values lines right x S tied p.0 c p.1 survives in
         let k = m.is in
-        let met : IsLike (values x) k.value = subst (IsLike (values x)) m.met (final_like (let s = p.0 in s.at) (said_on x lines) (λ s j. let q = on_object x lines s j in fits s q.0 q.1)) in
-        (value_after (let s = p.0 in s.it.op) k.value, after_like (let s = p.0 in s.it.op) (values x) k.value (fits p.0 o.0 o.1) met, k.gives)
+        let met : IsLike (values x) k.value = subst (IsLike (values x)) m.met
+        (final_like (let s = p.0 in s.at) (said_on x lines) (λ s j. let q = on_object x lines s j in fits s q.0 q.1)) in (
+          value_after (let s = p.0 in s.it.op) k.value,
+          after_like (let s = p.0 in s.it.op) (values x) k.value (fits p.0 o.0 o.1) met,
+          k.gives,
+        )

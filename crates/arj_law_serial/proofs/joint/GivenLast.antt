@@ -1,31 +1,22 @@
--- Where both machines of an object stand in one state: the last state of the disk machine is the last committed one by the lock machine, and nobody is in
--- doubt there.
-use Rattle.std.proofs.Common.{◌≡◌, [], refl, sym, ◌∙◌, ap, ⊎_elim}
-use Rattle.arj_base.specs.Uid.{nobody}
-use Rattle.arj_class.specs.Table.{class_of}
-use Rattle.arj_class.specs.declared.value.Value.{Value}
-use Rattle.arj_model.specs.Last.{first_values, state_after}
-use Rattle.arj_protocol.proofs.Numbers.{number_tells}
-use Rattle.arj_protocol.proofs.Payloads.{value_back}
-use Rattle.arj_protocol.specs.Words.{object}
-use Rattle.arj_protocol.specs.Values.{value_in}
-use Rattle.arj_law_disk.specs.machine.State.{Packed, Plan}
-use Rattle.arj_law_disk.proofs.machine.History.{in_decided}
+-- Where both machines of an object stand in one state: the last state of the disk machine is the last committed one by the lock machine,
+-- and nobody is in doubt there.
+use Rattle.arj_law_parts.proofs.Words
+use Words.{◌≡◌, [], refl, sym, ◌∙◌, ap, ⊎_elim, nobody, class_of, Value, number_tells, value_back, object, value_in}
+use Rattle.arj_law_serial.proofs.Terms.{first_values, state_after, Packed, Plan, in_decided, packed, state_code}
 use Rattle.arj_law_disk_view.proofs.deciding_lines.Owners.{decided_begun}
-use Rattle.arj_law_disk_view.specs.view.Pairs.{packed}
-use Rattle.arj_law_lock_view.specs.view.Copies.{state_code}
-use Rattle.arj_law_serial.proofs.joint.Given.{LastThereIsLast}
-use Rattle.arj_law_serial.proofs.joint.GivenFirst.{first_in_form}
-use Rattle.arj_law_serial.proofs.joint.GivenSettled.{nobody_in_doubt}
-use Rattle.arj_law_serial.proofs.joint.GivenTops.{tied}
-use Rattle.arj_law_serial.proofs.joint.GivenValue.{first_is_last, newest_wrote}
-use Rattle.arj_law_serial.proofs.joint.GivenWriters.{IsNewest, WroteNone, newest_of}
+use Rattle.arj_law_serial.proofs.joint
+use joint.{Given.LastThereIsLast, GivenFirst.first_in_form, GivenSettled.nobody_in_doubt, GivenTops.tied}
+use joint.GivenValue.{first_is_last, newest_wrote}
+use joint.GivenWriters.{IsNewest, WroteNone, newest_of}
 
 pub last_there_is_last : LastThereIsLast
 last_there_is_last hd f x begun S M form line b st there = record {
   value = ⊎_elim
-      (λ (none : WroteNone (let A = b.office in A.world.disk.first) (let A = b.office in A.world.disk.tops)). first_is_last hd f x begun S M b (state_code f.act f.code st) none (is_first none))
-      (λ (z : IsNewest M.lines (let A = b.office in A.world.disk.first) (let A = b.office in A.world.disk.tops)). newest_wrote hd f x begun S M b z st.writer (ap (λ (k : Packed). k.writer) (there.last_one ∙ z.last) ∙ its_writer z) form line st kind refl (there.last_one ∙ z.last))
+      (λ (none : WroteNone (let A = b.office in A.world.disk.first) (let A = b.office in A.world.disk.tops)).
+      first_is_last hd f x begun S M b (state_code f.act f.code st) none (is_first none))
+      (λ (z : IsNewest M.lines (let A = b.office in A.world.disk.first) (let A = b.office in A.world.disk.tops)).
+      newest_wrote hd f x begun S M b z st.writer (ap (λ (k : Packed). k.writer) (there.last_one ∙ z.last) ∙ its_writer z) form line st
+      kind refl (there.last_one ∙ z.last))
       (newest_of M.lines (let A = b.office in A.world.disk.first) (let A = b.office in A.world.disk.tops) b.turns);
   settled = nobody_in_doubt hd f x begun S M b there.settled there.first there.first_there;
 }
@@ -38,17 +29,22 @@ last_there_is_last hd f x begun S M form line b st there = record {
         held.0.1 refl
 
     -- the first state
-    is_first : WroteNone (let A = b.office in A.world.disk.first) (let A = b.office in A.world.disk.tops) → state_code f.act f.code st ≡ S.initial
+    is_first : WroteNone (let A = b.office in A.world.disk.first) (let A = b.office in A.world.disk.tops) →
+        state_code f.act f.code st ≡ S.initial
     is_first none =
         let same : packed st ≡ packed (state_after x (first_values hd x) []) = there.last_one ∙ none.0 ∙ b.begins.state in
         let writer : st.writer ≡ nobody = number_tells st.writer nobody (ap (λ (k : Packed). k.writer) same) in
         (λ i. f.code (value_in (kind i) (ap (λ (k : Packed). k.content) same i)) (f.act (writer i)))
-        ∙ ap (λ (v : Value). f.code v (f.act nobody)) (value_back (first_values hd x) (first_in_form hd x form line)) ∙ sym (let t = tied hd f x begun S M b in t.first)
+        ∙ ap (λ (v : Value). f.code v (f.act nobody)) (value_back (first_values hd x) (first_in_form hd x form line))
+        ∙ sym (let t = tied hd f x begun S M b in t.first)
 
-    its_writer : (z : IsNewest M.lines (let A = b.office in A.world.disk.first) (let A = b.office in A.world.disk.tops)) → (let k = z.state in k.writer) ≡ (let d = z.done in d.top)
+    its_writer : (z : IsNewest M.lines (let A = b.office in A.world.disk.first) (let A = b.office in A.world.disk.tops)) →
+        (let k = z.state in k.writer) ≡ (let d = z.done in d.top)
     its_writer z =
         let n = (let q = b.both in q.named) in
         let whole = n.whole in
-        let begun_it = decided_begun (let A = b.office in A.world) whole (let d = z.done in d.top) (in_decided (let A = b.office in A.world.disk.tops) z.done z.there) in
-        let plan : (let d = z.done in d.plan) ≡ (let A = b.office in A.world.disk.plan) (let d = z.done in d.top) = whole.core.journal.plan z.done z.there in
+        let begun_it = decided_begun (let A = b.office in A.world) whole (let d = z.done in
+        d.top) (in_decided (let A = b.office in A.world.disk.tops) z.done z.there) in
+        let plan : (let d = z.done in d.plan)
+        ≡ (let A = b.office in A.world.disk.plan) (let d = z.done in d.top) = whole.core.journal.plan z.done z.there in
         (n.plans.writer (let d = z.done in d.top) z.state begun_it (ap (λ (k : Plan). k.writes) (sym plan) ∙ z.writes)).0

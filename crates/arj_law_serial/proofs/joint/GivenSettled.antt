@@ -1,50 +1,28 @@
--- Where both machines of an object stand in one state: nobody is in doubt by the lock machine, where by the disk machine nobody who is confirmed is
--- undecided.
-use Rattle.std.proofs.Common.{◌≡◌, ◌⊎◌, ◌≤◌, ◌||◌, ℕ, List, Bool, true, false, Option, Some, None, is_some, refl, sym, ◌∙◌, ap, subst, inl, inr, ⊎_elim, arith}
-use Rattle.arj_lock.proofs.Members as list
-use Rattle.arj_lock.proofs.Members.{in_to}
-use Rattle.arj_model.specs.Actions.{Act, acts}
-use Rattle.arj_model.specs.Last.{first_values}
-use Rattle.arj_protocol.specs.Words.{End, Header, Kind, ObjectState, Uid}
-use Rattle.arj_protocol.specs.Words.confirmed
-use Rattle.arj_protocol.specs.Words.ending
-use Rattle.arj_protocol.specs.Words.kind
-use Rattle.arj_protocol.specs.Ask.{Reply, actor, asked_by, response}
-use Rattle.arj_protocol.specs.Commit as commit
-use Rattle.arj_protocol.specs.Coord.{Calling, Committing, Doing, Idle, Now, doing_of}
-use Rattle.arj_protocol.specs.Effect.{Intent, is_prepared}
-use Rattle.arj_protocol.specs.Node.{Parts}
-use Rattle.arj_protocol.specs.Order.{at_uid, uid_number}
-use Rattle.arj_protocol.specs.Step.{Node}
-use Rattle.arj_protocol.specs.Tree.{Branch, Tree, branch_of}
-use Rattle.arj_law_parts.specs.parts.Actions.{Action, act_of}
-use Rattle.arj_law_parts.proofs.parts.Keys.{at_in}
-use Rattle.arj_law_parts.proofs.parts.TrueSteps.{work_there}
-use Rattle.arj_law_runs.specs.kept.Worlds.{IsMemory, IsUp}
-use Rattle.arj_law_disk.specs.machine.Messages as mail
-use Rattle.arj_law_disk.specs.machine.State as disk
-use Rattle.arj_law_disk.specs.machine.State.{open_by, undecided}
-use Rattle.arj_law_disk.proofs.machine.Base.{bool_cases, never}
-use Rattle.arj_law_disk_view.specs.view.Asking.{SeesConfirming, SeesPreparing}
-use Rattle.arj_law_disk_view.specs.view.Deciding.{nodes_of}
-use Rattle.arj_law_disk_view.specs.view.Sees.{ClaimsAsked, Works, WorksBy}
-use Rattle.arj_promise.specs.Runs.{Seen}
-use Rattle.arj_law_runs.specs.journal.Book.{is_top}
-use Rattle.arj_law_lock.specs.machine.Actions as machine
-use Rattle.arj_law_lock.specs.machine.Actions.{In, is_action, top}
-use Rattle.arj_law_lock.specs.machine.State.{Alive, Call, State}
-use Rattle.arj_law_lock.specs.machine.Steps.{NobodyInDoubt}
-use Rattle.arj_law_lock.proofs.machine.Paths.{top_action}
-use Rattle.arj_law_lock_view.specs.view.Actions.{stage_of}
-use Rattle.arj_law_lock_view.specs.view.Acts.{AreOne}
-use Rattle.arj_law_lock_view.specs.running.Fixed.{Fixed, view_of}
-use Rattle.arj_law_lock_view.specs.running.Sees.{ArePast, IsOverIn, IsPast, SeesDown, SeesMemory, SeesUp, WasAnsweredYes, WasConfirmed}
-use Rattle.arj_law_serial.proofs.joint.Given.{AreBeside}
-use Rattle.arj_law_serial.proofs.joint.GivenLight.{never_light}
-use Rattle.arj_law_serial.proofs.joint.GivenTops.{begun_of, committed_there, core, disk_of, holds, node_of, places}
+-- Where both machines of an object stand in one state: nobody is in doubt by the lock machine, where by the disk machine nobody who is
+-- confirmed is undecided.
+use Rattle.arj_law_parts.proofs.Words
+use Words.{◌≡◌, ◌⊎◌, ◌≤◌, ◌||◌, ℕ, List, Bool, true, false, Option, Some, None, is_some, refl, sym, ◌∙◌, ap, subst, inl, inr, ⊎_elim, arith}
+use Words.{in_to, End, Header, Kind, ObjectState, Uid, Reply, actor, asked_by, response, Calling, Committing, Doing, Idle, Now, doing_of}
+use Words.{Intent, is_prepared, Parts, at_uid, uid_number, Node, Branch, Tree, branch_of, Seen}
+use Words.list
+use Words.confirmed
+use Words.ending
+use Words.kind
+use Words.commit
+use Rattle.arj_law_serial.proofs.Terms
+use Terms.{Act, acts, first_values, Action, act_of, at_in, work_there, IsMemory, IsUp, undecided, bool_cases, never, SeesConfirming}
+use Terms.{SeesPreparing, nodes_of, ClaimsAsked, Works, WorksBy, is_top, is_action, top, Alive, Call, State, top_action, stage_of, AreOne}
+use Terms.{Fixed, view_of, IsPast, SeesDown, SeesMemory, SeesUp}
+use Terms.disk
+use Terms.machine
+use Rattle.arj_law_disk.specs.machine.State.{open_by}
+use Rattle.arj_law_lock.specs.machine.{Actions.In, Steps.NobodyInDoubt}
+use Rattle.arj_law_lock_view.specs.running.Sees.{ArePast, IsOverIn, WasAnsweredYes, WasConfirmed}
+use Rattle.arj_law_serial.proofs.joint
+use joint.{Given.AreBeside, GivenLight.never_light, Surviving.IsTopThere, Surviving.top_there, Writing.VotedIn, Writing.planned_voted}
+use joint.GivenTops.{begun_of, committed_there, core, disk_of, holds, node_of, places}
 use Rattle.arj_law_serial.proofs.order.Order.{top_plain}
-use Rattle.arj_law_serial.proofs.joint.Surviving.{IsTopThere, top_there}
-use Rattle.arj_law_serial.proofs.joint.Writing.{VotedIn, planned_voted}
+use Rattle.arj_law_disk.specs.machine.Messages as mail
 
 -- ---- outcomes that are open
 
@@ -66,12 +44,16 @@ module _ (S : disk.State) (t : ℕ) (off : disk.decided S t ≡ false) where
 
 -- ---- a top that isn't over by the lock machine
 
-module _ (hd : Header) (f : Fixed) (x : ℕ) (begun : List Action) (S : State) (M : Seen) (b : AreBeside hd f x begun S M) (alone : (z : ℕ) → (let A = b.office in let D = A.world.disk in D.conf z) ≡ true → undecided (let A = b.office in A.world.disk) z ≡ true → ⊥) where
+module _ (hd : Header) (f : Fixed) (x : ℕ) (begun : List Action) (S : State) (M : Seen) (b : AreBeside hd f x begun S M) (alone : (z : ℕ) →
+    (let A = b.office in let D = A.world.disk in D.conf z) ≡ true → undecided (let A = b.office in A.world.disk) z ≡ true → ⊥) where
   abbrev D : disk.State
   D = disk_of hd f x begun S M b
 
-  module _ (a : Act) (in_acts : list.In a (acts M.lines)) (top_kind : is_top a.kind ≡ true) (c : Call) (there : In c S.calls) (write : c.write ≡ true) (its : top c.act ≡ f.act a.uid) (alive : Alive S c.act)
-      (conf : S.confirmed (f.act a.uid) ≡ true) (one : 1 ≤ (let k = S.action (f.act a.uid) in k.stage)) (two : (let k = S.action (f.act a.uid) in k.stage) ≤ 2) (commits : D.begun (uid_number a.uid) ≡ true) (taken : undecided D (uid_number a.uid) ≡ true → (D.conf (uid_number a.uid) ≡ true) ⊎ (D.light (uid_number a.uid) ≡ true)) where
+  module _ (a : Act) (in_acts : list.In a (acts M.lines)) (top_kind : is_top a.kind ≡ true) (c : Call) (there : In c S.calls)
+      (write : c.write ≡ true) (its : top c.act ≡ f.act a.uid) (alive : Alive S c.act)
+      (conf : S.confirmed (f.act a.uid) ≡ true) (one : 1 ≤ (let k = S.action (f.act a.uid) in k.stage))
+      (two : (let k = S.action (f.act a.uid) in k.stage) ≤ 2) (commits : D.begun (uid_number a.uid) ≡ true)
+      (taken : undecided D (uid_number a.uid) ≡ true → (D.conf (uid_number a.uid) ≡ true) ⊎ (D.light (uid_number a.uid) ≡ true)) where
     abbrev u : Uid
     u = a.uid
 
@@ -97,7 +79,9 @@ module _ (hd : Header) (f : Fixed) (x : ℕ) (begun : List Action) (S : State) (
         let z = begun_of hd f x begun S M b a in_acts in
         ⊎_elim
         (λ (here : (r : Branch) × (branch_of (act_of z.0) tree ≡ Some r)). (here.0, ap (λ (w : Uid). branch_of w tree) (sym z.2) ∙ here.1))
-        (λ (old : IsPast (view_of f x begun v) (act_of z.0) S). absurd (not_ended (subst (λ (w : Uid). (let k = S.action (f.act w) in k.stage) ≡ 3 ⊎ (let k = S.action (f.act w) in k.stage) ≡ 4) z.2 (old.ended (ap (λ (w : Uid). is_action (f.act w)) z.2 ∙ acts_so)))))
+        (λ (old : IsPast (view_of f x begun v) (act_of z.0) S).
+        absurd (not_ended (subst (λ (w : Uid). (let k = S.action (f.act w) in k.stage) ≡ 3 ⊎ (let k = S.action (f.act w) in k.stage)
+        ≡ 4) z.2 (old.ended (ap (λ (w : Uid). is_action (f.act w)) z.2 ∙ acts_so)))))
         (past z.0 z.1 (ap (λ (w : Uid). w.node) z.2 ∙ sym same))
 
     one_there : AreOne f.act
@@ -125,7 +109,8 @@ module _ (hd : Header) (f : Fixed) (x : ℕ) (begun : List Action) (S : State) (
             by (Some i) at some = ⊎_elim done unsaid (bool_cases (disk.decided D t))
               where
                 done : disk.decided D t ≡ true → ⊥
-                done on = not_ended (inl (committed_there hd f x begun S M b a in_acts (top_plain a.kind top_kind) (b.early u node.0 node.1 dead on)))
+                done on = not_ended
+                    (inl (committed_there hd f x begun S M b a in_acts (top_plain a.kind top_kind) (b.early u node.0 node.1 dead on)))
 
                 unsaid : disk.decided D t ≡ false → ⊥
                 unsaid off =
@@ -136,19 +121,28 @@ module _ (hd : Header) (f : Fixed) (x : ℕ) (begun : List Action) (S : State) (
                     ⊎_elim
                     (λ on. alone t on yet)
                     (λ light.
-                    let p = b.planned.records u (record { place = u.node; node = node.0; intent = i; here = node.1; there = at_in u i (let n = node.0 in let d = n.disk in d.intents) at }) in
-                    let voted : VotedIn f S u None = subst (VotedIn f S u) (plain_light light) (planned_voted f x S (let A = b.office in A.world) u one_there p (omega (arith, stage)) (omega (arith, stage))) in
+                    let p = b.planned.records u (record {
+                      place = u.node;
+                      node = node.0;
+                      intent = i;
+                      here = node.1;
+                      there = at_in u i (let n = node.0 in let d = n.disk in d.intents) at;
+                    }) in
+                    let voted : VotedIn f S u None = subst (VotedIn f S u) (plain_light light)
+                    (planned_voted f x S (let A = b.office in A.world) u one_there p (omega (arith, stage)) (omega (arith, stage))) in
                     voted c there write its alive)
                     (taken yet)
 
     -- ---- its node is up
 
-    module _ (p : Parts) (live : (let n = node.0 in n.live) ≡ Some p) (s : SeesUp (view_of f x begun u.node) S (let n = node.0 in n.disk) p) where
+    module _ (p : Parts) (live : (let n = node.0 in n.live) ≡ Some p)
+        (s : SeesUp (view_of f x begun u.node) S (let n = node.0 in n.disk) p) where
       r : (r : Branch) × (branch_of u (let q = p.coord in q.tree) ≡ Some r)
       r = past_not u.node (let q = p.coord in q.tree) refl s.past
 
       up_good : IsUp begun M.sent M.labels u.node (let n = node.0 in let d = n.disk in d.inc) p
-      up_good = let e = b.seen in let g = e.good in let w = g.places u.node node.0 node.1 in subst (IsMemory begun M.sent M.labels u.node (let n = node.0 in let d = n.disk in d.inc)) live w.memory
+      up_good = let e = b.seen in let g = e.good in let w = g.places u.node node.0 node.1 in
+          subst (IsMemory begun M.sent M.labels u.node (let n = node.0 in let d = n.disk in d.inc)) live w.memory
 
       work : (q : Doing) × (doing_of u p.coord ≡ Some q)
       work = work_there p.coord (let g = up_good in let h = g.faithful in h.works) u r.0 r.1
@@ -157,9 +151,11 @@ module _ (hd : Header) (f : Fixed) (x : ℕ) (begun : List Action) (S : State) (
       stage = (let w = s.coord in let z = w.coord in let y = z.actions in let e = y.each u r.0 work.0 r.1 work.1 acts_so in e.stage)
 
       undecided_here : (g : disk.Stage) → D.stage t ≡ g → disk.is_gone g ≡ false → disk.decided D t ≡ false
-      undecided_here g is off = ⊎_elim (λ on. absurd (never (ap disk.is_gone (sym is) ∙ (let k = core hd f x begun S M b in k.coordinators.decided_closed t on)) off)) (λ still. still) (bool_cases (disk.decided D t))
+      undecided_here g is off = ⊎_elim (λ on. absurd (never (ap disk.is_gone (sym is)
+          ∙ (let k = core hd f x begun S M b in k.coordinators.decided_closed t on)) off)) (λ still. still) (bool_cases (disk.decided D t))
 
-      confirming : (q : commit.Plan) → (let w = work.0 in w.now) ≡ Committing (commit.Confirming q) → (let k = S.action m in k.stage) ≡ 1 → SeesConfirming x D t q → ⊥
+      confirming : (q : commit.Plan) → (let w = work.0 in w.now) ≡ Committing (commit.Confirming q) → (let k = S.action m in k.stage) ≡ 1 →
+          SeesConfirming x D t q → ⊥
       confirming q now is w =
           let off = undecided_here disk.Confirming w.stage refl in
           let yet = confirming_open D t off w.stage in
@@ -180,7 +176,8 @@ module _ (hd : Header) (f : Fixed) (x : ℕ) (begun : List Action) (S : State) (
           (λ light. never (ap disk.is_sealed (sym w.stage) ∙ k.coordinators.light_sealed t light) refl)
           (taken (preparing_open D t off w.stage))
 
-      working : (q : commit.Machine) → (let w = work.0 in w.now) ≡ Committing q → (let k = S.action m in k.stage) ≡ 1 → WorksBy x D t (Committing q) → ⊥
+      working : (q : commit.Machine) → (let w = work.0 in w.now) ≡ Committing q → (let k = S.action m in k.stage) ≡ 1 →
+          WorksBy x D t (Committing q) → ⊥
       working (commit.Voting q left) now is w = never (ap disk.is_idle w) (let k = core hd f x begun S M b in k.fresh.begun t commits)
       working (commit.Preparing q left) now is w = preparing q left w
       working (commit.Confirming q) now is w = confirming q now is w
@@ -199,9 +196,11 @@ module _ (hd : Header) (f : Fixed) (x : ℕ) (begun : List Action) (S : State) (
       up = by (let y = r.0 in y.ended) refl (let q = work.0 in q.now) refl stage
         where
           works : (let y = r.0 in y.ended) ≡ None → WorksBy x D t (let q = work.0 in q.now)
-          works unended = by_kind (let y = r.0 in y.kind) (let q = work.0 in q.now) (let k = b.both in let e = k.disks in let z = e.coords u.node node.0 p node.1 live in z.working u r.0 work.0 r.1 unended work.1)
+          works unended = by_kind (let y = r.0 in y.kind) (let q = work.0 in q.now) (let k = b.both in let e = k.disks in
+              let z = e.coords u.node node.0 p node.1 live in z.working u r.0 work.0 r.1 unended work.1)
 
-          by : (e : Option End) → (let y = r.0 in y.ended) ≡ e → (now : Now) → (let q = work.0 in q.now) ≡ now → (let k = S.action m in k.stage) ≡ stage_of e now → ⊥
+          by : (e : Option End) → (let y = r.0 in y.ended) ≡ e → (now : Now) → (let q = work.0 in q.now) ≡ now →
+              (let k = S.action m in k.stage) ≡ stage_of e now → ⊥
           by (Some ending.Commit) is now at has = not_ended (inl has)
           by (Some ending.Abort) is now at has = not_ended (inr has)
           by None is (Committing q) at has = working q at has (subst (WorksBy x D t) at (works is))
@@ -217,7 +216,8 @@ module _ (hd : Header) (f : Fixed) (x : ℕ) (begun : List Action) (S : State) (
 
   -- ---- nobody is in doubt
 
-  module _ (naming : Node) (first : M.nodes 1 ≡ Some naming) (c : Call) (there : In c S.calls) (write : c.write ≡ true) (alive : Alive S c.act) (conf : S.confirmed (top c.act) ≡ true) (two : (let k = S.action (top c.act) in k.stage) ≤ 2) where
+  module _ (naming : Node) (first : M.nodes 1 ≡ Some naming) (c : Call) (there : In c S.calls) (write : c.write ≡ true)
+      (alive : Alive S c.act) (conf : S.confirmed (top c.act) ≡ true) (two : (let k = S.action (top c.act) in k.stage) ≤ 2) where
     k : IsTopThere f.act M.lines (top c.act)
     k = top_there f x begun S M b.seen (first_values hd) b.agrees.1.0 c there
 
@@ -239,25 +239,34 @@ module _ (hd : Header) (f : Fixed) (x : ℕ) (begun : List Action) (S : State) (
     one_here : 1 ≤ (let z = S.action y in z.stage)
     one_here = let h = holds hd f x begun S M b in (h.tops y is).asked conf_here
 
-    doubt : D.begun (uid_number (let z = k.its in z.uid)) ≡ true → (undecided D (uid_number (let z = k.its in z.uid)) ≡ true → (D.conf (uid_number (let z = k.its in z.uid)) ≡ true) ⊎ (D.light (uid_number (let z = k.its in z.uid)) ≡ true)) → ⊥
+    doubt : D.begun (uid_number (let z = k.its in z.uid)) ≡ true → (undecided D (uid_number (let z = k.its in z.uid)) ≡ true →
+        (D.conf (uid_number (let z = k.its in z.uid)) ≡ true) ⊎ (D.light (uid_number (let z = k.its in z.uid)) ≡ true)) → ⊥
     doubt commits taken = never_open a k.there k.kind c there write (sym k.place) alive conf_here one_here two_here commits taken
 
     answered : WasAnsweredYes x M.sent (let z = k.its in z.uid) → ⊥
     answered w =
         let e = b.both in
         let s = e.disks in
-        let request = subst (λ o. ClaimsAsked x b.tops (let A = b.office in A.world) M.lines (let p = w.post in p.from) (let p = w.post in p.to) (let p = w.post in p.message) o) w.is (s.posts w.post w.there) in
+        let request = subst (λ o. ClaimsAsked x b.tops (let A = b.office in A.world) M.lines (let p = w.post in p.from) (let p = w.post in
+        p.to) (let p = w.post in p.message) o) w.is (s.posts w.post w.there) in
         let who : actor (let h = w.head in h.path) ≡ (let z = k.its in z.uid) = request.0 ∙ w.top in
-        let said = s.posts (record { from = (let p = w.post in p.to); to = (let p = w.post in p.from); message = response (asked_by w.head) (Reply.Confirmed confirmed.Yes) }) w.yes in
+        let said = s.posts (record {
+          from = (let p = w.post in p.to);
+          to = (let p = w.post in p.from);
+          message = response (asked_by w.head) (Reply.Confirmed confirmed.Yes);
+        }) w.yes in
         let means = (let v = s.whole in v.mail) (mail.Confirmed (uid_number (actor (let h = w.head in h.path)))) said in
-        doubt (ap (λ (z : Uid). D.begun (uid_number z)) (sym who) ∙ means.0) (subst (λ (z : Uid). undecided D (uid_number z) ≡ true → (D.conf (uid_number z) ≡ true) ⊎ (D.light (uid_number z) ≡ true)) who means.1)
+        doubt (ap (λ (z : Uid). D.begun (uid_number z)) (sym who) ∙ means.0) (subst (λ (z : Uid). undecided D (uid_number z) ≡ true →
+        (D.conf (uid_number z) ≡ true) ⊎ (D.light (uid_number z) ≡ true)) who means.1)
 
     prepared : is_prepared (let z = k.its in z.uid) (let d = naming.disk in d.names) ≡ true → ⊥
     prepared on = by (at_uid (let z = k.its in z.uid) (let d = naming.disk in d.names.pend)) refl on
       where
-        by : (o : Option (List ObjectState)) → at_uid (let z = k.its in z.uid) (let d = naming.disk in d.names.pend) ≡ o → is_some o ≡ true → ⊥
+        by : (o : Option (List ObjectState)) → at_uid (let z = k.its in z.uid) (let d = naming.disk in d.names.pend) ≡ o →
+            is_some o ≡ true → ⊥
         by None at some = cc some
-        by (Some states) at some = let e = b.both in let s = e.disks in let q = s.entry naming first in doubt (q.begun (let z = k.its in z.uid) states at) (q.taken (let z = k.its in z.uid) states at)
+        by (Some states) at some = let e = b.both in let s = e.disks in let q = s.entry naming first in
+            doubt (q.begun (let z = k.its in z.uid) states at) (q.taken (let z = k.its in z.uid) states at)
 
     over : IsOverIn y S → ⊥
     over (inl three) = let z = two_here in omega (arith, three, z)

@@ -1,36 +1,15 @@
 -- Where both machines of an object stand in one state: tops of its calls, their nodes, and what the lock machine has of them.
-use Rattle.std.proofs.Common.{◌≡◌, ℕ, List, [], ◌∷◌, true, false, Some, Contains, refl, sym, ◌∙◌, ap, subst, inl, inr, ⊎_elim}
-use Rattle.std.specs.List.{AllByRecursion}
-use Rattle.arj_lock.proofs.Members as list
-use Rattle.arj_lock.proofs.Members.{in_to}
-use Rattle.arj_model.specs.Actions.{Act, acts, is_serial}
-use Rattle.arj_model.specs.Last.{first_values}
-use Rattle.arj_protocol.specs.Words.{Header, Uid}
-use Rattle.arj_protocol.specs.Order.{uid_number}
-use Rattle.arj_protocol.specs.Step.{Node}
-use Rattle.arj_law_parts.specs.parts.Actions.{Action, act_of}
-use Rattle.arj_law_disk.specs.machine.Core.{Core}
-use Rattle.arj_law_disk.specs.machine.State as disk
-use Rattle.arj_promise.specs.Runs.{Seen}
-use Rattle.arj_law_runs.specs.journal.Book.{book, is_decided, new_book}
-use Rattle.arj_law_runs.specs.journal.Knows.{IsGiven}
-use Rattle.arj_law_runs.specs.journal.Paths.{AreAlike}
-use Rattle.arj_law_runs.specs.journal.Right.{AreRight}
-use Rattle.arj_law_runs.proofs.journal.Models.{is_book, its_acts}
-use Rattle.arj_law_lock.specs.machine.State.{State}
-use Rattle.arj_law_lock.proofs.machine.Claims.{Holds}
-use Rattle.arj_law_lock.proofs.machine.Order.{start_holds}
-use Rattle.arj_law_lock.proofs.machine.Roots.{RootsLow, roots_low, start_low}
+use Rattle.arj_law_parts.proofs.Words
+use Words.{◌≡◌, ℕ, List, [], ◌∷◌, true, false, Some, Contains, refl, sym, ◌∙◌, ap, subst, inl, inr, ⊎_elim, AllByRecursion, in_to, Header}
+use Words.{Uid, uid_number, Node, Seen}
+use Words.list
+use Rattle.arj_law_serial.proofs.Terms
+use Terms.{Act, acts, is_serial, first_values, Action, act_of, Core, book, is_decided, new_book, IsGiven, AreAlike, AreRight, is_book}
+use Terms.{its_acts, State, Holds, start_holds, RootsLow, roots_low, start_low, start_values, Votes, run_all_votes, start_votes}
+use Terms.{IsTiedToLines, Fixed, HasPlaces}
+use Terms.disk
 use Rattle.arj_law_lock.proofs.machine.ValueClaims.{Values}
-use Rattle.arj_law_lock.proofs.machine.ValueRun.{start_values}
-use Rattle.arj_law_lock.proofs.machine.VoteLasts.{Votes}
-use Rattle.arj_law_lock.proofs.machine.VoteRun.{run_all_votes, start_votes}
-use Rattle.arj_law_lock_view.specs.journal.Lines.{IsTiedToLines}
-use Rattle.arj_law_lock_view.specs.running.Fixed.{Fixed}
-use Rattle.arj_law_serial.specs.order.Tied.{HasPlaces}
-use Rattle.arj_law_serial.proofs.order.Begun.{begun_have_places}
-use Rattle.arj_law_serial.proofs.order.Ties.{IsAsSaid, as_said}
-use Rattle.arj_law_serial.proofs.joint.Given.{AreBeside}
+use Rattle.arj_law_serial.proofs.{joint.Given.AreBeside, order.Begun.begun_have_places, order.Ties.IsAsSaid, order.Ties.as_said}
 
 all_at : {A : Type 0} (P : A → Type 0) (xs : List A) → AllByRecursion P xs → (a : A) → list.In a xs → P a
 all_at P [] all a i = absurd i
@@ -38,7 +17,8 @@ all_at P (x ∷ xs) all a (inl same) = subst P same all.0
 all_at P (x ∷ xs) all a (inr i) = all_at P xs all.1 a i
 
 -- an action of the journal was begun
-alike_in : (begun : List Action) (bs : List Act) → AreAlike begun bs → (b : Act) → list.In b bs → (a : Action) × list.In a begun × (act_of a ≡ b.uid)
+alike_in : (begun : List Action) (bs : List Act) → AreAlike begun bs → (b : Act) → list.In b bs →
+    (a : Action) × list.In a begun × (act_of a ≡ b.uid)
 alike_in [] [] alike b i = absurd i
 alike_in [] (c ∷ bs) alike b i = absurd alike
 alike_in (a ∷ begun) [] alike b i = absurd i
@@ -71,7 +51,8 @@ module _ (hd : Header) (f : Fixed) (x : ℕ) (begun : List Action) (S : State) (
   low = let s = b.seen in let l = s.sees in roots_low l.run (start_low f.first)
 
   pub places : HasPlaces f.act M.lines
-  places = let s = b.seen in let a = s.agrees in begun_have_places begun f.paths f.act M.lines right (subst (AreAlike begun) (its_acts M.lines right) s.alike) a.whole
+  places = let s = b.seen in let a = s.agrees in
+      begun_have_places begun f.paths f.act M.lines right (subst (AreAlike begun) (its_acts M.lines right) s.alike) a.whole
 
   pub tied : IsTiedToLines f.act f.code (first_values hd) x M.lines S
   tied = let s = b.seen in s.tied (first_values hd) b.agrees.1.0
@@ -81,7 +62,8 @@ module _ (hd : Header) (f : Fixed) (x : ℕ) (begun : List Action) (S : State) (
   said_of a i plain = as_said M.lines a (S.action (f.act a.uid)) (tied.ends a (in_to a (acts M.lines) i) plain)
 
   -- who is decided by the journal is committed
-  pub committed_there : (a : Act) → list.In a (acts M.lines) → is_serial a.kind ≡ false → is_decided (book M.lines) a.uid ≡ true → (let k = S.action (f.act a.uid) in k.stage) ≡ 3
+  pub committed_there : (a : Act) → list.In a (acts M.lines) → is_serial a.kind ≡ false → is_decided (book M.lines) a.uid ≡ true →
+      (let k = S.action (f.act a.uid) in k.stage) ≡ 3
   committed_there a i plain on = (said_of a i plain).done ((let k = is_book M.lines right in k.decided a (in_to a (acts M.lines) i)) ∙ on)
 
   -- its node is there
@@ -95,8 +77,10 @@ module _ (hd : Header) (f : Fixed) (x : ℕ) (begun : List Action) (S : State) (
 
   -- and it is one of those that were begun
   pub begun_of : (a : Act) → list.In a (acts M.lines) → (z : Action) × Contains begun z × (act_of z ≡ a.uid)
-  begun_of a i = let s = b.seen in let r = alike_in begun (book M.lines).acts s.alike a (subst (list.In a) (sym (its_acts M.lines right)) i) in (r.0, in_to r.0 begun r.1, r.2)
+  begun_of a i = let s = b.seen in let r = alike_in begun (book M.lines).acts s.alike a
+      (subst (list.In a) (sym (its_acts M.lines right)) i) in (r.0, in_to r.0 begun r.1, r.2)
 
   -- who is decided by the disk machine is so by the journal
-  pub said_there : (u : Uid) (n : Node) → M.nodes u.node ≡ Some n → disk.decided disk_of (uid_number u) ≡ true → is_decided (book M.lines) u ≡ true
+  pub said_there : (u : Uid) (n : Node) → M.nodes u.node ≡ Some n → disk.decided disk_of (uid_number u) ≡ true →
+      is_decided (book M.lines) u ≡ true
   said_there u n here on = ⊎_elim (λ is. is) (λ late. b.early u n here late.down on) (b.carried.0.1.0 u n here on)

@@ -1,71 +1,42 @@
--- Where both machines of an object stand in one state: the last state of the disk machine is what the newest surviving write left, by the lock machine.
-use Rattle.std.proofs.Common.{◌≡◌, ◌≢◌, ◌<◌, ◌==◌, ℕ, List, [], ◌∷◌, true, inl, inr, Option, Some, None, is_some, refl, sym, ◌∙◌, ap, subst, ⊎_elim, arith, eqb-true}
-use Rattle.std.proofs.lemmas.Bool.{and_parts}
-use Rattle.arj_class.specs.Forms.{payload_of}
-use Rattle.arj_class.specs.Table.{class_of, writes}
-use Rattle.arj_class.specs.declared.value.Value.{Value}
-use Rattle.arj_journal.specs.ScriptForm.{HeaderInForm}
-use Rattle.arj_law.proofs.Last.{writes_conflict}
-use Rattle.arj_lock.proofs.Members as list
-use Rattle.arj_lock.proofs.Members.{in_to}
-use Rattle.arj_model.specs.Actions.{Act, acts}
+-- Where both machines of an object stand in one state: the last state of the disk machine is what the newest surviving write left, by the
+-- lock machine.
+use Rattle.arj_law_parts.proofs.Words
+use Words.{◌≡◌, ◌≢◌, ◌<◌, ◌==◌, ℕ, List, [], ◌∷◌, true, inl, inr, Option, Some, None, is_some, refl, sym, ◌∙◌, ap, subst, ⊎_elim, arith}
+use Words.{eqb-true, and_parts, payload_of, class_of, writes, Value, in_to, number_tells, value_back, value_in, Header, ObjectState, Uid}
+use Words.{uid_number, Node, Seen, Wrote}
+use Words.list
+use Rattle.arj_law_serial.proofs.Terms
+use Terms.{HeaderInForm, writes_conflict, Act, acts, committed_calls, tops, first_values, object_line, top_place, writes_on, Action, Done}
+use Terms.{Packed, decided_in, last, never, in_decided, packed, book, is_decided, is_top, new_book, IsDone, AreRight, one_act, stands_lines}
+use Terms.{stands_new, act_there, its_acts, its_sound, top, Alive, Call, State, IsLast, Newest, Survives, newest, older, lives, on_top}
+use Terms.{top_action, top_is, votes_are_right, AreOne, state_code, Fixed, IsTied, IsPlannedSo, IsCalledFirst}
+use Terms.disk
+use Terms.words
+use Terms.machine
+use Rattle.arj_law_lock.specs.machine.Actions.{In}
+use Rattle.arj_law_runs.specs.journal.Laws.{AreApart}
+use Rattle.arj_law_serial.proofs.joint
+use joint.{Called.writers_are_called_first, Called.wrote_something, DecidedTops.machine_decided, Fits.said_fit, Given.AreBeside}
+use joint.{GivenFirst.first_in_form, Writing.VotedIn, Writing.planned_voted}
+use joint.GivenForms.{IsLike, left_like}
+use joint.GivenMachine.{newest_is_last, none_last, theirs_survive}
+use joint.GivenTops.{committed_there, core, disk_of, holds, low, node_of, places, right, said_of, said_there, tied, values, votes}
+use joint.GivenWriters.{IsNewest, WroteNone, decided_at}
+use joint.Surviving.{HasSaid, IsTopThere, has_said, top_there}
+use Rattle.arj_law_serial.proofs.order
+use order.{Ties.Tie, Ties.tie_of}
+use order.Order.{IsShown, before_top, called_first, listed, off_one, place_of_top, same_number, shown, top_for, top_plain}
 use Rattle.arj_model.specs.Calls as model
-use Rattle.arj_model.specs.Calls.{committed_calls, tops}
-use Rattle.arj_model.specs.Last.{first_values, object_line}
-use Rattle.arj_model.specs.Serial.{top_place, writes_on}
-use Rattle.arj_protocol.proofs.Numbers.{number_tells}
-use Rattle.arj_protocol.proofs.Payloads.{value_back}
-use Rattle.arj_protocol.specs.Values.{value_in}
-use Rattle.arj_protocol.specs.Words.{Header, ObjectState, Uid}
-use Rattle.arj_protocol.specs.Order.{uid_number}
-use Rattle.arj_protocol.specs.Step.{Node}
-use Rattle.arj_law_parts.specs.parts.Actions.{Action}
-use Rattle.arj_law_disk.specs.machine.State as disk
-use Rattle.arj_law_disk.specs.machine.State.{Done, Packed, decided_in, last}
-use Rattle.arj_law_disk.specs.machine.Words as words
-use Rattle.arj_law_disk.proofs.machine.Base.{never}
-use Rattle.arj_law_disk.proofs.machine.History.{in_decided}
-use Rattle.arj_law_disk_view.specs.view.Pairs.{packed}
-use Rattle.arj_promise.specs.Runs.{Seen}
-use Rattle.arj_law_runs.specs.journal.Book.{book, is_decided, is_top, new_book}
-use Rattle.arj_law_runs.specs.journal.Laws.{AreApart, IsDone}
-use Rattle.arj_law_runs.specs.journal.Right.{AreRight}
-use Rattle.arj_law_runs.proofs.journal.Closed.{one_act, stands_lines, stands_new}
-use Rattle.arj_law_runs.proofs.journal.Models.{act_there, its_acts, its_sound}
-use Rattle.arj_law_lock.specs.machine.Actions as machine
-use Rattle.arj_law_lock.specs.machine.Actions.{In, top}
-use Rattle.arj_law_lock.specs.machine.State.{Alive, Call, State}
-use Rattle.arj_law_lock.specs.machine.Steps.{IsLast, Newest, Survives, newest, older}
-use Rattle.arj_law_lock.proofs.machine.Ordered.{lives}
-use Rattle.arj_law_lock.proofs.machine.Paths.{on_top, top_action, top_is}
-use Rattle.arj_law_lock.proofs.machine.VoteRun.{votes_are_right}
-use Rattle.arj_law_lock_view.specs.view.Acts.{AreOne}
-use Rattle.arj_law_lock_view.specs.view.Copies.{state_code}
-use Rattle.arj_law_lock_view.specs.running.Fixed.{Fixed}
-use Rattle.arj_promise.specs.Excluded.{Wrote}
-use Rattle.arj_law_serial.specs.order.Tied.{IsTied}
-use Rattle.arj_law_serial.proofs.order.Order.{IsShown, before_top, called_first, listed, off_one, place_of_top, same_number, shown, top_for, top_plain}
-use Rattle.arj_law_serial.proofs.order.Ties.{Tie, tie_of}
-use Rattle.arj_law_serial.proofs.joint.Given.{AreBeside}
-use Rattle.arj_law_serial.specs.joint.Joined.{IsPlannedSo}
-use Rattle.arj_law_serial.specs.joint.Ordered.{IsCalledFirst}
-use Rattle.arj_law_serial.proofs.joint.Called.{writers_are_called_first, wrote_something}
-use Rattle.arj_law_serial.proofs.joint.Fits.{said_fit}
-use Rattle.arj_law_serial.proofs.joint.GivenFirst.{first_in_form}
-use Rattle.arj_law_serial.proofs.joint.GivenForms.{IsLike, left_like}
-use Rattle.arj_law_serial.proofs.joint.GivenMachine.{newest_is_last, none_last, theirs_survive}
-use Rattle.arj_law_serial.proofs.joint.GivenTops.{committed_there, core, disk_of, holds, low, node_of, places, right, said_of, said_there, tied, values, votes}
-use Rattle.arj_law_serial.proofs.joint.GivenWriters.{IsNewest, WroteNone, decided_at}
-use Rattle.arj_law_serial.proofs.joint.DecidedTops.{machine_decided}
-use Rattle.arj_law_serial.proofs.joint.Surviving.{HasSaid, IsTopThere, has_said, top_there}
-use Rattle.arj_law_serial.proofs.joint.Writing.{VotedIn, planned_voted}
 
 -- the newest call that counts left the value
-left_by : (first : ℕ) (Counts : machine.Act → Type 0) (v : ℕ) (cs : List Call) → Newest first Counts v cs → (c : Call) → In c cs → c.write ≡ true → Counts c.act → (d : Call) × In d cs × Counts d.act × (d.gives ≡ v)
+left_by : (first : ℕ) (Counts : machine.Act → Type 0) (v : ℕ) (cs : List Call) → Newest first Counts v cs → (c : Call) → In c cs →
+    c.write ≡ true → Counts c.act → (d : Call) × In d cs × Counts d.act × (d.gives ≡ v)
 left_by first Counts v [] n c i write counts = absurd i
 left_by first Counts v (d ∷ cs) (newest _ w own gives) c i write counts = (d, inl refl, own, gives)
-left_by first Counts v (d ∷ cs) (older _ never n) c (inl same) write counts = absurd (never (subst (λ (y : Call). y.write ≡ true) same write) (subst (λ (y : Call). Counts y.act) same counts))
-left_by first Counts v (d ∷ cs) (older _ never n) c (inr j) write counts = let r = left_by first Counts v cs n c j write counts in (r.0, inr r.1, r.2, r.3)
+left_by first Counts v (d ∷ cs) (older _ never n) c (inl same) write counts =
+    absurd (never (subst (λ (y : Call). y.write ≡ true) same write) (subst (λ (y : Call). Counts y.act) same counts))
+left_by first Counts v (d ∷ cs) (older _ never n) c (inr j) write counts = let r = left_by first Counts v cs n c j write counts in
+    (r.0, inr r.1, r.2, r.3)
 
 -- ---- two tops of the journal, of which one wrote behind the other's decision
 
@@ -95,8 +66,10 @@ module _ (hd : Header) (f : Fixed) (x : ℕ) (begun : List Action) (S : State) (
   apart_tops = let l = listed M.lines its_right in l.apart
 
   -- of two writers the first one's calls stand before its commit, and so before the second one's
-  not_behind : (u v : Act) → list.In u (acts M.lines) → list.In v (acts M.lines) → is_top u.kind ≡ true → is_top v.kind ≡ true → IsDone M.lines u → IsDone M.lines v → u.id ≢ v.id
-      → (c d : model.Call) → list.In c (committed_calls M.lines) → list.In d (committed_calls M.lines) → writes_on x c ≡ true → writes_on x d ≡ true → c.top ≡ v.id → d.top ≡ u.id → IsCalledFirst M.lines u.uid v.uid → c.at < d.at → ⊥
+  not_behind : (u v : Act) → list.In u (acts M.lines) → list.In v (acts M.lines) → is_top u.kind ≡ true → is_top v.kind ≡ true →
+      IsDone M.lines u → IsDone M.lines v → u.id ≢ v.id
+      → (c d : model.Call) → list.In c (committed_calls M.lines) → list.In d (committed_calls M.lines) → writes_on x c ≡ true →
+      writes_on x d ≡ true → c.top ≡ v.id → d.top ≡ u.id → IsCalledFirst M.lines u.uid v.uid → c.at < d.at → ⊥
   not_behind u v in_u in_v ku kv du dv apart c d i j cw dw ct dt first less =
       let tu = top_for M.lines its_right u in_u ku du in
       let tv = top_for M.lines its_right v in_v kv dv in
@@ -109,9 +82,12 @@ module _ (hd : Header) (f : Fixed) (x : ℕ) (begun : List Action) (S : State) (
       (record { listed = in_to tu.0 (tops M.lines) tu.1; wrote = wu; there = in_to u (acts M.lines) in_u; number = sym tu.2 })
       (record { listed = in_to tv.0 (tops M.lines) tv.1; wrote = wv; there = in_to v (acts M.lines) in_v; number = sym tv.2 })
       (λ same. apart (sym tu.2 ∙ same ∙ tv.2)) first in
-      let behind = called_first (first_values hd) M.lines its_right x S tie c d i j cx dx less (off_one c.top d.top (λ e. apart (sym dt ∙ sym e ∙ ct))) (writes_conflict x c d cw dw) in
-      let place_v : top_place (tops M.lines) c.top ≡ (let t = tv.0 in t.at) = ap (top_place (tops M.lines)) (ct ∙ sym tv.2) ∙ place_of_top (tops M.lines) tv.0 apart_tops tv.1 in
-      let place_u : (let n = s.number in n.at) ≡ (let t = tu.0 in t.at) = sym (place_of_top (tops M.lines) s.number apart_tops s.listed_top) ∙ ap (top_place (tops M.lines)) (sym s.top_number ∙ dt ∙ sym tu.2) ∙ place_of_top (tops M.lines) tu.0 apart_tops tu.1 in
+      let behind = called_first (first_values hd) M.lines its_right x S tie c d i j cx dx less
+      (off_one c.top d.top (λ e. apart (sym dt ∙ sym e ∙ ct))) (writes_conflict x c d cw dw) in
+      let place_v : top_place (tops M.lines) c.top ≡ (let t = tv.0 in t.at) = ap (top_place (tops M.lines)) (ct ∙ sym tv.2)
+      ∙ place_of_top (tops M.lines) tv.0 apart_tops tv.1 in
+      let place_u : (let n = s.number in n.at) ≡ (let t = tu.0 in t.at) = sym (place_of_top (tops M.lines) s.number apart_tops s.listed_top)
+      ∙ ap (top_place (tops M.lines)) (sym s.top_number ∙ dt ∙ sym tu.2) ∙ place_of_top (tops M.lines) tu.0 apart_tops tu.1 in
       let ends = before_top (first_values hd) M.lines its_right x S tie d s in
       omega (arith, turn, behind, place_v, place_u, ends)
 
@@ -152,10 +128,12 @@ module _ (hd : Header) (f : Fixed) (x : ℕ) (begun : List Action) (S : State) (
       acts_so = let h = holds hd f x begun S M b in (h.calls c i).acts
 
       three : (let z = S.action (f.act (let y = k.its in y.uid)) in z.stage) ≡ 3
-      three = ap (λ (y : machine.Act). (let z = S.action y in z.stage)) k.place ∙ survives (top c.act) (on_top c.act) (top_action (top c.act) (top_is c.act acts_so))
+      three = ap (λ (y : machine.Act). (let z = S.action y in z.stage)) k.place
+          ∙ survives (top c.act) (on_top c.act) (top_action (top c.act) (top_is c.act acts_so))
 
       on : disk.decided D (uid_number (let y = k.its in y.uid)) ≡ true
-      on = machine_decided f x begun S M b.seen (first_values hd) b.agrees.1.0 (let A = b.office in A.world) b.carried.0.1.1 b.planned (let y = k.its in y.uid) three c i write (sym k.place) survives
+      on = machine_decided f x begun S M b.seen (first_values hd) b.agrees.1.0 (let A = b.office in
+          A.world) b.carried.0.1.1 b.planned (let y = k.its in y.uid) three c i write (sym k.place) survives
 
       d : (d : Done) × words.In d D.tops × (d.top ≡ uid_number (let y = k.its in y.uid))
       d = decided_at D.tops (uid_number (let y = k.its in y.uid)) on
@@ -163,17 +141,21 @@ module _ (hd : Header) (f : Fixed) (x : ℕ) (begun : List Action) (S : State) (
       plan_is : (let e = d.0 in e.plan) ≡ D.plan (uid_number (let y = k.its in y.uid))
       plan_is = (let q = core hd f x begun S M b in q.journal.plan d.0 d.1) ∙ ap D.plan d.2
 
-      by : (o : Option Packed) → (let p = (let e = d.0 in e.plan) in p.writes) ≡ o → is_some (let p = (let e = d.0 in e.plan) in p.writes) ≡ true
+      by : (o : Option Packed) → (let p = (let e = d.0 in e.plan) in p.writes) ≡ o →
+          is_some (let p = (let e = d.0 in e.plan) in p.writes) ≡ true
       by (Some w) is = ap is_some is
       by None is =
           let p = b.planned.decisions (let y = k.its in y.uid) on in
-          let voted : VotedIn f S (let y = k.its in y.uid) None = subst (VotedIn f S (let y = k.its in y.uid)) (ap (λ (q : disk.Plan). q.writes) (sym plan_is) ∙ is) (planned_voted f x S (let A = b.office in A.world) (let y = k.its in y.uid) one_there p (omega (arith, three)) (omega (arith, three))) in
+          let voted : VotedIn f S (let y = k.its in y.uid) None = subst (VotedIn f S (let y = k.its in y.uid))
+          (ap (λ (q : disk.Plan). q.writes) (sym plan_is) ∙ is) (planned_voted f x S (let A = b.office in A.world) (let y = k.its in
+          y.uid) one_there p (omega (arith, three)) (omega (arith, three))) in
           absurd (voted c i write (sym k.place) (lives S (low hd f x begun S M b) c.act survives))
 
   -- ---- where nobody wrote
 
   pub first_is_last : (v : ℕ) → WroteNone D.first D.tops → v ≡ S.initial → IsLast S v S.calls
-  first_is_last v none is = none_last S v S.calls (sym is) (λ c i write survives. let w = writer_of c i write survives in never w.wrote (ap is_some (none.1 w.done w.listed)))
+  first_is_last v none is = none_last S v S.calls (sym is) (λ c i write survives. let w = writer_of c i write survives in
+      never w.wrote (ap is_some (none.1 w.done w.listed)))
 
   -- ---- the newest writer
 
@@ -202,54 +184,79 @@ module _ (hd : Header) (f : Fixed) (x : ℕ) (begun : List Action) (S : State) (
     is = let s = planned.sees.0 in s.top
 
     kind : is_top (let y = a.0 in y.kind) ≡ true
-    kind = let p = places hd f x begun S M b in sym (p.tops a.0 (in_to a.0 (acts M.lines) a.1)) ∙ ap (λ (w : Uid). machine.is_top (f.act w)) a.2 ∙ is
+    kind = let p = places hd f x begun S M b in
+        sym (p.tops a.0 (in_to a.0 (acts M.lines) a.1)) ∙ ap (λ (w : Uid). machine.is_top (f.act w)) a.2 ∙ is
 
     three : (let k = S.action (f.act u) in k.stage) ≡ 3
-    three = ap (λ (w : Uid). (let k = S.action (f.act w) in k.stage)) (sym a.2) ∙ committed_there hd f x begun S M b a.0 a.1 (top_plain (let y = a.0 in y.kind) kind) (ap (is_decided (book M.lines)) a.2 ∙ said_there hd f x begun S M b u n.0 n.1 on)
+    three = ap (λ (w : Uid). (let k = S.action (f.act w) in k.stage)) (sym a.2) ∙ committed_there hd f x begun S M b a.0 a.1
+        (top_plain (let y = a.0 in y.kind) kind) (ap (is_decided (book M.lines)) a.2 ∙ said_there hd f x begun S M b u n.0 n.1 on)
 
     committed : IsDone M.lines a.0
-    committed = (said_of hd f x begun S M b a.0 a.1 (top_plain (let y = a.0 in y.kind) kind)).only (ap (λ (w : Uid). (let k = S.action (f.act w) in k.stage)) a.2 ∙ three)
+    committed = (said_of hd f x begun S M b a.0 a.1 (top_plain (let y = a.0 in y.kind) kind)).only
+        (ap (λ (w : Uid). (let k = S.action (f.act w) in k.stage)) a.2 ∙ three)
 
     voted : VotedIn f S u (Some z.state)
-    voted = subst (VotedIn f S u) (ap (λ (q : disk.Plan). q.writes) (sym plan_is) ∙ z.writes) (planned_voted f x S (let A = b.office in A.world) u one_there planned (omega (arith, three)) (omega (arith, three)))
+    voted = subst (VotedIn f S u) (ap (λ (q : disk.Plan). q.writes) (sym plan_is) ∙ z.writes)
+        (planned_voted f x S (let A = b.office in A.world) u one_there planned (omega (arith, three)) (omega (arith, three)))
 
     -- no write of another top stands behind one of it
-    last_write : (d : Call) → In d S.calls → d.write ≡ true → Survives S d.act → top d.act ≢ f.act u → (c : Call) → In c S.calls → c.write ≡ true → (top c.act ≡ f.act u) × Alive S c.act → c.line < d.line → ⊥
+    last_write : (d : Call) → In d S.calls → d.write ≡ true → Survives S d.act → top d.act ≢ f.act u → (c : Call) → In c S.calls →
+        c.write ≡ true → (top c.act ≡ f.act u) × Alive S c.act → c.line < d.line → ⊥
     last_write d i write survives other c j writes_c its less =
         let w = writer_of d i write survives in
-        let said_d : HasSaid M.lines x (let y = w.its in y.uid) d.line = has_said f x begun S M b.seen (first_values hd) b.agrees.1.0 d i write survives (let y = w.its in y.uid) (sym w.place) in
-        let alive_c = theirs_survive (holds hd f x begun S M b) (values hd f x begun S M b) (low hd f x begun S M b) (f.act u) is three c j its in
-        let said_c : HasSaid M.lines x u c.line = has_said f x begun S M b.seen (first_values hd) b.agrees.1.0 c j writes_c alive_c u its.0 in
+        let said_d : HasSaid M.lines x (let y = w.its in y.uid) d.line = has_said f x begun S M b.seen (first_values hd) b.agrees.1.0 d i
+        write survives (let y = w.its in y.uid) (sym w.place) in
+        let alive_c = theirs_survive (holds hd f x begun S M b) (values hd f x begun S M b) (low hd f x begun S M b) (f.act u) is three c j
+        its in
+        let said_c : HasSaid M.lines x u c.line = has_said f x begun S M b.seen (first_values hd) b.agrees.1.0 c j writes_c alive_c u
+        its.0 in
         let one_d : said_d.act ≡ w.its = same_act said_d.act w.its said_d.there w.there said_d.uid in
         let one_c : said_c.act ≡ a.0 = same_act said_c.act a.0 said_c.there a.1 (said_c.uid ∙ sym a.2) in
-        let apart : (let e = w.done in e.top) ≢ (let e = z.done in e.top) = λ same. other (sym w.place ∙ ap f.act (number_tells (let y = w.its in y.uid) u (sym w.number ∙ same ∙ sym number))) in
-        let ids : (let y = w.its in y.id) ≢ (let y = a.0 in y.id) = λ same. other (sym w.place ∙ ap (λ (y : Act). f.act y.uid) (same_number M.lines its_right w.its a.0 w.there a.1 same) ∙ ap f.act a.2) in
+        let apart : (let e = w.done in e.top) ≢ (let e = z.done in
+        e.top) = λ same. other (sym w.place ∙ ap f.act (number_tells (let y = w.its in y.uid) u (sym w.number ∙ same ∙ sym number))) in
+        let ids : (let y = w.its in y.id) ≢ (let y = a.0 in y.id) = λ same.
+        other (sym w.place ∙ ap (λ (y : Act). f.act y.uid) (same_number M.lines its_right w.its a.0 w.there a.1 same) ∙ ap f.act a.2) in
         let line_d = said_d.line_is in
         let line_c = said_c.line_is in
         ⊎_elim
-        (λ first. not_behind w.its a.0 w.there a.1 w.kind kind w.committed committed ids said_c.call said_d.call said_c.listed said_d.listed said_c.write said_d.write (said_c.whose ∙ ap (λ (y : Act). y.id) one_c) (said_d.whose ∙ ap (λ (y : Act). y.id) one_d) first (omega (arith, less, line_d, line_c)))
-        (λ nothing. wrote_something M.lines x (record { id = (let y = a.0 in y.id); root = (let y = a.0 in y.id); at = 0 }) a.0 refl (said_c.call, in_to said_c.call (committed_calls M.lines) said_c.listed, said_c.write, said_c.whose ∙ ap (λ (y : Act). y.id) one_c) nothing)
-        (z.turns w.done w.its a.0 w.listed w.wrote (in_to w.its (acts M.lines) w.there) (in_to a.0 (acts M.lines) a.1) (sym w.number) (ap uid_number a.2 ∙ number) kind apart)
+        (λ first. not_behind w.its a.0 w.there a.1 w.kind kind w.committed committed ids said_c.call said_d.call said_c.listed said_d.listed
+        said_c.write said_d.write (said_c.whose ∙ ap (λ (y : Act). y.id) one_c) (said_d.whose ∙ ap (λ (y : Act). y.id) one_d) first
+        (omega (arith, less, line_d, line_c)))
+        (λ nothing. wrote_something M.lines x (record { id = (let y = a.0 in y.id); root = (let y = a.0 in y.id); at = 0 }) a.0 refl (
+          said_c.call,
+          in_to said_c.call (committed_calls M.lines) said_c.listed,
+          said_c.write,
+          said_c.whose ∙ ap (λ (y : Act). y.id) one_c,
+        ) nothing)
+        (z.turns w.done w.its a.0 w.listed w.wrote (in_to w.its (acts M.lines) w.there) (in_to a.0 (acts M.lines) a.1) (sym w.number)
+        (ap uid_number a.2 ∙ number) kind apart)
       where
         same_act : (y k : Act) → list.In y (acts M.lines) → list.In k (acts M.lines) → y.uid ≡ k.uid → y ≡ k
         same_act y k in_y in_k same = one_act (acts M.lines) (let q = its_sound M.lines its_right in q.distinct) y k in_y in_k same
 
     -- what it gave is what the newest surviving call left, so it is in form
-    gave_like : HeaderInForm hd → is_some (object_line hd x) ≡ true → Newest S.initial (Survives S) (let g = S.vote (f.act u) in g.value) S.calls → IsLike (first_values hd x) voted.0
+    gave_like : HeaderInForm hd → is_some (object_line hd x) ≡ true →
+        Newest S.initial (Survives S) (let g = S.vote (f.act u) in g.value) S.calls → IsLike (first_values hd x) voted.0
     unfolding tie its_tied
     gave_like form line last =
-        let survives : Survives S (let c = voted.5 in c.act) = theirs_survive (holds hd f x begun S M b) (values hd f x begun S M b) (low hd f x begun S M b) (f.act u) is three voted.5 voted.6 (voted.8, voted.9) in
+        let survives : Survives S (let c = voted.5 in c.act) = theirs_survive (holds hd f x begun S M b) (values hd f x begun S M b)
+        (low hd f x begun S M b) (f.act u) is three voted.5 voted.6 (voted.8, voted.9) in
         let d = left_by S.initial (Survives S) (let g = S.vote (f.act u) in g.value) S.calls last voted.5 voted.6 voted.7 survives in
-        let k = left_like (first_values hd) M.lines x (said_fit x M.lines b.fit) (first_in_form hd x form line) its_right S tie d.0 d.1 d.2 in
+        let k = left_like (first_values hd) M.lines x (said_fit x M.lines b.fit) (first_in_form hd x form line) its_right S tie d.0 d.1
+        d.2 in
         subst (IsLike (first_values hd x)) (b.apart k.0 voted.0 (top (let c = d.0 in c.act)) voted.1 (sym k.2 ∙ d.3 ∙ voted.2)).0 k.1
 
-    pub newest_wrote : HeaderInForm hd → is_some (object_line hd x) ≡ true → (st : ObjectState) → st.class ≡ class_of (first_values hd x) → st.writer ≡ u → packed st ≡ z.state → IsLast S (state_code f.act f.code st) S.calls
+    pub newest_wrote : HeaderInForm hd → is_some (object_line hd x) ≡ true → (st : ObjectState) → st.class ≡ class_of (first_values hd x) →
+        st.writer ≡ u → packed st ≡ z.state → IsLast S (state_code f.act f.code st) S.calls
     newest_wrote form line st class writer same =
-        let given = newest_is_last (holds hd f x begun S M b) (values hd f x begun S M b) (low hd f x begun S M b) (f.act u) is three last_write (let g = S.vote (f.act u) in g.value)
-        ((votes_are_right (holds hd f x begun S M b) (votes hd f x begun S M b)).value (f.act u) voted.5 is (omega (arith, three)) (omega (arith, three)) voted.6 voted.7 voted.8 voted.9) voted.5 voted.6 voted.7 (voted.8, voted.9) in
+        let given = newest_is_last (holds hd f x begun S M b) (values hd f x begun S M b) (low hd f x begun S M b) (f.act u) is three
+        last_write (let g = S.vote (f.act u) in g.value)
+        ((votes_are_right (holds hd f x begun S M b) (votes hd f x begun S M b)).value (f.act u) voted.5 is (omega (arith, three))
+        (omega (arith, three)) voted.6 voted.7 voted.8 voted.9) voted.5 voted.6 voted.7 (voted.8, voted.9) in
         let like = gave_like form line given in
         let kind : st.class ≡ class_of voted.0 = class ∙ sym like.class in
         let payload : st.payload ≡ payload_of voted.0 = ap (λ (k : Packed). k.content) same ∙ voted.3 in
         let value : state_code f.act f.code st ≡ (let g = S.vote (f.act u) in g.value) =
-        (λ i. f.code (value_in (kind i) (payload i)) (f.act (writer i))) ∙ ap (λ (v : Value). f.code v (f.act u)) (value_back voted.0 like.form) ∙ ap (f.code voted.0) (sym voted.10) ∙ sym voted.2 in
+        (λ i. f.code (value_in (kind i) (payload i)) (f.act (writer i)))
+        ∙ ap (λ (v : Value). f.code v (f.act u)) (value_back voted.0 like.form) ∙ ap (f.code voted.0) (sym voted.10) ∙ sym voted.2 in
         subst (λ v. IsLast S v S.calls) (sym value) given

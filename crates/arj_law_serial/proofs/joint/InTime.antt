@@ -1,13 +1,12 @@
 -- Which stores of a small journal are in time.
-use Rattle.std.proofs.Common.{◌≡◌, ℕ, List, Option, refl, sym, inl, inr, ⊎_elim, ap, arith, [], ◌∷◌, unwrap_or}
-use Rattle.std.specs.Prelude.{get_or}
-use Rattle.std.specs.Option.{option_map}
-use Rattle.arj_base.specs.declared.state.ObjectState.{ObjectState}
-use Rattle.arj_law_serial.specs.joint.Excluded.{IsInTime, IsOnly}
-use Rattle.arj_promise.specs.Excluded.{IsNew}
-use Rattle.arj_base.specs.Uid.{nobody}
-use Rattle.arj_promise.specs.Excluded.{DiskIsInTime, Lists}
-use Rattle.arj_law_serial.specs.joint.Samples.{counter_state, decided_lines, disks_decided, disks_late, entry_with, header, its_top, its_uid, naming_late, naming_node, store_three, store_two}
+use Rattle.arj_law_parts.proofs.Words
+use Words.{◌≡◌, ℕ, List, Option, refl, sym, inl, inr, ⊎_elim, ap, arith, [], ◌∷◌, unwrap_or, slice_index_or as get_or, ObjectState, IsNew}
+use Words.{nobody, DiskIsInTime}
+use Rattle.arj_law_serial.proofs.Terms.{option_map, IsInTime, IsOnly}
+use Rattle.arj_law_serial.specs.joint
+use joint.Samples.{counter_state, decided_lines, disks_decided, disks_late, entry_with, header, its_top, its_uid, naming_late, naming_node}
+use joint.Samples.{store_three, store_two}
+use Rattle.arj_promise.specs.Excluded.{Lists}
 
 -- a state that stands alone is the only one of its object
 alone : (s : ObjectState) → IsOnly s.uid (s ∷ []) s

@@ -1,22 +1,16 @@
--- Whoever is decided and counts, and didn't write, includes a store, and who doesn't count has taken no Yes and was confirmed as one that changes
--- nothing: each effect of the disk machine keeps it.
-use Rattle.std.proofs.Common.{◌≡◌, ◌==◌, ◌&&◌, ◌||◌, ◌∙◌, ℕ, Bool, true, false, not, List, [], ◌∷◌, ap, inl, refl, subst, sym, ⊎_elim}
-use Rattle.arj_law_disk.specs.machine.Effects
-use Rattle.arj_law_disk.specs.machine.Effects.{Allowed, Effect, Follows, Whole, World, after, done_of, run}
-use Rattle.arj_law_disk.specs.machine.Guards.{only_decides}
-use Rattle.arj_law_disk.specs.machine.Names.{Office}
-use Rattle.arj_law_disk.specs.machine.State.{Done, is_open, undecided}
-use Rattle.arj_law_disk.specs.machine.Words as disk
-use Rattle.arj_law_disk.specs.machine.Words.{In}
-use Rattle.arj_law_disk.proofs.machine.Base.{or_left, put_cases}
-use Rattle.arj_law_disk.proofs.machine.Keeps.{effect_keeps}
-use Rattle.arj_law_disk_view.specs.view.Sees.{Along}
-use Rattle.arj_law_disk_view.specs.names.Handlers.{Answering, Change, Changes, Deciding, Quietly}
-use Rattle.arj_law_disk_view.proofs.running.Decisions.{Goes, goes_along}
-use Rattle.arj_law_disk_view.proofs.deciding_lines.Tying.{goes_by}
-use Rattle.arj_law_serial.specs.joint.MarkedTops.{AreJoiners}
-use Rattle.arj_law_serial.specs.joint.Ordered.{AreDim, AreStill}
+-- Whoever is decided and counts, and didn't write, includes a store, and who doesn't count has taken no Yes and was confirmed as one that
+-- changes nothing: each effect of the disk machine keeps it.
+use Rattle.arj_law_parts.proofs.Words
+use Words.{◌≡◌, ◌==◌, ◌&&◌, ◌||◌, ◌∙◌, ℕ, Bool, true, false, not, List, [], ◌∷◌, ap, inl, refl, subst, sym, ⊎_elim}
+use Rattle.arj_law_serial.proofs.Terms
+use Terms.{Allowed, Effect, Follows, Whole, World, only_decides, Office, Done, is_open, undecided, or_left, put_cases, effect_keeps, Along}
+use Terms.{Answering, Change, Changes, Deciding, Quietly, goes_along, goes_by, AreDim, AreStill}
+use Terms.Effects
+use Terms.words as disk
+use Rattle.arj_law_disk.specs.machine.{Effects.after, Effects.done_of, Effects.run, Words.In}
+use Rattle.arj_law_disk_view.proofs.running.Decisions.{Goes}
 use Rattle.arj_law_serial.proofs.joint.Ending.{Ends, ends_along, ends_by, ends_of}
+use Rattle.arj_law_serial.specs.joint.MarkedTops.{AreJoiners}
 
 abbrev Joins : World → Type 0
 Joins W = AreJoiners W.disk.tops × AreStill W.disk.tops × AreDim W.disk
@@ -24,13 +18,16 @@ Joins W = AreJoiners W.disk.tops × AreStill W.disk.tops × AreDim W.disk
 effect_joins : (W : World) (e : Effect) → Allowed W e → Whole W → Joins W → Joins (after W e)
 effect_joins W (Effects.Decide t) can whole (joins, still, dim) = (
   λ d i counts plain. ⊎_elim
-      (λ (same : done_of W.disk t ≡ d). subst (λ (z : Done). (s : ℕ) × (disk.has s z.plan.joins ≡ true)) same (whole.core.covered.plain t (conf (ap (λ (z : Done). z.counts) same ∙ counts)) open_yet (ap (λ (z : Done). z.plan.writes) same ∙ plain)).0)
+      (λ (same : done_of W.disk t ≡ d). subst (λ (z : Done). (s : ℕ) × (disk.has s z.plan.joins ≡ true)) same (whole.core.covered.plain t
+      (conf (ap (λ (z : Done). z.counts) same ∙ counts)) open_yet (ap (λ (z : Done). z.plan.writes) same ∙ plain)).0)
       (λ (old : In d W.disk.tops). joins d old counts plain) i,
   λ d i light s. ⊎_elim
-      (λ (same : done_of W.disk t ≡ d). subst (λ (z : Done). z.got s ≡ false) same (whole.core.light.none t s (turn (W.disk.light t) (ap (λ (z : Done). z.counts) same ∙ light))))
+      (λ (same : done_of W.disk t ≡ d). subst (λ (z : Done). z.got s ≡ false) same
+      (whole.core.light.none t s (turn (W.disk.light t) (ap (λ (z : Done). z.counts) same ∙ light))))
       (λ (old : In d W.disk.tops). still d old light s) i,
   λ d i light. ⊎_elim
-      (λ (same : done_of W.disk t ≡ d). subst (λ (z : Done). W.disk.light z.top ≡ true) same (turn (W.disk.light t) (ap (λ (z : Done). z.counts) same ∙ light)))
+      (λ (same : done_of W.disk t ≡ d).
+      subst (λ (z : Done). W.disk.light z.top ≡ true) same (turn (W.disk.light t) (ap (λ (z : Done). z.counts) same ∙ light)))
       (λ (old : In d W.disk.tops). dim d old light) i,
 )
   where
@@ -65,7 +62,8 @@ effect_joins W (Effects.Agree t) can whole joins = joins
 effect_joins W (Effects.Pass t) can whole (joins, still, dim) = (
   joins,
   still,
-  λ d i light. put_cases (λ b. b ≡ true) t (W.disk.light t || undecided W.disk t) W.disk.light d.top (λ same. or_left (W.disk.light t) (undecided W.disk t) (ap W.disk.light (sym same) ∙ dim d i light)) (λ other. dim d i light),
+  λ d i light. put_cases (λ b. b ≡ true) t (W.disk.light t || undecided W.disk t) W.disk.light d.top
+      (λ same. or_left (W.disk.light t) (undecided W.disk t) (ap W.disk.light (sym same) ∙ dim d i light)) (λ other. dim d i light),
 )
 effect_joins W (Effects.Enter t) can whole joins = joins
 effect_joins W (Effects.MoveEntry h) can whole joins = joins
@@ -83,13 +81,22 @@ abbrev pub GoesOn : (ℕ → Bool) → World → World → Type 0
 GoesOn g W V = Goes W V × (Joins W → Joins V) × Ends g W V
 
 pub goes_on_along : (g : ℕ → Bool) (W V : World) → Whole W → Along (record { from = W; noted = only_decides g }) V → GoesOn g W V
-goes_on_along g W V whole a = (goes_along g W V whole a, (λ joins. subst Joins a.here (all_join W a.effects a.allowed whole joins)), ends_along g W V whole a)
+goes_on_along g W V whole a =
+    (goes_along g W V whole a, (λ joins. subst Joins a.here (all_join W a.effects a.allowed whole joins)), ends_along g W V whole a)
 
 -- by the changes of a step
 pub goes_on_by : (o : Change) (A B : Office) → Whole A.world → Changes o A B → GoesOn (ends_of o) A.world B.world
 goes_on_by o A B whole c = (goes_by o A B whole c, joins_by o c, ends_by o A B whole c)
   where
     joins_by : (q : Change) → Changes q A B → Joins A.world → Joins B.world
-    joins_by Quietly z (joins, still, dim) = (subst AreJoiners (sym z.tops) joins, subst AreStill (sym z.tops) still, λ d i light. (let o = z.onward in o.light d.top (dim d (subst (In d) z.tops i) light)))
-    joins_by (Answering t r) z (joins, still, dim) = (subst AreJoiners (sym (let q = z.0 in q.tops)) joins, subst AreStill (sym (let q = z.0 in q.tops)) still, λ d i light. (let q = z.0 in let o = q.onward in o.light d.top (dim d (subst (In d) q.tops i) light)))
+    joins_by Quietly z (joins, still, dim) = (
+      subst AreJoiners (sym z.tops) joins,
+      subst AreStill (sym z.tops) still,
+      λ d i light. (let o = z.onward in o.light d.top (dim d (subst (In d) z.tops i) light)),
+    )
+    joins_by (Answering t r) z (joins, still, dim) = (
+      subst AreJoiners (sym (let q = z.0 in q.tops)) joins,
+      subst AreStill (sym (let q = z.0 in q.tops)) still,
+      λ d i light. (let q = z.0 in let o = q.onward in o.light d.top (dim d (subst (In d) q.tops i) light)),
+    )
     joins_by (Deciding t keeps) z joins = (goes_on_along (λ y. y == t) A.world B.world whole z.along).1 joins

@@ -1,47 +1,27 @@
 -- Each handler keeps what keeps tops from counting beside a decided one that conflicts with them.
-use Rattle.std.proofs.Common.{◌≡◌, ◌≢◌, ◌==◌, ◌∙◌, ℕ, true, [], Some, None, ap, eqb-true, inl, inr, refl, subst, sym, ⊎_elim}
-use Rattle.std.proofs.lemmas.Bool.{and_parts}
-use Rattle.arj_protocol.specs.Words.{Header, Uid}
-use Rattle.arj_protocol.specs.Commit.{Confirming, Machine, plan_of}
-use Rattle.arj_protocol.specs.Coord.{Committing, Coord, Doing, doing_of}
-use Rattle.arj_protocol.specs.Effect.{Disk}
-use Rattle.arj_protocol.specs.Node.{Parts}
-use Rattle.arj_protocol.specs.Order.{uid_number}
-use Rattle.arj_protocol.specs.Step.{Node, first_disk, parts_in}
-use Rattle.arj_protocol.specs.Tree.{root_of}
-use Rattle.arj_protocol.proofs.Numbers.{number_tells}
-use Rattle.arj_law_parts.proofs.parts.Keys.{in_at}
-use Rattle.arj_law_disk.specs.machine.Effects.{World}
-use Rattle.arj_law_disk.specs.machine.Names.{Office}
-use Rattle.arj_law_disk.specs.machine.State.{State}
-use Rattle.arj_law_disk.specs.machine.Words.{In}
-use Rattle.arj_law_disk.proofs.machine.Base.{some_is}
-use Rattle.arj_law_parts.specs.moves.Seen.{at, down, up}
-use Rattle.arj_promise.specs.Runs.{Seen}
-use Rattle.arj_law_disk_view.specs.view.Coordinating.{KnowsNode}
-use Rattle.arj_law_disk_view.specs.view.Knows.{KnowsKinds, KnowsMachine}
-use Rattle.arj_law_disk_view.specs.view.Sees.{Kinds, SeesCoord}
-use Rattle.arj_law_disk_view.proofs.view.FirstSeen.{first_at}
-use Rattle.arj_law_disk_view.proofs.view.Frames.{node_here}
-use Rattle.arj_law_disk_view.specs.names.Both.{SeesBoth}
-use Rattle.arj_law_disk_view.specs.running.Decided.{SeesDecided}
-use Rattle.arj_law_disk_view.specs.running.Heard.{SeesHeard, SeesPlan}
-use Rattle.arj_law_disk_view.specs.running.Part.{KeepsPart}
-use Rattle.arj_law_runs.specs.journal.Knows.{IsKept}
-use Rattle.arj_law_disk_view.proofs.deciding_lines.Steps.{nothing_more}
-use Rattle.arj_law_serial.specs.joint.Includers.{IncludersTakeTurns}
-use Rattle.arj_law_serial.proofs.joint.JoinFresh.{fine, not_some}
-use Rattle.arj_law_serial.proofs.joint.JoinStep.{AreAgainst, IsAgainst, IsCounted, IsEither, KeepTurns, keeps, plan_includes_none}
-use Rattle.arj_law_serial.proofs.joint.JoinTurns.{Settled, called_first, includes_none}
-use Rattle.arj_law_serial.proofs.joint.MarkRuns.{own_doing}
-use Rattle.arj_law_serial.proofs.joint.JoinUses.{UsesSo}
-use Rattle.arj_law_serial.proofs.joint.Recording.{IsConfirming}
-use Rattle.arj_law_serial.proofs.joint.JoinBeside.{Keeping, StepsKeep, WhereCalled, WhereFirst, WhereFound, WhereHeard, WhereNone, WhereWaits, beside_part}
-use Rattle.arj_law_serial.proofs.joint.JoinNodes.{IsFound, coord_seen, found_opened, here, machine_there, none_at, opened, records_of, sees, uncalled}
+use Rattle.arj_law_parts.proofs.Words
+use Words.{◌≡◌, ◌≢◌, ◌==◌, ◌∙◌, ℕ, true, [], Some, None, ap, eqb-true, inl, inr, refl, subst, sym, ⊎_elim, and_parts, Header, Uid}
+use Words.{Confirming, Machine, plan_of, Committing, Coord, Doing, doing_of, Disk, Parts, uid_number, Node, first_disk, parts_in, root_of}
+use Words.{number_tells, Seen}
+use Rattle.arj_law_serial.proofs.Terms
+use Terms.{in_at, World, Office, some_is, at, down, up, KnowsNode, KnowsMachine, Kinds, SeesCoord, first_at, node_here, SeesBoth}
+use Terms.{SeesDecided, SeesHeard, SeesPlan, KeepsPart, IsKept, nothing_more, IncludersTakeTurns}
+use Rattle.arj_law_disk.specs.machine.{State.State, Words.In}
+use Rattle.arj_law_disk_view.specs.view.Knows.{KnowsKinds}
+use Rattle.arj_law_serial.proofs.joint
+use joint.{JoinFresh.fine, JoinFresh.not_some, JoinUses.UsesSo, MarkRuns.own_doing, Recording.IsConfirming}
+use joint.JoinBeside.{Keeping, StepsKeep, WhereCalled, WhereFirst, WhereFound, WhereHeard, WhereNone, WhereWaits, beside_part}
+use joint.JoinNodes.{IsFound, coord_seen, found_opened, here, machine_there, none_at, opened, records_of, sees, uncalled}
+use joint.JoinStep.{AreAgainst, IsAgainst, IsCounted, IsEither, KeepTurns, keeps, plan_includes_none}
+use joint.JoinTurns.{Settled, called_first, includes_none}
 
 -- what is kept
 abbrev pub Turning : ℕ → Keeping
-Turning x = record { kept = λ tops A M. KeepTurns x A M; uses = λ tops A M Cand. IsAgainst x A M.lines (IsEither Cand A); waits = λ tops A M Cand u. (w : Uid) → IsEither Cand A w → u ≢ w → Settled A M.lines w u }
+Turning x = record {
+  kept = λ tops A M. KeepTurns x A M;
+  uses = λ tops A M Cand. IsAgainst x A M.lines (IsEither Cand A);
+  waits = λ tops A M Cand u. (w : Uid) → IsEither Cand A w → u ≢ w → Settled A M.lines w u;
+}
 
 -- beside what is carried with the machine's state
 abbrev pub WithTurns : ℕ → (Kinds → Office → Seen → Type 0) → Kinds → Office → Seen → Type 0
@@ -49,12 +29,14 @@ WithTurns x P tops A M = P tops A M × KeepTurns x A M
 
 -- ---- a node
 
-module _ (x k : ℕ) (d : Disk) (t : Parts) (M : Seen) (tops : Kinds) (A : Office) (knows : KnowsNode tops k d t M) (both : SeesBoth x tops A (up k d t M)) (heard_so : SeesHeard x tops A (up k d t M)) (kept : IsKept (up k d t M)) (w : Uid) (c : IsConfirming t.coord w) where
+module _ (x k : ℕ) (d : Disk) (t : Parts) (M : Seen) (tops : Kinds) (A : Office) (knows : KnowsNode tops k d t M) (both : SeesBoth x tops A
+    (up k d t M)) (heard_so : SeesHeard x tops A (up k d t M)) (kept : IsKept (up k d t M)) (w : Uid) (c : IsConfirming t.coord w) where
   abbrev S : State
   S = A.world.disk
 
   pub plan_seen : SeesPlan x tops w (Confirming c.plan) A
-  plan_seen = let h = heard_so.coords k (record { number = k; disk = d; live = Some t }) t (here x k d t M tops A knows both kept) refl in h.plans w c.doing (Confirming c.plan) c.works c.now
+  plan_seen = let h = heard_so.coords k (record { number = k; disk = d; live = Some t }) t (here x k d t M tops A knows both kept) refl in
+      h.plans w c.doing (Confirming c.plan) c.works c.now
 
   its_machine : KnowsMachine tops t.coord w (Confirming c.plan)
   its_machine = machine_there x k d t M tops A knows both kept w c
@@ -66,7 +48,8 @@ module _ (x k : ℕ) (d : Disk) (t : Parts) (M : Seen) (tops : Kinds) (A : Offic
   its_coord = coord_seen x k d t M tops A knows both kept
 
   -- of its root no other commit is under way
-  pub alone : (j : ℕ) (n : Node) (v : Parts) → (up k d t M).nodes j ≡ Some n → n.live ≡ Some v → (u : Uid) (q : Doing) (m : Machine) → doing_of u v.coord ≡ Some q → q.now ≡ Committing m → u ≢ w → S.root (uid_number u) ≡ S.root (uid_number w) → ⊥
+  pub alone : (j : ℕ) (n : Node) (v : Parts) → (up k d t M).nodes j ≡ Some n → n.live ≡ Some v → (u : Uid) (q : Doing) (m : Machine) →
+      doing_of u v.coord ≡ Some q → q.now ≡ Committing m → u ≢ w → S.root (uid_number u) ≡ S.root (uid_number w) → ⊥
   alone j n v at live u q m works now apart same = apart (by here_is)
     where
       kinds : KnowsKinds tops
@@ -94,10 +77,12 @@ module _ (x k : ℕ) (d : Disk) (t : Parts) (M : Seen) (tops : Kinds) (A : Offic
           ∙ home w t.coord c.doing c.works ∙ its_coord.node
 
       here_is : v ≡ t
-      here_is = let same_node : record { number = k; disk = d; live = Some t } ≡ n = some_is at_here (ap (λ i. (up k d t M).nodes i) (sym one_node) ∙ at) in some_is live (ap (λ (z : Node). z.live) (sym same_node))
+      here_is = let same_node : record { number = k; disk = d; live = Some t } ≡ n = some_is at_here
+          (ap (λ i. (up k d t M).nodes i) (sym one_node) ∙ at) in some_is live (ap (λ (z : Node). z.live) (sym same_node))
 
       by : v ≡ t → u ≡ w
-      by is = let z = knows.coord in z.alone (root_of (let p = plan_of m in p.path)) w (c.doing, Confirming c.plan, c.works, c.now, roots_are) u (q, m, works_here, now, refl)
+      by is = let z = knows.coord in z.alone (root_of (let p = plan_of m in p.path)) w
+          (c.doing, Confirming c.plan, c.works, c.now, roots_are) u (q, m, works_here, now, refl)
         where
           works_here : doing_of u t.coord ≡ Some q
           works_here = ap (λ (z : Parts). doing_of u z.coord) (sym is) ∙ works
@@ -111,7 +96,8 @@ module _ (x k : ℕ) (d : Disk) (t : Parts) (M : Seen) (tops : Kinds) (A : Offic
               let a = its_machine in
               let b = u_there in
               ap root_of (sym a.path)
-              ∙ number_tells (root_of (let y = a.branch in y.path)) (root_of (let y = b.branch in y.path)) (sym (z.root w a.branch a.found a.top) ∙ sym roots ∙ z.root u b.branch b.found b.top)
+              ∙ number_tells (root_of (let y = a.branch in y.path)) (root_of (let y = b.branch in y.path))
+              (sym (z.root w a.branch a.found a.top) ∙ sym roots ∙ z.root u b.branch b.found b.top)
               ∙ ap root_of b.path
 
 -- ---- a node that restarts
@@ -119,66 +105,93 @@ module _ (x k : ℕ) (d : Disk) (t : Parts) (M : Seen) (tops : Kinds) (A : Offic
 module _ (x k : ℕ) (d : Disk) (M : Seen) (tops : Kinds) (A : Office) (both : SeesBoth x tops A (down k d M)) where
   -- of a top with a record there no commit of its root is under way
   pub of_others : SeesHeard x tops A (down k d M) → (w : Uid) → IsFound d A w → A.world.disk.begun (uid_number w) ≡ true
-      → (j : ℕ) (n : Node) (v : Parts) → (down k d M).nodes j ≡ Some n → n.live ≡ Some v → (u : Uid) (q : Doing) (m : Machine) → doing_of u v.coord ≡ Some q → q.now ≡ Committing m → A.world.disk.root (uid_number u) ≡ A.world.disk.root (uid_number w) → ⊥
+      → (j : ℕ) (n : Node) (v : Parts) → (down k d M).nodes j ≡ Some n → n.live ≡ Some v → (u : Uid) (q : Doing) (m : Machine) →
+      doing_of u v.coord ≡ Some q → q.now ≡ Committing m → A.world.disk.root (uid_number u) ≡ A.world.disk.root (uid_number w) → ⊥
   of_others heard_so w found begun j n v at_node live u q m works now same =
       let kinds = heard_so.kinds in
-      let u_top : tops.is_top (uid_number u) ≡ true = (let h = heard_so.coords j n v at_node live in let p = h.plans u q m works now in p.top) in
+      let u_top : tops.is_top (uid_number u) ≡ true = (let h = heard_so.coords j n v at_node live in let p = h.plans u q m works now in
+      p.top) in
       let s = records_of x k d M tops A both in
       let b = both.disks in
       let w_top : tops.is_top (uid_number w) ≡ true = (b.kinds (uid_number w) begun).0 in
       let f = b.fixed in
-      let roots : tops.root (uid_number u) ≡ tops.root (uid_number w) = ap (λ r. r (uid_number u)) (sym f.root) ∙ same ∙ ap (λ r. r (uid_number w)) f.root in
+      let roots : tops.root (uid_number u) ≡ tops.root (uid_number w) = ap (λ r. r (uid_number u)) (sym f.root) ∙ same
+      ∙ ap (λ r. r (uid_number w)) f.root in
       let r = kinds.rooted u u_top in
       let c = b.coords j n v at_node live in
-      let home : u.node ≡ v.coord.tree.node = eqb-true u.node v.coord.tree.node (and_parts (u.node == v.coord.tree.node) (u.inc == v.coord.tree.inc) (own_doing u v.coord q works)).0 in
-      let at_k : j ≡ k = sym (home ∙ c.node) ∙ (kinds.own u r.0 u_top r.1).0 ∙ sym (kinds.own w r.0 w_top (sym roots ∙ r.1)).0 ∙ s.own w found.0 (in_at (w, found.0) d.intents s.sorted found.1) in
-      let one : record { number = k; disk = d; live = None } ≡ n = some_is (node_here M k (record { number = k; disk = d; live = None })) (ap (λ i. (down k d M).nodes i) (sym at_k) ∙ at_node) in
+      let home : u.node ≡ v.coord.tree.node = eqb-true u.node v.coord.tree.node
+      (and_parts (u.node == v.coord.tree.node) (u.inc == v.coord.tree.inc) (own_doing u v.coord q works)).0 in
+      let at_k : j ≡ k = sym (home ∙ c.node) ∙ (kinds.own u r.0 u_top r.1).0 ∙ sym (kinds.own w r.0 w_top (sym roots ∙ r.1)).0
+      ∙ s.own w found.0 (in_at (w, found.0) d.intents s.sorted found.1) in
+      let one : record { number = k; disk = d; live = None } ≡ n = some_is (node_here M k (record { number = k; disk = d; live = None }))
+      (ap (λ i. (down k d M).nodes i) (sym at_k) ∙ at_node) in
       not_some (ap (λ (z : Node). z.live) (sym one)) live
 
 -- ---- each handler
 
-module _ (hd : Header) (x : ℕ) (R : World → Seen → Type 0) (P : Kinds → Office → Seen → Type 0) (known : (W : World) (M : Seen) → R W M → IsKept M) (heard_of : (tops : Kinds) (A : Office) (M : Seen) → P tops A M → SeesHeard x tops A M) (decides : (tops : Kinds) (A : Office) (M : Seen) → P tops A M → SeesDecided tops A M)
+module _ (hd : Header) (x : ℕ) (R : World → Seen → Type 0) (P : Kinds → Office → Seen → Type 0) (known : (W : World) (M : Seen) → R W M →
+    IsKept M) (heard_of : (tops : Kinds) (A : Office) (M : Seen) → P tops A M →
+    SeesHeard x tops A M) (decides : (tops : Kinds) (A : Office) (M : Seen) → P tops A M → SeesDecided tops A M)
     (parts : KeepsPart hd x R P) where
   -- where nobody is newly decided
   either_none : WhereNone hd x R P (Turning x)
-  either_none tops A M both part r turns j n t at_node live u q m works now w (inl counted) apart = let y = turns.works in y j n t at_node live u q m works now w counted apart
+  either_none tops A M both part r turns j n t at_node live u q m works now w (inl counted) apart = let y = turns.works in
+      y j n t at_node live u q m works now w counted apart
   either_none tops A M both part r turns j n t at_node live u q m works now w (inr fresh) apart = absurd fresh.0
 
   either_message : WhereHeard hd x R P (Turning x)
-  either_message k d t M tops A h j a v at_node live u q m works now w (inl counted) apart = let turns = h.before in let y = turns.works in y j a v at_node live u q m works now w counted apart
+  either_message k d t M tops A h j a v at_node live u q m works now w (inl counted) apart = let turns = h.before in let y = turns.works in
+      y j a v at_node live u q m works now w counted apart
   either_message k d t M tops A h j a v at_node live u q m works now w (inr fresh) apart =
       let heard_so = heard_of tops A (up k d t M) h.part in
       let kept = known A.world (up k d t M) h.run in
-      fine x tops A (up k d t M) h.both M.lines w fresh.1 (opened x k d t M tops A h.knows h.both kept w fresh.0) heard_so kept.0 j a v at_node live u q m works now apart (λ same idle. alone x k d t M tops A h.knows h.both heard_so kept w fresh.0 j a v at_node live u q m works now apart same)
+      fine x tops A (up k d t M) h.both M.lines w fresh.1 (opened x k d t M tops A h.knows h.both kept w fresh.0) heard_so kept.0 j a v
+      at_node live u q m works now apart
+      (λ same idle. alone x k d t M tops A h.knows h.both heard_so kept w fresh.0 j a v at_node live u q m works now apart same)
 
   either_restart : WhereFound hd x R P (Turning x)
-  either_restart k d M tops A both part r turns j n v at_node live u q m works now w (inl counted) apart = let y = turns.works in y j n v at_node live u q m works now w counted apart
+  either_restart k d M tops A both part r turns j n v at_node live u q m works now w (inl counted) apart = let y = turns.works in
+      y j n v at_node live u q m works now w counted apart
   either_restart k d M tops A both part r turns j n v at_node live u q m works now w (inr fresh) apart =
-      fine x tops A (down k d M) both M.lines w fresh.1 (found_opened x k d M tops A both w fresh.0) heard_so (known A.world (down k d M) r).0 j n v at_node live u q m works now apart (λ same idle. of_others x k d M tops A both heard_so w fresh.0 (let y = both.disks in let z = y.whole in let c = z.core in let f = c.fresh in f.conf (uid_number w) fresh.1) j n v at_node live u q m works now same)
+      fine x tops A (down k d M) both M.lines w fresh.1 (found_opened x k d M tops A both w fresh.0) heard_so (known A.world (down k d M)
+      r).0 j n v at_node live u q m works now apart (λ same idle. of_others x k d M tops A both heard_so w fresh.0 (let y = both.disks
+      in let z = y.whole in let c = z.core in let f = c.fresh in f.conf (uid_number w) fresh.1) j n v at_node live u q m works now same)
     where
       heard_so : SeesHeard x tops A (down k d M)
       heard_so = heard_of tops A (down k d M) part
 
   starts : WhereCalled hd x R P (Turning x)
   starts k d t M tops A h i free l b same named w (inl (z, there, counts, top)) apart =
-      inl (called_first (M.lines, [], nothing_more M.lines, (let d = decides tops A (up k d t M) h.part in d.called z there w (sym top)), uncalled x k d t M tops A h.knows h.both (known A.world (up k d t M) h.run) hd i free l b same named))
+      inl (called_first (
+        M.lines,
+        [],
+        nothing_more M.lines,
+        (let d = decides tops A (up k d t M) h.part in d.called z there w (sym top)),
+        uncalled x k d t M tops A h.knows h.both (known A.world (up k d t M) h.run) hd i free l b same named,
+      ))
   starts k d t M tops A h i free l b same named w (inr fresh) apart = absurd fresh.0
 
   -- of one that waits for naming, by what its commit uses
   waits_so : WhereWaits hd x R P (Turning x)
   waits_so k d t M tops A h Cand each u c w its apart = ⊎_elim (λ s. s)
-      (λ uses. let s = sees x k d t M tops A h.knows h.both kept u c in includes_none s.begun (plan_includes_none x tops A u c.plan (let W = A.world in W.disk.plan (uid_number w)) s (plan_seen x k d t M tops A h.knows h.both (heard_of tops A (up k d t M) h.part) kept u c) uses))
-      (each k (record { number = k; disk = d; live = Some t }) t (here x k d t M tops A h.knows h.both kept) refl u c.doing (Confirming c.plan) c.works c.now w its apart)
+      (λ uses. let s = sees x k d t M tops A h.knows h.both kept u c in
+      includes_none s.begun (plan_includes_none x tops A u c.plan (let W = A.world in
+      W.disk.plan (uid_number w)) s (plan_seen x k d t M tops A h.knows h.both (heard_of tops A (up k d t M) h.part) kept u c) uses))
+      (each k (record { number = k; disk = d; live = Some t }) t (here x k d t M tops A h.knows h.both kept) refl u c.doing
+      (Confirming c.plan) c.works c.now w its apart)
     where
       kept : IsKept (up k d t M)
       kept = known A.world (up k d t M) h.run
 
   turn_steps : StepsKeep hd x R P (Turning x)
-  turn_steps tops D C Cand A M both part r goes before waiting B into Z seen p step ups recs = keeps x tops D C Cand A M both goes.further goes.grown goes.opened goes.cand before waiting B into Z seen (let d = decides tops B Z p in d.once) step ups recs
+  turn_steps tops D C Cand A M both part r goes before waiting B into Z seen p step ups recs = keeps x tops D C Cand A M both goes.further
+      goes.grown goes.opened goes.cand before waiting B into Z seen (let d = decides tops B Z p in d.once) step ups recs
 
   nothing_yet : WhereFirst hd x R P (Turning x)
   nothing_yet tops A both empty = record {
-    works = λ j n t at_node live. let same : parts_in j 1 (first_disk hd j) ≡ t = some_is refl (ap (λ (z : Node). z.live) (first_at hd j n at_node) ∙ live) in subst (λ (z : Parts). AreAgainst x A [] (IsCounted A) z) same (none_at (UsesSo (IsAgainst x A [] (IsCounted A))) j 1 (first_disk hd j));
+    works = λ j n t at_node live.
+        let same : parts_in j 1 (first_disk hd j) ≡ t = some_is refl (ap (λ (z : Node). z.live) (first_at hd j n at_node) ∙ live) in subst
+        (λ (z : Parts). AreAgainst x A [] (IsCounted A) z) same (none_at (UsesSo (IsAgainst x A [] (IsCounted A))) j 1 (first_disk hd j));
     records = λ u r undone w (d, i, counts, top). absurd (subst (In d) empty i);
     turns = subst (IncludersTakeTurns []) (sym empty) tt;
   }

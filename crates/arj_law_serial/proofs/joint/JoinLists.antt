@@ -1,16 +1,13 @@
 -- Lists of numbers in increasing order.
-use Rattle.std.proofs.Common.{◌≡◌, ◌||◌, ◌==◌, ◌&&◌, ◌<◌, ◌∙◌, arith, ℕ, Bool, true, false, cond, nat_lt, List, [], ◌∷◌, filter, ap, eqb-true, eq-eqb, refl, subst, sym, ⊎_elim}
-use Rattle.std.specs.List.{AllByRecursion}
-use Rattle.std.specs.FinMap.{nat_cmp-IsAntisymmetric}
-use Rattle.std.specs.Ordering.{match_ordering, nat_cmp}
-use Rattle.std.specs.declared.cmp.Ordering.{Ordering}
-use Rattle.std.specs.declared.cmp.Ordering.TheVariants.{Less, Equal, Greater}
-use Rattle.arj_law_disk.specs.machine.Words as disk
-use Rattle.arj_law_runs.proofs.journal.Books.{never, or_which}
-use Rattle.arj_model.specs.Last.{increasing, insert_number, is_among}
+use Rattle.arj_law_parts.proofs.Words
+use Words.{◌≡◌, ◌||◌, ◌==◌, ◌&&◌, ◌<◌, ◌∙◌, arith, ℕ, Bool, true, false, cond, nat_lt, List, [], ◌∷◌, filter, ap, eqb-true, eq-eqb, refl}
+use Words.{subst, sym, ⊎_elim, AllByRecursion, nat_cmp-IsAntisymmetric, match_ordering, nat_cmp, Ordering, Less, Equal, Greater, number_set}
+use Words.{with_number}
+use Rattle.arj_law_serial.proofs.Terms
+use Terms.{or_which, increasing, insert_number, is_among, AreRising}
+use Terms.words as disk
 use Rattle.arj_law_parts.proofs.parts.Numbered.{AreUp}
-use Rattle.arj_protocol.specs.Order.{number_set, with_number}
-use Rattle.arj_law_serial.specs.joint.Joins.{AreRising}
+use Rattle.arj_law_runs.proofs.journal.Books.{never}
 
 -- ---- who is among numbers
 
@@ -28,10 +25,12 @@ among_filter p (n ∷ ns) s = by (p n) (n == s) refl refl (among_filter p ns s)
     mixed true false e = refl
     mixed false false e = refl
 
-    by : (b c : Bool) → p n ≡ b → (n == s) ≡ c → is_among (filter p ns) s ≡ (is_among ns s && p s) → is_among (cond b (n ∷ filter p ns) (filter p ns)) s ≡ ((c || is_among ns s) && p s)
+    by : (b c : Bool) → p n ≡ b → (n == s) ≡ c → is_among (filter p ns) s ≡ (is_among ns s && p s) →
+        is_among (cond b (n ∷ filter p ns) (filter p ns)) s ≡ ((c || is_among ns s) && p s)
     by true true on same ih = ap (λ b. b || is_among (filter p ns) s) same ∙ sym (ap p (sym (eqb-true n s same)) ∙ on)
     by true false on other ih = ap (λ b. b || is_among (filter p ns) s) other ∙ ih
-    by false true off same ih = ih ∙ ap (λ b. is_among ns s && b) (ap p (sym (eqb-true n s same)) ∙ off) ∙ and_false (is_among ns s) ∙ sym (ap p (sym (eqb-true n s same)) ∙ off)
+    by false true off same ih = ih ∙ ap (λ b. is_among ns s && b) (ap p (sym (eqb-true n s same)) ∙ off) ∙ and_false (is_among ns s)
+        ∙ sym (ap p (sym (eqb-true n s same)) ∙ off)
       where
         and_false : (b : Bool) → (b && false) ≡ false
         and_false true = refl
@@ -53,7 +52,8 @@ above_more k n (m ∷ ms) less all = (omega (arith, less, all.0), above_more k n
 
 none_below : (k s : ℕ) (ns : List ℕ) → AreAbove k ns → is_among ns s ≡ true → k < s
 none_below k s [] all on = absurd (cc on)
-none_below k s (n ∷ ns) all on = ⊎_elim (λ same. subst (λ m. k < m) (eqb-true n s same) all.0) (λ rest. none_below k s ns all.1 rest) (or_which (n == s) (is_among ns s) on)
+none_below k s (n ∷ ns) all on = ⊎_elim (λ same. subst (λ m. k < m) (eqb-true n s same) all.0) (λ rest. none_below k s ns all.1 rest)
+    (or_which (n == s) (is_among ns s) on)
 
 not_itself : (n : ℕ) (ns : List ℕ) → AreAbove n ns → is_among ns n ≡ false
 not_itself n ns all = by (is_among ns n) refl
@@ -84,7 +84,8 @@ rising_same (m ∷ ms) (n ∷ ns) up down same = λ i. first i ∷ rising_same m
         by : (b : Bool) → (m == s) ≡ b → is_among ms s ≡ is_among ns s
         by true is =
             let here : m ≡ s = eqb-true m s is in
-            subst (λ k. is_among ms k ≡ false) here (not_itself m ms up.0) ∙ sym (subst (λ k. is_among ns k ≡ false) (sym first ∙ here) (not_itself n ns down.0))
+            subst (λ k. is_among ms k ≡ false) here (not_itself m ms up.0)
+            ∙ sym (subst (λ k. is_among ns k ≡ false) (sym first ∙ here) (not_itself n ns down.0))
         by false off = sym (ap (λ b. b || is_among ms s) off) ∙ same s ∙ ap (λ b. b || is_among ns s) (ap (λ k. k == s) (sym first) ∙ off)
 
 pub rising_up : (ns : List ℕ) → AreUp ns → AreRising ns
@@ -128,7 +129,8 @@ rising_insert n (m ∷ ms) up = by (n == m) (nat_lt n m) refl refl (rising_inser
     more : (n == m) ≡ false → nat_lt n m ≡ false → m < n
     more other is = grind (arith, other, is)
 
-    by : (a b : Bool) → (n == m) ≡ a → nat_lt n m ≡ b → AreRising (insert_number n ms) → AreRising (cond a (m ∷ ms) (cond b (n ∷ m ∷ ms) (m ∷ insert_number n ms)))
+    by : (a b : Bool) → (n == m) ≡ a → nat_lt n m ≡ b → AreRising (insert_number n ms) →
+        AreRising (cond a (m ∷ ms) (cond b (n ∷ m ∷ ms) (m ∷ insert_number n ms)))
     by true b same is ih = up
     by false true other is ih = ((less is, above_more n m ms (less is) up.0), up)
     by false false other is ih = (above_insert m n ms (more other is) up.0, ih)
@@ -150,7 +152,8 @@ among_insert n (m ∷ ms) s = by (n == m) (nat_lt n m) refl (among_insert n ms s
     turn true false c = refl
     turn false b c = refl
 
-    by : (a b : Bool) → (n == m) ≡ a → is_among (insert_number n ms) s ≡ ((n == s) || is_among ms s) → is_among (cond a (m ∷ ms) (cond b (n ∷ m ∷ ms) (m ∷ insert_number n ms))) s ≡ ((n == s) || ((m == s) || is_among ms s))
+    by : (a b : Bool) → (n == m) ≡ a → is_among (insert_number n ms) s ≡ ((n == s) || is_among ms s) →
+        is_among (cond a (m ∷ ms) (cond b (n ∷ m ∷ ms) (m ∷ insert_number n ms))) s ≡ ((n == s) || ((m == s) || is_among ms s))
     by true b same ih = twice (m == s) (is_among ms s) ∙ ap (λ k. (k == s) || ((m == s) || is_among ms s)) (sym (eqb-true n m same))
     by false true other ih = refl
     by false false other ih = ap (λ b. (m == s) || b) ih ∙ turn (m == s) (n == s) (is_among ms s)
@@ -173,9 +176,11 @@ among_key n (m ∷ ms) s = by (nat_cmp n m) refl (among_key n ms s)
     turn true false c = refl
     turn false b c = refl
 
-    by : (r : Ordering) → nat_cmp n m ≡ r → is_among (with_number n ms) s ≡ ((n == s) || is_among ms s) → is_among (match_ordering r (n ∷ m ∷ ms) (m ∷ ms) (m ∷ with_number n ms)) s ≡ ((n == s) || ((m == s) || is_among ms s))
+    by : (r : Ordering) → nat_cmp n m ≡ r → is_among (with_number n ms) s ≡ ((n == s) || is_among ms s) →
+        is_among (match_ordering r (n ∷ m ∷ ms) (m ∷ ms) (m ∷ with_number n ms)) s ≡ ((n == s) || ((m == s) || is_among ms s))
     by Less is ih = refl
-    by Equal is ih = twice (m == s) (is_among ms s) ∙ ap (λ k. (k == s) || ((m == s) || is_among ms s)) (sym (nat_cmp-IsAntisymmetric n m is))
+    by Equal is ih =
+        twice (m == s) (is_among ms s) ∙ ap (λ k. (k == s) || ((m == s) || is_among ms s)) (sym (nat_cmp-IsAntisymmetric n m is))
     by Greater is ih = ap (λ b. (m == s) || b) ih ∙ turn (m == s) (n == s) (is_among ms s)
 
 pub among_set : (ns : List ℕ) (s : ℕ) → is_among (number_set ns) s ≡ is_among ns s
@@ -183,11 +188,14 @@ among_set [] s = refl
 among_set (n ∷ ns) s = among_key n (number_set ns) s ∙ ap (λ b. (n == s) || b) (among_set ns s)
 
 -- Numbers in order that pass a test are those of a list that pass another one, in order, where both tests agree on them.
-pub filtered_same : (p q : ℕ → Bool) (ms ns : List ℕ) → AreRising ms → ((s : ℕ) → is_among ms s ≡ is_among ns s) → ((s : ℕ) → is_among ms s ≡ true → p s ≡ q s) → filter p ms ≡ increasing (filter q ns)
-filtered_same p q ms ns up same tests = rising_same (filter p ms) (increasing (filter q ns)) (rising_filter p ms up) (rising_increasing (filter q ns)) each
+pub filtered_same : (p q : ℕ → Bool) (ms ns : List ℕ) → AreRising ms → ((s : ℕ) → is_among ms s ≡ is_among ns s) →
+    ((s : ℕ) → is_among ms s ≡ true → p s ≡ q s) → filter p ms ≡ increasing (filter q ns)
+filtered_same p q ms ns up same tests =
+    rising_same (filter p ms) (increasing (filter q ns)) (rising_filter p ms up) (rising_increasing (filter q ns)) each
   where
     each : (s : ℕ) → is_among (filter p ms) s ≡ is_among (increasing (filter q ns)) s
-    each s = among_filter p ms s ∙ by (is_among ms s) refl ∙ ap (λ b. b && q s) (same s) ∙ sym (among_filter q ns s) ∙ sym (among_increasing (filter q ns) s)
+    each s = among_filter p ms s ∙ by (is_among ms s) refl ∙ ap (λ b. b && q s) (same s) ∙ sym (among_filter q ns s)
+        ∙ sym (among_increasing (filter q ns) s)
       where
         by : (b : Bool) → is_among ms s ≡ b → (is_among ms s && p s) ≡ (is_among ms s && q s)
         by true is = ap (λ b. b && p s) is ∙ tests s is ∙ sym (ap (λ b. b && q s) is)

@@ -1,78 +1,57 @@
--- Commits of a node along a step: what they use stays, those that wait for naming are seen so, and one that is called anew wasn't called before.
-use Rattle.std.proofs.Common.{◌≡◌, ◌≢◌, ◌==◌, ◌∙◌, ◌&&◌, ◌||◌, not, ℕ, zero, suc, Bool, true, false, List, [], ◌∷◌, Option, Some, None, is_some, ap, cond, eqb-true, inl, inr, refl, subst, sym, ⊎_elim}
-use Rattle.arj_base.specs.Rows.{is_on}
-use Rattle.arj_lock.proofs.Members as list
-use Rattle.arj_protocol.specs.Words.{Header, Kind, Label, Message, Uid}
-use Rattle.arj_protocol.specs.Ask.{actor}
-use Rattle.arj_protocol.specs.Asking.{last_req}
-use Rattle.arj_protocol.specs.Commit.{Confirming, Machine, Used}
-use Rattle.arj_protocol.specs.Coord.{Calling, Committing, Coord, Doing, Idle, Now, doing_of, plan_for, root_at}
-use Rattle.arj_protocol.specs.Effect.{Disk, Effect, Intent}
-use Rattle.arj_protocol.specs.Node.{Parts, Took, handle}
-use Rattle.arj_protocol.specs.Order.{uid_number}
-use Rattle.arj_protocol.specs.Step as input
-use Rattle.arj_protocol.specs.Step.{Input, acts, branch_named, commit_reasons, is_committing_now, parts_in, refusal_up, refused_by, waits_above, waits_below}
-use Rattle.arj_protocol.specs.Tree.{Branch, at_place, branch_of, is_own, root_of}
-use Rattle.arj_law_parts.specs.parts.Actions.{AreBegun, paths_of}
-use Rattle.arj_law_parts.specs.parts.Coords.{IsGoodCoord}
-use Rattle.arj_law_parts.proofs.parts.Begun.{begun_tree, path_found}
-use Rattle.arj_law_parts.proofs.parts.CoordInputs.{named_found, off}
-use Rattle.arj_law_parts.proofs.parts.Keys.{in_at}
-use Rattle.arj_law_disk.specs.machine.Core.{Core}
-use Rattle.arj_law_disk.specs.machine.Effects.{World}
-use Rattle.arj_law_disk.specs.machine.Guards.{only_decides}
-use Rattle.arj_law_disk.specs.machine.Names.{Office}
-use Rattle.arj_law_disk.specs.machine.State.{State, decided, is_gone, is_open, undecided}
-use Rattle.arj_law_disk.proofs.machine.Base.{falls_to, never, or_cases, or_right}
-use Rattle.arj_law_parts.specs.moves.Seen.{down, up}
-use Rattle.arj_promise.specs.Runs.{Seen}
-use Rattle.arj_law_disk_view.specs.view.Asking.{SeesConfirming}
-use Rattle.arj_law_disk_view.specs.view.Coordinating.{KnowsNode}
-use Rattle.arj_law_disk_view.specs.view.Deciding.{SeesRecords, nodes_of}
-use Rattle.arj_law_disk_view.specs.view.Knows.{KnowsMachine}
-use Rattle.arj_law_disk_view.specs.view.Sees.{Along, Kinds, SeesCoord}
-use Rattle.arj_law_disk_view.proofs.view.DecideWalks.{confirming_of}
-use Rattle.arj_law_disk_view.proofs.view.Frames.{node_here}
-use Rattle.arj_law_disk_view.specs.names.Both.{SeesBoth}
-use Rattle.arj_law_disk_view.specs.names.Handlers.{Answering, Change, Changes, Deciding, Quietly}
-use Rattle.arj_law_disk_view.proofs.names.Onward.{none_confirmed}
-use Rattle.arj_law_disk_view.specs.running.Part.{are_recorded}
-use Rattle.arj_law_disk_view.proofs.running.Grows.{effects_grow}
-use Rattle.arj_law_runs.specs.kept.Worlds.{IsGood, IsMemory}
-use Rattle.arj_law_runs.specs.journal.Book.{book}
-use Rattle.arj_law_runs.specs.journal.Knows.{IsKept, KnowsUp}
-use Rattle.arj_law_lock_view.proofs.facts.CommitCoords.{AreAt, at_acked, at_heard}
-use Rattle.arj_law_serial.proofs.whole.CoordCases as cases
+-- Commits of a node along a step: what they use stays, those that wait for naming are seen so, and one that is called anew wasn't called
+-- before.
+use Rattle.arj_law_parts.proofs.Words
+use Words.{◌≡◌, ◌≢◌, ◌==◌, ◌∙◌, ◌&&◌, ◌||◌, not, ℕ, zero, suc, Bool, true, false, List, [], ◌∷◌, Option, Some, None, is_some, ap, cond}
+use Words.{eqb-true, inl, inr, refl, subst, sym, ⊎_elim, is_on, Header, Kind, Label, Message, Uid, actor, last_req, Confirming, Machine}
+use Words.{Used, Calling, Committing, Coord, Doing, Idle, Now, doing_of, plan_for, root_at, Disk, Effect, Intent, Parts, Took, handle}
+use Words.{uid_number, Input, acts, branch_named, commit_reasons, is_committing_now, parts_in, refusal_up, refused_by, waits_above}
+use Words.{waits_below, Branch, at_place, branch_of, is_own, root_of, Seen}
+use Words.list
+use Words.input
+use Rattle.arj_law_serial.proofs.Terms
+use Terms.{AreBegun, paths_of, IsGoodCoord, begun_tree, path_found, named_found, off, in_at, Core, World, only_decides, Office, decided}
+use Terms.{is_gone, is_open, undecided, falls_to, never, or_cases, or_right, down, up, SeesConfirming, KnowsNode, SeesRecords, nodes_of}
+use Terms.{KnowsMachine, Along, Kinds, SeesCoord, confirming_of, node_here, SeesBoth, Answering, Change, Changes, Deciding, Quietly}
+use Terms.{are_recorded, IsGood, IsMemory, book, IsKept, KnowsUp, AreAt}
+use Rattle.arj_law_disk.specs.machine.State.{State}
+use Rattle.arj_law_disk_view.proofs.{names.Onward.none_confirmed, running.Grows.effects_grow}
+use Rattle.arj_law_lock_view.proofs.facts.CommitCoords.{at_acked, at_heard}
+use Rattle.arj_law_serial.proofs.joint
+use joint.{Comes.came_acts, Comes.waits_not, JoinFresh.not_some, JoinStep.IsGrown, Recording.IsConfirming}
+use joint.JoinUses.{UsesSo, answered_uses, given_uses, start_uses}
 use Rattle.arj_law_serial.proofs.whole.CoordCases.{CoordCase, coord_case}
-use Rattle.arj_law_serial.proofs.joint.Comes.{came_acts, waits_not}
-use Rattle.arj_law_serial.proofs.joint.JoinFresh.{not_some}
-use Rattle.arj_law_serial.proofs.joint.JoinStep.{IsGrown}
-use Rattle.arj_law_serial.proofs.joint.JoinUses.{UsesSo, answered_uses, given_uses, start_uses}
-use Rattle.arj_law_serial.proofs.joint.Recording.{IsConfirming}
+use Rattle.arj_law_serial.proofs.whole.CoordCases as cases
 
 -- ---- what a coordinator does
 
 -- what holds of each commit by what it uses is kept by a message, where nothing but that counts
 module _ (Q : Uid → List Used → Type 0) where
-  pub message_uses : (k : ℕ) (d : Disk) (t v : Parts) (from : ℕ) (m : Message) (outs : List Effect) → handle k d t from m ≡ Took v outs → AreAt (UsesSo Q) t.coord → AreAt (UsesSo Q) v.coord
+  pub message_uses : (k : ℕ) (d : Disk) (t v : Parts) (from : ℕ) (m : Message) (outs : List Effect) → handle k d t from m ≡ Took v outs →
+      AreAt (UsesSo Q) t.coord → AreAt (UsesSo Q) v.coord
   message_uses k d t v from m outs is own = by (coord_case k d t v from m outs is)
     where
       by : CoordCase d t from m v outs → AreAt (UsesSo Q) v.coord
       by (cases.OfParts mine same plain sent_to) = subst (AreAt (UsesSo Q)) (sym same) own
       by (cases.Asks u query same outs_are) = subst (AreAt (UsesSo Q)) (sym same) own
-      by (cases.Heard a r some same outs_are) = subst (AreAt (UsesSo Q)) same (at_heard (UsesSo Q) t.coord own from a r d.intents (λ q n found is waits its. answered_uses Q a.act from n r its))
+      by (cases.Heard a r some same outs_are) = subst (AreAt (UsesSo Q)) same
+          (at_heard (UsesSo Q) t.coord own from a r d.intents (λ q n found is waits its. answered_uses Q a.act from n r its))
       by (cases.Acks u which same outs_are) = subst (AreAt (UsesSo Q)) same (at_acked (UsesSo Q) t.coord own from u d.intents)
 
   -- and by an input about an action, where it holds of a commit that is called
-  pub acts_use : (c : Coord) (i : Input) (intents : List (Uid × Intent)) → ((l : Label) (how : Kind) (parent : Option Label) → i ≢ input.Begin l how parent)
-      → ((l : Label) (b : Branch) → i ≡ input.Commit l → branch_named l c ≡ Some b → Q (actor b.path) (let p = plan_for b.path (last_req (doing_of (actor b.path) c)) (root_at (root_of b.path) c) c in p.used)) → AreAt (UsesSo Q) c → AreAt (UsesSo Q) (let did = acts i intents c in did.part)
+  pub acts_use : (c : Coord) (i : Input) (intents : List (Uid × Intent)) →
+      ((l : Label) (how : Kind) (parent : Option Label) → i ≢ input.Begin l how parent)
+      → ((l : Label) (b : Branch) → i ≡ input.Commit l → branch_named l c ≡ Some b →
+      Q (actor b.path) (let p = plan_for b.path (last_req (doing_of (actor b.path) c)) (root_at (root_of b.path) c) c in p.used)) →
+      AreAt (UsesSo Q) c → AreAt (UsesSo Q) (let did = acts i intents c in did.part)
   acts_use c i intents other starts own u q m found now = ⊎_elim (λ old. own u old.0 m old.1 old.2) (λ new. new)
       (came_acts (UsesSo Q) c i intents other (λ l b d n same named at is. given_uses Q (actor b.path) n (own (actor b.path) d n at is))
-      (λ l b same named. let p = plan_for b.path (last_req (doing_of (actor b.path) c)) (root_at (root_of b.path) c) c in start_uses Q (actor b.path) p (starts l b same named)) u m (q, found, now))
+      (λ l b same named. let p = plan_for b.path (last_req (doing_of (actor b.path) c)) (root_at (root_of b.path) c) c in
+      start_uses Q (actor b.path) p (starts l b same named)) u m (q, found, now))
 
 -- ---- a node
 
-module _ (x k : ℕ) (d : Disk) (t : Parts) (M : Seen) (tops : Kinds) (A : Office) (knows : KnowsNode tops k d t M) (both : SeesBoth x tops A (up k d t M)) (kept : IsKept (up k d t M)) where
+module _ (x k : ℕ) (d : Disk) (t : Parts) (M : Seen) (tops : Kinds) (A : Office) (knows : KnowsNode tops k d t M)
+    (both : SeesBoth x tops A (up k d t M)) (kept : IsKept (up k d t M)) where
   abbrev S : State
   S = A.world.disk
 
@@ -102,7 +81,8 @@ module _ (x k : ℕ) (d : Disk) (t : Parts) (M : Seen) (tops : Kinds) (A : Offic
   branch_there l b named = named_found good.0 (paths_of good.0) (begun_tree good.0 begun_acts) d.intents t.coord coord l b named
 
   -- a commit that is called anew wasn't called
-  pub uncalled : (hd : Header) (i : Input) → refusal_up hd i t.coord ≡ None → (l : Label) (b : Branch) → i ≡ input.Commit l → branch_named l t.coord ≡ Some b → is_on (book M.lines).called (actor b.path) ≡ false
+  pub uncalled : (hd : Header) (i : Input) → refusal_up hd i t.coord ≡ None → (l : Label) (b : Branch) → i ≡ input.Commit l →
+      branch_named l t.coord ≡ Some b → is_on (book M.lines).called (actor b.path) ≡ false
   uncalled hd i free l b same named = up_there.calls (actor b.path) b work.0 found work.1 unended ∙ by work.0.now refl
     where
       free_it : refused_by commit_reasons t.coord (Some b) ≡ None
@@ -131,7 +111,9 @@ module _ (x k : ℕ) (d : Disk) (t : Parts) (M : Seen) (tops : Kinds) (A : Offic
       by : (n : Now) → work.0.now ≡ n → is_committing_now work.0.now ≡ false
       by Idle is = ap is_committing_now is
       by (Calling s) is = ap is_committing_now is
-      by (Committing m) is = absurd (waits_not t.coord b (first (waits_above b t.coord) (waits_below b t.coord) (input.sibling_waits b t.coord) (off ((7, waits_above b t.coord || waits_below b t.coord || input.sibling_waits b t.coord) ∷ (9, _) ∷ []) (off (commit_reasons b t.coord) free_it).1).0) (work.0, m, work.1, is))
+      by (Committing m) is = absurd (waits_not t.coord b (first (waits_above b t.coord) (waits_below b t.coord)
+          (input.sibling_waits b t.coord) (off ((7, waits_above b t.coord || waits_below b t.coord || input.sibling_waits b t.coord)
+          ∷ (9, _) ∷ []) (off (commit_reasons b t.coord) free_it).1).0) (work.0, m, work.1, is))
 
   -- a commit that waits for naming
   module _ (w : Uid) (c : IsConfirming t.coord w) where
@@ -139,13 +121,15 @@ module _ (x k : ℕ) (d : Disk) (t : Parts) (M : Seen) (tops : Kinds) (A : Offic
     machine_there = let z = knows.coord in z.machines w c.doing (Confirming c.plan) c.works c.now
 
     pub sees : SeesConfirming x S (uid_number w) c.plan
-    sees = let n = machine_there in confirming_of x tops S (uid_number w) (let b = n.branch in b.kind) c.doing.now c.plan n.top c.now (coord_seen.working w n.branch c.doing n.found n.unended c.works)
+    sees = let n = machine_there in confirming_of x tops S (uid_number w) (let b = n.branch in
+        b.kind) c.doing.now c.plan n.top c.now (coord_seen.working w n.branch c.doing n.found n.unended c.works)
 
     pub opened : undecided S (uid_number w) ≡ true
     opened i = not (undone i) && (ap is_open sees.stage i || is_some (S.intent (uid_number w)))
       where
         undone : decided S (uid_number w) ≡ false
-        undone = falls_to (decided S (uid_number w)) (λ on. never (let k = core.coordinators in k.decided_closed (uid_number w) on) (ap is_gone sees.stage))
+        undone = falls_to (decided S (uid_number w))
+            (λ on. never (let k = core.coordinators in k.decided_closed (uid_number w) on) (ap is_gone sees.stage))
 
 -- ---- how the machine has grown
 
@@ -159,23 +143,34 @@ none_at Q k inc d u q m found now = absurd (by (is_own u (let p = parts_in k inc
     by false j e = not_some refl e
 
 -- a record, by its number
-pub recorded_in : (intents : List (Uid × Intent)) (z : ℕ) → are_recorded intents z ≡ true → (w : Uid) × (i : Intent) × list.In {X = Uid × Intent} (w, i) intents × (uid_number w ≡ z)
+pub recorded_in : (intents : List (Uid × Intent)) (z : ℕ) → are_recorded intents z ≡ true →
+    (w : Uid) × (i : Intent) × list.In {X = Uid × Intent} (w, i) intents × (uid_number w ≡ z)
 recorded_in [] z on = absurd (cc on)
-recorded_in (e ∷ es) z on = ⊎_elim (λ same. (e.0, e.1, inl refl, eqb-true (uid_number e.0) z same)) (λ more. let r = recorded_in es z more in (r.0, r.1, inr r.2, r.3)) (or_cases (uid_number e.0 == z) (are_recorded es z) on)
+recorded_in (e ∷ es) z on = ⊎_elim (λ same. (e.0, e.1, inl refl, eqb-true (uid_number e.0) z same))
+    (λ more. let r = recorded_in es z more in (r.0, r.1, inr r.2, r.3)) (or_cases (uid_number e.0 == z) (are_recorded es z) on)
 
 module _ (Cand : Uid → Type 0) where
   pub none_grown : (W V : World) → V.disk.tops ≡ W.disk.tops → IsGrown Cand W V
   none_grown W V same = record { new = []; are = same; undone = λ d i. absurd i; whose = λ d i. absurd i; conf = λ d i. absurd i }
 
-  pub along_grown : (g : ℕ → Bool) (W V : World) → ((z : ℕ) → g z ≡ true → decided W.disk z ≡ false → (w : Uid) × Cand w × (uid_number w ≡ z)) → Along (record { from = W; noted = only_decides g }) V → IsGrown Cand W V
+  pub along_grown : (g : ℕ → Bool) (W V : World) → ((z : ℕ) → g z ≡ true → decided W.disk z ≡ false →
+      (w : Uid) × Cand w × (uid_number w ≡ z)) → Along (record { from = W; noted = only_decides g }) V → IsGrown Cand W V
   along_grown g W V who a =
       let n = effects_grow (only_decides g) W a.effects a.only a.allowed in
-      record { new = n.new; are = ap (λ (U : World). U.disk.tops) (sym a.here) ∙ n.are; undone = n.undone; whose = λ d i. who d.top (n.noted d i) (n.undone d i); conf = λ d i z on. none_confirmed (only_decides g) z refl W V a on }
+      record {
+        new = n.new;
+        are = ap (λ (U : World). U.disk.tops) (sym a.here) ∙ n.are;
+        undone = n.undone;
+        whose = λ d i. who d.top (n.noted d i) (n.undone d i);
+        conf = λ d i z on. none_confirmed (only_decides g) z refl W V a on;
+      }
 
-  pub grown_by : (o : Change) (A B : Office) → ((z : ℕ) (keeps : Bool) → o ≡ Deciding z keeps → (w : Uid) × Cand w × (uid_number w ≡ z)) → Changes o A B → IsGrown Cand A.world B.world
+  pub grown_by : (o : Change) (A B : Office) → ((z : ℕ) (keeps : Bool) → o ≡ Deciding z keeps → (w : Uid) × Cand w × (uid_number w ≡ z)) →
+      Changes o A B → IsGrown Cand A.world B.world
   grown_by Quietly A B who c = none_grown A.world B.world c.tops
   grown_by (Answering t r) A B who c = none_grown A.world B.world (let o = c.0 in o.tops)
-  grown_by (Deciding t keeps) A B who c = along_grown (λ z. z == t) A.world B.world (λ z on undone. let w = who t keeps refl in (w.0, w.1, w.2 ∙ sym (eqb-true z t on))) c.along
+  grown_by (Deciding t keeps) A B who c =
+      along_grown (λ z. z == t) A.world B.world (λ z on undone. let w = who t keeps refl in (w.0, w.1, w.2 ∙ sym (eqb-true z t on))) c.along
 
 -- ---- records that a restart finds
 
@@ -185,7 +180,8 @@ IsFound d A w = (i : Intent) × list.In {X = Uid × Intent} (w, i) d.intents × 
 
 module _ (x k : ℕ) (d : Disk) (M : Seen) (tops : Kinds) (A : Office) (both : SeesBoth x tops A (down k d M)) where
   pub records_of : SeesRecords k d.intents A.world.disk
-  records_of = let s = both.disks in s.records k (record { number = k; disk = d; live = None }) (node_here M k (record { number = k; disk = d; live = None }))
+  records_of = let s = both.disks in
+      s.records k (record { number = k; disk = d; live = None }) (node_here M k (record { number = k; disk = d; live = None }))
 
   pub found_opened : (w : Uid) → IsFound d A w → undecided A.world.disk (uid_number w) ≡ true
   found_opened w c =

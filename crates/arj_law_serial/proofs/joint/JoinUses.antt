@@ -1,13 +1,13 @@
 -- What a commit uses stays the same at each of its steps.
-use Rattle.std.proofs.Common.{ℕ, List, [], ◌∷◌}
-use Rattle.arj_protocol.specs.Words.{PreparedReply, Uid, VotedReply}
-use Rattle.arj_protocol.specs.Words.confirmed
-use Rattle.arj_protocol.specs.Words.prepared
-use Rattle.arj_protocol.specs.Words.voted
-use Rattle.arj_protocol.specs.Ask.{Reply}
-use Rattle.arj_protocol.specs.Commit as commit
-use Rattle.arj_protocol.specs.Commit.{Confirming, Machine, Plan, Preparing, Used, Voting, answered, begin_confirm, begin_prepare, begin_vote, given_up, marks_store, marks_stores, plan_of, prepared_by, servers_of, start, stores_left, targets_of, voted_by, votes_left}
+use Rattle.arj_law_parts.proofs.Words
+use Words.{ℕ, List, [], ◌∷◌, PreparedReply, Uid, VotedReply, Reply, Confirming, Machine, Plan, Preparing, Used, Voting, begin_confirm}
+use Words.{begin_prepare, begin_vote, marks_store, marks_stores, plan_of, servers_of, stores_left, targets_of, votes_left}
+use Words.confirmed
+use Words.prepared
+use Words.voted
+use Words.commit
 use Rattle.arj_law_lock_view.proofs.facts.CommitCoords.{IsNext}
+use Rattle.arj_protocol.specs.Commit.{answered, given_up, prepared_by, start, voted_by}
 
 -- what holds of what the plan of a commit under way uses
 module _ (Q : Uid → List Used → Type 0) where
@@ -53,7 +53,8 @@ module _ (Q : Uid → List Used → Type 0) where
     voted_uses from left p its (voted.Yes states) = votes_use (record p { changed = commit.with_states states p.changed }) its _
     voted_uses from left p its (voted.Changed w) = tt
 
-    prepared_uses : (from : ℕ) (left : List ℕ) (p : Plan) → Q u p.used → (r : PreparedReply) → IsNext UsesSo u (prepared_by from left p r).step
+    prepared_uses : (from : ℕ) (left : List ℕ) (p : Plan) → Q u p.used → (r : PreparedReply) →
+        IsNext UsesSo u (prepared_by from left p r).step
     prepared_uses from left p its prepared.Yes = stores_use _ its _
     prepared_uses from left p its (prepared.InDoubt x holder) = stores_use (marks_store from p) its _
     prepared_uses from left p its (prepared.Old x v) = tt

@@ -1,64 +1,24 @@
 -- What is carried of both machines beside each other through a run, and of the lock machine's state more that stays as it goes on.
-use Rattle.std.proofs.Common.{◌≡◌, ◌==◌, ℕ, true, List, [], is_some, refl, Option, Some, None, eqb-true}
-use Rattle.arj_law_serial.specs.joint.Joined.{IsCountedJoined, IsKnownJoined, SeesInOrder, SeesRecorded, SeesTied, IsPaired}
-use Rattle.arj_law_serial.specs.joint.Nodes.{NodesAreThere}
-use Rattle.arj_law_serial.proofs.joint.LastWriters.{Idle}
-use Rattle.arj_law_serial.proofs.joint.NextGiven.{IsTiedInOrder, KnowsPair, gives_next}
-use Rattle.arj_law_serial.proofs.joint.NodesThere.{nodes_keep}
-use Rattle.arj_law_serial.proofs.joint.Ordering.{ordered_part}
-use Rattle.arj_law_serial.proofs.joint.Owns.{own_part}
-use Rattle.arj_law_serial.proofs.joint.Joining.{HasLocks, WithLocks, locks_part, StoresGive}
-use Rattle.arj_law_serial.proofs.joint.Recorded.{recorded_part}
-use Rattle.arj_law_serial.proofs.joint.RestGiven.{rest_beside}
-use Rattle.arj_law_disk_view.proofs.running.Bindings.{good_counted, names_own, records_free_in}
-use Rattle.arj_law_disk_view.proofs.running.HeardKept.{heard_kept}
-use Rattle.arj_law_runs.proofs.calls.Given.{keeps_given, kept_both}
-use Rattle.arj_law_runs.proofs.journal.Runs.{lines_keep}
-use Rattle.arj_law_parts.specs.moves.Keeps.{Keeps}
-use Rattle.arj_law_disk_view.specs.running.Part.{KeepsPart}
+use Rattle.arj_law_parts.proofs.Words
+use Words.{◌≡◌, ◌==◌, ℕ, true, List, [], is_some, refl, Option, Some, None, eqb-true, Seen, see, Header, ObjectLine, format, in_find, in_to}
+use Rattle.arj_law_serial.proofs.Terms
+use Terms.{IsKnownJoined, SeesRecorded, IsPaired, NodesAreThere, keeps_given, kept_both, lines_keep, Keeps, KeepsPart, KnowsFew, KnowsWhole}
+use Terms.{World, Action, first_values, object_line, HasObject, part_more, knows_idle, tied_part, IsKept, AreGoodCounted, KnowsScript}
+use Terms.{HeaderInForm, Run, State, Fixed, GivesLocks, Kinds, Office, IsKnownEarly, HaveEntries, with_entries, world_at, AreSo, kind_of}
+use Terms.{OpsFit, IsApt}
+use Rattle.arj_law_disk_view.proofs.running
+use running.{HeardKept.heard_kept, ListedKept.WithLists, ListedKept.listed_part}
+use running.Bindings.{good_counted, names_own, records_free_in}
 use Rattle.arj_law_disk_view.specs.running.Rest.{SeesCarried}
-use Rattle.arj_law_runs.specs.calls.Runs.{KnowsFew}
-use Rattle.arj_law_serial.specs.whole.Whole.{KnowsWhole}
-use Rattle.arj_law_serial.proofs.whole.WholeRuns.{kept_beside}
-use Rattle.arj_law_serial.proofs.whole.Gives.{gives_locks}
 use Rattle.arj_law_runs.proofs.calls.WorldRuns.{votes_in}
-use Rattle.arj_law_serial.proofs.joint.Firsts.{line_there}
-use Rattle.arj_law_disk.specs.machine.Effects.{World}
-use Rattle.arj_promise.specs.Runs.{Seen, see}
-use Rattle.arj_protocol.specs.Words.{Header, ObjectLine}
-use Rattle.arj_law_parts.specs.parts.Actions.{Action}
-use Rattle.arj_model.specs.Last.{first_values, object_line}
-use Rattle.arj_protocol.specs.World.{format}
-use Rattle.arj_lock.proofs.Members.{in_find, in_to}
-use Rattle.arj_law_lock_view.specs.facts.Entries.{HasObject}
-use Rattle.arj_law_disk_view.proofs.running.Scripts.{part_more}
-use Rattle.arj_law_disk_view.proofs.deciding_lines.IdleKnown.{knows_idle}
-use Rattle.arj_law_disk_view.proofs.deciding_lines.Tying.{tied_part}
-use Rattle.arj_law_runs.specs.journal.Knows.{IsKept}
-use Rattle.arj_law_disk_view.specs.running.Bindings.{AreGoodCounted, KnowsScript}
-use Rattle.arj_journal.specs.ScriptForm.{HeaderInForm}
-use Rattle.arj_law_lock.specs.machine.Machine.{Run}
-use Rattle.arj_law_lock.specs.machine.State.{State}
-use Rattle.arj_law_lock_view.specs.running.Fixed.{Fixed}
-use Rattle.arj_law_lock_view.specs.running.Kept.{GivesLocks}
-use Rattle.arj_law_serial.proofs.joint.OrderedRuns.{turns_of}
-use Rattle.arj_law_disk_view.specs.view.Sees.{Kinds}
-use Rattle.arj_law_disk.specs.machine.Names.{Office}
-use Rattle.arj_law_disk_view.specs.deciding_lines.Said.{IsKnownEarly}
-use Rattle.arj_law_disk_view.specs.running.Entries.{HaveEntries}
-use Rattle.arj_law_disk_view.proofs.running.BothEach.{with_entries}
-use Rattle.arj_law_disk_view.proofs.running.ListedKept.{WithLists, listed_part}
-use Rattle.arj_law_lock_view.specs.running.Beside.{world_at}
-use Rattle.arj_law_serial.proofs.whole.Of.{of_more}
-use Rattle.arj_law_serial.proofs.whole.Whole.{whole_of}
-use Rattle.arj_law_serial.specs.joint.Forms.{AreSo, kind_of}
-use Rattle.arj_law_serial.proofs.joint.Given.{AreBeside}
-use Rattle.arj_law_serial.proofs.joint.GivenLast.{last_there_is_last}
-use Rattle.arj_law_serial.proofs.joint.Beginning.{WithFirst, first_begins, first_part}
-use Rattle.arj_law_serial.proofs.joint.FormRuns.{kept_forms}
-use Rattle.arj_law_serial.proofs.joint.LoadAnswers.{last_there}
-use Rattle.arj_law_serial.specs.joint.Fit.{OpsFit}
-use Rattle.arj_law_serial.specs.joint.Apt.{IsApt}
+use Rattle.arj_law_serial.proofs.joint
+use joint.{Firsts.line_there, FormRuns.kept_forms, Given.AreBeside, GivenLast.last_there_is_last, LastWriters.Idle, LoadAnswers.last_there}
+use joint.{NodesThere.nodes_keep, OrderedRuns.turns_of, Ordering.ordered_part, Owns.own_part, Recorded.recorded_part, RestGiven.rest_beside}
+use joint.Beginning.{WithFirst, first_begins, first_part}
+use joint.Joining.{HasLocks, WithLocks, locks_part, StoresGive}
+use joint.NextGiven.{IsTiedInOrder, KnowsPair, gives_next}
+use Rattle.arj_law_serial.proofs.whole.{Gives.gives_locks, Of.of_more, Whole.whole_of, WholeRuns.kept_beside}
+use Rattle.arj_law_serial.specs.joint.Joined.{IsCountedJoined, SeesInOrder, SeesTied}
 
 pub header_has : (hd : Header) (x : ℕ) → is_some (object_line hd x) ≡ true → HasObject hd x
 header_has hd x there = by (object_line hd x) refl there
@@ -90,9 +50,11 @@ abbrev recorded_of : (hd : Header) (x : ℕ) (tops : Kinds) (A : Office) (M : Se
 recorded_of hd x tops A M p = p.0.0.0
 
 -- so a store gives the last committed state to who waits for it
-gives_last : (hd : Header) (x : ℕ) → HeaderInForm hd → is_some (object_line hd x) ≡ true → (L : Seen → Type 0) (Past : Fixed → State → Seen → Type 0) → StoresGive (first_values hd) x (λ W M. Early hd x W M × L M) (Whole x) Past (Carried hd x)
+gives_last : (hd : Header) (x : ℕ) → HeaderInForm hd → is_some (object_line hd x) ≡ true → (L : Seen → Type 0) (Past : Fixed → State →
+    Seen → Type 0) → StoresGive (first_values hd) x (λ W M. Early hd x W M × L M) (Whole x) Past (Carried hd x)
 gives_last hd x form there L Past tops A s walk r both part j f agrees from m v outs come to z a st k out is w current =
-    last_there_is_last hd f x j.0 (j.3 f agrees).0 (world_at s) form there beside st (last_there hd f x j.0 (j.3 f agrees).0 s beside part.1 from m v outs come to z a st k out is w current)
+    last_there_is_last hd f x j.0 (j.3 f agrees).0 (world_at s) form there beside st
+    (last_there hd f x j.0 (j.3 f agrees).0 s beside part.1 from m v outs come to z a st k out is w current)
   where
     beside : AreBeside hd f x j.0 (j.3 f agrees).0 (world_at s)
     beside =
@@ -106,7 +68,8 @@ gives_last hd x form there L Past tops A s walk r both part j f agrees from m v 
           carried = recorded_of hd x tops A (world_at s) part;
           early = e.1.1;
           begins = part.0.1;
-          turns = turns_of Idle (λ ls u i. i) (let N = s.seen in N.lines) (let w = b.0.0.1.1 in w.right) (let W = A.world in let D = W.disk in D.tops) (let o = part.0.0.1 in o.turns);
+          turns = turns_of Idle (λ ls u i. i) (let N = s.seen in N.lines) (let w = b.0.0.1.1 in w.right) (let W = A.world in
+              let D = W.disk in D.tops) (let o = part.0.0.1 in o.turns);
           seen = record { good = j.1.0; alike = j.1.1; written = j.1.2; agrees = agrees.0; sees = g.1; tied = g.2 };
           agrees = agrees;
           voted = g.3;
@@ -124,50 +87,70 @@ module _ (hd : Header) (x : ℕ) (form : HeaderInForm hd) (there : is_some (obje
   has = header_has hd x there
 
   counted_kept : Keeps hd IsCountedJoined
-  counted_kept = kept_both hd (λ M. AreGoodCounted M × IsKept M) NodesAreThere (kept_both hd AreGoodCounted IsKept (good_counted hd) (keeps_given hd AreGoodCounted IsKept (lines_keep hd))) (keeps_given hd (λ M. AreGoodCounted M × IsKept M) NodesAreThere (nodes_keep hd))
+  counted_kept = kept_both hd (λ M. AreGoodCounted M × IsKept M) NodesAreThere
+      (kept_both hd AreGoodCounted IsKept (good_counted hd) (keeps_given hd AreGoodCounted IsKept (lines_keep hd)))
+      (keeps_given hd (λ M. AreGoodCounted M × IsKept M) NodesAreThere (nodes_keep hd))
 
   lines_kept : Keeps hd (λ M. IsCountedJoined M × IsKept M)
   lines_kept = kept_both hd IsCountedJoined IsKept counted_kept (keeps_given hd IsCountedJoined IsKept (lines_keep hd))
 
   -- where this holds before each handler, so much more is carried of the lock machine's state
-  module _ (L : Seen → Type 0) (Past : Fixed → State → Seen → Type 0) (stays : (M N : Seen) → L M → (f : Fixed) (S T : State) → Run S T → Past f S M → Past f T N) (starts : (f : Fixed) (S : State) → Past f S (see [] (format hd))) where
+  module _ (L : Seen → Type 0) (Past : Fixed → State → Seen → Type 0) (stays : (M N : Seen) → L M → (f : Fixed) (S T : State) → Run S T →
+      Past f S M → Past f T N) (starts : (f : Fixed) (S : State) → Past f S (see [] (format hd))) where
     -- what the lock half has beside
     abbrev Locks : World → Seen → Type 0
     Locks W M = HasLocks (first_values hd) x (Whole x) Past W M
 
     -- the disk half, beside states of the lock half, and with its own tie to the journal
     heard_there : KeepsPart hd x (λ W M. IsCountedJoined M × (KnowsScript M × (Locks W M × IsTiedInOrder W M))) (SeesCarried x)
-    heard_there = part_more hd x (KnowsPair (first_values hd) x) (λ W M. IsCountedJoined M × (KnowsScript M × (Locks W M × IsTiedInOrder W M))) (SeesCarried x) (λ W M q. let j = q.1.1.0 in ((q.0, q.1.0), ((j.0, j.1, j.2.0, (λ f a. let z = j.3 f a in (z.0, z.1, z.2, z.3, z.4, z.6))), q.1.1.1)))
-        (heard_kept hd x (KnowsPair (first_values hd) x) (λ W M r. ((let g = r.0.0.0.0 in g.0.0.0), (let s = r.0.1 in s.0))) (λ W M r. let g = r.0.0.0.0 in let s = r.0.1 in (names_own M g s.0, g.0.0.1, records_free_in M g s.0, r.0.0.0.1, s.1)) (line_there hd x form there).0 (gives_next (first_values hd) x))
+    heard_there = part_more hd x (KnowsPair (first_values hd) x)
+        (λ W M. IsCountedJoined M × (KnowsScript M × (Locks W M × IsTiedInOrder W M))) (SeesCarried x) (λ W M q. let j = q.1.1.0 in
+        ((q.0, q.1.0), ((j.0, j.1, j.2.0, (λ f a. let z = j.3 f a in (z.0, z.1, z.2, z.3, z.4, z.6))), q.1.1.1)))
+        (heard_kept hd x (KnowsPair (first_values hd) x) (λ W M r. ((let g = r.0.0.0.0 in g.0.0.0), (let s = r.0.1 in s.0)))
+        (λ W M r. let g = r.0.0.0.0 in let s = r.0.1 in (names_own M g s.0, g.0.0.1, records_free_in M g s.0, r.0.0.0.1, s.1))
+        (line_there hd x form there).0 (gives_next (first_values hd) x))
 
     -- and tied to the journal
     tied : KeepsPart hd x (λ W M. (IsCountedJoined M × IsKept M) × (KnowsScript M × (Locks W M × IsTiedInOrder W M))) (SeesTied x)
-    tied = tied_part hd x IsCountedJoined (λ W M. KnowsScript M × (Locks W M × IsTiedInOrder W M)) (SeesCarried x) Idle counted_kept heard_there (knows_idle IsCountedJoined)
+    tied = tied_part hd x IsCountedJoined (λ W M. KnowsScript M × (Locks W M × IsTiedInOrder W M)) (SeesCarried x) Idle counted_kept
+        heard_there (knows_idle IsCountedJoined)
 
     -- and what is decided was recorded
     recorded : KeepsPart hd x (λ W M. (IsCountedJoined M × IsKept M) × (KnowsScript M × (Locks W M × IsTiedInOrder W M))) (SeesRecorded x)
-    recorded = recorded_part hd x (λ W M. (IsCountedJoined M × IsKept M) × (KnowsScript M × (Locks W M × IsTiedInOrder W M))) (SeesTied x) (λ W M q. let r = q.1.1.0 in let k = r.2.0 in let a = k.acks in let w = a.world in w.asked) tied
+    recorded = recorded_part hd x (λ W M. (IsCountedJoined M × IsKept M) × (KnowsScript M × (Locks W M × IsTiedInOrder W M))) (SeesTied x)
+        (λ W M q. let r = q.1.1.0 in let k = r.2.0 in let a = k.acks in let w = a.world in w.asked) tied
 
     -- and decisions are in order; so what the disk half counts on of its own is there
     in_order : KeepsPart hd x (λ W M. IsKnownJoined M × Locks W M) (SeesInOrder x)
     in_order = own_part hd x (λ W M. IsKnownJoined M × Locks W M) IsTiedInOrder (SeesInOrder x) (λ tops A M p. (p.0.0.1, p.1))
-        (part_more hd x (λ W M. (IsCountedJoined M × IsKept M) × (KnowsScript M × (Locks W M × IsTiedInOrder W M))) (λ W M. (IsKnownJoined M × Locks W M) × IsTiedInOrder W M) (SeesInOrder x) (λ W M q. let r = q.0.0 in ((r.0, r.0.0.1), (r.1, (q.0.1, q.1))))
-        (ordered_part hd x (λ M. IsCountedJoined M × IsKept M) (λ W M. KnowsScript M × (Locks W M × IsTiedInOrder W M)) (SeesRecorded x) Idle lines_kept (λ M r. r.1) (knows_idle (λ M. IsCountedJoined M × IsKept M)) recorded (λ tops A M p. p.0.1.1)))
+        (part_more hd x (λ W M. (IsCountedJoined M × IsKept M) × (KnowsScript M × (Locks W M × IsTiedInOrder W M))) (λ W M. (IsKnownJoined M
+        × Locks W M) × IsTiedInOrder W M) (SeesInOrder x) (λ W M q. let r = q.0.0 in ((r.0, r.0.0.1), (r.1, (q.0.1, q.1))))
+        (ordered_part hd x (λ M. IsCountedJoined M × IsKept M) (λ W M. KnowsScript M × (Locks W M × IsTiedInOrder W M)) (SeesRecorded x)
+        Idle lines_kept (λ M r. r.1) (knows_idle (λ M. IsCountedJoined M × IsKept M)) recorded (λ tops A M p. p.0.1.1)))
 
     pub base : Keeps hd (Base hd x)
-    base = with_entries hd x (λ M. IsCountedJoined M × AreSo (kind_of hd x) M) (λ W M. IsKnownJoined M × Locks W M) (SeesInOrder x) in_order (kept_both hd IsCountedJoined (AreSo (kind_of hd x)) counted_kept (keeps_given hd IsCountedJoined (AreSo (kind_of hd x)) (kept_forms hd x form)))
+    base = with_entries hd x (λ M. IsCountedJoined M × AreSo (kind_of hd x) M) (λ W M. IsKnownJoined M × Locks W M) (SeesInOrder x) in_order
+        (kept_both hd IsCountedJoined (AreSo (kind_of hd x)) counted_kept
+        (keeps_given hd IsCountedJoined (AreSo (kind_of hd x)) (kept_forms hd x form)))
 
     -- it began as the header says, and what naming's answers claim of lists passes
     listed : KeepsPart hd x (λ W M. (Early hd x W M × L M) × Locks W M) (Carried hd x)
-    listed = listed_part hd x (λ W M. IsKnownJoined M × Locks W M) (λ W M. (Early hd x W M × L M) × Locks W M) (λ W M q. let r = q.0.0 in let e = r.1 in ((r.0.0.0, e.0.0), q.1)) (λ W M q. let r = q.0.0 in let e = r.1 in ((r.0.0.0.0.0, r.0.1), e.0.0.0)) (WithFirst hd x (SeesInOrder x)) (first_part hd x (λ W M. IsKnownJoined M × Locks W M) (SeesInOrder x) in_order (first_begins hd x form there))
+    listed = listed_part hd x (λ W M. IsKnownJoined M × Locks W M) (λ W M. (Early hd x W M × L M) × Locks W M) (λ W M q. let r = q.0.0 in
+        let e = r.1 in ((r.0.0.0, e.0.0), q.1)) (λ W M q. let r = q.0.0 in let e = r.1 in ((r.0.0.0.0.0, r.0.1), e.0.0.0)) (WithFirst hd x
+        (SeesInOrder x)) (first_part hd x (λ W M. IsKnownJoined M × Locks W M) (SeesInOrder x) in_order (first_begins hd x form there))
 
     abbrev Here : Fixed → List Action → State → Seen → Type 0
     Here f begun S M = (KnowsFew M × Whole x begun M) × IsPaired x (Carried hd x) f begun S M
 
     gives : (f : Fixed) → IsApt (first_values hd) x f → GivesLocks hd f x (Here f)
-    gives f apt = gives_locks hd x has (KnowsWhole x) f (λ begun S M. IsPaired x (Carried hd x) f begun S M) (first_values hd, apt.0) (rest_beside (first_values hd) x (KnowsWhole x) (Carried hd x) (recorded_of hd x) f apt.0)
+    gives f apt = gives_locks hd x has (KnowsWhole x) f (λ begun S M. IsPaired x (Carried hd x) f begun S M) (first_values hd, apt.0)
+        (rest_beside (first_values hd) x (KnowsWhole x) (Carried hd x) (recorded_of hd x) f apt.0)
 
     -- beneath the lock machine's states
     pub locked : KeepsPart hd x (λ W M. Early hd x W M × L M) (WithLocks (first_values hd) x (Whole x) Past (Carried hd x))
-    locked = locks_part hd (first_values hd) x (λ W M. Early hd x W M × L M) KnowsFew (Whole x) Past (Carried hd x) (λ W M r. let e = r.0.1 in e.0.0.0)
-        (kept_beside hd x has (KnowsWhole x) (of_more hd (λ begun M. KnowsFew M) (λ begun M. KnowsFew M × KnowsWhole x begun M) (KnowsWhole x) (λ begun M h. h.0) (whole_of hd x has))) gives (gives_last hd x form there L Past) (λ b M r. r.0) (λ M few. votes_in M few.1.1) (λ M few. few.1.1) listed (λ tops A M p. p.0.0.0.0.0.0) (λ tops A M p. p.0.0.0.0.1.1) (λ W M N r f S T run past. stays M N r.1 f S T run past) starts
+    locked = locks_part hd (first_values hd) x (λ W M. Early hd x W M × L M) KnowsFew (Whole x) Past (Carried hd x)
+        (λ W M r. let e = r.0.1 in e.0.0.0)
+        (kept_beside hd x has (KnowsWhole x) (of_more hd (λ begun M. KnowsFew M) (λ begun M. KnowsFew M × KnowsWhole x begun M)
+        (KnowsWhole x) (λ begun M h. h.0) (whole_of hd x has))) gives (gives_last hd x form there L Past) (λ b M r. r.0)
+        (λ M few. votes_in M few.1.1) (λ M few. few.1.1) listed (λ tops A M p. p.0.0.0.0.0.0) (λ tops A M p. p.0.0.0.0.1.1)
+        (λ W M N r f S T run past. stays M N r.1 f S T run past) starts

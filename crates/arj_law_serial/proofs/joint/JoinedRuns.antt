@@ -1,46 +1,26 @@
 -- Both machines of each object at once, in each world that is reached.
-use Rattle.arj_law_disk.specs.machine.Effects as machine
-use Rattle.std.proofs.Common.{List, subst}
-use Rattle.arj_law_serial.specs.joint.Joined.{IsJoinedSo, RunsAreJoined, world_of}
-use Rattle.arj_law_serial.proofs.joint.NextGiven.{one_requests}
-use Rattle.arj_law_serial.specs.joint.Includers.{IncludersTakeTurns}
-use Rattle.arj_law_serial.proofs.joint.JoinKeeps.{WithTurns, turns_part}
-use Rattle.arj_law_serial.proofs.joint.LightKeeps.{WithLights, lights_part}
-use Rattle.arj_law_serial.proofs.joint.Joining.{HasLocks, WithLocks}
-use Rattle.arj_law_serial.proofs.joint.OrderedRuns.{IsOrderedBeside, lights_split, ordered_beside}
-use Rattle.arj_law_disk_view.proofs.running.Copies.{copies_agree}
-use Rattle.arj_law_disk_view.specs.running.Part.{KeepsPart}
-use Rattle.arj_law_disk_view.specs.view.Sees.{Kinds}
-use Rattle.arj_law_disk.specs.machine.Names.{Office}
-use Rattle.arj_promise.specs.Runs.{Post, Seen, see}
-use Rattle.arj_model.specs.Last.{first_values, object_line}
-use Rattle.arj_protocol.specs.World.{World}
-use Rattle.arj_promise.specs.Runs.{world_by}
-use Rattle.arj_law_serial.proofs.joint.FitRuns.{runs_in_form}
-use Rattle.arj_law_runs.specs.journal.Book.{new_book}
-use Rattle.arj_law_runs.specs.journal.Right.{AreRight}
-use Rattle.arj_law_runs.proofs.journal.Runs.{kept_right}
-use Rattle.arj_law_serial.specs.order.Seen.{RequestsAreOne}
-use Rattle.arj_law_disk_view.proofs.running.Scripts.{part_more}
-use Rattle.std.specs.Prelude.{⊤, ℕ, true, ◌≡◌, is_some}
-use Rattle.arj_law_lock.specs.machine.State.{State}
-use Rattle.arj_law_lock_view.specs.running.Fixed.{Fixed}
-use Rattle.arj_law_serial.proofs.joint.JoinedParts.{Base, Carried, Early, Whole, base, locked}
-use Rattle.arj_law_serial.specs.joint.Fit.{OpsFit}
-use Rattle.arj_law_serial.proofs.joint.Fits.{fits_before}
-use Rattle.arj_law_runs.specs.calls.Reached.{IsReached}
-use Rattle.arj_journal.specs.ScriptForm.{HeaderInForm}
+use Rattle.arj_law_parts.proofs.Words.{List, subst, Post, Seen, see, World, world_by, ⊤, ℕ, true, ◌≡◌, is_some, Header}
+use Rattle.arj_law_serial.proofs.Terms
+use Terms.{IsJoinedSo, world_of, IncludersTakeTurns, KeepsPart, Kinds, Office, first_values, object_line, new_book, AreRight, kept_right}
+use Terms.{RequestsAreOne, part_more, State, Fixed, OpsFit, IsReached, HeaderInForm, kept_nodes}
+use Terms.Effects as machine
+use Rattle.arj_law_disk_view.proofs.running.{Copies.copies_agree, ListedRuns.loads_there}
 use Rattle.arj_law_parts.specs.moves.Keeps.{Holds}
-use Rattle.arj_protocol.specs.Words.{Header}
-use Rattle.arj_law_runs.proofs.journal.Owners.{kept_nodes}
-use Rattle.arj_law_disk_view.proofs.running.ListedRuns.{loads_there}
-use Rattle.arj_law_serial.proofs.joint.Written.{bare, wrote}
+use Rattle.arj_law_serial.proofs.joint
+use joint.{FitRuns.runs_in_form, Fits.fits_before, JoinKeeps.WithTurns, JoinKeeps.turns_part, Joining.HasLocks, Joining.WithLocks}
+use joint.{NextGiven.one_requests, Written.bare, Written.wrote}
+use joint.JoinedParts.{Base, Carried, Early, Whole, base, locked}
+use joint.LightKeeps.{WithLights, lights_part}
+use joint.OrderedRuns.{IsOrderedBeside, lights_split, ordered_beside}
+use Rattle.arj_law_serial.specs.joint.Joined.{RunsAreJoined}
 
 -- ---- the law
 
-pub reached_joined : (hd : Header) (x : ℕ) → HeaderInForm hd → is_some (object_line hd x) ≡ true → (w : World) → IsReached hd w → OpsFit x w.lines → Holds hd (IsJoinedSo hd x) w
+pub reached_joined : (hd : Header) (x : ℕ) → HeaderInForm hd → is_some (object_line hd x) ≡ true → (w : World) → IsReached hd w →
+    OpsFit x w.lines → Holds hd (IsJoinedSo hd x) w
 reached_joined hd x form there w reached fit =
-    let h = ordered_beside hd x (OpsFit x) (fits_before x) (Base hd x) Joined form there (base hd x form there (λ M. ⊤) Nothing (λ M N l f S T run past. tt) (λ f S. tt)) part w reached fit in
+    let h = ordered_beside hd x (OpsFit x) (fits_before x) (Base hd x) Joined form there
+    (base hd x form there (λ M. ⊤) Nothing (λ M N l f S T run past. tt) (λ f S. tt)) part w reached fit in
     record { sent = h.sent; stands = h.stands; holds = joined h.sent h.holds }
   where
     -- of the lock machine's state nothing more
@@ -51,12 +31,15 @@ reached_joined hd x form there w reached fit =
     Joined tops A M = WithLights x (WithTurns x (WithLocks (first_values hd) x (Whole x) Nothing (Carried hd x))) tops A M
 
     paired : KeepsPart hd x (Early hd x) (WithLocks (first_values hd) x (Whole x) Nothing (Carried hd x))
-    paired = part_more hd x (λ W M. Early hd x W M × ⊤) (Early hd x) (WithLocks (first_values hd) x (Whole x) Nothing (Carried hd x)) (λ W M q. (q, tt)) (locked hd x form there (λ M. ⊤) Nothing (λ M N l f S T run past. tt) (λ f S. tt))
+    paired = part_more hd x (λ W M. Early hd x W M × ⊤) (Early hd x) (WithLocks (first_values hd) x (Whole x) Nothing (Carried hd x))
+        (λ W M q. (q, tt)) (locked hd x form there (λ M. ⊤) Nothing (λ M N l f S T run past. tt) (λ f S. tt))
 
     -- and each two of which one includes a store took turns; and so did those that change nothing
     part : KeepsPart hd x (Early hd x) Joined
-    part = lights_part hd x (Early hd x) (WithTurns x (WithLocks (first_values hd) x (Whole x) Nothing (Carried hd x))) (λ W M q. q.0.0.0.0.1) (λ tops A M p. p.0.0.0.0.0.0.0.0) (λ tops A M p. p.1)
-        (turns_part hd x (Early hd x) (WithLocks (first_values hd) x (Whole x) Nothing (Carried hd x)) (λ W M q. q.0.0.0.0.1) (λ tops A M p. p.0.0.0.0.0.0.0) (λ tops A M p. p.0.0.0.0.0.0.1) paired)
+    part = lights_part hd x (Early hd x) (WithTurns x (WithLocks (first_values hd) x (Whole x) Nothing (Carried hd x)))
+        (λ W M q. q.0.0.0.0.1) (λ tops A M p. p.0.0.0.0.0.0.0.0) (λ tops A M p. p.1)
+        (turns_part hd x (Early hd x) (WithLocks (first_values hd) x (Whole x) Nothing (Carried hd x)) (λ W M q. q.0.0.0.0.1)
+        (λ tops A M p. p.0.0.0.0.0.0.0) (λ tops A M p. p.0.0.0.0.0.0.1) paired)
 
     joined : (sent : List Post) → IsOrderedBeside (Base hd x) Joined hd x (see sent w) → IsJoinedSo hd x (see sent w)
     joined sent (o, tops, A, same, p, few, seen, kept) = record {
@@ -68,9 +51,11 @@ reached_joined hd x form there w reached fit =
       alike = locks.1;
       seen = (λ f a. let z = locks.3 f a in (z.0, z.1, z.2, z.3, z.4, z.6));
       requests = requests;
-      wrote = (let b = o.begun in let j = b.journalled in wrote hd w x right sent j.tops j.machine j.sees locks.0 locks.1 (λ f a. let z = locks.3 f a in (z.0, z.1, z.2, z.4)) requests);
+      wrote = (let b = o.begun in let j = b.journalled in
+          wrote hd w x right sent j.tops j.machine j.sees locks.0 locks.1 (λ f a. let z = locks.3 f a in (z.0, z.1, z.2, z.4)) requests);
       agree = (let b = o.begun in let j = b.journalled in copies_agree x j.tops j.machine M j.sees);
-      bare = (let b = o.begun in let j = b.journalled in bare hd w x right sent j.tops j.machine j.sees locks.0 locks.1 (λ f a. let z = locks.3 f a in (z.0, z.1, z.2, z.4)) requests);
+      bare = (let b = o.begun in let j = b.journalled in
+          bare hd w x right sent j.tops j.machine j.sees locks.0 locks.1 (λ f a. let z = locks.3 f a in (z.0, z.1, z.2, z.4)) requests);
     }
       where
         M : Seen

@@ -1,41 +1,25 @@
--- As decided tops that only include a store knew those that wrote the object before them, none of these is behind a top that is new in the last
--- event.
-use Rattle.std.proofs.Common.{Contains, ◌≡◌, ◌⊎◌, ◌≤◌, ◌<◌, ◌++◌, ℕ, List, [], ◌∷◌, Bool, true, false, cond, filter, length, Option, Some, None, is_some, refl, sym, ◌∙◌, ap, subst, inl, inr, arith}
-use Rattle.arj_base.specs.Rows.{is_on}
-use Rattle.arj_lock.proofs.Members as list
-use Rattle.arj_lock.proofs.Members.{in_from}
-use Rattle.arj_model.specs.Actions.{Act, Placed, acts}
-use Rattle.arj_model.specs.Calls.{Top, tops}
-use Rattle.arj_model.specs.Last.{first_values, uid_of_id}
-use Rattle.arj_model.specs.Serial.{Values, top_place}
-use Rattle.arj_protocol.specs.Words.{Header, Label, Line, Uid}
-use Rattle.arj_protocol.specs.Words.body
-use Rattle.arj_protocol.specs.Order.{uid_number}
-use Rattle.arj_protocol.specs.World.{World}
-use Rattle.arj_law_disk.specs.machine.Order.{counts_of}
-use Rattle.arj_law_disk.specs.machine.State.{Done, Packed, State}
-use Rattle.arj_law_disk.specs.machine.Words as disk
-use Rattle.arj_law_disk.proofs.machine.History.{in_decided}
-use Rattle.arj_law_runs.specs.journal.Book.{Book, book, book_from, is_decided, new_book}
-use Rattle.arj_law_runs.specs.journal.Laws.{AreApart, called, called_of}
-use Rattle.arj_law_runs.specs.journal.Right.{AreRight}
-use Rattle.arj_law_runs.proofs.journal.Books.{book_more, decided_later, later_from, never}
-use Rattle.arj_law_runs.proofs.journal.Models.{its_call}
-use Rattle.arj_law_serial.specs.order.Decided.{AreDecided, AreDecisions, AreNewestFirst, IsDecision, WroteSo}
-use Rattle.arj_promise.specs.Excluded.{Wrote}
-use Rattle.arj_law_serial.proofs.order.Order.{IsTopOf, listed, place_of_top, top_item}
-use Rattle.arj_law_serial.proofs.order.Tying.{all_at}
+-- As decided tops that only include a store knew those that wrote the object before them, none of these is behind a top that is new in the
+-- last event.
+use Rattle.arj_law_parts.proofs.Words
+use Words.{Contains, ◌≡◌, ◌⊎◌, ◌≤◌, ◌<◌, ◌++◌, ℕ, List, [], ◌∷◌, Bool, true, false, cond, filter, length, Option, Some, None, is_some, refl}
+use Words.{sym, ◌∙◌, ap, subst, inl, inr, arith, is_on, in_from, Header, Label, Line, Uid, uid_number, World, Wrote, IsNew, lines_before}
+use Words.list
+use Words.body
+use Rattle.arj_law_serial.proofs.Terms
+use Terms.{Act, Placed, acts, Top, tops, first_values, uid_of_id, Values, top_place, counts_of, Done, Packed, in_decided, Book, book}
+use Terms.{book_from, is_decided, new_book, called, called_of, AreRight, book_more, decided_later, later_from, its_call, AreDecided}
+use Terms.{AreDecisions, AreNewestFirst, IsDecision, WroteSo, CommitsBeginIt, IncludersKnow, IsSaidFirst, IsOrderedSo, is_said}
+use Terms.words as disk
+use Rattle.arj_law_disk.specs.machine.State.{State}
 use Rattle.arj_law_parts.specs.moves.Keeps.{Holds}
-use Rattle.arj_law_serial.proofs.joint.NamedTops.{disk_of}
-use Rattle.arj_law_serial.specs.joint.Excluded.{CommitsBeginIt}
-use Rattle.arj_promise.specs.Excluded.{IsNew, lines_before}
-use Rattle.arj_law_serial.specs.joint.SaidFirst.{IncluderKnows, IncludersKnow, IsSaidFirst}
-use Rattle.arj_law_serial.specs.joint.Ordered.{IsOrderedSo}
-use Rattle.arj_model.specs.Outcome.{is_said}
-use Rattle.arj_law_serial.proofs.joint.Called.{end_in, on_front, there_before}
-use Rattle.arj_law_serial.proofs.joint.Excluding.{each_decision}
-use Rattle.arj_law_serial.proofs.joint.JoinOrder.{counts_there}
-use Rattle.arj_law_serial.proofs.joint.NewWriters.{IsReadAt, call_is, its_uid, read_at, said_before}
+use Rattle.arj_law_runs.proofs.journal.Books.{never}
+use Rattle.arj_law_runs.specs.journal.Laws.{AreApart}
+use Rattle.arj_law_serial.proofs.joint
+use joint.{Excluding.each_decision, JoinOrder.counts_there, NamedTops.disk_of}
+use joint.Called.{end_in, on_front, there_before}
+use joint.NewWriters.{IsReadAt, call_is, its_uid, read_at, said_before}
+use Rattle.arj_law_serial.proofs.order.{Order.IsTopOf, Order.listed, Order.place_of_top, Order.top_item, Tying.all_at}
+use Rattle.arj_law_serial.specs.joint.SaidFirst.{IncluderKnows}
 
 -- ---- lists
 
@@ -71,23 +55,45 @@ record IsLaterOne (values : Values) (lines : List Line) (x : ℕ) (ds : List Don
   knows : IncluderKnows lines first second
 
 -- a top whose commit was called behind that of another one was decided later
-later_one : (values : Values) (lines : List Line) (x : ℕ) (ds : List Done) (us : List Top) → AreDecisions values lines x ds us → IncludersKnow lines ds → AreNewestFirst us → (u w : Top) → list.In u us → list.In w us → (u.at ≤ w.at) ⊎ IsLaterOne values lines x ds w u
+later_one : (values : Values) (lines : List Line) (x : ℕ) (ds : List Done) (us : List Top) → AreDecisions values lines x ds us →
+    IncludersKnow lines ds → AreNewestFirst us → (u w : Top) → list.In u us → list.In w us →
+    (u.at ≤ w.at) ⊎ IsLaterOne values lines x ds w u
 later_one values lines x [] [] are know order u w i j = absurd i
 later_one values lines x [] (v ∷ us) are know order u w i j = absurd are
 later_one values lines x (d ∷ ds) [] are know order u w i j = absurd are
-later_one values lines x (d ∷ ds) (v ∷ us) are know order u w (inl a) (inl b) = inl (let e = ap (λ (z : Top). z.at) (sym a ∙ b) in omega (arith, e))
+later_one values lines x (d ∷ ds) (v ∷ us) are know order u w (inl a) (inl b) =
+    inl (let e = ap (λ (z : Top). z.at) (sym a ∙ b) in omega (arith, e))
 later_one values lines x (d ∷ ds) (v ∷ us) are know order u w (inl a) (inr j) =
     let r = each_decision values lines x ds us are.1 w j in
-    inr (record { first = r.0; second = d; first_there = inr r.1; second_there = inl refl; first_is = r.2; second_is = subst (IsDecision values lines x d) a are.0; knows = know.0 r.0 r.1 })
-later_one values lines x (d ∷ ds) (v ∷ us) are know order u w (inr i) (inl b) = inl (let less = all_at (λ (z : Top). z.at < v.at) us order.0 u i in let e = ap (λ (z : Top). z.at) b in omega (arith, less, e))
-later_one values lines x (d ∷ ds) (v ∷ us) are know order u w (inr i) (inr j) = elim (later_one values lines x ds us are.1 know.1 order.1 u w i j) [
-  | inl le ↦ inl le
-  | inr r ↦ inr (record { first = r.first; second = r.second; first_there = inr r.first_there; second_there = inr r.second_there; first_is = r.first_is; second_is = r.second_is; knows = r.knows })
-]
+    inr (record {
+      first = r.0;
+      second = d;
+      first_there = inr r.1;
+      second_there = inl refl;
+      first_is = r.2;
+      second_is = subst (IsDecision values lines x d) a are.0;
+      knows = know.0 r.0 r.1;
+    })
+later_one values lines x (d ∷ ds) (v ∷ us) are know order u w (inr i) (inl b) =
+    inl (let less = all_at (λ (z : Top). z.at < v.at) us order.0 u i in let e = ap (λ (z : Top). z.at) b in omega (arith, less, e))
+later_one values lines x (d ∷ ds) (v ∷ us) are know order u w (inr i) (inr j) =
+    elim (later_one values lines x ds us are.1 know.1 order.1 u w i j) [
+      | inl le ↦ inl le
+      | inr r ↦ inr (record {
+        first = r.first;
+        second = r.second;
+        first_there = inr r.first_there;
+        second_there = inr r.second_there;
+        first_is = r.first_is;
+        second_is = r.second_is;
+        knows = r.knows;
+      })
+    ]
 
 -- ---- in a world
 
-module _ (hd : Header) (w : World) (right : AreRight new_book w.lines) (begins : CommitsBeginIt w.event w.lines) (x : ℕ) (h : Holds hd (IsOrderedSo hd x) w) (d : AreDecided hd w.lines x (let Q = disk_of h.holds in Q.tops))
+module _ (hd : Header) (w : World) (right : AreRight new_book w.lines) (begins : CommitsBeginIt w.event w.lines) (x : ℕ)
+    (h : Holds hd (IsOrderedSo hd x) w) (d : AreDecided hd w.lines x (let Q = disk_of h.holds in Q.tops))
     (t : Top) (new : IsNew w.event w.lines t) (wrote : Wrote w.lines x t) where
   abbrev lines : List Line
   lines = w.lines
@@ -129,8 +135,10 @@ module _ (hd : Header) (w : World) (right : AreRight new_book w.lines) (begins :
           let at = spot.place in
           let m = longer before spot.before behind (spot.line ∷ spot.behind) (sym is ∙ spot.are) (omega (arith, more, at)) in
           let there : is_decided (book spot.before) v ≡ true =
-          ap (λ zs. is_decided (book zs) v) m.1 ∙ ap (λ (B : Book). is_decided B v) (book_more new_book before m.0) ∙ decided_later (book before) (book_from (book before) m.0) (later_from (book before) m.0) v old in
-          never (ap (is_said (lines_before event lines)) (its_uid lines right t ti) ∙ said_before lines right event begins spot.before spot.line spot.behind label.0 spot.are label.1 v there) new.1
+          ap (λ zs. is_decided (book zs) v) m.1 ∙ ap (λ (B : Book). is_decided B v) (book_more new_book before m.0)
+          ∙ decided_later (book before) (book_from (book before) m.0) (later_from (book before) m.0) v old in
+          never (ap (is_said (lines_before event lines)) (its_uid lines right t ti)
+          ∙ said_before lines right event begins spot.before spot.line spot.behind label.0 spot.are label.1 v there) new.1
 
   -- its decision
   there : (w : Top) × Contains d.those w × (w.id ≡ t.id)
@@ -147,24 +155,29 @@ module _ (hd : Header) (w : World) (right : AreRight new_book w.lines) (begins :
       by (Some z) some = refl
 
   -- none that was decided later and didn't write counts
-  none_later : (e z : Done) (w : Top) → disk.In z S.tops → w.id ≡ t.id → IsDecision values lines x e w → e.counts ≡ true → z.counts ≡ true → (let p = z.plan in p.writes) ≡ None → IncluderKnows lines e z → ⊥
+  none_later : (e z : Done) (w : Top) → disk.In z S.tops → w.id ≡ t.id → IsDecision values lines x e w → e.counts ≡ true → z.counts ≡ true →
+      (let p = z.plan in p.writes) ≡ None → IncluderKnows lines e z → ⊥
   none_later e z w inside same is counts_e counts_z none knows =
-      unknown whose.0 (in_from whose.0 (acts lines) whose.1) (let o = h.holds in o.called z inside (let a = whose.0 in a.uid) whose.2) (knows v (let a = whose.0 in a.uid) counts_z counts_e (its_write e w same is) none (its_number e w same is) whose.2)
+      unknown whose.0 (in_from whose.0 (acts lines) whose.1) (let o = h.holds in o.called z inside (let a = whose.0 in a.uid) whose.2)
+      (knows v (let a = whose.0 in a.uid) counts_z counts_e (its_write e w same is) none (its_number e w same is) whose.2)
     where
       whose : (a : Act) × Contains (acts lines) a × (uid_number a.uid ≡ z.top)
       whose = let o = h.holds in let b = o.begun in let k = b.journalled in k.whose z.top (in_decided S.tops z inside)
 
   pub none_last : (u : Top) → Contains d.those u → (Wrote lines x u → ⊥) → u.at ≤ t.at
-  none_last u c silent = by (later_one values lines x (filter counts_of S.tops) d.those d.each (know_left lines counts_of S.tops (let o = h.holds in o.know)) d.called u there.0 (in_from u d.those c) (in_from there.0 d.those there.1))
+  none_last u c silent = by (later_one values lines x (filter counts_of S.tops) d.those d.each (know_left lines counts_of S.tops
+      (let o = h.holds in o.know)) d.called u there.0 (in_from u d.those c) (in_from there.0 d.those there.1))
     where
       apart : AreApart (tops lines)
       apart = let l = listed lines right in l.apart
 
       w_there : list.In there.0 (tops lines)
-      w_there = in_from there.0 (tops lines) (let q = (each_decision values lines x (filter counts_of S.tops) d.those d.each there.0 (in_from there.0 d.those there.1)).2 in q.listed)
+      w_there = in_from there.0 (tops lines) (let q =
+          (each_decision values lines x (filter counts_of S.tops) d.those d.each there.0 (in_from there.0 d.those there.1)).2 in q.listed)
 
       place : (let w = there.0 in w.at) ≡ t.at
-      place = sym (place_of_top (tops lines) there.0 apart w_there) ∙ ap (top_place (tops lines)) there.2 ∙ place_of_top (tops lines) t apart (in_from t (tops lines) new.0)
+      place = sym (place_of_top (tops lines) there.0 apart w_there) ∙ ap (top_place (tops lines)) there.2
+          ∙ place_of_top (tops lines) t apart (in_from t (tops lines) new.0)
 
       wrote_nothing : (o : Option Packed) → WroteSo values lines x u o → o ≡ None
       wrote_nothing None none = refl

@@ -1,25 +1,18 @@
 -- What a journal's lines say that a top excluded, in the words of `arj_model`.
-use Rattle.std.proofs.Common.{◌≡◌, ◌||◌, ◌==◌, ◌&&◌, ◌∙◌, ◌+◌, ℕ, Bool, true, false, cond, List, [], ◌∷◌, Option, Some, None, ap, refl, subst, sym, eq-eqb, filter, map}
-use Rattle.std.specs.List.{list_any}
-use Rattle.std.specs.Str.{bytes_eq}
-use Rattle.std.proofs.lemmas.Slice.Eq.{bytes_eq-Decides}
-use Rattle.arj_base.proofs.Uids.{uid_is}
-use Rattle.arj_lock.proofs.Members.{In}
-use Rattle.arj_model.specs.Actions.{Act, Placed, act_in, acts, acts_after, path, put, read, top_in}
-use Rattle.arj_journal.specs.declared.body.Body.TheVariants as body
-use Rattle.arj_model.specs.Last.{Exclusion, excluded, excluded_of, exclusion_by, is_among, leaves_of}
-use Rattle.arj_protocol.specs.Words.{Body, Line, name}
-use Rattle.arj_law_runs.specs.journal.Book.{Book, book_from, new_book, turned}
-use Rattle.arj_law_runs.specs.journal.Right.{AreRight, Right}
+use Rattle.arj_law_parts.proofs.Words
+use Words.{◌≡◌, ◌||◌, ◌==◌, ◌&&◌, ◌∙◌, ◌+◌, ℕ, Bool, true, false, cond, List, [], ◌∷◌, Option, Some, None, ap, refl, subst, sym, eq-eqb}
+use Words.{filter, map, list_any, bytes_eq, bytes_eq-Decides, uid_is, In, Body, Line, name}
+use Rattle.arj_law_serial.proofs.Terms
+use Terms.{Act, Placed, act_in, acts, acts_after, path, put, read, top_in, is_among, leaves_of, Book, book_from, new_book, turned, AreRight}
+use Terms.{Right, Stands, one_act, stands_new, stands_turn, acts_turn, holds, its_acts, its_sound, named_in, tells, named_label, excludes}
+use Terms.{was_marked}
+use Terms.body
 use Rattle.arj_law_runs.proofs.journal.Books.{never}
-use Rattle.arj_law_runs.proofs.journal.Closed.{Stands, one_act, stands_new, stands_turn}
-use Rattle.arj_law_runs.proofs.journal.Models.{acts_turn, holds, its_acts, its_sound, named_in, tells}
-use Rattle.arj_law_runs.proofs.journal.Ties.{named_label}
-use Rattle.arj_law_serial.proofs.order.Order.{own}
-use Rattle.arj_law_serial.proofs.order.Paths.{found, paths_stay}
-use Rattle.arj_law_serial.specs.joint.Marked.{excludes, was_marked}
+use Rattle.arj_law_serial.proofs.order.{Order.own, Paths.found, Paths.paths_stay}
+use Rattle.arj_model.specs.Last.{Exclusion, excluded, excluded_of, exclusion_by}
 
-put_any : (test : Placed Exclusion → Bool) (n : ℕ) (o : Option Exclusion) (rest : List (Placed Exclusion)) → list_any test (put n o rest) ≡ (holds (λ e. test (record { at = n; it = e })) o || list_any test rest)
+put_any : (test : Placed Exclusion → Bool) (n : ℕ) (o : Option Exclusion) (rest : List (Placed Exclusion)) →
+    list_any test (put n o rest) ≡ (holds (λ e. test (record { at = n; it = e })) o || list_any test rest)
 put_any test n None rest = refl
 put_any test n (Some e) rest = refl
 
@@ -32,12 +25,16 @@ module _ (lines : List Line) (right : AreRight new_book lines) (x : ℕ) (a : Ac
   abbrev test : Placed Exclusion → Bool
   test e = ((e.it.top == a.id) && (e.it.x == x)) && (e.it.node == s)
 
-  among_those : (es : List (Placed Exclusion)) → is_among (map (λ (e : Placed Exclusion). e.it.node) (filter (λ (e : Placed Exclusion). (e.it.top == a.id) && (e.it.x == x)) es)) s ≡ list_any test es
+  among_those : (es : List (Placed Exclusion)) → is_among (map (λ (e : Placed Exclusion). e.it.node)
+      (filter (λ (e : Placed Exclusion). (e.it.top == a.id) && (e.it.x == x)) es)) s ≡ list_any test es
   among_those [] = refl
   among_those (e ∷ es) = by ((e.it.top == a.id) && (e.it.x == x)) (among_those es)
     where
-      by : (b : Bool) → is_among (map (λ (f : Placed Exclusion). f.it.node) (filter (λ (f : Placed Exclusion). (f.it.top == a.id) && (f.it.x == x)) es)) s ≡ list_any test es
-          → is_among (map (λ (f : Placed Exclusion). f.it.node) (cond b (e ∷ filter (λ (f : Placed Exclusion). (f.it.top == a.id) && (f.it.x == x)) es) (filter (λ (f : Placed Exclusion). (f.it.top == a.id) && (f.it.x == x)) es))) s ≡ ((b && (e.it.node == s)) || list_any test es)
+      by : (b : Bool) → is_among (map (λ (f : Placed Exclusion). f.it.node)
+          (filter (λ (f : Placed Exclusion). (f.it.top == a.id) && (f.it.x == x)) es)) s ≡ list_any test es
+          → is_among (map (λ (f : Placed Exclusion). f.it.node) (cond b (e ∷ filter (λ (f : Placed Exclusion). (f.it.top == a.id)
+          && (f.it.x == x)) es) (filter (λ (f : Placed Exclusion). (f.it.top == a.id) && (f.it.x == x)) es))) s
+          ≡ ((b && (e.it.node == s)) || list_any test es)
       by true ih = ap (λ b. (e.it.node == s) || b) ih
       by false ih = ih
 
@@ -48,30 +45,36 @@ module _ (lines : List Line) (right : AreRight new_book lines) (x : ℕ) (a : Ac
       by : (b : Bool) → bytes_eq c.label a.label ≡ b → (c.id == a.id) ≡ b
       by true is =
           let z = its_sound lines right in
-          let e : ◌≡◌ {A = Option Act} (Some c) (Some a) = sym (found (acts lines) z.distinct c i) ∙ ap (act_in (acts lines)) ((bytes_eq-Decides c.label a.label).0 is) ∙ found (acts lines) z.distinct a there in
+          let e : ◌≡◌ {A = Option Act} (Some c) (Some a) = sym (found (acts lines) z.distinct c i)
+          ∙ ap (act_in (acts lines)) ((bytes_eq-Decides c.label a.label).0 is) ∙ found (acts lines) z.distinct a there in
           eq-eqb c.id a.id (ap (λ (y : Act). y.id) (let same : c ≡ a = cc e in same))
       by false off = other (c.id == a.id) refl
         where
           other : (b : Bool) → (c.id == a.id) ≡ b → b ≡ false
           other true is =
-              let same = one_act (acts lines) (let z = its_sound lines right in z.distinct) c a i there (uid_is c.uid a.uid (sym (tells lines right a there c i) ∙ is)) in
+              let same = one_act (acts lines) (let z = its_sound lines right in
+              z.distinct) c a i there (uid_is c.uid a.uid (sym (tells lines right a there c i) ∙ is)) in
               absurd (never ((bytes_eq-Decides c.label a.label).1 (ap (λ (y : Act). y.label) same)) off)
           other false is = refl
 
-  reads_so : (n : ℕ) (B : Book) (ls : List Line) → AreRight B ls → Stands B → (let V = book_from B ls in V.acts) ≡ acts lines → list_any test (read excluded_of B.acts n ls) ≡ was_marked ls a.label x s
+  reads_so : (n : ℕ) (B : Book) (ls : List Line) → AreRight B ls → Stands B → (let V = book_from B ls in V.acts) ≡ acts lines →
+      list_any test (read excluded_of B.acts n ls) ≡ was_marked ls a.label x s
   reads_so n B [] so stands end = refl
   reads_so n B (l ∷ ls) so stands end =
       put_any test n (excluded_of B.acts l.body) (read excluded_of (acts_after B.acts l.body) (n + 1) ls)
-      ∙ (λ i. here l.body so refl i || (ap (λ us. list_any test (read excluded_of us (n + 1) ls)) (sym (acts_turn B l.body)) ∙ reads_so (n + 1) (turned B l.body) ls so.1 (stands_turn B l.body so.0 stands) end) i)
+      ∙ (λ i. here l.body so refl i || (ap (λ us. list_any test (read excluded_of us (n + 1) ls)) (sym (acts_turn B l.body))
+      ∙ reads_so (n + 1) (turned B l.body) ls so.1 (stands_turn B l.body so.0 stands) end) i)
     where
-      here : (b : Body) → AreRight B (l ∷ ls) → l.body ≡ b → holds (λ e. test (record { at = n; it = e })) (excluded_of B.acts b) ≡ excludes a.label x s b
+      here : (b : Body) → AreRight B (l ∷ ls) → l.body ≡ b →
+          holds (λ e. test (record { at = n; it = e })) (excluded_of B.acts b) ≡ excludes a.label x s b
       here (body.Excluded m y k) r is =
           let (c, o, on) = subst (Right B) is r.0 in
           let i = named_in B.acts (name m) c o.named in
           let stay = paths_stay B (l ∷ ls) c r i in
           let label : c.label ≡ name m = named_label B.acts (name m) c o.named in
           let c_there = subst (In c) end stay.1 in
-          let its : path B.acts (name m) ≡ path (acts lines) c.label = ap (path B.acts) (sym label) ∙ sym stay.0 ∙ ap (λ us. path us c.label) end in
+          let its : path B.acts (name m) ≡ path (acts lines) c.label = ap (path B.acts) (sym label) ∙ sym stay.0
+          ∙ ap (λ us. path us c.label) end in
           let closes = stands.closes in
           ap (λ p. holds (λ e. test (record { at = n; it = e })) (exclusion_by y k (top_in p))) its
           ∙ ap (λ t. holds (λ e. test (record { at = n; it = e })) (exclusion_by y k t)) (own lines right c c_there (closes.calls c i on))

@@ -1,46 +1,26 @@
--- Tops that change nothing of an object, while naming may confirm them and once it did: what is kept of them, and what keeps others from counting then.
-use Rattle.std.proofs.Common.{◌≡◌, ◌≢◌, ◌⊎◌, ◌≤◌, ◌<◌, ◌&&◌, ◌||◌, ◌∙◌, not, ℕ, Bool, true, false, List, Option, Some, None, is_some, ap, arith, inl, inr, refl, subst, sym, ⊎_elim}
-use Rattle.arj_base.specs.Rows.{is_on}
-use Rattle.arj_protocol.specs.Words.{Kind, Line, ObjectState, Uid}
-use Rattle.arj_protocol.specs.Words.kind
-use Rattle.arj_protocol.specs.Commit as commit
-use Rattle.arj_protocol.specs.Commit.{Confirming, Machine, Preparing, Used, Voting, plan_of}
-use Rattle.arj_protocol.specs.Coord.{Calling, Committing, Doing, Idle as Waiting, Now, doing_of}
-use Rattle.arj_protocol.specs.Node.{Parts}
-use Rattle.arj_protocol.specs.Order.{at_uid, uid_number}
-use Rattle.arj_protocol.specs.Step.{Node, is_committing_now}
-use Rattle.arj_protocol.specs.Tree.{Branch, branch_of, is_open_branch}
-use Rattle.arj_law_parts.proofs.parts.Keys.{in_at}
-use Rattle.arj_law_parts.proofs.parts.TrueSteps.{work_there}
-use Rattle.arj_law_disk.specs.machine.Core.{Core}
-use Rattle.arj_law_disk.specs.machine.Guards.{HasRow, IsGranted, IsPresent, IsUntold}
-use Rattle.arj_law_disk.specs.machine.Named.{Named}
-use Rattle.arj_law_disk.specs.machine.Names.{Names, Office}
-use Rattle.arj_law_disk.specs.machine.State as disk
-use Rattle.arj_law_disk.specs.machine.State.{Packed, Stage, State, decided, is_gone, is_idle, is_open, is_sealed, undecided}
-use Rattle.arj_law_disk.specs.machine.Words.{has}
-use Rattle.arj_law_disk.proofs.machine.Base.{bool_cases, falls_to, never, or_right, some_is}
-use Rattle.arj_law_disk.proofs.machine.History.{in_decided}
-use Rattle.arj_law_disk.proofs.machine.Kin.{Kin, kin_granted, near, not_over, open_untold}
-use Rattle.arj_promise.specs.Runs.{Seen}
-use Rattle.arj_law_disk_view.specs.view.Asking.{SeesConfirming}
-use Rattle.arj_law_disk_view.specs.view.Deciding.{SeesRecords, nodes_of}
-use Rattle.arj_law_disk_view.specs.view.Plans.{used_at}
-use Rattle.arj_law_disk_view.specs.view.Sees.{Kinds, SeesCoord, SeesDown, Works, WorksBy}
-use Rattle.arj_law_disk_view.specs.names.Both.{SeesBoth}
-use Rattle.arj_law_disk_view.specs.running.Heard.{IsHadBy, SeesHeard, SeesPlan}
-use Rattle.arj_law_runs.specs.kept.Worlds.{IsGood, IsMemory, IsUp}
-use Rattle.arj_law_runs.specs.journal.Book.{book}
-use Rattle.arj_law_runs.specs.journal.Knows.{IsKept, KnowsUp}
-use Rattle.arj_law_serial.specs.joint.Includers.{IncludesNone}
-use Rattle.arj_law_serial.specs.joint.Ordered.{IsCalledBefore}
-use Rattle.arj_law_serial.specs.joint.Joined.{IsRecordedAt}
-use Rattle.arj_law_serial.specs.joint.Lights.{AreBefore, IsSplit}
-use Rattle.arj_law_serial.proofs.joint.JoinFresh.{committing_there, not_ended, not_some, some_or_none}
-use Rattle.arj_law_serial.proofs.joint.JoinStep.{EachUp, KeepTurns, plan_includes_none}
-use Rattle.arj_law_serial.proofs.joint.JoinTurns.{IsFine, Settled, UsesNone, called_first, changes_nothing, counts_on_old, includes_none, root_is_gone}
-use Rattle.arj_law_serial.proofs.joint.JoinUses.{UsesSo}
-use Rattle.arj_law_lock_view.proofs.facts.CommitCoords.{AreAt}
+-- Tops that change nothing of an object, while naming may confirm them and once it did: what is kept of them, and what keeps others from
+-- counting then.
+use Rattle.arj_law_parts.proofs.Words
+use Words.{◌≡◌, ◌≢◌, ◌⊎◌, ◌≤◌, ◌<◌, ◌&&◌, ◌||◌, ◌∙◌, not, ℕ, Bool, true, false, List, Option, Some, None, is_some, ap, arith, inl, inr}
+use Words.{refl, subst, sym, ⊎_elim, is_on, Kind, Line, ObjectState, Uid, Confirming, Machine, Preparing, Used, Voting, plan_of, Calling}
+use Words.{Committing, Doing, Idle as Waiting, Now, doing_of, Parts, at_uid, uid_number, Node, is_committing_now, Branch, branch_of}
+use Words.{is_open_branch, Seen}
+use Words.kind
+use Words.commit
+use Rattle.arj_law_serial.proofs.Terms
+use Terms.{in_at, work_there, Core, HasRow, IsGranted, IsPresent, IsUntold, Named, Names, Office, Packed, Stage, decided, is_gone, is_idle}
+use Terms.{is_open, is_sealed, undecided, has, bool_cases, falls_to, never, or_right, some_is, in_decided, Kin, kin_granted, near, not_over}
+use Terms.{open_untold, SeesConfirming, SeesRecords, nodes_of, used_at, Kinds, SeesCoord, Works, WorksBy, SeesBoth, IsHadBy, SeesHeard}
+use Terms.{SeesPlan, IsGood, IsMemory, IsUp, book, IsKept, KnowsUp, IncludesNone, IsCalledBefore, IsRecordedAt, IsSplit, AreAt}
+use Terms.disk
+use Rattle.arj_law_disk.specs.machine.State.{State}
+use Rattle.arj_law_disk_view.specs.view.Sees.{SeesDown}
+use Rattle.arj_law_serial.proofs.joint
+use joint.{JoinUses.UsesSo}
+use joint.JoinFresh.{committing_there, not_ended, not_some, some_or_none}
+use joint.JoinStep.{EachUp, KeepTurns, plan_includes_none}
+use joint.JoinTurns.{IsFine, Settled, UsesNone, called_first, changes_nothing, counts_on_old, includes_none, root_is_gone}
+use Rattle.arj_law_serial.specs.joint.Lights.{AreBefore}
 
 -- ---- the tops
 
@@ -53,7 +33,8 @@ pub record IsPassed (A : Office) (M : Seen) (w : Uid) : Type 0 where
   pub joins : has store (let p = A.world.disk.plan (uid_number w) in p.joins) ≡ true
   pub stands : (undecided A.world.disk (uid_number w) ≡ true) ⊎ (decided A.world.disk (uid_number w) ≡ true)
 
--- Naming may confirm it so: its prepare step has ended, its outcome is open, it includes a store, and each grant that counts is of the present incarnation.
+-- Naming may confirm it so: its prepare step has ended, its outcome is open, it includes a store, and each grant that counts is of the
+-- present incarnation.
 pub record IsPassing (A : Office) (M : Seen) (w : Uid) : Type 0 where
   pub node : Node
   pub there : M.nodes w.node ≡ Some node
@@ -78,20 +59,23 @@ IsApart A w u = (u ≢ w) × ((decided A.world.disk (uid_number w) ≡ true) ⊎
 abbrev pub AreBeside : ℕ → Office → List Line → (Uid → Uid → Type 0) → Parts → Type 0
 AreBeside x A lines D t = AreAt (UsesSo (λ u used. (w : Uid) → D w u → IsFine x A lines w u used)) t.coord
 
--- Against each top that naming confirmed so, tops at their commits, and those with a record that isn't decided, won't count or were called later, where
--- they conflict; each such top's commit was called, and what was decided before and behind is as its place asks.
+-- Against each top that naming confirmed so, tops at their commits, and those with a record that isn't decided, won't count or were called
+-- later, where they conflict; each such top's commit was called, and what was decided before and behind is as its place asks.
 pub record KeepLights (x : ℕ) (A : Office) (M : Seen) : Type 0 where
   pub works : EachUp (AreBeside x A M.lines (λ w u. IsPassed A M w × IsApart A w u)) M
-  pub records : (u : Uid) → IsRecordedAt M u → decided A.world.disk (uid_number u) ≡ false → (w : Uid) → IsPassed A M w → IsApart A w u → Settled A M.lines w u
+  pub records : (u : Uid) → IsRecordedAt M u → decided A.world.disk (uid_number u) ≡ false → (w : Uid) → IsPassed A M w → IsApart A w u →
+      Settled A M.lines w u
   pub called : (w : Uid) → IsPassed A M w → is_on (let B = book M.lines in B.called) w ≡ true
-  pub splits : (w : Uid) → IsPassed A M w → IsSplit A.world.disk.first_entry M.lines w (let p = A.world.disk.plan (uid_number w) in p.joins) (let W = A.world in W.disk.tops)
+  pub splits : (w : Uid) → IsPassed A M w →
+      IsSplit A.world.disk.first_entry M.lines w (let p = A.world.disk.plan (uid_number w) in p.joins) (let W = A.world in W.disk.tops)
 
 -- ---- one that may be confirmed so
 
 module _ (x : ℕ) (tops : Kinds) (A : Office) (M : Seen) (both : SeesBoth x tops A M) where
   -- a grant is none of a later incarnation
   pub past : (t i : ℕ) → IsHadBy A t i → i ≤ (let N = A.names in N.inc)
-  past t i h = ⊎_elim (λ own. let n = both.named in let g = n.grants in g.past t i own) (λ kept. let n = both.named in let g = n.grants in g.past (A.world.disk.root t) i kept) h
+  past t i h = ⊎_elim (λ own. let n = both.named in let g = n.grants in g.past t i own) (λ kept. let n = both.named in let g = n.grants in
+      g.past (A.world.disk.root t) i kept) h
 
   -- a record is there in the machine
   pub recorded_some : (u : Uid) → IsRecordedAt M u → is_some (A.world.disk.intent (uid_number u)) ≡ true
@@ -104,8 +88,10 @@ module _ (x : ℕ) (tops : Kinds) (A : Office) (M : Seen) (both : SeesBoth x top
       at = in_at (u, r.intent) (let d = (let n = r.node in n.disk) in d.intents) sees.sorted r.there
 
   -- a record's top that isn't decided is open
-  pub recorded_open : (u : Uid) → IsRecordedAt M u → decided A.world.disk (uid_number u) ≡ false → undecided A.world.disk (uid_number u) ≡ true
-  recorded_open u r undone i = not (undone i) && or_right (is_open (A.world.disk.stage (uid_number u))) (is_some (A.world.disk.intent (uid_number u))) (recorded_some u r) i
+  pub recorded_open : (u : Uid) → IsRecordedAt M u → decided A.world.disk (uid_number u) ≡ false →
+      undecided A.world.disk (uid_number u) ≡ true
+  recorded_open u r undone i = not (undone i)
+      && or_right (is_open (A.world.disk.stage (uid_number u))) (is_some (A.world.disk.intent (uid_number u))) (recorded_some u r) i
 
 module _ (x : ℕ) (tops : Kinds) (A : Office) (M : Seen) (both : SeesBoth x tops A M) (w : Uid) (its : IsPassing A M w) where
   abbrev S : State
@@ -159,23 +145,29 @@ module _ (x : ℕ) (tops : Kinds) (A : Office) (M : Seen) (both : SeesBoth x top
     module _ (begun : S.begun t ≡ true) (uu : undecided S t ≡ true) where
       by_had : (i : ℕ) → IsHadBy A t i → Settled A lines w u
       by_had i h = ⊎_elim
-          (λ same. absurd (two (sym (its_root t (⊎_elim (λ over. absurd (not_over S t uu over)) (λ kin. kin) (kin_granted S N core c.roots (let g = c.grants in g.row) (let g = c.grants in g.root) t (granted t i h same) (untold_of t uu)))))))
+          (λ same. absurd (two (sym (its_root t (⊎_elim (λ over. absurd (not_over S t uu over)) (λ kin. kin) (kin_granted S N core c.roots
+          (let g = c.grants in g.row) (let g = c.grants in g.root) t (granted t i h same) (untold_of t uu)))))))
           (λ less. counts_on_old (unconfirmed uu) (i, h, less))
           (now_or_old t i h)
 
       begun_settled : Settled A lines w u
-      begun_settled = ⊎_elim (λ (j : (s : ℕ) × (has s (let p = S.plan t in p.joins) ≡ true)). let a = (let q = c.plans in q.asked t j.0 begun j.1) in by_had a.0 (inl a.1)) (λ without. changes without (let p = S.plan t in p.writes) refl) (some_or_none (let p = S.plan t in p.joins))
+      begun_settled = ⊎_elim (λ (j : (s : ℕ) × (has s (let p = S.plan t in p.joins) ≡ true)). let a = (let q = c.plans in
+          q.asked t j.0 begun j.1) in by_had a.0 (inl a.1)) (λ without. changes without (let p = S.plan t in p.writes) refl)
+          (some_or_none (let p = S.plan t in p.joins))
         where
-          changes : ((s : ℕ) → has s (let p = S.plan t in p.joins) ≡ true → ⊥) → (o : Option Packed) → (let p = S.plan t in p.writes) ≡ o → Settled A lines w u
+          changes : ((s : ℕ) → has s (let p = S.plan t in p.joins) ≡ true → ⊥) → (o : Option Packed) → (let p = S.plan t in p.writes) ≡ o →
+              Settled A lines w u
           changes without None is = includes_none begun (without, inl is)
           changes without (Some g) is = let l = (let z = c.lists in z.plan t uu (ap is_some is)) in by_had l.0 l.1
 
     -- one with a record
     pub passing_recorded : IsRecordedAt M u → decided S t ≡ false → Settled A lines w u
-    passing_recorded r undone = ⊎_elim (λ on. absurd (never on (unconfirmed (recorded_open x tops A M both u r undone)))) (λ light. changes_nothing light) (let k = core.coordinators in k.record_taken t (recorded_some x tops A M both u r))
+    passing_recorded r undone = ⊎_elim (λ on. absurd (never on (unconfirmed (recorded_open x tops A M both u r undone))))
+        (λ light. changes_nothing light) (let k = core.coordinators in k.record_taken t (recorded_some x tops A M both u r))
 
     -- one at its commit
-    module _ (heard : SeesHeard x tops A M) (good : IsGood M) (j : ℕ) (n : Node) (parts : Parts) (here : M.nodes j ≡ Some n) (live : n.live ≡ Some parts) (q : Doing) (m : Machine) (works : doing_of u parts.coord ≡ Some q) (now : q.now ≡ Committing m) where
+    module _ (heard : SeesHeard x tops A M) (good : IsGood M) (j : ℕ) (n : Node) (parts : Parts) (here : M.nodes j ≡ Some n)
+        (live : n.live ≡ Some parts) (q : Doing) (m : Machine) (works : doing_of u parts.coord ≡ Some q) (now : q.now ≡ Committing m) where
       plan_seen : SeesPlan x tops u m A
       plan_seen = let h = heard.coords j n parts here live in h.plans u q m works now
 
@@ -198,7 +190,8 @@ module _ (x : ℕ) (tops : Kinds) (A : Office) (M : Seen) (both : SeesBoth x top
             (λ same. by_root (λ out. ⊎_elim
             (λ over. root_is_gone unbegun over.0)
             (λ kin. absurd (two (sym (its_root t kin))))
-            (kin_granted S N core c.roots (let g = c.grants in g.row) (let g = c.grants in g.root) t (granted t i h same) (own_untold, out))))
+            (kin_granted S N core c.roots (let g = c.grants in g.row) (let g = c.grants in
+            g.root) t (granted t i h same) (own_untold, out))))
             (λ less. counts_on_old off (i, h, less))
             (now_or_old t i h)
 
@@ -206,11 +199,14 @@ module _ (x : ℕ) (tops : Kinds) (A : Office) (M : Seen) (both : SeesBoth x top
         voting_fine = by (used_at x p.used) refl
           where
             only : (v : Used) → used_at x p.used ≡ Some v → v.loaded ≡ None → v.called ≡ false → UsesNone x (S.plan (uid_number w)) p.used
-            only v is unloaded uncalled y at = subst (λ (z : Used). ((z.loaded ≡ None) ⊎ ((s : ℕ) → has s z.joins ≡ true → ⊥)) × ((z.called ≡ false) ⊎ (is_some (let q = S.plan (uid_number w) in q.writes) ≡ true))) (some_is is at) (inl unloaded, inl uncalled)
+            only v is unloaded uncalled y at = subst (λ (z : Used). ((z.loaded ≡ None) ⊎ ((s : ℕ) → has s z.joins ≡ true → ⊥)) × ((z.called
+                ≡ false) ⊎ (is_some (let q = S.plan (uid_number w) in q.writes) ≡ true))) (some_is is at) (inl unloaded, inl uncalled)
 
             loads : (v : Used) → used_at x p.used ≡ Some v → (o : Option ObjectState) → v.loaded ≡ o → IsFine x A lines w u p.used
-            loads v is (Some st) loaded = let h = plan.loaded v st refl is loaded in inl (by_grant (let l = h.load in l.inc) (inl (let l = h.load in l.had)))
-            loads v is None unloaded = ⊎_elim (λ called. let l = plan.list v refl is called in inl (by_grant l.inc l.had)) (λ uncalled. inr (only v is unloaded uncalled)) (bool_cases v.called)
+            loads v is (Some st) loaded = let h = plan.loaded v st refl is loaded in
+                inl (by_grant (let l = h.load in l.inc) (inl (let l = h.load in l.had)))
+            loads v is None unloaded = ⊎_elim (λ called. let l = plan.list v refl is called in
+                inl (by_grant l.inc l.had)) (λ uncalled. inr (only v is unloaded uncalled)) (bool_cases v.called)
 
             by : (o : Option Used) → used_at x p.used ≡ o → IsFine x A lines w u p.used
             by None is = inr (λ v at. not_some is at)
@@ -237,7 +233,8 @@ module _ (x : ℕ) (tops : Kinds) (A : Office) (M : Seen) (both : SeesBoth x top
   stage_is = by (S.stage (uid_number w)) refl
     where
       recorded : is_some (S.intent (uid_number w)) ≡ true → {X : Type 0} → X
-      recorded some = absurd (⊎_elim (λ on. never on its.unconfirmed) (λ on. never on its.unlit) (let k = core.coordinators in k.record_taken (uid_number w) some))
+      recorded some = absurd (⊎_elim (λ on. never on its.unconfirmed) (λ on. never on its.unlit) (let k = core.coordinators in
+          k.record_taken (uid_number w) some))
 
       both_of : (a b : Bool) → (a && b) ≡ true → b ≡ true
       both_of true b is = is
@@ -247,23 +244,27 @@ module _ (x : ℕ) (tops : Kinds) (A : Office) (M : Seen) (both : SeesBoth x top
       by disk.Idle is = absurd (never its.sealed (ap is_sealed is))
       by disk.Preparing is = absurd (never its.sealed (ap is_sealed is))
       by disk.Confirming is = is
-      by disk.Gone is = recorded (both_of (not (decided S (uid_number w))) (is_some (S.intent (uid_number w))) (ap (λ z. not (decided S (uid_number w)) && (is_open z || is_some (S.intent (uid_number w)))) (sym is) ∙ its.opened))
+      by disk.Gone is = recorded (both_of (not (decided S (uid_number w))) (is_some (S.intent (uid_number w)))
+          (ap (λ z. not (decided S (uid_number w)) && (is_open z || is_some (S.intent (uid_number w)))) (sym is) ∙ its.opened))
 
   -- an action of that stage waits for naming
-  waits_by : (k : Kind) (now : Now) → tops.is_top (uid_number w) ≡ true → Works x tops S (uid_number w) k now → (p : commit.Plan) × (now ≡ Committing (Confirming p)) × SeesConfirming x S (uid_number w) p
+  waits_by : (k : Kind) (now : Now) → tops.is_top (uid_number w) ≡ true → Works x tops S (uid_number w) k now →
+      (p : commit.Plan) × (now ≡ Committing (Confirming p)) × SeesConfirming x S (uid_number w) p
   waits_by k now top works = of_kind k works
     where
       other : {X : Type 0} {s : Stage} → S.stage (uid_number w) ≡ s → (is_sealed s ≡ false) → X
       other is off = absurd (never its.sealed (ap is_sealed is ∙ off))
 
-      of_now : (n : Now) → now ≡ n → WorksBy x S (uid_number w) n → (p : commit.Plan) × (now ≡ Committing (Confirming p)) × SeesConfirming x S (uid_number w) p
+      of_now : (n : Now) → now ≡ n → WorksBy x S (uid_number w) n →
+          (p : commit.Plan) × (now ≡ Committing (Confirming p)) × SeesConfirming x S (uid_number w) p
       of_now Waiting is v = other v refl
       of_now (Calling s) is v = other v refl
       of_now (Committing (Voting p left)) is v = other v refl
       of_now (Committing (Preparing p left)) is v = other v.stage refl
       of_now (Committing (Confirming p)) is v = (p, is, v)
 
-      of_kind : (k : Kind) → Works x tops S (uid_number w) k now → (p : commit.Plan) × (now ≡ Committing (Confirming p)) × SeesConfirming x S (uid_number w) p
+      of_kind : (k : Kind) → Works x tops S (uid_number w) k now →
+          (p : commit.Plan) × (now ≡ Committing (Confirming p)) × SeesConfirming x S (uid_number w) p
       of_kind kind.Nested v = absurd (never top v)
       of_kind kind.Serial v = absurd (never top v.0)
       of_kind kind.Top v = of_now now refl v.1
@@ -288,14 +289,16 @@ module _ (x : ℕ) (tops : Kinds) (A : Office) (M : Seen) (both : SeesBoth x top
       ungone = ap is_gone stage_is
 
       by : (o : Option Parts) → (let n = its.node in n.live) ≡ o → IsThere
-      by None down = let s = both.disks in let d : SeesDown w.node (let k = (let n = its.node in n.disk) in k.inc) S = s.downs w.node its.node its.there down in absurd (never (d.closed w refl its.begun) ungone)
+      by None down = let s = both.disks in let d : SeesDown w.node (let k = (let n = its.node in n.disk) in
+          k.inc) S = s.downs w.node its.node its.there down in absurd (never (d.closed w refl its.begun) ungone)
       by (Some v) live = opens (branch_of w v.coord.tree) refl
         where
           sees_coord : SeesCoord x w.node (let k = (let n = its.node in n.disk) in k.inc) tops v.coord S
           sees_coord = let s = both.disks in s.coords w.node its.node v its.there live
 
           up_now : IsUp (let g = kept.0 in g.0) M.sent M.labels w.node (let k = (let n = its.node in n.disk) in k.inc) v
-          up_now = subst (IsMemory (let g = kept.0 in g.0) M.sent M.labels w.node (let k = (let n = its.node in n.disk) in k.inc)) live (let g = kept.0.1 in let p = g.places w.node its.node its.there in p.memory)
+          up_now = subst (IsMemory (let g = kept.0 in g.0) M.sent M.labels w.node (let k = (let n = its.node in n.disk) in k.inc)) live
+              (let g = kept.0.1 in let p = g.places w.node its.node its.there in p.memory)
 
           knows : KnowsUp (book M.lines) (let k = (let n = its.node in n.disk) in k.intents) v.coord
           knows = let k = kept.1 in let n = k.nodes w.node its.node its.there in n.live v live
@@ -309,15 +312,26 @@ module _ (x : ℕ) (tops : Kinds) (A : Office) (M : Seen) (both : SeesBoth x top
               made (inr off) =
                   let work = work_there v.coord (let f = up_now.faithful in f.works) w b found in
                   let s = both.disks in
-                  let q = waits_by b.kind (let d = work.0 in d.now) (s.kinds (uid_number w) its.begun).0 (sees_coord.working w b work.0 found (not_ended b.ended off) work.1) in
-                  record { parts = v; live = live; doing = work.0; plan = q.0; works = work.1; now = q.1; sees = q.2; called = knows.calls w b work.0 found work.1 (not_ended b.ended off) ∙ ap is_committing_now q.1 }
+                  let q = waits_by b.kind (let d = work.0 in
+                  d.now) (s.kinds (uid_number w) its.begun).0 (sees_coord.working w b work.0 found (not_ended b.ended off) work.1) in
+                  record {
+                    parts = v;
+                    live = live;
+                    doing = work.0;
+                    plan = q.0;
+                    works = work.1;
+                    now = q.1;
+                    sees = q.2;
+                    called = knows.calls w b work.0 found work.1 (not_ended b.ended off) ∙ ap is_committing_now q.1;
+                  }
 
   pub passing_called : IsKept M → is_on (let B = book M.lines in B.called) w ≡ true
   passing_called kept = let i = is_there kept in i.called
 
   -- who counts and is decided had its commit called before
   pub passing_before : IsKept M → SeesHeard x tops A M → KeepTurns x A M → AreBefore M.lines w S.tops
-  passing_before kept heard turns d v i counts number = by (turns.works w.node its.node y.parts its.there y.live w y.doing (Confirming y.plan) y.works y.now v (d, i, counts, sym number) apart)
+  passing_before kept heard turns d v i counts number = by
+      (turns.works w.node its.node y.parts its.there y.live w y.doing (Confirming y.plan) y.works y.now v (d, i, counts, sym number) apart)
     where
       y : IsThere
       y = is_there kept
@@ -327,7 +341,8 @@ module _ (x : ℕ) (tops : Kinds) (A : Office) (M : Seen) (both : SeesBoth x top
         where
           undone : (b : Bool) → decided S d.top ≡ b → decided S d.top ≡ false
           undone false is = is
-          undone true is = absurd (never its.opened (ap (λ (z : Uid). undecided S (uid_number z)) same ∙ ap (λ z. undecided S z) number ∙ ap (λ b. not b && (is_open (S.stage d.top) || is_some (S.intent d.top))) is))
+          undone true is = absurd (never its.opened (ap (λ (z : Uid). undecided S (uid_number z)) same ∙ ap (λ z. undecided S z) number
+              ∙ ap (λ b. not b && (is_open (S.stage d.top) || is_some (S.intent d.top))) is))
 
       none : IncludesNone (S.plan (uid_number w)) (S.plan (uid_number v)) → {X : Type 0} → X
       none n = absurd (n.0 its.store its.joins)
@@ -338,4 +353,5 @@ module _ (x : ℕ) (tops : Kinds) (A : Office) (M : Seen) (both : SeesBoth x top
       by (inl (counts_on_old off s)) = absurd (let same = its.present s.0 s.1 in let less = s.2 in omega (arith, same, less))
       by (inl (root_is_gone off gone)) = absurd (never its.begun off)
       by (inl (includes_none begun n)) = none n
-      by (inr uses) = none (plan_includes_none x tops A w y.plan (S.plan (uid_number v)) y.sees (let h = heard.coords w.node its.node y.parts its.there y.live in h.plans w y.doing (Confirming y.plan) y.works y.now) uses)
+      by (inr uses) = none (plan_includes_none x tops A w y.plan (S.plan (uid_number v)) y.sees
+          (let h = heard.coords w.node its.node y.parts its.there y.live in h.plans w y.doing (Confirming y.plan) y.works y.now) uses)

@@ -1,42 +1,31 @@
 -- A step of the disk machine keeps what is kept of tops that naming confirmed as ones that change nothing.
-use Rattle.std.proofs.Common.{◌≡◌, ◌≢◌, ◌⊎◌, ◌==◌, ◌&&◌, ◌||◌, ◌++◌, ◌∙◌, not, ℕ, Bool, true, false, List, [], ◌∷◌, Some, is_some, ap, arith, inl, inr, refl, subst, sym, ⊎_elim, eqb-true, eq-eqb}
-use Rattle.std.proofs.lemmas.List.{append_assoc}
-use Rattle.arj_base.specs.Rows.{is_on}
-use Rattle.arj_protocol.specs.Words.{Uid}
-use Rattle.arj_protocol.specs.Commit.{plan_of}
-use Rattle.arj_protocol.specs.Order.{uid_number}
-use Rattle.arj_protocol.specs.Step.{Node}
-use Rattle.arj_protocol.proofs.Numbers.{number_tells}
-use Rattle.arj_law_disk.specs.machine.Core.{Core}
-use Rattle.arj_law_disk.specs.machine.Guards.{IsPresent}
-use Rattle.arj_law_disk.specs.machine.Names.{Office}
-use Rattle.arj_law_disk.specs.machine.State.{Done, Packed, Plan, State, decided, decided_in, entry_in, is_open, undecided}
-use Rattle.arj_law_disk.specs.machine.Words.{In, has}
-use Rattle.arj_law_disk.proofs.machine.Base.{bool_cases, never, or_cases}
-use Rattle.arj_law_disk.proofs.machine.History.{in_decided}
-use Rattle.arj_promise.specs.Runs.{Seen}
-use Rattle.arj_law_disk_view.specs.view.Sees.{Kinds}
-use Rattle.arj_law_disk_view.specs.names.Both.{IsPassedNow, SeesBoth}
-use Rattle.arj_law_disk_view.specs.running.Heard.{SeesHeard}
-use Rattle.arj_law_disk_view.proofs.running.Grows.{called_later, in_both, in_front}
-use Rattle.arj_law_disk_view.proofs.deciding_lines.Steps.{HasKept, IsStep}
-use Rattle.arj_law_runs.specs.journal.Book.{book}
-use Rattle.arj_law_runs.specs.journal.Knows.{IsKept}
-use Rattle.arj_law_serial.specs.joint.Ordered.{IsCalledBefore}
-use Rattle.arj_law_serial.specs.joint.Joined.{IsRecordedAt}
-use Rattle.arj_law_serial.specs.joint.Lights.{AddsNone, IsSplit}
-use Rattle.arj_law_serial.proofs.joint.JoinStep.{EachUp, IsGrown, KeepTurns}
-use Rattle.arj_law_serial.proofs.joint.JoinTurns.{IsFine, IsFurther, Settled, before_more, called_first, changes_nothing, counts_on_old, fine_later, had_later, includes_none, root_is_gone, settled_later}
-use Rattle.arj_law_serial.proofs.joint.LightStates.{AreBeside, AreOfTwo, IsApart, IsPassed, IsPassing, KeepLights, passing_before, passing_called, passing_recorded, past, recorded_open}
-use Rattle.arj_law_serial.proofs.joint.Recording.{AreRecordedBy}
+use Rattle.arj_law_parts.proofs.Words
+use Words.{◌≡◌, ◌≢◌, ◌⊎◌, ◌==◌, ◌&&◌, ◌||◌, ◌++◌, ◌∙◌, not, ℕ, Bool, true, false, List, [], ◌∷◌, Some, is_some, ap, arith, inl, inr, refl}
+use Words.{subst, sym, ⊎_elim, eqb-true, eq-eqb, append_assoc, is_on, Uid, plan_of, uid_number, Node, number_tells, Seen}
+use Rattle.arj_law_serial.proofs.Terms
+use Terms.{Core, IsPresent, Office, Done, Packed, Plan, decided, decided_in, entry_in, is_open, undecided, has, bool_cases, never, or_cases}
+use Terms.{in_decided, Kinds, IsPassedNow, SeesBoth, SeesHeard, called_later, in_both, in_front, IsStep, book, IsKept, IsCalledBefore}
+use Terms.{IsRecordedAt, AddsNone, IsSplit}
+use Rattle.arj_law_disk.specs.machine.{State.State, Words.In}
+use Rattle.arj_law_disk_view.proofs.deciding_lines.Steps.{HasKept}
+use Rattle.arj_law_serial.proofs.joint
+use joint.{Recording.AreRecordedBy}
+use joint.JoinStep.{EachUp, IsGrown, KeepTurns}
+use joint.JoinTurns.{IsFine, IsFurther, Settled, before_more, called_first, changes_nothing, counts_on_old, fine_later, had_later}
+use joint.JoinTurns.{includes_none, root_is_gone, settled_later}
+use joint.LightStates.{AreBeside, AreOfTwo, IsApart, IsPassed, IsPassing, KeepLights, passing_before, passing_called, passing_recorded}
+use joint.LightStates.{past, recorded_open}
 
 -- It was confirmed so, or may be; and it is decided, or may be now, or the other one is of another root.
 abbrev pub IsWatched : (Uid → Type 0) → Office → Seen → Uid → Uid → Type 0
-IsWatched Cand A M w u = (IsPassed A M w ⊎ IsPassing A M w) × (u ≢ w) × ((decided A.world.disk (uid_number w) ≡ true) ⊎ (Cand w ⊎ AreOfTwo A u w))
+IsWatched Cand A M w u =
+    (IsPassed A M w ⊎ IsPassing A M w) × (u ≢ w) × ((decided A.world.disk (uid_number w) ≡ true) ⊎ (Cand w ⊎ AreOfTwo A u w))
 
 -- of two roots, or of one
 pub two_of : (A : Office) (u w : Uid) → AreOfTwo A u w ⊎ (A.world.disk.root (uid_number u) ≡ A.world.disk.root (uid_number w))
-two_of A u w = ⊎_elim (λ same. inr (eqb-true (A.world.disk.root (uid_number u)) (A.world.disk.root (uid_number w)) same)) (λ off. inl (λ same. never (eq-eqb (A.world.disk.root (uid_number u)) (A.world.disk.root (uid_number w)) same) off)) (bool_cases (A.world.disk.root (uid_number u) == A.world.disk.root (uid_number w)))
+two_of A u w = ⊎_elim (λ same. inr (eqb-true (A.world.disk.root (uid_number u)) (A.world.disk.root (uid_number w)) same))
+    (λ off. inl (λ same. never (eq-eqb (A.world.disk.root (uid_number u)) (A.world.disk.root (uid_number w)) same) off))
+    (bool_cases (A.world.disk.root (uid_number u) == A.world.disk.root (uid_number w)))
 
 -- whose outcome is open isn't decided
 pub not_decided : (S : State) (t : ℕ) → undecided S t ≡ true → decided S t ≡ true → {X : Type 0} → X
@@ -45,10 +34,14 @@ not_decided S t open_t on = absurd (never open_t (ap (λ b. not b && (is_open (S
 -- a decided top has its decision
 pub decided_out : (ds : List Done) (t : ℕ) → decided_in ds t ≡ true → (d : Done) × In d ds × (d.top ≡ t)
 decided_out [] t on = absurd (cc on)
-decided_out (e ∷ ds) t on = ⊎_elim (λ here. (e, inl refl, eqb-true e.top t here)) (λ there. let r = decided_out ds t there in (r.0, inr r.1, r.2)) (or_cases (e.top == t) (decided_in ds t) on)
+decided_out (e ∷ ds) t on = ⊎_elim (λ here. (e, inl refl, eqb-true e.top t here)) (λ there. let r = decided_out ds t there in
+    (r.0, inr r.1, r.2)) (or_cases (e.top == t) (decided_in ds t) on)
 
-module _ (x : ℕ) (tops : Kinds) (D : Office → Type 0) (C Cand : Uid → Type 0) (A : Office) (M : Seen) (both : SeesBoth x tops A M) (heard : SeesHeard x tops A M) (kept : IsKept M) (turns : KeepTurns x A M) (further : (B : Office) → D B → IsFurther A B) (grown : (B : Office) → D B → IsGrown Cand A.world B.world)
-    (opened : (w : Uid) → Cand w → undecided A.world.disk (uid_number w) ≡ true) (cand : (w : Uid) → Cand w → IsRecordedAt M w ⊎ C w) (before : KeepLights x A M) (waiting : (u : Uid) → C u → (w : Uid) → IsWatched Cand A M w u → Settled A M.lines w u) where
+module _ (x : ℕ) (tops : Kinds) (D : Office → Type 0) (C Cand : Uid → Type 0) (A : Office) (M : Seen) (both : SeesBoth x tops A M)
+    (heard : SeesHeard x tops A M) (kept : IsKept M) (turns : KeepTurns x A M) (further : (B : Office) → D B →
+    IsFurther A B) (grown : (B : Office) → D B → IsGrown Cand A.world B.world)
+    (opened : (w : Uid) → Cand w → undecided A.world.disk (uid_number w) ≡ true) (cand : (w : Uid) → Cand w → IsRecordedAt M w ⊎ C w)
+    (before : KeepLights x A M) (waiting : (u : Uid) → C u → (w : Uid) → IsWatched Cand A M w u → Settled A M.lines w u) where
   abbrev S : State
   S = A.world.disk
 
@@ -56,7 +49,8 @@ module _ (x : ℕ) (tops : Kinds) (D : Office → Type 0) (C Cand : Uid → Type
   core = (let n = both.named in let k = n.whole in k.core)
 
   -- of a top with a record, or one that waits, that isn't decided
-  settled : (u : Uid) → IsRecordedAt M u ⊎ C u → decided S (uid_number u) ≡ false → (w : Uid) → IsWatched Cand A M w u → Settled A M.lines w u
+  settled : (u : Uid) → IsRecordedAt M u ⊎ C u → decided S (uid_number u) ≡ false → (w : Uid) → IsWatched Cand A M w u →
+      Settled A M.lines w u
   settled u (inr c) undone w watched = waiting u c w watched
   settled u (inl r) undone w (either, apart, how) = by either how
     where
@@ -69,7 +63,8 @@ module _ (x : ℕ) (tops : Kinds) (D : Office → Type 0) (C Cand : Uid → Type
       by (inr passing) (inl on) = not_decided S (uid_number w) passing.opened on
       by e (inr (inr two)) = two_so e two
       by e (inr (inl c)) = ⊎_elim (λ two. two_so e two)
-          (λ same. absurd (apart (number_tells u w (let n = both.named in let k = n.roots in k.one (uid_number u) (uid_number w) (recorded_open x tops A M both u r undone) (opened w c) same))))
+          (λ same. absurd (apart (number_tells u w (let n = both.named in let k = n.roots in
+          k.one (uid_number u) (uid_number w) (recorded_open x tops A M both u r undone) (opened w c) same))))
           (two_of A u w)
 
   begun_of : (w : Uid) → IsPassed A M w ⊎ IsPassing A M w → S.begun (uid_number w) ≡ true
@@ -126,10 +121,12 @@ module _ (x : ℕ) (tops : Kinds) (D : Office → Type 0) (C Cand : Uid → Type
               light = on;
               store = p.store;
               joins = joins begun;
-              stands = ⊎_elim (λ o. inl (let l = f.later in l.opened (uid_number w) begun o)) (λ d. ⊎_elim (λ was. inr was) (λ c. inl (opened w c)) (decided_now w d)) p.stands;
+              stands = ⊎_elim (λ o. inl (let l = f.later in l.opened (uid_number w) begun o))
+                  (λ d. ⊎_elim (λ was. inr was) (λ c. inl (opened w c)) (decided_now w d)) p.stands;
             }
 
-        by : (S.light (uid_number w) ≡ true) ⊎ ((B.world.disk.tops ≡ S.tops) × IsPassedNow S B.world.disk B.names (uid_number w)) → IsPassed A M w ⊎ IsNew w
+        by : (S.light (uid_number w) ≡ true) ⊎ ((B.world.disk.tops ≡ S.tops) × IsPassedNow S B.world.disk B.names (uid_number w)) →
+            IsPassed A M w ⊎ IsNew w
         by (inl on) = inl (old on)
         by (inr (same, n)) = ⊎_elim (λ on. inl (old on)) (λ off. inr (new off)) (bool_cases (S.light (uid_number w)))
           where
@@ -148,7 +145,8 @@ module _ (x : ℕ) (tops : Kinds) (D : Office → Type 0) (C Cand : Uid → Type
                 unlit = off;
                 store = p.store;
                 joins = joins n.begun;
-                present = λ i h. (let later = present i (had_later A B f (uid_number w) i h) in let low = past x tops A M both (uid_number w) i h in let l = f.inc in omega (arith, later, low, l));
+                present = λ i h. (let later = present i (had_later A B f (uid_number w) i h) in
+                    let low = past x tops A M both (uid_number w) i h in let l = f.inc in omega (arith, later, low, l));
               };
               same = same;
               present = present;
@@ -164,7 +162,8 @@ module _ (x : ℕ) (tops : Kinds) (D : Office → Type 0) (C Cand : Uid → Type
     watched_of w u p (apart, how) = (
       either_before w p,
       apart,
-      ⊎_elim (λ on. ⊎_elim (λ was. inl was) (λ c. inr (inl c)) (decided_now w on)) (λ (two : AreOfTwo B u w). inr (inr (λ same. two (ap (λ r. r (uid_number u)) root_same ∙ same ∙ ap (λ r. r (uid_number w)) (sym root_same))))) how,
+      ⊎_elim (λ on. ⊎_elim (λ was. inl was) (λ c. inr (inl c)) (decided_now w on)) (λ (two : AreOfTwo B u w).
+          inr (inr (λ same. two (ap (λ r. r (uid_number u)) root_same ∙ same ∙ ap (λ r. r (uid_number w)) (sym root_same))))) how,
     )
 
     more_before : (v w : Uid) → IsCalledBefore M.lines v w → IsCalledBefore Z.lines v w
@@ -172,7 +171,8 @@ module _ (x : ℕ) (tops : Kinds) (D : Office → Type 0) (C Cand : Uid → Type
 
     -- ---- a decision behind its confirmation
 
-    module _ (w : Uid) (passed : IsPassed A M w) (d : Done) (v : Uid) (i : In d g.new) (counts : d.counts ≡ true) (number : uid_number v ≡ d.top) where
+    module _ (w : Uid) (passed : IsPassed A M w) (d : Done) (v : Uid) (i : In d g.new) (counts : d.counts ≡ true)
+        (number : uid_number v ≡ d.top) where
       there_now : In d B.world.disk.tops
       there_now = subst (In d) (sym g.are) (in_front d g.new S.tops i)
 
@@ -192,7 +192,12 @@ module _ (x : ℕ) (tops : Kinds) (D : Office → Type 0) (C Cand : Uid → Type
       apart same = dark (ap (λ (y : Uid). S.light (uid_number y)) same ∙ passed.light)
 
       watched : IsWatched Cand A M w v
-      watched = (inl passed, apart, ⊎_elim (λ two. inr (inr two)) (λ same. ⊎_elim (λ open_w. absurd (apart (number_tells v w (let n = both.named in let k = n.roots in k.one (uid_number v) (uid_number w) (opened v its) open_w same)))) (λ on. inl on) passed.stands) (two_of A v w))
+      watched = (
+        inl passed,
+        apart,
+        ⊎_elim (λ two. inr (inr two)) (λ same. ⊎_elim (λ open_w. absurd (apart (number_tells v w (let n = both.named in let k = n.roots in
+            k.one (uid_number v) (uid_number w) (opened v its) open_w same)))) (λ on. inl on) passed.stands) (two_of A v w),
+      )
 
       new_behind : IsCalledBefore Z.lines w v ⊎ AddsNone d
       new_behind = by (settled v (cand v its) undone w watched)
@@ -204,7 +209,8 @@ module _ (x : ℕ) (tops : Kinds) (D : Office → Type 0) (C Cand : Uid → Type
           by (root_is_gone off gone) = absurd (never (let k = core.fresh in k.conf (uid_number v) conf) off)
           by (includes_none begun none) =
               let l = f.later in
-              let mine : S.plan (uid_number v) ≡ d.plan = sym (l.plan (uid_number v) begun) ∙ ap B.world.disk.plan number ∙ sym (let k = core_now.journal in k.plan d there_now) in
+              let mine : S.plan (uid_number v) ≡ d.plan = sym (l.plan (uid_number v) begun) ∙ ap B.world.disk.plan number
+              ∙ sym (let k = core_now.journal in k.plan d there_now) in
               inr (λ s on. none.0 s (ap (λ (q : Plan). has s q.joins) mine ∙ on))
 
     -- ---- the whole
@@ -213,14 +219,17 @@ module _ (x : ℕ) (tops : Kinds) (D : Office → Type 0) (C Cand : Uid → Type
     abbrev JoinsOf : Office → Uid → List ℕ
     JoinsOf G w = (let q = G.world.disk.plan (uid_number w) in q.joins)
 
-    old_split : (w : Uid) → IsPassed A M w → IsSplit S.first_entry M.lines w (JoinsOf A w) S.tops → IsSplit B.world.disk.first_entry Z.lines w (JoinsOf B w) B.world.disk.tops
+    old_split : (w : Uid) → IsPassed A M w → IsSplit S.first_entry M.lines w (JoinsOf A w) S.tops →
+        IsSplit B.world.disk.first_entry Z.lines w (JoinsOf B w) B.world.disk.tops
     old_split w passed s = record {
       later = g.new ++ s.later;
       earlier = s.earlier;
       are = g.are ∙ ap (λ ds. g.new ++ ds) s.are ∙ sym (append_assoc g.new s.later s.earlier);
-      unlisted = λ y on listed. s.unlisted y (ap (λ (q : Plan). has y q.joins) (sym plan_same) ∙ on) (ap (λ (e : Packed). has y (let z = entry_in e s.earlier in z.content)) (let l = f.later in sym l.first_entry) ∙ listed);
+      unlisted = λ y on listed. s.unlisted y (ap (λ (q : Plan). has y q.joins) (sym plan_same) ∙ on)
+          (ap (λ (e : Packed). has y (let z = entry_in e s.earlier in z.content)) (let l = f.later in sym l.first_entry) ∙ listed);
       before = λ d v i counts number. more_before v w (s.before d v i counts number);
-      behind = λ d v i counts number. ⊎_elim (λ (j : In d g.new). new_behind w passed d v j counts number) (λ (j : In d s.later). ⊎_elim (λ c. inl (more_before w v c)) (λ n. inr n) (s.behind d v j counts number)) (in_both d g.new s.later i);
+      behind = λ d v i counts number. ⊎_elim (λ (j : In d g.new). new_behind w passed d v j counts number) (λ (j : In d s.later).
+          ⊎_elim (λ c. inl (more_before w v c)) (λ n. inr n) (s.behind d v j counts number)) (in_both d g.new s.later i);
     }
       where
         plan_same : B.world.disk.plan (uid_number w) ≡ S.plan (uid_number w)
@@ -231,13 +240,16 @@ module _ (x : ℕ) (tops : Kinds) (D : Office → Type 0) (C Cand : Uid → Type
       later = [];
       earlier = B.world.disk.tops;
       are = refl;
-      unlisted = λ y on listed. (let k = now.named in let l = k.lists in l.light (uid_number w) y p.light still_open n.present on (inr listed));
-      before = λ d v i counts number. more_before v w (passing_before x tops A M both w n.passing kept heard turns d v (subst (In d) n.same i) counts number);
+      unlisted =
+          λ y on listed. (let k = now.named in let l = k.lists in l.light (uid_number w) y p.light still_open n.present on (inr listed));
+      before = λ d v i counts number.
+          more_before v w (passing_before x tops A M both w n.passing kept heard turns d v (subst (In d) n.same i) counts number);
       behind = λ d v i. absurd i;
     }
       where
         still_open : undecided B.world.disk (uid_number w) ≡ true
-        still_open = ⊎_elim (λ o. o) (λ on. (let ps = n.passing in not_decided S (uid_number w) ps.opened (ap (λ ds. decided_in ds (uid_number w)) (sym n.same) ∙ on))) p.stands
+        still_open = ⊎_elim (λ o. o) (λ on. (let ps = n.passing in
+            not_decided S (uid_number w) ps.opened (ap (λ ds. decided_in ds (uid_number w)) (sym n.same) ∙ on))) p.stands
 
     undone_before : (z : ℕ) → decided B.world.disk z ≡ false → decided S z ≡ false
     undone_before z off = by (decided S z) refl
@@ -250,10 +262,13 @@ module _ (x : ℕ) (tops : Kinds) (D : Office → Type 0) (C Cand : Uid → Type
     keeps up_now recs = record {
       works = λ j n t here live u q m works at w how.
           let watched = watched_of w u how.0 how.1 in
-          subst (λ ls. IsFine x B ls w u (let p = plan_of m in p.used)) (sym step.lines) (fine_later A B f w (begun_of w watched.0) x M.lines step.more u (let p = plan_of m in p.used) (up_now j n t here live u q m works at w watched));
+          subst (λ ls. IsFine x B ls w u (let p = plan_of m in p.used)) (sym step.lines) (fine_later A B f w (begun_of w watched.0) x
+          M.lines step.more u (let p = plan_of m in p.used) (up_now j n t here live u q m works at w watched));
       records = λ u r undone w passed apart.
           let watched = watched_of w u passed apart in
-          subst (λ ls. Settled B ls w u) (sym step.lines) (settled_later A B f w (begun_of w watched.0) M.lines step.more u (settled u (recs u r) (undone_before (uid_number u) undone) w watched));
-      called = λ w p. subst (λ ls. is_on (let K = book ls in K.called) w ≡ true) (sym step.lines) (called_later M.lines step.more w (⊎_elim (λ passed. before.called w passed) (λ passing. passing_called x tops A M both w passing kept) (either_before w p)));
+          subst (λ ls. Settled B ls w u) (sym step.lines) (settled_later A B f w (begun_of w watched.0) M.lines step.more u
+          (settled u (recs u r) (undone_before (uid_number u) undone) w watched));
+      called = λ w p. subst (λ ls. is_on (let K = book ls in K.called) w ≡ true) (sym step.lines) (called_later M.lines step.more w
+          (⊎_elim (λ passed. before.called w passed) (λ passing. passing_called x tops A M both w passing kept) (either_before w p)));
       splits = λ w p. ⊎_elim (λ passed. old_split w passed (before.splits w passed)) (λ n. new_split w p n) (passed_before w p);
     }

@@ -1,69 +1,36 @@
--- A store that answers a Load for a binding that is current by the lock machine has the last state by the disk machine: naming made the binding last for
--- the call's top, which so has the write lock of the entry, and the entry lists the store.
-use Rattle.std.proofs.Common.{◌≡◌, ◌||◌, ◌∙◌, ℕ, List, [], ◌∷◌, Bool, true, false, cond, Option, Some, None, is_some, refl, sym, ap, subst, inl, inr, arith}
-use Rattle.arj_lock.proofs.Members as list
-use Rattle.arj_protocol.specs.Words.{Ask, Asked, Head, Header, Message, ObjectState, Uid, asks, object}
-use Rattle.arj_protocol.specs.Words.ask
-use Rattle.arj_protocol.specs.Words.ending
-use Rattle.arj_protocol.specs.Words.loaded
-use Rattle.arj_protocol.specs.Words.message
-use Rattle.arj_protocol.specs.Ask.{Reply, actor, answers, asked_by, response, top_of}
-use Rattle.arj_protocol.specs.Asking.{heard}
-use Rattle.arj_protocol.specs.Call.{Known, ask_at, is_include}
-use Rattle.arj_protocol.specs.Coord.{Coord, Doing, doing_of}
-use Rattle.arj_protocol.specs.Effect.{Disk, Do, Effect, Intent, Look, Send, held_at, holder_of}
-use Rattle.arj_protocol.specs.Ending.{acked, answer_query, answer_decided, answer_recorded, is_deferred, is_kept_commit, root_or_self, tell}
-use Rattle.arj_protocol.specs.Named.{Made, Named}
-use Rattle.arj_protocol.specs.Naming.{Naming}
-use Rattle.arj_protocol.specs.Node.{Parts, Took, handle_ask, load_by, load_held, serve}
-use Rattle.arj_protocol.specs.Order.{at_number, at_uid, binding_number, has, uid_number}
-use Rattle.arj_protocol.specs.Step.{Node}
-use Rattle.arj_protocol.specs.Tree.{branch_of, is_open, is_own}
-use Rattle.arj_law_parts.specs.parts.Actions.{Action, AreBegun, paths_of}
-use Rattle.arj_law_parts.specs.parts.Coords.{IsGoodCoord}
-use Rattle.arj_law_parts.specs.parts.Requests.{IsNumbered}
-use Rattle.arj_law_parts.proofs.parts.Begun.{begun_tree, path_found}
-use Rattle.arj_law_parts.proofs.parts.GoodCoords.{doing_by}
-use Rattle.arj_law_parts.proofs.parts.TrueSteps.{well_acked, well_heard}
-use Rattle.arj_law_runs.specs.kept.Worlds.{IsUp}
-use Rattle.arj_promise.specs.Runs.{Seen}
-use Rattle.arj_law_runs.specs.calls.Coords.{bare}
-use Rattle.arj_law_runs.proofs.calls.WorldSteps.{reads_back}
-use Rattle.arj_law_disk.specs.machine.Names.{Office}
-use Rattle.arj_law_disk.specs.machine.State as disk
-use Rattle.arj_law_disk.specs.machine.State.{is_gone, is_idle, last, undecided}
-use Rattle.arj_law_disk.proofs.machine.Base.{some_is, test_same}
+-- A store that answers a Load for a binding that is current by the lock machine has the last state by the disk machine: naming made the
+-- binding last for the call's top, which so has the write lock of the entry, and the entry lists the store.
+use Rattle.arj_law_parts.proofs.Words
+use Words.{◌≡◌, ◌||◌, ◌∙◌, ℕ, List, [], ◌∷◌, Bool, true, false, cond, Option, Some, None, is_some, refl, sym, ap, subst, inl, inr, arith}
+use Words.{Ask, Asked, Head, Header, Message, ObjectState, Uid, asks, object, Reply, actor, answers, asked_by, response, top_of, heard}
+use Words.{Known, ask_at, is_include, Coord, Doing, doing_of, Disk, Do, Effect, Intent, Look, Send, held_at, holder_of, acked, answer_query}
+use Words.{answer_decided, answer_recorded, is_deferred, is_kept_commit, root_or_self, tell, Made, Named, Naming, Parts, Took, handle_ask}
+use Words.{load_by, load_held, serve, at_number, at_uid, binding_number, has, uid_number, Node, branch_of, is_open, is_own, Seen}
+use Words.list
+use Words.ask
+use Words.ending
+use Words.loaded
+use Words.message
+use Rattle.arj_law_serial.proofs.Terms
+use Terms.{Action, AreBegun, paths_of, IsGoodCoord, IsNumbered, begun_tree, path_found, doing_by, well_acked, well_heard, IsUp, reads_back}
+use Terms.{Office, is_gone, is_idle, last, undecided, some_is, test_same, packed, node_here, SeesHeard, IsAskedBy, State, Holds, run_keeps}
+use Terms.{start_holds, SeesNothing, SeesNamingIn, binding_at, SeesNaming, Case, IsSeenIn, Spot, world_at, Fixed, view_of, HasCome, case_of}
+use Terms.{SeesDown, SeesLocks, SeesMemory, its, IsSentTo, AwaitsLoad}
+use Terms.disk
+use Terms.state as machine
 use Rattle.arj_law_disk.proofs.machine.Loading.{loads_the_last}
-use Rattle.arj_law_disk_view.specs.view.Pairs.{packed}
-use Rattle.arj_law_disk_view.proofs.view.Frames.{node_here}
+use Rattle.arj_law_disk_view.proofs.running.{ListedRuns.loads_listed, LoadTops.top_rooted, LoadTops.top_works}
 use Rattle.arj_law_disk_view.proofs.view.StoreSteps.{stores_load}
-use Rattle.arj_law_disk_view.specs.running.Heard.{SeesCall, SeesHeard, is_bound}
-use Rattle.arj_law_disk_view.specs.running.Listed.{AnswersList, IsLoading, LoadsListed}
-use Rattle.arj_law_disk_view.proofs.running.ListedRuns.{loads_listed}
-use Rattle.arj_law_disk_view.proofs.running.LoadTops.{top_rooted, top_works}
-use Rattle.arj_law_lock_view.specs.facts.Requests.{AreAsked, IsAskedBy}
-use Rattle.arj_law_lock.specs.machine.Actions.{Act, is_top}
-use Rattle.arj_law_lock.specs.machine.State as machine
-use Rattle.arj_law_lock.specs.machine.State.{State}
-use Rattle.arj_law_lock.specs.machine.Steps.{IsCurrent}
-use Rattle.arj_law_lock.proofs.machine.Claims.{Holds}
-use Rattle.arj_law_lock.proofs.machine.Order.{run_keeps, start_holds}
-use Rattle.arj_law_lock_view.specs.view.Ends.{SeesNothing}
-use Rattle.arj_law_lock_view.specs.view.Hearing.{SeesNamingIn}
-use Rattle.arj_law_lock_view.specs.view.Named.{binding_at}
-use Rattle.arj_law_lock_view.specs.view.Namings.{SeesNaming}
-use Rattle.arj_law_lock_view.specs.running.Beside.{Case, IsSeenIn, Spot, world_at}
-use Rattle.arj_law_lock_view.specs.running.Fixed.{Fixed, view_of}
-use Rattle.arj_law_lock_view.specs.running.Kept.{HasCome, case_of}
-use Rattle.arj_law_lock_view.specs.running.Sees.{SeesDown, SeesLocks, SeesMemory}
-use Rattle.arj_law_lock_view.proofs.running.GoodSteps.{its}
-use Rattle.arj_law_lock_view.proofs.running.LeftSteps.{IsPlain, IsSentTo}
-use Rattle.arj_law_serial.specs.joint.Loads.{AwaitsLoad}
-use Rattle.arj_law_serial.proofs.whole.CoordCases as cases
+use Rattle.arj_law_disk_view.specs.running.{Heard.SeesCall, Heard.is_bound, Listed.AnswersList, Listed.IsLoading, Listed.LoadsListed}
+use Rattle.arj_law_lock.specs.machine.{Actions.Act, Actions.is_top, Steps.IsCurrent}
+use Rattle.arj_law_lock_view.proofs.running.LeftSteps.{IsPlain}
+use Rattle.arj_law_lock_view.specs.facts.Requests.{AreAsked}
+use Rattle.arj_law_runs.specs.calls.Coords.{bare}
+use Rattle.arj_law_serial.proofs.joint
+use joint.{Given.AreBeside, Given.IsLastThere, Mute.AllSilent, Mute.silent_in, Mute.true_silent}
+use joint.LoadGuards.{as_it_is, maker_there}
 use Rattle.arj_law_serial.proofs.whole.CoordCases.{CoordCase, coord_case}
-use Rattle.arj_law_serial.proofs.joint.Given.{AreBeside, IsLastThere}
-use Rattle.arj_law_serial.proofs.joint.LoadGuards.{as_it_is, maker_there}
-use Rattle.arj_law_serial.proofs.joint.Mute.{AllSilent, silent_in, true_silent}
+use Rattle.arj_law_serial.proofs.whole.CoordCases as cases
 
 -- ---- naming made the binding last
 
@@ -82,7 +49,8 @@ pub record HasMade (x : ℕ) (M : Seen) (t : Uid) (b : ℕ) : Type 0 where
   pub unrecorded : made.recorded ≡ false
   pub same : binding_number made.binding ≡ b
 
-module _ (f : Fixed) (x : ℕ) (begun : List Action) (S : State) (M : Seen) (seen : SeesLocks f x begun S M) (b : ℕ) (t : Uid) (maker : Act) (is_it : maker ≡ f.act t) (top : is_top (f.act t) ≡ true) (current : IsCurrent S.naming maker b) where
+module _ (f : Fixed) (x : ℕ) (begun : List Action) (S : State) (M : Seen) (seen : SeesLocks f x begun S M) (b : ℕ) (t : Uid) (maker : Act)
+    (is_it : maker ≡ f.act t) (top : is_top (f.act t) ≡ true) (current : IsCurrent S.naming maker b) where
   holds : Holds S
   holds = run_keeps seen.run (start_holds f.first)
 
@@ -92,8 +60,22 @@ module _ (f : Fixed) (x : ℕ) (begun : List Action) (S : State) (M : Seen) (see
   last_is : S.naming.made (f.act t) ≡ b
   last_is = ap S.naming.made (sym is_it) ∙ current.last
 
-  made_at : (n : Node) (p : Parts) (m : Naming) → M.nodes 1 ≡ Some n → n.live ≡ Some p → p.naming ≡ Some m → SeesNaming (view_of f x begun 1) m S → HasMade x M t b
-  made_at n p m here live named z = record { first = n; names = p; naming = m; there = here; first_live = live; named = named; object = z.named; made = newest.0; found = z.there; newest = newest.1; unrecorded = fresh (let y = newest.0 in y.recorded) refl; same = newest.2 ∙ last_is }
+  made_at : (n : Node) (p : Parts) (m : Naming) → M.nodes 1 ≡ Some n → n.live ≡ Some p → p.naming ≡ Some m →
+      SeesNaming (view_of f x begun 1) m S → HasMade x M t b
+  made_at n p m here live named z = record {
+    first = n;
+    names = p;
+    naming = m;
+    there = here;
+    first_live = live;
+    named = named;
+    object = z.named;
+    made = newest.0;
+    found = z.there;
+    newest = newest.1;
+    unrecorded = fresh (let y = newest.0 in y.recorded) refl;
+    same = newest.2 ∙ last_is;
+  }
     where
       newest : (r : Made) × (at_uid t (let o = z.named in o.made) ≡ Some r) × (binding_number r.binding ≡ S.naming.made (f.act t))
       newest = let q = z.seen in q.making t top (omega (arith, last_is, current.present)) (ap S.naming.told (sym is_it) ∙ current.untold)
@@ -112,11 +94,13 @@ module _ (f : Fixed) (x : ℕ) (begun : List Action) (S : State) (M : Seen) (see
       down_not : (d : Disk) → SeesDown (view_of f x begun 1) S d → ⊥
       down_not d down = none_made d.inc (down.naming refl)
 
-      by_naming : (n : Node) (p : Parts) → M.nodes 1 ≡ Some n → n.live ≡ Some p → (o : Option Naming) → p.naming ≡ o → is_some o ≡ true → SeesNamingIn (view_of f x begun 1) S o → HasMade x M t b
+      by_naming : (n : Node) (p : Parts) → M.nodes 1 ≡ Some n → n.live ≡ Some p → (o : Option Naming) → p.naming ≡ o → is_some o ≡ true →
+          SeesNamingIn (view_of f x begun 1) S o → HasMade x M t b
       by_naming n p here live None named some sees = absurd (cc some)
       by_naming n p here live (Some m) named some sees = made_at n p m here live named sees
 
-      by_live : (n : Node) → M.nodes 1 ≡ Some n → (o : Option Parts) → n.live ≡ o → SeesMemory (view_of f x begun 1) S n.disk o → HasMade x M t b
+      by_live : (n : Node) → M.nodes 1 ≡ Some n → (o : Option Parts) → n.live ≡ o → SeesMemory (view_of f x begun 1) S n.disk o →
+          HasMade x M t b
       by_live n here None live down = absurd (down_not n.disk down)
       by_live n here (Some p) live sees = by_naming n p here live p.naming refl sees.place sees.naming
 
@@ -135,7 +119,8 @@ plain_none _ is = absurd is
 query_silent : (from : ℕ) (u : Uid) (intents : List (Uid × Intent)) (c : Coord) → AllSilent (answer_query from u intents c)
 query_silent from u intents c = by (is_open u c.tree || is_deferred u intents from)
   where
-    decided : (b : Bool) → AllSilent (cond b (tell (root_or_self u (branch_of u c.tree)) false ((u, ending.Commit) ∷ []) from ∷ []) (tell (root_or_self u (branch_of u c.tree)) false ((u, ending.Abort) ∷ []) from ∷ []))
+    decided : (b : Bool) → AllSilent (cond b (tell (root_or_self u (branch_of u c.tree)) false ((u, ending.Commit) ∷ []) from ∷ [])
+        (tell (root_or_self u (branch_of u c.tree)) false ((u, ending.Abort) ∷ []) from ∷ []))
     decided true = (refl, tt)
     decided false = (refl, tt)
 
@@ -155,7 +140,9 @@ load_bare : (a : Ask) (y : ℕ) → bare a ≡ ask.Load y → a ≡ ask.Load y
 load_bare (ask.Invoke x b i ends o) y is = absurd (cc is)
 load_bare a y is = is
 
-module _ (c : Case) (s : Spot) (is_seen : IsSeenIn c (world_at s)) (asked : AreAsked (world_at s)) (from : ℕ) (m : Message) (v : Parts) (outs : List Effect) (come : HasCome s from m v outs) (to : ℕ) (z : Message) (a : Asked) (st : ObjectState) (k : Known) (out : list.In (Send to z) outs) (is : answers z ≡ Some (a, Reply.Loaded (loaded.State st))) (w : AwaitsLoad c.x (world_at s) a to s.node k) where
+module _ (c : Case) (s : Spot) (is_seen : IsSeenIn c (world_at s)) (asked : AreAsked (world_at s)) (from : ℕ) (m : Message) (v : Parts)
+    (outs : List Effect) (come : HasCome s from m v outs) (to : ℕ) (z : Message) (a : Asked) (st : ObjectState) (k : Known) (out : list.In
+    (Send to z) outs) (is : answers z ≡ Some (a, Reply.Loaded (loaded.State st))) (w : AwaitsLoad c.x (world_at s) a to s.node k) where
   begun : AreBegun c.begun
   begun = let g = is_seen.good in g.begun
 
@@ -163,7 +150,8 @@ module _ (c : Case) (s : Spot) (is_seen : IsSeenIn c (world_at s)) (asked : AreA
   coord = let i = its c s is_seen in let n = i.good (paths_of c.begun) (begun_tree c.begun begun) (path_found c.begun begun) in n.coord
 
   not_silent : AllSilent outs → ⊥
-  not_silent all = let no_way : ◌≡◌ {A = Option (Asked × Reply)} None (Some (a, Reply.Loaded (loaded.State st))) = sym (silent_in outs all to z out) ∙ is in cc no_way
+  not_silent all = let no_way : ◌≡◌ {A = Option (Asked × Reply)} None (Some (a, Reply.Loaded (loaded.State st))) = sym
+      (silent_in outs all to z out) ∙ is in cc no_way
 
   -- the request, to whose asker the answer goes
   abbrev IsRequest : Type 0
@@ -173,22 +161,27 @@ module _ (c : Case) (s : Spot) (is_seen : IsSeenIn c (world_at s)) (asked : AreA
   request = by (coord_case s.node s.disk s.parts v from m outs come.takes)
     where
       sent_so : (o : Option (Head × Ask)) → asks m ≡ o → IsSentTo from o to z → IsRequest
-      sent_so None none plain = let no_way : ◌≡◌ {A = Option (Asked × Reply)} None (Some (a, Reply.Loaded (loaded.State st))) = sym (plain_none z plain) ∙ is in absurd (cc no_way)
-      sent_so (Some q) asking (back, (r, same)) = (q, asking, back, ap (λ (y : Asked × Reply). y.0) (some_is (ap answers same ∙ reads_back (asked_by q.0) r) is))
+      sent_so None none plain = let no_way : ◌≡◌ {A = Option (Asked × Reply)} None (Some (a, Reply.Loaded (loaded.State st))) = sym
+          (plain_none z plain) ∙ is in absurd (cc no_way)
+      sent_so (Some q) asking (back, (r, same)) =
+          (q, asking, back, ap (λ (y : Asked × Reply). y.0) (some_is (ap answers same ∙ reads_back (asked_by q.0) r) is))
 
       by : CoordCase s.disk s.parts from m v outs → IsRequest
       by (cases.OfParts mine same plain sent) = sent_so (asks m) refl (sent to z out)
-      by (cases.Asks u which same outs_are) = absurd (not_silent (subst AllSilent outs_are (query_silent from u (let d = s.disk in d.intents) (let t = s.parts in t.coord))))
+      by (cases.Asks u which same outs_are) =
+          absurd (not_silent (subst AllSilent outs_are (query_silent from u (let d = s.disk in d.intents) (let t = s.parts in t.coord))))
       by (cases.Heard b r which same outs_are) =
           let intents = (let d = s.disk in d.intents) in
           let C = (let t = s.parts in t.coord) in
           let D = heard from b r intents C in
-          absurd (not_silent (subst AllSilent outs_are (true_silent D.part D.outs (well_heard c.begun (paths_of c.begun) (begun_tree c.begun begun) from b r intents C coord).1)))
+          absurd (not_silent (subst AllSilent outs_are
+          (true_silent D.part D.outs (well_heard c.begun (paths_of c.begun) (begun_tree c.begun begun) from b r intents C coord).1)))
       by (cases.Acks u which same outs_are) =
           let intents = (let d = s.disk in d.intents) in
           let C = (let t = s.parts in t.coord) in
           let D = acked from u intents C in
-          absurd (not_silent (subst AllSilent outs_are (true_silent D.part D.outs (well_acked c.begun (paths_of c.begun) (begun_tree c.begun begun) from u intents C).1)))
+          absurd (not_silent (subst AllSilent outs_are
+          (true_silent D.part D.outs (well_acked c.begun (paths_of c.begun) (begun_tree c.begun begun) from u intents C).1)))
 
   abbrev h : Head
   h = request.0.0
@@ -207,7 +200,8 @@ module _ (c : Case) (s : Spot) (is_seen : IsSeenIn c (world_at s)) (asked : AreA
   waits_at = let p = w.parts in p.coord
 
   by_it : IsAskedBy waits_at s.node h request.0.1
-  by_it = asked to w.node w.parts w.here w.live (record { from = from; to = s.node; message = m }) h request.0.1 come.sent (sym request.2) request.1 (ap (λ (u : Uid). is_own u (let k = waits_at in k.tree)) asker ∙ (doing_by (let b = a in b.act) waits_at w.doing w.found).0)
+  by_it = asked to w.node w.parts w.here w.live (record { from = from; to = s.node; message = m }) h request.0.1 come.sent (sym request.2)
+      request.1 (ap (λ (u : Uid). is_own u (let k = waits_at in k.tree)) asker ∙ (doing_by (let b = a in b.act) waits_at w.doing w.found).0)
 
   same_doing : (let b = by_it in b.doing) ≡ w.doing
   same_doing = some_is (let b = by_it in b.found) (ap (λ (u : Uid). doing_of u waits_at) asker ∙ w.found)
@@ -215,7 +209,8 @@ module _ (c : Case) (s : Spot) (is_seen : IsSeenIn c (world_at s)) (asked : AreA
   number : h.req ≡ (let b = by_it in let d = b.doing in d.req)
   number =
       let i = its c spot seen_there in
-      ap (λ (y : Asked). y.req) request.3 ∙ sym w.request ∙ subst (IsNumbered (let d = w.doing in d.req)) w.now (i.numbered (let b = a in b.act) w.doing w.found) ∙ ap (λ (d : Doing). d.req) (sym same_doing)
+      ap (λ (y : Asked). y.req) request.3 ∙ sym w.request ∙ subst (IsNumbered (let d = w.doing in d.req)) w.now
+      (i.numbered (let b = a in b.act) w.doing w.found) ∙ ap (λ (d : Doing). d.req) (sym same_doing)
 
   loads : request.0.1 ≡ ask.Load c.x
   loads =
@@ -247,7 +242,8 @@ module _ (c : Case) (s : Spot) (is_seen : IsSeenIn c (world_at s)) (asked : AreA
       state_of : (q : ObjectState) → Reply.Loaded (loaded.State q) ≡ Reply.Loaded (loaded.State st) → q ≡ st
       state_of q e = cc e
 
-      held : holder_of (object c.x) (let d = s.disk in d.store) ≡ None → (o : Option ObjectState) → held_at (object c.x) (let d = s.disk in d.store) ≡ o → load_held from h s.parts o ≡ Took v outs → IsThere
+      held : holder_of (object c.x) (let d = s.disk in d.store) ≡ None → (o : Option ObjectState) →
+          held_at (object c.x) (let d = s.disk in d.store) ≡ o → load_held from h s.parts o ≡ Took v outs → IsThere
       held free None there e = absurd (cc e)
       held free (Some q) there e = last (subst (list.In (Send to z)) (sym (outs_of e)) out)
         where
@@ -256,7 +252,8 @@ module _ (c : Case) (s : Spot) (is_seen : IsSeenIn c (world_at s)) (asked : AreA
           last (inr (inl same)) = (free, there ∙ ap Some (state_of q (sent_state (Reply.Loaded (loaded.State q)) (message_of same))))
           last (inr (inr none)) = absurd none
 
-      by : (o : Option Uid) → holder_of (object c.x) (let d = s.disk in d.store) ≡ o → load_by c.x (let d = s.disk in d.store) from h s.parts o ≡ Took v outs → IsThere
+      by : (o : Option Uid) → holder_of (object c.x) (let d = s.disk in d.store) ≡ o →
+          load_by c.x (let d = s.disk in d.store) from h s.parts o ≡ Took v outs → IsThere
       by None free e = held free (held_at (object c.x) (let d = s.disk in d.store)) refl e
       by (Some u) holder e = last (subst (list.In (Send to z)) (sym (outs_of e)) out)
         where
@@ -266,8 +263,11 @@ module _ (c : Case) (s : Spot) (is_seen : IsSeenIn c (world_at s)) (asked : AreA
 
 -- ---- so it is the last one
 
-module _ (hd : Header) (f : Fixed) (x : ℕ) (begun : List Action) (S : State) (s : Spot) (b : AreBeside hd f x begun S (world_at s)) (lists : AnswersList x (let y = b in y.tops) (let y = b in y.office) (world_at s)) (from : ℕ) (m : Message) (v : Parts) (outs : List Effect) (come : HasCome s from m v outs) (to : ℕ) (z : Message) (a : Asked) (st : ObjectState) (k : Known)
-    (out : list.In (Send to z) outs) (is : answers z ≡ Some (a, Reply.Loaded (loaded.State st))) (w : AwaitsLoad x (world_at s) a to s.node k) (current : IsCurrent S.naming (let y = binding_at S k.binding in y.maker) (binding_number k.binding)) where
+module _ (hd : Header) (f : Fixed) (x : ℕ) (begun : List Action) (S : State) (s : Spot) (b : AreBeside hd f x begun S (world_at s))
+    (lists : AnswersList x (let y = b in y.tops) (let y = b in y.office) (world_at s)) (from : ℕ) (m : Message) (v : Parts)
+    (outs : List Effect) (come : HasCome s from m v outs) (to : ℕ) (z : Message) (a : Asked) (st : ObjectState) (k : Known)
+    (out : list.In (Send to z) outs) (is : answers z ≡ Some (a, Reply.Loaded (loaded.State st))) (w : AwaitsLoad x (world_at s) a to s.node
+    k) (current : IsCurrent S.naming (let y = binding_at S k.binding in y.maker) (binding_number k.binding)) where
   abbrev M : Seen
   M = world_at s
 
@@ -287,7 +287,8 @@ module _ (hd : Header) (f : Fixed) (x : ℕ) (begun : List Action) (S : State) (
   made =
       let waits = (let g = b.whole in let y = g.works in let e = y.1 in (e.nodes to w.node w.parts w.here w.live).0).waits in
       let q = maker_there (case_of f x begun S) M b.seen a to s.node k w waits in
-      has_made f x begun S M (let y = b.seen in y.sees) (binding_number k.binding) its_top (let y = binding_at S k.binding in y.maker) q.1 q.0 current
+      has_made f x begun S M (let y = b.seen in y.sees) (binding_number k.binding) its_top (let y = binding_at S k.binding in
+      y.maker) q.1 q.0 current
 
   abbrev loading : IsLoading x M
   loading = record {
@@ -324,7 +325,8 @@ module _ (hd : Header) (f : Fixed) (x : ℕ) (begun : List Action) (S : State) (
 
   -- the asker's coordinator
   its_up : IsUp begun (world_at s).sent (world_at s).labels to (let n = w.node in let d = n.disk in d.inc) w.parts
-  its_up = its (case_of f x begun S) (record { node = to; disk = (let n = w.node in n.disk); parts = w.parts; seen = M }) (subst (IsSeenIn (case_of f x begun S)) (sym (as_it_is to w.node w.parts M w.here w.number w.live)) b.seen)
+  its_up = its (case_of f x begun S) (record { node = to; disk = (let n = w.node in n.disk); parts = w.parts; seen = M })
+      (subst (IsSeenIn (case_of f x begun S)) (sym (as_it_is to w.node w.parts M w.here w.number w.live)) b.seen)
 
   acts_begun : AreBegun begun
   acts_begun = let y = b.seen in let g = y.good in g.begun
@@ -336,15 +338,20 @@ module _ (hd : Header) (f : Fixed) (x : ℕ) (begun : List Action) (S : State) (
   heard_so = b.carried.0.0.0
 
   call : SeesCall x b.tops its_coord w.steps A.names
-  call = let y = heard_so.coords to w.node w.parts w.here w.live in y.calls a.act w.doing w.steps w.found w.now w.about (ap is_include w.goal) (ap is_bound w.waits)
+  call = let y = heard_so.coords to w.node w.parts w.here w.live in
+      y.calls a.act w.doing w.steps w.found w.now w.about (ap is_include w.goal) (ap is_bound w.waits)
 
   idle : A.world.disk.stage (uid_number its_top) ≡ disk.Idle
-  idle = top_works begun acts_begun its_coord good_coord (let i = its_up in let g = i.faithful in g.works) a.act w.doing w.steps w.found w.now call.own x to (let n = w.node in let d = n.disk in d.inc) b.tops A.world.disk (let e = (let y = b.both in y.disks) in e.coords to w.node w.parts w.here w.live)
+  idle = top_works begun acts_begun its_coord good_coord (let i = its_up in let g = i.faithful in
+      g.works) a.act w.doing w.steps w.found w.now call.own x to (let n = w.node in let d = n.disk in
+      d.inc) b.tops A.world.disk (let e = (let y = b.both in y.disks) in e.coords to w.node w.parts w.here w.live)
 
   rooted : is_gone (A.world.disk.stage (A.world.disk.root (uid_number its_top))) ≡ false
   rooted =
       let e = (let y = b.both in y.disks) in
-      top_rooted begun acts_begun its_coord good_coord (let i = its_up in let g = i.faithful in g.works) a.act w.doing w.steps w.found w.now call.own x to (let n = w.node in let d = n.disk in d.inc) b.tops A.world.disk (e.coords to w.node w.parts w.here w.live) e.fixed call.top
+      top_rooted begun acts_begun its_coord good_coord (let i = its_up in let g = i.faithful in
+      g.works) a.act w.doing w.steps w.found w.now call.own x to (let n = w.node in let d = n.disk in
+      d.inc) b.tops A.world.disk (e.coords to w.node w.parts w.here w.live) e.fixed call.top
 
   listed : LoadsListed x A M loading
   listed =
@@ -362,8 +369,10 @@ module _ (hd : Header) (f : Fixed) (x : ℕ) (begun : List Action) (S : State) (
   is_last : (packed st ≡ last A.world.disk) × ((y : ℕ) → A.world.disk.conf y ≡ true → undecided A.world.disk y ≡ true → ⊥)
   is_last =
       let e = (let y = b.both in y.disks) in
-      let q = stores_load x s.node (let d = s.disk in d.store) A.world.disk st (e.stores s.node (record { number = s.node; disk = s.disk; live = Some s.parts }) here) stored.0 stored.1 in
-      loads_the_last A (let y = b.both in y.named) (uid_number its_top) s.node (packed st) listed.holds (listed.listed s.node first_asked) q.0 q.1
+      let q = stores_load x s.node (let d = s.disk in d.store) A.world.disk st
+      (e.stores s.node (record { number = s.node; disk = s.disk; live = Some s.parts }) here) stored.0 stored.1 in
+      loads_the_last A (let y = b.both in
+      y.named) (uid_number its_top) s.node (packed st) listed.holds (listed.listed s.node first_asked) q.0 q.1
 
   pub last_there : IsLastThere x b.office (world_at s) st
   last_there = record {

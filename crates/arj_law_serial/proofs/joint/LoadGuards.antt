@@ -1,34 +1,16 @@
 -- What a store gives to a call that waits, it may give by the lock machine, where that is the last committed state.
-use Rattle.std.proofs.Common.{◌≡◌, ◌≤◌, ◌⊎◌, ◌∙◌, ℕ, true, List, cond, Some, sym, ap, subst, ⊎_elim, arith}
-use Rattle.arj_protocol.specs.Words.{Asked, ObjectState, Op, Uid}
-use Rattle.arj_protocol.specs.Ask.{actor, top_of}
-use Rattle.arj_protocol.specs.Call.{AtLoad, Known, Run, Steps}
-use Rattle.arj_protocol.specs.Coord.{Calling, Coord, Doing, doing_of}
-use Rattle.arj_protocol.specs.Node.{Parts}
-use Rattle.arj_protocol.specs.Order.{binding_number}
-use Rattle.arj_protocol.specs.Step.{Node}
-use Rattle.arj_protocol.specs.Tree.{Branch}
-use Rattle.arj_law_parts.specs.parts.Coords.{IsAsking, IsBusy}
-use Rattle.arj_law_lock.specs.machine.Actions.{Act, In, is_top, root}
-use Rattle.arj_law_lock.specs.machine.Machine.{Guard}
-use Rattle.arj_law_lock.specs.machine.State as machine
-use Rattle.arj_law_lock.specs.machine.State.{State}
-use Rattle.arj_law_lock.specs.machine.Steps.{Load}
-use Rattle.arj_law_parts.specs.moves.Seen.{up}
-use Rattle.arj_promise.specs.Runs.{Seen}
-use Rattle.arj_law_runs.proofs.kept.Walked.{other_number, same_number}
-use Rattle.arj_law_lock_view.specs.facts.Works.{KnowsWaits}
-use Rattle.arj_law_lock_view.specs.view.Calling.{IsReached, IsWaiting}
-use Rattle.arj_law_lock_view.specs.view.Copies.{state_code}
-use Rattle.arj_law_lock_view.specs.view.Roots.{SeesCoord, SeesStep}
-use Rattle.arj_law_lock_view.specs.view.Named.{binding_at}
-use Rattle.arj_law_lock_view.proofs.view.CallingSteps.{holds, kp, stays_rebound, step_seen, tied_kept, top_unit}
-use Rattle.arj_law_lock_view.specs.running.Answers.{IsLastFor}
-use Rattle.arj_law_lock_view.specs.running.Beside.{Case, IsSeenIn, Spot, world_at}
-use Rattle.arj_law_lock_view.specs.running.Coordinating.{IsWorking, coord_at}
-use Rattle.arj_law_lock_view.specs.running.Fixed.{Fixed}
+use Rattle.arj_law_parts.proofs.Words
+use Words.{◌≡◌, ◌≤◌, ◌⊎◌, ◌∙◌, ℕ, true, List, cond, Some, sym, ap, subst, ⊎_elim, arith, Asked, ObjectState, Op, Uid, actor, top_of, AtLoad}
+use Words.{Known, Run, Steps, Calling, Coord, Doing, doing_of, Parts, binding_number, Node, Branch, Seen}
+use Rattle.arj_law_serial.proofs.Terms
+use Terms.{IsAsking, IsBusy, root, Guard, State, Load, up, other_number, same_number, state_code, binding_at, IsLastFor, Case, IsSeenIn}
+use Terms.{Spot, world_at, coord_at, Fixed, AwaitsLoad}
+use Terms.state as machine
+use Rattle.arj_law_lock.specs.machine.Actions.{Act, In, is_top}
 use Rattle.arj_law_lock_view.proofs.running.WorkSteps.{here, placed, reached_S, waits_in, works_in}
-use Rattle.arj_law_serial.specs.joint.Loads.{AwaitsLoad}
+use Rattle.arj_law_lock_view.proofs.view.CallingSteps.{holds, kp, stays_rebound, step_seen, tied_kept, top_unit}
+use Rattle.arj_law_lock_view.specs.{facts.Works.KnowsWaits, running.Coordinating.IsWorking, view.Calling.IsReached, view.Calling.IsWaiting}
+use Rattle.arj_law_lock_view.specs.{view.Roots.SeesCoord, view.Roots.SeesStep}
 
 -- ---- a node as it is
 
@@ -44,13 +26,17 @@ as_it_is j n t M there number live = λ i. record M { nodes = λ m. each m i }
 
     each : (m : ℕ) → (let W = up j n.disk t M in W.nodes m) ≡ M.nodes m
     each m = ⊎_elim
-        (λ (same : m ≡ j). subst (λ (q : ℕ). (let W = up j n.disk t M in W.nodes q) ≡ M.nodes q) (sym same) ((λ i. cond (same_number j i) (Some (record { number = j; disk = n.disk; live = Some t })) (M.nodes j)) ∙ ap Some its_node ∙ sym there))
-        (λ (other : m ≡ j → ⊥). λ i. cond (other_number m j other i) (Some (record { number = j; disk = n.disk; live = Some t })) (M.nodes m))
+        (λ (same : m ≡ j). subst (λ (q : ℕ). (let W = up j n.disk t M in W.nodes q) ≡ M.nodes q) (sym same) ((λ i. cond (same_number j i)
+        (Some (record { number = j; disk = n.disk; live = Some t })) (M.nodes j)) ∙ ap Some its_node ∙ sym there))
+        (λ (other : m ≡ j → ⊥). λ i.
+        cond (other_number m j other i) (Some (record { number = j; disk = n.disk; live = Some t })) (M.nodes m))
         (apart m j)
 
 -- ---- the guard
 
-module _ (c : Case) (s : Spot) (is_seen : IsSeenIn c (world_at s)) (waits : KnowsWaits (coord_at s)) (u : Uid) (d : Doing) (found : doing_of u (coord_at s) ≡ Some d) (w : Steps) (is : d.now ≡ Calling w) (about : w.x ≡ c.x) (o : Op) (goal : w.goal ≡ Run o) (k : Known) (n : ℕ) (rest : List ℕ) (at : w.at ≡ AtLoad k n rest) where
+module _ (c : Case) (s : Spot) (is_seen : IsSeenIn c (world_at s)) (waits : KnowsWaits (coord_at s)) (u : Uid) (d : Doing)
+    (found : doing_of u (coord_at s) ≡ Some d) (w : Steps) (is : d.now ≡ Calling w) (about : w.x ≡ c.x) (o : Op) (goal : w.goal ≡ Run o)
+    (k : Known) (n : ℕ) (rest : List ℕ) (at : w.at ≡ AtLoad k n rest) where
   abbrev f : Fixed
   f = c.fixed
 
@@ -70,7 +56,8 @@ module _ (c : Case) (s : Spot) (is_seen : IsSeenIn c (world_at s)) (waits : Know
   waiting = waits_in c s is_seen u b asking.found waits d w found is
 
   who : actor w.path ≡ u
-  who = ap actor waiting.path ∙ (let z = works_in c s is_seen u b asking.found waits d w found is in z.steady.good.tree.lists.places u b asking.found)
+  who = ap actor waiting.path
+      ∙ (let z = works_in c s is_seen u b asking.found waits d w found is in z.steady.good.tree.lists.places u b asking.found)
 
   work : IsWorking c s (actor w.path) b d
   work = subst (λ (v : Uid). IsWorking c s v b d) (sym who) (works_in c s is_seen u b asking.found waits d w found is)
@@ -82,14 +69,16 @@ module _ (c : Case) (s : Spot) (is_seen : IsSeenIn c (world_at s)) (waits : Know
   r = reached_S c s is_seen
 
   stands : SeesStep f.act f.code w o (kp f.act f.code f.paths C b d w o S r work is goal waiting.path waiting.last sees) S (AtLoad k n rest)
-  stands = subst (SeesStep f.act f.code w o (kp f.act f.code f.paths C b d w o S r work is goal waiting.path waiting.last sees) S) at (step_seen f.act f.code f.paths C b d w o S r work is goal waiting.path waiting.last sees)
+  stands = subst (SeesStep f.act f.code w o (kp f.act f.code f.paths C b d w o S r work is goal waiting.path waiting.last sees) S)
+      at (step_seen f.act f.code f.paths C b d w o S r work is goal waiting.path waiting.last sees)
 
   abbrev bn : ℕ
   bn = binding_number k.binding
 
   -- the binding was made for the call's top
   pub maker_made : (is_top (f.act (top_of w.path)) ≡ true) × ((let v = binding_at S k.binding in v.maker) ≡ f.act (top_of w.path))
-  maker_made = let m = (holds f.act f.code f.paths C b d w o S r work is goal waiting.path waiting.last sees).mail (machine.Made (f.act (top_of w.path)) bn) stands.1.0 in (m.0, m.1)
+  maker_made = let m = (holds f.act f.code f.paths C b d w o S r work is goal waiting.path waiting.last sees).mail
+      (machine.Made (f.act (top_of w.path)) bn) stands.1.0 in (m.0, m.1)
 
   maker_is : (let v = binding_at S k.binding in v.maker) ≡ f.act (top_of w.path)
   maker_is = maker_made.1
@@ -97,23 +86,32 @@ module _ (c : Case) (s : Spot) (is_seen : IsSeenIn c (world_at s)) (waits : Know
   pub load_guard : (st : ObjectState) → IsLastFor c k st → Guard (Load bn (state_code f.act f.code st)) S
   load_guard st last = (
     subst (λ (v : Act). In (machine.Made v bn) S.net) (sym maker_is) stands.1.0,
-    (let e : S.kept (root (f.act (actor w.path))) ≡ bn = tied_kept f.act f.code f.paths C b d w o S r work is goal waiting.path waiting.last sees (let z = kp f.act f.code f.paths C b d w o S r work is goal waiting.path waiting.last sees in z.kept) S (stays_rebound f.act f.code f.paths C b d w o S r work is goal waiting.path waiting.last sees).keeping k stands.0 in
-        let g : root (let v = binding_at S k.binding in v.maker) ≡ root (f.act (actor w.path)) = ap root maker_is ∙ top_unit f.act f.code f.paths C b d w o S r work is goal waiting.path waiting.last sees in
+    (let e : S.kept (root (f.act (actor w.path))) ≡ bn = tied_kept f.act f.code f.paths C b d w o S r work is goal waiting.path waiting.last
+        sees (let z = kp f.act f.code f.paths C b d w o S r work is goal waiting.path waiting.last sees in
+        z.kept) S (stays_rebound f.act f.code f.paths C b d w o S r work is goal waiting.path waiting.last sees).keeping k stands.0 in
+        let g : root (let v = binding_at S k.binding in v.maker) ≡ root (f.act (actor w.path)) = ap root maker_is
+        ∙ top_unit f.act f.code f.paths C b d w o S r work is goal waiting.path waiting.last sees in
         subst (λ (v : ℕ). bn ≤ S.kept v) (sym g) (omega (arith, e))),
     last,
   )
 
 -- so it is at each node: for whose top the binding was made
-pub maker_there : (c : Case) (M : Seen) (seen : IsSeenIn c M) (a : Asked) (j s : ℕ) (k : Known) (w : AwaitsLoad c.x M a j s k) → KnowsWaits (let p = w.parts in p.coord)
-    → let t = (let g = c.fixed in g.act (top_of (let q = w.steps in q.path))) in (is_top t ≡ true) × ((let v = binding_at c.state k.binding in v.maker) ≡ t)
+pub maker_there : (c : Case) (M : Seen) (seen : IsSeenIn c M) (a : Asked) (j s : ℕ) (k : Known) (w : AwaitsLoad c.x M a j s k) →
+    KnowsWaits (let p = w.parts in p.coord)
+    → let t = (let g = c.fixed in g.act (top_of (let q = w.steps in q.path))) in
+    (is_top t ≡ true) × ((let v = binding_at c.state k.binding in v.maker) ≡ t)
 maker_there c M seen a j s k w waits =
     let n = w.node in
     let spot : Spot = record { node = j; disk = n.disk; parts = w.parts; seen = M } in
-    maker_made c spot (subst (IsSeenIn c) (sym (as_it_is j n w.parts M w.here w.number w.live)) seen) waits a.act w.doing w.found w.steps w.now w.about w.op w.goal k s w.rest w.waits
+    maker_made c spot (subst (IsSeenIn c) (sym (as_it_is j n w.parts M w.here w.number w.live)) seen) waits a.act w.doing w.found w.steps
+    w.now w.about w.op w.goal k s w.rest w.waits
 
 -- and the guard
-pub guard_there : (c : Case) (M : Seen) (seen : IsSeenIn c M) (a : Asked) (j s : ℕ) (k : Known) (st : ObjectState) (w : AwaitsLoad c.x M a j s k) → KnowsWaits (let p = w.parts in p.coord) → IsLastFor c k st → Guard (Load (binding_number k.binding) (state_code (let f = c.fixed in f.act) (let f = c.fixed in f.code) st)) c.state
+pub guard_there : (c : Case) (M : Seen) (seen : IsSeenIn c M) (a : Asked) (j s : ℕ) (k : Known) (st : ObjectState)
+    (w : AwaitsLoad c.x M a j s k) → KnowsWaits (let p = w.parts in p.coord) → IsLastFor c k st →
+    Guard (Load (binding_number k.binding) (state_code (let f = c.fixed in f.act) (let f = c.fixed in f.code) st)) c.state
 guard_there c M seen a j s k st w waits last =
     let n = w.node in
     let spot : Spot = record { node = j; disk = n.disk; parts = w.parts; seen = M } in
-    load_guard c spot (subst (IsSeenIn c) (sym (as_it_is j n w.parts M w.here w.number w.live)) seen) waits a.act w.doing w.found w.steps w.now w.about w.op w.goal k s w.rest w.waits st last
+    load_guard c spot (subst (IsSeenIn c) (sym (as_it_is j n w.parts M w.here w.number w.live)) seen) waits a.act w.doing w.found w.steps
+    w.now w.about w.op w.goal k s w.rest w.waits st last

@@ -1,29 +1,20 @@
 -- How a commit's steps go on with what is marked, and which commits a coordinator has under way behind what it does.
-use Rattle.std.proofs.Common.{◌≡◌, ◌≢◌, ◌⊎◌, ◌||◌, ◌==◌, ◌&&◌, ◌++◌, ◌∙◌, ℕ, zero, suc, Bool, true, false, cond, List, [], ◌∷◌, Option, Some, None, ap, inl, inr, refl, subst, sym, ⊎_elim, ◌+◌}
-use Rattle.std.specs.Prelude.{⊤}
-use Rattle.std.specs.List.{list_any}
-use Rattle.arj_law_runs.proofs.coordinators.CoordUses.{on_cases}
-use Rattle.arj_law_parts.proofs.parts.GoodTrees.{get_more}
-use Rattle.arj_law_parts.proofs.parts.Settled.{end_tree_on}
-use Rattle.arj_law_parts.proofs.parts.GoodCoords.{doomed_same}
-use Rattle.arj_protocol.specs.Words.{Ask, Kind, Label, PreparedReply, Uid, VotedReply, name, End, Path}
-use Rattle.arj_protocol.specs.Words.confirmed
-use Rattle.arj_protocol.specs.Words.ending
-use Rattle.arj_protocol.specs.Words.prepared
-use Rattle.arj_protocol.specs.Words.voted
-use Rattle.arj_law_serial.specs.joint.Marked.{FitsMarks}
-use Rattle.arj_protocol.specs.Call as calls
-use Rattle.arj_protocol.specs.Commit as commit
-use Rattle.arj_protocol.specs.Commit.{Aborts, Asks, CommitStep, Confirming, Decides, Machine, Marked, Plan, Preparing, Stays, Used, Voting, begin_confirm, begin_prepare, begin_vote, is_empty, is_marked, marks_stores, participants, servers_of, stores_left, targets_of, votes_left, waiting, has_record, plan_of}
-use Rattle.arj_protocol.specs.Ask.{Reply, actor}
-use Rattle.arj_protocol.specs.Asking.{again_all, again_now, asks_all, asks_node, begin_action, commits_in, doomed_by, goes_on, moved_commit, root_heard, step_call, step_commit}
-use Rattle.arj_protocol.specs.Tree.{at_place, doomed_at, ended_at, is_own, root_of}
-use Rattle.arj_protocol.specs.Order.{at_uid, has, put_uid, without_number}
-use Rattle.arj_protocol.specs.Coord.{Calling, Committing, Coord, Idle, Now, doing_of, new_coord, on_doing, on_root, Doing}
-use Rattle.arj_protocol.specs.Ending.{acked, acked_by, acked_left, all_aborted, decide, ended, root_after}
-use Rattle.arj_protocol.specs.Call.{CallEnd, CallStep, Ended, On, Steps}
-use Rattle.arj_protocol.specs.Effect.{Intent, Served}
-use Rattle.arj_protocol.specs.Step.{parent_of}
+use Rattle.arj_law_parts.proofs.Words
+use Words.{◌≡◌, ◌≢◌, ◌⊎◌, ◌||◌, ◌==◌, ◌&&◌, ◌++◌, ◌∙◌, ℕ, zero, suc, Bool, true, false, cond, List, [], ◌∷◌, Option, Some, None, ap, inl}
+use Words.{inr, refl, subst, sym, ⊎_elim, ◌+◌, ⊤, list_any, Ask, Kind, Label, PreparedReply, Uid, VotedReply, name, End, Path, Aborts, Asks}
+use Words.{CommitStep, Confirming, Decides, Machine, Marked, Plan, Preparing, Stays, Used, Voting, begin_confirm, begin_prepare, begin_vote}
+use Words.{is_empty, is_marked, marks_stores, participants, servers_of, stores_left, targets_of, votes_left, waiting, has_record, plan_of}
+use Words.{Reply, actor, again_all, again_now, asks_all, asks_node, begin_action, commits_in, doomed_by, goes_on, moved_commit, root_heard}
+use Words.{step_call, step_commit, at_place, doomed_at, ended_at, is_own, root_of, at_uid, has, put_uid, without_number, Calling}
+use Words.{Committing, Coord, Idle, Now, doing_of, new_coord, on_doing, on_root, Doing, acked, acked_by, acked_left, all_aborted, decide}
+use Words.{ended, root_after, CallEnd, CallStep, Ended, On, Steps, Intent, Served, parent_of}
+use Words.confirmed
+use Words.ending
+use Words.prepared
+use Words.voted
+use Words.calls
+use Words.commit
+use Rattle.arj_law_serial.proofs.Terms.{on_cases, get_more, end_tree_on, doomed_same, FitsMarks}
 
 -- ---- the steps of a commit
 
@@ -63,7 +54,8 @@ fits_same f g same (Confirming p) is = λ x s. same x s ∙ is x s
 
 module _ (f : ℕ → ℕ → Bool) where
   -- naming is asked, where all marks are said
-  confirm_fits : (marks : List (ℕ × ℕ)) (p : Plan) → ((x s : ℕ) → plus f marks x s ≡ is_marked x s p) → (is_empty p.used ≡ false) ⊎ (marks ≡ []) → FitsStep f marks (begin_confirm p.used p)
+  confirm_fits : (marks : List (ℕ × ℕ)) (p : Plan) → ((x s : ℕ) → plus f marks x s ≡ is_marked x s p) →
+      (is_empty p.used ≡ false) ⊎ (marks ≡ []) → FitsStep f marks (begin_confirm p.used p)
   confirm_fits marks p said some = by p.used some
     where
       by : (us : List Used) → (is_empty us ≡ false) ⊎ (marks ≡ []) → FitsStep f marks (begin_confirm us p)
@@ -105,11 +97,13 @@ module _ (f : ℕ → ℕ → Bool) where
   stays_fits : (m : Machine) → FitsMarks f m → FitsMarks (plus f []) m
   stays_fits m is = fits_same f (plus f []) (λ x s. or_false (f x s)) m is
 
-  voted_fits : (from : ℕ) (left : List ℕ) (p : Plan) → ((x s : ℕ) → f x s ≡ false) → p.excluded ≡ [] → (r : VotedReply) → FitsMoved f (commit.voted_by from left p r)
+  voted_fits : (from : ℕ) (left : List ℕ) (p : Plan) → ((x s : ℕ) → f x s ≡ false) → p.excluded ≡ [] → (r : VotedReply) →
+      FitsMoved f (commit.voted_by from left p r)
   voted_fits from left p none fresh (voted.Yes states) = votes_fit none (record p { changed = commit.with_states states p.changed }) fresh _
   voted_fits from left p none fresh (voted.Changed w) = refl
 
-  prepared_fits : (from : ℕ) (left : List ℕ) (p : Plan) → ((x s : ℕ) → f x s ≡ false) → is_empty p.used ≡ false → (r : PreparedReply) → FitsMoved f (commit.prepared_by from left p r)
+  prepared_fits : (from : ℕ) (left : List ℕ) (p : Plan) → ((x s : ℕ) → f x s ≡ false) → is_empty p.used ≡ false → (r : PreparedReply) →
+      FitsMoved f (commit.prepared_by from left p r)
   prepared_fits from left p none used prepared.Yes = stores_fit none _ used _
   prepared_fits from left p none used (prepared.InDoubt x holder) = stores_fit none (commit.marks_store from p) used _
   prepared_fits from left p none used (prepared.Old x v) = refl
@@ -162,10 +156,12 @@ module _ (F : List ℕ → ℕ → ℕ → Bool) where
   calling d req s m is = let no_way : ◌≡◌ {A = Now} (Calling s) (Committing m) = is in absurd (cc no_way)
 
   committing : (d : Doing) (req : ℕ) (m : Machine) → FitsMarks (F (name d.label)) m → Says (record d { req = req; now = Committing m })
-  committing d req m fits h is = let e : ◌≡◌ {A = Now} (Committing m) (Committing h) = is in let same : m ≡ h = cc e in subst (FitsMarks (F (name d.label))) same fits
+  committing d req m fits h is = let e : ◌≡◌ {A = Now} (Committing m) (Committing h) = is in let same : m ≡ h = cc e in
+      subst (FitsMarks (F (name d.label))) same fits
 
   work : (u : Uid) (f : Doing → Doing) (e : Coord) → ((d : Doing) → doing_of u e ≡ Some d → Says (f d)) → AllBut u e → All (on_doing u f e)
-  work u f e its a w q found = ⊎_elim (λ same. subst Says same.3 (its same.1 (ap (λ v. doing_of v e) (sym same.0) ∙ same.2))) (λ other. a w q other.0 other.1) (on_cases u f e w q found)
+  work u f e its a w q found = ⊎_elim (λ same. subst Says same.3 (its same.1 (ap (λ v. doing_of v e) (sym same.0) ∙ same.2)))
+      (λ other. a w q other.0 other.1) (on_cases u f e w q found)
 
   pub but : (u : Uid) (e : Coord) → All e → AllBut u e
   but u e a w d other found = a w d found
@@ -177,7 +173,8 @@ module _ (F : List ℕ → ℕ → ℕ → Bool) where
   own_all e f own doings a w d found = a w d ((λ i. cond (sym (own w) i) (at_place w.num (sym doings i)) None) ∙ found)
 
   pub ended_all : (u : Uid) (how : End) (e : Coord) → AllBut u e → All (ended u how e)
-  ended_all u how e a = let g = end_tree_on u how e in work u (λ (d : Doing). record d { now = Idle }) (record e { tree = ended_at u how e.tree }) (λ d found. idle d) (own_but u e (record e { tree = ended_at u how e.tree }) g.own refl a)
+  ended_all u how e a = let g = end_tree_on u how e in work u (λ (d : Doing). record d { now = Idle })
+      (record e { tree = ended_at u how e.tree }) (λ d found. idle d) (own_but u e (record e { tree = ended_at u how e.tree }) g.own refl a)
 
   pub aborted_all : (us : List Uid) (e : Coord) → All e → All (all_aborted us e).part
   aborted_all [] e a = a
@@ -205,12 +202,17 @@ module _ (F : List ℕ → ℕ → ℕ → Bool) where
       its_two : All two
       its_two = work u (λ (d : Doing). record d { took = participants p }) one (λ d found m is. its_one u d found m is) (but u one its_one)
 
-      by : (b : Bool) → All (cond b (record (on_root (root_of p.path) (root_after p) two) { telling = put_uid u (record { root = root_of p.path; nodes = participants p }) (on_root (root_of p.path) (root_after p) two).telling }) (on_root (root_of p.path) (root_after p) two))
+      by : (b : Bool) → All (cond b (record (on_root (root_of p.path) (root_after p) two) {
+        telling = put_uid u
+            (record { root = root_of p.path; nodes = participants p }) (on_root (root_of p.path) (root_after p) two).telling;
+      })
+          (on_root (root_of p.path) (root_after p) two))
       by true w d found = its_two w d found
       by false w d found = its_two w d found
 
   pub goes_all : (s : Steps) (e : Coord) → All e → All (goes_on s e).part
-  goes_all s e a u d found = work (actor s.path) (λ (d : Doing). record d { req = s.req; now = Calling s }) e (λ q at. calling q s.req s) (but (actor s.path) e a) u d found
+  goes_all s e a u d found = work (actor s.path) (λ (d : Doing). record d { req = s.req; now = Calling s }) e (λ q at. calling q s.req s)
+      (but (actor s.path) e a) u d found
 
   pub call_all : (s : Steps) (n : CallStep) (e : Coord) → All e → All (step_call s n e).part
   call_all s (On at) e a = goes_all (record s { req = s.req + 1; at = at }) e a
@@ -228,15 +230,20 @@ module _ (F : List ℕ → ℕ → ℕ → Bool) where
       by (calls.Conflict h x n) = so
       by (calls.Changed n w) = so
       by (calls.Lost n false) = so
-      by (calls.Lost n true) = let q = doomed_same (actor s.path) told.tree in own_all told (record told { tree = doomed_at (actor s.path) told.tree }) q.own refl so
+      by (calls.Lost n true) = let q = doomed_same (actor s.path) told.tree in
+          own_all told (record told { tree = doomed_at (actor s.path) told.tree }) q.own refl so
 
   -- a commit's step, after which the other actions are as they were
-  pub moved_all : (u : Uid) (m : Marked) (intents : List (Uid × Intent)) (e : Coord) → AllBut u e → ((p : Plan) → m.step ≡ Decides p → All e) → ((d : Doing) → doing_of u e ≡ Some d → GoesOn (F (name d.label)) m.step) → All (moved_commit u m intents e).part
+  pub moved_all : (u : Uid) (m : Marked) (intents : List (Uid × Intent)) (e : Coord) → AllBut u e → ((p : Plan) → m.step ≡ Decides p →
+      All e) → ((d : Doing) → doing_of u e ≡ Some d → GoesOn (F (name d.label)) m.step) → All (moved_commit u m intents e).part
   moved_all u m intents e others whole its = by m.step whole its
     where
-      by : (s : CommitStep) → ((p : Plan) → s ≡ Decides p → All e) → ((d : Doing) → doing_of u e ≡ Some d → GoesOn (F (name d.label)) s) → All (step_commit u s intents e).part
-      by (Stays n) w its = work u (λ (d : Doing). record d { req = (plan_of n).req; now = Committing n }) e (λ d found. committing d (plan_of n).req n (its d found)) others
-      by (Asks n) w its = asks_all_all (plan_of n).path (plan_of n).req (waiting n) (commits_in u n e) (work u (λ (d : Doing). record d { req = (plan_of n).req; now = Committing n }) e (λ d found. committing d (plan_of n).req n (its d found)) others)
+      by : (s : CommitStep) → ((p : Plan) → s ≡ Decides p → All e) → ((d : Doing) → doing_of u e ≡ Some d → GoesOn (F (name d.label)) s) →
+          All (step_commit u s intents e).part
+      by (Stays n) w its = work u (λ (d : Doing). record d { req = (plan_of n).req; now = Committing n }) e
+          (λ d found. committing d (plan_of n).req n (its d found)) others
+      by (Asks n) w its = asks_all_all (plan_of n).path (plan_of n).req (waiting n) (commits_in u n e) (work u (λ (d : Doing).
+          record d { req = (plan_of n).req; now = Committing n }) e (λ d found. committing d (plan_of n).req n (its d found)) others)
       by (Decides p) w its = decide_all p e (w p refl)
       by (Aborts why p) w its = ended_all u ending.Abort e others
 
@@ -260,17 +267,21 @@ module _ (F : List ℕ → ℕ → ℕ → Bool) where
       by None = a
       by (Some i) = one (has i.nodes from)
         where
-          one : (b : Bool) → All (cond {A = Served Coord (Unit {0})} b (acked_left u i intents e (without_number from i.nodes)) (record { part = e; outs = []; reply = None })).part
+          one : (b : Bool) → All (cond {A = Served Coord (Unit {0})} b (acked_left u i intents e (without_number from i.nodes))
+              (record { part = e; outs = []; reply = None })).part
           one true = left i (without_number from i.nodes)
           one false = a
 
-  pub begins_all : (l : Label) (how : Kind) (parent : Option Label) (e : Coord) → All e → All (begin_action l how parent (parent_of parent e) e).part
-  begins_all l how parent e a u d found m is = ⊎_elim (λ old. a u d old m is) (λ last. let no_way : ◌≡◌ {A = Now} Idle (Committing m) = sym last ∙ is in absurd (cc no_way)) (was (is_own u e.tree) u.num found)
+  pub begins_all : (l : Label) (how : Kind) (parent : Option Label) (e : Coord) → All e →
+      All (begin_action l how parent (parent_of parent e) e).part
+  begins_all l how parent e a u d found m is = ⊎_elim (λ old. a u d old m is)
+      (λ last. let no_way : ◌≡◌ {A = Now} Idle (Committing m) = sym last ∙ is in absurd (cc no_way)) (was (is_own u e.tree) u.num found)
     where
       fresh : Doing
       fresh = record { label = l; req = 0; now = Idle; took = [] }
 
-      was : (b : Bool) (j : ℕ) → cond b (at_place j (e.doings ++ fresh ∷ [])) None ≡ Some d → (cond b (at_place j e.doings) None ≡ Some d) ⊎ (d.now ≡ Idle)
+      was : (b : Bool) (j : ℕ) → cond b (at_place j (e.doings ++ fresh ∷ [])) None ≡ Some d →
+          (cond b (at_place j e.doings) None ≡ Some d) ⊎ (d.now ≡ Idle)
       was true zero at = absurd (cc at)
       was true (suc j) at = ⊎_elim (λ old. inl old) (λ its. inr (ap (λ (z : Doing). z.now) (sym its.1))) (get_more j fresh d e.doings at)
       was false j at = absurd (cc at)

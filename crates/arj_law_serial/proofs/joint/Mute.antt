@@ -1,22 +1,11 @@
 -- What answers nobody: what a node sends as it starts, and what it sends again.
-use Rattle.std.proofs.Common.{◌≡◌, ℕ, List, [], ◌∷◌, ◌++◌, true, map, None, refl, subst, inl, inr}
-use Rattle.std.specs.Prelude.{⊤}
-use Rattle.std.specs.List.{AllByRecursion}
-use Rattle.arj_law_runs.proofs.addresses.Lists.{all_append}
-use Rattle.arj_lock.proofs.Members as list
-use Rattle.arj_protocol.specs.Words.{Header, Message, Uid, asks}
-use Rattle.arj_protocol.specs.Words.ending
-use Rattle.arj_protocol.specs.Ask.{answers}
-use Rattle.arj_protocol.specs.Asking.{again_all}
-use Rattle.arj_protocol.specs.Coord.{Coord}
-use Rattle.arj_protocol.specs.Effect.{Disk, Do, Effect, Intent, Say, Send}
-use Rattle.arj_protocol.specs.Ending.{tell, tell_all}
-use Rattle.arj_protocol.specs.Follow.{tick_outs}
-use Rattle.arj_protocol.specs.Node.{Parts, holders, query_about}
-use Rattle.arj_protocol.specs.Step.{Node, restart_outs, tolds_again}
-use Rattle.arj_law_parts.specs.parts.Claims.{AreTrue}
-use Rattle.arj_law_parts.proofs.parts.SaidIncs.{all_flat, all_map}
-use Rattle.arj_law_runs.proofs.calls.WorldSteps.{no_answer}
+use Rattle.arj_law_parts.proofs.Words
+use Words.{◌≡◌, ℕ, List, [], ◌∷◌, ◌++◌, true, map, None, refl, subst, inl, inr, ⊤, AllByRecursion, Header, Message, Uid, asks, answers}
+use Words.{again_all, Coord, Disk, Do, Effect, Intent, Say, Send, tell, tell_all, tick_outs, Parts, holders, query_about, Node}
+use Words.{restart_outs, tolds_again}
+use Words.list
+use Words.ending
+use Rattle.arj_law_serial.proofs.Terms.{all_append, AreTrue, all_flat, all_map, no_answer}
 use Rattle.arj_law_serial.proofs.joint.Restarting.{restart_said}
 
 -- ---- without answers
@@ -43,7 +32,8 @@ AllMute outs = AllByRecursion IsMute outs
 
 -- ends that are told again, and queries
 again_mute : (telling : List (Uid × Intent)) → AllMute (tolds_again telling)
-again_mute telling = all_flat IsMute (λ (e : Uid × Intent). tell_all e.1.root true ((e.0, ending.Commit) ∷ []) e.1.nodes) telling (λ e. all_map IsMute (tell e.1.root true ((e.0, ending.Commit) ∷ [])) e.1.nodes (λ n. (refl, refl)))
+again_mute telling = all_flat IsMute (λ (e : Uid × Intent). tell_all e.1.root true ((e.0, ending.Commit) ∷ []) e.1.nodes) telling
+    (λ e. all_map IsMute (tell e.1.root true ((e.0, ending.Commit) ∷ [])) e.1.nodes (λ n. (refl, refl)))
 
 -- a restart neither answers nor asks
 pub restart_mute : (hd : Header) (k inc : ℕ) (d : Disk) → AllMute (restart_outs hd k inc d)
@@ -65,7 +55,9 @@ silent_both es fs a b = all_append IsSilent es fs a b
 pub tick_silent : (n : Node) (t : Parts) → AllSilent (let r = again_all t.coord.doings t.coord in r.outs) → AllSilent (tick_outs n t)
 tick_silent n t asked =
     let r = again_all t.coord.doings t.coord in
-    silent_both (r.outs ++ tolds_again t.coord.telling) (map query_about (holders n.disk t)) (silent_both r.outs (tolds_again t.coord.telling) asked (silent_of (tolds_again t.coord.telling) (again_mute t.coord.telling))) (silent_of (map query_about (holders n.disk t)) (all_map IsMute query_about (holders n.disk t) (λ u. (refl, refl))))
+    silent_both (r.outs ++ tolds_again t.coord.telling) (map query_about (holders n.disk t))
+    (silent_both r.outs (tolds_again t.coord.telling) asked (silent_of (tolds_again t.coord.telling) (again_mute t.coord.telling)))
+    (silent_of (map query_about (holders n.disk t)) (all_map IsMute query_about (holders n.disk t) (λ u. (refl, refl))))
 
 -- what a coordinator sends answers nobody
 pub true_silent : (c : Coord) (outs : List Effect) → AreTrue c outs → AllSilent outs

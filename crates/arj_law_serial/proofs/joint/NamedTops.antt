@@ -1,16 +1,11 @@
 -- Tops of the journal by their numbers in the disk machine, and journals that are tied to the lock machines.
-use Rattle.std.specs.Prelude.{⊤, ◌≡◌, ◌==◌, ℕ, Bool, true, List, [], ◌∷◌, is_some, Contains}
-use Rattle.std.specs.List.{list_any}
-use Rattle.arj_model.specs.Actions.{acts}
-use Rattle.arj_model.specs.Calls.{Top, tops}
-use Rattle.arj_model.specs.Last.{first_values, object_line, uid_of_id}
-use Rattle.arj_protocol.specs.Order.{uid_number}
-use Rattle.arj_protocol.specs.Words.{Header, Line}
-use Rattle.arj_law_disk.specs.machine.State.{Done, State}
-use Rattle.arj_promise.specs.Runs.{Seen}
-use Rattle.arj_law_lock.specs.machine.State as lock
-use Rattle.arj_law_serial.specs.order.Tied.{AreTied, IsTied}
-use Rattle.arj_law_serial.specs.joint.Ordered.{IsOrderedSo}
+use Rattle.arj_law_parts.proofs.Words
+use Words.{⊤, ◌≡◌, ◌==◌, ℕ, Bool, true, List, [], ◌∷◌, is_some, Contains, list_any, uid_number, Header, Line, Seen}
+use Rattle.arj_law_serial.proofs.Terms
+use Terms.{acts, Top, tops, first_values, object_line, uid_of_id, Done, IsTied, IsOrderedSo}
+use Terms.state as lock
+use Rattle.arj_law_disk.specs.machine.State.{State}
+use Rattle.arj_law_serial.specs.order.Tied.{AreTied}
 
 -- the top is one of these
 abbrev pub is_one_of : List Top → Top → Bool

@@ -1,38 +1,20 @@
 -- Of two tops that wrote an object, one that is new in the last event had its commit called last, where nothing stands before a commit
 -- call in that event.
-use Rattle.std.proofs.Common.{◌≡◌, ◌≢◌, ◌⊎◌, ◌≤◌, ◌<◌, ℕ, ◌+◌, List, [], ◌∷◌, ◌++◌, length, Bool, true, false, cond, nat_lt, Option, Some, None, refl, sym, ◌∙◌, ap, subst, inl, inr, ⊎_elim, arith}
-use Rattle.std.specs.List.{AllByRecursion}
-use Rattle.std.specs.Option.{option_map}
-use Rattle.std.proofs.lemmas.Bool.Decides.{nat_tests}
-use Rattle.std.proofs.lemmas.List.{append_assoc}
-use Rattle.arj_base.specs.Rows.{is_on}
-use Rattle.arj_journal.specs.declared.body.Body.{Body}
-use Rattle.arj_journal.specs.declared.body.Body.TheVariants as body
-use Rattle.arj_journal.specs.declared.body.Line.{Line}
-use Rattle.arj_base.specs.declared.uid.Uid.{Uid}
-use Rattle.arj_model.specs.Last.{uid_of_id}
-use Rattle.arj_text.specs.Label.{name}
-use Rattle.arj_text.specs.declared.label.Label.{Label}
-use Rattle.arj_lock.proofs.Members.{In, in_from, in_to}
-use Rattle.arj_model.specs.Actions.{Act, Placed, act_in, acts, acts_after, acts_from, id_in, put, read}
-use Rattle.arj_model.specs.Calls.{Top, tops}
-use Rattle.arj_model.specs.Serial.{Values, top_place}
-use Rattle.arj_law_runs.specs.journal.Book.{Book, book, book_from, is_decided, new_book, turned}
-use Rattle.arj_law_runs.specs.journal.Laws.{called_of}
-use Rattle.arj_law_runs.specs.journal.Right.{AreRight}
-use Rattle.arj_law_runs.proofs.journal.Books.{book_more, decided_later, later_from, named_is, never, on_here}
-use Rattle.arj_law_runs.proofs.journal.Likes.{some_is}
-use Rattle.arj_law_runs.proofs.journal.Models.{decided_in, in_later, its_acts, named_in, right_before}
-use Rattle.arj_law_lock.specs.machine.State.{State}
-use Rattle.arj_promise.specs.Excluded.{Wrote}
-use Rattle.arj_law_serial.specs.order.Tied.{IsTied}
-use Rattle.arj_law_serial.proofs.order.Locks.{number_uid}
-use Rattle.arj_law_serial.proofs.order.Order.{IsTopOf, listed, place_of_top, same_number, top_item}
-use Rattle.arj_law_serial.specs.joint.Excluded.{CommitsBeginIt, NewWritersAreLast}
-use Rattle.arj_promise.specs.Excluded.{IsNew, lines_before, uid_of}
-use Rattle.arj_model.specs.Outcome.{is_said}
-use Rattle.arj_law_serial.proofs.joint.Behind.{said_so}
-use Rattle.arj_law_serial.proofs.joint.Called.{right_front, writers_are_called_first}
+use Rattle.arj_law_parts.proofs.Words
+use Words.{◌≡◌, ◌≢◌, ◌⊎◌, ◌≤◌, ◌<◌, ℕ, ◌+◌, List, [], ◌∷◌, ◌++◌, length, Bool, true, false, cond, nat_lt, Option, Some, None, refl, sym}
+use Words.{◌∙◌, ap, subst, inl, inr, ⊎_elim, arith, AllByRecursion, nat_tests, append_assoc, is_on, Body, Line, Uid, name, Label, In}
+use Words.{in_from, in_to, Wrote, IsNew, lines_before, uid_of}
+use Rattle.arj_law_serial.proofs.Terms
+use Terms.{option_map, uid_of_id, Act, Placed, act_in, acts, acts_after, acts_from, id_in, put, read, Top, tops, Values, top_place, Book}
+use Terms.{book, book_from, is_decided, new_book, turned, called_of, AreRight, book_more, decided_later, later_from, named_is, on_here}
+use Terms.{in_later, its_acts, named_in, State, IsTied, CommitsBeginIt, is_said}
+use Terms.body
+use Rattle.arj_law_runs.proofs.journal.{Books.never, Likes.some_is, Models.decided_in, Models.right_before}
+use Rattle.arj_law_serial.proofs.joint.{Behind.said_so, Called.right_front, Called.writers_are_called_first}
+use Rattle.arj_law_serial.proofs.order
+use order.{Locks.number_uid}
+use order.Order.{IsTopOf, listed, place_of_top, same_number, top_item}
+use Rattle.arj_law_serial.specs.joint.Excluded.{NewWritersAreLast}
 
 -- where an item that was read stands
 pub record IsReadAt {A : Type 0} (f : List Act → Body → Option A) (us : List Act) (n : ℕ) (ls : List Line) (s : Placed A) : Type 0 where
@@ -43,17 +25,41 @@ pub record IsReadAt {A : Type 0} (f : List Act → Body → Option A) (us : List
   pub place : s.at ≡ n + length before
   pub reads : f (acts_from us before) line.body ≡ Some s.it
 
-pub read_at : {A : Type 0} (f : List Act → Body → Option A) (us : List Act) (n : ℕ) (ls : List Line) (s : Placed A) → In s (read f us n ls) → IsReadAt f us n ls s
+pub read_at : {A : Type 0} (f : List Act → Body → Option A) (us : List Act) (n : ℕ) (ls : List Line) (s : Placed A) →
+    In s (read f us n ls) → IsReadAt f us n ls s
 read_at f us n [] s i = absurd i
 read_at {A} f us n (l ∷ ls) s i = by (f us l.body) refl i (read_at f (acts_after us l.body) (n + 1) ls s)
   where
-    by : (o : Option A) → f us l.body ≡ o → In s (put n o (read f (acts_after us l.body) (n + 1) ls)) → (In s (read f (acts_after us l.body) (n + 1) ls) → IsReadAt f (acts_after us l.body) (n + 1) ls s) → IsReadAt f us n (l ∷ ls) s
-    by (Some a) e (inl is) ih = record { before = []; line = l; behind = ls; are = refl; place = (let p = ap (λ (z : Placed A). z.at) is in omega (arith, p)); reads = e ∙ ap Some (ap (λ (z : Placed A). z.it) is) }
-    by (Some a) e (inr j) ih = let r = ih j in record { before = l ∷ r.before; line = r.line; behind = r.behind; are = ap (λ zs. l ∷ zs) r.are; place = (let p = r.place in omega (arith, p)); reads = r.reads }
-    by None e j ih = let r = ih j in record { before = l ∷ r.before; line = r.line; behind = r.behind; are = ap (λ zs. l ∷ zs) r.are; place = (let p = r.place in omega (arith, p)); reads = r.reads }
+    by : (o : Option A) → f us l.body ≡ o → In s (put n o (read f (acts_after us l.body) (n + 1) ls)) →
+        (In s (read f (acts_after us l.body) (n + 1) ls) → IsReadAt f (acts_after us l.body) (n + 1) ls s) → IsReadAt f us n (l ∷ ls) s
+    by (Some a) e (inl is) ih = record {
+      before = [];
+      line = l;
+      behind = ls;
+      are = refl;
+      place = (let p = ap (λ (z : Placed A). z.at) is in omega (arith, p));
+      reads = e ∙ ap Some (ap (λ (z : Placed A). z.it) is);
+    }
+    by (Some a) e (inr j) ih = let r = ih j in record {
+      before = l ∷ r.before;
+      line = r.line;
+      behind = r.behind;
+      are = ap (λ zs. l ∷ zs) r.are;
+      place = (let p = r.place in omega (arith, p));
+      reads = r.reads;
+    }
+    by None e j ih = let r = ih j in record {
+      before = l ∷ r.before;
+      line = r.line;
+      behind = r.behind;
+      are = ap (λ zs. l ∷ zs) r.are;
+      place = (let p = r.place in omega (arith, p));
+      reads = r.reads;
+    }
 
 -- a line that calls a commit
-pub call_is : (us : List Act) (b : Body) (id : ℕ) → called_of us b ≡ Some id → (l : Label) × (b ≡ body.Committing l) × (id_in us (name l) ≡ Some id)
+pub call_is : (us : List Act) (b : Body) (id : ℕ) → called_of us b ≡ Some id →
+    (l : Label) × (b ≡ body.Committing l) × (id_in us (name l) ≡ Some id)
 call_is us (body.Committing l) id e = (l, refl, e)
 call_is us b id e = absurd (cc e)
 
@@ -64,9 +70,11 @@ named_so (Some a) id e = (a, refl, some_is a.id id e)
 
 -- ---- the lines of earlier events
 
-before_all : (e : ℕ) (xs ys : List Line) → AllByRecursion (λ (k : Line). k.event < e) xs → lines_before e (xs ++ ys) ≡ xs ++ lines_before e ys
+before_all : (e : ℕ) (xs ys : List Line) → AllByRecursion (λ (k : Line). k.event < e) xs →
+    lines_before e (xs ++ ys) ≡ xs ++ lines_before e ys
 before_all e [] ys all = refl
-before_all e (x ∷ xs) ys all = ap (λ b. cond b (x ∷ lines_before e (xs ++ ys)) []) (yes x.event e all.0) ∙ ap (λ zs. x ∷ zs) (before_all e xs ys all.1)
+before_all e (x ∷ xs) ys all =
+    ap (λ b. cond b (x ∷ lines_before e (xs ++ ys)) []) (yes x.event e all.0) ∙ ap (λ zs. x ∷ zs) (before_all e xs ys all.1)
   where
     yes : (a b : ℕ) → a < b → nat_lt a b ≡ true
     yes a b l = grind (arith, nat_tests)
@@ -75,30 +83,39 @@ front_of : (e : ℕ) (ls : List Line) → (rest : List Line) × (ls ≡ lines_be
 front_of e [] = ([], refl)
 front_of e (l ∷ ls) = by (nat_lt l.event e) (front_of e ls)
   where
-    by : (b : Bool) → (rest : List Line) × (ls ≡ lines_before e ls ++ rest) → (rest : List Line) × (l ∷ ls ≡ cond b (l ∷ lines_before e ls) [] ++ rest)
+    by : (b : Bool) → (rest : List Line) × (ls ≡ lines_before e ls ++ rest) →
+        (rest : List Line) × (l ∷ ls ≡ cond b (l ∷ lines_before e ls) [] ++ rest)
     by true r = (r.0, ap (λ zs. l ∷ zs) r.1)
     by false r = (l ∷ ls, refl)
 
 module _ (lines : List Line) (right : AreRight new_book lines) where
   pub its_uid : (t : Top) (i : IsTopOf lines t) → uid_of lines t ≡ i.act.uid
-  its_uid t i = ap (uid_of_number) (sym i.number) ∙ number_uid i.act (acts lines) (λ y k f. same_number lines right y i.act k i.there f) i.there
+  its_uid t i =
+      ap (uid_of_number) (sym i.number) ∙ number_uid i.act (acts lines) (λ y k f. same_number lines right y i.act k i.there f) i.there
     where
       uid_of_number : ℕ → Uid
       uid_of_number n = uid_of_id (acts lines) n
 
   -- whoever is decided where a commit is called was so by an earlier event
-  pub said_before : (e : ℕ) → CommitsBeginIt e lines → (before : List Line) (line : Line) (behind : List Line) (l : Label) → lines ≡ before ++ line ∷ behind → line.body ≡ body.Committing l → (u : Uid) → is_decided (book before) u ≡ true → is_said (lines_before e lines) u ≡ true
+  pub said_before : (e : ℕ) → CommitsBeginIt e lines → (before : List Line) (line : Line) (behind : List Line) (l : Label) →
+      lines ≡ before ++ line ∷ behind → line.body ≡ body.Committing l → (u : Uid) → is_decided (book before) u ≡ true →
+      is_said (lines_before e lines) u ≡ true
   said_before e begins before line behind l are calls u old =
       let rest = lines_before e (line ∷ behind) in
-      let front : lines_before e lines ≡ before ++ rest = ap (lines_before e) are ∙ before_all e before (line ∷ behind) (begins before line behind l are calls) in
+      let front : lines_before e lines ≡ before ++ rest = ap (lines_before e) are
+      ∙ before_all e before (line ∷ behind) (begins before line behind l are calls) in
       let f = front_of e lines in
-      let right_front_of : AreRight new_book (lines_before e lines) = right_front new_book (lines_before e lines) f.0 (subst (AreRight new_book) f.1 right) in
+      let right_front_of : AreRight new_book (lines_before e lines) = right_front new_book (lines_before e lines) f.0
+      (subst (AreRight new_book) f.1 right) in
       let now : is_decided (book (lines_before e lines)) u ≡ true =
-      ap (λ zs. is_decided (book zs) u) front ∙ ap (λ (B : Book). is_decided B u) (book_more new_book before rest) ∙ decided_later (book before) (book_from (book before) rest) (later_from (book before) rest) u old in
+      ap (λ zs. is_decided (book zs) u) front ∙ ap (λ (B : Book). is_decided B u) (book_more new_book before rest)
+      ∙ decided_later (book before) (book_from (book before) rest) (later_from (book before) rest) u old in
       said_so (lines_before e lines) u (decided_in (lines_before e lines) right_front_of u now)
 
-module _ (values : Values) (lines : List Line) (right : AreRight new_book lines) (x : ℕ) (S : State) (tied : IsTied values lines x S) (e : ℕ) (begins : CommitsBeginIt e lines) where
-  module _ (t u : Top) (new : IsNew e lines t) (t_wrote : Wrote lines x t) (u_there : In u (tops lines)) (u_wrote : Wrote lines x u) (later : t.at < u.at) where
+module _ (values : Values) (lines : List Line) (right : AreRight new_book lines) (x : ℕ) (S : State) (tied : IsTied values lines x S)
+    (e : ℕ) (begins : CommitsBeginIt e lines) where
+  module _ (t u : Top) (new : IsNew e lines t) (t_wrote : Wrote lines x t) (u_there : In u (tops lines)) (u_wrote : Wrote lines x u)
+      (later : t.at < u.at) where
     t_there : In t (tops lines)
     t_there = in_from t (tops lines) new.0
 
@@ -122,7 +139,9 @@ module _ (values : Values) (lines : List Line) (right : AreRight new_book lines)
 
     -- it is the top's action
     is_it : named.0 ≡ ui.act
-    is_it = same_number lines right named.0 ui.act (subst (λ zs. In named.0 (acts zs)) (sym found.are) (subst (In named.0) (sym (acts_more found.before (found.line ∷ found.behind))) (in_later (found.line ∷ found.behind) (acts found.before) named.0 (named_in (acts found.before) (name call.0) named.0 named.1)))) ui.there named.2
+    is_it = same_number lines right named.0 ui.act (subst (λ zs. In named.0 (acts zs)) (sym found.are)
+        (subst (In named.0) (sym (acts_more found.before (found.line ∷ found.behind))) (in_later (found.line ∷ found.behind)
+        (acts found.before) named.0 (named_in (acts found.before) (name call.0) named.0 named.1)))) ui.there named.2
       where
         acts_grow : (us : List Act) (xs ys : List Line) → acts_from us (xs ++ ys) ≡ acts_from (acts_from us xs) ys
         acts_grow us [] ys = refl
@@ -137,8 +156,10 @@ module _ (values : Values) (lines : List Line) (right : AreRight new_book lines)
     is_called : is_on (book (found.before ++ found.line ∷ [])).called ui.act.uid ≡ true
     is_called =
         ap (λ (B : Book). is_on B.called ui.act.uid) book_there
-        ∙ ap (λ us. is_on us ui.act.uid) (named_is (book found.before).acts call.0 (book found.before).called named.0 (ap (λ us. act_in us (name call.0)) (its_acts found.before right_there) ∙ named.1))
-        ∙ ap (λ (a : Act). is_on (named.0.uid ∷ (book found.before).called) a.uid) (sym is_it) ∙ on_here named.0.uid (book found.before).called
+        ∙ ap (λ us. is_on us ui.act.uid) (named_is (book found.before).acts call.0 (book found.before).called named.0
+        (ap (λ us. act_in us (name call.0)) (its_acts found.before right_there) ∙ named.1))
+        ∙ ap (λ (a : Act). is_on (named.0.uid ∷ (book found.before).called) a.uid) (sym is_it)
+        ∙ on_here named.0.uid (book found.before).called
 
     apart : u.id ≢ t.id
     apart same =
@@ -146,10 +167,12 @@ module _ (values : Values) (lines : List Line) (right : AreRight new_book lines)
         let p = sym (place_of_top (tops lines) u a u_there) ∙ ap (top_place (tops lines)) same ∙ place_of_top (tops lines) t a t_there in
         absurd (omega (arith, p, later))
 
-    decided_before : is_decided (book (found.before ++ found.line ∷ [])) ti.act.uid ≡ true → is_said (lines_before e lines) (uid_of lines t) ≡ true
+    decided_before : is_decided (book (found.before ++ found.line ∷ [])) ti.act.uid ≡ true →
+        is_said (lines_before e lines) (uid_of lines t) ≡ true
     decided_before is =
         let old : is_decided (book found.before) ti.act.uid ≡ true = sym (ap (λ (B : Book). is_decided B ti.act.uid) book_there) ∙ is in
-        ap (is_said (lines_before e lines)) (its_uid lines right t ti) ∙ said_before lines right e begins found.before found.line found.behind call.0 found.are call.1 ti.act.uid old
+        ap (is_said (lines_before e lines)) (its_uid lines right t ti)
+        ∙ said_before lines right e begins found.before found.line found.behind call.0 found.are call.1 ti.act.uid old
 
     impossible : ⊥
     impossible = by (is_decided (book (found.before ++ found.line ∷ [])) ti.act.uid) refl
@@ -158,9 +181,20 @@ module _ (values : Values) (lines : List Line) (right : AreRight new_book lines)
         by true is = never (decided_before is) new.1
         by false is =
             let l = writers_are_called_first values lines x S right tied u t ui.act ti.act
-            (record { listed = in_to u (tops lines) u_there; wrote = u_wrote; there = in_to ui.act (acts lines) ui.there; number = ui.number })
+            (record {
+              listed = in_to u (tops lines) u_there;
+              wrote = u_wrote;
+              there = in_to ui.act (acts lines) ui.there;
+              number = ui.number;
+            })
             (record { listed = new.0; wrote = t_wrote; there = in_to ti.act (acts lines) ti.there; number = ti.number })
-            apart (found.before ++ found.line ∷ [], found.behind, found.are ∙ sym (append_assoc found.before (found.line ∷ []) found.behind), is_called, is) in
+            apart (
+              found.before ++ found.line ∷ [],
+              found.behind,
+              found.are ∙ sym (append_assoc found.before (found.line ∷ []) found.behind),
+              is_called,
+              is,
+            ) in
             absurd (omega (arith, l, later))
 
   new_is_last : (t u : Top) → IsNew e lines t → Wrote lines x t → In u (tops lines) → Wrote lines x u → u.at ≤ t.at
@@ -170,4 +204,5 @@ module _ (values : Values) (lines : List Line) (right : AreRight new_book lines)
       cases m n = grind arith
 
 pub new_writers_last : NewWritersAreLast
-new_writers_last values lines x S e right tied begins t u new tw there uw = new_is_last values lines right x S tied e begins t u new tw (in_from u (tops lines) there) uw
+new_writers_last values lines x S e right tied begins t u new tw there uw =
+    new_is_last values lines right x S tied e begins t u new tw (in_from u (tops lines) there) uw

@@ -1,28 +1,17 @@
 -- Stores are excluded in time, where both machines of each object are tied to the journal.
-use Rattle.std.proofs.Common.{◌≡◌, ℕ, true, [], is_some}
-use Rattle.arj_journal.specs.ScriptForm.{HeaderInForm}
-use Rattle.arj_law_runs.specs.journal.Book.{new_book}
-use Rattle.arj_law_runs.specs.journal.Right.{AreRight}
-use Rattle.arj_law_runs.proofs.journal.Runs.{kept_right}
-use Rattle.arj_model.specs.Last.{first_values, object_line}
-use Rattle.arj_protocol.specs.Words.{Header}
-use Rattle.arj_protocol.specs.World.{World}
+use Rattle.arj_law_parts.proofs.Words.{◌≡◌, ℕ, true, [], is_some, Header, World, world_by, see}
+use Rattle.arj_law_serial.proofs.Terms
+use Terms.{HeaderInForm, new_book, AreRight, kept_right, first_values, object_line, IsReached, Keeping, AreExcludedInTime, CommitsBeginIt}
+use Terms.{IsSeenSo, OpsFit}
+use Rattle.arj_law_serial.proofs.joint
+use joint.{CommitCalls.commits_begin, FitRuns.runs_in_form, Knowing.none_last, NamedTops.AreLockTied, Takers.takers}
+use joint.Clean.{AreJoined, Decides, Held, decided, decides_in, formed, held_in, lock_tied, ordered_of, reached_both}
+use joint.Excluding.{is_in_time, kept_nodes_form, newest_by_calls}
 use Rattle.arj_law_serial.proofs.order.Ties.{Ties, ties_of}
-use Rattle.arj_promise.specs.Runs.{world_by}
-use Rattle.arj_promise.specs.Runs.{see}
-use Rattle.arj_law_runs.specs.calls.Reached.{IsReached, Keeping}
-use Rattle.arj_law_serial.proofs.joint.NamedTops.{AreLockTied}
-use Rattle.arj_law_serial.specs.joint.Excluded.{AreExcludedInTime, CommitsBeginIt, IsSeenSo}
 use Rattle.arj_law_serial.specs.joint.InTime.{RunsExcludeInTime}
-use Rattle.arj_law_serial.proofs.joint.Clean.{AreJoined, Decides, Held, decided, decides_in, formed, held_in, lock_tied, ordered_of, reached_both}
-use Rattle.arj_law_serial.proofs.joint.CommitCalls.{commits_begin}
-use Rattle.arj_law_serial.proofs.joint.Excluding.{is_in_time, kept_nodes_form, newest_by_calls}
-use Rattle.arj_law_serial.specs.joint.Fit.{OpsFit}
-use Rattle.arj_law_serial.proofs.joint.FitRuns.{runs_in_form}
-use Rattle.arj_law_serial.proofs.joint.Knowing.{none_last}
-use Rattle.arj_law_serial.proofs.joint.Takers.{takers}
 
-module _ (hd : Header) (w : World) (keeping : Keeping hd w) (form : HeaderInForm hd) (tied : AreLockTied hd w.lines) (held : Held hd w) (decide : Decides hd w held) (begins : CommitsBeginIt w.event w.lines) where
+module _ (hd : Header) (w : World) (keeping : Keeping hd w) (form : HeaderInForm hd) (tied : AreLockTied hd w.lines) (held : Held hd w)
+    (decide : Decides hd w held) (begins : CommitsBeginIt w.event w.lines) where
   right : AreRight new_book w.lines
   right = kept_right hd w keeping
 
@@ -35,7 +24,14 @@ module _ (hd : Header) (w : World) (keeping : Keeping hd w) (form : HeaderInForm
       let b = h.holds.begun in
       let j = b.journalled in
       record {
-        seen = record { kinds = j.tops; world = j.machine; sees = j.sees; decided = (decided hd w keeping form tied held decide x there); begins = b.begins; form = formed hd w keeping form tied held decide x there };
+        seen = record {
+          kinds = j.tops;
+          world = j.machine;
+          sees = j.sees;
+          decided = (decided hd w keeping form tied held decide x there);
+          begins = b.begins;
+          form = formed hd w keeping form tied held decide x there;
+        };
         forms = kept_nodes_form hd x form w keeping h.sent;
         takers = takers hd w keeping x h;
       }
@@ -44,14 +40,18 @@ module _ (hd : Header) (w : World) (keeping : Keeping hd w) (form : HeaderInForm
   in_time t x s n m st there new wrote at_naming at_store held_there has_it =
       let h = ordered_of hd w x (held x there) in
       let i = seen_so x there in
-      let newest = newest_by_calls hd w.event (see h.sent w) right tied.called begins x i t new wrote (record { last = none_last hd w right begins x h (decided hd w keeping form tied held decide x there) t new wrote }) in
+      let newest = newest_by_calls hd w.event (see h.sent w) right tied.called begins x i t new wrote
+      (record { last = none_last hd w right begins x h (decided hd w keeping form tied held decide x there) t new wrote }) in
       is_in_time hd w.event (see h.sent w) right ties x i t new wrote newest s n m st at_naming at_store held_there has_it
 
 -- with both machines at once
-pub in_time_so : (hd : Header) (w : World) → Keeping hd w → AreJoined hd w → HeaderInForm hd → CommitsBeginIt w.event w.lines → AreExcludedInTime hd w.event (see [] w)
-in_time_so hd w keeping joined form begins = in_time hd w keeping form (lock_tied hd w keeping joined) (held_in hd w keeping joined) (decides_in hd w keeping joined) begins
+pub in_time_so : (hd : Header) (w : World) → Keeping hd w → AreJoined hd w → HeaderInForm hd → CommitsBeginIt w.event w.lines →
+    AreExcludedInTime hd w.event (see [] w)
+in_time_so hd w keeping joined form begins =
+    in_time hd w keeping form (lock_tied hd w keeping joined) (held_in hd w keeping joined) (decides_in hd w keeping joined) begins
 
-pub reached_in_time : (hd : Header) → HeaderInForm hd → (w : World) → IsReached hd w → ((x : ℕ) → OpsFit x w.lines) → CommitsBeginIt w.event w.lines → AreExcludedInTime hd w.event (see [] w)
+pub reached_in_time : (hd : Header) → HeaderInForm hd → (w : World) → IsReached hd w → ((x : ℕ) → OpsFit x w.lines) →
+    CommitsBeginIt w.event w.lines → AreExcludedInTime hd w.event (see [] w)
 reached_in_time hd form w reached fit = in_time_so hd w reached.keeping (reached_both hd form w reached fit) form
 
 pub runs_exclude : RunsExcludeInTime

@@ -1,54 +1,27 @@
 -- Of a top that committed while nobody took part in it no line says an exclusion, and none will.
-use Rattle.std.proofs.Common.{◌≡◌, ◌||◌, ◌==◌, ◌&&◌, ◌++◌, ◌∙◌, ℕ, Bool, true, false, cond, List, [], ◌∷◌, Option, Some, ap, inl, inr, refl, subst, sym, ⊎_elim}
-use Rattle.std.specs.Prelude.{is_some}
-use Rattle.std.specs.Str.{bytes_eq}
-use Rattle.std.proofs.lemmas.Slice.Eq.{bytes_eq-Decides}
-use Rattle.arj_base.specs.Rows.{is_on}
-use Rattle.arj_law_disk_view.proofs.deciding_lines.IdleKnown.{KnowsIdle}
-use Rattle.arj_law_runs.specs.journal.Book.{Book, book, is_decided, new_book, turned}
-use Rattle.arj_law_runs.specs.journal.Idle.{IsIdle}
-use Rattle.arj_law_runs.specs.journal.Knows.{IsKept, IsKnown, KnowsUp}
-use Rattle.arj_law_runs.specs.journal.Right.{AreRight, Right}
-use Rattle.arj_law_runs.proofs.journal.Books.{book_more, decided_later, later_from, never, open_is, or_which}
-use Rattle.arj_law_runs.proofs.journal.Closed.{idle_stays}
-use Rattle.arj_law_runs.proofs.journal.Idles.{alone_is_idle}
-use Rattle.arj_law_runs.proofs.journal.Models.{its_acts, its_sound, named_in}
-use Rattle.arj_law_runs.proofs.journal.Ties.{named_label}
-use Rattle.arj_law_runs.proofs.journal.Walks.{its_own}
-use Rattle.arj_lock.proofs.Members.{In, in_from}
-use Rattle.arj_law_lock_view.specs.facts.Parted.{IsPart, KnowsParted}
-use Rattle.arj_model.specs.Actions.{Act, act_in, acts}
-use Rattle.arj_law_parts.specs.parts.Actions.{Action, paths_of}
-use Rattle.arj_law_parts.specs.parts.Coords.{IsBusy, IsGoodCoord, IsVoting}
-use Rattle.arj_law_parts.proofs.parts.GoodTrees.{found_by}
-use Rattle.arj_protocol.specs.Ask.{actor}
-use Rattle.arj_protocol.specs.Commit.{plan_of}
-use Rattle.arj_protocol.specs.Coord.{Doing, doing_of}
-use Rattle.arj_protocol.specs.Effect.{Disk}
-use Rattle.arj_protocol.specs.Node.{Parts}
-use Rattle.arj_protocol.specs.Order.{has}
-use Rattle.arj_protocol.specs.Tree.{Branch, branch_of, is_own}
-use Rattle.arj_protocol.specs.Words.{Ask, Body, Line, Uid, name}
-use Rattle.arj_protocol.specs.Words.ask
-use Rattle.arj_protocol.specs.Words.body
-use Rattle.arj_protocol.specs.Words.ending
-use Rattle.arj_law_runs.specs.kept.Worlds.{IsGoodOf}
-use Rattle.arj_law_runs.proofs.kept.Handled.{good_coord}
-use Rattle.arj_law_runs.proofs.kept.Walked.{same_number}
-use Rattle.arj_law_serial.proofs.order.Paths.{found}
-use Rattle.arj_law_parts.specs.moves.Seen.{up}
-use Rattle.arj_promise.specs.Runs.{Seen}
-use Rattle.arj_law_serial.specs.joint.Marked.{ConfirmsFor, IsSpared, MarksAreAsked, WasAsked, excludes, was_marked}
-use Rattle.arj_law_serial.proofs.joint.Called.{right_behind}
-use Rattle.arj_law_serial.proofs.joint.MarkMoves.{acts_stay}
-use Rattle.arj_law_serial.proofs.joint.MarkRuns.{marked_more}
+use Rattle.arj_law_parts.proofs.Words
+use Words.{◌≡◌, ◌||◌, ◌==◌, ◌&&◌, ◌++◌, ◌∙◌, ℕ, Bool, true, false, cond, List, [], ◌∷◌, Option, Some, ap, inl, inr, refl, subst, sym}
+use Words.{⊎_elim, is_some, bytes_eq, bytes_eq-Decides, is_on, In, in_from, actor, plan_of, Doing, doing_of, Disk, Parts, has, Branch}
+use Words.{branch_of, is_own, Ask, Body, Line, Uid, name, Seen}
+use Words.ask
+use Words.body
+use Words.ending
+use Rattle.arj_law_serial.proofs.Terms
+use Terms.{KnowsIdle, Book, book, is_decided, new_book, turned, IsIdle, IsKept, IsKnown, KnowsUp, AreRight, Right, book_more, decided_later}
+use Terms.{later_from, or_which, its_acts, its_sound, named_in, named_label, its_own, IsPart, KnowsParted, Act, act_in, acts, Action}
+use Terms.{paths_of, IsBusy, IsGoodCoord, IsVoting, found_by, IsGoodOf, good_coord, same_number, up, ConfirmsFor, IsSpared, MarksAreAsked}
+use Terms.{WasAsked, excludes, was_marked}
+use Rattle.arj_law_runs.proofs.journal.{Books.never, Books.open_is, Closed.idle_stays, Idles.alone_is_idle}
+use Rattle.arj_law_serial.proofs.{joint.Called.right_behind, joint.MarkMoves.acts_stay, joint.MarkRuns.marked_more, order.Paths.found}
 
 -- ---- it stays so
 
 -- no line says an exclusion of who is decided
-pub decided_unmarked : (B : Book) (ls : List Line) → AreRight B ls → (l : List ℕ) (a : Act) → act_in B.acts l ≡ Some a → is_decided B a.uid ≡ true → (x s : ℕ) → was_marked ls l x s ≡ false
+pub decided_unmarked : (B : Book) (ls : List Line) → AreRight B ls → (l : List ℕ) (a : Act) → act_in B.acts l ≡ Some a →
+    is_decided B a.uid ≡ true → (x s : ℕ) → was_marked ls l x s ≡ false
 decided_unmarked B [] right l a named done x s = refl
-decided_unmarked B (k ∷ ls) right l a named done x s = λ i. first k.body right.0 i || decided_unmarked (turned B k.body) ls right.1 l a (acts_stay B (k ∷ []) (right.0, tt) l a named) (decided_later B (turned B k.body) (later_from B (k ∷ [])) a.uid done) x s i
+decided_unmarked B (k ∷ ls) right l a named done x s = λ i. first k.body right.0 i || decided_unmarked (turned B k.body) ls right.1 l a
+    (acts_stay B (k ∷ []) (right.0, tt) l a named) (decided_later B (turned B k.body) (later_from B (k ∷ [])) a.uid done) x s i
   where
     first : (b : Body) → Right B b → excludes l x s b ≡ false
     first (body.Excluded m y n) (z, open_it, on) = one (bytes_eq (name m) l) refl
@@ -56,18 +29,23 @@ decided_unmarked B (k ∷ ls) right l a named done x s = λ i. first k.body righ
         one : (b : Bool) → bytes_eq (name m) l ≡ b → (b && ((y == x) && (n == s))) ≡ false
         one false same = refl
         one true same =
-            let q : ◌≡◌ {A = Option Act} (Some z) (Some a) = sym open_it.named ∙ ap (act_in B.acts) ((bytes_eq-Decides (name m) l).0 same) ∙ named in
+            let q : ◌≡◌ {A = Option Act} (Some z) (Some a) = sym open_it.named ∙ ap (act_in B.acts) ((bytes_eq-Decides (name m) l).0 same)
+            ∙ named in
             let one_act : z ≡ a = cc q in
             let at = ap (λ (y : Act). is_decided B y.uid) one_act ∙ done in
-            absurd (⊎_elim (λ committed. never committed (open_is B z.uid open_it.unended).0) (λ was. never was open_it.unfound) (or_which (is_on B.committed z.uid) (is_on B.found z.uid) at))
+            absurd (⊎_elim (λ committed. never committed (open_is B z.uid open_it.unended).0) (λ was. never was open_it.unfound)
+            (or_which (is_on B.committed z.uid) (is_on B.found z.uid) at))
     first b r = refl
 
-spared_stays : (before more : List Line) (u : Uid) → AreRight new_book (before ++ more) → is_decided (book before) u ≡ true → IsSpared before u → IsSpared (before ++ more) u
+spared_stays : (before more : List Line) (u : Uid) → AreRight new_book (before ++ more) → is_decided (book before) u ≡ true →
+    IsSpared before u → IsSpared (before ++ more) u
 spared_stays before more u right done p = record {
   act = p.act;
-  named = ap (λ (B : Book). act_in B.acts p.act.label) (book_more new_book before more) ∙ acts_stay (book before) more (right_behind new_book before more right) p.act.label p.act p.named;
+  named = ap (λ (B : Book). act_in B.acts p.act.label) (book_more new_book before more)
+      ∙ acts_stay (book before) more (right_behind new_book before more right) p.act.label p.act p.named;
   uid = p.uid;
-  spared = λ x s. marked_more before more p.act.label x s ∙ (λ i. p.spared x s i || decided_unmarked (book before) more (right_behind new_book before more right) p.act.label p.act p.named (ap (is_decided (book before)) p.uid ∙ done) x s i);
+  spared = λ x s. marked_more before more p.act.label x s ∙ (λ i. p.spared x s i || decided_unmarked (book before) more
+      (right_behind new_book before more right) p.act.label p.act p.named (ap (is_decided (book before)) p.uid ∙ done) x s i);
 }
 
 -- ---- who was left alone
@@ -76,7 +54,9 @@ spared_stays before more u right done p = record {
 abbrev pub ArePartedNow : Seen → Type 0
 ArePartedNow M = (begun : List Action) × IsGoodOf begun M × KnowsParted begun M
 
-module _ (k : ℕ) (d : Disk) (t : Parts) (M : Seen) (kept : IsKept (up k d t M)) (asked : MarksAreAsked (up k d t M)) (parted : ArePartedNow (up k d t M)) (u : Uid) (b : Branch) (q : Doing) (found_b : branch_of u t.coord.tree ≡ Some b) (does : doing_of u t.coord ≡ Some q) (committed : b.ended ≡ Some ending.Commit) (took : q.took ≡ []) where
+module _ (k : ℕ) (d : Disk) (t : Parts) (M : Seen) (kept : IsKept (up k d t M)) (asked : MarksAreAsked (up k d t M))
+    (parted : ArePartedNow (up k d t M)) (u : Uid) (b : Branch) (q : Doing) (found_b : branch_of u t.coord.tree ≡ Some b)
+    (does : doing_of u t.coord ≡ Some q) (committed : b.ended ≡ Some ending.Commit) (took : q.took ≡ []) where
   right : AreRight new_book M.lines
   right = let w = kept.1 in w.right
 
@@ -113,7 +93,8 @@ module _ (k : ℕ) (d : Disk) (t : Parts) (M : Seen) (kept : IsKept (up k d t M)
     where
       by : (c : Bool) → was_marked M.lines known.act.label x s ≡ c → c ≡ false
       by false is = refl
-      by true is = absurd (no_part w.post.to (ask.Confirm c.grants c.excluded c.included) (subst (λ v. IsPart t.coord v w.post.to (ask.Confirm c.grants c.excluded c.included)) whose its))
+      by true is = absurd (no_part w.post.to (ask.Confirm c.grants c.excluded c.included)
+          (subst (λ v. IsPart t.coord v w.post.to (ask.Confirm c.grants c.excluded c.included)) whose its))
         where
           w : WasAsked M.lines M.sent known.act.label
           w = asked known.act.label x s is
@@ -124,8 +105,10 @@ module _ (k : ℕ) (d : Disk) (t : Parts) (M : Seen) (kept : IsKept (up k d t M)
           one : w.act ≡ known.act
           one =
               let apart = (let z = its_sound M.lines right in z.distinct) in
-              let there : In known.act (acts M.lines) = subst (In known.act) (its_acts M.lines right) (named_in (book M.lines).acts (name q.label) known.act known.named) in
-              let e : ◌≡◌ {A = Option Act} (Some w.act) (Some known.act) = sym (found (acts M.lines) apart w.act (in_from w.act (acts M.lines) w.there)) ∙ ap (act_in (acts M.lines)) w.label ∙ found (acts M.lines) apart known.act there in
+              let there : In known.act (acts M.lines) = subst (In known.act) (its_acts M.lines right)
+              (named_in (book M.lines).acts (name q.label) known.act known.named) in
+              let e : ◌≡◌ {A = Option Act} (Some w.act) (Some known.act) = sym (found (acts M.lines) apart w.act (in_from w.act
+              (acts M.lines) w.there)) ∙ ap (act_in (acts M.lines)) w.label ∙ found (acts M.lines) apart known.act there in
               cc e
 
           whose : actor c.head.path ≡ u
@@ -134,8 +117,10 @@ module _ (k : ℕ) (d : Disk) (t : Parts) (M : Seen) (kept : IsKept (up k d t M)
           its : IsPart t.coord (actor c.head.path) w.post.to (ask.Confirm c.grants c.excluded c.included)
           its =
               let p = parted.2 in
-              let z = p.coords k (record { number = k; disk = d; live = Some t }) t (λ i. cond (same_number k i) (Some (record { number = k; disk = d; live = Some t })) (M.nodes k)) refl in
-              z.0 w.post c.head (ask.Confirm c.grants c.excluded c.included) w.posted c.asked refl (ap (λ v. is_own v t.coord.tree) whose ∙ (found_by u t.coord.tree b found_b).0)
+              let z = p.coords k (record { number = k; disk = d; live = Some t }) t
+              (λ i. cond (same_number k i) (Some (record { number = k; disk = d; live = Some t })) (M.nodes k)) refl in
+              z.0 w.post c.head (ask.Confirm c.grants c.excluded c.included) w.posted c.asked refl
+              (ap (λ v. is_own v t.coord.tree) whose ∙ (found_by u t.coord.tree b found_b).0)
 
   pub alone_is_spared : IsSpared M.lines u
   alone_is_spared = record { act = known.act; named = ap (act_in (book M.lines).acts) label ∙ known.named; uid = known.uid; spared = none }
@@ -151,7 +136,8 @@ knows_spared R known = record {
   stays = λ M r kept before more u is decided (idle, spared). let right = subst (AreRight new_book) is (let w = kept.1 in w.right) in
       subst (λ ls. IsIdleSo ls u) (sym is) (idle_stays before more u right idle, spared_stays before more u right decided spared);
   alone = λ k d t M r kept u b q found does committed top took. let z = known (up k d t M) r in (
-    alone_is_idle k d t M kept u (record { branch = b; doing = q; found = found; does = does; committed = committed; top = top; took = took }),
+    alone_is_idle k d t M kept u
+        (record { branch = b; doing = q; found = found; does = does; committed = committed; top = top; took = took }),
     alone_is_spared k d t M kept z.0 z.1 u b q found does committed took,
   );
 }

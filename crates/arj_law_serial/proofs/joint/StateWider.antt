@@ -1,16 +1,13 @@
 -- Where more holds of states than before, it holds of them wherever they are.
-use Rattle.std.proofs.Common.{ℕ, Option, Some, None}
-use Rattle.std.specs.Prelude.{IfSome}
-use Rattle.arj_protocol.specs.Words.{Ask, Asked, Head, Message, ObjectState, Uid, asks}
-use Rattle.arj_protocol.specs.Words.ask
-use Rattle.arj_protocol.specs.Words.loaded
-use Rattle.arj_protocol.specs.Words.voted
-use Rattle.arj_protocol.specs.Ask.{Reply, answers}
-use Rattle.arj_protocol.specs.Call.{At, AtActivate, AtBind, AtInvoke, AtLoad, AtNote}
-use Rattle.arj_protocol.specs.Commit.{Plan, Used, plan_of}
-use Rattle.arj_protocol.specs.Coord.{Calling, Committing, Coord, Idle, Joined, Now, Root}
-use Rattle.arj_law_disk_view.specs.running.States.{AnsweredIsSo, AskIsSo, AskedIsSo, AtIsSo, CoordIsSo, Fits, MessageIsSo, NowIsSo, Own, OwnOf, PlanIsSo, ReplyIsSo, RootIsSo}
-use Rattle.arj_law_disk_view.proofs.running.Lists.{all_each}
+use Rattle.arj_law_parts.proofs.Words
+use Words.{ℕ, Option, Some, None, IfSome, Ask, Asked, Head, Message, ObjectState, Uid, asks, Reply, answers, At, AtActivate, AtBind}
+use Words.{AtInvoke, AtLoad, AtNote, Plan, Used, plan_of, Calling, Committing, Coord, Idle, Joined, Now, Root}
+use Words.ask
+use Words.loaded
+use Words.voted
+use Rattle.arj_law_serial.proofs.Terms
+use Terms.{AnsweredIsSo, AskIsSo, AskedIsSo, CoordIsSo, Fits, MessageIsSo, NowIsSo, Own, PlanIsSo, ReplyIsSo, all_each}
+use Rattle.arj_law_disk_view.specs.running.States.{AtIsSo, OwnOf, RootIsSo}
 
 -- the second holds where the first does
 pub record IsWider (F G : Fits) : Type 0 where
@@ -65,7 +62,8 @@ module _ (F G : Fits) (more : IsWider F G) where
 
   plan_wider : (p : Plan) → PlanIsSo F p → PlanIsSo G p
   plan_wider p its = record {
-    used = all_each (λ (u : Used). IfSome u.loaded (OwnOf F.kept u.x)) (λ (u : Used). IfSome u.loaded (OwnOf G.kept u.x)) p.used (λ u. by u.x u.loaded) its.used;
+    used = all_each (λ (u : Used). IfSome u.loaded (OwnOf F.kept u.x)) (λ (u : Used). IfSome u.loaded (OwnOf G.kept u.x)) p.used
+        (λ u. by u.x u.loaded) its.used;
     changed = all_each (Own F.voted) (Own G.voted) p.changed (λ st. more.voted st.uid st) its.changed;
   }
     where
@@ -80,8 +78,10 @@ module _ (F G : Fits) (more : IsWider F G) where
 
   root_wider : (r : Root) → RootIsSo F r → RootIsSo G r
   root_wider r its = record {
-    joined = all_each (λ (j : Joined). OwnOf F.kept j.x j.loaded) (λ (j : Joined). OwnOf G.kept j.x j.loaded) r.joined (λ j so. (more.kept j.loaded.uid j.loaded so.0, so.1)) its.joined;
-    states = all_each (λ (e : ℕ × ObjectState). OwnOf F.kept e.0 e.1) (λ (e : ℕ × ObjectState). OwnOf G.kept e.0 e.1) r.states (λ e so. (more.kept e.1.uid e.1 so.0, so.1)) its.states;
+    joined = all_each (λ (j : Joined). OwnOf F.kept j.x j.loaded) (λ (j : Joined). OwnOf G.kept j.x j.loaded) r.joined
+        (λ j so. (more.kept j.loaded.uid j.loaded so.0, so.1)) its.joined;
+    states = all_each (λ (e : ℕ × ObjectState). OwnOf F.kept e.0 e.1) (λ (e : ℕ × ObjectState). OwnOf G.kept e.0 e.1) r.states
+        (λ e so. (more.kept e.1.uid e.1 so.0, so.1)) its.states;
   }
 
   pub coord_wider : (c : Coord) → CoordIsSo F c → CoordIsSo G c

@@ -1,48 +1,24 @@
 -- Where a write of the object survives in the lock machine, its top is one of the journal, committed there, and wrote the object.
-use Rattle.std.proofs.Common.{◌≡◌, ◌+◌, ◌&&◌, ◌||◌, not, ℕ, Bool, true, false, cond, List, [], ◌∷◌, Some, None, refl, sym, ◌∙◌, ap, subst, inl, inr, eq-eqb}
-use Rattle.std.specs.List.{list_all}
-use Rattle.arj_base.proofs.Uids.{uid_same}
-use Rattle.arj_base.specs.Rows.{is_on, last_uid}
-use Rattle.arj_base.specs.Uid.{uid_eq}
-use Rattle.arj_lock.proofs.Members.{In, in_to}
-use Rattle.arj_model.specs.Actions.{Act, Placed, acts, chain_in, committed, has_end, is_committed, is_serial, recovered, top_in, uids}
-use Rattle.arj_model.specs.Calls.{Call, Said, call_of, committed_calls, kept, kept_in, said}
-use Rattle.arj_model.specs.Serial.{Values, writes_on}
-use Rattle.arj_protocol.specs.Words.{Line, Uid}
-use Rattle.arj_law_parts.specs.parts.Actions.{Action}
-use Rattle.arj_promise.specs.Runs.{Seen}
-use Rattle.arj_law_runs.specs.journal.Book.{is_top, new_book}
-use Rattle.arj_law_runs.specs.journal.Laws.{IsDone}
-use Rattle.arj_law_runs.specs.journal.Paths.{AreAlike}
-use Rattle.arj_law_runs.specs.journal.Right.{AreRight}
-use Rattle.arj_law_runs.proofs.journal.Models.{AreSound, its_acts, its_sound}
-use Rattle.arj_law_runs.proofs.journal.Ties.{on_path}
-use Rattle.arj_law_lock.specs.machine.Actions as machine
-use Rattle.arj_law_lock.specs.machine.Actions.{is_action, on, top}
-use Rattle.arj_law_lock.specs.machine.State as state
-use Rattle.arj_law_lock.specs.machine.State.{State}
-use Rattle.arj_law_lock.specs.machine.Steps.{Survives}
-use Rattle.arj_law_lock.proofs.machine.Claims.{Holds}
-use Rattle.arj_law_lock.proofs.machine.Order.{run_keeps, start_holds}
-use Rattle.arj_law_lock.proofs.machine.Paths.{top_of}
-use Rattle.arj_law_lock_view.specs.journal.Lines.{AreCallsOf, IsCallOf, IsTiedToLines, said_on}
-use Rattle.arj_law_lock_view.specs.view.Acts.{Acts}
-use Rattle.arj_law_lock_view.specs.view.Copies.{Codes}
-use Rattle.arj_law_lock_view.specs.running.Beside.{IsSeenIn}
-use Rattle.arj_law_lock_view.specs.running.Fixed.{BeginsAs, Fixed}
-use Rattle.arj_law_lock_view.specs.running.Kept.{case_of}
-use Rattle.arj_promise.specs.Excluded.{Wrote}
-use Rattle.arj_law_serial.specs.order.Tied.{HasPlaces, path_of}
-use Rattle.arj_law_serial.proofs.order.Begun.{begun_have_places}
-use Rattle.arj_law_serial.proofs.order.Items.{said_maker}
-use Rattle.arj_law_serial.proofs.order.Paths.{chain_on, own_last, own_top, top_on}
-use Rattle.arj_law_serial.proofs.order.Tying.{all_in, chain_nested, nested_end, shape_of}
-use Rattle.arj_law_serial.proofs.order.Values.{on_object}
+use Rattle.arj_law_parts.proofs.Words
+use Words.{◌≡◌, ◌+◌, ◌&&◌, ◌||◌, not, ℕ, Bool, true, false, cond, List, [], ◌∷◌, Some, None, refl, sym, ◌∙◌, ap, subst, inl, inr, eq-eqb}
+use Words.{list_all, uid_same, is_on, last_uid, uid_eq, In, in_to, Line, Uid, Seen, Wrote}
+use Rattle.arj_law_serial.proofs.Terms
+use Terms.{Act, Placed, acts, chain_in, committed, has_end, is_committed, is_serial, recovered, top_in, uids, Said, call_of}
+use Terms.{committed_calls, kept, kept_in, Values, writes_on, Action, is_top, new_book, IsDone, AreAlike, AreRight, AreSound, its_acts}
+use Terms.{its_sound, on_path, is_action, on, top, State, Survives, Holds, run_keeps, start_holds, top_of, AreCallsOf, IsCallOf}
+use Terms.{IsTiedToLines, said_on, Acts, Codes, IsSeenIn, BeginsAs, Fixed, case_of, HasPlaces, path_of}
+use Terms.machine
+use Terms.state
 use Rattle.arj_law_serial.proofs.joint.Called.{mapped}
-use Rattle.arj_law_serial.proofs.order.Order.{top_plain}
+use Rattle.arj_law_serial.proofs.order
+use order.{Begun.begun_have_places, Items.said_maker, Order.top_plain, Values.on_object}
+use order.Paths.{chain_on, own_last, own_top, top_on}
+use order.Tying.{all_in, chain_nested, nested_end, shape_of}
+use Rattle.arj_model.specs.Calls.{Call, said}
 
 -- the journal's call of one of the machine
-pub call_found : (act : Acts) (code : Codes) (ss : List (Placed Said)) (cs : List state.Call) → AreCallsOf act code ss cs → (c : state.Call) → machine.In c cs → (s : Placed Said) × In s ss × IsCallOf act code s c
+pub call_found : (act : Acts) (code : Codes) (ss : List (Placed Said)) (cs : List state.Call) → AreCallsOf act code ss cs →
+    (c : state.Call) → machine.In c cs → (s : Placed Said) × In s ss × IsCallOf act code s c
 call_found act code [] [] are c i = absurd i
 call_found act code [] (d ∷ cs) are c i = absurd are
 call_found act code (s ∷ ss) [] are c i = absurd are
@@ -89,7 +65,8 @@ pub record IsTopThere (act : Acts) (lines : List Line) (m : machine.Act) : Type 
   pub kind : is_top its.kind ≡ true
   pub place : act its.uid ≡ m
 
-module _ (f : Fixed) (x : ℕ) (begun : List Action) (S : State) (M : Seen) (seen : IsSeenIn (case_of f x begun S) M) (values : Values) (begins : BeginsAs values x f) where
+module _ (f : Fixed) (x : ℕ) (begun : List Action) (S : State) (M : Seen) (seen : IsSeenIn (case_of f x begun S) M) (values : Values)
+    (begins : BeginsAs values x f) where
   right : AreRight new_book M.lines
   right = let w = seen.written in w.right
 
@@ -97,7 +74,8 @@ module _ (f : Fixed) (x : ℕ) (begun : List Action) (S : State) (M : Seen) (see
   sound = its_sound M.lines right
 
   places : HasPlaces f.act M.lines
-  places = begun_have_places begun f.paths f.act M.lines right (subst (AreAlike begun) (its_acts M.lines right) seen.alike) (let a = seen.agrees in a.whole)
+  places = begun_have_places begun f.paths f.act M.lines right (subst (AreAlike begun) (its_acts M.lines right) seen.alike)
+      (let a = seen.agrees in a.whole)
 
   tied : IsTiedToLines f.act f.code values x M.lines S
   tied = seen.tied values begins
@@ -125,10 +103,12 @@ module _ (f : Fixed) (x : ℕ) (begun : List Action) (S : State) (M : Seen) (see
     path_is = (said_maker M.lines right s object.0).path_is
 
     caller : c.act ≡ f.act maker.uid
-    caller = (let k = pair.2 in k.caller) ∙ ap (λ (p : List Act). f.act (last_uid (uids p))) path_is ∙ ap f.act (own_last (acts M.lines) sound.distinct sound.formed maker made)
+    caller = (let k = pair.2 in k.caller) ∙ ap (λ (p : List Act). f.act (last_uid (uids p))) path_is
+        ∙ ap f.act (own_last (acts M.lines) sound.distinct sound.formed maker made)
 
     plain : is_serial maker.kind ≡ false
-    plain = off (is_serial maker.kind) (sym (places.actions maker (in_to maker (acts M.lines) made)) ∙ ap is_action (sym caller) ∙ (let h = holds.calls c there in h.acts))
+    plain = off (is_serial maker.kind)
+        (sym (places.actions maker (in_to maker (acts M.lines) made)) ∙ ap is_action (sym caller) ∙ (let h = holds.calls c there in h.acts))
 
     topmost : (t : Act) × (top_in (path_of M.lines maker) ≡ Some t)
     topmost = own_top (acts M.lines) sound.distinct sound.formed maker made plain
@@ -149,7 +129,8 @@ module _ (f : Fixed) (x : ℕ) (begun : List Action) (S : State) (M : Seen) (see
     its_top : f.act t.uid ≡ top c.act
     its_top =
         let i = in_to t (acts M.lines) (member t top_path) in
-        let above : on c.act (f.act t.uid) ≡ true = ap (λ a. on a (f.act t.uid)) caller ∙ places.above maker t (in_to maker (acts M.lines) made) i ∙ uid_on (path_of M.lines maker) t top_path in
+        let above : on c.act (f.act t.uid) ≡ true = ap (λ a. on a (f.act t.uid)) caller
+        ∙ places.above maker t (in_to maker (acts M.lines) made) i ∙ uid_on (path_of M.lines maker) t top_path in
         sym (top_of c.act (f.act t.uid) (places.tops t i ∙ top_kind) above)
 
     pub top_there : IsTopThere f.act M.lines (top c.act)
@@ -160,7 +141,8 @@ module _ (f : Fixed) (x : ℕ) (begun : List Action) (S : State) (M : Seen) (see
       done : (b : Act) → In b (path_of M.lines maker) → is_serial b.kind ≡ false → IsDone M.lines b
       done b j is =
           let i = in_to b (acts M.lines) (member b j) in
-          let above : on c.act (f.act b.uid) ≡ true = ap (λ a. on a (f.act b.uid)) caller ∙ places.above maker b (in_to maker (acts M.lines) made) i ∙ uid_on (path_of M.lines maker) b j in
+          let above : on c.act (f.act b.uid) ≡ true = ap (λ a. on a (f.act b.uid)) caller
+          ∙ places.above maker b (in_to maker (acts M.lines) made) i ∙ uid_on (path_of M.lines maker) b j in
           let e = tied.ends b i is in
           (e.only (survives (f.act b.uid) above (places.actions b i ∙ ap not is))).0
 
@@ -169,12 +151,14 @@ module _ (f : Fixed) (x : ℕ) (begun : List Action) (S : State) (M : Seen) (see
 
       kept_is : kept (committed M.lines) (recovered M.lines) s ≡ Some (call_of s t)
       kept_is =
-          let below : list_all (λ (a : Act). has_end (committed M.lines) a.id) (chain_in (path_of M.lines maker)) ≡ true = all_in (λ (a : Act). has_end (committed M.lines) a.id) (chain_in (path_of M.lines maker)) (λ b i.
+          let below : list_all (λ (a : Act). has_end (committed M.lines) a.id) (chain_in (path_of M.lines maker)) ≡ true = all_in
+          (λ (a : Act). has_end (committed M.lines) a.id) (chain_in (path_of M.lines maker)) (λ b i.
           let k = chain_nested M.lines right maker b i in
           let j = chain_on (path_of M.lines maker) b i in
           nested_end M.lines right b (member b j) k.0 (done b j k.1)) in
           ap (kept_in (committed M.lines) (recovered M.lines) s) (ap top_in path_is ∙ topmost.1)
-          ∙ ap (λ b. cond (b && is_committed (committed M.lines) (recovered M.lines) t) (Some (call_of s t)) None) (ap (λ q. list_all (λ (a : Act). has_end (committed M.lines) a.id) (chain_in q)) path_is ∙ below)
+          ∙ ap (λ b. cond (b && is_committed (committed M.lines) (recovered M.lines) t) (Some (call_of s t)) None)
+          (ap (λ q. list_all (λ (a : Act). has_end (committed M.lines) a.id) (chain_in q)) path_is ∙ below)
           ∙ ap (λ b. cond b (Some (call_of s t)) None) top_done
 
       pub has_written : HasWritten M.lines x u

@@ -1,30 +1,16 @@
 -- The places of begun actions are those of a journal with the same actions.
-use Rattle.std.proofs.Common.{◌≡◌, not, List, [], ◌∷◌, true, false, Some, refl, sym, ◌∙◌, ap, subst, inl, inr}
-use Rattle.arj_base.specs.Path.{first_uid, uids_of}
-use Rattle.arj_base.specs.Rows.{is_on}
-use Rattle.arj_journal.specs.declared.body.Kind.{Kind}
-use Rattle.arj_journal.specs.declared.body.Kind.TheVariants as kind
-use Rattle.arj_journal.specs.declared.body.Line.{Line}
-use Rattle.arj_lock.proofs.Members.{In, in_from, in_to}
-use Rattle.arj_model.specs.Actions.{Act, acts, is_serial, path, root_in, uids}
-use Rattle.arj_law_parts.specs.parts.Actions.{Action, act_of}
-use Rattle.arj_law_parts.specs.parts.Copies.{Paths}
-use Rattle.arj_law_runs.specs.journal.Book.{is_top, new_book}
-use Rattle.arj_law_runs.specs.journal.Laws.{AreDistinct}
-use Rattle.arj_law_runs.specs.journal.Paths as lines_law
-use Rattle.arj_law_runs.specs.journal.Right.{AreRight}
-use Rattle.arj_law_runs.proofs.journal.Closed.{one_act}
-use Rattle.arj_law_runs.proofs.journal.Models.{AreSound, its_sound}
-use Rattle.arj_law_runs.proofs.journal.Ties.{on_path, on_uids, path_new, path_old}
-use Rattle.arj_law_lock.specs.machine.Actions as machine
-use Rattle.arj_law_lock.specs.machine.Actions.{is_action, on, root}
-use Rattle.arj_law_lock.proofs.machine.Paths.{top_action}
-use Rattle.arj_law_lock_view.specs.view.Actions as view
-use Rattle.arj_law_lock_view.specs.view.Actions.{IsPlaced}
-use Rattle.arj_law_lock_view.specs.view.Acts.{Acts}
-use Rattle.arj_law_lock_view.specs.view.Telling.{AreOneTree}
-use Rattle.arj_law_serial.specs.order.Tied.{Began, HasPlaces, path_of}
+use Rattle.arj_law_parts.proofs.Words
+use Words.{◌≡◌, not, List, [], ◌∷◌, true, false, Some, refl, sym, ◌∙◌, ap, subst, inl, inr, first_uid, uids_of, is_on, Kind, Line, In}
+use Words.{in_from, in_to}
+use Rattle.arj_law_serial.proofs.Terms
+use Terms.{Act, acts, is_serial, path, root_in, uids, Action, act_of, Paths, is_top, new_book, AreDistinct, AreRight, one_act, AreSound}
+use Terms.{its_sound, on_path, on_uids, path_new, path_old, is_action, on, root, top_action, IsPlaced, Acts, AreOneTree, Began, HasPlaces}
+use Terms.{path_of}
+use Terms.kind
+use Terms.machine
 use Rattle.arj_law_serial.proofs.order.Paths.{own_there}
+use Rattle.arj_law_runs.specs.journal.Paths as lines_law
+use Rattle.arj_law_lock_view.specs.view.Actions as view
 
 -- ---- places
 
@@ -36,16 +22,25 @@ record IsOf (begun : List Action) (b : Act) (p : List Act) : Type 0 where
   kind : b.kind ≡ action.kind
   path_is : uids p ≡ uids_of action.path
 
-begun_of : (begun : List Action) (acts : List Act) → lines_law.AreAlike begun acts → AreDistinct acts → (b : Act) → In b acts → IsOf begun b (path acts b.label)
+begun_of : (begun : List Action) (acts : List Act) → lines_law.AreAlike begun acts → AreDistinct acts → (b : Act) → In b acts →
+    IsOf begun b (path acts b.label)
 begun_of begun [] alike apart b i = absurd i
 begun_of [] (x ∷ acts) alike apart b i = absurd alike
 begun_of (a ∷ begun) (x ∷ acts) alike apart b (inl same) =
-    subst (λ (z : Act). IsOf (a ∷ begun) z (path (x ∷ acts) z.label)) same (record { action = a; there = inl refl; uid = alike.0; kind = alike.1; path_is = ap uids (path_new x acts) ∙ alike.2 })
+    subst (λ (z : Act). IsOf (a ∷ begun) z (path (x ∷ acts) z.label)) same
+    (record { action = a; there = inl refl; uid = alike.0; kind = alike.1; path_is = ap uids (path_new x acts) ∙ alike.2 })
 begun_of (a ∷ begun) (x ∷ acts) alike apart b (inr i) =
     let r = begun_of begun acts alike.3 apart.3 b i in
-    record { action = r.action; there = inr r.there; uid = r.uid; kind = r.kind; path_is = ap uids (path_old x acts b apart.1 i) ∙ r.path_is }
+    record {
+      action = r.action;
+      there = inr r.there;
+      uid = r.uid;
+      kind = r.kind;
+      path_is = ap uids (path_old x acts b apart.1 i) ∙ r.path_is;
+    }
 
-module _ (begun : List Action) (paths : Paths) (act : Acts) (lines : List Line) (right : AreRight new_book lines) (alike : lines_law.AreAlike begun (acts lines)) (tree : AreOneTree (record { begun = begun; paths = paths; act = act })) where
+module _ (begun : List Action) (paths : Paths) (act : Acts) (lines : List Line) (right : AreRight new_book lines)
+    (alike : lines_law.AreAlike begun (acts lines)) (tree : AreOneTree (record { begun = begun; paths = paths; act = act })) where
   sound : AreSound (acts lines)
   sound = its_sound lines right
 
@@ -59,7 +54,8 @@ module _ (begun : List Action) (paths : Paths) (act : Acts) (lines : List Line) 
   path_same a c = let r = the_action a c in ap paths r.uid ∙ tree.agree r.action (in_to r.action begun r.there) ∙ sym r.path_is
 
   placed : (a : Act) → Began lines a → IsPlaced (act a.uid) a.kind
-  placed a c = let r = the_action a c in subst (λ u. IsPlaced (act u) a.kind) (sym r.uid) (subst (IsPlaced (act (act_of r.action))) (sym r.kind) (tree.placed r.action (in_to r.action begun r.there)))
+  placed a c = let r = the_action a c in subst (λ u. IsPlaced (act u) a.kind) (sym r.uid)
+      (subst (IsPlaced (act (act_of r.action))) (sym r.kind) (tree.placed r.action (in_to r.action begun r.there)))
 
   no_top : (m : machine.Act) → is_action m ≡ false → machine.is_top m ≡ false
   no_top (machine.Root u) e = refl
@@ -79,23 +75,30 @@ module _ (begun : List Action) (paths : Paths) (act : Acts) (lines : List Line) 
   actions_by m kind.Constituent p = top_action m p
   actions_by m kind.Independent p = top_action m p
 
-  filled : (a : Act) (m : machine.Act) → Began lines a → on (act a.uid) m ≡ true → is_action m ≡ true → (b : Act) × Began lines b × (m ≡ act b.uid)
+  filled : (a : Act) (m : machine.Act) → Began lines a → on (act a.uid) m ≡ true → is_action m ≡ true →
+      (b : Act) × Began lines b × (m ≡ act b.uid)
   filled a m c on_act action =
       let w = same.filled a.uid m on_act action in
-      let on_path_of : is_on (uids (path_of lines a)) w.0 ≡ true = ap (λ us. is_on us w.0) (sym (path_same a c)) ∙ sym (same.above a.uid w.0) ∙ ap (on (act a.uid)) (sym w.1) ∙ on_act in
+      let on_path_of : is_on (uids (path_of lines a)) w.0 ≡ true = ap (λ us. is_on us w.0) (sym (path_same a c))
+      ∙ sym (same.above a.uid w.0) ∙ ap (on (act a.uid)) (sym w.1) ∙ on_act in
       let f = on_uids (path_of lines a) w.0 on_path_of in
       (f.0, in_to f.0 (acts lines) (on_path (acts lines) a.label f.0 f.1), w.1 ∙ ap act (sym f.2))
 
   -- two paths that begin with one Uid have one root
-  units : (a b : Act) → Began lines a → Began lines b → root (act a.uid) ≡ root (act b.uid) → root_in (path_of lines a) ≡ root_in (path_of lines b)
+  units : (a b : Act) → Began lines a → Began lines b → root (act a.uid) ≡ root (act b.uid) →
+      root_in (path_of lines a) ≡ root_in (path_of lines b)
   units a b c d e =
-      by (path_of lines a) (path_of lines b) (λ x i. on_path (acts lines) a.label x i) (λ x i. on_path (acts lines) b.label x i) (own_there (acts lines) sound.distinct sound.formed a (in_from a (acts lines) c)) (own_there (acts lines) sound.distinct sound.formed b (in_from b (acts lines) d))
+      by (path_of lines a) (path_of lines b) (λ x i. on_path (acts lines) a.label x i) (λ x i. on_path (acts lines) b.label x i)
+      (own_there (acts lines) sound.distinct sound.formed a (in_from a (acts lines) c))
+      (own_there (acts lines) sound.distinct sound.formed b (in_from b (acts lines) d))
       (ap first_uid (sym (path_same a c)) ∙ same.units a.uid b.uid e ∙ ap first_uid (path_same b d))
     where
-      by : (p q : List Act) → ((x : Act) → In x p → In x (acts lines)) → ((x : Act) → In x q → In x (acts lines)) → In a p → In b q → first_uid (uids p) ≡ first_uid (uids q) → root_in p ≡ root_in q
+      by : (p q : List Act) → ((x : Act) → In x p → In x (acts lines)) → ((x : Act) → In x q → In x (acts lines)) → In a p → In b q →
+          first_uid (uids p) ≡ first_uid (uids q) → root_in p ≡ root_in q
       by [] q f g i j first = absurd i
       by (x ∷ p) [] f g i j first = absurd j
-      by (x ∷ p) (y ∷ q) f g i j first = ap (λ (z : Act). Some z.id) (one_act (acts lines) sound.distinct x y (f x (inl refl)) (g y (inl refl)) first)
+      by (x ∷ p) (y ∷ q) f g i j first =
+          ap (λ (z : Act). Some z.id) (one_act (acts lines) sound.distinct x y (f x (inl refl)) (g y (inl refl)) first)
 
   pub begun_have_places : HasPlaces act lines
   begun_have_places = record {

@@ -1,41 +1,18 @@
 -- The disks that are seen hold the journal's last state and entry, where nothing is in doubt.
-use Rattle.std.proofs.Common.{◌≡◌, ℕ, ◌+◌, ◌-◌, ◌==◌, ◌||◌, List, [], ◌∷◌, ◌++◌, length, Bool, true, false, cond, nat_lt, Option, Some, None, refl, sym, ◌∙◌, ap, eqb-true}
-use Rattle.std.specs.Prelude.{option_map}
-use Rattle.arj_base.specs.declared.state.ObjectState.{ObjectState}
-use Rattle.arj_base.specs.Uid.{entry, object}
-use Rattle.arj_class.specs.declared.op.Op.{Op}
+use Rattle.arj_law_parts.proofs.Words
+use Words.{◌≡◌, ℕ, ◌+◌, ◌-◌, ◌==◌, ◌||◌, List, [], ◌∷◌, ◌++◌, length, Bool, true, false, cond, nat_lt, Option, Some, None, refl, sym, ◌∙◌}
+use Words.{ap, eqb-true, option_map, ObjectState, entry, object, Op, Value, Account, Counter, Queue, Register, Table, class_of, is_full_for}
+use Words.{put_pair, value_after, Line, Header, held_at, holder_of, Node, state_entry, number_tells, Seen}
+use Rattle.arj_law_serial.proofs.Terms
+use Terms.{entry_payload, entry_state, first_values, is_among, last_state, object_line, servers_of_line, Values, run, serial_calls}
+use Terms.{new_book, AreRight, World, Packed, last, last_entry, has, SeesEntry, packed, packed_entry, Kinds, SeesDisks, SeesStore}
+use Terms.{place_free, AreDecided, BeginsSo, HaveForm, IsCleanIn}
 use Rattle.arj_class.specs.declared.op.Op.TheVariants.{Add, Deposit, Pop, Push, Put, PutPair, Remove, Set, Withdraw}
-use Rattle.arj_class.specs.declared.value.Value.{Value}
-use Rattle.arj_class.specs.declared.value.Value.TheVariants.{Account, Counter, Queue, Register, Table}
-use Rattle.arj_class.specs.Table.{class_of, is_full_for, put_pair, value_after}
-use Rattle.arj_journal.specs.declared.body.Line.{Line}
-use Rattle.arj_journal.specs.declared.header.Header.{Header}
-use Rattle.arj_model.specs.Calls.{Call}
-use Rattle.arj_model.specs.Last.{entry_payload, entry_state, first_values, is_among, last_state, listed, object_line, servers_of_line}
-use Rattle.arj_model.specs.Serial.{Values, after, run, serial_calls}
-use Rattle.arj_law_runs.specs.journal.Book.{new_book}
-use Rattle.arj_law_runs.specs.journal.Right.{AreRight}
-use Rattle.arj_law_runs.proofs.journal.Likes.{some_is}
-use Rattle.arj_protocol.specs.Effect.{held_at, holder_of}
-use Rattle.arj_protocol.specs.Step.{Node}
-use Rattle.arj_protocol.specs.Values.{state_entry}
-use Rattle.arj_protocol.proofs.Numbers.{number_tells}
-use Rattle.arj_law_disk.specs.machine.Effects.{World}
-use Rattle.arj_law_disk.specs.machine.Laws.{IsClean}
-use Rattle.arj_law_disk.specs.machine.State.{Packed, last, last_entry}
-use Rattle.arj_law_disk.specs.machine.Words.{has}
 use Rattle.arj_law_disk.proofs.machine.Results.{clean}
-use Rattle.arj_promise.specs.Runs.{Seen}
-use Rattle.arj_law_disk_view.specs.view.Entries.{SeesEntry}
-use Rattle.arj_law_disk_view.specs.view.Pairs.{packed, packed_entry}
-use Rattle.arj_law_disk_view.specs.view.Sees.{Kinds, SeesDisks}
-use Rattle.arj_law_disk_view.specs.view.Stores.{SeesStore}
-use Rattle.arj_law_disk_view.proofs.view.StoreSteps.{place_free}
-use Rattle.arj_law_serial.specs.order.Decided.{AreDecided}
-use Rattle.arj_law_serial.specs.order.Cleaned.{BeginsSo, HaveForm, IsCleanIn}
-use Rattle.arj_law_serial.proofs.order.Entries.{entry_is_last, stores_back}
-use Rattle.arj_law_serial.proofs.order.States.{state_is_last}
-use Rattle.arj_law_serial.proofs.order.Ties.{Ties}
+use Rattle.arj_law_disk.specs.machine.Laws.{IsClean}
+use Rattle.arj_law_runs.proofs.journal.Likes.{some_is}
+use Rattle.arj_law_serial.proofs.order.{Entries.entry_is_last, Entries.stores_back, States.state_is_last, Ties.Ties}
+use Rattle.arj_model.specs.{Calls.Call, Last.listed, Serial.after}
 
 -- ---- classes
 
@@ -80,9 +57,16 @@ run_class values (c ∷ cs) x = run_class (after values c) cs x ∙ class_stays 
 
 -- states that are packed alike, of one object and one class, are one
 pub one_state : (s t : ObjectState) → packed s ≡ packed t → s.uid ≡ t.uid → s.class ≡ t.class → s ≡ t
-one_state s t same uid kind = (λ i. record { uid = uid i; class = kind i; version = ap (λ (p : Packed). p.version) same i; writer = number_tells s.writer t.writer (ap (λ (p : Packed). p.writer) same) i; payload = ap (λ (p : Packed). p.content) same i })
+one_state s t same uid kind = (λ i. record {
+  uid = uid i;
+  class = kind i;
+  version = ap (λ (p : Packed). p.version) same i;
+  writer = number_tells s.writer t.writer (ap (λ (p : Packed). p.writer) same) i;
+  payload = ap (λ (p : Packed). p.content) same i;
+})
 
-pub held_some : (o : Option ObjectState) (p : Packed) (pack : ObjectState → Packed) → option_map pack o ≡ Some p → (s : ObjectState) × (o ≡ Some s) × (pack s ≡ p)
+pub held_some : (o : Option ObjectState) (p : Packed) (pack : ObjectState → Packed) → option_map pack o ≡ Some p →
+    (s : ObjectState) × (o ≡ Some s) × (pack s ≡ p)
 held_some None p pack e = absurd (cc e)
 held_some (Some s) p pack e = (s, refl, some_is (pack s) p e)
 
@@ -90,7 +74,9 @@ pub has_among : (s : ℕ) (ns : List ℕ) → has s ns ≡ is_among ns s
 has_among s [] = refl
 has_among s (n ∷ ns) = ap (λ b. (n == s) || b) (has_among s ns)
 
-module _ (header : Header) (lines : List Line) (right : AreRight new_book lines) (tied : Ties (first_values header) lines) (x : ℕ) (kinds : Kinds) (W : World) (M : Seen) (sees : SeesDisks x kinds W M) (decided : AreDecided header lines x W.disk.tops) (begins : BeginsSo header x W.disk) (form : HaveForm header x M) where
+module _ (header : Header) (lines : List Line) (right : AreRight new_book lines) (tied : Ties (first_values header) lines) (x : ℕ)
+    (kinds : Kinds) (W : World) (M : Seen) (sees : SeesDisks x kinds W M) (decided : AreDecided header lines x W.disk.tops)
+    (begins : BeginsSo header x W.disk) (form : HaveForm header x M) where
   clean_so : IsClean W.disk
   clean_so = clean W sees.whole
 
@@ -106,17 +92,20 @@ module _ (header : Header) (lines : List Line) (right : AreRight new_book lines)
   held_is s held = held ∙ ap Some state_same
 
   entry_free : (n : Node) → M.nodes 1 ≡ Some n → holder_of (entry x) n.disk.names ≡ None → W.disk.entry_pend ≡ None
-  entry_free n is free = let e : SeesEntry x n.disk.names W.disk = sees.entry n is in place_free (entry x) n.disk.names packed_entry (Some W.disk.entry) W.disk.entry_pend e.pair free
+  entry_free n is free = let e : SeesEntry x n.disk.names W.disk = sees.entry n is in
+      place_free (entry x) n.disk.names packed_entry (Some W.disk.entry) W.disk.entry_pend e.pair free
 
   -- the entry that is held
-  entry_held : (n : Node) → M.nodes 1 ≡ Some n → holder_of (entry x) n.disk.names ≡ None → held_at (entry x) n.disk.names ≡ Some (entry_state header lines x)
+  entry_held : (n : Node) → M.nodes 1 ≡ Some n → holder_of (entry x) n.disk.names ≡ None →
+      held_at (entry x) n.disk.names ≡ Some (entry_state header lines x)
   entry_held n is free =
       let e : SeesEntry x n.disk.names W.disk = sees.entry n is in
       let p = e.pair in
       let h = held_some (held_at (entry x) n.disk.names) W.disk.entry packed_entry p.held_is in
       let same : packed_entry h.0 ≡ packed_entry (entry_state header lines x) = h.2 ∙ clean_so.entry (entry_free n is free) ∙ entry_same in
       let f = form.entries n h.0 is h.1 in
-      let stores : (state_entry h.0).stores ≡ listed header lines x = ap (λ (q : Packed). q.content) same ∙ stores_back (servers_of_line (object_line header x)) (listed header lines x) in
+      let stores : (state_entry h.0).stores ≡ listed header lines x = ap (λ (q : Packed). q.content) same
+      ∙ stores_back (servers_of_line (object_line header x)) (listed header lines x) in
       h.1 ∙ ap Some (λ i. record {
         uid = p.keyed (entry x) h.0 h.1 i;
         class = f.0 i;
@@ -126,16 +115,20 @@ module _ (header : Header) (lines : List Line) (right : AreRight new_book lines)
       })
 
   -- and the state
-  state_held : (n m : Node) (s : ℕ) → M.nodes 1 ≡ Some n → M.nodes s ≡ Some m → is_among (listed header lines x) s ≡ true → holder_of (entry x) n.disk.names ≡ None → holder_of (object x) m.disk.store ≡ None → held_at (object x) m.disk.store ≡ Some (last_state header lines x)
+  state_held : (n m : Node) (s : ℕ) → M.nodes 1 ≡ Some n → M.nodes s ≡ Some m → is_among (listed header lines x) s ≡ true → holder_of (entry
+      x) n.disk.names ≡ None → holder_of (object x) m.disk.store ≡ None → held_at (object x) m.disk.store ≡ Some (last_state header lines x)
   state_held n m s is there among free clear =
       let o : SeesStore x s m.disk.store W.disk = sees.stores s m there in
       let p = o.pair in
       let pend = entry_free n is free in
-      let content : W.disk.entry.content ≡ listed header lines x = ap (λ (q : Packed). q.content) (clean_so.entry pend ∙ entry_same) ∙ stores_back (servers_of_line (object_line header x)) (listed header lines x) in
+      let content : W.disk.entry.content ≡ listed header lines x = ap (λ (q : Packed). q.content) (clean_so.entry pend ∙ entry_same)
+      ∙ stores_back (servers_of_line (object_line header x)) (listed header lines x) in
       let on : has s W.disk.entry.content ≡ true = ap (has s) content ∙ has_among s (listed header lines x) ∙ among in
-      let held : W.disk.held s ≡ Some (packed (last_state header lines x)) = held_is s (clean_so.stores pend s on (place_free (object x) m.disk.store packed (W.disk.held s) (W.disk.pend s) p clear)) in
+      let held : W.disk.held s ≡ Some (packed (last_state header lines x)) = held_is s
+      (clean_so.stores pend s on (place_free (object x) m.disk.store packed (W.disk.held s) (W.disk.pend s) p clear)) in
       let h = held_some (held_at (object x) m.disk.store) (packed (last_state header lines x)) packed (p.held_is ∙ held) in
-      h.1 ∙ ap Some (one_state h.0 (last_state header lines x) h.2 (p.keyed (object x) h.0 h.1) (form.objects m s h.0 there h.1 ∙ sym (run_class (first_values header) (serial_calls lines) x)))
+      h.1 ∙ ap Some (one_state h.0 (last_state header lines x) h.2 (p.keyed (object x) h.0 h.1)
+      (form.objects m s h.0 there h.1 ∙ sym (run_class (first_values header) (serial_calls lines) x)))
 
   pub is_clean : IsCleanIn header lines x M
   is_clean = record { names = entry_held; stores = state_held }

@@ -1,10 +1,9 @@
 -- Two values have two codes, and so have two tops.
-use Rattle.std.proofs.Common.{◌≡◌, ◌<◌, ℕ, ◌+◌, ◌*◌, List, [], ◌∷◌, zero, suc, refl, ap, arith}
-use Rattle.arj_class.specs.declared.value.Value.{Value}
-use Rattle.arj_class.specs.declared.value.Value.TheVariants.{Account, Counter, Queue, Register, Table}
-use Rattle.arj_law_serial.specs.order.Codes.{act_code, all, both, code_of, flat, value_code}
-use Rattle.arj_law_lock.specs.machine.Actions.{Act, Root, Sub}
-use Rattle.arj_law_serial.specs.order.Tied.{AreApart}
+use Rattle.arj_law_parts.proofs.Words
+use Words.{◌≡◌, ◌<◌, ℕ, ◌+◌, ◌*◌, List, [], ◌∷◌, zero, suc, refl, ap, arith, Value, Account, Counter, Queue, Register, Table}
+use Rattle.arj_law_serial.proofs.Terms.{code_of, Root, Sub, AreApart}
+use Rattle.arj_law_lock.specs.machine.Actions.{Act}
+use Rattle.arj_law_serial.specs.order.Codes.{act_code, all, both, flat, value_code}
 
 both_apart : (m n k l : ℕ) → both m n ≡ both k l → (m ≡ k) × (n ≡ l)
 both_apart zero n zero l e = let f : 2 * n + 1 ≡ 2 * l + 1 = e in (refl, omega (arith, f))
@@ -41,7 +40,8 @@ values_apart (Counter m) (Counter n) e = ap Counter (both_apart 0 m 0 n e).1
 values_apart (Register m) (Register n) e = ap Register (all_apart m n (both_apart 1 (all m) 1 (all n) e).1)
 values_apart (Account m) (Account n) e = ap Account (both_apart 2 m 2 n e).1
 values_apart (Queue m) (Queue n) e = ap Queue (all_apart m n (both_apart 3 (all m) 3 (all n) e).1)
-values_apart (Table m) (Table n) e = ap Table (flat_apart m n (all_apart (flat m) (flat n) (both_apart 4 (all (flat m)) 4 (all (flat n)) e).1))
+values_apart (Table m) (Table n) e =
+    ap Table (flat_apart m n (all_apart (flat m) (flat n) (both_apart 4 (all (flat m)) 4 (all (flat n)) e).1))
 values_apart (Register m) (Counter n) e = absurd (omega (arith, (both_apart 1 (all m) 0 n e).0))
 values_apart (Account m) (Counter n) e = absurd (omega (arith, (both_apart 2 m 0 n e).0))
 values_apart (Queue m) (Counter n) e = absurd (omega (arith, (both_apart 3 (all m) 0 n e).0))
@@ -73,4 +73,5 @@ acts_apart (Sub a m) (Sub b n) e =
     λ i. Sub (above i) (inner.1 i)
 
 pub codes_are_apart : AreApart code_of
-codes_are_apart v w a b e = let r = both_apart (value_code v) (act_code a) (value_code w) (act_code b) e in (values_apart v w r.0, acts_apart a b r.1)
+codes_are_apart v w a b e = let r = both_apart (value_code v) (act_code a) (value_code w) (act_code b) e in
+    (values_apart v w r.0, acts_apart a b r.1)

@@ -1,26 +1,18 @@
 -- The last entry of an object by its decided tops is the journal's.
-use Rattle.std.proofs.Common.{◌≡◌, ℕ, ◌+◌, ◌&&◌, not, List, [], ◌∷◌, ◌++◌, filter, length, reverse, Bool, true, false, cond, refl, sym, ◌∙◌, ap, subst, append-nil}
-use Rattle.std.specs.List.{AllByRecursion}
-use Rattle.std.specs.Str.{bytes_eq}
-use Rattle.std.proofs.lemmas.List.{length-append, reverse-append}
-use Rattle.std.proofs.lemmas.Slice.Eq.{bytes_eq-Decides}
-use Rattle.arj_base.specs.Uid.{nobody}
-use Rattle.arj_journal.specs.declared.body.Line.{Line}
-use Rattle.arj_journal.specs.declared.header.Header.{Header}
-use Rattle.arj_model.specs.Actions.{acts}
-use Rattle.arj_model.specs.Calls.{Top}
-use Rattle.arj_model.specs.Last.{changers, entry_payload, entry_state, first_values, is_among, last_changer, leaves_of, listed_after, listed_from, object_line, same_list, servers_of_line}
-use Rattle.arj_model.specs.Serial.{Values}
-use Rattle.arj_law.specs.Growth.{entry_by, first_stores}
-use Rattle.arj_law.proofs.Listed.{changers_append, entry_decided, last_of_append, listed_append, same_is, same_itself}
+use Rattle.arj_law_parts.proofs.Words
+use Words.{◌≡◌, ℕ, ◌+◌, ◌&&◌, not, List, [], ◌∷◌, ◌++◌, filter, length, reverse, Bool, true, false, cond, refl, sym, ◌∙◌, ap, subst}
+use Words.{append-nil, AllByRecursion, bytes_eq, length-append, reverse-append, bytes_eq-Decides, nobody, Line, Header, uid_number}
+use Words.{entry_back}
+use Rattle.arj_law_serial.proofs.Terms
+use Terms.{acts, Top, entry_payload, entry_state, first_values, is_among, leaves_of, listed_after, listed_from, object_line}
+use Terms.{servers_of_line, Values, first_stores, listed_append, counts_of, Done, Packed, entry_in, target, packed_entry, AreDecided}
+use Terms.{AreDecisions, IsDecision}
+use Rattle.arj_law.proofs.Listed.{changers_append, entry_decided, last_of_append, same_is, same_itself}
+use Rattle.arj_law.specs.Growth.{entry_by}
+use Rattle.arj_law_disk.specs.machine.{Order.entry_by_all, State.entry_after, State.entry_with, State.list_after}
 use Rattle.arj_law_runs.proofs.journal.Books.{never}
-use Rattle.arj_protocol.specs.Order.{uid_number}
+use Rattle.arj_model.specs.Last.{changers, last_changer, same_list}
 use Rattle.arj_protocol.specs.Values.{entry_in as entry_in_payload}
-use Rattle.arj_protocol.proofs.Payloads.{entry_back}
-use Rattle.arj_law_disk.specs.machine.Order.{counts_of, entry_by_all}
-use Rattle.arj_law_disk.specs.machine.State.{Done, Packed, entry_after, entry_in, entry_with, list_after, target}
-use Rattle.arj_law_disk_view.specs.view.Pairs.{packed_entry}
-use Rattle.arj_law_serial.specs.order.Decided.{AreDecided, AreDecisions, IsDecision}
 
 -- ---- lists
 
@@ -48,14 +40,21 @@ all_reversed P (x ∷ xs) all = subst (AllByRecursion P) (sym (turned x xs)) (al
 module _ (values : Values) (lines : List Line) (x : ℕ) (first : List ℕ) where
   -- the entry after tops, the oldest first
   abbrev by_tops : List Top → Packed
-  by_tops ts = record { version = length (changers lines x first ts); writer = uid_number (last_changer (acts lines) (changers lines x first ts)); content = listed_from lines x first ts }
+  by_tops ts = record {
+    version = length (changers lines x first ts);
+    writer = uid_number (last_changer (acts lines) (changers lines x first ts));
+    content = listed_from lines x first ts;
+  }
 
   -- what a decided top makes of a list
-  lists : (d : Done) (t : Top) → IsDecision values lines x d t → (stores : List ℕ) → list_after d.plan d.got stores ≡ listed_after lines x stores t
-  lists d t is stores = (λ i. filter_same (λ s. not (target d.plan s && not (d.got s))) (λ s. not (is_among (leaves_of lines t.id x) s)) (λ s. ap not (is.leaves s)) stores i ++ is.joins i)
+  lists : (d : Done) (t : Top) → IsDecision values lines x d t → (stores : List ℕ) →
+      list_after d.plan d.got stores ≡ listed_after lines x stores t
+  lists d t is stores = (λ i. filter_same (λ s. not (target d.plan s && not (d.got s))) (λ s. not (is_among (leaves_of lines t.id x) s))
+      (λ s. ap not (is.leaves s)) stores i ++ is.joins i)
 
   -- the entry after one top more
-  more : (d : Done) (t : Top) (ts : List Top) → IsDecision values lines x d t → entry_after d.top d.plan d.got (by_tops ts) ≡ by_tops (ts ++ t ∷ [])
+  more : (d : Done) (t : Top) (ts : List Top) → IsDecision values lines x d t →
+      entry_after d.top d.plan d.got (by_tops ts) ≡ by_tops (ts ++ t ∷ [])
   more d t ts is = ap (λ new. entry_with d.top new (by_tops ts)) (lists d t is now) ∙ by (same_list next now) refl
     where
       now : List ℕ
@@ -73,15 +72,23 @@ module _ (values : Values) (lines : List Line) (x : ℕ) (first : List ℕ) wher
       by : (b : Bool) → same_list next now ≡ b → entry_with d.top next (by_tops ts) ≡ by_tops (ts ++ t ∷ [])
       by true same =
           let one = same_is next now same in
-          let old : changers lines x first (ts ++ t ∷ []) ≡ all_tops = changed ∙ ap (λ b. all_tops ++ cond b [] (t ∷ [])) same ∙ append-nil all_tops in
-          ap (λ b. cond b (by_tops ts) (record { version = length all_tops + 1; writer = d.top; content = next })) ((bytes_eq-Decides next now).1 one)
-          ∙ sym (λ i. record { version = length (old i); writer = uid_number (last_changer (acts lines) (old i)); content = (listed_append lines x first ts t ∙ one) i })
+          let old : changers lines x first (ts ++ t ∷ []) ≡ all_tops = changed ∙ ap (λ b. all_tops ++ cond b [] (t ∷ [])) same
+          ∙ append-nil all_tops in
+          ap (λ b. cond b (by_tops ts) (record { version = length all_tops + 1; writer = d.top; content = next }))
+          ((bytes_eq-Decides next now).1 one)
+          ∙ sym (λ i. record {
+            version = length (old i);
+            writer = uid_number (last_changer (acts lines) (old i));
+            content = (listed_append lines x first ts t ∙ one) i;
+          })
       by false other =
           let new : changers lines x first (ts ++ t ∷ []) ≡ all_tops ++ t ∷ [] = changed ∙ ap (λ b. all_tops ++ cond b [] (t ∷ [])) other in
-          ap (λ b. cond b (by_tops ts) (record { version = length all_tops + 1; writer = d.top; content = next })) (differ (bytes_eq next now) refl)
+          ap (λ b. cond b (by_tops ts) (record { version = length all_tops + 1; writer = d.top; content = next }))
+          (differ (bytes_eq next now) refl)
           ∙ sym (λ i. record {
             version = (ap length new ∙ length-append all_tops (t ∷ [])) i;
-            writer = (ap (λ us. uid_number (last_changer (acts lines) us)) new ∙ ap uid_number (last_of_append (acts lines) all_tops t) ∙ sym is.number) i;
+            writer = (ap (λ us. uid_number (last_changer (acts lines) us)) new ∙ ap uid_number (last_of_append (acts lines) all_tops t)
+                ∙ sym is.number) i;
             content = listed_append lines x first ts t i;
           })
         where
@@ -89,11 +96,13 @@ module _ (values : Values) (lines : List Line) (x : ℕ) (first : List ℕ) wher
           differ true e = never (ap (λ ns. same_list ns now) ((bytes_eq-Decides next now).0 e) ∙ same_itself now) other
           differ false e = refl
 
-  pub by_decisions : (start : Packed) → start ≡ by_tops [] → (ds : List Done) (ts : List Top) → AreDecisions values lines x ds ts → entry_by_all start ds ≡ by_tops (reverse ts)
+  pub by_decisions : (start : Packed) → start ≡ by_tops [] → (ds : List Done) (ts : List Top) → AreDecisions values lines x ds ts →
+      entry_by_all start ds ≡ by_tops (reverse ts)
   by_decisions start is [] [] are = is
   by_decisions start is [] (t ∷ ts) are = absurd are
   by_decisions start is (d ∷ ds) [] are = absurd are
-  by_decisions start is (d ∷ ds) (t ∷ ts) are = ap (entry_after d.top d.plan d.got) (by_decisions start is ds ts are.1) ∙ more d t (reverse ts) are.0 ∙ ap by_tops (sym (turned t ts))
+  by_decisions start is (d ∷ ds) (t ∷ ts) are =
+      ap (entry_after d.top d.plan d.got) (by_decisions start is ds ts are.1) ∙ more d t (reverse ts) are.0 ∙ ap by_tops (sym (turned t ts))
 
 -- ---- the last entry
 
@@ -102,26 +111,31 @@ pub entry_counted : (first : Packed) (ds : List Done) → entry_in first ds ≡ 
 entry_counted first [] = refl
 entry_counted first (d ∷ ds) = by d.counts (entry_counted first ds)
   where
-    by : (b : Bool) → entry_in first ds ≡ entry_by_all first (filter counts_of ds) → cond b (entry_after d.top d.plan d.got (entry_in first ds)) (entry_in first ds) ≡ entry_by_all first (cond b (d ∷ filter counts_of ds) (filter counts_of ds))
+    by : (b : Bool) → entry_in first ds ≡ entry_by_all first (filter counts_of ds) → cond b (entry_after d.top d.plan d.got
+        (entry_in first ds)) (entry_in first ds) ≡ entry_by_all first (cond b (d ∷ filter counts_of ds) (filter counts_of ds))
     by true ih = ap (entry_after d.top d.plan d.got) ih
     by false ih = ih
 
 pub stores_back : (servers stores : List ℕ) → (let e = entry_in_payload (entry_payload servers stores) in e.stores) ≡ stores
 stores_back servers stores = ap (λ e. let d = e in d.stores) (entry_back (record { servers = servers; stores = stores }))
 
-module _ (header : Header) (lines : List Line) (x : ℕ) (first : Packed) (ds : List Done) (decided : AreDecided header lines x ds) (first_is : first ≡ record { version = 0; writer = uid_number nobody; content = first_stores header x }) where
+module _ (header : Header) (lines : List Line) (x : ℕ) (first : Packed) (ds : List Done) (decided : AreDecided header lines x ds)
+    (first_is : first ≡ record { version = 0; writer = uid_number nobody; content = first_stores header x }) where
   those : filter decided.counts (reverse decided.those) ≡ reverse decided.those
-  those = all_kept decided.counts (reverse decided.those) (all_reversed (λ (t : Top). decided.counts t ≡ true) decided.those decided.counted)
+  those =
+      all_kept decided.counts (reverse decided.those) (all_reversed (λ (t : Top). decided.counts t ≡ true) decided.those decided.counted)
 
   entry_is : entry_state header lines x ≡ entry_by header lines x (reverse decided.those)
   entry_is = entry_decided header lines x decided.counts (reverse decided.those) decided.order ∙ ap (entry_by header lines x) those
 
   pub entry_is_last : entry_in first ds ≡ packed_entry (entry_state header lines x)
   entry_is_last =
-      entry_counted first ds ∙ by_decisions (first_values header) lines x (first_stores header x) first first_is (filter counts_of ds) decided.those decided.each
+      entry_counted first ds ∙ by_decisions (first_values header) lines x (first_stores header x) first first_is (filter counts_of ds)
+      decided.those decided.each
       ∙ (λ i. record {
         version = length (changers lines x (first_stores header x) (reverse decided.those));
         writer = uid_number (last_changer (acts lines) (changers lines x (first_stores header x) (reverse decided.those)));
-        content = sym (stores_back (servers_of_line (object_line header x)) (listed_from lines x (first_stores header x) (reverse decided.those))) i;
+        content = sym
+            (stores_back (servers_of_line (object_line header x)) (listed_from lines x (first_stores header x) (reverse decided.those))) i;
       })
       ∙ ap packed_entry (sym entry_is)

@@ -1,39 +1,23 @@
 -- The entry of an object stays locked for writing for each surviving include, to the last commit call of its unit.
-use Rattle.std.proofs.Common.{◌≡◌, ◌⊎◌, ◌<◌, ◌≤◌, ℕ, ◌==◌, ◌&&◌, List, take, true, Some, sym, ◌∙◌, ap, subst, inl, inr, ⊎_elim, arith, eq-eqb}
-use Rattle.std.specs.List.{list_all}
-use Rattle.arj_base.proofs.Uids.{uid_is}
-use Rattle.arj_base.specs.Rows.{Row, last_uid}
-use Rattle.arj_base.specs.Uid.{entry, uid_eq}
-use Rattle.arj_class.specs.Table.{is_write}
-use Rattle.arj_journal.specs.declared.body.Line.{Line}
-use Rattle.arj_lock.proofs.Members.{In, in_from, in_to}
-use Rattle.arj_model.specs.Actions.{Act, Placed, acts, chain_in, committed, has_end, root_in, top_in}
-use Rattle.arj_model.specs.Calls.{Top, root_or, tops}
-use Rattle.arj_model.specs.Last.{Inclusion, included, included_of}
-use Rattle.arj_model.specs.Serial.{Values, unit_place}
-use Rattle.arj_law_runs.specs.journal.Book.{new_book}
-use Rattle.arj_law_runs.specs.journal.Right.{AreRight}
-use Rattle.arj_law_lock.specs.machine.Actions as machine
-use Rattle.arj_law_lock.specs.machine.Actions.{root}
-use Rattle.arj_law_lock.specs.machine.Laws.{Closes, IsEntryWritten, OfUnit}
-use Rattle.arj_law_lock.specs.machine.State as state
-use Rattle.arj_law_lock.specs.machine.State.{State}
-use Rattle.arj_law_lock.specs.machine.Steps.{Survives}
-use Rattle.arj_law_lock.proofs.machine.Claims.{Holds}
-use Rattle.arj_law_lock.proofs.machine.Order.{run_keeps, start_holds}
-use Rattle.arj_law_lock.proofs.machine.Ordered.{is_entry_written}
-use Rattle.arj_law_lock.proofs.machine.Roots.{roots_low, start_low}
-use Rattle.arj_law_lock_view.specs.view.Rows.{held_in}
-use Rattle.arj_law_lock_view.specs.journal.Lines.{IsIncludeOf, included_on}
-use Rattle.arj_law_serial.specs.order.Locked.{AreRowsSeen, IsSeenAt}
-use Rattle.arj_promise.specs.Held.{IsWrittenIn, is_upper_of, writes_entry}
-use Rattle.arj_law_serial.specs.order.Tied.{IsTied, path_of}
-use Rattle.arj_law_serial.proofs.order.Including.{IsChange, IsLastOf, find_include, join_of, last_of, root_of_change}
-use Rattle.arj_law_serial.proofs.order.Locks.{any_in, both_true, find_row, its_number, read_taken, run_place, taken_length, write_mode}
-use Rattle.arj_law_serial.proofs.order.Order.{IsTopOf, head_of, top_item}
-use Rattle.arj_law_serial.proofs.order.Values.{in_reversed, to_filter}
+use Rattle.arj_law_parts.proofs.Words
+use Words.{◌≡◌, ◌⊎◌, ◌<◌, ◌≤◌, ℕ, ◌==◌, ◌&&◌, List, take, true, Some, sym, ◌∙◌, ap, subst, inl, inr, ⊎_elim, arith, eq-eqb, list_all}
+use Words.{uid_is, Row, last_uid, entry, uid_eq, is_write, Line, In, in_from, in_to, IsWrittenIn, is_upper_of, writes_entry}
+use Rattle.arj_law_serial.proofs.Terms
+use Terms.{Act, Placed, acts, chain_in, committed, has_end, root_in, top_in, Top, root_or, tops, Inclusion, included, included_of, Values}
+use Terms.{unit_place, new_book, AreRight, root, Closes, IsEntryWritten, OfUnit, State, Survives, Holds, run_keeps, start_holds}
+use Terms.{is_entry_written, roots_low, start_low, held_in, IsIncludeOf, included_on, AreRowsSeen, IsSeenAt, IsTied, path_of}
+use Terms.machine
+use Terms.state
+use Rattle.arj_law_serial.proofs.order
+use order.{Values.in_reversed, Values.to_filter}
+use order.Including.{IsChange, IsLastOf, find_include, join_of, last_of, root_of_change}
+use order.Locks.{any_in, both_true, find_row, its_number, read_taken, run_place, taken_length, write_mode}
+use order.Order.{IsTopOf, head_of, top_item}
 
-module _ (values : Values) (lines : List Line) (right : AreRight new_book lines) (x : ℕ) (T : State) (t : IsTied values lines x T) (p : ℕ) (seen : IsSeenAt values lines x T t p) (u : Top) (listed : In u (tops lines)) (i : Placed Inclusion) (there : In i (included lines)) (object : i.it.x ≡ x) (a : Act) (its_top : top_in i.it.path ≡ Some a) (number : a.id ≡ u.id) (ended : list_all (λ (b : Act). has_end (committed lines) b.id) (chain_in i.it.path) ≡ true)
+module _ (values : Values) (lines : List Line) (right : AreRight new_book lines) (x : ℕ) (T : State) (t : IsTied values lines x T) (p : ℕ)
+    (seen : IsSeenAt values lines x T t p) (u : Top) (listed : In u (tops lines)) (i : Placed Inclusion) (there : In i (included lines))
+    (object : i.it.x ≡ x) (a : Act) (its_top : top_in i.it.path ≡ Some a) (number : a.id ≡ u.id)
+    (ended : list_all (λ (b : Act). has_end (committed lines) b.id) (chain_in i.it.path) ≡ true)
     (behind : i.at < p) (in_unit : p ≤ unit_place (tops lines) u.root) where
   abbrev S : State
   S = seen.state
@@ -52,7 +36,8 @@ module _ (values : Values) (lines : List Line) (right : AreRight new_book lines)
   now =
       let l = seen.tied in
       find_include values lines right x T t t.act (included_on x (take p lines)) S.includes l.includes i
-      (in_reversed i _ _ (inl (to_filter (λ (z : Placed Inclusion). z.it.x == x) i (included (take p lines)) (read_taken included_of _ 0 lines p i there (omega (arith, behind))) (eq-eqb i.it.x x object))))
+      (in_reversed i _ _ (inl (to_filter (λ (z : Placed Inclusion). z.it.x == x) i (included (take p lines))
+      (read_taken included_of _ 0 lines p i there (omega (arith, behind))) (eq-eqb i.it.x x object))))
 
   same_act : (let k = now.0 in k.act) ≡ (let k = found.0 in k.act)
   same_act = let b = now.2 in let c = found.2 in b.by ∙ sym c.by
@@ -77,20 +62,26 @@ module _ (values : Values) (lines : List Line) (right : AreRight new_book lines)
       cases n = grind arith
 
   written : IsEntryWritten S now.0
-  written = let c = found.3 in is_entry_written seen.behind here (roots_low seen.before (start_low t.first)) now.0 last.last now.1 (subst (Survives T) (sym same_act) c.survives) (subst (Closes T last.last) (sym same_act) last.closes) zero_yet
+  written = let c = found.3 in is_entry_written seen.behind here (roots_low seen.before (start_low t.first)) now.0 last.last now.1
+      (subst (Survives T) (sym same_act) c.survives) (subst (Closes T last.last) (sym same_act) last.closes) zero_yet
 
   module _ (rows : ℕ → List Row) (names : List Row) (sees : AreRowsSeen t.act lines x rows names S) where
     pub written_in : IsWrittenIn lines names u x
     written_in =
-        let less : 2 ≤ held_in t.act (entry x) written.0 names = (let q = written.2 in let b = sees.naming written.0 in omega (arith, q, b)) in
+        let less : 2 ≤ held_in t.act (entry x) written.0 names = (let q = written.2 in let b = sees.naming written.0 in
+        omega (arith, q, b)) in
         let r = find_row t.act (entry x) written.0 2 names (omega arith) less in
         let h = sees.askers r.row (in_to r.row names r.there) (uid_is (let w = r.row in w.object) (entry x) r.of_object) in
         let b = in_from h.0 (acts lines) h.1 in
-        let stands : root (t.act h.0.uid) ≡ root (t.act (let z = item.act in z.uid)) = ap (λ v. root (t.act v)) (sym h.2) ∙ ap root r.holder ∙ unit_root written.0 written.1 ∙ ap root same_act ∙ root_of_change values lines right x T t u item (let k = found.0 in k.act) i.at found.3 in
+        let stands : root (t.act h.0.uid) ≡ root (t.act (let z = item.act in z.uid)) = ap (λ v. root (t.act v)) (sym h.2) ∙ ap root r.holder
+        ∙ unit_root written.0 written.1 ∙ ap root same_act
+        ∙ root_of_change values lines right x T t u item (let k = found.0 in k.act) i.at found.3 in
         any_in (writes_entry lines x u.root) r.row names r.there
-        (both_true (uid_eq (let w = r.row in w.object) (entry x)) (is_upper_of lines u.root (last_uid (let w = r.row in w.holder)) && is_write (let w = r.row in w.mode)) r.of_object
+        (both_true (uid_eq (let w = r.row in w.object) (entry x))
+        (is_upper_of lines u.root (last_uid (let w = r.row in w.holder)) && is_write (let w = r.row in w.mode)) r.of_object
         (both_true (is_upper_of lines u.root (last_uid (let w = r.row in w.holder))) (is_write (let w = r.row in w.mode))
-        (ap (is_upper_of lines u.root) h.2 ∙ its_number values lines right x T t h.0 b h.3 u.root (let pl = t.places in pl.units h.0 item.act h.1 (in_to item.act (acts lines) item.there) stands ∙ root_number))
+        (ap (is_upper_of lines u.root) h.2 ∙ its_number values lines right x T t h.0 b h.3 u.root (let pl = t.places in
+        pl.units h.0 item.act h.1 (in_to item.act (acts lines) item.there) stands ∙ root_number))
         (write_mode (let w = r.row in w.mode) r.strong)))
       where
         unit_root : (h : machine.Act) → OfUnit (let k = now.0 in k.act) h → root h ≡ root (let k = now.0 in k.act)
@@ -99,4 +90,5 @@ module _ (values : Values) (lines : List Line) (right : AreRight new_book lines)
 
         -- the root's number
         root_number : root_in (path_of lines item.act) ≡ Some u.root
-        root_number = let h = head_of lines right item.act item.there in h.2 ∙ ap Some (ap (root_or item.act.id) (sym h.2) ∙ sym item.root_is)
+        root_number = let h = head_of lines right item.act item.there in
+            h.2 ∙ ap Some (ap (root_or item.act.id) (sym h.2) ∙ sym item.root_is)

@@ -1,49 +1,31 @@
 -- Committed tops and surviving calls of an object, by its machine: their order, and that of nested actions.
-use Rattle.std.proofs.Common.{◌≡◌, ◌≢◌, ◌⊎◌, ◌<◌, ◌≤◌, ℕ, ◌+◌, ◌==◌, ◌&&◌, ◌||◌, List, [], ◌∷◌, ◌++◌, Bool, true, false, cond, nat_lt, max, Some, None, refl, sym, ◌∙◌, ap, subst, inl, inr, ⊎_elim, arith, eqb-true, eq-eqb}
-use Rattle.std.specs.List.{AllByRecursion}
-use Rattle.std.proofs.lemmas.Bool.{and_parts, or_left, or_right}
-use Rattle.std.proofs.lemmas.Bool.Decides.{nat_tests}
-use Rattle.arj_base.proofs.Uids.{uid_is}
-use Rattle.arj_class.specs.Table.{writes}
-use Rattle.arj_journal.specs.declared.body.Kind.{Kind}
-use Rattle.arj_journal.specs.declared.body.Kind.TheVariants as kind
-use Rattle.arj_journal.specs.declared.body.Line.{Line}
-use Rattle.arj_lock.proofs.Members.{In, in_filter_map, in_from, in_to}
-use Rattle.arj_model.specs.Actions.{Act, Placed, acts, behind_first, chain_in, committed, has_end, is_committed, is_serial, recovered, root_in, top_in}
-use Rattle.arj_model.specs.Calls.{Call, Said, Top, committed_calls, committings, ids, kept, root_or, said, top_by, top_of, tops}
-use Rattle.arj_model.specs.Last.{is_among}
-use Rattle.arj_model.specs.Serial.{Values, lex, root_of, serial_key, serial_less, top_place, unit_place}
-use Rattle.arj_model.specs.Book.{InOrder, OfEachTwo, StandInOrder, is_conflict}
+use Rattle.arj_law_parts.proofs.Words
+use Words.{◌≡◌, ◌≢◌, ◌⊎◌, ◌<◌, ◌≤◌, ℕ, ◌+◌, ◌==◌, ◌&&◌, ◌||◌, List, [], ◌∷◌, ◌++◌, Bool, true, false, cond, nat_lt, max, Some, None, refl}
+use Words.{sym, ◌∙◌, ap, subst, inl, inr, ⊎_elim, arith, eqb-true, eq-eqb, AllByRecursion, and_parts, or_left, or_right, nat_tests, uid_is}
+use Words.{writes, Kind, Line, In, in_filter_map, in_from, in_to, nobody}
+use Rattle.arj_law_serial.proofs.Terms
+use Terms.{Act, Placed, acts, behind_first, chain_in, committed, has_end, is_committed, is_serial, recovered, root_in, top_in, Said, Top}
+use Terms.{committed_calls, committings, ids, kept, root_or, top_by, tops, is_among, Values, lex, root_of, serial_key, top_place}
+use Terms.{unit_place, InOrder, is_top, new_book, IsDone, called, AreRight, one_act, AreSound, its_sound, is_sound, on, root, top, State}
+use Terms.{Survives, Conflicting, IsCommitted, run_keeps, start_holds, on_root, on_top, top_of as topmost, top_root, roots_low, start_low}
+use Terms.{AreCallsOf, IsCallOf, said_on, CommitsComeFirst, path_of}
+use Terms.kind
+use Terms.machine
+use Terms.state
 use Rattle.arj_law.specs.Joined.{AreCalled, is_called}
-use Rattle.arj_model.specs.Nested.{AnsweredInTime, FreedInOrder, IsFreedFor, commit_place}
-use Rattle.arj_law_runs.specs.journal.Book.{is_top, new_book}
-use Rattle.arj_law_runs.specs.journal.Laws.{AreApart, AreItsTops, IsDone, called}
-use Rattle.arj_law_runs.specs.journal.Right.{AreRight}
-use Rattle.arj_law_runs.proofs.journal.Books.{never}
-use Rattle.arj_law_runs.proofs.journal.Closed.{one_act}
-use Rattle.arj_law_runs.proofs.journal.Likes.{some_is}
-use Rattle.arj_law_runs.proofs.journal.Models.{AreSound, apart_acts, its_sound}
-use Rattle.arj_law_runs.proofs.journal.Tops.{is_sound}
-use Rattle.arj_law_lock.specs.machine.Actions as machine
-use Rattle.arj_law_lock.specs.machine.Actions.{on, root, top}
-use Rattle.arj_law_lock.specs.machine.State as state
-use Rattle.arj_law_lock.specs.machine.State.{State}
-use Rattle.arj_law_lock.specs.machine.Steps.{Survives}
-use Rattle.arj_law_lock.specs.machine.Laws.{Conflicting, IsCommitted, IsInOrder, IsNested}
-use Rattle.arj_law_lock.proofs.machine.Order.{run_keeps, start_holds}
 use Rattle.arj_law_lock.proofs.machine.Ordered.{is_in_order, is_nested}
-use Rattle.arj_law_lock.proofs.machine.Paths.{on_root, on_top, top_of as topmost, top_root}
-use Rattle.arj_law_lock.proofs.machine.Roots.{roots_low, start_low}
-use Rattle.arj_law_lock_view.specs.journal.Lines.{AreCallsOf, IsCallOf, said_on}
-use Rattle.arj_law_serial.specs.order.Decided.{CommitsComeFirst, IsCalledFirst}
-use Rattle.arj_law_serial.specs.order.Tied.{path_of}
-use Rattle.arj_law_serial.proofs.order.Ties.{Tie, Ties}
-use Rattle.arj_law_serial.proofs.order.Items.{IsCallOfTop, call_top}
-use Rattle.arj_law_serial.proofs.order.Paths.{chain_on, found as found_by, own_there, own_top, parts, top_on, well}
-use Rattle.arj_law_serial.proofs.order.Timely.{AreTimely, run_timely, start_timely}
-use Rattle.arj_law_serial.proofs.order.Tying.{IsKeptSo, IsMade, acts_are, chain_nested, from_on, kept_so, kept_survives, made, member, on_it, shape_of}
-use Rattle.arj_law_serial.proofs.order.Values.{any_said, kept_shape, to_object}
-use Rattle.arj_base.specs.Uid.{nobody}
+use Rattle.arj_law_lock.specs.machine.Laws.{IsInOrder, IsNested}
+use Rattle.arj_law_runs.proofs.journal.{Books.never, Likes.some_is, Models.apart_acts}
+use Rattle.arj_law_runs.specs.journal.Laws.{AreApart, AreItsTops}
+use Rattle.arj_law_serial.proofs.order
+use order.{Items.IsCallOfTop, Items.call_top, Ties.Tie, Ties.Ties}
+use order.Paths.{chain_on, found as found_by, own_there, own_top, parts, top_on, well}
+use order.Timely.{AreTimely, run_timely, start_timely}
+use order.Tying.{IsKeptSo, IsMade, acts_are, chain_nested, from_on, kept_so, kept_survives, made, member, on_it, shape_of}
+use order.Values.{any_said, kept_shape, to_object}
+use Rattle.arj_law_serial.specs.order.Decided.{IsCalledFirst}
+use Rattle.arj_model.specs.{Book.OfEachTwo, Book.StandInOrder, Book.is_conflict, Calls.Call, Calls.said, Calls.top_of}
+use Rattle.arj_model.specs.{Nested.AnsweredInTime, Nested.FreedInOrder, Nested.IsFreedFor, Nested.commit_place, Serial.serial_less}
 
 -- ---- places of tops
 
@@ -61,13 +43,17 @@ other_top u t (v ∷ ts) all (inr i) = other_top u t ts all.1 i
 
 pub root_of_top : (ts : List Top) (t : Top) → AreApart ts → In t ts → root_of ts t.id ≡ t.root
 root_of_top [] t apart i = absurd i
-root_of_top (u ∷ ts) t apart (inl is) = ap (λ b. cond b u.root (root_of ts t.id)) (eq-eqb u.id t.id (ap (λ (z : Top). z.id) is)) ∙ ap (λ (z : Top). z.root) is
-root_of_top (u ∷ ts) t apart (inr i) = ap (λ b. cond b u.root (root_of ts t.id)) (off_one u.id t.id (other_top u t ts apart.0 i)) ∙ root_of_top ts t apart.1 i
+root_of_top (u ∷ ts) t apart (inl is) =
+    ap (λ b. cond b u.root (root_of ts t.id)) (eq-eqb u.id t.id (ap (λ (z : Top). z.id) is)) ∙ ap (λ (z : Top). z.root) is
+root_of_top (u ∷ ts) t apart (inr i) =
+    ap (λ b. cond b u.root (root_of ts t.id)) (off_one u.id t.id (other_top u t ts apart.0 i)) ∙ root_of_top ts t apart.1 i
 
 pub place_of_top : (ts : List Top) (t : Top) → AreApart ts → In t ts → top_place ts t.id ≡ t.at
 place_of_top [] t apart i = absurd i
-place_of_top (u ∷ ts) t apart (inl is) = ap (λ b. cond b u.at (top_place ts t.id)) (eq-eqb u.id t.id (ap (λ (z : Top). z.id) is)) ∙ ap (λ (z : Top). z.at) is
-place_of_top (u ∷ ts) t apart (inr i) = ap (λ b. cond b u.at (top_place ts t.id)) (off_one u.id t.id (other_top u t ts apart.0 i)) ∙ place_of_top ts t apart.1 i
+place_of_top (u ∷ ts) t apart (inl is) =
+    ap (λ b. cond b u.at (top_place ts t.id)) (eq-eqb u.id t.id (ap (λ (z : Top). z.id) is)) ∙ ap (λ (z : Top). z.at) is
+place_of_top (u ∷ ts) t apart (inr i) =
+    ap (λ b. cond b u.at (top_place ts t.id)) (off_one u.id t.id (other_top u t ts apart.0 i)) ∙ place_of_top ts t apart.1 i
 
 -- a unit stands before a place before which each of its members stands
 pub unit_before : (ts : List Top) (r p : ℕ) → 0 < p → ((t : Top) → In t ts → t.root ≡ r → t.at < p) → unit_place ts r < p
@@ -84,7 +70,8 @@ unit_before (u ∷ ts) r p pos each = by (u.root == r) refl (unit_before ts r p 
 -- and at no place before one of its members
 pub unit_behind : (ts : List Top) (t : Top) → In t ts → t.at ≤ unit_place ts t.root
 unit_behind [] t i = absurd i
-unit_behind (u ∷ ts) t (inl is) = subst (λ b. t.at ≤ cond b (max u.at (unit_place ts t.root)) (unit_place ts t.root)) (sym (eq-eqb u.root t.root (ap (λ (z : Top). z.root) is))) (first t.at u.at (unit_place ts t.root) (ap (λ (z : Top). z.at) is))
+unit_behind (u ∷ ts) t (inl is) = subst (λ b. t.at ≤ cond b (max u.at (unit_place ts t.root)) (unit_place ts t.root))
+    (sym (eq-eqb u.root t.root (ap (λ (z : Top). z.root) is))) (first t.at u.at (unit_place ts t.root) (ap (λ (z : Top). z.at) is))
   where
     first : (k m n : ℕ) → m ≡ k → k ≤ max m n
     first k m n e = grind (arith, nat_tests)
@@ -113,11 +100,13 @@ lex_second k m p q e l = (λ i. cond (no k m e i) true (eq-eqb k m e i && cond (
     yes a b f = grind (arith, nat_tests)
 
 -- the first commit of an action
-pub first_commit : (es : List (Placed ℕ)) (id : ℕ) → has_end es id ≡ true → (e : Placed ℕ) × In e es × (e.it ≡ id) × (commit_place es id ≡ e.at)
+pub first_commit : (es : List (Placed ℕ)) (id : ℕ) → has_end es id ≡ true →
+    (e : Placed ℕ) × In e es × (e.it ≡ id) × (commit_place es id ≡ e.at)
 first_commit [] id is = absurd (cc is)
 first_commit (e ∷ es) id is = by (e.it == id) refl is (first_commit es id)
   where
-    by : (b : Bool) → (e.it == id) ≡ b → (b || has_end es id) ≡ true → (has_end es id ≡ true → (f : Placed ℕ) × In f es × (f.it ≡ id) × (commit_place es id ≡ f.at)) → (f : Placed ℕ) × In f (e ∷ es) × (f.it ≡ id) × (cond b e.at (commit_place es id) ≡ f.at)
+    by : (b : Bool) → (e.it == id) ≡ b → (b || has_end es id) ≡ true → (has_end es id ≡ true → (f : Placed ℕ) × In f es × (f.it ≡ id)
+        × (commit_place es id ≡ f.at)) → (f : Placed ℕ) × In f (e ∷ es) × (f.it ≡ id) × (cond b e.at (commit_place es id) ≡ f.at)
     by true same any ih = (e, inl refl, eqb-true e.it id same, refl)
     by false other any ih = let r = ih any in (r.0, inr r.1, r.2, r.3)
 
@@ -141,7 +130,8 @@ top_plain kind.Constituent e = refl
 top_plain kind.Independent e = refl
 
 -- where all below the top are nested, and the last of the path isn't, there is none
-none_below : (before : List Act) (a : Act) → AllByRecursion (λ (y : Act). y.kind ≡ kind.Nested) (chain_in (before ++ a ∷ [])) → a.kind ≢ kind.Nested → chain_in (before ++ a ∷ []) ≡ []
+none_below : (before : List Act) (a : Act) → AllByRecursion (λ (y : Act). y.kind ≡ kind.Nested) (chain_in (before ++ a ∷ [])) →
+    a.kind ≢ kind.Nested → chain_in (before ++ a ∷ []) ≡ []
 none_below [] a all upper = by (is_serial a.kind)
   where
     by : (s : Bool) → ◌≡◌ {A = List Act} (cond s (behind_first []) []) []
@@ -149,7 +139,8 @@ none_below [] a all upper = by (is_serial a.kind)
     by false = refl
 none_below (r ∷ []) a all upper = by (is_serial r.kind) all
   where
-    by : (s : Bool) → AllByRecursion (λ (y : Act). y.kind ≡ kind.Nested) (cond s (behind_first (a ∷ [])) (a ∷ [])) → cond s (behind_first (a ∷ [])) (a ∷ []) ≡ []
+    by : (s : Bool) → AllByRecursion (λ (y : Act). y.kind ≡ kind.Nested) (cond s (behind_first (a ∷ [])) (a ∷ [])) →
+        cond s (behind_first (a ∷ [])) (a ∷ []) ≡ []
     by true each = refl
     by false each = absurd (upper each.0)
 none_below (r ∷ b ∷ rest) a all upper = by (is_serial r.kind) all
@@ -158,7 +149,8 @@ none_below (r ∷ b ∷ rest) a all upper = by (is_serial r.kind) all
     last_nested [] each = each.0
     last_nested (x ∷ xs) each = last_nested xs each.1
 
-    by : (s : Bool) → AllByRecursion (λ (y : Act). y.kind ≡ kind.Nested) (cond s (rest ++ a ∷ []) (b ∷ (rest ++ a ∷ []))) → cond s (rest ++ a ∷ []) (b ∷ (rest ++ a ∷ [])) ≡ []
+    by : (s : Bool) → AllByRecursion (λ (y : Act). y.kind ≡ kind.Nested) (cond s (rest ++ a ∷ []) (b ∷ (rest ++ a ∷ []))) →
+        cond s (rest ++ a ∷ []) (b ∷ (rest ++ a ∷ [])) ≡ []
     by true each = absurd (upper (last_nested rest each))
     by false each = absurd (upper (last_nested rest each.1))
 
@@ -173,39 +165,45 @@ module _ (lines : List Line) (right : AreRight new_book lines) where
   pub own : (a : Act) → In a (acts lines) → is_top a.kind ≡ true → top_in (path_of lines a) ≡ Some a
   own a i is =
       let t = own_top (acts lines) sound.distinct sound.formed a i (top_plain a.kind is) in
-      ⊎_elim (λ same. t.1 ∙ ap Some same) (λ j. never is (chain_nested lines right a a j).0) (parts (path_of lines a) t.0 a t.1 (own_there (acts lines) sound.distinct sound.formed a i) (top_plain a.kind is))
+      ⊎_elim (λ same. t.1 ∙ ap Some same) (λ j. never is (chain_nested lines right a a j).0)
+      (parts (path_of lines a) t.0 a t.1 (own_there (acts lines) sound.distinct sound.formed a i) (top_plain a.kind is))
 
   -- nothing is below the top on the path of an action that isn't nested
   pub upper_chain : (a : Act) → In a (acts lines) → a.kind ≢ kind.Nested → chain_in (path_of lines a) ≡ []
   upper_chain a i upper =
       let e = (well (acts lines) sound.formed a.label).1 a (found_by (acts lines) sound.distinct a i) in
-      ap chain_in e.are ∙ none_below e.before a (subst (λ q. AllByRecursion (λ (y : Act). y.kind ≡ kind.Nested) (chain_in q)) e.are (let s = shape_of lines right a in s.below)) upper
+      ap chain_in e.are ∙ none_below e.before a (subst (λ q. AllByRecursion (λ (y : Act). y.kind ≡ kind.Nested) (chain_in q)) e.are
+      (let s = shape_of lines right a in s.below)) upper
 
   pub top_item : (t : Top) → In t (tops lines) → IsTopOf lines t
   top_item t i =
       let f = in_filter_map (top_of (committed lines) (recovered lines)) t (committings lines) i in
       let c = call_top lines right f.0 f.1 in
       let is : top_in f.0.it ≡ Some c.act = ap top_in c.path_is ∙ own c.act c.there c.top in
-      by f.0 c is (is_committed (committed lines) (recovered lines) c.act) refl (sym (ap (top_by (committed lines) (recovered lines) f.0) is) ∙ f.2)
+      by f.0 c is (is_committed (committed lines) (recovered lines) c.act) refl
+      (sym (ap (top_by (committed lines) (recovered lines) f.0) is) ∙ f.2)
     where
-      by : (m : Placed (List Act)) (c : IsCallOfTop (acts lines) (called lines) m) → top_in m.it ≡ Some c.act → (b : Bool) → is_committed (committed lines) (recovered lines) c.act ≡ b
+      by : (m : Placed (List Act)) (c : IsCallOfTop (acts lines) (called lines) m) → top_in m.it ≡ Some c.act → (b : Bool) →
+          is_committed (committed lines) (recovered lines) c.act ≡ b
           → cond b (Some (record { id = c.act.id; root = root_or c.act.id (root_in m.it); at = m.at })) None ≡ Some t → IsTopOf lines t
-      by m c is true done e = let same = some_is (record { id = c.act.id; root = root_or c.act.id (root_in m.it); at = m.at }) t e in record {
-        act = c.act;
-        there = c.there;
-        number = ap (λ (z : Top). z.id) same;
-        kind = c.top;
-        done = done;
-        root_is = sym (ap (λ (z : Top). z.root) same) ∙ ap (λ p. root_or c.act.id (root_in p)) c.path_is;
-        call = subst (λ n. In (record { at = n; it = c.act.id }) (called lines)) (ap (λ (z : Top). z.at) same) c.number;
-      }
+      by m c is true done e =
+          let same = some_is (record { id = c.act.id; root = root_or c.act.id (root_in m.it); at = m.at }) t e in record {
+            act = c.act;
+            there = c.there;
+            number = ap (λ (z : Top). z.id) same;
+            kind = c.top;
+            done = done;
+            root_is = sym (ap (λ (z : Top). z.root) same) ∙ ap (λ p. root_or c.act.id (root_in p)) c.path_is;
+            call = subst (λ n. In (record { at = n; it = c.act.id }) (called lines)) (ap (λ (z : Top). z.at) same) c.number;
+          }
       by m c is false done e = absurd (cc e)
 
   pub top_for : (a : Act) → In a (acts lines) → is_top a.kind ≡ true → IsDone lines a → (t : Top) × In t (tops lines) × (t.id ≡ a.id)
   top_for a i top done = let r = listed.all a (in_to a (acts lines) i) top done in (r.0, in_from r.0 (tops lines) r.1, r.2)
 
   pub same_number : (a b : Act) → In a (acts lines) → In b (acts lines) → a.id ≡ b.id → a ≡ b
-  same_number a b i j e = one_act (acts lines) sound.distinct a b i j (uid_is a.uid b.uid (sym (apart_acts (acts lines) sound.distinct a b i j) ∙ eq-eqb a.id b.id e))
+  same_number a b i j e = one_act (acts lines) sound.distinct a b i j
+      (uid_is a.uid b.uid (sym (apart_acts (acts lines) sound.distinct a b i j) ∙ eq-eqb a.id b.id e))
 
   -- the root of a path
   pub head_of : (a : Act) → In a (acts lines) → (h : Act) × In h (path_of lines a) × (root_in (path_of lines a) ≡ Some h.id)
@@ -219,10 +217,12 @@ module _ (lines : List Line) (right : AreRight new_book lines) where
 
 module _ (values : Values) (lines : List Line) (right : AreRight new_book lines) (x : ℕ) (S : State) (tied : Tie values lines x S) where
   pub in_order : IsInOrder S
-  in_order = is_in_order (run_keeps tied.run (start_holds (tied.code (values x) (tied.act nobody)))) (roots_low tied.run (start_low (tied.code (values x) (tied.act nobody))))
+  in_order = is_in_order (run_keeps tied.run (start_holds (tied.code (values x) (tied.act nobody))))
+      (roots_low tied.run (start_low (tied.code (values x) (tied.act nobody))))
 
   nested : IsNested S
-  nested = is_nested (run_keeps tied.run (start_holds (tied.code (values x) (tied.act nobody)))) (roots_low tied.run (start_low (tied.code (values x) (tied.act nobody))))
+  nested = is_nested (run_keeps tied.run (start_holds (tied.code (values x) (tied.act nobody))))
+      (roots_low tied.run (start_low (tied.code (values x) (tied.act nobody))))
 
   timely : AreTimely S.calls S.now S.action
   timely = run_timely tied.run (start_timely (tied.code (values x) (tied.act nobody)))
@@ -233,23 +233,28 @@ module _ (values : Values) (lines : List Line) (right : AreRight new_book lines)
   stage_of_top t i = let s = tied.actions i.act (in_to i.act (acts lines) i.there) (top_plain i.act.kind i.kind) in s.done i.done
 
   pub place_in : (t : Top) (i : IsTopOf lines t) → (S.action (tied.act i.act.uid)).place ≡ t.at + 1
-  place_in t i = let s = tied.actions i.act (in_to i.act (acts lines) i.there) (top_plain i.act.kind i.kind) in s.place (record { at = t.at; it = i.act.id }) (in_to _ (called lines) i.call) refl
+  place_in t i = let s = tied.actions i.act (in_to i.act (acts lines) i.there) (top_plain i.act.kind i.kind) in
+      s.place (record { at = t.at; it = i.act.id }) (in_to _ (called lines) i.call) refl
 
   pub is_top_in : (a : Act) → In a (acts lines) → is_top a.kind ≡ true → machine.is_top (tied.act a.uid) ≡ true
   is_top_in a i top = let p = tied.places in p.tops a (in_to a (acts lines) i) ∙ top
 
   -- two of one root have one unit
-  pub one_unit : (t u : Top) (i : IsTopOf lines t) (j : IsTopOf lines u) → t.root ≡ u.root → root (tied.act i.act.uid) ≡ root (tied.act j.act.uid)
+  pub one_unit : (t u : Top) (i : IsTopOf lines t) (j : IsTopOf lines u) → t.root ≡ u.root →
+      root (tied.act i.act.uid) ≡ root (tied.act j.act.uid)
   one_unit t u i j e =
       let g = head_of lines right i.act i.there in
       let h = head_of lines right j.act j.there in
       let same : g.0.id ≡ h.0.id = sym (i.root_is ∙ ap (root_or i.act.id) g.2) ∙ e ∙ j.root_is ∙ ap (root_or j.act.id) h.2 in
-      let heads = same_number lines right g.0 h.0 (member values lines right x S tied i.act g.0 g.1) (member values lines right x S tied j.act h.0 h.1) same in
-      on_root (tied.act i.act.uid) (tied.act g.0.uid) (on_it values lines right x S tied i.act g.0 i.there g.1) ∙ ap (λ (z : Act). root (tied.act z.uid)) heads
+      let heads = same_number lines right g.0 h.0 (member values lines right x S tied i.act g.0 g.1)
+      (member values lines right x S tied j.act h.0 h.1) same in
+      on_root (tied.act i.act.uid) (tied.act g.0.uid) (on_it values lines right x S tied i.act g.0 i.there g.1)
+      ∙ ap (λ (z : Act). root (tied.act z.uid)) heads
       ∙ sym (on_root (tied.act j.act.uid) (tied.act h.0.uid) (on_it values lines right x S tied j.act h.0 j.there h.1))
 
   -- and two of one unit one root
-  pub one_root : (t u : Top) (i : IsTopOf lines t) (j : IsTopOf lines u) → root (tied.act i.act.uid) ≡ root (tied.act j.act.uid) → t.root ≡ u.root
+  pub one_root : (t u : Top) (i : IsTopOf lines t) (j : IsTopOf lines u) → root (tied.act i.act.uid) ≡ root (tied.act j.act.uid) →
+      t.root ≡ u.root
   one_root t u i j e =
       let p = tied.places in
       let g = head_of lines right i.act i.there in
@@ -279,7 +284,8 @@ module _ (values : Values) (lines : List Line) (right : AreRight new_book lines)
     pub top_number : k.top ≡ number.id
     pub chain : k.chain ≡ ids (chain_in (path_of lines made_by.maker))
 
-  pub find_call : (ss : List (Placed Said)) (cs : List state.Call) → AreCallsOf tied.act tied.code ss cs → (s : Placed Said) → In s ss → (c : state.Call) × machine.In c cs × IsCallOf tied.act tied.code s c
+  pub find_call : (ss : List (Placed Said)) (cs : List state.Call) → AreCallsOf tied.act tied.code ss cs → (s : Placed Said) → In s ss →
+      (c : state.Call) × machine.In c cs × IsCallOf tied.act tied.code s c
   find_call [] cs are s i = absurd i
   find_call (t ∷ ss) [] are s i = absurd are
   find_call (t ∷ ss) (c ∷ cs) are s (inl same) = (c, inl refl, subst (λ (z : Placed Said). IsCallOf tied.act tied.code z c) same are.0)
@@ -324,7 +330,8 @@ module _ (values : Values) (lines : List Line) (right : AreRight new_book lines)
         let m = s.made_by in
         let t = s.top_of_it in
         topmost s.call.act (tied.act t.act.uid) (is_top_in t.act t.there t.kind)
-        (ap (λ a. on a (tied.act t.act.uid)) m.caller ∙ on_it values lines right x S tied m.maker t.act m.there (subst (λ z. In z (path_of lines m.maker)) (sym s.same_top) (top_on (path_of lines m.maker) m.top m.top_is)))
+        (ap (λ a. on a (tied.act t.act.uid)) m.caller ∙ on_it values lines right x S tied m.maker t.act m.there
+        (subst (λ z. In z (path_of lines m.maker)) (sym s.same_top) (top_on (path_of lines m.maker) m.top m.top_is)))
 
     pub its_root : root s.call.act ≡ root (tied.act s.top_of_it.act.uid)
     its_root = sym (top_root s.call.act) ∙ ap root its_top
@@ -334,7 +341,8 @@ module _ (values : Values) (lines : List Line) (right : AreRight new_book lines)
     before_top =
         let i = s.top_of_it in
         let stage = stage_of_top s.number i in
-        let l = timely.places s.call (tied.act i.act.uid) s.there (subst (λ a. on s.call.act a ≡ true) its_top (on_top s.call.act)) (is_top_in i.act i.there i.kind) (omega (arith, stage)) (omega (arith, stage)) in
+        let l = timely.places s.call (tied.act i.act.uid) s.there (subst (λ a. on s.call.act a ≡ true) its_top (on_top s.call.act))
+        (is_top_in i.act i.there i.kind) (omega (arith, stage)) (omega (arith, stage)) in
         let p = place_in s.number i in
         let line = s.line in
         omega (arith, l, p, line)
@@ -342,7 +350,8 @@ module _ (values : Values) (lines : List Line) (right : AreRight new_book lines)
     pub key_is : serial_key (tops lines) k.top ≡ unit_place (tops lines) s.number.root ∷ s.number.at ∷ []
     key_is =
         let apart = let l = listed lines right in l.apart in
-        ap (serial_key (tops lines)) s.top_number ∙ (λ i. unit_place (tops lines) (root_of_top (tops lines) s.number apart s.listed_top i) ∷ place_of_top (tops lines) s.number apart s.listed_top i ∷ [])
+        ap (serial_key (tops lines)) s.top_number ∙ (λ i. unit_place (tops lines) (root_of_top (tops lines) s.number apart s.listed_top i)
+        ∷ place_of_top (tops lines) s.number apart s.listed_top i ∷ [])
 
   pub conflict_of : (c d : Call) (s : IsShown c) (t : IsShown d) → c.at < d.at → is_conflict c d ≡ true → Conflicting S s.call t.call
   conflict_of c d s t less conflict = record {
@@ -375,42 +384,57 @@ module _ (values : Values) (lines : List Line) (right : AreRight new_book lines)
       later : d.at < t.number.at
       later = before_top d t
 
-      keys : lex (unit_place (tops lines) s.number.root ∷ s.number.at ∷ []) (unit_place (tops lines) t.number.root ∷ t.number.at ∷ []) ≡ true → serial_less (tops lines) c d ≡ true
+      keys : lex (unit_place (tops lines) s.number.root ∷ s.number.at ∷ []) (unit_place (tops lines) t.number.root ∷ t.number.at ∷ [])
+          ≡ true → serial_less (tops lines) c d ≡ true
       keys e = (λ i. lex (key_is c s i) (key_is d t i)) ∙ e
 
       by : (b : Bool) → (s.number.root == t.number.root) ≡ b → serial_less (tops lines) c d ≡ true
       by true same =
           let one = eqb-true s.number.root t.number.root same in
-          let roots : root s.call.act ≡ root t.call.act = its_root c s ∙ one_unit s.number t.number s.top_of_it t.top_of_it one ∙ sym (its_root d t) in
+          let roots : root s.call.act ≡ root t.call.act = its_root c s ∙ one_unit s.number t.number s.top_of_it t.top_of_it one
+          ∙ sym (its_root d t) in
           let differ : top s.call.act ≢ top t.call.act = λ e.
           let p = tied.places in
           let a = s.top_of_it in
           let b = t.top_of_it in
-          let uid = p.one a.act b.act (in_to a.act (acts lines) a.there) (in_to b.act (acts lines) b.there) (sym (its_top c s) ∙ e ∙ its_top d t) in
+          let uid = p.one a.act b.act (in_to a.act (acts lines) a.there) (in_to b.act (acts lines) b.there)
+          (sym (its_top c s) ∙ e ∙ its_top d t) in
           let act = one_act (acts lines) (let z = sound lines right in z.distinct) a.act b.act a.there b.there uid in
           never (eq-eqb c.top d.top (s.top_number ∙ sym a.number ∙ ap (λ (z : Act). z.id) act ∙ b.number ∙ sym t.top_number)) apart in
           let l = in_order.tops s.call t.call both roots differ in
-          let place : (S.action (top s.call.act)).place ≡ s.number.at + 1 = ap (λ a. (S.action a).place) (its_top c s) ∙ place_in s.number s.top_of_it in
+          let place : (S.action (top s.call.act)).place ≡ s.number.at + 1 = ap (λ a. (S.action a).place) (its_top c s)
+          ∙ place_in s.number s.top_of_it in
           let line = t.line in
           let far : s.number.at < t.number.at = omega (arith, l, place, line, later) in
-          keys (lex_second (unit_place (tops lines) s.number.root) (unit_place (tops lines) t.number.root) s.number.at t.number.at (ap (unit_place (tops lines)) one) far)
+          keys (lex_second (unit_place (tops lines) s.number.root) (unit_place (tops lines) t.number.root) s.number.at t.number.at
+          (ap (unit_place (tops lines)) one) far)
       by false other =
-          let units : root s.call.act ≢ root t.call.act = λ e. never (eq-eqb s.number.root t.number.root (one_root s.number t.number s.top_of_it t.top_of_it (sym (its_root c s) ∙ e ∙ its_root d t))) other in
-          let before : unit_place (tops lines) s.number.root < d.at = unit_before (tops lines) s.number.root d.at (omega (arith, less)) (λ u k is.
+          let units : root s.call.act ≢ root t.call.act = λ e. never (eq-eqb s.number.root t.number.root
+          (one_root s.number t.number s.top_of_it t.top_of_it (sym (its_root c s) ∙ e ∙ its_root d t))) other in
+          let before : unit_place (tops lines) s.number.root < d.at = unit_before (tops lines) s.number.root d.at (omega (arith, less))
+          (λ u k is.
           let a = top_item lines right u k in
-          let l = in_order.units s.call t.call (tied.act a.act.uid) both units (is_top_in a.act a.there a.kind, stage_of_top u a) (one_unit u s.number a s.top_of_it is ∙ sym (its_root c s)) in
+          let l = in_order.units s.call t.call (tied.act a.act.uid) both units (is_top_in a.act a.there a.kind, stage_of_top u a)
+          (one_unit u s.number a s.top_of_it is ∙ sym (its_root c s)) in
           let place = place_in u a in
           let line = t.line in
           omega (arith, l, place, line)) in
           let behind = unit_behind (tops lines) t.number t.listed_top in
-          keys (lex_first (unit_place (tops lines) s.number.root) (unit_place (tops lines) t.number.root) s.number.at t.number.at (omega (arith, before, later, behind)))
+          keys (lex_first (unit_place (tops lines) s.number.root) (unit_place (tops lines) t.number.root) s.number.at t.number.at
+          (omega (arith, before, later, behind)))
 
-  pub called_first : (c d : Call) → In c (committed_calls lines) → In d (committed_calls lines) → c.x ≡ x → d.x ≡ x → IsCalledFirst lines c d
+  pub called_first : (c d : Call) → In c (committed_calls lines) → In d (committed_calls lines) → c.x ≡ x → d.x ≡ x →
+      IsCalledFirst lines c d
   called_first c d i j cx dx less apart conflict =
       let apart_tops = let l = listed lines right in l.apart in
-      let at : top_place (tops lines) c.top ≡ s.number.at = ap (top_place (tops lines)) s.top_number ∙ place_of_top (tops lines) s.number apart_tops s.listed_top in
-      let l = ⊎_elim (λ (same : (s.number.root == t.number.root) ≡ true). in_order.tops s.call t.call both (roots (eqb-true s.number.root t.number.root same)) differ) (λ (other : (s.number.root == t.number.root) ≡ false). in_order.units s.call t.call (top s.call.act) both (λ e. never (eq-eqb s.number.root t.number.root (one_root s.number t.number s.top_of_it t.top_of_it (sym (its_root c s) ∙ e ∙ its_root d t))) other) (committed_top) (top_root s.call.act)) (bool_cases (s.number.root == t.number.root)) in
-      let place : (S.action (top s.call.act)).place ≡ s.number.at + 1 = ap (λ a. (S.action a).place) (its_top c s) ∙ place_in s.number s.top_of_it in
+      let at : top_place (tops lines) c.top ≡ s.number.at = ap (top_place (tops lines)) s.top_number
+      ∙ place_of_top (tops lines) s.number apart_tops s.listed_top in
+      let l = ⊎_elim (λ (same : (s.number.root == t.number.root) ≡ true). in_order.tops s.call t.call both (roots (eqb-true s.number.root
+      t.number.root same)) differ) (λ (other : (s.number.root == t.number.root) ≡ false). in_order.units s.call t.call (top s.call.act)
+      both (λ e. never (eq-eqb s.number.root t.number.root (one_root s.number t.number s.top_of_it t.top_of_it (sym (its_root c s) ∙ e
+      ∙ its_root d t))) other) (committed_top) (top_root s.call.act)) (bool_cases (s.number.root == t.number.root)) in
+      let place : (S.action (top s.call.act)).place ≡ s.number.at + 1 = ap (λ a. (S.action a).place) (its_top c s)
+      ∙ place_in s.number s.top_of_it in
       let line = t.line in
       omega (arith, at, l, place, line)
     where
@@ -428,7 +452,8 @@ module _ (values : Values) (lines : List Line) (right : AreRight new_book lines)
       bool_cases false = inr refl
 
       committed_top : IsCommitted S (top s.call.act)
-      committed_top = let a = s.top_of_it in subst (IsCommitted S) (sym (its_top c s)) (is_top_in a.act a.there a.kind, stage_of_top s.number a)
+      committed_top = let a = s.top_of_it in
+          subst (IsCommitted S) (sym (its_top c s)) (is_top_in a.act a.there a.kind, stage_of_top s.number a)
 
       roots : s.number.root ≡ t.number.root → root s.call.act ≡ root t.call.act
       roots e = its_root c s ∙ one_unit s.number t.number s.top_of_it t.top_of_it e ∙ sym (its_root d t)
@@ -438,12 +463,15 @@ module _ (values : Values) (lines : List Line) (right : AreRight new_book lines)
           let p = tied.places in
           let a = s.top_of_it in
           let b = t.top_of_it in
-          let uid = p.one a.act b.act (in_to a.act (acts lines) a.there) (in_to b.act (acts lines) b.there) (sym (its_top c s) ∙ e ∙ its_top d t) in
+          let uid = p.one a.act b.act (in_to a.act (acts lines) a.there) (in_to b.act (acts lines) b.there)
+          (sym (its_top c s) ∙ e ∙ its_top d t) in
           let act = one_act (acts lines) (let z = sound lines right in z.distinct) a.act b.act a.there b.there uid in
           never (eq-eqb c.top d.top (s.top_number ∙ sym a.number ∙ ap (λ (z : Act). z.id) act ∙ b.number ∙ sym t.top_number)) apart
 
   -- all of the first call's unit was called before the second, of another unit
-  pub unit_first : (c d : Call) → In c (committed_calls lines) → In d (committed_calls lines) → c.x ≡ x → d.x ≡ x → c.at < d.at → is_conflict c d ≡ true → root_of (tops lines) c.top ≢ root_of (tops lines) d.top → unit_place (tops lines) (root_of (tops lines) c.top) < d.at
+  pub unit_first : (c d : Call) → In c (committed_calls lines) → In d (committed_calls lines) → c.x ≡ x → d.x ≡ x → c.at < d.at →
+      is_conflict c d ≡ true → root_of (tops lines) c.top ≢ root_of (tops lines) d.top →
+      unit_place (tops lines) (root_of (tops lines) c.top) < d.at
   unit_first c d i j cx dx less conflict other = subst (λ r. unit_place (tops lines) r < d.at) (sym (number_root c s)) before
     where
       s : IsShown c
@@ -456,15 +484,18 @@ module _ (values : Values) (lines : List Line) (right : AreRight new_book lines)
       both = conflict_of c d s t less conflict
 
       number_root : (k : Call) (w : IsShown k) → root_of (tops lines) k.top ≡ w.number.root
-      number_root k w = ap (root_of (tops lines)) w.top_number ∙ root_of_top (tops lines) w.number (let l = listed lines right in l.apart) w.listed_top
+      number_root k w =
+          ap (root_of (tops lines)) w.top_number ∙ root_of_top (tops lines) w.number (let l = listed lines right in l.apart) w.listed_top
 
       units : root s.call.act ≢ root t.call.act
-      units e = other (number_root c s ∙ one_root s.number t.number s.top_of_it t.top_of_it (sym (its_root c s) ∙ e ∙ its_root d t) ∙ sym (number_root d t))
+      units e = other (number_root c s ∙ one_root s.number t.number s.top_of_it t.top_of_it (sym (its_root c s) ∙ e ∙ its_root d t)
+          ∙ sym (number_root d t))
 
       before : unit_place (tops lines) s.number.root < d.at
       before = unit_before (tops lines) s.number.root d.at (omega (arith, less)) (λ u k is.
           let a = top_item lines right u k in
-          let l = in_order.units s.call t.call (tied.act a.act.uid) both units (is_top_in a.act a.there a.kind, stage_of_top u a) (one_unit u s.number a s.top_of_it is ∙ sym (its_root c s)) in
+          let l = in_order.units s.call t.call (tied.act a.act.uid) both units (is_top_in a.act a.there a.kind, stage_of_top u a)
+          (one_unit u s.number a s.top_of_it is ∙ sym (its_root c s)) in
           let place = place_in u a in
           let line = t.line in
           omega (arith, l, place, line))
@@ -504,7 +535,8 @@ module _ (values : Values) (lines : List Line) (right : AreRight new_book lines)
       let ends = q.below b i in
       let f = first_commit (committed lines) b.id ends in
       let a = tied.actions b (in_to b (acts lines) there) kinds.1 in
-      let on_act : on s.call.act (tied.act b.uid) ≡ true = ap (λ c. on c (tied.act b.uid)) m.caller ∙ on_it values lines right x S tied m.maker b m.there j in
+      let on_act : on s.call.act (tied.act b.uid) ≡ true = ap (λ c. on c (tied.act b.uid)) m.caller
+      ∙ on_it values lines right x S tied m.maker b m.there j in
       record {
         there = there;
         plain = kinds.1;
@@ -515,8 +547,11 @@ module _ (values : Values) (lines : List Line) (right : AreRight new_book lines)
         done = a.commit f.0 (in_to f.0 (committed lines) f.1) f.2 ∙ ap (λ n. n + 1) (sym f.3);
       }
 
-  pub is_freed : (c d : Call) → In c (committed_calls lines) → In d (committed_calls lines) → c.x ≡ x → d.x ≡ x → IsFreedFor (committed lines) c d
-  is_freed c d i j cx dx less same conflict = subst (AllByRecursion (λ a. is_among d.chain a ≡ false → commit_place (committed lines) a < d.at)) (sym s.chain) (all_ids (λ a. is_among d.chain a ≡ false → commit_place (committed lines) a < d.at) (chain_in (path_of lines sm.maker)) one)
+  pub is_freed : (c d : Call) → In c (committed_calls lines) → In d (committed_calls lines) → c.x ≡ x → d.x ≡ x →
+      IsFreedFor (committed lines) c d
+  is_freed c d i j cx dx less same conflict =
+      subst (AllByRecursion (λ a. is_among d.chain a ≡ false → commit_place (committed lines) a < d.at)) (sym s.chain)
+      (all_ids (λ a. is_among d.chain a ≡ false → commit_place (committed lines) a < d.at) (chain_in (path_of lines sm.maker)) one)
     where
       s : IsShown c
       s = shown c i cx
@@ -531,15 +566,18 @@ module _ (values : Values) (lines : List Line) (right : AreRight new_book lines)
       tm = t.made_by
 
       tops_same : s.top_of_it.act ≡ t.top_of_it.act
-      tops_same = let a = s.top_of_it in let b = t.top_of_it in same_number lines right a.act b.act a.there b.there (a.number ∙ sym s.top_number ∙ eqb-true c.top d.top same ∙ t.top_number ∙ sym b.number)
+      tops_same = let a = s.top_of_it in let b = t.top_of_it in same_number lines right a.act b.act a.there b.there
+          (a.number ∙ sym s.top_number ∙ eqb-true c.top d.top same ∙ t.top_number ∙ sym b.number)
 
       roots : root s.call.act ≡ root t.call.act
       roots = its_root c s ∙ ap (λ (z : Act). root (tied.act z.uid)) tops_same ∙ sym (its_root d t)
 
-      one : (b : Act) → In b (chain_in (path_of lines sm.maker)) → is_among d.chain b.id ≡ false → commit_place (committed lines) b.id < d.at
+      one : (b : Act) → In b (chain_in (path_of lines sm.maker)) → is_among d.chain b.id ≡ false →
+          commit_place (committed lines) b.id < d.at
       one b k off =
           let w = below c s b k in
-          let passed = nested s.call t.call (conflict_of c d s t less conflict) roots (tied.act b.uid) w.on_act (by (on t.call.act (tied.act b.uid)) refl) in
+          let passed = nested s.call t.call (conflict_of c d s t less conflict) roots (tied.act b.uid) w.on_act
+          (by (on t.call.act (tied.act b.uid)) refl) in
           let l = passed.1 in
           let done = w.done in
           let line = t.line in
@@ -549,14 +587,16 @@ module _ (values : Values) (lines : List Line) (right : AreRight new_book lines)
           by false is = refl
           by true is =
               let w = below c s b k in
-              let h = from_on values lines right x S tied tm.maker b tm.there w.there (ap (λ a. on a (tied.act b.uid)) (sym tm.caller) ∙ is) in
+              let h = from_on values lines right x S tied tm.maker b tm.there w.there
+              (ap (λ a. on a (tied.act b.uid)) (sym tm.caller) ∙ is) in
               ⊎_elim
               (λ top. let u = t.top_of_it in never (ap (λ (z : Act). is_top z.kind) (sym (t.same_top ∙ top)) ∙ u.kind) w.nests)
               (λ chain. never (ap (λ ns. is_among ns b.id) t.chain ∙ in_ids b (chain_in (path_of lines tm.maker)) chain) off)
               (parts (path_of lines tm.maker) tm.top b tm.top_is h w.plain)
 
   pub in_time : (c : Call) → In c (committed_calls lines) → c.x ≡ x → AllByRecursion (λ a. c.at < commit_place (committed lines) a) c.chain
-  in_time c i cx = subst (AllByRecursion (λ a. c.at < commit_place (committed lines) a)) (sym s.chain) (all_ids (λ a. c.at < commit_place (committed lines) a) (chain_in (path_of lines (let m = s.made_by in m.maker))) one)
+  in_time c i cx = subst (AllByRecursion (λ a. c.at < commit_place (committed lines) a)) (sym s.chain)
+      (all_ids (λ a. c.at < commit_place (committed lines) a) (chain_in (path_of lines (let m = s.made_by in m.maker))) one)
     where
       s : IsShown c
       s = shown c i cx
@@ -564,7 +604,8 @@ module _ (values : Values) (lines : List Line) (right : AreRight new_book lines)
       one : (b : Act) → In b (chain_in (path_of lines (let m = s.made_by in m.maker))) → c.at < commit_place (committed lines) b.id
       one b k =
           let w = below c s b k in
-          let l = timely.commits s.call (tied.act b.uid) s.there w.on_act (acts_are values lines right x S tied b w.there w.plain) w.stage in
+          let l = timely.commits s.call (tied.act b.uid) s.there w.on_act (acts_are values lines right x S tied b w.there w.plain)
+          w.stage in
           let done = w.done in
           let line = s.line in
           omega (arith, l, done, line)
@@ -582,23 +623,29 @@ module _ (values : Values) (lines : List Line) (right : AreRight new_book lines)
   each P [] f = tt
   each P (c ∷ cs) f = (f c (inl refl), each P cs (λ d i. f d (inr i)))
 
-  of_two : (R : Call → Call → Type 0) → ((c d : Call) → In c (committed_calls lines) → In d (committed_calls lines) → R c d) → OfEachTwo R (committed_calls lines)
-  of_two R f = each (λ c. AllByRecursion (R c) (committed_calls lines)) (committed_calls lines) (λ c i. each (R c) (committed_calls lines) (λ d j. f c d i j))
+  of_two : (R : Call → Call → Type 0) → ((c d : Call) → In c (committed_calls lines) → In d (committed_calls lines) → R c d) →
+      OfEachTwo R (committed_calls lines)
+  of_two R f = each (λ c. AllByRecursion (R c) (committed_calls lines)) (committed_calls lines)
+      (λ c i. each (R c) (committed_calls lines) (λ d j. f c d i j))
 
   one_object : (c d : Call) → is_conflict c d ≡ true → d.x ≡ c.x
   one_object c d e = sym (eqb-true c.x d.x (and_parts (c.x == d.x) (writes c.op || writes d.op) e).0)
 
   pub all_in_order : InOrder lines
-  all_in_order = of_two (StandInOrder lines) (λ c d i j less apart conflict. let t = of_object c i in stands values lines right c.x t.0 t.1 c d i j refl (one_object c d conflict) less apart conflict)
+  all_in_order = of_two (StandInOrder lines) (λ c d i j less apart conflict. let t = of_object c i in
+      stands values lines right c.x t.0 t.1 c d i j refl (one_object c d conflict) less apart conflict)
 
   pub all_freed : FreedInOrder lines
-  all_freed = of_two (IsFreedFor (committed lines)) (λ c d i j less same conflict. let t = of_object c i in is_freed values lines right c.x t.0 t.1 c d i j refl (one_object c d conflict) less same conflict)
+  all_freed = of_two (IsFreedFor (committed lines)) (λ c d i j less same conflict. let t = of_object c i in
+      is_freed values lines right c.x t.0 t.1 c d i j refl (one_object c d conflict) less same conflict)
 
   pub all_in_time : AnsweredInTime lines
-  all_in_time = each (λ (c : Call). AllByRecursion (λ a. c.at < commit_place (committed lines) a) c.chain) (committed_calls lines) (λ c i. let t = of_object c i in in_time values lines right c.x t.0 t.1 c i refl)
+  all_in_time = each (λ (c : Call). AllByRecursion (λ a. c.at < commit_place (committed lines) a) c.chain) (committed_calls lines)
+      (λ c i. let t = of_object c i in in_time values lines right c.x t.0 t.1 c i refl)
 
   pub all_called_first : CommitsComeFirst lines
-  all_called_first = of_two (IsCalledFirst lines) (λ c d i j less apart conflict. let t = of_object c i in called_first values lines right c.x t.0 t.1 c d i j refl (one_object c d conflict) less apart conflict)
+  all_called_first = of_two (IsCalledFirst lines) (λ c d i j less apart conflict. let t = of_object c i in
+      called_first values lines right c.x t.0 t.1 c d i j refl (one_object c d conflict) less apart conflict)
 
   -- a call stands before the commit call of its top
   pub call_before : (c : Call) → In c (committed_calls lines) → (t : Top) × In t (tops lines) × (c.top ≡ t.id) × (c.at < t.at)
@@ -609,12 +656,15 @@ module _ (values : Values) (lines : List Line) (right : AreRight new_book lines)
 
   -- so the commit of each top whose calls count was called
   pub all_called : AreCalled lines
-  all_called = each (λ c. is_called (tops lines) c.top ≡ true) (committed_calls lines) (λ c i. let b = call_before c i in among (tops lines) b.0 c.top b.1 b.2)
+  all_called = each (λ c. is_called (tops lines) c.top ≡ true) (committed_calls lines) (λ c i. let b = call_before c i in
+      among (tops lines) b.0 c.top b.1 b.2)
     where
       among : (ts : List Top) (t : Top) (id : ℕ) → In t ts → id ≡ t.id → is_called ts id ≡ true
       among [] t id i same = absurd i
       among (u ∷ ts) t id (inl is) same = or_left (u.id == id) (is_called ts id) (eq-eqb u.id id (ap (λ (z : Top). z.id) is ∙ sym same))
       among (u ∷ ts) t id (inr i) same = or_right (u.id == id) (is_called ts id) (among ts t id i same)
 
-  pub all_unit_first : (c d : Call) → In c (committed_calls lines) → In d (committed_calls lines) → c.at < d.at → is_conflict c d ≡ true → root_of (tops lines) c.top ≢ root_of (tops lines) d.top → unit_place (tops lines) (root_of (tops lines) c.top) < d.at
-  all_unit_first c d i j less conflict other = let t = of_object c i in unit_first values lines right c.x t.0 t.1 c d i j refl (one_object c d conflict) less conflict other
+  pub all_unit_first : (c d : Call) → In c (committed_calls lines) → In d (committed_calls lines) → c.at < d.at → is_conflict c d ≡ true →
+      root_of (tops lines) c.top ≢ root_of (tops lines) d.top → unit_place (tops lines) (root_of (tops lines) c.top) < d.at
+  all_unit_first c d i j less conflict other = let t = of_object c i in
+      unit_first values lines right c.x t.0 t.1 c d i j refl (one_object c d conflict) less conflict other

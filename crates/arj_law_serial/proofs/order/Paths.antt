@@ -1,22 +1,14 @@
 -- The paths of a journal whose lines are right: how they are made up, and that they stay.
-use Rattle.std.proofs.Common.{◌≡◌, ◌⊎◌, ℕ, List, [], ◌∷◌, ◌++◌, Bool, true, false, cond, Option, Some, None, refl, sym, ◌∙◌, ap, subst, inl, inr}
-use Rattle.std.specs.List.{AllByRecursion}
-use Rattle.std.specs.Str.{bytes_eq}
-use Rattle.std.proofs.lemmas.Slice.Eq.{bytes_eq-Decides}
-use Rattle.arj_base.specs.Rows.{last_uid}
-use Rattle.arj_journal.specs.declared.body.Body.{Body}
-use Rattle.arj_journal.specs.declared.body.Body.TheVariants as body
-use Rattle.arj_journal.specs.declared.body.Kind.{Kind}
-use Rattle.arj_journal.specs.declared.body.Kind.TheVariants as kind
-use Rattle.arj_journal.specs.declared.body.Line.{Line}
-use Rattle.arj_lock.proofs.Members.{In}
-use Rattle.arj_model.specs.Actions.{Act, act_in, behind_first, chain_in, is_serial, path, path_in, top_in, uids, upwards}
-use Rattle.arj_law_runs.specs.journal.Book.{Book, book_from, is_top, turned}
-use Rattle.arj_law_runs.specs.journal.Laws.{AreDistinct, AreFormed}
-use Rattle.arj_law_runs.specs.journal.Right.{AreRight, IsBelow, Right}
-use Rattle.arj_law_runs.proofs.journal.Books.{never}
-use Rattle.arj_law_runs.proofs.journal.Likes.{some_is}
-use Rattle.arj_law_runs.proofs.journal.Ties.{path_old}
+use Rattle.arj_law_parts.proofs.Words
+use Words.{◌≡◌, ◌⊎◌, ℕ, List, [], ◌∷◌, ◌++◌, Bool, true, false, cond, Option, Some, None, refl, sym, ◌∙◌, ap, subst, inl, inr}
+use Words.{AllByRecursion, bytes_eq, bytes_eq-Decides, last_uid, Body, Kind, Line, In}
+use Rattle.arj_law_serial.proofs.Terms
+use Terms.{Act, act_in, behind_first, chain_in, is_serial, path, path_in, top_in, uids, upwards, Book, book_from, is_top, turned}
+use Terms.{AreDistinct, AreFormed, AreRight, Right, path_old}
+use Terms.body
+use Terms.kind
+use Rattle.arj_law_runs.proofs.journal.{Books.never, Likes.some_is}
+use Rattle.arj_law_runs.specs.journal.Right.{IsBelow}
 
 -- ---- the top of a path and what is below it
 
@@ -68,7 +60,8 @@ parts (r ∷ []) t x e (inl is) plain = by (is_serial r.kind) refl e
 parts (r ∷ []) t x e (inr i) plain = absurd i
 parts (r ∷ b ∷ rest) t x e i plain = by (is_serial r.kind) refl e i
   where
-    by : (s : Bool) → is_serial r.kind ≡ s → cond s (Some b) (Some r) ≡ Some t → In x (r ∷ b ∷ rest) → (t ≡ x) ⊎ In x (cond s rest (b ∷ rest))
+    by : (s : Bool) → is_serial r.kind ≡ s → cond s (Some b) (Some r) ≡ Some t → In x (r ∷ b ∷ rest) →
+        (t ≡ x) ⊎ In x (cond s rest (b ∷ rest))
     by true same f (inl is) = never same (ap (λ (y : Act). is_serial y.kind) is ∙ plain)
     by true same f (inr (inl is)) = inl (sym (some_is b t f) ∙ is)
     by true same f (inr (inr j)) = inr j
@@ -125,9 +118,18 @@ root_shaped a top = by a.kind refl top
     by : (k : Kind) → a.kind ≡ k → is_top k ≡ true → IsShaped (a ∷ [])
     by kind.Nested same e = absurd (cc e)
     by kind.Serial same e = absurd (cc e)
-    by kind.Top same e = record { tops = λ t is. ap (λ (y : Act). is_top y.kind) (sym (some_is a t (sym (ap (λ k. cond (is_serial k) None (Some a)) same) ∙ is))) ∙ top; below = subst (λ k. AllByRecursion (λ (y : Act). y.kind ≡ kind.Nested) (cond (is_serial k) [] [])) (sym same) tt }
-    by kind.Independent same e = record { tops = λ t is. ap (λ (y : Act). is_top y.kind) (sym (some_is a t (sym (ap (λ k. cond (is_serial k) None (Some a)) same) ∙ is))) ∙ top; below = subst (λ k. AllByRecursion (λ (y : Act). y.kind ≡ kind.Nested) (cond (is_serial k) [] [])) (sym same) tt }
-    by kind.Constituent same e = record { tops = λ t is. ap (λ (y : Act). is_top y.kind) (sym (some_is a t (sym (ap (λ k. cond (is_serial k) None (Some a)) same) ∙ is))) ∙ top; below = subst (λ k. AllByRecursion (λ (y : Act). y.kind ≡ kind.Nested) (cond (is_serial k) [] [])) (sym same) tt }
+    by kind.Top same e = record {
+      tops = λ t is. ap (λ (y : Act). is_top y.kind) (sym (some_is a t (sym (ap (λ k. cond (is_serial k) None (Some a)) same) ∙ is))) ∙ top;
+      below = subst (λ k. AllByRecursion (λ (y : Act). y.kind ≡ kind.Nested) (cond (is_serial k) [] [])) (sym same) tt;
+    }
+    by kind.Independent same e = record {
+      tops = λ t is. ap (λ (y : Act). is_top y.kind) (sym (some_is a t (sym (ap (λ k. cond (is_serial k) None (Some a)) same) ∙ is))) ∙ top;
+      below = subst (λ k. AllByRecursion (λ (y : Act). y.kind ≡ kind.Nested) (cond (is_serial k) [] [])) (sym same) tt;
+    }
+    by kind.Constituent same e = record {
+      tops = λ t is. ap (λ (y : Act). is_top y.kind) (sym (some_is a t (sym (ap (λ k. cond (is_serial k) None (Some a)) same) ∙ is))) ∙ top;
+      below = subst (λ k. AllByRecursion (λ (y : Act). y.kind ≡ kind.Nested) (cond (is_serial k) [] [])) (sym same) tt;
+    }
 
 serial_shaped : (a : Act) → is_serial a.kind ≡ true → IsShaped (a ∷ [])
 serial_shaped a serial = record {
@@ -143,13 +145,15 @@ constituent_shaped s a serial top = record {
 }
 
 -- a nested action's path
-nested_shaped : (p : List Act) (s a : Act) → IsShaped p → Ends p s → is_serial s.kind ≡ false → a.kind ≡ kind.Nested → IsShaped (p ++ a ∷ [])
+nested_shaped : (p : List Act) (s a : Act) → IsShaped p → Ends p s → is_serial s.kind ≡ false → a.kind ≡ kind.Nested →
+    IsShaped (p ++ a ∷ [])
 nested_shaped p s a shape ends plain nested =
     let t = has_top ends.before s plain in
     let top : top_in p ≡ Some t.0 = ap top_in ends.are ∙ t.1 in
     record {
       tops = λ u is. shape.tops u (top ∙ sym (grown_top p a t.0 top) ∙ is);
-      below = subst (λ xs. AllByRecursion (λ (y : Act). y.kind ≡ kind.Nested) xs) (sym (grown_chain p a t.0 top)) (all_more (λ (y : Act). y.kind ≡ kind.Nested) (chain_in p) a shape.below nested);
+      below = subst (λ xs. AllByRecursion (λ (y : Act). y.kind ≡ kind.Nested) xs) (sym (grown_chain p a t.0 top))
+          (all_more (λ (y : Act). y.kind ≡ kind.Nested) (chain_in p) a shape.below nested);
     }
 
 -- both, of a label
@@ -160,7 +164,8 @@ pub well : (acts : List Act) → AreFormed acts → (l : List ℕ) → IsWell ac
 well [] formed l = (record { tops = λ t is. absurd (cc is); below = tt }, λ s is. absurd (cc is))
 well (a ∷ older) formed l = by (bytes_eq a.label l) (well older formed.1)
   where
-    new : (k : Kind) (parent : Option (List ℕ)) → a.kind ≡ k → IsBelow older k parent → ((m : List ℕ) → IsWell older m) → IsShaped (upwards parent k (path older) ++ a ∷ []) × (is_serial k ≡ true → upwards parent k (path older) ++ a ∷ [] ≡ a ∷ [])
+    new : (k : Kind) (parent : Option (List ℕ)) → a.kind ≡ k → IsBelow older k parent → ((m : List ℕ) → IsWell older m) →
+        IsShaped (upwards parent k (path older) ++ a ∷ []) × (is_serial k ≡ true → upwards parent k (path older) ++ a ∷ [] ≡ a ∷ [])
     new kind.Top None same b ih = (root_shaped a (ap is_top same), λ e. absurd (cc e))
     new kind.Top (Some q) same b ih = absurd b
     new kind.Serial None same b ih = (serial_shaped a (ap is_serial same), λ e. refl)
@@ -175,7 +180,8 @@ well (a ∷ older) formed l = by (bytes_eq a.label l) (well older formed.1)
         let ends = w.1 b.0 b.1 in
         (subst (λ us. IsShaped (us ++ a ∷ [])) (sym (ends.alone b.2)) (constituent_shaped b.0 a b.2 (ap is_top same)), λ e. absurd (cc e))
 
-    by : (t : Bool) → ((m : List ℕ) → IsWell older m) → IsShaped (cond t (path_in older a) (path older l)) × ((s : Act) → cond t (Some a) (act_in older l) ≡ Some s → Ends (cond t (path_in older a) (path older l)) s)
+    by : (t : Bool) → ((m : List ℕ) → IsWell older m) → IsShaped (cond t (path_in older a) (path older l))
+        × ((s : Act) → cond t (Some a) (act_in older l) ≡ Some s → Ends (cond t (path_in older a) (path older l)) s)
     by true ih = let n = new a.kind a.parent refl formed.0 ih in (
       n.0,
       λ s is. let same = some_is a s is in record {
@@ -189,11 +195,13 @@ well (a ∷ older) formed l = by (bytes_eq a.label l) (well older formed.1)
 -- who began is found by its label
 pub found : (acts : List Act) → AreDistinct acts → (a : Act) → In a acts → act_in acts a.label ≡ Some a
 found [] apart a i = absurd i
-found (x ∷ acts) apart a (inl same) = ap (λ b. cond b (Some x) (act_in acts a.label)) (ap (λ (y : Act). bytes_eq y.label a.label) same ∙ (bytes_eq-Decides a.label a.label).1 refl) ∙ ap Some same
+found (x ∷ acts) apart a (inl same) = ap (λ b. cond b (Some x) (act_in acts a.label))
+    (ap (λ (y : Act). bytes_eq y.label a.label) same ∙ (bytes_eq-Decides a.label a.label).1 refl) ∙ ap Some same
 found (x ∷ acts) apart a (inr i) = by (bytes_eq x.label a.label) refl (found acts apart.3 a i)
   where
     by : (b : Bool) → bytes_eq x.label a.label ≡ b → act_in acts a.label ≡ Some a → cond b (Some x) (act_in acts a.label) ≡ Some a
-    by true same ih = let no : ◌≡◌ {A = Option Act} None (Some a) = sym apart.1 ∙ ap (act_in acts) ((bytes_eq-Decides x.label a.label).0 same) ∙ ih in absurd (cc no)
+    by true same ih = let no : ◌≡◌ {A = Option Act} None (Some a) = sym apart.1
+        ∙ ap (act_in acts) ((bytes_eq-Decides x.label a.label).0 same) ∙ ih in absurd (cc no)
     by false other ih = ih
 
 last_of : (before : List Act) (a : Act) → last_uid (uids (before ++ a ∷ [])) ≡ a.uid
@@ -207,19 +215,24 @@ in_end (b ∷ rest) a = inr (in_end rest a)
 
 -- an action's own path ends with it
 pub own_last : (acts : List Act) → AreDistinct acts → AreFormed acts → (a : Act) → In a acts → last_uid (uids (path acts a.label)) ≡ a.uid
-own_last acts apart formed a i = let e = (well acts formed a.label).1 a (found acts apart a i) in ap (λ p. last_uid (uids p)) e.are ∙ last_of e.before a
+own_last acts apart formed a i = let e = (well acts formed a.label).1 a (found acts apart a i) in
+    ap (λ p. last_uid (uids p)) e.are ∙ last_of e.before a
 
 pub own_there : (acts : List Act) → AreDistinct acts → AreFormed acts → (a : Act) → In a acts → In a (path acts a.label)
-own_there acts apart formed a i = let e = (well acts formed a.label).1 a (found acts apart a i) in subst (In a) (sym e.are) (in_end e.before a)
+own_there acts apart formed a i = let e = (well acts formed a.label).1 a (found acts apart a i) in
+    subst (In a) (sym e.are) (in_end e.before a)
 
 -- the path of one that isn't serializing has a top
-pub own_top : (acts : List Act) → AreDistinct acts → AreFormed acts → (a : Act) → In a acts → is_serial a.kind ≡ false → (t : Act) × (top_in (path acts a.label) ≡ Some t)
-own_top acts apart formed a i plain = let e = (well acts formed a.label).1 a (found acts apart a i) in let t = has_top e.before a plain in (t.0, ap top_in e.are ∙ t.1)
+pub own_top : (acts : List Act) → AreDistinct acts → AreFormed acts → (a : Act) → In a acts → is_serial a.kind ≡ false →
+    (t : Act) × (top_in (path acts a.label) ≡ Some t)
+own_top acts apart formed a i plain = let e = (well acts formed a.label).1 a (found acts apart a i) in let t = has_top e.before a plain in
+    (t.0, ap top_in e.are ∙ t.1)
 
 -- ---- later lines
 
 -- paths stay
-pub paths_stay : (B : Book) (ls : List Line) (a : Act) → AreRight B ls → In a B.acts → (path (let V = book_from B ls in V.acts) a.label ≡ path B.acts a.label) × In a (let V = book_from B ls in V.acts)
+pub paths_stay : (B : Book) (ls : List Line) (a : Act) → AreRight B ls → In a B.acts →
+    (path (let V = book_from B ls in V.acts) a.label ≡ path B.acts a.label) × In a (let V = book_from B ls in V.acts)
 paths_stay B [] a right i = (refl, i)
 paths_stay B (l ∷ ls) a right i = let s = one l.body right.0 in let r = paths_stay (turned B l.body) ls a right.1 s.1 in (r.0 ∙ s.0, r.1)
   where

@@ -1,42 +1,20 @@
 -- A run of which the lock machine of each object sees so much is serial.
-use Rattle.std.proofs.Common.{ℕ, List, refl, subst}
-use Rattle.arj_base.specs.Uid.{nobody}
-use Rattle.arj_journal.specs.declared.body.Line.{Line}
-use Rattle.arj_law.proofs.Nested.{nested_law}
-use Rattle.arj_law.proofs.Order.{order_law}
-use Rattle.arj_model.specs.Last.{first_values}
-use Rattle.arj_model.specs.Serial.{Serial, Values}
-use Rattle.arj_law_parts.specs.parts.Actions.{Action, paths_of}
-use Rattle.arj_protocol.specs.Words.{Header}
-use Rattle.arj_protocol.specs.World.{World}
-use Rattle.arj_law_runs.specs.journal.Book.{new_book}
-use Rattle.arj_law_runs.specs.journal.Paths.{AreAlike, IsAlikeOf}
-use Rattle.arj_law_runs.specs.journal.Right.{AreRight}
-use Rattle.arj_law_runs.proofs.journal.Models.{its_acts}
-use Rattle.arj_law_lock_view.specs.facts.Given.{SentWants}
-use Rattle.arj_law_lock_view.proofs.facts.Wants.{requests_want}
-use Rattle.arj_law_lock.specs.machine.State.{State}
-use Rattle.arj_law_lock_view.specs.running.Fixed.{AgreesAs, Fixed, view_of}
-use Rattle.arj_law_lock_view.specs.running.Sees.{SeesLocks}
-use Rattle.arj_law_lock_view.specs.running.Tied.{AreTied as AreTiedNow}
-use Rattle.arj_law_lock_view.specs.view.Families.{acts_of}
-use Rattle.arj_law_lock_view.specs.view.Servers.{Wants}
-use Rattle.arj_law_lock_view.specs.view.Telling.{AreOneTree}
-use Rattle.arj_law_lock_view.proofs.view.FamilySteps.{families_are_trees}
-use Rattle.arj_promise.specs.Runs.{Seen}
-use Rattle.arj_law_lock_view.specs.view.Copies.{Codes}
-use Rattle.arj_law_serial.specs.order.Codes.{code_of}
-use Rattle.arj_law_serial.specs.order.Seen.{AreLocked, RequestsAreOne}
-use Rattle.arj_promise.specs.Serial.{IsSerialBy}
-use Rattle.arj_law_serial.specs.order.Tied.{AreApart, IsTied}
-use Rattle.arj_law_serial.proofs.order.Begun.{begun_have_places}
-use Rattle.arj_law_serial.proofs.order.Codes.{codes_are_apart}
-use Rattle.arj_law_serial.proofs.order.Order.{all_freed, all_in_order, all_in_time}
-use Rattle.arj_law_serial.proofs.order.Ties.{Ties, ties_of}
-use Rattle.arj_law_serial.proofs.order.Values.{are_answered}
+use Rattle.arj_law_parts.proofs.Words.{ℕ, List, refl, subst, nobody, Line, Header, World, Seen, IsSerialBy}
+use Rattle.arj_law_serial.proofs.Terms
+use Terms.{first_values, Values, Action, paths_of, new_book, AreAlike, IsAlikeOf, AreRight, its_acts, State, AgreesAs, Fixed, view_of}
+use Terms.{SeesLocks, AreTied as AreTiedNow, acts_of, AreOneTree, Codes, code_of, RequestsAreOne, AreApart, IsTied}
+use Rattle.arj_law.proofs.{Nested.nested_law, Order.order_law}
+use Rattle.arj_law_lock_view.proofs.{facts.Wants.requests_want, view.FamilySteps.families_are_trees}
+use Rattle.arj_law_lock_view.specs.{facts.Given.SentWants, view.Servers.Wants}
+use Rattle.arj_law_serial.proofs.order
+use order.{Begun.begun_have_places, Codes.codes_are_apart, Ties.Ties, Ties.ties_of, Values.are_answered}
+use order.Order.{all_freed, all_in_order, all_in_time}
+use Rattle.arj_law_serial.specs.order.Seen.{AreLocked}
+use Rattle.arj_model.specs.Serial.{Serial}
 
 -- in places of its own, and in any codes
-module _ (values : Values) (x : ℕ) (M : Seen) (begun : List Action) (alike : IsAlikeOf begun M) (seen : (f : Fixed) → AreApart f.code → AgreesAs values f x begun M.sent → (S : State) × SeesLocks f x begun S M × AreTiedNow f x M.lines S) (knows : RequestsAreOne M) where
+module _ (values : Values) (x : ℕ) (M : Seen) (begun : List Action) (alike : IsAlikeOf begun M) (seen : (f : Fixed) → AreApart f.code →
+    AgreesAs values f x begun M.sent → (S : State) × SeesLocks f x begun S M × AreTiedNow f x M.lines S) (knows : RequestsAreOne M) where
   pub right : AreRight new_book M.lines
   right = let w = alike.2 in w.right
 
@@ -47,18 +25,22 @@ module _ (values : Values) (x : ℕ) (M : Seen) (begun : List Action) (alike : I
   wants = requests_want x M.sent knows.one (λ p there h a is. knows.numbered p there h a is)
 
   abbrev pub fixed_at : Codes → Fixed
-  fixed_at code = record { act = acts_of begun; paths = paths_of begun; code = code; wants = wants.0; first = code (values x) (acts_of begun nobody) }
+  fixed_at code =
+      record { act = acts_of begun; paths = paths_of begun; code = code; wants = wants.0; first = code (values x) (acts_of begun nobody) }
 
   pub agrees_at : (code : Codes) → AgreesAs values (fixed_at code) x begun M.sent
-  agrees_at code = (record { whole = tree; wanted = λ p h a there is. wants.1 (view_of (fixed_at code) x begun p.to) p h a refl refl there is }, refl)
+  agrees_at code =
+      (record { whole = tree; wanted = λ p h a there is. wants.1 (view_of (fixed_at code) x begun p.to) p h a refl refl there is }, refl)
 
   -- the journal, tied to a state in which the object is seen so
-  abbrev pub tied_at : (S : State) → SeesLocks (fixed_at code_of) x begun S M → AreTiedNow (fixed_at code_of) x M.lines S → IsTied values M.lines x S
+  abbrev pub tied_at : (S : State) → SeesLocks (fixed_at code_of) x begun S M → AreTiedNow (fixed_at code_of) x M.lines S →
+      IsTied values M.lines x S
   tied_at S s tied = record {
     act = acts_of begun;
     code = code_of;
     apart = codes_are_apart;
-    places = begun_have_places begun (paths_of begun) (acts_of begun) M.lines right (subst (AreAlike begun) (its_acts M.lines right) alike.1) tree;
+    places = begun_have_places begun (paths_of begun) (acts_of begun) M.lines right
+        (subst (AreAlike begun) (its_acts M.lines right) alike.1) tree;
     first = code_of (values x) (acts_of begun nobody);
     run = s.run;
     tied = tied values refl;

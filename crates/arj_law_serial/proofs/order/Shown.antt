@@ -1,18 +1,10 @@
 -- Readings that show clean disks are clean.
-use Rattle.std.proofs.Common.{◌≡◌, ℕ, true, List, is_some, ◌∙◌, ap}
-use Rattle.std.specs.Prelude.{option_map}
-use Rattle.arj_base.specs.State.{state_bytes}
-use Rattle.arj_base.specs.Uid.{entry, object}
-use Rattle.arj_journal.specs.declared.body.Line.{Line}
-use Rattle.arj_journal.specs.declared.header.Header.{Header}
-use Rattle.arj_model.specs.Clean.{Clean}
-use Rattle.arj_model.specs.Disks.{Disks}
-use Rattle.arj_model.specs.Last.{object_line}
-use Rattle.arj_promise.specs.Runs.{Seen}
-use Rattle.arj_law_serial.specs.order.Cleaned.{IsCleanIn}
+use Rattle.arj_law_parts.proofs.Words.{◌≡◌, ℕ, true, List, is_some, ◌∙◌, ap, option_map, state_bytes, entry, object, Line, Header, Seen}
+use Rattle.arj_law_serial.proofs.Terms.{Clean, Disks, object_line, IsCleanIn}
 use Rattle.arj_law_serial.specs.order.Readings.{AreShown}
 
-pub readings_clean : (header : Header) (lines : List Line) (M : Seen) (disks : Disks) → ((x : ℕ) → is_some (object_line header x) ≡ true → IsCleanIn header lines x M) → AreShown header lines M disks → Clean header lines disks
+pub readings_clean : (header : Header) (lines : List Line) (M : Seen) (disks : Disks) → ((x : ℕ) → is_some (object_line header x) ≡ true →
+    IsCleanIn header lines x M) → AreShown header lines M disks → Clean header lines disks
 readings_clean header lines M disks clean shown = record {
   entries = λ x has free.
       let n = shown.naming in

@@ -1,42 +1,26 @@
 -- The last state of an object by its decided tops is the journal's.
-use Rattle.std.proofs.Common.{◌≡◌, ◌≢◌, ◌⊎◌, ◌<◌, ◌≤◌, ℕ, ◌+◌, ◌==◌, ◌&&◌, ◌||◌, List, [], ◌∷◌, ◌++◌, filter, length, Bool, true, false, cond, nat_lt, Option, Some, None, is_some, unwrap_or, refl, sym, ◌∙◌, ap, subst, inl, inr, ⊎_elim, arith, Contains, eqb-true, eq-eqb}
-use Rattle.std.specs.List.{AllByRecursion, list_any}
-use Rattle.std.proofs.lemmas.Bool.{and_parts}
-use Rattle.std.proofs.lemmas.Bool.Decides.{nat_tests}
-use Rattle.arj_class.specs.Forms.{payload_of}
-use Rattle.arj_class.specs.Table.{value_after, writes}
-use Rattle.arj_class.specs.declared.value.Value.{Value}
-use Rattle.arj_journal.specs.declared.header.Header.{Header}
-use Rattle.arj_journal.specs.declared.body.Line.{Line}
-use Rattle.arj_lock.proofs.Members.{In, in_filter, in_from, in_to}
-use Rattle.arj_model.specs.Calls.{Call, Top, committed_calls, tops}
-use Rattle.arj_model.specs.Last.{count_tops, first_values, last_state, last_writer, state_after, writes_of}
-use Rattle.arj_model.specs.Serial.{Values, run, serial_calls, top_place, writes_on}
-use Rattle.arj_model.specs.Book.{InOrder, writes_before}
-use Rattle.arj_law.proofs.Answers.{run-append}
-use Rattle.arj_law.proofs.Common.{Pairwise, not_below_itself, pairwise_before}
-use Rattle.arj_law.proofs.Last.{value_of_writes, writes_are, writes_conflict}
-use Rattle.arj_law.proofs.Order.{rises}
-use Rattle.arj_law_runs.specs.journal.Book.{new_book}
-use Rattle.arj_law_runs.specs.journal.Right.{AreRight}
-use Rattle.arj_law_runs.proofs.journal.Books.{never}
-use Rattle.arj_protocol.specs.Order.{uid_number}
-use Rattle.arj_law_disk.specs.machine.Core.{Chain}
+use Rattle.arj_law_parts.proofs.Words
+use Words.{◌≡◌, ◌≢◌, ◌⊎◌, ◌<◌, ◌≤◌, ℕ, ◌+◌, ◌==◌, ◌&&◌, ◌||◌, List, [], ◌∷◌, ◌++◌, filter, length, Bool, true, false, cond, nat_lt, Option}
+use Words.{Some, None, is_some, unwrap_or, refl, sym, ◌∙◌, ap, subst, inl, inr, ⊎_elim, arith, Contains, eqb-true, eq-eqb, AllByRecursion}
+use Words.{list_any, and_parts, nat_tests, payload_of, value_after, writes, Value, Header, Line, In, in_filter, in_from, in_to, uid_number}
+use Rattle.arj_law_serial.proofs.Terms
+use Terms.{Top, committed_calls, tops, first_values, last_state, state_after, Values, run, serial_calls, top_place, writes_on, InOrder}
+use Terms.{Pairwise, not_below_itself, writes_conflict, rises, new_book, AreRight, Chain, counts_of, Done, Packed, last_in, packed}
+use Terms.{AreDecided, AreDecisions, AreNewestFirst, CommitsComeFirst, WroteSo, left_by}
+use Terms.words
+use Rattle.arj_law.proofs.{Answers.run-append, Common.pairwise_before, Last.value_of_writes, Last.writes_are}
 use Rattle.arj_law_disk.specs.machine.Laws.{writes_in}
-use Rattle.arj_law_disk.specs.machine.Order.{counts_of}
-use Rattle.arj_law_disk.specs.machine.State.{Done, Packed, last_in}
-use Rattle.arj_law_disk.specs.machine.Words as words
-use Rattle.arj_law_disk_view.specs.view.Pairs.{packed}
-use Rattle.arj_law_serial.specs.order.Decided.{AreDecided, AreDecisions, AreNewestFirst, CommitsComeFirst, IsCalledFirst, IsLastWrite, WroteSo, left_by}
+use Rattle.arj_law_runs.proofs.journal.Books.{never}
+use Rattle.arj_law_serial.proofs.{order.Ties.Ties, order.Tying.all_at, order.Values.to_filter}
 use Rattle.arj_law_serial.proofs.order.Order.{all_called_first, all_in_order, call_before, listed, place_of_top}
-use Rattle.arj_law_serial.proofs.order.Ties.{Ties}
-use Rattle.arj_law_serial.proofs.order.Tying.{all_at}
-use Rattle.arj_law_serial.proofs.order.Values.{to_filter}
+use Rattle.arj_law_serial.specs.order.Decided.{IsCalledFirst, IsLastWrite}
+use Rattle.arj_model.specs.{Book.writes_before, Calls.Call, Last.count_tops, Last.last_writer, Last.writes_of}
 
 -- ---- lists
 
 -- the greatest of calls whose places rise is the last one
-last_one : (xs : List Call) (c : Call) → Pairwise (λ (a b : Call). a.at < b.at) xs → In c xs → ((e : Call) → In e xs → e.at ≤ c.at) → (front : List Call) × (xs ≡ front ++ c ∷ [])
+last_one : (xs : List Call) (c : Call) → Pairwise (λ (a b : Call). a.at < b.at) xs → In c xs → ((e : Call) → In e xs → e.at ≤ c.at) →
+    (front : List Call) × (xs ≡ front ++ c ∷ [])
 last_one [] c w i most = absurd i
 last_one (x ∷ xs) c w (inl is) most = ([], by xs w.0 (λ e j. most e (inr j)))
   where
@@ -45,7 +29,8 @@ last_one (x ∷ xs) c w (inl is) most = ([], by xs w.0 (λ e j. most e (inr j)))
     by (y ∷ ys) all f = let l = f y (inl refl) in let k = all.0 in let e = ap (λ (z : Call). z.at) is in absurd (omega (arith, l, k, e))
 last_one (x ∷ xs) c w (inr i) most = let r = last_one xs c w.1 i (λ e j. most e (inr j)) in (x ∷ r.0, ap (λ ys. x ∷ ys) r.1)
 
-rises_filtered : (p : Call → Bool) (xs : List Call) → Pairwise (λ (a b : Call). a.at < b.at) xs → Pairwise (λ (a b : Call). a.at < b.at) (filter p xs)
+rises_filtered : (p : Call → Bool) (xs : List Call) → Pairwise (λ (a b : Call). a.at < b.at) xs →
+    Pairwise (λ (a b : Call). a.at < b.at) (filter p xs)
 rises_filtered p [] w = tt
 rises_filtered p (x ∷ xs) w = by (p x) (rises_filtered p xs w.1)
   where
@@ -53,11 +38,13 @@ rises_filtered p (x ∷ xs) w = by (p x) (rises_filtered p xs w.1)
     all_left [] a = tt
     all_left (y ∷ ys) a = one (p y) (all_left ys a.1)
       where
-        one : (b : Bool) → AllByRecursion (λ (z : Call). x.at < z.at) (filter p ys) → AllByRecursion (λ (z : Call). x.at < z.at) (cond b (y ∷ filter p ys) (filter p ys))
+        one : (b : Bool) → AllByRecursion (λ (z : Call). x.at < z.at) (filter p ys) →
+            AllByRecursion (λ (z : Call). x.at < z.at) (cond b (y ∷ filter p ys) (filter p ys))
         one true r = (a.0, r)
         one false r = r
 
-    by : (b : Bool) → Pairwise (λ (a c : Call). a.at < c.at) (filter p xs) → Pairwise (λ (a c : Call). a.at < c.at) (cond b (x ∷ filter p xs) (filter p xs))
+    by : (b : Bool) → Pairwise (λ (a c : Call). a.at < c.at) (filter p xs) →
+        Pairwise (λ (a c : Call). a.at < c.at) (cond b (x ∷ filter p xs) (filter p xs))
     by true r = (all_left xs w.0, r)
     by false r = r
 
@@ -65,16 +52,19 @@ filter_and : (p q : Call → Bool) (xs : List Call) → filter (λ (w : Call). p
 filter_and p q [] = refl
 filter_and p q (x ∷ xs) = by (q x) (p x) refl (filter_and p q xs)
   where
-    by : (b a : Bool) → p x ≡ a → filter (λ (w : Call). p w && q w) xs ≡ filter p (filter q xs) → cond (a && b) (x ∷ filter (λ (w : Call). p w && q w) xs) (filter (λ (w : Call). p w && q w) xs) ≡ filter p (cond b (x ∷ filter q xs) (filter q xs))
+    by : (b a : Bool) → p x ≡ a → filter (λ (w : Call). p w && q w) xs ≡ filter p (filter q xs) → cond (a && b) (x
+        ∷ filter (λ (w : Call). p w && q w) xs) (filter (λ (w : Call). p w && q w) xs) ≡ filter p (cond b (x ∷ filter q xs) (filter q xs))
     by true true is ih = ap (λ ys. x ∷ ys) ih ∙ sym (ap (λ t. cond t (x ∷ filter p (filter q xs)) (filter p (filter q xs))) is)
     by true false is ih = ih ∙ sym (ap (λ t. cond t (x ∷ filter p (filter q xs)) (filter p (filter q xs))) is)
     by false true is ih = ih
     by false false is ih = ih
 
 -- what stands before the last one
-before_last_one : (front : List Call) (c : Call) → AllByRecursion (λ (b : Call). b.at < c.at) front → filter (λ (w : Call). nat_lt w.at c.at) (front ++ c ∷ []) ≡ front
+before_last_one : (front : List Call) (c : Call) → AllByRecursion (λ (b : Call). b.at < c.at) front →
+    filter (λ (w : Call). nat_lt w.at c.at) (front ++ c ∷ []) ≡ front
 before_last_one [] c all = ap (λ b. cond b (c ∷ []) []) (not_below_itself c.at)
-before_last_one (x ∷ front) c all = ap (λ b. cond b (x ∷ filter (λ (w : Call). nat_lt w.at c.at) (front ++ c ∷ [])) (filter (λ (w : Call). nat_lt w.at c.at) (front ++ c ∷ []))) (yes x.at c.at all.0) ∙ ap (λ ys. x ∷ ys) (before_last_one front c all.1)
+before_last_one (x ∷ front) c all = ap (λ b. cond b (x ∷ filter (λ (w : Call). nat_lt w.at c.at) (front ++ c ∷ []))
+    (filter (λ (w : Call). nat_lt w.at c.at) (front ++ c ∷ []))) (yes x.at c.at all.0) ∙ ap (λ ys. x ∷ ys) (before_last_one front c all.1)
   where
     yes : (m n : ℕ) → m < n → nat_lt m n ≡ true
     yes m n l = grind (arith, nat_tests)
@@ -110,7 +100,8 @@ dropped_length : (n : ℕ) (ms : List ℕ) → In n ms → length ms ≡ length 
 dropped_length n [] i = absurd i
 dropped_length n (m ∷ ms) i = by (m == n) refl i (dropped_length n ms)
   where
-    by : (b : Bool) → (m == n) ≡ b → In n (m ∷ ms) → (In n ms → length ms ≡ length (drop_one n ms) + 1) → length (m ∷ ms) ≡ length (cond b ms (m ∷ drop_one n ms)) + 1
+    by : (b : Bool) → (m == n) ≡ b → In n (m ∷ ms) → (In n ms → length ms ≡ length (drop_one n ms) + 1) →
+        length (m ∷ ms) ≡ length (cond b ms (m ∷ drop_one n ms)) + 1
     by true is j ih = omega arith
     by false is (inl same) ih = never (eq-eqb m n same) is
     by false is (inr j) ih = let e = ih j in omega (arith, e)
@@ -166,7 +157,8 @@ not_dropped n (m ∷ ms) once i = by (m == n) refl i (not_dropped n ms once.1)
     by false is (inr j) ih = ih j
 
 -- The tops that made calls are as many as a list that has each of them once.
-pub count_is : (cs : List Call) (ns : List ℕ) → AreOnce ns → ((c : Call) → In c cs → In c.top ns) → ((n : ℕ) → In n ns → (c : Call) × In c cs × (c.top ≡ n)) → count_tops cs ≡ length ns
+pub count_is : (cs : List Call) (ns : List ℕ) → AreOnce ns → ((c : Call) → In c cs → In c.top ns) →
+    ((n : ℕ) → In n ns → (c : Call) × In c cs × (c.top ≡ n)) → count_tops cs ≡ length ns
 count_is [] [] once there made = refl
 count_is [] (n ∷ ns) once there made = absurd ((made n (inl refl)).1)
 count_is (c ∷ cs) ns once there made = by (λ ms o t m. count_is cs ms o t m) (list_any (λ (d : Call). d.top == c.top) cs) refl
@@ -175,7 +167,8 @@ count_is (c ∷ cs) ns once there made = by (λ ms o t m. count_is cs ms o t m) 
     some_later [] e = absurd (cc e)
     some_later (d ∷ ds) e = one (d.top == c.top) refl e (some_later ds)
       where
-        one : (b : Bool) → (d.top == c.top) ≡ b → (b || list_any (λ (z : Call). z.top == c.top) ds) ≡ true → (list_any (λ (z : Call). z.top == c.top) ds ≡ true → (z : Call) × In z ds × (z.top ≡ c.top)) → (z : Call) × In z (d ∷ ds) × (z.top ≡ c.top)
+        one : (b : Bool) → (d.top == c.top) ≡ b → (b || list_any (λ (z : Call). z.top == c.top) ds) ≡ true → (list_any (λ (z : Call). z.top
+            == c.top) ds ≡ true → (z : Call) × In z ds × (z.top ≡ c.top)) → (z : Call) × In z (d ∷ ds) × (z.top ≡ c.top)
         one true is f ih = (d, inl refl, eqb-true d.top c.top is)
         one false is f ih = let r = ih f in (r.0, inr r.1, r.2)
 
@@ -183,20 +176,25 @@ count_is (c ∷ cs) ns once there made = by (λ ms o t m. count_is cs ms o t m) 
     none_later [] e d i = absurd i
     none_later (z ∷ ds) e d i = one (z.top == c.top) refl e i (none_later ds)
       where
-        one : (b : Bool) → (z.top == c.top) ≡ b → (b || list_any (λ (y : Call). y.top == c.top) ds) ≡ false → In d (z ∷ ds) → (list_any (λ (y : Call). y.top == c.top) ds ≡ false → (y : Call) → In y ds → y.top ≢ c.top) → d.top ≢ c.top
+        one : (b : Bool) → (z.top == c.top) ≡ b → (b || list_any (λ (y : Call). y.top == c.top) ds) ≡ false → In d (z ∷ ds) →
+            (list_any (λ (y : Call). y.top == c.top) ds ≡ false → (y : Call) → In y ds → y.top ≢ c.top) → d.top ≢ c.top
         one true is f j ih = absurd (cc f)
         one false is f (inl same) ih = λ e. never (eq-eqb z.top c.top (ap (λ (y : Call). y.top) same ∙ e)) is
         one false is f (inr j) ih = ih f d j
 
-    by : ((ms : List ℕ) → AreOnce ms → ((d : Call) → In d cs → In d.top ms) → ((n : ℕ) → In n ms → (d : Call) × In d cs × (d.top ≡ n)) → count_tops cs ≡ length ms) → (b : Bool) → list_any (λ (d : Call). d.top == c.top) cs ≡ b → cond b (count_tops cs) (count_tops cs + 1) ≡ length ns
+    by : ((ms : List ℕ) → AreOnce ms → ((d : Call) → In d cs → In d.top ms) → ((n : ℕ) → In n ms → (d : Call) × In d cs × (d.top ≡ n)) →
+        count_tops cs ≡ length ms) → (b : Bool) → list_any (λ (d : Call). d.top == c.top) cs ≡ b →
+        cond b (count_tops cs) (count_tops cs + 1) ≡ length ns
     by again true is =
         let d = some_later cs is in
-        again ns once (λ e i. there e (inr i)) (λ n i. let m = made n i in ⊎_elim (λ (same : c ≡ m.0). (d.0, d.1, d.2 ∙ ap (λ (y : Call). y.top) same ∙ m.2)) (λ j. (m.0, j, m.2)) m.1)
+        again ns once (λ e i. there e (inr i)) (λ n i. let m = made n i in
+        ⊎_elim (λ (same : c ≡ m.0). (d.0, d.1, d.2 ∙ ap (λ (y : Call). y.top) same ∙ m.2)) (λ j. (m.0, j, m.2)) m.1)
     by again false is =
         let apart = none_later cs is in
         let ih : count_tops cs ≡ length (drop_one c.top ns) = again (drop_one c.top ns) (once_dropped c.top ns once)
         (λ e i. dropped_in c.top e.top ns (apart e i) (there e (inr i)))
-        (λ n i. let m = made n (in_dropped c.top n ns i) in ⊎_elim (λ (same : c ≡ m.0). absurd (not_dropped c.top ns once (subst (λ k. In k (drop_one c.top ns)) (sym (ap (λ (y : Call). y.top) same ∙ m.2)) i))) (λ j. (m.0, j, m.2)) m.1) in
+        (λ n i. let m = made n (in_dropped c.top n ns i) in ⊎_elim (λ (same : c ≡ m.0). absurd (not_dropped c.top ns once
+        (subst (λ k. In k (drop_one c.top ns)) (sym (ap (λ (y : Call). y.top) same ∙ m.2)) i))) (λ j. (m.0, j, m.2)) m.1) in
         let e = dropped_length c.top ns (there c (inl refl)) in
         omega (arith, ih, e)
 
@@ -222,7 +220,8 @@ module _ (values : Values) (lines : List Line) (right : AreRight new_book lines)
   writers_length (d ∷ ds) [] are = absurd are
   writers_length (d ∷ ds) (t ∷ ts) are = by d.plan.writes (writers_length ds ts are.1)
     where
-      by : (o : Option Packed) → length (writers ds ts) ≡ writes_in ds → length (by_write o t (writers ds ts)) ≡ writes_in ds + cond (is_some o) 1 0
+      by : (o : Option Packed) → length (writers ds ts) ≡ writes_in ds →
+          length (by_write o t (writers ds ts)) ≡ writes_in ds + cond (is_some o) 1 0
       by None ih = omega (arith, ih)
       by (Some w) ih = omega (arith, ih)
 
@@ -232,31 +231,37 @@ module _ (values : Values) (lines : List Line) (right : AreRight new_book lines)
   writer_is (d ∷ ds) [] n i = absurd i
   writer_is (d ∷ ds) (t ∷ ts) n i = by d.plan.writes i (writer_is ds ts n)
     where
-      by : (o : Option Packed) → In n (by_write o t (writers ds ts)) → (In n (writers ds ts) → (u : Top) × In u ts × (u.id ≡ n)) → (u : Top) × In u (t ∷ ts) × (u.id ≡ n)
+      by : (o : Option Packed) → In n (by_write o t (writers ds ts)) → (In n (writers ds ts) → (u : Top) × In u ts × (u.id ≡ n)) →
+          (u : Top) × In u (t ∷ ts) × (u.id ≡ n)
       by None j ih = let r = ih j in (r.0, inr r.1, r.2)
       by (Some w) (inl is) ih = (t, inl refl, is)
       by (Some w) (inr j) ih = let r = ih j in (r.0, inr r.1, r.2)
 
   -- and wrote
-  wrote_some : (ds : List Done) (ts : List Top) → AreDecisions values lines x ds ts → (n : ℕ) → In n (writers ds ts) → (c : Call) × In c K × (writes_on x c ≡ true) × (c.top ≡ n)
+  wrote_some : (ds : List Done) (ts : List Top) → AreDecisions values lines x ds ts → (n : ℕ) → In n (writers ds ts) →
+      (c : Call) × In c K × (writes_on x c ≡ true) × (c.top ≡ n)
   wrote_some [] [] are n i = absurd i
   wrote_some [] (t ∷ ts) are n i = absurd are
   wrote_some (d ∷ ds) [] are n i = absurd are
   wrote_some (d ∷ ds) (t ∷ ts) are n i = by d.plan.writes (let q = are.0 in q.wrote) i (wrote_some ds ts are.1 n)
     where
-      by : (o : Option Packed) → WroteSo values lines x t o → In n (by_write o t (writers ds ts)) → (In n (writers ds ts) → (c : Call) × In c K × (writes_on x c ≡ true) × (c.top ≡ n)) → (c : Call) × In c K × (writes_on x c ≡ true) × (c.top ≡ n)
+      by : (o : Option Packed) → WroteSo values lines x t o → In n (by_write o t (writers ds ts)) → (In n (writers ds ts) →
+          (c : Call) × In c K × (writes_on x c ≡ true) × (c.top ≡ n)) → (c : Call) × In c K × (writes_on x c ≡ true) × (c.top ≡ n)
       by None w j ih = ih j
       by (Some g) w (inl is) ih = let l = w.1 in (w.0, in_from w.0 K l.there, l.write, l.whose ∙ is)
       by (Some g) w (inr j) ih = ih j
 
   -- a write is of one that wrote
-  write_among : (ds : List Done) (ts : List Top) → AreDecisions values lines x ds ts → (e : Call) → In e K → writes_on x e ≡ true → (t : Top) → In t ts → e.top ≡ t.id → In e.top (writers ds ts)
+  write_among : (ds : List Done) (ts : List Top) → AreDecisions values lines x ds ts → (e : Call) → In e K → writes_on x e ≡ true →
+      (t : Top) → In t ts → e.top ≡ t.id → In e.top (writers ds ts)
   write_among [] [] are e i w t j same = absurd j
   write_among [] (u ∷ ts) are e i w t j same = absurd are
   write_among (d ∷ ds) [] are e i w t j same = absurd are
-  write_among (d ∷ ds) (u ∷ ts) are e i w t j same = by d.plan.writes (let q = are.0 in q.wrote) j (λ k. write_among ds ts are.1 e i w t k same)
+  write_among (d ∷ ds) (u ∷ ts) are e i w t j same =
+      by d.plan.writes (let q = are.0 in q.wrote) j (λ k. write_among ds ts are.1 e i w t k same)
     where
-      by : (o : Option Packed) → WroteSo values lines x u o → In t (u ∷ ts) → (In t ts → In e.top (writers ds ts)) → In e.top (by_write o u (writers ds ts))
+      by : (o : Option Packed) → WroteSo values lines x u o → In t (u ∷ ts) → (In t ts → In e.top (writers ds ts)) →
+          In e.top (by_write o u (writers ds ts))
       by None q (inl is) ih = never w (q e (in_to e K i) (same ∙ ap (λ (y : Top). y.id) (sym is)))
       by None q (inr k) ih = ih k
       by (Some g) q (inl is) ih = inl (ap (λ (y : Top). y.id) is ∙ sym same)
@@ -271,7 +276,8 @@ module _ (values : Values) (lines : List Line) (right : AreRight new_book lines)
 
   -- tops with one number are one
   same_top : (t u : Top) → In t (tops lines) → In u (tops lines) → t.id ≡ u.id → t.at ≡ u.at
-  same_top t u i j e = let a = let l = listed lines right in l.apart in sym (place_of_top (tops lines) t a i) ∙ ap (top_place (tops lines)) e ∙ place_of_top (tops lines) u a j
+  same_top t u i j e = let a = let l = listed lines right in l.apart in
+      sym (place_of_top (tops lines) t a i) ∙ ap (top_place (tops lines)) e ∙ place_of_top (tops lines) u a j
 
   writers_once : (ds : List Done) (ts : List Top) → AreDecisions values lines x ds ts → AreNewestFirst ts → AreOnce (writers ds ts)
   writers_once [] ts are falls = tt
@@ -306,7 +312,8 @@ module _ (values : Values) (lines : List Line) (right : AreRight new_book lines)
     wrote : WroteSo values lines x top (Some state)
     others : (u : Top) → In u ts → (u ≡ top) ⊎ ((u.at < top.at) ⊎ IsSilent u)
 
-  find_newest : (first : Packed) (ds : List Done) (ts : List Top) → AreDecisions values lines x ds ts → AreNewestFirst ts → (((u : Top) → In u ts → IsSilent u) × (last_in first ds ≡ first) × (writes_in ds ≡ 0)) ⊎ IsNewest first ds ts
+  find_newest : (first : Packed) (ds : List Done) (ts : List Top) → AreDecisions values lines x ds ts → AreNewestFirst ts →
+      (((u : Top) → In u ts → IsSilent u) × (last_in first ds ≡ first) × (writes_in ds ≡ 0)) ⊎ IsNewest first ds ts
   find_newest first [] [] are falls = inl ((λ u i. absurd i), refl, refl)
   find_newest first [] (t ∷ ts) are falls = absurd are
   find_newest first (d ∷ ds) [] are falls = absurd are
@@ -315,8 +322,10 @@ module _ (values : Values) (lines : List Line) (right : AreRight new_book lines)
       silent : WroteSo values lines x t None → IsSilent t
       silent q e i = q e (in_to e K i)
 
-      by : (o : Option Packed) → d.plan.writes ≡ o → WroteSo values lines x t o → (((u : Top) → In u ts → IsSilent u) × (last_in first ds ≡ first) × (writes_in ds ≡ 0)) ⊎ IsNewest first ds ts
-          → (((u : Top) → In u (t ∷ ts) → IsSilent u) × (last_in first (d ∷ ds) ≡ first) × (writes_in (d ∷ ds) ≡ 0)) ⊎ IsNewest first (d ∷ ds) (t ∷ ts)
+      by : (o : Option Packed) → d.plan.writes ≡ o → WroteSo values lines x t o →
+          (((u : Top) → In u ts → IsSilent u) × (last_in first ds ≡ first) × (writes_in ds ≡ 0)) ⊎ IsNewest first ds ts
+          → (((u : Top) → In u (t ∷ ts) → IsSilent u) × (last_in first (d ∷ ds) ≡ first) × (writes_in (d ∷ ds) ≡ 0))
+          ⊎ IsNewest first (d ∷ ds) (t ∷ ts)
       by None is q (inl (none, last_first, zero)) = inl (
         (λ u i. ⊎_elim (λ (same : t ≡ u). subst IsSilent same (silent q)) (λ j. none u j) i),
         ap (λ o. unwrap_or o (last_in first ds)) is ∙ last_first,
@@ -346,11 +355,14 @@ chain_version : (first : Packed) (ds : List Done) → Chain first ds → (last_i
 chain_version first [] c = let e : first.version ≡ first.version + 0 = omega arith in e
 chain_version first (d ∷ ds) c = by (chain_version first ds c.1) d.plan.writes refl
   where
-    by : (last_in first ds).version ≡ first.version + writes_in ds → (o : Option Packed) → d.plan.writes ≡ o → (unwrap_or o (last_in first ds)).version ≡ first.version + (writes_in ds + cond (is_some o) 1 0)
+    by : (last_in first ds).version ≡ first.version + writes_in ds → (o : Option Packed) → d.plan.writes ≡ o →
+        (unwrap_or o (last_in first ds)).version ≡ first.version + (writes_in ds + cond (is_some o) 1 0)
     by ih None e = omega (arith, ih)
     by ih (Some w) e = let above = c.0 w e in omega (arith, ih, above)
 
-module _ (header : Header) (lines : List Line) (right : AreRight new_book lines) (tied : Ties (first_values header) lines) (x : ℕ) (first : Packed) (ds : List Done) (chain : Chain first ds) (plain : (d : Done) → words.In d ds → d.counts ≡ false → d.plan.writes ≡ None) (decided : AreDecided header lines x ds) (first_is : first ≡ packed (state_after x (first_values header x) [])) where
+module _ (header : Header) (lines : List Line) (right : AreRight new_book lines) (tied : Ties (first_values header) lines) (x : ℕ)
+    (first : Packed) (ds : List Done) (chain : Chain first ds) (plain : (d : Done) → words.In d ds → d.counts ≡ false → d.plan.writes
+    ≡ None) (decided : AreDecided header lines x ds) (first_is : first ≡ packed (state_after x (first_values header x) [])) where
   abbrev values : Values
   values = first_values header
 
@@ -366,24 +378,29 @@ module _ (header : Header) (lines : List Line) (right : AreRight new_book lines)
   first_calls : CommitsComeFirst lines
   first_calls = all_called_first values lines right tied
 
-  counted_last : (es : List Done) → ((d : Done) → words.In d es → d.counts ≡ false → d.plan.writes ≡ None) → last_in first es ≡ last_in first (filter counts_of es)
+  counted_last : (es : List Done) → ((d : Done) → words.In d es → d.counts ≡ false → d.plan.writes ≡ None) →
+      last_in first es ≡ last_in first (filter counts_of es)
   counted_last [] none = refl
   counted_last (d ∷ es) none = by d.counts refl (counted_last es (λ e i. none e (inr i)))
     where
-      by : (b : Bool) → d.counts ≡ b → last_in first es ≡ last_in first (filter counts_of es) → unwrap_or d.plan.writes (last_in first es) ≡ last_in first (cond b (d ∷ filter counts_of es) (filter counts_of es))
+      by : (b : Bool) → d.counts ≡ b → last_in first es ≡ last_in first (filter counts_of es) →
+          unwrap_or d.plan.writes (last_in first es) ≡ last_in first (cond b (d ∷ filter counts_of es) (filter counts_of es))
       by true is ih = ap (unwrap_or d.plan.writes) ih
       by false is ih = ap (λ o. unwrap_or o (last_in first es)) (none d (inl refl) is) ∙ ih
 
   by_counting : last_in first counting ≡ last_in first ds
   by_counting = sym (counted_last ds plain)
 
-  counted_writes : (es : List Done) → ((d : Done) → words.In d es → d.counts ≡ false → d.plan.writes ≡ None) → writes_in es ≡ writes_in (filter counts_of es)
+  counted_writes : (es : List Done) → ((d : Done) → words.In d es → d.counts ≡ false → d.plan.writes ≡ None) →
+      writes_in es ≡ writes_in (filter counts_of es)
   counted_writes [] none = refl
   counted_writes (d ∷ es) none = by d.counts refl (counted_writes es (λ e i. none e (inr i)))
     where
-      by : (b : Bool) → d.counts ≡ b → writes_in es ≡ writes_in (filter counts_of es) → writes_in es + cond (is_some d.plan.writes) 1 0 ≡ writes_in (cond b (d ∷ filter counts_of es) (filter counts_of es))
+      by : (b : Bool) → d.counts ≡ b → writes_in es ≡ writes_in (filter counts_of es) →
+          writes_in es + cond (is_some d.plan.writes) 1 0 ≡ writes_in (cond b (d ∷ filter counts_of es) (filter counts_of es))
       by true is ih = ap (λ n. n + cond (is_some d.plan.writes) 1 0) ih
-      by false is ih = ap (λ o. writes_in es + cond (is_some o) 1 0) (none d (inl refl) is) ∙ (let e : writes_in es + 0 ≡ writes_in (filter counts_of es) = omega (arith, ih) in e)
+      by false is ih = ap (λ o. writes_in es + cond (is_some o) 1 0) (none d (inl refl) is)
+          ∙ (let e : writes_in es + 0 ≡ writes_in (filter counts_of es) = omega (arith, ih) in e)
 
   version_is : (last_in first ds).version ≡ first.version + writes_in counting
   version_is = chain_version first ds chain ∙ ap (λ n. first.version + n) (counted_writes ds plain)
@@ -391,12 +408,16 @@ module _ (header : Header) (lines : List Line) (right : AreRight new_book lines)
   -- versions count the tops that wrote
   count_of : count_tops written ≡ writes_in counting
   count_of =
-      count_is written (writers values lines right tied x counting decided.those) (writers_once values lines right tied x counting decided.those decided.each decided.called)
-      (λ c i. let f = in_filter (writes_on x) c (committed_calls lines) i in let t = decided.all c (in_to c (committed_calls lines) f.0) f.1 in write_among values lines right tied x counting decided.those decided.each c f.0 f.1 t.0 (in_from t.0 decided.those t.1) t.2)
-      (λ n i. let w = wrote_some values lines right tied x counting decided.those decided.each n i in (w.0, to_filter (writes_on x) w.0 (committed_calls lines) w.1 w.2, w.3))
+      count_is written (writers values lines right tied x counting decided.those)
+      (writers_once values lines right tied x counting decided.those decided.each decided.called)
+      (λ c i. let f = in_filter (writes_on x) c (committed_calls lines) i in let t = decided.all c (in_to c (committed_calls lines) f.0) f.1
+      in write_among values lines right tied x counting decided.those decided.each c f.0 f.1 t.0 (in_from t.0 decided.those t.1) t.2)
+      (λ n i. let w = wrote_some values lines right tied x counting decided.those decided.each n i in
+      (w.0, to_filter (writes_on x) w.0 (committed_calls lines) w.1 w.2, w.3))
       ∙ writers_length values lines right tied x counting decided.those decided.each
 
-  state_is : (v : Value) (cs : List Call) → run values (serial_calls lines) x ≡ v → writes_of lines x ≡ cs → packed (last_state header lines x) ≡ record { version = count_tops cs; writer = uid_number (last_writer cs); content = payload_of v }
+  state_is : (v : Value) (cs : List Call) → run values (serial_calls lines) x ≡ v → writes_of lines x ≡ cs →
+      packed (last_state header lines x) ≡ record { version = count_tops cs; writer = uid_number (last_writer cs); content = payload_of v }
   state_is v cs e f = (λ i. record { version = count_tops (f i); writer = uid_number (last_writer (f i)); content = payload_of (e i) })
 
   writes_same : writes_of lines x ≡ written
@@ -407,10 +428,12 @@ module _ (header : Header) (lines : List Line) (right : AreRight new_book lines)
 
   none_written : (cs : List Call) → ((e : Call) → In e cs → writes_on x e ≡ false) → filter (writes_on x) cs ≡ []
   none_written [] none = refl
-  none_written (c ∷ cs) none = ap (λ b. cond b (c ∷ filter (writes_on x) cs) (filter (writes_on x) cs)) (none c (inl refl)) ∙ none_written cs (λ e i. none e (inr i))
+  none_written (c ∷ cs) none =
+      ap (λ b. cond b (c ∷ filter (writes_on x) cs) (filter (writes_on x) cs)) (none c (inl refl)) ∙ none_written cs (λ e i. none e (inr i))
 
   -- nothing was written
-  unwritten : ((u : Top) → In u decided.those → IsSilent values lines right tied x u) → last_in first counting ≡ first → last_in first ds ≡ packed (last_state header lines x)
+  unwritten : ((u : Top) → In u decided.those → IsSilent values lines right tied x u) → last_in first counting ≡ first →
+      last_in first ds ≡ packed (last_state header lines x)
   unwritten silent same =
       let empty : written ≡ [] = none_written (committed_calls lines) (λ e i. by e i (writes_on x e) refl) in
       sym by_counting ∙ same ∙ first_is ∙ sym (state_is (values x) [] (value_same ∙ ap (λ cs. run values cs x) empty) (writes_same ∙ empty))
@@ -421,7 +444,8 @@ module _ (header : Header) (lines : List Line) (right : AreRight new_book lines)
 
   -- the newest write
   newest_write : IsNewest values lines right tied x first counting decided.those → last_in first ds ≡ packed (last_state header lines x)
-  newest_write n = sym whole_state ∙ sym (state_is (left_by values lines c) (found.0 ++ c ∷ []) (value_same ∙ ap (λ cs. run values cs x) split ∙ value_left) (writes_same ∙ split))
+  newest_write n = sym whole_state ∙ sym (state_is (left_by values lines c) (found.0 ++ c ∷ [])
+      (value_same ∙ ap (λ cs. run values cs x) split ∙ value_left) (writes_same ∙ split))
     where
       c : Call
       c = let w = n.wrote in w.0
@@ -462,8 +486,11 @@ module _ (header : Header) (lines : List Line) (right : AreRight new_book lines)
           by : (u.0 ≡ n.top) ⊎ (((let t = u.0 in t.at) < (let t = n.top in t.at)) ⊎ IsSilent values lines right tied x u.0) → e.at ≤ c.at
           by (inl same) = l.last e (in_to e (committed_calls lines) f.0) (u.2 ∙ ap (λ (t : Top). t.id) same) f.1
           by (inr (inl older)) = ⊎_elim (λ fine. fine) (λ late.
-              let other : (c.top == e.top) ≡ false = off c.top e.top (λ same. let at = same_top values lines right tied x n.top u.0 n_listed u_listed (sym l.whose ∙ same ∙ u.2) in absurd (omega (arith, at, older))) in
-              let early = all_at (IsCalledFirst lines c) (committed_calls lines) (all_at (λ (a : Call). AllByRecursion (IsCalledFirst lines a) (committed_calls lines)) (committed_calls lines) first_calls c c_there) e f.0 late other (writes_conflict x c e l.write f.1) in
+              let other : (c.top == e.top) ≡ false = off c.top e.top (λ same. let at = same_top values lines right tied x n.top u.0 n_listed
+              u_listed (sym l.whose ∙ same ∙ u.2) in absurd (omega (arith, at, older))) in
+              let early = all_at (IsCalledFirst lines c) (committed_calls lines)
+              (all_at (λ (a : Call). AllByRecursion (IsCalledFirst lines a) (committed_calls lines)) (committed_calls lines) first_calls
+              c c_there) e f.0 late other (writes_conflict x c e l.write f.1) in
               let b = call_before values lines right tied e f.0 in
               let at = same_top values lines right tied x b.0 u.0 b.1 u_listed (sym b.2 ∙ u.2) in
               let less = b.3 in
@@ -479,21 +506,32 @@ module _ (header : Header) (lines : List Line) (right : AreRight new_book lines)
       before : writes_before (committed_calls lines) c ≡ found.0
       before =
           ap (λ y. filter (λ (w : Call). nat_lt w.at c.at && writes_on y w) (committed_calls lines)) object
-          ∙ filter_and (λ (w : Call). nat_lt w.at c.at) (writes_on x) (committed_calls lines) ∙ ap (filter (λ (w : Call). nat_lt w.at c.at)) split
-          ∙ before_last_one found.0 c (pairwise_before (λ (a b : Call). a.at < b.at) found.0 c [] (subst (λ cs. Pairwise (λ (a b : Call). a.at < b.at) cs) split (rises_filtered (writes_on x) (committed_calls lines) (rises lines))))
+          ∙ filter_and (λ (w : Call). nat_lt w.at c.at) (writes_on x) (committed_calls lines)
+          ∙ ap (filter (λ (w : Call). nat_lt w.at c.at)) split
+          ∙ before_last_one found.0 c (pairwise_before (λ (a b : Call). a.at < b.at) found.0 c [] (subst
+          (λ cs. Pairwise (λ (a b : Call). a.at < b.at) cs) split (rises_filtered (writes_on x) (committed_calls lines) (rises lines))))
 
       value_left : run values (found.0 ++ c ∷ []) x ≡ left_by values lines c
       value_left =
-          (λ i. run-append values found.0 (c ∷ []) i x) ∙ ap (λ b. cond b (value_after c.op (run values found.0 c.x)) (run values found.0 x)) (eq-eqb x c.x (sym object))
+          (λ i. run-append values found.0 (c ∷ []) i x)
+          ∙ ap (λ b. cond b (value_after c.op (run values found.0 c.x)) (run values found.0 x)) (eq-eqb x c.x (sym object))
           ∙ ap (λ cs. value_after c.op (run values cs c.x)) (sym before)
 
-      whole_state : record { version = count_tops (found.0 ++ c ∷ []); writer = uid_number (last_writer (found.0 ++ c ∷ [])); content = payload_of (left_by values lines c) } ≡ last_in first ds
+      whole_state : record {
+        version = count_tops (found.0 ++ c ∷ []);
+        writer = uid_number (last_writer (found.0 ++ c ∷ []));
+        content = payload_of (left_by values lines c);
+      } ≡ last_in first ds
       whole_state =
           let state : last_in first ds ≡ n.state = sym by_counting ∙ n.last_is in
-          let version : n.state.version ≡ count_tops (found.0 ++ c ∷ []) = ap (λ (p : Packed). p.version) (sym state) ∙ version_is ∙ ap (λ (p : Packed). p.version + writes_in counting) first_is ∙ (let e : 0 + writes_in counting ≡ writes_in counting = omega arith in e) ∙ sym count_of ∙ ap count_tops split in
+          let version : n.state.version ≡ count_tops (found.0 ++ c ∷ []) = ap (λ (p : Packed). p.version) (sym state) ∙ version_is
+          ∙ ap (λ (p : Packed). p.version + writes_in counting) first_is
+          ∙ (let e : 0 + writes_in counting ≡ writes_in counting = omega arith in e) ∙ sym count_of ∙ ap count_tops split in
           let w = n.wrote in
-          let writer : n.state.writer ≡ uid_number (last_writer (found.0 ++ c ∷ [])) = w.2 ∙ ap uid_number (sym (last_writer_is found.0 c)) in
+          let writer : n.state.writer ≡ uid_number (last_writer (found.0 ++ c ∷ [])) = w.2
+          ∙ ap uid_number (sym (last_writer_is found.0 c)) in
           (λ i. record { version = sym version i; writer = sym writer i; content = sym w.3 i }) ∙ sym state
 
   pub state_is_last : last_in first ds ≡ packed (last_state header lines x)
-  state_is_last = ⊎_elim (λ none. unwritten none.0 none.1) (λ n. newest_write n) (find_newest values lines right tied x first counting decided.those decided.each decided.called)
+  state_is_last = ⊎_elim (λ none. unwritten none.0 none.1) (λ n. newest_write n)
+      (find_newest values lines right tied x first counting decided.those decided.each decided.called)

@@ -1,13 +1,12 @@
 -- Decided tops take turns, by the invariant of the lock machine.
-use Rattle.std.proofs.Common.{◌≡◌, ◌≢◌, ◌<◌, ◌⊎◌, ℕ, true, inl, inr, refl, sym, arith}
-use Rattle.arj_law_lock.specs.machine.Actions.{Act, In, is_top, on, root, top}
-use Rattle.arj_law_lock.specs.machine.Machine.{Run, start}
-use Rattle.arj_law_lock.specs.machine.State.{Alive, Call, Covered, State}
-use Rattle.arj_law_lock.proofs.machine.Claims.{Counts, Done, Good, Holds}
-use Rattle.arj_law_lock.proofs.machine.Order.{run_keeps, start_holds}
-use Rattle.arj_law_lock.proofs.machine.Paths.{by_cases, on_top, top_is, top_of, top_root}
-use Rattle.arj_law_serial.specs.order.Turns.{IsDecided, TakeTurns}
+use Rattle.arj_law_parts.proofs.Words.{◌≡◌, ◌≢◌, ◌<◌, ◌⊎◌, ℕ, true, inl, inr, refl, sym, arith}
+use Rattle.arj_law_serial.proofs.Terms
+use Terms.{on, root, top, Run, start, Alive, Call, State, Good, Holds, run_keeps, start_holds, by_cases, on_top, top_is, top_of, top_root}
+use Terms.{TakeTurns}
+use Rattle.arj_law_lock.proofs.machine.Claims.{Counts, Done}
+use Rattle.arj_law_lock.specs.machine.{Actions.Act, Actions.In, Actions.is_top, State.Covered}
 use Rattle.arj_law_serial.proofs.order.Timely.{Timely, run_timely, start_timely}
+use Rattle.arj_law_serial.specs.order.Turns.{IsDecided}
 
 module _ (s : State) (h : Holds s) (timely : Timely s) where
   own_covered : (a : Act) → Covered s (top a) a
@@ -23,14 +22,23 @@ module _ (s : State) (h : Holds s) (timely : Timely s) where
       record { alive = decided.1; going = inr (omega (arith, low)); up = inr p.0; present = inr p.1 }
 
   counts : (c : Call) → In c s.calls → Alive s c.act → IsDecided s (top c.act) → Counts s c (top c.act)
-  counts c i alive decided = record { alive = alive; good = good c i alive decided; top = its_top c i; unit = top_root c.act; member = inr (own_covered c.act); counts = good c i alive decided }
+  counts c i alive decided = record {
+    alive = alive;
+    good = good c i alive decided;
+    top = its_top c i;
+    unit = top_root c.act;
+    member = inr (own_covered c.act);
+    counts = good c i alive decided;
+  }
 
   number_cases : (x y : ℕ) → (x ≡ y) ⊎ (x ≢ y)
   number_cases x y = grind arith
 
-  done_before : (c d : Call) → In c s.calls → In d s.calls → c.line < d.line → c.write ≡ true → Alive s c.act → Alive s d.act → IsDecided s (top c.act) → IsDecided s (top d.act) → top c.act ≢ top d.act → Done s (top c.act) d.line
+  done_before : (c d : Call) → In c s.calls → In d s.calls → c.line < d.line → c.write ≡ true → Alive s c.act → Alive s d.act →
+      IsDecided s (top c.act) → IsDecided s (top d.act) → top c.act ≢ top d.act → Done s (top c.act) d.line
   done_before c d i j line write alive_c alive_d dc dd apart = elim (number_cases (root c.act) (root d.act)) [
-    | inl e ↦ h.nested c d i j line e (inl write) alive_c alive_d (good d j alive_d dd) (top c.act) (on_top c.act) (elim (by_cases (on d.act (top c.act))) [ inl o ↦ absurd (apart (sym (top_of d.act (top c.act) (its_top c i) o))) | inr f ↦ f ])
+    | inl e ↦ h.nested c d i j line e (inl write) alive_c alive_d (good d j alive_d dd) (top c.act) (on_top c.act)
+        (elim (by_cases (on d.act (top c.act))) [ inl o ↦ absurd (apart (sym (top_of d.act (top c.act) (its_top c i) o))) | inr f ↦ f ])
     | inr f ↦ ((h.pairs c d (top c.act) i j line f (counts c i alive_c dc) alive_d (good d j alive_d dd)).order (inl write)).1 write
   ]
 

@@ -1,24 +1,14 @@
 -- What the proofs take of a tie between a journal and a state of an object's machine.
-use Rattle.std.proofs.Common.{◌≡◌, ℕ, ◌+◌, ◌==◌, List, [], ◌∷◌, true, false, inl, inr, refl, sym, ◌∙◌, subst, ⊎_elim, Contains, eqb-true}
-use Rattle.std.specs.List.{list_any}
-use Rattle.arj_base.proofs.Uids.{uid_is}
-use Rattle.arj_base.specs.Uid.{uid_eq, nobody}
-use Rattle.arj_base.specs.declared.uid.Uid.{Uid}
-use Rattle.arj_journal.specs.declared.body.Line.{Line}
-use Rattle.arj_lock.proofs.Members.{In, in_to}
-use Rattle.arj_model.specs.Actions.{Act, Placed, committed, has_end, is_serial, recovered}
-use Rattle.arj_model.specs.Calls.{Said, said}
-use Rattle.arj_model.specs.Serial.{Values}
-use Rattle.arj_law_runs.specs.journal.Laws.{IsDone, called}
-use Rattle.arj_law_runs.proofs.journal.Books.{or_which}
-use Rattle.arj_law_lock.specs.machine.State as state
-use Rattle.arj_law_lock.specs.machine.State.{State}
-use Rattle.arj_law_lock.specs.machine.Machine.{Run, start}
-use Rattle.arj_law_lock_view.specs.view.Acts.{Acts}
-use Rattle.arj_law_lock_view.specs.view.Copies.{Codes}
-use Rattle.arj_law_lock_view.specs.journal.Lines.{AreCallsOf, EndsSo, IsDecidedAt, said_on}
-use Rattle.arj_law_serial.specs.order.Tied.{AreApart, AreTied, Began, HasPlaces, IsTied}
+use Rattle.arj_law_parts.proofs.Words
+use Words.{◌≡◌, ℕ, ◌+◌, ◌==◌, List, [], ◌∷◌, true, false, inl, inr, refl, sym, ◌∙◌, subst, ⊎_elim, Contains, eqb-true, list_any, uid_is}
+use Words.{uid_eq, nobody, Uid, Line, In, in_to}
+use Rattle.arj_law_serial.proofs.Terms
+use Terms.{Act, Placed, committed, has_end, is_serial, recovered, Said, Values, IsDone, called, or_which, State, Run, start, Acts, Codes}
+use Terms.{AreCallsOf, EndsSo, IsDecidedAt, said_on, AreApart, Began, HasPlaces, IsTied}
+use Terms.state
 use Rattle.arj_law_serial.proofs.order.Timely.{run_initial}
+use Rattle.arj_law_serial.specs.order.Tied.{AreTied}
+use Rattle.arj_model.specs.Calls.{said}
 
 -- What the machine has of an action: it is committed there exactly if it is by the journal; and the places of its commit's call
 -- and of its commit are those of its lines.
@@ -44,11 +34,14 @@ Ties values lines = (x : ℕ) → list_any (λ (s : Placed Said). s.it.x == x) (
 -- who is named by number, or by Uid, in a list of ends
 ended_by : (es : List (Placed ℕ)) (id : ℕ) → has_end es id ≡ true → (e : Placed ℕ) × In e es × (e.it ≡ id)
 ended_by [] id is = absurd (cc is)
-ended_by (e ∷ es) id is = ⊎_elim (λ here. (e, inl refl, eqb-true e.it id here)) (λ there. let r = ended_by es id there in (r.0, inr r.1, r.2)) (or_which (e.it == id) (has_end es id) is)
+ended_by (e ∷ es) id is = ⊎_elim (λ here. (e, inl refl, eqb-true e.it id here)) (λ there. let r = ended_by es id there in
+    (r.0, inr r.1, r.2)) (or_which (e.it == id) (has_end es id) is)
 
-found_by : (us : List (Placed Uid)) (u : Uid) → list_any (λ (e : Placed Uid). uid_eq e.it u) us ≡ true → (e : Placed Uid) × In e us × (e.it ≡ u)
+found_by : (us : List (Placed Uid)) (u : Uid) → list_any (λ (e : Placed Uid). uid_eq e.it u) us ≡ true →
+    (e : Placed Uid) × In e us × (e.it ≡ u)
 found_by [] u is = absurd (cc is)
-found_by (e ∷ us) u is = ⊎_elim (λ here. (e, inl refl, uid_is e.it u here)) (λ there. let r = found_by us u there in (r.0, inr r.1, r.2)) (or_which (uid_eq e.it u) (list_any (λ (z : Placed Uid). uid_eq z.it u) us) is)
+found_by (e ∷ us) u is = ⊎_elim (λ here. (e, inl refl, uid_is e.it u here)) (λ there. let r = found_by us u there in
+    (r.0, inr r.1, r.2)) (or_which (uid_eq e.it u) (list_any (λ (z : Placed Uid). uid_eq z.it u) us) is)
 
 pub as_said : (lines : List Line) (a : Act) (m : state.Action) → EndsSo lines a m → IsAsSaid lines a m
 as_said lines a m h = record {

@@ -1,34 +1,29 @@
 -- Whose ends a coordinator tells: of actions that it has, of its records, and of whom it is asked about.
-use Rattle.std.proofs.Common.{◌≡◌, ◌≢◌, ◌+◌, ℕ, List, [], ◌∷◌, ◌++◌, Bool, true, false, cond, not, ◌&&◌, ◌||◌, map, Option, Some, None, Contains, refl, sym, ◌∙◌, ap, subst, inl, inr}
-use Rattle.std.specs.Prelude.{⊤, is_some}
-use Rattle.std.specs.List.{AllByRecursion, flat_map}
-use Rattle.arj_lock.proofs.Members.{In, in_from}
-use Rattle.arj_protocol.specs.Words.{Uid, End, Kind, Path, Body, Label, Ask, Asked, Head, Header, request, uid_eq}
-use Rattle.arj_protocol.specs.Words.ask
-use Rattle.arj_protocol.specs.Words.ending
-use Rattle.arj_protocol.specs.Words.kind
-use Rattle.arj_protocol.specs.Words.body
-use Rattle.arj_protocol.specs.Words.cause
-use Rattle.arj_protocol.specs.Ask.{Reply, actor}
-use Rattle.arj_protocol.specs.Asking.{again_all, again_now, asks_all, asks_node, asks_step, call, call_steps, commit_action, commit_open, commit_top, commits_in, gaveup_lines, give_up, give_up_doing, gives_up, goes_on, heard, heard_by, heard_call, heard_doing, heard_none, heard_now, include, last_req, mark_lines, moved_commit, next_req, renewed, step_call, step_commit, waits_for_call, waits_for_commit}
-use Rattle.arj_protocol.specs.Call.{CallStep, Ended, On, Steps, given_up, next_ask, next_node, start}
-use Rattle.arj_protocol.specs.Call as calls
-use Rattle.arj_protocol.specs.Commit.{Aborts, Asks, CommitStep, Decides, Marked, Plan, Stays, has_record, nodes_given_up, participants, plan_of, servers_of, waiting}
-use Rattle.arj_protocol.specs.Commit as commit
-use Rattle.arj_protocol.specs.Coord.{Calling, Committing, Coord, Doing, Idle, Now, doing_of, is_free, keeping_of, on_doing, on_root, plan_for, root_at, with_keeping}
-use Rattle.arj_protocol.specs.Effect.{Did, Do, Effect, Intent, PutIntent, Say, Send, Served}
-use Rattle.arj_protocol.specs.Ending.{abort_action, aborts_with, acked, acked_by, acked_left, all_aborted, answer_decided, answer_query, answer_recorded, decide, decided_told, ended, ends_with, is_deferred, is_kept_commit, is_over, let_go, root_or_self, say_for, says, tell, tell_all, tolds_by, tolds_let_go, tolds_of, tolds_of_branch, up_to}
-use Rattle.arj_protocol.specs.Order.{at_uid, has, unbound, without_number, without_uid}
-use Rattle.arj_protocol.specs.Step.{Input, acts, branch_named, commit_reasons, on_branch, refusal_up, refused_by, tolds_again}
-use Rattle.arj_protocol.specs.Step as input
-use Rattle.arj_protocol.specs.Tree.{Branch, branch_of, ends_of, has_open_child, is_open, open_below, root_of, uses_object}
-use Rattle.arj_law_parts.specs.parts.Actions.{Action}
-use Rattle.arj_law_parts.specs.parts.Coords.{IsBusy, IsGoodCoord, IsVoting}
-use Rattle.arj_law_parts.specs.parts.Copies.{IsTree, Paths}
-use Rattle.arj_law_parts.specs.parts.Ends.{told_by}
-use Rattle.arj_law_parts.proofs.parts.CoordInputs.{named_found, off, off_third}
-use Rattle.arj_law_parts.proofs.parts.EndsSaid.{none_in}
-use Rattle.arj_law_parts.proofs.parts.GoodCoords.{IsStepOf, actor_is, answer_step, giveup_step, vote_step, voting_at}
+use Rattle.arj_law_parts.proofs.Words
+use Words.{◌≡◌, ◌≢◌, ◌+◌, ℕ, List, [], ◌∷◌, ◌++◌, Bool, true, false, cond, not, ◌&&◌, ◌||◌, map, Option, Some, None, Contains, refl, sym}
+use Words.{◌∙◌, ap, subst, inl, inr, ⊤, is_some, AllByRecursion, flat_map, In, in_from, Uid, End, Kind, Path, Body, Label, Ask, Asked, Head}
+use Words.{Header, request, uid_eq, Reply, actor, again_all, again_now, asks_all, asks_node, asks_step, call, call_steps, commit_action}
+use Words.{commit_open, commit_top, commits_in, gaveup_lines, give_up, give_up_doing, gives_up, goes_on, heard, heard_by, heard_call}
+use Words.{heard_doing, heard_none, heard_now, include, last_req, mark_lines, moved_commit, next_req, renewed, step_call, step_commit}
+use Words.{waits_for_call, waits_for_commit, CallStep, Ended, On, Steps, given_up, next_ask, next_node, start, Aborts, Asks, CommitStep}
+use Words.{Decides, Marked, Plan, Stays, has_record, nodes_given_up, participants, plan_of, servers_of, waiting, Calling, Committing, Coord}
+use Words.{Doing, Idle, Now, doing_of, is_free, keeping_of, on_doing, on_root, plan_for, root_at, with_keeping, Did, Do, Effect, Intent}
+use Words.{PutIntent, Say, Send, Served, abort_action, aborts_with, acked, acked_by, acked_left, all_aborted, answer_decided, answer_query}
+use Words.{answer_recorded, decide, decided_told, ended, ends_with, is_deferred, is_kept_commit, let_go, root_or_self, say_for, says, tell}
+use Words.{tell_all, tolds_by, tolds_let_go, tolds_of, tolds_of_branch, up_to, at_uid, has, unbound, without_number, without_uid, Input}
+use Words.{acts, branch_named, commit_reasons, on_branch, refusal_up, refused_by, tolds_again, Branch, branch_of, ends_of, has_open_child}
+use Words.{is_open, open_below, root_of, uses_object}
+use Words.ask
+use Words.ending
+use Words.kind
+use Words.body
+use Words.cause
+use Words.calls
+use Words.commit
+use Words.input
+use Rattle.arj_law_serial.proofs.Terms
+use Terms.{is_over, Action, IsBusy, IsGoodCoord, IsVoting, IsTree, Paths, told_by, named_found, off, off_third, none_in, IsStepOf, actor_is}
+use Terms.{answer_step, giveup_step, vote_step, voting_at}
 
 -- whose end the effect tells is so
 abbrev pub TellsOf : (Uid → Type 0) → Effect → Type 0
@@ -62,7 +57,8 @@ module _ (K : Uid → Type 0) where
       by None = tt
       by (Some x) = (tt, tt)
 
-  tell_tells : (root : Uid) (ack : Bool) (ends : List (Uid × End)) (nodes : List ℕ) → ((u : Uid) (e : End) → Contains ends (u, e) → K u) → Fine (tell_all root ack ends nodes)
+  tell_tells : (root : Uid) (ack : Bool) (ends : List (Uid × End)) (nodes : List ℕ) → ((u : Uid) (e : End) → Contains ends (u, e) → K u) →
+      Fine (tell_all root ack ends nodes)
   tell_tells root ack ends nodes each = tell_map (tell root ack ends) nodes (λ n. each)
 
   tell_one : (u : Uid) (how : End) → K u → (w : Uid) (e : End) → Contains {X = Uid × End} ((u, how) ∷ []) (w, e) → K w
@@ -103,41 +99,52 @@ module _ (K : Uid → Type 0) where
   tell_tolds intents c u knows = by (branch_of u c.tree) refl
     where
       kinds : (b : Branch) → branch_of u c.tree ≡ Some b → (k : Kind) (p : Path) → Fine (tolds_by u k p intents c)
-      kinds b is kind.Nested p = tell_tells (root_of p) false (up_to u (ends_of (root_of p) c.tree)) _ (λ w e i. knows.ends (root_of p) w e (up_to_in u (w, e) (ends_of (root_of p) c.tree) (in_from (w, e) (up_to u (ends_of (root_of p) c.tree)) i)))
+      kinds b is kind.Nested p = tell_tells (root_of p) false (up_to u (ends_of (root_of p) c.tree)) _ (λ w e i. knows.ends (root_of p) w e
+          (up_to_in u (w, e) (ends_of (root_of p) c.tree) (in_from (w, e) (up_to u (ends_of (root_of p) c.tree)) i)))
       kinds b is kind.Serial p = tell_tells u false ((u, ending.Abort) ∷ []) _ (tell_one u ending.Abort (knows.branches u b is))
       kinds b is kind.Top p = tell_tells (root_of p) false ((u, ending.Abort) ∷ []) _ (tell_one u ending.Abort (knows.branches u b is))
-      kinds b is kind.Independent p = tell_tells (root_of p) false ((u, ending.Abort) ∷ []) _ (tell_one u ending.Abort (knows.branches u b is))
-      kinds b is kind.Constituent p = tell_tells (root_of p) false ((u, ending.Abort) ∷ []) _ (tell_one u ending.Abort (knows.branches u b is))
+      kinds b is kind.Independent p =
+          tell_tells (root_of p) false ((u, ending.Abort) ∷ []) _ (tell_one u ending.Abort (knows.branches u b is))
+      kinds b is kind.Constituent p =
+          tell_tells (root_of p) false ((u, ending.Abort) ∷ []) _ (tell_one u ending.Abort (knows.branches u b is))
 
       by : (o : Option Branch) → branch_of u c.tree ≡ o → Fine (tolds_of_branch u intents c o)
       by None is = tt
       by (Some b) is = kinds b is b.kind b.path
 
-  tell_ends : (u : Uid) (e : End) (f : Label → Body) (intents : List (Uid × Intent)) (c : Coord) → Knows (ended u e c) → Fine (ends_with u e f intents c).outs
-  tell_ends u e f intents c knows = tell_both (says u f c) (tolds_of intents (ended u e c) u) (tell_lines u f c) (tell_tolds intents (ended u e c) u knows)
+  tell_ends : (u : Uid) (e : End) (f : Label → Body) (intents : List (Uid × Intent)) (c : Coord) → Knows (ended u e c) →
+      Fine (ends_with u e f intents c).outs
+  tell_ends u e f intents c knows =
+      tell_both (says u f c) (tolds_of intents (ended u e c) u) (tell_lines u f c) (tell_tolds intents (ended u e c) u knows)
 
   tell_aborted : (us : List Uid) (c : Coord) → Fine (all_aborted us c).outs
   tell_aborted [] c = tt
-  tell_aborted (u ∷ us) c = tell_both (says u (λ l. body.Aborted l cause.Asked) c) (all_aborted us (ended u ending.Abort c)).outs (tell_lines u (λ l. body.Aborted l cause.Asked) c) (tell_aborted us (ended u ending.Abort c))
+  tell_aborted (u ∷ us) c = tell_both (says u (λ l. body.Aborted l cause.Asked) c) (all_aborted us (ended u ending.Abort c)).outs
+      (tell_lines u (λ l. body.Aborted l cause.Asked) c) (tell_aborted us (ended u ending.Abort c))
 
-  tell_abort : (u : Uid) (intents : List (Uid × Intent)) (c : Coord) → Knows (abort_action u intents c).part → Fine (abort_action u intents c).outs
+  tell_abort : (u : Uid) (intents : List (Uid × Intent)) (c : Coord) → Knows (abort_action u intents c).part →
+      Fine (abort_action u intents c).outs
   tell_abort u intents c knows =
       let us = open_below u c.tree ++ u ∷ [] in
       let t = all_aborted us c in
-      tell_both t.outs (flat_map (tolds_of intents t.part) us) (tell_aborted us c) (tell_flat (tolds_of intents t.part) us (λ w. tell_tolds intents t.part w knows))
+      tell_both t.outs (flat_map (tolds_of intents t.part) us) (tell_aborted us c)
+      (tell_flat (tolds_of intents t.part) us (λ w. tell_tolds intents t.part w knows))
 
   tell_decide : (p : Plan) (c : Coord) → K (actor p.path) → Fine (decide p c).outs
   tell_decide p c its =
       let u = actor p.path in
-      tell_both (cond (has_record p) (Do (PutIntent u (record { root = root_of p.path; nodes = participants p })) ∷ []) [] ++ says u body.Committed c) (map (decided_told (root_of p.path) u p) p.sent)
-      (tell_both (cond (has_record p) (Do (PutIntent u (record { root = root_of p.path; nodes = participants p })) ∷ []) []) (says u body.Committed c) (work (has_record p)) (tell_lines u body.Committed c))
+      tell_both (cond (has_record p) (Do (PutIntent u (record { root = root_of p.path; nodes = participants p })) ∷ []) []
+      ++ says u body.Committed c) (map (decided_told (root_of p.path) u p) p.sent)
+      (tell_both (cond (has_record p) (Do (PutIntent u (record { root = root_of p.path; nodes = participants p })) ∷ []) [])
+      (says u body.Committed c) (work (has_record p)) (tell_lines u body.Committed c))
       (tell_map (decided_told (root_of p.path) u p) p.sent (λ n. one n (has (participants p) n)))
     where
       work : (b : Bool) → Fine (cond b (Do (PutIntent (actor p.path) (record { root = root_of p.path; nodes = participants p })) ∷ []) [])
       work true = (tt, tt)
       work false = tt
 
-      one : (n : ℕ) (b : Bool) → TellsOf K (cond b (tell (root_of p.path) (has_record p) ((actor p.path, ending.Commit) ∷ []) n) (tell (root_of p.path) false ((actor p.path, ending.Abort) ∷ []) n))
+      one : (n : ℕ) (b : Bool) → TellsOf K (cond b (tell (root_of p.path) (has_record p) ((actor p.path, ending.Commit) ∷ []) n)
+          (tell (root_of p.path) false ((actor p.path, ending.Abort) ∷ []) n))
       one n true = tell_one (actor p.path) ending.Commit its
       one n false = tell_one (actor p.path) ending.Abort its
 
@@ -157,25 +164,32 @@ module _ (K : Uid → Type 0) where
   tell_step_call s (On at) c = tell_goes (record s { req = s.req + 1; at = at }) c
   tell_step_call s (Ended e) c = tell_lines (actor s.path) _ c
 
-  tell_step_commit : (u : Uid) (s : CommitStep) (intents : List (Uid × Intent)) (c : Coord) → ((q : Plan) → s ≡ Decides q → K (actor q.path)) → Knows (step_commit u s intents c).part → Fine (step_commit u s intents c).outs
+  tell_step_commit : (u : Uid) (s : CommitStep) (intents : List (Uid × Intent)) (c : Coord) →
+      ((q : Plan) → s ≡ Decides q → K (actor q.path)) → Knows (step_commit u s intents c).part → Fine (step_commit u s intents c).outs
   tell_step_commit u (Stays m) intents c decides knows = tt
   tell_step_commit u (Asks m) intents c decides knows = tell_asks (plan_of m).path (plan_of m).req (waiting m) (commits_in u m c)
   tell_step_commit u (Decides p) intents c decides knows = tell_decide p c (decides p refl)
   tell_step_commit u (Aborts why p) intents c decides knows = tell_ends u ending.Abort (λ l. body.Aborted l why) intents c knows
 
-  tell_moved : (u : Uid) (m : Marked) (intents : List (Uid × Intent)) (c : Coord) → ((q : Plan) → m.step ≡ Decides q → K (actor q.path)) → Knows (moved_commit u m intents c).part → Fine (moved_commit u m intents c).outs
+  tell_moved : (u : Uid) (m : Marked) (intents : List (Uid × Intent)) (c : Coord) → ((q : Plan) → m.step ≡ Decides q → K (actor q.path)) →
+      Knows (moved_commit u m intents c).part → Fine (moved_commit u m intents c).outs
   tell_moved u m intents c decides knows =
-      tell_both (mark_lines u m.marks c) (step_commit u m.step intents c).outs (tell_flat (λ (k : ℕ × ℕ). says u (λ l. body.Excluded l k.0 k.1) c) m.marks (λ k. tell_lines u (λ l. body.Excluded l k.0 k.1) c)) (tell_step_commit u m.step intents c decides knows)
+      tell_both (mark_lines u m.marks c) (step_commit u m.step intents c).outs (tell_flat (λ (k : ℕ × ℕ). says u (λ l. body.Excluded l k.0
+      k.1) c) m.marks (λ k. tell_lines u (λ l. body.Excluded l k.0 k.1) c)) (tell_step_commit u m.step intents c decides knows)
 
   module _ (actions : List Action) (paths : Paths) (tree : IsTree paths) where
     -- a commit that is decided is its action's
-    decides_own : (u : Uid) (p : Plan) (s : CommitStep) (c : Coord) → IsGoodCoord actions paths c → IsVoting c.tree u p → IsStepOf actions paths tree p s → K u → (q : Plan) → s ≡ Decides q → K (actor q.path)
-    decides_own u p s c good v step its q is = let same = subst (IsStepOf actions paths tree p) is step in subst K (sym (ap actor same.0 ∙ actor_is actions paths tree u p.path c good v.asking)) its
+    decides_own : (u : Uid) (p : Plan) (s : CommitStep) (c : Coord) → IsGoodCoord actions paths c → IsVoting c.tree u p →
+        IsStepOf actions paths tree p s → K u → (q : Plan) → s ≡ Decides q → K (actor q.path)
+    decides_own u p s c good v step its q is = let same = subst (IsStepOf actions paths tree p) is step in
+        subst K (sym (ap actor same.0 ∙ actor_is actions paths tree u p.path c good v.asking)) its
 
-    pub tell_heard : (from : ℕ) (a : Asked) (r : Reply) (intents : List (Uid × Intent)) (c : Coord) → IsGoodCoord actions paths c → Knows c → Knows (heard from a r intents c).part → Fine (heard from a r intents c).outs
+    pub tell_heard : (from : ℕ) (a : Asked) (r : Reply) (intents : List (Uid × Intent)) (c : Coord) → IsGoodCoord actions paths c →
+        Knows c → Knows (heard from a r intents c).part → Fine (heard from a r intents c).outs
     tell_heard from a r intents c good before knows = by (doing_of a.act c) refl knows
       where
-        now : (d : Doing) → doing_of a.act c ≡ Some d → (n : Now) → IsBusy c.tree a.act n → Knows (heard_now from a r intents c n).part → Fine (heard_now from a r intents c n).outs
+        now : (d : Doing) → doing_of a.act c ≡ Some d → (n : Now) → IsBusy c.tree a.act n → Knows (heard_now from a r intents c n).part →
+            Fine (heard_now from a r intents c n).outs
         now d found Idle b k = tt
         now d found (Calling s) b k = one (waits_for_call from a r s)
           where
@@ -184,30 +198,41 @@ module _ (K : Uid → Type 0) where
             one false = tt
         now d found (Committing m) b k = one (waits_for_commit from a r m) k
           where
-            one : (w : Bool) → Knows (cond {A = Served Coord (Unit {0})} w (heard_by (moved_commit a.act (commit.answered from m r) intents c)) (heard_none c)).part → Fine (cond {A = Served Coord (Unit {0})} w (heard_by (moved_commit a.act (commit.answered from m r) intents c)) (heard_none c)).outs
-            one true k = tell_moved a.act (commit.answered from m r) intents c (decides_own a.act (plan_of m) (commit.answered from m r).step c good b (answer_step actions paths tree from m r) (before.branches a.act b.asking.branch b.asking.found)) k
+            one : (w : Bool) → Knows (cond {A = Served Coord (Unit {0})} w
+                (heard_by (moved_commit a.act (commit.answered from m r) intents c)) (heard_none c)).part → Fine (cond
+                {A = Served Coord (Unit {0})} w (heard_by (moved_commit a.act (commit.answered from m r) intents c)) (heard_none c)).outs
+            one true k = tell_moved a.act (commit.answered from m r) intents c (decides_own a.act (plan_of m) (commit.answered from m
+                r).step c good b (answer_step actions paths tree from m r) (before.branches a.act b.asking.branch b.asking.found)) k
             one false k = tt
 
-        by : (o : Option Doing) → doing_of a.act c ≡ o → Knows (heard_doing from a r intents c o).part → Fine (heard_doing from a r intents c o).outs
+        by : (o : Option Doing) → doing_of a.act c ≡ o → Knows (heard_doing from a r intents c o).part →
+            Fine (heard_doing from a r intents c o).outs
         by None is k = tt
         by (Some d) is k = now d is d.now (good.busy a.act d is) k
 
-    tell_give_up : (u : Uid) (intents : List (Uid × Intent)) (c : Coord) → IsGoodCoord actions paths c → Knows c → Knows (give_up u intents c).part → Fine (give_up u intents c).outs
+    tell_give_up : (u : Uid) (intents : List (Uid × Intent)) (c : Coord) → IsGoodCoord actions paths c → Knows c →
+        Knows (give_up u intents c).part → Fine (give_up u intents c).outs
     tell_give_up u intents c good before knows = by (doing_of u c) refl knows
       where
         lines : (nodes : List ℕ) → Fine (gaveup_lines u nodes c)
         lines nodes = tell_flat (λ n. says u (λ l. body.GaveUp l n) c) nodes (λ n. tell_lines u (λ l. body.GaveUp l n) c)
 
-        now : (d : Doing) → doing_of u c ≡ Some d → (n : Now) → IsBusy c.tree u n → Knows (gives_up u intents c n).part → Fine (gives_up u intents c n).outs
+        now : (d : Doing) → doing_of u c ≡ Some d → (n : Now) → IsBusy c.tree u n → Knows (gives_up u intents c n).part →
+            Fine (gives_up u intents c n).outs
         now d found Idle b k = tt
-        now d found (Calling s) b k = tell_both (gaveup_lines u (next_node s ∷ []) c) _ (lines (next_node s ∷ [])) (tell_step_call s (given_up s.at) _)
-        now d found (Committing m) b k = tell_both (gaveup_lines u (nodes_given_up m) c) _ (lines (nodes_given_up m)) (tell_moved u (commit.given_up m) intents c (decides_own u (plan_of m) (commit.given_up m).step c good b (giveup_step actions paths tree m) (before.branches u b.asking.branch b.asking.found)) k)
+        now d found (Calling s) b k =
+            tell_both (gaveup_lines u (next_node s ∷ []) c) _ (lines (next_node s ∷ [])) (tell_step_call s (given_up s.at) _)
+        now d found (Committing m) b k = tell_both (gaveup_lines u (nodes_given_up m) c) _ (lines (nodes_given_up m))
+            (tell_moved u (commit.given_up m) intents c (decides_own u (plan_of m) (commit.given_up m).step c good b
+            (giveup_step actions paths tree m) (before.branches u b.asking.branch b.asking.found)) k)
 
         by : (o : Option Doing) → doing_of u c ≡ o → Knows (give_up_doing u intents c o).part → Fine (give_up_doing u intents c o).outs
         by None is k = tt
         by (Some d) is k = now d is d.now (good.busy u d is) k
 
-    tell_commit : (b : Branch) (intents : List (Uid × Intent)) (c : Coord) → branch_of (actor b.path) c.tree ≡ Some b → is_some b.ended ≡ false → has_open_child (actor b.path) c.tree ≡ false → IsGoodCoord actions paths c → Knows c → Knows (commit_action b intents c).part → Fine (commit_action b intents c).outs
+    tell_commit : (b : Branch) (intents : List (Uid × Intent)) (c : Coord) → branch_of (actor b.path) c.tree ≡ Some b →
+        is_some b.ended ≡ false → has_open_child (actor b.path) c.tree ≡ false → IsGoodCoord actions paths c → Knows c →
+        Knows (commit_action b intents c).part → Fine (commit_action b intents c).outs
     tell_commit b intents c found opened none good before knows = by b.doomed knows
       where
         u : Uid
@@ -216,22 +241,31 @@ module _ (K : Uid → Type 0) where
         plan : Plan
         plan = plan_for b.path (last_req (doing_of u c)) (root_at (root_of b.path) c) c
 
-        top : b.kind ≢ kind.Serial → b.kind ≢ kind.Nested → Knows (commit_top b.path intents c).part → Fine (commit_top b.path intents c).outs
-        top unserial unnested k = tell_both (says u body.Committing c) (moved_commit u (commit.start plan) intents c).outs (tell_lines u body.Committing c)
-            (tell_moved u (commit.start plan) intents c (decides_own u plan (commit.start plan).step c good (voting_at actions paths tree b c found opened none unserial unnested good) (vote_step actions paths tree (servers_of plan) plan plan (refl, refl)) (before.branches u b found)) k)
+        top : b.kind ≢ kind.Serial → b.kind ≢ kind.Nested → Knows (commit_top b.path intents c).part →
+            Fine (commit_top b.path intents c).outs
+        top unserial unnested k =
+            tell_both (says u body.Committing c) (moved_commit u (commit.start plan) intents c).outs (tell_lines u body.Committing c)
+            (tell_moved u (commit.start plan) intents c (decides_own u plan (commit.start plan).step c good
+            (voting_at actions paths tree b c found opened none unserial unnested good)
+            (vote_step actions paths tree (servers_of plan) plan plan (refl, refl)) (before.branches u b found)) k)
 
         kinds : (k : Kind) → b.kind ≡ k → Knows (commit_open b intents c k).part → Fine (commit_open b intents c k).outs
         kinds kind.Nested is k = tell_ends u ending.Commit body.Committed intents c k
         kinds kind.Serial is k = tell_ends u ending.Commit body.Ended intents c k
-        kinds kind.Top is k = top (λ e. let no_way : kind.Top ≡ kind.Serial = sym is ∙ e in cc) (λ e. let no_way : kind.Top ≡ kind.Nested = sym is ∙ e in cc) k
-        kinds kind.Independent is k = top (λ e. let no_way : kind.Independent ≡ kind.Serial = sym is ∙ e in cc) (λ e. let no_way : kind.Independent ≡ kind.Nested = sym is ∙ e in cc) k
-        kinds kind.Constituent is k = top (λ e. let no_way : kind.Constituent ≡ kind.Serial = sym is ∙ e in cc) (λ e. let no_way : kind.Constituent ≡ kind.Nested = sym is ∙ e in cc) k
+        kinds kind.Top is k = top (λ e. let no_way : kind.Top ≡ kind.Serial = sym is ∙ e in
+            cc) (λ e. let no_way : kind.Top ≡ kind.Nested = sym is ∙ e in cc) k
+        kinds kind.Independent is k = top (λ e. let no_way : kind.Independent ≡ kind.Serial = sym is ∙ e in
+            cc) (λ e. let no_way : kind.Independent ≡ kind.Nested = sym is ∙ e in cc) k
+        kinds kind.Constituent is k = top (λ e. let no_way : kind.Constituent ≡ kind.Serial = sym is ∙ e in
+            cc) (λ e. let no_way : kind.Constituent ≡ kind.Nested = sym is ∙ e in cc) k
 
-        by : (w : Bool) → Knows (cond {A = Did Coord} w (aborts_with u cause.Doomed intents c) (commit_open b intents c b.kind)).part → Fine (cond {A = Did Coord} w (aborts_with u cause.Doomed intents c) (commit_open b intents c b.kind)).outs
+        by : (w : Bool) → Knows (cond {A = Did Coord} w (aborts_with u cause.Doomed intents c) (commit_open b intents c b.kind)).part →
+            Fine (cond {A = Did Coord} w (aborts_with u cause.Doomed intents c) (commit_open b intents c b.kind)).outs
         by true k = tell_ends u ending.Abort (λ l. body.Aborted l cause.Doomed) intents c k
         by false k = kinds b.kind refl k
 
-    pub tell_acts : (intents : List (Uid × Intent)) (c : Coord) → IsGoodCoord actions paths c → (hd : Header) (i : Input) → refusal_up hd i c ≡ None → Knows c → Knows (acts i intents c).part → Fine (acts i intents c).outs
+    pub tell_acts : (intents : List (Uid × Intent)) (c : Coord) → IsGoodCoord actions paths c → (hd : Header) (i : Input) →
+        refusal_up hd i c ≡ None → Knows c → Knows (acts i intents c).part → Fine (acts i intents c).outs
     tell_acts intents c good hd (input.Begin l k parent) none before knows = (tt, tt)
     tell_acts intents c good hd (input.Call l x o) none before knows = by (branch_named l c)
       where
@@ -241,15 +275,18 @@ module _ (K : Uid → Type 0) where
             let r = root_at (root_of b.path) c in
             let old = keeping_of x r in
             let k = renewed (is_free (root_of b.path) (actor b.path) x c) old old.kept in
-            tell_goes (call_steps b.path x o (next_req (actor b.path) c) r c k) (on_root (root_of b.path) (with_keeping x k) (record c { tree = uses_object b.path x c.tree }))
+            tell_goes (call_steps b.path x o (next_req (actor b.path) c) r c k)
+            (on_root (root_of b.path) (with_keeping x k) (record c { tree = uses_object b.path x c.tree }))
     tell_acts intents c good hd (input.Include l x s) none before knows = by (branch_named l c)
       where
         by : (f : Option Branch) → Fine (on_branch (λ b. include b.path x s c) c f).outs
         by None = tt
-        by (Some b) = tell_goes (start b.path x (calls.Include s) None unbound (next_req (actor b.path) c)) (record c { tree = uses_object b.path x c.tree })
+        by (Some b) = tell_goes (start b.path x (calls.Include s) None unbound (next_req (actor b.path) c))
+            (record c { tree = uses_object b.path x c.tree })
     tell_acts intents c good hd (input.Commit l) none before knows = by (branch_named l c) refl none knows
       where
-        by : (f : Option Branch) → branch_named l c ≡ f → refused_by commit_reasons c f ≡ None → Knows (on_branch (λ b. commit_action b intents c) c f).part → Fine (on_branch (λ b. commit_action b intents c) c f).outs
+        by : (f : Option Branch) → branch_named l c ≡ f → refused_by commit_reasons c f ≡ None →
+            Knows (on_branch (λ b. commit_action b intents c) c f).part → Fine (on_branch (λ b. commit_action b intents c) c f).outs
         by None is e k = tt
         by (Some b) is e k =
             let r6 : is_some b.ended ≡ false = (off (commit_reasons b c) e).0 in
@@ -257,12 +294,14 @@ module _ (K : Uid → Type 0) where
             tell_commit b intents c (named_found actions paths tree intents c good l b is) r6 r9 good before k
     tell_acts intents c good hd (input.Abort l) none before knows = by (branch_named l c) knows
       where
-        by : (f : Option Branch) → Knows (on_branch (λ b. abort_action (actor b.path) intents c) c f).part → Fine (on_branch (λ b. abort_action (actor b.path) intents c) c f).outs
+        by : (f : Option Branch) → Knows (on_branch (λ b. abort_action (actor b.path) intents c) c f).part →
+            Fine (on_branch (λ b. abort_action (actor b.path) intents c) c f).outs
         by None k = tt
         by (Some b) k = tell_abort (actor b.path) intents c k
     tell_acts intents c good hd (input.GiveUp l) none before knows = by (branch_named l c) knows
       where
-        by : (f : Option Branch) → Knows (on_branch (λ b. give_up (actor b.path) intents c) c f).part → Fine (on_branch (λ b. give_up (actor b.path) intents c) c f).outs
+        by : (f : Option Branch) → Knows (on_branch (λ b. give_up (actor b.path) intents c) c f).part →
+            Fine (on_branch (λ b. give_up (actor b.path) intents c) c f).outs
         by None k = tt
         by (Some b) k = tell_give_up (actor b.path) intents c good before k
     tell_acts intents c good hd (input.Frame k from m) none before knows = tt
@@ -275,7 +314,8 @@ module _ (K : Uid → Type 0) where
 
   pub tell_again : (ds : List Doing) (c : Coord) → Fine (again_all ds c).outs
   tell_again [] c = tt
-  tell_again (d ∷ ds) c = tell_both (again_now c d.now).outs (again_all ds (again_now c d.now).part).outs (now d.now) (tell_again ds (again_now c d.now).part)
+  tell_again (d ∷ ds) c =
+      tell_both (again_now c d.now).outs (again_all ds (again_now c d.now).part).outs (now d.now) (tell_again ds (again_now c d.now).part)
     where
       now : (n : Now) → Fine (again_now c n).outs
       now Idle = tt
@@ -293,8 +333,10 @@ module _ (K : Uid → Type 0) where
           root None at is = let no_way : false ≡ true = is in cc
           root (Some x) at is = knows.branches i.root x at
 
-          one : (a b : Bool) → is_over (branch_of i.root c.tree) ≡ b → Fine (cond (a && b) (tell_all i.root false ((i.root, ending.Abort) ∷ []) (let_go i.root (without_uid u intents) c i.nodes)) [])
-          one true true is = tell_tells i.root false ((i.root, ending.Abort) ∷ []) (let_go i.root (without_uid u intents) c i.nodes) (tell_one i.root ending.Abort (root (branch_of i.root c.tree) refl is))
+          one : (a b : Bool) → is_over (branch_of i.root c.tree) ≡ b → Fine
+              (cond (a && b) (tell_all i.root false ((i.root, ending.Abort) ∷ []) (let_go i.root (without_uid u intents) c i.nodes)) [])
+          one true true is = tell_tells i.root false ((i.root, ending.Abort) ∷ []) (let_go i.root (without_uid u intents) c i.nodes)
+              (tell_one i.root ending.Abort (root (branch_of i.root c.tree) refl is))
           one true false is = tt
           one false b is = tt
 
@@ -306,7 +348,8 @@ module _ (K : Uid → Type 0) where
       by None = tt
       by (Some i) = one (has i.nodes from)
         where
-          one : (b : Bool) → Fine (cond {A = Served Coord (Unit {0})} b (acked_left u i intents c (without_number from i.nodes)) (record { part = c; outs = []; reply = None })).outs
+          one : (b : Bool) → Fine (cond {A = Served Coord (Unit {0})} b (acked_left u i intents c (without_number from i.nodes))
+              (record { part = c; outs = []; reply = None })).outs
           one true = left i (without_number from i.nodes)
           one false = tt
 
@@ -319,7 +362,8 @@ module _ (K : Uid → Type 0) where
       decided : Fine (answer_decided from u c)
       decided = by (is_kept_commit from u c)
         where
-          by : (b : Bool) → Fine (cond b (tell (root_or_self u (branch_of u c.tree)) false ((u, ending.Commit) ∷ []) from ∷ []) (tell (root_or_self u (branch_of u c.tree)) false ((u, ending.Abort) ∷ []) from ∷ []))
+          by : (b : Bool) → Fine (cond b (tell (root_or_self u (branch_of u c.tree)) false ((u, ending.Commit) ∷ []) from ∷ [])
+              (tell (root_or_self u (branch_of u c.tree)) false ((u, ending.Abort) ∷ []) from ∷ []))
           by true = one (root_or_self u (branch_of u c.tree)) false ending.Commit
           by false = one (root_or_self u (branch_of u c.tree)) false ending.Abort
 
@@ -335,6 +379,9 @@ module _ (K : Uid → Type 0) where
       first true = tt
       first false = recorded (at_uid u intents)
 
-  pub tell_records : (records : List (Uid × Intent)) → ((u : Uid) (i : Intent) → In {X = Uid × Intent} (u, i) records → K u) → Fine (tolds_again records)
+  pub tell_records : (records : List (Uid × Intent)) → ((u : Uid) (i : Intent) → In {X = Uid × Intent} (u, i) records → K u) →
+      Fine (tolds_again records)
   tell_records [] each = tt
-  tell_records (e ∷ es) each = tell_both (tell_all e.1.root true ((e.0, ending.Commit) ∷ []) e.1.nodes) (tolds_again es) (tell_tells e.1.root true ((e.0, ending.Commit) ∷ []) e.1.nodes (tell_one e.0 ending.Commit (each e.0 e.1 (inl refl)))) (tell_records es (λ u i there. each u i (inr there)))
+  tell_records (e ∷ es) each = tell_both (tell_all e.1.root true ((e.0, ending.Commit) ∷ []) e.1.nodes) (tolds_again es)
+      (tell_tells e.1.root true ((e.0, ending.Commit) ∷ []) e.1.nodes (tell_one e.0 ending.Commit (each e.0 e.1 (inl refl))))
+      (tell_records es (λ u i there. each u i (inr there)))

@@ -1,17 +1,15 @@
 -- What effects make of a table's rows on one object, by their lines.
-use Rattle.std.proofs.Common.{◌≡◌, ◌∙◌, ◌==◌, ◌++◌, ◌+◌, ℕ, List, [], ◌∷◌, Bool, true, false, cond, refl}
-use Rattle.arj_base.specs.Rows.{Row}
-use Rattle.arj_journal.specs.declared.body.Body.{Body}
-use Rattle.arj_journal.specs.declared.body.Body.TheVariants as body
-use Rattle.arj_journal.specs.declared.body.Line.{Line}
-use Rattle.arj_model.specs.Actions.{Act, acts_after, acts_from}
-use Rattle.arj_model.specs.Table.{table_from, table_step, up_step}
-use Rattle.arj_law_serial.specs.tables.Tables.{is_steady, up_from}
+use Rattle.arj_law_parts.proofs.Words.{◌≡◌, ◌++◌, ℕ, List, [], ◌∷◌, true, refl, Row, Body, Line}
+use Rattle.arj_law_serial.proofs.Terms
+use Terms.{Act, acts_after, acts_from, table_from, table_step, up_step, is_steady, up_from}
+use Terms.body
 
 -- the table goes on from what it was
-pub goes_on : (n : ℕ) (begun : List Act) (up : ℕ) (rows : List Row) (ls ms : List Line) → table_from n begun up rows (ls ++ ms) ≡ table_from n (acts_from begun ls) (up_from n up ls) (table_from n begun up rows ls) ms
+pub goes_on : (n : ℕ) (begun : List Act) (up : ℕ) (rows : List Row) (ls ms : List Line) →
+    table_from n begun up rows (ls ++ ms) ≡ table_from n (acts_from begun ls) (up_from n up ls) (table_from n begun up rows ls) ms
 goes_on n begun up rows [] ms = refl
-goes_on n begun up rows (l ∷ ls) ms = goes_on n (acts_after begun l.body) (up_step n l.event l.body up) (table_step n begun up l.event l.body rows) ls ms
+goes_on n begun up rows (l ∷ ls) ms =
+    goes_on n (acts_after begun l.body) (up_step n l.event l.body up) (table_step n begun up l.event l.body rows) ls ms
 
 -- who was begun, and when the node started, stays
 pub acts_stay : (begun : List Act) (b : Body) → is_steady b ≡ true → acts_after begun b ≡ begun

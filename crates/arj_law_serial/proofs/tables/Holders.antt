@@ -1,21 +1,15 @@
 -- Holders have in a journal the paths that they have at nodes.
-use Rattle.std.proofs.Common.{◌≡◌, ◌≢◌, ◌⊎◌, ◌≤◌, ◌∙◌, ◌++◌, ◌+◌, ℕ, List, [], ◌∷◌, Bool, true, false, cond, length, take, Option, Some, None, ap, arith, inl, inr, refl, subst, sym, ⊎_elim}
-use Rattle.std.proofs.lemmas.List.{map-append, length-append, take-append-le}
-use Rattle.std.specs.Str.{bytes_eq}
-use Rattle.arj_base.specs.Rows.{front, is_on, last_uid}
-use Rattle.arj_base.proofs.Uids.{uid_other, uid_same}
-use Rattle.arj_base.specs.Uid.{uid_eq}
-use Rattle.arj_lock.proofs.Members.{In, in_from, in_to}
-use Rattle.arj_model.specs.Actions.{Act, is_serial, path, path_in, tops_in, uids, upwards}
-use Rattle.arj_model.specs.Table.{path_by}
-use Rattle.arj_protocol.specs.Words.{Kind, Uid, tops_of, uids_of}
-use Rattle.arj_protocol.specs.Words.kind
-use Rattle.arj_protocol.specs.Ask.{top_of, top_path}
-use Rattle.arj_protocol.specs.Follow.{FitsPath}
-use Rattle.arj_law_parts.specs.parts.Actions.{Action, AreBegun, IsNew, Stands, act_of}
-use Rattle.arj_law_parts.proofs.parts.Begun.{front_more, on_own, path_some, serial_alone, whole_top}
-use Rattle.arj_law_runs.specs.journal.Paths.{AreAlike}
-use Rattle.arj_law_serial.specs.tables.Tables.{holders_in}
+use Rattle.arj_law_parts.proofs.Words
+use Words.{◌≡◌, ◌≢◌, ◌⊎◌, ◌≤◌, ◌∙◌, ◌++◌, ◌+◌, ℕ, List, [], ◌∷◌, Bool, true, false, cond, length, take, Option, Some, None, ap, arith, inl}
+use Words.{inr, refl, subst, sym, ⊎_elim, map-append, length-append, take-append-le, bytes_eq, front, is_on, last_uid, uid_other, uid_same}
+use Words.{uid_eq, In, in_from, in_to, Kind, Uid, tops_of, uids_of, top_of, top_path, FitsPath}
+use Words.kind
+use Rattle.arj_law_serial.proofs.Terms
+use Terms.{Act, is_serial, path, path_in, uids, upwards, path_by, Action, AreBegun, IsNew, act_of, on_own, path_some, serial_alone}
+use Terms.{AreAlike, holders_in}
+use Rattle.arj_law_parts.proofs.parts.Begun.{front_more, whole_top}
+use Rattle.arj_law_parts.specs.parts.Actions.{Stands}
+use Rattle.arj_model.specs.Actions.{tops_in}
 
 never : {P : Type 0} (b : Bool) → b ≡ true → b ≡ false → P
 never b holds fails = let no_way : true ≡ false = sym holds ∙ fails in cc
@@ -23,11 +17,13 @@ never b holds fails = let no_way : true ≡ false = sym holds ∙ fails in cc
 -- ---- the path of a Uid
 
 -- a later action hides none that was begun before
-older : (c : Action) (begun : List Action) (b : Act) (xs : List Act) → b.uid ≡ act_of c → IsNew (act_of c) begun → (d : Action) → In d begun → path_by (b ∷ xs) (act_of d) ≡ path_by xs (act_of d)
+older : (c : Action) (begun : List Action) (b : Act) (xs : List Act) → b.uid ≡ act_of c → IsNew (act_of c) begun → (d : Action) →
+    In d begun → path_by (b ∷ xs) (act_of d) ≡ path_by xs (act_of d)
 older c begun b xs same new d i = λ j. cond (other j) (path_in xs b) (path_by xs (act_of d))
   where
     other : uid_eq b.uid (act_of d) ≡ false
-    other = ap (λ u. uid_eq u (act_of d)) same ∙ uid_other (act_of c) (act_of d) (λ e. never (is_on (uids_of d.path) (act_of c)) (ap (is_on (uids_of d.path)) e ∙ on_own d.path) (new d (in_to d begun i)))
+    other = ap (λ u. uid_eq u (act_of d)) same ∙ uid_other (act_of c) (act_of d)
+        (λ e. never (is_on (uids_of d.path) (act_of c)) (ap (is_on (uids_of d.path)) e ∙ on_own d.path) (new d (in_to d begun i)))
 
 newest : (c : Action) (b : Act) (xs : List Act) → b.uid ≡ act_of c → path_by (b ∷ xs) (act_of c) ≡ path_in xs b
 newest c b xs same = λ j. cond (here j) (path_in xs b) (path_by xs (act_of c))
@@ -36,13 +32,15 @@ newest c b xs same = λ j. cond (here j) (path_in xs b) (path_by xs (act_of c))
     here = ap (λ u. uid_eq u (act_of c)) same ∙ uid_same (act_of c)
 
 -- what a label names is the path of a Uid
-labelled : (begun : List Action) (xs : List Act) → AreBegun begun → AreAlike begun xs → (p : List ℕ) → (path xs p ≡ []) ⊎ ((d : Action) × In d begun × (path xs p ≡ path_by xs (act_of d)))
+labelled : (begun : List Action) (xs : List Act) → AreBegun begun → AreAlike begun xs → (p : List ℕ) →
+    (path xs p ≡ []) ⊎ ((d : Action) × In d begun × (path xs p ≡ path_by xs (act_of d)))
 labelled [] [] all alike p = inl refl
 labelled [] (x ∷ xs) all alike p = absurd alike
 labelled (c ∷ begun) [] all alike p = absurd alike
 labelled (c ∷ begun) (b ∷ xs) all alike p = by (bytes_eq b.label p) (labelled begun xs all.1 alike.3 p)
   where
-    by : (e : Bool) → (path xs p ≡ []) ⊎ ((d : Action) × In d begun × (path xs p ≡ path_by xs (act_of d))) → (cond e (path_in xs b) (path xs p) ≡ []) ⊎ ((d : Action) × In d (c ∷ begun) × (cond e (path_in xs b) (path xs p) ≡ path_by (b ∷ xs) (act_of d)))
+    by : (e : Bool) → (path xs p ≡ []) ⊎ ((d : Action) × In d begun × (path xs p ≡ path_by xs (act_of d))) → (cond e (path_in xs b)
+        (path xs p) ≡ []) ⊎ ((d : Action) × In d (c ∷ begun) × (cond e (path_in xs b) (path xs p) ≡ path_by (b ∷ xs) (act_of d)))
     by true ih = inr (c, inl refl, sym (newest c b xs alike.0))
     by false (inl none) = inl none
     by false (inr (d, i, is)) = inr (d, inr i, is ∙ sym (older c begun b xs alike.0 all.0.new d i))
@@ -60,7 +58,8 @@ if_none [] m n = m
 if_none (a ∷ rest) m n = n
 
 -- one more below a path
-below : (front : List Act) (s b : Act) → tops_in ((front ++ s ∷ []) ++ b ∷ []) ≡ if_none front (cond (is_serial s.kind) 2 1) (tops_in (front ++ s ∷ []))
+below : (front : List Act) (s b : Act) →
+    tops_in ((front ++ s ∷ []) ++ b ∷ []) ≡ if_none front (cond (is_serial s.kind) 2 1) (tops_in (front ++ s ∷ []))
 below [] s b = refl
 below (a ∷ []) s b = refl
 below (a ∷ c ∷ rest) s b = refl
@@ -74,12 +73,21 @@ record IsPathed (xs : List Act) (a : Action) : Type 0 where
   ends : path_by xs (act_of a) ≡ front ++ itself ∷ []
   kind_is : itself.kind ≡ a.kind
 
-pathed_later : (c : Action) (begun : List Action) (b : Act) (xs : List Act) → b.uid ≡ act_of c → IsNew (act_of c) begun → (d : Action) → In d begun → IsPathed xs d → IsPathed (b ∷ xs) d
+pathed_later : (c : Action) (begun : List Action) (b : Act) (xs : List Act) → b.uid ≡ act_of c → IsNew (act_of c) begun → (d : Action) →
+    In d begun → IsPathed xs d → IsPathed (b ∷ xs) d
 pathed_later c begun b xs same new d i h =
     let o = older c begun b xs same new d i in
-    record { own = ap uids o ∙ h.own; tops = ap tops_in o ∙ h.tops; front = h.front; itself = h.itself; ends = o ∙ h.ends; kind_is = h.kind_is }
+    record {
+      own = ap uids o ∙ h.own;
+      tops = ap tops_in o ∙ h.tops;
+      front = h.front;
+      itself = h.itself;
+      ends = o ∙ h.ends;
+      kind_is = h.kind_is;
+    }
 
-module _ (c : Action) (begun : List Action) (b : Act) (xs : List Act) (all : AreBegun begun) (alike : AreAlike begun xs) (kinds : b.kind ≡ c.kind) (its : uids (path_in xs b) ≡ uids_of c.path) (ih : (d : Action) → In d begun → IsPathed xs d) where
+module _ (c : Action) (begun : List Action) (b : Act) (xs : List Act) (all : AreBegun begun) (alike : AreAlike begun xs)
+    (kinds : b.kind ≡ c.kind) (its : uids (path_in xs b) ≡ uids_of c.path) (ih : (d : Action) → In d begun → IsPathed xs d) where
   abbrev up : List Act
   up = upwards b.parent b.kind (path xs)
 
@@ -88,10 +96,12 @@ module _ (c : Action) (begun : List Action) (b : Act) (xs : List Act) (all : Are
   above d i is = by b.parent b.kind refl
     where
       uids_up : uids up ≡ uids_of d.path
-      uids_up = sym (front_more (uids up) b.uid) ∙ ap front (sym (map-append (λ (x : Act). x.uid) up (b ∷ [])) ∙ its ∙ is) ∙ front_more (uids_of d.path) (act_of c)
+      uids_up = sym (front_more (uids up) b.uid) ∙ ap front (sym (map-append (λ (x : Act). x.uid) up (b ∷ [])) ∙ its ∙ is)
+          ∙ front_more (uids_of d.path) (act_of c)
 
       none : {X : Type 0} → up ≡ [] → X
-      none empty = let l : length (uids_of d.path) ≡ 0 = ap length (sym uids_up) ∙ ap (λ z. length (uids z)) empty in absurd (omega (arith, l, path_some d.path))
+      none empty = let l : length (uids_of d.path) ≡ 0 = ap length (sym uids_up) ∙ ap (λ z. length (uids z)) empty in
+          absurd (omega (arith, l, path_some d.path))
 
       found : (p : List ℕ) → up ≡ path xs p → up ≡ path_by xs (act_of d)
       found p same = ⊎_elim (λ empty. none (same ∙ empty)) (λ (r : (e : Action) × In e begun × (path xs p ≡ path_by xs (act_of e))).
@@ -125,18 +135,22 @@ module _ (c : Action) (begun : List Action) (b : Act) (xs : List Act) (all : Are
           let i = in_from s.0 begun s.1 in
           let h = ih s.0 i in
           let same = above s.0 i s.3 ∙ h.ends in
-          ap (λ z. tops_in (z ++ b ∷ [])) same ∙ below h.front h.itself b ∙ nested s.0 h.front h.itself (h.kind_is) s.2 (ap tops_in (sym h.ends) ∙ h.tops) ∙ sym s.4
+          ap (λ z. tops_in (z ++ b ∷ [])) same ∙ below h.front h.itself b
+          ∙ nested s.0 h.front h.itself (h.kind_is) s.2 (ap tops_in (sym h.ends) ∙ h.tops) ∙ sym s.4
         where
-          nested : (d : Action) (front : List Act) (i : Act) → i.kind ≡ d.kind → d.kind ≢ kind.Serial → tops_in (front ++ i ∷ []) ≡ tops_of d.path → if_none front (cond (is_serial i.kind) 2 1) (tops_in (front ++ i ∷ [])) ≡ tops_of d.path
+          nested : (d : Action) (front : List Act) (i : Act) → i.kind ≡ d.kind → d.kind ≢ kind.Serial → tops_in (front ++ i ∷ [])
+              ≡ tops_of d.path → if_none front (cond (is_serial i.kind) 2 1) (tops_in (front ++ i ∷ [])) ≡ tops_of d.path
           nested d [] i is other tops = ap (λ z. cond z 2 1) (ap is_serial is ∙ serial_not d.kind other) ∙ tops
           nested d (a ∷ rest) i is other tops = tops
       by kind.Constituent s =
           let i = in_from s.0 begun s.1 in
           let h = ih s.0 i in
           let same = above s.0 i s.3 ∙ h.ends in
-          ap (λ z. tops_in (z ++ b ∷ [])) same ∙ below h.front h.itself b ∙ owned h.front h.itself (act_of s.0) (h.kind_is ∙ s.2) (ap uids (sym h.ends) ∙ h.own ∙ (serial_alone begun all s.0 i s.2).0) ∙ sym s.4
+          ap (λ z. tops_in (z ++ b ∷ [])) same ∙ below h.front h.itself b ∙ owned h.front h.itself (act_of s.0) (h.kind_is ∙ s.2)
+          (ap uids (sym h.ends) ∙ h.own ∙ (serial_alone begun all s.0 i s.2).0) ∙ sym s.4
         where
-          owned : (front : List Act) (i : Act) (u : Uid) → i.kind ≡ kind.Serial → uids (front ++ i ∷ []) ≡ u ∷ [] → if_none front (cond (is_serial i.kind) 2 1) (tops_in (front ++ i ∷ [])) ≡ 2
+          owned : (front : List Act) (i : Act) (u : Uid) → i.kind ≡ kind.Serial → uids (front ++ i ∷ []) ≡ u ∷ [] →
+              if_none front (cond (is_serial i.kind) 2 1) (tops_in (front ++ i ∷ [])) ≡ 2
           owned [] i u is one = ap (λ z. cond z 2 1) (ap is_serial is)
           owned (a ∷ []) i u is one = absurd (cc one)
           owned (a ∷ c ∷ rest) i u is one = absurd (cc one)
@@ -168,11 +182,18 @@ record HasTop (acts : List Action) (a : Action) : Type 0 where
 
 with_top : (begun : List Action) → AreBegun begun → (a : Action) → In a begun → HasTop begun a
 with_top [] all a i = absurd i
-with_top (c ∷ begun) all a (inr i) = let h = with_top begun all.1 a i in record { top = h.top; there = inr h.there; path = h.path; tops = h.tops; most = h.most }
+with_top (c ∷ begun) all a (inr i) = let h = with_top begun all.1 a i in
+    record { top = h.top; there = inr h.there; path = h.path; tops = h.tops; most = h.most }
 with_top (c ∷ begun) all a (inl same) = subst (HasTop (c ∷ begun)) same (by c.kind all.0.stands (with_top begun all.1))
   where
     alone : (uids_of c.path ≡ act_of c ∷ []) × (tops_of c.path ≡ 1) → HasTop (c ∷ begun) c
-    alone s = record { top = c; there = inl refl; path = sym (whole_top c.path (act_of c ∷ []) s.0 s.1); tops = refl; most = let l : length (uids_of c.path) ≡ 1 = ap length s.0 in omega (arith, s.1, l) }
+    alone s = record {
+      top = c;
+      there = inl refl;
+      path = sym (whole_top c.path (act_of c ∷ []) s.0 s.1);
+      tops = refl;
+      most = let l : length (uids_of c.path) ≡ 1 = ap length s.0 in omega (arith, s.1, l);
+    }
 
     by : (k : Kind) → Stands begun c k → ((d : Action) → In d begun → HasTop begun d) → HasTop (c ∷ begun) c
     by kind.Top s ih = alone s
@@ -180,12 +201,15 @@ with_top (c ∷ begun) all a (inl same) = subst (HasTop (c ∷ begun)) same (by 
     by kind.Independent s ih = alone s
     by kind.Nested s ih =
         let h = ih s.0 (in_from s.0 begun s.1) in
-        let less : tops_of c.path ≤ length (uids_of (let d = s.0 in d.path)) = subst (λ z. z ≤ length (uids_of (let d = s.0 in d.path))) (sym s.4) h.most in
-        let l : length (uids_of c.path) ≡ length (uids_of (let d = s.0 in d.path)) + 1 = ap length s.3 ∙ length-append (uids_of (let d = s.0 in d.path)) (act_of c ∷ []) in
+        let less : tops_of c.path ≤ length (uids_of (let d = s.0 in d.path)) = subst (λ z. z ≤ length (uids_of (let d = s.0 in d.path)))
+        (sym s.4) h.most in
+        let l : length (uids_of c.path) ≡ length (uids_of (let d = s.0 in d.path)) + 1 = ap length s.3
+        ∙ length-append (uids_of (let d = s.0 in d.path)) (act_of c ∷ []) in
         record {
           top = h.top;
           there = inr h.there;
-          path = h.path ∙ ap (λ z. take z (uids_of (let d = s.0 in d.path))) (sym s.4) ∙ sym (ap (take (tops_of c.path)) s.3 ∙ take-append-le (tops_of c.path) (uids_of (let d = s.0 in d.path)) (act_of c ∷ []) less);
+          path = h.path ∙ ap (λ z. take z (uids_of (let d = s.0 in d.path))) (sym s.4) ∙ sym
+              (ap (take (tops_of c.path)) s.3 ∙ take-append-le (tops_of c.path) (uids_of (let d = s.0 in d.path)) (act_of c ∷ []) less);
           tops = h.tops ∙ sym s.4;
           most = omega (arith, less, l);
         }
@@ -193,11 +217,18 @@ with_top (c ∷ begun) all a (inl same) = subst (HasTop (c ∷ begun)) same (by 
         let d = s.0 in
         let one = (serial_alone begun all.1 d (in_from d begun s.1) s.2).0 in
         let is : uids_of c.path ≡ act_of d ∷ act_of c ∷ [] = s.3 ∙ ap (λ us. us ++ act_of c ∷ []) one in
-        record { top = c; there = inl refl; path = sym (whole_top c.path (act_of d ∷ act_of c ∷ []) is s.4); tops = refl; most = let l : length (uids_of c.path) ≡ 2 = ap length is in omega (arith, s.4, l) }
+        record {
+          top = c;
+          there = inl refl;
+          path = sym (whole_top c.path (act_of d ∷ act_of c ∷ []) is s.4);
+          tops = refl;
+          most = let l : length (uids_of c.path) ≡ 2 = ap length is in omega (arith, s.4, l);
+        }
 
 -- ---- what rows say of holders
 
-pub path_fits : (begun : List Action) (xs : List Act) → AreBegun begun → AreAlike begun xs → (a : Action) → In a begun → FitsPath (holders_in false xs) a.path
+pub path_fits : (begun : List Action) (xs : List Act) → AreBegun begun → AreAlike begun xs → (a : Action) → In a begun →
+    FitsPath (holders_in false xs) a.path
 path_fits begun xs all alike a i =
     let h = pathed begun xs all alike a i in
     let t = with_top begun all a i in
@@ -205,5 +236,8 @@ path_fits begun xs all alike a i =
     let same : act_of t.top ≡ top_of a.path = ap last_uid t.path in
     record {
       actor_is = record { path_is = h.own; tops_are = h.tops };
-      top_is = record { path_is = ap (λ u. uids (path_by xs u)) (sym same) ∙ g.own ∙ t.path; tops_are = ap (λ u. tops_in (path_by xs u)) (sym same) ∙ g.tops ∙ t.tops };
+      top_is = record {
+        path_is = ap (λ u. uids (path_by xs u)) (sym same) ∙ g.own ∙ t.path;
+        tops_are = ap (λ u. tops_in (path_by xs u)) (sym same) ∙ g.tops ∙ t.tops;
+      };
     }

@@ -1,69 +1,44 @@
 -- Where an abort is told of a committed top whose unit isn't over, nobody there was asked for a part in its commit.
-use Rattle.std.proofs.Common.{◌≡◌, ◌≢◌, ◌∙◌, ℕ, Bool, true, false, cond, List, [], ◌∷◌, refl, sym, ap, subst, inl, inr, ⊎_elim, Option, Some, None, Contains}
-use Rattle.std.specs.Prelude.{is_some}
-use Rattle.std.proofs.lemmas.Bool.{eqb-true, false_from_ne_true}
-use Rattle.arj_lock.proofs.Members as list
-use Rattle.arj_lock.proofs.Members.{in_from, in_to}
-use Rattle.arj_model.specs.Actions as model
-use Rattle.arj_model.specs.Serial.{Values}
-use Rattle.arj_protocol.specs.Words.{Kind, Uid, first_uid, is_on, uids_of}
-use Rattle.arj_protocol.specs.Words.ask
-use Rattle.arj_protocol.specs.Words.ending
-use Rattle.arj_protocol.specs.Words.kind
-use Rattle.arj_protocol.specs.Coord.{Now}
-use Rattle.arj_protocol.specs.Effect.{Intent}
-use Rattle.arj_protocol.specs.Naming.{Naming}
-use Rattle.arj_protocol.specs.Node.{Parts}
-use Rattle.arj_protocol.specs.Order.{at_uid}
-use Rattle.arj_protocol.specs.Step.{Node}
-use Rattle.arj_protocol.specs.Tree.{Branch, at_place, branch_of, is_own, root_of}
-use Rattle.arj_law_lock.specs.machine.Actions.{Root, is_action, is_top, on, root}
-use Rattle.arj_law_lock.specs.machine.State.{State}
-use Rattle.arj_law_lock.proofs.machine.Paths.{on_root as same_unit, top_action, top_of as above_is, top_self}
-use Rattle.arj_law_parts.specs.parts.Actions.{Action, action_of, act_of, paths_of}
-use Rattle.arj_law_parts.specs.parts.Coords.{IsGoodCoord, IsOver}
-use Rattle.arj_law_parts.specs.parts.Messages.{IsDecided}
-use Rattle.arj_law_parts.proofs.parts.Begun.{begun_tree, one_action, path_found}
-use Rattle.arj_law_parts.proofs.parts.TrueSteps.{work_there}
-use Rattle.arj_law_runs.specs.kept.Worlds.{IsMemory, IsUp}
-use Rattle.arj_law_runs.proofs.kept.Walked.{same_number}
-use Rattle.arj_promise.specs.Runs.{Seen}
-use Rattle.arj_law_runs.specs.journal.Book.{book, is_decided, new_book}
-use Rattle.arj_law_runs.specs.journal.Paths.{AreAlike}
-use Rattle.arj_law_runs.specs.journal.Right.{AreRight, has_act}
-use Rattle.arj_law_runs.proofs.journal.Books.{Sane, sane_lines, sane_new}
-use Rattle.arj_law_runs.proofs.journal.Models.{act_there, decided_in, is_book, its_acts}
-use Rattle.arj_law_disk_view.specs.running.Records.{AreRecorded, IsRooted}
-use Rattle.arj_law_disk_view.proofs.running.Begun.{root_on}
-use Rattle.arj_law_lock_view.specs.facts.Parted.{KnowsParted}
+use Rattle.arj_law_parts.proofs.Words
+use Words.{◌≡◌, ◌≢◌, ◌∙◌, ℕ, Bool, true, false, cond, List, [], ◌∷◌, refl, sym, ap, subst, inl, inr, ⊎_elim, Option, Some, None, Contains}
+use Words.{is_some, eqb-true, false_from_ne_true, in_from, in_to, Kind, Uid, first_uid, is_on, uids_of, Now, Intent, Naming, Parts, at_uid}
+use Words.{Node, Branch, at_place, branch_of, is_own, root_of, Seen}
+use Words.list
+use Words.ask
+use Words.ending
+use Words.kind
+use Rattle.arj_law_serial.proofs.Terms
+use Terms.{Values, Root, is_action, on, root, State, on_root as same_unit, top_action, top_of as above_is, top_self, Action, action_of}
+use Terms.{act_of, paths_of, IsGoodCoord, IsOver, IsDecided, begun_tree, one_action, path_found, work_there, IsMemory, IsUp, same_number}
+use Terms.{book, is_decided, new_book, AreAlike, AreRight, has_act, sane_lines, sane_new, act_there, is_book, its_acts, AreRecorded}
+use Terms.{IsRooted, root_on, KnowsParted, EndsSo, IsTiedToLines, IsPlaced, stage_of, SeesNamingIn, SeesNaming, AreOneTree, IsConfirmedNow}
+use Terms.{IsSeenIn, IsToldAbort, Spot, server_at, world_at, BeginsAs, Fixed, view_of, case_of, IsPast, SeesDown, SeesMemory, SeesUp}
+use Terms.{AbortsAreKnown, IsAbortTold, IsPartAsked, AcksAreKnown}
+use Rattle.arj_law_lock.specs.machine.Actions.{is_top}
 use Rattle.arj_law_lock_view.proofs.facts.Confirms.{own_top}
-use Rattle.arj_law_lock_view.specs.journal.Lines.{EndsSo, IsTiedToLines}
-use Rattle.arj_law_lock_view.specs.view.Actions.{IsPlaced, SeesAction, stage_of}
-use Rattle.arj_law_lock_view.specs.view.Hearing.{SeesNamingIn}
-use Rattle.arj_law_lock_view.specs.view.Namings.{SeesNaming}
-use Rattle.arj_law_lock_view.specs.view.Telling.{AreOneTree}
-use Rattle.arj_law_lock_view.specs.running.Beside.{IsCommittedTop, IsConfirmedNow, IsSeenIn, IsToldAbort, IsUnitOver, Spot, server_at, world_at}
-use Rattle.arj_law_lock_view.specs.running.Fixed.{BeginsAs, Fixed, view_of}
-use Rattle.arj_law_lock_view.specs.running.Kept.{case_of}
-use Rattle.arj_law_lock_view.specs.running.Sees.{HasConfirm, IsPast, SeesDown, SeesMemory, SeesUp}
-use Rattle.arj_law_serial.proofs.order.Ties.{as_said}
-use Rattle.arj_law_serial.specs.whole.Aborts.{AbortsAreKnown, IsAbortTold, IsBegunAt, IsPartAsked}
-use Rattle.arj_law_serial.specs.whole.Acks.{AcksAreKnown}
-use Rattle.arj_law_serial.proofs.whole.AbortRuns.{root_own}
-use Rattle.arj_law_serial.proofs.whole.AckSteps.{voter_part}
+use Rattle.arj_law_lock_view.specs.running.{Beside.IsCommittedTop, Beside.IsUnitOver, Sees.HasConfirm}
+use Rattle.arj_law_lock_view.specs.view.Actions.{SeesAction}
+use Rattle.arj_law_runs.proofs.journal.{Books.Sane, Models.decided_in}
+use Rattle.arj_law_serial.proofs.{order.Ties.as_said, whole.AbortRuns.root_own, whole.AckSteps.voter_part}
+use Rattle.arj_law_serial.specs.whole.Aborts.{IsBegunAt}
+use Rattle.arj_model.specs.Actions as model
 
 never : {P : Type 0} {b : Bool} → b ≡ true → b ≡ false → P
 never {P} {b} holds fails = let no_way : true ≡ false = sym holds ∙ fails in absurd (cc no_way)
 
 -- one of the journal's actions was begun, of its kind
-owned : (begun : List Action) (xs : List model.Act) → AreAlike begun xs → (a : model.Act) → list.In a xs → (b : Action) × list.In b begun × (act_of b ≡ a.uid) × (b.kind ≡ a.kind)
+owned : (begun : List Action) (xs : List model.Act) → AreAlike begun xs → (a : model.Act) → list.In a xs →
+    (b : Action) × list.In b begun × (act_of b ≡ a.uid) × (b.kind ≡ a.kind)
 owned [] [] alike a i = absurd i
 owned [] (x ∷ xs) alike a i = absurd alike
 owned (b ∷ begun) [] alike a i = absurd i
-owned (b ∷ begun) (x ∷ xs) alike a (inl is) = (b, inl refl, sym alike.0 ∙ ap (λ (y : model.Act). y.uid) is, sym alike.1 ∙ ap (λ (y : model.Act). y.kind) is)
+owned (b ∷ begun) (x ∷ xs) alike a (inl is) =
+    (b, inl refl, sym alike.0 ∙ ap (λ (y : model.Act). y.uid) is, sym alike.1 ∙ ap (λ (y : model.Act). y.kind) is)
 owned (b ∷ begun) (x ∷ xs) alike a (inr i) = let r = owned begun xs alike.3 a i in (r.0, inr r.1, r.2, r.3)
 
-module _ (f : Fixed) (x : ℕ) (begun : List Action) (S : State) (s : Spot) (seen : IsSeenIn (case_of f x begun S) (world_at s)) (parted : KnowsParted begun (world_at s)) (records : AreRecorded begun (world_at s)) (knows : AbortsAreKnown begun (world_at s)) (begins : (values : Values) × BeginsAs values x f) where
+module _ (f : Fixed) (x : ℕ) (begun : List Action) (S : State) (s : Spot) (seen : IsSeenIn (case_of f x begun S) (world_at s))
+    (parted : KnowsParted begun (world_at s)) (records : AreRecorded begun (world_at s)) (knows : AbortsAreKnown begun (world_at s))
+    (begins : (values : Values) × BeginsAs values x f) where
   abbrev M : Seen
   M = s.seen
 
@@ -77,7 +52,8 @@ module _ (f : Fixed) (x : ℕ) (begun : List Action) (S : State) (s : Spot) (see
   unit_is : (a : Action) (w : Uid) → Contains begun a → is_on (uids_of a.path) w ≡ true → on (f.act (act_of a)) (f.act w) ≡ true
   unit_is a w known above = whole.alike.above (act_of a) w ∙ ap (λ us. is_on us w) (whole.agree a known) ∙ above
 
-  module _ (u : Uid) (told : IsToldAbort s u) (top_u : IsCommittedTop (case_of f x begun S) u) (open_unit : IsUnitOver (case_of f x begun S) u → ⊥) (part : IsPartAsked M.sent u s.node) where
+  module _ (u : Uid) (told : IsToldAbort s u) (top_u : IsCommittedTop (case_of f x begun S) u)
+      (open_unit : IsUnitOver (case_of f x begun S) u → ⊥) (part : IsPartAsked M.sent u s.node) where
     told_it : IsAbortTold M.sent u s.node
     told_it = (let p = told in p.post, told.sent, told.to, told.told)
 
@@ -110,16 +86,20 @@ module _ (f : Fixed) (x : ℕ) (begun : List Action) (S : State) (s : Spot) (see
 
     -- while its node is up
     up_now : (t : Parts) → n.live ≡ Some t → SeesUp (view_of f x begun u.node) S n.disk t → ⊥
-    up_now t live m = ⊎_elim (λ b. by b.0 (ap (λ w. branch_of w t.coord.tree) (sym of) ∙ b.1)) past (m.past a known (ap (λ (w : Uid). w.node) of))
+    up_now t live m =
+        ⊎_elim (λ b. by b.0 (ap (λ w. branch_of w t.coord.tree) (sym of) ∙ b.1)) past (m.past a known (ap (λ (w : Uid). w.node) of))
       where
         mine : IsUp begun M.sent M.labels u.node (let d = n.disk in d.inc) t
-        mine = let p = (let g = seen.good in g.places u.node n was.1.1) in subst (IsMemory begun M.sent M.labels u.node (let d = n.disk in d.inc)) live p.memory
+        mine = let p = (let g = seen.good in g.places u.node n was.1.1) in
+            subst (IsMemory begun M.sent M.labels u.node (let d = n.disk in d.inc)) live p.memory
 
         coord : IsGoodCoord begun (paths_of begun) t.coord
-        coord = let g = mine.good (paths_of begun) (begun_tree begun (let z = seen.good in z.begun)) (path_found begun (let z = seen.good in z.begun)) in g.coord
+        coord = let g = mine.good (paths_of begun) (begun_tree begun (let z = seen.good in z.begun))
+            (path_found begun (let z = seen.good in z.begun)) in g.coord
 
         by : (b : Branch) → branch_of u t.coord.tree ≡ Some b → ⊥
-        by b found = ⊎_elim aborted rooted ((knows.up u.node n t was.1.1 live u s.node told_it (own_by (is_own u t.coord.tree) found)).1 part)
+        by b found =
+            ⊎_elim aborted rooted ((knows.up u.node n t was.1.1 live u s.node told_it (own_by (is_own u t.coord.tree) found)).1 part)
           where
             own_by : (z : Bool) → cond z (at_place u.num t.coord.tree.branches) None ≡ Some b → z ≡ true
             own_by true is = refl
@@ -128,7 +108,8 @@ module _ (f : Fixed) (x : ℕ) (begun : List Action) (S : State) (s : Spot) (see
             aborted : IsDecided u ending.Abort t.coord.tree → ⊥
             aborted gone =
                 let q = work_there t.coord (let w = mine.faithful in w.works) u gone.0 gone.1 in
-                let z : SeesAction x gone.0 q.0 (S.action (f.act u)) = (let w = m.coord in let y = w.coord in let h = y.actions in h.each u gone.0 q.0 gone.1 q.1 (top_action (f.act u) top_u.0)) in
+                let z : SeesAction x gone.0 q.0 (S.action (f.act u)) = (let w = m.coord in let y = w.coord in let h = y.actions in
+                h.each u gone.0 q.0 gone.1 q.1 (top_action (f.act u) top_u.0)) in
                 four (let d = q.0 in d.now) (ap (λ o. stage_of o (let d = q.0 in d.now)) (sym gone.2) ∙ sym z.stage ∙ top_u.1)
               where
                 four : (now : Now) → stage_of (Some ending.Abort) now ≡ 3 → ⊥
@@ -137,13 +118,17 @@ module _ (f : Fixed) (x : ℕ) (begun : List Action) (S : State) (s : Spot) (see
             rooted : (c : Action) × Contains begun c × (act_of c ≡ u) × IsOver (root_of c.path) t.coord.tree → ⊥
             rooted over =
                 let started = (let z = seen.good in z.begun) in
-                let one : over.0 ≡ a = one_action begun started over.0 a (in_from over.0 begun over.1) (in_from a begun known) (over.2 ∙ sym of) in
+                let one : over.0 ≡ a = one_action begun started over.0 a (in_from over.0 begun over.1) (in_from a begun known)
+                (over.2 ∙ sym of) in
                 let o : IsOver (root_of a.path) t.coord.tree = subst (λ (z : Action). IsOver (root_of z.path) t.coord.tree) one over.3 in
                 let r = root_own begun started a known unnested in
-                let same : r.0 ≡ action_of o.0 = one_action begun started r.0 (action_of o.0) (in_from r.0 begun r.1) (in_from (action_of o.0) begun (coord.known (root_of a.path) o.0 o.1)) (r.2 ∙ sym (coord.tree.lists.places (root_of a.path) o.0 o.1)) in
+                let same : r.0 ≡ action_of o.0 = one_action begun started r.0 (action_of o.0) (in_from r.0 begun r.1) (in_from (action_of
+                o.0) begun (coord.known (root_of a.path) o.0 o.1)) (r.2 ∙ sym (coord.tree.lists.places (root_of a.path) o.0 o.1)) in
                 let own : root_of (let z = o.0 in z.path) ≡ root_of a.path = ap (λ (z : Action). root_of z.path) (sym same) ∙ r.3 in
-                let unit : root (f.act u) ≡ root (f.act (root_of a.path)) = ap (λ w. root (f.act w)) (sym of) ∙ same_unit (f.act (act_of a)) (f.act (root_of a.path)) (unit_is a (root_of a.path) known (root_on a.path)) in
-                open_unit (ap (λ k. (let z = S.action (Root k) in z.stage)) unit ∙ (let w = m.coord in w.units (root_of a.path) o.0 o.1 own o.2))
+                let unit : root (f.act u) ≡ root (f.act (root_of a.path)) = ap (λ w. root (f.act w)) (sym of)
+                ∙ same_unit (f.act (act_of a)) (f.act (root_of a.path)) (unit_is a (root_of a.path) known (root_on a.path)) in
+                open_unit (ap (λ k. (let z = S.action (Root k) in z.stage)) unit
+                ∙ (let w = m.coord in w.units (root_of a.path) o.0 o.1 own o.2))
 
     -- while it is down
     tied : IsTiedToLines f.act f.code begins.0 x M.lines S
@@ -153,10 +138,13 @@ module _ (f : Fixed) (x : ℕ) (begun : List Action) (S : State) (s : Spot) (see
     right = (let w = seen.written in w.right)
 
     -- the machine has of the journal's actions what it says
-    ends : (w : Uid) (c : model.Act) → Contains (model.acts M.lines) c → c.uid ≡ w → is_action (f.act w) ≡ true → EndsSo M.lines c (S.action (f.act w))
+    ends : (w : Uid) (c : model.Act) → Contains (model.acts M.lines) c → c.uid ≡ w → is_action (f.act w) ≡ true →
+        EndsSo M.lines c (S.action (f.act w))
     ends w c there is acts_it =
-        let b = owned begun (model.acts M.lines) (subst (AreAlike begun) (its_acts M.lines right) seen.alike) c (in_from c (model.acts M.lines) there) in
-        subst (λ z. EndsSo M.lines c (S.action (f.act z))) is (tied.ends c there (plain c.kind (λ serial. never (ap (λ z. is_action (f.act z)) (b.2 ∙ is) ∙ acts_it) (subst (IsPlaced (f.act (act_of b.0))) (b.3 ∙ serial) (whole.placed b.0 (in_to b.0 begun b.1))))))
+        let b = owned begun (model.acts M.lines) (subst (AreAlike begun) (its_acts M.lines right) seen.alike) c
+        (in_from c (model.acts M.lines) there) in
+        subst (λ z. EndsSo M.lines c (S.action (f.act z))) is (tied.ends c there (plain c.kind (λ serial. never (ap (λ z. is_action (f.act
+        z)) (b.2 ∙ is) ∙ acts_it) (subst (IsPlaced (f.act (act_of b.0))) (b.3 ∙ serial) (whole.placed b.0 (in_to b.0 begun b.1))))))
       where
         plain : (k : Kind) → (k ≡ kind.Serial → ⊥) → model.is_serial k ≡ false
         plain kind.Serial no_it = absurd (no_it refl)
@@ -171,10 +159,12 @@ module _ (f : Fixed) (x : ℕ) (begun : List Action) (S : State) (s : Spot) (see
         by : (b : Branch) → branch_of u m.tree ≡ Some b → ⊥
         by b found = ⊎_elim (λ late. last late.0 late.1 late.2 late.3) (λ over. open_unit over) (let h = m.stopped in h.units u b found)
           where
-            last : (w : Uid) → m.last ≡ Some w → root (f.act w) ≡ root (f.act u) → (let z = S.action (Root (root (f.act u))) in z.stage) ≡ 0 → ⊥
+            last : (w : Uid) → m.last ≡ Some w → root (f.act w) ≡ root (f.act u) →
+                (let z = S.action (Root (root (f.act u))) in z.stage) ≡ 0 → ⊥
             last w is unit opened = some (at_uid w (let d = n.disk in d.intents)) refl (m.decided w is)
               where
-                top_w : (z : Branch) × (branch_of w m.tree ≡ Some z) × (is_top (f.act w) ≡ true) × ((let y = S.action (f.act w) in y.stage) ≡ 2)
+                top_w :
+                    (z : Branch) × (branch_of w m.tree ≡ Some z) × (is_top (f.act w) ≡ true) × ((let y = S.action (f.act w) in y.stage) ≡ 2)
                 top_w = let h = m.stopped in h.top w is
 
                 apart : f.act u ≡ f.act w → ⊥
@@ -190,15 +180,20 @@ module _ (f : Fixed) (x : ℕ) (begun : List Action) (S : State) (s : Spot) (see
                 some None at there = cc there
                 some (Some i) at there =
                     let r : IsRooted begun w i = (let z = records u.node n was.1.1 in let y = z.disk in y.each w i at) in
-                    let root_a : root_of a.path ≡ i.root = ap first_uid (sym (whole.agree a known) ∙ ap f.paths of) ∙ whole.alike.units u w (sym unit) ∙ ap first_uid (ap f.paths (sym r.2) ∙ whole.agree r.0 r.1) ∙ r.3 in
-                    let other : i.root ≢ w = λ same. apart (sym (top_self (f.act u) top_u.0) ∙ above_is (f.act u) (f.act w) top_w.2 (subst (λ z. on (f.act z) (f.act w) ≡ true) of (unit_is a w known (subst (λ z. is_on (uids_of a.path) z ≡ true) (root_a ∙ same) (root_on a.path))))) in
+                    let root_a : root_of a.path ≡ i.root = ap first_uid (sym (whole.agree a known) ∙ ap f.paths of)
+                    ∙ whole.alike.units u w (sym unit) ∙ ap first_uid (ap f.paths (sym r.2) ∙ whole.agree r.0 r.1) ∙ r.3 in
+                    let other : i.root ≢ w = λ same.
+                    apart (sym (top_self (f.act u) top_u.0) ∙ above_is (f.act u) (f.act w) top_w.2 (subst (λ z. on (f.act z) (f.act w)
+                    ≡ true) of (unit_is a w known (subst (λ z. is_on (uids_of a.path) z ≡ true) (root_a ∙ same) (root_on a.path))))) in
                     let gone = knows.down u.node n was.1.1 dead w i at other undecided u s.node refl told_it part a known of root_a in
                     let sane : Sane (book M.lines) = sane_lines new_book M.lines right sane_new in
-                    let c = act_there (model.acts M.lines) u (ap (λ xs. has_act xs u) (sym (its_acts M.lines right)) ∙ sane.aborted u gone) in
+                    let c = act_there (model.acts M.lines) u
+                    (ap (λ xs. has_act xs u) (sym (its_acts M.lines right)) ∙ sane.aborted u gone) in
                     let e = ends u c.0 (in_to c.0 (model.acts M.lines) c.1) c.2 (top_action (f.act u) top_u.0) in
                     let done = (e.only top_u.1).0 in
                     let k = is_book M.lines right in
-                    never gone (sane.kept u (ap (is_decided (book M.lines)) (sym c.2) ∙ sym (k.decided c.0 (in_to c.0 (model.acts M.lines) c.1)) ∙ done))
+                    never gone (sane.kept u
+                    (ap (is_decided (book M.lines)) (sym c.2) ∙ sym (k.decided c.0 (in_to c.0 (model.acts M.lines) c.1)) ∙ done))
 
     pub nobody_asked : ⊥
     nobody_asked = by n.live refl memory
@@ -208,11 +203,15 @@ module _ (f : Fixed) (x : ℕ) (begun : List Action) (S : State) (s : Spot) (see
         by (Some t) live m = up_now t live m
 
   -- the server didn't vote for it
-  pub unvoted : AcksAreKnown true begun (world_at s) → (u : Uid) → IsToldAbort s u → IsCommittedTop (case_of f x begun S) u → (IsUnitOver (case_of f x begun S) u → ⊥) → is_on (let v = server_at s in v.voted) u ≡ false
-  unvoted acks u told top_u open_unit = false_from_ne_true (is_on (let v = server_at s in v.voted) u) (λ on. let k = acks.nodes s.node (record { number = s.node; disk = s.disk; live = Some s.parts }) here s.parts refl in nobody_asked u told top_u open_unit (voter_part M.sent u s.node (let v = server_at s in v.inc) (k.voted u on)))
+  pub unvoted : AcksAreKnown true begun (world_at s) → (u : Uid) → IsToldAbort s u → IsCommittedTop (case_of f x begun S) u →
+      (IsUnitOver (case_of f x begun S) u → ⊥) → is_on (let v = server_at s in v.voted) u ≡ false
+  unvoted acks u told top_u open_unit = false_from_ne_true (is_on (let v = server_at s in v.voted) u)
+      (λ on. let k = acks.nodes s.node (record { number = s.node; disk = s.disk; live = Some s.parts }) here s.parts refl in
+      nobody_asked u told top_u open_unit (voter_part M.sent u s.node (let v = server_at s in v.inc) (k.voted u on)))
 
   -- nor did naming confirm it
-  pub unconfirmed : (n : Naming) (u : Uid) → (let t = s.parts in t.naming) ≡ Some n → IsToldAbort s u → is_on n.told u ≡ false → IsCommittedTop (case_of f x begun S) u → (IsUnitOver (case_of f x begun S) u → ⊥) → IsConfirmedNow (case_of f x begun S) u → ⊥
+  pub unconfirmed : (n : Naming) (u : Uid) → (let t = s.parts in t.naming) ≡ Some n → IsToldAbort s u → is_on n.told u ≡ false →
+      IsCommittedTop (case_of f x begun S) u → (IsUnitOver (case_of f x begun S) u → ⊥) → IsConfirmedNow (case_of f x begun S) u → ⊥
   unconfirmed n u is told new top_u open_unit now = nobody_asked u told top_u open_unit asked
     where
       m : SeesUp (view_of f x begun s.node) S s.disk s.parts
@@ -225,7 +224,8 @@ module _ (f : Fixed) (x : ℕ) (begun : List Action) (S : State) (s : Spot) (see
       on_it = ⊎_elim (λ on. on) (λ late. never late new) (names.confirmed u now)
 
       has : HasConfirm f x S M.sent u
-      has = let r = seen.sees in (r.confirms s.node (record { number = s.node; disk = s.disk; live = Some s.parts }) here).0 u (inr (s.parts, n, refl, is, on_it))
+      has = let r = seen.sees in
+          (r.confirms s.node (record { number = s.node; disk = s.disk; live = Some s.parts }) here).0 u (inr (s.parts, n, refl, is, on_it))
 
       first_node : s.node ≡ 1
       first_node = eqb-true s.node 1 (sym m.place ∙ ap (λ (o : Option Naming). is_some o) is)
@@ -239,5 +239,6 @@ module _ (f : Fixed) (x : ℕ) (begun : List Action) (S : State) (s : Spot) (see
         to_it = knows.confirms has.post has.head (ask.Confirm has.grants has.excluded has.included) has.there has.is refl ∙ sym first_node;
         is = has.is;
         part = refl;
-        by = sym (own_top x begun (world_at s) seen.good parted has.post has.head has.grants has.excluded has.included has.there has.is) ∙ has.top;
+        by = sym (own_top x begun (world_at s) seen.good parted has.post has.head has.grants has.excluded has.included has.there has.is)
+            ∙ has.top;
       }

@@ -1,43 +1,35 @@
--- What a node makes of a message, as far as it goes about votes and acknowledgements: its server votes for whom a Vote asks, in its incarnation,
--- forgets no end, and what it acknowledges it was told.
-use Rattle.std.proofs.Common.{◌≡◌, ◌⊎◌, ◌==◌, ℕ, List, [], ◌∷◌, ◌++◌, Bool, true, false, cond, filter, map, Option, Some, None, refl, sym, ◌∙◌, ap, subst, inl, inr, ⊎_elim, eqb-true}
-use Rattle.std.specs.Prelude.{⊤, option_map, is_some, ◌||◌}
-use Rattle.std.specs.List.{AllByRecursion}
-use Rattle.arj_base.specs.Rows.{is_on}
-use Rattle.arj_lock.proofs.Members as list
-use Rattle.arj_protocol.specs.Words.{Ask, Asked, Binding, End, Head, InvokedReply, Message, ObjectState, Op, Path, Uid, VotedReply, What, asks, object}
-use Rattle.arj_protocol.specs.Words.ask
-use Rattle.arj_protocol.specs.Words.ending
-use Rattle.arj_protocol.specs.Words.loaded
-use Rattle.arj_protocol.specs.Words.message
-use Rattle.arj_protocol.specs.Words.body
-use Rattle.arj_protocol.specs.Words.prepared
-use Rattle.arj_protocol.specs.Words.role
-use Rattle.arj_protocol.specs.Words.what
-use Rattle.arj_protocol.specs.Ask.{Reply, actor, answers, asked_by, last_end, response}
-use Rattle.arj_protocol.specs.Asking.{heard}
-use Rattle.arj_protocol.specs.Confirm.{confirm}
-use Rattle.arj_protocol.specs.Coord.{Coord}
-use Rattle.arj_protocol.specs.Copy.{Copy, invoke_copy}
-use Rattle.arj_protocol.specs.Effect.{Abort, Already, Commit, Did, Disk, Do, Effect, InDoubt, Look, Old, Prep, Prepare, PutInc, PutIntent, Ready, RemoveIntent, Say, Send, Served, Work, did_nothing, either, held_at, holder_of, is_prepared, prepare_answer, reply, void}
-use Rattle.arj_protocol.specs.Ending.{acked}
-use Rattle.arj_protocol.specs.Naming as naming
-use Rattle.arj_protocol.specs.Naming.{Naming}
-use Rattle.arj_protocol.specs.Node.{Handled, Parts, Took, Void, ack_told, by_reply, coord_heard, end_states, handle, handle_answer, handle_ask, handle_ends, handle_other, holders, if_naming, is_earlier, load_by, load_held, naming_told, prepare_by, query_about, sends_answer, serve, store_told, with_coord, with_naming, with_server}
-use Rattle.arj_protocol.specs.Order.{at_number, at_uid, binding_eq, binding_less}
-use Rattle.arj_protocol.specs.Says.{AreAll, is_names_work, is_naming_effect, is_server_effect}
-use Rattle.arj_protocol.specs.Server as server
-use Rattle.arj_protocol.specs.Server.{Kept, Server, active_binding, apply_ends, changed_by, end_new, end_one, first_unbound, has_ended, invoke, invoke_kept, invoke_new, invoke_now, is_below, is_told, keeps, on_copy, other_inc, taken_end, told, took_copy, vote, vote_now}
-use Rattle.arj_protocol.proofs.PartSays.{activate_own, bind_own, confirm_own, ends_own, invoke_own, note_own, told_own, vote_own}
-use Rattle.arj_law_parts.specs.parts.Ends.{told_by}
-use Rattle.arj_law_parts.proofs.parts.InTurn.{told_stays}
-use Rattle.arj_law_parts.proofs.parts.Keys.{on_drop, on_with}
-use Rattle.arj_law_parts.proofs.parts.SaidIncs.{all_both, all_map, all_quiet}
-use Rattle.arj_law_parts.proofs.parts.ServerRuns.{activate_follows, invoke_follows, told_follows, vote_follows}
-use Rattle.arj_law_disk_view.proofs.view.Keys as keys
-use Rattle.arj_law_lock_view.specs.running.World.{is_for_parts}
+-- What a node makes of a message, as far as it goes about votes and acknowledgements: its server votes for whom a Vote asks, in its
+-- incarnation, forgets no end, and what it acknowledges it was told.
+use Rattle.arj_law_parts.proofs.Words
+use Words.{◌≡◌, ◌⊎◌, ◌==◌, ℕ, List, [], ◌∷◌, ◌++◌, Bool, true, false, cond, filter, map, Option, Some, None, refl, sym, ◌∙◌, ap, subst, inl}
+use Words.{inr, ⊎_elim, eqb-true, ⊤, option_map, is_some, ◌||◌, AllByRecursion, is_on, Ask, Asked, Binding, End, Head, InvokedReply}
+use Words.{Message, ObjectState, Op, Path, Uid, VotedReply, What, asks, object, Reply, actor, answers, asked_by, last_end, response, heard}
+use Words.{confirm, Coord, Copy, invoke_copy, Abort, Already, Commit, Did, Disk, Do, Effect, InDoubt, Look, Old, Prep, Prepare, PutInc}
+use Words.{PutIntent, Ready, RemoveIntent, Say, Send, Served, Work, did_nothing, either, held_at, holder_of, is_prepared, prepare_answer}
+use Words.{reply, void, acked, Naming, Handled, Parts, Took, Void, ack_told, by_reply, coord_heard, end_states, handle, handle_answer}
+use Words.{handle_ask, handle_ends, handle_other, holders, if_naming, is_earlier, load_by, load_held, naming_told, prepare_by, query_about}
+use Words.{sends_answer, serve, store_told, with_coord, with_naming, with_server, at_number, at_uid, binding_eq, binding_less, AreAll}
+use Words.{is_names_work, is_naming_effect, is_server_effect, Kept, Server, active_binding, apply_ends, changed_by, end_new, end_one}
+use Words.{first_unbound, has_ended, invoke, invoke_kept, invoke_new, invoke_now, is_below, is_told, keeps, on_copy, other_inc, told}
+use Words.{took_copy, vote, vote_now, activate_own, bind_own, confirm_own, ends_own, invoke_own, note_own, told_own, vote_own}
+use Words.list
+use Words.ask
+use Words.ending
+use Words.loaded
+use Words.message
+use Words.body
+use Words.prepared
+use Words.role
+use Words.what
+use Words.naming
+use Words.server
+use Rattle.arj_law_serial.proofs.Terms
+use Terms.{taken_end, told_by, told_stays, on_with, all_both, all_map, is_for_parts, acked_in, demanded, demanded_if}
+use Terms.keys
 use Rattle.arj_law_lock_view.proofs.running.LeftSteps.{no_answer}
-use Rattle.arj_law_serial.specs.whole.Acks.{acked_in, demanded, demanded_if}
+use Rattle.arj_law_parts.proofs.parts
+use parts.{Keys.on_drop, SaidIncs.all_quiet}
+use parts.ServerRuns.{activate_follows, invoke_follows, told_follows, vote_follows}
 use Rattle.arj_law_serial.proofs.whole.AckTells.{IsIdle}
 
 some_is : {A : Type 0} {a b : A} → Some a ≡ Some b → a ≡ b
@@ -76,12 +68,14 @@ fewer_told n (e ∷ es) s w is = let d = end_one n e.0 e.1 s in fewer_one n e.0 
 fewer_activate : (n : ℕ) (p : Path) (b : Binding) (st : ObjectState) (s : Server) → Fewer s (server.activate n p b st s).part
 fewer_activate n p b st s = by (has_ended p s || binding_less b (active_binding st.uid.num s)) (binding_eq b (active_binding st.uid.num s))
   where
-    by : (v e : Bool) → Fewer s (cond {A = Served Server ℕ} v (void s) (cond {A = Served Server ℕ} e (reply s s.inc) (took_copy n st.uid.num b st s))).part
+    by : (v e : Bool) →
+        Fewer s (cond {A = Served Server ℕ} v (void s) (cond {A = Served Server ℕ} e (reply s s.inc) (took_copy n st.uid.num b st s))).part
     by true e w is = is
     by false true w is = is
     by false false w is = is
 
-fewer_invoke : (n : ℕ) (h : Head) (x : ℕ) (b : Binding) (i : ℕ) (ends : List (Uid × End)) (o : Op) (s : Server) → Fewer s (invoke n h x b i ends o s).part
+fewer_invoke : (n : ℕ) (h : Head) (x : ℕ) (b : Binding) (i : ℕ) (ends : List (Uid × End)) (o : Op) (s : Server) →
+    Fewer s (invoke n h x b i ends o s).part
 fewer_invoke n h x b i ends o s = by (has_ended h.path s || is_below h.req (at_uid (actor h.path) s.kept))
   where
     copied : (z : Server) (f : Option Copy) → Fewer z (on_copy x (invoke_copy n h.path x o) z f).part
@@ -116,18 +110,22 @@ fewer_invoke n h x b i ends o s = by (has_ended h.path s || is_below h.req (at_u
     by false w is = now (changed_by i x b s) w is
 
 -- a vote is for its own top, in the server's incarnation
-voted_by : (n : ℕ) (p : Path) (i : ℕ) (ties : List (ℕ × Binding)) (ends : List (Uid × End)) (s : Server) (w : Uid) → is_on (let r = vote n p i ties ends s in let t = r.part in t.voted) w ≡ true → (is_on s.voted w ≡ true) ⊎ ((w ≡ actor p) × (i ≡ s.inc))
+voted_by : (n : ℕ) (p : Path) (i : ℕ) (ties : List (ℕ × Binding)) (ends : List (Uid × End)) (s : Server) (w : Uid) →
+    is_on (let r = vote n p i ties ends s in let t = r.part in t.voted) w ≡ true → (is_on s.voted w ≡ true) ⊎ ((w ≡ actor p) × (i ≡ s.inc))
 voted_by n p i ties ends s w = by (has_ended p s)
   where
     same_inc : (b : Bool) → (i == s.inc) ≡ b → (q : Option What) → either (cond b None (Some (what.Inc i s.inc))) q ≡ None → i ≡ s.inc
     same_inc true is q none = eqb-true i s.inc is
     same_inc false is q none = let no_way : ◌≡◌ {A = Option What} (Some (what.Inc i s.inc)) None = none in absurd (cc no_way)
 
-    yes_it : (q : Option What) → either (other_inc i s.inc) (first_unbound ties s) ≡ q → is_on (let r = vote_now n (actor p) ends s q in let t = r.part in t.voted) w ≡ true → (is_on s.voted w ≡ true) ⊎ ((w ≡ actor p) × (i ≡ s.inc))
+    yes_it : (q : Option What) → either (other_inc i s.inc) (first_unbound ties s) ≡ q → is_on (let r = vote_now n (actor p) ends s q in
+        let t = r.part in t.voted) w ≡ true → (is_on s.voted w ≡ true) ⊎ ((w ≡ actor p) × (i ≡ s.inc))
     yes_it (Some q) at is = inl is
-    yes_it None at is = let d = apply_ends n ends s in ⊎_elim (λ same. inr (same, same_inc (i == s.inc) refl (first_unbound ties s) at)) (λ old. inl (fewer_told n ends s w old)) (on_with w (actor p) d.part.voted is)
+    yes_it None at is = let d = apply_ends n ends s in ⊎_elim (λ same. inr (same, same_inc (i == s.inc) refl (first_unbound ties s) at))
+        (λ old. inl (fewer_told n ends s w old)) (on_with w (actor p) d.part.voted is)
 
-    by : (b : Bool) → is_on (let r = cond {A = Served Server VotedReply} b (void s) (vote_now n (actor p) ends s (either (other_inc i s.inc) (first_unbound ties s))) in let t = r.part in t.voted) w ≡ true → (is_on s.voted w ≡ true) ⊎ ((w ≡ actor p) × (i ≡ s.inc))
+    by : (b : Bool) → is_on (let r = cond {A = Served Server VotedReply} b (void s) (vote_now n (actor p) ends s (either (other_inc i
+        s.inc) (first_unbound ties s))) in let t = r.part in t.voted) w ≡ true → (is_on s.voted w ≡ true) ⊎ ((w ≡ actor p) × (i ≡ s.inc))
     by true is = inl is
     by false is = yes_it (either (other_inc i s.inc) (first_unbound ties s)) refl is
 
@@ -140,7 +138,8 @@ one_told n u e s = by (is_told u s) refl
     by false is = ap is_some (keys.put_same u (taken_end u e s) s.ends)
 
 all_told : (n : ℕ) (es : List (Uid × End)) (s : Server) (f : Uid × End) → list.In f es → is_told f.0 (told n es s).part ≡ true
-all_told n (e ∷ es) s f (inl same) = let d = end_one n e.0 e.1 s in subst (λ (z : Uid × End). is_told z.0 (told n (e ∷ es) s).part ≡ true) same (told_stays d.part (apply_ends n es d.part).part (told_follows n es d.part) e.0 (one_told n e.0 e.1 s))
+all_told n (e ∷ es) s f (inl same) = let d = end_one n e.0 e.1 s in subst (λ (z : Uid × End). is_told z.0 (told n (e ∷ es) s).part ≡ true)
+    same (told_stays d.part (apply_ends n es d.part).part (told_follows n es d.part) e.0 (one_told n e.0 e.1 s))
 all_told n (e ∷ es) s f (inr i) = all_told n es (end_one n e.0 e.1 s).part f i
 all_told n [] s f i = absurd i
 
@@ -185,7 +184,8 @@ module _ (n : ℕ) (d : Disk) (t : Parts) (from : ℕ) (m : Message) where
   quiet_response s to a (Reply.Confirmed r) = (record { told = refl; wants = refl; asks_none = refl }, λ u is. no_ack u is)
 
   queries_quiet : (s : Server) (us : List Uid) → AllByRecursion (PartSo m s) (map query_about us)
-  queries_quiet s us = all_map (PartSo m s) query_about us (λ u. (record { told = refl; wants = refl; asks_none = refl }, λ w is. no_ack w is))
+  queries_quiet s us =
+      all_map (PartSo m s) query_about us (λ u. (record { told = refl; wants = refl; asks_none = refl }, λ w is. no_ack w is))
 
   server_so : (s : Server) (es : List Effect) → AreAll (is_server_effect n) es → AllByRecursion (PartSo m s) es
   server_so s es own = all_quiet (PartSo m s) (is_server_effect n) (λ to z. refl) one es own
@@ -212,22 +212,27 @@ module _ (n : ℕ) (d : Disk) (t : Parts) (from : ℕ) (m : Message) where
       one (Send to z) is = absurd (cc is)
       one (Do w) is = work w is
 
-  both_so : (s : Server) (es fs : List Effect) → AllByRecursion (PartSo m s) es → AllByRecursion (PartSo m s) fs → AllByRecursion (PartSo m s) (es ++ fs)
+  both_so : (s : Server) (es fs : List Effect) → AllByRecursion (PartSo m s) es → AllByRecursion (PartSo m s) fs →
+      AllByRecursion (PartSo m s) (es ++ fs)
   both_so s es fs a b = all_both (PartSo m s) es fs a b
 
   same : Serves m t.server t.server
   same = record { told = λ u is. is; voted = λ u is. inl is }
 
-  answered : (to : ℕ) (h : Head) (v : Parts) (outs : List Effect) (o : Option Reply) → Serves m t.server v.server → AllByRecursion (PartSo m v.server) outs → ServesSo (sends_answer to h v outs o)
+  answered : (to : ℕ) (h : Head) (v : Parts) (outs : List Effect) (o : Option Reply) → Serves m t.server v.server →
+      AllByRecursion (PartSo m v.server) outs → ServesSo (sends_answer to h v outs o)
   answered to h v outs None s so = tt
-  answered to h v outs (Some r) s so = (s, λ mine. both_so v.server outs (Send to (response (asked_by h) r) ∷ []) so (quiet_response v.server to (asked_by h) r, tt))
+  answered to h v outs (Some r) s so =
+      (s, λ mine. both_so v.server outs (Send to (response (asked_by h) r) ∷ []) so (quiet_response v.server to (asked_by h) r, tt))
 
   with_it : (f : Naming → Handled) (o : Option Naming) → ((q : Naming) → ServesSo (f q)) → ServesSo (if_naming f o)
   with_it f None each = tt
   with_it f (Some q) each = each q
 
   asked : (h : Head) (a : Ask) → asks m ≡ Some (h, a) → ServesSo (serve n d t from h a)
-  asked h (ask.Bind x include avoid) is = with_it _ t.naming (λ q. let r = naming.bind h.path x include avoid d.names q in answered from h (with_naming t r.part) r.outs (option_map Reply.Bound r.reply) same (naming_so t.server r.outs (bind_own h.path x include avoid d.names q)))
+  asked h (ask.Bind x include avoid) is =
+      with_it _ t.naming (λ q. let r = naming.bind h.path x include avoid d.names q in answered from h (with_naming t r.part) r.outs
+      (option_map Reply.Bound r.reply) same (naming_so t.server r.outs (bind_own h.path x include avoid d.names q)))
   asked h (ask.Load x) is = load (holder_of (object x) d.store)
     where
       held : (o : Option ObjectState) → ServesSo (load_held from h t o)
@@ -239,29 +244,42 @@ module _ (n : ℕ) (d : Disk) (t : Parts) (from : ℕ) (m : Message) where
       load None = held (held_at (object x) d.store)
   asked h (ask.Activate b st) is =
       let r = server.activate n h.path b st t.server in
-      answered from h (with_server t r.part) r.outs (option_map Reply.Activated r.reply) (record { told = λ u on. told_stays t.server r.part (activate_follows n h.path b st t.server) u on; voted = λ u on. inl (fewer_activate n h.path b st t.server u on) }) (server_so r.part r.outs (activate_own n h.path b st t.server))
-  asked h (ask.Record x b i g) is = with_it _ t.naming (λ q. let r = naming.note h.path x b i g q in answered from h (with_naming t r.part) r.outs (option_map Reply.Noted r.reply) same (naming_so t.server r.outs (note_own h.path x b i g q)))
+      answered from h (with_server t r.part) r.outs (option_map Reply.Activated r.reply) (record {
+        told = λ u on. told_stays t.server r.part (activate_follows n h.path b st t.server) u on;
+        voted = λ u on. inl (fewer_activate n h.path b st t.server u on);
+      }) (server_so r.part r.outs (activate_own n h.path b st t.server))
+  asked h (ask.Record x b i g) is = with_it _ t.naming (λ q. let r = naming.note h.path x b i g q in answered from h (with_naming t r.part)
+      r.outs (option_map Reply.Noted r.reply) same (naming_so t.server r.outs (note_own h.path x b i g q)))
   asked h (ask.Invoke x b i ends o) is =
       let r = server.invoke n h x b i ends o t.server in
-      answered from h (with_server t r.part) r.outs (option_map Reply.Invoked r.reply) (record { told = λ u on. told_stays t.server r.part (invoke_follows n h x b i ends o t.server) u on; voted = λ u on. inl (fewer_invoke n h x b i ends o t.server u on) }) (server_so r.part r.outs (invoke_own n h x b i ends o t.server))
+      answered from h (with_server t r.part) r.outs (option_map Reply.Invoked r.reply) (record {
+        told = λ u on. told_stays t.server r.part (invoke_follows n h x b i ends o t.server) u on;
+        voted = λ u on. inl (fewer_invoke n h x b i ends o t.server u on);
+      }) (server_so r.part r.outs (invoke_own n h x b i ends o t.server))
   asked h (ask.Vote i ties ends) is =
       let r = server.vote n h.path i ties ends t.server in
       answered from h (with_server t r.part) r.outs (option_map Reply.Voted r.reply) (record {
         told = λ u on. told_stays t.server r.part (vote_follows n h.path i ties ends t.server) u on;
-        voted = λ u on. ⊎_elim (λ old. inl old) (λ new. inr (record { head = h; ties = ties; ends = ends; asking = is ∙ ap (λ j. Some (h, ask.Vote j ties ends)) new.1; top = sym new.0 })) (voted_by n h.path i ties ends t.server u on);
+        voted = λ u on. ⊎_elim (λ old. inl old) (λ new. inr
+            (record { head = h; ties = ties; ends = ends; asking = is ∙ ap (λ j. Some (h, ask.Vote j ties ends)) new.1; top = sym new.0 }))
+            (voted_by n h.path i ties ends t.server u on);
       }) (server_so r.part r.outs (vote_own n h.path i ties ends t.server))
   asked h (ask.Prepare states) is = by (is_prepared (actor h.path) d.store)
     where
       new : (a : Prep) → ServesSo (prepare_by n states from h t a)
-      new Ready = answered from h t (Do Look ∷ Do (Prepare role.Store (actor h.path) states) ∷ Say (body.Prepared n (actor h.path) role.Store) ∷ []) (Some (Reply.Prepared prepared.Yes)) same (tt, (tt, (tt, tt)))
+      new Ready = answered from h t (Do Look ∷ Do (Prepare role.Store (actor h.path) states)
+          ∷ Say (body.Prepared n (actor h.path) role.Store) ∷ []) (Some (Reply.Prepared prepared.Yes)) same (tt, (tt, (tt, tt)))
       new (Already u) = tt
       new (Old u v) = answered from h t (Do Look ∷ []) (Some (Reply.Prepared (prepared.Old u.num v))) same (tt, tt)
       new (InDoubt u holder) = answered from h t (Do Look ∷ []) (Some (Reply.Prepared (prepared.InDoubt u.num holder))) same (tt, tt)
 
-      by : (b : Bool) → ServesSo (cond b (sends_answer from h t [] (Some (Reply.Prepared prepared.Yes))) (prepare_by n states from h t (prepare_answer (actor h.path) states d.store)))
+      by : (b : Bool) → ServesSo (cond b (sends_answer from h t [] (Some (Reply.Prepared prepared.Yes)))
+          (prepare_by n states from h t (prepare_answer (actor h.path) states d.store)))
       by true = answered from h t [] (Some (Reply.Prepared prepared.Yes)) same tt
       by false = new (prepare_answer (actor h.path) states d.store)
-  asked h (ask.Confirm grants excluded included) is = with_it _ t.naming (λ q. let r = confirm h.path grants excluded included d.names q in answered from h (with_naming t r.part) r.outs (option_map Reply.Confirmed r.reply) same (naming_so t.server r.outs (confirm_own h.path grants excluded included d.names q)))
+  asked h (ask.Confirm grants excluded included) is =
+      with_it _ t.naming (λ q. let r = confirm h.path grants excluded included d.names q in answered from h (with_naming t r.part) r.outs
+      (option_map Reply.Confirmed r.reply) same (naming_so t.server r.outs (confirm_own h.path grants excluded included d.names q)))
 
   coord_so : (r : Served Coord (Unit {0})) → (is_for_parts m ≡ true → ⊥) → ServesSo (coord_heard t r)
   coord_so r apart = by r.reply
@@ -270,13 +288,19 @@ module _ (n : ℕ) (d : Disk) (t : Parts) (from : ℕ) (m : Message) where
       by None = tt
       by (Some u) = (same, λ mine. absurd (apart mine))
 
-  ends_so : (ack : Bool) (ends : List (Uid × End)) (o : Option (Uid × End)) → last_end ends ≡ o → ((e : Uid × End) → ack ≡ true → o ≡ Some e → demanded m ≡ Some e.0) → ServesSo (handle_ends n d t from ack ends o)
+  ends_so : (ack : Bool) (ends : List (Uid × End)) (o : Option (Uid × End)) → last_end ends ≡ o →
+      ((e : Uid × End) → ack ≡ true → o ≡ Some e → demanded m ≡ Some e.0) → ServesSo (handle_ends n d t from ack ends o)
   ends_so ack ends None is wants = (same, λ mine. tt)
   ends_so ack ends (Some e) is wants =
       let z = server.told n ends t.server in
       let o = naming_told e.0 e.1 d.names t.naming in (
-        record { told = λ u on. told_stays t.server z.part (told_follows n ends t.server) u on; voted = λ u on. inl (fewer_told n ends t.server u on) },
-        λ mine. both_so z.part (store_told n e.0 e.1 d.store ++ o.outs ++ z.outs) (ack_told from e.0 ack) (both_so z.part (store_told n e.0 e.1 d.store ++ o.outs) z.outs (both_so z.part (store_told n e.0 e.1 d.store) o.outs (stored (is_prepared e.0 d.store) e.1) (said t.naming)) (server_so z.part z.outs (ends_own n ends t.server))) (acks ack refl),
+        record {
+          told = λ u on. told_stays t.server z.part (told_follows n ends t.server) u on;
+          voted = λ u on. inl (fewer_told n ends t.server u on);
+        },
+        λ mine. both_so z.part (store_told n e.0 e.1 d.store ++ o.outs ++ z.outs) (ack_told from e.0 ack)
+            (both_so z.part (store_told n e.0 e.1 d.store ++ o.outs) z.outs (both_so z.part (store_told n e.0 e.1 d.store) o.outs
+            (stored (is_prepared e.0 d.store) e.1) (said t.naming)) (server_so z.part z.outs (ends_own n ends t.server))) (acks ack refl),
       )
     where
       after : Server
@@ -292,11 +316,19 @@ module _ (n : ℕ) (d : Disk) (t : Parts) (from : ℕ) (m : Message) where
       said (Some q) = naming_so after (naming.told e.0 e.1 d.names q).outs (told_own e.0 e.1 d.names q)
 
       acks : (b : Bool) → ack ≡ b → AllByRecursion (PartSo m after) (ack_told from e.0 b)
-      acks true on = ((record { told = refl; wants = refl; asks_none = refl }, λ u is_it. let one : e.0 ≡ u = some_is is_it in (wants e on refl ∙ ap Some one, subst (λ w. is_told w after ≡ true) one (all_told n ends t.server e (last_in ends e is)))), tt)
+      acks true on = (
+        (
+          record { told = refl; wants = refl; asks_none = refl },
+          λ u is_it. let one : e.0 ≡ u = some_is is_it in
+              (wants e on refl ∙ ap Some one, subst (λ w. is_told w after ≡ true) one (all_told n ends t.server e (last_in ends e is))),
+        ),
+        tt,
+      )
       acks false on = tt
 
   other : (q : Message) → q ≡ m → ServesSo (handle_other n d t from q)
-  other (message.Told q) is = ends_so q.ack q.ends (last_end q.ends) refl (λ e on last. ap demanded (sym is) ∙ ap (λ b. demanded_if b q.ends) on ∙ ap (option_map (λ (e : Uid × End). e.0)) last)
+  other (message.Told q) is = ends_so q.ack q.ends (last_end q.ends) refl
+      (λ e on last. ap demanded (sym is) ∙ ap (λ b. demanded_if b q.ends) on ∙ ap (option_map (λ (e : Uid × End). e.0)) last)
   other (message.Acked q) is = coord_so (acked from q.act d.intents t.coord) (λ mine. absurd (cc (ap is_for_parts is ∙ mine)))
   other (message.Query q) is = (same, λ mine. absurd (cc (ap is_for_parts is ∙ mine)))
   other (message.Hello q) is = (same, λ mine. queries_quiet t.server (filter (is_earlier q.node q.inc) (holders d t)))

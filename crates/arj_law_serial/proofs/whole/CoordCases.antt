@@ -1,26 +1,23 @@
 -- What a message does to a node's coordinator: nothing, or it takes an answer or an acknowledgement.
-use Rattle.std.proofs.Common.{◌≡◌, ◌∙◌, ℕ, Bool, true, false, List, Option, Some, None, refl, sym, ap, subst}
-use Rattle.std.specs.Prelude.{is_some}
-use Rattle.arj_protocol.specs.Words.{Asked, Message, Uid, asks}
-use Rattle.arj_protocol.specs.Words.message
-use Rattle.arj_protocol.specs.Ask.{Reply, answers}
-use Rattle.arj_protocol.specs.Asking.{heard}
-use Rattle.arj_protocol.specs.Effect.{Disk, Effect}
-use Rattle.arj_protocol.specs.Ending.{acked, answer_query}
-use Rattle.arj_protocol.specs.Node.{Parts, Took, handle}
-use Rattle.arj_protocol.specs.Says.{AreAll}
-use Rattle.arj_law_lock_view.specs.running.World.{is_for_parts}
-use Rattle.arj_law_lock_view.proofs.running.KeptSteps.{coordinated, handled_answer, is_acked, is_answer, is_query, response_is, took_heard}
-use Rattle.arj_law_lock_view.proofs.running.LeftSteps.{AreSentTo, Leaves, message_left}
-use Rattle.arj_law_lock_view.proofs.running.WalkSteps.{leaves}
+use Rattle.arj_law_parts.proofs.Words
+use Words.{◌≡◌, ◌∙◌, ℕ, Bool, true, false, List, Option, Some, None, refl, sym, ap, subst, is_some, Asked, Message, Uid, asks, Reply}
+use Words.{answers, heard, Disk, Effect, acked, answer_query, Parts, Took, handle, AreAll}
+use Words.message
+use Rattle.arj_law_serial.proofs.Terms
+use Terms.{is_for_parts, coordinated, handled_answer, is_acked, is_answer, is_query, response_is, took_heard, AreSentTo, Leaves}
+use Terms.{message_left, leaves}
 
 pub data CoordCase (d : Disk) (t : Parts) (from : ℕ) (m : Message) (v : Parts) (outs : List Effect) : Type 0 where
   OfParts : is_for_parts m ≡ true → v.coord ≡ t.coord → AreAll leaves outs → AreSentTo from (asks m) outs → CoordCase d t from m v outs
-  Asks : (u : Uid) → m ≡ message.Query (record { act = u }) → v.coord ≡ t.coord → answer_query from u d.intents t.coord ≡ outs → CoordCase d t from m v outs
-  Heard : (a : Asked) (r : Reply) → answers m ≡ Some (a, r) → (let q = heard from a r d.intents t.coord in q.part) ≡ v.coord → (let q = heard from a r d.intents t.coord in q.outs) ≡ outs → CoordCase d t from m v outs
-  Acks : (u : Uid) → m ≡ message.Acked (record { act = u }) → (let q = acked from u d.intents t.coord in q.part) ≡ v.coord → (let q = acked from u d.intents t.coord in q.outs) ≡ outs → CoordCase d t from m v outs
+  Asks : (u : Uid) → m ≡ message.Query (record { act = u }) → v.coord ≡ t.coord → answer_query from u d.intents t.coord ≡ outs →
+      CoordCase d t from m v outs
+  Heard : (a : Asked) (r : Reply) → answers m ≡ Some (a, r) → (let q = heard from a r d.intents t.coord in q.part) ≡ v.coord →
+      (let q = heard from a r d.intents t.coord in q.outs) ≡ outs → CoordCase d t from m v outs
+  Acks : (u : Uid) → m ≡ message.Acked (record { act = u }) → (let q = acked from u d.intents t.coord in q.part) ≡ v.coord →
+      (let q = acked from u d.intents t.coord in q.outs) ≡ outs → CoordCase d t from m v outs
 
-pub coord_case : (k : ℕ) (d : Disk) (t v : Parts) (from : ℕ) (m : Message) (outs : List Effect) → handle k d t from m ≡ Took v outs → CoordCase d t from m v outs
+pub coord_case : (k : ℕ) (d : Disk) (t v : Parts) (from : ℕ) (m : Message) (outs : List Effect) → handle k d t from m ≡ Took v outs →
+    CoordCase d t from m v outs
 coord_case k d t v from m outs is = by (is_for_parts m) refl
   where
     heard_it : (o : Option (Asked × Reply)) → answers m ≡ o → is_some o ≡ true → CoordCase d t from m v outs
@@ -37,10 +34,12 @@ coord_case k d t v from m outs is = by (is_for_parts m) refl
         let q = took_heard t v (acked from u d.intents t.coord) outs taken in
         Acks u (is_acked m u of) (ap (λ (z : Parts). z.coord) q.0) q.1
     other apart (Some (u, false)) of =
-        let taken : Took t (answer_query from u d.intents t.coord) ≡ Took v outs = subst (λ (z : Message). handle k d t from z ≡ Took v outs) (is_query m u of) is in
+        let taken : Took t (answer_query from u d.intents t.coord) ≡ Took v outs = subst
+        (λ (z : Message). handle k d t from z ≡ Took v outs) (is_query m u of) is in
         let same : t ≡ v = cc taken in
         Asks u (is_query m u of) (ap (λ (z : Parts). z.coord) (sym same)) (cc taken)
 
     by : (b : Bool) → is_for_parts m ≡ b → CoordCase d t from m v outs
-    by true mine = let l = subst (Leaves t from (asks m)) is (message_left k d t from m mine) in let w = l.0 in OfParts mine w.coord w.plain l.1
+    by true mine = let l = subst (Leaves t from (asks m)) is (message_left k d t from m mine) in let w = l.0 in
+        OfParts mine w.coord w.plain l.1
     by false apart = other apart (coordinated m) refl

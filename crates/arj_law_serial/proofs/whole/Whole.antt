@@ -1,52 +1,20 @@
 -- All that is known of the protocol alone is kept, for the actions that were begun, where few bindings were made.
-use Rattle.std.proofs.Common.{ℕ, true, List, ◌∷◌, Some, refl, subst}
-use Rattle.std.specs.Prelude.{⊤}
-use Rattle.arj_protocol.specs.Words.{Header}
-use Rattle.arj_protocol.specs.Asking.{again_all, begin_action}
-use Rattle.arj_protocol.specs.Follow.{tick_outs}
-use Rattle.arj_protocol.specs.Node.{with_coord}
-use Rattle.arj_protocol.specs.Step.{acts, parent_of}
-use Rattle.arj_protocol.specs.World.{is_serial_kind}
-use Rattle.arj_law_parts.specs.parts.Actions.{Action, paths_of}
-use Rattle.arj_law_parts.proofs.parts.Begun.{begun_tree}
-use Rattle.arj_law_runs.proofs.kept.Handled.{good_coord}
-use Rattle.arj_law_parts.specs.moves.Seen.{given, up}
-use Rattle.arj_promise.specs.Runs.{Seen}
-use Rattle.arj_law_runs.specs.calls.Bindings.{AreSaid}
-use Rattle.arj_law_runs.specs.calls.Runs.{KnowsFew}
+use Rattle.arj_law_parts.proofs.Words
+use Words.{ℕ, true, List, ◌∷◌, Some, refl, subst, ⊤, Header, again_all, begin_action, tick_outs, with_coord, acts, parent_of}
+use Words.{is_serial_kind, Seen}
+use Rattle.arj_law_serial.proofs.Terms
+use Terms.{Action, paths_of, begun_tree, good_coord, given, up, AreSaid, KnowsFew, IsKept, lines_keep, ArePastIn, AreRecorded, KeepsOf}
+use Terms.{begins_in, HasObject, HoldsEntry, KnowsParted, AreUppersOf, WorksAreKnown, parted_keep, uppers_of, works_keep, AbortsAreKnown}
+use Terms.{AcksAreKnown, AvoidsAreKnown, HoldsNames, TopsAreKnown, KnowsWhole}
+use Rattle.arj_law_disk_view.proofs.running
+use running.RecordWalks.{KeptBy, format_recorded, kept_walk, message_kept, recorded_more, restart_recorded, stop_recorded, tick_kept}
+use running.Telling.{acked_kept, acts_kept, heard_kept, same_kept}
+use Rattle.arj_law_lock_view.proofs.facts.{Entries.entries_keep, Grants.grants_keep, Requests.requests_keep}
+use Rattle.arj_law_lock_view.specs.facts.{Grants.GrantsAreKnown, Requests.RequestsAreKnown}
 use Rattle.arj_law_runs.proofs.calls.MadeLines.{counts_are_said}
-use Rattle.arj_law_runs.specs.journal.Knows.{IsKept}
-use Rattle.arj_law_runs.proofs.journal.Runs.{lines_keep}
-use Rattle.arj_law_serial.specs.past.Told.{ArePastIn}
 use Rattle.arj_law_serial.proofs.past.Past.{past_of}
-use Rattle.arj_law_disk_view.specs.running.Records.{AreRecorded}
-use Rattle.arj_law_disk_view.proofs.running.RecordWalks.{KeptBy, format_recorded, kept_walk, message_kept, recorded_more, restart_recorded, stop_recorded, tick_kept}
-use Rattle.arj_law_disk_view.proofs.running.Telling.{acked_kept, acts_kept, heard_kept, same_kept}
-use Rattle.arj_law_lock_view.specs.facts.Acts.{KeepsOf, begins_in}
-use Rattle.arj_law_lock_view.specs.facts.Entries.{HasObject, HoldsEntry}
-use Rattle.arj_law_lock_view.specs.facts.Grants.{GrantsAreKnown}
-use Rattle.arj_law_lock_view.specs.facts.Parted.{KnowsParted}
-use Rattle.arj_law_lock_view.specs.facts.Requests.{RequestsAreKnown}
-use Rattle.arj_law_lock_view.specs.facts.Uppers.{AreUppersOf}
-use Rattle.arj_law_lock_view.specs.facts.Worlds.{WorksAreKnown}
-use Rattle.arj_law_lock_view.proofs.facts.Entries.{entries_keep}
-use Rattle.arj_law_lock_view.proofs.facts.Grants.{grants_keep}
-use Rattle.arj_law_lock_view.proofs.facts.PartWalks.{parted_keep}
-use Rattle.arj_law_lock_view.proofs.facts.Requests.{requests_keep}
-use Rattle.arj_law_lock_view.proofs.facts.UpperWalks.{uppers_of}
-use Rattle.arj_law_lock_view.proofs.facts.Works.{works_keep}
-use Rattle.arj_law_serial.specs.whole.Aborts.{AbortsAreKnown}
-use Rattle.arj_law_serial.specs.whole.Acks.{AcksAreKnown}
-use Rattle.arj_law_serial.specs.whole.Avoids.{AvoidsAreKnown}
-use Rattle.arj_law_serial.specs.whole.Tops.{HoldsNames, TopsAreKnown}
-use Rattle.arj_law_serial.specs.whole.Whole.{KnowsWhole}
-use Rattle.arj_law_serial.proofs.whole.AbortRuns.{AbortsNeed, aborts_of}
-use Rattle.arj_law_serial.proofs.whole.AckWalks.{AcksNeed}
-use Rattle.arj_law_serial.proofs.whole.AckRuns.{acks_of}
-use Rattle.arj_law_serial.proofs.whole.AvoidWalks.{avoids_of}
-use Rattle.arj_law_serial.proofs.whole.Names.{held_names}
-use Rattle.arj_law_serial.proofs.whole.Of.{of_as, of_both, of_kept, of_more}
-use Rattle.arj_law_serial.proofs.whole.TopWalks.{tops_of}
+use Rattle.arj_law_serial.proofs.whole.{AbortRuns.AbortsNeed, AbortRuns.aborts_of, AckRuns.acks_of, AckWalks.AcksNeed, AvoidWalks.avoids_of}
+use Rattle.arj_law_serial.proofs.whole.{Names.held_names, Of.of_as, Of.of_both, Of.of_kept, Of.of_more, TopWalks.tops_of}
 
 -- ---- records
 
@@ -55,12 +23,18 @@ records_of hd = record {
   quiet = λ begun e bs M quiet more good p. p;
   stop = λ begun e k d live M more good p. stop_recorded begun e k d live M p;
   message = λ begun e k d t v from m outs M more good p there meant is. kept_walk begun e k d t v outs M
-      (subst (KeptBy begun t.coord) is (message_kept begun k d t from (λ a r. heard_kept begun (paths_of begun) (begun_tree begun good.begun) from a r d.intents t.coord (good_coord e k d t M (begun, good))) (λ u. acked_kept begun from u d.intents t.coord) m)) p;
+      (subst (KeptBy begun t.coord) is (message_kept begun k d t from (λ a r. heard_kept begun (paths_of begun) (begun_tree begun
+      good.begun) from a r d.intents t.coord (good_coord e k d t M (begun, good))) (λ u. acked_kept begun from u d.intents t.coord) m))
+      p;
   act = λ begun e k d t i M is free more good p. let did = acts i d.intents t.coord in
-      kept_walk begun e k d t (with_coord t did.part) did.outs M (acts_kept begun (paths_of begun) (begun_tree begun good.begun) d.intents t.coord (good_coord e k d t M (begun, good)) hd i free) p;
-  begin = λ begun e k d t l how parent M new may free more good p. let did = begin_action l how parent (parent_of parent t.coord) t.coord in let a = begins_in how parent t in
-      kept_walk (a ∷ begun) e k d t (with_coord t did.part) did.outs (given l (record { node = k; serial = is_serial_kind how }) M) (same_kept (a ∷ begun) t.coord did.part did.outs refl refl) (recorded_more a begun (up k d t M) p);
-  tick = λ begun e k d t M more good p. kept_walk begun e k d t (with_coord t (again_all t.coord.doings t.coord).part) (tick_outs (record { number = k; disk = d; live = Some t }) t) M (tick_kept begun k d t) p;
+      kept_walk begun e k d t (with_coord t did.part) did.outs M (acts_kept begun (paths_of begun) (begun_tree begun good.begun) d.intents
+      t.coord (good_coord e k d t M (begun, good)) hd i free) p;
+  begin = λ begun e k d t l how parent M new may free more good p. let did = begin_action l how parent (parent_of parent t.coord) t.coord in
+      let a = begins_in how parent t in
+      kept_walk (a ∷ begun) e k d t (with_coord t did.part) did.outs (given l (record { node = k; serial = is_serial_kind how }) M)
+      (same_kept (a ∷ begun) t.coord did.part did.outs refl refl) (recorded_more a begun (up k d t M) p);
+  tick = λ begun e k d t M more good p. kept_walk begun e k d t (with_coord t (again_all t.coord.doings t.coord).part)
+      (tick_outs (record { number = k; disk = d; live = Some t }) t) M (tick_kept begun k d t) p;
   restart = λ begun e k d M more good p. restart_recorded begun hd e k d M p;
   first = format_recorded hd;
 }
@@ -106,20 +80,25 @@ module _ (hd : Header) (x : ℕ) (has : HasObject hd x) where
   more Q R one = of_more hd Few (With Q) R (λ begun M h. h.0) one
 
   named : KeepsOf hd Few Named
-  named = of_both hd Few (AreUppersOf HoldsNames) TopsAreKnown (of_more hd (λ begun M. ⊤) (With TopsAreKnown) (AreUppersOf HoldsNames) (λ begun M h. tt) (uppers_of HoldsNames held_names hd)) (tops_of hd)
+  named = of_both hd Few (AreUppersOf HoldsNames) TopsAreKnown (of_more hd (λ begun M. ⊤) (With TopsAreKnown) (AreUppersOf HoldsNames)
+      (λ begun M h. tt) (uppers_of HoldsNames held_names hd)) (tops_of hd)
 
   working : KeepsOf hd Few Working
-  working = of_both hd Few (λ begun M. WorksAreKnown M) (λ begun M. AvoidsAreKnown M) (of_kept hd (With (λ begun M. AvoidsAreKnown M)) WorksAreKnown (works_keep hd))
+  working = of_both hd Few (λ begun M. WorksAreKnown M) (λ begun M. AvoidsAreKnown M)
+      (of_kept hd (With (λ begun M. AvoidsAreKnown M)) WorksAreKnown (works_keep hd))
       (of_more hd (λ begun M. _) (With (λ begun M. WorksAreKnown M)) (λ begun M. AvoidsAreKnown M) (λ begun M h. h.1.0.1) (avoids_of hd))
 
   granted : KeepsOf hd Few Granted
-  granted = of_both hd Few (λ begun M. GrantsAreKnown M) (λ begun M. RequestsAreKnown M) (of_kept hd (With (λ begun M. RequestsAreKnown M)) GrantsAreKnown (grants_keep hd)) (of_kept hd (With (λ begun M. GrantsAreKnown M)) RequestsAreKnown (requests_keep hd))
+  granted = of_both hd Few (λ begun M. GrantsAreKnown M) (λ begun M. RequestsAreKnown M) (of_kept hd (With (λ begun M. RequestsAreKnown M))
+      GrantsAreKnown (grants_keep hd)) (of_kept hd (With (λ begun M. GrantsAreKnown M)) RequestsAreKnown (requests_keep hd))
 
   counted : KeepsOf hd Few Counted
-  counted = of_both hd Few (λ begun M. AreSaid M) (λ begun M. HoldsEntry x M) (of_kept hd (With (λ begun M. HoldsEntry x M)) AreSaid (counts_are_said hd)) (of_kept hd (With (λ begun M. AreSaid M)) (HoldsEntry x) (entries_keep hd x has))
+  counted = of_both hd Few (λ begun M. AreSaid M) (λ begun M. HoldsEntry x M) (of_kept hd (With (λ begun M. HoldsEntry x M)) AreSaid
+      (counts_are_said hd)) (of_kept hd (With (λ begun M. AreSaid M)) (HoldsEntry x) (entries_keep hd x has))
 
   ended : KeepsOf hd Few Ended
-  ended = of_both hd Few AreRecorded KnowsParted (of_more hd (λ begun M. ⊤) (With KnowsParted) AreRecorded (λ begun M h. tt) (records_of hd)) (of_more hd (λ begun M. ⊤) (With AreRecorded) KnowsParted (λ begun M h. tt) (parted_keep hd))
+  ended = of_both hd Few AreRecorded KnowsParted (of_more hd (λ begun M. ⊤) (With KnowsParted) AreRecorded (λ begun M h. tt)
+      (records_of hd)) (of_more hd (λ begun M. ⊤) (With AreRecorded) KnowsParted (λ begun M h. tt) (parted_keep hd))
 
   recorded : KeepsOf hd Few Recorded
   recorded = of_both hd Few Counted Ended (more Ended Counted counted) (more Counted Ended ended)
@@ -146,20 +125,43 @@ module _ (hd : Header) (x : ℕ) (has : HasObject hd x) where
   Whole begun M = All begun M × Ends begun M
 
   told : KeepsOf hd (With All) Told
-  told = of_both hd (With All) (λ begun M. IsKept M) AbortsAreKnown (of_kept hd (λ begun M. With All begun M × AbortsAreKnown begun M) IsKept (lines_keep hd))
-      (of_more hd AbortsNeed (λ begun M. With All begun M × IsKept M) AbortsAreKnown (λ begun M h. ((h.1.1, (let z = h.0.1 in z.1.1.1.1)), ((let z = h.0.1 in z.0.1), (let z = h.0.1 in z.1.1.1.0)))) (aborts_of hd))
+  told = of_both hd (With All) (λ begun M. IsKept M) AbortsAreKnown
+      (of_kept hd (λ begun M. With All begun M × AbortsAreKnown begun M) IsKept (lines_keep hd))
+      (of_more hd AbortsNeed (λ begun M. With All begun M × IsKept M) AbortsAreKnown
+      (λ begun M h. ((h.1.1, (let z = h.0.1 in z.1.1.1.1)), ((let z = h.0.1 in z.0.1), (let z = h.0.1 in z.1.1.1.0)))) (aborts_of hd))
 
   acked : KeepsOf hd (With All) Acked
-  acked = of_both hd (With All) ArePastIn (AcksAreKnown true) (of_more hd (λ begun M. ⊤) (λ begun M. With All begun M × AcksAreKnown true begun M) ArePastIn (λ begun M h. tt) (past_of hd))
-      (of_more hd (AcksNeed true) (λ begun M. With All begun M × ArePastIn begun M) (AcksAreKnown true) (λ begun M h. ((λ counted. h.0.0), (h.1, (let z = h.0.1 in (z.1.1.1.0, (z.1.1.1.1, z.1.0.0.0)))))) (acks_of hd true))
+  acked = of_both hd (With All) ArePastIn (AcksAreKnown true)
+      (of_more hd (λ begun M. ⊤) (λ begun M. With All begun M × AcksAreKnown true begun M) ArePastIn (λ begun M h. tt) (past_of hd))
+      (of_more hd (AcksNeed true) (λ begun M. With All begun M × ArePastIn begun M) (AcksAreKnown true)
+      (λ begun M h. ((λ counted. h.0.0), (h.1, (let z = h.0.1 in (z.1.1.1.0, (z.1.1.1.1, z.1.0.0.0)))))) (acks_of hd true))
 
   ends : KeepsOf hd (With All) Ends
-  ends = of_both hd (With All) Told Acked (of_more hd (With All) (λ begun M. With All begun M × Acked begun M) Told (λ begun M h. h.0) told) (of_more hd (With All) (λ begun M. With All begun M × Told begun M) Acked (λ begun M h. h.0) acked)
+  ends = of_both hd (With All) Told Acked (of_more hd (With All) (λ begun M. With All begun M × Acked begun M) Told (λ begun M h. h.0) told)
+      (of_more hd (With All) (λ begun M. With All begun M × Told begun M) Acked (λ begun M h. h.0) acked)
 
   whole : KeepsOf hd Few Whole
   whole = of_both hd Few All Ends (more Ends All all) ends
 
   pub whole_of : KeepsOf hd (λ begun M. KnowsFew M) (KnowsWhole x)
   whole_of = of_as hd Few Whole (KnowsWhole x)
-      (λ begun M w. let z = w.0 in record { names = z.0.0; tops = z.0.1; works = z.1.0.0.0; avoids = z.1.0.0.1; grants = z.1.0.1.0; requests = z.1.0.1.1; counts = z.1.1.0.0; entry = z.1.1.0.1; records = z.1.1.1.0; parted = z.1.1.1.1; written = w.1.0.0; aborts = w.1.0.1; past = w.1.1.0; acks = w.1.1.1 })
-      (λ begun M w. (((w.names, w.tops), (((w.works, w.avoids), (w.grants, w.requests)), ((w.counts, w.entry), (w.records, w.parted)))), ((w.written, w.aborts), (w.past, w.acks)))) whole
+      (λ begun M w. let z = w.0 in record {
+        names = z.0.0;
+        tops = z.0.1;
+        works = z.1.0.0.0;
+        avoids = z.1.0.0.1;
+        grants = z.1.0.1.0;
+        requests = z.1.0.1.1;
+        counts = z.1.1.0.0;
+        entry = z.1.1.0.1;
+        records = z.1.1.1.0;
+        parted = z.1.1.1.1;
+        written = w.1.0.0;
+        aborts = w.1.0.1;
+        past = w.1.1.0;
+        acks = w.1.1.1;
+      })
+      (λ begun M w. (
+        ((w.names, w.tops), (((w.works, w.avoids), (w.grants, w.requests)), ((w.counts, w.entry), (w.records, w.parted)))),
+        ((w.written, w.aborts), (w.past, w.acks)),
+      )) whole

@@ -1,29 +1,17 @@
 -- What is kept in whole runs, and which objects are called in them.
-use Rattle.std.proofs.Common.{Contains, ℕ, List}
-use Rattle.arj_lock.proofs.Members.{in_from}
-use Rattle.arj_model.specs.Actions.{Placed}
-use Rattle.arj_model.specs.Last.{Inclusion, included}
-use Rattle.arj_protocol.specs.Words.{Header}
-use Rattle.arj_protocol.specs.World.{World}
-use Rattle.arj_law_parts.specs.parts.Actions.{Action}
-use Rattle.arj_promise.specs.Runs.{world_by}
-use Rattle.arj_promise.specs.Runs.{Seen}
-use Rattle.arj_law_runs.specs.calls.Reached.{Keeping}
-use Rattle.arj_law_runs.specs.calls.Runs.{KnowsFew}
-use Rattle.arj_law_runs.proofs.calls.Reaching.{moves_keep}
-use Rattle.arj_law_lock_view.specs.facts.Acts.{KeepsOf}
-use Rattle.arj_law_lock_view.specs.facts.Entries.{HasObject}
-use Rattle.arj_law_serial.specs.order.Seen.{IsCalled}
-use Rattle.arj_law_serial.specs.whole.Called.{IsIncluded}
+use Rattle.arj_law_parts.proofs.Words.{Contains, ℕ, List, in_from, Header, World, world_by, Seen}
+use Rattle.arj_law_serial.proofs.Terms
+use Terms.{Placed, Inclusion, included, Action, Keeping, KnowsFew, moves_keep, KeepsOf, HasObject, IsCalled, IsIncluded, KnowsWhole}
+use Rattle.arj_law_serial.proofs.whole
+use whole.{Of.of_both, Of.of_more, Whole.whole_of}
+use whole.CalledWalks.{called_there, calls_keep, included_there}
 use Rattle.arj_law_serial.specs.whole.Runs.{RunsCallObjects, RunsIncludeObjects}
-use Rattle.arj_law_serial.specs.whole.Whole.{KnowsWhole}
-use Rattle.arj_law_serial.proofs.whole.CalledWalks.{called_there, calls_keep, included_there}
-use Rattle.arj_law_serial.proofs.whole.Of.{of_both, of_more}
-use Rattle.arj_law_serial.proofs.whole.Whole.{whole_of}
 
 -- what is known of the protocol is kept with a relation that is kept beside it
-pub kept_beside : (hd : Header) (x : ℕ) → HasObject hd x → (E : List Action → Seen → Type 0) → KeepsOf hd (λ begun M. KnowsFew M × KnowsWhole x begun M) E → KeepsOf hd (λ begun M. KnowsFew M) (λ begun M. KnowsWhole x begun M × E begun M)
-kept_beside hd x has E kept = of_both hd (λ begun M. KnowsFew M) (KnowsWhole x) E (of_more hd (λ begun M. KnowsFew M) (λ begun M. KnowsFew M × E begun M) (KnowsWhole x) (λ begun M h. h.0) (whole_of hd x has)) kept
+pub kept_beside : (hd : Header) (x : ℕ) → HasObject hd x → (E : List Action → Seen → Type 0) → KeepsOf hd
+    (λ begun M. KnowsFew M × KnowsWhole x begun M) E → KeepsOf hd (λ begun M. KnowsFew M) (λ begun M. KnowsWhole x begun M × E begun M)
+kept_beside hd x has E kept = of_both hd (λ begun M. KnowsFew M) (KnowsWhole x) E
+    (of_more hd (λ begun M. KnowsFew M) (λ begun M. KnowsFew M × E begun M) (KnowsWhole x) (λ begun M h. h.0) (whole_of hd x has)) kept
 
 -- ---- objects that are called
 
@@ -33,7 +21,8 @@ kept_call_objects hd w keeping x called =
     let z = h.holds.1 in
     called_there hd x w.lines z.lines called
 
-pub kept_include_objects : (hd : Header) (w : World) → Keeping hd w → (i : Placed Inclusion) → Contains (included w.lines) i → IsIncluded hd i.it
+pub kept_include_objects : (hd : Header) (w : World) → Keeping hd w → (i : Placed Inclusion) → Contains (included w.lines) i →
+    IsIncluded hd i.it
 kept_include_objects hd w keeping i there =
     let h = keeping _ (calls_keep hd) in
     let z = h.holds.1 in

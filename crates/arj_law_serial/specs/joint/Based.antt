@@ -80,7 +80,8 @@ abbrev pub post_fits : ℕ → World → Fits
 post_fits x W = fits_of x (IsKnownState W) (λ st. ⊤)
 
 -- A Yes answers a request; if that asks to vote, for each binding of the object that it names this holds of each state of the object.
-pub record IsYesBased (x : ℕ) (IsSo : ObjectState → Type 0) (sent : List Post) (p : Post) (a : Asked) (states : List ObjectState) : Type 0 where
+pub record IsYesBased (x : ℕ) (IsSo : ObjectState → Type 0) (sent : List Post) (p : Post) (a : Asked) (states : List ObjectState) :
+    Type 0 where
   pub request : Post
   pub asked : In request sent
   pub from : (let r = request in r.from) ≡ p.to
@@ -89,19 +90,21 @@ pub record IsYesBased (x : ℕ) (IsSo : ObjectState → Type 0) (sent : List Pos
   pub ask : Ask
   pub is : asks (let r = request in r.message) ≡ Some (head, ask)
   pub of : asked_by head ≡ a
-  pub over : (inc : ℕ) (ties : List (ℕ × Binding)) (ends : List (Uid × End)) (b : Binding) (st : ObjectState) → ask ≡ vote.Vote inc ties ends → Contains {X = ℕ × Binding} ties (x, b) → Contains states st → st.uid ≡ object x → IsSo st
+  pub over : (inc : ℕ) (ties : List (ℕ × Binding)) (ends : List (Uid × End)) (b : Binding) (st : ObjectState) →
+      ask ≡ vote.Vote inc ties ends → Contains {X = ℕ × Binding} ties (x, b) → Contains states st → st.uid ≡ object x → IsSo st
 
 -- So it is at each node that is up, and of each message that was ever sent.
 pub record AreBased (f : Fixed) (x : ℕ) (S : lock.State) (W : World) (M : Seen) : Type 0 where
   pub copies : (k : ℕ) (n : Node) (t : Parts) → M.nodes k ≡ Some n → n.live ≡ Some t → CopiesAreBased x S W t.server
   pub coords : (k : ℕ) (n : Node) (t : Parts) → M.nodes k ≡ Some n → n.live ≡ Some t → CoordIsSo (coord_fits f x S W) t.coord
   pub posts : (p : Post) → In p M.sent → MessageIsSo (post_fits x W) p.message
-  pub yeses : (p : Post) (a : Asked) (states : List ObjectState) → In p M.sent → answers p.message ≡ Some (a, Reply.Voted (voted.Yes states)) → IsYesBased x (IsVotedState f x S W) M.sent p a states
+  pub yeses : (p : Post) (a : Asked) (states : List ObjectState) → In p M.sent →
+      answers p.message ≡ Some (a, Reply.Voted (voted.Yes states)) → IsYesBased x (IsVotedState f x S W) M.sent p a states
 
 -- ---- a decided top
 
--- It is decided, with what it wrote in its plan, which a server voted so in an earlier state of the lock machine, with its commit called and not
--- decided, and with a call of it that wasn't undone.
+-- It is decided, with what it wrote in its plan, which a server voted so in an earlier state of the lock machine, with its commit called
+-- and not decided, and with a call of it that wasn't undone.
 pub record WasVotedOver (f : Fixed) (x : ℕ) (u : Uid) (S : lock.State) (W : World) : Type 0 where
   pub decided : disk.decided W.disk (uid_number u) ≡ true
   pub state : ObjectState

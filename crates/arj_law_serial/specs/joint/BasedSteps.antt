@@ -45,7 +45,8 @@ StaysBased f x begun S W Z = (T : lock.State) (V : World) → Run S T → IsLate
 
 -- a committed top with a surviving write of the object was decided, with what was voted for it
 abbrev pub ArePlannedOver : Fixed → ℕ → lock.State → World → Type 0
-ArePlannedOver f x S W = (u : Uid) → (let a = S.action (f.act u) in a.stage) ≡ 3 → (c : Call) → machine.In c S.calls → c.write ≡ true → top c.act ≡ f.act u → Alive S c.act → WasVotedOver f x u S W
+ArePlannedOver f x S W = (u : Uid) → (let a = S.action (f.act u) in a.stage) ≡ 3 → (c : Call) → machine.In c S.calls → c.write ≡ true →
+    top c.act ≡ f.act u → Alive S c.act → WasVotedOver f x u S W
 
 -- So much is known of copies and votes, and of committed tops, where the codes of values and of their writers are apart.
 abbrev pub AreBasedSo : Fixed → ℕ → lock.State → World → Seen → Type 0
@@ -57,9 +58,11 @@ HeldAreKnown x W d = (y : ℕ) (st : ObjectState) → held_at (object y) d.store
 
 -- the number of what a commit waits for is that of its action's last request
 abbrev pub AreNumberedSo : Coord → Type 0
-AreNumberedSo c = (a : Asked) (q : Doing) (y : Machine) → doing_of a.act c ≡ Some q → q.now ≡ Committing y → (let p = plan_of y in p.req) ≡ q.req
+AreNumberedSo c = (a : Asked) (q : Doing) (y : Machine) → doing_of a.act c ≡ Some q → q.now ≡ Committing y →
+    (let p = plan_of y in p.req) ≡ q.req
 
--- What a node that is up knows by the protocol alone: answers are to what was asked, votes are used, and what its coordinator sends is true.
+-- What a node that is up knows by the protocol alone: answers are to what was asked, votes are used, and what its coordinator sends is
+-- true.
 pub record KnowsVoting (k from : ℕ) (d : Disk) (t : Parts) (m : Message) (M : Seen) : Type 0 where
   pub requests : (r : Asked × Reply) → answers m ≡ Some r → KnowsRequests M.sent k t.coord
   pub used : VotesAreUsed k t (up k d t M)
@@ -70,17 +73,22 @@ pub record KnowsVoting (k from : ℕ) (d : Disk) (t : Parts) (m : Message) (M : 
 
 -- A node takes a message: by what is known of copies and votes before it, so much is known along its effects, wherever a stop falls.
 abbrev pub MessagesKeepBased : Type 0
-MessagesKeepBased = (f : Fixed) (x k : ℕ) (begun : List Action) (S : lock.State) (W : World) (d : Disk) (t : Parts) (M : Seen) → AreApart f.code → Core W.disk → HasWriters W.disk → Run (start f.first) S → AreBased f x S W (up k d t M)
+MessagesKeepBased = (f : Fixed) (x k : ℕ) (begun : List Action) (S : lock.State) (W : World) (d : Disk) (t : Parts) (M : Seen) →
+    AreApart f.code → Core W.disk → HasWriters W.disk → Run (start f.first) S → AreBased f x S W (up k d t M)
     → Sees (view_of f x begun k) t.server S → ArePlannedOver f x S W → HeldAreKnown x W d
-    → (e from : ℕ) (m : Message) (v : Parts) (outs : List Effect) → In (record { from = from; to = k; message = m }) M.sent → is_meant t m ≡ true → handle k d t from m ≡ Took v outs → IsMessageShown (view_of f x begun k) t.server S m → KnowsVoting k from d t m M
+    → (e from : ℕ) (m : Message) (v : Parts) (outs : List Effect) → In (record { from = from; to = k; message = m }) M.sent → is_meant t m
+    ≡ true → handle k d t from m ≡ Took v outs → IsMessageShown (view_of f x begun k) t.server S m → KnowsVoting k from d t m M
     → Walks (StaysBased f x begun S W) e k outs (Up (StaysBased f x begun S W) k v) d M
 
 -- So it is where a coordinator goes on, or a node starts, that sends only states of which so much is known, and no vote.
 abbrev pub CoordinatorsKeepBased : Type 0
-CoordinatorsKeepBased = (f : Fixed) (x k : ℕ) (begun : List Action) (S : lock.State) (W : World) (d : Disk) (live : Option Parts) (M L : Seen) → Run (start f.first) S → AreBased f x S W (at k d live M) → L.nodes ≡ M.nodes → L.sent ≡ M.sent
-    → (e : ℕ) (v : Parts) (outs : List Effect) → CopiesAreBased x S W v.server → CoordIsSo (coord_fits f x S W) v.coord → AllSay (coord_fits f x S W) outs → AllByRecursion SendsNoYes outs
+CoordinatorsKeepBased = (f : Fixed) (x k : ℕ) (begun : List Action) (S : lock.State) (W : World) (d : Disk) (live : Option Parts)
+    (M L : Seen) → Run (start f.first) S → AreBased f x S W (at k d live M) → L.nodes ≡ M.nodes → L.sent ≡ M.sent
+    → (e : ℕ) (v : Parts) (outs : List Effect) → CopiesAreBased x S W v.server → CoordIsSo (coord_fits f x S W) v.coord →
+    AllSay (coord_fits f x S W) outs → AllByRecursion SendsNoYes outs
     → Walks (StaysBased f x begun S W) e k outs (Up (StaysBased f x begun S W) k v) d L
 
 -- and where a node stops
 abbrev pub StopsKeepBased : Type 0
-StopsKeepBased = (f : Fixed) (x k : ℕ) (begun : List Action) (S : lock.State) (W : World) (d : Disk) (live : Option Parts) (M : Seen) → Run (start f.first) S → AreBased f x S W (at k d live M) → (e : ℕ) → StaysBased f x begun S W (halted e k d M)
+StopsKeepBased = (f : Fixed) (x k : ℕ) (begun : List Action) (S : lock.State) (W : World) (d : Disk) (live : Option Parts) (M : Seen) →
+    Run (start f.first) S → AreBased f x S W (at k d live M) → (e : ℕ) → StaysBased f x begun S W (halted e k d M)

@@ -10,4 +10,5 @@ use Rattle.arj_promise.specs.Disks.{DisksAre}
 
 -- After each run in form, whatever stops fall, its nodes' disks are clean, however they are read.
 abbrev pub RunsAreClean : Type 0
-RunsAreClean = (hd : Header) (ms : List Move) (disks : Disks) → IsInForm hd ms → DisksAre (see [] (world_by hd ms)) disks → Clean hd (journal_by hd ms) disks
+RunsAreClean = (hd : Header) (ms : List Move) (disks : Disks) → IsInForm hd ms → DisksAre (see [] (world_by hd ms)) disks →
+    Clean hd (journal_by hd ms) disks

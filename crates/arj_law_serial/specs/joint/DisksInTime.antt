@@ -23,4 +23,5 @@ use Rattle.arj_promise.specs.Excluded.{DisksAreInTime}
 
 -- After each run in form, whatever stops fall, its nodes' disks are in time, however they are read.
 abbrev pub RunsExcludeInTimeOnDisks : Type 0
-RunsExcludeInTimeOnDisks = (hd : Header) (ms : List Move) (disks : Disks) → IsInForm hd ms → (let w = world_by hd ms in DisksAre (see [] w) disks → DisksAreInTime hd w.event w.lines disks)
+RunsExcludeInTimeOnDisks = (hd : Header) (ms : List Move) (disks : Disks) → IsInForm hd ms →
+    (let w = world_by hd ms in DisksAre (see [] w) disks → DisksAreInTime hd w.event w.lines disks)

@@ -43,7 +43,8 @@ IsOnly u states s = IsOf u states s × ((t : ObjectState) → IsOf u states t �
 
 -- or it has that prepared for the top, and no other state of the object
 abbrev pub HasLastPrepared : Header → List Line → ℕ → Node → Top → Type 0
-HasLastPrepared header lines x n t = (states : List ObjectState) × (at_uid (uid_of lines t) (let d = n.disk in let p = d.store in p.pend) ≡ Some states) × IsOnly (object x) states (last_state header lines x)
+HasLastPrepared header lines x n t = (states : List ObjectState) × (at_uid (uid_of lines t) (let d = n.disk in let p = d.store in p.pend)
+    ≡ Some states) × IsOnly (object x) states (last_state header lines x)
 
 -- Or the naming node has prepared an entry of the object without it, for the top or for another committed constituent of its serializing
 -- action.
@@ -59,35 +60,40 @@ pub record IsTakenOut (lines : List Line) (x : ℕ) (n : Node) (t : Top) (s : �
 
 -- one of the three
 abbrev pub IsInTime : Header → List Line → ℕ → Node → Node → Top → ℕ → Type 0
-IsInTime header lines x naming store t s = HoldsLast header lines x store ⊎ HasLastPrepared header lines x store t ⊎ IsTakenOut lines x naming t s
+IsInTime header lines x naming store t s =
+    HoldsLast header lines x store ⊎ HasLastPrepared header lines x store t ⊎ IsTakenOut lines x naming t s
 
--- Excluded in time: so it is at the end of this event, the last one that was run, of each top that is new in it, of each object of the header
--- that it wrote, and of each store that the naming node's entry has.
+-- Excluded in time: so it is at the end of this event, the last one that was run, of each top that is new in it, of each object of the
+-- header that it wrote, and of each store that the naming node's entry has.
 abbrev pub AreExcludedInTime : Header → ℕ → Seen → Type 0
-AreExcludedInTime header e M = (t : Top) (x s : ℕ) (naming store : Node) (st : ObjectState) → is_some (object_line header x) ≡ true → IsNew e M.lines t → Wrote M.lines x t
-    → M.nodes 1 ≡ Some naming → M.nodes s ≡ Some store → held_at (entry x) (let d = naming.disk in d.names) ≡ Some st → is_among (let n = state_entry st in n.stores) s ≡ true
+AreExcludedInTime header e M = (t : Top) (x s : ℕ) (naming store : Node) (st : ObjectState) → is_some (object_line header x) ≡ true →
+    IsNew e M.lines t → Wrote M.lines x t
+    → M.nodes 1 ≡ Some naming → M.nodes s ≡ Some store → held_at (entry x) (let d = naming.disk in d.names) ≡ Some st →
+    is_among (let n = state_entry st in n.stores) s ≡ true
     → IsInTime header M.lines x naming store t s
 
 -- ---- what gives it
 
--- Of a decided action of a root, an entry of which is prepared: where the journal has a committed top of that root that is new in the event, and
--- the machine decided it, it is one too. Of older tops that isn't so: a restart may have found the record of the next constituent, and stopped
--- before it said so.
+-- Of a decided action of a root, an entry of which is prepared: where the journal has a committed top of that root that is new in the
+-- event, and the machine decided it, it is one too. Of older tops that isn't so: a restart may have found the record of the next
+-- constituent, and stopped before it said so.
 abbrev pub TakersAreCommitted : ℕ → List Line → State → Type 0
-TakersAreCommitted e lines S = (t : Top) (h : Hold) → IsNew e lines t → disk.decided S (uid_number (uid_of lines t)) ≡ true → S.entry_pend ≡ Some h → disk.decided S h.top ≡ true → S.root h.top ≡ S.root (uid_number (uid_of lines t))
+TakersAreCommitted e lines S = (t : Top) (h : Hold) → IsNew e lines t → disk.decided S (uid_number (uid_of lines t)) ≡ true →
+    S.entry_pend ≡ Some h → disk.decided S h.top ≡ true → S.root h.top ≡ S.root (uid_number (uid_of lines t))
     → (b : Top) × Contains (tops lines) b × (uid_number (uid_of lines b) ≡ h.top) × (b.root ≡ t.root)
 
 -- A top that is new in the event and wrote the object is the newest that counts: of the decided tops that do the commit of none was called
 -- behind its own.
-pub record IsNewest (header : Header) (lines : List Line) (x : ℕ) (S : State) (d : AreDecided header lines x S.tops) (t : Top) : Type 0 where
+pub record IsNewest (header : Header) (lines : List Line) (x : ℕ) (S : State) (d : AreDecided header lines x S.tops) (t : Top) :
+    Type 0 where
   pub last : (u : Top) → Contains d.those u → u.at ≤ t.at
 
 -- what stands of the object on nodes is of its class, on disks and in memory
 abbrev pub NodesAreSo : Header → ℕ → Seen → Type 0
 NodesAreSo header x M = (k : ℕ) (n : Node) → M.nodes k ≡ Some n → NodeIsSo (kind_of header x) n
 
--- For an object, in an event: its disk machine is seen, with its decided tops tied to the journal; what stands of it is of its class; and whose
--- entry is prepared beside a new top is committed.
+-- For an object, in an event: its disk machine is seen, with its decided tops tied to the journal; what stands of it is of its class; and
+-- whose entry is prepared beside a new top is committed.
 pub record IsSeenSo (header : Header) (e x : ℕ) (M : Seen) : Type 0 where
   pub seen : IsSeenDecided header x M
   pub forms : NodesAreSo header x M
@@ -97,15 +103,18 @@ pub record IsSeenSo (header : Header) (e x : ℕ) (M : Seen) : Type 0 where
 
 -- no line of this event, or of a later one, stands before a line that calls a commit
 abbrev pub CommitsBeginIt : ℕ → List Line → Type 0
-CommitsBeginIt e lines = (before : List Line) (line : Line) (behind : List Line) (l : Label) → lines ≡ before ++ line ∷ behind → line.body ≡ body.Committing l → AllByRecursion (λ (k : Line). k.event < e) before
+CommitsBeginIt e lines = (before : List Line) (line : Line) (behind : List Line) (l : Label) → lines ≡ before ++ line ∷ behind →
+    line.body ≡ body.Committing l → AllByRecursion (λ (k : Line). k.event < e) before
 
 -- of two tops that wrote the object, one that is new in the event had its commit called last
 abbrev pub NewWritersAreLast : Type 0
-NewWritersAreLast = (values : Values) (lines : List Line) (x : ℕ) (S : machine.State) (e : ℕ) → AreRight new_book lines → IsTied values lines x S → CommitsBeginIt e lines
+NewWritersAreLast = (values : Values) (lines : List Line) (x : ℕ) (S : machine.State) (e : ℕ) → AreRight new_book lines →
+    IsTied values lines x S → CommitsBeginIt e lines
     → (t u : Top) → IsNew e lines t → Wrote lines x t → Contains (tops lines) u → Wrote lines x u → u.at ≤ t.at
 
 -- Of the decided tops that count and didn't write the object, but include a store of it, the commit of none was called behind the top's.
-pub record IsBehindIncludes (header : Header) (lines : List Line) (x : ℕ) (S : State) (d : AreDecided header lines x S.tops) (t : Top) : Type 0 where
+pub record IsBehindIncludes (header : Header) (lines : List Line) (x : ℕ) (S : State) (d : AreDecided header lines x S.tops) (t : Top) :
+    Type 0 where
   pub last : (u : Top) → Contains d.those u → (Wrote lines x u → ⊥) → u.at ≤ t.at
 
 -- in the last event of a run, whatever stops fall, nothing stands before a commit call

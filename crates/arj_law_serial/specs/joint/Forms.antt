@@ -102,7 +102,8 @@ NodeIsSo k n = DiskIsSo k n.disk × UpIsSo k n.live
 
 -- of every node, and of every message that was ever sent
 abbrev pub AreSo : Kind → Seen → Type 0
-AreSo k M = ((j : ℕ) (n : Node) → M.nodes j ≡ Some n → NodeIsSo k n) × ((p : Post) → In p M.sent → MessageIsSo (so_of k) (let q = p in q.message))
+AreSo k M =
+    ((j : ℕ) (n : Node) → M.nodes j ≡ Some n → NodeIsSo k n) × ((p : Post) → In p M.sent → MessageIsSo (so_of k) (let q = p in q.message))
 
 -- ---- runs
 

@@ -21,10 +21,11 @@ use Rattle.arj_law_serial.specs.joint.Ordered.{IsCalledBefore, IsOrderedSo}
 abbrev pub IncludesNone : Plan → Plan → Type 0
 IncludesNone p q = ((s : ℕ) → has s p.joins ≡ true → ⊥) × ((p.writes ≡ None) ⊎ (is_some q.writes ≡ true))
 
--- Of two decided tops that count, the one that was decided first had its commit called first, where the other one includes a store, or changes the
--- object and the first one didn't.
+-- Of two decided tops that count, the one that was decided first had its commit called first, where the other one includes a store, or
+-- changes the object and the first one didn't.
 abbrev pub IncludersAreCalledFirst : List Line → Done → Done → Type 0
-IncludersAreCalledFirst lines e d = (t u : Uid) → d.counts ≡ true → e.counts ≡ true → uid_number t ≡ e.top → uid_number u ≡ d.top → IsCalledBefore lines t u ⊎ IncludesNone d.plan e.plan
+IncludersAreCalledFirst lines e d = (t u : Uid) → d.counts ≡ true → e.counts ≡ true → uid_number t ≡ e.top → uid_number u ≡ d.top →
+    IsCalledBefore lines t u ⊎ IncludesNone d.plan e.plan
 
 -- so it is of each two of these, the newest first
 abbrev pub IncludersTakeTurns : List Line → List Done → Type 0
@@ -33,10 +34,12 @@ IncludersTakeTurns lines (d ∷ ds) = ((e : Done) → In e ds → IncludersAreCa
 
 -- ---- runs
 
--- The machine decided as `IsOrderedSo` has it, and so it is of each two of its decided tops; and those that don't count changed nothing in their places.
+-- The machine decided as `IsOrderedSo` has it, and so it is of each two of its decided tops; and those that don't count changed nothing in
+-- their places.
 pub record TakesTurnsSo (hd : Header) (x : ℕ) (M : Seen) : Type 0 where
   pub ordered : IsOrderedSo hd x M
-  pub includers : IncludersTakeTurns M.lines (let j = (let b = (let o = ordered in o.begun) in b.journalled) in let W = j.machine in let S = W.disk in S.tops)
+  pub includers : IncludersTakeTurns M.lines (let j = (let b = (let o = ordered in o.begun) in b.journalled) in let W = j.machine in
+      let S = W.disk in S.tops)
   pub lights : LightsAreSplit M.lines (let j = (let b = (let o = ordered in o.begun) in b.journalled) in let W = j.machine in W.disk)
 
 -- ---- in the words of the model
@@ -44,10 +47,11 @@ pub record TakesTurnsSo (hd : Header) (x : ℕ) (M : Seen) : Type 0 where
 -- of these tops, the newest first, each two of which one didn't write the object had their commits called in turn
 abbrev pub JoinersAreNewestFirst : List Line → ℕ → List Top → Type 0
 JoinersAreNewestFirst lines x [] = ⊤
-JoinersAreNewestFirst lines x (t ∷ ts) = ((u : Top) → Contains ts u → (Wrote lines x u → Wrote lines x t → ⊥) → u.at < t.at) × JoinersAreNewestFirst lines x ts
+JoinersAreNewestFirst lines x (t ∷ ts) =
+    ((u : Top) → Contains ts u → (Wrote lines x u → Wrote lines x t → ⊥) → u.at < t.at) × JoinersAreNewestFirst lines x ts
 
--- So it is of the tops which the disk machine's decisions that count are, where each of them that didn't write the object included a store of
--- it, and the lock machine of the object reaches a state that is tied to the journal.
+-- So it is of the tops which the disk machine's decisions that count are, where each of them that didn't write the object included a store
+-- of it, and the lock machine of the object reaches a state that is tied to the journal.
 abbrev pub DecidedJoinersStand : Type 0
 DecidedJoinersStand = (values : Values) (lines : List Line) (x : ℕ) (S : lock.State) → AreRight new_book lines → IsTied values lines x S
     → (ds : List Done) (those : List Top) → IncludersTakeTurns lines ds → AreDecisions values lines x (filter counts_of ds) those

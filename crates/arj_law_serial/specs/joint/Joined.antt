@@ -1,5 +1,5 @@
--- The disk machine and the lock machine of one object beside each other in one run: what a top that the disk machine decided has in its plan is
--- what was voted for it, by the lock machine.
+-- The disk machine and the lock machine of one object beside each other in one run: what a top that the disk machine decided has in its
+-- plan is what was voted for it, by the lock machine.
 use Rattle.std.specs.Prelude.{◌≡◌, ℕ, true, List, [], None, Some, Contains, is_some}
 use Rattle.arj_model.specs.Actions.{acts}
 use Rattle.arj_model.specs.Calls.{Top, tops}
@@ -61,11 +61,12 @@ use Rattle.arj_law_disk_view.specs.running.Runs.{CopiesAgree}
 
 -- A state that the plan changes the object to is by this top, which called the object.
 abbrev pub ChangesCalled : ℕ → Uid → Plan → Type 0
-ChangesCalled x u p = (st : ObjectState) → changed_of x p ≡ Some st → (st.writer ≡ u) × ((w : Used) × (used_at x p.used ≡ Some w) × (w.called ≡ true))
+ChangesCalled x u p = (st : ObjectState) → changed_of x p ≡ Some st →
+    (st.writer ≡ u) × ((w : Used) × (used_at x p.used ≡ Some w) × (w.called ≡ true))
 
--- The disk machine has a plan of the top that is one of the protocol, with which it waited for naming, in this state of the lock machine, which has gone
--- on since: its changed state of the object is what the server voted that was called, and none otherwise; and where there is one the lock machine has
--- a call of the top, which wasn't undone, and the vote lay over a known state, where codes are apart.
+-- The disk machine has a plan of the top that is one of the protocol, with which it waited for naming, in this state of the lock machine,
+-- which has gone on since: its changed state of the object is what the server voted that was called, and none otherwise; and where there is
+-- one the lock machine has a call of the top, which wasn't undone, and the vote lay over a known state, where codes are apart.
 pub record IsPlannedSo (f : Fixed) (x : ℕ) (S : lock.State) (W : World) (u : Uid) : Type 0 where
   pub plan : Plan
   pub begun : W.disk.begun (uid_number u) ≡ true
@@ -77,7 +78,8 @@ pub record IsPlannedSo (f : Fixed) (x : ℕ) (S : lock.State) (W : World) (u : U
   pub votes : HasVotes (side_at f.act f.code x u) plan [] waiting
   pub sees : SeesMachine x (f.act u) (Confirming plan) waiting
   pub changed : ChangesCalled x u plan
-  pub counted : (st : ObjectState) → changed_of x plan ≡ Some st → (c : lock.Call) × In c waiting.calls × (top c.act ≡ f.act u) × lock.Alive waiting c.act
+  pub counted : (st : ObjectState) → changed_of x plan ≡ Some st →
+      (c : lock.Call) × In c waiting.calls × (top c.act ≡ f.act u) × lock.Alive waiting c.act
   pub over : AreApart f.code → (st : ObjectState) → changed_of x plan ≡ Some st → IsVotedOver f x u waiting W st
 
 -- ---- all tops
@@ -94,15 +96,17 @@ pub record IsRecordedAt (M : Seen) (u : Uid) : Type 0 where
 pub record ArePlannedSo (f : Fixed) (x : ℕ) (S : lock.State) (W : World) (M : Seen) : Type 0 where
   pub decisions : (u : Uid) → decided W.disk (uid_number u) ≡ true → IsPlannedSo f x S W u
   pub records : (u : Uid) → IsRecordedAt M u → IsPlannedSo f x S W u
-  pub bares : (u : Uid) → W.disk.bare (uid_number u) ≡ true → IsPlannedSo f x S W u × ((let p = W.disk.plan (uid_number u) in p.writes) ≡ None)
+  pub bares : (u : Uid) → W.disk.bare (uid_number u) ≡ true →
+      IsPlannedSo f x S W u × ((let p = W.disk.plan (uid_number u) in p.writes) ≡ None)
 
 -- ---- states beside each other
 
--- The state of the lock machine in which the object is seen stands beside one of its disk machine, of which this holds: commits under way have the
--- votes that came, who is decided had planned so, what stores gave to calls that wait for it they may give by the lock machine, and over which
--- states copies and votes lie is known.
+-- The state of the lock machine in which the object is seen stands beside one of its disk machine, of which this holds: commits under way
+-- have the votes that came, who is decided had planned so, what stores gave to calls that wait for it they may give by the lock machine,
+-- and over which states copies and votes lie is known.
 abbrev pub IsPaired : ℕ → (Kinds → Office → Seen → Type 0) → Fixed → List Action → lock.State → Seen → Type 0
-IsPaired x P f begun S M = (tops : Kinds) × (tops.walk ≡ None) × (A : Office) × SeesBoth x tops A M × P tops A M × AreVotedAt f x S M × ArePlannedSo f x S A.world M × AreLoadsLast f x S M × AreBasedSo f x S A.world M
+IsPaired x P f begun S M = (tops : Kinds) × (tops.walk ≡ None) × (A : Office) × SeesBoth x tops A M × P tops A M × AreVotedAt f x S M
+    × ArePlannedSo f x S A.world M × AreLoadsLast f x S M × AreBasedSo f x S A.world M
 
 -- what is kept everywhere: nodes are good and there, bindings are counted, and the journal is known
 abbrev pub IsCountedJoined : Seen → Type 0
@@ -132,24 +136,27 @@ world_of o = (let b = o.begun in let j = b.journalled in j.machine)
 
 -- each of the decided tops of the disk machine that is one of the journal gave to the stores what it wrote
 abbrev pub AreWritten : Values → List Line → ℕ → List Done → Type 0
-AreWritten values lines x ds = (d : Done) (u : Top) → disk.In d ds → Contains (tops lines) u → d.top ≡ uid_number (uid_of_id (acts lines) u.id) → WroteSo values lines x u (let p = d.plan in p.writes)
+AreWritten values lines x ds = (d : Done) (u : Top) → disk.In d ds → Contains (tops lines) u →
+    d.top ≡ uid_number (uid_of_id (acts lines) u.id) → WroteSo values lines x u (let p = d.plan in p.writes)
 
 -- each top of the journal whose commit ended without a record has no surviving write
 abbrev pub AreBareSo : List Line → ℕ → State → Type 0
 AreBareSo lines x S = (u : Top) → Contains (tops lines) u → S.bare (uid_number (uid_of_id (acts lines) u.id)) ≡ true → Wrote lines x u → ⊥
 
--- Both machines of the object at once: the disk machine, whose decisions are those of the journal in their order, also of those that only include
--- a store, and of which those that don't count changed nothing in their places; and for all that may be fixed and agrees with what was begun the lock machine, to which the journal is tied, in which commits under
--- way have the votes that came, by which decided tops had planned, and in which it is known over which states copies and votes lie. So
--- decided tops wrote what their plans have, and those without a record nothing; the copies of the object agree, and who waits to load it for a
--- binding that is current asks stores that hold what they agree on.
+-- Both machines of the object at once: the disk machine, whose decisions are those of the journal in their order, also of those that only
+-- include a store, and of which those that don't count changed nothing in their places; and for all that may be fixed and agrees with what
+-- was begun the lock machine, to which the journal is tied, in which commits under way have the votes that came, by which decided tops had
+-- planned, and in which it is known over which states copies and votes lie. So decided tops wrote what their plans have, and those without
+-- a record nothing; the copies of the object agree, and who waits to load it for a binding that is current asks stores that hold what they
+-- agree on.
 pub record IsJoinedSo (hd : Header) (x : ℕ) (M : Seen) : Type 0 where
   pub ordered : IsOrderedSo hd x M
   pub includers : IncludersTakeTurns M.lines (let W = world_of ordered in W.disk.tops)
   pub lights : LightsAreSplit M.lines (let W = world_of ordered in W.disk)
   pub begun : List Action
   pub alike : IsAlikeOf begun M
-  pub seen : (f : Fixed) → AgreesApart (first_values hd) f x begun M.sent → (S : lock.State) × SeesLocks f x begun S M × AreTied f x M.lines S × AreVotedAt f x S M × ArePlannedSo f x S (world_of ordered) M × AreBasedSo f x S (world_of ordered) M
+  pub seen : (f : Fixed) → AgreesApart (first_values hd) f x begun M.sent → (S : lock.State) × SeesLocks f x begun S M
+      × AreTied f x M.lines S × AreVotedAt f x S M × ArePlannedSo f x S (world_of ordered) M × AreBasedSo f x S (world_of ordered) M
   pub requests : RequestsAreOne M
   pub wrote : AreWritten (first_values hd) M.lines x (let W = world_of ordered in W.disk.tops)
   pub bare : AreBareSo M.lines x (let W = world_of ordered in W.disk)
@@ -158,7 +165,8 @@ pub record IsJoinedSo (hd : Header) (x : ℕ) (M : Seen) : Type 0 where
 
 -- So it is after all moves in form, of each object of the header.
 abbrev pub RunsAreJoined : Type 0
-RunsAreJoined = (hd : Header) (ms : List Move) → IsInForm hd ms → (x : ℕ) → is_some (object_line hd x) ≡ true → Holds hd (IsJoinedSo hd x) (world_by hd ms)
+RunsAreJoined = (hd : Header) (ms : List Move) → IsInForm hd ms → (x : ℕ) → is_some (object_line hd x) ≡ true →
+    Holds hd (IsJoinedSo hd x) (world_by hd ms)
 
 -- So every run in form is serial.
 abbrev pub JoinedRunsAreSerial : Type 0

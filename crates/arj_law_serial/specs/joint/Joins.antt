@@ -71,10 +71,12 @@ HasJoined x s us r = (j : Joined) × Contains r.joined j × (j.path ≡ us) × (
 
 -- each answered include of this coordinator's actions is noted by its root as an include
 abbrev pub IncludesAreNoted : Book → Coord → Type 0
-IncludesAreNoted B c = (a : Access) (s : ℕ) → Contains B.accesses a → a.store ≡ Some s → is_own (let b = a.act in b.uid) c.tree ≡ true → HasJoined a.x s (path_of B a) (root_in (first_uid (path_of B a)) c.roots)
+IncludesAreNoted B c = (a : Access) (s : ℕ) → Contains B.accesses a → a.store ≡ Some s → is_own (let b = a.act in b.uid) c.tree ≡ true →
+    HasJoined a.x s (path_of B a) (root_in (first_uid (path_of B a)) c.roots)
 
 -- ---- all nodes
 
 -- so it is at each node that is up
 abbrev pub IncludesAreSaid : Seen → Type 0
-IncludesAreSaid M = (j : ℕ) (n : Node) (t : Parts) → M.nodes j ≡ Some n → n.live ≡ Some t → IncludesAreNoted (book M.lines) t.coord × PlansInclude (book M.lines) t.coord
+IncludesAreSaid M = (j : ℕ) (n : Node) (t : Parts) → M.nodes j ≡ Some n → n.live ≡ Some t →
+    IncludesAreNoted (book M.lines) t.coord × PlansInclude (book M.lines) t.coord

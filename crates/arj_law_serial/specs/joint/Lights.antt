@@ -1,4 +1,5 @@
--- Tops that change nothing of an object: which decisions of others came before naming confirmed them, and which behind, by the order of commit calls.
+-- Tops that change nothing of an object: which decisions of others came before naming confirmed them, and which behind, by the order of
+-- commit calls.
 use Rattle.std.specs.Prelude.{◌≡◌, ◌⊎◌, ◌++◌, ℕ, true, false, List, Contains}
 use Rattle.arj_model.specs.Actions.{Act, acts}
 use Rattle.arj_protocol.specs.Words.{Line, Uid}
@@ -19,8 +20,8 @@ AreBehind lines w ds = (d : Done) (v : Uid) → In d ds → d.counts ≡ true �
 abbrev pub AreBefore : List Line → Uid → List Done → Type 0
 AreBefore lines w ds = (d : Done) (v : Uid) → In d ds → d.counts ≡ true → uid_number v ≡ d.top → IsCalledBefore lines v w
 
--- Of the decided tops the earlier ones leave an entry in which none of these stores is listed; of those that count they had their commits called before
--- this top's, and the later ones behind it, or they include no store.
+-- Of the decided tops the earlier ones leave an entry in which none of these stores is listed; of those that count they had their commits
+-- called before this top's, and the later ones behind it, or they include no store.
 pub record IsSplit (first : Packed) (lines : List Line) (w : Uid) (stores : List ℕ) (tops : List Done) : Type 0 where
   pub later : List Done
   pub earlier : List Done
@@ -31,4 +32,5 @@ pub record IsSplit (first : Packed) (lines : List Line) (w : Uid) (stores : List
 
 -- So it is of each decided top of these actions that doesn't count and includes a store, with the stores that it includes.
 abbrev pub LightsAreSplit : List Line → State → Type 0
-LightsAreSplit lines S = (d : Done) (a : Act) → In d S.tops → d.counts ≡ false → Contains (acts lines) a → uid_number a.uid ≡ d.top → (s : ℕ) → has s (let p = d.plan in p.joins) ≡ true → IsSplit S.first_entry lines a.uid (let p = d.plan in p.joins) S.tops
+LightsAreSplit lines S = (d : Done) (a : Act) → In d S.tops → d.counts ≡ false → Contains (acts lines) a → uid_number a.uid ≡ d.top →
+    (s : ℕ) → has s (let p = d.plan in p.joins) ≡ true → IsSplit S.first_entry lines a.uid (let p = d.plan in p.joins) S.tops

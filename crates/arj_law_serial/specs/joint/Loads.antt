@@ -34,8 +34,9 @@ pub record AwaitsLoad (x : ℕ) (M : Seen) (a : Asked) (j s : ℕ) (k : Known) :
   pub waits : steps.at ≡ AtLoad k s rest
   pub request : steps.req ≡ a.req
 
--- By the lock machine a store may give what it gave to a call on the object that still waits for it: the last committed state, where the binding
--- is current.
+-- By the lock machine a store may give what it gave to a call on the object that still waits for it: the last committed state, where the
+-- binding is current.
 abbrev pub AreLoadsLast : Fixed → ℕ → State → Seen → Type 0
-AreLoadsLast f x S M = (p : Post) (a : Asked) (st : ObjectState) (k : Known) → In p M.sent → answers p.message ≡ Some (a, Reply.Loaded (loaded.State st)) → AwaitsLoad x M a p.to p.from k
+AreLoadsLast f x S M = (p : Post) (a : Asked) (st : ObjectState) (k : Known) → In p M.sent →
+    answers p.message ≡ Some (a, Reply.Loaded (loaded.State st)) → AwaitsLoad x M a p.to p.from k
     → Guard (Load (binding_number k.binding) (state_code f.act f.code st)) S

@@ -40,7 +40,8 @@ SaysMarks lines d = (m : Machine) → d.now ≡ Committing m → FitsMarks (was_
 
 -- and of each commit under way at a node that is up
 abbrev pub MarksAreSaid : Seen → Type 0
-MarksAreSaid M = (j : ℕ) (n : Node) (t : Parts) (u : Uid) (d : Doing) → M.nodes j ≡ Some n → n.live ≡ Some t → doing_of u t.coord ≡ Some d → SaysMarks M.lines d
+MarksAreSaid M = (j : ℕ) (n : Node) (t : Parts) (u : Uid) (d : Doing) → M.nodes j ≡ Some n → n.live ≡ Some t → doing_of u t.coord ≡ Some d →
+    SaysMarks M.lines d
 
 -- So it is after all moves.
 abbrev pub RunsSayMarks : Type 0

@@ -16,9 +16,9 @@ use Rattle.arj_law_serial.specs.joint.Joins.{AreRising, has_included}
 use Rattle.arj_law_serial.specs.joint.Marked.{was_marked}
 use Rattle.arj_law_serial.specs.joint.Ordered.{AreDim, AreStill}
 
--- A top whose prepare step has ended, in the disk machine of the object: the journal says of it exactly the stores that are its targets and gave
--- no Yes; its commit was called, with a plan that includes exactly the stores of its surviving includes, each once, in increasing order; and it has
--- its root at the head of its path.
+-- A top whose prepare step has ended, in the disk machine of the object: the journal says of it exactly the stores that are its targets and
+-- gave no Yes; its commit was called, with a plan that includes exactly the stores of its surviving includes, each once, in increasing
+-- order; and it has its root at the head of its path.
 pub record IsMarkedSo (x : ℕ) (W : World) (M : Seen) (u : Uid) : Type 0 where
   pub begun : W.disk.begun (uid_number u) ≡ true
   pub ended : is_sealed (W.disk.stage (uid_number u)) ≡ true
@@ -33,10 +33,12 @@ pub record IsMarkedSo (x : ℕ) (W : World) (M : Seen) (u : Uid) : Type 0 where
 
 -- each of these that counts and didn't write includes a store
 abbrev pub AreJoiners : List Done → Type 0
-AreJoiners ds = (d : Done) → In d ds → d.counts ≡ true → (let p = d.plan in p.writes) ≡ None → (s : ℕ) × (disk.has s (let p = d.plan in p.joins) ≡ true)
+AreJoiners ds = (d : Done) → In d ds → d.counts ≡ true → (let p = d.plan in p.writes) ≡ None →
+    (s : ℕ) × (disk.has s (let p = d.plan in p.joins) ≡ true)
 
--- So it is of each top that is decided, at a node that is there, of each that has a record, and of each whose commit ended without one; decided
--- tops that count and didn't write include a store, and those that don't count have taken no Yes and were confirmed as ones that change nothing.
+-- So it is of each top that is decided, at a node that is there, of each that has a record, and of each whose commit ended without one;
+-- decided tops that count and didn't write include a store, and those that don't count have taken no Yes and were confirmed as ones that
+-- change nothing.
 pub record AreMarkedSo (x : ℕ) (W : World) (M : Seen) : Type 0 where
   pub decisions : (u : Uid) (n : Node) → M.nodes u.node ≡ Some n → decided W.disk (uid_number u) ≡ true → IsMarkedSo x W M u
   pub records : (u : Uid) → IsRecordedAt M u → IsMarkedSo x W M u

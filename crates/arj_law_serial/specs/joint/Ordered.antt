@@ -22,11 +22,14 @@ use Rattle.arj_law_serial.specs.joint.Begun.{IsBegunSo}
 -- The commit of the first top was called before the second one was decided: at some place of the journal the one had been, and the
 -- other hadn't.
 abbrev pub IsCalledFirst : List Line → Uid → Uid → Type 0
-IsCalledFirst lines t u = (before : List Line) × (behind : List Line) × (lines ≡ before ++ behind) × (is_on (let B = book before in B.called) t ≡ true) × (is_decided (book before) u ≡ false)
+IsCalledFirst lines t u = (before : List Line) × (behind : List Line) × (lines ≡ before ++ behind)
+    × (is_on (let B = book before in B.called) t ≡ true) × (is_decided (book before) u ≡ false)
 
--- The commit of the first action was called before that of the second one: at some place of the journal the one had been, and the other hadn't.
+-- The commit of the first action was called before that of the second one: at some place of the journal the one had been, and the other
+-- hadn't.
 abbrev pub IsCalledBefore : List Line → Uid → Uid → Type 0
-IsCalledBefore lines t u = (before : List Line) × (behind : List Line) × (lines ≡ before ++ behind) × (is_on (let B = book before in B.called) t ≡ true) × (is_on (let B = book before in B.called) u ≡ false)
+IsCalledBefore lines t u = (before : List Line) × (behind : List Line) × (lines ≡ before ++ behind)
+    × (is_on (let B = book before in B.called) t ≡ true) × (is_on (let B = book before in B.called) u ≡ false)
 
 -- So it is of the tops with these numbers, of which the second may be idle by the journal, or no top.
 abbrev pub IsTurn : (List Line → Uid → Type 0) → List Line → ℕ → ℕ → Type 0
@@ -48,23 +51,30 @@ pub record IsOrdered (Idle : List Line → Uid → Type 0) (W : World) (M : Seen
 -- the same, in the words of `arj_model`: of each two decided tops
 abbrev pub AreTurnsOf : List Line → List Done → Type 0
 AreTurnsOf lines [] = ⊤
-AreTurnsOf lines (d ∷ ds) = ((e : Done) (a b : Act) → In e ds → Contains (acts lines) a → Contains (acts lines) b → uid_number a.uid ≡ e.top → uid_number b.uid ≡ d.top → is_top b.kind ≡ true → e.top ≢ d.top → IsCalledFirst lines a.uid b.uid ⊎ HasNothing lines b) × AreTurnsOf lines ds
+AreTurnsOf lines (d ∷ ds) =
+    ((e : Done) (a b : Act) → In e ds → Contains (acts lines) a → Contains (acts lines) b → uid_number a.uid ≡ e.top → uid_number b.uid
+    ≡ d.top → is_top b.kind ≡ true → e.top ≢ d.top → IsCalledFirst lines a.uid b.uid ⊎ HasNothing lines b) × AreTurnsOf lines ds
 
 -- of these actions those among them excluded, by the journal, just the stores that their commits asked and that didn't prepare
 abbrev pub AreLeftOf : List Line → ℕ → List Done → Type 0
-AreLeftOf lines x ds = (d : Done) (a : Act) → In d ds → Contains (acts lines) a → uid_number a.uid ≡ d.top → (s : ℕ) → (target d.plan s && not (d.got s)) ≡ is_among (leaves_of lines a.id x) s
+AreLeftOf lines x ds = (d : Done) (a : Act) → In d ds → Contains (acts lines) a → uid_number a.uid ≡ d.top → (s : ℕ) →
+    (target d.plan s && not (d.got s)) ≡ is_among (leaves_of lines a.id x) s
 
 -- the machine's root of each of these tops is the one at the head of its path, by the journal
 abbrev pub AreRootedSo : List Line → (ℕ → ℕ) → List Done → Type 0
-AreRootedSo lines root ds = (d : Done) (a : Act) → In d ds → Contains (acts lines) a → uid_number a.uid ≡ d.top → root d.top ≡ uid_number (first_uid (uids (path (acts lines) a.label)))
+AreRootedSo lines root ds = (d : Done) (a : Act) → In d ds → Contains (acts lines) a → uid_number a.uid ≡ d.top →
+    root d.top ≡ uid_number (first_uid (uids (path (acts lines) a.label)))
 
--- the stores that these actions among them add to the list are, by the journal, those of their surviving includes that their commits didn't exclude
+-- the stores that these actions among them add to the list are, by the journal, those of their surviving includes that their commits didn't
+-- exclude
 abbrev pub AreJoinedOf : List Line → ℕ → List Done → Type 0
-AreJoinedOf lines x ds = (d : Done) (a : Act) → In d ds → Contains (acts lines) a → uid_number a.uid ≡ d.top → filter d.got (let p = d.plan in p.joins) ≡ increasing (filter (λ s. not (is_among (leaves_of lines a.id x) s)) (joins_of lines a.id x))
+AreJoinedOf lines x ds = (d : Done) (a : Act) → In d ds → Contains (acts lines) a → uid_number a.uid ≡ d.top →
+    filter d.got (let p = d.plan in p.joins) ≡ increasing (filter (λ s. not (is_among (leaves_of lines a.id x) s)) (joins_of lines a.id x))
 
 -- Of these actions each that counts and gave nothing to the stores includes, by the journal, a store.
 abbrev pub AreCountedOf : List Line → ℕ → List Done → Type 0
-AreCountedOf lines x ds = (d : Done) (a : Act) → In d ds → Contains (acts lines) a → uid_number a.uid ≡ d.top → d.counts ≡ true → (let p = d.plan in p.writes) ≡ None → (s : ℕ) × Contains (joins_of lines a.id x) s
+AreCountedOf lines x ds = (d : Done) (a : Act) → In d ds → Contains (acts lines) a → uid_number a.uid ≡ d.top → d.counts ≡ true →
+    (let p = d.plan in p.writes) ≡ None → (s : ℕ) × Contains (joins_of lines a.id x) s
 
 -- who of them doesn't count has taken no store's Yes
 abbrev pub AreStill : List Done → Type 0
@@ -76,21 +86,24 @@ AreDim S = (d : Done) → In d S.tops → d.counts ≡ false → S.light d.top �
 
 -- the stores that these actions among them include are, by the journal, those of their surviving includes
 abbrev pub AreIncludedOf : List Line → ℕ → List Done → Type 0
-AreIncludedOf lines x ds = (d : Done) (a : Act) → In d ds → Contains (acts lines) a → uid_number a.uid ≡ d.top → (s : ℕ) → has s (let p = d.plan in p.joins) ≡ is_among (joins_of lines a.id x) s
+AreIncludedOf lines x ds = (d : Done) (a : Act) → In d ds → Contains (acts lines) a → uid_number a.uid ≡ d.top → (s : ℕ) →
+    has s (let p = d.plan in p.joins) ≡ is_among (joins_of lines a.id x) s
 
 -- an action of these, whose commit ended without a record, excluded no store by the journal, and none of its includes survives
 abbrev pub AreUntouched : List Line → ℕ → (ℕ → Bool) → Type 0
-AreUntouched lines x bare = (a : Act) → Contains (acts lines) a → bare (uid_number a.uid) ≡ true → (s : ℕ) → (is_among (leaves_of lines a.id x) s ≡ false) × (is_among (joins_of lines a.id x) s ≡ false)
+AreUntouched lines x bare = (a : Act) → Contains (acts lines) a → bare (uid_number a.uid) ≡ true → (s : ℕ) →
+    (is_among (leaves_of lines a.id x) s ≡ false) × (is_among (joins_of lines a.id x) s ≡ false)
 
--- Of these actions each committed top is decided by the machine, or its commit ended without a record; or nothing of it survives in the journal, and it
--- excluded no store.
+-- Of these actions each committed top is decided by the machine, or its commit ended without a record; or nothing of it survives in the
+-- journal, and it excluded no store.
 abbrev pub AreSpared : List Line → ℕ → State → Type 0
 AreSpared lines x S = (a : Act) → Contains (acts lines) a → is_top a.kind ≡ true → IsDone lines a
-    → (decided S (uid_number a.uid) ≡ true) ⊎ (S.bare (uid_number a.uid) ≡ true) ⊎ (HasNothing lines a × ((s : ℕ) → is_among (leaves_of lines a.id x) s ≡ false))
+    → (decided S (uid_number a.uid) ≡ true) ⊎ (S.bare (uid_number a.uid) ≡ true)
+    ⊎ (HasNothing lines a × ((s : ℕ) → is_among (leaves_of lines a.id x) s ≡ false))
 
--- The machine began as the header says and decided as the journal says, in this order, excluded and included what the journal says, and has its
--- roots; who didn't count, ended without a record, or committed at once changed as little as that; and who only includes a store had its
--- commit called when those that wrote the object before it had been said.
+-- The machine began as the header says and decided as the journal says, in this order, excluded and included what the journal says, and has
+-- its roots; who didn't count, ended without a record, or committed at once changed as little as that; and who only includes a store had
+-- its commit called when those that wrote the object before it had been said.
 pub record IsOrderedSo (hd : Header) (x : ℕ) (M : Seen) : Type 0 where
   pub begun : IsBegunSo hd x M
   pub once : AreOnce (let j = (let b = begun in b.journalled) in let W = j.machine in let S = W.disk in S.tops)

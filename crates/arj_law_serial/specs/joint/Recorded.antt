@@ -10,4 +10,5 @@ use Rattle.arj_law_serial.specs.whole.Acks.{WasRecorded, records_in}
 
 -- of each top that is decided, at a node that is there, the commit has a record, or was told to be acknowledged
 abbrev pub WereRecorded : World → Seen → Type 0
-WereRecorded W M = (u : Uid) (n : Node) → M.nodes u.node ≡ Some n → decided W.disk (uid_number u) ≡ true → WasRecorded (records_in M.nodes) M.sent u
+WereRecorded W M = (u : Uid) (n : Node) → M.nodes u.node ≡ Some n → decided W.disk (uid_number u) ≡ true →
+    WasRecorded (records_in M.nodes) M.sent u

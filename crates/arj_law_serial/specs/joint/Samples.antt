@@ -49,7 +49,8 @@ before_commit =
 abbrev pub right_end : List Line
 right_end =
     before_commit ++ numbered 5 (body.Excluded label 1 3 ∷ body.Committed label ∷ [])
-    ++ numbered 6 (body.Prepared 3 its_uid role.Store ∷ done_at 3 ending.Abort ∷ done_at 2 ending.Commit ∷ body.Prepared 2 its_uid role.Store ∷ done_at 2 ending.Abort ∷ [])
+    ++ numbered 6 (body.Prepared 3 its_uid role.Store ∷ done_at 3 ending.Abort ∷ done_at 2 ending.Commit
+    ∷ body.Prepared 2 its_uid role.Store ∷ done_at 2 ending.Abort ∷ [])
 
 -- Store 2 aborts what it prepared, though it hasn't committed it and wasn't excluded; only a halt since the commit call is a cause.
 abbrev pub wrong_abort : List Line
@@ -87,11 +88,13 @@ its_top = record { id = 0; root = 0; at = 2 }
 
 -- a state of the counter
 abbrev pub counter_state : ℕ → Uid → ℕ → ObjectState
-counter_state version writer value = record { uid = object 1; class = class.Counter; version = version; writer = writer; payload = replicate 7 0 ++ value ∷ [] }
+counter_state version writer value =
+    record { uid = object 1; class = class.Counter; version = version; writer = writer; payload = replicate 7 0 ++ value ∷ [] }
 
 -- a state of its entry, with these stores
 abbrev pub entry_with : ℕ → Uid → List ℕ → ObjectState
-entry_with version writer stores = record { uid = entry 1; class = class.Entry; version = version; writer = writer; payload = entry_payload (1 ∷ []) stores }
+entry_with version writer stores =
+    record { uid = entry 1; class = class.Entry; version = version; writer = writer; payload = entry_payload (1 ∷ []) stores }
 
 -- a pair that holds a state and has another one prepared for the top, or nothing
 abbrev pub pair_with : Uid → ObjectState → List (Uid × List ObjectState) → Pair
@@ -119,7 +122,8 @@ store_three = node_with 3 (pair_with (object 1) first_counter []) empty
 
 -- the naming node, with that entry prepared, and without
 abbrev pub naming_node : Node
-naming_node = node_with 1 empty (pair_with (entry 1) (entry_with 0 nobody (2 ∷ 3 ∷ [])) ((its_uid, entry_with 1 its_uid (2 ∷ []) ∷ []) ∷ []))
+naming_node =
+    node_with 1 empty (pair_with (entry 1) (entry_with 0 nobody (2 ∷ 3 ∷ [])) ((its_uid, entry_with 1 its_uid (2 ∷ []) ∷ []) ∷ []))
 
 -- the naming node with the old entry and nothing prepared
 abbrev pub naming_late : Node
@@ -141,11 +145,13 @@ reading_with r state new = record {
   inc = 1;
 }
 
--- The stores 2 and 3 hold the first state, and store 2 has the new one prepared; naming's entry is the old one, and this one is prepared, if any.
+-- The stores 2 and 3 hold the first state, and store 2 has the new one prepared; naming's entry is the old one, and this one is prepared,
+-- if any.
 abbrev pub disks_with : Option ObjectState → Disks
 disks_with new n =
     if n == 1 then reading_with side.Names (entry_with 0 nobody (2 ∷ 3 ∷ [])) new
-    else if n == 2 then reading_with side.Store first_counter (Some (counter_state 1 its_uid 5)) else reading_with side.Store first_counter None
+    else if n
+    == 2 then reading_with side.Store first_counter (Some (counter_state 1 its_uid 5)) else reading_with side.Store first_counter None
 
 -- the entry without store 3 is prepared
 abbrev pub disks_decided : Disks

@@ -25,7 +25,8 @@ AreThere hd x s = ((nat_le 1 s && nat_le s hd.nodes) ≡ true) × (is_some (obje
 
 -- so it is of each answered include of the journal
 abbrev pub IncludesAreThere : Header → List Line → Type 0
-IncludesAreThere hd lines = (i : Placed Inclusion) → Contains (included lines) i → AreThere hd (let k = i.it in k.x) (let k = i.it in k.node)
+IncludesAreThere hd lines = (i : Placed Inclusion) → Contains (included lines) i →
+    AreThere hd (let k = i.it in k.x) (let k = i.it in k.node)
 
 -- and so it is of each store that an object lists
 abbrev pub ListedAreThere : Header → List Line → Type 0
@@ -37,4 +38,5 @@ IncludesAreListed = (hd : Header) (lines : List Line) → HeaderInForm hd → In
 
 -- Readings of the disks of a world that stands show its pairs.
 abbrev pub ReadingsShowPairs : Type 0
-ReadingsShowPairs = (hd : Header) (sent : List Post) (w : World) (disks : Disks) → HeaderInForm hd → Stands hd sent w → IncludesAreThere hd w.lines → DisksAre (see sent w) disks → AreShown hd w.lines (see sent w) disks
+ReadingsShowPairs = (hd : Header) (sent : List Post) (w : World) (disks : Disks) → HeaderInForm hd → Stands hd sent w →
+    IncludesAreThere hd w.lines → DisksAre (see sent w) disks → AreShown hd w.lines (see sent w) disks

@@ -31,10 +31,12 @@ WritersAreCalledFirst = (values : Values) (lines : List Line) (x : ℕ) (S : Sta
 -- of these tops, the newest first, each that wrote the object had its commit called behind those that wrote it before
 abbrev pub WritersAreNewestFirst : List Line → ℕ → List Top → Type 0
 WritersAreNewestFirst lines x [] = ⊤
-WritersAreNewestFirst lines x (t ∷ ts) = ((u : Top) → Contains ts u → Wrote lines x u → Wrote lines x t → u.at < t.at) × WritersAreNewestFirst lines x ts
+WritersAreNewestFirst lines x (t ∷ ts) =
+    ((u : Top) → Contains ts u → Wrote lines x u → Wrote lines x t → u.at < t.at) × WritersAreNewestFirst lines x ts
 
 -- So it is of the tops which the disk machine's decisions that count are, each of them decided once, where the machine decided in the
 -- order of commit calls against decisions.
 abbrev pub DecidedWritersStand : Type 0
 DecidedWritersStand = (values : Values) (lines : List Line) (x : ℕ) (S : State) → AreRight new_book lines → IsTied values lines x S
-    → (ds : List Done) (those : List Top) → AreTurnsOf lines ds → AreDecisions values lines x (filter counts_of ds) those → AreOnce ds → WritersAreNewestFirst lines x those
+    → (ds : List Done) (those : List Top) → AreTurnsOf lines ds → AreDecisions values lines x (filter counts_of ds) those → AreOnce ds →
+    WritersAreNewestFirst lines x those

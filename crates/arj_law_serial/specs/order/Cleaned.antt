@@ -6,7 +6,8 @@ use Rattle.arj_base.specs.Uid.{entry, nobody, object}
 use Rattle.arj_class.specs.Table.{class_of}
 use Rattle.arj_journal.specs.declared.body.Line.{Line}
 use Rattle.arj_journal.specs.declared.header.Header.{Header}
-use Rattle.arj_model.specs.Last.{entry_payload, entry_state, first_values, is_among, last_state, listed, object_line, servers_of_line, state_after}
+use Rattle.arj_model.specs.Last.{entry_payload, entry_state, first_values, is_among, last_state, listed, object_line, servers_of_line}
+use Rattle.arj_model.specs.Last.{state_after}
 use Rattle.arj_law.specs.Growth.{first_stores}
 use Rattle.arj_protocol.specs.Effect.{held_at, holder_of}
 use Rattle.arj_protocol.specs.Order.{uid_number}
@@ -23,12 +24,16 @@ pub record BeginsSo (header : Header) (x : ℕ) (S : State) : Type 0 where
 
 -- What stands of the object on disks is of its value's class; and its entry is one, with the header's servers.
 pub record HaveForm (header : Header) (x : ℕ) (M : Seen) : Type 0 where
-  pub objects : (n : Node) (s : ℕ) (st : ObjectState) → M.nodes s ≡ Some n → held_at (object x) (let d = n.disk in d.store) ≡ Some st → st.class ≡ class_of (first_values header x)
-  pub entries : (n : Node) (st : ObjectState) → M.nodes 1 ≡ Some n → held_at (entry x) (let d = n.disk in d.names) ≡ Some st → (st.class ≡ class.Entry) × (st.payload ≡ entry_payload (servers_of_line (object_line header x)) (let e = state_entry st in e.stores))
+  pub objects : (n : Node) (s : ℕ) (st : ObjectState) → M.nodes s ≡ Some n → held_at (object x) (let d = n.disk in d.store) ≡ Some st →
+      st.class ≡ class_of (first_values header x)
+  pub entries : (n : Node) (st : ObjectState) → M.nodes 1 ≡ Some n → held_at (entry x) (let d = n.disk in d.names) ≡ Some st →
+      (st.class ≡ class.Entry) × (st.payload ≡ entry_payload (servers_of_line (object_line header x)) (let e = state_entry st in e.stores))
 
 -- Clean, of one object: where no prepared action names its entry, the entry is the journal's; and each listed store where none names the
 -- object's state holds its last state.
 pub record IsCleanIn (header : Header) (lines : List Line) (x : ℕ) (M : Seen) : Type 0 where
-  pub names : (n : Node) → M.nodes 1 ≡ Some n → holder_of (entry x) (let d = n.disk in d.names) ≡ None → held_at (entry x) (let d = n.disk in d.names) ≡ Some (entry_state header lines x)
-  pub stores : (n m : Node) (s : ℕ) → M.nodes 1 ≡ Some n → M.nodes s ≡ Some m → is_among (listed header lines x) s ≡ true → holder_of (entry x) (let d = n.disk in d.names) ≡ None → holder_of (object x) (let d = m.disk in d.store) ≡ None
+  pub names : (n : Node) → M.nodes 1 ≡ Some n → holder_of (entry x) (let d = n.disk in d.names) ≡ None →
+      held_at (entry x) (let d = n.disk in d.names) ≡ Some (entry_state header lines x)
+  pub stores : (n m : Node) (s : ℕ) → M.nodes 1 ≡ Some n → M.nodes s ≡ Some m → is_among (listed header lines x) s ≡ true →
+      holder_of (entry x) (let d = n.disk in d.names) ≡ None → holder_of (object x) (let d = m.disk in d.store) ≡ None
       → held_at (object x) (let d = m.disk in d.store) ≡ Some (last_state header lines x)

@@ -1,5 +1,6 @@
 -- The decided tops of an object's disk machine, as a journal has them.
-use Rattle.std.specs.Prelude.{⊤, ◌≡◌, ◌⊎◌, ◌<◌, ◌≤◌, ℕ, ◌==◌, ◌&&◌, not, List, [], ◌∷◌, filter, reverse, Bool, true, false, Option, Some, None, Contains}
+use Rattle.std.specs.Prelude.{⊤, ◌≡◌, ◌⊎◌, ◌<◌, ◌≤◌, ℕ, ◌==◌, ◌&&◌, not, List, [], ◌∷◌, filter, reverse, Bool, true, false, Option, Some}
+use Rattle.std.specs.Prelude.{None, Contains}
 use Rattle.std.specs.List.{AllByRecursion}
 use Rattle.arj_base.specs.declared.uid.Uid.{Uid}
 use Rattle.arj_class.specs.declared.value.Value.{Value}
@@ -38,7 +39,8 @@ pub record IsLastWrite (lines : List Line) (x : ℕ) (t : Top) (c : Call) : Type
 -- that its last write left.
 abbrev pub WroteSo : Values → List Line → ℕ → Top → Option Packed → Type 0
 WroteSo values lines x t None = (e : Call) → Contains (committed_calls lines) e → e.top ≡ t.id → writes_on x e ≡ false
-WroteSo values lines x t (Some w) = (c : Call) × IsLastWrite lines x t c × (w.writer ≡ uid_number c.writer) × (w.content ≡ payload_of (left_by values lines c))
+WroteSo values lines x t (Some w) =
+    (c : Call) × IsLastWrite lines x t c × (w.writer ≡ uid_number c.writer) × (w.content ≡ payload_of (left_by values lines c))
 
 -- A decided top is a committed one of the journal: what it gave to the stores is what it wrote, the stores that it takes out of the
 -- list are those that its commit excluded, and those that it adds are its surviving includes.
@@ -47,7 +49,8 @@ pub record IsDecision (values : Values) (lines : List Line) (x : ℕ) (d : Done)
   pub number : d.top ≡ uid_number (uid_of_id (acts lines) t.id)
   pub wrote : WroteSo values lines x t (let p = d.plan in p.writes)
   pub leaves : (s : ℕ) → (target d.plan s && not (d.got s)) ≡ is_among (leaves_of lines t.id x) s
-  pub joins : filter d.got (let p = d.plan in p.joins) ≡ increasing (filter (λ s. not (is_among (leaves_of lines t.id x) s)) (joins_of lines t.id x))
+  pub joins : filter d.got (let p = d.plan in p.joins)
+      ≡ increasing (filter (λ s. not (is_among (leaves_of lines t.id x) s)) (joins_of lines t.id x))
 
 -- so each, one by one
 abbrev pub AreDecisions : Values → List Line → ℕ → List Done → List Top → Type 0
@@ -92,11 +95,13 @@ Joined lines x t = (n : ℕ) × Contains (joins_of lines t.id x) n
 
 -- each of two tops that wrote an object, or included a store of it, had its turn before the one whose commit was called later
 abbrev pub ChangersHaveTurns : List Line → ℕ → Type 0
-ChangersHaveTurns lines x = (u t : Top) → Contains (tops lines) u → Contains (tops lines) t → Wrote lines x u ⊎ Joined lines x u → Wrote lines x t ⊎ Joined lines x t → u.at < t.at → IsInTurn lines u t
+ChangersHaveTurns lines x = (u t : Top) → Contains (tops lines) u → Contains (tops lines) t → Wrote lines x u ⊎ Joined lines x u →
+    Wrote lines x t ⊎ Joined lines x t → u.at < t.at → IsInTurn lines u t
 
 -- each of two tops that wrote an object had its turn before the one whose commit was called later
 abbrev pub WritersHaveTurns : List Line → Type 0
-WritersHaveTurns lines = (x : ℕ) (u t : Top) → Contains (tops lines) u → Contains (tops lines) t → Wrote lines x u → Wrote lines x t → u.at < t.at → IsInTurn lines u t
+WritersHaveTurns lines = (x : ℕ) (u t : Top) → Contains (tops lines) u → Contains (tops lines) t → Wrote lines x u → Wrote lines x t →
+    u.at < t.at → IsInTurn lines u t
 
 -- The decided tops of the machine that count are these tops of the journal, the newest first in the order in which their commits were
 -- called: all that count, each of which wrote the object or included a store of it, and each that wrote it; the others change nothing of
@@ -116,5 +121,6 @@ pub record DecideChanges (header : Header) (lines : List Line) (x : ℕ) (ds : L
 -- its vote gave.
 abbrev pub VotedSo : (values : Values) (lines : List Line) (x : ℕ) (S : State) → IsTied values lines x S → Uid → Option Packed → Type 0
 VotedSo values lines x S t u None = (c : machine.Call) → In c S.calls → c.write ≡ true → top c.act ≡ t.act u → Alive S c.act → ⊥
-VotedSo values lines x S t u (Some w) = (v : Value) × (a : Act) × ((let b = S.vote (t.act u) in b.value) ≡ t.code v a) × (w.content ≡ payload_of v) × (w.writer ≡ uid_number u)
+VotedSo values lines x S t u (Some w) =
+    (v : Value) × (a : Act) × ((let b = S.vote (t.act u) in b.value) ≡ t.code v a) × (w.content ≡ payload_of v) × (w.writer ≡ uid_number u)
     × (c : machine.Call) × In c S.calls × (c.write ≡ true) × (top c.act ≡ t.act u) × Alive S c.act

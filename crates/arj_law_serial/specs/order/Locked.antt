@@ -1,5 +1,6 @@
 -- Lock rows against the machine of an object, by nodes and by the tables of a journal, and calls that are locked for.
-use Rattle.std.specs.Prelude.{◌≡◌, ◌≢◌, ◌<◌, ◌≤◌, ℕ, ◌==◌, ◌&&◌, if◌then◌else◌, filter, length, take, List, [], ◌∷◌, Bool, true, false, Option, Some, None, Contains}
+use Rattle.std.specs.Prelude.{◌≡◌, ◌≢◌, ◌<◌, ◌≤◌, ℕ, ◌==◌, ◌&&◌, if◌then◌else◌, filter, length, take, List, [], ◌∷◌, Bool, true, false}
+use Rattle.std.specs.Prelude.{Option, Some, None, Contains}
 use Rattle.std.specs.List.{AllByRecursion, list_all, list_any}
 use Rattle.arj_base.specs.Rows.{Row, is_on, last_uid}
 use Rattle.arj_base.specs.Uid.{entry, object, uid_eq}
@@ -30,7 +31,8 @@ IsHeldByUpper lines r = (b : Act) × Began lines b × (last_uid r.holder ≡ b.u
 pub record AreRowsSeen (act : Acts) (lines : List Line) (x : ℕ) (rows : ℕ → List Row) (names : List Row) (S : State) : Type 0 where
   pub servers : (n : ℕ) → SeesRows act (object x) (rows n) (let s = S.server n in s.rows)
   pub naming : SeesRows act (entry x) names (let n = S.naming in n.rows)
-  pub holders : (n : ℕ) (r : Row) → Contains (rows n) r → r.object ≡ object x → (b : Act) × Began lines b × (r.holder ≡ uids (path_of lines b))
+  pub holders : (n : ℕ) (r : Row) → Contains (rows n) r → r.object ≡ object x →
+      (b : Act) × Began lines b × (r.holder ≡ uids (path_of lines b))
   pub askers : (r : Row) → Contains names r → r.object ≡ entry x → IsHeldByUpper lines r
 
 -- After so many lines the machine was in a state on its way to the last one, tied to these lines.
@@ -43,4 +45,3 @@ pub record IsSeenAt (values : Values) (lines : List Line) (x : ℕ) (T : State) 
 -- the node at which the unit of a call ran: that of the binding which its root kept
 abbrev pub ran_at : (values : Values) (lines : List Line) (x : ℕ) (T : State) → IsTied values lines x T → Call → ℕ
 ran_at values lines x T t c = (let b = T.binding (T.kept (root (t.act c.writer))) in b.server)
-

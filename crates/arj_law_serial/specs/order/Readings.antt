@@ -23,4 +23,5 @@ pub record AreShown (header : Header) (lines : List Line) (M : Seen) (disks : Di
   pub stores : (s : ℕ) (n : Node) → M.nodes s ≡ Some n → ShowsPair (disks s) role.Store (let d = n.disk in d.store)
   pub names : (n : Node) → M.nodes 1 ≡ Some n → ShowsPair (disks 1) role.Names (let d = n.disk in d.names)
   pub naming : (n : Node) × (M.nodes 1 ≡ Some n)
-  pub there : (x s : ℕ) → is_among (listed header lines x) s ≡ true → (n : Node) × (M.nodes s ≡ Some n) × (is_some (object_line header x) ≡ true)
+  pub there : (x s : ℕ) → is_among (listed header lines x) s ≡ true →
+      (n : Node) × (M.nodes s ≡ Some n) × (is_some (object_line header x) ≡ true)

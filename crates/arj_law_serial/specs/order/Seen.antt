@@ -32,12 +32,12 @@ pub record RequestsAreOne (M : Seen) : Type 0 where
   pub one : AreOneCall M.sent
   pub numbered : (p : Post) → In p M.sent → (h : Head) (a : Ask) → asks (let q = p in q.message) ≡ Some (h, a) → IsFromOne h a
 
--- The actions that were begun are those of the journal, and for all that may be fixed, tells values apart, agrees with them, and begins with this value,
--- the object is seen in a state of its lock machine, to which the journal is tied.
+-- The actions that were begun are those of the journal, and for all that may be fixed, tells values apart, agrees with them, and begins
+-- with this value, the object is seen in a state of its lock machine, to which the journal is tied.
 abbrev pub IsLockedApart : Values → ℕ → Seen → Type 0
-IsLockedApart values x M = (begun : List Action) × IsAlikeOf begun M × ((f : Fixed) → AreApart f.code → AgreesAs values f x begun M.sent → (S : State) × SeesLocks f x begun S M × AreTied f x M.lines S) × RequestsAreOne M
+IsLockedApart values x M = (begun : List Action) × IsAlikeOf begun M × ((f : Fixed) → AreApart f.code → AgreesAs values f x begun M.sent →
+    (S : State) × SeesLocks f x begun S M × AreTied f x M.lines S) × RequestsAreOne M
 
 -- so it is of the world, of each object of which a call was answered
 abbrev pub AreLocked : Header → World → Type 0
 AreLocked hd w = (x : ℕ) → IsCalled x (let v = w in v.lines) → Holds hd (IsLockedApart (first_values hd) x) w
-

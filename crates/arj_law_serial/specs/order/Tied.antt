@@ -29,10 +29,12 @@ path_of lines a = path (acts lines) a.label
 pub record HasPlaces (act : Acts) (lines : List Line) : Type 0 where
   pub one : (a b : Act) → Began lines a → Began lines b → act a.uid ≡ act b.uid → a.uid ≡ b.uid
   pub above : (a b : Act) → Began lines a → Began lines b → on (act a.uid) (act b.uid) ≡ is_on (uids (path_of lines a)) b.uid
-  pub filled : (a : Act) (m : machine.Act) → Began lines a → on (act a.uid) m ≡ true → is_action m ≡ true → (b : Act) × Began lines b × (m ≡ act b.uid)
+  pub filled : (a : Act) (m : machine.Act) → Began lines a → on (act a.uid) m ≡ true → is_action m ≡ true →
+      (b : Act) × Began lines b × (m ≡ act b.uid)
   pub tops : (a : Act) → Began lines a → machine.is_top (act a.uid) ≡ is_top a.kind
   pub actions : (a : Act) → Began lines a → is_action (act a.uid) ≡ not (is_serial a.kind)
-  pub units : (a b : Act) → Began lines a → Began lines b → root (act a.uid) ≡ root (act b.uid) → root_in (path_of lines a) ≡ root_in (path_of lines b)
+  pub units : (a b : Act) → Began lines a → Began lines b → root (act a.uid) ≡ root (act b.uid) →
+      root_in (path_of lines a) ≡ root_in (path_of lines b)
 
 -- two values have two codes, and so have two tops that wrote them
 abbrev pub AreApart : Codes → Type 0

@@ -15,4 +15,5 @@ pub record AreInTurn (s : State) (c d : Call) : Type 0 where
 
 -- So it is of each write and each later call, of two decided tops, neither of which was undone.
 abbrev pub TakeTurns : State → Type 0
-TakeTurns s = (c d : Call) → In c s.calls → In d s.calls → c.line < d.line → c.write ≡ true → Alive s c.act → Alive s d.act → IsDecided s (top c.act) → IsDecided s (top d.act) → top c.act ≢ top d.act → AreInTurn s c d
+TakeTurns s = (c d : Call) → In c s.calls → In d s.calls → c.line < d.line → c.write ≡ true → Alive s c.act → Alive s d.act →
+    IsDecided s (top c.act) → IsDecided s (top d.act) → top c.act ≢ top d.act → AreInTurn s c d

@@ -41,16 +41,18 @@ pub record IsPartAsked (sent : List Post) (u : Uid) (to : ℕ) : Type 0 where
 abbrev pub IsSpent : List Action → Uid → Tree → Type 0
 IsSpent begun u t = IsDecided u ending.Abort t ⊎ ((a : Action) × Contains begun a × (act_of a ≡ u) × IsOver (root_of a.path) t)
 
--- An action of this coordinator of which an abort was told has ended; and where the node was asked for a part in it, the action was aborted,
--- or its root has ended.
+-- An action of this coordinator of which an abort was told has ended; and where the node was asked for a part in it, the action was
+-- aborted, or its root has ended.
 abbrev pub KnowsAborts : List Action → List Post → Tree → Type 0
-KnowsAborts begun sent t = (u : Uid) (to : ℕ) → IsAbortTold sent u to → is_own u t ≡ true → IsOver u t × (IsPartAsked sent u to → IsSpent begun u t)
+KnowsAborts begun sent t = (u : Uid) (to : ℕ) → IsAbortTold sent u to → is_own u t ≡ true →
+    IsOver u t × (IsPartAsked sent u to → IsSpent begun u t)
 
 -- While the node is down: where it has the record of a constituent that isn't decided by the journal, an action of that one's root of which
 -- an abort was told to whom was asked for a part was aborted by the journal.
 abbrev pub KeepsAborts : List Action → List Post → Book → ℕ → List (Uid × Intent) → Type 0
 KeepsAborts begun sent B k intents = (w : Uid) (i : Intent) → at_uid w intents ≡ Some i → i.root ≢ w → (is_decided B w ≡ true → ⊥)
-    → (u : Uid) (to : ℕ) → u.node ≡ k → IsAbortTold sent u to → IsPartAsked sent u to → (a : Action) → Contains begun a → act_of a ≡ u → root_of a.path ≡ i.root → is_on B.aborted u ≡ true
+    → (u : Uid) (to : ℕ) → u.node ≡ k → IsAbortTold sent u to → IsPartAsked sent u to → (a : Action) → Contains begun a → act_of a ≡ u →
+    root_of a.path ≡ i.root → is_on B.aborted u ≡ true
 
 -- ---- the world
 
@@ -63,4 +65,5 @@ pub record AbortsAreKnown (begun : List Action) (M : Seen) : Type 0 where
   pub told : (u : Uid) (to : ℕ) → IsAbortTold M.sent u to → IsBegunAt begun M.nodes u
   pub confirms : (p : Post) (h : Head) (a : Ask) → In p M.sent → asks p.message ≡ Some (h, a) → is_confirm a ≡ true → p.to ≡ 1
   pub up : (j : ℕ) (n : Node) (t : Parts) → M.nodes j ≡ Some n → n.live ≡ Some t → KnowsAborts begun M.sent t.coord.tree
-  pub down : (j : ℕ) (n : Node) → M.nodes j ≡ Some n → n.live ≡ None → KeepsAborts begun M.sent (book M.lines) j (let d = n.disk in d.intents)
+  pub down : (j : ℕ) (n : Node) → M.nodes j ≡ Some n → n.live ≡ None →
+      KeepsAborts begun M.sent (book M.lines) j (let d = n.disk in d.intents)

@@ -1,5 +1,5 @@
--- Who acknowledges a top's commit: whoever was asked for a part in it, a vote or naming's confirmation, is listed by its record, acknowledges its
--- commit before the record goes, and is told no abort of it before.
+-- Who acknowledges a top's commit: whoever was asked for a part in it, a vote or naming's confirmation, is listed by its record,
+-- acknowledges its commit before the record goes, and is told no abort of it before.
 use Rattle.std.specs.Prelude.{◌≡◌, ◌⊎◌, ◌<◌, ℕ, Bool, true, false, List, Option, Some, None, Contains, option_map}
 use Rattle.std.specs.List.{AllByRecursion}
 use Rattle.arj_protocol.specs.Words.{Binding, End, Head, Message, Uid, asks, first_uid, is_on, uids_of}
@@ -84,13 +84,14 @@ IsPartOf begun u w = (u ≡ w) ⊎ ((a : Action) × Contains begun a × (act_of 
 abbrev pub AreHomed : List Action → Type 0
 AreHomed begun = AllByRecursion (λ (a : Action). (let r = first_uid (uids_of a.path) in r.node) ≡ (let u = act_of a in u.node)) begun
 
--- A record lists whoever was asked for a part; a top that was recorded and has no record any more was acknowledged by them; and each of them
--- that an abort of it, or of its serializing action, was told acknowledged it before, where it was ever recorded. Who acknowledges was told
--- to.
+-- A record lists whoever was asked for a part; a top that was recorded and has no record any more was acknowledged by them; and each of
+-- them that an abort of it, or of its serializing action, was told acknowledged it before, where it was ever recorded. Who acknowledges was
+-- told to.
 pub record AreListed (begun : List Action) (records : Uid → Option Intent) (sent : List Post) : Type 0 where
   pub listed : (u : Uid) (i : Intent) (k : ℕ) → records u ≡ Some i → IsPartAsked sent u k → has (let j = i in j.nodes) k ≡ true
   pub ended : (u : Uid) (k : ℕ) → IsDemanded sent u → records u ≡ None → IsPartAsked sent u k → HasAcked sent u k
-  pub aborts : (p : Post) (w u : Uid) → In p sent → Contains {X = Uid × End} (told_by p.message) (w, ending.Abort) → IsPartOf begun u w → IsPartAsked sent u p.to → WasRecorded records sent u → HasAcked sent u p.to
+  pub aborts : (p : Post) (w u : Uid) → In p sent → Contains {X = Uid × End} (told_by p.message) (w, ending.Abort) → IsPartOf begun u w →
+      IsPartAsked sent u p.to → WasRecorded records sent u → HasAcked sent u p.to
   pub asked : (u : Uid) (k : ℕ) → HasAcked sent u k → IsDemanded sent u
 
 -- ---- nodes
@@ -99,8 +100,10 @@ pub record AreListed (begun : List Action) (records : Uid → Option Intent) (se
 -- server was told, or was asked to vote for in earlier incarnations; and of a record that is told again, who isn't awaited acknowledged.
 pub record KnowsAcked (few : Bool) (sent : List Post) (k : ℕ) (intents : List (Uid × Intent)) (t : Parts) : Type 0 where
   pub voted : (u : Uid) → is_on (let s = t.server in s.voted) u ≡ true → IsVoter sent u k (let s = t.server in s.inc)
-  pub acked : few ≡ true → (u : Uid) → HasAcked sent u k → (is_told u t.server ≡ true) ⊎ ((i : ℕ) → IsVoter sent u k i → i < (let s = t.server in s.inc))
-  pub awaited : (u : Uid) (j i : Intent) (m : ℕ) → at_uid u (let c = t.coord in c.telling) ≡ Some j → at_uid u intents ≡ Some i → has (let z = i in z.nodes) m ≡ true → has (let z = j in z.nodes) m ≡ false → HasAcked sent u m
+  pub acked : few ≡ true → (u : Uid) → HasAcked sent u k →
+      (is_told u t.server ≡ true) ⊎ ((i : ℕ) → IsVoter sent u k i → i < (let s = t.server in s.inc))
+  pub awaited : (u : Uid) (j i : Intent) (m : ℕ) → at_uid u (let c = t.coord in c.telling) ≡ Some j → at_uid u intents ≡ Some i →
+      has (let z = i in z.nodes) m ≡ true → has (let z = j in z.nodes) m ≡ false → HasAcked sent u m
 
 -- so it is at a node that is up
 abbrev pub KnowsAcks : Bool → List Post → ℕ → Node → Type 0

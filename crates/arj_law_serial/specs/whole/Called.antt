@@ -40,7 +40,8 @@ LinesOf P lines = AllByRecursion (λ (l : Line). SaysOf P l.body) lines
 
 -- so it is at each node that is up, and in the journal
 pub record CallsOf (P : ℕ → Goal → Type 0) (O : ℕ → Type 0) (M : Seen) : Type 0 where
-  pub works : (j : ℕ) (n : Node) (t : Parts) → M.nodes j ≡ Some n → n.live ≡ Some t → WaitFor P t.coord × UsesOf O (let c = t.coord in c.tree)
+  pub works : (j : ℕ) (n : Node) (t : Parts) → M.nodes j ≡ Some n → n.live ≡ Some t →
+      WaitFor P t.coord × UsesOf O (let c = t.coord in c.tree)
   pub lines : LinesOf P M.lines
 
 -- a call's operation is one of the class that the header gives the object

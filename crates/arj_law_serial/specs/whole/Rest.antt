@@ -19,10 +19,14 @@ use Rattle.arj_law_serial.specs.whole.Acks.{IsVoter, WasRecorded, records_in}
 
 -- By the disk machine: what stores give to a call is the last committed state, where the binding is current.
 pub record GivesLoads (f : Fixed) (x : ℕ) (R : List Action → State → Seen → Type 0) : Type 0 where
-  pub last : (begun : List Action) (S : State) (s : Spot) (from : ℕ) (m : Message) (a : Asked × Reply) → R begun S (world_at s) → IsSeenIn (case_of f x begun S) (world_at s) → In (record { from = from; to = s.node; message = m }) (let M = s.seen in M.sent) → answers m ≡ Some a → GivesLast (case_of f x begun S) s from a.0 a.1
+  pub last : (begun : List Action) (S : State) (s : Spot) (from : ℕ) (m : Message) (a : Asked × Reply) → R begun S (world_at s) →
+      IsSeenIn (case_of f x begun S) (world_at s) → In (record { from = from; to = s.node; message = m }) (let M = s.seen in M.sent) →
+      answers m ≡ Some a → GivesLast (case_of f x begun S) s from a.0 a.1
 
--- And by it too: the commit of a top with a surviving write, for which somebody was asked to vote, has a record at its node, or was told to be
--- acknowledged.
+-- And by it too: the commit of a top with a surviving write, for which somebody was asked to vote, has a record at its node, or was told to
+-- be acknowledged.
 pub record GivesRest (f : Fixed) (x : ℕ) (R : List Action → State → Seen → Type 0) : Type 0 where
-  pub recorded : (begun : List Action) (S : State) (M : Seen) (t : Uid) (k : Call) (n : Node) (j i : ℕ) → R begun S M → IsSeenIn (case_of f x begun S) M → M.nodes t.node ≡ Some n → IsVoter M.sent t j i → (let a = S.action (f.act t) in a.stage) ≡ 3 → machine.In k S.calls → k.write ≡ true → Survives S k.act → top k.act ≡ f.act t → WasRecorded (records_in M.nodes) M.sent t
+  pub recorded : (begun : List Action) (S : State) (M : Seen) (t : Uid) (k : Call) (n : Node) (j i : ℕ) → R begun S M →
+      IsSeenIn (case_of f x begun S) M → M.nodes t.node ≡ Some n → IsVoter M.sent t j i → (let a = S.action (f.act t) in a.stage) ≡ 3 →
+      machine.In k S.calls → k.write ≡ true → Survives S k.act → top k.act ≡ f.act t → WasRecorded (records_in M.nodes) M.sent t
   pub loads : GivesLoads f x R

@@ -1,24 +1,12 @@
 -- Lists sorted by Uid: what is put and taken out, and sets of Uids.
-use Rattle.std.proofs.Common.{◌≡◌, ◌∙◌, Bool, true, false, cond, not, ◌||◌, List, [], ◌∷◌, rules, refl, sym, ap, subst, Some, None}
-use Rattle.std.specs.BTreeMap.{is_at}
-use Rattle.std.specs.Cmp.{IsTotalOrder}
-use Rattle.std.specs.List.{AllByRecursion, list_any}
-use Rattle.std.specs.Set.{remove_key}
-use Rattle.std.specs.List.Sorted.{IsStrictlySortedBy}
-use Rattle.std.specs.Map.{keys_of}
-use Rattle.std.specs.Ordering.{is_eq, match_ordering}
-use Rattle.std.specs.declared.cmp.Ordering.{Ordering}
-use Rattle.std.specs.declared.cmp.Ordering.TheVariants.{Less, Equal, Greater}
-use Rattle.std.proofs.lemmas.Cmp.{tied_itself}
-use Rattle.std.proofs.lemmas.Map.{lookup-none}
-use Rattle.std.proofs.lemmas.Map.Entries.{none_below_head}
-use Rattle.arj_base.specs.Order.{uid_order}
-use Rattle.arj_base.specs.declared.uid.Uid.{Uid}
+use Rattle.arj_law_store.proofs.Terms
+use Terms.{◌≡◌, ◌∙◌, Bool, true, false, cond, not, ◌||◌, List, [], ◌∷◌, refl, sym, ap, subst, Some, None, AllByRecursion, keys_of, is_eq}
+use Terms.{match_ordering, Ordering, Less, Equal, Greater, uid_order, Uid, is_on, uid_eq, uid_same, uid_is, uid_other, at_uid, put_uid}
+use Terms.{without_uid, with_uid}
 use Rattle.arj_base.specs.contracts.uid.UidOrd.TheImpl.Laws.{total-law}
-use Rattle.arj_base.specs.Rows.{is_on}
-use Rattle.arj_base.specs.Uid.{uid_eq}
-use Rattle.arj_base.proofs.Uids.{uid_same, uid_is, uid_other}
-use Rattle.arj_protocol.specs.Order.{at_uid, put_uid, without_uid, with_uid, drop_uid}
+use Rattle.arj_protocol.specs.Order.{drop_uid}
+use Rattle.std.proofs.{Common.rules, lemmas.Cmp.tied_itself, lemmas.Map.lookup-none, lemmas.Map.Entries.none_below_head}
+use Rattle.std.specs.{BTreeMap.is_at, Cmp.IsTotalOrder, List.list_any, List.Sorted.IsStrictlySortedBy, Set.remove_key}
 
 pub total : IsTotalOrder uid_order
 total = total-law
@@ -67,7 +55,8 @@ module _ {X : Type 0} where
   put_here k v [] = rw (order_itself k) refl
   put_here k v (e ∷ es) = by (uid_order k e.0) refl (put_here k v es)
     where
-      by : (o : Ordering) → uid_order k e.0 ≡ o → at_uid k (put_uid k v es) ≡ Some v → at_uid k (match_ordering o ((k, v) ∷ e ∷ es) ((e.0, v) ∷ es) (e ∷ put_uid k v es)) ≡ Some v
+      by : (o : Ordering) → uid_order k e.0 ≡ o → at_uid k (put_uid k v es) ≡ Some v →
+          at_uid k (match_ordering o ((k, v) ∷ e ∷ es) ((e.0, v) ∷ es) (e ∷ put_uid k v es)) ≡ Some v
       by Less is rest = rw (order_itself k) refl
       by Equal is rest = rw is refl
       by Greater is rest = rw is rest
@@ -76,16 +65,20 @@ module _ {X : Type 0} where
   put_other k j v [] isnt = rw isnt refl
   put_other k j v (e ∷ es) isnt = by (uid_order k e.0) refl (put_other k j v es isnt)
     where
-      by : (o : Ordering) → uid_order k e.0 ≡ o → at_uid j (put_uid k v es) ≡ at_uid j es → at_uid j (match_ordering o ((k, v) ∷ e ∷ es) ((e.0, v) ∷ es) (e ∷ put_uid k v es)) ≡ at_uid j (e ∷ es)
+      by : (o : Ordering) → uid_order k e.0 ≡ o → at_uid j (put_uid k v es) ≡ at_uid j es →
+          at_uid j (match_ordering o ((k, v) ∷ e ∷ es) ((e.0, v) ∷ es) (e ∷ put_uid k v es)) ≡ at_uid j (e ∷ es)
       by Less is rest = rw isnt refl
-      by Equal is rest = let apart : is_eq (uid_order j e.0) ≡ false = subst (λ w. is_eq (uid_order j w) ≡ false) (order_exact k e.0 is) isnt in rw apart refl
+      by Equal is rest = let apart : is_eq (uid_order j e.0) ≡ false = subst (λ w. is_eq (uid_order j w) ≡ false) (order_exact k e.0 is)
+          isnt in rw apart refl
       by Greater is rest = rw rest refl
 
-  all_put : (P : Uid → Type 0) (k : Uid) (v : X) (es : List (Uid × X)) → AllByRecursion P (keys_of es) → P k → AllByRecursion P (keys_of (put_uid k v es))
+  all_put : (P : Uid → Type 0) (k : Uid) (v : X) (es : List (Uid × X)) → AllByRecursion P (keys_of es) → P k →
+      AllByRecursion P (keys_of (put_uid k v es))
   all_put P k v [] all p = (p, tt)
   all_put P k v (e ∷ es) all p = by (uid_order k e.0) (all_put P k v es all.1 p)
     where
-      by : (o : Ordering) → AllByRecursion P (keys_of (put_uid k v es)) → AllByRecursion P (keys_of (match_ordering o ((k, v) ∷ e ∷ es) ((e.0, v) ∷ es) (e ∷ put_uid k v es)))
+      by : (o : Ordering) → AllByRecursion P (keys_of (put_uid k v es)) →
+          AllByRecursion P (keys_of (match_ordering o ((k, v) ∷ e ∷ es) ((e.0, v) ∷ es) (e ∷ put_uid k v es)))
       by Less rest = (p, all)
       by Equal rest = all
       by Greater rest = (all.0, rest)
@@ -99,7 +92,8 @@ module _ {X : Type 0} where
   put_rises k v [] rises = (tt, tt)
   put_rises k v (e ∷ es) rises = by (uid_order k e.0) refl (put_rises k v es rises.1)
     where
-      by : (o : Ordering) → uid_order k e.0 ≡ o → Rises (put_uid k v es) → Rises (match_ordering o ((k, v) ∷ e ∷ es) ((e.0, v) ∷ es) (e ∷ put_uid k v es))
+      by : (o : Ordering) → uid_order k e.0 ≡ o → Rises (put_uid k v es) →
+          Rises (match_ordering o ((k, v) ∷ e ∷ es) ((e.0, v) ∷ es) (e ∷ put_uid k v es))
       by Less is rest = ((is, lower_yet k e.0 es is rises.0), rises)
       by Equal is rest = rises
       by Greater is rest = (all_put (λ w. uid_order e.0 w ≡ Less) k v es rises.0 (turned k e.0 is), rest)
@@ -111,7 +105,8 @@ module _ {X : Type 0} where
   without_here k [] rises = refl
   without_here k (e ∷ es) rises = by (is_eq (uid_order k e.0)) refl (without_here k es rises.1)
     where
-      by : (b : Bool) → is_eq (uid_order k e.0) ≡ b → at_uid k (without_uid k es) ≡ None → at_uid k (cond b es (e ∷ without_uid k es)) ≡ None
+      by : (b : Bool) → is_eq (uid_order k e.0) ≡ b → at_uid k (without_uid k es) ≡ None →
+          at_uid k (cond b es (e ∷ without_uid k es)) ≡ None
       by true is rest = subst (λ w. at_uid w es ≡ None) (sym (tied k e.0 is)) (first_gone e es rises)
       by false is rest = rw is rest
 
@@ -119,11 +114,14 @@ module _ {X : Type 0} where
   without_other k j [] isnt = refl
   without_other k j (e ∷ es) isnt = by (is_eq (uid_order k e.0)) refl (without_other k j es isnt)
     where
-      by : (b : Bool) → is_eq (uid_order k e.0) ≡ b → at_uid j (without_uid k es) ≡ at_uid j es → at_uid j (cond b es (e ∷ without_uid k es)) ≡ at_uid j (e ∷ es)
-      by true is rest = let apart : is_eq (uid_order j e.0) ≡ false = subst (λ w. is_eq (uid_order j w) ≡ false) (tied k e.0 is) isnt in rw apart refl
+      by : (b : Bool) → is_eq (uid_order k e.0) ≡ b → at_uid j (without_uid k es) ≡ at_uid j es →
+          at_uid j (cond b es (e ∷ without_uid k es)) ≡ at_uid j (e ∷ es)
+      by true is rest = let apart : is_eq (uid_order j e.0) ≡ false = subst (λ w. is_eq (uid_order j w) ≡ false) (tied k e.0 is) isnt in
+          rw apart refl
       by false is rest = rw rest refl
 
-  all_without : (P : Uid → Type 0) (k : Uid) (es : List (Uid × X)) → AllByRecursion P (keys_of es) → AllByRecursion P (keys_of (without_uid k es))
+  all_without : (P : Uid → Type 0) (k : Uid) (es : List (Uid × X)) → AllByRecursion P (keys_of es) →
+      AllByRecursion P (keys_of (without_uid k es))
   all_without P k [] all = tt
   all_without P k (e ∷ es) all = by (is_eq (uid_order k e.0)) (all_without P k es all.1)
     where
@@ -166,7 +164,8 @@ pub tied_is : (u w : Uid) → is_eq (uid_order u w) ≡ uid_eq w u
 tied_is u w = by (uid_order u w) refl
   where
     apart : (o : Ordering) → uid_order u w ≡ o → is_eq o ≡ false → uid_eq w u ≡ false
-    apart o is isnt = uid_other w u (λ same. let never : true ≡ false = sym (ap is_eq (order_itself u)) ∙ (λ i. is_eq (uid_order u (sym same i))) ∙ ap is_eq is ∙ isnt in cc)
+    apart o is isnt = uid_other w u (λ same. let never : true ≡ false = sym (ap is_eq (order_itself u))
+        ∙ (λ i. is_eq (uid_order u (sym same i))) ∙ ap is_eq is ∙ isnt in cc)
 
     by : (o : Ordering) → uid_order u w ≡ o → is_eq o ≡ uid_eq w u
     by Less is = sym (apart Less is refl)
@@ -192,10 +191,12 @@ unfolding IsStrictlySortedBy
 drop_is [] u rises = refl
 drop_is (w ∷ us) u rises = by (uid_eq w u) refl (drop_is us u rises.1)
   where
-    by : (b : Bool) → uid_eq w u ≡ b → remove_key (is_at (uid_order u)) us ≡ drop_uid u us → cond (is_eq (uid_order u w)) us (w ∷ remove_key (is_at (uid_order u)) us) ≡ cond (not b) (w ∷ drop_uid u us) (drop_uid u us)
+    by : (b : Bool) → uid_eq w u ≡ b → remove_key (is_at (uid_order u)) us ≡ drop_uid u us →
+        cond (is_eq (uid_order u w)) us (w ∷ remove_key (is_at (uid_order u)) us) ≡ cond (not b) (w ∷ drop_uid u us) (drop_uid u us)
     by true is rest =
         let same : w ≡ u = uid_is w u is in
-        (λ i. cond ((tied_is u w ∙ is) i) us (w ∷ remove_key (is_at (uid_order u)) us)) ∙ sym (not_on u us (subst (λ v. AllByRecursion (λ x. uid_order v x ≡ Less) us) same rises.0))
+        (λ i. cond ((tied_is u w ∙ is) i) us (w ∷ remove_key (is_at (uid_order u)) us))
+        ∙ sym (not_on u us (subst (λ v. AllByRecursion (λ x. uid_order v x ≡ Less) us) same rises.0))
     by false is rest = (λ i. cond ((tied_is u w ∙ is) i) us (w ∷ remove_key (is_at (uid_order u)) us)) ∙ ap (λ ws. w ∷ ws) rest
 
 -- what a set has once a Uid is put into it
@@ -203,7 +204,8 @@ pub with_on : (us : List Uid) (u w : Uid) → is_on (with_uid u us) w ≡ (is_on
 with_on [] u w = or_false (uid_eq u w)
 with_on (v ∷ us) u w = by (uid_order u v) refl (with_on us u w)
   where
-    by : (o : Ordering) → uid_order u v ≡ o → is_on (with_uid u us) w ≡ (is_on us w || uid_eq u w) → is_on (match_ordering o (u ∷ v ∷ us) (v ∷ us) (v ∷ with_uid u us)) w ≡ (is_on (v ∷ us) w || uid_eq u w)
+    by : (o : Ordering) → uid_order u v ≡ o → is_on (with_uid u us) w ≡ (is_on us w || uid_eq u w) →
+        is_on (match_ordering o (u ∷ v ∷ us) (v ∷ us) (v ∷ with_uid u us)) w ≡ (is_on (v ∷ us) w || uid_eq u w)
     by Less is rest = or_turned (uid_eq u w) (is_on (v ∷ us) w)
     by Equal is rest = or_known (uid_eq v w) (is_on us w) (uid_eq u w) (λ i. uid_eq (order_exact u v is i) w)
     by Greater is rest = (λ i. uid_eq v w || rest i) ∙ or_three (uid_eq v w) (is_on us w) (uid_eq u w)

@@ -1,20 +1,14 @@
 -- What a store is asked of an object, and of an action, is what the protocol's pair has of it.
-use Rattle.std.proofs.Common.{◌≡◌, ◌∙◌, Bool, true, false, List, refl, sym, ap, subst, Option, Some, None}
-use Rattle.std.specs.Prelude.{IfSome, IsSome, MatchOption, is_some, option_map, ◌↔◌}
-use Rattle.arj_base.specs.State.{state_bytes, StateInForm}
-use Rattle.arj_base.specs.declared.state.ObjectState.{ObjectState}
-use Rattle.arj_base.specs.declared.uid.Uid.{Uid}
-use Rattle.arj_base.proofs.Packed.{state_once}
-use Rattle.arj_disk.specs.Says.{names}
-use Rattle.arj_protocol.specs.Effect.{Pair, held_at, holder_of, is_prepared}
-use Rattle.arj_protocol.specs.Order.{at_uid}
-use Rattle.arj_store.specs.Pair as files
-use Rattle.arj_store.specs.Pair.{packed}
-use Rattle.arj_store.specs.declared.answer.Read.{Read}
-use Rattle.arj_store.specs.declared.answer.Read.TheVariants as read
-use Rattle.arj_law_store.specs.store.Files.{IsPairOf}
-use Rattle.arj_law_store.specs.store.Reads.{ReadsAs, state_of}
+use Rattle.arj_law_store.proofs.Terms
+use Terms.{◌≡◌, ◌∙◌, Bool, true, false, List, refl, sym, ap, subst, Option, Some, None, IfSome, IsSome, MatchOption, is_some, option_map}
+use Terms.{state_bytes, StateInForm, ObjectState, Uid, state_once, names, Pair, held_at, holder_of, at_uid, packed, IsPairOf}
+use Terms.files
 use Rattle.arj_law_store.proofs.store.Refused.{all_there, holder_is, no_holder}
+use Rattle.arj_law_store.specs.store.Reads.{ReadsAs, state_of}
+use Rattle.arj_protocol.specs.Effect.{is_prepared}
+use Rattle.arj_store.specs.declared.answer.Read.{Read}
+use Rattle.std.specs.Prelude.{◌↔◌}
+use Rattle.arj_store.specs.declared.answer.Read.TheVariants as read
 
 module _ (p : files.Pair) (d : Pair) (are : IsPairOf p d) where
   pub prepared_as : (act : Uid) (b : Bool) → (b ≡ true) ↔ IsSome (p.pend act) → is_prepared act d ≡ b

@@ -1,17 +1,10 @@
 -- Sets of Uids: a list of Uids in increasing order is told by what is on it.
-use Rattle.std.proofs.Common.{◌≡◌, ◌∙◌, ◌||◌, Bool, true, false, List, [], ◌∷◌, refl, sym, ap, subst}
-use Rattle.std.specs.List.{AllByRecursion}
-use Rattle.std.specs.List.Sorted.{IsStrictlySortedBy}
-use Rattle.std.specs.Ordering.{is_eq, match_ordering}
-use Rattle.std.specs.declared.cmp.Ordering.{Ordering}
-use Rattle.std.specs.declared.cmp.Ordering.TheVariants.{Less, Equal, Greater}
-use Rattle.arj_base.specs.Order.{uid_order}
-use Rattle.arj_base.specs.Rows.{is_on}
-use Rattle.arj_base.specs.Uid.{uid_eq}
-use Rattle.arj_base.specs.declared.uid.Uid.{Uid}
-use Rattle.arj_base.proofs.Uids.{uid_is, uid_same}
-use Rattle.arj_protocol.specs.Order.{uid_set, with_uid}
+use Rattle.arj_law_store.proofs.Terms
+use Terms.{◌≡◌, ◌∙◌, ◌||◌, Bool, true, false, List, [], ◌∷◌, refl, sym, ap, subst, AllByRecursion, is_eq, match_ordering, Ordering, Less}
+use Terms.{Equal, Greater, uid_order, is_on, uid_eq, Uid, uid_is, uid_same, with_uid}
 use Rattle.arj_law_store.proofs.store.Keys.{or_turned, order_exact, tied_is, total, turned, with_on}
+use Rattle.arj_protocol.specs.Order.{uid_set}
+use Rattle.std.specs.List.Sorted.{IsStrictlySortedBy}
 
 -- the Uid is below each of these
 abbrev IsBelow : Uid → List Uid → Type 0
@@ -35,7 +28,8 @@ unfolding IsStrictlySortedBy
 with_rises u [] rises = (tt, tt)
 with_rises u (v ∷ us) rises = by (uid_order u v) refl (with_rises u us rises.1)
   where
-    by : (o : Ordering) → uid_order u v ≡ o → IsStrictlySortedBy uid_order (with_uid u us) → IsStrictlySortedBy uid_order (match_ordering o (u ∷ v ∷ us) (v ∷ us) (v ∷ with_uid u us))
+    by : (o : Ordering) → uid_order u v ≡ o → IsStrictlySortedBy uid_order (with_uid u us) →
+        IsStrictlySortedBy uid_order (match_ordering o (u ∷ v ∷ us) (v ∷ us) (v ∷ with_uid u us))
     by Less is rest = ((is, below_rest u v us is rises.0), rises)
     by Equal is rest = rises
     by Greater is rest = (below_with v u us (turned u v is) rises.0, rest)
@@ -56,7 +50,8 @@ not_on u (w ∷ us) all = λ i. (sym (tied_is u w) ∙ ap is_eq all.0) i || not_
 first_on : (u : Uid) (us : List Uid) → is_on (u ∷ us) u ≡ true
 first_on u us = λ i. uid_same u i || is_on us u
 
-pub same_set : (us ws : List Uid) → IsStrictlySortedBy uid_order us → IsStrictlySortedBy uid_order ws → ((u : Uid) → is_on us u ≡ is_on ws u) → us ≡ ws
+pub same_set : (us ws : List Uid) → IsStrictlySortedBy uid_order us → IsStrictlySortedBy uid_order ws →
+    ((u : Uid) → is_on us u ≡ is_on ws u) → us ≡ ws
 unfolding IsStrictlySortedBy
 same_set [] [] rises too same = refl
 same_set [] (w ∷ ws) rises too same = let never : false ≡ true = same w ∙ first_on w ws in absurd (cc never)
@@ -64,8 +59,10 @@ same_set (u ∷ us) [] rises too same = let never : true ≡ false = sym (first_
 same_set (u ∷ us) (w ∷ ws) rises too same = by (uid_order u w) refl (same_set us ws rises.1 too.1)
   where
     by : (o : Ordering) → uid_order u w ≡ o → (((v : Uid) → is_on us v ≡ is_on ws v) → us ≡ ws) → u ∷ us ≡ w ∷ ws
-    by Less is rest = let never : true ≡ false = sym (first_on u us) ∙ same u ∙ not_on u (w ∷ ws) (is, below_rest u w ws is too.0) in absurd (cc never)
-    by Greater is rest = let never : true ≡ false = sym (first_on w ws) ∙ sym (same w) ∙ not_on w (u ∷ us) (turned u w is, below_rest w u us (turned u w is) rises.0) in absurd (cc never)
+    by Less is rest = let never : true ≡ false = sym (first_on u us) ∙ same u ∙ not_on u (w ∷ ws) (is, below_rest u w ws is too.0) in
+        absurd (cc never)
+    by Greater is rest = let never : true ≡ false = sym (first_on w ws) ∙ sym (same w)
+        ∙ not_on w (u ∷ us) (turned u w is, below_rest w u us (turned u w is) rises.0) in absurd (cc never)
     by Equal is rest = λ i. order_exact u w is i ∷ rest (λ v. tails v (uid_eq u v) refl) i
       where
         head_is : (v : Uid) → uid_eq u v ≡ uid_eq w v
@@ -73,5 +70,6 @@ same_set (u ∷ us) (w ∷ ws) rises too same = by (uid_order u w) refl (same_se
 
         tails : (v : Uid) (b : Bool) → uid_eq u v ≡ b → is_on us v ≡ is_on ws v
         tails v true here =
-            not_on v us (subst (λ x. IsBelow x us) (uid_is u v here) rises.0) ∙ sym (not_on v ws (subst (λ x. IsBelow x ws) (uid_is w v (sym (head_is v) ∙ here)) too.0))
+            not_on v us (subst (λ x. IsBelow x us) (uid_is u v here) rises.0)
+            ∙ sym (not_on v ws (subst (λ x. IsBelow x ws) (uid_is w v (sym (head_is v) ∙ here)) too.0))
         tails v false here = (λ i. sym here i || is_on us v) ∙ (same v ∙ (λ i. (sym (head_is v) ∙ here) i || is_on ws v))

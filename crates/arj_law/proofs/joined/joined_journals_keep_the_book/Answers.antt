@@ -1,5 +1,4 @@
-use Rattle.arj_law.proofs.JoinedBook.{book_join}
-use Rattle.arj_law.proofs.JoinedOrder.{serial_both}
+use Rattle.arj_law.proofs.{JoinedBook.book_join, JoinedOrder.serial_both}
 use Rattle.arj_law.proofs.joined.joined_journals_keep_the_book.Goals as goal
 
 pub returns-clause-serial : goal.returns-clause-serial

@@ -1,6 +1,4 @@
-use Rattle.arj_law.proofs.JoinedCalls.{calls_join, tops_join}
-use Rattle.arj_law.proofs.JoinedLast.{serial_tops_join}
-use Rattle.arj_law.proofs.JoinedOrder.{serial_join}
+use Rattle.arj_law.proofs.{JoinedCalls.calls_join, JoinedCalls.tops_join, JoinedLast.serial_tops_join, JoinedOrder.serial_join}
 use Rattle.arj_law.proofs.joined.joined_journals_stand_one_behind_the_other.Goals as goal
 
 pub returns-clause-calls : goal.returns-clause-calls

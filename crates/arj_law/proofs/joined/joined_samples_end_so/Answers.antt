@@ -1,4 +1,4 @@
-use Rattle.std.proofs.Common.{refl}
+use Rattle.arj_law.proofs.Terms.{refl}
 use Rattle.arj_law.proofs.joined.joined_samples_end_so.Goals as goal
 
 pub returns-clause-adds : goal.returns-clause-adds
@@ -25,7 +25,14 @@ returns-clause-includes c = record {
 
 pub returns-clause-nested : goal.returns-clause-nested
 returns-clause-nested c = record {
-  apart = record { labels = (tt, (tt, ((refl, tt), ((refl, tt), ((refl, tt), (tt, ((refl, tt), ((refl, tt), ((refl, tt), ((refl, tt), ((refl, tt), tt))))))))))); found = tt; past = tt };
+  apart = record {
+    labels = (
+      tt,
+      (tt, ((refl, tt), ((refl, tt), ((refl, tt), (tt, ((refl, tt), ((refl, tt), ((refl, tt), ((refl, tt), ((refl, tt), tt)))))))))),
+    );
+    found = tt;
+    past = tt;
+  };
   called = (refl, (refl, tt));
   serial = (refl, (refl, (refl, (refl, tt))));
   state_is = refl;

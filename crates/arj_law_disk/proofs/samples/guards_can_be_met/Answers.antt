@@ -1,6 +1,8 @@
-use Rattle.arj_law_disk.proofs.machine.FirstRuns.{first_named, serial_named, older_named}
-use Rattle.arj_law_disk.proofs.machine.SmallRuns.{excluding_runs, stopped_before_runs, stopped_after_runs, naming_restarts_runs, excluded_runs, removed_runs, including_runs, serializing_runs, retaining_runs}
-use Rattle.std.proofs.Common.{◌≡◌, Bool, true, false, refl}
+use Rattle.arj_law_disk.proofs.Terms.{◌≡◌, Bool, true, false, refl}
+use Rattle.arj_law_disk.proofs.machine
+use machine.FirstRuns.{first_named, serial_named, older_named}
+use machine.SmallRuns.{excluding_runs, stopped_before_runs, stopped_after_runs, naming_restarts_runs, excluded_runs, removed_runs}
+use machine.SmallRuns.{including_runs, serializing_runs, retaining_runs}
 use Rattle.arj_law_disk.proofs.samples.guards_can_be_met.Goals as goal
 
 pub returns-clause-excluding : goal.returns-clause-excluding

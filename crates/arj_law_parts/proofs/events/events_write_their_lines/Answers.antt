@@ -1,5 +1,4 @@
-use Rattle.arj_law_parts.proofs.steps.Spoken.{event_writes}
-use Rattle.arj_law_parts.proofs.steps.Whole.{event_whole, format_whole, runs_whole}
+use Rattle.arj_law_parts.proofs.steps.{Spoken.event_writes, Whole.event_whole, Whole.format_whole, Whole.runs_whole}
 use Rattle.arj_law_parts.proofs.events.events_write_their_lines.Goals as goal
 
 pub returns-clause-lines : goal.returns-clause-lines

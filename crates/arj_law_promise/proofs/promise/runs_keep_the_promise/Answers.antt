@@ -1,4 +1,6 @@
-use Rattle.arj_law_promise.proofs.statement.Keeping.{calm_end, fronts_keep, nothing_given_up, overtaken, quiet_end, quiet_hold, rounds_end, runs_keep, scripts_run, who_waits_is_answered}
+use Rattle.arj_law_promise.proofs.statement
+use statement.Keeping.{calm_end, fronts_keep, nothing_given_up, overtaken, quiet_end, quiet_hold, rounds_end, runs_keep, scripts_run}
+use statement.Keeping.{who_waits_is_answered}
 use Rattle.arj_law_promise.proofs.promise.runs_keep_the_promise.Goals as goal
 
 pub returns-clause-runs : goal.returns-clause-runs

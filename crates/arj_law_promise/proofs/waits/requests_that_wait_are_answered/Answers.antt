@@ -1,5 +1,4 @@
-use Rattle.arj_law_promise.proofs.waiting.Gives.{known_give}
-use Rattle.arj_law_promise.proofs.waiting.Keeping.{waits_keep}
+use Rattle.arj_law_promise.proofs.waiting.{Gives.known_give, Keeping.waits_keep}
 use Rattle.arj_law_promise.proofs.waits.requests_that_wait_are_answered.Goals as goal
 
 pub returns-clause-handlers : goal.returns-clause-handlers

@@ -1,4 +1,4 @@
-use Rattle.std.specs.Prelude.{◌≡◌, true}
+use Rattle.arj_law_parts.proofs.Words.{◌≡◌, true}
 use Rattle.arj_law_runs.proofs.addresses.Runs.{runs_so, within}
 use Rattle.arj_law_runs.proofs.frames.frames_go_within.Goals as goal
 

@@ -1,6 +1,5 @@
-use Rattle.arj_law_runs.proofs.journal.Paths.{paths_agree}
-use Rattle.arj_law_runs.proofs.calls.Reaching.{moves_keep}
-use Rattle.arj_promise.specs.Runs.{world_by}
+use Rattle.arj_law_parts.proofs.Words.{world_by}
+use Rattle.arj_law_runs.proofs.{calls.Reaching.moves_keep, journal.Paths.paths_agree}
 use Rattle.arj_law_runs.proofs.lines.paths_are_those_of_journals.Goals as goal
 
 pub returns : goal.returns

@@ -1,5 +1,5 @@
-use Rattle.arj_law_runs.proofs.resting.EndedRuns.{runs_answer_or_wait}
-use Rattle.arj_law_runs.proofs.resting.PlainRuns.{quiesces_answer_or_leave, quiesces_give_nothing_up}
+use Rattle.arj_law_runs.proofs.resting
+use resting.{EndedRuns.runs_answer_or_wait, PlainRuns.quiesces_answer_or_leave, PlainRuns.quiesces_give_nothing_up}
 use Rattle.arj_law_runs.proofs.rounds.whoever_waits_is_answered.Goals as goal
 
 pub returns-clause-runs : goal.returns-clause-runs

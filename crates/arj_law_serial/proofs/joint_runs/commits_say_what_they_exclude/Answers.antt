@@ -1,5 +1,4 @@
-use Rattle.arj_law_serial.proofs.joint.MarkAsks.{runs_ask_marks}
-use Rattle.arj_law_serial.proofs.joint.MarkRuns.{runs_say_marks}
+use Rattle.arj_law_serial.proofs.joint.{MarkAsks.runs_ask_marks, MarkRuns.runs_say_marks}
 use Rattle.arj_law_serial.proofs.joint_runs.commits_say_what_they_exclude.Goals as goal
 
 pub returns-clause-said : goal.returns-clause-said

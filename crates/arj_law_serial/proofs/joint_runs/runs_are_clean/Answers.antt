@@ -1,6 +1,4 @@
-use Rattle.arj_law_serial.proofs.joint.Clean.{runs_are_clean}
-use Rattle.arj_law_serial.proofs.joint.Listing.{all_there}
-use Rattle.arj_law_serial.proofs.joint.Showing.{readings_show_pairs}
+use Rattle.arj_law_serial.proofs.joint.{Clean.runs_are_clean, Listing.all_there, Showing.readings_show_pairs}
 use Rattle.arj_law_serial.proofs.joint_runs.runs_are_clean.Goals as goal
 
 pub returns-clause-clean : goal.returns-clause-clean

@@ -1,5 +1,4 @@
-use Rattle.arj_law_serial.proofs.joint.Clean.{joined_runs_are_serial, joined_runs_are_tied}
-use Rattle.arj_law_serial.proofs.joint.JoinedRuns.{moves_are_joined}
+use Rattle.arj_law_serial.proofs.joint.{Clean.joined_runs_are_serial, Clean.joined_runs_are_tied, JoinedRuns.moves_are_joined}
 use Rattle.arj_law_serial.proofs.joint_runs.runs_have_both_machines.Goals as goal
 
 pub returns-clause-joined : goal.returns-clause-joined

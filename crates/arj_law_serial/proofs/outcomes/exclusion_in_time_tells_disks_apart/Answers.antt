@@ -1,4 +1,5 @@
-use Rattle.arj_law_serial.proofs.joint.InTime.{disk_lists, disk_three_in_time, disk_three_late, disk_two_in_time, is_new, is_old, three_in_time, three_late, two_in_time}
+use Rattle.arj_law_serial.proofs.joint
+use joint.InTime.{disk_lists, disk_three_in_time, disk_three_late, disk_two_in_time, is_new, is_old, three_in_time, three_late, two_in_time}
 use Rattle.arj_law_serial.proofs.outcomes.exclusion_in_time_tells_disks_apart.Goals as goal
 
 pub returns-clause-prepared : goal.returns-clause-prepared

@@ -1,4 +1,4 @@
-use Rattle.std.proofs.Common.{refl}
+use Rattle.arj_law_parts.proofs.Words.{refl}
 use Rattle.arj_law_serial.proofs.outcomes.one_outcome_tells_journals_apart.Goals as goal
 
 pub returns-clause-right : goal.returns-clause-right

@@ -1,5 +1,4 @@
-use Rattle.arj_law_serial.proofs.joint.DisksInTime.{runs_exclude_on_disks}
-use Rattle.arj_law_serial.proofs.joint.RunsInTime.{runs_exclude}
+use Rattle.arj_law_serial.proofs.joint.{DisksInTime.runs_exclude_on_disks, RunsInTime.runs_exclude}
 use Rattle.arj_law_serial.proofs.outcomes.runs_exclude_in_time.Goals as goal
 
 pub returns-clause-pairs : goal.returns-clause-pairs
