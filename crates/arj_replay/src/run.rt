@@ -12,7 +12,7 @@ ghost use Rattle.arj_journal.specs.declared.header.Header.{Header as header_type
 ghost use Rattle.arj_text.specs.declared.label.Label.{Label as label_type};
 ghost use Rattle.arj_model.specs.Calls.{Call};
 ghost use Rattle.arj_model.specs.Last.{first_values as values_of_header, object_line};
-ghost use Rattle.arj_model.specs.Serial.{Values, after, with_value};
+ghost use Rattle.arj_model.specs.Serial.{Values, after, run, with_value};
 ghost use Rattle.arj_reading.specs.Readable.{is_in_form as has_form, object_rule};
 ghost use Rattle.arj_replay.specs.Verdict.{HasCall, HasValues, IsWrong, differs_or, first_among, first_difference, or_value, wanted_of};
 
@@ -170,4 +170,21 @@ pub fn replay(
         }
     }
     Ok(None)
+}
+
+/// The values of the header's objects after the calls at these places were run, one after another from the header's values.
+pub fn values_after(
+    alloc: Global,
+    header: &Header,
+    lines: &[Line],
+    places: &[usize],
+) -> Result<BTreeMap<u16, Value>, AllocError>
+    ensures { (calls : List Call) → map (λ c. c.at) calls ≡ places.now → AllByRecursion (HasCall header.now lines.now) calls
+        → IfOk result (λ values. HasValues header.now (run (values_of_header header.now) calls) values) }
+{
+    let mut values = first_values(alloc, header.objects.as_slice())?;
+    for place in places {
+        let _wrong = run_place(alloc, &mut values, lines, *place)?;
+    }
+    Ok(values)
 }

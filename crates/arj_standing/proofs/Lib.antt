@@ -1,0 +1,3 @@
+pub mod Filters
+pub mod Paths
+pub mod Tables

@@ -1,0 +1,4 @@
+pub mod Begun
+pub mod Doubts
+pub mod Held
+pub mod Node
