@@ -22,17 +22,17 @@ use Rattle.arj_reading.specs.declared.rule.Rule.TheVariants as rule
 use Rattle.arj_replay.specs.Verdict.{HasCall}
 
 -- neither of two rules is broken
-neither : (a b : Option Rule) → or_else a b ≡ None → (a ≡ None) × (b ≡ None)
+pub neither : (a b : Option Rule) → or_else a b ≡ None → (a ≡ None) × (b ≡ None)
 neither None b e = (refl, e)
 neither (Some r) b e = absurd (cc e)
 
 -- neither the line nor what is behind it breaks a rule
-none_broken : (at : ℕ) (r : Option Rule) (behind : Option Broken) → broken_or at r behind ≡ None → (r ≡ None) × (behind ≡ None)
+pub none_broken : (at : ℕ) (r : Option Rule) (behind : Option Broken) → broken_or at r behind ≡ None → (r ≡ None) × (behind ≡ None)
 none_broken at None behind e = (refl, e)
 none_broken at (Some r) behind e = absurd (cc e)
 
 -- the action began, and breaks no rule
-has_begun : (o : Option Named) (f : Named → Option Rule) → of_begun o f ≡ None → (a : Named) × (o ≡ Some a) × (f a ≡ None)
+pub has_begun : (o : Option Named) (f : Named → Option Rule) → of_begun o f ≡ None → (a : Named) × (o ≡ Some a) × (f a ≡ None)
 has_begun None f e = absurd (cc e)
 has_begun (Some a) f e = (a, refl, e)
 

@@ -1,6 +1,9 @@
+mod Begun
 mod Calls
 mod Loops
 mod Marks
+mod Own
 mod Paths
+mod Right
 mod Roots
 mod Survive

@@ -146,7 +146,7 @@ is_serial_alone (a ∷ []) = is_serial a.kind
 is_serial_alone (a ∷ b ∷ rest) = false
 
 -- behind such a path an action is a top
-top_behind : (q : List Act) (a : Act) → q ≢ [] → is_serial_alone q ≡ true → (top_in (q ++ a ∷ []) ≡ Some a) × (chain_in (q ++ a ∷ []) ≡ [])
+pub top_behind : (q : List Act) (a : Act) → q ≢ [] → is_serial_alone q ≡ true → (top_in (q ++ a ∷ []) ≡ Some a) × (chain_in (q ++ a ∷ []) ≡ [])
 top_behind [] a some e = absurd (some refl)
 top_behind (s ∷ []) a some e = by (is_serial s.kind) e
   where
@@ -156,13 +156,13 @@ top_behind (s ∷ []) a some e = by (is_serial s.kind) e
 top_behind (s ∷ t ∷ rest) a some e = absurd (true≢false (sym e))
 
 -- behind any other the top is that of the path
-record SameTop (q : List Act) (a : Act) : Type 0 where
-  act : Act
-  own : top_in q ≡ Some act
-  top : top_in (q ++ a ∷ []) ≡ Some act
-  chain : chain_in (q ++ a ∷ []) ≡ chain_in q ++ a ∷ []
+pub record SameTop (q : List Act) (a : Act) : Type 0 where
+  pub act : Act
+  pub own : top_in q ≡ Some act
+  pub top : top_in (q ++ a ∷ []) ≡ Some act
+  pub chain : chain_in (q ++ a ∷ []) ≡ chain_in q ++ a ∷ []
 
-same_top : (q : List Act) (a : Act) → q ≢ [] → is_serial_alone q ≡ false → SameTop q a
+pub same_top : (q : List Act) (a : Act) → q ≢ [] → is_serial_alone q ≡ false → SameTop q a
 same_top [] a some e = absurd (some refl)
 same_top (s ∷ []) a some e = record { act = s; own = (λ i. cond (e i) None (Some s)); top = (λ i. cond (e i) (Some a) (Some s)); chain = (λ i. cond (e i) [] (a ∷ [])) ∙ sym (λ i. cond (e i) [] [] ++ a ∷ []) }
 same_top (s ∷ t ∷ rest) a some e = by (is_serial s.kind) refl

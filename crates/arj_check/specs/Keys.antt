@@ -1,11 +1,11 @@
 -- Items by the numbers of actions.
-use Rattle.std.specs.Prelude.{ℕ, List, [], ◌∷◌, ◌++◌, Bool, ◌&&◌, ◌||◌, if◌then◌else◌, Option, Some, None, slice_get}
+use Rattle.std.specs.Prelude.{ℕ, List, [], ◌∷◌, ◌++◌, Bool, ◌&&◌, ◌||◌, if◌then◌else◌, Option, Some, None, slice_get, slice_index_or, ◌≡◌, ◌≢◌, ◌==◌, false}
 use Rattle.std.specs.List.{list_all, list_any}
 use Rattle.std.specs.Option.{unwrap_or}
 use Rattle.arj_base.specs.Uid.{uid_eq}
 use Rattle.arj_base.specs.declared.uid.Uid.{Uid}
 use Rattle.arj_model.specs.Actions.{Act, Placed, chain_in, has_end, is_committed, top_in}
-use Rattle.arj_model.specs.Calls.{Top, top_of}
+use Rattle.arj_model.specs.Calls.{Call, Top, top_of}
 use Rattle.arj_model.specs.Serial.{serial_key}
 use Rattle.arj_reading.specs.declared.action.TopAction.{TopAction}
 use Rattle.arj_replay.specs.Orders.{commits_in}
@@ -37,13 +37,34 @@ key_below key ends found p at (Some top) = if list_all (λ a. has_end ends a.id)
 abbrev pub key_at : (List Act → Act → ℕ → List ℕ) → List (Placed ℕ) → List (Placed Uid) → List (List Act) → Placed ℕ → Option (List ℕ)
 key_at key ends found ps m = key_below key ends found (path_at ps m.it) m.at (top_in (path_at ps m.it))
 
+-- the key of a call: the place of its unit, that of its top, what `below` says of its path, and its own
+abbrev pub key_of : List Top → (List Act → List ℕ) → List Act → Act → ℕ → List ℕ
+key_of ts below p top at = serial_key ts top.id ++ (below p ++ at ∷ [])
+
+-- in serial order nothing stands between
+abbrev pub nothing_below : List Act → List ℕ
+nothing_below p = []
+
 -- the key in serial order
 abbrev pub serial_of : List Top → List Act → Act → ℕ → List ℕ
-serial_of ts p top at = serial_key ts top.id ++ at ∷ []
+serial_of ts = key_of ts nothing_below
 
 -- the key in nested order
 abbrev pub nested_of : List Top → List (Placed ℕ) → List Act → Act → ℕ → List ℕ
-nested_of ts ends p top at = serial_key ts top.id ++ (commits_in ends p ++ at ∷ [])
+nested_of ts ends = key_of ts (commits_in ends)
+
+-- the numbers at a place, none where there is no place
+abbrev pub numbers_at : List (List ℕ) → Option ℕ → List ℕ
+numbers_at keys None = []
+numbers_at keys (Some at) = slice_index_or keys at []
+
+-- The numbers are kept of each path, or of none where nothing stands below.
+pub record AreBelow (ps : List (List Act)) (below : List Act → List ℕ) (keys : List (List ℕ)) : Type 0 where
+  pub at : (i : ℕ) (p : List Act) → slice_get ps i ≡ Some p → numbers_at keys (Some i) ≡ below p
+
+-- two calls of different tops have different keys
+abbrev pub HaveOwnKeys : List Top → Call → Call → Type 0
+HaveOwnKeys ts c d = (c.top == d.top) ≡ false → serial_key ts c.top ≢ serial_key ts d.top
 
 -- a top that is there, as a list
 abbrev pub one_or_none : Option Top → List Top
