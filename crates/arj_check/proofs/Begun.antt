@@ -1,5 +1,5 @@
 -- The actions of a readable journal began by the rules.
-use Rattle.std.proofs.Common.{◌≡◌, ◌≢◌, ℕ, ◌+◌, List, [], ◌∷◌, ◌++◌, length, Bool, true, false, cond, ◌&&◌, ◌||◌, nat_le, nat_lt, Option, Some, None, slice_get, refl, sym, ◌∙◌, ap, subst}
+use Rattle.std.proofs.Common.{◌≡◌, ◌≢◌, ℕ, ◌+◌, List, [], ◌∷◌, ◌++◌, length, Bool, true, false, cond, ◌||◌, nat_le, Option, Some, None, slice_get, refl, sym, ◌∙◌, ap, subst}
 use Rattle.std.specs.Prelude.{not, is_some}
 use Rattle.std.specs.List.{AllByRecursion, list_any}
 use Rattle.std.specs.Option.{option_map}
@@ -14,18 +14,18 @@ use Rattle.arj_journal.specs.declared.body.Kind.{Kind}
 use Rattle.arj_journal.specs.declared.body.Kind.TheVariants as kind
 use Rattle.arj_journal.specs.declared.body.Line.{Line}
 use Rattle.arj_journal.specs.declared.header.Header.{Header}
-use Rattle.arj_model.specs.Actions.{Act, Begun, Placed, act_in, acts, acts_after, acts_from, begun_of, id_in, is_serial, numbered, path, path_in, put, read, top_in, upwards}
+use Rattle.arj_model.specs.Actions.{Act, Begun, Placed, act_in, acts, acts_after, acts_from, begun_of, is_serial, numbered, path, path_in, put, read, top_in, upwards}
 use Rattle.arj_model.proofs.Read.{acts-append}
 use Rattle.arj_law.proofs.Common.{never}
-use Rattle.arj_reading.specs.Readable.{Readable, act_by, begin_rule, body_rule, broken_from, has_parent, is_alone, is_parent_of, is_top, known, line_rule, met, named, named_as, or_else, unless}
+use Rattle.arj_reading.specs.Readable.{Readable, act_by, begin_rule, body_rule, broken_from, has_parent, is_parent_of, is_top, known, line_rule, met, named, named_as, unless}
 use Rattle.arj_reading.specs.Reading.{above_in, action_of, actions_of}
 use Rattle.arj_reading.specs.declared.action.Action.{Action}
 use Rattle.arj_reading.specs.declared.rule.Rule.{Rule}
 use Rattle.arj_reading.specs.declared.rule.Rule.TheVariants as rule
-use Rattle.arj_reading.proofs.Numbers.{AreNumbered, are_numbered, get_last, get_stays, length_actions, numbered_from, path_some}
+use Rattle.arj_reading.proofs.Numbers.{AreNumbered, get_last, get_stays, length_actions, path_some}
 use Rattle.arj_replay.specs.Orders.{paths}
 use Rattle.arj_check.proofs.Calls.{neither, none_broken}
-use Rattle.arj_check.proofs.Paths.{SameTop, is_serial_alone, length_paths, same_top, top_behind}
+use Rattle.arj_check.proofs.Paths.{is_serial_alone, length_paths, same_top, top_behind}
 
 -- what a `began` line said of an action
 abbrev pub begun_act : Act → Begun

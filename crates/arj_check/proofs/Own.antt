@@ -1,5 +1,5 @@
 -- Different tops of a readable journal have different keys.
-use Rattle.std.proofs.Common.{◌≡◌, ◌≢◌, ◌<◌, ℕ, ◌+◌, List, [], ◌∷◌, ◌++◌, length, Bool, true, false, cond, ◌&&◌, ◌||◌, ◌==◌, Option, Some, None, slice_get, refl, sym, ◌∙◌, ap, subst, arith}
+use Rattle.std.proofs.Common.{◌≡◌, ◌<◌, ℕ, List, [], ◌∷◌, ◌++◌, length, Bool, true, false, cond, ◌&&◌, ◌||◌, ◌==◌, Option, Some, None, slice_get, refl, sym, ◌∙◌, ap, subst, arith}
 use Rattle.std.specs.Prelude.{not}
 use Rattle.std.specs.List.{AllByRecursion, cons_option, filter_map, list_all, list_any}
 use Rattle.std.specs.Option.{option_map, unwrap_or}
@@ -7,17 +7,16 @@ use Rattle.std.proofs.lemmas.Bool.{eq-eqb, eqb-true}
 use Rattle.arj_base.proofs.Uids.{uid_is}
 use Rattle.arj_base.specs.Uid.{uid_eq}
 use Rattle.arj_base.specs.declared.uid.Uid.{Uid}
-use Rattle.arj_class.specs.declared.op.Op.{Op}
 use Rattle.arj_journal.specs.declared.body.Body.{Body}
 use Rattle.arj_journal.specs.declared.body.Body.TheVariants as body
 use Rattle.arj_journal.specs.declared.body.Line.{Line}
 use Rattle.arj_journal.specs.declared.header.Header.{Header}
 use Rattle.arj_text.specs.Label.{name}
-use Rattle.arj_model.specs.Actions.{Act, Placed, acts, acts_from, chain_in, committed, committed_of, has_end, id_in, is_committed, is_serial, path, read, recovered, root_in, recovered_of, top_in}
+use Rattle.arj_model.specs.Actions.{Act, Placed, acts, acts_from, chain_in, committed, committed_of, has_end, is_committed, is_serial, path, recovered, root_in, recovered_of, top_in}
 use Rattle.arj_model.specs.Calls.{Call, Said, Top, call_of, committed_calls, committing_of, committings, kept, kept_in, root_or, said, said_of, top_by, top_of, tops}
-use Rattle.arj_model.specs.Serial.{serial_key, top_place}
-use Rattle.arj_law.proofs.Common.{Pairwise, all_filter_map, all_map, never, pairwise_filter_map, read_rises, turned}
-use Rattle.arj_reading.specs.Readable.{Readable, act_by, body_rule, called, called_of, committed_rule, end_rule, is_top, known, met, named, named_as, of_begun, or_else, recovered_rule, unless, was_called}
+use Rattle.arj_model.specs.Serial.{top_place}
+use Rattle.arj_law.proofs.Common.{Pairwise, all_filter_map, all_map, never, pairwise_filter_map, read_rises}
+use Rattle.arj_reading.specs.Readable.{Readable, act_by, body_rule, called, called_of, end_rule, is_top, known, met, named, named_as, recovered_rule, unless, was_called}
 use Rattle.arj_reading.specs.Reading.{actions_of}
 use Rattle.arj_reading.specs.declared.action.Action.{Action}
 use Rattle.arj_reading.specs.declared.named.Named.{Named}

@@ -1,5 +1,5 @@
 -- No call differs exactly where all answers are right.
-use Rattle.std.proofs.Common.{◌≡◌, ℕ, List, [], ◌∷◌, Bool, true, false, cond, Option, Some, None, refl, sym}
+use Rattle.std.proofs.Common.{◌≡◌, ℕ, List, [], ◌∷◌, Bool, true, false, cond, Option, Some, None, refl}
 use Rattle.std.specs.Prelude.{◌↔◌}
 use Rattle.std.specs.Str.{bytes_eq}
 use Rattle.std.proofs.lemmas.Slice.Eq.{bytes_eq-Decides}
@@ -7,7 +7,6 @@ use Rattle.arj_class.specs.Table.{answer_of}
 use Rattle.arj_text.specs.Words.{answer_text}
 use Rattle.arj_model.specs.Calls.{Call}
 use Rattle.arj_model.specs.Serial.{Answers, Values, after}
-use Rattle.arj_law.proofs.Common.{never}
 use Rattle.arj_replay.specs.Verdict.{Differs, differs_or, first_difference}
 
 right_now : (given answer : List ℕ) (at : ℕ) (behind : Option Differs) → differs_or at (cond (bytes_eq given answer) None (Some given)) behind ≡ None → (given ≡ answer) × (behind ≡ None)

@@ -1,4 +1,4 @@
-use Rattle.std.proofs.Common.{rules, ◌≡◌, ◌<◌, [], ◌∷◌, ◌++◌, length, map}
+use Rattle.std.proofs.Common.{rules, ◌≡◌, ◌<◌, length, map}
 use Rattle.arj_model.specs.Actions.{committed}
 use Rattle.arj_replay.specs.Orders.{commits_in}
 use Rattle.arj_check.proofs.commits.commit_keys.Goals as goal

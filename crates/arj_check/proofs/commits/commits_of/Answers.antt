@@ -2,7 +2,6 @@ use Rattle.std.proofs.Common.{◌≡◌, ◌++◌, ◌∷◌, [], true, false}
 use Rattle.arj_check.proofs.commits.commits_of.Goals as goal
 use Rattle.std.proofs.Common.{◌∙◌, ◌==◌, arith, ap}
 use Rattle.std.proofs.lemmas.Bool.Decides.{nat_tests}
-use Rattle.arj_check.specs.Keys.{numbers_at}
 use Rattle.std.specs.Option.{unwrap_or}
 use Rattle.arj_model.specs.Nested.{commit_place}
 use Rattle.arj_model.specs.Actions.{committed}
