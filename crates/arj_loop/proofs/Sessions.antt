@@ -9,7 +9,7 @@ use Rattle.arj_io.specs.Told.{Gives}
 use Rattle.arj_io.specs.Told.{Takes as IsTaken}
 use Rattle.arj_journal.specs.declared.body.Line.{Line}
 use Rattle.arj_journal.specs.LineText.{text}
-use Rattle.arj_script.specs.Cutting.{Takes}
+use Rattle.arj_script.specs.Cutting.{InHand, Takes, in_hand}
 use Rattle.arj_script.specs.Grammar.{HasForm, IsBadLine, Place, Run, Running, Start}
 use Rattle.arj_script.specs.Input.{AtEnd, AtFault, AtRunEnd, ended_from, ended_lines, rest_line, is_enough, last_line, lines_of}
 use Rattle.arj_script.proofs.Cutting.{ended_from-append}
@@ -28,14 +28,15 @@ use Rattle.arj_loop.specs.Replayed.{Answer, Closes, EndsSo, Outside, StopsShort,
 use Rattle.arj_loop.specs.Running.{Stage, StageOf, Reached, Halfway, Hand, Gathers, Fronts, Work, IsGoing, IsAtLine, HasEnded, IsOverflown, ChangedBy, ChangedSince, end_of, hand, hand_of, header_at, lines_before, overflown, status_of, why_of, work}
 use Rattle.arj_loop.specs.Written.{IsWritten}
 use Rattle.arj_loop.proofs.Bytes.{short_of}
-use Rattle.arj_loop.proofs.Cuts.{fed_none, fed_line, fed_long, lines_line, lines_long, lines_last, lines_none}
+use Rattle.arj_script.proofs.Feeds.{fed_none, fed_line, fed_long, lines_line}
+use Rattle.arj_loop.proofs.Cuts.{lines_long, lines_last, lines_none}
 use Rattle.arj_loop.proofs.Stages.{Limited, unchanged}
 use Rattle.arj_loop.proofs.Statuses.{Wanted, end_kinds}
 use Rattle.arj_loop.proofs.Steps.{forms_length}
 use Rattle.arj_loop.proofs.Whole.{IsEnd, all_short, end_reached, fault_reached, front_at_4, gathers_empty, gathers_first, gathers_front, gathers_taken, line_reached, stage_first, stage_start, takes_nothing, whole_front}
 
-abbrev pub with_line : {M : Type 0} → Session M → List ℕ → Session M
-with_line session line = record { runner = session.runner; cutter = line; gather = session.gather }
+abbrev pub with_cutter : {M : Type 0} → Session M → InHand → Session M
+with_cutter session cutter = record { runner = session.runner; cutter = cutter; gather = session.gather }
 
 -- so many lines were run
 pub stage_count : {D M : Type 0} (view : Ghosts M D) (first rack : List D) (lines : List (List ℕ)) (runner : Runner M) (journal : List Line) → StageOf view first rack lines runner journal → runner.lines ≡ length lines
@@ -172,16 +173,16 @@ same_before ending.Frames count others = absurd (others refl)
 
 -- what the runner says of an end
 pub record RunnerEnds {D M : Type 0} (view : Ghosts M D) (was : Work D M) (now : Work D M) (end : End) : Type 0 where
-  pub bad : (w : BadLine) → IsEnd end (ending.Bad w) → (was.session.runner.lines < 100000 ⊎ (200 < length was.session.cutter)) × IsBadLine was.session.runner.reader was.session.cutter × IsBadBy w was.session.runner.reader was.session.cutter
-  pub many : IsEnd end ending.Lines → (100000 ≤ was.session.runner.lines) × (length was.session.cutter ≤ 200)
+  pub bad : (w : BadLine) → IsEnd end (ending.Bad w) → (was.session.runner.lines < 100000 ⊎ (200 < length was.session.cutter.line)) × IsBadLine was.session.runner.reader was.session.cutter.line × IsBadBy w was.session.runner.reader was.session.cutter.line
+  pub many : IsEnd end ending.Lines → (100000 ≤ was.session.runner.lines) × (length was.session.cutter.line ≤ 200)
   pub kept : ((w : BadLine) × IsEnd end (ending.Bad w)) ⊎ IsEnd end ending.Lines → (now.session.runner.machine ≡ was.session.runner.machine) × (now.session.runner.lines ≡ was.session.runner.lines) × (now.rack ≡ was.rack)
   pub labels : IsEnd end ending.Labels → (first : List D) (lines : List (List ℕ)) → StageOf view first was.rack lines was.session.runner was.journal
-      → Limited view first now.rack lines now.session.runner.reader now.session.runner.machine now.session.runner.lines now.journal was.session.cutter
+      → Limited view first now.rack lines now.session.runner.reader now.session.runner.machine now.session.runner.lines now.journal was.session.cutter.line
   pub labels_going : IsEnd end ending.Labels → overflown view now.session.runner.machine ≡ false
-  pub format : IsEnd end ending.Format → HasForm was.session.runner.reader was.session.cutter Run × (was.session.runner.lines < 100000) × (was.session.runner.machine ≡ None) × (now.session.runner.machine ≡ None) × view.stopped was.rack now.rack × view.moved (header_at was.session.runner.reader) [] was.rack now.rack
+  pub format : IsEnd end ending.Format → HasForm was.session.runner.reader was.session.cutter.line Run × (was.session.runner.lines < 100000) × (was.session.runner.machine ≡ None) × (now.session.runner.machine ≡ None) × view.stopped was.rack now.rack × view.moved (header_at was.session.runner.reader) [] was.rack now.rack
   pub still : (end ≡ ending.Memory → ⊥) → now.journal ≡ was.journal
   pub only : (end ≡ ending.Whole → ⊥) × (end ≡ ending.Fault → ⊥) × (end ≡ ending.Write → ⊥) × (end ≡ ending.Frames → ⊥)
-  pub moved : (first : List D) (lines : List (List ℕ)) (stage : StageOf view first was.rack lines was.session.runner was.journal) → ChangedBy view stage.header was.session.runner.reader was.session.cutter was.rack now.rack
+  pub moved : (first : List D) (lines : List (List ℕ)) (stage : StageOf view first was.rack lines was.session.runner was.journal) → ChangedBy view stage.header was.session.runner.reader was.session.cutter.line was.rack now.rack
   pub waits : now.session.gather.waiting.items ≡ was.session.gather.waiting.items
   pub taken : now.taken ≡ was.taken
 
@@ -191,17 +192,17 @@ ended_line {D} view first before given done was now end r at =
     ⊎_elim
     (λ stopped.
     let f = r.format (ap Err stopped) in
-    subst (λ e. HasEnded view first before given now e) (sym stopped) (ended_format view first was.rack before given done was.session.cutter at.tail was.session.runner was.journal now at.cut at.stage
+    subst (λ e. HasEnded view first before given now e) (sym stopped) (ended_format view first was.rack before given done was.session.cutter.line at.tail was.session.runner was.journal now at.cut at.stage
     (r.still (λ m. (let never : ending.Format ≡ ending.Memory = sym stopped ∙ m in cc))) f.2 f.3 f.0 f.1 f.4 f.5 at.went_on at.past gathers))
     (λ rest. ⊎_elim
-    (λ wanting. subst (λ e. HasEnded view first before given now e) (sym wanting) (ended_memory view first was.rack before given done (was.session.cutter ∷ at.tail) was.session.runner was.journal now at.cut at.stage (r.moved first done at.stage) at.went_on gathers (λ none. cc none)))
+    (λ wanting. subst (λ e. HasEnded view first before given now e) (sym wanting) (ended_memory view first was.rack before given done (was.session.cutter.line ∷ at.tail) was.session.runner was.journal now at.cut at.stage (r.moved first done at.stage) at.went_on gathers (λ none. cc none)))
     (λ more. ⊎_elim
     (λ failed. absurd (r.only.2 failed))
     (λ other.
-    let same = lines_same view first was.rack now.rack done was.session.cutter was.session.runner now.session.runner was.journal now.journal end at.stage r.kept (λ is. r.labels is first done at.stage) other.write other.memory other.format r.only.0 r.only.1 r.only.3 in
+    let same = lines_same view first was.rack now.rack done was.session.cutter.line was.session.runner now.session.runner was.journal now.journal end at.stage r.kept (λ is. r.labels is first done at.stage) other.write other.memory other.format r.only.0 r.only.1 r.only.3 in
     let before_is = same_before end now.session.runner.lines r.only.3 ∙ same in
     ended_reached view first before given now end other.write other.memory other.format
-    (line_reached view first was.rack now.rack given.stopped (lines_of given.stopped given.came) done (was.session.cutter ∷ at.tail) was.session.cutter at.tail was.session.runner now.session.runner was.journal now.journal end at.cut refl at.stage (r.still other.memory)
+    (line_reached view first was.rack now.rack given.stopped (lines_of given.stopped given.came) done (was.session.cutter.line ∷ at.tail) was.session.cutter.line at.tail was.session.runner now.session.runner was.journal now.journal end at.cut refl at.stage (r.still other.memory)
     r.bad r.many r.kept (λ is. r.labels is first done at.stage) at.going r.labels_going other.write other.memory other.format r.only.0 r.only.1 r.only.3)
     (went_as given (length done) (lines_before end now.session.runner.lines) before_is at.went_on) (past_as given (length done) (lines_before end now.session.runner.lines) before_is at.past)
     (subst (λ js. Gathers js now.session.gather.waiting.items before now.taken) (sym (r.still other.memory)) gathers))
@@ -217,39 +218,45 @@ pub put_ended : (end : End) (P : End → Type 0) → (end ≡ ending.Write) ⊎ 
 put_ended end P only write memory = ⊎_elim (λ is. subst P (sym is) (write is)) (λ is. subst P (sym is) (memory is)) only
 
 -- a feed that ended no line
-pub going_on : {D M : Type 0} (view : Ghosts M D) (first : List D) (before : Option (List ℕ)) (used bytes after : List ℕ) (was : Work D M) → Takes was.session.cutter bytes full.No after → IsGoing view first before used was
-    → IsGoing view first before (used ++ bytes) (work was.rack (with_line was.session after) was.journal was.taken)
-going_on view first before used bytes after was takes g =
-    let f = fed_none used was.session.cutter bytes after g.in_hand takes in
+pub going_on : {D M : Type 0} (view : Ghosts M D) (first : List D) (before : Option (List ℕ)) (used bytes : List ℕ) (after : InHand) (was : Work D M) → Takes was.session.cutter.most was.session.cutter.line bytes full.No after.line → after.most ≡ was.session.cutter.most → IsGoing view first before used was
+    → IsGoing view first before (used ++ bytes) (work was.rack (with_cutter was.session after) was.journal was.taken)
+going_on view first before used bytes after was takes kept g =
+    let fits : Takes 200 was.session.cutter.line bytes full.No after.line = subst (λ m. Takes m was.session.cutter.line bytes full.No after.line) g.room takes in
+    let f = fed_none 200 used was.session.cutter.line bytes after.line g.in_hand fits in
     record {
       stage = subst (λ ls. StageOf view first was.rack ls was.session.runner was.journal) (sym f.0) g.stage;
+      room = kept ∙ g.room;
       in_hand = f.1;
-      short = takes.2;
+      short = fits.2;
       gathers = g.gathers;
       going = g.going;
     }
 
 -- a line that was run, and cleared
-pub going_behind : {D M : Type 0} (view : Ghosts M D) (first : List D) (before : Option (List ℕ)) (used bytes after : List ℕ) (was now : Work D M) → Takes was.session.cutter bytes full.Line after → IsGoing view first before used was → now.session.cutter ≡ [] → overflown view now.session.runner.machine ≡ false
+pub going_behind : {D M : Type 0} (view : Ghosts M D) (first : List D) (before : Option (List ℕ)) (used bytes after : List ℕ) (was now : Work D M) → Takes was.session.cutter.most was.session.cutter.line bytes full.Line after → IsGoing view first before used was → now.session.cutter ≡ in_hand was.session.cutter.most [] → overflown view now.session.runner.machine ≡ false
     → StageOf view first now.rack (ended_lines used ++ after ∷ []) now.session.runner now.journal → Gathers now.journal now.session.gather.waiting.items before now.taken → IsGoing view first before (used ++ bytes) now
 going_behind view first before used bytes after was now takes g cleared going stage gathers =
-    let f = fed_line used was.session.cutter bytes after g.in_hand takes in
+    let fits : Takes 200 was.session.cutter.line bytes full.Line after = subst (λ m. Takes m was.session.cutter.line bytes full.Line after) g.room takes in
+    let f = fed_line 200 used was.session.cutter.line bytes after g.in_hand fits in
+    let none : now.session.cutter.line ≡ [] = ap (λ h. h.line) cleared in
     record {
       stage = subst (λ ls. StageOf view first now.rack ls now.session.runner now.journal) (sym f.0) stage;
-      in_hand = cleared ∙ sym f.1;
-      short = omega (arith, ap length cleared);
+      room = ap (λ h. h.most) cleared ∙ g.room;
+      in_hand = none ∙ sym f.1;
+      short = omega (arith, ap length none);
       gathers = gathers;
       going = going;
     }
 
 -- the line that a feed ended
-pub at_line : {D M : Type 0} (view : Ghosts M D) (first : List D) (before : Option (List ℕ)) (used bytes earlier after : List ℕ) (count : ℕ) (was : Work D M) → Takes was.session.cutter (take count bytes) full.Line after → IsGoing view first before used was
+pub at_line : {D M : Type 0} (view : Ghosts M D) (first : List D) (before : Option (List ℕ)) (used bytes earlier : List ℕ) (after : InHand) (count : ℕ) (was : Work D M) → Takes was.session.cutter.most was.session.cutter.line (take count bytes) full.Line after.line → IsGoing view first before used was
     → 0 < count → count ≤ length bytes → length bytes ≤ 512 → length (ended_lines earlier) ≤ length (ended_lines used)
-    → IsAtLine view first before (arrived (used ++ bytes) earlier AtRunEnd) (ended_lines used) (work was.rack (with_line was.session after) was.journal was.taken)
+    → IsAtLine view first before (arrived (used ++ bytes) earlier AtRunEnd) (ended_lines used) (work was.rack (with_cutter was.session after) was.journal was.taken)
 at_line view first before used bytes earlier after count was takes g some within few no_more =
-    let f = fed_line used was.session.cutter (take count bytes) after g.in_hand takes in
+    let fits : Takes 200 was.session.cutter.line (take count bytes) full.Line after.line = subst (λ m. Takes m was.session.cutter.line (take count bytes) full.Line after.line) g.room takes in
+    let f = fed_line 200 used was.session.cutter.line (take count bytes) after.line g.in_hand fits in
     let whole : (used ++ take count bytes) ++ drop count bytes ≡ used ++ bytes = append_assoc used (take count bytes) (drop count bytes) ∙ ap (λ bs. used ++ bs) (take-append-drop count bytes) in
-    let cut = lines_line AtRunEnd (used ++ take count bytes) (drop count bytes) (ended_lines used) after f.0 in
+    let cut = lines_line AtRunEnd (used ++ take count bytes) (drop count bytes) (ended_lines used) after.line f.0 in
     record {
       stage = g.stage;
       gathers = g.gathers;
@@ -262,20 +269,21 @@ at_line view first before used bytes earlier after count was takes g some within
         drop count bytes,
         sym whole,
         omega (arith, length-drop count bytes, some, within, few),
-        inl (ap length f.0 ∙ length-append (ended_lines used) (after ∷ []), f.1),
+        inl (ap length f.0 ∙ length-append (ended_lines used) (after.line ∷ []), f.1),
       );
     }
 
 -- a byte too many
-pub ended_long : {D M : Type 0} (view : Ghosts M D) (first : List D) (before : Option (List ℕ)) (used bytes earlier after : List ℕ) (count : ℕ) (was : Work D M) → Takes was.session.cutter (take count bytes) full.Long after → IsGoing view first before used was
+pub ended_long : {D M : Type 0} (view : Ghosts M D) (first : List D) (before : Option (List ℕ)) (used bytes earlier : List ℕ) (after : InHand) (count : ℕ) (was : Work D M) → Takes was.session.cutter.most was.session.cutter.line (take count bytes) full.Long after.line → IsGoing view first before used was
     → 0 < count → count ≤ length bytes → length bytes ≤ 512 → length (ended_lines earlier) ≤ length (ended_lines used)
-    → HasEnded view first before (arrived (used ++ bytes) earlier AtRunEnd) (work was.rack (with_line was.session after) was.journal was.taken) (ending.Bad why.TooLong)
+    → HasEnded view first before (arrived (used ++ bytes) earlier AtRunEnd) (work was.rack (with_cutter was.session after) was.journal was.taken) (ending.Bad why.TooLong)
 ended_long view first before used bytes earlier after count was takes g some within few no_more =
-    let f = fed_long used was.session.cutter (take count bytes) after g.in_hand takes in
+    let fits : Takes 200 was.session.cutter.line (take count bytes) full.Long after.line = subst (λ m. Takes m was.session.cutter.line (take count bytes) full.Long after.line) g.room takes in
+    let f = fed_long 200 used was.session.cutter.line (take count bytes) after.line g.in_hand fits in
     let whole : (used ++ take count bytes) ++ drop count bytes ≡ used ++ bytes = append_assoc used (take count bytes) (drop count bytes) ∙ ap (λ bs. used ++ bs) (take-append-drop count bytes) in
     let cut = lines_long (used ++ take count bytes) (drop count bytes) (ended_lines used) f.0 f.1 in
     let size = stage_count view first was.rack (ended_lines used) was.session.runner was.journal g.stage in
-    ended_reached view first before (arrived (used ++ bytes) earlier AtRunEnd) (work was.rack (with_line was.session after) was.journal was.taken) (ending.Bad why.TooLong)
+    ended_reached view first before (arrived (used ++ bytes) earlier AtRunEnd) (work was.rack (with_cutter was.session after) was.journal was.taken) (ending.Bad why.TooLong)
     (λ e. (let never : ending.Bad why.TooLong ≡ ending.Write = e in cc)) (λ e. (let never : ending.Bad why.TooLong ≡ ending.Memory = e in cc)) (λ e. (let never : ending.Bad why.TooLong ≡ ending.Format = e in cc))
     (record {
       place = was.session.runner.reader;
@@ -291,14 +299,14 @@ ended_long view first before used bytes earlier after count was takes g some wit
     g.gathers
 
 -- the line that the input's end leaves in hand
-pub at_last : {D M : Type 0} (view : Ghosts M D) (first : List D) (before : Option (List ℕ)) (used earlier : List ℕ) (was : Work D M) → IsGoing view first before used was → (was.session.cutter ≡ [] → ⊥) → length (ended_lines earlier) ≤ length (ended_lines used)
+pub at_last : {D M : Type 0} (view : Ghosts M D) (first : List D) (before : Option (List ℕ)) (used earlier : List ℕ) (was : Work D M) → IsGoing view first before used was → (was.session.cutter.line ≡ [] → ⊥) → length (ended_lines earlier) ≤ length (ended_lines used)
     → IsAtLine view first before (arrived used earlier AtEnd) (ended_lines used) was
 at_last view first before used earlier was g some no_more = record {
   stage = g.stage;
   gathers = g.gathers;
   going = g.going;
   tail = [];
-  cut = lines_last used was.session.cutter g.in_hand some;
+  cut = lines_last used was.session.cutter.line g.in_hand some;
   went_on = record { earlier = no_more; to_the_end = λ _. omega arith };
   past = λ e. absurd (let never : AtEnd ≡ AtRunEnd = e in cc);
 }
@@ -322,8 +330,8 @@ ended_end view first before used earlier done now end is whole s going g no_more
     g)
 
 pub ended_none : {D M : Type 0} (view : Ghosts M D) (first : List D) (before : Option (List ℕ)) (used earlier : List ℕ) (now : Work D M) (end : End) → end ≡ end_of now.session.runner.machine
-    → IsGoing view first before used now → now.session.cutter ≡ [] → length (ended_lines earlier) ≤ length (ended_lines used) → HasEnded view first before (arrived used earlier AtEnd) now end
-ended_none view first before used earlier now end is g none no_more = ended_end view first before used earlier (ended_lines used) now end is (lines_none used now.session.cutter g.in_hand none) g.stage g.going g.gathers no_more (omega arith)
+    → IsGoing view first before used now → now.session.cutter.line ≡ [] → length (ended_lines earlier) ≤ length (ended_lines used) → HasEnded view first before (arrived used earlier AtEnd) now end
+ended_none view first before used earlier now end is g none no_more = ended_end view first before used earlier (ended_lines used) now end is (lines_none used now.session.cutter.line g.in_hand none) g.stage g.going g.gathers no_more (omega arith)
 
 -- a read failed
 pub ended_fault : {D M : Type 0} (view : Ghosts M D) (first : List D) (before : Option (List ℕ)) (used earlier : List ℕ) (now : Work D M)
@@ -375,12 +383,13 @@ pub gives_nothing : (left : Option (List ℕ)) → Gives left [] left
 gives_nothing None = tt
 gives_nothing (Some bytes) = refl
 
-pub going_first : {D M : Type 0} (view : Ghosts M D) (was : Work D M) → view.ready was.rack → was.session.runner.reader ≡ Start → was.session.runner.machine ≡ None → was.session.runner.lines ≡ 0 → was.session.cutter ≡ [] → was.session.gather.waiting.items ≡ [] → was.journal ≡ []
+pub going_first : {D M : Type 0} (view : Ghosts M D) (was : Work D M) → view.ready was.rack → was.session.runner.reader ≡ Start → was.session.runner.machine ≡ None → was.session.runner.lines ≡ 0 → was.session.cutter ≡ in_hand 200 [] → was.session.gather.waiting.items ≡ [] → was.journal ≡ []
     → IsGoing view was.rack was.taken [] was
 going_first view was ready place machine count line waiting journal = record {
   stage = stage_start view was.rack was.session.runner.reader was.session.runner.machine was.session.runner.lines was.journal ready place machine count journal;
-  in_hand = line;
-  short = omega (arith, ap length line);
+  room = ap (λ h. h.most) line;
+  in_hand = ap (λ h. h.line) line;
+  short = omega (arith, ap (λ h. length h.line) line);
   gathers = gathers_first was.journal was.session.gather.waiting.items was.taken journal waiting;
   going = ap (overflown view) machine;
 }
@@ -393,6 +402,7 @@ pub going_flushed : {D M : Type 0} (view : Ghosts M D) (first : List D) (before 
     → IsTaken was.taken was.session.gather.waiting.items taken → IsGoing view first before used (work was.rack (with_gather was.session gather) was.journal taken)
 going_flushed view first before used was gather taken g none took = record {
   stage = g.stage;
+  room = g.room;
   in_hand = g.in_hand;
   short = g.short;
   gathers = gathers_empty was.journal was.session.gather.waiting.items gather.waiting.items before was.taken taken none g.gathers took;

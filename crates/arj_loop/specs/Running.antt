@@ -250,8 +250,9 @@ hand_of now = hand now.session.runner.machine now.session.runner.lines now.journ
 -- the line in hand.
 pub record IsGoing {D M : Type 0} (m : Ghosts M D) (first : List D) (before : Option (List ℕ)) (used : List ℕ) (now : Work D M) : Type 0 where
   pub stage : StageOf m first now.rack (ended_lines used) now.session.runner now.journal
-  pub in_hand : now.session.cutter ≡ rest_line used
-  pub short : length now.session.cutter ≤ LINE_BYTES
+  pub room : now.session.cutter.most ≡ LINE_BYTES
+  pub in_hand : now.session.cutter.line ≡ rest_line used
+  pub short : length now.session.cutter.line ≤ LINE_BYTES
   pub gathers : Gathers now.journal now.session.gather.waiting.items before now.taken
   pub going : overflown m now.session.runner.machine ≡ false
 
@@ -265,7 +266,7 @@ pub record IsAtLine {D M : Type 0} (m : Ghosts M D) (first : List D) (before : O
   pub gathers : Gathers now.journal now.session.gather.waiting.items before now.taken
   pub going : overflown m now.session.runner.machine ≡ false
   pub tail : List (List ℕ)
-  pub cut : (let s = script_of given in s.lines) ≡ done ++ now.session.cutter ∷ tail
+  pub cut : (let s = script_of given in s.lines) ≡ done ++ now.session.cutter.line ∷ tail
   pub went_on : WentOn given (length done)
   pub past : ReadsFewPast given (length done)
 

@@ -4,8 +4,9 @@ ghost use Rattle.arj_base.specs.Count.{Rose};
 ghost use Rattle.arj_journal.specs.LineText.{text};
 ghost use Rattle.arj_loop.specs.Replayed.{Closes, StopsShort, answer, outside};
 ghost use Rattle.arj_loop.specs.Running.{last_body, last_lines, events_run, status_of};
+ghost use Rattle.arj_script.specs.Cutting.{in_hand};
 ghost use Rattle.arj_script.specs.Grammar.{Start};
-ghost use Rattle.arj_script.specs.declared.limits.TheConstants.{SCRIPT_LINES};
+ghost use Rattle.arj_script.specs.declared.limits.TheConstants.{LINE_BYTES, SCRIPT_LINES};
 
 use crate::asked::AskedSource;
 use crate::ending::{BadLine, End};
@@ -58,7 +59,7 @@ fn run_through<S: AskedSource, K: Sink, D: Disk, M: Machine<D>>(
     machine: &mut Option<M>,
 ) -> u8
     requires runner { (session.runner.reader ≡ Start) × (session.runner.machine ≡ None) × (session.runner.lines ≡ 0) }
-    requires nothing { (session.cutter ≡ []) × (session.gather.waiting.items ≡ []) }
+    requires nothing { (session.cutter ≡ in_hand LINE_BYTES []) × (session.gather.waiting.items ≡ []) }
     requires ready { M.ready rack.old }
     requires fresh { journal.old ≡ [] }
     ensures closes { result ≢ 4 → result ≢ 5 → Closes M.Machine (outside (S.left source.old) (S.faults source.old) (K.taken sink.old) rack.old) (outside (S.left source.new) (S.faults source.new) (K.taken sink.new) rack.new) (answer result why.new journal.new machine.new) }

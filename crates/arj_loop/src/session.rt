@@ -1,8 +1,10 @@
 // A run over a source and a sink, line by line.
 ghost use Rattle.std.specs.Prelude.{◌≡◌, ◌≢◌, ◌<◌, ◌≤◌, false, ℕ, List, [], ◌∷◌, ◌++◌, length, take, Option, None, OnOk, IfOk, IfErr, IsErrOf};
 ghost use Rattle.arj_base.specs.Count.{Rose};
+ghost use Rattle.arj_script.specs.Cutting.{in_hand};
 ghost use Rattle.arj_script.specs.Grammar.{Start};
 ghost use Rattle.arj_script.specs.Input.{AtEnd, AtRunEnd, ended_lines};
+ghost use Rattle.arj_script.specs.declared.limits.TheConstants.{LINE_BYTES};
 ghost use Rattle.arj_loop.specs.declared.limits.TheConstants.{READ_BYTES};
 ghost use Rattle.arj_loop.specs.Input.{Arrived, Came, arrived, source_view};
 ghost use Rattle.arj_loop.specs.Running.{StageOf, Gathers, Goes, IsGoing, IsAtLine, HasEnded, overflown, work};
@@ -31,7 +33,7 @@ impl<M> Session<M> {
     /// No byte has come.
     pub fn new(alloc: Global) -> Result<Session<M>, AllocError>
         ensures runner { IfOk result (λ session. (session.runner.reader ≡ Start) × (session.runner.machine ≡ None) × (session.runner.lines ≡ 0)) }
-        ensures nothing { IfOk result (λ session. (session.cutter ≡ []) × (session.gather.waiting.items ≡ [])) }
+        ensures nothing { IfOk result (λ session. (session.cutter ≡ in_hand LINE_BYTES []) × (session.gather.waiting.items ≡ [])) }
     {
         let cutter = LineCutter::new(alloc)?;
         Ok(Session {
@@ -53,7 +55,7 @@ impl<M> Session<M> {
     where
         M: Machine<D>,
         requires runner { (self.old.runner.reader ≡ Start) × (self.old.runner.machine ≡ None) × (self.old.runner.lines ≡ 0) }
-        requires nothing { (self.old.cutter ≡ []) × (self.old.gather.waiting.items ≡ []) }
+        requires nothing { (self.old.cutter ≡ in_hand LINE_BYTES []) × (self.old.gather.waiting.items ≡ []) }
         requires fresh { journal.old ≡ [] }
         requires ready { M.ready rack.old }
         ensures ended { (given : Arrived) × Came (source_view (S.left source.old) (S.faults source.old)) (source_view (S.left source.new) (S.faults source.new)) given
@@ -187,8 +189,9 @@ impl<M> Session<M> {
         requires stage { (first : List D) × (done : List (List ℕ)) × StageOf M.Machine first rack.old done self.old.runner journal.old }
         requires going { overflown M.Machine self.old.runner.machine ≡ false }
         ensures going { OnOk result (overflown M.Machine self.new.runner.machine ≡ false) }
+        ensures kept { OnOk result (self.new.cutter ≡ self.old.cutter) }
         ensures went { OnOk result ((first : List D) (done : List (List ℕ)) → StageOf M.Machine first rack.old done self.old.runner journal.old
-            → StageOf M.Machine first rack.new (done ++ self.old.cutter ∷ []) self.new.runner journal.new) }
+            → StageOf M.Machine first rack.new (done ++ self.old.cutter.line ∷ []) self.new.runner journal.new) }
         ensures gathers { OnOk result ((before : Option (List ℕ)) → Gathers journal.old self.old.gather.waiting.items before (K.taken sink.old)
             → Gathers journal.new self.new.gather.waiting.items before (K.taken sink.new)) }
         ensures ended { IfErr result (λ end. (first : List D) (before : Option (List ℕ)) (given : Arrived) (done : List (List ℕ))

@@ -1,5 +1,6 @@
 pub mod Cutting
 pub mod Events
+pub mod Feeds
 pub mod Forms
 pub mod Headers
 pub mod Lines

@@ -1,7 +1,6 @@
 // Lines out of bytes that come in pieces.
 ghost use Rattle.std.specs.Prelude.{◌≡◌, ◌≤◌, ◌<◌, ◌+◌, take, length};
 ghost use Rattle.arj_script.specs.Cutting.{Feeds};
-ghost use Rattle.arj_script.specs.declared.limits.TheConstants.{LINE_BYTES};
 
 use crate::limits::LINE_BYTES;
 use std::alloc::{AllocError, Global};
@@ -25,8 +24,8 @@ pub struct Fed {
     pub full: Full,
 }
 
-/// Cuts a stream of bytes into lines. It takes memory when it is made and none later. Contracts see it as the line in
-/// hand, without its end.
+/// Cuts a stream of bytes into lines. It takes memory when it is made and none later. Contracts see it as the most bytes of a
+/// line, and the line in hand, without its end.
 #[derive(Drop)]
 pub struct LineCutter {
     room: Vec<u8>,
@@ -34,24 +33,24 @@ pub struct LineCutter {
 }
 
 impl Model for LineCutter {
-    ghost use Rattle.std.specs.Prelude.{◌≡◌, ◌≤◌, ℕ, List, take, length};
-    ghost use Rattle.arj_script.specs.declared.limits.TheConstants.{LINE_BYTES};
+    ghost use Rattle.std.specs.Prelude.{◌≤◌, take, length};
+    ghost use Rattle.arj_script.specs.Cutting.{InHand, in_hand};
 
-    ghost Value = { List ℕ };
+    ghost Value = { InHand };
 
-    ghost view = { λ c. take c.filled c.room.items };
+    ghost view = { λ c. in_hand (length c.room.items) (take c.filled c.room.items) };
 
-    ghost invariant = { λ c. (length c.room.items ≡ LINE_BYTES) × (c.filled ≤ LINE_BYTES) };
+    ghost invariant = { λ c. c.filled ≤ length c.room.items };
 }
 
 impl LineCutter {
-    ghost use Rattle.std.specs.Prelude.{◌≡◌, ◌≤◌, [], IfOk, length};
-    ghost use Rattle.arj_script.specs.Cutting.{Feeds};
+    ghost use Rattle.std.specs.Prelude.{◌≡◌, ◌≤◌, ◌<◌, [], IfOk, length};
+    ghost use Rattle.arj_script.specs.Cutting.{Feeds, in_hand};
     ghost use Rattle.arj_script.specs.declared.limits.TheConstants.{LINE_BYTES};
 
-    /// A cutter with room for the longest line, before the first byte.
+    /// A cutter with room for the longest line of a script, before the first byte.
     pub fn new(alloc: Global) -> Result<LineCutter, AllocError>
-        ensures { IfOk result (λ cutter. cutter ≡ []) }
+        ensures { IfOk result (λ cutter. cutter ≡ in_hand LINE_BYTES []) }
     {
         Ok(LineCutter {
             room: vec![in alloc; 0; LINE_BYTES]?,
@@ -59,12 +58,31 @@ impl LineCutter {
         })
     }
 
+    /// A cutter with room for lines of at most so many bytes, before the first byte.
+    pub fn sized(alloc: Global, most: u32) -> Result<LineCutter, AllocError>
+        requires { 0 < most }
+        ensures { IfOk result (λ cutter. cutter ≡ in_hand most []) }
+    {
+        Ok(LineCutter {
+            room: vec![in alloc; 0; most as usize]?,
+            filled: 0,
+        })
+    }
+
+    /// The most bytes of a line.
+    pub fn most(&self) -> usize
+        ensures { result ≡ self.now.most }
+    {
+        self.room.len()
+    }
+
     /// Takes bytes from the front of the piece: up to and with the end of the line in hand, up to and with the first
     /// byte that is too many, or all. Behind an end the line is whole: it is read by `line`, and `clear` begins the
-    /// next one. Behind a byte too many the line is no line of a script.
+    /// next one. Behind a byte too many the line is longer than a line may be.
     pub fn feed(&mut self, piece: &[u8]) -> Fed
         ensures within { result.used ≤ length piece.now }
-        ensures feeds { Feeds self.old piece.now result self.new }
+        ensures feeds { Feeds self.old.most self.old.line piece.now result self.new.line }
+        ensures kept { self.new.most ≡ self.old.most }
     {
         let (fed, filled) = fill(&mut self.room, self.filled, piece);
         self.filled = filled;
@@ -73,15 +91,15 @@ impl LineCutter {
 
     /// The bytes of the line in hand, without its end.
     pub fn line(&self) -> &[u8]
-        ensures is { result.now ≡ self.now }
-        ensures short { length result.now ≤ LINE_BYTES }
+        ensures is { result.now ≡ self.now.line }
+        ensures short { length result.now ≤ self.now.most }
     {
         &self.room[..self.filled]
     }
 
     /// Forgets the line in hand.
     pub fn clear(&mut self)
-        ensures { self.new ≡ [] }
+        ensures { self.new ≡ in_hand self.old.most [] }
     {
         self.filled = 0;
     }
@@ -89,19 +107,19 @@ impl LineCutter {
 
 // Puts the front of the piece behind the bytes of the line in hand, and tells how many they then are.
 fn fill(room: &mut Vec<u8>, filled: usize, piece: &[u8]) -> (Fed, usize)
-    requires room { length room.old.items ≡ LINE_BYTES }
-    requires short { filled ≤ LINE_BYTES }
-    ensures kept { length room.new.items ≡ LINE_BYTES }
-    ensures short { result.1 ≤ LINE_BYTES }
+    requires short { filled ≤ length room.old.items }
+    ensures kept { length room.new.items ≡ length room.old.items }
+    ensures short { result.1 ≤ length room.old.items }
     ensures within { result.0.used ≤ length piece.now }
-    ensures feeds { Feeds (take filled room.old.items) piece.now result.0 (take result.1 room.new.items) }
+    ensures feeds { Feeds (length room.old.items) (take filled room.old.items) piece.now result.0 (take result.1 room.new.items) }
 {
+    let most = room.as_slice().len();
     let mut count = filled;
     for (at, byte) in piece.iter().enumerate() {
         if *byte == b'\n' {
             return (ended(at, Full::Line), count);
         }
-        if count == LINE_BYTES {
+        if count == most {
             return (ended(at, Full::Long), count);
         }
         room[count] = *byte;
