@@ -16,9 +16,9 @@ use arj_core::Core;
 use arj_disk::{Disk, Rack};
 use arj_io::{Sink, Source};
 use arj_journal::Lines;
+use arj_law_nodes::{banks_show_what_is_promised, nodes_show_what_is_promised};
 use arj_loop::{BadLine, replay};
 use arj_nodes::AllNodes;
-use arj_law_nodes::{banks_show_what_is_promised, nodes_show_what_is_promised};
 use arj_world::World;
 use std::alloc::Global;
 
