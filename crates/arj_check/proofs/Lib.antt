@@ -4,6 +4,5 @@ mod Loops
 mod Marks
 mod Own
 mod Paths
-mod Right
 mod Roots
 mod Survive

@@ -1,5 +1,5 @@
 -- What a run of a bank shows.
-use Rattle.std.proofs.Common.{◌≡◌, ◌≢◌, ◌⊎◌, inl, inr, ℕ, zero, suc, ◌-◌, ◌≤◌, append_assoc, List, [], ◌∷◌, ◌++◌, Option, Some, None, false, refl, sym, ◌∙◌, ap, subst, arith}
+use Rattle.std.proofs.Common.{◌≡◌, ◌≢◌, ◌⊎◌, inl, inr, ℕ, zero, suc, ◌-◌, ◌≤◌, List, [], ◌++◌, Option, Some, None, false, refl, sym, ◌∙◌, ap, subst, arith}
 use Rattle.std.proofs.Math.Logic.{⊎_elim}
 use Rattle.std.proofs.lemmas.List.{append-nil}
 use Rattle.arj_bank.specs.Bank.{AreOfBank, ComesSoFar, EndsAtLimit, Generates, HaveBeenRead, IsSummary, RanBank, left}
@@ -25,7 +25,8 @@ use Rattle.arj_law_nodes.specs.nodes.Readings.{Reads, files_at, readings_of}
 use Rattle.arj_bank.specs.Balances.{files_in, is_number, no_files, node_files}
 use Rattle.arj_promise.specs.Excluded.{DisksAreInTime}
 use Rattle.arj_promise.specs.Disks.{DisksAre}
-use Rattle.arj_promise.specs.Runs.{world_by}
+use Rattle.arj_model.specs.Start.{none_written}
+use Rattle.arj_promise.specs.Runs.{from_format, world_by}
 use Rattle.arj_promise.specs.Runs.{see}
 use Rattle.arj_model.specs.Clean.{Clean}
 use Rattle.arj_promise.specs.Resting.{HoldAllStates}
@@ -69,7 +70,7 @@ promise_stays d read t over journal mid after since p =
         last = r.last;
         outside = r.outside;
         lines = r.lines;
-        disks = subst (λ disks. DisksAre (let a = t in see [] (world_by a.header r.moves)) disks) (sym same) r.disks;
+        disks = subst (λ disks. DisksAre (let a = t in see [] (world_by a.header (from_format a.header r.moves))) disks) (sym same) r.disks;
       };
       serial = p.serial;
       book = p.book;
@@ -77,7 +78,7 @@ promise_stays d read t over journal mid after since p =
       outcome = p.outcome;
       clean = subst (λ disks. Clean (let a = t in a.header) journal disks) (sym same) p.clean;
       in_time = subst (λ disks. DisksAreInTime (let a = t in a.header) (let a = t in length a.events) journal disks) (sym same) p.in_time;
-      rest = λ going idle. subst (λ disks. HoldAllStates (let a = t in a.header) journal disks) (sym same) (p.rest going idle);
+      rest = λ going idle. subst (λ disks. HoldAllStates (let a = t in a.header) none_written journal disks) (sym same) (p.rest going idle);
     }
 
 module _ {C D : Type 0} (c : core.Ghosts C) (d : disk.Ghosts D) where

@@ -4,8 +4,9 @@ use Terms.{◌≡◌, ◌<◌, ℕ, ◌+◌, List, [], ◌∷◌, ◌++◌, leng
 use Terms.{refl, sym, ◌∙◌, ap, subst, arith, length-append, append-nil, AllByRecursion, filter_map, cons_option, list_all, list_any}
 use Terms.{option_map, eq-eqb, or_right, length-map, filter-append, filter_map-append, entry, Body, Line, Header, name, Act, Placed, acts}
 use Terms.{chain_in, committed, has_end, path, top_in, Call, Top, committed_calls, tops, Exclusion, Inclusion, changers, entry_payload}
-use Terms.{entry_state, excluded_of, exclusion_by, included, included_of, increasing, is_among, joins_by, joins_of, last_changer, leaves_of}
-use Terms.{listed, listed_after, listed_from, object_line, same_list, serial_tops, servers_of_line, uid_of_id, writes_of, arrange}
+use Terms.{entry_state, excluded_of, exclusion_by, included, included_of, increasing, is_among, joins_by, joins_of, leaves_of, Uid}
+use Terms.{changer_from}
+use Terms.{listed, listed_after, listed_from, object_line, same_list, serial_tops, uid_of_id, writes_of, arrange}
 use Terms.{serial_calls, serial_key, serial_less, writes_on, AreApart, AreCalled, call_behind, calls_behind, is_called, top_behind}
 use Terms.{tops_behind, values_after}
 use Terms.class
@@ -19,8 +20,9 @@ use Rattle.arj_law.proofs.JoinedCalls.{IsLowCall, IsLowTop, acts_low, calls_low,
 use Rattle.arj_law.proofs.JoinedCalls.{ends_join, other_number, path_all, read_all, same_behind, top_all, tops_join, tops_low}
 use Rattle.arj_law.proofs.JoinedLists.{all_over, arrange_join, arrange_over, arrange_same, filter_map_same}
 use Rattle.arj_law.proofs.JoinedOrder.{across_stands, high_stands, low_stands, serial_join, stands_before, values_join}
-use Rattle.arj_law.specs.Joined.{AreJoined, CleanFrom, GoesOn, changer_from, entry_from, last_from, marks_after, unwritten, writer_from}
-use Rattle.arj_model.specs.{Clean.Clean, Disks.Disks, Last.count_tops, Last.excluded, Last.first_values, Last.last_state, Last.last_writer}
+use Rattle.arj_law.specs.Joined.{AreJoined, GoesOn, marks_after}
+use Rattle.arj_model.specs.{Clean.Clean, Clean.CleanFrom, Disks.Disks, Last.count_tops, Last.entry_from, Last.excluded, Last.first_values}
+use Rattle.arj_model.specs.{Last.last_from, Last.last_state, Last.writer_from}
 use Rattle.arj_model.specs.{Last.stores_of_line}
 
 -- ---- tops that wrote, and the last of them
@@ -54,17 +56,10 @@ module _ (n k : ℕ) where
       by true = refl
       by false = omega arith
 
-  last_over : (ds : List Call) → last_writer (later ds) ≡ last_writer ds
-  last_over [] = refl
-  last_over (d ∷ []) = refl
-  last_over (d ∷ e ∷ ds) = last_over (e ∷ ds)
-
-  writer_join : (cs ds : List Call) → last_writer (cs ++ later ds) ≡ writer_from (last_writer cs) ds
-  writer_join [] [] = refl
-  writer_join [] (d ∷ ds) = last_over (d ∷ ds)
-  writer_join (c ∷ []) [] = refl
-  writer_join (c ∷ []) (d ∷ ds) = last_over (d ∷ ds)
-  writer_join (c ∷ b ∷ cs) ds = writer_join (b ∷ cs) ds
+  writer_join : (u : Uid) (cs ds : List Call) → writer_from u (cs ++ later ds) ≡ writer_from (writer_from u cs) ds
+  writer_join u [] [] = refl
+  writer_join u [] (d ∷ ds) = writer_join d.writer [] ds
+  writer_join u (c ∷ cs) ds = writer_join c.writer cs ds
 
   writes_over : (x : ℕ) (ds : List Call) → filter (writes_on x) (later ds) ≡ later (filter (writes_on x) ds)
   writes_over x [] = refl
@@ -398,26 +393,13 @@ module _ (first second : List Line) (apart : AreApart first second) where
   pub uid_second : (i : ℕ) → uid_of_id (acts both) (i + k) ≡ uid_of_id (acts second) i
   uid_second i = ap (λ us. uid_of_id us (i + k)) (acts_join first second) ∙ uid_high k (acts first) (acts second) i low_numbers
 
-  last_first : (ts : List Top) → AllByRecursion Low ts → last_changer (acts both) ts ≡ last_changer (acts first) ts
-  last_first [] lows = refl
-  last_first (t ∷ []) lows = uid_first t.id lows.0.0
-  last_first (t ∷ u ∷ ts) lows = last_first (u ∷ ts) lows.1
-
-  last_second : (ts : List Top) → last_changer (acts both) (tops_behind first ts) ≡ last_changer (acts second) ts
-  last_second [] = refl
-  last_second (t ∷ []) = uid_second t.id
-  last_second (t ∷ u ∷ ts) = last_second (u ∷ ts)
-
-  last_both : (ts us : List Top) → AllByRecursion Low ts →
-      last_changer (acts both) (ts ++ tops_behind first us) ≡ changer_from second (last_changer (acts first) ts) us
-  last_both ts [] lows = ap (last_changer (acts both)) (append-nil ts) ∙ last_first ts lows
-  last_both ts (u ∷ us) lows = behind_some ts ∙ last_second (u ∷ us)
-    where
-      behind_some : (vs : List Top) →
-          last_changer (acts both) (vs ++ tops_behind first (u ∷ us)) ≡ last_changer (acts both) (tops_behind first (u ∷ us))
-      behind_some [] = refl
-      behind_some (v ∷ []) = refl
-      behind_some (v ∷ w ∷ vs) = behind_some (w ∷ vs)
+  last_both : (u : Uid) (ts us : List Top) → AllByRecursion Low ts →
+      changer_from (acts both) u (ts ++ tops_behind first us) ≡ changer_from (acts second) (changer_from (acts first) u ts) us
+  last_both u [] [] lows = refl
+  last_both u [] (v ∷ us) lows =
+      last_both (uid_of_id (acts both) (v.id + k)) [] us tt ∙ ap (λ w. changer_from (acts second) w us) (uid_second v.id)
+  last_both u (t ∷ ts) us lows = last_both (uid_of_id (acts both) t.id) ts us lows.1
+      ∙ ap (λ w. changer_from (acts second) (changer_from (acts first) w ts) us) (uid_first t.id lows.0.0)
 
   all_changers : (lines : List Line) (x : ℕ) (stores : List ℕ) (ts : List Top) → AllByRecursion Low ts →
       AllByRecursion Low (changers lines x stores ts)
@@ -454,11 +436,15 @@ module _ (first second : List Line) (apart : AreApart first second) where
       last_join = (λ i. record {
         uid = object x;
         class = class_of (value i);
-        version = (ap count_tops (writes_join x) ∙ count_join n k (writes_of first x) (writes_of second x) (write_lows x)) i;
-        writer = (ap last_writer (writes_join x) ∙ writer_join n k (writes_of first x) (writes_of second x)) i;
+        version = (ap (λ m. 0 + m) (ap count_tops (writes_join x) ∙ count_join n k (writes_of first x) (writes_of second x) (write_lows x))
+            ∙ sum (count_tops (writes_of first x)) (count_tops (writes_of second x))) i;
+        writer = (ap (writer_from nobody) (writes_join x) ∙ writer_join n k nobody (writes_of first x) (writes_of second x)) i;
         payload = payload_of (value i);
       })
         where
+          sum : (a b : ℕ) → 0 + (a + b) ≡ 0 + a + b
+          sum a b = omega arith
+
           value : values_after (first_values header) both x ≡ values_after (first_values next) second x
           value = ap (λ v. v x) (values_join first second apart called (first_values header))
               ∙ ap (λ v. values_after v second x) (sym values_are)
@@ -475,13 +461,16 @@ module _ (first second : List Line) (apart : AreApart first second) where
       entry_join = (λ i. record {
         uid = entry x;
         class = class.Entry;
-        version =
-            (ap length changed ∙ length-append old (tops_behind first new) ∙ ap (λ m. length old + m) (length-map new (top_behind n k))) i;
-        writer = (ap (last_changer (acts both)) changed
-            ∙ last_both old new (all_changers first x (stores_of_line (object_line header x)) (serial_tops first) serial_lows)) i;
+        version = (ap (λ m. 0 + m) (ap length changed ∙ length-append old (tops_behind first new)
+            ∙ ap (λ m. length old + m) (length-map new (top_behind n k))) ∙ sum (length old) (length new)) i;
+        writer = (ap (changer_from (acts both) nobody) changed
+            ∙ last_both nobody old new (all_changers first x (stores_of_line (object_line header x)) (serial_tops first) serial_lows)) i;
         payload = entry_payload (sym (goes.servers x) i) (listed_join i);
       })
         where
+          sum : (a b : ℕ) → 0 + (a + b) ≡ 0 + a + b
+          sum a b = omega arith
+
           old : List Top
           old = changers first x (stores_of_line (object_line header x)) (serial_tops first)
 
@@ -491,43 +480,6 @@ module _ (first second : List Line) (apart : AreApart first second) where
           changed : changers both x (stores_of_line (object_line header x)) (serial_tops both) ≡ old ++ tops_behind first new
           changed = changers_join (stores_of_line (object_line header x)) x
               ∙ ap (λ l. old ++ tops_behind first (changers second x l (serial_tops second))) (sym stores_are)
-
--- ---- a run from a format
-
-plain_writer : (cs : List Call) → writer_from nobody cs ≡ last_writer cs
-plain_writer [] = refl
-plain_writer (c ∷ cs) = refl
-
-pub last_unwritten : (header : Header) (lines : List Line) (x : ℕ) → last_from header unwritten lines x ≡ last_state header lines x
-last_unwritten header lines x = (λ i. record {
-  uid = object x;
-  class = class_of (values_after (first_values header) lines x);
-  version = none i;
-  writer = plain_writer (writes_of lines x) i;
-  payload = payload_of (values_after (first_values header) lines x);
-})
-  where
-    none : 0 + count_tops (writes_of lines x) ≡ count_tops (writes_of lines x)
-    none = omega arith
-
-plain_changer : (lines : List Line) (ts : List Top) → changer_from lines nobody ts ≡ last_changer (acts lines) ts
-plain_changer lines [] = refl
-plain_changer lines (t ∷ ts) = refl
-
-pub entry_unwritten : (header : Header) (lines : List Line) (x : ℕ) → entry_from header unwritten lines x ≡ entry_state header lines x
-entry_unwritten header lines x = (λ i. record {
-  uid = entry x;
-  class = class.Entry;
-  version = none i;
-  writer = plain_changer lines changed i;
-  payload = entry_payload (servers_of_line (object_line header x)) (listed header lines x);
-})
-  where
-    changed : List Top
-    changed = changers lines x (stores_of_line (object_line header x)) (serial_tops lines)
-
-    none : 0 + length changed ≡ length changed
-    none = omega arith
 
 -- ---- disks
 

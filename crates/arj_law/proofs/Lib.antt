@@ -17,3 +17,4 @@ pub mod JoinedOrder
 pub mod JoinedBook
 pub mod JoinedLast
 pub mod JoinedSaid
+pub mod Alike

@@ -4,10 +4,11 @@ use Terms.{◌≡◌, ℕ, ◌+◌, List, [], ◌∷◌, ◌++◌, length, map, 
 use Terms.{filter, list_all, filter_map, eq-eqb, eqb-true, and_parts, filter-append, entry, Body, Line, Header, Act, Placed, acts}
 use Terms.{committed, committed_of, has_end, top_in, chain_in, Top, ids, Inclusion, included, included_of, excluded_of, joins_by, joins_of}
 use Terms.{leaves_of, is_among, increasing, object_line, servers_of_line, listed, listed_after, listed_from, serial_tops, changers}
-use Terms.{last_changer, uid_of_id, same_list, entry_payload, entry_state, more}
+use Terms.{changer_from, uid_of_id, same_list, entry_payload, more, Uid}
 use Terms.class
 use Terms.body
 use Rattle.arj_law.proofs.{Commit.chain_stays, Common.never, JoinedLists.filter_map_same, Reading.read_none, Reading.read_some}
+use Rattle.arj_model.specs.{Last.entry_from, Start.Mark, Start.Marks}
 use Rattle.arj_law.specs.Growth.{CommitsTop, IdleInPlace, first_stores, AreDecidedInOrder, entry_by, IncludesNoneBelow}
 use Rattle.std.proofs.lemmas.List.Folds.{list_all-map}
 
@@ -69,17 +70,18 @@ pub listed_decided : (header : Header) (lines : List Line) (x : ℕ) (counts : T
 listed_decided header lines x counts decided h =
     only_those lines x counts (first_stores header x) (serial_tops lines) h.idle ∙ ap (listed_from lines x (first_stores header x)) h.order
 
-pub entry_decided : (header : Header) (lines : List Line) (x : ℕ) (counts : Top → Bool) (decided : List Top) →
+pub entry_decided : (header : Header) (marks : Marks) (lines : List Line) (x : ℕ) (counts : Top → Bool) (decided : List Top) →
     AreDecidedInOrder header lines x counts decided
-    → entry_state header lines x ≡ entry_by header lines x (filter counts decided)
-entry_decided header lines x counts decided h =
+    → entry_from header marks lines x ≡ entry_by header marks lines x (filter counts decided)
+entry_decided header marks lines x counts decided h =
+    let mark : Mark = marks.entries x in
     let changed = only_changers lines x counts (first_stores header x) (serial_tops lines) h.idle
     ∙ ap (changers lines x (first_stores header x)) h.order in
     (λ i. record {
       uid = entry x;
       class = class.Entry;
-      version = length (changed i);
-      writer = last_changer (acts lines) (changed i);
+      version = mark.version + length (changed i);
+      writer = changer_from (acts lines) mark.writer (changed i);
       payload = entry_payload (servers_of_line (object_line header x)) (listed_decided header lines x counts decided h i);
     })
 
@@ -143,10 +145,9 @@ changers_append lines x stores (t ∷ ts) us =
         ih ∙ (λ i. changers lines x stores ts ++ changers lines x (listed_from lines x (sym (same_is next stores e) i) ts) us)
     by ih own false e = ap (λ vs. t ∷ vs) own
 
-pub last_of_append : (us : List Act) (ts : List Top) (t : Top) → last_changer us (ts ++ t ∷ []) ≡ uid_of_id us t.id
-last_of_append us [] t = refl
-last_of_append us (u ∷ []) t = refl
-last_of_append us (u ∷ v ∷ ts) t = last_of_append us (v ∷ ts) t
+pub last_of_append : (us : List Act) (w : Uid) (ts : List Top) (t : Top) → changer_from us w (ts ++ t ∷ []) ≡ uid_of_id us t.id
+last_of_append us w [] t = refl
+last_of_append us w (u ∷ ts) t = last_of_append us (uid_of_id us u.id) ts t
 
 -- The list and the entry after the commit of this top.
 module _ (header : Header) (lines : List Line) (event : ℕ) (b : Body) (t : Top) (x : ℕ) (commits : CommitsTop lines t.id b)

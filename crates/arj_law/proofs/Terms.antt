@@ -16,8 +16,9 @@ pub use Rattle.arj_model.specs.Actions.{recovered_of, root_in, top_in, upwards}
 pub use Rattle.arj_model.specs.Book.{Answered, InOrder, IsAnsweredBy, StandInOrder, is_conflict, writes_before}
 pub use Rattle.arj_model.specs.Calls.{Call, Said, Top, call_of, committed_calls, committing_of, committings, ids, kept, kept_in, root_or}
 pub use Rattle.arj_model.specs.Calls.{said, said_of, top_by, top_of, tops}
-pub use Rattle.arj_model.specs.Last.{Exclusion, Inclusion, changers, entry_payload, entry_state, excluded_of, exclusion_by, included}
-pub use Rattle.arj_model.specs.Last.{included_of, increasing, is_among, joins_by, joins_of, last_changer, leaves_of, listed, listed_after}
+pub use Rattle.arj_model.specs.Last.{Exclusion, Inclusion, changer_from, changers, entry_payload, entry_state, excluded_of, exclusion_by}
+pub use Rattle.arj_model.specs.Last.{included}
+pub use Rattle.arj_model.specs.Last.{included_of, increasing, is_among, joins_by, joins_of, leaves_of, listed, listed_after}
 pub use Rattle.arj_model.specs.Last.{listed_from, object_line, same_list, serial_tops, servers_of_line, uid_of_id, writes_of}
 pub use Rattle.arj_model.specs.Nested.{AnsweredInTime, FreedInOrder, IsFreedFor, commit_place, nested_calls}
 pub use Rattle.arj_model.specs.Serial.{Answers, Serial, Values, after, arrange, insert, lex, run, serial_calls, serial_key, serial_less}

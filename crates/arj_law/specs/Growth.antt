@@ -1,5 +1,5 @@
 -- What one more line changes.
-use Rattle.std.specs.Prelude.{◌≡◌, ◌<◌, ℕ, ◌+◌, List, [], ◌∷◌, ◌++◌, length, filter, Bool, true, false, ◌==◌, Some, if◌then◌else◌, ⊤}
+use Rattle.std.specs.Prelude.{◌≡◌, ℕ, ◌+◌, List, [], ◌∷◌, ◌++◌, length, filter, Bool, true, false, ◌==◌, Some, ⊤}
 use Rattle.std.specs.List.{AllByRecursion}
 use Rattle.arj_base.specs.declared.state.Class.TheVariants as class
 use Rattle.arj_base.specs.declared.state.ObjectState.{ObjectState}
@@ -12,7 +12,8 @@ use Rattle.arj_text.specs.Label.{name}
 use Rattle.arj_model.specs.Actions.{acts, id_in, chain_in}
 use Rattle.arj_model.specs.Calls.{Top, ids, made}
 use Rattle.arj_model.specs.Last.{is_among, object_line, stores_of_line, servers_of_line, included, listed_after, listed_from, serial_tops}
-use Rattle.arj_model.specs.Last.{changers, last_changer, entry_payload}
+use Rattle.arj_model.specs.Last.{changer_from, changers, entry_payload}
+use Rattle.arj_model.specs.Start.{Marks}
 
 -- the journal with one line more
 abbrev pub more : List Line → Line → List Line
@@ -51,15 +52,16 @@ pub record AreDecidedInOrder (header : Header) (lines : List Line) (x : ℕ) (co
   pub order : filter counts (serial_tops lines) ≡ filter counts decided
   pub idle : IdleInPlace lines x counts (first_stores header x) (serial_tops lines)
 
--- the entry of object x after tops, one after another
-abbrev pub entry_by : Header → List Line → ℕ → List Top → ObjectState
-entry_by header lines x ts =
+-- the entry of object x after tops, one after another, where the run began with these marks
+abbrev pub entry_by : Header → Marks → List Line → ℕ → List Top → ObjectState
+entry_by header marks lines x ts =
+    let mark = marks.entries x in
     let changed = changers lines x (first_stores header x) ts in
     record {
       uid = entry x;
       class = class.Entry;
-      version = length changed;
-      writer = last_changer (acts lines) changed;
+      version = mark.version + length changed;
+      writer = changer_from (acts lines) mark.writer changed;
       payload = entry_payload (servers_of_line (object_line header x)) (listed_from lines x (first_stores header x) ts);
     }
 

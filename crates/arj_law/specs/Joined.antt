@@ -1,14 +1,8 @@
 -- Two journals, one behind the other: the second one is of a run that goes on where the first one ended.
 use Rattle.std.specs.Prelude.{◌≡◌, ℕ, ◌+◌, List, [], ◌∷◌, length, map, Bool, true, false, ◌==◌, Option, Some, None, is_some}
 use Rattle.std.specs.List.{AllByRecursion, list_any}
-use Rattle.arj_base.specs.declared.state.Class.TheVariants as class
 use Rattle.arj_base.specs.declared.state.ObjectState.{ObjectState}
-use Rattle.arj_base.specs.declared.uid.Uid.{Uid}
-use Rattle.arj_base.specs.State.{state_bytes}
-use Rattle.arj_base.specs.Uid.{entry, nobody, object, uid_eq}
-use Rattle.arj_class.specs.Forms.{payload_of}
-use Rattle.arj_class.specs.Table.{class_of}
-use Rattle.arj_disk.specs.declared.slot.Role.TheVariants.{Store, Names}
+use Rattle.arj_base.specs.Uid.{uid_eq}
 use Rattle.arj_journal.specs.declared.body.Body.{Body}
 use Rattle.arj_journal.specs.declared.body.Body.TheVariants as body
 use Rattle.arj_journal.specs.declared.body.Line.{Line}
@@ -17,10 +11,9 @@ use Rattle.arj_text.specs.declared.label.Label.{Label}
 use Rattle.arj_text.specs.Label.{name}
 use Rattle.arj_model.specs.Actions.{acts, is_begun, recovered}
 use Rattle.arj_model.specs.Calls.{Call, Top, committed_calls, tops}
-use Rattle.arj_model.specs.Disks.{Disks, InDoubt, held}
+use Rattle.arj_model.specs.Last.{entry_state, first_values, last_state, listed, object_line, servers_of_line, stores_of_line}
 use Rattle.arj_model.specs.Serial.{Values, run, serial_calls}
-use Rattle.arj_model.specs.Last.{changers, count_tops, entry_payload, entry_state, first_values, is_among, last_changer, last_state}
-use Rattle.arj_model.specs.Last.{last_writer, listed, object_line, serial_tops, servers_of_line, stores_of_line, writes_of}
+use Rattle.arj_model.specs.Start.{Mark, Marks}
 
 -- the name of a parent, if there is one
 abbrev pub parent_name : Option Label → List (List ℕ)
@@ -72,21 +65,7 @@ tops_behind first ts = map (top_behind (length first) (length (acts first))) ts
 abbrev pub values_after : Values → List Line → Values
 values_after values lines = run values (serial_calls lines)
 
--- ---- what a run begins with
-
--- the version and the writer of what is held
-pub record Mark : Type 0 where
-  pub version : ℕ
-  pub writer : Uid
-
--- those of each object's state and entry
-pub record Marks : Type 0 where
-  pub states : ℕ → Mark
-  pub entries : ℕ → Mark
-
--- what a format leaves: version 0, written by nobody
-abbrev pub unwritten : Marks
-unwritten = record { states = λ x. record { version = 0; writer = nobody }; entries = λ x. record { version = 0; writer = nobody } }
+-- ---- what the second run begins with
 
 -- a state's mark
 abbrev pub mark_of : ObjectState → Mark
@@ -96,55 +75,12 @@ mark_of s = record { version = s.version; writer = s.writer }
 abbrev pub marks_after : Header → List Line → Marks
 marks_after header lines = record { states = λ x. mark_of (last_state header lines x); entries = λ x. mark_of (entry_state header lines x) }
 
--- who wrote last, from this one on
-abbrev pub writer_from : Uid → List Call → Uid
-writer_from u [] = u
-writer_from u (c ∷ cs) = last_writer (c ∷ cs)
-
--- The last state of object x where a run began with these marks: the tops that wrote it are counted from its mark on.
-abbrev pub last_from : Header → Marks → List Line → ℕ → ObjectState
-last_from header marks lines x =
-    let mark = marks.states x in
-    let value = values_after (first_values header) lines x in
-    record {
-      uid = object x;
-      class = class_of value;
-      version = mark.version + count_tops (writes_of lines x);
-      writer = writer_from mark.writer (writes_of lines x);
-      payload = payload_of value;
-    }
-
--- who changed the list last, from this one on
-abbrev pub changer_from : List Line → Uid → List Top → Uid
-changer_from lines u [] = u
-changer_from lines u (t ∷ ts) = last_changer (acts lines) (t ∷ ts)
-
--- its entry
-abbrev pub entry_from : Header → Marks → List Line → ℕ → ObjectState
-entry_from header marks lines x =
-    let mark = marks.entries x in
-    let changed = changers lines x (stores_of_line (object_line header x)) (serial_tops lines) in
-    record {
-      uid = entry x;
-      class = class.Entry;
-      version = mark.version + length changed;
-      writer = changer_from lines mark.writer changed;
-      payload = entry_payload (servers_of_line (object_line header x)) (listed header lines x);
-    }
-
 -- A second run's header goes on where a journal ended: the same objects, in the values and at the stores that it left.
 pub record GoesOn (first : Header) (lines : List Line) (second : Header) : Type 0 where
   pub objects : (x : ℕ) → is_some (object_line second x) ≡ is_some (object_line first x)
   pub servers : (x : ℕ) → servers_of_line (object_line second x) ≡ servers_of_line (object_line first x)
   pub stores : (x : ℕ) → stores_of_line (object_line second x) ≡ listed first lines x
   pub values : (x : ℕ) → first_values second x ≡ values_after (first_values first) lines x
-
--- The disks of a run that began with these marks: as `Clean` says it of one that began at a format.
-pub record CleanFrom (header : Header) (marks : Marks) (lines : List Line) (disks : Disks) : Type 0 where
-  pub entries : (x : ℕ) → is_some (object_line header x) ≡ true → (InDoubt (disks 1) Names (entry x) → ⊥) →
-      held (disks 1) Names (entry x) ≡ Some (state_bytes (entry_from header marks lines x))
-  pub stores : (x s : ℕ) → is_among (listed header lines x) s ≡ true → (InDoubt (disks 1) Names (entry x) → ⊥) →
-      (InDoubt (disks s) Store (object x) → ⊥) → held (disks s) Store (object x) ≡ Some (state_bytes (last_from header marks lines x))
 
 -- What joined journals have to do with one another, for the laws.
 pub record AreJoined (header : Header) (first : List Line) (next : Header) (second : List Line) : Type 0 where

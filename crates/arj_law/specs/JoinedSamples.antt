@@ -15,9 +15,9 @@ use Rattle.arj_journal.specs.declared.body.Kind.TheVariants as kind
 use Rattle.arj_journal.specs.declared.body.Line.{Line}
 use Rattle.arj_journal.specs.declared.header.Header.{Header}
 use Rattle.arj_text.specs.declared.label.Label.{Label}
-use Rattle.arj_model.specs.Last.{entry_payload, entry_state, first_values, last_state}
+use Rattle.arj_model.specs.Last.{entry_from, entry_payload, entry_state, first_values, last_from, last_state}
 use Rattle.arj_model.specs.Serial.{Serial}
-use Rattle.arj_law.specs.Joined.{AreApart, AreCalled, entry_from, last_from, marks_after}
+use Rattle.arj_law.specs.Joined.{AreApart, AreCalled, marks_after}
 
 -- a label of one letter
 abbrev pub letter : ℕ → Label

@@ -2,13 +2,13 @@
 ghost use Rattle.std.specs.Prelude.{◌≡◌, ◌++◌, List, ℕ};
 ghost use Rattle.arj_journal.specs.declared.body.Line.{Line};
 ghost use Rattle.arj_journal.specs.declared.header.Header.{Header};
-ghost use Rattle.arj_law.specs.Joined.{AreApart, AreCalled, AreJoined, CleanFrom, calls_behind, entry_from, last_from, marks_after, tops_behind, unwritten, values_after};
+ghost use Rattle.arj_law.specs.Joined.{AreApart, AreCalled, AreJoined, calls_behind, marks_after, tops_behind, values_after};
 ghost use Rattle.arj_law.specs.JoinedSamples.{AddsEnd, IncludesEnd, NestedEnd};
 ghost use Rattle.arj_model.specs.Keeping.{KeepsTheBook};
 ghost use Rattle.arj_model.specs.Calls.{committed_calls, tops};
-ghost use Rattle.arj_model.specs.Clean.{Clean};
+ghost use Rattle.arj_model.specs.Clean.{Clean, CleanFrom};
 ghost use Rattle.arj_model.specs.Disks.{Disks};
-ghost use Rattle.arj_model.specs.Last.{entry_state, last_state, listed, serial_tops};
+ghost use Rattle.arj_model.specs.Last.{entry_from, entry_state, last_from, last_state, listed, serial_tops};
 ghost use Rattle.arj_model.specs.Serial.{Serial, Values, serial_calls};
 
 /// Of two journals of different actions, one behind the other, the calls and tops that count are those of the first and
@@ -28,16 +28,14 @@ pub fn joined_journals_keep_the_book()
 {}
 
 /// Last states, listed stores and entries of both journals are those of the second run, whose header goes on where the first
-/// journal ended, counted from the marks that it left; and disks that are clean of the one are clean of the other. A run that
-/// begins at a format counts from nothing. It does nothing when it runs.
+/// journal ended, counted from the marks that it left; and disks that are clean of the one are clean of the other. It does
+/// nothing when it runs.
 pub fn joined_journals_end_as_the_second()
     ensures state { (header next : Header) (first second : List Line) → AreJoined header first next second → (x : ℕ) → last_state header (first ++ second) x ≡ last_from next (marks_after header first) second x }
     ensures listed { (header next : Header) (first second : List Line) → AreJoined header first next second → (x : ℕ) → listed header (first ++ second) x ≡ listed next second x }
     ensures entry { (header next : Header) (first second : List Line) → AreJoined header first next second → (x : ℕ) → entry_state header (first ++ second) x ≡ entry_from next (marks_after header first) second x }
     ensures clean { (header next : Header) (first second : List Line) → AreJoined header first next second → (disks : Disks) → CleanFrom next (marks_after header first) second disks → Clean header (first ++ second) disks }
     ensures clean_from { (header next : Header) (first second : List Line) → AreJoined header first next second → (disks : Disks) → Clean header (first ++ second) disks → CleanFrom next (marks_after header first) second disks }
-    ensures unwritten_state { (header : Header) (lines : List Line) (x : ℕ) → last_from header unwritten lines x ≡ last_state header lines x }
-    ensures unwritten_entry { (header : Header) (lines : List Line) (x : ℕ) → entry_from header unwritten lines x ≡ entry_state header lines x }
 {}
 
 /// Small journals of runs that went on, joined to those of the runs before them, and where both end. It does nothing when it

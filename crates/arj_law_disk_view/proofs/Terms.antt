@@ -100,7 +100,7 @@ pub use Rattle.arj_law_parts.proofs.parts.LivesNamed.{all_found, all_put}
 pub use Rattle.arj_law_parts.proofs.parts.Pairs.{moved_names}
 pub use Rattle.arj_law_parts.proofs.parts.Settled.{doing_other, doing_put, end_tree_on}
 pub use Rattle.arj_law_parts.proofs.parts.Stores.{one_of}
-pub use Rattle.arj_law_parts.specs.moves.Keeps.{Holds, Keeps, is_act, label_at}
+pub use Rattle.arj_law_parts.specs.moves.Keeps.{Holds, IsAtStarts, Keeps, is_act, label_at}
 pub use Rattle.arj_law_parts.specs.moves.Seen.{AreQuiet, at, down, given, posted, said, up}
 pub use Rattle.arj_law_parts.specs.moves.Walks.{Stops, Up, Walks, halted}
 pub use Rattle.arj_law_parts.specs.parts.Actions.{Action, AreBegun, Stands, act_of, action_of, paths_of}
@@ -115,6 +115,7 @@ pub use Rattle.arj_law_runs.proofs.calls.WorldRuns.{votes_used}
 pub use Rattle.arj_law_runs.proofs.journal.Books.{Later, Sane, book_more, decided_later, sane_lines, sane_new}
 pub use Rattle.arj_law_runs.proofs.journal.Tops.{is_sound}
 pub use Rattle.arj_law_runs.proofs.kept.Handled.{good_coord, it}
+pub use Rattle.arj_law_runs.proofs.kept.Starts.{first_at, first_up, live_first}
 pub use Rattle.arj_law_runs.specs.calls.Coords.{IsOfStep, head_of}
 pub use Rattle.arj_law_runs.specs.calls.Reached.{IsReached}
 pub use Rattle.arj_law_runs.specs.calls.Runs.{KnowsFew}
@@ -129,6 +130,7 @@ pub use Rattle.arj_protocol.specs.Commit.{start}
 pub use Rattle.arj_protocol.specs.Effect.{moved}
 pub use Rattle.arj_protocol.specs.Ending.{is_over}
 pub use Rattle.arj_protocol.specs.Naming.{told}
+pub use Rattle.arj_protocol.specs.Step.{disk_by, entry_by, older_at, state_by, states_from}
 pub use Rattle.arj_protocol.specs.Tree.{is_below}
 pub use Rattle.std.proofs.Common.{bytes_eq, filter_map, flat_map}
 pub use Rattle.arj_law_disk.specs.machine.Effects as machine

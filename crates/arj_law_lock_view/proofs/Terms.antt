@@ -44,7 +44,7 @@ pub use Rattle.arj_law_lock_view.specs.running.Beside.{Case, HoldsNamingIn, IsSe
 pub use Rattle.arj_law_lock_view.specs.running.Beside.{view_in, world_at}
 pub use Rattle.arj_law_lock_view.specs.running.Coordinating.{AreSends, AreSendsShown, HasStepped, IsAtCommit, IsSendShown, IsWorking}
 pub use Rattle.arj_law_lock_view.specs.running.Coordinating.{KnowsAsks, KnowsCoord, OnlyUnit, StepGoes, coord_at, records_at}
-pub use Rattle.arj_law_lock_view.specs.running.Fixed.{Fixed, family_of, view_of}
+pub use Rattle.arj_law_lock_view.specs.running.Fixed.{Fixed, family_of, view_of, StandsFor}
 pub use Rattle.arj_law_lock_view.specs.running.Inputs.{KnowsAfter}
 pub use Rattle.arj_law_lock_view.specs.running.Posts.{AreToldSo, IsAnswerSeen, IsAnsweredSeen, IsAskedSeen, IsOtherSeen, IsPostSeen}
 pub use Rattle.arj_law_lock_view.specs.running.Posts.{IsRequestSeen, IsToldSo, SaysToNaming}
@@ -120,7 +120,7 @@ pub use Rattle.arj_law_parts.proofs.parts.ServerRuns.{told_follows}
 pub use Rattle.arj_law_parts.proofs.parts.Settled.{doing_other, doing_put, end_tree_on, place_length}
 pub use Rattle.arj_law_parts.proofs.parts.Stores.{each_passes, either_none}
 pub use Rattle.arj_law_parts.proofs.parts.TrueSteps.{true_query, true_records, well_acked, well_acts, well_again, well_heard, work_there}
-pub use Rattle.arj_law_parts.specs.moves.Keeps.{Keeps, is_act}
+pub use Rattle.arj_law_parts.specs.moves.Keeps.{IsAtStarts, Keeps, is_act}
 pub use Rattle.arj_law_parts.specs.moves.Seen.{AreQuiet, Within, at, down, given, is_quiet_line, posted, said, up}
 pub use Rattle.arj_law_parts.specs.moves.Walks.{Stops, Up, Walks, halted}
 pub use Rattle.arj_law_parts.specs.parts.Actions.{Action, AreBegun, MayBegin, Stands, act_of, action_of, owner_in, owners_of, paths_of}
@@ -150,7 +150,7 @@ pub use Rattle.arj_law_runs.proofs.coordinators.CoordUses.{on_cases, on_roots}
 pub use Rattle.arj_law_runs.proofs.journal.Models.{named_in}
 pub use Rattle.arj_law_runs.proofs.kept.Begins.{begin_good}
 pub use Rattle.arj_law_runs.proofs.kept.Handled.{own_of_disk, tops_of_disk}
-pub use Rattle.arj_law_runs.proofs.kept.Starts.{first_at}
+pub use Rattle.arj_law_runs.proofs.kept.Starts.{first_at, first_up, live_first}
 pub use Rattle.arj_law_runs.proofs.kept.Walked.{other_number, same_number}
 pub use Rattle.arj_law_runs.specs.addresses.Addresses.{IsEntry}
 pub use Rattle.arj_law_runs.specs.addresses.Binds.{AnswersAt, AnswersWaiting, BindsAreKnown, IsThere, KnowsBinds}
@@ -163,9 +163,11 @@ pub use Rattle.arj_law_runs.specs.kept.Worlds.{IsGoodOf, IsUp}
 pub use Rattle.arj_model.specs.Actions.{Begun, Halt, Placed, act_in, acts, acts_after, begun_of, committed_of, ended_of, halt_of, is_serial}
 pub use Rattle.arj_model.specs.Actions.{numbered, put, read, recovered, recovered_of}
 pub use Rattle.arj_model.specs.Serial.{Values}
+pub use Rattle.arj_model.specs.Start.{Marks}
 pub use Rattle.arj_protocol.specs.Commit.{answered, given_up}
 pub use Rattle.arj_protocol.specs.Effect.{moved}
 pub use Rattle.arj_protocol.specs.Server.{kept_after, taken_end}
+pub use Rattle.arj_protocol.specs.Step.{disk_by, entry_by}
 pub use Rattle.std.specs.Option.{option_map}
 pub use Rattle.arj_journal.specs.declared.body.Body.TheVariants as body
 pub use Rattle.arj_law_lock.specs.machine.Machine as machine_run

@@ -9,7 +9,7 @@ pub use Rattle.arj_law_nodes.specs.nodes.Promised.{EndsIdle, ShowsThePromise}
 pub use Rattle.arj_law_nodes.specs.nodes.Readings.{Reads, readings_of}
 pub use Rattle.arj_law_parts.specs.steps.Writes.{IsWhole}
 pub use Rattle.arj_law_serial.specs.joint.Booked.{KeepsTheBook}
-pub use Rattle.arj_model.specs.Clean.{Clean}
+pub use Rattle.arj_model.specs.Clean.{Clean, CleanFrom}
 pub use Rattle.arj_model.specs.Disks.{Disks}
 pub use Rattle.arj_model.specs.Last.{first_values}
 pub use Rattle.arj_nodes.specs.AllNodes.{Task, task}

@@ -39,6 +39,8 @@ pub use Rattle.arj_promise.specs.Runs.{journal_by, most_events, moved, see, worl
 pub use Rattle.arj_promise.specs.Serial.{IsSerialBy}
 pub use Rattle.arj_promise.specs.Waiting.{HasAnswer, IsAnswerTo, IsOvertaken, IsPlainIn, IsSaid, IsSameWork, IsToSettle, StillWaits}
 pub use Rattle.arj_promise.specs.Waiting.{WaitsOvertaken, coord_in, coord_of, is_plain, is_refusal}
+pub use Rattle.arj_model.specs.Start.{Start}
+pub use Rattle.arj_promise.specs.Starts.{IsFormed}
 pub use Rattle.arj_protocol.proofs.CoordSays.{acked_own, acts_own, again_own, heard_own, map_own, query_own, tolds_again_own}
 pub use Rattle.arj_protocol.proofs.Maps.{place_other, put_other, put_same}
 pub use Rattle.arj_protocol.proofs.Messages.{request_reads_back, response_reads_back}
@@ -127,6 +129,7 @@ pub use Rattle.arj_protocol.specs.Server.{server_holders, told, took_copy, vote,
 pub use Rattle.arj_protocol.specs.Step.{Begin, Call, Crash, GiveUp, Input, Node, Restart, Show, Step, Tick, abort_reasons, acts}
 pub use Rattle.arj_protocol.specs.Step.{begin_reasons, begin_refusal, branch_named, branch_numbered, call_reasons, class_at, class_in}
 pub use Rattle.arj_protocol.specs.Step.{commit_reasons, coord_did, copy_line, entries_at, entry_line, first_disk, first_entry, first_node}
+pub use Rattle.arj_protocol.specs.Step.{node_by}
 pub use Rattle.arj_protocol.specs.Step.{first_reason, first_state, frame_step, giveup_reasons, handled_step, has_none, hello_to}
 pub use Rattle.arj_protocol.specs.Step.{include_reasons, is_below_16, is_committing, is_committing_now, is_idle, is_sibling, is_waiting}
 pub use Rattle.arj_protocol.specs.Step.{is_waiting_now, lacks_op, naming_at, naming_back, node_did, numbers_to, on_branch, only_says}
@@ -148,8 +151,10 @@ pub use Rattle.arj_protocol.specs.Words.{pass_rows, path_of, payload_of, request
 pub use Rattle.arj_protocol.specs.Words.{without_store, writes}
 pub use Rattle.arj_protocol.specs.World.{Arm, Cut, Frame, Giving, Labelled, World, armed, as_delivered, as_lost, begins, begins_any, bodies}
 pub use Rattle.arj_protocol.specs.World.{change_frame, count_works, counted, cut, deliver, deliver_frame, disarmed, done_step, format}
+pub use Rattle.arj_protocol.specs.World.{world_from}
 pub use Rattle.arj_protocol.specs.World.{frame_number, frames_with, gives_label, giving, halted_at, halted_outs, happens, is_frame}
-pub use Rattle.arj_protocol.specs.World.{is_given, is_node, is_open_frame, is_quiet, is_serial_kind, is_up, is_up_at, junk, junk_fits}
+pub use Rattle.arj_protocol.specs.World.{is_given, is_known, was_given, is_node, is_open_frame, is_quiet, is_serial_kind, is_up, is_up_at}
+pub use Rattle.arj_protocol.specs.World.{junk, junk_fits}
 pub use Rattle.arj_protocol.specs.World.{kind_below, labelled, labels_unless, lacks_labels, limited, lose, lose_frame, lowest, lowest_from}
 pub use Rattle.arj_protocol.specs.World.{most_frames, most_labels, new_frame, no_labels, node_in, node_numbers, node_of, numbered, put}
 pub use Rattle.arj_protocol.specs.World.{quiesce, quiet_line, reasons, refused_at, run_all, run_event, run_unless, sends, sent_line}

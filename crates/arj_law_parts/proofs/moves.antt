@@ -8,6 +8,7 @@
 -- (`specs/Moves.antt`), of which those of scripts are some.
 pub mod Cuts
 pub mod Flat
+pub mod Reasons
 pub mod Happens
 pub mod Inputs
 pub mod Rounds

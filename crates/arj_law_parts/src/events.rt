@@ -1,7 +1,7 @@
 // Laws of events.
 ghost use Rattle.arj_law_parts.specs.steps.Halts.{CrashesSayTheirOwn, OnlyCrashesSayHalted};
 ghost use Rattle.arj_law_parts.specs.steps.Named.{EndsWriteTheirLines};
-ghost use Rattle.arj_law_parts.specs.steps.Writes.{EventsKeepWhole, EventsWriteTheirLines, FormatsAreWhole, RunsAreWhole};
+ghost use Rattle.arj_law_parts.specs.steps.Writes.{EventsKeepWhole, EventsWriteTheirLines, RunsAreWhole, StartsAreWhole};
 
 /// No step of a node says that a node halted, whatever it is asked, but a crash, and that says it of its own node; so any other
 /// line that says so tells of a stop. It does nothing when it runs.
@@ -17,7 +17,7 @@ pub fn only_crashes_say_halted()
 /// runs.
 pub fn events_write_their_lines()
     ensures lines { EventsWriteTheirLines }
-    ensures first { FormatsAreWhole }
+    ensures first { StartsAreWhole }
     ensures kept { EventsKeepWhole }
     ensures whole { RunsAreWhole }
 {}

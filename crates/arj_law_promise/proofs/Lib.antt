@@ -2,3 +2,4 @@ pub mod Terms
 pub mod waiting
 pub mod settling
 pub mod statement
+pub mod readable

@@ -2,13 +2,13 @@
 -- Declares nothing.
 pub use Rattle.arj_journal.specs.ScriptForm.{HeaderInForm, ObjectLineInForm}
 pub use Rattle.arj_law_disk_view.proofs.running.Lists.{all_each}
-pub use Rattle.arj_law_disk_view.proofs.view.FirstSeen.{first_at}
+pub use Rattle.arj_law_runs.proofs.kept.Starts.{first_at, first_up, live_first}
 pub use Rattle.arj_law_disk_view.proofs.view.Frames.{node_here}
 pub use Rattle.arj_law_disk_view.proofs.view.HeardWalks.{is_say}
 pub use Rattle.arj_law_disk_view.proofs.view.Marks.{has_without}
 pub use Rattle.arj_law_disk_view.proofs.view.Planned.{has_set, has_with}
 pub use Rattle.arj_law_disk_view.proofs.view.ServedWalks.{bind_says, note_says}
-pub use Rattle.arj_law_disk_view.specs.running.Places.{HasNaming}
+pub use Rattle.arj_law_disk_view.specs.running.Places.{HasNaming, IsSince}
 pub use Rattle.arj_law_disk_view.specs.running.Records.{AreRecorded, IsRecorded, IsRooted}
 pub use Rattle.arj_law_disk_view.specs.running.States.{Fits, NowIsSo, Own, OwnOf}
 pub use Rattle.arj_law_disk_view.specs.view.Sees.{is_awaited_by}
@@ -41,7 +41,7 @@ pub use Rattle.arj_law_parts.proofs.parts.SaidIncs.{all_both, all_flat, all_map}
 pub use Rattle.arj_law_parts.proofs.parts.Settled.{node_on}
 pub use Rattle.arj_law_parts.proofs.parts.Tellings.{asks_telling, doing_telling, ended_telling}
 pub use Rattle.arj_law_parts.proofs.parts.TrueSteps.{true_query, well_acked, well_acts, well_again, well_heard, work_there}
-pub use Rattle.arj_law_parts.specs.moves.Keeps.{Holds, Keeps, KeepsAsked, is_act}
+pub use Rattle.arj_law_parts.specs.moves.Keeps.{Holds, IsAtStarts, Keeps, KeepsAsked, is_act}
 pub use Rattle.arj_law_parts.specs.moves.Seen.{AreQuiet, In, at, down, given, is_quiet_line, posted, said, up}
 pub use Rattle.arj_law_parts.specs.moves.Walks.{Up, Walks, halted}
 pub use Rattle.arj_law_parts.specs.parts.Actions.{Action, AreBegun, Stands, act_of, action_of, paths_of}
@@ -60,14 +60,15 @@ pub use Rattle.arj_law_promise.specs.waiting.Asked.{ActivateNamed, Claims, HasMa
 pub use Rattle.arj_law_promise.specs.waiting.Asked.{NamedWasSaid, ReplyWasAsked, RequestsAreHome, ServerWasAsked, StandsIn, StepsNamed}
 pub use Rattle.arj_law_promise.specs.waiting.Asked.{WasBrought, WasMade, WasNamed, WereAsked}
 pub use Rattle.arj_law_promise.specs.waiting.Waits.{HasStored, LoadsFind, WaitsAreKnown}
-pub use Rattle.arj_law_promise.specs.waiting.Writers.{AnsweredIsBy, ArePastWriters, AskIsBy, AskedIsBy, CoordIsBy, EffectIsBy, IsBy}
+pub use Rattle.arj_law_promise.specs.waiting.Writers.{AnsweredIsBy, ArePastWriters, AreSince, AskIsBy, AskedIsBy, CoordIsBy, EffectIsBy}
+pub use Rattle.arj_law_promise.specs.waiting.Writers.{IsBy}
 pub use Rattle.arj_law_promise.specs.waiting.Writers.{IsOwnOrBy, IsPastWriter, NowIsBy, PairIsBy, PlanIsBy, ReplyIsBy, RootIsBy}
 pub use Rattle.arj_law_runs.proofs.addresses.BindRuns.{answers_fit}
 pub use Rattle.arj_law_runs.proofs.addresses.Lists.{all_append, all_at_uid, all_filter, all_some, all_without, some_is}
 pub use Rattle.arj_law_runs.proofs.addresses.Runs.{kept}
 pub use Rattle.arj_law_runs.proofs.calls.CoordOuts.{acked_so, acts_so, again_so, heard_so, query_so, tolds_so}
 pub use Rattle.arj_law_runs.proofs.calls.CoordSends.{AllSo, IsSentBy, SendsSo, so_both}
-pub use Rattle.arj_law_runs.proofs.calls.Given.{KeepsGiven, keeps_given, kept_both}
+pub use Rattle.arj_law_runs.proofs.calls.Given.{KeepsGiven, given_more, keeps_given, kept_both}
 pub use Rattle.arj_law_runs.proofs.calls.WorldSteps.{no_answer, no_request}
 pub use Rattle.arj_law_runs.proofs.coordinators.CoordUses.{on_cases}
 pub use Rattle.arj_law_runs.proofs.journal.Books.{Later, book_more, later_from, named_is}
@@ -106,6 +107,9 @@ pub use Rattle.arj_law_serial.specs.whole.Acks.{AcksAreKnown, HasAcked, IsDemand
 pub use Rattle.arj_law_serial.specs.whole.Called.{UsesOf}
 pub use Rattle.arj_model.specs.Actions.{Act, act_in, acts, is_serial}
 pub use Rattle.arj_model.specs.Last.{first_values}
+pub use Rattle.arj_model.specs.Start.{Mark, Marks}
+pub use Rattle.arj_promise.specs.Starts.{IsOlder, next_inc}
+pub use Rattle.arj_protocol.specs.Step.{disk_by, entries_from, entry_by, older_at, state_by, states_from}
 pub use Rattle.arj_model.specs.Outcome.{may_abort, was_excluded}
 pub use Rattle.arj_protocol.specs.Effect.{moved}
 pub use Rattle.arj_protocol.specs.Ending.{is_over}

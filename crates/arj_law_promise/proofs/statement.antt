@@ -11,3 +11,5 @@
 --
 -- Each clause is a law of `arj_law_serial/joint`, `arj_law_serial/holding` or `settling/`; here they stand together, of one run.
 pub mod Keeping
+pub mod Later
+pub mod Continued

@@ -7,6 +7,7 @@
 pub mod Untold
 pub mod Replies
 pub mod Serving
+pub mod Since
 pub mod AskedServers
 pub mod Made
 pub mod Standing

@@ -1,2 +1,4 @@
 pub mod waiting
 pub mod settling
+pub mod starts
+pub mod readable

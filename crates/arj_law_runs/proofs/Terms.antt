@@ -27,7 +27,8 @@ pub use Rattle.arj_law_parts.proofs.parts.Truths.{put_in, true_on}
 pub use Rattle.arj_law_parts.proofs.steps.CoordNames.{names_kept, same_acked, same_acts, same_again, same_heard}
 pub use Rattle.arj_law_parts.proofs.steps.Frames.{length_marked, steps_add}
 pub use Rattle.arj_law_parts.proofs.steps.Settled.{events_settle}
-pub use Rattle.arj_law_parts.specs.moves.Keeps.{DidKeeps, HasPlace, Holds, IsSent, Keeps, KeepsAsked, KeepsOn, MayGive, is_act, label_at}
+pub use Rattle.arj_law_parts.specs.moves.Keeps.{DidKeeps, HasPlace, Holds, IsAtStarts, IsSent, Keeps, KeepsAsked, KeepsOn, MayGive, is_act}
+pub use Rattle.arj_law_parts.specs.moves.Keeps.{label_at}
 pub use Rattle.arj_law_parts.specs.moves.Seen.{AreQuiet, In, Within, at, down, given, posted, said, up}
 pub use Rattle.arj_law_parts.specs.moves.Walks.{Up, Walks, halted}
 pub use Rattle.arj_law_parts.specs.parts.Actions.{Action, Agree, AreBegun, AreCounted, IsCounted, MayBegin, action_of, paths_of}
@@ -72,7 +73,8 @@ pub use Rattle.arj_law_runs.specs.journal.Knows.{AreIdle, AreLate, AreLined, Are
 pub use Rattle.arj_law_runs.specs.journal.Knows.{HasNoted, IsAbout, IsCalled, IsEnd, IsGiven, IsKept, IsKnown, IsLined, IsWritten, Knows}
 pub use Rattle.arj_law_runs.specs.journal.Knows.{KnowsUp, Puts, Remembers, Ties, decides, root_in}
 pub use Rattle.arj_law_runs.specs.journal.Laws.{AreDistinct, AreFormed, IsDone}
-pub use Rattle.arj_law_runs.specs.journal.Right.{AreRight, BeginsIn, IsBelow, IsClosed, IsOpen, IsOpenSo, IsSaid, MayBeFound, Right}
+pub use Rattle.arj_law_runs.specs.journal.Right.{AreRight, BeginsIn, IsBelow, IsClosed, IsNamed, IsOpen, IsOpenPlain, IsOpenSo, IsSaid}
+pub use Rattle.arj_law_runs.specs.journal.Right.{MayBeFound, Right}
 pub use Rattle.arj_law_runs.specs.journal.Right.{has_act}
 pub use Rattle.arj_law_runs.specs.kept.Worlds.{IsGood, IsGoodDisk, IsGoodOf, IsGoodPlace, IsGoodWorld, IsMemory, IsSaidIn, IsSettledIn}
 pub use Rattle.arj_law_runs.specs.kept.Worlds.{IsSo, IsUp, KnowsLabels}
@@ -86,7 +88,8 @@ pub use Rattle.arj_model.specs.Calls.{Said, said_of}
 pub use Rattle.arj_model.specs.Last.{Inclusion, included_of}
 pub use Rattle.arj_protocol.specs.Naming.{told}
 pub use Rattle.arj_protocol.specs.Server.{kept_after, taken_end}
-pub use Rattle.arj_protocol.specs.Step.{Frame}
+pub use Rattle.arj_promise.specs.Runs.{Run}
+pub use Rattle.arj_protocol.specs.Step.{Frame, disk_by, entries_from, entry_by}
 pub use Rattle.arj_protocol.specs.Tree.{is_below}
 pub use Rattle.arj_protocol.specs.World.{Asked, says}
 pub use Rattle.arj_text.proofs.Labels.{same_key}

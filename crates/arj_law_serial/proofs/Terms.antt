@@ -39,7 +39,7 @@ pub use Rattle.arj_law_disk_view.proofs.running.Scripts.{part_more}
 pub use Rattle.arj_law_disk_view.proofs.running.StateCoords.{acts_so, begins_so, hears_so}
 pub use Rattle.arj_law_disk_view.proofs.running.StateEnds.{acks_so, new_so, query_so}
 pub use Rattle.arj_law_disk_view.proofs.view.DecideWalks.{confirming_of}
-pub use Rattle.arj_law_disk_view.proofs.view.FirstSeen.{first_at}
+pub use Rattle.arj_law_runs.proofs.kept.Starts.{first_at, first_up, live_first}
 pub use Rattle.arj_law_disk_view.proofs.view.Frames.{node_cases, node_here}
 pub use Rattle.arj_law_disk_view.proofs.view.Later.{effects_are_later}
 pub use Rattle.arj_law_disk_view.proofs.view.Planned.{has_same, used_there}
@@ -122,7 +122,7 @@ pub use Rattle.arj_law_lock_view.specs.running.Answers.{IsLastFor}
 pub use Rattle.arj_law_lock_view.specs.running.Beside.{Case, IsConfirmedNow, IsSeenIn, IsToldAbort, KnowsSpot, Spot, server_at, told_in}
 pub use Rattle.arj_law_lock_view.specs.running.Beside.{view_in, world_at}
 pub use Rattle.arj_law_lock_view.specs.running.Coordinating.{coord_at}
-pub use Rattle.arj_law_lock_view.specs.running.Fixed.{Agrees, AgreesAs, AgreesBy, BeginsAs, Fixed, view_of}
+pub use Rattle.arj_law_lock_view.specs.running.Fixed.{Agrees, AgreesAs, AgreesBy, BeginsAs, Fixed, StandsFor, view_of}
 pub use Rattle.arj_law_lock_view.specs.running.Kept.{GivesLocks, HasCome, case_of}
 pub use Rattle.arj_law_lock_view.specs.running.Posts.{IsAskedSeen, IsRequestSeen}
 pub use Rattle.arj_law_lock_view.specs.running.Sees.{IsPast, SeesDown, SeesLocks, SeesMemory, SeesUp}
@@ -164,7 +164,7 @@ pub use Rattle.arj_law_parts.proofs.parts.Pairs.{at_each}
 pub use Rattle.arj_law_parts.proofs.parts.SaidIncs.{all_both, all_flat, all_map, truly_handled}
 pub use Rattle.arj_law_parts.proofs.parts.Settled.{end_tree_on}
 pub use Rattle.arj_law_parts.proofs.parts.TrueSteps.{true_query, well_acked, well_acts, well_again, well_heard, without_in, work_there}
-pub use Rattle.arj_law_parts.specs.moves.Keeps.{Keeps, KeepsFrom, MayGive, is_act, label_at}
+pub use Rattle.arj_law_parts.specs.moves.Keeps.{IsAtStarts, Keeps, KeepsFrom, MayGive, is_act, label_at}
 pub use Rattle.arj_law_parts.specs.moves.Seen.{AreQuiet, In, Within, at, down, given, is_quiet_line, posted, said, up}
 pub use Rattle.arj_law_parts.specs.moves.Walks.{Up, Walks, halted}
 pub use Rattle.arj_law_parts.specs.parts.Actions.{Action, AreBegun, IsNew, act_of, action_of, paths_of}
@@ -248,7 +248,7 @@ pub use Rattle.arj_law_serial.specs.joint.Ordered.{IsOrdered, IsOrderedSo, IsTur
 pub use Rattle.arj_law_serial.specs.joint.SaidFirst.{IncludersKnow, IsSaidFirst}
 pub use Rattle.arj_law_serial.specs.joint.Shown.{IncludesAreThere}
 pub use Rattle.arj_law_serial.specs.joint.Writers.{IsWriter, WritersAreNewestFirst}
-pub use Rattle.arj_law_serial.specs.order.Cleaned.{BeginsSo, HaveForm, IsCleanIn}
+pub use Rattle.arj_law_serial.specs.order.Cleaned.{BeginsSo, HaveForm, IsCleanIn, marked}
 pub use Rattle.arj_law_serial.specs.order.Codes.{code_of}
 pub use Rattle.arj_law_serial.specs.order.Decided.{AreDecided, AreDecisions, AreNewestFirst, ChangersHaveTurns, CommitsComeFirst}
 pub use Rattle.arj_law_serial.specs.order.Decided.{DecideChanges, HaveTurns, IsDecision, IsInTurn, Joined, VotedSo, WroteSo, left_by}
@@ -273,18 +273,21 @@ pub use Rattle.arj_model.specs.Actions.{read, recovered, recovered_of, root_in, 
 pub use Rattle.arj_model.specs.Book.{InOrder}
 pub use Rattle.arj_model.specs.Calls.{Said, Top, call_of, committed_calls, committing_of, committings, ids, kept, kept_in, root_or, said_of}
 pub use Rattle.arj_model.specs.Calls.{top_by, tops}
-pub use Rattle.arj_model.specs.Clean.{Clean}
+pub use Rattle.arj_model.specs.Clean.{CleanFrom}
 pub use Rattle.arj_model.specs.Disks.{Disks, Reading}
 pub use Rattle.arj_model.specs.Held.{locks_for, unit_end}
-pub use Rattle.arj_model.specs.Last.{Inclusion, entry_payload, entry_state, first_values, included, included_of, increasing, insert_number}
-pub use Rattle.arj_model.specs.Last.{is_among, joins_by, joins_of, last_state, leaves_of, listed_after, listed_from, object_line}
-pub use Rattle.arj_model.specs.Last.{serial_tops, servers_of_line, state_after, stores_of_line, uid_of_id, value_of_line}
+pub use Rattle.arj_model.specs.Last.{Inclusion, entry_payload, first_values, included, included_of, increasing, insert_number}
+pub use Rattle.arj_model.specs.Last.{is_among, joins_by, joins_of, leaves_of, listed_after, listed_from, object_line}
+pub use Rattle.arj_model.specs.Last.{serial_tops, servers_of_line, stores_of_line, uid_of_id, value_of_line}
 pub use Rattle.arj_model.specs.Outcome.{is_said}
+pub use Rattle.arj_model.specs.Start.{Mark, Marks}
 pub use Rattle.arj_model.specs.Serial.{Values, lex, root_of, run, serial_calls, serial_key, top_place, unit_place, writes_on}
 pub use Rattle.arj_model.specs.Table.{path_by, table, table_from, table_step, up_step}
 pub use Rattle.arj_protocol.specs.Effect.{moved}
 pub use Rattle.arj_protocol.specs.Ending.{is_over}
+pub use Rattle.arj_promise.specs.Starts.{IsOlder}
 pub use Rattle.arj_protocol.specs.Server.{taken_end}
+pub use Rattle.arj_protocol.specs.Step.{disk_by, entries_from, entry_by, older_at, state_by, states_from}
 pub use Rattle.arj_protocol.specs.World.{Asked, says}
 pub use Rattle.arj_text.specs.Fields.{OpTextInForm, is_distinct}
 pub use Rattle.std.specs.Option.{option_map}

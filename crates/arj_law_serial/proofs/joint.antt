@@ -21,6 +21,7 @@ pub mod Listing
 pub mod OrderedRuns
 pub mod Ordering
 pub mod Showing
+pub mod Starting
 pub mod Turns
 pub mod Behind
 pub mod CommitCalls

@@ -7,7 +7,7 @@ ghost use Rattle.arj_promise.specs.Excluded.{DiskIsInTime, Lists};
 ghost use Rattle.arj_law_serial.specs.joint.DisksJoined.{JoinedRunsAreInTime};
 ghost use Rattle.arj_law_serial.specs.joint.InTime.{RunsExcludeInTime};
 ghost use Rattle.arj_promise.specs.Outcome.{ShowsOneOutcome, aborts_have_cause, commits_are_behind};
-ghost use Rattle.arj_law_serial.specs.joint.Samples.{decided_lines, disks_decided, disks_late, found_commit, halted_abort, header, its_top, naming_late, naming_node, right_end, store_three, store_two, wrong_abort, wrong_commit, wrong_names_abort};
+ghost use Rattle.arj_law_serial.specs.joint.Samples.{decided_lines, disks_decided, disks_late, found_commit, halted_abort, its_last, its_top, naming_late, naming_node, right_end, store_three, store_two, wrong_abort, wrong_commit, wrong_names_abort};
 
 /// The definition of one outcome, tried on small journals: which it accepts, and which it refuses. It does nothing when it runs.
 pub fn one_outcome_tells_journals_apart()
@@ -23,15 +23,15 @@ pub fn one_outcome_tells_journals_apart()
 /// prepared and one that is about to be taken out are in time; where the entry without that one isn't prepared, it isn't. The top is new in
 /// the event with its `committed` line, and not later. So it is by what such disks say. It does nothing when it runs.
 pub fn exclusion_in_time_tells_disks_apart()
-    ensures prepared { IsInTime header decided_lines 1 naming_node store_two its_top 2 }
-    ensures taken_out { IsInTime header decided_lines 1 naming_node store_three its_top 3 }
-    ensures late { IsInTime header decided_lines 1 naming_late store_three its_top 3 → ⊥ }
+    ensures prepared { IsInTime its_last decided_lines 1 naming_node store_two its_top 2 }
+    ensures taken_out { IsInTime its_last decided_lines 1 naming_node store_three its_top 3 }
+    ensures late { IsInTime its_last decided_lines 1 naming_late store_three its_top 3 → ⊥ }
     ensures new { IsNew 5 decided_lines its_top }
     ensures old { IsNew 6 decided_lines its_top → ⊥ }
     ensures lists { Lists (disks_late 1) 1 3 }
-    ensures disk_prepared { DiskIsInTime header decided_lines 1 disks_decided its_top 2 }
-    ensures disk_taken_out { DiskIsInTime header decided_lines 1 disks_decided its_top 3 }
-    ensures disk_late { DiskIsInTime header decided_lines 1 disks_late its_top 3 → ⊥ }
+    ensures disk_prepared { DiskIsInTime its_last decided_lines 1 disks_decided its_top 2 }
+    ensures disk_taken_out { DiskIsInTime its_last decided_lines 1 disks_decided its_top 3 }
+    ensures disk_late { DiskIsInTime its_last decided_lines 1 disks_late its_top 3 → ⊥ }
 {}
 
 /// After each run whose header and events are in form, of at most 1,000,000 events, with all crashes and restarts, and stops wherever disks make

@@ -19,6 +19,7 @@ use Rattle.arj_text.specs.Label.{name}
 use Rattle.arj_model.specs.Actions.{Act, Placed, read, path, top_in, chain_in, has_end, committed, acts}
 use Rattle.arj_model.specs.Calls.{Call, Top, tops}
 use Rattle.arj_model.specs.Serial.{Values, run, serial_calls, writes_on, arrange, serial_key, lex}
+use Rattle.arj_model.specs.Start.{Mark, Marks, none_written}
 
 -- the header's line of object x
 abbrev pub object_line : Header → ℕ → Option ObjectLine
@@ -52,21 +53,29 @@ abbrev pub count_tops : List Call → ℕ
 count_tops [] = 0
 count_tops (c ∷ cs) = if list_any (λ d. d.top == c.top) cs then count_tops cs else count_tops cs + 1
 
--- the top that made the last of these calls
-abbrev pub last_writer : List Call → Uid
-last_writer [] = nobody
-last_writer (c ∷ []) = c.writer
-last_writer (c ∷ d ∷ cs) = last_writer (d ∷ cs)
+-- who made the last of these calls; this one where there is none
+abbrev pub writer_from : Uid → List Call → Uid
+writer_from u [] = u
+writer_from u (c ∷ cs) = writer_from c.writer cs
 
--- the state of object x with this value, after these writes
-abbrev pub state_after : ℕ → Value → List Call → ObjectState
-state_after x v writes =
-    record { uid = object x; class = class_of v; version = count_tops writes; writer = last_writer writes; payload = payload_of v }
+-- the state of object x with this value, after these writes on what has this mark
+abbrev pub state_after : Mark → ℕ → Value → List Call → ObjectState
+state_after m x v writes = record {
+  uid = object x;
+  class = class_of v;
+  version = m.version + count_tops writes;
+  writer = writer_from m.writer writes;
+  payload = payload_of v;
+}
 
--- The last state of object x: its value is that of the serial run, its version counts the committed tops that wrote
--- it, and its writer is the last of them.
+-- The last state of object x, where a run began with these marks: its value is that of the serial run, its version counts the committed
+-- tops that wrote it, from the mark on, and its writer is the last of them.
+abbrev pub last_from : Header → Marks → List Line → ℕ → ObjectState
+last_from header marks lines x = state_after (marks.states x) x (run (first_values header) (serial_calls lines) x) (writes_of lines x)
+
+-- its last state, where the run began at a format
 abbrev pub last_state : Header → List Line → ℕ → ObjectState
-last_state header lines x = state_after x (run (first_values header) (serial_calls lines) x) (writes_of lines x)
+last_state header lines x = last_from header none_written lines x
 
 -- An exclusion that a top's commit set out to make.
 pub record Exclusion : Type 0 where
@@ -167,25 +176,29 @@ abbrev pub uid_of_id : List Act → ℕ → Uid
 uid_of_id [] id = nobody
 uid_of_id (a ∷ older) id = if a.id == id then a.uid else uid_of_id older id
 
--- the Uid of the last of these tops
-abbrev pub last_changer : List Act → List Top → Uid
-last_changer as_begun [] = nobody
-last_changer as_begun (t ∷ []) = uid_of_id as_begun t.id
-last_changer as_begun (t ∷ u ∷ ts) = last_changer as_begun (u ∷ ts)
+-- the Uid of the last of these tops; this one where there is none
+abbrev pub changer_from : List Act → Uid → List Top → Uid
+changer_from as_begun u [] = u
+changer_from as_begun u (t ∷ ts) = changer_from as_begun (uid_of_id as_begun t.id) ts
 
 -- an entry's payload: its servers and its stores, each list behind its length
 abbrev pub entry_payload : List ℕ → List ℕ → List ℕ
 entry_payload servers stores = length servers ∷ (servers ++ (length stores ∷ stores))
 
--- The naming entry of object x: the header's servers and the listed stores. Its version counts the committed tops
--- that changed the list, and its writer is the last of them.
-abbrev pub entry_state : Header → List Line → ℕ → ObjectState
-entry_state header lines x =
+-- The naming entry of object x, where a run began with these marks: the header's servers and the listed stores. Its version counts the
+-- committed tops that changed the list, from the mark on, and its writer is the last of them.
+abbrev pub entry_from : Header → Marks → List Line → ℕ → ObjectState
+entry_from header marks lines x =
+    let mark = marks.entries x in
     let changed = changers lines x (stores_of_line (object_line header x)) (serial_tops lines) in
     record {
       uid = entry x;
       class = class.Entry;
-      version = length changed;
-      writer = last_changer (acts lines) changed;
+      version = mark.version + length changed;
+      writer = changer_from (acts lines) mark.writer changed;
       payload = entry_payload (servers_of_line (object_line header x)) (listed header lines x);
     }
+
+-- its entry, where the run began at a format
+abbrev pub entry_state : Header → List Line → ℕ → ObjectState
+entry_state header lines x = entry_from header none_written lines x

@@ -2,6 +2,8 @@ pub mod Limits
 pub mod Actions
 pub mod Calls
 pub mod Serial
+pub mod Start
+pub mod Shown
 pub mod Last
 pub mod Table
 pub mod Past

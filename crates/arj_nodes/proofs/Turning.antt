@@ -48,10 +48,10 @@ few_arms n (e ∷ events) = by (arm_at n e) (few_arms n events)
 module _ {C D : Type 0} (c : core.Ghosts C) (d : disk.Ghosts D) where
   -- the mark that a run is over
   opened : (h : Hand C D) (w : World) → Stands c d.file h w → Stands c d.file h (unmarked w)
-  opened h w s = record { header = s.header; frames = s.frames; lines = s.lines; labels = s.labels; arms = s.arms; event = s.event; full = s.full; over = refl; nodes = s.nodes }
+  opened h w s = record { header = s.header; start = s.start; frames = s.frames; lines = s.lines; labels = s.labels; arms = s.arms; event = s.event; full = s.full; over = refl; nodes = s.nodes }
 
   as_it_is : (h : Hand C D) (w : World) → w.over ≡ false → Stands c d.file h (unmarked w) → Stands c d.file h w
-  as_it_is h w is s = record { header = s.header; frames = s.frames; lines = s.lines; labels = s.labels; arms = s.arms; event = s.event; full = s.full; over = is; nodes = s.nodes }
+  as_it_is h w is s = record { header = s.header; start = s.start; frames = s.frames; lines = s.lines; labels = s.labels; arms = s.arms; event = s.event; full = s.full; over = is; nodes = s.nodes }
 
   -- where no frame was too many, the nodes stand for what the protocol made
   stands_now : (first : List D) (header : Header) (events : List Event) (now : Hand C D) → (r : RanAll c d (task first header events) false now) → Stands c d.file now (world_after header r.turns)

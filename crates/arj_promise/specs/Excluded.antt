@@ -12,9 +12,10 @@ use Rattle.arj_journal.specs.declared.header.Header.{Header}
 use Rattle.arj_model.specs.Actions.{acts}
 use Rattle.arj_model.specs.Calls.{Call, Top, committed_calls, tops}
 use Rattle.arj_model.specs.Disks.{Disks, Reading, held}
-use Rattle.arj_model.specs.Last.{is_among, last_state, uid_of_id}
+use Rattle.arj_model.specs.Last.{is_among, last_from, uid_of_id}
 use Rattle.arj_model.specs.Outcome.{is_said}
 use Rattle.arj_model.specs.Serial.{writes_on}
+use Rattle.arj_model.specs.Start.{Marks, none_written}
 use Rattle.arj_protocol.specs.Values.{state_entry}
 
 -- the lines of events before this one
@@ -58,14 +59,19 @@ pub record DiskTakesOut (lines : List Line) (x : ℕ) (read : Reading) (t : Top)
   pub prepared : HasPrepared read role.Names (uid_of lines by_top) new
   pub lacks : is_among (let e = state_entry new in e.stores) s ≡ false
 
--- the store's disk holds the object's last state, or has it prepared for the top, or on naming's an entry without the store is prepared
-abbrev pub DiskIsInTime : Header → List Line → ℕ → Disks → Top → ℕ → Type 0
-DiskIsInTime header lines x disks t s = (held (disks s) role.Store (object x) ≡ Some (state_bytes (last_state header lines x)))
-    ⊎ HasPrepared (disks s) role.Store (uid_of lines t) (last_state header lines x)
+-- the store's disk holds the object's last state, which is this one, or has it prepared for the top, or on naming's an entry without the
+-- store is prepared
+abbrev pub DiskIsInTime : ObjectState → List Line → ℕ → Disks → Top → ℕ → Type 0
+DiskIsInTime last lines x disks t s = (held (disks s) role.Store (object x) ≡ Some (state_bytes last))
+    ⊎ HasPrepared (disks s) role.Store (uid_of lines t) last
     ⊎ DiskTakesOut lines x (disks 1) t s
 
 -- Excluded in time: so it is at the end of this event, the last one that was run, of each top that is new in it, of each object that it
--- wrote, and of each store that the object's entry on naming's disk lists.
+-- wrote, and of each store that the object's entry on naming's disk lists. The run began with these marks.
+abbrev pub DisksAreInTimeFrom : Header → Marks → ℕ → List Line → Disks → Type 0
+DisksAreInTimeFrom header marks e lines disks = (t : Top) (x s : ℕ) → IsNew e lines t → Wrote lines x t → Lists (disks 1) x s →
+    DiskIsInTime (last_from header marks lines x) lines x disks t s
+
+-- so it is where the run began at a format
 abbrev pub DisksAreInTime : Header → ℕ → List Line → Disks → Type 0
-DisksAreInTime header e lines disks = (t : Top) (x s : ℕ) → IsNew e lines t → Wrote lines x t → Lists (disks 1) x s →
-    DiskIsInTime header lines x disks t s
+DisksAreInTime header e lines disks = DisksAreInTimeFrom header none_written e lines disks

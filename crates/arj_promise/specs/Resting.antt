@@ -9,7 +9,8 @@ use Rattle.arj_disk.specs.declared.slot.Role.{Role}
 use Rattle.arj_journal.specs.declared.body.Line.{Line}
 use Rattle.arj_journal.specs.declared.header.Header.{Header}
 use Rattle.arj_model.specs.Disks.{Disks, Reading, held}
-use Rattle.arj_model.specs.Last.{entry_state, is_among, last_state, listed, object_line}
+use Rattle.arj_model.specs.Last.{entry_from, is_among, last_from, listed, object_line}
+use Rattle.arj_model.specs.Start.{Marks}
 use Rattle.arj_promise.specs.Runs.{Move}
 use Rattle.arj_promise.specs.Waiting.{coord_in}
 use Rattle.arj_protocol.specs.Coord.{Coord, Doing, Idle, doing_of, number_of}
@@ -63,10 +64,11 @@ pub record HasNothingLeft (read : Reading) : Type 0 where
   pub prepared : (r : Role) (act : Uid) → (let d = read in d.pend r act) ≡ None
   pub records : (top : Uid) → (let d = read in d.records top) ≡ None
 
--- Naming holds each entry as the journal gives it, and each listed store the object's last committed state; and on the disk of each node of
--- the header nothing is prepared, and no record is left.
-pub record HoldAllStates (hd : Header) (lines : List Line) (disks : Disks) : Type 0 where
-  pub entries : (x : ℕ) → is_some (object_line hd x) ≡ true → held (disks 1) Names (entry x) ≡ Some (state_bytes (entry_state hd lines x))
+-- Naming holds each entry as the journal gives it, and each listed store the object's last committed state, where the run began with these
+-- marks; and on the disk of each node of the header nothing is prepared, and no record is left.
+pub record HoldAllStates (hd : Header) (marks : Marks) (lines : List Line) (disks : Disks) : Type 0 where
+  pub entries : (x : ℕ) → is_some (object_line hd x) ≡ true → held (disks 1) Names (entry x) ≡ Some
+      (state_bytes (entry_from hd marks lines x))
   pub stores : (x s : ℕ) → is_among (listed hd lines x) s ≡ true →
-      held (disks s) Store (object x) ≡ Some (state_bytes (last_state hd lines x))
+      held (disks s) Store (object x) ≡ Some (state_bytes (last_from hd marks lines x))
   pub nothing : (s : ℕ) → (nat_le 1 s && nat_le s hd.nodes) ≡ true → HasNothingLeft (disks s)

@@ -1,13 +1,15 @@
 -- What a run of the protocol is: moves, events with the stops that fall in each; when it is in form; and what is seen of a world.
-use Rattle.std.specs.Prelude.{List, Option, [], length, ℕ, ◌∷◌, ◌≤◌}
+use Rattle.std.specs.Prelude.{List, Option, [], length, ℕ, ◌++◌, ◌∷◌, ◌≤◌}
 use Rattle.std.specs.List.{AllByRecursion}
 use Rattle.arj_journal.specs.ScriptForm.{EventInForm, HeaderInForm}
 use Rattle.arj_journal.specs.declared.body.Line.{Line}
 use Rattle.arj_journal.specs.declared.header.Header.{Header}
+use Rattle.arj_model.specs.Start.{Start, fresh}
 use Rattle.arj_msg.specs.declared.message.Message.{Message}
+use Rattle.arj_promise.specs.Starts.{IsFormed, fresh_is_formed}
 use Rattle.arj_protocol.specs.Step.{Node}
 use Rattle.arj_protocol.specs.Tree.{at_place}
-use Rattle.arj_protocol.specs.World.{Arm, Asked, Labelled, World, format, run_event}
+use Rattle.arj_protocol.specs.World.{Arm, Asked, Labelled, World, format, run_event, world_from}
 use Rattle.arj_text.specs.declared.label.Label.{Label}
 
 -- a message that was sent, also by a node to itself
@@ -16,8 +18,9 @@ pub record Post : Type 0 where
   pub to : ℕ
   pub message : Message
 
--- What is seen of a world: all that was sent, the journal, the labels, and each node.
+-- What is seen of a world: what it began with, all that was sent, the journal, the labels, and each node.
 pub record Seen : Type 0 where
+  pub start : Start
   pub sent : List Post
   pub lines : List Line
   pub labels : List (Label × Labelled)
@@ -25,7 +28,7 @@ pub record Seen : Type 0 where
 
 -- a world, with all that was sent
 abbrev pub see : List Post → World → Seen
-see sent w = record { sent = sent; lines = w.lines; labels = w.labels; nodes = λ m. at_place m w.nodes }
+see sent w = record { start = w.start; sent = sent; lines = w.lines; labels = w.labels; nodes = λ m. at_place m w.nodes }
 
 -- An event with the stops that may fall into it: whose disk stops, at which work of its node, counted from the event's first, and how it
 -- leaves that work.
@@ -42,13 +45,27 @@ abbrev pub all_moved : List Move → World → World
 all_moved [] w = w
 all_moved (m ∷ ms) w = all_moved ms (moved m w)
 
--- the world that moves make of formatted nodes
-abbrev pub world_by : Header → List Move → World
-world_by hd ms = all_moved ms (format hd)
+-- A run over a header's nodes: what it begins with, and its moves.
+pub record Run (hd : Header) : Type 0 where
+  pub start : Start
+  pub formed : IsFormed hd start
+  pub moves : List Move
 
--- the journal of these moves
-abbrev pub journal_by : Header → List Move → List Line
-journal_by hd ms = let w = world_by hd ms in w.lines
+-- the run, and these moves behind it
+abbrev pub then : {hd : Header} → Run hd → List Move → Run hd
+then r ms = record r { moves = r.moves ++ ms }
+
+-- the run from a format with these moves
+abbrev pub from_format : (hd : Header) → List Move → Run hd
+from_format hd ms = record { start = fresh; formed = fresh_is_formed hd; moves = ms }
+
+-- the world that a run makes
+abbrev pub world_by : (hd : Header) → Run hd → World
+world_by hd r = all_moved r.moves (world_from hd r.start)
+
+-- the journal of a run
+abbrev pub journal_by : (hd : Header) → Run hd → List Line
+journal_by hd r = let w = world_by hd r in w.lines
 
 -- so it is of this world, and after each of these moves
 abbrev pub AfterMoves : (World → Type 0) → World → List Move → Type 0
@@ -60,9 +77,9 @@ abbrev pub as_moves : List Asked → World → List Move
 as_moves [] w = []
 as_moves (e ∷ es) w = record { asked = e; falls = w.arms } ∷ as_moves es (run_event e w)
 
--- the moves of a script
-abbrev pub moves_of : Header → List Asked → List Move
-moves_of hd es = as_moves es (format hd)
+-- the run of a script
+abbrev pub run_of : (hd : Header) → List Asked → Run hd
+run_of hd es = from_format hd (as_moves es (format hd))
 
 -- more events than the lines of a script and those of a generated bank, which are at most 100,000 and 200,000
 abbrev pub most_events : ℕ
@@ -90,8 +107,8 @@ AreStopsInForm ms = AllByRecursion IsStoppedInForm ms
 
 -- A run is in form: its header, and each of its events, of which there are at most 1,000,000. A stop that falls in them falls at a work of
 -- its node; which stops these are is nothing to it.
-pub record IsInForm (hd : Header) (ms : List Move) : Type 0 where
+pub record IsInForm (hd : Header) (r : Run hd) : Type 0 where
   pub header : HeaderInForm hd
-  pub events : AreMovesInForm ms
-  pub few : length ms ≤ most_events
-  pub stops : AreStopsInForm ms
+  pub events : AreMovesInForm r.moves
+  pub few : length r.moves ≤ most_events
+  pub stops : AreStopsInForm r.moves

@@ -1,6 +1,7 @@
 -- What a node does at each input: the refusals that it finds itself, calls, commits and ends, frames, ticks, restarts.
 use Rattle.std.specs.Prelude.{ℕ, zero, suc, ◌+◌, Bool, true, false, not, ◌&&◌, ◌||◌, ◌==◌, if◌then◌else◌, List, [], ◌∷◌, ◌++◌, map, filter, find, Option, Some, None, is_some}
 use Rattle.std.specs.List.{flat_map, list_any}
+use Rattle.arj_model.specs.Start.{Mark, Marks, Start, fresh, none_written, unwritten}
 use Rattle.arj_protocol.specs.Words.{Uid, Kind, Op, Label, Class, Header, ObjectLine, ObjectState, Body, Message, uid_eq, uids_of, object, entry, class_of, has_op, payload_of, entry_payload, nobody}
 use Rattle.arj_protocol.specs.Words.ending
 use Rattle.arj_protocol.specs.Words.body
@@ -380,13 +381,33 @@ step hd n i = step_unless hd i n (refusal hd i n)
 
 -- ---- as a run begins
 
+-- the state of an object in the header's value, with this mark
+abbrev pub state_by : Mark → ObjectLine → ObjectState
+state_by m o = record {
+  uid = object o.x;
+  class = class_of o.value;
+  version = m.version;
+  writer = m.writer;
+  payload = payload_of o.value;
+}
+
 -- the state of an object as the header has it: version 0, written by nobody
 abbrev pub first_state : ObjectLine → ObjectState
-first_state o = record { uid = object o.x; class = class_of o.value; version = 0; writer = nobody; payload = payload_of o.value }
+first_state o = state_by unwritten o
+
+-- the entry of an object with the header's servers and stores, with this mark
+abbrev pub entry_by : Mark → ObjectLine → ObjectState
+entry_by m o = record {
+  uid = entry o.x;
+  class = class.Entry;
+  version = m.version;
+  writer = m.writer;
+  payload = entry_payload (record { servers = o.servers; stores = o.stores });
+}
 
 -- the entry of an object as the header has it
 abbrev pub first_entry : ObjectLine → ObjectState
-first_entry o = record { uid = entry o.x; class = class.Entry; version = 0; writer = nobody; payload = entry_payload (record { servers = o.servers; stores = o.stores }) }
+first_entry o = entry_by unwritten o
 
 -- each state is held under its Uid
 abbrev pub put_states : List ObjectState → List (Uid × ObjectState) → List (Uid × ObjectState)
@@ -398,21 +419,48 @@ abbrev pub pair_with : List ObjectState → Pair
 pair_with states = record { held = put_states states []; pend = [] }
 
 -- the entries are at node 1
-abbrev pub entries_at : ℕ → Header → List ObjectState
-entries_at n hd = if n == 1 then map first_entry hd.objects else []
+abbrev pub entries_from : ℕ → Header → Marks → List ObjectState
+entries_from n hd marks = if n == 1 then map (λ (o : ObjectLine). entry_by (marks.entries o.x) o) hd.objects else []
 
--- the disk of a node as it is formatted: states of the objects that it stores, and at node 1 all entries
-abbrev pub first_disk : Header → ℕ → Disk
-first_disk hd n = record {
-  inc = 1;
-  store = pair_with (map first_state (filter (λ (o : ObjectLine). has o.stores n) hd.objects));
-  names = pair_with (entries_at n hd);
+-- the entries as a format leaves them
+abbrev pub entries_at : ℕ → Header → List ObjectState
+entries_at n hd = entries_from n hd none_written
+
+-- the older states at this node
+abbrev pub older_at : ℕ → List (ℕ × ObjectState) → List ObjectState
+older_at n [] = []
+older_at n (s ∷ ss) = if s.0 == n then s.1 ∷ older_at n ss else older_at n ss
+
+-- the states at this node: those of the objects that it stores, and older ones
+abbrev pub states_from : ℕ → Header → Start → List ObjectState
+states_from n hd st =
+    older_at n st.older ++ map (λ (o : ObjectLine). state_by (st.marks.states o.x) o) (filter (λ (o : ObjectLine). has o.stores n) hd.objects)
+
+-- The disk of a node as a run begins: states of the objects that it stores, and older ones, and at node 1 all entries; nothing is prepared,
+-- and no record stands.
+abbrev pub disk_by : Header → Start → ℕ → Disk
+disk_by hd st n = record {
+  inc = st.incs n + 1;
+  store = pair_with (states_from n hd st);
+  names = pair_with (entries_from n hd st.marks);
   intents = [];
 }
 
+-- the node with this disk: up in its incarnation, or down
+abbrev pub node_by : Header → Start → ℕ → Node
+node_by hd st n = record {
+  number = n;
+  disk = disk_by hd st n;
+  live = if st.up n then Some (parts_in n (st.incs n + 1) (disk_by hd st n)) else None;
+}
+
+-- the disk of a node as it is formatted: states of the objects that it stores, and at node 1 all entries
+abbrev pub first_disk : Header → ℕ → Disk
+first_disk hd n = disk_by hd fresh n
+
 -- a node with an empty disk formatted, up in incarnation 1
 abbrev pub first_node : Header → ℕ → Node
-first_node hd n = record { number = n; disk = first_disk hd n; live = Some (parts_in n 1 (first_disk hd n)) }
+first_node hd n = node_by hd fresh n
 
 -- ---- idle
 

@@ -1,8 +1,9 @@
 -- All nodes under a script: frames by number, the journal, disks that stop, and the refusals that no node finds.
 use Rattle.std.specs.Prelude.{ℕ, zero, suc, ◌+◌, ◌-◌, Bool, true, false, not, ◌&&◌, ◌||◌, ◌==◌, nat_lt, nat_le, if◌then◌else◌, List, [], ◌∷◌, ◌++◌, length, map, filter, take, Option, Some, None, is_some, Result, Ok, Err}
-use Rattle.std.specs.List.{list_all}
+use Rattle.std.specs.List.{list_all, list_any}
 use Rattle.std.specs.Map.{lookup}
 use Rattle.std.specs.BTreeMap.{insert_entry, is_at}
+use Rattle.arj_model.specs.Start.{Start, fresh}
 use Rattle.arj_protocol.specs.Words.{Kind, Label, label_cmp, Header, Event, FrameNo, Body, Line, Message, FrameKind, read_message}
 use Rattle.arj_protocol.specs.Words.body
 use Rattle.arj_protocol.specs.Words.kind
@@ -14,7 +15,7 @@ use Rattle.arj_protocol.specs.Order.{at_number, put_number}
 use Rattle.arj_protocol.specs.Effect.{Effect, Say, Send, Do, Disk, Stop, worked, stopped}
 use Rattle.arj_protocol.specs.Ask.{frame_kind}
 use Rattle.arj_protocol.specs.Tree.{at_place, set_place}
-use Rattle.arj_protocol.specs.Step.{Node, Input, Step, refusal, step, first_node, numbers_to, first_reason, is_idle, class_at, has_none}
+use Rattle.arj_protocol.specs.Step.{Node, Input, Step, refusal, step, node_by, numbers_to, first_reason, is_idle, class_at, has_none}
 use Rattle.arj_protocol.specs.Step as input
 
 -- the limits of a run
@@ -43,9 +44,11 @@ pub record Labelled : Type 0 where
   pub node : ℕ
   pub serial : Bool
 
--- `event` is the number of the last event that was run, `full` says that a frame didn't fit, `over` that a limit ended the run.
+-- `start` is what the run began with, `event` the number of the last event that was run, `full` says that a frame didn't fit, `over` that a
+-- limit ended the run.
 pub record World : Type 0 where
   pub header : Header
+  pub start : Start
   pub nodes : List Node
   pub frames : List Frame
   pub lines : List Line
@@ -303,6 +306,14 @@ labelled l w = lookup (is_at (label_cmp l)) w.labels
 abbrev pub is_given : Label → World → Bool
 is_given l w = is_some (labelled l w)
 
+-- the label was given before the run began
+abbrev pub was_given : Label → World → Bool
+was_given l w = list_any (is_at (label_cmp l)) w.start.given
+
+-- the label was given, in this run or before it
+abbrev pub is_known : Label → World → Bool
+is_known l w = was_given l w || is_given l w
+
 -- the number that an event names a frame by: the last one's is the count of frames
 abbrev pub frame_number : FrameNo → World → ℕ
 frame_number (frame_no.Number k) w = k
@@ -317,17 +328,17 @@ abbrev pub reads_whole : Result (Message × List ℕ) ℕ → Bool
 reads_whole (Ok r) = has_none r.1
 reads_whole (Err left) = false
 
--- the conditions that the world tests, in increasing order of their numbers
+-- The conditions that the world tests, in increasing order of their numbers. An action whose label was given before the run began has ended.
 abbrev pub reasons : Event → World → List (ℕ × Bool)
-reasons (event.Begin l n) w = (1, not (is_node n w)) ∷ (2, not (is_up_at n w)) ∷ (4, is_given l w) ∷ []
-reasons (event.Serial l n) w = (1, not (is_node n w)) ∷ (2, not (is_up_at n w)) ∷ (4, is_given l w) ∷ []
-reasons (event.BeginIn l p) w = (4, is_given l w) ∷ (5, not (is_given p w)) ∷ []
-reasons (event.Top l p) w = (4, is_given l w) ∷ (5, not (is_given p w)) ∷ []
-reasons (event.Call l x o) w = (5, not (is_given l w)) ∷ []
-reasons (event.Include l x n) w = (1, not (is_node n w)) ∷ (5, not (is_given l w)) ∷ []
-reasons (event.Commit l) w = (5, not (is_given l w)) ∷ []
-reasons (event.Abort l) w = (5, not (is_given l w)) ∷ []
-reasons (event.GiveUp l) w = (5, not (is_given l w)) ∷ []
+reasons (event.Begin l n) w = (1, not (is_node n w)) ∷ (2, not (is_up_at n w)) ∷ (4, is_known l w) ∷ []
+reasons (event.Serial l n) w = (1, not (is_node n w)) ∷ (2, not (is_up_at n w)) ∷ (4, is_known l w) ∷ []
+reasons (event.BeginIn l p) w = (4, is_known l w) ∷ (5, not (is_known p w)) ∷ (6, was_given p w) ∷ []
+reasons (event.Top l p) w = (4, is_known l w) ∷ (5, not (is_known p w)) ∷ (6, was_given p w) ∷ []
+reasons (event.Call l x o) w = (5, not (is_known l w)) ∷ (6, was_given l w) ∷ []
+reasons (event.Include l x n) w = (1, not (is_node n w)) ∷ (5, not (is_known l w)) ∷ (6, was_given l w) ∷ []
+reasons (event.Commit l) w = (5, not (is_known l w)) ∷ (6, was_given l w) ∷ []
+reasons (event.Abort l) w = (5, not (is_known l w)) ∷ (6, was_given l w) ∷ []
+reasons (event.GiveUp l) w = (5, not (is_known l w)) ∷ (6, was_given l w) ∷ []
 reasons (event.Deliver k) w = (17, not (is_frame k w)) ∷ []
 reasons (event.Lose k) w = (17, not (is_frame k w)) ∷ []
 reasons (event.Tick n) w = (1, not (is_node n w)) ∷ (2, not (is_up_at n w)) ∷ []
@@ -463,11 +474,12 @@ abbrev pub run_all : List Asked → World → World
 run_all [] w = w
 run_all (e ∷ es) w = run_all es (run_event e w)
 
--- all nodes formatted, up in incarnation 1
-abbrev pub format : Header → World
-format hd = record {
+-- the world as a run begins with this
+abbrev pub world_from : Header → Start → World
+world_from hd st = record {
   header = hd;
-  nodes = map (first_node hd) (numbers_to hd.nodes);
+  start = st;
+  nodes = map (node_by hd st) (numbers_to hd.nodes);
   frames = [];
   lines = [];
   labels = [];
@@ -476,6 +488,10 @@ format hd = record {
   full = false;
   over = false;
 }
+
+-- all nodes formatted, up in incarnation 1
+abbrev pub format : Header → World
+format hd = world_from hd fresh
 
 -- the journal of a script
 abbrev pub journal : Header → List Asked → List Line

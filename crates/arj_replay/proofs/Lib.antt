@@ -1,3 +1,4 @@
 pub mod Keys
 pub mod Runs
 pub mod Sorts
+pub mod Right

@@ -62,6 +62,7 @@ module _ {C D : Type 0} (core : Ghosts C) (file : D → FileMap) where
     works = tt;
     stands = record {
       header = st.header;
+      start = st.start;
       frames = st.frames;
       lines = (λ i. st.lines i ++ numbered (st.event i) (body.Armed node ∷ [])) ∙ sym said;
       labels = st.labels;
@@ -155,9 +156,10 @@ module _ {C D : Type 0} (core : Ghosts C) (file : D → FileMap) where
       full_is : full ≡ (w.full || overflows w.frames (f ∷ []))
       full_is = ap (λ (p : Put). p.full) is ∙ (λ i. sym st.full i || overflows (sym st.frames i) (new_frame 0 n (none i) ∷ []))
 
-      stands : (v : World) → v.header ≡ w.header → v.frames ≡ map frame_of sent → v.lines ≡ journal → v.labels ≡ w.labels → v.arms ≡ w.arms → v.event ≡ w.event → v.full ≡ full → v.over ≡ w.over → v.nodes ≡ w.nodes → Stands core file new v
-      stands v header frames lines labels arms event full over nodes = record {
+      stands : (v : World) → v.header ≡ w.header → v.start ≡ w.start → v.frames ≡ map frame_of sent → v.lines ≡ journal → v.labels ≡ w.labels → v.arms ≡ w.arms → v.event ≡ w.event → v.full ≡ full → v.over ≡ w.over → v.nodes ≡ w.nodes → Stands core file new v
+      stands v header start frames lines labels arms event full over nodes = record {
         header = header ∙ st.header;
+        start = start ∙ st.start;
         frames = frames;
         lines = lines;
         labels = labels ∙ st.labels;
@@ -184,7 +186,7 @@ module _ {C D : Type 0} (core : Ghosts C) (file : D → FileMap) where
           let go : World → World = λ v. junk_fits n v true in
           as_well old.kept.header.nodes (protocol.junk n) go (λ v. v) w (Stands core file new) (λ arms. ap (junk_fits n (with_arms arms w)) room)
           (plainly old.kept.header.nodes go w (Stands core file new) (λ arms. refl) refl
-          (stands (go w) refl (ap (λ fs. w.frames ++ fs) (sym (take_one (most_frames - length w.frames) f (omega (arith, less)))) ∙ sym frames_are)
+          (stands (go w) refl refl (ap (λ fs. w.frames ++ fs) (sym (take_one (most_frames - length w.frames) f (omega (arith, less)))) ∙ sym frames_are)
           ((λ i. w.lines ++ numbered w.event (if (sym line) i then body.Sent (length w.frames + 1) 0 n frame.Junk ∷ [] else [])) ∙ ap (λ bs. w.lines ++ numbered w.event bs) (sym (append-nil (sent_line (length w.frames + 1) 0 n frame.Junk))) ∙ sym lines_are)
           refl refl refl (sym (either w.full) ∙ ap (λ b. w.full || b) (sym fits) ∙ sym full_is) refl refl))
       by false none_left =
@@ -196,6 +198,6 @@ module _ {C D : Type 0} (core : Ghosts C) (file : D → FileMap) where
           let go : World → World = λ v. junk_fits n v false in
           as_well old.kept.header.nodes (protocol.junk n) go (λ v. v) w (Stands core file new) (λ arms. ap (junk_fits n (with_arms arms w)) none_left)
           (plainly old.kept.header.nodes go w (Stands core file new) (λ arms. refl) refl
-          (stands (go w) refl (sym (append-nil w.frames) ∙ ap (λ k. w.frames ++ take k (f ∷ [])) (sym zero_left) ∙ sym frames_are)
+          (stands (go w) refl refl (sym (append-nil w.frames) ∙ ap (λ k. w.frames ++ take k (f ∷ [])) (sym zero_left) ∙ sym frames_are)
           (sym (append-nil w.lines) ∙ (λ i. w.lines ++ numbered w.event ((if (sym line) i then body.Sent (length w.frames + 1) 0 n frame.Junk ∷ [] else []) ++ [])) ∙ sym lines_are)
           refl refl refl (sym (always w.full) ∙ ap (λ b. w.full || b) (sym past) ∙ sym full_is) refl refl))

@@ -9,7 +9,8 @@ use Rattle.arj_disk.specs.FileMap.{FileMap}
 use Rattle.arj_law_parts.proofs.steps.EndLines.{ends_write}
 use Rattle.arj_law_parts.proofs.steps.Settled.{events_settle}
 use Rattle.arj_law_parts.proofs.steps.Spoken.{event_writes}
-use Rattle.arj_law_parts.proofs.steps.Whole.{event_whole, format_whole, whole_with}
+use Rattle.arj_law_parts.proofs.steps.Whole.{event_whole, starts_whole, whole_with}
+use Rattle.arj_model.specs.Start.{fresh}
 use Rattle.arj_law_parts.specs.steps.Named.{AnswersEnd, AreNamed, EndHalted, EndRefused, IsEndAnswered, OwnEnd, ends_label}
 use Rattle.arj_law_parts.specs.steps.Writes.{Answers, Own, IsRefused, HasHalted, IsFrames, IsLabels, IsAnswered, IsDone, IsOwn, IsRefusedWith, IsRun, IsWhole, Owes, asks, halts_for, may_lack_frames, node_refusal, refused_to}
 use Rattle.arj_journal.specs.declared.body.Line.{Line}
@@ -287,4 +288,4 @@ all_whole [] w whole = whole
 all_whole (t ∷ ts) w whole = all_whole ts (turned t w) (turned_whole t w whole)
 
 pub runs_whole : (hd : Header) (ts : List Turn) → IsWhole (all_turned ts (format hd))
-runs_whole hd ts = all_whole ts (format hd) (format_whole hd)
+runs_whole hd ts = all_whole ts (format hd) (starts_whole hd fresh)

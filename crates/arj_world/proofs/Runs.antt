@@ -27,7 +27,7 @@ on_ok_both A B (Err e) a b = tt
 module _ {C D : Type 0} (core : Ghosts C) (file : D → FileMap) where
   -- between events no stop is due
   unarmed : (h : Hand C D) (w : World) → Stands core file h w → Stands core file h (with_arms [] w)
-  unarmed h w st = record { header = st.header; frames = st.frames; lines = st.lines; labels = st.labels; arms = refl; event = st.event; full = st.full; over = st.over; nodes = st.nodes }
+  unarmed h w st = record { header = st.header; start = st.start; frames = st.frames; lines = st.lines; labels = st.labels; arms = refl; event = st.event; full = st.full; over = st.over; nodes = st.nodes }
 
   pub happens_so : (go : World → World) (old new : Hand C D) → BeginsTo core file go old new → HappensTo core file go old new
   happens_so go old new to w st =
@@ -98,10 +98,10 @@ module _ {C D : Type 0} (core : Ghosts C) (file : D → FileMap) where
   counted_hand h = record h { kept = record h.kept { event = h.kept.event + 1 } }
 
   pub counted_stands : (h : Hand C D) (w : World) → Stands core file h w → Stands core file (counted_hand h) (counted w)
-  counted_stands h w st = record { header = st.header; frames = st.frames; lines = st.lines; labels = st.labels; arms = st.arms; event = ap (λ n. n + 1) st.event; full = st.full; over = st.over; nodes = st.nodes }
+  counted_stands h w st = record { header = st.header; start = st.start; frames = st.frames; lines = st.lines; labels = st.labels; arms = st.arms; event = ap (λ n. n + 1) st.event; full = st.full; over = st.over; nodes = st.nodes }
 
   pub keeps_uncounted : (k : Kept C) (n : ℕ) (w : World) → Keeps core (record k { event = n }) w → Keeps core k w
-  keeps_uncounted k n w keeps = record { header = keeps.header; frames = keeps.frames; labels = keeps.labels; nodes = keeps.nodes; count = keeps.count }
+  keeps_uncounted k n w keeps = record { header = keeps.header; start = keeps.start; frames = keeps.frames; labels = keeps.labels; nodes = keeps.nodes; count = keeps.count }
 
   pub runs_refused : (e : Event) (c : ℕ) (old : Hand C D) (journal : List Line) → Tests e (Some c) old.kept → journal ≡ old.journal ++ numbered (old.kept.event + 1) (body.Refused c ∷ [])
       → RunsTo core file e old (record (counted_hand old) { journal = journal })
@@ -110,6 +110,7 @@ module _ {C D : Type 0} (core : Ghosts C) (file : D → FileMap) where
     works = tt;
     stands = subst (Stands core file new) (ap (with_arms []) (sym (tested e (Some c) old w [] st tests))) (record {
       header = st.header;
+      start = st.start;
       frames = st.frames;
       lines = (λ i. st.lines i ++ numbered (st.event i + 1) (body.Refused c ∷ [])) ∙ sym said;
       labels = st.labels;
@@ -155,6 +156,7 @@ module _ {C D : Type 0} (core : Ghosts C) (file : D → FileMap) where
             let h = (happened w st).stands in
             record {
               header = h.header;
+              start = h.start;
               frames = h.frames;
               lines = (λ i. h.lines i ++ numbered (h.event i) (body.Limit which.Frames ∷ [])) ∙ sym said;
               labels = h.labels;

@@ -118,6 +118,7 @@ module _ {C D : Type 0} (core : Ghosts C) (file : D → FileMap) where
       let all = shows node es out old.kept old.journal p seen_so is in
       record {
         header = st.header ∙ sym header;
+        start = st.start;
         frames = (λ i. frames_with (st.frames i) (sends node es)) ∙ sym all.0 ∙ sym (ap (λ (x : Put). x.frames) shown_is);
         lines = (λ i. st.lines i ++ numbered (st.event i) (bodies node (length (st.frames i)) es)) ∙ sym all.1 ∙ sym (ap (λ (x : Put). x.lines) shown_is);
         labels = st.labels ∙ sym labels;

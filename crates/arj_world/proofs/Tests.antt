@@ -4,6 +4,7 @@ use Rattle.std.specs.Prelude.{find, if◌then◌else◌, is_some, nat_le, not, s
 use Rattle.std.specs.List.{list_all, list_any}
 use Rattle.std.proofs.lemmas.List.{append-nil}
 use Rattle.std.proofs.lemmas.Option.{slice_get_read}
+use Rattle.std.specs.BTreeMap.{is_at}
 use Rattle.std.specs.Option.{option_map}
 use Rattle.arj_core.specs.declared.node.Core.{Ghosts}
 use Rattle.arj_core.specs.Steps.{message_of, whole_message}
@@ -17,7 +18,8 @@ use Rattle.arj_net.specs.declared.net.Sent as net
 use Rattle.arj_net.specs.Net as nets
 use Rattle.arj_protocol.specs.Step.{Node, class_in, first_reason, is_idle}
 use Rattle.arj_protocol.specs.Tree.{at_place}
-use Rattle.arj_protocol.specs.Words.{Message, read_message}
+use Rattle.arj_model.specs.Start.{Start}
+use Rattle.arj_protocol.specs.Words.{Label, Message, label_cmp, read_message}
 use Rattle.arj_protocol.specs.World as protocol
 use Rattle.arj_protocol.specs.World.{World, reads_whole}
 use Rattle.arj_world.specs.Stands.{AreSomeNodes, Hand, Keeps, Kept, Stands}
@@ -25,6 +27,14 @@ use Rattle.arj_world.specs.Turns.{with_arms}
 use Rattle.arj_world.specs.Wire.{frame_of}
 use Rattle.arj_world.proofs.Stepping.{is_there}
 use Rattle.arj_world.proofs.Frames.{frame_at}
+
+-- ---- the first reason that holds
+
+pub refuses : (a : ℕ) (p : Bool) (rest : List (ℕ × Bool)) → p ≡ true → Some a ≡ first_reason ((a, p) ∷ rest)
+refuses a p rest holds = ap (λ b. first_reason ((a, b) ∷ rest)) (sym holds)
+
+pub passes : (a : ℕ) (p : Bool) (rest : List (ℕ × Bool)) (o : Option ℕ) → p ≡ false → o ≡ first_reason rest → o ≡ first_reason ((a, p) ∷ rest)
+passes a p rest o fails later = later ∙ ap (λ b. first_reason ((a, b) ∷ rest)) (sym fails)
 
 -- ---- numbers of nodes
 
@@ -76,14 +86,45 @@ module _ {C : Type 0} (core : Ghosts C) where
       counted [] = refl
       counted (s ∷ ss) = ap suc (counted ss)
 
+  -- ---- labels
+
+  -- none was given before the run began
+  pub none_before : (l : Label) (k : Kept C) (w : World) → Keeps core k w → protocol.was_given l w ≡ false
+  none_before l k w keeps = ap (λ (s : Start). list_any (is_at (label_cmp l)) s.given) keeps.start
+
+  pub known_is : (l : Label) (b : Bool) (k : Kept C) (w : World) → Keeps core k w → b ≡ protocol.is_given l w → protocol.is_known l w ≡ b
+  known_is l b k w keeps is = (λ i. none_before l k w keeps i || protocol.is_given l w) ∙ sym is
+
+  -- the label of an action that the run began
+  pub label_passes : (l : Label) (k : Kept C) (w : World) → Keeps core k w → true ≡ protocol.is_given l w →
+      None ≡ first_reason ((5, not (protocol.is_known l w)) ∷ (6, protocol.was_given l w) ∷ [])
+  label_passes l k w keeps is =
+      passes 5 (not (protocol.is_known l w)) ((6, protocol.was_given l w) ∷ []) None (ap not (known_is l true k w keeps is))
+      (passes 6 (protocol.was_given l w) [] None (none_before l k w keeps) refl)
+
+  pub label_refused : (l : Label) (k : Kept C) (w : World) → Keeps core k w → false ≡ protocol.is_given l w →
+      Some 5 ≡ first_reason ((5, not (protocol.is_known l w)) ∷ (6, protocol.was_given l w) ∷ [])
+  label_refused l k w keeps is =
+      refuses 5 (not (protocol.is_known l w)) ((6, protocol.was_given l w) ∷ []) (ap not (known_is l false k w keeps is))
+
+  -- a label for a new action
+  pub new_passes : (l : Label) (rest : List (ℕ × Bool)) (o : Option ℕ) (k : Kept C) (w : World) → Keeps core k w →
+      false ≡ protocol.is_given l w → o ≡ first_reason rest → o ≡ first_reason ((4, protocol.is_known l w) ∷ rest)
+  new_passes l rest o k w keeps is later = passes 4 (protocol.is_known l w) rest o (known_is l false k w keeps is) later
+
+  pub new_refused : (l : Label) (rest : List (ℕ × Bool)) (k : Kept C) (w : World) → Keeps core k w → true ≡ protocol.is_given l w →
+      Some 4 ≡ first_reason ((4, protocol.is_known l w) ∷ rest)
+  new_refused l rest k w keeps is = refuses 4 (protocol.is_known l w) rest (known_is l true k w keeps is)
+
   pub keeps_armed : (k : Kept C) (w : World) (arms : List (ℕ × protocol.Arm)) → Keeps core k w → Keeps core k (with_arms arms w)
-  keeps_armed k w arms keeps = record { header = keeps.header; frames = keeps.frames; labels = keeps.labels; nodes = keeps.nodes; count = keeps.count }
+  keeps_armed k w arms keeps = record { header = keeps.header; start = keeps.start; frames = keeps.frames; labels = keeps.labels; nodes = keeps.nodes; count = keeps.count }
 
 module _ {C D : Type 0} (core : Ghosts C) (file : D → FileMap) where
   -- a world in hand is kept
   pub keeps_of : (h : Hand C D) (w : World) → Stands core file h w → Keeps core h.kept w
   keeps_of h w st = record {
     header = st.header;
+    start = st.start;
     frames = st.frames;
     labels = st.labels;
     nodes = record {
@@ -99,14 +140,6 @@ module _ {C D : Type 0} (core : Ghosts C) (file : D → FileMap) where
       within i c [] is = absurd (cc is)
       within zero c (x ∷ xs) is = omega arith
       within (suc i) c (x ∷ xs) is = let less : i < length xs = within i c xs is in omega (arith, less)
-
--- ---- the first reason that holds
-
-pub refuses : (a : ℕ) (p : Bool) (rest : List (ℕ × Bool)) → p ≡ true → Some a ≡ first_reason ((a, p) ∷ rest)
-refuses a p rest holds = ap (λ b. first_reason ((a, b) ∷ rest)) (sym holds)
-
-pub passes : (a : ℕ) (p : Bool) (rest : List (ℕ × Bool)) (o : Option ℕ) → p ≡ false → o ≡ first_reason rest → o ≡ first_reason ((a, p) ∷ rest)
-passes a p rest o fails later = later ∙ ap (λ b. first_reason ((a, b) ∷ rest)) (sym fails)
 
 -- ---- objects
 

@@ -5,7 +5,9 @@ use Rattle.arj_law_parts.specs.steps.Named.{AreNamed, HasNames}
 use Rattle.arj_protocol.specs.Words.{Header}
 use Rattle.arj_protocol.specs.World.{World, format, run_event}
 use Rattle.arj_law_parts.specs.moves.Keeps.{Holds, Keeps}
+use Rattle.arj_model.specs.Start.{fresh}
 use Rattle.arj_promise.specs.Runs.{Seen}
+use Rattle.arj_promise.specs.Starts.{fresh_is_formed}
 use Rattle.arj_law_parts.proofs.moves.Happens.{arms_hold, event_holds, first_holds}
 use Rattle.arj_world.specs.Turns.{Turn, all_turned, asked, turned, with_arms}
 
@@ -20,7 +22,7 @@ module _ (hd : Header) (P : Seen → Type 0) (keeps : Keeps hd P) where
   all_hold (t ∷ ts) w h = all_hold ts (turned t w) (turn_holds t w h)
 
   pub turns_hold : (ts : List Turn) → Holds hd P (all_turned ts (format hd))
-  turns_hold ts = all_hold ts (format hd) (first_holds hd P keeps)
+  turns_hold ts = all_hold ts (format hd) (first_holds hd fresh P (fresh_is_formed hd) keeps)
 
 -- coordinators know their labels
 pub turns_named : (hd : Header) (ts : List Turn) → AreNamed (all_turned ts (format hd))

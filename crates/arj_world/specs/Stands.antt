@@ -4,6 +4,7 @@ use Rattle.arj_core.specs.declared.node.Core.{Ghosts}
 use Rattle.arj_disk.specs.FileMap.{FileMap}
 use Rattle.arj_journal.specs.declared.body.Line.{Line}
 use Rattle.arj_journal.specs.declared.header.Header.{Header}
+use Rattle.arj_model.specs.Start.{fresh}
 use Rattle.arj_net.specs.declared.net.Sent.{Sent}
 use Rattle.arj_protocol.specs.Step.{Node}
 use Rattle.arj_protocol.specs.Words.{Label}
@@ -34,9 +35,10 @@ pub record AreSomeNodes {C : Type 0} (core : Ghosts C) (header : Header) (cores 
   pub count : length nodes ≡ length cores
   pub each : (i : ℕ) (c : C) (n : Node) → slice_get cores i ≡ Some c → slice_get nodes i ≡ Some n → (file : FileMap) × core.stands header c file n
 
--- what is kept is what this world of the protocol has, with some files
+-- what is kept is what this world of the protocol has, with some files; it began as it was formatted
 pub record Keeps {C : Type 0} (core : Ghosts C) (k : Kept C) (w : World) : Type 0 where
   pub header : w.header ≡ k.header
+  pub start : w.start ≡ fresh
   pub frames : w.frames ≡ map frame_of k.net
   pub labels : w.labels ≡ k.labels
   pub nodes : AreSomeNodes core k.header k.cores w.nodes
@@ -52,9 +54,11 @@ pub record Hand (C D : Type 0) : Type 0 where
 abbrev pub hand : {C D : Type 0} → Kept C → List D → List Line → Hand C D
 hand k disks journal = record { kept = k; disks = disks; journal = journal }
 
--- A world with its disks and its journal is this world of the protocol, before or after an event: no stop is due in it.
+-- A world with its disks and its journal is this world of the protocol, which began as it was formatted, before or after an event: no stop
+-- is due in it.
 pub record Stands {C D : Type 0} (core : Ghosts C) (file : D → FileMap) (h : Hand C D) (w : World) : Type 0 where
   pub header : w.header ≡ h.kept.header
+  pub start : w.start ≡ fresh
   pub frames : w.frames ≡ map frame_of h.kept.net
   pub lines : w.lines ≡ h.journal
   pub labels : w.labels ≡ h.kept.labels

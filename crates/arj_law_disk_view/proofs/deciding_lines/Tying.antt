@@ -1,8 +1,9 @@
 -- Each handler keeps that decisions are said, and so they are in each world that is reached.
 use Rattle.arj_law_parts.proofs.Words
-use Words.{◌≡◌, ◌⊎◌, ◌==◌, ℕ, ◌+◌, List, [], true, Option, Some, None, is_some, refl, sym, ◌∙◌, ap, subst, inl, inr, ⊎_elim, ◌++◌, ◌∷◌}
+use Words.{world_from, ◌≡◌, ◌⊎◌, ◌==◌, ℕ, ◌+◌, List, [], true, Option, Some, None, is_some, refl, sym, ◌∙◌, ap, subst, inl, inr, ⊎_elim}
+use Words.{◌++◌, ◌∷◌}
 use Words.{Contains, in_to, In as Among, in_from, Body, Header, Kind, Label, Uid, Line, again_all, begin_action, Disk, Effect, Intent}
-use Words.{tick_outs, Parts, with_coord, at_uid, uid_number, Node, acts, parent_of, parts_in, restart_outs, World, format, is_serial_kind}
+use Words.{tick_outs, Parts, with_coord, at_uid, uid_number, Node, acts, parent_of, parts_in, restart_outs, World, is_serial_kind}
 use Words.{numbered, Seen, see}
 use Words.body
 use Rattle.arj_law_disk_view.proofs.Terms
@@ -271,8 +272,8 @@ module _ (hd : Header) (x : ℕ) (R : Seen → Type 0) (G : machine.World → Se
         (λ u. (i : Intent) × Among (u, i) d.intents) e k outs v d M (found tops M k d)
         (both_too.restart e k d M r.0) (step_walk k d None M e v outs d M (near_same M) (λ down. restart_plain [] hd k d) (λ down. refl))
         (turns (λ u. (i : Intent) × Among (u, i) d.intents) e k outs d M M refl g.late));
-    first = λ tops walk kinds. let f = parts.first tops walk kinds in
-        (f.0, f.1, (f.2, tied_first Idle f.0.world (see [] (format hd)) f.3 refl), f.3, f.4);
+    first = λ tops walk kinds st formed. let f = parts.first tops walk kinds st formed in
+        (f.0, f.1, (f.2, tied_first Idle f.0.world (see [] (world_from hd st)) f.3 refl), f.3, f.4);
   }
     where
       quiet_step : (e : ℕ) (bs : List Body) (M : Seen) → IsStep M (said e bs M)

@@ -206,7 +206,7 @@ module _ (hd : Header) (x : ℕ) (R G : Seen → Type 0) (P : Kinds → Office �
         any_prepared (λ (z : Uid × Intent). uid_number z.0 == uid_number u) u i d.intents at (test_same (uid_number u))) both))
         (parts.restart tops e k d M A walk (r.0.0, (r.1, early)) both part)
         (step_walk k d None M e v outs d M (near_same M) (λ down. restart_plain [] hd k d) (λ down. refl));
-    first = λ tops walk kinds. let f = parts.first tops walk kinds in
+    first = λ tops walk kinds st formed. let f = parts.first tops walk kinds st formed in
         (f.0, f.1, f.2, λ u n here stopped on. absurd (never on (ap (λ ds. decided_in ds (uid_number u)) f.3)));
   }
     where

@@ -15,7 +15,7 @@ use Terms.machine
 use Terms.mail
 use Rattle.arj_law_disk.proofs.machine.Restarts.{open_begun}
 use Rattle.arj_law_disk.specs.machine.{Guards.MayBegin, Names.Commit, Names.CommitBare}
-use Rattle.arj_law_disk_view.proofs.{names.GrantSteps.heard, names.Onward.goes_onward, view.Frames.node_here, view.Later.effects_are_later}
+use Rattle.arj_law_disk_view.proofs.{names.Onward.goes_onward, view.Frames.node_here, view.Later.effects_are_later}
 use Rattle.arj_law_disk_view.proofs.{view.Later.later_on, view.Later.later_same}
 use Rattle.arj_law_disk_view.proofs.names.BareEnds.{bare_wrote, begun_bare, none_ended, opens_none, plain_bare}
 use Rattle.arj_law_disk_view.proofs.names.Pairing.{Stepped, left_disk, naming_on, seen_as, steps, steps_to, stopped_both, unfollowed}

@@ -37,7 +37,7 @@ naming_on x tops n S T N root s = record {
 
 -- ---- the incarnation on the disk
 
-worked_inc : (w : Work) (d : Disk) → leaves_inc w ≡ true → (worked w d).inc ≡ d.inc
+pub worked_inc : (w : Work) (d : Disk) → leaves_inc w ≡ true → (worked w d).inc ≡ d.inc
 worked_inc Look d is = refl
 worked_inc (PutInc i) d is = absurd (never is refl)
 worked_inc (Prepare role.Store u states) d is = refl
@@ -49,7 +49,7 @@ worked_inc (Abort role.Names u) d is = refl
 worked_inc (PutIntent u i) d is = refl
 worked_inc (RemoveIntent u) d is = refl
 
-stopped_inc : (how : Stop) (w : Work) (d : Disk) → leaves_inc w ≡ true → (stopped how w d).inc ≡ d.inc
+pub stopped_inc : (how : Stop) (w : Work) (d : Disk) → leaves_inc w ≡ true → (stopped how w d).inc ≡ d.inc
 stopped_inc Before w d is = refl
 stopped_inc After w d is = worked_inc w d is
 stopped_inc (InPart which) Look d is = refl

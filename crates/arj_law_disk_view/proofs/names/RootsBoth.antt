@@ -1,20 +1,23 @@
--- A formatted world with both halves; and what a coordinator has of a root, where nothing of it has changed.
+-- The world as a run begins, with both halves; and what a coordinator has of a root, where nothing of it has changed.
 use Rattle.arj_law_parts.proofs.Words
-use Words.{◌≡◌, ◌⊎◌, ℕ, [], true, false, Some, None, refl, sym, ◌∙◌, ap, subst, inl, inr, ⊎_elim, ◌∷◌, Header, Uid, nobody, Known}
-use Words.{recovered_naming, Coord, Root, Naming, Parts, uid_number, Node, first_disk, first_node, first_state, parts_in, format, see}
+use Words.{IsFormed, Start, most_labels, world_from, ◌≡◌, ◌⊎◌, ◌+◌, ◌<◌, ℕ, [], true, false, None, refl, sym, ◌∙◌, ap, subst, inl, inr}
+use Words.{⊎_elim, ◌∷◌, Header, Uid, Known}
+use Words.{recovered_naming, Coord, Root, Naming, Parts, uid_number, Node, see}
 use Rattle.arj_law_disk_view.proofs.Terms
-use Terms.{Names, Office, Answer, Loaded, written_in, HasObject, packed, IsFirstNames, Packed, In, some_is, IsFixed, Kinds, SeesDisks}
+use Terms.{disk_by, first_at, first_up, State, Names, Office, Answer, Loaded, written_in, HasObject, packed, IsFirstNames, Packed, In}
+use Terms.{some_is, IsFixed, Kinds}
 use Terms.{SeesBoth, SeesRootOf, SeesGrants, HasList, HasRetained, IsTopOf, SeesLists, SeesNaming, AreEntries}
 use Rattle.arj_law_disk.proofs.machine.NamingResults.{first_is_named}
-use Rattle.arj_law_disk_view.proofs.{names.RestartActs.first_is_seen, view.FirstSeen.first_at, view.FirstSeen.format_seen}
-use Rattle.arj_law_disk_view.specs.names.Both.{FormatsHaveBoth}
+use Rattle.arj_law_disk_view.proofs.names.RestartActs.{first_is_seen}
+use Rattle.arj_law_disk_view.specs.{names.Both.StartsHaveBoth, running.Decided.IsPastNumber, running.Decided.most_version}
 use Rattle.arj_law_disk_view.proofs.view.FirstSeen as seen
 
--- ---- a format
+-- ---- as a run begins
 
-abbrev first_names : Names
-first_names = record {
-  inc = 1;
+-- naming's half, in this incarnation
+abbrev first_names : ℕ → Names
+first_names inc = record {
+  inc = inc;
   row = λ h. None;
   given = λ t. false;
   told = λ t. false;
@@ -26,8 +29,8 @@ first_names = record {
   answers = [];
 }
 
-first_names_is : IsFirstNames first_names
-first_names_is = record {
+first_names_is : (inc : ℕ) → IsFirstNames (first_names inc)
+first_names_is inc = record {
   row = λ h. refl;
   given = λ t. refl;
   told = λ t. refl;
@@ -38,58 +41,70 @@ first_names_is = record {
   answers = refl;
 }
 
-pub formats_have_both : FormatsHaveBoth
-formats_have_both hd x tops unwalked has_it serial plain idem entries = (
-  record { world = seen.W hd x tops has_it; names = first_names },
+module _ (hd : Header) (x : ℕ) (tops : Kinds) (has_it : HasObject hd x) (st : Start) (formed : IsFormed hd st) where
+  abbrev inc : ℕ
+  inc = st.incs 1 + 1
+
+  abbrev S : State
+  S = seen.S hd st formed x tops has_it
+
+  abbrev first_office : Office
+  first_office = record { world = seen.W hd st formed x tops has_it; names = first_names inc }
+
+  first_memory : AreEntries (disk_by hd st 1).names → (o : Naming) → recovered_naming inc (disk_by hd st 1).names ≡ o →
+      SeesNaming x tops o S (first_names inc)
+  first_memory entries o same = subst (λ z. SeesNaming x tops z S (first_names inc)) same
+      (first_is_seen x tops inc (disk_by hd st 1).names S (first_names inc) (seen.first_is hd st formed x tops has_it)
+      (first_names_is inc) refl refl (seen.entry_seen hd st formed x tops has_it) entries)
+
+pub starts_have_both : StartsHaveBoth
+starts_have_both hd x tops unwalked has_it serial plain idem st formed entries = (
+  first_office hd x tops has_it st formed,
   record {
-    named = first_is_named (seen.S hd x tops has_it) first_names (seen.first_is hd x tops has_it)
-        (record { serial = serial; plain = plain; idem = idem }) first_names_is;
-    disks = disks;
+    named = first_is_named (seen.S hd st formed x tops has_it) (first_names (st.incs 1 + 1)) (seen.first_is hd st formed x tops has_it)
+        (record { serial = serial; plain = plain; idem = idem }) (first_names_is (st.incs 1 + 1));
+    disks = seen.start_seen hd st formed x tops has_it unwalked;
     names = record {
-      inc = λ n is. each (λ k n. 1 ≡ n.disk.inc) (λ k. refl) 1 n is;
-      memory = λ n p o is live named. each (λ k n. k ≡ 1 → (p : Parts) (o : Naming) → n.live ≡ Some p → p.naming ≡ Some o →
-          SeesNaming x tops o (seen.S hd x tops has_it) first_names)
-          (λ k one p o live named. let same : parts_in k 1 (first_disk hd k) ≡ p = some_is refl live in
-          memory_one o (some_is refl (subst (λ j. (let q = parts_in j 1 (first_disk hd j) in q.naming) ≡ Some o) one
-          (ap (λ (q : Parts). q.naming) same ∙ named)))) 1 n is refl p o live named;
+      inc = λ n is. ap (λ (m : Node). m.disk.inc) (first_at hd st 1 n is);
+      memory = λ n p o is live named. first_memory hd x tops has_it st formed entries o
+          (some_is refl (ap (λ (q : Parts). q.naming) (first_up hd st 1 n p is live) ∙ named));
     };
   },
 )
-  where
-    disks : SeesDisks x tops (seen.W hd x tops has_it) (see [] (format hd))
-    disks = format_seen hd x tops has_it unwalked
-
-    each : (Q : ℕ → Node → Type 0) → ((k : ℕ) → Q k (first_node hd k)) → (k : ℕ) (n : Node) → (see [] (format hd)).nodes k ≡ Some n → Q k n
-    each Q first k n is = subst (Q k) (first_at hd k n is) (first k)
-
-    memory_one : (o : Naming) → recovered_naming 1 (first_disk hd 1).names ≡ o → SeesNaming x tops o (seen.S hd x tops has_it) first_names
-    memory_one o same = subst (λ z. SeesNaming x tops z (seen.S hd x tops has_it) first_names) same
-        (first_is_seen x tops 1 (first_disk hd 1).names (seen.S hd x tops has_it) first_names (seen.first_is hd x tops has_it)
-        first_names_is refl refl (seen.entry_seen hd x tops has_it) entries)
 
 -- and so much is known of it
-pub formats_have_first : (hd : Header) (x : ℕ) (tops : Kinds) → tops.walk ≡ None → HasObject hd x →
+pub starts_have_first : (hd : Header) (x : ℕ) (tops : Kinds) → tops.walk ≡ None → HasObject hd x →
     ((r : ℕ) → tops.is_serial r ≡ true → tops.root r ≡ r) → ((t : ℕ) → tops.is_serial (tops.root t) ≡ false → tops.root t ≡ t) →
-    ((t : ℕ) → tops.root (tops.root t) ≡ tops.root t)
-    → AreEntries (first_disk hd 1).names → (A : Office) × SeesBoth x tops A (see [] (format hd)) × IsFirstNames A.names
-    × (A.world.disk.tops ≡ []) × ((g : Packed) → In g (A.world.disk.first ∷ A.world.disk.past) → g.writer ≡ uid_number nobody)
-    × (A.world.disk.first.version ≡ 0) × ((t : ℕ) → A.world.disk.bare t ≡ false)
-unfolding formats_have_both
-formats_have_first hd x tops unwalked has_it serial plain idem entries =
-    let b = formats_have_both hd x tops unwalked has_it serial plain idem entries in (
+    ((t : ℕ) → tops.root (tops.root t) ≡ tops.root t) → (st : Start) → IsFormed hd st → AreEntries (disk_by hd st 1).names
+    → (A : Office) × SeesBoth x tops A (see [] (world_from hd st)) × IsFirstNames A.names × (A.world.disk.tops ≡ [])
+    × (A.world.disk.first.writer ≡ uid_number (let m = st.marks.states x in m.writer))
+    × (A.world.disk.first.version + most_labels < most_version)
+    × ((g : Packed) → In g (A.world.disk.first ∷ A.world.disk.past) → IsPastNumber st g.writer)
+    × ((t : ℕ) → A.world.disk.bare t ≡ false)
+unfolding starts_have_both
+starts_have_first hd x tops unwalked has_it serial plain idem st formed entries =
+    let b = starts_have_both hd x tops unwalked has_it serial plain idem st formed entries in
+    let f = seen.first_is hd st formed x tops has_it in (
       b.0,
       b.1,
-      first_names_is,
-      (let f = seen.first_is hd x tops has_it in f.undecided),
-      first_writer,
-      refl,
-      (let f = seen.first_is hd x tops has_it in f.none_bare),
+      first_names_is (st.incs 1 + 1),
+      f.undecided,
+      ap (λ (y : ℕ). uid_number (let m = st.marks.states y in m.writer)) (let o = has_it in o.is),
+      formed.short (let o = has_it in let l = o.line in l.x),
+      past,
+      f.none_bare,
     )
   where
-    -- nothing is older, and nobody wrote the first state
-    first_writer : (g : Packed) → In g (packed (first_state (let o = has_it in o.line)) ∷ []) → g.writer ≡ uid_number nobody
-    first_writer g (inl is) = ap (λ (q : Packed). q.writer) (sym is)
-    first_writer g (inr i) = absurd i
+    -- who wrote the last state, or an older one, had ended
+    past : (g : Packed) → In g ((seen.S hd st formed x tops has_it).first ∷ (seen.S hd st formed x tops has_it).past) →
+        IsPastNumber st g.writer
+    past g (inl is) = (
+      (let o = has_it in let m = st.marks.states o.line.x in m.writer),
+      ap (λ (q : Packed). q.writer) (sym is),
+      formed.states (let o = has_it in let l = o.line in l.x),
+    )
+    past g (inr i) = let p = seen.past_from x st.older g i in
+        (p.0.1.writer, ap (λ (q : Packed). q.writer) (sym p.3), (let o = seen.older_is hd st formed x tops has_it p.0 p.1 in o.past))
 
 -- ---- a root of which nothing has changed
 

@@ -2,11 +2,13 @@
 -- it.
 use Rattle.arj_law_parts.proofs.Words
 use Words.{◌≡◌, ◌==◌, ℕ, [], true, Option, Some, None, refl, ap, subst, is_some, option_map, in_from, Header, Message, ObjectState, entry}
-use Words.{top_of, Disk, held_at, Naming, Parts, Node, format, Seen, see}
+use Words.{top_of, Disk, held_at, Naming, Parts, Seen}
 use Rattle.arj_law_disk_view.proofs.Terms
-use Terms.{World, Office, Packed, Keeps, up, KnowsNode, packed_entry, Kinds, SeesBoth, CountsOn, IsForGrants, MayRecord, kept_both}
+use Terms.{IsAtStarts, World, Office, Packed, Keeps, up, KnowsNode, packed_entry, Kinds, SeesBoth, CountsOn, IsForGrants, MayRecord}
+use Terms.{kept_both}
 use Terms.{keeps_given, HaveEntries, IsInStep, KnowsEntries, Agrees, AreOfTops, kinds_of, KeepsPart}
-use Rattle.arj_law_disk_view.proofs.running.{Begun.kinds_agree, EntryKeeps.keeps_entries, EntryWalks.mine_of, HeardMessage.of_top}
+use Rattle.arj_law_disk_view.proofs.running.{Begun.kinds_agree, EntryKeeps.HoldsFirst, EntryKeeps.keeps_entries, EntryWalks.mine_of}
+use Rattle.arj_law_disk_view.proofs.running.{HeardMessage.of_top}
 
 -- ---- what naming's half counts on
 
@@ -33,9 +35,9 @@ with_entries hd x R S P parts kept = kept_both hd R (HaveEntries x) kept (keeps_
     none : Agrees (kinds_of []) []
     none = kinds_agree [] tt (λ a w c on. absurd (in_from a [] c))
 
-    there : (n : Node) → (let M = see [] (format hd) in M.nodes 1) ≡ Some n → is_some (held_at (entry x) (let d = n.disk in d.names)) ≡ true
-    there n is =
-        let f = parts.first (kinds_of []) none.unwalked none.kinds in
+    there : IsAtStarts hd (HoldsFirst x)
+    there st formed n is =
+        let f = parts.first (kinds_of []) none.unwalked none.kinds st formed in
         let e = (let both = f.1 in let s = both.disks in s.entry n is) in
         let p = e.pair in
         held (held_at (entry x) (let d = n.disk in d.names)) p.held_is

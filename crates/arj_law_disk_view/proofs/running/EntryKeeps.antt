@@ -1,7 +1,8 @@
--- Entries at naming in each run: each handler keeps them, and a format and a restart find them so.
+-- Entries at naming in each run: each handler keeps them, and a run's beginning and a restart find them so.
 use Rattle.arj_law_parts.proofs.Words
-use Words.{◌≡◌, ◌≢◌, ℕ, ◌+◌, ◌==◌, List, [], ◌∷◌, ◌++◌, Bool, true, false, cond, filter, map, Option, Some, None, refl, sym, ◌∙◌, ap, subst}
-use Words.{inl, inr, eqb-true, ⊤, if◌then◌else◌, is_some, option_map, flat_map, In, in_from, Uid, Ask, Asked, End, Head, Header, Message}
+use Words.{if◌then◌else◌, Start, ◌≡◌, ◌≢◌, ℕ, ◌+◌, ◌==◌, List, [], ◌∷◌, ◌++◌, Bool, true, false, cond, filter, map, Option, Some, None}
+use Words.{refl, sym, ◌∙◌, ap, subst}
+use Words.{inl, inr, eqb-true, ⊤, is_some, option_map, flat_map, In, in_from, Uid, Ask, Asked, End, Head, Header, Message}
 use Words.{ObjectLine, ObjectState, Row, asks, entry, is_on, last_uid, object, Reply, actor, answers, asked_by, last_end, response}
 use Words.{again_all, begin_action, heard, back_lines, confirm, recovered_naming, Coord, did_nothing, Disk, Effect, Say, Send, Do, Look}
 use Words.{Pair, Prep, Ready, Already, Old, InDoubt, Prepare, PutInc, Served, Intent, held_at, holder_of, is_prepared, prepare_answer}
@@ -9,9 +10,9 @@ use Words.{acked, answer_query, tick_outs, Named, end_named, hello_named, Naming
 use Words.{by_reply, coord_heard, end_states, handle, handle_answer, handle_ask, handle_ends, handle_other, holders, if_naming, is_earlier}
 use Words.{load_by, load_held, naming_hello, naming_told, prepare_by, prepared_actions, query_about, sends_answer, serve, served}
 use Words.{store_told, with_coord, with_naming, with_server, at_number, at_uid, each, put_uid, uid_set, without_number, AreAll}
-use Words.{is_coord_effect, Node, first_disk, hello_to, naming_at, naming_back, numbers_to, parts_in, put_states, recovered_records}
-use Words.{restart_outs, tolds_again, acts, parent_of, first_entry, format, is_serial_kind, acked_own, acts_own, again_own, heard_own}
-use Words.{query_own, tolds_again_own, activate_own, ends_own, invoke_own, vote_own, Seen, see}
+use Words.{is_coord_effect, Node, hello_to, naming_at, naming_back, numbers_to, parts_in, put_states, recovered_records}
+use Words.{restart_outs, tolds_again, acts, parent_of, is_serial_kind, acked_own, acts_own, again_own, heard_own}
+use Words.{query_own, tolds_again_own, activate_own, ends_own, invoke_own, vote_own, Seen}
 use Words.ask
 use Words.body
 use Words.ending
@@ -22,7 +23,8 @@ use Words.role
 use Words.naming
 use Words.server
 use Rattle.arj_law_disk_view.proofs.Terms
-use Terms.{moved, moved_names, never_some, some_is, Keeps, down, given, up, Walks, Up, HasEntries, HaveEntries, IsEntryNode, IsInStep}
+use Terms.{IsAtStarts, disk_by, entry_by, first_at, live_first, moved, moved_names, never_some, Keeps, down, given, up, Walks, Up}
+use Terms.{HasEntries, HaveEntries, IsEntryNode, IsInStep}
 use Terms.{KnowsEntries}
 use Rattle.arj_law_disk_view.proofs.names.{EndActs.drop_stays, RestartActs.found_there, RestartActs.is_on_pend, RestartActs.prepared_in}
 use Rattle.arj_law_disk_view.proofs.names.EntriesLeft.{Whole_outs, left_both, left_was, names_left, outs_gone, outs_none}
@@ -30,7 +32,7 @@ use Rattle.arj_law_disk_view.proofs.running
 use running.EntryWalks.{LeftBy, Leaves, Stays, all_prepare, bind_stays, confirm_leaves, coord_leaves, each_stays, entries_walk, leaves_both}
 use running.EntryWalks.{leaves_prepare, left_alone, left_same, mine_of, none_prepare, note_stays, others_of, queries_leave, quiet_walk}
 use running.EntryWalks.{says_leave, server_leaves, stays_known, stop_entries}
-use Rattle.arj_law_disk_view.proofs.view.{FirstSeen.first_at, HeardWalks.is_say, ServedWalks.bind_says, ServedWalks.note_says}
+use Rattle.arj_law_disk_view.proofs.view.{HeardWalks.is_say, ServedWalks.bind_says, ServedWalks.note_says}
 
 module _ (x : ℕ) where
   -- ---- messages at the naming node
@@ -308,42 +310,49 @@ module _ (x : ℕ) where
 
   -- ---- at first
 
-  pub put_entries : (ls : List ObjectLine) (held : List (Uid × ObjectState)) → ((e : Uid × ObjectState) → In e held → e.0 ≡ entry e.0.num) →
-      (e : Uid × ObjectState) → In e (put_states (map first_entry ls) held) → e.0 ≡ entry e.0.num
-  put_entries ls held old e i = subst (λ m. In e m →
-      e.0 ≡ entry e.0.num) (sym (put_is (map first_entry ls) held)) (moved_names (map first_entry ls) held (λ s j. own ls s j) old e) i
-    where
-      put_is : (ss : List ObjectState) (held : List (Uid × ObjectState)) → put_states ss held ≡ moved ss held
-      put_is [] held = refl
-      put_is (s ∷ ss) held = put_is ss (put_uid s.uid s held)
+  module _ (st : Start) where
+    -- the entry of a line, by its mark
+    abbrev entry_of : ObjectLine → ObjectState
+    entry_of o = entry_by (st.marks.entries o.x) o
 
-      own : (ls : List ObjectLine) (s : ObjectState) → In s (map first_entry ls) → s.uid ≡ entry s.uid.num
-      own [] s j = absurd j
-      own (l ∷ ls) s (inl same) = let its : (let f = first_entry l in f.uid)
-          ≡ entry (let f = first_entry l in let u = f.uid in u.num) = refl in subst (λ (z : ObjectState). z.uid ≡ entry z.uid.num) same its
-      own (l ∷ ls) s (inr j) = own ls s j
+    pub put_entries : (ls : List ObjectLine) (held : List (Uid × ObjectState)) → ((e : Uid × ObjectState) → In e held →
+        e.0 ≡ entry e.0.num) → (e : Uid × ObjectState) → In e (put_states (map entry_of ls) held) → e.0 ≡ entry e.0.num
+    put_entries ls held old e i = subst (λ m. In e m →
+        e.0 ≡ entry e.0.num) (sym (put_is (map entry_of ls) held)) (moved_names (map entry_of ls) held (λ s j. own ls s j) old e) i
+      where
+        put_is : (ss : List ObjectState) (held : List (Uid × ObjectState)) → put_states ss held ≡ moved ss held
+        put_is [] held = refl
+        put_is (s ∷ ss) held = put_is ss (put_uid s.uid s held)
 
-  first_entries : (hd : Header) → ((n : Node) → (let M = see [] (format hd) in M.nodes 1) ≡ Some n →
-      is_some (held_at (entry x) (let d = n.disk in d.names)) ≡ true) → HaveEntries x (see [] (format hd))
-  first_entries hd there n is = subst (IsEntryNode x) (first_at hd 1 n is) (record {
+        own : (ls : List ObjectLine) (s : ObjectState) → In s (map entry_of ls) → s.uid ≡ entry s.uid.num
+        own [] s j = absurd j
+        own (l ∷ ls) s (inl same) = let its : (let f = entry_of l in f.uid)
+            ≡ entry (let f = entry_of l in let u = f.uid in u.num) = refl in subst (λ (z : ObjectState). z.uid ≡ entry z.uid.num) same its
+        own (l ∷ ls) s (inr j) = own ls s j
+
+  -- node 1 holds the object's entry
+  abbrev pub HoldsFirst : Seen → Type 0
+  HoldsFirst M = (n : Node) → M.nodes 1 ≡ Some n → is_some (held_at (entry x) (let d = n.disk in d.names)) ≡ true
+
+  first_entries : (hd : Header) → IsAtStarts hd HoldsFirst → IsAtStarts hd (HaveEntries x)
+  first_entries hd there st formed n is = subst (IsEntryNode x) (first_at hd st 1 n is) (record {
     disk = has;
-    live = λ t up. subst (λ (q : Parts). KnowsEntries x q.naming (let d = first_disk hd 1 in d.names)) (some_is refl up)
-        (starts_so 1 1 (first_disk hd 1) has);
+    live = λ t up. subst (λ (q : Parts). KnowsEntries x q.naming (let d = disk_by hd st 1 in d.names)) (live_first hd st 1 t up)
+        (starts_so 1 (st.incs 1 + 1) (disk_by hd st 1) has);
   })
     where
-      has : HasEntries x (let d = first_disk hd 1 in d.names)
+      has : HasEntries x (let d = disk_by hd st 1 in d.names)
       has = record {
         sorted = tt;
-        held = λ e c. put_entries hd.objects [] (λ f i. absurd i) e (in_from e (put_states (map first_entry hd.objects) []) c);
-        there =
-            subst (λ (z : Node). is_some (held_at (entry x) (let d = z.disk in d.names)) ≡ true) (sym (first_at hd 1 n is)) (there n is);
+        held = λ e c. put_entries st hd.objects [] (λ f i. absurd i) e (in_from e (put_states (map (entry_of st) hd.objects) []) c);
+        there = subst (λ (z : Node). is_some (held_at (entry x) (let d = z.disk in d.names)) ≡ true) (sym (first_at hd st 1 n is))
+            (there st formed n is);
         states = λ a ss at. absurd (cc at);
       }
 
   -- ---- in each run
 
-  pub keeps_entries : (hd : Header) → ((n : Node) → (let M = see [] (format hd) in M.nodes 1) ≡ Some n →
-      is_some (held_at (entry x) (let d = n.disk in d.names)) ≡ true) → Keeps hd (HaveEntries x)
+  pub keeps_entries : (hd : Header) → IsAtStarts hd HoldsFirst → Keeps hd (HaveEntries x)
   keeps_entries hd there = record {
     quiet = λ e bs M quiet have n is. have n is;
     stop = λ e k d live M have. stop_entries x e k d live M have;

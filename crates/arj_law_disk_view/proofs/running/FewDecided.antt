@@ -1,7 +1,8 @@
 -- Few tops are decided where few labels were given, so that versions are short; and it is kept along a step that each decided top had its
 -- commit called.
 use Rattle.arj_law_parts.proofs.Words
-use Words.{◌≡◌, ◌⊎◌, ◌≤◌, ◌<◌, ◌+◌, ◌==◌, ◌||◌, ℕ, suc, List, [], ◌∷◌, ◌++◌, Bool, true, false, cond, Option, Some, None, refl, sym, ◌∙◌}
+use Words.{Start, ◌≡◌, ◌⊎◌, ◌≤◌, ◌<◌, ◌+◌, ◌==◌, ◌||◌, ℕ, suc, List, [], ◌∷◌, ◌++◌, Bool, true, false, cond, Option, Some, None, refl, sym}
+use Words.{◌∙◌}
 use Words.{ap, subst, inl, inr, ⊎_elim, arith, length, AllByRecursion, list_any, is_eq, uid_is, is_on, Label, Line, Body, Uid, label_cmp}
 use Words.{name, uid_eq, Disk, Do, Effect, Say, Send, worked, Parts, uid_number, Labelled, most_labels, numbered, bytes_eq-Decides, ⊤}
 use Words.{unwrap_or, Seen}
@@ -13,7 +14,7 @@ use Terms.{or_cases, or_left, test_same, label_at, posted, said, Up, Walks, Know
 use Terms.{has_act, Sane, sane_lines, sane_new, is_sound, HasFewLabels, AreOnce, NewTops, SeesDecided}
 use Rattle.arj_law_disk.proofs.machine.History.{in_decided}
 use Rattle.arj_law_disk_view.proofs.running.Grows.{called_later, in_both}
-use Rattle.arj_law_disk_view.specs.running.Decided.{most_version}
+use Rattle.arj_law_disk_view.specs.running.Decided.{IsPastNumber, most_version}
 use Rattle.arj_law_runs.proofs.kept.Labels.{one_name}
 use Rattle.arj_law_runs.specs.journal.{Knows.IsGiven, Laws.AreDistinct, Laws.IsSound}
 use Rattle.arj_model.specs.Actions.{act_in}
@@ -156,7 +157,8 @@ labels_placed labels [] all = tt
 labels_placed labels (a ∷ acts) all =
     (let g = all.0 in let r = label_there g.0 labels g.1 g.3 in (r.0, r.1, (g.0, g.2, r.2)), labels_placed labels acts all.1)
 
-module _ (x : ℕ) (tops : Kinds) (A : Office) (M : Seen) (both : SeesBoth x tops A M) (kinds : KnowsKinds tops) (its : SeesDecided tops A M)
+module _ (x : ℕ) (tops : Kinds) (A : Office) (M : Seen) (both : SeesBoth x tops A M) (kinds : KnowsKinds tops)
+    (its : SeesDecided x tops A M)
     (written : IsWritten M) where
   acts : List Act
   acts = (book M.lines).acts
@@ -195,19 +197,20 @@ module _ (x : ℕ) (tops : Kinds) (A : Office) (M : Seen) (both : SeesBoth x top
   -- versions that were known are short
   pub known_short : HasFewLabels M → (g : Packed) → Known A.world.disk g → g.version < most_version
   known_short few g known = short (length A.world.disk.tops) (length (book M.lines).acts) (length M.labels) g.version
-      A.world.disk.first.version (known_few A.world.disk (let c = whole.core in c.history) g known) its.first few_tops few_acts few
+      A.world.disk.first.version (known_few A.world.disk (let c = whole.core in c.history) g known) its.short few_tops few_acts few
     where
-      short : (a b c v f : ℕ) → v ≤ f + a → f ≡ 0 → a ≤ b → b ≤ c → c ≤ most_labels → v < most_version
-      short a b c v f low none one two few = omega (arith, low, none, one, two, few)
+      short : (a b c v f : ℕ) → v ≤ f + a → f + most_labels < most_version → a ≤ b → b ≤ c → c ≤ most_labels → v < most_version
+      short a b c v f low room one two few = omega (arith, low, room, one, two, few)
 
 -- ---- along a step
 
--- more lines
+-- more lines, in the same run
 abbrev pub HasMore : Seen → Seen → Type 0
-HasMore M N = (more : List Line) × (N.lines ≡ M.lines ++ more)
+HasMore M N = ((more : List Line) × (N.lines ≡ M.lines ++ more)) × (N.start ≡ M.start)
 
 more_said : (M N : Seen) (e : ℕ) (bs : List Body) → HasMore M N → HasMore M (said e bs N)
-more_said M N e bs (more, is) = (more ++ numbered e bs, ap (λ ls. ls ++ numbered e bs) is ∙ joined M.lines more (numbered e bs))
+more_said M N e bs ((more, is), same) =
+    ((more ++ numbered e bs, ap (λ ls. ls ++ numbered e bs) is ∙ joined M.lines more (numbered e bs)), same)
   where
     joined : (xs ys zs : List Line) → (xs ++ ys) ++ zs ≡ xs ++ (ys ++ zs)
     joined [] ys zs = refl
@@ -222,10 +225,14 @@ more_walk M e k (Send to m ∷ es) v d N more = λ bs quiet. more_walk M e k es 
     (posted (record { from = k; to = to; message = m }) N)) (more_said M (posted (record { from = k; to = to; message = m }) N) e bs more)
 
 -- from one state to the next
-pub decided_on : (tops : Kinds) (A B : Office) (M N : Seen) → SeesDecided tops A M → IsLater A.world B.world →
-    NewTops A.world B.world M.lines → HasMore M N → SeesDecided tops B N
-decided_on tops A B M N p later n (more, is) = record {
-  first = ap (λ (g : Packed). g.version) later.first ∙ p.first;
+pub decided_on : (x : ℕ) (tops : Kinds) (A B : Office) (M N : Seen) → SeesDecided x tops A M → IsLater A.world B.world →
+    NewTops A.world B.world M.lines → HasMore M N → SeesDecided x tops B N
+decided_on x tops A B M N p later n ((more, is), same) = record {
+  writer = ap (λ (g : Packed). g.writer) later.first ∙ p.writer
+      ∙ ap (λ (st : Start). uid_number (let m = st.marks.states x in m.writer)) (sym same);
+  short = subst (λ (g : Packed). g.version + most_labels < most_version) (sym later.first) p.short;
+  past = λ g i. subst (λ (st : Start). IsPastNumber st g.writer) (sym same)
+      (p.past g (subst (In g) (λ j. later.first j ∷ later.past j) i));
   once = n.once p.once;
   called = λ d i u ud. subst (λ ls. is_on (book ls).called u ≡ true) (sym is) (called_later M.lines more u
       (⊎_elim (λ a. n.called d a u ud) (λ b. p.called d b u ud) (in_both d n.new A.world.disk.tops (subst (In d) n.are i))));

@@ -5,7 +5,6 @@ use Words.{Calling, Doing, doing_of, Disk, Effect, Say, Send, Do, Stop, stopped,
 use Words.{answers}
 use Rattle.arj_law_disk_view.proofs.Terms
 use Terms.{Office, posted, said, Walks, halted, IsFixed, Kinds, ClaimsAsked, HasNoneOf, SeesHeard, SeesHeardAt, IsToStep, IsAskedFor}
-use Terms.words
 use Terms.seen
 use Rattle.arj_law_disk_view.proofs.running.HeardStays.{GoesOn, IsNewTo, SaysToStep, SendsMore, StaysOf, at_goes, was_to}
 
@@ -34,7 +33,6 @@ module _ (x : ℕ) (tops : Kinds) (A B : Office) (M N : Seen) (f : IsFixed tops 
       (let d = n.disk in d.inc) < u.inc → HasNoneOf tops (uid_number u) B) → SeesHeard x tops B N
   heard_goes said claims asked coords future = record {
     kinds = p.kinds;
-    first = λ w i. p.first w (subst (words.In w) (λ j. let l = on.later in l.first j ∷ l.past j) i);
     coords = λ j n t there live. ⊎_elim
         (λ (w : WasAt j t). subst (λ c. SeesHeardAt x j tops N.sent c B) w.same
         (at_goes x tops A B f h on j M.sent N.sent (let q = w.parts in

@@ -1,13 +1,16 @@
--- What coordinators have of naming's answers, as a format leaves it; and a root of which the machine has nothing.
+-- What coordinators have of naming's answers, as a run begins; and a root of which the machine has nothing.
 use Rattle.arj_law_parts.proofs.Words
-use Words.{◌≡◌, ℕ, zero, suc, ◌==◌, if◌then◌else◌, Bool, true, false, List, [], Some, None, refl, sym, ◌∙◌, ap, subst, inl, inr, map, ◌∷◌}
-use Words.{and_parts, in_from, Header, Uid, nobody, Coord, Doing, doing_of, new_coord, no_root, Intent, Parts, uid_number, Node, first_disk}
-use Words.{first_entry, put_states, at_place, is_own, format, Post, see}
+use Words.{if◌then◌else◌, ◌+◌, ◌<◌, ObjectLine, IsFormed, Start, most_labels, world_from, ◌≡◌, ℕ, zero, suc, ◌==◌, Bool, true, false, List}
+use Words.{[], Some, None, refl, sym, ◌∙◌, ap, subst, inl, inr, map, ◌∷◌}
+use Words.{and_parts, in_from, Header, Uid, Coord, Doing, doing_of, new_coord, no_root, Intent, Parts, uid_number}
+use Words.{put_states, at_place, is_own, Post, see}
 use Rattle.arj_law_disk_view.proofs.Terms
-use Terms.{Office, written_in, IsFirstNames, Packed, never, some_is, test_is, HasObject, KnowsKinds, IsFixed, Kinds, SeesBoth, SeesRootOf}
+use Terms.{disk_by, entry_by, first_up, Office, written_in, IsFirstNames, Packed, never, test_is, HasObject, KnowsKinds, IsFixed, Kinds}
+use Terms.{SeesBoth, SeesRootOf}
 use Terms.{AreEntries, HasNoneOf, SeesHeard, SeesHeardAt}
 use Terms.words
-use Rattle.arj_law_disk_view.proofs.{names.RootsBoth.formats_have_first, running.EntryKeeps.put_entries, view.FirstSeen.first_at}
+use Rattle.arj_law_disk_view.proofs.{names.RootsBoth.starts_have_first, running.EntryKeeps.put_entries}
+use Rattle.arj_law_disk_view.specs.running.Decided.{IsPastNumber, most_version}
 
 -- a root that has sent and heard nothing, and of which the machine has nothing
 pub empty_seen : (x : ℕ) (tops : Kinds) (root : Uid) (c : Coord) (B : Office) → IsFixed tops B.world.disk →
@@ -55,32 +58,35 @@ new_seen x k inc tops sent telling B h none = record {
   plans = λ u q m does. absurd (none_works k inc telling u q does);
 }
 
--- entries at naming, as a format leaves them
-pub first_entries : (hd : Header) → AreEntries (first_disk hd 1).names
-first_entries hd e c = put_entries 0 hd.objects [] (λ z i. absurd i) e (in_from e (put_states (map first_entry hd.objects) []) c)
+-- entries at naming, as a run begins
+pub first_entries : (hd : Header) (st : Start) → AreEntries (disk_by hd st 1).names
+first_entries hd st e c = put_entries 0 st hd.objects [] (λ z i. absurd i) e
+    (in_from e (put_states (map (λ (o : ObjectLine). entry_by (st.marks.entries o.x) o) hd.objects) []) c)
 
-module _ (hd : Header) (x : ℕ) (tops : Kinds) (kinds : KnowsKinds tops) (A : Office) (both : SeesBoth x tops A (see [] (format hd)))
-    (first : IsFirstNames A.names) (undecided : A.world.disk.tops ≡ []) (writer : (g : Packed) →
-    words.In g (A.world.disk.first ∷ A.world.disk.past) → g.writer ≡ uid_number nobody) where
+module _ (hd : Header) (st : Start) (x : ℕ) (tops : Kinds) (kinds : KnowsKinds tops) (A : Office)
+    (both : SeesBoth x tops A (see [] (world_from hd st))) (first : IsFirstNames A.names) (undecided : A.world.disk.tops ≡ []) where
   fixed : IsFixed tops A.world.disk
   fixed = let s = both.disks in s.fixed
 
   none : (r : ℕ) → HasNoneOf tops r A
   none r = record { had = λ z i of. first.had z i; kept = λ z of. first.kept z; states = ap (written_in A.world.disk.root r) undecided }
 
-  first_heard : SeesHeard x tops A (see [] (format hd))
+  first_heard : SeesHeard x tops A (see [] (world_from hd st))
   first_heard = record {
     kinds = kinds;
-    first = writer;
-    coords = λ j n t there live. subst (λ (q : Parts). SeesHeardAt x j tops [] q.coord A) (some_is {A = Parts} refl (ap (λ (z : Node).
-        z.live) (first_at hd j n there) ∙ live)) (new_seen x j 1 tops [] [] A fixed (λ u node inc alone. none (uid_number u)));
+    coords = λ j n t there live. subst (λ (q : Parts). SeesHeardAt x j tops [] q.coord A) (first_up hd st j n t there live)
+        (new_seen x j (st.incs j + 1) tops [] [] A fixed (λ u node inc alone. none (uid_number u)));
     future = λ j n u there node alone low. none (uid_number u);
     asked = λ q a r i. absurd i;
     posts = λ q i. absurd i;
   }
 
-pub heard_first : (hd : Header) (x : ℕ) (tops : Kinds) → HasObject hd x → tops.walk ≡ None → KnowsKinds tops →
-    (A : Office) × SeesBoth x tops A (see [] (format hd)) × SeesHeard x tops A (see [] (format hd)) × (A.world.disk.tops ≡ [])
-    × (A.world.disk.first.version ≡ 0) × ((t : ℕ) → A.world.disk.bare t ≡ false)
-heard_first hd x tops has unwalked kinds = let f = formats_have_first hd x tops unwalked has kinds.alone kinds.plain kinds.idem
-    (first_entries hd) in (f.0, f.1, first_heard hd x tops kinds f.0 f.1 f.2 f.3 f.4, f.3, f.5, f.6)
+pub heard_first : (hd : Header) (x : ℕ) (tops : Kinds) → HasObject hd x → tops.walk ≡ None → KnowsKinds tops → (st : Start) → IsFormed hd st
+    → let M = see [] (world_from hd st) in (A : Office) × SeesBoth x tops A M × SeesHeard x tops A M × (A.world.disk.tops ≡ [])
+    × (A.world.disk.first.writer ≡ uid_number (let m = st.marks.states x in m.writer))
+    × (A.world.disk.first.version + most_labels < most_version)
+    × ((g : Packed) → words.In g (A.world.disk.first ∷ A.world.disk.past) → IsPastNumber st g.writer)
+    × ((t : ℕ) → A.world.disk.bare t ≡ false)
+heard_first hd x tops has unwalked kinds st formed =
+    let f = starts_have_first hd x tops unwalked has kinds.alone kinds.plain kinds.idem st formed (first_entries hd st) in
+    (f.0, f.1, first_heard hd st x tops kinds f.0 f.1 f.2 f.3, f.3, f.4, f.5, f.6, f.7)

@@ -1,6 +1,7 @@
 -- What coordinators have of naming's answers is kept where a message is taken, where what naming counts on is given.
 use Rattle.arj_law_parts.proofs.Words
-use Words.{◌≡◌, ℕ, true, List, [], ◌∷◌, inl, inr, ⊎_elim, Option, Some, None, refl, sym, ◌∙◌, ap, subst, Bool, false, is_some, Ask, Asked}
+use Words.{most_labels, ◌+◌, ◌<◌, ◌≡◌, ℕ, true, List, [], ◌∷◌, inl, inr, ⊎_elim, Option, Some, None, refl, sym, ◌∙◌, ap, subst, Bool, false}
+use Words.{is_some, Ask, Asked}
 use Words.{Head, Message, ObjectState, Path, asks, Reply, answers, top_of, Disk, Effect, Naming, Parts, Took, handle, is_meant, at_uid}
 use Words.{uid_number, Node, number_tells, Seen}
 use Words.list
@@ -9,13 +10,14 @@ use Rattle.arj_law_disk_view.proofs.Terms
 use Terms.{IsGood, KnowsFew, KnowsUses, World, Office, Hold, State, never, up, KnowsKinds, Among, IsFixed, Kinds, IsOfTop, SeesNaming}
 use Terms.{RecordsAreFree, AreOfTops, IsOfTops, IsForGrants, MayGoOn, MayRecord, asked_change, change_by, reply_change, NamesOwn}
 use Terms.{ClaimsAsked, ClaimsGrants, SeesHeard, HasHeard, HoldsAlong, HoldsFrom, IsOwnVote, AreOnce, GivesNaming, IsHeardAt}
-use Terms.{answers_commit}
+use Terms.{answers_commit, Packed}
+use Terms.words
 use Rattle.arj_law_disk_view.proofs.names.{Binding.path_untold, Heard.none_heard}
 use Rattle.arj_law_disk_view.proofs.running
 use running.{HeardAsk.Served_by, HeardAsk.ask_heard, HeardCalled.heard_called, HeardGoing.like_goes_on, HeardOther.other_heard}
 use running.{HeardOutcomes.heard_answer}
 use Rattle.arj_law_disk_view.proofs.view.Frames.{node_here}
-use Rattle.arj_law_disk_view.specs.running.Decided.{AreCalled}
+use Rattle.arj_law_disk_view.specs.running.Decided.{AreCalled, IsPastNumber, most_version}
 use Rattle.arj_law_lock_view.specs.records.Runs.{IsNewRecord}
 use Rattle.arj_law_parts.specs.moves.Seen.{In}
 
@@ -120,7 +122,10 @@ heard_message x R runs gives tops e k d t v from m outs M A of at own free uses 
           both = s.sees;
           heard = s.heard;
           decided = (let q = at.decided in let same = sym (let z = s.only in z.world) in record {
-            first = subst (λ (W : World). W.disk.first.version ≡ 0) same q.first;
+            writer = subst (λ (W : World). W.disk.first.writer ≡ uid_number (let m = M.start.marks.states x in m.writer)) same q.writer;
+            short = subst (λ (W : World). W.disk.first.version + most_labels < most_version) same q.short;
+            past = subst (λ (W : World). (g : Packed) → words.In g (W.disk.first ∷ W.disk.past) →
+                IsPastNumber M.start g.writer) same q.past;
             once = subst (λ (W : World). AreOnce W.disk.tops) same q.once;
             called = subst (λ (W : World). AreCalled M.lines W.disk.tops) same q.called;
           });

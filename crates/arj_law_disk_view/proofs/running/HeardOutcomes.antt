@@ -1,6 +1,6 @@
 -- What a coordinator has of naming's answers is kept where an answer comes to a commit: a vote, a store's answer, and naming's.
 use Rattle.arj_law_parts.proofs.Words
-use Words.{◌≡◌, ◌==◌, ◌&&◌, ℕ, if◌then◌else◌, Bool, true, false, List, [], ◌∷◌, Option, Some, None, is_some, refl, sym, ◌∙◌, ap, subst}
+use Words.{if◌then◌else◌, ◌≡◌, ◌==◌, ◌&&◌, ℕ, Bool, true, false, List, [], ◌∷◌, Option, Some, None, is_some, refl, sym, ◌∙◌, ap, subst}
 use Words.{⊎_elim, filter, not, and_parts, Asked, Cause, End, Kind, Message, Path, Uid, asks, Reply, answers, ask_kind, differs, reply_kind}
 use Words.{heard_by, heard_doing, heard_none, heard_now, moved_commit, waits_for_commit, Aborts, Confirming, Machine, Plan, Preparing}
 use Words.{Voting, ask_of, left_of, plainly, plan_of, Calling, Committing, Coord, Doing, Idle, Now, doing_of, nodes_sent, root_at}
@@ -180,6 +180,7 @@ module _ (x : ℕ) (tops : Kinds) (e k : ℕ) (d : Disk) (t : Parts) (M : Seen) 
         Goal (now_change x u t.coord (Committing y)) (moved_commit u (commit.answered from y r) d.intents t.coord)
     heard_reply (Voting p left) (Reply.Voted (voted.Yes states)) it now kd waits =
         heard_vote x tops e k d t M A good few knows both h u q at_work p left now from m a states posted it act (subst IsOwnAnswer it own)
+            (let z = at.decided in z.past)
     heard_reply (Voting p left) (Reply.Voted (voted.Changed w)) it now kd waits =
         heard_refused x tops e k d t M A good few knows both h u q at_work (Voting p left) p (cause.Changed from (differs w)) now
     heard_reply (Voting p left) (Reply.Bound r) it now kd waits = absurd (cc kd)

@@ -1,7 +1,8 @@
 -- What a coordinator has of naming's answers, where a server's vote or a store's answer comes to a commit.
 use Rattle.arj_law_parts.proofs.Words
-use Words.{◌≡◌, ℕ, true, false, List, [], ◌∷◌, Some, refl, sym, ◌∙◌, ap, subst, inr, ⊎_elim, find, uid_is, Asked, Cause, Message}
-use Words.{ObjectState, PreparedReply, Uid, nobody, object, uid_eq, Reply, answers, top_of, moved_commit, Aborts, Preparing, Used, Voting}
+use Words.{◌≡◌, ◌≤◌, ◌<◌, ◌==◌, arith, inl, and_parts, ℕ, true, false, List, [], ◌∷◌, Some, refl, sym, ◌∙◌, ap, subst, inr, ⊎_elim, find}
+use Words.{uid_is, Asked, Cause, Message}
+use Words.{ObjectState, PreparedReply, Uid, object, uid_eq, Reply, answers, top_of, moved_commit, Aborts, Preparing, Used, Voting}
 use Words.{changed_of, marks_store, plainly, plan_of, stores_left, targets_of, votes_left, with_states, Committing, Coord, Doing, doing_of}
 use Words.{Did, Disk, Parts, uid_number, with_number, without_number, at_place, root_of, number_tells, Seen}
 use Words.cause
@@ -11,14 +12,18 @@ use Words.commit
 use Rattle.arj_law_disk_view.proofs.Terms
 use Terms.{found_by, IsGood, KnowsFew, votes_used, Office, never, never_some, some_is, up, IsBefore, KnowsNode, CommitsAt, KnowsMachine}
 use Terms.{Among, used_at, Kinds, SeesCoord, SeesBoth, MayGoOn, Quietly, SeesHeard, SeesPlan, HasHeard, going_of, AreOwnStates}
+use Terms.{Packed, test_is}
 use Terms.disk
+use Terms.words
 use Rattle.arj_law_disk_view.proofs.names.DecidedRoots.{found_among}
 use Rattle.arj_law_disk_view.proofs.running
 use running.{Given.listed, HeardCommits.goes_step, HeardCoord.mine, HeardGoing.begun_later, HeardGoing.past_begun}
 use running.{HeardInputs.heard_aborted, HeardPlans.begins_later, HeardPlans.plain, HeardShut.shut, SoundPlans.with_all}
 use running.HeardNext.{GoesTo, plan_on, prepare_to, stores_to}
 use Rattle.arj_law_disk_view.proofs.view.{BeginWalks.before_idle, Frames.node_here}
+use Rattle.arj_law_disk_view.specs.running.Decided.{IsPastNumber}
 use Rattle.arj_law_parts.specs.moves.Seen.{In}
+use Rattle.arj_promise.specs.Starts.{IsPast, next_inc}
 
 module _ (x : ℕ) (tops : Kinds) (e k : ℕ) (d : Disk) (t : Parts) (M : Seen) (A : Office) (good : IsGood (up k d t M))
     (few : KnowsFew (up k d t M)) (knows : KnowsNode tops k d t M) (both : SeesBoth x tops A (up k d t M))
@@ -36,7 +41,8 @@ module _ (x : ℕ) (tops : Kinds) (e k : ℕ) (d : Disk) (t : Parts) (M : Seen) 
 
   module _ (p : commit.Plan) (left : List ℕ) (now : q.now ≡ Committing (Voting p left)) (from : ℕ) (m : Message) (a : Asked)
       (states : List ObjectState) (posted : In (record { from = from; to = k; message = m }) M.sent)
-      (answering : answers m ≡ Some (a, Reply.Voted (voted.Yes states))) (act : a.act ≡ u) (own : AreOwnStates a.act states) where
+      (answering : answers m ≡ Some (a, Reply.Voted (voted.Yes states))) (act : a.act ≡ u) (own : AreOwnStates a.act states)
+      (written : (g : Packed) → words.In g (A.world.disk.first ∷ A.world.disk.past) → IsPastNumber M.start g.writer) where
     abbrev Next : commit.Plan
     Next = record p { changed = with_states states p.changed }
 
@@ -76,10 +82,22 @@ module _ (x : ℕ) (tops : Kinds) (e k : ℕ) (d : Disk) (t : Parts) (M : Seen) 
     at : CommitsAt t.coord (root_of n.branch.path) u
     at = (q, Voting p left, at_work, now, ap root_of (sym n.path))
 
-    -- who acts is somebody
-    nobody_acts : nobody ≡ u → ⊥
-    nobody_acts same =
-        never_some (found_by u t.coord.tree n.branch n.found).1 (ap (λ (y : Uid). at_place y.num t.coord.tree.branches) (sym same))
+    -- who acts is somebody, and of this incarnation
+    is_new : IsPast M.start u → ⊥
+    is_new (inl nobody_is) =
+        never_some (found_by u t.coord.tree n.branch n.found).1 (ap (λ (y : Uid). at_place y.num t.coord.tree.branches) nobody_is)
+    is_new (inr early) = by (and_parts (u.node == t.coord.tree.node) (u.inc == t.coord.tree.inc)
+        (found_by u t.coord.tree n.branch n.found).0)
+      where
+        low : (i j b : ℕ) → i ≡ j → i < b → b ≤ j → ⊥
+        low i j b same less since = omega (arith, same, less, since)
+
+        by : ((u.node == t.coord.tree.node) ≡ true) × ((u.inc == t.coord.tree.inc) ≡ true) → ⊥
+        by (node, inc) =
+            let at_k : u.node ≡ k = test_is u.node t.coord.tree.node node ∙ sees.node in
+            let its : u.inc ≡ d.inc = test_is u.inc t.coord.tree.inc inc ∙ sees.present in
+            let less = subst (λ j. u.inc < next_inc M.start j) at_k early in
+            low u.inc d.inc (next_inc M.start k) its less knows.since
 
     abbrev To : List ℕ → Type 0
     To rest = Heard_by (moved_commit u (plainly (votes_left rest Next)) d.intents t.coord)
@@ -97,7 +115,8 @@ module _ (x : ℕ) (tops : Kinds) (e k : ℕ) (d : Disk) (t : Parts) (M : Seen) 
         let it : changed_of x Next ≡ Some st = ap (λ ss. find (λ (s : ObjectState). uid_eq s.uid (object x)) ss) (sym g.changed) ∙ found in
         let there = found_among (λ s. uid_eq s.uid (object x)) (with_states states p.changed) st it in
         let c = plan_voted.changed w st (ap (used_at x) (sym g.used) ∙ used) there.0 (uid_is st.uid (object x) there.1) in
-        (c.0, c.1, λ g i same. nobody_acts (number_tells nobody u (sym (h.first g i) ∙ same)))))
+        (c.0, c.1, λ g i same. let w = written g i in
+        is_new (subst (IsPast M.start) (number_tells w.0 u (sym w.1 ∙ same)) w.2))))
         [] [] (votes_left [] Next) (λ v. tt) g.kind
 
     -- and others are waited for

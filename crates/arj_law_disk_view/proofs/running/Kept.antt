@@ -6,21 +6,22 @@ use Words.{and_parts, uid_is, in_from, in_to, Uid, Ask, Asked, Body, Head, Heade
 use Words.{is_on, uid_eq, uids_of, Reply, actor, answers, again_all, begin_action, heard, Steps, Plan, Voting, Calling, Committing, Doing}
 use Words.{doing_of, Disk, Effect, acked, answer_query, tick_outs, uid_set, Parts, Took, answer_is_meant, asked_is_meant, handle}
 use Words.{is_loaded_for, is_loaded_in, is_meant, prepared_actions, reply_is_meant, with_coord, Input, acts, begin_refusal, parent_of}
-use Words.{parts_in, refusal_up, restart_outs, next_uid, path_below, format, is_serial_kind, numbered, acked_own, acts_own, again_own}
-use Words.{heard_own, query_own, Seen, see}
+use Words.{parts_in, refusal_up, restart_outs, next_uid, path_below, is_serial_kind, numbered, acked_own, acts_own, again_own}
+use Words.{heard_own, query_own, Seen}
 use Words.ask
 use Words.loaded
 use Rattle.arj_law_disk_view.proofs.Terms
-use Terms.{Among, Action, act_of, paths_of, IsBusy, IsGoodCoord, IsVoting, IsTree, begun_tree, IsGoodOf, good_coord, it, World, Keeps}
+use Terms.{IsAtStarts, Among, Action, act_of, paths_of, IsBusy, IsGoodCoord, IsVoting, IsTree, begun_tree, IsGoodOf, good_coord, it, World}
+use Terms.{Keeps}
 use Terms.{is_act, label_at, AreQuiet, at, down, given, said, up, Walks, Up, halted, walks_both, walks_to, KnowsNode, IsOfKind, KnowsKinds}
 use Terms.{Kinds, IsSeenByDisks, was_begun, KeepsGiven, GivesVotes, Agrees, AreOfOneNode, AreOfTops, kinds_of, ArePlaced, AreRecorded}
 use Terms.{AreOwnStates, AreSound, FitsVote, IsOwnAnswer, IsOwnVote}
 use Rattle.arj_law_disk_view.proofs.running
 use running.{Begun.kinds_agree, FirstCommits.input_first, Known.knows_node, Means.All, Means.coord_means, RootPaths.on_paths}
 use running.{TopPaths.of_request}
-use running.PlaceWalks.{ByTop, PlacedBy, begin_placed, both_here, format_placed, line_stays, message_placed, other_coord, placed_walk}
-use running.PlaceWalks.{prepared_begun, restart_placed, stop_placed, tick_means, up_here}
-use running.RecordWalks.{KeptBy, format_recorded, kept_walk, message_kept, recorded_more, restart_recorded, stop_recorded, tick_kept}
+use running.PlaceWalks.{ByTop, PlacedBy, begin_placed, both_here, line_stays, message_placed, other_coord, placed_walk}
+use running.PlaceWalks.{prepared_begun, restart_placed, starts_are_placed, stop_placed, tick_means, up_here}
+use running.RecordWalks.{KeptBy, kept_walk, message_kept, recorded_more, restart_recorded, starts_are_recorded, stop_recorded, tick_kept}
 use running.SoundCoords.{sound_acts, sound_again, sound_begins, sound_heard}
 use running.Telling.{acked_kept, acts_kept, heard_kept, same_kept}
 use Rattle.arj_law_disk_view.specs.{running.Sound.IsUsedAt, running.Sound.VotesFit, view.Sees.ClaimsAsked}
@@ -66,7 +67,7 @@ pub record KeepsEach (hd : Header) (x : ℕ) (R : Seen → Type 0) (Q : Kinds �
   pub restart : (tops : Kinds) (e k : ℕ) (d : Disk) (M : Seen) → tops.walk ≡ None → AllByRecursion (λ u. was_begun u M.lines ≡ true)
       (uid_set (prepared_actions d.store ++ prepared_actions d.names)) → R (down k d M) → Q tops (down k d M)
       → Walks (Q tops) e k (restart_outs hd k (d.inc + 1) d) (Up (Q tops) k (parts_in k (d.inc + 1) d)) d M
-  pub first : (tops : Kinds) → tops.walk ≡ None → KnowsKinds tops → Q tops (see [] (format hd))
+  pub first : (tops : Kinds) → tops.walk ≡ None → KnowsKinds tops → IsAtStarts hd (Q tops)
 
 -- ---- what is walked through
 
@@ -313,15 +314,15 @@ module _ (hd : Header) (x : ℕ) (R G : Seen → Type 0) (Q : Kinds → Seen →
         all_walk R Q p.0 h.1 e k (restart_outs hd k (d.inc + 1) d) (parts_in k (d.inc + 1) d) d M (restart_good hd e k d M (p.0, h.0))
         (restart_recorded p.0 hd e k d M h.2) (restart_placed p.0 hd e k d M h.0.begun h.3) (kept.restart e k d M h.4)
         (λ tops agree. each.restart tops e k d M agree.unwalked (prepared_begun p.0 k d None M h.3) (h.4, more) (h.5 tops agree));
-    first = (
+    first = λ st formed. (
       [],
       (
-        first_of hd,
+        first_of hd st formed,
         (λ a w c on. absurd (in_from a [] c)),
-        format_recorded hd,
-        format_placed hd,
-        kept.first,
-        λ tops agree. each.first tops agree.unwalked agree.kinds,
+        starts_are_recorded hd st formed,
+        starts_are_placed hd st formed,
+        kept.first st formed,
+        λ tops agree. each.first tops agree.unwalked agree.kinds st formed,
       ),
     );
   }

@@ -1,7 +1,8 @@
 -- What the disk half of the view takes of the protocol alone, from good nodes and the rest.
 use Rattle.arj_law_parts.proofs.Words
-use Words.{◌≡◌, ◌≢◌, ◌⊎◌, ◌<◌, ◌≤◌, ℕ, ◌==◌, ◌&&◌, zero, suc, List, [], ◌∷◌, Bool, true, false, Option, Some, None, refl, sym, ◌∙◌, ap}
-use Words.{subst, inl, inr, ⊎_elim, slice_get, length, arith, filter, map, if◌then◌else◌, not, is_some, take, AllByRecursion, list_any}
+use Words.{if◌then◌else◌, ◌≡◌, ◌≢◌, ◌⊎◌, ◌<◌, ◌≤◌, ℕ, ◌==◌, ◌&&◌, zero, suc, List, [], ◌∷◌, Bool, true, false, Option, Some, None, refl}
+use Words.{sym, ◌∙◌, ap}
+use Words.{subst, inl, inr, ⊎_elim, slice_get, length, arith, filter, map, not, is_some, take, AllByRecursion, list_any}
 use Words.{and_parts, In, in_to, which, uid_cases, uid_is, uid_same, before_last, Uid, End, Kind, ObjectState, Path, Row, first_uid}
 use Words.{is_held_by, is_on, last_uid, uid_eq, uids_of, actor, top_of, Steps, Doing, Calling, Committing, doing_of, plan_for, root_at}
 use Words.{Disk, Intent, Named, Naming, loses, loses_row, Parts, at_uid, uid_number, Branch, at_place, behind, branch_of, is_constituent}
@@ -17,7 +18,8 @@ use Terms.{IsFuture, Agrees, is_top_kind, AreEntryRows, AreNamesRows, ArePlaced,
 use Terms.{IsSound, IsSoundNow}
 use Terms.seen
 use Rattle.arj_law_disk_view.proofs.running
-use running.{Begun.Stood, Begun.root_on, Begun.stood, Holders.constituent as with_serial, PlaceWalks.holders_begun, PlaceWalks.up_here}
+use running.{Begun.Stood, Begun.root_on, Begun.stood, Holders.constituent as with_serial, PlaceWalks.holders_begun, PlaceWalks.since_here}
+use running.{PlaceWalks.up_here}
 use running.{SoundCoords.root_own, SoundCoords.said_from, SoundPlans.one_change, SoundPlans.plan_tidy}
 use Rattle.arj_law_disk_view.proofs.view.Frames.{node_here}
 use Rattle.arj_law_disk_view.specs.{running.Records.IsRecorded, running.Sound.unvoted, view.Knows.KnowsSteps}
@@ -384,4 +386,5 @@ module _ (tops : Kinds) (acts : List Action) (k : ℕ) (d : Disk) (t : Parts) (M
     asked = asked;
     elsewhere = λ none. sym named ∙ ap (λ (o : Option Naming). is_some o) none;
     naming_here = λ n is. (test_is k 1 (sym named ∙ ap (λ (o : Option Naming). is_some o) is), orphans_of n is);
+    since = since_here acts good.begun k d t M placed;
   }

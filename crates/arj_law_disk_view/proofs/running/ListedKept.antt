@@ -127,7 +127,8 @@ module _ (hd : Header) (x : ℕ) (R S : World → Seen → Type 0) (weaker : (W 
         both_along P Q tops (λ S N. HoldsAgain S x tops (are_recorded d.intents) A N) (λ N a b B c s. (a B c s, b B c s)) e k (restart_outs
         hd k (d.inc + 1) d) (parts_in k (d.inc + 1) d) d M (parts.restart tops e k d M A walk (weaker A.world _ r) both part)
         (listed_again x tops hd e k d M A both (are_recorded d.intents) answers);
-    first = λ tops walk kinds. let f = parts.first tops walk kinds in (f.0, f.1, (f.2, λ T tells passes. tt), f.3, f.4);
+    first = λ tops walk kinds st formed.
+        let f = parts.first tops walk kinds st formed in (f.0, f.1, (f.2, λ T tells passes. tt), f.3, f.4);
   }
     where
       stopped : (tops : Kinds) (e k : ℕ) (d : Disk) (live : Option Parts) (M : Seen) (A : Office) → S A.world (at k d live M) →

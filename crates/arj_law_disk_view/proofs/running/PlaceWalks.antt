@@ -1,7 +1,8 @@
 -- Who has something prepared or locked was begun, and so was who is asked about, under each handler; and naming is at node 1.
 use Rattle.arj_law_parts.proofs.Words
-use Words.{◌≡◌, ℕ, ◌+◌, ◌==◌, List, [], ◌∷◌, ◌++◌, Bool, true, false, cond, Option, Some, None, refl, sym, ◌∙◌, ap, subst, inl, inr, ⊎_elim}
-use Words.{Contains, eqb-true, filter, map, ⊤, if◌then◌else◌, is_some, option_map, AllByRecursion, list_any-append, uid_same, in_from}
+use Words.{◌≤◌, arith, if◌then◌else◌, Start, node_by, ◌≡◌, ℕ, ◌+◌, ◌==◌, List, [], ◌∷◌, ◌++◌, Bool, true, false, cond, Option, Some, None}
+use Words.{refl, sym, ◌∙◌, ap, subst, inl, inr, ⊎_elim}
+use Words.{Contains, eqb-true, filter, map, ⊤, is_some, option_map, AllByRecursion, list_any-append, uid_same, in_from}
 use Words.{in_to, Uid, End, Head, Header, Asked, Ask, Kind, Label, Line, Message, ObjectState, Path, Row, asks, object, tops_of, uids_of}
 use Words.{Reply, actor, answers, asked_by, last_end, response, top_of, top_path, again_all, began_line, heard, confirm, recovered_naming}
 use Words.{Coord, Copy, Disk, Effect, Say, Send, Do, Work, Look, PutInc, Prepare, Commit, Abort, PutIntent, RemoveIntent, Stop, Before}
@@ -9,9 +10,9 @@ use Words.{After, InPart, Served, Prep, Ready, Already, Old, InDoubt, held_at, h
 use Words.{acked, answer_query, tick_outs, Named, Naming, Parts, Handled, Void, Took, ack_told, by_reply, coord_heard, end_states, handle}
 use Words.{handle_answer, handle_ask, handle_ends, handle_other, holders, if_naming, is_earlier, load_by, load_held, locks_of, naming_hello}
 use Words.{naming_told, prepare_by, prepared_actions, query_about, sends_answer, serve, served, store_told, with_coord, with_naming}
-use Words.{with_server, uid_set, without_number, Server, row_top, server_holders, Node, first_disk, first_node, hello_to, naming_at}
-use Words.{naming_back, numbers_to, parts_in, recovered_records, restart_outs, tolds_again, format, numbered, activate_own, ends_own}
-use Words.{invoke_own, vote_own, Post, Seen, see}
+use Words.{with_server, uid_set, without_number, Server, row_top, server_holders, Node, hello_to, naming_at}
+use Words.{naming_back, numbers_to, parts_in, recovered_records, restart_outs, tolds_again, numbered, activate_own, ends_own}
+use Words.{invoke_own, vote_own, Post, Seen}
 use Words.ask
 use Words.body
 use Words.ending
@@ -21,7 +22,8 @@ use Words.role
 use Words.naming
 use Words.server
 use Rattle.arj_law_disk_view.proofs.Terms
-use Terms.{Action, AreBegun, act_of, FitsAsked, IsAsker, or_left, or_right, some_is, at, down, up, said, posted, Walks, Up, halted, begins}
+use Terms.{IsAtStarts, disk_by, first_at, live_first, Action, AreBegun, act_of, FitsAsked, IsAsker, or_left, or_right, some_is, at, down}
+use Terms.{up, said, posted, Walks, Up, halted, begins}
 use Terms.{was_begun, AreBegunIn, AreCallRows, AreKeyed, AreEntryRows, AreNamesRows, ArePlaced, IsAboutBegun, IsBegun, IsCallRow}
 use Terms.{IsEntryRow, IsPlacedUp, IsTopPath, MeansBegun, asked_about, AreOwnIn, AreSound, IsOwnVote, voted_of}
 use Terms.seen
@@ -33,14 +35,21 @@ use running.Lists.{all_append, all_each, all_filter, all_keys, all_put, all_set,
 use running.Means.{All, IsOwnReply, again_means, back_means, both, confirm_means, hellos_mean, queries_mean, recovered_means}
 use running.Means.{response_means, says_mean, server_means, told_means}
 use running.RowWalks.{rows_activate, rows_invoke, rows_told as rows_ended, rows_vote, votes_own}
-use Rattle.arj_law_disk_view.proofs.view.{FirstSeen.first_at, Frames.node_here, ServedWalks.bind_says, ServedWalks.note_says}
-use Rattle.arj_law_disk_view.specs.running.Places.{AsksBegun, IsPlaced}
+use Rattle.arj_law_disk_view.proofs.view.{Frames.node_here, ServedWalks.bind_says, ServedWalks.note_says}
+use Rattle.arj_law_disk_view.proofs.names.Pairing.{stopped_inc, worked_inc}
+use Rattle.arj_law_disk_view.specs.{names.Both.leaves_inc, running.Places.AsksBegun, running.Places.IsPlaced, running.Places.IsSince}
 use Rattle.arj_law_parts.specs.parts.Messages.{FitsAsk, FitsMessage}
+use Rattle.arj_promise.specs.Starts.{next_inc}
 
 -- ---- more lines
 
 pub line_stays : (u : Uid) (lines more : List Line) → was_begun u lines ≡ true → was_begun u (lines ++ more) ≡ true
 line_stays u lines more on = list_any-append (λ (l : Line). begins u l.body) lines more ∙ or_left (was_begun u lines) (was_begun u more) on
+
+-- a node that is down may be so from then on
+since_down : (first i : ℕ) (live : Option Parts) → IsSince first i live → first ≤ i + 1
+since_down first i None since = since
+since_down first i (Some t) since = omega (arith, since)
 
 module _ (acts : List Action) where
   abbrev Lines : Seen → Type 0
@@ -56,7 +65,7 @@ module _ (acts : List Action) where
 
   both_worked : (w : Work) (d : Disk) → MeansBegun acts (Do w) → Both d → Both (worked w d)
   both_worked Look d its b = b
-  both_worked (PutInc i) d its b = b
+  both_worked (PutInc i) d its b = absurd its
   both_worked (Prepare role.Store u states) d its b = (all_put (IsBegun acts) u states d.store.pend its b.0, b.1)
   both_worked (Prepare role.Names u states) d its b = (b.0, all_put (IsBegun acts) u states d.names.pend its b.1)
   both_worked (Commit role.Store u) d its b = (all_without (IsBegun acts) u d.store.pend b.0, b.1)
@@ -81,20 +90,26 @@ module _ (acts : List Action) where
   both_stopped After w d its b = both_worked w d its b
   both_stopped (InPart which) w d its b = both_part which w d b
 
+  -- the incarnation stays
+  inc_leaves : (w : Work) → MeansBegun acts (Do w) → leaves_inc w ≡ true
+  inc_leaves (PutInc i) its = absurd its
+  inc_leaves w its = refl
+
   -- ---- all nodes
 
   abbrev Others : ℕ → Seen → Type 0
-  Others k M = (j : ℕ) (n : Node) → (j == k) ≡ false → M.nodes j ≡ Some n → IsPlaced acts j n
+  Others k M = (j : ℕ) (n : Node) → (j == k) ≡ false → M.nodes j ≡ Some n → IsPlaced M.start acts j n
 
   all_nodes : (k : ℕ) (d : Disk) (live : Option Parts) (M : Seen) → Others k M →
-      IsPlaced acts k (record { number = k; disk = d; live = live }) → (j : ℕ) (n : Node) → (let S = at k d live M in S.nodes j) ≡ Some n →
-      IsPlaced acts j n
+      IsPlaced M.start acts k (record { number = k; disk = d; live = live }) → (j : ℕ) (n : Node) →
+          (let S = at k d live M in S.nodes j) ≡ Some n →
+      IsPlaced M.start acts j n
   all_nodes k d live M others mine j n is = by (j == k) refl is
     where
       by : (b : Bool) → (j == k) ≡ b → (if b then Some (record { number = k; disk = d; live = live }) else M.nodes j) ≡ Some n →
-          IsPlaced acts j n
+          IsPlaced M.start acts j n
       by true e h = let same : record { number = k; disk = d; live = live } ≡ n = cc h in
-          subst (λ i. IsPlaced acts i n) (sym (eqb-true j k e)) (subst (λ (x : Node). IsPlaced acts k x) same mine)
+          subst (λ i. IsPlaced M.start acts i n) (sym (eqb-true j k e)) (subst (λ (x : Node). IsPlaced M.start acts k x) same mine)
       by false e h = others j n e h
 
   others_of : (k : ℕ) (d : Disk) (live : Option Parts) (M : Seen) → ArePlaced acts (at k d live M) → Others k M
@@ -102,19 +117,21 @@ module _ (acts : List Action) where
       all.nodes j n (ap (λ b. if b then Some (record { number = k; disk = d; live = live }) else M.nodes j) off ∙ is)
 
   mine_of : (k : ℕ) (d : Disk) (live : Option Parts) (M : Seen) → ArePlaced acts (at k d live M) →
-      IsPlaced acts k (record { number = k; disk = d; live = live })
+      IsPlaced M.start acts k (record { number = k; disk = d; live = live })
   mine_of k d live M all =
       all.nodes k (record { number = k; disk = d; live = live }) (node_here M k (record { number = k; disk = d; live = live }))
 
-  down_one : (k : ℕ) (d : Disk) → Both d → IsPlaced acts k (record { number = k; disk = d; live = None })
-  down_one k d b = record { store = b.0; names = b.1; live = λ t is. absurd (cc is) }
+  down_one : (st : Start) (k : ℕ) (d : Disk) → Both d → next_inc st k ≤ d.inc + 1 →
+      IsPlaced st acts k (record { number = k; disk = d; live = None })
+  down_one st k d b since = record { store = b.0; names = b.1; since = since; live = λ t is. absurd (cc is) }
 
   abbrev Asks : Seen → Type 0
   Asks M = (p : Post) → seen.In p M.sent → AsksBegun acts p.to p.message × IsOwnVote p.message
 
-  down_all : (e k : ℕ) (d : Disk) (M : Seen) → Others k M → Asks M → Lines M → Both d → ArePlaced acts (halted e k d M)
-  down_all e k d M others asks lines b = record {
-    nodes = all_nodes k d None M others (down_one k d b);
+  down_all : (e k : ℕ) (d : Disk) (M : Seen) → Others k M → Asks M → Lines M → Both d → next_inc M.start k ≤ d.inc + 1 →
+      ArePlaced acts (halted e k d M)
+  down_all e k d M others asks lines b since = record {
+    nodes = all_nodes k d None M others (down_one M.start k d b since);
     asks = λ p i. (asks p i).0;
     votes = λ p i. (asks p i).1;
     lines = lines_more M (numbered e (body.Halted k ∷ [])) lines;
@@ -123,26 +140,37 @@ module _ (acts : List Action) where
   pub stop_placed : (e k : ℕ) (d : Disk) (live : Option Parts) (M : Seen) → ArePlaced acts (at k d live M) → ArePlaced acts (halted e k d M)
   stop_placed e k d live M all = let m = mine_of k d live M all in
       down_all e k d M (others_of k d live M all) (λ p i. (all.asks p i, all.votes p i)) all.lines (m.store, m.names)
+      (since_down (next_inc M.start k) d.inc live m.since)
 
   -- ---- walked through
 
   pub places_walk : (e k : ℕ) (v : Parts) → IsPlacedUp acts k v → (es : List Effect) (d : Disk) (M : Seen) → Others k M → Asks M → Lines M →
-      Both d → AllByRecursion (MeansBegun acts) es → Walks (ArePlaced acts) e k es (Up (ArePlaced acts) k v) d M
-  places_walk e k v placed [] d M others asks lines b all = record {
-    nodes = all_nodes k d (Some v) M others
-        (record { store = b.0; names = b.1; live = λ t is. let same : v ≡ t = some_is refl is in subst (IsPlacedUp acts k) same placed });
+      Both d → next_inc M.start k ≤ d.inc → AllByRecursion (MeansBegun acts) es →
+      Walks (ArePlaced acts) e k es (Up (ArePlaced acts) k v) d M
+  places_walk e k v placed [] d M others asks lines b since all = record {
+    nodes = all_nodes k d (Some v) M others (record {
+      store = b.0;
+      names = b.1;
+      since = since;
+      live = λ t is. let same : v ≡ t = some_is refl is in subst (IsPlacedUp acts k) same placed;
+    });
     asks = λ p i. (asks p i).0;
     votes = λ p i. (asks p i).1;
     lines = lines;
   }
-  places_walk e k v placed (Do w ∷ es) d M others asks lines b all = (
-    λ how. down_all e k (stopped how w d) M others asks lines (both_stopped how w d all.0 b),
-    places_walk e k v placed es (worked w d) M others asks lines (both_worked w d all.0 b) all.1,
+  places_walk e k v placed (Do w ∷ es) d M others asks lines b since all = (
+    λ how. down_all e k (stopped how w d) M others asks lines (both_stopped how w d all.0 b)
+        (later (stopped how w d).inc (stopped_inc how w d (inc_leaves w all.0))),
+    places_walk e k v placed es (worked w d) M others asks lines (both_worked w d all.0 b)
+        (subst (λ i. next_inc M.start k ≤ i) (sym (worked_inc w d (inc_leaves w all.0))) since) all.1,
   )
-  places_walk e k v placed (Say l ∷ es) d M others asks lines b all =
-      places_walk e k v placed es d (said e (l ∷ []) M) others asks (lines_more M (numbered e (l ∷ [])) lines) b all.1
-  places_walk e k v placed (Send to m ∷ es) d M others asks lines b all = λ more quiet. places_walk e k v placed es d (said e more
-      (posted (record { from = k; to = to; message = m }) M)) others (asked all.0) (lines_more M (numbered e more) lines) b all.1
+    where
+      later : (i : ℕ) → i ≡ d.inc → next_inc M.start k ≤ i + 1
+      later i same = omega (arith, same, since)
+  places_walk e k v placed (Say l ∷ es) d M others asks lines b since all =
+      places_walk e k v placed es d (said e (l ∷ []) M) others asks (lines_more M (numbered e (l ∷ [])) lines) b since all.1
+  places_walk e k v placed (Send to m ∷ es) d M others asks lines b since all = λ more quiet. places_walk e k v placed es d (said e more
+      (posted (record { from = k; to = to; message = m }) M)) others (asked all.0) (lines_more M (numbered e more) lines) b since all.1
     where
       asked : MeansBegun acts (Send to m) → (p : Post) → seen.In p (record { from = k; to = to; message = m } ∷ M.sent) →
           AsksBegun acts p.to p.message × IsOwnVote p.message
@@ -157,7 +185,7 @@ module _ (acts : List Action) where
   pub placed_walk : (e k : ℕ) (d : Disk) (t v : Parts) (outs : List Effect) (M : Seen) → AllByRecursion (MeansBegun acts) outs →
       IsPlacedUp acts k v → ArePlaced acts (up k d t M) → Walks (ArePlaced acts) e k outs (Up (ArePlaced acts) k v) d M
   placed_walk e k d t v outs M all up placed = let m = mine_of k d (Some t) M placed in places_walk e k v up outs d M
-      (others_of k d (Some t) M placed) (λ p i. (placed.asks p i, placed.votes p i)) placed.lines (m.store, m.names) all
+      (others_of k d (Some t) M placed) (λ p i. (placed.asks p i, placed.votes p i)) placed.lines (m.store, m.names) m.since all
 
   -- with another coordinator
   pub other_coord : (k : ℕ) (t : Parts) (c : Coord) → AreSound c → IsPlacedUp acts k t → IsPlacedUp acts k (with_coord t c)
@@ -416,14 +444,39 @@ module _ (acts : List Action) where
 
   pub restart_placed : (hd : Header) (e k : ℕ) (d : Disk) (M : Seen) → AreBegun acts → ArePlaced acts (down k d M) →
       Walks (ArePlaced acts) e k (restart_outs hd k (d.inc + 1) d) (Up (ArePlaced acts) k (parts_in k (d.inc + 1) d)) d M
-  restart_placed hd e k d M begun all = places_walk e k (parts_in k (d.inc + 1) d) (starts_placed k (d.inc + 1) d begun mine)
-      (restart_outs hd k (d.inc + 1) d) d M (others_of k d None M all) (λ p i. (all.asks p i, all.votes p i)) all.lines mine means
+  restart_placed hd e k d M begun all = (
+    looks,
+    (
+      rises,
+      places_walk e k (parts_in k (d.inc + 1) d) (starts_placed k (d.inc + 1) d begun mine) ((((one ++ two) ++ tolds_again d.intents)
+          ++ queries) ++ hellos) (record d { inc = d.inc + 1 }) M (others_of k d None M all) (λ p i. (all.asks p i, all.votes p i))
+          all.lines mine since means,
+    ),
+  )
     where
       mine : Both d
       mine = let m = mine_of k d None M all in (m.store, m.names)
 
+      since : next_inc M.start k ≤ d.inc + 1
+      since = let m = mine_of k d None M all in m.since
+
+      -- a stop before the incarnation is on the disk, or as it is put there
+      stops : (c : Disk) → Both c → d.inc ≤ c.inc → ArePlaced acts (halted e k c M)
+      stops c b low = down_all e k c M (others_of k d None M all) (λ p i. (all.asks p i, all.votes p i)) all.lines b (omega
+          (arith, since, low))
+
+      looks : (how : Stop) → ArePlaced acts (halted e k (stopped how Look d) M)
+      looks Before = stops d mine (omega arith)
+      looks After = stops d mine (omega arith)
+      looks (InPart which) = stops d mine (omega arith)
+
+      rises : (how : Stop) → ArePlaced acts (halted e k (stopped how (PutInc (d.inc + 1)) d) M)
+      rises Before = stops d mine (omega arith)
+      rises After = stops (record d { inc = d.inc + 1 }) mine (omega arith)
+      rises (InPart which) = stops d mine (omega arith)
+
       one : List Effect
-      one = Do Look ∷ Do (PutInc (d.inc + 1)) ∷ Say (body.Up k (d.inc + 1)) ∷ Do Look ∷ naming_back (naming_at k (d.inc + 1) d.names)
+      one = Say (body.Up k (d.inc + 1)) ∷ Do Look ∷ naming_back (naming_at k (d.inc + 1) d.names)
 
       two : List Effect
       two = Do Look ∷ recovered_records k d.intents
@@ -434,10 +487,10 @@ module _ (acts : List Action) where
       hellos : List Effect
       hellos = map (hello_to k (d.inc + 1)) (without_number k (numbers_to hd.nodes))
 
-      means : All acts (restart_outs hd k (d.inc + 1) d)
+      means : All acts ((((one ++ two) ++ tolds_again d.intents) ++ queries) ++ hellos)
       means = both acts (one ++ two ++ tolds_again d.intents ++ queries) hellos
           (both acts (one ++ two ++ tolds_again d.intents) queries (both acts (one ++ two) (tolds_again d.intents) (both acts one two
-          (tt, (tt, (tt, (tt, back_means acts (naming_at k (d.inc + 1) d.names))))) (tt, recovered_means acts k d.intents))
+          (tt, (tt, back_means acts (naming_at k (d.inc + 1) d.names))) (tt, recovered_means acts k d.intents))
           (again_means acts d.intents))
           (queries_mean acts (uid_set (prepared_actions d.store ++ prepared_actions d.names)) (prepared_in d mine)))
           (hellos_mean acts k (d.inc + 1) (without_number k (numbers_to hd.nodes)))
@@ -461,6 +514,9 @@ module _ (acts : List Action) where
 
     pub up_here : IsPlacedUp acts k t
     up_here = let m = mine_of k d (Some t) M all in m.live t refl
+
+    pub since_here : next_inc M.start k ≤ d.inc
+    since_here = let m = mine_of k d (Some t) M all in m.since
 
     pub holders_begun : AllByRecursion (λ u. was_begun u M.lines ≡ true) (holders d t)
     holders_begun = have_begun M all.lines (holders d t) (holders_in k d t begun both_here up_here)
@@ -497,6 +553,7 @@ begin_placed a acts e k d t c l how parent u M same sound all = record {
       record {
         store = m.store;
         names = m.names;
+        since = m.since;
         live = λ v is. let it : with_coord t c ≡ v = some_is refl is in
             subst (IsPlacedUp (a ∷ acts) k) it (other_coord (a ∷ acts) k t c sound (m.live t refl));
       });
@@ -506,12 +563,13 @@ begin_placed a acts e k d t c l how parent u M same sound all = record {
       (λ old. lines_more acts M (numbered e (began_line l how u parent ∷ [])) all.lines b (in_to b acts old)) (in_from b (a ∷ acts) i);
 }
   where
-    more : (j : ℕ) (n : Node) → IsPlaced acts j n → IsPlaced (a ∷ acts) j n
+    more : (j : ℕ) (n : Node) → IsPlaced M.start acts j n → IsPlaced M.start (a ∷ acts) j n
     more j n m = record {
       store = all_each (λ (e : Uid × List ObjectState). IsBegun acts e.0) (λ (e : Uid × List ObjectState). IsBegun (a ∷ acts) e.0)
           (let x = n.disk in x.store.pend) (λ e b. begun_more a acts e.0 b) m.store;
       names = all_each (λ (e : Uid × List ObjectState). IsBegun acts e.0) (λ (e : Uid × List ObjectState). IsBegun (a ∷ acts) e.0)
           (let x = n.disk in x.names.pend) (λ e b. begun_more a acts e.0 b) m.names;
+      since = m.since;
       live = λ v is. up_more a acts j v (m.live v is);
     }
 
@@ -527,17 +585,23 @@ begin_placed a acts e k d t c l how parent u M same sound all = record {
 
 -- ---- at first
 
-first_placed : (hd : Header) (k : ℕ) → IsPlaced [] k (first_node hd k)
-first_placed hd k = record {
-  store = tt;
-  names = tt;
-  live = λ t is. let same : parts_in k 1 (first_disk hd k) ≡ t = some_is refl is in
-      subst (IsPlacedUp [] k) same (starts_placed [] k 1 (first_disk hd k) tt (tt, tt));
-}
+module _ (hd : Header) (st : Start) where
+  first_placed : (k : ℕ) → IsPlaced st [] k (node_by hd st k)
+  first_placed k = record {
+    store = tt;
+    names = tt;
+    since = since (st.up k);
+    live = λ t is. subst (IsPlacedUp [] k) (live_first hd st k t is) (starts_placed [] k (st.incs k + 1) (disk_by hd st k) tt (tt, tt));
+  }
+    where
+      since : (b : Bool) → IsSince (if b then st.incs k + 1 else st.incs k + 2) (st.incs k + 1)
+          (if b then Some (parts_in k (st.incs k + 1) (disk_by hd st k)) else None)
+      since true = omega arith
+      since false = omega arith
 
-pub format_placed : (hd : Header) → ArePlaced [] (see [] (format hd))
-format_placed hd = record {
-  nodes = λ k n is. subst (IsPlaced [] k) (first_at hd k n is) (first_placed hd k);
+pub starts_are_placed : (hd : Header) → IsAtStarts hd (ArePlaced [])
+starts_are_placed hd st formed = record {
+  nodes = λ k n is. subst (IsPlaced st [] k) (first_at hd st k n is) (first_placed hd st k);
   asks = λ p none. absurd none;
   votes = λ p none. absurd none;
   lines = λ a c. absurd (in_from a [] c);

@@ -1,16 +1,16 @@
 -- Records on disks, and what is told again of them, under each handler.
 use Rattle.arj_law_parts.proofs.Words
-use Words.{◌≡◌, ℕ, ◌+◌, ◌==◌, List, [], ◌∷◌, ◌++◌, Bool, true, false, cond, Option, Some, None, refl, sym, ◌∙◌, ap, subst, inr, ⊎_elim}
-use Words.{append-nil, filter, map, ⊤, if◌then◌else◌, option_map, flat_map, in_from, in_to, Uid, End, Head, Header, Asked, Ask, Message}
+use Words.{if◌then◌else◌, Start, node_by, ◌≡◌, ℕ, ◌+◌, ◌==◌, List, [], ◌∷◌, ◌++◌, Bool, true, false, cond, Option, Some, None, refl, sym}
+use Words.{◌∙◌, ap, subst, inr, ⊎_elim}
+use Words.{append-nil, filter, map, ⊤, option_map, flat_map, in_from, in_to, Uid, End, Head, Header, Asked, Ask, Message}
 use Words.{ObjectState, Row, asks, last_uid, object, Reply, actor, answers, asked_by, last_end, response, again_all, heard, back_lines}
 use Words.{confirm, Coord, Disk, Effect, Say, Send, Do, Work, Look, PutInc, Prepare, Commit, Abort, PutIntent, RemoveIntent, Stop, Before}
 use Words.{After, InPart, Intent, Served, Prep, Ready, Already, Old, InDoubt, held_at, holder_of, is_prepared, prepare_answer, in_part}
 use Words.{stopped, worked, acked, tick_outs, Named, Naming, Parts, Handled, Void, Took, ack_told, by_reply, coord_heard, end_states}
 use Words.{handle, handle_answer, handle_ask, handle_ends, handle_other, holders, if_naming, is_earlier, load_by, load_held, naming_told}
 use Words.{prepare_by, prepared_actions, query_about, sends_answer, serve, store_told, with_coord, with_naming, with_server, uid_set}
-use Words.{without_number, Node, first_disk, first_node, hello_to, naming_at, naming_back, numbers_to, parts_in, recovered_records}
-use Words.{restart_outs, tolds_again, format, activate_own, bind_own, confirm_own, ends_own, invoke_own, note_own, told_own, vote_own, Seen}
-use Words.{see}
+use Words.{without_number, Node, hello_to, naming_at, naming_back, numbers_to, parts_in, recovered_records}
+use Words.{restart_outs, tolds_again, activate_own, bind_own, confirm_own, ends_own, invoke_own, note_own, told_own, vote_own, Seen}
 use Words.ask
 use Words.body
 use Words.ending
@@ -21,11 +21,12 @@ use Words.role
 use Words.naming
 use Words.server
 use Rattle.arj_law_disk_view.proofs.Terms
-use Terms.{Action, some_is, at, down, up, said, posted, Walks, Up, halted, AreSorted, AreRecorded, HaveRecords, IsRooted, LeavesRecords}
+use Terms.{IsAtStarts, first_at, live_first, Action, at, down, up, said, posted, Walks, Up, halted, AreSorted, AreRecorded, HaveRecords}
+use Terms.{IsRooted, LeavesRecords}
 use Rattle.arj_law_disk_view.proofs.running
 use running.Plain.{Plain, leaves_behind, plain_again, plain_both, plain_naming, plain_query, plain_server}
 use running.Telling.{Keeps, again_plain, again_telling, same_kept}
-use Rattle.arj_law_disk_view.proofs.view.{FirstSeen.first_at, Frames.node_here}
+use Rattle.arj_law_disk_view.proofs.view.Frames.{node_here}
 use Rattle.arj_law_disk_view.specs.running.Records.{AreRooted, IsRecorded, WritesRooted, recorded}
 use Rattle.arj_law_disk_view.proofs.view.Keys as keys
 
@@ -345,13 +346,12 @@ module _ (acts : List Action) where
       (leaves_behind acts d.intents (restart_outs hd k (d.inc + 1) d) [] d.intents (restart_plain hd k d)
       (record { told = λ u j is. (j, is); again = λ u j is. (j, is); awaited = r.listed })))
 
-first_recorded : (hd : Header) (k : ℕ) → IsRecorded [] (first_node hd k)
-first_recorded hd k = record {
+first_recorded : (hd : Header) (st : Start) (k : ℕ) → IsRecorded [] (node_by hd st k)
+first_recorded hd st k = record {
   disk = record { sorted = tt; each = λ u i is. absurd (cc is); listed = λ u i is. absurd (cc is) };
-  live = λ t is. let same : parts_in k 1 (first_disk hd k) ≡ t = some_is refl is in
-      subst (λ (q : Parts). HaveRecords [] q.coord.telling × AreSorted q.coord.telling) same
+  live = λ t is. subst (λ (q : Parts). HaveRecords [] q.coord.telling × AreSorted q.coord.telling) (live_first hd st k t is)
       (record { told = λ u j at. absurd (cc at); again = λ u j at. absurd (cc at); awaited = λ u j at. absurd (cc at) }, tt);
 }
 
-pub format_recorded : (hd : Header) → AreRecorded [] (see [] (format hd))
-format_recorded hd k n is = subst (IsRecorded []) (first_at hd k n is) (first_recorded hd k)
+pub starts_are_recorded : (hd : Header) → IsAtStarts hd (AreRecorded [])
+starts_are_recorded hd st formed k n is = subst (IsRecorded []) (first_at hd st k n is) (first_recorded hd st k)

@@ -39,7 +39,7 @@ module _ (P : Seen → Type 0) where
         (with_coord t (again_all t.coord.doings t.coord).part) d M (λ s. kept.tick e k d t M (g, s) (p s));
     restart = λ e k d M g p.
         while_walk e k (restart_outs hd k (d.inc + 1) d) (parts_in k (d.inc + 1) d) d M (λ s. kept.restart e k d M (g, s) (p s));
-    first = λ s. kept.first;
+    first = λ st formed s. kept.first st formed;
   }
     where
       fewer : (a b : ℕ) → b ≡ suc a → b ≤ most_labels → a ≤ most_labels

@@ -1,19 +1,24 @@
--- A formatted world, seen as the disk machine has an object at first.
+-- The world as a run begins, seen as the disk machine has an object at first.
 use Rattle.arj_law_parts.proofs.Words
-use Words.{◌≡◌, ◌⊎◌, ℕ, zero, suc, ◌+◌, List, [], ◌∷◌, ◌++◌, Bool, true, false, cond, Option, Some, None, refl, sym, ◌∙◌, ap, subst, inl}
-use Words.{inr, ⊎_elim, arith, slice_get, map, filter, length, length-append, if◌then◌else◌, option_map, uid_cases, Uid, Header, ObjectLine}
-use Words.{ObjectState, object, entry, nobody, Doing, doing_of, new_coord, held_at, Naming, recovered_naming, Parts, at_uid, put_uid}
-use Words.{uid_number, Node, first_disk, first_entry, first_node, first_state, numbers_to, parts_in, put_states, Branch, at_place}
-use Words.{branch_of, is_own, format, entry_back, see}
+use Words.{◌≡◌, ◌⊎◌, ◌<◌, ℕ, zero, suc, ◌+◌, ◌==◌, List, [], ◌∷◌, ◌++◌, Bool, true, false, cond, Option, Some, None, refl, sym, ◌∙◌, ap}
+use Words.{subst, inl, inr, ⊎_elim, eqb-true, map, filter, if◌then◌else◌, option_map, AllByRecursion, uid_cases, uid_eq, uid_is, uid_same}
+use Words.{in_from, Uid}
+use Words.{Header, ObjectLine, ObjectState, object, entry, Doing, doing_of, new_coord, held_at, Naming, recovered_naming, Parts, at_uid}
+use Words.{put_uid, uid_number, number_tells, Node, node_by, numbers_to, parts_in, put_states, Branch, at_place, branch_of, is_own}
+use Words.{entry_back}
+use Words.{Start, IsFormed, world_from, see}
+use Words.list
 use Words.order
 use Rattle.arj_law_disk_view.proofs.Terms
-use Terms.{World, State, Packed, Plan, never, some_is, SeesRecords, SeesEntry, HasObject, Among, packed, packed_entry, IsAlong, Kinds}
-use Terms.{SeesDisks, SeesCoord, SeesNotes, SeesConfirmed, SeesStore}
+use Terms.{World, State, Packed, Plan, In, never, some_is, SeesRecords, SeesEntry, HasObject, Among, packed, packed_entry, IsAlong, Kinds}
+use Terms.{SeesDisks, SeesCoord, SeesNotes, SeesConfirmed, SeesStore, first_at, first_up, disk_by, entry_by, older_at, state_by}
+use Terms.{states_from}
 use Terms.disk
-use Rattle.arj_law_disk.proofs.machine.{History.nothing_past, Results.first_is_whole}
-use Rattle.arj_law_disk.specs.machine.Laws.{IsFirst}
+use Rattle.arj_law_disk.proofs.machine.Results.{first_is_whole}
+use Rattle.arj_law_disk.specs.machine.{Laws.IsFirst, State.IsPast}
 use Rattle.arj_law_disk_view.proofs.view.Planned.{has_same}
 use Rattle.arj_law_disk_view.specs.view.Formats.{IsLine}
+use Rattle.arj_promise.specs.Starts.{AreOne, IsOlder}
 use Rattle.arj_law_disk_view.proofs.view.Keys as keys
 
 -- ---- states that are put in their places
@@ -85,51 +90,101 @@ line_stays g (p ∷ ps) o is on = by (g p) refl is (λ more. line_stays g ps o m
     by false e (inl same) ih = absurd (never (ap g same ∙ on) e)
     by false e (inr more) ih = ih more
 
--- ---- the nodes
+-- ---- where states come from
 
-got_map : {A B : Type 0} (f : A → B) (xs : List A) (k : ℕ) (b : B) → slice_get (map f xs) k ≡ Some b →
-    (a : A) × (slice_get xs k ≡ Some a) × (f a ≡ b)
-got_map {A} {B} f [] k b is = let no_way : ◌≡◌ {A = Option B} None (Some b) = is in cc
-got_map {A} {B} f (x ∷ xs) zero b is = (x, refl, (let s : ◌≡◌ {A = Option B} (Some (f x)) (Some b) = is in cc))
-got_map f (x ∷ xs) (suc k) b is = got_map f xs k b is
+-- what is held after states are put is one of them, or was held before
+puts_from : (ss : List ObjectState) (m : List (Uid × ObjectState)) (u : Uid) (s : ObjectState) → at_uid u (put_states ss m) ≡ Some s →
+    Among s ss ⊎ (at_uid u m ≡ Some s)
+puts_from [] m u s is = inr is
+puts_from (t ∷ ts) m u s is = ⊎_elim (λ among. inl (inr among))
+    (λ put. ⊎_elim (λ here. inl (inl here.1)) (λ other. inr other.1) (keys.put_cases u t.uid t s m put))
+    (puts_from ts (put_uid t.uid t m) u s is)
 
-got_behind : (xs : List ℕ) (a : ℕ) (k j : ℕ) → slice_get (xs ++ a ∷ []) k ≡ Some j → (slice_get xs k ≡ Some j) ⊎ ((k ≡ length xs) × (a ≡ j))
-got_behind [] a zero j is = inr (refl, some_is refl is)
-got_behind [] a (suc k) j is = absurd (cc is)
-got_behind (x ∷ xs) a zero j is = inl is
-got_behind (x ∷ xs) a (suc k) j is = ⊎_elim (λ old. inl old) (λ new. inr (ap suc new.0, new.1)) (got_behind xs a k j is)
+-- a state is of the first list or of the second
+among_both : (ss ts : List ObjectState) (s : ObjectState) → Among s (ss ++ ts) → Among s ss ⊎ Among s ts
+among_both [] ts s among = inr among
+among_both (r ∷ rs) ts s (inl same) = inl (inl same)
+among_both (r ∷ rs) ts s (inr more) = ⊎_elim (λ a. inl (inr a)) (λ b. inr b) (among_both rs ts s more)
 
-as_many : (n : ℕ) → length (numbers_to n) ≡ n
-as_many zero = refl
-as_many (suc n) = length-append (numbers_to n) (suc n ∷ []) ∙ (λ i. as_many n i + 1) ∙ next n
+among_right : (ss ts : List ObjectState) (s : ObjectState) → Among s ts → Among s (ss ++ ts)
+among_right [] ts s among = among
+among_right (r ∷ rs) ts s among = inr (among_right rs ts s among)
+
+-- an older state at a store stands in the list of all
+older_among : (n : ℕ) (ss : List (ℕ × ObjectState)) (s : ObjectState) → Among s (older_at n ss) → In (n, s) ss
+older_among n [] s among = absurd among
+older_among n (p ∷ ps) s among = by (p.0 == n) refl among (older_among n ps s)
   where
-    next : (n : ℕ) → n + 1 ≡ suc n
-    next n = omega arith
+    by : (b : Bool) → (p.0 == n) ≡ b → Among s (if b then p.1 ∷ older_at n ps else older_at n ps) →
+        (Among s (older_at n ps) → In (n, s) ps) → In (n, s) (p ∷ ps)
+    by true e (inl same) ih = inl (λ i. (eqb-true p.0 n e i, same i))
+    by true e (inr more) ih = inr (ih more)
+    by false e more ih = inr (ih more)
 
-number_at : (n k j : ℕ) → slice_get (numbers_to n) k ≡ Some j → j ≡ suc k
-number_at zero k j is = absurd (cc is)
-number_at (suc n) k j is =
-    ⊎_elim (λ old. number_at n k j old) (λ new. sym new.1 ∙ ap suc (sym (new.0 ∙ as_many n))) (got_behind (numbers_to n) (suc n) k j is)
+all_stand : {X : Type 0} (P : X → Type 0) (xs : List X) → AllByRecursion P xs → (x : X) → In x xs → P x
+all_stand P [] all x i = absurd i
+all_stand P (y ∷ ys) all x (inl same) = subst P same all.0
+all_stand P (y ∷ ys) all x (inr more) = all_stand P ys all.1 x more
 
-pub first_at : (hd : Header) (k : ℕ) (n : Node) → at_place k (map (first_node hd) (numbers_to hd.nodes)) ≡ Some n → first_node hd k ≡ n
-first_at hd zero n is = let no_way : ◌≡◌ {A = Option Node} None (Some n) = is in cc
-first_at hd (suc k) n is = let q = got_map (first_node hd) (numbers_to hd.nodes) k n is in
-    ap (first_node hd) (sym (number_at hd.nodes k q.0 q.1)) ∙ q.2
+as_line : (o : ObjectLine) (os : List ObjectLine) → list.In o os → IsLine o os
+as_line o [] i = absurd i
+as_line o (p ∷ ps) (inl same) = inl same
+as_line o (p ∷ ps) (inr more) = inr (as_line o ps more)
+
+-- the older states of object x, as the machine has them
+abbrev pub past_of : ℕ → List (ℕ × ObjectState) → List Packed
+past_of x [] = []
+past_of x (p ∷ ps) = if uid_eq p.1.uid (object x) then packed p.1 ∷ past_of x ps else past_of x ps
+
+-- each is one of them
+pub past_from : (x : ℕ) (ps : List (ℕ × ObjectState)) (g : Packed) → In g (past_of x ps) →
+    (p : ℕ × ObjectState) × In p ps × (p.1.uid ≡ object x) × (packed p.1 ≡ g)
+past_from x [] g i = absurd i
+past_from x (p ∷ ps) g i = by (uid_eq p.1.uid (object x)) refl i (λ more. let r = past_from x ps g more in (r.0, inr r.1, r.2, r.3))
+  where
+    by : (b : Bool) → uid_eq p.1.uid (object x) ≡ b → In g (if b then packed p.1 ∷ past_of x ps else past_of x ps) →
+        (In g (past_of x ps) → (q : ℕ × ObjectState) × In q (p ∷ ps) × (q.1.uid ≡ object x) × (packed q.1 ≡ g)) →
+        (q : ℕ × ObjectState) × In q (p ∷ ps) × (q.1.uid ≡ object x) × (packed q.1 ≡ g)
+    by true e (inl same) ih = (p, inl refl, uid_is p.1.uid (object x) e, same)
+    by true e (inr more) ih = ih more
+    by false e more ih = ih more
+
+past_in : (x : ℕ) (ps : List (ℕ × ObjectState)) (p : ℕ × ObjectState) → In p ps → p.1.uid ≡ object x → In (packed p.1) (past_of x ps)
+past_in x [] p i of = absurd i
+past_in x (q ∷ qs) p i of = by (uid_eq q.1.uid (object x)) refl i (λ more. past_in x qs p more of)
+  where
+    by : (b : Bool) → uid_eq q.1.uid (object x) ≡ b → In p (q ∷ qs) → (In p qs → In (packed p.1) (past_of x qs)) →
+        In (packed p.1) (if b then packed q.1 ∷ past_of x qs else past_of x qs)
+    by true e (inl same) ih = inl (ap (λ (r : ℕ × ObjectState). packed r.1) same)
+    by true e (inr more) ih = inr (ih more)
+    by false e (inl same) ih = absurd (never (ap (λ (r : ℕ × ObjectState). uid_eq r.1.uid (object x)) same
+        ∙ ap (λ w. uid_eq w (object x)) of ∙ uid_same (object x)) e)
+    by false e (inr more) ih = ih more
 
 -- ---- the object
 
-module _ (hd : Header) (x : ℕ) (tops : Kinds) (has_it : HasObject hd x) where
+module _ (hd : Header) (st : Start) (formed : IsFormed hd st) (x : ℕ) (tops : Kinds) (has_it : HasObject hd x) where
   abbrev line : ObjectLine
   line = has_it.line
 
+  -- the state and the entry of a line, by its marks
+  abbrev state_of : ObjectLine → ObjectState
+  state_of o = state_by (st.marks.states o.x) o
+
+  abbrev entry_of : ObjectLine → ObjectState
+  entry_of o = entry_by (st.marks.entries o.x) o
+
+  abbrev first_entry : Packed
+  first_entry = let m = st.marks.entries line.x in record { version = m.version; writer = uid_number m.writer; content = line.stores }
+
   abbrev no_plan : Plan
-  no_plan = record { writes = None; list = []; joins = []; loaded = packed (first_state has_it.line) }
+  no_plan = record { writes = None; list = []; joins = []; loaded = packed (state_of line) }
 
   abbrev pub S : State
   S = record {
-    first = packed (first_state has_it.line);
-    past = [];
-    first_entry = record { version = 0; writer = uid_number nobody; content = line.stores };
+    first = packed (state_of line);
+    past = past_of x st.older;
+    first_entry = first_entry;
     root = tops.root;
     serial = tops.is_serial;
     stage = λ t. disk.Idle;
@@ -139,14 +194,101 @@ module _ (hd : Header) (x : ℕ) (tops : Kinds) (has_it : HasObject hd x) where
     intent = λ t. None;
     bare = λ t. false;
     tops = [];
-    held = λ s. if order.has line.stores s then Some (packed (first_state has_it.line)) else None;
+    held = λ s. option_map packed (held_at (object x) (disk_by hd st s).store);
     pend = λ s. None;
     went = λ t s. false;
-    entry = record { version = 0; writer = uid_number nobody; content = line.stores };
+    entry = first_entry;
     entry_pend = None;
     conf = λ t. false;
     light = λ t. false;
   }
+
+  -- ---- older states
+
+  pub older_is : (p : ℕ × ObjectState) → In p st.older → IsOlder hd st p
+  older_is p i = all_stand (IsOlder hd st) st.older formed.older p i
+
+  -- of the object they are of its line
+  older_line : (p : ℕ × ObjectState) (o : IsOlder hd st p) → p.1.uid ≡ object x → o.line ≡ line
+  older_line p o of = has_it.once o.line (as_line o.line hd.objects (in_from o.line hd.objects o.there))
+      (ap (λ (u : Uid). u.num) (sym o.of ∙ of))
+
+  are_one : (p q : ℕ × ObjectState) → In p st.older → In q st.older → AreOne p.1 q.1
+  are_one p q i j = all_stand (λ (b : ℕ × ObjectState). AreOne p.1 b.1) st.older
+      (all_stand (λ (a : ℕ × ObjectState). AllByRecursion (λ (b : ℕ × ObjectState). AreOne a.1 b.1) st.older) st.older formed.one p i) q j
+
+  past_is : IsPast S.first S.past
+  past_is = record {
+    below = λ g i. let p = past_from x st.older g i in let o = older_is p.0 p.1 in
+        subst (λ (z : Packed). z.version < S.first.version) p.3 (subst (λ (l : ObjectLine). p.0.1.version < (state_of l).version)
+        (older_line p.0 o p.2) o.below);
+    version = λ g h i j same. let p = past_from x st.older g i in let q = past_from x st.older h j in
+        sym p.3 ∙ ap packed ((are_one p.0 q.0 p.1 q.1).version (p.2 ∙ sym q.2)
+        (ap (λ (z : Packed). z.version) p.3 ∙ same ∙ ap (λ (z : Packed). z.version) (sym q.3))) ∙ q.3;
+    writer = writers;
+  }
+    where
+      -- none of them is by who wrote the last state
+      other : (g : Packed) → In g S.past → g.writer ≡ S.first.writer → ⊥
+      other g i same = let p = past_from x st.older g i in let o = older_is p.0 p.1 in
+          o.other (number_tells p.0.1.writer (state_of o.line).writer (ap (λ (z : Packed). z.writer) p.3 ∙ same
+          ∙ ap (λ (l : ObjectLine). uid_number (state_of l).writer) (sym (older_line p.0 o p.2))))
+
+      writers : (g h : Packed) → In g (S.first ∷ S.past) → In h (S.first ∷ S.past) → g.writer ≡ h.writer → g ≡ h
+      writers g h (inl a) (inl b) same = sym a ∙ b
+      writers g h (inl a) (inr j) same = absurd (other h j (sym same ∙ ap (λ (z : Packed). z.writer) (sym a)))
+      writers g h (inr i) (inl b) same = absurd (other g i (same ∙ ap (λ (z : Packed). z.writer) (sym b)))
+      writers g h (inr i) (inr j) same = let p = past_from x st.older g i in let q = past_from x st.older h j in
+          sym p.3 ∙ ap packed ((are_one p.0 q.0 p.1 q.1).writer (p.2 ∙ sym q.2) (number_tells p.0.1.writer q.0.1.writer
+          (ap (λ (z : Packed). z.writer) p.3 ∙ same ∙ ap (λ (z : Packed). z.writer) (sym q.3)))) ∙ q.3
+
+  -- ---- what stores hold
+
+  abbrev listed_at : ℕ → List ObjectLine
+  listed_at s = filter (λ (o : ObjectLine). order.has o.stores s) hd.objects
+
+  num_of : (o : ObjectLine) → (state_of o).uid ≡ object x → o.x ≡ x
+  num_of o same = ap (λ (u : Uid). u.num) same
+
+  -- a state of the object at a store is the last one, where the store is listed, or an older one
+  from_store : (s : ℕ) (q : ObjectState) → Among q (states_from s hd st) → q.uid ≡ object x →
+      (In (s, q) st.older) ⊎ ((q ≡ state_of line) × (order.has line.stores s ≡ true))
+  from_store s q among of = ⊎_elim (λ old. inl (older_among s st.older q old)) (λ new. inr (is_last new))
+      (among_both (older_at s st.older) (map state_of (listed_at s)) q among)
+    where
+      is_last : Among q (map state_of (listed_at s)) → (q ≡ state_of line) × (order.has line.stores s ≡ true)
+      is_last new =
+          let f = from_lines state_of (listed_at s) q new in
+          let l = line_left (λ (o : ObjectLine). order.has o.stores s) hd.objects f.0 f.1 in
+          let same : f.0 ≡ line = has_it.once f.0 l.0 (num_of f.0 (ap (λ (r : ObjectState). r.uid) f.2 ∙ of)) in
+          (sym f.2 ∙ ap state_of same, ap (λ (o : ObjectLine). order.has o.stores s) (sym same) ∙ l.1)
+
+  -- a listed store holds the last one
+  held_listed : (s : ℕ) → order.has line.stores s ≡ true → held_at (object x) (disk_by hd st s).store ≡ Some (state_of line)
+  held_listed s on = puts_one (object x) (state_of line) (states_from s hd st) [] (ap object has_it.is)
+      (λ q among of. ⊎_elim (λ old. absurd (unlisted q old of)) (λ new. new.0) (from_store s q among of))
+      (inl (among_right (older_at s st.older) (map state_of (listed_at s)) (state_of line) (to_states state_of (listed_at s) line
+      (line_stays (λ (o : ObjectLine). order.has o.stores s) hd.objects line has_it.there on))))
+    where
+      unlisted : (q : ObjectState) → In (s, q) st.older → q.uid ≡ object x → ⊥
+      unlisted q i of = let o = older_is (s, q) i in
+          never on (ap (λ (l : ObjectLine). order.has l.stores s) (sym (older_line (s, q) o of)) ∙ o.unlisted)
+
+  -- and any store this one, or an older one
+  held_known : (s : ℕ) (g : Packed) → option_map packed (held_at (object x) (disk_by hd st s).store) ≡ Some g → In g (S.first ∷ S.past)
+  held_known s g is = by (held_at (object x) (disk_by hd st s).store) refl is
+    where
+      by : (o : Option ObjectState) → held_at (object x) (disk_by hd st s).store ≡ o → option_map packed o ≡ Some g →
+          In g (S.first ∷ S.past)
+      by None h e = absurd (cc e)
+      by (Some q) h e =
+          let of : q.uid ≡ object x = puts_keyed (states_from s hd st) [] none_keyed (object x) q h in
+          let g_is : packed q ≡ g = some_is refl e in
+          ⊎_elim (λ among. ⊎_elim
+          (λ old. inr (subst (λ (z : Packed). In z S.past) g_is (past_in x st.older (s, q) old of)))
+          (λ (new : (q ≡ state_of line) × (order.has line.stores s ≡ true)). inl (ap packed (sym new.0) ∙ g_is))
+          (from_store s q among of)) (λ (old : at_uid (object x) [] ≡ Some q). absurd (cc old))
+          (puts_from (states_from s hd st) [] (object x) q h)
 
   pub first_is : IsFirst S
   first_is = record {
@@ -163,88 +305,59 @@ module _ (hd : Header) (x : ℕ) (tops : Kinds) (has_it : HasObject hd x) where
     none_light = λ t. refl;
     entry = refl;
     stores = (has_it.stored.0, has_same has_it.stored.0 line.stores ∙ has_it.stored.1);
-    held = λ s on. ap (λ b. if b then Some (packed (first_state has_it.line)) else None) (sym (has_same s line.stores) ∙ on);
-    no_other = λ s g is. inl (other (order.has line.stores s) g is);
-    past = nothing_past (packed (first_state has_it.line));
+    held = λ s on. ap (option_map packed) (held_listed s (sym (has_same s line.stores) ∙ on));
+    no_other = held_known;
+    past = past_is;
   }
-    where
-      other : (b : Bool) (g : Packed) → (if b then Some (packed (first_state has_it.line)) else None) ≡ Some g →
-          packed (first_state has_it.line) ≡ g
-      other true g is = some_is refl is
-      other false g is = absurd (cc is)
 
   abbrev pub W : World
   W = record { disk = S; sent = [] }
 
   -- ---- the pairs
 
-  state_of : (o : ObjectLine) → (first_state o).uid ≡ object x → o.x ≡ x
-  state_of o same = ap (λ (u : Uid). u.num) same
-
-  held_store : (s : ℕ) → option_map packed (held_at (object x) (first_disk hd s).store)
-      ≡ (if order.has line.stores s then Some (packed (first_state has_it.line)) else None)
-  held_store s = by (order.has line.stores s) refl
-    where
-      one_only : (q : ObjectState) → Among q (map first_state (filter (λ (o : ObjectLine). order.has o.stores s) hd.objects)) →
-          q.uid ≡ object x → (q ≡ first_state has_it.line) × (order.has line.stores s ≡ true)
-      one_only q among of =
-          let f = from_lines first_state (filter (λ (o : ObjectLine). order.has o.stores s) hd.objects) q among in
-          let l = line_left (λ (o : ObjectLine). order.has o.stores s) hd.objects f.0 f.1 in
-          let same : f.0 ≡ has_it.line = has_it.once f.0 l.0 (state_of f.0 (ap (λ (r : ObjectState). r.uid) f.2 ∙ of)) in
-          (sym f.2 ∙ ap first_state same, ap (λ (o : ObjectLine). order.has o.stores s) (sym same) ∙ l.1)
-
-      by : (b : Bool) → order.has line.stores s ≡ b → option_map packed (at_uid (object x) (put_states (map first_state (filter
-          (λ (o : ObjectLine). order.has o.stores s) hd.objects)) [])) ≡ (if b then Some (packed (first_state has_it.line)) else None)
-      by true on = ap (option_map packed) (puts_one (object x) (first_state has_it.line) (map first_state
-          (filter (λ (o : ObjectLine). order.has o.stores s) hd.objects)) [] (ap object has_it.is) (λ q among of. (one_only q among of).0)
-          (inl (to_states first_state (filter (λ (o : ObjectLine). order.has o.stores s) hd.objects) has_it.line
-          (line_stays (λ (o : ObjectLine). order.has o.stores s) hd.objects has_it.line has_it.there on))))
-      by false off = ap (option_map packed) (puts_none (object x) (map first_state
-          (filter (λ (o : ObjectLine). order.has o.stores s) hd.objects)) [] (λ q among of. never (one_only q among of).1 off))
-
-  store_seen : (s : ℕ) → SeesStore x s (first_disk hd s).store S
+  store_seen : (s : ℕ) → SeesStore x s (disk_by hd st s).store S
   store_seen s = record {
     pair = record {
       sorted = tt;
-      keyed = puts_keyed (map first_state (filter (λ (o : ObjectLine). order.has o.stores s) hd.objects)) [] none_keyed;
-      held_is = held_store s;
+      keyed = puts_keyed (states_from s hd st) [] none_keyed;
+      held_is = refl;
       holder = λ h is. absurd (cc is);
-      held_by = λ a ss st there of. absurd (cc there);
+      held_by = λ a ss states there of. absurd (cc there);
     };
     planned = λ a ss there. absurd (cc there);
   }
 
-  entry_is : packed_entry (first_entry has_it.line) ≡ record { version = 0; writer = uid_number nobody; content = line.stores }
+  entry_is : packed_entry (entry_of line) ≡ first_entry
   entry_is = λ i. record {
-    version = 0;
-    writer = uid_number nobody;
+    version = (let m = st.marks.entries line.x in m.version);
+    writer = uid_number (let m = st.marks.entries line.x in m.writer);
     content = (entry_back (record { servers = line.servers; stores = line.stores }) i).stores;
   }
 
-  held_entry : held_at (entry x) (first_disk hd 1).names ≡ Some (first_entry has_it.line)
-  held_entry = puts_one (entry x) (first_entry has_it.line) (map first_entry hd.objects) [] (ap entry has_it.is)
-      (λ q among of. let f = from_lines first_entry hd.objects q among in
-      sym f.2 ∙ ap first_entry (has_it.once f.0 f.1 (ap (λ (u : Uid). u.num) (ap (λ (r : ObjectState). r.uid) f.2 ∙ of))))
-      (inl (to_states first_entry hd.objects has_it.line has_it.there))
+  held_entry : held_at (entry x) (disk_by hd st 1).names ≡ Some (entry_of line)
+  held_entry = puts_one (entry x) (entry_of line) (map entry_of hd.objects) [] (ap entry has_it.is)
+      (λ q among of. let f = from_lines entry_of hd.objects q among in
+      sym f.2 ∙ ap entry_of (has_it.once f.0 f.1 (ap (λ (u : Uid). u.num) (ap (λ (r : ObjectState). r.uid) f.2 ∙ of))))
+      (inl (to_states entry_of hd.objects line has_it.there))
 
-  pub entry_seen : SeesEntry x (first_disk hd 1).names S
+  pub entry_seen : SeesEntry x (disk_by hd st 1).names S
   entry_seen = record {
     pair = record {
       sorted = tt;
-      keyed = puts_keyed (map first_entry hd.objects) [] none_keyed;
+      keyed = puts_keyed (map entry_of hd.objects) [] none_keyed;
       held_is = ap (option_map packed_entry) held_entry ∙ (λ i. Some (entry_is i));
       holder = λ h is. absurd (cc is);
-      held_by = λ a ss st there of. absurd (cc there);
+      held_by = λ a ss states there of. absurd (cc there);
     };
     begun = λ a ss there. absurd (cc there);
     taken = λ a ss there. absurd (cc there);
-    aimed = λ a ss st there of. absurd (cc there);
+    aimed = λ a ss states there of. absurd (cc there);
   }
 
   -- ---- the coordinators
 
-  no_branch : (k : ℕ) (w : Uid) (b : Branch) → branch_of w (new_coord k 1).tree ≡ Some b → ⊥
-  no_branch k w b is = by (is_own w (new_coord k 1).tree) is
+  no_branch : (k inc : ℕ) (w : Uid) (b : Branch) → branch_of w (new_coord k inc).tree ≡ Some b → ⊥
+  no_branch k inc w b is = by (is_own w (new_coord k inc).tree) is
     where
       none : (n : ℕ) → ◌≡◌ {A = Option Branch} (at_place n []) (Some b) → ⊥
       none zero h = cc h
@@ -254,8 +367,8 @@ module _ (hd : Header) (x : ℕ) (tops : Kinds) (has_it : HasObject hd x) where
       by true h = none w.num h
       by false h = cc h
 
-  no_doing : (k : ℕ) (w : Uid) (q : Doing) → doing_of w (new_coord k 1) ≡ Some q → ⊥
-  no_doing k w q is = by (is_own w (new_coord k 1).tree) is
+  no_doing : (k inc : ℕ) (w : Uid) (q : Doing) → doing_of w (new_coord k inc) ≡ Some q → ⊥
+  no_doing k inc w q is = by (is_own w (new_coord k inc).tree) is
     where
       none : (n : ℕ) → ◌≡◌ {A = Option Doing} (at_place n []) (Some q) → ⊥
       none zero h = cc h
@@ -265,56 +378,57 @@ module _ (hd : Header) (x : ℕ) (tops : Kinds) (has_it : HasObject hd x) where
       by true h = none w.num h
       by false h = cc h
 
-  coord_seen : (k : ℕ) → SeesCoord x k 1 tops (let p = parts_in k 1 (first_disk hd k) in p.coord) S
+  abbrev inc_of : ℕ → ℕ
+  inc_of k = st.incs k + 1
+
+  abbrev parts_of : ℕ → Parts
+  parts_of k = parts_in k (inc_of k) (disk_by hd st k)
+
+  coord_seen : (k : ℕ) → SeesCoord x k (inc_of k) tops (let p = parts_of k in p.coord) S
   coord_seen k = record {
     node = refl;
     present = refl;
-    working = λ w b q found unended does. absurd (no_branch k w b found);
+    working = λ w b q found unended does. absurd (no_branch k (inc_of k) w b found);
     closed = λ w at ended began. absurd (cc began);
     future = λ w at above. refl;
-    bare = λ w b q found does is. absurd (no_branch k w b found);
+    bare = λ w b q found does is. absurd (no_branch k (inc_of k) w b found);
   }
 
-  notes_seen : (k : ℕ) → SeesNotes x [] (let p = parts_in k 1 (first_disk hd k) in p.coord) W
+  notes_seen : (k : ℕ) → SeesNotes x [] (let p = parts_of k in p.coord) W
   notes_seen k = record {
     settled = λ u i is. absurd (cc is);
-    taken = λ u q n does on. absurd (no_doing k u q does);
+    taken = λ u q n does on. absurd (no_doing k (inc_of k) u q does);
     roots = tt;
-    plans = λ u q does. absurd (no_doing k u q does);
+    plans = λ u q does. absurd (no_doing k (inc_of k) u q does);
   }
 
   records_seen : (k : ℕ) → SeesRecords k [] S
   records_seen k = record { sorted = tt; own = λ u i is. absurd (cc is); is = λ u at. refl }
 
-  confirmed_seen : (o : Naming) → recovered_naming 1 (first_disk hd 1).names ≡ o → SeesConfirmed o S
-  confirmed_seen o same = subst (λ (z : Naming). SeesConfirmed z S) same (λ a on. absurd (cc on))
+  confirmed_seen : (inc : ℕ) (o : Naming) → recovered_naming inc (disk_by hd st 1).names ≡ o → SeesConfirmed o S
+  confirmed_seen inc o same = subst (λ (z : Naming). SeesConfirmed z S) same (λ a on. absurd (cc on))
 
-  -- what holds of each first node
-  each : (Q : ℕ → Node → Type 0) → ((k : ℕ) → Q k (first_node hd k)) → (k : ℕ) (n : Node) →
-      at_place k (map (first_node hd) (numbers_to hd.nodes)) ≡ Some n → Q k n
-  each Q first k n is = subst (Q k) (first_at hd k n is) (first k)
+  -- what holds of each node as the run begins
+  each : (Q : ℕ → Node → Type 0) → ((k : ℕ) → Q k (node_by hd st k)) → (k : ℕ) (n : Node) →
+      at_place k (map (node_by hd st) (numbers_to hd.nodes)) ≡ Some n → Q k n
+  each Q first k n is = subst (Q k) (first_at hd st k n is) (first k)
 
-  pub format_seen : tops.walk ≡ None → SeesDisks x tops W (see [] (format hd))
-  format_seen unwalked = record {
+  pub start_seen : tops.walk ≡ None → SeesDisks x tops W (see [] (world_from hd st))
+  start_seen unwalked = record {
     whole = first_is_whole S first_is;
     along = subst (λ o. IsAlong o W) (sym unwalked) tt;
     fixed = record { root = refl; serial = refl };
     kinds = λ t began. absurd (cc began);
     stores = each (λ s n. SeesStore x s n.disk.store S) store_seen;
     entry = λ n is. each (λ k n. k ≡ 1 →
-        SeesEntry x n.disk.names S) (λ k one. subst (λ j. SeesEntry x (first_disk hd j).names S) (sym one) entry_seen) 1 n is refl;
+        SeesEntry x n.disk.names S) (λ k one. subst (λ j. SeesEntry x (disk_by hd st j).names S) (sym one) entry_seen) 1 n is refl;
     records = each (λ k n. SeesRecords k n.disk.intents S) records_seen;
-    coords = λ k n p is live. each (λ k n. (p : Parts) → n.live ≡ Some p →
-        SeesCoord x k n.disk.inc tops p.coord S) (λ k p live. let same : parts_in k 1 (first_disk hd k) ≡ p = some_is refl live in
-        subst (λ (q : Parts). SeesCoord x k 1 tops q.coord S) same (coord_seen k)) k n is p live;
-    notes = λ k n p is live. each (λ k n. (p : Parts) → n.live ≡ Some p →
-        SeesNotes x n.disk.intents p.coord W) (λ k p live. let same : parts_in k 1 (first_disk hd k) ≡ p = some_is refl live in
-        subst (λ (q : Parts). SeesNotes x [] q.coord W) same (notes_seen k)) k n is p live;
-    downs = λ k n is live. absurd (each (λ k n. n.live ≡ None → ⊥) (λ k live. cc live) k n is live);
-    confirmed =
-        λ n p o is live named. each (λ k n. k ≡ 1 → (p : Parts) (o : Naming) → n.live ≡ Some p → p.naming ≡ Some o → SeesConfirmed o S)
-        (λ k one p o live named. let same : parts_in k 1 (first_disk hd k) ≡ p = some_is refl live in
-        confirmed_seen o (some_is refl (subst (λ j. (let q = parts_in j 1 (first_disk hd j) in q.naming) ≡ Some o) one
-        (ap (λ (q : Parts). q.naming) same ∙ named)))) 1 n is refl p o live named;
+    coords = λ k n p is live. subst (λ (m : Node). SeesCoord x k m.disk.inc tops p.coord S) (first_at hd st k n is)
+        (subst (λ (q : Parts). SeesCoord x k (inc_of k) tops q.coord S) (first_up hd st k n p is live) (coord_seen k));
+    notes = λ k n p is live. subst (λ (m : Node). SeesNotes x m.disk.intents p.coord W) (first_at hd st k n is)
+        (subst (λ (q : Parts). SeesNotes x [] q.coord W) (first_up hd st k n p is live) (notes_seen k));
+    downs = λ k n is live. record { closed = λ u home began. absurd (cc began); future = λ u home later. refl };
+    confirmed = λ n p o is live named. confirmed_seen (inc_of 1) o
+        (some_is refl (ap (λ (q : Parts). q.naming) (first_up hd st 1 n p is live) ∙ named));
     posts = λ p i. absurd i;
   }

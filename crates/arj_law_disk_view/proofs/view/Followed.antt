@@ -74,4 +74,5 @@ module _ (tops : Kinds) (o : Option Walk) where
     asked = n.asked;
     elsewhere = n.elsewhere;
     naming_here = n.naming_here;
+    since = n.since;
   }

@@ -1,5 +1,5 @@
 -- The decisions of an object's machine against the journal, and back.
-use Rattle.std.specs.Prelude.{◌≡◌, ◌⊎◌, ◌≤◌, ◌++◌, ℕ, Bool, true, false, List, None, Some, Contains}
+use Rattle.std.specs.Prelude.{◌≡◌, ◌⊎◌, ◌++◌, ℕ, true, false, List, None, Some, Contains}
 use Rattle.arj_model.specs.Actions.{Act, acts}
 use Rattle.arj_protocol.specs.Words.{Line, Uid}
 use Rattle.arj_protocol.specs.Effect.{Intent}

@@ -1,5 +1,5 @@
 -- Both halves of an object's machine in what is seen, of one state: stores, entry and coordinators, and naming's memory.
-use Rattle.std.specs.Prelude.{⊤, ◌≡◌, ◌⊎◌, ◌+◌, ◌==◌, ◌≤◌, ◌||◌, not, ℕ, Bool, true, false, List, [], ◌∷◌, Option, Some, None, is_some}
+use Rattle.std.specs.Prelude.{⊤, ◌≡◌, ◌⊎◌, ◌+◌, ◌≤◌, ◌||◌, not, ℕ, Bool, true, false, List, [], ◌∷◌, Option, Some, None, is_some}
 use Rattle.arj_protocol.specs.Words.{Uid, Binding, Body, BoundReply, End, Head, Header, Label, is_on}
 use Rattle.arj_protocol.specs.Words.ask
 use Rattle.arj_protocol.specs.Words.ending
@@ -12,8 +12,9 @@ use Rattle.arj_protocol.specs.Node.{Parts, Took, handle_hello, handle_told, serv
 use Rattle.arj_protocol.specs.Order.{at_number, uid_number}
 use Rattle.arj_protocol.specs.Says.{AreAll}
 use Rattle.arj_protocol.specs.Coord.{Coord, Root}
-use Rattle.arj_protocol.specs.Step.{Node, first_disk, parts_in, restart_outs}
-use Rattle.arj_protocol.specs.World.{Labelled, format}
+use Rattle.arj_model.specs.Start.{Start}
+use Rattle.arj_protocol.specs.Step.{Node, disk_by, parts_in, restart_outs}
+use Rattle.arj_protocol.specs.World.{Labelled, world_from}
 use Rattle.arj_law_disk.specs.machine.Effects.{World, Allowed, Begin}
 use Rattle.arj_law_disk.specs.machine.Guards.{HasPart, IsNext, IsPresent, Note, MayBegin, only_acks, only_begins, only_decides}
 use Rattle.arj_law_disk.specs.machine.Messages.{ToldSerial}
@@ -24,6 +25,7 @@ use Rattle.arj_law_disk.specs.machine.State.{State, Done, Plan, Idle, is_gone, i
 use Rattle.arj_law_disk.specs.machine.Words.{In}
 use Rattle.arj_law_parts.specs.moves.Seen.{at, down, given, said, up}
 use Rattle.arj_promise.specs.Runs.{Seen, see}
+use Rattle.arj_promise.specs.Starts.{IsFormed}
 use Rattle.arj_law_parts.specs.moves.Walks.{Walks, Up, halted}
 use Rattle.arj_law_disk_view.specs.view.Entries.{SeesEntry}
 use Rattle.arj_law_disk_view.specs.view.Confirming.{IsNewConfirm}
@@ -350,11 +352,11 @@ RestartsKeepBoth = (x : ℕ) (tops : Kinds) (e k : ℕ) (hd : Header) (d : Disk)
     (Up (IsSeenByDisks x (followed tops A.world (only_decides g))) k (parts_in k (d.inc + 1) d)) d M
     → Walks (IsSeenAgain g x tops A) e k (restart_outs hd k (d.inc + 1) d) (Up (IsSeenAgain g x tops A) k (parts_in k (d.inc + 1) d)) d M
 
--- A formatted world, where roots are as actions have them.
-abbrev pub FormatsHaveBoth : Type 0
-FormatsHaveBoth = (hd : Header) (x : ℕ) (tops : Kinds) → tops.walk ≡ None → HasObject hd x → ((r : ℕ) → tops.is_serial r ≡ true → tops.root
+-- The world as a run begins, where roots are as actions have them.
+abbrev pub StartsHaveBoth : Type 0
+StartsHaveBoth = (hd : Header) (x : ℕ) (tops : Kinds) → tops.walk ≡ None → HasObject hd x → ((r : ℕ) → tops.is_serial r ≡ true → tops.root
     r ≡ r) → ((t : ℕ) → tops.is_serial (tops.root t) ≡ false → tops.root t ≡ t) → ((t : ℕ) → tops.root (tops.root t) ≡ tops.root t)
-    → AreEntries (first_disk hd 1).names → (A : Office) × SeesBoth x tops A (see [] (format hd))
+    → (st : Start) → IsFormed hd st → AreEntries (disk_by hd st 1).names → (A : Office) × SeesBoth x tops A (see [] (world_from hd st))
 
 -- ---- what a coordinator has of naming's answers
 

@@ -1,4 +1,4 @@
--- Naming at a restart, and as a format leaves it.
+-- Naming at a restart, and as a run begins.
 use Rattle.std.specs.Prelude.{◌≡◌, ℕ, ◌+◌, Bool, true, false, ◌==◌, List, Contains}
 use Rattle.std.specs.List.{list_any}
 use Rattle.arj_protocol.specs.Words.{Uid, ObjectState, entry}
@@ -30,7 +30,7 @@ RestartsAreActs = (x : ℕ) (tops : Kinds) (inc : ℕ) (d : Pair) (A : Office) �
     → May A (Restart (has_prepared d))
     × SeesNaming x tops (recovered_naming (inc + 1) d) A.world.disk (let B = acted A (Restart (has_prepared d)) in B.names)
 
--- as a format leaves it
+-- as a run begins
 abbrev pub FirstIsSeen : Type 0
 FirstIsSeen = (x : ℕ) (tops : Kinds) (inc : ℕ) (d : Pair) (S : State) (N : Names) → IsFirst S → IsFirstNames N → N.inc ≡ inc →
     N.live ≡ false → SeesEntry x d S → AreEntries d → SeesNaming x tops (recovered_naming inc d) S N

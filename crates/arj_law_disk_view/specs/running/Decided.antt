@@ -1,13 +1,16 @@
 -- What an object's machine decides, by the journal: each top once, whose commit was called.
-use Rattle.std.specs.Prelude.{⊤, ◌≡◌, ◌++◌, ℕ, true, false, List, [], ◌∷◌}
+use Rattle.std.specs.Prelude.{⊤, ◌≡◌, ◌++◌, ◌+◌, ◌<◌, ℕ, true, false, List, [], ◌∷◌}
 use Rattle.arj_base.specs.Rows.{is_on}
 use Rattle.arj_protocol.specs.Words.{Line, Uid}
+use Rattle.arj_model.specs.Start.{Start}
 use Rattle.arj_protocol.specs.Order.{uid_number}
+use Rattle.arj_protocol.specs.World.{most_labels}
 use Rattle.arj_law_disk.specs.machine.Effects.{World}
 use Rattle.arj_law_disk.specs.machine.Names.{Office}
-use Rattle.arj_law_disk.specs.machine.State.{Done, decided, decided_in}
+use Rattle.arj_law_disk.specs.machine.State.{Done, Packed, decided, decided_in}
 use Rattle.arj_law_disk.specs.machine.Words.{In}
 use Rattle.arj_promise.specs.Runs.{Seen}
+use Rattle.arj_promise.specs.Starts.{IsPast}
 use Rattle.arj_law_runs.specs.journal.Book.{book}
 use Rattle.arj_law_disk_view.specs.view.Sees.{Kinds}
 
@@ -32,8 +35,15 @@ pub record NewTops (W V : World) (lines : List Line) : Type 0 where
 abbrev pub most_version : ℕ
 most_version = 18446744073709551615
 
--- Beside the machine's state: the object's versions began with 0; and each top that is decided is so once, and had its commit called.
-pub record SeesDecided (tops : Kinds) (A : Office) (M : Seen) : Type 0 where
-  pub first : A.world.disk.first.version ≡ 0
+-- the number is that of a Uid by which no action of the run begins
+abbrev pub IsPastNumber : Start → ℕ → Type 0
+IsPastNumber st n = (u : Uid) × (n ≡ uid_number u) × IsPast st u
+
+-- Beside the machine's state: the object's mark names who wrote its first state; from its version on there is room for those of a run; who
+-- wrote it, or an older one, had ended before the run; and each top that is decided is so once, and had its commit called.
+pub record SeesDecided (x : ℕ) (tops : Kinds) (A : Office) (M : Seen) : Type 0 where
+  pub writer : A.world.disk.first.writer ≡ uid_number (let m = M.start.marks.states x in m.writer)
+  pub short : A.world.disk.first.version + most_labels < most_version
+  pub past : (g : Packed) → In g (A.world.disk.first ∷ A.world.disk.past) → IsPastNumber M.start g.writer
   pub once : AreOnce (let S = A.world.disk in S.tops)
   pub called : AreCalled M.lines (let S = A.world.disk in S.tops)

@@ -1,7 +1,7 @@
 -- What coordinators have of naming's answers and what messages claim of them, in what is seen and the machine's state: the relation
 -- that is kept beside both halves.
 use Rattle.std.specs.Prelude.{⊤, ◌≡◌, ◌⊎◌, ◌≤◌, ◌<◌, ℕ, Bool, true, false, List, ◌∷◌, Option, None, Some, Contains}
-use Rattle.arj_protocol.specs.Words.{Uid, Ask, Asked, Binding, BoundReply, Head, ObjectState, asks, nobody, object, uids_of}
+use Rattle.arj_protocol.specs.Words.{Uid, Ask, Asked, Binding, BoundReply, Head, ObjectState, asks, object, uids_of}
 use Rattle.arj_protocol.specs.Words.ask
 use Rattle.arj_protocol.specs.Words.bound
 use Rattle.arj_protocol.specs.Words.loaded
@@ -16,7 +16,6 @@ use Rattle.arj_protocol.specs.Step.{Node}
 use Rattle.arj_protocol.specs.Tree.{Branch, Tree, branch_of, is_own, root_of}
 use Rattle.arj_law_disk.specs.machine.Names as machine
 use Rattle.arj_law_disk.specs.machine.Names.{Kept, Names, Office, written_in}
-use Rattle.arj_law_disk.specs.machine.State.{Packed}
 use Rattle.arj_law_disk.specs.machine.Words.{In, has}
 use Rattle.arj_law_parts.specs.moves.Seen as seen
 use Rattle.arj_promise.specs.Runs.{Post, Seen}
@@ -197,11 +196,10 @@ pub record IsAskedFor (sent : List Post) (p : Post) (a : Asked) (r : Reply) : Ty
 
 -- ---- all nodes
 
--- So it is at each coordinator that is up; nobody wrote the object's first state or an older one; of a later incarnation of a node the
--- machine has nothing; each answer was asked for; and requests claim what they say.
+-- So it is at each coordinator that is up; of a later incarnation of a node the machine has nothing; each answer was asked for; and
+-- requests claim what they say.
 pub record SeesHeard (x : ℕ) (tops : Kinds) (A : Office) (M : Seen) : Type 0 where
   pub kinds : KnowsKinds tops
-  pub first : (g : Packed) → In g (A.world.disk.first ∷ A.world.disk.past) → g.writer ≡ uid_number nobody
   pub coords : (k : ℕ) (n : Node) (t : Parts) → M.nodes k ≡ Some n → n.live ≡ Some t → SeesHeardAt x k tops M.sent t.coord A
   pub future : (k : ℕ) (n : Node) (u : Uid) → M.nodes k ≡ Some n → u.node ≡ k → tops.root (uid_number u) ≡ uid_number u →
       (let d = n.disk in d.inc) < u.inc → HasNoneOf tops (uid_number u) A

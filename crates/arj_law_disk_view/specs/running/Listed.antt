@@ -1,5 +1,5 @@
 -- Which stores coordinators ask for the state of an object: those that its entry lists, while the binding for which they ask is current.
-use Rattle.std.specs.Prelude.{◌≡◌, ◌+◌, ◌*◌, ◌≤◌, ◌<◌, ℕ, Bool, true, false, List, ◌∷◌, Option, None, Some}
+use Rattle.std.specs.Prelude.{◌≡◌, ◌+◌, ◌*◌, ◌≤◌, ◌<◌, ℕ, true, false, List, ◌∷◌, Option, None, Some}
 use Rattle.arj_protocol.specs.Words.{Op, Uid, object}
 use Rattle.arj_protocol.specs.Ask.{top_of}
 use Rattle.arj_protocol.specs.Call.{AtLoad, Known, Run, Steps}

@@ -12,12 +12,12 @@ use Rattle.arj_protocol.specs.Node.{Parts, Took, handle, is_meant, with_coord}
 use Rattle.arj_protocol.specs.Order.{uid_number}
 use Rattle.arj_protocol.specs.Step.{Input, acts, begin_refusal, parent_of, parts_in, refusal_up, restart_outs}
 use Rattle.arj_protocol.specs.Tree.{next_uid, path_below}
-use Rattle.arj_protocol.specs.World.{format, is_serial_kind}
+use Rattle.arj_protocol.specs.World.{is_serial_kind}
 use Rattle.arj_law_disk.specs.machine.Effects.{World}
 use Rattle.arj_law_disk.specs.machine.Names.{Office}
-use Rattle.arj_law_parts.specs.moves.Keeps.{MayGive, is_act, label_at}
+use Rattle.arj_law_parts.specs.moves.Keeps.{IsAtStarts, MayGive, is_act, label_at}
 use Rattle.arj_law_parts.specs.moves.Seen.{AreQuiet, In, at, down, given, said, up}
-use Rattle.arj_promise.specs.Runs.{Seen, see}
+use Rattle.arj_promise.specs.Runs.{Seen}
 use Rattle.arj_law_parts.specs.moves.Walks.{Walks, Up, halted}
 use Rattle.arj_law_disk_view.specs.view.Coordinating.{KnowsNode}
 use Rattle.arj_law_disk_view.specs.view.Knows.{IsOfKind, KnowsKinds}
@@ -108,5 +108,5 @@ pub record KeepsPart (hd : Header) (x : ℕ) (R : World → Seen → Type 0) (P 
       SeesBoth x tops A (down k d M) → P tops A (down k d M)
       → Walks (HoldsAgain P x tops (are_recorded d.intents) A) e k (restart_outs hd k (d.inc + 1) d)
       (Up (HoldsAgain P x tops (are_recorded d.intents) A) k (parts_in k (d.inc + 1) d)) d M
-  pub first : (tops : Kinds) → tops.walk ≡ None → KnowsKinds tops → (A : Office) × SeesBoth x tops A (see [] (format hd))
-      × P tops A (see [] (format hd)) × (A.world.disk.tops ≡ []) × ((t : ℕ) → A.world.disk.bare t ≡ false)
+  pub first : (tops : Kinds) → tops.walk ≡ None → KnowsKinds tops → IsAtStarts hd (λ M. (A : Office) × SeesBoth x tops A M × P tops A M
+      × (A.world.disk.tops ≡ []) × ((t : ℕ) → A.world.disk.bare t ≡ false))

@@ -1,19 +1,21 @@
 -- Who has something prepared or locked was begun, and so was who is asked about; where naming is; that coordinators are sound, and
 -- that votes' states are each of its own object.
-use Rattle.std.specs.Prelude.{⊤, ◌≡◌, ◌⊎◌, ◌<◌, ℕ, true, ◌==◌, List, [], ◌∷◌, Option, Some, None, is_some, Contains}
+use Rattle.std.specs.Prelude.{⊤, ◌≡◌, ◌⊎◌, ◌<◌, ◌≤◌, ◌+◌, ℕ, true, ◌==◌, List, [], ◌∷◌, Option, Some, None, is_some, Contains}
 use Rattle.std.specs.List.{AllByRecursion}
 use Rattle.arj_protocol.specs.Words.{Uid, Message, ObjectState, Row, tops_of, uids_of}
 use Rattle.arj_protocol.specs.Words.kind
 use Rattle.arj_protocol.specs.Words.message
 use Rattle.arj_protocol.specs.Copy.{Copy}
-use Rattle.arj_protocol.specs.Effect.{Effect, Do, Send, Prepare, Pair}
+use Rattle.arj_protocol.specs.Effect.{Effect, Do, Send, Prepare, PutInc, Pair}
 use Rattle.arj_protocol.specs.Named.{Named}
 use Rattle.arj_protocol.specs.Naming.{Naming}
 use Rattle.arj_protocol.specs.Node.{Parts}
 use Rattle.arj_protocol.specs.Step.{Node}
 use Rattle.arj_law_parts.specs.parts.Actions.{Action, act_of}
 use Rattle.arj_law_parts.specs.moves.Seen as seen
+use Rattle.arj_model.specs.Start.{Start}
 use Rattle.arj_promise.specs.Runs.{Post, Seen}
+use Rattle.arj_promise.specs.Starts.{next_inc}
 use Rattle.arj_law_disk_view.specs.view.Sees.{was_begun}
 use Rattle.arj_law_disk_view.specs.running.Sound.{AreSound, IsOwnVote}
 
@@ -72,10 +74,17 @@ pub record IsPlacedUp (acts : List Action) (k : ℕ) (t : Parts) : Type 0 where
   pub entries : AreNamesRows acts t.naming
   pub coord : AreSound t.coord
 
--- Who has something prepared on the node's disk was begun; and so is its memory while it is up.
-pub record IsPlaced (acts : List Action) (k : ℕ) (n : Node) : Type 0 where
+-- in this incarnation or a later one, as a node that is up; and one that is down, with its next one
+abbrev pub IsSince : ℕ → ℕ → Option Parts → Type 0
+IsSince first i None = first ≤ i + 1
+IsSince first i (Some t) = first ≤ i
+
+-- Who has something prepared on the node's disk was begun, and so is its memory while it is up; and the node is in no incarnation before
+-- that in which actions of the run first begin.
+pub record IsPlaced (st : Start) (acts : List Action) (k : ℕ) (n : Node) : Type 0 where
   pub store : AreBegunIn acts (let d = n.disk in d.store)
   pub names : AreBegunIn acts (let d = n.disk in d.names)
+  pub since : IsSince (next_inc st k) (let d = n.disk in d.inc) n.live
   pub live : (t : Parts) → n.live ≡ Some t → IsPlacedUp acts k t
 
 -- whom a question is about
@@ -92,15 +101,16 @@ IsAboutBegun acts to (Some u) = (to ≡ u.node) × IsBegun acts u
 abbrev pub AsksBegun : List Action → ℕ → Message → Type 0
 AsksBegun acts to m = IsAboutBegun acts to (asked_about m)
 
--- who prepares something was begun, and who is asked about; and a vote's states are each of its own object
+-- who prepares something was begun, and who is asked about; a vote's states are each of its own object; and the incarnation stays
 abbrev pub MeansBegun : List Action → Effect → Type 0
 MeansBegun acts (Do (Prepare r u states)) = IsBegun acts u
+MeansBegun acts (Do (PutInc i)) = ⊥
 MeansBegun acts (Send to m) = AsksBegun acts to m × IsOwnVote m
 MeansBegun acts _ = ⊤
 
 -- So it is at each node, and of each message that was sent; and each action that was begun has its line.
 pub record ArePlaced (acts : List Action) (M : Seen) : Type 0 where
-  pub nodes : (k : ℕ) (n : Node) → M.nodes k ≡ Some n → IsPlaced acts k n
+  pub nodes : (k : ℕ) (n : Node) → M.nodes k ≡ Some n → IsPlaced M.start acts k n
   pub asks : (p : Post) → seen.In p M.sent → AsksBegun acts p.to p.message
   pub votes : (p : Post) → seen.In p M.sent → IsOwnVote p.message
   pub lines : (a : Action) → Contains acts a → was_begun (act_of a) M.lines ≡ true

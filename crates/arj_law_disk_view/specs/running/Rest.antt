@@ -30,11 +30,11 @@ pub record IsHeardAt (x : ℕ) (R : World → Seen → Type 0) (tops : Kinds) (A
   pub run : R A.world (up s.0 s.1 s.2 M)
   pub both : SeesBoth x tops A (up s.0 s.1 s.2 M)
   pub heard : SeesHeard x tops A (up s.0 s.1 s.2 M)
-  pub decided : SeesDecided tops A (up s.0 s.1 s.2 M)
+  pub decided : SeesDecided x tops A (up s.0 s.1 s.2 M)
 
 -- what is carried beside the machine's state
 abbrev pub SeesCarried : ℕ → Kinds → Office → Seen → Type 0
-SeesCarried x tops A M = SeesHeard x tops A M × SeesDecided tops A M
+SeesCarried x tops A M = SeesHeard x tops A M × SeesDecided x tops A M
 
 -- What naming counts on: of a new Confirm the locks of servers give that what its top wrote is the next version.
 pub record GivesNaming (x : ℕ) (R : World → Seen → Type 0) : Type 0 where

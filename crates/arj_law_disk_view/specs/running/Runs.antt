@@ -1,5 +1,5 @@
 -- The disk half of the view, for whole runs: the machine's state for every kinds that agree with the actions begun so far.
-use Rattle.std.specs.Prelude.{◌≡◌, ◌⊎◌, ◌≤◌, ℕ, Bool, true, List, Some, None}
+use Rattle.std.specs.Prelude.{◌≡◌, ◌⊎◌, ℕ, true, List, Some, None}
 use Rattle.arj_protocol.specs.Words.{Uid, ObjectState, entry, object, is_listed}
 use Rattle.arj_protocol.specs.Effect.{Pair, held_at, holder_of}
 use Rattle.arj_protocol.specs.Order.{at_uid}

@@ -1,5 +1,5 @@
 -- What the coordinator's handlers keep of the disk half, where what is known of the protocol alone holds.
-use Rattle.std.specs.Prelude.{⊤, ◌≡◌, ◌⊎◌, ◌==◌, Bool, Option, List, ◌+◌, ◌++◌, ℕ, true, false, [], Some, None}
+use Rattle.std.specs.Prelude.{⊤, ◌≡◌, ◌⊎◌, ◌≤◌, ◌==◌, Bool, Option, List, ◌+◌, ◌++◌, ℕ, true, false, [], Some, None}
 use Rattle.arj_protocol.specs.Words.{Uid, End, Label, Body, Ask, Asked, Head, Message, Op, Kind, Header, asks}
 use Rattle.arj_protocol.specs.Words.ask
 use Rattle.arj_protocol.specs.Words.message
@@ -30,6 +30,7 @@ use Rattle.arj_law_parts.specs.moves.Keeps.{is_act}
 use Rattle.arj_law_parts.specs.moves.Seen as seen
 use Rattle.arj_law_parts.specs.moves.Seen.{up, down, given}
 use Rattle.arj_promise.specs.Runs.{Seen}
+use Rattle.arj_promise.specs.Starts.{next_inc}
 use Rattle.arj_law_parts.specs.moves.Walks.{Walks, Up}
 use Rattle.arj_law_disk_view.specs.view.Confirming.{IsBooked, IsConfirmation, IsNewConfirm, IsUnconfirmed, with_locks}
 use Rattle.arj_law_disk_view.specs.view.Knows.{KnowsKinds, KnowsCoord, IsOfKind}
@@ -242,7 +243,7 @@ ActsAreWalked = (hd : Header) (x : ℕ) (tops : Kinds) (e k : ℕ) (d : Disk) (t
 
 -- What is known at a node that takes a message: the coordinator's part; that who holds something there has begun; and that
 -- questions are about actions of the node that have begun; naming is at node 1, and rows that it drops with another action's end
--- are of that one's constituents.
+-- are of that one's constituents; and the node is in no incarnation before that in which actions of the run first begin.
 pub record KnowsNode (tops : Kinds) (k : ℕ) (d : Disk) (t : Parts) (M : Seen) : Type 0 where
   pub kinds : KnowsKinds tops
   pub coord : KnowsCoord tops d.intents t.coord
@@ -251,6 +252,7 @@ pub record KnowsNode (tops : Kinds) (k : ℕ) (d : Disk) (t : Parts) (M : Seen) 
       HasBegunHere k t.coord act
   pub elsewhere : t.naming ≡ None → (k == 1) ≡ false
   pub naming_here : (n : Naming) → t.naming ≡ Some n → (k ≡ 1) × ((u : Uid) → AreOrphansOf tops u d n)
+  pub since : next_inc M.start k ≤ d.inc
 
 -- a Confirm that naming checks anew is booked
 abbrev pub ConfirmsAreBooked : Disk → Parts → World → Option (Head × Ask) → Type 0

@@ -1,4 +1,4 @@
--- The object as a format leaves it.
+-- The object as a header has it.
 use Rattle.std.specs.Prelude.{◌≡◌, ◌⊎◌, ℕ, true, List, [], ◌∷◌}
 use Rattle.arj_protocol.specs.Words.{Header, ObjectLine}
 use Rattle.arj_protocol.specs.Order.{has}

@@ -1,5 +1,5 @@
 -- One object in a pair of files, seen as the disk machine has a place: what is held, and what is prepared.
-use Rattle.std.specs.Prelude.{⊤, ◌≡◌, ◌⊎◌, ℕ, List, [], ◌∷◌, Option, Some, option_map}
+use Rattle.std.specs.Prelude.{⊤, ◌≡◌, ◌⊎◌, List, [], ◌∷◌, Option, Some, option_map}
 use Rattle.std.specs.declared.cmp.Ordering.TheVariants.{Less}
 use Rattle.arj_protocol.specs.Words.{Uid, ObjectState, uid_order}
 use Rattle.arj_protocol.specs.Effect.{Pair, held_at}

@@ -38,5 +38,5 @@ module _ (hd : Header) (R : List Action → Seen → Type 0) (keeps : KeepsOf hd
         (with_coord t (again_all t.coord.doings t.coord).part) d M (tick_good e k d t M (p.0, p.1)) (keeps.tick p.0 e k d t M tt p.1 p.2);
     restart = λ e k d M p. together p.0 e k (restart_outs hd k (d.inc + 1) d) (parts_in k (d.inc + 1) d) d M
         (restart_good hd e k d M (p.0, p.1)) (keeps.restart p.0 e k d M tt p.1 p.2);
-    first = ([], first_of hd, keeps.first);
+    first = λ st formed. ([], first_of hd st formed, keeps.first st formed);
   }

@@ -1,6 +1,6 @@
 -- What each coordinator keeps, of itself and of what its node sent, holds in every run, and what is kept of all that was sent.
 use Rattle.arj_law_parts.proofs.Words
-use Words.{◌≡◌, ◌≢◌, ◌⊎◌, ◌≤◌, ◌<◌, ◌+◌, ◌==◌, ◌∙◌, arith, ℕ, zero, suc, List, [], ◌∷◌, ◌++◌, Bool, true, false, cond, filter, map, length}
+use Words.{◌≡◌, ◌≢◌, ◌⊎◌, ◌≤◌, ◌<◌, ◌+◌, ◌==◌, ◌∙◌, arith, ℕ, List, [], ◌∷◌, ◌++◌, Bool, true, false, cond, filter, map, length}
 use Words.{Option, Some, None, refl, sym, ap, subst, inl, inr, eqb-true, ⊤, option_map, and_parts, Ask, Asked, End, Head, Header, Kind}
 use Words.{Label, Message, ObjectState, Uid, asks, is_on, object, uids_of, Reply, actor, answers, asked_by, last_end, response, again_all}
 use Words.{begin_action, heard, back_lines, confirm, Coord, new_coord, Already, Disk, Do, Effect, InDoubt, Intent, Look, Old, Prep, Prepare}
@@ -8,10 +8,10 @@ use Words.{PutInc, Ready, Say, Send, Served, held_at, holder_of, is_prepared, pr
 use Words.{Naming, Handled, Parts, Took, Void, ack_told, answer_is_meant, asked_is_meant, is_meant, reply_is_meant, by_reply, coord_heard}
 use Words.{end_states, handle, handle_answer, handle_ask, handle_ends, handle_other, holders, if_naming, is_earlier, load_by, load_held}
 use Words.{naming_told, prepare_by, prepared_actions, query_about, sends_answer, serve, store_told, with_coord, with_naming, with_server}
-use Words.{uid_set, without_number, AreAll, is_naming_effect, is_server_effect, Input, Node, acts, first_disk, first_node, hello_to}
-use Words.{naming_at, naming_back, numbers_to, parent_of, parts_in, recovered_records, refusal_up, restart_outs, tolds_again, at_place}
-use Words.{is_own, new_tree, Labelled, format, is_serial_kind, activate_own, bind_own, confirm_own, ends_own, invoke_own, note_own}
-use Words.{told_own, vote_own, Post, Seen, see}
+use Words.{uid_set, without_number, AreAll, is_naming_effect, is_server_effect, Input, Node, acts, hello_to}
+use Words.{naming_at, naming_back, numbers_to, parent_of, parts_in, recovered_records, refusal_up, restart_outs, tolds_again}
+use Words.{is_own, new_tree, Labelled, is_serial_kind, activate_own, bind_own, confirm_own, ends_own, invoke_own, note_own}
+use Words.{told_own, vote_own, Post, Seen}
 use Words.ask
 use Words.body
 use Words.ending
@@ -23,8 +23,9 @@ use Words.naming
 use Words.server
 use Words.input
 use Rattle.arj_law_lock_view.proofs.Terms
-use Terms.{Action, AreBegun, paths_of, IsGoodCoord, IsTree, Paths, FitsAsk, IsAsker, begun_tree, path_found, good_acts, good_acked}
-use Terms.{good_again, good_heard, all_flat, all_map, IsGoodOf, IsUp, first_at, other_number, same_number, Keeps, is_act, at, down, given}
+use Terms.{IsAtStarts, first_up, Action, AreBegun, paths_of, IsGoodCoord, IsTree, Paths, FitsAsk, IsAsker, begun_tree, path_found}
+use Terms.{good_acts, good_acked}
+use Terms.{good_again, good_heard, all_flat, all_map, IsGoodOf, IsUp, other_number, same_number, Keeps, is_act, at, down, given}
 use Terms.{posted, said, up, Up, Walks, walks_to, acked_so, acts_so, again_so, heard_so, query_so, tolds_so, AllSo, SendsSo, KeepsGiven}
 use Terms.{kept_both, no_request, AnswersWaiting, BindsAreKnown, answers_fit, binds_keep}
 use Rattle.arj_law_lock_view.proofs.facts.Kept.{Place}
@@ -468,15 +469,12 @@ module _ (P : List Post → Type 0) (Q : Sender → Coord → Type 0) (kept : Is
     restart_walk = walk e k v (restart_outs hd k (d.inc + 1) d) d M (begun, good.begun, started) new_so all.0 (others_at k d None M all)
         (kept.new (record { node = k; sent = M.sent }) (d.inc + 1) d.intents fresh)
 
-  first_so : (hd : Header) → AreSo (see [] (format hd))
-  first_so hd = (kept.none, nodes)
-    where
-      nodes : (j : ℕ) (n : Node) (t : Parts) → at_place j (map (first_node hd) (numbers_to hd.nodes)) ≡ Some n → n.live ≡ Some t →
-          QAt j [] t.coord
-      nodes zero n t is live = absurd (cc is)
-      nodes (suc j) n t is live =
-          subst (λ (z : Parts). QAt (suc j) [] z.coord) (some_is (ap (λ (z : Node). z.live) (first_at hd (suc j) n is) ∙ live))
-          (kept.new (record { node = suc j; sent = [] }) 1 (let d = first_disk hd (suc j) in d.intents) (λ p h q there. absurd there))
+  first_so : (hd : Header) → IsAtStarts hd AreSo
+  first_so hd st formed = (
+    kept.none,
+    λ j n t is live. subst (λ (z : Parts). QAt j [] z.coord) (first_up hd st j n t is live)
+        (kept.new (record { node = j; sent = [] }) (st.incs j + 1) [] (λ p h q there. absurd there)),
+  )
 
   -- ---- all runs
 
@@ -523,7 +521,7 @@ module _ (Q : Sender → Coord → Type 0) (kept : IsKeptBy (λ sent. ⊤) Q) wh
     tick = λ e k d t M b p. plain e k (tick_outs (record { number = k; disk = d; live = Some t }) t)
         (with_coord t (again_all t.coord.doings t.coord).part) d M (g.tick e k d t M b (tt, p));
     restart = λ e k d M b p. plain e k (restart_outs hd k (d.inc + 1) d) (parts_in k (d.inc + 1) d) d M (g.restart e k d M b (tt, p));
-    first = g.first.1;
+    first = λ st formed. (g.first st formed).1;
   }
 
   pub coords_plain : (hd : Header) → Keeps hd (λ M. (IsGood M × BindsAreKnown M) × AtCoords Q M)

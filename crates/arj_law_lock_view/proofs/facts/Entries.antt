@@ -1,13 +1,15 @@
 -- No work takes an entry from a disk.
 use Rattle.arj_law_parts.proofs.Words
-use Words.{◌≡◌, ◌∙◌, ◌+◌, ◌==◌, ℕ, Bool, true, false, cond, List, [], ◌∷◌, map, refl, sym, ap, subst, inl, inr, Option, Some, None, arith}
+use Words.{Start, ◌≡◌, ◌∙◌, ◌+◌, ◌==◌, ℕ, Bool, true, false, cond, List, [], ◌∷◌, map, refl, sym, ap, subst, inl, inr, Option, Some, None}
+use Words.{arith}
 use Words.{is_some, is_eq, nat_cmp, Ordering, Less, Equal, Greater, uid_order, In, in_from, Header, ObjectLine, ObjectState, Uid, entry}
 use Words.{named_back, Abort, After, Before, Commit, Disk, Do, Effect, InPart, Look, Pair, Prepare, PutInc, PutIntent, RemoveIntent, Say}
 use Words.{Send, Stop, Work, held_at, moved_some, new_states, stopped, worked, again_all, begin_action, tick_outs, Parts, with_coord}
-use Words.{at_number, at_uid, put_uid, first_disk, Node, acts, first_entry, parent_of, parts_in, put_states, restart_outs, format}
-use Words.{is_serial_kind, Seen, see}
+use Words.{at_number, at_uid, put_uid, Node, acts, parent_of, parts_in, put_states, restart_outs}
+use Words.{is_serial_kind, Seen}
 use Words.role
-use Rattle.arj_law_lock_view.proofs.Terms.{moved, order_exact, put_same, first_at, at, given, posted, said, Up, Walks}
+use Rattle.arj_law_lock_view.proofs.Terms.{IsAtStarts, disk_by, entry_by, moved, order_exact, put_same, first_at, at, given, posted, said}
+use Rattle.arj_law_lock_view.proofs.Terms.{Up, Walks}
 use Rattle.arj_law_lock_view.specs.facts.Entries.{EntriesAreFound, HandlersKeepEntries, HasObject, HoldsEntry}
 use Rattle.arj_law_runs.proofs.addresses.Lists.{found_put}
 
@@ -91,19 +93,24 @@ module _ (x : ℕ) where
   put_keeps [] held its = its
   put_keeps (s ∷ ss) held its = put_keeps ss (put_uid s.uid s held) (found_put (entry x) s.uid s held its)
 
-  first_held : (os : List ObjectLine) (o : ObjectLine) (held : List (Uid × ObjectState)) → In o os → o.x ≡ x →
-      InHeld (put_states (map first_entry os) held)
-  first_held [] o held i is = absurd i
-  first_held (p ∷ ps) o held (inl same) is = put_keeps (map first_entry ps) (put_uid (entry p.x) (first_entry p) held)
-      (subst (λ (n : ℕ). is_some (at_uid (entry n) (put_uid (entry p.x) (first_entry p) held)) ≡ true)
-      (ap (λ (z : ObjectLine). z.x) same ∙ is) (put_there (entry p.x) (first_entry p) held))
-  first_held (p ∷ ps) o held (inr i) is = first_held ps o (put_uid (entry p.x) (first_entry p) held) i is
+  module _ (st : Start) where
+    abbrev entry_of : ObjectLine → ObjectState
+    entry_of o = entry_by (st.marks.entries o.x) o
 
-  pub first_there : (hd : Header) → HasObject hd x → is_some (held_at (entry x) (let d = first_disk hd 1 in d.names)) ≡ true
-  first_there hd has = first_held hd.objects has.0 [] (in_from has.0 hd.objects has.1) has.2
+    first_held : (os : List ObjectLine) (o : ObjectLine) (held : List (Uid × ObjectState)) → In o os → o.x ≡ x →
+        InHeld (put_states (map entry_of os) held)
+    first_held [] o held i is = absurd i
+    first_held (p ∷ ps) o held (inl same) is = put_keeps (map entry_of ps) (put_uid (entry p.x) (entry_of p) held)
+        (subst (λ (n : ℕ). is_some (at_uid (entry n) (put_uid (entry p.x) (entry_of p) held)) ≡ true)
+        (ap (λ (z : ObjectLine). z.x) same ∙ is) (put_there (entry p.x) (entry_of p) held))
+    first_held (p ∷ ps) o held (inr i) is = first_held ps o (put_uid (entry p.x) (entry_of p) held) i is
 
-  first_so : (hd : Header) → HasObject hd x → HoldsEntry x (see [] (format hd))
-  first_so hd has n is = subst (λ (z : Node). is_some (held_at (entry x) z.disk.names) ≡ true) (first_at hd 1 n is) (first_there hd has)
+    pub first_there : (hd : Header) → HasObject hd x → is_some (held_at (entry x) (let d = disk_by hd st 1 in d.names)) ≡ true
+    first_there hd has = first_held hd.objects has.0 [] (in_from has.0 hd.objects has.1) has.2
+
+  first_so : (hd : Header) → HasObject hd x → IsAtStarts hd (HoldsEntry x)
+  first_so hd has st formed n is =
+      subst (λ (z : Node). is_some (held_at (entry x) z.disk.names) ≡ true) (first_at hd st 1 n is) (first_there st hd has)
 
 -- ---- all runs
 

@@ -1,7 +1,7 @@
 -- What coordinators keep beside good nodes and known Binds, with what naming keeps and what its answers to a Bind say, holds in every run.
 use Rattle.arj_law_parts.proofs.Words
-use Words.{◌≡◌, ◌≢◌, ◌∙◌, ◌+◌, ◌==◌, ℕ, zero, suc, Bool, true, false, cond, List, [], ◌∷◌, ◌++◌, map, filter, length, refl, sym, ap, subst}
-use Words.{⊎_elim, Option, Some, None, ⊤, IfSome, option_map, slice_get, AllByRecursion, list_all, and_parts, Ask, Asked, Binding, Body}
+use Words.{◌≡◌, ◌≢◌, ◌∙◌, ◌+◌, ◌==◌, ℕ, Bool, true, false, cond, List, [], ◌∷◌, ◌++◌, map, filter, length, refl, sym, ap, subst}
+use Words.{⊎_elim, Option, Some, None, ⊤, IfSome, option_map, AllByRecursion, list_all, and_parts, Ask, Asked, Binding, Body}
 use Words.{BoundReply, End, Head, Header, Kind, Label, Message, ObjectState, Path, PreparedReply, Uid, asks, object, Reply, actor, answers}
 use Words.{asked_by, last_end, response, again_all, begin_action, heard, Grants, Marks, back_lines, confirm, recovered_naming, Coord}
 use Words.{new_coord, Already, Disk, Do, Effect, InDoubt, Intent, Look, Old, Pair, Prep, Prepare, PutInc, Ready, Say, Send, Served, held_at}
@@ -9,9 +9,9 @@ use Words.{holder_of, is_prepared, prepare_answer, stopped, worked, acked, answe
 use Words.{Parts, Took, Void, ack_told, by_reply, coord_heard, end_states, handle, handle_answer, handle_ask, handle_ends, handle_other}
 use Words.{holders, if_naming, is_earlier, load_by, load_held, naming_hello, naming_told, prepare_by, prepared_actions, query_about}
 use Words.{sends_answer, serve, store_told, with_coord, with_naming, with_server, uid_set, without_number, AreAll, is_naming_effect}
-use Words.{is_server_effect, Input, Node, acts, begin_refusal, first_disk, first_node, hello_to, naming_at, naming_back, numbers_to}
-use Words.{parent_of, parts_in, recovered_records, refusal_up, restart_outs, tolds_again, at_place, Labelled, format, is_serial_kind}
-use Words.{activate_own, bind_own, confirm_own, ends_own, invoke_own, note_own, told_own, vote_own, Post, Seen, see}
+use Words.{is_server_effect, Input, Node, acts, begin_refusal, hello_to, naming_at, naming_back, numbers_to}
+use Words.{parent_of, parts_in, recovered_records, refusal_up, restart_outs, tolds_again, Labelled, is_serial_kind}
+use Words.{activate_own, bind_own, confirm_own, ends_own, invoke_own, note_own, told_own, vote_own, Post, Seen}
 use Words.ask
 use Words.body
 use Words.ending
@@ -23,7 +23,8 @@ use Words.naming
 use Words.server
 use Words.input
 use Rattle.arj_law_lock_view.proofs.Terms
-use Terms.{Action, AreBegun, MayBegin, paths_of, AreTrue, IsGoodCoord, IsTree, Paths, AreNumbered, begun_tree, path_found, all_flat}
+use Terms.{IsAtStarts, disk_by, first_up, Action, AreBegun, MayBegin, paths_of, AreTrue, IsGoodCoord, IsTree, Paths, AreNumbered}
+use Terms.{begun_tree, path_found, all_flat}
 use Terms.{all_map, true_query, true_records, well_acked, well_acts, well_again, well_heard, IsGoodOf, IsUp, own_of_disk, tops_of_disk}
 use Terms.{other_number, same_number, Keeps, is_act, at, down, given, posted, said, up, Up, Walks, halted, walks_both, acked_so, acts_so}
 use Terms.{again_so, heard_so, query_so, tolds_so, AllSo, IsSentBy, no_answer, no_request, reads_back, AnswersWaiting, BindsAreKnown}
@@ -512,20 +513,12 @@ module _ (S : Said) (Q : Coord → Type 0) (N : Naming → Type 0) (kept : IsKep
       hellos : List Effect
       hellos = map (hello_to k inc) (without_number k (numbers_to hd.nodes))
 
-  first_so : (hd : Header) → AreSo (see [] (format hd))
-  first_so hd = record { nodes = nodes; requests = λ p there. absurd there; answered = λ p there. absurd there }
-    where
-      got : (ms : List ℕ) (i : ℕ) (n : Node) → slice_get (map (first_node hd) ms) i ≡ Some n → (a : ℕ) × (first_node hd a ≡ n)
-      got [] i n is = none_at refl is
-      got (m ∷ ms) zero n is = (m, some_is is)
-      got (m ∷ ms) (suc i) n is = got ms i n is
-
-      nodes : (j : ℕ) (n : Node) (t : Parts) → at_place j (map (first_node hd) (numbers_to hd.nodes)) ≡ Some n → n.live ≡ Some t →
-          HasParts t
-      nodes zero n t is live = none_at refl is
-      nodes (suc j) n t is live =
-          let a = got (numbers_to hd.nodes) j n is in
-          subst HasParts (some_is (ap (λ (z : Node). z.live) a.1 ∙ live)) (new_parts a.0 1 (first_disk hd a.0))
+  first_so : (hd : Header) → IsAtStarts hd AreSo
+  first_so hd st formed = record {
+    nodes = λ j n t is live. subst HasParts (first_up hd st j n t is live) (new_parts j (st.incs j + 1) (disk_by hd st j));
+    requests = λ p there. absurd there;
+    answered = λ p there. absurd there;
+  }
 
   -- ---- all runs
 
@@ -549,7 +542,7 @@ module _ (S : Said) (Q : Coord → Type 0) (N : Naming → Type 0) (kept : IsKep
     restart = λ e k d M p. together e k (restart_outs hd k (d.inc + 1) d) (parts_in k (d.inc + 1) d) d M (bound_too.restart e k d M p.0)
         (walk e k (parts_in k (d.inc + 1) d) (restart_outs hd k (d.inc + 1) d) d M (restart_fine hd k (d.inc + 1) d) (around k d None M p.1)
         (new_parts k (d.inc + 1) d));
-    first = (bound_too.first, first_so hd);
+    first = λ st formed. (bound_too.first st formed, first_so hd st formed);
   }
     where
       bound_too : Keeps hd (λ M. IsGood M × BindsAreKnown M)

@@ -1,7 +1,8 @@
 -- Who takes part in commits is known, in every run.
 use Rattle.arj_law_parts.proofs.Words
-use Words.{◌≡◌, ◌≢◌, ◌⊎◌, ◌<◌, ◌∙◌, ◌+◌, ◌==◌, ◌||◌, arith, ℕ, zero, suc, Bool, true, false, cond, List, [], ◌∷◌, ◌++◌, map, filter, length}
-use Words.{refl, sym, ap, subst, inl, inr, ⊎_elim, Option, Some, None, ⊤, is_some, option_map, slice_get, AllByRecursion, list_all}
+use Words.{node_by, ◌≡◌, ◌≢◌, ◌⊎◌, ◌<◌, ◌∙◌, ◌+◌, ◌==◌, ◌||◌, arith, ℕ, zero, suc, Bool, true, false, cond, List, [], ◌∷◌, ◌++◌, map}
+use Words.{filter, length}
+use Words.{refl, sym, ap, subst, inl, inr, ⊎_elim, Option, Some, None, ⊤, is_some, option_map, AllByRecursion, list_all}
 use Words.{and_parts, eqb-true, or_cases, Ask, Asked, Body, End, Head, Header, Kind, Label, Message, ObjectState, Uid, asks, is_on, object}
 use Words.{uids_of, Reply, actor, answers, asked_by, last_end, response, again_all, begin_action, heard, Confirming, Machine, Preparing}
 use Words.{Voting, ask_of, left_of, plan_of, back_lines, confirm, Committing, Coord, Doing, doing_of, new_coord, Already, Disk, Do, Effect}
@@ -9,10 +10,10 @@ use Words.{InDoubt, Intent, Look, Old, Prep, Prepare, PutInc, Ready, Say, Send, 
 use Words.{stopped, worked, acked, tick_outs, Named, Naming, Handled, Parts, Took, Void, ack_told, by_reply, coord_heard, end_states}
 use Words.{handle, handle_answer, handle_ask, handle_ends, handle_other, holders, if_naming, is_earlier, load_by, load_held, naming_told}
 use Words.{prepare_by, prepared_actions, query_about, sends_answer, serve, store_told, with_coord, with_naming, with_server, has, uid_set}
-use Words.{without_number, AreAll, is_naming_effect, is_server_effect, Input, Node, acts, first_disk, first_node, hello_to, naming_at}
+use Words.{without_number, AreAll, is_naming_effect, is_server_effect, Input, Node, acts, hello_to, naming_at}
 use Words.{naming_back, numbers_to, parent_of, parts_in, recovered_records, refusal_up, restart_outs, tolds_again, Branch, at_place}
-use Words.{branch_of, is_own, format, is_serial_kind, activate_own, bind_own, confirm_own, ends_own, invoke_own, note_own, told_own}
-use Words.{vote_own, Post, Seen, see}
+use Words.{branch_of, is_own, is_serial_kind, activate_own, bind_own, confirm_own, ends_own, invoke_own, note_own, told_own}
+use Words.{vote_own, Post, Seen}
 use Words.ask
 use Words.body
 use Words.ending
@@ -24,7 +25,8 @@ use Words.naming
 use Words.server
 use Words.input
 use Rattle.arj_law_lock_view.proofs.Terms
-use Terms.{Action, action_of, paths_of, GoesOn, IsBusy, IsGoodCoord, IsVoting, IsTree, Paths, begun_tree, on_own, path_found, good_acts}
+use Terms.{IsAtStarts, disk_by, first_up, Action, action_of, paths_of, GoesOn, IsBusy, IsGoodCoord, IsVoting, IsTree, Paths, begun_tree}
+use Terms.{on_own, path_found, good_acts}
 use Terms.{doing_by, good_acked, good_again, good_heard, all_flat, all_map, well_acked, well_acts, well_again, well_heard, IsGoodOf, IsUp}
 use Terms.{other_number, same_number, is_act, at, down, given, posted, said, up, Up, Walks, halted, AllQuiet, no_request, begins_in}
 use Terms.{AreLeft, IsAskedNow, IsLeft, IsPart, IsSought, KnowsParted, asks_part, IsTopOf}
@@ -623,19 +625,14 @@ module _ (begun : List Action) (a : Action) where
 
 -- ---- all runs
 
-parted_first : (hd : Header) → KnowsParted [] (see [] (format hd))
-parted_first hd = record {
+parted_first : (hd : Header) → IsAtStarts hd (KnowsParted [])
+parted_first hd st formed = record {
   senders = λ p h a there. absurd there;
   tops = λ p h a there. absurd there;
   one = λ p q h j a b there. absurd there;
   coords = coords;
 }
   where
-    got : (ms : List ℕ) (i : ℕ) (n : Node) → slice_get (map (first_node hd) ms) i ≡ Some n → (m : ℕ) × (first_node hd m ≡ n)
-    got [] i n is = none_at refl is
-    got (m ∷ ms) zero n is = (m, some_is is)
-    got (m ∷ ms) (suc i) n is = got ms i n is
-
     new_left : (k inc : ℕ) (d : Disk) → AreLeft (parts_in k inc d).coord
     new_left k inc d u w is = none_at (by (is_own u (record { node = k; inc = inc; branches = []; families = [] }))) is
       where
@@ -647,13 +644,12 @@ parted_first hd = record {
         by true = place u.num
         by false = refl
 
-    coords : (j : ℕ) (n : Node) (t : Parts) → at_place j (map (first_node hd) (numbers_to hd.nodes)) ≡ Some n → n.live ≡ Some t →
+    coords : (j : ℕ) (n : Node) (t : Parts) → at_place j (map (node_by hd st) (numbers_to hd.nodes)) ≡ Some n → n.live ≡ Some t →
         KnowsParts [] t.coord × AreLeft t.coord
-    coords zero n t is live = none_at refl is
-    coords (suc j) n t is live =
-        let f = got (numbers_to hd.nodes) j n is in
-        let same = some_is (ap (λ (z : Node). z.live) f.1 ∙ live) in
-        (λ p h a there. absurd there, subst (λ (z : Parts). AreLeft z.coord) same (new_left f.0 1 (first_disk hd f.0)))
+    coords j n t is live = (
+      λ p h a there. absurd there,
+      subst (λ (z : Parts). AreLeft z.coord) (first_up hd st j n t is live) (new_left j (st.incs j + 1) (disk_by hd st j)),
+    )
 
 pub parted_keep : HandlersKeepParted
 parted_keep hd = record {

@@ -1,7 +1,7 @@
 -- What naming keeps of the actions that were begun, with what is prepared of entries on disks, holds in every run.
 use Rattle.arj_law_parts.proofs.Words
-use Words.{◌≡◌, ◌∙◌, ◌+◌, ◌==◌, ℕ, zero, suc, Bool, true, false, cond, List, [], ◌∷◌, ◌++◌, map, filter, refl, sym, ap, subst, inr, Option}
-use Words.{Some, None, ⊤, option_map, slice_get, unwrap_or, AllByRecursion, flat_map, list_all, is_eq, and_parts, uid_order, in_from, in_to}
+use Words.{◌≡◌, ◌∙◌, ◌+◌, ◌==◌, ℕ, Bool, true, false, cond, List, [], ◌∷◌, ◌++◌, map, filter, refl, sym, ap, subst, inr, Option}
+use Words.{Some, None, ⊤, option_map, unwrap_or, AllByRecursion, flat_map, list_all, is_eq, and_parts, uid_order, in_from, in_to}
 use Words.{Ask, Asked, Binding, End, Head, Header, Kind, Label, Message, ObjectLine, ObjectState, Path, Uid, asks, object, Reply, actor}
 use Words.{answers, asked_by, last_end, response, again_all, begin_action, heard, Grants, Marks, back_lines, confirm, recovered_naming}
 use Words.{Coord, Abort, Already, Commit, Disk, Do, Effect, InDoubt, Intent, Look, Old, Pair, Prep, Prepare, PutInc, PutIntent, Ready}
@@ -10,9 +10,9 @@ use Words.{prepare_answer, stopped, worked, acked, answer_query, tick_outs, Name
 use Words.{coord_heard, end_states, handle, handle_answer, handle_ask, handle_ends, handle_other, holders, if_naming, is_earlier, load_by}
 use Words.{load_held, naming_hello, naming_told, prepare_by, prepared_actions, query_about, sends_answer, serve, store_told, with_coord}
 use Words.{with_naming, with_server, at_uid, put_uid, uid_set, without_number, AreAll, is_coord_effect, is_server_effect, Node}
-use Words.{acts as acts_of, first_disk, first_entry, first_node, hello_to, naming_at, naming_back, numbers_to, parent_of, parts_in}
-use Words.{put_states, recovered_records, restart_outs, tolds_again, next_uid, path_below, format, is_serial_kind, acked_own, acts_own}
-use Words.{again_own, heard_own, query_own, tolds_again_own, activate_own, ends_own, invoke_own, vote_own, Seen, see}
+use Words.{acts as acts_of, hello_to, naming_at, naming_back, numbers_to, parent_of, parts_in}
+use Words.{put_states, recovered_records, restart_outs, tolds_again, next_uid, path_below, is_serial_kind, acked_own, acts_own}
+use Words.{again_own, heard_own, query_own, tolds_again_own, activate_own, ends_own, invoke_own, vote_own, Seen}
 use Words.ask
 use Words.body
 use Words.ending
@@ -23,7 +23,8 @@ use Words.role
 use Words.naming
 use Words.server
 use Rattle.arj_law_lock_view.proofs.Terms
-use Terms.{moved, Action, AreBegun, FitsAsk, FitsAsked, FitsMessage, IsAsker, IsEntry, all_append, all_key, all_without, all_map, IsGoodOf}
+use Terms.{IsAtStarts, disk_by, entry_by, first_at, live_first, moved, Action, AreBegun, FitsAsk, FitsAsked, FitsMessage, IsAsker, IsEntry}
+use Terms.{all_append, all_key, all_without, all_map, IsGoodOf}
 use Terms.{begin_good, other_number, same_number, Keeps, at, given, posted, said, Up, Walks, halted, KeepsOf, begins_in, AreOfEntries}
 use Terms.{HavePrepared, IsTopOf, PreparesUpper}
 use Rattle.arj_law_lock_view.proofs.facts.Acts.{kept_of}
@@ -404,33 +405,30 @@ module _ (N : List Action → Naming → Type 0) (held : IsHeld N) where
     live = λ t o up_it at_o. held.more a acts begun o (its.live t o up_it at_o);
   }
 
-  first_so : (hd : Header) → AreUppersOf N [] (see [] (format hd))
-  first_so hd zero n is = none_at refl is
-  first_so hd (suc j) n is = let a = got (numbers_to hd.nodes) j n is in subst (IsUpperNode N []) a.1 (record {
-    names = first_names a.0;
-    live = λ t o up_it at_o.
-        new_naming [] tt a.0 1 (first_disk hd a.0) (first_names a.0) o (ap (λ (z : Parts). z.naming) (some_is up_it) ∙ at_o);
+  first_so : (hd : Header) → IsAtStarts hd (AreUppersOf N [])
+  first_so hd st formed k n is = subst (IsUpperNode N []) (first_at hd st k n is) (record {
+    names = first_names;
+    live = λ t o up_it at_o. new_naming [] tt k (st.incs k + 1) (disk_by hd st k) first_names o
+        (ap (λ (z : Parts). z.naming) (live_first hd st k t up_it) ∙ at_o);
   })
     where
-      first_names : (k : ℕ) → HavePrepared [] (let d = first_disk hd k in d.names)
-      first_names k = record { pend = tt; held = by (k == 1) }
+      entry_of : ObjectLine → ObjectState
+      entry_of o = entry_by (st.marks.entries o.x) o
+
+      first_names : HavePrepared [] (let d = disk_by hd st k in d.names)
+      first_names = record { pend = tt; held = by (k == 1) }
         where
           put : (ss : List ObjectState) (held : List (Uid × ObjectState)) → AreOfEntries ss → AreHeld held → AreHeld (put_states ss held)
           put [] held of all = all
           put (s ∷ ss) held of all = put ss (put_uid s.uid s held) of.1 (all_key IsEntry (λ (x : ObjectState). ⊤) s.uid s held of.0 tt all)
 
-          entries : (os : List ObjectLine) → AreOfEntries (map first_entry os)
+          entries : (os : List ObjectLine) → AreOfEntries (map entry_of os)
           entries [] = tt
           entries (o ∷ os) = (refl, entries os)
 
-          by : (b : Bool) → AreHeld (put_states (cond b (map first_entry hd.objects) []) [])
-          by true = put (map first_entry hd.objects) [] (entries hd.objects) tt
+          by : (b : Bool) → AreHeld (put_states (cond b (map entry_of hd.objects) []) [])
+          by true = put (map entry_of hd.objects) [] (entries hd.objects) tt
           by false = tt
-
-      got : (ms : List ℕ) (i : ℕ) (n : Node) → slice_get (map (first_node hd) ms) i ≡ Some n → (a : ℕ) × (first_node hd a ≡ n)
-      got [] i n e = none_at refl e
-      got (m ∷ ms) zero n e = (m, some_is e)
-      got (m ∷ ms) (suc i) n e = got ms i n e
 
   -- each handler keeps it, for the actions that were begun
   pub uppers_of : (hd : Header) → KeepsOf hd (λ acts M. ⊤) (AreUppersOf N)

@@ -1,7 +1,7 @@
 -- A coordinator's lines about ends and commits.
 use Rattle.arj_law_parts.proofs.Words
 use Words.{◌≡◌, ◌≢◌, ◌≤◌, ℕ, ◌+◌, List, [], ◌∷◌, ◌++◌, length, true, false, Some, refl, sym, ◌∙◌, ap, subst, ⊎_elim, arith, is_some, Body}
-use Words.{Line, Uid, Aborts, Asks, CommitStep, Decides, Stays, Committing, Coord, Doing, doing_of, Branch, branch_of, numbered}
+use Words.{Line, Uid, Aborts, Asks, CommitStep, Decides, Stays, Coord, Doing, doing_of, Branch, branch_of, numbered}
 use Words.cause
 use Words.kind
 use Rattle.arj_law_lock_view.proofs.Terms

@@ -55,6 +55,7 @@ pub tied_same : (act : Acts) (code : Codes) (p : Page) (x : ℕ) (S T : State) �
     ≡ S.initial → CallsStay S T → EndsStay S T → IsTiedToLines act code p.values x p.lines S → IsTiedToLines act code p.values x p.lines T
 tied_same act code p x S T named now first calls ends tied = record {
   now = now;
+  writer = tied.writer;
   first = first ∙ tied.first;
   calls = subst (λ cs. AreCallsOf act code (said_on x p.lines) cs) (sym calls.0) tied.calls;
   includes = subst (λ cs. AreIncludesOf act (included_on x p.lines) cs) (sym calls.1) tied.includes;

@@ -223,6 +223,7 @@ module _ (act : Acts) (code : Codes) (values : Values) (x event : ℕ) (lines : 
       AreIncludesOf act (included_on x (more lines event b)) T.includes → AllEndSo act (more lines event b) T.action → To b
   tied b calls includes ends = record {
     now = (let e = length_more lines (record { event = event; body = b }) in omega (arith, now, e));
+    writer = was.writer;
     first = first ∙ was.first;
     calls = calls;
     includes = includes;

@@ -167,10 +167,10 @@ pub records_run_on : (hd : Header) → Keeps hd RecordsRun
 records_run_on hd = few_go hd RecordsKnown (records_known hd)
 
 pub records_are_free : RunsFreeRecords
-records_are_free hd ms few =
-    let h = moves_asked hd RecordsRun (keeps_asked hd RecordsRun (records_run_on hd)) ms in
+records_are_free hd r few =
+    let h = moves_asked hd RecordsRun (keeps_asked hd RecordsRun (records_run_on hd)) r in
     record {
       sent = h.sent;
       stands = h.stands;
-      holds = (let w = h.holds.1 few in records_free (see h.sent (world_by hd ms)) (few, w.0) w.1);
+      holds = (let w = h.holds.1 few in records_free (see h.sent (world_by hd r)) (few, w.0) w.1);
     }

@@ -5,14 +5,15 @@ use Words.{eqb-true, Option, Some, None, ⊤, Binding, Head, Header, Kind, Label
 use Words.{back_lines, Before, Disk, Do, Effect, Intent, Look, PutInc, Say, Stop, Work, stopped, acked, answer_query, tell, tell_all}
 use Words.{tick_outs, Named, Naming, Handled, Parts, Took, handle, holders, prepared_actions, query_about, with_coord, binding_number}
 use Words.{uid_set, without_number, Input, Node, acts as acts_of, hello_to, naming_at, naming_back, numbers_to, parent_of, parts_in}
-use Words.{recovered_records, refusal_up, restart_outs, tolds_again, Labelled, format, is_serial_kind, acked_own, acts_own, again_own}
-use Words.{heard_own, query_own, tolds_again_own, Post, Seen, see}
+use Words.{recovered_records, refusal_up, restart_outs, tolds_again, Labelled, is_serial_kind, acked_own, acts_own, again_own}
+use Words.{heard_own, query_own, tolds_again_own, Post, Seen}
 use Words.ask
 use Words.body
 use Words.ending
 use Words.input
 use Rattle.arj_law_lock_view.proofs.Terms
-use Terms.{Action, AreBegun, paths_of, begun_tree, path_found, all_flat, all_map, true_query, true_records, well_acked, well_acts}
+use Terms.{IsAtStarts, Action, AreBegun, paths_of, begun_tree, path_found, all_flat, all_map, true_query, true_records, well_acked}
+use Terms.{well_acts}
 use Terms.{well_again, well_heard, IsGoodCoord, IsTree, IsUp, own_of_disk, tops_of_disk, first_at, same_number, is_act, at, down, given, up}
 use Terms.{Up, Walks, halted, walks_both, AreSaid, HasGiven, KnowsFew, KeepsGiven, some_is, AreAnswered, AreConfirmed, AreFitting, IsRecord}
 use Terms.{AnswersClaim, EntriesConfirmed, NamingHolds, NamingKnows, RecordsSettle, Below, Passes, PassesBefore, PassesNaming, PassesNode}
@@ -363,8 +364,9 @@ module _ (hd : Header) (e k : ℕ) (d : Disk) (M : Seen) (knows : NamingKnows (d
       nearer : (a b : ℕ) → a + 1 ≤ b → a ≤ b
       nearer a b x = omega (arith, x)
 
-first_knows : (hd : Header) → NamingKnows (see [] (format hd))
-first_knows hd = ((λ T passes. tt), λ first n is. subst (λ (z : Node). AreConfirmed [] (let c = z.disk in c.names)) (first_at hd 1 n is) tt)
+first_knows : (hd : Header) → IsAtStarts hd NamingKnows
+first_knows hd st formed =
+    ((λ T passes. tt), λ first n is. subst (λ (z : Node). AreConfirmed [] (let c = z.disk in c.names)) (first_at hd st 1 n is) tt)
 
 -- ---- all of it
 

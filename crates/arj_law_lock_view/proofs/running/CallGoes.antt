@@ -5,13 +5,13 @@ use Words.{arith, length, Body, Label, ObjectState, Op, Uid, Reply, actor, call_
 use Words.{goes_on, heard_call, kept_at, next_req, renewed, root_lost, root_moved, step_call, At, AtInvoke, AtLoad, CallEnd, CallStep}
 use Words.{Ended, Goal, Include as IncludeStore, Known, Moved, On, Run, Steps, answered, given_up, next_node, start, Coord, Doing, Keeping}
 use Words.{Root, doing_of, is_free, keeping_of, on_root, root_at, with_keeping, Effect, Say, say_for, says, unbound, Branch, branch_of}
-use Words.{root_of, uses_object, nobody, numbered}
+use Words.{root_of, uses_object, numbered}
 use Words.body
 use Words.invoked
 use Words.loaded
 use Words.calls as call
 use Rattle.arj_law_lock_view.proofs.Terms
-use Terms.{begun_of, Values, In, root, State, work_there, Acts, Codes, IsReached, OnlyCalled, WritesLine, WritesNone, KeepsEnds}
+use Terms.{StandsFor, begun_of, Values, In, root, State, work_there, Acts, Codes, IsReached, OnlyCalled, WritesLine, WritesNone, KeepsEnds}
 use Terms.{WritesInclude, included_by, GoesWhole, IsOnPage, IsTiedToLines, ArePlain, Case, IsSeenIn, Spot, view_in, world_at, HasStepped}
 use Terms.{IsWorking, KnowsAsks, KnowsCoord, StepGoes, coord_at, SeesUp, AreTied, BeginNone}
 use Terms.machine as state
@@ -216,7 +216,7 @@ gone_plain u c n = flat_plain u c (λ (n : ℕ) (l : Label). body.GaveUp l n) (�
 
 -- the page behind them
 page_gone : (c : Case) (s : Spot) (e : ℕ) (is_seen : IsSeenIn c (world_at s)) (u : Uid) (values : Values) →
-    (let f = c.fixed in f.first ≡ f.code (values c.x) (f.act nobody)) → (n : ℕ) → IsOnPage (let f = c.fixed in f.act) (let f = c.fixed in
+    StandsFor c.fixed (values c.x) → (n : ℕ) → IsOnPage (let f = c.fixed in f.act) (let f = c.fixed in
     f.code) c.x (behind (page_at s e values) (let g = gone_lines u (coord_at s) n in g.0)) (coord_at s) c.state
 page_gone c s e is_seen u values is n = pages_plain (let f = c.fixed in f.act) (let f = c.fixed in f.code) c.x (coord_at s) c.state
     (let g = gone_lines u (coord_at s) n in g.0) (page_at s e values) (gone_plain u (coord_at s) n) (on_page c s e is_seen values is)

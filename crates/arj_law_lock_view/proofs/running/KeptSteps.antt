@@ -1,15 +1,16 @@
 -- The object is seen in every world of a run: each handler's walk is put together, and each stop is seen.
 use Rattle.arj_law_parts.proofs.Words
-use Words.{◌≡◌, ◌≢◌, ◌∙◌, ◌+◌, ℕ, List, [], ◌∷◌, not, Bool, true, false, Option, Some, None, refl, ap, subst, inr, sym, inl, is_some}
+use Words.{Start, ◌≡◌, ◌≢◌, ◌∙◌, ◌+◌, ℕ, List, [], ◌∷◌, not, Bool, true, false, Option, Some, None, refl, ap, subst, inr, sym, inl, is_some}
 use Words.{and_parts, in_from, in_to, Asked, Header, Kind, Label, Message, Path, Uid, asks, uids_of, Reply, actor, answers, response}
 use Words.{again_all, begin_action, heard, Coord, Disk, Do, Effect, Say, Send, Served, worked, acked, answer_query, tick_outs, Parts, Took}
 use Words.{answer_is_meant, asked_is_meant, by_reply, coord_heard, handle, is_meant, with_coord, Input, acts, begin_reasons, begin_refusal}
 use Words.{refused_by, parent_of, parts_in, refusal_up, restart_outs, Branch, branch_of, is_open, is_open_branch, next_uid, path_below}
-use Words.{format, is_serial_kind, Post, Seen, see}
+use Words.{is_serial_kind, Post, Seen}
 use Words.message
 use Words.input
 use Rattle.arj_law_lock_view.proofs.Terms
-use Terms.{Run, stay, State, Action, MayBegin, IsGoodCoord, MayStand, named_found, off, is_act, AreQuiet, Within, at, down, given, posted}
+use Terms.{IsAtStarts, Marks, Run, stay, State, Action, MayBegin, IsGoodCoord, MayStand, named_found, off, is_act, AreQuiet, Within, at}
+use Terms.{down, given, posted}
 use Terms.{said, up, Up, Walks, halted, walks_both, walks_to, KeepsOf, begins_in, Case, IsSeenIn, Spot, world_at, coord_at, Fixed}
 use Terms.{SeesLocks, AreTied, AreVotedAt, IsSeenSo, is_for_parts, AreVoted}
 use Rattle.arj_law_lock_view.proofs.facts.VoteCoords.{acts_are_voted, heard_is_voted, others_are_voted}
@@ -30,16 +31,17 @@ use Rattle.arj_law_runs.proofs.kept.Begins as begins
 
 -- ---- more is sent along a walk
 
-module _ (sent : List Post) (e k : ℕ) (v : Parts) where
+module _ (L : Seen) (e k : ℕ) (v : Parts) where
+  -- and the start stays
   abbrev Has : Seen → Type 0
-  Has N = Within sent N.sent
+  Has N = Within L.sent N.sent × (N.start ≡ L.start)
 
-  sent_grows : (outs : List Effect) (d : Disk) (M : Seen) → Within sent M.sent → Walks Has e k outs (Up Has k v) d M
-  sent_grows [] d M within = within
-  sent_grows (Do w ∷ es) d M within = (λ how. within, sent_grows es (worked w d) M within)
-  sent_grows (Say b ∷ es) d M within = sent_grows es d (said e (b ∷ []) M) within
-  sent_grows (Send to m ∷ es) d M within =
-      λ more quiet. sent_grows es d (said e more (posted (record { from = k; to = to; message = m }) M)) (λ p there. inr (within p there))
+  sent_grows : (outs : List Effect) (d : Disk) (M : Seen) → Has M → Walks Has e k outs (Up Has k v) d M
+  sent_grows [] d M has = has
+  sent_grows (Do w ∷ es) d M has = (λ how. has, sent_grows es (worked w d) M has)
+  sent_grows (Say b ∷ es) d M has = sent_grows es d (said e (b ∷ []) M) has
+  sent_grows (Send to m ∷ es) d M has = λ more quiet.
+      sent_grows es d (said e more (posted (record { from = k; to = to; message = m }) M)) ((λ p there. inr (has.0 p there)), has.1)
 
 -- ---- what agrees with more agrees with less
 
@@ -69,33 +71,33 @@ pub as_older : (Apt : Fixed → Type 0) (f : Fixed) (x : ℕ) (a : Action) (begu
 as_older Apt f x a begun sent g = (agree_older f x a begun sent g.0, g.1)
 
 -- the object is seen, and on a condition commits have their votes
-abbrev pub LocksSo : (Fixed → Type 0) → Type 0 → ℕ → (List Action → Seen → Type 0) → Seen → Type 0
-LocksSo Apt U x R M = (begun : List Action) × IsAlikeOf begun M × R begun M × ((f : Fixed) → AgreesBy Apt f x begun M.sent →
+abbrev pub LocksSo : (Marks → Fixed → Type 0) → Type 0 → ℕ → (List Action → Seen → Type 0) → Seen → Type 0
+LocksSo Apt U x R M = (begun : List Action) × IsAlikeOf begun M × R begun M × ((f : Fixed) → AgreesBy (Apt M.start.marks) f x begun M.sent →
     (S : State) × SeesLocks f x begun S M × AreTied f x M.lines S × (U → AreVotedAt f x S M)) × AreCoordsNamed M
 
--- And the machine has gone there from these states, for all that was fixed and agreed with what was sent then.
-abbrev pub LocksFrom : (Apt : Fixed → Type 0) → Type 0 → (x : ℕ) → (List Action → Seen → Type 0) → (begun : List Action) →
-    (sent : List Post) → ((f : Fixed) → AgreesBy Apt f x begun sent → State) → Seen → Type 0
-LocksFrom Apt U x R begun sent from M =
-    IsAlikeOf begun M × R begun M × ((f : Fixed) → AgreesBy Apt f x begun M.sent → (S : State) × SeesLocks f x begun S M
-    × AreTied f x M.lines S × (U → AreVotedAt f x S M) × ((a : AgreesBy Apt f x begun sent) × Run (from f a) S)) × AreCoordsNamed M
+-- And the machine has gone there from these states, for all that was fixed and agreed with what was seen then.
+abbrev pub LocksFrom : (Apt : Marks → Fixed → Type 0) → Type 0 → (x : ℕ) → (List Action → Seen → Type 0) → (begun : List Action) →
+    (M : Seen) → ((f : Fixed) → AgreesBy (Apt M.start.marks) f x begun M.sent → State) → Seen → Type 0
+LocksFrom Apt U x R begun M from N = IsAlikeOf begun N × R begun N × ((f : Fixed) → AgreesBy (Apt N.start.marks) f x begun N.sent →
+    (S : State) × SeesLocks f x begun S N × AreTied f x N.lines S × (U → AreVotedAt f x S N)
+    × ((a : AgreesBy (Apt M.start.marks) f x begun M.sent) × Run (from f a) S)) × AreCoordsNamed N
 
 -- a walk in which the object is seen, for all that may be fixed and agrees with what was done before
-kept_walk : (Apt : Fixed → Type 0) (V : Type 0) (x : ℕ) (R : List Action → Seen → Type 0) (begun : List Action) (e k : ℕ)
-    (outs : List Effect) (v : Parts) (d : Disk) (M : Seen) (from : (f : Fixed) → AgreesBy Apt f x begun M.sent → State) →
+kept_walk : (Apt : Marks → Fixed → Type 0) (V : Type 0) (x : ℕ) (R : List Action → Seen → Type 0) (begun : List Action) (e k : ℕ)
+    (outs : List Effect) (v : Parts) (d : Disk) (M : Seen) (from : (f : Fixed) → AgreesBy (Apt M.start.marks) f x begun M.sent → State) →
     Walks (R begun) e k outs (Up (R begun) k v) d M → Walks (IsPathedOf begun) e k outs (Up (IsPathedOf begun) k v) d M
-    → ((f : Fixed) (a : AgreesBy Apt f x begun M.sent) → Walks (IsSeenSo (case_of f x begun (from f a))) e k outs
+    → ((f : Fixed) (a : AgreesBy (Apt M.start.marks) f x begun M.sent) → Walks (IsSeenSo (case_of f x begun (from f a))) e k outs
     (Up (IsSeenSo (case_of f x begun (from f a))) k v) d M × ((T : State) → Run (from f a) T → V → HaveVotes f x M k v.coord T))
-    → Walks (LocksFrom Apt V x R begun M.sent from) e k outs (Up (LocksFrom Apt V x R begun M.sent from) k v) d M
+    → Walks (LocksFrom Apt V x R begun M from) e k outs (Up (LocksFrom Apt V x R begun M from) k v) d M
 kept_walk Apt V x R begun e k outs v d M from holds good sees =
-    let A : Type 0 = (f : Fixed) × AgreesBy Apt f x begun M.sent in
+    let A : Type 0 = (f : Fixed) × AgreesBy (Apt M.start.marks) f x begun M.sent in
     let Q : A → Seen → Type 0 = λ a N. Agrees a.0 x begun N.sent →
     (S : State) × SeesLocks a.0 x begun S N × AreTied a.0 x N.lines S × Run (from a.0 a.1) S in
-    let H : Seen → Type 0 = λ N. Within M.sent N.sent in
+    let H : Seen → Type 0 = λ N. Within M.sent N.sent × (N.start ≡ M.start) in
     let E : Seen → Type 0 = λ N. (a : A) → Q a N in
     let one = walks_each {A = A} Q e k outs (λ a. Up (Q a) k v) d M (λ a. (sees a.0 a.1).0) in
     let two = walks_both H E e k outs (Up H k v) (λ c N. (a : A) →
-    Up (Q a) k v c N) d M (sent_grows M.sent e k v outs d M (λ p there. there)) one in
+    Up (Q a) k v c N) d M (sent_grows M e k v outs d M ((λ p there. there), refl)) one in
     let G : Seen → Type 0 = IsPathedOf begun in
     let T : Seen → Type 0 = λ N. H N × E N in
     let three = walks_both G T e k outs (Up G k v) (λ c N. Up H k v c N × ((a : A) → Up (Q a) k v c N)) d M good two in
@@ -106,19 +108,21 @@ kept_walk Apt V x R begun e k outs v d M from holds good sees =
     let W : Seen → Type 0 = λ N. R begun N × U N in
     let five = walks_both O W e k outs (Up O k v) (λ c N. Up (R begun) k v c N
     × (Up G k v c N × (Up H k v c N × ((a : A) → Up (Q a) k v c N)))) d M (nodes_walk M k v e outs d M (λ j. refl)) four in
-    walks_to (λ N. O N × W N) (LocksFrom Apt V x R begun M.sent from) e k outs (λ c N. Up O k v c N × (Up (R begun) k v c N
-    × (Up G k v c N × (Up H k v c N × ((a : A) → Up (Q a) k v c N))))) (Up (LocksFrom Apt V x R begun M.sent from) k v) d M
+    walks_to (λ N. O N × W N) (LocksFrom Apt V x R begun M from) e k outs (λ c N. Up O k v c N × (Up (R begun) k v c N
+    × (Up G k v c N × (Up H k v c N × ((a : A) → Up (Q a) k v c N))))) (Up (LocksFrom Apt V x R begun M from) k v) d M
     (λ N w. locked N w.0 w.1)
     (λ c N w. locked (up k c v N) w.0 w.1) five
   where
     locked : (N : Seen) → IsOldOrNew M k v N → R begun N × (IsPathedOf begun N
-        × (Within M.sent N.sent × ((a : (f : Fixed) × AgreesBy Apt f x begun M.sent) → Agrees a.0 x begun N.sent → (S : State)
-        × SeesLocks a.0 x begun S N × AreTied a.0 x N.lines S × Run (from a.0 a.1) S))) → LocksFrom Apt V x R begun M.sent from N
+        × ((Within M.sent N.sent × (N.start ≡ M.start)) × ((a : (f : Fixed) × AgreesBy (Apt M.start.marks) f x begun M.sent) →
+        Agrees a.0 x begun N.sent → (S : State)
+        × SeesLocks a.0 x begun S N × AreTied a.0 x N.lines S × Run (from a.0 a.1) S))) → LocksFrom Apt V x R begun M from N
     locked N nodes z = (
       z.1.0.1,
       z.0,
       (λ f agrees.
-          let before = as_less Apt f x begun M.sent N.sent z.1.1.0 agrees in
+          let before = as_less (Apt M.start.marks) f x begun M.sent N.sent z.1.1.0.0
+          (agrees.0, subst (λ (s : Start). Apt s.marks f) z.1.1.0.1 agrees.1) in
           let g = z.1.1.1 (f, before) agrees.0 in
           (g.0, g.1, g.2, (λ u. voted_at f x M k v N g.0 nodes ((sees f before).1 g.0 g.3 u)), (before, g.3))),
       z.1.0.0.1,
@@ -214,8 +218,9 @@ not_begin i act l k parent same = let bad : true ≡ false = sym act ∙ ap is_a
 
 -- ---- each handler
 
-module _ (hd : Header) (Apt : Fixed → Type 0) (x : ℕ) (G : Seen → Type 0) (R : List Action → Seen → Type 0) (Y : Fixed → List Action →
-    State → Seen → Type 0) (keeps : KeepsOf hd (λ begun M. G M) R) (gives : (f : Fixed) → Apt f →
+module _ (hd : Header) (Apt : Marks → Fixed → Type 0) (x : ℕ) (G : Seen → Type 0) (R : List Action → Seen → Type 0) (Y : Fixed →
+    List Action →
+    State → Seen → Type 0) (keeps : KeepsOf hd (λ begun M. G M) R) (gives : (marks : Marks) (f : Fixed) → Apt marks f →
     GivesLocks hd f x (λ begun S M. (G M × R begun M) × Y f begun S M))
     (V : Type 0) (used : (M : Seen) → G M → V → AllVotesAreUsed M) where
   abbrev Kept : Seen → Type 0
@@ -223,14 +228,14 @@ module _ (hd : Header) (Apt : Fixed → Type 0) (x : ℕ) (G : Seen → Type 0) 
 
   -- what is seen from this state of each machine on
   abbrev pub From : (M : Seen) → Kept M → Seen → Type 0
-  From M z N = LocksFrom Apt V x R z.0 M.sent (λ f a. let g = z.3 f a in g.0) N
+  From M z N = LocksFrom Apt V x R z.0 M (λ f a. let g = z.3 f a in g.0) N
 
   -- in each state in which it is seen more is known
   abbrev pub Knows : (M : Seen) → Kept M → Type 0
-  Knows M z = (f : Fixed) (a : AgreesBy Apt f x z.0 M.sent) → Y f z.0 (let g = z.3 f a in g.0) M
+  Knows M z = (f : Fixed) (a : AgreesBy (Apt M.start.marks) f x z.0 M.sent) → Y f z.0 (let g = z.3 f a in g.0) M
 
   -- what is seen, where what is fixed agrees
-  seen_in : (f : Fixed) (M : Seen) (z : Kept M) (agrees : AgreesBy Apt f x z.0 M.sent) →
+  seen_in : (f : Fixed) (M : Seen) (z : Kept M) (agrees : AgreesBy (Apt M.start.marks) f x z.0 M.sent) →
       IsSeenIn (case_of f x z.0 (let g = z.3 f agrees in g.0)) M
   seen_in f M z agrees = record {
     good = z.1.0;
@@ -266,22 +271,26 @@ module _ (hd : Header) (Apt : Fixed → Type 0) (x : ℕ) (G : Seen → Type 0) 
       (r.1, keeps.stop z.0 e k d live M more z.1.0 z.2, (λ f. by f live more z more_known), r.0.1)
     where
       by : (f : Fixed) (live : Option Parts) → G (at k d live M) → (z : Kept (at k d live M)) → Knows (at k d live M) z →
-          AgreesBy Apt f x z.0 M.sent → (S : State) × SeesLocks f x z.0 S (halted e k d M) × AreTied f x (let N = halted e k d M in
-          N.lines) S × (V → AreVotedAt f x S (halted e k d M)) × ((a : AgreesBy Apt f x z.0 M.sent) × Run (let g = z.3 f a in g.0) S)
+          AgreesBy (Apt M.start.marks) f x z.0 M.sent → (S : State) × SeesLocks f x z.0 S (halted e k d M)
+              × AreTied f x (let N = halted e k d M in
+          N.lines) S × (V → AreVotedAt f x S (halted e k d M)) × ((a : AgreesBy (Apt M.start.marks) f x z.0 M.sent)
+          × Run (let g = z.3 f a in g.0) S)
       by f None more z more_known agrees = (let g = z.3 f agrees in let h = down_stays (case_of f x z.0 g.0) e k d M (seen_in f
           (down k d M) z agrees) agrees.0 in (h.0, h.1, h.2, (λ u. halted_votes f x e k d None M g.0 h.0 h.3 (g.3 u)), (agrees, h.3)))
       by f (Some t) more z more_known agrees =
           let g = z.3 f agrees in
           let s : Spot = record { node = k; disk = d; parts = t; seen = M } in
           let seen = seen_in f (world_at s) z agrees in
-          let h = stops_go (case_of f x z.0 g.0) s e seen ((gives f agrees.1).holds z.0 g.0 s ((more, z.2), more_known f agrees) seen)
+          let h = stops_go (case_of f x z.0 g.0) s e seen ((gives M.start.marks f agrees.1).holds z.0 g.0 s
+              ((more, z.2), more_known f agrees) seen)
           agrees.0 in
           (h.0, h.1, h.2, (λ u. halted_votes f x e k d (Some t) M g.0 h.0 h.3 (g.3 u)), (agrees, h.3))
 
   -- ---- a message
 
   module _ (f : Fixed) (e : ℕ) (s : Spot) (from : ℕ) (more : G (world_at s)) (z : Kept (world_at s))
-      (agrees : AgreesBy Apt f x z.0 (let M = s.seen in M.sent)) (known : Y f z.0 (let g = z.3 f agrees in g.0) (world_at s)) where
+      (agrees : AgreesBy (Apt (let M = s.seen in M.start.marks)) f x z.0 (let M = s.seen in M.sent))
+      (known : Y f z.0 (let g = z.3 f agrees in g.0) (world_at s)) where
     abbrev begun : List Action
     begun = z.0
 
@@ -298,7 +307,7 @@ module _ (hd : Header) (Apt : Fixed → Type 0) (x : ℕ) (G : Seen → Type 0) 
     seen = seen_in f (world_at s) z agrees
 
     its : GivesLocks hd f x (λ begun S M. (G M × R begun M) × Y f begun S M)
-    its = gives f agrees.1
+    its = gives (let M = s.seen in M.start.marks) f agrees.1
 
     coordinator_goes : (m : Message) (v : Parts) (outs : List Effect) → HasCome s from m v outs → is_for_parts m ≡ false →
         (o : Option (Uid × Bool)) → coordinated m ≡ o → Goes outs v
@@ -393,7 +402,8 @@ module _ (hd : Header) (Apt : Fixed → Type 0) (x : ℕ) (G : Seen → Type 0) 
 
   -- at an input about an action the object is seen through what the coordinator does
   module _ (f : Fixed) (e : ℕ) (s : Spot) (more : G (world_at s)) (z : Kept (world_at s))
-      (agrees : AgreesBy Apt f x z.0 (let M = s.seen in M.sent)) (known : Y f z.0 (let g = z.3 f agrees in g.0) (world_at s)) where
+      (agrees : AgreesBy (Apt (let M = s.seen in M.start.marks)) f x z.0 (let M = s.seen in M.sent))
+      (known : Y f z.0 (let g = z.3 f agrees in g.0) (world_at s)) where
     abbrev b : Case
     b = case_of f x z.0 (let g = z.3 f agrees in g.0)
 
@@ -406,8 +416,10 @@ module _ (hd : Header) (Apt : Fixed → Type 0) (x : ℕ) (G : Seen → Type 0) 
 
     pub input_goes : (i : Input) → is_act i ≡ true → refusal_up hd i (coord_at s) ≡ None → ActGoes i
     input_goes i is none =
-        let q = (gives f agrees.1).act z.0 (let g = z.3 f agrees in g.0) s i ((more, z.2), known) seen_so is none in
-        inputs_go hd b s e i seen_so ((gives f agrees.1).holds z.0 (let g = z.3 f agrees in g.0) s ((more, z.2), known) seen_so) q.0 is none
+        let q = (gives (let M = s.seen in M.start.marks) f agrees.1).act z.0 (let g = z.3 f agrees in
+            g.0) s i ((more, z.2), known) seen_so is none in
+        inputs_go hd b s e i seen_so ((gives (let M = s.seen in M.start.marks) f agrees.1).holds z.0 (let g = z.3 f agrees in
+            g.0) s ((more, z.2), known) seen_so) q.0 is none
         q.1
 
   pub kept_act : (e k : ℕ) (d : Disk) (t : Parts) (i : Input) (M : Seen) → is_act i ≡ true → refusal_up hd i t.coord ≡ None →
@@ -426,7 +438,7 @@ module _ (hd : Header) (Apt : Fixed → Type 0) (x : ℕ) (G : Seen → Type 0) 
 
   -- an action that isn't refused may stand where it begins
   module _ (f : Fixed) (e : ℕ) (s : Spot) (l : Label) (how : Kind) (parent : Option Label) (z : Kept (world_at s))
-      (older : AgreesBy Apt f x z.0 (let M = s.seen in M.sent))
+      (older : AgreesBy (Apt (let M = s.seen in M.start.marks)) f x z.0 (let M = s.seen in M.sent))
       (new : label_at l (let M = s.seen in M.labels) ≡ None) (may : MayGive (let M = s.seen in M.labels) s.node how parent)
       (none : begin_refusal how (coord_at s) parent ≡ None) where
     abbrev q : Coord
@@ -454,7 +466,8 @@ module _ (hd : Header) (Apt : Fixed → Type 0) (x : ℕ) (G : Seen → Type 0) 
         by None e f = absurd (cc e)
         by (Some y) e f = (off (begin_reasons how b q) (ap (refused_by (begin_reasons how) q) (sym e) ∙ f)).0
 
-    pub may_stand : AgreesBy Apt f x (a ∷ z.0) (let M = s.seen in M.sent) → MayStand f.paths how q.tree p
+    pub may_stand : AgreesBy (Apt (let M = s.seen in M.start.marks)) f x (a ∷ z.0) (let M = s.seen in M.sent) →
+        MayStand f.paths how q.tree p
     may_stand agrees = record {
       uid = its_next.uid;
       path = sym path_is ∙ ap f.paths its_next.uid;
@@ -477,7 +490,7 @@ module _ (hd : Header) (Apt : Fixed → Type 0) (x : ℕ) (G : Seen → Type 0) 
 
   -- with one action more
   abbrev pub FromBegun : Action → (M : Seen) → Kept M → Seen → Type 0
-  FromBegun a M z N = LocksFrom Apt V x R (a ∷ z.0) M.sent (λ f w. let g = z.3 f (as_older Apt f x a z.0 M.sent w) in g.0) N
+  FromBegun a M z N = LocksFrom Apt V x R (a ∷ z.0) M (λ f w. let g = z.3 f (as_older (Apt M.start.marks) f x a z.0 M.sent w) in g.0) N
 
   pub kept_begin : (e k : ℕ) (d : Disk) (t : Parts) (l : Label) (how : Kind) (parent : Option Label) (M : Seen) →
       label_at l M.labels ≡ None → MayGive M.labels k how parent → begin_refusal how t.coord parent ≡ None → G (up k d t M) →
@@ -490,14 +503,16 @@ module _ (hd : Header) (Apt : Fixed → Type 0) (x : ℕ) (G : Seen → Type 0) 
       let s : Spot = record { node = k; disk = d; parts = t; seen = M } in
       let N = given l (record { node = k; serial = is_serial_kind how }) M in
       let a : Action = begins_in how parent t in
-      kept_walk Apt V x R (a ∷ z.0) e k D.outs (with_coord t D.part) d N (λ f w. let g = z.3 f (as_older Apt f x a z.0 M.sent w) in
+      kept_walk Apt V x R (a ∷ z.0) e k D.outs (with_coord t D.part) d N (λ f w. let g = z.3 f (as_older
+          (Apt M.start.marks) f x a z.0 M.sent w) in
       g.0) (keeps.begin z.0 e k d t l how parent M new may none more z.1.0 z.2)
       (begin_pathed hd z.0 e k d t l how parent M new may none (pathed_in (up k d t M) z))
-      (λ f agrees. let older = as_older Apt f x a z.0 M.sent agrees in (
+      (λ f agrees. let older = as_older (Apt M.start.marks) f x a z.0 M.sent agrees in (
         begins_go (case_of f x z.0 (let g = z.3 f older in g.0)) s e l (record { node = k; serial = is_serial_kind how }) how parent
             (parent_of parent t.coord) (seen_in f (world_at s) z older) (let w = agrees.0.whole in
             w.begun.0) (may_stand f e s l how parent z older new may none agrees)
-            ((gives f agrees.1).begin z.0 (let g = z.3 f older in g.0) s ((more, z.2), known f older) (seen_in f (world_at s) z older)),
+            ((gives M.start.marks f agrees.1).begin z.0 (let g = z.3 f older in g.0) s ((more, z.2), known f older)
+            (seen_in f (world_at s) z older)),
         (λ T run u. let h = had_votes f x k d t M (let g = z.3 f older in g.0) T run ((let g = z.3 f older in g.3) u) in
             (h.0, (others_are_voted f.act f.code x t.coord T h.1).0 l how parent)),
       ))
@@ -511,7 +526,7 @@ module _ (hd : Header) (Apt : Fixed → Type 0) (x : ℕ) (G : Seen → Type 0) 
       (with_coord t (let q = again_all t.coord.doings t.coord in q.part)) d M (λ f a. let g = z.3 f a in
       g.0) (keeps.tick z.0 e k d t M more z.1.0 z.2) (tick_pathed hd z.0 e k d t M (pathed_in (up k d t M) z))
       (λ f agrees. let g = z.3 f agrees in let seen = seen_in f (world_at s) z agrees in
-      let q = (gives f agrees.1).tick z.0 g.0 s ((more, z.2), known f agrees) seen in (
+      let q = (gives M.start.marks f agrees.1).tick z.0 g.0 s ((more, z.2), known f agrees) seen in (
         ticks_go (case_of f x z.0 g.0) s e seen q.0 q.1 q.2,
         (λ T run u. let h = had_votes f x k d t M g.0 T run (g.3 u) in
             (h.0, (others_are_voted f.act f.code x t.coord T h.1).2 t.coord.doings)),
@@ -523,15 +538,18 @@ module _ (hd : Header) (Apt : Fixed → Type 0) (x : ℕ) (G : Seen → Type 0) 
       kept_walk Apt V x R z.0 e k (restart_outs hd k (d.inc + 1) d) (parts_in k (d.inc + 1) d) d M (λ f a. let g = z.3 f a in
       g.0) (keeps.restart z.0 e k d M more z.1.0 z.2) (restart_pathed hd z.0 e k d M (pathed_in (down k d M) z))
       (λ f agrees. let g = z.3 f agrees in let seen = seen_in f (down k d M) z agrees in (
-        restarts_go hd (case_of f x z.0 g.0) e k d M seen ((gives f agrees.1).restart z.0 g.0 k d M ((more, z.2), known f agrees) seen),
+        restarts_go hd (case_of f x z.0 g.0) e k d M seen ((gives M.start.marks f agrees.1).restart z.0 g.0 k d M
+        ((more, z.2), known f agrees) seen),
         (λ T run u. new_votes f x k d M (d.inc + 1) d.intents g.0 T run (g.3 u)),
       ))
 
-  pub first_kept : Kept (see [] (format hd))
-  first_kept = let r = first_pathed hd in (
+  pub first_kept : IsAtStarts hd Kept
+  first_kept st formed = let r = first_pathed hd st formed in (
     [],
     r.1,
-    keeps.first,
-    (λ f agrees. let g = first_goes hd f x (gives f agrees.1).first in (g.0, g.1, g.2, (λ u. first_votes hd f x g.0))),
+    keeps.first st formed,
+    (λ f agrees.
+        let g = first_goes hd st f x ((gives st.marks f agrees.1).first st formed) in
+        (g.0, g.1, g.2, (λ u. first_votes hd f x g.0 st formed))),
     r.0.1,
   )

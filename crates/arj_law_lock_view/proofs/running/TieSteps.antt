@@ -1,13 +1,14 @@
 -- The journal stays tied to the machine's state that is seen.
 use Rattle.arj_law_parts.proofs.Words
 use Words.{◌≡◌, ◌≢◌, ◌≤◌, ◌⊎◌, ◌∙◌, ◌+◌, ◌++◌, ℕ, List, [], ◌∷◌, length, true, false, Option, Some, refl, sym, ap, subst, inl, inr, ⊎_elim}
-use Words.{arith, Contains, list_all, and_parts, nobody, in_from, in_to, Body, Kind, Label, Line, Message, Uid, name, Tree, branch_of}
+use Words.{arith, Contains, list_all, and_parts, in_from, in_to, Body, Kind, Label, Line, Message, Uid, name, Tree, branch_of}
 use Words.{numbered, Seen}
 use Words.list
 use Words.body
 use Words.kind
 use Rattle.arj_law_lock_view.proofs.Terms
-use Terms.{Placed, acts, is_serial, recovered, Values, Action, act_of, AreQuiet, is_quiet_line, AreDistinct, Act, is_action, State}
+use Terms.{StandsFor, Placed, acts, is_serial, recovered, Values, Action, act_of, AreQuiet, is_quiet_line, AreDistinct, Act, is_action}
+use Terms.{State}
 use Terms.{IsUntouched, ChangesOne, SameEnd, committed_at, OnlyNaming, OnlyServing, View, HasStopped, OnlyStopped, IsOnPage, Page, AreNamed}
 use Terms.{ArePlain, CallsStay, EndsStay, AreHereOrGone, Case, IsSeenIn, Spot, world_at, coord_at, Fixed, view_of, ArePast, IsPast}
 use Terms.{IsUnbegun, AreTied, BeginNone}
@@ -235,7 +236,7 @@ abbrev pub page_at : Spot → ℕ → Values → Page
 page_at s e values = record { lines = (let M = s.seen in M.lines); event = e; values = values }
 
 pub on_page : (c : Case) (s : Spot) (e : ℕ) (is_seen : IsSeenIn c (world_at s)) (values : Values) →
-    (let f = c.fixed in f.first ≡ f.code (values c.x) (f.act nobody)) →
+    StandsFor c.fixed (values c.x) →
     IsOnPage (let f = c.fixed in f.act) (let f = c.fixed in f.code) c.x (page_at s e values) (coord_at s) c.state
 on_page c s e is_seen values is = record {
   named = let t = tied_now c (world_at s) is_seen in t.named;

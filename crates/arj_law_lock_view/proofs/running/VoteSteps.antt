@@ -1,15 +1,16 @@
 -- What commits have of votes, in each later state of the machine: what an answer shows of them, and who has them behind a step.
 use Rattle.arj_law_parts.proofs.Words
-use Words.{arith, ◌≡◌, ◌⊎◌, ◌∙◌, ◌==◌, ℕ, List, [], ◌∷◌, Bool, true, false, cond, eqb-true, Option, Some, None, refl, sym, ap, subst, inl}
+use Words.{◌+◌, arith, ◌≡◌, ◌⊎◌, ◌∙◌, ◌==◌, ℕ, List, [], ◌∷◌, Bool, true, false, cond, eqb-true, Option, Some, None, refl, sym, ap, subst}
+use Words.{inl}
 use Words.{inr, ⊎_elim, Contains, in_from, in_to, Ask, Asked, ObjectState, Uid, object, Reply, actor, response, waits_for_commit, Machine}
 use Words.{Used, Voting, ask_of, plan_of, Committing, Coord, Doing, doing_of, new_coord, Disk, Do, Effect, Intent, Say, Send, worked, Parts}
-use Words.{Node, first_disk, first_node, parts_in, Seen, see, format, Header}
+use Words.{Node, Seen, Header}
 use Words.list
 use Words.voted
 use Rattle.arj_law_lock_view.proofs.Terms
-use Terms.{Run, State, other_number, same_number, at, posted, said, Up, Walks, halted, AreVoted, side_at, ShowsReply, View, IsCalledIn}
+use Terms.{IsAtStarts, first_up, Run, State, other_number, same_number, at, posted, said, Up, Walks, halted, AreVoted, side_at, ShowsReply}
+use Terms.{View, IsCalledIn}
 use Terms.{side_of, KnowsAnswer, Case, HoldsNamingIn, IsSeenIn, Spot, view_in, world_at, coord_at, Fixed, IsAnswerSeen, AreVotedAt}
-use Terms.{first_at}
 use Rattle.arj_law_lock_view.proofs.facts.VoteCoords.{stays_voted}
 use Rattle.arj_law_lock_view.proofs.running
 use running.{OtherSteps.node_here, OtherSteps.node_there, StartSteps.no_work}
@@ -162,11 +163,6 @@ new_votes f x k d M inc telling S T run votes = (
 )
 
 -- no commit is under way at first
-pub first_votes : (hd : Header) (f : Fixed) (x : ℕ) (S : State) → AreVotedAt f x S (see [] (format hd))
-first_votes hd f x S k n t there up u d m works now = absurd (none (first_at hd k n there) up)
-  where
-    none : first_node hd k ≡ n → n.live ≡ Some t → ⊥
-    none same live =
-        let one : ◌≡◌ {A = Option Parts} (Some (parts_in k 1 (first_disk hd k))) (Some t) = ap (λ (z : Node). z.live) same ∙ live in
-        let parts : parts_in k 1 (first_disk hd k) ≡ t = cc one in
-        no_work k 1 u d (ap (λ (q : Parts). doing_of u q.coord) parts ∙ works)
+pub first_votes : (hd : Header) (f : Fixed) (x : ℕ) (S : State) → IsAtStarts hd (AreVotedAt f x S)
+first_votes hd f x S st formed k n t there up u d m works now =
+    absurd (no_work k (st.incs k + 1) u d (ap (λ (q : Parts). doing_of u q.coord) (first_up hd st k n t there up) ∙ works))

@@ -7,12 +7,12 @@ use Rattle.arj_protocol.specs.Follow.{tick_outs}
 use Rattle.arj_protocol.specs.Node.{Parts, Took, handle, is_meant, with_coord}
 use Rattle.arj_protocol.specs.Step.{Input, acts, begin_refusal, parent_of, parts_in, refusal_up, restart_outs}
 use Rattle.arj_protocol.specs.Tree.{next_uid, path_below}
-use Rattle.arj_protocol.specs.World.{format, is_serial_kind}
+use Rattle.arj_protocol.specs.World.{is_serial_kind}
 use Rattle.arj_law_parts.specs.parts.Actions.{Action}
 use Rattle.arj_law_runs.specs.kept.Worlds.{IsGoodOf}
-use Rattle.arj_law_parts.specs.moves.Keeps.{DidKeeps, MayGive, is_act, label_at}
+use Rattle.arj_law_parts.specs.moves.Keeps.{DidKeeps, IsAtStarts, MayGive, is_act, label_at}
 use Rattle.arj_law_parts.specs.moves.Seen.{AreQuiet, In, at, down, given, said, up}
-use Rattle.arj_promise.specs.Runs.{Seen, see}
+use Rattle.arj_promise.specs.Runs.{Seen}
 use Rattle.arj_law_parts.specs.moves.Walks.{Up, Walks, halted}
 
 -- the action that begins in this branch
@@ -42,4 +42,4 @@ pub record KeepsOf (hd : Header) (G : List Action → Seen → Type 0) (R : List
       (Up (R begun) k (with_coord t (again_all t.coord.doings t.coord).part)) d M
   pub restart : (begun : List Action) (e k : ℕ) (d : Disk) (M : Seen) → G begun (down k d M) → IsGoodOf begun (down k d M) →
       R begun (down k d M) → Walks (R begun) e k (restart_outs hd k (d.inc + 1) d) (Up (R begun) k (parts_in k (d.inc + 1) d)) d M
-  pub first : R [] (see [] (format hd))
+  pub first : IsAtStarts hd (R [])

@@ -1,5 +1,5 @@
 -- An object's entry stays on the disk of naming's node.
-use Rattle.std.specs.Prelude.{◌≡◌, ℕ, true, List, Some, Contains, is_some}
+use Rattle.std.specs.Prelude.{◌≡◌, ℕ, true, Some, Contains, is_some}
 use Rattle.arj_protocol.specs.Words.{Header, ObjectLine, entry}
 use Rattle.arj_protocol.specs.Confirm.{recovered_naming}
 use Rattle.arj_protocol.specs.Effect.{Pair, held_at}

@@ -1,5 +1,5 @@
 -- The states that calls take to servers.
-use Rattle.std.specs.Prelude.{◌≡◌, ℕ, List, Some}
+use Rattle.std.specs.Prelude.{◌≡◌, Some}
 use Rattle.arj_protocol.specs.Words.{ObjectState, Uid}
 use Rattle.arj_protocol.specs.Call.{AtActivate, Known, Steps}
 use Rattle.arj_protocol.specs.Coord.{Calling, Coord, Doing, doing_of}

@@ -1,5 +1,5 @@
 -- What is known of coordinators, of naming and of its answers, at all nodes and in every message.
-use Rattle.std.specs.Prelude.{⊤, ◌≡◌, ◌≤◌, ℕ, List, Some}
+use Rattle.std.specs.Prelude.{⊤, ◌≡◌, ◌≤◌, ℕ, Some}
 use Rattle.arj_protocol.specs.Words.{Ask, Asked, BoundReply, Head, Header, asks}
 use Rattle.arj_protocol.specs.Words.ask
 use Rattle.arj_protocol.specs.Ask.{Reply, answers}

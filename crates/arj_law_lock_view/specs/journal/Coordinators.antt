@@ -1,11 +1,10 @@
 -- A coordinator's lines: after each input and each answer the journal with the lines that were said is tied to the machine.
-use Rattle.std.specs.Prelude.{◌≡◌, ◌≢◌, ◌⊎◌, ◌≤◌, ◌++◌, ℕ, true, false, List, [], ◌∷◌, Some}
+use Rattle.std.specs.Prelude.{◌≡◌, ℕ, List, [], ◌∷◌, Some}
 use Rattle.arj_journal.specs.declared.body.Body.{Body}
 use Rattle.arj_journal.specs.declared.body.Line.{Line}
 use Rattle.arj_model.specs.Actions as model
 use Rattle.arj_model.specs.Serial.{Values}
 use Rattle.arj_protocol.specs.Words.{Uid}
-use Rattle.arj_protocol.specs.Words.kind
 use Rattle.arj_protocol.specs.Coord.{Coord, Doing, doing_of}
 use Rattle.arj_protocol.specs.Effect.{Do, Effect, Say, Send}
 use Rattle.arj_protocol.specs.Tree.{Branch, branch_of}

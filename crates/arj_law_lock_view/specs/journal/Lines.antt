@@ -2,7 +2,6 @@
 -- with n lines before it stands at place n + 1 in the machine.
 use Rattle.std.specs.Prelude.{⊤, ◌≡◌, ◌⊎◌, ◌≤◌, ◌+◌, ◌==◌, ℕ, true, false, filter, length, reverse, List, [], ◌∷◌, Contains}
 use Rattle.arj_base.specs.Rows.{last_uid}
-use Rattle.arj_base.specs.Uid.{nobody}
 use Rattle.arj_base.specs.declared.uid.Uid.{Uid}
 use Rattle.arj_class.specs.declared.value.Value.{Value}
 use Rattle.arj_class.specs.Table.{answer_of, value_after, writes}
@@ -87,10 +86,11 @@ AllEndSo act lines f = (a : model.Act) → Contains (acts lines) a → is_serial
 -- ---- all of it
 
 -- A journal and a state of the machine of object x: no line of the machine stands behind the journal's; the object's first value is the
--- machine's; the answered calls and includes are the machine's, one by one; and its actions end as the journal says.
+-- machine's, whoever wrote it; the answered calls and includes are the machine's, one by one; and its actions end as the journal says.
 pub record IsTiedToLines (act : Acts) (code : Codes) (values : Values) (x : ℕ) (lines : List Line) (S : State) : Type 0 where
   pub now : S.now ≤ length lines + 1
-  pub first : S.initial ≡ code (values x) (act nobody)
+  pub writer : Act
+  pub first : S.initial ≡ code (values x) writer
   pub calls : AreCallsOf act code (said_on x lines) S.calls
   pub includes : AreIncludesOf act (included_on x lines) S.includes
   pub ends : AllEndSo act lines S.action

@@ -17,7 +17,7 @@ use Rattle.arj_law_parts.specs.parts.Actions.{Action}
 use Rattle.arj_law_runs.specs.kept.Worlds.{IsGood, IsGoodOf}
 use Rattle.arj_law_runs.specs.addresses.Binds.{BindsAreKnown}
 use Rattle.arj_law_parts.specs.moves.Keeps.{Holds, Keeps}
-use Rattle.arj_promise.specs.Runs.{Move, journal_by, world_by}
+use Rattle.arj_promise.specs.Runs.{Run, journal_by, world_by}
 use Rattle.arj_law_parts.specs.moves.Seen.{In}
 use Rattle.arj_promise.specs.Runs.{Post, Seen}
 use Rattle.arj_law_lock_view.specs.facts.Requests.{KnowsRequests}
@@ -94,4 +94,4 @@ RecordsAreFree M = (q : Node) (t : Parts) (n : Naming) (p : Post) (h : Head) (x 
 
 -- so it is in every such run, wherever disks stop
 abbrev pub RunsFreeRecords : Type 0
-RunsFreeRecords = (hd : Header) (ms : List Move) → HasFewBindings (journal_by hd ms) → Holds hd RecordsAreFree (world_by hd ms)
+RunsFreeRecords = (hd : Header) (r : Run hd) → HasFewBindings (journal_by hd r) → Holds hd RecordsAreFree (world_by hd r)

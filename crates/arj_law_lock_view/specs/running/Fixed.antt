@@ -1,7 +1,9 @@
 -- What is fixed of a whole run where one object is seen by the lock machine, and how it agrees with what was done so far.
 use Rattle.std.specs.Prelude.{◌≡◌, ℕ, List, Some}
-use Rattle.arj_base.specs.Uid.{nobody}
+use Rattle.arj_class.specs.declared.value.Value.{Value}
+use Rattle.arj_law_lock.specs.machine.Actions.{Act}
 use Rattle.arj_model.specs.Serial.{Values}
+use Rattle.arj_model.specs.Start.{Marks}
 use Rattle.arj_protocol.specs.Words.{Ask, Head, asks}
 use Rattle.arj_law_parts.specs.parts.Actions.{Action}
 use Rattle.arj_law_parts.specs.parts.Copies.{Paths}
@@ -37,14 +39,18 @@ pub record Agrees (f : Fixed) (x : ℕ) (begun : List Action) (sent : List Post)
   pub wanted : (p : Post) (h : Head) (a : Ask) → In p sent → asks (let q = p in q.message) ≡ Some (h, a) →
       IsWanted (view_of f x begun p.to) h a
 
--- the number of the object's first value stands for this one, which nobody wrote
-abbrev pub BeginsAs : Values → ℕ → Fixed → Type 0
-BeginsAs values x f = f.first ≡ f.code (values x) (f.act nobody)
+-- the number of the object's first value stands for this one, whoever wrote it
+abbrev pub StandsFor : Fixed → Value → Type 0
+StandsFor f v = (by : Act) × (f.first ≡ f.code v by)
+
+-- it stands for this one, by whom the object's mark names
+abbrev pub BeginsAs : Values → Marks → ℕ → Fixed → Type 0
+BeginsAs values marks x f = f.first ≡ f.code (values x) (f.act (let m = marks.states x in m.writer))
 
 -- it agrees with what was done so far, and is so
 abbrev pub AgreesBy : (Fixed → Type 0) → Fixed → ℕ → List Action → List Post → Type 0
 AgreesBy Apt f x begun sent = Agrees f x begun sent × Apt f
 
 -- it agrees, and begins so
-abbrev pub AgreesAs : Values → Fixed → ℕ → List Action → List Post → Type 0
-AgreesAs values f x begun sent = AgreesBy (BeginsAs values x) f x begun sent
+abbrev pub AgreesAs : Values → Marks → Fixed → ℕ → List Action → List Post → Type 0
+AgreesAs values marks f x begun sent = AgreesBy (BeginsAs values marks x) f x begun sent

@@ -1,19 +1,21 @@
 -- Whole runs: the object is seen in every world of a run, where relations of the protocol alone give what the handlers count on.
-use Rattle.std.specs.Prelude.{◌≡◌, Bool, ℕ, true, List, Some, None}
+use Rattle.std.specs.Prelude.{◌≡◌, ℕ, true, List, Some, None}
 use Rattle.arj_protocol.specs.Words.{Asked, Header, Message, Uid}
 use Rattle.arj_protocol.specs.Words.message
 use Rattle.arj_protocol.specs.Ask.{Reply, answers}
 use Rattle.arj_protocol.specs.Coord.{no_root, root_at}
 use Rattle.arj_protocol.specs.Effect.{Disk, Effect}
 use Rattle.arj_protocol.specs.Node.{Parts, Took, handle, is_meant}
-use Rattle.arj_protocol.specs.Step.{Input, Node, acts, first_disk, refusal_up}
+use Rattle.arj_protocol.specs.Step.{Input, Node, acts, disk_by, refusal_up}
 use Rattle.arj_protocol.specs.Tree.{next_uid}
 use Rattle.arj_law_lock.specs.machine.State.{State}
 use Rattle.arj_law_parts.specs.parts.Actions.{Action}
 use Rattle.arj_law_parts.specs.steps.Named.{HasNames}
 use Rattle.arj_law_parts.specs.moves.Keeps.{is_act}
 use Rattle.arj_law_parts.specs.moves.Seen.{In, down}
+use Rattle.arj_model.specs.Start.{Start}
 use Rattle.arj_promise.specs.Runs.{Seen}
+use Rattle.arj_promise.specs.Starts.{IsFormed}
 use Rattle.arj_law_lock_view.specs.facts.Works.{KnowsEnds}
 use Rattle.arj_law_lock_view.specs.running.Answers.{KnowsAnswer}
 use Rattle.arj_law_lock_view.specs.running.Asking.{HasWholeRoots, IsAskedAbout, TellsRecords}
@@ -62,4 +64,4 @@ pub record GivesLocks (hd : Header) (f : Fixed) (x : ℕ) (R : List Action → S
       KnowsAsks (case_of f x begun S) (coord_at s) × KnowsEnds (coord_at s) × TellsRecords s
   pub restart : (begun : List Action) (S : State) (k : ℕ) (d : Disk) (M : Seen) → R begun S (down k d M) →
       IsSeenIn (case_of f x begun S) (down k d M) → KnowsEntry x k d
-  pub first : KnowsEntry x 1 (first_disk hd 1)
+  pub first : (st : Start) → IsFormed hd st → KnowsEntry x 1 (disk_by hd st 1)

@@ -1,5 +1,5 @@
 -- What commits have of votes on the object, in the whole world.
-use Rattle.std.specs.Prelude.{◌≡◌, Bool, ℕ, true, List, Some}
+use Rattle.std.specs.Prelude.{◌≡◌, ℕ, Some}
 use Rattle.arj_protocol.specs.Node.{Parts}
 use Rattle.arj_protocol.specs.Step.{Node}
 use Rattle.arj_law_lock.specs.machine.State.{State}

@@ -5,12 +5,13 @@ use Rattle.arj_protocol.specs.Words.message
 use Rattle.arj_protocol.specs.Ask.{answers}
 use Rattle.arj_protocol.specs.Effect.{Disk, Effect}
 use Rattle.arj_protocol.specs.Node.{Parts, Took, handle, is_meant}
-use Rattle.arj_protocol.specs.Step.{first_disk, parts_in, restart_outs}
-use Rattle.arj_protocol.specs.World.{format}
+use Rattle.arj_protocol.specs.Step.{disk_by, parts_in, restart_outs}
+use Rattle.arj_protocol.specs.World.{world_from}
 use Rattle.arj_law_lock.specs.machine.Machine.{Run}
 use Rattle.arj_law_lock.specs.machine.State.{State}
 use Rattle.arj_law_parts.specs.parts.Actions.{Action}
 use Rattle.arj_law_parts.specs.moves.Seen.{AreQuiet, In, Within, down, said}
+use Rattle.arj_model.specs.Start.{Start}
 use Rattle.arj_promise.specs.Runs.{Post, Seen, see}
 use Rattle.arj_law_parts.specs.moves.Walks.{Up, Walks, halted}
 use Rattle.arj_law_lock_view.specs.view.Calling.{IsReached}
@@ -56,7 +57,7 @@ RestartsGo = (hd : Header) (c : Case) (e k : ℕ) (d : Disk) (M : Seen) → IsSe
 
 -- As a run begins the object is seen, where it has an entry, for all that may be fixed.
 abbrev pub FirstGoes : Type 0
-FirstGoes = (hd : Header) (f : Fixed) (x : ℕ) → KnowsEntry x 1 (first_disk hd 1) → let M = see [] (format hd) in
+FirstGoes = (hd : Header) (st : Start) (f : Fixed) (x : ℕ) → KnowsEntry x 1 (disk_by hd st 1) → let M = see [] (world_from hd st) in
     (S : State) × SeesLocks f x [] S M × AreTied f x M.lines S
 
 -- Lines leave it seen, whatever they say.

@@ -1,6 +1,6 @@
 -- Requests and ends that were sent to a server, in the machine of one object: what they show for ever, as actions begin and the machine
 -- goes on.
-use Rattle.std.specs.Prelude.{List, [], Contains}
+use Rattle.std.specs.Prelude.{List, Contains}
 use Rattle.arj_protocol.specs.Words.{Ask, End, Head, Uid}
 use Rattle.arj_protocol.specs.Server.{Server}
 use Rattle.arj_law_lock.specs.machine.State.{State}

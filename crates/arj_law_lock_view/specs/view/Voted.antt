@@ -1,12 +1,11 @@
 -- What the plan of a top's commit has of the object's state, by the votes that came.
-use Rattle.std.specs.Prelude.{⊤, ◌≡◌, ◌≤◌, ℕ, List, [], true, false, None, Contains}
+use Rattle.std.specs.Prelude.{⊤, ◌≡◌, ℕ, List, [], true, false, None, Contains}
 use Rattle.arj_protocol.specs.Words.{Head, ObjectState, Uid, VotedReply, object}
 use Rattle.arj_protocol.specs.Words.voted
 use Rattle.arj_protocol.specs.Ask.{Reply, actor}
 use Rattle.arj_protocol.specs.Commit.{Aborts, Asks, CommitStep, Confirming, Decides, Machine, Plan, Preparing, Stays, Used, Voting}
 use Rattle.arj_protocol.specs.Commit.{answered, begin_vote, given_up, left_of, plan_of, servers_of, vote_ask}
 use Rattle.arj_protocol.specs.Order.{has}
-use Rattle.arj_law_lock.specs.machine.Actions.{top}
 use Rattle.arj_law_lock.specs.machine.Machine.{Run}
 use Rattle.arj_law_lock.specs.machine.State.{State}
 use Rattle.arj_law_lock_view.specs.view.Acts.{Acts}

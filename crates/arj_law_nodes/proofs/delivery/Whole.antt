@@ -11,6 +11,8 @@ use Rattle.arj_law_parts.proofs.steps.{Spoken.event_writes, Whole.runs_whole, Wh
 use Rattle.arj_law_parts.specs.{moves.Keeps.Holds, steps.Writes.Owes, steps.Writes.Writes, steps.Writes.has_own}
 use Rattle.arj_law_runs.proofs.addresses.Runs.{event_within, first_within, kept, within_of}
 use Rattle.arj_law_runs.specs.addresses.Addresses.{AreAddressed}
+use Rattle.arj_model.specs.Start.{fresh}
+use Rattle.arj_promise.specs.{Runs.Run, Starts.fresh_is_formed}
 use Rattle.arj_world.proofs.Owns.{answers_without, runs_whole as turns_whole}
 use Rattle.arj_world.specs.Turns.{asked, with_arms}
 
@@ -35,11 +37,11 @@ module _ (hd : Header) (form : HeaderInForm hd) where
   turns_kept [] w h = h
   turns_kept (t ∷ ts) w h = turns_kept ts (turned t w) (turn_kept t w h)
 
-  run_nodes : (ms : List Move) → AreForNodes (world_by hd ms)
-  run_nodes ms = for_nodes (world_by hd ms) (moves_asked hd (AreAddressed hd) (kept hd form) ms)
+  run_nodes : (run : Run hd) → AreForNodes (world_by hd run)
+  run_nodes run = for_nodes (world_by hd run) (moves_asked hd (AreAddressed hd) (kept hd form) run)
 
   pub turn_nodes : (ts : List Turn) → AreForNodes (all_turned ts (format hd))
-  turn_nodes ts = for_nodes (all_turned ts (format hd)) (turns_kept ts (format hd) (first_within hd form))
+  turn_nodes ts = for_nodes (all_turned ts (format hd)) (turns_kept ts (format hd) (first_within hd form fresh (fresh_is_formed hd)))
 
   -- which stops fall is nothing to a frame
   same_frames : (arms : List (ℕ × Arm)) (w : World) (e : Event) (k : FrameNo) → Delivers e k w → Delivers e k (with_arms arms w)
@@ -57,9 +59,9 @@ module _ (hd : Header) (form : HeaderInForm hd) where
       let r = delivery_taken (with_arms m.falls w) (whole_with m.falls w whole) nodes m.asked k (same_frames m.falls w m.asked.event k d) in
       same_taken m.falls w (run_event m.asked (with_arms m.falls w)) k r
 
-  pub runs_take : (ms : List Move) (m : Move) (k : FrameNo) →
-      (let w = world_by hd ms in Delivers m.asked.event k w → IsTaken (frame_number k w) w (moved m w))
-  runs_take ms m k d = move_takes (world_by hd ms) (runs_whole hd ms) (run_nodes ms) m k d
+  pub runs_take : (run : Run hd) (m : Move) (k : FrameNo) →
+      (let w = world_by hd run in Delivers m.asked.event k w → IsTaken (frame_number k w) w (moved m w))
+  runs_take run m k d = move_takes (world_by hd run) (runs_whole hd run) (run_nodes run) m k d
 
   pub turns_take : (ts : List Turn) (t : Turn) (k : FrameNo) →
       (let w = all_turned ts (format hd) in Delivers t.event k w → IsTaken (frame_number k w) w (turned t w))
@@ -88,12 +90,12 @@ module _ (hd : Header) (form : HeaderInForm hd) where
   owes_of w all event.Settle own = own
   owes_of w all (event.Show x) own = own
 
-  pub runs_write : (ms : List Move) (m : Move) → has_own m.asked.event ≡ true →
-      (let w = world_by hd ms in w.over ≡ false → Writes m.asked.event w (moved m w))
-  runs_write ms m own running =
-      let w = world_by hd ms in
-      let r = event_writes m.asked (with_arms m.falls w) (whole_with m.falls w (runs_whole hd ms)) running
-      (owes_of (with_arms m.falls w) (run_nodes ms) m.asked.event own) in
+  pub runs_write : (run : Run hd) (m : Move) → has_own m.asked.event ≡ true →
+      (let w = world_by hd run in w.over ≡ false → Writes m.asked.event w (moved m w))
+  runs_write run m own running =
+      let w = world_by hd run in
+      let r = event_writes m.asked (with_arms m.falls w) (whole_with m.falls w (runs_whole hd run)) running
+      (owes_of (with_arms m.falls w) (run_nodes run) m.asked.event own) in
       record {
         before = r.before;
         line = r.line;

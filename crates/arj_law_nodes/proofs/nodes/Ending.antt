@@ -5,11 +5,11 @@ use Words.{Option, Some, None, map, length, refl, sym, ◌∙◌, ap, subst, app
 use Words.{AllByRecursion, filter_map, list_all, list_any, Row, is_on, last_uid, state_bytes, entry, object, uid_eq, ObjectState, Uid, Body}
 use Words.{Header, Line, IsSerialBy, ShowsOneOutcome, each_behind, is_write, writes, Event, HoldAllStates, HoldsEach, IsWrittenIn}
 use Words.{caller_at, is_number, joins_top, joins_with, locks_call, locks_entry, writes_entry, lines_before, uid_of, DiskTakesOut}
-use Words.{DisksAreInTime, HasPrepared}
+use Words.{HasPrepared, ◌+◌}
 use Words.class
 use Words.body
 use Rattle.arj_law_nodes.proofs.Terms
-use Terms.{Clean, Disks, first_values, KeepsTheBook, Task, EndsBehind, IsLast, ends_run, EndsIdle, ShowsThePromise, Reads, readings_of}
+use Terms.{CleanFrom, Disks, first_values, KeepsTheBook, Task, EndsBehind, IsLast, ends_run, EndsIdle, ShowsThePromise, Reads, readings_of}
 use Terms.disk
 use Rattle.arj_law.proofs.{Common.all_map, Reading.quiet_calls, Reading.quiet_serial, Reading.quiet_tops, Reading.read_none}
 use Rattle.arj_law.specs.Growth.{is_quiet, more}
@@ -21,9 +21,12 @@ use Rattle.arj_model.specs.Book.{IsAnsweredBy, OfEachTwo, is_conflict}
 use Rattle.arj_model.specs.Calls.{Call, Top, committed_calls, said, said_of, tops}
 use Rattle.arj_model.specs.Disks.{Reading}
 use Rattle.arj_model.specs.Held.{IsHeldAt, holder_root, locks_for, root_of_call, tables_of, unit_end}
-use Rattle.arj_model.specs.Last.{changers, entry_payload, entry_state, excluded, excluded_of, included, included_of, increasing, is_among}
-use Rattle.arj_model.specs.Last.{joins_by, joins_of, last_changer, last_state, leaves_of, listed, listed_after, listed_from, object_line}
+use Rattle.arj_model.specs.Last.{changer_from, changers, entry_from, entry_payload, excluded, excluded_of, included, included_of}
+use Rattle.arj_model.specs.Last.{increasing, is_among}
+use Rattle.arj_model.specs.Last.{joins_by, joins_of, last_from, leaves_of, listed, listed_after, listed_from, object_line}
 use Rattle.arj_model.specs.Last.{same_list, serial_tops, servers_of_line, state_after, stores_of_line, uid_of_id, Inclusion}
+use Rattle.arj_model.specs.Start.{Marks, none_written}
+use Rattle.arj_promise.specs.{Excluded.DisksAreInTimeFrom, Runs.from_format}
 use Rattle.arj_model.specs.Nested.{IsFreedFor, commit_place, nested_less}
 use Rattle.arj_model.specs.Outcome.{has_cause_to_abort, is_behind_decision, is_said}
 use Rattle.arj_model.specs.Serial.{Answers, Values, arrange, lex, run, serial_calls, serial_key, serial_less, root_of, top_place}
@@ -217,26 +220,28 @@ module _ (lines : List Line) (l : Line) (is : ends_run l.body ≡ true) where
   listed_same hd x = from_same x (stores_of_line (object_line hd x)) (serial_tops (more lines l))
       ∙ ap (listed_from lines x (stores_of_line (object_line hd x))) order_same
 
-  entry_same : (hd : Header) (x : ℕ) → entry_state hd (more lines l) x ≡ entry_state hd lines x
-  entry_same hd x =
+  entry_same : (hd : Header) (marks : Marks) (x : ℕ) → entry_from hd marks (more lines l) x ≡ entry_from hd marks lines x
+  entry_same hd marks x =
+      let mark = marks.entries x in
       let changed = changers_same x (stores_of_line (object_line hd x)) (serial_tops (more lines l))
       ∙ ap (changers lines x (stores_of_line (object_line hd x))) order_same in
       (λ i. record {
         uid = entry x;
         class = class.Entry;
-        version = length (changed i);
-        writer = last_changer (acts_same lines l is i) (changed i);
+        version = mark.version + length (changed i);
+        writer = changer_from (acts_same lines l is i) mark.writer (changed i);
         payload = entry_payload (servers_of_line (object_line hd x)) (listed_same hd x i);
       })
 
-  last_same : (hd : Header) (x : ℕ) → last_state hd (more lines l) x ≡ last_state hd lines x
-  last_same hd x = (λ i. state_after x (run (first_values hd) (serial_same i) x) (filter (writes_on x) (serial_same i)))
+  last_same : (hd : Header) (marks : Marks) (x : ℕ) → last_from hd marks (more lines l) x ≡ last_from hd marks lines x
+  last_same hd marks x =
+      (λ i. state_after (marks.states x) x (run (first_values hd) (serial_same i) x) (filter (writes_on x) (serial_same i)))
 
-  clean_more : (hd : Header) (disks : Disks) → Clean hd lines disks → Clean hd (more lines l) disks
-  clean_more hd disks clean = record {
-    entries = λ x there free. clean.entries x there free ∙ (λ i. Some (state_bytes (sym (entry_same hd x) i)));
+  clean_more : (hd : Header) (marks : Marks) (disks : Disks) → CleanFrom hd marks lines disks → CleanFrom hd marks (more lines l) disks
+  clean_more hd marks disks clean = record {
+    entries = λ x there free. clean.entries x there free ∙ (λ i. Some (state_bytes (sym (entry_same hd marks x) i)));
     stores = λ x s among entry free. clean.stores x s ((λ i. is_among (sym (listed_same hd x) i) s) ∙ among) entry free
-        ∙ (λ i. Some (state_bytes (sym (last_same hd x) i)));
+        ∙ (λ i. Some (state_bytes (sym (last_same hd marks x) i)));
   }
 
   -- ---- locks
@@ -346,11 +351,12 @@ module _ (lines : List Line) (l : Line) (is : ends_run l.body ≡ true) where
     lacks = o.lacks;
   }
 
-  time_more : (hd : Header) (e : ℕ) (disks : Disks) → DisksAreInTime hd e lines disks → DisksAreInTime hd e (more lines l) disks
-  time_more hd e disks in_time t x s new wrote lists =
-      ⊎_elim (λ holds. inl (holds ∙ (λ i. Some (state_bytes (sym (last_same hd x) i)))))
+  time_more : (hd : Header) (marks : Marks) (e : ℕ) (disks : Disks) → DisksAreInTimeFrom hd marks e lines disks →
+      DisksAreInTimeFrom hd marks e (more lines l) disks
+  time_more hd marks e disks in_time t x s new wrote lists =
+      ⊎_elim (λ holds. inl (holds ∙ (λ i. Some (state_bytes (sym (last_same hd marks x) i)))))
       (λ other. inr (⊎_elim (λ prepared. inl (subst (λ (p : Uid × ObjectState). HasPrepared (disks s) role.Store p.0 p.1)
-      (λ i. (sym (uid_same t) i, sym (last_same hd x) i)) prepared)) (λ out. inr (takes_more x (disks 1) t s out)) other))
+      (λ i. (sym (uid_same t) i, sym (last_same hd marks x) i)) prepared)) (λ out. inr (takes_more x (disks 1) t s out)) other))
       (in_time t x s (subst (λ ts. Contains ts t) tops_same new.0, before)
       (wrote.0, subst (λ cs. Contains cs wrote.0) calls_same wrote.1, wrote.2, wrote.3) lists)
     where
@@ -369,11 +375,12 @@ module _ (lines : List Line) (l : Line) (is : ends_run l.body ≡ true) where
 
   -- ---- at rest
 
-  rest_more : (hd : Header) (disks : Disks) → HoldAllStates hd lines disks → HoldAllStates hd (more lines l) disks
-  rest_more hd disks held = record {
-    entries = λ x there. held.entries x there ∙ (λ i. Some (state_bytes (sym (entry_same hd x) i)));
+  rest_more : (hd : Header) (marks : Marks) (disks : Disks) → HoldAllStates hd marks lines disks →
+      HoldAllStates hd marks (more lines l) disks
+  rest_more hd marks disks held = record {
+    entries = λ x there. held.entries x there ∙ (λ i. Some (state_bytes (sym (entry_same hd marks x) i)));
     stores = λ x s among. held.stores x s ((λ i. is_among (sym (listed_same hd x) i) s) ∙ among)
-        ∙ (λ i. Some (state_bytes (sym (last_same hd x) i)));
+        ∙ (λ i. Some (state_bytes (sym (last_same hd marks x) i)));
     nothing = held.nothing;
   }
 
@@ -407,16 +414,16 @@ module _ (lines : List Line) (l : Line) (is : ends_run l.body ≡ true) where
       form = r.form;
       last = more r.last l;
       outside = one_more (λ (k : Line). ends_run k.body ≡ true) r.last l r.outside is;
-      lines = ap (λ ls. ls ++ l ∷ []) r.lines ∙ append_assoc (journal_by t.header r.moves) r.last (l ∷ []);
+      lines = ap (λ ls. ls ++ l ∷ []) r.lines ∙ append_assoc (journal_by t.header (from_format t.header r.moves)) r.last (l ∷ []);
       disks = r.disks;
     };
     serial = serial_more t.header shows.serial;
     book = book_more (first_values t.header) shows.book;
     held = holds_more shows.held;
     outcome = outcome_more shows.outcome;
-    clean = clean_more t.header (readings_of d read rack) shows.clean;
-    in_time = time_more t.header (length t.events) (readings_of d read rack) shows.in_time;
-    rest = λ going idle. rest_more t.header (readings_of d read rack) (shows.rest going (idle_before t.events idle));
+    clean = clean_more t.header none_written (readings_of d read rack) shows.clean;
+    in_time = time_more t.header none_written (length t.events) (readings_of d read rack) shows.in_time;
+    rest = λ going idle. rest_more t.header none_written (readings_of d read rack) (shows.rest going (idle_before t.events idle));
   }
 
 -- what holds of a journal, and of one with such a line more, holds of one that ends so

@@ -22,7 +22,8 @@ use Rattle.arj_law_runs.proofs.resting.GiveUps.{over_before}
 use Rattle.arj_loop.specs.{Input.Arrived, Input.script_of, Replayed.EndsSo, declared.ending.End.End, declared.machine.Machine.Ghosts}
 use Rattle.arj_loop.specs.Running.{MachineRuns, Stage, Why, events_run, last_body, last_lines}
 use Rattle.arj_nodes.specs.{AllNodes.world_after, AsMachine.all_nodes, declared.all_nodes.AllNodes.AllNodes}
-use Rattle.arj_promise.specs.Promise.{KeepsThePromise}
+use Rattle.arj_model.specs.Start.{none_written}
+use Rattle.arj_promise.specs.{Promise.KeepsThePromise, Runs.from_format}
 use Rattle.arj_script.specs.declared.limits.TheConstants.{SCRIPT_LINES}
 use Rattle.arj_world.proofs.Stepping.{is_there}
 use Rattle.arj_world.specs.{Stands.Hand, Stands.Stands, Turns.FallsAtWorks}
@@ -81,7 +82,7 @@ stopped (t ∷ ts) all = ((omega arith, all.0), stopped ts all.1)
 pub nodes_move : {C D : Type 0} (c : core.Ghosts C) (d : disk.Ghosts D) → NodesMove c d
 nodes_move {C} {D} c d t over now form r =
     let w = world_after t.header r.turns in
-    let same : w ≡ world_by t.header (map as_move r.turns) = turns_move r.turns (format t.header) in record {
+    let same : w ≡ world_by t.header (from_format t.header (map as_move r.turns)) = turns_move r.turns (format t.header) in record {
       moves = map as_move r.turns;
       are = same_events r.turns ∙ r.are;
       form = record {
@@ -125,15 +126,17 @@ split_last (m ∷ ms) (x ∷ es) e is = let r = split_last ms es e (cc is) in (m
 
 -- where a quiesce ends a run in which no frame was too many, a line within it stands last
 ends_said : (hd : Header) (ms front : List Move) (m : Move) → ms ≡ front ++ m ∷ [] → event_of m ≡ event.Quiesce →
-    (world_by hd ms).over ≡ false → (before : List Line) × (l : Line) × (journal_by hd ms ≡ before ++ l ∷ []) × (ends_run l.body ≡ false)
+    (world_by hd (from_format hd ms)).over ≡ false →
+    (before : List Line) × (l : Line) × (journal_by hd (from_format hd ms) ≡ before ++ l ∷ []) × (ends_run l.body ≡ false)
 ends_said hd ms front m are is going =
-    let end : world_by hd ms ≡ moved m (world_by hd front) = ap (λ l. all_moved l (format hd)) are
+    let w : World = world_by hd (from_format hd front) in
+    let end : world_by hd (from_format hd ms) ≡ moved m w = ap (λ l. all_moved l (format hd)) are
     ∙ more_moves front (m ∷ []) (format hd) in
-    let last : (moved m (world_by hd front)).over ≡ false = ap (λ (w : World). w.over) (sym end) ∙ going in
-    let s = quiesce_said m.asked (record (world_by hd front) { arms = m.falls }) is (over_before m (world_by hd front) last) last in (
+    let last : (moved m w).over ≡ false = ap (λ (v : World). v.over) (sym end) ∙ going in
+    let s = quiesce_said m.asked (record w { arms = m.falls }) is (over_before m w last) last in (
       s.0,
-      record { event = (let v = moved m (world_by hd front) in v.event); body = body.Quiet (is_quiet (moved m (world_by hd front))) },
-      ap (λ (w : World). w.lines) end ∙ s.1,
+      record { event = (let v = moved m w in v.event); body = body.Quiet (is_quiet (moved m w)) },
+      ap (λ (v : World). v.lines) end ∙ s.1,
       refl,
     )
 
@@ -147,7 +150,7 @@ module _ {C D : Type 0} (c : core.Ghosts C) (d : disk.Ghosts D) (read : Reads) (
       form = h.form;
       last = [];
       outside = tt;
-      lines = h.journal ∙ sym (append-nil (journal_by t.header h.moves));
+      lines = h.journal ∙ sym (append-nil (journal_by t.header (from_format t.header h.moves)));
       disks = are;
     };
     serial = subst (IsSerialBy t.header) (sym h.journal) k.serial;
@@ -160,16 +163,16 @@ module _ {C D : Type 0} (c : core.Ghosts C) (d : disk.Ghosts D) (read : Reads) (
     rest = at_rest;
   }
     where
-      k : KeepsThePromise t.header h.moves
-      k = runs_keep t.header h.moves h.form
+      k : KeepsThePromise t.header (from_format t.header h.moves)
+      k = runs_keep t.header (from_format t.header h.moves) h.form
 
       disks : Disks
       disks = readings_of d read now.disks
 
-      are : DisksAre (see [] (world_by t.header h.moves)) disks
+      are : DisksAre (see [] (world_by t.header (from_format t.header h.moves))) disks
       are = h.readings read says
 
-      at_rest : over ≡ false → EndsIdle t.events now.journal → HoldAllStates t.header now.journal disks
+      at_rest : over ≡ false → EndsIdle t.events now.journal → HoldAllStates t.header none_written now.journal disks
       at_rest going ends = by ends.last ends.outside ends.line
         where
           l : (front : List Move) × (m : Move) × (h.moves ≡ front ++ m ∷ []) × (event_of m ≡ event.Quiesce)
@@ -178,18 +181,20 @@ module _ {C D : Type 0} (c : core.Ghosts C) (d : disk.Ghosts D) (read : Reads) (
           quiet : Line
           quiet = record { event = ends.number; body = body.Quiet true }
 
-          by : (last : List Line) → IsLast last → now.journal ≡ ends.front ++ quiet ∷ last → HoldAllStates t.header now.journal disks
+          by : (last : List Line) → IsLast last → now.journal ≡ ends.front ++ quiet ∷ last →
+              HoldAllStates t.header none_written now.journal disks
           by [] out line =
-              let rest : EndsAtRest t.header h.moves = quiet_end t.header h.moves l.0 h.form (record {
+              let run = from_format t.header h.moves in
+              let rest : EndsAtRest t.header run = quiet_end t.header run (from_format t.header l.0) h.form (record {
                 last = l.1;
-                are = l.2;
+                are = ap (from_format t.header) l.2;
                 quiesces = l.3;
                 unlimited = h.is_over ∙ going;
                 front = ends.front;
                 number = ends.number;
                 line = sym h.journal ∙ line;
               }) in
-              subst (λ ls. HoldAllStates t.header ls disks) (sym h.journal) (rest.last disks are)
+              subst (λ ls. HoldAllStates t.header none_written ls disks) (sym h.journal) (rest.last disks are)
           by (k ∷ []) out line =
               let s = ends_said t.header h.moves l.0 l.1 l.2 l.3 (h.is_over ∙ going) in
               let same : k ≡ s.1 =

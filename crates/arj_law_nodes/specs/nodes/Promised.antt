@@ -11,13 +11,14 @@ use Rattle.arj_promise.specs.Disks.{DisksAre}
 use Rattle.arj_journal.specs.declared.event.Event.{Event}
 use Rattle.arj_model.specs.Clean.{Clean}
 use Rattle.arj_model.specs.Last.{first_values}
+use Rattle.arj_model.specs.Start.{none_written}
 use Rattle.arj_nodes.specs.AllNodes.{Task}
 use Rattle.arj_promise.specs.Resting.{HoldAllStates}
 use Rattle.arj_protocol.specs.Words.{Line}
 use Rattle.arj_protocol.specs.Words.body
 use Rattle.arj_protocol.specs.Words.event
 use Rattle.arj_promise.specs.Serial.{IsSerialBy}
-use Rattle.arj_promise.specs.Runs.{Move, journal_by, world_by}
+use Rattle.arj_promise.specs.Runs.{Move, from_format, journal_by, world_by}
 use Rattle.arj_promise.specs.Runs.{see}
 use Rattle.arj_law_nodes.specs.nodes.Last.{EndsBehind, IsLast, ends_run}
 use Rattle.arj_law_nodes.specs.nodes.Readings.{Reads, readings_of}
@@ -36,16 +37,16 @@ pub record EndsIdle (events : List Event) (lines : List Line) : Type 0 where
 abbrev pub event_of : Move → Event
 event_of m = let a = m.asked in a.event
 
--- The journal, but for lines outside of events, is that of a run in form of the protocol with these events, whatever stops fell in it; and
--- each node's disk is what the files of its disk say: its pairs, its records and its incarnation.
+-- The journal, but for lines outside of events, is that of a run in form of the protocol from a format, with these events, whatever stops
+-- fell in it; and each node's disk is what the files of its disk say: its pairs, its records and its incarnation.
 pub record IsOfRun {D : Type 0} (d : disk.Ghosts D) (read : Reads) (t : Task D) (journal : List Line) (rack : List D) : Type 0 where
   pub moves : List Move
   pub are : map event_of moves ≡ t.events
-  pub form : IsInForm t.header moves
+  pub form : IsInForm t.header (from_format t.header moves)
   pub last : List Line
   pub outside : AllByRecursion (λ (l : Line). ends_run l.body ≡ true) last
-  pub lines : journal ≡ journal_by t.header moves ++ last
-  pub disks : DisksAre (see [] (world_by t.header moves)) (readings_of d read rack)
+  pub lines : journal ≡ journal_by t.header (from_format t.header moves) ++ last
+  pub disks : DisksAre (see [] (world_by t.header (from_format t.header moves))) (readings_of d read rack)
 
 -- A run shows the promise (`arj_law_promise/statement`): by its journal, which may have a line outside of events behind it, and by the
 -- files of its disks, as they are read. Whether the run is over, since a frame was too many, is told beside.
@@ -67,7 +68,7 @@ pub record ShowsThePromise {D : Type 0} (d : disk.Ghosts D) (read : Reads) (t : 
   pub in_time : DisksAreInTime (let a = t in a.header) (let a = t in length a.events) journal (readings_of d read rack)
   -- and where the last event left nothing to do, and said so, disks hold all of these with no exception
   pub rest : over ≡ false → EndsIdle (let a = t in a.events) journal →
-      HoldAllStates (let a = t in a.header) journal (readings_of d read rack)
+      HoldAllStates (let a = t in a.header) none_written journal (readings_of d read rack)
 
 -- a line outside of events, behind a journal, takes nothing of what the journal shows
 abbrev pub PromisesStay : {D : Type 0} → disk.Ghosts D → Type 0

@@ -16,7 +16,7 @@ use Rattle.arj_nodes.specs.declared.all_nodes.AllNodes.{AllNodes}
 use Rattle.arj_protocol.specs.Words.{Line}
 use Rattle.arj_script.specs.Grammar.{Place}
 use Rattle.arj_script.specs.Input.{events_of}
-use Rattle.arj_promise.specs.Runs.{Move, journal_by, world_by}
+use Rattle.arj_promise.specs.Runs.{Move, from_format, journal_by, world_by}
 use Rattle.arj_promise.specs.Runs.{see}
 use Rattle.arj_world.specs.Stands.{Hand, hand}
 use Rattle.arj_world.specs.Turns.{Turn, asked}
@@ -42,16 +42,17 @@ pub record IsTaskInForm {D : Type 0} (t : Task D) : Type 0 where
   pub events : AllByRecursion EventInForm t.events
   pub few : length t.events ≤ most_events
 
--- What is at hand is what a run in form makes of these events: its journal, its count of events and whether it is over; and the disks are
--- those of its nodes, in whichever way of reading files cores say so.
+-- What is at hand is what a run in form from a format makes of these events: its journal, its count of events and whether it is over; and
+-- the disks are those of its nodes, in whichever way of reading files cores say so.
 pub record HasMoved {C D : Type 0} (c : core.Ghosts C) (d : disk.Ghosts D) (t : Task D) (over : Bool) (now : Hand C D) : Type 0 where
   pub moves : List Move
   pub are : map event_of moves ≡ t.events
-  pub form : IsInForm t.header moves
-  pub journal : now.journal ≡ journal_by t.header moves
-  pub event : length t.events ≡ (let w = world_by t.header moves in w.event)
-  pub is_over : (let w = world_by t.header moves in w.over) ≡ over
-  pub readings : (read : Reads) → SaysReadings c read → DisksAre (see [] (world_by t.header moves)) (readings_of d read now.disks)
+  pub form : IsInForm t.header (from_format t.header moves)
+  pub journal : now.journal ≡ journal_by t.header (from_format t.header moves)
+  pub event : length t.events ≡ (let w = world_by t.header (from_format t.header moves) in w.event)
+  pub is_over : (let w = world_by t.header (from_format t.header moves) in w.over) ≡ over
+  pub readings : (read : Reads) → SaysReadings c read →
+      DisksAre (see [] (world_by t.header (from_format t.header moves))) (readings_of d read now.disks)
 
 -- so it is of all that nodes run over disks, whatever stops these make
 abbrev pub NodesMove : {C D : Type 0} → core.Ghosts C → disk.Ghosts D → Type 0

@@ -111,7 +111,7 @@ walks_flat P e k t (Send to m ∷ es) end d M w = by (to == k) refl (walks_flat 
 
     -- with no line besides
     alone : Walks P e k es end d (posted p M)
-    alone = subst (λ ls. Walks P e k es end d (record { sent = p ∷ M.sent; lines = ls; labels = M.labels; nodes = M.nodes }))
+    alone = subst (λ ls. Walks P e k es end d (record (posted p M) { lines = ls }))
         (append-nil M.lines) (w [] refl)
 
     itself : to ≡ k → (N : Seen) → In p N.sent → In (record { from = k; to = k; message = m }) N.sent

@@ -1,15 +1,17 @@
 -- What each handler keeps holds in every run: frames, events, and all of a script.
 use Rattle.arj_law_parts.proofs.Words
-use Words.{◌≡◌, ◌≢◌, ℕ, zero, suc, ◌+◌, ◌-◌, Bool, true, false, List, [], ◌∷◌, ◌++◌, refl, sym, ◌∙◌, ap, subst, ⊎_elim, inl, inr, length}
+use Words.{Start, IsFormed, ◌≡◌, ◌≢◌, ℕ, zero, suc, ◌+◌, ◌-◌, Bool, true, false, List, [], ◌∷◌, ◌++◌, refl, sym, ◌∙◌, ap, subst, ⊎_elim}
+use Words.{inl, inr, length}
 use Words.{Option, Some, None, ◌==◌, IfSome, is_some, eqb-true, length-append, arith, map, ◌⊎◌, if◌then◌else◌, nat_lt, nat_le, take, not}
 use Words.{◌&&◌, ◌||◌, slice_get, slice_set, cond, AllByRecursion, lookup, match_ordering, insert_entry, is_at, and_parts, map-append}
 use Words.{nat_tests, Header, Label, label_cmp, Kind, Body, Message, Event, Line, FrameNo, Do, Effect, Say, Send, at_number, at_place}
-use Words.{set_place, Node, Input, Step, step, step_unless, refusal, refusal_at, first_reason, first_node, numbers_to, World, Frame, Arm}
+use Words.{set_place, Node, Input, Step, step, step_unless, refusal, refusal_at, first_reason, node_by, numbers_to, World, Frame, Arm}
 use Words.{Giving, Labelled, most_frames, sends, bodies, numbered, put, steps, step_node, step_with, done_step, halted_at, halted_outs}
 use Words.{set_node, armed, disarmed, count_works, cut, change_frame, as_delivered, as_lost, deliver_frame, deliver, lose_frame, lowest}
 use Words.{settle_for, settle, tick_up, tick_all, is_up_at, node_numbers, is_quiet, quiesce, show_up, show_all, junk_fits, new_frame}
 use Words.{labels_unless, gives_label, refused_at, begins, giving, happens, limited, counted, no_labels, lacks_labels, run_unless}
-use Words.{run_event, run_all, reasons, node_of, node_in, labelled, is_given, is_node, frame_number, is_serial_kind, format, place_other}
+use Words.{run_event, run_all, reasons, node_of, node_in, labelled, is_given, is_known, was_given, is_node, frame_number, is_serial_kind}
+use Words.{world_from, place_other}
 use Words.{Post, Seen, see}
 use Words.body
 use Words.kind
@@ -26,6 +28,7 @@ use moves.Inputs.{Goes, IsSentTo, step_goes, begin_goes, unless_refused}
 use Rattle.arj_law_parts.specs.moves.Keeps.{Keeps, HasPlace, Stands}
 use Rattle.arj_protocol.specs.{Words.read_message, World.kind_in, World.reads_whole}
 use Rattle.std.proofs.Common.{Ordering, Less, Equal, Greater}
+use Rattle.arj_law_parts.proofs.moves.Reasons.{first_not, is_new, is_there, not_not}
 
 -- ---- places
 
@@ -108,11 +111,6 @@ all_taken P zero xs h = tt
 all_taken P (suc k) [] h = tt
 all_taken P (suc k) (x ∷ xs) h = (h.0, all_taken P k xs h.1)
 
--- no reason holds
-no_reason : (n : ℕ) (b : Bool) (rs : List (ℕ × Bool)) → first_reason ((n, b) ∷ rs) ≡ None → (b ≡ false) × (first_reason rs ≡ None)
-no_reason n true rs h = absurd (cc h)
-no_reason n false rs h = (refl, h)
-
 module _ (hd : Header) (P : Seen → Type 0) {F : Type 0} (keeps : KeepsFrom hd F P) where
   -- ---- a step of a node in its world
 
@@ -123,7 +121,7 @@ module _ (hd : Header) (P : Seen → Type 0) {F : Type 0} (keeps : KeepsFrom hd 
   sees_node : (k : ℕ) (n : Node) (sent : List Post) (w : World) → at_place k w.nodes ≡ Some n → n.number ≡ k → P (see sent w) →
       P (at k n.disk n.live (see sent w))
   sees_node k n sent w there is h =
-      subst (λ f. P (record { sent = sent; lines = w.lines; labels = w.labels; nodes = f })) (λ i m. same m i) h
+      subst (λ f. P (record (see sent w) { nodes = f })) (λ i m. same m i) h
     where
       mine : Node
       mine = record { number = k; disk = n.disk; live = n.live }
@@ -137,9 +135,9 @@ module _ (hd : Header) (P : Seen → Type 0) {F : Type 0} (keeps : KeepsFrom hd 
 
   sees_set : (k : ℕ) (n a : Node) (sent : List Post) (lines : List Line) (w : World) → at_place k w.nodes ≡ Some n →
       P (with_node k a (with_sent sent (with_lines lines (see sent w))))
-      → P (record { sent = sent; lines = lines; labels = w.labels; nodes = λ m. at_place m (set_place k a w.nodes) })
+      → P (record { start = w.start; sent = sent; lines = lines; labels = w.labels; nodes = λ m. at_place m (set_place k a w.nodes) })
   sees_set k n a sent lines w there h =
-      subst (λ f. P (record { sent = sent; lines = lines; labels = w.labels; nodes = f })) (λ i m. same m i) h
+      subst (λ f. P (record { start = w.start; sent = sent; lines = lines; labels = w.labels; nodes = f })) (λ i m. same m i) h
     where
       apart : (m : ℕ) → (m == k) ≡ false → m ≢ k
       apart m e = grind (arith, nat_tests)
@@ -336,8 +334,8 @@ module _ (hd : Header) (P : Seen → Type 0) {F : Type 0} (keeps : KeepsFrom hd 
 
   -- the world's own marks aren't seen
   same_seen : (w v : World) → v.nodes ≡ w.nodes → v.frames ≡ w.frames → v.lines ≡ w.lines → v.labels ≡ w.labels → v.header ≡ w.header →
-      Holds hd P w → Holds hd P v
-  same_seen w v nodes frames lines labels header h = record {
+      v.start ≡ w.start → Holds hd P w → Holds hd P v
+  same_seen w v nodes frames lines labels header start h = record {
     sent = h.sent;
     stands = record {
       frames = subst (λ fs. AllByRecursion (IsSent h.sent) fs) (sym frames) h.stands.frames;
@@ -349,7 +347,14 @@ module _ (hd : Header) (P : Seen → Type 0) {F : Type 0} (keeps : KeepsFrom hd 
           (λ ls. AllByRecursion (λ (g : Label × Labelled). is_some (at_place g.1.node w.nodes) ≡ true) ls) (sym labels) h.stands.labels);
     };
     holds = subst (λ (s : Seen). P s)
-        (λ i. record { sent = h.sent; lines = sym lines i; labels = sym labels i; nodes = λ m. at_place m (sym nodes i) }) h.holds;
+        (λ i. record {
+          start = sym start i;
+          sent = h.sent;
+          lines = sym lines i;
+          labels = sym labels i;
+          nodes = λ m. at_place m (sym nodes i);
+        })
+        h.holds;
   }
 
   junk_holds : (n : ℕ) (w : World) (b : Bool) → (nat_le 1 n && nat_le n hd.nodes) ≡ true → Holds hd P w → Holds hd P (junk_fits n w b)
@@ -366,7 +371,7 @@ module _ (hd : Header) (P : Seen → Type 0) {F : Type 0} (keeps : KeepsFrom hd 
         };
         holds = h.holds;
       })
-  junk_holds n w false its h = same_seen w (junk_fits n w false) refl refl refl refl refl h
+  junk_holds n w false its h = same_seen w (junk_fits n w false) refl refl refl refl refl refl h
 
   -- ---- actions that begin
 
@@ -450,19 +455,14 @@ module _ (hd : Header) (P : Seen → Type 0) {F : Type 0} (keeps : KeepsFrom hd 
   none_of None h = refl
   none_of (Some a) h = absurd (cc h)
 
-  -- what isn't refused as no node is one
-  not_false : (b : Bool) → not b ≡ false → b ≡ true
-  not_false true h = refl
-  not_false false h = absurd (cc h)
-
   top_new : (l : Label) (n : ℕ) (how : Kind) (w : World) → MayGive w.labels n how None →
-      first_reason ((1, not (is_node n w)) ∷ (2, not (is_up_at n w)) ∷ (4, is_given l w) ∷ []) ≡ None → Holds hd P w
+      first_reason ((1, not (is_node n w)) ∷ (2, not (is_up_at n w)) ∷ (4, is_known l w) ∷ []) ≡ None → Holds hd P w
       → GivesNew (record { label = l; kind = how; parent = None; node = n }) w
   top_new l n how w may free h =
-      let a = no_reason 1 (not (is_node n w)) ((2, not (is_up_at n w)) ∷ (4, is_given l w) ∷ []) free in
-      let b = no_reason 2 (not (is_up_at n w)) ((4, is_given l w) ∷ []) a.1 in
-      let c = no_reason 4 (is_given l w) [] b.1 in
-      let node : is_node n w ≡ true = not_false (is_node n w) a.0 in
+      let a = first_not 1 (not (is_node n w)) ((2, not (is_up_at n w)) ∷ (4, is_known l w) ∷ []) free in
+      let b = first_not 2 (not (is_up_at n w)) ((4, is_known l w) ∷ []) a.1 in
+      let c = is_new l w [] b.1 in
+      let node : is_node n w ≡ true = not_not (is_node n w) a.0 in
       (none_of (labelled l w) c.0, may, h.stands.places n (subst (λ x. (nat_le 1 n && nat_le n x.nodes) ≡ true) h.stands.header node))
 
   -- an action that begins in one with a label
@@ -475,12 +475,12 @@ module _ (hd : Header) (P : Seen → Type 0) {F : Type 0} (keeps : KeepsFrom hd 
     all_found (λ (q : Labelled). is_some (at_place q.node w.nodes) ≡ true) (is_at (label_cmp p)) g w.labels h.stands.labels is,
   )
 
-  in_new : (l p : Label) (w : World) → first_reason ((4, is_given l w) ∷ (5, not (is_given p w)) ∷ []) ≡ None → Holds hd P w
+  in_new : (l p : Label) (w : World) → first_reason ((4, is_known l w) ∷ (5, not (is_known p w)) ∷ (6, was_given p w) ∷ []) ≡ None →
+      Holds hd P w
       → Holds hd P (begins (record { label = l; kind = kind_in (labelled p w); parent = Some p; node = node_in (labelled p w) }) w)
   in_new l p w free h =
-      let a = no_reason 4 (is_given l w) ((5, not (is_given p w)) ∷ []) free in
-      let b = no_reason 5 (not (is_given p w)) [] a.1 in
-      by (labelled p w) refl a.0 (not_false (is_given p w) b.0)
+      let a = is_new l w ((5, not (is_known p w)) ∷ (6, was_given p w) ∷ []) free in
+      by (labelled p w) refl a.0 (is_there p w a.1)
     where
       kinds : (g : Labelled) (b : Bool) → labelled p w ≡ Some g → g.serial ≡ b →
           MayGive w.labels g.node (if b then kind.Constituent else kind.Nested) (Some p)
@@ -495,12 +495,12 @@ module _ (hd : Header) (P : Seen → Type 0) {F : Type 0} (keeps : KeepsFrom hd 
           begins_hold (record { label = l; kind = how; parent = Some p; node = g.node }) w
           (below_new l p how w g is (kinds g g.serial is refl) free h) h
 
-  apart_new : (l p : Label) (w : World) → first_reason ((4, is_given l w) ∷ (5, not (is_given p w)) ∷ []) ≡ None → Holds hd P w
+  apart_new : (l p : Label) (w : World) → first_reason ((4, is_known l w) ∷ (5, not (is_known p w)) ∷ (6, was_given p w) ∷ []) ≡ None →
+      Holds hd P w
       → Holds hd P (begins (record { label = l; kind = kind.Independent; parent = Some p; node = node_in (labelled p w) }) w)
   apart_new l p w free h =
-      let a = no_reason 4 (is_given l w) ((5, not (is_given p w)) ∷ []) free in
-      let b = no_reason 5 (not (is_given p w)) [] a.1 in
-      by (labelled p w) refl a.0 (not_false (is_given p w) b.0)
+      let a = is_new l w ((5, not (is_known p w)) ∷ (6, was_given p w) ∷ []) free in
+      by (labelled p w) refl a.0 (is_there p w a.1)
     where
       by : (o : Option Labelled) → labelled p w ≡ o → is_given l w ≡ false → is_some (labelled p w) ≡ true →
           Holds hd P (begins (record { label = l; kind = kind.Independent; parent = Some p; node = node_in o }) w)
@@ -513,8 +513,8 @@ module _ (hd : Header) (P : Seen → Type 0) {F : Type 0} (keeps : KeepsFrom hd 
   node_of_header : (n : ℕ) (w : World) (rs : List (ℕ × Bool)) → first_reason ((1, not (is_node n w)) ∷ rs) ≡ None → Holds hd P w →
       (nat_le 1 n && nat_le n hd.nodes) ≡ true
   node_of_header n w rs free h =
-      let first = no_reason 1 (not (is_node n w)) rs free in
-      subst (λ v. (nat_le 1 n && nat_le n v.nodes) ≡ true) h.stands.header (not_false (is_node n w) first.0)
+      let first = first_not 1 (not (is_node n w)) rs free in
+      subst (λ v. (nat_le 1 n && nat_le n v.nodes) ≡ true) h.stands.header (not_not (is_node n w) first.0)
 
   pub happens_hold : (e : Event) (a : Arm) (w : World) → first_reason (reasons e w) ≡ None → Holds hd P w → Holds hd P (happens e a w)
   happens_hold (event.Begin l n) a w free h =
@@ -525,7 +525,7 @@ module _ (hd : Header) (P : Seen → Type 0) {F : Type 0} (keeps : KeepsFrom hd 
   happens_hold (event.Top l p) a w free h = apart_new l p w free h
   happens_hold (event.Call l x o) a w free h = steps_hold (node_of l w) (input.Call l x o) w h tt
   happens_hold (event.Include l x n) a w free h =
-      steps_hold (node_of l w) (input.Include l x n) w h (node_of_header n w ((5, not (is_given l w)) ∷ []) free h)
+      steps_hold (node_of l w) (input.Include l x n) w h (node_of_header n w ((5, not (is_known l w)) ∷ (6, was_given l w) ∷ []) free h)
   happens_hold (event.Commit l) a w free h = steps_hold (node_of l w) (input.Commit l) w h tt
   happens_hold (event.Abort l) a w free h = steps_hold (node_of l w) (input.Abort l) w h tt
   happens_hold (event.GiveUp l) a w free h = steps_hold (node_of l w) (input.GiveUp l) w h tt
@@ -537,24 +537,26 @@ module _ (hd : Header) (P : Seen → Type 0) {F : Type 0} (keeps : KeepsFrom hd 
   happens_hold (event.Crash n) a w free h = steps_hold n input.Crash w h tt
   happens_hold (event.Restart n) a w free h = steps_hold n input.Restart w h tt
   happens_hold (event.Stop n c how) a w free h =
-      says_hold (body.Armed n ∷ []) (armed n a w) refl (same_seen w (armed n a w) refl refl refl refl refl h)
+      says_hold (body.Armed n ∷ []) (armed n a w) refl (same_seen w (armed n a w) refl refl refl refl refl refl h)
   happens_hold (event.Junk n bytes) a w free h =
       junk_holds n w (nat_lt (length w.frames) most_frames) (node_of_header n w ((18, reads_whole (read_message bytes)) ∷ []) free h) h
   happens_hold (event.Show x) a w free h = shows_hold x (node_numbers w) w h
 
   limited_holds : (w : World) → Holds hd P w → Holds hd P (limited w)
   limited_holds w h = either_holds w.full (says (body.Limit which.Frames ∷ []) (record w { over = true })) w (says_hold
-      (body.Limit which.Frames ∷ []) (record w { over = true }) refl (same_seen w (record w { over = true }) refl refl refl refl refl h)) h
+      (body.Limit which.Frames ∷ []) (record w { over = true }) refl
+      (same_seen w (record w { over = true }) refl refl refl refl refl refl h)) h
 
   unless_holds : (e : Event) (a : Arm) (w : World) (r : Option ℕ) → first_reason (reasons e w) ≡ r → Holds hd P w →
       Holds hd P (run_unless e a w r)
-  unless_holds e a w (Some c) is h = says_hold (body.Refused c ∷ []) (counted w) refl (same_seen w (counted w) refl refl refl refl refl h)
+  unless_holds e a w (Some c) is h = says_hold (body.Refused c ∷ []) (counted w) refl
+      (same_seen w (counted w) refl refl refl refl refl refl h)
   unless_holds e a w None is h =
       either_holds (lacks_labels (giving e w) w) (no_labels w) (limited (happens e a (counted w)))
       (says_hold (body.Limit which.Labels ∷ []) (record w { over = true }) refl
-      (same_seen w (record w { over = true }) refl refl refl refl refl h))
+      (same_seen w (record w { over = true }) refl refl refl refl refl refl h))
       (limited_holds (happens e a (counted w))
-      (happens_hold e a (counted w) (counted_free e w is) (same_seen w (counted w) refl refl refl refl refl h)))
+      (happens_hold e a (counted w) (counted_free e w is) (same_seen w (counted w) refl refl refl refl refl refl h)))
     where
       counted_free : (e : Event) (w : World) → first_reason (reasons e w) ≡ None → first_reason (reasons e (counted w)) ≡ None
       counted_free (event.Begin l n) w is = is
@@ -615,17 +617,17 @@ there_below (x ∷ xs) (suc j) h = there_below xs j (less j (length xs) h)
     less : (j n : ℕ) → nat_lt (suc j) (suc n) ≡ true → nat_lt j n ≡ true
     less j n h = grind (arith, nat_tests)
 
-module _ (hd : Header) where
+module _ (hd : Header) (st : Start) where
   abbrev Firsts : ℕ → List Node
-  Firsts n = map (first_node hd) (numbers_to n)
+  Firsts n = map (node_by hd st) (numbers_to n)
 
-  snoc : (n : ℕ) → Firsts (suc n) ≡ Firsts n ++ first_node hd (suc n) ∷ []
-  snoc n = map-append (first_node hd) (numbers_to n) (suc n ∷ [])
+  snoc : (n : ℕ) → Firsts (suc n) ≡ Firsts n ++ node_by hd st (suc n) ∷ []
+  snoc n = map-append (node_by hd st) (numbers_to n) (suc n ∷ [])
 
   long : (n : ℕ) → length (Firsts n) ≡ n
   long zero = refl
   long (suc n) =
-      ap (λ (ns : List Node). length ns) (snoc n) ∙ length-append (Firsts n) (first_node hd (suc n) ∷ []) ∙ (λ i. long n i + 1) ∙ next n
+      ap (λ (ns : List Node). length ns) (snoc n) ∙ length-append (Firsts n) (node_by hd st (suc n) ∷ []) ∙ (λ i. long n i + 1) ∙ next n
     where
       next : (n : ℕ) → n + 1 ≡ suc n
       next n = omega arith
@@ -633,12 +635,12 @@ module _ (hd : Header) where
   first_numbers : (n j : ℕ) (a : Node) → slice_get (Firsts n) j ≡ Some a → a.number ≡ suc j
   first_numbers zero j a h = absurd (cc h)
   first_numbers (suc n) j a h = ⊎_elim (λ old. first_numbers n j a old) (λ new. new_number new.0 new.1)
-      (got_behind (Firsts n) (first_node hd (suc n)) j a (sym (ap (λ ns. slice_get ns j) (snoc n)) ∙ h))
+      (got_behind (Firsts n) (node_by hd st (suc n)) j a (sym (ap (λ ns. slice_get ns j) (snoc n)) ∙ h))
     where
-      new_number : j ≡ length (Firsts n) → first_node hd (suc n) ≡ a → a.number ≡ suc j
+      new_number : j ≡ length (Firsts n) → node_by hd st (suc n) ≡ a → a.number ≡ suc j
       new_number is same = sym (ap (λ (x : Node). x.number) same) ∙ sym (ap suc (is ∙ long n))
 
-  first_stands : Stands hd [] (format hd)
+  first_stands : Stands hd [] (world_from hd st)
   first_stands = record {
     frames = tt;
     junk = tt;
@@ -660,11 +662,8 @@ module _ (hd : Header) where
           below : (j n : ℕ) → nat_le (suc j) n ≡ true → nat_lt j n ≡ true
           below j n h = grind (arith, nat_tests)
 
-  pub first_asked : (P : Seen → Type 0) → KeepsAsked hd P → Holds hd P (format hd)
-  first_asked P keeps = record { sent = []; stands = first_stands; holds = keeps.first }
-
-  pub runs_asked : (P : Seen → Type 0) → KeepsAsked hd P → (es : List Asked) → Holds hd P (run_all es (format hd))
-  runs_asked P keeps es = all_asked hd P keeps es (format hd) (first_asked P keeps)
+  pub first_asked : (P : Seen → Type 0) → IsFormed hd st → KeepsAsked hd P → Holds hd P (world_from hd st)
+  first_asked P formed keeps = record { sent = []; stands = first_stands; holds = keeps.first st formed }
 
 -- ---- what is kept whatever an include asks for
 
@@ -683,11 +682,8 @@ keeps_asked hd P keeps = record {
 pub event_holds : (hd : Header) (P : Seen → Type 0) → Keeps hd P → (e : Asked) (w : World) → Holds hd P w → Holds hd P (run_event e w)
 event_holds hd P keeps e w h = event_asked hd P (keeps_asked hd P keeps) e w h
 
-pub first_holds : (hd : Header) (P : Seen → Type 0) → Keeps hd P → Holds hd P (format hd)
-first_holds hd P keeps = first_asked hd P (keeps_asked hd P keeps)
-
-pub runs_hold : (hd : Header) (P : Seen → Type 0) → Keeps hd P → (es : List Asked) → Holds hd P (run_all es (format hd))
-runs_hold hd P keeps es = runs_asked hd P (keeps_asked hd P keeps) es
+pub first_holds : (hd : Header) (st : Start) (P : Seen → Type 0) → IsFormed hd st → Keeps hd P → Holds hd P (world_from hd st)
+first_holds hd st P formed keeps = first_asked hd st P formed (keeps_asked hd P keeps)
 
 -- which stops are still to fall is nothing to it
 pub arms_hold : (hd : Header) (P : Seen → Type 0) (arms : List (ℕ × Arm)) (w : World) → Holds hd P w → Holds hd P (record w { arms = arms })

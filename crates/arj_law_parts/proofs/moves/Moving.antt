@@ -1,9 +1,10 @@
 -- Whatever each handler keeps holds after moves; and the run of a script is one of moves.
 use Rattle.arj_law_parts.proofs.Words
-use Words.{◌≡◌, List, [], ◌∷◌, ◌++◌, refl, Header, World, format, run_all, run_event, Seen, Move, all_moved, as_moves, moved, world_by}
+use Words.{◌≡◌, List, [], ◌∷◌, ◌++◌, refl, Header, World, format, world_from, run_all, run_event, Seen, Move, all_moved, as_moves, moved}
+use Words.{world_by}
 use Rattle.arj_law_parts.proofs.Terms.{Asked, Holds, KeepsAsked}
 use Rattle.arj_law_parts.proofs.moves.Happens.{arms_hold, event_asked, first_asked}
-use Rattle.arj_promise.specs.Runs.{moves_of}
+use Rattle.arj_promise.specs.Runs.{Run, run_of}
 
 -- ---- what is kept
 
@@ -16,9 +17,9 @@ module _ (hd : Header) (P : Seen → Type 0) (keeps : KeepsAsked hd P) where
   moves_go_on [] w h = h
   moves_go_on (m ∷ ms) w h = moves_go_on ms (moved m w) (move_asked m w h)
 
--- from where the nodes are formatted
-pub moves_asked : (hd : Header) (P : Seen → Type 0) → KeepsAsked hd P → (ms : List Move) → Holds hd P (world_by hd ms)
-moves_asked hd P keeps ms = moves_go_on hd P keeps ms (format hd) (first_asked hd P keeps)
+-- from wherever a run begins
+pub moves_asked : (hd : Header) (P : Seen → Type 0) → KeepsAsked hd P → (r : Run hd) → Holds hd P (world_by hd r)
+moves_asked hd P keeps r = moves_go_on hd P keeps r.moves (world_from hd r.start) (first_asked hd r.start P r.formed keeps)
 
 -- ---- more moves behind
 
@@ -33,5 +34,5 @@ scripts_move [] w = refl
 scripts_move (e ∷ es) w = scripts_move es (run_event e w)
 
 -- a script's world is that of its moves, but for the stops that are armed at its end
-pub scripts_are_moves : (hd : Header) (es : List Asked) → world_by hd (moves_of hd es) ≡ record (run_all es (format hd)) { arms = [] }
+pub scripts_are_moves : (hd : Header) (es : List Asked) → world_by hd (run_of hd es) ≡ record (run_all es (format hd)) { arms = [] }
 scripts_are_moves hd es = scripts_move es (format hd)

@@ -9,7 +9,7 @@ use Words.{effects_of, Parts, Ran, first_done, first_queued, ran, with_coord, In
 use Words.{branch_numbered, commit_reasons, first_reason, giveup_reasons, is_waiting, is_waiting_now, on_branch, refusal, refusal_at}
 use Words.{refusal_up, refused_by, step, step_of, step_unless, waits, Branch, Tree, at_place, branch_of, ended_at, ended_branch, family_of}
 use Words.{is_own, open_below, root_of, set_place, with_family, Body, End, Event, Header, Kind, Label, Line, Uid, name, uids_of, Arm, World}
-use Words.{bodies, counted, happens, is_given, limited, node_of, numbered, reasons, refused_at, run_unless, steps}
+use Words.{bodies, counted, happens, is_given, is_known, was_given, limited, node_of, numbered, reasons, refused_at, run_unless, steps}
 use Words.input
 use Words.body
 use Words.cause
@@ -19,7 +19,8 @@ use Words.ending
 use Rattle.arj_law_parts.proofs.Terms
 use Terms.{names_of, IsDone, IsRun, IsWhole, asks, node_refusal, refused_to, says as world_says}
 use Terms.which
-use Rattle.arj_law_parts.proofs.steps.{CoordNames.same_all, Spoken.first_not, Spoken.given_node, Spoken.not_not}
+use Rattle.arj_law_parts.proofs.steps.{CoordNames.same_all, Spoken.given_node}
+use Rattle.arj_law_parts.proofs.moves.Reasons.{first_not, is_there, not_not}
 use Rattle.arj_law_parts.proofs.steps.Written.{Halt, Its, Or, Says, Stands, first_stands, node_refuses, node_says, numbered_in, said_of}
 use Rattle.arj_law_parts.proofs.steps.Written.{stands_before, stands_behind, whole_says}
 use Rattle.arj_law_parts.specs.steps.Named.{AnswersEnd, AreNamed, EndHalted, EndRefused, EndsWriteTheirLines, IsEndAnswered, IsEndOf}
@@ -339,8 +340,8 @@ module _ (l : Label) (w : World) (whole : IsWhole w) (named : AreNamed w) where
       by (Some c) some = said_end e l w (counted w) k i (λ b. b ≡ body.Refused c) refl (node_refuses k i c (counted w) some)
           (λ b is. EndRefused c (inr (run, refusal_is (Some c) some)) is)
 
-  given : (x : Label) → x ≡ l → first_reason ((5, not (is_given x w)) ∷ []) ≡ None → is_given l w ≡ true
-  given x same none = subst (λ y. is_given y w ≡ true) same (not_not (is_given x w) (first_not 5 (not (is_given x w)) [] none).0)
+  given : (x : Label) → x ≡ l → first_reason ((5, not (is_known x w)) ∷ (6, was_given x w) ∷ []) ≡ None → is_given l w ≡ true
+  given x same none = subst (λ y. is_given y w ≡ true) same (is_there x w none)
 
   refused : (e : Event) (c : ℕ) → first_reason (reasons e w) ≡ Some c →
       IsEndAnswered e l w (world_says (body.Refused c ∷ []) (counted w)).lines

@@ -6,7 +6,8 @@ use Words.{begin_action, Effect, Say, Do, Look, PutInc, effects_of, Handled, Par
 use Words.{first_reason, frame_step, handled_step, only_says, void_step, parent_of, parts_in, refusal, refusal_at, restart_outs, step}
 use Words.{step_of, step_unless, at_place, next_uid, Body, Event, Header, Kind, Label, Line, Message, Uid, label_cmp, World, Arm, Frame}
 use Words.{Giving, Labelled, as_delivered, as_lost, armed, bodies, begins, change_frame, counted, deliver, deliver_frame, giving}
-use Words.{gives_label, happens, is_frame, is_given, is_node, is_quiet, is_up, is_up_at, junk, junk_fits, kind_below, labelled}
+use Words.{gives_label, happens, is_frame, is_given, is_known, was_given, is_node, is_quiet, is_up, is_up_at, junk, junk_fits, kind_below}
+use Words.{labelled}
 use Words.{labels_unless, lacks_labels, limited, lose, lose_frame, lowest, most_frames, new_frame, no_labels, node_in, node_numbers}
 use Words.{node_of, numbered, quiesce, quiet_line, reasons, refused_at, run_event, run_unless, settle, settle_for, steps, tick_all, tick_up}
 use Words.input
@@ -21,6 +22,7 @@ use Terms.which
 use Rattle.arj_law_parts.proofs.steps.Written.{Says, SaysFirst, Written, node_says, node_says_first, refusal_writes, says_written}
 use Rattle.arj_law_parts.proofs.steps.Written.{step_writes, whole_says, first_stands, stands_behind, third_stands}
 use Rattle.arj_law_parts.specs.steps.Writes.{IsFrames, IsLabels, Owes, Writes, begun_by, may_lack_frames}
+use Rattle.arj_law_parts.proofs.moves.Reasons.{first_not, is_new, is_there, not_not}
 
 -- ---- what steps say
 
@@ -199,14 +201,6 @@ quiet_line_writes w v adds done = by v.full refl
 
 -- ---- why an event is refused
 
-pub first_not : (c : ℕ) (b : Bool) (rs : List (ℕ × Bool)) → first_reason ((c, b) ∷ rs) ≡ None → (b ≡ false) × (first_reason rs ≡ None)
-first_not c true rs none = absurd (cc none)
-first_not c false rs none = (refl, none)
-
-pub not_not : (b : Bool) → not b ≡ false → b ≡ true
-not_not true is = refl
-not_not false is = absurd (cc is)
-
 there_is : {A : Type 0} (o : Option A) → is_some o ≡ true → (a : A) × (o ≡ Some a)
 there_is None isnt = absurd (cc isnt)
 there_is (Some a) is = (a, refl)
@@ -364,25 +358,23 @@ module _ (w : World) (whole : IsWhole w) (a : Arm) where
   -- an event that is run
   happens_writes : (e : Event) → Owes e w → IsRun e w → Writes e w (limited (happens e a (counted w)))
   happens_writes (event.Begin l n) own run =
-      let r = first_not 1 (not (is_node n w)) ((2, not (is_up_at n w)) ∷ (4, is_given l w) ∷ []) run.accepted in
+      let r = first_not 1 (not (is_node n w)) ((2, not (is_up_at n w)) ∷ (4, is_known l w) ∷ []) run.accepted in
       limited_writes (event.Begin l n) w (happens (event.Begin l n) a (counted w)) (begins_writes (event.Begin l n) w
       (record { label = l; kind = kind.Top; parent = None; node = n }) whole (not_not (is_node n w) r.0) run refl refl (λ b is. is))
   happens_writes (event.Serial l n) own run =
-      let r = first_not 1 (not (is_node n w)) ((2, not (is_up_at n w)) ∷ (4, is_given l w) ∷ []) run.accepted in
+      let r = first_not 1 (not (is_node n w)) ((2, not (is_up_at n w)) ∷ (4, is_known l w) ∷ []) run.accepted in
       limited_writes (event.Serial l n) w (happens (event.Serial l n) a (counted w)) (begins_writes (event.Serial l n) w
       (record { label = l; kind = kind.Serial; parent = None; node = n }) whole (not_not (is_node n w) r.0) run refl refl (λ b is. is))
   happens_writes (event.BeginIn l p) own run =
-      let r = first_not 4 (is_given l w) ((5, not (is_given p w)) ∷ []) run.accepted in
-      let q = first_not 5 (not (is_given p w)) [] r.1 in
+      let r = is_new l w ((5, not (is_known p w)) ∷ (6, was_given p w) ∷ []) run.accepted in
       limited_writes (event.BeginIn l p) w (happens (event.BeginIn l p) a (counted w))
       (begins_writes (event.BeginIn l p) w (record { label = l; kind = kind_below p w; parent = Some p; node = node_of p w }) whole
-      (given_node w p whole (not_not (is_given p w) q.0)) run refl refl (λ b is. is))
+      (given_node w p whole (is_there p w r.1)) run refl refl (λ b is. is))
   happens_writes (event.Top l p) own run =
-      let r = first_not 4 (is_given l w) ((5, not (is_given p w)) ∷ []) run.accepted in
-      let q = first_not 5 (not (is_given p w)) [] r.1 in
+      let r = is_new l w ((5, not (is_known p w)) ∷ (6, was_given p w) ∷ []) run.accepted in
       limited_writes (event.Top l p) w (happens (event.Top l p) a (counted w))
       (begins_writes (event.Top l p) w (record { label = l; kind = kind.Independent; parent = Some p; node = node_of p w }) whole
-      (given_node w p whole (not_not (is_given p w) q.0)) run refl refl (λ b is. is))
+      (given_node w p whole (is_there p w r.1)) run refl refl (λ b is. is))
   happens_writes (event.Deliver (frame_no.Number k)) own run =
       let r = first_not 17 (not (is_frame (frame_no.Number k) w)) [] run.accepted in
       limited_writes (event.Deliver (frame_no.Number k)) w (deliver k (counted w)) (delivers k (event.Deliver (frame_no.Number k)) own

@@ -1,15 +1,17 @@
 -- Worlds keep their nodes, and labels are of actions of these.
 use Rattle.arj_law_parts.proofs.Words
-use Words.{◌≡◌, ◌∙◌, ◌+◌, ◌-◌, ◌<◌, ℕ, zero, suc, Bool, true, false, not, ◌&&◌, cond, List, [], ◌∷◌, ◌++◌, map, length, refl, sym, ap}
+use Words.{Start, ◌≡◌, ◌∙◌, ◌+◌, ◌-◌, ◌<◌, ℕ, zero, suc, Bool, true, false, not, ◌&&◌, cond, List, [], ◌∷◌, ◌++◌, map, length, refl, sym}
+use Words.{ap}
 use Words.{subst, arith, Option, Some, None, is_some, nat_lt, nat_le, slice_get, slice_set, ◌||◌, insert_entry, AllByRecursion, and_parts}
 use Words.{nat_tests, length-append, map-append, match_ordering, Ordering, Less, Equal, Greater, Handled, Void, Took, Parts, taken}
-use Words.{at_number, Node, Input, first_reason, frame_step, handled_step, numbers_to, first_node, refusal, step, step_down, step_of}
+use Words.{at_number, Node, Input, first_reason, frame_step, handled_step, numbers_to, node_by, refusal, step, step_down, step_of}
 use Words.{step_unless, step_up, at_place, set_place, Event, Header, Label, Message, label_cmp, World, Arm, Frame, Giving, Labelled, armed}
-use Words.{gives_label, is_given, is_serial_kind, kind_below, labels_unless, node_of, refused_at, giving, as_delivered, begins}
-use Words.{change_frame, count_works, counted, cut, deliver, deliver_frame, disarmed, done_step, format, halted_at, happens, is_node}
+use Words.{gives_label, is_given, is_known, was_given, is_serial_kind, kind_below, labels_unless, node_of, refused_at, giving, as_delivered}
+use Words.{begins}
+use Words.{change_frame, count_works, counted, cut, deliver, deliver_frame, disarmed, done_step, halted_at, world_from, happens, is_node}
 use Words.{is_quiet, is_up_at, junk_fits, lacks_labels, limited, lose, lose_frame, lowest, most_frames, no_labels, node_numbers, quiesce}
 use Words.{quiet_line, reasons, run_event, run_unless, settle, settle_for, show_all, show_up, step_node, step_with, steps, tick_all}
-use Words.{tick_up, Move, all_moved, moved, world_by}
+use Words.{tick_up, Move, all_moved, moved, world_by, is_at, list_any}
 use Words.input
 use Words.body
 use Words.event
@@ -18,7 +20,9 @@ use Words.kind
 use Rattle.arj_law_parts.proofs.Terms
 use Terms.{IsWhole, Asked, says}
 use Terms.which
-use Rattle.arj_law_parts.proofs.steps.Spoken.{first_not, given_node, not_not}
+use Rattle.arj_law_parts.proofs.moves.Reasons.{first_not, is_new, is_there, is_unused, not_not}
+use Rattle.arj_law_parts.proofs.steps.Spoken.{given_node}
+use Rattle.arj_promise.specs.Runs.{Run}
 
 -- ---- a step keeps the node's number
 
@@ -114,19 +118,25 @@ set_alike ns (suc i) x y at same = record { places = places; numbers = numbers }
 
 -- ---- worlds
 
--- header and labels are the same, and nodes alike
+-- header, start and labels are the same, and nodes alike
 pub record Keeps (w v : World) : Type 0 where
   pub header : v.header ≡ w.header
+  pub start : v.start ≡ w.start
   pub labels : v.labels ≡ w.labels
   pub nodes : Alike w.nodes v.nodes
 
-keeps_same : (w v : World) → v.header ≡ w.header → v.labels ≡ w.labels → v.nodes ≡ w.nodes → Keeps w v
-keeps_same w v header labels nodes =
-    record { header = header; labels = labels; nodes = subst (Alike w.nodes) (sym nodes) (alike_same w.nodes) }
+keeps_same : (w v : World) → v.header ≡ w.header → v.start ≡ w.start → v.labels ≡ w.labels → v.nodes ≡ w.nodes → Keeps w v
+keeps_same w v header start labels nodes =
+    record { header = header; start = start; labels = labels; nodes = subst (Alike w.nodes) (sym nodes) (alike_same w.nodes) }
 
 keeps_on : (u v w : World) → Keeps u v → Keeps v w → Keeps u w
 keeps_on u v w a b =
-    record { header = b.header ∙ a.header; labels = b.labels ∙ a.labels; nodes = alike_on u.nodes v.nodes w.nodes a.nodes b.nodes }
+    record {
+      header = b.header ∙ a.header;
+      start = b.start ∙ a.start;
+      labels = b.labels ∙ a.labels;
+      nodes = alike_on u.nodes v.nodes w.nodes a.nodes b.nodes;
+    }
 
 steps_keep : (k : ℕ) (i : Input) (w : World) → Keeps w (steps k i w)
 steps_keep k i w = by (at_place k w.nodes) refl
@@ -136,9 +146,15 @@ steps_keep k i w = by (at_place k w.nodes) refl
         (cond b (done_step k (step w.header n i) (armed k (record a { works = a.works - count_works (step w.header n i).halting }) w))
         (halted_at k n (cut (a.works - 1) a.how (step w.header n i).halting n.disk) (disarmed k w)))
     armed_keeps n a at true =
-        record { header = refl; labels = refl; nodes = set_alike w.nodes k (step w.header n i).after n at (step_number w.header n i) }
+        record {
+          header = refl;
+          start = refl;
+          labels = refl;
+          nodes = set_alike w.nodes k (step w.header n i).after n at (step_number w.header n i);
+        }
     armed_keeps n a at false = record {
       header = refl;
+      start = refl;
       labels = refl;
       nodes = set_alike w.nodes k (record n { disk = (cut (a.works - 1) a.how (step w.header n i).halting n.disk).disk; live = None }) n
           at refl;
@@ -146,57 +162,62 @@ steps_keep k i w = by (at_place k w.nodes) refl
 
     with_keeps : (n : Node) → at_place k w.nodes ≡ Some n → (a : Option Arm) → Keeps w (step_with k n (step w.header n i) w a)
     with_keeps n at None =
-        record { header = refl; labels = refl; nodes = set_alike w.nodes k (step w.header n i).after n at (step_number w.header n i) }
+        record {
+          header = refl;
+          start = refl;
+          labels = refl;
+          nodes = set_alike w.nodes k (step w.header n i).after n at (step_number w.header n i);
+        }
     with_keeps n at (Some a) = armed_keeps n a at (nat_lt (count_works (step w.header n i).halting) a.works)
 
     by : (o : Option Node) → at_place k w.nodes ≡ o → Keeps w (step_node k i w o)
-    by None is = keeps_same w w refl refl refl
+    by None is = keeps_same w w refl refl refl refl
     by (Some n) is = with_keeps n is (at_number k w.arms)
 
 deliver_keeps : (k : ℕ) (w : World) → Keeps w (deliver k w)
 deliver_keeps k w = by (at_place k w.frames)
   where
     by : (o : Option Frame) → Keeps w (deliver_frame k w o)
-    by None = keeps_same w w refl refl refl
+    by None = keeps_same w w refl refl refl refl
     by (Some f) = keeps_on w (change_frame k as_delivered f w) (steps f.to (input.Frame k f.from f.message)
-        (change_frame k as_delivered f w)) (keeps_same w (change_frame k as_delivered f w) refl refl refl)
+        (change_frame k as_delivered f w)) (keeps_same w (change_frame k as_delivered f w) refl refl refl refl)
         (steps_keep f.to (input.Frame k f.from f.message) (change_frame k as_delivered f w))
 
 lose_keeps : (k : ℕ) (w : World) → Keeps w (lose k w)
 lose_keeps k w = by (at_place k w.frames)
   where
     by : (o : Option Frame) → Keeps w (lose_frame k w o)
-    by None = keeps_same w w refl refl refl
-    by (Some f) = keeps_same w (lose_frame k w (Some f)) refl refl refl
+    by None = keeps_same w w refl refl refl refl
+    by (Some f) = keeps_same w (lose_frame k w (Some f)) refl refl refl refl
 
 settle_keeps : (fuel : ℕ) (w : World) → Keeps w (settle_for fuel w)
-settle_keeps zero w = keeps_same w w refl refl refl
+settle_keeps zero w = keeps_same w w refl refl refl refl
 settle_keeps (suc fuel) w = by (lowest w) (λ k. settle_keeps fuel (deliver k w))
   where
     after : Option ℕ → World
     after o = elim o [ None ↦ w | Some k ↦ settle_for fuel (deliver k w) ]
 
     by : (o : Option ℕ) → ((k : ℕ) → Keeps (deliver k w) (settle_for fuel (deliver k w))) → Keeps w (after o)
-    by None rest = keeps_same w w refl refl refl
+    by None rest = keeps_same w w refl refl refl refl
     by (Some k) rest = keeps_on w (deliver k w) (settle_for fuel (deliver k w)) (deliver_keeps k w) (rest k)
 
 tick_keeps : (n : ℕ) (w : World) → Keeps w (tick_up n w)
 tick_keeps n w = by (w.full || not (is_up_at n w))
   where
     by : (b : Bool) → Keeps w (cond b w (steps n input.Tick w))
-    by true = keeps_same w w refl refl refl
+    by true = keeps_same w w refl refl refl refl
     by false = steps_keep n input.Tick w
 
 ticks_keep : (ns : List ℕ) (w : World) → Keeps w (tick_all ns w)
-ticks_keep [] w = keeps_same w w refl refl refl
+ticks_keep [] w = keeps_same w w refl refl refl refl
 ticks_keep (n ∷ ns) w = keeps_on w (tick_up n w) (tick_all ns (tick_up n w)) (tick_keeps n w) (ticks_keep ns (tick_up n w))
 
 quiet_keeps : (v : World) → Keeps v (quiet_line v)
 quiet_keeps v = by v.full
   where
     by : (b : Bool) → Keeps v (cond b v (says (body.Quiet (is_quiet v) ∷ []) v))
-    by true = keeps_same v v refl refl refl
-    by false = keeps_same v (says (body.Quiet (is_quiet v) ∷ []) v) refl refl refl
+    by true = keeps_same v v refl refl refl refl
+    by false = keeps_same v (says (body.Quiet (is_quiet v) ∷ []) v) refl refl refl refl
 
 quiesce_keeps : (w : World) → Keeps w (quiesce w)
 quiesce_keeps w = last (settle w) (settle_keeps most_frames w)
@@ -212,18 +233,18 @@ show_keeps x n w = by (is_up_at n w)
   where
     by : (b : Bool) → Keeps w (cond b (steps n (input.Show x) w) w)
     by true = steps_keep n (input.Show x) w
-    by false = keeps_same w w refl refl refl
+    by false = keeps_same w w refl refl refl refl
 
 shows_keep : (x : ℕ) (ns : List ℕ) (w : World) → Keeps w (show_all x ns w)
-shows_keep x [] w = keeps_same w w refl refl refl
+shows_keep x [] w = keeps_same w w refl refl refl refl
 shows_keep x (n ∷ ns) w = keeps_on w (show_up x n w) (show_all x ns (show_up x n w)) (show_keeps x n w) (shows_keep x ns (show_up x n w))
 
 limited_keeps : (v : World) → Keeps v (limited v)
 limited_keeps v = by v.full
   where
     by : (b : Bool) → Keeps v (cond b (says (body.Limit which.Frames ∷ []) (record v { over = true })) v)
-    by true = keeps_same v (says (body.Limit which.Frames ∷ []) (record v { over = true })) refl refl refl
-    by false = keeps_same v v refl refl refl
+    by true = keeps_same v (says (body.Limit which.Frames ∷ []) (record v { over = true })) refl refl refl refl
+    by false = keeps_same v v refl refl refl refl
 
 -- ---- whole worlds
 
@@ -234,6 +255,8 @@ whole_kept w v keeps whole = record {
   labels = subst (λ hd. AllByRecursion (λ (e : Label × Labelled). (nat_le 1 e.1.node && nat_le e.1.node hd.nodes) ≡ true) v.labels)
       (sym keeps.header)
       (subst (AllByRecursion (λ (e : Label × Labelled). is_node e.1.node w ≡ true)) (sym keeps.labels) whole.labels);
+  new = subst (λ (st : Start). AllByRecursion (λ (e : Label × Labelled). list_any (is_at (label_cmp e.0)) st.given ≡ false) v.labels)
+      (sym keeps.start) (subst (AllByRecursion (λ (e : Label × Labelled). was_given e.0 w ≡ false)) (sym keeps.labels) whole.new);
 }
 
 -- a label is given to an action of a node
@@ -248,29 +271,42 @@ label_put {X = X} P k x (e ∷ es) all p = by (label_cmp k e.0) (label_put P k x
     by Equal rest = (p, all.1)
     by Greater rest = (all.0, rest)
 
-label_given : (w : World) (g : Giving) → is_node g.node w ≡ true → IsWhole w → IsWhole (gives_label g w)
-label_given w g there whole = record {
+-- what holds of each label
+label_new : {X : Type 0} (P : Label → Type 0) (k : Label) (x : X) (es : List (Label × X)) → AllByRecursion (λ (e : Label × X). P e.0) es →
+    P k → AllByRecursion (λ (e : Label × X). P e.0) (insert_entry label_cmp es k x)
+label_new {X = X} P k x [] all p = (p, tt)
+label_new {X = X} P k x (e ∷ es) all p = by (label_cmp k e.0) (label_new P k x es all.1 p)
+  where
+    by : (o : Ordering) → AllByRecursion (λ (f : Label × X). P f.0) (insert_entry label_cmp es k x) →
+        AllByRecursion (λ (f : Label × X). P f.0) (match_ordering o ((k, x) ∷ e ∷ es) ((e.0, x) ∷ es) (e ∷ insert_entry label_cmp es k x))
+    by Less rest = (p, all)
+    by Equal rest = all
+    by Greater rest = (all.0, rest)
+
+label_given : (w : World) (g : Giving) → is_node g.node w ≡ true → was_given g.label w ≡ false → IsWhole w → IsWhole (gives_label g w)
+label_given w g there unused whole = record {
   nodes = whole.nodes;
   numbers = whole.numbers;
   labels = label_put (λ (x : Labelled). is_node x.node w ≡ true) g.label (record { node = g.node; serial = is_serial_kind g.kind }) w.labels
       whole.labels there;
+  new = label_new (λ l. was_given l w ≡ false) g.label (record { node = g.node; serial = is_serial_kind g.kind }) w.labels whole.new unused;
 }
 
-begins_whole : (w : World) (g : Giving) → is_node g.node w ≡ true → IsWhole w → IsWhole (begins g w)
-begins_whole w g there whole = by (refused_at i w (at_place g.node w.nodes))
+begins_whole : (w : World) (g : Giving) → is_node g.node w ≡ true → was_given g.label w ≡ false → IsWhole w → IsWhole (begins g w)
+begins_whole w g there unused whole = by (refused_at i w (at_place g.node w.nodes))
   where
     i : Input
     i = input.Begin g.label g.kind g.parent
 
     by : (r : Option ℕ) → IsWhole (steps g.node i (labels_unless g w r))
     by None = whole_kept (gives_label g w) (steps g.node i (gives_label g w)) (steps_keep g.node i (gives_label g w))
-        (label_given w g there whole)
+        (label_given w g there unused whole)
     by (Some c) = whole_kept w (steps g.node i w) (steps_keep g.node i w) whole
 
 -- ---- events
 
 counted_whole : (w : World) → IsWhole w → IsWhole (counted w)
-counted_whole w whole = whole_kept w (counted w) (keeps_same w (counted w) refl refl refl) whole
+counted_whole w whole = whole_kept w (counted w) (keeps_same w (counted w) refl refl refl refl) whole
 
 module _ (w : World) (whole : IsWhole w) (a : Arm) where
   kept : (v : World) → Keeps (counted w) v → IsWhole v
@@ -278,23 +314,23 @@ module _ (w : World) (whole : IsWhole w) (a : Arm) where
 
   happens_whole : (e : Event) → first_reason (reasons e w) ≡ None → IsWhole (happens e a (counted w))
   happens_whole (event.Begin l n) none =
-      let r = first_not 1 (not (is_node n w)) ((2, not (is_up_at n w)) ∷ (4, is_given l w) ∷ []) none in
+      let r = first_not 1 (not (is_node n w)) ((2, not (is_up_at n w)) ∷ (4, is_known l w) ∷ []) none in
       begins_whole (counted w) (record { label = l; kind = kind.Top; parent = None; node = n }) (not_not (is_node n w) r.0)
-      (counted_whole w whole)
+      (is_unused l w [] (first_not 2 (not (is_up_at n w)) ((4, is_known l w) ∷ []) r.1).1) (counted_whole w whole)
   happens_whole (event.Serial l n) none =
-      let r = first_not 1 (not (is_node n w)) ((2, not (is_up_at n w)) ∷ (4, is_given l w) ∷ []) none in
+      let r = first_not 1 (not (is_node n w)) ((2, not (is_up_at n w)) ∷ (4, is_known l w) ∷ []) none in
       begins_whole (counted w) (record { label = l; kind = kind.Serial; parent = None; node = n }) (not_not (is_node n w) r.0)
-      (counted_whole w whole)
+      (is_unused l w [] (first_not 2 (not (is_up_at n w)) ((4, is_known l w) ∷ []) r.1).1) (counted_whole w whole)
   happens_whole (event.BeginIn l p) none =
-      let r = first_not 4 (is_given l w) ((5, not (is_given p w)) ∷ []) none in
-      let q = first_not 5 (not (is_given p w)) [] r.1 in
+      let r = is_new l w ((5, not (is_known p w)) ∷ (6, was_given p w) ∷ []) none in
       begins_whole (counted w) (record { label = l; kind = kind_below p w; parent = Some p; node = node_of p w })
-      (given_node w p whole (not_not (is_given p w) q.0)) (counted_whole w whole)
+      (given_node w p whole (is_there p w r.1)) (is_unused l w ((5, not (is_known p w)) ∷ (6, was_given p w) ∷ []) none)
+      (counted_whole w whole)
   happens_whole (event.Top l p) none =
-      let r = first_not 4 (is_given l w) ((5, not (is_given p w)) ∷ []) none in
-      let q = first_not 5 (not (is_given p w)) [] r.1 in
+      let r = is_new l w ((5, not (is_known p w)) ∷ (6, was_given p w) ∷ []) none in
       begins_whole (counted w) (record { label = l; kind = kind.Independent; parent = Some p; node = node_of p w })
-      (given_node w p whole (not_not (is_given p w) q.0)) (counted_whole w whole)
+      (given_node w p whole (is_there p w r.1)) (is_unused l w ((5, not (is_known p w)) ∷ (6, was_given p w) ∷ []) none)
+      (counted_whole w whole)
   happens_whole (event.Call l x o) none =
       kept (happens (event.Call l x o) a (counted w)) (steps_keep (node_of l w) (input.Call l x o) (counted w))
   happens_whole (event.Include l x n) none =
@@ -315,12 +351,12 @@ module _ (w : World) (whole : IsWhole w) (a : Arm) where
   happens_whole (event.Crash n) none = kept (steps n input.Crash (counted w)) (steps_keep n input.Crash (counted w))
   happens_whole (event.Restart n) none = kept (steps n input.Restart (counted w)) (steps_keep n input.Restart (counted w))
   happens_whole (event.Stop n c how) none = kept (says (body.Armed n ∷ []) (armed n a (counted w)))
-      (keeps_same (counted w) (says (body.Armed n ∷ []) (armed n a (counted w))) refl refl refl)
+      (keeps_same (counted w) (says (body.Armed n ∷ []) (armed n a (counted w))) refl refl refl refl)
   happens_whole (event.Junk n bytes) none = by (nat_lt (length w.frames) most_frames)
     where
       by : (b : Bool) → IsWhole (junk_fits n (counted w) b)
-      by true = kept (junk_fits n (counted w) true) (keeps_same (counted w) (junk_fits n (counted w) true) refl refl refl)
-      by false = kept (junk_fits n (counted w) false) (keeps_same (counted w) (junk_fits n (counted w) false) refl refl refl)
+      by true = kept (junk_fits n (counted w) true) (keeps_same (counted w) (junk_fits n (counted w) true) refl refl refl refl)
+      by false = kept (junk_fits n (counted w) false) (keeps_same (counted w) (junk_fits n (counted w) false) refl refl refl refl)
   happens_whole (event.Show x) none =
       kept (show_all x (node_numbers (counted w)) (counted w)) (shows_keep x (node_numbers (counted w)) (counted w))
 
@@ -329,13 +365,14 @@ event_whole e w whole = over w.over
   where
     accepted : (b : Bool) → first_reason (reasons e.event w) ≡ None →
         IsWhole (cond b (no_labels w) (limited (happens e.event e.arm (counted w))))
-    accepted true none = whole_kept w (no_labels w) (keeps_same w (no_labels w) refl refl refl) whole
+    accepted true none = whole_kept w (no_labels w) (keeps_same w (no_labels w) refl refl refl refl) whole
     accepted false none = whole_kept (happens e.event e.arm (counted w)) (limited (happens e.event e.arm (counted w)))
         (limited_keeps (happens e.event e.arm (counted w))) (happens_whole w whole e.arm e.event none)
 
     by : (r : Option ℕ) → first_reason (reasons e.event w) ≡ r → IsWhole (run_unless e.event e.arm w r)
     by (Some c) is =
-        whole_kept w (says (body.Refused c ∷ []) (counted w)) (keeps_same w (says (body.Refused c ∷ []) (counted w)) refl refl refl) whole
+        whole_kept w (says (body.Refused c ∷ []) (counted w))
+        (keeps_same w (says (body.Refused c ∷ []) (counted w)) refl refl refl refl) whole
     by None is = accepted (lacks_labels (giving e.event w) w) is
 
     over : (b : Bool) → IsWhole (cond b w (run_unless e.event e.arm w (first_reason (reasons e.event w))))
@@ -344,7 +381,7 @@ event_whole e w whole = over w.over
 
 -- which stops are to fall is nothing to it
 pub whole_with : (arms : List (ℕ × Arm)) (w : World) → IsWhole w → IsWhole (record w { arms = arms })
-whole_with arms w whole = record { nodes = whole.nodes; numbers = whole.numbers; labels = whole.labels }
+whole_with arms w whole = record { nodes = whole.nodes; numbers = whole.numbers; labels = whole.labels; new = whole.new }
 
 pub move_whole : (m : Move) (w : World) → IsWhole w → IsWhole (moved m w)
 move_whole m w whole = whole_with [] (run_event m.asked (record w { arms = m.falls }))
@@ -375,27 +412,27 @@ some_at [] i less = absurd (omega (arith, less))
 some_at (n ∷ ns) zero less = refl
 some_at (n ∷ ns) (suc i) less = some_at ns i (omega (arith, less))
 
-module _ (hd : Header) where
+module _ (hd : Header) (st : Start) where
   abbrev firsts : ℕ → List Node
-  firsts n = map (first_node hd) (numbers_to n)
+  firsts n = map (node_by hd st) (numbers_to n)
 
-  firsts_next : (n : ℕ) → firsts (suc n) ≡ firsts n ++ first_node hd (suc n) ∷ []
-  firsts_next n = map-append (first_node hd) (numbers_to n) (suc n ∷ [])
+  firsts_next : (n : ℕ) → firsts (suc n) ≡ firsts n ++ node_by hd st (suc n) ∷ []
+  firsts_next n = map-append (node_by hd st) (numbers_to n) (suc n ∷ [])
 
   firsts_count : (n : ℕ) → length (firsts n) ≡ n
   firsts_count zero = refl
   firsts_count (suc n) =
-      ap length (firsts_next n) ∙ (length-append (firsts n) (first_node hd (suc n) ∷ []) ∙ (ap (λ k. k + 1) (firsts_count n) ∙ grind arith))
+      ap length (firsts_next n) ∙ (length-append (firsts n) (node_by hd st (suc n) ∷ []) ∙ (ap (λ k. k + 1) (firsts_count n) ∙ grind arith))
 
   firsts_numbered : (n : ℕ) → AreNumbered 1 (firsts n)
   firsts_numbered zero = tt
   firsts_numbered (suc n) = subst (AreNumbered 1) (sym (firsts_next n))
-      (one_more 1 (firsts n) (first_node hd (suc n)) (firsts_numbered n) (sym (ap (λ k. 1 + k) (firsts_count n) ∙ grind arith)))
+      (one_more 1 (firsts n) (node_by hd st (suc n)) (firsts_numbered n) (sym (ap (λ k. 1 + k) (firsts_count n) ∙ grind arith)))
 
-  pub format_whole : IsWhole (format hd)
-  format_whole = record { nodes = nodes; numbers = numbers; labels = tt }
+  pub starts_whole : IsWhole (world_from hd st)
+  starts_whole = record { nodes = nodes; numbers = numbers; labels = tt; new = tt }
     where
-      nodes : (n : ℕ) → is_node n (format hd) ≡ true → is_some (at_place n (firsts hd.nodes)) ≡ true
+      nodes : (n : ℕ) → is_node n (world_from hd st) ≡ true → is_some (at_place n (firsts hd.nodes)) ≡ true
       nodes zero there = absurd (cc there)
       nodes (suc k) there =
           let below : nat_le (suc k) hd.nodes ≡ true = (and_parts (nat_le 1 (suc k)) (nat_le (suc k) hd.nodes) there).1 in
@@ -406,5 +443,5 @@ module _ (hd : Header) where
       numbers zero m at = absurd (cc at)
       numbers (suc k) m at = number_at 1 (firsts hd.nodes) k m (firsts_numbered hd.nodes) at ∙ grind arith
 
-pub runs_whole : (hd : Header) (ms : List Move) → IsWhole (world_by hd ms)
-runs_whole hd ms = moves_whole ms (format hd) (format_whole hd)
+pub runs_whole : (hd : Header) (r : Run hd) → IsWhole (world_by hd r)
+runs_whole hd r = moves_whole r.moves (world_from hd r.start) (starts_whole hd r.start)

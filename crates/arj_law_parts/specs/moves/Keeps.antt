@@ -14,9 +14,11 @@ use Rattle.arj_protocol.specs.Follow.{tick_outs}
 use Rattle.arj_protocol.specs.Step.{Node, Input, acts, begin_refusal, refusal_up, parent_of, parts_in, restart_outs}
 use Rattle.arj_protocol.specs.Step as input
 use Rattle.arj_protocol.specs.Tree.{at_place}
-use Rattle.arj_protocol.specs.World.{World, Frame, Labelled, format, is_serial_kind}
+use Rattle.arj_protocol.specs.World.{World, Frame, Labelled, is_serial_kind, world_from}
 use Rattle.arj_law_parts.specs.moves.Seen.{In, at, up, down, said, given, AreQuiet}
+use Rattle.arj_model.specs.Start.{Start}
 use Rattle.arj_promise.specs.Runs.{Post, Seen, see}
+use Rattle.arj_promise.specs.Starts.{IsFormed}
 use Rattle.arj_law_parts.specs.moves.Walks.{Walks, Up, halted}
 
 -- what a label stands for
@@ -48,6 +50,10 @@ is_act _ = false
 abbrev pub DidKeeps : (Seen → Type 0) → ℕ → ℕ → Disk → Parts → Did Coord → Seen → Type 0
 DidKeeps P e k d t did M = Walks P e k did.outs (Up P k (with_coord t did.part)) d M
 
+-- it holds wherever a run of the header may begin
+abbrev pub IsAtStarts : Header → (Seen → Type 0) → Type 0
+IsAtStarts hd P = (st : Start) → IsFormed hd st → P (see [] (world_from hd st))
+
 -- The relation is kept: by lines at which it doesn't look; by a node that stops; by each message that can be meant and is taken, each input
 -- about an action, and the beginning of one; by a tick, and by a restart; and it holds at first.
 pub record Keeps (hd : Header) (P : Seen → Type 0) : Type 0 where
@@ -67,7 +73,7 @@ pub record Keeps (hd : Header) (P : Seen → Type 0) : Type 0 where
       (Up P k (with_coord t (again_all t.coord.doings t.coord).part)) d M
   pub restart : (e k : ℕ) (d : Disk) (M : Seen) → P (down k d M) →
       Walks P e k (restart_outs hd k (d.inc + 1) d) (Up P k (parts_in k (d.inc + 1) d)) d M
-  pub first : P (see [] (format hd))
+  pub first : IsAtStarts hd P
 
 -- a store to include is a node of the header
 abbrev pub AsksNode : Header → Input → Type 0
@@ -96,7 +102,7 @@ pub record KeepsFrom (hd : Header) (F : Type 0) (P : Seen → Type 0) : Type 0 w
 
 -- so it is, and the relation holds at first
 abbrev pub KeepsAsked : Header → (Seen → Type 0) → Type 0
-KeepsAsked hd P = KeepsFrom hd (P (see [] (format hd))) P
+KeepsAsked hd P = KeepsFrom hd (IsAtStarts hd P) P
 
 -- so it is, whatever holds at first: where the relation holds once, it holds from there on
 abbrev pub KeepsOn : Header → (Seen → Type 0) → Type 0

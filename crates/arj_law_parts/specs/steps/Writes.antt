@@ -9,16 +9,18 @@ use Rattle.arj_protocol.specs.Words.body
 use Rattle.arj_protocol.specs.Words.event
 use Rattle.arj_protocol.specs.Words.frame
 use Rattle.arj_protocol.specs.Words.which
-use Rattle.arj_protocol.specs.World.{Asked, Frame, Giving, Labelled, World, frame_number, format, giving, is_node, kind_below, lacks_labels}
-use Rattle.arj_protocol.specs.World.{most_frames, node_of, reasons, refused_at, run_event}
+use Rattle.arj_protocol.specs.World.{Asked, Frame, Giving, Labelled, World, frame_number, giving, is_node, kind_below, lacks_labels}
+use Rattle.arj_protocol.specs.World.{most_frames, node_of, reasons, refused_at, run_event, was_given, world_from}
 use Rattle.arj_protocol.specs.Words.kind
-use Rattle.arj_promise.specs.Runs.{Move, world_by}
+use Rattle.arj_model.specs.Start.{Start}
+use Rattle.arj_promise.specs.Runs.{Run, world_by}
 
--- the world has each node of its header at its number's place, and labels are of actions of these
+-- the world has each node of its header at its number's place, and labels are of actions of these, none of them given before the run
 pub record IsWhole (w : World) : Type 0 where
   pub nodes : (n : ℕ) → is_node n w ≡ true → is_some (at_place n w.nodes) ≡ true
   pub numbers : (n : ℕ) (m : Node) → at_place n w.nodes ≡ Some m → m.number ≡ n
   pub labels : AllByRecursion (λ (e : Label × Labelled). is_node e.1.node w ≡ true) w.labels
+  pub new : AllByRecursion (λ (e : Label × Labelled). was_given e.0 w ≡ false) w.labels
 
 -- the frame of this number, where there is one, is for a node of the world
 abbrev pub IsForNode : FrameNo → World → Type 0
@@ -150,10 +152,10 @@ EventsWriteTheirLines = (e : Asked) (w : World) → IsWhole w → w.over ≡ fal
 abbrev pub EventsKeepWhole : Type 0
 EventsKeepWhole = (e : Asked) (w : World) → IsWhole w → IsWhole (run_event e w)
 
--- a world that was formatted is whole
-abbrev pub FormatsAreWhole : Type 0
-FormatsAreWhole = (hd : Header) → IsWhole (format hd)
+-- a world as a run begins is whole
+abbrev pub StartsAreWhole : Type 0
+StartsAreWhole = (hd : Header) (st : Start) → IsWhole (world_from hd st)
 
 -- in every run, whatever stops fall in it
 abbrev pub RunsAreWhole : Type 0
-RunsAreWhole = (hd : Header) (ms : List Move) → IsWhole (world_by hd ms)
+RunsAreWhole = (hd : Header) (r : Run hd) → IsWhole (world_by hd r)

@@ -1,7 +1,7 @@
 -- Each line of a run that a store's abort is done stands behind its cause, and naming aborts nothing of a decided top.
 use Rattle.arj_law_parts.proofs.Words
 use Words.{◌≡◌, ◌∙◌, ◌&&◌, ◌||◌, ◌++◌, ℕ, Bool, true, false, inl, inr, not, List, [], ◌∷◌, refl, sym, ap, subst, list_any, and_parts}
-use Words.{uid_is, uid_eq, End, Uid, Body, Line, Role, In, in_to, Header, World, Move, world_by, ShowsOneOutcome}
+use Words.{uid_is, uid_eq, End, Uid, Body, Line, Role, In, in_to, Header, World, world_by, ShowsOneOutcome}
 use Rattle.arj_law_promise.proofs.Terms
 use Terms.{Act, acts, Holds, keeps_asked, moves_asked, book, is_decided, new_book, AreRight, is_sound, IsKept, lines_keep, may_abort}
 use Terms.{right_front}
@@ -14,6 +14,7 @@ use Rattle.arj_law_promise.specs.settling.Outcomes.{AbortsNoneDecided, NamingAbo
 use Rattle.arj_law_promise.specs.settling.Outcomes.{StoresHaveCauses}
 use Rattle.arj_law_serial.proofs.joint.Behind.{each_from, right_commits}
 use Rattle.arj_model.specs.{Actions.committed, Actions.is_committed, Actions.recovered, Outcome.has_cause_to_abort, Outcome.is_said}
+use Rattle.arj_promise.specs.Runs.{Run}
 
 -- an action of these that the test finds
 found_in : (p : Act → Bool) (xs : List Act) → list_any p xs ≡ true → (a : Act) × In a xs × (p a ≡ true)
@@ -85,14 +86,14 @@ module _ (hd : Header) (w : World) (rights : Holds hd IsRight w) (namings : Hold
 
 -- ---- runs
 
-lines_run : (hd : Header) (ms : List Move) → Holds hd IsKept (world_by hd ms)
-lines_run hd ms = moves_asked hd IsKept (keeps_asked hd IsKept (lines_keep hd)) ms
+lines_run : (hd : Header) (r : Run hd) → Holds hd IsKept (world_by hd r)
+lines_run hd r = moves_asked hd IsKept (keeps_asked hd IsKept (lines_keep hd)) r
 
 pub stores_abort : StoresAbortByCauses
-stores_abort hd ms = stores_have_causes hd (world_by hd ms) (right_run hd ms) (naming_run hd ms) (lines_run hd ms)
+stores_abort hd r = stores_have_causes hd (world_by hd r) (right_run hd r) (naming_run hd r) (lines_run hd r)
 
 pub naming_aborts_none : NamingAbortsNoneDecided
-naming_aborts_none hd ms = aborts_none_decided hd (world_by hd ms) (right_run hd ms) (naming_run hd ms) (lines_run hd ms)
+naming_aborts_none hd r = aborts_none_decided hd (world_by hd r) (right_run hd r) (naming_run hd r) (lines_run hd r)
 
 pub runs_show : RunsShowOneOutcome
-runs_show hd ms = shows hd (world_by hd ms) (right_run hd ms) (naming_run hd ms) (lines_run hd ms)
+runs_show hd r = shows hd (world_by hd r) (right_run hd r) (naming_run hd r) (lines_run hd r)

@@ -4,12 +4,13 @@ use Words.{◌≡◌, ◌≢◌, ◌+◌, ◌==◌, ◌∙◌, ◌++◌, ℕ, Bo
 use Words.{inr, map, eqb-true, ⊤, is_some, AllByRecursion, Ask, Head, Header, Kind, Label, Message, ObjectState, Uid, asks, again_all}
 use Words.{begin_action, heard, Coord, Abort, After, Before, Commit, Disk, Do, Effect, InPart, Look, Pair, Prepare, PutInc, PutIntent}
 use Words.{RemoveIntent, Say, Send, Stop, Work, in_part, stopped, worked, acked, answer_query, tick_outs, recovered_naming, Parts, Took}
-use Words.{handle, holders, query_about, with_coord, Input, Node, acts as acts_of, first_disk, parent_of, parts_in, refusal_up}
-use Words.{restart_outs, tolds_again, put_uid, without_uid, format, is_serial_kind, acked_own, acts_own, again_own, heard_own, query_own}
-use Words.{tolds_again_own, Post, Seen, see}
+use Words.{handle, holders, query_about, with_coord, Input, Node, acts as acts_of, parent_of, parts_in, refusal_up}
+use Words.{restart_outs, tolds_again, put_uid, without_uid, is_serial_kind, acked_own, acts_own, again_own, heard_own, query_own}
+use Words.{tolds_again_own, Post, Seen}
 use Words.role
 use Words.input
 use Rattle.arj_law_promise.proofs.Terms
+use Terms.{IsAtStarts, disk_by, live_first}
 use Terms.{Action, paths_of, IsTree, Paths, IsGoodCoord, begun_tree, path_found, all_both, node_on, well_acked, well_acts, well_again}
 use Terms.{well_heard, IsGoodOf, IsUp, it, other_number, same_number, is_act, In, at, given, posted, said, up, Up, Walks, halted, acked_so}
 use Terms.{acts_so, again_so, heard_so, query_so, tolds_so, first_at, HasNaming, all_each, KeepsOf, AsksForItself, HasPrepared, IsAskedNode}
@@ -287,12 +288,12 @@ starts k inc d = by (k == 1)
     by true = refl
     by false = refl
 
-first_asked : (hd : Header) → PreparedWereAsked [] (see [] (format hd))
-first_asked hd = record {
-  nodes = λ k n is. subst (IsAskedNode [] k) (first_at hd k n is) (record {
+first_asked : (hd : Header) → IsAtStarts hd (PreparedWereAsked [])
+first_asked hd st formed = record {
+  nodes = λ k n is. subst (IsAskedNode [] k) (first_at hd st k n is) (record {
     store = record { sorted = tt; each = tt };
     names = record { sorted = tt; each = tt };
-    live = λ t its. subst (HasNaming k) (some_is its) (starts k 1 (first_disk hd k));
+    live = λ t its. subst (HasNaming k) (live_first hd st k t its) (starts k (st.incs k + 1) (disk_by hd st k));
   });
   sent = λ p none. absurd none;
 }

@@ -1,12 +1,15 @@
 -- What holds of naming's confirmations is kept by each handler, and so in every run.
 use Rattle.arj_law_parts.proofs.Words
+use Words.{◌+◌}
+use Words.{node_by, world_from}
 use Words.{◌≡◌, ◌∙◌, ◌++◌, ℕ, false, cond, List, [], ◌∷◌, Option, Some, None, refl, sym, ap, subst, inl, inr, arith, ⊤, AllByRecursion}
 use Words.{list_all, and_parts, Body, Header, Kind, Label, Line, Message, Uid, begin_action, heard, Disk, Effect, answer_query, Naming}
-use Words.{Parts, ack_told, naming_told, store_told, with_coord, first_disk, parent_of, parts_in, next_uid, format, is_serial_kind}
-use Words.{numbered, Move, world_by, Seen, see}
+use Words.{Parts, ack_told, naming_told, store_told, with_coord, parent_of, parts_in, next_uid, is_serial_kind}
+use Words.{numbered, world_by, Seen, see}
 use Words.body
 use Words.world
 use Rattle.arj_law_promise.proofs.Terms
+use Terms.{IsAtStarts, disk_by, live_first}
 use Terms.{Action, Holds, Keeps, AreQuiet, In, given, is_quiet_line, said, up, Up, Walks, keeps_asked, moves_asked, keeps_given, kept_both}
 use Terms.{AreRecorded, first_at, IsPathedOf, KeepsOf, KnowsParted, WorksAreKnown, kept_of, AcksAreKnown, acked_in, of_both, of_more}
 use Terms.{records_of, ArePastIn, some_is}
@@ -23,6 +26,7 @@ use settling.Confirms.{IsConfirming, IsNamer, IsNamesNode, further, same_memory,
 use Rattle.arj_law_runs.proofs.journal
 use journal.Paths.{act_pathed, begin_pathed, first_pathed, message_pathed, quiet_pathed, restart_pathed, stop_pathed, tick_pathed}
 use Rattle.arj_law_serial.proofs.{past.Past.past_of, whole.AckRuns.acks_of, whole.AckWalks.AcksNeed, whole.Of.of_kept}
+use Rattle.arj_promise.specs.Runs.{Run}
 
 nothing_more : {A : Type 0} (xs : List A) → xs ++ [] ≡ xs
 nothing_more [] = refl
@@ -188,30 +192,32 @@ message_naming k d t v from m outs M right there e (Acks u is part are) known =
 
 -- ---- at first
 
-first_confirms : (hd : Header) → IsConfirming (see [] (format hd))
-first_confirms hd = record {
+first_confirms : (hd : Header) → IsAtStarts hd IsConfirming
+first_confirms hd st formed = record {
   recorded = λ u asked done. absurd (let c = asked.0 in c.posted);
   said = λ u asked done. absurd (let c = asked.0 in c.posted);
   lines = λ before line behind n u is says decided. no_lines before line behind is;
-  node = λ a is. subst (IsNamesNode (see [] (format hd))) (first_at hd 1 a is) first_node_so;
+  node = λ a is. subst (IsNamesNode (see [] (world_from hd st))) (first_at hd st 1 a is) first_node_so;
 }
   where
     no_lines : (before : List Line) (line : Line) (behind : List Line) → [] ≡ before ++ line ∷ behind → ⊥
     no_lines [] line behind is = cc is
     no_lines (x ∷ before) line behind is = cc is
 
-    first_node_so : IsNamesNode (see [] (format hd)) (the_node 1 (first_disk hd 1) (Some (parts_in 1 1 (first_disk hd 1))))
+    start_parts : Parts
+    start_parts = parts_in 1 (st.incs 1 + 1) (disk_by hd st 1)
+
+    first_node_so : IsNamesNode (see [] (world_from hd st)) (node_by hd st 1)
     first_node_so = record {
       held = λ u on. absurd (cc on);
       yeses = λ u y. absurd y.1;
       acked = λ u has done asked. absurd (let z = has in z.posted);
-      live = λ t n up_it named. let one : parts_in 1 1 (first_disk hd 1) ≡ t = some_is up_it in
-          subst (λ z. IsNamer (see [] (format hd)) z n) one (fresh n (ap (λ (z : Parts). z.naming) one ∙ named));
+      live = λ t n up_it named. let one : start_parts ≡ t = live_first hd st 1 t up_it in
+          subst (λ z. IsNamer (see [] (world_from hd st)) z n) one (fresh n (ap (λ (z : Parts). z.naming) one ∙ named));
     }
       where
-        fresh : (n : Naming) → (let t = parts_in 1 1 (first_disk hd 1) in t.naming) ≡ Some n →
-            IsNamer (see [] (format hd)) (parts_in 1 1 (first_disk hd 1)) n
-        fresh n named = subst (IsNamer (see [] (format hd)) (parts_in 1 1 (first_disk hd 1))) (some_is named) (record {
+        fresh : (n : Naming) → (let t = start_parts in t.naming) ≡ Some n → IsNamer (see [] (world_from hd st)) start_parts n
+        fresh n named = subst (IsNamer (see [] (world_from hd st)) start_parts) (some_is named) (record {
           inc = refl;
           confirmed = λ u on. absurd (cc on);
           acked = λ u has done asked. absurd (let z = has in z.posted);
@@ -232,11 +238,11 @@ naming_keep hd = record {
   );
   tick = λ e k d t M right. tick_naming k d t M right e (its.tick e k d t M right.0);
   restart = λ e k d M right. restart_naming hd k d M right e (its.restart e k d M right.0);
-  first = (its.first, first_confirms hd);
+  first = λ st formed. (its.first st formed, first_confirms hd st formed);
 }
   where
     its : Keeps hd AllKnown
     its = all_keep hd
 
-pub naming_run : (hd : Header) (ms : List Move) → Holds hd IsNaming (world_by hd ms)
-naming_run hd ms = moves_asked hd IsNaming (keeps_asked hd IsNaming (naming_keep hd)) ms
+pub naming_run : (hd : Header) (r : Run hd) → Holds hd IsNaming (world_by hd r)
+naming_run hd r = moves_asked hd IsNaming (keeps_asked hd IsNaming (naming_keep hd)) r

@@ -129,41 +129,41 @@ line_tells m w is over last front n line = record {
 -- ---- in every run
 
 pub quiesces_idle : QuiescesIdle
-quiesces_idle hd form ms m none nobody is last ups = ends_quiet hd m (world_by hd ms)
-    (move_asked hd (AreAddressed hd) (kept hd form) m (world_by hd ms) (moves_asked hd (AreAddressed hd) (kept hd form) ms)) is over last
+quiesces_idle hd form r m none nobody is last ups = ends_quiet hd m (world_by hd r)
+    (move_asked hd (AreAddressed hd) (kept hd form) m (world_by hd r) (moves_asked hd (AreAddressed hd) (kept hd form) r)) is over last
     (move_settles hd (KnowsPrepared hd) s.0 (settles_less hd (KnowsPrepared hd) (λ M. KnowsPrepared hd M × IsGood M) (λ M q. q.0) s.1)
-    m (world_by hd ms) (moves_asked hd (λ M. KnowsPrepared hd M × IsGood M) (keeps_good hd (KnowsPrepared hd) s.0) ms) (runs_few hd ms)
+    m (world_by hd r) (moves_asked hd (λ M. KnowsPrepared hd M × IsGood M) (keeps_good hd (KnowsPrepared hd) s.0) r) (runs_few hd r)
     none nobody is over last ups)
   where
-    over : (world_by hd ms).over ≡ false
-    over = over_before m (world_by hd ms) last
+    over : (world_by hd r).over ≡ false
+    over = over_before m (world_by hd r) last
 
     s : KeepsAsked hd (KnowsPrepared hd) × SettlesAll hd (KnowsPrepared hd)
     s = handlers_settle hd form
 
 pub rounds_idle : RoundsIdle
-rounds_idle hd form ms gs m n is all last ups nobody over_n ups_n =
-    ends_quiet hd n (all_moved gs (moved m (world_by hd ms))) addressed last over_w over_n
+rounds_idle hd form r gs m n is all last ups nobody over_n ups_n =
+    ends_quiet hd n (all_moved gs (moved m (world_by hd r))) addressed last over_w over_n
     (round_settles hd (λ M. KnowsPrepared hd M × AllKnown hd M) (asked_both hd (KnowsPrepared hd) (AllKnown hd) s.0 (all_kept hd form))
     (all_answer hd form (λ M. (KnowsPrepared hd M × AllKnown hd M) × IsGood M) (λ M q. q.0.1))
-    (settles_less hd (KnowsPrepared hd) (λ M. (KnowsPrepared hd M × AllKnown hd M) × IsGood M) (λ M q. q.0.0) s.1) ms gs m n is all last
+    (settles_less hd (KnowsPrepared hd) (λ M. (KnowsPrepared hd M × AllKnown hd M) × IsGood M) (λ M q. q.0.0) s.1) r gs m n is all last
     over went ups over_w nobody over_n ups_n)
   where
-    over_w : (all_moved gs (moved m (world_by hd ms))).over ≡ false
-    over_w = over_before n (all_moved gs (moved m (world_by hd ms))) over_n
+    over_w : (all_moved gs (moved m (world_by hd r))).over ≡ false
+    over_w = over_before n (all_moved gs (moved m (world_by hd r))) over_n
 
-    went : (moved m (world_by hd ms)).over ≡ false
-    went = over_front gs (moved m (world_by hd ms)) over_w
+    went : (moved m (world_by hd r)).over ≡ false
+    went = over_front gs (moved m (world_by hd r)) over_w
 
-    over : (world_by hd ms).over ≡ false
-    over = over_before m (world_by hd ms) went
+    over : (world_by hd r).over ≡ false
+    over = over_before m (world_by hd r) went
 
     keeps : KeepsAsked hd (AreAddressed hd)
     keeps = kept hd form
 
-    addressed : Holds hd (AreAddressed hd) (moved n (all_moved gs (moved m (world_by hd ms))))
-    addressed = move_asked hd (AreAddressed hd) keeps n (all_moved gs (moved m (world_by hd ms))) (moves_go_on hd (AreAddressed hd) keeps gs
-        (moved m (world_by hd ms)) (move_asked hd (AreAddressed hd) keeps m (world_by hd ms) (moves_asked hd (AreAddressed hd) keeps ms)))
+    addressed : Holds hd (AreAddressed hd) (moved n (all_moved gs (moved m (world_by hd r))))
+    addressed = move_asked hd (AreAddressed hd) keeps n (all_moved gs (moved m (world_by hd r))) (moves_go_on hd (AreAddressed hd) keeps gs
+        (moved m (world_by hd r)) (move_asked hd (AreAddressed hd) keeps m (world_by hd r) (moves_asked hd (AreAddressed hd) keeps r)))
 
     s : KeepsAsked hd (KnowsPrepared hd) × SettlesAll hd (KnowsPrepared hd)
     s = handlers_settle hd form

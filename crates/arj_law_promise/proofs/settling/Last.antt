@@ -50,7 +50,7 @@ free_disk : (read : Reading) (r : Role) (u : Uid) → HasNothingLeft read → In
 free_disk read r u nothing doubt = subst (λ o. names o u) (nothing.prepared r doubt.0) doubt.1
 
 pub idle_disks_hold : IdleDisksHoldTheLast
-idle_disks_hold hd lines sent w disks form stands quiet are clean = record {
+idle_disks_hold hd marks lines sent w disks form stands quiet are clean = record {
   entries = λ x there. clean.entries x there (entry_free x);
   stores = λ x s listed of. clean.stores x s listed (entry_free x) (λ doubt. free_disk (disks s) Store (object x) (nothing s of) doubt);
   nothing = nothing;

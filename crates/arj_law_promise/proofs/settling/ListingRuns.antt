@@ -1,5 +1,6 @@
 -- Each store that a list names has the object, or a decided top includes it: in every run.
 use Rattle.arj_law_parts.proofs.Words
+use Words.{world_from}
 use Words.{◌≡◌, ◌≢◌, ◌⊎◌, ◌∙◌, ◌++◌, ◌==◌, ◌||◌, ◌+◌, ℕ, Bool, true, false, cond, filter, length, map, List, [], ◌∷◌, Option, Some, None}
 use Words.{refl, sym, ap, subst, inl, inr, ⊎_elim, ⊤, is_some, AllByRecursion, or_cases, is_on, object, In as Among, acked_own, acts_own}
 use Words.{again_own, heard_own, query_own, entry_back, Ask, Asked, Binding, Body, BoundReply, End, Entry, Head, Header, Kind, Label}
@@ -7,8 +8,8 @@ use Words.{Message, ObjectState, Uid, asks, entry, Reply, answers, last_end, top
 use Words.{AtActivate, AtBind, AtInvoke, AtLoad, AtNote, Steps, Grants, Marks, Calling, Coord, Doing, doing_of, Abort, After, Before}
 use Words.{Commit, Disk, Do, Effect, InPart, Look, Prepare, PutInc, PutIntent, RemoveIntent, Say, Send, Stop, Work, held_at, new_states}
 use Words.{stopped, acked, answer_query, tick_outs, Naming, Handled, Parts, Took, Void, handle, holders, query_about, with_coord, at_uid}
-use Words.{has, put_uid, Server, Input, Node, acts, first_disk, first_entry, first_state, parent_of, parts_in, put_states, refusal_up}
-use Words.{restart_outs, tolds_again, Labelled, format, is_serial_kind, numbered, ObjectLine, Post, Seen, see}
+use Words.{has, put_uid, Server, Input, Node, acts, parent_of, parts_in, put_states, refusal_up}
+use Words.{restart_outs, tolds_again, Labelled, is_serial_kind, numbered, ObjectLine, Post, Seen, see}
 use Words.ask
 use Words.body
 use Words.ending
@@ -16,6 +17,7 @@ use Words.role
 use Words.naming
 use Words.input
 use Rattle.arj_law_promise.proofs.Terms
+use Terms.{IsAtStarts, Mark, entry_by, first_up, older_at, state_by, states_from}
 use Terms.{HeaderInForm, paths_of, IsGoodCoord, IsTree, told_by, begun_tree, put_same, IsGoodOf, IsUp, good_coord, it, same_number, Keeps}
 use Terms.{is_act, In, at, down, given, said, up, Up, Walks, halted, walks_to, BindsAreKnown, answers_fit, some_is, IsOfStep, acked_so}
 use Terms.{heard_so, query_so, KeepsGiven, keeps_given, kept_both, first_at, node_here, book, is_decided, new_book, IsSaid, Later}
@@ -495,29 +497,38 @@ puts_keep : (y : Uid) (ss : List ObjectState) (held : List (Uid × ObjectState))
 puts_keep y [] held on = on
 puts_keep y (s ∷ ss) held on = puts_keep y ss (put_uid s.uid s held) (put_keeps y s s.uid held on)
 
--- each store of an object's line has its first state
-line_held : (o : ObjectLine) (n : ℕ) (os : List ObjectLine) (held : List (Uid × ObjectState)) → has o.stores n ≡ true → Among o os →
-    is_some (at_uid (object o.x) (put_states (map first_state (filter (λ (z : ObjectLine). has z.stores n) os)) held)) ≡ true
-line_held o n [] held on i = absurd i
-line_held o n (z ∷ zs) held on (inl same) = by (has z.stores n) (ap (λ (l : ObjectLine). has l.stores n) same ∙ on)
-  where
-    by : (b : Bool) → b ≡ true → is_some (at_uid (object o.x) (put_states (map first_state
-        (cond b (z ∷ filter (λ (l : ObjectLine). has l.stores n) zs) (filter (λ (l : ObjectLine). has l.stores n) zs))) held)) ≡ true
-    by true is = puts_keep (object o.x) (map first_state (filter (λ (l : ObjectLine). has l.stores n) zs))
-        (put_uid (object z.x) (first_state z) held)
-        (ap (λ (l : ObjectLine). is_some (at_uid (object l.x) (put_uid (object z.x) (first_state z) held))) (sym same)
-        ∙ ap (λ (q : Option ObjectState). is_some q) (put_same (object z.x) (first_state z) held))
-    by false is = absurd (cc is)
-line_held o n (z ∷ zs) held on (inr i) =
-    by (has z.stores n) (line_held o n zs held on i) (line_held o n zs (put_uid (object z.x) (first_state z) held) on i)
-  where
-    by : (b : Bool) → is_some (at_uid (object o.x) (put_states (map first_state (filter (λ (l : ObjectLine). has l.stores n) zs)) held))
-        ≡ true → is_some (at_uid (object o.x)
-        (put_states (map first_state (filter (λ (l : ObjectLine). has l.stores n) zs)) (put_uid (object z.x) (first_state z) held))) ≡ true
-        → is_some (at_uid (object o.x) (put_states (map first_state
-        (cond b (z ∷ filter (λ (l : ObjectLine). has l.stores n) zs) (filter (λ (l : ObjectLine). has l.stores n) zs))) held)) ≡ true
-    by true old new = new
-    by false old new = old
+-- states that are put one behind another
+puts_both : (ss rs : List ObjectState) (held : List (Uid × ObjectState)) → put_states (ss ++ rs) held ≡ put_states rs (put_states ss held)
+puts_both [] rs held = refl
+puts_both (s ∷ ss) rs held = puts_both ss rs (put_uid s.uid s held)
+
+-- each store of an object's line has the state that it begins with
+module _ (states : ℕ → Mark) where
+  abbrev state_of : ObjectLine → ObjectState
+  state_of o = state_by (states o.x) o
+
+  line_held : (o : ObjectLine) (n : ℕ) (os : List ObjectLine) (held : List (Uid × ObjectState)) → has o.stores n ≡ true → Among o os →
+      is_some (at_uid (object o.x) (put_states (map state_of (filter (λ (z : ObjectLine). has z.stores n) os)) held)) ≡ true
+  line_held o n [] held on i = absurd i
+  line_held o n (z ∷ zs) held on (inl same) = by (has z.stores n) (ap (λ (l : ObjectLine). has l.stores n) same ∙ on)
+    where
+      by : (b : Bool) → b ≡ true → is_some (at_uid (object o.x) (put_states (map state_of
+          (cond b (z ∷ filter (λ (l : ObjectLine). has l.stores n) zs) (filter (λ (l : ObjectLine). has l.stores n) zs))) held)) ≡ true
+      by true is = puts_keep (object o.x) (map state_of (filter (λ (l : ObjectLine). has l.stores n) zs))
+          (put_uid (object z.x) (state_of z) held)
+          (ap (λ (l : ObjectLine). is_some (at_uid (object l.x) (put_uid (object z.x) (state_of z) held))) (sym same)
+          ∙ ap (λ (q : Option ObjectState). is_some q) (put_same (object z.x) (state_of z) held))
+      by false is = absurd (cc is)
+  line_held o n (z ∷ zs) held on (inr i) =
+      by (has z.stores n) (line_held o n zs held on i) (line_held o n zs (put_uid (object z.x) (state_of z) held) on i)
+    where
+      by : (b : Bool) → is_some (at_uid (object o.x) (put_states (map state_of (filter (λ (l : ObjectLine). has l.stores n) zs)) held))
+          ≡ true → is_some (at_uid (object o.x)
+          (put_states (map state_of (filter (λ (l : ObjectLine). has l.stores n) zs)) (put_uid (object z.x) (state_of z) held))) ≡ true
+          → is_some (at_uid (object o.x) (put_states (map state_of
+          (cond b (z ∷ filter (λ (l : ObjectLine). has l.stores n) zs) (filter (λ (l : ObjectLine). has l.stores n) zs))) held)) ≡ true
+      by true old new = new
+      by false old new = old
 
 -- of each number of a list
 of_has : (Q : ℕ → Type 0) (ns : List ℕ) → ((n : ℕ) → has ns n ≡ true → Q n) → AllByRecursion Q ns
@@ -528,39 +539,50 @@ of_has Q (n ∷ ns) each = (each n (ap (λ b. b || has ns n) (same_number n)), o
     second true b is = refl
     second false b is = is
 
-first_lists : (hd : Header) → AreListed (see [] (format hd))
-first_lists hd = record {
-  names = λ j n is. subst (λ (z : Node). NamesHave P0 I0 (let d = z.disk in d.names)) (first_at hd j n is)
+first_lists : (hd : Header) → IsAtStarts hd AreListed
+first_lists hd st formed = record {
+  names = λ j n is. subst (λ (z : Node). NamesHave P0 I0 (let d = z.disk in d.names)) (first_at hd st j n is)
       (record { held = by_node (j == 1); pend = tt });
   replies = λ p a r i is. absurd i;
-  steps = λ j n t is live. subst (λ (z : Parts). StepsHave P0 z.coord) (some_is (ap (λ (z : Node). z.live) (first_at hd j n is) ∙ live))
-      (new_has P0 j 1 (let d = first_disk hd j in d.intents));
+  steps = λ j n t is live. subst (λ (z : Parts). StepsHave P0 z.coord) (first_up hd st j n t is live) (new_has P0 j (st.incs j + 1) []);
 }
   where
+    M0 : Seen
+    M0 = see [] (world_from hd st)
+
     P0 : Of
-    P0 = HasIt (see [] (format hd))
+    P0 = HasIt M0
 
     I0 : Uid → ℕ → ℕ → Type 0
-    I0 = IsIncluded (see [] (format hd))
+    I0 = IsIncluded M0
+
+    entry_of : ObjectLine → ObjectState
+    entry_of o = entry_by (st.marks.entries o.x) o
 
     Its : List (Uid × ObjectState) → Type 0
-    Its held = AllByRecursion (λ (e : Uid × ObjectState). EntryHas (HasIt (see [] (format hd)) (let u = e.0 in u.num)) e.1) held
+    Its held = AllByRecursion (λ (e : Uid × ObjectState). EntryHas (HasIt M0 (let u = e.0 in u.num)) e.1) held
 
-    has_line : (o : ObjectLine) → Among o hd.objects → (n : ℕ) → has o.stores n ≡ true → HasIt (see [] (format hd)) o.x n
+    there : (o : ObjectLine) → Among o hd.objects → (n : ℕ) → has o.stores n ≡ true →
+        is_some (at_uid (object o.x) (put_states (states_from n hd st) [])) ≡ true
+    there o i n on = ap (λ held. is_some (at_uid (object o.x) held)) (puts_both (older_at n st.older)
+        (map (state_of st.marks.states) (filter (λ (z : ObjectLine). has z.stores n) hd.objects)) [])
+        ∙ line_held st.marks.states o n hd.objects (put_states (older_at n st.older) []) on i
+
+    has_line : (o : ObjectLine) → Among o hd.objects → (n : ℕ) → has o.stores n ≡ true → HasIt M0 o.x n
     has_line o i n on = inl (λ a is. subst (λ (z : Node). is_some (held_at (object o.x) (let d = z.disk in d.store)) ≡ true)
-        (first_at hd n a is) (line_held o n hd.objects [] on i))
+        (first_at hd st n a is) (there o i n on))
 
-    one : (o : ObjectLine) → Among o hd.objects → EntryHas (HasIt (see [] (format hd)) o.x) (first_entry o)
-    one o i = subst (λ (e : Entry). AllByRecursion (HasIt (see [] (format hd)) o.x) e.stores) (sym
-        (entry_back (record { servers = o.servers; stores = o.stores }))) (of_has (HasIt (see [] (format hd)) o.x) o.stores (has_line o i))
+    one : (o : ObjectLine) → Among o hd.objects → EntryHas (HasIt M0 o.x) (entry_of o)
+    one o i = subst (λ (e : Entry). AllByRecursion (HasIt M0 o.x) e.stores) (sym
+        (entry_back (record { servers = o.servers; stores = o.stores }))) (of_has (HasIt M0 o.x) o.stores (has_line o i))
 
     lines : (os : List ObjectLine) (held : List (Uid × ObjectState)) → ((o : ObjectLine) → Among o os → Among o hd.objects) → Its held →
-        Its (put_states (map first_entry os) held)
+        Its (put_states (map entry_of os) held)
     lines [] held within so = so
-    lines (o ∷ os) held within so = lines os (put_uid (entry o.x) (first_entry o) held) (λ z i. within z (inr i)) (put_at (λ u
-        (z : ObjectState). EntryHas (HasIt (see [] (format hd)) u.num) z) (entry o.x) (first_entry o) held (one o (within o (inl refl))) so)
+    lines (o ∷ os) held within so = lines os (put_uid (entry o.x) (entry_of o) held) (λ z i. within z (inr i)) (put_at (λ u
+        (z : ObjectState). EntryHas (HasIt M0 u.num) z) (entry o.x) (entry_of o) held (one o (within o (inl refl))) so)
 
-    by_node : (b : Bool) → Its (put_states (cond b (map first_entry hd.objects) []) [])
+    by_node : (b : Bool) → Its (put_states (cond b (map entry_of hd.objects) []) [])
     by_node true = lines hd.objects [] (λ o i. i) tt
     by_node false = tt
 

@@ -1,16 +1,18 @@
 -- What holds of outcomes is kept by each handler, and so in every run.
 use Rattle.arj_law_parts.proofs.Words
+use Words.{node_by, world_from}
 use Words.{◌≡◌, ◌∙◌, ◌++◌, ◌+◌, ℕ, zero, suc, Bool, true, false, cond, List, [], ◌∷◌, Option, Some, None, refl, sym, ap, subst, inl, inr}
 use Words.{⊎_elim, Contains, AllByRecursion, list_all, and_parts, in_from, in_to, Body, End, Header, Kind, Label, Line, Message, Uid}
 use Words.{begin_action, heard, Machine, back_lines, Committing, Coord, Doing, doing_of, Disk, Do, Effect, Intent, Look, PutInc, Served}
-use Words.{is_prepared, tell_all, Named, Naming, Parts, with_coord, at_uid, Node, first_disk, naming_at, naming_back, parent_of, parts_in}
-use Words.{recovered_records, restart_outs, tolds_again, at_place, is_own, next_uid, format, is_serial_kind, numbered, Move, world_by, Post}
+use Words.{is_prepared, tell_all, Named, Naming, Parts, with_coord, at_uid, Node, naming_at, naming_back, parent_of, parts_in}
+use Words.{recovered_records, restart_outs, tolds_again, at_place, is_own, next_uid, is_serial_kind, numbered, world_by, Post}
 use Words.{Seen, see}
 use Words.ask
 use Words.body
 use Words.ending
 use Words.world
 use Rattle.arj_law_promise.proofs.Terms
+use Terms.{IsAtStarts, disk_by, first_up}
 use Terms.{AreSorted, all_both, all_flat, all_map, at_in, in_at, IsGood, BindsAreKnown, Holds, Keeps, AreQuiet, In, down, given}
 use Terms.{is_quiet_line, said, up, Up, Walks, keeps_asked, moves_asked, keeps_given, kept_both, AreRecorded, IsRecorded, is_awaited_by}
 use Terms.{first_at, book, is_decided, new_book, IsKept, KnowsNode, Later, book_more, later_from, lines_keep, kept_of, at_begins}
@@ -25,6 +27,7 @@ use settling.Lights.{HasThese, IsIdleSend, IsNoEnd, all_undeciding, aside_these,
 use settling.Milds.{here_is, held_stays, lists_back, lists_on, mild_core, recorded_back, the_node}
 use settling.Parts.{again_walk, asks_walk, beside_walk, ends_walks, prepares_walk}
 use settling.Trails.{FitsSo, LineMild, Went, mild_clean, mild_decides, quiet_mild}
+use Rattle.arj_promise.specs.Runs.{Run}
 
 -- ---- what is known
 
@@ -134,10 +137,10 @@ module _ (k : ℕ) (d : Disk) (t : Parts) (M : Seen) (core : IsCore (up k d t M)
 -- ---- a restart
 
 module _ (hd : Header) (k : ℕ) (d : Disk) (M : Seen) (right : IsRight (down k d M)) (e : ℕ) where
-  abbrev Start : Seen
-  Start = down k d M
+  abbrev Stopped : Seen
+  Stopped = down k d M
 
-  here : Start.nodes k ≡ Some (the_node k d None)
+  here : Stopped.nodes k ≡ Some (the_node k d None)
   here = here_is k d None M
 
   -- it has a record
@@ -229,7 +232,7 @@ module _ (hd : Header) (k : ℕ) (d : Disk) (M : Seen) (right : IsRight (down k 
     clean = λ before line behind n u is says decided.
         absurd (mild_clean Found (let B = book M.lines in B.acts) w.more before line behind n u w.said_so is says);
     recorded = λ u r. inl (recorded_back k d None M Says Sends (Either (HasThese d) new) Z w w.fits.0.1 u r);
-    done = λ u n found asked. inl (inr (the_node k d None, found.0, ap Start.nodes (its_home u found) ∙ here, found.1));
+    done = λ u n found asked. inl (inr (the_node k d None, found.0, ap Stopped.nodes (its_home u found) ∙ here, found.1));
     lists = λ u n x asked. inl (lists_on k d None M Says Sends (Either (HasThese d) new) Z w w.fits.0.1 u n x);
     back = λ u n tells asked x. lists_back k d None M Says Sends (Either (HasThese d) new) Z w w.fits.0.1 u n x;
     keeps = λ u on. inl (ap (is_prepared u) w.fits.0.0 ∙ on);
@@ -285,8 +288,8 @@ message_walk hd e k d t v from m outs M right there (Acks u is part are) known =
 
 -- ---- at first
 
-first_core : (hd : Header) → IsCore (see [] (format hd))
-first_core hd = record {
+first_core : (hd : Header) → IsAtStarts hd IsCore
+first_core hd st formed = record {
   done = λ u n done asked. absurd asked.1;
   acked = λ u n acked done asked. absurd asked.1;
   told = λ u n tells asked lists. asked.1;
@@ -302,24 +305,23 @@ first_core hd = record {
     no_lines [] line behind is = cc is
     no_lines (x ∷ before) line behind is = cc is
 
-    no_held : (u : Uid) (n : ℕ) (a : Node) → (let W = see [] (format hd) in W.nodes n) ≡ Some a →
+    no_held : (u : Uid) (n : ℕ) (a : Node) → (let W = see [] (world_from hd st) in W.nodes n) ≡ Some a →
         is_prepared u (let d = a.disk in d.store) ≡ true → ⊥
     no_held u n a is on =
-        let no_way : false ≡ true = ap (λ (z : Node). let d = z.disk in is_prepared u d.store) (first_at hd n a is) ∙ on in cc no_way
+        let no_way : false ≡ true = ap (λ (z : Node). let d = z.disk in is_prepared u d.store) (first_at hd st n a is) ∙ on in cc no_way
 
-    watches : (k : ℕ) (a : Node) (t : Parts) → (let W = see [] (format hd) in W.nodes k) ≡ Some a → a.live ≡ Some t →
-        IsWatched (see [] (format hd)) k a t
-    watches k a t is up_it = subst (λ (z : Node). IsWatched (see [] (format hd)) k z t) (first_at hd k a is) (subst
-        (IsWatched (see [] (format hd)) k (record { number = k; disk = first_disk hd k; live = Some (parts_in k 1 (first_disk hd k)) }))
-        (some_is (ap (λ (z : Node). z.live) (first_at hd k a is) ∙ up_it)) (record {
+    watches : (k : ℕ) (a : Node) (t : Parts) → (let W = see [] (world_from hd st) in W.nodes k) ≡ Some a → a.live ≡ Some t →
+        IsWatched (see [] (world_from hd st)) k a t
+    watches k a t is up_it = subst (λ (z : Node). IsWatched (see [] (world_from hd st)) k z t) (first_at hd st k a is) (subst
+        (IsWatched (see [] (world_from hd st)) k (node_by hd st k)) (first_up hd st k a t is up_it) (record {
           marked = λ x r m at_it z. absurd (none x r at_it);
           held = λ x n own at_it said_it. absurd (none x at_it.0 at_it.2);
           votes = λ x r m at_it z. absurd (none x r at_it);
           telling = λ x j n at_it on. absurd (let no_way : ◌≡◌ {A = Option Intent} None (Some j) = at_it in cc no_way);
         }))
       where
-        none : (x : Uid) (r : Doing) → doing_of x (let z = parts_in k 1 (first_disk hd k) in z.coord) ≡ Some r → ⊥
-        none x r z = by (is_own x (let y = parts_in k 1 (first_disk hd k) in let c = y.coord in c.tree)) x.num z
+        none : (x : Uid) (r : Doing) → doing_of x (let z = parts_in k (st.incs k + 1) (disk_by hd st k) in z.coord) ≡ Some r → ⊥
+        none x r z = by (is_own x (let y = parts_in k (st.incs k + 1) (disk_by hd st k) in let c = y.coord in c.tree)) x.num z
           where
             by : (b : Bool) (j : ℕ) → cond b (at_place j []) None ≡ Some r → ⊥
             by false j q = let no_way : ◌≡◌ {A = Option Doing} None (Some r) = q in cc no_way
@@ -341,11 +343,11 @@ right_keep hd = record {
   );
   tick = λ e k d t M right. tick_walk k d t M right e (its.tick e k d t M right.0);
   restart = λ e k d M right. restart_walk hd k d M right e (its.restart e k d M right.0);
-  first = (its.first, first_core hd);
+  first = λ st formed. (its.first st formed, first_core hd st formed);
 }
   where
     its : Keeps hd Known
     its = known_keep hd
 
-pub right_run : (hd : Header) (ms : List Move) → Holds hd IsRight (world_by hd ms)
-right_run hd ms = moves_asked hd IsRight (keeps_asked hd IsRight (right_keep hd)) ms
+pub right_run : (hd : Header) (r : Run hd) → Holds hd IsRight (world_by hd r)
+right_run hd r = moves_asked hd IsRight (keeps_asked hd IsRight (right_keep hd)) r

@@ -1,12 +1,14 @@
 -- Of a decided top each included store has the object, in every run.
 use Rattle.arj_law_parts.proofs.Words
+use Words.{world_from}
 use Words.{◌≡◌, ◌∙◌, ◌==◌, ◌+◌, ℕ, Bool, true, false, cond, List, [], ◌∷◌, Option, Some, None, refl, sym, ap, subst, inl, inr, ⊎_elim}
 use Words.{AllByRecursion, object, Body, Header, Kind, Label, Message, ObjectState, Uid, begin_action, heard, Confirming, Plan, Committing}
-use Words.{Doing, doing_of, Disk, Effect, Parts, with_coord, at_uid, has, Node, parent_of, parts_in, restart_outs, Labelled, format}
+use Words.{Doing, doing_of, Disk, Effect, Parts, with_coord, at_uid, has, Node, parent_of, parts_in, restart_outs, Labelled}
 use Words.{is_serial_kind, numbered, Post, Seen, see, and_parts, list_all}
 use Words.body
 use Words.ask
 use Rattle.arj_law_promise.proofs.Terms
+use Terms.{IsAtStarts}
 use Terms.{HeaderInForm, Keeps, AreQuiet, In, down, given, is_quiet_line, said, up, Up, Walks, all_at_uid, some_is, KeepsGiven, keeps_given}
 use Terms.{kept_both, Own, all_each, first_at, AreSo as FormsAreSo, kind_of, stored, kept_forms, book, is_decided}
 use Rattle.arj_law_promise.proofs.settling
@@ -134,17 +136,17 @@ begun_stock e k d t v M l g how u parent stock =
 
 -- ---- at first
 
-first_stock : (hd : Header) → IsStocked (see [] (format hd))
-first_stock hd = record {
+first_stock : (hd : Header) → IsAtStarts hd IsStocked
+first_stock hd st formed = record {
   pend = λ n a u ss is at_it. absurd (none n a u ss is at_it);
   done = λ u x n included done. absurd included.1;
   acked = λ u x n included done acked. absurd included.1;
 }
   where
-    none : (n : ℕ) (a : Node) (u : Uid) (ss : List ObjectState) → (let W = see [] (format hd) in W.nodes n) ≡ Some a →
+    none : (n : ℕ) (a : Node) (u : Uid) (ss : List ObjectState) → (let W = see [] (world_from hd st) in W.nodes n) ≡ Some a →
         at_uid u (let d = a.disk in let s = d.store in s.pend) ≡ Some ss → ⊥
     none n a u ss is at_it = let no_way : ◌≡◌ {A = Option (List ObjectState)} None (Some ss) = ap
-        (λ (z : Node). at_uid u (let d = z.disk in let s = d.store in s.pend)) (first_at hd n a is) ∙ at_it in cc no_way
+        (λ (z : Node). at_uid u (let d = z.disk in let s = d.store in s.pend)) (first_at hd st n a is) ∙ at_it in cc no_way
 
 -- ---- all handlers
 

@@ -33,8 +33,8 @@ pub all_answer : (hd : Header) → HeaderInForm hd → (P : Seen → Type 0) →
 all_answer hd form P to = known_give_by hd form P (λ M p. (to M p).0) (loads_given hd P (λ M p. (to M p).1))
 
 pub runs_leave_overtaken : RunsLeaveOvertaken
-runs_leave_overtaken hd form ms v is last ups k c u q node found does waits =
-    ⊎_elim (λ s. s) (λ m. absurd (none_left (see after.sent (moved v (world_by hd ms))) (let p = after.holds in
+runs_leave_overtaken hd form r v is last ups k c u q node found does waits =
+    ⊎_elim (λ s. s) (λ m. absurd (none_left (see after.sent (moved v (world_by hd r))) (let p = after.holds in
     p.1) k c u q m.0 found does m.1 m.2)) (answer k c u q node found does waits)
   where
     kept : KeepsAsked hd (AllKnown hd)
@@ -43,25 +43,25 @@ runs_leave_overtaken hd form ms v is last ups k c u q node found does waits =
     P : Seen → Type 0
     P M = AllKnown hd M × IsGood M
 
-    after : Holds hd P (moved v (world_by hd ms))
-    after = move_asked hd P (keeps_good hd (AllKnown hd) kept) v (world_by hd ms) (moves_asked hd P (keeps_good hd (AllKnown hd) kept) ms)
+    after : Holds hd P (moved v (world_by hd r))
+    after = move_asked hd P (keeps_good hd (AllKnown hd) kept) v (world_by hd r) (moves_asked hd P (keeps_good hd (AllKnown hd) kept) r)
 
-    answer : WaitOvertaken (moved v (world_by hd ms))
-    answer = run_answers hd (AllKnown hd) kept (all_answer hd form P (λ M p. p.0)) ms v is (over_before v (world_by hd ms) last) last ups
+    answer : WaitOvertaken (moved v (world_by hd r))
+    answer = run_answers hd (AllKnown hd) kept (all_answer hd form P (λ M p. p.0)) r v is (over_before v (world_by hd r) last) last ups
 
 -- whoever waited as it began waits so, or was answered
 pub quiesces_answer_the_rest : QuiescesAnswerTheRest
-quiesces_answer_the_rest hd form ms v k c u q is last ups node found does waits = ⊎_elim (λ still. inl (overtaken still)) (λ answer.
-    inr answer) (quiesces_answer_or_leave hd ms v k c u q is (over_before v (world_by hd ms) last) (ups k there) found does waits)
+quiesces_answer_the_rest hd form r v k c u q is last ups node found does waits = ⊎_elim (λ still. inl (overtaken still)) (λ answer.
+    inr answer) (quiesces_answer_or_leave hd r v k c u q is (over_before v (world_by hd r) last) (ups k there) found does waits)
   where
     w : World
-    w = world_by hd ms
+    w = world_by hd r
 
-    good : Holds hd IsGood (world_by hd ms)
-    good = moves_asked hd IsGood (keeps_asked hd IsGood (all_keep hd)) ms
+    good : Holds hd IsGood (world_by hd r)
+    good = moves_asked hd IsGood (keeps_asked hd IsGood (all_keep hd)) r
 
-    after : Holds hd IsGood (moved v (world_by hd ms))
-    after = move_asked hd IsGood (keeps_asked hd IsGood (all_keep hd)) v (world_by hd ms) good
+    after : Holds hd IsGood (moved v (world_by hd r))
+    after = move_asked hd IsGood (keeps_asked hd IsGood (all_keep hd)) v (world_by hd r) good
 
     -- its node is one of the header
     there : is_node k (moved v w) ≡ true
@@ -69,6 +69,6 @@ quiesces_answer_the_rest hd form ms v k c u q is last ups node found does waits 
 
     overtaken : StillWaits (moved v w) k u q → WaitsOvertaken (moved v w) k u q
     overtaken still =
-        let o = runs_leave_overtaken hd form ms v is last ups k still.coord u still.doing there still.found still.does
+        let o = runs_leave_overtaken hd form r v is last ups k still.coord u still.doing there still.found still.does
         (same_waits q.now still.doing.now still.same) in
         record { still = still; steps = o.0; now = o.1; overtaken = o.2 }

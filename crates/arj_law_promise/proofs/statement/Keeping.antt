@@ -1,7 +1,8 @@
 -- The laws of every run, put together for one.
 use Rattle.arj_law_parts.proofs.Words
 use Words.{◌≡◌, ◌≤◌, ◌∙◌, ◌++◌, false, List, [], ◌∷◌, length-append, arith, sym, ap, subst, ◌⊎◌, inl, inr, ⊎_elim, AllByRecursion, Header}
-use Words.{Line, World, format, Move, all_moved, journal_by, moved, world_by, most_events, IsInForm, AreGivenUp, NobodyWaits, HasAnswer}
+use Words.{Line, World, format, Move, all_moved, journal_by, moved, world_by, world_from, most_events, IsInForm, AreGivenUp, NobodyWaits}
+use Words.{HasAnswer}
 use Words.{IsPlainIn, AreUp, WaitsOvertaken, EndsQuiet, EndsAtRest}
 use Rattle.arj_law_promise.proofs.Terms.{Holds, moves_asked, over_before, KnowsPrepared}
 use Rattle.arj_journal.specs.ScriptForm.{EventInForm}
@@ -18,19 +19,19 @@ use joint.{DisksInTime.runs_exclude_on_disks, FitRuns.scripts_in_form, FitStops.
 use Rattle.arj_promise.specs.Promise.{CalmQuiescesEndAtRest, EndsInQuiesce, EndsInRound, KeptAfterEveryEvent, QuiescesAnswerWhoWaits}
 use Rattle.arj_promise.specs.Promise.{QuiescesGiveUpNothing, QuiescesLeaveOvertaken, QuietDisksHoldAll, QuietLinesTell, RoundsEndAtRest}
 use Rattle.arj_promise.specs.Promise.{RunsKeepThePromise, ScriptsAreRuns}
-use Rattle.arj_promise.specs.Runs.{IsStoppedInForm}
+use Rattle.arj_promise.specs.Runs.{IsStoppedInForm, Run, then}
 use Rattle.arj_promise.specs.Waiting.{OnlyOvertakenWait}
 
 -- ---- the promise
 
 pub runs_keep : RunsKeepThePromise
-runs_keep hd ms f = record {
-  serial = joined_runs_are_serial hd ms f;
-  book = runs_keep_the_book hd ms f;
-  held = runs_hold_each hd ms f;
-  clean = λ disks are. runs_are_clean hd ms disks f are;
-  in_time = λ disks are. runs_exclude_on_disks hd ms disks f are;
-  outcome = runs_show hd ms;
+runs_keep hd r f = record {
+  serial = joined_runs_are_serial hd r f;
+  book = runs_keep_the_book hd r f;
+  held = runs_hold_each hd r f;
+  clean = λ disks are. runs_are_clean hd r disks f are;
+  in_time = λ disks are. runs_exclude_on_disks hd r disks f are;
+  outcome = runs_show hd r;
 }
 
 -- what holds of each of a list does of its front
@@ -39,12 +40,12 @@ all_front P [] ys all = tt
 all_front P (x ∷ xs) ys all = (all.0, all_front P xs ys all.1)
 
 -- the front of a run in form is one
-front_in_form : (hd : Header) (front rest : List Move) → IsInForm hd (front ++ rest) → IsInForm hd front
+front_in_form : (hd : Header) (front : Run hd) (rest : List Move) → IsInForm hd (then front rest) → IsInForm hd front
 front_in_form hd front rest f = record {
   header = f.header;
-  events = all_front (λ (m : Move). let e = m.asked in EventInForm e.event) front rest f.events;
-  few = omega (arith, f.few, length-append front rest);
-  stops = all_front IsStoppedInForm front rest f.stops;
+  events = all_front (λ (m : Move). let e = m.asked in EventInForm e.event) front.moves rest f.events;
+  few = omega (arith, f.few, length-append front.moves rest);
+  stops = all_front IsStoppedInForm front.moves rest f.stops;
 }
 
 pub fronts_keep : KeptAfterEveryEvent
@@ -65,26 +66,27 @@ scripts_run hd es form fit short = (
 
 -- where every node is idle, clean files hold the last states
 pub quiet_hold : QuietDisksHoldAll
-quiet_hold hd ms disks f idle are = record {
+quiet_hold hd r disks f idle are = record {
   entries = held.entries;
-  stores = λ x s listed. held.stores x s listed (lists_nodes hd f.header (world_by hd ms) (moves_keep hd ms) x s listed).0;
+  stores = λ x s listed. held.stores x s listed (lists_nodes hd f.header (world_by hd r) (moves_keep hd r) x s listed).0;
   nothing = held.nothing;
 }
   where
-    h : Holds hd (KnowsPrepared hd) (world_by hd ms)
-    h = moves_asked hd (KnowsPrepared hd) (handlers_settle hd f.header).0 ms
+    h : Holds hd (KnowsPrepared hd) (world_by hd r)
+    h = moves_asked hd (KnowsPrepared hd) (handlers_settle hd f.header).0 r
 
-    held : HoldTheLast hd (journal_by hd ms) disks
-    held = idle_disks_hold hd (journal_by hd ms) h.sent (world_by hd ms) disks f.header h.stands idle are (runs_are_clean hd ms disks f are)
+    held : HoldTheLast hd r.start.marks (journal_by hd r) disks
+    held = idle_disks_hold hd r.start.marks (journal_by hd r) h.sent (world_by hd r) disks f.header h.stands idle are
+        (runs_are_clean hd r disks f are)
 
 -- where the run has so ended
-at_rest : (hd : Header) (ms : List Move) → IsInForm hd ms → EndsQuiet (world_by hd ms) → EndsAtRest hd ms
-at_rest hd ms f quiet = record { quiet = quiet; last = λ disks are. quiet_hold hd ms disks f quiet.idle are }
+at_rest : (hd : Header) (r : Run hd) → IsInForm hd r → EndsQuiet (world_by hd r) → EndsAtRest hd r
+at_rest hd r f quiet = record { quiet = quiet; last = λ disks are. quiet_hold hd r disks f quiet.idle are }
 
-module _ (hd : Header) (ms before : List Move) (q : EndsInQuiesce hd ms before) where
+module _ (hd : Header) (r before : Run hd) (q : EndsInQuiesce hd r before) where
   -- the world at the end of the quiesce
-  end_is : world_by hd ms ≡ moved q.last (world_by hd before)
-  end_is = ap (λ l. all_moved l (format hd)) q.are ∙ more_moves before (q.last ∷ []) (format hd)
+  end_is : world_by hd r ≡ moved q.last (world_by hd before)
+  end_is = ap (world_by hd) q.are ∙ more_moves before.moves (q.last ∷ []) (world_from hd before.start)
 
   open_at_end : (moved q.last (world_by hd before)).over ≡ false
   open_at_end = ap (λ (w : World). w.over) (sym end_is) ∙ q.unlimited
@@ -96,62 +98,66 @@ module _ (hd : Header) (ms before : List Move) (q : EndsInQuiesce hd ms before) 
   up_at_end = subst AreUp end_is q.up
 
 pub overtaken : QuiescesLeaveOvertaken
-overtaken hd ms before f q = subst OnlyOvertakenWait (sym (end_is hd ms before q))
-    (runs_leave_overtaken hd f.header before q.last q.quiesces (open_at_end hd ms before q) (up_at_end hd ms before q))
+overtaken hd r before f q = subst OnlyOvertakenWait (sym (end_is hd r before q))
+    (runs_leave_overtaken hd f.header before q.last q.quiesces (open_at_end hd r before q) (up_at_end hd r before q))
 
 pub who_waits_is_answered : QuiescesAnswerWhoWaits
-who_waits_is_answered hd ms before f q k c u d node coord does waits =
-    subst (λ (v : World). WaitsOvertaken v k u d ⊎ HasAnswer d (journal_by hd before) v.lines) (sym (end_is hd ms before q))
-    (quiesces_answer_the_rest hd f.header before q.last k c u d q.quiesces (open_at_end hd ms before q) (up_at_end hd ms before q) node
+who_waits_is_answered hd r before f q k c u d node coord does waits =
+    subst (λ (v : World). WaitsOvertaken v k u d ⊎ HasAnswer d (journal_by hd before) v.lines) (sym (end_is hd r before q))
+    (quiesces_answer_the_rest hd f.header before q.last k c u d q.quiesces (open_at_end hd r before q) (up_at_end hd r before q) node
     coord does waits)
 
 pub nothing_given_up : QuiescesGiveUpNothing
-nothing_given_up hd ms before q = subst (λ (v : World). (more : List Line) × (v.lines ≡ journal_by hd before ++ more)
-    × AllByRecursion (IsPlainIn v) more) (sym (end_is hd ms before q))
+nothing_given_up hd r before q = subst (λ (v : World). (more : List Line) × (v.lines ≡ journal_by hd before ++ more)
+    × AllByRecursion (IsPlainIn v) more) (sym (end_is hd r before q))
     (let m = q.last in
-    quiesces_give_nothing_up m.asked (record (world_by hd before) { arms = m.falls }) q.quiesces (open_before hd ms before q))
+    quiesces_give_nothing_up m.asked (record (world_by hd before) { arms = m.falls }) q.quiesces (open_before hd r before q))
 
 pub calm_end : CalmQuiescesEndAtRest
-calm_end hd ms before f q calm = at_rest hd ms f (subst EndsQuiet (sym (end_is hd ms before q))
-    (quiesces_idle hd f.header before q.last calm.1 calm.0 q.quiesces (open_at_end hd ms before q) (up_at_end hd ms before q)))
+calm_end hd r before f q calm = at_rest hd r f (subst EndsQuiet (sym (end_is hd r before q))
+    (quiesces_idle hd f.header before q.last calm.1 calm.0 q.quiesces (open_at_end hd r before q) (up_at_end hd r before q)))
 
 pub quiet_end : QuietLinesTell
-quiet_end hd ms before f q =
-    let end : world_by hd ms ≡ moved q.last (world_by hd before) = ap (λ l. all_moved l (format hd)) q.are
-    ∙ more_moves before (q.last ∷ []) (format hd) in
+quiet_end hd r before f q =
+    let end : world_by hd r ≡ moved q.last (world_by hd before) = ap (world_by hd) q.are
+    ∙ more_moves before.moves (q.last ∷ []) (world_from hd before.start) in
     let open_end : (moved q.last (world_by hd before)).over ≡ false = ap (λ (w : World). w.over) (sym end) ∙ q.unlimited in
-    at_rest hd ms f (subst EndsQuiet (sym end) (line_tells q.last (world_by hd before) q.quiesces
+    at_rest hd r f (subst EndsQuiet (sym end) (line_tells q.last (world_by hd before) q.quiesces
     (over_before q.last (world_by hd before) open_end) open_end q.front q.number (ap (λ (w : World). w.lines) (sym end) ∙ q.line)))
 
 -- ---- the stated round
 
-module _ (hd : Header) (ms : List Move) (f : IsInForm hd ms) (r : EndsInRound hd ms) where
+module _ (hd : Header) (r : Run hd) (f : IsInForm hd r) (round : EndsInRound hd r) where
   -- the worlds behind the first quiesce, and behind the giveups
   abbrev v : World
-  v = moved r.first.last (world_by hd r.before)
+  v = moved round.first.last (world_by hd round.before)
 
   abbrev w : World
-  w = all_moved r.giveups v
+  w = all_moved round.giveups v
 
-  v_is : world_by hd r.between ≡ v
-  v_is = end_is hd r.between r.before r.first
+  v_is : world_by hd round.between ≡ v
+  v_is = end_is hd round.between round.before round.first
 
-  w_is : world_by hd (r.between ++ r.giveups) ≡ w
-  w_is = more_moves r.between r.giveups (format hd) ∙ ap (all_moved r.giveups) v_is
+  w_is : world_by hd (then round.between round.giveups) ≡ w
+  w_is =
+      more_moves (let q = round.between in q.moves) round.giveups (world_from hd (let q = round.between in q.start)) ∙ ap
+      (all_moved round.giveups) v_is
 
-  last_is : world_by hd ms ≡ moved r.second.last w
-  last_is = end_is hd ms (r.between ++ r.giveups) r.second ∙ ap (moved r.second.last) w_is
+  last_is : world_by hd r ≡ moved round.second.last w
+  last_is = end_is hd r (then round.between round.giveups) round.second ∙ ap (moved round.second.last) w_is
 
-  quiet_at_end : EndsQuiet (world_by hd ms)
+  quiet_at_end : EndsQuiet (world_by hd r)
   quiet_at_end = subst EndsQuiet (sym last_is)
-      (rounds_idle hd f.header r.before r.giveups r.first.last r.second.last r.first.quiesces r.give_up r.second.quiesces
-      (up_at_end hd r.between r.before r.first) who open_last (subst AreUp last_is r.second.up))
+      (rounds_idle hd f.header round.before round.giveups round.first.last round.second.last round.first.quiesces round.give_up
+      round.second.quiesces
+      (up_at_end hd round.between round.before round.first) who open_last (subst AreUp last_is round.second.up))
     where
-      open_last : (moved r.second.last w).over ≡ false
-      open_last = ap (λ (x : World). x.over) (sym last_is) ∙ r.second.unlimited
+      open_last : (moved round.second.last w).over ≡ false
+      open_last = ap (λ (x : World). x.over) (sym last_is) ∙ round.second.unlimited
 
-      who : AreGivenUp r.giveups v ⊎ NobodyWaits w
-      who = ⊎_elim (λ given. inl (subst (AreGivenUp r.giveups) v_is given)) (λ nobody. inr (subst NobodyWaits w_is nobody)) r.who_waits
+      who : AreGivenUp round.giveups v ⊎ NobodyWaits w
+      who = ⊎_elim (λ given. inl (subst (AreGivenUp round.giveups) v_is given)) (λ nobody. inr
+          (subst NobodyWaits w_is nobody)) round.who_waits
 
 pub rounds_end : RoundsEndAtRest
-rounds_end hd ms f r = at_rest hd ms f (quiet_at_end hd ms f r)
+rounds_end hd r f round = at_rest hd r f (quiet_at_end hd r f round)

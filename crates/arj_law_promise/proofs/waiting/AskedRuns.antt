@@ -1,13 +1,14 @@
 -- Each handler keeps that answers go to who asked, and that what servers have was asked for.
 use Rattle.arj_law_parts.proofs.Words
-use Words.{Bool, List, None, Option, Some, [], ap, arith, cond, eqb-true, false, inl, inr, length, map, refl, subst, suc, sym, true, zero}
+use Words.{node_by, world_from}
+use Words.{Bool, List, None, Option, Some, [], ap, arith, cond, eqb-true, false, inl, inr, length, map, refl, subst, sym, true}
 use Words.{ℕ, ⊎_elim, ◌++◌, ◌+◌, ◌==◌, ◌∙◌, ◌∷◌, ◌≡◌, ◌≢◌, ◌≤◌, ◌⊎◌, option_map, ⊤, AllByRecursion, object, Ask, Asked, Binding, Body}
 use Words.{BoundReply, Head, Header, Kind, Label, Message, ObjectState, Path, Uid, asks, Reply, answers, asked_by, response, top_of}
 use Words.{again_all, begin_action, heard, waits_for_call, Abort, Commit, Disk, Do, Effect, Look, Pair, Prepare, PutInc, PutIntent}
 use Words.{RemoveIntent, Say, Send, Served, Stop, held_at, stopped, worked, acked, answer_query, tick_outs, Naming, Handled, Parts, Took}
 use Words.{Void, answer_is_meant, asked_is_meant, handle, handle_ask, holders, if_naming, is_loaded_for, is_loaded_in, is_meant}
-use Words.{query_about, reply_is_meant, sends_answer, served, with_coord, with_naming, Server, Input, Node, acts as acts_of, first_disk}
-use Words.{first_node, naming_at, numbers_to, parent_of, parts_in, refusal_up, restart_outs, tolds_again, at_place, Labelled, format}
+use Words.{query_about, reply_is_meant, sends_answer, served, with_coord, with_naming, Server, Input, Node, acts as acts_of}
+use Words.{naming_at, numbers_to, parent_of, parts_in, refusal_up, restart_outs, tolds_again, at_place, Labelled}
 use Words.{is_serial_kind, numbered, acked_own, acts_own, again_own, heard_own, query_own, tolds_again_own, Post, Seen, see, At, AtActivate}
 use Words.{AtBind, AtInvoke, AtLoad, AtNote, Steps, IsSaid, Calling, Coord, Doing, doing_of, and_parts, uid_is, confirm, recovered_naming}
 use Words.{Named, at_number}
@@ -18,6 +19,7 @@ use Words.input
 use Words.bound
 use Words.body
 use Rattle.arj_law_promise.proofs.Terms
+use Terms.{IsAtStarts, disk_by, first_up}
 use Terms.{Action, paths_of, IsGoodCoord, IsTree, begun_tree, true_query, well_acked, well_acts, well_again, well_heard, IsGoodOf, IsUp}
 use Terms.{good_coord, it, own_of_disk, tops_of_disk, other_number, same_number, is_act, In, at, down, given, posted, said, up, Up, Walks}
 use Terms.{halted, some_is, all_map, KeepsGiven, node_here, AllQuiet, ActivateNamed, Claims, HaveForms, IsAnsweredBy, MadeWasSaid}
@@ -330,7 +332,7 @@ walk_lines base lines inc e k v (Send to m ∷ es) behind d M within all were pl
 walk_lines base lines inc e k v (Do w ∷ es) behind d M within all were placed low incs fine so = absurd all.0
 
 -- works that put no other incarnation
-of_incs : (n i : ℕ) (outs : List Effect) → AreOfInc n i outs → IncsUp i outs
+pub of_incs : (n i : ℕ) (outs : List Effect) → AreOfInc n i outs → IncsUp i outs
 of_incs n i [] all = tt
 of_incs n i (Say b ∷ es) all = (tt, of_incs n i es all.1)
 of_incs n i (Send to m ∷ es) all = (tt, of_incs n i es all.1)
@@ -846,8 +848,8 @@ module _ (hd : Header) (begun : List Action) (e k : ℕ) (d : Disk) (t : Parts) 
       walk M.sent lines d.inc e k v r.outs d (given l g M) (λ p i. i) (λ z s. s) (placed_on t.naming same_naming) (omega arith) (tt, tt)
       (tt, tt) (record { its = so.its; others = so.others; replies = so.replies; activates = so.activates })
 
-first_asked : (hd : Header) → WereAsked (see [] (format hd))
-first_asked hd = record {
+first_asked : (hd : Header) → IsAtStarts hd WereAsked
+first_asked hd st formed = record {
   replies = λ p a r i. absurd i;
   activates = λ p h b st i. absurd i;
   servers = λ j n t is live. (by j n t is live).0.0.0;
@@ -857,23 +859,20 @@ first_asked hd = record {
 }
   where
     L : Body → Type 0
-    L = let w = format hd in IsSaid w.lines
+    L = let w = world_from hd st in IsSaid w.lines
 
     C : Claims
-    C = WasMade (see [] (format hd))
+    C = WasMade (see [] (world_from hd st))
 
-    by : (j : ℕ) (n : Node) (t : Parts) → at_place j (map (first_node hd) (numbers_to hd.nodes)) ≡ Some n → n.live ≡ Some t →
+    by : (j : ℕ) (n : Node) (t : Parts) → at_place j (map (node_by hd st) (numbers_to hd.nodes)) ≡ Some n → n.live ≡ Some t →
         PartsSo [] L C t × IsPlaced j (let d = n.disk in d.inc) t.naming
-    by zero n t is live = absurd (cc is)
-    by (suc j) n t is live =
-        let at_first = first_at hd (suc j) n is in
-        let same = some_is (ap (λ (z : Node). z.live) at_first ∙ live) in (
-          subst (PartsSo [] L C) same (
-            (none_asked [] 1, new_named [] C (suc j) 1 (let d = first_disk hd (suc j) in d.intents)),
-            start_made L (suc j) 1 (let d = first_disk hd (suc j) in d.names),
-          ),
-          subst (λ (z : Node). IsPlaced (suc j) (let d = z.disk in d.inc) t.naming) at_first
-              (subst (λ (z : Parts). IsPlaced (suc j) 1 z.naming) same (start_placed (suc j) 1 (let d = first_disk hd (suc j) in d.names))),
+    by j n t is live =
+        let same = first_up hd st j n t is live in
+        let names = (let d = disk_by hd st j in d.names) in (
+          subst (PartsSo [] L C) same
+              ((none_asked [] (st.incs j + 1), new_named [] C j (st.incs j + 1) []), start_made L j (st.incs j + 1) names),
+          subst (λ (z : Node). IsPlaced j (let d = z.disk in d.inc) t.naming) (first_at hd st j n is)
+              (subst (λ (z : Parts). IsPlaced j (st.incs j + 1) z.naming) same (start_placed j (st.incs j + 1) names)),
         )
 
 -- a restart

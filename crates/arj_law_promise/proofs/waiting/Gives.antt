@@ -512,7 +512,8 @@ module _ (hd : Header) (form : HeaderInForm hd) (j : ℕ) (d : Disk) (t : Parts)
     untaken : (states : List ObjectState) (w : Uid) → prepare_answer (actor (let a = h.asks in a.head.path)) states d.store ≢ Already w
     untaken states w is =
         let z = already_written (actor (let a = h.asks in a.head.path)) d.store states w is in
-        uncommitted (begun hd W known j u c q does) W (good hd W known j u c q does) (past hd W known j u c q does) known.1.1.1.1 from_it
+        uncommitted (begun hd W known j u c q does) W (good hd W known j u c q does)
+        (past hd W known j u c q does) known.1.1.1.0.1 known.1.1.1.1 from_it
         at_its.node at_its.parts at_its.found at_its.live u q (ap (doing_of u) at_its.same ∙ does)
         (let a = h.asks in a.head.path) by_its asking_commit j here (node_here M j here) z.0 z.1 z.2 (z.3 ∙ by_its)
 

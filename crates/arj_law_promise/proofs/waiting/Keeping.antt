@@ -6,13 +6,13 @@ use Words.{restart_outs, is_serial_kind, Seen}
 use Rattle.arj_law_promise.proofs.Terms
 use Terms.{HeaderInForm, ObjectLineInForm, Keeps, KeepsAsked, given, Up, Walks, keeps_asked, all_keep, IsGood, keeps_given, kept_both}
 use Terms.{BindsAreKnown, HasObject, AreAddressed, IsNode, ObjectsAreHeld, RequestsAreKnown, requests_keep, asked_both, EndsArePast}
-use Terms.{past_keep, HaveForms, RequestsAreHome, WereAsked, kept_forms, AreSo, kind_of, ArePastWriters}
+use Terms.{past_keep, HaveForms, RequestsAreHome, WereAsked, kept_forms, AreSo, kind_of, ArePastWriters, AreSince, given_more}
 use Rattle.arj_journal.specs.declared.limits.TheConstants.{SERVERS, STORES}
 use Rattle.arj_law_disk_view.proofs.running.EntryKeeps.{keeps_entries}
 use Rattle.arj_law_disk_view.specs.running.Entries.{HaveEntries}
 use Rattle.arj_law_lock_view.proofs.facts.{Entries.entries_keep, GoodNaming.objects_keep as objects_held}
 use Rattle.arj_law_parts.proofs.moves.Together.{walks_each}
-use Rattle.arj_law_promise.proofs.waiting.{AskedRuns.asked_given, Home.home_keep, WriterRuns.writers_given}
+use Rattle.arj_law_promise.proofs.waiting.{AskedRuns.asked_given, Home.home_keep, Since.since_given, WriterRuns.writers_given}
 use Rattle.arj_law_promise.specs.waiting.{Waits.AskersAreKnown, Waits.HandlersKeepWaits, Waits.ObjectsAreKnown, Writers.WritersArePast}
 use Rattle.arj_law_runs.proofs.addresses.Runs.{so_kept}
 use Rattle.arj_law_runs.specs.addresses.Addresses.{AreOf, LineOf}
@@ -68,7 +68,7 @@ keeps_each {A} hd P each = record {
   tick = λ e k d t M p. many e k (tick_outs (record { number = k; disk = d; live = Some t }) t)
       (with_coord t (again_all t.coord.doings t.coord).part) d M (λ x. (each x).tick e k d t M (p x));
   restart = λ e k d M p. many e k (restart_outs hd k (d.inc + 1) d) (parts_in k (d.inc + 1) d) d M (λ x. (each x).restart e k d M (p x));
-  first = λ x. (each x).first;
+  first = λ st formed x. (each x).first st formed;
 }
   where
     many : (e k : ℕ) (outs : List Effect) (v : Parts) (d : Disk) (M : Seen) → ((x : A) → Walks (P x) e k outs (Up (P x) k v) d M) →
@@ -93,7 +93,9 @@ askers_keep hd form = asked_both hd (λ M. ((RequestsAreKnown M × HaveForms hd 
     (keeps_given hd RequestsAreKnown (HaveForms hd) (keeps_each hd (λ x. AreSo (kind_of hd x)) (λ x. kept_forms hd x form))))
     (keeps_given hd (λ M. RequestsAreKnown M × HaveForms hd M) ObjectsAreHeld (objects_held hd))) (asked_given hd)))
     (keeps_asked hd (λ M. RequestsAreHome M × WritersArePast M) (kept_both hd RequestsAreHome WritersArePast (home_keep hd)
-    (keeps_given hd RequestsAreHome WritersArePast (kept_both hd IsGood ArePastWriters (all_keep hd) (writers_given hd)))))
+    (keeps_given hd RequestsAreHome WritersArePast (kept_both hd (λ M. IsGood M × AreSince M) ArePastWriters
+    (kept_both hd IsGood AreSince (all_keep hd) (since_given hd))
+    (given_more hd IsGood (λ M. IsGood M × AreSince M) ArePastWriters (λ M g. g.0) (writers_given hd))))))
 
 pub waits_keep : HandlersKeepWaits
 waits_keep hd form =

@@ -1,5 +1,6 @@
 -- Who wrote what a node has, prepares and sends, where it takes a message.
 use Rattle.arj_law_parts.proofs.Words
+use Words.{Start}
 use Words.{◌≡◌, ◌++◌, ℕ, Bool, true, false, cond, filter, List, [], ◌∷◌, map, Contains, Option, Some, None, refl, sym, subst, inl, inr, ⊤}
 use Words.{IfSome, option_map, AllByRecursion, filter_map, in_from, in_to, activate_own, bind_own, confirm_own, ends_own, invoke_own}
 use Words.{note_own, told_own, vote_own, Ask, Asked, End, Head, Message, ObjectState, Uid, What, asks, class_of, object, payload_of, Reply}
@@ -58,16 +59,16 @@ last_told [] x is = absurd (cc is)
 last_told (e ∷ []) x is = let same : e ≡ x = cc in in_to x (e ∷ []) (inl same)
 last_told (e ∷ f ∷ es) x is = in_to x (e ∷ f ∷ es) (inr (in_from x (f ∷ es) (last_told (f ∷ es) x is)))
 
-module _ (sent : List Post) (k : ℕ) (d : Disk) (t : Parts) (from : ℕ) (disk : PairIsBy (IsPastWriter sent) d.store)
-    (its : So (IsPastWriter sent) t.coord) where
+module _ (st : Start) (sent : List Post) (k : ℕ) (d : Disk) (t : Parts) (from : ℕ) (disk : PairIsBy (IsPastWriter st sent) d.store)
+    (its : So (IsPastWriter st sent) t.coord) where
   abbrev P : Uid → Type 0
-  P = IsPastWriter sent
+  P = IsPastWriter st sent
 
   abbrev FineBy : List Effect → Type 0
-  FineBy outs = Fine (IsPastWriter sent) outs
+  FineBy outs = Fine (IsPastWriter st sent) outs
 
   abbrev Leaves : Coord → List Effect → Type 0
-  Leaves c outs = FineBy outs × IsTold (IsPastWriter sent) (record { part = c; outs = outs })
+  Leaves c outs = FineBy outs × IsTold (IsPastWriter st sent) (record { part = c; outs = outs })
 
   abbrev By : Handled → Type 0
   By (Void outs) = ⊤
@@ -81,14 +82,14 @@ module _ (sent : List Post) (k : ℕ) (d : Disk) (t : Parts) (from : ℕ) (disk 
   both es fs a b = fine_both P es fs a b
 
   answered : (h : Head) (v : Parts) (outs : List Effect) (o : Option Reply) → v.coord ≡ t.coord → FineBy outs →
-      IfSome o (ReplyIsBy (IsPastWriter sent) (asked_by h)) → By (sends_answer from h v outs o)
+      IfSome o (ReplyIsBy (IsPastWriter st sent) (asked_by h)) → By (sends_answer from h v outs o)
   answered h v outs None same fine of = tt
   answered h v outs (Some r) same fine of = subst (λ c. Leaves c (outs ++ Send from (response (asked_by h) r) ∷ [])) (sym same)
       (still (outs ++ Send from (response (asked_by h) r) ∷ [])
       (both outs (Send from (response (asked_by h) r) ∷ []) fine (response_fine P from (asked_by h) r of, tt)))
 
-  plain_reply : {R : Type 0} (h : Head) (say : R → Reply) → ((r : R) → ReplyIsBy (IsPastWriter sent) (asked_by h) (say r)) →
-      (o : Option R) → IfSome (option_map say o) (ReplyIsBy (IsPastWriter sent) (asked_by h))
+  plain_reply : {R : Type 0} (h : Head) (say : R → Reply) → ((r : R) → ReplyIsBy (IsPastWriter st sent) (asked_by h) (say r)) →
+      (o : Option R) → IfSome (option_map say o) (ReplyIsBy (IsPastWriter st sent) (asked_by h))
   plain_reply h say each None = tt
   plain_reply h say each (Some r) = each r
 
@@ -96,7 +97,7 @@ module _ (sent : List Post) (k : ℕ) (d : Disk) (t : Parts) (from : ℕ) (disk 
   with_it f None each = tt
   with_it f (Some n) each = each n
 
-  asked : (h : Head) (a : Ask) → AskIsBy (IsPastWriter sent) h a → By (serve k d t from h a)
+  asked : (h : Head) (a : Ask) → AskIsBy (IsPastWriter st sent) h a → By (serve k d t from h a)
   asked h (ask.Bind x include avoid) brings = with_it _ t.naming (λ n. let r = naming.bind h.path x include avoid d.names n in
       answered h (with_naming t r.part) r.outs (option_map Reply.Bound r.reply) refl
       (naming_fine P r.outs (bind_own h.path x include avoid d.names n)) (plain_reply h Reply.Bound (λ z. tt) r.reply))
@@ -123,16 +124,17 @@ module _ (sent : List Post) (k : ℕ) (d : Disk) (t : Parts) (from : ℕ) (disk 
       (option_map Reply.Voted r.reply) refl (server_fine P k r.outs (vote_own k h.path i ties ends t.server)) votes
     where
       now : (w : Option What) → IfSome (option_map Reply.Voted (server.vote_now k (actor h.path) ends t.server w).reply)
-          (ReplyIsBy (IsPastWriter sent) (asked_by h))
+          (ReplyIsBy (IsPastWriter st sent) (asked_by h))
       now (Some w) = tt
       now None = voted_by (actor h.path) (let z = server.apply_ends k ends t.server in z.part)
 
       each : (b : Bool) → IfSome (option_map Reply.Voted (let s = t.server in cond b (void s) (server.vote_now k (actor h.path) ends s
-          (either (server.other_inc i s.inc) (server.first_unbound ties s)))).reply) (ReplyIsBy (IsPastWriter sent) (asked_by h))
+          (either (server.other_inc i s.inc) (server.first_unbound ties s)))).reply) (ReplyIsBy (IsPastWriter st sent) (asked_by h))
       each true = tt
       each false = now (let s = t.server in either (server.other_inc i s.inc) (server.first_unbound ties s))
 
-      votes : IfSome (option_map Reply.Voted (server.vote k h.path i ties ends t.server).reply) (ReplyIsBy (IsPastWriter sent) (asked_by h))
+      votes : IfSome (option_map Reply.Voted (server.vote k h.path i ties ends t.server).reply) (ReplyIsBy (IsPastWriter st sent)
+          (asked_by h))
       votes = each (server.has_ended h.path t.server)
   asked h (ask.Prepare states) brings = each (is_prepared (actor h.path) d.store)
     where
@@ -177,8 +179,8 @@ module _ (sent : List Post) (k : ℕ) (d : Disk) (t : Parts) (from : ℕ) (disk 
 
   module _ (m : Message) (told : (u : Uid) (e : End) → Contains {X = Uid × End} (told_by m) (u, e) → HasToldEnd sent u)
       (hears : (a : Asked) (r : Reply) → answers m ≡ Some (a, r) → FineBy (heard from a r d.intents t.coord).outs
-      × IsTold (IsPastWriter sent) (let q = heard from a r d.intents t.coord in record { part = q.part; outs = q.outs }))
-      (acks : (u : Uid) → FineBy (acked from u d.intents t.coord).outs × So (IsPastWriter sent) (acked from u d.intents t.coord).part)
+      × IsTold (IsPastWriter st sent) (let q = heard from a r d.intents t.coord in record { part = q.part; outs = q.outs }))
+      (acks : (u : Uid) → FineBy (acked from u d.intents t.coord).outs × So (IsPastWriter st sent) (acked from u d.intents t.coord).part)
       (answers_it : (u : Uid) → FineBy (answer_query from u d.intents t.coord)) where
     other : (n : Message) → n ≡ m → By (handle_other k d t from n)
     other (message.Told n) is = ends_left n.ack n.ends
@@ -190,7 +192,8 @@ module _ (sent : List Post) (k : ℕ) (d : Disk) (t : Parts) (from : ℕ) (disk 
         (queries P (filter (is_earlier n.node n.inc) (holders d t)))
     other n is = tt
 
-    pub handled_by : AskedIsBy (IsPastWriter sent) (asks m) → (v : Parts) (outs : List Effect) → handle k d t from m ≡ Took v outs →
-        FineBy outs × IsTold (IsPastWriter sent) (record { part = v.coord; outs = outs })
-    handled_by brings v outs is = subst By is (by_message k d t from By tt m (λ h a of. asked h a (subst (AskedIsBy (IsPastWriter sent)) of
+    pub handled_by : AskedIsBy (IsPastWriter st sent) (asks m) → (v : Parts) (outs : List Effect) → handle k d t from m ≡ Took v outs →
+        FineBy outs × IsTold (IsPastWriter st sent) (record { part = v.coord; outs = outs })
+    handled_by brings v outs is = subst By is (by_message k d t from By tt m (λ h a of. asked h a (subst (AskedIsBy
+        (IsPastWriter st sent)) of
         brings)) (λ a r of. by_coord k d t from By tt (heard from a r d.intents t.coord) (hears a r of)) (other m refl))

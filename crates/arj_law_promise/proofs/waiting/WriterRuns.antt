@@ -1,18 +1,20 @@
 -- Who wrote the states that stores have, at all nodes and in all messages: kept by each handler.
 use Rattle.arj_law_parts.proofs.Words
+use Words.{Start}
 use Words.{◌≡◌, ◌≢◌, ◌⊎◌, ◌+◌, ◌==◌, ◌∙◌, ◌++◌, ℕ, zero, suc, Bool, true, false, cond, filter, List, [], ◌∷◌, length, map, Option, Some}
 use Words.{None, refl, sym, ap, subst, inl, inr, ⊎_elim, IfSome, AllByRecursion, Ask, Asked, Head, Header, Kind, Label, Message, ObjectLine}
 use Words.{ObjectState, Uid, asks, Reply, answers, again_all, begin_action, heard, Used, plan_of, Calling, Committing, Coord, Doing, Idle}
 use Words.{Now, Abort, Commit, Disk, Do, Effect, Look, Pair, Prepare, PutInc, PutIntent, RemoveIntent, Say, Send, stopped, worked, After}
-use Words.{acked, answer_query, tick_outs, Parts, Took, handle, holders, query_about, with_coord, has, Input, Node, acts, first_disk}
-use Words.{first_state, parent_of, parts_in, put_states, refusal_up, restart_outs, tolds_again, at_place, is_own, format, is_serial_kind}
-use Words.{acked_own, acts_own, again_own, heard_own, query_own, Post, Seen, see}
+use Words.{acked, answer_query, tick_outs, Parts, Took, handle, holders, query_about, with_coord, has, Input, Node, acts}
+use Words.{parent_of, parts_in, put_states, refusal_up, restart_outs, tolds_again, at_place, is_own, is_serial_kind}
+use Words.{acked_own, acts_own, again_own, heard_own, query_own, Post, Seen}
 use Words.ask
 use Words.loaded
 use Words.role
 use Words.voted
 use Words.input
 use Rattle.arj_law_promise.proofs.Terms
+use Terms.{IsAtStarts, IsOlder, all_append, disk_by, live_first, older_at, state_by, states_from}
 use Terms.{Action, paths_of, IsTree, Paths, IsGoodCoord, begun_tree, path_found, true_query, well_acked, well_acts, well_again, well_heard}
 use Terms.{IsGood, IsGoodOf, IsUp, it, own_of_disk, tops_of_disk, is_act, In, at, given, posted, said, up, Up, Walks, halted, acked_so}
 use Terms.{acts_so, again_so, heard_so, query_so, KeepsGiven, first_at, node_here, all_each, AnsweredIsBy, ArePastWriters, AskIsBy}
@@ -115,20 +117,20 @@ module _ (P Q : Uid → Type 0) (more : (w : Uid) → P w → Q w) where
 
 -- ---- one more message
 
-past_more : (p : Post) (sent : List Post) (w : Uid) → IsPastWriter sent w → IsPastWriter (p ∷ sent) w
-past_more p sent w (inl none) = inl none
-past_more p sent w (inr t) = inr (t.0, inr t.1, t.2, t.3)
+past_more : (st : Start) (p : Post) (sent : List Post) (w : Uid) → IsPastWriter st sent w → IsPastWriter st (p ∷ sent) w
+past_more st p sent w (inl none) = inl none
+past_more st p sent w (inr t) = inr (t.0, inr t.1, t.2, t.3)
 
 -- ---- one node apart from the others
 
 abbrev Others : ℕ → Seen → Type 0
-Others k M = (j : ℕ) (n : Node) → (j == k) ≡ false → M.nodes j ≡ Some n → NodeIsBy (IsPastWriter M.sent) n
+Others k M = (j : ℕ) (n : Node) → (j == k) ≡ false → M.nodes j ≡ Some n → NodeIsBy (IsPastWriter M.start M.sent) n
 
 abbrev Posts : Seen → Type 0
-Posts M = (p : Post) → In p M.sent → MessageIsBy (IsPastWriter M.sent) p.message
+Posts M = (p : Post) → In p M.sent → MessageIsBy (IsPastWriter M.start M.sent) p.message
 
 mine : (k : ℕ) (d : Disk) (live : Option Parts) (M : Seen) → ArePastWriters (at k d live M) →
-    NodeIsBy (IsPastWriter M.sent) (record { number = k; disk = d; live = live })
+    NodeIsBy (IsPastWriter M.start M.sent) (record { number = k; disk = d; live = live })
 mine k d live M all =
     all.nodes k (record { number = k; disk = d; live = live }) (node_here M k (record { number = k; disk = d; live = live }))
 
@@ -136,32 +138,36 @@ others : (k : ℕ) (d : Disk) (live : Option Parts) (M : Seen) → ArePastWriter
 others k d live M all j n apart is =
     all.nodes j n ((λ i. cond (apart i) (Some (record { number = k; disk = d; live = live })) (M.nodes j)) ∙ is)
 
-back : (k : ℕ) (d : Disk) (live : Option Parts) (M : Seen) → NodeIsBy (IsPastWriter M.sent) (record { number = k; disk = d; live = live }) →
+back : (k : ℕ) (d : Disk) (live : Option Parts) (M : Seen) → NodeIsBy (IsPastWriter M.start M.sent)
+    (record { number = k; disk = d; live = live }) →
     Others k M → Posts M → ArePastWriters (at k d live M)
 back k d live M its o posts = record {
   nodes = λ j n there. ⊎_elim (λ (z : (j ≡ k) × (record { number = k; disk = d; live = live } ≡ n)).
-      subst (NodeIsBy (IsPastWriter M.sent)) z.1 its) (λ (z : ((j == k) ≡ false) × (M.nodes j ≡ Some n)). o j n z.0 z.1)
+      subst (NodeIsBy (IsPastWriter M.start M.sent)) z.1 its) (λ (z : ((j == k) ≡ false) × (M.nodes j ≡ Some n)). o j n z.0 z.1)
       (node_cases M k (record { number = k; disk = d; live = live }) j n there);
   posts = posts;
 }
 
-down_by : (e k : ℕ) (d : Disk) (M : Seen) → PairIsBy (IsPastWriter M.sent) d.store → Others k M → Posts M → ArePastWriters (halted e k d M)
+down_by : (e k : ℕ) (d : Disk) (M : Seen) → PairIsBy (IsPastWriter M.start M.sent) d.store → Others k M → Posts M →
+    ArePastWriters (halted e k d M)
 down_by e k d M its o posts = let b = back k d None M (record { store = its; live = λ t is. absurd (cc is) }) o posts in
     record { nodes = b.nodes; posts = b.posts }
 
 -- whatever a node does
-walk : (e k : ℕ) (v : Parts) (outs : List Effect) (d : Disk) (M : Seen) → PairIsBy (IsPastWriter M.sent) d.store →
-    IsTold (IsPastWriter M.sent) (record { part = v.coord; outs = outs }) → Fine (IsPastWriter M.sent) outs → Others k M → Posts M →
+walk : (e k : ℕ) (v : Parts) (outs : List Effect) (d : Disk) (M : Seen) → PairIsBy (IsPastWriter M.start M.sent) d.store →
+    IsTold (IsPastWriter M.start M.sent) (record { part = v.coord; outs = outs }) → Fine (IsPastWriter M.start M.sent) outs →
+    Others k M → Posts M →
     Walks ArePastWriters e k outs (Up ArePastWriters k v) d M
 walk e k v [] d M its told fine o posts = back k d (Some v) M (record {
   store = its;
-  live = λ t is. subst (λ (z : Parts). So (IsPastWriter M.sent) z.coord) (some_is is)
-      (coord_wider (IsPastWriter M.sent) (IsPastWriter M.sent) (λ w z. z) (λ w. IsPastWriter M.sent w ⊎ TellsIn [] w) (IsPastWriter M.sent)
+  live = λ t is. subst (λ (z : Parts). So (IsPastWriter M.start M.sent) z.coord) (some_is is)
+      (coord_wider (IsPastWriter M.start M.sent) (IsPastWriter M.start M.sent) (λ w z. z)
+      (λ w. IsPastWriter M.start M.sent w ⊎ TellsIn [] w) (IsPastWriter M.start M.sent)
       (λ w. ⊎_elim (λ z. z) (λ none. absurd none)) v.coord told);
 }) o posts
 walk e k v (Do w ∷ es) d M its told fine o posts = (
-  (λ how. down_by e k (stopped how w d) M (stopped_so (IsPastWriter M.sent) how w d fine.0 its) o posts),
-  walk e k v es (worked w d) M (stopped_so (IsPastWriter M.sent) After w d fine.0 its) told fine.1 o posts,
+  (λ how. down_by e k (stopped how w d) M (stopped_so (IsPastWriter M.start M.sent) how w d fine.0 its) o posts),
+  walk e k v es (worked w d) M (stopped_so (IsPastWriter M.start M.sent) After w d fine.0 its) told fine.1 o posts,
 )
 walk e k v (Say b ∷ es) d M its told fine o posts = walk e k v es d (said e (b ∷ []) M) its told fine.1 o posts
 walk e k v (Send to m ∷ es) d M its told fine o posts =
@@ -173,16 +179,16 @@ walk e k v (Send to m ∷ es) d M its told fine o posts =
     (λ old. message_wider P Q more p.message (posts p old)))
   where
     P : Uid → Type 0
-    P = IsPastWriter M.sent
+    P = IsPastWriter M.start M.sent
 
     Q : Uid → Type 0
-    Q = IsPastWriter (record { from = k; to = to; message = m } ∷ M.sent)
+    Q = IsPastWriter M.start (record { from = k; to = to; message = m } ∷ M.sent)
 
-    more : (w : Uid) → IsPastWriter M.sent w → IsPastWriter (record { from = k; to = to; message = m } ∷ M.sent) w
-    more w = past_more (record { from = k; to = to; message = m }) M.sent w
+    more : (w : Uid) → IsPastWriter M.start M.sent w → IsPastWriter M.start (record { from = k; to = to; message = m } ∷ M.sent) w
+    more w = past_more M.start (record { from = k; to = to; message = m }) M.sent w
 
-    tells : (w : Uid) → IsPastWriter M.sent w ⊎ TellsIn (Send to m ∷ es) w →
-        IsPastWriter (record { from = k; to = to; message = m } ∷ M.sent) w ⊎ TellsIn es w
+    tells : (w : Uid) → IsPastWriter M.start M.sent w ⊎ TellsIn (Send to m ∷ es) w →
+        IsPastWriter M.start (record { from = k; to = to; message = m } ∷ M.sent) w ⊎ TellsIn es w
     tells w (inl old) = inl (more w old)
     tells w (inr (inl t)) = inl (inr (record { from = k; to = to; message = m }, inl refl, t.0, t.1))
     tells w (inr (inr late)) = inr late
@@ -207,16 +213,16 @@ module _ (begun : List Action) (e k : ℕ) (d : Disk) (t : Parts) (M : Seen) (go
   works = let u = its_up in let f = u.faithful in f.works
 
   abbrev P : Uid → Type 0
-  P = IsPastWriter M.sent
+  P = IsPastWriter M.start M.sent
 
-  its : So (IsPastWriter M.sent) t.coord
+  its : So (IsPastWriter M.start M.sent) t.coord
   its = let n = mine k d (Some t) M all in n.live t refl
 
-  disk : PairIsBy (IsPastWriter M.sent) d.store
+  disk : PairIsBy (IsPastWriter M.start M.sent) d.store
   disk = let n = mine k d (Some t) M all in n.store
 
-  go : (v : Parts) (outs : List Effect) → IsTold (IsPastWriter M.sent) (record { part = v.coord; outs = outs }) →
-      Fine (IsPastWriter M.sent) outs → Walks ArePastWriters e k outs (Up ArePastWriters k v) d M
+  go : (v : Parts) (outs : List Effect) → IsTold (IsPastWriter M.start M.sent) (record { part = v.coord; outs = outs }) →
+      Fine (IsPastWriter M.start M.sent) outs → Walks ArePastWriters e k outs (Up ArePastWriters k v) d M
   go v outs told fine = walk e k v outs d M disk told fine (others k d (Some t) M all) all.posts
 
   message_walk : (from : ℕ) (m : Message) (v : Parts) (outs : List Effect) → In (record { from = from; to = k; message = m }) M.sent →
@@ -226,41 +232,47 @@ module _ (begun : List Action) (e k : ℕ) (d : Disk) (t : Parts) (M : Seen) (go
       u : IsUp begun M.sent M.labels k d.inc t
       u = its_up
 
-      says : MessageIsBy (IsPastWriter M.sent) m
+      says : MessageIsBy (IsPastWriter M.start M.sent) m
       says = all.posts (record { from = from; to = k; message = m }) there
 
-      hears : (a : Asked) (r : Reply) → answers m ≡ Some (a, r) → Fine (IsPastWriter M.sent) (heard from a r d.intents t.coord).outs
-          × IsTold (IsPastWriter M.sent) (let q = heard from a r d.intents t.coord in record { part = q.part; outs = q.outs })
+      hears : (a : Asked) (r : Reply) → answers m ≡ Some (a, r) → Fine (IsPastWriter M.start M.sent) (heard from a r d.intents t.coord).outs
+          × IsTold (IsPastWriter M.start M.sent) (let q = heard from a r d.intents t.coord in record { part = q.part; outs = q.outs })
       hears a r of =
           let q = heard from a r d.intents t.coord in (
-            coord_fine P (λ w. IsPastWriter M.sent w ⊎ TellsIn q.outs w) q.part so q.outs
+            coord_fine P (λ w. IsPastWriter M.start M.sent w ⊎ TellsIn q.outs w) q.part so q.outs
                 (heard_so begun paths tree t.coord coord u.numbered works from a r d.intents)
                 (well_heard begun paths tree from a r d.intents t.coord coord).1 (heard_own from a r d.intents t.coord),
             so,
           )
         where
-          by : ReplyIsBy (IsPastWriter M.sent) a r
-          by = subst (AnsweredIsBy (IsPastWriter M.sent)) of says.1
+          by : ReplyIsBy (IsPastWriter M.start M.sent) a r
+          by = subst (AnsweredIsBy (IsPastWriter M.start M.sent)) of says.1
 
-          so : IsTold (IsPastWriter M.sent) (let q = heard from a r d.intents t.coord in record { part = q.part; outs = q.outs })
-          so = hears_so P from a r d.intents t.coord its (λ st same. subst (ReplyIsBy (IsPastWriter M.sent) a) same by)
-              (λ states same. subst (ReplyIsBy (IsPastWriter M.sent) a) same by)
+          so : IsTold (IsPastWriter M.start M.sent) (let q = heard from a r d.intents t.coord in record { part = q.part; outs = q.outs })
+          so = hears_so P from a r d.intents t.coord its (λ st same. subst (ReplyIsBy (IsPastWriter M.start M.sent) a) same by)
+              (λ states same. subst (ReplyIsBy (IsPastWriter M.start M.sent) a) same by)
 
       acks : (w : Uid) →
-          Fine (IsPastWriter M.sent) (acked from w d.intents t.coord).outs × So (IsPastWriter M.sent) (acked from w d.intents t.coord).part
+          Fine (IsPastWriter M.start M.sent) (acked from w d.intents t.coord).outs × So (IsPastWriter M.start M.sent)
+          (acked from w d.intents t.coord).part
       acks w = let q = acked from w d.intents t.coord in let so = coords.acked_so P from w d.intents t.coord its in (
         coord_fine P P q.part so q.outs (acked_so from w d.intents t.coord) (well_acked begun paths tree from w d.intents t.coord).1
             (acked_own from w d.intents t.coord),
         so,
       )
 
-      answers_it : (w : Uid) → Fine (IsPastWriter M.sent) (answer_query from w d.intents t.coord)
+      answers_it : (w : Uid) → Fine (IsPastWriter M.start M.sent) (answer_query from w d.intents t.coord)
       answers_it w = coord_fine P P t.coord its (answer_query from w d.intents t.coord) (query_so t.coord from w d.intents t.coord)
           (true_query begun paths tree from w d.intents t.coord (tops_of_disk e k d t M (begun, good)) (own_of_disk e k d t M (begun, good))
           coord) (query_own from w d.intents t.coord)
 
-      f : Fine (IsPastWriter M.sent) outs × IsTold (IsPastWriter M.sent) (record { part = v.coord; outs = outs })
-      f = handled_by M.sent k d t from disk its m (λ w how i. (record { from = from; to = k; message = m }, there, how, i)) hears acks
+      f : Fine (IsPastWriter M.start M.sent) outs × IsTold (IsPastWriter M.start M.sent) (record { part = v.coord; outs = outs })
+      f = handled_by M.start M.sent k d t from disk its m (λ w how i. (
+        record { from = from; to = k; message = m },
+        there,
+        how,
+        i,
+      )) hears acks
           answers_it says.0 v outs is
 
   act_walk : (hd : Header) (i : Input) → is_act i ≡ true → refusal_up hd i t.coord ≡ None → Walks ArePastWriters e k
@@ -269,7 +281,7 @@ module _ (begun : List Action) (e k : ℕ) (d : Disk) (t : Parts) (M : Seen) (go
       let r = acts i d.intents t.coord in
       let u = its_up in
       let so = commits.acts_so P i d.intents t.coord its in
-      go (with_coord t r.part) r.outs so (coord_fine P (λ w. IsPastWriter M.sent w ⊎ TellsIn r.outs w) r.part so r.outs
+      go (with_coord t r.part) r.outs so (coord_fine P (λ w. IsPastWriter M.start M.sent w ⊎ TellsIn r.outs w) r.part so r.outs
       (acts_so begun paths tree t.coord coord u.numbered works i d.intents other)
       (well_acts begun paths tree d.intents t.coord coord works hd i free other).1 (acts_own i d.intents t.coord))
     where
@@ -300,19 +312,40 @@ fresh_by P k inc d = record { works = λ u q does. absurd (nothing u (is_own u (
     nothing u true (suc j) q is = cc is
     nothing u false j q is = cc is
 
-first_by : (hd : Header) → ArePastWriters (see [] (format hd))
-first_by hd = record {
-  nodes = λ k n is. subst (NodeIsBy (IsPastWriter [])) (first_at hd k n is) (record {
-    store = record { held = states (filter (λ (o : ObjectLine). has o.stores k) hd.objects) [] tt; pend = tt };
-    live = λ t its. subst (λ (z : Parts). So (IsPastWriter []) z.coord) (some_is its) (fresh_by (IsPastWriter []) k 1 (first_disk hd k));
+first_by : (hd : Header) → IsAtStarts hd ArePastWriters
+first_by hd st formed = record {
+  nodes = λ k n is. subst (NodeIsBy P) (first_at hd st k n is) (record {
+    store = record { held = states k; pend = tt };
+    live = λ t its. subst (λ (z : Parts). So P z.coord) (live_first hd st k t its) (fresh_by P k (st.incs k + 1) (disk_by hd st k));
   });
   posts = λ p none. absurd none;
 }
   where
-    states : (os : List ObjectLine) (held : List (Uid × ObjectState)) → Held (IsPastWriter []) held →
-        Held (IsPastWriter []) (put_states (map first_state os) held)
-    states [] held so = so
-    states (o ∷ os) held so = states os _ (put_so (IsPastWriter []) (first_state o) held (inl refl) so)
+    P : Uid → Type 0
+    P = IsPastWriter st []
+
+    puts : (ss : List ObjectState) (held : List (Uid × ObjectState)) → AllByRecursion (IsBy P) ss → Held P held →
+        Held P (put_states ss held)
+    puts [] held by so = so
+    puts (s ∷ ss) held by so = puts ss _ by.1 (put_so P s held by.0 so)
+
+    lines : (os : List ObjectLine) → AllByRecursion (IsBy P) (map (λ (o : ObjectLine). state_by (st.marks.states o.x) o) os)
+    lines [] = tt
+    lines (o ∷ os) = (inl (formed.states o.x), lines os)
+
+    older : (k : ℕ) (more : List (ℕ × ObjectState)) → AllByRecursion (IsOlder hd st) more → AllByRecursion (IsBy P) (older_at k more)
+    older k [] all = tt
+    older k (a ∷ more) all = by (a.0 == k) (older k more all.1)
+      where
+        by : (b : Bool) → AllByRecursion (IsBy P) (older_at k more) → AllByRecursion (IsBy P) (cond b (a.1 ∷ older_at k more)
+            (older_at k more))
+        by true rest = (inl (let o = all.0 in o.past), rest)
+        by false rest = rest
+
+    states : (k : ℕ) → Held P (let d = disk_by hd st k in let p = d.store in p.held)
+    states k = puts (states_from k hd st) [] (all_append (IsBy P) (older_at k st.older)
+        (map (λ (o : ObjectLine). state_by (st.marks.states o.x) o) (filter (λ (o : ObjectLine). has o.stores k) hd.objects))
+        (older k st.older formed.older) (lines (filter (λ (o : ObjectLine). has o.stores k) hd.objects))) tt
 
 pub writers_given : (hd : Header) → KeepsGiven hd IsGood ArePastWriters
 writers_given hd = record {
@@ -324,12 +357,13 @@ writers_given hd = record {
       let did = begin_action l how parent (parent_of parent t.coord) t.coord in
       let m = mine k d (Some t) M p in
       walk e k (with_coord t did.part) did.outs d (given l (record { node = k; serial = is_serial_kind how }) M) m.store (plainly
-      (IsPastWriter M.sent) did (begins_so (IsPastWriter M.sent) l how parent (parent_of parent t.coord) t.coord (m.live t refl)))
+      (IsPastWriter M.start M.sent) did (begins_so (IsPastWriter M.start M.sent) l how parent (parent_of parent t.coord) t.coord
+      (m.live t refl)))
       (tt, tt) (others k d (Some t) M p) p.posts;
   tick = λ e k d t M g p. tick_walk g.0 e k d t M g.1 p;
   restart = λ e k d M g p. let m = mine k d None M p in
-      walk e k (parts_in k (d.inc + 1) d) (restart_outs hd k (d.inc + 1) d) d M m.store (plainly (IsPastWriter M.sent)
-      (record { part = (parts_in k (d.inc + 1) d).coord; outs = restart_outs hd k (d.inc + 1) d }) (fresh_by (IsPastWriter M.sent) k
-      (d.inc + 1) d)) (restart_fine (IsPastWriter M.sent) hd k (d.inc + 1) d) (others k d None M p) p.posts;
+      walk e k (parts_in k (d.inc + 1) d) (restart_outs hd k (d.inc + 1) d) d M m.store (plainly (IsPastWriter M.start M.sent)
+      (record { part = (parts_in k (d.inc + 1) d).coord; outs = restart_outs hd k (d.inc + 1) d }) (fresh_by (IsPastWriter M.start M.sent) k
+      (d.inc + 1) d)) (restart_fine (IsPastWriter M.start M.sent) hd k (d.inc + 1) d) (others k d None M p) p.posts;
   first = first_by hd;
 }

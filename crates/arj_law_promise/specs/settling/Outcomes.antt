@@ -7,7 +7,7 @@ use Rattle.arj_journal.specs.declared.body.Body.TheVariants as body
 use Rattle.arj_journal.specs.declared.body.Line.{Line}
 use Rattle.arj_journal.specs.declared.body.Role.TheVariants as role
 use Rattle.arj_journal.specs.declared.header.Header.{Header}
-use Rattle.arj_promise.specs.Runs.{Move, journal_by}
+use Rattle.arj_promise.specs.Runs.{Run, journal_by}
 use Rattle.arj_model.specs.Outcome.{is_said, may_abort}
 use Rattle.arj_promise.specs.Outcome.{ShowsOneOutcome}
 
@@ -18,7 +18,7 @@ StoresHaveCauses lines = (before : List Line) (line : Line) (behind : List Line)
 
 -- so it is in every run
 abbrev pub StoresAbortByCauses : Type 0
-StoresAbortByCauses = (hd : Header) (ms : List Move) → StoresHaveCauses (journal_by hd ms)
+StoresAbortByCauses = (hd : Header) (r : Run hd) → StoresHaveCauses (journal_by hd r)
 
 -- naming aborts nothing that it prepared for an action that was decided before
 abbrev pub AbortsNoneDecided : List Line → Type 0
@@ -27,8 +27,8 @@ AbortsNoneDecided lines = (before : List Line) (line : Line) (behind : List Line
 
 -- so it is in every run
 abbrev pub NamingAbortsNoneDecided : Type 0
-NamingAbortsNoneDecided = (hd : Header) (ms : List Move) → AbortsNoneDecided (journal_by hd ms)
+NamingAbortsNoneDecided = (hd : Header) (r : Run hd) → AbortsNoneDecided (journal_by hd r)
 
 -- and each run shows one outcome of each top
 abbrev pub RunsShowOneOutcome : Type 0
-RunsShowOneOutcome = (hd : Header) (ms : List Move) → ShowsOneOutcome (journal_by hd ms)
+RunsShowOneOutcome = (hd : Header) (r : Run hd) → ShowsOneOutcome (journal_by hd r)

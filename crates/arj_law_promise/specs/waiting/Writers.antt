@@ -1,8 +1,8 @@
--- Who wrote the states that stores have: nobody, or a top whose end was told; but a state that an action has prepared, or asks a store to
--- prepare, the action may have written itself.
+-- Who wrote the states that stores have: one from before the run, or a top whose end was told; but a state that an action has prepared, or
+-- asks a store to prepare, the action may have written itself.
 use Rattle.std.specs.Prelude.{IfSome, List, Option, Some, None, false, ℕ, ⊤, ◌≡◌, ◌⊎◌, Contains}
 use Rattle.std.specs.List.{AllByRecursion}
-use Rattle.arj_protocol.specs.Words.{Ask, Asked, End, Head, Message, ObjectState, Uid, asks, nobody}
+use Rattle.arj_protocol.specs.Words.{Ask, Asked, End, Head, Message, ObjectState, Uid, asks}
 use Rattle.arj_protocol.specs.Words.ask
 use Rattle.arj_protocol.specs.Words.loaded
 use Rattle.arj_protocol.specs.Words.role
@@ -15,16 +15,19 @@ use Rattle.arj_protocol.specs.Node.{Parts}
 use Rattle.arj_protocol.specs.Step.{Node}
 use Rattle.arj_law_parts.specs.parts.Ends.{told_by}
 use Rattle.arj_law_runs.specs.kept.Worlds.{IsGood}
+use Rattle.arj_law_disk_view.specs.running.Places.{IsSince}
 use Rattle.arj_law_parts.specs.moves.Seen.{In}
+use Rattle.arj_model.specs.Start.{Start}
 use Rattle.arj_promise.specs.Runs.{Post, Seen}
+use Rattle.arj_promise.specs.Starts.{IsPast, next_inc}
 
 -- some node was told of its end
 abbrev pub HasToldEnd : List Post → Uid → Type 0
 HasToldEnd sent u = (p : Post) × In p sent × (e : End) × Contains (told_by p.message) (u, e)
 
--- the first writer, or one whose end was told
-abbrev pub IsPastWriter : List Post → Uid → Type 0
-IsPastWriter sent u = (u ≡ nobody) ⊎ HasToldEnd sent u
+-- one from before the run, or one whose end was told
+abbrev pub IsPastWriter : Start → List Post → Uid → Type 0
+IsPastWriter st sent u = IsPast st u ⊎ HasToldEnd sent u
 
 -- the state is by a writer of which this holds
 abbrev pub IsBy : (Uid → Type 0) → ObjectState → Type 0
@@ -110,9 +113,13 @@ EffectIsBy P _ = ⊤
 
 -- so it is of each node, and of each message that was sent
 pub record ArePastWriters (M : Seen) : Type 0 where
-  pub nodes : (k : ℕ) (n : Node) → M.nodes k ≡ Some n → NodeIsBy (IsPastWriter M.sent) n
-  pub posts : (p : Post) → In p M.sent → MessageIsBy (IsPastWriter M.sent) p.message
+  pub nodes : (k : ℕ) (n : Node) → M.nodes k ≡ Some n → NodeIsBy (IsPastWriter M.start M.sent) n
+  pub posts : (p : Post) → In p M.sent → MessageIsBy (IsPastWriter M.start M.sent) p.message
+
+-- No node that is up has an incarnation from before the run.
+abbrev pub AreSince : Seen → Type 0
+AreSince M = (k : ℕ) (n : Node) → M.nodes k ≡ Some n → IsSince (next_inc M.start k) (let d = n.disk in d.inc) n.live
 
 -- beside good nodes
 abbrev pub WritersArePast : Seen → Type 0
-WritersArePast M = IsGood M × ArePastWriters M
+WritersArePast M = (IsGood M × AreSince M) × ArePastWriters M

@@ -1,21 +1,22 @@
 -- In every run coordinators know what their calls stand on, and each answer to a Bind is one to it.
 use Rattle.arj_law_parts.proofs.Words
-use Words.{◌≡◌, ◌≢◌, ◌⊎◌, ◌≤◌, ◌<◌, ◌+◌, ◌==◌, ◌&&◌, ℕ, zero, suc, List, [], ◌∷◌, ◌++◌, Bool, true, false, cond, length, map, slice_get}
+use Words.{◌≡◌, ◌≢◌, ◌⊎◌, ◌≤◌, ◌<◌, ◌+◌, ◌==◌, ◌&&◌, ℕ, zero, suc, List, [], ◌∷◌, ◌++◌, Bool, true, false, cond, length, map}
 use Words.{Option, Some, None, refl, sym, ◌∙◌, ap, subst, inl, inr, ⊎_elim, arith, eqb-true, and_parts, Uid, Asked, Binding, Body}
 use Words.{BoundReply, Head, Header, Kind, Label, Message, asks, is_on, uids_of, Reply, actor, answers, ask_kind, reply_kind, again_all}
 use Words.{begin_action, heard, At, AtActivate, AtBind, AtInvoke, AtLoad, AtNote, Goal, Include, Run, is_include, next_ask, next_node}
 use Words.{back_lines, Coord, Doing, doing_of, root_at, Disk, Do, Effect, Intent, Look, PutInc, Say, Send, stopped, worked, acked, tell}
 use Words.{tell_all, tick_outs, Named, Naming, Parts, Took, handle, holders, prepared_actions, query_about, with_coord, uid_set}
-use Words.{without_number, Input, Node, acts, branch_named, commit_reasons, first_disk, first_node, hello_to, naming_at, naming_back}
+use Words.{without_number, Input, Node, acts, branch_named, commit_reasons, hello_to, naming_at, naming_back}
 use Words.{numbers_to, parent_of, parts_in, recovered_records, refusal_up, refused_by, restart_outs, tolds_again, Branch, at_place, is_own}
-use Words.{new_tree, root_of, Labelled, format, is_serial_kind, Post, Seen, see}
+use Words.{new_tree, root_of, Labelled, is_serial_kind, Post, Seen}
 use Words.ask
 use Words.body
 use Words.bound
 use Words.ending
 use Words.input
 use Rattle.arj_law_runs.proofs.Terms
-use Terms.{Action, paths_of, IsGoodCoord, IsTree, Paths, IsNumbered, begun_tree, on_own, path_found, named_found, off, doing_by, all_flat}
+use Terms.{IsAtStarts, disk_by, Action, paths_of, IsGoodCoord, IsTree, Paths, IsNumbered, begun_tree, on_own, path_found, named_found, off}
+use Terms.{doing_by, all_flat}
 use Terms.{all_map, true_on, true_query, true_records, well_acked, well_acts, well_again, well_heard, IsGood, IsGoodOf, IsUp, Keeps, is_act}
 use Terms.{In, at, down, given, posted, said, up, Up, Walks, walks_both, Answers, AnswersAt, AnswersWaiting, IsAnswerOf, KeepsCalled}
 use Terms.{KnowsBinds}
@@ -27,7 +28,7 @@ use Rattle.arj_law_runs.proofs.calls
 use calls.{WorldVotes.fits_asked}
 use calls.CoordOuts.{acked_so, acts_so, again_so, heard_so, tolds_so}
 use Rattle.arj_law_runs.proofs.kept
-use kept.{AllRuns.all_keep, Walked.other_number, Walked.same_number}
+use kept.{AllRuns.all_keep, Starts.first_up, Walked.other_number, Walked.same_number}
 use kept.Handled.{counted_of, own_of_disk, tops_of_disk}
 use Rattle.arj_law_runs.specs.addresses.Binds.{BindsAreKnown, IsAsked, IsReply}
 
@@ -364,21 +365,12 @@ module _ (begun : List Action) (hd : Header) (e k : ℕ) (d : Disk) (M : Seen) (
   restart_binds = binds_walk e k M.sent v (restart_outs hd k (d.inc + 1) d) d M (λ p i. i) fine_new (around k d None M all)
       (new_binds M.sent k k (d.inc + 1) d fresh)
 
-first_binds : (hd : Header) → BindsAreKnown (see [] (format hd))
-first_binds hd = record { nodes = nodes; replies = λ p there. absurd there }
-  where
-    got : (ms : List ℕ) (i : ℕ) (n : Node) → slice_get (map (first_node hd) ms) i ≡ Some n → (a : ℕ) × (first_node hd a ≡ n)
-    got [] i n is = let no_way : ◌≡◌ {A = Option Node} None (Some n) = is in absurd (cc no_way)
-    got (m ∷ ms) zero n is = (m, some_is is)
-    got (m ∷ ms) (suc i) n is = got ms i n is
-
-    nodes : (j : ℕ) (n : Node) (t : Parts) → at_place j (map (first_node hd) (numbers_to hd.nodes)) ≡ Some n → n.live ≡ Some t →
-        KnowsBinds [] j t.coord
-    nodes zero n t is live = let no_way : ◌≡◌ {A = Option Node} None (Some n) = is in absurd (cc no_way)
-    nodes (suc j) n t is live =
-        let a = got (numbers_to hd.nodes) j n is in
-        subst (λ (z : Parts). KnowsBinds [] (suc j) z.coord) (some_is (ap (λ (z : Node). z.live) a.1 ∙ live))
-        (new_binds [] (suc j) a.0 1 (first_disk hd a.0) (λ p h x include avoid there. absurd there))
+first_binds : (hd : Header) → IsAtStarts hd BindsAreKnown
+first_binds hd st formed = record {
+  nodes = λ j n t is live. subst (λ (z : Parts). KnowsBinds [] j z.coord) (first_up hd st j n t is live)
+      (new_binds [] j j (st.incs j + 1) (disk_by hd st j) (λ p h x include avoid there. absurd there));
+  replies = λ p there. absurd there;
+}
 
 -- ---- all runs
 
@@ -404,7 +396,7 @@ binds_keep hd = record {
       (again_all t.coord.doings t.coord).part) d M (good.tick e k d t M p.0) (let h = p.0 in tick_binds h.0 e k d t M h.1 p.1);
   restart = λ e k d M p. both e k (restart_outs hd k (d.inc + 1) d) (parts_in k (d.inc + 1) d) d M (good.restart e k d M p.0)
       (let h = p.0 in restart_binds h.0 hd e k d M h.1 p.1);
-  first = (good.first, first_binds hd);
+  first = λ st formed. (good.first st formed, first_binds hd st formed);
 }
   where
     good : Keeps hd IsGood

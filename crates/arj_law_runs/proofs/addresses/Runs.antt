@@ -3,12 +3,13 @@ use Rattle.arj_law_parts.proofs.Words
 use Words.{◌≡◌, ◌∙◌, ◌≤◌, ◌+◌, ◌==◌, ◌&&◌, ℕ, zero, suc, Bool, true, false, cond, List, [], ◌∷◌, length, map, refl, sym, subst, arith}
 use Words.{⊎_elim, Option, Some, None, IfSome, if◌then◌else◌, nat_le, slice_get, AllByRecursion, list_all, and_parts, leb-true, nat_tests}
 use Words.{Header, Message, ObjectLine, ObjectState, Uid, again_all, begin_action, Coord, Disk, Do, Effect, Say, Send, stopped, worked}
-use Words.{tick_outs, Parts, with_coord, put_uid, Input, Node, acts, entries_at, first_disk, first_entry, first_node, numbers_to, parent_of}
-use Words.{parts_in, put_states, refusal_up, restart_outs, Frame, World, format, is_serial_kind, run_event, entry_back, Move, world_by}
-use Words.{Post, Seen, see}
+use Words.{tick_outs, Parts, with_coord, put_uid, Input, Node, acts, node_by, numbers_to, parent_of}
+use Words.{parts_in, put_states, refusal_up, restart_outs, Frame, World, world_from, is_serial_kind, run_event, entry_back, world_by}
+use Words.{IsFormed, Post, Seen, Start, see}
 use Words.input
 use Rattle.arj_law_runs.proofs.Terms
-use Terms.{Asked, HasPlace, Holds, IsSent, KeepsAsked, is_act, In, at, given, posted, said, up, Up, Walks, event_asked, keeps_asked}
+use Terms.{IsAtStarts, Run, disk_by, entries_from, entry_by, Asked, HasPlace, Holds, IsSent, KeepsAsked, is_act, In, at, given, posted}
+use Terms.{said, up, Up, Walks, event_asked, keeps_asked}
 use Terms.{moves_asked, walks_both, AllOf, AreOf, CoordOf, DiskOf, EntryOf, IsEntry, PartsOf, StateOf}
 use Rattle.arj_journal.specs.ScriptForm.{HeaderInForm, ObjectLineInForm}
 use Rattle.arj_journal.specs.declared.limits.TheConstants.{SERVERS, STORES}
@@ -18,7 +19,8 @@ use Rattle.arj_law_runs.proofs.addresses
 use addresses.{Coords.Needs, Coords.acts_of, Coords.begin_of, Lists.all_append, Lists.all_key, Lists.all_map}
 use addresses.BindRuns.{AreBound, answers_fit, binds_keep, commit_keeps}
 use addresses.Nodes.{handled_of, parts_stay, restart_of, starts_of, stopped_of, tick_of, worked_of}
-use Rattle.arj_law_runs.specs.addresses.Addresses.{AreAddressed, AreSo, GoWithin, IsNode, LineOf, NodeOf, PostOf}
+use Rattle.arj_law_runs.specs.addresses.Addresses.{AreAddressed, AreSo, GoWithin, IsNode, LineOf, NodeOf, PostOf, UpOf}
+use Rattle.arj_model.specs.Start.{Marks}
 use Rattle.arj_text.specs.Fields.{NodesInForm, is_distinct}
 
 module _ (G : ℕ → Type 0) where
@@ -98,32 +100,44 @@ module _ (G : ℕ → Type 0) where
       states [] held all had = had
       states (s ∷ ss) held all had = states ss (put_uid s.uid s held) all.1 (all_key IsEntry (StateOf G) s.uid s held all.0.0 all.0 had)
 
-      entries : (b : Bool) → AllByRecursion (StateOf G) (if b then map first_entry hd.objects else [])
-      entries true = all_map (LineOf G) (StateOf G) first_entry hd.objects
+      entries : (marks : Marks) (b : Bool) →
+          AllByRecursion (StateOf G) (if b then map (λ (o : ObjectLine). entry_by (marks.entries o.x) o) hd.objects else [])
+      entries marks true = all_map (LineOf G) (StateOf G) (λ (o : ObjectLine). entry_by (marks.entries o.x) o) hd.objects
           (λ o l. (
             refl,
             subst (EntryOf G) (sym (entry_back (record { servers = o.servers; stores = o.stores })))
                 (record { servers = l.0; stores = l.1; some = l.2 }),
           )) objects
-      entries false = tt
+      entries marks false = tt
 
-      disk_of : (k : ℕ) → DiskOf G (first_disk hd k)
-      disk_of k = record { store = tt; names = tt; held = states (entries_at k hd) [] (entries (k == 1)) tt; intents = tt }
+      module _ (st : Start) where
+        disk_of : (k : ℕ) → DiskOf G (disk_by hd st k)
+        disk_of k = record {
+          store = tt;
+          names = tt;
+          held = states (entries_from k hd st.marks) [] (entries st.marks (k == 1)) tt;
+          intents = tt;
+        }
 
-      first_of : (k : ℕ) → G k → Is (first_node hd k)
-      first_of k its = (its, disk_of k, starts_of G one k 1 (first_disk hd k) its (disk_of k))
+        first_of : (k : ℕ) → G k → Is (node_by hd st k)
+        first_of k its = (its, disk_of k, live (st.up k))
+          where
+            live : (b : Bool) →
+                UpOf G (disk_by hd st k) (if b then Some (parts_in k (st.incs k + 1) (disk_by hd st k)) else None)
+            live true = starts_of G one k (st.incs k + 1) (disk_by hd st k) its (disk_of k)
+            live false = tt
 
-      first_at : (ns : List ℕ) (i : ℕ) (n : Node) → AreOf G ns → slice_get (map (first_node hd) ns) i ≡ Some n → Is n
-      first_at [] i n all is = absurd (cc is)
-      first_at (m ∷ ms) zero n all is = let same : first_node hd m ≡ n = cc is in subst Is same (first_of m all.0)
-      first_at (m ∷ ms) (suc i) n all is = first_at ms i n all.1 is
+        first_at : (ns : List ℕ) (i : ℕ) (n : Node) → AreOf G ns → slice_get (map (node_by hd st) ns) i ≡ Some n → Is n
+        first_at [] i n all is = absurd (cc is)
+        first_at (m ∷ ms) zero n all is = let same : node_by hd st m ≡ n = cc is in subst Is same (first_of m all.0)
+        first_at (m ∷ ms) (suc i) n all is = first_at ms i n all.1 is
 
-      first_so : All (see [] (format hd))
-      first_so = (λ j n is. at_first j n is, λ p no_way. absurd no_way)
+      first_so : IsAtStarts hd All
+      first_so st formed = (λ j n is. at_first j n is, λ p no_way. absurd no_way)
         where
-          at_first : (j : ℕ) (n : Node) → (let M = see [] (format hd) in M.nodes j) ≡ Some n → Is n
+          at_first : (j : ℕ) (n : Node) → (let M = see [] (world_from hd st) in M.nodes j) ≡ Some n → Is n
           at_first zero n is = absurd (cc is)
-          at_first (suc j) n is = first_at (numbers_to hd.nodes) j n numbers is
+          at_first (suc j) n is = first_at st (numbers_to hd.nodes) j n numbers is
 
       -- ---- handlers
 
@@ -189,14 +203,14 @@ module _ (G : ℕ → Type 0) where
             both e k (restart_outs hd k (d.inc + 1) d) (parts_in k (d.inc + 1) d) d M (base.restart e k d M all.0)
             (walk e k (restart_outs hd k (d.inc + 1) d) (parts_in k (d.inc + 1) d) d M n.0 n.1 (starts_of G one k (d.inc + 1) d n.0 n.1)
             (restart_of G one hd k d numbers n.1) (rest k d None M all.1));
-        first = (base.first, first_so);
+        first = λ st formed. (base.first st formed, first_so st formed);
       }
         where
           with_it : (d : Disk) (t : Parts) (c : Coord) → PartsOf G d t → CoordOf G c → PartsOf G d (with_coord t c)
           with_it d t c its k = record { server = its.server; naming = its.naming; coord = k }
 
-      pub runs_so : (ms : List Move) → Holds hd All (world_by hd ms)
-      runs_so ms = let h = moves_asked hd Whole so_kept ms in
+      pub runs_so : (r : Run hd) → Holds hd All (world_by hd r)
+      runs_so r = let h = moves_asked hd Whole so_kept r in
           record { sent = h.sent; stands = h.stands; holds = let all = h.holds in all.1 }
 
 -- ---- the numbers up to the header's
@@ -244,11 +258,11 @@ module _ (hd : Header) (form : HeaderInForm hd) where
   pub kept : KeepsAsked hd (AreAddressed hd)
   kept = so_kept Fits fits_one hd (λ s is. is) (lines hd.objects form.objects.0)
 
-  pub first_within : Holds hd (AreAddressed hd) (format hd)
-  first_within = first_asked hd (AreAddressed hd) kept
+  pub first_within : (st : Start) → IsFormed hd st → Holds hd (AreAddressed hd) (world_from hd st)
+  first_within st formed = first_asked hd st (AreAddressed hd) formed kept
 
   pub event_within : (e : Asked) (w : World) → Holds hd (AreAddressed hd) w → Holds hd (AreAddressed hd) (run_event e w)
   event_within e w h = event_asked hd (AreAddressed hd) kept e w h
 
-  pub within : (ms : List Move) → GoWithin hd.nodes (world_by hd ms)
-  within ms = within_of (world_by hd ms) (moves_asked hd (AreAddressed hd) kept ms)
+  pub within : (r : Run hd) → GoWithin hd.nodes (world_by hd r)
+  within r = within_of (world_by hd r) (moves_asked hd (AreAddressed hd) kept r)

@@ -14,7 +14,7 @@ use Rattle.arj_law_runs.proofs.Terms
 use Terms.{Keeps, is_act, label_at, at, given, posted, said, up, Up, Walks, halted, same_acked, same_acts, same_again, same_heard}
 use Rattle.arj_law_parts.proofs.steps.CoordNames.{SameNames}
 use Rattle.arj_law_runs.proofs.calls.ServerCalls.{never, some_is}
-use Rattle.arj_law_runs.proofs.kept.{Starts.first_at, Walked.other_number, Walked.same_number}
+use Rattle.arj_law_runs.proofs.kept.{Starts.first_up, Walked.other_number, Walked.same_number}
 
 none_is : {A : Type 0} {x : A} → None ≡ Some x → ⊥
 none_is {A} {x} is = let no_way : ◌≡◌ {A = Option A} None (Some x) = is in cc
@@ -211,5 +211,5 @@ labels_go hd = record {
       d M s (as_many t.coord (again_all t.coord.doings t.coord).part (same_again t.coord.doings t.coord));
   restart = λ e k d M s. labels_walk k e (parts_in k (d.inc + 1) d) (restart_outs hd k (d.inc + 1) d) d M (others_of k d None M s)
       (none_at_first (length M.labels));
-  first = λ j n is t live. subst (λ z. at_work z ≤ 0) (some_is (ap (λ (z : Node). z.live) (first_at hd j n is) ∙ live)) (none_at_first 0);
+  first = λ st formed j n is t live. subst (λ z. at_work z ≤ 0) (first_up hd st j n t is live) (none_at_first 0);
 }

@@ -3,11 +3,11 @@ use Rattle.arj_law_parts.proofs.Words
 use Words.{◌≡◌, ◌≤◌, ◌<◌, ◌==◌, ◌+◌, ◌*◌, ℕ, zero, suc, Bool, true, false, not, cond, List, [], ◌∷◌, ◌++◌, length, Option, Some, None, refl}
 use Words.{sym, ◌∙◌, ap, subst, arith, nat_le, nat_lt, slice_set, ◌||◌, insert_entry, match_ordering, Ordering, Less, Equal, Greater}
 use Words.{length-append, Body, Event, Header, Label, label_cmp, Parts, Input, Node, first_reason, numbers_to, at_place, set_place, Arm}
-use Words.{Frame, Giving, Labelled, World, armed, as_delivered, as_lost, begins, change_frame, counted, deliver, deliver_frame, format}
+use Words.{Frame, Giving, Labelled, World, armed, as_delivered, as_lost, begins, change_frame, counted, deliver, deliver_frame, world_from}
 use Words.{frame_number, giving, happens, is_open_frame, is_quiet, is_serial_kind, is_up_at, junk, junk_fits, kind_below, labels_unless}
 use Words.{lacks_labels, limited, lose, lose_frame, lowest, lowest_from, most_frames, most_labels, new_frame, no_labels, node_numbers}
 use Words.{node_of, numbered, quiesce, quiet_line, reasons, refused_at, run_event, run_unless, settle, settle_for, show_all, show_up, steps}
-use Words.{tick_all, tick_up, Move, all_moved, as_moves, moved, world_by, most_events}
+use Words.{Start, IsFormed, tick_all, tick_up, Move, all_moved, as_moves, moved, world_by, most_events}
 use Words.body
 use Words.event
 use Words.kind
@@ -15,7 +15,7 @@ use Words.frame
 use Words.input
 use Rattle.arj_law_runs.proofs.Terms
 use Terms.{Asked, says, length_marked, steps_add, Holds, KeepsAsked, arms_hold, deliver_holds, keeps_asked, steps_hold, move_asked}
-use Terms.{bindings_made, IsReached}
+use Terms.{Run, bindings_made, IsReached}
 use Terms.which
 use Rattle.arj_law_parts.proofs.moves.Happens.{first_holds}
 use Rattle.arj_law_parts.proofs.steps.{Frames.over, Frames.over_few, Frames.over_more, Settled.uses_up}
@@ -705,25 +705,25 @@ module _ (hd : Header) where
       one_move : (k : ℕ) → most_labels + k * most_labels ≤ suc k * most_labels
       one_move k = omega arith
 
-  first_fits : Fits (format hd)
-  first_fits = (first_holds hd HaveLabels (labels_go hd), omega arith)
+  first_fits : (st : Start) → IsFormed hd st → Fits (world_from hd st)
+  first_fits st formed = (first_holds hd st HaveLabels formed (labels_go hd), omega arith)
 
 -- no more labels are given than there may be
-pub moves_labels : (hd : Header) (ms : List Move) → length (let w = world_by hd ms in w.labels) ≤ most_labels
-moves_labels hd ms = let g = all_grew hd ms (format hd) (first_fits hd) in g.1
+pub moves_labels : (hd : Header) (r : Run hd) → length (let w = world_by hd r in w.labels) ≤ most_labels
+moves_labels hd r = let g = all_grew hd r.moves (world_from hd r.start) (first_fits hd r.start r.formed) in g.1
 
 pub moves_few : MovesMakeFew
-moves_few hd ms short =
-    let w = world_by hd ms in
-    let g = all_grew hd ms (format hd) (first_fits hd) in
-    few (length ms) (made w) (over w.frames) (length w.frames) short g.0.lines (over_few w.frames) (g.0.few (omega arith))
+moves_few hd r short =
+    let w = world_by hd r in
+    let g = all_grew hd r.moves (world_from hd r.start) (first_fits hd r.start r.formed) in
+    few (length r.moves) (made w) (over w.frames) (length w.frames) short g.0.lines (over_few w.frames) (g.0.few (omega arith))
   where
     few : (k m o f : ℕ) → k ≤ most_events → m + 0 ≤ 0 + o + k * most_labels → o ≤ f → f ≤ most_frames → m < 4294967295
     few k m o f short sum less fit = omega (arith, short, sum, less, fit)
 
 -- so what moves come to is reached
-pub moves_reached : (hd : Header) (ms : List Move) → length ms ≤ most_events → IsReached hd (world_by hd ms)
-moves_reached hd ms short = record { keeping = moves_keep hd ms; few = moves_few hd ms short; labels = moves_labels hd ms }
+pub moves_reached : (hd : Header) (r : Run hd) → length r.moves ≤ most_events → IsReached hd (world_by hd r)
+moves_reached hd r short = record { keeping = moves_keep hd r; few = moves_few hd r short; labels = moves_labels hd r }
 
 -- ---- scripts
 

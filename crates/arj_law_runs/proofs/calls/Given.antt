@@ -2,10 +2,11 @@
 use Rattle.arj_law_parts.proofs.Words
 use Words.{◌≡◌, ℕ, ◌+◌, List, [], ◌∷◌, ◌++◌, true, Option, Some, None, Body, Header, Kind, Label, Line, Message, again_all, begin_action}
 use Words.{Disk, Do, Effect, Say, Send, worked, tick_outs, Parts, Took, handle, is_meant, with_coord, Input, acts, begin_refusal, parent_of}
-use Words.{parts_in, refusal_up, restart_outs, format, is_serial_kind, numbered, Seen, see}
+use Words.{parts_in, refusal_up, restart_outs, is_serial_kind, numbered, Seen}
 use Words.body
 use Rattle.arj_law_runs.proofs.Terms
-use Terms.{DidKeeps, Keeps, MayGive, is_act, label_at, AreQuiet, In, at, down, given, posted, said, up, Up, Walks, halted, walks_both}
+use Terms.{DidKeeps, IsAtStarts, Keeps, MayGive, is_act, label_at, AreQuiet, In, at, down, given, posted, said, up, Up, Walks, halted}
+use Terms.{walks_both}
 
 -- It is kept by each handler before which the other holds, and it holds at first.
 pub record KeepsGiven (hd : Header) (G P : Seen → Type 0) : Type 0 where
@@ -25,7 +26,7 @@ pub record KeepsGiven (hd : Header) (G P : Seen → Type 0) : Type 0 where
       (Up P k (with_coord t (again_all t.coord.doings t.coord).part)) d M
   pub restart : (e k : ℕ) (d : Disk) (M : Seen) → G (down k d M) → P (down k d M) →
       Walks P e k (restart_outs hd k (d.inc + 1) d) (Up P k (parts_in k (d.inc + 1) d)) d M
-  pub first : P (see [] (format hd))
+  pub first : IsAtStarts hd P
 
 -- ---- two of them
 
@@ -51,7 +52,7 @@ both_given hd G P Q one two = record {
       (with_coord t (again_all t.coord.doings t.coord).part) d M (one.tick e k d t M (g, p.1) p.0) (two.tick e k d t M (g, p.0) p.1);
   restart = λ e k d M g p. both_walk P Q e k (restart_outs hd k (d.inc + 1) d) (parts_in k (d.inc + 1) d) d M
       (one.restart e k d M (g, p.1) p.0) (two.restart e k d M (g, p.0) p.1);
-  first = (one.first, two.first);
+  first = λ st formed. (one.first st formed, two.first st formed);
 }
 
 -- with what is kept everywhere
@@ -71,7 +72,7 @@ kept_both hd G P one two = record {
       (with_coord t (again_all t.coord.doings t.coord).part) d M (one.tick e k d t M p.0) (two.tick e k d t M p.0 p.1);
   restart = λ e k d M p. both_walk G P e k (restart_outs hd k (d.inc + 1) d) (parts_in k (d.inc + 1) d) d M (one.restart e k d M p.0)
       (two.restart e k d M p.0 p.1);
-  first = (one.first, two.first);
+  first = λ st formed. (one.first st formed, two.first st formed);
 }
 
 -- what is kept everywhere is kept there
@@ -132,5 +133,5 @@ module _ (S : List Line → Type 0) (before : (lines more : List Line) → S (li
         (with_coord t (again_all t.coord.doings t.coord).part) d M (λ s. kept.tick e k d t M (g, s) (p s));
     restart = λ e k d M g p.
         while_walk e k (restart_outs hd k (d.inc + 1) d) (parts_in k (d.inc + 1) d) d M (λ s. kept.restart e k d M (g, s) (p s));
-    first = λ s. kept.first;
+    first = λ st formed s. kept.first st formed;
   }

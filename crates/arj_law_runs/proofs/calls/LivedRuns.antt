@@ -6,15 +6,16 @@ use Words.{asks, object, Reply, actor, answers, ask_kind, reply_kind, again_all,
 use Words.{next_node, Coord, Doing, doing_of, After, Before, Did, Disk, Do, Effect, InPart, Intent, Look, PutInc, Say, Stop, stopped, tell}
 use Words.{tell_all, tick_outs, Named, next_server, Naming, listed_entry, Handled, Parts, Took, answer_is_meant, asked_is_meant, handle}
 use Words.{holders, is_loaded_for, is_loaded_in, is_meant, prepared_actions, query_about, reply_is_meant, with_coord, is_own, at_number}
-use Words.{binding_number, uid_set, without_number, Input, Node, acts, first_disk, hello_to, naming_at, naming_back, numbers_to, parent_of}
-use Words.{parts_in, recovered_records, refusal_up, restart_outs, tolds_again, Labelled, format, is_serial_kind, Seen, see}
+use Words.{binding_number, uid_set, without_number, Input, Node, acts, hello_to, naming_at, naming_back, numbers_to, parent_of}
+use Words.{parts_in, recovered_records, refusal_up, restart_outs, tolds_again, Labelled, is_serial_kind, Seen}
 use Words.ask
 use Words.body
 use Words.ending
 use Words.loaded
 use Words.input
 use Rattle.arj_law_runs.proofs.Terms
-use Terms.{paths_of, AreTrue, GoesOn, AreOfInc, IsOfInc, IsTrulyHandled, Paths, FitsCall, Homes, IsNamingSo, IsPastZero, NamesReply, Reach}
+use Terms.{IsAtStarts, disk_by, paths_of, AreTrue, GoesOn, AreOfInc, IsOfInc, IsTrulyHandled, Paths, FitsCall, Homes, IsNamingSo}
+use Terms.{IsPastZero, NamesReply, Reach}
 use Terms.{IsNumbered, begun_tree, path_found, doing_by, all_both, all_flat, all_map, restart_of, true_inc, truly_handled, true_on}
 use Terms.{true_query, true_records, well_acked, well_acts, well_again, well_heard, IsGood, DidKeeps, is_act, In, at, down, said, up, Up}
 use Terms.{Walks, halted, walks_to, IsOfStep, KnowsCalls, bare, AreApart, AreBelow, CountFits, Gifts, HasGiven, HasServers, IsHome}
@@ -25,7 +26,8 @@ use parts.{LivesNamed.recovered_so}
 use parts.LivesCoords.{know_acts, know_again, know_new}
 use Rattle.arj_law_parts.specs.parts.Lives.{IsOfObject}
 use Rattle.arj_law_runs.proofs.{calls.CoordOuts.quiet_again, calls.Given.KeepsGiven, calls.WorldWalks.around_of, calls.WorldWalks.own_of}
-use Rattle.arj_law_runs.proofs.{kept.Starts.first_at, kept.Walked.other_number, kept.Walked.same_number}
+use Rattle.arj_law_runs.proofs.{kept.Starts.first_at, kept.Starts.first_up, kept.Starts.live_first, kept.Walked.other_number}
+use Rattle.arj_law_runs.proofs.{kept.Walked.same_number}
 use Rattle.arj_law_runs.proofs.calls.LivedCounts.{Grows, GrowsBy, message_grows}
 use Rattle.arj_law_runs.proofs.calls.LivedMessages.{Binds, By, asks_sent, coord_sent, message_lived, quiet_sent, sent_both}
 use Rattle.arj_law_runs.proofs.calls.LivedWalks.{AllSent, AreGivenOff, AreLivedOff, IsNumberedSo, NamesSent, PassesOff, all_lived}
@@ -495,37 +497,41 @@ module _ (hd : Header) (e k : ℕ) (d : Disk) (M : Seen) (given : Gifts) (l : Li
 
 -- ---- at first
 
-first_lives : (hd : Header) → LivesWith [] (see [] (format hd))
-first_lives hd = record {
+first_lives : (hd : Header) → IsAtStarts hd (LivesWith [])
+first_lives hd st formed = record {
   apart = tt;
-  places = λ j n is. subst (HasGiven [] j) (first_at hd j n is)
-      (record { first = one; low = λ one. tt; naming = λ t o up its. numbers j o (ap (λ (z : Parts). z.naming) (some_is up) ∙ its) });
+  places = λ j n is. subst (HasGiven [] j) (first_at hd st j n is) (record {
+    first = raised (st.incs j);
+    low = λ one. tt;
+    naming = λ t o up its. numbers j o (ap (λ (z : Parts). z.naming) (live_first hd st j t up) ∙ its);
+  });
   lived = λ home reach h pass. record {
     sent = λ p there. absurd there;
-    nodes = λ j n is t up. subst (HasServers home reach) (some_is (ap (λ (z : Node). z.live) (first_at hd j n is) ∙ up))
-        (servers home reach h.nobody pass.zero j);
+    nodes = λ j n is t up. subst (HasServers home reach) (first_up hd st j n t is up) (servers home reach h.nobody pass.zero j);
   };
 }
   where
-    one : 0 < 1
-    one = omega arith
+    raised : (n : ℕ) → 0 < n + 1
+    raised n = omega arith
 
-    numbers : (j : ℕ) (o : Naming) → naming_at j 1 (let d = first_disk hd j in d.names) ≡ Some o →
-        (j ≡ 1) × (o.inc ≡ 1) × AreBelow (binding_number (record { inc = o.inc; count = o.count + 1 })) []
+    numbers : (j : ℕ) (o : Naming) → naming_at j (st.incs j + 1) (let d = disk_by hd st j in d.names) ≡ Some o →
+        (j ≡ 1) × (o.inc ≡ st.incs j + 1) × AreBelow (binding_number (record { inc = o.inc; count = o.count + 1 })) []
     numbers j o = by (j == 1) refl
       where
-        by : (b : Bool) → (j == 1) ≡ b → cond b (Some (recovered_naming 1 (let d = first_disk hd j in d.names))) None ≡ Some o →
-            (j ≡ 1) × (o.inc ≡ 1) × AreBelow (binding_number (record { inc = o.inc; count = o.count + 1 })) []
+        by : (b : Bool) → (j == 1) ≡ b →
+            cond b (Some (recovered_naming (st.incs j + 1) (let d = disk_by hd st j in d.names))) None ≡ Some o →
+            (j ≡ 1) × (o.inc ≡ st.incs j + 1) × AreBelow (binding_number (record { inc = o.inc; count = o.count + 1 })) []
         by true at_one is = (eqb-true j 1 at_one, ap (λ (z : Naming). z.inc) (sym (some_is is)), tt)
         by false off is = absurd (none_is is)
 
     servers : (home : Homes) (reach : Reach) → home 0 ≡ 0 → IsPastZero reach → (j : ℕ) →
-        HasServers home reach (parts_in j 1 (first_disk hd j))
-    servers home reach nobody early j = (know_new home reach nobody early j 1 [], λ o. by (j == 1) o)
+        HasServers home reach (parts_in j (st.incs j + 1) (disk_by hd st j))
+    servers home reach nobody early j = (know_new home reach nobody early j (st.incs j + 1) [], λ o. by (j == 1) o)
       where
-        by : (b : Bool) (o : Naming) → cond b (Some (recovered_naming 1 (let d = first_disk hd j in d.names))) None ≡ Some o →
+        by : (b : Bool) (o : Naming) → cond b (Some (recovered_naming (st.incs j + 1) (let d = disk_by hd st j in d.names))) None ≡ Some o →
             IsNamingSo home reach o
-        by true o is = subst (IsNamingSo home reach) (some_is is) (recovered_so home reach 1 (let d = first_disk hd j in d.names))
+        by true o is =
+            subst (IsNamingSo home reach) (some_is is) (recovered_so home reach (st.incs j + 1) (let d = disk_by hd st j in d.names))
         by false o is = absurd (none_is is)
 
 -- ---- all runs
@@ -574,5 +580,5 @@ module _ (hd : Header) (G : Seen → Type 0) (good : (M : Seen) → G M → IsGo
         (with_coord t (again_all t.coord.doings t.coord).part) d M (tick_lives e k d t M (good (up k d t M) g) p.0 p.1);
     restart =
         λ e k d M g p. some p.0 e k (restart_outs hd k (d.inc + 1) d) (parts_in k (d.inc + 1) d) d M (restart_lives hd e k d M p.0 p.1);
-    first = ([], first_lives hd);
+    first = λ st formed. ([], first_lives hd st formed);
   }

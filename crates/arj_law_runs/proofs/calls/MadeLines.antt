@@ -2,14 +2,14 @@
 use Rattle.arj_law_parts.proofs.Words
 use Words.{◌≡◌, ◌≤◌, ◌==◌, ◌+◌, ℕ, List, [], ◌∷◌, ◌++◌, Bool, true, false, cond, Option, Some, None, refl, sym, ◌∙◌, ap, subst, arith, Body}
 use Words.{Header, Line, Message, again_all, begin_action, recovered_naming, Disk, Do, Effect, Say, Send, stopped, worked, tick_outs}
-use Words.{Naming, Parts, Took, handle, with_coord, Node, acts, first_disk, naming_at, parent_of, parts_in, restart_outs, is_serial_kind}
+use Words.{Naming, Parts, Took, handle, with_coord, Node, acts, naming_at, parent_of, parts_in, restart_outs, is_serial_kind}
 use Words.{numbered, Seen}
 use Words.body
-use Rattle.arj_law_runs.proofs.Terms.{Keeps, at, down, given, posted, said, up, Up, Walks, halted, bindings_made, bound_by}
+use Rattle.arj_law_runs.proofs.Terms.{disk_by, Keeps, at, down, given, posted, said, up, Up, Walks, halted, bindings_made, bound_by}
 use Rattle.arj_law_runs.proofs.calls
 use calls.LivedCounts.{GrowsBy, made_in, message_grows}
 use calls.ServerCalls.{never, some_is}
-use Rattle.arj_law_runs.proofs.kept.{Starts.first_at, Walked.other_number, Walked.same_number}
+use Rattle.arj_law_runs.proofs.kept.{Starts.first_up, Walked.other_number, Walked.same_number}
 use Rattle.arj_law_runs.specs.calls.Bindings.{AreSaid, IsSaidBy}
 
 none_is : {A : Type 0} {x : A} → None ≡ Some x → ⊥
@@ -131,6 +131,6 @@ counts_are_said hd = record {
       (tick_outs (record { number = k; disk = d; live = Some t }) t) d d M refl s;
   restart = λ e k d M s. said_walk k e (parts_in k (d.inc + 1) d) (restart_outs hd k (d.inc + 1) d) d M (others_of k d None M s)
       (λ o its. none_counted k (d.inc + 1) d o _ its);
-  first = λ j n is t o up its. none_counted j 1 (first_disk hd j) o 0
-      (ap (λ (z : Parts). z.naming) (some_is (ap (λ (z : Node). z.live) (first_at hd j n is) ∙ up)) ∙ its);
+  first = λ st formed j n is t o up its. none_counted j (st.incs j + 1) (disk_by hd st j) o 0
+      (ap (λ (z : Parts). z.naming) (first_up hd st j n t is up) ∙ its);
 }

@@ -257,7 +257,7 @@ known_in hd w keeping few P so =
     record { sent = h.sent; stands = h.stands; holds = so (see h.sent w) (h.holds.1 few).0 }
 
 pub runs_vote : RunsVote
-runs_vote hd ms few = known_in hd (world_by hd ms) (moves_keep hd ms) few AllVotesAreUsed (λ M k. votes_in M k.1)
+runs_vote hd r few = known_in hd (world_by hd r) (moves_keep hd r) few AllVotesAreUsed (λ M k. votes_in M k.1)
 
 pub runs_call : RunsCall
-runs_call hd ms few = known_in hd (world_by hd ms) (moves_keep hd ms) few AllChangesAreCalled (λ M k. changes_in M k.1)
+runs_call hd r few = known_in hd (world_by hd r) (moves_keep hd r) few AllChangesAreCalled (λ M k. changes_in M k.1)

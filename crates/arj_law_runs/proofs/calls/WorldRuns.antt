@@ -5,17 +5,18 @@ use Words.{◌∙◌, ap, subst, inl, inr, arith, map, eqb-true, and_parts, in_t
 use Words.{ObjectState, asks, is_on, uids_of, Reply, actor, answers, again_all, began_line, begin_action, heard, Machine, plan_of}
 use Words.{Committing, Coord, Doing, doing_of, After, Before, Did, Disk, Do, Effect, InPart, Intent, Look, PutInc, Say, Stop, stopped}
 use Words.{Named, Naming, back_lines, acked, answer_query, tell, tell_all, tick_outs, Handled, Parts, Took, handle, holders}
-use Words.{prepared_actions, query_about, with_coord, uid_set, without_number, Server, changed_states, Input, Node, acts, first_disk}
-use Words.{first_node, hello_to, naming_at, naming_back, numbers_to, parent_of, parts_in, recovered_records, refusal_up, restart_outs}
-use Words.{tolds_again, Branch, at_place, branch_of, is_own, new_tree, next_uid, path_below, slice_get, Labelled, format, is_serial_kind}
-use Words.{Post, Seen, see}
+use Words.{prepared_actions, query_about, with_coord, uid_set, without_number, Server, changed_states, Input, Node, acts, node_by}
+use Words.{hello_to, naming_at, naming_back, numbers_to, parent_of, parts_in, recovered_records, refusal_up, restart_outs}
+use Words.{tolds_again, Branch, at_place, branch_of, is_own, new_tree, next_uid, path_below, Labelled, is_serial_kind}
+use Words.{Post, Seen}
 use Words.list
 use Words.body
 use Words.voted
 use Words.ending
 use Words.input
 use Rattle.arj_law_runs.proofs.Terms
-use Terms.{Action, Agree, AreCounted, paths_of, AreTrue, GoesOn, IsSettled, IsGoodCoord, IsTree, Paths, IsSaidSo, AreOfTops, IsGoodNode}
+use Terms.{IsAtStarts, disk_by, Action, Agree, AreCounted, paths_of, AreTrue, GoesOn, IsSettled, IsGoodCoord, IsTree, Paths, IsSaidSo}
+use Terms.{AreOfTops, IsGoodNode}
 use Terms.{IsWellHandled, agree_less, begun_tree, on_own, path_found, input_well, message_well, restart_well, tick_well, IsTrulyHandled}
 use Terms.{AllFit, all_flat, all_map, truly_handled, inc_on, node_on, true_on, true_query, true_records, well_acked, well_acts, well_again}
 use Terms.{well_heard, IsGoodOf, IsMemory, IsSaidIn, IsSettledIn, IsUp, DidKeeps, is_act, In, at, down, given, said, up, Up, Walks, halted}
@@ -29,7 +30,8 @@ use Rattle.arj_law_runs.proofs.calls.CoordOuts.{acked_so, acts_so, again_so, hea
 use Rattle.arj_law_runs.proofs.calls.WorldMessages.{By, HaveOvers, IsCoordAt, message_known}
 use Rattle.arj_law_runs.proofs.calls.WorldSteps.{ArePlain, IsPlain, coord_plain, plain_both, plain_fine}
 use Rattle.arj_law_runs.proofs.calls.WorldWalks.{AllFine, GoodAround, around_of, down_from, own_of, whole_of, world_walk}
-use Rattle.arj_law_runs.proofs.kept.{Begins.begin_good, Starts.first_of, Starts.restart_good, Walked.other_number, Walked.same_number}
+use Rattle.arj_law_runs.proofs.kept.{Begins.begin_good, Starts.first_at, Starts.first_of, Starts.live_first, Starts.restart_good}
+use Rattle.arj_law_runs.proofs.kept.{Walked.other_number, Walked.same_number}
 use Rattle.arj_law_runs.proofs.kept.Handled.{act_good, counted_of, message_good, own_of_disk, stopped_good, tick_good, tops_of_disk}
 use Rattle.arj_law_runs.specs.calls.Runs.{AreKnown, Grounds, VotesAreUsed}
 
@@ -430,35 +432,25 @@ module _ (acts_begun : List Action) (paths : Paths) (tree : IsTree paths) (agree
       raises After = omega arith
       raises (InPart which) = omega arith
 
-got_map : {A B : Type 0} (f : A → B) (xs : List A) (k : ℕ) (b : B) → slice_get (map f xs) k ≡ Some b → (a : A) × (f a ≡ b)
-got_map {A} {B} f [] k b is = absurd (none_is is)
-got_map f (x ∷ xs) zero b is = (x, some_is is)
-got_map f (x ∷ xs) (suc k) b is = got_map f xs k b is
-
 -- at first nothing was sent
-first_known : (hd : Header) (paths : Paths) → KnowsWorld paths (see [] (format hd))
-first_known hd paths = record {
+first_known : (hd : Header) (paths : Paths) → IsAtStarts hd (KnowsWorld paths)
+first_known hd paths st formed = record {
   none = refl;
   one = λ from from2 to to2 c g a b same. absurd a.posted;
   senders = λ p h a there is. absurd there;
   votes = λ p a states there is. absurd there;
-  nodes = nodes;
+  nodes = λ j n is. subst (KnowsNode paths [] j) (first_at hd st j n is) (here j);
 }
   where
-    here : (j k : ℕ) → KnowsNode paths [] j (first_node hd k)
-    here j k = record {
-      coord = λ t is. subst (λ (z : Parts). KnowsCalls paths [] z.coord) (some_is is)
-          (new_knows paths [] k 1 (first_disk hd k) (λ p h a there. absurd there));
-      server = λ t is. subst (λ (z : Parts). AreFromCalls [] j z.server) (some_is is) (λ x c o there. absurd (none_is there));
-      keys = λ t is. subst (λ (z : Parts). AreKeyed z.server.objects) (some_is is) tt;
+    here : (j : ℕ) → KnowsNode paths [] j (node_by hd st j)
+    here j = record {
+      coord = λ t is. subst (λ (z : Parts). KnowsCalls paths [] z.coord) (live_first hd st j t is)
+          (new_knows paths [] j (st.incs j + 1) (disk_by hd st j) (λ p h a there. absurd there));
+      server = λ t is. subst (λ (z : Parts). AreFromCalls [] j z.server) (live_first hd st j t is) (λ x c o there. absurd (none_is there));
+      keys = λ t is. subst (λ (z : Parts). AreKeyed z.server.objects) (live_first hd st j t is) tt;
       refusals = λ a r. absurd r.posted;
       past = λ p h a there. absurd there;
     }
-
-    nodes : (j : ℕ) (n : Node) → at_place j (map (first_node hd) (numbers_to hd.nodes)) ≡ Some n → KnowsNode paths [] j n
-    nodes zero n is = absurd (none_is is)
-    nodes (suc j) n is = let q = got_map (first_node hd) (numbers_to hd.nodes) j n is in
-        subst (KnowsNode paths [] (suc j)) q.1 (here (suc j) q.0)
 
 -- ---- all runs
 
@@ -505,7 +497,7 @@ module _ (hd : Header) (G : Seen → Type 0) (grounds : Grounds G) where
         run_walk h.0 e k outs v d M (tick_good e k d t M (h.0, h.1)) (λ q. tick_walk h.0 q.0 q.1 q.2 e k d t M h.1 (h.2 q));
     restart = λ e k d M g h. let outs = restart_outs hd k (d.inc + 1) d in let v = parts_in k (d.inc + 1) d in
         run_walk h.0 e k outs v d M (restart_good hd e k d M (h.0, h.1)) (λ q. restart_walk h.0 q.0 q.1 q.2 hd e k d M h.1 (h.2 q));
-    first = ([], first_of hd, λ q. first_known hd q.0);
+    first = λ st formed. ([], first_of hd st formed, λ q. first_known hd q.0 st formed);
   }
 
 -- what was voted fits the plan that waits

@@ -1,13 +1,14 @@
 -- What each coordinator keeps by itself, with good nodes, holds of all coordinators in every run.
 use Rattle.arj_law_parts.proofs.Words
-use Words.{◌≡◌, ◌∙◌, ◌+◌, ◌==◌, ◌&&◌, ℕ, zero, suc, Bool, true, false, cond, List, [], ◌∷◌, map, refl, sym, ap, subst, arith, Option, Some}
-use Words.{None, slice_get, Reply, again_all, begin_action, heard, Coord, Doing, new_coord, uid_at, Disk, Effect, Intent, Say, Send, Do}
-use Words.{worked, stopped, acked, tick_outs, Parts, Took, handle, with_coord, Input, Node, acts, begin_refusal, first_node, numbers_to}
-use Words.{parent_of, parts_in, refusal_up, restart_outs, Tree, at_place, Asked, Header, Kind, Label, Message, Uid, World, format}
-use Words.{is_serial_kind, Move, world_by, Seen, see}
+use Words.{◌≡◌, ◌∙◌, ◌+◌, ◌==◌, ◌&&◌, ℕ, Bool, true, false, cond, List, [], ◌∷◌, refl, sym, ap, subst, arith, Option, Some}
+use Words.{None, Reply, again_all, begin_action, heard, Coord, Doing, new_coord, uid_at, Disk, Effect, Intent, Say, Send, Do}
+use Words.{worked, stopped, acked, tick_outs, Parts, Took, handle, with_coord, Input, Node, acts, begin_refusal}
+use Words.{parent_of, parts_in, refusal_up, restart_outs, Tree, at_place, Asked, Header, Kind, Label, Message, Uid, World}
+use Words.{is_serial_kind, world_by, Seen, see}
 use Words.input
 use Rattle.arj_law_runs.proofs.Terms
-use Terms.{AreNamed, HasNames, KnowsNames, names_kept, same_acked, same_acts, same_again, same_heard, Action, AreBegun, MayBegin, paths_of}
+use Terms.{IsAtStarts, Run, AreNamed, HasNames, KnowsNames, names_kept, same_acked, same_acts, same_again, same_heard, Action, AreBegun}
+use Terms.{MayBegin, paths_of}
 use Terms.{IsGoodCoord, IsTree, Paths, IsNumbered, begun_tree, path_found, IsGood, IsMemory, IsUp, HasRoom, Holds, Keeps, is_act, at, given}
 use Terms.{posted, said, up, Up, Walks, halted, keeps_asked, moves_asked, walks_both}
 use Rattle.arj_law_parts.specs.told.Sends.{HasFewEnds}
@@ -15,7 +16,8 @@ use Rattle.arj_law_runs.proofs.coordinators
 use coordinators.{NewNames.names_begin, NewNames.names_new, TreeRooms.room_new}
 use coordinators.CoordRooms.{Room, room_acked, room_acts, room_again, room_begin, room_heard}
 use Rattle.arj_law_runs.proofs.kept.{AllRuns.all_keep, Begins.may as may_begin, Handled.begun_of, Handled.it, Handled.one_agrees}
-use Rattle.arj_law_runs.proofs.kept.{Handled.one_tree, Parted.IsLeft, Parted.coord_kept, Walked.other_number, Walked.same_number}
+use Rattle.arj_law_runs.proofs.kept.{Starts.first_up, Handled.one_tree, Parted.IsLeft, Parted.coord_kept, Walked.other_number}
+use Rattle.arj_law_runs.proofs.kept.{Walked.same_number}
 
 -- What holds of a coordinator as it begins, and is kept by what it hears, does and begins.
 pub record IsKept (Q : Coord → Type 0) : Type 0 where
@@ -30,11 +32,6 @@ pub record IsKept (Q : Coord → Type 0) : Type 0 where
       (c : Coord) → IsGoodCoord actions paths c → MayBegin actions k (parent_of parent c) → begin_refusal k c parent ≡ None
       → Q c → Q (begin_action l k parent (parent_of parent c) c).part
   pub asks : (ds : List Doing) (c : Coord) → Q c → Q (again_all ds c).part
-
-first_at : (hd : Header) (ns : List ℕ) (i : ℕ) (n : Node) → slice_get (map (first_node hd) ns) i ≡ Some n → (m : ℕ) × (first_node hd m ≡ n)
-first_at hd [] i n is = absurd (cc is)
-first_at hd (m ∷ ms) zero n is = (m, cc is)
-first_at hd (m ∷ ms) (suc i) n is = first_at hd ms i n is
 
 module _ (Q : Coord → Type 0) (kept : IsKept Q) where
   -- it holds of each coordinator that is up
@@ -97,13 +94,9 @@ module _ (Q : Coord → Type 0) (kept : IsKept Q) where
         (λ a r. kept.hears good.0 (paths_of good.0) (one_tree e k d t M good) from a r d.intents t.coord coord_of its)
         (λ u. kept.acks from u d.intents t.coord its) m)
 
-  first_so : (hd : Header) → AreSo (see [] (format hd))
-  first_so hd zero n t is live = absurd (cc is)
-  first_so hd (suc j) n t is live =
-      let f = first_at hd (numbers_to hd.nodes) j n is in
-      let parts : ◌≡◌ {A = Option Parts} (Some (parts_in f.0 1 (first_node hd f.0).disk)) (Some t) = ap (λ (x : Node). x.live) f.1 ∙ live in
-      let same : parts_in f.0 1 (first_node hd f.0).disk ≡ t = cc in
-      subst (λ (x : Parts). Q x.coord) same (kept.new f.0 1 (first_node hd f.0).disk.intents)
+  first_so : (hd : Header) → IsAtStarts hd AreSo
+  first_so hd st formed j n t is live =
+      subst (λ (x : Parts). Q x.coord) (first_up hd st j n t is live) (kept.new j (st.incs j + 1) [])
 
   acted : (i : Input) → is_act i ≡ true → (l : Label) (k : Kind) (parent : Option Label) → i ≡ input.Begin l k parent → ⊥
   acted i is l k parent same = let no_way : false ≡ true = ap is_act (sym same) ∙ is in absurd (cc no_way)
@@ -136,15 +129,15 @@ module _ (Q : Coord → Type 0) (kept : IsKept Q) where
         let outs = restart_outs hd k (d.inc + 1) d in
         let v = parts_in k (d.inc + 1) d in
         both e k outs v d M (keep.restart e k d M all.0) (walk e k outs v d M (kept.new k (d.inc + 1) d.intents) (others k d None M all.1));
-    first = (keep.first, first_so hd);
+    first = λ st formed. (keep.first st formed, first_so hd st formed);
   }
     where
       keep : Keeps hd IsGood
       keep = all_keep hd
 
-  pub runs_so : (hd : Header) (ms : List Move) (k : ℕ) (n : Node) (t : Parts) → at_place k (let w = world_by hd ms in w.nodes) ≡ Some n →
+  pub runs_so : (hd : Header) (r : Run hd) (k : ℕ) (n : Node) (t : Parts) → at_place k (let w = world_by hd r in w.nodes) ≡ Some n →
       n.live ≡ Some t → Q t.coord
-  runs_so hd ms k n t is live = let h = moves_asked hd IsSo (keeps_asked hd IsSo (all_keep_so hd)) ms in let all = h.holds in
+  runs_so hd r k n t is live = let h = moves_asked hd IsSo (keeps_asked hd IsSo (all_keep_so hd)) r in let all = h.holds in
       all.1 k n t is live
 
 -- ---- room
@@ -159,9 +152,9 @@ rooms_kept = record {
   asks = room_again;
 }
 
-pub trees_room : (hd : Header) (ms : List Move) (k : ℕ) (n : Node) (t : Parts) → at_place k (let w = world_by hd ms in w.nodes) ≡ Some n →
+pub trees_room : (hd : Header) (r : Run hd) (k : ℕ) (n : Node) (t : Parts) → at_place k (let w = world_by hd r in w.nodes) ≡ Some n →
     n.live ≡ Some t → HasRoom t.coord.tree
-trees_room hd ms k n t is live = runs_so Room rooms_kept hd ms k n t is live
+trees_room hd r k n t is live = runs_so Room rooms_kept hd r k n t is live
 
 -- room is for few ends
 pub few_ends : (t : Tree) → HasRoom t → HasFewEnds t
@@ -207,6 +200,6 @@ keeps_names hd = all_keep_so HasNames names_are_kept hd
 pub holds_named : (hd : Header) (w : World) → Holds hd (IsSo HasNames names_are_kept) w → AreNamed w
 holds_named hd w h k n t is live = knows_names k n t (see h.sent w) h.holds is live
 
-pub labels_named : (hd : Header) (ms : List Move) → AreNamed (world_by hd ms)
-labels_named hd ms = holds_named hd (world_by hd ms)
-    (moves_asked hd (IsSo HasNames names_are_kept) (keeps_asked hd (IsSo HasNames names_are_kept) (keeps_names hd)) ms)
+pub labels_named : (hd : Header) (r : Run hd) → AreNamed (world_by hd r)
+labels_named hd r = holds_named hd (world_by hd r)
+    (moves_asked hd (IsSo HasNames names_are_kept) (keeps_asked hd (IsSo HasNames names_are_kept) (keeps_names hd)) r)

@@ -6,13 +6,13 @@ use Words.{Steps, Coord, Doing, Idle, Root, doing_of, on_doing, on_root, with_jo
 use Words.{branch_of, root_of}
 use Words.body
 use Rattle.arj_law_runs.proofs.Terms
-use Terms.{Act, act_in, on_tree, Access, Book, turned, with_access, AreIdle, Calls, HasBranch, IsKnown, IsLined, Knows, Ties, decides}
+use Terms.{Act, act_in, is_serial, on_tree, Access, Book, turned, with_access, AreIdle, Calls, HasBranch, IsKnown, IsLined, Knows, Ties, decides}
 use Terms.{IsOpenSo}
 use Rattle.arj_law_parts.proofs.parts.Truths.{IsFree}
 use Rattle.arj_law_runs.proofs.journal
 use journal.{Books.decided_later, Books.later_turn, Opens.IsAtWork, Ties.ties_joined, Ties.ties_said}
 use journal.Effects.{Goes, are_later, goes_partly}
-use journal.Endings.{SaysSame, about_it, end_same, open_act}
+use journal.Endings.{SaysSame, about_it, end_same, plain_act}
 use journal.Likes.{alike_calls, alike_idle, alike_knows, not_committing}
 
 pub says_is : (u : Uid) (f : Label → Body) (c : Coord) (q : Doing) → doing_of u c ≡ Some q → says u f c ≡ Say (f q.label) ∷ []
@@ -31,13 +31,13 @@ its_known k B u c w knows = subst (λ o. IsKnown B u (let b = w.branch in b.kind
     (knows.acts u w.branch w.doing w.found w.does)
 
 -- the action at work is open, and its commit wasn't called
-pub open_at_work : (k : ℕ) (B : Book) (u : Uid) (c : Coord) (w : IsAtWork k c u) → IsFree u c → Knows B c → Calls B c →
-    IsOpenSo false B (let q = w.doing in q.label)
-open_at_work k B u c w free knows calls =
+pub open_at_work : (k : ℕ) (B : Book) (u : Uid) (c : Coord) (w : IsAtWork k c u) → is_serial (let b = w.branch in b.kind) ≡ false →
+    IsFree u c → Knows B c → Calls B c → IsOpenSo false B (let q = w.doing in q.label)
+open_at_work k B u c w plain free knows calls =
     let s = its_known k B u c w knows in
     let q = w.doing in (
       s.act,
-      open_act k B u (let b = w.branch in b.kind) q.label s w.here,
+      plain_act k B u (let b = w.branch in b.kind) q.label s w.here plain,
       ap (is_on B.called) s.uid ∙ calls u w.branch w.doing w.found w.does w.opened ∙ not_committing q.now (λ m is. free q m w.does is),
     )
 
@@ -82,8 +82,8 @@ module _ (k : ℕ) (B : Book) (u root : Uid) (c : Coord) (f : Root →
       m = alike_knows B c idle (alike_idle u c free) knows
 
 module _ (k : ℕ) (B : Book) (s : Steps) (c : Coord) (free : IsFree (actor s.path) c) (w : IsAtWork k c (actor s.path))
-    (asks : (z : Branch) → branch_of (actor s.path) c.tree ≡ Some z → z.path ≡ s.path) (places : (v : Uid) (z : Branch) →
-    branch_of v c.tree ≡ Some z → actor z.path ≡ v) (knows : Knows B c) (calls : Calls B c) where
+    (asks : (z : Branch) → branch_of (actor s.path) c.tree ≡ Some z → (z.path ≡ s.path) × (is_serial z.kind ≡ false)) (places : (v : Uid)
+    (z : Branch) → branch_of v c.tree ≡ Some z → actor z.path ≡ v) (knows : Knows B c) (calls : Calls B c) where
   abbrev m : Coord
   m = on_doing (actor s.path) (λ (d : Doing). record d { now = Idle }) c
 
@@ -97,7 +97,7 @@ module _ (k : ℕ) (B : Book) (s : Steps) (c : Coord) (free : IsFree (actor s.pa
   same = on_tree (actor s.path) (λ (d : Doing). record d { now = Idle }) c
 
   path : (let b = w.branch in b.path) ≡ s.path
-  path = asks w.branch w.found
+  path = (asks w.branch w.found).0
 
   abbrev access : Option ℕ → Access
   access o = record { act = (let i = known in i.act); x = s.x; store = o }
@@ -109,7 +109,7 @@ module _ (k : ℕ) (B : Book) (s : Steps) (c : Coord) (free : IsFree (actor s.pa
   places_now v z at = places v z (ap (branch_of v) (sym same) ∙ at)
 
   opened : IsOpenSo false B (let q = w.doing in q.label)
-  opened = open_at_work k B (actor s.path) c w free knows calls
+  opened = open_at_work k B (actor s.path) c w (asks w.branch w.found).1 free knows calls
 
   about : (x : Act) → act_in B.acts (name (let q = w.doing in q.label)) ≡ Some x → (let y = x.uid in y.node) ≡ k
   about = about_it k B (actor s.path) (let b = w.branch in b.kind) (let q = w.doing in q.label) known w.here

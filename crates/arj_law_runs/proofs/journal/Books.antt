@@ -6,7 +6,7 @@ use Words.{uid_other, uid_same, is_on, uid_eq, In, in_find, in_from, in_to, Uid,
 use Words.body
 use Rattle.arj_law_runs.proofs.Terms
 use Terms.{option_map, Act, act_in, IsCounted, AreQuiet, Access, Book, book_from, is_decided, is_over, new_book, turned, with_access}
-use Terms.{with_named, Counts, IsAbout, IsGiven, AreRight, Right, has_act}
+use Terms.{with_named, Counts, IsAbout, IsGiven, AreRight, IsOpen, IsOpenPlain, Right, has_act}
 use Rattle.arj_law_parts.specs.moves.Seen.{is_quiet_line}
 
 pub never : {P : Type 0} {b : Bool} → b ≡ true → b ≡ false → P
@@ -34,6 +34,10 @@ quiet_turn B (body.Ok l x o r) is = absurd (cc is)
 quiet_turn B (body.Includes l x n) is = absurd (cc is)
 quiet_turn B b is = refl
 
+-- an open action is one, whether or not it is serializing
+pub is_open : (B : Book) (l : Label) (a : Act) → IsOpenPlain B l a → IsOpen B l a
+is_open B l a o = record { named = o.named; unended = o.unended; unfound = o.unfound }
+
 quiet_right : (B : Book) (b : Body) → is_quiet_line b ≡ true → Right B b
 quiet_right B (body.Began l k u p) is = absurd (cc is)
 quiet_right B (body.Committing l) is = absurd (cc is)
@@ -44,6 +48,10 @@ quiet_right B (body.Recovered n u) is = absurd (cc is)
 quiet_right B (body.Ok l x o r) is = absurd (cc is)
 quiet_right B (body.Includes l x n) is = absurd (cc is)
 quiet_right B (body.Excluded l x n) is = absurd (cc is)
+quiet_right B (body.Conflict l h m n) is = absurd (cc is)
+quiet_right B (body.Lost l n) is = absurd (cc is)
+quiet_right B (body.Changed l n d) is = absurd (cc is)
+quiet_right B (body.GaveUp l n) is = absurd (cc is)
 quiet_right B (body.Told n u e p) is = absurd (cc is)
 quiet_right B (body.Done n u r e) is = absurd (cc is)
 quiet_right B b is = tt

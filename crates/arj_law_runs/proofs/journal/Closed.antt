@@ -4,11 +4,11 @@ use Words.{◌≡◌, ◌⊎◌, ◌||◌, ℕ, List, [], ◌∷◌, ◌++◌, B
 use Words.{⊎_elim, Contains, cons_option, uid_cases, uid_is, is_on, uid_eq, Uid, Body, Line, In, in_from, in_to, behind, name, Label}
 use Rattle.arj_law_runs.proofs.Terms
 use Terms.{option_map, Act, act_in, path, uids, Access, Book, book, book_from, is_over, is_top, new_book, turned, with_access, IsIdle}
-use Terms.{AreDistinct, AreRight, BeginsIn, IsClosed, IsOpenSo, Right, has_act}
+use Terms.{AreDistinct, AreRight, BeginsIn, IsClosed, IsOpen, IsOpenSo, Right, has_act}
 use Terms.body
 use Rattle.arj_law_runs.proofs.journal
 use journal.Books.{Later, Sane, later_turn, named_is, never, or_which, over_by_abort, over_by_commit, over_by_end, sane_new, sane_turn}
-use journal.Books.{book_more}
+use journal.Books.{book_more, is_open}
 use journal.Models.{AreSound, among, named_in, sound_turn}
 use journal.Ties.{named_label, on_new, path_new, path_old}
 
@@ -63,9 +63,9 @@ on_cases : (w u : Uid) (us : List Uid) → is_on (w ∷ us) u ≡ true → (w �
 on_cases w u us on = ⊎_elim (λ same. inl (uid_is w u same)) (λ old. inr old) (or_which (uid_eq w u) (is_on us u) on)
 
 -- an open action whose commit isn't called isn't below one whose commit was
-not_below : (B : Book) (l : Label) → Closes B → IsOpenSo false B l → (a : Act) → act_in B.acts (name l) ≡ Some a → (u : Uid) →
-    is_on B.called u ≡ true → is_on (uids (path B.acts a.label)) u ≡ true → ⊥
-not_below B l c (s, opened, quiet) a named u called on = ⊎_elim
+not_below : (B : Book) (l : Label) → Closes B → (s : Act) → IsOpen B l s → is_on B.called s.uid ≡ false → (a : Act) →
+    act_in B.acts (name l) ≡ Some a → (u : Uid) → is_on B.called u ≡ true → is_on (uids (path B.acts a.label)) u ≡ true → ⊥
+not_below B l c s opened quiet a named u called on = ⊎_elim
     (λ same. never (ap (is_on B.called) same ∙ called) (ap (λ (x : Act). is_on B.called x.uid) (sym is) ∙ quiet))
     (λ other. never (c.closed u called a (in_to a B.acts (named_in B.acts (name l) a named)) on other)
     (ap (λ (x : Act). is_over B x.uid) (sym is) ∙ opened.unended)) (uid_cases a.uid u)
@@ -107,7 +107,7 @@ closes_turn B b right sane sound c = by b right
             up None g e = cc e
             up (Some m) (s, opened, quiet, node, inc) e =
                 let at_name : name m ≡ q = (let k : ◌≡◌ {A = Option (List ℕ)} (Some (name m)) (Some q) = e in cc) in
-                not_below B m c (s, opened, quiet) s opened.named u on
+                not_below B m c s opened quiet s opened.named u on
                 (ap (λ x. is_on (uids (path B.acts x)) u) (named_label B.acts (name m) s opened.named ∙ at_name) ∙ above)
     by (body.Committing l) r = let a = r.0 in let o = r.1 in record {
       closed = λ u on x there below other. ⊎_elim
@@ -174,7 +174,7 @@ idle_turn B b u right s idle = record { called = let l = later_turn B b in l.cal
         let i = open_so.1 in
         let new : Access = record { act = open_so.0; x = x; store = o } in
         ⊎_elim
-        (λ same. absurd (not_below B l (let z = s in z.closes) open_so open_so.0 i.named u idle.called
+        (λ same. absurd (not_below B l (let z = s in z.closes) open_so.0 (is_open B l open_so.0 i) open_so.2 open_so.0 i.named u idle.called
         (ap (λ (y : Access). is_on (uids (path B.acts (let c = y.act in c.label))) u) same ∙ on)))
         (λ old. idle.cut a (in_to a B.accesses old) on)
         (in_from a (new ∷ B.accesses) (subst (λ rs. Contains rs a) (ap (λ z. with_access z x o B.accesses) i.named) there))

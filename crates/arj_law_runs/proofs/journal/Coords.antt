@@ -26,16 +26,16 @@ use Rattle.arj_law_runs.proofs.Terms
 use Terms.{Action, AreBegun, action_of, IsAsking, IsBusy, IsGoodCoord, IsVoting, IsTree, Paths, ask_ends, on_own, serial_alone, behind}
 use Terms.{named_found, off, off_third, IsStepOf, actor_is, answer_step, doomed_same, giveup_step, on_tree, uses_same, vote_step, voting_at}
 use Terms.{found_by, at_u, ended_b, doing_other, doing_put, work_there, put_in, is_serial, Book, is_decided, is_over, is_top, turned}
-use Terms.{AreSaid, Calls, Ties, EachRecord, IsEnd, IsKnown, IsLined, Knows, HasBranch, AreIdle, IsClosed, IsSaid, IsOpenSo}
+use Terms.{AreSaid, Calls, Ties, EachRecord, IsEnd, IsKnown, IsLined, Knows, HasBranch, AreIdle, IsClosed, IsNamed, IsSaid, IsOpenSo}
 use Rattle.arj_law_parts.proofs.parts.Truths.{IsFree}
 use Rattle.arj_law_runs.proofs.coordinators.CoordUses.{KeepsUses, moved_keeps, on_roots, went_keeps}
 use Rattle.arj_law_runs.proofs.journal
-use journal.Answering.{goes_answered, goes_included, goes_line, says_is}
+use journal.Answering.{goes_answered, goes_included, goes_line, its_known, says_is}
 use journal.Books.{over_by_abort, over_by_commit, over_by_end, committed_decided, decided_later, later_turn, named_is, never, on_here}
 use journal.Books.{on_other}
 use journal.Effects.{ArePartly, Goes, IsPartly, are_later, all_flat, all_map, goes_before, goes_behind, goes_partly, partly_after}
 use journal.Effects.{request_claims, says_partly, sends_partly, tells_partly, tells_idle}
-use journal.Endings.{CallsBut, Ends, about_it, aborts, calls_ended, commits, finishes, knows_ended, open_act}
+use journal.Endings.{CallsBut, Ends, about_it, aborts, calls_ended, commits, finishes, knows_ended, open_act, plain_act}
 use journal.Likes.{Alike, alike_idle, alike_calls, alike_knows, alike_on, alike_root, alike_same, alike_then, alike_tree, both_free}
 use journal.Likes.{not_committing, same_now, some_is}
 use journal.Opens.{AreApart, IsAtWork, all_still, below_all, below_apart, none_of}
@@ -125,17 +125,18 @@ module _ (k : ℕ) (B : Book) where
   marks_partly u marks c q does timely = all_flat (IsPartly k B) (λ (m : ℕ × ℕ). says u (λ l. body.Excluded l m.0 m.1) c) marks
       (λ m i. says_one u (λ l. body.Excluded l m.0 m.1) c q does (record { lined = (timely, tt); same = refl; puts = tt }))
 
-  gaveup_partly : (u : Uid) (nodes : List ℕ) (c : Coord) → ArePartly k B (gaveup_lines u nodes c)
-  gaveup_partly u nodes c = all_flat (IsPartly k B) (λ n. says u (λ l. body.GaveUp l n) c) nodes
-      (λ n i. says_partly k B u (λ l. body.GaveUp l n) c (λ l. record { lined = (tt, tt); same = refl; puts = tt }))
+  gaveup_partly : (u : Uid) (nodes : List ℕ) (c : Coord) (q : Doing) → doing_of u c ≡ Some q → IsNamed B q.label →
+      ArePartly k B (gaveup_lines u nodes c)
+  gaveup_partly u nodes c q does named = all_flat (IsPartly k B) (λ n. says u (λ l. body.GaveUp l n) c) nodes
+      (λ n i. says_one u (λ l. body.GaveUp l n) c q does (record { lined = (named, tt); same = refl; puts = tt }))
 
   -- the ends of calls that leave the book as it is
-  end_partly : (x : ℕ) (g : Goal) (e : CallEnd) (l : Label) → IsQuietEnd e → IsPartly k B (Say (end_line x g e l))
-  end_partly x g (Answered a) l quiet = absurd quiet
-  end_partly x g (Included st) l quiet = absurd quiet
-  end_partly x g (Conflict h m n) l quiet = record { lined = (tt, tt); same = refl; puts = tt }
-  end_partly x g (Changed n w) l quiet = record { lined = (tt, tt); same = refl; puts = tt }
-  end_partly x g (Lost n b) l quiet = record { lined = (tt, tt); same = refl; puts = tt }
+  end_partly : (x : ℕ) (g : Goal) (e : CallEnd) (l : Label) → IsNamed B l → IsQuietEnd e → IsPartly k B (Say (end_line x g e l))
+  end_partly x g (Answered a) l named quiet = absurd quiet
+  end_partly x g (Included st) l named quiet = absurd quiet
+  end_partly x g (Conflict h m n) l named quiet = record { lined = (named, tt); same = refl; puts = tt }
+  end_partly x g (Changed n w) l named quiet = record { lined = (named, tt); same = refl; puts = tt }
+  end_partly x g (Lost n b) l named quiet = record { lined = (named, tt); same = refl; puts = tt }
 
 -- ---- calls
 
@@ -195,17 +196,21 @@ module _ (k : ℕ) (B : Book) where
       q.lists r))) (alike_then d c (goes_on s c).part a (alike_goes s c free)) knows calls
 
   goes_call_step : (s : Steps) (t : CallStep) (d c : Coord) → Alike d c → IsFree (actor s.path) c → (w : IsAtWork k c (actor s.path)) →
-      ((z : Branch) → branch_of (actor s.path) c.tree ≡ Some z → z.path ≡ s.path) → ((v : Uid) (z : Branch) → branch_of v c.tree ≡ Some z →
-      actor z.path ≡ v) → Knows B d → Calls B d → Goes k B (step_call s t c).outs (step_call s t c).part
+      ((z : Branch) → branch_of (actor s.path) c.tree ≡ Some z → (z.path ≡ s.path) × (is_serial z.kind ≡ false)) → ((v : Uid)
+      (z : Branch) → branch_of v c.tree ≡ Some z → actor z.path ≡ v) → Knows B d → Calls B d →
+      Goes k B (step_call s t c).outs (step_call s t c).part
   goes_call_step s (On at) d c a free w asks places knows calls = goes_step (record s { req = s.req + 1; at = at }) d c a free knows calls
   goes_call_step s (Ended e) d c a free w asks places knows calls = by e
     where
       q : Doing
       q = w.doing
 
+      named : IsNamed B (let p = w.doing in p.label)
+      named = let n = its_known k B (actor s.path) c w (alike_knows B d c a knows) in (n.act, n.named)
+
       quiet : (f : CallEnd) → IsQuietEnd f → Goes k B (step_call s (Ended f) c).outs (step_call s (Ended f) c).part
       quiet f so = like_goes d (step_call s (Ended f) c).part (step_call s (Ended f) c).outs
-          (says_one k B (actor s.path) (end_line s.x s.goal f) c q w.does (end_partly k B s.x s.goal f q.label so))
+          (says_one k B (actor s.path) (end_line s.x s.goal f) c q w.does (end_partly k B s.x s.goal f q.label named so))
           (alike_then d c (step_call s (Ended f) c).part a (alike_ends s f c so free)) knows calls
 
       by : (f : CallEnd) → Goes k B (step_call s (Ended f) c).outs (step_call s (Ended f) c).part
@@ -491,6 +496,13 @@ module _ (k : ℕ) (actions : List Action) (begun : AreBegun actions) (paths : P
 
   -- ---- commits
 
+  plain : (h : Kind) → h ≢ kind.Serial → is_serial h ≡ false
+  plain kind.Serial un = absurd (un refl)
+  plain kind.Top un = refl
+  plain kind.Nested un = refl
+  plain kind.Constituent un = refl
+  plain kind.Independent un = refl
+
   -- who votes is at work, and no nested or serializing action
   voting_at_work : (c : Coord) (u : Uid) (p : Plan) → Mine c → length c.doings ≡ length c.tree.branches → IsVoting c.tree u p →
       (w : IsAtWork k c u) × (is_serial (let b = w.branch in b.kind) ≡ false) × (is_top (let b = w.branch in b.kind) ≡ true)
@@ -501,13 +513,6 @@ module _ (k : ℕ) (actions : List Action) (begun : AreBegun actions) (paths : P
         top (let b = a.branch in b.kind) a.unserial (v.top a.branch a.found),
       )
     where
-      plain : (h : Kind) → h ≢ kind.Serial → is_serial h ≡ false
-      plain kind.Serial un = absurd (un refl)
-      plain kind.Top un = refl
-      plain kind.Nested un = refl
-      plain kind.Constituent un = refl
-      plain kind.Independent un = refl
-
       top : (h : Kind) → h ≢ kind.Serial → h ≢ kind.Nested → is_top h ≡ true
       top kind.Serial un unnested = absurd (un refl)
       top kind.Nested un unnested = absurd (unnested refl)
@@ -606,11 +611,12 @@ module _ (k : ℕ) (actions : List Action) (begun : AreBegun actions) (paths : P
       → Goes k B (moved_commit u m intents c).outs (moved_commit u m intents c).part
   goes_moved B c u p m intents good mine works v same said called knows calls =
       let t = step_commit u m.step intents c in
-      let w = (voting_at_work c u p mine works v).0 in
+      let at = voting_at_work c u p mine works v in
+      let w = at.0 in
       let q = w.doing in
       let s = its B c u w knows in
       let timely : IsOpenSo true B q.label =
-      (s.act, open_act k B u (let b = w.branch in b.kind) q.label s w.here, ap (is_on B.called) s.uid ∙ called) in
+      (s.act, plain_act k B u (let b = w.branch in b.kind) q.label s w.here at.1, ap (is_on B.called) s.uid ∙ called) in
       goes_behind k B (mark_lines u m.marks c) t.outs t.part (marks_partly k B u m.marks c q w.does timely)
       (goes_step_commit B c u p m.step intents good mine works v same said called knows calls)
 
@@ -628,11 +634,14 @@ module _ (k : ℕ) (actions : List Action) (begun : AreBegun actions) (paths : P
       let z = subst (IsAtWork k c) (sym same) at in
       record { branch = z.branch; doing = z.doing; found = z.found; opened = z.opened; does = z.does; here = z.here }
 
-  -- who asks is there with its path
+  -- who asks is there with its path, and isn't serializing
   asks_so : (c : Coord) (u : Uid) (p : Path) → Good c → IsAsking c.tree u p → (z : Branch) → branch_of (actor p) c.tree ≡ Some z →
-      z.path ≡ p
-  asks_so c u p good a z at = ap (λ (b : Branch). b.path)
-      (some_is z a.branch (sym at ∙ ap (λ v. branch_of v c.tree) (actor_is actions paths tree u p c good a) ∙ a.found)) ∙ a.path
+      (z.path ≡ p) × (is_serial z.kind ≡ false)
+  asks_so c u p good a z at =
+      let same = some_is z a.branch (sym at ∙ ap (λ v. branch_of v c.tree) (actor_is actions paths tree u p c good a) ∙ a.found) in (
+        ap (λ (b : Branch). b.path) same ∙ a.path,
+        ap (λ (b : Branch). is_serial b.kind) same ∙ plain (let b = a.branch in b.kind) a.unserial,
+      )
 
   calling_free : (c : Coord) (u w : Uid) (d : Doing) (s : Steps) → w ≡ u → doing_of u c ≡ Some d → d.now ≡ Calling s → IsFree w c
   calling_free c u w d s same found is e m at commits =
@@ -692,21 +701,23 @@ module _ (k : ℕ) (actions : List Action) (begun : AreBegun actions) (paths : P
       nothing : DidGo B (record { part = c; outs = [] })
       nothing = goes_partly k B [] c tt knows calls
 
-      with_lines : (nodes : List ℕ) (d : Did Coord) → DidGo B d →
+      with_lines : {p : Path} (q : Doing) → doing_of u c ≡ Some q → IsAsking c.tree u p → (nodes : List ℕ) (d : Did Coord) → DidGo B d →
           DidGo B (record { part = d.part; outs = gaveup_lines u nodes c ++ d.outs })
-      with_lines nodes d g = goes_behind k B (gaveup_lines u nodes c) d.outs d.part (gaveup_partly k B u nodes c) g
+      with_lines q does a nodes d g =
+          let s = knows.acts u a.branch q a.found does in
+          goes_behind k B (gaveup_lines u nodes c) d.outs d.part (gaveup_partly k B u nodes c q does (s.act, s.named)) g
 
       now : (d : Doing) → doing_of u c ≡ Some d → (n : Now) → d.now ≡ n → IsBusy c.tree u n → DidGo B (gives_up u intents c n)
       now d found Idle is b = nothing
       now d found (Calling s) is b =
           let t : Coord = on_root (root_of s.path) (root_lost s (given_up s.at)) c in
-          with_lines (next_node s ∷ []) (step_call s (given_up s.at) t) (goes_call_step k B s (given_up s.at) c t
+          with_lines d found b (next_node s ∷ []) (step_call s (given_up s.at) t) (goes_call_step k B s (given_up s.at) c t
           (alike_root (root_of s.path) (root_lost s (given_up s.at)) c (record { said = λ q. refl; joined = λ q. refl }))
           (calling_free c u (actor s.path) d s (actor_is actions paths tree u s.path c good b) found is) (on_its_root c u (actor s.path)
           (root_of s.path) (root_lost s (given_up s.at)) (actor_is actions paths tree u s.path c good b) (at_work c works mine u
           b.branch b.found b.opened)) (asks_so c u s.path good b) (let l = good.tree.lists in l.places) knows calls)
       now d found (Committing m) is b =
-          with_lines (nodes_given_up m) (moved_commit u (commit.given_up m) intents c)
+          with_lines d found b.asking (nodes_given_up m) (moved_commit u (commit.given_up m) intents c)
           (goes_moved B c u (plan_of m) (commit.given_up m) intents good mine works b (giveup_step actions paths tree m)
           (knows.plans u d m found is) (was_called B c u d m calls found is b) knows (but u B c calls))
 

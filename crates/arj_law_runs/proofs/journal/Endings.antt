@@ -9,7 +9,7 @@ use Words.ending
 use Rattle.arj_law_runs.proofs.Terms
 use Terms.{Act, act_in, is_serial, on_tree, after as ended_tree, after_cases, at_others, at_u, ended_b, doing_other, doing_put, end_tree_on}
 use Terms.{Book, is_decided, is_over, is_top, turned, AreSaid, Calls, EachRecord, IsAbout, IsEnd, IsKnown, Knows, Ties, decides, root_in}
-use Terms.{IsOpen, IsSaid, Right, option_map}
+use Terms.{IsOpen, IsOpenPlain, IsSaid, Right, option_map}
 use Rattle.arj_law_parts.proofs.parts.GoodTrees.{ends_after, marked, was_there}
 use Rattle.arj_law_runs.proofs.coordinators.CoordUses.{on_roots}
 use Rattle.arj_law_runs.proofs.journal
@@ -48,6 +48,10 @@ module _ (n : ℕ) (B : Book) (u : Uid) (k : Kind) (l : Label) (s : IsKnown B u 
 
   pub open_act : IsOpen B l s.act
   open_act = let e = s.end in record { named = s.named; unended = ap (is_over B) s.uid ∙ e.0; unfound = ap (is_on B.found) s.uid ∙ e.1 }
+
+  pub plain_act : is_serial k ≡ false → IsOpenPlain B l s.act
+  plain_act plain = let o = open_act in
+      record { named = o.named; unended = o.unended; unfound = o.unfound; unserial = ap is_serial s.kind ∙ plain }
 
   pub about_it : (x : Act) → act_in B.acts (name l) ≡ Some x → (let y = x.uid in y.node) ≡ n
   about_it x is = ap (λ (y : Act). let w = y.uid in w.node) (some_is x s.act (sym is ∙ s.named)) ∙ ap (λ (w : Uid). w.node) s.uid ∙ at

@@ -6,9 +6,9 @@ use Words.{Body, Line, In, in_from, in_to, name, Label}
 use Rattle.arj_law_runs.proofs.Terms
 use Terms.{option_map, Act, Placed, act_in, acts, acts_after, acts_from, committed, has_end, is_committed, put, read, recovered, Book, book}
 use Terms.{book_from, is_decided, is_over, new_book, turned, with_named, is_top, AreFormed, AreDistinct, AreRight, IsOpen, IsSaid, Right}
-use Terms.{has_act, IsOpenSo, MayBeFound}
+use Terms.{has_act, MayBeFound}
 use Terms.body
-use Rattle.arj_law_runs.proofs.journal.Books.{later_from, never, on_here, or_which, sane_lines, sane_new}
+use Rattle.arj_law_runs.proofs.journal.Books.{is_open, later_from, never, on_here, or_which, sane_lines, sane_new}
 use Rattle.arj_law_runs.specs.journal
 use journal.Laws.{ActionsEndOnce, CommitsAreCaused, IsCaused, IsCommittedIn, IsItsBook, OutcomesAreOne, aborted, aborted_of, CallsAreTimely}
 use journal.Laws.{ExclusionsAreTimely, called, called_of, answered_of, excluder_of, CommitsAreCalled}
@@ -371,9 +371,10 @@ ended_once lines right before line behind is id ends =
 -- ---- calls and exclusions
 
 -- an open action has no end, and its commit was called, or wasn't
-pub timely : (before : List Line) → AreRight new_book before → (c : Bool) (l : Label) (id : ℕ) → IsOpenSo c (book before) l →
-    id_in (acts before) (name l) ≡ Some id → (has_end (ended before) id ≡ false) × (has_end (called before) id ≡ c)
-timely before its c l id (a, o, on) number =
+pub timely : (before : List Line) → AreRight new_book before → (c : Bool) (l : Label) (id : ℕ) (a : Act) → IsOpen (book before) l a →
+    is_on (let B = book before in B.called) a.uid ≡ c → id_in (acts before) (name l) ≡ Some id →
+    (has_end (ended before) id ≡ false) × (has_end (called before) id ≡ c)
+timely before its c l id a o on number =
     let named : act_in (acts before) (name l) ≡ Some a = ap (λ xs. act_in xs (name l)) (sym (its_acts before its)) ∙ o.named in
     let same : a.id ≡ id = (let e : ◌≡◌ {A = Option ℕ} (Some a.id) (Some id) = sym (ap (option_map (λ (x : Act). x.id)) named) ∙ number in
     cc) in
@@ -390,8 +391,8 @@ calls_timely lines right before line behind is id answers = by line.body r.1 ans
 
     by : (b : Body) → Right (book before) b → answered_of (acts before) b ≡ Some id →
         (has_end (ended before) id ≡ false) × (has_end (called before) id ≡ false)
-    by (body.Ok l x o w) h e = timely before r.0 false l id h e
-    by (body.Includes l x n) h e = timely before r.0 false l id h e
+    by (body.Ok l x p w) (a, o, on) e = timely before r.0 false l id a (is_open (book before) l a o) on e
+    by (body.Includes l x n) (a, o, on) e = timely before r.0 false l id a (is_open (book before) l a o) on e
     by b h e = absurd (cc e)
 
 pub exclusions_timely : (lines : List Line) → AreRight new_book lines → ExclusionsAreTimely lines
@@ -402,7 +403,7 @@ exclusions_timely lines right before line behind is id excludes = by line.body r
 
     by : (b : Body) → Right (book before) b → excluder_of (acts before) b ≡ Some id →
         (has_end (ended before) id ≡ false) × (has_end (called before) id ≡ true)
-    by (body.Excluded l x n) h e = timely before r.0 true l id h e
+    by (body.Excluded l x n) (a, o, on) e = timely before r.0 true l id a (is_open (book before) l a o) on e
     by b h e = absurd (cc e)
 
 pub commits_called : (lines : List Line) → AreRight new_book lines → CommitsAreCalled lines
@@ -419,7 +420,7 @@ commits_called lines right = record {
   where
     one : (before : List Line) → AreRight new_book before → (b : Body) → Right (book before) b → (id : ℕ) →
         called_of (acts before) b ≡ Some id → (has_end (ended before) id ≡ false) × (has_end (called before) id ≡ false)
-    one before its (body.Committing l) (a, o, top, off, closed) id e = timely before its false l id (a, o, off) e
+    one before its (body.Committing l) (a, o, top, off, closed) id e = timely before its false l id a o off e
     one before its b h id e = absurd (cc e)
 
     commit : (before : List Line) → AreRight new_book before → (l : Label) (a : Act) → Right (book before) (body.Committed l) →

@@ -4,15 +4,16 @@ use Words.{◌≡◌, ◌≤◌, ◌&&◌, arith, ℕ, zero, suc, ◌+◌, List,
 use Words.{None, refl, sym, ◌∙◌, ap, subst, inl, inr, option_map, bytes_eq, map-append, In, in_to, Body, Header, Kind, Label, Message, Uid}
 use Words.{name, uids_of, again_all, began_line, begin_action, Coord, Doing, doing_of, number_of, Disk, Do, Effect, Say, Send, tick_outs}
 use Words.{Parts, Took, handle, is_meant, with_coord, Input, Node, begin_reasons, begin_refusal, branch_named, branch_numbered, parent_of}
-use Words.{parts_in, refusal_up, refused_by, restart_outs, Branch, at_place, branch_of, next_uid, path_below, World, format, is_serial_kind}
-use Words.{numbered, Post, Seen, see}
+use Words.{parts_in, refusal_up, refused_by, restart_outs, Branch, at_place, branch_of, next_uid, path_below, World, is_serial_kind}
+use Words.{numbered, Post, Seen, see, length-map}
 use Words.body
 use Words.kind
 use Words.input
 use Rattle.arj_law_runs.proofs.Terms
 use Terms.{HasNames, Act, act_in, acts, path, path_in, uids, upwards, Action, AreBegun, action_of, paths_of, IsGoodCoord, path_found}
-use Terms.{begun_tree, IsGoodOf, IsMemory, IsUp, Keeps, MayGive, is_act, label_at, AreQuiet, at, down, given, posted, said, up, Up, Walks}
-use Terms.{halted, Keeping, walks_both, walks_to, Book, book, new_book, turned, IsKept, IsWritten, Knows, KnowsUp}
+use Terms.{IsAtStarts, begun_tree, IsGoodOf, IsMemory, IsUp, Keeps, MayGive, is_act, label_at, AreQuiet, at, down, given, posted, said, up}
+use Terms.{Up, Walks}
+use Terms.{halted, path_length, Keeping, walks_both, walks_to, Book, book, new_book, turned, IsKept, IsWritten, Knows, KnowsUp}
 use Terms.seen
 use Rattle.arj_law_parts.specs.parts.Actions.{act_of}
 use Rattle.arj_law_runs.proofs.calls.Reaching.{kept_holds}
@@ -24,7 +25,8 @@ use Rattle.arj_law_runs.proofs.kept.Begins.{begin_good, its_uid, may as may_begi
 use Rattle.arj_law_runs.proofs.kept.Handled.{act_good, good_coord, message_good, stopped_good, tick_good}
 use Rattle.arj_law_runs.proofs.kept.Starts.{first_of, restart_good}
 use Rattle.arj_law_runs.proofs.kept.Walked.{same_number}
-use Rattle.arj_law_runs.specs.journal.{Knows.after, Paths.AreAlike, Paths.IsAlike, Paths.IsAlikeOf, Paths.PathsAgree}
+use Rattle.arj_law_runs.specs.journal.{Knows.after, Paths.AreAlike, Paths.AreShort, Paths.IsAlike, Paths.IsAlikeOf}
+use Rattle.arj_law_runs.specs.journal.{Paths.PathsAgree}
 
 -- ---- actions that are alike
 
@@ -321,8 +323,9 @@ module _ (hd : Header) (begun : List Action) where
       (names.restart e k d M h.0) (restart_good hd e k d M (begun, h.1.0)) (lines.restart e k d M (kept_of begun (down k d M) h))
       (acts_walk (let B = book M.lines in B.acts) e k (restart_outs hd k (d.inc + 1) d) d M (book M.lines) refl refl g.acts)
 
-pub first_pathed : (hd : Header) → IsPathedOf [] (see [] (format hd))
-first_pathed hd = (let n = keeps_names hd in n.first, (first_of hd, tt, (let k = lines_keep hd in let w = k.first in w.1)))
+pub first_pathed : (hd : Header) → IsAtStarts hd (IsPathedOf [])
+first_pathed hd st formed =
+    (let n = keeps_names hd in n.first st formed, (first_of hd st formed, tt, (let k = lines_keep hd in let w = k.first st formed in w.1)))
 
 -- whichever were begun
 some_walk : (begun : List Action) (e k : ℕ) (outs : List Effect) (v : Parts) (d : Disk) (N : Seen) →
@@ -346,7 +349,7 @@ paths_keep hd = record {
       (with_coord t (again_all t.coord.doings t.coord).part) d M (tick_pathed hd h.1.0 e k d t M (h.0, h.1.1));
   restart = λ e k d M h.
       some_walk h.1.0 e k (restart_outs hd k (d.inc + 1) d) (parts_in k (d.inc + 1) d) d M (restart_pathed hd h.1.0 e k d M (h.0, h.1.1));
-  first = let h = first_pathed hd in (h.0, ([], h.1));
+  first = λ st formed. let h = first_pathed hd st formed in (h.0, ([], h.1));
 }
 
 pub paths_agree : (hd : Header) (w : World) → Keeping hd w → PathsAgree w
@@ -367,3 +370,21 @@ paths_agree hd w keeping k n t u b q here live found does =
         ap (λ ls. uids (path (acts ls) (name q.label))) (sym same)
         ∙ ap (λ xs. uids (path xs (name q.label))) (sym (its_acts M.lines written.right))
         ∙ its_path begun good.begun (book M.lines) t.coord alike node.coord l.knows u b q found does
+
+-- paths of actions are short, as those of nodes are
+all_short : (begun : List Action) (xs : List Act) → AreAlike begun xs → AreShort xs
+all_short [] [] alike = tt
+all_short [] (x ∷ xs) alike = absurd alike
+all_short (a ∷ begun) [] alike = absurd alike
+all_short (a ∷ begun) (x ∷ xs) alike = (
+  (let p = a.path in let most = p.most in let long = path_length p in
+      let count : length (uids (path_in xs x)) ≡ length (path_in xs x) = length-map (path_in xs x) (λ (y : Act). y.uid) in
+      let same = sym count ∙ ap length alike.2 in omega (arith, most, long, same)),
+  all_short begun xs alike.3,
+)
+
+pub paths_short : (hd : Header) (w : World) → Keeping hd w → AreShort (acts w.lines)
+paths_short hd w keeping =
+    let r = kept_holds hd w keeping IsPathed (paths_keep hd) in
+    let h = r.holds in
+    subst AreShort (its_acts w.lines (let k = h.1.1.2 in k.right)) (all_short h.1.0 (let B = book w.lines in B.acts) h.1.1.1)

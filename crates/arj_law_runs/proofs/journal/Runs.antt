@@ -1,20 +1,21 @@
 -- Each handler keeps the journal right, and what nodes know of it.
 use Rattle.arj_law_parts.proofs.Words
-use Words.{◌≡◌, ◌≢◌, arith, ℕ, zero, suc, ◌+◌, ◌==◌, List, [], ◌∷◌, ◌++◌, length, map, Bool, true, false, cond, slice_get, Option, Some}
+use Words.{◌≡◌, ◌≢◌, arith, ℕ, zero, suc, ◌+◌, ◌==◌, List, [], ◌∷◌, ◌++◌, length, map, Bool, true, false, cond, Option, Some}
 use Words.{None, refl, sym, ◌∙◌, ap, subst, inl, inr, ⊎_elim, eqb-true, length-append, option_map, is_eq, AllByRecursion, and_parts}
 use Words.{in_from, in_to, In, Body, Header, Kind, Label, Message, Row, Uid, label_cmp, last_uid, name, uids_of, again_all, began_line}
 use Words.{begin_action, back_lines, Doing, doing_of, new_coord, tell_all, After, Before, Disk, Do, Effect, InPart, Intent, Look, PutInc}
 use Words.{Say, Send, Stop, stopped, tick_outs, Named, Naming, Parts, Took, handle, holders, prepared_actions, query_about, with_coord}
-use Words.{uid_set, without_number, Input, Node, acts, begin_refusal, first_disk, first_node, hello_to, naming_at, naming_back, numbers_to}
+use Words.{uid_set, without_number, Input, Node, acts, begin_refusal, node_by, hello_to, naming_at, naming_back, numbers_to}
 use Words.{parent_of, parts_in, recovered_records, refusal_up, restart_outs, tolds_again, Branch, at_place, branch_of, is_own, new_tree}
-use Words.{next_uid, path_below, Labelled, World, format, is_serial_kind, numbered, Post, Seen, see}
+use Words.{next_uid, path_below, Labelled, World, Start, if◌then◌else◌, is_serial_kind, numbered, Post, Seen, see}
 use Words.body
 use Words.ending
 use Words.kind
 use Words.input
 use Rattle.arj_law_runs.proofs.Terms
 use Terms.{Act, act_in, is_serial, path_in, uids, same_acked, same_acts, same_again, same_heard, KnowsTops, IsCounted, paths_of, IsGood}
-use Terms.{IsMemory, Keeps, MayGive, is_act, label_at, AreQuiet, at, down, given, said, up, Up, Walks, halted, Keeping, walks_both, Book}
+use Terms.{IsAtStarts, IsMemory, Remembers, disk_by, Keeps, MayGive, is_act, label_at, AreQuiet, at, down, given, said, up, Up, Walks}
+use Terms.{halted, Keeping, walks_both, Book}
 use Terms.{book, is_decided, new_book, turned, AreLined, Calls, Claims, Counts, EachRecord, IsCalled, IsGiven, IsKept, IsWritten, Knows}
 use Terms.{KnowsUp, Puts, AreIdle, AreLate, AreRight, IsBelow, MayBeFound, Right, has_act}
 use Terms.seen
@@ -30,9 +31,10 @@ use journal.Books.{sane_lines, sane_new, sane_turn, still_named}
 use journal.Effects.{ArePartly, Goes, IsPartly, all_flat, all_map, claims_later, goes_before, goes_behind, later_after, sends_partly}
 use journal.Effects.{GoesBy, tells_idle}
 use journal.Walks.{all_written, base_of, down_written, its_own, node_apart, stop_written, written_walk}
-use Rattle.arj_law_runs.proofs.kept.{AllRuns.all_keep, Begins.may as may_begin, Handled.begun_of, Handled.good_coord, Handled.it}
+use Rattle.arj_law_runs.proofs.kept.{AllRuns.all_keep, Begins.may as may_begin, Begins.under_plain, Handled.begun_of}
+use Rattle.arj_law_runs.proofs.kept.{Handled.good_coord, Handled.it}
 use Rattle.arj_law_runs.proofs.kept.{Handled.one_tree, Labels.one_name, Labels.put_label, Parted.IsLeft, Parted.coord_kept}
-use Rattle.arj_law_runs.proofs.kept.{Walked.other_number}
+use Rattle.arj_law_runs.proofs.kept.{Starts.first_at, Starts.live_first, Walked.other_number}
 use Rattle.arj_law_runs.specs.journal.Knows.{AreBegun, KnowsNode, after, IsIdle}
 
 -- after right effects a sane book is sane
@@ -159,35 +161,37 @@ module _ (e k : ℕ) (d : Disk) (t : Parts) (M : Seen) (good : IsGood (up k d t 
 
 -- a parent is of the kind that the label's is
 below : (labels : List (Label × Labelled)) (acts : List Act) (k : ℕ) (how : Kind) (parent : Option Label) → AreBegun labels acts →
-    MayGive labels k how parent → IsBelow acts how (option_map name parent)
-below labels acts k kind.Top None begun may = tt
-below labels acts k kind.Serial None begun may = tt
-below labels acts k kind.Independent (Some p) begun may = let b = begun p may.0 may.1 in (b.0, b.1)
-below labels acts k kind.Nested (Some p) begun may = let b = begun p may.0 may.1 in
+    MayGive labels k how parent → (how ≡ kind.Independent → (p : Label) → parent ≡ Some p → (g : Labelled) → label_at p labels ≡ Some g →
+    g.serial ≡ false) → IsBelow acts how (option_map name parent)
+below labels acts k kind.Top None begun may single = tt
+below labels acts k kind.Serial None begun may single = tt
+below labels acts k kind.Independent (Some p) begun may single = let b = begun p may.0 may.1 in
+    (b.0, b.1, b.2 ∙ single refl p refl may.0 may.1)
+below labels acts k kind.Nested (Some p) begun may single = let b = begun p may.0 may.1 in
     (b.0, b.1, b.2 ∙ plain (let g = may.0 in g.serial) may.3)
   where
     plain : (x : Bool) → kind.Nested ≡ cond x kind.Constituent kind.Nested → x ≡ false
     plain true is = absurd (cc is)
     plain false is = refl
-below labels acts k kind.Constituent (Some p) begun may = let b = begun p may.0 may.1 in
+below labels acts k kind.Constituent (Some p) begun may single = let b = begun p may.0 may.1 in
     (b.0, b.1, b.2 ∙ serial (let g = may.0 in g.serial) may.3)
   where
     serial : (x : Bool) → kind.Constituent ≡ cond x kind.Constituent kind.Nested → x ≡ true
     serial true is = refl
     serial false is = absurd (cc is)
-below labels acts k kind.Top (Some p) begun may = absurd (neither (let g = may.0 in g.serial) may.3)
+below labels acts k kind.Top (Some p) begun may single = absurd (neither (let g = may.0 in g.serial) may.3)
   where
     neither : (x : Bool) → kind.Top ≡ cond x kind.Constituent kind.Nested → ⊥
     neither true is = cc is
     neither false is = cc is
-below labels acts k kind.Serial (Some p) begun may = absurd (neither (let g = may.0 in g.serial) may.3)
+below labels acts k kind.Serial (Some p) begun may single = absurd (neither (let g = may.0 in g.serial) may.3)
   where
     neither : (x : Bool) → kind.Serial ≡ cond x kind.Constituent kind.Nested → ⊥
     neither true is = cc is
     neither false is = cc is
-below labels acts k kind.Nested None begun may = absurd may
-below labels acts k kind.Constituent None begun may = absurd may
-below labels acts k kind.Independent None begun may = absurd may
+below labels acts k kind.Nested None begun may single = absurd may
+below labels acts k kind.Constituent None begun may single = absurd may
+below labels acts k kind.Independent None begun may single = absurd may
 
 module _ (e k : ℕ) (d : Disk) (t : Parts) (M : Seen) (good : IsGood (up k d t M)) (w : IsWritten (up k d t M)) (l : Label) (how : Kind)
     (parent : Option Label) (new : label_at l M.labels ≡ None) (may : MayGive M.labels k how parent)
@@ -224,7 +228,8 @@ module _ (e k : ℕ) (d : Disk) (t : Parts) (M : Seen) (good : IsGood (up k d t 
   right = (
     named,
     unknown,
-    below M.labels (let b = book M.lines in b.acts) k how parent w.begun may,
+    below M.labels (let b = book M.lines in b.acts) k how parent w.begun may
+        (λ same p is g at. under_plain e k d t l how parent M new may free good same p is g at),
     (let q = knows_up e k d t M good w in begins_in k good.0 (begun_of e k d t M good) (paths_of good.0) (one_tree e k d t M good)
         (book M.lines) t.coord (good_coord e k d t M good) q.knows q.calls (let n = q.tops in n.names) how parent free),
   )
@@ -523,41 +528,35 @@ module _ (hd : Header) (e k : ℕ) (d : Disk) (M : Seen) (good : IsGood (down k 
 
 -- ---- at first
 
-first_at : (hd : Header) (ns : List ℕ) (i : ℕ) (n : Node) → slice_get (map (first_node hd) ns) i ≡ Some n → (m : ℕ) × (first_node hd m ≡ n)
-first_at hd [] i n is = absurd (cc is)
-first_at hd (m ∷ ms) zero n is = (m, cc is)
-first_at hd (m ∷ ms) (suc i) n is = first_at hd ms i n is
-
 nothing_found : (P : Uid → Type 0) → EachRecord P []
 nothing_found P u i there = absurd (in_from (u, i) [] there)
 
-first_knows : (hd : Header) (j m : ℕ) → KnowsNode new_book j (first_node hd m)
-first_knows hd j m = record {
+first_knows : (hd : Header) (st : Start) (j : ℕ) → KnowsNode new_book j (node_by hd st j)
+first_knows hd st j = record {
   records = nothing_found (MayBeFound new_book j);
-  counts = tt;
-  live = λ t is.
-      let same : parts_in m 1 (first_disk hd m) ≡ t = cc is in
-      subst (λ (x : Parts). KnowsUp new_book [] x.coord) same (record {
-        knows = new_knows new_book m 1 [] (λ a i own. i) (nothing_found (λ u. is_decided new_book u ≡ true));
-        calls = new_calls new_book m 1 [];
-        tops = tops_are_kept.new m 1 [];
+  counts = counts (st.up j);
+  live = λ t is. let inc = st.incs j + 1 in
+      subst (λ (x : Parts). KnowsUp new_book [] x.coord) (live_first hd st j t is) (record {
+        knows = new_knows new_book j inc [] (λ a i own. i) (nothing_found (λ u. is_decided new_book u ≡ true));
+        calls = new_calls new_book j inc [];
+        tops = tops_are_kept.new j inc [];
         found = nothing_found (λ u. is_decided new_book u ≡ true);
       });
 }
+  where
+    counts : (b : Bool) →
+        Remembers new_book j (st.incs j + 1) (if b then Some (parts_in j (st.incs j + 1) (disk_by hd st j)) else None)
+    counts true = tt
+    counts false = (0, tt)
 
-first_written : (hd : Header) → IsWritten (see [] (format hd))
-first_written hd = record {
+first_written : (hd : Header) → IsAtStarts hd IsWritten
+first_written hd st formed = record {
   right = tt;
-  nodes = λ j n is. by j n is;
+  nodes = λ j n is. subst (KnowsNode new_book j) (first_at hd st j n is) (first_knows hd st j);
   posts = λ p there. absurd there;
   labels = tt;
   begun = λ l g is. absurd (cc is);
 }
-  where
-    by : (j : ℕ) (n : Node) → at_place j (map (first_node hd) (numbers_to hd.nodes)) ≡ Some n → KnowsNode new_book j n
-    by zero n is = absurd (cc is)
-    by (suc i) n is = let f = first_at hd (numbers_to hd.nodes) i n is in
-        subst (KnowsNode new_book (suc i)) f.1 (first_knows hd (suc i) f.0)
 
 quiet_written : (e : ℕ) (bs : List Body) (M : Seen) → AreQuiet bs → IsWritten M → IsWritten (said e bs M)
 quiet_written e bs M quiet w =
@@ -588,7 +587,7 @@ lines_keep hd = record {
       (with_coord t (again_all t.coord.doings t.coord).part) d M (keep.tick e k d t M all.0) (tick_written e k d t M all.0 all.1);
   restart = λ e k d M all. both e k (restart_outs hd k (d.inc + 1) d) (parts_in k (d.inc + 1) d) d M (keep.restart e k d M all.0)
       (restart_written hd e k d M all.0 all.1);
-  first = (keep.first, first_written hd);
+  first = λ st formed. (keep.first st formed, first_written hd st formed);
 }
   where
     keep : Keeps hd IsGood

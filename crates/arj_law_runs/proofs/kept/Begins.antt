@@ -10,7 +10,8 @@ use Words.ending
 use Words.kind
 use Rattle.arj_law_runs.proofs.Terms
 use Terms.{Action, Agree, AreBegun, AreCounted, MayBegin, action_of, paths_of, IsSettled, IsGoodCoord, IsTree, Paths, SaysInc, Seals}
-use Terms.{IsDecided, stand_begins, said_on, agree_less, begun_tree, path_found, behind, named_found, off, IsGood, IsGoodOf, IsGoodPlace}
+use Terms.{IsDecided, stand_begins, said_on, agree_less, begun_tree, path_found, behind, named_found, off, off_third, IsGood, IsGoodOf}
+use Terms.{IsGoodPlace}
 use Terms.{IsMemory, IsUp, KnowsLabels, DidKeeps, MayGive, label_at, In, given, said, up}
 use Rattle.arj_law_parts.proofs.parts
 use parts.{Begun.begins_in_tree, Begun.counted_more, CoordInputs.next_path, EndsSaid.sure_begins, Numbered.num_begins}
@@ -101,6 +102,13 @@ module _ (e k : ℕ) (d : Disk) (t : Parts) (l : Label) (how : Kind) (parent : O
             q.4 ∙ ap (λ (x : Labelled). x.serial) same,
             ap (refused_by (begin_reasons how) c) (sym q.3) ∙ f,
           )
+
+  -- an independent action doesn't begin in a serializing one
+  pub under_plain : how ≡ kind.Independent → (p : Label) → parent ≡ Some p → (g : Labelled) → label_at p M.labels ≡ Some g →
+      g.serial ≡ false
+  under_plain same p is g at =
+      let f = parent_is p (subst (λ q. begin_refusal how c q ≡ None) is none) g at in
+      sym f.2 ∙ off_third (begin_reasons kind.Independent f.0 c) (subst (λ h. first_reason (begin_reasons h f.0 c) ≡ None) same f.3)
 
   contained : (p : Label) (b : Branch) → branch_named p c ≡ Some b → Contains good.0 (action_of b)
   contained p b is = let g = good_coord e k d t M good in

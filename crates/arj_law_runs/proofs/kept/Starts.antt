@@ -3,13 +3,13 @@ use Rattle.arj_law_parts.proofs.Words
 use Words.{slice_get, AllByRecursion, ◌≡◌, ◌+◌, arith, ℕ, List, [], ◌∷◌, ◌++◌, length, map, zero, suc, true, false, Option, Some, None}
 use Words.{refl, sym, ◌∙◌, ap, subst, ⊎_elim, length-append, in_from, Uid, Header, Coord, new_coord, back_lines, Disk, Effect, Say, Do}
 use Words.{Look, PutInc, Before, After, InPart, Intent, Named, Naming, Parts, query_about, prepared_actions, uid_set, without_number, Node}
-use Words.{first_disk, first_node, hello_to, naming_at, naming_back, numbers_to, parts_in, recovered_records, restart_outs, tolds_again}
-use Words.{at_place, new_tree, format, Seen, see}
+use Words.{hello_to, naming_at, naming_back, numbers_to, parts_in, recovered_records, restart_outs, tolds_again}
+use Words.{at_place, new_tree, node_by, if◌then◌else◌, Bool, Start, Seen}
 use Words.body
 use Rattle.arj_law_runs.proofs.Terms
 use Terms.{AllSayEnds, AreOfCommits, IsSure, SaysEndsIn, Agree, AreBegun, AreCounted, paths_of, IsTree, Paths, IsClaimsOf, AllFit}
 use Terms.{IsGoodNode, says_queries, none_in, sure_records, begun_tree, path_found, restart_well, get_more, all_both, all_flat, all_map}
-use Terms.{restart_of, true_inc, true_records, IsGood, IsGoodOf, IsGoodDisk, IsGoodPlace, IsUp, down, Up, Walks}
+use Terms.{IsAtStarts, disk_by, restart_of, true_inc, true_records, IsGood, IsGoodOf, IsGoodDisk, IsGoodPlace, IsUp, down, Up, Walks}
 use Rattle.arj_law_parts.proofs.parts
 use parts.{Begun.counted_anew, EndsSaid.sure_new, Numbered.num_new, ObjectsAsked.obj_new, TrueSteps.faithful_new, TrueSteps.later_home}
 use Rattle.arj_law_parts.specs.{moves.Walks.Stops, parts.Claims.IsFaithful}
@@ -202,47 +202,67 @@ number_at zero k j is = let no_way : ◌≡◌ {A = Option ℕ} None (Some j) = 
 number_at (suc n) k j is =
     ⊎_elim (λ old. number_at n k j old) (λ new. sym new.1 ∙ ap suc (sym (new.0 ∙ as_many n))) (get_more k (suc n) j (numbers_to n) is)
 
-module _ (hd : Header) where
-  pub first_at : (k : ℕ) (n : Node) → at_place k (map (first_node hd) (numbers_to hd.nodes)) ≡ Some n → first_node hd k ≡ n
+module _ (hd : Header) (st : Start) where
+  pub first_at : (k : ℕ) (n : Node) → at_place k (map (node_by hd st) (numbers_to hd.nodes)) ≡ Some n → node_by hd st k ≡ n
   first_at zero n is = let no_way : ◌≡◌ {A = Option Node} None (Some n) = is in cc
-  first_at (suc k) n is = let q = got_map (first_node hd) (numbers_to hd.nodes) k n is in
-      ap (first_node hd) (sym (number_at hd.nodes k q.0 q.1)) ∙ q.2
+  first_at (suc k) n is = let q = got_map (node_by hd st) (numbers_to hd.nodes) k n is in
+      ap (node_by hd st) (sym (number_at hd.nodes k q.0 q.1)) ∙ q.2
+
+  -- the memory of one that is up is new
+  pub live_first : (k : ℕ) (t : Parts) → (node_by hd st k).live ≡ Some t → parts_in k (st.incs k + 1) (disk_by hd st k) ≡ t
+  live_first k t live = by (st.up k) live
+    where
+      by : (b : Bool) → (if b then Some (parts_in k (st.incs k + 1) (disk_by hd st k)) else None) ≡ Some t →
+          parts_in k (st.incs k + 1) (disk_by hd st k) ≡ t
+      by true up = cc up
+      by false up = absurd (cc up)
+
+  pub first_up : (k : ℕ) (n : Node) (t : Parts) → at_place k (map (node_by hd st) (numbers_to hd.nodes)) ≡ Some n → n.live ≡ Some t →
+      parts_in k (st.incs k + 1) (disk_by hd st k) ≡ t
+  first_up k n t is live = live_first k t (ap (λ (z : Node). z.live) (first_at k n is) ∙ live)
 
   none_counted : (k i count : ℕ) → AreCounted k i count []
   none_counted k i count a u there = absurd (in_from a [] there)
 
-  started_up : (k : ℕ) → IsUp [] [] [] k 1 (parts_in k 1 (first_disk hd k))
-  started_up k = record {
+  started_up : (k : ℕ) → IsUp [] [] [] k (st.incs k + 1) (parts_in k (st.incs k + 1) (disk_by hd st k))
+  started_up k = let i = st.incs k in record {
     good =
-        λ paths tree agree. (restart_well [] tt paths tree agree hd k 0 (record (first_disk hd k) { inc = 0 }) (none_counted k 0 0) tt).0;
+        λ paths tree agree. (restart_well [] tt paths tree agree hd k 0 (record (disk_by hd st k) { inc = i }) (none_counted k i 0) tt).0;
     node = refl;
     inc = refl;
     server = refl;
-    faithful = faithful_new [] k 0 1 0 [] (none_counted k 0 0) (omega arith) tt tt;
-    counted = none_counted k 1 0;
+    faithful = faithful_new [] k i (i + 1) 0 [] (none_counted k i 0) (omega arith) tt tt;
+    counted = none_counted k (i + 1) 0;
     known = λ l j is. let no_way : ◌≡◌ {A = Option ℕ} None (Some j) = is in cc;
     voted = λ w is. let no_way : false ≡ true = is in cc;
-    sure = sure_new [] k 0 1 0 [] (none_counted k 0 0) (omega arith) tt;
-    numbered = num_new k 1 [];
-    objects = obj_new k 1 [];
+    sure = sure_new [] k i (i + 1) 0 [] (none_counted k i 0) (omega arith) tt;
+    numbered = num_new k (i + 1) [];
+    objects = obj_new k (i + 1) [];
   }
 
-  place_first : (k : ℕ) → IsGoodPlace [] [] [] k (first_node hd k)
-  place_first k = record {
-    disk = record { tops = tt; own = tt };
-    memory = started_up k;
-    records = let s = sure_new [] k 0 1 0 [] (none_counted k 0 0) (omega arith) tt in s.records;
-  }
+  place_first : (k : ℕ) → IsGoodPlace [] [] [] k (node_by hd st k)
+  place_first k = by (st.up k)
+    where
+      sure : IsSure (record (new_coord k (st.incs k + 1)) { telling = [] })
+      sure = sure_new [] k (st.incs k) (st.incs k + 1) 0 [] (none_counted k (st.incs k) 0) (omega arith) tt
 
-  -- before any action began
-  pub first_of : IsGoodOf [] (see [] (format hd))
-  first_of = record {
-    begun = tt;
-    places = λ k n is. subst (IsGoodPlace [] [] [] k) (first_at k n is) (place_first k);
-    fits = λ p there. absurd there;
-    senders = λ p u there. absurd there;
-    so = λ p n there. absurd there;
-  }
+      by : (b : Bool) → IsGoodPlace [] [] [] k (record {
+        number = k;
+        disk = disk_by hd st k;
+        live = if b then Some (parts_in k (st.incs k + 1) (disk_by hd st k)) else None;
+      })
+      by true = record { disk = record { tops = tt; own = tt }; memory = started_up k; records = sure.records }
+      by false = record { disk = record { tops = tt; own = tt }; memory = (0, none_counted k (st.incs k + 1) 0); records = tt }
 
-  pub first_good : IsGood (see [] (format hd))
-  first_good = ([], first_of)
+-- before any action began
+pub first_of : (hd : Header) → IsAtStarts hd (IsGoodOf [])
+first_of hd st formed = record {
+  begun = tt;
+  places = λ k n is. subst (IsGoodPlace [] [] [] k) (first_at hd st k n is) (place_first hd st k);
+  fits = λ p there. absurd there;
+  senders = λ p u there. absurd there;
+  so = λ p n there. absurd there;
+}
+
+pub first_good : (hd : Header) → IsAtStarts hd IsGood
+first_good hd st formed = ([], first_of hd st formed)

@@ -20,7 +20,7 @@ use Words.calls
 use Words.commit
 use Words.input
 use Rattle.arj_law_runs.proofs.Terms.{doing_other, doing_put, is_act, EndsWait, IsAborted}
-use Rattle.arj_law_parts.proofs.steps.Spoken.{first_not}
+use Rattle.arj_law_parts.proofs.moves.Reasons.{first_not}
 use Rattle.arj_law_runs.proofs.{coordinators.CoordUses.some_is, resting.Quiesces.again_doing}
 use Rattle.arj_law_runs.proofs.resting.Hearing.{Fits, IsHome, all_doing, answered_fits, doomed_work, end_work}
 use Rattle.arj_law_runs.specs.resting.Answered.{IsAnswered}

@@ -328,13 +328,13 @@ same_now (Calling s) waits = (refl, refl)
 same_now (Committing m) waits = tt
 
 pub runs_answer_or_wait : RunsAnswerOrWait
-runs_answer_or_wait hd ms ns k c u q found does waits = by (let p = after.holds in let g = p.1 in g.now)
+runs_answer_or_wait hd r ns k c u q found does waits = by (let p = after.holds in let g = p.1 in g.now)
   where
     w : World
-    w = world_by hd ms
+    w = world_by hd r
 
-    good : Holds hd IsGood (world_by hd ms)
-    good = moves_asked hd IsGood (keeps_asked hd IsGood (all_keep hd)) ms
+    good : Holds hd IsGood (world_by hd r)
+    good = moves_asked hd IsGood (keeps_asked hd IsGood (all_keep hd)) r
 
     P : Seen → Type 0
     P = Both w.lines k q.label u q.now

@@ -2,7 +2,7 @@
 use Rattle.arj_law_parts.proofs.Words
 use Words.{◌≡◌, ◌≤◌, ◌+◌, ℕ, zero, suc, Bool, true, false, List, [], ◌∷◌, ◌++◌, refl, Option, Some, None, arith, length, length-append}
 use Words.{◌||◌, not, nat_lt, if◌then◌else◌, nat_tests, Event, Header, Input, first_reason, at_place, set_place, Arm, Frame, Giving, World}
-use Words.{as_delivered, as_lost, begins, begins_any, counted, deliver, deliver_frame, format, frame_number, giving, happens, is_quiet}
+use Words.{as_delivered, as_lost, begins, begins_any, counted, deliver, deliver_frame, world_from, frame_number, giving, happens, is_quiet}
 use Words.{is_up_at, junk_fits, labels_unless, lacks_labels, limited, lose_frame, lowest, most_frames, new_frame, no_labels, node_numbers}
 use Words.{node_of, quiesce, quiet_line, reasons, refused_at, run_event, run_unless, settle, settle_for, show_all, show_up, steps, tick_all}
 use Words.{tick_up, Move, all_moved, moved, world_by}
@@ -10,7 +10,7 @@ use Words.body
 use Words.event
 use Words.input
 use Rattle.arj_law_runs.proofs.Terms
-use Terms.{length_marked, steps_add, Asked, says}
+use Terms.{Run, length_marked, steps_add, Asked, says}
 use Terms.which
 
 abbrev pub Few : World → Type 0
@@ -129,5 +129,5 @@ pub all_few : (ms : List Move) (w : World) → Few w → Few (all_moved ms w)
 all_few [] w few = few
 all_few (m ∷ ms) w few = all_few ms (moved m w) (events_few m.asked (record w { arms = m.falls }) few)
 
-pub runs_few : (hd : Header) (ms : List Move) → Few (world_by hd ms)
-runs_few hd ms = all_few ms (format hd) (omega arith)
+pub runs_few : (hd : Header) (r : Run hd) → Few (world_by hd r)
+runs_few hd r = all_few r.moves (world_from hd r.start) (omega arith)

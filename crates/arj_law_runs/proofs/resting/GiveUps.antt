@@ -10,7 +10,8 @@ use Words.{rounds, whole, with_coord, at_number, Node, Step, acts, branch_named,
 use Words.{refusal_at, Branch, at_place, root_of, set_place, branch_of, is_own, Arm, World, armed, count_works, counted, cut, disarmed}
 use Words.{done_step, frames_with, halted_at, halted_outs, is_given, limited, lowest_from, most_frames, node_of, run_event, run_unless}
 use Words.{sends, step_node, step_with, steps, labelled, Move, all_moved, moved, world_by, Seen, AreQuiet, NobodyWaits, AreGivenUp, AreIdle}
-use Words.{AreUp, IsToSettle, coord_in, coord_of, lookup, is_at, In, in_from, in_to, and_parts}
+use Words.{AreUp, IsToSettle, coord_in, coord_of, lookup, is_at, In, in_from, in_to, and_parts, bytes_eq, cond, is_eq, list_any, name}
+use Words.{was_given, ◌||◌}
 use Words.body
 use Words.event
 use Words.calls
@@ -19,13 +20,13 @@ use Words.world
 use Rattle.arj_law_runs.proofs.Terms
 use Terms.{AreNamed, HasNames, KnowsNames, events_settle, Asked, says as world_says, IsGood, IsMemory, Holds, KeepsAsked, keeps_asked}
 use Terms.{place_same, move_asked, moves_asked, moves_go_on, SettlesAll, AnswersWaits, WaitOvertaken, same_acts, IsAsking, IsBusy, paths_of}
-use Terms.{begun_tree, path_found}
+use Terms.{Run, begun_tree, path_found, same_key}
 use Terms.which
 use Rattle.arj_law_parts.proofs.steps.{Spoken.given_node, Whole.move_whole, Whole.runs_whole, Whole.whole_with}
 use Rattle.arj_law_parts.specs.{parts.Coords.AreBusy, steps.Writes.IsWhole}
 use Rattle.arj_law_runs.proofs.coordinators.CoordUses.{on_cases, some_is}
 use Rattle.arj_law_runs.proofs.coordinators.RunCoords.{IsSo, holds_named, keeps_names, names_are_kept}
-use Rattle.arj_law_runs.proofs.kept.Walked.{same_number}
+use Rattle.arj_law_runs.proofs.kept.{Labels.one_name, Walked.same_number}
 use Rattle.arj_law_runs.proofs.resting
 use resting.{Fits.Few, Fits.all_few, Fits.runs_few, Quiesces.keeps_good, Quiesces.move_answers, Quiets.move_settles, Worlds.Of}
 use Rattle.arj_law_runs.specs.resting.Quiet.{RoundsSettle}
@@ -411,12 +412,35 @@ giveup_steps hd l w of calm sound = by (at_place (node_of l w) w.nodes) refl
         (giveup_light w.header a l
         (λ c is. (sound (node_of l w) c of (ap coord_in there ∙ is), calm.only (node_of l w) c of (ap coord_in there ∙ is)))) calm.none
 
+-- a label that was given in the run wasn't given before it
+given_anew : (w : World) (l : Label) → IsWhole w → is_given l w ≡ true → was_given l w ≡ false
+given_anew w l whole given = by w.labels whole.new given
+  where
+    alike : (a b : Label) → is_eq (label_cmp a b) ≡ true → (ls : List Label) →
+        list_any (is_at (label_cmp a)) ls ≡ list_any (is_at (label_cmp b)) ls
+    alike a b is [] = refl
+    alike a b is (j ∷ js) = λ i. one i || alike a b is js i
+      where
+        one : is_eq (label_cmp a j) ≡ is_eq (label_cmp b j)
+        one = same_key a j ∙ ap (λ x. bytes_eq x (name j)) (one_name a b is) ∙ sym (same_key b j)
+
+    by : (ls : List (Label × world.Labelled)) → AllByRecursion (λ (e : Label × world.Labelled). was_given e.0 w ≡ false) ls →
+        is_some (lookup (is_at (label_cmp l)) ls) ≡ true → was_given l w ≡ false
+    by [] all some = absurd (cc some)
+    by (e ∷ es) all some = here (is_eq (label_cmp l e.0)) refl some (by es all.1)
+      where
+        here : (b : Bool) → is_eq (label_cmp l e.0) ≡ b → is_some (cond b (Some e.1) (lookup (is_at (label_cmp l)) es)) ≡ true →
+            (is_some (lookup (is_at (label_cmp l)) es) ≡ true → was_given l w ≡ false) → was_given l w ≡ false
+        here true is found rest = alike l e.0 is w.start.given ∙ all.0
+        here false is found rest = rest found
+
 -- so it is of the event that gives it up
 giveup_goes : (hd : Header) (e : Asked) (l : Label) (w : World) → e.event ≡ event.GiveUp l → IsWhole w → w.header ≡ hd → w.over ≡ false →
     IsCalm hd w → AreSound hd w → HasGivenUp hd l w (run_event e w)
-giveup_goes hd e l w is whole header over calm sound =
+giveup_goes hd e l w is is_whole header over calm sound =
     subst (λ b. HasGivenUp hd l w (if b then w else run_unless e.event e.arm w (first_reason (world.reasons e.event w)))) (sym over)
-    (subst (λ x. HasGivenUp hd l w (run_unless x e.arm w (first_reason (world.reasons x w)))) (sym is) (at_node (is_given l w) refl))
+    (subst (λ x. HasGivenUp hd l w (run_unless x e.arm w (first_reason (world.reasons x w)))) (sym is)
+    (at_node (was_given l w) (is_given l w) refl refl))
   where
     counts : (v : World) → HasGivenUp hd l (counted w) v → HasGivenUp hd l w v
     counts v g = record { none = g.none; labels = g.labels; coords = g.coords }
@@ -437,16 +461,22 @@ giveup_goes hd e l w is whole header over calm sound =
             let no_way : false ≡ true = sym (ap (λ j. nat_le 1 j && nat_le j hd.nodes) zero_is) ∙ of in absurd (cc no_way)
         by (Some g) has none = absurd (cc none)
 
-    at_node : (b : Bool) → is_given l w ≡ b → HasGivenUp hd l w (run_unless (event.GiveUp l) e.arm w (first_reason ((5, not b) ∷ [])))
-    at_node true given = limits (steps (node_of l (counted w)) (input.GiveUp l) (counted w))
-        (counts (steps (node_of l (counted w)) (input.GiveUp l) (counted w)) (giveup_steps hd l (counted w)
-        (subst (λ (x : Header). (nat_le 1 (node_of l w) && nat_le (node_of l w) x.nodes) ≡ true) header (given_node w l whole given))
-        (record { none = calm.none; only = calm.only }) sound))
-    at_node false none = record {
+    refused : is_given l w ≡ false → (c : ℕ) → HasGivenUp hd l w (world_says (body.Refused c ∷ []) (counted w))
+    refused none c = record {
       none = calm.none;
       labels = refl;
-      coords = λ k c of at. (c, at, refl, stays k (node_of l w) l c c (nowhere none k of) refl);
+      coords = λ k e of at. (e, at, refl, stays k (node_of l w) l e e (nowhere none k of) refl);
     }
+
+    at_node : (a b : Bool) → was_given l w ≡ a → is_given l w ≡ b →
+        HasGivenUp hd l w (run_unless (event.GiveUp l) e.arm w (first_reason ((5, not (a || b)) ∷ (6, a) ∷ [])))
+    at_node false true old given = limits (steps (node_of l (counted w)) (input.GiveUp l) (counted w))
+        (counts (steps (node_of l (counted w)) (input.GiveUp l) (counted w)) (giveup_steps hd l (counted w)
+        (subst (λ (x : Header). (nat_le 1 (node_of l w) && nat_le (node_of l w) x.nodes) ≡ true) header (given_node w l is_whole given))
+        (record { none = calm.none; only = calm.only }) sound))
+    at_node false false old none = refused none 5
+    at_node true false old none = refused none 6
+    at_node true true old given = let no_way : true ≡ false = sym old ∙ given_anew w l is_whole given in absurd (cc no_way)
 
 calm_goes : (hd : Header) (l : Label) (w v : World) → HasGivenUp hd l w v → IsCalm hd w → IsCalm hd v
 calm_goes hd l w v g calm = record {
@@ -509,8 +539,8 @@ record IsInRun (hd : Header) (w : World) : Type 0 where
 names_asked : (hd : Header) → KeepsAsked hd (IsSo HasNames names_are_kept)
 names_asked hd = keeps_asked hd (IsSo HasNames names_are_kept) (keeps_names hd)
 
-in_run : (hd : Header) (ms : List Move) → IsInRun hd (world_by hd ms)
-in_run hd ms = record { whole = runs_whole hd ms; named = moves_asked hd (IsSo HasNames names_are_kept) (names_asked hd) ms }
+in_run : (hd : Header) (r : Run hd) → IsInRun hd (world_by hd r)
+in_run hd r = record { whole = runs_whole hd r; named = moves_asked hd (IsSo HasNames names_are_kept) (names_asked hd) r }
 
 run_goes : (hd : Header) (m : Move) (w : World) → IsInRun hd w → IsInRun hd (moved m w)
 run_goes hd m w r =
@@ -654,29 +684,30 @@ module _ (hd : Header) (R : Seen → Type 0) (keeps : KeepsAsked hd R) (answers 
       settles_on last nobody over_n ups_n = move_settles hd R keeps settles n w (moves_go_on hd P (keeps_good hd R keeps) gs (moved m u)
           held_v) (all_few gs (moved m u) few_v) ends.0.none nobody last over_w over_n ups_n
 
-  pub round_settles : (ms gs : List Move) (m n : Move) → let u = world_by hd ms in let v = moved m u in let w = all_moved gs v in
+  pub round_settles : (run : Run hd) (gs : List Move) (m n : Move) → let u = world_by hd run in let v = moved m u in
+      let w = all_moved gs v in
       m.asked.event ≡ event.Quiesce → AllByRecursion IsGiveUp gs → n.asked.event ≡ event.Quiesce
       → u.over ≡ false → v.over ≡ false → AreUp v → w.over ≡ false → AreGivenUp gs v ⊎ NobodyWaits w → (moved n w).over ≡ false →
       AreUp (moved n w) → AreQuiet (moved n w)
-  round_settles ms gs m n is all last over went ups over_w nobody over_n ups_n = settles_on u gs m n r held few is all over went ups over_w
+  round_settles run gs m n is all last over went ups over_w nobody over_n ups_n = settles_on u gs m n r held few is all over went ups over_w
       last (⊎_elim (λ given. nobody_waits (all_moved gs (moved m u)) (done.1 given)) (λ none. none) nobody) over_n ups_n
     where
       u : World
-      u = world_by hd ms
+      u = world_by hd run
 
-      r : IsInRun hd (world_by hd ms)
-      r = in_run hd ms
+      r : IsInRun hd (world_by hd run)
+      r = in_run hd run
 
-      held : Holds hd P (world_by hd ms)
-      held = moves_asked hd P (keeps_good hd R keeps) ms
+      held : Holds hd P (world_by hd run)
+      held = moves_asked hd P (keeps_good hd R keeps) run
 
-      few : Few (world_by hd ms)
-      few = runs_few hd ms
+      few : Few (world_by hd run)
+      few = runs_few hd run
 
-      done : IsCalm hd (all_moved gs (moved m (world_by hd ms)))
-          × (AreGivenUp gs (moved m (world_by hd ms)) → AreGivenUp [] (all_moved gs (moved m (world_by hd ms))))
-      done = ends (world_by hd ms) gs m n r held few is all over went ups over_w
+      done : IsCalm hd (all_moved gs (moved m (world_by hd run)))
+          × (AreGivenUp gs (moved m (world_by hd run)) → AreGivenUp [] (all_moved gs (moved m (world_by hd run))))
+      done = ends (world_by hd run) gs m n r held few is all over went ups over_w
 
 pub rounds_settle : RoundsSettle
-rounds_settle hd test keeps answers settles ms gs m n is all last over went ups over_w nobody over_n ups_n =
-    round_settles hd (λ M. test M ≡ true) keeps answers settles ms gs m n is all last over went ups over_w nobody over_n ups_n
+rounds_settle hd test keeps answers settles run gs m n is all last over went ups over_w nobody over_n ups_n =
+    round_settles hd (λ M. test M ≡ true) keeps answers settles run gs m n is all last over went ups over_w nobody over_n ups_n

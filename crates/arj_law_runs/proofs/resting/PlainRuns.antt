@@ -240,11 +240,11 @@ never_plain : {X : Type 0} (b : Body) → is_plain b ≡ true → is_plain b ≡
 never_plain b plain isnt = let no_way : true ≡ false = sym plain ∙ isnt in absurd (cc no_way)
 
 pub quiesces_answer_or_leave : QuiescesAnswerOrLeave
-quiesces_answer_or_leave hd ms m k c u q is over up found does waits =
-    ⊎_elim (λ still. inl still) (λ ended. inr (answered ended)) (runs_answer_or_wait hd ms (m ∷ []) k c u q found does waits)
+quiesces_answer_or_leave hd r m k c u q is over up found does waits =
+    ⊎_elim (λ still. inl still) (λ ended. inr (answered ended)) (runs_answer_or_wait hd r (m ∷ []) k c u q found does waits)
   where
     w : World
-    w = world_by hd ms
+    w = world_by hd r
 
     plain : (more : List Line) × ((moved m w).lines ≡ w.lines ++ more) × AllByRecursion (IsPlainIn (moved m w)) more
     plain = quiesces_give_nothing_up m.asked (record w { arms = m.falls }) is over

@@ -12,7 +12,7 @@ use Words.event
 use Words.body
 use Rattle.arj_law_runs.proofs.Terms
 use Terms.{begun_tree, path_found, AreBegun, paths_of, IsAsking, IsBusy, IsGoodCoord, Asked, says, IsGood, IsGoodPlace, Holds, KeepsAsked}
-use Terms.{In, given, up, Up, arms_hold, keeps_asked, moves_asked, walks_both, AnswersWaits, WaitOvertaken, AreBrought, Asking, HasWay}
+use Terms.{Run, In, given, up, Up, arms_hold, keeps_asked, moves_asked, walks_both, AnswersWaits, WaitOvertaken, AreBrought, Asking, HasWay}
 use Terms.{Want, want_of_call, want_of_commit}
 use Rattle.arj_law_runs.proofs.coordinators.CoordUses.{some_is}
 use Rattle.arj_law_runs.proofs.kept.AllRuns.{all_keep}
@@ -241,7 +241,7 @@ asked_both hd P Q k g = record {
       (record { number = n; disk = d; live = Some t }) t) (Up P n v) (Up Q n v) d M (k.tick e n d t M h.0) (g.tick e n d t M h.1);
   restart = λ e n d M h. walks_both P Q e n (restart_outs hd n (d.inc + 1) d) (Up P n (parts_in n (d.inc + 1) d))
       (Up Q n (parts_in n (d.inc + 1) d)) d M (k.restart e n d M h.0) (g.restart e n d M h.1);
-  first = (k.first, g.first);
+  first = λ st formed. (k.first st formed, g.first st formed);
 }
 
 -- a relation together with what holds in every run
@@ -293,7 +293,7 @@ module _ (hd : Header) (R : Seen → Type 0) (keeps : KeepsAsked hd R) (gives : 
   move_answers m w h few is over last ups =
       quiesce_answers m.asked (record w { arms = m.falls }) (arms_hold hd P m.falls w h) few is over last ups
 
-  pub run_answers : (ms : List Move) (m : Move) → let w = world_by hd ms in
+  pub run_answers : (r : Run hd) (m : Move) → let w = world_by hd r in
       m.asked.event ≡ event.Quiesce → w.over ≡ false → (moved m w).over ≡ false → AreUp (moved m w) → WaitOvertaken (moved m w)
-  run_answers ms m is over last ups =
-      move_answers m (world_by hd ms) (moves_asked hd P (keeps_good hd R keeps) ms) (runs_few hd ms) is over last ups
+  run_answers r m is over last ups =
+      move_answers m (world_by hd r) (moves_asked hd P (keeps_good hd R keeps) r) (runs_few hd r) is over last ups

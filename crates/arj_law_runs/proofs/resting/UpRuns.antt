@@ -147,13 +147,13 @@ module _ (old : List Line) (k : ℕ) where
 -- ---- moves
 
 pub runs_stay_up : RunsStayUp
-runs_stay_up hd ms ns k up = by (let p = after.holds in p.now)
+runs_stay_up hd r ns k up = by (let p = after.holds in p.now)
   where
     w : World
-    w = world_by hd ms
+    w = world_by hd r
 
-    good : Holds hd IsGood (world_by hd ms)
-    good = moves_asked hd IsGood (keeps_asked hd IsGood (all_keep hd)) ms
+    good : Holds hd IsGood (world_by hd r)
+    good = moves_asked hd IsGood (keeps_asked hd IsGood (all_keep hd)) r
 
     there : IsThere w.lines k (see good.sent w)
     there = at_node (at_place k w.nodes) refl up
@@ -183,13 +183,13 @@ runs_stay_up hd ms ns k up = by (let p = after.holds in p.now)
     })
 
 pub all_stay_up : AllStayUp
-all_stay_up hd ms ns ups none k of = ⊎_elim (λ up. up) (λ said. absurd (never said)) (runs_stay_up hd ms ns k (ups k before_of))
+all_stay_up hd r ns ups none k of = ⊎_elim (λ up. up) (λ said. absurd (never said)) (runs_stay_up hd r ns k (ups k before_of))
   where
     w : World
-    w = world_by hd ms
+    w = world_by hd r
 
-    good : Holds hd IsGood (world_by hd ms)
-    good = moves_asked hd IsGood (keeps_asked hd IsGood (all_keep hd)) ms
+    good : Holds hd IsGood (world_by hd r)
+    good = moves_asked hd IsGood (keeps_asked hd IsGood (all_keep hd)) r
 
     later : Holds hd IsGood (all_moved ns w)
     later = moves_go_on hd IsGood (keeps_asked hd IsGood (all_keep hd)) ns w good

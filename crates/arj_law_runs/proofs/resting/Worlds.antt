@@ -383,7 +383,7 @@ said_sends is = absurd (cc is)
 pub seen_up : (P : Seen → Type 0) (n : ℕ) (a : Node) (t : Parts) (sent : List Post) (w : World) → at_place n w.nodes ≡ Some a →
     a.number ≡ n → a.live ≡ Some t → P (see sent w) → P (up n a.disk t (see sent w))
 seen_up P n a t sent w there is live h =
-    subst (λ f. P (record { sent = sent; lines = w.lines; labels = w.labels; nodes = f })) (λ i m. same m i) h
+    subst (λ f. P (record (see sent w) { nodes = f })) (λ i m. same m i) h
   where
     mine : Node
     mine = record { number = n; disk = a.disk; live = Some t }

@@ -1,12 +1,12 @@
 -- The paths of actions, as nodes have begun them and as a journal has them.
-use Rattle.std.specs.Prelude.{⊤, ◌≡◌, ℕ, List, [], ◌∷◌, Some}
+use Rattle.std.specs.Prelude.{⊤, ◌≡◌, ◌≤◌, ℕ, List, [], ◌∷◌, length, Some}
 use Rattle.arj_model.specs.Actions.{Act, acts, path, path_in, uids}
 use Rattle.arj_law_parts.specs.parts.Actions.{Action, act_of}
 use Rattle.arj_protocol.specs.Words.{Uid, name, uids_of}
 use Rattle.arj_protocol.specs.Coord.{Doing, doing_of}
 use Rattle.arj_protocol.specs.Node.{Parts}
 use Rattle.arj_protocol.specs.Step.{Node}
-use Rattle.arj_protocol.specs.Tree.{Branch, at_place, branch_of}
+use Rattle.arj_protocol.specs.Tree.{Branch, at_place, branch_of, longest_path}
 use Rattle.arj_protocol.specs.World.{World}
 use Rattle.arj_law_runs.specs.kept.Worlds.{IsGoodOf}
 use Rattle.arj_promise.specs.Runs.{Seen}
@@ -18,6 +18,11 @@ abbrev pub AreAlike : List Action → List Act → Type 0
 AreAlike [] [] = ⊤
 AreAlike (a ∷ begun) (b ∷ acts) = (b.uid ≡ act_of a) × (b.kind ≡ a.kind) × (uids (path_in acts b) ≡ uids_of a.path) × AreAlike begun acts
 AreAlike begun acts = ⊥
+
+-- the path of each of these actions is no longer than a path may be
+abbrev pub AreShort : List Act → Type 0
+AreShort [] = ⊤
+AreShort (a ∷ older) = (length (path_in older a) ≤ longest_path) × AreShort older
 
 -- good nodes, whose actions are those of the journal
 abbrev pub IsAlikeOf : List Action → Seen → Type 0

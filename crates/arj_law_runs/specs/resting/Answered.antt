@@ -11,7 +11,7 @@ use Rattle.arj_protocol.specs.Coord.{Calling, Committing, Coord, Doing, Idle, No
 use Rattle.arj_protocol.specs.Step.{is_waiting_now}
 use Rattle.arj_protocol.specs.Tree.{at_place}
 use Rattle.arj_protocol.specs.World.{Asked, World, is_up_at, run_event}
-use Rattle.arj_promise.specs.Runs.{Move, all_moved, moved, world_by}
+use Rattle.arj_promise.specs.Runs.{Move, Run, all_moved, moved, world_by}
 use Rattle.arj_promise.specs.Waiting.{coord_in}
 use Rattle.arj_promise.specs.Waiting.{HasAnswer, IsAnswerTo, IsPlainIn, StillWaits}
 
@@ -33,7 +33,7 @@ pub record HasEnded (k : ℕ) (q : Doing) (old new : List Line) : Type 0 where
 
 -- So it is in every run, from any of its worlds on, whatever stops fall.
 abbrev pub RunsAnswerOrWait : Type 0
-RunsAnswerOrWait = (hd : Header) (ms ns : List Move) (k : ℕ) (c : Coord) (u : Uid) (q : Doing) → let w = world_by hd ms in
+RunsAnswerOrWait = (hd : Header) (r : Run hd) (ns : List Move) (k : ℕ) (c : Coord) (u : Uid) (q : Doing) → let w = world_by hd r in
     coord_in (at_place k w.nodes) ≡ Some c → doing_of u c ≡ Some q → is_waiting_now q.now ≡ true
     → let v = all_moved ns w in StillWaits v k u q ⊎ HasEnded k q w.lines v.lines
 
@@ -46,7 +46,7 @@ QuiescesGiveNothingUp = (e : Asked) (w : World) → e.event ≡ event.Quiesce �
 
 -- Whoever waits as a quiesce begins waits for the same at its end, or a line of the quiesce answers it: at each node that is up then.
 abbrev pub QuiescesAnswerOrLeave : Type 0
-QuiescesAnswerOrLeave = (hd : Header) (ms : List Move) (m : Move) (k : ℕ) (c : Coord) (u : Uid) (q : Doing) → let w = world_by hd ms in
+QuiescesAnswerOrLeave = (hd : Header) (r : Run hd) (m : Move) (k : ℕ) (c : Coord) (u : Uid) (q : Doing) → let w = world_by hd r in
     m.asked.event ≡ event.Quiesce → w.over ≡ false → is_up_at k (moved m w) ≡ true
     → coord_in (at_place k w.nodes) ≡ Some c → doing_of u c ≡ Some q → is_waiting_now q.now ≡ true → let v = moved m w in
     StillWaits v k u q ⊎ HasAnswer q w.lines v.lines

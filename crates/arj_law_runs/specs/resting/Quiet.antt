@@ -19,7 +19,7 @@ use Rattle.arj_law_parts.specs.parts.Coords.{IsCommitting}
 use Rattle.arj_law_parts.specs.parts.Objects.{AreSorted}
 use Rattle.arj_law_runs.specs.kept.Worlds.{IsGood}
 use Rattle.arj_law_parts.specs.moves.Keeps.{Holds, KeepsAsked}
-use Rattle.arj_promise.specs.Runs.{Move, all_moved, moved, world_by}
+use Rattle.arj_promise.specs.Runs.{Move, Run, all_moved, moved, world_by}
 use Rattle.arj_law_parts.specs.moves.Seen.{In, up}
 use Rattle.arj_promise.specs.Runs.{Post, Seen}
 use Rattle.arj_law_runs.specs.resting.Rounds.{AnswersWaits}
@@ -102,7 +102,7 @@ QuiescesSettle = (hd : Header) (test : Seen → Bool) → KeepsAsked hd (λ M. t
 abbrev pub RoundsSettle : Type 0
 RoundsSettle = (hd : Header) (test : Seen → Bool) → KeepsAsked hd (λ M. test M ≡ true) → AnswersWaits hd (λ M. (test M ≡ true) × IsGood M) →
     SettlesAll hd (λ M. (test M ≡ true) × IsGood M)
-    → (ms gs : List Move) (m n : Move) → let u = world_by hd ms in let v = moved m u in let w = all_moved gs v in
+    → (r : Run hd) (gs : List Move) (m n : Move) → let u = world_by hd r in let v = moved m u in let w = all_moved gs v in
     m.asked.event ≡ event.Quiesce → AllByRecursion IsGiveUp gs → n.asked.event ≡ event.Quiesce
     → u.over ≡ false → v.over ≡ false → AreUp v → w.over ≡ false → AreGivenUp gs v ⊎ NobodyWaits w → (moved n w).over ≡ false →
     AreUp (moved n w) → AreQuiet (moved n w)

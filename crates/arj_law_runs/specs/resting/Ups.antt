@@ -5,7 +5,7 @@ use Rattle.arj_law_parts.specs.steps.Halts.{halted_node}
 use Rattle.arj_protocol.specs.Words.{Header, Line}
 use Rattle.arj_protocol.specs.Words.body
 use Rattle.arj_protocol.specs.World.{is_up_at}
-use Rattle.arj_promise.specs.Runs.{Move, all_moved, world_by}
+use Rattle.arj_promise.specs.Runs.{Move, Run, all_moved, world_by}
 use Rattle.arj_promise.specs.Resting.{AreUp}
 
 -- a line behind the old ones says that the node halted
@@ -18,7 +18,7 @@ pub record SaysHalted (k : ℕ) (old new : List Line) : Type 0 where
 
 -- So it is in every run, from any of its worlds on, whatever stops fall.
 abbrev pub RunsStayUp : Type 0
-RunsStayUp = (hd : Header) (ms ns : List Move) (k : ℕ) → let w = world_by hd ms in is_up_at k w ≡ true → let v = all_moved ns w in
+RunsStayUp = (hd : Header) (r : Run hd) (ns : List Move) (k : ℕ) → let w = world_by hd r in is_up_at k w ≡ true → let v = all_moved ns w in
     (is_up_at k v ≡ true) ⊎ SaysHalted k w.lines v.lines
 
 -- no line behind the old ones says that some node halted
@@ -27,5 +27,5 @@ NoneHalts old new = (more : List Line) × (new ≡ old ++ more) × AllByRecursio
 
 -- where every node is up, and none is said to halt from there on, every node is up
 abbrev pub AllStayUp : Type 0
-AllStayUp = (hd : Header) (ms ns : List Move) → let w = world_by hd ms in AreUp w → let v = all_moved ns w in
+AllStayUp = (hd : Header) (r : Run hd) (ns : List Move) → let w = world_by hd r in AreUp w → let v = all_moved ns w in
     NoneHalts w.lines v.lines → AreUp v

@@ -1,12 +1,14 @@
 -- Through each event that restarts no node an object is seen at each place of the journal.
 use Rattle.arj_law_parts.proofs.Words
+use Words.{IsFormed, Start, world_from}
 use Words.{◌≡◌, ◌⊎◌, ◌≤◌, ◌∙◌, ◌==◌, ◌++◌, ◌+◌, ℕ, List, [], ◌∷◌, Bool, true, false, Option, Some, None, is_some, length, take, refl, sym}
 use Words.{ap, subst, inl, inr, ⊎_elim, arith, length-append, ⊤, if◌then◌else◌, entry, object, Body, Event, Header, Line, first_reason}
-use Words.{at_place, World, counted, format, giving, happens, lacks_labels, limited, no_labels, numbered, reasons, run_event, run_unless}
+use Words.{at_place, World, counted, giving, happens, lacks_labels, limited, no_labels, numbered, reasons, run_event, run_unless}
 use Words.{Seen, see}
 use Words.body
 use Words.event
 use Rattle.arj_law_serial.proofs.Terms
+use Terms.{IsAtStarts}
 use Terms.{HeaderInForm, first_values, object_line, table, Asked, Action, arms_hold, event_asked, first_asked, IsAlikeOf, State}
 use Terms.{AreUppersOf, AgreesBy, Fixed, SeesLocks, AreTied, locks_in, memory_of, HoldsNames, rows_on, up_of, IsApt}
 use Terms.which
@@ -111,7 +113,8 @@ module _ (hd : Header) (x : ℕ) (form : HeaderInForm hd) (there : is_some (obje
 
   -- at the last place its tables are those of the nodes' locks
   pub last_placed : (sent : List _) (v : World) → IsShown hd v → (f : Fixed) (begun : List Action) (S : State) →
-      IsAlikeOf begun (see sent v) → AreUppersOf HoldsNames begun (see sent v) → AgreesBy (IsApt (first_values hd) x) f x begun sent →
+      IsAlikeOf begun (see sent v) → AreUppersOf HoldsNames begun (see sent v) →
+      AgreesBy (IsApt (first_values hd) x v.start.marks) f x begun sent →
       SeesLocks f x begun S (see sent v) → AreTied f x v.lines S → (p : ℕ) → p ≡ length v.lines → IsPlaced f x begun S v.lines p
   last_placed sent v shown f begun S alike names agrees sees tied p same =
       at_the_end f x begun S (see sent v) sees tied p same alike.0 agrees.0
@@ -154,7 +157,7 @@ module _ (hd : Header) (x : ℕ) (form : HeaderInForm hd) (there : is_some (obje
       M = see held.sent (run_event e w)
 
       by : Leaves w (run_event e w) → (f : Fixed) (begun : List Action) (S : State) → IsAlikeOf begun M → AreUppersOf HoldsNames begun M →
-          AgreesBy (IsApt (first_values hd) x) f x begun held.sent → SeesLocks f x begun S M → AreTied f x M.lines S
+          AgreesBy (IsApt (first_values hd) x v.start.marks) f x begun held.sent → SeesLocks f x begun S M → AreTied f x M.lines S
           → Before (IsApt (first_values hd) x) x (Beside hd x) (length w.lines) (w.event + 1) M f S → (p : ℕ) → p ≤ length M.lines →
           HasActs (take p M.lines) → IsPlaced f x begun S M.lines p
       by (inr guard) f begun S alike names agrees sees tied before p within has =
@@ -165,17 +168,17 @@ module _ (hd : Header) (x : ℕ) (form : HeaderInForm hd) (there : is_some (obje
           (le_or p (length w.lines) (length M.lines) within few)
 
   -- at first
-  pub first_along : IsAlong (format hd)
-  first_along = record {
-    shown = first_is_shown hd;
-    holds = first_asked hd (Along hd x form there 0 1)
-        (along_kept hd x form there 0 1 (Along hd x form there 0 1 (see [] (format hd))) at_first);
+  pub first_along : (st : Start) → IsFormed hd st → IsAlong (world_from hd st)
+  first_along st formed = record {
+    shown = first_is_shown hd st formed;
+    holds = first_asked hd st (Along hd x form there 0 1) formed
+        (along_kept hd x form there 0 1 (IsAtStarts hd (Along hd x form there 0 1)) at_first);
   }
     where
-      at_first : Along hd x form there 0 1 (see [] (format hd))
-      at_first = (
-        ((let c = calm hd in c.first), first_showing hd 1),
-        (λ few. coming_first hd x form there 0 1),
+      at_first : IsAtStarts hd (Along hd x form there 0 1)
+      at_first of of_formed = (
+        ((let c = calm hd in c.first of of_formed), first_showing hd 1 of of_formed),
+        (λ few. coming_first hd x form there 0 1 of of_formed),
       )
 
   -- which stops are still to fall is nothing to it

@@ -1,13 +1,15 @@
 -- Beside both machines of an object, each handler leaves it seen at each place of the journal.
 use Rattle.arj_law_parts.proofs.Words
+use Words.{IsFormed, Start, world_from}
 use Words.{◌≡◌, ◌⊎◌, ◌∙◌, ◌++◌, ◌+◌, ℕ, List, [], ◌∷◌, map, true, false, Option, Some, is_some, length, refl, sym, subst, inl, inr, ⊎_elim}
 use Words.{Contains, ⊤, if◌then◌else◌, AllByRecursion, Row, Body, End, Header, Message, Uid, asks, uids_of, again_all, begin_action, Disk}
 use Words.{Effect, tick_outs, server_rows, Parts, Took, handle, holders, is_meant, query_about, with_coord, at_number, is_coord_effect}
-use Words.{Node, acts as does, parent_of, parts_in, restart_outs, tolds_again, format, is_serial_kind, acts_own, again_own, map_own}
+use Words.{Node, acts as does, parent_of, parts_in, restart_outs, tolds_again, is_serial_kind, acts_own, again_own, map_own}
 use Words.{tolds_again_own, all_both, Seen, see}
 use Words.body
 use Words.input
 use Rattle.arj_law_serial.proofs.Terms
+use Terms.{Marks}
 use Terms.{HeaderInForm, Act, acts, first_values, object_line, Action, KeepsFrom, In, at, down, given, said, up, Up, Walks, halted}
 use Terms.{walks_both, walks_to, KnowsFew, KeepsGiven, IsAlikeOf, IsPathedOf, act_pathed, message_pathed, live_in, Office, Kinds}
 use Terms.{KnowsScript, nothing_more, Run, stay, State, AreUppersOf, Case, IsSeenIn, KnowsSpot, Spot, world_at, AgreesBy, Fixed, view_of}
@@ -25,7 +27,7 @@ use holding.Calling.{acts_apart, answers_call, begin_commits, tick_commits}
 use holding.OnLines.{Before, Onward, Places, Still, WasAlong, quiet_onward, was_later}
 use holding.Running.{Showing, alike_of, coord_all, node_there, showing_kept}
 use Rattle.arj_law_serial.proofs.joint
-use joint.{Joining.WithLocks, RestGiven.rest_beside}
+use joint.{Joining.WithLocks, RestGiven.rest_beside, Starting.stands_for}
 use joint.Carrying.{Calm, IsCarriedThere, IsThere, beside_given, calm, know}
 use joint.Grown.{AreFew, IsGrown, as_it_is, few_first, few_walk, fewer_labels, grown_said}
 use joint.JoinedParts.{Base, Carried, Whole, header_has}
@@ -50,7 +52,7 @@ Coming hd x first event M N = OpsFit x N.lines → IsThere x (Base hd x) (Pairs 
 -- what is to be shown of these lines, from this on
 abbrev pub Turns : Header → ℕ → ℕ → ℕ → ℕ → ℕ → Seen → Seen → Type 0
 Turns hd x first event later next M N = (f : Fixed) (begun : List Action) (S : State) → IsAlikeOf begun N → AreUppersOf HoldsNames begun N →
-    AgreesBy (IsApt (first_values hd) x) f x begun N.sent → SeesLocks f x begun S N → AreTied f x N.lines S
+    AgreesBy (IsApt (first_values hd) x N.start.marks) f x begun N.sent → SeesLocks f x begun S N → AreTied f x N.lines S
     → Before (IsApt (first_values hd) x) x (Beside hd x) first event M f S →
     Places (IsApt (first_values hd) x) x (Beside hd x) later next f begun S N.lines
 
@@ -103,8 +105,8 @@ module _ (hd : Header) (x first event later next : ℕ) where
       )
 
 module _ (hd : Header) (x : ℕ) (form : HeaderInForm hd) (there : is_some (object_line hd x) ≡ true) (first event : ℕ) where
-  abbrev Apt : Fixed → Type 0
-  Apt f = IsApt (first_values hd) x f
+  abbrev Apt : Marks → Fixed → Type 0
+  Apt marks f = IsApt (first_values hd) x marks f
 
   abbrev Known : Fixed → List Action → State → Seen → Type 0
   Known = Beside hd x
@@ -135,7 +137,7 @@ module _ (hd : Header) (x : ℕ) (form : HeaderInForm hd) (there : is_some (obje
       (λ was. inr (was_later Apt x Known first event M f S T run was)) (past some)
 
   coming_given : (M : Seen) → KeepsGiven hd (λ N. KnowsScript N × Acted M N) (Comes M)
-  coming_given M = beside_given hd x form there (Acted M) (From M) (stays M) (λ f S has. absurd (has refl))
+  coming_given M = beside_given hd x form there (Acted M) (From M) (stays M) (λ f S st formed has. absurd (has refl))
 
   again : (M N : Seen) → Goes M N → Comes M N → Comes N N
   again M N on coming = turned hd x first event first event M N on coming
@@ -146,9 +148,12 @@ module _ (hd : Header) (x : ℕ) (form : HeaderInForm hd) (there : is_some (obje
 
   -- ---- what messages bring
 
-  gives : (f : Fixed) → Apt f → GivesLocks hd f x (λ begun S M. (KnowsFew M × Whole x begun M) × IsPaired x (Carried hd x) f begun S M)
-  gives f apt = gives_locks hd x (header_has hd x there) (KnowsWhole x) f (λ begun S M. IsPaired x (Carried hd x) f begun S M)
-      (first_values hd, apt.0) (rest_beside (first_values hd) x (KnowsWhole x) (Carried hd x) (λ tops A M p. p.0.0.0) f apt.0)
+  gives : (marks : Marks) (f : Fixed) → Apt marks f →
+      GivesLocks hd f x (λ begun S M. (KnowsFew M × Whole x begun M) × IsPaired x (Carried hd x) f begun S M)
+  gives marks f apt =
+      let begins = stands_for (first_values hd) marks x f apt.0 in
+      gives_locks hd x (header_has hd x there) (KnowsWhole x) f (λ begun S M. IsPaired x (Carried hd x) f begun S M)
+      (first_values hd, begins) (rest_beside (first_values hd) x (KnowsWhole x) (Carried hd x) (λ tops A M p. p.0.0.0) f begins)
 
   module _ (k : ℕ) (d : Disk) (t v : Parts) (from : ℕ) (m : Message) (outs : List Effect) (M : Seen) (few : KnowsFew (up k d t M))
       (sent : In (record { from = from; to = k; message = m }) M.sent) (meant : is_meant t m ≡ true)
@@ -164,7 +169,7 @@ module _ (hd : Header) (x : ℕ) (form : HeaderInForm hd) (there : is_some (obje
     its = record { good = was.alike.0; alike = was.alike.1; written = was.alike.2; agrees = was.agrees.0; sees = was.sees; tied = was.tied }
 
     spot : KnowsSpot c s
-    spot = (let g = gives f was.agrees.1 in g.parts was.begun was.state s from m v outs ((few, was.more.0), was.more.1) its
+    spot = (let g = gives M.start.marks f was.agrees.1 in g.parts was.begun was.state s from m v outs ((few, was.more.0), was.more.1) its
         (record { sent = sent; meant = meant; takes = is }) mine).0
 
     its_up : SeesUp (view_of f x was.begun k) was.state d t
@@ -315,5 +320,5 @@ module _ (hd : Header) (x : ℕ) (form : HeaderInForm hd) (there : is_some (obje
   }
 
   -- so it is at first, where it is to be shown
-  pub coming_first : Comes (see [] (format hd)) (see [] (format hd))
-  coming_first = let g = coming_given (see [] (format hd)) in g.first
+  pub coming_first : (st : Start) → IsFormed hd st → Comes (see [] (world_from hd st)) (see [] (world_from hd st))
+  coming_first st formed = let g = coming_given (see [] (world_from hd st)) in g.first st formed

@@ -7,6 +7,7 @@ use Words.{server_rows, Parts, Took, handle, is_meant, apply_ends, Seen}
 use Words.message
 use Words.follow
 use Rattle.arj_law_serial.proofs.Terms
+use Terms.{Marks}
 use Terms.{acts, table, Action, AreBegun, FitsMessage, is_quiet_line, up, Up, Walks, walks_to, AreAlike, SaysPast, HasNaming, State, Fixed}
 use Terms.{view_of, is_for_parts, handled_answer, is_answer, response_is, took_heard, SayOf, entry_locks_in, locks_in, memory_of}
 use Terms.{named_locks, holders_in, is_steady, rows_on}
@@ -72,7 +73,8 @@ coord_same k d t v from m outs off is = by (answers m) refl (is_answer m refl of
         let q = took_heard t v (heard from a.0 a.1 d.intents t.coord) outs (sym (handled_answer k d t from a.0 a.1) ∙ n) in
         (ap (λ (z : Parts). z.server) (sym q.0), ap (λ (z : Parts). z.naming) (sym q.0))
 
-module _ (Apt : Fixed → Type 0) (x : ℕ) (R : Fixed → List Action → State → Seen → Type 0) (first event : ℕ) (M : Seen) (e k : ℕ) (d : Disk)
+module _ (Apt : Marks → Fixed → Type 0) (x : ℕ) (R : Fixed → List Action → State → Seen →
+    Type 0) (first event : ℕ) (M : Seen) (e k : ℕ) (d : Disk)
     (t v : Parts) (from : ℕ) (m : Message) (outs : List Effect) (showing : Shown first event (up k d t M))
     (begun : List Action) (all : AreBegun begun) (numbers : HaveNumbers begun) (alike : AreAlike begun (acts M.lines))
     (place : HasNaming k t) (lives : ℕ → Option Parts) (fits : FitsMessage begun m) (says : SaysPast begun lives

@@ -1,7 +1,8 @@
 -- After moves each object was seen at each place of the journal, so that calls and includes are held at each line.
 use Rattle.arj_law_parts.proofs.Words
+use Words.{world_from}
 use Words.{◌≡◌, ◌⊎◌, ◌≤◌, ◌<◌, ◌+◌, ℕ, List, [], ◌∷◌, true, length, take, is_some, refl, inl, inr, ⊎_elim, arith, in_to, Event, Header}
-use Words.{World, format, run_event, Move, all_moved, journal_by, moved, world_by, Seen, see}
+use Words.{World, run_event, Move, all_moved, journal_by, moved, world_by, Seen, see}
 use Words.event
 use Rattle.arj_law_serial.proofs.Terms
 use Terms.{HeaderInForm, first_values, included, object_line, Asked, IsReached, moves_reached, State, HasObject, AgreesAs, Fixed, SeesLocks}
@@ -22,6 +23,7 @@ use joint.JoinedParts.{Base, Whole}
 use Rattle.arj_law_serial.proofs.order.Codes.{codes_are_apart}
 use Rattle.arj_law_serial.proofs.whole.WholeRuns.{runs_call_objects, runs_include_objects}
 use Rattle.arj_law_serial.specs.holding.Along.{RunsHoldEach}
+use Rattle.arj_promise.specs.Runs.{Run}
 
 -- the event restarts this node, or none
 restarts_or : (e : Event) → ((n : ℕ) × (e ≡ event.Restart n)) ⊎ RestartsNone e
@@ -65,8 +67,8 @@ module _ (hd : Header) (x : ℕ) (form : HeaderInForm hd) (there : is_some (obje
   all_moves [] w h = h
   all_moves (m ∷ ms) w h = all_moves ms (moved m w) (each_move m w h)
 
-  moves_along : (ms : List Move) → IsAlong hd x form there (world_by hd ms)
-  moves_along ms = all_moves ms (format hd) (first_along hd x form there)
+  moves_along : (r : Run hd) → IsAlong hd x form there (world_by hd r)
+  moves_along r = all_moves r.moves (world_from hd r.start) (first_along hd x form there r.start r.formed)
 
   -- ---- one object
 
@@ -87,7 +89,7 @@ module _ (hd : Header) (x : ℕ) (form : HeaderInForm hd) (there : is_some (obje
         (let c = k.1.5 (kinds_of k.0) (kinds_agree k.0 (let g = k.1.0 in g.begun) k.1.1) in c.0.world) M
     j = let c = k.1.5 (kinds_of k.0) (kinds_agree k.0 (let g = k.1.0 in g.begun) k.1.1) in c.2.0.1
 
-    abbrev seen : (f : Fixed) → AreApart f.code → AgreesAs (first_values hd) f x j.0 M.sent →
+    abbrev seen : (f : Fixed) → AreApart f.code → AgreesAs (first_values hd) M.start.marks f x j.0 M.sent →
         (S : State) × SeesLocks f x j.0 S M × AreTied f x M.lines S
     seen f apart a = let g = j.3 f (a.0, (a.1, apart)) in (g.0, g.1, g.2)
 
@@ -107,9 +109,9 @@ module _ (hd : Header) (x : ℕ) (form : HeaderInForm hd) (there : is_some (obje
     its_object = of_each (first_values hd) x M j.0 j.1 seen knows placed
 
 pub runs_hold_each : RunsHoldEach
-runs_hold_each hd ms f = held_each (journal_by hd ms) (first_values hd) (λ x called. of_object x (runs_call_objects hd ms x called))
-    (λ i there. let has = runs_include_objects hd ms i (in_to i (included (journal_by hd ms)) there) in of_object i.it.x has.0)
+runs_hold_each hd r f = held_each (journal_by hd r) (first_values hd) (λ x called. of_object x (runs_call_objects hd r x called))
+    (λ i there. let has = runs_include_objects hd r i (in_to i (included (journal_by hd r)) there) in of_object i.it.x has.0)
   where
-    of_object : (x : ℕ) → HasObject hd x → OfEach (journal_by hd ms) x
-    of_object x has = let there = object_some hd x has in its_object hd x f.header there (world_by hd ms) (moves_reached hd ms f.few)
-        (moves_fit hd x ms f.events) (moves_along hd x f.header there ms)
+    of_object : (x : ℕ) → HasObject hd x → OfEach (journal_by hd r) x
+    of_object x has = let there = object_some hd x has in its_object hd x f.header there (world_by hd r) (moves_reached hd r f.few)
+        (moves_fit hd x r f.events) (moves_along hd x f.header there r)

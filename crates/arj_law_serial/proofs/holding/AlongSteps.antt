@@ -6,6 +6,7 @@ use Words.{Header, Line, Disk, Do, Effect, Look, PutInc, Say, Send, stopped, ser
 use Words.{restart_outs, numbered, Seen}
 use Words.body
 use Rattle.arj_law_serial.proofs.Terms
+use Terms.{Marks}
 use Terms.{table, Action, at, down, said, up, Up, Walks, halted, walks_both, walks_to, State, Fixed, SayOf, entry_locks_in, locks_in}
 use Terms.{memory_of, named_locks, rows_on, up_of}
 use Terms.part
@@ -25,7 +26,7 @@ pub together : (F S A : Seen → Type 0) (T : Seen → Type 0) (e k : ℕ) (outs
 together F S A T e k outs v d N stop end one two = walks_to (λ L. F L × S L) A e k outs (λ c L. Up F k v c L × T L) (Up A k v) d N
     (λ L h. stop L h.0 h.1) (λ c L h. end c L h.0 h.1) (walks_both F S e k outs (Up F k v) (λ c L. T L) d N one two)
 
-module _ (Apt : Fixed → Type 0) (x : ℕ) (R : Fixed → List Action → State → Seen →
+module _ (Apt : Marks → Fixed → Type 0) (x : ℕ) (R : Fixed → List Action → State → Seen →
     Type 0) (first event : ℕ) (M : Seen) (e k : ℕ) (d : Disk) (t v : Parts) (outs : List Effect) (showing : Shown first event (up k d t M))
     (N : Seen) (same_lines : N.lines ≡ M.lines) (same_nodes : N.nodes ≡ M.nodes) (own : AreAll is_coord_effect outs)
     (of : All (is_of k) outs) where
@@ -131,7 +132,7 @@ none_such_said (Say b ∷ es) = (refl, none_such_said es)
 none_such_said (Send to m ∷ es) = (tt, none_such_said es)
 none_such_said (Do w ∷ es) = (tt, none_such_said es)
 
-module _ (Apt : Fixed → Type 0) (x : ℕ) (R : Fixed → List Action → State → Seen →
+module _ (Apt : Marks → Fixed → Type 0) (x : ℕ) (R : Fixed → List Action → State → Seen →
     Type 0) (first event : ℕ) (M : Seen) (e k : ℕ) (d : Disk) (live : Option Parts) (showing : Shown first event (at k d live M)) where
   abbrev There : Seen
   There = at k d live M
@@ -149,7 +150,7 @@ module _ (Apt : Fixed → Type 0) (x : ℕ) (R : Fixed → List Action → State
       ((λ g. tt), (λ g. inl (let s = showing.shown g.0 1 (g.1 1) in s.naming x refl)))))
 
 -- A node restarts: behind the line of its start no node has started in the event, or none is to be shown.
-module _ (Apt : Fixed → Type 0) (x : ℕ) (R : Fixed → List Action → State → Seen →
+module _ (Apt : Marks → Fixed → Type 0) (x : ℕ) (R : Fixed → List Action → State → Seen →
     Type 0) (hd : Header) (first event : ℕ) (M : Seen) (e k : ℕ) (d : Disk) (showing : Shown first event (down k d M)) where
   abbrev Down : Seen
   Down = down k d M

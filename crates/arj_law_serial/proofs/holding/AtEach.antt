@@ -22,6 +22,7 @@ use order.Order.{IsShown, shown, top_item}
 use order.Seeing.{agrees_at, fixed_at, tied_at, tree}
 use Rattle.arj_model.specs.{Calls.Call, Calls.said, Held.AreAtOneNode, Held.IsHeldAt, Held.tables_of}
 use Rattle.std.proofs.Math.Bool.{Bool-set}
+use Rattle.arj_law_serial.proofs.joint.Starting.{stands_for}
 
 -- ---- lines by which no action began
 
@@ -86,7 +87,8 @@ journal_has (c ∷ begun) (x ∷ xs) alike a (inl is) = (x, inl refl, alike.0 �
 journal_has (c ∷ begun) (x ∷ xs) alike a (inr i) = let r = journal_has begun xs alike.3 a i in (r.0, inr r.1, r.2, r.3)
 
 module _ (values : Values) (x : ℕ) (M : Seen) (begun : List Action) (alike : IsAlikeOf begun M) (seen : (f : Fixed) → AreApart f.code →
-    AgreesAs values f x begun M.sent → (S : State) × SeesLocks f x begun S M × AreTied f x M.lines S) (knows : RequestsAreOne M) where
+    AgreesAs values M.start.marks f x begun M.sent → (S : State) × SeesLocks f x begun S M × AreTied f x M.lines S)
+    (knows : RequestsAreOne M) where
   abbrev lines : List Line
   lines = M.lines
 
@@ -94,7 +96,7 @@ module _ (values : Values) (x : ℕ) (M : Seen) (begun : List Action) (alike : I
   abbrev pub fixed : Fixed
   fixed = fixed_at values x M begun alike seen knows code_of
 
-  abbrev pub agreed : AgreesAs values fixed x begun M.sent
+  abbrev pub agreed : AgreesAs values M.start.marks fixed x begun M.sent
   agreed = agrees_at values x M begun alike seen knows code_of
 
   abbrev pub last : State
@@ -158,7 +160,13 @@ module _ (values : Values) (x : ℕ) (M : Seen) (begun : List Action) (alike : I
     held_at c s p behind within =
         let h = placed p (let e = end_there c s in omega (arith, e, within)) (acted c s p behind) in
         let at : IsSeenAt values lines x last t h.front =
-        record { state = h.state; before = h.run; behind = h.behind; tied = h.tied values (let a = agreed in a.1) } in
+        record {
+          state = h.state;
+          before = h.run;
+          behind = h.behind;
+          tied = h.tied values (stands_for values M.start.marks x fixed
+              (let a = agreed in a.1));
+        } in
         h.shown (ran_at values lines x last t c) (locks_call lines c)
         (locked_there values lines right x last t c s h.front p behind within h.place at h.servers h.to h.incs h.actives h.rows
         (λ n r i of. let k = h.known n r i in let b = its_path k.0 k.1 in (b.0, b.1, k.2 ∙ b.2)) h.sees)
@@ -168,7 +176,13 @@ module _ (values : Values) (x : ℕ) (M : Seen) (begun : List Action) (alike : I
     Named p = IsNamed fixed x begun last lines p
 
     abbrev seen_at : (p : ℕ) (q : Named p) → IsSeenAt values lines x last t q.front
-    seen_at p q = record { state = q.state; before = q.run; behind = q.behind; tied = q.tied values (let a = agreed in a.1) }
+    seen_at p q = record {
+      state = q.state;
+      before = q.run;
+      behind = q.behind;
+      tied = q.tied values
+          (stands_for values M.start.marks x fixed (let a = agreed in a.1));
+    }
 
     its_askers : (p : ℕ) (q : Named p) (r : Row) → Contains q.rows r → r.object ≡ entry x → IsHeldByUpper lines r
     its_askers p q r i of = let k = q.known r i in let b = its_action k.0 k.1 in (b.0, b.1, k.2 ∙ sym b.2, λ nested. k.3 (sym b.3 ∙ nested))

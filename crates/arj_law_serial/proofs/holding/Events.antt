@@ -1,21 +1,24 @@
 -- After each event of each run tables show the locks of nodes.
 use Rattle.arj_law_parts.proofs.Words
+use Words.{parts_in}
+use Words.{IsFormed, Start, world_from}
 use Words.{◌≡◌, ◌⊎◌, ◌≤◌, ◌∙◌, ◌==◌, ◌&&◌, ◌++◌, ◌+◌, ◌-◌, ℕ, List, [], ◌∷◌, Bool, true, false, cond, length, map, Option, Some, None, refl}
 use Words.{sym, ap, subst, inl, inr, ⊎_elim, arith, append_assoc, eqb-true, Contains, ⊤, if◌then◌else◌, is_some, nat_le, nat_lt, not}
 use Words.{AllByRecursion, is_eq, nat_cmp, map-append, is_on, nobody, object, entry, uid_eq, in_from, Body, Event, Header, Line}
 use Words.{ObjectState, Uid, uids_of, frame_kind, named_back, Disk, Do, Effect, Intent, Pair, Say, Send, AreEntries, rows_in_named, Parts}
-use Words.{prepared_actions, at_number, Node, Step, first_disk, first_reason, naming_at, step, at_place, set_place, Arm, World, armed}
-use Words.{bodies, count_works, counted, cut, disarmed, done_step, format, giving, halted_at, happens, is_node, is_up, is_up_at}
+use Words.{prepared_actions, at_number, Node, Step, first_reason, naming_at, step, at_place, set_place, Arm, World, armed}
+use Words.{bodies, count_works, counted, cut, disarmed, done_step, giving, halted_at, happens, is_node, is_up, is_up_at}
 use Words.{lacks_labels, limited, most_frames, no_labels, numbered, reasons, run_event, run_unless, step_node, step_with, steps, Move}
 use Words.{moved, Seen, see}
 use Words.body
 use Words.event
 use Words.input
 use Rattle.arj_law_serial.proofs.Terms
+use Terms.{IsAtStarts, disk_by}
 use Terms.{table, Asked, says, Action, act_of, AreOfTops, on_own, IsBegun, all_keys, arms_hold, event_asked, first_asked, place_same}
 use Terms.{rows_on, up_of, memory_of, named_locks, AreShown, ShowsLocks}
 use Terms.which
-use Rattle.arj_law_parts.proofs.steps.Spoken.{first_not, not_not}
+use Rattle.arj_law_parts.proofs.moves.Reasons.{first_not, not_not}
 use Rattle.arj_law_parts.specs.moves.Keeps.{Holds}
 use Rattle.arj_law_runs.proofs.{journal.Paths.first_pathed, kept.Starts.first_at}
 use Rattle.arj_law_serial.proofs.holding
@@ -335,30 +338,36 @@ none_at_first x d none (e ∷ es) =
     by true ih = refl
     by false ih = ih
 
-first_shown : (hd : Header) → AreShown (format hd)
-first_shown hd n = by (at_place n (format hd).nodes) refl
+first_shown : (hd : Header) (st : Start) → AreShown (world_from hd st)
+first_shown hd st n = by (at_place n (world_from hd st).nodes) refl
   where
-    named : (x : ℕ) (b : Bool) → named_locks x (cond b (naming_at 1 1 (first_disk hd n).names) None) ≡ []
-    named x true = none_at_first x (first_disk hd n).names refl (first_disk hd n).names.held
+    named : (x : ℕ) (b : Bool) → named_locks x (cond b (naming_at 1 (st.incs n + 1) (disk_by hd st n).names) None) ≡ []
+    named x true = none_at_first x (disk_by hd st n).names refl (disk_by hd st n).names.held
     named x false = refl
 
-    by : (o : Option Node) → at_place n (format hd).nodes ≡ o → ShowsLocks n [] (memory_of o)
+    its : (b : Bool) → ShowsLocks n [] (cond b (Some (parts_in n (st.incs n + 1) (disk_by hd st n))) None)
+    its true = record { server = λ x. refl; naming = λ x one. sym (named x (n == 1)) }
+    its false = record { server = λ x. refl; naming = λ x one. refl }
+
+    by : (o : Option Node) → at_place n (world_from hd st).nodes ≡ o → ShowsLocks n [] (memory_of o)
     by None is = record { server = λ x. refl; naming = λ x one. refl }
-    by (Some a) is = subst (λ (z : Node). ShowsLocks n [] z.live) (first_at hd n a is)
-        (record { server = λ x. refl; naming = λ x one. sym (named x (n == 1)) })
+    by (Some a) is = subst (λ (z : Node). ShowsLocks n [] z.live) (first_at hd st n a is) (its (st.up n))
 
 -- so it begins
-pub first_showing : (hd : Header) (event : ℕ) → Showing hd 0 event (see [] (format hd))
-first_showing hd event =
-    ([], (first_pathed hd, (let f = facts_of hd in f.first)), record { long = omega arith; shown = λ since n off. first_shown hd n })
+pub first_showing : (hd : Header) (event : ℕ) → IsAtStarts hd (Showing hd 0 event)
+first_showing hd event st formed = (
+  [],
+  (first_pathed hd st formed, (let f = facts_of hd in f.first st formed)),
+  record { long = omega arith; shown = λ since n off. first_shown hd st n },
+)
 
-pub first_is_shown : (hd : Header) → IsShown hd (format hd)
-first_is_shown hd = record {
-  known = let z = first_asked hd (Showing hd 0 0) (showing_kept hd 0 0 (Showing hd 0 0 (see [] (format hd))) (first_showing hd 0)) in
+pub first_is_shown : (hd : Header) (st : Start) → IsFormed hd st → IsShown hd (world_from hd st)
+first_is_shown hd st formed = record {
+  known = let z = first_asked hd st (Showing hd 0 0) formed (showing_kept hd 0 0 (IsAtStarts hd (Showing hd 0 0)) (first_showing hd 0)) in
       record { sent = z.sent; stands = z.stands; holds = (z.holds.0, z.holds.1) };
-  shown = first_shown hd;
+  shown = first_shown hd st;
   early = λ j. omega arith;
 }
 
 pub tables_show : TablesShowLocks
-tables_show hd ms = all_shown hd ms (format hd) (first_is_shown hd)
+tables_show hd r = all_shown hd r.moves (world_from hd r.start) (first_is_shown hd r.start r.formed)

@@ -4,11 +4,12 @@ use Words.{◌≡◌, ◌∙◌, ◌==◌, ◌++◌, ◌+◌, ℕ, List, [], ◌
 use Words.{eqb-true, inl, inr, ⊎_elim, ⊤, if◌then◌else◌, AllByRecursion, Less, Equal, uid_order, is_on, entry, nobody, uid_eq, uid_other}
 use Words.{In, in_from, Header, Kind, ObjectState, Uid, uids_of, again_all, begin_action, Abort, After, Before, Commit, Disk, Do, Effect}
 use Words.{InPart, Look, Prepare, PutInc, PutIntent, RemoveIntent, Say, Send, Stop, Work, in_part, moved_some, new_states, stopped, worked}
-use Words.{AreEntries, tick_outs, Parts, with_coord, put_uid, Node, acts, entries_at, parent_of, parts_in, put_states, restart_outs}
+use Words.{AreEntries, tick_outs, Parts, with_coord, put_uid, Node, acts, parent_of, parts_in, put_states, restart_outs}
 use Words.{is_serial_kind, Seen}
 use Words.kind
 use Words.role
 use Rattle.arj_law_serial.proofs.Terms
+use Terms.{entries_from}
 use Terms.{moved, Action, AreBegun, act_of, order_itself, IsEntry, its_uid, at, given, posted, said, Up, Walks, ArePastIn, KeepsOf}
 use Terms.{begins_in, AreUppersOf, uppers_of, HoldsNames}
 use Rattle.arj_law_parts.proofs.parts.{Begun.on_more, Keys.sorted_put}
@@ -76,7 +77,7 @@ numbers_of hd = record {
   tick = λ begun e k d t M more good p.
       const_walk (HaveNumbers begun) e k (tick_outs (record { number = k; disk = d; live = Some t }) t) d M p;
   restart = λ begun e k d M more good p. const_walk (HaveNumbers begun) e k (restart_outs hd k (d.inc + 1) d) d M p;
-  first = tt;
+  first = λ st formed. tt;
 }
 
 -- ---- entries on disks
@@ -186,7 +187,8 @@ order_of hd = record {
   tick = λ begun e k d t M more good p. kept_order e k (Some t) (with_coord t (let q = again_all t.coord.doings t.coord in q.part))
       (tick_outs (record { number = k; disk = d; live = Some t }) t) d M p;
   restart = λ begun e k d M more good p. kept_order e k None (parts_in k (d.inc + 1) d) (restart_outs hd k (d.inc + 1) d) d M p;
-  first = λ n a there. subst (λ (z : Node). HasOrder z.disk) (first_at hd n a there) (sorted_states (entries_at n hd) [] tt);
+  first = λ st formed n a there.
+      subst (λ (z : Node). HasOrder z.disk) (first_at hd st n a there) (sorted_states (entries_from n hd st.marks) [] tt);
 }
 
 -- entries that stand in order are those of different objects

@@ -5,7 +5,8 @@ use Words.{ap, subst, inl, inr, arith, ⊎_elim, append_assoc, length-append, eq
 use Words.{and_parts, map-append, Row, entry, object, Body, End, Line, Uid, Disk, server_rows, Naming, Parts, Server, apply_ends, numbered}
 use Words.{Seen}
 use Rattle.arj_law_serial.proofs.Terms
-use Terms.{acts, table, Action, IsAlikeOf, AreQuiet, is_quiet_line, said, up, Run, State, go_on, AreUppersOf, AgreesBy, Fixed, view_of}
+use Terms.{acts, Marks, table, Action, IsAlikeOf, AreQuiet, is_quiet_line, said, up, Run, State, go_on, AreUppersOf, AgreesBy, Fixed}
+use Terms.{view_of}
 use Terms.{SeesLocks, AreTied, entry_locks_in, locks_in, memory_of, named_locks, HoldsNames, rows_on, ShowsLocks}
 use Rattle.arj_law_serial.proofs.holding
 use holding.{Acted.HasActs, Acted.none_taken, Acted.wider_by, Among.any_shown, Calling.answers_call, Keeping.Shown, Lines.itself}
@@ -74,7 +75,7 @@ old_rows : (x k : ℕ) (M : Seen) (o : Option Naming) → ((k == 1) ≡ true →
 old_rows x k M o stays rows (inl old) = old
 old_rows x k M o stays rows (inr new) = new.1 ∙ stays new.0
 
-module _ (Apt : Fixed → Type 0) (x : ℕ) (R : Fixed → List Action → State → Seen → Type 0) (first event : ℕ) where
+module _ (Apt : Marks → Fixed → Type 0) (x : ℕ) (R : Fixed → List Action → State → Seen → Type 0) (first event : ℕ) where
   -- at each place by which an action began it was seen: up to the beginning of the event, and behind it, where no node starts in it
   abbrev pub Places : Fixed → List Action → State → List Line → Type 0
   Places f begun S lines = (p : ℕ) → p ≤ length lines → (p ≤ first) ⊎ Guard event first lines → HasActs (take p lines) →
@@ -86,7 +87,7 @@ module _ (Apt : Fixed → Type 0) (x : ℕ) (R : Fixed → List Action → State
     pub begun : List Action
     pub alike : IsAlikeOf begun M
     pub names : AreUppersOf HoldsNames begun M
-    pub agrees : AgreesBy Apt f x begun M.sent
+    pub agrees : AgreesBy (Apt M.start.marks) f x begun M.sent
     pub state : State
     pub sees : SeesLocks f x begun state M
     pub tied : AreTied f x M.lines state
@@ -115,7 +116,8 @@ module _ (Apt : Fixed → Type 0) (x : ℕ) (R : Fixed → List Action → State
   -- where it was so before, it is seen at each place of these lines too
   abbrev pub Onward : Seen → Seen → Type 0
   Onward M N = (f : Fixed) (begun : List Action) (S : State) → IsAlikeOf begun N → AreUppersOf HoldsNames begun N →
-      AgreesBy Apt f x begun N.sent → SeesLocks f x begun S N → AreTied f x N.lines S → Before M f S → Places f begun S N.lines
+      AgreesBy (Apt N.start.marks) f x begun N.sent → SeesLocks f x begun S N → AreTied f x N.lines S → Before M f S →
+      Places f begun S N.lines
 
   -- where none began before none has
   abbrev pub Still : Seen → Seen → Type 0
@@ -125,7 +127,8 @@ module _ (Apt : Fixed → Type 0) (x : ℕ) (R : Fixed → List Action → State
     -- what is to be shown of the new places
     abbrev pub News : Seen → Type 0
     News N = (f : Fixed) (begun : List Action) (S : State) → IsAlikeOf begun N → AreUppersOf HoldsNames begun N →
-        AgreesBy Apt f x begun N.sent → SeesLocks f x begun S N → AreTied f x N.lines S → Before M f S → Guard event first N.lines →
+        AgreesBy (Apt N.start.marks) f x begun N.sent → SeesLocks f x begun S N → AreTied f x N.lines S → Before M f S →
+        Guard event first N.lines →
         HasActs N.lines → (p : ℕ) → length M.lines ≤ p → p ≤ length N.lines → IsPlaced f x begun S N.lines p
 
     pub next_onward : (N : Seen) (more : List Body) → N.lines ≡ M.lines ++ numbered e more → News N → Onward M N

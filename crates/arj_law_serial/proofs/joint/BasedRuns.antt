@@ -1,12 +1,14 @@
 -- What is known of copies and votes of an object is kept by each handler of a run, with what is known there by the protocol alone.
 use Rattle.arj_law_parts.proofs.Words
+use Words.{Start, world_from}
 use Words.{◌≡◌, ℕ, ◌+◌, List, [], ◌∷◌, Bool, true, false, Option, Some, None, refl, sym, ◌∙◌, ap, subst, option_map, AllByRecursion, Asked}
 use Words.{Header, Kind, Label, Message, object, Reply, again_all, begin_action, Disk, Do, Effect, Say, Send, held_at, tick_outs, Parts}
-use Words.{with_coord, Input, Node, acts, first_disk, parent_of, parts_in, restart_outs, format, is_serial_kind, Seen, see}
+use Words.{with_coord, Input, Node, acts, parent_of, parts_in, restart_outs, is_serial_kind, Seen, see}
 use Words.voted
 use Rattle.arj_law_serial.proofs.Terms
+use Terms.{first_up}
 use Terms.{Action, AreBegun, paths_of, IsGoodCoord, IsTree, IsNumbered, begun_tree, path_found, true_query, well_acked, well_heard}
-use Terms.{own_of_disk, tops_of_disk, VotesAreUsed, Core, World, Office, packed, Kinds, SeesStore, first_at, node_here, SeesBoth, CoordIsSo}
+use Terms.{own_of_disk, tops_of_disk, VotesAreUsed, Core, World, Office, packed, Kinds, SeesStore, node_here, SeesBoth, CoordIsSo}
 use Terms.{MayKeep, acts_so, begins_so, new_so, KnowsRequests, Run, start, Case, IsSeenIn, KnowsSpot, Spot, Fixed, view_of, HasCome}
 use Terms.{case_of, SeesUp, is_for_parts, its, shown_to_server, IsMessageShown, AreApart, In, down, given, up, Up, Walks, AreBased}
 use Terms.{CopiesAreBased, HasWriters, IsKnownState, IsVotedState, coord_fits, ArePlannedOver, SendsNoYes, StaysBased}
@@ -154,16 +156,11 @@ restart_based hd f x k begun S W d M reached are e =
 
 -- ---- as a run begins
 
-pub first_based : (hd : Header) (f : Fixed) (x : ℕ) (S : lock.State) (W : World) → AreBased f x S W (see [] (format hd))
-first_based hd f x S W = record {
-  copies = λ j n t is live. subst (λ (p : Parts). CopiesAreBased x S W p.server) (one j n t is live) tt;
-  coords = λ j n t is live. subst (λ (p : Parts). CoordIsSo (coord_fits f x S W) p.coord) (one j n t is live)
-      (new_so (coord_fits f x S W) (may_keep f x S W) j 1 (let d = first_disk hd j in d.intents));
+pub first_based : (hd : Header) (st : Start) (f : Fixed) (x : ℕ) (S : lock.State) (W : World) → AreBased f x S W (see [] (world_from hd st))
+first_based hd st f x S W = record {
+  copies = λ j n t is live. subst (λ (p : Parts). CopiesAreBased x S W p.server) (first_up hd st j n t is live) tt;
+  coords = λ j n t is live. subst (λ (p : Parts). CoordIsSo (coord_fits f x S W) p.coord) (first_up hd st j n t is live)
+      (new_so (coord_fits f x S W) (may_keep f x S W) j (st.incs j + 1) []);
   posts = λ p i. absurd i;
   yeses = λ p a states i is. absurd i;
 }
-  where
-    one : (j : ℕ) (n : Node) (t : Parts) → (let N = see [] (format hd) in N.nodes j) ≡ Some n → n.live ≡ Some t →
-        parts_in j 1 (first_disk hd j) ≡ t
-    one j n t is live = let e : ◌≡◌ {A = Option Parts} (Some (parts_in j 1 (first_disk hd j))) (Some t) = ap (λ (y : Node). y.live)
-        (first_at hd j n is) ∙ live in let same : parts_in j 1 (first_disk hd j) ≡ t = cc e in same

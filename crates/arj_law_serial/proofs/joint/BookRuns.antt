@@ -38,8 +38,8 @@ pub reached_book : (hd : Header) → HeaderInForm hd → (w : World) → IsReach
 reached_book hd form w reached fit = book_so hd w reached.keeping (reached_tied hd form w reached fit)
 
 pub runs_keep_the_book : RunsKeepTheBook
-runs_keep_the_book hd ms f = let r = runs_in_form hd ms f in reached_book hd f.header (world_by hd ms) r.0 r.1
+runs_keep_the_book hd r f = let h = runs_in_form hd r f in reached_book hd f.header (world_by hd r) h.0 h.1
 
 pub runs_are_called : RunsAreCalled
-runs_are_called hd ms f = let r = runs_in_form hd ms f in
-    called_so hd (world_by hd ms) (let k = r.0 in k.keeping) (reached_tied hd f.header (world_by hd ms) r.0 r.1)
+runs_are_called hd r f = let h = runs_in_form hd r f in
+    called_so hd (world_by hd r) (let k = h.0 in k.keeping) (reached_tied hd f.header (world_by hd r) h.0 h.1)

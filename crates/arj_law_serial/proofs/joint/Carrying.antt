@@ -1,7 +1,8 @@
 -- Both machines of an object are carried beside each other, with more of the lock machine's states; and what is known as long as few
 -- bindings were made.
-use Rattle.arj_law_parts.proofs.Words.{◌≡◌, ℕ, [], true, is_some, ⊤, Header, format, Seen, see}
+use Rattle.arj_law_parts.proofs.Words.{◌≡◌, ℕ, true, is_some, ⊤, Header, Seen}
 use Rattle.arj_law_serial.proofs.Terms
+use Terms.{IsAtStarts}
 use Terms.{HeaderInForm, first_values, object_line, IsGood, all_keep as parts_good, Keeps, HasFewBindings, KnowsFew, KeepsGiven, given_more}
 use Terms.{keeps_given, kept_both, IsKept, lines_keep, Office, Kinds, SeesBoth, KnowsScript, HaveEntries, KeepsPart, with_entries}
 use Terms.{part_more, AreNotLate, WithTie, knows_idle, tied_part, Run, State, Fixed, OpsFit}
@@ -47,7 +48,7 @@ module _ (hd : Header) (x : ℕ) (R L : Seen → Type 0) (kept : Keeps hd R) (P 
 
 module _ (hd : Header) (x : ℕ) (form : HeaderInForm hd) (there : is_some (object_line hd x) ≡ true) where
   counted : Keeps hd (Base hd x)
-  counted = base hd x form there (λ M. ⊤) (λ f S M. ⊤) (λ M N l f S T run past. tt) (λ f S. tt)
+  counted = base hd x form there (λ M. ⊤) (λ f S M. ⊤) (λ M N l f S T run past. tt) (λ f S st formed. tt)
 
   -- operations are in form
   abbrev Fits : Seen → Type 0
@@ -56,7 +57,7 @@ module _ (hd : Header) (x : ℕ) (form : HeaderInForm hd) (there : is_some (obje
   -- Where operations are in form, both machines go on beside each other with more of the lock machine's states that stays as they go on,
   -- where this holds before each handler.
   pub beside_given : (L : Seen → Type 0) (P : Fixed → State → Seen → Type 0) → ((M N : Seen) → L M → (f : Fixed) (S T : State) → Run S T →
-      P f S M → P f T N) → ((f : Fixed) (S : State) → P f S (see [] (format hd)))
+      P f S M → P f T N) → ((f : Fixed) (S : State) → IsAtStarts hd (P f S))
       → KeepsGiven hd (λ M. KnowsScript M × L M) (λ M. OpsFit x M.lines →
       IsThere x (Base hd x) (WithLocks (first_values hd) x (Whole x) P (Carried hd x)) M)
   beside_given L P stays starts =

@@ -2,9 +2,10 @@
 use Rattle.arj_law_parts.proofs.Words
 use Words.{Contains, ◌≡◌, ◌⊎◌, ◌<◌, ◌==◌, ◌&&◌, ◌||◌, ◌++◌, ℕ, Bool, not, cond, false, eqb-true, eq-eqb, List, [], ◌∷◌, true, is_some, refl}
 use Words.{subst, inl, inr, ⊎_elim, filter, ap, sym, ◌∙◌, Option, Some, None, In, in_find_none, in_from, in_to, Header, Line, ObjectLine}
-use Words.{World, nobody, and_parts, number_tells, uid_number, world_by, see, Wrote, DisksAre, IsSerialBy}
+use Words.{World, Start, and_parts, journal_by, number_tells, uid_number, world_by, see, Wrote, DisksAre, IsSerialBy}
 use Rattle.arj_law_serial.proofs.Terms
-use Terms.{HeaderInForm, Act, acts, Top, tops, Clean, Disks, first_values, increasing, is_among, joins_of, leaves_of, listed_from}
+use Terms.{HeaderInForm, Act, acts, Top, tops, CleanFrom, Disks, marked, first_values, increasing, is_among, joins_of, leaves_of}
+use Terms.{listed_from}
 use Terms.{object_line, serial_tops, Values, new_book, AreRight, IsKept, kept_right, lines_keep, counts_of, Done, Packed}
 use Terms.{decided as decided_so, target, Core, bool_cases, IdleInPlace, first_stores, HasNothing, or_which, one_act, its_sound, IsReached}
 use Terms.{Keeping, kept_holds, HaveForm, IsCleanIn, AreDecided, AreDecisions, AreNewestFirst, DecideChanges, Joined, WroteSo, HasObject}
@@ -17,7 +18,7 @@ use Rattle.arj_law_parts.specs.moves.Keeps.{Holds}
 use Rattle.arj_law_runs.proofs.journal.Books.{never}
 use Rattle.arj_law_serial.proofs.joint
 use joint.{FitRuns.runs_in_form, FormRuns.kept_have_form, JoinOrder.decided_joiners_stand, JoinedRuns.reached_joined, LightStep.decided_out}
-use joint.{Listing.in_among, Naming.decided_named, Showing.readings_show_pairs}
+use joint.{Listing.in_among, Naming.decided_named, Showing.readings_show_pairs, Starting.start_stays}
 use joint.Called.{decided_writers_stand, decision_of, number_is, one_number, those_of, wrote_something}
 use joint.IdlePlaces.{added, all_idle, all_those, none_among, serial_there}
 use joint.LightPlaces.{is_there, unlisted_there}
@@ -348,7 +349,8 @@ module _ (hd : Header) (w : World) (keeping : Keeping hd w) (form : HeaderInForm
         light : (e : Done) → disk.In e dones → e.top ≡ number_of w.lines t → e.counts ≡ false →
             is_among (leaves_of w.lines t.id x) s ≡ true → ⊥
         light e j same is_light leaves = never among (unlisted_there (first_values hd) w.lines right x z.0 z.1 (changers_turn
-            (first_values hd) w.lines right x z.0 z.1 ties) its_disk.first_entry (first_stores hd x) begins dones those decisions called_so
+            (first_values hd) w.lines right x z.0 z.1 ties) its_disk.first_entry (w.start.marks.entries x)
+            (first_stores hd x) begins dones those decisions called_so
             changed (λ u c on. all u c (inl on)) t k i off (s, subst (λ n. Contains (joins_of w.lines n x) s) k.number joins)
             (let p = e.plan in p.joins) (let l = held x there in let g = l.holds in
             g.lights e k.act j is_light act_there number s has_it) before after is s has_it)
@@ -374,7 +376,7 @@ module _ (hd : Header) (w : World) (keeping : Keeping hd w) (form : HeaderInForm
             joins = in_to s (joins_of w.lines (let a = k.act in a.id) x) (in_among (joins_of w.lines (let a = k.act in a.id) x) s
                 (sym (let o = h.holds in o.included e k.act j act_there number s) ∙ has_it))
 
-            begins : its_disk.first_entry ≡ record { version = 0; writer = uid_number nobody; content = first_stores hd x }
+            begins : its_disk.first_entry ≡ marked (w.start.marks.entries x) (first_stores hd x)
             begins = let o = h.holds in let b = o.begun in let g = b.begins in g.entry
 
         by : In t those ⊎ ((e : Done) × disk.In e dones × (e.top ≡ number_of w.lines t) × (e.counts ≡ false))
@@ -466,7 +468,7 @@ module _ (hd : Header) (w : World) (keeping : Keeping hd w) (joined : AreJoined 
         holds = (j.begun, j.alike, (λ f apart a. let z = j.seen f (a.0, (a.1, apart)) in (z.0, z.1, z.2)), j.requests);
       })
 
-  pub clean_so : HeaderInForm hd → (disks : Disks) → DisksAre (see [] w) disks → Clean hd w.lines disks
+  pub clean_so : HeaderInForm hd → (disks : Disks) → DisksAre (see [] w) disks → CleanFrom hd w.start.marks w.lines disks
   clean_so form disks are =
       let r = kept_holds hd w keeping IsKept (lines_keep hd) in
       readings_clean hd w.lines (see r.sent w) disks
@@ -486,16 +488,18 @@ pub reached_serial : (hd : Header) → HeaderInForm hd → (w : World) → IsRea
 reached_serial hd form w reached fit = serial_so hd w reached.keeping (reached_both hd form w reached fit)
 
 pub reached_clean : (hd : Header) → HeaderInForm hd → (w : World) → IsReached hd w → ((x : ℕ) → OpsFit x w.lines) → (disks : Disks) →
-    DisksAre (see [] w) disks → Clean hd w.lines disks
+    DisksAre (see [] w) disks → CleanFrom hd w.start.marks w.lines disks
 reached_clean hd form w reached fit = clean_so hd w reached.keeping (reached_both hd form w reached fit) form
 
 -- ---- runs
 
 pub runs_are_clean : RunsAreClean
-runs_are_clean hd ms disks f = let r = runs_in_form hd ms f in reached_clean hd f.header (world_by hd ms) r.0 r.1 disks
+runs_are_clean hd r disks f are = let h = runs_in_form hd r f in
+    subst (λ (st : Start). CleanFrom hd st.marks (journal_by hd r) disks) (start_stays hd r)
+    (reached_clean hd f.header (world_by hd r) h.0 h.1 disks are)
 
 pub joined_runs_are_serial : JoinedRunsAreSerial
-joined_runs_are_serial hd ms f = let r = runs_in_form hd ms f in reached_serial hd f.header (world_by hd ms) r.0 r.1
+joined_runs_are_serial hd r f = let h = runs_in_form hd r f in reached_serial hd f.header (world_by hd r) h.0 h.1
 
 pub joined_runs_are_tied : JoinedRunsAreTied
-joined_runs_are_tied hd ms f = let r = runs_in_form hd ms f in reached_tied hd f.header (world_by hd ms) r.0 r.1
+joined_runs_are_tied hd r f = let h = runs_in_form hd r f in reached_tied hd f.header (world_by hd r) h.0 h.1

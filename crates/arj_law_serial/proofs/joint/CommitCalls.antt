@@ -1,5 +1,6 @@
 -- A commit call is the first line of its event.
 use Rattle.arj_law_parts.proofs.Words
+use Words.{Start, world_from}
 use Words.{◌≡◌, ◌≢◌, ◌≤◌, ◌<◌, ◌⊎◌, ◌+◌, ◌++◌, ◌==◌, ◌∙◌, ℕ, zero, suc, Bool, true, false, cond, not, List, [], ◌∷◌, Option, Some, None}
 use Words.{append-nil, append_assoc, ap, arith, inl, inr, length, refl, subst, sym, ◌||◌, ◌-◌, nat_le, nat_lt, AllByRecursion, map-append}
 use Words.{and_parts, nat_tests, steps_lines, taken_took, again_all, end_line, CallEnd, Goal, Include, Run, Doing, doing_of, Disk, Do}
@@ -9,10 +10,11 @@ use Words.{ran_handled, rounds, taken, whole, with_coord, at_number, Input, Node
 use Words.{frame_step, handled_step, node_did, parts_in, refusal, restart_outs, show_entry, show_outs, shown, step, step_down, step_of}
 use Words.{step_unless, step_up, void_step, at_place, Body, Event, Header, Kind, Label, Line, Message, ObjectState, Uid, entry, object}
 use Words.{frame_kind, Arm, Frame, Giving, World, as_delivered, as_lost, armed, begins, begins_any, bodies, change_frame, count_works}
-use Words.{counted, cut, deliver, deliver_frame, disarmed, done_step, format, frame_number, giving, gives_label, halted_at, halted_outs}
+use Words.{counted, cut, deliver, deliver_frame, disarmed, done_step, frame_number, giving, gives_label, halted_at, halted_outs}
 use Words.{happens, is_quiet, is_up_at, junk_fits, labels_unless, lacks_labels, limited, lose_frame, lowest, most_frames, new_frame}
 use Words.{no_labels, node_numbers, node_of, numbered, quiesce, reasons, refused_at, run_event, run_unless, sent_line, settle, settle_for}
-use Words.{show_all, show_up, step_node, step_with, steps, tick_all, tick_up, Move, all_moved, moved, world_by}
+use Words.{show_all, show_up, step_node, step_with, steps, tick_all, tick_up, Move, all_moved, moved, journal_by}
+use Words.{world_by}
 use Words.calls
 use Words.commit
 use Words.input
@@ -23,7 +25,8 @@ use Rattle.arj_law_serial.proofs.Terms
 use Terms.{all_append, SayOf, Asked, says, AreLooks, LooksAlone, taken_looks}
 use Terms.which
 use Rattle.arj_law_serial.proofs.whole.CalledSays.{acts_fine, calls_commit, is_apart, message_fine, restart_fine, tick_fine}
-use Rattle.arj_law_serial.specs.joint.Excluded.{RunsBeginWithCalls}
+use Rattle.arj_law_serial.specs.joint.Excluded.{NeverFall, RunsBeginWithCalls}
+use Rattle.arj_promise.specs.Runs.{Run as RunOf}
 
 -- ---- effects
 
@@ -437,9 +440,10 @@ limited_adds may w v a = either_adds may v.full w (says (body.Limit which.Frames
 
 -- ---- runs
 
--- Lines are of events up to the last one, and no line of its event stands before a commit call.
+-- Lines are of events up to the last one, in order, and no line of its event stands before a commit call.
 record AreFirst (w : World) : Type 0 where
   past : AllByRecursion (λ (k : Line). k.event ≤ w.event) w.lines
+  order : NeverFall 0 w.lines
   calls : (before : List Line) (line : Line) (behind : List Line) (l : Label) → w.lines ≡ before ++ line ∷ behind →
       line.body ≡ body.Committing l → AllByRecursion (λ (k : Line). k.event < line.event) before
 
@@ -479,6 +483,20 @@ all_numbered : (e m : ℕ) (bs : List Body) → e ≤ m → AllByRecursion (λ (
 all_numbered e m [] le = tt
 all_numbered e m (b ∷ bs) le = (le, all_numbered e m bs le)
 
+falls_less : (e m : ℕ) (ls : List Line) → e ≤ m → NeverFall m ls → NeverFall e ls
+falls_less e m [] le order = tt
+falls_less e m (k ∷ ls) le order = let first = order.0 in (omega (arith, le, first), order.1)
+
+falls_numbered : (m e : ℕ) (bs : List Body) → m ≤ e → NeverFall m (numbered e bs)
+falls_numbered m e [] le = tt
+falls_numbered m e (b ∷ bs) le = (le, falls_numbered e e bs (omega arith))
+
+-- behind lines of events up to this one
+falls_behind : (e m : ℕ) (xs ys : List Line) → e ≤ m → NeverFall e xs → AllByRecursion (λ (k : Line). k.event ≤ m) xs → NeverFall m ys →
+    NeverFall e (xs ++ ys)
+falls_behind e m [] ys le order past rest = falls_less e m ys le rest
+falls_behind e m (x ∷ xs) ys le order past rest = (order.0, falls_behind x.event m xs ys past.0 order.1 past.1 rest)
+
 all_to : (P Q : Line → Type 0) (ls : List Line) → ((k : Line) → P k → Q k) → AllByRecursion P ls → AllByRecursion Q ls
 all_to P Q [] f all = tt
 all_to P Q (k ∷ ls) f all = (f k all.0, all_to P Q ls f all.1)
@@ -494,6 +512,8 @@ module _ (w v : World) (first : AreFirst w) (said : List Body) (e : ℕ) (lines 
         (all_append (λ (k : Line). k.event ≤ v.event) w.lines (numbered e said) (all_to (λ (k : Line). k.event ≤ w.event)
         (λ (k : Line). k.event ≤ v.event) w.lines (λ k le. omega (arith, le, later, same)) first.past)
         (all_numbered e v.event said (omega (arith, same))));
+    order = subst (NeverFall 0) (sym lines)
+        (falls_behind 0 w.event w.lines (numbered e said) (omega arith) first.order first.past (falls_numbered w.event e said later));
     calls = λ before line behind l is called.
         by before line behind l called (splits_in w.lines (numbered e said) before line behind (sym lines ∙ is));
   }
@@ -550,27 +570,35 @@ event_first e w first = by w.over
 
 -- which stops may fall is nothing to that
 with_arms : (arms : List (ℕ × Arm)) (w : World) → AreFirst w → AreFirst (record w { arms = arms })
-with_arms arms w first = record { past = first.past; calls = first.calls }
+with_arms arms w first = record { past = first.past; order = first.order; calls = first.calls }
 
 moves_first : (ms : List Move) (w : World) → AreFirst w → AreFirst (all_moved ms w)
 moves_first [] w first = first
 moves_first (m ∷ ms) w first = moves_first ms (moved m w) (with_arms [] (run_event m.asked (record w { arms = m.falls }))
     (event_first m.asked (record w { arms = m.falls }) (with_arms m.falls w first)))
 
-pub commits_begin : RunsBeginWithCalls
-commits_begin hd ms before line behind l is called =
-    let first = moves_first ms (format hd) (record { past = tt; calls = λ before line behind l is called. by before line behind is }) in
-    let w = world_by hd ms in
-    let le : line.event ≤ w.event = at before line behind (λ (k : Line). k.event ≤ w.event)
-    (subst (λ ls. AllByRecursion (λ (k : Line). k.event ≤ w.event) ls) is first.past) in
-    all_to (λ (k : Line). k.event < line.event) (λ (k : Line). k.event < w.event) before (λ k less. omega (arith, less, le))
-    (first.calls before line behind l is called)
+-- where a run begins there are no lines
+none_first : (hd : Header) (st : Start) → AreFirst (world_from hd st)
+none_first hd st = record { past = tt; order = tt; calls = λ before line behind l is called. by before line behind is }
   where
     by : (before : List Line) (line : Line) (behind : List Line) → [] ≡ before ++ line ∷ behind →
         AllByRecursion (λ (k : Line). k.event < line.event) before
     by [] line behind is = absurd (cc is)
     by (b ∷ before) line behind is = absurd (cc is)
 
+-- the lines of a run stand in order of events
+pub events_never_fall : (hd : Header) (r : RunOf hd) → NeverFall 0 (journal_by hd r)
+events_never_fall hd r = (moves_first r.moves (world_from hd r.start) (none_first hd r.start)).order
+
+pub commits_begin : RunsBeginWithCalls
+commits_begin hd r before line behind l is called =
+    let first = moves_first r.moves (world_from hd r.start) (none_first hd r.start) in
+    let w = world_by hd r in
+    let le : line.event ≤ w.event = at before line behind (λ (k : Line). k.event ≤ w.event)
+    (subst (λ ls. AllByRecursion (λ (k : Line). k.event ≤ w.event) ls) is first.past) in
+    all_to (λ (k : Line). k.event < line.event) (λ (k : Line). k.event < w.event) before (λ k less. omega (arith, less, le))
+    (first.calls before line behind l is called)
+  where
     at : (before : List Line) (line : Line) (behind : List Line) (P : Line → Type 0) → AllByRecursion P (before ++ line ∷ behind) → P line
     at [] line behind P all = all.0
     at (b ∷ before) line behind P all = at before line behind P all.1

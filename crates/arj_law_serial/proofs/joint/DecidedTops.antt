@@ -6,7 +6,7 @@ use Words.list
 use Rattle.arj_law_serial.proofs.Terms
 use Terms.{Act, acts, Values, Action, World, plan_by, used_at, book, is_decided, is_top, new_book, IsIdle, AreRight, one_act, is_book}
 use Terms.{its_acts, its_sound, idle_has_nothing, AreDone, IsDoneBy, IsPlain, top, Alive, Call, State, Survives, start_holds, lives}
-use Terms.{roots_low, start_low, run_values, start_values, survives_of, AreOne, IsSeenIn, BeginsAs, Fixed, case_of, AreApart, WasVotedOver}
+use Terms.{roots_low, start_low, run_values, start_values, survives_of, AreOne, IsSeenIn, StandsFor, Fixed, case_of, AreApart, WasVotedOver}
 use Terms.{ArePlannedOver, ArePlannedSo, IsPlannedSo}
 use Terms.disk
 use Terms.machine
@@ -18,7 +18,7 @@ never : {P : Type 0} {b : Bool} → b ≡ true → b ≡ false → P
 never {P} {b} holds fails = let no_way : true ≡ false = sym holds ∙ fails in absurd (cc no_way)
 
 module _ (f : Fixed) (x : ℕ) (begun : List Action) (S : State) (M : Seen) (seen : IsSeenIn (case_of f x begun S) M) (values : Values)
-    (begins : BeginsAs values x f) (W : World) (done : AreDone (λ ls v. IsIdle (book ls) v) W M) (planned : ArePlannedSo f x S W M) where
+    (begins : StandsFor f (values x)) (W : World) (done : AreDone (λ ls v. IsIdle (book ls) v) W M) (planned : ArePlannedSo f x S W M) where
   right : AreRight new_book M.lines
   right = let w = seen.written in w.right
 

@@ -2,9 +2,9 @@
 use Rattle.arj_law_parts.proofs.Words
 use Words.{◌≡◌, ◌∙◌, ℕ, Bool, true, false, cond, List, [], ◌∷◌, Option, Some, None, refl, sym, ap, subst, inl, inr, option_map}
 use Words.{AllByRecursion, state_entry, uid_is, uid_same, state_bytes, entry, object, uid_eq, ObjectState, Uid, In, in_from, Disk, Pair}
-use Words.{held_at, at_uid, Node, Header, World, world_by, Post, see, uid_of, DiskIsInTime, DisksAreInTime, HasPrepared, DisksAre, pair_in}
+use Words.{held_at, at_uid, Node, Header, World, world_by, Post, Start, see, uid_of, DiskIsInTime, HasPrepared, DisksAre, pair_in}
 use Rattle.arj_law_serial.proofs.Terms
-use Terms.{IsEntry, all_at_uid, Role, Among, HeaderInForm, Disks, Reading, first_values, is_among, last_state, IsPairOf, IsReached, Keeping}
+use Terms.{IsEntry, all_at_uid, Role, Among, HeaderInForm, Disks, Reading, first_values, is_among, IsPairOf, IsReached, Keeping}
 use Terms.{AreExcludedInTime, CommitsBeginIt, IsInTime, IsOnly, OpsFit, committed_calls}
 use Terms.role
 use Rattle.arj_base.proofs.Packed.{state_once}
@@ -16,9 +16,11 @@ use Rattle.arj_law_runs.proofs.addresses.Runs.{kept}
 use Rattle.arj_law_runs.specs.addresses.Addresses.{AreAddressed, AreSo, DiskOf, IsNode, StateOf}
 use Rattle.arj_law_serial.proofs.joint
 use joint.{Clean.object_some, CommitCalls.commits_begin, Excluding.all_among, Excluding.was_called, FitRuns.runs_in_form, Listing.in_among}
-use joint.{RunsInTime.reached_in_time, Showing.first_place, Showing.node_there}
+use joint.{RunsInTime.reached_in_time, Showing.first_place, Showing.node_there, Starting.start_stays}
 use Rattle.arj_law_serial.proofs.whole.WholeRuns.{kept_call_objects}
 use Rattle.arj_law_serial.specs.joint.DisksInTime.{RunsExcludeInTimeOnDisks}
+use Rattle.arj_model.specs.Last.{last_from}
+use Rattle.arj_promise.specs.Excluded.{DisksAreInTimeFrom}
 use Rattle.arj_store.specs.Pair.{packed}
 use Rattle.std.specs.Prelude.{IsSomeAnd}
 
@@ -82,7 +84,7 @@ listed_node hd d of u st is s among =
 module _ (hd : Header) (form : HeaderInForm hd) (w : World) (keeping : Keeping hd w) (sent : List Post) (stands : Stands hd sent w)
     (named : AreSo (IsNode hd) (see sent w)) (disks : Disks) (are : DisksAre (see [] w) disks)
     (excluded : AreExcludedInTime hd w.event (see [] w)) where
-  disks_so : DisksAreInTime hd w.event w.lines disks
+  disks_so : DisksAreInTimeFrom hd w.start.marks w.event w.lines disks
   disks_so t x s new wrote l =
       let c = wrote in
       let there = object_some hd x
@@ -95,10 +97,12 @@ module _ (hd : Header) (form : HeaderInForm hd) (w : World) (keeping : Keeping h
       by n.0 m.0 names (let a = are s m.0 m.1 in a.store) (excluded t x s n.0 m.0 l.state there new wrote n.1 m.1 holds l.has)
     where
       by : (n m : Node) → IsPairOf (pair_in (disks 1) role.Names) (let d = n.disk in d.names) → IsPairOf (pair_in (disks s) role.Store)
-          (let d = m.disk in d.store) → IsInTime hd w.lines x n m t s → DiskIsInTime hd w.lines x disks t s
+          (let d = m.disk in d.store) → IsInTime (last_from hd w.start.marks w.lines x) w.lines x n m t s →
+          DiskIsInTime (last_from hd w.start.marks w.lines x) w.lines x disks t s
       by n m names store (inl holds) = inl (store.held (object x) ∙ ap (option_map state_bytes) holds)
       by n m names store (inr (inl (states, at, of))) = inr (inl
-          (has_prepared (disks s) role.Store (let d = m.disk in d.store) store (uid_of w.lines t) states at (last_state hd w.lines x) of))
+          (has_prepared (disks s) role.Store (let d = m.disk in d.store) store (uid_of w.lines t) states at
+          (last_from hd w.start.marks w.lines x) of))
       by n m names store (inr (inr out)) = inr (inr (record {
         by_top = out.by_top;
         committed = out.committed;
@@ -113,11 +117,13 @@ module _ (hd : Header) (form : HeaderInForm hd) (w : World) (keeping : Keeping h
       }))
 
 pub reached_disks_in_time : (hd : Header) → HeaderInForm hd → (w : World) → IsReached hd w → ((x : ℕ) → OpsFit x w.lines) →
-    CommitsBeginIt w.event w.lines → (disks : Disks) → DisksAre (see [] w) disks → DisksAreInTime hd w.event w.lines disks
+    CommitsBeginIt w.event w.lines → (disks : Disks) → DisksAre (see [] w) disks → DisksAreInTimeFrom hd w.start.marks w.event w.lines disks
 reached_disks_in_time hd form w reached fit begins disks are =
     let h = reached.keeping (AreAddressed hd) (kept hd form) in
     disks_so hd form w reached.keeping h.sent h.stands (let a = h.holds in a.1) disks are (reached_in_time hd form w reached fit begins)
 
 pub runs_exclude_on_disks : RunsExcludeInTimeOnDisks
-runs_exclude_on_disks hd ms disks f are = let r = runs_in_form hd ms f in
-    reached_disks_in_time hd f.header (world_by hd ms) r.0 r.1 (commits_begin hd ms) disks are
+runs_exclude_on_disks hd r disks f are =
+    let h = runs_in_form hd r f in
+    subst (λ (st : Start). let w = world_by hd r in DisksAreInTimeFrom hd st.marks w.event w.lines disks) (start_stays hd r)
+    (reached_disks_in_time hd f.header (world_by hd r) h.0 h.1 (commits_begin hd r) disks are)

@@ -4,13 +4,14 @@ use Words.{◌≡◌, ◌<◌, ◌++◌, ◌+◌, ◌∙◌, ℕ, Bool, true, fa
 use Words.{AllByRecursion, state_bytes, ObjectState, Line, Header, Wrote, DiskIsInTime, DiskTakesOut, DisksAreInTime, HasPrepared}
 use Words.{lines_before, uid_of}
 use Rattle.arj_law_serial.proofs.Terms
-use Terms.{acts, Top, Disks, last_state, writes_on}
+use Terms.{acts, Top, Disks, writes_on}
 use Terms.role
 use Rattle.arj_law.proofs.JoinedLast.{last_join, uid_second}
 use Rattle.arj_law.proofs.JoinedSaid.{call_of_second, is_decided, new_of_second, top_of_both}
-use Rattle.arj_law.specs.Joined.{AreJoined, call_behind, last_from, marks_after, top_behind}
-use Rattle.arj_law_serial.specs.joint.DisksJoined.{DiskIsInTimeFrom, DisksAreInTimeFrom, JoinedRunsAreInTime}
-use Rattle.arj_model.specs.Calls.{Call}
+use Rattle.arj_law.specs.Joined.{AreJoined, call_behind, marks_after, top_behind}
+use Rattle.arj_law_serial.specs.joint.DisksJoined.{JoinedRunsAreInTime}
+use Rattle.arj_model.specs.{Calls.Call, Last.last_from, Last.last_state}
+use Rattle.arj_promise.specs.Excluded.{DisksAreInTimeFrom}
 use Rattle.std.proofs.lemmas.Bool.{lt-ltb}
 
 -- ---- lines before an event
@@ -79,7 +80,8 @@ module _ (header next : Header) (first front rest : List Line) (e : ℕ) (disks 
       lacks = out.lacks;
     }
 
-    so_it_is : DiskIsInTimeFrom next (marks_after header first) second x disks u s → DiskIsInTime header both x disks t s
+    so_it_is : DiskIsInTime (last_from next (marks_after header first) second x) second x disks u s →
+        DiskIsInTime (last_state header both x) both x disks t s
     so_it_is (inl holds) = inl (holds ∙ ap (λ (z : ObjectState). Some (state_bytes z)) (sym (last_is x)))
     so_it_is (inr (inl has)) = inr (inl (subst (λ w. HasPrepared (disks s) role.Store w (last_state header both x)) (sym uid_is)
         (subst (HasPrepared (disks s) role.Store (uid_of second u)) (sym (last_is x)) has)))

@@ -9,7 +9,7 @@ use Words.world
 use Words.class
 use Rattle.arj_law_serial.proofs.Terms
 use Terms.{option_map, HeaderInForm, Placed, committed, recovered, Said, Top, committed_calls, kept, tops, entry_payload, first_values}
-use Terms.{is_among, last_state, object_line, servers_of_line, Values, root_of, serial_calls, top_place, writes_on, new_book, AreRight}
+use Terms.{is_among, object_line, servers_of_line, Values, root_of, serial_calls, top_place, writes_on, new_book, AreRight}
 use Terms.{all_at_uid, Core, World, counts_of, Done, Hold, Packed, Plan, decided_in, last, has, in_decided, Keeping, kept_holds, SeesEntry}
 use Terms.{Among, packed, packed_entry, SeesStore, AreDecided, AreDecisions, AreNewestFirst, IsDecision, WroteSo, CommitsBeginIt, IsInTime}
 use Terms.{IsSeenSo, Own, AreSo, kind_of, listed as entered, stored}
@@ -24,7 +24,7 @@ use Rattle.arj_law_serial.proofs.{order.Values.any_said, order.Values.kept_shape
 use Rattle.arj_law_serial.proofs.order.Cleaning.{has_among, held_some, one_state, run_class, state_same}
 use Rattle.arj_law_serial.specs.joint.Excluded.{IsBehindIncludes, IsNewest, IsTakenOut, NodesAreSo}
 use Rattle.arj_law_serial.specs.order.{Runs.IsSeenDecided, Tied.AreTied}
-use Rattle.arj_model.specs.Calls.{Call, said}
+use Rattle.arj_model.specs.{Calls.Call, Calls.said, Last.last_from}
 
 pub all_among : (P : ObjectState → Type 0) (ss : List ObjectState) (st : ObjectState) → AllByRecursion P ss → Among st ss → P st
 all_among P [] st all i = absurd i
@@ -134,7 +134,7 @@ module _ (header : Header) (e : ℕ) (M : Seen) (right : AreRight new_book M.lin
       by None none = let c = wrote in never c.2 (none c.0 c.1 c.3)
       by (Some w) some = refl
 
-  last_is : last W.disk ≡ packed (last_state header M.lines x)
+  last_is : last W.disk ≡ packed (last_from header M.start.marks M.lines x)
   last_is = state_same header M.lines right tied x seen.kinds W M seen.sees decided seen.begins seen.form
 
   -- ---- at a store
@@ -157,27 +157,28 @@ module _ (header : Header) (e : ℕ) (M : Seen) (right : AreRight new_book M.lin
     machine_in_time : IsExcludedInTime W.disk T s
     machine_in_time = in_time W (let v = seen.sees in v.whole) T s latest has_written in_entry
 
-    holds : W.disk.held s ≡ Some (last W.disk) → IsInTime header M.lines x n m t s
+    holds : W.disk.held s ≡ Some (last W.disk) → IsInTime (last_from header M.start.marks M.lines x) M.lines x n m t s
     holds e =
         let p = sees_store.pair in
-        let h = held_some (held_at (object x) m.disk.store) (packed (last_state header M.lines x)) packed
+        let h = held_some (held_at (object x) m.disk.store) (packed (last_from header M.start.marks M.lines x)) packed
         (p.held_is ∙ e ∙ ap Some last_is) in
-        inl (h.1 ∙ ap Some (one_state h.0 (last_state header M.lines x) h.2 (p.keyed (object x) h.0 h.1)
+        inl (h.1 ∙ ap Some (one_state h.0 (last_from header M.start.marks M.lines x) h.2 (p.keyed (object x) h.0 h.1)
         (seen.form.objects m s h.0 at_store h.1 ∙ sym (run_class (first_values header) (serial_calls M.lines) x))))
 
-    prepared : (h : Hold) → W.disk.pend s ≡ Some h → h.top ≡ T → h.new ≡ last W.disk → IsInTime header M.lines x n m t s
+    prepared : (h : Hold) → W.disk.pend s ≡ Some h → h.top ≡ T → h.new ≡ last W.disk →
+        IsInTime (last_from header M.start.marks M.lines x) M.lines x n m t s
     prepared h pend top new_is =
         let p = sees_store.pair in
         let k : Holder packed (object x) m.disk.store h = p.holder h pend in
         let who : k.action ≡ uid_of M.lines t = number_tells k.action (uid_of M.lines t) (ap (λ (y : Hold). y.top) k.is ∙ top) in
         let disk = (is.forms s m at_store).0 in
-        let same : (z : ObjectState) → IsOf (object x) k.states z → z ≡ last_state header M.lines x = (λ z of.
+        let same : (z : ObjectState) → IsOf (object x) k.states z → z ≡ last_from header M.start.marks M.lines x = (λ z of.
         let hold : hold_of packed k.action z ≡ h = some_is (hold_of packed k.action z) h
         (sym (p.held_by k.action k.states z k.prepared of) ∙ pend) in
         let class : z.class ≡ class_of (first_values header x) = (all_among (Own (stored (kind_of header x))) k.states z (all_at_uid
         (AllByRecursion (Own (stored (kind_of header x)))) k.action k.states m.disk.store.pend disk.store.pend k.prepared) of.0).1
         of.1 in
-        one_state z (last_state header M.lines x) (ap (λ (y : Hold). y.new) hold ∙ new_is ∙ last_is) of.1
+        one_state z (last_from header M.start.marks M.lines x) (ap (λ (y : Hold). y.new) hold ∙ new_is ∙ last_is) of.1
         (class ∙ sym (run_class (first_values header) (serial_calls M.lines) x))) in
         inr (inl (
           k.states,
@@ -233,7 +234,7 @@ module _ (header : Header) (e : ℕ) (M : Seen) (right : AreRight new_book M.lin
           lacks = lacks;
         }
 
-    pub is_in_time : IsInTime header M.lines x n m t s
+    pub is_in_time : IsInTime (last_from header M.start.marks M.lines x) M.lines x n m t s
     is_in_time = ⊎_elim (λ h. holds h) (λ r. ⊎_elim (λ (h, pend, top, is_new). prepared h pend top is_new) (λ y. inr (inr (taken_out y))) r)
         machine_in_time
 

@@ -1,17 +1,17 @@
 -- The header's object, and the machine of it as a format leaves it.
 use Rattle.arj_law_parts.proofs.Words
 use Words.{◌≡◌, ◌⊎◌, ◌==◌, ◌||◌, ◌<◌, ℕ, List, [], ◌∷◌, true, Option, Some, None, refl, sym, ◌∙◌, ap, subst, inl, inr, arith, length}
-use Words.{is_some, map, eqb-true, ◌&&◌, nat_le, nat_lt, if◌then◌else◌, AllByRecursion, list_all, list_any, and_parts, nat_tests, entry}
-use Words.{object, In as Among, in_find, uid_number, Node, first_node, first_state, numbers_to, at_place, Header, ObjectLine, nobody}
-use Words.{format, same_number, see}
+use Words.{is_some, map, eqb-true, ◌&&◌, nat_le, nat_lt, AllByRecursion, list_all, list_any, and_parts, nat_tests, entry}
+use Words.{object, payload_of, In as Among, in_find, Node, node_by, numbers_to, at_place, Header, ObjectLine, Start, IsFormed}
+use Words.{same_number, see, world_from}
 use Words.order
 use Rattle.arj_law_serial.proofs.Terms
-use Terms.{HeaderInForm, STORES, is_distinct, object_line, state_after, stores_of_line, value_of_line, World, Packed, decided, entry_in}
+use Terms.{HeaderInForm, STORES, is_distinct, object_line, stores_of_line, value_of_line, World, Packed, decided, entry_in}
 use Terms.{last, last_entry, last_in, has, some_is, SeesEntry, IsLine, packed, packed_entry, Kinds, SeesDisks, SeesStore, first_at}
-use Terms.{has_same, place_free, BeginsSo}
+use Terms.{has_same, place_free, BeginsSo, disk_by, marked}
 use Rattle.arj_journal.specs.ScriptForm.{ObjectLineInForm, are_by_number}
 use Rattle.arj_law_disk.specs.machine.State.{State, effective, effective_by}
-use Rattle.arj_law_disk_view.proofs.view.FirstSeen.{format_seen}
+use Rattle.arj_law_disk_view.proofs.view.FirstSeen.{start_seen}
 use Rattle.arj_law_disk_view.specs.view.Formats.{HasObject}
 use Rattle.arj_text.specs.Fields.{are_nodes}
 use Rattle.arj_law_disk_view.proofs.view.FirstSeen as first
@@ -95,76 +95,74 @@ module _ (hd : Header) (x : ℕ) (form : HeaderInForm hd) where
 
 -- ---- the machine
 
-module _ (hd : Header) (x : ℕ) (tops : Kinds) (unwalked : tops.walk ≡ None) (has_it : HasObject hd x) (line : object_line hd x
-    ≡ Some has_it.line) (W : World) (sees : SeesDisks x tops W (see [] (format hd))) (none : W.disk.tops ≡ []) where
+module _ (hd : Header) (st : Start) (formed : IsFormed hd st) (x : ℕ) (tops : Kinds) (unwalked : tops.walk ≡ None) (has_it : HasObject hd x)
+    (line : object_line hd x ≡ Some has_it.line) (W : World) (sees : SeesDisks x tops W (see [] (world_from hd st)))
+    (none : W.disk.tops ≡ []) where
   abbrev started : State
-  started = first.S hd x tops has_it
+  started = first.S hd st formed x tops has_it
 
-  seen0 : SeesDisks x tops (first.W hd x tops has_it) (see [] (format hd))
-  seen0 = format_seen hd x tops has_it unwalked
+  seen0 : SeesDisks x tops (first.W hd st formed x tops has_it) (see [] (world_from hd st))
+  seen0 = start_seen hd st formed x tops has_it unwalked
 
-  -- a node of the format
-  node_at : (k : ℕ) → is_some (at_place k (map (first_node hd) (numbers_to hd.nodes))) ≡ true →
-      at_place k (map (first_node hd) (numbers_to hd.nodes)) ≡ Some (first_node hd k)
-  node_at k there = by (at_place k (map (first_node hd) (numbers_to hd.nodes))) refl there
+  -- a node as the run begins
+  node_at : (k : ℕ) → is_some (at_place k (map (node_by hd st) (numbers_to hd.nodes))) ≡ true →
+      at_place k (map (node_by hd st) (numbers_to hd.nodes)) ≡ Some (node_by hd st k)
+  node_at k there = by (at_place k (map (node_by hd st) (numbers_to hd.nodes))) refl there
     where
-      by : (o : Option Node) → at_place k (map (first_node hd) (numbers_to hd.nodes)) ≡ o → is_some o ≡ true → o ≡ Some (first_node hd k)
+      by : (o : Option Node) → at_place k (map (node_by hd st) (numbers_to hd.nodes)) ≡ o → is_some o ≡ true → o ≡ Some (node_by hd st k)
       by None e some = absurd (cc some)
-      by (Some n) e some = ap Some (sym (first_at hd k n e))
+      by (Some n) e some = ap Some (sym (first_at hd st k n e))
 
-  module _ (naming : is_some (at_place 1 (map (first_node hd) (numbers_to hd.nodes))) ≡ true) where
-    one_is : at_place 1 (map (first_node hd) (numbers_to hd.nodes)) ≡ Some (first_node hd 1)
+  module _ (naming : is_some (at_place 1 (map (node_by hd st) (numbers_to hd.nodes))) ≡ true) where
+    one_is : at_place 1 (map (node_by hd st) (numbers_to hd.nodes)) ≡ Some (node_by hd st 1)
     one_is = node_at 1 naming
 
-    seen_entry : SeesEntry x (let n = first_node hd 1 in let d = n.disk in d.names) W.disk
-    seen_entry = sees.entry (first_node hd 1) one_is
+    seen_entry : SeesEntry x (let d = disk_by hd st 1 in d.names) W.disk
+    seen_entry = sees.entry (node_by hd st 1) one_is
 
     entry_free : W.disk.entry_pend ≡ None
-    entry_free = let e = seen_entry in place_free (entry x) (let n = first_node hd 1 in let d = n.disk in
-        d.names) packed_entry (Some W.disk.entry) W.disk.entry_pend e.pair refl
+    entry_free = let e = seen_entry in
+        place_free (entry x) (let d = disk_by hd st 1 in d.names) packed_entry (Some W.disk.entry) W.disk.entry_pend e.pair refl
 
-    entry_same : W.disk.entry ≡ record { version = 0; writer = uid_number nobody; content = has_it.line.stores }
+    entry_same : W.disk.entry ≡ marked (st.marks.entries has_it.line.x) has_it.line.stores
     entry_same =
         let e = seen_entry in
-        let f : SeesEntry x (let n = first_node hd 1 in let d = n.disk in d.names) started = seen0.entry (first_node hd 1) one_is in
+        let f : SeesEntry x (let d = disk_by hd st 1 in d.names) started = seen0.entry (node_by hd st 1) one_is in
         some_is refl (sym e.pair.held_is ∙ f.pair.held_is)
 
-    last_is : last_entry W.disk ≡ record { version = 0; writer = uid_number nobody; content = has_it.line.stores }
+    last_is : last_entry W.disk ≡ marked (st.marks.entries has_it.line.x) has_it.line.stores
     last_is = sym (let w = sees.whole in w.core.effective.entry)
         ∙ ap (λ o. effective_by (decided W.disk) (λ (e : Packed). e) o W.disk.entry) entry_free ∙ entry_same
 
-    first_entry_is : W.disk.first_entry ≡ record { version = 0; writer = uid_number nobody; content = has_it.line.stores }
+    first_entry_is : W.disk.first_entry ≡ marked (st.marks.entries has_it.line.x) has_it.line.stores
     first_entry_is = sym (ap (entry_in W.disk.first_entry) none) ∙ last_is
 
     module _ (s : ℕ) (stored : order.has has_it.line.stores s ≡ true)
-        (there : is_some (at_place s (map (first_node hd) (numbers_to hd.nodes))) ≡ true) where
-      seen_store : SeesStore x s (let n = first_node hd s in let d = n.disk in d.store) W.disk
-      seen_store = sees.stores s (first_node hd s) (node_at s there)
+        (there : is_some (at_place s (map (node_by hd st) (numbers_to hd.nodes))) ≡ true) where
+      seen_store : SeesStore x s (let d = disk_by hd st s in d.store) W.disk
+      seen_store = sees.stores s (node_by hd st s) (node_at s there)
 
       store_free : W.disk.pend s ≡ None
       store_free = let e = seen_store in
-          place_free (object x) (let n = first_node hd s in let d = n.disk in d.store) packed (W.disk.held s) (W.disk.pend s) e.pair refl
+          place_free (object x) (let d = disk_by hd st s in d.store) packed (W.disk.held s) (W.disk.pend s) e.pair refl
 
-      store_same : W.disk.held s ≡ Some (packed (first_state has_it.line))
-      store_same =
-          let e = seen_store in
-          let f : SeesStore x s (let n = first_node hd s in let d = n.disk in
-          d.store) started = seen0.stores s (first_node hd s) (node_at s there) in
-          sym e.pair.held_is ∙ f.pair.held_is ∙ ap (λ b. if b then Some (packed (first_state has_it.line)) else None) stored
+      listed : has s has_it.line.stores ≡ true
+      listed = has_same s has_it.line.stores ∙ stored
 
-      first_is : W.disk.first ≡ packed (first_state has_it.line)
+      store_same : W.disk.held s ≡ Some (marked (st.marks.states has_it.line.x) (payload_of has_it.line.value))
+      store_same = let e = seen_store in sym e.pair.held_is ∙ (first.first_is hd st formed x tops has_it).held s listed
+
+      first_is : W.disk.first ≡ marked (st.marks.states has_it.line.x) (payload_of has_it.line.value)
       first_is =
           let w = sees.whole in
-          let on : has s (last_entry W.disk).content ≡ true = ap (λ (p : Packed). has s p.content) last_is ∙ has_same s has_it.line.stores
-          ∙ stored in
+          let on : has s (last_entry W.disk).content ≡ true = ap (λ (p : Packed). has s p.content) last_is ∙ listed in
           let now : effective W.disk s ≡ Some (last W.disk) = w.core.effective.store s on in
-          let held : effective W.disk s ≡ Some (packed (first_state has_it.line)) = ap
+          let held : effective W.disk s ≡ Some (marked (st.marks.states has_it.line.x) (payload_of has_it.line.value)) = ap
           (λ o. effective_by (decided W.disk) Some o (W.disk.held s)) store_free ∙ store_same in
           sym (ap (last_in W.disk.first) none) ∙ some_is refl (sym now ∙ held)
 
-      pub begins_so : BeginsSo hd x W.disk
+      pub begins_so : BeginsSo hd st.marks x W.disk
       begins_so = record {
-        state = first_is ∙ ap (λ v. packed (state_after x v [])) (sym (ap value_of_line line));
-        entry = first_entry_is
-            ∙ ap (λ (o : Option ObjectLine). record { version = 0; writer = uid_number nobody; content = stores_of_line o }) (sym line);
+        state = first_is ∙ (λ i. marked (st.marks.states (has_it.is i)) (payload_of (value_of_line (sym line i))));
+        entry = first_entry_is ∙ (λ i. marked (st.marks.entries (has_it.is i)) (stores_of_line (sym line i)));
       }

@@ -1,10 +1,13 @@
 -- In a run in form, whatever stops fall in it, the operations that its journal answers are in form: they are those of its calls.
 use Rattle.arj_law_parts.proofs.Words
+use Words.{parts_in}
+use Words.{if◌then◌else◌}
+use Words.{Start, node_by, world_from}
 use Words.{◌≡◌, ◌++◌, ◌+◌, ◌-◌, ◌||◌, ℕ, zero, suc, Bool, true, false, cond, not, List, [], ◌∷◌, length, map, Option, Some, None, refl, ⊤}
 use Words.{nat_le, nat_lt, AllByRecursion, Body, Event, Header, Line, frame_kind, Goal, Include, Run, Disk, Do, Effect, Say, Send, Stop}
-use Words.{worked, at_number, Input, Node, Step, first_node, first_reason, numbers_to, step, at_place, Arm, Frame, Giving, World, armed}
+use Words.{worked, at_number, Input, Node, Step, first_reason, numbers_to, step, at_place, Arm, Frame, Giving, World, armed}
 use Words.{as_delivered, as_lost, begins, begins_any, bodies, change_frame, count_works, counted, cut, deliver, deliver_frame, disarmed}
-use Words.{done_step, format, frame_number, giving, halted_at, halted_outs, happens, is_quiet, is_up_at, junk_fits, labels_unless}
+use Words.{done_step, frame_number, giving, halted_at, halted_outs, happens, is_quiet, is_up_at, junk_fits, labels_unless}
 use Words.{lacks_labels, limited, lose_frame, lowest, most_frames, new_frame, no_labels, node_numbers, node_of, numbered, put, quiesce}
 use Words.{reasons, refused_at, run_event, run_unless, set_node, settle, settle_for, show_all, show_up, step_node, step_with, steps}
 use Words.{tick_all, tick_up, Move, all_moved, as_moves, journal_by, moved, world_by, AreEventsInForm, AreMovesInForm, IsInForm}
@@ -13,6 +16,7 @@ use Words.event
 use Words.frame
 use Words.input
 use Rattle.arj_law_serial.proofs.Terms
+use Terms.{disk_by}
 use Terms.{OpTextInForm, Asked, says, IsReached, all_append, all_placed, moves_reached, LinesOf, SaysOf, OpFits, OpsFit}
 use Terms.which
 use Rattle.arj_journal.specs.ScriptForm.{EventInForm}
@@ -20,6 +24,7 @@ use Rattle.arj_law_runs.proofs.addresses.Lists.{all_set}
 use Rattle.arj_law_serial.proofs.joint
 use joint.{FitCoords.AsksFor}
 use joint.FitSteps.{Fine, LiveOf, StepOf, step_so}
+use Rattle.arj_promise.specs.Runs.{Run as RunOf}
 use Rattle.arj_law_serial.specs.joint.FitRuns.{RunsFit}
 
 module _ (P : ℕ → Goal → Type 0) (free : (x n : ℕ) → P x (Include n)) where
@@ -210,12 +215,20 @@ module _ (P : ℕ → Goal → Type 0) (free : (x n : ℕ) → P x (Include n)) 
   moves_so (m ∷ ms) w all its = moves_so ms (moved m w) all.1 (event_so m.asked (record w { arms = m.falls }) all.0 its)
 
   -- nothing waits as a run begins
-  first_so : (hd : Header) → WorldOf (format hd)
-  first_so hd = (by (numbers_to hd.nodes), tt)
+  first_so : (hd : Header) (st : Start) → WorldOf (world_from hd st)
+  first_so hd st = (by (numbers_to hd.nodes), tt)
     where
-      by : (ns : List ℕ) → NodesOf (map (first_node hd) ns)
+      by : (ns : List ℕ) → NodesOf (map (node_by hd st) ns)
       by [] = tt
-      by (n ∷ ns) = (tt, by ns)
+      by (n ∷ ns) = (one (st.up n), by ns)
+        where
+          one : (b : Bool) → NodeOf (record {
+            number = n;
+            disk = disk_by hd st n;
+            live = if b then Some (parts_in n (st.incs n + 1) (disk_by hd st n)) else None;
+          })
+          one true = tt
+          one false = tt
 
 -- ---- operations in form
 
@@ -259,13 +272,14 @@ lines_fit x (l ∷ ls) all = (by l.body all.0, lines_fit x ls all.1)
     by b its = tt
 
 pub moves_fit : RunsFit
-moves_fit hd x ms form =
-    let w = world_by hd ms in
-    lines_fit x w.lines (moves_so GoalFits (λ y n. tt) ms (format hd) (events_fit ms form) (first_so GoalFits (λ y n. tt) hd)).1
+moves_fit hd x r form =
+    let w = world_by hd r in
+    lines_fit x w.lines (moves_so GoalFits (λ y n. tt) r.moves (world_from hd r.start) (events_fit r.moves form)
+    (first_so GoalFits (λ y n. tt) hd r.start)).1
 
 -- a run in form comes to a world that is reached, and answers operations in form
-pub runs_in_form : (hd : Header) (ms : List Move) → IsInForm hd ms → IsReached hd (world_by hd ms) × ((x : ℕ) → OpsFit x (journal_by hd ms))
-runs_in_form hd ms form = (moves_reached hd ms form.few, λ x. moves_fit hd x ms form.events)
+pub runs_in_form : (hd : Header) (r : RunOf hd) → IsInForm hd r → IsReached hd (world_by hd r) × ((x : ℕ) → OpsFit x (journal_by hd r))
+runs_in_form hd r form = (moves_reached hd r form.few, λ x. moves_fit hd x r form.events)
 
 -- ---- scripts
 

@@ -1,11 +1,14 @@
 -- The form of an object's states and entries, in every run.
 use Rattle.arj_law_parts.proofs.Words
+use Words.{in_from}
+use Words.{IsFormed, Start, node_by}
 use Words.{◌≡◌, ◌∙◌, ◌+◌, ◌==◌, ℕ, Bool, true, false, cond, filter, List, [], ◌∷◌, map, refl, sym, subst, arith, ap, eqb-true, inl, inr}
 use Words.{⊎_elim, Option, Some, None, if◌then◌else◌, AllByRecursion, nat_tests, entry, object, In as Listed, in_find, in_find_none, Class}
 use Words.{Header, ObjectLine, ObjectState, Uid, Value, class_of, again_all, begin_action, Coord, Disk, Do, Effect, Say, Send, stopped}
-use Words.{worked, tick_outs, Parts, with_coord, has, put_uid, Node, acts, entries_at, first_disk, first_entry, first_state, parent_of}
+use Words.{worked, tick_outs, Parts, with_coord, has, put_uid, Node, acts, parent_of}
 use Words.{parts_in, put_states, restart_outs, value_in, World, is_serial_kind, entry_back, same_number, Post, Seen, see}
 use Rattle.arj_law_serial.proofs.Terms
+use Terms.{IsOlder, Marks, all_append, disk_by, entries_from, entry_by, older_at, state_by, states_from}
 use Terms.{HeaderInForm, entry_payload, first_values, object_line, servers_of_line, value_of_line, never, Keeps, In, at, given, posted}
 use Terms.{said, Up, Walks, Keeping, kept_holds, IsLine, first_at, HaveForm, CoordIsSo, MessageIsSo, Own, acts_so, begins_so, AllAreSo}
 use Terms.{AreSo, DiskIsSo, Kind, PartsAreSo, kind_of, listed, so_of, stored}
@@ -13,7 +16,7 @@ use Rattle.arj_law_parts.specs.moves.Keeps.{Holds}
 use Rattle.arj_law_serial.proofs.joint
 use joint.{Firsts.line_in, Firsts.one_line}
 use joint.FormNodes.{Held, handled_so, keep, put_so, restart_so, says_so, starts_so, stopped_so, tick_so, worked_so}
-use Rattle.arj_law_serial.specs.joint.Forms.{FormsAreKept, NodeIsSo}
+use Rattle.arj_law_serial.specs.joint.Forms.{FormsAreKept, NodeIsSo, UpIsSo}
 use Rattle.arj_protocol.specs.Words.class
 use Rattle.arj_protocol.specs.Words.value
 
@@ -117,40 +120,76 @@ module _ (hd : Header) (x : ℕ) (form : HeaderInForm hd) where
           let f = in_find (λ (q : ObjectLine). q.x == x) p hd.objects found in
           ap Some (one_line hd.objects (let fs = form.objects in fs.1) p o (line_in p hd.objects f.0) is (eqb-true p.x x f.1 ∙ sym same))
 
-  values_so : (os : List ObjectLine) → ((o : ObjectLine) → IsLine o os → IsLine o hd.objects) →
-      AllByRecursion (Own (stored (kind_of hd x))) (map first_state os)
-  values_so [] there = tt
-  values_so (o ∷ os) there = (
+  values_so : (marks : Marks) (os : List ObjectLine) → ((o : ObjectLine) → IsLine o os → IsLine o hd.objects) →
+      AllByRecursion (Own (stored (kind_of hd x))) (map (λ (o : ObjectLine). state_by (marks.states o.x) o) os)
+  values_so marks [] there = tt
+  values_so marks (o ∷ os) there = (
     (refl, λ same. ap (λ q. class_of (value_of_line q)) (sym (line_is o (there o (inl refl)) (ap (λ (u : Uid). u.num) same)))),
-    values_so os (λ p i. there p (inr i)),
+    values_so marks os (λ p i. there p (inr i)),
   )
 
-  entries_so : (os : List ObjectLine) → ((o : ObjectLine) → IsLine o os → IsLine o hd.objects) →
-      AllByRecursion (Own (listed (kind_of hd x))) (map first_entry os)
-  entries_so [] there = tt
-  entries_so (o ∷ os) there = (
+  entries_so : (marks : Marks) (os : List ObjectLine) → ((o : ObjectLine) → IsLine o os → IsLine o hd.objects) →
+      AllByRecursion (Own (listed (kind_of hd x))) (map (λ (o : ObjectLine). entry_by (marks.entries o.x) o) os)
+  entries_so marks [] there = tt
+  entries_so marks (o ∷ os) there = (
     λ same.
         let l = sym (line_is o (there o (inl refl)) (ap (λ (u : Uid). u.num) same)) in
         let b = sym (entry_back (record { servers = o.servers; stores = o.stores })) in
         (refl, λ i. entry_payload (servers_of_line (l i)) ((b i).stores)),
-    entries_so os (λ p i. there p (inr i)),
+    entries_so marks os (λ p i. there p (inr i)),
   )
 
-  disk_so : (n : ℕ) → DiskIsSo (kind_of hd x) (first_disk hd n)
-  disk_so n = record {
-    store = record {
-      held = puts_so (stored (kind_of hd x)) (map first_state (filter (λ (o : ObjectLine). has o.stores n) hd.objects)) [] (values_so
-          (filter (λ (o : ObjectLine). has o.stores n) hd.objects) (λ o i. filter_line (λ (o : ObjectLine). has o.stores n) hd.objects o i))
-          (none_so (stored (kind_of hd x)));
-      pend = tt;
-    };
-    names =
-        record { held = puts_so (listed (kind_of hd x)) (entries_at n hd) [] (by (n == 1)) (none_so (listed (kind_of hd x))); pend = tt };
-  }
-    where
-      by : (b : Bool) → AllByRecursion (Own (listed (kind_of hd x))) (if b then map first_entry hd.objects else [])
-      by true = entries_so hd.objects (λ o i. i)
-      by false = tt
+  module _ (st : Start) where
+    -- older states are of their objects' classes
+    older_so : (n : ℕ) (more : List (ℕ × ObjectState)) → AllByRecursion (IsOlder hd st) more →
+        AllByRecursion (Own (stored (kind_of hd x))) (older_at n more)
+    older_so n [] all = tt
+    older_so n (a ∷ more) all = by (a.0 == n) (older_so n more all.1)
+      where
+        o : IsOlder hd st a
+        o = all.0
+
+        line : IsLine o.line hd.objects
+        line = line_in o.line hd.objects (in_from o.line hd.objects o.there)
+
+        its : Own (stored (kind_of hd x)) a.1
+        its = (
+          o.of ∙ ap object (sym (ap (λ (u : Uid). u.num) o.of)),
+          λ same. o.class ∙ ap (λ q. class_of (value_of_line q))
+              (sym (line_is o.line line (sym (ap (λ (u : Uid). u.num) o.of) ∙ ap (λ (u : Uid). u.num) same))),
+        )
+
+        by : (b : Bool) → AllByRecursion (Own (stored (kind_of hd x))) (older_at n more) →
+            AllByRecursion (Own (stored (kind_of hd x))) (cond b (a.1 ∷ older_at n more) (older_at n more))
+        by true rest = (its, rest)
+        by false rest = rest
+
+    disk_so : AllByRecursion (IsOlder hd st) st.older → (n : ℕ) → DiskIsSo (kind_of hd x) (disk_by hd st n)
+    disk_so older n = record {
+      store = record {
+        held = puts_so (stored (kind_of hd x)) (states_from n hd st) [] (all_append (Own (stored (kind_of hd x))) (older_at n st.older)
+            (map (λ (o : ObjectLine). state_by (st.marks.states o.x) o) (filter (λ (o : ObjectLine). has o.stores n) hd.objects))
+            (older_so n st.older older) (values_so st.marks (filter (λ (o : ObjectLine). has o.stores n) hd.objects)
+            (λ o i. filter_line (λ (o : ObjectLine). has o.stores n) hd.objects o i))) (none_so (stored (kind_of hd x)));
+        pend = tt;
+      };
+      names = record {
+        held = puts_so (listed (kind_of hd x)) (entries_from n hd st.marks) [] (by (n == 1)) (none_so (listed (kind_of hd x)));
+        pend = tt;
+      };
+    }
+      where
+        by : (b : Bool) → AllByRecursion (Own (listed (kind_of hd x)))
+            (if b then map (λ (o : ObjectLine). entry_by (st.marks.entries o.x) o) hd.objects else [])
+        by true = entries_so st.marks hd.objects (λ o i. i)
+        by false = tt
+
+    first_so : IsFormed hd st → (n : ℕ) → NodeIsSo (kind_of hd x) (node_by hd st n)
+    first_so formed n = (disk_so formed.older n, by (st.up n))
+      where
+        by : (b : Bool) → UpIsSo (kind_of hd x) (if b then Some (parts_in n (st.incs n + 1) (disk_by hd st n)) else None)
+        by true = starts_so (kind_of hd x) n (st.incs n + 1) (disk_by hd st n)
+        by false = tt
 
   real : (bytes : List ℕ) → class_of (value_in (let k = kind_of hd x in k.class) bytes) ≡ (let k = kind_of hd x in k.class)
   real bytes = real_class (class_of (first_values hd x)) (first_values hd x) refl bytes
@@ -184,7 +223,7 @@ module _ (hd : Header) (x : ℕ) (form : HeaderInForm hd) where
         let o = own k n d None M all in
         walk k e n (restart_outs hd n (d.inc + 1) d) (parts_in n (d.inc + 1) d) d M o.0 (starts_so k n (d.inc + 1) d) (restart_so k hd n d)
         (rest k n d None M all);
-    first = (λ j n is. subst (NodeIsSo k) (first_at hd j n is) (disk_so j, starts_so k j 1 (first_disk hd j)), λ p no_way. absurd no_way);
+    first = λ st formed. (λ j n is. subst (NodeIsSo k) (first_at hd st j n is) (first_so st formed j), λ p no_way. absurd no_way);
   }
     where
       k : Kind

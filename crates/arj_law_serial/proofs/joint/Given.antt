@@ -18,10 +18,10 @@ pub record AreBeside (hd : Header) (f : Fixed) (x : ℕ) (begun : List Action) (
   pub both : SeesBoth x tops office M
   pub carried : SeesRecorded x tops office M
   pub early : AreNotLate (let A = office in A.world) M
-  pub begins : BeginsSo hd x (let W = office.world in W.disk)
+  pub begins : BeginsSo hd M.start.marks x (let W = office.world in W.disk)
   pub turns : AreTurnsOf M.lines (let W = office.world in let D = W.disk in D.tops)
   pub seen : IsSeenIn (case_of f x begun S) M
-  pub agrees : AgreesApart (first_values hd) f x begun M.sent
+  pub agrees : AgreesApart (first_values hd) M.start.marks f x begun M.sent
   pub voted : AreVotedAt f x S M
   pub planned : ArePlannedSo f x S (let A = office in A.world) M
   pub whole : KnowsWhole x begun M

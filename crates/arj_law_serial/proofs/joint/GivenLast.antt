@@ -1,11 +1,12 @@
 -- Where both machines of an object stand in one state: the last state of the disk machine is the last committed one by the lock machine,
 -- and nobody is in doubt there.
 use Rattle.arj_law_parts.proofs.Words
-use Words.{◌≡◌, [], refl, sym, ◌∙◌, ap, ⊎_elim, nobody, class_of, Value, number_tells, value_back, object, value_in}
-use Rattle.arj_law_serial.proofs.Terms.{first_values, state_after, Packed, Plan, in_decided, packed, state_code}
+use Words.{◌≡◌, refl, sym, ◌∙◌, ap, ⊎_elim, class_of, payload_of, Value, number_tells, value_back, object, value_in}
+use Rattle.arj_law_serial.proofs.Terms.{first_values, Mark, marked, Packed, Plan, in_decided, packed, state_code}
 use Rattle.arj_law_disk_view.proofs.deciding_lines.Owners.{decided_begun}
 use Rattle.arj_law_serial.proofs.joint
-use joint.{Given.LastThereIsLast, GivenFirst.first_in_form, GivenSettled.nobody_in_doubt, GivenTops.tied}
+use joint.{Given.LastThereIsLast, GivenFirst.first_in_form, GivenSettled.nobody_in_doubt}
+use Rattle.arj_law_serial.proofs.order.Timely.{run_initial}
 use joint.GivenValue.{first_is_last, newest_wrote}
 use joint.GivenWriters.{IsNewest, WroteNone, newest_of}
 
@@ -32,11 +33,12 @@ last_there_is_last hd f x begun S M form line b st there = record {
     is_first : WroteNone (let A = b.office in A.world.disk.first) (let A = b.office in A.world.disk.tops) →
         state_code f.act f.code st ≡ S.initial
     is_first none =
-        let same : packed st ≡ packed (state_after x (first_values hd x) []) = there.last_one ∙ none.0 ∙ b.begins.state in
-        let writer : st.writer ≡ nobody = number_tells st.writer nobody (ap (λ (k : Packed). k.writer) same) in
+        let mark : Mark = M.start.marks.states x in
+        let same : packed st ≡ marked mark (payload_of (first_values hd x)) = there.last_one ∙ none.0 ∙ b.begins.state in
+        let writer : st.writer ≡ mark.writer = number_tells st.writer mark.writer (ap (λ (k : Packed). k.writer) same) in
         (λ i. f.code (value_in (kind i) (ap (λ (k : Packed). k.content) same i)) (f.act (writer i)))
-        ∙ ap (λ (v : Value). f.code v (f.act nobody)) (value_back (first_values hd x) (first_in_form hd x form line))
-        ∙ sym (let t = tied hd f x begun S M b in t.first)
+        ∙ ap (λ (v : Value). f.code v (f.act mark.writer)) (value_back (first_values hd x) (first_in_form hd x form line))
+        ∙ sym (run_initial (let s = b.seen in let l = s.sees in l.run) ∙ b.agrees.1.0)
 
     its_writer : (z : IsNewest M.lines (let A = b.office in A.world.disk.first) (let A = b.office in A.world.disk.tops)) →
         (let k = z.state in k.writer) ≡ (let d = z.done in d.top)

@@ -23,6 +23,7 @@ use joint.{Given.AreBeside, GivenLight.never_light, Surviving.IsTopThere, Surviv
 use joint.GivenTops.{begun_of, committed_there, core, disk_of, holds, node_of, places}
 use Rattle.arj_law_serial.proofs.order.Order.{top_plain}
 use Rattle.arj_law_disk.specs.machine.Messages as mail
+use Rattle.arj_law_serial.proofs.joint.Starting.{stands_for}
 
 -- ---- outcomes that are open
 
@@ -219,7 +220,7 @@ module _ (hd : Header) (f : Fixed) (x : ℕ) (begun : List Action) (S : State) (
   module _ (naming : Node) (first : M.nodes 1 ≡ Some naming) (c : Call) (there : In c S.calls) (write : c.write ≡ true)
       (alive : Alive S c.act) (conf : S.confirmed (top c.act) ≡ true) (two : (let k = S.action (top c.act) in k.stage) ≤ 2) where
     k : IsTopThere f.act M.lines (top c.act)
-    k = top_there f x begun S M b.seen (first_values hd) b.agrees.1.0 c there
+    k = top_there f x begun S M b.seen (first_values hd) (stands_for (first_values hd) M.start.marks x f b.agrees.1.0) c there
 
     abbrev a : Act
     a = k.its

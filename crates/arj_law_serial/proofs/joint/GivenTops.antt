@@ -9,7 +9,8 @@ use Terms.{its_acts, State, Holds, start_holds, RootsLow, roots_low, start_low, 
 use Terms.{IsTiedToLines, Fixed, HasPlaces}
 use Terms.disk
 use Rattle.arj_law_lock.proofs.machine.ValueClaims.{Values}
-use Rattle.arj_law_serial.proofs.{joint.Given.AreBeside, order.Begun.begun_have_places, order.Ties.IsAsSaid, order.Ties.as_said}
+use Rattle.arj_law_serial.proofs.{joint.Starting.stands_for, joint.Given.AreBeside, order.Begun.begun_have_places, order.Ties.IsAsSaid}
+use Rattle.arj_law_serial.proofs.{order.Ties.as_said}
 
 all_at : {A : Type 0} (P : A → Type 0) (xs : List A) → AllByRecursion P xs → (a : A) → list.In a xs → P a
 all_at P [] all a i = absurd i
@@ -55,7 +56,7 @@ module _ (hd : Header) (f : Fixed) (x : ℕ) (begun : List Action) (S : State) (
       begun_have_places begun f.paths f.act M.lines right (subst (AreAlike begun) (its_acts M.lines right) s.alike) a.whole
 
   pub tied : IsTiedToLines f.act f.code (first_values hd) x M.lines S
-  tied = let s = b.seen in s.tied (first_values hd) b.agrees.1.0
+  tied = let s = b.seen in s.tied (first_values hd) (stands_for (first_values hd) M.start.marks x f b.agrees.1.0)
 
   -- what the machine has of an action
   pub said_of : (a : Act) → list.In a (acts M.lines) → is_serial a.kind ≡ false → IsAsSaid M.lines a (S.action (f.act a.uid))

@@ -27,6 +27,7 @@ use Rattle.arj_law_serial.proofs.order
 use order.{Ties.Tie, Ties.tie_of}
 use order.Order.{IsShown, before_top, called_first, listed, off_one, place_of_top, same_number, shown, top_for, top_plain}
 use Rattle.arj_model.specs.Calls as model
+use Rattle.arj_law_serial.proofs.joint.Starting.{stands_for}
 
 -- the newest call that counts left the value
 left_by : (first : ℕ) (Counts : machine.Act → Type 0) (v : ℕ) (cs : List Call) → Newest first Counts v cs → (c : Call) → In c cs →
@@ -122,7 +123,7 @@ module _ (hd : Header) (f : Fixed) (x : ℕ) (begun : List Action) (S : State) (
   }
     where
       k : IsTopThere f.act M.lines (top c.act)
-      k = top_there f x begun S M b.seen (first_values hd) b.agrees.1.0 c i
+      k = top_there f x begun S M b.seen (first_values hd) (stands_for (first_values hd) M.start.marks x f b.agrees.1.0) c i
 
       acts_so : machine.is_action c.act ≡ true
       acts_so = let h = holds hd f x begun S M b in (h.calls c i).acts
@@ -132,7 +133,8 @@ module _ (hd : Header) (f : Fixed) (x : ℕ) (begun : List Action) (S : State) (
           ∙ survives (top c.act) (on_top c.act) (top_action (top c.act) (top_is c.act acts_so))
 
       on : disk.decided D (uid_number (let y = k.its in y.uid)) ≡ true
-      on = machine_decided f x begun S M b.seen (first_values hd) b.agrees.1.0 (let A = b.office in
+      on = machine_decided f x begun S M b.seen (first_values hd)
+          (stands_for (first_values hd) M.start.marks x f b.agrees.1.0) (let A = b.office in
           A.world) b.carried.0.1.1 b.planned (let y = k.its in y.uid) three c i write (sym k.place) survives
 
       d : (d : Done) × words.In d D.tops × (d.top ≡ uid_number (let y = k.its in y.uid))
@@ -204,11 +206,13 @@ module _ (hd : Header) (f : Fixed) (x : ℕ) (begun : List Action) (S : State) (
         c.write ≡ true → (top c.act ≡ f.act u) × Alive S c.act → c.line < d.line → ⊥
     last_write d i write survives other c j writes_c its less =
         let w = writer_of d i write survives in
-        let said_d : HasSaid M.lines x (let y = w.its in y.uid) d.line = has_said f x begun S M b.seen (first_values hd) b.agrees.1.0 d i
+        let said_d : HasSaid M.lines x (let y = w.its in y.uid) d.line = has_said f x begun S M b.seen (first_values hd)
+        (stands_for (first_values hd) M.start.marks x f b.agrees.1.0) d i
         write survives (let y = w.its in y.uid) (sym w.place) in
         let alive_c = theirs_survive (holds hd f x begun S M b) (values hd f x begun S M b) (low hd f x begun S M b) (f.act u) is three c j
         its in
-        let said_c : HasSaid M.lines x u c.line = has_said f x begun S M b.seen (first_values hd) b.agrees.1.0 c j writes_c alive_c u
+        let said_c : HasSaid M.lines x u c.line = has_said f x begun S M b.seen (first_values hd)
+        (stands_for (first_values hd) M.start.marks x f b.agrees.1.0) c j writes_c alive_c u
         its.0 in
         let one_d : said_d.act ≡ w.its = same_act said_d.act w.its said_d.there w.there said_d.uid in
         let one_c : said_c.act ≡ a.0 = same_act said_c.act a.0 said_c.there a.1 (said_c.uid ∙ sym a.2) in

@@ -1,9 +1,10 @@
 -- What goes by what commits use, and by the machine's decisions, is kept beside what is carried by each handler, where each step of the
 -- machine keeps it.
 use Rattle.arj_law_parts.proofs.Words
+use Words.{IsFormed, Start, world_from}
 use Words.{◌≡◌, ◌≢◌, ◌⊎◌, ◌∙◌, ◌+◌, ℕ, true, false, List, [], Option, Some, None, ap, eq-eqb, inl, inr, refl, subst, sym, Body, Header}
 use Words.{Kind, Label, Uid, actor, again_all, begin_action, last_req, Used, doing_of, plan_for, root_at, Disk, Effect, tick_outs, Parts}
-use Words.{with_coord, uid_number, Input, acts, branch_named, parent_of, parts_in, refusal_up, restart_outs, Branch, root_of, format}
+use Words.{with_coord, uid_number, Input, acts, branch_named, parent_of, parts_in, refusal_up, restart_outs, Branch, root_of}
 use Words.{is_serial_kind, numbered, Seen, see}
 use Words.input
 use Rattle.arj_law_serial.proofs.Terms
@@ -92,8 +93,8 @@ module _ (hd : Header) (x : ℕ) (R : World → Seen → Type 0) (P : Kinds → 
 
   -- nothing is decided yet
   abbrev pub WhereFirst : Type 0
-  WhereFirst = (tops : Kinds) (A : Office) → SeesBoth x tops A (see [] (format hd)) → (let W = A.world in let S = W.disk in S.tops) ≡ [] →
-      T.kept tops A (see [] (format hd))
+  WhereFirst = (st : Start) → IsFormed hd st → (tops : Kinds) (A : Office) → SeesBoth x tops A (see [] (world_from hd st)) →
+      (let W = A.world in let S = W.disk in S.tops) ≡ [] → T.kept tops A (see [] (world_from hd st))
 
 -- ---- each handler
 
@@ -289,7 +290,8 @@ module _ (hd : Header) (x : ℕ) (R : World → Seen → Type 0) (P : Kinds → 
         (ups_walk Y0 k e v (none_at (UsesSo Q0) k (d.inc + 1) d) outs d M (others_up Y0 k d None M each))
         (records_walk none M0 k anyone e v outs d M (others_then none k d None M) (plainly none anyone outs (restart_plain [] hd k d))
         (here_then none k d None M)) (step_walk k d None M e v outs d M (near_same M) (λ down. restart_plain [] hd k d) (λ down. refl));
-    first = λ tops walk kinds. let f = parts.first tops walk kinds in (f.0, f.1, (f.2, where_first tops f.0 f.1 f.3), f.3, f.4);
+    first = λ tops walk kinds st formed. let f = parts.first tops walk kinds st formed in
+        (f.0, f.1, (f.2, where_first st formed tops f.0 f.1 f.3), f.3, f.4);
   }
     where
       other : (i : Input) → is_act i ≡ true → (l : Label) (how : Kind) (parent : Option Label) → i ≢ input.Begin l how parent

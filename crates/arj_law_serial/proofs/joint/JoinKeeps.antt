@@ -1,10 +1,12 @@
 -- Each handler keeps what keeps tops from counting beside a decided one that conflicts with them.
 use Rattle.arj_law_parts.proofs.Words
+use Words.{◌+◌}
 use Words.{◌≡◌, ◌≢◌, ◌==◌, ◌∙◌, ℕ, true, [], Some, None, ap, eqb-true, inl, inr, refl, subst, sym, ⊎_elim, and_parts, Header, Uid}
-use Words.{Confirming, Machine, plan_of, Committing, Coord, Doing, doing_of, Disk, Parts, uid_number, Node, first_disk, parts_in, root_of}
+use Words.{Confirming, Machine, plan_of, Committing, Coord, Doing, doing_of, Disk, Parts, uid_number, Node, root_of}
 use Words.{number_tells, Seen}
 use Rattle.arj_law_serial.proofs.Terms
-use Terms.{in_at, World, Office, some_is, at, down, up, KnowsNode, KnowsMachine, Kinds, SeesCoord, first_at, node_here, SeesBoth}
+use Terms.{disk_by, first_up}
+use Terms.{in_at, World, Office, some_is, at, down, up, KnowsNode, KnowsMachine, Kinds, SeesCoord, node_here, SeesBoth}
 use Terms.{SeesDecided, SeesHeard, SeesPlan, KeepsPart, IsKept, nothing_more, IncludersTakeTurns}
 use Rattle.arj_law_disk.specs.machine.{State.State, Words.In}
 use Rattle.arj_law_disk_view.specs.view.Knows.{KnowsKinds}
@@ -131,7 +133,7 @@ module _ (x k : ℕ) (d : Disk) (M : Seen) (tops : Kinds) (A : Office) (both : S
 
 module _ (hd : Header) (x : ℕ) (R : World → Seen → Type 0) (P : Kinds → Office → Seen → Type 0) (known : (W : World) (M : Seen) → R W M →
     IsKept M) (heard_of : (tops : Kinds) (A : Office) (M : Seen) → P tops A M →
-    SeesHeard x tops A M) (decides : (tops : Kinds) (A : Office) (M : Seen) → P tops A M → SeesDecided tops A M)
+    SeesHeard x tops A M) (decides : (tops : Kinds) (A : Office) (M : Seen) → P tops A M → SeesDecided x tops A M)
     (parts : KeepsPart hd x R P) where
   -- where nobody is newly decided
   either_none : WhereNone hd x R P (Turning x)
@@ -188,10 +190,9 @@ module _ (hd : Header) (x : ℕ) (R : World → Seen → Type 0) (P : Kinds → 
       goes.grown goes.opened goes.cand before waiting B into Z seen (let d = decides tops B Z p in d.once) step ups recs
 
   nothing_yet : WhereFirst hd x R P (Turning x)
-  nothing_yet tops A both empty = record {
-    works = λ j n t at_node live.
-        let same : parts_in j 1 (first_disk hd j) ≡ t = some_is refl (ap (λ (z : Node). z.live) (first_at hd j n at_node) ∙ live) in subst
-        (λ (z : Parts). AreAgainst x A [] (IsCounted A) z) same (none_at (UsesSo (IsAgainst x A [] (IsCounted A))) j 1 (first_disk hd j));
+  nothing_yet st formed tops A both empty = record {
+    works = λ j n t at_node live. subst (λ (z : Parts). AreAgainst x A [] (IsCounted A) z) (first_up hd st j n t at_node live)
+        (none_at (UsesSo (IsAgainst x A [] (IsCounted A))) j (st.incs j + 1) (disk_by hd st j));
     records = λ u r undone w (d, i, counts, top). absurd (subst (In d) empty i);
     turns = subst (IncludersTakeTurns []) (sym empty) tt;
   }

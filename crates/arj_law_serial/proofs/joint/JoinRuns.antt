@@ -1,13 +1,14 @@
 -- In every run a commit under way includes what survives in its top, and roots have noted the includes of their actions.
 use Rattle.arj_law_parts.proofs.Words
 use Words.{◌≡◌, ◌⊎◌, ◌==◌, ◌++◌, ◌∙◌, ◌+◌, arith, ℕ, zero, suc, Bool, true, false, cond, List, [], ◌∷◌, Option, Some, None, Contains, ap}
-use Words.{eqb-true, map, inl, inr, refl, subst, sym, ⊎_elim, length, ⊤, slice_get, AllByRecursion, and_parts, first_uid, In, in_from}
+use Words.{eqb-true, inl, inr, refl, subst, sym, ⊎_elim, length, ⊤, AllByRecursion, and_parts, first_uid, In, in_from}
 use Words.{in_to, again_all, begin_action, began_line, Committing, Coord, Doing, Idle, Now, new_coord, Disk, Do, Effect, Intent, Say, Send}
-use Words.{stopped, worked, tick_outs, Parts, Took, handle, with_coord, Node, acts, begin_refusal, first_disk, first_node, numbers_to}
-use Words.{parent_of, parts_in, restart_outs, at_place, is_own, new_tree, next_uid, Body, Header, Kind, Label, Message, Uid, name, format}
-use Words.{is_serial_kind, numbered, Seen, see}
+use Words.{stopped, worked, tick_outs, Parts, Took, handle, with_coord, Node, acts, begin_refusal}
+use Words.{parent_of, parts_in, restart_outs, at_place, is_own, new_tree, next_uid, Body, Header, Kind, Label, Message, Uid, name}
+use Words.{is_serial_kind, numbered, Seen}
 use Words.body
 use Rattle.arj_law_serial.proofs.Terms
+use Terms.{IsAtStarts, first_up}
 use Terms.{option_map, KeepsGiven, keeps_given, kept_both, Access, Book, book, new_book, turned, with_access, AreLined, IsKept, after}
 use Terms.{Right, book_more, Stands, stands_lines, stands_new, stands_turn, act_turns, lines_keep, message_turns, tick_turns, path_old}
 use Terms.{its_own, Act, uids, get_more, IsGood, IsMemory, other_number, same_number, Keeps, MayGive, label_at, AreQuiet, at, down, given}
@@ -277,22 +278,9 @@ joins_given hd = record {
         home : (next_uid t.coord.tree).node ≡ k
         home = memory.node
 
-    first_so : IncludesAreSaid (see [] (format hd))
-    first_so j n t is live = by n t live j is
-      where
-        got : (ms : List ℕ) (i : ℕ) (n : Node) → slice_get (map (first_node hd) ms) i ≡ Some n → (a : ℕ) × (first_node hd a ≡ n)
-        got [] i n is = none_at refl is
-        got (m ∷ ms) zero n is = (m, some_is is)
-        got (m ∷ ms) (suc i) n is = got ms i n is
-
-        by : (n : Node) (t : Parts) → n.live ≡ Some t → (j : ℕ) → at_place j (map (first_node hd) (numbers_to hd.nodes)) ≡ Some n →
-            Own new_book t.coord
-        by n t live zero e = none_at refl e
-        by n t live (suc j) e =
-            let a = got (numbers_to hd.nodes) j n e in
-            let same : parts_in a.0 1 (first_disk hd a.0) ≡ t = some_is (ap (λ (z : Node). z.live) a.1 ∙ live) in
-            subst (λ (z : Parts). Own new_book z.coord) same
-            ((λ b s there. absurd (in_from b [] there)), no_plans new_book a.0 1 (let c = first_disk hd a.0 in c.intents))
+    first_so : IsAtStarts hd IncludesAreSaid
+    first_so st formed j n t is live = subst (λ (z : Parts). Own new_book z.coord) (first_up hd st j n t is live)
+        ((λ b s there. absurd (in_from b [] there)), no_plans new_book j (st.incs j + 1) [])
 
 -- what it stands on is kept by each handler
 pub based_keep : (hd : Header) → Keeps hd IsBased

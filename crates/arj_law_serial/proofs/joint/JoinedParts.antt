@@ -1,9 +1,12 @@
 -- What is carried of both machines beside each other through a run, and of the lock machine's state more that stays as it goes on.
 use Rattle.arj_law_parts.proofs.Words
-use Words.{◌≡◌, ◌==◌, ℕ, true, List, [], is_some, refl, Option, Some, None, eqb-true, Seen, see, Header, ObjectLine, format, in_find, in_to}
+use Words.{◌≡◌, ◌==◌, ℕ, true, List, is_some, refl, ap, Option, Some, None, eqb-true, Seen, Header, ObjectLine, in_find}
+use Words.{in_to}
 use Rattle.arj_law_serial.proofs.Terms
+use Terms.{IsAtStarts, Marks}
 use Terms.{IsKnownJoined, SeesRecorded, IsPaired, NodesAreThere, keeps_given, kept_both, lines_keep, Keeps, KeepsPart, KnowsFew, KnowsWhole}
-use Terms.{World, Action, first_values, object_line, HasObject, part_more, knows_idle, tied_part, IsKept, AreGoodCounted, KnowsScript}
+use Terms.{Packed, World, Action, first_values, object_line, HasObject, part_more, knows_idle, tied_part, IsKept, AreGoodCounted}
+use Terms.{KnowsScript}
 use Terms.{HeaderInForm, Run, State, Fixed, GivesLocks, Kinds, Office, IsKnownEarly, HaveEntries, with_entries, world_at, AreSo, kind_of}
 use Terms.{OpsFit, IsApt}
 use Rattle.arj_law_disk_view.proofs.running
@@ -15,8 +18,9 @@ use Rattle.arj_law_serial.proofs.joint
 use joint.{Firsts.line_there, FormRuns.kept_forms, Given.AreBeside, GivenLast.last_there_is_last, LastWriters.Idle, LoadAnswers.last_there}
 use joint.{NodesThere.nodes_keep, OrderedRuns.turns_of, Ordering.ordered_part, Owns.own_part, Recorded.recorded_part, RestGiven.rest_beside}
 use joint.Beginning.{WithFirst, first_begins, first_part}
+use joint.Starting.{stands_for}
 use joint.Joining.{HasLocks, WithLocks, locks_part, StoresGive}
-use joint.NextGiven.{IsTiedInOrder, KnowsPair, gives_next}
+use joint.NextGiven.{IsFirstBy, IsTiedInOrder, KnowsPair, gives_next}
 use Rattle.arj_law_serial.proofs.whole.{Gives.gives_locks, Of.of_more, Whole.whole_of, WholeRuns.kept_beside}
 use Rattle.arj_law_serial.specs.joint.Joined.{IsCountedJoined, SeesInOrder, SeesTied}
 
@@ -96,55 +100,65 @@ module _ (hd : Header) (x : ℕ) (form : HeaderInForm hd) (there : is_some (obje
 
   -- where this holds before each handler, so much more is carried of the lock machine's state
   module _ (L : Seen → Type 0) (Past : Fixed → State → Seen → Type 0) (stays : (M N : Seen) → L M → (f : Fixed) (S T : State) → Run S T →
-      Past f S M → Past f T N) (starts : (f : Fixed) (S : State) → Past f S (see [] (format hd))) where
+      Past f S M → Past f T N) (starts : (f : Fixed) (S : State) → IsAtStarts hd (Past f S)) where
     -- what the lock half has beside
     abbrev Locks : World → Seen → Type 0
     Locks W M = HasLocks (first_values hd) x (Whole x) Past W M
 
+    -- of the disk half it is known how it is tied to the journal, and by whom its first state is
+    abbrev Told : World → Seen → Type 0
+    Told W M = IsTiedInOrder W M × IsFirstBy x W M
+
     -- the disk half, beside states of the lock half, and with its own tie to the journal
-    heard_there : KeepsPart hd x (λ W M. IsCountedJoined M × (KnowsScript M × (Locks W M × IsTiedInOrder W M))) (SeesCarried x)
+    heard_there : KeepsPart hd x (λ W M. IsCountedJoined M × (KnowsScript M × (Locks W M × Told W M))) (SeesCarried x)
     heard_there = part_more hd x (KnowsPair (first_values hd) x)
-        (λ W M. IsCountedJoined M × (KnowsScript M × (Locks W M × IsTiedInOrder W M))) (SeesCarried x) (λ W M q. let j = q.1.1.0 in
+        (λ W M. IsCountedJoined M × (KnowsScript M × (Locks W M × Told W M))) (SeesCarried x) (λ W M q. let j = q.1.1.0 in
         ((q.0, q.1.0), ((j.0, j.1, j.2.0, (λ f a. let z = j.3 f a in (z.0, z.1, z.2, z.3, z.4, z.6))), q.1.1.1)))
         (heard_kept hd x (KnowsPair (first_values hd) x) (λ W M r. ((let g = r.0.0.0.0 in g.0.0.0), (let s = r.0.1 in s.0)))
         (λ W M r. let g = r.0.0.0.0 in let s = r.0.1 in (names_own M g s.0, g.0.0.1, records_free_in M g s.0, r.0.0.0.1, s.1))
         (line_there hd x form there).0 (gives_next (first_values hd) x))
 
     -- and tied to the journal
-    tied : KeepsPart hd x (λ W M. (IsCountedJoined M × IsKept M) × (KnowsScript M × (Locks W M × IsTiedInOrder W M))) (SeesTied x)
-    tied = tied_part hd x IsCountedJoined (λ W M. KnowsScript M × (Locks W M × IsTiedInOrder W M)) (SeesCarried x) Idle counted_kept
+    tied : KeepsPart hd x (λ W M. (IsCountedJoined M × IsKept M) × (KnowsScript M × (Locks W M × Told W M))) (SeesTied x)
+    tied = tied_part hd x IsCountedJoined (λ W M. KnowsScript M × (Locks W M × Told W M)) (SeesCarried x) Idle counted_kept
         heard_there (knows_idle IsCountedJoined)
 
     -- and what is decided was recorded
-    recorded : KeepsPart hd x (λ W M. (IsCountedJoined M × IsKept M) × (KnowsScript M × (Locks W M × IsTiedInOrder W M))) (SeesRecorded x)
-    recorded = recorded_part hd x (λ W M. (IsCountedJoined M × IsKept M) × (KnowsScript M × (Locks W M × IsTiedInOrder W M))) (SeesTied x)
+    recorded : KeepsPart hd x (λ W M. (IsCountedJoined M × IsKept M) × (KnowsScript M × (Locks W M × Told W M))) (SeesRecorded x)
+    recorded = recorded_part hd x (λ W M. (IsCountedJoined M × IsKept M) × (KnowsScript M × (Locks W M × Told W M))) (SeesTied x)
         (λ W M q. let r = q.1.1.0 in let k = r.2.0 in let a = k.acks in let w = a.world in w.asked) tied
 
-    -- and decisions are in order; so what the disk half counts on of its own is there
-    in_order : KeepsPart hd x (λ W M. IsKnownJoined M × Locks W M) (SeesInOrder x)
-    in_order = own_part hd x (λ W M. IsKnownJoined M × Locks W M) IsTiedInOrder (SeesInOrder x) (λ tops A M p. (p.0.0.1, p.1))
-        (part_more hd x (λ W M. (IsCountedJoined M × IsKept M) × (KnowsScript M × (Locks W M × IsTiedInOrder W M))) (λ W M. (IsKnownJoined M
-        × Locks W M) × IsTiedInOrder W M) (SeesInOrder x) (λ W M q. let r = q.0.0 in ((r.0, r.0.0.1), (r.1, (q.0.1, q.1))))
-        (ordered_part hd x (λ M. IsCountedJoined M × IsKept M) (λ W M. KnowsScript M × (Locks W M × IsTiedInOrder W M)) (SeesRecorded x)
+    -- and decisions are in order, and it began as the header says; so what the disk half counts on of its own is there
+    in_order : KeepsPart hd x (λ W M. IsKnownJoined M × Locks W M) (WithFirst hd x (SeesInOrder x))
+    in_order = own_part hd x (λ W M. IsKnownJoined M × Locks W M) Told (WithFirst hd x (SeesInOrder x))
+        (λ tops A M p. ((p.0.0.0.1, p.0.1), let b = p.1 in ap (λ (g : Packed). g.writer) b.state))
+        (first_part hd x (λ W M. (IsKnownJoined M × Locks W M) × Told W M) (SeesInOrder x)
+        (part_more hd x (λ W M. (IsCountedJoined M × IsKept M) × (KnowsScript M × (Locks W M × Told W M))) (λ W M. (IsKnownJoined M
+        × Locks W M) × Told W M) (SeesInOrder x) (λ W M q. let r = q.0.0 in ((r.0, r.0.0.1), (r.1, (q.0.1, q.1))))
+        (ordered_part hd x (λ M. IsCountedJoined M × IsKept M) (λ W M. KnowsScript M × (Locks W M × Told W M)) (SeesRecorded x)
         Idle lines_kept (λ M r. r.1) (knows_idle (λ M. IsCountedJoined M × IsKept M)) recorded (λ tops A M p. p.0.1.1)))
+        (first_begins hd x form there))
 
     pub base : Keeps hd (Base hd x)
-    base = with_entries hd x (λ M. IsCountedJoined M × AreSo (kind_of hd x) M) (λ W M. IsKnownJoined M × Locks W M) (SeesInOrder x) in_order
-        (kept_both hd IsCountedJoined (AreSo (kind_of hd x)) counted_kept
+    base = with_entries hd x (λ M. IsCountedJoined M × AreSo (kind_of hd x) M) (λ W M. IsKnownJoined M × Locks W M) (WithFirst hd x
+        (SeesInOrder x))
+        in_order (kept_both hd IsCountedJoined (AreSo (kind_of hd x)) counted_kept
         (keeps_given hd IsCountedJoined (AreSo (kind_of hd x)) (kept_forms hd x form)))
 
-    -- it began as the header says, and what naming's answers claim of lists passes
+    -- and what naming's answers claim of lists passes
     listed : KeepsPart hd x (λ W M. (Early hd x W M × L M) × Locks W M) (Carried hd x)
     listed = listed_part hd x (λ W M. IsKnownJoined M × Locks W M) (λ W M. (Early hd x W M × L M) × Locks W M) (λ W M q. let r = q.0.0 in
         let e = r.1 in ((r.0.0.0, e.0.0), q.1)) (λ W M q. let r = q.0.0 in let e = r.1 in ((r.0.0.0.0.0, r.0.1), e.0.0.0)) (WithFirst hd x
-        (SeesInOrder x)) (first_part hd x (λ W M. IsKnownJoined M × Locks W M) (SeesInOrder x) in_order (first_begins hd x form there))
+        (SeesInOrder x)) in_order
 
     abbrev Here : Fixed → List Action → State → Seen → Type 0
     Here f begun S M = (KnowsFew M × Whole x begun M) × IsPaired x (Carried hd x) f begun S M
 
-    gives : (f : Fixed) → IsApt (first_values hd) x f → GivesLocks hd f x (Here f)
-    gives f apt = gives_locks hd x has (KnowsWhole x) f (λ begun S M. IsPaired x (Carried hd x) f begun S M) (first_values hd, apt.0)
-        (rest_beside (first_values hd) x (KnowsWhole x) (Carried hd x) (recorded_of hd x) f apt.0)
+    gives : (marks : Marks) (f : Fixed) → IsApt (first_values hd) x marks f → GivesLocks hd f x (Here f)
+    gives marks f apt =
+        let begins = stands_for (first_values hd) marks x f apt.0 in
+        gives_locks hd x has (KnowsWhole x) f (λ begun S M. IsPaired x (Carried hd x) f begun S M) (first_values hd, begins)
+        (rest_beside (first_values hd) x (KnowsWhole x) (Carried hd x) (recorded_of hd x) f begins)
 
     -- beneath the lock machine's states
     pub locked : KeepsPart hd x (λ W M. Early hd x W M × L M) (WithLocks (first_values hd) x (Whole x) Past (Carried hd x))

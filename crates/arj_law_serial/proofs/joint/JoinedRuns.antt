@@ -20,7 +20,7 @@ pub reached_joined : (hd : Header) (x : ℕ) → HeaderInForm hd → is_some (ob
     OpsFit x w.lines → Holds hd (IsJoinedSo hd x) w
 reached_joined hd x form there w reached fit =
     let h = ordered_beside hd x (OpsFit x) (fits_before x) (Base hd x) Joined form there
-    (base hd x form there (λ M. ⊤) Nothing (λ M N l f S T run past. tt) (λ f S. tt)) part w reached fit in
+    (base hd x form there (λ M. ⊤) Nothing (λ M N l f S T run past. tt) (λ f S st formed. tt)) part w reached fit in
     record { sent = h.sent; stands = h.stands; holds = joined h.sent h.holds }
   where
     -- of the lock machine's state nothing more
@@ -32,7 +32,7 @@ reached_joined hd x form there w reached fit =
 
     paired : KeepsPart hd x (Early hd x) (WithLocks (first_values hd) x (Whole x) Nothing (Carried hd x))
     paired = part_more hd x (λ W M. Early hd x W M × ⊤) (Early hd x) (WithLocks (first_values hd) x (Whole x) Nothing (Carried hd x))
-        (λ W M q. (q, tt)) (locked hd x form there (λ M. ⊤) Nothing (λ M N l f S T run past. tt) (λ f S. tt))
+        (λ W M q. (q, tt)) (locked hd x form there (λ M. ⊤) Nothing (λ M N l f S T run past. tt) (λ f S st formed. tt))
 
     -- and each two of which one includes a store took turns; and so did those that change nothing
     part : KeepsPart hd x (Early hd x) Joined
@@ -71,4 +71,4 @@ reached_joined hd x form there w reached fit =
         requests = one_requests x locks.0 M few locks.2.0
 
 pub moves_are_joined : RunsAreJoined
-moves_are_joined hd ms f x there = let r = runs_in_form hd ms f in reached_joined hd x f.header there (world_by hd ms) r.0 (r.1 x)
+moves_are_joined hd r f x there = let h = runs_in_form hd r f in reached_joined hd x f.header there (world_by hd r) h.0 (h.1 x)

@@ -1,13 +1,15 @@
 -- Both machines of an object beside each other, through each handler: what the disk machine has in the plans of decided tops is what was
 -- voted, by the lock machine.
 use Rattle.arj_law_parts.proofs.Words
+use Words.{Start, world_from}
 use Words.{◌≡◌, ◌⊎◌, ℕ, ◌+◌, Bool, true, false, List, [], ◌∷◌, None, Some, refl, sym, ◌∙◌, ap, subst, inl, inr, ⊎_elim, ⊤, uid_is, in_find}
 use Words.{Asked, Header, Message, ObjectState, Uid, object, uid_eq, Reply, answers, again_all, begin_action, Known, Confirming, Disk}
-use Words.{Effect, Intent, Send, tick_outs, Parts, with_coord, uid_number, Node, acts, parent_of, parts_in, restart_outs, format}
-use Words.{is_serial_kind, Post, Seen, see}
+use Words.{Effect, Intent, Send, tick_outs, Parts, with_coord, uid_number, Node, acts, parent_of, parts_in, restart_outs}
+use Words.{is_serial_kind, Seen, see}
 use Words.list
 use Words.loaded
 use Rattle.arj_law_serial.proofs.Terms
+use Terms.{IsAtStarts, Marks}
 use Terms.{Values, Action, World, Office, Plan, decided, decided_in, never, Run, stay, State, go_on, at, down, given, said, up, Up, Walks}
 use Terms.{halted, walks_both, walks_to, KnowsRun, SeesConfirming, KnowsNode, KnowsMachine, Among, IsLater, Kinds, SeesCoord, confirming_of}
 use Terms.{first_at, node_here, OnlyAnswers, OnlyFound, SeesBoth, Change, Changes, Quietly, change_by, SeesHeard, KeepsPart, are_recorded}
@@ -28,6 +30,7 @@ use joint.{Counting.changed_counted, DecidedTops.planned_over, LoadGuards.guard_
 use joint.BasedRuns.{act_based, begin_based, first_based, message_based_here, restart_based, tick_based}
 use joint.Ending.{Ends, NewlyDecides, decides_along, decides_by, ends_along, ends_by, ends_of, message_ends, record_of}
 use joint.LoadSteps.{act_onward, begin_onward, message_onward, tick_onward}
+use joint.Starting.{stands_for}
 use joint.LoadWalks.{GivesNow, IsMoved, IsStill, halted_still, loads_moved, loads_restarted, moves_walk, none_given}
 use joint.Recording.{AreRecordedBy, IsConfirming, acts_put, anyone, are_theirs, here_then, message_puts, others_then, plainly, recorded_at}
 use joint.Recording.{records_walk, tick_puts}
@@ -38,7 +41,7 @@ use joint.Recording.{records_walk, tick_puts}
 -- the lock machine this is known.
 abbrev pub HasLocks : Values → ℕ → (List Action → Seen → Type 0) → (Fixed → State → Seen → Type 0) → World → Seen → Type 0
 HasLocks values x R Past W M = (begun : List Action) × IsAlikeOf begun M × R begun M
-    × ((f : Fixed) → AgreesApart values f x begun M.sent → (S : State) × SeesLocks f x begun S M × AreTied f x M.lines S
+    × ((f : Fixed) → AgreesApart values M.start.marks f x begun M.sent → (S : State) × SeesLocks f x begun S M × AreTied f x M.lines S
     × AreVotedAt f x S M × ArePlannedSo f x S W M × AreLoadsLast f x S M × AreBasedSo f x S W M × Past f S M) × AreCoordsNamed M
 
 -- with what is carried beside the disk machine's state
@@ -160,7 +163,8 @@ module _ (f : Fixed) (x : ℕ) (C : Uid → Type 0) (g : ℕ → Bool) (W : Worl
 abbrev pub StoresGive : Values → ℕ → (World → Seen → Type 0) → (List Action → Seen → Type 0) → (Fixed → State → Seen → Type 0) →
     (Kinds → Office → Seen → Type 0) → Type 0
 StoresGive values x K R Past P = (tops : Kinds) (A : Office) (s : Spot) → tops.walk ≡ None → K A.world (world_at s) → SeesBoth x tops A
-    (world_at s) → P tops A (world_at s) → (j : HasLocks values x R Past A.world (world_at s)) → (f : Fixed) (a : AgreesApart values f x j.0
+    (world_at s) → P tops A (world_at s) → (j : HasLocks values x R Past A.world (world_at s)) →
+    (f : Fixed) (a : AgreesApart values (let M = s.seen in M.start.marks) f x j.0
     (let M = s.seen in M.sent)) → (from : ℕ) (m : Message) (v : Parts) (outs : List Effect) → HasCome s from m v outs
     → (to : ℕ) (z : Message) (b : Asked) (st : ObjectState) (k : Known) → list.In (Send to z) outs →
     answers z ≡ Some (b, Reply.Loaded (loaded.State st)) → AwaitsLoad x (world_at s) b to s.node k →
@@ -168,13 +172,14 @@ StoresGive values x K R Past P = (tops : Kinds) (A : Office) (s : Spot) → tops
 
 module _ (hd : Header) (values : Values) (x : ℕ) (K : World → Seen → Type 0) (G : Seen → Type 0) (R : List Action → Seen →
     Type 0) (Past : Fixed → State → Seen → Type 0) (P : Kinds → Office → Seen → Type 0) (to : (W : World) (M : Seen) → K W M →
-    G M) (keeps : KeepsOf hd (λ begun M. G M) R) (gives : (f : Fixed) → IsApt values x f → GivesLocks hd f x (λ begun S M. (G M × R begun M)
+    G M) (keeps : KeepsOf hd (λ begun M. G M) R) (gives : (marks : Marks) (f : Fixed) → IsApt values x marks f →
+    GivesLocks hd f x (λ begun S M. (G M × R begun M)
     × IsPaired x P f begun S M)) (stored : StoresGive values x K R Past P) (whole : (begun : List Action) (M : Seen) → R begun M →
     KnowsWhole x begun M) (used : (M : Seen) → G M → AllVotesAreUsed M) (runs : (M : Seen) → G M → KnowsRun M)
     (parts : KeepsPart hd x (λ W M. K W M × HasLocks values x R Past W M) P) (heard : (tops : Kinds) (A : Office) (M : Seen) → P tops A M →
     SeesHeard x tops A M) (done : (tops : Kinds) (A : Office) (M : Seen) → P tops A M → AreDone (λ ls u. IsIdle (book ls) u) A.world M)
     (stays : (W : World) (M N : Seen) → K W M → (f : Fixed) (S T : State) → Run S T → Past f S M →
-    Past f T N) (starts : (f : Fixed) (S : State) → Past f S (see [] (format hd))) where
+    Past f T N) (starts : (f : Fixed) (S : State) → IsAtStarts hd (Past f S)) where
   abbrev Q : Kinds → Office → Seen → Type 0
   Q tops A M = WithLocks values x R Past P tops A M
 
@@ -187,7 +192,8 @@ module _ (hd : Header) (values : Values) (x : ℕ) (K : World → Seen → Type 
 
   -- what is known of each state of the lock machine here
   paired : (tops : Kinds) (M : Seen) (A : Office) → tops.walk ≡ None → SeesBoth x tops A M → P tops A M →
-      (j : HasLocks values x R Past A.world M) → (f : Fixed) (a : AgreesApart values f x j.0 M.sent) → Y f j.0 (let g = j.3 f a in g.0) M
+      (j : HasLocks values x R Past A.world M) → (f : Fixed) (a : AgreesApart values M.start.marks f x j.0 M.sent) →
+      Y f j.0 (let g = j.3 f a in g.0) M
   paired tops M A walk both part j f a = let g = j.3 f a in (tops, walk, A, both, part, g.3, g.4, g.5, g.6)
 
   abbrev votes_used : (M : Seen) → G M → ⊤ → AllVotesAreUsed M
@@ -197,32 +203,37 @@ module _ (hd : Header) (values : Values) (x : ℕ) (K : World → Seen → Type 
   OfEach tops D O Z = (B : Office) → D B → SeesBoth x tops B Z → O tops B Z
 
   module _ (tops : Kinds) (D : Office → Type 0) (C : Uid → Type 0) (g : ℕ →
-      Bool) (W : World) (M : Seen) (begun : List Action) (sent : List Post) (from : (f : Fixed) → AgreesApart values f x begun sent → State)
+      Bool) (W : World) (M : Seen) (begun : List Action) (from : (f : Fixed) → AgreesApart values M.start.marks f x begun M.sent → State)
       (goes : (B : Office) → D B → Moves g W B.world) (whose : (u : Uid) → g (uid_number u) ≡ true →
-      IsRecordedAt M u ⊎ C u) (before : (f : Fixed) (a : AgreesApart values f x begun sent) → ArePlannedSo f x (from f a) W M
+      IsRecordedAt M u ⊎ C u) (before : (f : Fixed) (a : AgreesApart values M.start.marks f x begun M.sent) →
+      ArePlannedSo f x (from f a) W M
       × ((u : Uid) → C u → IsPlannedSo f x (from f a) W u) × ((N : Seen) (T : State) → Run (from f a) T → Past f T N)) (J : Seen →
-      Type 0) (loads : (Z : Seen) → J Z → (f : Fixed) (a : AgreesApart values f x begun sent) (T : State) → Run (from f a) T →
+      Type 0) (loads : (Z : Seen) → J Z → (f : Fixed) (a : AgreesApart values M.start.marks f x begun M.sent) (T : State) →
+      Run (from f a) T →
       IsSeenIn (case_of f x begun T) Z → AreLoadsLast f x T Z) where
     -- of copies and votes so much is known, whatever both machines come to by then
     abbrev StayBased : Seen → Type 0
-    StayBased Z = (f : Fixed) (a : AgreesApart values f x begun sent) → AreApart f.code → StaysBased f x begun (from f a) W Z
+    StayBased Z = (f : Fixed) (a : AgreesApart values M.start.marks f x begun M.sent) → AreApart f.code →
+        StaysBased f x begun (from f a) W Z
 
     -- so it is along a walk
-    based_along : (e k : ℕ) (outs : List Effect) (v : Parts) (d : Disk) (N : Seen) → ((f : Fixed) (a : AgreesApart values f x begun sent) →
+    based_along : (e k : ℕ) (outs : List Effect) (v : Parts) (d : Disk) (N : Seen) →
+        ((f : Fixed) (a : AgreesApart values M.start.marks f x begun M.sent) →
         AreApart f.code → Walks (StaysBased f x begun (from f a) W) e k outs (Up (StaysBased f x begun (from f a) W) k v) d N)
         → Walks StayBased e k outs (Up StayBased k v) d N
     based_along e k outs v d N each =
-        let A : Type 0 = (f : Fixed) × AgreesApart values f x begun sent × AreApart f.code in
+        let A : Type 0 = (f : Fixed) × AgreesApart values M.start.marks f x begun M.sent × AreApart f.code in
         let O : A → Seen → Type 0 = λ z. StaysBased z.0 x begun (from z.0 z.1) W in
         walks_to (λ Z. (z : A) → O z Z) StayBased e k outs (λ c Z. (z : A) →
         Up (O z) k v c Z) (Up StayBased k v) d N (λ Z h f a apart. h (f, a, apart)) (λ c Z h f a apart. h (f, a, apart))
         (walks_each {A = A} O e k outs (λ z. Up (O z) k v) d N (λ z. each z.0 z.1 z.2))
 
-    locks_next : (Z : Seen) → LocksFrom (IsApt values x) ⊤ x R begun sent from Z → AreRecordedBy C M Z → StayBased Z → J Z → (B : Office) →
+    locks_next : (Z : Seen) → LocksFrom (IsApt values x) ⊤ x R begun M from Z → AreRecordedBy C M Z → StayBased Z → J Z → (B : Office) →
         D B → SeesBoth x tops B Z → P tops B Z → HasLocks values x R Past B.world Z
     locks_next Z l recs based moves B c both part = (begun, l.0, l.1, here, l.3)
       where
-        here : (f : Fixed) → AgreesApart values f x begun Z.sent → (S : State) × SeesLocks f x begun S Z × AreTied f x Z.lines S
+        here : (f : Fixed) → AgreesApart values Z.start.marks f x begun Z.sent →
+            (S : State) × SeesLocks f x begun S Z × AreTied f x Z.lines S
             × AreVotedAt f x S Z × ArePlannedSo f x S B.world Z × AreLoadsLast f x S Z × AreBasedSo f x S B.world Z × Past f S Z
         here f agrees =
             let z = l.2 f agrees in
@@ -239,19 +250,21 @@ module _ (hd : Header) (values : Values) (x : ℕ) (K : World → Seen → Type 
               loads Z moves f a.0 z.0 a.1 seen,
               (λ apart. (
                 based f a.0 apart z.0 B.world a.1 (let m = goes B c in m.0) z.1,
-                planned_over f x begun z.0 Z seen values agrees.1.0 B.world (done tops B Z part) planned apart,
+                planned_over f x begun z.0 Z seen values (stands_for values Z.start.marks x f agrees.1.0) B.world
+                    (done tops B Z part) planned apart,
               )),
               b.2 Z z.0 a.1,
             )
 
     along : (e k : ℕ) (outs : List Effect) (v : Parts) (d : Disk) (N : Seen) →
         Walks (OfEach tops D P) e k outs (Up (OfEach tops D P) k v) d N →
-        Walks (LocksFrom (IsApt values x) ⊤ x R begun sent from) e k outs (Up (LocksFrom (IsApt values x) ⊤ x R begun sent from) k v) d N
-        → Walks (AreRecordedBy C M) e k outs (Up (AreRecordedBy C M) k v) d N → ((f : Fixed) (a : AgreesApart values f x begun sent) →
+        Walks (LocksFrom (IsApt values x) ⊤ x R begun M from) e k outs (Up (LocksFrom (IsApt values x) ⊤ x R begun M from) k v) d N
+        → Walks (AreRecordedBy C M) e k outs (Up (AreRecordedBy C M) k v) d N →
+        ((f : Fixed) (a : AgreesApart values M.start.marks f x begun M.sent) →
         AreApart f.code → Walks (StaysBased f x begun (from f a) W) e k outs (Up (StaysBased f x begun (from f a) W) k v) d N) →
         Walks J e k outs (Up J k v) d N → Walks (OfEach tops D Q) e k outs (Up (OfEach tops D Q) k v) d N
     along e k outs v d N w locks recs bases moves =
-        let L : Seen → Type 0 = LocksFrom (IsApt values x) ⊤ x R begun sent from in
+        let L : Seen → Type 0 = LocksFrom (IsApt values x) ⊤ x R begun M from in
         let K3 : Seen → Type 0 = λ Z. AreRecordedBy C M Z × (StayBased Z × J Z) in
         let one = walks_both StayBased J e k outs (Up StayBased k v) (Up J k v) d N (based_along e k outs v d N bases) moves in
         let two = walks_both (AreRecordedBy C M) (λ Z. StayBased Z × J Z) e k outs (Up (AreRecordedBy C M) k v)
@@ -267,37 +280,40 @@ module _ (hd : Header) (values : Values) (x : ℕ) (K : World → Seen → Type 
 
   -- what is known before, in each state of the lock machine
   abbrev known_before : (C : Uid → Type 0) (W : World) (M : Seen) (j : HasLocks values x R Past W M) → K W M →
-      ((f : Fixed) (a : AgreesApart values f x j.0 M.sent) → (u : Uid) → C u → IsPlannedSo f x (let g = j.3 f a in g.0) W u) →
-      (f : Fixed) (a : AgreesApart values f x j.0 M.sent) → ArePlannedSo f x (let g = j.3 f a in g.0) W M × ((u : Uid) → C u →
+      ((f : Fixed) (a : AgreesApart values M.start.marks f x j.0 M.sent) → (u : Uid) → C u → IsPlannedSo f x (let g = j.3 f a in g.0) W u) →
+      (f : Fixed) (a : AgreesApart values M.start.marks f x j.0 M.sent) → ArePlannedSo f x (let g = j.3 f a in g.0) W M × ((u : Uid) → C u →
       IsPlannedSo f x (let g = j.3 f a in g.0) W u) × ((N : Seen) (T : State) → Run (let g = j.3 f a in g.0) T → Past f T N)
   known_before C W M j r waiting f a = let g = j.3 f a in (g.4, waiting f a, (λ N T run. stays W M N r f g.0 T run g.7))
 
   waits_here : (tops : Kinds) (k : ℕ) (d : Disk) (t : Parts) (M : Seen) (A : Office) → KnowsNode tops k d t M → SeesBoth x tops A
       (up k d t M) → P tops A (up k d t M) → KnowsRun (up k d t M) → (j : HasLocks values x R Past A.world (up k d t M)) → (f : Fixed)
-      (a : AgreesApart values f x j.0 M.sent) → (u : Uid) → IsConfirming t.coord u → IsPlannedSo f x (let g = j.3 f a in g.0) A.world u
+      (a : AgreesApart values M.start.marks f x j.0 M.sent) → (u : Uid) → IsConfirming t.coord u →
+      IsPlannedSo f x (let g = j.3 f a in g.0) A.world u
   waits_here tops k d t M A n both part known j f a u c = let g = j.3 f a in planned_here f x k d t M j.0 g.0 tops A n both (heard tops A
       (up k d t M) part) (record { good = j.1.0; alike = j.1.1; written = j.1.2; agrees = a.0; sees = g.1; tied = g.2 }) g.3 g.6 known u c
 
   -- as the object is seen here
-  seen_here : (W : World) (M : Seen) (j : HasLocks values x R Past W M) (f : Fixed) (a : AgreesApart values f x j.0 M.sent) →
+  seen_here : (W : World) (M : Seen) (j : HasLocks values x R Past W M) (f : Fixed) (a : AgreesApart values M.start.marks f x j.0 M.sent) →
       IsSeenIn (case_of f x j.0 (let g = j.3 f a in g.0)) M
   seen_here W M j f a = let g = j.3 f a in record { good = j.1.0; alike = j.1.1; written = j.1.2; agrees = a.0; sees = g.1; tied = g.2 }
 
-  reached_here : (W : World) (M : Seen) (j : HasLocks values x R Past W M) (f : Fixed) (a : AgreesApart values f x j.0 M.sent) →
+  reached_here : (W : World) (M : Seen) (j : HasLocks values x R Past W M) (f : Fixed)
+      (a : AgreesApart values M.start.marks f x j.0 M.sent) →
       IsReached (let g = j.3 f a in g.0)
   reached_here W M j f a = let g = j.3 f a in let z = g.1 in (f.first, z.run)
 
   -- what stores gave, where nothing is sent
-  still_loads : (W : World) (M : Seen) (j : HasLocks values x R Past W M) (Z : Seen) → IsStill M Z → (f : Fixed) (a : AgreesApart values f x
+  still_loads : (W : World) (M : Seen) (j : HasLocks values x R Past W M) (Z : Seen) → IsStill M Z →
+      (f : Fixed) (a : AgreesApart values M.start.marks f x
       j.0 M.sent) (T : State) → Run (let g = j.3 f a in g.0) T → IsSeenIn (case_of f x j.0 T) Z → AreLoadsLast f x T Z
   still_loads W M j Z still f a T run seen = let g = j.3 f a in loads_stay f x g.0 T M Z (reached_here W M j f a) run g.5 still.0 still.1
 
   -- and behind what a node does
   moved_loads : (tops : Kinds) (k : ℕ) (d : Disk) (t : Parts) (M : Seen) (A : Office) (part : P tops A (up k d t M))
       (j : HasLocks values x R Past A.world (up k d t M)) (more : List Action) (v : Parts) (outs : List Effect)
-      → ((f : Fixed) (a : AgreesApart values f x j.0 M.sent) → IsOnward t.coord outs v.coord) →
-      ((f : Fixed) (a : AgreesApart values f x j.0 M.sent) → GivesNow f x (let g = j.3 f a in g.0) k outs (up k d t M))
-      → (Z : Seen) → IsMoved M k outs v Z → (f : Fixed) (a : AgreesApart values f x j.0 M.sent) (T : State) →
+      → ((f : Fixed) (a : AgreesApart values M.start.marks f x j.0 M.sent) → IsOnward t.coord outs v.coord) →
+      ((f : Fixed) (a : AgreesApart values M.start.marks f x j.0 M.sent) → GivesNow f x (let g = j.3 f a in g.0) k outs (up k d t M))
+      → (Z : Seen) → IsMoved M k outs v Z → (f : Fixed) (a : AgreesApart values M.start.marks f x j.0 M.sent) (T : State) →
       Run (let g = j.3 f a in g.0) T → IsSeenIn (case_of f x more T) Z → AreLoadsLast f x T Z
   moved_loads tops k d t M A part j more v outs on given_now Z moved f a T run seen =
       let g = j.3 f a in
@@ -311,7 +327,7 @@ module _ (hd : Header) (values : Values) (x : ℕ) (K : World → Seen → Type 
   gives_now : (tops : Kinds) (k : ℕ) (d : Disk) (t : Parts) (M : Seen) (A : Office) → tops.walk ≡ None → K A.world (up k d t M) →
       SeesBoth x tops A (up k d t M) → P tops A (up k d t M) → (j : HasLocks values x R Past A.world (up k d t M)) →
       (from : ℕ) (m : Message) (v : Parts) (outs : List Effect) → HasCome (record { node = k; disk = d; parts = t; seen = M }) from m v outs
-      → (f : Fixed) (a : AgreesApart values f x j.0 M.sent) → GivesNow f x (let g = j.3 f a in g.0) k outs (up k d t M)
+      → (f : Fixed) (a : AgreesApart values M.start.marks f x j.0 M.sent) → GivesNow f x (let g = j.3 f a in g.0) k outs (up k d t M)
   gives_now tops k d t M A walk r both part j from m v outs come f a p b st q by out is w =
       let g = j.3 f a in
       let N : Seen = up k d t M in
@@ -348,7 +364,7 @@ module _ (hd : Header) (values : Values) (x : ℕ) (K : World → Seen → Type 
   message_bases : (tops : Kinds) (k : ℕ) (d : Disk) (t : Parts) (M : Seen) (A : Office) → tops.walk ≡ None → K A.world (up k d t M) →
       SeesBoth x tops A (up k d t M) → P tops A (up k d t M) → (j : HasLocks values x R Past A.world (up k d t M)) → (e from : ℕ)
       (m : Message) (v : Parts) (outs : List Effect) → HasCome (record { node = k; disk = d; parts = t; seen = M }) from m v outs
-      → (f : Fixed) (a : AgreesApart values f x j.0 M.sent) → AreApart f.code → let S = (j.3 f a).0 in
+      → (f : Fixed) (a : AgreesApart values M.start.marks f x j.0 M.sent) → AreApart f.code → let S = (j.3 f a).0 in
       Walks (StaysBased f x j.0 S A.world) e k outs (Up (StaysBased f x j.0 S A.world) k v) d M
   message_bases tops k d t M A walk r both part j e from m v outs come f a apart =
       let g = j.3 f a in
@@ -358,7 +374,7 @@ module _ (hd : Header) (values : Values) (x : ℕ) (K : World → Seen → Type 
       let b = g.6 apart in
       message_based_here f x k j.0 g.0 A.world d t M seen b.0 tops A refl both apart b.1 (requests_here k d t M j.0 j.2) (used N (to A.world
       N r) k (record { number = k; disk = d; live = Some t }) t (node_here M k (record { number = k; disk = d; live = Some t })) refl)
-      e from m v outs come (λ mine. (let l = gives f a.1 in
+      e from m v outs come (λ mine. (let l = gives M.start.marks f a.1 in
       l.parts j.0 g.0 s from m v outs ((to A.world N r, j.2), paired tops N A walk both part j f a) seen come mine).0)
 
   pub locks_part : KeepsPart hd x K Q
@@ -366,7 +382,7 @@ module _ (hd : Header) (values : Values) (x : ℕ) (K : World → Seen → Type 
     quiet = λ tops e bs M A walk quiet r both (part, j) B changed seen.
         let p = parts.quiet tops e bs M A walk quiet (r, j) both part B changed seen in (
           p,
-          locks_next tops (Changes Quietly A) none nobody A.world M j.0 M.sent (λ f a. let g = j.3 f a in
+          locks_next tops (Changes Quietly A) none nobody A.world M j.0 (λ f a. let g = j.3 f a in
               g.0) (λ Z c. moves_by Quietly A Z (let z = both.disks in z.whole) c) (no_one none M)
               (known_before none A.world M j r (λ f a u never. absurd never)) (IsStill M) (still_loads A.world M j) (said e bs M)
               (quiet_kept hd (IsApt values x) x G R Y keeps gives ⊤ votes_used e bs M quiet (to A.world M r) (locks_of A.world M j))
@@ -377,7 +393,7 @@ module _ (hd : Header) (values : Values) (x : ℕ) (K : World → Seen → Type 
     stop = λ tops e k d live M A walk r both (part, j) B changed seen.
         let p = parts.stop tops e k d live M A walk (r, j) both part B changed seen in (
           p,
-          locks_next tops (Changes Quietly A) none nobody A.world (at k d live M) j.0 M.sent (λ f a. let g = j.3 f a in g.0) (λ Z c.
+          locks_next tops (Changes Quietly A) none nobody A.world (at k d live M) j.0 (λ f a. let g = j.3 f a in g.0) (λ Z c.
               moves_by Quietly A Z (let z = both.disks in z.whole) c) (no_one none (at k d live M)) (known_before none A.world (at k d live
               M) j r (λ f a u never. absurd never)) (IsStill (at k d live M)) (still_loads A.world (at k d live M) j) (halted e k d M)
               (stop_kept hd (IsApt values x) x G R Y keeps gives ⊤ votes_used e k d live M (to A.world (at k d live M) r)
@@ -395,7 +411,7 @@ module _ (hd : Header) (values : Values) (x : ℕ) (K : World → Seen → Type 
             office = h.office;
             only = h.only;
             both = h.both;
-            along = along tops (Changes o h.office) C (ends_of o) A.world (up k d t M) j.0 M.sent (λ f a. let g = j.3 f a in g.0)
+            along = along tops (Changes o h.office) C (ends_of o) A.world (up k d t M) j.0 (λ f a. let g = j.3 f a in g.0)
                 (moves_from o A h.office h.only (let z = both.disks in z.whole)) (λ u is. inr (message_ends x d t u m is)) (known_before C
                 A.world (up k d t M) j r (waits_here tops k d t M A n both part (runs (up k d t M) (to A.world (up k d t M) r)) j)) (IsMoved
                 M k outs v) (moved_loads tops k d t M A part j j.0 v outs (λ f a. (message_onward (case_of f x j.0 (let g = j.3 f a in g.0))
@@ -420,7 +436,7 @@ module _ (hd : Header) (values : Values) (x : ℕ) (K : World → Seen → Type 
             office = h.office;
             only = h.only;
             both = h.both;
-            along = along tops (Changes Quietly h.office) C nobody A.world (up k d t M) j.0 M.sent (λ f a. let g = j.3 f a in
+            along = along tops (Changes Quietly h.office) C nobody A.world (up k d t M) j.0 (λ f a. let g = j.3 f a in
                 g.0) (moves_from Quietly A h.office h.only (let z = both.disks in z.whole)) (no_one C (up k d t M)) (known_before C A.world
                 (up k d t M) j r (waits_here tops k d t M A n both part (runs (up k d t M) (to A.world (up k d t M) r)) j))
                 (IsMoved M k did.outs (with_coord t did.part)) (moved_loads tops k d t M A part j j.0 (with_coord t did.part) did.outs
@@ -442,9 +458,10 @@ module _ (hd : Header) (values : Values) (x : ℕ) (K : World → Seen → Type 
         let did = begin_action l how parent (parent_of parent t.coord) t.coord in
         let N : Seen = given l (record { node = k; serial = is_serial_kind how }) M in
         let a = begins_in how parent t in
-        let older : (f : Fixed) → AgreesApart values f x (a ∷ j.0) M.sent → AgreesApart values f x j.0 M.sent = λ f w.
-        as_older (IsApt values x) f x a j.0 M.sent w in
-        along tops (Changes Quietly A) none nobody A.world (up k d t M) (a ∷ j.0) M.sent (λ f w. let g = j.3 f (older f w) in
+        let older : (f : Fixed) → AgreesApart values M.start.marks f x (a ∷ j.0) M.sent →
+        AgreesApart values M.start.marks f x j.0 M.sent = λ f w.
+        as_older (IsApt values x M.start.marks) f x a j.0 M.sent w in
+        along tops (Changes Quietly A) none nobody A.world (up k d t M) (a ∷ j.0) (λ f w. let g = j.3 f (older f w) in
         g.0) (λ B c. moves_by Quietly A B (let z = both.disks in z.whole) c) (no_one none (up k d t M)) (λ f w. known_before none
         A.world (up k d t M) j r (λ f b u never. absurd never) f (older f w)) (IsMoved M k did.outs (with_coord t did.part))
         (λ Z moved f w. moved_loads tops k d t M A part j (a ∷ j.0) (with_coord t did.part) did.outs
@@ -464,7 +481,7 @@ module _ (hd : Header) (values : Values) (x : ℕ) (K : World → Seen → Type 
         let outs = tick_outs (record { number = k; disk = d; live = Some t }) t in
         let v = with_coord t (let z = again_all t.coord.doings t.coord in z.part) in
         let C : Uid → Type 0 = λ u. IsConfirming t.coord u in
-        along tops (Changes Quietly A) C nobody A.world (up k d t M) j.0 M.sent (λ f a. let g = j.3 f a in
+        along tops (Changes Quietly A) C nobody A.world (up k d t M) j.0 (λ f a. let g = j.3 f a in
         g.0) (λ B c. moves_by Quietly A B (let z = both.disks in z.whole) c) (no_one C (up k d t M)) (known_before C A.world
         (up k d t M) j r (waits_here tops k d t M A n both part (runs (up k d t M) (to A.world (up k d t M) r)) j)) (IsMoved M k outs v)
         (moved_loads tops k d t M A part j j.0 v outs (λ f a. inr (tick_onward (case_of f x j.0 (let g = j.3 f a in g.0))
@@ -480,7 +497,7 @@ module _ (hd : Header) (values : Values) (x : ℕ) (K : World → Seen → Type 
     restart = λ tops e k d M A walk r both (part, j).
         let outs = restart_outs hd k (d.inc + 1) d in
         let v = parts_in k (d.inc + 1) d in
-        along tops (OnlyFound (are_recorded d.intents) A) none (are_recorded d.intents) A.world (down k d M) j.0 M.sent
+        along tops (OnlyFound (are_recorded d.intents) A) none (are_recorded d.intents) A.world (down k d M) j.0
         (λ f a. let g = j.3 f a in g.0)
         (λ B c. (
           (goes_along (are_recorded d.intents) A.world B.world (let z = both.disks in z.whole) c.along).1,
@@ -501,10 +518,10 @@ module _ (hd : Header) (values : Values) (x : ℕ) (K : World → Seen → Type 
         (records_walk none (down k d M) k anyone e v outs d M (others_then none k d None M)
         (plainly none anyone outs (restart_plain [] hd k d)) (here_then none k d None M)) (λ f a apart. let g = j.3 f a in restart_based
         hd f x k j.0 g.0 A.world d M (let z = g.1 in z.run) (g.6 apart).0 e) (moves_walk e k outs v d M M (λ i. refl) (λ p i. i));
-    first = λ tops walk kinds.
-        let f = parts.first tops walk kinds in
-        let z = first_kept hd (IsApt values x) x G R Y keeps gives ⊤ votes_used in
-        let N : Seen = see [] (format hd) in (
+    first = λ tops walk kinds st formed.
+        let f = parts.first tops walk kinds st formed in
+        let z = first_kept hd (IsApt values x) x G R Y keeps gives ⊤ votes_used st formed in
+        let N : Seen = see [] (world_from hd st) in (
           f.0,
           f.1,
           (
@@ -515,7 +532,7 @@ module _ (hd : Header) (values : Values) (x : ℕ) (K : World → Seen → Type 
               z.2,
               (λ w agrees.
                   let g = z.3 w agrees in
-                  let planned = nothing_yet w g.0 f.0 f.3 f.4 in
+                  let planned = nothing_yet st w g.0 f.0 f.3 f.4 in
                   let seen : IsSeenIn (case_of w x z.0 g.0) N =
                   record { good = z.1.0; alike = z.1.1; written = z.1.2; agrees = agrees.0; sees = g.1; tied = g.2 } in (
                     g.0,
@@ -525,10 +542,11 @@ module _ (hd : Header) (values : Values) (x : ℕ) (K : World → Seen → Type 
                     planned,
                     (λ p a st q there. absurd there),
                     (λ apart. (
-                      first_based hd w x g.0 f.0.world,
-                      planned_over w x z.0 g.0 N seen values agrees.1.0 f.0.world (done tops f.0 N f.2) planned apart,
+                      first_based hd st w x g.0 f.0.world,
+                      planned_over w x z.0 g.0 N seen values (stands_for values st.marks x w agrees.1.0) f.0.world
+                          (done tops f.0 N f.2) planned apart,
                     )),
-                    starts w g.0,
+                    starts w g.0 st formed,
                   )),
               z.4,
             ),
@@ -538,14 +556,14 @@ module _ (hd : Header) (values : Values) (x : ℕ) (K : World → Seen → Type 
         );
   }
     where
-      nothing_yet : (f : Fixed) (S : State) (A : Office) → (let W = A.world in let D = W.disk in D.tops) ≡ [] →
-          ((t : ℕ) → A.world.disk.bare t ≡ false) → ArePlannedSo f x S A.world (see [] (format hd))
-      nothing_yet f S A empty none_bare = record {
+      nothing_yet : (st : Start) (f : Fixed) (S : State) (A : Office) → (let W = A.world in let D = W.disk in D.tops) ≡ [] →
+          ((t : ℕ) → A.world.disk.bare t ≡ false) → ArePlannedSo f x S A.world (see [] (world_from hd st))
+      nothing_yet st f S A empty none_bare = record {
         decisions = λ u d. absurd (never d (ap (λ ds. decided_in ds (uid_number u)) empty));
         records = λ u r. absurd (no_record u r);
         bares = λ u on. absurd (never on (none_bare (uid_number u)));
       }
         where
-          no_record : (u : Uid) → IsRecordedAt (see [] (format hd)) u → ⊥
+          no_record : (u : Uid) → IsRecordedAt (see [] (world_from hd st)) u → ⊥
           no_record u r = subst (λ (n : Node). list.In {X = Uid × Intent} (u, r.intent) (let c = n.disk in c.intents))
-              (sym (first_at hd r.place r.node r.here)) r.there
+              (sym (first_at hd st r.place r.node r.here)) r.there

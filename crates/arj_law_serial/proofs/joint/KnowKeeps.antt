@@ -1,12 +1,15 @@
 -- Each handler keeps that decided tops which only include a store knew those that wrote the object before them.
 use Rattle.arj_law_parts.proofs.Words
+use Words.{◌+◌}
+use Words.{world_from}
 use Words.{◌≡◌, ◌==◌, ◌∙◌, ℕ, Bool, true, false, cond, List, [], ◌∷◌, Option, Some, None, ap, refl, subst, sym, map, ⊎_elim, AllByRecursion}
 use Words.{Header, Label, Uid, object, actor, last_req, Confirming, Used, changed_of, doing_of, objects_in, plan_for, root_at, used_of}
-use Words.{Disk, Intent, Parts, uid_number, Input, Node, branch_named, first_disk, parts_in, refusal_up, Branch, root_of, format, Seen, see}
+use Words.{Disk, Intent, Parts, uid_number, Input, Node, branch_named, refusal_up, Branch, root_of, Seen, see}
 use Words.list
 use Words.commit
 use Words.input
 use Rattle.arj_law_serial.proofs.Terms
+use Terms.{disk_by, first_up}
 use Terms.{World, Office, Known, Plan, decided, has, some_is, in_decided, up, SeesConfirming, packed, IsTidy, plan_by, used_at, Kinds}
 use Terms.{first_at, has_same, used_there, AreOnce, KeepsPart, book, is_decided, IsKept, AreNotLate, IsLate, nothing_more, AreAt}
 use Rattle.arj_law_disk_view.proofs.view.{CommitWalks.plan_known, Notes.known_at}
@@ -148,14 +151,13 @@ module _ (hd : Header) (x : ℕ) (R : World → Seen → Type 0) (P : Kinds → 
       known_next x tops D C Cand A M both goes before waiting B into Z seen (once tops B Z p) step ups recs
 
   where_first : WhereFirst hd x R P (Knowing x)
-  where_first tops A both empty = record {
+  where_first st formed tops A both empty = record {
     works = λ j n t at_node live.
-        let same : parts_in j 1 (first_disk hd j) ≡ t = some_is refl (ap (λ (z : Node). z.live) (first_at hd j n at_node) ∙ live) in
-        subst (λ (z : Parts). AreAt (UsesSo (LoadedKnown x tops A (see [] (format hd)))) z.coord) same
-        (none_at (UsesSo (LoadedKnown x tops A (see [] (format hd)))) j 1 (first_disk hd j));
+        subst (λ (z : Parts). AreAt (UsesSo (LoadedKnown x tops A (see [] (world_from hd st)))) z.coord) (first_up hd st j n t at_node live)
+        (none_at (UsesSo (LoadedKnown x tops A (see [] (world_from hd st)))) j (st.incs j + 1) (disk_by hd st j));
     records = λ u r. absurd (subst (λ (n : Node). list.In {X = Uid × Intent} (u, r.intent) (let c = n.disk in c.intents))
-        (sym (first_at hd r.place r.node r.here)) r.there);
-    know = subst (AllKnow (see [] (format hd))) (sym empty) tt;
+        (sym (first_at hd st r.place r.node r.here)) r.there);
+    know = subst (AllKnow (see [] (world_from hd st))) (sym empty) tt;
   }
 
   pub known_part : KeepsPart hd x R (WithKnown x P)

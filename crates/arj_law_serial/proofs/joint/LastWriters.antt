@@ -2,10 +2,11 @@
 -- decided and that wrote the object.
 use Rattle.arj_law_parts.proofs.Words
 use Words.{◌≡◌, ◌≢◌, ◌⊎◌, ◌≤◌, ◌<◌, ◌+◌, ℕ, Bool, true, false, List, [], ◌∷◌, Option, Some, None, refl, sym, ◌∙◌, ap, subst, inl, inr}
-use Words.{⊎_elim, arith, unwrap_or, is_on, nobody, Value, in_to, Line, Uid, uid_number, Node, number_tells, Seen}
+use Words.{⊎_elim, arith, unwrap_or, is_on, Value, in_to, Line, Uid, uid_number, Node, number_tells, Seen}
 use Words.list
 use Rattle.arj_law_serial.proofs.Terms
-use Terms.{Act, acts, Top, tops, Values, Action, Core, Whole, World, Done, Packed, Plan, decided, last, last_in, never, in_decided, IsLate}
+use Terms.{Act, acts, Marks, Top, tops, Values, Action, Core, Whole, World, Done, Packed, Plan, decided, last, last_in, never, in_decided}
+use Terms.{IsLate}
 use Terms.{IsPlain, effects_are_later, book, is_decided, is_top, new_book, IsIdle, AreAlike, AreRight, sane_lines, sane_new, Stands}
 use Terms.{stands_lines, stands_new, is_book, its_acts, top, Guard, Run, next, stay, step, Alive, Call, State, ConfirmTop, Decide, IsLast}
 use Terms.{Newest, Survives, newest, none, older, Holds, go_on, start_holds, lives, act_here, on_top, same_is, top_action, top_is}
@@ -20,9 +21,9 @@ use Rattle.arj_law_lock.proofs.machine.{Paths.act_other, ValueClaims.Values as V
 use Rattle.arj_law_serial.proofs.joint
 use joint.{BasedRaise.done_there, Called.act_with, Called.writers_are_called_first, Joining.planned_later, Surviving.HasWritten}
 use joint.{Surviving.call_found, Turns.IdleThere, Writing.VotedIn, Writing.planned_voted}
-use joint.DecidedTops.{its, machine_decided, not_idle, not_plain}
+use joint.{DecidedTops.its, DecidedTops.machine_decided, DecidedTops.not_idle, DecidedTops.not_plain, Starting.stands_for}
 use Rattle.arj_law_serial.proofs.order
-use order.{Begun.begun_have_places, Taking.turns_taken, Ties.Tie, Ties.tie_of}
+use order.{Begun.begun_have_places, Taking.turns_taken, Ties.Tie, Ties.tie_of, Timely.run_initial}
 use order.Order.{IsTopOf, place_in, top_for, top_item, top_plain, same_number}
 use Rattle.arj_law_serial.specs.order.Turns.{AreInTurn}
 use Rattle.arj_law_serial.specs.order.Tied as tied_law
@@ -135,8 +136,10 @@ newest_done lines first (d ∷ ds) turns = by (let p = d.plan in p.writes) refl 
 
 -- What is seen of both machines of an object, of whose decided tops each stands at a node that is there.
 module _ (f : Fixed) (x : ℕ) (begun : List Action) (S : State) (M : Seen) (seen : IsSeenIn (case_of f x begun S) M) (values : Values)
-    (begins : BeginsAs values x f) (apart : AreApart f.code) (W : World) (whole : Whole W) (writers : HasWriters W.disk)
-    (first : (let D = W.disk in let g = D.first in g.writer) ≡ uid_number nobody) (named : (t : ℕ) → W.disk.begun t ≡ true → (w : Uid)
+    (marks : Marks) (begins : BeginsAs values marks x f) (apart : AreApart f.code) (W : World) (whole : Whole W)
+    (writers : HasWriters W.disk)
+    (first : (let D = W.disk in let g = D.first in g.writer) ≡ uid_number (let m = marks.states x in m.writer)) (named : (t : ℕ) →
+    W.disk.begun t ≡ true → (w : Uid)
     × (uid_number w ≡ t)) (nodes : (a : Act) → list.In a (acts M.lines) → (n : Node) × (M.nodes (let u = a.uid in u.node) ≡ Some n))
     (tied : IsTied Idle W M) (ordered : IsOrdered (IdleThere Idle) W M) (planned : ArePlannedSo f x S W M) where
   abbrev lines : List Line
@@ -157,7 +160,7 @@ module _ (f : Fixed) (x : ℕ) (begun : List Action) (S : State) (M : Seen) (see
         (let a = seen.agrees in a.whole);
     first = f.first;
     run = (let s = seen.sees in s.run);
-    tied = seen.tied values begins;
+    tied = seen.tied values (stands_for values marks x f begins);
   }
 
   abbrev line_tie : Tie values lines x S
@@ -373,7 +376,7 @@ module _ (f : Fixed) (x : ℕ) (begun : List Action) (S : State) (M : Seen) (see
           survives_of S there_all.0 there_all.1 c c_there c_alive (ap (λ (y : lock.Act). (let k = S.action y in k.stage)) c_top ∙ its_line)
 
       written : HasWritten lines x (let k = found d i in let z = k.0 in z.uid)
-      written = its f x begun S M seen values begins W tied.1 planned (let k = found d i in let z = k.0 in
+      written = its f x begun S M seen values (stands_for values marks x f begins) W tied.1 planned (let k = found d i in let z = k.0 in
           z.uid) its_line c c_there c_write c_top c_survives
 
     -- a top that wrote the object and is committed, in the journal
@@ -414,9 +417,10 @@ module _ (f : Fixed) (x : ℕ) (begun : List Action) (S : State) (M : Seen) (see
       by_none (is, nobody_there) (inr n) = absurd (nobody_there (c n.done n.there n.state n.wrote) (c_there n.done n.there n.state n.wrote)
           (c_write n.done n.there n.state n.wrote) (c_survives n.done n.there n.state n.wrote))
       by_none (is, nobody_there) (inl e) =
-          let start_is = (let t = tie in let l = t.tied in l.first) in
-          let same = apart (values x) v (f.act nobody) (f.act z) (sym start_is ∙ is) in
-          ap uid_number (sym (one nobody z same.1)) ∙ sym first ∙ ap (λ (g : Packed). g.writer) (sym e.0)
+          let w : Uid = (let m = marks.states x in m.writer) in
+          let start_is : S.initial ≡ f.code (values x) (f.act w) = run_initial (let s = seen.sees in s.run) ∙ begins in
+          let same = apart (values x) v (f.act w) (f.act z) (sym start_is ∙ is) in
+          ap uid_number (sym (one w z same.1)) ∙ sym first ∙ ap (λ (g : Packed). g.writer) (sym e.0)
 
       module _ (k : IsNewest (Survives S) (f.code v (f.act z)) S.calls) where
         top_is_z : top (let y = k.call in y.act) ≡ f.act z
@@ -432,10 +436,12 @@ module _ (f : Fixed) (x : ℕ) (begun : List Action) (S : State) (M : Seen) (see
             (top_action (top o.act) (top_is o.act (let h = there_all.0 in let e = h.calls o k.there in e.acts)))
 
         decided_z : decided W.disk (uid_number z) ≡ true
-        decided_z = machine_decided f x begun S M seen values begins W tied.1 planned z stage_z k.call k.there k.write top_is_z k.counts
+        decided_z = machine_decided f x begun S M seen values (stands_for values marks x f begins) W tied.1 planned z stage_z k.call
+            k.there k.write top_is_z k.counts
 
         written_z : HasWritten lines x z
-        written_z = its f x begun S M seen values begins W tied.1 planned z stage_z k.call k.there k.write top_is_z k.counts
+        written_z = its f x begun S M seen values (stands_for values marks x f begins) W tied.1 planned z stage_z k.call k.there k.write
+            top_is_z k.counts
 
         done_z : (d : Done) × words.In d W.disk.tops × (d.top ≡ uid_number z)
         done_z = done_there W.disk.tops (uid_number z) decided_z
@@ -471,10 +477,10 @@ module _ (f : Fixed) (x : ℕ) (begun : List Action) (S : State) (M : Seen) (see
           same_top is = is ∙ sym (its_writer n) ∙ ap (λ (g : Packed). g.writer) (sym n.last)
 
           turned : (uid_number z ≢ (let d = n.done in d.top)) → IsCalledFirst lines z e ⊎ IdleThere Idle lines e ⊎ IsPlain lines e → ⊥
-          turned off (inr (inl (said, idle))) = not_idle f x begun S M seen values begins W tied.1 planned e
+          turned off (inr (inl (said, idle))) = not_idle f x begun S M seen values (stands_for values marks x f begins) W tied.1 planned e
               (its_line n.done n.there n.state n.wrote) o (c_there n.done n.there n.state n.wrote) (c_write n.done n.there n.state n.wrote)
               (c_top n.done n.there n.state n.wrote) (c_survives n.done n.there n.state n.wrote) idle
-          turned off (inr (inr plain)) = not_plain f x begun S M seen values begins W tied.1 planned e
+          turned off (inr (inr plain)) = not_plain f x begun S M seen values (stands_for values marks x f begins) W tied.1 planned e
               (its_line n.done n.there n.state n.wrote) o (c_there n.done n.there n.state n.wrote) (c_write n.done n.there n.state n.wrote)
               (c_top n.done n.there n.state n.wrote) (c_survives n.done n.there n.state n.wrote) plain
           turned off (inl called_first) = absurd (omega (arith, called_so, earlier, place_e, place_z))

@@ -1,9 +1,14 @@
 -- Each handler keeps what is kept of tops that naming confirmed as ones that change nothing.
 use Rattle.arj_law_parts.proofs.Words
+use Words.{◌+◌}
+use Words.{subst}
+use Words.{Option}
+use Words.{Start, node_by, world_from}
 use Words.{◌≡◌, ◌≢◌, ◌⊎◌, ◌∙◌, ◌&&◌, ◌||◌, not, ℕ, zero, suc, Bool, true, false, List, [], Some, None, is_some, ap, cond, inl, inr, refl}
 use Words.{sym, ⊎_elim, Header, Uid, Confirming, Machine, Used, plan_of, Committing, Doing, doing_of, Disk, Parts, at_uid, uid_number, Node}
-use Words.{first_disk, first_node, parts_in, at_place, is_open as is_open_in, is_open_branch, is_own, format, Seen, see}
+use Words.{parts_in, at_place, is_open as is_open_in, is_open_branch, is_own, Seen, see}
 use Rattle.arj_law_serial.proofs.Terms
+use Terms.{disk_by, first_up}
 use Terms.{World, Office, Stage, decided, decided_in, is_gone, is_open, undecided, never, down, up, nodes_of, Kinds, first_at, node_here}
 use Terms.{SeesBoth, SeesHeard, KeepsPart, IsKept, nothing_more}
 use Terms.Effects as machine
@@ -133,19 +138,24 @@ module _ (hd : Header) (x : ℕ) (R : World → Seen → Type 0) (P : Kinds → 
       goes.opened goes.cand before waiting B into Z seen step ups recs
 
   -- nothing was confirmed yet
-  no_one : (tops : Kinds) (A : Office) → SeesBoth x tops A (see [] (format hd)) → (let W = A.world in let D = W.disk in D.tops) ≡ [] →
-      (w : Uid) → IsPassed A (see [] (format hd)) w → ⊥
-  no_one tops A both empty w p = ⊎_elim recorded (λ on. never on (ap (λ ds. decided_in ds (uid_number w)) empty)) p.stands
+  no_one : (st : Start) (tops : Kinds) (A : Office) → SeesBoth x tops A (see [] (world_from hd st)) →
+      (let W = A.world in let D = W.disk in D.tops) ≡ [] → (w : Uid) → IsPassed A (see [] (world_from hd st)) w → ⊥
+  no_one st tops A both empty w p = ⊎_elim recorded (λ on. never on (ap (λ ds. decided_in ds (uid_number w)) empty)) p.stands
     where
-      same : first_node hd w.node ≡ p.node
-      same = first_at hd w.node p.node p.there
+      same : node_by hd st w.node ≡ p.node
+      same = first_at hd st w.node p.node p.there
+
+      begun : A.world.disk.begun (uid_number w) ≡ true
+      begun = let b = both.disks in let y = b.whole in let k = y.core in let f = k.fresh in f.light (uid_number w) p.light
 
       gone : is_gone (A.world.disk.stage (uid_number w)) ≡ true
-      gone =
-          let b = both.disks in
-          let c = b.coords w.node p.node (parts_in w.node 1 (first_disk hd w.node)) p.there (ap (λ (z : Node). z.live) (sym same)) in
-          c.closed w refl (none_open w.node 1 (first_disk hd w.node) w) (let y = b.whole in let k = y.core in let f = k.fresh in
-          f.light (uid_number w) p.light)
+      gone = by (let n = p.node in n.live) refl
+        where
+          by : (o : Option Parts) → (let n = p.node in n.live) ≡ o → is_gone (A.world.disk.stage (uid_number w)) ≡ true
+          by None down_it = let b = both.disks in let c = b.downs w.node p.node p.there down_it in c.closed w refl begun
+          by (Some t) up_it = let b = both.disks in let c = b.coords w.node p.node t p.there up_it in
+              c.closed w refl (subst (λ (z : Parts). is_open_in w (let c = z.coord in c.tree) ≡ false)
+              (first_up hd st w.node p.node t p.there up_it) (none_open w.node (st.incs w.node + 1) (disk_by hd st w.node) w)) begun
 
       recorded : undecided A.world.disk (uid_number w) ≡ true → ⊥
       recorded o = never (both_of (not (decided A.world.disk (uid_number w))) (is_open (A.world.disk.stage (uid_number w))
@@ -166,11 +176,11 @@ module _ (hd : Header) (x : ℕ) (R : World → Seen → Type 0) (P : Kinds → 
           shut disk.Gone g = no_record
 
   where_first : WhereFirst hd x R P (Lighting x)
-  where_first tops A both empty = record {
-    works = λ j n t at_node live u q m works now w how. absurd (no_one tops A both empty w how.0);
-    records = λ u r undone w p apart. absurd (no_one tops A both empty w p);
-    called = λ w p. absurd (no_one tops A both empty w p);
-    splits = λ w p. absurd (no_one tops A both empty w p);
+  where_first st formed tops A both empty = record {
+    works = λ j n t at_node live u q m works now w how. absurd (no_one st tops A both empty w how.0);
+    records = λ u r undone w p apart. absurd (no_one st tops A both empty w p);
+    called = λ w p. absurd (no_one st tops A both empty w p);
+    splits = λ w p. absurd (no_one st tops A both empty w p);
   }
 
   pub lights_part : KeepsPart hd x R (WithLights x P)

@@ -1,9 +1,10 @@
 -- A top that changes nothing finds, at its place in the serial order, none of the stores listed that it includes.
 use Rattle.arj_law_parts.proofs.Words
 use Words.{Contains, ◌≡◌, ◌⊎◌, ◌<◌, ◌==◌, ◌||◌, ◌++◌, ◌∙◌, ℕ, Bool, true, false, cond, not, List, [], ◌∷◌, append-nil, filter, reverse, ap}
-use Words.{arith, eq-eqb, eqb-true, inl, inr, refl, subst, sym, ⊎_elim, reverse-append, filter-append, nobody, In, in_filter, in_from}
-use Words.{in_to, uid_number, Line, Wrote}
+use Words.{arith, eq-eqb, eqb-true, inl, inr, refl, subst, sym, ⊎_elim, reverse-append, filter-append, In, in_filter, in_from}
+use Words.{in_to, Line, Wrote}
 use Rattle.arj_law_serial.proofs.Terms
+use Terms.{Mark, marked}
 use Terms.{counts_of, Done, Packed, entry_in, has, or_cases, new_book, AreRight, State, Top, tops, is_among, leaves_of, listed_after}
 use Terms.{listed_from, serial_tops, Values, AreDecisions, AreNewestFirst, ChangersHaveTurns, IsDecision, Joined, IsTied, AddsNone, IsSplit}
 use Terms.{IsCalledBefore}
@@ -111,8 +112,8 @@ cut_decisions values lines x (d ∷ ds) es (t ∷ ts) are =
 -- ---- the place
 
 module _ (values : Values) (lines : List Line) (right : AreRight new_book lines) (x : ℕ) (S : State) (t : IsTied values lines x S)
-    (turn : ChangersHaveTurns lines x) (first : Packed) (start : List ℕ)
-    (begins : first ≡ record { version = 0; writer = uid_number nobody; content = start })
+    (turn : ChangersHaveTurns lines x) (first : Packed) (mark : Mark) (start : List ℕ)
+    (begins : first ≡ marked mark start)
     (ds : List Done) (those : List Top) (are : AreDecisions values lines x (filter counts_of ds) those) (called : AreNewestFirst those)
     (changed : (u : Top) → Contains those u → Wrote lines x u ⊎ Joined lines x u) (every : (u : Top) → Contains (tops lines) u →
     is_one_of those u ≡ true → Contains those u) where
@@ -213,7 +214,7 @@ module _ (values : Values) (lines : List Line) (right : AreRight new_book lines)
       where
         content : (let e = entry_in first split.earlier in e.content) ≡ listed_from lines x start (reverse cut.1)
         content = ap (λ (e : Packed). e.content) (entry_counted first split.earlier
-            ∙ by_decisions values lines x start first begins (filter counts_of split.earlier) cut.1 cut.4)
+            ∙ by_decisions values lines x start mark first begins (filter counts_of split.earlier) cut.1 cut.4)
 
         front : is_among (listed_from lines x start (reverse cut.1)) s ≡ false
         front = by (is_among (listed_from lines x start (reverse cut.1)) s) refl

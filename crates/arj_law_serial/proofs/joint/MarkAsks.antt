@@ -175,11 +175,11 @@ asks_given hd = record {
       let outs = restart_outs hd k (d.inc + 1) d in
       walk e k (parts_in k (d.inc + 1) d) outs d M
       (unmarked_asked outs M (unmarked_said outs (restart_fine NoMark apart_none hd k (d.inc + 1) d)) p);
-  first = λ l x s on. let no_way : false ≡ true = on in absurd (cc no_way);
+  first = λ st formed l x s on. let no_way : false ≡ true = on in absurd (cc no_way);
 }
 
 pub runs_ask_marks : RunsAskMarks
-runs_ask_marks hd ms =
-    let h = kept_holds hd (world_by hd ms) (moves_keep hd ms) (λ M. (IsKept M × MarksAreSaid M) × MarksAreAsked M) (kept_both hd (λ M.
+runs_ask_marks hd r =
+    let h = kept_holds hd (world_by hd r) (moves_keep hd r) (λ M. (IsKept M × MarksAreSaid M) × MarksAreAsked M) (kept_both hd (λ M.
     IsKept M × MarksAreSaid M) MarksAreAsked (kept_both hd IsKept MarksAreSaid (lines_keep hd) (marks_given hd)) (asks_given hd)) in
     record { sent = h.sent; stands = h.stands; holds = h.holds.1 }

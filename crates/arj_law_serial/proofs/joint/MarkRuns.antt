@@ -1,14 +1,15 @@
 -- In every run a commit under way has said what it marked.
 use Rattle.arj_law_parts.proofs.Words
-use Words.{◌≡◌, ◌≢◌, ◌⊎◌, ◌||◌, ◌==◌, ◌++◌, ◌∙◌, ◌+◌, ℕ, zero, suc, Bool, true, false, cond, List, [], ◌∷◌, Option, Some, None, ap}
-use Words.{eqb-true, map, refl, subst, sym, ⊎_elim, slice_get, list_all, bytes_eq, and_parts, bytes_eq-Decides, again_all, begin_action}
+use Words.{◌≡◌, ◌≢◌, ◌⊎◌, ◌||◌, ◌==◌, ◌++◌, ◌∙◌, ◌+◌, ℕ, Bool, true, false, cond, List, [], ◌∷◌, Option, Some, None, ap}
+use Words.{eqb-true, refl, subst, sym, ⊎_elim, list_all, bytes_eq, and_parts, bytes_eq-Decides, again_all, begin_action}
 use Words.{Machine, Preparing, plan_of, Committing, Coord, Doing, doing_of, Disk, Do, Effect, Say, Send, stopped, worked, say_for, says}
-use Words.{tick_outs, Parts, Took, handle, with_coord, Input, Node, acts, first_disk, first_node, numbers_to, parent_of, parts_in}
-use Words.{restart_outs, Branch, at_place, is_own, Body, Header, Kind, Label, Line, Message, Uid, name, format, is_serial_kind, numbered}
-use Words.{Seen, see, world_by, actor}
+use Words.{tick_outs, Parts, Took, handle, with_coord, Input, Node, acts, parent_of, parts_in}
+use Words.{restart_outs, Branch, at_place, is_own, Body, Header, Kind, Label, Line, Message, Uid, name, is_serial_kind, numbered}
+use Words.{Seen, world_by, actor}
 use Words.input
 use Words.body
 use Rattle.arj_law_serial.proofs.Terms
+use Terms.{IsAtStarts, first_up}
 use Terms.{KeepsGiven, kept_both, book, new_book, AreLined, IsKept, KnowsUp, IsKnown, Right, act_turns, lines_keep, Act, act_in, AreBegun}
 use Terms.{paths_of, IsBusy, IsGoodCoord, IsVoting, begun_tree, path_found, IsGood, IsMemory, other_number, same_number, is_act, AreQuiet}
 use Terms.{at, given, is_quiet_line, posted, said as said_lines, up, Up, Walks, halted, kept_holds, moves_keep, MarksAreSaid, excludes}
@@ -272,25 +273,12 @@ marks_given hd = record {
   first = first_so;
 }
   where
-    first_so : MarksAreSaid (see [] (format hd))
-    first_so j n t u q is live found = by n t live j is found
-      where
-        got : (ms : List ℕ) (i : ℕ) (n : Node) → slice_get (map (first_node hd) ms) i ≡ Some n → (a : ℕ) × (first_node hd a ≡ n)
-        got [] i n is = none_at refl is
-        got (m ∷ ms) zero n is = (m, some_is is)
-        got (m ∷ ms) (suc i) n is = got ms i n is
-
-        by : (n : Node) (t : Parts) → n.live ≡ Some t → (j : ℕ) → at_place j (map (first_node hd) (numbers_to hd.nodes)) ≡ Some n →
-            doing_of u t.coord ≡ Some q → SaysMarks [] q
-        by n t live zero e found = none_at refl e
-        by n t live (suc j) e found =
-            let a = got (numbers_to hd.nodes) j n e in
-            let same : parts_in a.0 1 (first_disk hd a.0) ≡ t = some_is (ap (λ (z : Node). z.live) a.1 ∙ live) in
-            subst (λ (z : Parts). All (was_marked []) z.coord) same (new_all (was_marked []) a.0 1 (let c = first_disk hd a.0 in c.intents))
-            u q found
+    first_so : IsAtStarts hd MarksAreSaid
+    first_so st formed j n t u q is live found = subst (λ (z : Parts). All (was_marked []) z.coord) (first_up hd st j n t is live)
+        (new_all (was_marked []) j (st.incs j + 1) []) u q found
 
 pub runs_say_marks : RunsSayMarks
-runs_say_marks hd ms =
-    let h = kept_holds hd (world_by hd ms) (moves_keep hd ms) (λ M. IsKept M × MarksAreSaid M)
+runs_say_marks hd r =
+    let h = kept_holds hd (world_by hd r) (moves_keep hd r) (λ M. IsKept M × MarksAreSaid M)
     (kept_both hd IsKept MarksAreSaid (lines_keep hd) (marks_given hd)) in
     record { sent = h.sent; stands = h.stands; holds = h.holds.1 }

@@ -1,9 +1,10 @@
 -- Of each decided top the journal says what it excluded and what it included, by the disk machine: each handler keeps it.
 use Rattle.arj_law_parts.proofs.Words
+use Words.{Start, world_from}
 use Words.{◌≡◌, ◌⊎◌, ◌||◌, ◌&&◌, ◌∙◌, ◌+◌, ℕ, Bool, true, false, not, List, [], ◌∷◌, Option, Some, None, ap, inl, inr, refl, subst, sym}
 use Words.{⊎_elim, is_some, bytes_eq-Decides, is_on, Body, Header, Kind, Label, Uid, first_uid, name, uids_of, again_all, begin_action}
 use Words.{Confirming, Machine, Preparing, is_marked, Committing, Coord, Doing, doing_of, Disk, Do, Effect, Intent, Say, Send, worked}
-use Words.{tick_outs, Parts, with_coord, at_uid, uid_number, Node, acts, parent_of, parts_in, restart_outs, branch_of, format}
+use Words.{tick_outs, Parts, with_coord, at_uid, uid_number, Node, acts, parent_of, parts_in, restart_outs, branch_of}
 use Words.{is_serial_kind, numbered, Seen, see}
 use Words.list
 use Words.body
@@ -388,7 +389,8 @@ module _ (hd : Header) (x : ℕ) (K L : World → Seen → Type 0) (P : Kinds �
         (step_walk k d None M e v outs d M (near_same M) (λ down. restart_plain [] hd k d) (λ down. refl))
         (from_walk nobody (down k d M) e k v outs d M
         (λ l y s. inl (refl, unmarked_said outs (restart_fine NoMark apart_none hd k (d.inc + 1) d) l y s)));
-    first = λ tops walk kinds. let f = parts.first tops walk kinds in (f.0, f.1, (f.2, nothing_yet f.0 f.3 f.4), f.3, f.4);
+    first = λ tops walk kinds st formed.
+        let f = parts.first tops walk kinds st formed in (f.0, f.1, (f.2, nothing_yet st f.0 f.3 f.4), f.3, f.4);
   }
     where
       quiet_step : (e : ℕ) (bs : List Body) (M : Seen) → IsStep M (said e bs M)
@@ -400,14 +402,14 @@ module _ (hd : Header) (x : ℕ) (K L : World → Seen → Type 0) (P : Kinds �
       was_up : {X : Type 0} (t : Parts) → Some t ≡ None → X
       was_up t is = absurd (let no_way : ◌≡◌ {A = Option Parts} (Some t) None = is in cc no_way)
 
-      nothing_yet : (A : Office) → (let W = A.world in let D = W.disk in D.tops) ≡ [] → ((t : ℕ) → A.world.disk.bare t ≡ false) →
-          AreMarkedSo x A.world (see [] (format hd))
-      nothing_yet A empty none_bare = record {
+      nothing_yet : (st : Start) (A : Office) → (let W = A.world in let D = W.disk in D.tops) ≡ [] →
+          ((t : ℕ) → A.world.disk.bare t ≡ false) → AreMarkedSo x A.world (see [] (world_from hd st))
+      nothing_yet st A empty none_bare = record {
         decisions = λ u n here d. absurd (never d (ap (λ ds. decided_in ds (uid_number u)) empty));
         bares = λ u on. absurd (never on (none_bare (uid_number u)));
         joiners = λ d i. absurd (subst (disk_list.In d) empty i);
         still = λ d i. absurd (subst (disk_list.In d) empty i);
         dim = λ d i. absurd (subst (disk_list.In d) empty i);
         records = λ u r. absurd (subst (λ (n : Node). list.In {X = Uid × Intent} (u, r.intent) (let c = n.disk in c.intents))
-            (sym (first_at hd r.place r.node r.here)) r.there);
+            (sym (first_at hd st r.place r.node r.here)) r.there);
       }

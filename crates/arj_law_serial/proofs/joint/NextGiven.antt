@@ -16,16 +16,20 @@ use Rattle.arj_law_serial.proofs.order.{Codes.codes_are_apart, Seeing.agrees_at,
 -- which states copies and votes lie.
 abbrev pub StandsBeside : Values → ℕ → World → Seen → Type 0
 StandsBeside values x W M = (begun : List Action) × IsAlikeOf begun M × KnowsWhole x begun M
-    × ((f : Fixed) → AgreesApart values f x begun M.sent →
+    × ((f : Fixed) → AgreesApart values M.start.marks f x begun M.sent →
     (S : State) × SeesLocks f x begun S M × AreTied f x M.lines S × AreVotedAt f x S M × ArePlannedSo f x S W M × AreBasedSo f x S W M)
 
 -- the machine's decisions are those of the journal, in their order
 abbrev pub IsTiedInOrder : World → Seen → Type 0
 IsTiedInOrder W M = IsTied Idle W M × IsOrdered (IdleThere Idle) W M
 
+-- its first state is by whom the object's mark names
+abbrev pub IsFirstBy : ℕ → World → Seen → Type 0
+IsFirstBy x W M = (let D = W.disk in let g = D.first in g.writer) ≡ uid_number (let m = M.start.marks.states x in m.writer)
+
 -- what is known where a Confirm comes
 abbrev pub KnowsPair : Values → ℕ → World → Seen → Type 0
-KnowsPair values x W M = IsKnownJoined M × (StandsBeside values x W M × IsTiedInOrder W M)
+KnowsPair values x W M = IsKnownJoined M × (StandsBeside values x W M × (IsTiedInOrder W M × IsFirstBy x W M))
 
 -- calls of one request are one
 pub one_requests : (x : ℕ) (begun : List Action) (M : Seen) → KnowsFew M → KnowsWhole x begun M → RequestsAreOne M
@@ -53,7 +57,7 @@ module _ (values : Values) (x : ℕ) (tops : Kinds) (A : Office) (k : ℕ) (d : 
   abbrev begun : List Action
   begun = pair.0
 
-  locks : (f : Fixed) → AgreesApart values f x begun U.sent → (S : State) × SeesLocks f x begun S U × AreTied f x U.lines S
+  locks : (f : Fixed) → AgreesApart values U.start.marks f x begun U.sent → (S : State) × SeesLocks f x begun S U × AreTied f x U.lines S
   locks f a = let z = pair.3 f a in (z.0, z.1, z.2)
 
   few : KnowsFew U
@@ -65,7 +69,7 @@ module _ (values : Values) (x : ℕ) (tops : Kinds) (A : Office) (k : ℕ) (d : 
   abbrev f : Fixed
   f = fixed_at values x U begun pair.1 (λ g apart a. locks g (a.0, (a.1, apart))) requests code_of
 
-  agrees : AgreesApart values f x begun U.sent
+  agrees : AgreesApart values U.start.marks f x begun U.sent
   agrees = let a = agrees_at values x U begun pair.1 (λ g apart a. locks g (a.0, (a.1, apart))) requests code_of in
       (a.0, (a.1, codes_are_apart))
 
@@ -89,7 +93,7 @@ module _ (values : Values) (x : ℕ) (tops : Kinds) (A : Office) (k : ℕ) (d : 
   next_at =
       let r = at.run in
       next_here values x tops A U at.both at.heard at.decided r.0.0.1 r.0.1.1 few.1.1 f begun S (let w = pair.2 in w.parted) seen agrees.1.0
-      codes_are_apart (pair.3 f agrees).3 (pair.3 f agrees).4 ((pair.3 f agrees).5 codes_are_apart).0 r.1.1.0 r.1.1.1
+      codes_are_apart (pair.3 f agrees).3 (pair.3 f agrees).4 ((pair.3 f agrees).5 codes_are_apart).0 r.1.1.0.0 r.1.1.0.1 r.1.1.1
       (record { number = k; disk = d; live = Some t }) t n
       (ap U.nodes (sym first_node) ∙ node_here M k (record { number = k; disk = d; live = Some t })) refl named from m h grants excluded
       included (subst (λ (j : ℕ). In (record { from = from; to = j; message = m }) M.sent) first_node sent) asking new.free

@@ -97,11 +97,13 @@ same_there M k n d t here number is live = λ i. record M { nodes = λ m. each m
 -- ---- a Confirm at naming
 
 module _ (values : Values) (x : ℕ) (tops : Kinds) (A : Office) (M : Seen) (both : SeesBoth x tops A M) (heard : SeesHeard x tops A M)
-    (its : SeesDecided tops A M) (nodes : NodesAreThere M) (few : HasFewLabels M) (known : KnowsRun M) (f : Fixed) (begun : List Action)
+    (its : SeesDecided x tops A M) (nodes : NodesAreThere M) (few : HasFewLabels M) (known : KnowsRun M) (f : Fixed) (begun : List Action)
     (S : State) (parted : KnowsParted begun M)
-    (seen : IsSeenIn (case_of f x begun S) M) (begins : BeginsAs values x f) (apart : AreApart f.code) (voted : AreVotedAt f x S M)
+    (seen : IsSeenIn (case_of f x begun S) M) (begins : BeginsAs values M.start.marks x f) (apart : AreApart f.code)
+    (voted : AreVotedAt f x S M)
     (planned : ArePlannedSo f x S A.world M) (based : AreBased f x S A.world M) (tied : IsTied Idle A.world M)
     (ordered : IsOrdered (IdleThere Idle) A.world M)
+    (first_by : (let D = A.world.disk in let g = D.first in g.writer) ≡ uid_number (let m = M.start.marks.states x in m.writer))
     (n1 : Node) (t1 : Parts) (n : Naming) (here1 : M.nodes 1 ≡ Some n1) (live1 : n1.live ≡ Some t1) (naming1 : t1.naming ≡ Some n)
     (from : ℕ) (m : Message) (h : Head) (grants : Grants) (excluded included : Marks)
     (sent : posts.In (record { from = from; to = 1; message = m }) M.sent)
@@ -349,8 +351,8 @@ module _ (values : Values) (x : ℕ) (tops : Kinds) (A : Office) (M : Seen) (bot
       where
         newest : (z : Uid) → IsLast S (f.code (let k = over.copy in let b = k.base in b.value) (f.act z)) S.calls →
             uid_number z ≡ (let y = last D in y.writer)
-        newest z is = wrote_last f x begun S M seen values begins apart W whole
-            (λ z y b e. (let k = both.named in let l = k.plans in l.writer z y b e)) (heard.first D.first (inl refl))
+        newest z is = wrote_last f x begun S M seen values M.start.marks begins apart W whole
+            (λ z y b e. (let k = both.named in let l = k.plans in l.writer z y b e)) first_by
             (λ y b. (let k = heard.kinds in k.named y (let s = both.disks in s.kinds y b).0)) act_node tied ordered planned u
             (g * 4294967296) takes stage undone own_plan w writes (let k = over.copy in let b = k.base in b.value) z is
 

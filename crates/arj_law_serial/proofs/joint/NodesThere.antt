@@ -89,5 +89,6 @@ nodes_keep hd = record {
   tick = λ e k d t M p. there_walk e k (tick_outs (record { number = k; disk = d; live = Some t }) t)
       (with_coord t (again_all t.coord.doings t.coord).part) d M (others_there k d (Some t) M p);
   restart = λ e k d M p. there_walk e k (restart_outs hd k (d.inc + 1) d) (parts_in k (d.inc + 1) d) d M (others_there k d None M p);
-  first = record { numbers = λ k n is. ap (λ (m : Node). m.number) (sym (first_at hd k n is)); labels = λ l g is. absurd (cc is) };
+  first = λ st formed.
+      record { numbers = λ k n is. ap (λ (m : Node). m.number) (sym (first_at hd st k n is)); labels = λ l g is. absurd (cc is) };
 }

@@ -233,7 +233,8 @@ ordered_beside hd x Fits before R P form there kept parts w reached fits =
           begun = record {
             journalled = b.0;
             begins =
-                subst (λ (W : machine.World). BeginsSo hd x W.disk) b.2 (let y = b.3 in let z = y.0 in let t = z.0 in let p = t.0 in p.1);
+                subst (λ (W : machine.World). BeginsSo hd w.start.marks x W.disk) b.2
+                (let y = b.3 in let z = y.0 in let t = z.0 in let p = t.0 in p.1);
           };
           once = subst (λ (W : machine.World). AreOnce W.disk.tops) b.2 order.once;
           called = subst (λ (W : machine.World). AreCalled w.lines W.disk.tops) b.2 order.called;

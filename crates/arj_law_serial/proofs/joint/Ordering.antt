@@ -1,7 +1,8 @@
 -- Each handler keeps the order in which tops are decided, and so it is after each run.
 use Rattle.arj_law_parts.proofs.Words
+use Words.{Start, world_from}
 use Words.{◌≡◌, ℕ, ◌+◌, List, [], Bool, true, Some, None, refl, sym, subst, is_on, Body, Header, Kind, Label, Line, Uid, again_all}
-use Words.{begin_action, Disk, Effect, tick_outs, Parts, with_coord, uid_number, acts, parent_of, parts_in, restart_outs, format}
+use Words.{begin_action, Disk, Effect, tick_outs, Parts, with_coord, uid_number, acts, parent_of, parts_in, restart_outs}
 use Words.{is_serial_kind, numbered, Seen, see}
 use Rattle.arj_law_serial.proofs.Terms
 use Terms.{Office, Keeps, at, down, given, said, up, Up, Walks, halted, walks_both, walks_to, IsLater, Kinds, OnlyFound, SeesBoth, Change}
@@ -125,7 +126,8 @@ module _ (hd : Header) (x : ℕ) (R : Seen → Type 0) (G : machine.World → Se
         ))
         (ties tops A (down k d M) part) order e k outs v d M (parts.restart tops e k d M A walk r both part) (kept.restart e k d M r.0)
         (step_walk k d None M e v outs d M (near_same M) (λ down. restart_plain [] hd k d) (λ down. refl));
-    first = λ tops walk kinds. let f = parts.first tops walk kinds in (f.0, f.1, (f.2, nothing_yet f.0 f.3), f.3, f.4);
+    first = λ tops walk kinds st formed.
+        let f = parts.first tops walk kinds st formed in (f.0, f.1, (f.2, nothing_yet st f.0 f.3), f.3, f.4);
   }
     where
       quiet_step : (e : ℕ) (bs : List Body) (M : Seen) → IsStep M (said e bs M)
@@ -134,8 +136,8 @@ module _ (hd : Header) (x : ℕ) (R : Seen → Type 0) (G : machine.World → Se
       given_near : (l : Label) (how : Kind) (k : ℕ) (M : Seen) → IsNear M (given l (record { node = k; serial = is_serial_kind how }) M)
       given_near l how k M = record { more = []; lines = nothing_more M.lines; nodes = λ j. refl }
 
-      nothing_yet : (A : Office) → A.world.disk.tops ≡ [] → IsOrdered (IdleThere Idle) A.world (see [] (format hd))
-      nothing_yet A none = record {
+      nothing_yet : (st : Start) (A : Office) → A.world.disk.tops ≡ [] → IsOrdered (IdleThere Idle) A.world (see [] (world_from hd st))
+      nothing_yet st A none = record {
         once = subst AreOnce (sym none) tt;
         called = subst (AreCalled []) (sym none) (λ d i. absurd i);
         turns = subst (AreTurns (IdleThere Idle) []) (sym none) tt;

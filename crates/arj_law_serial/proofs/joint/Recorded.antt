@@ -141,7 +141,7 @@ module _ (hd : Header) (x : ℕ) (G : World → Seen → Type 0) (P : Kinds → 
         (parts.restart tops e k d M A walk r both part)
         (walked none e k None v outs d M (plainly none (IsDemanded M.sent) outs (restart_plain [] hd k d)))
         (step_walk k d None M e v outs d M (near_same M) (λ down. restart_plain [] hd k d) (λ down. refl));
-    first = λ tops walk kinds. let f = parts.first tops walk kinds in
+    first = λ tops walk kinds st formed. let f = parts.first tops walk kinds st formed in
         (f.0, f.1, (f.2, λ u n here d. absurd (never d (ap (λ ds. decided_in ds (uid_number u)) f.3))), f.3, f.4);
   }
     where

@@ -3,7 +3,7 @@ use Rattle.arj_law_parts.proofs.Words
 use Words.{◌≡◌, ◌==◌, ◌&&◌, eqb-true, ℕ, true, List, [], Some, refl, sym, ◌∙◌, ap, and_parts, Asked, Message, Reply, answers, ask_kind}
 use Words.{reply_kind, AtLoad, next_ask, next_node, node_at, Seen}
 use Rattle.arj_law_serial.proofs.Terms
-use Terms.{Values, Action, In, Office, Kinds, node_here, State, Spot, world_at, BeginsAs, Fixed, case_of, KnowsFew, KnowsWhole, GivesRest}
+use Terms.{Values, Action, In, Office, Kinds, node_here, State, Spot, world_at, StandsFor, Fixed, case_of, KnowsFew, KnowsWhole, GivesRest}
 use Terms.{IsPaired, SeesRecorded, AreLoadsLast, AwaitsLoad}
 use Rattle.arj_law_lock_view.specs.running.Answers.{GivesLast}
 use Rattle.arj_law_serial.proofs.joint.DecidedTops.{machine_decided}
@@ -48,7 +48,7 @@ Known x E begun M = KnowsFew M × (KnowsWhole x begun M × E begun M)
 
 -- so nothing is left to take, beside what is carried with the disk machine's state
 pub rest_beside : (values : Values) (x : ℕ) (E : List Action → Seen → Type 0) (P : Kinds → Office → Seen → Type 0) →
-    ((tops : Kinds) (A : Office) (M : Seen) → P tops A M → SeesRecorded x tops A M) → (f : Fixed) → BeginsAs values x f →
+    ((tops : Kinds) (A : Office) (M : Seen) → P tops A M → SeesRecorded x tops A M) → (f : Fixed) → StandsFor f (values x) →
     GivesRest f x (λ begun S M. Known x E begun M × IsPaired x P f begun S M)
 rest_beside values x E P carries f begins = record {
   recorded = λ begun S M t k n j i q seen here voter three there write survives of.

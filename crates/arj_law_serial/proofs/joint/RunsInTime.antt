@@ -55,4 +55,4 @@ pub reached_in_time : (hd : Header) → HeaderInForm hd → (w : World) → IsRe
 reached_in_time hd form w reached fit = in_time_so hd w reached.keeping (reached_both hd form w reached fit) form
 
 pub runs_exclude : RunsExcludeInTime
-runs_exclude hd ms f = let r = runs_in_form hd ms f in reached_in_time hd f.header (world_by hd ms) r.0 r.1 (commits_begin hd ms)
+runs_exclude hd r f = let h = runs_in_form hd r f in reached_in_time hd f.header (world_by hd r) h.0 h.1 (commits_begin hd r)

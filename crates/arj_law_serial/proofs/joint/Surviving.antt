@@ -6,7 +6,7 @@ use Rattle.arj_law_serial.proofs.Terms
 use Terms.{Act, Placed, acts, chain_in, committed, has_end, is_committed, is_serial, recovered, top_in, uids, Said, call_of}
 use Terms.{committed_calls, kept, kept_in, Values, writes_on, Action, is_top, new_book, IsDone, AreAlike, AreRight, AreSound, its_acts}
 use Terms.{its_sound, on_path, is_action, on, top, State, Survives, Holds, run_keeps, start_holds, top_of, AreCallsOf, IsCallOf}
-use Terms.{IsTiedToLines, said_on, Acts, Codes, IsSeenIn, BeginsAs, Fixed, case_of, HasPlaces, path_of}
+use Terms.{IsTiedToLines, said_on, Acts, Codes, IsSeenIn, StandsFor, Fixed, case_of, HasPlaces, path_of}
 use Terms.machine
 use Terms.state
 use Rattle.arj_law_serial.proofs.joint.Called.{mapped}
@@ -66,7 +66,7 @@ pub record IsTopThere (act : Acts) (lines : List Line) (m : machine.Act) : Type 
   pub place : act its.uid ≡ m
 
 module _ (f : Fixed) (x : ℕ) (begun : List Action) (S : State) (M : Seen) (seen : IsSeenIn (case_of f x begun S) M) (values : Values)
-    (begins : BeginsAs values x f) where
+    (begins : StandsFor f (values x)) where
   right : AreRight new_book M.lines
   right = let w = seen.written in w.right
 

@@ -1,7 +1,7 @@
 -- Decided tops wrote what their plans have, in the words of the journal.
 use Rattle.arj_law_parts.proofs.Words
 use Words.{Contains, ◌≡◌, ◌==◌, ◌||◌, ℕ, Bool, true, false, List, [], ◌∷◌, Option, Some, None, refl, sym, ◌∙◌, ap, subst, inl, inr, arith}
-use Words.{eq-eqb, In, in_from, Header, Uid, uid_number, World, Post, Seen, see, nobody}
+use Words.{eq-eqb, In, in_from, Header, Uid, uid_number, World, Post, Seen, see}
 use Rattle.arj_law_serial.proofs.Terms
 use Terms.{acts, Top, tops, first_values, uid_of_id, Values, Action, paths_of, Done, Packed, Plan, decided_in, Kinds, SeesDisks, new_book}
 use Terms.{AreAlike, IsAlikeOf, AreRight, State, Fixed, SeesLocks, AreTied, code_of, VotedSo, WroteSo, RequestsAreOne, IsTied, its_acts}
@@ -25,7 +25,7 @@ decided_there (e ∷ ds) d (inr i) = by (e.top == d.top) (decided_there ds d i)
 
 module _ (hd : Header) (w : World) (x : ℕ) (right : AreRight new_book w.lines) (sent : List Post) (kinds : Kinds) (W : machine.World)
     (disks : SeesDisks x kinds W (see sent w)) (begun : List Action) (alike : IsAlikeOf begun (see sent w))
-    (seen : (f : Fixed) → AgreesApart (first_values hd) f x begun sent → (S : State) × SeesLocks f x begun S (see sent w)
+    (seen : (f : Fixed) → AgreesApart (first_values hd) w.start.marks f x begun sent → (S : State) × SeesLocks f x begun S (see sent w)
     × AreTied f x w.lines S × ArePlannedSo f x S W (see sent w)) (knows : RequestsAreOne (see sent w)) where
   abbrev M : Seen
   M = see sent w
@@ -33,13 +33,14 @@ module _ (hd : Header) (w : World) (x : ℕ) (right : AreRight new_book w.lines)
   abbrev values : Values
   values = first_values hd
 
-  locks : (f : Fixed) → AgreesApart (first_values hd) f x begun M.sent → (S : State) × SeesLocks f x begun S M × AreTied f x M.lines S
+  locks : (f : Fixed) → AgreesApart (first_values hd) M.start.marks f x begun M.sent →
+      (S : State) × SeesLocks f x begun S M × AreTied f x M.lines S
   locks f a = let z = seen f a in (z.0, z.1, z.2)
 
   abbrev f : Fixed
   f = fixed_at values x M begun alike (λ g apart a. locks g (a.0, (a.1, apart))) knows code_of
 
-  agrees : AgreesApart values f x begun M.sent
+  agrees : AgreesApart values M.start.marks f x begun M.sent
   agrees = let a = agrees_at values x M begun alike (λ g apart a. locks g (a.0, (a.1, apart))) knows code_of in
       (a.0, (a.1, codes_are_apart))
 
@@ -56,9 +57,9 @@ module _ (hd : Header) (w : World) (x : ℕ) (right : AreRight new_book w.lines)
     apart = codes_are_apart;
     places = begun_have_places begun (paths_of begun) (acts_of begun) M.lines right
         (subst (AreAlike begun) (its_acts M.lines right) alike.1) agrees.0.whole;
-    first = code_of (values x) (acts_of begun nobody);
+    first = code_of (values x) (acts_of begun (let m = w.start.marks.states x in m.writer));
     run = (let s = (seen f agrees).1 in s.run);
-    tied = (seen f agrees).2 values refl;
+    tied = (seen f agrees).2 values (acts_of begun (let m = w.start.marks.states x in m.writer), refl);
   }
 
   voted : (u : Uid) (o : Option Packed) → VotedIn f S u o → VotedSo values M.lines x S tied u o

@@ -1,17 +1,17 @@
 -- The last entry of an object by its decided tops is the journal's.
 use Rattle.arj_law_parts.proofs.Words
 use Words.{◌≡◌, ℕ, ◌+◌, ◌&&◌, not, List, [], ◌∷◌, ◌++◌, filter, length, reverse, Bool, true, false, cond, refl, sym, ◌∙◌, ap, subst}
-use Words.{append-nil, AllByRecursion, bytes_eq, length-append, reverse-append, bytes_eq-Decides, nobody, Line, Header, uid_number}
+use Words.{append-nil, AllByRecursion, bytes_eq, length-append, reverse-append, bytes_eq-Decides, Line, arith, Header, uid_number}
 use Words.{entry_back}
 use Rattle.arj_law_serial.proofs.Terms
-use Terms.{acts, Top, entry_payload, entry_state, first_values, is_among, leaves_of, listed_after, listed_from, object_line}
+use Terms.{acts, Top, entry_payload, first_values, is_among, leaves_of, listed_after, listed_from, object_line}
 use Terms.{servers_of_line, Values, first_stores, listed_append, counts_of, Done, Packed, entry_in, target, packed_entry, AreDecided}
-use Terms.{AreDecisions, IsDecision}
+use Terms.{AreDecisions, IsDecision, marked}
 use Rattle.arj_law.proofs.Listed.{changers_append, entry_decided, last_of_append, same_is, same_itself}
 use Rattle.arj_law.specs.Growth.{entry_by}
 use Rattle.arj_law_disk.specs.machine.{Order.entry_by_all, State.entry_after, State.entry_with, State.list_after}
 use Rattle.arj_law_runs.proofs.journal.Books.{never}
-use Rattle.arj_model.specs.Last.{changers, last_changer, same_list}
+use Rattle.arj_model.specs.{Last.changer_from, Last.changers, Last.entry_from, Last.same_list, Start.Mark, Start.Marks}
 use Rattle.arj_protocol.specs.Values.{entry_in as entry_in_payload}
 
 -- ---- lists
@@ -37,12 +37,12 @@ all_reversed P (x ∷ xs) all = subst (AllByRecursion P) (sym (turned x xs)) (al
 
 -- ---- one top more
 
-module _ (values : Values) (lines : List Line) (x : ℕ) (first : List ℕ) where
+module _ (values : Values) (lines : List Line) (x : ℕ) (first : List ℕ) (mark : Mark) where
   -- the entry after tops, the oldest first
   abbrev by_tops : List Top → Packed
   by_tops ts = record {
-    version = length (changers lines x first ts);
-    writer = uid_number (last_changer (acts lines) (changers lines x first ts));
+    version = mark.version + length (changers lines x first ts);
+    writer = uid_number (changer_from (acts lines) mark.writer (changers lines x first ts));
     content = listed_from lines x first ts;
   }
 
@@ -74,31 +74,38 @@ module _ (values : Values) (lines : List Line) (x : ℕ) (first : List ℕ) wher
           let one = same_is next now same in
           let old : changers lines x first (ts ++ t ∷ []) ≡ all_tops = changed ∙ ap (λ b. all_tops ++ cond b [] (t ∷ [])) same
           ∙ append-nil all_tops in
-          ap (λ b. cond b (by_tops ts) (record { version = length all_tops + 1; writer = d.top; content = next }))
+          ap (λ b. cond b (by_tops ts) (record { version = mark.version + length all_tops + 1; writer = d.top; content = next }))
           ((bytes_eq-Decides next now).1 one)
           ∙ sym (λ i. record {
-            version = length (old i);
-            writer = uid_number (last_changer (acts lines) (old i));
+            version = mark.version + length (old i);
+            writer = uid_number (changer_from (acts lines) mark.writer (old i));
             content = (listed_append lines x first ts t ∙ one) i;
           })
       by false other =
           let new : changers lines x first (ts ++ t ∷ []) ≡ all_tops ++ t ∷ [] = changed ∙ ap (λ b. all_tops ++ cond b [] (t ∷ [])) other in
-          ap (λ b. cond b (by_tops ts) (record { version = length all_tops + 1; writer = d.top; content = next }))
+          ap (λ b. cond b (by_tops ts) (record { version = mark.version + length all_tops + 1; writer = d.top; content = next }))
           (differ (bytes_eq next now) refl)
           ∙ sym (λ i. record {
-            version = (ap length new ∙ length-append all_tops (t ∷ [])) i;
-            writer = (ap (λ us. uid_number (last_changer (acts lines) us)) new ∙ ap uid_number (last_of_append (acts lines) all_tops t)
-                ∙ sym is.number) i;
+            version = (ap (λ us. mark.version + length us) new ∙ ap (λ n. mark.version + n) (length-append all_tops (t ∷ []))
+                ∙ sum mark.version (length all_tops)) i;
+            writer = (ap (λ us. uid_number (changer_from (acts lines) mark.writer us)) new
+                ∙ ap uid_number (last_of_append (acts lines) mark.writer all_tops t) ∙ sym is.number) i;
             content = listed_append lines x first ts t i;
           })
         where
+          sum : (m n : ℕ) → m + (n + 1) ≡ m + n + 1
+          sum m n = omega arith
+
           differ : (b : Bool) → bytes_eq next now ≡ b → b ≡ false
           differ true e = never (ap (λ ns. same_list ns now) ((bytes_eq-Decides next now).0 e) ∙ same_itself now) other
           differ false e = refl
 
-  pub by_decisions : (start : Packed) → start ≡ by_tops [] → (ds : List Done) (ts : List Top) → AreDecisions values lines x ds ts →
+  pub by_decisions : (start : Packed) → start ≡ marked mark first → (ds : List Done) (ts : List Top) → AreDecisions values lines x ds ts →
       entry_by_all start ds ≡ by_tops (reverse ts)
-  by_decisions start is [] [] are = is
+  by_decisions start is [] [] are = is ∙ (λ i. record { version = zero i; writer = uid_number mark.writer; content = first })
+    where
+      zero : mark.version ≡ mark.version + 0
+      zero = omega arith
   by_decisions start is [] (t ∷ ts) are = absurd are
   by_decisions start is (d ∷ ds) [] are = absurd are
   by_decisions start is (d ∷ ds) (t ∷ ts) are =
@@ -120,21 +127,25 @@ pub stores_back : (servers stores : List ℕ) → (let e = entry_in_payload (ent
 stores_back servers stores = ap (λ e. let d = e in d.stores) (entry_back (record { servers = servers; stores = stores }))
 
 module _ (header : Header) (lines : List Line) (x : ℕ) (first : Packed) (ds : List Done) (decided : AreDecided header lines x ds)
-    (first_is : first ≡ record { version = 0; writer = uid_number nobody; content = first_stores header x }) where
+    (marks : Marks) (first_is : first ≡ marked (marks.entries x) (first_stores header x)) where
+  abbrev mark : Mark
+  mark = marks.entries x
+
   those : filter decided.counts (reverse decided.those) ≡ reverse decided.those
   those =
       all_kept decided.counts (reverse decided.those) (all_reversed (λ (t : Top). decided.counts t ≡ true) decided.those decided.counted)
 
-  entry_is : entry_state header lines x ≡ entry_by header lines x (reverse decided.those)
-  entry_is = entry_decided header lines x decided.counts (reverse decided.those) decided.order ∙ ap (entry_by header lines x) those
+  entry_is : entry_from header marks lines x ≡ entry_by header marks lines x (reverse decided.those)
+  entry_is =
+      entry_decided header marks lines x decided.counts (reverse decided.those) decided.order ∙ ap (entry_by header marks lines x) those
 
-  pub entry_is_last : entry_in first ds ≡ packed_entry (entry_state header lines x)
+  pub entry_is_last : entry_in first ds ≡ packed_entry (entry_from header marks lines x)
   entry_is_last =
-      entry_counted first ds ∙ by_decisions (first_values header) lines x (first_stores header x) first first_is (filter counts_of ds)
+      entry_counted first ds ∙ by_decisions (first_values header) lines x (first_stores header x) mark first first_is (filter counts_of ds)
       decided.those decided.each
       ∙ (λ i. record {
-        version = length (changers lines x (first_stores header x) (reverse decided.those));
-        writer = uid_number (last_changer (acts lines) (changers lines x (first_stores header x) (reverse decided.those)));
+        version = mark.version + length (changers lines x (first_stores header x) (reverse decided.those));
+        writer = uid_number (changer_from (acts lines) mark.writer (changers lines x (first_stores header x) (reverse decided.those)));
         content = sym
             (stores_back (servers_of_line (object_line header x)) (listed_from lines x (first_stores header x) (reverse decided.those))) i;
       })

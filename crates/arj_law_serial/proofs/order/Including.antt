@@ -1,7 +1,7 @@
 -- Tops that write an object or include a store of it take turns, by the journal.
 use Rattle.arj_law_parts.proofs.Words
 use Words.{Contains, ◌≡◌, ◌≢◌, ◌⊎◌, ◌<◌, ◌≤◌, ℕ, ◌+◌, ◌==◌, ◌&&◌, ◌||◌, List, [], ◌∷◌, filter, Bool, true, false, cond, Option, Some, None}
-use Words.{refl, sym, ◌∙◌, ap, subst, inl, inr, ⊎_elim, arith, eqb-true, eq-eqb, AllByRecursion, list_all, and_parts, last_uid, nobody, Uid}
+use Words.{refl, sym, ◌∙◌, ap, subst, inl, inr, ⊎_elim, arith, eqb-true, eq-eqb, AllByRecursion, list_all, and_parts, last_uid, Uid}
 use Words.{writes, Body, Line, name, in_to, In, in_filter_map, in_from, Header, Wrote}
 use Rattle.arj_law_serial.proofs.Terms
 use Terms.{Act, Placed, acts, acts_after, chain_in, committed, has_end, put, read, top_in, uids, Top, committed_calls, tops, Inclusion}
@@ -107,7 +107,7 @@ module _ (values : Values) (lines : List Line) (right : AreRight new_book lines)
       top_of k.0.act (t.act item.act.uid) (is_top_in values lines right x S its item.act item.there item.kind)
       (ap (λ z. on z (t.act item.act.uid)) caller ∙ on_it values lines right x S its m.act item.act m.there
       (subst (λ z. In z (path_of lines m.act)) one (top_on (path_of lines m.act) a top_is))) in
-      let timely = run_too its.run (start_too (t.code (values x) (t.act nobody))) in
+      let timely = run_too its.run (start_too (its.code (values x) its.writer)) in
       let stage = stage_of_top values lines right x S its u item in
       let early = timely.places (record { act = k.0.act; write = false; line = k.0.line; sees = 0; gives = 0 }) (t.act item.act.uid)
       (called_so S.includes k.0 k.1) (subst (λ z. on k.0.act z ≡ true) its_top_is (on_top k.0.act))
@@ -246,14 +246,14 @@ module _ (values : Values) (lines : List Line) (right : AreRight new_book lines)
         by (inl first) =
             let c = j.change in let d = k.change in let l = j.line in let m = k.line in let p = lu.place in let q = lw.place in
             let b = d.before in
-            let r = include_then_call (t.code (values x) (t.act nobody)) S its.run j.include k.call lu.last lw.last j.there k.there
+            let r = include_then_call (its.code (values x) its.writer) S its.run j.include k.call lu.last lw.last j.there k.there
             (omega (arith, first, l, m)) c.survives d.survives (apart _ _ j.at k.at c d) lu.closes lw.closes
             (omega (arith, m, q, b, behind_too)) in
             omega (arith, r, p, m, b)
         by (inr later) =
             let c = j.change in let d = k.change in let l = j.line in let m = k.line in let p = lu.place in let q = lw.place in
             let b = c.before in
-            let r = call_then_include (t.code (values x) (t.act nobody)) S its.run k.call j.include lw.last lu.last k.there j.there
+            let r = call_then_include (its.code (values x) its.writer) S its.run k.call j.include lw.last lu.last k.there j.there
             (omega (arith, later, l, m)) d.survives c.survives (apart _ _ j.at k.at c d) lw.closes lu.closes
             (omega (arith, l, p, b, behind)) in
             absurd (omega (arith, r, q, l, b, behind_too, called))
@@ -274,13 +274,13 @@ module _ (values : Values) (lines : List Line) (right : AreRight new_book lines)
         by (inl first) =
             let c = k.change in let d = j.change in let l = j.line in let m = k.line in let p = lu.place in let q = lw.place in
             let b = c.before in
-            let r = include_then_call (t.code (values x) (t.act nobody)) S its.run j.include k.call lw.last lu.last j.there k.there
+            let r = include_then_call (its.code (values x) its.writer) S its.run j.include k.call lw.last lu.last j.there k.there
             (omega (arith, first, l, m)) d.survives c.survives turned_apart lw.closes lu.closes (omega (arith, m, p, b, behind)) in
             absurd (omega (arith, r, q, m, b, behind_too, called))
         by (inr later) =
             let c = k.change in let d = j.change in let l = j.line in let m = k.line in let p = lu.place in let q = lw.place in
             let b = d.before in
-            let r = call_then_include (t.code (values x) (t.act nobody)) S its.run k.call j.include lu.last lw.last k.there j.there
+            let r = call_then_include (its.code (values x) its.writer) S its.run k.call j.include lu.last lw.last k.there j.there
             (omega (arith, later, l, m)) c.survives d.survives turned_apart lu.closes lw.closes (omega (arith, l, q, b, behind_too)) in
             omega (arith, r, p, l, b)
 
@@ -297,14 +297,14 @@ module _ (values : Values) (lines : List Line) (right : AreRight new_book lines)
         by (inl first) =
             let c = j.change in let d = k.change in let l = j.line in let m = k.line in let p = lu.place in let q = lw.place in
             let b = d.before in
-            let r = include_then_include (t.code (values x) (t.act nobody)) S its.run j.include k.include lu.last lw.last j.there k.there
+            let r = include_then_include (its.code (values x) its.writer) S its.run j.include k.include lu.last lw.last j.there k.there
             (omega (arith, first, l, m)) c.survives d.survives (apart _ _ j.at k.at c d) lu.closes lw.closes
             (omega (arith, m, q, b, behind_too)) in
             omega (arith, r, p, m, b)
         by (inr later) =
             let c = j.change in let d = k.change in let l = j.line in let m = k.line in let p = lu.place in let q = lw.place in
             let b = c.before in
-            let r = include_then_include (t.code (values x) (t.act nobody)) S its.run k.include j.include lw.last lu.last k.there j.there
+            let r = include_then_include (its.code (values x) its.writer) S its.run k.include j.include lw.last lu.last k.there j.there
             (omega (arith, later, l, m)) d.survives c.survives (λ e. apart _ _ j.at k.at c d (sym e)) lw.closes lu.closes
             (omega (arith, l, p, b, behind)) in
             absurd (omega (arith, r, q, l, b, behind_too, called))

@@ -2,7 +2,7 @@
 use Rattle.arj_law_parts.proofs.Words
 use Words.{◌≡◌, ◌≢◌, ◌⊎◌, ◌<◌, ◌≤◌, ℕ, ◌+◌, ◌==◌, ◌&&◌, ◌||◌, List, [], ◌∷◌, length, take, Bool, true, false, cond, max, zero, suc, Option}
 use Words.{Some, None, refl, sym, ◌∙◌, ap, subst, inl, inr, ⊎_elim, arith, eqb-true, eq-eqb, Contains, list_any, and_parts, nat_tests}
-use Words.{uid_is, uid_other, uid_same, Row, is_on, last_uid, entry, object, uid_eq, nobody, Mode, Uid, is_write, writes, Body, Line, In}
+use Words.{uid_is, uid_other, uid_same, Row, is_on, last_uid, entry, object, uid_eq, Mode, Uid, is_write, writes, Body, Line, In}
 use Words.{in_filter_map, in_from, in_to, caller_at, is_number, is_upper_of, locks_call, locks_entry}
 use Rattle.arj_law_serial.proofs.Terms
 use Terms.{Act, Placed, acts, acts_after, chain_in, committed, path, path_in, put, read, recovered, root_in, uids, Said, Top}
@@ -196,10 +196,10 @@ module _ (values : Values) (lines : List Line) (right : AreRight new_book lines)
   sound = its_sound lines right
 
   holds : Holds T
-  holds = run_keeps tie.run (start_holds (t.code (values x) (t.act nobody)))
+  holds = run_keeps tie.run (start_holds (tie.code (values x) tie.writer))
 
   one_node : IsAtOneNode T
-  one_node = is_at_one_node holds (roots_low tie.run (start_low (t.code (values x) (t.act nobody))))
+  one_node = is_at_one_node holds (roots_low tie.run (start_low (tie.code (values x) tie.writer)))
 
   -- an action that isn't nested is the root with this number, or a top of it
   pub its_number : (b : Act) → In b (acts lines) → b.kind ≢ kind.Nested → (n : ℕ) → root_in (path_of lines b) ≡ Some n →

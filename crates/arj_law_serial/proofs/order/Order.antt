@@ -2,7 +2,7 @@
 use Rattle.arj_law_parts.proofs.Words
 use Words.{◌≡◌, ◌≢◌, ◌⊎◌, ◌<◌, ◌≤◌, ℕ, ◌+◌, ◌==◌, ◌&&◌, ◌||◌, List, [], ◌∷◌, ◌++◌, Bool, true, false, cond, nat_lt, max, Some, None, refl}
 use Words.{sym, ◌∙◌, ap, subst, inl, inr, ⊎_elim, arith, eqb-true, eq-eqb, AllByRecursion, and_parts, or_left, or_right, nat_tests, uid_is}
-use Words.{writes, Kind, Line, In, in_filter_map, in_from, in_to, nobody}
+use Words.{writes, Kind, Line, In, in_filter_map, in_from, in_to}
 use Rattle.arj_law_serial.proofs.Terms
 use Terms.{Act, Placed, acts, behind_first, chain_in, committed, has_end, is_committed, is_serial, recovered, root_in, top_in, Said, Top}
 use Terms.{committed_calls, committings, ids, kept, root_or, top_by, tops, is_among, Values, lex, root_of, serial_key, top_place}
@@ -217,15 +217,15 @@ module _ (lines : List Line) (right : AreRight new_book lines) where
 
 module _ (values : Values) (lines : List Line) (right : AreRight new_book lines) (x : ℕ) (S : State) (tied : Tie values lines x S) where
   pub in_order : IsInOrder S
-  in_order = is_in_order (run_keeps tied.run (start_holds (tied.code (values x) (tied.act nobody))))
-      (roots_low tied.run (start_low (tied.code (values x) (tied.act nobody))))
+  in_order = is_in_order (run_keeps tied.run (start_holds (tied.code (values x) tied.writer)))
+      (roots_low tied.run (start_low (tied.code (values x) tied.writer)))
 
   nested : IsNested S
-  nested = is_nested (run_keeps tied.run (start_holds (tied.code (values x) (tied.act nobody))))
-      (roots_low tied.run (start_low (tied.code (values x) (tied.act nobody))))
+  nested = is_nested (run_keeps tied.run (start_holds (tied.code (values x) tied.writer)))
+      (roots_low tied.run (start_low (tied.code (values x) tied.writer)))
 
   timely : AreTimely S.calls S.now S.action
-  timely = run_timely tied.run (start_timely (tied.code (values x) (tied.act nobody)))
+  timely = run_timely tied.run (start_timely (tied.code (values x) tied.writer))
 
   -- ---- tops in the machine
 

@@ -1,8 +1,9 @@
 -- A run of which the lock machine of each object sees so much is serial.
-use Rattle.arj_law_parts.proofs.Words.{ℕ, List, refl, subst, nobody, Line, Header, World, Seen, IsSerialBy}
+use Rattle.arj_law_parts.proofs.Words.{ℕ, List, refl, subst, Line, Header, World, Seen, IsSerialBy}
 use Rattle.arj_law_serial.proofs.Terms
 use Terms.{first_values, Values, Action, paths_of, new_book, AreAlike, IsAlikeOf, AreRight, its_acts, State, AgreesAs, Fixed, view_of}
 use Terms.{SeesLocks, AreTied as AreTiedNow, acts_of, AreOneTree, Codes, code_of, RequestsAreOne, AreApart, IsTied}
+use Rattle.arj_law_lock.specs.machine.Actions.{Act}
 use Rattle.arj_law.proofs.{Nested.nested_law, Order.order_law}
 use Rattle.arj_law_lock_view.proofs.{facts.Wants.requests_want, view.FamilySteps.families_are_trees}
 use Rattle.arj_law_lock_view.specs.{facts.Given.SentWants, view.Servers.Wants}
@@ -14,7 +15,8 @@ use Rattle.arj_model.specs.Serial.{Serial}
 
 -- in places of its own, and in any codes
 module _ (values : Values) (x : ℕ) (M : Seen) (begun : List Action) (alike : IsAlikeOf begun M) (seen : (f : Fixed) → AreApart f.code →
-    AgreesAs values f x begun M.sent → (S : State) × SeesLocks f x begun S M × AreTiedNow f x M.lines S) (knows : RequestsAreOne M) where
+    AgreesAs values M.start.marks f x begun M.sent → (S : State) × SeesLocks f x begun S M × AreTiedNow f x M.lines S)
+    (knows : RequestsAreOne M) where
   pub right : AreRight new_book M.lines
   right = let w = alike.2 in w.right
 
@@ -24,11 +26,15 @@ module _ (values : Values) (x : ℕ) (M : Seen) (begun : List Action) (alike : I
   pub wants : (w : Wants) × SentWants x M.sent w
   wants = requests_want x M.sent knows.one (λ p there h a is. knows.numbered p there h a is)
 
+  -- who wrote its first state
+  abbrev pub writer : Act
+  writer = acts_of begun (let m = M.start.marks.states x in m.writer)
+
   abbrev pub fixed_at : Codes → Fixed
   fixed_at code =
-      record { act = acts_of begun; paths = paths_of begun; code = code; wants = wants.0; first = code (values x) (acts_of begun nobody) }
+      record { act = acts_of begun; paths = paths_of begun; code = code; wants = wants.0; first = code (values x) writer }
 
-  pub agrees_at : (code : Codes) → AgreesAs values (fixed_at code) x begun M.sent
+  pub agrees_at : (code : Codes) → AgreesAs values M.start.marks (fixed_at code) x begun M.sent
   agrees_at code =
       (record { whole = tree; wanted = λ p h a there is. wants.1 (view_of (fixed_at code) x begun p.to) p h a refl refl there is }, refl)
 
@@ -41,9 +47,9 @@ module _ (values : Values) (x : ℕ) (M : Seen) (begun : List Action) (alike : I
     apart = codes_are_apart;
     places = begun_have_places begun (paths_of begun) (acts_of begun) M.lines right
         (subst (AreAlike begun) (its_acts M.lines right) alike.1) tree;
-    first = code_of (values x) (acts_of begun nobody);
+    first = code_of (values x) writer;
     run = s.run;
-    tied = tied values refl;
+    tied = tied values (writer, refl);
   }
 
   pub locked_tied : (S : State) × IsTied values M.lines x S

@@ -1,10 +1,10 @@
 -- Readings that show clean disks are clean.
 use Rattle.arj_law_parts.proofs.Words.{◌≡◌, ℕ, true, List, is_some, ◌∙◌, ap, option_map, state_bytes, entry, object, Line, Header, Seen}
-use Rattle.arj_law_serial.proofs.Terms.{Clean, Disks, object_line, IsCleanIn}
+use Rattle.arj_law_serial.proofs.Terms.{CleanFrom, Disks, object_line, IsCleanIn}
 use Rattle.arj_law_serial.specs.order.Readings.{AreShown}
 
 pub readings_clean : (header : Header) (lines : List Line) (M : Seen) (disks : Disks) → ((x : ℕ) → is_some (object_line header x) ≡ true →
-    IsCleanIn header lines x M) → AreShown header lines M disks → Clean header lines disks
+    IsCleanIn header lines x M) → AreShown header lines M disks → CleanFrom header M.start.marks lines disks
 readings_clean header lines M disks clean shown = record {
   entries = λ x has free.
       let n = shown.naming in

@@ -3,10 +3,11 @@ use Rattle.arj_law_parts.proofs.Words
 use Words.{◌≡◌, ◌≢◌, ◌⊎◌, ◌<◌, ◌≤◌, ℕ, ◌+◌, ◌==◌, ◌&&◌, ◌||◌, List, [], ◌∷◌, ◌++◌, filter, length, Bool, true, false, cond, nat_lt, Option}
 use Words.{Some, None, is_some, unwrap_or, refl, sym, ◌∙◌, ap, subst, inl, inr, ⊎_elim, arith, Contains, eqb-true, eq-eqb, AllByRecursion}
 use Words.{list_any, and_parts, nat_tests, payload_of, value_after, writes, Value, Header, Line, In, in_filter, in_from, in_to, uid_number}
+use Words.{Uid}
 use Rattle.arj_law_serial.proofs.Terms
-use Terms.{Top, committed_calls, tops, first_values, last_state, state_after, Values, run, serial_calls, top_place, writes_on, InOrder}
+use Terms.{Top, committed_calls, tops, first_values, Values, run, serial_calls, top_place, writes_on, InOrder}
 use Terms.{Pairwise, not_below_itself, writes_conflict, rises, new_book, AreRight, Chain, counts_of, Done, Packed, last_in, packed}
-use Terms.{AreDecided, AreDecisions, AreNewestFirst, CommitsComeFirst, WroteSo, left_by}
+use Terms.{AreDecided, AreDecisions, AreNewestFirst, CommitsComeFirst, WroteSo, left_by, marked}
 use Terms.words
 use Rattle.arj_law.proofs.{Answers.run-append, Common.pairwise_before, Last.value_of_writes, Last.writes_are}
 use Rattle.arj_law_disk.specs.machine.Laws.{writes_in}
@@ -14,7 +15,8 @@ use Rattle.arj_law_runs.proofs.journal.Books.{never}
 use Rattle.arj_law_serial.proofs.{order.Ties.Ties, order.Tying.all_at, order.Values.to_filter}
 use Rattle.arj_law_serial.proofs.order.Order.{all_called_first, all_in_order, call_before, listed, place_of_top}
 use Rattle.arj_law_serial.specs.order.Decided.{IsCalledFirst, IsLastWrite}
-use Rattle.arj_model.specs.{Book.writes_before, Calls.Call, Last.count_tops, Last.last_writer, Last.writes_of}
+use Rattle.arj_model.specs.{Book.writes_before, Calls.Call, Last.count_tops, Last.last_from, Last.writer_from, Last.writes_of, Start.Mark}
+use Rattle.arj_model.specs.{Start.Marks}
 
 -- ---- lists
 
@@ -69,10 +71,9 @@ before_last_one (x ∷ front) c all = ap (λ b. cond b (x ∷ filter (λ (w : Ca
     yes : (m n : ℕ) → m < n → nat_lt m n ≡ true
     yes m n l = grind (arith, nat_tests)
 
-last_writer_is : (front : List Call) (c : Call) → last_writer (front ++ c ∷ []) ≡ c.writer
-last_writer_is [] c = refl
-last_writer_is (x ∷ []) c = refl
-last_writer_is (x ∷ y ∷ front) c = last_writer_is (y ∷ front) c
+last_writer_is : (u : Uid) (front : List Call) (c : Call) → writer_from u (front ++ c ∷ []) ≡ c.writer
+last_writer_is u [] c = refl
+last_writer_is u (x ∷ front) c = last_writer_is x.writer front c
 
 -- ---- how many tops made calls
 
@@ -362,7 +363,11 @@ chain_version first (d ∷ ds) c = by (chain_version first ds c.1) d.plan.writes
 
 module _ (header : Header) (lines : List Line) (right : AreRight new_book lines) (tied : Ties (first_values header) lines) (x : ℕ)
     (first : Packed) (ds : List Done) (chain : Chain first ds) (plain : (d : Done) → words.In d ds → d.counts ≡ false → d.plan.writes
-    ≡ None) (decided : AreDecided header lines x ds) (first_is : first ≡ packed (state_after x (first_values header x) [])) where
+    ≡ None) (decided : AreDecided header lines x ds) (marks : Marks) (first_is : first ≡ marked (marks.states x)
+    (payload_of (first_values header x))) where
+  abbrev mark : Mark
+  mark = marks.states x
+
   abbrev values : Values
   values = first_values header
 
@@ -417,8 +422,13 @@ module _ (header : Header) (lines : List Line) (right : AreRight new_book lines)
       ∙ writers_length values lines right tied x counting decided.those decided.each
 
   state_is : (v : Value) (cs : List Call) → run values (serial_calls lines) x ≡ v → writes_of lines x ≡ cs →
-      packed (last_state header lines x) ≡ record { version = count_tops cs; writer = uid_number (last_writer cs); content = payload_of v }
-  state_is v cs e f = (λ i. record { version = count_tops (f i); writer = uid_number (last_writer (f i)); content = payload_of (e i) })
+      packed (last_from header marks lines x)
+      ≡ record { version = mark.version + count_tops cs; writer = uid_number (writer_from mark.writer cs); content = payload_of v }
+  state_is v cs e f = (λ i. record {
+    version = mark.version + count_tops (f i);
+    writer = uid_number (writer_from mark.writer (f i));
+    content = payload_of (e i);
+  })
 
   writes_same : writes_of lines x ≡ written
   writes_same = writes_are lines x order
@@ -433,17 +443,27 @@ module _ (header : Header) (lines : List Line) (right : AreRight new_book lines)
 
   -- nothing was written
   unwritten : ((u : Top) → In u decided.those → IsSilent values lines right tied x u) → last_in first counting ≡ first →
-      last_in first ds ≡ packed (last_state header lines x)
+      last_in first ds ≡ packed (last_from header marks lines x)
   unwritten silent same =
       let empty : written ≡ [] = none_written (committed_calls lines) (λ e i. by e i (writes_on x e) refl) in
-      sym by_counting ∙ same ∙ first_is ∙ sym (state_is (values x) [] (value_same ∙ ap (λ cs. run values cs x) empty) (writes_same ∙ empty))
+      sym by_counting ∙ same ∙ first_is ∙ (λ i. record {
+        version = zero i;
+        writer = uid_number mark.writer;
+        content = payload_of
+            (values x);
+      })
+      ∙ sym (state_is (values x) [] (value_same ∙ ap (λ cs. run values cs x) empty) (writes_same ∙ empty))
     where
+      zero : mark.version ≡ mark.version + 0
+      zero = omega arith
+
       by : (e : Call) → In e (committed_calls lines) → (b : Bool) → writes_on x e ≡ b → writes_on x e ≡ false
       by e i true is = let t = decided.all e (in_to e (committed_calls lines) i) is in silent t.0 (in_from t.0 decided.those t.1) e i t.2
       by e i false is = is
 
   -- the newest write
-  newest_write : IsNewest values lines right tied x first counting decided.those → last_in first ds ≡ packed (last_state header lines x)
+  newest_write : IsNewest values lines right tied x first counting decided.those →
+      last_in first ds ≡ packed (last_from header marks lines x)
   newest_write n = sym whole_state ∙ sym (state_is (left_by values lines c) (found.0 ++ c ∷ [])
       (value_same ∙ ap (λ cs. run values cs x) split ∙ value_left) (writes_same ∙ split))
     where
@@ -518,20 +538,20 @@ module _ (header : Header) (lines : List Line) (right : AreRight new_book lines)
           ∙ ap (λ cs. value_after c.op (run values cs c.x)) (sym before)
 
       whole_state : record {
-        version = count_tops (found.0 ++ c ∷ []);
-        writer = uid_number (last_writer (found.0 ++ c ∷ []));
+        version = mark.version + count_tops (found.0 ++ c ∷ []);
+        writer = uid_number (writer_from mark.writer (found.0 ++ c ∷ []));
         content = payload_of (left_by values lines c);
       } ≡ last_in first ds
       whole_state =
           let state : last_in first ds ≡ n.state = sym by_counting ∙ n.last_is in
-          let version : n.state.version ≡ count_tops (found.0 ++ c ∷ []) = ap (λ (p : Packed). p.version) (sym state) ∙ version_is
-          ∙ ap (λ (p : Packed). p.version + writes_in counting) first_is
-          ∙ (let e : 0 + writes_in counting ≡ writes_in counting = omega arith in e) ∙ sym count_of ∙ ap count_tops split in
+          let version : n.state.version ≡ mark.version + count_tops (found.0 ++ c ∷ []) = ap (λ (p : Packed). p.version) (sym state)
+          ∙ version_is ∙ ap (λ (p : Packed). p.version + writes_in counting) first_is
+          ∙ ap (λ m. mark.version + m) (sym count_of ∙ ap count_tops split) in
           let w = n.wrote in
-          let writer : n.state.writer ≡ uid_number (last_writer (found.0 ++ c ∷ [])) = w.2
-          ∙ ap uid_number (sym (last_writer_is found.0 c)) in
+          let writer : n.state.writer ≡ uid_number (writer_from mark.writer (found.0 ++ c ∷ [])) = w.2
+          ∙ ap uid_number (sym (last_writer_is mark.writer found.0 c)) in
           (λ i. record { version = sym version i; writer = sym writer i; content = sym w.3 i }) ∙ sym state
 
-  pub state_is_last : last_in first ds ≡ packed (last_state header lines x)
+  pub state_is_last : last_in first ds ≡ packed (last_from header marks lines x)
   state_is_last = ⊎_elim (λ none. unwritten none.0 none.1) (λ n. newest_write n)
       (find_newest values lines right tied x first counting decided.those decided.each decided.called)

@@ -1,10 +1,11 @@
 -- What the proofs take of a tie between a journal and a state of an object's machine.
 use Rattle.arj_law_parts.proofs.Words
 use Words.{◌≡◌, ℕ, ◌+◌, ◌==◌, List, [], ◌∷◌, true, false, inl, inr, refl, sym, ◌∙◌, subst, ⊎_elim, Contains, eqb-true, list_any, uid_is}
-use Words.{uid_eq, nobody, Uid, Line, In, in_to}
+use Words.{uid_eq, Uid, Line, In, in_to}
 use Rattle.arj_law_serial.proofs.Terms
 use Terms.{Act, Placed, committed, has_end, is_serial, recovered, Said, Values, IsDone, called, or_which, State, Run, start, Acts, Codes}
 use Terms.{AreCallsOf, EndsSo, IsDecidedAt, said_on, AreApart, Began, HasPlaces, IsTied}
+use Terms.machine
 use Terms.state
 use Rattle.arj_law_serial.proofs.order.Timely.{run_initial}
 use Rattle.arj_law_serial.specs.order.Tied.{AreTied}
@@ -24,7 +25,8 @@ pub record Tie (values : Values) (lines : List Line) (x : ℕ) (S : State) : Typ
   pub code : Codes
   pub codes : AreApart code
   pub places : HasPlaces act lines
-  pub run : Run (start (code (values x) (act nobody))) S
+  pub writer : machine.Act
+  pub run : Run (start (code (values x) writer)) S
   pub actions : (a : Act) → Began lines a → is_serial a.kind ≡ false → IsAsSaid lines a (S.action (act a.uid))
   pub calls : AreCallsOf act code (said_on x lines) S.calls
 
@@ -61,6 +63,7 @@ tie_of values lines x S t = let l = t.tied in record {
   code = t.code;
   codes = t.apart;
   places = t.places;
+  writer = l.writer;
   run = subst (λ n. Run (start n) S) (sym (run_initial t.run) ∙ l.first) t.run;
   actions = λ a began plain. as_said lines a (S.action (t.act a.uid)) (l.ends a began plain);
   calls = l.calls;

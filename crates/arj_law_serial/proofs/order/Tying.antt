@@ -1,7 +1,7 @@
 -- What a tie says of actions: which survive in the machine, by the journal.
 use Rattle.arj_law_parts.proofs.Words
 use Words.{◌≡◌, ℕ, ◌+◌, ◌&&◌, ◌||◌, not, List, [], ◌∷◌, Bool, true, false, cond, Some, None, refl, sym, ◌∙◌, ap, subst, inl, inr, ⊎_elim}
-use Words.{AllByRecursion, list_all, list_any, and_parts, uid_is, uid_same, is_on, last_uid, uid_eq, nobody, Uid, Body, Kind, Line, In}
+use Words.{AllByRecursion, list_all, list_any, and_parts, uid_is, uid_same, is_on, last_uid, uid_eq, Uid, Body, Kind, Line, In}
 use Words.{in_from, in_to}
 use Rattle.arj_law_serial.proofs.Terms
 use Terms.{Act, Placed, acts, acts_after, chain_in, committed, has_end, is_committed, is_serial, put, read, recovered, recovered_of, top_in}
@@ -168,7 +168,7 @@ module _ (values : Values) (lines : List Line) (right : AreRight new_book lines)
       let m = said_maker lines right s i in
       let caller = is.caller ∙ ap (λ p. tied.act (last p)) m.path_is
       ∙ ap tied.act (own_last (acts lines) sure.distinct sure.formed m.act m.there) in
-      let holds : Holds S = run_keeps tied.run (start_holds (tied.code (values x) (tied.act nobody))) in
+      let holds : Holds S = run_keeps tied.run (start_holds (tied.code (values x) tied.writer)) in
       let action = let h = holds.calls c j in h.acts in
       let plain = plain_is m.act m.there (ap is_action (sym caller) ∙ action) in
       let t = own_top (acts lines) sure.distinct sure.formed m.act m.there plain in

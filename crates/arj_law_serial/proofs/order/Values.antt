@@ -2,7 +2,7 @@
 use Rattle.arj_law_parts.proofs.Words
 use Words.{◌≡◌, ◌⊎◌, ◌<◌, ℕ, ◌==◌, ◌&&◌, ◌||◌, List, [], ◌∷◌, filter, Bool, true, false, cond, nat_lt, Option, Some, None, is_some, refl}
 use Words.{sym, ◌∙◌, ap, subst, inl, inr, ⊎_elim, arith, eqb-true, eq-eqb, AllByRecursion, cons_option, filter_map, list_any, nat_tests}
-use Words.{Value, answer_of, value_after, writes, Line, answer_text, In, in_filter, in_filter_map, nobody}
+use Words.{Value, answer_of, value_after, writes, Line, answer_text, In, in_filter, in_filter_map}
 use Rattle.arj_law_serial.proofs.Terms
 use Terms.{Act, Placed, committed, recovered, top_in, Said, call_of, committed_calls, kept, kept_in, said_of, Values, run, writes_on}
 use Terms.{Pairwise, not_below_itself, read_rises, new_book, AreRight, State, IsLast, Survives, newest, none, older, start_holds}
@@ -224,7 +224,7 @@ module _ (values : Values) (lines : List Line) (right : AreRight new_book lines)
   last_value : (p : ℕ) (ss : List (Placed Said)) (cs : List state.Call) → AreCallsOf tied.act tied.code ss cs → AreFrom ss cs →
       AllByRecursion (λ (s : Placed Said). s.at < p) ss → SawTheLast S cs
       → (v : ℕ) → IsLast S v cs → (a : machine.Act) × (tied.code (finally p ss) a ≡ v)
-  last_value p [] [] are there before saw v (none is) = (tied.act nobody, sym (run_initial tied.run) ∙ is)
+  last_value p [] [] are there before saw v (none is) = (tied.writer, sym (run_initial tied.run) ∙ is)
   last_value p [] (c ∷ cs) are there before saw v l = absurd are
   last_value p (s ∷ ss) [] are there before saw v l = absurd are
   last_value p (s ∷ ss) (c ∷ cs) are there before saw v (newest d write survived gives) =
@@ -332,8 +332,8 @@ module _ (values : Values) (lines : List Line) (right : AreRight new_book lines)
   pub met_call : (s : Placed Said) (c : state.Call) → ArePaired s c (said_on x lines) S.calls → Survives S c.act →
       IsMet s c (said_on x lines)
   met_call s c i survives =
-      let w = run_values tied.run (start_holds (tied.code (values x) (tied.act nobody)))
-      (start_values (tied.code (values x) (tied.act nobody))) in
+      let w = run_values tied.run (start_holds (tied.code (values x) tied.writer))
+      (start_values (tied.code (values x) tied.writer)) in
       met_at (said_on x lines) S.calls tied.calls
       (all_from (λ (z : Placed Said). In z (said lines)) (said_on x lines) (λ z j. (on_object x lines z j).0), each S.calls (λ c j. j))
       (said_falls x lines) (saw_the_last w.0 w.1) s c i survives

@@ -2,7 +2,7 @@
 use Rattle.arj_law_parts.proofs.Words
 use Words.{◌≡◌, ◌≢◌, ◌⊎◌, ◌<◌, ◌≤◌, ℕ, ◌+◌, ◌==◌, ◌&&◌, ◌||◌, List, [], ◌∷◌, filter, Bool, true, false, nat_lt, Option, Some, None, refl}
 use Words.{sym, ◌∙◌, ap, subst, inl, inr, ⊎_elim, arith, Contains, eqb-true, eq-eqb, AllByRecursion, cons_option, filter_map, and_parts}
-use Words.{uid_cases, uid_same, nobody, uid_eq, is_on, payload_of, value_after, writes, Line, In, in_from, in_to, uid_number}
+use Words.{uid_cases, uid_same, uid_eq, is_on, payload_of, value_after, writes, Line, In, in_from, in_to, uid_number}
 use Rattle.arj_law_serial.proofs.Terms
 use Terms.{Act, Placed, acts, committed, has_end, is_serial, recovered, uids, Said, Top, call_of, committed_calls, kept, tops, uid_of_id}
 use Terms.{Values, run, writes_on, is_top, new_book, called, AreRight, one_act, AreSound, its_sound, is_action, on, top, Alive, State}
@@ -55,11 +55,11 @@ module _ (values : Values) (lines : List Line) (right : AreRight new_book lines)
   sound = its_sound lines right
 
   right_votes : VotesAreRight S
-  right_votes = let k = run_votes its.run (start_holds (t.code (values x) (t.act nobody))) (start_values (t.code (values x) (t.act nobody)))
-      (start_votes (t.code (values x) (t.act nobody))) in votes_are_right k.0 k.1
+  right_votes = let k = run_votes its.run (start_holds (its.code (values x) its.writer)) (start_values (its.code (values x) its.writer))
+      (start_votes (its.code (values x) its.writer)) in votes_are_right k.0 k.1
 
   alive_of : (a : machine.Act) → Survives S a → Alive S a
-  alive_of a survives = lives S (roots_low its.run (start_low (t.code (values x) (t.act nobody)))) a survives
+  alive_of a survives = lives S (roots_low its.run (start_low (its.code (values x) its.writer))) a survives
 
   -- ---- the newest call of a top
 

@@ -1,14 +1,15 @@
 -- Who was told to have ended has ended where it began: at all nodes, and by every message that was sent.
 use Rattle.arj_law_parts.proofs.Words
+use Words.{node_by}
 use Words.{◌≡◌, ◌≢◌, ◌+◌, ◌==◌, arith, ℕ, zero, suc, List, [], ◌∷◌, ◌++◌, length, map, Bool, true, false, cond, Option, Some, None}
 use Words.{Contains, refl, sym, ◌∙◌, ap, subst, inl, inr, ⊎_elim, eqb-true, ⊤, is_some, slice_get, AllByRecursion, flat_map, and_parts}
 use Words.{in_from, in_to, Asked, Body, End, Header, Kind, Label, Message, ObjectState, Row, Uid, is_on, uids_of, Reply, again_all}
 use Words.{began_line, begin_action, heard, back_lines, recovered_naming, Coord, Copy, Abort, Commit, Disk, Do, Effect, InPart, After}
 use Words.{Before, Intent, Look, Prepare, PutInc, PutIntent, RemoveIntent, Say, Send, Stop, Work, stopped, worked, acked, answer_query}
 use Words.{tick_outs, Named, Naming, Parts, Took, handle, holders, prepared_actions, query_about, with_coord, uid_set, without_number}
-use Words.{Input, Node, acts as acts_of, first_disk, first_node, hello_to, naming_at, naming_back, numbers_to, parent_of, parts_in}
+use Words.{Input, Node, acts as acts_of, hello_to, naming_at, naming_back, numbers_to, parent_of, parts_in}
 use Words.{recovered_records, refusal_up, restart_outs, tolds_again, Branch, at_place, branch_of, is_own, new_tree, next_uid, path_below}
-use Words.{Labelled, format, is_serial_kind, acked_own, acts_own, again_own, heard_own, query_own, Post, Seen, see}
+use Words.{Labelled, is_serial_kind, acked_own, acts_own, again_own, heard_own, query_own, Post, Seen}
 use Words.list
 use Words.body
 use Words.ending
@@ -16,6 +17,7 @@ use Words.message
 use Words.role
 use Words.input
 use Rattle.arj_law_serial.proofs.Terms
+use Terms.{IsAtStarts, disk_by, live_first}
 use Terms.{Action, AreBegun, IsNew, action_of, act_of, paths_of, IsGoodCoord, IsTree, AllSayEnds, AreOfCommits, Decides, IsSure}
 use Terms.{IsSurelyHandled, IsTrulyHandled, AreOfTops, IsDecided, begun_tree, on_own, path_found, stand_acts, stand_again, surely_handled}
 use Terms.{none_in, good_heard, found_by, get_more, all_both, all_map, truly_handled, true_query, well_acked, well_acts, well_again}
@@ -620,17 +622,22 @@ module _ (acts : List Action) (hd : Header) (e k : ℕ) (d : Disk) (M : Seen) (g
   I = live_put k (Some anew) M.nodes
 
   restart_past : Walks (ArePastIn acts) e k (restart_outs hd k (d.inc + 1) d) (Up (ArePastIn acts) k anew) d M
-  restart_past = walk acts e k anew (restart_outs hd k (d.inc + 1) d) d M (starts_told acts good.begun I k (d.inc + 1) d b) (λ j n off is.
-      node_to acts (live_put k None M.nodes) I to j n (h.0 j n off is)) (λ p i. says_to acts (live_put k None M.nodes) I to p (h.1 p i)) b
-      (all_both P four hellos (all_both P three queries
-      (all_both P two tolds (all_both P one records (tt, (tt, (tt, (tt, back_all P (λ b. tt) (naming_at k (d.inc + 1) d.names)))))
-      (tt, all_map P (λ (e : Uid × Intent). Say (body.Recovered k e.0)) d.intents (λ e. tt)))
-      (effects acts k anew M.nodes now tolds (sure_records (new_tree k (d.inc + 1)) d.intents now.sure.records)
-      (tell_records (IsOwnNamed acts k) d.intents (records_named acts k d.intents disk.tops owned)) (again_means acts d.intents)))
-      (effects acts k anew M.nodes now queries (says_queries (new_tree k (d.inc + 1)) us) (tell_queries (IsOwnNamed acts k) us)
-      (queries_mean acts us prepared)))
-      (all_map P (hello_to k (d.inc + 1)) (without_number k (numbers_to hd.nodes))
-      (λ w. record { told = λ u e i. none_in u e i; brings = λ u e i. none_in u e i; asks = tt })))
+  restart_past = (
+    λ how. down_past acts e k (stopped how Look d) (Some anew) M others posts (both_stopped acts how Look d tt b),
+    (
+      λ how. down_past acts e k (stopped how (PutInc (d.inc + 1)) d) (Some anew) M others posts (rises how),
+      walk acts e k anew (four ++ hellos) (record d { inc = d.inc + 1 }) M (starts_told acts good.begun I k (d.inc + 1) d b) others posts b
+          (all_both P four hellos (all_both P three queries
+          (all_both P two tolds (all_both P one records (tt, (tt, back_all P (λ b. tt) (naming_at k (d.inc + 1) d.names)))
+          (tt, all_map P (λ (e : Uid × Intent). Say (body.Recovered k e.0)) d.intents (λ e. tt)))
+          (effects acts k anew M.nodes now tolds (sure_records (new_tree k (d.inc + 1)) d.intents now.sure.records)
+          (tell_records (IsOwnNamed acts k) d.intents (records_named acts k d.intents disk.tops owned)) (again_means acts d.intents)))
+          (effects acts k anew M.nodes now queries (says_queries (new_tree k (d.inc + 1)) us) (tell_queries (IsOwnNamed acts k) us)
+          (queries_mean acts us prepared)))
+          (all_map P (hello_to k (d.inc + 1)) (without_number k (numbers_to hd.nodes))
+          (λ w. record { told = λ u e i. none_in u e i; brings = λ u e i. none_in u e i; asks = tt }))),
+    ),
+  )
     where
       P : Effect → Type 0
       P = EffectPast acts I k
@@ -648,6 +655,17 @@ module _ (acts : List Action) (hd : Header) (e k : ℕ) (d : Disk) (M : Seen) (g
 
       to : (u : Uid) → IsPast acts (live_put k None M.nodes) u → IsPast acts I u
       to = put_on acts k None (Some anew) M.nodes (λ u n c x is. none u x (is_own u (new_tree k (d.inc + 1))) u.num is)
+
+      rises : (how : Stop) → Both acts (stopped how (PutInc (d.inc + 1)) d)
+      rises Before = b
+      rises After = b
+      rises (InPart which) = b
+
+      others : Others acts I k M
+      others j n off is = node_to acts (live_put k None M.nodes) I to j n (h.0 j n off is)
+
+      posts : (p : Post) → In p M.sent → SaysPast acts I p
+      posts p i = says_to acts (live_put k None M.nodes) I to p (h.1 p i)
 
       now : IsFine acts k anew.coord
       now = fine_end acts e k anew (restart_outs hd k (d.inc + 1) d) d M (restart_good hd e k d M (acts, good))
@@ -672,7 +690,7 @@ module _ (acts : List Action) (hd : Header) (e k : ℕ) (d : Disk) (M : Seen) (g
           d.store) (prepared_actions d.names) (all_keys (IsBegun acts) d.store.pend b.0) (all_keys (IsBegun acts) d.names.pend b.1))
 
       one : List Effect
-      one = Do Look ∷ Do (PutInc (d.inc + 1)) ∷ Say (body.Up k (d.inc + 1)) ∷ Do Look ∷ naming_back (naming_at k (d.inc + 1) d.names)
+      one = Say (body.Up k (d.inc + 1)) ∷ Do Look ∷ naming_back (naming_at k (d.inc + 1) d.names)
 
       records : List Effect
       records = Do Look ∷ recovered_records k d.intents
@@ -695,18 +713,19 @@ module _ (acts : List Action) (hd : Header) (e k : ℕ) (d : Disk) (M : Seen) (g
       hellos : List Effect
       hellos = map (hello_to k (d.inc + 1)) (without_number k (numbers_to hd.nodes))
 
-first_past : (hd : Header) → ArePastIn [] (see [] (format hd))
-first_past hd = record {
+first_past : (hd : Header) → IsAtStarts hd (ArePastIn [])
+first_past hd st formed = record {
   posts = λ p i. absurd i;
-  nodes = λ k n is. subst (IsPastNode [] L k) (first_at hd k n is) (record {
+  nodes = λ k n is. subst (IsPastNode [] L k) (first_at hd st k n is) (record {
     store = tt;
     names = tt;
-    live = λ t up_it. subst (ToldPast [] L k) (some_is up_it) (starts_told [] tt L k 1 (first_disk hd k) (tt, tt));
+    live = λ t up_it.
+        subst (ToldPast [] L k) (live_first hd st k t up_it) (starts_told [] tt L k (st.incs k + 1) (disk_by hd st k) (tt, tt));
   });
 }
   where
     L : ℕ → Option Parts
-    L j = live_in (at_place j (map (first_node hd) (numbers_to hd.nodes)))
+    L j = live_in (at_place j (map (node_by hd st) (numbers_to hd.nodes)))
 
 -- ---- in every run
 

@@ -12,7 +12,7 @@ use Terms.{Values, Root, is_action, on, root, State, on_root as same_unit, top_a
 use Terms.{act_of, paths_of, IsGoodCoord, IsOver, IsDecided, begun_tree, one_action, path_found, work_there, IsMemory, IsUp, same_number}
 use Terms.{book, is_decided, new_book, AreAlike, AreRight, has_act, sane_lines, sane_new, act_there, is_book, its_acts, AreRecorded}
 use Terms.{IsRooted, root_on, KnowsParted, EndsSo, IsTiedToLines, IsPlaced, stage_of, SeesNamingIn, SeesNaming, AreOneTree, IsConfirmedNow}
-use Terms.{IsSeenIn, IsToldAbort, Spot, server_at, world_at, BeginsAs, Fixed, view_of, case_of, IsPast, SeesDown, SeesMemory, SeesUp}
+use Terms.{IsSeenIn, IsToldAbort, Spot, server_at, world_at, StandsFor, Fixed, view_of, case_of, IsPast, SeesDown, SeesMemory, SeesUp}
 use Terms.{AbortsAreKnown, IsAbortTold, IsPartAsked, AcksAreKnown}
 use Rattle.arj_law_lock.specs.machine.Actions.{is_top}
 use Rattle.arj_law_lock_view.proofs.facts.Confirms.{own_top}
@@ -38,7 +38,7 @@ owned (b ∷ begun) (x ∷ xs) alike a (inr i) = let r = owned begun xs alike.3 
 
 module _ (f : Fixed) (x : ℕ) (begun : List Action) (S : State) (s : Spot) (seen : IsSeenIn (case_of f x begun S) (world_at s))
     (parted : KnowsParted begun (world_at s)) (records : AreRecorded begun (world_at s)) (knows : AbortsAreKnown begun (world_at s))
-    (begins : (values : Values) × BeginsAs values x f) where
+    (begins : (values : Values) × StandsFor f (values x)) where
   abbrev M : Seen
   M = s.seen
 

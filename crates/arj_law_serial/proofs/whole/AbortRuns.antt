@@ -6,13 +6,14 @@ use Words.{inl, inr, ⊎_elim, Option, Some, None, Contains, is_some, and_parts,
 use Words.{Label, Message, Uid, asks, first_uid, is_on, uids_of, Reply, actor, asked_by, response, again_all, begin_action, heard, Coord}
 use Words.{Disk, Do, Effect, Intent, Look, PutInc, PutIntent, Say, Send, acked, answer_query, tick_outs, Parts, Took, handle, holders}
 use Words.{query_about, with_coord, at_uid, AreAll, Input, Node, acts, parent_of, parts_in, refusal_up, restart_outs, tolds_again, Tree}
-use Words.{branch_of, is_own, root_of, format, is_serial_kind, Post, Seen, see}
+use Words.{branch_of, is_own, root_of, is_serial_kind, Post, Seen}
 use Words.ending
 use Words.kind
 use Words.message
 use Words.effect
 use Words.input
 use Rattle.arj_law_serial.proofs.Terms
+use Terms.{IsAtStarts}
 use Terms.{Action, AreBegun, action_of, act_of, paths_of, IsCommitting, IsGoodCoord, IsOver, IsTree, Decides, IsSure, IsSurelyHandled}
 use Terms.{IsDecided, IsTopAction, begun_tree, on_own, one_action, serial_alone, where_stands, stand_acts, stand_again, surely_handled}
 use Terms.{none_in, at_in, IsTrulyHandled, truly_handled, well_acts, well_again, work_there, IsGoodOf, IsUp, begin_good, act_good}
@@ -369,8 +370,8 @@ restart_walk hd begun e k d M good all = start_walk begun k (parts_in k (d.inc +
 
 -- ---- all runs
 
-aborts_first : (hd : Header) → AbortsAreKnown [] (see [] (format hd))
-aborts_first hd = record {
+aborts_first : (hd : Header) → IsAtStarts hd (AbortsAreKnown [])
+aborts_first hd st formed = record {
   told = λ u to p. absurd p.1;
   confirms = λ p h a there. absurd there;
   up = λ j n t is up_it u to p. absurd p.1;

@@ -4,12 +4,13 @@ use Words.{◌≡◌, ◌≤◌, ◌+◌, ◌==◌, ◌∙◌, ◌&&◌, arith, 
 use Words.{refl, sym, ap, subst, inl, inr, eqb-true, AllByRecursion, and_parts, in_from, in_to, Ask, Body, Head, Header, Kind, Label, Uid}
 use Words.{asks, before_last, first_uid, is_on, uids_of, actor, began_line, begin_action, back_lines, Coord, Did, Disk, Do, Effect, Intent}
 use Words.{Look, PutInc, Say, Named, Naming, Parts, prepared_actions, query_about, with_coord, has, uid_set, without_number, begin_refusal}
-use Words.{first_disk, hello_to, naming_at, naming_back, numbers_to, parent_of, parts_in, recovered_records, restart_outs, tolds_again}
-use Words.{Branch, branch_of, is_own, next_uid, format, is_serial_kind, Post, Seen, see}
+use Words.{hello_to, naming_at, naming_back, numbers_to, parent_of, parts_in, recovered_records, restart_outs, tolds_again}
+use Words.{Branch, branch_of, is_own, next_uid, is_serial_kind, Post, Seen}
 use Words.list
 use Words.body
 use Words.kind
 use Rattle.arj_law_serial.proofs.Terms
+use Terms.{IsAtStarts, live_first}
 use Terms.{Action, AreBegun, IsNew, act_of, paths_of, IsGoodCoord, on_own, path_found, path_some, found_by, all_both, all_flat, all_map}
 use Terms.{IsGoodOf, begin_good, its_uid, good_coord, it, MayGive, label_at, In, down, given, said, up, Up, Walks, quiet_again, AllQuiet}
 use Terms.{node_here, first_at, IsRecorded, KeepsOf, begins_in, KnowsParted, asks_part, IsTopOf, parted_keep, IsPartAsked, AcksAreKnown}
@@ -214,8 +215,8 @@ module _ (hd : Header) (few : Bool) (begun : List Action) (e k : ℕ) (d : Disk)
 
 -- ---- all runs
 
-first_acks : (hd : Header) (few : Bool) → AcksAreKnown few [] (see [] (format hd))
-first_acks hd few = record {
+first_acks : (hd : Header) (few : Bool) → IsAtStarts hd (AcksAreKnown few [])
+first_acks hd few st formed = record {
   homes = tt;
   world = record {
     listed = λ u i k is v. absurd v.there;
@@ -223,8 +224,8 @@ first_acks hd few = record {
     aborts = λ p w u there told part v r. absurd there;
     asked = λ u k a. absurd a.posted;
   };
-  nodes = λ k n is. subst (KnowsAcks few [] k) (first_at hd k n is)
-      (λ t live. subst (KnowsAcked few [] k (first_disk hd k).intents) (some_is live) (record {
+  nodes = λ k n is. subst (KnowsAcks few [] k) (first_at hd st k n is)
+      (λ t live. subst (KnowsAcked few [] k []) (live_first hd st k t live) (record {
         voted = λ u on. let no_way : false ≡ true = on in absurd (cc no_way);
         acked = λ counted u a. absurd a.posted;
         awaited = λ u j i m telling at on isnt. absurd (never (ap (λ (y : Intent). has y.nodes m) (some_is (sym telling ∙ at)) ∙ on) isnt);

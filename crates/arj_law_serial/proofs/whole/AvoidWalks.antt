@@ -1,13 +1,14 @@
 -- Each handler keeps what coordinators avoid.
 use Rattle.arj_law_parts.proofs.Words
-use Words.{◌≡◌, ◌≢◌, ◌⊎◌, ◌+◌, ◌==◌, ◌∙◌, ℕ, zero, suc, Bool, true, false, cond, List, [], ◌∷◌, Option, Some, None, refl, sym, ap, subst}
-use Words.{inl, inr, ⊎_elim, map, slice_get, Binding, Header, Kind, Label, Message, asks, again_all, begin_action, Coord, Disk, Do, Effect}
-use Words.{Say, Send, stopped, worked, tick_outs, Parts, Took, handle, with_coord, unbound, Input, Node, acts as acts_of, first_disk}
-use Words.{first_node, numbers_to, parent_of, parts_in, refusal_up, restart_outs, at_place, format, is_serial_kind, request_reads_back}
-use Words.{Post, Seen, see}
+use Words.{◌≡◌, ◌≢◌, ◌⊎◌, ◌+◌, ◌==◌, ◌∙◌, ℕ, Bool, true, false, cond, List, [], ◌∷◌, Option, Some, None, refl, sym, ap, subst}
+use Words.{inl, inr, ⊎_elim, Binding, Header, Kind, Label, Message, asks, again_all, begin_action, Coord, Disk, Do, Effect}
+use Words.{Say, Send, stopped, worked, tick_outs, Parts, Took, handle, with_coord, unbound, Input, Node, acts as acts_of}
+use Words.{parent_of, parts_in, refusal_up, restart_outs, is_serial_kind, request_reads_back}
+use Words.{Post, Seen}
 use Words.ask
 use Words.input
 use Rattle.arj_law_serial.proofs.Terms
+use Terms.{IsAtStarts, first_up}
 use Terms.{Action, IsGoodOf, good_coord, it, other_number, same_number, is_act, In, at, given, posted, said, up, Up, Walks, halted}
 use Terms.{BindsAreKnown, answers_fit, KeepsOf, Place, Avoids, AvoidsAreKnown, WasAvoided}
 use Rattle.arj_law_serial.proofs.whole
@@ -161,21 +162,9 @@ module _ (begun : List Action) (e k : ℕ) (d : Disk) (t : Parts) (M : Seen) (bo
 
 -- ---- at first
 
-first_avoids : (hd : Header) → AvoidsAreKnown (see [] (format hd))
-first_avoids hd k n t is live = by k is
-  where
-    got : (ms : List ℕ) (i : ℕ) (n : Node) → slice_get (map (first_node hd) ms) i ≡ Some n → (a : ℕ) × (first_node hd a ≡ n)
-    got [] i n is = none_at refl is
-    got (m ∷ ms) zero n is = (m, some_is is)
-    got (m ∷ ms) (suc i) n is = got ms i n is
-
-    by : (j : ℕ) → at_place j (map (first_node hd) (numbers_to hd.nodes)) ≡ Some n → Avoids (WasAvoided []) t.coord
-    by zero e = none_at refl e
-    by (suc j) e =
-        let a = got (numbers_to hd.nodes) j n e in
-        let same : parts_in a.0 1 (first_disk hd a.0) ≡ t = some_is (ap (λ (z : Node). z.live) a.1 ∙ live) in
-        subst (λ (z : Parts). Avoids (WasAvoided []) z.coord) same
-        (avoids_new (WasAvoided []) (none_was []) a.0 1 (let c = first_disk hd a.0 in c.intents))
+first_avoids : (hd : Header) → IsAtStarts hd AvoidsAreKnown
+first_avoids hd st formed k n t is live = subst (λ (z : Parts). Avoids (WasAvoided []) z.coord) (first_up hd st k n t is live)
+    (avoids_new (WasAvoided []) (none_was []) k (st.incs k + 1) [])
 
 pub avoids_of : (hd : Header) → KeepsOf hd (λ acts M. BindsAreKnown M) (λ acts M. AvoidsAreKnown M)
 avoids_of hd = record {

@@ -1,14 +1,15 @@
 -- Each handler keeps that calls and includes are of objects of the header, and includes of its nodes.
 use Rattle.arj_law_parts.proofs.Words
-use Words.{◌≡◌, ◌≢◌, ◌+◌, ◌==◌, ◌∙◌, ◌++◌, eqb-true, ⊎_elim, ℕ, zero, suc, Bool, true, false, cond, List, [], ◌∷◌, Option, Some, None, refl}
-use Words.{sym, ap, subst, map, inl, inr, is_some, slice_get, AllByRecursion, list_all, list_any, and_parts, or_cases, In as Listed, Body}
+use Words.{◌≡◌, ◌≢◌, ◌+◌, ◌==◌, ◌∙◌, ◌++◌, eqb-true, ⊎_elim, ℕ, Bool, true, false, cond, List, [], ◌∷◌, Option, Some, None, refl}
+use Words.{sym, ap, subst, inl, inr, is_some, AllByRecursion, list_all, list_any, and_parts, or_cases, In as Listed, Body}
 use Words.{Header, Kind, Label, Line, Message, Op, again_all, begin_action, Goal, Include, Run, Disk, Do, Effect, Say, Send, stopped}
-use Words.{worked, tick_outs, Parts, Took, handle, with_coord, Input, Node, acts as acts_of, class_at, first_disk, first_node, lacks_op}
-use Words.{numbers_to, parent_of, parts_in, refusal_up, restart_outs, at_place, format, is_serial_kind, numbered, Seen, see, Coord}
+use Words.{worked, tick_outs, Parts, Took, handle, with_coord, Input, Node, acts as acts_of, class_at, lacks_op}
+use Words.{parent_of, parts_in, refusal_up, restart_outs, is_serial_kind, numbered, Seen, Coord}
 use Words.body
 use Words.commit
 use Words.input
 use Rattle.arj_law_serial.proofs.Terms
+use Terms.{IsAtStarts, first_up}
 use Terms.{Act, Placed, acts_after, put, read, Said, said_of, Inclusion, included, included_of, Action, AnswersWaiting, BindsAreKnown}
 use Terms.{answers_fit, binds_keep, all_append, IsGood, IsGoodOf, good_coord, it, other_number, same_number, is_act, AreQuiet, In, at}
 use Terms.{given, is_quiet_line, posted, said as said_lines, up, Up, Walks, halted, walks_both, HasObject, Place, IsCalled, IsIncluded}
@@ -150,21 +151,12 @@ module _ (P : ℕ → Goal → Type 0) (O : ℕ → Type 0) where
         t) (tick_fine (SaysOf P) (plain_says P) (record { number = k; disk = d; live = Some t }) t)
         (wait_again P M.sent k t.coord place own.0, uses_again O M.sent k t.coord place own.1)
 
-  first_so : (hd : Header) → CallsOf P O (see [] (format hd))
-  first_so hd = record { works = λ k n t is live. by n t live k is; lines = tt }
-    where
-      got : (ms : List ℕ) (i : ℕ) (n : Node) → slice_get (map (first_node hd) ms) i ≡ Some n → (a : ℕ) × (first_node hd a ≡ n)
-      got [] i n is = none_at refl is
-      got (m ∷ ms) zero n is = (m, some_is is)
-      got (m ∷ ms) (suc i) n is = got ms i n is
-
-      by : (n : Node) (t : Parts) → n.live ≡ Some t → (j : ℕ) → at_place j (map (first_node hd) (numbers_to hd.nodes)) ≡ Some n →
-          AsksOf t.coord
-      by n t live zero e = none_at refl e
-      by n t live (suc j) e =
-          let a = got (numbers_to hd.nodes) j n e in
-          let same : parts_in a.0 1 (first_disk hd a.0) ≡ t = some_is (ap (λ (z : Node). z.live) a.1 ∙ live) in
-          subst (λ (z : Parts). AsksOf z.coord) same (wait_new P a.0 1 (let c = first_disk hd a.0 in c.intents), tt)
+  first_so : (hd : Header) → IsAtStarts hd (CallsOf P O)
+  first_so hd st formed = record {
+    works = λ k n t is live.
+        subst (λ (z : Parts). AsksOf z.coord) (first_up hd st k n t is live) (wait_new P k (st.incs k + 1) [], tt);
+    lines = tt;
+  }
 
 -- each handler keeps it, beside good nodes and known Binds
 pub calls_keep : (hd : Header) → KeepsAsked hd (λ M. (IsGood M × BindsAreKnown M) × CallsAreOfHeader hd M)
@@ -195,7 +187,7 @@ calls_keep hd = record {
   restart = λ e k d M g. beside e k (restart_outs hd k (d.inc + 1) d) (parts_in k (d.inc + 1) d) d M (base.restart e k d M g.0)
       (walk P O e k (parts_in k (d.inc + 1) d) (restart_outs hd k (d.inc + 1) d) d M (restart_fine (SaysOf P) (plain_says P) hd k
       (d.inc + 1) d) (wait_new P k (d.inc + 1) d.intents, tt) (others_of P O k d None M g.1) (let p = g.1 in p.lines));
-  first = (base.first, first_so P O hd);
+  first = λ st formed. (base.first st formed, first_so P O hd st formed);
 }
   where
     P : ℕ → Goal → Type 0

@@ -5,18 +5,19 @@ use Words.{inl, inr, ⊎_elim, Contains, arith, is_some, is_eq, or_left, uid_ord
 use Words.{Binding, Header, Kind, Label, Message, ObjectState, Row, Uid, before_last, entry, first_uid, is_held_by, is_on, last_uid, uid_eq}
 use Words.{uids_of, Reply, actor, answers, given_away, renewed, AtActivate, Known, Steps, Calling, Coord, Doing, Keeping, doing_of, is_free}
 use Words.{keeping_of, kept_of, root_at, Copy, Disk, Effect, held_at, Named, Naming, Parts, with_coord, at_number, at_uid, binding_number}
-use Words.{unbound, Input, Node, acts, first_disk, refusal_up, Branch, branch_of, root_of, Seen}
+use Words.{unbound, Input, Node, acts, refusal_up, Branch, branch_of, root_of, Seen}
 use Words.ask
 use Words.kind
 use Words.message
 use Words.input
 use Rattle.arj_law_serial.proofs.Terms
+use Terms.{disk_by}
 use Terms.{Values, on, root, State, on_root as same_unit, Action, act_of, action_of, paths_of, Reach, AreOfTops, IsTopAction, begun_tree}
 use Terms.{one_action, path_found, named_found, at_in, order_itself, IsGood, IsGoodOf, good_coord, it, tops_of_disk, same_number, is_act}
 use Terms.{In, down, up, Up, BindsAreKnown, AreSaid, HasFewBindings, LivesRun, PassesAll, PassesIn, KnowsFew, KnowsRun, KeepsGiven, home_in}
 use Terms.{is_home, IsEntryRow, IsRooted, Stood, stood, SeesNamingIn, SeesNaming, SeesRoot, root_there, HasObject, HoldsEntry, AreUppersOf}
 use Terms.{WorksAreKnown, Place, copies_listed, works_keep, Case, IsConfirmedNow, IsSeenIn, KnowsSpot, Spot, server_at, view_in, world_at}
-use Terms.{coord_at, BeginsAs, Fixed, GivesLocks, HasCome, case_of, IsAskedSeen, IsRequestSeen, steady, Avoids, WasAvoided, GivesRest}
+use Terms.{coord_at, StandsFor, Fixed, GivesLocks, HasCome, case_of, IsAskedSeen, IsRequestSeen, steady, Avoids, WasAvoided, GivesRest}
 use Terms.{KnowsWhole}
 use Rattle.arj_law_lock_view.proofs.facts
 use facts.{Entries.entries_found, Entries.first_there, Given.new_root, GoodNaming.objects_good, Uppers.nested_nothing}
@@ -367,7 +368,7 @@ module _ (hd : Header) (x : ℕ) (has : HasObject hd x) (E : List Action → See
 
     -- ---- naming and servers
 
-    module _ (Y : List Action → State → Seen → Type 0) (begins : (values : Values) × BeginsAs values x f)
+    module _ (Y : List Action → State → Seen → Type 0) (begins : (values : Values) × StandsFor f (values x))
         (rest : GivesRest f x (λ b T N. Known_all b N × Y b T N)) (more : Y begun S (world_at s)) where
       spot : KnowsSpot c s
       spot = record {
@@ -421,7 +422,7 @@ module _ (hd : Header) (x : ℕ) (has : HasObject hd x) (E : List Action → See
         grown a b less (inl same) = omega (arith, less, same)
         grown a b less (inr one) = omega (arith, less, one)
 
-  pub gives_locks : (Y : List Action → State → Seen → Type 0) → ((values : Values) × BeginsAs values x f) →
+  pub gives_locks : (Y : List Action → State → Seen → Type 0) → ((values : Values) × StandsFor f (values x)) →
       GivesRest f x (λ b T N. Known_all b N × Y b T N) → GivesLocks hd f x (λ b T N. Known_all b N × Y b T N)
   gives_locks Y begins rest = record {
     holds = λ begun S s knows seen. holds begun S s knows.0 seen;
@@ -435,7 +436,7 @@ module _ (hd : Header) (x : ℕ) (has : HasObject hd x) (E : List Action → See
     tick = λ begun S s knows seen. let w = works begun S s knows.0 seen in
         (knows_asks begun S s knows.0 seen, w.ends, tells begun S s knows.0 seen);
     restart = λ begun S k d M knows seen is inc. entries_found x inc d.names (entry_at k d M knows.0.1.0.entry is);
-    first = λ is inc. entries_found x inc (let d = first_disk hd 1 in d.names) (first_there x hd has);
+    first = λ st formed is inc. entries_found x inc (let d = disk_by hd st 1 in d.names) (first_there x st hd has);
   }
     where
       entry_at : (k : ℕ) (d : Disk) (M : Seen) → HoldsEntry x (down k d M) → k ≡ 1 → is_some (held_at (entry x) d.names) ≡ true

@@ -75,7 +75,7 @@ module _ (hd : Header) (G R Q : List Action → Seen →
         (two.tick begun e k d t M (more, p.0) good p.1);
     restart = λ begun e k d M more good p. both_walk begun e k (restart_outs hd k (d.inc + 1) d) (parts_in k (d.inc + 1) d) d M
         (one.restart begun e k d M (more, p.1) good p.0) (two.restart begun e k d M (more, p.0) good p.1);
-    first = (one.first, two.first);
+    first = λ st formed. (one.first st formed, two.first st formed);
   }
 
 -- the same relation in other words
@@ -103,5 +103,5 @@ module _ (hd : Header) (G R Q : List Action → Seen → Type 0) (to : (begun : 
         (with_coord t (again_all t.coord.doings t.coord).part) d M (one.tick begun e k d t M more good (from begun _ p));
     restart = λ begun e k d M more good p. to_walk begun e k (restart_outs hd k (d.inc + 1) d) (parts_in k (d.inc + 1) d) d M
         (one.restart begun e k d M more good (from begun _ p));
-    first = to [] _ one.first;
+    first = λ st formed. to [] _ (one.first st formed);
   }

@@ -1,18 +1,19 @@
 -- Each handler keeps who is asked about, and who has something prepared at a store.
 use Rattle.arj_law_parts.proofs.Words
-use Words.{◌≡◌, ◌≢◌, ◌+◌, ◌==◌, ◌∙◌, ◌++◌, ℕ, zero, suc, Bool, true, false, cond, List, [], ◌∷◌, length, Option, Some, None, refl, sym, ap}
-use Words.{subst, inl, inr, map, Contains, slice_get, AllByRecursion, flat_map, End, Header, Kind, Label, Message, ObjectState, Uid, asks}
+use Words.{◌≡◌, ◌≢◌, ◌+◌, ◌==◌, ◌∙◌, ◌++◌, ℕ, Bool, true, false, cond, List, [], ◌∷◌, length, Option, Some, None, refl, sym, ap}
+use Words.{subst, inl, inr, map, Contains, AllByRecursion, flat_map, End, Header, Kind, Label, Message, ObjectState, Uid, asks}
 use Words.{again_all, begin_action, heard, back_lines, Copy, Abort, After, Before, Commit, Disk, Do, Effect, InPart, Intent, Look, Prepare}
 use Words.{PutInc, PutIntent, RemoveIntent, Say, Send, Stop, Work, stopped, worked, acked, answer_query, tell_all, tick_outs, Named, Naming}
 use Words.{Parts, Took, handle, holders, prepared_actions, query_about, with_coord, at_number, uid_set, without_number, Input, Node}
-use Words.{acts as acts_of, first_node, hello_to, naming_at, naming_back, numbers_to, parent_of, parts_in, recovered_records, refusal_up}
-use Words.{restart_outs, tolds_again, at_place, format, is_serial_kind, acked_own, acts_own, again_own, heard_own, query_own}
-use Words.{tolds_again_own, Post, Seen, see}
+use Words.{acts as acts_of, hello_to, naming_at, naming_back, numbers_to, parent_of, parts_in, recovered_records, refusal_up}
+use Words.{restart_outs, tolds_again, is_serial_kind, acked_own, acts_own, again_own, heard_own, query_own}
+use Words.{tolds_again_own, Post, Seen}
 use Words.body
 use Words.ending
 use Words.role
 use Words.input
 use Rattle.arj_law_serial.proofs.Terms
+use Terms.{IsAtStarts, first_at}
 use Terms.{Action, AreBegun, paths_of, IsTree, Paths, IsGoodCoord, IsTopAction, IsGoodNode, begun_tree, path_found, good_heard, all_map}
 use Terms.{true_query, well_acked, well_acts, well_again, well_heard, IsGoodOf, IsUp, it, own_of_disk, tops_of_disk, other_number}
 use Terms.{same_number, is_act, In, at, given, posted, said, up, Up, Walks, halted, KnowsFew, asked_about, all_each, all_put, all_without}
@@ -262,17 +263,11 @@ stores_more a acts k M o = record {
 
 -- ---- at first
 
-first_tops : (hd : Header) → TopsAreKnown [] (see [] (format hd))
-first_tops hd = record { stores = λ k n is. by k n is; sent = λ p none. absurd none }
-  where
-    got : (ms : List ℕ) (i : ℕ) (n : Node) → slice_get (map (first_node hd) ms) i ≡ Some n → (a : ℕ) × (first_node hd a ≡ n)
-    got [] i n is = none_at refl is
-    got (m ∷ ms) zero n is = (m, some_is is)
-    got (m ∷ ms) (suc i) n is = got ms i n is
-
-    by : (k : ℕ) (n : Node) → at_place k (map (first_node hd) (numbers_to hd.nodes)) ≡ Some n → HaveTops [] (let d = n.disk in d.store)
-    by zero n is = none_at refl is
-    by (suc j) n is = let a = got (numbers_to hd.nodes) j n is in subst (λ (z : Node). HaveTops [] (let d = z.disk in d.store)) a.1 tt
+first_tops : (hd : Header) → IsAtStarts hd (TopsAreKnown [])
+first_tops hd st formed = record {
+  stores = λ k n is. subst (λ (z : Node). HaveTops [] (let d = z.disk in d.store)) (first_at hd st k n is) tt;
+  sent = λ p none. absurd none;
+}
 
 pub tops_of : (hd : Header) → KeepsOf hd (λ acts M. KnowsFew M × AreUppersOf HoldsNames acts M) TopsAreKnown
 tops_of hd = record {

@@ -7,7 +7,7 @@ use Terms.{Action, paths_of, begun_tree, good_coord, given, up, AreSaid, KnowsFe
 use Terms.{begins_in, HasObject, HoldsEntry, KnowsParted, AreUppersOf, WorksAreKnown, parted_keep, uppers_of, works_keep, AbortsAreKnown}
 use Terms.{AcksAreKnown, AvoidsAreKnown, HoldsNames, TopsAreKnown, KnowsWhole}
 use Rattle.arj_law_disk_view.proofs.running
-use running.RecordWalks.{KeptBy, format_recorded, kept_walk, message_kept, recorded_more, restart_recorded, stop_recorded, tick_kept}
+use running.RecordWalks.{KeptBy, starts_are_recorded, kept_walk, message_kept, recorded_more, restart_recorded, stop_recorded, tick_kept}
 use running.Telling.{acked_kept, acts_kept, heard_kept, same_kept}
 use Rattle.arj_law_lock_view.proofs.facts.{Entries.entries_keep, Grants.grants_keep, Requests.requests_keep}
 use Rattle.arj_law_lock_view.specs.facts.{Grants.GrantsAreKnown, Requests.RequestsAreKnown}
@@ -36,7 +36,7 @@ records_of hd = record {
   tick = λ begun e k d t M more good p. kept_walk begun e k d t (with_coord t (again_all t.coord.doings t.coord).part)
       (tick_outs (record { number = k; disk = d; live = Some t }) t) M (tick_kept begun k d t) p;
   restart = λ begun e k d M more good p. restart_recorded begun hd e k d M p;
-  first = format_recorded hd;
+  first = starts_are_recorded hd;
 }
 
 -- ---- all together

@@ -29,7 +29,7 @@ kept_include_objects hd w keeping i there =
     included_there hd w.lines z.lines i (in_from i (included w.lines) there)
 
 pub runs_call_objects : RunsCallObjects
-runs_call_objects hd ms = kept_call_objects hd (world_by hd ms) (moves_keep hd ms)
+runs_call_objects hd r = kept_call_objects hd (world_by hd r) (moves_keep hd r)
 
 pub runs_include_objects : RunsIncludeObjects
-runs_include_objects hd ms = kept_include_objects hd (world_by hd ms) (moves_keep hd ms)
+runs_include_objects hd r = kept_include_objects hd (world_by hd r) (moves_keep hd r)

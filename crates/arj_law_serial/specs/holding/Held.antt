@@ -1,5 +1,5 @@
 -- Held and entry held at the end of each event of each run, by what nodes have in memory.
-use Rattle.std.specs.Prelude.{◌<◌, ◌≤◌, ℕ, List, [], Option, Some, None}
+use Rattle.std.specs.Prelude.{ℕ, List, [], Option, Some, None}
 use Rattle.arj_protocol.specs.Words.{Row}
 use Rattle.arj_protocol.specs.Laws.{naming_rows, server_rows}
 use Rattle.arj_protocol.specs.Naming.{Naming}

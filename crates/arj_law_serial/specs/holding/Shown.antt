@@ -5,8 +5,8 @@ use Rattle.arj_model.specs.Table.{table}
 use Rattle.arj_protocol.specs.Words.{Header, Line}
 use Rattle.arj_protocol.specs.Node.{Parts}
 use Rattle.arj_protocol.specs.Tree.{at_place}
-use Rattle.arj_protocol.specs.World.{World, format}
-use Rattle.arj_promise.specs.Runs.{AfterMoves, Move}
+use Rattle.arj_protocol.specs.World.{World, world_from}
+use Rattle.arj_promise.specs.Runs.{AfterMoves, Run}
 use Rattle.arj_law_serial.specs.holding.Held.{entry_locks_in, locks_in, memory_of}
 use Rattle.arj_law_serial.specs.tables.Tables.{rows_on}
 
@@ -22,4 +22,4 @@ AreShown w = (n : ℕ) → ShowsLocks n w.lines (memory_of (at_place n w.nodes))
 
 -- so it is at first, and after each event of each run, wherever disks stop
 abbrev pub TablesShowLocks : Type 0
-TablesShowLocks = (hd : Header) (ms : List Move) → AfterMoves AreShown (format hd) ms
+TablesShowLocks = (hd : Header) (r : Run hd) → AfterMoves AreShown (world_from hd r.start) r.moves

@@ -1,5 +1,5 @@
 -- What handlers do to what is known of an object's copies and votes, where both its machines are seen; and what naming then takes.
-use Rattle.std.specs.Prelude.{⊤, ◌≡◌, ◌+◌, ◌<◌, true, ℕ, List, Option, Some}
+use Rattle.std.specs.Prelude.{⊤, ◌≡◌, true, ℕ, List, Option, Some}
 use Rattle.std.specs.List.{AllByRecursion}
 use Rattle.arj_protocol.specs.Words.{Asked, Message, ObjectState, Uid, object}
 use Rattle.arj_protocol.specs.Words.voted

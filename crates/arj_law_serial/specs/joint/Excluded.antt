@@ -1,6 +1,6 @@
 -- Excluded in time, by a journal and what is seen of the nodes: at the end of the event in which a top is decided, each store that the
 -- naming node has for an object that it wrote holds its last state, or has it prepared, or is about to be taken out.
-use Rattle.std.specs.Prelude.{◌≡◌, ◌⊎◌, ◌≤◌, ◌<◌, ℕ, true, false, nat_lt, if◌then◌else◌, List, [], ◌∷◌, ◌++◌, Some, Contains, is_some}
+use Rattle.std.specs.Prelude.{⊤, ◌≡◌, ◌⊎◌, ◌≤◌, ◌<◌, ℕ, true, false, nat_lt, if◌then◌else◌, List, [], ◌∷◌, ◌++◌, Some, Contains, is_some}
 use Rattle.std.specs.List.{AllByRecursion}
 use Rattle.arj_base.specs.declared.state.ObjectState.{ObjectState}
 use Rattle.arj_base.specs.declared.uid.Uid.{Uid}
@@ -8,9 +8,8 @@ use Rattle.arj_base.specs.Uid.{entry, object}
 use Rattle.arj_journal.specs.declared.body.Body.TheVariants as body
 use Rattle.arj_journal.specs.declared.body.Line.{Line}
 use Rattle.arj_journal.specs.declared.header.Header.{Header}
-use Rattle.arj_model.specs.Actions.{acts}
 use Rattle.arj_model.specs.Calls.{Top, tops}
-use Rattle.arj_model.specs.Last.{is_among, last_state, object_line, uid_of_id}
+use Rattle.arj_model.specs.Last.{is_among, last_from, object_line}
 use Rattle.arj_model.specs.Serial.{Values}
 use Rattle.arj_text.specs.declared.label.Label.{Label}
 use Rattle.arj_law_runs.specs.journal.Book.{new_book}
@@ -23,28 +22,27 @@ use Rattle.arj_protocol.specs.Values.{state_entry}
 use Rattle.arj_law_disk.specs.machine.State as disk
 use Rattle.arj_law_disk.specs.machine.State.{Hold, State}
 use Rattle.arj_law_disk_view.specs.view.Pairs.{IsOf}
-use Rattle.arj_promise.specs.Runs.{Move, journal_by, world_by}
+use Rattle.arj_promise.specs.Runs.{Run, journal_by, world_by}
 use Rattle.arj_promise.specs.Runs.{Seen}
 use Rattle.arj_law_serial.specs.order.Decided.{AreDecided}
 use Rattle.arj_promise.specs.Excluded.{Wrote}
 use Rattle.arj_law_serial.specs.order.Runs.{IsSeenDecided}
 use Rattle.arj_law_serial.specs.order.Tied.{IsTied}
 use Rattle.arj_law_serial.specs.joint.Forms.{NodeIsSo, kind_of}
-use Rattle.arj_model.specs.Outcome.{is_said}
 use Rattle.arj_promise.specs.Excluded.{IsNew, uid_of}
 
--- the store holds the object's last state
-abbrev pub HoldsLast : Header → List Line → ℕ → Node → Type 0
-HoldsLast header lines x n = held_at (object x) (let d = n.disk in d.store) ≡ Some (last_state header lines x)
+-- the store holds the object's last state, which is this one
+abbrev pub HoldsLast : ObjectState → ℕ → Node → Type 0
+HoldsLast last x n = held_at (object x) (let d = n.disk in d.store) ≡ Some last
 
 -- the one state of the object in a list
 abbrev pub IsOnly : Uid → List ObjectState → ObjectState → Type 0
 IsOnly u states s = IsOf u states s × ((t : ObjectState) → IsOf u states t → t ≡ s)
 
 -- or it has that prepared for the top, and no other state of the object
-abbrev pub HasLastPrepared : Header → List Line → ℕ → Node → Top → Type 0
-HasLastPrepared header lines x n t = (states : List ObjectState) × (at_uid (uid_of lines t) (let d = n.disk in let p = d.store in p.pend)
-    ≡ Some states) × IsOnly (object x) states (last_state header lines x)
+abbrev pub HasLastPrepared : ObjectState → List Line → ℕ → Node → Top → Type 0
+HasLastPrepared last lines x n t = (states : List ObjectState) × (at_uid (uid_of lines t) (let d = n.disk in let p = d.store in p.pend)
+    ≡ Some states) × IsOnly (object x) states last
 
 -- Or the naming node has prepared an entry of the object without it, for the top or for another committed constituent of its serializing
 -- action.
@@ -59,18 +57,18 @@ pub record IsTakenOut (lines : List Line) (x : ℕ) (n : Node) (t : Top) (s : �
   pub lacks : is_among (let e = state_entry new in e.stores) s ≡ false
 
 -- one of the three
-abbrev pub IsInTime : Header → List Line → ℕ → Node → Node → Top → ℕ → Type 0
-IsInTime header lines x naming store t s =
-    HoldsLast header lines x store ⊎ HasLastPrepared header lines x store t ⊎ IsTakenOut lines x naming t s
+abbrev pub IsInTime : ObjectState → List Line → ℕ → Node → Node → Top → ℕ → Type 0
+IsInTime last lines x naming store t s =
+    HoldsLast last x store ⊎ HasLastPrepared last lines x store t ⊎ IsTakenOut lines x naming t s
 
 -- Excluded in time: so it is at the end of this event, the last one that was run, of each top that is new in it, of each object of the
--- header that it wrote, and of each store that the naming node's entry has.
+-- header that it wrote, and of each store that the naming node's entry has. Its last state is counted from where the run began.
 abbrev pub AreExcludedInTime : Header → ℕ → Seen → Type 0
 AreExcludedInTime header e M = (t : Top) (x s : ℕ) (naming store : Node) (st : ObjectState) → is_some (object_line header x) ≡ true →
     IsNew e M.lines t → Wrote M.lines x t
     → M.nodes 1 ≡ Some naming → M.nodes s ≡ Some store → held_at (entry x) (let d = naming.disk in d.names) ≡ Some st →
     is_among (let n = state_entry st in n.stores) s ≡ true
-    → IsInTime header M.lines x naming store t s
+    → IsInTime (last_from header M.start.marks M.lines x) M.lines x naming store t s
 
 -- ---- what gives it
 
@@ -106,6 +104,11 @@ abbrev pub CommitsBeginIt : ℕ → List Line → Type 0
 CommitsBeginIt e lines = (before : List Line) (line : Line) (behind : List Line) (l : Label) → lines ≡ before ++ line ∷ behind →
     line.body ≡ body.Committing l → AllByRecursion (λ (k : Line). k.event < e) before
 
+-- the lines are of this event and later ones, and none is of an event before that of a line before it
+abbrev pub NeverFall : ℕ → List Line → Type 0
+NeverFall e [] = ⊤
+NeverFall e (line ∷ lines) = (e ≤ line.event) × NeverFall line.event lines
+
 -- of two tops that wrote the object, one that is new in the event had its commit called last
 abbrev pub NewWritersAreLast : Type 0
 NewWritersAreLast = (values : Values) (lines : List Line) (x : ℕ) (S : machine.State) (e : ℕ) → AreRight new_book lines →
@@ -119,4 +122,4 @@ pub record IsBehindIncludes (header : Header) (lines : List Line) (x : ℕ) (S :
 
 -- in the last event of a run, whatever stops fall, nothing stands before a commit call
 abbrev pub RunsBeginWithCalls : Type 0
-RunsBeginWithCalls = (hd : Header) (ms : List Move) → let w = world_by hd ms in CommitsBeginIt w.event (journal_by hd ms)
+RunsBeginWithCalls = (hd : Header) (r : Run hd) → let w = world_by hd r in CommitsBeginIt w.event (journal_by hd r)

@@ -23,7 +23,7 @@ use Rattle.arj_law_lock.specs.machine.Actions.{In, top}
 use Rattle.arj_law_lock.specs.machine.Machine.{Run, start}
 use Rattle.arj_law_lock.specs.machine.State as lock
 use Rattle.arj_law_parts.specs.moves.Keeps.{Holds}
-use Rattle.arj_promise.specs.Runs.{Move, journal_by, world_by}
+use Rattle.arj_promise.specs.Runs.{Run as RunOf, journal_by, world_by}
 use Rattle.arj_promise.specs.Runs.{Seen}
 use Rattle.arj_law_runs.specs.journal.Book.{book, is_decided}
 use Rattle.arj_law_runs.specs.journal.Idle.{IsIdle}
@@ -155,7 +155,7 @@ pub record IsJoinedSo (hd : Header) (x : ℕ) (M : Seen) : Type 0 where
   pub lights : LightsAreSplit M.lines (let W = world_of ordered in W.disk)
   pub begun : List Action
   pub alike : IsAlikeOf begun M
-  pub seen : (f : Fixed) → AgreesApart (first_values hd) f x begun M.sent → (S : lock.State) × SeesLocks f x begun S M
+  pub seen : (f : Fixed) → AgreesApart (first_values hd) M.start.marks f x begun M.sent → (S : lock.State) × SeesLocks f x begun S M
       × AreTied f x M.lines S × AreVotedAt f x S M × ArePlannedSo f x S (world_of ordered) M × AreBasedSo f x S (world_of ordered) M
   pub requests : RequestsAreOne M
   pub wrote : AreWritten (first_values hd) M.lines x (let W = world_of ordered in W.disk.tops)
@@ -165,13 +165,13 @@ pub record IsJoinedSo (hd : Header) (x : ℕ) (M : Seen) : Type 0 where
 
 -- So it is after all moves in form, of each object of the header.
 abbrev pub RunsAreJoined : Type 0
-RunsAreJoined = (hd : Header) (ms : List Move) → IsInForm hd ms → (x : ℕ) → is_some (object_line hd x) ≡ true →
-    Holds hd (IsJoinedSo hd x) (world_by hd ms)
+RunsAreJoined = (hd : Header) (r : RunOf hd) → IsInForm hd r → (x : ℕ) → is_some (object_line hd x) ≡ true →
+    Holds hd (IsJoinedSo hd x) (world_by hd r)
 
 -- So every run in form is serial.
 abbrev pub JoinedRunsAreSerial : Type 0
-JoinedRunsAreSerial = (hd : Header) (ms : List Move) → IsInForm hd ms → IsSerialBy hd (journal_by hd ms)
+JoinedRunsAreSerial = (hd : Header) (r : RunOf hd) → IsInForm hd r → IsSerialBy hd (journal_by hd r)
 
 -- And its journal is tied to the lock machine of each object of which a call was answered.
 abbrev pub JoinedRunsAreTied : Type 0
-JoinedRunsAreTied = (hd : Header) (ms : List Move) → IsInForm hd ms → AreJournalTied (first_values hd) (journal_by hd ms)
+JoinedRunsAreTied = (hd : Header) (r : RunOf hd) → IsInForm hd r → AreJournalTied (first_values hd) (journal_by hd r)

@@ -13,7 +13,7 @@ use Rattle.arj_protocol.specs.Coord.{Committing, Doing, doing_of}
 use Rattle.arj_protocol.specs.Node.{Parts}
 use Rattle.arj_protocol.specs.Step.{Node}
 use Rattle.arj_law_parts.specs.moves.Keeps.{Holds}
-use Rattle.arj_promise.specs.Runs.{Move, world_by}
+use Rattle.arj_promise.specs.Runs.{Run, world_by}
 use Rattle.arj_law_parts.specs.moves.Seen.{In}
 use Rattle.arj_promise.specs.Runs.{Post, Seen}
 use Rattle.arj_law_runs.specs.journal.Book.{book}
@@ -45,7 +45,7 @@ MarksAreSaid M = (j : ℕ) (n : Node) (t : Parts) (u : Uid) (d : Doing) → M.no
 
 -- So it is after all moves.
 abbrev pub RunsSayMarks : Type 0
-RunsSayMarks = (hd : Header) (ms : List Move) → Holds hd MarksAreSaid (world_by hd ms)
+RunsSayMarks = (hd : Header) (r : Run hd) → Holds hd MarksAreSaid (world_by hd r)
 
 -- ---- what naming is asked
 
@@ -73,7 +73,7 @@ MarksAreAsked M = (l : List ℕ) (x s : ℕ) → was_marked M.lines l x s ≡ tr
 
 -- So it is after all moves.
 abbrev pub RunsAskMarks : Type 0
-RunsAskMarks = (hd : Header) (ms : List Move) → Holds hd MarksAreAsked (world_by hd ms)
+RunsAskMarks = (hd : Header) (r : Run hd) → Holds hd MarksAreAsked (world_by hd r)
 
 -- The lines have the action, and none of them says an exclusion of it.
 pub record IsSpared (lines : List Line) (u : Uid) : Type 0 where

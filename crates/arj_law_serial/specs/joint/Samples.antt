@@ -21,7 +21,7 @@ use Rattle.arj_journal.specs.declared.body.Role.TheVariants as role
 use Rattle.arj_journal.specs.declared.header.Header.{Header}
 use Rattle.arj_model.specs.Calls.{Top}
 use Rattle.arj_model.specs.Disks.{Disks, Reading}
-use Rattle.arj_model.specs.Last.{entry_payload}
+use Rattle.arj_model.specs.Last.{entry_payload, last_state}
 use Rattle.arj_protocol.specs.Effect.{Pair}
 use Rattle.arj_protocol.specs.Step.{Node}
 use Rattle.arj_text.specs.declared.label.Label.{Label}
@@ -81,6 +81,10 @@ decided_lines = before_commit ++ numbered 5 (body.Excluded label 1 3 ∷ body.Co
 -- a counter at the stores 2 and 3
 abbrev pub header : Header
 header = record { nodes = 3; objects = record { x = 1; value = Counter 0; servers = 1 ∷ []; stores = 2 ∷ 3 ∷ [] } ∷ [] }
+
+-- its last state
+abbrev pub its_last : ObjectState
+its_last = last_state header decided_lines 1
 
 -- the top, by its number and the place where its commit is called
 abbrev pub its_top : Top

@@ -1,21 +1,13 @@
 -- Which readings are those of nodes' disks, and what they show of them.
-use Rattle.std.specs.Prelude.{◌≡◌, ◌&&◌, ℕ, true, List, Some, Contains, is_some, nat_le, option_map}
-use Rattle.arj_disk.specs.Says.{Record}
-use Rattle.arj_disk.specs.declared.slot.Role.{Role}
-use Rattle.arj_disk.specs.declared.slot.Role.TheVariants as role
+use Rattle.std.specs.Prelude.{◌≡◌, ◌&&◌, ℕ, true, List, Contains, is_some, nat_le}
 use Rattle.arj_journal.specs.ScriptForm.{HeaderInForm}
 use Rattle.arj_model.specs.Actions.{Placed}
-use Rattle.arj_model.specs.Disks.{Disks, Reading}
+use Rattle.arj_model.specs.Disks.{Disks}
 use Rattle.arj_model.specs.Last.{Inclusion, included, is_among, listed, object_line}
-use Rattle.arj_protocol.specs.Effect.{Disk, Intent}
-use Rattle.arj_protocol.specs.Order.{at_uid}
-use Rattle.arj_protocol.specs.Step.{Node}
-use Rattle.arj_protocol.specs.Words.{Header, Line, Uid}
+use Rattle.arj_protocol.specs.Words.{Header, Line}
 use Rattle.arj_protocol.specs.World.{World}
-use Rattle.arj_store.specs.Pair.{Pair}
-use Rattle.arj_law_store.specs.store.Files.{IsPairOf}
 use Rattle.arj_law_parts.specs.moves.Keeps.{Stands}
-use Rattle.arj_promise.specs.Runs.{Post, Seen, see}
+use Rattle.arj_promise.specs.Runs.{Post, see}
 use Rattle.arj_law_serial.specs.order.Readings.{AreShown}
 use Rattle.arj_promise.specs.Disks.{DisksAre}
 

@@ -1,5 +1,5 @@
 -- The decided tops of an object's disk machine, as a journal has them.
-use Rattle.std.specs.Prelude.{⊤, ◌≡◌, ◌⊎◌, ◌<◌, ◌≤◌, ℕ, ◌==◌, ◌&&◌, not, List, [], ◌∷◌, filter, reverse, Bool, true, false, Option, Some}
+use Rattle.std.specs.Prelude.{⊤, ◌≡◌, ◌⊎◌, ◌<◌, ◌≤◌, ℕ, ◌&&◌, not, List, [], ◌∷◌, filter, reverse, Bool, true, false, Option, Some}
 use Rattle.std.specs.Prelude.{None, Contains}
 use Rattle.std.specs.List.{AllByRecursion}
 use Rattle.arj_base.specs.declared.uid.Uid.{Uid}

@@ -1,19 +1,13 @@
 -- Lock rows against the machine of an object, by nodes and by the tables of a journal, and calls that are locked for.
-use Rattle.std.specs.Prelude.{◌≡◌, ◌≢◌, ◌<◌, ◌≤◌, ℕ, ◌==◌, ◌&&◌, if◌then◌else◌, filter, length, take, List, [], ◌∷◌, Bool, true, false}
-use Rattle.std.specs.Prelude.{Option, Some, None, Contains}
-use Rattle.std.specs.List.{AllByRecursion, list_all, list_any}
-use Rattle.arj_base.specs.Rows.{Row, is_on, last_uid}
-use Rattle.arj_base.specs.Uid.{entry, object, uid_eq}
-use Rattle.arj_base.specs.declared.uid.Uid.{Uid}
-use Rattle.arj_class.specs.Table.{is_write}
+use Rattle.std.specs.Prelude.{◌≡◌, ◌≢◌, ℕ, take, List}
+use Rattle.std.specs.Prelude.{Contains}
+use Rattle.arj_base.specs.Rows.{Row, last_uid}
+use Rattle.arj_base.specs.Uid.{entry, object}
 use Rattle.arj_journal.specs.declared.body.Kind.TheVariants as kind
 use Rattle.arj_journal.specs.declared.body.Line.{Line}
-use Rattle.arj_model.specs.Actions.{Act, Placed, acts, chain_in, committed, has_end, root_in, top_in, uids}
-use Rattle.arj_model.specs.Calls.{Call, Said, Top, committed_calls, said}
-use Rattle.arj_model.specs.Last.{Inclusion, included}
+use Rattle.arj_model.specs.Actions.{Act, uids}
+use Rattle.arj_model.specs.Calls.{Call}
 use Rattle.arj_model.specs.Serial.{Values}
-use Rattle.arj_model.specs.Table.{path_by}
-use Rattle.arj_model.specs.Held.{locks_for, root_of_call, tables_of, unit_end}
 use Rattle.arj_law_lock.specs.machine.Actions.{root}
 use Rattle.arj_law_lock.specs.machine.Machine.{Run, start}
 use Rattle.arj_law_lock.specs.machine.State.{State}

@@ -3,11 +3,10 @@ use Rattle.std.specs.Prelude.{◌≡◌, ℕ, ◌==◌, true, List, Some}
 use Rattle.std.specs.List.{list_any}
 use Rattle.arj_journal.specs.declared.body.Line.{Line}
 use Rattle.arj_journal.specs.declared.header.Header.{Header}
-use Rattle.arj_model.specs.Nested.{nested_calls}
 use Rattle.arj_model.specs.Actions.{Placed}
 use Rattle.arj_model.specs.Calls.{Said, said}
 use Rattle.arj_model.specs.Last.{first_values}
-use Rattle.arj_model.specs.Serial.{Answers, Serial, Values}
+use Rattle.arj_model.specs.Serial.{Values}
 use Rattle.arj_protocol.specs.Words.{Ask, Head, asks}
 use Rattle.arj_protocol.specs.World.{World}
 use Rattle.arj_law_lock.specs.machine.State.{State}
@@ -33,9 +32,10 @@ pub record RequestsAreOne (M : Seen) : Type 0 where
   pub numbered : (p : Post) → In p M.sent → (h : Head) (a : Ask) → asks (let q = p in q.message) ≡ Some (h, a) → IsFromOne h a
 
 -- The actions that were begun are those of the journal, and for all that may be fixed, tells values apart, agrees with them, and begins
--- with this value, the object is seen in a state of its lock machine, to which the journal is tied.
+-- with this value, by whom its mark names, the object is seen in a state of its lock machine, to which the journal is tied.
 abbrev pub IsLockedApart : Values → ℕ → Seen → Type 0
-IsLockedApart values x M = (begun : List Action) × IsAlikeOf begun M × ((f : Fixed) → AreApart f.code → AgreesAs values f x begun M.sent →
+IsLockedApart values x M = (begun : List Action) × IsAlikeOf begun M × ((f : Fixed) → AreApart f.code →
+    AgreesAs values M.start.marks f x begun M.sent →
     (S : State) × SeesLocks f x begun S M × AreTied f x M.lines S) × RequestsAreOne M
 
 -- so it is of the world, of each object of which a call was answered

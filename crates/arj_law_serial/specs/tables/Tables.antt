@@ -1,5 +1,5 @@
 -- The table of a journal, object by object, against what lines do to locks by the laws of the protocol.
-use Rattle.std.specs.Prelude.{⊤, ◌≡◌, ◌==◌, ◌++◌, ℕ, Bool, true, false, filter, List, [], ◌∷◌}
+use Rattle.std.specs.Prelude.{◌≡◌, ◌==◌, ℕ, Bool, true, false, filter, List, [], ◌∷◌}
 use Rattle.arj_base.specs.Rows.{Row}
 use Rattle.arj_base.specs.Uid.{uid_eq}
 use Rattle.arj_base.specs.declared.uid.Uid.{Uid}

@@ -1,4 +1,4 @@
-use Rattle.arj_law.proofs.JoinedLast.{clean_back, clean_join, entry_join, entry_unwritten, last_join, last_unwritten, listed_join}
+use Rattle.arj_law.proofs.JoinedLast.{clean_back, clean_join, entry_join, last_join, listed_join}
 use Rattle.arj_law.proofs.joined.joined_journals_end_as_the_second.Goals as goal
 
 pub returns-clause-state : goal.returns-clause-state
@@ -15,9 +15,3 @@ returns-clause-clean c header next first second j disks = clean_join header next
 
 pub returns-clause-clean_from : goal.returns-clause-clean_from
 returns-clause-clean_from c header next first second j disks = clean_back header next first second j disks
-
-pub returns-clause-unwritten_state : goal.returns-clause-unwritten_state
-returns-clause-unwritten_state c = last_unwritten
-
-pub returns-clause-unwritten_entry : goal.returns-clause-unwritten_entry
-returns-clause-unwritten_entry c = entry_unwritten

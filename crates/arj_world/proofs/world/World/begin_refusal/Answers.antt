@@ -1,25 +1,25 @@
-use Rattle.std.proofs.Common.{ap, sym, Some, None, true, false, [], ◌∷◌, refl}
+use Rattle.std.proofs.Common.{ap, Some, None, true, false, [], ◌∷◌, refl}
 use Rattle.std.specs.Prelude.{not}
-use Rattle.arj_protocol.specs.World.{is_given, is_node, is_up_at}
-use Rattle.arj_world.proofs.Tests.{passes, refuses, stands_up, there}
+use Rattle.arj_protocol.specs.World.{is_known, is_node, is_up_at}
+use Rattle.arj_world.proofs.Tests.{new_passes, new_refused, passes, refuses, stands_up, there}
 use Rattle.arj_world.proofs.world.World.begin_refusal.Goals as goal
 
 pub returns-then-not-is_up : goal.returns-then-not-is_up
 returns-then-not-is_up g c = λ w keeps.
     let n = c.in-Some.ensures in
-    passes 1 (not (is_node c.args.node w)) ((2, not (is_up_at c.args.node w)) ∷ (4, is_given c.args.label w) ∷ []) (Some 2) (there g.C.Core c.args.node c.in-Some.n c.args.self.now w n.0 n.1 n.2 keeps)
-    (refuses 2 (not (is_up_at c.args.node w)) ((4, is_given c.args.label w) ∷ []) (ap not (stands_up g.C.Core c.args.node c.in-Some.n c.args.self.now w n.0 n.1 n.2 keeps false c.if-not-is_up.ensures)))
+    passes 1 (not (is_node c.args.node w)) ((2, not (is_up_at c.args.node w)) ∷ (4, is_known c.args.label w) ∷ []) (Some 2) (there g.C.Core c.args.node c.in-Some.n c.args.self.now w n.0 n.1 n.2 keeps)
+    (refuses 2 (not (is_up_at c.args.node w)) ((4, is_known c.args.label w) ∷ []) (ap not (stands_up g.C.Core c.args.node c.in-Some.n c.args.self.now w n.0 n.1 n.2 keeps false c.if-not-is_up.ensures)))
 
 pub returns-then-is_given : goal.returns-then-is_given
 returns-then-is_given g c = λ w keeps.
     let n = c.in-Some.ensures in
-    passes 1 (not (is_node c.args.node w)) ((2, not (is_up_at c.args.node w)) ∷ (4, is_given c.args.label w) ∷ []) (Some 4) (there g.C.Core c.args.node c.in-Some.n c.args.self.now w n.0 n.1 n.2 keeps)
-    (passes 2 (not (is_up_at c.args.node w)) ((4, is_given c.args.label w) ∷ []) (Some 4) (ap not (stands_up g.C.Core c.args.node c.in-Some.n c.args.self.now w n.0 n.1 n.2 keeps true c.if-not-is_up.ensures))
-    (refuses 4 (is_given c.args.label w) [] (sym (c.if-is_given.ensures w keeps))))
+    passes 1 (not (is_node c.args.node w)) ((2, not (is_up_at c.args.node w)) ∷ (4, is_known c.args.label w) ∷ []) (Some 4) (there g.C.Core c.args.node c.in-Some.n c.args.self.now w n.0 n.1 n.2 keeps)
+    (passes 2 (not (is_up_at c.args.node w)) ((4, is_known c.args.label w) ∷ []) (Some 4) (ap not (stands_up g.C.Core c.args.node c.in-Some.n c.args.self.now w n.0 n.1 n.2 keeps true c.if-not-is_up.ensures))
+    (new_refused g.C.Core c.args.label [] c.args.self.now w keeps (c.if-is_given.ensures w keeps)))
 
 pub returns-else-is_given : goal.returns-else-is_given
 returns-else-is_given g c = λ w keeps.
     let n = c.in-Some.ensures in
-    passes 1 (not (is_node c.args.node w)) ((2, not (is_up_at c.args.node w)) ∷ (4, is_given c.args.label w) ∷ []) None (there g.C.Core c.args.node c.in-Some.n c.args.self.now w n.0 n.1 n.2 keeps)
-    (passes 2 (not (is_up_at c.args.node w)) ((4, is_given c.args.label w) ∷ []) None (ap not (stands_up g.C.Core c.args.node c.in-Some.n c.args.self.now w n.0 n.1 n.2 keeps true c.if-not-is_up.ensures))
-    (passes 4 (is_given c.args.label w) [] None (sym (c.if-is_given.ensures w keeps)) refl))
+    passes 1 (not (is_node c.args.node w)) ((2, not (is_up_at c.args.node w)) ∷ (4, is_known c.args.label w) ∷ []) None (there g.C.Core c.args.node c.in-Some.n c.args.self.now w n.0 n.1 n.2 keeps)
+    (passes 2 (not (is_up_at c.args.node w)) ((4, is_known c.args.label w) ∷ []) None (ap not (stands_up g.C.Core c.args.node c.in-Some.n c.args.self.now w n.0 n.1 n.2 keeps true c.if-not-is_up.ensures))
+    (new_passes g.C.Core c.args.label [] None c.args.self.now w keeps (c.if-is_given.ensures w keeps) refl))

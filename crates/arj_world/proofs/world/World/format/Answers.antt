@@ -34,6 +34,7 @@ returns-clause-stands g c =
     let all : length c.loop-node.cores.items ≡ c.args.header.nodes = omega (arith, c.loop-node.invariant.count, c.loop-node-test.false, c.loop-node.auto.node-end) in
     record {
       header = refl;
+      start = refl;
       frames = ap (map frame_of) (sym c.new.ensures.net);
       lines = refl;
       labels = sym c.new-2.ensures.empty;

@@ -6,7 +6,7 @@ use Rattle.arj_net.specs.Net.{as_lost, changed_at, frame_of}
 use Rattle.arj_protocol.specs.Step.{numbers_to}
 use Rattle.arj_protocol.specs.Words.{read_message}
 use Rattle.arj_protocol.specs.Words.event as events
-use Rattle.arj_protocol.specs.World.{deliver, is_given, is_up_at, lose, numbered, reads_whole, show_all}
+use Rattle.arj_protocol.specs.World.{deliver, is_known, was_given, is_up_at, lose, numbered, reads_whole, show_all}
 use Rattle.arj_world.specs.Disks.{HaveMoved}
 use Rattle.arj_world.specs.Goes.{GoesTo}
 use Rattle.arj_world.specs.Stands.{hand}
@@ -92,22 +92,22 @@ returns-in-Show-clause-happens g c =
     (on_ok_weaker c.show_all.result (goes_headed g.C.Core g.D.Disk.file (λ hd v. show_all c.in-Show.x (numbers_to hd.nodes) v) old new) c.show_all.ensures.goes)
 
 pub begin_at-requires-clause-least : goal.begin_at-requires-clause-least
-begin_at-requires-clause-least g c = (accepted_range g.C.Core g.D.Disk.file (events.Begin c.in-Begin.label c.in-Begin.node) c.args.event c.in-Begin.node (λ w. (2, not (is_up_at c.in-Begin.node w)) ∷ (4, is_given c.in-Begin.label w) ∷ []) (hand c.args.self.now c.args.rack.now c.args.journal.now) c.in-Begin.is (λ w. refl) c.requires.accepted c.requires.stands).0
+begin_at-requires-clause-least g c = (accepted_range g.C.Core g.D.Disk.file (events.Begin c.in-Begin.label c.in-Begin.node) c.args.event c.in-Begin.node (λ w. (2, not (is_up_at c.in-Begin.node w)) ∷ (4, is_known c.in-Begin.label w) ∷ []) (hand c.args.self.now c.args.rack.now c.args.journal.now) c.in-Begin.is (λ w. refl) c.requires.accepted c.requires.stands).0
 
 pub begin_at-requires-clause-greatest : goal.begin_at-requires-clause-greatest
-begin_at-requires-clause-greatest g c = (accepted_range g.C.Core g.D.Disk.file (events.Begin c.in-Begin.label c.in-Begin.node) c.args.event c.in-Begin.node (λ w. (2, not (is_up_at c.in-Begin.node w)) ∷ (4, is_given c.in-Begin.label w) ∷ []) (hand c.args.self.now c.args.rack.now c.args.journal.now) c.in-Begin.is (λ w. refl) c.requires.accepted c.requires.stands).1
+begin_at-requires-clause-greatest g c = (accepted_range g.C.Core g.D.Disk.file (events.Begin c.in-Begin.label c.in-Begin.node) c.args.event c.in-Begin.node (λ w. (2, not (is_up_at c.in-Begin.node w)) ∷ (4, is_known c.in-Begin.label w) ∷ []) (hand c.args.self.now c.args.rack.now c.args.journal.now) c.in-Begin.is (λ w. refl) c.requires.accepted c.requires.stands).1
 
 pub begin_at-requires-in-Serial-clause-least : goal.begin_at-requires-in-Serial-clause-least
-begin_at-requires-in-Serial-clause-least g c = (accepted_range g.C.Core g.D.Disk.file (events.Serial c.in-Serial.label c.in-Serial.node) c.args.event c.in-Serial.node (λ w. (2, not (is_up_at c.in-Serial.node w)) ∷ (4, is_given c.in-Serial.label w) ∷ []) (hand c.args.self.now c.args.rack.now c.args.journal.now) c.in-Serial.is (λ w. refl) c.requires.accepted c.requires.stands).0
+begin_at-requires-in-Serial-clause-least g c = (accepted_range g.C.Core g.D.Disk.file (events.Serial c.in-Serial.label c.in-Serial.node) c.args.event c.in-Serial.node (λ w. (2, not (is_up_at c.in-Serial.node w)) ∷ (4, is_known c.in-Serial.label w) ∷ []) (hand c.args.self.now c.args.rack.now c.args.journal.now) c.in-Serial.is (λ w. refl) c.requires.accepted c.requires.stands).0
 
 pub begin_at-requires-in-Serial-clause-greatest : goal.begin_at-requires-in-Serial-clause-greatest
-begin_at-requires-in-Serial-clause-greatest g c = (accepted_range g.C.Core g.D.Disk.file (events.Serial c.in-Serial.label c.in-Serial.node) c.args.event c.in-Serial.node (λ w. (2, not (is_up_at c.in-Serial.node w)) ∷ (4, is_given c.in-Serial.label w) ∷ []) (hand c.args.self.now c.args.rack.now c.args.journal.now) c.in-Serial.is (λ w. refl) c.requires.accepted c.requires.stands).1
+begin_at-requires-in-Serial-clause-greatest g c = (accepted_range g.C.Core g.D.Disk.file (events.Serial c.in-Serial.label c.in-Serial.node) c.args.event c.in-Serial.node (λ w. (2, not (is_up_at c.in-Serial.node w)) ∷ (4, is_known c.in-Serial.label w) ∷ []) (hand c.args.self.now c.args.rack.now c.args.journal.now) c.in-Serial.is (λ w. refl) c.requires.accepted c.requires.stands).1
 
 pub include-requires-clause-least : goal.include-requires-clause-least
-include-requires-clause-least g c = (accepted_range g.C.Core g.D.Disk.file (events.Include c.in-Include.label c.in-Include.x c.in-Include.node) c.args.event c.in-Include.node (λ w. (5, not (is_given c.in-Include.label w)) ∷ []) (hand c.args.self.now c.args.rack.now c.args.journal.now) c.in-Include.is (λ w. refl) c.requires.accepted c.requires.stands).0
+include-requires-clause-least g c = (accepted_range g.C.Core g.D.Disk.file (events.Include c.in-Include.label c.in-Include.x c.in-Include.node) c.args.event c.in-Include.node (λ w. (5, not (is_known c.in-Include.label w)) ∷ (6, was_given c.in-Include.label w) ∷ []) (hand c.args.self.now c.args.rack.now c.args.journal.now) c.in-Include.is (λ w. refl) c.requires.accepted c.requires.stands).0
 
 pub include-requires-clause-greatest : goal.include-requires-clause-greatest
-include-requires-clause-greatest g c = (accepted_range g.C.Core g.D.Disk.file (events.Include c.in-Include.label c.in-Include.x c.in-Include.node) c.args.event c.in-Include.node (λ w. (5, not (is_given c.in-Include.label w)) ∷ []) (hand c.args.self.now c.args.rack.now c.args.journal.now) c.in-Include.is (λ w. refl) c.requires.accepted c.requires.stands).1
+include-requires-clause-greatest g c = (accepted_range g.C.Core g.D.Disk.file (events.Include c.in-Include.label c.in-Include.x c.in-Include.node) c.args.event c.in-Include.node (λ w. (5, not (is_known c.in-Include.label w)) ∷ (6, was_given c.in-Include.label w) ∷ []) (hand c.args.self.now c.args.rack.now c.args.journal.now) c.in-Include.is (λ w. refl) c.requires.accepted c.requires.stands).1
 
 pub arm-requires-clause-least : goal.arm-requires-clause-least
 arm-requires-clause-least g c = (accepted_range g.C.Core g.D.Disk.file (events.Stop c.in-Stop.node c.in-Stop.calls c.in-Stop.kind) c.args.event c.in-Stop.node (λ w. []) (hand c.args.self.now c.args.rack.now c.args.journal.now) c.in-Stop.is (λ w. refl) c.requires.accepted c.requires.stands).0

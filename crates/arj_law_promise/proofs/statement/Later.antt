@@ -1,0 +1,74 @@
+-- The start that no format leaves is formed, and others aren't.
+use Rattle.arj_law_parts.proofs.Words
+use Words.{◌≡◌, ◌<◌, ℕ, true, false, [], ◌∷◌, refl, ap, inl, inr, ⊎_elim, in_from, in_to}
+use Words.{arith, ◌∙◌, Uid, has}
+use Rattle.arj_class.specs.declared.value.Value.TheVariants.{Account}
+use Rattle.arj_journal.specs.declared.header.ObjectLine.{ObjectLine}
+use Rattle.arj_journal.specs.ScriptForm.{HeaderInForm}
+use Rattle.arj_law_promise.specs.starts.Samples
+use Samples.{at_listed, begun_again, later, later_run, not_below, old_state, some_moves, three_nodes}
+use Rattle.arj_promise.specs.Runs.{IsInForm}
+use Rattle.arj_promise.specs.Starts.{IsFormed, IsOlder}
+
+abbrev account : ObjectLine
+account = record { x = 1; value = Account 5; servers = 1 ∷ []; stores = 1 ∷ 2 ∷ [] }
+
+-- ---- the start is formed
+
+older : IsOlder three_nodes later (3, old_state)
+older = record {
+  line = account;
+  there = in_to account (account ∷ []) (inl refl);
+  of = refl;
+  class = refl;
+  form = ((omega arith, omega arith, omega arith), omega arith, (omega arith, omega arith, omega arith), omega arith);
+  unlisted = refl;
+  below = omega arith;
+  other = λ same. let no_way : ◌≡◌ {A = ℕ} 2 4 = ap (λ (u : Uid). u.num) same in omega (arith, no_way);
+  past = inr (omega arith);
+}
+
+pub formed : IsFormed three_nodes later
+formed = record {
+  states = λ x. inr (omega arith);
+  entries = λ x. inr (omega arith);
+  short = λ x. omega arith;
+  older = (older, tt);
+  one = ((record { version = λ u v. refl; writer = λ u w. refl }, tt), tt);
+}
+
+-- ---- its run is in form
+
+header : HeaderInForm three_nodes
+header = record {
+  nodes = (omega arith, omega arith);
+  objects = (
+    (record { number = (omega arith, omega arith); value = omega arith; servers = refl; stores = refl }, tt),
+    refl,
+  );
+}
+
+pub in_form : IsInForm three_nodes (later_run formed some_moves)
+in_form = record {
+  header = header;
+  events = (omega arith, ((refl, omega arith), ((refl, omega arith), (refl, (tt, tt)))));
+  few = omega arith;
+  stops = ((omega arith, tt), ((omega arith, tt), ((omega arith, tt), ((omega arith, tt), ((omega arith, tt), tt)))));
+}
+
+-- ---- starts that aren't
+
+pub not_below_fails : IsFormed three_nodes not_below → ⊥
+not_below_fails f = let o = f.older.0 in let no_way : 3 < 3 = o.below in omega (arith, no_way)
+
+pub at_listed_fails : IsFormed three_nodes at_listed → ⊥
+at_listed_fails f = let o = f.older.0 in ⊎_elim (λ same. listed o.line same o.unlisted) (λ none. absurd none)
+    (in_from o.line (account ∷ []) o.there)
+  where
+    listed : (l : ObjectLine) → account ≡ l → has l.stores 2 ≡ false → ⊥
+    listed l same un = let no_way : true ≡ false = ap (λ (z : ObjectLine). has z.stores 2) same ∙ un in cc no_way
+
+pub begun_again_fails : IsFormed three_nodes begun_again → ⊥
+begun_again_fails f = ⊎_elim
+    (λ none. let no_way : ◌≡◌ {A = ℕ} 2 0 = ap (λ (u : Uid). u.inc) none in omega (arith, no_way))
+    (λ past. let no_way : 2 < 2 = past in omega (arith, no_way)) (f.states 1)

@@ -1,0 +1,21 @@
+// With what runs begin.
+ghost use Rattle.arj_law_promise.specs.starts.Continued.{RunsGoOnTogether};
+ghost use Rattle.arj_law_promise.specs.starts.Samples.{GoesOn, at_listed, begun_again, not_below, three_nodes};
+ghost use Rattle.arj_promise.specs.Starts.{IsFormed};
+
+/// A start that no format leaves is formed: objects were written, a store that isn't listed has an older state, two nodes are down, and a
+/// label was given. A run from it is in form and keeps the promise, its actions are of the incarnation in which their node is up, and the
+/// label isn't given again (`goes_on`). No start is formed with an older state that isn't below its object's last one, with one at a store
+/// that is listed, or with states by an action that may begin in the run. It does nothing when it runs.
+pub fn runs_go_on_where_others_ended()
+    ensures goes_on { GoesOn }
+    ensures not_below { IsFormed three_nodes not_below → ⊥ }
+    ensures at_listed { IsFormed three_nodes at_listed → ⊥ }
+    ensures begun_again { IsFormed three_nodes begun_again → ⊥ }
+{}
+
+/// Where a run in form begins with what a journal left, that journal and the run's, one behind the other, are serial and keep the lock book if the
+/// first is and does; and the disks at the run's end are clean of both, with stores excluded in time. It does nothing when it runs.
+pub fn runs_go_on_behind_journals()
+    ensures { RunsGoOnTogether }
+{}
