@@ -2,9 +2,9 @@
 -- is set again.
 use Rattle.std.proofs.Common.{◌≡◌, ℕ, zero, suc, List, [], ◌∷◌, ◌++◌, Bool, true, false, Option, Some, None, refl, ap, sym, ◌∙◌}
 use Rattle.std.specs.Prelude.{slice_get, slice_set, option_map, nat_le, length, if◌then◌else◌}
-use Rattle.arj_coord.proofs.Maps.{doings_at_once, roots_at_once}
+use Rattle.arj_coord.proofs.Maps.{doings_at_once}
 use Rattle.arj_coord.specs.Waiting.{idle_doing}
-use Rattle.arj_protocol.specs.Coord.{Coord, Doing, Root, Now, doing_of, on_doing, change_doing, on_root, root_at, no_root}
+use Rattle.arj_protocol.specs.Coord.{Coord, Doing, Root, Now, doing_of, on_doing, change_doing, on_root, root_at}
 use Rattle.arj_protocol.specs.Ending.{says, say_for, ended}
 use Rattle.arj_protocol.specs.Tree.{Tree, Branch, at_place, set_place, is_own, branch_of, ended_at, ended_branch, family_of, listed_end, root_of, with_family}
 use Rattle.arj_protocol.specs.Words.{Uid, Path, End, Label, Body, uids_of}
@@ -78,15 +78,6 @@ pub tree_behind : (u : Uid) (f : Doing → Doing) (t : Tree) (c : Coord) → is_
 tree_behind u f t c own =
     tree_behind_by u f t c (doing_of u c)
     ∙ ap (change_doing f u (record c { tree = t })) (ap (λ (b : Bool). if b then at_place u.num c.doings else None) (sym own))
-
--- ---- a root
-
--- what a root has was taken out, changed and put back
-pub root_back : (root u v : Uid) (f : Root → Root) (c d n : Coord) (a b : Root) → u ≡ root → v ≡ root → a ≡ root_at u c → d ≡ on_root u (λ _. no_root) c → b ≡ f a
-    → n ≡ on_root v (λ _. b) d → n ≡ on_root root f c
-root_back root u v f c d n a b same again taken left changed put =
-    put ∙ (λ i. on_root (again i) (λ _. b) (left i)) ∙ ap (λ w. on_root root (λ _. b) (on_root w (λ _. no_root) c)) same
-    ∙ roots_at_once root (λ _. b) (λ _. no_root) c ∙ ap (λ (r : Root). on_root root (λ _. r) c) (changed ∙ ap f (taken ∙ ap (λ w. root_at w c) same))
 
 -- ---- lines
 

@@ -1,7 +1,7 @@
 -- A message to the coordinator, by what the action that had asked waits for.
 use Rattle.std.proofs.Common.{◌≡◌, ℕ, ◌+◌, ◌<◌, List, [], ◌∷◌, ◌++◌, Bool, true, false, Option, Some, None, refl, ap, sym, ◌∙◌, subst, arith, append_assoc}
 use Rattle.std.specs.Prelude.{◌↔◌, IfSome, IsTrue, option_map, if◌then◌else◌}
-use Rattle.arj_asking.proofs.Changes.{root_back, root_behind, same_roots}
+use Rattle.arj_asking.proofs.Changes.{root_behind, same_roots}
 use Rattle.arj_asking.proofs.Forgets.{forgets_call, forgets_commit, forgets_lines}
 use Rattle.arj_asking.proofs.Paths.{given_up_of, heard_of}
 use Rattle.arj_asking.specs.Calls.{HasNext, MeantFor}
@@ -19,7 +19,7 @@ use Rattle.arj_protocol.specs.Asking as asking
 use Rattle.arj_protocol.specs.Call.{Steps, CallStep, On, Ended, Moved, answered, given_up, next_node}
 use Rattle.arj_protocol.specs.Commit as commit
 use Rattle.arj_protocol.specs.Commit.{Machine, plan_of}
-use Rattle.arj_protocol.specs.Coord.{Coord, Doing, Keeping, Now, Idle, Calling, Committing, Root, doing_of, is_free, keeping_of, no_root, on_doing, on_root, root_at}
+use Rattle.arj_protocol.specs.Coord.{Coord, Doing, Keeping, Now, Idle, Calling, Committing, Root, doing_of, is_free, keeping_of, on_doing, on_root, root_at}
 use Rattle.arj_protocol.specs.Effect.{Did, Effect, Intent, Served}
 use Rattle.arj_protocol.specs.Step.{is_waiting, is_waiting_now}
 use Rattle.arj_protocol.specs.Tree.{root_of}
@@ -61,16 +61,6 @@ goes_on_so P t s (On at) old c has came idle so =
     let is : t ≡ record s { req = s.req + 1; at = at } = same ∙ ap (λ (n : ℕ). record s { req = n; at = at }) (next_req_is s.req has) in
     subst P ((λ i. goes_on (is i) (idle i)) ∙ forgets_call s (On at) c) so
 goes_on_so P t s (Ended e) old c has came idle so = absurd cc
-
--- what a root had was taken out, answered and put back
-pub answer_back : (s : Steps) (free : Bool) (o : Option Reply) (u : Uid) (old mid n : Coord) (a b : Root) → u ≡ root_of s.path → a ≡ root_at u old → mid ≡ on_root u (λ _. no_root) old
-    → IfSome o (λ r. b ≡ root_moved s r (answered free ((keeping_of s.x a).kept) s.goal s.at r) a) → n ≡ on_root u (λ _. b) mid
-    → IfSome o (λ r. n ≡ on_root (root_of s.path) (root_moved s r (answered free ((keeping_of s.x (root_at (root_of s.path) old)).kept) s.goal s.at r)) old)
-answer_back s free None u old mid n a b same taken left moved put = tt
-answer_back s free (Some r) u old mid n a b same taken left moved put =
-    let is : a ≡ root_at (root_of s.path) old = taken ∙ ap (λ w. root_at w old) same in
-    root_back (root_of s.path) u u (root_moved s r (answered free ((keeping_of s.x (root_at (root_of s.path) old)).kept) s.goal s.at r)) old mid n a b same same taken left
-    (moved ∙ ap (λ (t : Root). root_moved s r (answered free ((keeping_of s.x t).kept) s.goal s.at r) a) is) put
 
 -- A giveup of a call likewise.
 pub give_up_call_so : (P : Did Coord → Type 0) (s : Steps) (old c mid : Coord) (came : Came)

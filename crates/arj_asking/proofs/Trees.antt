@@ -6,7 +6,7 @@ use Rattle.arj_protocol.proofs.Maps.{put_same}
 use Rattle.arj_protocol.specs.Ask.{actor}
 use Rattle.arj_protocol.specs.Asking.{known_at_start, was_named}
 use Rattle.arj_protocol.specs.Call.{Known}
-use Rattle.arj_protocol.specs.Coord.{Coord, Joined, Keeping, Root, Said, counts, is_retained, joined_in, keeping_of, kept_of, known_for, nodes_sent, no_keeping, objects_in, plan_for, retained_in, retains, said_in, second_uid, survives, used_of, used_with, with_keeping}
+use Rattle.arj_protocol.specs.Coord.{Coord, Joined, Keeping, Root, Said, counts, is_retained, joined_in, keeping_of, kept_of, known_for, nodes_sent, no_keeping, no_root, objects_in, on_root, plan_for, retained_in, retains, root_at, said_in, second_uid, survives, used_of, used_with, with_keeping}
 use Rattle.arj_protocol.specs.Order.{number_set}
 use Rattle.arj_protocol.specs.Tree.{Tree, ends_of, root_of}
 use Rattle.arj_protocol.specs.Words.{Uid, Path}
@@ -32,6 +32,10 @@ known_by top x k r c (Some known) =
 
 keeping_there : (x : ℕ) (k : Keeping) (r : Root) → keeping_of x (with_keeping x k r) ≡ k
 keeping_there x k r = ap (λ (o : Option Keeping). unwrap_or o no_keeping) (put_same x k r.keeping)
+
+-- what a root has, once it was changed
+pub root_there : (root : Uid) (f : Root → Root) (c : Coord) → root_at root (on_root root f c) ≡ f (root_at root c)
+root_there root f c = ap (λ (o : Option Root). unwrap_or o no_root) (put_same root.num (f (root_at root c)) c.roots)
 
 -- what a call may start with is asked of the renewed root
 pub known_so : (top : Uid) (x : ℕ) (k : Keeping) (r s : Root) (c : Coord) (t : Tree) → s ≡ with_keeping x k r → t ≡ c.tree

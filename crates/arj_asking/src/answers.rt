@@ -3,7 +3,7 @@ ghost use Rattle.std.specs.Prelude.{◌≡◌, ◌++◌, ◌↔◌, is_some, tru
 ghost use Rattle.arj_asking.specs.Calls.{HasNext, MeantFor};
 ghost use Rattle.arj_asking.specs.Hearing.{IsAwaited, asker_in, free_in, heard_as, waits_in};
 ghost use Rattle.arj_asking.specs.Rooms.{AskerHasRoom};
-ghost use Rattle.arj_bind.specs.Heard.{came_of, heard_in, hears};
+ghost use Rattle.arj_bind.specs.Heard.{heard_in};
 ghost use Rattle.arj_coord.specs.Fits.{IncludesNode};
 ghost use Rattle.arj_commit.specs.Steps.{waits_for};
 ghost use Rattle.arj_coord.specs.Shown.{machine_of, now_of};
@@ -11,10 +11,9 @@ ghost use Rattle.arj_coord.specs.Waiting.{idle_doing};
 ghost use Rattle.arj_msg.specs.Sendable.{IsSendable};
 ghost use Rattle.arj_protocol.specs.Ask.{actor, answers};
 ghost use Rattle.arj_protocol.specs.Asking as asking;
-ghost use Rattle.arj_protocol.specs.Asking.{heard_call, heard_none, root_moved};
-ghost use Rattle.arj_protocol.specs.Call.{answered};
+ghost use Rattle.arj_protocol.specs.Asking.{heard_call, heard_none};
 ghost use Rattle.arj_protocol.specs.Coord as coordinator;
-ghost use Rattle.arj_protocol.specs.Coord.{doing_of, is_free, keeping_of, on_doing, on_root, root_at};
+ghost use Rattle.arj_protocol.specs.Coord.{doing_of, is_free, on_doing};
 ghost use Rattle.arj_protocol.specs.Node.{answer_is_meant, is_loaded_for};
 ghost use Rattle.arj_protocol.specs.Effect.{Intent};
 ghost use Rattle.arj_protocol.specs.Tree.{root_of};
@@ -23,7 +22,7 @@ use crate::calls::{caller_of, step_call};
 use crate::commits::hear_commit;
 use crate::rooms::has_room;
 use arj_base::{ObjectState, Uid, object_uid};
-use arj_bind::{CallStep, CallSteps};
+use arj_bind::CallSteps;
 use arj_coord::{Commit, Coord, Effects, Now, Records};
 use arj_msg::{LoadedReply, Message};
 use std::alloc::{AllocError, Global};
@@ -137,28 +136,6 @@ struct Delivery {
     free: bool,
 }
 
-// A root takes up the answer to a step of a call.
-fn answer_root(
-    coord: &mut Coord,
-    steps: CallSteps,
-    delivery: Delivery,
-) -> Result<CallStep, AllocError>
-    requires { IsSendable delivery.message }
-    ensures came { IfOk result (λ step. came_of step ≡ (hears delivery.free (keeping_of steps.x (root_at (root_of steps.path) coord.old)) steps (heard_in delivery.from delivery.message steps)).came) }
-    ensures part { OnOk result (IfSome (heard_in delivery.from delivery.message steps) (λ r. coord.new ≡ on_root (root_of steps.path) (root_moved steps r (answered delivery.free ((keeping_of steps.x (root_at (root_of steps.path) coord.old)).kept) steps.goal steps.at r)) coord.old)) }
-{
-    let Delivery {
-        from,
-        message,
-        free,
-    } = delivery;
-    let uid = steps.path().root();
-    let mut has = coord.take_root(uid)?;
-    let step = has.answered(steps, from, message, free)?;
-    coord.put_root(uid, has)?;
-    Ok(step)
-}
-
 // A step of a call or an include is answered; its action was taken to wait for nothing.
 fn hear_call(
     alloc: Global,
@@ -175,7 +152,12 @@ fn hear_call(
     ensures outs { OnOk result ((c : coordinator.Coord) → coord.old ≡ on_doing (actor steps.path) idle_doing c → delivery.free ≡ is_free (root_of steps.path) (actor steps.path) steps.x c → IfSome (heard_in delivery.from delivery.message steps) (λ r. outs.new ≡ outs.old ++ (heard_call steps r c).outs)) }
 {
     let caller = caller_of(&steps)?;
-    let step = answer_root(coord, steps, delivery)?;
+    let Delivery {
+        from,
+        message,
+        free,
+    } = delivery;
+    let step = coord.answered(steps, from, message, free)?;
     step_call(alloc, coord, caller, step, outs)
 }
 

@@ -23,7 +23,6 @@ use arj_base::{Binding, Path, Uid};
 use arj_bind::{CallEnd, CallStep, CallSteps, Goal};
 use arj_class::Op;
 use arj_coord::{Coord, Effects, Now};
-use arj_root::Root;
 use arj_tree::TreeFault;
 use std::alloc::{AllocError, Global};
 
@@ -49,11 +48,10 @@ fn start_call(
     ensures part { OnOk result (coord.new ≡ on_root (root_of path.now) (with_keeping x (renewed_at free path.now x coord.old)) coord.old) }
     ensures steps { IfOk result (λ s. s ≡ call_steps path.now x op req (root_at (root_of path.now) coord.old) coord.old (renewed_at free path.now x coord.old)) }
 {
-    let mut has = coord.take_root(path.root())?;
-    has.renew(x, free)?;
-    let known = has.known_at_start(path.top_path().last(), x, coord.tree())?;
-    let avoid = has.avoid(x);
-    coord.put_root(path.root(), has)?;
+    let root = path.root();
+    coord.renew(root, x, free)?;
+    let known = coord.known_at_start(root, path.top_path().last(), x)?;
+    let avoid = coord.avoid(root, x);
     Ok(CallSteps::start(path, x, Goal::Call(op), known, avoid, req))
 }
 
@@ -147,18 +145,6 @@ fn go_on(
     wait_now(alloc, coord, action, req, Now::Calling(steps), outs)
 }
 
-// What a root takes note of where a call or an include ends.
-fn hear_end(root: &mut Root, path: &Path, x: u16, store: u8, end: CallEnd) -> Result<(), AllocError>
-    requires { EndFits x store (end_of end) }
-    ensures { OnOk result (root.new ≡ noted_end path.now x store (end_of end) root.old) }
-{
-    match end {
-        CallEnd::Answered(_) => root.note_call(path, x),
-        CallEnd::Included(state) => root.note_include(path, x, store, state),
-        CallEnd::Conflict { .. } | CallEnd::Changed { .. } | CallEnd::Lost { .. } => Ok(()),
-    }
-}
-
 // The root of an action takes note that its call or include has ended.
 fn note_end(
     coord: &mut Coord,
@@ -170,9 +156,13 @@ fn note_end(
     requires { EndFits x store (end_of end) }
     ensures { OnOk result (coord.new ≡ on_root (root_of path.now) (noted_end path.now x store (end_of end)) coord.old) }
 {
-    let mut has = coord.take_root(path.root())?;
-    hear_end(&mut has, path, x, store, end)?;
-    coord.put_root(path.root(), has)
+    match end {
+        CallEnd::Answered(_) => coord.note_call(path, x),
+        CallEnd::Included(state) => coord.note_include(path, x, store, state),
+        CallEnd::Conflict { .. } | CallEnd::Changed { .. } | CallEnd::Lost { .. } => {
+            coord.note_root(path)
+        }
+    }
 }
 
 // Whether a call was given up after its Invoke was sent.

@@ -1,17 +1,15 @@
 // Giveups.
-ghost use Rattle.std.specs.Prelude.{◌≡◌, ◌++◌, ◌∷◌, [], IfOk, OnOk};
+ghost use Rattle.std.specs.Prelude.{◌≡◌, ◌++◌, ◌∷◌, [], OnOk};
 ghost use Rattle.arj_asking.specs.Calls.{HasNext};
 ghost use Rattle.arj_asking.specs.Rooms.{HasRoom};
-ghost use Rattle.arj_bind.specs.Heard as bind;
-ghost use Rattle.arj_bind.specs.Heard.{came_by, came_of};
 ghost use Rattle.arj_coord.specs.Fits.{IncludesNode};
 ghost use Rattle.arj_coord.specs.Waiting.{idle_doing};
 ghost use Rattle.arj_protocol.specs.Ask.{actor};
 ghost use Rattle.arj_protocol.specs.Asking as asking;
-ghost use Rattle.arj_protocol.specs.Asking.{gaveup_lines, give_up_call, root_lost};
-ghost use Rattle.arj_protocol.specs.Call.{given_up, next_node};
+ghost use Rattle.arj_protocol.specs.Asking.{gaveup_lines, give_up_call};
+ghost use Rattle.arj_protocol.specs.Call.{next_node};
 ghost use Rattle.arj_protocol.specs.Coord as coordinator;
-ghost use Rattle.arj_protocol.specs.Coord.{on_doing, on_root};
+ghost use Rattle.arj_protocol.specs.Coord.{on_doing};
 ghost use Rattle.arj_protocol.specs.Step.{waits};
 ghost use Rattle.arj_protocol.specs.Tree.{root_of};
 
@@ -19,7 +17,7 @@ use crate::calls::{caller_of, step_call};
 use crate::commits::give_up_commit;
 use crate::lines::say_all_gave_up;
 use arj_base::Uid;
-use arj_bind::{CallStep, CallSteps};
+use arj_bind::CallSteps;
 use arj_coord::{Coord, Effects, Now, Records};
 use std::alloc::{AllocError, Global};
 
@@ -31,18 +29,6 @@ fn is_waiting(coord: &Coord, action: Uid) -> bool
         Some(Now::Calling(_)) | Some(Now::Committing(_)) => true,
         _ => false,
     }
-}
-
-// A root takes up that a step of a call is given up.
-fn give_up_root(coord: &mut Coord, steps: CallSteps) -> Result<CallStep, AllocError>
-    ensures came { IfOk result (λ step. came_of step ≡ came_by steps (given_up steps.at)) }
-    ensures part { OnOk result (coord.new ≡ on_root (root_of steps.path) (root_lost steps (given_up steps.at)) coord.old) }
-{
-    let uid = steps.path().root();
-    let mut has = coord.take_root(uid)?;
-    let step = has.gave_up(steps)?;
-    coord.put_root(uid, has)?;
-    Ok(step)
 }
 
 // A call is given up; its action was taken to wait for nothing.
@@ -60,7 +46,7 @@ fn give_up_call(
 {
     say_all_gave_up(coord, steps.path().last(), &[steps.node()], outs)?;
     let caller = caller_of(&steps)?;
-    let step = give_up_root(coord, steps)?;
+    let step = coord.gave_up(steps)?;
     step_call(alloc, coord, caller, step, outs)
 }
 

@@ -1,6 +1,6 @@
 // The requests that wait, and how they go out.
 ghost use Rattle.std.specs.Prelude.{◌≡◌, ◌++◌, ◌∷◌, [], map, IfOk, OnOk};
-ghost use Rattle.arj_asking.specs.Sent.{asked, asked_by, go_to, goes_to, waits_now};
+ghost use Rattle.arj_asking.specs.Sent.{asked, asked_by, go_to, waits_now};
 ghost use Rattle.arj_commit.specs.Requests.{requests};
 ghost use Rattle.arj_commit.specs.Tolds.{sent_to};
 ghost use Rattle.arj_coord.specs.Fits.{NowFits};
@@ -18,26 +18,34 @@ use arj_msg::Message;
 use arj_tree::Tree;
 use std::alloc::{AllocError, Global};
 
-/// Requests of the action with this path, each with its node, and whether they are Invokes.
+/// A request of the action with this path, its node, and whether it is an Invoke.
 #[derive(Drop)]
-pub struct Questions {
+pub struct Question {
     pub path: Path,
     pub invoke: bool,
-    pub requests: Requests,
+    pub node: u8,
+    pub request: Message,
+}
+
+/// What an action asks: nothing, one request of a call's step, or the requests of a commit's step, with their path.
+#[derive(Drop)]
+pub enum Questions {
+    Nothing,
+    One(Question),
+    Each(Path, Requests),
 }
 
 // The request of a call's step, with the ends of the root so far.
-fn of_steps(alloc: Global, steps: &CallSteps, tree: &Tree) -> Result<Questions, AllocError>
+fn of_steps(steps: &CallSteps, tree: &Tree) -> Result<Question, AllocError>
     ensures { IfOk result (λ q. (c : coordinator.Coord) → c.tree ≡ tree.now → asked q c ≡ asks_step steps.now c) }
 {
     let path = *steps.path();
-    let request = steps.next(tree.ends(path.root()))?;
-    let mut requests = Requests::new(alloc);
-    requests.push(request)?;
-    Ok(Questions {
+    let asked = steps.next(tree.ends(path.root()))?;
+    Ok(Question {
         path,
         invoke: steps.invokes(),
-        requests,
+        node: asked.0,
+        request: asked.1,
     })
 }
 
@@ -65,71 +73,64 @@ fn waiting(alloc: Global, commit: &Commit) -> Result<Requests, AllocError>
 
 // The same with their path.
 fn of_commit(alloc: Global, commit: &Commit) -> Result<Questions, AllocError>
-    ensures { IfOk result (λ q. (c : coordinator.Coord) → asked q c ≡ asks_machine (machine_of commit.now) c) }
+    ensures { IfOk result (λ questions. (c : coordinator.Coord) → asked_by questions c ≡ asks_machine (machine_of commit.now) c) }
 {
-    Ok(Questions {
-        path: plan_in(commit).path,
-        invoke: false,
-        requests: waiting(alloc, commit)?,
-    })
+    let path = plan_in(commit).path;
+    Ok(Questions::Each(path, waiting(alloc, commit)?))
 }
 
 /// The requests of what an action of this tree waits for.
-pub fn questions_of(alloc: Global, now: &Now, tree: &Tree) -> Result<Option<Questions>, AllocError>
+pub fn questions_of(alloc: Global, now: &Now, tree: &Tree) -> Result<Questions, AllocError>
     ensures { IfOk result (λ questions. (c : coordinator.Coord) → c.tree ≡ tree.now → asked_by questions c ≡ again_now c (now_of now.now)) }
 {
     match now {
-        Now::Idle => Ok(None),
-        Now::Calling(steps) => Ok(Some(of_steps(alloc, steps, tree)?)),
-        Now::Committing(commit) => Ok(Some(of_commit(alloc, commit)?)),
+        Now::Idle => Ok(Questions::Nothing),
+        Now::Calling(steps) => Ok(Questions::One(of_steps(steps, tree)?)),
+        Now::Committing(commit) => of_commit(alloc, commit),
     }
 }
 
-// The root of an action takes note that a request of it goes to a node.
-fn note_sent(coord: &mut Coord, path: &Path, invoke: bool, node: u8) -> Result<(), AllocError>
-    ensures { OnOk result (coord.new ≡ goes_to path.now invoke node coord.old) }
+// A request goes to its node, and the root takes note of it.
+fn send_one(coord: &mut Coord, question: Question, outs: &mut Effects) -> Result<(), AllocError>
+    ensures part { OnOk result (coord.new ≡ (asked question coord.old).part) }
+    ensures outs { OnOk result (outs.new ≡ outs.old ++ (asked question coord.old).outs) }
 {
-    let mut has = coord.take_root(path.root())?;
-    has.note_sent(path, node, invoke)?;
-    coord.put_root(path.root(), has)
+    let Question {
+        path,
+        invoke,
+        node,
+        request,
+    } = question;
+    outs.send(node, request)?;
+    coord.note_sent(&path, node, invoke)
 }
 
-// Each request goes to its node.
+// Each request of a commit goes to its node, and the root takes note of it.
 fn send_each(
     coord: &mut Coord,
     path: &Path,
-    invoke: bool,
     requests: Requests,
     outs: &mut Effects,
 ) -> Result<(), AllocError>
-    ensures part { OnOk result (coord.new ≡ go_to path.now invoke requests coord.old) }
+    ensures part { OnOk result (coord.new ≡ go_to path.now requests coord.old) }
     ensures outs { OnOk result (outs.new ≡ outs.old ++ map sent_to requests) }
 {
     for (node, request) in requests.into_vec() {
-        note_sent(coord, path, invoke, node)?;
         outs.send(node, request)?;
+        coord.note_sent(path, node, false)?;
     }
     Ok(())
 }
 
 /// Sends requests, if there are any, and the root takes note of it.
-pub fn send(
-    coord: &mut Coord,
-    questions: Option<Questions>,
-    outs: &mut Effects,
-) -> Result<(), AllocError>
+pub fn send(coord: &mut Coord, questions: Questions, outs: &mut Effects) -> Result<(), AllocError>
     ensures part { OnOk result (coord.new ≡ (asked_by questions coord.old).part) }
     ensures outs { OnOk result (outs.new ≡ outs.old ++ (asked_by questions coord.old).outs) }
 {
     match questions {
-        Some(
-            Questions {
-                path,
-                invoke,
-                requests,
-            },
-        ) => send_each(coord, &path, invoke, requests, outs),
-        None => Ok(()),
+        Questions::Nothing => Ok(()),
+        Questions::One(question) => send_one(coord, question, outs),
+        Questions::Each(path, requests) => send_each(coord, &path, requests, outs),
     }
 }
 

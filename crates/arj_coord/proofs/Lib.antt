@@ -2,6 +2,7 @@ pub mod Appended
 pub mod Deferred
 pub mod Fits
 pub mod Lefts
+pub mod InPlace
 pub mod Maps
 pub mod Waiters
 pub mod Waits

@@ -9,7 +9,7 @@ ghost use Rattle.arj_coord.specs.Waiting.{waiting, idle_doing, now_in};
 ghost use Rattle.arj_intent.specs.Records.{entry_of};
 ghost use Rattle.arj_protocol.specs.Asking.{begin_action, last_req};
 ghost use Rattle.arj_protocol.specs.Coord as coord;
-ghost use Rattle.arj_protocol.specs.Coord.{new_coord, no_root, number_of, uid_at, doing_of, on_doing, root_at, on_root};
+ghost use Rattle.arj_protocol.specs.Coord.{new_coord, number_of, uid_at, doing_of, on_doing};
 ghost use Rattle.arj_protocol.specs.Order.{at_number, has};
 ghost use Rattle.arj_protocol.specs.Step.{branch_named, branch_numbered};
 ghost use Rattle.arj_protocol.specs.Tree.{ended_at, next_uid, doomed_at, at_place};
@@ -194,35 +194,6 @@ impl Coord {
         ensures { IfOk result (λ numbers. numbers ≡ waiting 1 self.now.doings) }
     {
         self.doings.numbers(self.alloc)
-    }
-
-    // ---- roots
-
-    /// What a root has, where something was noted of it.
-    pub fn root(&self, root: Uid) -> Option<&Root>
-        ensures { option_copied result ≡ at_number root.num self.now.roots }
-    {
-        self.roots.get(&root.num)
-    }
-
-    /// Takes out what a root has: it has nothing.
-    pub fn take_root(&mut self, root: Uid) -> Result<Root, AllocError>
-        ensures taken { IfOk result (λ taken. taken ≡ root_at root self.old) }
-        ensures left { OnOk result (self.new ≡ on_root root (λ _. no_root) self.old) }
-    {
-        let nothing = Root::new(self.alloc);
-        match self.roots.insert(root.num, nothing)? {
-            Some(root) => Ok(root),
-            None => Ok(Root::new(self.alloc)),
-        }
-    }
-
-    /// A root has this from now on.
-    pub fn put_root(&mut self, root: Uid, has: Root) -> Result<(), AllocError>
-        ensures { OnOk result (self.new ≡ on_root root (λ _. has) self.old) }
-    {
-        self.roots.insert(root.num, has)?;
-        Ok(())
     }
 
     // ---- the tree

@@ -1,13 +1,12 @@
 // The decision of a commit, its acknowledgements and queries.
 ghost use Rattle.std.specs.Prelude.{◌≡◌, ◌++◌, false, is_some, option_map, IfOk, IfSome, OnOk};
-ghost use Rattle.arj_commit.specs.Fits.{PlanFits};
 ghost use Rattle.arj_commit.specs.Tolds.{work_of};
 ghost use Rattle.arj_coord.specs.Ended.{record_in, awaiting, without_node, left_by};
 ghost use Rattle.arj_intent.specs.Records.{IsInForm, shown};
 ghost use Rattle.arj_protocol.specs.Ask.{actor};
-ghost use Rattle.arj_protocol.specs.Coord.{doing_of, is_kept_top, on_root};
+ghost use Rattle.arj_protocol.specs.Coord.{doing_of, is_kept_top};
 ghost use Rattle.arj_protocol.specs.Ending as endings;
-ghost use Rattle.arj_protocol.specs.Ending.{answer_decided, answer_recorded, is_kept_commit, is_over, let_go, root_after, root_or_self, tolds_let_go, took_part};
+ghost use Rattle.arj_protocol.specs.Ending.{answer_decided, answer_recorded, is_kept_commit, is_over, let_go, root_or_self, tolds_let_go, took_part};
 ghost use Rattle.arj_protocol.specs.Order.{at_uid, without_uid};
 ghost use Rattle.arj_protocol.specs.Tree.{branch_of};
 
@@ -16,7 +15,7 @@ use crate::records::record_of;
 use crate::tolds::{has, one_end, send_all, tell, tell_all};
 use crate::{Coord, Effects, Record, Records};
 use arj_base::{End, NodeList, Uid};
-use arj_commit::{Plan, Telling};
+use arj_commit::Telling;
 use arj_intent::Intent;
 use arj_tree::Kind;
 use std::alloc::AllocError;
@@ -43,16 +42,6 @@ fn awaited(intent: &Option<Intent>) -> Result<Option<Record>, AllocError>
 }
 
 impl Coord {
-    // What a root keeps after a decided commit.
-    fn note_decided(&mut self, root: Uid, plan: &Plan) -> Result<(), AllocError>
-        requires { PlanFits plan.now }
-        ensures { OnOk result (self.new ≡ on_root root (root_after plan.now) self.old) }
-    {
-        let mut has = self.take_root(root)?;
-        has.decided(plan)?;
-        self.put_root(root, has)
-    }
-
     // The nodes of a record, if there is one, are awaited.
     fn await_nodes(&mut self, top: Uid, nodes: Option<Record>) -> Result<(), AllocError>
         ensures { OnOk result (self.new ≡ awaiting top nodes self.old) }
@@ -89,7 +78,7 @@ impl Coord {
         let took = telling.participants(self.alloc)?;
         self.end(top, End::Commit)?;
         self.take_part(top, took);
-        self.note_decided(plan.path.root(), plan)?;
+        self.note_decided(plan)?;
         self.await_nodes(top, awaited)
     }
 

@@ -22,13 +22,14 @@ mod questions;
 mod record;
 mod records;
 mod refusals;
+mod roots;
 mod tolds;
 
 pub use coord::Coord;
 pub use effect::Effect;
 pub use effects::Effects;
 pub use ending::EndLine;
-pub use laws::{doings_change_at_once, roots_change_at_once};
+pub use laws::doings_change_at_once;
 pub use now::{Commit, Now};
 pub use record::Record;
 pub use records::Records;

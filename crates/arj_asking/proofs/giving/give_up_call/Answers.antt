@@ -14,7 +14,7 @@ pub returns-clause-part : goal.returns-clause-part
 returns-clause-part c =
     let s = c.args.steps in
     on_ok_weaker c.step_call.result
-    (λ steps d idle. give_up_call_so (λ t. c.step_call.new.coord ≡ t.part) s c.args.coord.now d c.give_up_root.new.coord (came_of c.in_ok-step.step)
+    (λ steps d idle. give_up_call_so (λ t. c.step_call.new.coord ≡ t.part) s c.args.coord.now d c.gave_up.new.self (came_of c.in_ok-step.step)
     idle c.in_ok-step.ensures.came c.in_ok-step.ensures.part (λ next e came mid. steps s next e c.in_ok-caller.ensures c.requires.room came mid))
     c.step_call.ensures.part
 
@@ -24,6 +24,6 @@ returns-clause-outs c =
     on_ok_weaker c.step_call.result
     (λ steps d idle. lost_lines s c.args.coord.now d c.last.result c.node.result c.args.outs.now c.say_all_gave_up.new.outs c.step_call.new.outs
     (c.last.ensures ∙ ap (λ (p : Path). actor p) c.path.ensures) c.node.ensures idle c.in_ok-say_all_gave_up.ensures
-    (give_up_call_so (λ t. c.step_call.new.outs ≡ c.say_all_gave_up.new.outs ++ t.outs) s c.args.coord.now d c.give_up_root.new.coord (came_of c.in_ok-step.step)
+    (give_up_call_so (λ t. c.step_call.new.outs ≡ c.say_all_gave_up.new.outs ++ t.outs) s c.args.coord.now d c.gave_up.new.self (came_of c.in_ok-step.step)
     idle c.in_ok-step.ensures.came c.in_ok-step.ensures.part (λ next e came mid. steps s next e c.in_ok-caller.ensures c.requires.room came mid)))
     c.step_call.ensures.outs
