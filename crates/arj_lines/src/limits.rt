@@ -1,0 +1,4 @@
+// How much is read at once.
+
+/// How many bytes are asked of the source at once.
+pub const READ_BYTES: usize = 512;
