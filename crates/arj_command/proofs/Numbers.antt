@@ -1,6 +1,8 @@
 -- Numbers as they are printed, and as they are read.
-use Rattle.std.proofs.Common.{◌≡◌, inl, inr, ℕ, zero, suc, ◌+◌, ◌<◌, ◌≤◌, List, [], ◌∷◌, length, refl, sym, ◌∙◌, ap, subst, arith}
+use Rattle.std.proofs.Common.{◌≡◌, ℕ, zero, suc, ◌<◌, ◌≤◌, List, [], ◌∷◌, refl, sym, ◌∙◌, ap, subst, arith}
 use Rattle.std.specs.Prelude.{Result, Ok, Err, get_or}
+use Rattle.std.proofs.Math.Logic.{⊎_elim}
+use Rattle.std.proofs.Math.Nat.{eq-or-lt_of_le}
 use Rattle.std.specs.Fmt.{decimal}
 use Rattle.std.specs.Str.Parse.{AllDigits, ParsesUnsigned, digits_value}
 use Rattle.std.proofs.lemmas.Fmt.{decimal-digits_value, decimal_digit, decimal_injective, decimal_nonempty, first_decimal, parse-decimal}
@@ -11,7 +13,7 @@ use Rattle.arj_bank.specs.Bank.{Generates}
 use Rattle.arj_disk.specs.declared.disk.Disk as disk
 use Rattle.arj_loop.specs.Replayed.{Answer, Outside}
 use Rattle.arj_loop.specs.declared.machine.Machine.{Ghosts}
-use Rattle.arj_command.specs.Command.{IsGenerate, IsPlain, IsReplay, NamesBank, most_banks}
+use Rattle.arj_command.specs.Command.{IsCheck, IsGenerate, IsPlain, IsReplay, NamesBank, most_banks}
 
 own : IsNumeralModel (AllDigits 10) (digits_value 10)
 own = numerals_by_value (AllDigits 10) tells_digits
@@ -52,7 +54,24 @@ not_both (word ∷ []) text names is = names
 not_both (word ∷ number ∷ []) text names is = is
 not_both (word ∷ number ∷ more ∷ words) text names is = names
 
+-- and so is `check`
+pub not_check : (words : List (String Global)) (text : List ℕ) → NamesBank words text → IsCheck words → ⊥
+not_check [] text names is = names
+not_check (word ∷ []) text names is = names
+not_check (word ∷ number ∷ []) text names is = is
+not_check (word ∷ number ∷ more ∷ words) text names is = names
+
+-- which is another word
+pub not_two : (words : List (String Global)) → IsReplay words → IsCheck words → ⊥
+not_two [] replay check = replay
+not_two (word ∷ []) replay check = omega (arith, ap (λ bs. get_or bs 0 0) (sym replay ∙ check))
+not_two (word ∷ more ∷ words) replay check = replay
+
 -- words ask for one bank
 pub generates_one : {D M : Type 0} (m : Ghosts M D) (d : disk.Ghosts D) (words : List (String Global)) (n k : ℕ) → IsGenerate words n → IsGenerate words k → (before after : Outside D) (answer : Answer M)
     → Generates m d n before after answer → Generates m d k before after answer
 generates_one m d words n k first second before after answer h = subst (λ i. Generates m d i before after answer) (one_number words n k first second) h
+
+-- a status up to 8 that isn't 8
+pub le_7 : (n : ℕ) → n ≤ 8 → (n ≡ 8 → ⊥) → n ≤ 7
+le_7 n within other = ⊎_elim (λ same. absurd (other same)) (λ less. omega (arith, less)) (eq-or-lt_of_le within)

@@ -1,9 +1,9 @@
 -- What a run of a script shows.
-use Rattle.std.proofs.Common.{◌≡◌, ◌⊎◌, inl, inr, ℕ, true, filter, List, [], ◌∷◌, ◌++◌, Option, Some, None, refl, sym, ◌∙◌, ap, subst, arith}
+use Rattle.std.proofs.Common.{◌≡◌, inl, inr, ℕ, true, filter, List, [], ◌∷◌, ◌++◌, Option, Some, None, refl, sym, ◌∙◌, ap, subst, arith}
 use Rattle.std.proofs.Math.Logic.{⊎_elim}
 use Rattle.std.proofs.lemmas.List.{append-nil}
 use Rattle.arj_command.specs.Facts.{Facts, behind}
-use Rattle.arj_command.specs.Outcome.{Around, CameShows, Headline, Said, Shown, around, world_of}
+use Rattle.arj_command.specs.Outcome.{CameShows, Headline, Said, Shown, around, world_of}
 use Rattle.arj_core.specs.declared.node.Core as core
 use Rattle.arj_disk.specs.declared.disk.Disk as disk
 use Rattle.arj_law_parts.specs.steps.Halts.{armed_node, halted_node}
@@ -14,7 +14,7 @@ use Rattle.arj_protocol.specs.Words.which
 use Rattle.arj_world.specs.Tells.{halts}
 use Rattle.arj_loop.specs.Input.{Arrived, script_of}
 use Rattle.arj_loop.specs.Replayed.{Answer, CameTo, Closes, EndsSo, Outside, StopsShort, answer}
-use Rattle.arj_loop.specs.Running.{Hand, Halfway, MachineRuns, Stage, Why, last_body, last_lines, status_of}
+use Rattle.arj_loop.specs.Running.{Hand, MachineRuns, Stage, Why, last_body, last_lines, status_of}
 use Rattle.arj_loop.specs.declared.ending.End.{End}
 use Rattle.arj_loop.specs.declared.ending.End.TheVariants as ending
 use Rattle.arj_base.specs.Count.{Rose}

@@ -2,7 +2,8 @@
 ghost use Rattle.std.specs.Prelude.{◌≡◌, ◌≢◌, ◌≤◌, ◌⊎◌, ℕ, [], None};
 ghost use Rattle.arj_bank.specs.Bank.{Generates};
 ghost use Rattle.arj_base.specs.Count.{Rose};
-ghost use Rattle.arj_command.specs.Command.{IsCommand, IsGenerate, IsReplay};
+ghost use Rattle.arj_checking.specs.Checks.{Checks, ends};
+ghost use Rattle.arj_command.specs.Command.{IsCheck, IsCommand, IsGenerate, IsReplay};
 ghost use Rattle.arj_command.specs.Outcome.{BankHeadline, Headline, Shown, around, said, world_of};
 ghost use Rattle.arj_loop.specs.Replayed.{Closes, StopsShort, answer, outside};
 ghost use Rattle.arj_nodes.specs.AllNodes.{AreFresh};
@@ -12,6 +13,7 @@ ghost use Rattle.arj_law_nodes.specs.nodes.Readings.{Reads};
 
 use crate::words::{Command, asked_for};
 use arj_bank::generated;
+use arj_checking::{Finding, checked};
 use arj_core::Core;
 use arj_disk::{Disk, Rack};
 use arj_io::{Sink, Source};
@@ -41,15 +43,20 @@ fn run_command<S: Source, K: Sink, D: Disk, C: Core + Drop>(
     rack: &mut Rack<D>,
     journal: &mut Lines,
     why: &mut Option<BadLine>,
+    found: &mut Option<Finding>,
     nodes: &mut Option<AllNodes<C>>,
 ) -> u8
     requires ready { AreFresh D.Disk rack.old }
     requires fresh { journal.old ≡ [] }
     requires none { nodes.old ≡ None }
+    requires nothing { found.old ≡ None }
     ensures closes { IsReplay words.now → result ≢ 4 → result ≢ 5 → Closes (all_nodes C.Core D.Disk) (outside (S.left source.old) (S.faults source.old) (K.taken sink.old) rack.old) (outside (S.left source.new) (S.faults source.new) (K.taken sink.new) rack.new) (answer result why.new journal.new nodes.new) }
     ensures short { IsReplay words.now → (result ≡ 4) ⊎ (result ≡ 5) → StopsShort (all_nodes C.Core D.Disk) (outside (S.left source.old) (S.faults source.old) (K.taken sink.old) rack.old) (outside (S.left source.new) (S.faults source.new) (K.taken sink.new) rack.new) result }
     ensures generates { (n : ℕ) → IsGenerate words.now n → Generates (all_nodes C.Core D.Disk) D.Disk n (outside (S.left source.old) (S.faults source.old) (K.taken sink.old) rack.old) (outside (S.left source.new) (S.faults source.new) (K.taken sink.new) rack.new) (answer result why.new journal.new nodes.new) }
-    ensures statuses { result ≤ 7 }
+    ensures checks { IsCheck words.now → Checks (ends (S.left source.old) (S.faults source.old) (K.taken sink.old)) (ends (S.left source.new) (S.faults source.new) (K.taken sink.new)) result found.new }
+    ensures checks_alone { IsCheck words.now → (rack.new ≡ rack.old) × (journal.new ≡ journal.old) × (why.new ≡ why.old) × (nodes.new ≡ nodes.old) }
+    ensures only_check { (IsCheck words.now → ⊥) → (found.new ≡ found.old) × (result ≢ 8) }
+    ensures statuses { result ≤ 8 }
     ensures command { result ≡ 1 → IsCommand words.now → ⊥ }
     ensures no_command { (IsCommand words.now → ⊥) → result ≡ 1 }
     ensures usage { result ≡ 1 → (source.new ≡ source.old) × (sink.new ≡ sink.old) × (rack.new ≡ rack.old) × (journal.new ≡ journal.old) × (why.new ≡ why.old) × (nodes.new ≡ nodes.old) }
@@ -63,6 +70,7 @@ fn run_command<S: Source, K: Sink, D: Disk, C: Core + Drop>(
             alloc, source, sink, rack, journal, why, nodes,
         ),
         Command::Bank(n) => generated::<K, D, AllNodes<C>>(alloc, n, sink, rack, journal, nodes),
+        Command::Check => checked::<S, K>(alloc, source, sink, found),
         Command::None => 1,
     }
 }
@@ -77,15 +85,20 @@ pub fn run_on<S: Source, K: Sink, D: Disk, C: Core + Drop>(
     rack: &mut Rack<D>,
     journal: &mut Lines,
     why: &mut Option<BadLine>,
+    found: &mut Option<Finding>,
     world: &mut Option<World<C>>,
 ) -> u8
     requires ready { AreFresh D.Disk rack.old }
     requires fresh { journal.old ≡ [] }
     requires none { world.old ≡ None }
+    requires nothing { found.old ≡ None }
     ensures headline { (read : Reads) → SaysReadings C.Core read → IsReplay words.now → result ≢ 4 → result ≢ 5 → Headline C.Core D.Disk read (around (outside (S.left source.old) (S.faults source.old) (K.taken sink.old) rack.old) (outside (S.left source.new) (S.faults source.new) (K.taken sink.new) rack.new)) (said result why.new journal.new world.new) }
     ensures shown { (read : Reads) → SaysReadings C.Core read → IsReplay words.now → (result ≡ 4) ⊎ (result ≡ 5) → Shown C.Core D.Disk read (around (outside (S.left source.old) (S.faults source.old) (K.taken sink.old) rack.old) (outside (S.left source.new) (S.faults source.new) (K.taken sink.new) rack.new)) result }
     ensures bank { (read : Reads) → SaysReadings C.Core read → (n : ℕ) → IsGenerate words.now n → BankHeadline C.Core D.Disk read n (around (outside (S.left source.old) (S.faults source.old) (K.taken sink.old) rack.old) (outside (S.left source.new) (S.faults source.new) (K.taken sink.new) rack.new)) (said result why.new journal.new world.new) }
-    ensures statuses { result ≤ 7 }
+    ensures checks { IsCheck words.now → Checks (ends (S.left source.old) (S.faults source.old) (K.taken sink.old)) (ends (S.left source.new) (S.faults source.new) (K.taken sink.new)) result found.new }
+    ensures checks_alone { IsCheck words.now → (rack.new ≡ rack.old) × (journal.new ≡ journal.old) × (why.new ≡ why.old) × (world.new ≡ world.old) }
+    ensures only_check { (IsCheck words.now → ⊥) → (found.new ≡ found.old) × (result ≢ 8) }
+    ensures statuses { result ≤ 8 }
     ensures command { result ≡ 1 → IsCommand words.now → ⊥ }
     ensures no_command { (IsCommand words.now → ⊥) → result ≡ 1 }
     ensures usage { result ≡ 1 → (source.new ≡ source.old) × (sink.new ≡ sink.old) × (rack.new ≡ rack.old) × (journal.new ≡ journal.old) × (why.new ≡ why.old) × (world.new ≡ world.old) }
@@ -98,7 +111,7 @@ pub fn run_on<S: Source, K: Sink, D: Disk, C: Core + Drop>(
     banks_show_what_is_promised::<C, D>();
     let mut nodes = None;
     let status = run_command::<S, K, D, C>(
-        alloc, words, source, sink, rack, journal, why, &mut nodes,
+        alloc, words, source, sink, rack, journal, why, found, &mut nodes,
     );
     *world = world_of(nodes);
     status

@@ -1,7 +1,7 @@
 // What the words of the command line ask for.
 ghost use Rattle.std.specs.Prelude.{◌≡◌, ◌<◌, ℕ, List, MatchBool, MatchOption};
 ghost use Rattle.std.specs.Fmt.{decimal};
-ghost use Rattle.arj_command.specs.Command.{IsPlain, IsReplay, NamesBank, Says, most_banks};
+ghost use Rattle.arj_command.specs.Command.{IsCheck, IsPlain, IsReplay, NamesBank, Says, most_banks};
 
 /// What is asked for.
 #[derive(Clone, Copy)]
@@ -10,6 +10,8 @@ pub enum Command {
     Replay,
     /// The bank of a number is run.
     Bank(u32),
+    /// A finished journal is checked.
+    Check,
     /// Nothing: the words aren't a command line.
     None,
 }
@@ -61,12 +63,25 @@ fn is_replay(words: &[String]) -> bool
     word.as_str() == "replay"
 }
 
+// Whether it is the one word `check`.
+fn is_check(words: &[String]) -> bool
+    ensures { MatchBool result (IsCheck words.now) (IsCheck words.now → ⊥) }
+{
+    let [word] = words else {
+        return false;
+    };
+    word.as_str() == "check"
+}
+
 /// What the words ask for.
 pub fn asked_for(words: &[String]) -> Command
     ensures { Says words.now result }
 {
     if is_replay(words) {
         return Command::Replay;
+    }
+    if is_check(words) {
+        return Command::Check;
     }
     let Some(word) = bank_word(words) else {
         return Command::None;

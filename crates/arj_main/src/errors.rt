@@ -2,6 +2,7 @@
 ghost use Rattle.std.specs.Prelude.{◌≡◌, IfSome};
 ghost use Rattle.arj_journal.specs.declared.body.Body.{Body};
 
+use crate::checked::explain_found;
 use crate::forms::form_of;
 use crate::help::{help, usage};
 use crate::pieces::{piece_at, word_at};
@@ -9,13 +10,14 @@ use crate::refused::{count_of_refused, first_refused, refusal_words};
 use crate::shown::Shown;
 use crate::slip_tests::is;
 use crate::{Place, place_of_line, slip_of};
+use arj_checking::Finding;
 use arj_journal::{Body, Line, Which};
 use arj_loop::BadLine;
 use std::alloc::Global;
 use std::io;
 
-/// What a run leaves, of which is told: its words, whether there are none, or they are `replay` and a file; the script as far as it was read, where
-/// it is remembered; the journal; and why a line is bad.
+/// What a run leaves, of which is told: its words, whether there are none, or they are a command and a file; the input as far as it
+/// was read, where it is remembered; the journal; why a line is bad; and what was found of a journal that was checked.
 #[derive(Clone, Copy)]
 pub struct Ran<'a> {
     pub no_words: bool,
@@ -23,12 +25,16 @@ pub struct Ran<'a> {
     pub script: Option<&'a [u8]>,
     pub journal: &'a [Line],
     pub why: Option<BadLine>,
+    pub found: Option<&'a Finding>,
 }
 
 /// Says on standard error what ended the program's run, and where, by the status and what the run left. At status 0 it says how
 /// many events were refused, if some were.
 pub fn explain(rt: &impl Eprint, alloc: Global, status: u8, ran: &Ran) -> io::Result<()> {
     let last = ran.journal.last();
+    if let Some(found) = ran.found {
+        return explain_found(rt, alloc, found, ran.script);
+    }
     match status {
         0 => refusals(rt, ran.journal),
         1 if ran.no_words => usage(rt),
@@ -79,8 +85,8 @@ fn bad_line(rt: &impl Eprint, alloc: Global, ran: &Ran) -> io::Result<()> {
     }
 }
 
-// A bad line of a script that is remembered: its text, what could stand there, and the slip.
-fn known_line(
+/// Tells of a bad line of a script that is remembered: its text, what could stand there, and the slip.
+pub fn known_line(
     rt: &impl Eprint,
     alloc: Global,
     why: BadLine,
@@ -110,8 +116,8 @@ fn known_line(
     }
 }
 
-// The text of the line with this number, from 1.
-fn line_at(script: &[u8], number: u32) -> &[u8] {
+/// The text of the line with this number, from 1.
+pub fn line_at(script: &[u8], number: u32) -> &[u8] {
     match piece_at(script, b'\n', (number as usize).saturating_sub(1)) {
         Some(line) => line,
         None => &[],

@@ -1,7 +1,7 @@
 // The help text.
 use std::io;
 
-/// Says what the commands are, in a line.
+/// Says the usage line, whose words don't change with the commands: the help names all of them.
 pub fn usage(rt: &impl Eprint) -> io::Result<()> {
     eprintln!(rt; "usage: arjuna replay | arjuna generate N")
 }
@@ -11,11 +11,14 @@ pub fn help(rt: &impl Eprint, gave_file: bool) -> io::Result<()> {
     usage(rt)?;
     if gave_file {
         eprintln!(rt;
-            "`replay` takes no file: the script comes on standard input, as in `arjuna replay < FILE`"
+            "`replay` and `check` take no file: the input comes on standard input, as in `arjuna replay < FILE`"
         )?;
     }
     eprintln!(rt;
         "  arjuna replay < SCRIPT   runs the script on standard input, and writes its journal"
+    )?;
+    eprintln!(rt;
+        "  arjuna check < JOURNAL   checks a script, a line `journal` and a journal's lines: is it serial, are nested calls in order"
     )?;
     eprintln!(rt;
         "  arjuna generate N        runs the bank of the number N, from 0 to 4294967295, and writes its summary"

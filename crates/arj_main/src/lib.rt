@@ -1,9 +1,11 @@
 //! The main's own work: the words of the command line, a source that remembers what it gave, and what is said on standard error.
 //!
-//! It stands on `arj_script`, whose reader tells where a line stands, `arj_io`, `arj_loop` and `arj_journal`. It gives no contract
-//! upward: what it says tells of a status that is known. Which slip of a bad line is named, and when, says `specs/Slips.antt`.
+//! It stands on `arj_script`, whose reader tells where a line stands, `arj_io`, `arj_loop`, `arj_journal` and `arj_checking`. It gives
+//! no contract upward: what it says tells of a status, and of what was found, that are known. Which slip of a bad line is named, and
+//! when, says `specs/Slips.antt`.
 #![tactic(auto)]
 
+mod checked;
 mod command;
 mod errors;
 mod forms;

@@ -8,6 +8,7 @@
 mod rack;
 mod top;
 
+pub use arj_checking::Finding;
 pub use arj_loop::BadLine;
 pub use arj_world::World;
 pub use rack::empty_rack;

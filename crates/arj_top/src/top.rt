@@ -1,12 +1,14 @@
 // The top call.
 ghost use Rattle.std.specs.Prelude.{◌≡◌, ◌≢◌, ◌≤◌, ◌⊎◌, ℕ, [], None};
 ghost use Rattle.arj_base.specs.Count.{Rose};
-ghost use Rattle.arj_command.specs.Command.{IsCommand, IsGenerate, IsReplay};
+ghost use Rattle.arj_checking.specs.Checks.{Checks, ends};
+ghost use Rattle.arj_command.specs.Command.{IsCheck, IsCommand, IsGenerate, IsReplay};
 ghost use Rattle.arj_command.specs.Outcome.{BankHeadline, Headline, Shown, around, said};
 ghost use Rattle.arj_loop.specs.Replayed.{outside};
 ghost use Rattle.arj_nodes.specs.AllNodes.{AreFresh};
 ghost use Rattle.arj_law_nodes.specs.nodes.Readings.{reading_of};
 
+use arj_checking::Finding;
 use arj_command::run_on;
 use arj_core::Core;
 use arj_disk::{Disk, Rack};
@@ -30,7 +32,8 @@ pub type Node = NodeCore<NodeParts<ShadowStore>>;
 /// 0: the input was read to its end and every line was run, or the bank was run and its summary written. 1: the words aren't a
 /// command line. 2: a line isn't in the grammar. 3: a read failed. 4: a write failed. 5: memory was wanting; a node answers so too
 /// where it can't spell a message, or restarts at the last incarnation that 32 bits count. 6: a limit was met. 7: a disk stopped while it
-/// was formatted, or while the bank's balances were read.
+/// was formatted, or while the bank's balances were read. 8: a journal that was checked can't be read as a run, or an answer in it differs;
+/// what was found of it is in `found`.
 pub fn arjuna<S: Source, K: Sink, D: Disk>(
     alloc: Global,
     words: &[String],
@@ -39,11 +42,13 @@ pub fn arjuna<S: Source, K: Sink, D: Disk>(
     rack: &mut Rack<D>,
     journal: &mut Lines,
     why: &mut Option<BadLine>,
+    found: &mut Option<Finding>,
     world: &mut Option<World<Node>>,
 ) -> u8
     requires ready { AreFresh D.Disk rack.old }
     requires fresh { journal.old ≡ [] }
     requires none { world.old ≡ None }
+    requires nothing { found.old ≡ None }
 
     // A script: which bytes came and which of their lines were run, what each status means, what was written, and what the
     // journal, the disks and the world show of the events.
@@ -53,8 +58,13 @@ pub fn arjuna<S: Source, K: Sink, D: Disk>(
     // A generated bank: what each status means, its summary, and the same of its events.
     ensures bank { (n : ℕ) → IsGenerate words.now n → BankHeadline ⟦<Node as Core>⟧ D.Disk (reading_of ⟦<ShadowStore as ObjectStore>⟧) n (around (outside (S.left source.old) (S.faults source.old) (K.taken sink.old) rack.old) (outside (S.left source.new) (S.faults source.new) (K.taken sink.new) rack.new)) (said result why.new journal.new world.new) }
 
+    // The check of a journal: what each status means, what was written of it, and that it touches nothing else.
+    ensures checks { IsCheck words.now → Checks (ends (S.left source.old) (S.faults source.old) (K.taken sink.old)) (ends (S.left source.new) (S.faults source.new) (K.taken sink.new)) result found.new }
+    ensures checks_alone { IsCheck words.now → (rack.new ≡ rack.old) × (journal.new ≡ journal.old) × (why.new ≡ why.old) × (world.new ≡ world.old) }
+    ensures only_check { (IsCheck words.now → ⊥) → (found.new ≡ found.old) × (result ≢ 8) }
+
     // Which status, where no record above says it: 5 alone is free.
-    ensures statuses { result ≤ 7 }
+    ensures statuses { result ≤ 8 }
     ensures command { result ≡ 1 → IsCommand words.now → ⊥ }
     ensures no_command { (IsCommand words.now → ⊥) → result ≡ 1 }
     ensures usage { result ≡ 1 → (source.new ≡ source.old) × (sink.new ≡ sink.old) × (rack.new ≡ rack.old) × (journal.new ≡ journal.old) × (why.new ≡ why.old) × (world.new ≡ world.old) }
@@ -64,5 +74,5 @@ pub fn arjuna<S: Source, K: Sink, D: Disk>(
     ensures no_write_fault { result ≢ 4 → K.faults sink.new ≡ K.faults sink.old }
 {
     cores_say_their_readings();
-    run_on::<S, K, D, Node>(alloc, words, source, sink, rack, journal, why, world)
+    run_on::<S, K, D, Node>(alloc, words, source, sink, rack, journal, why, found, world)
 }

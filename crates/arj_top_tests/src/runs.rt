@@ -141,6 +141,7 @@ fn run(
     let mut sink = MemSink::new(room, failing_write);
     let mut journal = Lines::new(alloc);
     let mut why = None;
+    let mut found = None;
     let mut world = None;
     let status = arjuna(
         alloc,
@@ -150,6 +151,7 @@ fn run(
         rack,
         &mut journal,
         &mut why,
+        &mut found,
         &mut world,
     );
     Ok(Came {

@@ -3,13 +3,13 @@
 //! It stands on `arj_top`, whose `arjuna` does all the work. Its exit status is the answer of that call.
 #![tactic(auto)]
 
-ghost use Rattle.std.specs.Prelude.{◌≡◌, []};
+ghost use Rattle.std.specs.Prelude.{◌≡◌, [], None};
 
 use arj_base::Bytes;
 use arj_io::{StdSink, StdSource};
 use arj_journal::Lines;
 use arj_main::{Ran, Remembering, explain, words};
-use arj_top::{BadLine, arjuna, empty_rack};
+use arj_top::{BadLine, Finding, arjuna, empty_rack};
 use std::io::{self, BufReader};
 use std::process::ExitCode;
 
@@ -21,6 +21,7 @@ fn main(rt: HostRuntime) -> ExitCode {
         script: None,
         journal: Lines::new(alloc),
         why: None,
+        found: None,
     };
     let status = match run(&rt, &mut left) {
         Ok(status) => status,
@@ -34,10 +35,16 @@ fn main(rt: HostRuntime) -> ExitCode {
         script: left.script.as_ref().map(|script| script.as_slice()),
         journal: left.journal.as_slice(),
         why: left.why,
+        found: left.found.as_ref(),
     };
     // Where standard error takes nothing, the status still says what happened.
     explain(&rt, alloc, status, &ran).ok();
     ExitCode::from(status)
+}
+
+// Whether a word is a command that stands alone.
+fn takes_no_word(word: &str) -> bool {
+    word == "replay" || word == "check"
 }
 
 // What the run leaves to be told of.
@@ -48,16 +55,18 @@ struct Left {
     script: Option<Bytes>,
     journal: Lines,
     why: Option<BadLine>,
+    found: Option<Finding>,
 }
 
 // The top call over the real ends. An error is one of the words, or want of memory.
 fn run(rt: &HostRuntime, left: &mut Left) -> io::Result<u8>
-    requires { left.old.journal ≡ [] }
+    requires journal { left.old.journal ≡ [] }
+    requires nothing { left.old.found ≡ None }
 {
     let alloc = rt.alloc();
     let words = words(rt, alloc)?;
     left.no_words = words.len() == 0;
-    left.gave_file = words.len() == 2 && words[0].as_str() == "replay";
+    left.gave_file = words.len() == 2 && takes_no_word(words[0].as_str());
     let input = StdSource::new(BufReader::new(alloc, rt.reader())?);
     let mut source = Remembering::new(alloc, input);
     let mut sink = StdSink::new(io::writer(rt));
@@ -71,6 +80,7 @@ fn run(rt: &HostRuntime, left: &mut Left) -> io::Result<u8>
         &mut rack,
         &mut left.journal,
         &mut left.why,
+        &mut left.found,
         &mut world,
     );
     left.script = source.into_given();

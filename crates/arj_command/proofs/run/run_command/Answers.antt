@@ -1,8 +1,7 @@
--- a script, a bank, or no command
+-- a script, a check, a bank, or no command
 use Rattle.std.proofs.Common.{arith, inl, inr, ap, refl}
-use Rattle.std.proofs.Math.Logic.{⊎_elim}
-use Rattle.arj_command.specs.Command.{IsGenerate, IsReplay}
-use Rattle.arj_command.proofs.Numbers.{generates_one, not_both}
+use Rattle.arj_command.specs.Command.{IsCheck, IsGenerate, IsReplay}
+use Rattle.arj_command.proofs.Numbers.{generates_one, not_both, not_check, not_two}
 use Rattle.arj_command.proofs.Shows.{read_failed}
 use Rattle.arj_loop.specs.Replayed.{answer, outside}
 use Rattle.arj_nodes.specs.AsMachine.{all_nodes}
@@ -24,6 +23,40 @@ returns-in-Replay-clause-read_fault g c three =
     read_failed (all_nodes g.C.Core g.D.Disk) (outside (g.S.Source.left c.args.source.now) (g.S.Source.faults c.args.source.now) (g.K.Sink.taken c.args.sink.now) c.args.rack.now)
     (outside (g.S.Source.left c.replay.new.source) (g.S.Source.faults c.replay.new.source) (g.K.Sink.taken c.replay.new.sink) c.replay.new.rack) (answer c.replay.result c.replay.new.why c.replay.new.journal c.replay.new.machine)
     (c.replay.ensures.closes (λ e. omega (arith, e, three)) (λ e. omega (arith, e, three))) three
+
+pub returns-in-Replay-clause-checks : goal.returns-in-Replay-clause-checks
+returns-in-Replay-clause-checks g c is = let says : IsReplay c.args.words.now = rw c.in-Replay.is at c.asked_for.ensures in absurd (not_two c.args.words.now says is)
+
+pub returns-in-Replay-clause-checks_alone : goal.returns-in-Replay-clause-checks_alone
+returns-in-Replay-clause-checks_alone g c is = let says : IsReplay c.args.words.now = rw c.in-Replay.is at c.asked_for.ensures in absurd (not_two c.args.words.now says is)
+
+pub returns-in-Replay-clause-only_check : goal.returns-in-Replay-clause-only_check
+returns-in-Replay-clause-only_check g c other = (refl, λ e. let s = c.replay.ensures.statuses in omega (arith, e, s.0))
+
+-- ---- a check
+
+pub returns-in-Check-clause-closes : goal.returns-in-Check-clause-closes
+returns-in-Check-clause-closes g c is _ _ = let says : IsCheck c.args.words.now = rw c.in-Check.is at c.asked_for.ensures in absurd (not_two c.args.words.now is says)
+
+pub returns-in-Check-clause-short : goal.returns-in-Check-clause-short
+returns-in-Check-clause-short g c is _ = let says : IsCheck c.args.words.now = rw c.in-Check.is at c.asked_for.ensures in absurd (not_two c.args.words.now is says)
+
+pub returns-in-Check-clause-generates : goal.returns-in-Check-clause-generates
+returns-in-Check-clause-generates g c n is = let says : IsCheck c.args.words.now = rw c.in-Check.is at c.asked_for.ensures in absurd (not_check c.args.words.now _ is.1 says)
+
+pub returns-in-Check-clause-checks : goal.returns-in-Check-clause-checks
+returns-in-Check-clause-checks g c is = c.checked.ensures.checks
+
+pub returns-in-Check-clause-only_check : goal.returns-in-Check-clause-only_check
+returns-in-Check-clause-only_check g c other = let says : IsCheck c.args.words.now = rw c.in-Check.is at c.asked_for.ensures in absurd (other says)
+
+pub returns-in-Check-clause-read_fault : goal.returns-in-Check-clause-read_fault
+returns-in-Check-clause-read_fault g c three =
+    let checks = c.checked.ensures.checks in
+    let fault = checks.fault three in
+    let cut = fault.0 in
+    let reads = checks.reads in
+    reads.at_fault cut.0
 
 -- ---- a bank
 
@@ -56,10 +89,25 @@ returns-in-Bank-clause-generates g c m is =
       unread = (refl, refl);
     })
 
+pub returns-in-Bank-clause-checks : goal.returns-in-Bank-clause-checks
+returns-in-Bank-clause-checks g c is = let says : IsGenerate c.args.words.now c.in-Bank.n = rw c.in-Bank.is at c.asked_for.ensures in absurd (not_check c.args.words.now _ says.1 is)
+
+pub returns-in-Bank-clause-checks_alone : goal.returns-in-Bank-clause-checks_alone
+returns-in-Bank-clause-checks_alone g c is = let says : IsGenerate c.args.words.now c.in-Bank.n = rw c.in-Bank.is at c.asked_for.ensures in absurd (not_check c.args.words.now _ says.1 is)
+
+pub returns-in-Bank-clause-only_check : goal.returns-in-Bank-clause-only_check
+returns-in-Bank-clause-only_check g c other = (refl, λ e. let s = c.generated.ensures.statuses in omega (arith, e, s.0))
+
 -- ---- no command
+
+pub returns-in-None-clause-checks : goal.returns-in-None-clause-checks
+returns-in-None-clause-checks g c is = absurd ((rw c.in-None.is at c.asked_for.ensures) (inr (inl is)))
+
+pub returns-in-None-clause-checks_alone : goal.returns-in-None-clause-checks_alone
+returns-in-None-clause-checks_alone g c is = absurd ((rw c.in-None.is at c.asked_for.ensures) (inr (inl is)))
 
 pub returns-in-None-clause-closes : goal.returns-in-None-clause-closes
 returns-in-None-clause-closes g c is _ _ = absurd ((rw c.in-None.is at c.asked_for.ensures) (inl is))
 
 pub returns-in-None-clause-generates : goal.returns-in-None-clause-generates
-returns-in-None-clause-generates g c n is = absurd ((rw c.in-None.is at c.asked_for.ensures) (inr (n, is)))
+returns-in-None-clause-generates g c n is = absurd ((rw c.in-None.is at c.asked_for.ensures) (inr (inr (n, is))))

@@ -1,6 +1,7 @@
 -- what the run of the command shows
 use Rattle.arj_command.specs.Outcome.{said}
 use Rattle.arj_command.proofs.Banks.{bank_headline}
+use Rattle.arj_command.proofs.Numbers.{le_7, not_check}
 use Rattle.arj_command.proofs.Shows.{headline, shown}
 use Rattle.arj_loop.specs.Replayed.{answer, outside}
 use Rattle.arj_command.proofs.run.run_on.Goals as goal
@@ -24,5 +25,6 @@ pub returns-clause-bank : goal.returns-clause-bank
 returns-clause-bank g c read says n is =
     let before = outside (g.S.Source.left c.args.source.now) (g.S.Source.faults c.args.source.now) (g.K.Sink.taken c.args.sink.now) c.args.rack.now in
     let after = outside (g.S.Source.left c.run_command-status.new.source) (g.S.Source.faults c.run_command-status.new.source) (g.K.Sink.taken c.run_command-status.new.sink) c.run_command-status.new.rack in
-    bank_headline g.C.Core g.D.Disk read n before after (said c.run_command-status.result c.run_command-status.new.why c.run_command-status.new.journal c.world_of.result) c.run_command-status.new.nodes (c.run_command-status.ensures.generates n is) c.run_command-status.ensures.statuses
+    bank_headline g.C.Core g.D.Disk read n before after (said c.run_command-status.result c.run_command-status.new.why c.run_command-status.new.journal c.world_of.result) c.run_command-status.new.nodes (c.run_command-status.ensures.generates n is)
+    (let only = c.run_command-status.ensures.only_check (λ check. not_check c.args.words.now _ is.1 check) in le_7 c.run_command-status.result c.run_command-status.ensures.statuses only.1)
     (c.banks_show_what_is_promised.ensures.whole read says) (c.banks_show_what_is_promised.ensures.limits read says) (c.banks_show_what_is_promised.ensures.fronts read says) c.world_of.ensures

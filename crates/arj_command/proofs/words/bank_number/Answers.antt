@@ -1,5 +1,5 @@
 -- a text that is printed as a number, and one that isn't
-use Rattle.std.proofs.Common.{◌≡◌, Ok, Err, arith, ap, subst, sym, ◌∙◌}
+use Rattle.std.proofs.Common.{subst, sym, ◌∙◌}
 use Rattle.arj_command.specs.Command.{IsPlain}
 use Rattle.arj_command.proofs.Numbers.{not_read, plain_decimal, read_plain}
 use Rattle.arj_command.proofs.words.bank_number.Goals as goal
