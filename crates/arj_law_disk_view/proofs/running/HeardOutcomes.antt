@@ -180,7 +180,7 @@ module _ (x : ℕ) (tops : Kinds) (e k : ℕ) (d : Disk) (t : Parts) (M : Seen) 
         Goal (now_change x u t.coord (Committing y)) (moved_commit u (commit.answered from y r) d.intents t.coord)
     heard_reply (Voting p left) (Reply.Voted (voted.Yes states)) it now kd waits =
         heard_vote x tops e k d t M A good few knows both h u q at_work p left now from m a states posted it act (subst IsOwnAnswer it own)
-            (let z = at.decided in z.past)
+        (let z = at.decided in z.past)
     heard_reply (Voting p left) (Reply.Voted (voted.Changed w)) it now kd waits =
         heard_refused x tops e k d t M A good few knows both h u q at_work (Voting p left) p (cause.Changed from (differs w)) now
     heard_reply (Voting p left) (Reply.Bound r) it now kd waits = absurd (cc kd)

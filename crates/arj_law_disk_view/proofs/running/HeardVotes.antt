@@ -114,9 +114,12 @@ module _ (x : ℕ) (tops : Kinds) (e k : ℕ) (d : Disk) (t : Parts) (M : Seen) 
         (λ w st used found.
         let it : changed_of x Next ≡ Some st = ap (λ ss. find (λ (s : ObjectState). uid_eq s.uid (object x)) ss) (sym g.changed) ∙ found in
         let there = found_among (λ s. uid_eq s.uid (object x)) (with_states states p.changed) st it in
-        let c = plan_voted.changed w st (ap (used_at x) (sym g.used) ∙ used) there.0 (uid_is st.uid (object x) there.1) in
-        (c.0, c.1, λ g i same. let w = written g i in
-        is_new (subst (IsPast M.start) (number_tells w.0 u (sym w.1 ∙ same)) w.2))))
+        let c = plan_voted.changed w st (ap (used_at x) (sym g.used) ∙ used) there.0 (uid_is st.uid (object x) there.1) in (
+          c.0,
+          c.1,
+          λ g i same. let w = written g i in
+              is_new (subst (IsPast M.start) (number_tells w.0 u (sym w.1 ∙ same)) w.2),
+        )))
         [] [] (votes_left [] Next) (λ v. tt) g.kind
 
     -- and others are waited for

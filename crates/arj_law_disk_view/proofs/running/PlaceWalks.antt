@@ -102,7 +102,7 @@ module _ (acts : List Action) where
 
   all_nodes : (k : ℕ) (d : Disk) (live : Option Parts) (M : Seen) → Others k M →
       IsPlaced M.start acts k (record { number = k; disk = d; live = live }) → (j : ℕ) (n : Node) →
-          (let S = at k d live M in S.nodes j) ≡ Some n →
+      (let S = at k d live M in S.nodes j) ≡ Some n →
       IsPlaced M.start acts j n
   all_nodes k d live M others mine j n is = by (j == k) refl is
     where

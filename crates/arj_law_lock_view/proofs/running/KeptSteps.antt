@@ -272,7 +272,7 @@ module _ (hd : Header) (Apt : Marks → Fixed → Type 0) (x : ℕ) (G : Seen �
     where
       by : (f : Fixed) (live : Option Parts) → G (at k d live M) → (z : Kept (at k d live M)) → Knows (at k d live M) z →
           AgreesBy (Apt M.start.marks) f x z.0 M.sent → (S : State) × SeesLocks f x z.0 S (halted e k d M)
-              × AreTied f x (let N = halted e k d M in
+          × AreTied f x (let N = halted e k d M in
           N.lines) S × (V → AreVotedAt f x S (halted e k d M)) × ((a : AgreesBy (Apt M.start.marks) f x z.0 M.sent)
           × Run (let g = z.3 f a in g.0) S)
       by f None more z more_known agrees = (let g = z.3 f agrees in let h = down_stays (case_of f x z.0 g.0) e k d M (seen_in f
@@ -282,7 +282,7 @@ module _ (hd : Header) (Apt : Marks → Fixed → Type 0) (x : ℕ) (G : Seen �
           let s : Spot = record { node = k; disk = d; parts = t; seen = M } in
           let seen = seen_in f (world_at s) z agrees in
           let h = stops_go (case_of f x z.0 g.0) s e seen ((gives M.start.marks f agrees.1).holds z.0 g.0 s
-              ((more, z.2), more_known f agrees) seen)
+          ((more, z.2), more_known f agrees) seen)
           agrees.0 in
           (h.0, h.1, h.2, (λ u. halted_votes f x e k d (Some t) M g.0 h.0 h.3 (g.3 u)), (agrees, h.3))
 
@@ -417,9 +417,9 @@ module _ (hd : Header) (Apt : Marks → Fixed → Type 0) (x : ℕ) (G : Seen �
     pub input_goes : (i : Input) → is_act i ≡ true → refusal_up hd i (coord_at s) ≡ None → ActGoes i
     input_goes i is none =
         let q = (gives (let M = s.seen in M.start.marks) f agrees.1).act z.0 (let g = z.3 f agrees in
-            g.0) s i ((more, z.2), known) seen_so is none in
+        g.0) s i ((more, z.2), known) seen_so is none in
         inputs_go hd b s e i seen_so ((gives (let M = s.seen in M.start.marks) f agrees.1).holds z.0 (let g = z.3 f agrees in
-            g.0) s ((more, z.2), known) seen_so) q.0 is none
+        g.0) s ((more, z.2), known) seen_so) q.0 is none
         q.1
 
   pub kept_act : (e k : ℕ) (d : Disk) (t : Parts) (i : Input) (M : Seen) → is_act i ≡ true → refusal_up hd i t.coord ≡ None →
@@ -504,7 +504,7 @@ module _ (hd : Header) (Apt : Marks → Fixed → Type 0) (x : ℕ) (G : Seen �
       let N = given l (record { node = k; serial = is_serial_kind how }) M in
       let a : Action = begins_in how parent t in
       kept_walk Apt V x R (a ∷ z.0) e k D.outs (with_coord t D.part) d N (λ f w. let g = z.3 f (as_older
-          (Apt M.start.marks) f x a z.0 M.sent w) in
+      (Apt M.start.marks) f x a z.0 M.sent w) in
       g.0) (keeps.begin z.0 e k d t l how parent M new may none more z.1.0 z.2)
       (begin_pathed hd z.0 e k d t l how parent M new may none (pathed_in (up k d t M) z))
       (λ f agrees. let older = as_older (Apt M.start.marks) f x a z.0 M.sent agrees in (
@@ -539,7 +539,7 @@ module _ (hd : Header) (Apt : Marks → Fixed → Type 0) (x : ℕ) (G : Seen �
       g.0) (keeps.restart z.0 e k d M more z.1.0 z.2) (restart_pathed hd z.0 e k d M (pathed_in (down k d M) z))
       (λ f agrees. let g = z.3 f agrees in let seen = seen_in f (down k d M) z agrees in (
         restarts_go hd (case_of f x z.0 g.0) e k d M seen ((gives M.start.marks f agrees.1).restart z.0 g.0 k d M
-        ((more, z.2), known f agrees) seen),
+            ((more, z.2), known f agrees) seen),
         (λ T run u. new_votes f x k d M (d.inc + 1) d.intents g.0 T run (g.3 u)),
       ))
 
