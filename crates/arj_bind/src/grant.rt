@@ -1,6 +1,6 @@
 // The lock on an entry that naming granted to a top.
 ghost use Rattle.std.specs.Prelude.{◌≡◌, min};
-ghost use Rattle.arj_protocol.specs.Asking.{is_named};
+ghost use Rattle.arj_protocol.specs.Order.{is_binding};
 ghost use Rattle.arj_protocol.specs.Coord.{is_grant_of, named_last};
 
 use crate::binding::is_same;
@@ -35,7 +35,7 @@ impl Grant {
 
     /// Whether the last answer to a call named this binding.
     pub fn names(&self, binding: Binding) -> bool
-        ensures { result ≡ is_named binding self.now.named }
+        ensures { result ≡ is_binding binding self.now.named }
     {
         match self.named {
             Some(named) => is_same(binding, named),

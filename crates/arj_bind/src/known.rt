@@ -18,7 +18,6 @@ pub struct Known {
     pub grant: u32,
     pub stores: NodeList,
     pub recorded: bool,
-    pub loaded: Option<ObjectState>,
 }
 
 impl Model for Known {
@@ -26,7 +25,7 @@ impl Model for Known {
 
     ghost Value = { call.Known };
 
-    ghost view = { λ k. record { binding = k.binding; server = k.server; inc = k.inc; grant = k.grant; stores = k.stores; recorded = k.recorded; loaded = k.loaded } };
+    ghost view = { λ k. record { binding = k.binding; server = k.server; inc = k.inc; grant = k.grant; stores = k.stores; recorded = k.recorded } };
 }
 
 impl Known {
@@ -41,7 +40,6 @@ impl Known {
             grant,
             stores,
             recorded: true,
-            loaded: None,
         }
     }
 
@@ -56,7 +54,6 @@ impl Known {
             grant,
             stores,
             recorded: false,
-            loaded: None,
         }
     }
 
@@ -71,7 +68,6 @@ impl Known {
             grant,
             stores,
             recorded: false,
-            loaded: None,
         }
     }
 
@@ -79,10 +75,6 @@ impl Known {
     pub fn copy(&self) -> Result<Known, AllocError>
         ensures { IfOk result (λ copied. copied ≡ self.now) }
     {
-        let loaded = match &self.loaded {
-            Some(state) => Some(copy_state(state)?),
-            None => None,
-        };
         Ok(Known {
             binding: self.binding,
             server: self.server,
@@ -90,7 +82,6 @@ impl Known {
             grant: self.grant,
             stores: self.stores.copy()?,
             recorded: self.recorded,
-            loaded,
         })
     }
 }

@@ -14,7 +14,7 @@ use Rattle.arj_journal.specs.declared.body.Kind.{Kind}
 use Rattle.arj_journal.specs.declared.body.Kind.TheVariants as kind
 use Rattle.arj_journal.specs.declared.body.Line.{Line}
 use Rattle.arj_journal.specs.declared.header.Header.{Header}
-use Rattle.arj_model.specs.Actions.{Act, Begun, Placed, act_in, acts, acts_after, acts_from, begun_of, is_serial, numbered, path, path_in, put, read, top_in, upwards}
+use Rattle.arj_model.specs.Actions.{Act, Begun, Placed, act_in, acts, acts_after, acts_from, begun_of, numbered, path, path_in, put, read, top_in, upwards}
 use Rattle.arj_model.proofs.Read.{acts-append}
 use Rattle.arj_law.proofs.Common.{never}
 use Rattle.arj_reading.specs.Readable.{Readable, act_by, begin_rule, body_rule, broken_from, has_parent, is_parent_of, is_top, known, line_rule, met, named, named_as, unless}
@@ -26,6 +26,7 @@ use Rattle.arj_reading.proofs.Numbers.{AreNumbered, get_last, get_stays, length_
 use Rattle.arj_replay.specs.Orders.{paths}
 use Rattle.arj_check.proofs.Calls.{neither, none_broken}
 use Rattle.arj_check.proofs.Paths.{is_serial_alone, length_paths, same_top, top_behind}
+use Rattle.arj_start.specs.Kinds.{is_serial}
 
 -- what a `began` line said of an action
 abbrev pub begun_act : Act → Begun

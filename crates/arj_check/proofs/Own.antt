@@ -12,7 +12,7 @@ use Rattle.arj_journal.specs.declared.body.Body.TheVariants as body
 use Rattle.arj_journal.specs.declared.body.Line.{Line}
 use Rattle.arj_journal.specs.declared.header.Header.{Header}
 use Rattle.arj_text.specs.Label.{name}
-use Rattle.arj_model.specs.Actions.{Act, Placed, acts, acts_from, chain_in, committed, committed_of, has_end, is_committed, is_serial, path, recovered, root_in, recovered_of, top_in}
+use Rattle.arj_model.specs.Actions.{Act, Placed, acts, acts_from, chain_in, committed, committed_of, has_end, is_committed, path, recovered, root_in, recovered_of, top_in}
 use Rattle.arj_model.specs.Calls.{Call, Said, Top, call_of, committed_calls, committing_of, committings, kept, kept_in, root_or, said, said_of, top_by, top_of, tops}
 use Rattle.arj_model.specs.Serial.{top_place}
 use Rattle.arj_law.proofs.Common.{Pairwise, all_filter_map, all_map, never, pairwise_filter_map, read_rises}
@@ -28,6 +28,7 @@ use Rattle.arj_check.specs.Keys.{HaveOwnKeys, path_at, top_at}
 use Rattle.arj_check.proofs.Begun.{BeganWell, IsTop, acts_on, actions_stay, all_along, begun_well, read_stays, top_later, tops_stand, uid_stays}
 use Rattle.arj_check.proofs.Calls.{has_begun, neither}
 use Rattle.arj_check.proofs.Marks.{tops_are}
+use Rattle.arj_start.specs.Kinds.{is_serial}
 
 -- one of the items passes the test
 any_all : {A : Type 0} (P : A → Type 0) (t : A → Bool) (xs : List A) → AllByRecursion P xs → list_any t xs ≡ true → (x : A) × P x × (t x ≡ true)

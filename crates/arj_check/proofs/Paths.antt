@@ -8,12 +8,13 @@ use Rattle.std.proofs.lemmas.List.{length_push}
 use Rattle.std.proofs.lemmas.Option.{slice_get_cases, slice_get_past, slice_get_within}
 use Rattle.arj_journal.specs.declared.body.Kind.{Kind}
 use Rattle.arj_journal.specs.declared.body.Kind.TheVariants as kind
-use Rattle.arj_model.specs.Actions.{Act, act_in, behind_first, chain_in, id_in, is_serial, path, path_in, top_in, upwards}
+use Rattle.arj_model.specs.Actions.{Act, act_in, behind_first, chain_in, id_in, path, path_in, top_in, upwards}
 use Rattle.arj_law.proofs.Common.{all_map}
 use Rattle.arj_reading.specs.Reading.{above_in, action_of, actions_of, top_action}
 use Rattle.arj_reading.specs.declared.action.Action.{Action}
 use Rattle.arj_reading.proofs.Numbers.{AreNumbered, get_last, get_push, get_stays, length_actions, none_above, path_some}
 use Rattle.arj_replay.specs.Orders.{paths}
+use Rattle.arj_start.specs.Kinds.{is_serial}
 
 pub length_paths : (us : List Act) → length (paths us) ≡ length us
 length_paths [] = refl

@@ -9,7 +9,7 @@ use Rattle.std.proofs.lemmas.Bool.{eq-eqb, eqb-true}
 use Rattle.std.proofs.lemmas.Option.{get_or_from_slice_get, slice_get-map, slice_get_within}
 use Rattle.arj_base.specs.Order.{uid_order}
 use Rattle.arj_base.specs.declared.uid.Uid.{Uid}
-use Rattle.arj_model.specs.Actions.{Act, Placed, acts, chain_in, committed, has_end, is_committed, is_serial, recovered, root_in, top_in}
+use Rattle.arj_model.specs.Actions.{Act, Placed, acts, chain_in, committed, has_end, is_committed, recovered, root_in, top_in}
 use Rattle.arj_model.specs.Calls.{Top, ids, root_or, top_by, top_of}
 use Rattle.arj_model.specs.Nested.{commit_place}
 use Rattle.arj_law.proofs.Common.{never}
@@ -24,6 +24,7 @@ use Rattle.arj_check.specs.Keys.{is_committed_top, key_below, key_of, numbers_at
 use Rattle.arj_model.specs.Serial.{serial_key}
 use Rattle.arj_check.proofs.Loops.{next_path}
 use Rattle.arj_check.proofs.Paths.{PathIs, is_at, no_path, path_is, stands_some}
+use Rattle.arj_start.specs.Kinds.{is_serial}
 
 all_push : (t : Act → Bool) (xs : List Act) (a : Act) → list_all t (xs ++ a ∷ []) ≡ (list_all t xs && t a)
 all_push t [] a = one (t a)

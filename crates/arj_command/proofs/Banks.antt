@@ -25,7 +25,7 @@ use Rattle.arj_law_nodes.specs.nodes.Readings.{Reads, files_at, readings_of}
 use Rattle.arj_bank.specs.Balances.{files_in, is_number, no_files, node_files}
 use Rattle.arj_promise.specs.Excluded.{DisksAreInTime}
 use Rattle.arj_promise.specs.Disks.{DisksAre}
-use Rattle.arj_model.specs.Start.{none_written}
+use Rattle.arj_start.specs.Start.{none_written}
 use Rattle.arj_promise.specs.Runs.{from_format, world_by}
 use Rattle.arj_promise.specs.Runs.{see}
 use Rattle.arj_model.specs.Clean.{Clean}

@@ -1,8 +1,9 @@
 // Stores that are marked for exclusion, by object and then by store.
 ghost use Rattle.std.specs.Prelude.{◌≡◌, ◌≤◌, ◌++◌, length, not, IfOk, OnOk};
 ghost use Rattle.std.specs.List.{insert};
-ghost use Rattle.arj_protocol.specs.Commit.{is_empty, with_mark, with_marks};
+ghost use Rattle.arj_protocol.specs.Commit.{with_mark, with_marks};
 ghost use Rattle.arj_commit.specs.Marks.{is_marked_in, joins_by, included_in, marks_in, marked_all};
+ghost use Rattle.arj_protocol.specs.Order.{is_empty};
 
 use crate::Used;
 use crate::whom::is_sent;

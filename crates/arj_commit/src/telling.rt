@@ -3,12 +3,13 @@ ghost use Rattle.std.specs.Prelude.{◌≡◌, ◌&&◌, false, true, map, is_so
 ghost use Rattle.arj_base.specs.declared.mode.End.TheVariants as ending;
 ghost use Rattle.arj_intent.specs.Records.{IsInForm};
 ghost use Rattle.arj_protocol.specs.Ask.{actor};
-ghost use Rattle.arj_protocol.specs.Commit.{participants, has_record, is_empty};
+ghost use Rattle.arj_protocol.specs.Commit.{participants, has_record};
 ghost use Rattle.arj_protocol.specs.Ending.{decided_told, record_work, tell_all};
 ghost use Rattle.arj_protocol.specs.Order.{has, without_number};
 ghost use Rattle.arj_protocol.specs.Tree.{root_of};
 ghost use Rattle.arj_commit.specs.Fits.{PlanFits};
 ghost use Rattle.arj_commit.specs.Tolds.{sent_to, work_of};
+ghost use Rattle.arj_protocol.specs.Order.{is_empty};
 
 use crate::sets::{are_all, has};
 use crate::tolds::{tolds, tolds_again};

@@ -7,9 +7,10 @@ use Rattle.arj_coord.specs.Waiting.{waiting, passes, waits_so, passes_at, any_pa
 use Rattle.arj_protocol.specs.Ask.{actor}
 use Rattle.arj_protocol.specs.Coord.{Coord, Doing, Now, Idle, Calling, Committing, doing_of, of_root, calls_on, calls_now, branch_calls, others_call}
 use Rattle.arj_protocol.specs.Step.{is_waiting_now, is_waiting, waits, is_committing_now, is_committing, is_sibling}
-use Rattle.arj_protocol.specs.Tree.{Branch, at_place, is_constituent, is_open_below, root_of}
+use Rattle.arj_protocol.specs.Tree.{Branch, at_place, is_open_below, root_of}
 use Rattle.arj_protocol.specs.Words.{Uid, uid_eq}
 use Rattle.arj_tree.specs.Stands.{AreNamed}
+use Rattle.arj_start.specs.Kinds.{is_constituent}
 
 same_number : (n : ℕ) → (n == n) ≡ true
 same_number n = grind (arith, nat_tests)

@@ -2,8 +2,9 @@
 use Rattle.std.specs.Prelude.{ℕ, Bool, not, ◌||◌, List, [], ◌∷◌, Option, is_some}
 use Rattle.arj_protocol.specs.Coord.{Coord}
 use Rattle.arj_protocol.specs.Step.{waits_above, waits_below, lacks_op}
-use Rattle.arj_protocol.specs.Tree.{Branch, is_serial, has_many_objects}
+use Rattle.arj_protocol.specs.Tree.{Branch, has_many_objects}
 use Rattle.arj_protocol.specs.Words.{Class, Op}
+use Rattle.arj_start.specs.Kinds.{is_serial}
 
 -- an action calls an object
 abbrev pub reasons_of_call : Option Class → ℕ → Op → Branch → Coord → List (ℕ × Bool)

@@ -8,8 +8,9 @@ use Rattle.std.specs.Set.{remove_key}
 use Rattle.arj_protocol.specs.Ask.{actor}
 use Rattle.arj_protocol.specs.Coord.{Coord, Doing, Now, Idle, of_root}
 use Rattle.arj_protocol.specs.Step.{is_waiting_now}
-use Rattle.arj_protocol.specs.Tree.{Branch, at_place, set_place, is_constituent}
+use Rattle.arj_protocol.specs.Tree.{Branch, at_place, set_place}
 use Rattle.arj_protocol.specs.Words.{Uid, uid_eq}
+use Rattle.arj_start.specs.Kinds.{is_constituent}
 
 -- the numbers of the actions that wait, counted from this one
 abbrev pub waiting : ℕ → List Doing → List ℕ

@@ -7,7 +7,8 @@ ghost use Rattle.arj_coord.specs.Ended.{deferred_but};
 ghost use Rattle.arj_intent.specs.Records.{entry_of, shown};
 ghost use Rattle.arj_protocol.specs.Ending.{is_deferred, is_member_of};
 ghost use Rattle.arj_protocol.specs.Order.{at_uid, put_uid, without_uid};
-ghost use Rattle.arj_protocol.specs.Step.{has_none, recovered_records, tolds_again};
+ghost use Rattle.arj_protocol.specs.Step.{recovered_records, tolds_again};
+ghost use Rattle.arj_protocol.specs.Order.{is_empty};
 
 use crate::tolds::{has, one_end, tell_all};
 use crate::{Effects, Record};
@@ -83,7 +84,7 @@ impl Records {
 
     /// Whether there is none.
     pub fn is_empty(&self) -> bool
-        ensures { result ≡ has_none self.now }
+        ensures { result ≡ is_empty self.now }
     {
         self.by_top.is_empty()
     }

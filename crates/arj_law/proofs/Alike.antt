@@ -14,7 +14,7 @@ use Rattle.arj_journal.specs.declared.body.FrameKind.{FrameKind}
 use Rattle.arj_model.specs.Last.{changer_from, entry_from, excluded, first_values, last_from, state_after, stores_of_line}
 use Rattle.arj_model.specs.Nested.{nested_less}
 use Rattle.arj_model.specs.Shown.{raised, shown_lines}
-use Rattle.arj_model.specs.Start.{Marks, Start}
+use Rattle.arj_start.specs.Start.{Marks, Start}
 
 -- what is read of a line doesn't look at lines of frames
 record IsBlind {A : Type 0} (f : List Act → Body → Option A) : Type 0 where

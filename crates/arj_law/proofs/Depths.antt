@@ -2,11 +2,12 @@
 use Rattle.arj_law.proofs.Terms
 use Terms.{◌≡◌, ◌<◌, ◌≤◌, ℕ, suc, ◌+◌, List, [], ◌∷◌, ◌++◌, length, Bool, true, false, cond, ◌&&◌, ◌==◌, Option, Some, None, refl, sym, ◌∙◌}
 use Terms.{ap, subst, arith, length-append, AllByRecursion, list_all, bytes_eq, eq-eqb, eqb-true, false_from_ne_true, Uid, Body, Kind, Line}
-use Terms.{name, Act, Begun, Placed, begun_of, numbered, acts, acts_after, acts_from, read, put, path, upwards, is_serial, top_in, chain_in}
+use Terms.{name, Act, Begun, Placed, begun_of, numbered, acts, acts_after, acts_from, read, put, path, upwards, top_in, chain_in}
 use Terms.{has_end, is_committed, committed, recovered, Call, Said, said, said_of, ids, call_of, kept, kept_in, committed_calls}
 use Terms.body
 use Terms.kind
 use Rattle.arj_law.proofs.Common.{all_map, all_filter_map}
+use Rattle.arj_start.specs.Kinds.{is_serial}
 
 -- each action's number is the count of those before it
 abbrev pub AreNumbered : List Act → Type 0

@@ -2,13 +2,14 @@
 use Rattle.arj_law.proofs.Terms
 use Terms.{◌≡◌, ℕ, ◌+◌, List, [], ◌∷◌, ◌++◌, length, map, Bool, true, false, cond, Option, Some, None, refl, sym, ◌∙◌, ap, subst, arith}
 use Terms.{length-append, AllByRecursion, option_map, bytes_eq, length-map, Body, Kind, Line, name, Act, Begun, Placed, act_in, acts}
-use Terms.{acts_after, acts_from, begun_of, behind_first, chain_in, committed_of, is_serial, numbered, path, put, read, recovered_of}
+use Terms.{acts_after, acts_from, begun_of, behind_first, chain_in, committed_of, numbered, path, put, read, recovered_of}
 use Terms.{root_in, top_in, upwards, Said, committing_of, said_of, Exclusion, Inclusion, excluded_of, exclusion_by, included_of}
 use Terms.body
 use Terms.kind
 use Rattle.arj_law.proofs.{Common.never, Reading.read-append, Reading.acts-append}
 use Rattle.arj_law.specs.Joined.{looked_up}
 use Rattle.std.proofs.{Common.is_some, lemmas.List.map-append}
+use Rattle.arj_start.specs.Kinds.{is_serial}
 
 -- ---- actions
 

@@ -3,7 +3,7 @@ use Rattle.arj_law.proofs.Terms
 use Terms.{◌≡◌, ◌<◌, ℕ, suc, ◌+◌, List, [], ◌∷◌, ◌++◌, length, map, Bool, true, false, cond, ◌&&◌, ◌||◌, ◌==◌, Option, Some, None, refl}
 use Terms.{◌∙◌, ap, subst, arith, AllByRecursion, filter_map, list_all, list_any, option_map, bytes_eq, eq-eqb, eqb-true}
 use Terms.{false_from_ne_true, filter_map-append, list_any-append, Uid, uid_eq, Body, Kind, Line, name, Act, Begun, Placed, act_in, acts}
-use Terms.{acts_after, acts_from, begun_of, behind_first, chain_in, committed, committed_of, has_end, is_committed, is_serial, numbered}
+use Terms.{acts_after, acts_from, begun_of, behind_first, chain_in, committed, committed_of, has_end, is_committed, numbered}
 use Terms.{path, put, read, recovered, recovered_of, root_in, top_in, upwards, Call, Said, Top, call_of, committed_calls, committing_of}
 use Terms.{committings, ids, kept, kept_in, root_or, said, said_of, top_by, top_of, tops, AreApart, call_behind, calls_behind, top_behind}
 use Terms.{tops_behind}
@@ -14,6 +14,7 @@ use Rattle.arj_law.proofs.JoinedActs.{act_behind, calls_carry, chain_over, commi
 use Rattle.arj_law.proofs.JoinedActs.{root_over, said_behind, top_over, tops_carry}
 use Rattle.arj_law.proofs.JoinedLists.{all_append, all_over, all_turn, filter_map_over, filter_map_same}
 use Rattle.arj_model.specs.Actions.{id_in}
+use Rattle.arj_start.specs.Kinds.{is_serial}
 
 -- ---- what holds of actions holds of what is read of them
 

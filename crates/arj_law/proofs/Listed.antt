@@ -8,7 +8,8 @@ use Terms.{changer_from, uid_of_id, same_list, entry_payload, more, Uid}
 use Terms.class
 use Terms.body
 use Rattle.arj_law.proofs.{Commit.chain_stays, Common.never, JoinedLists.filter_map_same, Reading.read_none, Reading.read_some}
-use Rattle.arj_model.specs.{Last.entry_from, Start.Mark, Start.Marks}
+use Rattle.arj_model.specs.{Last.entry_from}
+use Rattle.arj_start.specs.{Start.Mark, Start.Marks}
 use Rattle.arj_law.specs.Growth.{CommitsTop, IdleInPlace, first_stores, AreDecidedInOrder, entry_by, IncludesNoneBelow}
 use Rattle.std.proofs.lemmas.List.Folds.{list_all-map}
 

@@ -11,7 +11,7 @@ pub use Rattle.arj_journal.specs.declared.header.Header.{Header}
 pub use Rattle.arj_law.specs.Growth.{more}
 pub use Rattle.arj_law.specs.Joined.{AreApart, AreCalled, call_behind, calls_behind, is_called, top_behind, tops_behind, values_after}
 pub use Rattle.arj_model.specs.Actions.{Act, Begun, Placed, act_in, acts, acts_after, acts_from, begun_of, behind_first, chain_in}
-pub use Rattle.arj_model.specs.Actions.{committed, committed_of, has_end, is_committed, is_serial, numbered, path, put, read, recovered}
+pub use Rattle.arj_model.specs.Actions.{committed, committed_of, has_end, is_committed, numbered, path, put, read, recovered}
 pub use Rattle.arj_model.specs.Actions.{recovered_of, root_in, top_in, upwards}
 pub use Rattle.arj_model.specs.Book.{Answered, InOrder, IsAnsweredBy, StandInOrder, is_conflict, writes_before}
 pub use Rattle.arj_model.specs.Calls.{Call, Said, Top, call_of, committed_calls, committing_of, committings, ids, kept, kept_in, root_or}

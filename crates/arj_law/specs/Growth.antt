@@ -13,7 +13,7 @@ use Rattle.arj_model.specs.Actions.{acts, id_in, chain_in}
 use Rattle.arj_model.specs.Calls.{Top, ids, made}
 use Rattle.arj_model.specs.Last.{is_among, object_line, stores_of_line, servers_of_line, included, listed_after, listed_from, serial_tops}
 use Rattle.arj_model.specs.Last.{changer_from, changers, entry_payload}
-use Rattle.arj_model.specs.Start.{Marks}
+use Rattle.arj_start.specs.Start.{Marks}
 
 -- the journal with one line more
 abbrev pub more : List Line → Line → List Line

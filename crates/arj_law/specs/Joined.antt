@@ -13,7 +13,7 @@ use Rattle.arj_model.specs.Actions.{acts, is_begun, recovered}
 use Rattle.arj_model.specs.Calls.{Call, Top, committed_calls, tops}
 use Rattle.arj_model.specs.Last.{entry_state, first_values, last_state, listed, object_line, servers_of_line, stores_of_line}
 use Rattle.arj_model.specs.Serial.{Values, run, serial_calls}
-use Rattle.arj_model.specs.Start.{Mark, Marks}
+use Rattle.arj_start.specs.Start.{Mark, Marks}
 
 -- the name of a parent, if there is one
 abbrev pub parent_name : Option Label → List (List ℕ)

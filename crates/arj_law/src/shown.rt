@@ -7,7 +7,7 @@ ghost use Rattle.arj_model.specs.Last.{entry_from, last_from, listed};
 ghost use Rattle.arj_model.specs.Nested.{nested_calls};
 ghost use Rattle.arj_model.specs.Serial.{serial_calls};
 ghost use Rattle.arj_model.specs.Shown.{shown_lines};
-ghost use Rattle.arj_model.specs.Start.{Marks, Start};
+ghost use Rattle.arj_start.specs.Start.{Marks, Start};
 
 /// A journal whose lines are shown with the numbers of events and frames raised, as where a run goes on behind earlier ones, has the same
 /// calls and tops that count, the same serial and nested order, and the same last states, stores and entries. It does nothing when it runs.

@@ -5,6 +5,7 @@
 -- what it was at the vote.
 pub mod Bases
 pub mod Homes
+pub mod LoggedSteps
 pub mod Overs
 pub mod OwnLogs
 pub mod Takes

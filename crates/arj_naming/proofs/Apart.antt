@@ -20,7 +20,7 @@ use Rattle.arj_law_store.proofs.store.Keys.{put_other, tied_is, with_on}
 use Rattle.arj_protocol.specs.Ask.{top_of}
 use Rattle.arj_protocol.specs.Copy.{is_granted}
 use Rattle.arj_protocol.specs.Effect.{reply, void}
-use Rattle.arj_protocol.specs.Named.{Counted, Live, Made, Named, bind_call, bind_made, bind_named, conflict_on, end_named, entry_row, hello_named, in_use, is_lowered, live_above, live_asked, locked, lower_lines, lowered, made_above, make_asked, note_made, note_named, note_other, is_binding, include_asked}
+use Rattle.arj_protocol.specs.Named.{Counted, Live, Made, Named, bind_call, bind_made, bind_named, conflict_on, end_named, entry_row, hello_named, in_use, is_lowered, live_above, live_asked, locked, lower_lines, lowered, made_above, make_asked, note_made, note_named, note_other, include_asked}
 use Rattle.arj_protocol.specs.Naming.{loses}
 use Rattle.arj_protocol.specs.Order.{at_uid, binding_eq, without_uid}
 use Rattle.arj_protocol.specs.Words.{Binding, End, Entry, Mode, Path, Uid, entry, uid_eq}
@@ -29,6 +29,7 @@ use Rattle.arj_protocol.specs.Words.mode
 use Rattle.arj_protocol.specs.Words.recorded
 use Rattle.arj_naming.specs.Bound.{made_in}
 use Rattle.arj_naming.specs.Touched.{IsApart, IsOff}
+use Rattle.arj_protocol.specs.Order.{is_binding}
 
 never : {P : Type 0} (b : Bool) → b ≡ true → b ≡ false → P
 never b holds fails = let no_way : true ≡ false = sym holds ∙ fails in cc

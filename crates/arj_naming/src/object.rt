@@ -10,7 +10,7 @@ ghost use Rattle.arj_protocol.specs.Ask.{top_of};
 ghost use Rattle.arj_protocol.specs.Copy.{holds, row_for};
 ghost use Rattle.arj_protocol.specs.Effect.{Say};
 ghost use Rattle.arj_protocol.specs.Named as protocol;
-ghost use Rattle.arj_protocol.specs.Named.{Named, unnamed, conflict_on, locked, lock_lines, live_above, made_above, live_asked, make_asked, include_asked, bind_made, bind_named, note_named, note_other, note_made, lowered, lower_lines, is_lowered, is_binding, end_named, hello_named, live_after};
+ghost use Rattle.arj_protocol.specs.Named.{Named, unnamed, conflict_on, locked, lock_lines, live_above, made_above, live_asked, make_asked, include_asked, bind_made, bind_named, note_named, note_other, note_made, lowered, lower_lines, is_lowered, end_named, hello_named, live_after};
 ghost use Rattle.arj_protocol.specs.Order.{at_uid, with_uid, drop_uid};
 ghost use Rattle.arj_protocol.specs.Server.{row_top};
 ghost use Rattle.arj_protocol.specs.Words.body;
@@ -18,6 +18,7 @@ ghost use Rattle.arj_naming.specs.Bound.{is_to};
 ghost use Rattle.arj_naming.specs.Objects.{live_of, changed_by, counted, IsServed};
 ghost use Rattle.arj_naming.specs.Said.{said};
 ghost use Rattle.arj_naming.specs.Touched.{looks_apart};
+ghost use Rattle.arj_protocol.specs.Order.{is_binding};
 
 use crate::bindings::{is_below, is_same, next_server};
 use crate::change::Change;

@@ -15,7 +15,7 @@ use Rattle.arj_model.specs.Disks.{Disks, Reading, held}
 use Rattle.arj_model.specs.Last.{is_among, last_from, uid_of_id}
 use Rattle.arj_model.specs.Outcome.{is_said}
 use Rattle.arj_model.specs.Serial.{writes_on}
-use Rattle.arj_model.specs.Start.{Marks, none_written}
+use Rattle.arj_start.specs.Start.{Marks, none_written}
 use Rattle.arj_protocol.specs.Values.{state_entry}
 
 -- the lines of events before this one

@@ -10,7 +10,7 @@ use Rattle.arj_journal.specs.declared.body.Line.{Line}
 use Rattle.arj_journal.specs.declared.header.Header.{Header}
 use Rattle.arj_model.specs.Disks.{Disks, Reading, held}
 use Rattle.arj_model.specs.Last.{entry_from, is_among, last_from, listed, object_line}
-use Rattle.arj_model.specs.Start.{Marks}
+use Rattle.arj_start.specs.Start.{Marks}
 use Rattle.arj_promise.specs.Runs.{Move}
 use Rattle.arj_promise.specs.Waiting.{coord_in}
 use Rattle.arj_protocol.specs.Coord.{Coord, Doing, Idle, doing_of, number_of}

@@ -4,7 +4,7 @@ use Rattle.std.specs.List.{AllByRecursion}
 use Rattle.arj_journal.specs.ScriptForm.{EventInForm, HeaderInForm}
 use Rattle.arj_journal.specs.declared.body.Line.{Line}
 use Rattle.arj_journal.specs.declared.header.Header.{Header}
-use Rattle.arj_model.specs.Start.{Start, fresh}
+use Rattle.arj_start.specs.Start.{Start, fresh}
 use Rattle.arj_msg.specs.declared.message.Message.{Message}
 use Rattle.arj_promise.specs.Starts.{IsFormed, fresh_is_formed}
 use Rattle.arj_protocol.specs.Step.{Node}

@@ -10,9 +10,9 @@ use Rattle.arj_base.specs.declared.limits.TheConstants.{LAST_VERSION}
 use Rattle.arj_class.specs.Table.{class_of}
 use Rattle.arj_journal.specs.declared.header.Header.{Header}
 use Rattle.arj_journal.specs.declared.header.ObjectLine.{ObjectLine}
-use Rattle.arj_model.specs.Start.{Start, fresh}
+use Rattle.arj_start.specs.Start.{Start, fresh}
 use Rattle.arj_protocol.specs.Order.{has}
-use Rattle.arj_protocol.specs.World.{most_labels}
+use Rattle.arj_start.specs.Limits.{most_labels}
 
 -- the first incarnation in which actions of the run begin at this node: that on its disk where it is up, and else the next one
 abbrev pub next_inc : Start → ℕ → ℕ

@@ -10,9 +10,10 @@ use Rattle.arj_protocol.specs.Words.frame
 use Rattle.arj_protocol.specs.Tree.{at_place, set_place}
 use Rattle.arj_protocol.specs.Step.{Node, Input, first_reason}
 use Rattle.arj_protocol.specs.Step as input
-use Rattle.arj_protocol.specs.World.{World, Frame, Arm, Giving, Asked, most_frames, says, numbered, steps, change_frame, as_delivered, as_lost, deliver_frame, deliver, lose_frame, lowest, settle_for, settle, tick_up, tick_all, is_up_at, node_numbers, is_quiet, quiet_line, quiesce, show_up, show_all, junk_fits, new_frame, labels_unless, gives_label, refused_at, begins, begins_any, giving, happens, limited, counted, no_labels, lacks_labels, run_accepted, run_unless, run_event, reasons, node_of, frame_number, armed}
+use Rattle.arj_protocol.specs.World.{World, Frame, Arm, Giving, Asked, says, numbered, steps, change_frame, as_delivered, as_lost, deliver_frame, deliver, lose_frame, lowest, settle_for, settle, tick_up, tick_all, is_up_at, node_numbers, is_quiet, quiet_line, quiesce, show_up, show_all, junk_fits, new_frame, labels_unless, gives_label, refused_at, begins, begins_any, giving, happens, limited, counted, no_labels, lacks_labels, run_accepted, run_unless, run_event, reasons, node_of, frame_number, armed}
 use Rattle.arj_protocol.specs.Laws.{Local, Grows, as_sent}
 use Rattle.arj_protocol.proofs.Steps.{steps_local}
+use Rattle.arj_start.specs.Limits.{most_frames}
 
 -- nothing more is there than before
 pub grows_same : (w v : World) → v.frames ≡ w.frames → v.lines ≡ w.lines → Grows w v

@@ -24,7 +24,7 @@ use Rattle.arj_protocol.specs.Coord.{Coord}
 use Rattle.arj_protocol.specs.Asking.{heard}
 use Rattle.arj_protocol.specs.Ending.{acked}
 use Rattle.arj_protocol.specs.Node.{Parts, serve, served, sends_answer, with_server, with_naming, with_coord, if_naming, load_by, load_held, prepare_by, prepare_states, handle, handle_ask, handle_answer, handle_other, coord_heard, by_reply}
-use Rattle.arj_protocol.specs.Step.{has_none}
+use Rattle.arj_protocol.specs.Order.{is_empty}
 use Rattle.arj_protocol.specs.Laws.{LeavesCopy, LeavesNamed, LeavesNaming, LeavesParts, LeavesObject, ask_speaks, asked_speaks, other_speaks, speaks, names_grant}
 use Rattle.arj_protocol.proofs.Maps.{put_other}
 use Rattle.arj_protocol.proofs.RowSteps.{one_or_two}
@@ -185,7 +185,7 @@ module _ (x : ℕ) where
       let r = f n in
       answer_leaves from h t (with_naming t r.part) r.outs (option_map say r.reply) (record { server = refl; naming = subst (λ o. LeavesNaming x o (Some r.part)) (sym is) (leaves n) })
 
-  no_ends : (n : ℕ) (ends : List (Uid × End)) (s : Server) → not (has_none ends) ≡ false → LeavesCopy x s (apply_ends n ends s).part
+  no_ends : (n : ℕ) (ends : List (Uid × End)) (s : Server) → not (is_empty ends) ≡ false → LeavesCopy x s (apply_ends n ends s).part
   no_ends n [] s none = refl
   no_ends n (e ∷ es) s none = absurd (cc none)
 
@@ -216,7 +216,7 @@ module _ (x : ℕ) where
   serve_leaves n d t from h (ask.Activate b st) other = server_leaves from h t Reply.Activated (server.activate n h.path b st t.server) (activate_leaves n h.path b st t.server other)
   serve_leaves n d t from h (ask.Record y b i g) other = naming_leaves from h t Reply.Noted (naming.note h.path y b i g) t.naming refl (λ o. note_leaves h.path y b i g o other)
   serve_leaves n d t from h (ask.Invoke y b i ends op) other =
-      let q = or_parts (y == x) (not (has_none ends)) other in
+      let q = or_parts (y == x) (not (is_empty ends)) other in
       server_leaves from h t Reply.Invoked (server.invoke n h y b i ends op t.server) (invoke_leaves n h y b i ends op t.server q.0 (no_ends n ends t.server q.1))
   serve_leaves n d t from h (ask.Vote i ties ends) other = server_leaves from h t Reply.Voted (server.vote n h.path i ties ends t.server) (vote_leaves n h.path i ties ends t.server (no_ends n ends t.server other))
   serve_leaves n d t from h (ask.Prepare states) other = prepare_leaves n d.store states from h t

@@ -16,12 +16,13 @@ use Rattle.arj_protocol.specs.Order.{at_number, put_number, each, at_uid, bindin
 use Rattle.arj_protocol.specs.Effect.{Effect, Say, Do, Look, Prepare, Served, Did, Pair, Prep, Ready, Already, Old, InDoubt, void, reply, did_nothing, is_prepared, prepare_answer}
 use Rattle.arj_protocol.specs.Ask.{top_path, top_of}
 use Rattle.arj_protocol.specs.Copy.{holds}
-use Rattle.arj_protocol.specs.Named.{Named, Counted, Live, Made, bind_named, bind_call, live_asked, make_asked, include_asked, bind_made, bound_new, locked, lock_lines, conflict_on, live_above, made_above, next_server, note_named, note_other, note_made, is_lowered, lowered, lower_lines, in_use, is_binding, end_named, hello_named}
+use Rattle.arj_protocol.specs.Named.{Named, Counted, Live, Made, bind_named, bind_call, live_asked, make_asked, include_asked, bind_made, bound_new, locked, lock_lines, conflict_on, live_above, made_above, next_server, note_named, note_other, note_made, is_lowered, lowered, lower_lines, in_use, end_named, hello_named}
 use Rattle.arj_protocol.specs.Naming.{Naming, bind, note, told, told_new, hello, on_counted, on_named, is_over, listed_entry, taken_end, end_locks, end_lines, has_locks, end_orphans, orphans, end_entries, own_entries}
 use Rattle.arj_protocol.specs.Confirm.{Grants, Marks, confirm, confirm_new, confirm_entries, prepared_by, confirms, lock_in, lock_all, wanted, checked, has_all, entries_after}
 use Rattle.arj_protocol.specs.Laws.{Holders, IsPathOf, NamingTable, naming_rows, rows_in_named, rows_after, rows_ended}
 use Rattle.arj_protocol.proofs.Maps.{put_other, put_same, found_any}
 use Rattle.arj_protocol.proofs.RowSteps.{one_or_two, same_number, after_both, asked_after, asked_elsewhere, ends_none, told_after}
+use Rattle.arj_protocol.specs.Order.{is_binding}
 
 -- the table of the entry of object x
 module _ (h : Holders) (x : ℕ) where

@@ -17,12 +17,13 @@ use Rattle.arj_protocol.specs.Ask.{actor, top_path, top_of}
 use Rattle.arj_protocol.specs.Copy.{Copy, row_for, grant_lines, is_granted, ask_copy, invoke_copy}
 use Rattle.arj_protocol.specs.Server as server
 use Rattle.arj_protocol.specs.Server.{Server, Kept, took_copy, has_ended, active_binding, end_one, end_new, apply_ends, is_told, has_locks, on_copy, kept_after, invoke_new, invoke_kept, invoke_now, is_below, vote_now, changed_by, other_inc, first_unbound}
-use Rattle.arj_protocol.specs.Named.{Named, Counted, Live, Made, bind_named, bind_call, live_asked, make_asked, include_asked, bind_made, lock_lines, conflict_on, live_above, made_above, next_server, note_named, note_other, note_made, is_lowered, lowered, lower_lines, in_use, is_binding}
+use Rattle.arj_protocol.specs.Named.{Named, Counted, Live, Made, bind_named, bind_call, live_asked, make_asked, include_asked, bind_made, lock_lines, conflict_on, live_above, made_above, next_server, note_named, note_other, note_made, is_lowered, lowered, lower_lines, in_use}
 use Rattle.arj_protocol.specs.Naming as naming
 use Rattle.arj_protocol.specs.Naming.{Naming, on_counted, on_named, is_over, listed_entry, end_entries, own_entries, end_orphans, orphans, end_lines, told_new}
 use Rattle.arj_protocol.specs.Confirm.{Grants, Marks, confirm, confirm_new, confirm_entries, prepared_by, confirms, lock_in, lock_all, wanted, checked, has_all, entries_after}
 use Rattle.arj_protocol.specs.Says.{AreAll, is_server_effect, is_naming_effect}
 use Rattle.arj_protocol.proofs.RowSteps.{same_number}
+use Rattle.arj_protocol.specs.Order.{is_binding}
 
 -- ---- lists of effects of one kind
 

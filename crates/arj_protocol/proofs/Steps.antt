@@ -6,9 +6,10 @@ use Rattle.arj_protocol.specs.Order.{at_number}
 use Rattle.arj_protocol.specs.Effect.{Effect, Say, Send, Do}
 use Rattle.arj_protocol.specs.Tree.{at_place, set_place}
 use Rattle.arj_protocol.specs.Step.{Node, Input, Step, step}
-use Rattle.arj_protocol.specs.World.{World, Arm, most_frames, sends, put, steps, step_node, step_with, done_step, halted_at, set_node, armed, disarmed, count_works, cut, bodies, numbered, halted_outs}
+use Rattle.arj_protocol.specs.World.{World, Arm, sends, put, steps, step_node, step_with, done_step, halted_at, set_node, armed, disarmed, count_works, cut, bodies, numbered, halted_outs}
 use Rattle.arj_protocol.specs.Laws.{Local, effects_of, effects_until, effects_of_node}
 use Rattle.arj_protocol.proofs.Maps.{place_other}
+use Rattle.arj_start.specs.Limits.{most_frames}
 
 -- what a node sends has it as sender
 sends_from : (n : ℕ) (es : List Effect) → AllByRecursion (λ f. f.from ≡ n) (sends n es)

@@ -42,7 +42,7 @@ response a (Voted r) = message.Voted (record { asked = a; reply = r })
 response a (Prepared r) = message.Prepared (record { asked = a; reply = r })
 response a (Confirmed r) = message.Confirmed (record { asked = a; reply = r })
 
--- the action that asks, and its answer's head
+-- the action that asks
 abbrev pub actor : Path → Uid
 actor p = last_uid (uids_of p)
 

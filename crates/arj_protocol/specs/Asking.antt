@@ -8,7 +8,7 @@ use Rattle.arj_protocol.specs.Words.body
 use Rattle.arj_protocol.specs.Words.cause
 use Rattle.arj_protocol.specs.Words.kind
 use Rattle.arj_protocol.specs.Words.bound
-use Rattle.arj_protocol.specs.Order.{has, binding_eq, unbound}
+use Rattle.arj_protocol.specs.Order.{has, binding_eq, is_binding, unbound}
 use Rattle.arj_protocol.specs.Effect.{Effect, Say, Send, Intent, Served, Did}
 use Rattle.arj_protocol.specs.Ask.{Reply, actor, top_of, ask_kind, reply_kind, differs}
 use Rattle.arj_protocol.specs.Tree.{Branch, begun, next_uid, doomed_at, uses_object, root_of, ends_of}
@@ -74,14 +74,9 @@ abbrev pub renewed : Bool → Keeping → Option Known → Keeping
 renewed free k None = k
 renewed free k (Some old) = if free && k.spoiled then given_away k old else k
 
--- the answer named this binding
-abbrev pub is_named : Binding → Option Binding → Bool
-is_named b None = false
-is_named b (Some c) = binding_eq b c
-
 -- this top's last answer to a call on the object named the binding
 abbrev pub was_named : Uid → ℕ → Binding → Root → Bool
-was_named top x b r = list_any (λ (g : Grant). is_grant_of top x g && is_named b g.named) r.grants
+was_named top x b r = list_any (λ (g : Grant). is_grant_of top x g && is_binding b g.named) r.grants
 
 -- A call goes without a Bind where the kept binding is known to be recorded, and this top's last answer named it or its
 -- serializing action retains the object.
@@ -138,7 +133,7 @@ same_kept _ _ = false
 abbrev pub keeps_after : Goal → Bool → Option Known → Keeping → Keeping
 keeps_after g spoilt kept k = if is_call g then record k { kept = kept; spoiled = (same_kept kept k.kept && k.spoiled) || spoilt } else k
 
--- the operation of a call, as its line says it
+-- the line of an answer, to a call or an include
 abbrev pub answer_line : ℕ → Goal → Answer → Label → Body
 answer_line x (Run o) a l = body.Ok l x o (answer_text a)
 answer_line x (Include s) a l = body.Includes l x s

@@ -14,7 +14,7 @@ use Rattle.arj_protocol.specs.Order.{binding_eq, binding_less, lesser_binding, g
 use Rattle.arj_protocol.specs.Ask.{Reply}
 
 -- What a Bound answer told: the binding, its server and, once it is known, the server's incarnation; the naming incarnation
--- of the grant; the stores; whether the binding is recorded. After an include, the state that was loaded.
+-- of the grant; the stores; whether the binding is recorded.
 pub record Known : Type 0 where
   pub binding : Binding
   pub server : ℕ
@@ -22,7 +22,6 @@ pub record Known : Type 0 where
   pub grant : ℕ
   pub stores : List ℕ
   pub recorded : Bool
-  pub loaded : Option ObjectState
 
 -- What is wanted: to run an operation, or to include a store.
 pub data Goal : Type 0 where
@@ -85,11 +84,6 @@ abbrev pub is_include : Goal → Bool
 is_include (Run o) = false
 is_include (Include s) = true
 
--- the operation of a call
-abbrev pub op_of : Goal → Option Op
-op_of (Run o) = Some o
-op_of (Include s) = None
-
 -- ---- the request that waits
 
 -- an include has no operation; it never comes so far
@@ -128,11 +122,11 @@ is_invoke _ = false
 
 -- ---- one binding per root
 
--- the lesser and the greater of two incarnations, and of two bindings
+-- two incarnations, the lesser one first, as an answer says them
 abbrev pub two_incs : ℕ → ℕ → What
 two_incs i j = if nat_lt j i then what.Inc j i else what.Inc i j
 
--- the lesser one first, as an answer says them
+-- two bindings, the lesser one first, as an answer says them
 abbrev pub two_bindings : Binding → Binding → What
 two_bindings b c = what.Bind (lesser_binding b c) (greater_binding b c)
 
@@ -165,15 +159,15 @@ bound_by free k at (Some old) = if binding_eq old.binding k.binding then same_bi
 
 -- what an answer tells of a live binding
 abbrev pub live_known : Binding → ℕ → ℕ → ℕ → List ℕ → Known
-live_known b server i g stores = record { binding = b; server = server; inc = Some i; grant = g; stores = stores; recorded = true; loaded = None }
+live_known b server i g stores = record { binding = b; server = server; inc = Some i; grant = g; stores = stores; recorded = true }
 
 -- what an answer tells of a binding that was made: it isn't recorded, and no incarnation of the server is known
 abbrev pub made_known : Binding → ℕ → ℕ → List ℕ → Known
-made_known b server g stores = record { binding = b; server = server; inc = None; grant = g; stores = stores; recorded = false; loaded = None }
+made_known b server g stores = record { binding = b; server = server; inc = None; grant = g; stores = stores; recorded = false }
 
 -- what an answer to an include tells: no binding
 abbrev pub write_known : ℕ → List ℕ → Known
-write_known g stores = record { binding = unbound; server = 0; inc = None; grant = g; stores = stores; recorded = false; loaded = None }
+write_known g stores = record { binding = unbound; server = 0; inc = None; grant = g; stores = stores; recorded = false }
 
 -- The stores are asked in their order. An empty list doesn't come.
 abbrev pub load_from : Known → List ℕ → Option At
@@ -237,12 +231,12 @@ answered free kept g (AtNote k i) (Reply.Noted r) = recorded_answer kept k i r
 answered free kept g (AtInvoke k i) (Reply.Invoked r) = invoked_answer kept k r
 answered free kept g at r = moves kept at
 
--- Given up: a Load goes to the next store; any other step is lost, and so is the last Load.
+-- a Load that is given up goes to the next store, and the last one is lost
 abbrev pub load_given_up : Known → ℕ → List ℕ → CallStep
 load_given_up k s [] = Ended (Lost s false)
 load_given_up k s (t ∷ ts) = On (AtLoad k t ts)
 
--- what giving up leads to in each step
+-- Given up: a Load goes to the next store; any other step is lost.
 abbrev pub given_up : At → CallStep
 given_up (AtBind avoid) = Ended (Lost 1 false)
 given_up (AtLoad k s rest) = load_given_up k s rest

@@ -8,7 +8,7 @@ use Rattle.arj_protocol.specs.Words.cause
 use Rattle.arj_protocol.specs.Words.voted
 use Rattle.arj_protocol.specs.Words.prepared
 use Rattle.arj_protocol.specs.Words.confirmed
-use Rattle.arj_protocol.specs.Order.{has, with_number, without_number, number_set}
+use Rattle.arj_protocol.specs.Order.{has, is_empty, with_number, without_number, number_set}
 use Rattle.arj_protocol.specs.Ask.{Reply, differs}
 
 -- An object with a surviving or retained call (`called`) or include. `joins` are the stores of the surviving includes, and
@@ -261,11 +261,6 @@ given_up (Preparing p left) = stores_left [] (marks_stores left p)
 given_up (Confirming p) = plainly (Aborts (cause.Lost 1) p)
 
 -- ---- the decision
-
--- a list without items
-abbrev pub is_empty : {A : Type 0} → List A → Bool
-is_empty [] = true
-is_empty (a ∷ rest) = false
 
 -- A store prepared, or naming was asked for an exclusion or an inclusion: there is a record.
 abbrev pub has_record : Plan → Bool

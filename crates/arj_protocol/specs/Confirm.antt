@@ -16,7 +16,7 @@ use Rattle.arj_protocol.specs.Copy.{row_for}
 use Rattle.arj_protocol.specs.Named.{Named, unnamed, conflict_on, locked, lock_lines}
 use Rattle.arj_protocol.specs.Naming.{Naming, listed_entry, is_over}
 
--- an object with the naming incarnation of its grant; an object with a store
+-- a list of objects, each with the naming incarnation of its grant
 abbrev pub Grants : Type 0
 Grants = List (ℕ × ℕ)
 
@@ -104,7 +104,7 @@ refused_exclude p n x = option_map (λ r. confirmed.Conflict (last_uid r.holder)
 abbrev pub is_there : Pair → ℕ × ℕ → Option ConfirmedReply
 is_there d m = if is_listed m.1 (listed_entry m.0 d).stores then Some (confirmed.Listed m.0 m.1) else None
 
--- the number of the object of an entry
+-- an entry without stores is refused, with its object's number
 abbrev pub is_bare : ObjectState → Option ConfirmedReply
 is_bare s = if same_nodes (state_entry s).stores [] then Some (confirmed.NoStores s.uid.num) else None
 

@@ -8,9 +8,10 @@ use Rattle.arj_protocol.specs.Words.{Uid, Binding, Path, ObjectState, Label, lab
 use Rattle.arj_protocol.specs.Order.{at_number, put_number, number_set, unbound}
 use Rattle.arj_protocol.specs.Effect.{Intent}
 use Rattle.arj_protocol.specs.Ask.{actor}
-use Rattle.arj_protocol.specs.Tree.{Tree, Branch, new_tree, at_place, set_place, branch_of, is_own, is_committed, is_merged, is_spent, is_constituent, root_of, ends_of}
+use Rattle.arj_protocol.specs.Tree.{Tree, Branch, new_tree, at_place, set_place, branch_of, is_own, is_committed, is_merged, is_spent, root_of, ends_of}
 use Rattle.arj_protocol.specs.Call.{Known, Steps, Goal, Run, Include}
 use Rattle.arj_protocol.specs.Commit.{Machine, Used, Plan, least_of}
+use Rattle.arj_start.specs.Kinds.{is_constituent}
 
 -- ---- what there is of an action
 
@@ -358,7 +359,7 @@ used_with x called top r c k = record {
 
 -- of an object that was only included no binding is known
 abbrev pub nothing_known : Known
-nothing_known = record { binding = unbound; server = 0; inc = None; grant = 0; stores = []; recorded = false; loaded = None }
+nothing_known = record { binding = unbound; server = 0; inc = None; grant = 0; stores = []; recorded = false }
 
 -- what is kept counts where the object was called
 abbrev pub known_for : Bool → ℕ → Root → Known

@@ -110,7 +110,7 @@ grant_lines n new rows =
     if is_granted new.object (last_uid new.holder) new.mode rows then []
     else Say (body.Granted n (last_uid new.holder) new.object new.mode) ∷ []
 
--- the value before the operation, kept where it writes
+-- the overlays with the value after the operation on top, where it writes
 abbrev pub wrote : Path → Op → Value → List Over → List Over
 wrote p op v stack = if writes op then written (uids_of p) (tops_of p) (value_after op v) stack else stack
 

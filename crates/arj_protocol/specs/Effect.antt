@@ -64,11 +64,6 @@ pub record Disk : Type 0 where
   pub names : Pair
   pub intents : List (Uid × Intent)
 
--- the pair of a role
-abbrev pub pair_of : Role → Disk → Pair
-pair_of role.Store d = d.store
-pair_of role.Names d = d.names
-
 -- the pair of a role is changed
 abbrev pub with_pair : Role → (Pair → Pair) → Disk → Disk
 with_pair role.Store f d = record d { store = f d.store }

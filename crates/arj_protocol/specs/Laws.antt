@@ -15,7 +15,8 @@ use Rattle.arj_protocol.specs.Server.{Server}
 use Rattle.arj_protocol.specs.Naming.{Naming}
 use Rattle.arj_protocol.specs.Node.{Parts, Handled, Void, Took}
 use Rattle.arj_protocol.specs.Tree.{at_place}
-use Rattle.arj_protocol.specs.Step.{Node, Input, Step, step, has_none}
+use Rattle.arj_protocol.specs.Step.{Node, Input, Step, step}
+use Rattle.arj_protocol.specs.Order.{is_empty}
 use Rattle.arj_protocol.specs.World.{World, Frame, Arm, count_works, cut, halted_outs, new_frame}
 
 -- ---- one node's step
@@ -204,8 +205,8 @@ ask_speaks x (ask.Bind y include avoid) = y == x
 ask_speaks x (ask.Load y) = y == x
 ask_speaks x (ask.Activate b st) = st.uid.num == x
 ask_speaks x (ask.Record y b i g) = y == x
-ask_speaks x (ask.Invoke y b i ends op) = (y == x) || not (has_none ends)
-ask_speaks x (ask.Vote i ties ends) = not (has_none ends)
+ask_speaks x (ask.Invoke y b i ends op) = (y == x) || not (is_empty ends)
+ask_speaks x (ask.Vote i ties ends) = not (is_empty ends)
 ask_speaks x (ask.Prepare states) = false
 ask_speaks x (ask.Confirm grants excluded included) = names_grant x grants
 

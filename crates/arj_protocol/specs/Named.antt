@@ -8,7 +8,7 @@ use Rattle.arj_protocol.specs.Words.ending
 use Rattle.arj_protocol.specs.Words.body
 use Rattle.arj_protocol.specs.Words.bound
 use Rattle.arj_protocol.specs.Words.recorded
-use Rattle.arj_protocol.specs.Order.{at_uid, put_uid, without_uid, with_uid, drop_uid, binding_eq, binding_less}
+use Rattle.arj_protocol.specs.Order.{at_uid, put_uid, without_uid, with_uid, drop_uid, binding_eq, binding_less, is_binding}
 use Rattle.arj_protocol.specs.Effect.{Effect, Say, Served, void, reply}
 use Rattle.arj_protocol.specs.Ask.{top_path, top_of}
 use Rattle.arj_protocol.specs.Copy.{row_for, rows_asked, grant_lines}
@@ -74,12 +74,12 @@ abbrev pub made_above : Binding → Option Made → Option Made
 made_above avoid None = None
 made_above avoid (Some m) = if not m.recorded && binding_less avoid m.binding then Some m else None
 
--- the first of a list of servers, and the one after a server, where the first follows the last
+-- the first of a list of servers
 abbrev pub first_server : List ℕ → ℕ
 first_server [] = 0
 first_server (s ∷ ss) = s
 
--- the server after the last one that was bound
+-- the server after the last one that was bound, where the first follows the last
 abbrev pub server_behind : ℕ → List ℕ → List ℕ → ℕ
 server_behind last all [] = first_server all
 server_behind last all (s ∷ []) = first_server all
@@ -165,11 +165,6 @@ bind_named inc x p true avoid e c = bind_include inc x p e c
 bind_named inc x p false avoid e c = bind_call inc x p avoid e c (live_above avoid c.named.live)
 
 -- ---- record
-
--- it is this binding
-abbrev pub is_binding : Binding → Option Binding → Bool
-is_binding b None = false
-is_binding b (Some c) = binding_eq b c
 
 -- the action's row on it is the write lock
 abbrev pub is_write_row : Uid → Uid → Row → Bool

@@ -58,7 +58,7 @@ bind p x include avoid d n =
     if is_over p n then void n
     else on_counted x (bind_named n.inc x p include avoid (listed_entry x d)) n (at_number x n.objects)
 
--- Another incarnation of naming is told first.
+-- A Record that speaks of another incarnation of naming is answered so, where it isn't void.
 abbrev pub note : Path → ℕ → Binding → ℕ → ℕ → Naming → Served Naming RecordedReply
 note p x b i g n =
     if is_over p n || not (is_some (at_number x n.objects)) then void n

@@ -1,6 +1,6 @@
 -- How Uids, bindings and versions compare, and finite maps and sets: sorted lists, as an ordered map or set has its
 -- entries.
-use Rattle.std.specs.Prelude.{ℕ, zero, suc, ◌+◌, ◌*◌, Bool, ◌==◌, nat_lt, if◌then◌else◌, List, [], ◌∷◌, filter, map, Option, not, min}
+use Rattle.std.specs.Prelude.{ℕ, zero, suc, ◌+◌, ◌*◌, Bool, true, false, ◌==◌, nat_lt, if◌then◌else◌, List, [], ◌∷◌, filter, map, Option, Some, None, not, min}
 use Rattle.std.specs.List.{list_any}
 use Rattle.std.specs.Ordering.{nat_cmp}
 use Rattle.std.specs.Map.{lookup, remove_entry}
@@ -104,3 +104,13 @@ number_set (n ∷ ns) = with_number n (number_set ns)
 -- the number isn't in the list
 abbrev pub without_number : ℕ → List ℕ → List ℕ
 without_number n ns = filter (λ m. not (m == n)) ns
+
+-- it is this binding
+abbrev pub is_binding : Binding → Option Binding → Bool
+is_binding b None = false
+is_binding b (Some c) = binding_eq b c
+
+-- a list without items
+abbrev pub is_empty : {A : Type 0} → List A → Bool
+is_empty [] = true
+is_empty (a ∷ rest) = false

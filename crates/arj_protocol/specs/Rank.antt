@@ -4,7 +4,7 @@ use Rattle.arj_protocol.specs.Words.{Message}
 use Rattle.arj_protocol.specs.Words.message
 use Rattle.arj_protocol.specs.Effect.{Effect, Say, Send, Do}
 
--- hello, query, the requests each with its answer, told, its acknowledgement, and told without one
+-- how far on a told stands: one that wants an acknowledgement goes before it, one that wants none is last
 abbrev pub told_rank : Bool → ℕ
 told_rank true = 18
 told_rank false = 20

@@ -30,11 +30,6 @@ abbrev pub is_names : Role → Bool
 is_names role.Names = true
 is_names role.Store = false
 
--- the role of the store's states
-abbrev pub is_store : Role → Bool
-is_store role.Store = true
-is_store role.Names = false
-
 -- a server grants locks on objects, takes copies and applies ends
 abbrev pub is_server_line : ℕ → Body → Bool
 is_server_line n (body.Granted m u o how) = (m == n) && is_object o
@@ -71,12 +66,6 @@ abbrev pub is_naming_effect : Effect → Bool
 is_naming_effect (Say b) = is_naming_line b
 is_naming_effect (Send to m) = false
 is_naming_effect (Do w) = is_names_work w
-
--- a store prepares states and ends them
-abbrev pub is_store_line : ℕ → Body → Bool
-is_store_line n (body.Prepared m u r) = (m == n) && is_store r
-is_store_line n (body.Done m u r e) = (m == n) && is_store r
-is_store_line n _ = false
 
 -- a coordinator speaks of actions by their labels, sends, and writes and removes records
 abbrev pub is_coord_line : Body → Bool

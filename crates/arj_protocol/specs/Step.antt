@@ -1,25 +1,26 @@
 -- What a node does at each input: the refusals that it finds itself, calls, commits and ends, frames, ticks, restarts.
 use Rattle.std.specs.Prelude.{ℕ, zero, suc, ◌+◌, Bool, true, false, not, ◌&&◌, ◌||◌, ◌==◌, if◌then◌else◌, List, [], ◌∷◌, ◌++◌, map, filter, find, Option, Some, None, is_some}
 use Rattle.std.specs.List.{flat_map, list_any}
-use Rattle.arj_model.specs.Start.{Mark, Marks, Start, fresh, none_written, unwritten}
+use Rattle.arj_start.specs.Start.{Mark, Marks, Start, fresh, none_written, unwritten}
 use Rattle.arj_protocol.specs.Words.{Uid, Kind, Op, Label, Class, Header, ObjectLine, ObjectState, Body, Message, uid_eq, uids_of, object, entry, class_of, has_op, payload_of, entry_payload, nobody}
 use Rattle.arj_protocol.specs.Words.ending
 use Rattle.arj_protocol.specs.Words.body
 use Rattle.arj_protocol.specs.Words.kind
 use Rattle.arj_protocol.specs.Words.class
 use Rattle.arj_protocol.specs.Words.message
-use Rattle.arj_protocol.specs.Order.{uid_set, put_uid, has, without_number}
+use Rattle.arj_protocol.specs.Order.{uid_set, put_uid, has, is_empty, without_number}
 use Rattle.arj_protocol.specs.Effect.{Effect, Say, Send, Do, Look, PutInc, Disk, Pair, Intent, Did, held_at, holder_of}
 use Rattle.arj_protocol.specs.Values.{state_entry}
 use Rattle.arj_protocol.specs.Ask.{actor}
 use Rattle.arj_protocol.specs.Server.{new_server}
 use Rattle.arj_protocol.specs.Naming.{Naming}
 use Rattle.arj_protocol.specs.Confirm.{recovered_naming, recovered_lines}
-use Rattle.arj_protocol.specs.Tree.{Branch, at_place, has_open_child, is_serial, is_constituent, is_too_deep, has_many_actions, has_many_objects, is_open_below, root_of}
+use Rattle.arj_protocol.specs.Tree.{Branch, at_place, has_open_child, is_too_deep, has_many_actions, has_many_objects, is_open_below, root_of}
 use Rattle.arj_protocol.specs.Coord.{Coord, Doing, Now, Idle, Committing, new_coord, number_of, doing_of, of_root}
 use Rattle.arj_protocol.specs.Asking.{begin_action, call, include, commit_action, give_up, again_all}
 use Rattle.arj_protocol.specs.Ending.{abort_action, tell_all}
 use Rattle.arj_protocol.specs.Node.{Parts, Handled, Void, Took, taken, holders, query_about, prepared_actions, with_coord, whole, Ran}
+use Rattle.arj_start.specs.Kinds.{is_constituent, is_serial}
 
 -- A node: its number, its disk, and its parts in memory where it is up.
 pub record Node : Type 0 where
@@ -93,7 +94,7 @@ abbrev pub is_below_16 : Kind → Bool
 is_below_16 kind.Independent = false
 is_below_16 _ = true
 
--- an independent action begins under a plain one, and a constituent under a serializing one
+-- an independent action may not begin in a serializing one, and a constituent in no other
 abbrev pub is_misplaced : Kind → Branch → Bool
 is_misplaced kind.Independent b = is_serial b.kind
 is_misplaced kind.Constituent b = not (is_serial b.kind)
@@ -468,14 +469,9 @@ first_node hd n = node_by hd fresh n
 abbrev pub waits_for_nothing : Coord → Bool
 waits_for_nothing c = not (list_any (λ (d : Doing). is_waiting_now d.now) c.doings)
 
--- an empty list
-abbrev pub has_none : {A : Type 0} → List A → Bool
-has_none [] = true
-has_none (a ∷ rest) = false
-
 -- no prepared action and no record
 abbrev pub is_settled : Disk → Bool
-is_settled d = has_none d.store.pend && (has_none d.names.pend && has_none d.intents)
+is_settled d = is_empty d.store.pend && (is_empty d.names.pend && is_empty d.intents)
 
 -- a node with this disk and memory is idle
 abbrev pub is_idle_with : Disk → Option Parts → Bool

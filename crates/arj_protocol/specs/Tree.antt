@@ -5,20 +5,9 @@ use Rattle.std.specs.List.{list_any}
 use Rattle.arj_protocol.specs.Words.{Uid, Path, End, Kind, uid_eq, uids_of, tops_of, first_uid, before_last, is_on, path_of}
 use Rattle.arj_protocol.specs.Words.kind
 use Rattle.arj_protocol.specs.Words.ending
+use Rattle.arj_start.specs.Limits.{most_actions, most_objects, most_on_path}
 use Rattle.arj_protocol.specs.Order.{at_number, put_number, with_number, has}
 use Rattle.arj_protocol.specs.Ask.{actor}
-
--- the limits of a root and of a path
-abbrev pub most_actions : ℕ
-most_actions = 64
-
--- as many objects may a root use
-abbrev pub most_objects : ℕ
-most_objects = 16
-
--- as many actions may a path have
-abbrev pub longest_path : ℕ
-longest_path = 16
 
 -- an action: how it ended is None while it is open
 pub record Branch : Type 0 where
@@ -188,7 +177,7 @@ is_below u b = is_on (uids_of b.path) u && not (uid_eq (actor b.path) u)
 abbrev pub is_open_below : Uid → Branch → Bool
 is_open_below u b = is_below u b && not (is_some b.ended)
 
--- the open descendants, the one begun last first
+-- the Uids of a list of actions, the one begun last first, in front of those found
 abbrev pub latest_first : List Branch → List Uid → List Uid
 latest_first [] found = found
 latest_first (b ∷ bs) found = latest_first bs (actor b.path ∷ found)
@@ -206,16 +195,6 @@ is_parent u (Some p) = uid_eq p u
 abbrev pub has_open_child : Uid → Tree → Bool
 has_open_child u t = list_any (λ b. is_parent u (before_last (uids_of b.path)) && not (is_some b.ended)) t.branches
 
--- a serializing action
-abbrev pub is_serial : Kind → Bool
-is_serial kind.Serial = true
-is_serial _ = false
-
--- a constituent
-abbrev pub is_constituent : Kind → Bool
-is_constituent kind.Constituent = true
-is_constituent _ = false
-
 -- a nested action
 abbrev pub is_nested : Kind → Bool
 is_nested kind.Nested = true
@@ -223,7 +202,7 @@ is_nested _ = false
 
 -- its path is as long as a path may be
 abbrev pub is_too_deep : Branch → Bool
-is_too_deep b = nat_le longest_path (length (uids_of b.path))
+is_too_deep b = nat_le most_on_path (length (uids_of b.path))
 
 -- its root has as many actions as it may
 abbrev pub has_many_actions : Branch → Tree → Bool

@@ -32,7 +32,7 @@ value_in class.Table bytes = value.Table (in_pairs (numbers_in bytes))
 abbrev pub state_value : ObjectState → Value
 state_value s = value_in s.class s.payload
 
--- a naming entry as its payload spells it: servers and stores, each list behind its length
+-- the stores of an entry's payload, which stand behind their number
 abbrev pub stores_in : List ℕ → List ℕ
 stores_in [] = []
 stores_in (n ∷ bytes) = take n bytes

@@ -3,7 +3,7 @@ use Rattle.std.specs.Prelude.{ℕ, zero, suc, ◌+◌, ◌-◌, Bool, true, fals
 use Rattle.std.specs.List.{list_all, list_any}
 use Rattle.std.specs.Map.{lookup}
 use Rattle.std.specs.BTreeMap.{insert_entry, is_at}
-use Rattle.arj_model.specs.Start.{Start, fresh}
+use Rattle.arj_start.specs.Start.{Start, fresh}
 use Rattle.arj_protocol.specs.Words.{Kind, Label, label_cmp, Header, Event, FrameNo, Body, Line, Message, FrameKind, read_message}
 use Rattle.arj_protocol.specs.Words.body
 use Rattle.arj_protocol.specs.Words.kind
@@ -11,20 +11,14 @@ use Rattle.arj_protocol.specs.Words.event
 use Rattle.arj_protocol.specs.Words.frame
 use Rattle.arj_protocol.specs.Words.frame_no
 use Rattle.arj_protocol.specs.Words.which
-use Rattle.arj_protocol.specs.Order.{at_number, put_number}
+use Rattle.arj_start.specs.{Limits.most_frames, Limits.most_labels}
+use Rattle.arj_start.specs.Kinds.{is_serial}
+use Rattle.arj_protocol.specs.Order.{at_number, is_empty, put_number}
 use Rattle.arj_protocol.specs.Effect.{Effect, Say, Send, Do, Disk, Stop, worked, stopped}
 use Rattle.arj_protocol.specs.Ask.{frame_kind}
 use Rattle.arj_protocol.specs.Tree.{at_place, set_place}
-use Rattle.arj_protocol.specs.Step.{Node, Input, Step, refusal, step, node_by, numbers_to, first_reason, is_idle, class_at, has_none}
+use Rattle.arj_protocol.specs.Step.{Node, Input, Step, refusal, step, node_by, numbers_to, first_reason, is_idle, class_at}
 use Rattle.arj_protocol.specs.Step as input
-
--- the limits of a run
-abbrev pub most_labels : ℕ
-most_labels = 4096
-
--- as many frames are sent in a run at most
-abbrev pub most_frames : ℕ
-most_frames = 100000
 
 -- A frame. One from nobody, node 0, holds no message.
 pub record Frame : Type 0 where
@@ -325,7 +319,7 @@ is_frame k w = is_some (at_place (frame_number k w) w.frames)
 
 -- the bytes decode as a message, and nothing is behind it
 abbrev pub reads_whole : Result (Message × List ℕ) ℕ → Bool
-reads_whole (Ok r) = has_none r.1
+reads_whole (Ok r) = is_empty r.1
 reads_whole (Err left) = false
 
 -- The conditions that the world tests, in increasing order of their numbers. An action whose label was given before the run began has ended.
@@ -385,14 +379,9 @@ giving (event.BeginIn l p) w = Some (record { label = l; kind = kind_below p w; 
 giving (event.Top l p) w = Some (record { label = l; kind = kind.Independent; parent = Some p; node = node_of p w })
 giving _ w = None
 
--- a serializing action
-abbrev pub is_serial_kind : Kind → Bool
-is_serial_kind kind.Serial = true
-is_serial_kind _ = false
-
 -- the label is that of the new action from now on
 abbrev pub gives_label : Giving → World → World
-gives_label g w = record w { labels = insert_entry label_cmp w.labels g.label (record { node = g.node; serial = is_serial_kind g.kind }) }
+gives_label g w = record w { labels = insert_entry label_cmp w.labels g.label (record { node = g.node; serial = is_serial g.kind }) }
 
 -- the label is given where the node doesn't refuse
 abbrev pub labels_unless : Giving → World → Option ℕ → World

@@ -2,9 +2,10 @@
 //! that compute. Nothing runs here: `specs/` has the definitions, `proofs/` what follows from them, and worked runs.
 //!
 //! It stands on the types of lines (`arj_journal`), messages (`arj_msg`), paths, modes and lock rows (`arj_base`), classes
-//! (`arj_class`) and naming entries (`arj_entry`). What it gives upward: the code is to be proved equal to it, part by
-//! part, and the promises over it, with no code in sight. The laws here hold whatever messages come: a step is its
-//! node's alone, locks follow the lines, and what a message doesn't speak of stays.
+//! (`arj_class`), naming entries (`arj_entry`), and on `arj_start` for what a run begins with and for its limits. What it gives
+//! upward: the code is to be proved equal to it, part by part, and the promises over it, with no code in sight. The laws here
+//! are of one step: it is its node's alone, what a message doesn't speak of stays, and locks follow the lines where messages
+//! name actions by their own paths.
 #![tactic(auto)]
 
 mod laws;

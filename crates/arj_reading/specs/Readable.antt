@@ -16,7 +16,8 @@ use Rattle.arj_journal.specs.declared.body.Line.{Line}
 use Rattle.arj_journal.specs.declared.header.Header.{Header}
 use Rattle.arj_journal.specs.declared.header.ObjectLine.{ObjectLine}
 use Rattle.arj_text.specs.Label.{name}
-use Rattle.arj_model.specs.Actions.{Act, Begun, Placed, acts, act_in, id_in, path, upwards, is_serial, read, ended, has_end}
+use Rattle.arj_model.specs.Actions.{Act, Begun, Placed, acts, act_in, id_in, path, upwards, read, ended, has_end}
+use Rattle.arj_start.specs.Kinds.{is_constituent, is_serial}
 use Rattle.arj_model.specs.Last.{object_line}
 use Rattle.arj_reading.specs.declared.limits.TheConstants.{PATH_ACTIONS}
 use Rattle.arj_reading.specs.declared.named.Named.{Named}
@@ -64,11 +65,6 @@ abbrev pub is_alone : Kind → Bool
 is_alone kind.Top = true
 is_alone kind.Serial = true
 is_alone _ = false
-
--- the kind of a constituent
-abbrev pub is_constituent : Kind → Bool
-is_constituent kind.Constituent = true
-is_constituent _ = false
 
 -- both tests hold or both fail
 abbrev pub is_same : Bool → Bool → Bool

@@ -3,9 +3,10 @@ ghost use Rattle.std.specs.Prelude.{◌≡◌, List, Option, Some, None, length}
 ghost use Rattle.std.specs.Option.{option_copied, option_map};
 ghost use Rattle.arj_journal.specs.declared.body.Line.{Line as line_type};
 ghost use Rattle.arj_text.specs.Label.{name};
-ghost use Rattle.arj_model.specs.Actions.{acts, ended, is_serial as is_serial_kind, path, upwards};
+ghost use Rattle.arj_model.specs.Actions.{acts, ended, path, upwards};
+ghost use Rattle.arj_start.specs.Kinds.{is_constituent as is_constituent_kind, is_serial as is_serial_kind};
 ghost use Rattle.arj_model.specs.Last.{object_line};
-ghost use Rattle.arj_reading.specs.Readable.{answer_rule as rule_of_answer, begin_rule as rule_of_begin, body_rule as rule_of_body, call_rule as rule_of_call, called, committed_rule as rule_of_committed, end_rule as rule_of_end, ended_rule as rule_of_ended, has_parent as may_have_parent, is_alone as has_no_parent, is_constituent as is_constituent_kind, is_parent_of, is_top as is_top_kind, known, label_of, line_rule, met, named, named_rule, object_rule as rule_of_object, of_begun, recovered_rule as rule_of_recovered};
+ghost use Rattle.arj_reading.specs.Readable.{answer_rule as rule_of_answer, begin_rule as rule_of_begin, body_rule as rule_of_body, call_rule as rule_of_call, called, committed_rule as rule_of_committed, end_rule as rule_of_end, ended_rule as rule_of_ended, has_parent as may_have_parent, is_alone as has_no_parent, is_parent_of, is_top as is_top_kind, known, label_of, line_rule, met, named, named_rule, object_rule as rule_of_object, of_begun, recovered_rule as rule_of_recovered};
 ghost use Rattle.arj_reading.specs.Reading.{HasRead, capped};
 
 use crate::limits::PATH_ACTIONS;

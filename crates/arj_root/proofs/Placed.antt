@@ -8,7 +8,7 @@ use Rattle.std.specs.declared.cmp.Ordering.TheVariants.{Less, Equal, Greater}
 use Rattle.std.specs.FinMap.{nat_cmp-IsAntisymmetric}
 use Rattle.std.proofs.lemmas.Bool.Decides.{nat_tests}
 use Rattle.arj_protocol.proofs.Maps.{put_other, put_same}
-use Rattle.arj_protocol.specs.Asking.{is_named}
+use Rattle.arj_protocol.specs.Order.{is_binding}
 use Rattle.arj_protocol.specs.Coord.{Grant, is_grant_of}
 use Rattle.arj_protocol.specs.Words.{Uid, Binding, uid_eq}
 use Rattle.arj_root.specs.Merged.{place_of}
@@ -89,7 +89,7 @@ place_within test n k (g ∷ gs) found = by (test g) found (λ found. place_with
     by false found ih = omega (arith, ih found)
 
 -- a grant that named the binding
-named_is : (top : Uid) (b : Binding) (x n : ℕ) (whole gs : List Grant) → ((k : ℕ) → slice_get whole (n + k) ≡ slice_get gs k) → any_named_at top b whole (places_from x n gs) ≡ list_any (λ g. is_grant_of top x g && is_named b g.named) gs
+named_is : (top : Uid) (b : Binding) (x n : ℕ) (whole gs : List Grant) → ((k : ℕ) → slice_get whole (n + k) ≡ slice_get gs k) → any_named_at top b whole (places_from x n gs) ≡ list_any (λ g. is_grant_of top x g && is_binding b g.named) gs
 named_is top b x n whole [] all = refl
 named_is top b x n whole (g ∷ gs) all = by (g.x == x) (uid_eq g.top top) refl (named_is top b x (n + 1) whole gs rest)
   where
@@ -99,14 +99,14 @@ named_is top b x n whole (g ∷ gs) all = by (g.x == x) (uid_eq g.top top) refl 
     here : slice_get whole n ≡ Some g
     here = ap (slice_get whole) (sym (add-zero n)) ∙ all 0
 
-    by : (t e : Bool) → uid_eq g.top top ≡ e → any_named_at top b whole (places_from x (n + 1) gs) ≡ list_any (λ g. is_grant_of top x g && is_named b g.named) gs
-        → any_named_at top b whole (if t then (g.top, n) ∷ places_from x (n + 1) gs else places_from x (n + 1) gs) ≡ (((e && t) && is_named b g.named) || list_any (λ g. is_grant_of top x g && is_named b g.named) gs)
-    by true true is ih = rw (is, here) (ap (λ r. is_named b g.named || r) ih)
+    by : (t e : Bool) → uid_eq g.top top ≡ e → any_named_at top b whole (places_from x (n + 1) gs) ≡ list_any (λ g. is_grant_of top x g && is_binding b g.named) gs
+        → any_named_at top b whole (if t then (g.top, n) ∷ places_from x (n + 1) gs else places_from x (n + 1) gs) ≡ (((e && t) && is_binding b g.named) || list_any (λ g. is_grant_of top x g && is_binding b g.named) gs)
+    by true true is ih = rw (is, here) (ap (λ r. is_binding b g.named || r) ih)
     by true false is ih = rw is ih
     by false true is ih = ih
     by false false is ih = ih
 
-pub named_by_places : (m : Places) (gs kept : List Grant) (top : Uid) (b : Binding) (x : ℕ) → HasPlaces m gs → gs ≡ kept → any_named_at top b gs (placed x m) ≡ list_any (λ g. is_grant_of top x g && is_named b g.named) kept
+pub named_by_places : (m : Places) (gs kept : List Grant) (top : Uid) (b : Binding) (x : ℕ) → HasPlaces m gs → gs ≡ kept → any_named_at top b gs (placed x m) ≡ list_any (λ g. is_grant_of top x g && is_binding b g.named) kept
 named_by_places m gs kept top b x has same =
     ap (any_named_at top b gs) (has x) ∙ named_is top b x 0 gs gs (λ k. let zero_is : 0 + k ≡ k = omega arith in ap (slice_get gs) zero_is)
-    ∙ ap (list_any (λ g. is_grant_of top x g && is_named b g.named)) same
+    ∙ ap (list_any (λ g. is_grant_of top x g && is_binding b g.named)) same

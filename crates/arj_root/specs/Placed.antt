@@ -1,7 +1,7 @@
 -- Where the grants of each object stand in the list of all, with their tops.
 use Rattle.std.specs.Prelude.{◌≡◌, ℕ, ◌+◌, Bool, false, ◌&&◌, ◌==◌, if◌then◌else◌, List, [], ◌∷◌, ◌++◌, Option, Some, None, unwrap_or, slice_get}
 use Rattle.std.specs.List.{list_any}
-use Rattle.arj_protocol.specs.Asking.{is_named}
+use Rattle.arj_protocol.specs.Order.{is_binding}
 use Rattle.arj_protocol.specs.Coord.{Grant}
 use Rattle.arj_protocol.specs.Order.{at_number, put_number}
 use Rattle.arj_protocol.specs.Words.{Uid, Binding, uid_eq}
@@ -35,7 +35,7 @@ place_in top (e ∷ es) = if uid_eq e.0 top then Some e.1 else place_in top es
 -- the last answer named the binding
 abbrev pub names_at : Binding → Option Grant → Bool
 names_at b None = false
-names_at b (Some g) = is_named b g.named
+names_at b (Some g) = is_binding b g.named
 
 -- a grant of the top at one of the places named the binding last
 abbrev pub any_named_at : Uid → Binding → List Grant → List (Uid × ℕ) → Bool

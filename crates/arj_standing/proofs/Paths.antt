@@ -12,11 +12,12 @@ use Rattle.arj_journal.specs.declared.body.Kind.{Kind}
 use Rattle.arj_journal.specs.declared.body.Kind.TheVariants as kind
 use Rattle.arj_text.specs.declared.label.Label.{Label}
 use Rattle.arj_text.specs.Label.{name}
-use Rattle.arj_model.specs.Actions.{Act, acts_after, is_serial, path, path_in, tops_in, uids, upwards}
+use Rattle.arj_model.specs.Actions.{Act, acts_after, path, path_in, tops_in, uids, upwards}
 use Rattle.arj_model.specs.Table.{path_by}
 use Rattle.arj_standing.specs.Begun.{AreBegun, last_or, link, links, links_above, links_named, links_of, tops_of_links}
 use Rattle.arj_standing.specs.declared.begun.Begun.{Begun}
 use Rattle.arj_standing.specs.declared.begun.Link.{Link}
+use Rattle.arj_start.specs.Kinds.{is_serial}
 
 -- the links of one of two paths
 links_if : (b : Bool) (p q : List Act) → cond b (links p) (links q) ≡ links (cond b p q)

@@ -8,9 +8,10 @@ use Rattle.arj_journal.specs.declared.body.Kind.{Kind}
 use Rattle.arj_journal.specs.declared.body.Kind.TheVariants as kind
 use Rattle.arj_text.specs.declared.label.Label.{Label}
 use Rattle.arj_text.specs.Label.{name}
-use Rattle.arj_model.specs.Actions.{Act, is_serial, path_in}
+use Rattle.arj_model.specs.Actions.{Act, path_in}
 use Rattle.arj_standing.specs.declared.begun.Begun.{Begun}
 use Rattle.arj_standing.specs.declared.begun.Link.{Link}
+use Rattle.arj_start.specs.Kinds.{is_serial}
 
 -- an action on a path
 abbrev pub link : Act → Link

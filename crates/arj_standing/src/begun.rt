@@ -1,6 +1,7 @@
 // The actions that have begun, each with its path.
 ghost use Rattle.std.specs.Prelude.{◌≡◌, ◌++◌, ◌∷◌, [], List, IfOk, OnOk};
-ghost use Rattle.arj_model.specs.Actions.{Act, acts_after, is_serial as is_serial_kind};
+ghost use Rattle.arj_model.specs.Actions.{Act, acts_after};
+ghost use Rattle.arj_start.specs.Kinds.{is_serial as is_serial_kind};
 ghost use Rattle.arj_standing.specs.Begun.{AreBegun, links_above};
 
 use crate::path::path_named;

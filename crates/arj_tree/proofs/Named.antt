@@ -5,9 +5,10 @@ use Rattle.std.specs.Prelude.{slice_get, slice_set}
 use Rattle.arj_protocol.specs.Ask.{actor}
 use Rattle.std.proofs.lemmas.Bool.{and_parts}
 use Rattle.std.proofs.lemmas.Bool.Decides.{nat_tests}
-use Rattle.arj_protocol.specs.Tree.{Tree, Branch, branch_of, is_serial}
+use Rattle.arj_protocol.specs.Tree.{Tree, Branch, branch_of}
 use Rattle.arj_protocol.specs.Words.{Uid, uids_of, last_uid}
 use Rattle.arj_tree.specs.Stands.{AreNamed, IsPlace}
+use Rattle.arj_start.specs.Kinds.{is_serial}
 
 -- an action that begins is named by the next place
 pub named_begun : (node inc n : ℕ) (bs : List Branch) (b : Branch) → AreNamed node inc n bs → actor b.path ≡ record { node = node; inc = inc; num = n + length bs } → (is_serial b.kind ≡ true → length (uids_of b.path) ≡ 1) → AreNamed node inc n (bs ++ b ∷ [])

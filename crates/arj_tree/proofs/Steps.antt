@@ -3,7 +3,7 @@ use Rattle.std.proofs.Common.{◌≡◌, ℕ, ◌+◌, List, [], ◌∷◌, ◌+
 use Rattle.std.proofs.lemmas.List.{length-set}
 use Rattle.std.specs.Prelude.{slice_get, slice_set}
 use Rattle.arj_protocol.specs.Ask.{actor}
-use Rattle.arj_protocol.specs.Tree.{Tree, Branch, Family, is_serial, ended_at, ended_branch, listed_end, doomed_at, doomed_branch}
+use Rattle.arj_protocol.specs.Tree.{Tree, Branch, Family, ended_at, ended_branch, listed_end, doomed_at, doomed_branch}
 use Rattle.arj_protocol.specs.Words.{Uid, Path, End, Kind, uids_of}
 use Rattle.arj_tree.specs.Open.{Opens, opens, without}
 use Rattle.arj_tree.specs.Stands.{IsPlace, Stands, with_branch}
@@ -11,6 +11,7 @@ use Rattle.arj_tree.specs.Tally.{Families, family_in, changed, with_action, AreW
 use Rattle.arj_tree.proofs.Maps.{within_changed}
 use Rattle.arj_tree.proofs.Named.{named_begun, named_changed, place_is}
 use Rattle.arj_tree.proofs.Opens.{opens_begun, opens_ended, opens_doomed}
+use Rattle.arj_start.specs.Kinds.{is_serial}
 
 -- what equals what a tree keeps is kept too
 pub same_stands : (node inc : ℕ) (bs cs : List Branch) (o q : Opens) (m n : Families) → cs ≡ bs → q ≡ o → n ≡ m → Stands node inc bs o m → Stands node inc cs q n

@@ -1,10 +1,11 @@
 -- What a tree's fields keep, and calls by Uid.
 use Rattle.std.specs.Prelude.{◌≡◌, ℕ, ◌+◌, suc, ◌<◌, true, List, [], ◌∷◌, length, slice_set, Option, Some, None}
 use Rattle.arj_protocol.specs.Ask.{actor}
-use Rattle.arj_protocol.specs.Tree.{Tree, Branch, branch_of, is_own, is_serial, uses_object}
+use Rattle.arj_protocol.specs.Tree.{Tree, Branch, branch_of, is_own, uses_object}
 use Rattle.arj_protocol.specs.Words.{Uid, Path, uids_of}
 use Rattle.arj_tree.specs.Open.{Opens, opens}
 use Rattle.arj_tree.specs.Tally.{Families, AreWithin}
+use Rattle.arj_start.specs.Kinds.{is_serial}
 
 -- Each path ends with its action, whose number is its place; a serializing action stands below no other.
 abbrev pub AreNamed : ℕ → ℕ → ℕ → List Branch → Type 0

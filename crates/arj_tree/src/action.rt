@@ -1,6 +1,7 @@
 // One action.
 ghost use Rattle.std.specs.Prelude.{◌≡◌, None, Some, is_some, option_copied, false, true};
-ghost use Rattle.arj_protocol.specs.Tree.{ended_so, is_serial, is_too_deep};
+ghost use Rattle.arj_protocol.specs.Tree.{ended_so, is_too_deep};
+ghost use Rattle.arj_start.specs.Kinds.{is_serial};
 
 use arj_base::{End, MOST_UIDS, Path};
 use arj_journal::Kind;

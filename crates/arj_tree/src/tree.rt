@@ -4,13 +4,15 @@ ghost use Rattle.std.specs.List.{list_any};
 ghost use Rattle.arj_base.specs.declared.mode.End.TheVariants as ending;
 ghost use Rattle.arj_protocol.specs.Ask.{actor};
 ghost use Rattle.arj_protocol.specs.Step.{is_below_16, is_misplaced};
-ghost use Rattle.arj_protocol.specs.Tree.{Branch, new_tree, listed_end, branch_of, is_own, is_open, is_doomed, is_committed, is_aborted, ended_so, next_uid, path_below, path_in, begun, ended_at, doomed_at, ends_of, open_below, has_open_child, is_serial, is_too_deep, has_many_actions, has_many_objects, behind, is_merged, is_spent, longest_path};
+ghost use Rattle.arj_protocol.specs.Tree.{Branch, new_tree, listed_end, branch_of, is_own, is_open, is_doomed, is_committed, is_aborted, ended_so, next_uid, path_below, path_in, begun, ended_at, doomed_at, ends_of, open_below, has_open_child, is_too_deep, has_many_actions, has_many_objects, behind, is_merged, is_spent};
+ghost use Rattle.arj_start.specs.Limits.{most_on_path};
 ghost use Rattle.arj_protocol.specs.Words.{uids_of, tops_of, path_of};
 ghost use Rattle.arj_protocol.specs.Words.kind as kinds;
 ghost use Rattle.arj_tree.specs.Faults.{begin_fault, use_fault, end_fault, begin_refusal, use_refusal, end_refusal};
 ghost use Rattle.arj_tree.specs.Open.{first_in};
 ghost use Rattle.arj_tree.specs.Stands.{AreNamed, IsPlace, with_branch, parent_in, path_of_branch, object_used};
 ghost use Rattle.arj_tree.specs.declared.fault.TreeFault.TheVariants as fault;
+ghost use Rattle.arj_start.specs.Kinds.{is_serial};
 
 use crate::TreeFault;
 use crate::action::Action;
@@ -459,7 +461,7 @@ fn behind(path: &[Uid], action: Uid) -> &[Uid]
 
 // The path of an action that begins in the last one of this path.
 fn path_in(kind: Kind, path: &Path, uid: Uid) -> Path
-    requires room { is_below_16 kind ≡ true → length (uids_of path.now) < longest_path }
+    requires room { is_below_16 kind ≡ true → length (uids_of path.now) < most_on_path }
     requires single { kind ≡ kinds.Constituent → length (uids_of path.now) ≡ 1 }
     ensures path { result ≡ path_in kind path.now uid }
     ensures last { actor result ≡ uid }
@@ -475,7 +477,7 @@ fn path_in(kind: Kind, path: &Path, uid: Uid) -> Path
 // The path with one more Uid.
 #[tactic(auto, using(arj_msg::proofs::PathLaws::path_again, crate::proofs::Named::last_pushed))]
 fn longer(path: &Path, uid: Uid, top: bool) -> Path
-    requires room { length (uids_of path.now) < longest_path }
+    requires room { length (uids_of path.now) < most_on_path }
     requires single { top ≡ true → length (uids_of path.now) ≡ 1 }
     ensures path { result ≡ path_of (uids_of path.now ++ uid ∷ []) (if top then 2 else tops_of path.now) }
     ensures last { actor result ≡ uid }

@@ -16,7 +16,7 @@ use Rattle.arj_protocol.specs.Words.{Event}
 use Rattle.arj_protocol.specs.Words.event
 use Rattle.arj_protocol.specs.Words.frame
 use Rattle.arj_protocol.specs.World as protocol
-use Rattle.arj_protocol.specs.World.{World, frames_with, giving, junk_fits, lacks_labels, most_frames, new_frame, numbered, overflows, reasons, says, sent_line}
+use Rattle.arj_protocol.specs.World.{World, frames_with, giving, junk_fits, lacks_labels, new_frame, numbered, overflows, reasons, says, sent_line}
 use Rattle.arj_world.specs.Goes.{Goes, GoesTo}
 use Rattle.arj_world.specs.Happens.{HappensTo, done}
 use Rattle.arj_world.specs.Arms.{arm_at, outcome_of}
@@ -26,6 +26,7 @@ use Rattle.arj_world.specs.Wire.{Put, frame_of, put_seen}
 use Rattle.arj_world.proofs.Going.{as_well, plainly}
 use Rattle.arj_world.proofs.Stepping.{nodes_set}
 use Rattle.arj_world.proofs.Tests.{keeps_of}
+use Rattle.arj_start.specs.Limits.{most_frames}
 
 set_same : {A : Type 0} (i : ℕ) (a : A) (items : List A) → slice_get items i ≡ Some a → slice_set items i a ≡ items
 set_same i a [] at = refl

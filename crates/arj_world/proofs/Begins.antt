@@ -16,7 +16,7 @@ use Rattle.arj_protocol.specs.Words.body
 use Rattle.arj_protocol.specs.Words.event
 use Rattle.arj_protocol.specs.Words.kind
 use Rattle.arj_protocol.specs.World as protocol
-use Rattle.arj_protocol.specs.World.{World, Arm, Giving, begins, bodies, count_works, cut, done_step, gives_label, halted_at, is_serial_kind, labels_unless, numbered, refused_at, step_node, step_with, steps}
+use Rattle.arj_protocol.specs.World.{World, Arm, Giving, begins, bodies, count_works, cut, done_step, gives_label, halted_at, labels_unless, numbered, refused_at, step_node, step_with, steps}
 use Rattle.arj_world.specs.Goes.{BeginsTo, Goes, GoesTo, StepsOne, StepsTo, Went}
 use Rattle.arj_world.specs.Happens.{done, ends_begun, is_began, says_began}
 use Rattle.arj_world.specs.Stands.{Hand, Keeps, Kept, Stands}
@@ -25,6 +25,7 @@ use Rattle.arj_world.proofs.Going.{as_well, first_step, plainly}
 use Rattle.arj_world.proofs.Stepping.{is_there}
 use Rattle.arj_world.proofs.Tests.{keeps_armed, keeps_of}
 use Rattle.arj_world.proofs.Hands.{goes_step, goes_then, no_node}
+use Rattle.arj_start.specs.Kinds.{is_serial}
 
 -- ---- what a node says
 
@@ -104,7 +105,7 @@ module _ {C D : Type 0} (core : Ghosts C) (file : D → FileMap) where
       by (inr q) = absurd (omega (arith, q.2, halting o says))
 
   abbrev pub with_label : Giving → Hand C D → Hand C D
-  with_label g h = record h { kept = record h.kept { labels = insert_entry label_cmp h.kept.labels g.label (record { node = g.node; serial = is_serial_kind g.kind }) } }
+  with_label g h = record h { kept = record h.kept { labels = insert_entry label_cmp h.kept.labels g.label (record { node = g.node; serial = is_serial g.kind }) } }
 
   label_stands : (g : Giving) (h : Hand C D) (w : World) → Stands core file h w → Stands core file (with_label g h) (gives_label g w)
   label_stands g h w st = record {
@@ -112,7 +113,7 @@ module _ {C D : Type 0} (core : Ghosts C) (file : D → FileMap) where
     start = st.start;
     frames = st.frames;
     lines = st.lines;
-    labels = λ i. insert_entry label_cmp (st.labels i) g.label (record { node = g.node; serial = is_serial_kind g.kind });
+    labels = λ i. insert_entry label_cmp (st.labels i) g.label (record { node = g.node; serial = is_serial g.kind });
     arms = st.arms;
     event = st.event;
     full = st.full;

@@ -19,13 +19,14 @@ use Rattle.arj_protocol.specs.Order.{at_number}
 use Rattle.arj_protocol.specs.Tree.{at_place}
 use Rattle.arj_protocol.specs.Step.{Node, Input, Step, first_reason, step}
 use Rattle.arj_protocol.specs.Step as input
-use Rattle.arj_protocol.specs.World.{Arm, Asked, Cut, Frame, Giving, World, armed, as_delivered, as_lost, begins, begins_any, bodies, change_frame, count_works, counted, cut, deliver, deliver_frame, disarmed, done_step, frame_number, giving, halted_at, happens, is_quiet, is_up_at, junk_fits, labels_unless, lacks_labels, limited, lose_frame, lowest, most_frames, new_frame, no_labels, node_numbers, node_of, numbered, quiesce, quiet_line, reasons, refused_at, run_event, run_unless, says, sent_line, settle, settle_for, show_all, show_up, step_node, step_with, steps, tick_all, tick_up}
+use Rattle.arj_protocol.specs.World.{Arm, Asked, Cut, Frame, Giving, World, armed, as_delivered, as_lost, begins, begins_any, bodies, change_frame, count_works, counted, cut, deliver, deliver_frame, disarmed, done_step, frame_number, giving, halted_at, happens, is_quiet, is_up_at, junk_fits, labels_unless, lacks_labels, limited, lose_frame, lowest, new_frame, no_labels, node_numbers, node_of, numbered, quiesce, quiet_line, reasons, refused_at, run_event, run_unless, says, sent_line, settle, settle_for, show_all, show_up, step_node, step_with, steps, tick_all, tick_up}
 use Rattle.arj_protocol.proofs.Growth.{event_grows}
 use Rattle.arj_world.specs.Happens.{HappensTo, RunsOver, RunsTo, done}
 use Rattle.arj_world.specs.Stands.{Hand, StandsSome}
 use Rattle.arj_world.specs.Turns.{Turn, asked, turned, with_arms}
 use Rattle.arj_world.proofs.Runs.{counted_hand, counted_stands}
 use Rattle.arj_world.proofs.Tells.{cut_all}
+use Rattle.arj_start.specs.Limits.{most_frames}
 
 -- A world that goes on so: its header and number stay, and the lines that came are of this number, and this test holds of what each says.
 pub record Adds (test : Body → Bool) (w v : World) : Type 0 where

@@ -17,7 +17,7 @@ use Rattle.arj_protocol.specs.Step as input
 use Rattle.arj_protocol.specs.Tree.{at_place, set_place}
 use Rattle.arj_protocol.specs.Words.body
 use Rattle.arj_protocol.specs.World as protocol
-use Rattle.arj_protocol.specs.World.{World, Frame, change_frame, deliver_frame, lose_frame, numbered, says, lowest_from, most_frames, settle_for, steps, step_node}
+use Rattle.arj_protocol.specs.World.{World, Frame, change_frame, deliver_frame, lose_frame, numbered, says, lowest_from, settle_for, steps, step_node}
 use Rattle.arj_world.specs.Goes.{Goes, GoesTo, GoesPartTo, StepsTo, is_no_restart}
 use Rattle.arj_world.specs.Stands.{AreSomeNodes, Hand, Stands, StandsSome}
 use Rattle.arj_world.specs.Turns.{with_arms}
@@ -25,6 +25,7 @@ use Rattle.arj_world.specs.Wire.{dropped_line, frame_of}
 use Rattle.arj_world.proofs.Tests.{Tells, keeps_of, up_at}
 use Rattle.arj_world.proofs.Frames.{frame_at, marked, none_there, nothing_marked, sent_there}
 use Rattle.arj_world.proofs.Going.{as_well, behind, one_step, onward, plainly, stays}
+use Rattle.arj_start.specs.Limits.{most_frames}
 
 -- ---- the numbers of nodes
 

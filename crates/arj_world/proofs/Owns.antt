@@ -10,7 +10,7 @@ use Rattle.arj_law_parts.proofs.steps.EndLines.{ends_write}
 use Rattle.arj_law_parts.proofs.steps.Settled.{events_settle}
 use Rattle.arj_law_parts.proofs.steps.Spoken.{event_writes}
 use Rattle.arj_law_parts.proofs.steps.Whole.{event_whole, starts_whole, whole_with}
-use Rattle.arj_model.specs.Start.{fresh}
+use Rattle.arj_start.specs.Start.{fresh}
 use Rattle.arj_law_parts.specs.steps.Named.{AnswersEnd, AreNamed, EndHalted, EndRefused, IsEndAnswered, OwnEnd, ends_label}
 use Rattle.arj_law_parts.specs.steps.Writes.{Answers, Own, IsRefused, HasHalted, IsFrames, IsLabels, IsAnswered, IsDone, IsOwn, IsRefusedWith, IsRun, IsWhole, Owes, asks, halts_for, may_lack_frames, node_refusal, refused_to}
 use Rattle.arj_journal.specs.declared.body.Line.{Line}
@@ -24,13 +24,14 @@ use Rattle.arj_protocol.specs.Tree.{at_place}
 use Rattle.arj_protocol.specs.Words.{Body, Event, Label}
 use Rattle.arj_protocol.specs.Words.event
 use Rattle.arj_protocol.specs.Words.frame_no
-use Rattle.arj_protocol.specs.World.{World, Arm, Giving, format, giving, lacks_labels, lowest_from, most_frames, reasons, refused_at, run_event}
+use Rattle.arj_protocol.specs.World.{World, Arm, Giving, format, giving, lacks_labels, lowest_from, reasons, refused_at, run_event}
 use Rattle.arj_world.specs.Happens.{RunsOver, RunsTo}
 use Rattle.arj_world.specs.Owns.{AnswersEvent, EndsEvent, HasNoOpen}
 use Rattle.arj_world.specs.Stands.{Hand, Keeps, StandsSome}
 use Rattle.arj_world.specs.Turns.{Turn, all_turned, asked, turned, with_arms}
 use Rattle.arj_world.specs.Wire.{AreFew, frame_of}
 use Rattle.arj_world.proofs.Tests.{keeps_of}
+use Rattle.arj_start.specs.Limits.{most_frames}
 
 -- ---- stops that are to fall change nothing of what an event owes
 

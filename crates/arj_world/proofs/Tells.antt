@@ -22,12 +22,13 @@ use Rattle.arj_protocol.specs.Node.{Parts}
 use Rattle.arj_protocol.specs.Step.{Node, Input, refusal, step, step_of, step_unless}
 use Rattle.arj_protocol.specs.Words.{Body, Event, FrameKind}
 use Rattle.arj_protocol.specs.Words.body
-use Rattle.arj_protocol.specs.World.{count_works, cut, most_frames, numbered, sent_line}
+use Rattle.arj_protocol.specs.World.{count_works, cut, numbered, sent_line}
 use Rattle.arj_world.specs.Stands.{Hand, StandsSome}
 use Rattle.arj_world.specs.Tells.{IsToldBy, TellsStops, crashed_at, crashed_by, halts, is_this, nobody}
 use Rattle.arj_world.specs.Wire.{dropped_line, seen_bodies}
 use Rattle.arj_world.proofs.Disks.{set_here, set_other, some_one, within}
 use Rattle.arj_world.proofs.Stepping.{is_there}
+use Rattle.arj_start.specs.Limits.{most_frames}
 
 -- ---- lines that say of a node that it halted
 

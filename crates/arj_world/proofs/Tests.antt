@@ -18,7 +18,7 @@ use Rattle.arj_net.specs.declared.net.Sent as net
 use Rattle.arj_net.specs.Net as nets
 use Rattle.arj_protocol.specs.Step.{Node, class_in, first_reason, is_idle}
 use Rattle.arj_protocol.specs.Tree.{at_place}
-use Rattle.arj_model.specs.Start.{Start}
+use Rattle.arj_start.specs.Start.{Start}
 use Rattle.arj_protocol.specs.Words.{Label, Message, label_cmp, read_message}
 use Rattle.arj_protocol.specs.World as protocol
 use Rattle.arj_protocol.specs.World.{World, reads_whole}

@@ -5,7 +5,7 @@ use Rattle.arj_law_parts.specs.steps.Named.{AreNamed, HasNames}
 use Rattle.arj_protocol.specs.Words.{Header}
 use Rattle.arj_protocol.specs.World.{World, format, run_event}
 use Rattle.arj_law_parts.specs.moves.Keeps.{Holds, Keeps}
-use Rattle.arj_model.specs.Start.{fresh}
+use Rattle.arj_start.specs.Start.{fresh}
 use Rattle.arj_promise.specs.Runs.{Seen}
 use Rattle.arj_promise.specs.Starts.{fresh_is_formed}
 use Rattle.arj_law_parts.proofs.moves.Happens.{arms_hold, event_holds, first_holds}

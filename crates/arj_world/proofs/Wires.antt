@@ -7,9 +7,10 @@ use Rattle.arj_core.specs.declared.output.Output.{Output}
 use Rattle.arj_protocol.specs.Ask.{frame_kind}
 use Rattle.arj_protocol.specs.Effect.{Effect, Say, Send, Do}
 use Rattle.arj_protocol.specs.Words.{Body, Line}
-use Rattle.arj_protocol.specs.World.{Frame, sends, bodies, sent_line, frames_with, overflows, numbered, most_frames, new_frame}
+use Rattle.arj_protocol.specs.World.{Frame, sends, bodies, sent_line, frames_with, overflows, numbered, new_frame}
 use Rattle.arj_world.specs.Wire.{AreFew, Put, frame_of, put_seen, seen_frames, seen_bodies, shown}
 use Rattle.arj_world.specs.declared.wire.Wire.{Wire}
+use Rattle.arj_start.specs.Limits.{most_frames}
 
 -- ---- effects as they are seen
 

@@ -4,7 +4,7 @@ use Rattle.arj_core.specs.declared.node.Core.{Ghosts}
 use Rattle.arj_disk.specs.FileMap.{FileMap}
 use Rattle.arj_journal.specs.declared.body.Line.{Line}
 use Rattle.arj_journal.specs.declared.header.Header.{Header}
-use Rattle.arj_model.specs.Start.{fresh}
+use Rattle.arj_start.specs.Start.{fresh}
 use Rattle.arj_net.specs.declared.net.Sent.{Sent}
 use Rattle.arj_protocol.specs.Step.{Node}
 use Rattle.arj_protocol.specs.Words.{Label}

@@ -4,8 +4,9 @@ use Rattle.arj_core.specs.Steps.{Seen, Said, Sent, message_of}
 use Rattle.arj_net.specs.declared.net.Sent as net
 use Rattle.arj_protocol.specs.Words.{Body, Line}
 use Rattle.arj_protocol.specs.Words.body
-use Rattle.arj_protocol.specs.World.{Frame, new_frame, sent_line, frames_with, numbered, overflows, most_frames}
+use Rattle.arj_protocol.specs.World.{Frame, new_frame, sent_line, frames_with, numbered, overflows}
 use Rattle.arj_world.specs.declared.wire.Wire.{Wire}
+use Rattle.arj_start.specs.Limits.{most_frames}
 
 -- a frame of the net, with the message that its bytes are
 abbrev pub frame_of : net.Sent → Frame

@@ -5,7 +5,7 @@ use Terms.{same, on, root, top, is_top, is_action, at, In, Entry, Invoke, Merged
 use Terms.{BindNew, Grant, Record, ConfirmTop, PassEntry, DropEntry, CrashServer, ActivateCopy, Apply, Refuse, Change, PassRow, PassTop}
 use Terms.{DropRows, VoteTop, Keep, Name, Load, SendInvoke, Answered, TurnedDown, Lost, GiveUp, CommitNested, Abort, CommitTop, SendVote}
 use Terms.{SendConfirm, Decide, Report, EndUnit, Included, held_value, Guard, Run, handed, next, stay, step}
-use Rattle.arj_law_lock.proofs.logs.OwnLogs.{Touched, handed_on, touched}
+use Rattle.arj_law_lock.proofs.logs.LoggedSteps.{Touched, handed_on, touched}
 use Rattle.arj_law_lock.proofs.machine
 use machine.{CallSteps.top_acts, Later.Later, Order.start_holds, Order.step_keeps, ValueLasts.clean_alive, ValueRun.start_values}
 use machine.{ValueRun.step_values, VoteRun.run_all_votes, VoteRun.start_votes}

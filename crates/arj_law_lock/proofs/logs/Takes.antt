@@ -7,7 +7,8 @@ use Terms.{Name, Load, SendInvoke, Answered, TurnedDown, Lost, GiveUp, CommitNes
 use Terms.{Report, EndUnit, Included, IsLast, given_by, Guard, Run, next, start, stay, step, MayCount}
 use Rattle.arj_law_lock.proofs.logs.{Bases.bases_stay, Bases.held_clean, Bases.merged_clean, Bases.under_run, Homes.IsHome, Homes.homes_of}
 use Rattle.arj_law_lock.proofs.logs.{Overs.made_there}
-use Rattle.arj_law_lock.proofs.logs.OwnLogs.{Behind, OwnLog, own_call, own_entry, own_run, own_start, run_behind}
+use Rattle.arj_law_lock.proofs.logs.LoggedSteps.{OwnLog, own_call, own_entry}
+use Rattle.arj_law_lock.proofs.logs.OwnLogs.{Behind, own_run, own_start, run_behind}
 use Rattle.arj_law_lock.proofs.machine
 use machine.{Given.given_stands, Order.go_on, Order.run_keeps, Order.start_holds, ValueClaims.Clean, ValueClaims.Values}
 use machine.{ValueLasts.clean_alive, ValueRun.start_values, VoteLasts.Votes, VoteRun.run_all_votes, VoteRun.start_votes}

@@ -3,7 +3,7 @@ use Rattle.std.specs.Option.{option_copied, option_map}
 use Rattle.arj_journal.specs.declared.body.Line.{Line as line_type}
 use Rattle.arj_text.specs.Label.{name}
 use Rattle.arj_model.specs.Actions.{acts, ended}
-use Rattle.arj_model.specs.Actions.{is_serial as is_serial_kind}
+use Rattle.arj_start.specs.Kinds.{is_serial as is_serial_kind}
 use Rattle.arj_model.specs.Actions.{path, upwards}
 use Rattle.arj_model.specs.Last.{object_line}
 use Rattle.arj_reading.specs.Readable.{answer_rule as rule_of_answer}
@@ -16,7 +16,7 @@ use Rattle.arj_reading.specs.Readable.{end_rule as rule_of_end}
 use Rattle.arj_reading.specs.Readable.{ended_rule as rule_of_ended}
 use Rattle.arj_reading.specs.Readable.{has_parent as may_have_parent}
 use Rattle.arj_reading.specs.Readable.{is_alone as has_no_parent}
-use Rattle.arj_reading.specs.Readable.{is_constituent as is_constituent_kind}
+use Rattle.arj_start.specs.Kinds.{is_constituent as is_constituent_kind}
 use Rattle.arj_reading.specs.Readable.{is_parent_of}
 use Rattle.arj_reading.specs.Readable.{is_top as is_top_kind}
 use Rattle.arj_reading.specs.Readable.{known, label_of, line_rule, met, named, named_rule}

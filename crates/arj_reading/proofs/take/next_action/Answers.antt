@@ -7,7 +7,8 @@ use Rattle.arj_base.specs.declared.uid.Uid.{Uid as uid_type}
 use Rattle.arj_journal.specs.declared.body.Line.{Line as line_type}
 use Rattle.arj_text.specs.declared.label.Label.{Label as label_type}
 use Rattle.arj_text.specs.Label.{name, label_cmp}
-use Rattle.arj_model.specs.Actions.{Act, acts, committed_of, ended_of, is_serial, path_in, recovered_of}
+use Rattle.arj_model.specs.Actions.{Act, acts, committed_of, ended_of, path_in, recovered_of}
+use Rattle.arj_start.specs.Kinds.{is_serial}
 use Rattle.arj_reading.specs.Readable.{called_of}
 use Rattle.arj_reading.specs.Reading.{HasRead, above_in, action_of, capped, found_with, known_with, labelled_with, listed_with, marked, next_of, noted, said_at}
 use Rattle.arj_reading.proofs.take.next_action.Goals as goal

@@ -2,9 +2,10 @@ use Rattle.std.proofs.Common.{ap, not, ◌&&◌, ◌||◌}
 use Rattle.std.specs.Prelude.{is_some}
 use Rattle.arj_protocol.specs.Ask.{actor}
 use Rattle.arj_protocol.specs.Step.{waits_above, waits_below, sibling_waits, is_below_16, is_misplaced, class_at, lacks_op}
-use Rattle.arj_protocol.specs.Tree.{has_open_child, has_many_actions, has_many_objects, is_serial, is_too_deep}
+use Rattle.arj_protocol.specs.Tree.{has_open_child, has_many_actions, has_many_objects, is_too_deep}
 use Rattle.arj_tree.proofs.Refusals.{begins, calls, includes, commits, aborts}
 use Rattle.arj_tree.proofs.laws.refusals_are_the_protocols.Goals as goal
+use Rattle.arj_start.specs.Kinds.{is_serial}
 
 pub returns-clause-begin : goal.returns-clause-begin
 returns-clause-begin c k b d free = begins (is_some b.ended) (waits_above b d) (is_misplaced k b) b.doomed (is_below_16 k && is_too_deep b) (is_below_16 k && has_many_actions b d.tree) free

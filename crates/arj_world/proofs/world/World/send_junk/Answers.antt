@@ -2,7 +2,7 @@ use Rattle.std.proofs.Common.{◌≡◌, ◌∙◌, ◌≤◌, ◌∷◌, [], le
 use Rattle.std.proofs.lemmas.Result.{on_ok_weaker}
 use Rattle.arj_core.specs.Steps.{Sent, message_of}
 use Rattle.arj_protocol.specs.Words.frame
-use Rattle.arj_protocol.specs.World.{junk, most_frames, numbered, sent_line}
+use Rattle.arj_protocol.specs.World.{junk, numbered, sent_line}
 use Rattle.arj_world.specs.Goes.{GoesTo}
 use Rattle.arj_world.specs.Stands.{hand}
 use Rattle.arj_world.specs.Wire.{frame_of, put_seen, shown, Put}
@@ -10,6 +10,7 @@ use Rattle.arj_world.proofs.Armed.{goes_junk}
 use Rattle.arj_world.specs.Tells.{nobody}
 use Rattle.arj_world.proofs.Tells.{frame_line, tells_line, tells_none}
 use Rattle.arj_world.proofs.world.World.send_junk.Goals as goal
+use Rattle.arj_start.specs.Limits.{most_frames}
 
 pub returns-clause-goes : goal.returns-clause-goes
 returns-clause-goes g c =
