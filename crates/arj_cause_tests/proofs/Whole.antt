@@ -5,6 +5,7 @@ use Rattle.arj_journal.specs.declared.body.Line.{Line}
 use Rattle.arj_journal.specs.declared.event.Event.{Event}
 use Rattle.arj_journal.specs.declared.header.Header.{Header}
 use Rattle.arj_model.specs.Past.{Along, Past, next, nothing_yet}
+use Rattle.arj_start.specs.Start.{fresh}
 use Rattle.arj_model.specs.CauseSpans.{Here, behind, here_at}
 use Rattle.arj_model.specs.Caused.{CausesStep, JHasCauses, are_caused, has_cause}
 use Rattle.arj_cause_tests.proofs.Words.{Run, Wrote, end_from, lacking, lacking_from, lacking_in}
@@ -36,9 +37,9 @@ along header past (w ∷ rest) none =
     let parts = both_none (lacking_in (here_at header past w.0 w.1) w.1) (lacking_from header (next past w.0 w.1) rest) none in
     (w.1, lacks_none (here_at header past w.0 w.1) w.1 parts.0, along header (next past w.0 w.1) rest parts.1)
 
-has_causes : (r : Run) → lacking r ≡ [] → JHasCauses r.header (events_of r.wrote) (lines_of r)
+has_causes : (r : Run) → lacking r ≡ [] → JHasCauses r.header fresh (events_of r.wrote) (lines_of r)
 has_causes r none = (end_from nothing_yet r.wrote, [], along r.header nothing_yet r.wrote none, refl, tt)
 
 -- one of the worked runs
-naming_stopped_whole : JHasCauses naming_stopped.header (events_of naming_stopped.wrote) (lines_of naming_stopped)
+naming_stopped_whole : JHasCauses naming_stopped.header fresh (events_of naming_stopped.wrote) (lines_of naming_stopped)
 naming_stopped_whole = has_causes naming_stopped naming_stopped_has_causes

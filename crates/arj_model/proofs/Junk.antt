@@ -13,6 +13,7 @@ use Rattle.arj_journal.specs.declared.event.Event.{Event}
 use Rattle.arj_journal.specs.declared.event.Event.TheVariants as event
 use Rattle.arj_journal.specs.declared.event.FrameNo.TheVariants.{Number}
 use Rattle.arj_model.specs.Past.{nothing_yet}
+use Rattle.arj_start.specs.Start.{fresh}
 use Rattle.arj_model.specs.Refusals.{is_message, refusal}
 use Rattle.arj_model.specs.Own.{Begins, Ends, IsFrameLimit, may_stand}
 use Rattle.arj_model.specs.Follows.{Follows, Step, Accepted, IsRefusedDoomed}
@@ -43,7 +44,7 @@ junk_events =
 abbrev junk_bodies : List (List Body)
 junk_bodies = (body.Refused 18 ∷ []) ∷ (sent 1 0 1 frame.Junk ∷ []) ∷ (body.Void 1 ∷ []) ∷ (sent 2 0 1 frame.Junk ∷ []) ∷ (body.Refused 1 ∷ []) ∷ []
 
-junk_follows : Follows (one_node 0) junk_events (lines_of junk_bodies)
+junk_follows : Follows (one_node 0) fresh junk_events (lines_of junk_bodies)
 unfolding message hello node number4 byte
 junk_follows = runs (Step (one_node 0)) junk_events junk_bodies [] (
     went refl refl

@@ -20,6 +20,7 @@ use Rattle.arj_journal.specs.declared.event.Event.TheVariants as event
 use Rattle.arj_journal.specs.declared.event.FrameNo.TheVariants.{Number}
 use Rattle.arj_journal.specs.declared.event.StopKind.TheVariants as stop
 use Rattle.arj_model.specs.Follows.{Follows, Step}
+use Rattle.arj_start.specs.Start.{fresh}
 use Rattle.arj_model.specs.Table.{table}
 use Rattle.arj_model.proofs.Journals.{A, B, C, D, N, S, uid, began, ok, told, prepared, on_entry, on_object, first_use, commit_end, lines_of, one_node, three_nodes, nested_abort_bodies, serializing_bodies, smallest_bodies, conflict_bodies, older_image_bodies, to_exclusion, stop_at_decision_done_bodies, naming_stopped_bodies, rebinding_bodies, M, two_servers, uid_at, four_nodes}
 use Rattle.arj_text.specs.Label.{name}
@@ -102,7 +103,7 @@ nested_abort_events = event.Begin A 1 ∷ event.Call A 1 (Add 4) ∷ event.Begin
 abbrev done : List ℕ
 done = codes "done"
 
-nested_abort_follows : Follows (one_node 0) nested_abort_events (lines_of nested_abort_bodies)
+nested_abort_follows : Follows (one_node 0) fresh nested_abort_events (lines_of nested_abort_bodies)
 nested_abort_follows = runs (Step (one_node 0)) nested_abort_events nested_abort_bodies [] (
     went refl (accepted (began A kind.Top 1 None ∷ []) [] [] refl refl refl refl tt)
     & went refl (accepted [] (first_use 1 ++ on_object 1 Write ∷ ok A (Add 4) done ∷ []) [] refl (inl refl) refl refl (tt & tt & tt & tt & tt & ((refl, refl), at 0 refl refl) & tt))
@@ -119,7 +120,7 @@ older_image_events =
     event.Begin A 1 ∷ event.BeginIn C A ∷ event.Call C 1 (Add 1) ∷ event.Commit C ∷ event.BeginIn D A ∷ event.Call D 1 (Add 1) ∷ event.Commit D ∷ event.Abort A ∷ event.Begin B 1
     ∷ event.Call B 1 Get ∷ []
 
-older_image_follows : Follows (one_node 7) older_image_events (lines_of older_image_bodies)
+older_image_follows : Follows (one_node 7) fresh older_image_events (lines_of older_image_bodies)
 older_image_follows = runs (Step (one_node 7)) older_image_events older_image_bodies [] (
     went refl (accepted (began A kind.Top 1 None ∷ []) [] [] refl refl refl refl tt)
     & went refl (accepted (began C kind.Nested 2 (Some A) ∷ []) [] [] (1, refl, refl) refl refl refl tt)
@@ -139,7 +140,7 @@ serializing_events =
     event.Serial S 1 ∷ event.BeginIn C S ∷ event.Call C 1 (Add 1) ∷ event.Commit C ∷ event.Begin B 1 ∷ event.Call B 1 Get ∷ event.BeginIn D S ∷ event.Call D 1 (Add 1) ∷ event.Commit D
     ∷ event.Abort S ∷ event.Call B 1 Get ∷ []
 
-serializing_follows : Follows (one_node 0) serializing_events (lines_of serializing_bodies)
+serializing_follows : Follows (one_node 0) fresh serializing_events (lines_of serializing_bodies)
 serializing_follows = runs (Step (one_node 0)) serializing_events serializing_bodies [] (
     went refl (accepted (began S kind.Serial 1 None ∷ []) [] [] refl refl refl refl tt)
     & went refl (accepted (began C kind.Constituent 2 (Some S) ∷ []) [] [] (1, refl, refl) refl refl refl tt)
@@ -165,16 +166,16 @@ abbrev lines_at : List (List Body) → ℕ → List Body
 lines_at [] n = []
 lines_at (bodies ∷ rest) n = if n == 1 then bodies else lines_at rest (n - 1)
 
-exclusion_follows : Follows three_nodes exclusion_events (lines_of to_exclusion)
+exclusion_follows : Follows three_nodes fresh exclusion_events (lines_of to_exclusion)
 exclusion_follows = runs (Step three_nodes) exclusion_events to_exclusion [] (
     went refl (accepted (began A kind.Top 1 None ∷ []) [] [] refl refl refl refl tt)
-    & went refl (accepted [] (lines_at to_exclusion 2) [] refl (inl refl) refl refl (tt & tt & tt & tt))
-    & went refl (accepted [] (lines_at to_exclusion 3) [] refl (inl refl) refl refl (refl & tt & refl & tt & tt & tt & ((refl, refl), at 0 refl refl) & tt))
-    & went refl (accepted (body.Committing A ∷ []) (drop 1 (lines_at to_exclusion 4)) [] (inl refl) (inl refl) refl refl (tt & tt & tt))
+    & went refl (accepted [] (lines_at to_exclusion 2) [] refl (inl refl) refl refl (tt & tt & refl & tt))
+    & went refl (accepted [] (lines_at to_exclusion 3) [] refl (inl refl) refl refl (refl & refl & refl & tt & tt & tt & ((refl, refl), at 0 refl refl) & tt))
+    & went refl (accepted (body.Committing A ∷ []) (drop 1 (lines_at to_exclusion 4)) [] (inl refl) (inl refl) refl refl (refl & refl & tt))
     & went refl (accepted (body.Dropped 4 ∷ []) [] [] refl refl refl refl tt)
-    & went refl (accepted [] (lines_at to_exclusion 6) [] refl (inl refl) refl refl (refl & tt & tt & refl & tt))
-    & went refl (accepted (body.GaveUp A 3 ∷ []) (drop 1 (lines_at to_exclusion 7)) [] refl (inl refl) refl refl (tt & tt & tt & refl & tt & tt & tt & tt & tt & tt))
-    & went refl (accepted [] (lines_at to_exclusion 8) [] refl (inl refl) refl refl (refl & tt & tt & refl & refl & tt))
+    & went refl (accepted [] (lines_at to_exclusion 6) [] refl (inl refl) refl refl (refl & tt & refl & refl & tt))
+    & went refl (accepted (body.GaveUp A 3 ∷ []) (drop 1 (lines_at to_exclusion 7)) [] refl (inl refl) refl refl (tt & tt & tt & refl & refl & refl & tt & tt & tt & tt))
+    & went refl (accepted [] (lines_at to_exclusion 8) [] refl (inl refl) refl refl (refl & tt & refl & refl & refl & tt))
     & went refl (accepted [] (lines_at to_exclusion 9) [] refl refl refl refl (tt & tt & tt & tt))
     & tt) tt
 
@@ -186,16 +187,16 @@ stop_at_decision_done_events =
 abbrev stopped : List (List Body)
 stopped = stop_at_decision_done_bodies
 
-stop_at_decision_done_follows : Follows three_nodes stop_at_decision_done_events (lines_of stopped)
+stop_at_decision_done_follows : Follows three_nodes fresh stop_at_decision_done_events (lines_of stopped)
 stop_at_decision_done_follows = runs (Step three_nodes) stop_at_decision_done_events stopped [] (
     went refl (accepted (began A kind.Top 1 None ∷ []) [] [] refl refl refl refl tt)
-    & went refl (accepted [] (lines_at stopped 2) [] refl (inl refl) refl refl (tt & tt & tt & tt))
-    & went refl (accepted [] (lines_at stopped 3) [] refl (inl refl) refl refl (refl & tt & refl & tt & tt & tt & ((refl, refl), at 0 refl refl) & tt))
-    & went refl (accepted (body.Committing A ∷ []) (drop 1 (lines_at stopped 4)) [] (inl refl) (inl refl) refl refl (tt & tt & tt))
+    & went refl (accepted [] (lines_at stopped 2) [] refl (inl refl) refl refl (tt & tt & refl & tt))
+    & went refl (accepted [] (lines_at stopped 3) [] refl (inl refl) refl refl (refl & refl & refl & tt & tt & tt & ((refl, refl), at 0 refl refl) & tt))
+    & went refl (accepted (body.Committing A ∷ []) (drop 1 (lines_at stopped 4)) [] (inl refl) (inl refl) refl refl (refl & refl & tt))
     & went refl (accepted (body.Armed 1 ∷ []) [] [] refl refl refl refl tt)
-    & went refl (accepted [] (lines_at stopped 6) [] refl (inl refl) refl refl (refl & tt & tt & refl & tt & tt & refl & refl & refl & tt))
-    & went refl (accepted (body.Up 1 2 ∷ []) (drop 1 (lines_at stopped 7)) [] (inl (2, omega arith, refl)) (inl refl) refl refl (tt & tt & tt & tt & tt & tt))
-    & went refl (accepted [] (take 10 (lines_at stopped 8)) (body.Quiet true ∷ []) refl (inl (true, refl)) refl refl (refl & tt & tt & refl & tt & tt & refl & refl & refl & refl & tt))
+    & went refl (accepted [] (lines_at stopped 6) [] refl (inl refl) refl refl (refl & tt & refl & refl & tt & refl & refl & refl & refl & tt))
+    & went refl (accepted (body.Up 1 2 ∷ []) (drop 1 (lines_at stopped 7)) [] (inl (2, omega arith, refl)) (inl refl) refl refl (tt & refl & refl & refl & refl & tt))
+    & went refl (accepted [] (take 10 (lines_at stopped 8)) (body.Quiet true ∷ []) refl (inl (true, refl)) refl refl (refl & tt & refl & refl & tt & refl & refl & refl & refl & refl & tt))
     & went refl (accepted [] (lines_at stopped 9) [] refl refl refl refl (tt & tt & tt & tt))
     & tt) tt
 
@@ -208,25 +209,25 @@ naming_stopped_events =
 abbrev named_at : ℕ → List Body
 named_at n = lines_at naming_stopped_bodies n
 
-naming_stopped_follows : Follows four_nodes naming_stopped_events (lines_of naming_stopped_bodies)
+naming_stopped_follows : Follows four_nodes fresh naming_stopped_events (lines_of naming_stopped_bodies)
 naming_stopped_follows = runs (Step four_nodes) naming_stopped_events naming_stopped_bodies [] (
     went refl (accepted (named_at 1) [] [] refl refl refl refl tt)
-    & went refl (accepted [] (named_at 2) [] refl (inl refl) refl refl (tt & tt))
-    & went refl (accepted [] (named_at 3) [] refl (inl refl) refl refl (refl & tt & tt & tt & refl & tt & refl & tt & refl & tt & tt & refl & tt & tt & refl & tt & ((refl, refl), at 0 refl refl) & tt))
-    & went refl (accepted (body.Committing A ∷ []) (drop 1 (named_at 4)) [] (inl refl) (inl refl) refl refl (tt & tt & tt))
+    & went refl (accepted [] (named_at 2) [] refl (inl refl) refl refl (refl & tt))
+    & went refl (accepted [] (named_at 3) [] refl (inl refl) refl refl (refl & tt & tt & refl & refl & refl & refl & refl & refl & tt & refl & refl & tt & refl & refl & tt & ((refl, refl), at 0 refl refl) & tt))
+    & went refl (accepted (body.Committing A ∷ []) (drop 1 (named_at 4)) [] (inl refl) (inl refl) refl refl (refl & refl & tt))
     & went refl (accepted (named_at 5) [] [] refl refl refl refl tt)
-    & went refl (accepted [] (named_at 6) [] refl (inl refl) refl refl (refl & tt & tt & refl & tt))
-    & went refl (accepted (body.GaveUp A 4 ∷ []) (drop 1 (named_at 7)) [] refl (inl refl) refl refl (tt & tt & tt))
-    & went refl (accepted (body.Got 10 ∷ []) (drop 1 (named_at 8)) [] (inl refl) (inl refl) refl refl (tt & tt & tt & tt))
+    & went refl (accepted [] (named_at 6) [] refl (inl refl) refl refl (refl & tt & refl & refl & tt))
+    & went refl (accepted (body.GaveUp A 4 ∷ []) (drop 1 (named_at 7)) [] refl (inl refl) refl refl (tt & refl & tt))
+    & went refl (accepted (body.Got 10 ∷ []) (drop 1 (named_at 8)) [] (inl refl) (inl refl) refl refl (tt & tt & refl & tt))
     & went refl (accepted (named_at 9) [] [] refl refl refl refl tt)
-    & went refl (accepted (body.Got 11 ∷ []) (drop 1 (named_at 10)) [] (inl refl) (inl refl) refl refl (refl & tt & tt & tt & tt & tt))
-    & went refl (accepted [] (named_at 11) [] refl (inl refl) refl refl (refl & refl & tt & tt & refl & refl & tt))
-    & went refl (accepted (body.Up 1 2 ∷ []) (drop 1 (named_at 12)) [] (inl (2, omega arith, refl)) (inl refl) refl refl (tt & tt & tt & tt & tt & tt))
+    & went refl (accepted (body.Got 11 ∷ []) (drop 1 (named_at 10)) [] (inl refl) (inl refl) refl refl (refl & refl & refl & refl & tt & tt))
+    & went refl (accepted [] (named_at 11) [] refl (inl refl) refl refl (refl & refl & tt & refl & refl & refl & tt))
+    & went refl (accepted (body.Up 1 2 ∷ []) (drop 1 (named_at 12)) [] (inl (2, omega arith, refl)) (inl refl) refl refl (tt & refl & refl & refl & refl & tt))
     & went refl (accepted (named_at 13) [] [] refl refl refl refl tt)
-    & went refl (accepted [] (named_at 14) [] refl (inl refl) refl refl (tt & tt))
-    & went refl (accepted (body.Got 20 ∷ []) (drop 1 (named_at 15)) [] (inl refl) (inl refl) refl refl (tt & tt))
+    & went refl (accepted [] (named_at 14) [] refl (inl refl) refl refl (refl & tt))
+    & went refl (accepted (body.Got 20 ∷ []) (drop 1 (named_at 15)) [] (inl refl) (inl refl) refl refl (refl & tt))
     & went refl (accepted (body.Got 21 ∷ []) (drop 1 (named_at 16)) [] (inl refl) (inl refl) refl refl (refl & tt))
-    & went refl (accepted [] (take 10 (named_at 17)) (body.Quiet true ∷ []) refl (inl (true, refl)) refl refl (refl & tt & refl & refl & refl & refl & tt & tt & tt & refl & tt))
+    & went refl (accepted [] (take 10 (named_at 17)) (body.Quiet true ∷ []) refl (inl (true, refl)) refl refl (refl & refl & refl & refl & refl & refl & tt & tt & refl & refl & tt))
     & went refl (accepted [] (named_at 18) [] refl refl refl refl (tt & tt & tt & tt))
     & tt) tt
 
@@ -237,23 +238,23 @@ rebinding_events = event.Begin A 1 ∷ event.BeginIn N A ∷ event.Call N 1 (Add
 abbrev rebound : ℕ → List Body
 rebound n = lines_at rebinding_bodies n
 
-rebinding_follows : Follows two_servers rebinding_events (lines_of rebinding_bodies)
+rebinding_follows : Follows two_servers fresh rebinding_events (lines_of rebinding_bodies)
 rebinding_follows = runs (Step two_servers) rebinding_events rebinding_bodies [] (
     went refl (accepted (take 1 (rebound 1)) (drop 1 (rebound 1)) [] refl refl refl refl (tt))
     & went refl (accepted (take 1 (rebound 2)) (drop 1 (rebound 2)) [] (1, refl, refl) refl refl refl (tt))
-    & went refl (accepted [] (rebound 3) [] refl (inl refl) refl refl (tt & tt & tt & tt))
+    & went refl (accepted [] (rebound 3) [] refl (inl refl) refl refl (tt & tt & refl & tt))
     & went refl refl
-    & went refl (accepted (take 1 (rebound 5)) (drop 1 (rebound 5)) [] (inl refl) (inl refl) refl refl (tt & tt & tt))
-    & went refl (accepted (take 1 (rebound 6)) (drop 1 (rebound 6)) [] (inl refl) (inl refl) refl refl (tt & tt & tt))
+    & went refl (accepted (take 1 (rebound 5)) (drop 1 (rebound 5)) [] (inl refl) (inl refl) refl refl (tt & refl & tt))
+    & went refl (accepted (take 1 (rebound 6)) (drop 1 (rebound 6)) [] (inl refl) (inl refl) refl refl (tt & refl & tt))
     & went refl (accepted (take 1 (rebound 7)) (drop 1 (rebound 7)) [] refl refl refl refl (tt))
     & went refl (accepted (take 1 (rebound 8)) (drop 1 (rebound 8)) [] refl (inl refl) refl refl (refl & tt))
     & went_doomed refl (record { label = name N; about = refl; lost = refl; lowest = refl; line = refl })
-    & went refl (accepted (take 1 (rebound 10)) (drop 1 (rebound 10)) [] (inr (refl, refl, refl)) (inl refl) refl refl (tt & tt))
+    & went refl (accepted (take 1 (rebound 10)) (drop 1 (rebound 10)) [] (inr (refl, refl, refl)) (inl refl) refl refl (refl & tt))
     & went refl (accepted (take 1 (rebound 11)) (drop 1 (rebound 11)) [] (1, refl, refl) refl refl refl (tt))
     & went refl refl
-    & went refl (accepted [] (rebound 13) [] refl (inl refl) refl refl (tt & tt & tt & tt))
-    & went refl (accepted [] (rebound 14) [] refl (inl refl) refl refl (refl & refl & tt & tt & refl & tt & tt & refl & tt & tt & refl & ((refl, refl), at 0 refl refl) & tt))
-    & went refl (accepted (take 1 (rebound 15)) (drop 1 (rebound 15)) [] (inl refl) (inl refl) refl refl (tt & tt))
-    & went refl (accepted (take 1 (rebound 16)) (drop 1 (rebound 16)) [] (inl refl) (inl refl) refl refl (tt & tt))
-    & went refl (accepted [] (rebound 17) [] refl (inl refl) refl refl (refl & tt & refl & tt & refl & tt & refl & tt & tt & tt & tt & refl & refl & tt & tt & refl & tt))
+    & went refl (accepted [] (rebound 13) [] refl (inl refl) refl refl (tt & tt & refl & tt))
+    & went refl (accepted [] (rebound 14) [] refl (inl refl) refl refl (refl & refl & tt & refl & refl & tt & refl & refl & tt & refl & refl & ((refl, refl), at 0 refl refl) & tt))
+    & went refl (accepted (take 1 (rebound 15)) (drop 1 (rebound 15)) [] (inl refl) (inl refl) refl refl (refl & tt))
+    & went refl (accepted (take 1 (rebound 16)) (drop 1 (rebound 16)) [] (inl refl) (inl refl) refl refl (refl & tt))
+    & went refl (accepted [] (rebound 17) [] refl (inl refl) refl refl (refl & tt & refl & refl & refl & tt & refl & refl & refl & tt & tt & refl & refl & tt & refl & refl & tt))
     & tt) tt

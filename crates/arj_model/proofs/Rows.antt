@@ -26,6 +26,7 @@ use Rattle.arj_model.specs.Calls.{tops, committed_calls}
 use Rattle.arj_model.specs.Serial.{Serial, serial_calls}
 use Rattle.arj_model.specs.Last.{first_values, last_state, listed, entry_state}
 use Rattle.arj_model.specs.Past.{Past, nothing_yet, asked_of, next, block, Along}
+use Rattle.arj_start.specs.Start.{fresh}
 use Rattle.arj_model.specs.Refusals.{refusal}
 use Rattle.arj_model.specs.Follows.{IsAnswerOf, IsRefusedDoomed, is_limited, AnswersFit, Step, Accepted, AreEnding, Follows, Runs}
 use Rattle.arj_model.specs.Own.{Begins, Ends, may_stand, halts_fit}
@@ -179,13 +180,13 @@ along P past (e ∷ es) (bodies ∷ rest) steps = (bodies, steps.0, along P (nex
 
 pub runs :
     (P : Past → Event → List Body → Type 0) (es : List Event) (blocks : List (List Body)) (ending : List Line)
-    → Steps P nothing_yet es blocks → AreEnding (length es) ending → Runs P es ((past_from nothing_yet es blocks).lines ++ ending)
+    → Steps P nothing_yet es blocks → AreEnding (length es) ending → Runs P fresh es ((past_from nothing_yet es blocks).lines ++ ending)
 runs P es blocks ending steps last = (past_from nothing_yet es blocks, ending, along P nothing_yet es blocks steps, refl, last)
 
 pub accepted :
     {header : Header} {past : Past} {e : Event} (own others last : List Body)
     → Begins header past e own → Ends e own last → list_all (may_stand e) others ≡ true → halts_fit past.lines e others ≡ true
-    → AnswersFit (past.accepted ++ asked_of past e ∷ []) (past.lines ++ block (past.count + 1) own) (past.count + 1) others
+    → AnswersFit past.start (past.accepted ++ asked_of past e ∷ []) (past.lines ++ block (past.count + 1) own) (past.count + 1) others
     → Accepted header past e (own ++ (others ++ last))
 accepted own others last begins ends only halts answers =
     record { own = own; others = others; last = last; parts = refl; begins = begins; ends = ends; only = only; halts = halts; answers = answers }
@@ -208,7 +209,7 @@ smallest_events = event.Begin A 1 ∷ event.Call A 1 (Add 5) ∷ event.Commit A 
 abbrev first_smallest : List (List Body)
 first_smallest = map (filter is_built) smallest_bodies
 
-smallest_follows : Follows (one_node 0) smallest_events (lines_of first_smallest)
+smallest_follows : Follows (one_node 0) fresh smallest_events (lines_of first_smallest)
 smallest_follows = runs (Step (one_node 0)) smallest_events first_smallest [] (
     went refl (accepted (began A kind.Top 1 None ∷ []) [] [] refl refl refl refl tt)
     & went refl (accepted [] (ok A (Add 5) done ∷ []) [] refl (inl refl) refl refl (((refl, refl), at 0 refl refl), tt))
@@ -228,7 +229,7 @@ raise =
     (began A kind.Top 1 None ∷ []) ∷ (began B kind.Top 2 None ∷ []) ∷ (ok A Get (codes "0") ∷ []) ∷ (ok B Get (codes "0") ∷ []) ∷ (body.Conflict A (uid 2) Read 1 ∷ [])
     ∷ (began C kind.Top 3 None ∷ []) ∷ (body.Aborted B cause.Asked ∷ []) ∷ (ok A (Set 1) done ∷ []) ∷ (body.Conflict C (uid 1) Write 1 ∷ []) ∷ []
 
-raise_follows : Follows (one_node 0) raise_events (lines_of raise)
+raise_follows : Follows (one_node 0) fresh raise_events (lines_of raise)
 raise_follows = runs (Step (one_node 0)) raise_events raise [] (
     went refl (accepted (began A kind.Top 1 None ∷ []) [] [] refl refl refl refl tt)
     & went refl (accepted (began B kind.Top 2 None ∷ []) [] [] refl refl refl refl tt)
@@ -253,7 +254,7 @@ refused =
     ∷ (body.Refused 6 ∷ []) ∷ (body.Refused 6 ∷ []) ∷ (began B kind.Top 2 None ∷ []) ∷ (ok B (Set 7) done ∷ []) ∷ (body.Committing B ∷ body.Halted 1 ∷ [])
     ∷ (body.Refused 2 ∷ []) ∷ (body.Refused 6 ∷ []) ∷ (body.Refused 5 ∷ []) ∷ []
 
-refused_follows : Follows (one_node 0) refused_events (lines_of refused ++ block 14 (body.Bad 20 ∷ []))
+refused_follows : Follows (one_node 0) fresh refused_events (lines_of refused ++ block 14 (body.Bad 20 ∷ []))
 refused_follows = runs (Step (one_node 0)) refused_events refused (block 14 (body.Bad 20 ∷ [])) (
     went refl refl & went refl (accepted (began A kind.Top 1 None ∷ []) [] [] refl refl refl refl tt) & went refl refl & went refl refl & went refl refl
     & went refl (accepted (body.Aborted A cause.Asked ∷ []) [] [] (refl, tt) (inl refl) refl refl tt) & went refl refl & went refl refl

@@ -1,6 +1,6 @@
 -- Small wrong journals that the definitions refuse, each beside a right one.
 use Rattle.std.specs.List.{list_all}
-use Rattle.std.specs.Prelude.{◌≡◌, ◌⊎◌, refl, ℕ, ◌+◌, List, [], ◌∷◌, ◌++◌, map, take, replicate, get_or, codes, Bool, true, false, cond, nat_lt, Some, None}
+use Rattle.std.specs.Prelude.{◌≡◌, ◌⊎◌, refl, ℕ, ◌+◌, List, [], ◌∷◌, ◌++◌, map, take, replicate, get_or, codes, Bool, true, false, cond, not, ◌==◌, nat_lt, Some, None}
 use Rattle.std.proofs.Common.{arith, inl, inr, ap, ◌∙◌}
 use Rattle.arj_base.specs.declared.state.Class.TheVariants as class
 use Rattle.arj_base.specs.Uid.{object}
@@ -14,6 +14,7 @@ use Rattle.arj_journal.specs.declared.body.Body.{Body}
 use Rattle.arj_journal.specs.declared.body.Body.TheVariants as body
 use Rattle.arj_journal.specs.declared.body.Cause.TheVariants as cause
 use Rattle.arj_journal.specs.declared.body.FrameKind.TheVariants as frame
+use Rattle.arj_journal.specs.declared.body.Line.{Line}
 use Rattle.arj_journal.specs.declared.body.Kind.TheVariants as kind
 use Rattle.arj_journal.specs.declared.body.Which.TheVariants as which
 use Rattle.arj_journal.specs.declared.event.Event.TheVariants as event
@@ -21,12 +22,13 @@ use Rattle.arj_journal.specs.declared.event.FrameNo.TheVariants.{Number}
 use Rattle.arj_text.specs.Label.{name}
 use Rattle.arj_text.specs.Words.{answer_text}
 use Rattle.arj_model.specs.Actions.{acts, act_in}
-use Rattle.arj_model.specs.Past.{Past, nothing_yet, block}
-use Rattle.arj_model.specs.Refusals.{refusal}
+use Rattle.arj_model.specs.Past.{Past, at_start, block, nothing_yet}
+use Rattle.arj_start.specs.Start.{fresh}
+use Rattle.arj_model.specs.Refusals.{next_uid, refusal}
 use Rattle.arj_model.specs.Own.{Begins, aborted_of, may_stand, halts_fit}
 use Rattle.arj_model.specs.Follows.{Step, Accepted, AnswerFits, AreEnding, IsAnswerOf, IsRefusedDoomed}
 use Rattle.arj_model.specs.Clean.{undecided, next_state}
-use Rattle.arj_model.proofs.Journals.{A, B, C, D, N, S, T, uid, began, counter, lines_of, one_node, three_nodes, nested_abort_bodies, stop_at_decision_done_bodies, to_prepares}
+use Rattle.arj_model.proofs.Journals.{A, B, C, D, N, S, T, uid, began, counter, lines_of, one_node, three_nodes, nested_abort_bodies, sent, stop_at_decision_done_bodies, to_prepares}
 use Rattle.arj_model.proofs.Rows.{past_from}
 use Rattle.arj_model.proofs.NodeRows.{exclusion_events}
 
@@ -68,7 +70,7 @@ delivery_halts :
 delivery_halts = refl
 
 -- A node that is down doesn't halt again.
-no_second_halt : AnswerFits [] (begun.lines ++ block 2 (body.Halted 1 ∷ [])) (body.Halted 1) → ⊥
+no_second_halt : AnswerFits fresh [] (begun.lines ++ block 2 (body.Halted 1 ∷ [])) (body.Halted 1) → ⊥
 no_second_halt h = cc
 
 -- Lines in an event of another kind.
@@ -121,7 +123,7 @@ next_without_aborted = refl
 
 -- The limit of labels is tested behind the causes 1 to 5 and before all others: A's node has halted.
 abbrev full : Past
-full = record { count = 4096; accepted = []; lines = block 1 (replicate 4095 (began B kind.Top 2 None) ++ began A kind.Top 1 None ∷ body.Halted 1 ∷ []) }
+full = record { start = fresh; count = 4096; accepted = []; lines = block 1 (replicate 4095 (began B kind.Top 2 None) ++ began A kind.Top 1 None ∷ body.Halted 1 ∷ []) }
 
 late_causes :
     map (refusal (one_node 0) full) (event.Begin C 1 ∷ event.Serial C 2 ∷ event.BeginIn C A ∷ event.Top C A ∷ event.BeginIn A A ∷ event.BeginIn C D ∷ [])
@@ -195,3 +197,32 @@ no_early_end h = let e : 0 ≡ 3 = h.0 in omega (arith, e)
 -- Behind the limit of frames no event is run.
 no_event_behind : (bodies : List Body) → Step (one_node 0) (record begun { lines = begun.lines ++ block 2 (body.Limit which.Frames ∷ []) }) (event.Begin B 1) bodies → ⊥
 no_event_behind bodies s = let h : true ≡ false = s.goes_on in cc
+
+-- A run that goes on where another ended: node 2 is down, nodes had three incarnations before, and A was a label of that run.
+abbrev later : Past
+later = at_start (record fresh { up = λ n. not (n == 2); incs = λ n. 3; given = A ∷ [] })
+
+later_refusals :
+    map (refusal three_nodes later) (
+    event.Begin A 1 ∷ event.Begin B 1 ∷ event.Begin B 2 ∷ event.Call A 1 Get ∷ event.Commit B ∷ event.BeginIn B A ∷ event.Restart 1 ∷ event.Restart 2 ∷ event.Crash 2 ∷ [])
+    ≡ Some 4 ∷ None ∷ Some 2 ∷ Some 6 ∷ Some 5 ∷ Some 6 ∷ Some 3 ∷ None ∷ Some 2 ∷ []
+later_refusals = refl
+
+later_uid : next_uid later.start later.lines 1 ≡ record { node = 1; inc = 4; num = 1 }
+later_uid = refl
+
+-- A frame that is sent has the next number, and a settle delivers the first that is open.
+no_other_frame : AnswerFits fresh [] [] (sent 2 1 2 frame.Bind) → ⊥
+no_other_frame is = let h : 2 ≡ 1 = is in omega (arith, h)
+
+abbrev two_open : List Line
+two_open = block 1 (sent 1 1 2 frame.Bind ∷ sent 2 1 3 frame.Load ∷ [])
+
+no_later_frame : AnswerFits fresh [] two_open (body.Got 2) → ⊥
+no_later_frame is = let h : false ≡ true = is in cc
+
+no_closed_frame : AnswerFits fresh [] (two_open ++ block 1 (body.Got 1 ∷ [])) (body.Void 1) → ⊥
+no_closed_frame is = let h : false ≡ true = is in cc
+
+next_frame : AnswerFits fresh [] (two_open ++ block 1 (body.Dropped 1 ∷ [])) (body.Got 2)
+next_frame = refl

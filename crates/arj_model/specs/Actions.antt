@@ -10,6 +10,7 @@ use Rattle.arj_journal.specs.declared.body.Body.{Body}
 use Rattle.arj_journal.specs.declared.body.Body.TheVariants as body
 use Rattle.arj_journal.specs.declared.body.Kind.{Kind}
 use Rattle.arj_journal.specs.declared.body.Kind.TheVariants as kind
+use Rattle.arj_start.specs.Kinds.{is_serial}
 use Rattle.arj_journal.specs.declared.body.Line.{Line}
 use Rattle.arj_text.specs.Label.{name}
 
@@ -84,11 +85,6 @@ path_in older a = upwards a.parent a.kind (path older) ++ a ∷ []
 -- the Uids of a path
 abbrev pub uids : List Act → List Uid
 uids path = map (λ a. a.uid) path
-
--- the kind of a serializing action
-abbrev pub is_serial : Kind → Bool
-is_serial kind.Serial = true
-is_serial _ = false
 
 -- The top of a path: its first action, or the second where the first is a serializing action.
 abbrev pub top_in : List Act → Option Act

@@ -122,7 +122,7 @@ was_told h n a k =
 -- The node was in the new incarnation since the call, and in the old one when the root used the object there.
 abbrev pub incs_differ : Here → Asked → ℕ → ℕ → ℕ → ℕ → Bool
 incs_differ h k n x had now =
-    nat_lt had now && (from_place h k.at (λ before. incarnation before n == now) && may_have_met h.lines n x (root_in k.path) had)
+    nat_lt had now && (from_place h k.at (λ before. incarnation h.start before n == now) && may_have_met h.start h.lines n x (root_in k.path) had)
 
 -- another accepted call of the same root on the object
 abbrev pub is_other_call : Asked → ℕ → Asked → Bool

@@ -8,6 +8,7 @@ use Rattle.arj_journal.specs.declared.body.Body.TheVariants as body
 use Rattle.arj_journal.specs.declared.body.Line.{Line}
 use Rattle.arj_model.specs.Actions.{Act, Placed, read, root_in}
 use Rattle.arj_model.specs.Refusals.{incarnation, is_root}
+use Rattle.arj_start.specs.Start.{Start}
 use Rattle.arj_model.specs.Table.{is_entry, path_by}
 
 -- a copy of an object became active at a node, under a binding
@@ -81,17 +82,17 @@ abbrev pub is_at : ℕ → ℕ → Activation → Bool
 is_at n x a = (a.node == n) && (a.x == x)
 
 -- a copy of the object was active at the node in this incarnation of it
-abbrev pub was_active_in : List Line → ℕ → ℕ → ℕ → Bool
-was_active_in lines n x i = list_any (λ a. is_at n x a.it && (incarnation (take a.at lines) n == i)) (activations lines)
+abbrev pub was_active_in : Start → List Line → ℕ → ℕ → ℕ → Bool
+was_active_in st lines n x i = list_any (λ a. is_at n x a.it && (incarnation st (take a.at lines) n == i)) (activations lines)
 
 -- a top of this root got a lock on the object's entry in this incarnation of naming's node
-abbrev pub has_entered_in : List Line → ℕ → Option ℕ → ℕ → Bool
-has_entered_in lines x root i = list_any (λ e. (e.it.x == x) && (is_root e.it.root root && (incarnation (take e.at lines) 1 == i))) (enterings lines)
+abbrev pub has_entered_in : Start → List Line → ℕ → Option ℕ → ℕ → Bool
+has_entered_in st lines x root i = list_any (λ e. (e.it.x == x) && (is_root e.it.root root && (incarnation st (take e.at lines) 1 == i))) (enterings lines)
 
 -- An action of this root may have met the node in this incarnation when it used the object: a copy was active there, or the
 -- node is naming's and the root has entered.
-abbrev pub may_have_met : List Line → ℕ → ℕ → Option ℕ → ℕ → Bool
-may_have_met lines n x root i = was_active_in lines n x i || ((n == 1) && has_entered_in lines x root i)
+abbrev pub may_have_met : Start → List Line → ℕ → ℕ → Option ℕ → ℕ → Bool
+may_have_met st lines n x root i = was_active_in st lines n x i || ((n == 1) && has_entered_in st lines x root i)
 
 -- it is a copy of the object at the node under this binding
 abbrev pub is_under : ℕ → ℕ → Binding → Placed Activation → Bool

@@ -16,7 +16,7 @@ use Rattle.arj_journal.specs.declared.event.Event.{Event}
 use Rattle.arj_journal.specs.declared.event.Event.TheVariants as event
 use Rattle.arj_journal.specs.declared.header.ObjectLine.{ObjectLine}
 use Rattle.arj_text.specs.Label.{name}
-use Rattle.arj_model.specs.Actions.{Act, acts, act_in, path, is_serial}
+use Rattle.arj_model.specs.Actions.{Act, acts, act_in, path}
 use Rattle.arj_model.specs.Calls.{surviving}
 use Rattle.arj_model.specs.Last.{is_among, joins_of, listed}
 use Rattle.arj_model.specs.Past.{Asked}
@@ -24,6 +24,7 @@ use Rattle.arj_model.specs.Refusals.{has_ended, holds_of}
 use Rattle.arj_model.specs.CauseSpans.{Here, answered, asking, commit_here, commits_so, holds_in, is_doomed, of_event, was_sent}
 use Rattle.arj_model.specs.CausePends.{changes, halts_preparing, has_written, is_pending}
 use Rattle.arj_model.specs.CauseAnswers.{gives_up, is_giveup}
+use Rattle.arj_start.specs.Kinds.{is_serial}
 
 -- Ends that the script asks for.
 

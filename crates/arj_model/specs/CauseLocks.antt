@@ -72,7 +72,7 @@ granted_caused h n u o mode =
 abbrev pub lowered_caused : Here → ℕ → Uid → Uid → Bool
 lowered_caused h n u o =
     (n == 1) && (is_entry o && (has_lock 1 u o Write h.lines
-    && list_any (λ a. (a.it.x == o.num) && (a.it.binding.inc == incarnation h.lines 1)) (activations h.lines)))
+    && list_any (λ a. (a.it.x == o.num) && (a.it.binding.inc == incarnation h.start h.lines 1)) (activations h.lines)))
 
 -- `bound`.
 
@@ -101,7 +101,7 @@ in_turn servers (Some n) = next_of (first_of servers) n servers
 abbrev pub bound_caused : Here → ℕ → Binding → ℕ → Bool
 bound_caused h x b n =
     let made = namings (since_up 1 h.lines) in
-    same_binding b (record { inc = incarnation h.lines 1; count = length made + 1 })
+    same_binding b (record { inc = incarnation h.start h.lines 1; count = length made + 1 })
     && ((n == in_turn (servers_of_line (object_line h.header x)) (bound_last x None made))
     && list_any (λ row. uid_eq row.object (entry x) && same_mode row.mode Write) (table 1 h.lines))
 

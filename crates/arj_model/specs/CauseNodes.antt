@@ -1,5 +1,5 @@
 -- Why a node prepares, ends and restarts as it does, and what the world does: the causes of the other lines.
-use Rattle.std.specs.Prelude.{ℕ, ◌+◌, ◌-◌, List, [], ◌∷◌, ◌++◌, filter, length, take, Bool, true, false, ◌==◌, ◌&&◌, ◌||◌, not, nat_lt, if◌then◌else◌, Option, Some, None}
+use Rattle.std.specs.Prelude.{ℕ, ◌+◌, ◌-◌, List, [], ◌∷◌, filter, length, take, Bool, true, false, ◌==◌, ◌&&◌, ◌||◌, not, nat_lt, if◌then◌else◌, Option, Some, None}
 use Rattle.std.specs.List.{list_any, list_all}
 use Rattle.std.specs.Str.{bytes_eq}
 use Rattle.arj_base.specs.declared.mode.End.{End}
@@ -20,7 +20,7 @@ use Rattle.arj_model.specs.Actions.{Act, acts, path}
 use Rattle.arj_model.specs.Calls.{committings}
 use Rattle.arj_model.specs.Last.{entry_state, excluded, included, is_among, joins_of, last_state, listed, object_line, same_list, servers_of_line}
 use Rattle.arj_model.specs.Past.{Asked, Past}
-use Rattle.arj_model.specs.Refusals.{frame_no, has_frame, incarnation, is_down, is_node, is_waiting, last_frame, refusal, was_called}
+use Rattle.arj_model.specs.Refusals.{frame_no, has_frame, incarnation, is_down, is_first, is_node, is_waiting, last_frame, open_frames, refusal, was_called}
 use Rattle.arj_model.specs.Follows.{is_behind_doom, label_doomed}
 use Rattle.arj_model.specs.Outcome.{has_cause_to_abort}
 use Rattle.arj_model.specs.CauseSpans.{Here, act_by, holds_in, is_doomed, is_top_in, nodes_of, same_frame}
@@ -65,7 +65,7 @@ restarts n _ = false
 
 -- a node that the script restarts is up in a higher incarnation
 abbrev pub up_caused : Here → ℕ → ℕ → Bool
-up_caused h n i = restarts n h.event && nat_lt (incarnation h.lines n) i
+up_caused h n i = restarts n h.event && nat_lt (incarnation h.start h.lines n) i
 
 -- the line says that the action with this label is aborted
 abbrev pub is_aborted : List ℕ → Body → Bool
@@ -80,28 +80,6 @@ recovered_caused h n u =
 
 -- Frames.
 
--- the frames that are open after a line, in their order, by those that were open before: sent, and neither delivered nor lost
-abbrev pub open_step : Body → List ℕ → List ℕ
-open_step (body.Sent k from to carried) pending = pending ++ k ∷ []
-open_step (body.Got k) pending = filter (λ j. not (j == k)) pending
-open_step (body.Void k) pending = filter (λ j. not (j == k)) pending
-open_step (body.Dropped k) pending = filter (λ j. not (j == k)) pending
-open_step _ pending = pending
-
--- the same over lines
-abbrev pub open_from : List ℕ → List Line → List ℕ
-open_from pending [] = pending
-open_from pending (line ∷ lines) = open_from (open_step line.body pending) lines
-
--- the open frames of a journal, in their order
-abbrev pub open_frames : List Line → List ℕ
-open_frames lines = open_from [] lines
-
--- the first of these is this frame
-abbrev pub is_first : ℕ → List ℕ → Bool
-is_first k [] = false
-is_first k (j ∷ rest) = j == k
-
 -- the event hands bytes to this node that are no message
 abbrev pub is_junk_to : ℕ → Event → Bool
 is_junk_to n (event.Junk m bytes) = m == n
@@ -112,7 +90,7 @@ abbrev pub sent_caused : Here → ℕ → ℕ → ℕ → FrameKind → Bool
 sent_caused h k from to carried =
     (k == last_frame h.lines + 1) && (is_node h.header to
     && (if from == 0 then is_junk_to to h.event && same_frame carried frame.Junk
-    else is_node h.header from && (not (is_down h.lines from) && not (same_frame carried frame.Junk))))
+    else is_node h.header from && (not (is_down h.start h.lines from) && not (same_frame carried frame.Junk))))
 
 -- The event delivers this frame: the one that it names, or the open frames in their order.
 abbrev pub delivers : Here → ℕ → Event → Bool
@@ -127,11 +105,11 @@ is_always_taken carried = list_any (same_frame carried) (frame.Told ∷ frame.Qu
 
 -- `got`. It was sent to a node that is up, and is a message.
 abbrev pub got_caused : Here → ℕ → Bool
-got_caused h k = delivers h k h.event && frame_is (λ from to carried. not (is_down h.lines to) && not (same_frame carried frame.Junk)) h.lines k
+got_caused h k = delivers h k h.event && frame_is (λ from to carried. not (is_down h.start h.lines to) && not (same_frame carried frame.Junk)) h.lines k
 
 -- `void`. It was sent, and the node is down or the frame one that it needn't take.
 abbrev pub void_caused : Here → ℕ → Bool
-void_caused h k = delivers h k h.event && frame_is (λ from to carried. is_down h.lines to || not (is_always_taken carried)) h.lines k
+void_caused h k = delivers h k h.event && frame_is (λ from to carried. is_down h.start h.lines to || not (is_always_taken carried)) h.lines k
 
 -- the event loses this frame
 abbrev pub loses : Here → ℕ → Event → Bool
@@ -146,7 +124,7 @@ dropped_caused h k = loses h k h.event && has_frame h.lines k
 
 -- the run before the event, where it was refused
 abbrev pub past_of : Here → Past
-past_of h = record { count = h.number - 1; accepted = h.accepted; lines = h.lines }
+past_of h = record { start = h.start; count = h.number - 1; accepted = h.accepted; lines = h.lines }
 
 -- the number is that of the cause
 abbrev pub is_cause : ℕ → Option ℕ → Bool
@@ -172,7 +150,7 @@ is_quiesce _ = false
 -- every node is up, no frame is open, and no action waits
 abbrev pub is_still : Here → Bool
 is_still h =
-    list_all (λ n. not (is_down h.lines n)) (nodes_of h.header) && (not (has_some (open_frames h.lines))
+    list_all (λ n. not (is_down h.start h.lines n)) (nodes_of h.header) && (not (has_some (open_frames h.lines))
     && list_all (λ a. not (is_waiting (past_of h) a.label)) (acts h.lines))
 
 -- `quiet`. It says yes only where all is still.
@@ -199,4 +177,4 @@ is_state v u payload s = (s.version == v) && (uid_eq s.writer u && same_list s.p
 abbrev pub copy_caused : Here → ℕ → ℕ → ℕ → Uid → List ℕ → Bool
 copy_caused h n x v u payload =
     let before = take h.first h.lines in
-    shows_object x h.event && (not (is_down h.lines n) && (not (is_among (listed h.header before x) n) || is_state v u payload (last_state h.header before x)))
+    shows_object x h.event && (not (is_down h.start h.lines n) && (not (is_among (listed h.header before x) n) || is_state v u payload (last_state h.header before x)))

@@ -23,12 +23,14 @@ use Rattle.arj_text.specs.Label.{name}
 use Rattle.arj_model.specs.Actions.{Act, Placed, acts, act_in, read, top_in, tops_in, uids}
 use Rattle.arj_model.specs.Calls.{committings}
 use Rattle.arj_model.specs.Past.{Past, Asked, asked_of, is_refused}
+use Rattle.arj_start.specs.Start.{Start}
 use Rattle.arj_model.specs.Refusals.{asks_by, has_ended, holds_of, is_committing, last_asked, unanswered}
 
--- Where a line comes: in which event, of which number, of a run with this header; which events were accepted by then, itself
+-- Where a line comes: in which event, of which number, of a run with this header and start; which events were accepted by then, itself
 -- among them where it is; how many lines stood before the event; and all that stand before the line.
 pub record Here : Type 0 where
   pub header : Header
+  pub start : Start
   pub accepted : List Asked
   pub event : Event
   pub number : ℕ
@@ -39,6 +41,7 @@ pub record Here : Type 0 where
 abbrev pub here_at : Header → Past → Event → List Body → Here
 here_at header past e bodies = record {
   header = header;
+  start = past.start;
   accepted = (if is_refused bodies then past.accepted else past.accepted ++ asked_of past e ∷ []);
   event = e;
   number = past.count + 1;

@@ -9,8 +9,9 @@ use Rattle.arj_journal.specs.declared.event.Event.{Event}
 use Rattle.arj_journal.specs.declared.event.Event.TheVariants as event
 use Rattle.arj_journal.specs.declared.header.Header.{Header}
 use Rattle.arj_text.specs.Label.{name}
-use Rattle.arj_model.specs.Limits.{most_frames}
+use Rattle.arj_start.specs.Limits.{most_frames}
 use Rattle.arj_model.specs.Past.{Past}
+use Rattle.arj_start.specs.Start.{Start}
 use Rattle.arj_model.specs.Refusals.{last_frame}
 use Rattle.arj_model.specs.Follows.{Runs}
 use Rattle.arj_model.specs.CauseSpans.{Here, behind, here_at}
@@ -75,6 +76,6 @@ are_caused h (b ∷ bs) = has_cause h b && are_caused (behind h b) bs
 abbrev pub CausesStep : Header → Past → Event → List Body → Type 0
 CausesStep header past e bodies = are_caused (here_at header past e bodies) bodies ≡ true
 
--- Each line of the journal has its cause.
-abbrev pub JHasCauses : Header → List Event → List Line → Type 0
-JHasCauses header es lines = Runs (CausesStep header) es lines
+-- Each line of the journal has its cause, in a run that began with this.
+abbrev pub JHasCauses : Header → Start → List Event → List Line → Type 0
+JHasCauses header st es lines = Runs (CausesStep header) st es lines

@@ -13,7 +13,7 @@ use Rattle.arj_model.specs.Calls.{committings, surviving}
 use Rattle.arj_model.specs.Disks.{Disks, InDoubt, held}
 use Rattle.arj_model.specs.Serial.{run, serial_calls, writes_on}
 use Rattle.arj_model.specs.Last.{first_values, last_from, writes_of, state_after, entry_from, listed, object_line, is_among}
-use Rattle.arj_model.specs.Start.{Marks, none_written, unwritten}
+use Rattle.arj_start.specs.Start.{Marks, none_written, unwritten}
 
 -- Naming stands on node 1. Where no prepared action names an object's entry there, it is the entry that the journal gives.
 abbrev pub EntriesAreLast : Header → Marks → List Line → Disks → Type 0

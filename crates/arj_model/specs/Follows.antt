@@ -14,8 +14,9 @@ use Rattle.arj_journal.specs.declared.event.Event.TheVariants as event
 use Rattle.arj_journal.specs.declared.header.Header.{Header}
 use Rattle.arj_text.specs.Label.{name}
 use Rattle.arj_text.specs.Words.{answer_text}
-use Rattle.arj_model.specs.Past.{Past, Asked, asked_of, block, Along, nothing_yet}
-use Rattle.arj_model.specs.Refusals.{refusal, waits_for, is_committing, is_down, has_frame}
+use Rattle.arj_model.specs.Past.{Past, Asked, asked_of, at_start, block, Along}
+use Rattle.arj_start.specs.Start.{Start}
+use Rattle.arj_model.specs.Refusals.{refusal, waits_for, is_committing, is_down, is_first, last_frame, open_frames}
 use Rattle.arj_model.specs.Own.{Begins, Ends, may_stand, halts_fit}
 use Rattle.arj_model.specs.CauseSpans.{is_doomed}
 
@@ -36,24 +37,26 @@ abbrev pub IsAnswerOf : Op → List ℕ → Type 0
 IsAnswerOf op answer = (v : Value) × (has_op (class_of v) op ≡ true) × (answer ≡ answer_text (answer_of op v))
 
 -- A line behind these lines. An answer is to the call or include that is waited for, with its own object and operation;
--- a top's end is to its commit; a node halts where it is up; a frame that is delivered was sent.
-abbrev pub AnswerFits : List Asked → List Line → Body → Type 0
-AnswerFits accepted lines (body.Ok l x op answer) = IsCallOf x op (waits_for accepted lines (name l)) × IsAnswerOf op answer
-AnswerFits accepted lines (body.Includes l x n) = IsIncludeOf x n (waits_for accepted lines (name l))
-AnswerFits accepted lines (body.Conflict l holder mode n) = is_some (waits_for accepted lines (name l)) ≡ true
-AnswerFits accepted lines (body.Lost l n) = is_some (waits_for accepted lines (name l)) ≡ true
-AnswerFits accepted lines (body.Changed l n difference) = is_some (waits_for accepted lines (name l)) ≡ true
-AnswerFits accepted lines (body.Committed l) = is_committing lines (name l) ≡ true
-AnswerFits accepted lines (body.Aborted l c) = is_committing lines (name l) ≡ true
-AnswerFits accepted lines (body.Halted n) = is_down lines n ≡ false
-AnswerFits accepted lines (body.Got k) = has_frame lines k ≡ true
-AnswerFits accepted lines (body.Void k) = has_frame lines k ≡ true
-AnswerFits accepted lines _ = ⊤
+-- a top's end is to its commit; a node halts where it is up; a frame that is sent has the next number, and one that is
+-- delivered is the first that is open.
+abbrev pub AnswerFits : Start → List Asked → List Line → Body → Type 0
+AnswerFits st accepted lines (body.Ok l x op answer) = IsCallOf x op (waits_for accepted lines (name l)) × IsAnswerOf op answer
+AnswerFits st accepted lines (body.Includes l x n) = IsIncludeOf x n (waits_for accepted lines (name l))
+AnswerFits st accepted lines (body.Conflict l holder mode n) = is_some (waits_for accepted lines (name l)) ≡ true
+AnswerFits st accepted lines (body.Lost l n) = is_some (waits_for accepted lines (name l)) ≡ true
+AnswerFits st accepted lines (body.Changed l n difference) = is_some (waits_for accepted lines (name l)) ≡ true
+AnswerFits st accepted lines (body.Committed l) = is_committing lines (name l) ≡ true
+AnswerFits st accepted lines (body.Aborted l c) = is_committing lines (name l) ≡ true
+AnswerFits st accepted lines (body.Halted n) = is_down st lines n ≡ false
+AnswerFits st accepted lines (body.Sent k from to carried) = k ≡ last_frame lines + 1
+AnswerFits st accepted lines (body.Got k) = is_first k (open_frames lines) ≡ true
+AnswerFits st accepted lines (body.Void k) = is_first k (open_frames lines) ≡ true
+AnswerFits st accepted lines _ = ⊤
 
 -- each line of an event, behind those before it
-abbrev pub AnswersFit : List Asked → List Line → ℕ → List Body → Type 0
-AnswersFit accepted lines n [] = ⊤
-AnswersFit accepted lines n (b ∷ bs) = AnswerFits accepted lines b × AnswersFit accepted (lines ++ block n (b ∷ [])) n bs
+abbrev pub AnswersFit : Start → List Asked → List Line → ℕ → List Body → Type 0
+AnswersFit st accepted lines n [] = ⊤
+AnswersFit st accepted lines n (b ∷ bs) = AnswerFits st accepted lines b × AnswersFit st accepted (lines ++ block n (b ∷ [])) n bs
 
 -- The lines of an accepted event: it begins with its own, and ends with its own where its kind has one at the end.
 pub record Accepted (header : Header) (past : Past) (e : Event) (bodies : List Body) : Type 0 where
@@ -65,7 +68,7 @@ pub record Accepted (header : Header) (past : Past) (e : Event) (bodies : List B
   pub ends : Ends e own last
   pub only : list_all (may_stand e) others ≡ true
   pub halts : halts_fit past.lines e others ≡ true
-  pub answers : AnswersFit (past.accepted ++ asked_of past e ∷ []) (past.lines ++ block (past.count + 1) own) (past.count + 1) others
+  pub answers : AnswersFit past.start (past.accepted ++ asked_of past e ∷ []) (past.lines ++ block (past.count + 1) own) (past.count + 1) others
 
 -- the action that a doomed one's refusal is about: itself, or the parent of what would begin in it
 abbrev pub label_doomed : Event → Option (List ℕ)
@@ -116,11 +119,11 @@ AreEnding n [] = ⊤
 AreEnding n (line ∷ []) = (line.event ≡ n) × (is_ending line.body ≡ true)
 AreEnding n _ = ⊥
 
--- The journal is that of a run over these events, at each of which this holds. Behind the events stands at most one
--- line outside them.
-abbrev pub Runs : (Past → Event → List Body → Type 0) → List Event → List Line → Type 0
-Runs P es lines = (end : Past) × (ending : List Line) × Along P nothing_yet es end × (lines ≡ end.lines ++ ending) × AreEnding (length es) ending
+-- The journal is that of a run over these events, which began with this, and at each of which this holds. Behind the events
+-- stands at most one line outside them.
+abbrev pub Runs : (Past → Event → List Body → Type 0) → Start → List Event → List Line → Type 0
+Runs P st es lines = (end : Past) × (ending : List Line) × Along P (at_start st) es end × (lines ≡ end.lines ++ ending) × AreEnding (length es) ending
 
--- The journal follows the events.
-abbrev pub Follows : Header → List Event → List Line → Type 0
-Follows header es lines = Runs (Step header) es lines
+-- The journal follows the events, of a run that began with this.
+abbrev pub Follows : Header → Start → List Event → List Line → Type 0
+Follows header st es lines = Runs (Step header) st es lines

@@ -19,7 +19,7 @@ use Rattle.arj_text.specs.Label.{name}
 use Rattle.arj_model.specs.Actions.{Act, Placed, read, path, top_in, chain_in, has_end, committed, acts}
 use Rattle.arj_model.specs.Calls.{Call, Top, tops}
 use Rattle.arj_model.specs.Serial.{Values, run, serial_calls, writes_on, arrange, serial_key, lex}
-use Rattle.arj_model.specs.Start.{Mark, Marks, none_written}
+use Rattle.arj_start.specs.Start.{Mark, Marks, none_written}
 
 -- the header's line of object x
 abbrev pub object_line : Header → ℕ → Option ObjectLine

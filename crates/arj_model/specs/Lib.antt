@@ -1,8 +1,6 @@
-pub mod Limits
 pub mod Actions
 pub mod Calls
 pub mod Serial
-pub mod Start
 pub mod Shown
 pub mod Last
 pub mod Table

@@ -17,10 +17,11 @@ use Rattle.arj_journal.specs.declared.event.Event.TheVariants as event
 use Rattle.arj_journal.specs.declared.header.Header.{Header}
 use Rattle.arj_text.specs.declared.label.Label.{Label}
 use Rattle.arj_text.specs.Label.{name}
-use Rattle.arj_model.specs.Actions.{Act, acts, act_in, is_over, is_serial, path_in}
+use Rattle.arj_model.specs.Actions.{Act, acts, act_in, is_over, path_in}
 use Rattle.arj_model.specs.Past.{Past}
 use Rattle.arj_model.specs.CauseSpans.{is_doomed}
 use Rattle.arj_model.specs.Refusals.{next_uid, incarnation, is_serializing, frame_no, last_frame}
+use Rattle.arj_start.specs.Kinds.{is_serial}
 
 -- Nodes of events.
 
@@ -57,8 +58,9 @@ node_of_event lines _ = None
 -- Own lines.
 
 -- an action of this kind began at its parent's node
-abbrev pub BeginsBelow : List Line → Label → Label → Kind → List Body → Type 0
-BeginsBelow lines l p k own = (n : ℕ) × (node_of lines (name p) ≡ Some n) × (own ≡ body.Began l k (next_uid lines n) (Some p) ∷ [])
+abbrev pub BeginsBelow : Past → Label → Label → Kind → List Body → Type 0
+BeginsBelow past l p k own =
+    (n : ℕ) × (node_of past.lines (name p) ≡ Some n) × (own ≡ body.Began l k (next_uid past.start past.lines n) (Some p) ∷ [])
 
 -- The actions that an abort ends, the latest begun first: the action with this number, and those below it that are open.
 abbrev pub aborted_by : List Line → ℕ → List Act → List Act
@@ -101,23 +103,23 @@ abbrev pub IsDelivery : ℕ → List Body → Type 0
 IsDelivery k own = (own ≡ body.Got k ∷ []) ⊎ (own ≡ body.Void k ∷ [])
 
 -- The node is back with a greater incarnation, or stopped before it was.
-abbrev pub IsRestart : List Line → ℕ → List Body → Type 0
-IsRestart lines n own = ((i : ℕ) × (incarnation lines n < i) × (own ≡ body.Up n i ∷ [])) ⊎ (own ≡ body.Halted n ∷ [])
+abbrev pub IsRestart : Past → ℕ → List Body → Type 0
+IsRestart past n own = ((i : ℕ) × (incarnation past.start past.lines n < i) × (own ≡ body.Up n i ∷ [])) ⊎ (own ≡ body.Halted n ∷ [])
 
 -- The lines that an accepted event begins with.
 abbrev pub Begins : Header → Past → Event → List Body → Type 0
-Begins header past (event.Begin l n) own = own ≡ body.Began l kind.Top (next_uid past.lines n) None ∷ []
-Begins header past (event.Serial l n) own = own ≡ body.Began l kind.Serial (next_uid past.lines n) None ∷ []
+Begins header past (event.Begin l n) own = own ≡ body.Began l kind.Top (next_uid past.start past.lines n) None ∷ []
+Begins header past (event.Serial l n) own = own ≡ body.Began l kind.Serial (next_uid past.start past.lines n) None ∷ []
 Begins header past (event.BeginIn l p) own =
-    BeginsBelow past.lines l p (if is_serializing past.lines (name p) then kind.Constituent else kind.Nested) own
-Begins header past (event.Top l p) own = BeginsBelow past.lines l p kind.Independent own
+    BeginsBelow past l p (if is_serializing past.lines (name p) then kind.Constituent else kind.Nested) own
+Begins header past (event.Top l p) own = BeginsBelow past l p kind.Independent own
 Begins header past (event.Commit l) own = BeginsCommit past l (act_in (acts past.lines) (name l)) own
 Begins header past (event.Abort l) own = AreAborted (aborted_of past.lines (act_in (acts past.lines) (name l))) own
 Begins header past (event.GiveUp l) own = AreGiveUps l own
 Begins header past (event.Deliver k) own = IsDelivery (frame_no past.lines k) own
 Begins header past (event.Lose k) own = own ≡ body.Dropped (frame_no past.lines k) ∷ []
 Begins header past (event.Crash n) own = own ≡ body.Halted n ∷ []
-Begins header past (event.Restart n) own = IsRestart past.lines n own
+Begins header past (event.Restart n) own = IsRestart past n own
 Begins header past (event.Stop n calls k) own = own ≡ body.Armed n ∷ []
 Begins header past (event.Junk n bytes) own = (own ≡ body.Sent (last_frame past.lines + 1) 0 n frame.Junk ∷ []) ⊎ (own ≡ [])
 Begins header past _ own = own ≡ []

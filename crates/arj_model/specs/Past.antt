@@ -7,6 +7,7 @@ use Rattle.arj_journal.specs.declared.event.Event.{Event}
 use Rattle.arj_journal.specs.declared.event.Event.TheVariants as event
 use Rattle.arj_text.specs.Label.{name}
 use Rattle.arj_model.specs.Actions.{Act, acts, path}
+use Rattle.arj_start.specs.Start.{Start, fresh}
 
 -- An accepted event, by its number, with the path of the action that it names, where it names one, and how many lines
 -- stood before it.
@@ -16,15 +17,20 @@ pub record Asked : Type 0 where
   pub number : ℕ
   pub at : ℕ
 
--- A run so far: how many events were run, those of them that were accepted, and the lines.
+-- A run so far: with what it began, how many events were run, those of them that were accepted, and the lines.
 pub record Past : Type 0 where
+  pub start : Start
   pub count : ℕ
   pub accepted : List Asked
   pub lines : List Line
 
--- before the first event
+-- before the first event of a run that begins with this
+abbrev pub at_start : Start → Past
+at_start st = record { start = st; count = 0; accepted = []; lines = [] }
+
+-- before the first event behind a format
 abbrev pub nothing_yet : Past
-nothing_yet = record { count = 0; accepted = []; lines = [] }
+nothing_yet = at_start fresh
 
 -- the action that an event asks something of, by its label
 abbrev pub label_of : Event → List ℕ
@@ -51,6 +57,7 @@ is_refused _ = false
 -- the run with one event more, which wrote these lines
 abbrev pub next : Past → Event → List Body → Past
 next past e bodies = record {
+  start = past.start;
   count = past.count + 1;
   accepted = (if is_refused bodies then past.accepted else past.accepted ++ asked_of past e ∷ []);
   lines = past.lines ++ block (past.count + 1) bodies;

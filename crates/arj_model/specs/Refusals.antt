@@ -1,5 +1,5 @@
 -- Which events are refused: the nodes that are up, the actions that wait, and the causes by number.
-use Rattle.std.specs.Prelude.{ℕ, ◌+◌, List, [], ◌∷◌, length, filter, Bool, true, false, ◌==◌, ◌&&◌, ◌||◌, not, nat_lt, nat_le, if◌then◌else◌, Option, Some, None, is_some, is_none, Result, Ok, Err}
+use Rattle.std.specs.Prelude.{ℕ, ◌+◌, List, [], ◌∷◌, ◌++◌, length, filter, Bool, true, false, ◌==◌, ◌&&◌, ◌||◌, not, nat_lt, nat_le, if◌then◌else◌, Option, Some, None, is_some, is_none, Result, Ok, Err}
 use Rattle.std.specs.List.{list_any}
 use Rattle.std.specs.Option.{option_map}
 use Rattle.std.specs.Str.{bytes_eq}
@@ -20,11 +20,13 @@ use Rattle.arj_journal.specs.declared.header.ObjectLine.{ObjectLine}
 use Rattle.arj_msg.specs.declared.message.Message.{Message}
 use Rattle.arj_msg.specs.Layout.{message}
 use Rattle.arj_text.specs.Label.{name}
-use Rattle.arj_model.specs.Actions.{Act, Placed, acts, act_in, is_begun, is_over, is_serial, root_in, top_in, path}
+use Rattle.arj_model.specs.Actions.{Act, Placed, acts, act_in, is_begun, is_over, root_in, top_in, path}
 use Rattle.arj_model.specs.Calls.{committings}
-use Rattle.arj_model.specs.Limits.{most_objects, most_actions, most_on_path}
+use Rattle.arj_start.specs.Limits.{most_objects, most_actions, most_on_path}
 use Rattle.arj_model.specs.Last.{object_line, is_among, insert_number}
 use Rattle.arj_model.specs.Past.{Past, Asked}
+use Rattle.arj_start.specs.Kinds.{is_constituent, is_serial}
+use Rattle.arj_start.specs.Start.{Start}
 
 -- Nodes.
 
@@ -43,11 +45,11 @@ abbrev pub down_from : ℕ → Bool → List Line → Bool
 down_from n down [] = down
 down_from n down (line ∷ lines) = down_from n (down_step n line.body down) lines
 
--- whether the node is down after the journal
-abbrev pub is_down : List Line → ℕ → Bool
-is_down lines n = down_from n false lines
+-- whether the node is down after the journal of a run that began with this
+abbrev pub is_down : Start → List Line → ℕ → Bool
+is_down st lines n = down_from n (not (st.up n)) lines
 
--- a node's incarnation is that of its last `up` line, or 1
+-- a node's incarnation is that of its last `up` line, or the one in which it began
 abbrev pub inc_step : ℕ → Body → ℕ → ℕ
 inc_step n (body.Up m i) inc = if m == n then i else inc
 inc_step n _ inc = inc
@@ -57,17 +59,25 @@ abbrev pub inc_from : ℕ → ℕ → List Line → ℕ
 inc_from n inc [] = inc
 inc_from n inc (line ∷ lines) = inc_from n (inc_step n line.body inc) lines
 
--- the incarnation after the journal
-abbrev pub incarnation : List Line → ℕ → ℕ
-incarnation lines n = inc_from n 1 lines
+-- the incarnation after the journal of a run that began with this
+abbrev pub incarnation : Start → List Line → ℕ → ℕ
+incarnation st lines n = inc_from n (st.incs n + 1) lines
 
 -- an action's Uid: its node, the node's incarnation, and the count of actions begun there in it
-abbrev pub next_uid : List Line → ℕ → Uid
-next_uid lines n =
-    let inc = incarnation lines n in
+abbrev pub next_uid : Start → List Line → ℕ → Uid
+next_uid st lines n =
+    let inc = incarnation st lines n in
     record { node = n; inc = inc; num = length (filter (λ a. (a.uid.node == n) && (a.uid.inc == inc)) (acts lines)) + 1 }
 
 -- Refusals.
+
+-- the label was given before the run began
+abbrev pub was_given : Start → List ℕ → Bool
+was_given st l = list_any (λ g. bytes_eq (name g) l) st.given
+
+-- the label was given, in this run or before it
+abbrev pub is_known : Past → List ℕ → Bool
+is_known past l = was_given past.start l || is_begun past.lines l
 
 -- the action, if there is one, is over
 abbrev pub is_over_act : List Line → Option Act → Bool
@@ -150,11 +160,6 @@ waits_below past l = list_any (λ a. list_any (λ b. bytes_eq b.label l) (path (
 abbrev pub waits_near : Past → List ℕ → Bool
 waits_near past l = waits_above past l || waits_below past l
 
--- a constituent of a serializing action
-abbrev pub is_constituent : Kind → Bool
-is_constituent kind.Constituent = true
-is_constituent _ = false
-
 -- two roots are the same
 abbrev pub is_root : Option ℕ → Option ℕ → Bool
 is_root (Some a) (Some b) = a == b
@@ -221,7 +226,7 @@ is_serializing lines l = holds_of (λ a. is_serial a.kind) (act_in (acts lines) 
 abbrev pub is_deep : List Line → List ℕ → Bool
 is_deep lines l = nat_le most_on_path (length (path (acts lines) l))
 
--- the root of this action has begun as many actions as it may, itself and independent ones below it not counted with it
+-- the root of this action has begun as many actions as it may, itself among them; an independent one is a root of its own
 abbrev pub has_all_actions : List Line → List ℕ → Bool
 has_all_actions lines l =
     nat_le most_actions (length (filter (λ a. is_root (root_in (path (acts lines) a.label)) (root_in (path (acts lines) l))) (acts lines)))
@@ -249,6 +254,28 @@ frame_from last (line ∷ lines) = frame_from (frame_step line.body last) lines
 abbrev pub last_frame : List Line → ℕ
 last_frame lines = frame_from 0 lines
 
+-- the frames that are open after a line, in their order, by those that were open before: sent, and neither delivered nor lost
+abbrev pub open_step : Body → List ℕ → List ℕ
+open_step (body.Sent k from to carried) pending = pending ++ k ∷ []
+open_step (body.Got k) pending = filter (λ j. not (j == k)) pending
+open_step (body.Void k) pending = filter (λ j. not (j == k)) pending
+open_step (body.Dropped k) pending = filter (λ j. not (j == k)) pending
+open_step _ pending = pending
+
+-- the same over lines
+abbrev pub open_from : List ℕ → List Line → List ℕ
+open_from pending [] = pending
+open_from pending (line ∷ lines) = open_from (open_step line.body pending) lines
+
+-- the open frames of a journal, in their order
+abbrev pub open_frames : List Line → List ℕ
+open_frames lines = open_from [] lines
+
+-- the first of these is this frame
+abbrev pub is_first : ℕ → List ℕ → Bool
+is_first k [] = false
+is_first k (j ∷ rest) = j == k
+
 -- the number of the frame that a script names
 abbrev pub frame_no : List Line → FrameNo → ℕ
 frame_no lines (Number k) = k
@@ -267,22 +294,22 @@ is_message bytes = is_whole (message.read bytes)
 
 -- Causes.
 
--- The conditions of the causes 5 and 6: no accepted event gave the label; its action is over.
+-- The conditions of the causes 5 and 6: the label wasn't given; its action is over, as one that began before the run is.
 abbrev pub asks_known : Past → List ℕ → List (ℕ × Bool) → List (ℕ × Bool)
-asks_known past l rest = (5, not (is_begun past.lines l)) ∷ (6, has_ended past.lines l) ∷ rest
+asks_known past l rest = (5, not (is_known past l)) ∷ (6, was_given past.start l || has_ended past.lines l) ∷ rest
 
 -- The causes for which an event may be refused, by number, each with its condition on the run so far: 1 unknown node,
 -- 2 node down, 3 node up, 4 label used, 5 unknown label, 6 ended, 7 waiting, 8 not waiting, 9 open children, 10 wrong
 -- parent, 11 no calls, 13 unknown object, 14 wrong operation, 15 too deep, 16 too many, 17 no message, 18 a message. Cause
 -- 12, doomed, is told apart.
 abbrev pub causes : Header → Past → Event → List (ℕ × Bool)
-causes header past (event.Begin l n) = (1, not (is_node header n)) ∷ (2, is_down past.lines n) ∷ (4, is_begun past.lines (name l)) ∷ []
-causes header past (event.Serial l n) = (1, not (is_node header n)) ∷ (2, is_down past.lines n) ∷ (4, is_begun past.lines (name l)) ∷ []
+causes header past (event.Begin l n) = (1, not (is_node header n)) ∷ (2, is_down past.start past.lines n) ∷ (4, is_known past (name l)) ∷ []
+causes header past (event.Serial l n) = (1, not (is_node header n)) ∷ (2, is_down past.start past.lines n) ∷ (4, is_known past (name l)) ∷ []
 causes header past (event.BeginIn l p) =
-    (4, is_begun past.lines (name l))
+    (4, is_known past (name l))
     ∷ asks_known past (name p) ((7, waits_above past (name p)) ∷ (15, is_deep past.lines (name p)) ∷ (16, has_all_actions past.lines (name p)) ∷ [])
 causes header past (event.Top l p) =
-    (4, is_begun past.lines (name l)) ∷ asks_known past (name p) ((7, waits_above past (name p)) ∷ (10, is_serializing past.lines (name p)) ∷ [])
+    (4, is_known past (name l)) ∷ asks_known past (name p) ((7, waits_above past (name p)) ∷ (10, is_serializing past.lines (name p)) ∷ [])
 causes header past (event.Call l x op) =
     asks_known past (name l) (
     (7, waits_near past (name l)) ∷ (11, is_serializing past.lines (name l)) ∷ (13, is_none (object_line header x)) ∷ (14, lacks_op (object_line header x) op)
@@ -297,9 +324,9 @@ causes header past (event.Abort l) = asks_known past (name l) ((7, waits_near pa
 causes header past (event.GiveUp l) = asks_known past (name l) ((8, not (is_waiting past (name l))) ∷ [])
 causes header past (event.Deliver k) = (17, not (has_frame past.lines (frame_no past.lines k))) ∷ []
 causes header past (event.Lose k) = (17, not (has_frame past.lines (frame_no past.lines k))) ∷ []
-causes header past (event.Tick n) = (1, not (is_node header n)) ∷ (2, is_down past.lines n) ∷ []
-causes header past (event.Crash n) = (1, not (is_node header n)) ∷ (2, is_down past.lines n) ∷ []
-causes header past (event.Restart n) = (1, not (is_node header n)) ∷ (3, not (is_down past.lines n)) ∷ []
+causes header past (event.Tick n) = (1, not (is_node header n)) ∷ (2, is_down past.start past.lines n) ∷ []
+causes header past (event.Crash n) = (1, not (is_node header n)) ∷ (2, is_down past.start past.lines n) ∷ []
+causes header past (event.Restart n) = (1, not (is_node header n)) ∷ (3, not (is_down past.start past.lines n)) ∷ []
 causes header past (event.Stop n calls k) = (1, not (is_node header n)) ∷ []
 causes header past (event.Junk n bytes) = (1, not (is_node header n)) ∷ (18, is_message bytes) ∷ []
 causes header past (event.Show x) = (13, is_none (object_line header x)) ∷ []

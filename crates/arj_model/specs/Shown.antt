@@ -8,7 +8,7 @@ use Rattle.arj_journal.specs.declared.event.Event.{Event}
 use Rattle.arj_journal.specs.declared.event.Event.TheVariants as event
 use Rattle.arj_journal.specs.declared.event.FrameNo.{FrameNo}
 use Rattle.arj_journal.specs.declared.event.FrameNo.TheVariants as frame_no
-use Rattle.arj_model.specs.Start.{Start}
+use Rattle.arj_start.specs.Start.{Start}
 
 -- what a line says, with the number of a frame raised by this
 abbrev pub raised : ℕ → Body → Body

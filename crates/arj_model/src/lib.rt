@@ -1,5 +1,6 @@
 //! What a journal shows, as definitions: its actions and calls, the serial order, last states, the lock table of a node,
-//! what it is for a journal to follow the events of a script, causes, and what stands on the disks beside it.
+//! what it is for a journal to follow the events of a script, causes, what stands on the disks beside it, and with what a run
+//! begins.
 //!
 //! It stands on `arj_journal`, which has the lines, on `arj_disk` for what a disk says, and on `arj_msg` for which bytes
 //! are a message. There is nothing to run here:
