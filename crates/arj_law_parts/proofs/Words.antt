@@ -39,7 +39,7 @@ pub use Rattle.arj_promise.specs.Runs.{journal_by, most_events, moved, see, worl
 pub use Rattle.arj_promise.specs.Serial.{IsSerialBy}
 pub use Rattle.arj_promise.specs.Waiting.{HasAnswer, IsAnswerTo, IsOvertaken, IsPlainIn, IsSaid, IsSameWork, IsToSettle, StillWaits}
 pub use Rattle.arj_promise.specs.Waiting.{WaitsOvertaken, coord_in, coord_of, is_plain, is_refusal}
-pub use Rattle.arj_model.specs.Start.{Start}
+pub use Rattle.arj_start.specs.Start.{Start}
 pub use Rattle.arj_promise.specs.Starts.{IsFormed}
 pub use Rattle.arj_protocol.proofs.CoordSays.{acked_own, acts_own, again_own, heard_own, map_own, query_own, tolds_again_own}
 pub use Rattle.arj_protocol.proofs.Maps.{place_other, put_other, put_same}
@@ -58,7 +58,7 @@ pub use Rattle.arj_protocol.specs.Asking.{again_all, again_now, asks_all, asks_m
 pub use Rattle.arj_protocol.specs.Asking.{call, call_steps, commit_action, commit_open, commit_top, commits_in, doomed_by, end_line}
 pub use Rattle.arj_protocol.specs.Asking.{ends_call, gaveup_lines, give_up, give_up_call, give_up_doing, given_away, gives_up, goes_on}
 pub use Rattle.arj_protocol.specs.Asking.{granted_by, heard, heard_by, heard_call, heard_doing, heard_none, heard_now, include, is_ended}
-pub use Rattle.arj_protocol.specs.Asking.{is_invoke_ask, is_named, keeps_after, kept_at, known_at_start, last_req, mark_lines, moved_commit}
+pub use Rattle.arj_protocol.specs.Asking.{is_invoke_ask, keeps_after, kept_at, known_at_start, last_req, mark_lines, moved_commit}
 pub use Rattle.arj_protocol.specs.Asking.{next_req, notes_grant, renewed, root_heard, root_lost, root_moved, same_kept, step_call}
 pub use Rattle.arj_protocol.specs.Asking.{step_commit, store_of, waits_for_call, waits_for_commit, was_named}
 pub use Rattle.arj_protocol.specs.Call.{Answered, At, AtActivate, AtBind, AtInvoke, AtLoad, AtNote, CallEnd, CallStep, Changed, Conflict}
@@ -69,7 +69,7 @@ pub use Rattle.arj_protocol.specs.Call.{next_ask, next_node, node_at, or_lost, o
 pub use Rattle.arj_protocol.specs.Call.{spoils, start, start_at, two_bindings, two_incs, with_inc, write_known}
 pub use Rattle.arj_protocol.specs.Commit.{Aborts, Asks, CommitStep, Confirming, Decides, Machine, Marked, Plan, Preparing, Stays, Used}
 pub use Rattle.arj_protocol.specs.Commit.{Voting, ask_of, begin_confirm, begin_prepare, begin_vote, changed_of, confirm_ask, first_of}
-pub use Rattle.arj_protocol.specs.Commit.{further, has_record, included_of, is_at_server, is_empty, is_marked, joins_left, least_of}
+pub use Rattle.arj_protocol.specs.Commit.{further, has_record, included_of, is_at_server, is_marked, joins_left, least_of}
 pub use Rattle.arj_protocol.specs.Commit.{left_of, marks_at, marks_store, marks_stores, naming_node, nodes_given_up, participants, plainly}
 pub use Rattle.arj_protocol.specs.Commit.{plan_of, servers_of, state_by, state_for, states_for, stores_by, stores_left, targets_of}
 pub use Rattle.arj_protocol.specs.Commit.{vote_ask, votes_left, waiting, with_mark, with_marks, with_state, with_states}
@@ -104,7 +104,7 @@ pub use Rattle.arj_protocol.specs.Follow.{AreEntries, FitsPath, NamingFollows, T
 pub use Rattle.arj_protocol.specs.Laws.{AreOfActions, Holders, effects_of, effects_of_node, effects_until, names_grant, rows_after, rows_by}
 pub use Rattle.arj_protocol.specs.Laws.{rows_in_copy, rows_in_named, server_rows}
 pub use Rattle.arj_protocol.specs.Named.{Counted, Live, Made, Named, bind_call, bind_made, bind_named, bound_new, conflict_on, end_named}
-pub use Rattle.arj_protocol.specs.Named.{entry_row, hello_named, in_use, include_asked, is_binding, is_lowered, is_write_row, live_above}
+pub use Rattle.arj_protocol.specs.Named.{entry_row, hello_named, in_use, include_asked, is_lowered, is_write_row, live_above}
 pub use Rattle.arj_protocol.specs.Named.{live_after, live_asked, lock_lines, locked, lower_lines, lowered, made_above, make_asked}
 pub use Rattle.arj_protocol.specs.Named.{next_server, note_made, note_named, note_other, unnamed}
 pub use Rattle.arj_protocol.specs.Naming.{Naming, bind, end_entries, end_lines, end_locks, end_orphans, entry_of, has_locks, hello, is_over}
@@ -117,6 +117,9 @@ pub use Rattle.arj_protocol.specs.Node.{holders, if_naming, is_earlier, is_loade
 pub use Rattle.arj_protocol.specs.Node.{load_held, locks_of, most_rounds, naming_hello, naming_told, next_round, prepare_by, prepare_states}
 pub use Rattle.arj_protocol.specs.Node.{prepared_actions, query_about, ran, ran_handled, reply_is_meant, rounds, sends_answer, serve}
 pub use Rattle.arj_protocol.specs.Node.{served, stand_once, store_told, taken, whole, with_coord, with_naming, with_server}
+pub use Rattle.arj_start.specs.Limits.{most_actions, most_frames, most_labels}
+pub use Rattle.arj_start.specs.Kinds.{is_constituent, is_serial}
+pub use Rattle.arj_protocol.specs.Order.{is_binding, is_empty}
 pub use Rattle.arj_protocol.specs.Order.{at_number, at_uid, binding_eq, binding_less, binding_number, drop_uid, each, has, next_version}
 pub use Rattle.arj_protocol.specs.Order.{number_set, put_number, put_uid, uid_number, uid_set, unbound, with_number, with_uid}
 pub use Rattle.arj_protocol.specs.Order.{without_number, without_uid}
@@ -130,7 +133,7 @@ pub use Rattle.arj_protocol.specs.Step.{Begin, Call, Crash, GiveUp, Input, Node,
 pub use Rattle.arj_protocol.specs.Step.{begin_reasons, begin_refusal, branch_named, branch_numbered, call_reasons, class_at, class_in}
 pub use Rattle.arj_protocol.specs.Step.{commit_reasons, coord_did, copy_line, entries_at, entry_line, first_disk, first_entry, first_node}
 pub use Rattle.arj_protocol.specs.Step.{node_by}
-pub use Rattle.arj_protocol.specs.Step.{first_reason, first_state, frame_step, giveup_reasons, handled_step, has_none, hello_to}
+pub use Rattle.arj_protocol.specs.Step.{first_reason, first_state, frame_step, giveup_reasons, handled_step, hello_to}
 pub use Rattle.arj_protocol.specs.Step.{include_reasons, is_below_16, is_committing, is_committing_now, is_idle, is_sibling, is_waiting}
 pub use Rattle.arj_protocol.specs.Step.{is_waiting_now, lacks_op, naming_at, naming_back, node_did, numbers_to, on_branch, only_says}
 pub use Rattle.arj_protocol.specs.Step.{parent_of, parts_in, put_states, recovered_records, refusal, refusal_at, refusal_up, refused_by}
@@ -138,8 +141,8 @@ pub use Rattle.arj_protocol.specs.Step.{restart_outs, show_entry, show_outs, sho
 pub use Rattle.arj_protocol.specs.Step.{step_up, tick_step, tolds_again, void_step, waits, waits_above, waits_below}
 pub use Rattle.arj_protocol.specs.Tree.{Branch, Family, Tree, at_place, begun, begun_by, behind, branch_of, doomed_at, doomed_branch}
 pub use Rattle.arj_protocol.specs.Tree.{ended_at, ended_branch, ended_so, ends_of, family_of, has_end, has_many_objects, has_open_child}
-pub use Rattle.arj_protocol.specs.Tree.{is_aborted, is_committed, is_constituent, is_merged, is_nested, is_open, is_open_below}
-pub use Rattle.arj_protocol.specs.Tree.{is_open_branch, is_own, is_parent, is_serial, is_spent, latest_first, listed_end, most_actions}
+pub use Rattle.arj_protocol.specs.Tree.{is_aborted, is_committed, is_merged, is_nested, is_open, is_open_below}
+pub use Rattle.arj_protocol.specs.Tree.{is_open_branch, is_own, is_parent, is_spent, latest_first, listed_end}
 pub use Rattle.arj_protocol.specs.Tree.{new_tree, next_uid, no_family, open_below, path_below, root_of, set_place, uses_object, with_family}
 pub use Rattle.arj_protocol.specs.Values.{state_entry, value_in}
 pub use Rattle.arj_protocol.specs.Words.{Answer, Ask, Asked, Binding, Body, BoundReply, Cause, ConfirmedReply, End, Entry, Event, FrameNo}
@@ -153,10 +156,10 @@ pub use Rattle.arj_protocol.specs.World.{Arm, Cut, Frame, Giving, Labelled, Worl
 pub use Rattle.arj_protocol.specs.World.{change_frame, count_works, counted, cut, deliver, deliver_frame, disarmed, done_step, format}
 pub use Rattle.arj_protocol.specs.World.{world_from}
 pub use Rattle.arj_protocol.specs.World.{frame_number, frames_with, gives_label, giving, halted_at, halted_outs, happens, is_frame}
-pub use Rattle.arj_protocol.specs.World.{is_given, is_known, was_given, is_node, is_open_frame, is_quiet, is_serial_kind, is_up, is_up_at}
+pub use Rattle.arj_protocol.specs.World.{is_given, is_known, was_given, is_node, is_open_frame, is_quiet, is_up, is_up_at}
 pub use Rattle.arj_protocol.specs.World.{junk, junk_fits}
 pub use Rattle.arj_protocol.specs.World.{kind_below, labelled, labels_unless, lacks_labels, limited, lose, lose_frame, lowest, lowest_from}
-pub use Rattle.arj_protocol.specs.World.{most_frames, most_labels, new_frame, no_labels, node_in, node_numbers, node_of, numbered, put}
+pub use Rattle.arj_protocol.specs.World.{new_frame, no_labels, node_in, node_numbers, node_of, numbered, put}
 pub use Rattle.arj_protocol.specs.World.{quiesce, quiet_line, reasons, refused_at, run_all, run_event, run_unless, sends, sent_line}
 pub use Rattle.arj_protocol.specs.World.{set_node, settle, settle_for, show_all, show_up, step_node, step_with, steps, tick_all, tick_up}
 pub use Rattle.std.proofs.Common.{Bool, Contains, List, None, Option, Some, [], ap, append-nil, arith, cond, eq-eqb, eqb-true, false}

@@ -7,6 +7,7 @@ pub mod CallLocks
 pub mod CoordInputs
 pub mod Decided
 pub mod EndsHandled
+pub mod SureCalls
 pub mod EndsSaid
 pub mod EntryLocks
 pub mod Gone

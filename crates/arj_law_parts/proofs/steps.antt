@@ -3,6 +3,9 @@
 -- It stands on the definitions of `arj_protocol`.
 pub mod Frames
 pub mod Settled
+pub mod Still
+pub mod Shapes
+pub mod StepLines
 pub mod NoHalts
 pub mod Written
 pub mod Spoken

@@ -1,4 +1,5 @@
 pub mod Settles
 pub mod Halts
+pub mod Spoken
 pub mod Writes
 pub mod Named

@@ -7,11 +7,11 @@ use Words.{Cause, Label, ObjectState, Ask, Asked, uids_of, request, Reply, actor
 use Words.{last_req, root_heard, root_moved, root_lost, kept_at, end_line, commits_in, waits_for_call, waits_for_commit, is_invoke_ask}
 use Words.{Steps, At, CallStep, On, Ended, CallEnd, Lost, Moved, answered, given_up, next_node, next_ask, start, Plan, Machine, Stays, Asks}
 use Words.{Decides, Aborts, Marked, plan_of, left_of, ask_of, participants, has_record, servers_of, targets_of, nodes_given_up, further}
-use Words.{marks_store, with_states, is_empty, Coord, Doing, Now, Idle, Calling, Committing, Keeping, doing_of, on_doing, on_root, root_at}
+use Words.{marks_store, with_states, Coord, Doing, Now, Idle, Calling, Committing, Keeping, doing_of, on_doing, on_root, root_at}
 use Words.{keeping_of, is_free, nodes_sent, servers_told, plan_for, with_keeping, with_went, Effect, Say, Send, Do, PutIntent, RemoveIntent}
 use Words.{Intent, tell, up_to, is_deferred, ended, root_after, let_go, at_uid, has, put_uid, unbound, with_number, without_number}
-use Words.{without_uid, Input, branch_named, parent_of, Branch, branch_of, next_uid, ends_of, is_nested, is_serial, root_of, open_below}
-use Words.{uses_object, doomed_at}
+use Words.{without_uid, Input, branch_named, parent_of, Branch, branch_of, next_uid, ends_of, is_nested, root_of, open_below}
+use Words.{uses_object, doomed_at, is_serial, is_empty}
 use Words.body
 use Words.cause
 use Words.ending

@@ -8,13 +8,13 @@ use Words.{commit_action, waits_for_call, waits_for_commit, heard_none, heard_by
 use Words.{give_up, again_now, again_all, begin_action, is_invoke_ask, Steps, CallStep, On, Ended, CallEnd, Answered, Included, Conflict}
 use Words.{Changed, Lost, given_up, next_node, next_ask, start, Used, Plan, Machine, Voting, Preparing, Confirming, CommitStep, Stays, Asks}
 use Words.{Decides, Aborts, Marked, plan_of, left_of, participants, has_record, ask_of, servers_of, nodes_given_up, begin_confirm}
-use Words.{begin_prepare, begin_vote, further, stores_left, votes_left, marks_store, marks_stores, targets_of, with_states, is_empty, Coord}
+use Words.{begin_prepare, begin_vote, further, stores_left, votes_left, marks_store, marks_stores, targets_of, with_states, Coord}
 use Words.{Doing, Now, Idle, Calling, Committing, Went, doing_of, change_doing, set_doing, on_doing, on_root, root_at, nodes_sent}
 use Words.{servers_told, plan_for, with_went, Effect, Say, Do, PutIntent, Intent, Did, Served, says, say_for, tell, tell_all, up_to}
 use Words.{is_deferred, tolds_by, tolds_of_branch, tolds_of, ended, ends_with, aborts_with, all_aborted, abort_action, decided_told, decide}
 use Words.{acked, acked_by, acked_left, let_go, tolds_let_go, at_uid, has, put_uid, unbound, without_number, with_number, without_uid}
-use Words.{Input, acts, branch_named, on_branch, parent_of, Tree, Branch, branch_of, is_own, is_nested, is_serial, at_place, set_place}
-use Words.{ends_of, root_of, open_below, doomed_at, ended_at, ended_branch}
+use Words.{Input, acts, branch_named, on_branch, parent_of, Tree, Branch, branch_of, is_own, is_nested, at_place, set_place}
+use Words.{ends_of, root_of, open_below, doomed_at, ended_at, ended_branch, is_serial, is_empty}
 use Words.body
 use Words.cause
 use Words.ending

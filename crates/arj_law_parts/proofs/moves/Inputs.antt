@@ -5,20 +5,22 @@ use Words.{list_all, and_parts, Header, Label, Kind, Message, ObjectState, Uid, 
 use Words.{Prepare, Stop, Before, After, InPart, stopped, holder_of, held_at, again_all, begin_action, tick_outs, Parts, Handled, Void}
 use Words.{Took, taken, whole, with_coord, AreAll, Node, Input, Step, step, step_up, step_down, step_unless, refusal_at, frame_step}
 use Words.{handled_step, void_step, node_did, coord_did, restart_outs, parts_in, show_outs, show_entry, shown, entry_line, copy_line}
-use Words.{only_says, acts, parent_of, Labelled, is_serial_kind, all_both, taken_took, Seen}
+use Words.{only_says, acts, parent_of, Labelled, all_both, taken_took, is_serial}
 use Words.body
 use Words.input
-use Rattle.arj_law_parts.proofs.Terms.{In, at, up, down, with_node, said, Walks, Up, halted, KeepsFrom, MayGive, label_at}
+use Rattle.arj_law_parts.proofs.Terms.{In, MayGive, label_at}
 use Rattle.arj_law_parts.proofs.moves
 use moves.Flat.{Flat, Behind, within_same, flat_to}
 use moves.Rounds.{AreLooks, LooksAlone, taken_looks, taken_meant, whole_ended, Ended}
-use Rattle.arj_law_parts.specs.moves.{Keeps.AsksNode, Keeps.is_act, Seen.given, Seen.is_quiet_line}
+use Rattle.arj_law_parts.specs.moves.Keeps.{AsksNode, is_act}
+use Rattle.arj_law_parts.specs.moves.Moments.{Moment, asks_now, at, down, given, halted, said, taken_by, up, with_node}
+use Rattle.arj_law_parts.specs.moves.With.{Brings, IsFirst, KeepsWith, UpWith, WalksWith, is_plain_line}
 use Rattle.arj_protocol.specs.Step.{show_step, does_nothing, crash_step}
 
 -- looks at the disk, and lines at which no view looks
 abbrev is_still : Effect → Bool
 is_still (Do Look) = true
-is_still (Say b) = is_quiet_line b
+is_still (Say b) = is_plain_line b
 is_still _ = false
 
 looks_still : (outs : List Effect) → AreLooks outs → AreAll is_still outs
@@ -49,98 +51,111 @@ show_still k x d = all_both is_still (show_entry k x d.names) (shown (copy_line 
     by true = shown_still (entry_line x) entries (entry x) d.names (holder_of (entry x) d.names)
     by false = refl
 
-module _ (hd : Header) (P : Seen → Type 0) {F : Type 0} (keeps : KeepsFrom hd F P) (e k : ℕ) where
+module _ (hd : Header) (P : Moment → Type 0) {F : Type 0} (keeps : KeepsWith hd F P) (k : ℕ) where
   -- the relation holds after the step, and where a stop falls into it; the node keeps its number
-  abbrev pub Goes : Disk → Step → Seen → Type 0
+  abbrev pub Goes : Disk → Step → Moment → Type 0
   Goes d s M =
-      Flat P e k s.outs (λ c N. P (with_node k s.after N)) d M × Flat P e k s.halting (λ c N. P (halted e k c N)) d M × (s.after.number ≡ k)
+      Flat P k s.outs (λ c N. P (with_node k s.after N)) d M × Flat P k s.halting (λ c N. P (halted k c N)) d M × (s.after.number ≡ k)
 
-  still_flat : (outs : List Effect) (d : Disk) (live : Option Parts) (M : Seen) → AreAll is_still outs → P (at k d live M) →
-      Flat P e k outs (λ c N. (c ≡ d) × P (at k d live N)) d M
-  still_flat [] d live M still h = (M.sent, within_same M.sent, (refl, h))
+  still_flat : (outs : List Effect) (d : Disk) (live : Option Parts) (M : Moment) → AreAll is_still outs → P (at k d live M) →
+      Flat P k outs (λ c N. (c ≡ d) × P (at k d live N)) d M
+  still_flat [] d live M still h = (M.seen.sent, within_same M.seen.sent, (refl, h))
   still_flat (Do Look ∷ es) d live M still h = (stops, still_flat es d live M still h)
     where
-      stops : (how : Stop) → Behind (λ N. P (halted e k (stopped how Look d) N)) M
-      stops Before = (M.sent, within_same M.sent, keeps.stop e k d live M h)
-      stops After = (M.sent, within_same M.sent, keeps.stop e k d live M h)
-      stops (InPart which) = (M.sent, within_same M.sent, keeps.stop e k d live M h)
+      stops : (how : Stop) → Behind (λ N. P (halted k (stopped how Look d) N)) M
+      stops Before = (M.seen.sent, within_same M.seen.sent, keeps.stop k d live M h)
+      stops After = (M.seen.sent, within_same M.seen.sent, keeps.stop k d live M h)
+      stops (InPart which) = (M.seen.sent, within_same M.seen.sent, keeps.stop k d live M h)
   still_flat (Say b ∷ es) d live M still h =
-      let parts = and_parts (is_quiet_line b) (list_all is_still es) still in
-      still_flat es d live (said e (b ∷ []) M) parts.1 (keeps.quiet e (b ∷ []) (at k d live M) (rw parts.0 refl) h)
+      let parts = and_parts (is_plain_line b) (list_all is_still es) still in
+      still_flat es d live (said (b ∷ []) M) parts.1 (keeps.quiet (b ∷ []) (at k d live M) (rw parts.0 refl) h)
   still_flat (Send to m ∷ es) d live M still h = absurd (cc still)
   still_flat (Do (Prepare r u states) ∷ es) d live M still h = absurd (cc still)
   still_flat (Do w ∷ es) d live M still h = absurd (cc still)
 
   -- a step that leaves the node as it is
-  still_goes : (s : Step) (d : Disk) (live : Option Parts) (M : Seen) → s.after ≡ record { number = k; disk = d; live = live } →
+  still_goes : (s : Step) (d : Disk) (live : Option Parts) (M : Moment) → s.after ≡ record { number = k; disk = d; live = live } →
       AreAll is_still s.outs → AreAll is_still s.halting → P (at k d live M) → Goes d s M
   still_goes s d live M same outs halting h = (
-    flat_to P e k s.outs (λ c N. (c ≡ d) × P (at k d live N)) (λ c N. P (with_node k s.after N)) d M
+    flat_to P k s.outs (λ c N. (c ≡ d) × P (at k d live N)) (λ c N. P (with_node k s.after N)) d M
         (λ c N f. subst (λ n. P (with_node k n N)) (sym same) f.1) (still_flat s.outs d live M outs h),
-    flat_to P e k s.halting (λ c N. (c ≡ d) × P (at k d live N)) (λ c N. P (halted e k c N)) d M
-        (λ c N f. subst (λ x. P (halted e k x N)) (sym f.0) (keeps.stop e k d live N f.1)) (still_flat s.halting d live M halting h),
+    flat_to P k s.halting (λ c N. (c ≡ d) × P (at k d live N)) (λ c N. P (halted k c N)) d M
+        (λ c N f. subst (λ x. P (halted k x N)) (sym f.0) (keeps.stop k d live N f.1)) (still_flat s.halting d live M halting h),
     ap (λ (n : Node). n.number) same,
   )
 
-  void_goes : (f : ℕ) (outs : List Effect) (d : Disk) (live : Option Parts) (M : Seen) → AreLooks outs → P (at k d live M) →
+  void_goes : (f : ℕ) (outs : List Effect) (d : Disk) (live : Option Parts) (M : Moment) → AreLooks outs → P (at k d live M) →
       Goes d (void_step f (record { number = k; disk = d; live = live }) outs) M
   void_goes f outs d live M looks h = still_goes (void_step f (record { number = k; disk = d; live = live }) outs) d live M refl
       (all_both is_still outs (Say (body.Void f) ∷ []) (looks_still outs looks) refl) (looks_still outs looks) h
 
   -- a step that a handler walks through
-  did_goes : (live : Option Parts) (v : Parts) (outs : List Effect) (d : Disk) (M : Seen) → Walks P e k outs (Up P k v) d M →
+  did_goes : (live : Option Parts) (v : Parts) (outs : List Effect) (d : Disk) (M : Moment) → WalksWith P k outs (UpWith P k v) d M →
       Goes d (node_did (record { number = k; disk = d; live = live }) [] v outs) M
   did_goes live v outs d M w =
       let r = whole k v outs d in
-      let f = whole_ended hd P keeps e k v outs d M w in (
-        flat_to P e k r.outs (Ended hd P keeps e k r) (λ c N. P (up k r.here.disk r.here.parts N)) d M
+      let f = whole_ended hd P keeps k v outs d M w in (
+        flat_to P k r.outs (Ended hd P keeps k r) (λ c N. P (up k r.here.disk r.here.parts N)) d M
             (λ c N g. subst (λ x. P (up k x r.here.parts N)) g.0 g.2) f,
-        flat_to P e k r.outs (Ended hd P keeps e k r) (λ c N. P (halted e k c N)) d M (λ c N g. keeps.stop e k c (Some r.here.parts) N g.2)
+        flat_to P k r.outs (Ended hd P keeps k r) (λ c N. P (halted k c N)) d M (λ c N g. keeps.stop k c (Some r.here.parts) N g.2)
             f,
         refl,
       )
 
-  got_goes : (f : ℕ) (live : Option Parts) (v : Parts) (outs : List Effect) (d : Disk) (M : Seen) → Walks P e k outs (Up P k v) d
-      (said e (body.Got f ∷ []) M) → Goes d (node_did (record { number = k; disk = d; live = live }) (Say (body.Got f) ∷ []) v outs) M
-  got_goes f live v outs d M w = did_goes live v outs d (said e (body.Got f ∷ []) M) w
+  got_goes : (f : ℕ) (live : Option Parts) (v : Parts) (outs : List Effect) (d : Disk) (M : Moment) → WalksWith P k outs (UpWith P k v) d
+      (said (body.Got f ∷ []) M) → Goes d (node_did (record { number = k; disk = d; live = live }) (Say (body.Got f) ∷ []) v outs) M
+  got_goes f live v outs d M w = did_goes live v outs d (said (body.Got f ∷ []) M) w
 
-  frame_goes : (f from : ℕ) (m : Option Message) (d : Disk) (t : Parts) (M : Seen) →
-      IfSome m (λ x. In (record { from = from; to = k; message = x }) M.sent) → P (up k d t M)
+  frame_goes : (f from : ℕ) (m : Option Message) (d : Disk) (t : Parts) (M : Moment) →
+      IfSome m (λ x. In (record { from = from; to = k; message = x }) M.seen.sent) → P (up k d t M)
       → Goes d (frame_step f from (record { number = k; disk = d; live = Some t }) t m) M
   frame_goes f from None d t M sent h = void_goes f [] d (Some t) M refl h
   frame_goes f from (Some m) d t M sent h = by (taken k d t from m) (taken_looks k d t from m) refl
     where
-      got : P (up k d t (said e (body.Got f ∷ []) M))
-      got = keeps.quiet e (body.Got f ∷ []) (up k d t M) refl h
+      got : P (up k d t (said (body.Got f ∷ []) M))
+      got = keeps.quiet (body.Got f ∷ []) (up k d t M) refl h
 
       by : (a : Handled) → LooksAlone a → taken k d t from m ≡ a →
           Goes d (handled_step f (record { number = k; disk = d; live = Some t }) a) M
       by (Void outs) looks is = void_goes f outs d (Some t) M looks h
-      by (Took v outs) looks is = got_goes f (Some t) v outs d M (keeps.message e k d t v from m outs (said e (body.Got f ∷ []) M) got sent
+      by (Took v outs) looks is = got_goes f (Some t) v outs d M (keeps.message k d t v from m outs (said (body.Got f ∷ []) M) got sent
           (taken_meant k d t v from m outs is) (taken_took k d t v from m outs is))
 
-  crash_goes : (d : Disk) (t : Parts) (M : Seen) → P (up k d t M) → Goes d (crash_step (record { number = k; disk = d; live = Some t })) M
+  crash_goes : (d : Disk) (t : Parts) (M : Moment) → P (up k d t M) → Goes d (crash_step (record { number = k; disk = d; live = Some t })) M
   crash_goes d t M h =
-      let once : P (halted e k d M) = keeps.stop e k d (Some t) M h in
-      ((M.sent, within_same M.sent, once), (M.sent, within_same M.sent, keeps.stop e k d None (said e (body.Halted k ∷ []) M) once), refl)
+      let once : P (halted k d M) = keeps.stop k d (Some t) M h in (
+        (M.seen.sent, within_same M.seen.sent, once),
+        (
+          M.seen.sent,
+          within_same M.seen.sent,
+          keeps.stop k d None
+              (said (body.Halted k ∷ []) M) once,
+        ),
+        refl,
+      )
 
-  abbrev pub IsSentTo : Input → Seen → Type 0
-  IsSentTo (input.Frame f from m) M = IfSome m (λ x. In (record { from = from; to = k; message = x }) M.sent)
-  IsSentTo (input.Begin l how parent) M = ⊥
-  IsSentTo (input.Include l x s) M = AsksNode hd (input.Include l x s)
-  IsSentTo i M = ⊤
+  -- what an input rests on: a frame's message was sent, and the event brings what is asked of an action, before it has a line
+  abbrev pub MayCome : Input → Moment → Type 0
+  MayCome (input.Frame f from m) M = IfSome m (λ x. In (record { from = from; to = k; message = x }) M.seen.sent)
+  MayCome (input.Begin l how parent) M = ⊥
+  MayCome input.Tick M = ⊤
+  MayCome input.Restart M = ⊤
+  MayCome input.Crash M = ⊤
+  MayCome (input.Show x) M = ⊤
+  MayCome i M = Brings M.past.event i × IsFirst M × AsksNode hd i
 
-  act_goes : (i : Input) (d : Disk) (t : Parts) (M : Seen) → is_act i ≡ true → AsksNode hd i → input.refusal_up hd i t.coord ≡ None →
-      P (up k d t M) → Goes d (coord_did (record { number = k; disk = d; live = Some t }) t (acts i d.intents t.coord)) M
-  act_goes i d t M is asks free h = let a = acts i d.intents t.coord in
-      did_goes (Some t) (with_coord t a.part) a.outs d M (keeps.act e k d t i M is asks free h)
+  act_goes : (i : Input) (d : Disk) (t : Parts) (M : Moment) → is_act i ≡ true → Brings M.past.event i × IsFirst M × AsksNode hd i →
+      input.refusal_up hd i t.coord ≡ None → P (up k d t M)
+      → Goes d (coord_did (record { number = k; disk = d; live = Some t }) t (acts i d.intents t.coord)) (asks_now i t.coord M)
+  act_goes i d t M is comes free h = let a = acts i d.intents t.coord in
+      did_goes (Some t) (with_coord t a.part) a.outs d (asks_now i t.coord M) (keeps.act k d t i M is comes.0 comes.1 comes.2 free h)
 
-  up_goes : (i : Input) (d : Disk) (t : Parts) (M : Seen) → IsSentTo i M → input.refusal_up hd i t.coord ≡ None → P (up k d t M) →
-      Goes d (step_up i (record { number = k; disk = d; live = Some t }) t) M
+  up_goes : (i : Input) (d : Disk) (t : Parts) (M : Moment) → MayCome i M → input.refusal_up hd i t.coord ≡ None → P (up k d t M) →
+      Goes d (step_up i (record { number = k; disk = d; live = Some t }) t) (asks_now i t.coord M)
   up_goes (input.Frame f from m) d t M sent free h = frame_goes f from m d t M sent h
   up_goes input.Tick d t M sent free h =
       let n : Node = record { number = k; disk = d; live = Some t } in
-      did_goes (Some t) (with_coord t (again_all t.coord.doings t.coord).part) (tick_outs n t) d M (keeps.tick e k d t M h)
+      did_goes (Some t) (with_coord t (again_all t.coord.doings t.coord).part) (tick_outs n t) d M (keeps.tick k d t M h)
   up_goes input.Restart d t M sent free h =
       still_goes (does_nothing (record { number = k; disk = d; live = Some t })) d (Some t) M refl refl refl h
   up_goes input.Crash d t M sent free h = crash_goes d t M h
@@ -153,12 +168,13 @@ module _ (hd : Header) (P : Seen → Type 0) {F : Type 0} (keeps : KeepsFrom hd 
   up_goes (input.Abort l) d t M sent free h = act_goes (input.Abort l) d t M refl sent free h
   up_goes (input.GiveUp l) d t M sent free h = act_goes (input.GiveUp l) d t M refl sent free h
 
-  nothing_goes : (d : Disk) (M : Seen) → P (down k d M) → Goes d (does_nothing (record { number = k; disk = d; live = None })) M
+  nothing_goes : (d : Disk) (M : Moment) → P (down k d M) → Goes d (does_nothing (record { number = k; disk = d; live = None })) M
   nothing_goes d M h = still_goes (does_nothing (record { number = k; disk = d; live = None })) d None M refl refl refl h
 
-  down_goes : (i : Input) (d : Disk) (M : Seen) → P (down k d M) → Goes d (step_down hd i (record { number = k; disk = d; live = None })) M
+  down_goes : (i : Input) (d : Disk) (M : Moment) → P (down k d M) → Goes d
+      (step_down hd i (record { number = k; disk = d; live = None })) M
   down_goes (input.Frame f from m) d M h = void_goes f [] d None M refl h
-  down_goes input.Restart d M h = did_goes None (parts_in k (d.inc + 1) d) (restart_outs hd k (d.inc + 1) d) d M (keeps.restart e k d M h)
+  down_goes input.Restart d M h = did_goes None (parts_in k (d.inc + 1) d) (restart_outs hd k (d.inc + 1) d) d M (keeps.restart k d M h)
   down_goes input.Tick d M h = nothing_goes d M h
   down_goes input.Crash d M h = nothing_goes d M h
   down_goes (input.Show x) d M h = nothing_goes d M h
@@ -169,36 +185,42 @@ module _ (hd : Header) (P : Seen → Type 0) {F : Type 0} (keeps : KeepsFrom hd 
   down_goes (input.Abort l) d M h = nothing_goes d M h
   down_goes (input.GiveUp l) d M h = nothing_goes d M h
 
-  refused_goes : (c : ℕ) (d : Disk) (live : Option Parts) (M : Seen) → P (at k d live M) →
+  refused_goes : (c : ℕ) (d : Disk) (live : Option Parts) (M : Moment) → P (at k d live M) →
       Goes d (only_says (record { number = k; disk = d; live = live }) (body.Refused c)) M
   refused_goes c d live M h =
       still_goes (only_says (record { number = k; disk = d; live = live }) (body.Refused c)) d live M refl refl refl h
 
+  -- what is asked of an action is noted, where the node doesn't refuse it
+  abbrev pub noted : Input → Option Parts → Option ℕ → Moment → Moment
+  noted i live r M = record M { past = taken_by i live r M.past }
+
   -- any input but the beginning of an action
-  pub step_goes : (i : Input) (d : Disk) (live : Option Parts) (M : Seen) → IsSentTo i M → P (at k d live M) →
-      Goes d (step hd (record { number = k; disk = d; live = live }) i) M
+  pub step_goes : (i : Input) (d : Disk) (live : Option Parts) (M : Moment) → MayCome i M → P (at k d live M) →
+      Goes d (step hd (record { number = k; disk = d; live = live }) i) (noted i live (refusal_at hd i live) M)
   step_goes i d live M sent h = by (refusal_at hd i live) live refl sent h
     where
-      by : (r : Option ℕ) (live : Option Parts) → refusal_at hd i live ≡ r → IsSentTo i M → P (at k d live M) →
-          Goes d (step_unless hd i (record { number = k; disk = d; live = live }) r) M
-      by (Some c) live is sent h = refused_goes c d live M h
+      by : (r : Option ℕ) (live : Option Parts) → refusal_at hd i live ≡ r → MayCome i M → P (at k d live M) →
+          Goes d (step_unless hd i (record { number = k; disk = d; live = live }) r) (noted i live r M)
+      by (Some c) None is sent h = refused_goes c d None M h
+      by (Some c) (Some t) is sent h = refused_goes c d (Some t) M h
       by None None is sent h = down_goes i d M h
       by None (Some t) is sent h = up_goes i d t M sent is h
 
   -- where the node doesn't refuse, the label is given
-  abbrev pub unless_refused : Label → Labelled → Seen → Option ℕ → Seen
+  abbrev pub unless_refused : Label → Labelled → Moment → Option ℕ → Moment
   unless_refused l g M None = given l g M
   unless_refused l g M (Some c) = M
 
   -- the beginning of an action: where the node doesn't refuse, the label is given
-  pub begin_goes : (l : Label) (how : Kind) (parent : Option Label) (d : Disk) (live : Option Parts) (M : Seen)
-      → label_at l M.labels ≡ None → MayGive M.labels k how parent → P (at k d live M)
+  pub begin_goes : (l : Label) (how : Kind) (parent : Option Label) (d : Disk) (live : Option Parts) (M : Moment)
+      → Brings M.past.event (input.Begin l how parent) → IsFirst M → label_at l M.seen.labels ≡ None → MayGive M.seen.labels k how parent →
+      P (at k d live M)
       → (r : Option ℕ) → refusal_at hd (input.Begin l how parent) live ≡ r
       → Goes d (step_unless hd (input.Begin l how parent) (record { number = k; disk = d; live = live }) r)
-      (unless_refused l (record { node = k; serial = is_serial_kind how }) M r)
-  begin_goes l how parent d live M free gives h (Some c) is = refused_goes c d live M h
-  begin_goes l how parent d None M free gives h None is = absurd (cc is)
-  begin_goes l how parent d (Some t) M free gives h None is =
+      (unless_refused l (record { node = k; serial = is_serial how }) M r)
+  begin_goes l how parent d live M brings at_first free gives h (Some c) is = refused_goes c d live M h
+  begin_goes l how parent d None M brings at_first free gives h None is = absurd (cc is)
+  begin_goes l how parent d (Some t) M brings at_first free gives h None is =
       let a = begin_action l how parent (parent_of parent t.coord) t.coord in
-      let N : Seen = given l (record { node = k; serial = is_serial_kind how }) M in
-      did_goes (Some t) (with_coord t a.part) a.outs d N (keeps.begin e k d t l how parent M free gives is h)
+      let N : Moment = given l (record { node = k; serial = is_serial how }) M in
+      did_goes (Some t) (with_coord t a.part) a.outs d N (keeps.begin k d t l how parent M brings at_first free gives is h)

@@ -6,16 +6,17 @@ use Words.{After, InPart, Served, Prep, Ready, Already, Old, InDoubt, prepare_an
 use Words.{actor, last_end, Naming, confirm, Coord, heard, acked, Parts, Handled, Void, Took, Here, Ran, ran, ran_handled, handle_all}
 use Words.{next_round, rounds, whole, most_rounds, handle, is_meant, taken, handle_ask, handle_answer, handle_other, handle_ends}
 use Words.{coord_heard, by_reply, serve, served, sends_answer, if_naming, load_by, load_held, prepare_by, prepare_states, with_naming}
-use Words.{with_server, with_coord, Seen, taken_took}
+use Words.{with_server, with_coord, taken_took}
 use Words.ask
 use Words.message
 use Words.prepared
 use Words.server
 use Words.naming
-use Rattle.arj_law_parts.proofs.Terms.{In, at, up, Walks, Up, KeepsFrom}
+use Rattle.arj_law_parts.proofs.Terms.{In}
+use Rattle.arj_law_parts.specs.moves.Moments.{Moment, at, up}
 use Rattle.arj_law_parts.proofs.moves
 use moves.Flat.{Flat, With, Left, AreSent, within_same, are_sent, flat_to, flat_on, flat_keeps, walks_flat, ran_parts}
-use Rattle.arj_law_parts.specs.moves.Walks.{Stops}
+use Rattle.arj_law_parts.specs.moves.With.{KeepsWith, StopsWith, UpWith, WalksWith}
 use Rattle.arj_protocol.proofs.Taken.{taken_as}
 
 -- ---- what is void
@@ -140,57 +141,57 @@ taken_meant n d t v from m outs = by (is_meant t m)
 pub taken_looks : (n : ℕ) (d : Disk) (t : Parts) (from : ℕ) (m : Message) → LooksAlone (taken n d t from m)
 taken_looks n d t from m = taken_as LooksAlone n d t from m refl (handle_looks n d t from m)
 
-module _ (hd : Header) (P : Seen → Type 0) {F : Type 0} (keeps : KeepsFrom hd F P) (e k : ℕ) where
+module _ (hd : Header) (P : Moment → Type 0) {F : Type 0} (keeps : KeepsWith hd F P) (k : ℕ) where
   -- looks change nothing, and a stop at one is a stop
-  pub looks_walk : (outs : List Effect) (d : Disk) (live : Option Parts) (M : Seen) → AreLooks outs → P (at k d live M) →
-      Walks P e k outs (λ c N. P (at k c live N)) d M
+  pub looks_walk : (outs : List Effect) (d : Disk) (live : Option Parts) (M : Moment) → AreLooks outs → P (at k d live M) →
+      WalksWith P k outs (λ c N. P (at k c live N)) d M
   looks_walk [] d live M looks h = h
   looks_walk (Do Look ∷ es) d live M looks h = (stops, looks_walk es d live M looks h)
     where
-      stops : Stops P e k Look d M
-      stops Before = keeps.stop e k d live M h
-      stops After = keeps.stop e k d live M h
-      stops (InPart which) = keeps.stop e k d live M h
+      stops : StopsWith P k Look d M
+      stops Before = keeps.stop k d live M h
+      stops After = keeps.stop k d live M h
+      stops (InPart which) = keeps.stop k d live M h
   looks_walk (Do (Prepare r u states) ∷ es) d live M looks h = absurd (cc looks)
   looks_walk (Say b ∷ es) d live M looks h = absurd (cc looks)
   looks_walk (Send to m ∷ es) d live M looks h = absurd (cc looks)
   looks_walk (Do w ∷ es) d live M looks h = absurd (cc looks)
 
   -- the parts that a handled message leaves, and its effects
-  abbrev pub Handles : ℕ → Disk → Parts → Seen → Handled → Type 0
-  Handles from d t M (Void outs) = Walks P e k outs (Up P k t) d M
-  Handles from d t M (Took v outs) = Walks P e k outs (Up P k v) d M
+  abbrev pub Handles : ℕ → Disk → Parts → Moment → Handled → Type 0
+  Handles from d t M (Void outs) = WalksWith P k outs (UpWith P k t) d M
+  Handles from d t M (Took v outs) = WalksWith P k outs (UpWith P k v) d M
 
-  pub handled : (from : ℕ) (m : Message) (d : Disk) (t : Parts) (M : Seen) → P (up k d t M) →
-      In (record { from = from; to = k; message = m }) M.sent → Handles from d t M (taken k d t from m)
+  pub handled : (from : ℕ) (m : Message) (d : Disk) (t : Parts) (M : Moment) → P (up k d t M) →
+      In (record { from = from; to = k; message = m }) M.seen.sent → Handles from d t M (taken k d t from m)
   handled from m d t M h sent = by (taken k d t from m) refl (taken_looks k d t from m)
     where
       by : (a : Handled) → taken k d t from m ≡ a → LooksAlone a → Handles from d t M a
       by (Void outs) is looks = looks_walk outs d (Some t) M looks h
       by (Took v outs) is looks =
-          keeps.message e k d t v from m outs M h sent (taken_meant k d t v from m outs is) (taken_took k d t v from m outs is)
+          keeps.message k d t v from m outs M h sent (taken_meant k d t v from m outs is) (taken_took k d t v from m outs is)
 
   -- the node is up with what was left, and the relation holds
-  abbrev pub Ended : Ran → Disk → Seen → Type 0
-  Ended r = Left k r (Up P k r.here.parts)
+  abbrev pub Ended : Ran → Disk → Moment → Type 0
+  Ended r = Left k r (UpWith P k r.here.parts)
 
-  pub walk_ended : (v : Parts) (outs : List Effect) (d : Disk) (M : Seen) → Walks P e k outs (Up P k v) d M →
-      Flat P e k (ran k v outs d).outs (Ended (ran k v outs d)) d M
-  walk_ended v outs d M w = flat_to P e k (ran k v outs d).outs (Left k (ran k v outs d) (Up P k v)) (Ended (ran k v outs d)) d M
+  pub walk_ended : (v : Parts) (outs : List Effect) (d : Disk) (M : Moment) → WalksWith P k outs (UpWith P k v) d M →
+      Flat P k (ran k v outs d).outs (Ended (ran k v outs d)) d M
+  walk_ended v outs d M w = flat_to P k (ran k v outs d).outs (Left k (ran k v outs d) (UpWith P k v)) (Ended (ran k v outs d)) d M
       (λ c N h. (h.0, h.1, subst (λ p. P (up k c p N)) (sym (ran_parts k v outs d)) h.2))
-      (walks_flat P e k v outs (Up P k v) d M w)
+      (walks_flat P k v outs (UpWith P k v) d M w)
 
-  one_ended : (from : ℕ) (h : Here) (M : Seen) (a : Handled) → Handles from h.disk h.parts M a →
-      Flat P e k (ran_handled k h a).outs (Ended (ran_handled k h a)) h.disk M
+  one_ended : (from : ℕ) (h : Here) (M : Moment) (a : Handled) → Handles from h.disk h.parts M a →
+      Flat P k (ran_handled k h a).outs (Ended (ran_handled k h a)) h.disk M
   one_ended from h M (Void outs) w = walk_ended h.parts outs h.disk M w
   one_ended from h M (Took v outs) w = walk_ended v outs h.disk M w
 
-  pub all_ended : (ms : List Message) (h : Here) (M : Seen) → AreSent k ms M.sent → P (up k h.disk h.parts M) →
-      Flat P e k (handle_all k ms h).outs (Ended (handle_all k ms h)) h.disk M
-  all_ended [] h M sent holds = (M.sent, within_same M.sent, (refl, tt, holds))
+  pub all_ended : (ms : List Message) (h : Here) (M : Moment) → AreSent k ms M.seen.sent → P (up k h.disk h.parts M) →
+      Flat P k (handle_all k ms h).outs (Ended (handle_all k ms h)) h.disk M
+  all_ended [] h M sent holds = (M.seen.sent, within_same M.seen.sent, (refl, tt, holds))
   all_ended (m ∷ ms) h M sent holds =
-      flat_on P e k r.outs t.outs (With M.sent (Ended r)) (Ended (handle_all k (m ∷ ms) h)) h.disk M
-      (flat_keeps P e k M.sent r.outs (Ended r) h.disk M (within_same M.sent)
+      flat_on P k r.outs t.outs (With M.seen.sent (Ended r)) (Ended (handle_all k (m ∷ ms) h)) h.disk M
+      (flat_keeps P k M.seen.sent r.outs (Ended r) h.disk M (within_same M.seen.sent)
       (one_ended k h M (taken k h.disk h.parts k m) (handled k m h.disk h.parts M holds sent.0)))
       (rest (all_ended ms r.here))
     where
@@ -200,43 +201,43 @@ module _ (hd : Header) (P : Seen → Type 0) {F : Type 0} (keeps : KeepsFrom hd 
       t : Ran
       t = handle_all k ms r.here
 
-      both : (a b : List Message) (N : Seen) → AreSent k a N.sent → AreSent k b N.sent → AreSent k (a ++ b) N.sent
+      both : (a b : List Message) (N : Moment) → AreSent k a N.seen.sent → AreSent k b N.seen.sent → AreSent k (a ++ b) N.seen.sent
       both [] b N p q = q
       both (x ∷ xs) b N p q = (p.0, both xs b N p.1 q)
 
-      rest : ((N : Seen) → AreSent k ms N.sent → P (up k r.here.disk r.here.parts N) → Flat P e k t.outs (Ended t) r.here.disk N)
-          → (c : Disk) (N : Seen) → With M.sent (Ended r) c N → Flat P e k t.outs (Ended (handle_all k (m ∷ ms) h)) c N
+      rest : ((N : Moment) → AreSent k ms N.seen.sent → P (up k r.here.disk r.here.parts N) → Flat P k t.outs (Ended t) r.here.disk N)
+          → (c : Disk) (N : Moment) → With M.seen.sent (Ended r) c N → Flat P k t.outs (Ended (handle_all k (m ∷ ms) h)) c N
       rest ih c N f =
           let there : P (up k r.here.disk r.here.parts N) = subst (λ x. P (up k x r.here.parts N)) f.0.0 f.0.2 in
-          let more = ih N (are_sent k ms M.sent N.sent f.1 sent.1) there in
-          let kept = flat_keeps P e k N.sent t.outs (Ended t) r.here.disk N (within_same N.sent) more in
-          subst (λ x. Flat P e k t.outs (Ended (handle_all k (m ∷ ms) h)) x N) (sym f.0.0)
-          (flat_to P e k t.outs (With N.sent (Ended t)) (Ended (handle_all k (m ∷ ms) h)) r.here.disk N
-          (λ b L g. (g.0.0, both r.queue t.queue L (are_sent k r.queue N.sent L.sent g.1 f.0.1) g.0.1, g.0.2)) kept)
+          let more = ih N (are_sent k ms M.seen.sent N.seen.sent f.1 sent.1) there in
+          let kept = flat_keeps P k N.seen.sent t.outs (Ended t) r.here.disk N (within_same N.seen.sent) more in
+          subst (λ x. Flat P k t.outs (Ended (handle_all k (m ∷ ms) h)) x N) (sym f.0.0)
+          (flat_to P k t.outs (With N.seen.sent (Ended t)) (Ended (handle_all k (m ∷ ms) h)) r.here.disk N
+          (λ b L g. (g.0.0, both r.queue t.queue L (are_sent k r.queue N.seen.sent L.seen.sent g.1 f.0.1) g.0.1, g.0.2)) kept)
 
-  pub rounds_ended : (j : ℕ) (r : Ran) (d : Disk) (M : Seen) → Flat P e k r.outs (Ended r) d M →
-      Flat P e k (rounds k j r).outs (Ended (rounds k j r)) d M
+  pub rounds_ended : (j : ℕ) (r : Ran) (d : Disk) (M : Moment) → Flat P k r.outs (Ended r) d M →
+      Flat P k (rounds k j r).outs (Ended (rounds k j r)) d M
   rounds_ended zero r d M f = f
   rounds_ended (suc j) r d M f = by r.queue refl (rounds_ended j (next_round k r) d M)
     where
       t : Ran
       t = handle_all k r.queue r.here
 
-      next : Flat P e k (next_round k r).outs (Ended (next_round k r)) d M
-      next = flat_on P e k r.outs t.outs (Ended r) (Ended (next_round k r)) d M f
-          (λ c N g. subst (λ x. Flat P e k t.outs (Ended (next_round k r)) x N) (sym g.0)
+      next : Flat P k (next_round k r).outs (Ended (next_round k r)) d M
+      next = flat_on P k r.outs t.outs (Ended r) (Ended (next_round k r)) d M f
+          (λ c N g. subst (λ x. Flat P k t.outs (Ended (next_round k r)) x N) (sym g.0)
           (all_ended r.queue r.here N g.1 (subst (λ x. P (up k x r.here.parts N)) g.0 g.2)))
 
       one : List Message → Ran
       one q = elim q [ [] ↦ r | m ∷ ms ↦ rounds k j (next_round k r) ]
 
-      by : (q : List Message) → r.queue ≡ q → (Flat P e k (next_round k r).outs (Ended (next_round k r)) d M →
-          Flat P e k (rounds k j (next_round k r)).outs (Ended (rounds k j (next_round k r))) d M)
-          → Flat P e k (one q).outs (Ended (one q)) d M
+      by : (q : List Message) → r.queue ≡ q → (Flat P k (next_round k r).outs (Ended (next_round k r)) d M →
+          Flat P k (rounds k j (next_round k r)).outs (Ended (rounds k j (next_round k r))) d M)
+          → Flat P k (one q).outs (Ended (one q)) d M
       by [] is ih = f
       by (m ∷ ms) is ih = ih next
 
   -- what a handler walks through holds at the end of its whole step
-  pub whole_ended : (v : Parts) (outs : List Effect) (d : Disk) (M : Seen) → Walks P e k outs (Up P k v) d M →
-      Flat P e k (whole k v outs d).outs (Ended (whole k v outs d)) d M
+  pub whole_ended : (v : Parts) (outs : List Effect) (d : Disk) (M : Moment) → WalksWith P k outs (UpWith P k v) d M →
+      Flat P k (whole k v outs d).outs (Ended (whole k v outs d)) d M
   whole_ended v outs d M w = rounds_ended most_rounds (ran k v outs d) d M (walk_ended v outs d M w)

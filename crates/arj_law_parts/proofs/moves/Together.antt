@@ -1,6 +1,10 @@
 -- Relations together: where a node's effects are walked through with each of them, they are with all.
 use Rattle.arj_law_parts.proofs.Words.{ℕ, List, [], ◌∷◌, Disk, Effect, Say, Send, Do, worked, Seen}
 use Rattle.arj_law_parts.proofs.Terms.{said, posted, Walks}
+use Rattle.arj_law_parts.proofs.moves.Flat.{post}
+use Rattle.arj_law_parts.specs.moves.Moments as moments
+use Rattle.arj_law_parts.specs.moves.Moments.{Moment}
+use Rattle.arj_law_parts.specs.moves.With.{WalksWith}
 
 -- two relations
 pub walks_both : (P Q : Seen → Type 0) (e k : ℕ) (es : List Effect) (f g : Disk → Seen → Type 0) (d : Disk) (M : Seen) →
@@ -33,3 +37,11 @@ walks_each P e k (Send to m ∷ es) f d M each =
 pub walks_where : (A : Type 0) (P : Seen → Type 0) (e k : ℕ) (es : List Effect) (f : Disk → Seen → Type 0) (d : Disk) (M : Seen) →
     (A → Walks P e k es f d M) → Walks (λ N. A → P N) e k es (λ c N. A → f c N) d M
 walks_where A P e k es f d M each = walks_each {A = A} (λ x. P) e k es (λ x. f) d M each
+
+-- two relations with a history
+pub with_both : (P Q : Moment → Type 0) (k : ℕ) (es : List Effect) (f g : Disk → Moment → Type 0) (d : Disk) (M : Moment) →
+    WalksWith P k es f d M → WalksWith Q k es g d M → WalksWith (λ N. P N × Q N) k es (λ c N. f c N × g c N) d M
+with_both P Q k [] f g d M a b = (a, b)
+with_both P Q k (Do w ∷ es) f g d M a b = (λ how. (a.0 how, b.0 how), with_both P Q k es f g (worked w d) M a.1 b.1)
+with_both P Q k (Say l ∷ es) f g d M a b = with_both P Q k es f g d (moments.said (l ∷ []) M) a b
+with_both P Q k (Send to m ∷ es) f g d M a b = with_both P Q k es f g d (moments.sent (post k to m) M) a b

@@ -20,7 +20,8 @@ use Words.server
 use Rattle.arj_law_parts.proofs.Terms.{Action, IsGoodCoord, Paths, IsTree, AllSayEnds, AreOfCommits, IsSure, SaysEndsIn, IsDecided}
 use Rattle.arj_law_parts.proofs.parts
 use parts.{Decided.stand_acked, Decided.stand_heard}
-use parts.EndsSaid.{none_in, sure_acked, sure_heard, sure_query}
+use parts.EndsSaid.{sure_acked, sure_heard, sure_query}
+use parts.SureCalls.{none_in}
 use parts.SaidIncs.{all_both, all_map, all_quiet}
 use Rattle.arj_law_parts.specs.parts.Ends.{Decides, IsOfCommit, IsSurelyHandled}
 

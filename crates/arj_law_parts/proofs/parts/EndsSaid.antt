@@ -1,217 +1,44 @@
 -- What a coordinator lists and tells of ends is as they were decided.
 use Rattle.arj_law_parts.proofs.Words
-use Words.{◌≡◌, ◌≢◌, ◌<◌, ◌+◌, ◌==◌, ℕ, zero, suc, List, [], ◌∷◌, ◌++◌, Bool, true, false, cond, not, ◌&&◌, ◌||◌, map, Option, Some, None}
-use Words.{Contains, refl, sym, ◌∙◌, ap, subst, inl, inr, ⊎_elim, arith, is_some, flat_map, and_parts, or_parts, uid_cases, In, in_from}
-use Words.{in_to, Uid, End, Kind, Path, Op, Body, Label, Ask, Asked, Head, Header, Message, request, uid_eq, Reply, actor, begin_action}
-use Words.{asks_node, asks_all, asks_step, goes_on, call, call_steps, renewed, include, next_req, doomed_by, root_heard, root_moved}
+use Words.{ℕ, ◌≡◌, ◌≢◌, ◌<◌, ◌+◌, ◌==◌, zero, suc, List, [], ◌∷◌, ◌++◌, Bool, true, false, cond, not, ◌&&◌, ◌||◌, map, Option, Some, None}
+use Words.{Contains, refl, sym, ◌∙◌, ap, subst, inl, inr, ⊎_elim, arith, is_some, and_parts, or_parts, uid_cases, In, in_from}
+use Words.{in_to, Uid, End, Kind, Path, Body, Label, Ask, Asked, Header, Message, request, uid_eq, Reply, actor, begin_action}
+use Words.{asks_node, asks_all, call, include, root_moved}
 use Words.{kept_at, step_call, heard_call, mark_lines, commits_in, asks_machine, step_commit, moved_commit, commit_top, commit_open}
 use Words.{commit_action, last_req, heard_now, heard_doing, heard, heard_by, heard_none, waits_for_call, waits_for_commit, gaveup_lines}
-use Words.{root_lost, gives_up, give_up_doing, give_up, again_now, again_all, Steps, At, AtBind, AtLoad, AtActivate, AtNote, AtInvoke}
-use Words.{CallStep, On, Ended, CallEnd, Answered, Included, Conflict, Changed, Lost, Moved, answered, given_up, next_node, ask_at, start}
+use Words.{root_lost, gives_up, give_up_doing, give_up, again_now, again_all}
+use Words.{Ended, Moved, answered, given_up, next_node, start}
 use Words.{Plan, Machine, Voting, Preparing, Confirming, CommitStep, Stays, Asks, Decides, Aborts, plan_of, participants, has_record}
 use Words.{ask_of, servers_of, nodes_given_up, Coord, new_coord, Doing, Now, Idle, Calling, Committing, doing_of, set_doing, change_doing}
-use Words.{on_doing, on_root, root_at, keeping_of, is_free, is_kept_top, is_constituent_branch, plan_for, with_keeping, Effect, Do}
-use Words.{PutIntent, Did, Intent, Served, says, say_for, tell, tell_all, up_to, tolds_by, tolds_of_branch, tolds_of, ended, ends_with}
+use Words.{on_doing, on_root, root_at, is_free, is_kept_top, is_constituent_branch, plan_for, Do}
+use Words.{PutIntent, Did, Intent, Served, says, tell, tell_all, up_to, tolds_by, tolds_of_branch, tolds_of, ended, ends_with}
 use Words.{aborts_with, all_aborted, abort_action, decided_told, decide, root_after, acked, acked_by, acked_left, tolds_let_go, let_go}
 use Words.{is_deferred, is_kept_commit, root_or_self, took_part, answer_decided, answer_recorded, answer_query, at_uid, has, put_uid}
-use Words.{unbound, without_number, without_uid, Input, acts, branch_named, on_branch, parent_of, refusal_up, refused_by, commit_reasons}
+use Words.{without_number, without_uid, Input, acts, branch_named, on_branch, parent_of, refusal_up, refused_by, commit_reasons}
 use Words.{abort_reasons, tolds_again, Tree, Branch, branch_of, ends_of, is_own, at_place, next_uid, path_below, root_of, has_open_child}
-use Words.{open_below, uses_object, doomed_at, ended_at, ended_branch, is_open, is_open_branch, is_committed, ended_so, has_end}
-use Words.ask
+use Words.{open_below, ended_at, ended_branch, is_open, is_open_branch, is_committed, ended_so, has_end}
 use Words.ending
 use Words.kind
 use Words.body
 use Words.cause
-use Words.calls
 use Words.commit
 use Words.input
 use Rattle.arj_law_parts.proofs.Terms
-use Terms.{is_over, Action, AreCounted, IsVoting, IsBusy, IsOver, IsGoodCoord, Paths, IsTree, AllSayEnds, AreOfCommits, IsSure, SaysEndsIn}
+use Terms.{is_over, Action, AreCounted, IsVoting, IsBusy, IsGoodCoord, Paths, IsTree, AllSayEnds, AreOfCommits, IsSure, SaysEndsIn}
 use Terms.{AreOfTops, IsDecided}
 use Rattle.arj_law_parts.proofs.parts
 use parts.{Keys.at_in, Sends.again_tree, Sends.asks_all_tree, Truths.put_in, Truths.well_abort}
 use parts.CoordInputs.{named_found, off, off_third}
-use parts.Decided.{Stand, stand_abort, stand_begins, stand_by, stand_ended, stand_same, voting_open}
-use parts.GoodCoords.{IsStepOf, actor_is, answer_step, doomed_same, giveup_step, on_tree, uses_same, vote_step, voting_at}
+use parts.Decided.{Stand, stand_abort, stand_begins, stand_ended, voting_open}
+use parts.GoodCoords.{IsStepOf, actor_is, answer_step, giveup_step, on_tree, vote_step, voting_at}
 use parts.GoodTrees.{all_left, aborted_tree, at_u, ended_b, get_more, placed}
 use parts.Settled.{doing_other, doing_put, end_tree_on}
 use parts.TrueSteps.{not_own, top_in, without_in}
-use Rattle.arj_law_parts.specs.parts.Ends.{AreDecided, IsSaidSo, IsToldSo, SaysEnds, ask_ends}
-
--- ---- from one coordinator to the next
-
-lists_on : (t v : Tree) → Stand t v → ((r : Uid) → AreDecided (ends_of r t) t) → (r : Uid) → AreDecided (ends_of r v) v
-lists_on t v s lists r u e i =
-    ⊎_elim (λ old. s.ends u e (lists r u e (in_to (u, e) (ends_of r t) old))) (λ new. new) (s.listed r u e (in_from (u, e) (ends_of r v) i))
-
-sure_on : (c e : Coord) → Stand c.tree e.tree → ((u : Uid) → is_own u e.tree ≡ is_own u c.tree) → e.doings ≡ c.doings →
-    e.telling ≡ c.telling → IsSure c → IsSure e
-sure_on c e s own doings telling sure = record {
-  lists = lists_on c.tree e.tree s sure.lists;
-  plans = λ u d m found is w x i. s.ends w x (sure.plans u d m (sym (same_doing u) ∙ found) is w x i);
-  records = λ u i k its. s.ends u ending.Commit (sure.records u i (subst (λ m. Contains m (u, i)) telling k) (sym (own u) ∙ its));
-}
-  where
-    same_doing : (u : Uid) → doing_of u e ≡ doing_of u c
-    same_doing u = λ i. cond (own u i) (at_place u.num (doings i)) None
-
--- of the same tree
-sure_same : (c e : Coord) → e.tree ≡ c.tree → e.doings ≡ c.doings → e.telling ≡ c.telling → IsSure c → IsSure e
-sure_same c e tree doings telling sure = sure_on c e (stand_by c.tree e.tree (sym tree)) (λ u. ap (is_own u) tree) doings telling sure
-
-some_is : {A : Type 0} (a b : A) → Some a ≡ Some b → a ≡ b
-some_is {A} a b is = let k : ◌≡◌ {A = Option A} (Some a) (Some b) = is in cc
-
-idle_not : {P : Type 0} (m : Machine) → Idle ≡ Committing m → P
-idle_not m is = let no_way : ◌≡◌ {A = Now} Idle (Committing m) = is in cc
-
--- an action at work changes
-sure_do : (u : Uid) (f : Doing → Doing) (c : Coord) → ((d : Doing) (m : Machine) → doing_of u c ≡ Some d → (f d).now ≡ Committing m →
-    AreDecided (let p = plan_of m in p.ends) c.tree) → IsSure c → IsSure (on_doing u f c)
-sure_do u f c so sure = by (doing_of u c) refl
-  where
-    by : (o : Option Doing) → doing_of u c ≡ o → IsSure (change_doing f u c o)
-    by None none = sure
-    by (Some old) found = record {
-      lists = sure.lists;
-      plans = λ w d m at is. ⊎_elim (λ same. its d m (sym (doing_put u (f old) old c found) ∙ ap (λ v. doing_of v (set_doing u (f old) c))
-          (sym same) ∙ at) is) (λ other. sure.plans w d m (sym (doing_other u w (f old) old c found other) ∙ at) is) (uid_cases w u);
-      records = sure.records;
-    }
-      where
-        its : (d : Doing) (m : Machine) → Some (f old) ≡ Some d → d.now ≡ Committing m → AreDecided (let p = plan_of m in p.ends) c.tree
-        its d m same is = so old m found (ap (λ (x : Doing). x.now) (some_is (f old) d same) ∙ is)
-
--- ---- effects
-
-decided_so : (u : Uid) (e : End) (t : Tree) → IsDecided u e t → IsToldSo u e t
-decided_so u ending.Commit t d = λ own. d
-decided_so u ending.Abort t d = λ b found. ap (λ (x : Branch). is_some x.ended) (some_is b d.0 (sym found ∙ d.1)) ∙ ap is_some d.2
-
-over_so : (u : Uid) (t : Tree) → IsOver u t → IsToldSo u ending.Abort t
-over_so u t o = λ b found. ap (λ (x : Branch). is_some x.ended) (some_is b o.0 (sym found ∙ o.1)) ∙ o.2
-
-one_so : (u : Uid) (e : End) (t : Tree) → IsToldSo u e t → (w : Uid) (f : End) → Contains {X = Uid × End} ((u, e) ∷ []) (w, f) →
-    IsToldSo w f t
-one_so u e t so w f i = by (in_from (w, f) ((u, e) ∷ []) i)
-  where
-    by : In {X = Uid × End} (w, f) ((u, e) ∷ []) → IsToldSo w f t
-    by (inl same) = subst (λ (x : Uid × End). IsToldSo x.0 x.1 t) same so
-    by (inr none) = absurd none
-
-up_to_in : (u : Uid) (x : Uid × End) (es : List (Uid × End)) → In x (up_to u es) → In x es
-up_to_in u x [] i = i
-up_to_in u x (e ∷ es) i = by (uid_eq e.0 u) (up_to_in u x es) i
-  where
-    by : (b : Bool) → (In x (up_to u es) → In x es) → In x (cond b (e ∷ []) (e ∷ up_to u es)) → In x (e ∷ es)
-    by true ih (inl same) = inl same
-    by true ih (inr none) = absurd none
-    by false ih (inl same) = inl same
-    by false ih (inr j) = inr (ih j)
-
-pub none_in : {P : Type 0} (u : Uid) (e : End) → Contains {X = Uid × End} [] (u, e) → P
-none_in u e i = absurd (in_from (u, e) [] i)
-
-module _ (t : Tree) where
-  says_both : (es fs : List Effect) → AllSayEnds t es → AllSayEnds t fs → AllSayEnds t (es ++ fs)
-  says_both [] fs a b = b
-  says_both (e ∷ es) fs a b = (a.0, says_both es fs a.1 b)
-
-  says_map : {A : Type 0} (f : A → Effect) (items : List A) → ((x : A) → In x items → SaysEndsIn t (f x)) → AllSayEnds t (map f items)
-  says_map f [] each = tt
-  says_map f (x ∷ xs) each = (each x (inl refl), says_map f xs (λ y i. each y (inr i)))
-
-  says_flat : {A : Type 0} (f : A → List Effect) (items : List A) → ((x : A) → In x items → AllSayEnds t (f x)) →
-      AllSayEnds t (flat_map f items)
-  says_flat f [] each = tt
-  says_flat f (x ∷ xs) each = says_both (f x) (flat_map f xs) (each x (inl refl)) (says_flat f xs (λ y i. each y (inr i)))
-
-  says_lines : (u : Uid) (f : Label → Body) (d : Coord) → AllSayEnds t (says u f d)
-  says_lines u f d = by (doing_of u d)
-    where
-      by : (o : Option Doing) → AllSayEnds t (say_for f o)
-      by None = tt
-      by (Some x) = (tt, tt)
-
-  says_tells : (root : Uid) (ack : Bool) (ends : List (Uid × End)) (nodes : List ℕ) →
-      ((u : Uid) (e : End) → Contains ends (u, e) → IsToldSo u e t) → AllSayEnds t (tell_all root ack ends nodes)
-  says_tells root ack ends nodes each =
-      says_map (tell root ack ends) nodes (λ n i. record { brings = λ u e k. none_in u e k; tells = each })
-
-  says_request : (h : Head) (a : Ask) → AreDecided (ask_ends a) t → SaysEnds t (request h a)
-  says_request h (ask.Bind x i avoid) so = record { brings = λ u e k. so u e k; tells = λ u e k. none_in u e k }
-  says_request h (ask.Load x) so = record { brings = λ u e k. so u e k; tells = λ u e k. none_in u e k }
-  says_request h (ask.Activate b st) so = record { brings = λ u e k. so u e k; tells = λ u e k. none_in u e k }
-  says_request h (ask.Record x b i g) so = record { brings = λ u e k. so u e k; tells = λ u e k. none_in u e k }
-  says_request h (ask.Invoke x b i ends o) so = record { brings = λ u e k. so u e k; tells = λ u e k. none_in u e k }
-  says_request h (ask.Vote i ties ends) so = record { brings = λ u e k. so u e k; tells = λ u e k. none_in u e k }
-  says_request h (ask.Prepare states) so = record { brings = λ u e k. so u e k; tells = λ u e k. none_in u e k }
-  says_request h (ask.Confirm g e i) so = record { brings = λ u e k. so u e k; tells = λ u e k. none_in u e k }
-
--- the coordinator stays sure, and what it says of ends is so
-abbrev pub IsSureDid : Did Coord → Type 0
-IsSureDid d = IsSure d.part × AllSayEnds (let c = d.part in c.tree) d.outs
-
--- ---- calls
-
-says_step : (s : Steps) (c : Coord) → ((r : Uid) → AreDecided (ends_of r c.tree) c.tree) → AllSayEnds c.tree (asks_step s c).outs
-says_step s c lists =
-    (says_request c.tree (record { path = s.path; req = s.req }) (ask_at s.x s.goal (ends_of (root_of s.path) c.tree) s.at) (by s.at), tt)
-  where
-    by : (a : At) → AreDecided (ask_ends (ask_at s.x s.goal (ends_of (root_of s.path) c.tree) a)) c.tree
-    by (AtBind avoid) u e i = none_in u e i
-    by (AtLoad k n rest) u e i = none_in u e i
-    by (AtActivate k st) u e i = none_in u e i
-    by (AtNote k j) u e i = none_in u e i
-    by (AtInvoke k j) u e i = lists (root_of s.path) u e i
-
-sure_step : (s : Steps) (c : Coord) → IsSure c → IsSureDid (asks_step s c)
-sure_step s c sure = (sure_same c (asks_step s c).part refl refl refl sure, says_step s c sure.lists)
-
-sure_goes : (s : Steps) (c : Coord) → IsSure c → IsSureDid (goes_on s c)
-sure_goes s c sure = sure_step s (on_doing (actor s.path) (λ (d : Doing). record d { req = s.req; now = Calling s }) c)
-    (sure_do (actor s.path) (λ (d : Doing). record d { req = s.req; now = Calling s }) c
-    (λ d m f is. let no_way : ◌≡◌ {A = Now} (Calling s) (Committing m) = is in cc) sure)
-
-sure_uses : (p : Path) (x : ℕ) (c : Coord) → IsSure c → IsSure (record c { tree = uses_object p x c.tree })
-sure_uses p x c sure = let q = uses_same p x c.tree in
-    sure_on c (record c { tree = uses_object p x c.tree }) (stand_same c.tree (uses_object p x c.tree) q) q.own refl refl sure
-
-sure_call : (p : Path) (x : ℕ) (o : Op) (c : Coord) → IsSure c → IsSureDid (call p x o c)
-sure_call p x o c sure =
-    let r = root_at (root_of p) c in
-    let old = keeping_of x r in
-    let k = renewed (is_free (root_of p) (actor p) x c) old old.kept in
-    let u : Coord = record c { tree = uses_object p x c.tree } in
-    let t : Coord = on_root (root_of p) (with_keeping x k) u in
-    sure_goes (call_steps p x o (next_req (actor p) c) r c k) t (sure_same u t refl refl refl (sure_uses p x c sure))
-
-sure_include : (p : Path) (x s : ℕ) (c : Coord) → IsSure c → IsSureDid (include p x s c)
-sure_include p x s c sure = sure_goes (start p x (calls.Include s) None unbound (next_req (actor p) c))
-    (record c { tree = uses_object p x c.tree }) (sure_uses p x c sure)
-
-sure_idle : (u : Uid) (c : Coord) → IsSure c → IsSure (on_doing u (λ (d : Doing). record d { now = Idle }) c)
-sure_idle u c sure = sure_do u (λ (d : Doing). record d { now = Idle }) c (λ d m f is. idle_not m is) sure
-
-sure_step_call : (s : Steps) (t : CallStep) (c : Coord) → IsSure c → IsSureDid (step_call s t c)
-sure_step_call s (On at) c sure = sure_goes (record s { req = s.req + 1; at = at }) c sure
-sure_step_call s (Ended e) c sure = (by e, says_lines (let d = step_call s (Ended e) c in let q = d.part in q.tree) (actor s.path) _ c)
-  where
-    idle : Coord
-    idle = on_root (root_of s.path) (root_heard s e) (on_doing (actor s.path) (λ (d : Doing). record d { now = Idle }) c)
-
-    its : IsSure idle
-    its = let m : Coord = on_doing (actor s.path) (λ (d : Doing). record d { now = Idle }) c in
-        sure_same m idle refl refl refl (sure_idle (actor s.path) c sure)
-
-    by : (g : CallEnd) → IsSure (doomed_by (actor s.path) g idle)
-    by (Answered a) = its
-    by (Included st) = its
-    by (Conflict h m n) = its
-    by (Changed n w) = its
-    by (Lost n false) = its
-    by (Lost n true) = let q = doomed_same (actor s.path) idle.tree in sure_on idle (record idle
-        { tree = doomed_at (actor s.path) idle.tree }) (stand_same idle.tree (doomed_at (actor s.path) idle.tree) q) q.own refl refl its
+use Rattle.arj_law_parts.specs.parts.Ends.{AreDecided, IsSaidSo, IsToldSo, SaysEnds}
+use Rattle.arj_protocol.specs.Follow.{ends_in}
+use Rattle.arj_law_parts.proofs.parts.SureCalls.{lists_on, sure_on, sure_same, some_is, idle_not, sure_do, decided_so, over_so, one_so}
+use Rattle.arj_law_parts.proofs.parts.SureCalls.{up_to_in, none_in, says_both, says_map, says_flat, says_lines, says_tells}
+use Rattle.arj_law_parts.proofs.parts.SureCalls.{says_request, IsSureDid, sure_step, sure_call, sure_include, sure_idle, sure_step_call}
 
 -- ---- ends
 
@@ -419,7 +246,7 @@ module _ (actions : List Action) (paths : Paths) (tree : IsTree paths) where
   -- ---- commits
 
   asks_sure : (p : Path) (req : ℕ) (as_asked : List (ℕ × Ask)) (c : Coord) → IsSure c →
-      ((a : ℕ × Ask) → In a as_asked → AreDecided (ask_ends a.1) c.tree) → IsSureDid (asks_all p req as_asked c)
+      ((a : ℕ × Ask) → In a as_asked → AreDecided (ends_in a.1) c.tree) → IsSureDid (asks_all p req as_asked c)
   asks_sure p req [] c sure each = (sure, tt)
   asks_sure p req (a ∷ rest) c sure each =
       let d = asks_node p req a c in
@@ -436,14 +263,14 @@ module _ (actions : List Action) (paths : Paths) (tree : IsTree paths) where
   asks_machine_sure m c sure so =
       asks_sure (plan_of m).path (plan_of m).req (commit.waiting m) c sure (λ a i. waiting (commit.left_of m) a i)
     where
-      by : (q : Machine) (n : ℕ) → AreDecided (let p = plan_of q in p.ends) c.tree → AreDecided (ask_ends (ask_of q n)) c.tree
+      by : (q : Machine) (n : ℕ) → AreDecided (let p = plan_of q in p.ends) c.tree → AreDecided (ends_in (ask_of q n)) c.tree
       by (Voting p left) n s u e i = s u e i
       by (Preparing p left) n s u e i = none_in u e i
       by (Confirming p) n s u e i = none_in u e i
 
-      waiting : (ns : List ℕ) (a : ℕ × Ask) → In a (map {A = ℕ} {B = ℕ × Ask} (λ n. (n, ask_of m n)) ns) → AreDecided (ask_ends a.1) c.tree
+      waiting : (ns : List ℕ) (a : ℕ × Ask) → In a (map {A = ℕ} {B = ℕ × Ask} (λ n. (n, ask_of m n)) ns) → AreDecided (ends_in a.1) c.tree
       waiting [] a i = absurd i
-      waiting (n ∷ ns) a (inl same) = subst (λ (b : ℕ × Ask). AreDecided (ask_ends b.1) c.tree) same (by m n so)
+      waiting (n ∷ ns) a (inl same) = subst (λ (b : ℕ × Ask). AreDecided (ends_in b.1) c.tree) same (by m n so)
       waiting (n ∷ ns) a (inr i) = waiting ns a i
 
   commits_sure : (u : Uid) (m : Machine) (c : Coord) → AreDecided (let p = plan_of m in p.ends) c.tree → IsSure c →

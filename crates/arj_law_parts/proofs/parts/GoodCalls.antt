@@ -5,8 +5,8 @@ use Words.{subst, ⊎_elim, arith, is_some, list_any, nat_cmp, is_eq, or_parts, 
 use Words.{Binding, Path, Mode, Entry, Row, ObjectState, BoundReply, RecordedReply, entry, is_on, uid_eq, lower_row, top_path, top_of}
 use Words.{Effect, Say, Served, Pair, reply, void, Named, Counted, Live, Made, entry_row, conflict_on, locked, lock_lines, bound_new}
 use Words.{bind_made, live_asked, make_asked, include_asked, bind_call, bind_named, live_above, made_above, next_server, is_lowered}
-use Words.{lowered, lower_lines, in_use, note_made, note_other, note_named, is_binding, hello_named, Naming, bind, note, hello, on_counted}
-use Words.{on_named, is_over, listed_entry, at_number, put_number, at_uid, binding_eq, put_same, put_other, one_or_two}
+use Words.{lowered, lower_lines, in_use, note_made, note_other, note_named, hello_named, Naming, bind, note, hello, on_counted}
+use Words.{on_named, is_over, listed_entry, at_number, put_number, at_uid, binding_eq, put_same, put_other, one_or_two, is_binding}
 use Words.mode
 use Words.bound
 use Words.body

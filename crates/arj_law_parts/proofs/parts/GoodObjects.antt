@@ -5,8 +5,8 @@ use Words.{sym, ◌∙◌, ap, subst, inl, inr, ⊎_elim, arith, list_any, or_le
 use Words.{Uid, Binding, Path, Mode, Entry, End, Row, BoundReply, RecordedReply, entry, last_uid, is_on, lower_row, uid_eq, at_uid}
 use Words.{without_uid, with_uid, drop_uid, binding_less, binding_eq, Served, reply, void, top_path, top_of, Named, Counted, Live, Made}
 use Words.{entry_row, conflict_on, locked, bound_new, bind_made, live_asked, make_asked, include_asked, bind_call, bind_named, live_above}
-use Words.{made_above, next_server, is_lowered, lowered, lower_lines, in_use, note_made, note_other, note_named, is_binding, is_write_row}
-use Words.{end_named, live_after, hello_named, unnamed}
+use Words.{made_above, next_server, is_lowered, lowered, lower_lines, in_use, note_made, note_other, note_named, is_write_row}
+use Words.{end_named, live_after, hello_named, unnamed, is_binding}
 use Words.mode
 use Words.ending
 use Words.recorded

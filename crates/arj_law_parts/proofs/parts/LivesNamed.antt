@@ -6,10 +6,10 @@ use Words.{uid_order, is_on, Uid, Binding, End, Entry, ObjectState, Path, Row, B
 use Words.{top_of, Grants, Marks, checked, confirm, confirm_entries, confirm_new, confirms, entries_after, has_all, lock_all, lock_in}
 use Words.{named_back, prepared_by, recovered_naming, wanted, Did, Pair, Prep, Ready, Already, Old, InDoubt, Served, did_nothing}
 use Words.{is_prepared, prepare_answer, reply, void, Counted, lower_lines, Live, Made, Named, bind_call, bind_made, bind_named, conflict_on}
-use Words.{end_named, hello_named, in_use, include_asked, is_binding, is_lowered, live_above, live_after, live_asked, locked, lowered}
+use Words.{end_named, hello_named, in_use, include_asked, is_lowered, live_above, live_after, live_asked, locked, lowered}
 use Words.{made_above, make_asked, next_server, note_made, note_named, note_other, Naming, bind, hello, is_over, listed_entry, note}
 use Words.{on_counted, on_named, taken_end, told_new, at_number, at_uid, binding_eq, binding_less, binding_number, each, put_number}
-use Words.{put_uid, without_uid}
+use Words.{put_uid, without_uid, is_binding}
 use Words.bound
 use Words.confirmed
 use Words.ending

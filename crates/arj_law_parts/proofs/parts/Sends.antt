@@ -14,7 +14,7 @@ use Words.{is_deferred, tolds_by, tolds_of_branch, tolds_of, ended, ends_with, a
 use Words.{record_work, decide, let_go, tolds_let_go, acked_left, acked_by, acked, root_or_self, took_part, is_kept_commit, answer_decided}
 use Words.{answer_recorded, answer_query, at_uid, has, without_uid, without_number, unbound, Input, acts, branch_named, on_branch}
 use Words.{refusal_up, refused_by, call_reasons, include_reasons, commit_reasons, tolds_again, Tree, Branch, branch_of, ends_of, root_of}
-use Words.{is_open, is_open_branch, at_place, is_committed, open_below, has_open_child, is_serial, is_constituent, uses_object}
+use Words.{is_open, is_open_branch, at_place, is_committed, open_below, has_open_child, uses_object, is_constituent, is_serial}
 use Words.ask
 use Words.ending
 use Words.kind

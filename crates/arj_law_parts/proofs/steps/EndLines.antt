@@ -3,13 +3,14 @@ use Rattle.arj_law_parts.proofs.Words
 use Words.{◌≡◌, ◌∙◌, ◌+◌, ◌==◌, ◌&&◌, ℕ, zero, suc, Bool, true, false, not, cond, List, [], ◌∷◌, ◌++◌, length, map, nat_le, refl, sym, ap}
 use Words.{subst, inl, inr, arith, Option, Some, None, is_some, slice_get, append_assoc, steps_lines, actor, commit_action, commit_open}
 use Words.{gaveup_lines, give_up, give_up_call, give_up_doing, gives_up, moved_commit, next_node, Confirming, Machine, Preparing, Voting}
-use Words.{first_of, is_empty, left_of, nodes_given_up, Calling, Committing, Coord, Doing, Idle, Now, change_doing, doing_of, number_of}
+use Words.{first_of, left_of, nodes_given_up, Calling, Committing, Coord, Doing, Idle, Now, change_doing, doing_of, number_of}
 use Words.{on_doing, uid_at, Did, Disk, Effect, Intent, Say, Send, Do, worked, abort_action, aborts_with, all_aborted, ended, say_for, says}
 use Words.{effects_of, Parts, Ran, first_done, first_queued, ran, with_coord, Input, Node, Step, abort_reasons, branch_named}
 use Words.{branch_numbered, commit_reasons, first_reason, giveup_reasons, is_waiting, is_waiting_now, on_branch, refusal, refusal_at}
 use Words.{refusal_up, refused_by, step, step_of, step_unless, waits, Branch, Tree, at_place, branch_of, ended_at, ended_branch, family_of}
 use Words.{is_own, open_below, root_of, set_place, with_family, Body, End, Event, Header, Kind, Label, Line, Uid, name, uids_of, Arm, World}
 use Words.{bodies, counted, happens, is_given, is_known, was_given, limited, node_of, numbered, reasons, refused_at, run_unless, steps}
+use Words.{is_empty}
 use Words.input
 use Words.body
 use Words.cause

@@ -2,8 +2,8 @@
 use Rattle.arj_law_parts.proofs.Words
 use Words.{◌≡◌, ◌∙◌, ◌≤◌, ◌+◌, ◌-◌, ℕ, zero, suc, Bool, true, false, cond, List, [], ◌∷◌, ◌++◌, length, take, refl, sym, ap, arith, Option}
 use Words.{Some, None, nat_lt, slice_get, slice_set, length-append, at_number, Node, Input, Step, step, at_place, World, Frame, Arm, armed}
-use Words.{cut, count_works, disarmed, done_step, frames_with, halted_at, halted_outs, is_open_frame, lowest_from, most_frames, sends}
-use Words.{step_node, step_with, steps}
+use Words.{cut, count_works, disarmed, done_step, frames_with, halted_at, halted_outs, is_open_frame, lowest_from, sends}
+use Words.{step_node, step_with, steps, most_frames}
 
 -- how many frames were delivered or lost
 abbrev pub over : List Frame → ℕ
@@ -86,7 +86,7 @@ take_few (suc k) [] = omega arith
 take_few (suc k) (x ∷ xs) = let few = take_few k xs in omega (arith, few)
 
 -- no more frames than a run may have stay that few
-fits : (fs new : List Frame) → length fs ≤ most_frames → length (frames_with fs new) ≤ most_frames
+pub fits : (fs new : List Frame) → length fs ≤ most_frames → length (frames_with fs new) ≤ most_frames
 fits fs new few =
     let some = take_few (most_frames - length fs) new in
     let all = length-append fs (take (most_frames - length fs) new) in

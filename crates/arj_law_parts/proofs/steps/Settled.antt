@@ -2,8 +2,8 @@
 use Rattle.arj_law_parts.proofs.Words
 use Words.{◌≡◌, ◌∙◌, ◌≤◌, ◌+◌, ◌⊎◌, ℕ, zero, suc, Bool, true, false, not, cond, List, [], ◌∷◌, length, inl, inr, refl, sym, ap, subst}
 use Words.{arith, Option, Some, None, ◌||◌, slice_set, at_place, set_place, first_reason, Event, World, Frame, as_delivered, change_frame}
-use Words.{counted, deliver, deliver_frame, is_open_frame, is_quiet, is_up_at, limited, lowest, lowest_from, most_frames, node_numbers}
-use Words.{quiesce, quiet_line, reasons, run_unless, settle, settle_for, steps, tick_all, tick_up}
+use Words.{counted, deliver, deliver_frame, is_open_frame, is_quiet, is_up_at, limited, lowest, lowest_from, node_numbers}
+use Words.{quiesce, quiet_line, reasons, run_unless, settle, settle_for, steps, tick_all, tick_up, most_frames}
 use Words.input
 use Words.body
 use Words.event

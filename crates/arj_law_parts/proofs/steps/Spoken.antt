@@ -8,8 +8,9 @@ use Words.{step_of, step_unless, at_place, next_uid, Body, Event, Header, Kind, 
 use Words.{Giving, Labelled, as_delivered, as_lost, armed, bodies, begins, change_frame, counted, deliver, deliver_frame, giving}
 use Words.{gives_label, happens, is_frame, is_given, is_known, was_given, is_node, is_quiet, is_up, is_up_at, junk, junk_fits, kind_below}
 use Words.{labelled}
-use Words.{labels_unless, lacks_labels, limited, lose, lose_frame, lowest, most_frames, new_frame, no_labels, node_in, node_numbers}
+use Words.{labels_unless, lacks_labels, limited, lose, lose_frame, lowest, new_frame, no_labels, node_in, node_numbers}
 use Words.{node_of, numbered, quiesce, quiet_line, reasons, refused_at, run_event, run_unless, settle, settle_for, steps, tick_all, tick_up}
+use Words.{most_frames}
 use Words.input
 use Words.body
 use Words.event

@@ -6,12 +6,12 @@ use Words.{subst, arith, Option, Some, None, is_some, nat_lt, nat_le, slice_get,
 use Words.{nat_tests, length-append, map-append, match_ordering, Ordering, Less, Equal, Greater, Handled, Void, Took, Parts, taken}
 use Words.{at_number, Node, Input, first_reason, frame_step, handled_step, numbers_to, node_by, refusal, step, step_down, step_of}
 use Words.{step_unless, step_up, at_place, set_place, Event, Header, Label, Message, label_cmp, World, Arm, Frame, Giving, Labelled, armed}
-use Words.{gives_label, is_given, is_known, was_given, is_serial_kind, kind_below, labels_unless, node_of, refused_at, giving, as_delivered}
+use Words.{gives_label, is_known, was_given, kind_below, labels_unless, node_of, refused_at, giving, as_delivered}
 use Words.{begins}
 use Words.{change_frame, count_works, counted, cut, deliver, deliver_frame, disarmed, done_step, halted_at, world_from, happens, is_node}
-use Words.{is_quiet, is_up_at, junk_fits, lacks_labels, limited, lose, lose_frame, lowest, most_frames, no_labels, node_numbers, quiesce}
+use Words.{is_quiet, is_up_at, junk_fits, lacks_labels, limited, lose, lose_frame, lowest, no_labels, node_numbers, quiesce}
 use Words.{quiet_line, reasons, run_event, run_unless, settle, settle_for, show_all, show_up, step_node, step_with, steps, tick_all}
-use Words.{tick_up, Move, all_moved, moved, world_by, is_at, list_any}
+use Words.{tick_up, Move, all_moved, moved, world_by, is_at, list_any, is_serial, most_frames}
 use Words.input
 use Words.body
 use Words.event
@@ -287,9 +287,9 @@ label_given : (w : World) (g : Giving) → is_node g.node w ≡ true → was_giv
 label_given w g there unused whole = record {
   nodes = whole.nodes;
   numbers = whole.numbers;
-  labels = label_put (λ (x : Labelled). is_node x.node w ≡ true) g.label (record { node = g.node; serial = is_serial_kind g.kind }) w.labels
+  labels = label_put (λ (x : Labelled). is_node x.node w ≡ true) g.label (record { node = g.node; serial = is_serial g.kind }) w.labels
       whole.labels there;
-  new = label_new (λ l. was_given l w ≡ false) g.label (record { node = g.node; serial = is_serial_kind g.kind }) w.labels whole.new unused;
+  new = label_new (λ l. was_given l w ≡ false) g.label (record { node = g.node; serial = is_serial g.kind }) w.labels whole.new unused;
 }
 
 begins_whole : (w : World) (g : Giving) → is_node g.node w ≡ true → was_given g.label w ≡ false → IsWhole w → IsWhole (begins g w)

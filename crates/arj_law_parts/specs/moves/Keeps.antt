@@ -14,12 +14,13 @@ use Rattle.arj_protocol.specs.Follow.{tick_outs}
 use Rattle.arj_protocol.specs.Step.{Node, Input, acts, begin_refusal, refusal_up, parent_of, parts_in, restart_outs}
 use Rattle.arj_protocol.specs.Step as input
 use Rattle.arj_protocol.specs.Tree.{at_place}
-use Rattle.arj_protocol.specs.World.{World, Frame, Labelled, is_serial_kind, world_from}
+use Rattle.arj_protocol.specs.World.{World, Frame, Labelled, world_from}
 use Rattle.arj_law_parts.specs.moves.Seen.{In, at, up, down, said, given, AreQuiet}
-use Rattle.arj_model.specs.Start.{Start}
+use Rattle.arj_start.specs.Start.{Start}
 use Rattle.arj_promise.specs.Runs.{Post, Seen, see}
 use Rattle.arj_promise.specs.Starts.{IsFormed}
 use Rattle.arj_law_parts.specs.moves.Walks.{Walks, Up, halted}
+use Rattle.arj_start.specs.Kinds.{is_serial}
 
 -- what a label stands for
 abbrev pub label_at : Label → List (Label × Labelled) → Option Labelled
@@ -67,7 +68,7 @@ pub record Keeps (hd : Header) (P : Seen → Type 0) : Type 0 where
   pub begin : (e k : ℕ) (d : Disk) (t : Parts) (l : Label) (how : Kind) (parent : Option Label) (M : Seen)
       → label_at l M.labels ≡ None → MayGive M.labels k how parent → begin_refusal how t.coord parent ≡ None
       → P (up k d t M) → DidKeeps P e k d t (begin_action l how parent (parent_of parent t.coord) t.coord)
-      (given l (record { node = k; serial = is_serial_kind how }) M)
+      (given l (record { node = k; serial = is_serial how }) M)
   pub tick : (e k : ℕ) (d : Disk) (t : Parts) (M : Seen) → P (up k d t M)
       → Walks P e k (tick_outs (record { number = k; disk = d; live = Some t }) t)
       (Up P k (with_coord t (again_all t.coord.doings t.coord).part)) d M
@@ -92,7 +93,7 @@ pub record KeepsFrom (hd : Header) (F : Type 0) (P : Seen → Type 0) : Type 0 w
   pub begin : (e k : ℕ) (d : Disk) (t : Parts) (l : Label) (how : Kind) (parent : Option Label) (M : Seen)
       → label_at l M.labels ≡ None → MayGive M.labels k how parent → begin_refusal how t.coord parent ≡ None
       → P (up k d t M) → DidKeeps P e k d t (begin_action l how parent (parent_of parent t.coord) t.coord)
-      (given l (record { node = k; serial = is_serial_kind how }) M)
+      (given l (record { node = k; serial = is_serial how }) M)
   pub tick : (e k : ℕ) (d : Disk) (t : Parts) (M : Seen) → P (up k d t M)
       → Walks P e k (tick_outs (record { number = k; disk = d; live = Some t }) t)
       (Up P k (with_coord t (again_all t.coord.doings t.coord).part)) d M

@@ -3,13 +3,12 @@
 use Rattle.std.specs.Prelude.{◌≡◌, ◌⊎◌, ℕ, Bool, true, false, ◌==◌, if◌then◌else◌, List, [], ◌∷◌, ◌++◌, Option, Some, None}
 use Rattle.std.specs.List.{list_all}
 use Rattle.std.specs.BTreeMap.{insert_entry}
-use Rattle.arj_protocol.specs.Words.{Label, label_cmp, Line, Body, Message}
+use Rattle.arj_protocol.specs.Words.{Label, label_cmp, Body}
 use Rattle.arj_protocol.specs.Words.body
 use Rattle.arj_protocol.specs.Effect.{Disk}
 use Rattle.arj_protocol.specs.Node.{Parts}
 use Rattle.arj_protocol.specs.Step.{Node}
-use Rattle.arj_protocol.specs.Tree.{at_place}
-use Rattle.arj_protocol.specs.World.{World, Labelled, numbered}
+use Rattle.arj_protocol.specs.World.{Labelled, numbered}
 use Rattle.arj_promise.specs.Runs.{Post, Seen}
 
 -- the post is among these

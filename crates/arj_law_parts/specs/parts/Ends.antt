@@ -8,6 +8,7 @@ use Rattle.arj_protocol.specs.Words.message
 use Rattle.arj_protocol.specs.Commit.{Machine, plan_of}
 use Rattle.arj_protocol.specs.Coord.{Coord, Doing, Committing, doing_of}
 use Rattle.arj_protocol.specs.Effect.{Effect, Say, Send, Do, Work, PutIntent, Intent}
+use Rattle.arj_protocol.specs.Follow.{ends_in}
 use Rattle.arj_protocol.specs.Node.{Parts, Handled, Void, Took}
 use Rattle.arj_protocol.specs.Tree.{Tree, Branch, branch_of, ends_of, is_own}
 use Rattle.arj_law_parts.specs.parts.Messages.{IsDecided}
@@ -28,16 +29,10 @@ pub record IsSure (c : Coord) : Type 0 where
       AreDecided (let p = plan_of m in p.ends) c.tree
   pub records : AreOfCommits c.telling c.tree
 
--- the ends that a request brings, and those that a told tells
-abbrev pub ask_ends : Ask → List (Uid × End)
-ask_ends (ask.Invoke x b i ends op) = ends
-ask_ends (ask.Vote i ties ends) = ends
-ask_ends _ = []
-
 -- the ends that a request brings, where the message is one
 abbrev pub brought_by : Option (Head × Ask) → List (Uid × End)
 brought_by None = []
-brought_by (Some a) = ask_ends a.1
+brought_by (Some a) = ends_in a.1
 
 -- the ends that a message brings as a request
 abbrev pub brought : Message → List (Uid × End)

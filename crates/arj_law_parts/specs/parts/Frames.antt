@@ -1,5 +1,5 @@
 -- Which states at a store, and which entries, a message is about.
-use Rattle.std.specs.Prelude.{◌≡◌, ◌≢◌, ℕ, Bool, true, false, List}
+use Rattle.std.specs.Prelude.{List}
 use Rattle.arj_protocol.specs.Effect.{Effect}
 use Rattle.arj_protocol.specs.Node.{Handled, Void, Took}
 

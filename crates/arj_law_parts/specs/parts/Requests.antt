@@ -2,8 +2,9 @@
 use Rattle.std.specs.Prelude.{◌≡◌, ◌<◌, ℕ, false, List, [], ◌∷◌, Some, ⊤}
 use Rattle.std.specs.List.{AllByRecursion}
 use Rattle.arj_protocol.specs.Words.{Uid}
-use Rattle.arj_protocol.specs.Commit.{Machine, Used, is_empty, left_of, plan_of}
+use Rattle.arj_protocol.specs.Commit.{Machine, Used, left_of, plan_of}
 use Rattle.arj_protocol.specs.Coord.{Coord, Doing, Now, Idle, Calling, Committing, doing_of}
+use Rattle.arj_protocol.specs.Order.{is_empty}
 
 -- each object once, in increasing order
 abbrev pub AreOnce : List Used → Type 0

@@ -1,7 +1,7 @@
 -- Which action a label of a coordinator stands for, and which lines its ends and giveups write.
 use Rattle.std.specs.Prelude.{◌≡◌, ◌⊎◌, ℕ, false, List, ◌∷◌, ◌++◌, length, map, Some}
 use Rattle.arj_protocol.specs.Ask.{actor}
-use Rattle.arj_protocol.specs.Commit.{Machine, is_empty, left_of}
+use Rattle.arj_protocol.specs.Commit.{Machine, left_of}
 use Rattle.arj_protocol.specs.Coord.{Committing, Coord, Doing, doing_of, number_of, uid_at}
 use Rattle.arj_protocol.specs.Node.{Parts}
 use Rattle.arj_protocol.specs.Step.{Node}
@@ -12,6 +12,7 @@ use Rattle.arj_protocol.specs.Words.cause
 use Rattle.arj_protocol.specs.Words.event
 use Rattle.arj_protocol.specs.World.{Asked, World, node_of, run_event}
 use Rattle.arj_law_parts.specs.steps.Writes.{IsDone, IsRefusedWith, IsWhole}
+use Rattle.arj_protocol.specs.Order.{is_empty}
 
 -- the labels of the actions at work, in order of beginning
 abbrev pub names_of : Coord → List Label

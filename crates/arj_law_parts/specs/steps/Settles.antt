@@ -1,7 +1,8 @@
 -- What a settle leaves.
 use Rattle.std.specs.Prelude.{◌≡◌, ◌≤◌, ◌⊎◌, true, false, length, None}
 use Rattle.arj_protocol.specs.Words.event
-use Rattle.arj_protocol.specs.World.{Asked, World, lowest_from, most_frames, run_event}
+use Rattle.arj_protocol.specs.World.{Asked, World, lowest_from, run_event}
+use Rattle.arj_start.specs.Limits.{most_frames}
 
 -- no frame is open, each was delivered or lost; or one didn't fit
 abbrev pub IsSettled : World → Type 0

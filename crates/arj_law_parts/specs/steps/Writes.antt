@@ -10,10 +10,11 @@ use Rattle.arj_protocol.specs.Words.event
 use Rattle.arj_protocol.specs.Words.frame
 use Rattle.arj_protocol.specs.Words.which
 use Rattle.arj_protocol.specs.World.{Asked, Frame, Giving, Labelled, World, frame_number, giving, is_node, kind_below, lacks_labels}
-use Rattle.arj_protocol.specs.World.{most_frames, node_of, reasons, refused_at, run_event, was_given, world_from}
+use Rattle.arj_protocol.specs.World.{node_of, reasons, refused_at, run_event, was_given, world_from}
 use Rattle.arj_protocol.specs.Words.kind
-use Rattle.arj_model.specs.Start.{Start}
+use Rattle.arj_start.specs.Start.{Start}
 use Rattle.arj_promise.specs.Runs.{Run, world_by}
+use Rattle.arj_start.specs.Limits.{most_frames}
 
 -- the world has each node of its header at its number's place, and labels are of actions of these, none of them given before the run
 pub record IsWhole (w : World) : Type 0 where

@@ -1,5 +1,5 @@
 -- Effects whose messages can be sent.
-use Rattle.std.specs.Prelude.{◌≤◌, List, length, ⊤}
+use Rattle.std.specs.Prelude.{◌≤◌, length}
 use Rattle.arj_protocol.specs.Tree.{Tree, ends_of}
 use Rattle.arj_protocol.specs.Words.{Uid}
 
