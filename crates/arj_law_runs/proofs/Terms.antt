@@ -8,7 +8,8 @@ pub use Rattle.arj_law_parts.proofs.parts.Begun.{agree_less, begun_tree, on_more
 pub use Rattle.arj_law_parts.proofs.parts.CoordInputs.{behind, named_found, off, off_third}
 pub use Rattle.arj_law_parts.proofs.parts.Decided.{stand_begins, stand_ended, stand_goes}
 pub use Rattle.arj_law_parts.proofs.parts.EndsHandled.{says_queries}
-pub use Rattle.arj_law_parts.proofs.parts.EndsSaid.{none_in, said_on, sure_records}
+pub use Rattle.arj_law_parts.proofs.parts.EndsSaid.{said_on, sure_records}
+pub use Rattle.arj_law_parts.proofs.parts.SureCalls.{none_in}
 pub use Rattle.arj_law_parts.proofs.parts.GoodCoords.{IsSameTree, IsStepOf, actor_is, answer_step, doing_by, doomed_same, giveup_step}
 pub use Rattle.arj_law_parts.proofs.parts.GoodCoords.{on_tree, uses_same, vote_step, voting_at}
 pub use Rattle.arj_law_parts.proofs.parts.GoodNodes.{input_well, message_well, restart_well, tick_well}
@@ -35,7 +36,8 @@ pub use Rattle.arj_law_parts.specs.parts.Actions.{Action, Agree, AreBegun, AreCo
 pub use Rattle.arj_law_parts.specs.parts.Claims.{AreOfNode, AreTrue, GoesOn, IsSettled}
 pub use Rattle.arj_law_parts.specs.parts.Coords.{IsAsking, IsBusy, IsGoodCoord, IsVoting}
 pub use Rattle.arj_law_parts.specs.parts.Copies.{IsTree, Paths}
-pub use Rattle.arj_law_parts.specs.parts.Ends.{AllSayEnds, AreOfCommits, IsSaidSo, IsSure, SaysEndsIn, ask_ends, brought, brought_by}
+pub use Rattle.arj_law_parts.specs.parts.Ends.{AllSayEnds, AreOfCommits, IsSaidSo, IsSure, SaysEndsIn, brought, brought_by}
+pub use Rattle.arj_protocol.specs.Follow.{ends_in}
 pub use Rattle.arj_law_parts.specs.parts.Ends.{told_by}
 pub use Rattle.arj_law_parts.specs.parts.Incs.{AreOfInc, IsClaimsOf, IsOfInc, IsTrulyHandled, KeepsInc, SaysInc}
 pub use Rattle.arj_law_parts.specs.parts.Lives.{FitsCall, Homes, IsNamingSo, IsPastZero, KnowsServers, NamesAsked, NamesReply, Reach}
@@ -82,7 +84,7 @@ pub use Rattle.arj_law_runs.specs.resting.Answered.{EndsWait, HasEnded, HasHalte
 pub use Rattle.arj_law_runs.specs.resting.Quiet.{SettlesAll}
 pub use Rattle.arj_law_runs.specs.resting.Rounds.{AnswersWaits, WaitOvertaken}
 pub use Rattle.arj_law_runs.specs.resting.Waits.{AreBrought, Asking, AsksFor, HasWay, Want, want_of_call, want_of_commit}
-pub use Rattle.arj_model.specs.Actions.{Act, Placed, act_in, acts, acts_after, acts_from, committed, has_end, is_committed, is_serial, path}
+pub use Rattle.arj_model.specs.Actions.{Act, Placed, act_in, acts, acts_after, acts_from, committed, has_end, is_committed, path}
 pub use Rattle.arj_model.specs.Actions.{path_in, put, read, recovered, top_in, uids, upwards}
 pub use Rattle.arj_model.specs.Calls.{Said, said_of}
 pub use Rattle.arj_model.specs.Last.{Inclusion, included_of}

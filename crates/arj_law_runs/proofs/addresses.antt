@@ -11,6 +11,8 @@ pub mod Namings
 pub mod Calls
 pub mod Begins
 pub mod Coords
+pub mod CoordHears
+pub mod CoordBegins
 pub mod Nodes
 pub mod BindAnswers
 pub mod BindCoords

@@ -12,4 +12,5 @@ pub mod Handled
 pub mod Steps
 pub mod Doings
 pub mod Worlds
+pub mod Labels
 pub mod Events

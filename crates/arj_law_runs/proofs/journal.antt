@@ -14,6 +14,7 @@ pub mod Likes
 pub mod Endings
 pub mod Opens
 pub mod Answering
+pub mod CoordCalls
 pub mod Coords
 pub mod Beginning
 pub mod Again

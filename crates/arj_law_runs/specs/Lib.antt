@@ -5,3 +5,5 @@ pub mod addresses
 pub mod bindings
 pub mod resting
 pub mod journal
+pub mod follow
+pub mod forms

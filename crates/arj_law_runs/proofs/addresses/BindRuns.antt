@@ -8,7 +8,7 @@ use Words.{back_lines, Coord, Doing, doing_of, root_at, Disk, Do, Effect, Intent
 use Words.{tell_all, tick_outs, Named, Naming, Parts, Took, handle, holders, prepared_actions, query_about, with_coord, uid_set}
 use Words.{without_number, Input, Node, acts, branch_named, commit_reasons, hello_to, naming_at, naming_back}
 use Words.{numbers_to, parent_of, parts_in, recovered_records, refusal_up, refused_by, restart_outs, tolds_again, Branch, at_place, is_own}
-use Words.{new_tree, root_of, Labelled, is_serial_kind, Post, Seen}
+use Words.{new_tree, root_of, Labelled, Post, Seen, is_serial}
 use Words.ask
 use Words.body
 use Words.bound
@@ -390,7 +390,7 @@ binds_keep hd = record {
   act = λ e k d t i M is free p. let did = acts i d.intents t.coord in both e k did.outs (with_coord t did.part) d M
       (good.act e k d t i M is free p.0) (let h = p.0 in act_binds h.0 e k d t M h.1 p.1 hd i is free);
   begin = λ e k d t l how parent M new may free p. let did = begin_action l how parent (parent_of parent t.coord) t.coord in
-      let g : Labelled = record { node = k; serial = is_serial_kind how } in both e k did.outs (with_coord t did.part) d (given l g M)
+      let g : Labelled = record { node = k; serial = is_serial how } in both e k did.outs (with_coord t did.part) d (given l g M)
       (good.begin e k d t l how parent M new may free p.0) (let h = p.0 in begin_known h.0 e k d t M h.1 p.1 l how parent g);
   tick = λ e k d t M p. both e k (tick_outs (record { number = k; disk = d; live = Some t }) t) (with_coord t
       (again_all t.coord.doings t.coord).part) d M (good.tick e k d t M p.0) (let h = p.0 in tick_binds h.0 e k d t M h.1 p.1);

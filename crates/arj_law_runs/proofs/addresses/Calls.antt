@@ -22,7 +22,7 @@ module _ (G : ℕ → Type 0) (one : G 1) where
       where
         by : (b : Bool) → MovedOf G g (cond b (moves (Some kept) at) (finds (Some kept) (Changed kept.server (two_incs first i))))
         by true = (s, ks)
-        by false = (tt, ks)
+        by false = (ks.0, ks)
 
     by_of : (free : Bool) (k : Known) (at : At) (kept : Option Known) → KnownOf G k → KeptOf G kept → AtOf G g at →
         MovedOf G g (bound_by free k at kept)
@@ -38,7 +38,7 @@ module _ (G : ℕ → Type 0) (one : G 1) where
 
         other : (b : Bool) → MovedOf G g (cond b (moves (Some k) at) (finds (Some old) (Changed 1 (two_bindings old.binding k.binding))))
         other true = (s, ks)
-        other false = (tt, had)
+        other false = (one, had)
 
         by : (b : Bool) → MovedOf G g (cond b (same_binding old k at k.inc) (other_binding free old k at))
         by true = same k.inc
@@ -67,12 +67,13 @@ module _ (G : ℕ → Type 0) (one : G 1) where
             same : (b : Bool) → KeptOf G (cond b (Some (record old { recorded = true })) (Some old))
             same true = s
             same false = s
-    noted_of k i kept ks its (recorded.Changed w) = (tt, ks)
+    noted_of k i kept ks its (recorded.Changed w) = (one, ks)
 
-    invoked_of : (k : Known) (kept : Option Known) → KeptOf G kept → (r : InvokedReply) → MovedOf G g (invoked_answer kept k r)
-    invoked_of k kept ks (invoked.Answered a) = (tt, ks)
-    invoked_of k kept ks (invoked.Conflict holder m) = (tt, ks)
-    invoked_of k kept ks (invoked.Changed w) = (tt, ks)
+    invoked_of : (k : Known) (kept : Option Known) → GoalOf G g → KnownOf G k → KeptOf G kept → (r : InvokedReply) →
+        MovedOf G g (invoked_answer kept k r)
+    invoked_of k kept goal its ks (invoked.Answered a) = (goal, ks)
+    invoked_of k kept goal its ks (invoked.Conflict holder m) = (its.0, ks)
+    invoked_of k kept goal its ks (invoked.Changed w) = (its.0, ks)
 
   known_for : (g : Goal) (k : Known) → KnownOf G k → KnownFor G g k
   known_for (Run o) k ks = ks
@@ -91,30 +92,30 @@ module _ (G : ℕ → Type 0) (one : G 1) where
       (loads_of g (made_known b server n stores) stores (known_for g (made_known b server n stores) rs) rs.1)
     where
       by : (o : Option At) → IfSome o (AtOf G g) → MovedOf G g (made_by free (made_known b server n stores) kept o)
-      by None its = (tt, ks)
+      by None its = (one, ks)
       by (Some at) its = by_of g free (made_known b server n stores) at kept rs ks its
   bound_of free kept g ks (bound.Write n stores) fits rs =
       by (load_from (write_known n stores) stores) (loads_of g (write_known n stores) stores (write_for g n stores fits rs) rs)
     where
       by : (o : Option At) → IfSome o (AtOf G g) → MovedOf G g (or_lost kept o)
-      by None its = (tt, ks)
+      by None its = (one, ks)
       by (Some at) its = (its, ks)
-  bound_of free kept g ks (bound.Conflict holder m) fits rs = (tt, ks)
+  bound_of free kept g ks (bound.Conflict holder m) fits rs = (one, ks)
 
-  loaded_of : (kept : Option Known) → KeptOf G kept → (k : Known) (s : ℕ) (g : Goal) → GoalOf G g → KnownFor G g k → (r : LoadedReply) →
-      MovedOf G g (loaded_answer kept k s g r)
-  loaded_of kept ks k s (Run o) goal its (loaded.State st) = (its, ks)
-  loaded_of kept ks k s (Include n) goal its (loaded.State st) = (goal, ks)
-  loaded_of kept ks k s (Run o) goal its (loaded.InDoubt holder) = (tt, ks)
-  loaded_of kept ks k s (Include n) goal its (loaded.InDoubt holder) = (tt, ks)
+  loaded_of : (kept : Option Known) → KeptOf G kept → (k : Known) (s : ℕ) (g : Goal) → GoalOf G g → KnownFor G g k → G s →
+      (r : LoadedReply) → MovedOf G g (loaded_answer kept k s g r)
+  loaded_of kept ks k s (Run o) goal its store (loaded.State st) = (its, ks)
+  loaded_of kept ks k s (Include n) goal its store (loaded.State st) = (goal, ks)
+  loaded_of kept ks k s (Run o) goal its store (loaded.InDoubt holder) = (store, ks)
+  loaded_of kept ks k s (Include n) goal its store (loaded.InDoubt holder) = (store, ks)
 
   pub answered_of : (free : Bool) (kept : Option Known) (g : Goal) (at : At) (r : Reply) → GoalOf G g → AnswersAt g at r → KeptOf G kept →
       AtOf G g at → ReplyOf G r → MovedOf G g (answered free kept g at r)
   answered_of free kept g (AtBind avoid) (Reply.Bound r) goal fits ks so rs = bound_of free kept g ks r fits rs
-  answered_of free kept g (AtLoad k s rest) (Reply.Loaded r) goal fits ks so rs = loaded_of kept ks k s g goal so.0 r
+  answered_of free kept g (AtLoad k s rest) (Reply.Loaded r) goal fits ks so rs = loaded_of kept ks k s g goal so.0 so.1 r
   answered_of free kept g (AtActivate k st) (Reply.Activated j) goal fits ks so rs = activated_of g k j kept ks so
   answered_of free kept g (AtNote k i) (Reply.Noted r) goal fits ks so rs = noted_of g k i kept ks so r
-  answered_of free kept g (AtInvoke k i) (Reply.Invoked r) goal fits ks so rs = invoked_of g k kept ks r
+  answered_of free kept g (AtInvoke k i) (Reply.Invoked r) goal fits ks so rs = invoked_of g k kept goal so ks r
   answered_of free kept g (AtBind avoid) (Reply.Loaded r) goal fits ks so rs = (so, ks)
   answered_of free kept g (AtBind avoid) (Reply.Activated j) goal fits ks so rs = (so, ks)
   answered_of free kept g (AtBind avoid) (Reply.Noted r) goal fits ks so rs = (so, ks)
@@ -152,12 +153,12 @@ module _ (G : ℕ → Type 0) (one : G 1) where
   answered_of free kept g (AtInvoke k i) (Reply.Confirmed r) goal fits ks so rs = (so, ks)
 
   pub given_up_of : (g : Goal) (at : At) → AtOf G g at → StepOf G g (given_up at)
-  given_up_of g (AtBind avoid) s = tt
-  given_up_of g (AtLoad k n []) s = tt
+  given_up_of g (AtBind avoid) s = one
+  given_up_of g (AtLoad k n []) s = s.1
   given_up_of g (AtLoad k n (m ∷ ms)) s = (s.0, s.2.0, s.2.1)
-  given_up_of g (AtActivate k st) s = tt
-  given_up_of g (AtNote k i) s = tt
-  given_up_of g (AtInvoke k i) s = tt
+  given_up_of g (AtActivate k st) s = s.0
+  given_up_of g (AtNote k i) s = one
+  given_up_of g (AtInvoke k i) s = s.0
 
   pub start_of : (g : Goal) (o : Option Known) (avoid : Binding) → KeptOf G o → AtOf G g (start_at o avoid)
   start_of g None avoid s = tt

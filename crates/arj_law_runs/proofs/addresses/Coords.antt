@@ -1,27 +1,27 @@
 -- What a coordinator does: whom it asks, tells and lists.
 use Rattle.arj_law_parts.proofs.Words
-use Words.{◌≡◌, ◌∙◌, ◌+◌, ◌==◌, ℕ, zero, suc, List, [], ◌∷◌, ◌++◌, Bool, true, false, cond, not, ◌&&◌, ◌||◌, length, map, filter, nat_le}
-use Words.{Option, Some, None, refl, sym, ap, subst, inl, inr, ⊎_elim, arith, ⊤, IfSome, unwrap_or, AllByRecursion, flat_map, list_any}
-use Words.{uid_cases, In, Ask, Asked, Body, End, Kind, Label, ObjectState, Op, Path, Uid, uid_eq, uids_of, Reply, actor, top_of, again_all}
-use Words.{again_now, asks_all, asks_machine, asks_node, asks_step, begin_action, call, call_steps, commit_action, commit_open, commit_top}
-use Words.{commits_in, doomed_by, end_line, gaveup_lines, give_up, give_up_doing, given_away, gives_up, goes_on, granted_by, heard}
-use Words.{heard_by, heard_call, heard_doing, heard_none, heard_now, include, is_ended, is_invoke_ask, keeps_after, kept_at, known_at_start}
-use Words.{last_req, mark_lines, moved_commit, next_req, notes_grant, renewed, root_heard, root_lost, root_moved, step_call, step_commit}
-use Words.{store_of, waits_for_call, waits_for_commit, was_named, Answered, CallEnd, CallStep, Changed, Conflict, Ended, Goal, Included}
+use Words.{◌≡◌, ◌∙◌, ◌+◌, ◌==◌, ℕ, List, [], ◌∷◌, ◌++◌, Bool, true, false, cond, not, ◌&&◌, ◌||◌, length, map, filter, nat_le}
+use Words.{Option, Some, None, refl, sym, ap, subst, ⊎_elim, unwrap_or, AllByRecursion, flat_map, list_any}
+use Words.{uid_cases, Ask, Asked, Body, End, Kind, Label, ObjectState, Op, Path, Uid, uids_of, Reply, actor, top_of}
+use Words.{asks_all, asks_machine, asks_node, asks_step, call, call_steps}
+use Words.{commits_in, doomed_by, end_line, given_away, goes_on, granted_by}
+use Words.{heard_call, include, is_ended, is_invoke_ask, keeps_after, kept_at, known_at_start}
+use Words.{mark_lines, moved_commit, next_req, notes_grant, renewed, root_heard, root_lost, root_moved, step_call, step_commit}
+use Words.{store_of, was_named, Answered, CallEnd, CallStep, Changed, Conflict, Ended, Goal, Included}
 use Words.{Known, Lost, Moved, On, Steps, answered, given_up, has_changed, next_ask, next_node, spoils, start, Aborts, Asks, CommitStep}
 use Words.{Confirming, Decides, Machine, Plan, Preparing, Stays, Used, Voting, ask_of, begin_confirm, begin_prepare, begin_vote, changed_of}
-use Words.{further, has_record, included_of, is_marked, joins_left, left_of, marks_store, marks_stores, naming_node, nodes_given_up}
+use Words.{further, has_record, included_of, is_marked, joins_left, left_of, marks_store, marks_stores, naming_node}
 use Words.{participants, plan_of, servers_of, stores_by, stores_left, targets_of, votes_left, with_states, Calling, Committing, Coord}
-use Words.{Doing, Grant, Idle, Joined, Keeping, Now, Root, Said, Went, change_doing, doing_of, is_called, is_free, joined_with, joins_on}
-use Words.{keeping_of, kept_of, known_for, later_state, new_coord, no_keeping, no_root, nodes_sent, nothing_known, objects_in, on_doing}
+use Words.{Doing, Grant, Idle, Joined, Keeping, Root, Said, Went, change_doing, doing_of, is_called, is_free, joined_with, joins_on}
+use Words.{keeping_of, kept_of, known_for, later_state, no_keeping, no_root, nodes_sent, nothing_known, objects_in, on_doing}
 use Words.{on_root, plan_for, retains, root_at, same_join, same_said, same_went, servers_told, set_doing, used_of, used_with, with_keeping}
-use Words.{with_said, with_went, Did, Do, Effect, Intent, PutIntent, Served, abort_action, aborts_with, acked, acked_by, acked_left}
-use Words.{all_aborted, answer_decided, answer_query, answer_recorded, decide, decided_told, ended, ends_with, is_deferred, is_kept_commit}
-use Words.{keeping_after, kept_after, let_go, root_after, root_or_self, say_for, says, tell, tell_all, tolds_by, tolds_let_go, tolds_of}
-use Words.{tolds_of_branch, up_to, at_uid, each, has, number_set, put_uid, unbound, with_number, without_number, without_uid, Input, acts}
-use Words.{begin_refusal, branch_named, branch_numbered, on_branch, parent_of, tolds_again, Branch, Tree, at_place, branch_of, doomed_at}
-use Words.{doomed_branch, ended_at, ended_branch, ends_of, family_of, is_open, is_own, next_uid, open_below, path_below, root_of, set_place}
-use Words.{uses_object, with_family}
+use Words.{with_said, with_went, Did, Do, Effect, Intent, PutIntent, abort_action}
+use Words.{all_aborted, decide, decided_told, ended, ends_with, is_deferred}
+use Words.{keeping_after, kept_after, root_after, say_for, says, tell, tell_all, tolds_by, tolds_of}
+use Words.{tolds_of_branch, up_to, each, has, number_set, put_uid, unbound, with_number, without_number}
+use Words.{Branch, Tree, at_place, branch_of, doomed_at}
+use Words.{doomed_branch, ended_at, ended_branch, ends_of, family_of, is_own, open_below, root_of, set_place}
+use Words.{marks_at, nat_lt, states_for, uses_object, with_family, with_mark, with_marks}
 use Words.body
 use Words.cause
 use Words.confirmed
@@ -31,34 +31,43 @@ use Words.prepared
 use Words.voted
 use Words.calls
 use Words.commit
-use Words.input
 use Rattle.arj_law_runs.proofs.Terms
-use Terms.{doomed_same, uses_same, get_more, placed, all_at, all_each, all_put as all_put_number, doing_other, doing_put, end_tree_on}
-use Terms.{AllOf, AreOf, AskOf, CoordOf, KeptOf, KnownOf, MovedOf, PathOf, ReplyOf, StepOf, AnswersAt, AnswersWaiting, IsThere, KeepsCalled}
+use Terms.{doomed_same, uses_same, all_at, all_each, all_put as all_put_number, doing_other, doing_put, end_tree_on}
+use Terms.{AllOf, AreOf, AskOf, CoordOf, KeptOf, KnownOf, MovedOf, PathOf, ReplyOf, StepOf, AnswersAt, IsThere, KeepsCalled}
 use Rattle.arj_law_runs.proofs.addresses
-use addresses.{Begins.below_is, Begins.shallow, Namings.listed_after}
-use addresses.Calls.{answered_of, asks_of, given_up_of, node_of, request_of, start_of}
-use addresses.Lists.{all_append, all_at_uid, all_filter, all_flat, all_map, all_number, all_numbers, all_placed, all_put, all_set}
-use addresses.Lists.{all_without}
-use Rattle.arj_law_runs.specs.addresses.Addresses.{EndOf, MachineOf, NowOf, PlanOf, RootOf, StepsOf, StoreOf, UsedOf}
-use Rattle.arj_protocol.specs.{Coord.is_invoked_by, Coord.nodes_of, Ending.is_over}
+use addresses.{Namings.listed_after}
+use addresses.Calls.{answered_of, asks_of, node_of, request_of, start_of}
+use addresses.Lists.{all_append, all_filter, all_flat, all_map, all_number, all_numbers, all_placed, all_put, all_set}
+use Rattle.arj_law_runs.specs.addresses.Addresses.{CauseOf, EndOf, MachineOf, NowOf, PlanOf, RootOf, SaysOf, StepsOf, StoreOf}
+use Rattle.arj_law_runs.specs.addresses.Addresses.{UsedOf}
+use Rattle.arj_protocol.specs.{Coord.is_invoked_by, Coord.nodes_of}
 
 module _ (G : ℕ → Type 0) (one : G 1) where
   -- ---- effects
 
-  both : (es fs : List Effect) → AllOf G es → AllOf G fs → AllOf G (es ++ fs)
+  pub both : (es fs : List Effect) → AllOf G es → AllOf G fs → AllOf G (es ++ fs)
   both es fs a b = all_append _ es fs a b
 
   flat : {A : Type 0} (f : A → List Effect) (items : List A) → ((x : A) → AllOf G (f x)) → AllOf G (flat_map f items)
   flat f [] each = tt
   flat f (x ∷ xs) each = both (f x) (flat_map f xs) (each x) (flat f xs each)
 
-  lines : (u : Uid) (f : Label → Body) (d : Coord) → AllOf G (says u f d)
-  lines u f d = by (doing_of u d)
+  pub lines : (u : Uid) (f : Label → Body) (d : Coord) → ((l : Label) → SaysOf G (f l)) → AllOf G (says u f d)
+  lines u f d each = by (doing_of u d)
     where
       by : (o : Option Doing) → AllOf G (say_for f o)
       by None = tt
-      by (Some x) = (tt, tt)
+      by (Some x) = (each x.label, tt)
+
+  -- so is the line of a call's end
+  end_is : (x : ℕ) (g : Goal) (e : CallEnd) (l : Label) → EndOf G g e → SaysOf G (end_line x g e l)
+  end_is x (calls.Run o) (calls.Answered a) l its = tt
+  end_is x (calls.Include s) (calls.Answered a) l its = its
+  end_is x (calls.Run o) (calls.Included st) l its = absurd its
+  end_is x (calls.Include s) (calls.Included st) l its = its
+  end_is x g (calls.Conflict holder m n) l its = its
+  end_is x g (calls.Changed n w) l its = its
+  end_is x g (calls.Lost n sent) l its = its
 
   pub tells : (root : Uid) (ack : Bool) (ends : List (Uid × End)) (nodes : List ℕ) → AreOf G nodes → AllOf G (tell_all root ack ends nodes)
   tells root ack ends [] all = tt
@@ -69,7 +78,7 @@ module _ (G : ℕ → Type 0) (one : G 1) where
   none_root : RootOf G no_root
   none_root = record { went = tt; joined = tt; keeping = tt }
 
-  root_is : (root : Uid) (c : Coord) → CoordOf G c → RootOf G (root_at root c)
+  pub root_is : (root : Uid) (c : Coord) → CoordOf G c → RootOf G (root_at root c)
   root_is root c k = all_at (RootOf G) no_root none_root root.num c.roots k.roots
 
   kept_is : (x : ℕ) (r : Root) → RootOf G r → KeptOf G (kept_of x r)
@@ -139,7 +148,7 @@ module _ (G : ℕ → Type 0) (one : G 1) where
 
   -- ---- from one coordinator to the next
 
-  on_root_is : (root : Uid) (f : Root → Root) (c : Coord) → ((r : Root) → RootOf G r → RootOf G (f r)) → CoordOf G c →
+  pub on_root_is : (root : Uid) (f : Root → Root) (c : Coord) → ((r : Root) → RootOf G r → RootOf G (f r)) → CoordOf G c →
       CoordOf G (on_root root f c)
   on_root_is root f c step k = record {
     node = k.node;
@@ -236,7 +245,7 @@ module _ (G : ℕ → Type 0) (one : G 1) where
 
   -- ---- requests
 
-  abbrev IsDone : Did Coord → Type 0
+  abbrev pub IsDone : Did Coord → Type 0
   IsDone d = CoordOf G d.part × AllOf G d.outs
 
   asks_is : (p : Path) (req : ℕ) (a : ℕ × Ask) (c : Coord) → CoordOf G c → PathOf G p → G a.0 → AskOf G a.1 → IsDone (asks_node p req a c)
@@ -248,7 +257,7 @@ module _ (G : ℕ → Type 0) (one : G 1) where
 
   -- ---- calls
 
-  step_is : (s : Steps) (c : Coord) → CoordOf G c → StepsOf G s → IsDone (asks_step s c)
+  pub step_is : (s : Steps) (c : Coord) → CoordOf G c → StepsOf G s → IsDone (asks_step s c)
   step_is s c k so = asks_is s.path s.req (next_node s, next_ask (ends_of (root_of s.path) c.tree) s) c k so.path
       (node_of G one s.goal s.at so.at) (asks_of G one s.x s.goal (ends_of (root_of s.path) c.tree) s.at)
 
@@ -272,7 +281,7 @@ module _ (G : ℕ → Type 0) (one : G 1) where
       by true = tt
       by false = so
 
-  call_is : (p : Path) (x : ℕ) (o : Op) (c : Coord) → PathOf G p → CoordOf G c → IsDone (call p x o c)
+  pub call_is : (p : Path) (x : ℕ) (o : Op) (c : Coord) → PathOf G p → CoordOf G c → IsDone (call p x o c)
   call_is p x o c path k =
       let r = root_at (root_of p) c in
       let old = keeping_of x r in
@@ -287,14 +296,14 @@ module _ (G : ℕ → Type 0) (one : G 1) where
         goal = tt;
       })
 
-  include_is : (p : Path) (x s : ℕ) (c : Coord) → PathOf G p → G s → CoordOf G c → IsDone (include p x s c)
+  pub include_is : (p : Path) (x s : ℕ) (c : Coord) → PathOf G p → G s → CoordOf G c → IsDone (include p x s c)
   include_is p x s c path store k = goes_is (start p x (calls.Include s) None unbound (next_req (actor p) c))
       (record c { tree = uses_object p x c.tree }) (uses_is p x c k) (record { path = path; at = tt; goal = store })
 
-  step_call_is : (s : Steps) (t : CallStep) (c : Coord) → StepsOf G s → CoordOf G c → StepOf G s.goal t → IsDone (step_call s t c)
+  pub step_call_is : (s : Steps) (t : CallStep) (c : Coord) → StepsOf G s → CoordOf G c → StepOf G s.goal t → IsDone (step_call s t c)
   step_call_is s (On at) c its k so =
       goes_is (record s { req = s.req + 1; at = at }) c k (record { path = its.path; at = so; goal = its.goal })
-  step_call_is s (Ended e) c its k so = (by e, lines (actor s.path) (end_line s.x s.goal e) c)
+  step_call_is s (Ended e) c its k so = (by e, lines (actor s.path) (end_line s.x s.goal e) c (λ l. end_is s.x s.goal e l so))
     where
       i : Coord
       i = on_root (root_of s.path) (root_heard s e) (on_doing (actor s.path) (λ (d : Doing). record d { now = Idle }) c)
@@ -322,7 +331,7 @@ module _ (G : ℕ → Type 0) (one : G 1) where
       keep_is s.x (keeps_after s.goal (has_changed m.step) m.kept k) (notes_grant (granted_by (top_of s.path) s.x r) q)
       (after_is s.goal (has_changed m.step) m.kept k its.1 (kept_is s.x q so)) (granted_is (granted_by (top_of s.path) s.x r) q so)
 
-  heard_call_is : (s : Steps) (r : Reply) (c : Coord) → CoordOf G c → StepsOf G s → AnswersAt s.goal s.at r → ReplyOf G r →
+  pub heard_call_is : (s : Steps) (r : Reply) (c : Coord) → CoordOf G c → StepsOf G s → AnswersAt s.goal s.at r → ReplyOf G r →
       IsDone (heard_call s r c)
   heard_call_is s r c k so fits rs =
       let m = answered (is_free (root_of s.path) (actor s.path) s.x c) (kept_at s c) s.goal s.at r in
@@ -331,7 +340,7 @@ module _ (G : ℕ → Type 0) (one : G 1) where
       step_call_is s m.step (on_root (root_of s.path) (root_moved s r m) c) so
       (on_root_is (root_of s.path) (root_moved s r m) c (moved_is s r m its) k) its.0
 
-  lost_is : (s : Steps) (t : CallStep) (q : Root) → RootOf G q → RootOf G (root_lost s t q)
+  pub lost_is : (s : Steps) (t : CallStep) (q : Root) → RootOf G q → RootOf G (root_lost s t q)
   lost_is s t q so = let k = keeping_of s.x q in let kept = kept_is s.x q so in keep_is s.x
       (keeps_after s.goal (is_ended t && spoils s.at) k.kept k) q (after_is s.goal (is_ended t && spoils s.at) k.kept k kept kept) so
 
@@ -356,19 +365,19 @@ module _ (G : ℕ → Type 0) (one : G 1) where
       by None = tt
       by (Some b) = kinds b.kind b.path
 
-  ends_is : (u : Uid) (e : End) (f : Label → Body) (intents : List (Uid × Intent)) (c : Coord) → CoordOf G c →
-      IsDone (ends_with u e f intents c)
-  ends_is u e f intents c k = (
+  pub ends_is : (u : Uid) (e : End) (f : Label → Body) (intents : List (Uid × Intent)) (c : Coord) → CoordOf G c →
+      ((l : Label) → SaysOf G (f l)) → IsDone (ends_with u e f intents c)
+  ends_is u e f intents c k each = (
     ended_is u e c k,
-    both (says u f c) (tolds_of intents (ended u e c) u) (lines u f c) (tolds_is intents (ended u e c) u (ended_is u e c k)),
+    both (says u f c) (tolds_of intents (ended u e c) u) (lines u f c each) (tolds_is intents (ended u e c) u (ended_is u e c k)),
   )
 
   all_is : (us : List Uid) (c : Coord) → CoordOf G c → IsDone (all_aborted us c)
   all_is [] c k = (k, tt)
   all_is (u ∷ us) c k = let r = all_is us (ended u ending.Abort c) (ended_is u ending.Abort c k) in
-      (r.0, both (says u (λ l. body.Aborted l cause.Asked) c) _ (lines u (λ l. body.Aborted l cause.Asked) c) r.1)
+      (r.0, both (says u (λ l. body.Aborted l cause.Asked) c) _ (lines u (λ l. body.Aborted l cause.Asked) c (λ l. tt)) r.1)
 
-  abort_is : (u : Uid) (intents : List (Uid × Intent)) (c : Coord) → CoordOf G c → IsDone (abort_action u intents c)
+  pub abort_is : (u : Uid) (intents : List (Uid × Intent)) (c : Coord) → CoordOf G c → IsDone (abort_action u intents c)
   abort_is u intents c k =
       let us : List Uid = open_below u c.tree ++ u ∷ [] in
       let r = all_is us c k in
@@ -383,7 +392,7 @@ module _ (G : ℕ → Type 0) (one : G 1) where
   IsNext (Stays m) = MachineOf G m
   IsNext (Asks m) = MachineOf G m
   IsNext (Decides q) = PlanOf G q
-  IsNext (Aborts why q) = ⊤
+  IsNext (Aborts why q) = CauseOf G why
 
   further_is : (ns : List ℕ) (p : Plan) → AreOf G ns → PlanOf G p → PlanOf G (further ns p)
   further_is ns p all so = record {
@@ -391,9 +400,10 @@ module _ (G : ℕ → Type 0) (one : G 1) where
     used = so.used;
     sent = all_numbers G (p.sent ++ ns) (all_append G p.sent ns so.sent all);
     prepared = so.prepared;
+    excluded = so.excluded;
   }
 
-  servers_is : (p : Plan) → PlanOf G p → AreOf G (servers_of p)
+  pub servers_is : (p : Plan) → PlanOf G p → AreOf G (servers_of p)
   servers_is p so = all_numbers G (map (λ (u : Used). u.server) (filter (λ (u : Used). u.called) p.used)) (called p.used so.used)
     where
       called : (us : List Used) → AllByRecursion (UsedOf G) us → AreOf G (map (λ (u : Used). u.server) (filter (λ (u : Used). u.called) us))
@@ -419,54 +429,86 @@ module _ (G : ℕ → Type 0) (one : G 1) where
 
   confirm_step : (us : List Used) (q : Plan) → PlanOf G q → IsNext (begin_confirm us q)
   confirm_step [] q so = so
-  confirm_step (u ∷ us) q so = (further_is (1 ∷ []) q (one, tt) so, (one, tt))
+  confirm_step (u ∷ us) q so = (further_is (1 ∷ []) q (one, tt) so, (one, tt), (one, tt))
 
   prepare_step : (ns : List ℕ) (q : Plan) → AreOf G ns → PlanOf G q → IsNext (begin_prepare ns q)
   prepare_step [] q all so = confirm_step q.used q so
-  prepare_step (n ∷ ns) q all so = (further_is (n ∷ ns) q all so, all)
+  prepare_step (n ∷ ns) q all so = (further_is (n ∷ ns) q all so, all, all)
 
-  vote_step : (ns : List ℕ) (q : Plan) → AreOf G ns → PlanOf G q → IsNext (begin_vote ns q)
+  pub vote_step : (ns : List ℕ) (q : Plan) → AreOf G ns → PlanOf G q → IsNext (begin_vote ns q)
   vote_step [] q all so = prepare_step (targets_of q) q (targets_is q so) so
-  vote_step (n ∷ ns) q all so = (further_is (n ∷ ns) q all so, all)
+  vote_step (n ∷ ns) q all so = (further_is (n ∷ ns) q all so, all, (all.0, tt))
 
   stores_step : (ns : List ℕ) (q : Plan) → AreOf G ns → PlanOf G q → IsNext (let m = stores_left ns q in m.step)
   stores_step [] q all so = confirm_step q.used q so
-  stores_step (n ∷ ns) q all so = (so, all)
+  stores_step (n ∷ ns) q all so = (so, all, all)
 
   votes_step : (ns : List ℕ) (q : Plan) → AreOf G ns → PlanOf G q → IsNext (votes_left ns q)
   votes_step [] q all so = prepare_step (targets_of q) q (targets_is q so) so
-  votes_step (n ∷ ns) q all so = (so, all)
+  votes_step (n ∷ ns) q all so = (so, all, (all.0, tt))
 
-  same_plan : (p q : Plan) → q.path ≡ p.path → q.used ≡ p.used → q.sent ≡ p.sent → q.prepared ≡ p.prepared → PlanOf G p → PlanOf G q
-  same_plan p q path used sent stores so = record {
+  -- stores that are marked are such nodes
+  abbrev AreMarked : List (ℕ × ℕ) → Type 0
+  AreMarked ms = AllByRecursion (λ (m : ℕ × ℕ). G m.1) ms
+
+  same_plan : (p q : Plan) → q.path ≡ p.path → q.used ≡ p.used → q.sent ≡ p.sent → q.prepared ≡ p.prepared →
+      AreMarked q.excluded → PlanOf G p → PlanOf G q
+  same_plan p q path used sent stores marks so = record {
     path = subst (PathOf G) (sym path) so.path;
     used = subst (AllByRecursion (UsedOf G)) (sym used) so.used;
     sent = subst (AreOf G) (sym sent) so.sent;
     prepared = subst (AreOf G) (sym stores) so.prepared;
+    excluded = marks;
   }
 
-  marks_is : (ns : List ℕ) (q : Plan) → PlanOf G q → PlanOf G (marks_stores ns q)
-  marks_is [] q so = so
-  marks_is (n ∷ ns) q so = marks_is ns (marks_store n q) (same_plan q (marks_store n q) refl refl refl refl so)
+  -- the store is marked
+  mark_is : (n : ℕ) (q : Plan) → G n → PlanOf G q → PlanOf G (marks_store n q)
+  mark_is n q its so = same_plan q (marks_store n q) refl refl refl refl (many (marks_at n q) q.excluded (there (states_for n q)) so.excluded) so
+    where
+      there : (ss : List ObjectState) → AreMarked (map {A = ObjectState} {B = ℕ × ℕ} (λ st. (st.uid.num, n)) ss)
+      there [] = tt
+      there (st ∷ ss) = (its, there ss)
 
-  without_is : (from : ℕ) (ns : List ℕ) → AreOf G ns → AreOf G (without_number from ns)
+      one_more : (m : ℕ × ℕ) (ms : List (ℕ × ℕ)) → G m.1 → AreMarked ms → AreMarked (with_mark m ms)
+      one_more m [] new all = (new, tt)
+      one_more m (k ∷ ks) new all = by (nat_lt k.0 m.0 || ((k.0 == m.0) && nat_lt k.1 m.1)) (one_more m ks new all.1)
+        where
+          by : (b : Bool) → AreMarked (with_mark m ks) → AreMarked (cond b (k ∷ with_mark m ks) (m ∷ k ∷ ks))
+          by true rest = (all.0, rest)
+          by false rest = (new, all)
+
+      many : (ms all : List (ℕ × ℕ)) → AreMarked ms → AreMarked all → AreMarked (with_marks ms all)
+      many [] all new old = old
+      many (m ∷ ms) all new old = many ms (with_mark m all) new.1 (one_more m all new.0 old)
+
+  marks_is : (ns : List ℕ) (q : Plan) → AreOf G ns → PlanOf G q → PlanOf G (marks_stores ns q)
+  marks_is [] q all so = so
+  marks_is (n ∷ ns) q all so = marks_is ns (marks_store n q) all.1 (mark_is n q all.0 so)
+
+  pub without_is : (from : ℕ) (ns : List ℕ) → AreOf G ns → AreOf G (without_number from ns)
   without_is from ns all = all_filter G (λ m. not (m == from)) ns all
 
-  answer_step : (from : ℕ) (m : Machine) (r : Reply) → G from → MachineOf G m → IsNext (commit.answered from m r).step
+  pub answer_step : (from : ℕ) (m : Machine) (r : Reply) → G from → MachineOf G m → IsNext (commit.answered from m r).step
   answer_step from (Voting p left) (Reply.Voted (voted.Yes states)) its so =
       votes_step (without_number from left) (record p { changed = with_states states p.changed }) (without_is from left so.1)
-      (same_plan p (record p { changed = with_states states p.changed }) refl refl refl refl so.0)
-  answer_step from (Voting p left) (Reply.Voted (voted.Changed w)) its so = tt
+      (same_plan p (record p { changed = with_states states p.changed }) refl refl refl refl (let q = so.0 in q.excluded) so.0)
+  answer_step from (Voting p left) (Reply.Voted (voted.Changed w)) its so = its
   answer_step from (Preparing p left) (Reply.Prepared prepared.Yes) its so =
       stores_step (without_number from left) (record p { prepared = with_number from p.prepared }) (without_is from left so.1)
-      (let q = so.0 in record { path = q.path; used = q.used; sent = q.sent; prepared = all_number G from p.prepared its q.prepared })
+      (let q = so.0 in record {
+        path = q.path;
+        used = q.used;
+        sent = q.sent;
+        prepared = all_number G from p.prepared its q.prepared;
+        excluded = q.excluded;
+      })
   answer_step from (Preparing p left) (Reply.Prepared (prepared.InDoubt x h)) its so = stores_step (without_number from left)
-      (marks_store from p) (without_is from left so.1) (same_plan p (marks_store from p) refl refl refl refl so.0)
-  answer_step from (Preparing p left) (Reply.Prepared (prepared.Old x v)) its so = tt
+      (marks_store from p) (without_is from left so.1) (mark_is from p its so.0)
+  answer_step from (Preparing p left) (Reply.Prepared (prepared.Old x v)) its so = its
   answer_step from (Confirming p) (Reply.Confirmed confirmed.Yes) its so =
-      same_plan p (record p { confirmed = true }) refl refl refl refl so.0
-  answer_step from (Confirming p) (Reply.Confirmed (confirmed.Conflict h m)) its so = tt
-  answer_step from (Confirming p) (Reply.Confirmed (confirmed.Changed w)) its so = tt
+      same_plan p (record p { confirmed = true }) refl refl refl refl (let q = so.0 in q.excluded) so.0
+  answer_step from (Confirming p) (Reply.Confirmed (confirmed.Conflict h m)) its so = one
+  answer_step from (Confirming p) (Reply.Confirmed (confirmed.Changed w)) its so = one
   answer_step from (Confirming p) (Reply.Confirmed (confirmed.NoStores x)) its so = tt
   answer_step from (Confirming p) (Reply.Confirmed (confirmed.Listed x s)) its so = tt
   answer_step from (Voting p left) (Reply.Bound r) its so = so
@@ -491,10 +533,60 @@ module _ (G : ℕ → Type 0) (one : G 1) where
   answer_step from (Confirming p) (Reply.Voted r) its so = so
   answer_step from (Confirming p) (Reply.Prepared r) its so = so
 
-  giveup_step : (m : Machine) → MachineOf G m → IsNext (commit.given_up m).step
-  giveup_step (Voting p left) so = tt
-  giveup_step (Preparing p left) so = stores_step [] (marks_stores left p) tt (marks_is left p so.0)
-  giveup_step (Confirming p) so = tt
+  pub giveup_step : (m : Machine) → MachineOf G m → IsNext (commit.given_up m).step
+  giveup_step (Voting p left) so = so.2.0
+  giveup_step (Preparing p left) so = stores_step [] (marks_stores left p) tt (marks_is left p so.1 so.0)
+  giveup_step (Confirming p) so = one
+
+  -- the stores of which a step says that they are excluded
+  abbrev AreMarks : commit.Marked → Type 0
+  AreMarks m = AreMarked m.marks
+
+  left_marks : (ns : List ℕ) (q : Plan) → PlanOf G q → AreMarks (stores_left ns q)
+  left_marks [] q so = so.excluded
+  left_marks (n ∷ ns) q so = tt
+
+  pub answer_marks : (from : ℕ) (m : Machine) (r : Reply) → G from → MachineOf G m → AreMarks (commit.answered from m r)
+  answer_marks from (Preparing p left) (Reply.Prepared prepared.Yes) its so = left_marks (without_number from left)
+      (record p { prepared = with_number from p.prepared }) (let q = so.0 in record {
+        path = q.path;
+        used = q.used;
+        sent = q.sent;
+        prepared = all_number G from p.prepared its q.prepared;
+        excluded = q.excluded;
+      })
+  answer_marks from (Preparing p left) (Reply.Prepared (prepared.InDoubt x h)) its so =
+      left_marks (without_number from left) (marks_store from p) (mark_is from p its so.0)
+  answer_marks from (Preparing p left) (Reply.Prepared (prepared.Old x v)) its so = tt
+  answer_marks from (Voting p left) (Reply.Voted (voted.Yes states)) its so = tt
+  answer_marks from (Voting p left) (Reply.Voted (voted.Changed w)) its so = tt
+  answer_marks from (Confirming p) (Reply.Confirmed r) its so = tt
+  answer_marks from (Voting p left) (Reply.Bound r) its so = tt
+  answer_marks from (Voting p left) (Reply.Loaded r) its so = tt
+  answer_marks from (Voting p left) (Reply.Activated r) its so = tt
+  answer_marks from (Voting p left) (Reply.Noted r) its so = tt
+  answer_marks from (Voting p left) (Reply.Invoked r) its so = tt
+  answer_marks from (Voting p left) (Reply.Prepared r) its so = tt
+  answer_marks from (Voting p left) (Reply.Confirmed r) its so = tt
+  answer_marks from (Preparing p left) (Reply.Bound r) its so = tt
+  answer_marks from (Preparing p left) (Reply.Loaded r) its so = tt
+  answer_marks from (Preparing p left) (Reply.Activated r) its so = tt
+  answer_marks from (Preparing p left) (Reply.Noted r) its so = tt
+  answer_marks from (Preparing p left) (Reply.Invoked r) its so = tt
+  answer_marks from (Preparing p left) (Reply.Voted r) its so = tt
+  answer_marks from (Preparing p left) (Reply.Confirmed r) its so = tt
+  answer_marks from (Confirming p) (Reply.Bound r) its so = tt
+  answer_marks from (Confirming p) (Reply.Loaded r) its so = tt
+  answer_marks from (Confirming p) (Reply.Activated r) its so = tt
+  answer_marks from (Confirming p) (Reply.Noted r) its so = tt
+  answer_marks from (Confirming p) (Reply.Invoked r) its so = tt
+  answer_marks from (Confirming p) (Reply.Voted r) its so = tt
+  answer_marks from (Confirming p) (Reply.Prepared r) its so = tt
+
+  pub giveup_marks : (m : Machine) → MachineOf G m → AreMarks (commit.given_up m)
+  giveup_marks (Voting p left) so = tt
+  giveup_marks (Preparing p left) so = left_marks [] (marks_stores left p) (marks_is left p so.1 so.0)
+  giveup_marks (Confirming p) so = tt
 
   ask_is : (m : Machine) (n : ℕ) → MachineOf G m → AskOf G (ask_of m n)
   ask_is (Voting p left) n so = tt
@@ -509,7 +601,7 @@ module _ (G : ℕ → Type 0) (one : G 1) where
       let r = asked_is p req rest (asks_node p req a c).part path first.0 all.1 in
       (r.0, both (asks_node p req a c).outs (asks_all p req rest (asks_node p req a c).part).outs first.1 r.1)
 
-  machine_is : (m : Machine) (c : Coord) → CoordOf G c → MachineOf G m → IsDone (asks_machine m c)
+  pub machine_is : (m : Machine) (c : Coord) → CoordOf G c → MachineOf G m → IsDone (asks_machine m c)
   machine_is m c k so = asked_is (plan_of m).path (plan_of m).req (commit.waiting m) c so.0.path k (waits (left_of m) so.1)
     where
       waits : (ns : List ℕ) → AreOf G ns →
@@ -529,7 +621,7 @@ module _ (G : ℕ → Type 0) (one : G 1) where
     where
       by : (x : ℕ) (o : Option Known) → KeptOf G o → KeptOf G (kept_after p x o)
       by x None s = tt
-      by x (Some k) s = (s.0, listed_after G x p.excluded (included_of p) k.stores (included_is p its) s.1)
+      by x (Some k) s = (s.0, listed_after G one x p.excluded (included_of p) k.stores (included_is p its) s.1)
 
   participants_is : (p : Plan) → PlanOf G p → AreOf G (participants p)
   participants_is p so = all_numbers G (servers_of p ++ p.prepared ++ naming_node p) (all_append G (servers_of p ++ p.prepared)
@@ -578,7 +670,7 @@ module _ (G : ℕ → Type 0) (one : G 1) where
           ++ map (decided_told (root_of p.path) (actor p.path) p) p.sent)
       outs w = both (cond w (Do (PutIntent (actor p.path) i) ∷ []) [] ++ says (actor p.path) body.Committed c)
           (map (decided_told (root_of p.path) (actor p.path) p) p.sent) (both (cond w (Do (PutIntent (actor p.path) i) ∷ []) [])
-          (says (actor p.path) body.Committed c) (work w) (lines (actor p.path) body.Committed c)) (told p.sent so.sent)
+          (says (actor p.path) body.Committed c) (work w) (lines (actor p.path) body.Committed c (λ l. tt))) (told p.sent so.sent)
 
       by : (w : Bool) → IsDone (record {
         part = cond w (record r { telling = put_uid (actor p.path) i r.telling }) r;
@@ -603,17 +695,21 @@ module _ (G : ℕ → Type 0) (one : G 1) where
   step_commit_is u (Stays m) intents c k so = (commits_is u m c k so, tt)
   step_commit_is u (Asks m) intents c k so = machine_is m (commits_in u m c) (commits_is u m c k so) so
   step_commit_is u (Decides p) intents c k so = decide_is p c so k
-  step_commit_is u (Aborts why p) intents c k so = ends_is u ending.Abort (λ l. body.Aborted l why) intents c k
+  step_commit_is u (Aborts why p) intents c k so = ends_is u ending.Abort (λ l. body.Aborted l why) intents c k (λ l. so)
 
-  moved_commit_is : (u : Uid) (m : commit.Marked) (intents : List (Uid × Intent)) (c : Coord) → CoordOf G c → IsNext m.step →
+  pub moved_commit_is : (u : Uid) (m : commit.Marked) (intents : List (Uid × Intent)) (c : Coord) → CoordOf G c → IsNext m.step → AreMarks m →
       IsDone (moved_commit u m intents c)
-  moved_commit_is u m intents c k so =
+  moved_commit_is u m intents c k so marks =
       let t = step_commit u m.step intents c in
       let w = step_commit_is u m.step intents c k so in (
         w.0,
-        both (mark_lines u m.marks c) t.outs
-            (flat (λ (x : ℕ × ℕ). says u (λ l. body.Excluded l x.0 x.1) c) m.marks (λ x. lines u (λ l. body.Excluded l x.0 x.1) c)) w.1,
+        both (mark_lines u m.marks c) t.outs (said m.marks marks) w.1,
       )
+    where
+      said : (ms : List (ℕ × ℕ)) → AllByRecursion (λ (x : ℕ × ℕ). G x.1) ms → AllOf G (mark_lines u ms c)
+      said [] all = tt
+      said (x ∷ ms) all = both (says u (λ l. body.Excluded l x.0 x.1) c) (mark_lines u ms c)
+          (lines u (λ l. body.Excluded l x.0 x.1) c (λ l. all.0)) (said ms all.1)
 
   -- what a plan uses
   used_is : (top : Uid) (r : Root) (c : Coord) (x : ℕ) → KeepsCalled top r c → RootOf G r → UsedOf G (used_of top r c x)
@@ -634,286 +730,11 @@ module _ (G : ℕ → Type 0) (one : G 1) where
       by true is = let s = kept (kept_of x r) (keeps x is) (kept_is x r so) in ((λ called. s.0), s.1, joins)
       by false is = (no_call, tt, joins)
 
-  plan_is : (p : Path) (req : ℕ) (r : Root) (c : Coord) → KeepsCalled (actor p) r c → PathOf G p → RootOf G r →
+  pub plan_is : (p : Path) (req : ℕ) (r : Root) (c : Coord) → KeepsCalled (actor p) r c → PathOf G p → RootOf G r →
       PlanOf G (plan_for p req r c)
   plan_is p req r c keeps path so =
-      record { path = path; used = by (objects_in (actor p) r c); sent = sent_is (actor p) r so; prepared = tt }
+      record { path = path; used = by (objects_in (actor p) r c); sent = sent_is (actor p) r so; prepared = tt; excluded = tt }
     where
       by : (xs : List ℕ) → AllByRecursion (UsedOf G) (map (used_of (actor p) r c) xs)
       by [] = tt
       by (x ∷ xs) = (used_is (actor p) r c x keeps so, by xs)
-
-  -- ---- what a coordinator hears, and inputs
-
-  abbrev IsServed : Served Coord (Unit {0}) → Type 0
-  IsServed d = CoordOf G d.part × AllOf G d.outs
-
-  pub heard_of : (from : ℕ) (a : Asked) (r : Reply) (intents : List (Uid × Intent)) (c : Coord) → G from → CoordOf G c → ReplyOf G r →
-      AnswersWaiting from a r c → IsServed (heard from a r intents c)
-  heard_of from a r intents c its k rs fits = by (doing_of a.act c) refl
-    where
-      now : (d : Doing) → doing_of a.act c ≡ Some d → (n : Now) → d.now ≡ n → NowOf G n → IsServed (heard_now from a r intents c n)
-      now d found Idle at so = (k, tt)
-      now d found (Calling s) at so = each (waits_for_call from a r s) refl
-        where
-          each : (w : Bool) → waits_for_call from a r s ≡ w →
-              IsServed (cond {A = Served Coord (Unit {0})} w (heard_by (heard_call s r c)) (heard_none c))
-          each true on = heard_call_is s r c k so (fits d s found at on) rs
-          each false off = (k, tt)
-      now d found (Committing m) at so = each (waits_for_commit from a r m)
-        where
-          each : (w : Bool) → IsServed
-              (cond {A = Served Coord (Unit {0})} w (heard_by (moved_commit a.act (commit.answered from m r) intents c)) (heard_none c))
-          each true = moved_commit_is a.act (commit.answered from m r) intents c k (answer_step from m r its so)
-          each false = (k, tt)
-
-      by : (o : Option Doing) → doing_of a.act c ≡ o → IsServed (heard_doing from a r intents c o)
-      by None is = (k, tt)
-      by (Some d) is = now d is d.now refl (k.works a.act d is)
-
-  give_up_is : (u : Uid) (intents : List (Uid × Intent)) (c : Coord) → CoordOf G c → IsDone (give_up u intents c)
-  give_up_is u intents c k = by (doing_of u c) refl
-    where
-      with_lines : (nodes : List ℕ) (d : Did Coord) → IsDone d → IsDone (record { part = d.part; outs = gaveup_lines u nodes c ++ d.outs })
-      with_lines nodes d w = (
-        w.0,
-        both (gaveup_lines u nodes c) d.outs (flat (λ n. says u (λ l. body.GaveUp l n) c) nodes (λ n. lines u (λ l. body.GaveUp l n) c))
-            w.1,
-      )
-
-      now : (n : Now) → NowOf G n → IsDone (gives_up u intents c n)
-      now Idle so = (k, tt)
-      now (Calling s) so =
-          let t : Coord = on_root (root_of s.path) (root_lost s (given_up s.at)) c in
-          let x = step_call s (given_up s.at) t in
-          with_lines (next_node s ∷ []) x (step_call_is s (given_up s.at) t so (on_root_is (root_of s.path) (root_lost s (given_up s.at)) c
-          (lost_is s (given_up s.at)) k) (given_up_of G one s.goal s.at so.at))
-      now (Committing m) so = let x = moved_commit u (commit.given_up m) intents c in
-          with_lines (nodes_given_up m) x (moved_commit_is u (commit.given_up m) intents c k (giveup_step m so))
-
-      by : (o : Option Doing) → doing_of u c ≡ o → IsDone (give_up_doing u intents c o)
-      by None is = (k, tt)
-      by (Some d) is = now d.now (k.works u d is)
-
-  again_is : (ds : List Doing) (c : Coord) → CoordOf G c → AllByRecursion (λ (d : Doing). NowOf G d.now) ds → IsDone (again_all ds c)
-  again_is [] c k all = (k, tt)
-  again_is (d ∷ ds) c k all =
-      let a = again_now c d.now in
-      let w = now d.now all.0 in
-      let q = again_is ds a.part w.0 all.1 in
-      (q.0, both a.outs (again_all ds a.part).outs w.1 q.1)
-    where
-      now : (n : Now) → NowOf G n → IsDone (again_now c n)
-      now Idle so = (k, tt)
-      now (Calling s) so = step_is s c k so
-      now (Committing m) so = machine_is m c k so
-
-  pub again_of : (c : Coord) → CoordOf G c → IsDone (again_all c.doings c)
-  again_of c k = again_is c.doings c k (all c.doings (λ d i. i))
-    where
-      same : (n : ℕ) → (n == n) ≡ true
-      same n = grind arith
-
-      found : (d : Doing) → In d c.doings → (u : Uid) × (doing_of u c ≡ Some d)
-      found d i = let p = placed d c.doings i in (
-        record { node = c.tree.node; inc = c.tree.inc; num = p.0 },
-        (λ j. cond (same c.tree.node j && same c.tree.inc j) (at_place p.0 c.doings) None) ∙ p.1,
-      )
-
-      all : (ds : List Doing) → ((d : Doing) → In d ds → In d c.doings) → AllByRecursion (λ (d : Doing). NowOf G d.now) ds
-      all [] there = tt
-      all (d ∷ ds) there = (let f = found d (there d (inl refl)) in k.works f.0 d f.1, all ds (λ e i. there e (inr i)))
-
-  commit_is : (b : Branch) (intents : List (Uid × Intent)) (c : Coord) → KeepsCalled (actor b.path) (root_at (root_of b.path) c) c →
-      PathOf G b.path → CoordOf G c → IsDone (commit_action b intents c)
-  commit_is b intents c keeps path k = by b.doomed
-    where
-      u : Uid
-      u = actor b.path
-
-      plan : Plan
-      plan = plan_for b.path (last_req (doing_of u c)) (root_at (root_of b.path) c) c
-
-      its : PlanOf G (plan_for b.path (last_req (doing_of u c)) (root_at (root_of b.path) c) c)
-      its = plan_is b.path (last_req (doing_of u c)) (root_at (root_of b.path) c) c keeps path (root_is (root_of b.path) c k)
-
-      top : IsDone (commit_top b.path intents c)
-      top =
-          let x = moved_commit u (commit.start plan) intents c in
-          let w = moved_commit_is u (commit.start plan) intents c k (vote_step (servers_of plan) plan (servers_is plan its) its) in
-          (w.0, both (says u body.Committing c) x.outs (lines u body.Committing c) w.1)
-
-      kinds : (q : Kind) → IsDone (commit_open b intents c q)
-      kinds kind.Nested = ends_is u ending.Commit body.Committed intents c k
-      kinds kind.Serial = ends_is u ending.Commit body.Ended intents c k
-      kinds kind.Top = top
-      kinds kind.Independent = top
-      kinds kind.Constituent = top
-
-      by : (d : Bool) → IsDone (cond {A = Did Coord} d (aborts_with u cause.Doomed intents c) (commit_open b intents c b.kind))
-      by true = ends_is u ending.Abort (λ l. body.Aborted l cause.Doomed) intents c k
-      by false = kinds b.kind
-
-  named_is : (c : Coord) (o : Option ℕ) (b : Branch) → branch_numbered c o ≡ Some b → CoordOf G c → PathOf G b.path
-  named_is c None b is k = let no_way : ◌≡◌ {A = Option Branch} None (Some b) = is in cc
-  named_is c (Some j) b is k = all_placed (λ (q : Branch). PathOf G q.path) j c.tree.branches b k.paths is
-
-  on_named : (l : Label) (f : Branch → Did Coord) (c : Coord) → CoordOf G c →
-      ((b : Branch) → branch_named l c ≡ Some b → PathOf G b.path → IsDone (f b)) → IsDone (on_branch f c (branch_named l c))
-  on_named l f c k each = by (branch_named l c) refl
-    where
-      by : (o : Option Branch) → branch_named l c ≡ o → IsDone (on_branch f c o)
-      by None is = (k, tt)
-      by (Some b) is = each b is (named_is c _ b is k)
-
-  -- ---- actions that begin
-
-  pub begin_of : (l : Label) (q : Kind) (parent : Option Label) (c : Coord) → begin_refusal q c parent ≡ None → CoordOf G c →
-      IsDone (begin_action l q parent (parent_of parent c) c)
-  begin_of l q parent c free k = (
-    record {
-      node = k.node;
-      paths = all_append _ c.tree.branches
-          (record { path = path_below q (parent_of parent c) (next_uid c.tree); kind = q; ended = None; doomed = false } ∷ []) k.paths
-          (below_is G q (parent_of parent c) (next_uid c.tree) (shallow q c parent free) k.node (above parent), tt);
-      works = λ u d at. was (is_own u c.tree) u.num d at (λ f. k.works u d f);
-      roots = k.roots;
-      telling = k.telling;
-    },
-    (tt, tt),
-  )
-    where
-      fresh : Doing
-      fresh = record { label = l; req = 0; now = Idle; took = [] }
-
-      above : (o : Option Label) → IfSome (parent_of o c) (λ (b : Branch). PathOf G b.path)
-      above None = tt
-      above (Some p) = by (branch_named p c) refl
-        where
-          by : (o : Option Branch) → branch_named p c ≡ o → IfSome o (λ (b : Branch). PathOf G b.path)
-          by None is = tt
-          by (Some b) is = named_is c _ b is k
-
-      was : (b : Bool) (j : ℕ) (d : Doing) → cond b (at_place j (c.doings ++ fresh ∷ [])) None ≡ Some d →
-          (cond b (at_place j c.doings) None ≡ Some d → NowOf G d.now) → NowOf G d.now
-      was true zero d at f = let no_way : ◌≡◌ {A = Option Doing} None (Some d) = at in cc
-      was true (suc j) d at f =
-          ⊎_elim (λ old. f old) (λ new. subst (λ (x : Doing). NowOf G x.now) new.1 tt) (get_more j fresh d c.doings at)
-      was false j d at f = let no_way : ◌≡◌ {A = Option Doing} None (Some d) = at in cc
-
-  -- an include names a node, and of what a commit has called its root keeps bindings
-  abbrev pub Needs : Input → Coord → Type 0
-  Needs (input.Begin l q parent) c = ⊥
-  Needs (input.Include l x s) c = G s
-  Needs (input.Commit l) c = (b : Branch) → branch_named l c ≡ Some b → KeepsCalled (actor b.path) (root_at (root_of b.path) c) c
-  Needs _ c = ⊤
-
-  pub acts_of : (i : Input) (intents : List (Uid × Intent)) (c : Coord) → Needs i c → CoordOf G c → IsDone (acts i intents c)
-  acts_of (input.Begin l q parent) intents c its k = absurd its
-  acts_of (input.Call l x o) intents c its k = on_named l (λ b. call b.path x o c) c k (λ b is path. call_is b.path x o c path k)
-  acts_of (input.Include l x s) intents c its k =
-      on_named l (λ b. include b.path x s c) c k (λ b is path. include_is b.path x s c path its k)
-  acts_of (input.Commit l) intents c its k =
-      on_named l (λ b. commit_action b intents c) c k (λ b is path. commit_is b intents c (its b is) path k)
-  acts_of (input.Abort l) intents c its k =
-      on_named l (λ b. abort_action (actor b.path) intents c) c k (λ b is path. abort_is (actor b.path) intents c k)
-  acts_of (input.GiveUp l) intents c its k =
-      on_named l (λ b. give_up (actor b.path) intents c) c k (λ b is path. give_up_is (actor b.path) intents c k)
-  acts_of (input.Frame j from m) intents c its k = (k, tt)
-  acts_of input.Tick intents c its k = (k, tt)
-  acts_of input.Restart intents c its k = (k, tt)
-  acts_of input.Crash intents c its k = (k, tt)
-  acts_of (input.Show x) intents c its k = (k, tt)
-
-  -- ---- acknowledgements and queries
-
-  abbrev AreRecords : List (Uid × Intent) → Type 0
-  AreRecords intents = AllByRecursion (λ (e : Uid × Intent). AreOf G (let i = e.1 in i.nodes)) intents
-
-  pub acked_of : (from : ℕ) (u : Uid) (intents : List (Uid × Intent)) (c : Coord) → AreRecords intents → CoordOf G c →
-      IsServed (acked from u intents c)
-  acked_of from u intents c records k = by (at_uid u c.telling) refl
-    where
-      told : (m : List (Uid × Intent)) → AreRecords m → CoordOf G (record c { telling = m })
-      told m all = record { node = k.node; paths = k.paths; works = k.works; roots = k.roots; telling = all }
-
-      gone : (o : Option Intent) → IfSome o (λ (i : Intent). AreOf G i.nodes) → AllOf G (tolds_let_go u (without_uid u intents) c o)
-      gone None its = tt
-      gone (Some i) its = each (not (uid_eq i.root u) && is_over (branch_of i.root c.tree))
-        where
-          each : (b : Bool) →
-              AllOf G (cond b (tell_all i.root false ((i.root, ending.Abort) ∷ []) (let_go i.root (without_uid u intents) c i.nodes)) [])
-          each true = tells i.root false ((i.root, ending.Abort) ∷ []) (let_go i.root (without_uid u intents) c i.nodes)
-              (all_filter G _ i.nodes its)
-          each false = tt
-
-      recorded : (o : Option Intent) → at_uid u intents ≡ o → IfSome o (λ (i : Intent). AreOf G i.nodes)
-      recorded None is = tt
-      recorded (Some i) is = all_at_uid (λ (j : Intent). AreOf G j.nodes) u i intents records is
-
-      left : (i : Intent) (ns : List ℕ) → AreOf G ns → IsServed (acked_left u i intents c ns)
-      left i [] all = (
-        told (without_uid u c.telling) (all_without _ u c.telling k.telling),
-        (tt, gone (at_uid u intents) (recorded (at_uid u intents) refl)),
-      )
-      left i (n ∷ ns) all = (
-        told (put_uid u (record i { nodes = n ∷ ns }) c.telling) (all_put (λ (x : Uid × Intent). AreOf G (let j = x.1 in j.nodes)) u
-            (record i { nodes = n ∷ ns }) c.telling (λ w. all) k.telling),
-        tt,
-      )
-
-      by : (o : Option Intent) → at_uid u c.telling ≡ o → IsServed (acked_by from u intents c o)
-      by None is = (k, tt)
-      by (Some i) is = each (has i.nodes from)
-        where
-          each : (b : Bool) → IsServed (cond {A = Served Coord (Unit {0})} b (acked_left u i intents c (without_number from i.nodes))
-              (record { part = c; outs = []; reply = None }))
-          each true = left i (without_number from i.nodes)
-              (without_is from i.nodes (all_at_uid (λ (j : Intent). AreOf G j.nodes) u i c.telling k.telling is))
-          each false = (k, tt)
-
-  pub query_of : (from : ℕ) (u : Uid) (intents : List (Uid × Intent)) (c : Coord) → G from → AllOf G (answer_query from u intents c)
-  query_of from u intents c its = by (is_open u c.tree || is_deferred u intents from)
-    where
-      told : (root : Uid) (ack : Bool) (e : End) → AllOf G (tell root ack ((u, e) ∷ []) from ∷ [])
-      told root ack e = ((its, (tt, tt)), tt)
-
-      decided : AllOf G (answer_decided from u c)
-      decided = each (is_kept_commit from u c)
-        where
-          each : (b : Bool) → AllOf G (cond b (tell (root_or_self u (branch_of u c.tree)) false ((u, ending.Commit) ∷ []) from ∷ [])
-              (tell (root_or_self u (branch_of u c.tree)) false ((u, ending.Abort) ∷ []) from ∷ []))
-          each true = told (root_or_self u (branch_of u c.tree)) false ending.Commit
-          each false = told (root_or_self u (branch_of u c.tree)) false ending.Abort
-
-      recorded : (o : Option Intent) → AllOf G (answer_recorded from u c o)
-      recorded None = decided
-      recorded (Some i) = each (has i.nodes from)
-        where
-          each : (b : Bool) → AllOf G (cond b (tell i.root true ((u, ending.Commit) ∷ []) from ∷ []) (answer_decided from u c))
-          each true = told i.root true ending.Commit
-          each false = decided
-
-      by : (b : Bool) → AllOf G (cond b [] (answer_recorded from u c (at_uid u intents)))
-      by true = tt
-      by false = recorded (at_uid u intents)
-
-  pub told_again_of : (telling : List (Uid × Intent)) → AreRecords telling → AllOf G (tolds_again telling)
-  told_again_of [] all = tt
-  told_again_of (e ∷ es) all = let i = e.1 in both (tell_all i.root true ((e.0, ending.Commit) ∷ []) i.nodes) (tolds_again es)
-      (tells i.root true ((e.0, ending.Commit) ∷ []) i.nodes all.0) (told_again_of es all.1)
-
-  pub new_of : (node inc : ℕ) (records : List (Uid × Intent)) → G node → AreRecords records →
-      CoordOf G (record (new_coord node inc) { telling = records })
-  new_of node inc records its all = record {
-    node = its;
-    paths = tt;
-    works = λ u d at. nothing (is_own u (let c = new_coord node inc in c.tree)) u.num d at;
-    roots = tt;
-    telling = all;
-  }
-    where
-      nothing : (b : Bool) (j : ℕ) (d : Doing) → cond b (at_place j []) None ≡ Some d → NowOf G d.now
-      nothing true zero d is = let no_way : ◌≡◌ {A = Option Doing} None (Some d) = is in cc
-      nothing true (suc j) d is = let no_way : ◌≡◌ {A = Option Doing} None (Some d) = is in cc
-      nothing false j d is = let no_way : ◌≡◌ {A = Option Doing} None (Some d) = is in cc

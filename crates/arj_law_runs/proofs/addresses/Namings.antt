@@ -8,11 +8,11 @@ use Words.{confirm_entries, confirm_new, confirms, entries_after, entry_after, e
 use Words.{pending_of, prepared_by, recovered_lines, recovered_naming, rows_back, same_nodes, stores_after, wanted, with_stores}
 use Words.{without_stores, grant_lines, is_granted, Already, Did, Do, InDoubt, Look, Old, Pair, Prep, Prepare, Ready, Say, Served}
 use Words.{did_nothing, either, held_at, is_prepared, prepare_answer, reply, void, Counted, Live, Made, Named, bind_call, bind_made}
-use Words.{bind_named, conflict_on, end_named, entry_row, hello_named, in_use, include_asked, is_binding, is_lowered, live_above}
+use Words.{bind_named, conflict_on, end_named, entry_row, hello_named, in_use, include_asked, is_lowered, live_above}
 use Words.{live_after, live_asked, lock_lines, locked, lower_lines, lowered, made_above, make_asked, next_server, note_made, note_named}
 use Words.{note_other, Naming, bind, end_entries, end_lines, end_orphans, entry_of, has_locks, hello, is_over, listed_entry, note}
 use Words.{on_counted, on_named, orphans, own_entries, taken_end, told_new, at_number, at_uid, binding_eq, binding_less, row_top}
-use Words.{state_entry}
+use Words.{state_entry, is_binding}
 use Words.body
 use Words.confirmed
 use Words.ending
@@ -30,7 +30,7 @@ use addresses.Servers.{asked_of, drop_of, lower_of, pass_of, take_of, top_fits, 
 use Rattle.arj_law_runs.specs.addresses.Addresses.{LiveOf}
 use Rattle.arj_protocol.specs.{Named.first_server, Named.server_behind, Naming.naming_holders}
 
-module _ (G : ℕ → Type 0) where
+module _ (G : ℕ → Type 0) (first : G 1) where
   abbrev IsMade : Uid × Made → Type 0
   IsMade e = G (let m = e.1 in m.server)
 
@@ -58,12 +58,12 @@ module _ (G : ℕ → Type 0) where
 
   -- ---- requests about one object
 
-  lines_of : (n : ℕ) (new : Row) (rows : List Row) → AllOf G (grant_lines n new rows)
-  lines_of n new rows = by (is_granted new.object (last_uid new.holder) new.mode rows)
+  lines_of : (new : Row) (rows : List Row) → AllOf G (grant_lines 1 new rows)
+  lines_of new rows = by (is_granted new.object (last_uid new.holder) new.mode rows)
     where
-      by : (b : Bool) → AllOf G (cond b [] (Say (body.Granted n (last_uid new.holder) new.object new.mode) ∷ []))
+      by : (b : Bool) → AllOf G (cond b [] (Say (body.Granted 1 (last_uid new.holder) new.object new.mode) ∷ []))
       by true = tt
-      by false = (tt, tt)
+      by false = (first, tt)
 
   abbrev IsBound : Served Counted BoundReply → Type 0
   IsBound r = Is (let c = r.part in c.named) × IfSome r.reply (BoundOf G) × AllOf G r.outs
@@ -81,11 +81,11 @@ module _ (G : ℕ → Type 0) where
       live_asked_of : (l : Live) → G l.server → (r : Option Row) → IsBound (live_asked inc x p e c l r)
       live_asked_of l server (Some r) = (its, tt, tt)
       live_asked_of l server None =
-          (locked_of x mode.Read c.named its, (server, its_entry.stores), lines_of 1 (entry_row x p mode.Read) c.named.rows)
+          (locked_of x mode.Read c.named its, (server, its_entry.stores), lines_of (entry_row x p mode.Read) c.named.rows)
 
       made_of : (q : Option Made) → IfSome q (λ (m : Made). G m.server) → IsBound (bind_made inc x p e c q)
       made_of (Some m) server =
-          (locked_of x mode.Write c.named its, (server, its_entry.stores), lines_of 1 (entry_row x p mode.Write) c.named.rows)
+          (locked_of x mode.Write c.named its, (server, its_entry.stores), lines_of (entry_row x p mode.Write) c.named.rows)
       made_of None tells =
           let s = next_server c.named.turn e.servers in
           let next = next_of c.named.turn e.servers its_entry.some its_entry.servers in
@@ -100,7 +100,7 @@ module _ (G : ℕ → Type 0) where
             },
             (next, its_entry.stores),
             all_append _ (lock_lines x p mode.Write c.named) (Say (body.Bound x (record { inc = inc; count = c.count + 1 }) s) ∷ [])
-                (lines_of 1 (entry_row x p mode.Write) c.named.rows) (tt, tt),
+                (lines_of (entry_row x p mode.Write) c.named.rows) (next, tt),
           )
 
       above_of : (avoid : Binding) (q : Option Made) → IfSome q (λ (m : Made). G m.server) →
@@ -139,7 +139,7 @@ module _ (G : ℕ → Type 0) where
       include_of None = let l = locked_of x mode.Write c.named its in (
         record { rows = l.rows; live = l.live; made = l.made; turn = l.turn },
         its_entry.stores,
-        lines_of 1 (entry_row x p mode.Write) c.named.rows,
+        lines_of (entry_row x p mode.Write) c.named.rows,
       )
 
       bound_of : (include : Bool) (avoid : Binding) → IsBound (bind_named inc x p include avoid e c)
@@ -227,7 +227,7 @@ module _ (G : ℕ → Type 0) where
   note_says x top b i o = by (is_binding b o.recorded)
     where
       low : (c : Bool) → AllOf G (cond c (Say (body.Lowered 1 top (entry x)) ∷ []) [])
-      low true = (tt, tt)
+      low true = (first, tt)
       low false = tt
 
       made : (m : Made) (c : Bool) → AllOf G (cond {A = Served Named RecordedReply} c (reply o recorded.Yes)
@@ -335,7 +335,7 @@ module _ (G : ℕ → Type 0) where
         one None is = (all, tt)
         one (Some o) is = let f = keyed_found (HasEntry q) Is x n.objects o all is in (
           keyed_put (HasEntry q) Is x (locked x p mode.Exclude o) n.objects f.0 (locked_of p path x mode.Exclude o f.1) all,
-          lines_of 1 (entry_row x p mode.Exclude) o.rows,
+          lines_of (entry_row x p mode.Exclude) o.rows,
         )
 
     pub confirm_of : (grants : Grants) (excluded included : Marks) (d : Pair) (n : Naming) → AllByRecursion (λ (m : ℕ × ℕ). G m.1) included
@@ -351,7 +351,7 @@ module _ (G : ℕ → Type 0) where
         answered states t Ready all_states s = (
           s.0,
           all_append _ t.outs (Do Look ∷ Do (Prepare role.Names (top_of p) states) ∷ Say (body.Prepared 1 (top_of p) role.Names) ∷ []) s.1
-              (tt, ((act, all_states), (tt, tt))),
+              (tt, ((act, all_states), (first, tt))),
         )
         answered states t (Already u) all_states s = (s.0, all_append _ t.outs (Do Look ∷ []) s.1 (tt, tt))
         answered states t (Old u v) all_states s = (s.0, all_append _ t.outs (Do Look ∷ []) s.1 (tt, tt))
@@ -377,8 +377,8 @@ module _ (G : ℕ → Type 0) where
   -- ---- ends, a server that comes back, and a restart
 
   ends_of : (u : Uid) (e : End) → AllOf G (end_entries u e)
-  ends_of u ending.Commit = (tt, (tt, tt))
-  ends_of u ending.Abort = (tt, (tt, tt))
+  ends_of u ending.Commit = (tt, (first, tt))
+  ends_of u ending.Abort = (tt, (first, tt))
 
   pub told_of : (u : Uid) (e : End) (d : Pair) (n : Naming) → NamingOf G d n →
       (let r = told u e d n in NamingOf G d r.part × AllOf G r.outs)
@@ -412,7 +412,7 @@ module _ (G : ℕ → Type 0) where
       orphan ending.Abort = all_ends (orphans u d n)
 
       lines : (end : End) (b : Bool) → AllOf G (cond b (Say (body.Told 1 u end part.Naming) ∷ []) [])
-      lines end true = (tt, tt)
+      lines end true = (first, tt)
       lines end false = tt
 
       outs_of : (b : Bool) → AllOf G (cond {A = Did Naming} b (did_nothing n) (told_new u (taken_end u e n) d n)).outs
@@ -471,7 +471,7 @@ module _ (G : ℕ → Type 0) where
     where
       rows : (rs : List Row) → AllOf G (map (λ (r : Row). Say (body.Granted 1 (last_uid r.holder) r.object r.mode)) rs)
       rows [] = tt
-      rows (r ∷ rs) = (tt, rows rs)
+      rows (r ∷ rs) = (first, rows rs)
 
       by : (es : List (ℕ × Named)) → AllOf G (flat_map (λ (e : ℕ × Named). back_lines e.1) es)
       by [] = tt

@@ -1,8 +1,8 @@
 -- What a node makes of a message, and what it does at a tick and as it comes up.
 use Rattle.arj_law_parts.proofs.Words
-use Words.{◌≡◌, ◌==◌, ◌+◌, ℕ, List, [], ◌∷◌, ◌++◌, Bool, true, false, cond, filter, map, Option, Some, None, refl, subst, ⊤, IfSome}
+use Words.{◌≡◌, ◌==◌, ◌+◌, ℕ, List, [], ◌∷◌, ◌++◌, Bool, true, false, cond, filter, map, Option, Some, None, refl, sym, subst, eqb-true, ⊤, IfSome}
 use Words.{is_some, option_map, unwrap_or, match_ordering, Ordering, Less, Equal, Greater, uid_order, AllByRecursion, list_all, and_parts}
-use Words.{activate_own, ends_own, invoke_own, vote_own, Ask, Asked, BoundReply, End, Head, Header, Message, ObjectState, Uid, asks, entry}
+use Words.{is_server_line, activate_own, ends_own, invoke_own, vote_own, Ask, Asked, Body, BoundReply, End, Head, Header, Message, ObjectState, Uid, asks, entry}
 use Words.{object, Reply, actor, answers, asked_by, last_end, response, again_all, heard, confirm, recovered_naming, Coord, Abort, After}
 use Words.{Already, Before, Commit, Disk, Do, Effect, InDoubt, InPart, Intent, Look, Old, Pair, Prep, Prepare, PutInc, PutIntent, Ready}
 use Words.{RemoveIntent, Say, Send, Served, Stop, Work, held_at, holder_of, is_prepared, moved_some, new_states, prepare_answer, stopped}
@@ -24,9 +24,10 @@ use Terms.{AllOf, AreOf, AskOf, BoundOf, CoordOf, CopiesOf, DiskOf, HasEntry, Is
 use Terms.{ReplyOf, StateOf, UidsOf, AnswersWaiting}
 use Rattle.arj_law_runs.proofs.addresses
 use addresses.{Servers.actor_of}
-use addresses.Coords.{acked_of, again_of, heard_of, new_of, query_of, told_again_of}
+use addresses.CoordHears.{again_of, heard_of}
+use addresses.CoordBegins.{acked_of, new_of, query_of, told_again_of}
 use addresses.Lists.{all_append, all_at_uid, all_filter, all_key, all_map, all_put, all_uids, all_without, found_put}
-use Rattle.arj_law_runs.specs.addresses.Addresses.{AnsweredOf, AskedOf, EffectOf, NamesOf, WorkOf}
+use Rattle.arj_law_runs.specs.addresses.Addresses.{AnsweredOf, AskedOf, EffectOf, NamesOf, SaysOf, WorkOf}
 use Rattle.arj_protocol.specs.Effect.{moved}
 use Rattle.arj_law_runs.proofs.addresses.Namings as names
 use Rattle.arj_law_runs.proofs.addresses.Servers as servers
@@ -36,12 +37,19 @@ module _ (G : ℕ → Type 0) (one : G 1) where
   both es fs a b = all_append _ es fs a b
 
   -- a server's lines
-  server_lines : (n : ℕ) (es : List Effect) → AreAll (is_server_effect n) es → AllOf G es
-  server_lines n [] own = tt
-  server_lines n (Say b ∷ es) own =
-      (tt, server_lines n es (and_parts (is_server_effect n (Say b)) (list_all (is_server_effect n) es) own).1)
-  server_lines n (Send to m ∷ es) own = absurd (cc own)
-  server_lines n (Do w ∷ es) own = absurd (cc own)
+  server_line : (n : ℕ) (b : Body) → G n → is_server_line n b ≡ true → SaysOf G b
+  server_line n (body.Granted m u o how) its own = subst G (sym (eqb-true m n (and_parts (m == n) _ own).0)) its
+  server_line n (body.Active m x c) its own = subst G (sym (eqb-true m n own)) its
+  server_line n (body.Told m u e p) its own = subst G (sym (eqb-true m n (and_parts (m == n) _ own).0)) its
+  server_line n b its own = absurd (cc own)
+
+  server_lines : (n : ℕ) (es : List Effect) → G n → AreAll (is_server_effect n) es → AllOf G es
+  server_lines n [] its own = tt
+  server_lines n (Say b ∷ es) its own =
+      let p = and_parts (is_server_effect n (Say b)) (list_all (is_server_effect n) es) own in
+      (server_line n b its p.0, server_lines n es its p.1)
+  server_lines n (Send to m ∷ es) its own = absurd (cc own)
+  server_lines n (Do w ∷ es) its own = absurd (cc own)
 
   queries : (us : List Uid) → UidsOf G us → AllOf G (map query_about us)
   queries [] all = tt
@@ -205,11 +213,11 @@ module _ (G : ℕ → Type 0) (one : G 1) where
     where
       locks : (o : Option Naming) → NamesOf G d.names o → UidsOf G (locks_of o)
       locks None its = tt
-      locks (Some n) its = names.holders_of G d.names n its
+      locks (Some n) its = names.holders_of G one d.names n its
 
   -- ---- one message
 
-  module _ (k : ℕ) (d : Disk) (t : Parts) (from : ℕ) (sender : G from) (disk : DiskOf G d) (its : PartsOf G d t) where
+  module _ (k : ℕ) (d : Disk) (t : Parts) (from : ℕ) (mine : G k) (sender : G from) (disk : DiskOf G d) (its : PartsOf G d t) where
     abbrev By : Handled → Type 0
     By (Void outs) = ⊤
     By (Took v outs) = PartsOf G d v × AllOf G outs
@@ -244,7 +252,7 @@ module _ (G : ℕ → Type 0) (one : G 1) where
     asked h (ask.Bind x include avoid) path so =
         with_it (λ o. served from h (with_naming t) Reply.Bound (naming.bind h.path x include avoid d.names o)) t.naming its.naming
         (λ m all. let r = naming.bind h.path x include avoid d.names m in
-        let b = names.bind_of G h.path x include avoid d.names m path disk.held all in
+        let b = names.bind_of G one h.path x include avoid d.names m path disk.held all in
         answered h (with_naming t r.part) r.outs (option_map Reply.Bound r.reply) (named_so r.part b.0) b.2 (bounds r.reply b.1))
     asked h (ask.Load x) path so = load (holder_of (object x) d.store)
       where
@@ -257,21 +265,21 @@ module _ (G : ℕ → Type 0) (one : G 1) where
         load None = held (held_at (object x) d.store)
     asked h (ask.Activate b st) path so = let r = server.activate k h.path b st t.server in answered h (with_server t r.part) r.outs
         (option_map Reply.Activated r.reply) (served_so r.part (servers.activate_of G k h.path b st t.server its.server))
-        (server_lines k r.outs (activate_own k h.path b st t.server)) (plain Reply.Activated (λ r. tt) r.reply)
+        (server_lines k r.outs mine (activate_own k h.path b st t.server)) (plain Reply.Activated (λ r. tt) r.reply)
     asked h (ask.Record x b i g) path so =
         with_it (λ o. served from h (with_naming t) Reply.Noted (naming.note h.path x b i g o)) t.naming its.naming
-        (λ m all. let r = naming.note h.path x b i g m in let b = names.note_of G h.path x b i g d.names m all in answered h
+        (λ m all. let r = naming.note h.path x b i g m in let b = names.note_of G one h.path x b i g d.names m all in answered h
         (with_naming t r.part) r.outs (option_map Reply.Noted r.reply) (named_so r.part b.0) b.1 (plain Reply.Noted (λ r. tt) r.reply))
     asked h (ask.Invoke x b i ends o) path so = let r = server.invoke k h x b i ends o t.server in answered h (with_server t r.part) r.outs
         (option_map Reply.Invoked r.reply) (served_so r.part (servers.invoke_of G k h x b i ends o t.server path its.server))
-        (server_lines k r.outs (invoke_own k h x b i ends o t.server)) (plain Reply.Invoked (λ r. tt) r.reply)
+        (server_lines k r.outs mine (invoke_own k h x b i ends o t.server)) (plain Reply.Invoked (λ r. tt) r.reply)
     asked h (ask.Vote i ties ends) path so = let r = server.vote k h.path i ties ends t.server in answered h (with_server t r.part) r.outs
         (option_map Reply.Voted r.reply) (served_so r.part (servers.vote_of G k h.path i ties ends t.server its.server))
-        (server_lines k r.outs (vote_own k h.path i ties ends t.server)) (plain Reply.Voted (λ r. tt) r.reply)
+        (server_lines k r.outs mine (vote_own k h.path i ties ends t.server)) (plain Reply.Voted (λ r. tt) r.reply)
     asked h (ask.Prepare states) path so = each (is_prepared (actor h.path) d.store)
       where
         new : (a : Prep) → By (prepare_by k states from h t a)
-        new Ready = (its, (tt, (actor_of G h.path path, (tt, ((sender, (tt, tt)), tt)))))
+        new Ready = (its, (tt, (actor_of G h.path path, (mine, ((sender, (tt, tt)), tt)))))
         new (Already u) = tt
         new (Old u v) = (its, (tt, ((sender, (tt, tt)), tt)))
         new (InDoubt u holder) = (its, (tt, ((sender, (tt, tt)), tt)))
@@ -282,7 +290,7 @@ module _ (G : ℕ → Type 0) (one : G 1) where
         each false = new (prepare_answer (actor h.path) states d.store)
     asked h (ask.Confirm grants excluded included) path so =
         with_it (λ o. served from h (with_naming t) Reply.Confirmed (confirm h.path grants excluded included d.names o)) t.naming its.naming
-        (λ m all. let r = confirm h.path grants excluded included d.names m in let b = names.confirm_of G h.path path
+        (λ m all. let r = confirm h.path grants excluded included d.names m in let b = names.confirm_of G one h.path path
         (servers.top_is G h.path path) grants excluded included d.names m so disk.held all in answered h (with_naming t r.part) r.outs
         (option_map Reply.Confirmed r.reply) (named_so r.part b.0) b.1 (plain Reply.Confirmed (λ r. tt) r.reply))
 
@@ -302,18 +310,18 @@ module _ (G : ℕ → Type 0) (one : G 1) where
           record { server = servers.told_of G k ends t.server its.server; naming = n.0; coord = its.coord },
           both (store_told k e.0 e.1 d.store ++ o.outs ++ s.outs) (ack_told from e.0 ack) (both (store_told k e.0 e.1 d.store ++ o.outs)
               s.outs (both (store_told k e.0 e.1 d.store) o.outs (stored (is_prepared e.0 d.store) e.1) n.1)
-              (server_lines k s.outs (ends_own k ends t.server))) (acked_told ack),
+              (server_lines k s.outs mine (ends_own k ends t.server))) (acked_told ack),
         )
       where
         stored : (b : Bool) (how : End) → AllOf G (cond b (end_states k e.0 how) [])
         stored false how = tt
-        stored true ending.Commit = (tt, (tt, tt))
-        stored true ending.Abort = (tt, (tt, tt))
+        stored true ending.Commit = (tt, (mine, tt))
+        stored true ending.Abort = (tt, (mine, tt))
 
         named : (o : Option Naming) → NamesOf G d.names o →
             (let r = naming_told e.0 e.1 d.names o in NamesOf G d.names r.part × AllOf G r.outs)
         named None so = (tt, tt)
-        named (Some m) so = names.told_of G e.0 e.1 d.names m so
+        named (Some m) so = names.told_of G one e.0 e.1 d.names m so
 
         acked_told : (b : Bool) → AllOf G (ack_told from e.0 b)
         acked_told true = ((sender, (tt, tt)), tt)
@@ -321,7 +329,7 @@ module _ (G : ℕ → Type 0) (one : G 1) where
 
     hello_so : (node inc : ℕ) (o : Option Naming) → NamesOf G d.names o → NamesOf G d.names (naming_hello node inc o)
     hello_so node inc None so = tt
-    hello_so node inc (Some m) so = names.hello_of G node inc d.names m so
+    hello_so node inc (Some m) so = names.hello_of G one node inc d.names m so
 
     other : (m : Message) → By (handle_other k d t from m)
     other (message.Told m) = ends_left m.ack m.ends (last_end m.ends)
@@ -386,13 +394,14 @@ module _ (G : ℕ → Type 0) (one : G 1) where
   starts_of k inc d its disk = record { server = tt; naming = by (k == 1); coord = new_of G one k inc d.intents its disk.intents }
     where
       by : (b : Bool) → NamesOf G d.names (cond b (Some (recovered_naming inc d.names)) None)
-      by true = names.recovered_of G inc d.names disk.names disk.held
+      by true = names.recovered_of G one inc d.names disk.names disk.held
       by false = tt
 
-  pub restart_of : (hd : Header) (k : ℕ) (d : Disk) → AreOf G (numbers_to hd.nodes) → DiskOf G d → AllOf G (restart_outs hd k (d.inc + 1) d)
-  restart_of hd k d all disk = both (first ++ second ++ tolds_again d.intents ++ asking) hellos
+  pub restart_of : (hd : Header) (k : ℕ) (d : Disk) → G k → AreOf G (numbers_to hd.nodes) → DiskOf G d →
+      AllOf G (restart_outs hd k (d.inc + 1) d)
+  restart_of hd k d mine all disk = both (first ++ second ++ tolds_again d.intents ++ asking) hellos
       (both (first ++ second ++ tolds_again d.intents) asking (both (first ++ second) (tolds_again d.intents) (both first second
-      (tt, (tt, (tt, (tt, back (naming_at k (d.inc + 1) d.names))))) (tt, records d.intents)) (told_again_of G one d.intents disk.intents))
+      (tt, (tt, (mine, (tt, back (naming_at k (d.inc + 1) d.names))))) (tt, records d.intents)) (told_again_of G one d.intents disk.intents))
       (queries (uid_set (prepared_actions d.store ++ prepared_actions d.names))
       (all_uids (λ (u : Uid). G u.node) (prepared_actions d.store ++ prepared_actions d.names) (all_append _ (prepared_actions d.store)
       (prepared_actions d.names) (keys d.store disk.store) (keys d.names (firsts d.names.pend disk.names))))))
@@ -412,11 +421,11 @@ module _ (G : ℕ → Type 0) (one : G 1) where
 
       back : (o : Option Naming) → AllOf G (naming_back o)
       back None = tt
-      back (Some n) = names.back_of G n
+      back (Some n) = names.back_of G one n
 
       records : (intents : List (Uid × Intent)) → AllOf G (recovered_records k intents)
       records [] = tt
-      records (e ∷ es) = (tt, records es)
+      records (e ∷ es) = (mine, records es)
 
       greets : (ns : List ℕ) → AreOf G ns → AllOf G (map (hello_to k (d.inc + 1)) ns)
       greets [] all = tt

@@ -4,23 +4,25 @@ use Words.{◌≡◌, ◌∙◌, ◌≤◌, ◌+◌, ◌==◌, ◌&&◌, ℕ, ze
 use Words.{⊎_elim, Option, Some, None, IfSome, if◌then◌else◌, nat_le, slice_get, AllByRecursion, list_all, and_parts, leb-true, nat_tests}
 use Words.{Header, Message, ObjectLine, ObjectState, Uid, again_all, begin_action, Coord, Disk, Do, Effect, Say, Send, stopped, worked}
 use Words.{tick_outs, Parts, with_coord, put_uid, Input, Node, acts, node_by, numbers_to, parent_of}
-use Words.{parts_in, put_states, refusal_up, restart_outs, Frame, World, world_from, is_serial_kind, run_event, entry_back, world_by}
-use Words.{IsFormed, Post, Seen, Start, see}
+use Words.{parts_in, put_states, refusal_up, restart_outs, Frame, World, world_from, run_event, entry_back, world_by, is_serial}
+use Words.{◌++◌, Body, IsFormed, Line, Post, Seen, Start, numbered, see}
+use Words.body
 use Words.input
 use Rattle.arj_law_runs.proofs.Terms
 use Terms.{IsAtStarts, Run, disk_by, entries_from, entry_by, Asked, HasPlace, Holds, IsSent, KeepsAsked, is_act, In, at, given, posted}
-use Terms.{said, up, Up, Walks, event_asked, keeps_asked}
+use Terms.{AreQuiet, said, up, Up, Walks, event_asked, keeps_asked}
 use Terms.{moves_asked, walks_both, AllOf, AreOf, CoordOf, DiskOf, EntryOf, IsEntry, PartsOf, StateOf}
 use Rattle.arj_journal.specs.ScriptForm.{HeaderInForm, ObjectLineInForm}
 use Rattle.arj_journal.specs.declared.limits.TheConstants.{SERVERS, STORES}
 use Rattle.arj_law_parts.proofs.moves.Happens.{first_asked}
 use Rattle.arj_law_parts.specs.moves.Keeps.{AsksNode}
+use Rattle.arj_law_parts.specs.moves.Seen.{is_quiet_line}
 use Rattle.arj_law_runs.proofs.addresses
-use addresses.{Coords.Needs, Coords.acts_of, Coords.begin_of, Lists.all_append, Lists.all_key, Lists.all_map}
+use addresses.{CoordBegins.Needs, CoordBegins.acts_of, CoordBegins.begin_of, Lists.all_append, Lists.all_key, Lists.all_map}
 use addresses.BindRuns.{AreBound, answers_fit, binds_keep, commit_keeps}
 use addresses.Nodes.{handled_of, parts_stay, restart_of, starts_of, stopped_of, tick_of, worked_of}
-use Rattle.arj_law_runs.specs.addresses.Addresses.{AreAddressed, AreSo, GoWithin, IsNode, LineOf, NodeOf, PostOf, UpOf}
-use Rattle.arj_model.specs.Start.{Marks}
+use Rattle.arj_law_runs.specs.addresses.Addresses.{AreAddressed, AreSo, GoWithin, IsNode, LineOf, NodeOf, PostOf, SaysOf, UpOf}
+use Rattle.arj_start.specs.Start.{Marks}
 use Rattle.arj_text.specs.Fields.{NodesInForm, is_distinct}
 
 module _ (G : ℕ → Type 0) where
@@ -30,13 +32,46 @@ module _ (G : ℕ → Type 0) where
   abbrev All : Seen → Type 0
   All M = AreSo G M
 
+  abbrev Lines : List Line → Type 0
+  Lines lines = AllByRecursion (λ (l : Line). SaysOf G l.body) lines
+
   -- of each node but this, and of all that was sent
   abbrev RestIsSo : ℕ → Seen → Type 0
   RestIsSo k M = ((j : ℕ) (n : Node) → (j == k) ≡ false → M.nodes j ≡ Some n → Is n) × ((p : Post) → In p M.sent → PostOf G p)
+      × Lines M.lines
 
   rest : (k : ℕ) (d : Disk) (live : Option Parts) (M : Seen) → All (at k d live M) → RestIsSo k M
-  rest k d live M all =
-      (λ j n apart is. all.0 j n ((λ i. cond (apart i) (Some (record { number = k; disk = d; live = live })) (M.nodes j)) ∙ is), all.1)
+  rest k d live M all = (
+    λ j n apart is. all.0 j n ((λ i. cond (apart i) (Some (record { number = k; disk = d; live = live })) (M.nodes j)) ∙ is),
+    all.1,
+    all.2,
+  )
+
+  -- lines that are said since
+  says_more : (e : ℕ) (bs : List Body) (lines : List Line) → AllByRecursion (SaysOf G) bs → Lines lines → Lines (lines ++ numbered e bs)
+  says_more e bs lines new old = all_append (λ (l : Line). SaysOf G l.body) lines (numbered e bs) old (each bs new)
+    where
+      each : (bs : List Body) → AllByRecursion (SaysOf G) bs → Lines (numbered e bs)
+      each [] all = tt
+      each (b ∷ bs) all = (all.0, each bs all.1)
+
+  quiet_says : (bs : List Body) → AreQuiet bs → AllByRecursion (SaysOf G) bs
+  quiet_says [] quiet = tt
+  quiet_says (b ∷ bs) quiet =
+      let p = and_parts (is_quiet_line b) (list_all is_quiet_line bs) quiet in (by b p.0, quiet_says bs p.1)
+    where
+      by : (b : Body) → is_quiet_line b ≡ true → SaysOf G b
+      by (body.Sent j from to what) is = tt
+      by (body.Got j) is = tt
+      by (body.Void j) is = tt
+      by (body.Dropped j) is = tt
+      by (body.Armed n) is = tt
+      by (body.Refused c) is = tt
+      by (body.Entry x v servers stores) is = tt
+      by (body.Copy n x v w payload) is = tt
+      by (body.Quiet q) is = tt
+      by (body.Limit l) is = tt
+      by b is = absurd (cc is)
 
   own : (k : ℕ) (d : Disk) (live : Option Parts) (M : Seen) → All (at k d live M) → Is (record { number = k; disk = d; live = live })
   own k d live M all = all.0 k (record { number = k; disk = d; live = live })
@@ -47,7 +82,7 @@ module _ (G : ℕ → Type 0) where
 
   back : (k : ℕ) (d : Disk) (live : Option Parts) (M : Seen) → Is (record { number = k; disk = d; live = live }) → RestIsSo k M →
       All (at k d live M)
-  back k d live M its all = (λ j n is. by j n (j == k) refl is, all.1)
+  back k d live M its all = (λ j n is. by j n (j == k) refl is, all.1, all.2)
     where
       x : Node
       x = record { number = k; disk = d; live = live }
@@ -62,13 +97,19 @@ module _ (G : ℕ → Type 0) where
         RestIsSo k M → Walks All e k outs (Up All k v) d M
     walk e k [] v d M num disk its outs all = back k d (Some v) M (num, disk, its) all
     walk e k (Do w ∷ es) v d M num disk its outs all = (
-      λ how. back k (stopped how w d) None (said e [] M) (num, stopped_of G one how w d outs.0 disk, tt) all,
+      λ how. let more = says_more e (body.Halted k ∷ []) M.lines (num, tt) all.2 in
+          back k (stopped how w d) None (said e (body.Halted k ∷ []) M) (num, stopped_of G one how w d outs.0 disk, tt)
+          (all.0, all.1, more),
       walk e k es v (worked w d) M num (worked_of G one w d outs.0 disk) (parts_stay G one w d v its) outs.1 all,
     )
-    walk e k (Say b ∷ es) v d M num disk its outs all = walk e k es v d (said e (b ∷ []) M) num disk its outs.1 all
+    walk e k (Say b ∷ es) v d M num disk its outs all = walk e k es v d (said e (b ∷ []) M) num disk its outs.1
+        (all.0, all.1, says_more e (b ∷ []) M.lines (outs.0, tt) all.2)
     walk e k (Send to m ∷ es) v d M num disk its outs all = λ more quiet.
-        walk e k es v d (said e more (posted (record { from = k; to = to; message = m }) M)) num disk its outs.1
-        (all.0, λ p. ⊎_elim (λ same. subst (PostOf G) same (num, outs.0.0, outs.0.1)) (λ old. all.1 p old))
+        walk e k es v d (said e more (posted (record { from = k; to = to; message = m }) M)) num disk its outs.1 (
+          all.0,
+          λ p. ⊎_elim (λ same. subst (PostOf G) same (num, outs.0.0, outs.0.1)) (λ old. all.1 p old),
+          says_more e more M.lines (quiet_says more quiet) all.2,
+        )
 
     module _ (hd : Header) (nodes : (s : ℕ) → (nat_le 1 s && nat_le s hd.nodes) ≡ true →
         G s) (objects : AllByRecursion (LineOf G) hd.objects) where
@@ -133,7 +174,7 @@ module _ (G : ℕ → Type 0) where
         first_at (m ∷ ms) (suc i) n all is = first_at ms i n all.1 is
 
       first_so : IsAtStarts hd All
-      first_so st formed = (λ j n is. at_first j n is, λ p no_way. absurd no_way)
+      first_so st formed = (λ j n is. at_first j n is, λ p no_way. absurd no_way, tt)
         where
           at_first : (j : ℕ) (n : Node) → (let M = see [] (world_from hd st) in M.nodes j) ≡ Some n → Is n
           at_first zero n is = absurd (cc is)
@@ -167,15 +208,23 @@ module _ (G : ℕ → Type 0) where
 
       pub so_kept : KeepsAsked hd Whole
       so_kept = record {
-        quiet = λ e bs M quiet all. (base.quiet e bs M quiet all.0, all.1);
-        stop = λ e k d live M all. let n = own k d live M all.1 in
-            (base.stop e k d live M all.0, back k d None M (n.0, n.1, tt) (rest k d live M all.1));
+        quiet = λ e bs M quiet all. (
+          base.quiet e bs M quiet all.0,
+          (let s = all.1 in (s.0, s.1, says_more e bs M.lines (quiet_says bs quiet) s.2)),
+        );
+        stop = λ e k d live M all.
+            let n = own k d live M all.1 in
+            let r = rest k d live M all.1 in (
+              base.stop e k d live M all.0,
+              back k d None (said e (body.Halted k ∷ []) M) (n.0, n.1, tt)
+                  (r.0, r.1, says_more e (body.Halted k ∷ []) M.lines (n.0, tt) r.2),
+            );
         message = λ e k d t v from m outs M all there meant is.
             let n = own k d (Some t) M all.1 in
             let known = all.0 in
             let good = known.0 in
             let p = all.1.1 (record { from = from; to = k; message = m }) there in
-            let h = handled_of G one k d t from p.0 n.1 n.2 m v outs (answers_fit good.0 e k d t M good.1 known.1 from m there) p.2 is in
+            let h = handled_of G one k d t from n.0 p.0 n.1 n.2 m v outs (answers_fit good.0 e k d t M good.1 known.1 from m there) p.2 is in
             both e k outs v d M (base.message e k d t v from m outs M known there meant is)
             (walk e k outs v d M n.0 n.1 h.0 h.1 (rest k d (Some t) M all.1));
         act = λ e k d t i M is asks free all.
@@ -188,7 +237,7 @@ module _ (G : ℕ → Type 0) where
             let n = own k d (Some t) M all.1 in
             let did = begin_action l how parent (parent_of parent t.coord) t.coord in
             let a = begin_of G one l how parent t.coord free n.2.coord in
-            let N = given l (record { node = k; serial = is_serial_kind how }) M in
+            let N = given l (record { node = k; serial = is_serial how }) M in
             both e k did.outs (with_coord t did.part) d N (base.begin e k d t l how parent M new may free all.0)
             (walk e k did.outs (with_coord t did.part) d N n.0 n.1 (with_it d t did.part n.2 a.0) a.1 (rest k d (Some t) M all.1));
         tick = λ e k d t M all.
@@ -202,7 +251,7 @@ module _ (G : ℕ → Type 0) where
             let n = own k d None M all.1 in
             both e k (restart_outs hd k (d.inc + 1) d) (parts_in k (d.inc + 1) d) d M (base.restart e k d M all.0)
             (walk e k (restart_outs hd k (d.inc + 1) d) (parts_in k (d.inc + 1) d) d M n.0 n.1 (starts_of G one k (d.inc + 1) d n.0 n.1)
-            (restart_of G one hd k d numbers n.1) (rest k d None M all.1));
+            (restart_of G one hd k d n.0 numbers n.1) (rest k d None M all.1));
         first = λ st formed. (base.first st formed, first_so st formed);
       }
         where
@@ -266,3 +315,7 @@ module _ (hd : Header) (form : HeaderInForm hd) where
 
   pub within : (r : Run hd) → GoWithin hd.nodes (world_by hd r)
   within r = within_of (world_by hd r) (moves_asked hd (AreAddressed hd) kept r)
+
+  -- and of its lines
+  pub lines_name : (r : Run hd) → AllByRecursion (λ (l : Line). SaysOf (IsNode hd) l.body) (let w = world_by hd r in w.lines)
+  lines_name r = let h = moves_asked hd (AreAddressed hd) kept r in let all = h.holds in all.1.2

@@ -6,7 +6,7 @@ use Words.{Head, Header, Kind, Label, Message, ObjectState, asks, label_cmp, obj
 use Words.{begin_action, heard, Coord, Doing, Already, Disk, Do, Effect, InDoubt, Old, Prep, Ready, Say, Send, Served, held_at, holder_of}
 use Words.{is_prepared, prepare_answer, stopped, worked, acked, tick_outs, Naming, Handled, Parts, Took, Void, by_reply, coord_heard}
 use Words.{handle, handle_answer, handle_ask, handle_ends, handle_other, if_naming, load_by, load_held, prepare_by, sends_answer, serve}
-use Words.{with_coord, Node, acts, parent_of, parts_in, restart_outs, Labelled, is_serial_kind, Seen}
+use Words.{with_coord, Node, acts, parent_of, parts_in, restart_outs, Labelled, Seen, is_serial}
 use Words.ask
 use Words.message
 use Words.prepared
@@ -205,7 +205,7 @@ labels_go hd = record {
       same_walk k e t (with_coord t did.part) did.outs d M s (as_many t.coord did.part
       (same_acts i d.intents t.coord (λ l how parent same. let no_way : false ≡ true = sym (ap is_act same) ∙ is in absurd (cc no_way))));
   begin = λ e k d t l how parent M new may none s.
-      begins_labelled e k d t l how parent (record { node = k; serial = is_serial_kind how }) M new s;
+      begins_labelled e k d t l how parent (record { node = k; serial = is_serial how }) M new s;
   tick = λ e k d t M s.
       same_walk k e t (with_coord t (again_all t.coord.doings t.coord).part) (tick_outs (record { number = k; disk = d; live = Some t }) t)
       d M s (as_many t.coord (again_all t.coord.doings t.coord).part (same_again t.coord.doings t.coord));

@@ -4,10 +4,10 @@ use Words.{◌≡◌, ◌≤◌, ◌<◌, ◌==◌, ◌+◌, ◌*◌, ℕ, zero,
 use Words.{sym, ◌∙◌, ap, subst, arith, nat_le, nat_lt, slice_set, ◌||◌, insert_entry, match_ordering, Ordering, Less, Equal, Greater}
 use Words.{length-append, Body, Event, Header, Label, label_cmp, Parts, Input, Node, first_reason, numbers_to, at_place, set_place, Arm}
 use Words.{Frame, Giving, Labelled, World, armed, as_delivered, as_lost, begins, change_frame, counted, deliver, deliver_frame, world_from}
-use Words.{frame_number, giving, happens, is_open_frame, is_quiet, is_serial_kind, is_up_at, junk, junk_fits, kind_below, labels_unless}
-use Words.{lacks_labels, limited, lose, lose_frame, lowest, lowest_from, most_frames, most_labels, new_frame, no_labels, node_numbers}
+use Words.{frame_number, giving, happens, is_open_frame, is_quiet, is_up_at, junk, junk_fits, kind_below, labels_unless}
+use Words.{lacks_labels, limited, lose, lose_frame, lowest, lowest_from, new_frame, no_labels, node_numbers}
 use Words.{node_of, numbered, quiesce, quiet_line, reasons, refused_at, run_event, run_unless, settle, settle_for, show_all, show_up, steps}
-use Words.{Start, IsFormed, tick_all, tick_up, Move, all_moved, as_moves, moved, world_by, most_events}
+use Words.{Start, IsFormed, tick_all, tick_up, Move, all_moved, as_moves, moved, world_by, most_events, is_serial, most_frames, most_labels}
 use Words.body
 use Words.event
 use Words.kind
@@ -20,7 +20,7 @@ use Terms.which
 use Rattle.arj_law_parts.proofs.moves.Happens.{first_holds}
 use Rattle.arj_law_parts.proofs.steps.{Frames.over, Frames.over_few, Frames.over_more, Settled.uses_up}
 use Rattle.arj_law_runs.proofs.bindings
-use bindings.{CoordBinds.at_naming, Doings.HaveLabels, Doings.labels_go, Steps.tick_cost}
+use bindings.{CoordBinds.at_naming, Doings.HaveLabels, Doings.labels_go, Labels.happens_labels, Labels.limited_labels, Steps.tick_cost}
 use bindings.Worlds.{cost_at, made, steps_labels, steps_made}
 use Rattle.arj_law_runs.proofs.calls.{MadeLines.lines_both, Reaching.moves_keep}
 use Rattle.arj_law_runs.specs.bindings.Scripts.{MovesMakeFew}
@@ -492,109 +492,22 @@ module _ (hd : Header) where
       by Equal rest = less (suc (length es))
       by Greater rest = up_one (length (insert_entry label_cmp es l g)) (length es) rest
 
-  -- a step leaves room as it was
-  same_room : (k : ℕ) (i : Input) (w : World) → HasRoom w → HasRoom (steps k i w)
-  same_room k i w few = subst (λ ls. length ls ≤ most_labels) (sym (steps_labels k i w)) few
+  abbrev room : List (Label × Labelled) → Type 0
+  room ls = length ls ≤ most_labels
 
-  ticks_room : (ns : List ℕ) (w : World) → HasRoom w → HasRoom (tick_all ns w)
-  ticks_room [] w few = few
-  ticks_room (n ∷ ns) w few = ticks_room ns (tick_up n w) (by (w.full || not (is_up_at n w)))
+  happens_room : (e : Event) (a : Arm) (w : World) → lacks_labels (giving e w) w ≡ false → HasRoom w → HasRoom (happens e a w)
+  happens_room e a w free few = happens_labels room e a w (λ g gives. more g (subst (λ o. lacks_labels o w ≡ false) gives free)) few
     where
-      by : (b : Bool) → HasRoom (cond b w (steps n input.Tick w))
-      by true = few
-      by false = same_room n input.Tick w few
-
-  deliver_room : (k : ℕ) (w : World) → HasRoom w → HasRoom (deliver k w)
-  deliver_room k w few = by (at_place k w.frames)
-    where
-      by : (o : Option Frame) → HasRoom (deliver_frame k w o)
-      by None = few
-      by (Some f) = same_room f.to (input.Frame k f.from f.message) (change_frame k as_delivered f w) few
-
-  settle_room : (fuel : ℕ) (w : World) → HasRoom w → HasRoom (settle_for fuel w)
-  settle_room zero w few = few
-  settle_room (suc fuel) w few = by (lowest w) (λ k. settle_room fuel (deliver k w) (deliver_room k w few))
-    where
-      by : (o : Option ℕ) → ((k : ℕ) → HasRoom (settle_for fuel (deliver k w))) →
-          HasRoom (elim o [ None ↦ w | Some k ↦ settle_for fuel (deliver k w) ])
-      by None rest = few
-      by (Some k) rest = rest k
-
-  quiesce_room : (w : World) → HasRoom w → HasRoom (quiesce w)
-  quiesce_room w few = quiet (settle (tick_all (node_numbers w) (settle w))) (settle_room most_frames (tick_all (node_numbers w) (settle w))
-      (ticks_room (node_numbers w) (settle w) (settle_room most_frames w few)))
-    where
-      quiet : (v : World) → HasRoom v → HasRoom (quiet_line v)
-      quiet v few = by v.full
-        where
-          by : (b : Bool) → HasRoom (cond b v (says (body.Quiet (is_quiet v) ∷ []) v))
-          by true = few
-          by false = few
-
-  shows_room : (x : ℕ) (ns : List ℕ) (w : World) → HasRoom w → HasRoom (show_all x ns w)
-  shows_room x [] w few = few
-  shows_room x (n ∷ ns) w few = shows_room x ns (show_up x n w) (by (is_up_at n w))
-    where
-      by : (b : Bool) → HasRoom (cond b (steps n (input.Show x) w) w)
-      by true = same_room n (input.Show x) w few
-      by false = few
-
-  junk_room : (n : ℕ) (w : World) → HasRoom w → HasRoom (junk n w)
-  junk_room n w few = by (nat_lt (length w.frames) most_frames)
-    where
-      by : (b : Bool) → HasRoom (junk_fits n w b)
-      by true = few
-      by false = few
-
-  lose_room : (k : ℕ) (w : World) → HasRoom w → HasRoom (lose k w)
-  lose_room k w few = by (at_place k w.frames)
-    where
-      by : (o : Option Frame) → HasRoom (lose_frame k w o)
-      by None = few
-      by (Some f) = few
-
-  begins_room : (g : Giving) (w : World) → nat_le most_labels (length w.labels) ≡ false → HasRoom w → HasRoom (begins g w)
-  begins_room g w free few = same_room g.node i (labels_unless g w r) (by r)
-    where
-      i : Input
-      i = input.Begin g.label g.kind g.parent
-
-      r : Option ℕ
-      r = refused_at (input.Begin g.label g.kind g.parent) w (at_place g.node w.nodes)
-
       below : (a b : ℕ) → nat_le most_labels b ≡ false → a ≤ suc b → a ≤ most_labels
       below a b free le = under a b le (grind (arith, free))
         where
           under : (a b : ℕ) → a ≤ suc b → suc b ≤ most_labels → a ≤ most_labels
           under a b x y = omega (arith, x, y)
 
-      by : (r : Option ℕ) → HasRoom (labels_unless g w r)
-      by None = below (length (insert_entry label_cmp w.labels g.label (record { node = g.node; serial = is_serial_kind g.kind })))
-          (length w.labels) free (one_more g.label (record { node = g.node; serial = is_serial_kind g.kind }) w.labels)
-      by (Some c) = few
-
-  happens_room : (e : Event) (a : Arm) (w : World) → lacks_labels (giving e w) w ≡ false → HasRoom w → HasRoom (happens e a w)
-  happens_room (event.Begin l n) a w free few = begins_room (record { label = l; kind = kind.Top; parent = None; node = n }) w free few
-  happens_room (event.Serial l n) a w free few = begins_room (record { label = l; kind = kind.Serial; parent = None; node = n }) w free few
-  happens_room (event.BeginIn l p) a w free few =
-      begins_room (record { label = l; kind = kind_below p w; parent = Some p; node = node_of p w }) w free few
-  happens_room (event.Top l p) a w free few =
-      begins_room (record { label = l; kind = kind.Independent; parent = Some p; node = node_of p w }) w free few
-  happens_room (event.Call l x o) a w free few = same_room (node_of l w) (input.Call l x o) w few
-  happens_room (event.Include l x n) a w free few = same_room (node_of l w) (input.Include l x n) w few
-  happens_room (event.Commit l) a w free few = same_room (node_of l w) (input.Commit l) w few
-  happens_room (event.Abort l) a w free few = same_room (node_of l w) (input.Abort l) w few
-  happens_room (event.GiveUp l) a w free few = same_room (node_of l w) (input.GiveUp l) w few
-  happens_room (event.Deliver k) a w free few = deliver_room (frame_number k w) w few
-  happens_room (event.Lose k) a w free few = lose_room (frame_number k w) w few
-  happens_room (event.Tick n) a w free few = same_room n input.Tick w few
-  happens_room event.Settle a w free few = settle_room most_frames w few
-  happens_room event.Quiesce a w free few = quiesce_room w few
-  happens_room (event.Crash n) a w free few = same_room n input.Crash w few
-  happens_room (event.Restart n) a w free few = same_room n input.Restart w few
-  happens_room (event.Stop n c how) a w free few = few
-  happens_room (event.Junk n bytes) a w free few = junk_room n w few
-  happens_room (event.Show x) a w free few = shows_room x (node_numbers w) w few
+      more : (g : Giving) → nat_le most_labels (length w.labels) ≡ false →
+          room (insert_entry label_cmp w.labels g.label (record { node = g.node; serial = is_serial g.kind }))
+      more g free = below (length (insert_entry label_cmp w.labels g.label (record { node = g.node; serial = is_serial g.kind })))
+          (length w.labels) free (one_more g.label (record { node = g.node; serial = is_serial g.kind }) w.labels)
 
   -- ---- a whole event
 
@@ -623,13 +536,6 @@ module _ (hd : Header) where
       by true = let s = says_grew (body.Limit which.Frames ∷ []) (record w { over = true }) refl in record { lines = s.lines; few = s.few }
       by false = stays 0 w
 
-  limited_room : (w : World) → HasRoom w → HasRoom (limited w)
-  limited_room w few = by w.full
-    where
-      by : (b : Bool) → HasRoom (cond b (says (body.Limit which.Frames ∷ []) (record w { over = true })) w)
-      by true = few
-      by false = few
-
   event_grew : (e : Asked) (w : World) → Fits w → Grew most_labels w (run_event e w) × HasRoom (run_event e w)
   event_grew e w fits = over_by w.over
     where
@@ -647,7 +553,7 @@ module _ (hd : Header) where
           let v = happens e.event e.arm (counted w) in
           let g = happens_grew e.event e.arm (counted w) (counted_fits w fits) in (
             then_grew most_labels 0 most_labels w v (limited v) same_sum (record { lines = g.lines; few = g.few }) (limited_grew v),
-            limited_room v (happens_room e.event e.arm (counted w) (free e.event is) fits.1),
+            limited_labels room v (happens_room e.event e.arm (counted w) (free e.event is) fits.1),
           )
         where
           free : (x : Event) → lacks_labels (giving x w) w ≡ false → lacks_labels (giving x (counted w)) (counted w) ≡ false

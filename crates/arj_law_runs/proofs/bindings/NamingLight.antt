@@ -5,9 +5,9 @@ use Words.{Binding, BoundReply, ConfirmedReply, End, Entry, Mode, ObjectState, P
 use Words.{top_path, Grants, Marks, checked, confirm, confirm_entries, confirm_new, confirms, entries_after, has_all, lock_all, lock_in}
 use Words.{prepared_by, wanted, is_granted, Already, Did, Do, Effect, InDoubt, Look, Old, Pair, Prep, Prepare, Ready, Say, Served}
 use Words.{did_nothing, is_prepared, prepare_answer, reply, void, Counted, Live, Made, Named, bind_call, bind_made, bind_named, conflict_on}
-use Words.{in_use, include_asked, is_binding, is_lowered, live_above, live_asked, lock_lines, lower_lines, lowered, made_above, make_asked}
+use Words.{in_use, include_asked, is_lowered, live_above, live_asked, lock_lines, lower_lines, lowered, made_above, make_asked}
 use Words.{next_server, note_made, note_named, note_other, Naming, end_entries, end_lines, end_orphans, has_locks, is_over, listed_entry}
-use Words.{on_counted, on_named, orphans, own_entries, told_new, at_number, at_uid, binding_eq}
+use Words.{on_counted, on_named, orphans, own_entries, told_new, at_number, at_uid, binding_eq, is_binding}
 use Words.body
 use Words.confirmed
 use Words.ending

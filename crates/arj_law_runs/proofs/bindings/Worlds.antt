@@ -2,7 +2,7 @@
 use Rattle.arj_law_parts.proofs.Words
 use Words.{◌≡◌, ◌≤◌, ◌+◌, ◌-◌, ℕ, zero, suc, Bool, true, false, cond, List, [], ◌∷◌, ◌++◌, length, Option, Some, None, refl, arith, nat_le}
 use Words.{nat_lt, frame_kind, Disk, Do, Effect, Say, Send, Stop, worked, at_number, Input, Node, step, at_place, Arm, World, armed, bodies}
-use Words.{count_works, cut, disarmed, done_step, halted_at, halted_outs, most_frames, numbered, put, step_node, step_with, steps}
+use Words.{count_works, cut, disarmed, done_step, halted_at, halted_outs, numbered, put, step_node, step_with, steps, most_frames}
 use Words.body
 use Rattle.arj_law_runs.proofs.Terms.{bindings_made, bound_by}
 use Rattle.arj_law_runs.proofs.bindings.{Steps.cost, Steps.step_weigh, Weights.weigh, Weights.weigh_both, Weights.weight}

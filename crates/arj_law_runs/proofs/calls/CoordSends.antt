@@ -16,7 +16,7 @@ use Words.kind
 use Words.voted
 use Words.commit
 use Rattle.arj_law_runs.proofs.Terms
-use Terms.{Action, ask_ends, IsAsking, IsBusy, IsGoodCoord, IsVoting, Paths, In, Call, IsAsked, IsRefused, call_by, call_in, call_of}
+use Terms.{Action, IsAsking, IsBusy, IsGoodCoord, IsVoting, Paths, In, Call, IsAsked, IsRefused, call_by, call_in, call_of, ends_in}
 use Terms.{Answered, Doomed, HasNoServer, IsCalledBy, IsCovered, IsOfStep, IsOver, IsOwn, IsPlanned, IsVotedIn, IsWaiting, KnowsCalls}
 use Terms.{Nowhere, Refused, Spent, WasRefused, WasSpent, bare, head_of}
 use Rattle.arj_law_runs.proofs.calls.{CoordCalls.not_both, CoordCalls.step_is, CoordKnown.doing_here, ServerCalls.never}
@@ -38,7 +38,7 @@ pub record IsSentBy (e : Coord) (to : ℕ) (h : Head) (a : Ask) : Type 0 where
   pub call : (k : Call) → call_in h a ≡ Some k → (s : Steps) × (doing.now ≡ Calling s)
   pub commit : (m : Machine) → doing.now ≡ Committing m → IsOfCommit m to h a
   pub busy : doing.now ≢ Idle
-  pub brings : (s : Steps) → doing.now ≡ Calling s → (ask_ends a ≡ []) ⊎ (ask_ends a ≡ ends_of (root_of s.path) e.tree)
+  pub brings : (s : Steps) → doing.now ≡ Calling s → (ends_in a ≡ []) ⊎ (ends_in a ≡ ends_of (root_of s.path) e.tree)
 
 abbrev pub SendsSo : Coord → Effect → Type 0
 SendsSo e (Send to m) = (h : Head) (a : Ask) → asks m ≡ Some (h, a) → IsSentBy e to h a
@@ -270,7 +270,7 @@ quiet_tolds intents c u = by (branch_of u c.tree)
 pub request_so : (e : Coord) (to : ℕ) (h : Head) (a : Ask) (d : Doing) → doing_of (actor h.path) e ≡ Some d → h.req ≡ d.req →
     ((s : Steps) → d.now ≡ Calling s → IsOfStep s to h a) → ((k : Call) → call_in h a ≡ Some k → (s : Steps) × (d.now ≡ Calling s)) →
     ((m : Machine) → d.now ≡ Committing m → IsOfCommit m to h a) → d.now ≢ Idle → ((s : Steps) → d.now ≡ Calling s →
-    (ask_ends a ≡ []) ⊎ (ask_ends a ≡ ends_of (root_of s.path) e.tree)) → SendsSo e (Send to (request h a))
+    (ends_in a ≡ []) ⊎ (ends_in a ≡ ends_of (root_of s.path) e.tree)) → SendsSo e (Send to (request h a))
 request_so e to h a d found last step call commit busy brings h2 a2 is =
     let same : (h, a) ≡ (h2, a2) = some_is (sym (request_reads_back h a) ∙ is) in
     let heads : h ≡ h2 = ap (λ (z : Head × Ask). z.0) same in
@@ -280,7 +280,7 @@ request_so e to h a d found last step call commit busy brings h2 a2 is =
 
 -- a step brings no ends, or these
 step_ends : (x : ℕ) (g : Goal) (ends : List (Uid × End)) (at : At) →
-    (ask_ends (ask_at x g ends at) ≡ []) ⊎ (ask_ends (ask_at x g ends at) ≡ ends)
+    (ends_in (ask_at x g ends at) ≡ []) ⊎ (ends_in (ask_at x g ends at) ≡ ends)
 step_ends x g ends (AtBind avoid) = inl refl
 step_ends x g ends (AtLoad k n rest) = inl refl
 step_ends x g ends (AtActivate k st) = inl refl

@@ -2,7 +2,7 @@
 use Rattle.arj_law_parts.proofs.Words
 use Words.{◌≡◌, ℕ, ◌+◌, List, [], ◌∷◌, ◌++◌, true, Option, Some, None, Body, Header, Kind, Label, Line, Message, again_all, begin_action}
 use Words.{Disk, Do, Effect, Say, Send, worked, tick_outs, Parts, Took, handle, is_meant, with_coord, Input, acts, begin_refusal, parent_of}
-use Words.{parts_in, refusal_up, restart_outs, is_serial_kind, numbered, Seen}
+use Words.{parts_in, refusal_up, restart_outs, numbered, Seen, is_serial}
 use Words.body
 use Rattle.arj_law_runs.proofs.Terms
 use Terms.{DidKeeps, IsAtStarts, Keeps, MayGive, is_act, label_at, AreQuiet, In, at, down, given, posted, said, up, Up, Walks, halted}
@@ -20,7 +20,7 @@ pub record KeepsGiven (hd : Header) (G P : Seen → Type 0) : Type 0 where
   pub begin : (e k : ℕ) (d : Disk) (t : Parts) (l : Label) (how : Kind) (parent : Option Label) (M : Seen)
       → label_at l M.labels ≡ None → MayGive M.labels k how parent → begin_refusal how t.coord parent ≡ None
       → G (up k d t M) → P (up k d t M) → DidKeeps P e k d t (begin_action l how parent (parent_of parent t.coord) t.coord)
-      (given l (record { node = k; serial = is_serial_kind how }) M)
+      (given l (record { node = k; serial = is_serial how }) M)
   pub tick : (e k : ℕ) (d : Disk) (t : Parts) (M : Seen) → G (up k d t M) → P (up k d t M)
       → Walks P e k (tick_outs (record { number = k; disk = d; live = Some t }) t)
       (Up P k (with_coord t (again_all t.coord.doings t.coord).part)) d M
@@ -46,7 +46,7 @@ both_given hd G P Q one two = record {
       (one.act e k d t i M is none (g, p.1) p.0) (two.act e k d t i M is none (g, p.0) p.1);
   begin = λ e k d t l how parent M new may none g p.
       let did = begin_action l how parent (parent_of parent t.coord) t.coord in
-      both_walk P Q e k did.outs (with_coord t did.part) d (given l (record { node = k; serial = is_serial_kind how }) M)
+      both_walk P Q e k did.outs (with_coord t did.part) d (given l (record { node = k; serial = is_serial how }) M)
       (one.begin e k d t l how parent M new may none (g, p.1) p.0) (two.begin e k d t l how parent M new may none (g, p.0) p.1);
   tick = λ e k d t M g p. both_walk P Q e k (tick_outs (record { number = k; disk = d; live = Some t }) t)
       (with_coord t (again_all t.coord.doings t.coord).part) d M (one.tick e k d t M (g, p.1) p.0) (two.tick e k d t M (g, p.0) p.1);
@@ -66,7 +66,7 @@ kept_both hd G P one two = record {
       both_walk G P e k did.outs (with_coord t did.part) d M (one.act e k d t i M is none p.0) (two.act e k d t i M is none p.0 p.1);
   begin = λ e k d t l how parent M new may none p.
       let did = begin_action l how parent (parent_of parent t.coord) t.coord in
-      both_walk G P e k did.outs (with_coord t did.part) d (given l (record { node = k; serial = is_serial_kind how }) M)
+      both_walk G P e k did.outs (with_coord t did.part) d (given l (record { node = k; serial = is_serial how }) M)
       (one.begin e k d t l how parent M new may none p.0) (two.begin e k d t l how parent M new may none p.0 p.1);
   tick = λ e k d t M p. both_walk G P e k (tick_outs (record { number = k; disk = d; live = Some t }) t)
       (with_coord t (again_all t.coord.doings t.coord).part) d M (one.tick e k d t M p.0) (two.tick e k d t M p.0 p.1);
@@ -127,7 +127,7 @@ module _ (S : List Line → Type 0) (before : (lines more : List Line) → S (li
         while_walk e k did.outs (with_coord t did.part) d M (λ s. kept.act e k d t i M is none (g, s) (p s));
     begin = λ e k d t l how parent M new may none g p.
         let did = begin_action l how parent (parent_of parent t.coord) t.coord in
-        while_walk e k did.outs (with_coord t did.part) d (given l (record { node = k; serial = is_serial_kind how }) M)
+        while_walk e k did.outs (with_coord t did.part) d (given l (record { node = k; serial = is_serial how }) M)
         (λ s. kept.begin e k d t l how parent M new may none (g, s) (p s));
     tick = λ e k d t M g p. while_walk e k (tick_outs (record { number = k; disk = d; live = Some t }) t)
         (with_coord t (again_all t.coord.doings t.coord).part) d M (λ s. kept.tick e k d t M (g, s) (p s));

@@ -7,7 +7,7 @@ use Words.{next_node, Coord, Doing, doing_of, After, Before, Did, Disk, Do, Effe
 use Words.{tell_all, tick_outs, Named, next_server, Naming, listed_entry, Handled, Parts, Took, answer_is_meant, asked_is_meant, handle}
 use Words.{holders, is_loaded_for, is_loaded_in, is_meant, prepared_actions, query_about, reply_is_meant, with_coord, is_own, at_number}
 use Words.{binding_number, uid_set, without_number, Input, Node, acts, hello_to, naming_at, naming_back, numbers_to, parent_of}
-use Words.{parts_in, recovered_records, refusal_up, restart_outs, tolds_again, Labelled, is_serial_kind, Seen}
+use Words.{parts_in, recovered_records, refusal_up, restart_outs, tolds_again, Labelled, Seen, is_serial}
 use Words.ask
 use Words.body
 use Words.ending
@@ -574,8 +574,8 @@ module _ (hd : Header) (G : Seen → Type 0) (good : (M : Seen) → G M → IsGo
         some p.0 e k did.outs (with_coord t did.part) d M (act_lives e k d t M (good (up k d t M) g) p.0 p.1 hd i is none);
     begin = λ e k d t l how parent M new may none g p.
         let did = begin_action l how parent (parent_of parent t.coord) t.coord in
-        some p.0 e k did.outs (with_coord t did.part) d (seen.given l (record { node = k; serial = is_serial_kind how }) M)
-        (begin_lives e k d t M (good (up k d t M) g) p.0 p.1 l how parent (record { node = k; serial = is_serial_kind how }));
+        some p.0 e k did.outs (with_coord t did.part) d (seen.given l (record { node = k; serial = is_serial how }) M)
+        (begin_lives e k d t M (good (up k d t M) g) p.0 p.1 l how parent (record { node = k; serial = is_serial how }));
     tick = λ e k d t M g p. some p.0 e k (tick_outs (record { number = k; disk = d; live = Some t }) t)
         (with_coord t (again_all t.coord.doings t.coord).part) d M (tick_lives e k d t M (good (up k d t M) g) p.0 p.1);
     restart =

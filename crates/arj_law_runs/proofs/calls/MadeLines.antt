@@ -2,8 +2,8 @@
 use Rattle.arj_law_parts.proofs.Words
 use Words.{◌≡◌, ◌≤◌, ◌==◌, ◌+◌, ℕ, List, [], ◌∷◌, ◌++◌, Bool, true, false, cond, Option, Some, None, refl, sym, ◌∙◌, ap, subst, arith, Body}
 use Words.{Header, Line, Message, again_all, begin_action, recovered_naming, Disk, Do, Effect, Say, Send, stopped, worked, tick_outs}
-use Words.{Naming, Parts, Took, handle, with_coord, Node, acts, naming_at, parent_of, parts_in, restart_outs, is_serial_kind}
-use Words.{numbered, Seen}
+use Words.{Naming, Parts, Took, handle, with_coord, Node, acts, naming_at, parent_of, parts_in, restart_outs}
+use Words.{numbered, Seen, is_serial}
 use Words.body
 use Rattle.arj_law_runs.proofs.Terms.{disk_by, Keeps, at, down, given, posted, said, up, Up, Walks, halted, bindings_made, bound_by}
 use Rattle.arj_law_runs.proofs.calls
@@ -126,7 +126,7 @@ counts_are_said hd = record {
   message = λ e k d t v from m outs M s there meant is. message_said k e d t v from m outs M s is;
   act = λ e k d t i M is none s. let did = acts i d.intents t.coord in same_walk k e t (with_coord t did.part) did.outs d d M refl s;
   begin = λ e k d t l how parent M new may none s. let did = begin_action l how parent (parent_of parent t.coord) t.coord in
-      same_walk k e t (with_coord t did.part) did.outs d d (given l (record { node = k; serial = is_serial_kind how }) M) refl s;
+      same_walk k e t (with_coord t did.part) did.outs d d (given l (record { node = k; serial = is_serial how }) M) refl s;
   tick = λ e k d t M s. same_walk k e t (with_coord t (again_all t.coord.doings t.coord).part)
       (tick_outs (record { number = k; disk = d; live = Some t }) t) d d M refl s;
   restart = λ e k d M s. said_walk k e (parts_in k (d.inc + 1) d) (restart_outs hd k (d.inc + 1) d) d M (others_of k d None M s)

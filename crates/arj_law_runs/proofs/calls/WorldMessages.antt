@@ -23,7 +23,7 @@ use Words.voted
 use Words.naming
 use Words.server
 use Rattle.arj_law_runs.proofs.Terms
-use Terms.{Action, AreTrue, IsTree, Paths, ask_ends, brought_by, FitsAsk, FitsMessage, SealsAsked, In, Call, IsSaidToCommit, call_by}
+use Terms.{Action, AreTrue, IsTree, Paths, brought_by, FitsAsk, FitsMessage, SealsAsked, In, Call, IsSaidToCommit, call_by, ends_in}
 use Terms.{is_refusal, refusal_of, refused_by, refuses, IsVotedIn, KnowsCalls, AreFromCalls, AreOneCall, AreKeyed, KnowsNode, vote_by}
 use Terms.{vote_in, vote_of}
 use Rattle.arj_law_runs.proofs.{calls.CoordOuts.query_so, calls.CoordSends.AllSo, calls.ServerInvokes.Left, calls.ServerInvokes.it_is_left}
@@ -203,11 +203,11 @@ module _ (acts : List Action) (paths : Paths) (tree : IsTree paths) (k : ℕ) (d
   named f (Some m) each = each m
 
   said_in : (m : Message) (h : Head) (a : Ask) → asks m ≡ Some (h, a) → In (record { from = from; to = k; message = m }) sent → (u : Uid) →
-      list.In (u, ending.Commit) (ask_ends a) → IsSaidToCommit sent u
+      list.In (u, ending.Commit) (ends_in a) → IsSaidToCommit sent u
   said_in m h a is posted u i = record {
     post = record { from = from; to = k; message = m };
     posted = posted;
-    said = inl (subst (λ o. Contains (brought_by o) (u, ending.Commit)) (sym is) (in_to (u, ending.Commit) (ask_ends a) i));
+    said = inl (subst (λ o. Contains (brought_by o) (u, ending.Commit)) (sym is) (in_to (u, ending.Commit) (ends_in a) i));
   }
 
   asked : (m : Message) → In (record { from = from; to = k; message = m }) sent → FitsMessage acts m → (h : Head) (a : Ask) →

@@ -7,8 +7,8 @@ use Words.{Committing, Coord, Doing, doing_of, After, Before, Did, Disk, Do, Eff
 use Words.{Named, Naming, back_lines, acked, answer_query, tell, tell_all, tick_outs, Handled, Parts, Took, handle, holders}
 use Words.{prepared_actions, query_about, with_coord, uid_set, without_number, Server, changed_states, Input, Node, acts, node_by}
 use Words.{hello_to, naming_at, naming_back, numbers_to, parent_of, parts_in, recovered_records, refusal_up, restart_outs}
-use Words.{tolds_again, Branch, at_place, branch_of, is_own, new_tree, next_uid, path_below, Labelled, is_serial_kind}
-use Words.{Post, Seen}
+use Words.{tolds_again, Branch, at_place, branch_of, is_own, new_tree, next_uid, path_below, Labelled}
+use Words.{Post, Seen, is_serial}
 use Words.list
 use Words.body
 use Words.voted
@@ -488,10 +488,10 @@ module _ (hd : Header) (G : Seen → Type 0) (grounds : Grounds G) where
     begin = λ e k d t l how parent M new may none g h.
         let did = begin_action l how parent (parent_of parent t.coord) t.coord in
         let a : Action = record { path = path_below how (parent_of parent t.coord) (next_uid t.coord.tree); kind = how } in
-        let N = given l (record { node = k; serial = is_serial_kind how }) M in
+        let N = given l (record { node = k; serial = is_serial how }) M in
         run_walk (a ∷ h.0) e k did.outs (with_coord t did.part) d N (begin_good e k d t l how parent M new may none (h.0, h.1))
         (λ q. let less = agree_less a h.0 q.0 q.2 in begin_walk h.0 q.0 q.1 less e k d t M h.1 (h.2 (q.0, q.1, less)) l how parent
-        (record { node = k; serial = is_serial_kind how }));
+        (record { node = k; serial = is_serial how }));
     tick = λ e k d t M g h. let outs = tick_outs (record { number = k; disk = d; live = Some t }) t in
         let v = with_coord t (again_all t.coord.doings t.coord).part in
         run_walk h.0 e k outs v d M (tick_good e k d t M (h.0, h.1)) (λ q. tick_walk h.0 q.0 q.1 q.2 e k d t M h.1 (h.2 q));

@@ -11,7 +11,7 @@ use Words.ask
 use Words.ending
 use Words.message
 use Rattle.arj_law_runs.proofs.Terms
-use Terms.{taken_end, Action, IsBusy, IsGoodCoord, IsVoting, IsTree, Paths, IsSaidSo, ask_ends, brought, brought_by, told_by, FitsAsk}
+use Terms.{taken_end, Action, IsBusy, IsGoodCoord, IsVoting, IsTree, Paths, IsSaidSo, brought, brought_by, told_by, FitsAsk, ends_in}
 use Terms.{FitsMessage, IsDecided, Seals, SealsAsked, has_commit_of, is_commit, on_own, doing_by, found_by, over_below, In, Call, IsAsked}
 use Terms.{IsSaidToCommit, call_in, HasNoServer, IsAnswered, IsCalledBy, IsCovered, IsOwn, IsPlanned, IsSpent, IsUsed, IsVotedIn}
 use Terms.{KnowsCalls, WasRefused, WasSpent, AreFromCalls, IsSource, AreKeyed}
@@ -139,7 +139,7 @@ none_in x c = absurd (in_from x [] c)
 brought_seals : (m : Message) (u : Uid) → Contains (brought m) (u, ending.Commit) → Seals m u
 brought_seals m u c = by (asks m) c
   where
-    asked : (h : Head) (a : Ask) → Contains (ask_ends a) (u, ending.Commit) → SealsAsk h a u
+    asked : (h : Head) (a : Ask) → Contains (ends_in a) (u, ending.Commit) → SealsAsk h a u
     asked h (ask.Invoke x b i ends op) c = has_commit u ends (in_from (u, ending.Commit) ends c)
     asked h (ask.Vote i ties ends) c = inl (has_commit u ends (in_from (u, ending.Commit) ends c))
     asked h (ask.Bind x i avoid) c = none_in (u, ending.Commit) c

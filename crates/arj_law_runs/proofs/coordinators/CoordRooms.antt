@@ -12,8 +12,8 @@ use Words.{on_doing, on_root, plan_for, root_at, with_keeping, Intent, Served, a
 use Words.{all_aborted, decide, ended, root_after, at_uid, has, put_uid, unbound, without_number, Input, abort_reasons, acts, begin_reasons}
 use Words.{begin_refusal, branch_named, call_reasons, commit_reasons, first_reason, include_reasons, is_below_16, on_branch, parent_of}
 use Words.{refusal_up, refused_by, Branch, Family, Tree, at_place, branch_of, ended_at, ended_branch, has_many_objects, is_open_below}
-use Words.{latest_first, most_actions, next_uid, open_below, path_below, root_of, uses_object, Asked, Ask, End, Header, Kind, Label, Op}
-use Words.{Path, Uid, first_uid, is_on, path_of, tops_of, uid_eq, uids_of}
+use Words.{latest_first, next_uid, open_below, path_below, root_of, uses_object, Asked, Ask, End, Header, Kind, Label, Op}
+use Words.{Path, Uid, first_uid, is_on, path_of, tops_of, uid_eq, uids_of, most_actions}
 use Words.calls
 use Words.commit
 use Words.input

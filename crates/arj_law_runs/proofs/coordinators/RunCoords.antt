@@ -4,7 +4,7 @@ use Words.{◌≡◌, ◌∙◌, ◌+◌, ◌==◌, ◌&&◌, ℕ, Bool, true, f
 use Words.{None, Reply, again_all, begin_action, heard, Coord, Doing, new_coord, uid_at, Disk, Effect, Intent, Say, Send, Do}
 use Words.{worked, stopped, acked, tick_outs, Parts, Took, handle, with_coord, Input, Node, acts, begin_refusal}
 use Words.{parent_of, parts_in, refusal_up, restart_outs, Tree, at_place, Asked, Header, Kind, Label, Message, Uid, World}
-use Words.{is_serial_kind, world_by, Seen, see}
+use Words.{world_by, Seen, see, is_serial}
 use Words.input
 use Rattle.arj_law_runs.proofs.Terms
 use Terms.{IsAtStarts, Run, AreNamed, HasNames, KnowsNames, names_kept, same_acked, same_acts, same_again, same_heard, Action, AreBegun}
@@ -115,7 +115,7 @@ module _ (Q : Coord → Type 0) (kept : IsKept Q) where
         (coord_of e k d t M all.0) (own k d t M all.1) hd i none (acted i is)) (others k d (Some t) M all.1));
     begin = λ e k d t l how parent M new may none all.
         let did = begin_action l how parent (parent_of parent t.coord) t.coord in
-        let N = given l (record { node = k; serial = is_serial_kind how }) M in
+        let N = given l (record { node = k; serial = is_serial how }) M in
         both e k did.outs (with_coord t did.part) d N (keep.begin e k d t l how parent M new may none all.0)
         (walk e k did.outs (with_coord t did.part) d N (kept.begins all.0.0 (begun_of e k d t M all.0) (paths_of all.0.0)
         (one_tree e k d t M all.0) l how parent t.coord (coord_of e k d t M all.0) (may_begin e k d t l how parent M new may none all.0)

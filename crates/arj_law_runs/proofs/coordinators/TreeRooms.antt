@@ -4,11 +4,11 @@ use Words.{◌≡◌, ◌⊎◌, ◌∙◌, ◌≤◌, ◌<◌, ◌+◌, ◌==�
 use Words.{refl, sym, ap, subst, inl, inr, ⊎_elim, arith, Option, Some, None, is_some, slice_get, slice_set, unwrap_or, AllByRecursion}
 use Words.{match_ordering, nat_cmp, Ordering, Less, Equal, Greater, length-append, In, in_from, in_to, put_other, put_same, at_number, has}
 use Words.{put_number, with_number, Branch, Family, Tree, at_place, begun_by, branch_of, doomed_at, doomed_branch, ended_at, ended_branch}
-use Words.{family_of, most_actions, new_tree, no_family, root_of, set_place, uses_object, with_family, End, Kind, Path, Uid, uids_of}
+use Words.{family_of, new_tree, no_family, root_of, set_place, uses_object, with_family, End, Kind, Path, Uid, uids_of, most_actions}
 use Rattle.arj_law_runs.proofs.Terms.{found_by, place_in, HasRoom, actions_at}
 use Rattle.arj_law_parts.proofs.parts.GoodTrees.{in_set, same_or_not}
 use Rattle.arj_law_runs.specs.coordinators.Rooms.{AreFewObjects, AreRising, count_open, ends_at, family_at, is_open_in, objects_at, open_in}
-use Rattle.arj_protocol.specs.Tree.{most_objects}
+use Rattle.arj_start.specs.Limits.{most_objects}
 
 -- ---- counts of open actions
 

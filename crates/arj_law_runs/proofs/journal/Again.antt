@@ -6,7 +6,7 @@ use Words.{subst, inl, inr, ⊎_elim, and_parts, is_on, In, in_from, in_to, End,
 use Words.{Calling, Committing, Coord, Doing, Idle, Now, doing_of, is_constituent_branch, is_kept_top, Effect, Intent, RemoveIntent, Do}
 use Words.{Served, acked, acked_by, acked_left, answer_decided, answer_query, answer_recorded, is_deferred, is_kept_commit, let_go}
 use Words.{root_or_self, tell, tell_all, tolds_let_go, took_part, at_uid, has, put_uid, without_number, without_uid, tolds_again, Branch}
-use Words.{at_place, branch_of, is_constituent, ended_so, has_end, is_committed, is_open}
+use Words.{at_place, branch_of, ended_so, has_end, is_committed, is_open, is_constituent}
 use Words.ending
 use Words.kind
 use Words.commit
@@ -14,7 +14,7 @@ use Rattle.arj_law_runs.proofs.Terms
 use Terms.{placed, at_in, without_in, work_there, put_in, Book, is_decided, AreSaid, Calls, EachRecord, IsEnd, Knows}
 use Rattle.arj_law_runs.proofs.journal
 use journal.{Books.committed_decided}
-use journal.Coords.{alike_asks, alike_step, machine_partly, step_partly}
+use journal.CoordCalls.{alike_asks, alike_step, machine_partly, step_partly}
 use journal.Effects.{ArePartly, Goes, IsPartly, all_both, all_flat, goes_partly, tells_partly}
 use journal.Likes.{Alike, alike_calls, alike_knows, alike_same}
 use Rattle.arj_protocol.specs.Ending.{is_over}

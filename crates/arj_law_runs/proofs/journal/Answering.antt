@@ -3,10 +3,10 @@ use Rattle.arj_law_parts.proofs.Words
 use Words.{◌≡◌, ℕ, List, [], ◌∷◌, false, Option, Some, None, refl, sym, ◌∙◌, ap, subst, is_on, Answer, Body, Label, ObjectState, Path, Uid}
 use Words.{answer_text, name, uids_of, actor, end_line, root_heard, step_call, store_of, Answered, Ended, Goal, Include, Included, Run}
 use Words.{Steps, Coord, Doing, Idle, Root, doing_of, on_doing, on_root, with_join, with_said, Effect, Say, say_for, says, Branch}
-use Words.{branch_of, root_of}
+use Words.{branch_of, root_of, is_serial}
 use Words.body
 use Rattle.arj_law_runs.proofs.Terms
-use Terms.{Act, act_in, is_serial, on_tree, Access, Book, turned, with_access, AreIdle, Calls, HasBranch, IsKnown, IsLined, Knows, Ties, decides}
+use Terms.{Act, act_in, on_tree, Access, Book, turned, with_access, AreIdle, Calls, HasBranch, IsKnown, IsLined, Knows, Ties, decides}
 use Terms.{IsOpenSo}
 use Rattle.arj_law_parts.proofs.parts.Truths.{IsFree}
 use Rattle.arj_law_runs.proofs.journal

@@ -9,7 +9,7 @@ use Words.body
 use Words.ending
 use Words.message
 use Rattle.arj_law_runs.proofs.Terms
-use Terms.{ask_ends, brought, told_by, Book, turned, AreIdle, AreLate, AreLined, AreSaid, Calls, Claims, HasBranch, IsLined, Knows, Puts}
+use Terms.{brought, told_by, Book, turned, AreIdle, AreLate, AreLined, AreSaid, Calls, Claims, HasBranch, IsLined, Knows, Puts, ends_in}
 use Terms.{decides, IsSaid}
 use Rattle.arj_law_runs.proofs.journal.Books.{Later, decided_later, later_on, later_same, later_turn}
 use Rattle.arj_law_runs.specs.journal.Knows.{IsIdle, after, turned_by}
@@ -47,7 +47,7 @@ pub claims_later : (B V : Book) → Later B V → (m : Message) → Claims B m �
 claims_later B V l m c = (are_later B V l (brought m) c.0, are_later B V l (told_by m) c.1)
 
 -- a request brings its ends
-pub request_claims : (B : Book) (h : Head) (a : Ask) → AreSaid B (ask_ends a) → Claims B (request h a)
+pub request_claims : (B : Book) (h : Head) (a : Ask) → AreSaid B (ends_in a) → Claims B (request h a)
 request_claims B h (ask.Bind x i avoid) s = (tt, tt)
 request_claims B h (ask.Load x) s = (tt, tt)
 request_claims B h (ask.Activate b st) s = (tt, tt)

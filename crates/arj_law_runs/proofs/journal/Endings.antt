@@ -3,11 +3,11 @@ use Rattle.arj_law_parts.proofs.Words
 use Words.{◌≡◌, ◌≢◌, ◌⊎◌, ◌||◌, ℕ, List, [], ◌∷◌, ◌++◌, length, Bool, true, false, cond, nat_le, Option, Some, None, refl, sym, ◌∙◌, ap}
 use Words.{subst, inl, inr, ⊎_elim, if◌then◌else◌, uid_cases, is_on, Uid, Body, Cause, End, Kind, Label, name, uids_of, Machine, Committing}
 use Words.{Coord, Doing, Idle, Now, change_doing, doing_of, on_doing, set_doing, ended, is_committing_now, Branch, Tree, at_place}
-use Words.{branch_of, ended_at, ended_branch, ends_of, family_of, is_own, root_of, with_family}
+use Words.{branch_of, ended_at, ended_branch, ends_of, family_of, is_own, root_of, with_family, is_serial}
 use Words.body
 use Words.ending
 use Rattle.arj_law_runs.proofs.Terms
-use Terms.{Act, act_in, is_serial, on_tree, after as ended_tree, after_cases, at_others, at_u, ended_b, doing_other, doing_put, end_tree_on}
+use Terms.{Act, act_in, on_tree, after as ended_tree, after_cases, at_others, at_u, ended_b, doing_other, doing_put, end_tree_on}
 use Terms.{Book, is_decided, is_over, is_top, turned, AreSaid, Calls, EachRecord, IsAbout, IsEnd, IsKnown, Knows, Ties, decides, root_in}
 use Terms.{IsOpen, IsOpenPlain, IsSaid, Right, option_map}
 use Rattle.arj_law_parts.proofs.parts.GoodTrees.{ends_after, marked, was_there}

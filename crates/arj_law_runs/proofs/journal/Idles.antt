@@ -3,11 +3,11 @@ use Rattle.arj_law_parts.proofs.Words
 use Words.{◌≡◌, ◌≢◌, ◌≤◌, arith, ℕ, zero, suc, ◌+◌, List, [], ◌∷◌, length, true, false, Option, Some, None, refl, sym, ◌∙◌, ap, subst, inl}
 use Words.{inr, ⊎_elim, Contains, if◌then◌else◌, uid_cases, before_last, first_uid, front, is_on, Body, Line, In, in_from, in_to, Coord}
 use Words.{root_at, Disk, Parts, Branch, Tree, behind, branch_of, ended_so, has_end as has_end_so, root_of, End, Kind, Uid, uids_of, name}
-use Words.{Seen}
+use Words.{Seen, is_serial}
 use Words.ending
 use Words.kind
 use Rattle.arj_law_runs.proofs.Terms
-use Terms.{Act, Placed, act_in, acts_after, is_serial, path, put, read, uids, Said, said_of, Inclusion, included_of, paths_of, IsGoodCoord}
+use Terms.{Act, Placed, act_in, acts_after, path, put, read, uids, Said, said_of, Inclusion, included_of, paths_of, IsGoodCoord}
 use Terms.{IsTree, Paths, HasLists, above_of, found_by, shorter, work_there, up, Access, Book, book, book_from, is_top, new_book, turned}
 use Terms.{with_access, IsIdle, HasNoted, IsEnd, IsKept, IsKnown, KnowsUp, root_in, AreRight, Right}
 use Terms.body

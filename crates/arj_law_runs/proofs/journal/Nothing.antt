@@ -2,9 +2,9 @@
 use Rattle.arj_law_parts.proofs.Words
 use Words.{◌≡◌, ◌⊎◌, ◌==◌, ◌&&◌, ◌||◌, ℕ, List, [], ◌∷◌, filter, Bool, true, false, cond, Option, Some, None, refl, sym, ◌∙◌, ap, subst}
 use Words.{inl, inr, ⊎_elim, Contains, arith, eqb-true, cons_option, filter_map, list_all, list_any, or_cases, uid_is, uid_same, is_on}
-use Words.{uid_eq, Uid, Line, In, in_filter, in_filter_map, in_from, in_to, behind}
+use Words.{uid_eq, Uid, Line, In, in_filter, in_filter_map, in_from, in_to, behind, is_serial}
 use Rattle.arj_law_runs.proofs.Terms
-use Terms.{Act, Placed, acts, committed, has_end, is_serial, path, recovered, top_in, uids, Said, said_of, Inclusion, included_of, Access}
+use Terms.{Act, Placed, acts, committed, has_end, path, recovered, top_in, uids, Said, said_of, Inclusion, included_of, Access}
 use Terms.{book, new_book, IsIdle, IsDone, AreRight}
 use Rattle.arj_law_runs.proofs.journal
 use journal.{Books.never, Idles.included_step, Idles.of_access, Idles.said_step, Likes.some_is, Ties.on_path, Ties.on_uids}

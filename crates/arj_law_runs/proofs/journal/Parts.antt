@@ -8,13 +8,13 @@ use Words.{top_path, heard, Grants, Marks, checked, confirm, confirm_entries, co
 use Words.{lock_in, prepared_by, wanted, Coord, Copy, ask_copy, grant_lines, invoke_copy, is_granted, row_for, Already, Did, Disk, Do}
 use Words.{Effect, InDoubt, Look, Old, Pair, Prep, Prepare, Ready, Say, Send, Served, Work, did_nothing, either, held_at, holder_of}
 use Words.{is_prepared, prepare_answer, reply, void, acked, answer_query, Counted, Live, Made, Named, bind_call, bind_made, bind_named}
-use Words.{conflict_on, in_use, include_asked, is_binding, is_lowered, live_above, live_asked, lock_lines, lower_lines, lowered, made_above}
+use Words.{conflict_on, in_use, include_asked, is_lowered, live_above, live_asked, lock_lines, lower_lines, lowered, made_above}
 use Words.{make_asked, next_server, note_made, note_named, note_other, Naming, end_entries, end_orphans, is_over, listed_entry, on_counted}
 use Words.{on_named, orphans, own_entries, told_new, Handled, Parts, Took, Void, ack_told, by_reply, coord_heard, end_states, handle}
 use Words.{handle_answer, handle_ask, handle_ends, handle_other, holders, if_naming, is_earlier, load_by, load_held, naming_told}
 use Words.{prepare_by, query_about, sends_answer, serve, store_told, with_coord, with_naming, with_server, at_number, at_uid, binding_eq}
 use Words.{binding_less, AreAll, Kept, Server, active_binding, apply_ends, changed_by, end_new, end_one, first_unbound, has_ended}
-use Words.{invoke_kept, invoke_new, invoke_now, is_below, is_told, is_top, on_copy, other_inc, took_copy, vote_now}
+use Words.{invoke_kept, invoke_new, invoke_now, is_below, is_told, is_top, on_copy, other_inc, took_copy, vote_now, is_binding}
 use Words.ask
 use Words.body
 use Words.confirmed
@@ -29,7 +29,7 @@ use Words.role
 use Words.what
 use Words.naming
 use Words.server
-use Rattle.arj_law_runs.proofs.Terms.{kept_after, ask_ends, brought_by, Book, AreSaid, Calls, Claims, Knows, IsSaid}
+use Rattle.arj_law_runs.proofs.Terms.{kept_after, brought_by, Book, AreSaid, Calls, Claims, Knows, IsSaid, ends_in}
 use Rattle.arj_law_runs.proofs.journal
 use journal.Effects.{ArePartly, Goes, IsPartly, all_both, all_flat, all_map, goes_partly, response_claims, sends_partly}
 use Rattle.arj_protocol.specs.Server.{has_locks}
@@ -330,7 +330,7 @@ module _ (k : ℕ) (B : Book) where
     looks : IsPartly k B (Do Look)
     looks = record { lined = tt; same = refl; puts = tt }
 
-    asked : (h : Head) (a : Ask) → AreSaid B (ask_ends a) → WellBy (serve k d t from h a)
+    asked : (h : Head) (a : Ask) → AreSaid B (ends_in a) → WellBy (serve k d t from h a)
     asked h (ask.Bind x include avoid) said =
         with_it _ t.naming (λ m. let r = naming.bind h.path x include avoid d.names m in answered h (with_naming t r.part) r.outs
         (option_map Reply.Bound r.reply) refl (plain_partly k B r.outs (bind_plain h.path x include avoid d.names m)))

@@ -4,8 +4,8 @@ use Words.{◌≡◌, ◌≤◌, ◌&&◌, arith, ℕ, zero, suc, ◌+◌, List,
 use Words.{None, refl, sym, ◌∙◌, ap, subst, inl, inr, option_map, bytes_eq, map-append, In, in_to, Body, Header, Kind, Label, Message, Uid}
 use Words.{name, uids_of, again_all, began_line, begin_action, Coord, Doing, doing_of, number_of, Disk, Do, Effect, Say, Send, tick_outs}
 use Words.{Parts, Took, handle, is_meant, with_coord, Input, Node, begin_reasons, begin_refusal, branch_named, branch_numbered, parent_of}
-use Words.{parts_in, refusal_up, refused_by, restart_outs, Branch, at_place, branch_of, next_uid, path_below, World, is_serial_kind}
-use Words.{numbered, Post, Seen, see, length-map}
+use Words.{parts_in, refusal_up, refused_by, restart_outs, Branch, at_place, branch_of, next_uid, path_below, World}
+use Words.{numbered, Post, Seen, see, length-map, is_serial}
 use Words.body
 use Words.kind
 use Words.input
@@ -290,7 +290,7 @@ module _ (hd : Header) (begun : List Action) where
       → let a : Action = record { path = path_below how (parent_of parent t.coord) (next_uid t.coord.tree); kind = how } in
       let did = begin_action l how parent (parent_of parent t.coord) t.coord in
       Walks (IsPathedOf (a ∷ begun)) e k did.outs (Up (IsPathedOf (a ∷ begun)) k (with_coord t did.part)) d
-      (given l (record { node = k; serial = is_serial_kind how }) M)
+      (given l (record { node = k; serial = is_serial how }) M)
   begin_pathed e k d t l how parent M new may none h =
       let a : Action = record { path = path_below how (parent_of parent t.coord) (next_uid t.coord.tree); kind = how } in
       let w = lines.begin e k d t l how parent M new may none (kept_of begun (up k d t M) h) in (

@@ -7,13 +7,13 @@ use Words.{begin_action, back_lines, Doing, doing_of, new_coord, tell_all, After
 use Words.{Say, Send, Stop, stopped, tick_outs, Named, Naming, Parts, Took, handle, holders, prepared_actions, query_about, with_coord}
 use Words.{uid_set, without_number, Input, Node, acts, begin_refusal, node_by, hello_to, naming_at, naming_back, numbers_to}
 use Words.{parent_of, parts_in, recovered_records, refusal_up, restart_outs, tolds_again, Branch, at_place, branch_of, is_own, new_tree}
-use Words.{next_uid, path_below, Labelled, World, Start, if◌then◌else◌, is_serial_kind, numbered, Post, Seen, see}
+use Words.{next_uid, path_below, Labelled, World, Start, if◌then◌else◌, numbered, Post, Seen, see, is_serial}
 use Words.body
 use Words.ending
 use Words.kind
 use Words.input
 use Rattle.arj_law_runs.proofs.Terms
-use Terms.{Act, act_in, is_serial, path_in, uids, same_acked, same_acts, same_again, same_heard, KnowsTops, IsCounted, paths_of, IsGood}
+use Terms.{Act, act_in, path_in, uids, same_acked, same_acts, same_again, same_heard, KnowsTops, IsCounted, paths_of, IsGood}
 use Terms.{IsAtStarts, IsMemory, Remembers, disk_by, Keeps, MayGive, is_act, label_at, AreQuiet, at, down, given, said, up, Up, Walks}
 use Terms.{halted, Keeping, walks_both, Book}
 use Terms.{book, is_decided, new_book, turned, AreLined, Calls, Claims, Counts, EachRecord, IsCalled, IsGiven, IsKept, IsWritten, Knows}
@@ -200,7 +200,7 @@ module _ (e k : ℕ) (d : Disk) (t : Parts) (M : Seen) (good : IsGood (up k d t 
   acts_now = let b = book M.lines in b.acts
 
   abbrev g : Labelled
-  g = record { node = k; serial = is_serial_kind how }
+  g = record { node = k; serial = is_serial how }
 
   abbrev line : Body
   line = began_line l how (next_uid t.coord.tree) parent
@@ -278,20 +278,20 @@ module _ (e k : ℕ) (d : Disk) (t : Parts) (M : Seen) (good : IsGood (up k d t 
         parent = option_map name parent;
       }
 
-      serial_same : (x : Kind) → is_serial x ≡ is_serial_kind x
+      serial_same : (x : Kind) → is_serial x ≡ is_serial x
       serial_same kind.Top = refl
       serial_same kind.Nested = refl
       serial_same kind.Serial = refl
       serial_same kind.Constituent = refl
       serial_same kind.Independent = refl
 
-      by : (b : Bool) → is_eq (label_cmp q l) ≡ b → cond b (Some (record { node = k; serial = is_serial_kind how })) (label_at q M.labels)
+      by : (b : Bool) → is_eq (label_cmp q l) ≡ b → cond b (Some (record { node = k; serial = is_serial how })) (label_at q M.labels)
           ≡ Some h → (a : Act) × (act_in (act ∷ (let b = book M.lines in b.acts)) (name q) ≡ Some a) × (is_serial a.kind ≡ h.serial)
       by true same found = (
         act,
         subst (λ m. act_in (act ∷ (let b = book M.lines in b.acts)) m ≡ Some act) (sym (one_name q l same))
             (named_first act (let b = book M.lines in b.acts)),
-        serial_same how ∙ ap (λ (x : Labelled). x.serial) (some_is (record { node = k; serial = is_serial_kind how }) h found),
+        serial_same how ∙ ap (λ (x : Labelled). x.serial) (some_is (record { node = k; serial = is_serial how }) h found),
       )
       by false other found = let x = w.begun q h found in
           (x.0, still_named (let b = book M.lines in b.acts) act named (name q) x.0 x.1, x.2)
@@ -581,7 +581,7 @@ lines_keep hd = record {
       both e k did.outs (with_coord t did.part) d M (keep.act e k d t i M is none all.0) (act_written e k d t M all.0 all.1 hd i is none);
   begin = λ e k d t l how parent M new may none all.
       let did = begin_action l how parent (parent_of parent t.coord) t.coord in
-      both e k did.outs (with_coord t did.part) d (given l (record { node = k; serial = is_serial_kind how }) M)
+      both e k did.outs (with_coord t did.part) d (given l (record { node = k; serial = is_serial how }) M)
       (keep.begin e k d t l how parent M new may none all.0) (begin_written e k d t M all.0 all.1 l how parent new may none);
   tick = λ e k d t M all. both e k (tick_outs (record { number = k; disk = d; live = Some t }) t)
       (with_coord t (again_all t.coord.doings t.coord).part) d M (keep.tick e k d t M all.0) (tick_written e k d t M all.0 all.1);

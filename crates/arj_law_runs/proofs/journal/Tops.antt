@@ -2,9 +2,9 @@
 use Rattle.arj_law_parts.proofs.Words
 use Words.{◌≡◌, ◌≢◌, ℕ, ◌+◌, ◌==◌, ◌||◌, List, [], ◌∷◌, ◌++◌, Bool, true, false, cond, Option, Some, None, refl, sym, ◌∙◌, ap, subst, inl}
 use Words.{inr, ⊎_elim, eqb-true, eq-eqb, AllByRecursion, cons_option, filter_map, list_any, bytes_eq, uid_is, Uid, is_on, uid_eq, Body}
-use Words.{Kind, Line, In, in_from, in_to, name}
+use Words.{Kind, Line, In, in_from, in_to, name, is_serial}
 use Rattle.arj_law_runs.proofs.Terms
-use Terms.{Act, Placed, act_in, acts, acts_from, committed, is_committed, is_serial, path, put, read, recovered, top_in, upwards, Book}
+use Terms.{Act, Placed, act_in, acts, acts_from, committed, is_committed, path, put, read, recovered, top_in, upwards, Book}
 use Terms.{book, book_from, is_decided, is_top, new_book, turned, with_named, AreFormed, IsDone, AreRight, IsBelow, Right, has_act}
 use Terms.body
 use Rattle.arj_law_runs.proofs.journal

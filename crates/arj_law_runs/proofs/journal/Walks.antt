@@ -3,12 +3,12 @@ use Rattle.arj_law_parts.proofs.Words
 use Words.{◌≡◌, ℕ, ◌==◌, ◌||◌, List, [], ◌∷◌, length, Bool, true, false, cond, Option, Some, None, refl, sym, ◌∙◌, ap, subst, ⊎_elim}
 use Words.{eqb-true, ⊤, if◌then◌else◌, AllByRecursion, and_parts, is_on, in_from, in_to, Body, End, Kind, Message, Uid, name, Coord, Root}
 use Words.{Abort, After, Before, Commit, Disk, Do, Effect, InPart, Look, Prepare, PutInc, PutIntent, RemoveIntent, Say, Send, Stop, Work}
-use Words.{in_part, stopped, worked, Parts, put_uid, without_uid, Node, Tree, is_own, numbered, Post, Seen}
+use Words.{in_part, stopped, worked, Parts, put_uid, without_uid, Node, Tree, is_own, numbered, Post, Seen, is_serial}
 use Words.body
 use Words.ending
 use Words.role
 use Rattle.arj_law_runs.proofs.Terms
-use Terms.{found_by, without_in, put_in, AreQuiet, at, posted, said, up, Up, Walks, halted, is_serial, Book, book, is_decided, new_book}
+use Terms.{found_by, without_in, put_in, AreQuiet, at, posted, said, up, Up, Walks, halted, Book, book, is_decided, new_book}
 use Terms.{turned, Ties, AreLined, Calls, Claims, Counts, EachRecord, IsAbout, IsCalled, IsEnd, IsGiven, IsLined, IsWritten, Knows, KnowsUp}
 use Terms.{Puts, Remembers, AreRight, MayBeFound, Right, KnowsTops}
 use Terms.seen

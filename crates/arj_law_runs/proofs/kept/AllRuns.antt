@@ -1,7 +1,7 @@
 -- What holds of all nodes and messages is kept by each handler.
 use Rattle.arj_law_parts.proofs.Words
-use Words.{ℕ, ◌+◌, List, ◌∷◌, Some, is_serial_kind, next_uid, path_below, again_all, begin_action, Disk, Effect, tick_outs, acts, parent_of}
-use Words.{parts_in, restart_outs, Parts, with_coord, Header, Seen}
+use Words.{ℕ, ◌+◌, List, ◌∷◌, Some, next_uid, path_below, again_all, begin_action, Disk, Effect, tick_outs, acts, parent_of}
+use Words.{parts_in, restart_outs, Parts, with_coord, Header, Seen, is_serial}
 use Rattle.arj_law_runs.proofs.Terms.{Action, IsGood, IsGoodOf, Keeps, given, Walks, Up, walks_to}
 use Rattle.arj_law_runs.proofs.kept
 use kept.{Begins.begin_good, Starts.first_good, Starts.restart_good}
@@ -23,7 +23,7 @@ all_keep hd = record {
       some_acts good.0 e k did.outs (with_coord t did.part) d M (act_good e k d t M good hd i is none);
   begin = λ e k d t l how parent M new may none good. let did = begin_action l how parent (parent_of parent t.coord) t.coord in
       some_acts (record { path = path_below how (parent_of parent t.coord) (next_uid t.coord.tree); kind = how } ∷ good.0) e k did.outs
-      (with_coord t did.part) d (given l (record { node = k; serial = is_serial_kind how }) M)
+      (with_coord t did.part) d (given l (record { node = k; serial = is_serial how }) M)
       (begin_good e k d t l how parent M new may none good);
   tick = λ e k d t M good. some_acts good.0 e k (tick_outs (record { number = k; disk = d; live = Some t }) t)
       (with_coord t (again_all t.coord.doings t.coord).part) d M (tick_good e k d t M good);

@@ -4,8 +4,8 @@ use Words.{slice_get, lookup, is_eq, nat_cmp, slice_cmp, insert_entry, ◌≡◌
 use Words.{Bool, true, false, cond, nat_le, Option, Some, None, Contains, refl, sym, ◌∙◌, ap, subst, inl, inr, eqb-true, length-append}
 use Words.{zero, suc, and_parts, false_from_ne_true, nat_tests, is_on, in_to, Uid, Label, label_cmp, Kind, Path, name, uids_of, End, actor}
 use Words.{begin_action, began_line, Coord, number_of, Disk, Parts, with_coord, Node, begin_reasons, begin_refusal, branch_named}
-use Words.{branch_numbered, first_reason, parent_of, refused_by, Branch, at_place, is_own, is_serial, next_uid, path_below, Labelled}
-use Words.{is_serial_kind, Post, Seen}
+use Words.{branch_numbered, first_reason, parent_of, refused_by, Branch, at_place, is_own, next_uid, path_below, Labelled}
+use Words.{Post, Seen, is_serial}
 use Words.ending
 use Words.kind
 use Rattle.arj_law_runs.proofs.Terms
@@ -60,7 +60,7 @@ got_last (x ∷ xs) a = got_last xs a
 place_last : {A : Type 0} (xs : List A) (a : A) (k : ℕ) → k ≡ suc (length xs) → at_place k (xs ++ a ∷ []) ≡ Some a
 place_last xs a k is = ap (λ j. at_place j (xs ++ a ∷ [])) is ∙ got_last xs a
 
-serial_same : (how : Kind) → is_serial how ≡ is_serial_kind how
+serial_same : (how : Kind) → is_serial how ≡ is_serial how
 serial_same kind.Top = refl
 serial_same kind.Nested = refl
 serial_same kind.Serial = refl
@@ -185,7 +185,7 @@ module _ (e k : ℕ) (d : Disk) (t : Parts) (l : Label) (how : Kind) (parent : O
   v = let r = begin_action l how parent o c in with_coord t r.part
 
   abbrev labels : List (Label × Labelled)
-  labels = insert_entry label_cmp M.labels l (record { node = k; serial = is_serial_kind how })
+  labels = insert_entry label_cmp M.labels l (record { node = k; serial = is_serial how })
 
   pub its_uid : actor p ≡ next_uid c.tree
   its_uid = let n = next_path good.0 begun how o c.tree may in n.uid
@@ -248,7 +248,7 @@ module _ (e k : ℕ) (d : Disk) (t : Parts) (l : Label) (how : Kind) (parent : O
         server = m.server;
         faithful = m.faithful;
         counted = counted_elsewhere j n.disk.inc (length w.coord.tree.branches) other m.counted;
-        known = known_more l (record { node = k; serial = is_serial_kind how }) M.labels w.coord new m.known;
+        known = known_more l (record { node = k; serial = is_serial how }) M.labels w.coord new m.known;
         voted = m.voted;
         sure = m.sure;
         numbered = m.numbered;
@@ -277,7 +277,7 @@ module _ (e k : ℕ) (d : Disk) (t : Parts) (l : Label) (how : Kind) (parent : O
         said = said_on c v.coord q.message (λ u. refl) stands h.said;
       }
 
-  others : Others acts k d.inc v (given l (record { node = k; serial = is_serial_kind how }) M)
+  others : Others acts k d.inc v (given l (record { node = k; serial = is_serial how }) M)
   others =
       let w = good.1 in
       let f = others_of k d (Some t) M good d.inc v mine_on in
@@ -295,7 +295,7 @@ module _ (e k : ℕ) (d : Disk) (t : Parts) (l : Label) (how : Kind) (parent : O
   known_now q j is = by (is_eq (label_cmp q l)) refl (sym (put_label q l (let u = next_uid c.tree in u.num) c.labels) ∙ is)
     where
       g : Labelled
-      g = record { node = k; serial = is_serial_kind how }
+      g = record { node = k; serial = is_serial how }
 
       x : Branch
       x = record { path = p; kind = how; ended = None; doomed = false }
@@ -341,9 +341,9 @@ module _ (e k : ℕ) (d : Disk) (t : Parts) (l : Label) (how : Kind) (parent : O
           omega (arith, same, longer)
 
   pub begin_good :
-      DidKeeps (IsGoodOf acts) e k d t (begin_action l how parent o c) (given l (record { node = k; serial = is_serial_kind how }) M)
+      DidKeeps (IsGoodOf acts) e k d t (begin_action l how parent o c) (given l (record { node = k; serial = is_serial how }) M)
   begin_good =
-      let M2 = given l (record { node = k; serial = is_serial_kind how }) M in
+      let M2 = given l (record { node = k; serial = is_serial how }) M in
       let x = place_of k d (Some t) M good in
       up_good acts k d.inc v d (said e (began_line l how (next_uid c.tree) parent ∷ []) M2) (others_said acts k d.inc v e (began_line l how
       (next_uid c.tree) parent ∷ []) M2 others) (record { tops = tops_more a good.0 d.intents x.disk.tops; own = x.disk.own }) refl

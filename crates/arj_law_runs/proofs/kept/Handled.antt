@@ -3,8 +3,8 @@ use Rattle.arj_law_parts.proofs.Words
 use Words.{lookup, is_at, AllByRecursion, ◌≡◌, ◌≢◌, ◌≤◌, ◌+◌, ◌==◌, arith, ℕ, List, ◌++◌, length, map, true, false, cond, ◌&&◌, Option}
 use Words.{Some, None, refl, sym, ◌∙◌, ap, subst, ⊎_elim, eqb-true, Contains, inl, inr, [], ◌∷◌, Bool, ◌||◌, and_parts, uid_same, in_from}
 use Words.{Uid, Label, label_cmp, Kind, Message, Header, is_on, End, uid_eq, again_all, Coord, Disk, Effect, Did, tick_outs, Parts, Took}
-use Words.{handle, with_coord, holders, query_about, Node, Input, acts, parts_in, refusal_up, tolds_again, at_place, is_own, is_serial}
-use Words.{Labelled, Post, Seen}
+use Words.{handle, with_coord, holders, query_about, Node, Input, acts, parts_in, refusal_up, tolds_again, at_place, is_own}
+use Words.{Labelled, Post, Seen, is_serial}
 use Words.list as Listed
 use Words.message
 use Words.ending

@@ -4,8 +4,8 @@ use Words.{◌≡◌, ◌≢◌, ◌⊎◌, ◌∙◌, ℕ, Bool, true, false, c
 use Words.{append-nil, append_assoc, eqb-true, ◌==◌, ◌+◌, option_map, In, in_to, in_left, in_right, Ask, Asked, Body, Head, Header, Label}
 use Words.{Line, Message, Uid, asks, Reply, answers, again_all, begin_action, heard, Calling, Committing, Coord, Idle, Now, doing_of, Disk}
 use Words.{Do, Effect, Say, Send, Served, stopped, worked, tick_outs, Parts, Took, by_reply, handle, handle_answer, handle_ask, serve}
-use Words.{with_coord, Node, acts, is_waiting_now, parent_of, parts_in, restart_outs, at_place, World, is_serial_kind, numbered, run_event}
-use Words.{Move, all_moved, moved, world_by, Seen, see, IsSameWork, StillWaits, coord_in, coord_of}
+use Words.{with_coord, Node, acts, is_waiting_now, parent_of, parts_in, restart_outs, at_place, World, numbered, run_event}
+use Words.{Move, all_moved, moved, world_by, Seen, see, IsSameWork, StillWaits, coord_in, coord_of, is_serial}
 use Words.body
 use Rattle.arj_law_runs.proofs.Terms
 use Terms.{IsGood, Holds, Keeps, KeepsOn, at, down, given, posted, said, up, Up, Walks, halted, arms_hold, event_asked, keeps_asked}
@@ -259,7 +259,7 @@ module _ (old : List Line) (k : ℕ) (l : Label) (u : Uid) (before : Now) where
     begin = λ e j d t m how parent M new may free p.
         let did = begin_action m how parent (parent_of parent t.coord) t.coord in
         let v = with_coord t did.part in
-        let N = given m (record { node = j; serial = is_serial_kind how }) M in
+        let N = given m (record { node = j; serial = is_serial how }) M in
         both e j did.outs v d N (good.begin e j d t m how parent M new may free p.0)
         (let g = p.1 in walk e j v did.outs d N g.more g.are (same_stage j v did.outs M N g.more refl
         (start j d t v did.outs M g (λ still. inl (begin_still k l u before m how parent (parent_of parent t.coord) t.coord still)))));

@@ -3,9 +3,9 @@ use Rattle.arj_law_parts.proofs.Words
 use Words.{◌≡◌, ◌≤◌, ◌+◌, ℕ, zero, suc, Bool, true, false, List, [], ◌∷◌, ◌++◌, refl, Option, Some, None, arith, length, length-append}
 use Words.{◌||◌, not, nat_lt, if◌then◌else◌, nat_tests, Event, Header, Input, first_reason, at_place, set_place, Arm, Frame, Giving, World}
 use Words.{as_delivered, as_lost, begins, begins_any, counted, deliver, deliver_frame, world_from, frame_number, giving, happens, is_quiet}
-use Words.{is_up_at, junk_fits, labels_unless, lacks_labels, limited, lose_frame, lowest, most_frames, new_frame, no_labels, node_numbers}
+use Words.{is_up_at, junk_fits, labels_unless, lacks_labels, limited, lose_frame, lowest, new_frame, no_labels, node_numbers}
 use Words.{node_of, quiesce, quiet_line, reasons, refused_at, run_event, run_unless, settle, settle_for, show_all, show_up, steps, tick_all}
-use Words.{tick_up, Move, all_moved, moved, world_by}
+use Words.{tick_up, Move, all_moved, moved, world_by, most_frames}
 use Words.body
 use Words.event
 use Words.input

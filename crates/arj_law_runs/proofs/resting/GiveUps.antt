@@ -4,14 +4,14 @@ use Words.{◌≡◌, ◌≢◌, ◌⊎◌, ◌∙◌, ◌-◌, ℕ, zero, suc, 
 use Words.{Some, None, append-nil, length, eqb-true, arith, ⊤, ◌&&◌, ◌==◌, nat_le, nat_lt, not, option_map, take, if◌then◌else◌, is_some}
 use Words.{Contains, slice_get, AllByRecursion, nat_tests, place_other, Body, Header, Label, Uid, Path, label_cmp, actor, end_line}
 use Words.{ends_call, gaveup_lines, give_up, give_up_call, give_up_doing, gives_up, root_lost, step_call, At, AtActivate, AtNote, Known}
-use Words.{Lost, Steps, next_node, Machine, is_empty, left_of, plan_of, Calling, Committing, Coord, Doing, Idle, Now, doing_of, on_root}
+use Words.{Lost, Steps, next_node, Machine, left_of, plan_of, Calling, Committing, Coord, Doing, Idle, Now, doing_of, on_root}
 use Words.{number_of, uid_at, Did, Disk, Do, Effect, Intent, Say, Send, Stop, say_for, says, Parts, Ran, most_rounds, next_round, ran}
 use Words.{rounds, whole, with_coord, at_number, Node, Step, acts, branch_named, first_reason, is_waiting_now, step, step_unless}
 use Words.{refusal_at, Branch, at_place, root_of, set_place, branch_of, is_own, Arm, World, armed, count_works, counted, cut, disarmed}
-use Words.{done_step, frames_with, halted_at, halted_outs, is_given, limited, lowest_from, most_frames, node_of, run_event, run_unless}
+use Words.{done_step, frames_with, halted_at, halted_outs, is_given, limited, lowest_from, node_of, run_event, run_unless}
 use Words.{sends, step_node, step_with, steps, labelled, Move, all_moved, moved, world_by, Seen, AreQuiet, NobodyWaits, AreGivenUp, AreIdle}
 use Words.{AreUp, IsToSettle, coord_in, coord_of, lookup, is_at, In, in_from, in_to, and_parts, bytes_eq, cond, is_eq, list_any, name}
-use Words.{was_given, ◌||◌}
+use Words.{was_given, ◌||◌, most_frames, is_empty}
 use Words.body
 use Words.event
 use Words.calls

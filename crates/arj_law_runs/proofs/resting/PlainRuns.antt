@@ -4,9 +4,9 @@ use Words.{◌≡◌, ◌⊎◌, ◌∙◌, ◌+◌, ◌-◌, ℕ, zero, suc, Bo
 use Words.{Option, Some, None, append-nil, append_assoc, length, ◌||◌, not, nat_le, nat_lt, AllByRecursion, list_all, and_parts, In}
 use Words.{in_from, Body, Cause, Line, Disk, Do, Effect, Say, Send, Stop, worked, Input, Node, Step, first_reason, step, at_number}
 use Words.{frame_kind, at_place, Arm, Cut, Frame, World, armed, as_delivered, bodies, change_frame, count_works, counted, cut, deliver}
-use Words.{deliver_frame, disarmed, done_step, halted_at, halted_outs, is_quiet, is_up, is_up_at, limited, lowest, most_frames}
+use Words.{deliver_frame, disarmed, done_step, halted_at, halted_outs, is_quiet, is_up, is_up_at, limited, lowest}
 use Words.{node_numbers, numbered, quiesce, quiet_line, reasons, run_event, run_unless, sent_line, settle, settle_for, step_node, step_with}
-use Words.{steps, tick_all, tick_up, moved, world_by, HasAnswer, IsAnswerTo, IsPlainIn, is_plain, is_refusal}
+use Words.{steps, tick_all, tick_up, moved, world_by, HasAnswer, IsAnswerTo, IsPlainIn, is_plain, is_refusal, most_frames}
 use Words.body
 use Words.input
 use Rattle.arj_law_runs.proofs.Terms

@@ -5,8 +5,8 @@ use Words.{⊎_elim, ◌++◌, ◌+◌, ◌∙◌, ◌∷◌, ◌≡◌, ◌⊎�
 use Words.{Header, Message, Path, Uid, actor, again_all, again_now, asks_step, begin_action, Steps, Machine, left_of, plan_of, waiting}
 use Words.{Calling, Committing, Coord, Doing, Idle, Now, doing_of, Did, Disk, Effect, Send, tick_outs, Handled, Parts, Took, Void, holders}
 use Words.{query_about, taken, with_coord, has, Node, acts, is_waiting_now, parent_of, parts_in, restart_outs, tolds_again, at_place}
-use Words.{ends_of, is_own, root_of, World, is_serial_kind, lowest_from, most_frames, numbered, run_event, Move, moved, world_by, Post}
-use Words.{Seen, AreUp, IsOvertaken, IsSaid, coord_in}
+use Words.{ends_of, is_own, root_of, World, lowest_from, numbered, run_event, Move, moved, world_by, Post}
+use Words.{Seen, AreUp, IsOvertaken, IsSaid, coord_in, is_serial, most_frames}
 use Words.list as members
 use Words.event
 use Words.body
@@ -235,7 +235,7 @@ asked_both hd P Q k g = record {
       (Up Q n (with_coord t did.part)) d M (k.act e n d t i M about asks free h.0) (g.act e n d t i M about asks free h.1);
   begin = λ e n d t l how parent M new may free h. let did = begin_action l how parent (parent_of parent t.coord) t.coord in
       walks_both P Q e n did.outs (Up P n (with_coord t did.part)) (Up Q n (with_coord t did.part)) d
-      (given l (record { node = n; serial = is_serial_kind how }) M)
+      (given l (record { node = n; serial = is_serial how }) M)
       (k.begin e n d t l how parent M new may free h.0) (g.begin e n d t l how parent M new may free h.1);
   tick = λ e n d t M h. let v = with_coord t (again_all t.coord.doings t.coord).part in walks_both P Q e n (tick_outs
       (record { number = n; disk = d; live = Some t }) t) (Up P n v) (Up Q n v) d M (k.tick e n d t M h.0) (g.tick e n d t M h.1);

@@ -7,9 +7,9 @@ use Words.{asks, is_on, uid_eq, answers, last_end, again_all, again_now, Committ
 use Words.{is_prepared, RemoveIntent, Send, Served, acked, acked_by, acked_left, answer_decided, answer_query, answer_recorded, is_deferred}
 use Words.{is_kept_commit, let_go, root_or_self, tell, tell_all, tolds_let_go, tick_outs, Handled, Parts, Took, Void, ack_told, by_reply}
 use Words.{handle_ends, holders, is_earlier, locks_of, naming_hello, naming_told, prepared_actions, query_about, store_told, taken}
-use Words.{with_coord, at_uid, has, uid_set, without_number, without_uid, server_holders, Node, has_none, is_idle, is_waiting_now}
-use Words.{tolds_again, at_place, branch_of, is_open, World, lowest_from, most_frames, run_event, Move, moved, Post, Seen, see, AreIdle}
-use Words.{AreQuiet, NobodyWaits, AreUp, IsSaid, coord_in}
+use Words.{with_coord, at_uid, has, uid_set, without_number, without_uid, server_holders, Node, is_idle, is_waiting_now}
+use Words.{tolds_again, at_place, branch_of, is_open, World, lowest_from, run_event, Move, moved, Post, Seen, see, AreIdle}
+use Words.{AreQuiet, NobodyWaits, AreUp, IsSaid, coord_in, most_frames, is_empty}
 use Words.list as members
 use Words.event
 use Words.ending
@@ -711,7 +711,7 @@ module _ (hd : Header) (P : Seen → Type 0) (gives : SettlesAll hd P) where
       nobody [] all = refl
       nobody (q ∷ ds) all = (λ i. not (is_waiting_now (all.0 i) || list_any (λ (q : Doing). is_waiting_now q.now) ds)) ∙ nobody ds all.1
 
-      nothing : {X : Type 0} (m : List (Uid × X)) → ((u : Uid) → is_some (at_uid u m) ≡ true → ⊥) → has_none m ≡ true
+      nothing : {X : Type 0} (m : List (Uid × X)) → ((u : Uid) → is_some (at_uid u m) ≡ true → ⊥) → is_empty m ≡ true
       nothing [] never = refl
       nothing (e ∷ es) never = absurd (never e.0 (ap (λ o. is_some o) (at_here e.0 e.1 es)))
 

@@ -2,8 +2,8 @@
 use Rattle.arj_law_parts.proofs.Words
 use Words.{◌≡◌, ◌⊎◌, ◌∙◌, ℕ, zero, suc, Bool, true, false, List, [], ◌∷◌, ◌++◌, refl, sym, ap, subst, inl, inr, ⊎_elim, Option, Some, None}
 use Words.{eqb-true, arith, ◌&&◌, ◌||◌, ◌==◌, nat_le, not, if◌then◌else◌, nat_tests, in_left, in_right, Body, Header, Node, first_reason}
-use Words.{numbers_to, World, counted, deliver, is_quiet, is_up_at, limited, lowest, lowest_from, most_frames, node_numbers, quiesce}
-use Words.{quiet_line, reasons, run_event, run_unless, settle, settle_for, steps, tick_all, tick_up, Post, Seen, AreUp}
+use Words.{numbers_to, World, counted, deliver, is_quiet, is_up_at, limited, lowest, lowest_from, node_numbers, quiesce}
+use Words.{quiet_line, reasons, run_event, run_unless, settle, settle_for, steps, tick_all, tick_up, Post, Seen, AreUp, most_frames}
 use Words.list as members
 use Words.body
 use Words.event

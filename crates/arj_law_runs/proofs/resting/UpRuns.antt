@@ -3,7 +3,7 @@ use Rattle.arj_law_parts.proofs.Words
 use Words.{◌≡◌, ◌≢◌, ◌⊎◌, ◌∙◌, ℕ, true, cond, List, [], ◌∷◌, ◌++◌, refl, sym, ap, subst, inl, inr, ⊎_elim, Option, Some, None, append-nil}
 use Words.{append_assoc, ◌&&◌, ◌==◌, ◌+◌, is_some, nat_le, AllByRecursion, In, in_from, in_to, in_left, in_right, Header, Line, again_all}
 use Words.{begin_action, Disk, Do, Effect, Say, Send, stopped, worked, tick_outs, Parts, with_coord, Node, acts, parent_of, parts_in}
-use Words.{restart_outs, at_place, World, is_node, is_serial_kind, is_up, is_up_at, numbered, all_moved, world_by, Seen, see}
+use Words.{restart_outs, at_place, World, is_node, is_up, is_up_at, numbered, all_moved, world_by, Seen, see, is_serial}
 use Words.body
 use Rattle.arj_law_runs.proofs.Terms
 use Terms.{IsGood, Holds, KeepsOn, at, down, given, posted, said, up, Up, Walks, halted, keeps_asked, moves_asked, moves_go_on}
@@ -130,7 +130,7 @@ module _ (old : List Line) (k : ℕ) where
         walk e j (with_coord t did.part) did.outs d M p.more p.are (begins j d (Some t) M p.more p.now);
     begin = λ e j d t m how parent M new may free p.
         let did = begin_action m how parent (parent_of parent t.coord) t.coord in
-        let N = given m (record { node = j; serial = is_serial_kind how }) M in
+        let N = given m (record { node = j; serial = is_serial how }) M in
         walk e j (with_coord t did.part) did.outs d N p.more p.are (given_on j M N p.more refl (begins j d (Some t) M p.more p.now));
     tick = λ e j d t M p. walk e j (with_coord t (again_all t.coord.doings t.coord).part)
         (tick_outs (record { number = j; disk = d; live = Some t }) t) d M p.more p.are (begins j d (Some t) M p.more p.now);

@@ -6,8 +6,8 @@ use Words.{if◌then◌else◌, is_some, AllByRecursion, nat_tests, in_from, in_
 use Words.{Line, Message, again_all, Disk, Do, Effect, Say, Send, tick_outs, Handled, Here, Parts, Took, Void, taken, whole, with_coord}
 use Words.{at_number, Input, Node, Step, handled_step, step, at_place, set_place, Arm, Frame, World, armed, as_delivered, bodies}
 use Words.{change_frame, count_works, cut, deliver, deliver_frame, disarmed, done_step, frames_with, halted_at, is_open_frame, is_up}
-use Words.{is_up_at, lowest, lowest_from, most_frames, new_frame, numbered, sends, sent_line, settle_for, step_node, step_with, steps, Post}
-use Words.{Seen, see, IsSaid}
+use Words.{is_up_at, lowest, lowest_from, new_frame, numbered, sends, sent_line, settle_for, step_node, step_with, steps, Post}
+use Words.{Seen, see, IsSaid, most_frames}
 use Words.list as members
 use Words.body
 use Words.input

@@ -1,15 +1,18 @@
 -- Nodes that are named, in messages, on disks and in memory: this holds of each of their numbers.
 use Rattle.std.specs.Prelude.{⊤, ◌≡◌, ◌≤◌, ◌<◌, ◌-◌, ◌&&◌, ℕ, true, is_some, length, nat_le, List, Option, Some, None}
 use Rattle.std.specs.List.{AllByRecursion}
-use Rattle.arj_protocol.specs.Words.{Uid, Ask, Asked, BoundReply, Entry, Head, Header, Message, ObjectLine, ObjectState, Path, Row, asks}
+use Rattle.arj_protocol.specs.Words.{Uid, Ask, Asked, Body, BoundReply, Cause, Entry, Head, Header, Line, Message, ObjectLine, ObjectState}
+use Rattle.arj_protocol.specs.Words.{Path, Row, asks}
 use Rattle.arj_protocol.specs.Words.{entry, uids_of}
 use Rattle.arj_protocol.specs.Words.ask
+use Rattle.arj_protocol.specs.Words.body
 use Rattle.arj_protocol.specs.Words.bound
+use Rattle.arj_protocol.specs.Words.cause
 use Rattle.arj_protocol.specs.Words.role
 use Rattle.arj_protocol.specs.Ask.{Reply, answers}
-use Rattle.arj_protocol.specs.Call.{At, AtBind, AtLoad, AtActivate, AtNote, AtInvoke, CallEnd, CallStep, Ended, Goal, Include, Included}
-use Rattle.arj_protocol.specs.Call.{Known, Moved, On, Run, Steps}
-use Rattle.arj_protocol.specs.Commit.{Machine, Plan, Used, left_of, plan_of}
+use Rattle.arj_protocol.specs.Call.{At, AtBind, AtLoad, AtActivate, AtNote, AtInvoke, Answered, CallEnd, CallStep, Changed, Conflict, Ended, Goal, Include, Included}
+use Rattle.arj_protocol.specs.Call.{Known, Lost, Moved, On, Run, Steps}
+use Rattle.arj_protocol.specs.Commit.{Machine, Plan, Used, left_of, nodes_given_up, plan_of}
 use Rattle.arj_protocol.specs.Coord.{Calling, Committing, Coord, Doing, Idle, Joined, Keeping, Now, Root, Went, doing_of}
 use Rattle.arj_protocol.specs.Copy.{Copy}
 use Rattle.arj_protocol.specs.Effect.{Disk, Do, Effect, Intent, Pair, Prepare, PutIntent, Say, Send, Work, held_at}
@@ -142,6 +145,14 @@ MessageOf G m = AskedOf G (asks m) × AnsweredOf G (answers m)
 
 -- ---- effects
 
+-- so does the cause of an abort, but for a store that naming lists already
+abbrev pub CauseOf : (ℕ → Type 0) → Cause → Type 0
+CauseOf G (cause.Lost n) = G n
+CauseOf G (cause.Conflict holder mode n) = G n
+CauseOf G (cause.Changed n d) = G n
+CauseOf G (cause.Old n x v) = G n
+CauseOf G why = ⊤
+
 -- work names such nodes
 abbrev pub WorkOf : (ℕ → Type 0) → Work → Type 0
 WorkOf G (Prepare role.Store u states) = G u.node
@@ -149,10 +160,31 @@ WorkOf G (Prepare role.Names u states) = G u.node × AllByRecursion (StateOf G) 
 WorkOf G (PutIntent u i) = AreOf G i.nodes
 WorkOf G _ = ⊤
 
+-- a line names such nodes, but for those of Uids, and for what a disk shows and what frames tell
+abbrev pub SaysOf : (ℕ → Type 0) → Body → Type 0
+SaysOf G (body.Includes l x n) = G n
+SaysOf G (body.Conflict l holder mode n) = G n
+SaysOf G (body.Lost l n) = G n
+SaysOf G (body.Changed l n d) = G n
+SaysOf G (body.Aborted l why) = CauseOf G why
+SaysOf G (body.GaveUp l n) = G n
+SaysOf G (body.Excluded l x n) = G n
+SaysOf G (body.Granted n u o mode) = G n
+SaysOf G (body.Lowered n u o) = G n
+SaysOf G (body.Bound x b n) = G n
+SaysOf G (body.Active n x b) = G n
+SaysOf G (body.Told n u e p) = G n
+SaysOf G (body.Prepared n u r) = G n
+SaysOf G (body.Done n u r e) = G n
+SaysOf G (body.Halted n) = G n
+SaysOf G (body.Up n i) = G n
+SaysOf G (body.Recovered n u) = G n
+SaysOf G b = ⊤
+
 -- a message goes to such a node
 abbrev pub EffectOf : (ℕ → Type 0) → Effect → Type 0
 EffectOf G (Send to m) = G to × MessageOf G m
-EffectOf G (Say b) = ⊤
+EffectOf G (Say b) = SaysOf G b
 EffectOf G (Do w) = WorkOf G w
 
 -- so it is of all effects
@@ -193,10 +225,13 @@ abbrev pub StoreOf : (ℕ → Type 0) → Goal → Type 0
 StoreOf G (Run o) = ⊥
 StoreOf G (Include s) = G s
 
--- only an include ends as one
+-- only an include ends as one, and other ends name such a node
 abbrev pub EndOf : (ℕ → Type 0) → Goal → CallEnd → Type 0
+EndOf G g (Answered a) = GoalOf G g
 EndOf G g (Included st) = StoreOf G g
-EndOf G g _ = ⊤
+EndOf G g (Conflict holder mode n) = G n
+EndOf G g (Changed n w) = G n
+EndOf G g (Lost n sent) = G n
 
 -- so it is of the step that a call goes on to
 abbrev pub StepOf : (ℕ → Type 0) → Goal → CallStep → Type 0
@@ -217,16 +252,17 @@ pub record StepsOf (G : ℕ → Type 0) (s : Steps) : Type 0 where
 abbrev pub UsedOf : (ℕ → Type 0) → Used → Type 0
 UsedOf G u = (u.called ≡ true → G u.server) × AreOf G u.stores × AreOf G u.joins
 
--- a plan names such nodes
+-- a plan names such nodes, and excludes such stores
 pub record PlanOf (G : ℕ → Type 0) (p : Plan) : Type 0 where
   pub path : PathOf G p.path
   pub used : AllByRecursion (UsedOf G) p.used
   pub sent : AreOf G p.sent
   pub prepared : AreOf G p.prepared
+  pub excluded : AllByRecursion (λ (m : ℕ × ℕ). G m.1) p.excluded
 
--- so it is of the plan of a commit, and of the nodes that haven't answered
+-- so it is of the plan of a commit, of the nodes that haven't answered, and of those of which a giveup says so
 abbrev pub MachineOf : (ℕ → Type 0) → Machine → Type 0
-MachineOf G m = PlanOf G (plan_of m) × AreOf G (left_of m)
+MachineOf G m = PlanOf G (plan_of m) × AreOf G (left_of m) × AreOf G (nodes_given_up m)
 
 -- so it is of what an action is at
 abbrev pub NowOf : (ℕ → Type 0) → Now → Type 0
@@ -275,9 +311,10 @@ NodeOf G n = G n.number × DiskOf G n.disk × UpOf G n.disk n.live
 abbrev pub PostOf : (ℕ → Type 0) → Post → Type 0
 PostOf G p = G p.from × G p.to × MessageOf G p.message
 
--- of every node, and of every message that was ever sent
+-- of every node, of every message that was ever sent, and of every line
 abbrev pub AreSo : (ℕ → Type 0) → Seen → Type 0
 AreSo G M = ((j : ℕ) (n : Node) → M.nodes j ≡ Some n → NodeOf G n) × ((p : Post) → In p M.sent → PostOf G p)
+    × AllByRecursion (λ (l : Line). SaysOf G l.body) M.lines
 
 -- ---- runs
 

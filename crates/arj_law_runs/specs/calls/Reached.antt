@@ -1,10 +1,11 @@
 -- Worlds that nodes may come to, whatever stops their disks make.
 use Rattle.std.specs.Prelude.{◌≤◌, length}
 use Rattle.arj_protocol.specs.Words.{Header}
-use Rattle.arj_protocol.specs.World.{World, most_labels}
+use Rattle.arj_protocol.specs.World.{World}
 use Rattle.arj_law_parts.specs.moves.Keeps.{Holds, KeepsAsked}
 use Rattle.arj_promise.specs.Runs.{Seen}
 use Rattle.arj_law_runs.specs.calls.Bindings.{HasFewBindings}
+use Rattle.arj_start.specs.Limits.{most_labels}
 
 -- whatever each handler keeps, wherever a stop falls, holds of the world
 abbrev pub Keeping : Header → World → Type 1

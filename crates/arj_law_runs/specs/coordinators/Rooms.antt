@@ -3,8 +3,9 @@ use Rattle.std.specs.Prelude.{◌≡◌, ◌≤◌, ◌<◌, ◌+◌, ◌==◌, 
 use Rattle.std.specs.Prelude.{Contains, ⊤}
 use Rattle.std.specs.List.{AllByRecursion}
 use Rattle.arj_protocol.specs.Order.{at_number}
-use Rattle.arj_protocol.specs.Tree.{Branch, Family, Tree, most_actions, most_objects, no_family, root_of}
+use Rattle.arj_protocol.specs.Tree.{Branch, Family, Tree, no_family, root_of}
 use Rattle.arj_protocol.specs.Words.{Uid, End}
+use Rattle.arj_start.specs.Limits.{most_actions, most_objects}
 
 -- the action is of the root of this number, and open
 abbrev pub is_open_in : ℕ → Branch → Bool

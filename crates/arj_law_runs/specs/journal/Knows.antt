@@ -3,7 +3,7 @@ use Rattle.std.specs.Prelude.{⊤, ◌≡◌, ◌⊎◌, ℕ, true, false, if◌
 use Rattle.std.specs.List.{AllByRecursion}
 use Rattle.arj_base.specs.Rows.{is_on}
 use Rattle.arj_law_runs.specs.coordinators.Uses.{KnowsTops}
-use Rattle.arj_model.specs.Actions.{Act, act_in, is_serial, path, uids}
+use Rattle.arj_model.specs.Actions.{Act, act_in, path, uids}
 use Rattle.arj_law_parts.specs.parts.Actions.{IsCounted}
 use Rattle.arj_law_parts.specs.parts.Ends.{brought, told_by}
 use Rattle.arj_protocol.specs.Words.{Uid, End, Kind, Label, Message, Body, name, uids_of}
@@ -23,6 +23,7 @@ use Rattle.arj_law_parts.specs.moves.Seen as seen
 use Rattle.arj_promise.specs.Runs.{Post, Seen}
 use Rattle.arj_law_runs.specs.journal.Book.{Access, Book, book, new_book, turned, uid_in, is_decided, is_over}
 use Rattle.arj_law_runs.specs.journal.Right.{AreRight, IsSaid, MayBeFound, Right}
+use Rattle.arj_start.specs.Kinds.{is_serial}
 
 -- ---- coordinators
 

@@ -6,7 +6,8 @@ use Rattle.arj_protocol.specs.Words.{Uid, name, uids_of}
 use Rattle.arj_protocol.specs.Coord.{Doing, doing_of}
 use Rattle.arj_protocol.specs.Node.{Parts}
 use Rattle.arj_protocol.specs.Step.{Node}
-use Rattle.arj_protocol.specs.Tree.{Branch, at_place, branch_of, longest_path}
+use Rattle.arj_protocol.specs.Tree.{Branch, at_place, branch_of}
+use Rattle.arj_start.specs.Limits.{most_on_path}
 use Rattle.arj_protocol.specs.World.{World}
 use Rattle.arj_law_runs.specs.kept.Worlds.{IsGoodOf}
 use Rattle.arj_promise.specs.Runs.{Seen}
@@ -22,7 +23,7 @@ AreAlike begun acts = ⊥
 -- the path of each of these actions is no longer than a path may be
 abbrev pub AreShort : List Act → Type 0
 AreShort [] = ⊤
-AreShort (a ∷ older) = (length (path_in older a) ≤ longest_path) × AreShort older
+AreShort (a ∷ older) = (length (path_in older a) ≤ most_on_path) × AreShort older
 
 -- good nodes, whose actions are those of the journal
 abbrev pub IsAlikeOf : List Action → Seen → Type 0

@@ -14,8 +14,9 @@ use Rattle.arj_journal.specs.declared.body.Kind.TheVariants as kind
 use Rattle.arj_journal.specs.declared.body.Line.{Line}
 use Rattle.arj_text.specs.Label.{name}
 use Rattle.arj_text.specs.declared.label.Label.{Label}
-use Rattle.arj_model.specs.Actions.{Act, act_in, is_serial, path, uids}
+use Rattle.arj_model.specs.Actions.{Act, act_in, path, uids}
 use Rattle.arj_law_runs.specs.journal.Book.{Book, turned, is_decided, is_over, is_top}
+use Rattle.arj_start.specs.Kinds.{is_serial}
 
 -- the label is that of an open action: no line has ended it, and no restart has found its record
 pub record IsOpen (B : Book) (l : Label) (a : Act) : Type 0 where

@@ -5,7 +5,7 @@ use Rattle.arj_protocol.specs.Coord.{Coord, number_of}
 use Rattle.arj_protocol.specs.Effect.{Disk, Intent}
 use Rattle.arj_protocol.specs.Node.{Parts}
 use Rattle.arj_protocol.specs.Step.{Node}
-use Rattle.arj_protocol.specs.Tree.{Branch, at_place, is_own, is_serial}
+use Rattle.arj_protocol.specs.Tree.{Branch, at_place, is_own}
 use Rattle.arj_protocol.specs.World.{Labelled}
 use Rattle.arj_law_parts.specs.parts.AskedObjects.{KnowsObjects}
 use Rattle.arj_law_parts.specs.parts.Requests.{AreNumbered}
@@ -19,6 +19,7 @@ use Rattle.arj_law_parts.specs.parts.Nodes.{IsGoodNode}
 use Rattle.arj_law_parts.specs.moves.Keeps.{label_at}
 use Rattle.arj_law_parts.specs.moves.Seen.{In}
 use Rattle.arj_promise.specs.Runs.{Post, Seen}
+use Rattle.arj_start.specs.Kinds.{is_serial}
 
 -- The records on node k's disk are of tops that were begun there, in this incarnation or an earlier one.
 pub record IsGoodDisk (acts : List Action) (k : ℕ) (d : Disk) : Type 0 where

@@ -14,7 +14,7 @@ use Rattle.arj_protocol.specs.Node.{Parts}
 use Rattle.arj_protocol.specs.Order.{at_uid, has}
 use Rattle.arj_protocol.specs.Step.{Node, is_idle, is_waiting_now}
 use Rattle.arj_protocol.specs.Tree.{at_place, is_open}
-use Rattle.arj_protocol.specs.World.{Asked, World, is_node, lowest_from, most_frames, run_event, node_of}
+use Rattle.arj_protocol.specs.World.{Asked, World, is_node, lowest_from, run_event, node_of}
 use Rattle.arj_law_parts.specs.parts.Coords.{IsCommitting}
 use Rattle.arj_law_parts.specs.parts.Objects.{AreSorted}
 use Rattle.arj_law_runs.specs.kept.Worlds.{IsGood}
@@ -26,6 +26,7 @@ use Rattle.arj_law_runs.specs.resting.Rounds.{AnswersWaits}
 use Rattle.arj_promise.specs.Resting.{AreUp}
 use Rattle.arj_promise.specs.Waiting.{coord_in}
 use Rattle.arj_promise.specs.Resting.{AreGivenUp, AreIdle, AreQuiet, IsGiveUp, NobodyWaits}
+use Rattle.arj_start.specs.Limits.{most_frames}
 
 -- the action is prepared on the disk, by its store or by naming
 abbrev pub IsPrepared : Uid → Disk → Type 0

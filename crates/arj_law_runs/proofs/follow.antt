@@ -1,0 +1,11 @@
+-- What an event writes, in the journal's own words, in every run.
+--
+-- Lines of frames and halts are followed one by one, against the frames of the world and which of its nodes are up.
+pub mod Telling
+pub mod Walking
+pub mod Stepping
+pub mod Delivering
+pub mod Framing
+pub mod Happening
+pub mod Along
+pub mod Frames

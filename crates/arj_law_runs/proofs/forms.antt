@@ -1,0 +1,2 @@
+-- Lines in form, field by field.
+pub mod World

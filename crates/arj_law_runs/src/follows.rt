@@ -1,0 +1,11 @@
+// What each event writes, by the events and the journal alone.
+ghost use Rattle.arj_law_runs.specs.follow.Frames.{FramesHaveCauses};
+
+/// In every run in form, wherever it begins and wherever disks stop, each line of a frame and of a stop to come has its cause: a
+/// frame that is sent has the next number, goes to a node, and comes from one that is up, or from nobody where the script hands over
+/// bytes that are no message; one that is got or void was sent, is the one that the event names, or in a settle and a quiesce the
+/// first that is open, and its node is up, or it may be void; one that is dropped was sent, and the event names it. And a node halts
+/// where it is up, or as the first line of its restart, and in no crash of another node. It does nothing when it runs.
+pub fn frames_have_causes()
+    ensures runs { FramesHaveCauses }
+{}
