@@ -37,3 +37,4 @@ pub mod StepsBoth
 pub mod StepsFollowed
 pub mod StepsKept
 pub mod ToldBoth
+pub mod ToldOnes

@@ -90,5 +90,6 @@ pub mod FewDecided
 pub mod Grows
 pub mod Scripts
 pub mod StateCoords
+pub mod StateInputs
 pub mod StateEnds
 pub mod StateTicks

@@ -127,7 +127,8 @@ pub use Rattle.arj_law_parts.specs.parts.Actions.{Action, AreBegun, MayBegin, St
 pub use Rattle.arj_law_parts.specs.parts.Claims.{AreTrue, GoesOn, IsSettled}
 pub use Rattle.arj_law_parts.specs.parts.Coords.{IsAsking, IsBusy, IsGoodCoord, IsVoting}
 pub use Rattle.arj_law_parts.specs.parts.Copies.{IsLowest, IsTree, Paths}
-pub use Rattle.arj_law_parts.specs.parts.Ends.{IsSure, ask_ends}
+pub use Rattle.arj_law_parts.specs.parts.Ends.{IsSure}
+pub use Rattle.arj_protocol.specs.Follow.{ends_in}
 pub use Rattle.arj_law_parts.specs.parts.Frames.{outs_of}
 pub use Rattle.arj_law_parts.specs.parts.Messages.{FitsAsk, FitsAsked, FitsMessage, IsAsker, IsTopAction}
 pub use Rattle.arj_law_parts.specs.parts.Objects.{IsGoodObject, IsToldOf, IsUnrecorded, Untold}
@@ -160,10 +161,10 @@ pub use Rattle.arj_law_runs.specs.calls.Lived.{HasGiven}
 pub use Rattle.arj_law_runs.specs.calls.Runs.{KnowsFew}
 pub use Rattle.arj_law_runs.specs.journal.Laws.{AreDistinct, called_of}
 pub use Rattle.arj_law_runs.specs.kept.Worlds.{IsGoodOf, IsUp}
-pub use Rattle.arj_model.specs.Actions.{Begun, Halt, Placed, act_in, acts, acts_after, begun_of, committed_of, ended_of, halt_of, is_serial}
+pub use Rattle.arj_model.specs.Actions.{Begun, Halt, Placed, act_in, acts, acts_after, begun_of, committed_of, ended_of, halt_of}
 pub use Rattle.arj_model.specs.Actions.{numbered, put, read, recovered, recovered_of}
 pub use Rattle.arj_model.specs.Serial.{Values}
-pub use Rattle.arj_model.specs.Start.{Marks}
+pub use Rattle.arj_start.specs.Start.{Marks}
 pub use Rattle.arj_protocol.specs.Commit.{answered, given_up}
 pub use Rattle.arj_protocol.specs.Effect.{moved}
 pub use Rattle.arj_protocol.specs.Server.{kept_after, taken_end}

@@ -31,6 +31,7 @@ pub mod GoodNaming
 pub mod Onward
 pub mod CoordRuns
 pub mod Requests
+pub mod Homes
 pub mod Asked
 pub mod PartSteps
 pub mod PartCoords

@@ -14,6 +14,7 @@ pub mod BeginSteps
 pub mod BesideSteps
 pub mod BindSteps
 pub mod CallInputSteps
+pub mod Looked
 pub mod CallingSteps
 pub mod CommitSteps
 pub mod ConfirmSteps

@@ -3,3 +3,4 @@ pub mod facts
 pub mod journal
 pub mod running
 pub mod records
+pub mod moments

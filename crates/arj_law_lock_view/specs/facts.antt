@@ -8,5 +8,6 @@ pub mod Keeping
 pub mod Uppers
 pub mod Entries
 pub mod Requests
+pub mod Homes
 pub mod Parted
 pub mod States

@@ -36,7 +36,7 @@ pub use Rattle.arj_law_disk_view.proofs.running.Lists.{all_each, all_filter, all
 pub use Rattle.arj_law_disk_view.proofs.running.Means.{All, queries_mean}
 pub use Rattle.arj_law_disk_view.proofs.running.RecordWalks.{restart_plain}
 pub use Rattle.arj_law_disk_view.proofs.running.Scripts.{part_more}
-pub use Rattle.arj_law_disk_view.proofs.running.StateCoords.{acts_so, begins_so, hears_so}
+pub use Rattle.arj_law_disk_view.proofs.running.StateInputs.{acts_so, begins_so, hears_so}
 pub use Rattle.arj_law_disk_view.proofs.running.StateEnds.{acks_so, new_so, query_so}
 pub use Rattle.arj_law_disk_view.proofs.view.DecideWalks.{confirming_of}
 pub use Rattle.arj_law_runs.proofs.kept.Starts.{first_at, first_up, live_first}
@@ -153,7 +153,7 @@ pub use Rattle.arj_law_parts.proofs.parts.Begun.{begun_tree, on_own, one_action,
 pub use Rattle.arj_law_parts.proofs.parts.CoordInputs.{named_found, off, off_third}
 pub use Rattle.arj_law_parts.proofs.parts.Decided.{stand_acts, stand_again}
 pub use Rattle.arj_law_parts.proofs.parts.EndsHandled.{surely_handled}
-pub use Rattle.arj_law_parts.proofs.parts.EndsSaid.{none_in}
+pub use Rattle.arj_law_parts.proofs.parts.SureCalls.{none_in}
 pub use Rattle.arj_law_parts.proofs.parts.GoodCoords.{IsStepOf, actor_is, answer_step, doing_by, doomed_same, giveup_step, good_heard}
 pub use Rattle.arj_law_parts.proofs.parts.GoodCoords.{on_tree, uses_same, vote_step, voting_at}
 pub use Rattle.arj_law_parts.proofs.parts.GoodTrees.{found_by, get_more}
@@ -171,7 +171,8 @@ pub use Rattle.arj_law_parts.specs.parts.Actions.{Action, AreBegun, IsNew, act_o
 pub use Rattle.arj_law_parts.specs.parts.Claims.{AreTrue}
 pub use Rattle.arj_law_parts.specs.parts.Coords.{IsAsking, IsBusy, IsCommitting, IsGoodCoord, IsOver, IsVoting}
 pub use Rattle.arj_law_parts.specs.parts.Copies.{IsTree, Paths}
-pub use Rattle.arj_law_parts.specs.parts.Ends.{AllSayEnds, AreOfCommits, Decides, IsSure, IsSurelyHandled, ask_ends, brought, brought_by}
+pub use Rattle.arj_law_parts.specs.parts.Ends.{AllSayEnds, AreOfCommits, Decides, IsSure, IsSurelyHandled, brought, brought_by}
+pub use Rattle.arj_protocol.specs.Follow.{ends_in}
 pub use Rattle.arj_law_parts.specs.parts.Ends.{told_by}
 pub use Rattle.arj_law_parts.specs.parts.Incs.{IsTrulyHandled}
 pub use Rattle.arj_law_parts.specs.parts.Lives.{Reach}
@@ -268,7 +269,7 @@ pub use Rattle.arj_law_serial.specs.whole.Tops.{HaveTops, HoldsNames, IsAboutTop
 pub use Rattle.arj_law_serial.specs.whole.Whole.{KnowsWhole}
 pub use Rattle.arj_law_store.specs.store.Files.{IsPairOf}
 pub use Rattle.arj_model.specs.Actions.{Act, Begun, Placed, act_in, acts, acts_after, acts_from, begun_of, behind_first, chain_in}
-pub use Rattle.arj_model.specs.Actions.{committed, committed_of, has_end, id_in, is_committed, is_serial, numbered, path, path_in, put}
+pub use Rattle.arj_model.specs.Actions.{committed, committed_of, has_end, id_in, is_committed, numbered, path, path_in, put}
 pub use Rattle.arj_model.specs.Actions.{read, recovered, recovered_of, root_in, top_in, uids, upwards}
 pub use Rattle.arj_model.specs.Book.{InOrder}
 pub use Rattle.arj_model.specs.Calls.{Said, Top, call_of, committed_calls, committing_of, committings, ids, kept, kept_in, root_or, said_of}
@@ -280,7 +281,7 @@ pub use Rattle.arj_model.specs.Last.{Inclusion, entry_payload, first_values, inc
 pub use Rattle.arj_model.specs.Last.{is_among, joins_by, joins_of, leaves_of, listed_after, listed_from, object_line}
 pub use Rattle.arj_model.specs.Last.{serial_tops, servers_of_line, stores_of_line, uid_of_id, value_of_line}
 pub use Rattle.arj_model.specs.Outcome.{is_said}
-pub use Rattle.arj_model.specs.Start.{Mark, Marks}
+pub use Rattle.arj_start.specs.Start.{Mark, Marks}
 pub use Rattle.arj_model.specs.Serial.{Values, lex, root_of, run, serial_calls, serial_key, top_place, unit_place, writes_on}
 pub use Rattle.arj_model.specs.Table.{path_by, table, table_from, table_step, up_step}
 pub use Rattle.arj_protocol.specs.Effect.{moved}

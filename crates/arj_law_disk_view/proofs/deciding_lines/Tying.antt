@@ -3,8 +3,8 @@ use Rattle.arj_law_parts.proofs.Words
 use Words.{world_from, ◌≡◌, ◌⊎◌, ◌==◌, ℕ, ◌+◌, List, [], true, Option, Some, None, is_some, refl, sym, ◌∙◌, ap, subst, inl, inr, ⊎_elim}
 use Words.{◌++◌, ◌∷◌}
 use Words.{Contains, in_to, In as Among, in_from, Body, Header, Kind, Label, Uid, Line, again_all, begin_action, Disk, Effect, Intent}
-use Words.{tick_outs, Parts, with_coord, at_uid, uid_number, Node, acts, parent_of, parts_in, restart_outs, World, is_serial_kind}
-use Words.{numbered, Seen, see}
+use Words.{tick_outs, Parts, with_coord, at_uid, uid_number, Node, acts, parent_of, parts_in, restart_outs, World}
+use Words.{numbered, Seen, see, is_serial}
 use Words.body
 use Rattle.arj_law_disk_view.proofs.Terms
 use Terms.{in_at, Office, decided, decided_in as is_among, never, some_is, Holds, Keeps, at, down, given, said, up, AreQuiet, Up, Walks}
@@ -245,7 +245,7 @@ module _ (hd : Header) (x : ℕ) (R : Seen → Type 0) (G : machine.World → Se
         );
     begin = λ tops e k d t l how parent M A walk n r new may free kind both (part, tie).
         let did = begin_action l how parent (parent_of parent t.coord) t.coord in
-        let N : Seen = given l (record { node = k; serial = is_serial_kind how }) M in
+        let N : Seen = given l (record { node = k; serial = is_serial how }) M in
         both_along tops (Changes Quietly A) e k did.outs (with_coord t did.part) d N
         (parts.begin tops e k d t l how parent M A walk n (r.0.0, r.1) new may free kind both part)
         (tied_walk R Idle idles x tops A.world (up k d t M) tie.0 tie.1 (Changes Quietly A) (λ B c. goes_by Quietly A B (let z = both.disks
@@ -279,7 +279,7 @@ module _ (hd : Header) (x : ℕ) (R : Seen → Type 0) (G : machine.World → Se
       quiet_step : (e : ℕ) (bs : List Body) (M : Seen) → IsStep M (said e bs M)
       quiet_step e bs M = record { more = numbered e bs; lines = refl; nodes = λ j n is. (n, is, λ down. refl) }
 
-      given_near : (l : Label) (how : Kind) (k : ℕ) (M : Seen) → IsNear M (given l (record { node = k; serial = is_serial_kind how }) M)
+      given_near : (l : Label) (how : Kind) (k : ℕ) (M : Seen) → IsNear M (given l (record { node = k; serial = is_serial how }) M)
       given_near l how k M = record { more = []; lines = nothing_more M.lines; nodes = λ j. refl }
 
 -- ---- in a world that is reached

@@ -2,8 +2,8 @@
 use Rattle.arj_law_parts.proofs.Words
 use Words.{◌≡◌, ◌⊎◌, ◌==◌, ◌+◌, ℕ, List, [], ◌∷◌, ◌++◌, Bool, true, false, cond, Some, None, refl, sym, ◌∙◌, ap, subst, inl, inr, ⊎_elim}
 use Words.{eqb-true, ⊤, and_parts, in_from, Body, Header, Label, Uid, again_all, begin_action, Coord, Doing, doing_of, Disk, Effect, Intent}
-use Words.{tick_outs, Parts, with_coord, uid_number, Node, acts, parent_of, parts_in, restart_outs, at_place, is_own, is_serial_kind}
-use Words.{numbered, number_tells, Seen, Line}
+use Words.{tick_outs, Parts, with_coord, uid_number, Node, acts, parent_of, parts_in, restart_outs, at_place, is_own}
+use Words.{numbered, number_tells, Seen, Line, is_serial}
 use Rattle.arj_law_disk_view.proofs.Terms
 use Terms.{in_at, only_decides, Office, Done, decided, decided_in, In, never, or_cases, some_is, test_same, at, down, given, said, up, Up}
 use Terms.{Walks, halted, walks_both, walks_to, Along, Kinds, followed, OnlyFound, SeesBoth, Answering, Change, Changes, Deciding}
@@ -180,13 +180,13 @@ module _ (hd : Header) (x : ℕ) (R G : Seen → Type 0) (P : Kinds → Office �
         (step_walk k d (Some t) M e (with_coord t did.part) did.outs d M (near_same M) (was_up t) (was_up t));
     begin = λ tops e k d t l how parent M walk n r new may free kind (A, both, part, early).
         let did = begin_action l how parent (parent_of parent t.coord) t.coord in
-        let N : Seen = given l (record { node = k; serial = is_serial_kind how }) M in
-        let seen = actions_keep_both x tops e k d t l (record { node = k; serial = is_serial_kind how }) how parent
+        let N : Seen = given l (record { node = k; serial = is_serial how }) M in
+        let seen = actions_keep_both x tops e k d t l (record { node = k; serial = is_serial how }) how parent
         (parent_of parent t.coord) A M walk n.coord kind both in
         carried tops A (up k d t M) (Changes Quietly A) e k did.outs (with_coord t did.part) d N part.1 early
         (quietly A k) (calmly tops A e k did.outs (with_coord t did.part) d N seen) seen
         (parts.begin tops e k d t l how parent M A walk n (r.0.0, (r.1, early)) new may free kind both part)
-        (step_walk k d (Some t) M e (with_coord t did.part) did.outs d N (given_near l (is_serial_kind how) k M) (was_up t) (was_up t));
+        (step_walk k d (Some t) M e (with_coord t did.part) did.outs d N (given_near l (is_serial how) k M) (was_up t) (was_up t));
     tick = λ tops e k d t M walk n r (A, both, part, early).
         let outs = tick_outs (record { number = k; disk = d; live = Some t }) t in
         let v = with_coord t (again_all t.coord.doings t.coord).part in

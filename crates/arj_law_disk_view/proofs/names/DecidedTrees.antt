@@ -6,7 +6,7 @@ use Words.{nat_cmp-IsAntisymmetric, and_parts, or_cases, or_left, or_right, uid_
 use Words.{has_record, participants, Coord, Doing, Idle, Joined, Keeping, Root, Said, is_constituent_branch, is_kept_top, kept_of}
 use Words.{no_keeping, no_root, on_doing, on_root, retained_in, root_at, second_uid, survives, top_uses, decided, kept_after, keeping_after}
 use Words.{root_after, at_number, each, put_number, put_uid, Branch, behind, branch_of, ended_at, ended_so, has_end, is_aborted}
-use Words.{is_committed, is_constituent, is_merged, is_spent, root_of, put_same}
+use Words.{is_committed, is_merged, is_spent, root_of, put_same, is_constituent}
 use Words.ending
 use Words.commit
 use Words.coord

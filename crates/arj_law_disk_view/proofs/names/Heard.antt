@@ -1,7 +1,7 @@
 -- Answers that coordinators take and stores give, before whatever else a step does.
 use Rattle.arj_law_parts.proofs.Words
 use Words.{◌≡◌, ◌==◌, ℕ, [], ◌∷◌, true, false, Some, None, refl, sym, ◌∙◌, ap, subst, inl, inr, ⊎_elim, Contains, in_from, in_to, Uid}
-use Words.{is_named, Known, Coord, Grant, Root, Said, granted_with, kept_of, with_grant, Naming, uid_number, Seen}
+use Words.{Known, Coord, Grant, Root, Said, granted_with, kept_of, with_grant, Naming, uid_number, Seen, is_binding}
 use Rattle.arj_law_disk_view.proofs.Terms
 use Terms.{World, end_of, Loaded, Names, Office, acted, State, In, put2, runs_keep, put2_rises, up, packed, Kinds, SeesDisks, HasGoneOn}
 use Terms.{OnlyAnswers, OnlyAtNode, SeesBoth, SeesGrants, StaysRetained, AfterInclude, HasList, HasRetained, IsShort, IsTopOf, KeepsCalls}
@@ -160,7 +160,7 @@ module _ (x g : ℕ) (tops : Kinds) (root top : Uid) (c : Coord) (r q : Root) (N
         (λ h j on is. let f = s.granted h b j on is in
         (put2_rises (uid_number top) g N.had (uid_number h.top) b.inc f.0, f.1)) (λ on is. absurd (cc is))
         (λ h l j on is. let f = s.granted h b j on is in (put2_rises (uid_number top) g N.had (uid_number h.top) b.inc f.0, f.1)) m i;
-    named = λ k m is i. of_grants (λ z. z.x ≡ x → is_named k.binding z.named ≡ true →
+    named = λ k m is i. of_grants (λ z. z.x ≡ x → is_binding k.binding z.named ≡ true →
         HasList (record N { had = put2 (uid_number top) g true N.had }) (uid_number z.top) k)
         (λ h j on same. list_on (uid_number h.top) k (s.named k h (old is) j on same)) (λ on same. absurd (cc same))
         (λ h l j on same. list_on (uid_number h.top) k (s.named k h (old is) j on same)) m i;

@@ -1,9 +1,9 @@
 -- Store lists that a root keeps, after an answered call and after a decision.
 use Rattle.arj_law_parts.proofs.Words
 use Words.{◌≡◌, ◌⊎◌, ℕ, ◌==◌, ◌&&◌, ◌||◌, not, List, [], ◌∷◌, ◌++◌, Bool, true, false, cond, Option, Some, None, refl, sym, ◌∙◌, ap, subst}
-use Words.{inl, inr, ⊎_elim, filter, Contains, if◌then◌else◌, Uid, is_listed, is_on, with_store, is_named, Known, included_of, marked}
+use Words.{inl, inr, ⊎_elim, filter, Contains, if◌then◌else◌, Uid, is_listed, is_on, with_store, Known, included_of, marked}
 use Words.{with_stores, without_stores, Coord, Grant, Root, Said, kept_of, kept_after, list_after as root_list, uid_number, is_spent}
-use Words.{and_parts}
+use Words.{and_parts, is_binding}
 use Words.commit
 use Words.coord
 use Rattle.arj_law_disk_view.proofs.Terms
@@ -198,12 +198,12 @@ module _ (x : ℕ) (tops : Kinds) (root t : Uid) (c d : Coord) (r q : Root) (p :
   still : (z : Said) → Contains q.said z → is_spent z.path d.tree ≡ false → is_spent z.path c.tree ≡ false
   still z i off = sym (after.spent z (said_back i)) ∙ off
 
-  names_list : (k : Known) (g : Grant) → kept_of x q ≡ Some k → Contains q.grants g → g.x ≡ x → is_named k.binding g.named ≡ true →
+  names_list : (k : Known) (g : Grant) → kept_of x q ≡ Some k → Contains q.grants g → g.x ≡ x → is_binding k.binding g.named ≡ true →
       HasList (record N { kept = lists_after S (uid_number t) N.kept }) (uid_number g.top) k
   names_list k g is i e on = let b = before k is in
       subst (HasList (record N { kept = lists_after S (uid_number t) N.kept }) (uid_number g.top)) b.2
       (list_on (uid_number g.top) b.0 (top_root g.top (s.family g (back i)))
-      (s.named b.0 g b.1 (back i) e (ap (λ (z : Known). is_named z.binding g.named) b.2 ∙ on)))
+      (s.named b.0 g b.1 (back i) e (ap (λ (z : Known). is_binding z.binding g.named) b.2 ∙ on)))
 
   calls_list : (k : Known) (z : Said) (w : Uid) → kept_of x q ≡ Some k → Contains q.said z → z.x ≡ x → is_spent z.path d.tree ≡ false →
       is_on z.path w ≡ true → IsTopOf tops root w

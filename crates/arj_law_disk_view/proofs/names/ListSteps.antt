@@ -2,9 +2,9 @@
 use Rattle.arj_law_parts.proofs.Words
 use Words.{◌≡◌, ◌⊎◌, ◌+◌, ◌*◌, ℕ, ◌==◌, ◌&&◌, ◌||◌, List, [], ◌∷◌, Bool, true, false, cond, Option, Some, None, refl, sym, ◌∙◌, ap, subst}
 use Words.{inl, inr, ⊎_elim, arith, filter, map, min, Contains, if◌then◌else◌, list_any, and_parts, or_parts, In as Stands, in_filter}
-use Words.{in_from, in_to, Uid, Binding, is_on, is_named, At, Known, bound_by, other_binding, same_binding, with_inc, Coord, Grant, Root}
+use Words.{in_from, in_to, Uid, Binding, is_on, At, Known, bound_by, other_binding, same_binding, with_inc, Coord, Grant, Root}
 use Words.{Said, counts, granted_with, is_called, kept_of, said_in, survives, binding_eq, binding_less, binding_number, uid_number}
-use Words.{is_spent}
+use Words.{is_spent, is_binding}
 use Words.calls as call
 use Words.coord
 use Rattle.arj_law_disk_view.proofs.Terms
@@ -250,9 +250,9 @@ module _ (x g : ℕ) (tops : Kinds) (root t : Uid) (c : Coord) (r q : Root) (kno
     old_list : (l : Known) → kept_of x q ≡ Some l → kept_of x r ≡ Some l
     old_list l e = was ∙ ap Some (one l e)
 
-    kept_named : (l : Known) (h : Grant) → kept_of x q ≡ Some l → Contains q.grants h → h.x ≡ x → is_named l.binding h.named ≡ true →
+    kept_named : (l : Known) (h : Grant) → kept_of x q ≡ Some l → Contains q.grants h → h.x ≡ x → is_binding l.binding h.named ≡ true →
         HasList A.names (uid_number h.top) l
-    kept_named l h e i = in_grants (λ z. z.x ≡ x → is_named l.binding z.named ≡ true → HasList A.names (uid_number z.top) l)
+    kept_named l h e i = in_grants (λ z. z.x ≡ x → is_binding l.binding z.named ≡ true → HasList A.names (uid_number z.top) l)
         (λ z j f on. s.named l z (old_list l e) j f on) (λ f on. clash on) (λ z j f f2 f3 on. clash on) h i
       where
         clash : {P : Type 0} → binding_eq l.binding known.binding ≡ true → P
@@ -392,10 +392,10 @@ module _ (x g : ℕ) (tops : Kinds) (root t : Uid) (c : Coord) (r q : Root) (kno
             absurd (never (⊎_elim (λ same. ap (λ z. has (uid_number z) chosen) same ∙ root_chosen (rises (uid_number root) g
             (ap (λ z. A.names.had (uid_number z) g) (sym same) ∙ had_it))) (λ o. top_chosen h o had_it) of) off)
 
-    names_list : (h : Grant) → Contains q.grants h → h.x ≡ x → is_named l.binding h.named ≡ true → HasList M (uid_number h.top) l
+    names_list : (h : Grant) → Contains q.grants h → h.x ≡ x → is_binding l.binding h.named ≡ true → HasList M (uid_number h.top) l
     names_list h i e on = by h.named refl on
       where
-        by : (o : Option Binding) → h.named ≡ o → is_named l.binding o ≡ true → HasList M (uid_number h.top) l
+        by : (o : Option Binding) → h.named ≡ o → is_binding l.binding o ≡ true → HasList M (uid_number h.top) l
         by None f on = absurd (cc on)
         by (Some b) f on =
             let k = granted (put2 (uid_number t) g true A.names.had) (λ z j y. y) h b i e f in
@@ -409,7 +409,7 @@ module _ (x g : ℕ) (tops : Kinds) (root t : Uid) (c : Coord) (r q : Root) (kno
       family = family;
       granted = granted M.had had_is;
       named = λ k h e i f on. subst (HasList M (uid_number h.top)) (one_now k e)
-          (names_list h i f (ap (λ (z : Known). is_named z.binding h.named) (one_now k e) ∙ on));
+          (names_list h i f (ap (λ (z : Known). is_binding z.binding h.named) (one_now k e) ∙ on));
       short = λ k e. subst (λ (z : Known). IsShort z.binding) (one_now k e) short;
       called = λ k z w e i f off on of.
           subst (λ y. HasList M (uid_number w) y ⊎ HasRetained M (uid_number root) y) (one_now k e) (calls z w (said_back z i) f off on of);

@@ -1,24 +1,23 @@
 -- A message, walked with both halves.
 use Rattle.arj_law_parts.proofs.Words
-use Words.{◌≡◌, ◌⊎◌, ◌==◌, ℕ, List, [], ◌∷◌, ◌++◌, Bool, true, false, Option, Some, None, refl, sym, ◌∙◌, ap, subst, inl, inr, ⊎_elim}
-use Words.{is_some, filter, map, not, ⊤, if◌then◌else◌, option_map, list_all, and_parts, or_parts, Uid, Ask, Asked, Binding, BoundReply}
-use Words.{Cause, End, Head, Kind, Message, ObjectState, Path, What, asks, object, Reply, actor, answers, asked_by, differs, last_end}
+use Words.{ℕ, ◌≡◌, ◌⊎◌, ◌==◌, List, [], ◌∷◌, ◌++◌, Bool, true, false, Option, Some, None, refl, sym, ◌∙◌, ap, subst, inl, inr, ⊎_elim}
+use Words.{is_some, filter, map, not, ⊤, if◌then◌else◌, option_map, or_parts, Uid, Ask, Asked, Binding, BoundReply}
+use Words.{Cause, End, Head, Message, ObjectState, What, asks, object, Reply, actor, answers, asked_by, differs, last_end}
 use Words.{response, top_of, heard, heard_by, heard_doing, heard_none, heard_now, moved_commit, waits_for_commit, CommitStep, Aborts, Stays}
 use Words.{Machine, Voting, Preparing, Confirming, plainly, votes_left, with_states, confirm, Calling, Committing, Coord, Doing, Idle, Now}
-use Words.{doing_of, nodes_sent, root_at, servers_told, top_uses, Branch, branch_of, ends_of, is_open_branch, root_of, Disk, Effect, Intent}
+use Words.{doing_of, root_at, top_uses, is_open_branch, root_of, Disk, Effect}
 use Words.{Look, Prep, Ready, Already, Old, InDoubt, Say, Send, Do, Served, Prepare, held_at, holder_of, is_prepared, prepare_answer, acked}
-use Words.{answer_query, ended, is_deferred, says, tell_all, tolds_by, tolds_of, tolds_of_branch, up_to, Naming, Handled, Parts, by_reply}
-use Words.{Took, Void, ack_told, coord_heard, end_states, handle, handle_answer, handle_ask, handle_ends, handle_hello, handle_other}
+use Words.{answer_query, ended, says, tolds_of, Naming, Handled, Parts, by_reply}
+use Words.{Took, Void, ack_told, coord_heard, handle, handle_answer, handle_ask, handle_ends, handle_hello, handle_other}
 use Words.{handle_told, holders, if_naming, is_earlier, load_by, load_held, naming_hello, naming_told, prepare_by, query_about}
-use Words.{sends_answer, serve, served, store_told, with_coord, with_naming, with_server, at_number, uid_number, without_number, AreAll}
-use Words.{is_coord_effect, is_server_effect, is_committing, is_committing_now, acked_own, heard_own, query_own, activate_own, all_both}
+use Words.{sends_answer, serve, served, store_told, with_coord, with_naming, with_server, uid_number, without_number, AreAll}
+use Words.{is_coord_effect, is_committing, is_committing_now, acked_own, heard_own, query_own, activate_own, all_both}
 use Words.{ends_own, invoke_own, vote_own, Seen}
 use Words.ask
 use Words.body
 use Words.cause
 use Words.confirmed
 use Words.ending
-use Words.kind
 use Words.loaded
 use Words.message
 use Words.prepared
@@ -28,15 +27,13 @@ use Words.commit
 use Words.naming
 use Words.server
 use Rattle.arj_law_disk_view.proofs.Terms
-use Terms.{World, Whole, after, Acks, Note, only_acks, only_begins, only_decides, Named, Office, Do as act, naming as naming_node, In}
-use Terms.{runs_keep, never, some_is, test_is, test_same, plain_act, up, Walks, Up, walks_to, ConfirmsAreBooked, KnowsNode, NotesMessage}
-use Terms.{KnowsKinds, KnowsMachine, ClaimsReply, ClaimsAnswered, ClaimsAsk, ClaimsLast, ClaimsOther, IsNested, Kinds, SeesDisks, Walk}
-use Terms.{followed, ClaimsAbort, plan_at, IsOpenByDisks, BothWalk, DisksWalk, HasNoPart, IsSeenFrom, OnlyMemory, SeesBoth, has_part}
-use Terms.{is_no_work, leaves_the_inc, ClaimsBound, ClaimsTop, HasGiven, Answering, Change, CountsOn, Deciding, IsOpenAfter, IsSeenAfter}
+use Terms.{World, Acks, Note, only_begins, only_decides, Office, Do as act, In}
+use Terms.{never, some_is, test_is, test_same, up, Walks, Up, walks_to, ConfirmsAreBooked, KnowsNode, NotesMessage}
+use Terms.{KnowsMachine, ClaimsReply, ClaimsAnswered, ClaimsAsk, ClaimsLast, ClaimsOther, Kinds, SeesDisks, Walk}
+use Terms.{followed, plan_at, IsOpenByDisks, BothWalk, DisksWalk, HasNoPart, IsSeenFrom, OnlyMemory, SeesBoth, has_part}
+use Terms.{is_no_work, leaves_the_inc, ClaimsBound, HasGiven, Answering, Change, CountsOn, Deciding, IsOpenAfter, IsSeenAfter}
 use Terms.{MayGoOn, Quietly, answer_change, asked_change, bind_change, change_by, doing_change, now_change, reply_change, root_retains}
 use Terms.{SeesNaming}
-use Terms.machine
-use Terms.mail
 use Terms.seen
 use Rattle.arj_law_disk_view.proofs.names.CommitBoth.{says_work as commit_says, GoesOn, begun_both, coord_leaves, going_both, left_goes}
 use Rattle.arj_law_disk_view.proofs.names.CommitBoth.{plain_both}
@@ -45,185 +42,15 @@ use Rattle.arj_law_disk_view.proofs.names.CoordBoth.{decisions_keep_both, decisi
 use Rattle.arj_law_disk_view.proofs.names.NamingWalks.{binds_keep_both, hellos_keep_both, notes_keep_both, queries_leave}
 use Rattle.arj_law_disk_view.proofs.names.StepsBoth.{walks_start}
 use Rattle.arj_law_disk_view.proofs.names.StepsFollowed.{messages_are_followed}
-use Rattle.arj_law_disk_view.proofs.names.ToldBoth.{other_ends_keep_both, top_ends_keep_both}
 use Rattle.arj_law_disk_view.proofs.view
-use view.{CommitWalks.aborts, Followed.coord_on, Followed.kinds_on, Frames.node_here, Frames.sends_seen, Later.effects_are_later}
-use view.{Later.later_on, ServedWalks.bind_says, StoreWalks.took_is, ToldWalks.ends_are_walked}
+use view.{CommitWalks.aborts, Followed.coord_on, Followed.kinds_on, Frames.node_here}
+use view.{ServedWalks.bind_says, StoreWalks.took_is, ToldWalks.ends_are_walked}
 use view.DecideWalks.{confirmed_stops, confirming_of}
 use view.HeardWalks.{is_say, preparing_of}
-use Rattle.arj_law_disk_view.specs.names.{Both.IsOver, Handlers.MessagesKeepBoth, Handlers.MessagesStopOpen}
+use Rattle.arj_law_disk_view.specs.names.{Handlers.MessagesKeepBoth, Handlers.MessagesStopOpen}
 use Rattle.arj_law_disk_view.specs.view.{Coordinating.commit_note, Sees.ClaimsAsked}
-
--- ---- a request is no answer
-
-asked_only : (m : Message) (b : Head × Ask) → asks m ≡ Some b → answers m ≡ None
-asked_only (message.Bind m) b is = refl
-asked_only (message.Bound m) b is = absurd (cc is)
-asked_only (message.Load m) b is = refl
-asked_only (message.Loaded m) b is = absurd (cc is)
-asked_only (message.Activate m) b is = refl
-asked_only (message.Activated m) b is = absurd (cc is)
-asked_only (message.RecordMsg m) b is = refl
-asked_only (message.Recorded m) b is = absurd (cc is)
-asked_only (message.Invoke m) b is = refl
-asked_only (message.Invoked m) b is = absurd (cc is)
-asked_only (message.Vote m) b is = refl
-asked_only (message.Voted m) b is = absurd (cc is)
-asked_only (message.Prepare m) b is = refl
-asked_only (message.Prepared m) b is = absurd (cc is)
-asked_only (message.Confirm m) b is = refl
-asked_only (message.Confirmed m) b is = absurd (cc is)
-asked_only (message.Told m) b is = absurd (cc is)
-asked_only (message.Acked m) b is = absurd (cc is)
-asked_only (message.Query m) b is = absurd (cc is)
-asked_only (message.Hello m) b is = absurd (cc is)
-
-abbrev asks_confirm : Option (Head × Ask) → Bool
-asks_confirm (Some (h, ask.Confirm grants excluded included)) = true
-asks_confirm _ = false
-
-abbrev is_told : Message → Bool
-is_told (message.Told m) = true
-is_told _ = false
-
-abbrev told_ends : Message → List (Uid × End)
-told_ends (message.Told m) = m.ends
-told_ends _ = []
-
-abbrev told_ack : Message → Bool
-told_ack (message.Told m) = m.ack
-told_ack _ = false
-
-abbrev machine_in : Now → Option Machine
-machine_in (Committing m) = Some m
-machine_in _ = None
-
--- ---- what leaves the incarnation
-
-server_leaves : (n : ℕ) (es : List Effect) → AreAll (is_server_effect n) es → AreAll leaves_the_inc es
-server_leaves n [] all = refl
-server_leaves n (Say b ∷ es) all = server_leaves n es (and_parts (is_server_effect n (Say b)) (list_all (is_server_effect n) es) all).1
-server_leaves n (Send to m ∷ es) all = absurd (cc all)
-server_leaves n (Do w ∷ es) all = absurd (cc all)
-
-stored_leaves : (n : ℕ) (u : Uid) (how : End) (b : Bool) → AreAll leaves_the_inc (if b then end_states n u how else [])
-stored_leaves n u ending.Commit true = refl
-stored_leaves n u ending.Abort true = refl
-stored_leaves n u ending.Commit false = refl
-stored_leaves n u ending.Abort false = refl
-
-acks_leave : (from : ℕ) (u : Uid) (b : Bool) → AreAll leaves_the_inc (ack_told from u b)
-acks_leave from u true = refl
-acks_leave from u false = refl
-
--- ---- who is told of
-
-decided_begun : (W : World) (t m : ℕ) → Whole W → In (mail.ToldCommit t m) W.sent → W.disk.begun t ≡ true
-decided_begun W t m whole told = ⊎_elim (whole.core.fresh.conf t) (whole.core.fresh.light t)
-    (whole.core.coordinators.decided_taken t (whole.mail (mail.ToldCommit t m) told))
-
-bare_begun : (W : World) (t : ℕ) → Whole W → W.disk.bare t ≡ true → W.disk.begun t ≡ true
-bare_begun W t whole bare = ⊎_elim (whole.core.fresh.conf t) (whole.core.fresh.light t) (whole.core.bare.taken t bare)
-
--- the machine may tell naming of a commit without a record
-told_bare : (x : ℕ) (tops : Kinds) (A : Office) (M : Seen) (t : ℕ) → tops.walk ≡ None → A.world.disk.bare t ≡ true → SeesBoth x tops A M →
-    SeesBoth x tops (record { world = after A.world (machine.Send (mail.ToldBare t naming_node)); names = A.names }) M
-told_bare x tops A M t unwalked bare both = record {
-  named = (let p = plain_act A (machine.Send (mail.ToldBare t naming_node)) bare refl in
-      subst (λ N. Named (record { world = after A.world (machine.Send (mail.ToldBare t naming_node)); names = N })) p.names
-      (runs_keep A (act (machine.Send (mail.ToldBare t naming_node)) ∷ []) (p.may, tt) both.named));
-  disks = sends_seen x tops A.world M (mail.ToldBare t naming_node) bare refl both.disks;
-  names = record { inc = both.names.inc; memory = both.names.memory };
-}
-
--- an end that naming is told of
--- tolds are no work
-tells_work : (root : Uid) (ack : Bool) (ends : List (Uid × End)) (ns : List ℕ) → AreAll is_no_work (tell_all root ack ends ns)
-tells_work root ack ends [] = refl
-tells_work root ack ends (n ∷ ns) = tells_work root ack ends ns
-
-tolds_work : (intents : List (Uid × Intent)) (c : Coord) (u : Uid) → AreAll is_no_work (tolds_of intents c u)
-tolds_work intents c u = by (branch_of u c.tree)
-  where
-    by_kind : (k : Kind) (p : Path) → AreAll is_no_work (tolds_by u k p intents c)
-    by_kind kind.Nested p = tells_work (root_of p) false (up_to u (ends_of (root_of p) c.tree)) (servers_told u (root_at (root_of p) c) c)
-    by_kind kind.Serial p =
-        tells_work u false ((u, ending.Abort) ∷ []) (filter (λ n. not (is_deferred u intents n)) (nodes_sent u (root_at u c)))
-    by_kind kind.Top p = tells_work (root_of p) false ((u, ending.Abort) ∷ []) (nodes_sent u (root_at (root_of p) c))
-    by_kind kind.Independent p = tells_work (root_of p) false ((u, ending.Abort) ∷ []) (nodes_sent u (root_at (root_of p) c))
-    by_kind kind.Constituent p = tells_work (root_of p) false ((u, ending.Abort) ∷ []) (nodes_sent u (root_at (root_of p) c))
-
-    by : (o : Option Branch) → AreAll is_no_work (tolds_of_branch u intents c o)
-    by None = refl
-    by (Some b) = by_kind b.kind b.path
-
-module _ (x : ℕ) (tops : Kinds) (unwalked : tops.walk ≡ None) (e : ℕ) (d : Disk) (t v : Parts) (n : Naming) (from : ℕ) (ack : Bool)
-    (ends : List (Uid × End)) (u : Uid) (outs : List Effect) (A : Office) (M : Seen) (named : t.naming ≡ Some n) (kinds : KnowsKinds tops)
-    (there : is_some (at_number x n.objects) ≡ true) (both : SeesBoth x tops A (up 1 d t M)) (walk : (f : Note → Bool) (B : Office) →
-    SeesBoth x tops B (up 1 d t M) → (ack ≡ true → f (Acks (uid_number u)) ≡ true) → DisksWalk f x tops B e 1 outs v d M) where
-  of_top : (how : End) → handle_told 1 d t from ack ends u how ≡ Took v outs → tops.is_top (uid_number u) ≡ true → (B : Office) →
-      SeesBoth x tops B (up 1 d t M) → ClaimsTop B (uid_number u) how → BothWalk x tops B e 1 outs v d M
-  of_top how is top B seen claims = top_ends_keep_both x tops e d t v n from ack ends u how outs B M unwalked named is top
-      (let f = seen.disks in ap (λ g. g (uid_number u)) (let h = f.fixed in h.serial) ∙ kinds.apart (uid_number u) top) claims seen
-      (walk (only_acks (uid_number u)) B seen (λ on. test_same (uid_number u)))
-
-  of_other : (how : End) → handle_told 1 d t from ack ends u how ≡ Took v outs → (ack ≡ true → In (mail.ToldCommit (uid_number u) 1)
-      A.world.sent) → IsOver x tops A u how n ⊎ IsNested tops (uid_number u) → BothWalk x tops A e 1 outs v d M
-  of_other how is acks kind =
-      other_ends_keep_both x tops e d t v n from ack ends u how outs A M unwalked named is kind both (walk (λ z. false) A both (λ on. absurd
-      (clash (both.disks.kinds (uid_number u) (decided_begun A.world (uid_number u) 1 (let c = both.disks in c.whole) (acks on))) kind)))
-    where
-      clash : (tops.is_top (uid_number u) ≡ true) × (A.world.disk.serial (uid_number u) ≡ false) →
-          IsOver x tops A u how n ⊎ IsNested tops (uid_number u) → ⊥
-      clash k (inl over) = never over.1 k.1
-      clash k (inr nested) = never k.0 nested.0
-
-  pub told_both : (how : End) → ClaimsLast tops A.world 1 ack (Some (u, how)) → handle_told 1 d t from ack ends u how ≡ Took v outs →
-      BothWalk x tops A e 1 outs v d M
-  told_both ending.Commit claims is = by claims.0
-    where
-      by : (In (mail.ToldCommit (uid_number u) 1) A.world.sent ⊎ (A.world.disk.bare (uid_number u) ≡ true))
-          ⊎ IsNested tops (uid_number u) → BothWalk x tops A e 1 outs v d M
-      by (inl (inl told)) = of_top ending.Commit is (both.disks.kinds (uid_number u)
-          (decided_begun A.world (uid_number u) 1 (let c = both.disks in c.whole) told)).0 A both (inl told)
-      by (inl (inr bare)) =
-          let B : Office = record { world = after A.world (machine.Send (mail.ToldBare (uid_number u) naming_node)); names = A.names } in
-          walks_to (IsSeenFrom x tops B) (IsSeenFrom x tops A) e 1 outs (Up (IsSeenFrom x tops B) 1 v) (Up (IsSeenFrom x tops A) 1 v) d M
-          (λ N s. turned s) (λ c N s. turned s)
-          (of_top ending.Commit is (both.disks.kinds (uid_number u) (bare_begun A.world (uid_number u) (let c = both.disks in
-          c.whole) bare)).0 B (told_bare x tops A (up 1 d t M) (uid_number u) unwalked bare both) (inr (inl refl)))
-        where
-          turned : {N : Seen} → IsSeenFrom x tops
-              (record { world = after A.world (machine.Send (mail.ToldBare (uid_number u) naming_node)); names = A.names }) N →
-              IsSeenFrom x tops A N
-          turned (C, only, s) = (
-            C,
-            record {
-              later = later_on A.world (after A.world (machine.Send (mail.ToldBare (uid_number u) naming_node))) C.world (effects_are_later
-                  A.world (machine.Send (mail.ToldBare (uid_number u) naming_node) ∷ []) (bare, tt) (let c = both.disks in c.whole))
-                  only.later;
-              tops = only.tops;
-              bare = only.bare;
-              had = only.had;
-              kept = only.kept;
-              answers = only.answers;
-              inc = only.inc;
-              confd = only.confd;
-              onward =
-                  (let o = only.onward in record { conf = o.conf; passed = o.passed; light = o.light; gone = o.gone; begins = o.begins });
-            },
-            s,
-          )
-      by (inr nested) = of_other ending.Commit is claims.1 (inr nested)
-  told_both ending.Abort claims is = by claims.0
-    where
-      by : ((tops.is_top (uid_number u) ≡ true) × ClaimsAbort A.world u 1) ⊎ (((A.world.disk.serial (uid_number u) ≡ true)
-          × In (mail.ToldSerial (uid_number u) 1) A.world.sent) ⊎ IsNested tops (uid_number u)) → BothWalk x tops A e 1 outs v d M
-      by (inl (top, inl told)) = of_top ending.Abort is top A both told
-      by (inl (top, inr bare)) = absurd (bare.1 refl)
-      by (inr (inl over)) = of_other ending.Abort is claims.1
-          (inl (ap (λ g. g (uid_number u)) (sym (let c = both.disks in let f = c.fixed in f.serial)) ∙ over.0, over.0, refl, over.1, there))
-      by (inr (inr nested)) = of_other ending.Abort is claims.1 (inr nested)
+use Rattle.arj_law_disk_view.proofs.names.ToldOnes.{asked_only, asks_confirm, is_told, told_ends, told_ack, machine_in, server_leaves}
+use Rattle.arj_law_disk_view.proofs.names.ToldOnes.{stored_leaves, acks_leave, tolds_work, told_both}
 
 -- ---- a message
 

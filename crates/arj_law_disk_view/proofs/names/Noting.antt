@@ -5,9 +5,9 @@ use Words.{ap, subst, inl, inr, âŠŽ_elim, is_some, nat_le, arith, Contains, ifâ—
 use Words.{Read, Exclude, Row, last_uid, is_row_of, lower_row, mode_of, uid_is, uid_same, In as Stands, in_from, in_to, in_map, grant_clear}
 use Words.{one_each_map, Uid, Binding, Path, RecordedReply, entry, first_conflict, grant_row, is_on, mode_code, uid_eq, top_of, top_path}
 use Words.{conflict_in, lock_all, lock_in as lock_one, is_granted, Effect, Served, reply, void, Named, Made, conflict_on, entry_row, in_use}
-use Words.{is_binding, is_lowered, is_write_row, locked, lowered, note_named, note_other, Naming, is_over, note, on_named, at_number}
+use Words.{is_lowered, is_write_row, locked, lowered, note_named, note_other, Naming, is_over, note, on_named, at_number}
 use Words.{at_uid, binding_eq, put_number, put_uid, uid_number, put_other as number_other, put_same as number_same, number_tells}
-use Words.{one_or_two}
+use Words.{one_or_two, is_binding}
 use Words.mode
 use Words.recorded
 use Words.what

@@ -1,8 +1,8 @@
 -- The world as a run begins, with both halves; and what a coordinator has of a root, where nothing of it has changed.
 use Rattle.arj_law_parts.proofs.Words
-use Words.{IsFormed, Start, most_labels, world_from, ◌≡◌, ◌⊎◌, ◌+◌, ◌<◌, ℕ, [], true, false, None, refl, sym, ◌∙◌, ap, subst, inl, inr}
+use Words.{IsFormed, Start, world_from, ◌≡◌, ◌⊎◌, ◌+◌, ◌<◌, ℕ, [], true, false, None, refl, sym, ◌∙◌, ap, subst, inl, inr}
 use Words.{⊎_elim, ◌∷◌, Header, Uid, Known}
-use Words.{recovered_naming, Coord, Root, Naming, Parts, uid_number, Node, see}
+use Words.{recovered_naming, Coord, Root, Naming, Parts, uid_number, Node, see, most_labels}
 use Rattle.arj_law_disk_view.proofs.Terms
 use Terms.{disk_by, first_at, first_up, State, Names, Office, Answer, Loaded, written_in, HasObject, packed, IsFirstNames, Packed, In}
 use Terms.{some_is, IsFixed, Kinds}

@@ -2,7 +2,7 @@
 use Rattle.arj_law_parts.proofs.Words
 use Words.{◌≡◌, ◌≢◌, ◌≤◌, ℕ, ◌+◌, ◌==◌, ◌&&◌, ◌||◌, List, [], ◌∷◌, ◌++◌, Bool, true, false, refl, sym, ◌∙◌, ap, subst, inl, inr, ⊎_elim}
 use Words.{arith, length, length-append, Contains, if◌then◌else◌, nat_le, and_parts, nat_tests, uid_cases, uid_same, In, in_from, in_to}
-use Words.{Uid, Kind, Path, uid_eq, uids_of, tops_of, is_on, first_uid, uid_number, root_of, is_serial, number_tells}
+use Words.{Uid, Kind, Path, uid_eq, uids_of, tops_of, is_on, first_uid, uid_number, root_of, number_tells, is_serial}
 use Words.kind
 use Rattle.arj_law_disk_view.proofs.Terms
 use Terms.{Action, AreBegun, Stands, act_of, on_own, path_some, bool_cases, falls_to, never, or_cases, or_left, test_is, test_not}

@@ -1,7 +1,7 @@
 -- A top has a part in an object by what it changed only in what its own calls use.
 use Rattle.arj_law_parts.proofs.Words
 use Words.{◌≡◌, ℕ, Bool, true, false, Option, Some, None, refl, ap, subst, not, uid_is, in_find, ObjectState, Uid, object, uid_eq, Machine}
-use Words.{Plan, Used, changed_of, is_empty, plan_of, Committing, Doing, doing_of, root_at, top_uses, Disk, Parts, root_of, Seen}
+use Words.{Plan, Used, changed_of, plan_of, Committing, Doing, doing_of, root_at, top_uses, Disk, Parts, root_of, Seen, is_empty}
 use Words.list
 use Rattle.arj_law_disk_view.proofs.Terms.{up, plan_at, plan_by, used_at, KnowsFew, has_part}
 use Rattle.arj_law_disk_view.proofs.view.Frames.{node_here}

@@ -11,8 +11,8 @@ use Words.{by_reply, coord_heard, end_states, handle, handle_answer, handle_ask,
 use Words.{load_by, load_held, naming_hello, naming_told, prepare_by, prepared_actions, query_about, sends_answer, serve, served}
 use Words.{store_told, with_coord, with_naming, with_server, at_number, at_uid, each, put_uid, uid_set, without_number, AreAll}
 use Words.{is_coord_effect, Node, hello_to, naming_at, naming_back, numbers_to, parts_in, put_states, recovered_records}
-use Words.{restart_outs, tolds_again, acts, parent_of, is_serial_kind, acked_own, acts_own, again_own, heard_own}
-use Words.{query_own, tolds_again_own, activate_own, ends_own, invoke_own, vote_own, Seen}
+use Words.{restart_outs, tolds_again, acts, parent_of, acked_own, acts_own, again_own, heard_own}
+use Words.{query_own, tolds_again_own, activate_own, ends_own, invoke_own, vote_own, Seen, is_serial}
 use Words.ask
 use Words.body
 use Words.ending
@@ -360,7 +360,7 @@ module _ (x : ℕ) where
     act = λ e k d t i M is free have. let did = acts i d.intents t.coord in
         quiet_walk x e k d t (with_coord t did.part) did.outs M (coord_leaves did.outs (acts_own i d.intents t.coord)) refl have;
     begin = λ e k d t l how parent M new may free have. let did = begin_action l how parent (parent_of parent t.coord) t.coord in
-        quiet_walk x e k d t (with_coord t did.part) did.outs (given l (record { node = k; serial = is_serial_kind how }) M) refl refl have;
+        quiet_walk x e k d t (with_coord t did.part) did.outs (given l (record { node = k; serial = is_serial how }) M) refl refl have;
     tick = λ e k d t M have. let r = again_all t.coord.doings t.coord in quiet_walk x e k d t (with_coord t r.part)
         (tick_outs (record { number = k; disk = d; live = Some t }) t) M (tick_leaves k d t) refl have;
     restart = λ e k d M have. restart_entries hd e k d M have;

@@ -7,9 +7,9 @@ use Words.{Row, drop_rows, entry, grant_row, is_on, is_row_of, last_uid, lower_r
 use Words.{Marks, checked, confirm, confirm_entries, confirm_new, confirms, entries_after, has_all, lock_all, lock_in, named_back}
 use Words.{pending_of, prepared_by, recovered_naming, rows_back, wanted, is_granted, rows_asked, Did, Pair, Prep, Ready, Already, Old}
 use Words.{InDoubt, Served, did_nothing, either, is_prepared, prepare_answer, reply, void, Counted, Live, Made, Named, bind_call, bind_made}
-use Words.{bind_named, conflict_on, end_named, entry_row, hello_named, in_use, include_asked, is_binding, is_lowered, live_above}
+use Words.{bind_named, conflict_on, end_named, entry_row, hello_named, in_use, include_asked, is_lowered, live_above}
 use Words.{live_asked, locked, lower_lines, lowered, made_above, make_asked, note_made, note_named, note_other, Naming, bind, hello}
-use Words.{is_over, listed_entry, note, on_counted, on_named, taken_end, told_new, at_number, at_uid, binding_eq}
+use Words.{is_over, listed_entry, note, on_counted, on_named, taken_end, told_new, at_number, at_uid, binding_eq, is_binding}
 use Words.confirmed
 use Words.ending
 use Words.mode

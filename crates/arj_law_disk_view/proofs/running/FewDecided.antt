@@ -4,8 +4,8 @@ use Rattle.arj_law_parts.proofs.Words
 use Words.{Start, ◌≡◌, ◌⊎◌, ◌≤◌, ◌<◌, ◌+◌, ◌==◌, ◌||◌, ℕ, suc, List, [], ◌∷◌, ◌++◌, Bool, true, false, cond, Option, Some, None, refl, sym}
 use Words.{◌∙◌}
 use Words.{ap, subst, inl, inr, ⊎_elim, arith, length, AllByRecursion, list_any, is_eq, uid_is, is_on, Label, Line, Body, Uid, label_cmp}
-use Words.{name, uid_eq, Disk, Do, Effect, Say, Send, worked, Parts, uid_number, Labelled, most_labels, numbered, bytes_eq-Decides, ⊤}
-use Words.{unwrap_or, Seen}
+use Words.{name, uid_eq, Disk, Do, Effect, Say, Send, worked, Parts, uid_number, Labelled, numbered, bytes_eq-Decides, ⊤}
+use Words.{unwrap_or, Seen, most_labels}
 use Words.list
 use Words.body
 use Rattle.arj_law_disk_view.proofs.Terms

@@ -4,7 +4,7 @@ use Words.{◌≡◌, ◌≢◌, ◌∙◌, ◌&&◌, ◌||◌, ◌++◌, ℕ, B
 use Words.{subst, inl, inr, list_any, or_parts, uid_is, uid_same, In, in_from, none_in, Header, Kind, Uid, first_uid, uid_eq, uids_of}
 use Words.{actor, plan_of, Coord, doing_of, of_root, Disk, Parts, Input, branch_named, commit_reasons, first_reason, is_committing}
 use Words.{is_committing_now, is_sibling, refusal_up, refused_by, sibling_waits, waits_above, waits_below, Branch, branch_of}
-use Words.{has_open_child, is_constituent, root_of, Seen}
+use Words.{has_open_child, root_of, Seen, is_constituent}
 use Words.kind
 use Words.input
 use Rattle.arj_law_disk_view.proofs.Terms

@@ -2,12 +2,12 @@
 use Rattle.arj_law_parts.proofs.Words
 use Words.{◌≡◌, ◌+◌, ℕ, ◌==◌, if◌then◌else◌, Bool, true, false, List, [], ◌∷◌, Option, Some, None, refl, sym, ◌∙◌, ap, subst, inl, inr}
 use Words.{⊎_elim, arith, Contains, option_map, unwrap_or, In, in_from, in_to, Answer, BoundReply, InvokedReply, LoadedReply, ObjectState}
-use Words.{RecordedReply, Uid, What, last_uid, uids_of, Reply, actor, ask_kind, reply_kind, top_of, granted_by, is_named, notes_grant}
+use Words.{RecordedReply, Uid, What, last_uid, uids_of, Reply, actor, ask_kind, reply_kind, top_of, granted_by, notes_grant}
 use Words.{root_heard, root_moved, store_of, Answered, At, AtActivate, AtInvoke, AtLoad, AtNote, CallStep, Changed, Conflict, Ended, Goal}
 use Words.{Include, Included, Known, Moved, On, Run, Steps, activated_by, answered, bound_answer, bound_by, finds, invoked_answer}
 use Words.{is_include, live_known, load_from, loaded_answer, loaded_state, made_by, made_known, moves, next_ask, or_lost, recorded_answer}
 use Words.{recorded_kept, write_known, Calling, Coord, Doing, Joined, Keeping, Root, doing_of, granted_with, is_call, is_free, kept_of}
-use Words.{no_keeping, root_at, Disk, Parts, at_number, binding_eq, uid_number, Branch, branch_of, root_of, Seen}
+use Words.{no_keeping, root_at, Disk, Parts, at_number, binding_eq, uid_number, Branch, branch_of, root_of, Seen, is_binding}
 use Words.bound
 use Words.invoked
 use Words.loaded
@@ -502,7 +502,7 @@ module _ (x : ℕ) (tops : Kinds) (k : ℕ) (d : Disk) (t : Parts) (M : Seen) (A
                 l,
                 is,
                 inl (subst (λ v. HasList D.names (uid_number v) l) n.2
-                    (lists.named l n.0 is there n.3 (ap (is_named l.binding) n.4 ∙ alike))),
+                    (lists.named l n.0 is there n.3 (ap (is_binding l.binding) n.4 ∙ alike))),
               )
 
           by : (D : Office) → SeesLists x tops (root_of s.path) t.coord (root_moved s r m (root_at (root_of s.path) t.coord)) D.names →

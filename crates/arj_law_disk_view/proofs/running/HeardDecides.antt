@@ -1,7 +1,7 @@
 -- A top that its coordinator is to decide: what is known of its commit makes it one of its root.
 use Rattle.arj_law_parts.proofs.Words
 use Words.{◌≡◌, ◌∙◌, ℕ, List, [], ◌∷◌, true, false, Some, refl, sym, ap, subst, Contains, Kind, Uid, first_uid, uids_of, Machine, Plan}
-use Words.{plan_of, Committing, Coord, Doing, Said, doing_of, root_at, top_uses, Intent, uid_number, is_constituent, root_of}
+use Words.{plan_of, Committing, Coord, Doing, Said, doing_of, root_at, top_uses, Intent, uid_number, root_of, is_constituent}
 use Words.kind
 use Rattle.arj_law_disk_view.proofs.Terms
 use Terms.{never, IsOfKind, KnowsCoord, KnowsKinds, KnowsMachine, Among, plan_at, AreOneChange, Kinds, has_part, DecidesTop, GoesOnce}

@@ -5,7 +5,7 @@ use Words.{subst, inl, inr, ⊎_elim, cond, Contains, unwrap_or, list_any, and_p
 use Words.{is_on, uid_eq, Calling, Committing, Coord, Doing, Idle, Joined, Root, Said, doing_of, is_constituent_branch, is_kept_top}
 use Words.{kept_of, no_root, retained_in, root_at, second_uid, survives, top_uses, Did, Disk, ended, ends_with, says, tolds_of, Parts}
 use Words.{with_coord, at_number, uid_number, Branch, at_place, behind, branch_of, ended_at, ended_so, has_end, is_aborted, is_committed}
-use Words.{is_constituent, is_own, is_spent, root_of, Post, Seen, top_of}
+use Words.{is_own, is_spent, root_of, Post, Seen, top_of, is_constituent}
 use Words.ending
 use Words.coord
 use Rattle.arj_law_disk_view.proofs.Terms

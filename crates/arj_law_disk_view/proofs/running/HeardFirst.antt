@@ -1,9 +1,9 @@
 -- What coordinators have of naming's answers, as a run begins; and a root of which the machine has nothing.
 use Rattle.arj_law_parts.proofs.Words
-use Words.{if◌then◌else◌, ◌+◌, ◌<◌, ObjectLine, IsFormed, Start, most_labels, world_from, ◌≡◌, ℕ, zero, suc, ◌==◌, Bool, true, false, List}
+use Words.{if◌then◌else◌, ◌+◌, ◌<◌, ObjectLine, IsFormed, Start, world_from, ◌≡◌, ℕ, zero, suc, ◌==◌, Bool, true, false, List}
 use Words.{[], Some, None, refl, sym, ◌∙◌, ap, subst, inl, inr, map, ◌∷◌}
 use Words.{and_parts, in_from, Header, Uid, Coord, Doing, doing_of, new_coord, no_root, Intent, Parts, uid_number}
-use Words.{put_states, at_place, is_own, Post, see}
+use Words.{put_states, at_place, is_own, Post, see, most_labels}
 use Rattle.arj_law_disk_view.proofs.Terms
 use Terms.{disk_by, entry_by, first_up, Office, written_in, IsFirstNames, Packed, never, test_is, HasObject, KnowsKinds, IsFixed, Kinds}
 use Terms.{SeesBoth, SeesRootOf}

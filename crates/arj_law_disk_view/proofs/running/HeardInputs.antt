@@ -9,8 +9,8 @@ use Words.{is_free, keeping_of, kept_of, no_root, on_doing, on_root, root_at, wi
 use Words.{at_number, put_number, unbound, uid_number, Header, Input, acts, branch_named, call_reasons, class_at, first_reason, lacks_op}
 use Words.{include_reasons, on_branch, refusal_up, refused_by, abort_reasons, waits_above, waits_below, commit_reasons, sibling_waits}
 use Words.{giveup_reasons, waits, number_of, Branch, ends_of, root_of, uses_object, branch_of, is_committed, ended_so, is_open_below}
-use Words.{has_end, at_place, open_below, has_many_objects, has_open_child, is_constituent, is_serial, Post, Seen, abort_action}
-use Words.{aborts_with, ended, says, tolds_of, Confirming, Preparing, Voting, first_of}
+use Words.{has_end, at_place, open_below, has_many_objects, has_open_child, Post, Seen, abort_action}
+use Words.{aborts_with, ended, says, tolds_of, Confirming, Preparing, Voting, first_of, is_constituent, is_serial}
 use Words.input
 use Words.ending
 use Words.body

@@ -1,9 +1,9 @@
 -- What coordinators have of naming's answers is kept, and of what is decided, where what naming counts on is given.
 use Rattle.arj_law_parts.proofs.Words
-use Words.{Start, most_labels, world_from, ◌<◌, ◌≡◌, ◌==◌, ◌+◌, ℕ, Bool, true, List, [], ◌∷◌, ◌++◌, Some, refl, sym, ap, subst, ◌∙◌, is_on}
+use Words.{Start, world_from, ◌<◌, ◌≡◌, ◌==◌, ◌+◌, ℕ, Bool, true, List, [], ◌∷◌, ◌++◌, Some, refl, sym, ap, subst, ◌∙◌, is_on}
 use Words.{Header, Line, Uid, uid_number}
 use Words.{again_all, begin_action, Disk, Effect, tick_outs, Parts, with_coord, Node, acts, parent_of, parts_in, restart_outs}
-use Words.{is_serial_kind, numbered, Seen, see}
+use Words.{numbered, Seen, see, is_serial, most_labels}
 use Words.body
 use Rattle.arj_law_disk_view.proofs.Terms
 use Terms.{Whole, World, Office, at, down, given, said, up, walks_both, walks_to, book, IsKept, Up, Walks, halted, HasObject, IsLater}
@@ -136,9 +136,9 @@ heard_kept hd x R good knows_more has gives = record {
       let did = begin_action l how parent (parent_of parent t.coord) t.coord in
       both_from x tops (Changes Quietly A) (λ B Z. SeesHeard x tops B Z)
       (λ B Z. SeesDecided x tops B Z) e k did.outs (with_coord t did.part)
-      d (given l (record { node = k; serial = is_serial_kind how }) M) (heard_begin x tops e k d t l how parent M A both p.0)
+      d (given l (record { node = k; serial = is_serial how }) M) (heard_begin x tops e k d t l how parent M A both p.0)
       (goes x tops k d M A t p.1 Quietly A refl both e did.outs (with_coord t did.part)
-      (given l (record { node = k; serial = is_serial_kind how }) M) (λ z keeps is. quietly z keeps is) refl refl);
+      (given l (record { node = k; serial = is_serial how }) M) (λ z keeps is. quietly z keeps is) refl refl);
   tick = λ tops e k d t M A walk knows r both p.
       let n : Node = record { number = k; disk = d; live = Some t } in
       let v = with_coord t (again_all t.coord.doings t.coord).part in

@@ -1,9 +1,9 @@
 -- What coordinators have of naming's answers is kept where a message is taken, where what naming counts on is given.
 use Rattle.arj_law_parts.proofs.Words
-use Words.{most_labels, ◌+◌, ◌<◌, ◌≡◌, ℕ, true, List, [], ◌∷◌, inl, inr, ⊎_elim, Option, Some, None, refl, sym, ◌∙◌, ap, subst, Bool, false}
+use Words.{◌+◌, ◌<◌, ◌≡◌, ℕ, true, List, [], ◌∷◌, inl, inr, ⊎_elim, Option, Some, None, refl, sym, ◌∙◌, ap, subst, Bool, false}
 use Words.{is_some, Ask, Asked}
 use Words.{Head, Message, ObjectState, Path, asks, Reply, answers, top_of, Disk, Effect, Naming, Parts, Took, handle, is_meant, at_uid}
-use Words.{uid_number, Node, number_tells, Seen}
+use Words.{uid_number, Node, number_tells, Seen, most_labels}
 use Words.list
 use Words.ask
 use Rattle.arj_law_disk_view.proofs.Terms

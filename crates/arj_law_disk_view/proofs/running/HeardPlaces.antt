@@ -4,7 +4,7 @@ use Words.{◌≡◌, ◌≢◌, ◌⊎◌, ◌≤◌, ℕ, zero, suc, Bool, tru
 use Words.{ap, subst, inl, inr, ⊎_elim, arith, take, ◌&&◌, ◌||◌, if◌then◌else◌, uid_cases, uid_is, uid_same, In, in_from, in_to, End, Kind}
 use Words.{Path, Uid, first_uid, is_on, last_uid, tops_of, uid_eq, uids_of, actor, top_of, top_path, Machine, plan_of, Calling, Committing}
 use Words.{Coord, Doing, Idle, Now, doing_of, is_constituent_branch, is_kept_top, retained_in, second_uid, survives, Intent, uid_number}
-use Words.{Branch, branch_of, ended_so, has_end, at_place, is_aborted, is_constituent, is_own, root_of}
+use Words.{Branch, branch_of, ended_so, has_end, at_place, is_aborted, is_own, root_of, is_constituent}
 use Words.ending
 use Words.kind
 use Words.coord

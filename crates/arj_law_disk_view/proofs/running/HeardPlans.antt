@@ -4,8 +4,8 @@ use Rattle.arj_law_parts.proofs.Words
 use Words.{◌≡◌, ◌≢◌, ◌⊎◌, ◌≤◌, ℕ, ◌==◌, ◌&&◌, true, false, List, [], ◌∷◌, ◌++◌, Option, Some, None, is_some, refl, sym, ◌∙◌, ap, subst, inl}
 use Words.{inr, ⊎_elim, map, Contains, unwrap_or, and_parts, uid_same, in_from, Kind, ObjectState, Uid, first_uid, is_on, uid_eq, uids_of}
 use Words.{Known, Used, Voting, changed_of, Root, Said, is_called, kept_of, known_for, least_grant, nothing_known, objects_in, root_at}
-use Words.{survives, used_of, Disk, Parts, uid_number, Branch, branch_of, ended_so, has_end, is_aborted, is_constituent, is_merged, is_own}
-use Words.{is_spent, root_of, Seen}
+use Words.{survives, used_of, Disk, Parts, uid_number, Branch, branch_of, ended_so, has_end, is_aborted, is_merged, is_own}
+use Words.{is_spent, root_of, Seen, is_constituent}
 use Words.ending
 use Words.kind
 use Words.commit

@@ -1,8 +1,8 @@
 -- What a coordinator has of a root, where it took note of what isn't about the object, or of the same binding again.
 use Rattle.arj_law_parts.proofs.Words
 use Words.{◌≡◌, ◌⊎◌, ◌≤◌, ℕ, ◌==◌, ◌&&◌, ◌||◌, Bool, true, Option, Some, None, refl, sym, ◌∙◌, ap, subst, inl, inr, ⊎_elim, arith, Contains}
-use Words.{list_any, and_parts, In, in_from, in_to, Binding, Uid, is_named, Known, Coord, Grant, Joined, Root, Said, granted_with}
-use Words.{is_kept_top, kept_of, survives, top_uses, uid_number, option_map, at_number}
+use Words.{list_any, and_parts, In, in_from, in_to, Binding, Uid, Known, Coord, Grant, Joined, Root, Said, granted_with}
+use Words.{is_kept_top, kept_of, survives, top_uses, uid_number, option_map, at_number, is_binding}
 use Rattle.arj_law_disk_view.proofs.Terms
 use Terms.{Names, Office, State, has, packed, never_some, or_cases, or_left, or_right, some_is, Kinds, SeesRootOf, HasLeast, SeesGrants}
 use Terms.{StaysRetained, HaveLoads, HasCallList, HasList, HasRetained, IsShort, IsTopOf, KeepsCalls, SeesLists, one_of}
@@ -167,7 +167,7 @@ module _ (x : ℕ) (tops : Kinds) (root : Uid) (c : Coord) (r q : Root) (alike :
     family = family_back l.family;
     granted = λ g b i of named. l.granted g b (grant_back g i of) of named;
     named = λ k g is i of on. let w = was N k is in
-        let o = l.named w.old g w.kept (grant_back g i of) of (ap (λ b. is_named b g.named) (sym w.binding) ∙ on) in
+        let o = l.named w.old g w.kept (grant_back g i of) of (ap (λ b. is_binding b g.named) (sym w.binding) ∙ on) in
         record {
           kept = o.kept;
           there = o.there;

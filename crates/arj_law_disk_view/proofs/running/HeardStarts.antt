@@ -2,10 +2,10 @@
 use Rattle.arj_law_parts.proofs.Words
 use Words.{◌≡◌, ◌≢◌, ◌⊎◌, ℕ, ◌==◌, ◌&&◌, ◌||◌, if◌then◌else◌, not, Bool, true, false, List, [], ◌∷◌, Option, Some, None, is_some, refl, sym}
 use Words.{◌∙◌, ap, subst, inl, inr, ⊎_elim, Contains, unwrap_or, list_all, and_parts, uid_is, In, in_from, in_to, Op, Path, Uid, uid_eq}
-use Words.{actor, top_of, call, call_steps, given_away, is_named, known_at_start, next_req, renewed, was_named, Goal, Include, Known, Run}
+use Words.{actor, top_of, call, call_steps, given_away, known_at_start, next_req, renewed, was_named, Goal, Include, Known, Run}
 use Words.{Steps, is_include, start_at, Machine, Calling, Committing, Coord, Doing, Grant, Keeping, Root, Said, doing_of, is_call, is_free}
 use Words.{is_grant_of, keeping_of, kept_of, no_root, on_root, others_call, retains, root_at, said_of, with_keeping, Disk, Parts, at_number}
-use Words.{uid_number, Node, Branch, branch_of, is_own, is_spent, root_of, uses_object, Post, Seen}
+use Words.{uid_number, Node, Branch, branch_of, is_own, is_spent, root_of, uses_object, Post, Seen, is_binding}
 use Words.list
 use Words.kind
 use Words.coord
@@ -148,8 +148,8 @@ pub known_list : (x : ℕ) (tops : Kinds) (root top : Uid) (c : Coord) (r : Root
     kept_of x r ≡ Some q → (was_named top x q.binding r ≡ true) ⊎ (retains x r c ≡ true) →
     HasCallList N (uid_number root) (uid_number top) q
 known_list x tops root top c r N l q kept (inl named) =
-    let g = one_of (λ (g : Grant). is_grant_of top x g && is_named q.binding g.named) r.grants named in
-    let a = and_parts (is_grant_of top x g.0) (is_named q.binding (let z = g.0 in z.named)) g.2 in
+    let g = one_of (λ (g : Grant). is_grant_of top x g && is_binding q.binding g.named) r.grants named in
+    let a = and_parts (is_grant_of top x g.0) (is_binding q.binding (let z = g.0 in z.named)) g.2 in
     let b = and_parts (uid_eq (let z = g.0 in z.top) top) ((let z = g.0 in z.x) == x) a.0 in
     inl (subst (λ w. HasList N (uid_number w) q) (uid_is (let z = g.0 in z.top) top b.0)
     (l.named q g.0 kept (in_to g.0 r.grants g.1) (test_is (let z = g.0 in z.x) x b.1) a.1))

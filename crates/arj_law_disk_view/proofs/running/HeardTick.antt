@@ -6,8 +6,8 @@ use Words.{Uid, asks, request, uids_of, answers, top_of, again_all, again_now, a
 use Words.{is_invoke_ask, At, AtActivate, AtBind, AtInvoke, AtLoad, AtNote, Steps, ask_at, next_ask, next_node, Confirming, Machine}
 use Words.{Preparing, Used, Voting, ask_of, left_of, plan_of, waiting, Calling, Committing, Coord, Doing, Idle, Now, Root, Went, doing_of}
 use Words.{no_root, on_root, root_at, same_went, with_went, Disk, Effect, Send, tick_outs, Parts, holders, query_about, with_coord}
-use Words.{at_number, put_number, uid_number, parent_of, tolds_again, at_place, branch_of, ends_of, is_own, root_of, is_serial_kind}
-use Words.{put_same as put_number_same, put_other as put_number_other, request_reads_back, one_or_two, Post, Seen}
+use Words.{at_number, put_number, uid_number, parent_of, tolds_again, at_place, branch_of, ends_of, is_own, root_of}
+use Words.{put_same as put_number_same, put_other as put_number_other, request_reads_back, one_or_two, Post, Seen, is_serial}
 use Words.ask
 use Words.commit
 use Words.list
@@ -29,14 +29,14 @@ use Rattle.arj_law_disk_view.specs.running.Part.{ticking}
 pub heard_begin : (x : ℕ) (tops : Kinds) (e k : ℕ) (d : Disk) (t : Parts) (l : Label) (how : Kind) (parent : Option Label) (M : Seen)
     (A : Office) → SeesBoth x tops A (up k d t M) → SeesHeard x tops A (up k d t M)
     → HoldsAlong (HoldsFrom (SeesHeard x) x tops Quietly A) (going_of e k d t
-    (begin_action l how parent (parent_of parent t.coord) t.coord)) (given l (record { node = k; serial = is_serial_kind how }) M)
+    (begin_action l how parent (parent_of parent t.coord) t.coord)) (given l (record { node = k; serial = is_serial how }) M)
 heard_begin x tops e k d t l how parent M A both p =
     let did = begin_action l how parent (parent_of parent t.coord) t.coord in
     quiet_step x tops k d t M A both p (with_coord t did.part)
     (λ N B only h more. at_like t.coord did.part (begin_like l how parent (parent_of parent t.coord) t.coord) x k tops N.sent B
     (at_stays x tops A B (fixed_in x tops A (up k d t M) both) h (memory_goes A B only) k M.sent N.sent t.coord more
     (λ u own kind. memory_stays tops A B only (tops.root (uid_number u))) (mine x tops k d t M A both p)))
-    e did.outs (given l (record { node = k; serial = is_serial_kind how }) M) refl refl (tt, tt)
+    e did.outs (given l (record { node = k; serial = is_serial how }) M) refl refl (tt, tt)
 
 -- ---- requests that are sent again
 

@@ -1,8 +1,8 @@
 -- What the plan of a top includes somewhere the top did, where its includes survive.
 use Rattle.arj_law_parts.proofs.Words
 use Words.{◌≡◌, ◌∙◌, ◌==◌, ◌&&◌, ◌||◌, ℕ, List, [], ◌∷◌, Bool, true, false, not, refl, sym, ap, subst, inl, map, list_any, and_parts}
-use Words.{or_parts, uid_is, In, in_filter, Path, Uid, is_on, uid_eq, actor, Used, is_empty, Coord, Joined, Root, joins_on, objects_in}
-use Words.{plan_for, survives, used_of, number_set, Tree, behind, ended_so, has_end, is_committed, is_merged, root_of}
+use Words.{or_parts, uid_is, In, in_filter, Path, Uid, is_on, uid_eq, actor, Used, Coord, Joined, Root, joins_on, objects_in}
+use Words.{plan_for, survives, used_of, number_set, Tree, behind, ended_so, has_end, is_committed, is_merged, root_of, is_empty}
 use Words.ending
 use Rattle.arj_law_disk_view.proofs.Terms.{IsSure, never, test_is, AreIncluded}
 use Rattle.arj_law_disk_view.proofs.running.SoundPlans.{uses_made}

@@ -1,9 +1,9 @@
 -- A top has a part in an object only in what its own calls and includes use.
 use Rattle.arj_law_parts.proofs.Words
 use Words.{◌≡◌, ◌∙◌, ◌==◌, ◌&&◌, ◌||◌, ℕ, Bool, true, false, not, List, [], ◌∷◌, length, Some, refl, sym, ap, subst, inl, inr, Contains}
-use Words.{arith, list_any, uid_is, uid_same, In, in_find, in_from, in_to, End, Uid, is_on, uid_eq, uids_of, actor, Machine, Used, is_empty}
+use Words.{arith, list_any, uid_is, uid_same, In, in_find, in_from, in_to, End, Uid, is_on, uid_eq, uids_of, actor, Machine, Used}
 use Words.{plan_of, Committing, Coord, Doing, Joined, Root, Said, doing_of, root_at, survives, top_uses, Intent, Branch, behind, branch_of}
-use Words.{ended_so, has_end, is_committed, is_merged, root_of}
+use Words.{ended_so, has_end, is_committed, is_merged, root_of, is_empty}
 use Words.ending
 use Rattle.arj_law_disk_view.proofs.Terms
 use Terms.{Action, AreBegun, paths_of, IsBusy, IsGoodCoord, IsVoting, IsSure, begun_tree, KnowsUses, KnowsCoord, Kinds, Uses, used_at}

@@ -6,8 +6,8 @@ use Words.{and_parts, uid_is, in_from, in_to, Uid, Ask, Asked, Body, Head, Heade
 use Words.{is_on, uid_eq, uids_of, Reply, actor, answers, again_all, begin_action, heard, Steps, Plan, Voting, Calling, Committing, Doing}
 use Words.{doing_of, Disk, Effect, acked, answer_query, tick_outs, uid_set, Parts, Took, answer_is_meant, asked_is_meant, handle}
 use Words.{is_loaded_for, is_loaded_in, is_meant, prepared_actions, reply_is_meant, with_coord, Input, acts, begin_refusal, parent_of}
-use Words.{parts_in, refusal_up, restart_outs, next_uid, path_below, is_serial_kind, numbered, acked_own, acts_own, again_own}
-use Words.{heard_own, query_own, Seen}
+use Words.{parts_in, refusal_up, restart_outs, next_uid, path_below, numbered, acked_own, acts_own, again_own}
+use Words.{heard_own, query_own, Seen, is_serial}
 use Words.ask
 use Words.loaded
 use Rattle.arj_law_disk_view.proofs.Terms
@@ -59,7 +59,7 @@ pub record KeepsEach (hd : Header) (x : ℕ) (R : Seen → Type 0) (Q : Kinds �
       → label_at l M.labels ≡ None → MayGive M.labels k how parent → begin_refusal how t.coord parent ≡ None →
       IsOfKind tops (next_uid t.coord.tree) how (path_below how (parent_of parent t.coord) (next_uid t.coord.tree))
       → Q tops (up k d t M) → DidKeeps (Q tops) e k d t (begin_action l how parent (parent_of parent t.coord) t.coord)
-      (given l (record { node = k; serial = is_serial_kind how }) M)
+      (given l (record { node = k; serial = is_serial how }) M)
   pub tick : (tops : Kinds) (e k : ℕ) (d : Disk) (t : Parts) (M : Seen) → tops.walk ≡ None → KnowsNode tops k d t M → R (up k d t M) →
       Q tops (up k d t M)
       → Walks (Q tops) e k (tick_outs (record { number = k; disk = d; live = Some t }) t)
@@ -235,15 +235,15 @@ module _ (hd : Header) (x : ℕ) (R G : Seen → Type 0) (Q : Kinds → Seen →
   begin_keeps : (e k : ℕ) (d : Disk) (t : Parts) (l : Label) (how : Kind) (parent : Option Label) (M : Seen) → label_at l M.labels ≡ None →
       MayGive M.labels k how parent → begin_refusal how t.coord parent ≡ None
       → G (up k d t M) → P (up k d t M) → DidKeeps P e k d t (begin_action l how parent (parent_of parent t.coord) t.coord)
-      (given l (record { node = k; serial = is_serial_kind how }) M)
+      (given l (record { node = k; serial = is_serial how }) M)
   begin_keeps e k d t l how parent M new may free more (begun, h) =
       let did = begin_action l how parent (parent_of parent t.coord) t.coord in
-      all_walk R Q (a ∷ begun) home e k did.outs (with_coord t did.part) d (given l (record { node = k; serial = is_serial_kind how }) M)
+      all_walk R Q (a ∷ begun) home e k did.outs (with_coord t did.part) d (given l (record { node = k; serial = is_serial how }) M)
       (begin_good e k d t l how parent M new may free (begun, h.0))
-      (kept_walk (a ∷ begun) e k d t (with_coord t did.part) did.outs (given l (record { node = k; serial = is_serial_kind how }) M)
+      (kept_walk (a ∷ begun) e k d t (with_coord t did.part) did.outs (given l (record { node = k; serial = is_serial how }) M)
       (same_kept (a ∷ begun) t.coord did.part did.outs refl refl) (recorded_more a begun (up k d t M) h.2))
       (begin_placed a begun e k d t did.part l how parent (next_uid t.coord.tree)
-      (given l (record { node = k; serial = is_serial_kind how }) M) uid (let u = up_here begun h.0.begun k d t M h.3 in sound_begins l
+      (given l (record { node = k; serial = is_serial how }) M) uid (let u = up_here begun h.0.begun k d t M h.3 in sound_begins l
       how parent (parent_of parent t.coord) t.coord u.coord) (placed_given h.3)) (kept.begin e k d t l how parent M new may free h.4)
       (λ tops agree. let less = agree_less a begun tops agree in
       each.begin tops e k d t l how parent M agree.unwalked (knows_node tops begun k d t M h.0 less h.2 h.3) (h.4, more) new may free
@@ -254,7 +254,7 @@ module _ (hd : Header) (x : ℕ) (R G : Seen → Type 0) (Q : Kinds → Seen →
       a = record { path = path_below how (parent_of parent t.coord) (next_uid t.coord.tree); kind = how }
 
       placed_given : ArePlaced begun (up k d t M) →
-          ArePlaced begun (up k d t (given l (record { node = k; serial = is_serial_kind how }) M))
+          ArePlaced begun (up k d t (given l (record { node = k; serial = is_serial how }) M))
       placed_given q = record { nodes = q.nodes; asks = q.asks; votes = q.votes; lines = q.lines }
 
       uid : actor (path_below how (parent_of parent t.coord) (next_uid t.coord.tree)) ≡ next_uid t.coord.tree

@@ -5,8 +5,8 @@ use Words.{sym, ◌∙◌, ap}
 use Words.{subst, inl, inr, ⊎_elim, slice_get, length, arith, filter, map, not, is_some, take, AllByRecursion, list_any}
 use Words.{and_parts, In, in_to, which, uid_cases, uid_is, uid_same, before_last, Uid, End, Kind, ObjectState, Path, Row, first_uid}
 use Words.{is_held_by, is_on, last_uid, uid_eq, uids_of, actor, top_of, Steps, Doing, Calling, Committing, doing_of, plan_for, root_at}
-use Words.{Disk, Intent, Named, Naming, loses, loses_row, Parts, at_uid, uid_number, Branch, at_place, behind, branch_of, is_constituent}
-use Words.{is_open, is_open_branch, is_own, root_of, Seen}
+use Words.{Disk, Intent, Named, Naming, loses, loses_row, Parts, at_uid, uid_number, Branch, at_place, behind, branch_of}
+use Words.{is_open, is_open_branch, is_own, root_of, Seen, is_constituent}
 use Words.ending
 use Words.kind
 use Words.message

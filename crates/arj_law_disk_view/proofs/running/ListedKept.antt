@@ -1,8 +1,8 @@
 -- What naming's answers claim of the entry's stores is kept beside the machine's state, with what is kept there.
 use Rattle.arj_law_parts.proofs.Words
 use Words.{◌≡◌, ◌<◌, ◌+◌, ◌==◌, ℕ, true, List, Option, Some, None, refl, sym, ap, subst, arith, is_some, Header, again_all, begin_action}
-use Words.{Disk, Effect, tick_outs, Naming, Parts, with_coord, at_number, Node, acts, parent_of, parts_in, restart_outs, is_serial_kind}
-use Words.{Seen}
+use Words.{Disk, Effect, tick_outs, Naming, Parts, with_coord, at_number, Node, acts, parent_of, parts_in, restart_outs}
+use Words.{Seen, is_serial}
 use Rattle.arj_law_disk_view.proofs.Terms
 use Terms.{World, Office, at, given, said, up, Up, Walks, halted, walks_both, walks_to, KnowsFew, KnowsNode, KnowsKinds, IsLater, Kinds}
 use Terms.{SeesBoth, Change, Quietly, change_by, AreAnswered, RecordsKnown, Tests, Left, AreGoodCounted, HaveEntries, IsInStep}
@@ -109,11 +109,11 @@ module _ (hd : Header) (x : ℕ) (R S : World → Seen → Type 0) (weaker : (W 
     begin = λ tops e k d t l how parent M A walk n r new may free kind both (part, answers).
         let did = begin_action l how parent (parent_of parent t.coord) t.coord in
         both_along P Q tops (λ S N. HoldsFrom S x tops Quietly A N) (λ N a b B c s. (a B c s, b B c s)) e k did.outs (with_coord t did.part)
-        d (given l (record { node = k; serial = is_serial_kind how }) M)
+        d (given l (record { node = k; serial = is_serial how }) M)
         (parts.begin tops e k d t l how parent M A walk n (weaker A.world _ r) new may free kind both part)
         (lists_along k d t M A.world r tops n.kinds Quietly A both answers e (with_coord t did.part) did.outs
         (quiet_left M.sent k d t (with_coord t did.part) did.outs (same_goes t.naming) (tt, tt))
-        (given l (record { node = k; serial = is_serial_kind how }) M) refl refl);
+        (given l (record { node = k; serial = is_serial how }) M) refl refl);
     tick = λ tops e k d t M A walk n r both (part, answers).
         let w = its k d t M A.world r in
         let f = few k d t M A.world r in

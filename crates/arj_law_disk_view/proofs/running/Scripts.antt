@@ -1,7 +1,7 @@
 -- What is kept as long as few labels were given; in each world that is reached so few are. And what is kept where more is known.
 use Rattle.arj_law_parts.proofs.Words
 use Words.{◌≡◌, ◌≤◌, ◌+◌, ℕ, suc, List, [], ◌∷◌, Some, arith, length, Header, again_all, begin_action, Disk, Do, Effect, Say, Send, worked}
-use Words.{tick_outs, Parts, with_coord, acts, parent_of, parts_in, restart_outs, World, is_serial_kind, most_labels, Seen}
+use Words.{tick_outs, Parts, with_coord, acts, parent_of, parts_in, restart_outs, World, Seen, is_serial, most_labels}
 use Rattle.arj_law_disk_view.proofs.Terms
 use Terms.{Office, Holds, given, posted, said, Up, Walks, IsReached, KnowsFew, KeepsGiven, Kinds, HasFewLabels, KnowsScript, KeepsPart}
 use Terms.machine
@@ -31,9 +31,9 @@ module _ (P : Seen → Type 0) where
         while_walk e k did.outs (with_coord t did.part) d M (λ s. kept.act e k d t i M is none (g, s) (p s));
     begin = λ e k d t l how parent M new may none g p.
         let did = begin_action l how parent (parent_of parent t.coord) t.coord in
-        let N = given l (record { node = k; serial = is_serial_kind how }) M in
+        let N = given l (record { node = k; serial = is_serial how }) M in
         while_walk e k did.outs (with_coord t did.part) d N (λ s. let few = fewer (length M.labels) (length N.labels)
-        (one_more l (record { node = k; serial = is_serial_kind how }) M.labels new) s in
+        (one_more l (record { node = k; serial = is_serial how }) M.labels new) s in
         kept.begin e k d t l how parent M new may none (g, few) (p few));
     tick = λ e k d t M g p. while_walk e k (tick_outs (record { number = k; disk = d; live = Some t }) t)
         (with_coord t (again_all t.coord.doings t.coord).part) d M (λ s. kept.tick e k d t M (g, s) (p s));

@@ -1,28 +1,27 @@
 -- What a coordinator does with states: those that it has, sends and notes are of the form that came.
 use Rattle.arj_law_parts.proofs.Words
-use Words.{Bool, List, None, Option, Some, [], ap, arith, cond, eqb-true, false, filter, find, inl, inr, map, nat_lt, not, refl, subst, suc}
-use Words.{sym, true, zero, ℕ, ⊎_elim, ◌&&◌, ◌++◌, ◌+◌, ◌==◌, ◌||◌, ◌∙◌, ◌∷◌, ◌≡◌, ⊤, IfSome, AllByRecursion, flat_map, list_any, uid_cases}
-use Words.{uid_is, In, Ask, Asked, Binding, Body, BoundReply, End, Head, InvokedReply, Kind as ActionKind, Label, LoadedReply, ObjectState}
-use Words.{Op, Path, RecordedReply, Uid, last_uid, object, request, uid_eq, uids_of, Reply, actor, top_of, again_all, again_now, asks_all}
-use Words.{asks_machine, asks_node, asks_step, begin_action, call, call_steps, commit_action, commit_open, commit_top, commits_in}
-use Words.{doomed_by, end_line, gaveup_lines, give_up, give_up_doing, gives_up, goes_on, granted_by, heard, heard_by, heard_call}
-use Words.{heard_doing, heard_none, heard_now, include, is_ended, is_invoke_ask, keeps_after, kept_at, last_req, mark_lines, moved_commit}
-use Words.{next_req, notes_grant, renewed, root_heard, root_lost, root_moved, step_call, step_commit, store_of, waits_for_call}
-use Words.{waits_for_commit, known_at_start, Answered, At, AtActivate, AtBind, AtInvoke, AtLoad, AtNote, CallEnd, CallStep, Changed}
+use Words.{Bool, List, None, Option, Some, [], ap, cond, eqb-true, false, filter, find, map, nat_lt, not, refl, subst}
+use Words.{sym, true, ℕ, ⊎_elim, ◌&&◌, ◌++◌, ◌+◌, ◌==◌, ◌||◌, ◌∙◌, ◌∷◌, ◌≡◌, ⊤, IfSome, AllByRecursion, flat_map, list_any, uid_cases}
+use Words.{Ask, Asked, Binding, Body, BoundReply, End, Head, InvokedReply, Kind as ActionKind, Label, LoadedReply, ObjectState}
+use Words.{Op, Path, RecordedReply, Uid, last_uid, object, request, uid_eq, uids_of, Reply, actor, top_of, asks_all}
+use Words.{asks_machine, asks_node, asks_step, call, call_steps, commits_in}
+use Words.{doomed_by, end_line, goes_on, granted_by, heard_call}
+use Words.{include, is_ended, is_invoke_ask, keeps_after, kept_at, mark_lines, moved_commit}
+use Words.{next_req, notes_grant, renewed, root_heard, root_lost, root_moved, step_call, step_commit, store_of}
+use Words.{known_at_start, Answered, At, AtActivate, AtBind, AtInvoke, AtLoad, AtNote, CallEnd, CallStep, Changed}
 use Words.{Conflict, Ended, Goal, Included, Known, Lost, Moved, On, Steps, activated_by, answered, ask_at, bound_answer, bound_by, finds}
 use Words.{given_up, has_changed, invoked_answer, live_known, load_from, loaded_answer, made_by, made_known, moves, named_again, next_ask}
 use Words.{next_node, or_lost, other_binding, recorded_answer, same_binding, spoils, start, start_at, two_bindings, two_incs, with_inc}
 use Words.{write_known, Aborts, Asks, CommitStep, Confirming, Decides, Machine, Plan, Preparing, Stays, Used, Voting, ask_of, begin_confirm}
-use Words.{begin_prepare, begin_vote, changed_of, has_record, left_of, marks_store, marks_stores, nodes_given_up, participants, plan_of}
-use Words.{servers_of, state_by, state_for, states_for, stores_left, targets_of, votes_left, with_state, with_states, Calling, Committing}
-use Words.{Coord, Doing, Grant, Idle, Joined, Keeping, Now, Root, Said, Went, change_doing, doing_of, is_free, joined_with, joins_on}
+use Words.{begin_prepare, begin_vote, changed_of, has_record, left_of, marks_store, marks_stores, participants, plan_of}
+use Words.{state_by, state_for, states_for, stores_left, targets_of, votes_left, with_state, with_states, Calling, Committing}
+use Words.{Coord, Doing, Grant, Idle, Joined, Keeping, Root, Said, Went, change_doing, doing_of, is_free, joined_with, joins_on}
 use Words.{keeping_of, later_state, latest_of, loaded_for, no_root, nodes_sent, objects_in, on_doing, on_root, or_kept_state, plan_for}
 use Words.{root_at, same_join, same_said, same_went, servers_told, set_doing, used_of, with_keeping, with_said, with_went, Did, Do, Effect}
-use Words.{Intent, PutIntent, Served, abort_action, aborts_with, all_aborted, decide, decided_told, ended, ends_with, is_deferred}
+use Words.{Intent, PutIntent, abort_action, all_aborted, decide, decided_told, ended, ends_with, is_deferred}
 use Words.{root_after, say_for, says, states_after, tell, tell_all, tolds_by, tolds_of, tolds_of_branch, up_to, at_number, binding_eq}
-use Words.{binding_less, has, put_number, put_uid, unbound, with_number, without_number, Input, acts, branch_named, on_branch, parent_of}
+use Words.{binding_less, has, put_number, put_uid, unbound, with_number, without_number}
 use Words.{Branch, Tree, at_place, branch_of, doomed_at, ended_at, ends_of, is_own, open_below, root_of, uses_object, and_parts}
-use Words.{is_loaded_for, is_loaded_in, reply_is_meant}
 use Words.ask
 use Words.body
 use Words.bound
@@ -37,14 +36,12 @@ use Words.recorded
 use Words.voted
 use Words.calls
 use Words.commit
-use Words.input
 use Rattle.arj_law_disk_view.proofs.Terms
-use Terms.{doomed_same, uses_same, get_more, all_put as all_put_number, doing_other, doing_put, end_tree_on, all_append, AllSay, CoordIsSo}
+use Terms.{doomed_same, uses_same, all_put as all_put_number, doing_other, doing_put, end_tree_on, all_append, AllSay, CoordIsSo}
 use Terms.{Fits, MayKeep, NowIsSo}
 use Rattle.arj_law_disk_view.specs.running
 use running.States.{AskIsSo, AtIsSo, EndIsSo, MessageIsSo, Own, OwnOf, PlanIsSo, ReplyIsSo, RootIsSo, StepIsSo}
 use Rattle.arj_law_parts.proofs.parts
-use parts.{GoodTrees.placed}
 use parts.LivesNamed.{all_at, keyed_found, keyed_put}
 use Rattle.arj_law_runs.proofs.addresses.Lists.{all_some}
 
@@ -64,11 +61,11 @@ module _ (F : Fits) (keep : MayKeep F) where
   pub both : (es fs : List Effect) → AllSay F es → AllSay F fs → AllSay F (es ++ fs)
   both es fs a b = all_append _ es fs a b
 
-  flat : {A : Type 0} (f : A → List Effect) (items : List A) → ((x : A) → AllSay F (f x)) → AllSay F (flat_map f items)
+  pub flat : {A : Type 0} (f : A → List Effect) (items : List A) → ((x : A) → AllSay F (f x)) → AllSay F (flat_map f items)
   flat f [] each = tt
   flat f (x ∷ xs) each = both (f x) (flat_map f xs) (each x) (flat f xs each)
 
-  lines : (u : Uid) (f : Label → Body) (d : Coord) → AllSay F (says u f d)
+  pub lines : (u : Uid) (f : Label → Body) (d : Coord) → AllSay F (says u f d)
   lines u f d = by (doing_of u d)
     where
       by : (o : Option Doing) → AllSay F (say_for f o)
@@ -84,7 +81,7 @@ module _ (F : Fits) (keep : MayKeep F) where
   none_root : RootIsSo F no_root
   none_root = record { joined = tt; states = tt }
 
-  root_so : (root : Uid) (c : Coord) → CoordIsSo F c → RootIsSo F (root_at root c)
+  pub root_so : (root : Uid) (c : Coord) → CoordIsSo F c → RootIsSo F (root_at root c)
   root_so root c so = all_at (RootIsSo F) no_root none_root root.num c.roots so.roots
 
   went_so : (w : Went) (r : Root) → RootIsSo F r → RootIsSo F (with_went w r)
@@ -145,12 +142,12 @@ module _ (F : Fits) (keep : MayKeep F) where
       keep_so s.x (keeps_after s.goal (has_changed m.step) m.kept kept) (notes_grant (granted_by (top_of s.path) s.x r) q)
       (granted_so (granted_by (top_of s.path) s.x r) q so)
 
-  lost_so : (s : Steps) (t : CallStep) (q : Root) → RootIsSo F q → RootIsSo F (root_lost s t q)
+  pub lost_so : (s : Steps) (t : CallStep) (q : Root) → RootIsSo F q → RootIsSo F (root_lost s t q)
   lost_so s t q so = let kept = keeping_of s.x q in keep_so s.x (keeps_after s.goal (is_ended t && spoils s.at) kept.kept kept) q so
 
   -- ---- from one coordinator to the next
 
-  on_root_so : (root : Uid) (f : Root → Root) (c : Coord) → ((r : Root) → RootIsSo F r → RootIsSo F (f r)) → CoordIsSo F c →
+  pub on_root_so : (root : Uid) (f : Root → Root) (c : Coord) → ((r : Root) → RootIsSo F r → RootIsSo F (f r)) → CoordIsSo F c →
       CoordIsSo F (on_root root f c)
   on_root_so root f c step so = record {
     works = so.works;
@@ -194,7 +191,7 @@ module _ (F : Fits) (keep : MayKeep F) where
 
   -- ---- requests
 
-  abbrev IsDone : Did Coord → Type 0
+  abbrev pub IsDone : Did Coord → Type 0
   IsDone d = CoordIsSo F d.part × AllSay F d.outs
 
   request_so : (h : Head) (a : Ask) → AskIsSo F a → MessageIsSo F (request h a)
@@ -223,7 +220,7 @@ module _ (F : Fits) (keep : MayKeep F) where
   asked_at x g ends (AtNote q i) its = tt
   asked_at x g ends (AtInvoke q i) its = tt
 
-  step_so : (s : Steps) (c : Coord) → CoordIsSo F c → AtIsSo F s.x s.at → IsDone (asks_step s c)
+  pub step_so : (s : Steps) (c : Coord) → CoordIsSo F c → AtIsSo F s.x s.at → IsDone (asks_step s c)
   step_so s c so its = asks_so s.path s.req (next_node s, next_ask (ends_of (root_of s.path) c.tree) s) c so
       (asked_at s.x s.goal (ends_of (root_of s.path) c.tree) s.at its)
 
@@ -235,7 +232,7 @@ module _ (F : Fits) (keep : MayKeep F) where
   start_so x None avoid = tt
   start_so x (Some q) avoid = tt
 
-  call_so : (p : Path) (x : ℕ) (o : Op) (c : Coord) → CoordIsSo F c → IsDone (call p x o c)
+  pub call_so : (p : Path) (x : ℕ) (o : Op) (c : Coord) → CoordIsSo F c → IsDone (call p x o c)
   call_so p x o c so =
       let r = root_at (root_of p) c in
       let old = keeping_of x r in
@@ -245,11 +242,11 @@ module _ (F : Fits) (keep : MayKeep F) where
       (on_root_so (root_of p) (with_keeping x kept) u (λ q its. keep_so x kept q its) (uses_so p x c so))
       (start_so x (known_at_start (top_of p) x r c kept.kept) kept.avoid)
 
-  include_so : (p : Path) (x s : ℕ) (c : Coord) → CoordIsSo F c → IsDone (include p x s c)
+  pub include_so : (p : Path) (x s : ℕ) (c : Coord) → CoordIsSo F c → IsDone (include p x s c)
   include_so p x s c so = goes_so (start p x (calls.Include s) None unbound (next_req (actor p) c))
       (record c { tree = uses_object p x c.tree }) (uses_so p x c so) tt
 
-  step_call_so : (s : Steps) (t : CallStep) (c : Coord) → CoordIsSo F c → StepIsSo F s.x t → IsDone (step_call s t c)
+  pub step_call_so : (s : Steps) (t : CallStep) (c : Coord) → CoordIsSo F c → StepIsSo F s.x t → IsDone (step_call s t c)
   step_call_so s (On at) c so its = goes_so (record s { req = s.req + 1; at = at }) c so its
   step_call_so s (Ended e) c so its = (by e, lines (actor s.path) (end_line s.x s.goal e) c)
     where
@@ -279,7 +276,7 @@ module _ (F : Fits) (keep : MayKeep F) where
   AnswersFor y (Reply.Loaded (loaded.State st)) = OwnOf F.loaded y st
   AnswersFor y _ = ⊤
 
-  answers_for : (y : ℕ) (r : Reply) → ReplyIsSo F r → ((st : ObjectState) → r ≡ Reply.Loaded (loaded.State st) → st.uid.num ≡ y) →
+  pub answers_for : (y : ℕ) (r : Reply) → ReplyIsSo F r → ((st : ObjectState) → r ≡ Reply.Loaded (loaded.State st) → st.uid.num ≡ y) →
       AnswersFor y r
   answers_for y (Reply.Loaded (loaded.State st)) rs of = (rs, of st refl)
   answers_for y (Reply.Loaded (loaded.InDoubt holder)) rs of = tt
@@ -401,7 +398,7 @@ module _ (F : Fits) (keep : MayKeep F) where
   answered_so y free kept g (AtInvoke q i) (Reply.Prepared r) so rs = so
   answered_so y free kept g (AtInvoke q i) (Reply.Confirmed r) so rs = so
 
-  given_up_so : (y : ℕ) (at : At) → StepIsSo F y (given_up at)
+  pub given_up_so : (y : ℕ) (at : At) → StepIsSo F y (given_up at)
   given_up_so y (AtBind avoid) = tt
   given_up_so y (AtLoad q n []) = tt
   given_up_so y (AtLoad q n (m ∷ ms)) = tt
@@ -409,7 +406,7 @@ module _ (F : Fits) (keep : MayKeep F) where
   given_up_so y (AtNote q i) = tt
   given_up_so y (AtInvoke q i) = tt
 
-  heard_call_so : (s : Steps) (r : Reply) (c : Coord) → CoordIsSo F c → AtIsSo F s.x s.at → AnswersFor s.x r → IsDone (heard_call s r c)
+  pub heard_call_so : (s : Steps) (r : Reply) (c : Coord) → CoordIsSo F c → AtIsSo F s.x s.at → AnswersFor s.x r → IsDone (heard_call s r c)
   heard_call_so s r c so its rs =
       let m = answered (is_free (root_of s.path) (actor s.path) s.x c) (kept_at s c) s.goal s.at r in
       step_call_so s m.step (on_root (root_of s.path) (root_moved s r m) c) (on_root_so (root_of s.path) (root_moved s r m) c
@@ -432,7 +429,7 @@ module _ (F : Fits) (keep : MayKeep F) where
       by None = tt
       by (Some b) = kinds b.kind b.path
 
-  ends_so : (u : Uid) (e : End) (f : Label → Body) (intents : List (Uid × Intent)) (c : Coord) → CoordIsSo F c →
+  pub ends_so : (u : Uid) (e : End) (f : Label → Body) (intents : List (Uid × Intent)) (c : Coord) → CoordIsSo F c →
       IsDone (ends_with u e f intents c)
   ends_so u e f intents c so =
       (ended_so u e c so, both (says u f c) (tolds_of intents (ended u e c) u) (lines u f c) (tolds_so intents (ended u e c) u))
@@ -442,7 +439,7 @@ module _ (F : Fits) (keep : MayKeep F) where
   all_so (u ∷ us) c so = let r = all_so us (ended u ending.Abort c) (ended_so u ending.Abort c so) in
       (r.0, both (says u (λ l. body.Aborted l cause.Asked) c) _ (lines u (λ l. body.Aborted l cause.Asked) c) r.1)
 
-  abort_so : (u : Uid) (intents : List (Uid × Intent)) (c : Coord) → CoordIsSo F c → IsDone (abort_action u intents c)
+  pub abort_so : (u : Uid) (intents : List (Uid × Intent)) (c : Coord) → CoordIsSo F c → IsDone (abort_action u intents c)
   abort_so u intents c so =
       let us : List Uid = open_below u c.tree ++ u ∷ [] in
       let r = all_so us c so in
@@ -465,7 +462,7 @@ module _ (F : Fits) (keep : MayKeep F) where
   prepare_step [] q so = confirm_step q.used q so
   prepare_step (n ∷ ns) q so = record { used = so.used; changed = so.changed }
 
-  vote_step : (ns : List ℕ) (q : Plan) → PlanIsSo F q → IsNext (begin_vote ns q)
+  pub vote_step : (ns : List ℕ) (q : Plan) → PlanIsSo F q → IsNext (begin_vote ns q)
   vote_step [] q so = prepare_step (targets_of q) q so
   vote_step (n ∷ ns) q so = record { used = so.used; changed = so.changed }
 
@@ -494,7 +491,7 @@ module _ (F : Fits) (keep : MayKeep F) where
   marks_so [] q so = so
   marks_so (n ∷ ns) q so = marks_so ns (marks_store n q) (record { used = so.used; changed = so.changed })
 
-  answer_step : (from : ℕ) (m : Machine) (r : Reply) → PlanIsSo F (plan_of m) → ReplyIsSo F r → IsNext (commit.answered from m r).step
+  pub answer_step : (from : ℕ) (m : Machine) (r : Reply) → PlanIsSo F (plan_of m) → ReplyIsSo F r → IsNext (commit.answered from m r).step
   answer_step from (Voting p left) (Reply.Voted (voted.Yes states)) so rs = votes_step (without_number from left) (record p
       { changed = with_states states p.changed }) (record { used = so.used; changed = with_states_so states p.changed rs so.changed })
   answer_step from (Voting p left) (Reply.Voted (voted.Changed w)) so rs = tt
@@ -530,7 +527,7 @@ module _ (F : Fits) (keep : MayKeep F) where
   answer_step from (Confirming p) (Reply.Voted r) so rs = so
   answer_step from (Confirming p) (Reply.Prepared r) so rs = so
 
-  giveup_step : (m : Machine) → PlanIsSo F (plan_of m) → IsNext (commit.given_up m).step
+  pub giveup_step : (m : Machine) → PlanIsSo F (plan_of m) → IsNext (commit.given_up m).step
   giveup_step (Voting p left) so = tt
   giveup_step (Preparing p left) so = stores_step [] (marks_stores left p) (marks_so left p so)
   giveup_step (Confirming p) so = tt
@@ -576,7 +573,7 @@ module _ (F : Fits) (keep : MayKeep F) where
       let r = asked_so p req rest (asks_node p req a c).part first.0 all.1 in
       (r.0, both (asks_node p req a c).outs (asks_all p req rest (asks_node p req a c).part).outs first.1 r.1)
 
-  machine_so : (m : Machine) (c : Coord) → CoordIsSo F c → PlanIsSo F (plan_of m) → IsDone (asks_machine m c)
+  pub machine_so : (m : Machine) (c : Coord) → CoordIsSo F c → PlanIsSo F (plan_of m) → IsDone (asks_machine m c)
   machine_so m c so its = asked_so (plan_of m).path (plan_of m).req (commit.waiting m) c so (waits (left_of m))
     where
       waits : (ns : List ℕ) → AllByRecursion (λ (a : ℕ × Ask). AskIsSo F a.1) (map {A = ℕ} {B = ℕ × Ask} (λ n. (n, ask_of m n)) ns)
@@ -651,7 +648,7 @@ module _ (F : Fits) (keep : MayKeep F) where
   step_commit_so u (Decides p) intents c so its = decide_so p c its so
   step_commit_so u (Aborts why p) intents c so its = ends_so u ending.Abort (λ l. body.Aborted l why) intents c so
 
-  moved_commit_so : (u : Uid) (m : commit.Marked) (intents : List (Uid × Intent)) (c : Coord) → CoordIsSo F c → IsNext m.step →
+  pub moved_commit_so : (u : Uid) (m : commit.Marked) (intents : List (Uid × Intent)) (c : Coord) → CoordIsSo F c → IsNext m.step →
       IsDone (moved_commit u m intents c)
   moved_commit_so u m intents c so its =
       let t = step_commit u m.step intents c in
@@ -689,162 +686,9 @@ module _ (F : Fits) (keep : MayKeep F) where
       by (Some st) None is its = its
       by (Some st) (Some t) is its = later_so x st t its (keyed_found Of x r.states t so.states is)
 
-  plan_so : (p : Path) (req : ℕ) (r : Root) (c : Coord) → RootIsSo F r → PlanIsSo F (plan_for p req r c)
+  pub plan_so : (p : Path) (req : ℕ) (r : Root) (c : Coord) → RootIsSo F r → PlanIsSo F (plan_for p req r c)
   plan_so p req r c so = record { used = by (objects_in (actor p) r c); changed = tt }
     where
       by : (xs : List ℕ) → AllByRecursion (λ (u : Used). IfSome u.loaded (Of u.x)) (map (used_of (actor p) r c) xs)
       by [] = tt
       by (x ∷ xs) = (loads_from x (actor p) r c so, by xs)
-
-  -- ---- what a coordinator hears, and inputs
-
-  abbrev pub IsServed : Served Coord (Unit {0}) → Type 0
-  IsServed d = CoordIsSo F d.part × AllSay F d.outs
-
-  pub hears_so : (from : ℕ) (a : Asked) (r : Reply) (intents : List (Uid × Intent)) (c : Coord) → CoordIsSo F c →
-      reply_is_meant c a r ≡ true → ReplyIsSo F r → IsServed (heard from a r intents c)
-  hears_so from a r intents c so meant rs = by (doing_of a.act c) refl
-    where
-      -- a state for which a call waits is of its object
-      of_step : (d : Doing) (s : Steps) → doing_of a.act c ≡ Some d → d.now ≡ Calling s → (st : ObjectState) →
-          r ≡ Reply.Loaded (loaded.State st) → st.uid.num ≡ s.x
-      of_step d s found is st reply = ap (λ (u : Uid). u.num) (uid_is st.uid (object s.x)
-          (sym (ap (is_loaded_for st) found ∙ ap (is_loaded_in st) is) ∙ ap (reply_is_meant c a) (sym reply) ∙ meant))
-
-      now : (d : Doing) → doing_of a.act c ≡ Some d → (n : Now) → d.now ≡ n → NowIsSo F n → IsServed (heard_now from a r intents c n)
-      now d found Idle is its = (so, tt)
-      now d found (Calling s) is its = each (waits_for_call from a r s)
-        where
-          each : (w : Bool) → IsServed (cond {A = Served Coord (Unit {0})} w (heard_by (heard_call s r c)) (heard_none c))
-          each true = heard_call_so s r c so its (answers_for s.x r rs (of_step d s found is))
-          each false = (so, tt)
-      now d found (Committing m) is its = each (waits_for_commit from a r m)
-        where
-          each : (w : Bool) → IsServed
-              (cond {A = Served Coord (Unit {0})} w (heard_by (moved_commit a.act (commit.answered from m r) intents c)) (heard_none c))
-          each true = moved_commit_so a.act (commit.answered from m r) intents c so (answer_step from m r its rs)
-          each false = (so, tt)
-
-      by : (o : Option Doing) → doing_of a.act c ≡ o → IsServed (heard_doing from a r intents c o)
-      by None is = (so, tt)
-      by (Some d) is = now d is d.now refl (so.works a.act d is)
-
-  give_up_so : (u : Uid) (intents : List (Uid × Intent)) (c : Coord) → CoordIsSo F c → IsDone (give_up u intents c)
-  give_up_so u intents c so = by (doing_of u c) refl
-    where
-      with_lines : (nodes : List ℕ) (d : Did Coord) → IsDone d → IsDone (record { part = d.part; outs = gaveup_lines u nodes c ++ d.outs })
-      with_lines nodes d w = (
-        w.0,
-        both (gaveup_lines u nodes c) d.outs (flat (λ n. says u (λ l. body.GaveUp l n) c) nodes (λ n. lines u (λ l. body.GaveUp l n) c))
-            w.1,
-      )
-
-      now : (n : Now) → NowIsSo F n → IsDone (gives_up u intents c n)
-      now Idle its = (so, tt)
-      now (Calling s) its =
-          let t : Coord = on_root (root_of s.path) (root_lost s (given_up s.at)) c in
-          let x = step_call s (given_up s.at) t in
-          with_lines (next_node s ∷ []) x (step_call_so s (given_up s.at) t
-          (on_root_so (root_of s.path) (root_lost s (given_up s.at)) c (lost_so s (given_up s.at)) so) (given_up_so s.x s.at))
-      now (Committing m) its = let x = moved_commit u (commit.given_up m) intents c in
-          with_lines (nodes_given_up m) x (moved_commit_so u (commit.given_up m) intents c so (giveup_step m its))
-
-      by : (o : Option Doing) → doing_of u c ≡ o → IsDone (give_up_doing u intents c o)
-      by None is = (so, tt)
-      by (Some d) is = now d.now (so.works u d is)
-
-  again_so : (ds : List Doing) (c : Coord) → CoordIsSo F c → AllByRecursion (λ (d : Doing). NowIsSo F d.now) ds → IsDone (again_all ds c)
-  again_so [] c so all = (so, tt)
-  again_so (d ∷ ds) c so all =
-      let a = again_now c d.now in
-      let w = now d.now all.0 in
-      let q = again_so ds a.part w.0 all.1 in
-      (q.0, both a.outs (again_all ds a.part).outs w.1 q.1)
-    where
-      now : (n : Now) → NowIsSo F n → IsDone (again_now c n)
-      now Idle its = (so, tt)
-      now (Calling s) its = step_so s c so its
-      now (Committing m) its = machine_so m c so its
-
-  pub ticks_so : (c : Coord) → CoordIsSo F c → IsDone (again_all c.doings c)
-  ticks_so c so = again_so c.doings c so (all c.doings (λ d i. i))
-    where
-      same : (n : ℕ) → (n == n) ≡ true
-      same n = grind arith
-
-      found : (d : Doing) → In d c.doings → (u : Uid) × (doing_of u c ≡ Some d)
-      found d i = let p = placed d c.doings i in (
-        record { node = c.tree.node; inc = c.tree.inc; num = p.0 },
-        (λ j. cond (same c.tree.node j && same c.tree.inc j) (at_place p.0 c.doings) None) ∙ p.1,
-      )
-
-      all : (ds : List Doing) → ((d : Doing) → In d ds → In d c.doings) → AllByRecursion (λ (d : Doing). NowIsSo F d.now) ds
-      all [] there = tt
-      all (d ∷ ds) there = (let f = found d (there d (inl refl)) in so.works f.0 d f.1, all ds (λ e i. there e (inr i)))
-
-  commit_so : (b : Branch) (intents : List (Uid × Intent)) (c : Coord) → CoordIsSo F c → IsDone (commit_action b intents c)
-  commit_so b intents c so = by b.doomed
-    where
-      u : Uid
-      u = actor b.path
-
-      plan : Plan
-      plan = plan_for b.path (last_req (doing_of u c)) (root_at (root_of b.path) c) c
-
-      top : IsDone (commit_top b.path intents c)
-      top =
-          let x = moved_commit u (commit.start plan) intents c in
-          let w = moved_commit_so u (commit.start plan) intents c so (vote_step (servers_of plan) plan
-          (plan_so b.path (last_req (doing_of u c)) (root_at (root_of b.path) c) c (root_so (root_of b.path) c so))) in
-          (w.0, both (says u body.Committing c) x.outs (lines u body.Committing c) w.1)
-
-      kinds : (q : ActionKind) → IsDone (commit_open b intents c q)
-      kinds kind.Nested = ends_so u ending.Commit body.Committed intents c so
-      kinds kind.Serial = ends_so u ending.Commit body.Ended intents c so
-      kinds kind.Top = top
-      kinds kind.Independent = top
-      kinds kind.Constituent = top
-
-      by : (d : Bool) → IsDone (cond {A = Did Coord} d (aborts_with u cause.Doomed intents c) (commit_open b intents c b.kind))
-      by true = ends_so u ending.Abort (λ l. body.Aborted l cause.Doomed) intents c so
-      by false = kinds b.kind
-
-  on_named : (l : Label) (f : Branch → Did Coord) (c : Coord) → CoordIsSo F c → ((b : Branch) → IsDone (f b)) →
-      IsDone (on_branch f c (branch_named l c))
-  on_named l f c so each = by (branch_named l c)
-    where
-      by : (o : Option Branch) → IsDone (on_branch f c o)
-      by None = (so, tt)
-      by (Some b) = each b
-
-  -- ---- actions that begin
-
-  pub begins_so : (l : Label) (q : ActionKind) (parent : Option Label) (above : Option Branch) (c : Coord) → CoordIsSo F c →
-      IsDone (begin_action l q parent above c)
-  begins_so l q parent above c so =
-      (record { works = λ u d at. was (is_own u c.tree) u.num d at (λ f. so.works u d f); roots = so.roots }, (tt, tt))
-    where
-      fresh : Doing
-      fresh = record { label = l; req = 0; now = Idle; took = [] }
-
-      was : (b : Bool) (j : ℕ) (d : Doing) → cond b (at_place j (c.doings ++ fresh ∷ [])) None ≡ Some d →
-          (cond b (at_place j c.doings) None ≡ Some d → NowIsSo F d.now) → NowIsSo F d.now
-      was true zero d at f = let no_way : ◌≡◌ {A = Option Doing} None (Some d) = at in cc
-      was true (suc j) d at f =
-          ⊎_elim (λ old. f old) (λ new. subst (λ (x : Doing). NowIsSo F x.now) new.1 tt) (get_more j fresh d c.doings at)
-      was false j d at f = let no_way : ◌≡◌ {A = Option Doing} None (Some d) = at in cc
-
-  pub acts_so : (i : Input) (intents : List (Uid × Intent)) (c : Coord) → CoordIsSo F c → IsDone (acts i intents c)
-  acts_so (input.Begin l q parent) intents c so = begins_so l q parent (parent_of parent c) c so
-  acts_so (input.Call l x o) intents c so = on_named l (λ b. call b.path x o c) c so (λ b. call_so b.path x o c so)
-  acts_so (input.Include l x s) intents c so = on_named l (λ b. include b.path x s c) c so (λ b. include_so b.path x s c so)
-  acts_so (input.Commit l) intents c so = on_named l (λ b. commit_action b intents c) c so (λ b. commit_so b intents c so)
-  acts_so (input.Abort l) intents c so =
-      on_named l (λ b. abort_action (actor b.path) intents c) c so (λ b. abort_so (actor b.path) intents c so)
-  acts_so (input.GiveUp l) intents c so =
-      on_named l (λ b. give_up (actor b.path) intents c) c so (λ b. give_up_so (actor b.path) intents c so)
-  acts_so (input.Frame j from m) intents c so = (so, tt)
-  acts_so input.Tick intents c so = (so, tt)
-  acts_so input.Restart intents c so = (so, tt)
-  acts_so input.Crash intents c so = (so, tt)
-  acts_so (input.Show x) intents c so = (so, tt)

@@ -6,7 +6,8 @@ use Words.{is_kept_commit, let_go, root_or_self, tell, tell_all, tolds_let_go, a
 use Words.{tolds_again, at_place, branch_of, is_open, is_own}
 use Words.ending
 use Rattle.arj_law_disk_view.proofs.Terms.{is_over, AllSay, CoordIsSo, Fits, MayKeep, NowIsSo}
-use Rattle.arj_law_disk_view.proofs.running.StateCoords.{IsServed, both, tells}
+use Rattle.arj_law_disk_view.proofs.running.StateCoords.{both, tells}
+use Rattle.arj_law_disk_view.proofs.running.StateInputs.{IsServed}
 
 module _ (F : Fits) (keep : MayKeep F) where
   pub acks_so : (from : ℕ) (u : Uid) (intents : List (Uid × Intent)) (c : Coord) → CoordIsSo F c → IsServed F keep (acked from u intents c)

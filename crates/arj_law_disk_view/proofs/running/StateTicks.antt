@@ -6,7 +6,7 @@ use Words.{query_about, uid_set, without_number, AreAll, is_server_effect, Node,
 use Words.{recovered_records, restart_outs, tolds_again}
 use Words.body
 use Rattle.arj_law_disk_view.proofs.Terms.{all_append, AllSay, CoordIsSo, Fits, MayKeep}
-use Rattle.arj_law_disk_view.proofs.running.{StateCoords.ticks_so, StateEnds.told_again_so}
+use Rattle.arj_law_disk_view.proofs.running.{StateInputs.ticks_so, StateEnds.told_again_so}
 
 module _ (F : Fits) (keep : MayKeep F) where
   both : (es fs : List Effect) → AllSay F es → AllSay F fs → AllSay F (es ++ fs)

@@ -11,7 +11,7 @@ use Words.{Committing, doing_of, on_doing, on_root, root_at, plan_for, keeping_o
 use Words.{PutIntent, ended, ends_with, aborts_with, all_aborted, abort_action, decide, decided_told, acked, acked_by, acked_left}
 use Words.{root_after, says, tolds_let_go, tolds_of, at_uid, put_uid, without_uid, has, number_set, with_number, without_number, unbound}
 use Words.{Input, acts, branch_named, on_branch, refusal_up, refused_by, commit_reasons, Branch, branch_of, root_of, open_below}
-use Words.{uses_object, has_open_child}
+use Words.{has_open_child, is_empty, uses_object}
 use Words.ending
 use Words.body
 use Words.kind
@@ -98,8 +98,8 @@ module _ (actions : List Action) where
       first_none [] ys is = refl
       first_none (x ∷ xs) ys is = absurd (cc is)
 
-      by : (ps : List ℕ) (b : Bool) → (not (commit.is_empty ps) || (b && not (commit.is_empty p.excluded
-          && commit.is_empty (commit.included_of p)))) ≡ true → servers_of p ++ ps ++ (if b then 1 ∷ [] else []) ≡ [] → ⊥
+      by : (ps : List ℕ) (b : Bool) → (not (is_empty ps) || (b && not (is_empty p.excluded
+          && is_empty (commit.included_of p)))) ≡ true → servers_of p ++ ps ++ (if b then 1 ∷ [] else []) ≡ [] → ⊥
       by (n ∷ ns) b is none =
           absurd (cc (last_none (servers_of p) (n ∷ ns) (first_none (servers_of p ++ n ∷ ns) (if b then 1 ∷ [] else []) none)))
       by [] true is none = absurd (cc (last_none (servers_of p ++ []) (1 ∷ []) none))

@@ -3,8 +3,8 @@ use Rattle.arj_law_parts.proofs.Words
 use Words.{◌≡◌, ◌≢◌, ◌⊎◌, ℕ, ◌==◌, ◌&&◌, ◌||◌, List, [], ◌∷◌, Bool, true, false, Option, Some, None, refl, sym, ◌∙◌, ap, subst, inl, inr}
 use Words.{⊎_elim, append-nil, if◌then◌else◌, not, is_some, uid_cases, uid_isnt, Uid, End, Kind, uid_eq, first_uid, Coord, root_at}
 use Words.{nodes_sent, Disk, RemoveIntent, Before, After, InPart, Intent, acked_left, is_deferred, let_go, tell_all, tolds_let_go, Parts}
-use Words.{with_coord, at_uid, put_uid, without_uid, uid_number, without_number, Node, Branch, branch_of, is_constituent, is_open}
-use Words.{is_open_branch, root_of, number_tells, Seen}
+use Words.{with_coord, at_uid, put_uid, without_uid, uid_number, without_number, Node, Branch, branch_of, is_open}
+use Words.{is_open_branch, root_of, number_tells, Seen, is_constituent}
 use Words.ending
 use Words.kind
 use Words.order

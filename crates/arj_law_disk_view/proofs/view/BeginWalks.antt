@@ -2,8 +2,8 @@
 use Rattle.arj_law_parts.proofs.Words
 use Words.{◌≡◌, ℕ, List, [], ◌∷◌, true, false, Option, Some, None, refl, sym, ◌∙◌, ap, subst, inl, inr, AllByRecursion, Uid, Kind}
 use Words.{first_uid, uids_of, object, step_commit, Used, begin_prepare, begin_confirm, changed_of, further, targets_of, Voting, Preparing}
-use Words.{Confirming, Doing, Now, Idle, Calling, Committing, doing_of, Disk, Parts, uid_number, Branch, branch_of, is_constituent, root_of}
-use Words.{Seen}
+use Words.{Confirming, Doing, Now, Idle, Calling, Committing, doing_of, Disk, Parts, uid_number, Branch, branch_of, root_of}
+use Words.{Seen, is_constituent}
 use Words.kind
 use Words.commit
 use Rattle.arj_law_disk_view.proofs.Terms

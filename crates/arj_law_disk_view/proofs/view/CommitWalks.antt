@@ -6,7 +6,7 @@ use Words.{moved_commit, step_commit, commit_action, commit_open, commit_top, co
 use Words.{Voting, Preparing, Confirming, begin_vote, servers_of, further, vote_ask, ask_of, left_of, plan_of, votes_left, with_states}
 use Words.{first_of, Coord, Doing, Joined, Root, Idle, Committing, doing_of, root_at, plan_for, objects_in, used_of, joins_on, latest_of}
 use Words.{later_state, or_kept_state, survives, Disk, says, say_for, aborts_with, Parts, with_coord, at_number, uid_number, without_number}
-use Words.{AreAll, Branch, branch_of, has_open_child, is_open_branch, is_serial, root_of, Seen}
+use Words.{AreAll, Branch, branch_of, has_open_child, is_open_branch, root_of, Seen, is_serial}
 use Words.body
 use Words.cause
 use Words.ending

@@ -1,8 +1,8 @@
 -- Decisions, records and ends in the machine's terms.
 use Rattle.arj_law_parts.proofs.Words
 use Words.{◌≡◌, ◌≢◌, ◌⊎◌, ℕ, ◌==◌, ◌&&◌, ◌||◌, not, List, [], ◌∷◌, ◌++◌, Bool, true, false, cond, Option, Some, None, refl, sym, ◌∙◌, ap}
-use Words.{subst, inl, inr, ⊎_elim, is_some, list_any, or_parts, and_parts, uid_cases, Uid, entry, participants, included_of, is_empty}
-use Words.{servers_of, naming_node, Intent, at_uid, put_uid, without_uid, uid_number, number_tells}
+use Words.{subst, inl, inr, ⊎_elim, is_some, list_any, or_parts, and_parts, uid_cases, Uid, entry, participants, included_of}
+use Words.{servers_of, naming_node, Intent, at_uid, put_uid, without_uid, uid_number, number_tells, is_empty}
 use Words.commit
 use Words.order
 use Rattle.arj_law_disk_view.proofs.Terms

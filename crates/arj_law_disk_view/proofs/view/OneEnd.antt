@@ -3,7 +3,7 @@ use Rattle.arj_law_parts.proofs.Words
 use Words.{◌≡◌, ◌≢◌, ℕ, zero, suc, ◌&&◌, List, [], ◌∷◌, Bool, true, false, Option, Some, None, refl, sym, ◌∙◌, ap, subst, slice_get}
 use Words.{append-nil, not, is_some, list_any, uid_same, Uid, End, Label, Body, Kind, uid_eq, first_uid, before_last, uids_of, Coord, Doing}
 use Words.{doing_of, Disk, says, say_for, ended, ends_with, tolds_of, Parts, with_coord, uid_number, AreAll, Branch, branch_of, is_open}
-use Words.{is_open_branch, is_parent, is_serial, has_open_child, root_of, ends_of, number_tells, Seen}
+use Words.{is_open_branch, is_parent, has_open_child, root_of, ends_of, number_tells, Seen, is_serial}
 use Words.kind
 use Rattle.arj_law_disk_view.proofs.Terms
 use Terms.{World, after, Meaning, is_gone, never, never_some, or_left, or_right, put_same, up, DidIsWalked, SeesRecords, nodes_of}

@@ -3,8 +3,8 @@ use Rattle.arj_law_parts.proofs.Words
 use Words.{◌≡◌, ◌≢◌, ◌⊎◌, ◌<◌, ℕ, ◌==◌, ◌&&◌, ◌||◌, [], ◌∷◌, Bool, true, false, Option, Some, None, refl, sym, ◌∙◌, ap, subst, inl, inr}
 use Words.{⊎_elim, if◌then◌else◌, not, is_some, uid_cases, Uid, End, Kind, first_uid, Doing, doing_of, is_constituent_branch, is_kept_top}
 use Words.{Disk, Intent, answer_query, answer_recorded, answer_decided, is_deferred, is_kept_commit, root_or_self, took_part, tell, Parts}
-use Words.{at_uid, uid_number, Branch, at_place, branch_of, ended_so, has_end, is_constituent, is_open, is_open_branch, is_own, root_of}
-use Words.{numbered, Post, Seen}
+use Words.{at_uid, uid_number, Branch, at_place, branch_of, ended_so, has_end, is_open, is_open_branch, is_own, root_of}
+use Words.{numbered, Post, Seen, is_constituent}
 use Words.kind
 use Words.ending
 use Words.message

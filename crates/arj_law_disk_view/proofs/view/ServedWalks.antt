@@ -5,9 +5,9 @@ use Words.{if◌then◌else◌, option_map, not, is_some, AllByRecursion, list_a
 use Words.{Line, Ask, Entry, Row, entry, last_uid, is_on, Reply, asked_by, response, top_path, top_of, Disk, Effect, Pair, Say, Send, Do}
 use Words.{Served, void, reply, is_granted, Naming, is_over, on_counted, on_named, listed_entry, Named, Counted, Made, Live, lock_lines}
 use Words.{bind_made, made_above, live_asked, make_asked, include_asked, bind_call, bind_named, conflict_on, live_above, next_server}
-use Words.{lower_lines, is_lowered, lowered, in_use, note_made, note_named, note_other, is_binding, Parts, Took, serve, served}
+use Words.{lower_lines, is_lowered, lowered, in_use, note_made, note_named, note_other, Parts, Took, serve, served}
 use Words.{sends_answer, if_naming, with_server, with_naming, naming_hello, holders, query_about, is_earlier, at_number, at_uid, binding_eq}
-use Words.{AreAll, is_server_effect, numbered, all_both, all_if, activate_own, invoke_own, vote_own, Post, Seen}
+use Words.{AreAll, is_server_effect, numbered, all_both, all_if, activate_own, invoke_own, vote_own, Post, Seen, is_binding}
 use Words.ask
 use Words.body
 use Words.message

@@ -1,9 +1,9 @@
 -- A top that used nothing is decided, walked through at its coordinator.
 use Rattle.arj_law_parts.proofs.Words
 use Words.{◌≡◌, ◌≢◌, ◌⊎◌, ℕ, ◌&&◌, ◌||◌, List, [], ◌∷◌, ◌++◌, true, false, Option, Some, None, refl, sym, ◌∙◌, ap, subst, map, append-nil}
-use Words.{if◌then◌else◌, not, is_some, filter, Uid, End, ObjectState, Used, participants, has_record, is_empty, included_of, changed_of}
+use Words.{if◌then◌else◌, not, is_some, filter, Uid, End, ObjectState, Used, participants, has_record, included_of, changed_of}
 use Words.{Coord, Doing, Idle, doing_of, Disk, Do, PutIntent, says, say_for, decided, decided_told, record_work, tell, tell_all, Parts}
-use Words.{with_coord, at_uid, number_set, uid_number, AreAll, Branch, branch_of, is_open_branch, root_of, Seen}
+use Words.{with_coord, at_uid, number_set, uid_number, AreAll, Branch, branch_of, is_open_branch, root_of, Seen, is_empty}
 use Words.body
 use Words.ending
 use Words.commit

@@ -9,7 +9,7 @@ use Words.{Naming, Handled, Parts, Took, Void, coord_heard, handle_answer, handl
 use Words.{serve, served, with_coord, with_naming, at_uid, uid_number, without_number, acts, refusal_up, refused_by, first_reason}
 use Words.{call_reasons, include_reasons, commit_reasons, abort_reasons, giveup_reasons, branch_named, branch_numbered, on_branch, waits}
 use Words.{waits_above, waits_below, sibling_waits, is_waiting, is_waiting_now, class_at, lacks_op, Branch, branch_of, at_place}
-use Words.{has_open_child, has_many_objects, is_serial, root_of, Seen}
+use Words.{has_open_child, has_many_objects, root_of, Seen, is_serial}
 use Words.ask
 use Words.message
 use Words.commit

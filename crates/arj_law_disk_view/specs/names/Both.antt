@@ -4,7 +4,6 @@ use Rattle.arj_protocol.specs.Words.{Uid, Binding, Body, BoundReply, End, Head, 
 use Rattle.arj_protocol.specs.Words.ask
 use Rattle.arj_protocol.specs.Words.ending
 use Rattle.arj_protocol.specs.Ask.{top_of}
-use Rattle.arj_protocol.specs.Commit.{is_empty}
 use Rattle.arj_protocol.specs.Confirm.{Grants, Marks}
 use Rattle.arj_protocol.specs.Effect.{Disk, Effect, Say, Send, Do, Work, PutInc, is_prepared}
 use Rattle.arj_protocol.specs.Naming.{Naming, bind}
@@ -12,7 +11,7 @@ use Rattle.arj_protocol.specs.Node.{Parts, Took, handle_hello, handle_told, serv
 use Rattle.arj_protocol.specs.Order.{at_number, uid_number}
 use Rattle.arj_protocol.specs.Says.{AreAll}
 use Rattle.arj_protocol.specs.Coord.{Coord, Root}
-use Rattle.arj_model.specs.Start.{Start}
+use Rattle.arj_start.specs.Start.{Start}
 use Rattle.arj_protocol.specs.Step.{Node, disk_by, parts_in, restart_outs}
 use Rattle.arj_protocol.specs.World.{Labelled, world_from}
 use Rattle.arj_law_disk.specs.machine.Effects.{World, Allowed, Begin}
@@ -38,6 +37,7 @@ use Rattle.arj_law_disk_view.specs.names.Grants.{SeesGrants}
 use Rattle.arj_law_disk_view.specs.names.Lists.{AreNarrowed, SeesLists}
 use Rattle.arj_law_disk_view.specs.names.Loads.{HaveLoads, KeepsState}
 use Rattle.arj_law_disk_view.specs.names.Restarts.{AreEntries}
+use Rattle.arj_protocol.specs.Order.{is_empty}
 
 -- naming's half: the incarnation on node 1's disk, and naming's memory while that node is up
 pub record SeesNames (x : ℕ) (tops : Kinds) (A : Office) (M : Seen) : Type 0 where

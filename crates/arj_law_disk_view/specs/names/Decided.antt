@@ -6,7 +6,7 @@ use Rattle.arj_protocol.specs.Call.{Known}
 use Rattle.arj_protocol.specs.Coord.{Coord, Doing, Said, doing_of, kept_of, root_at, top_uses}
 use Rattle.arj_protocol.specs.Ending.{decided}
 use Rattle.arj_protocol.specs.Order.{uid_number}
-use Rattle.arj_protocol.specs.Tree.{Branch, behind, branch_of, is_constituent, root_of}
+use Rattle.arj_protocol.specs.Tree.{Branch, behind, branch_of, root_of}
 use Rattle.arj_law_disk.specs.machine.Named.{Named}
 use Rattle.arj_law_disk.specs.machine.Names.{Office}
 use Rattle.arj_law_disk.specs.machine.State as disk
@@ -17,6 +17,7 @@ use Rattle.arj_law_disk_view.specs.view.Sees.{AreOneChange, IsFixed, Kinds}
 use Rattle.arj_law_disk_view.specs.names.Both.{OnlyDecided, SeesRootOf, has_part}
 use Rattle.arj_law_disk_view.specs.names.Handlers.{root_retains}
 use Rattle.arj_law_disk_view.specs.names.Lists.{HasList, HasRetained, IsLasting, IsTopOf}
+use Rattle.arj_start.specs.Kinds.{is_constituent}
 
 -- the path begins with the root, and the top stands on it once at most
 pub record GoesOnce (root t : Uid) (path : List Uid) : Type 0 where

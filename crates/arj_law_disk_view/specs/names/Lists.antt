@@ -1,7 +1,7 @@
 -- What a root keeps of an object's store list, as the disk machine's naming half has it.
 use Rattle.std.specs.Prelude.{◌≡◌, ◌⊎◌, ◌<◌, ℕ, Bool, true, false, List, map, Option, Some, None, Contains}
 use Rattle.arj_protocol.specs.Words.{Uid, Binding, is_on}
-use Rattle.arj_protocol.specs.Asking.{is_named}
+use Rattle.arj_protocol.specs.Order.{is_binding}
 use Rattle.arj_protocol.specs.Call.{At, Known, bound_by}
 use Rattle.arj_protocol.specs.Commit as commit
 use Rattle.arj_protocol.specs.Commit.{Used, included_of}
@@ -57,7 +57,7 @@ pub record SeesLists (x : ℕ) (tops : Kinds) (root : Uid) (c : Coord) (r : Root
   pub family : (g : Grant) → Contains r.grants g → IsTopOf tops root g.top
   pub granted : (g : Grant) (b : Binding) → Contains r.grants g → g.x ≡ x → g.named ≡ Some b →
       (N.had (uid_number g.top) b.inc ≡ true) × IsShort b
-  pub named : (k : Known) (g : Grant) → kept_of x r ≡ Some k → Contains r.grants g → g.x ≡ x → is_named k.binding g.named ≡ true →
+  pub named : (k : Known) (g : Grant) → kept_of x r ≡ Some k → Contains r.grants g → g.x ≡ x → is_binding k.binding g.named ≡ true →
       HasList N (uid_number g.top) k
   pub short : (k : Known) → kept_of x r ≡ Some k → IsShort k.binding
   pub called : (k : Known) (s : Said) (t : Uid) → kept_of x r ≡ Some k → Contains r.said s → s.x ≡ x → is_spent s.path c.tree ≡ false →

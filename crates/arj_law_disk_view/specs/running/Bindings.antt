@@ -7,7 +7,6 @@ use Rattle.arj_protocol.specs.Naming.{Naming}
 use Rattle.arj_protocol.specs.Node.{Parts}
 use Rattle.arj_protocol.specs.Order.{at_number, at_uid}
 use Rattle.arj_protocol.specs.Step.{Node}
-use Rattle.arj_protocol.specs.World.{most_labels}
 use Rattle.arj_law_runs.specs.calls.Bindings.{AreSaid}
 use Rattle.arj_law_runs.specs.calls.Runs.{KnowsFew}
 use Rattle.arj_law_runs.specs.coordinators.Uses.{KnowsTops}
@@ -16,6 +15,7 @@ use Rattle.arj_law_runs.specs.kept.Worlds.{IsGood}
 use Rattle.arj_law_lock_view.specs.records.Runs.{RecordsRun}
 use Rattle.arj_promise.specs.Runs.{Seen}
 use Rattle.arj_law_disk_view.specs.names.Lists.{IsShort}
+use Rattle.arj_start.specs.Limits.{most_labels}
 
 -- the binding is of this incarnation of naming, and its count is short
 pub record IsOwnBinding (inc : ℕ) (b : Binding) : Type 0 where

@@ -2,9 +2,8 @@
 use Rattle.std.specs.Prelude.{⊤, ◌≡◌, ◌++◌, ◌+◌, ◌<◌, ℕ, true, false, List, [], ◌∷◌}
 use Rattle.arj_base.specs.Rows.{is_on}
 use Rattle.arj_protocol.specs.Words.{Line, Uid}
-use Rattle.arj_model.specs.Start.{Start}
+use Rattle.arj_start.specs.Start.{Start}
 use Rattle.arj_protocol.specs.Order.{uid_number}
-use Rattle.arj_protocol.specs.World.{most_labels}
 use Rattle.arj_law_disk.specs.machine.Effects.{World}
 use Rattle.arj_law_disk.specs.machine.Names.{Office}
 use Rattle.arj_law_disk.specs.machine.State.{Done, Packed, decided, decided_in}
@@ -13,6 +12,7 @@ use Rattle.arj_promise.specs.Runs.{Seen}
 use Rattle.arj_promise.specs.Starts.{IsPast}
 use Rattle.arj_law_runs.specs.journal.Book.{book}
 use Rattle.arj_law_disk_view.specs.view.Sees.{Kinds}
+use Rattle.arj_start.specs.Limits.{most_labels}
 
 -- the commit of each was called
 abbrev pub AreCalled : List Line → List Done → Type 0

@@ -5,10 +5,11 @@ use Rattle.arj_protocol.specs.Words.{Uid, Ask, Head, Kind, Message, Path, asks, 
 use Rattle.arj_protocol.specs.Words.kind
 use Rattle.arj_protocol.specs.Ask.{top_of, top_path}
 use Rattle.arj_protocol.specs.Order.{uid_number}
-use Rattle.arj_protocol.specs.Tree.{root_of, is_serial}
+use Rattle.arj_protocol.specs.Tree.{root_of}
 use Rattle.arj_law_parts.specs.parts.Actions.{Action, act_of}
 use Rattle.arj_law_disk_view.specs.view.Knows.{KnowsKinds, IsOfKind}
 use Rattle.arj_law_disk_view.specs.view.Sees.{Kinds}
+use Rattle.arj_start.specs.Kinds.{is_serial}
 
 -- tops, constituents among them
 abbrev pub is_top_kind : Kind → Bool

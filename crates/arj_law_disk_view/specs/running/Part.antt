@@ -12,7 +12,6 @@ use Rattle.arj_protocol.specs.Node.{Parts, Took, handle, is_meant, with_coord}
 use Rattle.arj_protocol.specs.Order.{uid_number}
 use Rattle.arj_protocol.specs.Step.{Input, acts, begin_refusal, parent_of, parts_in, refusal_up, restart_outs}
 use Rattle.arj_protocol.specs.Tree.{next_uid, path_below}
-use Rattle.arj_protocol.specs.World.{is_serial_kind}
 use Rattle.arj_law_disk.specs.machine.Effects.{World}
 use Rattle.arj_law_disk.specs.machine.Names.{Office}
 use Rattle.arj_law_parts.specs.moves.Keeps.{IsAtStarts, MayGive, is_act, label_at}
@@ -26,6 +25,7 @@ use Rattle.arj_law_disk_view.specs.names.Both.{OnlyAnswers, OnlyFound, SeesBoth}
 use Rattle.arj_law_disk_view.specs.names.Handlers.{Change, Changes, IsForGrants, MayGoOn, MayRecord, Quietly, change_by}
 use Rattle.arj_law_disk_view.specs.running.Kinds.{AreOfTops}
 use Rattle.arj_law_disk_view.specs.running.Sound.{IsOwnVote}
+use Rattle.arj_start.specs.Kinds.{is_serial}
 
 -- ---- a step
 
@@ -101,7 +101,7 @@ pub record KeepsPart (hd : Header) (x : ℕ) (R : World → Seen → Type 0) (P 
       IsOfKind tops (next_uid t.coord.tree) how (path_below how (parent_of parent t.coord) (next_uid t.coord.tree)) →
       SeesBoth x tops A (up k d t M) → P tops A (up k d t M)
       → HoldsAlong (HoldsFrom P x tops Quietly A) (going_of e k d t (begin_action l how parent (parent_of parent t.coord) t.coord))
-      (given l (record { node = k; serial = is_serial_kind how }) M)
+      (given l (record { node = k; serial = is_serial how }) M)
   pub tick : (tops : Kinds) (e k : ℕ) (d : Disk) (t : Parts) (M : Seen) (A : Office) → tops.walk ≡ None → KnowsNode tops k d t M → R A.world
       (up k d t M) → SeesBoth x tops A (up k d t M) → P tops A (up k d t M) → HoldsAlong (HoldsFrom P x tops Quietly A) (ticking e k d t) M
   pub restart : (tops : Kinds) (e k : ℕ) (d : Disk) (M : Seen) (A : Office) → tops.walk ≡ None → R A.world (down k d M) →

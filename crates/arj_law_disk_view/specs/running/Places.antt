@@ -13,7 +13,7 @@ use Rattle.arj_protocol.specs.Node.{Parts}
 use Rattle.arj_protocol.specs.Step.{Node}
 use Rattle.arj_law_parts.specs.parts.Actions.{Action, act_of}
 use Rattle.arj_law_parts.specs.moves.Seen as seen
-use Rattle.arj_model.specs.Start.{Start}
+use Rattle.arj_start.specs.Start.{Start}
 use Rattle.arj_promise.specs.Runs.{Post, Seen}
 use Rattle.arj_promise.specs.Starts.{next_inc}
 use Rattle.arj_law_disk_view.specs.view.Sees.{was_begun}

@@ -11,6 +11,7 @@ use Rattle.arj_protocol.specs.Commit as commit
 use Rattle.arj_protocol.specs.Coord.{Calling, Coord, Doing, Joined, Now, Committing, Root, Said, doing_of, root_at}
 use Rattle.arj_protocol.specs.Node.{Parts}
 use Rattle.arj_protocol.specs.Order as order
+use Rattle.arj_protocol.specs.Order.{is_empty}
 use Rattle.arj_protocol.specs.Tree.{Tree, behind, is_own, root_of}
 use Rattle.arj_law_parts.specs.moves.Seen as seen
 use Rattle.arj_promise.specs.Runs.{Seen}
@@ -121,7 +122,7 @@ pub record IsIncluded (r : Root) (p : commit.Plan) (x : ℕ) : Type 0 where
 
 -- so it does with what the plan includes somewhere
 abbrev pub AreIncluded : Root → commit.Plan → Type 0
-AreIncluded r p = (v : commit.Used) → Uses v p.used → commit.is_empty v.joins ≡ false → IsIncluded r p v.x
+AreIncluded r p = (v : commit.Used) → Uses v p.used → is_empty v.joins ≡ false → IsIncluded r p v.x
 
 -- So it is at a coordinator; of one root one commit at most is under way; and what a commit under way includes its top did.
 pub record AreSound (c : Coord) : Type 0 where

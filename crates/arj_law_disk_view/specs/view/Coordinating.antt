@@ -20,7 +20,7 @@ use Rattle.arj_protocol.specs.Order.{at_uid, uid_number, uid_set, without_number
 use Rattle.arj_protocol.specs.Step as input
 use Rattle.arj_protocol.specs.Step.{Input, acts, branch_named, refusal_up, restart_outs, parts_in}
 use Rattle.arj_protocol.specs.World.{Labelled}
-use Rattle.arj_protocol.specs.Tree.{Branch, branch_of, is_own, is_serial, has_open_child, next_uid, path_below}
+use Rattle.arj_protocol.specs.Tree.{Branch, branch_of, is_own, has_open_child, next_uid, path_below}
 use Rattle.arj_law_disk.specs.machine.Effects as machine
 use Rattle.arj_law_disk.specs.machine.Effects.{World, Allowed, after}
 use Rattle.arj_law_disk.specs.machine.Guards.{Note, Begins, Decides, Confirms, Acks}
@@ -36,6 +36,7 @@ use Rattle.arj_law_disk_view.specs.view.Confirming.{IsBooked, IsConfirmation, Is
 use Rattle.arj_law_disk_view.specs.view.Knows.{KnowsKinds, KnowsCoord, IsOfKind}
 use Rattle.arj_law_disk_view.specs.view.Sees.{Kinds, Walk, followed, may_note, was_begun, IsFuture, SeesDisks, IsSeenByDisks, ClaimsAsk}
 use Rattle.arj_law_disk_view.specs.view.Sees.{ClaimsLast, ClaimsReply}
+use Rattle.arj_start.specs.Kinds.{is_serial}
 
 -- the coordinator's part of a step keeps the disk half
 abbrev pub DidIsWalked : ℕ → Kinds → ℕ → ℕ → Disk → Parts → Did Coord → Seen → Type 0

@@ -10,13 +10,14 @@ use Rattle.arj_protocol.specs.Commit as commit
 use Rattle.arj_protocol.specs.Coord.{Coord, Doing, Calling, Committing, Joined, Root, Said, doing_of, root_at, plan_for}
 use Rattle.arj_protocol.specs.Effect.{Intent}
 use Rattle.arj_protocol.specs.Order as order
-use Rattle.arj_protocol.specs.Order.{at_uid, uid_number}
-use Rattle.arj_protocol.specs.Tree.{behind, branch_of, is_constituent, is_open, is_own, root_of}
+use Rattle.arj_protocol.specs.Order.{at_uid, is_empty, uid_number}
+use Rattle.arj_protocol.specs.Tree.{behind, branch_of, is_open, is_own, root_of}
 use Rattle.arj_protocol.specs.Tree as tree
 use Rattle.arj_law_disk_view.specs.view.Asking.{IsUnanswered}
 use Rattle.arj_law_disk_view.specs.view.Pairs.{Among}
 use Rattle.arj_law_disk_view.specs.view.Plans.{IsTidy, Uses}
 use Rattle.arj_law_disk_view.specs.view.Sees.{Kinds, AreOneChange}
+use Rattle.arj_start.specs.Kinds.{is_constituent}
 
 -- Tops are actions, each of its root's node and incarnation, and are no serializing ones; the root of a constituent is a serializing
 -- action, which is its own, as is whoever has no such root.
@@ -131,5 +132,5 @@ pub record KnowsCoord (tops : Kinds) (intents : List (Uid × Intent)) (c : Coord
   pub telling_there : AllByRecursion (λ (e : Uid × Intent). (i : Intent) × (at_uid e.0 intents ≡ Some i)) c.telling
   pub said : (root : Uid) (s : Said) → is_own root c.tree ≡ true → Contains (let r = root_at root c in r.said) s → IsFromRoot root s.path
   pub includes : (u : Uid) (q : Doing) (m : commit.Machine) → doing_of u c ≡ Some q → q.now ≡ Committing m → (v : commit.Used) →
-      Uses v (let p = commit.plan_of m in p.used) → commit.is_empty v.joins ≡ false →
+      Uses v (let p = commit.plan_of m in p.used) → is_empty v.joins ≡ false →
       HasIncluded (root_at (let p = commit.plan_of m in root_of p.path) c) (commit.plan_of m) v.x

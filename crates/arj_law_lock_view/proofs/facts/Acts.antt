@@ -1,7 +1,7 @@
 -- Relations of the actions that were begun, together, and beside good nodes.
 use Rattle.arj_law_parts.proofs.Words
 use Words.{◌+◌, ℕ, List, [], ◌∷◌, Some, ⊤, Header, again_all, begin_action, Disk, Effect, tick_outs, Parts, with_coord, acts, parent_of}
-use Words.{parts_in, restart_outs, is_serial_kind, Seen}
+use Words.{parts_in, restart_outs, Seen, is_serial}
 use Rattle.arj_law_lock_view.proofs.Terms.{Action, IsGoodOf, begin_good, Keeps, given, Up, Walks, walks_both, walks_to, KeepsOf, begins_in}
 use Rattle.arj_law_runs.proofs.kept
 use kept.{Starts.first_of, Starts.restart_good}
@@ -32,7 +32,7 @@ module _ (hd : Header) (R : List Action → Seen → Type 0) (keeps : KeepsOf hd
     begin = λ e k d t l how parent M new may free p.
         let did = begin_action l how parent (parent_of parent t.coord) t.coord in
         together (begins_in how parent t ∷ p.0) e k did.outs (with_coord t did.part) d
-        (given l (record { node = k; serial = is_serial_kind how }) M) (begin_good e k d t l how parent M new may free (p.0, p.1))
+        (given l (record { node = k; serial = is_serial how }) M) (begin_good e k d t l how parent M new may free (p.0, p.1))
         (keeps.begin p.0 e k d t l how parent M new may free tt p.1 p.2);
     tick = λ e k d t M p. together p.0 e k (tick_outs (record { number = k; disk = d; live = Some t }) t)
         (with_coord t (again_all t.coord.doings t.coord).part) d M (tick_good e k d t M (p.0, p.1)) (keeps.tick p.0 e k d t M tt p.1 p.2);

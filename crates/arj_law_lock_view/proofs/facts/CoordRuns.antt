@@ -10,8 +10,8 @@ use Words.{end_states, handle, handle_answer, handle_ask, handle_ends, handle_ot
 use Words.{naming_told, prepare_by, prepared_actions, query_about, sends_answer, serve, store_told, with_coord, with_naming, with_server}
 use Words.{uid_set, without_number, AreAll, is_naming_effect, is_server_effect, Input, Node, acts, hello_to}
 use Words.{naming_at, naming_back, numbers_to, parent_of, parts_in, recovered_records, refusal_up, restart_outs, tolds_again}
-use Words.{is_own, new_tree, Labelled, is_serial_kind, activate_own, bind_own, confirm_own, ends_own, invoke_own, note_own}
-use Words.{told_own, vote_own, Post, Seen}
+use Words.{is_own, new_tree, Labelled, activate_own, bind_own, confirm_own, ends_own, invoke_own, note_own}
+use Words.{told_own, vote_own, Post, Seen, is_serial}
 use Words.ask
 use Words.body
 use Words.ending
@@ -486,7 +486,7 @@ module _ (P : List Post → Type 0) (Q : Sender → Coord → Type 0) (kept : Is
         λ e k d t v from m outs M g p there meant is. (let h = g.0 in message_walk h.0 e k d t M h.1 g.1 p from m v outs there meant is);
     act = λ e k d t i M is free g p. (let h = g.0 in act_walk h.0 e k d t M h.1 g.1 p hd i is free);
     begin = λ e k d t l how parent M new may free g p. (let h = g.0 in
-        begin_walk h.0 e k d t M h.1 g.1 p l how parent (record { node = k; serial = is_serial_kind how }));
+        begin_walk h.0 e k d t M h.1 g.1 p l how parent (record { node = k; serial = is_serial how }));
     tick = λ e k d t M g p. (let h = g.0 in tick_walk h.0 e k d t M h.1 g.1 p);
     restart = λ e k d M g p. (let h = g.0 in restart_walk h.0 hd e k d M h.1 p);
     first = first_so hd;
@@ -516,7 +516,7 @@ module _ (Q : Sender → Coord → Type 0) (kept : IsKeptBy (λ sent. ⊤) Q) wh
     act = λ e k d t i M is free b p. let did = acts i d.intents t.coord in
         plain e k did.outs (with_coord t did.part) d M (g.act e k d t i M is free b (tt, p));
     begin = λ e k d t l how parent M new may free b p. let did = begin_action l how parent (parent_of parent t.coord) t.coord in
-        plain e k did.outs (with_coord t did.part) d (given l (record { node = k; serial = is_serial_kind how }) M)
+        plain e k did.outs (with_coord t did.part) d (given l (record { node = k; serial = is_serial how }) M)
         (g.begin e k d t l how parent M new may free b (tt, p));
     tick = λ e k d t M b p. plain e k (tick_outs (record { number = k; disk = d; live = Some t }) t)
         (with_coord t (again_all t.coord.doings t.coord).part) d M (g.tick e k d t M b (tt, p));

@@ -6,7 +6,7 @@ use Words.{is_some, is_eq, nat_cmp, Ordering, Less, Equal, Greater, uid_order, I
 use Words.{named_back, Abort, After, Before, Commit, Disk, Do, Effect, InPart, Look, Pair, Prepare, PutInc, PutIntent, RemoveIntent, Say}
 use Words.{Send, Stop, Work, held_at, moved_some, new_states, stopped, worked, again_all, begin_action, tick_outs, Parts, with_coord}
 use Words.{at_number, at_uid, put_uid, Node, acts, parent_of, parts_in, put_states, restart_outs}
-use Words.{is_serial_kind, Seen}
+use Words.{Seen, is_serial}
 use Words.role
 use Rattle.arj_law_lock_view.proofs.Terms.{IsAtStarts, disk_by, entry_by, moved, order_exact, put_same, first_at, at, given, posted, said}
 use Rattle.arj_law_lock_view.proofs.Terms.{Up, Walks}
@@ -122,7 +122,7 @@ entries_keep hd x has = record {
   act = λ e k d t i M is free all. let did = acts i d.intents t.coord in
       walk x e k (with_coord t did.part) did.outs d M (again x k d d (Some t) None M (λ its. its) all);
   begin = λ e k d t l how parent M new may free all. let did = begin_action l how parent (parent_of parent t.coord) t.coord in
-      walk x e k (with_coord t did.part) did.outs d (given l (record { node = k; serial = is_serial_kind how }) M)
+      walk x e k (with_coord t did.part) did.outs d (given l (record { node = k; serial = is_serial how }) M)
       (again x k d d (Some t) None M (λ its. its) all);
   tick = λ e k d t M all. walk x e k (with_coord t (again_all t.coord.doings t.coord).part)
       (tick_outs (record { number = k; disk = d; live = Some t }) t) d M (again x k d d (Some t) None M (λ its. its) all);

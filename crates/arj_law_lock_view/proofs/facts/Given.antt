@@ -4,8 +4,8 @@ use Words.{◌≡◌, ◌≢◌, ◌⊎◌, ◌∙◌, ◌≤◌, ◌<◌, ◌+�
 use Words.{take, Some, refl, sym, ap, subst, inl, inr, ⊎_elim, arith, Contains, unwrap_or, list_any, false_from_ne_true, or_cases, or_parts}
 use Words.{take-append-le, uid_is, uid_same, in_from, in_to, none_in, on_last, End, Kind, Uid, first_uid, is_on, last_uid, tops_of, uid_eq}
 use Words.{uids_of, actor, top_of, top_path, Machine, plan_of, Calling, Committing, Coord, Doing, Idle, Now, doing_of, no_root, of_root}
-use Words.{is_committing, is_committing_now, is_sibling, is_waiting, is_waiting_now, waits, Branch, branch_of, ends_of, is_constituent}
-use Words.{next_uid, root_of}
+use Words.{is_committing, is_committing_now, is_sibling, is_waiting, is_waiting_now, waits, Branch, branch_of, ends_of}
+use Words.{next_uid, root_of, is_constituent}
 use Words.list
 use Words.kind
 use Rattle.arj_law_lock_view.proofs.Terms

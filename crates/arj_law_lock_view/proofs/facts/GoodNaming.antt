@@ -7,10 +7,10 @@ use Words.{last_uid, lower_row, uid_eq, top_of, top_path, Grants, Marks, checked
 use Words.{conflict_in, entries_after, first_of_each, has_all, is_bare, is_there, lock_all, lock_in, named_back, other_grant, pending_of}
 use Words.{prepared_by, recovered_naming, refused_exclude, rows_back, wanted, is_granted, Already, Did, InDoubt, Old, Pair, Prep, Ready}
 use Words.{Served, did_nothing, either, is_prepared, prepare_answer, reply, void, Counted, Live, Made, Named, bind_call, bind_made}
-use Words.{bind_named, conflict_on, end_named, entry_row, hello_named, in_use, include_asked, is_binding, is_lowered, live_above}
+use Words.{bind_named, conflict_on, end_named, entry_row, hello_named, in_use, include_asked, is_lowered, live_above}
 use Words.{live_asked, locked, lower_lines, lowered, made_above, make_asked, next_server, note_made, note_named, note_other, Naming}
 use Words.{is_over, listed_entry, on_counted, on_named, taken_end, told_new, at_number, at_uid, binding_eq, put_number, with_uid, put_same}
-use Words.{put_other, one_or_two}
+use Words.{put_other, one_or_two, is_binding}
 use Words.confirmed
 use Words.ending
 use Words.mode

@@ -5,10 +5,10 @@ use Words.{arith, IfSome, is_some, AllByRecursion, is_eq, match_ordering, nat_cm
 use Words.{ConfirmedReply, End, Entry, ObjectState, Path, RecordedReply, Row, Uid, is_on, lower_row, entry, top_of, Grants, Marks, checked}
 use Words.{confirm, confirm_entries, confirm_new, confirms, entries_after, has_all, lock_all, lock_in, named_back, prepared_by, wanted}
 use Words.{Already, Did, InDoubt, Old, Pair, Prep, Ready, Served, did_nothing, is_prepared, prepare_answer, reply, void, Counted, Live}
-use Words.{Made, Named, bind_call, bind_made, bind_named, conflict_on, end_named, hello_named, in_use, include_asked, is_binding}
+use Words.{Made, Named, bind_call, bind_made, bind_named, conflict_on, end_named, hello_named, in_use, include_asked}
 use Words.{is_lowered, live_above, live_after, live_asked, locked, lower_lines, lowered, made_above, make_asked, next_server, note_made}
 use Words.{note_named, note_other, Naming, is_over, listed_entry, on_counted, on_named, taken_end, told_new, at_number, at_uid, binding_eq}
-use Words.{binding_less, put_number}
+use Words.{binding_less, put_number, is_binding}
 use Words.confirmed
 use Words.ending
 use Words.mode

@@ -3,14 +3,15 @@ use Rattle.arj_law_parts.proofs.Words
 use Words.{◌≡◌, ◌⊎◌, ◌∙◌, ◌≤◌, ◌*◌, ◌==◌, ◌&&◌, ◌||◌, ◌++◌, ℕ, zero, suc, Bool, true, false, cond, not, List, [], ◌∷◌, Option, Some, None}
 use Words.{refl, sym, ap, subst, inl, inr, ⊎_elim, arith, is_some, unwrap_or, list_any, is_eq, nat_cmp, and_parts, eqb-true, or_cases}
 use Words.{uid_cases, uid_is, Answer, Binding, BoundReply, End, Header, Kind, Label, Op, Uid, is_on, last_uid, uid_eq, Reply, actor, top_of}
-use Words.{again_all, begin_action, call, call_steps, give_up_call, granted_by, heard, heard_call, include, is_ended, is_named, keeps_after}
+use Words.{again_all, begin_action, call, call_steps, give_up_call, granted_by, heard, heard_call, include, is_ended, keeps_after}
 use Words.{kept_at, known_at_start, next_req, notes_grant, renewed, step_call, was_named, At, AtActivate, AtBind, AtInvoke, AtLoad, AtNote}
 use Words.{CallEnd, CallStep, Ended, Goal, Include, Known, On, Run, Steps, answered, given_up, has_changed, load_from, or_lost, spoils}
 use Words.{start_at, write_known, Calling, Coord, Doing, Grant, Idle, Keeping, Root, Said, doing_of, is_call, is_constituent_branch}
 use Words.{is_free, is_grant_of, is_kept_top, is_retained, keeping_of, kept_of, new_coord, no_keeping, no_root, on_root, retained_in}
 use Words.{retains, root_at, second_uid, survives, with_keeping, acked, at_number, binding_number, unbound, acts, call_reasons, parent_of}
-use Words.{refused_by, Branch, at_place, behind, branch_of, ended_so, has_end, is_committed, is_constituent, is_merged, is_own, next_uid}
+use Words.{refused_by, Branch, at_place, behind, branch_of, ended_so, has_end, is_committed, is_merged, is_own, next_uid}
 use Words.{path_below, root_of, uses_object, put_same as put_number_same, put_other as put_number_other, one_or_two, Post}
+use Words.{is_constituent, is_binding}
 use Words.list
 use Words.bound
 use Words.ending
@@ -453,7 +454,7 @@ module _ (sent : List Post) (k : ℕ) (c : Coord) (place : Place sent k c) (know
       opened : is_some b.ended ≡ false
       opened = (off (call_reasons hd x o b c) free).0
 
-      is_named_so : (bd : Binding) (n : Option Binding) → is_named bd n ≡ true →
+      is_named_so : (bd : Binding) (n : Option Binding) → is_binding bd n ≡ true →
           (e : Binding) × (n ≡ Some e) × (binding_number bd ≡ binding_number e)
       is_named_so bd None is = absurd (cc is)
       is_named_so bd (Some e) is = (e, refl, eqb-true (binding_number bd) (binding_number e) is)
@@ -462,10 +463,10 @@ module _ (sent : List Post) (k : ℕ) (c : Coord) (place : Place sent k c) (know
       by_name : (y : Known) → was_named (top_of b.path) x y.binding (root_at (root_of b.path) c) ≡ true →
           HasGrant c (root_at (root_of b.path) c) x (binding_number y.binding) (actor b.path)
       by_name y is =
-          let f = found_any (λ (h : Grant). is_grant_of (top_of b.path) x h && is_named y.binding h.named)
+          let f = found_any (λ (h : Grant). is_grant_of (top_of b.path) x h && is_binding y.binding h.named)
           (root_at (root_of b.path) c).grants is in
           let h : Grant = f.0 in
-          let p = and_parts (is_grant_of (top_of b.path) x h) (is_named y.binding h.named) f.2 in
+          let p = and_parts (is_grant_of (top_of b.path) x h) (is_binding y.binding h.named) f.2 in
           let w = and_parts (uid_eq h.top (top_of b.path)) (h.x == x) p.0 in
           let n = is_named_so y.binding h.named p.1 in
           inl (record {

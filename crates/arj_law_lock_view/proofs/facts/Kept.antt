@@ -10,8 +10,8 @@ use Words.{Parts, Took, Void, ack_told, by_reply, coord_heard, end_states, handl
 use Words.{holders, if_naming, is_earlier, load_by, load_held, naming_hello, naming_told, prepare_by, prepared_actions, query_about}
 use Words.{sends_answer, serve, store_told, with_coord, with_naming, with_server, uid_set, without_number, AreAll, is_naming_effect}
 use Words.{is_server_effect, Input, Node, acts, begin_refusal, hello_to, naming_at, naming_back, numbers_to}
-use Words.{parent_of, parts_in, recovered_records, refusal_up, restart_outs, tolds_again, Labelled, is_serial_kind}
-use Words.{activate_own, bind_own, confirm_own, ends_own, invoke_own, note_own, told_own, vote_own, Post, Seen}
+use Words.{parent_of, parts_in, recovered_records, refusal_up, restart_outs, tolds_again, Labelled}
+use Words.{activate_own, bind_own, confirm_own, ends_own, invoke_own, note_own, told_own, vote_own, Post, Seen, is_serial}
 use Words.ask
 use Words.body
 use Words.ending
@@ -534,7 +534,7 @@ module _ (S : Said) (Q : Coord → Type 0) (N : Naming → Type 0) (kept : IsKep
     act = λ e k d t i M is free p. let did = acts i d.intents t.coord in together e k did.outs (with_coord t did.part) d M
         (bound_too.act e k d t i M is free p.0) (let h = p.0 in act_walk h.0.0 e k d t M h.0.1 h.1 p.1 hd i is free);
     begin = λ e k d t l how parent M new may free p. let did = begin_action l how parent (parent_of parent t.coord) t.coord in
-        let g : Labelled = record { node = k; serial = is_serial_kind how } in
+        let g : Labelled = record { node = k; serial = is_serial how } in
         together e k did.outs (with_coord t did.part) d (given l g M) (bound_too.begin e k d t l how parent M new may free p.0)
         (let h = p.0 in begin_walk h.0.0 e k d t M h.0.1 h.1 p.1 l how parent (may_begin e k d t l how parent M new may free h.0) free g);
     tick = λ e k d t M p. together e k (tick_outs (record { number = k; disk = d; live = Some t }) t) (with_coord t (again_all

@@ -4,7 +4,7 @@ use Words.{◌≡◌, ◌≢◌, ◌⊎◌, ◌∙◌, ◌≤◌, ◌*◌, ◌==
 use Words.{sym, ap, subst, inl, inr, ⊎_elim, arith, Contains, list_any, and_parts, or_cases, uid_same, in_from, Kind, Uid, is_on, last_uid}
 use Words.{uid_eq, uids_of, actor, top_of, Known, Used, Coord, Doing, Grant, Joined, Root, Said, counts, counts_grant, is_called}
 use Words.{is_constituent_branch, is_kept_top, is_retained, kept_of, least_grant, objects_in, retained_in, root_at, second_uid, survives}
-use Words.{top_uses, used_of, binding_number, Branch, branch_of, has_open_child, is_committed, is_constituent, is_merged, root_of, Post}
+use Words.{top_uses, used_of, binding_number, Branch, branch_of, has_open_child, is_committed, is_merged, root_of, Post, is_constituent}
 use Words.list
 use Words.kind
 use Rattle.arj_law_lock_view.proofs.Terms

@@ -12,8 +12,8 @@ use Words.{handle, handle_answer, handle_ask, handle_ends, handle_other, holders
 use Words.{prepare_by, prepared_actions, query_about, sends_answer, serve, store_told, with_coord, with_naming, with_server, has, uid_set}
 use Words.{without_number, AreAll, is_naming_effect, is_server_effect, Input, Node, acts, hello_to, naming_at}
 use Words.{naming_back, numbers_to, parent_of, parts_in, recovered_records, refusal_up, restart_outs, tolds_again, Branch, at_place}
-use Words.{branch_of, is_own, is_serial_kind, activate_own, bind_own, confirm_own, ends_own, invoke_own, note_own, told_own}
-use Words.{vote_own, Post, Seen}
+use Words.{branch_of, is_own, activate_own, bind_own, confirm_own, ends_own, invoke_own, note_own, told_own}
+use Words.{vote_own, Post, Seen, is_serial}
 use Words.ask
 use Words.body
 use Words.ending
@@ -661,7 +661,7 @@ parted_keep hd = record {
       let did = begin_action l how parent (parent_of parent t.coord) t.coord in
       let a = begins_in how parent t in
       let mine = all.coords k (record { number = k; disk = d; live = Some t }) t (stands_at begun k d (Some t) M) refl in
-      walk (a ∷ begun) e k (with_coord t did.part) did.outs d (given l (record { node = k; serial = is_serial_kind how }) M) (tt, tt)
+      walk (a ∷ begun) e k (with_coord t did.part) did.outs d (given l (record { node = k; serial = is_serial how }) M) (tt, tt)
       (let o = around_begun begun a k M (around begun k d (Some t) M good all) in
       record { senders = o.senders; tops = o.tops; one = o.one; coords = o.coords; homes = o.homes })
       (λ p h x there at part own. part_begins l how parent t.coord (actor h.path) p.to x (mine.0 p h x there at part own))

@@ -7,10 +7,10 @@ use Words.{uids_of, top_of, top_path, Grants, Marks, checked, confirm, confirm_e
 use Words.{entry_state, has_all, lock_all, lock_in, named_back, pending_of, prepared_by, recovered_naming, rows_back, same_nodes}
 use Words.{stores_after, wanted, grant_lines, is_granted, Did, Do, Effect, Look, Pair, Prep, Prepare, Ready, Already, Old, InDoubt, Say}
 use Words.{Served, did_nothing, either, held_at, is_prepared, prepare_answer, reply, void, Counted, Live, Made, Named, bind_call, bind_made}
-use Words.{bind_named, conflict_on, end_named, entry_row, hello_named, in_use, include_asked, is_binding, is_lowered, live_above}
+use Words.{bind_named, conflict_on, end_named, entry_row, hello_named, in_use, include_asked, is_lowered, live_above}
 use Words.{live_asked, lock_lines, locked, lower_lines, lowered, made_above, make_asked, next_server, note_made, note_named, note_other}
 use Words.{Naming, bind, end_entries, end_lines, end_orphans, has_locks, hello, is_over, listed_entry, note, on_counted, on_named, orphans}
-use Words.{own_entries, taken_end, told_new, at_number, at_uid, binding_eq, drop_uid, state_entry}
+use Words.{own_entries, taken_end, told_new, at_number, at_uid, binding_eq, drop_uid, state_entry, is_binding}
 use Words.body
 use Words.confirmed
 use Words.ending

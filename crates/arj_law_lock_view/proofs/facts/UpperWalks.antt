@@ -11,8 +11,8 @@ use Words.{coord_heard, end_states, handle, handle_answer, handle_ask, handle_en
 use Words.{load_held, naming_hello, naming_told, prepare_by, prepared_actions, query_about, sends_answer, serve, store_told, with_coord}
 use Words.{with_naming, with_server, at_uid, put_uid, uid_set, without_number, AreAll, is_coord_effect, is_server_effect, Node}
 use Words.{acts as acts_of, hello_to, naming_at, naming_back, numbers_to, parent_of, parts_in}
-use Words.{put_states, recovered_records, restart_outs, tolds_again, next_uid, path_below, is_serial_kind, acked_own, acts_own}
-use Words.{again_own, heard_own, query_own, tolds_again_own, activate_own, ends_own, invoke_own, vote_own, Seen}
+use Words.{put_states, recovered_records, restart_outs, tolds_again, next_uid, path_below, acked_own, acts_own}
+use Words.{again_own, heard_own, query_own, tolds_again_own, activate_own, ends_own, invoke_own, vote_own, Seen, is_serial}
 use Words.ask
 use Words.body
 use Words.ending
@@ -450,7 +450,7 @@ module _ (N : List Action → Naming → Type 0) (held : IsHeld N) where
         let w = own acts g.begun k d (Some t) M p in
         let o = others acts g.begun k d (Some t) M p in
         let later = begins_so e k d t l how parent M acts good in
-        walk (a ∷ acts) later e k (with_coord t did.part) did.outs d (given l (record { node = k; serial = is_serial_kind how }) M) (tt, tt)
+        walk (a ∷ acts) later e k (with_coord t did.part) did.outs d (given l (record { node = k; serial = is_serial how }) M) (tt, tt)
         (prepared_more a acts d.names w.names) (λ j n apart is. node_more a acts later n (o j n apart is))
         (λ q at_q. held.more a acts later q (w.live t q refl at_q));
     tick = λ acts e k d t M more g p. let w = own acts g.begun k d (Some t) M p in let r = again_all t.coord.doings t.coord in
@@ -470,7 +470,7 @@ module _ (N : List Action → Naming → Type 0) (held : IsHeld N) where
           → (let did = begin_action l how parent (parent_of parent t.coord) t.coord in
           let a : Action = record { path = path_below how (parent_of parent t.coord) (next_uid t.coord.tree); kind = how } in
           (acts : List Action) → Walks (IsGoodOf (a ∷ acts)) e k did.outs (Up (IsGoodOf (a ∷ acts)) k (with_coord t did.part)) d
-          (given l (record { node = k; serial = is_serial_kind how }) M) → AreBegun (a ∷ acts))
+          (given l (record { node = k; serial = is_serial how }) M) → AreBegun (a ∷ acts))
       begins_so e k d t l how parent M acts walked = walked.begun
 
   -- ---- all runs

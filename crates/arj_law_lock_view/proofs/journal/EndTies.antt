@@ -1,11 +1,11 @@
 -- A coordinator's lines about ends and commits.
 use Rattle.arj_law_parts.proofs.Words
 use Words.{◌≡◌, ◌≢◌, ◌≤◌, ℕ, ◌+◌, List, [], ◌∷◌, ◌++◌, length, true, false, Some, refl, sym, ◌∙◌, ap, subst, ⊎_elim, arith, is_some, Body}
-use Words.{Line, Uid, Aborts, Asks, CommitStep, Decides, Stays, Coord, Doing, doing_of, Branch, branch_of, numbered}
+use Words.{Line, Uid, Aborts, Asks, CommitStep, Decides, Stays, Coord, Doing, doing_of, Branch, branch_of, numbered, is_serial}
 use Words.cause
 use Words.kind
 use Rattle.arj_law_lock_view.proofs.Terms
-use Terms.{is_serial, Act, at_act, is_action, root, same, State, act_here, act_other, by_cases, differ, same_is, Paths, IsFreeToEnd}
+use Terms.{Act, at_act, is_action, root, same, State, act_here, act_other, by_cases, differ, same_is, Paths, IsFreeToEnd}
 use Terms.{IsPlaced, stage_of, Acts, Codes, ChangesOne, SameEnd, aborted, called_at, committed_at, moved_by, now_by, OnlyEnded, SeesWhole}
 use Terms.{IsLabelled, IsOnPage, Page, IsTiedToLines, CallsStay, EndsStay}
 use Terms.body

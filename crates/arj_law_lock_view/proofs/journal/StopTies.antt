@@ -1,9 +1,9 @@
 -- A node halts, a restart finds records, an action begins: the tie of the journal is kept.
 use Rattle.arj_law_parts.proofs.Words
 use Words.{◌≡◌, ◌≢◌, ◌≤◌, ◌⊎◌, ◌∙◌, ◌==◌, ℕ, List, true, false, Option, Some, refl, ap, inl, inr, ⊎_elim, arith, eqb-true, Contains}
-use Words.{and_parts, Line, Uid, Branch, Tree, branch_of}
+use Words.{and_parts, Line, Uid, Branch, Tree, branch_of, is_serial}
 use Rattle.arj_law_lock_view.proofs.Terms
-use Terms.{acts, is_serial, is_action, State, found_by, Acts, SameEnd, HasStopped, OnlyStopped, AreNamed, CallsStay, EndsStay, StopsSo}
+use Terms.{acts, is_action, State, found_by, Acts, SameEnd, HasStopped, OnlyStopped, AreNamed, CallsStay, EndsStay, StopsSo}
 use Terms.{AreHereOrGone}
 use Terms.body
 use Terms.model

@@ -3,9 +3,9 @@ use Rattle.arj_law_parts.proofs.Words
 use Words.{◌≡◌, ◌≢◌, ◌≤◌, ◌⊎◌, ◌==◌, ℕ, ◌+◌, List, [], ◌∷◌, ◌++◌, length, reverse, filter, Bool, true, false, cond, Option, Some, None}
 use Words.{refl, sym, ◌∙◌, ap, subst, inl, inr, ⊎_elim, arith, eqb-true, eq-eqb, Contains, bytes_eq, reverse-append, filter-append}
 use Words.{uid_cases, uid_same, last_uid, uid_eq, Uid, answer_of, value_after, writes, Value, Op, Body, Cause, Kind, Line, In, in_from}
-use Words.{in_to, name, answer_text, Label}
+use Words.{in_to, name, answer_text, Label, is_serial}
 use Rattle.arj_law_lock_view.proofs.Terms
-use Terms.{option_map, Begun, Halt, Placed, act_in, acts, begun_of, committed_of, ended_of, halt_of, is_serial, numbered, read, recovered}
+use Terms.{option_map, Begun, Halt, Placed, act_in, acts, begun_of, committed_of, ended_of, halt_of, numbered, read, recovered}
 use Terms.{recovered_of, Values, called_of, named_in, is_action, same, top, State, by_cases, differ, same_is, Acts, Codes, ChangesOne}
 use Terms.{SameEnd, aborted, called_at, committed_at, AreCallsOf, AreIncludesOf, EndsSo, IsTiedToLines, included_on, said_on, AreNamed}
 use Terms.{CallsStay, EndsStay, GoesBeside, StopsSo, is_plain}

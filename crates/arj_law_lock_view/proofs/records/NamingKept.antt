@@ -5,8 +5,8 @@ use Words.{eqb-true, Option, Some, None, ⊤, Binding, Head, Header, Kind, Label
 use Words.{back_lines, Before, Disk, Do, Effect, Intent, Look, PutInc, Say, Stop, Work, stopped, acked, answer_query, tell, tell_all}
 use Words.{tick_outs, Named, Naming, Handled, Parts, Took, handle, holders, prepared_actions, query_about, with_coord, binding_number}
 use Words.{uid_set, without_number, Input, Node, acts as acts_of, hello_to, naming_at, naming_back, numbers_to, parent_of, parts_in}
-use Words.{recovered_records, refusal_up, restart_outs, tolds_again, Labelled, is_serial_kind, acked_own, acts_own, again_own}
-use Words.{heard_own, query_own, tolds_again_own, Post, Seen}
+use Words.{recovered_records, refusal_up, restart_outs, tolds_again, Labelled, acked_own, acts_own, again_own}
+use Words.{heard_own, query_own, tolds_again_own, Post, Seen, is_serial}
 use Words.ask
 use Words.body
 use Words.ending
@@ -382,7 +382,7 @@ naming_given hd = record {
   act = λ e k d t i M is free g p. (let r = acts_of i d.intents t.coord in left_walk e k d t M g.0.0 g.0.1 g.1.0 g.1.1 p
       (with_coord t r.part) r.outs (act_left e k d t M g.0.0 g.0.1 g.1.0 g.1.1 p hd i is free));
   begin = λ e k d t l how parent M new may free g p.
-      begin_walk e k d t M g.0.0 g.0.1 g.1.0 g.1.1 p l how parent (record { node = k; serial = is_serial_kind how });
+      begin_walk e k d t M g.0.0 g.0.1 g.1.0 g.1.1 p l how parent (record { node = k; serial = is_serial how });
   tick = λ e k d t M g p. left_walk e k d t M g.0.0 g.0.1 g.1.0 g.1.1 p (with_coord t (again_all t.coord.doings t.coord).part)
       (tick_outs (record { number = k; disk = d; live = Some t }) t) (tick_left e k d t M g.0.0 g.0.1 g.1.0 g.1.1 p);
   restart = λ e k d M g p. restart_walk hd e k d M p;

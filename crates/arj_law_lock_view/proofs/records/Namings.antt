@@ -3,9 +3,9 @@ use Rattle.arj_law_parts.proofs.Words
 use Words.{◌≡◌, ◌≢◌, ◌≤◌, ◌+◌, ◌*◌, ◌==◌, ◌||◌, ◌&&◌, ℕ, Bool, true, false, cond, not, List, Option, Some, None, refl, sym, ◌∙◌, ap, subst}
 use Words.{inl, inr, ⊎_elim, arith, nat_lt, eqb-true, IfSome, is_some, and_parts, Uid, Binding, BoundReply, Entry, Path, RecordedReply, Row}
 use Words.{entry, is_on, lower_row, top_of, Pair, Served, reply, void, Counted, Live, Made, Named, bind_call, bind_made, bind_named}
-use Words.{conflict_on, in_use, include_asked, is_binding, is_lowered, live_above, live_asked, lower_lines, lowered, made_above, make_asked}
+use Words.{conflict_on, in_use, include_asked, is_lowered, live_above, live_asked, lower_lines, lowered, made_above, make_asked}
 use Words.{next_server, note_made, note_named, note_other, Naming, is_over, listed_entry, on_counted, on_named, at_number, at_uid}
-use Words.{binding_eq, binding_less, binding_number, has, put_number, put_other, put_same, one_or_two}
+use Words.{binding_eq, binding_less, binding_number, has, put_number, put_other, put_same, one_or_two, is_binding}
 use Words.mode
 use Words.recorded
 use Words.what

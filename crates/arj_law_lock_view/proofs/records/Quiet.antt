@@ -4,10 +4,10 @@ use Words.{◌≡◌, ◌==◌, ◌||◌, ◌+◌, ◌≤◌, refl, ℕ, Bool, t
 use Words.{AllByRecursion, flat_map, list_all, and_parts, Binding, BoundReply, End, Entry, Message, Mode, Path, RecordedReply, Row, Uid}
 use Words.{entry, is_on, last_uid, answers, top_of, Coord, grant_lines, is_granted, Abort, Commit, Did, Do, Effect, Look, Pair, Prepare}
 use Words.{PutInc, PutIntent, RemoveIntent, Say, Send, Served, did_nothing, is_prepared, reply, void, Counted, Live, Made, Named, bind_call}
-use Words.{bind_made, bind_named, conflict_on, include_asked, is_binding, entry_row, in_use, is_lowered, live_above, live_asked, lock_lines}
+use Words.{bind_made, bind_named, conflict_on, include_asked, entry_row, in_use, is_lowered, live_above, live_asked, lock_lines}
 use Words.{lower_lines, lowered, made_above, make_asked, note_made, next_server, note_named, note_other, Naming, end_entries, end_lines}
 use Words.{end_orphans, has_locks, is_over, listed_entry, on_counted, on_named, orphans, own_entries, taken_end, told_new, query_about}
-use Words.{at_number, at_uid, binding_eq, AreAll, is_coord_effect, is_server_effect}
+use Words.{at_number, at_uid, binding_eq, AreAll, is_coord_effect, is_server_effect, is_binding}
 use Words.body
 use Words.ending
 use Words.mode

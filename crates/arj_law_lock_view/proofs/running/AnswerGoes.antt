@@ -8,7 +8,7 @@ use Words.{next_node, Machine, ask_of, left_of, plan_of, Calling, Committing, Co
 use Words.{binding_number, has, Branch, is_own, Post}
 use Words.commit
 use Rattle.arj_law_lock_view.proofs.Terms
-use Terms.{AreBegun, action_of, paths_of, IsAsking, IsBusy, IsVoting, ask_ends, IsNumbered, begun_tree, path_found, doing_by, good_heard}
+use Terms.{AreBegun, action_of, paths_of, IsAsking, IsBusy, IsVoting, IsNumbered, begun_tree, path_found, doing_by, good_heard, ends_in}
 use Terms.{well_heard, IsOfStep, AnswersAt, AnswersWaiting, answers_fit, IsAskedBy, KnowsEnds, same_number as number_same, stay, IsWaiting}
 use Terms.{ShowsReply, ShowsNamingReply, ShowsToCommit, head_of, View, KnowsAnswer, Case, HoldsNamingIn, IsSeenIn, Spot, view_in, world_at}
 use Terms.{IsWorking, KnowsAsks, StepGoes, coord_at, records_at, Fixed, IsAnswerSeen}
@@ -89,15 +89,15 @@ module _ (c : Case) (s : Spot) (e from : ℕ) (a : Asked) (r : Reply) (is_seen :
       of_step : IsOfStep w from shown.head shown.ask
       of_step = was_asked.step w (ap (λ (z : Doing). z.now) same_doing ∙ is) (same_number number)
 
-      ask_is : shown.ask ≡ next_ask (ask_ends shown.ask) w
+      ask_is : shown.ask ≡ next_ask (ends_in shown.ask) w
       ask_is = step_back shown.ask w of_step.same
 
-      server : ShowsReply V (head_of w) (next_ask (ask_ends shown.ask) w) c.state r
-      server = subst (λ (h : Head). ShowsReply V h (next_ask (ask_ends shown.ask) w) c.state r) of_step.head
+      server : ShowsReply V (head_of w) (next_ask (ends_in shown.ask) w) c.state r
+      server = subst (λ (h : Head). ShowsReply V h (next_ask (ends_in shown.ask) w) c.state r) of_step.head
           (subst (λ (q : Ask). ShowsReply V shown.head q c.state r) ask_is shown.server)
 
-      naming : ShowsNamingReply V (head_of w) (next_ask (ask_ends shown.ask) w) c.state r
-      naming = subst (λ (h : Head). ShowsNamingReply V h (next_ask (ask_ends shown.ask) w) c.state r) of_step.head
+      naming : ShowsNamingReply V (head_of w) (next_ask (ends_in shown.ask) w) c.state r
+      naming = subst (λ (h : Head). ShowsNamingReply V h (next_ask (ends_in shown.ask) w) c.state r) of_step.head
           (subst (λ (q : Ask). ShowsNamingReply V shown.head q c.state r) ask_is shown.naming)
 
       asking : IsAsking C.tree a.act w.path
@@ -133,18 +133,18 @@ module _ (c : Case) (s : Spot) (e from : ℕ) (a : Asked) (r : Reply) (is_seen :
           by : w.x ≡ c.x → (g : Goal) → w.goal ≡ g → StepGoes c s e (heard_call w r C)
           by about (Run o) goal = call_answers_go c s e a.act b d w o r is_seen work
               (record { calling = is; about = about; goal = goal; path = waiting.path; last = waiting.last })
-              (call_shown V w c.state about (ask_ends shown.ask) o w.at r (kind_at (Run o) (ask_ends shown.ask) w.at
+              (call_shown V w c.state about (ends_in shown.ask) o w.at r (kind_at (Run o) (ends_in shown.ask) w.at
               (subst (λ (g : Goal). (reply_kind r == ask_kind (ask_at w.x g [] w.at)) ≡ true) goal kinds))
-              (subst (λ (g : Goal). ShowsReply V (head_of w) (ask_at w.x g (ask_ends shown.ask) w.at) c.state r) goal server)
-              (subst (λ (g : Goal). ShowsNamingReply V (head_of w) (ask_at w.x g (ask_ends shown.ask) w.at) c.state r) goal naming)
+              (subst (λ (g : Goal). ShowsReply V (head_of w) (ask_at w.x g (ends_in shown.ask) w.at) c.state r) goal server)
+              (subst (λ (g : Goal). ShowsNamingReply V (head_of w) (ask_at w.x g (ends_in shown.ask) w.at) c.state r) goal naming)
               (fits_goal (Run o) goal)
               (λ k st at. (let q = knows.asks in q.states a.act d w k st found is at) ∙ about)
               (λ k n rest st at reply. knows.last d w k n rest o st found is about goal at reply waits))
               after.coord after.asks
           by about (IncludeStore store) goal = include_answers_go c s e store a.act b d w r is_seen work waiting about goal
-              (include_shown V w c.state about (ask_ends shown.ask) store w.at r (kind_at (IncludeStore store) (ask_ends shown.ask) w.at
+              (include_shown V w c.state about (ends_in shown.ask) store w.at r (kind_at (IncludeStore store) (ends_in shown.ask) w.at
               (subst (λ (g : Goal). (reply_kind r == ask_kind (ask_at w.x g [] w.at)) ≡ true) goal kinds))
-              (subst (λ (g : Goal). ShowsNamingReply V (head_of w) (ask_at w.x g (ask_ends shown.ask) w.at) c.state r) goal naming)
+              (subst (λ (g : Goal). ShowsNamingReply V (head_of w) (ask_at w.x g (ends_in shown.ask) w.at) c.state r) goal naming)
               (fits_goal (IncludeStore store) goal))
               after.coord after.asks
 

@@ -7,7 +7,7 @@ use Words.{Idle, Now, doing_of, is_call, binding_number, Branch, branch_of}
 use Words.ask
 use Words.kind
 use Rattle.arj_law_lock_view.proofs.Terms
-use Terms.{State, Action, action_of, IsBusy, IsGoodCoord, IsVoting, ask_ends, IsOfStep, bare, IsSentBy, ShowsAsk, SeesWhole, IsTelling}
+use Terms.{State, Action, action_of, IsBusy, IsGoodCoord, IsVoting, IsOfStep, bare, IsSentBy, ShowsAsk, SeesWhole, IsTelling, ends_in}
 use Terms.{is_early, HaveEnded, post_to, AreOneTree, HasEnded, View, Fixed, family_of, view_of, IsRequestSeen, SaysToNaming}
 use Terms.machine as machine_state
 use Rattle.arj_law_lock_view.proofs.facts.Confirms.{top_own}
@@ -30,7 +30,7 @@ no_vote i ties ends x g (AtNote k j) is = cc is
 no_vote i ties ends x g (AtInvoke k j) is = cc is
 
 -- a request is that of its step, with the ends that it brings
-pub step_back : (a : Ask) (s : Steps) → bare a ≡ next_ask [] s → a ≡ next_ask (ask_ends a) s
+pub step_back : (a : Ask) (s : Steps) → bare a ≡ next_ask [] s → a ≡ next_ask (ends_in a) s
 unfolding with_ends
 step_back (ask.Invoke y b i ends o) s is = by s.at is
   where
@@ -66,18 +66,18 @@ module _ (f : Fixed) (x : ℕ) (begun : List Action) (k : ℕ) (T : State) (e : 
 
   module _ (to : ℕ) (h : Head) (a : Ask) (d : Doing) (s : Steps) (found : doing_of (actor h.path) e ≡ Some d) (calling : d.now ≡ Calling s)
       (of : IsOfStep s to h a) where
-    its : a ≡ next_ask (ask_ends a) s
+    its : a ≡ next_ask (ends_in a) s
     its = step_back a s of.same
 
     -- of a call on the object
     step_shown : (o : Op) → s.x ≡ x → s.goal ≡ Run o → ShowsAsk f.act f.code (post_to (at_node to) h) T a
     step_shown o about goal =
-        let shows = requests_are_shown f.act f.code x e (actor h.path) d s o (ask_ends a) T sees.coord found calling about goal in
+        let shows = requests_are_shown f.act f.code x e (actor h.path) d s o (ends_in a) T sees.coord found calling about goal in
         subst (λ (b : Ask). ShowsAsk f.act f.code (post_to (at_node to) h) T b) (sym its)
-        (subst (λ (n : ℕ). ShowsAsk f.act f.code (record { x = x; path = h.path; number = h.req; node = n }) T (next_ask (ask_ends a) s))
+        (subst (λ (n : ℕ). ShowsAsk f.act f.code (record { x = x; path = h.path; number = h.req; node = n }) T (next_ask (ends_in a) s))
         (sym of.node)
         (subst (λ (g : Head). ShowsAsk f.act f.code (record { x = x; path = g.path; number = g.req; node = next_node s }) T
-        (next_ask (ask_ends a) s)) (sym of.head) shows))
+        (next_ask (ends_in a) s)) (sym of.head) shows))
 
     late : s.x ≡ x → is_early s.at ≡ false → ShowsAsk f.act f.code (post_to (at_node to) h) T a
     late about is_late = by s.goal refl (let c = sees.coord in c.plain (actor h.path) d s found calling about is_late)
@@ -202,11 +202,11 @@ module _ (f : Fixed) (x : ℕ) (begun : List Action) (k : ℕ) (T : State) (e : 
   -- ---- any request
 
   pub request_seen : (to : ℕ) (h : Head) (a : Ask) → IsSentBy e to h a →
-      ((u : Uid) (g : End) → Contains {X = Uid × End} (ask_ends a) (u, g) → IsDecided u g e.tree) → ((u : Uid) (g : End) (b : Branch) →
-      Contains {X = Uid × End} (ask_ends a) (u, g) → branch_of u e.tree ≡ Some b → b.kind ≢ kind.Serial) → IsRequestSeen (at_node to) h a T
+      ((u : Uid) (g : End) → Contains {X = Uid × End} (ends_in a) (u, g) → IsDecided u g e.tree) → ((u : Uid) (g : End) (b : Branch) →
+      Contains {X = Uid × End} (ends_in a) (u, g) → branch_of u e.tree ≡ Some b → b.kind ≢ kind.Serial) → IsRequestSeen (at_node to) h a T
   request_seen to h a sent decided unserial = by sent.doing.now refl
     where
-      ended : HaveEnded (at_node to) (ask_ends a) T
+      ended : HaveEnded (at_node to) (ends_in a) T
       ended u g there = decided_ended to u g (decided u g there) (λ b found. unserial u g b there found)
 
       by : (n : Now) → sent.doing.now ≡ n → IsRequestSeen (at_node to) h a T

@@ -13,7 +13,7 @@ use Words.ending
 use Words.kind
 use Words.commit
 use Rattle.arj_law_lock_view.proofs.Terms
-use Terms.{Act, is_top, root, State, IsBusy, IsVoting, ask_ends, IsStepOf, answer_step, giveup_step, on_tree, KnowsEnds, IsBacked, Acts}
+use Terms.{Act, is_top, root, State, IsBusy, IsVoting, IsStepOf, answer_step, giveup_step, on_tree, KnowsEnds, IsBacked, Acts, ends_in}
 use Terms.{IsReached, ChangesOne, called_at, moved_by, now_by, Goes, OnlyEnded, SeesWhole, plan_now, OnlySent, SeesNext, HaveEnded}
 use Terms.{IsDecided, HasEnded, IsTiedToLines, ArePlain, Case, HoldsNamingIn, IsSeenIn, Spot, view_in, world_at, HasStepped, IsAtCommit}
 use Terms.{IsSendShown, KnowsAsks, KnowsCoord, StepGoes, coord_at, records_at, family_of, IsAskedSeen, SeesUp, AreTied, BeginNone}
@@ -85,7 +85,7 @@ module _ (c : Case) (s : Spot) (is_seen : IsSeenIn c (world_at s)) (u : Uid) (C 
   works_there : doing_of (actor (let p = plan_of m in p.path)) C ≡ Some d
   works_there = ap (λ (v : Uid). doing_of v C) its ∙ works
 
-  ended_by : (n : ℕ) (k : Machine) → m ≡ k → HaveEnded (view_in c n) (ask_ends (ask_of k n)) T
+  ended_by : (n : ℕ) (k : Machine) → m ≡ k → HaveEnded (view_in c n) (ends_in (ask_of k n)) T
   ended_by n (Voting p left) is w e there = listed_have_ended (view_in c s.node) C p.ends T (telling c s is_seen C knows T coord)
       (subst (λ (k : Machine). AreDecided (let q = plan_of k in q.ends) C.tree) is (let k = knows.sure in k.plans u d m works at))
       (subst (λ (k : Machine). AreUnserial C (let q = plan_of k in q.ends)) is (brought_unserial (family_of (let f = c.fixed in f) c.begun)

@@ -8,13 +8,14 @@ use Words.{Row, Uid, asks, entry, is_on, last_uid, object, uid_eq, Reply, actor,
 use Words.{Grants, Marks, checked, confirm, confirm_entries, confirm_new, confirms, entries_after, has_all, lock_all, lock_in, prepared_by}
 use Words.{wanted, is_granted, Abort, Already, Commit, Did, Disk, Do, Effect, InDoubt, Look, Old, Pair, Prep, Prepare, PutInc, PutIntent}
 use Words.{Ready, RemoveIntent, Say, Send, Served, did_nothing, held_at, holder_of, is_prepared, prepare_answer, reply, void, Counted, Live}
-use Words.{Made, Named, bind_call, bind_made, bind_named, conflict_on, in_use, include_asked, is_binding, is_lowered, live_above}
+use Words.{Made, Named, bind_call, bind_made, bind_named, conflict_on, in_use, include_asked, is_lowered, live_above}
 use Words.{live_asked, lock_lines, lower_lines, lowered, made_above, make_asked, next_server, note_made, note_named, note_other, Naming}
 use Words.{end_entries, end_lines, end_orphans, is_over, listed_entry, on_counted, on_named, orphans, own_entries, told_new, Handled, Parts}
 use Words.{Took, Void, ack_told, end_states, handle, handle_answer, handle_ask, handle_ends, handle_hello, handle_other, handle_told}
 use Words.{holders, if_naming, is_earlier, load_by, load_held, naming_hello, naming_told, prepare_by, query_about, sends_answer, serve}
 use Words.{served, store_told, with_naming, with_server, at_number, at_uid, binding_eq, AreAll, is_naming_effect, is_server_effect, Entry}
 use Words.{response_reads_back, same_number, activate_own, all_both, all_flat, all_if, confirm_own, ends_own, invoke_own, vote_own}
+use Words.{is_binding}
 use Words.list
 use Words.ask
 use Words.body

@@ -5,7 +5,7 @@ use Words.{and_parts, in_from, in_to, Asked, Header, Kind, Label, Message, Path,
 use Words.{again_all, begin_action, heard, Coord, Disk, Do, Effect, Say, Send, Served, worked, acked, answer_query, tick_outs, Parts, Took}
 use Words.{answer_is_meant, asked_is_meant, by_reply, coord_heard, handle, is_meant, with_coord, Input, acts, begin_reasons, begin_refusal}
 use Words.{refused_by, parent_of, parts_in, refusal_up, restart_outs, Branch, branch_of, is_open, is_open_branch, next_uid, path_below}
-use Words.{is_serial_kind, Post, Seen}
+use Words.{Post, Seen, is_serial}
 use Words.message
 use Words.input
 use Rattle.arj_law_lock_view.proofs.Terms
@@ -497,18 +497,18 @@ module _ (hd : Header) (Apt : Marks → Fixed → Type 0) (x : ℕ) (G : Seen �
       (z : Kept (up k d t M)) → Knows (up k d t M) z
       → let D = begin_action l how parent (parent_of parent t.coord) t.coord in
       Walks (FromBegun (begins_in how parent t) (up k d t M) z) e k D.outs (Up (FromBegun (begins_in how parent t) (up k d t M) z) k
-      (with_coord t D.part)) d (given l (record { node = k; serial = is_serial_kind how }) M)
+      (with_coord t D.part)) d (given l (record { node = k; serial = is_serial how }) M)
   kept_begin e k d t l how parent M new may none more z known =
       let D = begin_action l how parent (parent_of parent t.coord) t.coord in
       let s : Spot = record { node = k; disk = d; parts = t; seen = M } in
-      let N = given l (record { node = k; serial = is_serial_kind how }) M in
+      let N = given l (record { node = k; serial = is_serial how }) M in
       let a : Action = begins_in how parent t in
       kept_walk Apt V x R (a ∷ z.0) e k D.outs (with_coord t D.part) d N (λ f w. let g = z.3 f (as_older
       (Apt M.start.marks) f x a z.0 M.sent w) in
       g.0) (keeps.begin z.0 e k d t l how parent M new may none more z.1.0 z.2)
       (begin_pathed hd z.0 e k d t l how parent M new may none (pathed_in (up k d t M) z))
       (λ f agrees. let older = as_older (Apt M.start.marks) f x a z.0 M.sent agrees in (
-        begins_go (case_of f x z.0 (let g = z.3 f older in g.0)) s e l (record { node = k; serial = is_serial_kind how }) how parent
+        begins_go (case_of f x z.0 (let g = z.3 f older in g.0)) s e l (record { node = k; serial = is_serial how }) how parent
             (parent_of parent t.coord) (seen_in f (world_at s) z older) (let w = agrees.0.whole in
             w.begun.0) (may_stand f e s l how parent z older new may none agrees)
             ((gives M.start.marks f agrees.1).begin z.0 (let g = z.3 f older in g.0) s ((more, z.2), known f older)

@@ -3,8 +3,8 @@ use Rattle.arj_law_parts.proofs.Words
 use Words.{◌≡◌, ◌≢◌, ◌∙◌, ◌&&◌, ◌||◌, ℕ, List, [], ◌∷◌, length, not, Bool, true, false, cond, Option, Some, None, refl, sym, ap, subst, inl}
 use Words.{inr, ⊎_elim, Contains, is_some, and_parts, append-nil, in_from, in_to, End, Kind, Uid, first_uid, actor, Coord, doing_of}
 use Words.{is_constituent_branch, is_kept_top, Intent, answer_decided, answer_query, answer_recorded, is_deferred, is_kept_commit}
-use Words.{root_or_self, tell, took_part, at_uid, has, AreAll, Branch, branch_of, ended_so, has_end, is_committed, is_constituent, is_open}
-use Words.{is_open_branch, Post}
+use Words.{root_or_self, tell, took_part, at_uid, has, AreAll, Branch, branch_of, ended_so, has_end, is_committed, is_open}
+use Words.{is_open_branch, Post, is_constituent}
 use Words.ending
 use Words.kind
 use Rattle.arj_law_lock_view.proofs.Terms

@@ -10,7 +10,7 @@ use Words.list
 use Words.ending
 use Words.kind
 use Rattle.arj_law_lock_view.proofs.Terms
-use Terms.{stay, State, Action, GoesOn, IsGoodCoord, ask_ends, well_again, IsUp, Up, Walks, again_so, again_work, AllSo, IsSentBy, AreInner}
+use Terms.{stay, State, Action, GoesOn, IsGoodCoord, well_again, IsUp, Up, Walks, again_so, again_work, AllSo, IsSentBy, AreInner, ends_in}
 use Terms.{KnowsEnds, SeesWhole, IsReached, AreOneTree, HasEnded, View, Case, IsSeenIn, Spot, view_in, world_at, KnowsAsks, coord_at, Fixed}
 use Terms.{family_of, view_of, IsAskedSeen, IsPostSeen, AreHome, ArePast, SeesUp, IsSeenSo}
 use Rattle.arj_law_lock_view.proofs.facts.Given.{brought_unserial, listed_unserial}
@@ -70,13 +70,13 @@ module _ (f : Fixed) (x : ℕ) (begun : List Action) (k : ℕ) (T : State) (e : 
 
   -- what it brings is of no serializing action
   brings_unserial : (to : ℕ) (h : Head) (a : Ask) → IsSentBy e to h a → (u : Uid) (g : End) (b : Branch) →
-      Contains {X = Uid × End} (ask_ends a) (u, g) → branch_of u e.tree ≡ Some b → b.kind ≢ kind.Serial
+      Contains {X = Uid × End} (ends_in a) (u, g) → branch_of u e.tree ≡ Some b → b.kind ≢ kind.Serial
   brings_unserial to h a sent u g b there found = by sent.doing.now refl
     where
-      none : ask_ends a ≡ [] → b.kind ≢ kind.Serial
+      none : ends_in a ≡ [] → b.kind ≢ kind.Serial
       none empty = absurd (in_from {X = Uid × End} (u, g) [] (subst (λ es. Contains {X = Uid × End} es (u, g)) empty there))
 
-      commit_ends : (m : Machine) → (ask_ends (ask_of m to) ≡ []) ⊎ (ask_ends (ask_of m to) ≡ (plan_of m).ends)
+      commit_ends : (m : Machine) → (ends_in (ask_of m to) ≡ []) ⊎ (ends_in (ask_of m to) ≡ (plan_of m).ends)
       commit_ends (Voting p left) = inr refl
       commit_ends (Preparing p left) = inl refl
       commit_ends (Confirming p) = inl refl
@@ -85,7 +85,7 @@ module _ (f : Fixed) (x : ℕ) (begun : List Action) (k : ℕ) (T : State) (e : 
       by Idle is = absurd (sent.busy is)
       by (Calling s) is = ⊎_elim none (λ all. listed_unserial (family_of f begun) e (root_of s.path) placed ends u g b
           (subst (λ es. Contains {X = Uid × End} es (u, g)) all there) found) (sent.brings s is)
-      by (Committing m) is = let same = ap ask_ends (let o = sent.commit m is in o.same) in
+      by (Committing m) is = let same = ap ends_in (let o = sent.commit m is in o.same) in
           ⊎_elim (λ empty. none (same ∙ empty)) (λ all. brought_unserial (family_of f begun) e (actor h.path) sent.doing m placed ends
           sent.found is u g b (subst (λ es. Contains {X = Uid × End} es (u, g)) (same ∙ all) there) found) (commit_ends m)
 

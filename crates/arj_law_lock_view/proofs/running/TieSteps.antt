@@ -2,12 +2,12 @@
 use Rattle.arj_law_parts.proofs.Words
 use Words.{◌≡◌, ◌≢◌, ◌≤◌, ◌⊎◌, ◌∙◌, ◌+◌, ◌++◌, ℕ, List, [], ◌∷◌, length, true, false, Option, Some, refl, sym, ap, subst, inl, inr, ⊎_elim}
 use Words.{arith, Contains, list_all, and_parts, in_from, in_to, Body, Kind, Label, Line, Message, Uid, name, Tree, branch_of}
-use Words.{numbered, Seen}
+use Words.{numbered, Seen, is_serial}
 use Words.list
 use Words.body
 use Words.kind
 use Rattle.arj_law_lock_view.proofs.Terms
-use Terms.{StandsFor, Placed, acts, is_serial, recovered, Values, Action, act_of, AreQuiet, is_quiet_line, AreDistinct, Act, is_action}
+use Terms.{StandsFor, Placed, acts, recovered, Values, Action, act_of, AreQuiet, is_quiet_line, AreDistinct, Act, is_action}
 use Terms.{State}
 use Terms.{IsUntouched, ChangesOne, SameEnd, committed_at, OnlyNaming, OnlyServing, View, HasStopped, OnlyStopped, IsOnPage, Page, AreNamed}
 use Terms.{ArePlain, CallsStay, EndsStay, AreHereOrGone, Case, IsSeenIn, Spot, world_at, coord_at, Fixed, view_of, ArePast, IsPast}

@@ -21,7 +21,8 @@ use Terms.machine
 use Terms.event
 use Rattle.arj_law_lock.proofs.machine.Paths.{same_number}
 use Rattle.arj_law_lock_view.proofs.view
-use view.CallingSteps.{IsOnly, IsRebound, Looks, free_only, free_seen, holds, invoke_only, invoke_seen, kept_rebound, kept_same, named_here}
+use view.CallingSteps.{IsOnly, IsRebound, free_only, free_seen, holds, invoke_only, invoke_seen, kept_rebound, named_here}
+use view.Looked.{Looks, kept_same}
 use view.CallingSteps.{kept_seen, kept_state, keeps_run, named_rebound, named_state, names_run, none_free, over_seen, root_seen}
 use view.CallingSteps.{same_rebound, sends, silent_seen, stays_rebound, step_seen, tied_kept, top_unit, unit_same}
 use view.EndingSteps.{ends_behind, keeps_ends, keeps_one, same_end}

@@ -3,12 +3,12 @@ use Rattle.arj_law_parts.proofs.Words
 use Words.{◌≡◌, ◌≢◌, ◌≤◌, ◌+◌, ◌⊎◌, ◌∙◌, ◌==◌, ◌&&◌, ◌||◌, not, ℕ, List, [], ◌∷◌, Bool, true, false, cond, Option, Some, None, refl, sym}
 use Words.{ap, subst, inl, inr, ⊎_elim, arith, eqb-true, Contains, unwrap_or, list_any, and_parts, uid_cases, uid_is, uid_same, in_to}
 use Words.{Binding, End, Kind, Op, Uid, first_uid, is_on, last_uid, uid_eq, uids_of, writes, actor, top_of, asks_step, call, call_steps}
-use Words.{given_away, goes_on, is_invoke_ask, is_named, known_at_start, last_req, renewed, was_named, At, AtBind, AtInvoke, Known, Run}
+use Words.{given_away, goes_on, is_invoke_ask, known_at_start, last_req, renewed, was_named, At, AtBind, AtInvoke, Known, Run}
 use Words.{Steps, next_ask, next_node, start_at, Calling, Committing, Coord, Doing, Grant, Idle, Keeping, Now, Root, Said, Went}
 use Words.{change_doing, doing_of, is_constituent_branch, is_free, is_grant_of, is_kept_top, is_retained, keeping_of, no_keeping, no_root}
 use Words.{on_root, retained_in, retains, root_at, second_uid, set_doing, survives, with_keeping, with_went, at_number, binding_number}
-use Words.{Branch, Tree, behind, branch_of, ends_of, ended_so, has_end, is_committed, is_constituent, is_merged, is_spent, root_of}
-use Words.{uses_object, put_same}
+use Words.{Branch, Tree, behind, branch_of, ends_of, ended_so, has_end, is_committed, is_merged, is_spent, root_of}
+use Words.{uses_object, put_same, is_constituent, is_binding}
 use Words.list
 use Words.ending
 use Words.kind
@@ -21,7 +21,8 @@ use Terms.event
 use Rattle.arj_law_lock.proofs.machine.Paths.{top_of as its_top}
 use Rattle.arj_law_lock_view.proofs.view
 use view.{ActingSteps.unended_none}
-use view.CallingSteps.{Becomes, Looks, called_none, goes_becomes, goes_coord, invoke_only, invoke_seen, kept_seen, root_seen, sends}
+use view.CallingSteps.{Becomes, goes_becomes, goes_coord, invoke_only, invoke_seen, kept_seen, root_seen, sends}
+use view.Looked.{Looks, called_none}
 use view.CallingSteps.{silent_seen, stays_rebound, top_unit}
 use view.EndingSteps.{keeps_one, same_end}
 use view.FreeSteps.{free_only, free_spent}
@@ -400,28 +401,28 @@ module _ (act : Acts) (code : Codes) (paths : Paths) (x : ℕ) (c : Coord) (b : 
   named_may : (w : Known) → was_named (top_of b.path) x w.binding before ≡ true → MayUse S (act (top_of b.path)) (binding_number w.binding)
   named_may w h = by (found before.grants h)
     where
-      found : (gs : List Grant) → list_any (λ (g : Grant). is_grant_of (top_of b.path) x g && is_named w.binding g.named) gs ≡ true →
-          (g : Grant) × list.In g gs × ((is_grant_of (top_of b.path) x g && is_named w.binding g.named) ≡ true)
+      found : (gs : List Grant) → list_any (λ (g : Grant). is_grant_of (top_of b.path) x g && is_binding w.binding g.named) gs ≡ true →
+          (g : Grant) × list.In g gs × ((is_grant_of (top_of b.path) x g && is_binding w.binding g.named) ≡ true)
       found [] e = absurd (cc e)
-      found (g ∷ gs) e = here (is_grant_of (top_of b.path) x g && is_named w.binding g.named) refl e (found gs)
+      found (g ∷ gs) e = here (is_grant_of (top_of b.path) x g && is_binding w.binding g.named) refl e (found gs)
         where
-          here : (t : Bool) → (is_grant_of (top_of b.path) x g && is_named w.binding g.named) ≡ t →
-              (t || list_any (λ (h : Grant). is_grant_of (top_of b.path) x h && is_named w.binding h.named) gs) ≡ true →
-              (list_any (λ (h : Grant). is_grant_of (top_of b.path) x h && is_named w.binding h.named) gs ≡ true →
-              (h : Grant) × list.In h gs × ((is_grant_of (top_of b.path) x h && is_named w.binding h.named) ≡ true)) →
-              (h : Grant) × list.In h (g ∷ gs) × ((is_grant_of (top_of b.path) x h && is_named w.binding h.named) ≡ true)
+          here : (t : Bool) → (is_grant_of (top_of b.path) x g && is_binding w.binding g.named) ≡ t →
+              (t || list_any (λ (h : Grant). is_grant_of (top_of b.path) x h && is_binding w.binding h.named) gs) ≡ true →
+              (list_any (λ (h : Grant). is_grant_of (top_of b.path) x h && is_binding w.binding h.named) gs ≡ true →
+              (h : Grant) × list.In h gs × ((is_grant_of (top_of b.path) x h && is_binding w.binding h.named) ≡ true)) →
+              (h : Grant) × list.In h (g ∷ gs) × ((is_grant_of (top_of b.path) x h && is_binding w.binding h.named) ≡ true)
           here true it rest ih = (g, inl refl, it)
           here false it rest ih = let r = ih rest in (r.0, inr r.1, r.2)
 
-      named_is : (v : Option Binding) → is_named w.binding v ≡ true →
+      named_is : (v : Option Binding) → is_binding w.binding v ≡ true →
           (n : Binding) × (v ≡ Some n) × (binding_number w.binding ≡ binding_number n)
       named_is None e = absurd (cc e)
       named_is (Some n) e = (n, refl, eqb-true (binding_number w.binding) (binding_number n) e)
 
-      by : (g : Grant) × list.In g before.grants × ((is_grant_of (top_of b.path) x g && is_named w.binding g.named) ≡ true) →
+      by : (g : Grant) × list.In g before.grants × ((is_grant_of (top_of b.path) x g && is_binding w.binding g.named) ≡ true) →
           MayUse S (act (top_of b.path)) (binding_number w.binding)
       by (g, there, both) =
-          let parts = and_parts (is_grant_of (top_of b.path) x g) (is_named w.binding g.named) both in
+          let parts = and_parts (is_grant_of (top_of b.path) x g) (is_binding w.binding g.named) both in
           let mine = and_parts (uid_eq g.top (top_of b.path)) (g.x == x) parts.0 in
           let n = named_is g.named parts.1 in
           let told : HasHeard (act (top_of b.path)) (binding_number w.binding) S = subst

@@ -17,7 +17,7 @@ use Rattle.arj_law_lock_view.proofs.Terms
 use Terms.{Root as Unit_of, root, Run as MachineRun, stay, State, Paths, doing_by, uses_same, found_by, place_in, Acts, IsAtWork, IsReached}
 use Terms.{OnlyCalled, WritesNone, Codes, Goes, IsLoading, SeesWhole, SeesCoord}
 use Rattle.arj_law_lock_view.proofs.view
-use view.{AskSteps.ticks_are_nothing, CallingSteps.called_none, EndingSteps.same_end, GivingSteps.calls_are_given_up, HeardSteps.moves_asks}
+use view.{AskSteps.ticks_are_nothing, EndingSteps.same_end, GivingSteps.calls_are_given_up, HeardSteps.moves_asks, Looked.called_none}
 use view.{InvokedSteps.answers_are_taken, PlanSteps.commits_stay_seen, StopSteps.restarted_coords_are_seen}
 use view.BeginSteps.{calls_begin, same_coord}
 use view.ElseSteps.{includes_begin, other_answers_are_taken, other_calls_are_given_up, other_calls_begin}

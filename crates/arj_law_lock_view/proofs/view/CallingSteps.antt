@@ -1,18 +1,18 @@
 -- A call on the object goes in the machine: how it goes on, and how it ends.
 use Rattle.arj_law_parts.proofs.Words
-use Words.{◌||◌, ◌≡◌, ◌≢◌, ◌≤◌, ◌<◌, ◌+◌, ◌⊎◌, ◌∙◌, ◌==◌, ◌&&◌, ◌++◌, ℕ, List, [], ◌∷◌, Bool, true, false, cond, Option, Some, None, refl}
-use Words.{sym, ap, subst, inl, inr, ⊎_elim, arith, is_some, eqb-true, Contains, list_any, and_parts, uid_cases, uid_same, Binding, End, Op}
-use Words.{Uid, first_uid, is_on, last_uid, uid_eq, uids_of, writes, actor, top_of, asks_step, doomed_by, ends_call, goes_on, is_invoke_ask}
+use Words.{ℕ, ◌||◌, ◌≡◌, ◌≢◌, ◌≤◌, ◌<◌, ◌+◌, ◌⊎◌, ◌∙◌, ◌==◌, ◌&&◌, List, [], ◌∷◌, Bool, true, false, cond, Option, Some, None, refl, sym}
+use Words.{ap, subst, inl, inr, ⊎_elim, arith, is_some, eqb-true, Contains, and_parts, uid_cases, uid_same, Binding, End, Op, Uid}
+use Words.{first_uid, is_on, last_uid, uid_eq, uids_of, writes, actor, top_of, asks_step, doomed_by, ends_call, goes_on, is_invoke_ask}
 use Words.{root_heard, At, AtActivate, AtBind, AtInvoke, AtLoad, AtNote, CallEnd, Goal, Known, Run, Steps, is_invoke, next_ask, next_node}
 use Words.{Calling, Committing, Coord, Doing, Grant, Idle, Keeping, Now, Root, Said, Went, change_doing, doing_of, is_call, is_free}
-use Words.{keeping_of, kept_of, on_root, root_at, same_went, set_doing, with_went, binding_number, Branch, Tree, branch_of, ended_so}
-use Words.{ends_of, has_end, is_aborted, is_spent, root_of, is_committing_now, is_waiting_now}
+use Words.{keeping_of, kept_of, on_root, root_at, set_doing, with_went, binding_number, Branch, Tree, branch_of, ended_so, ends_of}
+use Words.{has_end, is_aborted, is_spent, root_of, is_committing_now, is_waiting_now}
 use Words.ending
 use Words.calls as call
 use Rattle.arj_law_lock_view.proofs.Terms
 use Terms.{Act, In, Root as Unit, at_act, is_action, on, root, same, top, Guard, next, stay, step, Alive, Call, IsFree, Open, State, Keep}
 use Terms.{KnowsRecorded, MayUse, Name, SendInvoke, Holds, run_keeps, start_holds, act_here, act_other, at_here, by_cases, differ}
-use Terms.{number_self, on_base, on_root as same_unit, on_self, root_is, same_is, top_root, Paths, IsAsking, IsBusy, path_some, IsSameTree}
+use Terms.{number_self, on_base, on_root as same_unit, on_self, root_is, top_root, Paths, IsAsking, IsBusy, path_some, IsSameTree}
 use Terms.{doing_other, doing_put, Acts, SeesAction, SeesActions, invokes, stage_of, IsAtWork, IsReached, OnlyCalled, Codes, IsServedBy}
 use Terms.{IsNamedSo, binding_at, HasHeard, IsSaid, IsTied, SeesCoord, SeesKeeping, SeesKept, SeesRoot, SeesStep, is_early}
 use Terms.machine_run
@@ -21,89 +21,9 @@ use Rattle.arj_law_lock.specs.machine.{Actions.at, State.Action}
 use Rattle.arj_law_lock_view.proofs.view
 use view.ActingSteps.{unended_none, unit_other}
 use view.FreeSteps.{free_only as only_caller, free_spent}
-use view.RootSteps.{IsMoved, assemble, knows_later, root_else, root_here, same_refl, same_spent}
+use view.RootSteps.{IsMoved, assemble, root_else, root_here, same_refl, same_spent}
 use view.TreeSteps.{IsWaiter, action_kind, first_on, one_changed, open_above, opens, root_there, seen_at, waiter}
-
--- ---- one after another
-
--- what belongs to a unit changes twice
-pub called_both : (unit : ℕ) (S T V : State) → OnlyCalled unit S T → OnlyCalled unit T V → OnlyCalled unit S V
-called_both unit S T V a b = record {
-  rest = b.rest ∙ ap
-      (λ (s : State). record s { now = V.now; binding = V.binding; action = V.action; kept = V.kept; calls = V.calls; net = V.net }) a.rest;
-  actions = λ q away. b.actions q away ∙ a.actions q away;
-  ended = λ q over. b.ended q (subst (λ (k : ℕ). 3 ≤ k) (ap (λ (v : Action). v.stage) (sym (a.ended q over))) over) ∙ a.ended q over;
-  kept = λ k away. b.kept k away ∙ a.kept k away;
-  bindings = λ k. (let i = a.bindings k in let j = b.bindings k in (j.0 ∙ i.0, j.1 ∙ i.1));
-  named = λ k h. (let e = a.named k h in b.named k (⊎_elim (λ n. inl (ap (λ (v : machine.Binding). v.named) e ∙ n))
-      (λ n. inr (λ is. n (ap (λ (v : machine.Binding). root v.maker) (sym e) ∙ is))) h) ∙ e);
-  calls = λ d i. b.calls d (a.calls d i);
-  fresh = λ d i. ⊎_elim (λ old. a.fresh d old) (λ new. inr new) (b.fresh d i);
-  sent = λ m i. b.sent m (a.sent m i);
-}
-
--- nothing does
-pub called_none : (unit : ℕ) (S : State) → OnlyCalled unit S S
-called_none unit S = record {
-  rest = refl;
-  actions = λ q away. refl;
-  ended = λ q over. refl;
-  kept = λ k away. refl;
-  bindings = λ k. (refl, refl);
-  named = λ k h. refl;
-  calls = λ d i. i;
-  fresh = λ d i. inl i;
-  sent = λ m i. i;
-}
-
--- an action that isn't over changes, and messages and calls of its unit come
-pub called_one : (S : State) (a : Act) (v : Action) (now : ℕ) (calls : List Call) (net : List machine.Message) → (S.action a).stage ≤ 2 →
-    ((d : Call) → In d S.calls → In d calls) → ((d : Call) → In d calls → In d S.calls ⊎ (root d.act ≡ root a)) →
-    ((m : machine.Message) → In m S.net → In m net)
-    → OnlyCalled (root a) S (record S { action = at_act S.action a v; now = now; calls = calls; net = net })
-called_one S a v now calls net low old new sent = record {
-  rest = refl;
-  actions =
-      λ q away. act_other S.action a v q (⊎_elim (λ one. absurd (away (ap root (same_is q a one)))) (λ none. none) (by_cases (same q a)));
-  ended = λ q over. act_other S.action a v q (⊎_elim (λ one. absurd (let e : (S.action q).stage ≡ (S.action a).stage = ap
-      (λ (r : Act). (S.action r).stage) (same_is q a one) in omega (arith, over, e, low))) (λ none. none) (by_cases (same q a)));
-  kept = λ k away. refl;
-  bindings = λ k. (refl, refl);
-  named = λ k h. refl;
-  calls = old;
-  fresh = new;
-  sent = sent;
-}
-
--- the binding that is kept, where neither it nor what is kept changes
-pub kept_same : (v : ℕ) (k : Known) (S T : State) → T.kept v ≡ S.kept v → ((b : ℕ) → T.binding b ≡ S.binding b) →
-    ((m : machine.Message) → In m S.net → In m T.net) → SeesKept v k S → SeesKept v k T
-kept_same v k S T kept same_binding sent s =
-    let e = same_binding (binding_number k.binding) in record {
-      kept = kept ∙ s.kept;
-      server = ap (λ (b : machine.Binding). b.server) e ∙ s.server;
-      named = λ i is. (let n = s.named i is in
-          (ap (λ (b : machine.Binding). b.named) e ∙ n.0, ap (λ (b : machine.Binding). b.incarnation) e ∙ n.1));
-      unnamed = λ none. (let n = s.unnamed none in
-          (ap (λ (b : machine.Binding). b.named) e ∙ n.0, ap (λ (b : machine.Binding). root b.maker) e ∙ n.1));
-      recorded = λ is. (let r = s.recorded is in (knows_later S T (binding_number k.binding) sent r.0, r.1));
-    }
-
--- ---- what is looked at of a root
-
-pub record Looks (x : ℕ) (q : Root) (k : Keeping) (said : List Said) (grants : List Grant) : Type 0 where
-  pub keeps : keeping_of x q ≡ k
-  pub said_is : q.said ≡ said
-  pub grants_are : q.grants ≡ grants
-
--- a note of who was sent something is nothing to it
-pub looks_went : (x : ℕ) (w : Went) (q : Root) (k : Keeping) (said : List Said) (grants : List Grant) → Looks x q k said grants →
-    Looks x (with_went w q) k said grants
-looks_went x w q k said grants l = by (list_any (same_went w) q.went)
-  where
-    by : (b : Bool) → Looks x (cond b q (record q { went = q.went ++ w ∷ [] })) k said grants
-    by true = l
-    by false = record { keeps = l.keeps; said_is = l.said_is; grants_are = l.grants_are }
+use Rattle.arj_law_lock_view.proofs.view.Looked.{called_both, called_none, called_one, kept_same, Looks, looks_went}
 
 -- ---- a call of an action
 
@@ -177,8 +97,6 @@ module _ (act : Acts) (code : Codes) (paths : Paths) (c : Coord) (b : Branch) (d
   pub open_stage : (f (act u)).stage ≡ 0
   open_stage = was.stage ∙ (λ i. stage_of (unended_none b.ended work.unended i) (calling i))
 
-  -- ---- what the root keeps after an answer
-
   -- A state of the machine in which the unit's binding may be another: what the root keeps then is seen, and calls on it go on.
   pub record IsRebound (k : Option Known) (T : State) : Type 0 where
     pub only : OnlyCalled unit S T
@@ -195,8 +113,6 @@ module _ (act : Acts) (code : Codes) (paths : Paths) (c : Coord) (b : Branch) (d
       T.kept unit ≡ binding_number o.binding
   tied_kept k T keeps o t =
       (let z : SeesKept unit t.old T = subst (λ (v : Option Known). SeesKeeping unit v kp.avoid T) t.is keeps in z.kept) ∙ t.same
-
-  -- ---- what is left to show of the coordinator
 
   -- the root after it
   pub root_after : (T V : State) (k : Option Known) (q : Root) (grants : List Grant) (t : Tree) → IsRebound k T →
@@ -406,8 +322,6 @@ module _ (act : Acts) (code : Codes) (paths : Paths) (c : Coord) (b : Branch) (d
                       unit_open w q there (root_is (act w) unit_one)
                       (same_unit (act (last_uid y.path)) (act w) (work.steady.alike.above (last_uid y.path) w ∙ ap (λ us. is_on us w)
                       (sym (work.steady.good.tree.lists.paths_are (last_uid y.path) z.branch z.there) ∙ z.path) ∙ on_it)) h
-
-  -- ---- the root is free of what it keeps
 
   -- nobody else calls the object
   abbrev pub IsOnly : Type 0

@@ -6,7 +6,7 @@ use Words.{Ordering, Less, Equal, Greater, uid_cases, uid_same, front, in_from, 
 use Words.{last_uid, uid_eq, uids_of, actor, top_of, last_req, Plan, Used, Calling, Committing, Coord, counts_grant, least_grant, top_uses}
 use Words.{Doing, Grant, Idle, Joined, Now, Root, Said, counts, is_constituent_branch, is_kept_top, is_retained, retained_in, second_uid}
 use Words.{joined_in, objects_in, plan_for, root_at, said_in, survives, used_of, doing_of, number_set, with_number, Branch, Tree, behind}
-use Words.{branch_of, ended_so, has_end, has_open_child, is_committed, is_constituent, is_merged, root_of}
+use Words.{branch_of, ended_so, has_end, has_open_child, is_committed, is_merged, root_of, is_constituent}
 use Words.list
 use Words.ending
 use Words.kind

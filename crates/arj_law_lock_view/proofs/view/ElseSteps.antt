@@ -22,7 +22,7 @@ use Terms.{on, root, State, differ, on_root as same_unit, Paths, IsAsking, IsBus
 use Terms.{place_same, doing_other, doing_put, Acts, SeesAction, invokes, stage_of, IsAtWork, IsToInclude, IsWaiting, Codes, HasHeard}
 use Terms.{IsTied, SeesCoord, SeesKeeping, SeesRoot, is_early}
 use Rattle.arj_law_lock_view.proofs.view
-use view.{ActingSteps.unended_none, AnswerSteps.grants_from, BeginSteps.same_coord, CallingSteps.called_none}
+use view.{ActingSteps.unended_none, AnswerSteps.grants_from, BeginSteps.same_coord, Looked.called_none}
 use view.InvokedSteps.{noted_more, noted_old}
 use view.RootSteps.{IsMoved, assemble, root_else, root_here, same_refl, same_spent}
 use view.TreeSteps.{action_kind, one_changed, root_there}

@@ -5,8 +5,9 @@ use Words.{inr, ⊎_elim, Contains, strengthened, uid_is, uid_isnt, uid_same, op
 use Words.{passed_on, stayed, grant_each, In, in_filter, in_from, in_map, in_to, came_by, Uid, Binding, BoundReply, End, Entry, Mode}
 use Words.{ObjectState, Path, RecordedReply, Row, before_last, drop_rows, entry, front, grant_row, is_on, is_row_of, last_uid, lower_row}
 use Words.{pass_rows, uid_eq, top_of, top_path, pending_of, rows_back, is_granted, rows_asked, Served, either, reply, void, Counted, Live}
-use Words.{Made, Named, bind_call, bind_made, bind_named, conflict_on, end_named, entry_row, include_asked, in_use, is_binding, is_lowered}
+use Words.{Made, Named, bind_call, bind_made, bind_named, conflict_on, end_named, entry_row, include_asked, in_use, is_lowered}
 use Words.{live_above, live_asked, locked, made_above, make_asked, note_made, note_named, note_other, at_uid, binding_eq, drop_uid}
+use Words.{is_binding}
 use Words.ending
 use Words.mode
 use Words.recorded

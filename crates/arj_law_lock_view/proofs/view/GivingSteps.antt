@@ -14,7 +14,8 @@ use Terms.event
 use Rattle.arj_law_lock.specs.machine.State.{Action}
 use Rattle.arj_law_lock_view.proofs.view
 use view.{ActingSteps.unit_other, TreeSteps.one_changed}
-use view.CallingSteps.{Becomes, Looks, called_one, its, of, open_now, open_stage, over_seen, own_root, r0, root_found, root_seen}
+use view.CallingSteps.{Becomes, its, of, open_now, open_stage, over_seen, own_root, r0, root_found, root_seen}
+use view.Looked.{Looks, called_one}
 use view.CallingSteps.{root_stays, silent_seen, stays_rebound, step_seen, waits_is, was}
 use view.EndingSteps.{keeps_one, same_end}
 use view.RootSteps.{assemble, root_else, root_here}

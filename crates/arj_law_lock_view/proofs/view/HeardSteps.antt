@@ -21,7 +21,7 @@ use Rattle.arj_law_lock.specs.machine.State.{Action}
 use Rattle.arj_law_lock_view.proofs.view
 use view.{AbortSteps.acted_none, AskSteps.commits_ask_only, IncludeSteps.nobody, RunSteps.goes_to, TreeSteps.action_kind}
 use view.ActingSteps.{decisions_are_seen, unended_none}
-use view.CallingSteps.{called_none, kept_same}
+use view.Looked.{called_none, kept_same}
 use view.InputSteps.{abort_whole, end_goes, only_ended, then_run, to_run, whole_stays}
 use view.MoveSteps.{Moves, grows_decided, grows_went, moves_both, moves_doing, moves_none, moves_root, moves_told}
 use view.OneSteps.{OnlyOne, end_changed, one_changed, work_changed}

@@ -24,7 +24,8 @@ use Rattle.arj_law_lock_view.proofs.view
 use view.{RootSteps.assemble, TreeSteps.opens}
 use view.AnswerSteps.{HasAll, Result, activated_goes, grants_after, live_goes, load_goes, looks_moved, make_goes, old_grants, over_here}
 use view.AnswerSteps.{quiet_at, recorded_goes, spoilt_by}
-use view.CallingSteps.{Becomes, Looks, acts_after, called_one, ends_becomes, ends_coord, ends_seen, of, open_now, open_stage, own_root, r0}
+use view.CallingSteps.{Becomes, acts_after, ends_becomes, ends_coord, ends_seen, of, open_now, open_stage, own_root, r0}
+use view.Looked.{Looks, called_one}
 use view.CallingSteps.{root_after, root_found, root_seen, stays_rebound, step_seen, tied_kept, unit_same, waits_is, was}
 use view.EndingSteps.{keeps_one, same_end}
 use Rattle.arj_law_lock_view.specs.view.Calling.{AnswersAreTaken, IsApplied}

@@ -2,8 +2,8 @@
 use Rattle.arj_law_parts.proofs.Words
 use Words.{◌≡◌, ◌≢◌, ◌≤◌, ◌<◌, ◌∙◌, ◌&&◌, ◌==◌, nat_le, not, ℕ, Bool, true, false, cond, Option, Some, None, refl, sym, ap, subst, inl, inr}
 use Words.{⊎_elim, arith, eqb-true, ltb-true, min, list_any, and_parts, uid_cases, Uid, Binding, RecordedReply, entry, is_on, lower_row}
-use Words.{reply, void, Named, Live, Made, note_named, note_other, note_made, in_use, lowered, lower_lines, is_lowered, is_binding}
-use Words.{is_write_row, live_after, at_uid, binding_number, binding_eq}
+use Words.{reply, void, Named, Live, Made, note_named, note_other, note_made, in_use, lowered, lower_lines, is_lowered}
+use Words.{is_write_row, live_after, at_uid, binding_number, binding_eq, is_binding}
 use Words.recorded
 use Rattle.arj_law_lock_view.proofs.Terms
 use Terms.{Act, In, same, Guard, next, stay, step, State, IsCurrent, Record, act_cases, Owners, put_cases, put_other, put_same, Acts}

@@ -13,7 +13,7 @@ use Terms.{Act, root, Include, State, SeesActions, invokes, stage_of, Acts, Code
 use Terms.{doing_other, doing_put}
 use Rattle.arj_law_lock.specs.machine.State.{Action}
 use Rattle.arj_law_lock_view.proofs.view
-use view.{ActingSteps.unended_none, BeginSteps.same_coord, CallingSteps.kept_same}
+use view.{ActingSteps.unended_none, BeginSteps.same_coord, Looked.kept_same}
 use view.OneSteps.{OnlyOne, end_changed, work_changed}
 use view.RootSteps.{root_else, root_here}
 use Rattle.arj_law_lock_view.specs.view.Whole.{CommitsKeepRoots, DecisionsKeepRoots, EndsKeepRoots, UnitsKeepRoots}

@@ -7,13 +7,13 @@ use Rattle.arj_protocol.specs.Follow.{tick_outs}
 use Rattle.arj_protocol.specs.Node.{Parts, Took, handle, is_meant, with_coord}
 use Rattle.arj_protocol.specs.Step.{Input, acts, begin_refusal, parent_of, parts_in, refusal_up, restart_outs}
 use Rattle.arj_protocol.specs.Tree.{next_uid, path_below}
-use Rattle.arj_protocol.specs.World.{is_serial_kind}
 use Rattle.arj_law_parts.specs.parts.Actions.{Action}
 use Rattle.arj_law_runs.specs.kept.Worlds.{IsGoodOf}
 use Rattle.arj_law_parts.specs.moves.Keeps.{DidKeeps, IsAtStarts, MayGive, is_act, label_at}
 use Rattle.arj_law_parts.specs.moves.Seen.{AreQuiet, In, at, down, given, said, up}
 use Rattle.arj_promise.specs.Runs.{Seen}
 use Rattle.arj_law_parts.specs.moves.Walks.{Up, Walks, halted}
+use Rattle.arj_start.specs.Kinds.{is_serial}
 
 -- the action that begins in this branch
 abbrev pub begins_in : Kind → Option Label → Parts → Action
@@ -35,7 +35,7 @@ pub record KeepsOf (hd : Header) (G : List Action → Seen → Type 0) (R : List
       → label_at l M.labels ≡ None → MayGive M.labels k how parent → begin_refusal how t.coord parent ≡ None
       → G begun (up k d t M) → IsGoodOf begun (up k d t M) → R begun (up k d t M)
       → DidKeeps (R (begins_in how parent t ∷ begun)) e k d t (begin_action l how parent (parent_of parent t.coord) t.coord)
-      (given l (record { node = k; serial = is_serial_kind how }) M)
+      (given l (record { node = k; serial = is_serial how }) M)
   pub tick : (begun : List Action) (e k : ℕ) (d : Disk) (t : Parts) (M : Seen) → G begun (up k d t M) → IsGoodOf begun (up k d t M) →
       R begun (up k d t M)
       → Walks (R begun) e k (tick_outs (record { number = k; disk = d; live = Some t }) t)

@@ -8,7 +8,7 @@ use Rattle.arj_class.specs.Table.{answer_of, value_after, writes}
 use Rattle.arj_journal.specs.declared.body.Line.{Line}
 use Rattle.arj_text.specs.Words.{answer_text}
 use Rattle.arj_model.specs.Actions as model
-use Rattle.arj_model.specs.Actions.{Placed, acts, committed, ended, halts, has_end, is_halted, is_over, is_serial, recovered, uids}
+use Rattle.arj_model.specs.Actions.{Placed, acts, committed, ended, halts, has_end, is_halted, is_over, recovered, uids}
 use Rattle.arj_model.specs.Calls.{Said, said}
 use Rattle.arj_model.specs.Last.{Inclusion, included}
 use Rattle.arj_model.specs.Serial.{Values}
@@ -18,6 +18,7 @@ use Rattle.arj_law_lock.specs.machine.State as machine
 use Rattle.arj_law_lock.specs.machine.State.{State}
 use Rattle.arj_law_lock_view.specs.view.Acts.{Acts}
 use Rattle.arj_law_lock_view.specs.view.Copies.{Codes}
+use Rattle.arj_start.specs.Kinds.{is_serial}
 
 -- ---- calls and includes
 

@@ -10,7 +10,7 @@ use Rattle.arj_text.specs.Label.{name}
 use Rattle.arj_text.specs.Words.{answer_text}
 use Rattle.arj_text.specs.declared.label.Label.{Label}
 use Rattle.arj_model.specs.Actions as model
-use Rattle.arj_model.specs.Actions.{Placed, act_in, acts, is_serial, recovered}
+use Rattle.arj_model.specs.Actions.{Placed, act_in, acts, recovered}
 use Rattle.arj_model.specs.Serial.{Values}
 use Rattle.arj_law_runs.specs.journal.Laws.{AreDistinct}
 use Rattle.arj_protocol.specs.Says.{is_naming_line, is_server_line}
@@ -23,6 +23,7 @@ use Rattle.arj_law_lock_view.specs.view.Acts.{Acts, AreOne}
 use Rattle.arj_law_lock_view.specs.view.Copies.{Codes}
 use Rattle.arj_law_lock_view.specs.view.Ending.{ChangesOne, SameEnd, aborted, called_at, committed_at}
 use Rattle.arj_law_lock_view.specs.journal.Lines.{IsTiedToLines}
+use Rattle.arj_start.specs.Kinds.{is_serial}
 
 -- The journal's actions are told apart, each has a place of its own in the machine, and it is an action there unless it is serializing.
 pub record AreNamed (act : Acts) (lines : List Line) : Type 0 where

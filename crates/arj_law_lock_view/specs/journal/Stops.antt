@@ -3,7 +3,7 @@ use Rattle.std.specs.Prelude.{◌≡◌, ◌≢◌, ◌⊎◌, ◌++◌, ℕ, fa
 use Rattle.arj_journal.specs.declared.body.Body.TheVariants as body
 use Rattle.arj_journal.specs.declared.body.Line.{Line}
 use Rattle.arj_model.specs.Actions as model
-use Rattle.arj_model.specs.Actions.{Placed, acts, is_serial, recovered}
+use Rattle.arj_model.specs.Actions.{Placed, acts, recovered}
 use Rattle.arj_model.specs.Serial.{Values}
 use Rattle.arj_protocol.specs.Words.{Kind, Label, Uid}
 use Rattle.arj_protocol.specs.Tree.{Branch, Tree, branch_of}
@@ -14,6 +14,7 @@ use Rattle.arj_law_lock_view.specs.view.Copies.{Codes}
 use Rattle.arj_law_lock_view.specs.view.Stops.{HasEnded, HasStopped, OnlyStopped}
 use Rattle.arj_law_lock_view.specs.journal.Lines.{IsTiedToLines}
 use Rattle.arj_law_lock_view.specs.journal.Steps.{AreNamed}
+use Rattle.arj_start.specs.Kinds.{is_serial}
 
 -- Each action of the journal that was begun at the node, and isn't serializing, is one of its last coordinator's, or has ended.
 abbrev pub AreHereOrGone : Acts → ℕ → Tree → List Line → State → Type 0

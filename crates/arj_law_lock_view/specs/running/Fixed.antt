@@ -3,7 +3,7 @@ use Rattle.std.specs.Prelude.{◌≡◌, ℕ, List, Some}
 use Rattle.arj_class.specs.declared.value.Value.{Value}
 use Rattle.arj_law_lock.specs.machine.Actions.{Act}
 use Rattle.arj_model.specs.Serial.{Values}
-use Rattle.arj_model.specs.Start.{Marks}
+use Rattle.arj_start.specs.Start.{Marks}
 use Rattle.arj_protocol.specs.Words.{Ask, Head, asks}
 use Rattle.arj_law_parts.specs.parts.Actions.{Action}
 use Rattle.arj_law_parts.specs.parts.Copies.{Paths}

@@ -13,7 +13,7 @@ use Rattle.arj_law_parts.specs.parts.Actions.{Action}
 use Rattle.arj_law_parts.specs.steps.Named.{HasNames}
 use Rattle.arj_law_parts.specs.moves.Keeps.{is_act}
 use Rattle.arj_law_parts.specs.moves.Seen.{In, down}
-use Rattle.arj_model.specs.Start.{Start}
+use Rattle.arj_start.specs.Start.{Start}
 use Rattle.arj_promise.specs.Runs.{Seen}
 use Rattle.arj_promise.specs.Starts.{IsFormed}
 use Rattle.arj_law_lock_view.specs.facts.Works.{KnowsEnds}

@@ -11,7 +11,7 @@ use Rattle.arj_law_lock.specs.machine.Actions.{Root, is_action, is_top, root}
 use Rattle.arj_law_lock.specs.machine.State as machine_state
 use Rattle.arj_law_lock.specs.machine.State.{State}
 use Rattle.arj_law_parts.specs.parts.Actions.{Action}
-use Rattle.arj_law_parts.specs.parts.Ends.{ask_ends}
+use Rattle.arj_protocol.specs.Follow.{ends_in}
 use Rattle.arj_law_parts.specs.moves.Seen.{In}
 use Rattle.arj_promise.specs.Runs.{Post}
 use Rattle.arj_law_lock_view.specs.view.Asks.{ShowsAsk}
@@ -37,7 +37,7 @@ SaysToNaming v h _ S = ⊤
 pub record IsRequestSeen (v : View) (h : Head) (a : Ask) (S : State) : Type 0 where
   pub says : IsForServer v.x a → ShowsAsk v.family.act v.code (post_to v h) S a
   pub names : SaysToNaming v h a S
-  pub ended : HaveEnded v (ask_ends a) S
+  pub ended : HaveEnded v (ends_in a) S
 
 -- ---- answers
 

@@ -11,7 +11,7 @@ use Rattle.arj_law_lock.specs.machine.Machine.{Run}
 use Rattle.arj_law_lock.specs.machine.State.{State}
 use Rattle.arj_law_parts.specs.parts.Actions.{Action}
 use Rattle.arj_law_parts.specs.moves.Seen.{AreQuiet, In, Within, down, said}
-use Rattle.arj_model.specs.Start.{Start}
+use Rattle.arj_start.specs.Start.{Start}
 use Rattle.arj_promise.specs.Runs.{Post, Seen, see}
 use Rattle.arj_law_parts.specs.moves.Walks.{Up, Walks, halted}
 use Rattle.arj_law_lock_view.specs.view.Calling.{IsReached}

@@ -4,7 +4,7 @@ use Rattle.std.specs.Prelude.{List, Contains}
 use Rattle.arj_protocol.specs.Words.{Ask, End, Head, Uid}
 use Rattle.arj_protocol.specs.Server.{Server}
 use Rattle.arj_law_lock.specs.machine.State.{State}
-use Rattle.arj_law_parts.specs.parts.Ends.{ask_ends}
+use Rattle.arj_protocol.specs.Follow.{ends_in}
 use Rattle.arj_law_parts.specs.parts.Messages.{FitsAsk}
 use Rattle.arj_law_lock_view.specs.view.Asks.{ShowsAsk}
 use Rattle.arj_law_lock_view.specs.view.Calling.{IsReached}
@@ -19,7 +19,7 @@ HaveEnded v ends S = (u : Uid) (e : End) → Contains {X = Uid × End} ends (u, 
 pub record IsSent (v : View) (h : Head) (a : Ask) (S : State) : Type 0 where
   pub says : IsForServer v.x a → ShowsAsk v.family.act v.code (post_to v h) S a
   pub wanted : IsWanted v h a
-  pub ended : HaveEnded v (ask_ends a) S
+  pub ended : HaveEnded v (ends_in a) S
 
 -- Where it comes to a good server it is shown.
 abbrev pub SentAreShown : Type 0

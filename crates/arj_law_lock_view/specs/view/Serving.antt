@@ -11,7 +11,7 @@ use Rattle.arj_law_lock.specs.machine.Actions.{In}
 use Rattle.arj_law_lock.specs.machine.Machine.{after_crash, start}
 use Rattle.arj_law_lock.specs.machine.State as machine
 use Rattle.arj_law_lock.specs.machine.State.{State}
-use Rattle.arj_law_parts.specs.parts.Ends.{ask_ends}
+use Rattle.arj_protocol.specs.Follow.{ends_in}
 use Rattle.arj_law_parts.specs.parts.Messages.{FitsAsk}
 use Rattle.arj_law_lock_view.specs.view.Asks.{Post, ShowsAsk}
 use Rattle.arj_law_lock_view.specs.view.Calling.{IsReached}
@@ -72,7 +72,7 @@ pub record IsShown (v : View) (h : Head) (a : Ask) (s : Server) (S : State) : Ty
   pub fits : FitsAsk (let g = v.family in g.begun) h a
   pub says : IsForServer v.x a → ShowsAsk v.family.act v.code (post_to v h) S a
   pub wanted : IsWanted v h a
-  pub shown : ShowEnds v s S (ask_ends a)
+  pub shown : ShowEnds v s S (ends_in a)
 
 -- ---- what it does with them
 

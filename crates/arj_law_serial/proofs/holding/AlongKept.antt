@@ -4,8 +4,8 @@ use Words.{IsFormed, Start, world_from}
 use Words.{◌≡◌, ◌⊎◌, ◌∙◌, ◌++◌, ◌+◌, ℕ, List, [], ◌∷◌, map, true, false, Option, Some, is_some, length, refl, sym, subst, inl, inr, ⊎_elim}
 use Words.{Contains, ⊤, if◌then◌else◌, AllByRecursion, Row, Body, End, Header, Message, Uid, asks, uids_of, again_all, begin_action, Disk}
 use Words.{Effect, tick_outs, server_rows, Parts, Took, handle, holders, is_meant, query_about, with_coord, at_number, is_coord_effect}
-use Words.{Node, acts as does, parent_of, parts_in, restart_outs, tolds_again, is_serial_kind, acts_own, again_own, map_own}
-use Words.{tolds_again_own, all_both, Seen, see}
+use Words.{Node, acts as does, parent_of, parts_in, restart_outs, tolds_again, acts_own, again_own, map_own}
+use Words.{tolds_again_own, all_both, Seen, see, is_serial}
 use Words.body
 use Words.input
 use Rattle.arj_law_serial.proofs.Terms
@@ -284,12 +284,12 @@ module _ (hd : Header) (x : ℕ) (form : HeaderInForm hd) (there : is_some (obje
     begin = λ e k d t l how parent M new may free h. let quietly = calm hd in
         let did = begin_action l how parent (parent_of parent t.coord) t.coord in
         let own = acts_own (input.Begin l how parent) d.intents t.coord in
-        let N = given l (record { node = k; serial = is_serial_kind how }) M in
+        let N = given l (record { node = k; serial = is_serial how }) M in
         along_walk N e k did.outs (with_coord t did.part) d N (as_it_is N) (quietly.begin e k d t l how parent M new may free h.0.0)
         (shows.begin e k d t l how parent M new may free h.0.1) (λ few.
         let less : AreFew (up k d t M) = (
           few.0,
-          fewer_labels (length M.labels) (length N.labels) (one_more l (record { node = k; serial = is_serial_kind how }) M.labels new)
+          fewer_labels (length M.labels) (length N.labels) (one_more l (record { node = k; serial = is_serial how }) M.labels new)
               few.1,
         ) in
         let g = coming_given (up k d t M) in

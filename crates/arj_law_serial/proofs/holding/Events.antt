@@ -8,8 +8,8 @@ use Words.{AllByRecursion, is_eq, nat_cmp, map-append, is_on, nobody, object, en
 use Words.{ObjectState, Uid, uids_of, frame_kind, named_back, Disk, Do, Effect, Intent, Pair, Say, Send, AreEntries, rows_in_named, Parts}
 use Words.{prepared_actions, at_number, Node, Step, first_reason, naming_at, step, at_place, set_place, Arm, World, armed}
 use Words.{bodies, count_works, counted, cut, disarmed, done_step, giving, halted_at, happens, is_node, is_up, is_up_at}
-use Words.{lacks_labels, limited, most_frames, no_labels, numbered, reasons, run_event, run_unless, step_node, step_with, steps, Move}
-use Words.{moved, Seen, see}
+use Words.{lacks_labels, limited, no_labels, numbered, reasons, run_event, run_unless, step_node, step_with, steps, Move}
+use Words.{moved, Seen, see, most_frames}
 use Words.body
 use Words.event
 use Words.input

@@ -5,7 +5,7 @@ use Words.{eqb-true, inl, inr, ⊎_elim, ⊤, if◌then◌else◌, AllByRecursio
 use Words.{In, in_from, Header, Kind, ObjectState, Uid, uids_of, again_all, begin_action, Abort, After, Before, Commit, Disk, Do, Effect}
 use Words.{InPart, Look, Prepare, PutInc, PutIntent, RemoveIntent, Say, Send, Stop, Work, in_part, moved_some, new_states, stopped, worked}
 use Words.{AreEntries, tick_outs, Parts, with_coord, put_uid, Node, acts, parent_of, parts_in, put_states, restart_outs}
-use Words.{is_serial_kind, Seen}
+use Words.{Seen, is_serial}
 use Words.kind
 use Words.role
 use Rattle.arj_law_serial.proofs.Terms
@@ -72,7 +72,7 @@ numbers_of hd = record {
       let did = begin_action l how parent (parent_of parent t.coord) t.coord in
       let a = begins_in how parent t in
       let same = its_uid e k d t l how parent M new may none (begun, good) in
-      const_walk (HaveNumbers (a ∷ begun)) e k did.outs d (given l (record { node = k; serial = is_serial_kind how }) M)
+      const_walk (HaveNumbers (a ∷ begun)) e k did.outs d (given l (record { node = k; serial = is_serial how }) M)
       ((λ zero. let n : length t.coord.tree.branches + 1 ≡ 0 = sym (ap (λ (w : Uid). w.num) same) ∙ zero in absurd (omega (arith, n))), p);
   tick = λ begun e k d t M more good p.
       const_walk (HaveNumbers begun) e k (tick_outs (record { number = k; disk = d; live = Some t }) t) d M p;
@@ -183,7 +183,7 @@ order_of hd = record {
       kept_order e k (Some t) (with_coord t did.part) did.outs d M p;
   begin = λ begun e k d t l how parent M new may none more good p.
       let did = begin_action l how parent (parent_of parent t.coord) t.coord in
-      kept_order e k (Some t) (with_coord t did.part) did.outs d (given l (record { node = k; serial = is_serial_kind how }) M) p;
+      kept_order e k (Some t) (with_coord t did.part) did.outs d (given l (record { node = k; serial = is_serial how }) M) p;
   tick = λ begun e k d t M more good p. kept_order e k (Some t) (with_coord t (let q = again_all t.coord.doings t.coord in q.part))
       (tick_outs (record { number = k; disk = d; live = Some t }) t) d M p;
   restart = λ begun e k d M more good p. kept_order e k None (parts_in k (d.inc + 1) d) (restart_outs hd k (d.inc + 1) d) d M p;

@@ -9,7 +9,7 @@ use Words.ask
 use Words.message
 use Words.follow
 use Rattle.arj_law_serial.proofs.Terms
-use Terms.{Act, acts, table, Action, AreBegun, ask_ends, brought_by, told_by, FitsAsk, FitsAsked, FitsMessage, IsAsker, up, Up, Walks}
+use Terms.{Act, acts, table, Action, AreBegun, brought_by, told_by, FitsAsk, FitsAsked, FitsMessage, IsAsker, up, Up, Walks}
 use Terms.{AreAlike, IsNamedBy, SaysPast, HasNaming, holders_in, is_steady, rows_on, named_locks}
 use Terms.part
 use Rattle.arj_law_serial.proofs.holding
@@ -79,10 +79,10 @@ module _ (begun : List Action) (all : AreBegun begun) (numbers : HaveNumbers beg
       brought_ends : (a : Head × Ask) → asks p.message ≡ Some a → (q : Ask) → a.1 ≡ q → AreOfActions (ends_in q)
       brought_ends a is (ask.Invoke x b i ends op) same =
           of_actions ends (λ u e c. (says.brings u e (subst (λ (o : Option (Head × Ask)). Contains {X = Uid × End} (brought_by o) (u, e))
-          (sym is) (subst (λ (z : Ask). Contains {X = Uid × End} (ask_ends z) (u, e)) (sym same) c))).0)
+          (sym is) (subst (λ (z : Ask). Contains {X = Uid × End} (ends_in z) (u, e)) (sym same) c))).0)
       brought_ends a is (ask.Vote i ties ends) same =
           of_actions ends (λ u e c. (says.brings u e (subst (λ (o : Option (Head × Ask)). Contains {X = Uid × End} (brought_by o) (u, e))
-          (sym is) (subst (λ (z : Ask). Contains {X = Uid × End} (ask_ends z) (u, e)) (sym same) c))).0)
+          (sym is) (subst (λ (z : Ask). Contains {X = Uid × End} (ends_in z) (u, e)) (sym same) c))).0)
       brought_ends a is (ask.Bind x include avoid) same = tt
       brought_ends a is (ask.Load x) same = tt
       brought_ends a is (ask.Activate b st) same = tt

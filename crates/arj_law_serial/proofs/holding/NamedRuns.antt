@@ -7,14 +7,14 @@ use Words.{asks, grant_row, is_on, last_uid, Reply, actor, answers, asked_by, la
 use Words.{checked, confirm, confirm_entries, confirm_new, confirms, entries_after, has_all, lock_all, lock_in, prepared_by, wanted}
 use Words.{wants_lock, is_granted, row_for, Already, Did, Disk, Do, Effect, InDoubt, Look, Old, Pair, Prep, Prepare, Ready, Say, Send}
 use Words.{Served, did_nothing, held_at, holder_of, is_prepared, prepare_answer, reply, void, acked, answer_query, Holders, rows_after}
-use Words.{rows_by, Counted, Live, Made, Named, bind_call, bind_made, bind_named, conflict_on, in_use, include_asked, is_binding}
+use Words.{rows_by, Counted, Live, Made, Named, bind_call, bind_made, bind_named, conflict_on, in_use, include_asked}
 use Words.{is_lowered, live_above, live_asked, lock_lines, lower_lines, lowered, made_above, make_asked, next_server, note_made, note_named}
 use Words.{note_other, Naming, end_entries, end_lines, end_orphans, is_over, listed_entry, on_counted, on_named, orphans, own_entries}
 use Words.{told_new, Handled, Parts, Took, Void, ack_told, by_reply, end_states, handle, handle_answer, handle_ask, handle_ends}
 use Words.{handle_other, holders, if_naming, is_earlier, is_meant, load_by, load_held, naming_told, prepare_by, prepare_states, query_about}
 use Words.{sends_answer, serve, served, stand_once, store_told, with_coord, with_naming, with_server, answer_is_meant, asked_is_meant}
 use Words.{ask_is_meant, at_number, at_uid, binding_eq, has, AreAll, is_coord_effect, is_server_effect, acked_own, heard_own, map_own}
-use Words.{query_own, activate_own, ends_own, invoke_own, vote_own, Quiet, coord_quiet}
+use Words.{query_own, activate_own, ends_own, invoke_own, vote_own, Quiet, coord_quiet, is_binding}
 use Words.ask
 use Words.body
 use Words.confirmed

@@ -8,7 +8,7 @@ use Words.{Send, Stop, worked, acked, answer_query, effects_of, effects_of_node,
 use Words.{Ran, Took, Void, ack_told, by_reply, first_done, first_queued, handle, handle_all, handle_ends, is_meant, most_rounds}
 use Words.{naming_told, next_round, prepared_actions, ran, ran_handled, rounds, store_told, taken, whole, with_coord, at_number, Node, Step}
 use Words.{parts_in, restart_outs, step, at_place, set_place, Arm, World, armed, bodies, count_works, cut, disarmed, done_step, halted_at}
-use Words.{halted_outs, limited, most_frames, numbered, step_node, step_with, steps, place_other, steps_lines}
+use Words.{halted_outs, limited, numbered, step_node, step_with, steps, place_other, steps_lines, most_frames}
 use Words.body
 use Words.message
 use Words.server

@@ -3,7 +3,7 @@ use Rattle.arj_law_parts.proofs.Words
 use Words.{◌≡◌, ◌∙◌, ◌==◌, ◌&&◌, ◌++◌, ◌+◌, ℕ, List, [], ◌∷◌, map, true, Some, None, refl, sym, ap, subst, eqb-true, ⊤, if◌then◌else◌}
 use Words.{list_all, and_parts, Header, again_all, begin_action, Disk, Effect, Look, PutInc, stopped, tick_outs, Parts, holders}
 use Words.{query_about, with_coord, AreAll, is_coord_effect, is_coord_line, Node, acts as does, parent_of, parts_in, restart_outs}
-use Words.{tolds_again, is_serial_kind, numbered, acts_own, again_own, map_own, tolds_again_own, all_both, Seen}
+use Words.{tolds_again, numbered, acts_own, again_own, map_own, tolds_again_own, all_both, Seen, is_serial}
 use Words.body
 use Words.input
 use Rattle.arj_law_serial.proofs.Terms
@@ -126,7 +126,7 @@ module _ (hd : Header) (first event : ℕ) where
         let begun = h.0 in
         let did = begin_action l how parent (parent_of parent t.coord) t.coord in
         let own = acts_own (input.Begin l how parent) d.intents t.coord in
-        let N = given l (record { node = k; serial = is_serial_kind how }) M in
+        let N = given l (record { node = k; serial = is_serial how }) M in
         both_walk (begins_in how parent t ∷ begun) e k did.outs (with_coord t did.part) d N (begin_pathed hd begun e k d t l how parent M
         new may none h.1.0) (facts.begin begun e k d t l how parent M new may none tt h.1.0.1.0 h.1.1)
         (coord_shown first event e k d t (with_coord t did.part) did.outs M N refl refl own (coord_all k did.outs own) refl refl h.2);

@@ -6,8 +6,8 @@ use Words.{object, uid_eq, Body, Header, Line, Message, ObjectState, Part, Uid, 
 use Words.{recovered_lines, recovered_naming, rows_back, Disk, Do, Effect, Intent, Look, Pair, PutInc, Say, Send, AreEntries, NamingFollows}
 use Words.{TablesFollow, Holders, rows_after, rows_by, server_rows, Named, unnamed, Naming, Parts, Ran, most_rounds, next_round, handle_all}
 use Words.{prepared_actions, query_about, ran, rounds, whole, uid_set, without_number, is_coord_effect, is_coord_line, hello_to}
-use Words.{naming_back, numbers_to, parts_in, recovered_records, restart_outs, tolds_again, bodies, most_frames, numbered, tolds_again_own}
-use Words.{all_both, after_both}
+use Words.{naming_back, numbers_to, parts_in, recovered_records, restart_outs, tolds_again, bodies, numbered, tolds_again_own}
+use Words.{all_both, after_both, most_frames}
 use Words.body
 use Rattle.arj_law_serial.proofs.Terms
 use Terms.{Act, acts, acts_after, table, table_from, table_step, IsOfPart, holders_in, rows_on, up_of, named_locks, ShowsLocks}

@@ -6,8 +6,8 @@ use Words.{Body, Event, Header, Line, frame_kind, Disk, Do, Effect, Say, Send, S
 use Words.{at_number, is_coord_line, is_naming_line, is_server_line, Input, Node, Step, step, at_place, Arm, Frame, Giving, World}
 use Words.{as_delivered, as_lost, armed, begins, begins_any, bodies, change_frame, count_works, cut, deliver, deliver_frame, frame_number}
 use Words.{giving, halted_outs, disarmed, done_step, halted_at, happens, is_quiet, is_up_at, junk_fits, labels_unless, limited, lose_frame}
-use Words.{lowest, most_frames, node_numbers, node_of, numbered, quiesce, refused_at, settle, settle_for, show_all, show_up, step_node}
-use Words.{step_with, steps, tick_all, tick_up, steps_lines}
+use Words.{lowest, node_numbers, node_of, numbered, quiesce, refused_at, settle, settle_for, show_all, show_up, step_node}
+use Words.{step_with, steps, tick_all, tick_up, steps_lines, most_frames}
 use Words.body
 use Words.event
 use Words.frame

@@ -4,7 +4,7 @@ use Words.{false, ◌≡◌, ℕ, List, true, Option, None, Some, refl, Ask, Bin
 use Words.ask
 use Words.message
 use Rattle.arj_law_serial.proofs.Terms
-use Terms.{Action, ask_ends, brought, brought_by, told_by, Core, World, top, Run, start, Alive, Call, State, Fixed, view_of, is_for_parts}
+use Terms.{Action, brought, brought_by, told_by, Core, World, top, Run, start, Alive, Call, State, Fixed, view_of, is_for_parts, ends_in}
 use Terms.{IsAskingShown, IsMessageShown, IsShown, Sees, View, AreApart, HasWriters, IsBasedAt, WasVotedOver}
 use Terms.machine
 use Rattle.arj_law_serial.proofs.joint.{BasedRaise.all_raise, BasedServers.AreRaised}
@@ -16,7 +16,7 @@ module _ (f : Fixed) (apart : AreApart f.code) (x k : ℕ) (begun : List Action)
   abbrev B : Binding → Base → Type 0
   B b base = IsBasedAt S W (binding_number b) base.version base.writer
 
-  asked_raise : (h : Head) (a : Ask) → IsShown (view_of f x begun k) h a s S → AreRaised x B k (ask_ends a) s
+  asked_raise : (h : Head) (a : Ask) → IsShown (view_of f x begun k) h a s S → AreRaised x B k (ends_in a) s
   asked_raise h (ask.Invoke y b i ends o) shown = all_raise f apart x k begun S W core writers reached ends s
       (record { whole = shown.whole; server = shown.server; ordered = (let z = shown.fits in z.2); shown = shown.shown }) sees planned
   asked_raise h (ask.Vote i ties ends) shown = all_raise f apart x k begun S W core writers reached ends s

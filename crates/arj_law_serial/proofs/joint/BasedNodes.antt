@@ -16,7 +16,7 @@ use Words.voted
 use Words.naming
 use Words.server
 use Rattle.arj_law_serial.proofs.Terms
-use Terms.{ask_ends, brought, brought_by, told_by, never, AllSay, AskIsSo, AskedIsSo, CoordIsSo, Fits, MayKeep, MessageIsSo, Own, ReplyIsSo}
+use Terms.{brought, brought_by, told_by, never, AllSay, AskIsSo, AskedIsSo, CoordIsSo, Fits, MayKeep, MessageIsSo, Own, ReplyIsSo, ends_in}
 use Terms.{all_join, hears_so, acks_so, query_so}
 use Rattle.arj_law_disk_view.proofs.running.StateTicks.{queries, server_lines}
 use Rattle.arj_law_serial.proofs.joint
@@ -113,7 +113,7 @@ module _ (x : ℕ) (L Q : ObjectState → Type 0) (B : Binding → Base → Type
 
     asked : (h : Head) (a : Ask) →
         ((b : Binding) (st : ObjectState) → a ≡ ask.Activate b st → st.uid ≡ object x → L st → B b (let c = taken_copy b st in c.base)) →
-        ask_is_meant t.server a ≡ true → AskIsSo P a → AreRaised x B node (ask_ends a) t.server → By (serve node d t from h a)
+        ask_is_meant t.server a ≡ true → AskIsSo P a → AreRaised x B node (ends_in a) t.server → By (serve node d t from h a)
     asked h (ask.Bind y include avoid) act meant so raised =
         with_it (λ o. served from h (with_naming t) Reply.Bound (naming.bind h.path y include avoid d.names o)) t.naming
         (λ m. let r = naming.bind h.path y include avoid d.names m in answered h (with_naming t r.part) r.outs (option_map Reply.Bound

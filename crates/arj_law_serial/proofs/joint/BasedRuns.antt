@@ -3,7 +3,7 @@ use Rattle.arj_law_parts.proofs.Words
 use Words.{Start, world_from}
 use Words.{◌≡◌, ℕ, ◌+◌, List, [], ◌∷◌, Bool, true, false, Option, Some, None, refl, sym, ◌∙◌, ap, subst, option_map, AllByRecursion, Asked}
 use Words.{Header, Kind, Label, Message, object, Reply, again_all, begin_action, Disk, Do, Effect, Say, Send, held_at, tick_outs, Parts}
-use Words.{with_coord, Input, Node, acts, parent_of, parts_in, restart_outs, is_serial_kind, Seen, see}
+use Words.{with_coord, Input, Node, acts, parent_of, parts_in, restart_outs, Seen, see, is_serial}
 use Words.voted
 use Rattle.arj_law_serial.proofs.Terms
 use Terms.{first_up}
@@ -82,11 +82,11 @@ module _ (f : Fixed) (x k : ℕ) (begun : List Action) (S : lock.State) (W : Wor
   pub begin_based : (more : List Action) (e : ℕ) (l : Label) (how : Kind) (parent : Option Label) →
       let D = begin_action l how parent (parent_of parent t.coord) t.coord in AllSilent D.outs
       → Walks (StaysBased f x more S W) e k D.outs (Up (StaysBased f x more S W) k (with_coord t D.part)) d
-      (given l (record { node = k; serial = is_serial_kind how }) M)
+      (given l (record { node = k; serial = is_serial how }) M)
   begin_based more e l how parent silent =
       let D = begin_action l how parent (parent_of parent t.coord) t.coord in
       let a = begins_so (coord_fits f x S W) (may_keep f x S W) l how parent (parent_of parent t.coord) t.coord coord in
-      coordinators_keep f x k more S W d (Some t) M (given l (record { node = k; serial = is_serial_kind how }) M) reached are refl refl e
+      coordinators_keep f x k more S W d (Some t) M (given l (record { node = k; serial = is_serial how }) M) reached are refl refl e
       (with_coord t D.part) D.outs copies a.0 a.1 (no_yeses D.outs silent)
 
   pub tick_based : (e : ℕ) → let outs = tick_outs (record { number = k; disk = d; live = Some t }) t in AllSilent outs

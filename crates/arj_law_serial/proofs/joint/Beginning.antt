@@ -4,7 +4,7 @@ use Words.{IsFormed, Start, node_by, world_from}
 use Words.{◌≡◌, ℕ, ◌+◌, true, List, [], None, Some, refl, sym, ◌∙◌, subst, is_some, map, arith, ◌&&◌, nat_le, nat_tests, again_all}
 use Words.{begin_action}
 use Words.{Disk, Effect, tick_outs, Parts, with_coord, acts, numbers_to, parent_of, parts_in, restart_outs, at_place, Header}
-use Words.{is_serial_kind, Seen, see}
+use Words.{Seen, see, is_serial}
 use Rattle.arj_law_serial.proofs.Terms
 use Terms.{Marks}
 use Terms.{HeaderInForm, object_line, Office, given, Up, Walks, IsGood, all_keep as parts_good, IsLater, Kinds, OnlyFound}
@@ -65,7 +65,7 @@ module _ (hd : Header) (x : ℕ) (R : machine.World → Seen → Type 0) (P : Ki
         (heard tops Quietly A (going_of e k d t did) M b p.0, p.1);
     begin = λ tops e k d t l how parent M A walk n r new may free kind both (part, b).
         let did = begin_action l how parent (parent_of parent t.coord) t.coord in
-        along tops (Changes Quietly A) e k did.outs (with_coord t did.part) d (given l (record { node = k; serial = is_serial_kind how }) M)
+        along tops (Changes Quietly A) e k did.outs (with_coord t did.part) d (given l (record { node = k; serial = is_serial how }) M)
         (λ B c. begins_by Quietly tops A B _ both b c)
         (parts.begin tops e k d t l how parent M A walk n r new may free kind both part);
     tick = λ tops e k d t M A walk n r both (part, b).

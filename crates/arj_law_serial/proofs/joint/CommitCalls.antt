@@ -11,10 +11,10 @@ use Words.{frame_step, handled_step, node_did, parts_in, refusal, restart_outs, 
 use Words.{step_unless, step_up, void_step, at_place, Body, Event, Header, Kind, Label, Line, Message, ObjectState, Uid, entry, object}
 use Words.{frame_kind, Arm, Frame, Giving, World, as_delivered, as_lost, armed, begins, begins_any, bodies, change_frame, count_works}
 use Words.{counted, cut, deliver, deliver_frame, disarmed, done_step, frame_number, giving, gives_label, halted_at, halted_outs}
-use Words.{happens, is_quiet, is_up_at, junk_fits, labels_unless, lacks_labels, limited, lose_frame, lowest, most_frames, new_frame}
+use Words.{happens, is_quiet, is_up_at, junk_fits, labels_unless, lacks_labels, limited, lose_frame, lowest, new_frame}
 use Words.{no_labels, node_numbers, node_of, numbered, quiesce, reasons, refused_at, run_event, run_unless, sent_line, settle, settle_for}
 use Words.{show_all, show_up, step_node, step_with, steps, tick_all, tick_up, Move, all_moved, moved, journal_by}
-use Words.{world_by}
+use Words.{world_by, most_frames}
 use Words.calls
 use Words.commit
 use Words.input

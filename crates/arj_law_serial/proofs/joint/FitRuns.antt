@@ -8,9 +8,10 @@ use Words.{nat_le, nat_lt, AllByRecursion, Body, Event, Header, Line, frame_kind
 use Words.{worked, at_number, Input, Node, Step, first_reason, numbers_to, step, at_place, Arm, Frame, Giving, World, armed}
 use Words.{as_delivered, as_lost, begins, begins_any, bodies, change_frame, count_works, counted, cut, deliver, deliver_frame, disarmed}
 use Words.{done_step, frame_number, giving, halted_at, halted_outs, happens, is_quiet, is_up_at, junk_fits, labels_unless}
-use Words.{lacks_labels, limited, lose_frame, lowest, most_frames, new_frame, no_labels, node_numbers, node_of, numbered, put, quiesce}
+use Words.{lacks_labels, limited, lose_frame, lowest, new_frame, no_labels, node_numbers, node_of, numbered, put, quiesce}
 use Words.{reasons, refused_at, run_event, run_unless, set_node, settle, settle_for, show_all, show_up, step_node, step_with, steps}
 use Words.{tick_all, tick_up, Move, all_moved, as_moves, journal_by, moved, world_by, AreEventsInForm, AreMovesInForm, IsInForm}
+use Words.{most_frames}
 use Words.body
 use Words.event
 use Words.frame

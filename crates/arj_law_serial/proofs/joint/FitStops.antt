@@ -4,8 +4,8 @@ use Words.{◌≡◌, ◌≤◌, ◌-◌, ◌||◌, ℕ, zero, suc, Bool, true, 
 use Words.{nat_tests, nat_lt, AllByRecursion, at_number, Input, Node, Step, first_reason, step, at_place, Event, Arm, Frame, Giving, World}
 use Words.{armed, as_delivered, begins, begins_any, change_frame, count_works, counted, cut, deliver, deliver_frame, disarmed, done_step}
 use Words.{frame_number, giving, halted_at, happens, is_up_at, junk_fits, labels_unless, lacks_labels, limited, lose_frame, lowest}
-use Words.{most_frames, no_labels, node_numbers, node_of, quiesce, reasons, refused_at, run_event, run_unless, settle, settle_for, show_all}
-use Words.{show_up, step_node, step_with, steps, tick_all, tick_up, as_moves, AreEventsInForm, AreStopsInForm}
+use Words.{no_labels, node_numbers, node_of, quiesce, reasons, refused_at, run_event, run_unless, settle, settle_for, show_all}
+use Words.{show_up, step_node, step_with, steps, tick_all, tick_up, as_moves, AreEventsInForm, AreStopsInForm, most_frames}
 use Words.input
 use Words.event
 use Rattle.arj_law_serial.proofs.Terms.{Asked}

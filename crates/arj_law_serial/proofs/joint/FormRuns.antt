@@ -6,7 +6,7 @@ use Words.{◌≡◌, ◌∙◌, ◌+◌, ◌==◌, ℕ, Bool, true, false, cond
 use Words.{⊎_elim, Option, Some, None, if◌then◌else◌, AllByRecursion, nat_tests, entry, object, In as Listed, in_find, in_find_none, Class}
 use Words.{Header, ObjectLine, ObjectState, Uid, Value, class_of, again_all, begin_action, Coord, Disk, Do, Effect, Say, Send, stopped}
 use Words.{worked, tick_outs, Parts, with_coord, has, put_uid, Node, acts, parent_of}
-use Words.{parts_in, put_states, restart_outs, value_in, World, is_serial_kind, entry_back, same_number, Post, Seen, see}
+use Words.{parts_in, put_states, restart_outs, value_in, World, entry_back, same_number, Post, Seen, see, is_serial}
 use Rattle.arj_law_serial.proofs.Terms
 use Terms.{IsOlder, Marks, all_append, disk_by, entries_from, entry_by, older_at, state_by, states_from}
 use Terms.{HeaderInForm, entry_payload, first_values, object_line, servers_of_line, value_of_line, never, Keeps, In, at, given, posted}
@@ -212,7 +212,7 @@ module _ (hd : Header) (x : ℕ) (form : HeaderInForm hd) where
         let o = own k n d (Some t) M all in
         let did = begin_action l how parent (parent_of parent t.coord) t.coord in
         let a = begins_so (so_of k) (keep k) l how parent (parent_of parent t.coord) t.coord (let p = o.1 in p.coord) in
-        walk k e n did.outs (with_coord t did.part) d (given l (record { node = n; serial = is_serial_kind how }) M) o.0
+        walk k e n did.outs (with_coord t did.part) d (given l (record { node = n; serial = is_serial how }) M) o.0
         (with_it k t did.part o.1 a.0) (says_so k did.outs a.1) (rest k n d (Some t) M all);
     tick = λ e n d t M all.
         let o = own k n d (Some t) M all in

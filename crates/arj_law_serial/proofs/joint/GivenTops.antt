@@ -1,10 +1,10 @@
 -- Where both machines of an object stand in one state: tops of its calls, their nodes, and what the lock machine has of them.
 use Rattle.arj_law_parts.proofs.Words
 use Words.{◌≡◌, ℕ, List, [], ◌∷◌, true, false, Some, Contains, refl, sym, ◌∙◌, ap, subst, inl, inr, ⊎_elim, AllByRecursion, in_to, Header}
-use Words.{Uid, uid_number, Node, Seen}
+use Words.{Uid, uid_number, Node, Seen, is_serial}
 use Words.list
 use Rattle.arj_law_serial.proofs.Terms
-use Terms.{Act, acts, is_serial, first_values, Action, act_of, Core, book, is_decided, new_book, IsGiven, AreAlike, AreRight, is_book}
+use Terms.{Act, acts, first_values, Action, act_of, Core, book, is_decided, new_book, IsGiven, AreAlike, AreRight, is_book}
 use Terms.{its_acts, State, Holds, start_holds, RootsLow, roots_low, start_low, start_values, Votes, run_all_votes, start_votes}
 use Terms.{IsTiedToLines, Fixed, HasPlaces}
 use Terms.disk

@@ -1,7 +1,7 @@
 -- A journal that grows along a walk, and what is known as long as few bindings were made and few labels given.
 use Rattle.arj_law_parts.proofs.Words
 use Words.{◌≡◌, ◌∙◌, ◌++◌, ℕ, suc, List, [], ◌∷◌, refl, ap, subst, arith, length, ◌≤◌, append_assoc, Body, Line, Disk, Do, Effect, Say}
-use Words.{Send, stopped, worked, Parts, most_labels, numbered, Seen}
+use Words.{Send, stopped, worked, Parts, numbered, Seen, most_labels}
 use Words.body
 use Rattle.arj_law_serial.proofs.Terms.{down, posted, said, up, Up, Walks, walks_both, walks_to, HasFewBindings, HasFewLabels, nothing_more}
 use Rattle.arj_law_parts.proofs.moves.Together.{walks_where}

@@ -5,7 +5,7 @@ use Words.{IsFormed, Start, world_from}
 use Words.{◌≡◌, ◌≢◌, ◌⊎◌, ◌∙◌, ◌+◌, ℕ, true, false, List, [], Option, Some, None, ap, eq-eqb, inl, inr, refl, subst, sym, Body, Header}
 use Words.{Kind, Label, Uid, actor, again_all, begin_action, last_req, Used, doing_of, plan_for, root_at, Disk, Effect, tick_outs, Parts}
 use Words.{with_coord, uid_number, Input, acts, branch_named, parent_of, parts_in, refusal_up, restart_outs, Branch, root_of}
-use Words.{is_serial_kind, numbered, Seen, see}
+use Words.{numbered, Seen, see, is_serial}
 use Words.input
 use Rattle.arj_law_serial.proofs.Terms
 use Terms.{World, Office, decided, undecided, is_act, at, down, given, said, up, Up, Walks, halted, walks_both, walks_to, KnowsNode, Kinds}
@@ -236,7 +236,7 @@ module _ (hd : Header) (x : ℕ) (R : World → Seen → Type 0) (P : Kinds → 
         );
     begin = λ tops e k d t l how parent M A walk n r new may free kind both (part, before).
         let did = begin_action l how parent (parent_of parent t.coord) t.coord in
-        let N : Seen = given l (record { node = k; serial = is_serial_kind how }) M in
+        let N : Seen = given l (record { node = k; serial = is_serial how }) M in
         let M0 = up k d t M in
         let Q0 : Uid → List Used → Type 0 = T.uses tops A M0 none in
         let Y0 : Parts → Type 0 = λ t. AreAt (UsesSo Q0) t.coord in
@@ -300,7 +300,7 @@ module _ (hd : Header) (x : ℕ) (R : World → Seen → Type 0) (P : Kinds → 
       quiet_step : (e : ℕ) (bs : List Body) (M : Seen) → IsStep M (said e bs M)
       quiet_step e bs M = record { more = numbered e bs; lines = refl; nodes = λ j n is. (n, is, λ down. refl) }
 
-      given_near : (l : Label) (how : Kind) (k : ℕ) (M : Seen) → IsNear M (given l (record { node = k; serial = is_serial_kind how }) M)
+      given_near : (l : Label) (how : Kind) (k : ℕ) (M : Seen) → IsNear M (given l (record { node = k; serial = is_serial how }) M)
       given_near l how k M = record { more = []; lines = nothing_more M.lines; nodes = λ j. refl }
 
       was_up : {X : Type 0} (t : Parts) → Some t ≡ None → X

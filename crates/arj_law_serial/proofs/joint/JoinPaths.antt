@@ -1,10 +1,10 @@
 -- The paths of a journal: what stands below a top has that top, and what is below it by Uids or by actions is the same.
 use Rattle.arj_law_parts.proofs.Words
 use Words.{◌≡◌, ◌⊎◌, ◌||◌, ◌&&◌, ◌++◌, ◌∙◌, ℕ, Bool, true, false, not, cond, List, [], ◌∷◌, Option, Some, None, ap, inl, inr, refl, subst}
-use Words.{sym, ⊎_elim, AllByRecursion, list_all, list_any, bytes_eq, uid_is, is_on, uid_eq, In, behind, Kind, Uid}
+use Words.{sym, ⊎_elim, AllByRecursion, list_all, list_any, bytes_eq, uid_is, is_on, uid_eq, In, behind, Kind, Uid, is_serial}
 use Words.kind
 use Rattle.arj_law_serial.proofs.Terms
-use Terms.{Act, behind_first, chain_in, is_serial, path, path_in, top_in, uids, upwards, is_top, AreDistinct, AreFormed, one_act, on_path}
+use Terms.{Act, behind_first, chain_in, path, path_in, top_in, uids, upwards, is_top, AreDistinct, AreFormed, one_act, on_path}
 use Terms.{path_new, path_old, lasts_in}
 use Rattle.arj_law_runs.proofs.journal.Books.{never}
 use Rattle.arj_law_serial.proofs.order.Paths.{IsShaped, chain_on, well}

@@ -5,7 +5,7 @@ use Words.{eqb-true, inl, inr, refl, subst, sym, ⊎_elim, length, ⊤, AllByRec
 use Words.{in_to, again_all, begin_action, began_line, Committing, Coord, Doing, Idle, Now, new_coord, Disk, Do, Effect, Intent, Say, Send}
 use Words.{stopped, worked, tick_outs, Parts, Took, handle, with_coord, Node, acts, begin_refusal}
 use Words.{parent_of, parts_in, restart_outs, at_place, is_own, new_tree, next_uid, Body, Header, Kind, Label, Message, Uid, name}
-use Words.{is_serial_kind, numbered, Seen}
+use Words.{numbered, Seen, is_serial}
 use Words.body
 use Rattle.arj_law_serial.proofs.Terms
 use Terms.{IsAtStarts, first_up}
@@ -263,10 +263,10 @@ joins_given hd = record {
     begin_walk : (e k : ℕ) (d : Disk) (t : Parts) (l : Label) (how : Kind) (parent : Option Label) (M : Seen) → IsKept (up k d t M) →
         IncludesAreSaid (up k d t M) → Right (book M.lines) (began_line l how (next_uid t.coord.tree) parent)
         → (let did = begin_action l how parent (parent_of parent t.coord) t.coord in Walks IncludesAreSaid e k did.outs
-        (Up IncludesAreSaid k (with_coord t did.part)) d (given l (record { node = k; serial = is_serial_kind how }) M))
+        (Up IncludesAreSaid k (with_coord t did.part)) d (given l (record { node = k; serial = is_serial how }) M))
     begin_walk e k d t l how parent M kept p right =
         let did = begin_action l how parent (parent_of parent t.coord) t.coord in
-        let N : Seen = given l (record { node = k; serial = is_serial_kind how }) M in
+        let N : Seen = given l (record { node = k; serial = is_serial how }) M in
         walk e k (with_coord t did.part) (after (book M.lines) did.outs) (begin_own (book M.lines) l how parent t.coord
         (stands_of (up k d t M) kept) right (own_of k d t M p)) did.outs d N (book M.lines) refl refl
         ((right, home), tt) (stands_of (up k d t M) kept) (others_of k d (Some t) M kept.0 p)

@@ -4,11 +4,11 @@ use Words.{◌≡◌, ◌&&◌, ◌||◌, ◌==◌, ◌++◌, ◌∙◌, not, ar
 use Words.{ap, subst, inl, inr, Contains, if◌then◌else◌, eqb-true, eq-eqb, AllByRecursion, list_all, list_any, and_parts, uid_is, first_uid}
 use Words.{is_on, uid_eq, In, in_filter, in_find, in_find_none, in_from, in_map, in_to, Used, Coord, Joined, Root, Said, counts}
 use Words.{is_retained, joined_in, joins_on, objects_in, plan_for, root_at, said_in, survives, used_of, Disk, Parts, number_set, Branch}
-use Words.{behind, branch_of, ended_so, has_end, is_committed, root_of, End, Kind, Uid, name, uids_of, Seen}
+use Words.{behind, branch_of, ended_so, has_end, is_committed, root_of, End, Kind, Uid, name, uids_of, Seen, is_serial}
 use Words.ending
 use Words.kind
 use Rattle.arj_law_serial.proofs.Terms
-use Terms.{any_in, Act, chain_in, is_serial, path, top_in, uids, is_among, paths_of, IsGoodCoord, IsTree, found_by, work_there, good_coord}
+use Terms.{any_in, Act, chain_in, path, top_in, uids, is_among, paths_of, IsGoodCoord, IsTree, found_by, work_there, good_coord}
 use Terms.{one_tree, up, plan_by, used_at, Access, book, is_top, new_book, IsEnd, IsKept, KnowsUp, Stands, one_act, stands_lines}
 use Terms.{stands_new, AreSound, named_in, on_path, its_own, AreRising, IncludesAreNoted, IncludesLeft, has_included, includes_in}
 use Terms.{is_of_store, lasts_in}

@@ -5,7 +5,7 @@ use Words.{Start, world_from}
 use Words.{◌≡◌, ◌⊎◌, ℕ, ◌+◌, Bool, true, false, List, [], ◌∷◌, None, Some, refl, sym, ◌∙◌, ap, subst, inl, inr, ⊎_elim, ⊤, uid_is, in_find}
 use Words.{Asked, Header, Message, ObjectState, Uid, object, uid_eq, Reply, answers, again_all, begin_action, Known, Confirming, Disk}
 use Words.{Effect, Intent, Send, tick_outs, Parts, with_coord, uid_number, Node, acts, parent_of, parts_in, restart_outs}
-use Words.{is_serial_kind, Seen, see}
+use Words.{Seen, see, is_serial}
 use Words.list
 use Words.loaded
 use Rattle.arj_law_serial.proofs.Terms
@@ -456,7 +456,7 @@ module _ (hd : Header) (values : Values) (x : ℕ) (K : World → Seen → Type 
         );
     begin = λ tops e k d t l how parent M A walk n r new may free kind both (part, j).
         let did = begin_action l how parent (parent_of parent t.coord) t.coord in
-        let N : Seen = given l (record { node = k; serial = is_serial_kind how }) M in
+        let N : Seen = given l (record { node = k; serial = is_serial how }) M in
         let a = begins_in how parent t in
         let older : (f : Fixed) → AgreesApart values M.start.marks f x (a ∷ j.0) M.sent →
         AgreesApart values M.start.marks f x j.0 M.sent = λ f w.

@@ -2,8 +2,8 @@
 use Rattle.arj_law_parts.proofs.Words
 use Words.{◌≡◌, ◌⊎◌, ◌||◌, ◌++◌, ◌∙◌, ◌+◌, ℕ, Bool, true, false, cond, List, [], ◌∷◌, Some, ap, inl, inr, refl, subst, sym, ⊎_elim}
 use Words.{bytes_eq-Decides, In, in_from, in_to, actor, again_all, begin_action, Preparing, Disk, Do, Effect, Say, Send, stopped, worked}
-use Words.{tick_outs, Parts, with_coord, acts as acts_of, parent_of, parts_in, restart_outs, Body, Header, Line, name, is_serial_kind}
-use Words.{numbered, Post, Seen, world_by}
+use Words.{tick_outs, Parts, with_coord, acts as acts_of, parent_of, parts_in, restart_outs, Body, Header, Line, name}
+use Words.{numbered, Post, Seen, world_by, is_serial}
 use Words.body
 use Rattle.arj_law_serial.proofs.Terms
 use Terms.{KeepsGiven, kept_both, book, AreIdle, IsKept, or_which, in_later, its_acts, named_in, acts_more, lines_keep, named_label, Act}
@@ -165,8 +165,8 @@ asks_given hd = record {
       (moves_asked e k d t M g.0 p did.outs (let w = act_moved e k d t M g.0 g.1 hd i is free in w.whose));
   begin = λ e k d t l how parent M new may free g p.
       let did = begin_action l how parent (parent_of parent t.coord) t.coord in
-      walk e k (with_coord t did.part) did.outs d (given l (record { node = k; serial = is_serial_kind how }) M)
-      (unmarked_asked did.outs (given l (record { node = k; serial = is_serial_kind how }) M) (λ y x s. refl) p);
+      walk e k (with_coord t did.part) did.outs d (given l (record { node = k; serial = is_serial how }) M)
+      (unmarked_asked did.outs (given l (record { node = k; serial = is_serial how }) M) (λ y x s. refl) p);
   tick = λ e k d t M g p.
       let outs = tick_outs (record { number = k; disk = d; live = Some t }) t in
       walk e k (with_coord t (again_all t.coord.doings t.coord).part) outs d M

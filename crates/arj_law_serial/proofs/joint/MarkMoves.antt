@@ -5,11 +5,11 @@ use Words.{subst, sym, ⊎_elim, AllByRecursion, bytes_eq, bytes_eq-Decides, Rep
 use Words.{commit_action, commit_open, commit_top, end_line, gaveup_lines, give_up, give_up_call, give_up_doing, gives_up, heard, heard_by}
 use Words.{heard_call, heard_doing, heard_none, heard_now, include, last_req, mark_lines, moved_commit, step_commit, waits_for_call}
 use Words.{waits_for_commit, CallEnd, Goal, Include, Run, Steps, next_node, Aborts, Asks, CommitStep, Confirming, Decides, Machine, Marked}
-use Words.{Plan, Preparing, Stays, Used, Voting, begin_confirm, further, is_empty, marks_store, marks_stores, nodes_given_up, stores_left}
+use Words.{Plan, Preparing, Stays, Used, Voting, begin_confirm, further, marks_store, marks_stores, nodes_given_up, stores_left}
 use Words.{unbound, with_number, without_number, Keeping, Root, is_free, keeping_of, on_root, with_keeping, Calling, Committing, Coord}
 use Words.{Doing, Idle, Now, doing_of, plan_for, root_at, Did, Disk, Do, Effect, Intent, Say, Send, Served, abort_action, aborts_with}
 use Words.{ends_with, say_for, says, Parts, Took, handle, Input, acts, branch_named, on_branch, Branch, open_below, root_of, uses_object}
-use Words.{Asked, Body, End, Kind, Label, Line, Message, Path, Uid, name, is_on}
+use Words.{Asked, Body, End, Kind, Label, Line, Message, Path, Uid, name, is_on, is_empty}
 use Words.calls
 use Words.commit
 use Words.input

@@ -4,8 +4,8 @@ use Words.{◌≡◌, ◌≢◌, ◌⊎◌, ◌||◌, ◌==◌, ◌++◌, ◌∙
 use Words.{eqb-true, refl, subst, sym, ⊎_elim, list_all, bytes_eq, and_parts, bytes_eq-Decides, again_all, begin_action}
 use Words.{Machine, Preparing, plan_of, Committing, Coord, Doing, doing_of, Disk, Do, Effect, Say, Send, stopped, worked, say_for, says}
 use Words.{tick_outs, Parts, Took, handle, with_coord, Input, Node, acts, parent_of, parts_in}
-use Words.{restart_outs, Branch, at_place, is_own, Body, Header, Kind, Label, Line, Message, Uid, name, is_serial_kind, numbered}
-use Words.{Seen, world_by, actor}
+use Words.{restart_outs, Branch, at_place, is_own, Body, Header, Kind, Label, Line, Message, Uid, name, numbered}
+use Words.{Seen, world_by, actor, is_serial}
 use Words.input
 use Words.body
 use Rattle.arj_law_serial.proofs.Terms
@@ -255,7 +255,7 @@ marks_given hd = record {
   act = λ e k d t i M is free g p. act_walk e k d t M g p hd i is free;
   begin = λ e k d t l how parent M new may free g p.
       let did = begin_action l how parent (parent_of parent t.coord) t.coord in
-      let N = given l (record { node = k; serial = is_serial_kind how }) M in
+      let N = given l (record { node = k; serial = is_serial how }) M in
       walk e k (with_coord t did.part) (was_marked M.lines) (begins_all (was_marked M.lines) l how parent t.coord (own_of k d t M p))
       did.outs d N (λ y x s. or_false (was_marked M.lines y x s)) (others_of k d (Some t) M p)
       (unmarked_apart k did.outs N (λ y x s. refl));

@@ -3,11 +3,11 @@ use Rattle.arj_law_parts.proofs.Words
 use Words.{◌≡◌, ◌≢◌, ◌⊎◌, ◌||◌, ◌==◌, ◌&&◌, ◌++◌, ◌∙◌, ℕ, zero, suc, Bool, true, false, cond, List, [], ◌∷◌, Option, Some, None, ap, inl}
 use Words.{inr, refl, subst, sym, ⊎_elim, ◌+◌, ⊤, list_any, Ask, Kind, Label, PreparedReply, Uid, VotedReply, name, End, Path, Aborts, Asks}
 use Words.{CommitStep, Confirming, Decides, Machine, Marked, Plan, Preparing, Stays, Used, Voting, begin_confirm, begin_prepare, begin_vote}
-use Words.{is_empty, is_marked, marks_stores, participants, servers_of, stores_left, targets_of, votes_left, waiting, has_record, plan_of}
+use Words.{is_marked, marks_stores, participants, servers_of, stores_left, targets_of, votes_left, waiting, has_record, plan_of}
 use Words.{Reply, actor, again_all, again_now, asks_all, asks_node, begin_action, commits_in, doomed_by, goes_on, moved_commit, root_heard}
 use Words.{step_call, step_commit, at_place, doomed_at, ended_at, is_own, root_of, at_uid, has, put_uid, without_number, Calling}
 use Words.{Committing, Coord, Idle, Now, doing_of, new_coord, on_doing, on_root, Doing, acked, acked_by, acked_left, all_aborted, decide}
-use Words.{ended, root_after, CallEnd, CallStep, Ended, On, Steps, Intent, Served, parent_of}
+use Words.{ended, root_after, CallEnd, CallStep, Ended, On, Steps, Intent, Served, parent_of, is_empty}
 use Words.confirmed
 use Words.ending
 use Words.prepared

@@ -5,7 +5,7 @@ use Words.{◌≡◌, ◌⊎◌, ◌||◌, ◌&&◌, ◌∙◌, ◌+◌, ℕ, Bo
 use Words.{⊎_elim, is_some, bytes_eq-Decides, is_on, Body, Header, Kind, Label, Uid, first_uid, name, uids_of, again_all, begin_action}
 use Words.{Confirming, Machine, Preparing, is_marked, Committing, Coord, Doing, doing_of, Disk, Do, Effect, Intent, Say, Send, worked}
 use Words.{tick_outs, Parts, with_coord, at_uid, uid_number, Node, acts, parent_of, parts_in, restart_outs, branch_of}
-use Words.{is_serial_kind, numbered, Seen, see}
+use Words.{numbered, Seen, see, is_serial}
 use Words.list
 use Words.body
 use Words.order
@@ -350,7 +350,7 @@ module _ (hd : Header) (x : ℕ) (K L : World → Seen → Type 0) (P : Kinds �
         );
     begin = λ tops e k d t l how parent M A walk n r new may free kind both (part, marks).
         let did = begin_action l how parent (parent_of parent t.coord) t.coord in
-        let N : Seen = given l (record { node = k; serial = is_serial_kind how }) M in
+        let N : Seen = given l (record { node = k; serial = is_serial how }) M in
         along tops (Changes Quietly A) none no_top nobody A.world (up k d t M) (λ B c. goes_on_by Quietly A B (let z = both.disks in
         z.whole) c) (no_one none (up k d t M)) marks (λ u off. absurd off) (λ u p off. off) e k did.outs (with_coord t did.part) d N
         (parts.begin tops e k d t l how parent M A walk n (to A.world (up k d t M) r) new may free kind both part)
@@ -396,7 +396,7 @@ module _ (hd : Header) (x : ℕ) (K L : World → Seen → Type 0) (P : Kinds �
       quiet_step : (e : ℕ) (bs : List Body) (M : Seen) → IsStep M (said e bs M)
       quiet_step e bs M = record { more = numbered e bs; lines = refl; nodes = λ j n is. (n, is, λ down. refl) }
 
-      given_near : (l : Label) (how : Kind) (k : ℕ) (M : Seen) → IsNear M (given l (record { node = k; serial = is_serial_kind how }) M)
+      given_near : (l : Label) (how : Kind) (k : ℕ) (M : Seen) → IsNear M (given l (record { node = k; serial = is_serial how }) M)
       given_near l how k M = record { more = []; lines = nothing_more M.lines; nodes = λ j. refl }
 
       was_up : {X : Type 0} (t : Parts) → Some t ≡ None → X

@@ -2,7 +2,7 @@
 use Rattle.arj_law_parts.proofs.Words
 use Words.{◌≡◌, ◌⊎◌, ◌==◌, ℕ, ◌+◌, Bool, true, false, cond, List, [], ◌∷◌, Option, Some, None, refl, sym, ◌∙◌, ap, inl, inr, ⊎_elim}
 use Words.{eqb-true, is_eq, Header, Label, label_cmp, again_all, begin_action, Disk, Do, Effect, Say, Send, stopped, worked, tick_outs}
-use Words.{Parts, with_coord, Node, acts, parent_of, parts_in, restart_outs, Labelled, is_serial_kind, Seen}
+use Words.{Parts, with_coord, Node, acts, parent_of, parts_in, restart_outs, Labelled, Seen, is_serial}
 use Rattle.arj_law_serial.proofs.Terms.{Keeps, label_at, at, given, posted, said, Up, Walks, first_at, node_cases, node_here, NodesAreThere}
 use Rattle.arj_law_disk_view.proofs.view.Frames.{node_other}
 use Rattle.arj_law_runs.proofs.kept.Labels.{put_label}
@@ -84,8 +84,8 @@ nodes_keep hd = record {
       there_walk e k did.outs (with_coord t did.part) d M (others_there k d (Some t) M p);
   begin = λ e k d t l how parent M new may none p.
       let did = begin_action l how parent (parent_of parent t.coord) t.coord in
-      there_walk e k did.outs (with_coord t did.part) d (given l (record { node = k; serial = is_serial_kind how }) M)
-      (given_there k l (is_serial_kind how) M (others_there k d (Some t) M p));
+      there_walk e k did.outs (with_coord t did.part) d (given l (record { node = k; serial = is_serial how }) M)
+      (given_there k l (is_serial how) M (others_there k d (Some t) M p));
   tick = λ e k d t M p. there_walk e k (tick_outs (record { number = k; disk = d; live = Some t }) t)
       (with_coord t (again_all t.coord.doings t.coord).part) d M (others_there k d (Some t) M p);
   restart = λ e k d M p. there_walk e k (restart_outs hd k (d.inc + 1) d) (parts_in k (d.inc + 1) d) d M (others_there k d None M p);

@@ -3,7 +3,7 @@ use Rattle.arj_law_parts.proofs.Words
 use Words.{Start, world_from}
 use Words.{◌≡◌, ℕ, ◌+◌, List, [], Bool, true, Some, None, refl, sym, subst, is_on, Body, Header, Kind, Label, Line, Uid, again_all}
 use Words.{begin_action, Disk, Effect, tick_outs, Parts, with_coord, uid_number, acts, parent_of, parts_in, restart_outs}
-use Words.{is_serial_kind, numbered, Seen, see}
+use Words.{numbered, Seen, see, is_serial}
 use Rattle.arj_law_serial.proofs.Terms
 use Terms.{Office, Keeps, at, down, given, said, up, Up, Walks, halted, walks_both, walks_to, IsLater, Kinds, OnlyFound, SeesBoth, Change}
 use Terms.{Changes, Deciding, Quietly, change_by, Going, HasHeard, KeepsPart, are_recorded, going_of, restart_plain, book, IsKept, AreDone}
@@ -103,7 +103,7 @@ module _ (hd : Header) (x : ℕ) (R : Seen → Type 0) (G : machine.World → Se
         );
     begin = λ tops e k d t l how parent M A walk n r new may free kind both (part, order).
         let did = begin_action l how parent (parent_of parent t.coord) t.coord in
-        let N : Seen = given l (record { node = k; serial = is_serial_kind how }) M in
+        let N : Seen = given l (record { node = k; serial = is_serial how }) M in
         along tops (Changes Quietly A) A (up k d t M) (comes_by Quietly A (up k d t M) (let z = both.disks in
         z.whole) (λ z keeps by. quietly z keeps by)) (ties tops A (up k d t M) part) order e k did.outs (with_coord t did.part) d N
         (parts.begin tops e k d t l how parent M A walk n r new may free kind both part) (kept.begin e k d t l how parent M new may free
@@ -133,7 +133,7 @@ module _ (hd : Header) (x : ℕ) (R : Seen → Type 0) (G : machine.World → Se
       quiet_step : (e : ℕ) (bs : List Body) (M : Seen) → IsStep M (said e bs M)
       quiet_step e bs M = record { more = numbered e bs; lines = refl; nodes = λ j n is. (n, is, λ down. refl) }
 
-      given_near : (l : Label) (how : Kind) (k : ℕ) (M : Seen) → IsNear M (given l (record { node = k; serial = is_serial_kind how }) M)
+      given_near : (l : Label) (how : Kind) (k : ℕ) (M : Seen) → IsNear M (given l (record { node = k; serial = is_serial how }) M)
       given_near l how k M = record { more = []; lines = nothing_more M.lines; nodes = λ j. refl }
 
       nothing_yet : (st : Start) (A : Office) → A.world.disk.tops ≡ [] → IsOrdered (IdleThere Idle) A.world (see [] (world_from hd st))

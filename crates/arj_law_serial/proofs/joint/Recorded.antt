@@ -2,7 +2,7 @@
 use Rattle.arj_law_parts.proofs.Words
 use Words.{◌≡◌, ℕ, ◌+◌, List, [], true, Option, Some, None, is_some, refl, sym, ◌∙◌, ap, subst, inl, ⊎_elim, Body, Header, Kind, Label, Uid}
 use Words.{again_all, begin_action, Disk, Effect, Intent, tick_outs, Parts, with_coord, at_uid, uid_number, acts, parent_of, parts_in}
-use Words.{restart_outs, is_serial_kind, numbered, Seen}
+use Words.{restart_outs, numbered, Seen, is_serial}
 use Rattle.arj_law_serial.proofs.Terms
 use Terms.{World, Office, decided, decided_in, never, at, down, given, said, up, Up, Walks, halted, walks_both, walks_to, nodes_of, Kinds}
 use Terms.{SeesDisks, OnlyAnswers, OnlyFound, SeesBoth, Change, Changes, Quietly, change_by, KeepsPart, are_recorded, goes_along}
@@ -118,7 +118,7 @@ module _ (hd : Header) (x : ℕ) (G : World → Seen → Type 0) (P : Kinds → 
         );
     begin = λ tops e k d t l how parent M A walk n r new may free kind both (part, were).
         let did = begin_action l how parent (parent_of parent t.coord) t.coord in
-        let N : Seen = given l (record { node = k; serial = is_serial_kind how }) M in
+        let N : Seen = given l (record { node = k; serial = is_serial how }) M in
         along tops (Changes Quietly A) A.world (up k d t M) (λ B c. goes_by Quietly A B (let z = both.disks in z.whole) c) were e k did.outs
         (with_coord t did.part) d N
         (parts.begin tops e k d t l how parent M A walk n r new may free kind both part)
@@ -148,7 +148,7 @@ module _ (hd : Header) (x : ℕ) (G : World → Seen → Type 0) (P : Kinds → 
       quiet_step : (e : ℕ) (bs : List Body) (M : Seen) → IsStep M (said e bs M)
       quiet_step e bs M = record { more = numbered e bs; lines = refl; nodes = λ j n is. (n, is, λ down. refl) }
 
-      given_near : (l : Label) (how : Kind) (k : ℕ) (M : Seen) → IsNear M (given l (record { node = k; serial = is_serial_kind how }) M)
+      given_near : (l : Label) (how : Kind) (k : ℕ) (M : Seen) → IsNear M (given l (record { node = k; serial = is_serial how }) M)
       given_near l how k M = record { more = []; lines = nothing_more M.lines; nodes = λ j. refl }
 
       was_up : {X : Type 0} (t : Parts) → Some t ≡ None → X

@@ -2,8 +2,8 @@
 use Rattle.arj_law_parts.proofs.Words
 use Words.{◌≡◌, List, [], ◌∷◌, ℕ, ◌+◌, Some, refl, Disk, Do, Effect, Say, Send, stopped, worked, tick_outs, Parts, with_coord, acts}
 use Words.{parent_of}
-use Words.{parts_in, restart_outs, again_all, begin_action, Header, Move, World, all_moved, is_serial_kind, moved, run_event, world_by}
-use Words.{world_from, Seen, Start}
+use Words.{parts_in, restart_outs, again_all, begin_action, Header, Move, World, all_moved, moved, run_event, world_by}
+use Words.{world_from, Seen, Start, is_serial}
 use Rattle.arj_law_serial.proofs.Terms
 use Terms.{BeginsAs, Fixed, Marks, StandsFor, Values, IsGood, Up, Walks, arms_hold, event_asked, given, halted, posted}
 use Terms.{said, up, all_keep as parts_good}
@@ -51,7 +51,7 @@ module _ (hd : Header) (st : Start) where
     act = λ e k d t i M is asks free same. let did = acts i d.intents t.coord in walk e k did.outs (with_coord t did.part) d M same;
     begin = λ e k d t l how parent M new may free same.
         let did = begin_action l how parent (parent_of parent t.coord) t.coord in
-        walk e k did.outs (with_coord t did.part) d (given l (record { node = k; serial = is_serial_kind how }) M) same;
+        walk e k did.outs (with_coord t did.part) d (given l (record { node = k; serial = is_serial how }) M) same;
     tick = λ e k d t M same. walk e k (tick_outs (record { number = k; disk = d; live = Some t }) t)
         (with_coord t (again_all t.coord.doings t.coord).part) d M same;
     restart = λ e k d M same. walk e k (restart_outs hd k (d.inc + 1) d) (parts_in k (d.inc + 1) d) d M same;

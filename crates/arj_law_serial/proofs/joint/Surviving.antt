@@ -1,9 +1,9 @@
 -- Where a write of the object survives in the lock machine, its top is one of the journal, committed there, and wrote the object.
 use Rattle.arj_law_parts.proofs.Words
 use Words.{◌≡◌, ◌+◌, ◌&&◌, ◌||◌, not, ℕ, Bool, true, false, cond, List, [], ◌∷◌, Some, None, refl, sym, ◌∙◌, ap, subst, inl, inr, eq-eqb}
-use Words.{list_all, uid_same, is_on, last_uid, uid_eq, In, in_to, Line, Uid, Seen, Wrote}
+use Words.{list_all, uid_same, is_on, last_uid, uid_eq, In, in_to, Line, Uid, Seen, Wrote, is_serial}
 use Rattle.arj_law_serial.proofs.Terms
-use Terms.{Act, Placed, acts, chain_in, committed, has_end, is_committed, is_serial, recovered, top_in, uids, Said, call_of}
+use Terms.{Act, Placed, acts, chain_in, committed, has_end, is_committed, recovered, top_in, uids, Said, call_of}
 use Terms.{committed_calls, kept, kept_in, Values, writes_on, Action, is_top, new_book, IsDone, AreAlike, AreRight, AreSound, its_acts}
 use Terms.{its_sound, on_path, is_action, on, top, State, Survives, Holds, run_keeps, start_holds, top_of, AreCallsOf, IsCallOf}
 use Terms.{IsTiedToLines, said_on, Acts, Codes, IsSeenIn, StandsFor, Fixed, case_of, HasPlaces, path_of}

@@ -1,9 +1,9 @@
 -- The places of begun actions are those of a journal with the same actions.
 use Rattle.arj_law_parts.proofs.Words
 use Words.{◌≡◌, not, List, [], ◌∷◌, true, false, Some, refl, sym, ◌∙◌, ap, subst, inl, inr, first_uid, uids_of, is_on, Kind, Line, In}
-use Words.{in_from, in_to}
+use Words.{in_from, in_to, is_serial}
 use Rattle.arj_law_serial.proofs.Terms
-use Terms.{Act, acts, is_serial, path, root_in, uids, Action, act_of, Paths, is_top, new_book, AreDistinct, AreRight, one_act, AreSound}
+use Terms.{Act, acts, path, root_in, uids, Action, act_of, Paths, is_top, new_book, AreDistinct, AreRight, one_act, AreSound}
 use Terms.{its_sound, on_path, on_uids, path_new, path_old, is_action, on, root, top_action, IsPlaced, Acts, AreOneTree, Began, HasPlaces}
 use Terms.{path_of}
 use Terms.kind

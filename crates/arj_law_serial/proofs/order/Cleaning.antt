@@ -12,7 +12,8 @@ use Rattle.arj_law_disk.proofs.machine.Results.{clean}
 use Rattle.arj_law_disk.specs.machine.Laws.{IsClean}
 use Rattle.arj_law_runs.proofs.journal.Likes.{some_is}
 use Rattle.arj_law_serial.proofs.order.{Entries.entry_is_last, Entries.stores_back, States.state_is_last, Ties.Ties}
-use Rattle.arj_model.specs.{Calls.Call, Last.entry_from, Last.last_from, Last.listed, Serial.after, Start.Marks}
+use Rattle.arj_model.specs.{Calls.Call, Last.entry_from, Last.last_from, Last.listed, Serial.after}
+use Rattle.arj_start.specs.{Start.Marks}
 
 -- ---- classes
 

@@ -11,7 +11,8 @@ use Rattle.arj_law.proofs.Listed.{changers_append, entry_decided, last_of_append
 use Rattle.arj_law.specs.Growth.{entry_by}
 use Rattle.arj_law_disk.specs.machine.{Order.entry_by_all, State.entry_after, State.entry_with, State.list_after}
 use Rattle.arj_law_runs.proofs.journal.Books.{never}
-use Rattle.arj_model.specs.{Last.changer_from, Last.changers, Last.entry_from, Last.same_list, Start.Mark, Start.Marks}
+use Rattle.arj_model.specs.{Last.changer_from, Last.changers, Last.entry_from, Last.same_list}
+use Rattle.arj_start.specs.{Start.Mark, Start.Marks}
 use Rattle.arj_protocol.specs.Values.{entry_in as entry_in_payload}
 
 -- ---- lists

@@ -2,9 +2,9 @@
 use Rattle.arj_law_parts.proofs.Words
 use Words.{◌≡◌, ◌≢◌, ◌⊎◌, ◌<◌, ◌≤◌, ℕ, ◌+◌, ◌==◌, ◌&&◌, ◌||◌, List, [], ◌∷◌, ◌++◌, Bool, true, false, cond, nat_lt, max, Some, None, refl}
 use Words.{sym, ◌∙◌, ap, subst, inl, inr, ⊎_elim, arith, eqb-true, eq-eqb, AllByRecursion, and_parts, or_left, or_right, nat_tests, uid_is}
-use Words.{writes, Kind, Line, In, in_filter_map, in_from, in_to}
+use Words.{writes, Kind, Line, In, in_filter_map, in_from, in_to, is_serial}
 use Rattle.arj_law_serial.proofs.Terms
-use Terms.{Act, Placed, acts, behind_first, chain_in, committed, has_end, is_committed, is_serial, recovered, root_in, top_in, Said, Top}
+use Terms.{Act, Placed, acts, behind_first, chain_in, committed, has_end, is_committed, recovered, root_in, top_in, Said, Top}
 use Terms.{committed_calls, committings, ids, kept, root_or, top_by, tops, is_among, Values, lex, root_of, serial_key, top_place}
 use Terms.{unit_place, InOrder, is_top, new_book, IsDone, called, AreRight, one_act, AreSound, its_sound, is_sound, on, root, top, State}
 use Terms.{Survives, Conflicting, IsCommitted, run_keeps, start_holds, on_root, on_top, top_of as topmost, top_root, roots_low, start_low}

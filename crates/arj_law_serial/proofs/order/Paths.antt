@@ -1,9 +1,9 @@
 -- The paths of a journal whose lines are right: how they are made up, and that they stay.
 use Rattle.arj_law_parts.proofs.Words
 use Words.{◌≡◌, ◌⊎◌, ℕ, List, [], ◌∷◌, ◌++◌, Bool, true, false, cond, Option, Some, None, refl, sym, ◌∙◌, ap, subst, inl, inr}
-use Words.{AllByRecursion, bytes_eq, bytes_eq-Decides, last_uid, Body, Kind, Line, In}
+use Words.{AllByRecursion, bytes_eq, bytes_eq-Decides, last_uid, Body, Kind, Line, In, is_serial}
 use Rattle.arj_law_serial.proofs.Terms
-use Terms.{Act, act_in, behind_first, chain_in, is_serial, path, path_in, top_in, uids, upwards, Book, book_from, is_top, turned}
+use Terms.{Act, act_in, behind_first, chain_in, path, path_in, top_in, uids, upwards, Book, book_from, is_top, turned}
 use Terms.{AreDistinct, AreFormed, AreRight, Right, path_old}
 use Terms.body
 use Terms.kind

@@ -15,8 +15,9 @@ use Rattle.arj_law_runs.proofs.journal.Books.{never}
 use Rattle.arj_law_serial.proofs.{order.Ties.Ties, order.Tying.all_at, order.Values.to_filter}
 use Rattle.arj_law_serial.proofs.order.Order.{all_called_first, all_in_order, call_before, listed, place_of_top}
 use Rattle.arj_law_serial.specs.order.Decided.{IsCalledFirst, IsLastWrite}
-use Rattle.arj_model.specs.{Book.writes_before, Calls.Call, Last.count_tops, Last.last_from, Last.writer_from, Last.writes_of, Start.Mark}
-use Rattle.arj_model.specs.{Start.Marks}
+use Rattle.arj_model.specs.{Book.writes_before, Calls.Call, Last.count_tops, Last.last_from, Last.writer_from, Last.writes_of}
+use Rattle.arj_start.specs.{Start.Mark}
+use Rattle.arj_start.specs.{Start.Marks}
 
 -- ---- lists
 

@@ -1,9 +1,9 @@
 -- What the proofs take of a tie between a journal and a state of an object's machine.
 use Rattle.arj_law_parts.proofs.Words
 use Words.{◌≡◌, ℕ, ◌+◌, ◌==◌, List, [], ◌∷◌, true, false, inl, inr, refl, sym, ◌∙◌, subst, ⊎_elim, Contains, eqb-true, list_any, uid_is}
-use Words.{uid_eq, Uid, Line, In, in_to}
+use Words.{uid_eq, Uid, Line, In, in_to, is_serial}
 use Rattle.arj_law_serial.proofs.Terms
-use Terms.{Act, Placed, committed, has_end, is_serial, recovered, Said, Values, IsDone, called, or_which, State, Run, start, Acts, Codes}
+use Terms.{Act, Placed, committed, has_end, recovered, Said, Values, IsDone, called, or_which, State, Run, start, Acts, Codes}
 use Terms.{AreCallsOf, EndsSo, IsDecidedAt, said_on, AreApart, Began, HasPlaces, IsTied}
 use Terms.machine
 use Terms.state

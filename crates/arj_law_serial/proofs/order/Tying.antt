@@ -2,9 +2,9 @@
 use Rattle.arj_law_parts.proofs.Words
 use Words.{◌≡◌, ℕ, ◌+◌, ◌&&◌, ◌||◌, not, List, [], ◌∷◌, Bool, true, false, cond, Some, None, refl, sym, ◌∙◌, ap, subst, inl, inr, ⊎_elim}
 use Words.{AllByRecursion, list_all, list_any, and_parts, uid_is, uid_same, is_on, last_uid, uid_eq, Uid, Body, Kind, Line, In}
-use Words.{in_from, in_to}
+use Words.{in_from, in_to, is_serial}
 use Rattle.arj_law_serial.proofs.Terms
-use Terms.{Act, Placed, acts, acts_after, chain_in, committed, has_end, is_committed, is_serial, put, read, recovered, recovered_of, top_in}
+use Terms.{Act, Placed, acts, acts_after, chain_in, committed, has_end, is_committed, put, read, recovered, recovered_of, top_in}
 use Terms.{uids, Said, call_of, kept, kept_in, Values, Book, book_from, is_top, new_book, turned, IsDone, AreRight, Right, or_which, Stands}
 use Terms.{one_act, stands_new, stands_turn, AreSound, act_there, acts_turn, its_acts, its_sound, on_path, on_uids, is_action, on, State}
 use Terms.{Survives, Holds, run_keeps, start_holds, IsCallOf, HasPlaces, path_of}

@@ -25,7 +25,7 @@ use Words.what
 use Words.naming
 use Words.server
 use Rattle.arj_law_serial.proofs.Terms
-use Terms.{Action, AreBegun, ask_ends, brought, brought_by, told_by, FitsAsk, FitsAsked, FitsMessage, IsAsker, none_in, on_with, bind_says}
+use Terms.{Action, AreBegun, brought, brought_by, told_by, FitsAsk, FitsAsked, FitsMessage, IsAsker, none_in, on_with, bind_says, ends_in}
 use Terms.{note_says, AreBegunIn, AreEntryRows, AreNamesRows, IsBegun, IsCallRow, IsEntryRow, IsTopPath, rows_bind, rows_confirm}
 use Terms.{rows_hello, rows_note, rows_told, top_path_is, all_each, all_filter, all_keys, all_set, all_tops, All, queries_mean, IsNamedBy}
 use Rattle.arj_law_disk_view.proofs.running
@@ -338,7 +338,7 @@ module _ (acts : List Action) (begun : AreBegun acts) (k : ℕ) (d : Disk) (t : 
     served_on ends each s rows told =
         (rows, λ u is. ⊎_elim (λ old. inl old) (λ new. let e = end_in u ends new in inr (each u e.0 e.1)) (told u is))
 
-    asked : (h : Head) (a : Ask) → IsAsker acts h.path → ((u : Uid) (e : End) → Contains {X = Uid × End} (ask_ends a) (u, e) → has u) →
+    asked : (h : Head) (a : Ask) → IsAsker acts h.path → ((u : Uid) (e : End) → Contains {X = Uid × End} (ends_in a) (u, e) → has u) →
         By has (serve k d t from h a)
     asked h a who = by a
       where
@@ -351,7 +351,7 @@ module _ (acts : List Action) (begun : AreBegun acts) (k : ℕ) (d : Disk) (t : 
         top : IsBegun acts (top_of h.path)
         top = ⊎_elim (λ f. subst (IsBegun acts) (sym (ap last_uid f.2)) f.1) (λ f. (f.0, f.1, sym (ap last_uid f.3))) path
 
-        by : (a : Ask) → ((u : Uid) (e : End) → Contains {X = Uid × End} (ask_ends a) (u, e) → has u) → By has (serve k d t from h a)
+        by : (a : Ask) → ((u : Uid) (e : End) → Contains {X = Uid × End} (ends_in a) (u, e) → has u) → By has (serve k d t from h a)
         by (ask.Bind x include_it avoid) ends =
             with_it (λ o. served from h (with_naming t) Reply.Bound (naming.bind h.path x include_it avoid d.names o)) t.naming refl
             (λ m is. let r = naming.bind h.path x include_it avoid d.names m in answered h (with_naming t r.part) r.outs

@@ -9,7 +9,7 @@ use Words.{Before, Intent, Look, Prepare, PutInc, PutIntent, RemoveIntent, Say, 
 use Words.{tick_outs, Named, Naming, Parts, Took, handle, holders, prepared_actions, query_about, with_coord, uid_set, without_number}
 use Words.{Input, Node, acts as acts_of, hello_to, naming_at, naming_back, numbers_to, parent_of, parts_in}
 use Words.{recovered_records, refusal_up, restart_outs, tolds_again, Branch, at_place, branch_of, is_own, new_tree, next_uid, path_below}
-use Words.{Labelled, is_serial_kind, acked_own, acts_own, again_own, heard_own, query_own, Post, Seen}
+use Words.{Labelled, acked_own, acts_own, again_own, heard_own, query_own, Post, Seen, is_serial}
 use Words.list
 use Words.body
 use Words.ending
@@ -739,7 +739,7 @@ past_of hd = record {
   begin = λ acts e k d t l how parent M new may free more g p.
       let good = begin_good e k d t l how parent M new may free (acts, g) in
       begin_past acts e k d t l how parent M g p (begins_so e k d t l how parent M acts good)
-      (its_uid e k d t l how parent M new may free (acts, g)) (record { node = k; serial = is_serial_kind how });
+      (its_uid e k d t l how parent M new may free (acts, g)) (record { node = k; serial = is_serial how });
   tick = λ acts e k d t M more g p. tick_past acts e k d t M g p;
   restart = λ acts e k d M more g p. restart_past acts hd e k d M g p;
   first = first_past hd;
@@ -749,7 +749,7 @@ past_of hd = record {
     begins_so : (e k : ℕ) (d : Disk) (t : Parts) (l : Label) (how : Kind) (parent : Option Label) (M : Seen) (acts : List Action)
         → (let did = begin_action l how parent (parent_of parent t.coord) t.coord in Walks (IsGoodOf (begins_in how parent t ∷ acts)) e k
         did.outs (Up (IsGoodOf (begins_in how parent t ∷ acts)) k (with_coord t did.part)) d
-        (given l (record { node = k; serial = is_serial_kind how }) M)) → AreBegun (begins_in how parent t ∷ acts)
+        (given l (record { node = k; serial = is_serial how }) M)) → AreBegun (begins_in how parent t ∷ acts)
     begins_so e k d t l how parent M acts walked = walked.begun
 
 pub past_keep : HandlersKeepPast

@@ -2,10 +2,10 @@
 use Rattle.arj_law_parts.proofs.Words
 use Words.{◌≡◌, ◌≢◌, ◌⊎◌, ◌≤◌, ◌∙◌, ◌++◌, ◌+◌, ℕ, List, [], ◌∷◌, Bool, true, false, cond, length, take, Option, Some, None, ap, arith, inl}
 use Words.{inr, refl, subst, sym, ⊎_elim, map-append, length-append, take-append-le, bytes_eq, front, is_on, last_uid, uid_other, uid_same}
-use Words.{uid_eq, In, in_from, in_to, Kind, Uid, tops_of, uids_of, top_of, top_path, FitsPath}
+use Words.{uid_eq, In, in_from, in_to, Kind, Uid, tops_of, uids_of, top_of, top_path, FitsPath, is_serial}
 use Words.kind
 use Rattle.arj_law_serial.proofs.Terms
-use Terms.{Act, is_serial, path, path_in, uids, upwards, path_by, Action, AreBegun, IsNew, act_of, on_own, path_some, serial_alone}
+use Terms.{Act, path, path_in, uids, upwards, path_by, Action, AreBegun, IsNew, act_of, on_own, path_some, serial_alone}
 use Terms.{AreAlike, holders_in}
 use Rattle.arj_law_parts.proofs.parts.Begun.{front_more, whole_top}
 use Rattle.arj_law_parts.specs.parts.Actions.{Stands}

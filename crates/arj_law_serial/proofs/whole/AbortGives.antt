@@ -2,7 +2,7 @@
 use Rattle.arj_law_parts.proofs.Words
 use Words.{◌≡◌, ◌≢◌, ◌∙◌, ℕ, Bool, true, false, cond, List, [], ◌∷◌, refl, sym, ap, subst, inl, inr, ⊎_elim, Option, Some, None, Contains}
 use Words.{is_some, eqb-true, false_from_ne_true, in_from, in_to, Kind, Uid, first_uid, is_on, uids_of, Now, Intent, Naming, Parts, at_uid}
-use Words.{Node, Branch, at_place, branch_of, is_own, root_of, Seen}
+use Words.{Node, Branch, at_place, branch_of, is_own, is_serial, root_of, Seen}
 use Words.list
 use Words.ask
 use Words.ending
@@ -146,7 +146,7 @@ module _ (f : Fixed) (x : ℕ) (begun : List Action) (S : State) (s : Spot) (see
         subst (λ z. EndsSo M.lines c (S.action (f.act z))) is (tied.ends c there (plain c.kind (λ serial. never (ap (λ z. is_action (f.act
         z)) (b.2 ∙ is) ∙ acts_it) (subst (IsPlaced (f.act (act_of b.0))) (b.3 ∙ serial) (whole.placed b.0 (in_to b.0 begun b.1))))))
       where
-        plain : (k : Kind) → (k ≡ kind.Serial → ⊥) → model.is_serial k ≡ false
+        plain : (k : Kind) → (k ≡ kind.Serial → ⊥) → is_serial k ≡ false
         plain kind.Serial no_it = absurd (no_it refl)
         plain kind.Top no_it = refl
         plain kind.Nested no_it = refl

@@ -6,7 +6,7 @@ use Words.{inl, inr, ⊎_elim, Option, Some, None, Contains, is_some, and_parts,
 use Words.{Label, Message, Uid, asks, first_uid, is_on, uids_of, Reply, actor, asked_by, response, again_all, begin_action, heard, Coord}
 use Words.{Disk, Do, Effect, Intent, Look, PutInc, PutIntent, Say, Send, acked, answer_query, tick_outs, Parts, Took, handle, holders}
 use Words.{query_about, with_coord, at_uid, AreAll, Input, Node, acts, parent_of, parts_in, refusal_up, restart_outs, tolds_again, Tree}
-use Words.{branch_of, is_own, root_of, is_serial_kind, Post, Seen}
+use Words.{branch_of, is_own, root_of, Post, Seen, is_serial}
 use Words.ending
 use Words.kind
 use Words.message
@@ -323,16 +323,16 @@ module _ (a : Action) (begun : List Action) where
 begin_walk : (begun : List Action) (e k : ℕ) (d : Disk) (t : Parts) (l : Label) (how : Kind) (parent : Option Label) (M : Seen) →
     (let a = begins_in how parent t in let did = begin_action l how parent (parent_of parent t.coord) t.coord in
     Walks (IsGoodOf (a ∷ begun)) e k did.outs (Up (IsGoodOf (a ∷ begun)) k (with_coord t did.part)) d
-    (given l (record { node = k; serial = is_serial_kind how }) M))
+    (given l (record { node = k; serial = is_serial how }) M))
     → IsGoodOf begun (up k d t M) → AbortsNeed begun (up k d t M) → AbortsAreKnown begun (up k d t M)
     → (let a = begins_in how parent t in let did = begin_action l how parent (parent_of parent t.coord) t.coord in
     Walks (AbortsAreKnown (a ∷ begun)) e k did.outs (Up (AbortsAreKnown (a ∷ begun)) k (with_coord t did.part)) d
-    (given l (record { node = k; serial = is_serial_kind how }) M))
+    (given l (record { node = k; serial = is_serial how }) M))
 begin_walk begun e k d t l how parent M goes good need all =
     let a = begins_in how parent t in
     let did = begin_action l how parent (parent_of parent t.coord) t.coord in
     let v = with_coord t did.part in
-    let N = given l (record { node = k; serial = is_serial_kind how }) M in
+    let N = given l (record { node = k; serial = is_serial how }) M in
     let end = home_end (a ∷ begun) e k v did.outs d N goes in
     let w = walk_end (IsGoodOf (a ∷ begun)) e k (Up (IsGoodOf (a ∷ begun)) k v) did.outs d N goes in
     let started = (let g = w.2 in g.begun) in

@@ -14,8 +14,8 @@ use Words.{Do, Effect, Intent, PutIntent, Say, Send, Served, Work, abort_action,
 use Words.{answer_decided, answer_query, answer_recorded, decide, decided_told, ended, ends_with, is_deferred, is_kept_commit, let_go}
 use Words.{root_after, root_or_self, say_for, says, tell, tell_all, took_part, tolds_by, tolds_let_go, tolds_of, tolds_of_branch, up_to}
 use Words.{at_uid, has, put_uid, unbound, without_number, without_uid, Input, acts, branch_named, commit_reasons, on_branch, parent_of}
-use Words.{refusal_up, refused_by, Branch, branch_of, ended_at, ended_branch, ended_so, ends_of, has_end, has_open_child, is_constituent}
-use Words.{is_open, is_open_branch, is_own, open_below, root_of, uses_object}
+use Words.{refusal_up, refused_by, Branch, branch_of, ended_at, ended_branch, ended_so, ends_of, has_end, has_open_child}
+use Words.{is_open, is_open_branch, is_own, open_below, root_of, uses_object, is_constituent}
 use Words.ask
 use Words.ending
 use Words.kind

@@ -5,7 +5,7 @@ use Words.{refl, sym, ap, subst, inl, inr, eqb-true, AllByRecursion, and_parts, 
 use Words.{asks, before_last, first_uid, is_on, uids_of, actor, began_line, begin_action, back_lines, Coord, Did, Disk, Do, Effect, Intent}
 use Words.{Look, PutInc, Say, Named, Naming, Parts, prepared_actions, query_about, with_coord, has, uid_set, without_number, begin_refusal}
 use Words.{hello_to, naming_at, naming_back, numbers_to, parent_of, parts_in, recovered_records, restart_outs, tolds_again}
-use Words.{Branch, branch_of, is_own, next_uid, is_serial_kind, Post, Seen}
+use Words.{Branch, branch_of, is_own, next_uid, Post, Seen, is_serial}
 use Words.list
 use Words.body
 use Words.kind
@@ -80,7 +80,7 @@ module _ (hd : Header) (few : Bool) (begun : List Action) (e k : ℕ) (d : Disk)
   did = begin_action l how parent (parent_of parent t.coord) t.coord
 
   abbrev M2 : Seen
-  M2 = given l (record { node = k; serial = is_serial_kind how }) M
+  M2 = given l (record { node = k; serial = is_serial how }) M
 
   begin_acks : Walks (AcksAreKnown few (a ∷ begun)) e k did.outs (Up (AcksAreKnown few (a ∷ begun)) k (with_coord t did.part)) d M2
   begin_acks = of_node few (a ∷ begun) k (with_coord t did.part) d (Some (with_coord t did.part))

@@ -3,8 +3,8 @@ use Rattle.arj_law_parts.proofs.Words
 use Words.{◌≡◌, ◌≢◌, ◌⊎◌, ◌+◌, ◌==◌, ◌∙◌, ℕ, Bool, true, false, cond, List, [], ◌∷◌, Option, Some, None, refl, sym, ap, subst}
 use Words.{inl, inr, ⊎_elim, Binding, Header, Kind, Label, Message, asks, again_all, begin_action, Coord, Disk, Do, Effect}
 use Words.{Say, Send, stopped, worked, tick_outs, Parts, Took, handle, with_coord, unbound, Input, Node, acts as acts_of}
-use Words.{parent_of, parts_in, refusal_up, restart_outs, is_serial_kind, request_reads_back}
-use Words.{Post, Seen}
+use Words.{parent_of, parts_in, refusal_up, restart_outs, request_reads_back}
+use Words.{Post, Seen, is_serial}
 use Words.ask
 use Words.input
 use Rattle.arj_law_serial.proofs.Terms
@@ -174,7 +174,7 @@ avoids_of hd = record {
   act = λ acts e k d t i M is free more g p. act_walk acts e k d t M more g p hd i is free;
   begin = λ acts e k d t l how parent M new may free more g p.
       let did = begin_action l how parent (parent_of parent t.coord) t.coord in
-      walk e k (with_coord t did.part) did.outs d (given l (record { node = k; serial = is_serial_kind how }) M)
+      walk e k (with_coord t did.part) did.outs d (given l (record { node = k; serial = is_serial how }) M)
       (avoids_to (WasAvoided M.sent) (Still did.outs M.sent) did.part (λ x a w. inl w)
       (avoids_begin (WasAvoided M.sent) (none_was M.sent) l how parent t.coord (own_of k d t M p)))
       (others_of k d (Some t) M p);

@@ -4,7 +4,7 @@ use Words.{◌≡◌, ◌≢◌, ◌+◌, ◌==◌, ◌∙◌, ◌++◌, eqb-tru
 use Words.{sym, ap, subst, inl, inr, is_some, AllByRecursion, list_all, list_any, and_parts, or_cases, In as Listed, Body}
 use Words.{Header, Kind, Label, Line, Message, Op, again_all, begin_action, Goal, Include, Run, Disk, Do, Effect, Say, Send, stopped}
 use Words.{worked, tick_outs, Parts, Took, handle, with_coord, Input, Node, acts as acts_of, class_at, lacks_op}
-use Words.{parent_of, parts_in, refusal_up, restart_outs, is_serial_kind, numbered, Seen, Coord}
+use Words.{parent_of, parts_in, refusal_up, restart_outs, numbered, Seen, Coord, is_serial}
 use Words.body
 use Words.commit
 use Words.input
@@ -177,7 +177,7 @@ calls_keep hd = record {
       (λ l x s same there. (found_object hd x there, subst (AsksNode hd) same asks, tt)) (found_object hd) is free);
   begin = λ e k d t l how parent M new may free g.
       let did = begin_action l how parent (parent_of parent t.coord) t.coord in
-      let N = given l (record { node = k; serial = is_serial_kind how }) M in
+      let N = given l (record { node = k; serial = is_serial how }) M in
       beside e k did.outs (with_coord t did.part) d N (base.begin e k d t l how parent M new may free g.0)
       (walk P O e k (with_coord t did.part) did.outs d N (tt, tt) (let o = own_of P O k d t M g.1 in
       (wait_begin P l how parent t.coord o.0, uses_begun O how (parent_of parent t.coord) t.coord.tree o.1))

@@ -1,7 +1,7 @@
 -- Relations that are kept together, for the actions that were begun; and what a walk comes to at its end.
 use Rattle.arj_law_parts.proofs.Words
 use Words.{◌+◌, ℕ, List, [], ◌∷◌, Some, refl, Header, again_all, begin_action, Disk, Do, Effect, Say, Send, worked, tick_outs, Parts}
-use Words.{with_coord, acts, parent_of, parts_in, restart_outs, is_serial_kind, Seen}
+use Words.{with_coord, acts, parent_of, parts_in, restart_outs, Seen, is_serial}
 use Rattle.arj_law_serial.proofs.Terms.{Action, Keeps, given, posted, said, Up, Walks, walks_both, walks_to, KeepsOf, begins_in}
 
 -- ---- at its end
@@ -68,7 +68,7 @@ module _ (hd : Header) (G R Q : List Action → Seen →
     begin = λ begun e k d t l how parent M new may none more good p.
         let did = begin_action l how parent (parent_of parent t.coord) t.coord in
         both_walk (begins_in how parent t ∷ begun) e k did.outs (with_coord t did.part) d (given l
-        (record { node = k; serial = is_serial_kind how }) M) (one.begin begun e k d t l how parent M new may none (more, p.1) good p.0)
+        (record { node = k; serial = is_serial how }) M) (one.begin begun e k d t l how parent M new may none (more, p.1) good p.0)
         (two.begin begun e k d t l how parent M new may none (more, p.0) good p.1);
     tick = λ begun e k d t M more good p. both_walk begun e k (tick_outs (record { number = k; disk = d; live = Some t }) t)
         (with_coord t (again_all t.coord.doings t.coord).part) d M (one.tick begun e k d t M (more, p.1) good p.0)
@@ -97,7 +97,7 @@ module _ (hd : Header) (G R Q : List Action → Seen → Type 0) (to : (begun : 
     begin =
         λ begun e k d t l how parent M new may none more good p. let did = begin_action l how parent (parent_of parent t.coord) t.coord in
         to_walk (begins_in how parent t ∷ begun) e k did.outs (with_coord t did.part) d
-        (given l (record { node = k; serial = is_serial_kind how }) M)
+        (given l (record { node = k; serial = is_serial how }) M)
         (one.begin begun e k d t l how parent M new may none more good (from begun _ p));
     tick = λ begun e k d t M more good p. to_walk begun e k (tick_outs (record { number = k; disk = d; live = Some t }) t)
         (with_coord t (again_all t.coord.doings t.coord).part) d M (one.tick begun e k d t M more good (from begun _ p));

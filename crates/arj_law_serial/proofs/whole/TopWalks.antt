@@ -6,8 +6,8 @@ use Words.{again_all, begin_action, heard, back_lines, Copy, Abort, After, Befor
 use Words.{PutInc, PutIntent, RemoveIntent, Say, Send, Stop, Work, stopped, worked, acked, answer_query, tell_all, tick_outs, Named, Naming}
 use Words.{Parts, Took, handle, holders, prepared_actions, query_about, with_coord, at_number, uid_set, without_number, Input, Node}
 use Words.{acts as acts_of, hello_to, naming_at, naming_back, numbers_to, parent_of, parts_in, recovered_records, refusal_up}
-use Words.{restart_outs, tolds_again, is_serial_kind, acked_own, acts_own, again_own, heard_own, query_own}
-use Words.{tolds_again_own, Post, Seen}
+use Words.{restart_outs, tolds_again, acked_own, acts_own, again_own, heard_own, query_own}
+use Words.{tolds_again_own, Post, Seen, is_serial}
 use Words.body
 use Words.ending
 use Words.role
@@ -278,7 +278,7 @@ tops_of hd = record {
   begin = λ acts e k d t l how parent M new may free more g p.
       let did = begin_action l how parent (parent_of parent t.coord) t.coord in
       let a : Action = begins_in how parent t in
-      walk (a ∷ acts) e k (with_coord t did.part) did.outs d (given l (record { node = k; serial = is_serial_kind how }) M) (tt, tt)
+      walk (a ∷ acts) e k (with_coord t did.part) did.outs d (given l (record { node = k; serial = is_serial how }) M) (tt, tt)
       (all_each (λ (z : Uid × List ObjectState). IsTopAction acts z.0) (λ (z : Uid × List ObjectState). IsTopAction (a ∷ acts) z.0)
       (let c = d.store in c.pend) (λ z its. top_more a acts z.0 its) (own acts k d (Some t) M p))
       (let o = stores_more a acts k M (around acts k d (Some t) M p) in record { stores = o.stores; sent = o.sent });

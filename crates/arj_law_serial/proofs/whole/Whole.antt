@@ -1,7 +1,7 @@
 -- All that is known of the protocol alone is kept, for the actions that were begun, where few bindings were made.
 use Rattle.arj_law_parts.proofs.Words
 use Words.{ℕ, true, List, ◌∷◌, Some, refl, subst, ⊤, Header, again_all, begin_action, tick_outs, with_coord, acts, parent_of}
-use Words.{is_serial_kind, Seen}
+use Words.{Seen, is_serial}
 use Rattle.arj_law_serial.proofs.Terms
 use Terms.{Action, paths_of, begun_tree, good_coord, given, up, AreSaid, KnowsFew, IsKept, lines_keep, ArePastIn, AreRecorded, KeepsOf}
 use Terms.{begins_in, HasObject, HoldsEntry, KnowsParted, AreUppersOf, WorksAreKnown, parted_keep, uppers_of, works_keep, AbortsAreKnown}
@@ -31,7 +31,7 @@ records_of hd = record {
       t.coord (good_coord e k d t M (begun, good)) hd i free) p;
   begin = λ begun e k d t l how parent M new may free more good p. let did = begin_action l how parent (parent_of parent t.coord) t.coord in
       let a = begins_in how parent t in
-      kept_walk (a ∷ begun) e k d t (with_coord t did.part) did.outs (given l (record { node = k; serial = is_serial_kind how }) M)
+      kept_walk (a ∷ begun) e k d t (with_coord t did.part) did.outs (given l (record { node = k; serial = is_serial how }) M)
       (same_kept (a ∷ begun) t.coord did.part did.outs refl refl) (recorded_more a begun (up k d t M) p);
   tick = λ begun e k d t M more good p. kept_walk begun e k d t (with_coord t (again_all t.coord.doings t.coord).part)
       (tick_outs (record { number = k; disk = d; live = Some t }) t) M (tick_kept begun k d t) p;

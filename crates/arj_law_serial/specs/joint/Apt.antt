@@ -1,7 +1,7 @@
 -- What may be fixed of an object in codes that tell values apart.
 use Rattle.std.specs.Prelude.{ℕ, List}
 use Rattle.arj_model.specs.Serial.{Values}
-use Rattle.arj_model.specs.Start.{Marks}
+use Rattle.arj_start.specs.Start.{Marks}
 use Rattle.arj_law_parts.specs.parts.Actions.{Action}
 use Rattle.arj_law_lock_view.specs.running.Fixed.{AgreesBy, BeginsAs, Fixed}
 use Rattle.arj_law_serial.specs.order.Tied.{AreApart}

@@ -8,7 +8,7 @@ use Rattle.arj_protocol.specs.Words.ask
 use Rattle.arj_protocol.specs.Words.body
 use Rattle.arj_protocol.specs.Ask.{actor}
 use Rattle.arj_protocol.specs.Confirm.{Grants, Marks}
-use Rattle.arj_protocol.specs.Commit.{Confirming, Machine, Preparing, Voting, is_empty, is_marked}
+use Rattle.arj_protocol.specs.Commit.{Confirming, Machine, Preparing, Voting, is_marked}
 use Rattle.arj_protocol.specs.Coord.{Committing, Doing, doing_of}
 use Rattle.arj_protocol.specs.Node.{Parts}
 use Rattle.arj_protocol.specs.Step.{Node}
@@ -17,6 +17,7 @@ use Rattle.arj_promise.specs.Runs.{Run, world_by}
 use Rattle.arj_law_parts.specs.moves.Seen.{In}
 use Rattle.arj_promise.specs.Runs.{Post, Seen}
 use Rattle.arj_law_runs.specs.journal.Book.{book}
+use Rattle.arj_protocol.specs.Order.{is_empty}
 
 -- the line says that the commit of the action with this name excludes the store for the object
 abbrev pub excludes : List ℕ → ℕ → ℕ → Body → Bool

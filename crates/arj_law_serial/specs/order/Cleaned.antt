@@ -8,7 +8,7 @@ use Rattle.arj_class.specs.Table.{class_of}
 use Rattle.arj_journal.specs.declared.body.Line.{Line}
 use Rattle.arj_journal.specs.declared.header.Header.{Header}
 use Rattle.arj_model.specs.Last.{entry_from, entry_payload, first_values, is_among, last_from, listed, object_line, servers_of_line}
-use Rattle.arj_model.specs.Start.{Mark, Marks}
+use Rattle.arj_start.specs.Start.{Mark, Marks}
 use Rattle.arj_law.specs.Growth.{first_stores}
 use Rattle.arj_protocol.specs.Effect.{held_at, holder_of}
 use Rattle.arj_protocol.specs.Order.{uid_number}

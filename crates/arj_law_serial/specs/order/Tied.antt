@@ -4,7 +4,7 @@ use Rattle.std.specs.List.{list_any}
 use Rattle.arj_base.specs.Rows.{is_on}
 use Rattle.arj_class.specs.declared.value.Value.{Value}
 use Rattle.arj_journal.specs.declared.body.Line.{Line}
-use Rattle.arj_model.specs.Actions.{Act, Placed, acts, is_serial, path, root_in, uids}
+use Rattle.arj_model.specs.Actions.{Act, Placed, acts, path, root_in, uids}
 use Rattle.arj_model.specs.Calls.{Said, said}
 use Rattle.arj_model.specs.Serial.{Values}
 use Rattle.arj_law_runs.specs.journal.Book.{is_top}
@@ -15,6 +15,7 @@ use Rattle.arj_law_lock.specs.machine.State.{State}
 use Rattle.arj_law_lock_view.specs.view.Acts.{Acts}
 use Rattle.arj_law_lock_view.specs.view.Copies.{Codes}
 use Rattle.arj_law_lock_view.specs.journal.Lines.{IsTiedToLines}
+use Rattle.arj_start.specs.Kinds.{is_serial}
 
 -- the action began by this journal
 abbrev pub Began : List Line → Act → Type 0
