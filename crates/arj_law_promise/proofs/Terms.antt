@@ -57,7 +57,7 @@ pub use Rattle.arj_law_promise.specs.settling.Prepared.{AskersAreSettled, AsksFo
 pub use Rattle.arj_law_promise.specs.settling.Prepared.{PreparedWereAsked, WasAsked, preparer, preparer_in}
 pub use Rattle.arj_law_promise.specs.settling.Settled.{AskersSettle, DisksAreKnown, KnowsPrepared}
 pub use Rattle.arj_law_promise.specs.waiting.Asked.{ActivateNamed, Claims, HasMade, HaveForms, IsAnsweredBy, MadeWasSaid, NamedAt}
-pub use Rattle.arj_law_promise.specs.waiting.Asked.{NamedWasSaid, ReplyWasAsked, RequestsAreHome, ServerWasAsked, StandsIn, StepsNamed}
+pub use Rattle.arj_law_promise.specs.waiting.Asked.{NamedWasSaid, ReplyWasAsked, ServerWasAsked, StandsIn, StepsNamed}
 pub use Rattle.arj_law_promise.specs.waiting.Asked.{WasBrought, WasMade, WasNamed, WereAsked}
 pub use Rattle.arj_law_promise.specs.waiting.Waits.{HasStored, LoadsFind, WaitsAreKnown}
 pub use Rattle.arj_law_promise.specs.waiting.Writers.{AnsweredIsBy, ArePastWriters, AreSince, AskIsBy, AskedIsBy, CoordIsBy, EffectIsBy}
@@ -105,9 +105,9 @@ pub use Rattle.arj_law_serial.specs.past.Told.{ArePastIn, EndsArePast, IsClosedA
 pub use Rattle.arj_law_serial.specs.whole.Aborts.{IsPartAsked}
 pub use Rattle.arj_law_serial.specs.whole.Acks.{AcksAreKnown, HasAcked, IsDemanded, IsPartOf, WasRecorded, acked_in, records_in}
 pub use Rattle.arj_law_serial.specs.whole.Called.{UsesOf}
-pub use Rattle.arj_model.specs.Actions.{Act, act_in, acts, is_serial}
+pub use Rattle.arj_model.specs.Actions.{Act, act_in, acts}
 pub use Rattle.arj_model.specs.Last.{first_values}
-pub use Rattle.arj_model.specs.Start.{Mark, Marks}
+pub use Rattle.arj_start.specs.Start.{Mark, Marks}
 pub use Rattle.arj_promise.specs.Starts.{IsOlder, next_inc}
 pub use Rattle.arj_protocol.specs.Step.{disk_by, entries_from, entry_by, older_at, state_by, states_from}
 pub use Rattle.arj_model.specs.Outcome.{may_abort, was_excluded}

@@ -20,7 +20,7 @@ pub mod WriterNodes
 pub mod WriterHandled
 pub mod WriterRuns
 pub mod Uncommitted
+pub mod AskedEffects
 pub mod AskedRuns
-pub mod Home
 pub mod Gives
 pub mod Keeping

@@ -2,3 +2,5 @@ pub mod waiting
 pub mod settling
 pub mod starts
 pub mod readable
+pub mod meant
+pub mod rooms

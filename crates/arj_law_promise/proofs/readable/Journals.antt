@@ -18,7 +18,7 @@ use Rattle.arj_model.specs.Actions.{Begun, begun_of, numbered}
 use Rattle.arj_model.specs.Last.{first_values}
 use Rattle.arj_model.specs.Nested.{nested_calls}
 use Rattle.arj_model.specs.Serial.{serial_calls}
-use Rattle.arj_protocol.specs.Tree.{longest_path}
+use Rattle.arj_start.specs.Limits.{most_on_path}
 use Rattle.arj_replay.proofs.Right.{difference_right}
 use Rattle.arj_reading.specs.Readable.{body_rule, broken_from, broken_or, met, or_else, unless}
 use Rattle.arj_reading.specs.declared.rule.Rule.TheVariants as rule
@@ -53,7 +53,7 @@ module _ (hd : Header) where
           let new : Act = record { id = length (acts before); label = name l; kind = k; uid = u; parent = option_map name p } in
           let above : List Act = upwards (option_map name p) k (path (acts before)) in
           let long : length (above ++ new ∷ []) ≡ length above + 1 = length-append above (new ∷ []) in
-          let most : length (above ++ new ∷ []) ≤ longest_path = s.0 in
+          let most : length (above ++ new ∷ []) ≤ most_on_path = s.0 in
           omega (arith, long, most)
       by b s = tt
 

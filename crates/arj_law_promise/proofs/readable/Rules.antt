@@ -2,12 +2,12 @@
 use Rattle.arj_law_parts.proofs.Words
 use Words.{⊤, ◌≡◌, ◌≤◌, ◌&&◌, ◌||◌, ◌+◌, ◌==◌, ◌∙◌, ℕ, Bool, true, false, cond, not, List, [], ◌∷◌, ◌++◌, Option, Some, None, refl, sym, ap, subst, inl, inr}
 use Words.{arith, nat_tests, length, length-append, nat_lt, nat_le, option_map, is_some, uid_eq, uid_is, is_on, In, in_find_none, in_from, name}
-use Words.{Body, Header, Kind, Label, Line, ObjectLine, Op, Uid, class_at, class_in, lacks_op}
+use Words.{Body, Header, Kind, Label, Line, ObjectLine, Op, Uid, class_at, class_in, lacks_op, is_serial}
 use Words.body
 use Words.kind
 use Rattle.arj_law_promise.proofs.Terms.{HasObject}
 use Rattle.arj_law_runs.proofs.Terms
-use Terms.{Act, act_in, acts, path, path_in, upwards, is_serial, has_end, read, Book, book, new_book, is_over, is_top, AreRight, IsBelow}
+use Terms.{Act, act_in, acts, path, path_in, upwards, has_end, read, Book, book, new_book, is_over, is_top, AreRight, IsBelow}
 use Terms.{Right, has_act}
 use Rattle.arj_law_runs.proofs.journal.{Books.never, Books.sane_lines, Books.sane_new}
 use Rattle.arj_law_runs.proofs.journal.Models.{its_acts, its_call, its_end, named_in}
@@ -17,7 +17,7 @@ use Rattle.arj_class.specs.declared.limits.TheConstants.{REGISTER_BYTES}
 use Rattle.arj_class.specs.declared.op.Op.TheVariants as op
 use Rattle.arj_model.specs.Actions.{ended}
 use Rattle.arj_model.specs.Last.{object_line}
-use Rattle.arj_protocol.specs.Tree.{longest_path}
+use Rattle.arj_start.specs.Limits.{most_on_path}
 use Rattle.arj_reading.specs.Readable as reading
 use reading.{Met, met, act_by, has_parent, is_parent_of, named_as, object_rule, of_begun, or_else, recovered_rule, unless}
 use Rattle.arj_reading.specs.declared.limits.TheConstants.{PATH_ACTIONS}
@@ -92,10 +92,10 @@ parent_fits us kind.Constituent None below = absurd below
 
 -- where an action begins behind these, its path is short
 abbrev pub ShortBegin : List Act → Body → Type 0
-ShortBegin us (body.Began l k u p) = length (upwards (option_map name p) k (path us)) + 1 ≤ longest_path
+ShortBegin us (body.Began l k u p) = length (upwards (option_map name p) k (path us)) + 1 ≤ most_on_path
 ShortBegin us _ = ⊤
 
-less_deep : (n : ℕ) → n + 1 ≤ longest_path → nat_lt n PATH_ACTIONS ≡ true
+less_deep : (n : ℕ) → n + 1 ≤ most_on_path → nat_lt n PATH_ACTIONS ≡ true
 less_deep n le = grind (arith, nat_tests, le)
 
 -- ---- an operation

@@ -5,8 +5,8 @@ use Words.{inr, map, eqb-true, ⊤, is_some, AllByRecursion, Ask, Head, Header, 
 use Words.{begin_action, heard, Coord, Abort, After, Before, Commit, Disk, Do, Effect, InPart, Look, Pair, Prepare, PutInc, PutIntent}
 use Words.{RemoveIntent, Say, Send, Stop, Work, in_part, stopped, worked, acked, answer_query, tick_outs, recovered_naming, Parts, Took}
 use Words.{handle, holders, query_about, with_coord, Input, Node, acts as acts_of, parent_of, parts_in, refusal_up}
-use Words.{restart_outs, tolds_again, put_uid, without_uid, is_serial_kind, acked_own, acts_own, again_own, heard_own, query_own}
-use Words.{tolds_again_own, Post, Seen}
+use Words.{restart_outs, tolds_again, put_uid, without_uid, acked_own, acts_own, again_own, heard_own, query_own}
+use Words.{tolds_again_own, Post, Seen, is_serial}
 use Words.role
 use Words.input
 use Rattle.arj_law_promise.proofs.Terms
@@ -308,7 +308,7 @@ asked_of hd = record {
       let did = begin_action l how parent (parent_of parent t.coord) t.coord in
       let a : Action = begins_in how parent t in
       let m = own acts k d (Some t) M p in
-      walk (a ∷ acts) e k (with_coord t did.part) did.outs d (given l (record { node = k; serial = is_serial_kind how }) M) (m.live t refl)
+      walk (a ∷ acts) e k (with_coord t did.part) did.outs d (given l (record { node = k; serial = is_serial how }) M) (m.live t refl)
       (tt, tt) (m.store, m.names)
       (let o = around_more a acts k M (around acts k d (Some t) M p) in record { nodes = o.nodes; sent = o.sent });
   tick = λ acts e k d t M more g p. tick_walk acts e k d t M g p;

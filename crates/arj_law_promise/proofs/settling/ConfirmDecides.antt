@@ -2,9 +2,9 @@
 use Rattle.arj_law_parts.proofs.Words
 use Words.{◌≡◌, ◌≢◌, ◌⊎◌, ◌≤◌, ◌∙◌, ◌++◌, ◌||◌, ℕ, Bool, true, false, cond, not, List, [], ◌∷◌, map, Some, refl, sym, ap, subst, inl, inr}
 use Words.{⊎_elim, arith, is_some, AllByRecursion, Ask, Head, Uid, asks, actor, Confirming, Machine, Plan, has_record, included_of}
-use Words.{is_empty, participants, Committing, Doing, doing_of, After, Before, Disk, Do, Effect, InPart, Intent, PutIntent, Stop}
+use Words.{participants, Committing, Doing, doing_of, After, Before, Disk, Do, Effect, InPart, Intent, PutIntent, Stop}
 use Words.{is_prepared, stopped, worked, decide, decided_told, say_for, says, tell, Parts, at_uid, has, put_uid, Node, Branch, branch_of}
-use Words.{is_own, root_of, Post, Seen}
+use Words.{is_own, root_of, Post, Seen, is_empty}
 use Words.ask
 use Words.body
 use Words.ending

@@ -4,8 +4,8 @@ use Words.{◌+◌}
 use Words.{node_by, world_from}
 use Words.{◌≡◌, ◌∙◌, ◌++◌, ℕ, false, cond, List, [], ◌∷◌, Option, Some, None, refl, sym, ap, subst, inl, inr, arith, ⊤, AllByRecursion}
 use Words.{list_all, and_parts, Body, Header, Kind, Label, Line, Message, Uid, begin_action, heard, Disk, Effect, answer_query, Naming}
-use Words.{Parts, ack_told, naming_told, store_told, with_coord, parent_of, parts_in, next_uid, is_serial_kind}
-use Words.{numbered, world_by, Seen, see}
+use Words.{Parts, ack_told, naming_told, store_told, with_coord, parent_of, parts_in, next_uid}
+use Words.{numbered, world_by, Seen, see, is_serial}
 use Words.body
 use Words.world
 use Rattle.arj_law_promise.proofs.Terms
@@ -234,7 +234,7 @@ naming_keep hd = record {
   act = λ e k d t i M is free right. act_naming k d t M right e hd i is free (its.act e k d t i M is free right.0);
   begin = λ e k d t l how parent M new may free right. (
     its.begin e k d t l how parent M new may free right.0,
-    begun_confirms k d t M right.1 e l how parent (let G = given l (record { node = k; serial = is_serial_kind how }) M in G.labels),
+    begun_confirms k d t M right.1 e l how parent (let G = given l (record { node = k; serial = is_serial how }) M in G.labels),
   );
   tick = λ e k d t M right. tick_naming k d t M right e (its.tick e k d t M right.0);
   restart = λ e k d M right. restart_naming hd k d M right e (its.restart e k d M right.0);

@@ -1,8 +1,8 @@
 -- What holds in every run of tops that naming was asked to confirm, so that naming aborts nothing that it prepared for a decided one.
 use Rattle.arj_law_parts.proofs.Words
 use Words.{◌≡◌, ◌⊎◌, ◌≤◌, ◌<◌, ◌∙◌, ◌++◌, ◌&&◌, ℕ, List, [], ◌∷◌, Bool, true, false, not, Option, Some, None, refl, sym, ap, subst, inl}
-use Words.{inr, ⊎_elim, arith, Line, Asked, Head, Uid, asks, is_on, Reply, actor, answers, is_empty, Grants, Marks, Intent, is_prepared}
-use Words.{Naming, Parts, Node, Post, Seen}
+use Words.{inr, ⊎_elim, arith, Line, Asked, Head, Uid, asks, is_on, Reply, actor, answers, Grants, Marks, Intent, is_prepared}
+use Words.{Naming, Parts, Node, Post, Seen, is_empty}
 use Words.list
 use Words.ask
 use Words.confirmed

@@ -2,10 +2,10 @@
 use Rattle.arj_law_parts.proofs.Words
 use Words.{◌≡◌, ◌≢◌, ◌⊎◌, ◌∙◌, ◌++◌, ◌||◌, ◌&&◌, ℕ, Bool, true, false, cond, List, [], ◌∷◌, map, not, Option, Some, None, refl, sym, ap}
 use Words.{subst, inl, inr, ⊎_elim, Contains, is_some, option_map, AllByRecursion, Body, End, Head, ObjectState, Uid, asks, actor, last_end}
-use Words.{Confirming, Machine, Plan, has_record, included_of, is_empty, naming_node, participants, servers_of, Committing, Coord, Doing}
+use Words.{Confirming, Machine, Plan, has_record, included_of, naming_node, participants, servers_of, Committing, Coord, Doing}
 use Words.{doing_of, on_doing, on_root, After, Before, Disk, Do, Effect, InPart, Intent, PutIntent, Stop, is_prepared, stopped, worked}
 use Words.{decide, decided_told, ended, root_after, say_for, says, tell, Parts, at_uid, has, put_uid, Node, Branch, branch_of, root_of}
-use Words.{Post, Seen}
+use Words.{Post, Seen, is_empty}
 use Words.ask
 use Words.body
 use Words.ending

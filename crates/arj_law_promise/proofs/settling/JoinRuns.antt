@@ -21,7 +21,7 @@ use Rattle.arj_law_promise.proofs.settling
 use settling.{Askers.askers_kept, Knowns.never, Yeses.SaidYes}
 use settling.Joins.{AreOwn, IncludedFrom, Joins, PreparedFrom, WasJoined, answer_joins, giveup_joins, names_number, owns_of, plan_own}
 use settling.Joins.{sent_names, start_joins}
-use Rattle.arj_law_disk_view.proofs.running.StateCoords as states
+use Rattle.arj_law_disk_view.proofs.running.StateInputs as states
 
 -- ---- which requests are these
 

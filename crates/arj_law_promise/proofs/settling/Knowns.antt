@@ -2,14 +2,14 @@
 use Rattle.arj_law_parts.proofs.Words
 use Words.{◌≡◌, ◌≢◌, ◌⊎◌, ◌∙◌, ◌||◌, ℕ, Bool, true, false, cond, List, length, Option, Some, None, refl, sym, ap, subst, inl, inr, ⊎_elim}
 use Words.{is_some, is_on, in_from, in_to, End, Kind, Uid, plan_of, Doing, doing_of, Intent, Parts, at_uid, Node, is_committing_now, Branch}
-use Words.{branch_of, is_own, Seen}
+use Words.{branch_of, is_own, Seen, is_serial}
 use Words.ask
 use Words.ending
 use Words.kind
 use Rattle.arj_law_promise.proofs.Terms
 use Terms.{Action, action_of, paths_of, IsSettled, IsBusy, IsCommitting, IsGoodCoord, IsVoting, AreNumbered, begun_tree, one_action}
 use Terms.{path_found, doing_by, found_by, at_in, work_there, IsGood, IsGoodOf, IsMemory, IsUp, BindsAreKnown, book, is_decided, IsKept}
-use Terms.{IsKnown, KnowsNode, is_serial, IsTopOf, EndsArePast, IsClosedAt, live_in, AsksForItself, IsForItself, AskersSettle}
+use Terms.{IsKnown, KnowsNode, IsTopOf, EndsArePast, IsClosedAt, live_in, AsksForItself, IsForItself, AskersSettle}
 use Terms.{DisksAreKnown, some_is}
 use Rattle.arj_law_disk_view.proofs.view.TopFrames.{branch_at}
 use Rattle.arj_law_parts.specs.parts.Ends.{AreOfCommits, IsSure}

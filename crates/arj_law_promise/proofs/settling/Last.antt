@@ -1,7 +1,7 @@
 -- On the disks of idle nodes nothing is left.
 use Rattle.arj_law_parts.proofs.Words
 use Words.{◌≡◌, ◌∙◌, arith, ℕ, true, List, [], ◌∷◌, Option, Some, None, refl, sym, ap, subst, ◌&&◌, is_some, nat_le, option_map, and_parts}
-use Words.{nat_tests, entry, object, IsReadingOf, record_of, Parts, at_uid, Node, has_none, is_idle, at_place, Header, Uid}
+use Words.{nat_tests, entry, object, IsReadingOf, record_of, Parts, at_uid, Node, is_idle, at_place, Header, Uid, is_empty}
 use Rattle.arj_disk.specs.{Says.names, declared.slot.Role.Role}
 use Rattle.arj_disk.specs.declared.slot.Role.TheVariants.{Names, Store}
 use Rattle.arj_law_promise.specs.settling.Last.{IdleDisksHoldTheLast}
@@ -11,23 +11,23 @@ use Rattle.arj_protocol.specs.Step.{is_idle_with, is_settled, waits_for_nothing}
 use Rattle.arj_store.specs.Pair.{packed}
 
 -- nothing is prepared on the disk of an idle node, and it has no record
-idle_free : (a : Node) → is_idle a ≡ true → (has_none (let d = a.disk in let p = d.store in p.pend) ≡ true)
-    × (has_none (let d = a.disk in let p = d.names in p.pend) ≡ true) × (has_none (let d = a.disk in d.intents) ≡ true)
+idle_free : (a : Node) → is_idle a ≡ true → (is_empty (let d = a.disk in let p = d.store in p.pend) ≡ true)
+    × (is_empty (let d = a.disk in let p = d.names in p.pend) ≡ true) × (is_empty (let d = a.disk in d.intents) ≡ true)
 idle_free a idle = by a.live idle
   where
     by : (o : Option Parts) → is_idle_with a.disk o ≡ true
-        → (has_none (let d = a.disk in let p = d.store in p.pend) ≡ true)
-        × (has_none (let d = a.disk in let p = d.names in p.pend) ≡ true) × (has_none (let d = a.disk in d.intents) ≡ true)
+        → (is_empty (let d = a.disk in let p = d.store in p.pend) ≡ true)
+        × (is_empty (let d = a.disk in let p = d.names in p.pend) ≡ true) × (is_empty (let d = a.disk in d.intents) ≡ true)
     by None is = absurd (cc is)
     by (Some t) is =
         let d = a.disk in
-        let s = and_parts (has_none (let p = d.store in p.pend)) (has_none (let p = d.names in p.pend) && has_none d.intents)
+        let s = and_parts (is_empty (let p = d.store in p.pend)) (is_empty (let p = d.names in p.pend) && is_empty d.intents)
         (and_parts (waits_for_nothing t.coord) (is_settled a.disk) is).1 in
-        let r = and_parts (has_none (let p = d.names in p.pend)) (has_none d.intents) s.1 in
+        let r = and_parts (is_empty (let p = d.names in p.pend)) (is_empty d.intents) s.1 in
         (s.0, r.0, r.1)
 
 -- in a map that has nothing nothing is found
-none_there : {X : Type 0} (m : List (Uid × X)) (u : Uid) → has_none m ≡ true → at_uid u m ≡ None
+none_there : {X : Type 0} (m : List (Uid × X)) (u : Uid) → is_empty m ≡ true → at_uid u m ≡ None
 none_there [] u is = refl
 none_there (e ∷ es) u is = absurd (cc is)
 
@@ -38,8 +38,8 @@ nothing_left read a are idle = record {
   records = λ top. are.records top ∙ ap (option_map record_of) (none_there (let d = a.disk in d.intents) top (idle_free a idle).2);
 }
   where
-    by : (r : Role) → (has_none (let d = a.disk in let p = d.store in p.pend) ≡ true) × (has_none (let d = a.disk in let p = d.names in
-        p.pend) ≡ true) × (has_none (let d = a.disk in d.intents) ≡ true) → (act : Uid) → read.pend r act ≡ None
+    by : (r : Role) → (is_empty (let d = a.disk in let p = d.store in p.pend) ≡ true) × (is_empty (let d = a.disk in let p = d.names in
+        p.pend) ≡ true) × (is_empty (let d = a.disk in d.intents) ≡ true) → (act : Uid) → read.pend r act ≡ None
     by Store none act =
         (let p = are.store in p.pend act ∙ ap (option_map packed) (none_there (let d = a.disk in let q = d.store in q.pend) act none.0))
     by Names none act =

@@ -9,7 +9,7 @@ use Words.{AtActivate, AtBind, AtInvoke, AtLoad, AtNote, Steps, Grants, Marks, C
 use Words.{Commit, Disk, Do, Effect, InPart, Look, Prepare, PutInc, PutIntent, RemoveIntent, Say, Send, Stop, Work, held_at, new_states}
 use Words.{stopped, acked, answer_query, tick_outs, Naming, Handled, Parts, Took, Void, handle, holders, query_about, with_coord, at_uid}
 use Words.{has, put_uid, Server, Input, Node, acts, parent_of, parts_in, put_states, refusal_up}
-use Words.{restart_outs, tolds_again, Labelled, is_serial_kind, numbered, ObjectLine, Post, Seen, see}
+use Words.{restart_outs, tolds_again, Labelled, numbered, ObjectLine, Post, Seen, see, is_serial}
 use Words.ask
 use Words.body
 use Words.ending
@@ -32,7 +32,7 @@ use settling.StockParts.{moved_keeps, put_keeps, some_keeps}
 use settling.Trails.{Down, FitsSo, UpBy, Went, halt_went, went}
 use Rattle.arj_law_promise.proofs.waiting
 use waiting.{Known.binds_own, Named.by_more, Stepping.of_waiting, WriterNodes.put_at}
-use waiting.AskedRuns.{acked_quiet, acts_quiet, heard_quiet, query_quiet, tick_quiet}
+use waiting.AskedEffects.{acked_quiet, acts_quiet, heard_quiet, query_quiet, tick_quiet}
 use waiting.Serving.{AllSend, AnswerSo, IsKeptIn, message_served, quiet_silent, quiet_so}
 
 -- the node, if it's there, has a committed state of the object
@@ -595,7 +595,7 @@ lists_given hd = record {
   message = λ e k d t v from m outs M base lists there meant is. message_lists hd e k d t M base lists from m there v outs is;
   act = λ e k d t i M is free base lists. act_lists hd e k d t M base lists i is free;
   begin = λ e k d t l how parent M new may free base lists. begun_lists k d (Some t) M lists e (with_coord t (begin_action l how parent
-      (parent_of parent t.coord) t.coord).part) (body.Began l how _ parent) l (record { node = k; serial = is_serial_kind how })
+      (parent_of parent t.coord) t.coord).part) (body.Began l how _ parent) l (record { node = k; serial = is_serial how })
       (begins_has (HasIt (up k d t M)) l how parent t.coord (steps hd e k d t M base lists));
   tick = λ e k d t M base lists. tick_lists hd e k d t M base lists;
   restart = λ e k d M base lists. restart_lists hd e k d M lists;

@@ -2,10 +2,10 @@
 use Rattle.arj_law_parts.proofs.Words
 use Words.{◌≡◌, ◌∙◌, ◌||◌, ◌==◌, ◌+◌, ℕ, Bool, true, false, cond, not, List, [], ◌∷◌, Option, Some, None, refl, is_some, Binding}
 use Words.{BoundReply, Entry, Mode, Path, RecordedReply, Row, Uid, entry, last_uid, top_of, top_path, lock_all, lock_in, is_granted, Effect}
-use Words.{Pair, Say, Served, reply, void, Counted, Live, Made, Named, bind_call, bind_made, bind_named, in_use, include_asked, is_binding}
+use Words.{Pair, Say, Served, reply, void, Counted, Live, Made, Named, bind_call, bind_made, bind_named, in_use, include_asked}
 use Words.{is_lowered, live_above, live_asked, lock_lines, lower_lines, lowered, made_above, make_asked, next_server, note_made, note_named}
 use Words.{note_other, conflict_on, Naming, is_over, listed_entry, on_counted, on_named, at_number, at_uid, binding_eq, AreAll, all_both}
-use Words.{all_if}
+use Words.{all_if, is_binding}
 use Words.body
 use Words.mode
 use Words.recorded

@@ -5,8 +5,8 @@ use Words.{◌≡◌, ◌∙◌, ◌++◌, ◌+◌, ℕ, zero, suc, Bool, true, 
 use Words.{⊎_elim, Contains, AllByRecursion, list_all, and_parts, in_from, in_to, Body, End, Header, Kind, Label, Line, Message, Uid}
 use Words.{begin_action, heard, Machine, back_lines, Committing, Coord, Doing, doing_of, Disk, Do, Effect, Intent, Look, PutInc, Served}
 use Words.{is_prepared, tell_all, Named, Naming, Parts, with_coord, at_uid, Node, naming_at, naming_back, parent_of, parts_in}
-use Words.{recovered_records, restart_outs, tolds_again, at_place, is_own, next_uid, is_serial_kind, numbered, world_by, Post}
-use Words.{Seen, see}
+use Words.{recovered_records, restart_outs, tolds_again, at_place, is_own, next_uid, numbered, world_by, Post}
+use Words.{Seen, see, is_serial}
 use Words.ask
 use Words.body
 use Words.ending
@@ -339,7 +339,7 @@ right_keep hd = record {
   act = λ e k d t i M is free right. act_walk k d t M right e hd i is free (its.act e k d t i M is free right.0);
   begin = λ e k d t l how parent M new may free right. (
     its.begin e k d t l how parent M new may free right.0,
-    begun_core k d t M right.1 e l how parent (let G = given l (record { node = k; serial = is_serial_kind how }) M in G.labels),
+    begun_core k d t M right.1 e l how parent (let G = given l (record { node = k; serial = is_serial how }) M in G.labels),
   );
   tick = λ e k d t M right. tick_walk k d t M right e (its.tick e k d t M right.0);
   restart = λ e k d M right. restart_walk hd k d M right e (its.restart e k d M right.0);

@@ -4,7 +4,7 @@ use Words.{world_from}
 use Words.{◌≡◌, ◌∙◌, ◌==◌, ◌+◌, ℕ, Bool, true, false, cond, List, [], ◌∷◌, Option, Some, None, refl, sym, ap, subst, inl, inr, ⊎_elim}
 use Words.{AllByRecursion, object, Body, Header, Kind, Label, Message, ObjectState, Uid, begin_action, heard, Confirming, Plan, Committing}
 use Words.{Doing, doing_of, Disk, Effect, Parts, with_coord, at_uid, has, Node, parent_of, parts_in, restart_outs, Labelled}
-use Words.{is_serial_kind, numbered, Post, Seen, see, and_parts, list_all}
+use Words.{numbered, Post, Seen, see, and_parts, list_all, is_serial}
 use Words.body
 use Words.ask
 use Rattle.arj_law_promise.proofs.Terms
@@ -159,7 +159,7 @@ stock_given hd = record {
   act = λ e k d t i M is free base stock.
       act_stock k d t M base.0.0 (says hd k d t M base) stock e (joins hd k d t M base) hd i is free (its.act e k d t i M is free base.0.0);
   begin = λ e k d t l how parent M new_it may free base stock. begun_stock e k d t (with_coord t (begin_action l how parent
-      (parent_of parent t.coord) t.coord).part) M l (record { node = k; serial = is_serial_kind how }) how _ parent stock;
+      (parent_of parent t.coord) t.coord).part) M l (record { node = k; serial = is_serial how }) how _ parent stock;
   tick = λ e k d t M base stock. tick_stock k d t M base.0.0 (says hd k d t M base) stock e (its.tick e k d t M base.0.0);
   restart = λ e k d M base stock. restart_stock hd k d M base.0.0 stock e (its.restart e k d M base.0.0);
   first = first_stock hd;

@@ -1,11 +1,11 @@
 -- No line decides a serializing action.
 use Rattle.arj_law_parts.proofs.Words
 use Words.{◌≡◌, ◌⊎◌, ◌∙◌, List, [], ◌∷◌, true, false, refl, sym, ap, inl, inr, ⊎_elim, Contains, or_cases, uid_is, is_on, uid_eq, In}
-use Words.{in_from, Body, Line, Uid, name, Seen}
+use Words.{in_from, Body, Line, Uid, name, Seen, is_serial}
 use Words.body
 use Words.kind
 use Rattle.arj_law_promise.proofs.Terms
-use Terms.{Act, is_serial, Action, act_of, Book, book, book_from, is_decided, is_top, new_book, turned, IsAlikeOf, AreRight, Right}
+use Terms.{Act, Action, act_of, Book, book, book_from, is_decided, is_top, new_book, turned, IsAlikeOf, AreRight, Right}
 use Terms.{named_is, named_in}
 use Rattle.arj_law_runs.proofs.journal
 use journal.{Books.later_turn, Books.never}

@@ -1,7 +1,7 @@
 -- After a quiesce only calls that are overtaken wait, in every run, and whoever else waited was answered.
 use Rattle.arj_law_parts.proofs.Words
-use Words.{◌≡◌, ℕ, true, false, [], Some, sym, ◌∙◌, ap, subst, inl, inr, ⊎_elim, ◌&&◌, nat_le, Header, Uid, Machine, is_empty, left_of}
-use Words.{Committing, Coord, Doing, doing_of, World, is_node, moved, world_by, Seen, see, StillWaits, coord_in, WaitsOvertaken}
+use Words.{◌≡◌, ℕ, true, false, [], Some, sym, ◌∙◌, ap, subst, inl, inr, ⊎_elim, ◌&&◌, nat_le, Header, Uid, Machine, left_of}
+use Words.{Committing, Coord, Doing, doing_of, World, is_node, moved, world_by, Seen, see, StillWaits, coord_in, WaitsOvertaken, is_empty}
 use Rattle.arj_law_promise.proofs.Terms
 use Terms.{HeaderInForm, IsNumbered, all_keep, IsGood, Holds, KeepsAsked, keeps_asked, move_asked, moves_asked, AnswersWaits, over_before}
 use Terms.{asked_both, keeps_good, WaitsAreKnown}

@@ -9,8 +9,8 @@ use Words.{included_of, left_of, plan_of, states_for, vote_ask, Calling, Committ
 use Words.{Disk, Served, prepare_answer, reply, void, Naming, is_over, Parts, are_of_objects, ask_is_meant, copy_has_op, is_loaded_for}
 use Words.{is_loaded_in, reply_is_meant, serve, stand_once, taken, Kept, active_binding, binding_of, has_ended, is_below, Node, class_at}
 use Words.{at_place, is_own, root_of, Post, Seen, IsOvertaken, IsSaid, IsToSettle, coord_in, coord_of, at_number, at_uid, binding_eq}
-use Words.{binding_less, binding_number, has, unbound, uid_is, uid_same, waits_for_call, Copy, nat_tests, Made, Named, in_use, is_binding}
-use Words.{lower_lines, lowered, note_made, note_named, note_other}
+use Words.{binding_less, binding_number, has, unbound, uid_is, uid_same, waits_for_call, Copy, nat_tests, Made, Named, in_use}
+use Words.{lower_lines, lowered, note_made, note_named, note_other, is_binding}
 use Words.words
 use Words.ask
 use Words.loaded
@@ -46,7 +46,7 @@ is_invoke_ask (ask.Invoke x b i ends o) = true
 is_invoke_ask _ = false
 
 -- a request other than an Invoke brings no ends
-same_bare : (a b : Ask) → is_invoke_ask b ≡ false → bare a ≡ b → a ≡ b
+pub same_bare : (a b : Ask) → is_invoke_ask b ≡ false → bare a ≡ b → a ≡ b
 same_bare (ask.Bind x include_it avoid) b not_it is = is
 same_bare (ask.Load x) b not_it is = is
 same_bare (ask.Activate c st) b not_it is = is
@@ -127,7 +127,7 @@ stand_above n (v ∷ us) all = λ i. false_from_ne_true (v.x == n) (λ e. apart 
     apart : (n m : ℕ) → n < m → m ≡ n → ⊥
     apart n m less same = omega (arith, less, same)
 
-stand_in_order : (us : List Used) → AreOnce us → stand_once (map (λ (g : ℕ × ℕ). g.0) (grants_of us)) ≡ true
+pub stand_in_order : (us : List Used) → AreOnce us → stand_once (map (λ (g : ℕ × ℕ). g.0) (grants_of us)) ≡ true
 stand_in_order [] all = refl
 stand_in_order (u ∷ us) all = λ i. not (stand_above u.x us all.0 i) && stand_in_order us all.1 i
 
@@ -545,7 +545,7 @@ module _ (hd : Header) (form : HeaderInForm hd) (j : ℕ) (d : Disk) (t : Parts)
 module _ (hd : Header) (j : ℕ) (d : Disk) (t : Parts) (M : Seen) (known : WaitsAreKnown hd (up j d t M)) (p : Post) (a : words.Asked)
     (q : Doing) (s : Steps) (sent : In p M.sent) (to : p.to ≡ j) (does : doing_of a.act t.coord ≡ Some q) (now : q.now ≡ Calling s) where
   -- an answer for which a call waits can be meant
-  answer_meant : (r : Reply) → answers p.message ≡ Some (a, r) → waits_for_call p.from a r s ≡ true → reply_is_meant t.coord a r ≡ true
+  pub answer_meant : (r : Reply) → answers p.message ≡ Some (a, r) → waits_for_call p.from a r s ≡ true → reply_is_meant t.coord a r ≡ true
   answer_meant (Reply.Loaded (loaded.State st)) is waits =
       ap (is_loaded_for st) does ∙ ap (is_loaded_in st) now ∙ (λ i. uid_eq (same i) (object s.x)) ∙ uid_same (object s.x)
     where

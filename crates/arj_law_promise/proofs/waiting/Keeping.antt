@@ -2,17 +2,19 @@
 use Rattle.arj_law_parts.proofs.Words
 use Words.{◌≡◌, ◌≤◌, ◌+◌, arith, ℕ, true, List, [], ◌∷◌, length, Some, ◌&&◌, nat_le, AllByRecursion, list_all, and_parts, leb-true}
 use Words.{nat_tests, Header, ObjectLine, again_all, begin_action, Disk, Effect, tick_outs, Parts, with_coord, acts, parent_of, parts_in}
-use Words.{restart_outs, is_serial_kind, Seen}
+use Words.{restart_outs, Seen, is_serial}
 use Rattle.arj_law_promise.proofs.Terms
 use Terms.{HeaderInForm, ObjectLineInForm, Keeps, KeepsAsked, given, Up, Walks, keeps_asked, all_keep, IsGood, keeps_given, kept_both}
 use Terms.{BindsAreKnown, HasObject, AreAddressed, IsNode, ObjectsAreHeld, RequestsAreKnown, requests_keep, asked_both, EndsArePast}
-use Terms.{past_keep, HaveForms, RequestsAreHome, WereAsked, kept_forms, AreSo, kind_of, ArePastWriters, AreSince, given_more}
+use Terms.{past_keep, HaveForms, WereAsked, kept_forms, AreSo, kind_of, ArePastWriters, AreSince, given_more}
 use Rattle.arj_journal.specs.declared.limits.TheConstants.{SERVERS, STORES}
 use Rattle.arj_law_disk_view.proofs.running.EntryKeeps.{keeps_entries}
 use Rattle.arj_law_disk_view.specs.running.Entries.{HaveEntries}
 use Rattle.arj_law_lock_view.proofs.facts.{Entries.entries_keep, GoodNaming.objects_keep as objects_held}
 use Rattle.arj_law_parts.proofs.moves.Together.{walks_each}
-use Rattle.arj_law_promise.proofs.waiting.{AskedRuns.asked_given, Home.home_keep, Since.since_given, WriterRuns.writers_given}
+use Rattle.arj_law_lock_view.proofs.facts.Homes.{home_keep}
+use Rattle.arj_law_lock_view.specs.facts.Homes.{RequestsAreHome}
+use Rattle.arj_law_promise.proofs.waiting.{AskedRuns.asked_given, Since.since_given, WriterRuns.writers_given}
 use Rattle.arj_law_promise.specs.waiting.{Waits.AskersAreKnown, Waits.HandlersKeepWaits, Waits.ObjectsAreKnown, Writers.WritersArePast}
 use Rattle.arj_law_runs.proofs.addresses.Runs.{so_kept}
 use Rattle.arj_law_runs.specs.addresses.Addresses.{AreOf, LineOf}
@@ -63,7 +65,7 @@ keeps_each {A} hd P each = record {
       many e k did.outs (with_coord t did.part) d M (λ x. (each x).act e k d t i M is free (p x));
   begin = λ e k d t l how parent M new may free p.
       let did = begin_action l how parent (parent_of parent t.coord) t.coord in
-      many e k did.outs (with_coord t did.part) d (given l (record { node = k; serial = is_serial_kind how }) M)
+      many e k did.outs (with_coord t did.part) d (given l (record { node = k; serial = is_serial how }) M)
       (λ x. (each x).begin e k d t l how parent M new may free (p x));
   tick = λ e k d t M p. many e k (tick_outs (record { number = k; disk = d; live = Some t }) t)
       (with_coord t (again_all t.coord.doings t.coord).part) d M (λ x. (each x).tick e k d t M (p x));

@@ -6,9 +6,9 @@ use Words.{ObjectState, Path, RecordedReply, Row, Uid, entry, is_on, lower_row, 
 use Words.{confirm_new, confirms, entries_after, has_all, lock_all, lock_in, named_back, prepared_by, recovered_naming, wanted, Already}
 use Words.{Did, Do, Effect, InDoubt, Old, Pair, Prep, Ready, Say, Send, Served, did_nothing, is_prepared, prepare_answer, reply, void}
 use Words.{Counted, Live, Made, Named, bind_call, bind_made, bind_named, conflict_on, end_named, hello_named, in_use, include_asked}
-use Words.{is_binding, is_lowered, live_above, live_asked, lock_lines, locked, lower_lines, lowered, made_above, make_asked, next_server}
+use Words.{is_lowered, live_above, live_asked, lock_lines, locked, lower_lines, lowered, made_above, make_asked, next_server}
 use Words.{note_made, note_named, note_other, Naming, is_over, listed_entry, on_counted, on_named, taken_end, told_new, at_number, at_uid}
-use Words.{binding_eq, binding_less, IsSaid}
+use Words.{binding_eq, binding_less, IsSaid, is_binding}
 use Words.body
 use Words.bound
 use Words.ending

@@ -4,7 +4,7 @@ use Words.{if◌then◌else◌, ◌∙◌}
 use Words.{◌≡◌, ◌≤◌, ◌+◌, ◌==◌, arith, ℕ, Bool, true, false, List, [], ◌∷◌, Option, Some, None, sym, subst, ⊎_elim, again_all}
 use Words.{After, Before, InPart, Disk, Do, Effect, Look, PutInc, Say, Send, Stop, stopped, worked, tick_outs, Parts, Took, handle}
 use Words.{with_coord, Node, acts}
-use Words.{parts_in, restart_outs, is_serial_kind, Header, Message, Seen, parent_of, begin_action, cond}
+use Words.{parts_in, restart_outs, Header, Message, Seen, parent_of, begin_action, cond, is_serial}
 use Rattle.arj_law_promise.proofs.Terms
 use Terms.{Action, paths_of, begun_tree, IsGood, IsGoodOf, good_coord, it, own_of_disk, tops_of_disk, at}
 use Terms.{down, given, posted, said, up, Up, Walks, halted, KeepsGiven, node_here, first_at, AreSince, IsSince, IsAtStarts, next_inc}
@@ -14,7 +14,7 @@ use Rattle.arj_law_lock_view.proofs.records
 use records.{NamingKept.rest, NamingKept.rest_quiet, NamingRuns.inc_stopped, NamingRuns.inc_worked, Quiet.IncsUp, Quiet.quiet_incs}
 use Rattle.arj_law_parts.proofs.parts.{SaidIncs.truly_handled}
 use Rattle.arj_law_parts.specs.parts.Incs.{AreOfInc, IsTrulyHandled}
-use Rattle.arj_law_promise.proofs.waiting.AskedRuns.{acts_quiet, of_incs, tick_quiet}
+use Rattle.arj_law_promise.proofs.waiting.AskedEffects.{acts_quiet, of_incs, tick_quiet}
 
 -- the other nodes
 abbrev Others : ℕ → Seen → Type 0
@@ -123,7 +123,7 @@ since_given hd = record {
       goes_on e k (with_coord t r.part) t r.outs d M p (quiet_incs d.inc r.outs (acts_quiet g.0 e k d t M g.1 hd i is free));
   begin = λ e k d t l how parent M new may free g p.
       let did = begin_action l how parent (parent_of parent t.coord) t.coord in
-      goes_on e k (with_coord t did.part) t did.outs d (given l (record { node = k; serial = is_serial_kind how }) M) p (tt, tt);
+      goes_on e k (with_coord t did.part) t did.outs d (given l (record { node = k; serial = is_serial how }) M) p (tt, tt);
   tick = λ e k d t M g p. let outs = tick_outs (record { number = k; disk = d; live = Some t }) t in
       goes_on e k (with_coord t (again_all t.coord.doings t.coord).part) t outs d M p (quiet_incs d.inc outs
       (tick_quiet g.0 e k d t M g.1));

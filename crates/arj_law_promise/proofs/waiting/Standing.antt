@@ -5,10 +5,10 @@ use Words.{◌∙◌, ◌∷◌, ◌≡◌, ◌≢◌, ◌≤◌, ⊎_elim, ap, 
 use Words.{Path, RecordedReply, Row, Uid, entry, is_on, lower_row, uid_eq, top_of, Grants, Marks, checked, confirm, confirm_entries}
 use Words.{confirm_new, confirms, entries_after, has_all, lock_all, lock_in, prepared_by, wanted, Already, Did, InDoubt, Old, Pair, Prep}
 use Words.{Ready, Served, did_nothing, is_prepared, prepare_answer, reply, void, Counted, Live, Made, Named, bind_call, bind_made}
-use Words.{bind_named, conflict_on, end_named, hello_named, in_use, include_asked, is_binding, is_lowered, live_above, live_asked, locked}
+use Words.{bind_named, conflict_on, end_named, hello_named, in_use, include_asked, is_lowered, live_above, live_asked, locked}
 use Words.{lower_lines, lowered, made_above, make_asked, next_server, note_made, note_named, note_other, Naming, is_over, listed_entry}
 use Words.{on_counted, on_named, taken_end, told_new, at_number, at_uid, binding_eq, binding_less, binding_number, each, put_number}
-use Words.{put_uid, uid_is, uid_same, nat_tests}
+use Words.{put_uid, uid_is, uid_same, nat_tests, is_binding}
 use Words.bound
 use Words.confirmed
 use Words.ending

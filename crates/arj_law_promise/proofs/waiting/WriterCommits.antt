@@ -5,11 +5,12 @@ use Words.{arith, ⊤, nat_lt, AllByRecursion, in_to, Asked, End, Kind, Label, O
 use Words.{call, commit_action, commit_open, commit_top, commits_in, gaveup_lines, give_up, give_up_doing, gives_up, heard, heard_by}
 use Words.{heard_call, heard_doing, heard_none, heard_now, include, last_req, mark_lines, moved_commit, step_commit, waits_for_call}
 use Words.{waits_for_commit, Aborts, Asks, CommitStep, Confirming, Decides, Machine, Marked, Plan, Preparing, Stays, Used, Voting}
-use Words.{begin_confirm, begin_prepare, begin_vote, has_record, is_empty, marks_store, marks_stores, nodes_given_up, participants, plan_of}
+use Words.{begin_confirm, begin_prepare, begin_vote, has_record, marks_store, marks_stores, nodes_given_up, participants, plan_of}
 use Words.{servers_of, stores_left, targets_of, votes_left, waiting, with_state, with_states, Calling, Committing, Coord, Doing, Idle}
 use Words.{Joined, Now, Root, doing_of, on_doing, on_root, plan_for, root_at, Did, Do, Effect, Intent, Say, Send, Served, abort_action}
 use Words.{aborts_with, decide, decided_told, ended, ends_with, record_work, root_after, says, states_after, tell, has, number_set}
 use Words.{put_number, put_uid, with_number, without_number, Input, acts, branch_named, on_branch, parent_of, Branch, open_below, root_of}
+use Words.{is_empty}
 use Words.cause
 use Words.body
 use Words.confirmed

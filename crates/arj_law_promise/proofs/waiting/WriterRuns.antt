@@ -6,8 +6,8 @@ use Words.{None, refl, sym, ap, subst, inl, inr, ⊎_elim, IfSome, AllByRecursio
 use Words.{ObjectState, Uid, asks, Reply, answers, again_all, begin_action, heard, Used, plan_of, Calling, Committing, Coord, Doing, Idle}
 use Words.{Now, Abort, Commit, Disk, Do, Effect, Look, Pair, Prepare, PutInc, PutIntent, RemoveIntent, Say, Send, stopped, worked, After}
 use Words.{acked, answer_query, tick_outs, Parts, Took, handle, holders, query_about, with_coord, has, Input, Node, acts}
-use Words.{parent_of, parts_in, put_states, refusal_up, restart_outs, tolds_again, at_place, is_own, is_serial_kind}
-use Words.{acked_own, acts_own, again_own, heard_own, query_own, Post, Seen}
+use Words.{parent_of, parts_in, put_states, refusal_up, restart_outs, tolds_again, at_place, is_own}
+use Words.{acked_own, acts_own, again_own, heard_own, query_own, Post, Seen, is_serial}
 use Words.ask
 use Words.loaded
 use Words.role
@@ -356,7 +356,7 @@ writers_given hd = record {
   begin = λ e k d t l how parent M new may free g p.
       let did = begin_action l how parent (parent_of parent t.coord) t.coord in
       let m = mine k d (Some t) M p in
-      walk e k (with_coord t did.part) did.outs d (given l (record { node = k; serial = is_serial_kind how }) M) m.store (plainly
+      walk e k (with_coord t did.part) did.outs d (given l (record { node = k; serial = is_serial how }) M) m.store (plainly
       (IsPastWriter M.start M.sent) did (begins_so (IsPastWriter M.start M.sent) l how parent (parent_of parent t.coord) t.coord
       (m.live t refl)))
       (tt, tt) (others k d (Some t) M p) p.posts;

@@ -7,7 +7,7 @@ use Rattle.arj_journal.specs.ScriptForm.{HeaderInForm}
 use Rattle.arj_model.specs.Clean.{CleanFrom}
 use Rattle.arj_model.specs.Disks.{Disks, held}
 use Rattle.arj_model.specs.Last.{entry_from, is_among, last_from, listed, object_line}
-use Rattle.arj_model.specs.Start.{Marks}
+use Rattle.arj_start.specs.Start.{Marks}
 use Rattle.arj_protocol.specs.Words.{Header, Line}
 use Rattle.arj_protocol.specs.World.{World}
 use Rattle.arj_law_parts.specs.moves.Keeps.{Stands}

@@ -11,7 +11,7 @@ use Rattle.arj_journal.specs.declared.body.Kind.TheVariants as kind
 use Rattle.arj_journal.specs.declared.event.Event.{Event}
 use Rattle.arj_journal.specs.declared.event.Event.TheVariants as event
 use Rattle.arj_journal.specs.declared.header.Header.{Header}
-use Rattle.arj_model.specs.Start.{Start}
+use Rattle.arj_start.specs.Start.{Start}
 use Rattle.arj_promise.specs.Promise.{KeepsThePromise}
 use Rattle.arj_promise.specs.Runs.{IsInForm, Move, Run, journal_by}
 use Rattle.arj_promise.specs.Starts.{IsFormed}

@@ -1,5 +1,5 @@
--- What was asked: requests come from where their actors began, answers go to who asked, what a server has of bindings and of the last
--- requests of actions was asked of some server, and each new binding is one that naming made, as a line says, and keeps for its top.
+-- What was asked: answers go to who asked, what a server has of bindings and of the last requests of actions was asked of some server, and
+-- each new binding is one that naming made, as a line says, and keeps for its top.
 use Rattle.std.specs.Prelude.{Bool, List, None, Option, Some, true, ℕ, ⊤, ◌≡◌, ◌≤◌, ◌⊎◌}
 use Rattle.std.specs.List.{AllByRecursion}
 use Rattle.arj_base.specs.Uid.{object}
@@ -11,8 +11,6 @@ use Rattle.arj_protocol.specs.Copy.{Copy}
 use Rattle.arj_protocol.specs.Node.{Parts}
 use Rattle.arj_protocol.specs.Server.{Kept, Server}
 use Rattle.arj_protocol.specs.Step.{Node}
-use Rattle.arj_law_runs.specs.addresses.Binds.{BindsAreKnown}
-use Rattle.arj_law_runs.specs.kept.Worlds.{IsGood}
 use Rattle.arj_law_parts.specs.moves.Seen.{In}
 use Rattle.arj_promise.specs.Runs.{Post, Seen}
 use Rattle.arj_law_serial.specs.joint.Forms.{AreSo, kind_of}
@@ -24,20 +22,6 @@ use Rattle.arj_protocol.specs.Named.{Made, Named}
 use Rattle.arj_protocol.specs.Naming.{Naming}
 use Rattle.arj_promise.specs.Waiting.{IsSaid}
 use Rattle.arj_protocol.specs.Order.{at_number, at_uid, binding_number}
-
--- ---- requests
-
--- each request is by an action of the node that sent it
-abbrev pub AreHome : List Post → Type 0
-AreHome sent = (p : Post) (h : Head) (a : Ask) → In p sent → asks p.message ≡ Some (h, a) → (let u = actor h.path in u.node) ≡ p.from
-
--- each coordinator is of its node
-abbrev pub CoordsAreHome : Seen → Type 0
-CoordsAreHome M = (j : ℕ) (n : Node) (t : Parts) → M.nodes j ≡ Some n → n.live ≡ Some t → (let c = t.coord in c.tree.node) ≡ j
-
--- beside good nodes and known Binds
-abbrev pub RequestsAreHome : Seen → Type 0
-RequestsAreHome M = (IsGood M × BindsAreKnown M) × (AreHome M.sent × CoordsAreHome M)
 
 -- ---- servers
 

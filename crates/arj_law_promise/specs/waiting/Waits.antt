@@ -19,7 +19,8 @@ use Rattle.arj_law_parts.specs.moves.Seen.{up}
 use Rattle.arj_promise.specs.Runs.{Seen}
 use Rattle.arj_law_runs.specs.resting.Rounds.{AnswersWaits, HasCome}
 use Rattle.arj_law_runs.specs.resting.Waits.{want_of_call}
-use Rattle.arj_law_promise.specs.waiting.Asked.{HaveForms, RequestsAreHome, WereAsked}
+use Rattle.arj_law_promise.specs.waiting.Asked.{HaveForms, WereAsked}
+use Rattle.arj_law_lock_view.specs.facts.Homes.{RequestsAreHome}
 use Rattle.arj_law_promise.specs.waiting.Writers.{WritersArePast}
 use Rattle.arj_law_serial.specs.past.Told.{EndsArePast}
 

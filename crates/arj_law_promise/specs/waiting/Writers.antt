@@ -8,7 +8,7 @@ use Rattle.arj_protocol.specs.Words.loaded
 use Rattle.arj_protocol.specs.Words.role
 use Rattle.arj_protocol.specs.Words.voted
 use Rattle.arj_protocol.specs.Ask.{Reply, actor, answers}
-use Rattle.arj_protocol.specs.Commit.{Plan, Used, is_empty, plan_of}
+use Rattle.arj_protocol.specs.Commit.{Plan, Used, plan_of}
 use Rattle.arj_protocol.specs.Coord.{Calling, Committing, Coord, Doing, Idle, Joined, Now, Root, doing_of}
 use Rattle.arj_protocol.specs.Effect.{Commit, Do, Effect, Pair, Prepare, Send}
 use Rattle.arj_protocol.specs.Node.{Parts}
@@ -17,9 +17,10 @@ use Rattle.arj_law_parts.specs.parts.Ends.{told_by}
 use Rattle.arj_law_runs.specs.kept.Worlds.{IsGood}
 use Rattle.arj_law_disk_view.specs.running.Places.{IsSince}
 use Rattle.arj_law_parts.specs.moves.Seen.{In}
-use Rattle.arj_model.specs.Start.{Start}
+use Rattle.arj_start.specs.Start.{Start}
 use Rattle.arj_promise.specs.Runs.{Post, Seen}
 use Rattle.arj_promise.specs.Starts.{IsPast, next_inc}
+use Rattle.arj_protocol.specs.Order.{is_empty}
 
 -- some node was told of its end
 abbrev pub HasToldEnd : List Post → Uid → Type 0

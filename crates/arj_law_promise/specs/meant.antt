@@ -1,0 +1,2 @@
+pub mod Void
+pub mod Meant

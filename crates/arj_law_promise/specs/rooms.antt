@@ -1,0 +1,2 @@
+pub mod Incs
+pub mod Numbers
