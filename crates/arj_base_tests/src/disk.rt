@@ -1,8 +1,7 @@
 // Disks in memory, and `put` over one that stops.
 ghost use Rattle.std.specs.Prelude.{◌≢◌, IsErrOf, ◌≡◌, ◌-◌, ◌≤◌, length, slice_set, IfOk, OnOk, Some, [], ◌∷◌, Contains};
 ghost use Rattle.arj_base.specs.declared.uid.Uid.{Uid};
-ghost use Rattle.arj_disk.specs.FileMap.{FileMap};
-ghost use Rattle.arj_disk.specs.Formed.{AtMost, IsKnown};
+ghost use Rattle.arj_disk.specs.Formed.{AtMost};
 ghost use Rattle.arj_disk.specs.Says.{SameOfRole};
 ghost use Rattle.arj_disk.specs.declared.slot.Role.{Role};
 ghost use Rattle.std.specs.Ordering.{is_lt};
@@ -71,9 +70,9 @@ fn remove_entry<D: Disk>(disk: &mut D, x: u16) -> Result<(), DiskFault>
     disk.remove(Slot::Committed(entry_uid(x)))
 }
 
-// Where two objects alone are known, there are at most two.
+// Of two objects there are at most two.
 fn few_known(one: Uid, two: Uid)
-    ensures { (file : FileMap) → ((u : Uid) → IsKnown file Role.Store u → Contains (one ∷ two ∷ []) u) → AtMost 2 (IsKnown file Role.Store) }
+    ensures { AtMost 2 (Contains (one ∷ two ∷ [])) }
 {
     among_so_many();
 }

@@ -7,7 +7,7 @@ pub use Rattle.arj_base.specs.Order.{uid_order}
 use Rattle.arj_disk.specs.declared.slot.Role.{Role}
 use Rattle.arj_disk.specs.declared.slot.Role.TheVariants.{Store, Names}
 use Rattle.arj_disk.specs.declared.slot.Slot.{Slot}
-use Rattle.arj_disk.specs.declared.slot.Slot.TheVariants.{Incarnation, Tmp, Committed, Shadow, Prepared, Intent}
+use Rattle.arj_disk.specs.declared.slot.Slot.TheVariants.{Incarnation, Tmp, Committed, Shadow, Prepared, Intent, Pending, Segment}
 
 -- the store's first, then the naming service's
 abbrev pub role_place : Role → ℕ
@@ -26,6 +26,8 @@ kind_place (Committed u) = 2
 kind_place (Shadow u) = 3
 kind_place (Prepared role a) = 4
 kind_place (Intent a) = 5
+kind_place (Pending role a) = 6
+kind_place (Segment role k) = 7
 
 -- two names of one kind: by what they hold
 abbrev pub kin_order : Slot → Slot → Ordering
@@ -33,6 +35,8 @@ kin_order (Committed u) (Committed w) = uid_order u w
 kin_order (Shadow u) (Shadow w) = uid_order u w
 kin_order (Prepared r a) (Prepared s b) = ordering_then (role_order r s) (uid_order a b)
 kin_order (Intent a) (Intent b) = uid_order a b
+kin_order (Pending r a) (Pending s b) = ordering_then (role_order r s) (uid_order a b)
+kin_order (Segment r j) (Segment s k) = ordering_then (role_order r s) (nat_cmp j k)
 kin_order _ _ = Equal
 
 -- by their kinds, and then by what they hold

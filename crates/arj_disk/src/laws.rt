@@ -4,7 +4,7 @@ ghost use Rattle.arj_base.specs.declared.uid.Uid.{Uid};
 ghost use Rattle.arj_disk.specs.declared.slot.Role.{Role};
 ghost use Rattle.arj_disk.specs.declared.slot.Slot.{Slot};
 ghost use Rattle.arj_disk.specs.FileMap.{FileMap};
-ghost use Rattle.arj_disk.specs.Formed.{AtMost, IsKnown};
+ghost use Rattle.arj_disk.specs.Formed.{AtMost};
 ghost use Rattle.arj_disk.specs.Says.{OnlyOfRole, SameOfRole};
 ghost use Rattle.arj_disk.specs.Slot.{role_order, slot_order};
 
@@ -17,12 +17,9 @@ pub fn orders()
     ensures slots { (p q : Slot) → ⟦<Slot as Ord>⟧.cmp p q ≡ slot_order p q }
 {}
 
-/// Among so many Uids there are at most as many, and at most as many as are known to a disk where each of those is among
-/// them. It does nothing when it runs.
+/// Among so many Uids there are at most as many. It does nothing when it runs.
 pub fn among_so_many()
-    ensures these { (n : ℕ) (us : List Uid) → length us ≤ n → AtMost n (Contains us) }
-    ensures known { (n : ℕ) (us : List Uid) (file : FileMap) (role : Role) → length us ≤ n → ((u : Uid) → IsKnown file role u → Contains us u)
-        → AtMost n (IsKnown file role) }
+    ensures { (n : ℕ) (us : List Uid) → length us ≤ n → AtMost n (Contains us) }
 {}
 
 /// What changes files of one role alone, and Tmp, leaves each file of the other. It does nothing when it runs.

@@ -37,6 +37,10 @@ pub enum Slot {
     Prepared(Role, Uid),
     /// The intentions record of this action.
     Intent(Uid),
+    /// The states that this action has prepared, in one file.
+    Pending(Role, Uid),
+    /// The states of a commit, or of several that were merged, under a number that rises with each.
+    Segment(Role, u64),
 }
 
 /// Names of files.

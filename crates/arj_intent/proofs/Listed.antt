@@ -42,6 +42,8 @@ below_slot file top slot.Tmp es less all = all
 below_slot file top (slot.Committed u) es less all = all
 below_slot file top (slot.Shadow u) es less all = all
 below_slot file top (slot.Prepared r u) es less all = all
+below_slot file top (slot.Pending r u) es less all = all
+below_slot file top (slot.Segment r k) es less all = all
 below_slot file top (slot.Intent b) es less all = below_one top b (record_at file b) es less all
 
 below_names : (file : FileMap) (top : Uid) (names : List Slot) → AllByRecursion (λ q. slot_order (slot.Intent top) q ≡ Less) names → IsBelowAll top (listed file names)
@@ -64,6 +66,8 @@ listed_rises file (q ∷ qs) sorted = by q sorted.0 (listed_rises file qs sorted
     by (slot.Committed u) all rises = rises
     by (slot.Shadow u) all rises = rises
     by (slot.Prepared r u) all rises = rises
+    by (slot.Pending r u) all rises = rises
+    by (slot.Segment r k) all rises = rises
     by (slot.Intent b) all rises = rises_one b (record_at file b) (listed file qs) (below_names file b qs all) rises
 
 -- ---- the entries are the records
@@ -109,6 +113,8 @@ found_in file top (q ∷ qs) = by q (found_in file top qs)
     by (slot.Committed u) found = skipped file top (slot.Committed u) qs (listed file qs) (listed file qs) (λ (e : slot.Committed u ≡ slot.Intent top). cc) refl found
     by (slot.Shadow u) found = skipped file top (slot.Shadow u) qs (listed file qs) (listed file qs) (λ (e : slot.Shadow u ≡ slot.Intent top). cc) refl found
     by (slot.Prepared r u) found = skipped file top (slot.Prepared r u) qs (listed file qs) (listed file qs) (λ (e : slot.Prepared r u ≡ slot.Intent top). cc) refl found
+    by (slot.Pending r u) found = skipped file top (slot.Pending r u) qs (listed file qs) (listed file qs) (λ (e : slot.Pending r u ≡ slot.Intent top). cc) refl found
+    by (slot.Segment r k) found = skipped file top (slot.Segment r k) qs (listed file qs) (listed file qs) (λ (e : slot.Segment r k ≡ slot.Intent top). cc) refl found
     by (slot.Intent b) found = found_by file top b qs (listed file qs) (uid_order top b) refl found
 
 no_record : (file : FileMap) (top : Uid) (o : Option (List ℕ)) → file (slot.Intent top) ≡ o → (IsSome (file (slot.Intent top)) → ⊥) → record_at file top ≡ None

@@ -1,4 +1,4 @@
--- What a change of one record leaves formed.
+-- What a change of one record leaves in form, and as it is.
 use Rattle.std.proofs.Common.{◌≡◌, ◌⊎◌, ◌∙◌, List, ℕ, refl, sym, ap, subst, ⊎_elim, Some, None}
 use Rattle.std.specs.Prelude.{◌≢◌, IfSome}
 use Rattle.std.specs.declared.cmp.Ordering.{Ordering}
@@ -7,9 +7,9 @@ use Rattle.arj_base.specs.Order.{uid_order}
 use Rattle.arj_base.specs.declared.uid.Uid.{Uid}
 use Rattle.arj_disk.specs.Disk.{PutsOrNot, Removes, Same}
 use Rattle.arj_disk.specs.FileMap.{FileMap}
-use Rattle.arj_disk.specs.Formed.{Formed, FormedFor, IsIntentOf}
+use Rattle.arj_disk.specs.Formed.{IsIntentOf}
+use Rattle.arj_disk.specs.Says.{slot_role, SameOfRole}
 use Rattle.arj_disk.specs.declared.slot.Role.{Role}
-use Rattle.arj_disk.specs.declared.slot.Role.TheVariants as role
 use Rattle.arj_disk.specs.declared.slot.Slot.{Slot}
 use Rattle.arj_disk.specs.declared.slot.Slot.TheVariants as slot
 use Rattle.arj_intent.specs.Records.{AreInForm}
@@ -19,34 +19,10 @@ use Rattle.arj_intent.proofs.Entries.{order_exact, order_itself}
 abbrev pub OnlyRecord : Uid → FileMap → FileMap → Type 0
 OnlyRecord top old new = (q : Slot) → q ≢ slot.Intent top → q ≢ slot.Tmp → new q ≡ old q
 
--- the files of the roles alone
-abbrev of_roles : FileMap → FileMap
-of_roles file slot.Incarnation = None
-of_roles file slot.Tmp = None
-of_roles file (slot.Committed u) = file (slot.Committed u)
-of_roles file (slot.Shadow u) = file (slot.Shadow u)
-of_roles file (slot.Prepared r u) = file (slot.Prepared r u)
-of_roles file (slot.Intent u) = None
-
-narrowed : (file : FileMap) (r : Role) → FormedFor file r → FormedFor (of_roles file) r
-narrowed file r f = record { committed = f.committed; shadows = f.shadows; prepared = f.prepared; own = f.own; there = f.there; once = f.once; few = f.few }
-
-widened : (file : FileMap) (r : Role) → FormedFor (of_roles file) r → FormedFor file r
-widened file r f = record { committed = f.committed; shadows = f.shadows; prepared = f.prepared; own = f.own; there = f.there; once = f.once; few = f.few }
-
 module _ (top : Uid) (old new : FileMap) (others : OnlyRecord top old new) where
-  same_roles : (q : Slot) → of_roles new q ≡ of_roles old q
-  same_roles slot.Incarnation = refl
-  same_roles slot.Tmp = refl
-  same_roles (slot.Committed u) = others (slot.Committed u) (λ (e : slot.Committed u ≡ slot.Intent top). cc) (λ (e : slot.Committed u ≡ slot.Tmp). cc)
-  same_roles (slot.Shadow u) = others (slot.Shadow u) (λ (e : slot.Shadow u ≡ slot.Intent top). cc) (λ (e : slot.Shadow u ≡ slot.Tmp). cc)
-  same_roles (slot.Prepared r u) = others (slot.Prepared r u) (λ (e : slot.Prepared r u ≡ slot.Intent top). cc) (λ (e : slot.Prepared r u ≡ slot.Tmp). cc)
-  same_roles (slot.Intent u) = refl
-
-  formed_for : (r : Role) → FormedFor old r → FormedFor new r
-  formed_for r f =
-      let same : of_roles old ≡ of_roles new = λ i q. sym (same_roles q) i in
-      widened new r (subst (λ file. FormedFor file r) same (narrowed old r f))
+  -- no file of a role is a record, or Tmp
+  roles_stay : (r : Role) → SameOfRole r old new
+  roles_stay r q is = others q (λ e. let never : None ≡ Some r = sym (ap slot_role e) ∙ is in absurd (cc never)) (λ e. let never : None ≡ Some r = sym (ap slot_role e) ∙ is in absurd (cc never))
 
   -- the record of another top
   pub other_record : (u : Uid) (o : Ordering) → uid_order u top ≡ o → (o ≡ Equal → ⊥) → new (slot.Intent u) ≡ old (slot.Intent u)
@@ -67,21 +43,13 @@ module _ (top : Uid) (old new : FileMap) (others : OnlyRecord top old new) where
       by Greater is = subst (λ o. IfSome o (IsIntentOf u)) (sym (other_record u Greater is (λ (e : Greater ≡ Equal). cc))) (form u)
       by Equal is = subst (λ w. IfSome (new (slot.Intent w)) (IsIntentOf w)) (sym (order_exact u top is)) (here (form top))
 
-  pub stays_formed : Here → Formed old → Formed new
-  stays_formed here f = record {
-    store = formed_for role.Store f.store;
-    entries = formed_for role.Names f.entries;
-    incarnation = let e = f.incarnation in (e.0, others slot.Incarnation (λ (e : slot.Incarnation ≡ slot.Intent top). cc) (λ (e : slot.Incarnation ≡ slot.Tmp). cc) ∙ e.1, e.2);
-    intents = stays_in_form here f.intents;
-  }
-
--- both kinds of form stay
+-- the records stay in form, and the files of the roles as they are
 pub record Stays (old new : FileMap) : Type 0 where
   pub form : AreInForm old → AreInForm new
-  pub formed : Formed old → Formed new
+  pub roles : (r : Role) → SameOfRole r old new
 
 stays : (top : Uid) (old new : FileMap) → OnlyRecord top old new → (IfSome (old (slot.Intent top)) (IsIntentOf top) → IfSome (new (slot.Intent top)) (IsIntentOf top)) → Stays old new
-stays top old new others here = record { form = stays_in_form top old new others here; formed = stays_formed top old new others here }
+stays top old new others here = record { form = stays_in_form top old new others here; roles = roles_stay top old new others }
 
 -- a removal, done or not
 pub removed_stays : (old new : FileMap) (top : Uid) → Same old new ⊎ Removes old new (slot.Intent top) → Stays old new

@@ -3,7 +3,9 @@ ghost use Rattle.std.specs.Prelude.{◌≡◌, ◌⊎◌, ◌++◌, map, IfOk, O
 ghost use Rattle.std.specs.List.{AllByRecursion};
 ghost use Rattle.arj_disk.specs.Counted.{counts};
 ghost use Rattle.arj_disk.specs.Disk.{Same, SameBut, Puts, PutsOrNot, Removes, CountsCall};
-ghost use Rattle.arj_disk.specs.Formed.{Formed, intent_bytes, IsIntentOf};
+ghost use Rattle.arj_disk.specs.Formed.{intent_bytes, IsIntentOf};
+ghost use Rattle.arj_disk.specs.Says.{SameOfRole};
+ghost use Rattle.arj_disk.specs.declared.slot.Role.{Role};
 ghost use Rattle.arj_disk.specs.declared.slot.Slot.{Slot};
 ghost use Rattle.arj_intent.specs.Records.{IsInForm, AreInForm, AreRecords, Does, IsCut, IsTheList, shown, entry_of, entries_at};
 ghost use Rattle.arj_protocol.specs.Effect.{PutIntent, RemoveIntent};
@@ -24,7 +26,7 @@ pub fn put<D: Disk>(alloc: Global, disk: &mut D, i: &Intent) -> Result<(), DiskF
     ensures work { OnOk result (Does (PutIntent i.now.top (shown i.now)) (D.file disk.old) (D.file disk.new)) }
     ensures stopped { IsErrOf result DiskFault.Stopped → IsCut (PutIntent i.now.top (shown i.now)) (D.file disk.old) (D.file disk.new) }
     ensures form { AreInForm (D.file disk.old) → AreInForm (D.file disk.new) }
-    ensures formed { Formed (D.file disk.old) → Formed (D.file disk.new) }
+    ensures roles { (r : Role) → SameOfRole r (D.file disk.old) (D.file disk.new) }
     ensures counts { CountsCall (counts D.Disk disk.old) (counts D.Disk disk.new) result DiskFault.Stopped }
 {
     let bytes = intent_file(alloc, i)?;
@@ -97,7 +99,7 @@ pub fn remove<D: Disk>(disk: &mut D, top: Uid) -> Result<(), DiskFault>
     ensures work { OnOk result (Does (RemoveIntent top) (D.file disk.old) (D.file disk.new)) }
     ensures stopped { IsErrOf result DiskFault.Stopped → IsCut (RemoveIntent top) (D.file disk.old) (D.file disk.new) }
     ensures form { AreInForm (D.file disk.old) → AreInForm (D.file disk.new) }
-    ensures formed { Formed (D.file disk.old) → Formed (D.file disk.new) }
+    ensures roles { (r : Role) → SameOfRole r (D.file disk.old) (D.file disk.new) }
     ensures counts { CountsCall (counts D.Disk disk.old) (counts D.Disk disk.new) result DiskFault.Stopped }
 {
     disk.remove(Slot::Intent(top))

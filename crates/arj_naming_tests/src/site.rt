@@ -50,7 +50,7 @@ pub struct Left {
 
 impl Model for Left {
     ghost use Rattle.std.specs.Prelude.{ℕ, ◌≤◌};
-    ghost use Rattle.arj_disk.specs.Formed.{FormedFor};
+    ghost use Rattle.arj_store.specs.Formed.{FormedFor};
     ghost use Rattle.arj_disk.specs.declared.slot.Role.TheVariants as role;
     ghost use Rattle.arj_naming.specs.Files.{GivesEntries};
     ghost use Rattle.arj_store.specs.OfFiles.{pair_of};

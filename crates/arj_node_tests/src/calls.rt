@@ -14,6 +14,12 @@ fn put_of(text: &mut Bytes, word: &[u8], uid: Uid) -> Result<(), AllocError> {
     text.extend_decimal(uid.num)
 }
 
+// A file of a number.
+fn put_number(text: &mut Bytes, word: &[u8], number: u64) -> Result<(), AllocError> {
+    text.extend(word)?;
+    text.extend_decimal(number)
+}
+
 // The name of a slot.
 fn put_slot(text: &mut Bytes, slot: Slot) -> Result<(), AllocError> {
     match slot {
@@ -24,6 +30,10 @@ fn put_slot(text: &mut Bytes, slot: Slot) -> Result<(), AllocError> {
         Slot::Prepared(Role::Store, uid) => put_of(text, b" prepared store ", uid),
         Slot::Prepared(Role::Names, uid) => put_of(text, b" prepared names ", uid),
         Slot::Intent(uid) => put_of(text, b" intent ", uid),
+        Slot::Pending(Role::Store, uid) => put_of(text, b" pending store ", uid),
+        Slot::Pending(Role::Names, uid) => put_of(text, b" pending names ", uid),
+        Slot::Segment(Role::Store, number) => put_number(text, b" segment store ", number),
+        Slot::Segment(Role::Names, number) => put_number(text, b" segment names ", number),
     }
 }
 

@@ -13,11 +13,13 @@ use Rattle.arj_base.specs.declared.state.ObjectState.{ObjectState}
 use Rattle.arj_base.specs.declared.uid.Uid.{Uid}
 use Rattle.arj_disk.specs.declared.slot.Role.{Role}
 use Rattle.arj_disk.specs.declared.slot.Slot.{Slot}
-use Rattle.arj_disk.specs.declared.slot.Slot.TheVariants.{Incarnation, Tmp, Committed, Shadow, Prepared, Intent}
+use Rattle.arj_disk.specs.declared.slot.Slot.TheVariants.{Incarnation, Tmp, Committed, Shadow, Prepared, Intent, Pending, Segment}
 use Rattle.arj_disk.specs.Disk.{Lists}
 use Rattle.arj_disk.specs.FileMap.{FileMap}
-use Rattle.arj_disk.specs.Formed.{FormedFor, IsKnown, AtMost}
-use Rattle.arj_disk.specs.Says.{role_of, held, pend, names}
+use Rattle.arj_disk.specs.Formed.{AtMost}
+use Rattle.arj_store.specs.Formed.{FormedFor, IsKnown}
+use Rattle.arj_disk.specs.Says.{role_of, names}
+use Rattle.arj_store.specs.Says.{held, pend}
 use Rattle.arj_store.specs.Pair.{AreDistinct, uid_of}
 use Rattle.arj_store.specs.Named.{held_of_role, uid_same, uid_is}
 
@@ -42,6 +44,8 @@ uid_at (Committed u) = u
 uid_at (Shadow u) = u
 uid_at (Prepared role a) = a
 uid_at (Intent a) = a
+uid_at (Pending role a) = a
+uid_at (Segment role k) = nobody
 
 length_at : (qs : List Slot) → length (map uid_at qs) ≡ length qs
 length_at [] = refl

@@ -2,7 +2,8 @@
 ghost use Rattle.std.specs.Prelude.{◌≡◌, ◌⊎◌, ◌+◌, ◌<◌, ◌≤◌, None, Some, true, map, length, Contains, IfOk, OnOk};
 ghost use Rattle.std.specs.List.{AllByRecursion};
 ghost use Rattle.arj_base.specs.State.{state_bytes};
-ghost use Rattle.arj_disk.specs.Formed.{AtMost, FormedFor, IsKnown};
+ghost use Rattle.arj_disk.specs.Formed.{AtMost};
+ghost use Rattle.arj_store.specs.Formed.{FormedFor, IsKnown};
 ghost use Rattle.arj_disk.specs.Says.{role_of, slot_role};
 ghost use Rattle.arj_disk.specs.declared.slot.Slot.{Slot};
 ghost use Rattle.arj_base.specs.declared.limits.TheConstants.{MOST_BYTES};

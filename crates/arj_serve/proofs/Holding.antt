@@ -21,7 +21,7 @@ use Rattle.arj_protocol.specs.Naming.{hello, naming_holders}
 use Rattle.arj_protocol.specs.Node.{Took, holders, is_earlier, locks_of, naming_hello, prepared_actions, query_about}
 use Rattle.arj_protocol.specs.Order.{at_uid, uid_set, with_uid}
 use Rattle.arj_protocol.specs.Server.{server_holders}
-use Rattle.arj_protocol.specs.Step.{has_none}
+use Rattle.arj_protocol.specs.Order.{is_empty}
 use Rattle.arj_protocol.specs.Words.message
 use Rattle.arj_serve.specs.Asked.{Handles, queries}
 use Rattle.arj_serve.specs.Did.{sends}
@@ -124,16 +124,16 @@ set_more uids i within = ap uid_set (sym (drop_more uids i nobody within))
 
 -- ---- nothing is prepared
 
-pub list_clear : {X : Type 0} (b : Bool) (es : List X) → (b ≡ true) ↔ (es ≡ []) → b ≡ has_none es
+pub list_clear : {X : Type 0} (b : Bool) (es : List X) → (b ≡ true) ↔ (es ≡ []) → b ≡ is_empty es
 list_clear true [] is = refl
 list_clear true (e ∷ es) is = absurd (cc (is.0 refl))
 list_clear false [] is = is.1 refl
 list_clear false (e ∷ es) is = refl
 
-pub store_clear : (p : files.Pair) (d : Pair) (b : Bool) → IsPairOf p d → (b ≡ true) ↔ ((a : Uid) → p.pend a ≡ None) → b ≡ has_none d.pend
+pub store_clear : (p : files.Pair) (d : Pair) (b : Bool) → IsPairOf p d → (b ≡ true) ↔ ((a : Uid) → p.pend a ≡ None) → b ≡ is_empty d.pend
 store_clear p d b are is = by b d.pend are.pend is
   where
-    by : (b : Bool) (es : List (Uid × List ObjectState)) → ((a : Uid) → p.pend a ≡ option_map packed (at_uid a es)) → (b ≡ true) ↔ ((a : Uid) → p.pend a ≡ None) → b ≡ has_none es
+    by : (b : Bool) (es : List (Uid × List ObjectState)) → ((a : Uid) → p.pend a ≡ option_map packed (at_uid a es)) → (b ≡ true) ↔ ((a : Uid) → p.pend a ≡ None) → b ≡ is_empty es
     by true [] at is = refl
     by true (e ∷ es) at is = absurd (cc (sym (is.0 refl e.0) ∙ (at e.0 ∙ ap (option_map packed) (here e es))))
     by false [] at is = is.1 at

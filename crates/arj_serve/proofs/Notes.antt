@@ -17,7 +17,7 @@ use Rattle.arj_protocol.specs.Confirm as confirming
 use Rattle.arj_protocol.specs.Confirm.{Grants, Marks, checked, confirm_entries, confirm_new, confirms, entries_after, has_all, lock_all, prepared_by, wanted}
 use Rattle.arj_protocol.specs.Copy.{is_granted}
 use Rattle.arj_protocol.specs.Effect.{Effect, Say, Pair, Served, Did, Prep, Ready, Already, Old, InDoubt, is_prepared, prepare_answer, reply, void}
-use Rattle.arj_protocol.specs.Named.{Live, Made, Named, Counted, bind_call, bind_made, bind_named, conflict_on, entry_row, include_asked, is_binding, in_use, is_lowered, lowered, live_above, live_asked, lock_lines, lower_lines, made_above, make_asked, note_made, note_named, note_other}
+use Rattle.arj_protocol.specs.Named.{Live, Made, Named, Counted, bind_call, bind_made, bind_named, conflict_on, entry_row, include_asked, in_use, is_lowered, lowered, live_above, live_asked, lock_lines, lower_lines, made_above, make_asked, note_made, note_named, note_other}
 use Rattle.arj_protocol.specs.Naming as naming
 use Rattle.arj_protocol.specs.Naming.{Naming, is_over, listed_entry, on_counted, on_named}
 use Rattle.arj_protocol.specs.Order.{at_number, at_uid, binding_eq, put_number}
@@ -28,6 +28,7 @@ use Rattle.arj_protocol.specs.Words.confirmed
 use Rattle.arj_protocol.specs.Words.recorded
 use Rattle.arj_protocol.specs.Words.what
 use Rattle.arj_serve.proofs.Served.{VoidIsNothing}
+use Rattle.arj_protocol.specs.Order.{is_binding}
 
 -- what was found under a number, put back, changes nothing
 pub put_as_found : {X : Type 0} (x : ℕ) (v : X) (es : List (ℕ × X)) → IsStrictlySortedBy nat_cmp (keys_of es) → at_number x es ≡ Some v → put_number x v es ≡ es

@@ -6,7 +6,7 @@ ghost use Rattle.arj_protocol.specs.Coord.{Coord};
 ghost use Rattle.arj_protocol.specs.Effect as protocol;
 ghost use Rattle.arj_protocol.specs.Node.{holders, is_earlier, prepared_actions};
 ghost use Rattle.arj_protocol.specs.Order.{uid_set};
-ghost use Rattle.arj_protocol.specs.Step.{has_none};
+ghost use Rattle.arj_protocol.specs.Order.{is_empty};
 ghost use Rattle.arj_protocol.specs.Words.message;
 ghost use Rattle.arj_serve.specs.Asked.{Handles, queries};
 ghost use Rattle.arj_serve.specs.Held.{Greets, ListsNames, ListsPrepared};
@@ -42,7 +42,7 @@ impl<O: ObjectStore> Services<O> {
 
     /// Whether no action is prepared.
     pub fn is_clear(&self) -> bool
-        ensures { (file : FileMap) (d : protocol.Disk) → StandsOn O.ObjectStore self.now file d → result ≡ (has_none d.store.pend && has_none d.names.pend) }
+        ensures { (file : FileMap) (d : protocol.Disk) → StandsOn O.ObjectStore self.now file d → result ≡ (is_empty d.store.pend && is_empty d.names.pend) }
     {
         let states = self.has_no_states();
         let entries = self.has_no_entries();
@@ -51,14 +51,14 @@ impl<O: ObjectStore> Services<O> {
 
     // Whether no action has prepared states of objects.
     fn has_no_states(&self) -> bool
-        ensures { (file : FileMap) (d : protocol.Disk) → StandsOn O.ObjectStore self.now file d → result ≡ has_none d.store.pend }
+        ensures { (file : FileMap) (d : protocol.Disk) → StandsOn O.ObjectStore self.now file d → result ≡ is_empty d.store.pend }
     {
         self.store.is_clear()
     }
 
     // Whether no action has prepared entries.
     fn has_no_entries(&self) -> bool
-        ensures { (file : FileMap) (d : protocol.Disk) → StandsOn O.ObjectStore self.now file d → result ≡ has_none d.names.pend }
+        ensures { (file : FileMap) (d : protocol.Disk) → StandsOn O.ObjectStore self.now file d → result ≡ is_empty d.names.pend }
     {
         match &self.naming {
             Some(naming) => naming.is_clear(),

@@ -7,8 +7,9 @@ use Rattle.std.specs.List.{AllByRecursion}
 use Rattle.std.proofs.lemmas.Nat.{from_be_bytes-to_be_bytes_4, from_be_bytes-to_be_bytes_8}
 use Rattle.arj_base.specs.Uid.{uid_bytes, UidFits}
 use Rattle.arj_base.specs.declared.uid.Uid.{Uid}
-use Rattle.arj_disk.specs.Formed.{prepared_bytes}
-use Rattle.arj_disk.specs.Says.{uid_in, uids_in, named_in}
+use Rattle.arj_store.specs.Formed.{prepared_bytes}
+use Rattle.arj_disk.specs.Says.{uid_in, uids_in}
+use Rattle.arj_store.specs.Says.{named_in}
 use Rattle.arj_store.proofs.Lists.{all_take_more, all_at}
 
 pub uid_back : (u : Uid) (rest : List ℕ) → UidFits u → uid_in (take 16 (uid_bytes u ++ rest)) ≡ u

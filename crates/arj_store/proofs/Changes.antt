@@ -5,8 +5,10 @@ use Rattle.arj_base.specs.declared.uid.Uid.{Uid}
 use Rattle.arj_disk.specs.declared.slot.Role.{Role}
 use Rattle.arj_disk.specs.declared.slot.Slot.TheVariants as slot
 use Rattle.arj_disk.specs.FileMap.{FileMap}
-use Rattle.arj_disk.specs.Formed.{FormedFor, IsStateOf, IsPreparedOf}
-use Rattle.arj_disk.specs.Says.{role_of, slot_role, held, pend, names, new_state, InDoubt, OnlyOfRole}
+use Rattle.arj_disk.specs.Formed.{IsStateOf}
+use Rattle.arj_store.specs.Formed.{FormedFor, IsPreparedOf}
+use Rattle.arj_disk.specs.Says.{role_of, slot_role, names, OnlyOfRole}
+use Rattle.arj_store.specs.Says.{held, named_in, pend, new_state, InDoubt}
 use Rattle.arj_store.specs.OfFiles.{SamePair}
 use Rattle.arj_store.specs.Shadow.{is_named, objects_of, ChangesStates}
 use Rattle.arj_store.specs.declared.prepare.Place.TheVariants as place
@@ -17,7 +19,7 @@ use Rattle.arj_store.proofs.Files.{fewer}
 pub same_named : (old new : FileMap) (role : Role) (a : Uid) → new (slot.Prepared role a) ≡ old (slot.Prepared role a)
     → ((u : Uid) → names (pend old role a) u → new_state new u ≡ new_state old u) → pend new role a ≡ pend old role a
 same_named old new role a file same =
-    pend_is new role a ∙ ap (λ o. option_map (with_each (new_state new)) (option_map Rattle.arj_disk.specs.Says.named_in o)) file
+    pend_is new role a ∙ ap (λ o. option_map (with_each (new_state new)) (option_map named_in o)) file
     ∙ by (objects_of old role a) (λ u is. same u (names_if old role a u is)) ∙ sym (pend_is old role a)
   where
     by : (o : Option (List Uid)) → ((u : Uid) → is_named o u ≡ true → new_state new u ≡ new_state old u) → option_map (with_each (new_state new)) o ≡ option_map (with_each (new_state old)) o

@@ -6,8 +6,10 @@ use Rattle.arj_disk.specs.declared.slot.Role.{Role}
 use Rattle.arj_disk.specs.declared.slot.Slot.TheVariants as slot
 use Rattle.arj_disk.specs.Disk.{Removes, Same}
 use Rattle.arj_disk.specs.FileMap.{FileMap}
-use Rattle.arj_disk.specs.Formed.{FormedFor, IsStateOf}
-use Rattle.arj_disk.specs.Says.{role_of, pend, names, InDoubt, OnlyOfRole}
+use Rattle.arj_disk.specs.Formed.{IsStateOf}
+use Rattle.arj_store.specs.Formed.{FormedFor}
+use Rattle.arj_disk.specs.Says.{role_of, names, OnlyOfRole}
+use Rattle.arj_store.specs.Says.{pend, InDoubt}
 use Rattle.arj_store.specs.declared.memory.Holding.{Holding}
 use Rattle.arj_store.specs.declared.prepare.Place.TheVariants as place
 use Rattle.arj_store.specs.OfFiles.{SamePair, Drops, Moves, MovesSome}

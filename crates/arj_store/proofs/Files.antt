@@ -7,8 +7,10 @@ use Rattle.arj_disk.specs.declared.slot.Role.{Role}
 use Rattle.arj_disk.specs.declared.slot.Slot.TheVariants as slot
 use Rattle.arj_disk.specs.Disk.{Removes}
 use Rattle.arj_disk.specs.FileMap.{FileMap}
-use Rattle.arj_disk.specs.Formed.{FormedFor, IsStateOf, IsPreparedOf, IsKnown}
-use Rattle.arj_disk.specs.Says.{role_of, slot_role, held, pend, names, new_state, first_file, OnlyOfRole}
+use Rattle.arj_disk.specs.Formed.{IsStateOf}
+use Rattle.arj_store.specs.Formed.{FormedFor, IsPreparedOf, IsKnown}
+use Rattle.arj_disk.specs.Says.{role_of, slot_role, names, OnlyOfRole}
+use Rattle.arj_store.specs.Says.{held, pend, new_state, first_file}
 use Rattle.arj_store.specs.OfFiles.{Drops, MovesSome}
 use Rattle.arj_store.specs.Pair.{held_after, newer}
 use Rattle.arj_store.specs.Shadow.{is_in, is_named, objects_of, MovesShadows, HaveNoShadow}
@@ -142,6 +144,8 @@ module _ (role : Role) (old new : FileMap) (act : Uid) (us : List Uid) (formed :
   moved_of_role slot.Incarnation other tmp = moves.others slot.Incarnation (λ u. (λ e. cc, λ e. cc))
   moved_of_role slot.Tmp other tmp = moves.others slot.Tmp (λ u. (λ e. cc, λ e. cc))
   moved_of_role (slot.Intent a) other tmp = moves.others (slot.Intent a) (λ u. (λ e. cc, λ e. cc))
+  moved_of_role (slot.Pending r a) other tmp = moves.others (slot.Pending r a) (λ u. (λ e. cc, λ e. cc))
+  moved_of_role (slot.Segment r k) other tmp = moves.others (slot.Segment r k) (λ u. (λ e. cc, λ e. cc))
 
 -- ---- the file of an action goes
 

@@ -17,8 +17,9 @@ use Rattle.arj_disk.specs.declared.slot.Slot.{Slot}
 use Rattle.arj_disk.specs.declared.slot.Slot.TheVariants as slot
 use Rattle.arj_disk.specs.Disk.{Lists}
 use Rattle.arj_disk.specs.FileMap.{FileMap}
-use Rattle.arj_disk.specs.Formed.{FormedFor}
-use Rattle.arj_disk.specs.Says.{role_of, role_eq, held, pend, new_state, first_file}
+use Rattle.arj_store.specs.Formed.{FormedFor}
+use Rattle.arj_disk.specs.Says.{role_of, role_eq}
+use Rattle.arj_store.specs.Says.{held, pend, new_state, first_file}
 use Rattle.arj_store.specs.declared.memory.Holding.{Holding}
 use Rattle.arj_store.specs.declared.answer.Found.{Found}
 use Rattle.arj_store.specs.declared.prepare.Place.{Place}
@@ -47,6 +48,8 @@ one_entry slot.Tmp u is = let never : false ≡ true = is in cc
 one_entry (slot.Shadow w) u is = let never : false ≡ true = is in cc
 one_entry (slot.Prepared role a) u is = let never : false ≡ true = is in cc
 one_entry (slot.Intent a) u is = let never : false ≡ true = is in cc
+one_entry (slot.Pending role a) u is = let never : false ≡ true = is in cc
+one_entry (slot.Segment role k) u is = let never : false ≡ true = is in cc
 
 entry_here : (u : Uid) → role_of u ≡ Names → is_in (entry_at (slot.Committed u)) u ≡ true
 entry_here u own = subst (λ r. is_in (if role_eq r Names then u ∷ [] else []) u ≡ true) (sym own) (or_left (uid_eq u u) false (uid_same u))
@@ -54,7 +57,7 @@ entry_here u own = subst (λ r. is_in (if role_eq r Names then u ∷ [] else [])
 only_one : {X : Type 0} (q p : X) → Contains (q ∷ []) p → q ≡ p
 only_one q p is = ⊎_elim (λ (never : Contains [] p). let no : ⊥ = omega (arith, never.1) in absurd no) (λ (e : q ≡ p). e) (Contains-push_cases [] q p is)
 
-contained : (us : List Uid) (u : Uid) → Contains us u → is_in us u ≡ true
+pub contained : (us : List Uid) (u : Uid) → Contains us u → is_in us u ≡ true
 contained [] u is = let never : ⊥ = omega (arith, is.1) in absurd never
 contained (w ∷ ws) u is = ⊎_elim (λ (here : Contains (w ∷ []) u). or_left (uid_eq u w) (is_in ws u) (ap (uid_eq u) (only_one w u here) ∙ uid_same u))
     (λ (later : Contains ws u). or_right (uid_eq u w) (is_in ws u) (contained ws u later)) (Contains-append_cases (w ∷ []) ws u is)

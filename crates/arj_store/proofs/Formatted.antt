@@ -10,8 +10,10 @@ use Rattle.arj_disk.specs.declared.slot.Role.{Role}
 use Rattle.arj_disk.specs.declared.slot.Slot.{Slot}
 use Rattle.arj_disk.specs.declared.slot.Slot.TheVariants as slot
 use Rattle.arj_disk.specs.FileMap.{FileMap}
-use Rattle.arj_disk.specs.Formed.{FormedFor, IsStateOf, IsPreparedOf}
-use Rattle.arj_disk.specs.Says.{role_of, slot_role, held, pend, names, OnlyOfRole}
+use Rattle.arj_disk.specs.Formed.{IsStateOf}
+use Rattle.arj_store.specs.Formed.{FormedFor, IsPreparedOf}
+use Rattle.arj_disk.specs.Says.{role_of, slot_role, names, OnlyOfRole}
+use Rattle.arj_store.specs.Says.{held, pend}
 use Rattle.arj_store.specs.declared.memory.Holding.{Holding}
 use Rattle.arj_store.specs.declared.prepare.Place.TheVariants as place
 use Rattle.arj_store.specs.OfFiles.{HasFirst, HasOnly}

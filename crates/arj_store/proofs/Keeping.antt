@@ -8,8 +8,10 @@ use Rattle.arj_base.specs.declared.state.ObjectState.{ObjectState}
 use Rattle.arj_disk.specs.declared.slot.Role.{Role}
 use Rattle.arj_disk.specs.declared.slot.Slot.TheVariants as slot
 use Rattle.arj_disk.specs.FileMap.{FileMap}
-use Rattle.arj_disk.specs.Formed.{FormedFor, IsStateOf}
-use Rattle.arj_disk.specs.Says.{role_of, pend, names, named_in, InDoubt}
+use Rattle.arj_disk.specs.Formed.{IsStateOf}
+use Rattle.arj_store.specs.Formed.{FormedFor}
+use Rattle.arj_disk.specs.Says.{role_of, names}
+use Rattle.arj_store.specs.Says.{pend, named_in, InDoubt}
 use Rattle.arj_store.specs.declared.memory.Holding.{Holding}
 use Rattle.arj_store.specs.declared.prepare.Place.TheVariants as place
 use Rattle.arj_store.specs.OfFiles.{IsClear}

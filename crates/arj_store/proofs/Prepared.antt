@@ -9,8 +9,10 @@ use Rattle.arj_base.specs.declared.uid.Uid.{Uid}
 use Rattle.arj_disk.specs.declared.slot.Role.{Role}
 use Rattle.arj_disk.specs.declared.slot.Slot.TheVariants as slot
 use Rattle.arj_disk.specs.FileMap.{FileMap}
-use Rattle.arj_disk.specs.Formed.{FormedFor, IsStateOf, IsPreparedOf, IsKnown, AtMost}
-use Rattle.arj_disk.specs.Says.{role_of, slot_role, held, pend, names, new_state, named_in, first_file, InDoubt, OnlyOfRole}
+use Rattle.arj_disk.specs.Formed.{IsStateOf, AtMost}
+use Rattle.arj_store.specs.Formed.{FormedFor, IsPreparedOf, IsKnown}
+use Rattle.arj_disk.specs.Says.{role_of, slot_role, names, OnlyOfRole}
+use Rattle.arj_store.specs.Says.{held, pend, new_state, named_in, first_file, InDoubt}
 use Rattle.arj_store.specs.OfFiles.{SamePair, Adds, IsClear}
 use Rattle.arj_store.specs.Pair.{uid_of, packed}
 use Rattle.arj_store.specs.Shadow.{is_in, is_named, objects_of, PutsStates, PutsAll, HasStates}

@@ -6,8 +6,10 @@ use Rattle.arj_base.specs.declared.state.ObjectState.{ObjectState}
 use Rattle.arj_base.specs.declared.uid.Uid.{Uid}
 use Rattle.arj_disk.specs.declared.slot.Role.{Role}
 use Rattle.arj_disk.specs.FileMap.{FileMap}
-use Rattle.arj_disk.specs.Formed.{FormedFor, IsKnown, AtMost}
-use Rattle.arj_disk.specs.Says.{role_of, pend, OnlyOfRole}
+use Rattle.arj_disk.specs.Formed.{AtMost}
+use Rattle.arj_store.specs.Formed.{FormedFor, IsKnown}
+use Rattle.arj_disk.specs.Says.{role_of, OnlyOfRole}
+use Rattle.arj_store.specs.Says.{pend}
 use Rattle.arj_store.specs.declared.answer.Prep.{Prep}
 use Rattle.arj_store.specs.declared.answer.Prep.TheVariants as prep
 use Rattle.arj_store.specs.declared.memory.Holding.{Holding}

@@ -13,7 +13,8 @@ use Rattle.arj_disk.specs.declared.slot.Role.{Role}
 use Rattle.arj_disk.specs.declared.slot.Slot.{Slot}
 use Rattle.arj_disk.specs.declared.slot.Slot.TheVariants as slot
 use Rattle.arj_disk.specs.FileMap.{FileMap}
-use Rattle.arj_disk.specs.Formed.{IsStateOf, IsPreparedOf, prepared_bytes}
+use Rattle.arj_disk.specs.Formed.{IsStateOf}
+use Rattle.arj_store.specs.Formed.{IsPreparedOf, prepared_bytes}
 use Rattle.arj_store.specs.declared.prepare.Place.{Place}
 use Rattle.arj_store.specs.declared.prepare.Place.TheVariants as place
 use Rattle.arj_store.specs.Pair.{uid_of}

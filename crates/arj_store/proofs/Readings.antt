@@ -5,7 +5,8 @@ use Rattle.arj_base.specs.declared.state.ObjectState.{ObjectState}
 use Rattle.arj_base.specs.declared.uid.Uid.{Uid}
 use Rattle.arj_disk.specs.declared.slot.Role.{Role}
 use Rattle.arj_disk.specs.FileMap.{FileMap}
-use Rattle.arj_disk.specs.Says.{role_of, pend, names, InDoubt}
+use Rattle.arj_disk.specs.Says.{role_of, names}
+use Rattle.arj_store.specs.Says.{pend, InDoubt}
 use Rattle.arj_store.specs.declared.memory.Holding.{Holding}
 use Rattle.arj_store.specs.declared.prepare.Place.TheVariants as place
 use Rattle.arj_store.specs.OfFiles.{IsHeld}

@@ -10,8 +10,10 @@ use Rattle.arj_disk.specs.declared.slot.Slot.{Slot}
 use Rattle.arj_disk.specs.declared.slot.Slot.TheVariants as slot
 use Rattle.arj_disk.specs.Disk.{Removes, Lists}
 use Rattle.arj_disk.specs.FileMap.{FileMap}
-use Rattle.arj_disk.specs.Formed.{FormedFor, IsStateOf}
-use Rattle.arj_disk.specs.Says.{role_of, named_in, InDoubt, OnlyOfRole}
+use Rattle.arj_disk.specs.Formed.{IsStateOf}
+use Rattle.arj_store.specs.Formed.{FormedFor}
+use Rattle.arj_disk.specs.Says.{role_of, OnlyOfRole}
+use Rattle.arj_store.specs.Says.{named_in, InDoubt}
 use Rattle.arj_store.specs.declared.memory.Holding.{Holding}
 use Rattle.arj_store.specs.OfFiles.{SamePair}
 use Rattle.arj_store.specs.Recovery.{ReadsAction, ReadsSlot, ReadsActions, SortsShadow, SortsSlot, SortsShadows, DropsShadow, DropsShadows, IsUnheld, act_of}

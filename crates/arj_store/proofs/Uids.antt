@@ -3,8 +3,7 @@ use Rattle.std.proofs.Common.{◌≡◌, ◌≢◌, ◌⊎◌, ◌∙◌, true, 
 use Rattle.std.specs.BTreeMap.{is_at}
 use Rattle.std.specs.List.{All}
 use Rattle.std.specs.Map.{lookup, keys_of, values_of}
-use Rattle.std.specs.declared.cmp.Ordering.{Ordering}
-use Rattle.std.specs.declared.cmp.Ordering.TheVariants.{Less, Equal, Greater}
+use Rattle.std.specs.declared.cmp.Ordering.TheVariants.{Equal}
 use Rattle.std.proofs.lemmas.Bool.{cases_Bool}
 use Rattle.std.proofs.lemmas.Cmp.{tied_itself}
 use Rattle.std.proofs.lemmas.List.Elements.{All-head, All-tail}
@@ -12,9 +11,7 @@ use Rattle.std.proofs.lemmas.List.Folds.{list_any-append}
 use Rattle.arj_base.specs.Uid.{uid_eq}
 use Rattle.arj_base.specs.declared.uid.Uid.{Uid}
 use Rattle.arj_base.specs.contracts.uid.UidOrd.TheImpl.Laws.{total-law}
-use Rattle.arj_disk.specs.declared.slot.Slot.{Slot}
-use Rattle.arj_disk.specs.contracts.slot.SlotOrd.TheImpl.Laws.{total-law as slot-law}
-use Rattle.arj_disk.specs.Stored.{slot_cmp}
+pub use Rattle.arj_disk.proofs.Order.{slot_cases}
 pub use Rattle.arj_store.specs.Named.{uid_same, uid_is}
 use Rattle.arj_store.specs.Shadow.{is_in}
 use Rattle.arj_store.specs.Table.{uid_cmp}
@@ -62,18 +59,3 @@ in_or_last us u w is = ⊎_elim (λ (e : uid_eq w u ≡ true). inl (uid_is w u e
 
 pub out_of_more : (us : List Uid) (u w : Uid) → is_in (us ++ u ∷ []) w ≡ false → (w ≢ u) × (is_in us w ≡ false)
 out_of_more us u w is = (uid_isnt w u (grind (arith, in_more us u w)), grind (arith, in_more us u w))
-
--- two names of files are the same or not
-slot_apart : (a b : Slot) (o : Ordering) → slot_cmp a b ≡ o → o ≢ Equal → a ≢ b
-slot_apart a b o is unequal same = unequal (sym is ∙ ap (slot_cmp a) (sym same) ∙ tied_itself slot-law a)
-
-slot_tied : (a b : Slot) → slot_cmp a b ≡ Equal → a ≡ b
-slot_tied a b e = search rules
-
-pub slot_cases : (a b : Slot) → (a ≡ b) ⊎ (a ≢ b)
-slot_cases a b = by (slot_cmp a b) refl
-  where
-    by : (o : Ordering) → slot_cmp a b ≡ o → (a ≡ b) ⊎ (a ≢ b)
-    by Less is = inr (slot_apart a b Less is (λ never. cc))
-    by Equal is = inl (slot_tied a b is)
-    by Greater is = inr (slot_apart a b Greater is (λ never. cc))

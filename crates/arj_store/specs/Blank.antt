@@ -9,8 +9,10 @@ use Rattle.arj_disk.specs.declared.slot.Role.{Role}
 use Rattle.arj_disk.specs.declared.slot.Slot.{Slot}
 use Rattle.arj_disk.specs.declared.slot.Slot.TheVariants as slot
 use Rattle.arj_disk.specs.FileMap.{FileMap}
-use Rattle.arj_disk.specs.Formed.{FormedFor, IsKnown, IsPreparedOf, IsStateOf}
-use Rattle.arj_disk.specs.Says.{held, names, pend, role_eq, role_of, slot_role}
+use Rattle.arj_disk.specs.Formed.{IsStateOf}
+use Rattle.arj_store.specs.Formed.{FormedFor, IsKnown, IsPreparedOf}
+use Rattle.arj_disk.specs.Says.{names, role_eq, role_of, slot_role}
+use Rattle.arj_store.specs.Says.{held, pend}
 use Rattle.arj_store.specs.Named.{role_is}
 use Rattle.arj_store.specs.OfFiles.{HasOnly}
 

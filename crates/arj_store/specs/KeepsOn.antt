@@ -5,7 +5,8 @@ use Rattle.arj_base.specs.declared.uid.Uid.{Uid}
 use Rattle.arj_disk.specs.declared.slot.Role.{Role}
 use Rattle.arj_disk.specs.declared.slot.Slot.TheVariants as slot
 use Rattle.arj_disk.specs.FileMap.{FileMap}
-use Rattle.arj_disk.specs.Says.{SameOfRole, named_in}
+use Rattle.arj_disk.specs.Says.{SameOfRole}
+use Rattle.arj_store.specs.Says.{named_in}
 use Rattle.arj_store.specs.declared.memory.Holding.{Holding}
 use Rattle.arj_store.specs.declared.shadow.ShadowStore.{ShadowStore}
 use Rattle.arj_store.specs.Kept.{role_kept, StoreKeeps}

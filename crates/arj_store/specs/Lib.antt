@@ -1,6 +1,7 @@
 pub mod Blank
 pub mod Effects
 pub mod Fault
+pub mod Formed
 pub mod Kept
 pub mod KeepsOn
 pub mod Listed
@@ -8,6 +9,7 @@ pub mod Named
 pub mod OfFiles
 pub mod Pair
 pub mod Recovery
+pub mod Says
 pub mod Shadow
 pub mod Stays
 pub mod Table

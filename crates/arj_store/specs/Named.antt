@@ -8,7 +8,8 @@ use Rattle.arj_disk.specs.declared.slot.Role.{Role}
 use Rattle.arj_disk.specs.declared.slot.Role.TheVariants.{Store, Names}
 use Rattle.arj_disk.specs.declared.slot.Slot.TheVariants.{Committed, Shadow, Prepared}
 use Rattle.arj_disk.specs.FileMap.{FileMap}
-use Rattle.arj_disk.specs.Says.{role_of, role_eq, held, pend, names, new_of, new_state, named_in, first_file}
+use Rattle.arj_disk.specs.Says.{role_of, role_eq, names, new_of}
+use Rattle.arj_store.specs.Says.{held, pend, new_state, named_in, first_file}
 use Rattle.arj_store.specs.Shadow.{is_in, is_named, objects_of}
 
 -- each Uid is equal to itself, as uid_eq tells

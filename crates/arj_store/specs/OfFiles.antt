@@ -4,7 +4,7 @@ use Rattle.arj_base.specs.declared.state.ObjectState.{ObjectState}
 use Rattle.arj_base.specs.declared.uid.Uid.{Uid}
 use Rattle.arj_disk.specs.declared.slot.Role.{Role}
 use Rattle.arj_disk.specs.FileMap.{FileMap}
-use Rattle.arj_disk.specs.Says.{held, pend}
+use Rattle.arj_store.specs.Says.{held, pend}
 use Rattle.arj_store.specs.Pair as pair
 use Rattle.arj_store.specs.Pair.{Pair}
 use Rattle.arj_store.specs.declared.answer.Prep.{Prep}

@@ -83,6 +83,12 @@ pub record IsHeld (p : Pair) (u : Uid) (s : ObjectState) : Type 0 where
   pub in_form : StateInForm s
   pub own : s.uid ≡ u
 
+-- The state that bytes pack: none where there are no bytes, or they pack no state.
+abbrev pub Packs : Option (List ℕ) → Option ObjectState → Type 0
+Packs None state = state ≡ None
+Packs (Some bytes) None = (s : ObjectState) → StateInForm s → bytes ≢ state_bytes s
+Packs (Some bytes) (Some s) = StateInForm s × (bytes ≡ state_bytes s)
+
 -- The answer to a read: the action that names the object, where there is one; else the committed state, or none.
 abbrev pub Reads : Pair → Uid → Read → Type 0
 Reads p u (read.InDoubt holder) = names (p.pend holder) u

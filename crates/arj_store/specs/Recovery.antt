@@ -11,7 +11,8 @@ use Rattle.arj_disk.specs.declared.slot.Slot.{Slot}
 use Rattle.arj_disk.specs.declared.slot.Slot.TheVariants.{Committed, Shadow, Prepared}
 use Rattle.arj_disk.specs.Disk.{Removes}
 use Rattle.arj_disk.specs.FileMap.{FileMap}
-use Rattle.arj_disk.specs.Says.{role_of, role_eq, held}
+use Rattle.arj_disk.specs.Says.{role_of, role_eq}
+use Rattle.arj_store.specs.Says.{held}
 use Rattle.arj_store.specs.declared.memory.Holding.{Holding}
 use Rattle.arj_store.specs.declared.prepare.Place.{Place}
 use Rattle.arj_store.specs.declared.prepare.Place.TheVariants as place

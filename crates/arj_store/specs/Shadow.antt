@@ -10,8 +10,10 @@ use Rattle.arj_disk.specs.declared.slot.Slot.{Slot}
 use Rattle.arj_disk.specs.declared.slot.Slot.TheVariants.{Tmp, Committed, Shadow, Prepared}
 use Rattle.arj_disk.specs.Disk.{Renames}
 use Rattle.arj_disk.specs.FileMap.{FileMap}
-use Rattle.arj_disk.specs.Formed.{IsStateOf, IsPreparedOf, prepared_bytes}
-use Rattle.arj_disk.specs.Says.{role_of, named_in}
+use Rattle.arj_disk.specs.Formed.{IsStateOf}
+use Rattle.arj_store.specs.Formed.{IsPreparedOf, prepared_bytes}
+use Rattle.arj_disk.specs.Says.{role_of}
+use Rattle.arj_store.specs.Says.{named_in}
 use Rattle.arj_store.specs.Pair.{uid_of, MayFollow}
 use Rattle.arj_store.specs.declared.answer.Prep.{Prep}
 use Rattle.arj_store.specs.declared.answer.Prep.TheVariants as prep

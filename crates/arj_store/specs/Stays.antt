@@ -5,8 +5,10 @@ use Rattle.arj_base.specs.declared.uid.Uid.{Uid}
 use Rattle.arj_disk.specs.declared.slot.Role.{Role}
 use Rattle.arj_disk.specs.declared.slot.Slot.TheVariants as slot
 use Rattle.arj_disk.specs.FileMap.{FileMap}
-use Rattle.arj_disk.specs.Formed.{FormedFor, IsStateOf, IsPreparedOf}
-use Rattle.arj_disk.specs.Says.{SameOfRole, role_of, role_eq, held, pend, names, named_in, new_of, new_state, first_file}
+use Rattle.arj_disk.specs.Formed.{IsStateOf}
+use Rattle.arj_store.specs.Formed.{FormedFor, IsPreparedOf}
+use Rattle.arj_disk.specs.Says.{SameOfRole, role_of, role_eq, names, new_of}
+use Rattle.arj_store.specs.Says.{held, pend, named_in, new_state, first_file}
 use Rattle.arj_store.specs.OfFiles.{SamePair, pair_of}
 use Rattle.arj_store.specs.Pair.{IsSound}
 use Rattle.arj_store.specs.Shadow.{is_in, objects_of}

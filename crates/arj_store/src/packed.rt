@@ -7,8 +7,10 @@ ghost use Rattle.arj_base.specs.declared.uid.Uid.{Uid};
 ghost use Rattle.arj_disk.specs.Counted.{counts};
 ghost use Rattle.arj_disk.specs.Disk.{CountsCall};
 ghost use Rattle.arj_base.specs.declared.state.ObjectState.{ObjectState};
-ghost use Rattle.arj_disk.specs.Formed.{IsStateOf, IsPreparedOf, prepared_bytes};
-ghost use Rattle.arj_disk.specs.Says.{named_in};
+ghost use Rattle.arj_disk.specs.Formed.{IsStateOf};
+ghost use Rattle.arj_store.specs.Formed.{IsPreparedOf, prepared_bytes};
+ghost use Rattle.arj_store.specs.Says.{named_in};
+ghost use Rattle.arj_store.specs.Pair.{Packs};
 ghost use Rattle.arj_store.specs.Recovery.{IsStateAt};
 ghost use Rattle.arj_store.specs.Shadow.{slot_at};
 ghost use Rattle.arj_disk.specs.declared.limits.TheConstants.{MOST_PREPARED};
@@ -39,7 +41,18 @@ pub fn read_state<D: Disk>(
     Ok(Some(state))
 }
 
-// The state that these bytes pack.
+/// The state that bytes pack, if they pack one.
+pub fn state_in(alloc: Global, bytes: &[u8]) -> Result<Option<ObjectState>, AllocError>
+    ensures { IfOk result (Packs (Some bytes.now)) }
+{
+    match unpack(alloc, bytes) {
+        Ok(state) => Ok(Some(state)),
+        Err(StateFault::Memory) => Err(AllocError),
+        Err(_) => Ok(None),
+    }
+}
+
+// The state that these bytes pack, which pack one.
 fn unpack_formed(alloc: Global, uid: Uid, bytes: &[u8]) -> Result<ObjectState, AllocError>
     requires { IsStateOf uid bytes.now }
     ensures packed { IfOk result (λ s. bytes.now ≡ state_bytes s) }

@@ -5,7 +5,8 @@ ghost use Rattle.arj_base.specs.State.{state_bytes, StateInForm};
 ghost use Rattle.arj_base.specs.Uid.{uid_eq};
 ghost use Rattle.arj_disk.specs.Counted.{counts};
 ghost use Rattle.arj_disk.specs.Disk.{CountsCall, PutsOrNot};
-ghost use Rattle.arj_disk.specs.Formed.{FormedFor, IsStateOf};
+ghost use Rattle.arj_disk.specs.Formed.{IsStateOf};
+ghost use Rattle.arj_store.specs.Formed.{FormedFor};
 ghost use Rattle.arj_disk.specs.Says.{role_of};
 ghost use Rattle.arj_store.specs.OfFiles.{Refuses, IsRefused, IsClear};
 ghost use Rattle.arj_store.specs.Pair.{uid_of, IsNoOlder};
@@ -106,8 +107,8 @@ fn in_doubt(pending: &Pending, uid: Uid) -> Option<Prep>
     }
 }
 
-// The refusal by the committed state.
-fn refused_by(
+/// The refusal of a state by the committed one of its object; none where it may follow that.
+pub fn refused_by(
     alloc: Global,
     act: Uid,
     state: &ObjectState,

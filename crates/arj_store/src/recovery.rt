@@ -6,7 +6,7 @@ ghost use Rattle.arj_base.specs.declared.uid.Uid.{Uid};
 ghost use Rattle.arj_disk.specs.Counted.{counts};
 ghost use Rattle.arj_disk.specs.Disk.{Lists, Removes, CountsCall};
 ghost use Rattle.arj_disk.specs.Says.{OnlyOfRole};
-ghost use Rattle.arj_disk.specs.Formed.{FormedFor};
+ghost use Rattle.arj_store.specs.Formed.{FormedFor};
 ghost use Rattle.arj_disk.specs.declared.slot.Role.{Role};
 ghost use Rattle.arj_disk.specs.declared.slot.Slot.{Slot};
 ghost use Rattle.arj_store.specs.Recovery.{ReadsAction, ReadsSlot, ReadsActions, SortsShadow, SortsSlot, SortsShadows, DropsShadow, DropsShadows, ListsHeld, HasEntry, IsStateAt, HasRead, entry_at, entries_in, newest, ListsPrepared};

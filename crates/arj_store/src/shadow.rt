@@ -3,11 +3,11 @@ ghost use Rattle.std.specs.Prelude.{◌≡◌};
 
 use crate::memory::Pending;
 use crate::moves::{move_shadows, remove_shadows};
-use crate::packed::read_state;
+use crate::packed::{read_state, state_in};
 use crate::prepare::{Place, objects_of_states, put_prepared, put_states, refusal};
 use crate::recovery::{find, recover_pending};
 use crate::{Found, ObjectStore, Prep, Read, StoreFault};
-use arj_base::{States, Uid, Uids};
+use arj_base::{ObjectState, States, Uid, Uids};
 use arj_disk::{Disk, Role, Slot, role_of_uid};
 use std::alloc::{AllocError, Global};
 
@@ -27,7 +27,7 @@ impl ObjectStore for ShadowStore {
     ghost use Rattle.arj_store.specs.KeepsOn.{store_keeps_on};
     ghost use Rattle.arj_store.specs.OfFiles.{pair_of};
     ghost use Rattle.arj_store.specs.Stays.{files_stay, files_sound};
-    ghost use Rattle.arj_disk.specs.Formed.{FormedFor};
+    ghost use Rattle.arj_store.specs.Formed.{FormedFor};
     ghost use Rattle.std.specs.Prelude.{refl};
     ghost use Rattle.arj_store.specs.declared.limits.TheConstants.{MOST_ROOM};
 
@@ -88,6 +88,22 @@ impl ObjectStore for ShadowStore {
             Some(state) => Ok(Read::State(state)),
             None => Ok(Read::Absent),
         }
+    }
+
+    fn look<D: Disk>(
+        alloc: Global,
+        disk: &mut D,
+        role: Role,
+        uid: Uid,
+    ) -> Result<Option<ObjectState>, StoreFault> {
+        if role_of_uid(uid) != role {
+            return Ok(None);
+        }
+        let Some(bytes) = disk.read(alloc, Slot::Committed(uid))? else {
+            return Ok(None);
+        };
+        let state = state_in(alloc, bytes.as_slice())?;
+        Ok(state)
     }
 
     fn prepare<D: Disk>(

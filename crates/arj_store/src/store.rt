@@ -8,14 +8,14 @@ ghost use Rattle.arj_disk.specs.Formed.{AtMost};
 ghost use Rattle.arj_disk.specs.Says.{names, slot_role, OnlyOfRole, SameOfRole};
 ghost use Rattle.arj_disk.specs.declared.slot.Role.{Role};
 ghost use Rattle.arj_disk.specs.declared.slot.Slot.{Slot};
-ghost use Rattle.arj_store.specs.Pair.{Pair, IsKnown, InDoubt, AreClear, IsSound, SamePair, Drops, Moves, MovesSome, Reads, Prepares, AnswersPrepare, HasFirst, HasOnly, AreDistinct, Finds, FindsNothing, ListsActions, uid_of};
+ghost use Rattle.arj_store.specs.Pair.{Pair, IsKnown, InDoubt, AreClear, IsSound, SamePair, Drops, Moves, MovesSome, Reads, Prepares, AnswersPrepare, HasFirst, HasOnly, AreDistinct, Finds, FindsNothing, ListsActions, Packs, uid_of};
 ghost use Rattle.arj_store.specs.declared.answer.Found.{Found};
 ghost use Rattle.arj_base.specs.declared.limits.TheConstants.{MOST_BYTES};
 ghost use Rattle.arj_disk.specs.declared.limits.TheConstants.{MOST_KNOWN, MOST_PREPARED};
 ghost use Rattle.arj_store.specs.declared.limits.TheConstants.{MOST_ROOM};
 
 use crate::{Found, Prep, Read, StoreFault};
-use arj_base::{States, Uid, Uids};
+use arj_base::{ObjectState, States, Uid, Uids};
 use arj_disk::{Disk, Role};
 use std::alloc::{AllocError, Global};
 
@@ -85,6 +85,18 @@ pub trait ObjectStore: Sized {
         requires keeps { keeps self.now (D.file disk.old) }
         requires formed { formed (D.file disk.old) (own_role self.now) }
         ensures answer { IfOk result (λ answer. Reads (pair (D.file disk.old) (own_role self.now)) uid answer) }
+        ensures files { Same (D.file disk.old) (D.file disk.new) }
+        ensures counts { CountsCall (counts D.Disk disk.old) (counts D.Disk disk.new) result StoreFault.Stopped };
+
+    /// The state that the files of a role give as the committed one of an object, by the files alone: whether the object is in
+    /// doubt isn't asked, and none is answered where what the files give packs no state.
+    fn look<D: Disk>(
+        alloc: Global,
+        disk: &mut D,
+        role: Role,
+        uid: Uid,
+    ) -> Result<Option<ObjectState>, StoreFault>
+        ensures state { IfOk result (λ state. Packs ((pair (D.file disk.old) role).held uid) state) }
         ensures files { Same (D.file disk.old) (D.file disk.new) }
         ensures counts { CountsCall (counts D.Disk disk.old) (counts D.Disk disk.new) result StoreFault.Stopped };
 

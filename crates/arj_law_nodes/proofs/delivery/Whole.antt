@@ -11,7 +11,7 @@ use Rattle.arj_law_parts.proofs.steps.{Spoken.event_writes, Whole.runs_whole, Wh
 use Rattle.arj_law_parts.specs.{moves.Keeps.Holds, steps.Writes.Owes, steps.Writes.Writes, steps.Writes.has_own}
 use Rattle.arj_law_runs.proofs.addresses.Runs.{event_within, first_within, kept, within_of}
 use Rattle.arj_law_runs.specs.addresses.Addresses.{AreAddressed}
-use Rattle.arj_model.specs.Start.{fresh}
+use Rattle.arj_start.specs.Start.{fresh}
 use Rattle.arj_promise.specs.{Runs.Run, Starts.fresh_is_formed}
 use Rattle.arj_world.proofs.Owns.{answers_without, runs_whole as turns_whole}
 use Rattle.arj_world.specs.Turns.{asked, with_arms}

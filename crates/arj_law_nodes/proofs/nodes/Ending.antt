@@ -25,7 +25,7 @@ use Rattle.arj_model.specs.Last.{changer_from, changers, entry_from, entry_paylo
 use Rattle.arj_model.specs.Last.{increasing, is_among}
 use Rattle.arj_model.specs.Last.{joins_by, joins_of, last_from, leaves_of, listed, listed_after, listed_from, object_line}
 use Rattle.arj_model.specs.Last.{same_list, serial_tops, servers_of_line, state_after, stores_of_line, uid_of_id, Inclusion}
-use Rattle.arj_model.specs.Start.{Marks, none_written}
+use Rattle.arj_start.specs.Start.{Marks, none_written}
 use Rattle.arj_promise.specs.{Excluded.DisksAreInTimeFrom, Runs.from_format}
 use Rattle.arj_model.specs.Nested.{IsFreedFor, commit_place, nested_less}
 use Rattle.arj_model.specs.Outcome.{has_cause_to_abort, is_behind_decision, is_said}

@@ -22,7 +22,7 @@ use Rattle.arj_law_runs.proofs.resting.GiveUps.{over_before}
 use Rattle.arj_loop.specs.{Input.Arrived, Input.script_of, Replayed.EndsSo, declared.ending.End.End, declared.machine.Machine.Ghosts}
 use Rattle.arj_loop.specs.Running.{MachineRuns, Stage, Why, events_run, last_body, last_lines}
 use Rattle.arj_nodes.specs.{AllNodes.world_after, AsMachine.all_nodes, declared.all_nodes.AllNodes.AllNodes}
-use Rattle.arj_model.specs.Start.{none_written}
+use Rattle.arj_start.specs.Start.{none_written}
 use Rattle.arj_promise.specs.{Promise.KeepsThePromise, Runs.from_format}
 use Rattle.arj_script.specs.declared.limits.TheConstants.{SCRIPT_LINES}
 use Rattle.arj_world.proofs.Stepping.{is_there}

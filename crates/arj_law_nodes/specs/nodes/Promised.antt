@@ -11,7 +11,7 @@ use Rattle.arj_promise.specs.Disks.{DisksAre}
 use Rattle.arj_journal.specs.declared.event.Event.{Event}
 use Rattle.arj_model.specs.Clean.{Clean}
 use Rattle.arj_model.specs.Last.{first_values}
-use Rattle.arj_model.specs.Start.{none_written}
+use Rattle.arj_start.specs.Start.{none_written}
 use Rattle.arj_nodes.specs.AllNodes.{Task}
 use Rattle.arj_promise.specs.Resting.{HoldAllStates}
 use Rattle.arj_protocol.specs.Words.{Line}

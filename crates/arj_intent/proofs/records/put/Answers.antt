@@ -21,6 +21,6 @@ pub returns-clause-form : goal.returns-clause-form
 returns-clause-form g c = (put_stays (g.D.Disk.file c.args.disk.now) (g.D.Disk.file c.put.new.disk) c.args.i.now.top c.as_slice.result.now
     (subst (IsIntentOf c.args.i.now.top) (sym c.as_slice.ensures) c.in_ok-bytes.ensures.form) c.put.ensures.files).form
 
-pub returns-clause-formed : goal.returns-clause-formed
-returns-clause-formed g c = (put_stays (g.D.Disk.file c.args.disk.now) (g.D.Disk.file c.put.new.disk) c.args.i.now.top c.as_slice.result.now
-    (subst (IsIntentOf c.args.i.now.top) (sym c.as_slice.ensures) c.in_ok-bytes.ensures.form) c.put.ensures.files).formed
+pub returns-clause-roles : goal.returns-clause-roles
+returns-clause-roles g c = (put_stays (g.D.Disk.file c.args.disk.now) (g.D.Disk.file c.put.new.disk) c.args.i.now.top c.as_slice.result.now
+    (subst (IsIntentOf c.args.i.now.top) (sym c.as_slice.ensures) c.in_ok-bytes.ensures.form) c.put.ensures.files).roles

@@ -16,5 +16,5 @@ returns-clause-stopped g c = λ _. cut_removed (g.D.Disk.file c.args.disk.now) (
 pub returns-clause-form : goal.returns-clause-form
 returns-clause-form g c = (removed_stays (g.D.Disk.file c.args.disk.now) (g.D.Disk.file c.remove.new.self) c.args.top c.remove.ensures.files).form
 
-pub returns-clause-formed : goal.returns-clause-formed
-returns-clause-formed g c = (removed_stays (g.D.Disk.file c.args.disk.now) (g.D.Disk.file c.remove.new.self) c.args.top c.remove.ensures.files).formed
+pub returns-clause-roles : goal.returns-clause-roles
+returns-clause-roles g c = (removed_stays (g.D.Disk.file c.args.disk.now) (g.D.Disk.file c.remove.new.self) c.args.top c.remove.ensures.files).roles

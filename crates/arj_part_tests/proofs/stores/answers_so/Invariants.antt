@@ -1,6 +1,6 @@
 use Rattle.std.proofs.Common.{◌≡◌}
 use Rattle.arj_disk.specs.Armed.{files_of, arms_of}
-use Rattle.arj_disk.specs.Formed.{FormedFor}
+use Rattle.arj_store.specs.Formed.{FormedFor}
 use Rattle.arj_disk.specs.declared.slot.Role.TheVariants.{Store}
 use Rattle.arj_store.specs.Kept.{role_kept, StoreKeeps}
 use Rattle.arj_part_tests.proofs.stores.answers_so.Given as goal

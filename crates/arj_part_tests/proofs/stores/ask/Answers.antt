@@ -4,7 +4,8 @@ use Rattle.std.specs.Prelude.{Contains}
 use Rattle.arj_base.specs.declared.state.ObjectState.{ObjectState}
 use Rattle.arj_disk.specs.declared.slot.Role.{Role}
 use Rattle.arj_disk.specs.FileMap.{FileMap}
-use Rattle.arj_disk.specs.Formed.{AtMost, IsKnown}
+use Rattle.arj_disk.specs.Formed.{AtMost}
+use Rattle.arj_store.specs.Formed.{IsKnown}
 use Rattle.arj_store.specs.Pair.{uid_of}
 use Rattle.arj_part_tests.proofs.stores.ask.Goals as goal
 

@@ -22,4 +22,4 @@ returns-clause-abort c = known_dropped
 
 pub returns-clause-few : goal.returns-clause-few
 returns-clause-few c p states us few known added ws distinct each =
-    c.among_so_many.ensures.these MOST_KNOWN us few ws distinct (λ u is. ⊎_elim (λ (h : IsKnown p u). known u h) (λ (h : Contains (map uid_of states) u). added u h) (each u is))
+    c.among_so_many.ensures MOST_KNOWN us few ws distinct (λ u is. ⊎_elim (λ (h : IsKnown p u). known u h) (λ (h : Contains (map uid_of states) u). added u h) (each u is))

@@ -1,5 +1,5 @@
 use Rattle.std.proofs.Common.{◌≡◌, take}
-use Rattle.arj_disk.specs.Says.{named_in}
+use Rattle.arj_store.specs.Says.{named_in}
 use Rattle.arj_store.proofs.packed.objects_in.Given as goal
 
 abbrev pub invariant-loop-i : goal.invariant-loop-i

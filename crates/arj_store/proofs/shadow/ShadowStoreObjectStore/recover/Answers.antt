@@ -1,6 +1,6 @@
 use Rattle.std.proofs.Common.{subst, sym}
 use Rattle.arj_disk.specs.Disk.{Lists}
-use Rattle.arj_disk.specs.Formed.{FormedFor}
+use Rattle.arj_store.specs.Formed.{FormedFor}
 use Rattle.arj_store.specs.OfFiles.{SamePair}
 use Rattle.arj_store.proofs.Ends.{same_files}
 use Rattle.arj_store.proofs.Finding.{lists_held}
