@@ -1,6 +1,7 @@
 // The whole of an input.
-ghost use Rattle.std.specs.Prelude.{◌≡◌, ◌<◌, IfOk, OnOk, OnErr, length};
+ghost use Rattle.std.specs.Prelude.{◌≡◌, ◌<◌, IfOk, IfSome, OnOk, OnErr, length};
 ghost use Rattle.arj_base.specs.Count.{Rose};
+ghost use Rattle.arj_view.specs.Input.{ReadsAll, ReadsPiece};
 
 use arj_io::{Failed, Source};
 use std::alloc::{AllocError, Global};
@@ -23,6 +24,7 @@ fn read_piece<S: Source>(
 ) -> Result<Option<usize>, Failed>
     requires { 0 < length room.old.items }
     ensures room { 0 < length room.new.items }
+    ensures read { IfOk result (λ read. IfSome read (ReadsPiece (S.left source.old) (S.left source.new) bytes.old.items bytes.new.items)) }
     ensures steady { OnOk result (S.faults source.new ≡ S.faults source.old) }
     ensures failed { OnErr result (Rose (S.faults source.old) (S.faults source.new)) }
 {
@@ -35,6 +37,8 @@ fn read_piece<S: Source>(
 
 /// Reads a source to its end. None where memory is wanting.
 pub fn read_whole<S: Source>(alloc: Global, source: &mut S) -> Result<Option<Vec<u8>>, Failed>
+    ensures read { IfOk result (λ read. IfSome read (λ bytes. ReadsAll (S.left source.old) bytes.items (S.left source.new))) }
+    ensures steady { OnOk result (S.faults source.new ≡ S.faults source.old) }
     ensures failed { OnErr result (Rose (S.faults source.old) (S.faults source.new)) }
 {
     let Ok(mut room) = room_of(alloc) else {
@@ -48,5 +52,6 @@ pub fn read_whole<S: Source>(alloc: Global, source: &mut S) -> Result<Option<Vec
             Some(_) => {}
         }
     }
-    Ok(Some(bytes))
+    // More pieces than memory has bytes.
+    Ok(None)
 }

@@ -109,7 +109,7 @@ impl Page {
         }
     }
 
-    // Writes a byte so that it has no meaning in HTML.
+    // Writes a byte so that it has no meaning in HTML. A line feed stays.
     fn escaped_byte(&mut self, byte: u8)
         ensures appends { Appends self.old (escaped_byte byte) self.new }
         ensures stays { Stays self.old.bytes self.new.bytes }
@@ -119,11 +119,13 @@ impl Page {
             b'<' => self.put(b"&lt;"),
             b'>' => self.put(b"&gt;"),
             b'"' => self.put(b"&quot;"),
+            b'\'' => self.put(b"&#39;"),
+            b'\n' => self.put(b"\n"),
             _ => self.plain_byte(byte),
         }
     }
 
-    /// Writes bytes so that none has a meaning in HTML.
+    /// Writes bytes so that none has a meaning in HTML. Line feeds stay.
     #[tactic(auto, using(std::proofs::lemmas::List::append_assoc))]
     pub fn escaped(&mut self, bytes: &[u8])
         ensures appends { Appends self.old (escaped bytes.now) self.new }

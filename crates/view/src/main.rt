@@ -13,7 +13,7 @@ use std::process::ExitCode;
 use std::{env, io};
 
 // What is said where the words are none that it knows.
-const USAGE: &str = "usage: view text | view ascii
+const USAGE: &str = "usage: view text | view ascii | view html
   (cat SCRIPT; echo journal; arjuna replay < SCRIPT) | view text   shows each line of a script with what it led to
 Read on in docs/START.md.";
 
