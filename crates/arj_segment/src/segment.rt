@@ -33,8 +33,7 @@ impl ObjectStore for SegmentStore {
     ghost use Rattle.arj_segment.specs.Steps.{HasAtMost};
     ghost use Rattle.arj_segment.specs.declared.limits.TheConstants.{MOST_SEGMENTS};
     ghost use Rattle.arj_store.specs.Pair.{Moves, MovesSome, SamePair};
-    ghost use Rattle.arj_store.specs.declared.limits.TheConstants.{MOST_ROOM};
-    ghost use Rattle.std.specs.Prelude.{refl, ◌+◌, ◌≤◌};
+    ghost use Rattle.std.specs.Prelude.{refl};
     ghost use Rattle.arj_segment.specs.Stays.{files_stay, files_sound};
 
     ghost own_role = { role_kept };
@@ -44,8 +43,6 @@ impl ObjectStore for SegmentStore {
     ghost formed = { IsFormed };
 
     ghost keeps = { StoreKeeps };
-
-    ghost room = { λ _ _. MOST_ROOM };
 
     ghost finding = { found_kept };
 
@@ -131,7 +128,6 @@ impl ObjectStore for SegmentStore {
         ensures keeps { OnOk result (StoreKeeps self.new (D.file disk.new)) }
         ensures role { role_kept self.new ≡ role_kept self.old }
         ensures found { found_kept self.new ≡ found_kept self.old }
-        ensures room { MOST_ROOM ≤ MOST_ROOM + 2 }
         ensures formed { IsFormed (D.file disk.new) (role_kept self.old) }
         ensures others { OnlyOfRole (role_kept self.old) (D.file disk.old) (D.file disk.new) }
         ensures counts { CountsCall (counts D.Disk disk.old) (counts D.Disk disk.new) result StoreFault.Stopped }
@@ -177,6 +173,4 @@ impl ObjectStore for SegmentStore {
     ghost blank = { files_blank };
 
     ghost sound = { files_sound };
-
-    ghost room_of_role = { λ _ _ _ _. refl };
 }

@@ -7,7 +7,6 @@
 
 mod answer;
 mod laws;
-mod limits;
 mod memory;
 mod moves;
 mod packed;
@@ -19,7 +18,6 @@ mod table;
 
 pub use answer::{Found, Pends, Prep, Read, StoreFault};
 pub use laws::{calls_are_effects, known_objects, lists_are_determined};
-pub use limits::MOST_ROOM;
 pub use packed::state_in;
 pub use prepare::{objects_of_states, refused_by};
 pub use shadow::ShadowStore;

@@ -29,7 +29,6 @@ impl ObjectStore for ShadowStore {
     ghost use Rattle.arj_store.specs.Stays.{files_stay, files_sound};
     ghost use Rattle.arj_store.specs.Formed.{FormedFor};
     ghost use Rattle.std.specs.Prelude.{refl};
-    ghost use Rattle.arj_store.specs.declared.limits.TheConstants.{MOST_ROOM};
 
     ghost own_role = { role_kept };
 
@@ -38,8 +37,6 @@ impl ObjectStore for ShadowStore {
     ghost formed = { FormedFor };
 
     ghost keeps = { StoreKeeps };
-
-    ghost room = { λ _ _. MOST_ROOM };
 
     ghost finding = { found_kept };
 
@@ -175,6 +172,4 @@ impl ObjectStore for ShadowStore {
     ghost blank = { files_blank };
 
     ghost sound = { files_sound };
-
-    ghost room_of_role = { λ _ _ _ _. refl };
 }

@@ -1,5 +1,5 @@
 // The store as the layers above see it.
-ghost use Rattle.std.specs.Prelude.{◌≡◌, ◌-◌, ◌⊎◌, ◌+◌, ◌≤◌, ◌↔◌, ℕ, List, [], Option, None, Some, true, map, Contains, length, IsSome, MatchOption, IfOk, OnOk, OnErr, IsErrOf};
+ghost use Rattle.std.specs.Prelude.{◌≡◌, ◌⊎◌, ◌≤◌, ◌↔◌, ℕ, List, [], Option, None, Some, true, map, Contains, length, IsSome, MatchOption, IfOk, OnOk, OnErr, IsErrOf};
 ghost use Rattle.std.specs.List.{AllByRecursion};
 ghost use Rattle.arj_base.specs.State.{state_bytes};
 ghost use Rattle.arj_disk.specs.Counted.{counts};
@@ -12,7 +12,6 @@ ghost use Rattle.arj_store.specs.Pair.{Pair, IsKnown, InDoubt, AreClear, IsSound
 ghost use Rattle.arj_store.specs.declared.answer.Found.{Found};
 ghost use Rattle.arj_base.specs.declared.limits.TheConstants.{MOST_BYTES};
 ghost use Rattle.arj_disk.specs.declared.limits.TheConstants.{MOST_KNOWN, MOST_PREPARED};
-ghost use Rattle.arj_store.specs.declared.limits.TheConstants.{MOST_ROOM};
 
 use crate::{Found, Prep, Read, StoreFault};
 use arj_base::{ObjectState, States, Uid, Uids};
@@ -35,9 +34,6 @@ pub trait ObjectStore: Sized {
     /// The store answers by these files.
     ghost keeps: { Self → (Slot → Option (List ℕ)) → Type 0 };
 
-    /// How many more numbers the files of a role leave for commits, of which each takes two at most.
-    ghost room: { (Slot → Option (List ℕ)) → Role → ℕ };
-
     /// What the store's recovery found.
     ghost finding: { Self → Found };
 
@@ -58,7 +54,6 @@ pub trait ObjectStore: Sized {
         ensures pair { OnOk result (HasOnly (pair (D.file disk.new) role) states.now) }
         ensures fault { OnErr result (HasFirst (pair (D.file disk.new) role) states.now) }
         ensures found { IfOk result (λ store. FindsNothing (finding store)) }
-        ensures room { OnOk result (MOST_ROOM - 1 ≤ room (D.file disk.new) role) }
         ensures formed { formed (D.file disk.new) role }
         ensures others { OnlyOfRole role (D.file disk.old) (D.file disk.new) }
         ensures counts { CountsCall (counts D.Disk disk.old) (counts D.Disk disk.new) result StoreFault.Stopped };
@@ -70,7 +65,6 @@ pub trait ObjectStore: Sized {
         ensures keeps { IfOk result (λ store. keeps store (D.file disk.new)) }
         ensures pair { SamePair (pair (D.file disk.old) role) (pair (D.file disk.new) role) }
         ensures found { IfOk result (λ store. Finds role (pair (D.file disk.new) role) (finding store)) }
-        ensures room { room (D.file disk.old) role ≤ room (D.file disk.new) role }
         ensures formed { formed (D.file disk.new) role }
         ensures others { OnlyOfRole role (D.file disk.old) (D.file disk.new) }
         ensures counts { CountsCall (counts D.Disk disk.old) (counts D.Disk disk.new) result StoreFault.Stopped };
@@ -121,7 +115,6 @@ pub trait ObjectStore: Sized {
         ensures keeps { OnOk result (keeps self.new (D.file disk.new)) }
         ensures role { own_role self.new ≡ own_role self.old }
         ensures found { finding self.new ≡ finding self.old }
-        ensures room { room (D.file disk.old) (own_role self.old) ≤ room (D.file disk.new) (own_role self.old) }
         ensures formed { formed (D.file disk.new) (own_role self.old) }
         ensures others { OnlyOfRole (own_role self.old) (D.file disk.old) (D.file disk.new) }
         ensures counts { CountsCall (counts D.Disk disk.old) (counts D.Disk disk.new) result StoreFault.Stopped };
@@ -131,7 +124,6 @@ pub trait ObjectStore: Sized {
     fn commit<D: Disk>(&mut self, disk: &mut D, act: Uid) -> Result<bool, StoreFault>
         requires keeps { keeps self.old (D.file disk.old) }
         requires formed { formed (D.file disk.old) (own_role self.old) }
-        requires room { 2 ≤ room (D.file disk.old) (own_role self.old) }
         ensures answer { IfOk result (λ was. (was ≡ true) ↔ IsSome ((pair (D.file disk.old) (own_role self.old)).pend act)) }
         ensures moved { OnOk result (Moves (pair (D.file disk.old) (own_role self.old)) (pair (D.file disk.new) (own_role self.old)) act) }
         ensures fault { OnErr result (MovesSome (pair (D.file disk.old) (own_role self.old)) (pair (D.file disk.new) (own_role self.old)) act
@@ -139,7 +131,6 @@ pub trait ObjectStore: Sized {
         ensures keeps { OnOk result (keeps self.new (D.file disk.new)) }
         ensures role { own_role self.new ≡ own_role self.old }
         ensures found { finding self.new ≡ finding self.old }
-        ensures room { room (D.file disk.old) (own_role self.old) ≤ room (D.file disk.new) (own_role self.old) + 2 }
         ensures formed { formed (D.file disk.new) (own_role self.old) }
         ensures others { OnlyOfRole (own_role self.old) (D.file disk.old) (D.file disk.new) }
         ensures counts { CountsCall (counts D.Disk disk.old) (counts D.Disk disk.new) result StoreFault.Stopped };
@@ -157,7 +148,6 @@ pub trait ObjectStore: Sized {
         ensures keeps { OnOk result (keeps self.new (D.file disk.new)) }
         ensures role { own_role self.new ≡ own_role self.old }
         ensures found { finding self.new ≡ finding self.old }
-        ensures room { room (D.file disk.old) (own_role self.old) ≤ room (D.file disk.new) (own_role self.old) }
         ensures formed { formed (D.file disk.new) (own_role self.old) }
         ensures others { OnlyOfRole (own_role self.old) (D.file disk.old) (D.file disk.new) }
         ensures counts { CountsCall (counts D.Disk disk.old) (counts D.Disk disk.new) result StoreFault.Stopped };
@@ -194,7 +184,4 @@ pub trait ObjectStore: Sized {
 
     /// Where the files are formed, the pair is sound.
     ghost sound: { (r : Role) (file : Slot → Option (List ℕ)) → formed file r → IsSound r (pair file r) };
-
-    /// Room is told from the files of the role.
-    ghost room_of_role: { (r : Role) (old new : Slot → Option (List ℕ)) → SameOfRole r old new → room new r ≡ room old r };
 }
