@@ -38,7 +38,6 @@ impl<O: ObjectStore> Naming<O> {
         ensures stands { OnOk result (StandsOn O.ObjectStore self.new (D.file disk.new)) }
         ensures stopped { IsErrOf result StoreFault.Stopped → IsCut (confirm_by m.now self.old.pair self.old.part).outs self.old.pair (O.pair (D.file disk.new) Role.Names) out.old out.new }
         ensures fault { OnErr result (IsDoneInPart (confirm_by m.now self.old.pair self.old.part).outs self.old.pair (O.pair (D.file disk.new) Role.Names)) }
-        ensures room { O.room (D.file disk.old) Role.Names ≤ O.room (D.file disk.new) Role.Names }
         ensures entries { GivesEntries (O.pair (D.file disk.new) Role.Names) }
         ensures formed { O.formed (D.file disk.new) Role.Names }
         ensures others { OnlyOfRole Role.Names (D.file disk.old) (D.file disk.new) }
@@ -72,7 +71,6 @@ impl<O: ObjectStore> Naming<O> {
         ensures stands { OnOk result (StandsOn O.ObjectStore self.new (D.file disk.new)) }
         ensures stopped { IsErrOf result StoreFault.Stopped → IsCut (prepare_by top states self.old.pair self.old.part).outs self.old.pair (O.pair (D.file disk.new) Role.Names) out.old out.new }
         ensures fault { OnErr result (IsDoneInPart (prepare_by top states self.old.pair self.old.part).outs self.old.pair (O.pair (D.file disk.new) Role.Names)) }
-        ensures room { O.room (D.file disk.old) Role.Names ≤ O.room (D.file disk.new) Role.Names }
         ensures entries { GivesEntries (O.pair (D.file disk.new) Role.Names) }
         ensures formed { O.formed (D.file disk.new) Role.Names }
         ensures others { OnlyOfRole Role.Names (D.file disk.old) (D.file disk.new) }

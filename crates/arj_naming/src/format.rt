@@ -1,5 +1,5 @@
 // Naming on a new disk.
-ghost use Rattle.std.specs.Prelude.{◌≡◌, ◌≤◌, ◌-◌, Some, None, map, IfOk, OnOk, OnErr};
+ghost use Rattle.std.specs.Prelude.{◌≡◌, Some, None, map, IfOk, OnOk, OnErr};
 ghost use Rattle.std.specs.List.{AllByRecursion};
 ghost use Rattle.arj_disk.specs.Counted.{counts};
 ghost use Rattle.arj_disk.specs.Disk.{CountsCall};
@@ -14,7 +14,6 @@ ghost use Rattle.arj_naming.specs.Kept.{StandsOn};
 ghost use Rattle.arj_protocol.specs.Step.{first_disk, first_entry as first_entry_of, parts_in};
 ghost use Rattle.arj_store.specs.Pair.{HasFirst};
 ghost use Rattle.arj_store.specs.declared.answer.StoreFault.{StoreFault};
-ghost use Rattle.arj_store.specs.declared.limits.TheConstants.{MOST_ROOM};
 
 use crate::Naming;
 use crate::nobody::NOBODY;
@@ -72,7 +71,6 @@ impl<O: ObjectStore + Drop> Naming<O> {
         ensures pair { IfOk result (λ n. n.pair ≡ (first_disk header.now 1).names) }
         ensures part { IfOk result (λ n. Some n.part ≡ (parts_in 1 1 (first_disk header.now 1)).naming) }
         ensures entries { OnOk result (GivesEntries (O.pair (D.file disk.new) Role.Names)) }
-        ensures room { OnOk result (MOST_ROOM - 1 ≤ O.room (D.file disk.new) Role.Names) }
         ensures fault { OnErr result (HasFirst (O.pair (D.file disk.new) Role.Names) (map first_entry_of header.now.objects)) }
         ensures formed { O.formed (D.file disk.new) Role.Names }
         ensures others { OnlyOfRole Role.Names (D.file disk.old) (D.file disk.new) }

@@ -1,5 +1,5 @@
 // A restart.
-ghost use Rattle.std.specs.Prelude.{◌≡◌, ◌++◌, ◌≤◌, IfOk, OnOk, IsErrOf};
+ghost use Rattle.std.specs.Prelude.{◌≡◌, ◌++◌, IfOk, OnOk, IsErrOf};
 ghost use Rattle.arj_disk.specs.Counted.{counts};
 ghost use Rattle.arj_disk.specs.Disk.{CountsCall};
 ghost use Rattle.arj_disk.specs.Says.{OnlyOfRole};
@@ -55,7 +55,6 @@ impl<O: ObjectStore + Drop> Naming<O> {
         ensures lines { IfOk result (λ n. out.new ≡ out.old ++ said (recovered_lines n.part)) }
         ensures stopped { IsErrOf result StoreFault.Stopped → out.new ≡ out.old }
         ensures pair { SamePair (O.pair (D.file disk.old) Role.Names) (O.pair (D.file disk.new) Role.Names) }
-        ensures room { O.room (D.file disk.old) Role.Names ≤ O.room (D.file disk.new) Role.Names }
         ensures entries { GivesEntries (O.pair (D.file disk.new) Role.Names) }
         ensures formed { O.formed (D.file disk.new) Role.Names }
         ensures others { OnlyOfRole Role.Names (D.file disk.old) (D.file disk.new) }

@@ -1,5 +1,5 @@
 // The end of an action, with its entries on the disk.
-ghost use Rattle.std.specs.Prelude.{◌≡◌, ◌≤◌, ◌+◌, ◌++◌, ◌∷◌, [], OnOk, OnErr, IsErrOf};
+ghost use Rattle.std.specs.Prelude.{◌≡◌, ◌++◌, ◌∷◌, [], OnOk, OnErr, IsErrOf};
 ghost use Rattle.arj_base.specs.declared.mode.End.TheVariants as ending;
 ghost use Rattle.arj_disk.specs.Counted.{counts};
 ghost use Rattle.arj_disk.specs.Disk.{CountsCall};
@@ -55,12 +55,10 @@ impl<O: ObjectStore> Naming<O> {
         out: &mut Lines,
     ) -> Result<(), StoreFault>
         requires stands { StandsOn O.ObjectStore self.old (D.file disk.old) }
-        requires room { 2 ≤ O.room (D.file disk.old) Role.Names }
         ensures done { OnOk result (HasDone (record { part = self.old.part; outs = end_entries action ending.Commit }) self.old self.new out.old out.new) }
         ensures stands { OnOk result (StandsOn O.ObjectStore self.new (D.file disk.new)) }
         ensures stopped { IsErrOf result StoreFault.Stopped → IsCut (end_entries action ending.Commit) self.old.pair (O.pair (D.file disk.new) Role.Names) out.old out.new }
         ensures fault { OnErr result (IsDoneInPart (end_entries action ending.Commit) self.old.pair (O.pair (D.file disk.new) Role.Names)) }
-        ensures room { O.room (D.file disk.old) Role.Names ≤ O.room (D.file disk.new) Role.Names + 2 }
         ensures entries { GivesEntries (O.pair (D.file disk.new) Role.Names) }
         ensures formed { O.formed (D.file disk.new) Role.Names }
         ensures others { OnlyOfRole Role.Names (D.file disk.old) (D.file disk.new) }
@@ -85,7 +83,6 @@ impl<O: ObjectStore> Naming<O> {
         ensures stands { OnOk result (StandsOn O.ObjectStore self.new (D.file disk.new)) }
         ensures stopped { IsErrOf result StoreFault.Stopped → IsCut (end_entries action ending.Abort) self.old.pair (O.pair (D.file disk.new) Role.Names) out.old out.new }
         ensures fault { OnErr result (IsDoneInPart (end_entries action ending.Abort) self.old.pair (O.pair (D.file disk.new) Role.Names)) }
-        ensures room { O.room (D.file disk.old) Role.Names ≤ O.room (D.file disk.new) Role.Names }
         ensures entries { GivesEntries (O.pair (D.file disk.new) Role.Names) }
         ensures formed { O.formed (D.file disk.new) Role.Names }
         ensures others { OnlyOfRole Role.Names (D.file disk.old) (D.file disk.new) }
@@ -107,12 +104,10 @@ impl<O: ObjectStore> Naming<O> {
         out: &mut Lines,
     ) -> Result<(), StoreFault>
         requires stands { StandsOn O.ObjectStore self.old (D.file disk.old) }
-        requires room { 2 ≤ O.room (D.file disk.old) Role.Names }
         ensures done { OnOk result (HasDone (record { part = self.old.part; outs = own_entries action end self.old.pair }) self.old self.new out.old out.new) }
         ensures stands { OnOk result (StandsOn O.ObjectStore self.new (D.file disk.new)) }
         ensures stopped { IsErrOf result StoreFault.Stopped → IsCut (own_entries action end self.old.pair) self.old.pair (O.pair (D.file disk.new) Role.Names) out.old out.new }
         ensures fault { OnErr result (IsDoneInPart (own_entries action end self.old.pair) self.old.pair (O.pair (D.file disk.new) Role.Names)) }
-        ensures room { O.room (D.file disk.old) Role.Names ≤ O.room (D.file disk.new) Role.Names + 2 }
         ensures entries { GivesEntries (O.pair (D.file disk.new) Role.Names) }
         ensures formed { O.formed (D.file disk.new) Role.Names }
         ensures others { OnlyOfRole Role.Names (D.file disk.old) (D.file disk.new) }
@@ -140,7 +135,6 @@ impl<O: ObjectStore> Naming<O> {
         ensures stands { OnOk result (StandsOn O.ObjectStore self.new (D.file disk.new)) }
         ensures stopped { IsErrOf result StoreFault.Stopped → IsCut (abort_all actions.now) self.old.pair (O.pair (D.file disk.new) Role.Names) out.old out.new }
         ensures fault { OnErr result (IsDoneInPart (abort_all actions.now) self.old.pair (O.pair (D.file disk.new) Role.Names)) }
-        ensures room { O.room (D.file disk.old) Role.Names ≤ O.room (D.file disk.new) Role.Names }
         ensures entries { GivesEntries (O.pair (D.file disk.new) Role.Names) }
         ensures formed { O.formed (D.file disk.new) Role.Names }
         ensures others { OnlyOfRole Role.Names (D.file disk.old) (D.file disk.new) }
@@ -165,12 +159,10 @@ impl<O: ObjectStore> Naming<O> {
         out: &mut Lines,
     ) -> Result<(), StoreFault>
         requires stands { StandsOn O.ObjectStore self.old (D.file disk.old) }
-        requires room { 2 ≤ O.room (D.file disk.old) Role.Names }
         ensures done { OnOk result (HasDone (told action end self.old.pair self.old.part) self.old self.new out.old out.new) }
         ensures stands { OnOk result (StandsOn O.ObjectStore self.new (D.file disk.new)) }
         ensures stopped { IsErrOf result StoreFault.Stopped → IsCut (told action end self.old.pair self.old.part).outs self.old.pair (O.pair (D.file disk.new) Role.Names) out.old out.new }
         ensures fault { OnErr result (IsDoneInPart (told action end self.old.pair self.old.part).outs self.old.pair (O.pair (D.file disk.new) Role.Names)) }
-        ensures room { O.room (D.file disk.old) Role.Names ≤ O.room (D.file disk.new) Role.Names + 2 }
         ensures entries { GivesEntries (O.pair (D.file disk.new) Role.Names) }
         ensures formed { O.formed (D.file disk.new) Role.Names }
         ensures others { OnlyOfRole Role.Names (D.file disk.old) (D.file disk.new) }
@@ -196,12 +188,10 @@ impl<O: ObjectStore> Naming<O> {
         out: &mut Lines,
     ) -> Result<(), StoreFault>
         requires stands { StandsOn O.ObjectStore self.old (D.file disk.old) }
-        requires room { 2 ≤ O.room (D.file disk.old) Role.Names }
         ensures done { OnOk result (HasDone (told_by m.now self.old.pair self.old.part) self.old self.new out.old out.new) }
         ensures stands { OnOk result (StandsOn O.ObjectStore self.new (D.file disk.new)) }
         ensures stopped { IsErrOf result StoreFault.Stopped → IsCut (told_by m.now self.old.pair self.old.part).outs self.old.pair (O.pair (D.file disk.new) Role.Names) out.old out.new }
         ensures fault { OnErr result (IsDoneInPart (told_by m.now self.old.pair self.old.part).outs self.old.pair (O.pair (D.file disk.new) Role.Names)) }
-        ensures room { O.room (D.file disk.old) Role.Names ≤ O.room (D.file disk.new) Role.Names + 2 }
         ensures entries { GivesEntries (O.pair (D.file disk.new) Role.Names) }
         ensures formed { O.formed (D.file disk.new) Role.Names }
         ensures others { OnlyOfRole Role.Names (D.file disk.old) (D.file disk.new) }

@@ -1,4 +1,4 @@
-use Rattle.std.proofs.Common.{◌∙◌, arith}
+use Rattle.std.proofs.Common.{◌∙◌}
 use Rattle.arj_disk.specs.declared.slot.Role.TheVariants.{Names}
 use Rattle.arj_naming.proofs.Orphans.{one_cut, one_part, one_pair, one_said}
 use Rattle.arj_naming.proofs.naming.Naming.abort_all.Goals as goal
@@ -24,7 +24,6 @@ loop-action-preserved g c = record {
         c.loop-action.invariant.done.lines c.abort_entries.new.self.pair c.in-Ok.ensures.done.pair;
   };
   entries = c.in-Ok.ensures.entries;
-  room = omega (arith, c.loop-action.invariant.room, c.in-Ok.ensures.room);
   others = λ q other apart. c.in-Ok.ensures.others q other apart ∙ c.loop-action.invariant.others q other apart;
   stops = c.in-Ok.ensures.counts.stops.ok ∙ c.loop-action.invariant.stops;
   arms = c.in-Ok.ensures.counts.arms ∙ c.loop-action.invariant.arms;

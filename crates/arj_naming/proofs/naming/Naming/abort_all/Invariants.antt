@@ -1,4 +1,4 @@
-use Rattle.std.proofs.Common.{◌≡◌, ◌≤◌, take}
+use Rattle.std.proofs.Common.{◌≡◌, take}
 use Rattle.arj_disk.specs.Says.{OnlyOfRole}
 use Rattle.arj_disk.specs.declared.slot.Role.TheVariants.{Names}
 use Rattle.arj_naming.specs.Ends.{abort_all}
@@ -12,7 +12,6 @@ invariant-loop-action g l = record {
   stands : StandsOn g.O.ObjectStore l.self (g.D.Disk.file l.disk);
   done : HasDone (record { part = l.fn.self.part; outs = abort_all (take l.action-index l.actions) }) l.fn.self l.self l.fn.out l.out;
   entries : GivesEntries (g.O.ObjectStore.pair (g.D.Disk.file l.disk) Names);
-  room : g.O.ObjectStore.room (g.D.Disk.file l.fn.disk) Names ≤ g.O.ObjectStore.room (g.D.Disk.file l.disk) Names;
   others : OnlyOfRole Names (g.D.Disk.file l.fn.disk) (g.D.Disk.file l.disk);
   stops : g.D.Disk.stops l.disk ≡ g.D.Disk.stops l.fn.disk;
   arms : g.D.Disk.arms l.disk ≡ g.D.Disk.arms l.fn.disk;
