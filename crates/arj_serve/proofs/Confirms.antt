@@ -1,6 +1,6 @@
 -- What naming does with its entries on the disk, at a Confirm and at the end of an action, is done or cut as the protocol's
 -- node does it.
-use Rattle.std.proofs.Common.{◌≡◌, ◌∙◌, ◌≤◌, ◌+◌, true, ℕ, List, [], ◌∷◌, refl, sym, ap, subst, Option, Some, None}
+use Rattle.std.proofs.Common.{◌≡◌, ◌∙◌, true, ℕ, List, [], ◌∷◌, refl, sym, ap, subst, Option, Some, None}
 use Rattle.std.specs.Prelude.{is_some, option_map}
 use Rattle.arj_disk.specs.FileMap.{FileMap}
 use Rattle.arj_disk.specs.Says.{OnlyOfRole, SameOfRole}
@@ -27,7 +27,7 @@ use Rattle.arj_serve.specs.Ended.{EndsNames, EndsNamesInPart, IsDone, NamesEnd, 
 use Rattle.arj_serve.specs.Kept.{Kept, Leaves, LeavesNames, NamingStands, Stands, StandsOn, part_of, parts_with}
 use Rattle.arj_serve.proofs.Cuts.{cut_front, names_after, names_cut, names_local}
 use Rattle.arj_serve.proofs.Notes.{confirm_nothing}
-use Rattle.arj_serve.proofs.Roles.{KeepsOn, RoomOfRole, Stays, only_names, room_of_names, store_stays}
+use Rattle.arj_serve.proofs.Roles.{KeepsOn, Stays, only_names, store_stays}
 use Rattle.arj_serve.proofs.Served.{VoidIsNothing, confirm_served, no_entries}
 use Rattle.arj_store.specs.declared.store.ObjectStore.{Ghosts}
 use Rattle.arj_law_store.specs.store.Files.{IsPairOf}
@@ -77,15 +77,14 @@ module _ {O : Type 0} (o : Ghosts O) (keeps_on : KeepsOn o) (stays : Stays o) (o
     is_named = ap is_some was
 
   -- what the call leaves of the files
-  pub names_leaves : (now : Kept O) → old ≡ now → Stands o now file → (by : ℕ) → RoomOfRole o → o.formed left Names → o.room file Names ≤ o.room left Names + by → Leaves o (is_some now.naming) by file left
-  names_leaves now view stands by of formed room = subst (λ b. Leaves o b by file left) (sym (sym (ap (λ (k : Kept O). is_some k.naming) view) ∙ ap is_some was)) (record {
+  pub names_leaves : (now : Kept O) → old ≡ now → Stands o now file → o.formed left Names → Leaves o (is_some now.naming) file left
+  names_leaves now view stands formed = subst (λ b. Leaves o b file left) (sym (sym (ap (λ (k : Kept O). is_some k.naming) view) ∙ ap is_some was)) (record {
     formed = ((stays Store file left same_store stands.1.formed).0, formed);
     others = only_names file left only;
-    room = room_of_names o keeps_on stays file left by of same_store room;
   })
 
-  pub names_left : (now : Kept O) → old ≡ now → o.formed left Names → o.room file Names ≤ o.room left Names + 2 → LeavesNames o (is_some now.naming) file left
-  names_left now view formed room = subst (λ b. LeavesNames o b file left) (sym (sym (ap (λ (k : Kept O). is_some k.naming) view) ∙ ap is_some was)) (record { only = only; formed = formed; room = room })
+  pub names_left : (now : Kept O) → old ≡ now → o.formed left Names → LeavesNames o (is_some now.naming) file left
+  names_left now view formed = subst (λ b. LeavesNames o b file left) (sym (sym (ap (λ (k : Kept O). is_some k.naming) view) ∙ ap is_some was)) (record { only = only; formed = formed })
 
   -- ---- a Confirm
 

@@ -1,5 +1,5 @@
 -- What changes files of one role alone leaves those of the other, and naming or the store with them.
-use Rattle.std.proofs.Common.{◌≡◌, ◌≢◌, ◌∙◌, Bool, true, false, refl, sym, ap, subst, Option, Some, None, ℕ, ◌≤◌, ◌+◌, arith}
+use Rattle.std.proofs.Common.{◌≡◌, ◌≢◌, ◌∙◌, Bool, true, false, refl, sym, ap, subst, Option, Some, None}
 use Rattle.std.specs.Prelude.{is_some}
 use Rattle.arj_disk.specs.FileMap.{FileMap}
 use Rattle.arj_disk.specs.Says.{OnlyOfRole, SameOfRole, slot_role}
@@ -11,7 +11,7 @@ use Rattle.arj_naming.specs.Kept as naming
 use Rattle.arj_law_store.specs.store.Files.{IsPairOf}
 use Rattle.arj_law_store.proofs.store.Pairs.{pair_same}
 use Rattle.arj_protocol.specs.Effect.{Disk, Pair}
-use Rattle.arj_serve.specs.Kept.{Kept, NamesOn, IsDiskOf, IsFormed, Leaves, NamingStands, OnlyStates, RoomFalls, Stands, StandsOn}
+use Rattle.arj_serve.specs.Kept.{Kept, NamesOn, IsDiskOf, IsFormed, Leaves, NamingStands, OnlyStates, Stands, StandsOn}
 use Rattle.arj_store.specs.Pair as files
 use Rattle.arj_store.specs.declared.store.ObjectStore.{Ghosts}
 
@@ -56,9 +56,6 @@ KeepsOn {O} o = (store : O) (old new : FileMap) → SameOfRole (o.own_role store
 abbrev pub Stays : {O : Type 0} → Ghosts O → Type 0
 Stays o = (r : Role) (old new : FileMap) → SameOfRole r old new → o.formed old r → o.formed new r × files.SamePair (o.pair old r) (o.pair new r)
 
-abbrev pub RoomOfRole : {O : Type 0} → Ghosts O → Type 0
-RoomOfRole o = (r : Role) (old new : FileMap) → SameOfRole r old new → o.room new r ≡ o.room old r
-
 module _ {O : Type 0} (o : Ghosts O) (keeps_on : KeepsOn o) (stays : Stays o) (old new : FileMap) where
   pub naming_goes_on : (n : Option (naming.Kept O)) (p : Pair) → SameOfRole Names old new → NamingStands o n old p → NamingStands o n new p
   naming_goes_on None p same stands = stands
@@ -85,14 +82,6 @@ module _ {O : Type 0} (o : Ghosts O) (keeps_on : KeepsOn o) (stays : Stays o) (o
   formed_with None p same stands formed = formed
   formed_with (Some n) p same (stands, is, gives) formed = (formed, (stays Names old new same stands.formed).0)
 
-  pub room_with : (by : ℕ) → RoomOfRole o → SameOfRole Names old new → o.room old Store ≤ o.room new Store + by → RoomFalls o by old new
-  room_with by of same room Store = room
-  room_with by of same room Names = let is = of Names old new same in omega (arith, is)
-
-  pub room_of_names : (by : ℕ) → RoomOfRole o → SameOfRole Store old new → o.room old Names ≤ o.room new Names + by → RoomFalls o by old new
-  room_of_names by of same room Names = room
-  room_of_names by of same room Store = let is = of Store old new same in omega (arith, is)
-
 module _ {O : Type 0} (o : Ghosts O) (s : Kept O) (file : FileMap) (d : Disk) (stands : StandsOn o s file d) where
   names_of : (n : Option (naming.Kept O)) (p : Pair) → NamingStands o n file p → NamesOn (is_some n) o file p
   names_of None p named = named
@@ -107,15 +96,15 @@ module _ {O : Type 0} (o : Ghosts O) (s : Kept O) (file : FileMap) (d : Disk) (s
   formed_by (Some n) p (named, is, gives) = (stands.formed, named.formed)
 
   -- nothing was done on the disk
-  pub nothing_left : Leaves o (is_some s.naming) 0 file file
-  nothing_left = record { formed = formed_by s.naming d.names stands.naming; others = nothing_else (is_some s.naming); room = λ r. omega arith }
+  pub nothing_left : Leaves o (is_some s.naming) file file
+  nothing_left = record { formed = formed_by s.naming d.names stands.naming; others = nothing_else (is_some s.naming) }
     where
       nothing_else : (named : Bool) → OnlyStates named file file
       nothing_else true = λ q none tmp. refl
       nothing_else false = λ q other tmp. refl
 
 -- nothing was done on the disk of standing services
-pub left_as_was : {O : Type 0} (o : Ghosts O) (s : Kept O) (file : FileMap) → Stands o s file → Leaves o (is_some s.naming) 0 file file
+pub left_as_was : {O : Type 0} (o : Ghosts O) (s : Kept O) (file : FileMap) → Stands o s file → Leaves o (is_some s.naming) file file
 left_as_was o s file stands = nothing_left o s file stands.0 stands.1
 
 -- where the services stand, their naming does

@@ -1,5 +1,5 @@
 -- What the store of objects did is what the protocol's node does at a Load, a Prepare, and the end of an action.
-use Rattle.std.proofs.Common.{◌≡◌, ◌⊎◌, ◌∙◌, ◌≤◌, ◌+◌, ◌++◌, true, false, List, [], ◌∷◌, ℕ, refl, sym, subst, inr, ⊎_elim, Option, Some, None}
+use Rattle.std.proofs.Common.{◌≡◌, ◌⊎◌, ◌∙◌, ◌++◌, true, false, List, [], ◌∷◌, ℕ, refl, sym, subst, inr, ⊎_elim, Option, Some, None}
 use Rattle.std.specs.Prelude.{IfSome, IsSome, is_some, option_map, if◌then◌else◌}
 use Rattle.std.specs.List.{AllByRecursion}
 use Rattle.std.proofs.lemmas.List.{append-nil}
@@ -39,7 +39,7 @@ use Rattle.arj_law_store.specs.store.Reads.{ReadsAs}
 use Rattle.arj_serve.proofs.Cuts.{look_cut}
 use Rattle.arj_serve.proofs.Objects.{new_objects, objects_aborted, objects_committed, objects_in_part, objects_prepared}
 use Rattle.arj_serve.proofs.Places.{place_same, place_store}
-use Rattle.arj_serve.proofs.Roles.{KeepsOn, RoomOfRole, Stays, formed_with, names_go_on, names_stay, naming_goes_on, only_store, room_with}
+use Rattle.arj_serve.proofs.Roles.{KeepsOn, Stays, formed_with, names_go_on, names_stay, naming_goes_on, only_store}
 use Rattle.arj_store.specs.Pair as files
 use Rattle.arj_store.specs.Pair.{packed, uid_of}
 use Rattle.arj_store.specs.declared.answer.Prep.{Prep}
@@ -98,9 +98,9 @@ module _ {O : Type 0} (o : Ghosts O) (call : Call O) (d : Disk) (from : ℕ) (c 
 -- ---- after a call of the store
 
 -- what a call of the store leaves of its files, where it is the node's
-pub left_of : {O : Type 0} (o : Ghosts O) (store : O) → o.own_role store ≡ Store → (by : ℕ) (file left : FileMap) → OnlyOfRole (o.own_role store) file left → o.formed left (o.own_role store)
-    → o.room file (o.own_role store) ≤ o.room left (o.own_role store) + by → LeavesRole o Store by file left
-left_of o store own by file left only formed room = subst (λ r. LeavesRole o r by file left) own (record { only = only; formed = formed; room = room })
+pub left_of : {O : Type 0} (o : Ghosts O) (store : O) → o.own_role store ≡ Store → (file left : FileMap) → OnlyOfRole (o.own_role store) file left → o.formed left (o.own_role store)
+    → LeavesRole o Store file left
+left_of o store own file left only formed = subst (λ r. LeavesRole o r file left) own (record { only = only; formed = formed })
 
 module _ {O : Type 0} (o : Ghosts O) (keeps_on : KeepsOn o) (stays : Stays o) (call : Call O) (d : Disk) (stands : StandsOn o call.old call.file d) (only : OnlyOfRole Store call.file call.left) where
   same_names : SameOfRole Names call.file call.left
@@ -131,11 +131,10 @@ module _ {O : Type 0} (o : Ghosts O) (keeps_on : KeepsOn o) (stays : Stays o) (c
   Q r = o.pair call.left r
 
   -- what a call of the store leaves of the files
-  pub store_leaves : (by : ℕ) → RoomOfRole o → o.formed call.left Store → o.room call.file Store ≤ o.room call.left Store + by → Leaves o (is_some call.old.naming) by call.file call.left
-  store_leaves by of formed room = record {
+  pub store_leaves : o.formed call.left Store → Leaves o (is_some call.old.naming) call.file call.left
+  store_leaves formed = record {
     formed = formed_with o keeps_on stays call.file call.left call.old.naming d.names same_names stands.naming formed;
     others = only_store (is_some call.old.naming) call.file call.left only;
-    room = room_with o keeps_on stays call.file call.left by of same_names room;
   }
 
   -- ---- prepare

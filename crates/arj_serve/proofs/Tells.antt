@@ -1,10 +1,9 @@
 -- The end of an action: what the store, naming and the server do one behind the other is what the protocol's node does.
-use Rattle.std.proofs.Common.{◌≡◌, ◌∙◌, ◌++◌, ◌≤◌, ◌+◌, Bool, true, false, ℕ, List, [], refl, sym, ap, subst, Option, Some, None, arith}
+use Rattle.std.proofs.Common.{◌≡◌, ◌∙◌, ◌++◌, Bool, true, false, ℕ, List, [], refl, sym, ap, subst, Option, Some, None}
 use Rattle.std.specs.Prelude.{is_some, option_map, if◌then◌else◌}
 use Rattle.std.proofs.lemmas.List.{append-nil, append_assoc}
 use Rattle.arj_disk.specs.FileMap.{FileMap}
-use Rattle.arj_disk.specs.declared.slot.Role.{Role}
-use Rattle.arj_disk.specs.declared.slot.Role.TheVariants.{Store, Names}
+use Rattle.arj_disk.specs.declared.slot.Role.TheVariants.{Store}
 use Rattle.arj_journal.specs.declared.body.Line.{Line}
 use Rattle.arj_msg.specs.declared.message.Told.{Told}
 use Rattle.arj_naming.specs.Calls.{told_last}
@@ -23,43 +22,25 @@ use Rattle.arj_protocol.specs.Words.message
 use Rattle.arj_serve.specs.Asked.{Handles, HandlesInPart, acked_by, sent_to}
 use Rattle.arj_serve.specs.Did.{AreLocal, Call, IsCut, disk_after, outs_of, sends}
 use Rattle.arj_serve.specs.Ended.{EndsInPart, EndsNames, EndsNamesInPart, EndsParts, EndsPartsInPart, EndsServer, EndsStates, NamesEnd, names_told, told_effects}
-use Rattle.arj_serve.specs.Kept.{HasNamesRoom, HasRoom, IsDiskOf, Kept, Leaves, LeavesNames, LeavesRole, StandsOn, part_of, parts_with}
+use Rattle.arj_serve.specs.Kept.{IsDiskOf, Kept, Leaves, LeavesNames, LeavesRole, StandsOn, part_of, parts_with}
 use Rattle.arj_serve.proofs.Cuts.{after_append, cut_back, cut_front, local_append}
 use Rattle.arj_serve.proofs.Places.{place_same}
-use Rattle.arj_serve.proofs.Roles.{KeepsOn, RoomOfRole, Stays, names_stay, only_names, only_store, store_stays}
+use Rattle.arj_serve.proofs.Roles.{Stays, only_names, only_store, store_stays}
 use Rattle.arj_serve.proofs.Served.{same_said, server_after, server_local}
 use Rattle.arj_store.specs.declared.store.ObjectStore.{Ghosts}
 
 -- ---- what is left of the files
 
-module _ {O : Type 0} (o : Ghosts O) (keeps_on : KeepsOn o) (stays : Stays o) (of : RoomOfRole o) (file middle left : FileMap) where
+module _ {O : Type 0} (o : Ghosts O) (stays : Stays o) (file middle left : FileMap) where
   -- of the store's files and the entries'
-  pub leaves_both : (named : Bool) → o.formed middle Store → LeavesRole o Store 2 file middle → LeavesNames o named middle left → Leaves o named 2 file left
+  pub leaves_both : (named : Bool) → o.formed middle Store → LeavesRole o Store file middle → LeavesNames o named middle left → Leaves o named file left
   leaves_both true formed store names = record {
     formed = ((stays Store middle left (store_stays middle left names.only) formed).0, names.formed);
     others = λ q none tmp. only_names middle left names.only q none tmp ∙ only_store true file middle store.only q none tmp;
-    room = room;
   }
-    where
-      room : (r : Role) → o.room file r ≤ o.room left r + 2
-      room Store = let is = of Store middle left (store_stays middle left names.only) in let fell = store.room in omega (arith, is, fell)
-      room Names = let is = of Names file middle (names_stay file middle store.only) in let fell = names.room in omega (arith, is, fell)
   leaves_both false formed store names =
       let same : left ≡ middle = λ i q. names q i in
-      subst (λ f. Leaves o false 2 file f) (sym same) (record { formed = store.formed; others = store.only; room = room })
-    where
-      room : (r : Role) → o.room file r ≤ o.room middle r + 2
-      room Store = store.room
-      room Names = let is = of Names file middle (names_stay file middle store.only) in omega (arith, is)
-
--- of the room that there is before it, what naming needs is left
-pub names_room : {O : Type 0} (o : Ghosts O) (of : RoomOfRole o) (file middle : FileMap) (named : Bool) → LeavesRole o Store 2 file middle → HasRoom o named file → HasNamesRoom o named middle
-names_room o of file middle true store room = let is = of Names file middle (names_stay file middle store.only) in let there = room.1 in omega (arith, is, there)
-names_room o of file middle false store room = tt
-
-pub store_room : {O : Type 0} (o : Ghosts O) (file : FileMap) (named : Bool) → HasRoom o named file → 2 ≤ o.room file Store
-store_room o file true room = room.0
-store_room o file false room = room
+      subst (λ f. Leaves o false file f) (sym same) (record { formed = store.formed; others = store.only })
 
 -- ---- one behind the other
 

@@ -1,5 +1,5 @@
 -- A node's services in memory, and with its disk.
-use Rattle.std.specs.Prelude.{◌≡◌, ◌≢◌, ◌≤◌, ◌+◌, ℕ, Bool, true, false, [], Option, Some, None, option_map, ⊤}
+use Rattle.std.specs.Prelude.{◌≡◌, ◌≢◌, ℕ, Bool, true, false, [], Option, Some, None, option_map}
 use Rattle.arj_disk.specs.FileMap.{FileMap}
 use Rattle.arj_disk.specs.Disk.{Same}
 use Rattle.arj_disk.specs.Says.{OnlyOfRole, slot_role}
@@ -53,20 +53,6 @@ abbrev pub IsFormed : {O : Type 0} → Ghosts O → Bool → FileMap → Type 0
 IsFormed o true file = o.formed file role.Store × o.formed file role.Names
 IsFormed o false file = o.formed file role.Store
 
--- there is room for a commit
-abbrev pub HasRoom : {O : Type 0} → Ghosts O → Bool → FileMap → Type 0
-HasRoom o true file = (2 ≤ o.room file role.Store) × (2 ≤ o.room file role.Names)
-HasRoom o false file = 2 ≤ o.room file role.Store
-
--- there is room for a commit of entries, where there is naming
-abbrev pub HasNamesRoom : {O : Type 0} → Ghosts O → Bool → FileMap → Type 0
-HasNamesRoom o true file = 2 ≤ o.room file role.Names
-HasNamesRoom o false file = ⊤
-
--- of each role the room fell by this much at most
-abbrev pub RoomFalls : {O : Type 0} → Ghosts O → ℕ → FileMap → FileMap → Type 0
-RoomFalls o by old new = (r : Role) → o.room old r ≤ o.room new r + by
-
 -- What is no file of a role is as before, but for Tmp; without naming the files of entries are too.
 abbrev pub OnlyStates : Bool → FileMap → FileMap → Type 0
 OnlyStates true old new = (q : Slot) → slot_role q ≡ None → q ≢ slot.Tmp → new q ≡ old q
@@ -93,21 +79,17 @@ pub record StandsOn {O : Type 0} (o : Ghosts O) (s : Kept O) (file : FileMap) (d
 abbrev pub Stands : {O : Type 0} → Ghosts O → Kept O → FileMap → Type 0
 Stands o s file = (d : Disk) × StandsOn o s file d
 
--- What a call leaves of the files, at each exit: they are formed, what is no file of a role is as before, and of each role
--- the room fell by so much at most.
-pub record Leaves {O : Type 0} (o : Ghosts O) (named : Bool) (by : ℕ) (old new : FileMap) : Type 0 where
+-- What a call leaves of the files, at each exit: they are formed, and what is no file of a role is as before.
+pub record Leaves {O : Type 0} (o : Ghosts O) (named : Bool) (old new : FileMap) : Type 0 where
   pub formed : IsFormed o named new
   pub others : OnlyStates named old new
-  pub room : RoomFalls o by old new
 
--- What a call on files of one role leaves of the files, at each exit: those of the role changed alone, they are formed, and
--- its room fell by so much at most.
-pub record LeavesRole {O : Type 0} (o : Ghosts O) (r : Role) (by : ℕ) (old new : FileMap) : Type 0 where
+-- What a call on files of one role leaves of the files, at each exit: those of the role changed alone, and they are formed.
+pub record LeavesRole {O : Type 0} (o : Ghosts O) (r : Role) (old new : FileMap) : Type 0 where
   pub only : OnlyOfRole r old new
   pub formed : o.formed new r
-  pub room : o.room old r ≤ o.room new r + by
 
 -- and so for the entries at a node with naming; without it no file changed
 abbrev pub LeavesNames : {O : Type 0} → Ghosts O → Bool → FileMap → FileMap → Type 0
-LeavesNames o true old new = LeavesRole o role.Names 2 old new
+LeavesNames o true old new = LeavesRole o role.Names old new
 LeavesNames o false old new = Same old new

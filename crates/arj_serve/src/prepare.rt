@@ -38,7 +38,7 @@ impl<O: ObjectStore> Services<O> {
         requires few { length m.now.states ≤ 255 }
         ensures done { IfOk result (Serves O.ObjectStore (message.Prepare m.now) (record { old = self.old; new = self.new; file = D.file disk.old; left = D.file disk.new; before = out.old; after = out.new })) }
         ensures stopped { IsErrOf result StoreFault.Stopped → ServesInPart O.ObjectStore (message.Prepare m.now) (record { old = self.old; new = self.new; file = D.file disk.old; left = D.file disk.new; before = out.old; after = out.new }) }
-        ensures leaves { Leaves O.ObjectStore (is_some self.old.naming) 0 (D.file disk.old) (D.file disk.new) }
+        ensures leaves { Leaves O.ObjectStore (is_some self.old.naming) (D.file disk.old) (D.file disk.new) }
         ensures counts { CountsCall (counts D.Disk disk.old) (counts D.Disk disk.new) result StoreFault.Stopped }
     {
         if self.store.is_prepared(m.head.path.last()) {
@@ -60,7 +60,7 @@ impl<O: ObjectStore> Services<O> {
         requires first { (d : protocol.Disk) → StandsOn O.ObjectStore self.old (D.file disk.old) d → is_prepared (actor m.now.head.path) d.store ≡ false }
         ensures done { IfOk result (Serves O.ObjectStore (message.Prepare m.now) (record { old = self.old; new = self.new; file = D.file disk.old; left = D.file disk.new; before = out.old; after = out.new })) }
         ensures stopped { IsErrOf result StoreFault.Stopped → ServesInPart O.ObjectStore (message.Prepare m.now) (record { old = self.old; new = self.new; file = D.file disk.old; left = D.file disk.new; before = out.old; after = out.new }) }
-        ensures leaves { Leaves O.ObjectStore (is_some self.old.naming) 0 (D.file disk.old) (D.file disk.new) }
+        ensures leaves { Leaves O.ObjectStore (is_some self.old.naming) (D.file disk.old) (D.file disk.new) }
         ensures counts { CountsCall (counts D.Disk disk.old) (counts D.Disk disk.new) result StoreFault.Stopped }
     {
         known_objects();

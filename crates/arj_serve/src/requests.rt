@@ -52,7 +52,7 @@ impl<O: ObjectStore> Services<O> {
         requires stands { Stands O.ObjectStore self.old (D.file disk.old) }
         ensures done { IfOk result (Serves O.ObjectStore (message.Confirm m.now) (record { old = self.old; new = self.new; file = D.file disk.old; left = D.file disk.new; before = out.old; after = out.new })) }
         ensures stopped { IsErrOf result StoreFault.Stopped → ServesInPart O.ObjectStore (message.Confirm m.now) (record { old = self.old; new = self.new; file = D.file disk.old; left = D.file disk.new; before = out.old; after = out.new }) }
-        ensures leaves { Leaves O.ObjectStore (is_some self.old.naming) 0 (D.file disk.old) (D.file disk.new) }
+        ensures leaves { Leaves O.ObjectStore (is_some self.old.naming) (D.file disk.old) (D.file disk.new) }
         ensures counts { CountsCall (counts D.Disk disk.old) (counts D.Disk disk.new) result StoreFault.Stopped }
     {
         let Some(naming) = &mut self.naming else {

@@ -1,5 +1,5 @@
 // Reads of the store of objects, and ends of what is prepared there.
-ghost use Rattle.std.specs.Prelude.{◌≡◌, ◌≤◌, ◌∷◌, ◌++◌, [], true, None, is_some, IfOk, OnErr, OnOk, IsErrOf};
+ghost use Rattle.std.specs.Prelude.{◌≡◌, ◌∷◌, ◌++◌, [], true, None, is_some, IfOk, OnErr, OnOk, IsErrOf};
 ghost use Rattle.arj_disk.specs.Counted.{counts};
 ghost use Rattle.arj_disk.specs.Disk.{CountsCall, Same};
 ghost use Rattle.arj_disk.specs.declared.slot.Role.{Role};
@@ -51,7 +51,7 @@ impl<O: ObjectStore> Services<O> {
         requires { Stands O.ObjectStore self.old (D.file disk.old) }
         ensures done { IfOk result (Serves O.ObjectStore (message.Load m.now) (record { old = self.old; new = self.new; file = D.file disk.old; left = D.file disk.new; before = out.old; after = out.new })) }
         ensures stopped { IsErrOf result StoreFault.Stopped → ServesInPart O.ObjectStore (message.Load m.now) (record { old = self.old; new = self.new; file = D.file disk.old; left = D.file disk.new; before = out.old; after = out.new }) }
-        ensures leaves { Leaves O.ObjectStore (is_some self.old.naming) 0 (D.file disk.old) (D.file disk.new) }
+        ensures leaves { Leaves O.ObjectStore (is_some self.old.naming) (D.file disk.old) (D.file disk.new) }
         ensures counts { CountsCall (counts D.Disk disk.old) (counts D.Disk disk.new) result StoreFault.Stopped }
     {
         let answer = self.read(disk, object_uid(m.x))?;
@@ -67,11 +67,10 @@ impl<O: ObjectStore> Services<O> {
         out: &mut Lines,
     ) -> Result<(), StoreFault>
         requires stands { Stands O.ObjectStore self.old (D.file disk.old) }
-        requires room { 2 ≤ O.room (D.file disk.old) Role.Store }
         ensures memory { OnOk result (self.new ≡ record self.old { store = self.new.store }) }
         ensures done { OnOk result (EndsStates O.ObjectStore act end (record { old = self.old; new = self.new; file = D.file disk.old; left = D.file disk.new; before = out.old; after = out.new })) }
         ensures stopped { IsErrOf result StoreFault.Stopped → EndsInPart O.ObjectStore act end (record { old = self.old; new = self.new; file = D.file disk.old; left = D.file disk.new; before = out.old; after = out.new }) }
-        ensures leaves { LeavesRole O.ObjectStore Role.Store 2 (D.file disk.old) (D.file disk.new) }
+        ensures leaves { LeavesRole O.ObjectStore Role.Store (D.file disk.old) (D.file disk.new) }
         ensures counts { CountsCall (counts D.Disk disk.old) (counts D.Disk disk.new) result StoreFault.Stopped }
     {
         if !self.store.is_prepared(act) {
@@ -91,11 +90,10 @@ impl<O: ObjectStore> Services<O> {
         out: &mut Lines,
     ) -> Result<(), StoreFault>
         requires stands { Stands O.ObjectStore self.old (D.file disk.old) }
-        requires room { 2 ≤ O.room (D.file disk.old) Role.Store }
         ensures memory { OnOk result (self.new ≡ record self.old { store = self.new.store }) }
         ensures done { OnOk result (EndsAll O.ObjectStore act ending.Commit (record { old = self.old; new = self.new; file = D.file disk.old; left = D.file disk.new; before = out.old; after = out.new })) }
         ensures stopped { IsErrOf result StoreFault.Stopped → EndsAllInPart O.ObjectStore act ending.Commit (record { old = self.old; new = self.new; file = D.file disk.old; left = D.file disk.new; before = out.old; after = out.new }) }
-        ensures leaves { LeavesRole O.ObjectStore Role.Store 2 (D.file disk.old) (D.file disk.new) }
+        ensures leaves { LeavesRole O.ObjectStore Role.Store (D.file disk.old) (D.file disk.new) }
         ensures counts { CountsCall (counts D.Disk disk.old) (counts D.Disk disk.new) result StoreFault.Stopped }
     {
         self.store.commit(disk, act)?;
@@ -114,7 +112,7 @@ impl<O: ObjectStore> Services<O> {
         ensures memory { OnOk result (self.new ≡ record self.old { store = self.new.store }) }
         ensures done { OnOk result (EndsAll O.ObjectStore act ending.Abort (record { old = self.old; new = self.new; file = D.file disk.old; left = D.file disk.new; before = out.old; after = out.new })) }
         ensures stopped { IsErrOf result StoreFault.Stopped → EndsAllInPart O.ObjectStore act ending.Abort (record { old = self.old; new = self.new; file = D.file disk.old; left = D.file disk.new; before = out.old; after = out.new }) }
-        ensures leaves { LeavesRole O.ObjectStore Role.Store 2 (D.file disk.old) (D.file disk.new) }
+        ensures leaves { LeavesRole O.ObjectStore Role.Store (D.file disk.old) (D.file disk.new) }
         ensures counts { CountsCall (counts D.Disk disk.old) (counts D.Disk disk.new) result StoreFault.Stopped }
     {
         self.store.abort(disk, act)?;

@@ -1,15 +1,14 @@
 // The end of an action.
-ghost use Rattle.std.specs.Prelude.{◌≡◌, ◌≤◌, Some, is_some, IfOk, OnOk, IsErrOf};
+ghost use Rattle.std.specs.Prelude.{◌≡◌, Some, is_some, IfOk, OnOk, IsErrOf};
 ghost use Rattle.arj_base.specs.declared.mode.End.{End};
 ghost use Rattle.arj_base.specs.declared.uid.Uid.{Uid};
 ghost use Rattle.arj_disk.specs.Counted.{counts};
 ghost use Rattle.arj_disk.specs.Disk.{CountsCall};
-ghost use Rattle.arj_disk.specs.declared.slot.Role.{Role};
 ghost use Rattle.arj_protocol.specs.Ask.{last_end};
 ghost use Rattle.arj_protocol.specs.Words.message;
 ghost use Rattle.arj_serve.specs.Asked.{Handles, HandlesInPart, acked_by, sent_to};
 ghost use Rattle.arj_serve.specs.Ended.{EndsNames, EndsNamesInPart, EndsParts, EndsPartsInPart, EndsServer};
-ghost use Rattle.arj_serve.specs.Kept.{HasNamesRoom, HasRoom, Leaves, LeavesNames, Stands};
+ghost use Rattle.arj_serve.specs.Kept.{Leaves, LeavesNames, Stands};
 ghost use Rattle.arj_store.specs.declared.answer.StoreFault.{StoreFault};
 
 use crate::Services;
@@ -31,10 +30,9 @@ impl<O: ObjectStore> Services<O> {
         out: &mut Lines,
     ) -> Result<Option<Message>, StoreFault>
         requires stands { Stands O.ObjectStore self.old (D.file disk.old) }
-        requires room { HasRoom O.ObjectStore (is_some self.old.naming) (D.file disk.old) }
         ensures done { IfOk result (λ answer. Handles O.ObjectStore (message.Told m.now) (record { old = self.old; new = self.new; file = D.file disk.old; left = D.file disk.new; before = out.old; after = out.new }) (λ from. sent_to from answer)) }
         ensures stopped { IsErrOf result StoreFault.Stopped → HandlesInPart O.ObjectStore (message.Told m.now) (record { old = self.old; new = self.new; file = D.file disk.old; left = D.file disk.new; before = out.old; after = out.new }) }
-        ensures leaves { Leaves O.ObjectStore (is_some self.old.naming) 2 (D.file disk.old) (D.file disk.new) }
+        ensures leaves { Leaves O.ObjectStore (is_some self.old.naming) (D.file disk.old) (D.file disk.new) }
         ensures counts { CountsCall (counts D.Disk disk.old) (counts D.Disk disk.new) result StoreFault.Stopped }
     {
         match last_of(m.ends.as_slice()) {
@@ -52,11 +50,10 @@ impl<O: ObjectStore> Services<O> {
         out: &mut Lines,
     ) -> Result<Option<Message>, StoreFault>
         requires stands { Stands O.ObjectStore self.old (D.file disk.old) }
-        requires room { HasRoom O.ObjectStore (is_some self.old.naming) (D.file disk.old) }
         requires last { last_end m.now.ends ≡ Some last }
         ensures done { IfOk result (λ answer. Handles O.ObjectStore (message.Told m.now) (record { old = self.old; new = self.new; file = D.file disk.old; left = D.file disk.new; before = out.old; after = out.new }) (λ from. sent_to from answer)) }
         ensures stopped { IsErrOf result StoreFault.Stopped → HandlesInPart O.ObjectStore (message.Told m.now) (record { old = self.old; new = self.new; file = D.file disk.old; left = D.file disk.new; before = out.old; after = out.new }) }
-        ensures leaves { Leaves O.ObjectStore (is_some self.old.naming) 2 (D.file disk.old) (D.file disk.new) }
+        ensures leaves { Leaves O.ObjectStore (is_some self.old.naming) (D.file disk.old) (D.file disk.new) }
         ensures counts { CountsCall (counts D.Disk disk.old) (counts D.Disk disk.new) result StoreFault.Stopped }
     {
         self.end_parts(disk, m, last.0, last.1, out)?;
@@ -73,10 +70,9 @@ impl<O: ObjectStore> Services<O> {
         out: &mut Lines,
     ) -> Result<(), StoreFault>
         requires stands { Stands O.ObjectStore self.old (D.file disk.old) }
-        requires room { HasRoom O.ObjectStore (is_some self.old.naming) (D.file disk.old) }
         ensures done { OnOk result (EndsParts O.ObjectStore m.now action end (record { old = self.old; new = self.new; file = D.file disk.old; left = D.file disk.new; before = out.old; after = out.new })) }
         ensures stopped { IsErrOf result StoreFault.Stopped → EndsPartsInPart O.ObjectStore m.now action end (record { old = self.old; new = self.new; file = D.file disk.old; left = D.file disk.new; before = out.old; after = out.new }) }
-        ensures leaves { Leaves O.ObjectStore (is_some self.old.naming) 2 (D.file disk.old) (D.file disk.new) }
+        ensures leaves { Leaves O.ObjectStore (is_some self.old.naming) (D.file disk.old) (D.file disk.new) }
         ensures counts { CountsCall (counts D.Disk disk.old) (counts D.Disk disk.new) result StoreFault.Stopped }
     {
         self.end_states(disk, action, end, out)?;
@@ -94,7 +90,6 @@ impl<O: ObjectStore> Services<O> {
         out: &mut Lines,
     ) -> Result<(), StoreFault>
         requires stands { Stands O.ObjectStore self.old (D.file disk.old) }
-        requires room { HasNamesRoom O.ObjectStore (is_some self.old.naming) (D.file disk.old) }
         ensures done { OnOk result (EndsNames O.ObjectStore m.now (record { old = self.old; new = self.new; file = D.file disk.old; left = D.file disk.new; before = out.old; after = out.new })) }
         ensures stopped { IsErrOf result StoreFault.Stopped → EndsNamesInPart O.ObjectStore m.now (record { old = self.old; new = self.new; file = D.file disk.old; left = D.file disk.new; before = out.old; after = out.new }) }
         ensures leaves { LeavesNames O.ObjectStore (is_some self.old.naming) (D.file disk.old) (D.file disk.new) }

@@ -1,4 +1,4 @@
-use Rattle.std.proofs.Common.{◌≡◌, ◌∙◌, ◌⊎◌, ◌++◌, ◌∷◌, [], ap, refl, subst, arith}
+use Rattle.std.proofs.Common.{◌≡◌, ◌∙◌, ◌⊎◌, ◌++◌, ◌∷◌, [], ap, refl, subst}
 use Rattle.arj_disk.specs.FileMap.{FileMap}
 use Rattle.arj_disk.specs.Says.{OnlyOfRole}
 use Rattle.arj_disk.specs.declared.slot.Role.TheVariants.{Store}
@@ -28,14 +28,14 @@ returns-in_err-abort-clause-leaves g c =
     let o = g.O.ObjectStore in
     let file : FileMap = g.D.Disk.file c.args.disk.now in
     let left : FileMap = g.D.Disk.file c.abort.new.disk in
-    left_of o c.self.inside.store (ap (λ (k : Kept g.row.O.Denot). o.own_role k.store) c.self.view_is ∙ c.requires.stands.1.role_is) 2 file left c.abort.ensures.others c.abort.ensures.formed (let fell = c.abort.ensures.room in omega (arith, fell))
+    left_of o c.self.inside.store (ap (λ (k : Kept g.row.O.Denot). o.own_role k.store) c.self.view_is ∙ c.requires.stands.1.role_is) file left c.abort.ensures.others c.abort.ensures.formed
 
 pub returns-in_err-say_done-clause-leaves : goal.returns-in_err-say_done-clause-leaves
 returns-in_err-say_done-clause-leaves g c =
     let o = g.O.ObjectStore in
     let file : FileMap = g.D.Disk.file c.args.disk.now in
     let left : FileMap = g.D.Disk.file c.abort.new.disk in
-    left_of o c.self.inside.store (ap (λ (k : Kept g.row.O.Denot). o.own_role k.store) c.self.view_is ∙ c.requires.stands.1.role_is) 2 file left c.abort.ensures.others c.abort.ensures.formed (let fell = c.abort.ensures.room in omega (arith, fell))
+    left_of o c.self.inside.store (ap (λ (k : Kept g.row.O.Denot). o.own_role k.store) c.self.view_is ∙ c.requires.stands.1.role_is) file left c.abort.ensures.others c.abort.ensures.formed
 
 pub returns-clause-done : goal.returns-clause-done
 returns-clause-done g c = λ d stands.
@@ -54,4 +54,4 @@ returns-clause-leaves g c =
     let o = g.O.ObjectStore in
     let file : FileMap = g.D.Disk.file c.args.disk.now in
     let left : FileMap = g.D.Disk.file c.abort.new.disk in
-    left_of o c.self.inside.store (ap (λ (k : Kept g.row.O.Denot). o.own_role k.store) c.self.view_is ∙ c.requires.stands.1.role_is) 2 file left c.abort.ensures.others c.abort.ensures.formed (let fell = c.abort.ensures.room in omega (arith, fell))
+    left_of o c.self.inside.store (ap (λ (k : Kept g.row.O.Denot). o.own_role k.store) c.self.view_is ∙ c.requires.stands.1.role_is) file left c.abort.ensures.others c.abort.ensures.formed

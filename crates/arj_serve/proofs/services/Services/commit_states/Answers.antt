@@ -28,14 +28,14 @@ returns-in_err-commit-clause-leaves g c =
     let o = g.O.ObjectStore in
     let file : FileMap = g.D.Disk.file c.args.disk.now in
     let left : FileMap = g.D.Disk.file c.commit.new.disk in
-    left_of o c.self.inside.store (ap (λ (k : Kept g.row.O.Denot). o.own_role k.store) c.self.view_is ∙ c.requires.stands.1.role_is) 2 file left c.commit.ensures.others c.commit.ensures.formed c.commit.ensures.room
+    left_of o c.self.inside.store (ap (λ (k : Kept g.row.O.Denot). o.own_role k.store) c.self.view_is ∙ c.requires.stands.1.role_is) file left c.commit.ensures.others c.commit.ensures.formed
 
 pub returns-in_err-say_done-clause-leaves : goal.returns-in_err-say_done-clause-leaves
 returns-in_err-say_done-clause-leaves g c =
     let o = g.O.ObjectStore in
     let file : FileMap = g.D.Disk.file c.args.disk.now in
     let left : FileMap = g.D.Disk.file c.commit.new.disk in
-    left_of o c.self.inside.store (ap (λ (k : Kept g.row.O.Denot). o.own_role k.store) c.self.view_is ∙ c.requires.stands.1.role_is) 2 file left c.commit.ensures.others c.commit.ensures.formed c.commit.ensures.room
+    left_of o c.self.inside.store (ap (λ (k : Kept g.row.O.Denot). o.own_role k.store) c.self.view_is ∙ c.requires.stands.1.role_is) file left c.commit.ensures.others c.commit.ensures.formed
 
 pub returns-clause-done : goal.returns-clause-done
 returns-clause-done g c = λ d stands.
@@ -54,4 +54,4 @@ returns-clause-leaves g c =
     let o = g.O.ObjectStore in
     let file : FileMap = g.D.Disk.file c.args.disk.now in
     let left : FileMap = g.D.Disk.file c.commit.new.disk in
-    left_of o c.self.inside.store (ap (λ (k : Kept g.row.O.Denot). o.own_role k.store) c.self.view_is ∙ c.requires.stands.1.role_is) 2 file left c.commit.ensures.others c.commit.ensures.formed c.commit.ensures.room
+    left_of o c.self.inside.store (ap (λ (k : Kept g.row.O.Denot). o.own_role k.store) c.self.view_is ∙ c.requires.stands.1.role_is) file left c.commit.ensures.others c.commit.ensures.formed

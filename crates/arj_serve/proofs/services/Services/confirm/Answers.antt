@@ -1,4 +1,4 @@
-use Rattle.std.proofs.Common.{◌∙◌, ap, Some, arith}
+use Rattle.std.proofs.Common.{◌∙◌, ap, Some}
 use Rattle.std.specs.Prelude.{option_map}
 use Rattle.arj_disk.specs.FileMap.{FileMap}
 use Rattle.arj_naming.specs.Calls.{confirm_by, confirmed_to}
@@ -35,7 +35,7 @@ returns-in_err-answer-clause-leaves g c =
     let old : Kept g.row.O.Denot = record { number = c.self.inside.number; server = c.self.inside.server; naming = c.self.inside.naming; store = c.self.inside.store } in
     let file : FileMap = g.D.Disk.file c.args.disk.now in
     let left : FileMap = g.D.Disk.file c.confirm.new.disk in
-    names_leaves o g.met.O.ObjectStore.keeps_on g.met.O.ObjectStore.stays old n c.in-Some.is file left c.confirm.ensures.others c.args.self.now c.self.view_is c.requires.stands 0 g.met.O.ObjectStore.room_of_role c.confirm.ensures.formed (let fell = c.confirm.ensures.room in omega (arith, fell))
+    names_leaves o g.met.O.ObjectStore.keeps_on g.met.O.ObjectStore.stays old n c.in-Some.is file left c.confirm.ensures.others c.args.self.now c.self.view_is c.requires.stands c.confirm.ensures.formed
 
 pub returns-clause-done : goal.returns-clause-done
 returns-clause-done g c =
@@ -56,4 +56,4 @@ returns-clause-leaves g c =
     let old : Kept g.row.O.Denot = record { number = c.self.inside.number; server = c.self.inside.server; naming = c.self.inside.naming; store = c.self.inside.store } in
     let file : FileMap = g.D.Disk.file c.args.disk.now in
     let left : FileMap = g.D.Disk.file c.confirm.new.disk in
-    names_leaves o g.met.O.ObjectStore.keeps_on g.met.O.ObjectStore.stays old n c.in-Some.is file left c.confirm.ensures.others c.args.self.now c.self.view_is c.requires.stands 0 g.met.O.ObjectStore.room_of_role c.confirm.ensures.formed (let fell = c.confirm.ensures.room in omega (arith, fell))
+    names_leaves o g.met.O.ObjectStore.keeps_on g.met.O.ObjectStore.stays old n c.in-Some.is file left c.confirm.ensures.others c.args.self.now c.self.view_is c.requires.stands c.confirm.ensures.formed

@@ -31,7 +31,7 @@ returns-in_err-told-clause-leaves g c =
     let old : Kept g.row.O.Denot = record { number = c.self.inside.number; server = c.self.inside.server; naming = c.self.inside.naming; store = c.self.inside.store } in
     let file : FileMap = g.D.Disk.file c.args.disk.now in
     let left : FileMap = g.D.Disk.file c.told.new.disk in
-    names_left o g.met.O.ObjectStore.keeps_on g.met.O.ObjectStore.stays old n c.in-Some.is file left c.told.ensures.others c.args.self.now c.self.view_is c.told.ensures.formed c.told.ensures.room
+    names_left o g.met.O.ObjectStore.keeps_on g.met.O.ObjectStore.stays old n c.in-Some.is file left c.told.ensures.others c.args.self.now c.self.view_is c.told.ensures.formed
 
 pub returns-clause-done : goal.returns-clause-done
 returns-clause-done g c =
@@ -51,4 +51,4 @@ returns-clause-leaves g c =
     let old : Kept g.row.O.Denot = record { number = c.self.inside.number; server = c.self.inside.server; naming = c.self.inside.naming; store = c.self.inside.store } in
     let file : FileMap = g.D.Disk.file c.args.disk.now in
     let left : FileMap = g.D.Disk.file c.told.new.disk in
-    names_left o g.met.O.ObjectStore.keeps_on g.met.O.ObjectStore.stays old n c.in-Some.is file left c.told.ensures.others c.args.self.now c.self.view_is c.told.ensures.formed c.told.ensures.room
+    names_left o g.met.O.ObjectStore.keeps_on g.met.O.ObjectStore.stays old n c.in-Some.is file left c.told.ensures.others c.args.self.now c.self.view_is c.told.ensures.formed

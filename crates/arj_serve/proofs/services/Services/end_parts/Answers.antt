@@ -1,17 +1,14 @@
-use Rattle.std.proofs.Common.{sym, subst}
+use Rattle.std.proofs.Common.{subst}
 use Rattle.std.specs.Prelude.{is_some}
 use Rattle.arj_disk.specs.FileMap.{FileMap}
 use Rattle.arj_protocol.specs.Effect.{Disk}
 use Rattle.arj_protocol.specs.Node.{store_told}
 use Rattle.arj_serve.specs.Did.{Call, disk_after}
-use Rattle.arj_serve.specs.Kept.{HasNamesRoom, Kept, LeavesNames}
+use Rattle.arj_serve.specs.Kept.{Kept, LeavesNames}
 use Rattle.arj_serve.proofs.Looked.{stopped_too}
 use Rattle.arj_serve.proofs.Stores.{store_leaves}
-use Rattle.arj_serve.proofs.Tells.{leaves_both, names_room, naming_cut, parts_end, store_cut, store_room}
+use Rattle.arj_serve.proofs.Tells.{leaves_both, naming_cut, parts_end, store_cut}
 use Rattle.arj_serve.proofs.services.Services.end_parts.Goals as goal
-
-pub end_states-requires-clause-room : goal.end_states-requires-clause-room
-end_states-requires-clause-room g c = store_room g.O.ObjectStore (g.D.Disk.file c.args.disk.now) (is_some c.args.self.now.naming) c.requires.room
 
 pub returns-in_err-end_states-clause-stopped : goal.returns-in_err-end_states-clause-stopped
 returns-in_err-end_states-clause-stopped g c = λ stop.
@@ -29,21 +26,12 @@ returns-in_err-end_states-clause-leaves g c =
     let file : FileMap = g.D.Disk.file c.args.disk.now in
     let middle : FileMap = g.D.Disk.file c.end_states.new.disk in
     let call : Call g.row.O.Denot = record { old = now; new = now; file = file; left = middle; before = c.args.out.now; after = c.args.out.now } in
-    store_leaves o g.met.O.ObjectStore.keeps_on g.met.O.ObjectStore.stays call c.requires.stands.0 c.requires.stands.1 c.end_states.ensures.leaves.only 2 g.met.O.ObjectStore.room_of_role c.end_states.ensures.leaves.formed c.end_states.ensures.leaves.room
+    store_leaves o g.met.O.ObjectStore.keeps_on g.met.O.ObjectStore.stays call c.requires.stands.0 c.requires.stands.1 c.end_states.ensures.leaves.only c.end_states.ensures.leaves.formed
 
 pub end_names-requires-clause-stands : goal.end_names-requires-clause-stands
 end_names-requires-clause-stands g c =
     let d : Disk = c.requires.stands.0 in
     (disk_after (store_told c.args.self.now.number c.args.action c.args.end d.store) d, (c.in_ok-end_states.ensures.done d c.requires.stands.1).stands)
-
-pub end_names-requires-clause-room : goal.end_names-requires-clause-room
-end_names-requires-clause-room g c =
-    let o = g.O.ObjectStore in
-    let now = c.args.self.now in
-    let file : FileMap = g.D.Disk.file c.args.disk.now in
-    let middle : FileMap = g.D.Disk.file c.end_states.new.disk in
-    subst (λ (k : Kept g.row.O.Denot). HasNamesRoom o (is_some k.naming) middle) (sym c.in_ok-end_states.ensures.memory)
-    (names_room o g.met.O.ObjectStore.room_of_role file middle (is_some now.naming) c.end_states.ensures.leaves c.requires.room)
 
 pub returns-in_err-end_names-clause-stopped : goal.returns-in_err-end_names-clause-stopped
 returns-in_err-end_names-clause-stopped g c = λ stop.
@@ -62,7 +50,7 @@ returns-in_err-end_names-clause-leaves g c =
     let file : FileMap = g.D.Disk.file c.args.disk.now in
     let middle : FileMap = g.D.Disk.file c.end_states.new.disk in
     let left : FileMap = g.D.Disk.file c.end_names.new.disk in
-    leaves_both o g.met.O.ObjectStore.keeps_on g.met.O.ObjectStore.stays g.met.O.ObjectStore.room_of_role file middle left (is_some now.naming) c.end_states.ensures.leaves.formed c.end_states.ensures.leaves
+    leaves_both o g.met.O.ObjectStore.stays file middle left (is_some now.naming) c.end_states.ensures.leaves.formed c.end_states.ensures.leaves
     (subst (λ (k : Kept g.row.O.Denot). LeavesNames o (is_some k.naming) middle left) c.in_ok-end_states.ensures.memory c.end_names.ensures.leaves)
 
 pub returns-in_err-end_server-clause-leaves : goal.returns-in_err-end_server-clause-leaves
@@ -72,7 +60,7 @@ returns-in_err-end_server-clause-leaves g c =
     let file : FileMap = g.D.Disk.file c.args.disk.now in
     let middle : FileMap = g.D.Disk.file c.end_states.new.disk in
     let left : FileMap = g.D.Disk.file c.end_names.new.disk in
-    leaves_both o g.met.O.ObjectStore.keeps_on g.met.O.ObjectStore.stays g.met.O.ObjectStore.room_of_role file middle left (is_some now.naming) c.end_states.ensures.leaves.formed c.end_states.ensures.leaves
+    leaves_both o g.met.O.ObjectStore.stays file middle left (is_some now.naming) c.end_states.ensures.leaves.formed c.end_states.ensures.leaves
     (subst (λ (k : Kept g.row.O.Denot). LeavesNames o (is_some k.naming) middle left) c.in_ok-end_states.ensures.memory c.end_names.ensures.leaves)
 
 pub returns-clause-done : goal.returns-clause-done
@@ -93,5 +81,5 @@ returns-clause-leaves g c =
     let file : FileMap = g.D.Disk.file c.args.disk.now in
     let middle : FileMap = g.D.Disk.file c.end_states.new.disk in
     let left : FileMap = g.D.Disk.file c.end_names.new.disk in
-    leaves_both o g.met.O.ObjectStore.keeps_on g.met.O.ObjectStore.stays g.met.O.ObjectStore.room_of_role file middle left (is_some now.naming) c.end_states.ensures.leaves.formed c.end_states.ensures.leaves
+    leaves_both o g.met.O.ObjectStore.stays file middle left (is_some now.naming) c.end_states.ensures.leaves.formed c.end_states.ensures.leaves
     (subst (λ (k : Kept g.row.O.Denot). LeavesNames o (is_some k.naming) middle left) c.in_ok-end_states.ensures.memory c.end_names.ensures.leaves)

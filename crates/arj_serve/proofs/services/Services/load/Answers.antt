@@ -25,7 +25,7 @@ pub returns-in_err-answer-clause-leaves : goal.returns-in_err-answer-clause-leav
 returns-in_err-answer-clause-leaves g c =
     let file : FileMap = g.D.Disk.file c.args.disk.now in
     let same : g.D.Disk.file c.read.new.disk ≡ file = λ i q. c.read.ensures.files q i in
-    subst (λ f. Leaves g.O.ObjectStore (is_some c.args.self.now.naming) 0 file f) (sym same) (left_as_was g.O.ObjectStore c.args.self.now file c.requires)
+    subst (λ f. Leaves g.O.ObjectStore (is_some c.args.self.now.naming) file f) (sym same) (left_as_was g.O.ObjectStore c.args.self.now file c.requires)
 
 pub returns-clause-done : goal.returns-clause-done
 returns-clause-done g c = λ d stands from e.
@@ -42,4 +42,4 @@ pub returns-clause-leaves : goal.returns-clause-leaves
 returns-clause-leaves g c =
     let file : FileMap = g.D.Disk.file c.args.disk.now in
     let same : g.D.Disk.file c.read.new.disk ≡ file = λ i q. c.read.ensures.files q i in
-    subst (λ f. Leaves g.O.ObjectStore (is_some c.args.self.now.naming) 0 file f) (sym same) (left_as_was g.O.ObjectStore c.args.self.now file c.requires)
+    subst (λ f. Leaves g.O.ObjectStore (is_some c.args.self.now.naming) file f) (sym same) (left_as_was g.O.ObjectStore c.args.self.now file c.requires)

@@ -1,4 +1,4 @@
-use Rattle.std.proofs.Common.{◌≡◌, ◌∙◌, ◌≤◌, ◌⊎◌, ◌++◌, ap, refl, sym, subst, arith}
+use Rattle.std.proofs.Common.{◌≡◌, ◌∙◌, ◌⊎◌, ◌++◌, ap, refl, sym, subst, arith}
 use Rattle.arj_disk.specs.FileMap.{FileMap}
 use Rattle.arj_disk.specs.Says.{OnlyOfRole}
 use Rattle.arj_disk.specs.declared.slot.Role.{Role}
@@ -50,8 +50,8 @@ returns-in_err-answer-clause-leaves g c =
     let left : FileMap = g.D.Disk.file c.prepare.new.disk in
     let own : o.own_role c.self.inside.store ≡ Store = ap (λ (k : Kept g.row.O.Denot). o.own_role k.store) c.self.view_is ∙ c.requires.stands.1.role_is in
     let call : Call g.row.O.Denot = record { old = now; new = now; file = file; left = left; before = c.args.out.now; after = c.args.out.now } in
-    store_leaves o g.met.O.ObjectStore.keeps_on g.met.O.ObjectStore.stays call c.requires.stands.0 c.requires.stands.1 (subst (λ r. OnlyOfRole r file left) own c.prepare.ensures.others) 0 g.met.O.ObjectStore.room_of_role
-    (subst (λ r. o.formed left r) own c.prepare.ensures.formed) (let fell : o.room file Store ≤ o.room left Store = subst (λ r. o.room file r ≤ o.room left r) own c.prepare.ensures.room in omega (arith, fell))
+    store_leaves o g.met.O.ObjectStore.keeps_on g.met.O.ObjectStore.stays call c.requires.stands.0 c.requires.stands.1 (subst (λ r. OnlyOfRole r file left) own c.prepare.ensures.others)
+    (subst (λ r. o.formed left r) own c.prepare.ensures.formed)
 
 pub returns-in_err-say_prepared-clause-leaves : goal.returns-in_err-say_prepared-clause-leaves
 returns-in_err-say_prepared-clause-leaves g c =
@@ -61,8 +61,8 @@ returns-in_err-say_prepared-clause-leaves g c =
     let left : FileMap = g.D.Disk.file c.prepare.new.disk in
     let own : o.own_role c.self.inside.store ≡ Store = ap (λ (k : Kept g.row.O.Denot). o.own_role k.store) c.self.view_is ∙ c.requires.stands.1.role_is in
     let call : Call g.row.O.Denot = record { old = now; new = now; file = file; left = left; before = c.args.out.now; after = c.args.out.now } in
-    store_leaves o g.met.O.ObjectStore.keeps_on g.met.O.ObjectStore.stays call c.requires.stands.0 c.requires.stands.1 (subst (λ r. OnlyOfRole r file left) own c.prepare.ensures.others) 0 g.met.O.ObjectStore.room_of_role
-    (subst (λ r. o.formed left r) own c.prepare.ensures.formed) (let fell : o.room file Store ≤ o.room left Store = subst (λ r. o.room file r ≤ o.room left r) own c.prepare.ensures.room in omega (arith, fell))
+    store_leaves o g.met.O.ObjectStore.keeps_on g.met.O.ObjectStore.stays call c.requires.stands.0 c.requires.stands.1 (subst (λ r. OnlyOfRole r file left) own c.prepare.ensures.others)
+    (subst (λ r. o.formed left r) own c.prepare.ensures.formed)
 
 pub answered-requires : goal.answered-requires
 answered-requires g c =
@@ -97,5 +97,5 @@ returns-clause-leaves g c =
     let left : FileMap = g.D.Disk.file c.prepare.new.disk in
     let own : o.own_role c.self.inside.store ≡ Store = ap (λ (k : Kept g.row.O.Denot). o.own_role k.store) c.self.view_is ∙ c.requires.stands.1.role_is in
     let call : Call g.row.O.Denot = record { old = now; new = now; file = file; left = left; before = c.args.out.now; after = c.args.out.now } in
-    store_leaves o g.met.O.ObjectStore.keeps_on g.met.O.ObjectStore.stays call c.requires.stands.0 c.requires.stands.1 (subst (λ r. OnlyOfRole r file left) own c.prepare.ensures.others) 0 g.met.O.ObjectStore.room_of_role
-    (subst (λ r. o.formed left r) own c.prepare.ensures.formed) (let fell : o.room file Store ≤ o.room left Store = subst (λ r. o.room file r ≤ o.room left r) own c.prepare.ensures.room in omega (arith, fell))
+    store_leaves o g.met.O.ObjectStore.keeps_on g.met.O.ObjectStore.stays call c.requires.stands.0 c.requires.stands.1 (subst (λ r. OnlyOfRole r file left) own c.prepare.ensures.others)
+    (subst (λ r. o.formed left r) own c.prepare.ensures.formed)
