@@ -23,7 +23,6 @@ pub fn commit_told<S: ObjectStore, D: Disk>(
 ) -> Result<bool, StoreFault>
     requires keeps { S.keeps store.old (D.file disk.old) }
     requires formed { S.formed (D.file disk.old) (S.own_role store.old) }
-    requires room { 2 ≤ S.room (D.file disk.old) (S.own_role store.old) }
     ensures ended { OnOk result (DidCommit (S.pair (D.file disk.old) (S.own_role store.old)) (S.pair (D.file disk.new) (S.own_role store.old)) act) }
     ensures stopped { OnErr result (DidSome (S.pair (D.file disk.old) (S.own_role store.old)) (S.pair (D.file disk.new) (S.own_role store.old)) act
         ⊎ DidCommit (S.pair (D.file disk.old) (S.own_role store.old)) (S.pair (D.file disk.new) (S.own_role store.old)) act) }
@@ -68,7 +67,6 @@ pub fn commit_beside<S: ObjectStore, D: Disk>(
     requires other { S.own_role entries.old ≡ Role.Names }
     requires keeps { S.keeps objects.now (D.file disk.old) × S.keeps entries.old (D.file disk.old) }
     requires formed { S.formed (D.file disk.old) Role.Store × S.formed (D.file disk.old) Role.Names }
-    requires room { 2 ≤ S.room (D.file disk.old) Role.Names }
     ensures keeps { S.keeps objects.now (D.file disk.new) }
     ensures formed { S.formed (D.file disk.new) Role.Store }
     ensures pair { SamePair (S.pair (D.file disk.old) Role.Store) (S.pair (D.file disk.new) Role.Store) }

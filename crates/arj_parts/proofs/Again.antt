@@ -216,7 +216,6 @@ module _ {O : Type 0} (o : Ghosts O) (n : ℕ) (old new : FileMap) (d e : Disk) 
     disk = are;
     objects = subst AreObjects (sym same.store) rests.objects;
     names = by (has_naming n) rests.names;
-    roomy = rests.roomy;
   }
     where
       by : (b : Bool) → NamesOn b o old d.names → NamesOn b o new e.names

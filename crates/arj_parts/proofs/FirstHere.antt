@@ -15,7 +15,7 @@ use Rattle.arj_naming.specs.Files.{GivesEntries}
 use Rattle.arj_naming.specs.Kept as naming
 use Rattle.arj_node.specs.Acting.{first_here}
 use Rattle.arj_parts.specs.Begun.{HasNaming}
-use Rattle.arj_parts.specs.Kept.{IsRoomy, Kept, StandsOn, has_naming}
+use Rattle.arj_parts.specs.Kept.{Kept, StandsOn, has_naming}
 use Rattle.arj_protocol.specs.Confirm.{recovered_naming}
 use Rattle.arj_protocol.specs.Coord.{new_coord}
 use Rattle.arj_protocol.specs.Effect.{Pair}
@@ -93,15 +93,14 @@ module _ {O : Type 0} (o : Ghosts O) (keeps_on : KeepsOn o) (stays : Stays o) (s
     abbrev pub first_parts : Kept O
     first_parts = record { services = record { number = n; server = new_server 1; naming = found; store = store }; coord = new_coord n 1; records = [] }
 
-    pub first_stands : IsRoomy o → HeaderInForm hd → HasNaming o n 1 found two (first_disk hd n).names → IsPairOf (o.pair two Names) (first_disk hd n).names → NamesOn (has_naming n) o two (first_disk hd n).names → o.formed two Names
+    pub first_stands : HeaderInForm hd → HasNaming o n 1 found two (first_disk hd n).names → IsPairOf (o.pair two Names) (first_disk hd n).names → NamesOn (has_naming n) o two (first_disk hd n).names → o.formed two Names
         → IsFormed o three → IsFirst o two three → ((r : Role) → SameOfRole r two three) → StandsOn o n first_parts three (first_here hd n)
-    first_stands roomy form has named on formed_two formed first same = record {
+    first_stands form has named on formed_two formed first same = record {
       rests = record {
         formed = formed;
         disk = first stored (first_disk hd n).names store_pair named;
         objects = first_objects n hd form;
         names = still (has_naming n) on;
-        roomy = roomy;
       };
       services = record {
         role_is = of;

@@ -85,7 +85,6 @@ module _ {O : Type 0} (o : Ghosts O) (keeps_on : KeepsOn o) (stays : Stays o) (o
         };
         objects = rests.objects;
         names = names_same (has_naming n) d.names rests.formed.names rests.names;
-        roomy = rests.roomy;
       }
 
   -- and so do the services stand on it

@@ -63,7 +63,6 @@ module _ {O : Type 0} (o : Ghosts O) (stays : Stays o) (old new : FileMap) (d e 
         };
         objects = on.objects;
         names = subst (λ b. NamesOn b o new e.names) (sym is) on.names;
-        roomy = rests.roomy;
       }
 
   -- the node rests on what its services leave

@@ -88,12 +88,12 @@ looks_same (Do (RemoveIntent t) ∷ es) d are = absurd are
 
 -- ---- standing
 
-module _ {O : Type 0} (o : Ghosts O) (stays : Stays o) (n : ℕ) (p : Kept O) (h : Here) (call : Call O) (is : call.old ≡ p.services) (stands : StandsOn o n p call.file h) (leaves : (by : ℕ) × Leaves o (is_some call.old.naming) by call.file call.left) where
+module _ {O : Type 0} (o : Ghosts O) (stays : Stays o) (n : ℕ) (p : Kept O) (h : Here) (call : Call O) (is : call.old ≡ p.services) (stands : StandsOn o n p call.file h) (leaves : Leaves o (is_some call.old.naming) call.file call.left) where
   named : is_some call.old.naming ≡ has_naming n
   named = ap (λ (s : services.Kept O). is_some s.naming) is ∙ stands.named
 
   rests_on : (e : Disk) → works.Leaves (has_naming n) h.disk e → services.IsDiskOf o (has_naming n) call.left e → RestsOn o n call.left e
-  rests_on e left on = rests_still o stays call.file call.left h.disk e n stands.rests left (subst (λ b. services.OnlyStates b call.file call.left) named leaves.1.others) (subst (λ b. services.IsFormed o b call.left) named leaves.1.formed) on
+  rests_on e left on = rests_still o stays call.file call.left h.disk e n stands.rests left (subst (λ b. services.OnlyStates b call.file call.left) named leaves.others) (subst (λ b. services.IsFormed o b call.left) named leaves.formed) on
 
   -- the parts with what the services are now
   abbrev pub parts_now : Kept O
@@ -177,8 +177,8 @@ some_part : {O : Type 0} (o : Option (naming.Kept O)) → is_some (option_map pa
 some_part None = refl
 some_part (Some n) = refl
 
-module _ {O : Type 0} (o : Ghosts O) (stays : Stays o) (was now : services.Kept O) (coord : Coord) (records : List (Uid × Intent)) (file left : FileMap) (none lines : List Line) (nothing : none ≡ []) (m : Message) (from by : ℕ)
-    (leaves : Leaves o (is_some was.naming) by file left) where
+module _ {O : Type 0} (o : Ghosts O) (stays : Stays o) (was now : services.Kept O) (coord : Coord) (records : List (Uid × Intent)) (file left : FileMap) (none lines : List Line) (nothing : none ≡ []) (m : Message) (from : ℕ)
+    (leaves : Leaves o (is_some was.naming) file left) where
   abbrev pub old_parts : Kept O
   old_parts = record { services = was; coord = coord; records = records }
 
@@ -202,19 +202,19 @@ module _ {O : Type 0} (o : Ghosts O) (stays : Stays o) (was now : services.Kept 
     asked_states = subst (λ b. AreAll (is_state_effect b) (serve.outs_of (asked n h.disk h.parts from m))) named_so (asked_all n h.disk h.parts from m)
 
     pub request_void : Serves o m the_call None → (outs : List Outgoing) → node.Leaves (StandsOn o n new_parts left) h (asked n h.disk h.parts from m) outs outs
-    request_void serves outs = void_so o stays n old_parts h the_call refl stands (by, leaves) (asked n h.disk h.parts from m) outs
+    request_void serves outs = void_so o stays n old_parts h the_call refl stands leaves (asked n h.disk h.parts from m) outs
         (subst (λ w. serve.IsVoid o w the_call h.disk) asked_so (serves h.disk stands.services from coord))
 
     pub request_takes : (answer : Message) → Serves o m the_call (Some answer) → (before after : List Outgoing) → effects_of after ≡ effects_of before ++ (says_of lines ++ Send from answer ∷ [])
         → node.Takes (StandsOn o n new_parts left) h (asked n h.disk h.parts from m) before after
-    request_takes answer serves before after told = takes_so o stays n old_parts h the_call refl stands (by, leaves) (asked n h.disk h.parts from m) ((from, answer) ∷ []) before after
+    request_takes answer serves before after told = takes_so o stays n old_parts h the_call refl stands leaves (asked n h.disk h.parts from m) ((from, answer) ∷ []) before after
         (subst (λ w. serve.Takes o w coord the_call h.disk ((from, answer) ∷ [])) asked_so (serves h.disk stands.services from coord)) asked_states
         (λ es are. told ∙ ap (λ ls. effects_of before ++ (says_of ls ++ Send from answer ∷ [])) (said_all es are))
 
     pub request_halts : ServesInPart o m the_call → (before after : List Outgoing) → effects_of after ≡ effects_of before ++ says_of lines
         → IsHalted (RestsOn o n left) (node.outs_of (asked n h.disk h.parts from m)) h.disk before after
     request_halts serves before after told = subst (λ es. IsHalted (RestsOn o n left) es h.disk before after) (same_outs (asked n h.disk h.parts from m))
-        (cut_so o stays n old_parts h the_call refl stands (by, leaves) (serve.outs_of (asked n h.disk h.parts from m)) before after
+        (cut_so o stays n old_parts h the_call refl stands leaves (serve.outs_of (asked n h.disk h.parts from m)) before after
         (subst (λ w. serve.IsCut o (serve.outs_of w) the_call h.disk) asked_so (serves h.disk stands.services from coord)) asked_states
         (λ es are. told ∙ ap (λ ls. effects_of before ++ says_of ls) (said_all es are)))
 
@@ -225,7 +225,7 @@ module _ {O : Type 0} (o : Ghosts O) (stays : Stays o) (was now : services.Kept 
 
     pub handled_takes : (sent : ℕ → List (ℕ × Message)) → AreAll (is_state_effect (is_some h.parts.naming)) (serve.outs_of (handle n h.disk h.parts from m)) → Handles o m the_call sent → (before after : List Outgoing)
         → effects_of after ≡ effects_of before ++ (says_of lines ++ sends (sent from)) → node.Takes (StandsOn o n new_parts left) h (handle n h.disk h.parts from m) before after
-    handled_takes sent all handles before after told = takes_so o stays n old_parts h the_call refl stands (by, leaves) (handle n h.disk h.parts from m) (sent from) before after
+    handled_takes sent all handles before after told = takes_so o stays n old_parts h the_call refl stands leaves (handle n h.disk h.parts from m) (sent from) before after
         (subst (λ w. serve.Takes o w coord the_call h.disk (sent from)) handled_so (handles h.disk stands.services from coord))
         (subst (λ b. AreAll (is_state_effect b) (serve.outs_of (handle n h.disk h.parts from m))) named_so all)
         (λ es are. told ∙ ap (λ ls. effects_of before ++ (says_of ls ++ sends (sent from))) (said_all es are))
@@ -233,7 +233,7 @@ module _ {O : Type 0} (o : Ghosts O) (stays : Stays o) (was now : services.Kept 
     pub handled_halts : AreAll (is_state_effect (is_some h.parts.naming)) (serve.outs_of (handle n h.disk h.parts from m)) → HandlesInPart o m the_call → (before after : List Outgoing) → effects_of after ≡ effects_of before ++ says_of lines
         → IsHalted (RestsOn o n left) (node.outs_of (handle n h.disk h.parts from m)) h.disk before after
     handled_halts all handles before after told = subst (λ es. IsHalted (RestsOn o n left) es h.disk before after) (same_outs (handle n h.disk h.parts from m))
-        (cut_so o stays n old_parts h the_call refl stands (by, leaves) (serve.outs_of (handle n h.disk h.parts from m)) before after
+        (cut_so o stays n old_parts h the_call refl stands leaves (serve.outs_of (handle n h.disk h.parts from m)) before after
         (subst (λ w. serve.IsCut o (serve.outs_of w) the_call h.disk) handled_so (handles h.disk stands.services from coord))
         (subst (λ b. AreAll (is_state_effect b) (serve.outs_of (handle n h.disk h.parts from m))) named_so all)
         (λ es are. told ∙ ap (λ ls. effects_of before ++ says_of ls) (said_all es are)))

@@ -71,6 +71,6 @@ module _ {O : Type 0} (o : Ghosts O) (stays : Stays o) (p : Kept O) (x : ℕ) (f
 
     pub show_cut : ShowsInPart o (show_outs p.services.number x) the_show → IsHalted (RestsOn o n left) (show_outs n x h.disk) h.disk before after
     show_cut cuts = subst (λ k. IsHalted (RestsOn o n left) (show_outs k x h.disk) h.disk before after) stands.number
-        (cut_so o stays n p h the_show refl stands (0, subst (λ f. Leaves o (is_some p.services.naming) 0 file f) (sym files_are) (nothing_left o p.services file h.disk stands.services))
+        (cut_so o stays n p h the_show refl stands (subst (λ f. Leaves o (is_some p.services.naming) file f) (sym files_are) (nothing_left o p.services file h.disk stands.services))
         (show_outs p.services.number x h.disk) before after (cuts h.disk stands.services) (show_states (has_naming n) p.services.number x h.disk)
         (λ es are. told ∙ ap (λ ls. effects_of before ++ says_of ls) (lines_are es are)))

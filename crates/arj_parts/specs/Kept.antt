@@ -1,7 +1,6 @@
 -- The parts of a node in memory, and with its disk.
-use Rattle.std.specs.Prelude.{◌≡◌, ◌==◌, ◌≤◌, ℕ, Bool, List, is_some}
+use Rattle.std.specs.Prelude.{◌≡◌, ◌==◌, ℕ, Bool, List, is_some}
 use Rattle.arj_disk.specs.FileMap.{FileMap}
-use Rattle.arj_disk.specs.declared.slot.Role.{Role}
 use Rattle.arj_protocol.specs.Coord.{Coord}
 use Rattle.arj_protocol.specs.Effect.{Disk, Intent}
 use Rattle.arj_protocol.specs.Node.{Here}
@@ -22,10 +21,6 @@ pub record Kept (O : Type 0) : Type 0 where
 abbrev pub has_naming : ℕ → Bool
 has_naming n = n == 1
 
--- a store of this kind never runs out of numbers for commits
-abbrev pub IsRoomy : {O : Type 0} → Ghosts O → Type 0
-IsRoomy o = (file : FileMap) (r : Role) → 2 ≤ o.room file r
-
 -- These files are formed and say this disk of the protocol, for the node of this number: the states at its store are of
 -- objects, and at node 1 there are entries.
 pub record RestsOn {O : Type 0} (o : Ghosts O) (n : ℕ) (file : FileMap) (d : Disk) : Type 0 where
@@ -33,7 +28,6 @@ pub record RestsOn {O : Type 0} (o : Ghosts O) (n : ℕ) (file : FileMap) (d : D
   pub disk : IsDiskOf o file d
   pub objects : AreObjects d.store
   pub names : NamesOn (has_naming n) o file d.names
-  pub roomy : IsRoomy o
 
 -- The parts stand on these files: they are the protocol's parts, over the disk that the files say.
 pub record StandsOn {O : Type 0} (o : Ghosts O) (n : ℕ) (p : Kept O) (file : FileMap) (h : Here) : Type 0 where

@@ -17,7 +17,7 @@ ghost use Rattle.arj_node.specs.Acting.{first_here, outs_again, parts_again};
 ghost use Rattle.arj_node.specs.Handing.{Does};
 ghost use Rattle.arj_node.specs.Outgoing.{IsHalted, Tells, effects_of};
 ghost use Rattle.arj_parts.specs.Begun.{HasNaming, StopsBack, outs_back, raised};
-ghost use Rattle.arj_parts.specs.Kept.{IsRoomy, RestsOn, StandsOn, has_naming};
+ghost use Rattle.arj_parts.specs.Kept.{RestsOn, StandsOn, has_naming};
 ghost use Rattle.arj_protocol.specs.Coord.{new_coord};
 ghost use Rattle.arj_protocol.specs.Effect as protocol;
 ghost use Rattle.arj_protocol.specs.Node.{Here};
@@ -89,7 +89,6 @@ fn first<D: Disk, O: ObjectStore + Drop>(
     header: &journal::Header,
     disk: &mut D,
 ) -> Result<NodeParts<O>, StoreFault>
-    requires roomy { IsRoomy O.ObjectStore }
     requires form { HeaderInForm header.now }
     requires empty { (slot : Slot) → D.file disk.old slot ≡ None }
     ensures stands { IfOk result (λ parts. StandsOn O.ObjectStore number parts (D.file disk.new) (first_here header.now number)) }
@@ -114,7 +113,6 @@ pub fn format<D: Disk, O: ObjectStore + Drop>(
     header: &journal::Header,
     disk: &mut D,
 ) -> Result<NodeParts<O>, CoreFault>
-    requires roomy { IsRoomy O.ObjectStore }
     requires form { HeaderInForm header.now }
     requires empty { (slot : Slot) → D.file disk.old slot ≡ None }
     ensures stands { IfOk result (λ parts. StandsOn O.ObjectStore number parts (D.file disk.new) (first_here header.now number)) }

@@ -1,4 +1,4 @@
-// A node's parts over the shadow store, whose room never falls.
+// A node's parts over any object store, as a node wants them.
 use crate::{NodeParts, beginnings};
 use arj_base::Class;
 use arj_core::CoreFault;
@@ -6,15 +6,15 @@ use arj_disk::Disk;
 use arj_journal as journal;
 use arj_msg::Message;
 use arj_node::{Act, Outgoings, Parts};
-use arj_store::{ObjectStore, ShadowStore};
+use arj_store::ObjectStore;
 use std::alloc::{AllocError, Global};
 
-impl Parts for NodeParts<ShadowStore> {
+impl<O: ObjectStore + Drop> Parts for NodeParts<O> {
     ghost use Rattle.arj_parts.specs.Kept.{RestsOn, StandsOn};
 
-    ghost stands = { λ header n p file h. StandsOn ⟦<ShadowStore as ObjectStore>⟧ n p file h };
+    ghost stands = { λ header n p file h. StandsOn O.ObjectStore n p file h };
 
-    ghost rests = { λ header n file d. RestsOn ⟦<ShadowStore as ObjectStore>⟧ n file d };
+    ghost rests = { λ header n file d. RestsOn O.ObjectStore n file d };
 
     fn format<D: Disk>(
         alloc: Global,

@@ -27,4 +27,4 @@ returns-clause-stands g c =
     subst (λ p. StandsOn g.O.ObjectStore n p three (first_here hd n)) are
     (first_stands g.O.ObjectStore g.met.O.ObjectStore.keeps_on g.met.O.ObjectStore.stays (g.D.Disk.file c.args.disk.now) (g.D.Disk.file c.format.new.disk) (g.D.Disk.file c.first_naming.new.disk) three n hd c.requires.empty c.in_ok-store.ensures.others c.in_ok-naming.ensures.others
     c.in_ok-store.ensures.formed c.in_ok-store.ensures.pair c.in_ok-store.store c.in_ok-store.ensures.role c.in_ok-store.ensures.keeps c.in_ok-naming.naming
-    c.requires.roomy c.requires.form c.in_ok-naming.ensures.has c.in_ok-naming.ensures.pair c.in_ok-naming.ensures.gives c.in_ok-naming.ensures.formed c.in_ok-format_inc.ensures.formed c.in_ok-format_inc.ensures.first c.in_ok-format_inc.ensures.roles)
+    c.requires.form c.in_ok-naming.ensures.has c.in_ok-naming.ensures.pair c.in_ok-naming.ensures.gives c.in_ok-naming.ensures.formed c.in_ok-format_inc.ensures.formed c.in_ok-format_inc.ensures.first c.in_ok-format_inc.ensures.roles)

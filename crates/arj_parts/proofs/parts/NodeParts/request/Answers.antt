@@ -28,15 +28,15 @@ returns-clause-done g c =
       | in-Ok-None w ↦ subst (λ r. IfOk r (Takes o (asked_here c.args.from c.args.m.now) (by_outs c.match-serve.outs c.args.self.now))) (sym w.result-is)
           (subst (λ outs. Takes o (asked_here c.args.from c.args.m.now) (by_outs outs c.args.self.now) false) (sym w.outs-is)
           (subst (λ k. Takes o (asked_here c.args.from c.args.m.now) (by_outs c.args.outs.now k) false) c.self.view_is
-          (λ n h stands. request_void o g.met.O.ObjectStore.stays c.self.inside.services c.serve.new.self c.self.inside.coord c.self.inside.records file left c.new-lines.result c.serve.new.out c.new-lines.ensures c.args.m.now c.args.from 0 c.serve.ensures.leaves n h stands
-          (subst (Serves o c.args.m.now (the_call o g.met.O.ObjectStore.stays c.self.inside.services c.serve.new.self c.self.inside.coord c.self.inside.records file left c.new-lines.result c.serve.new.out c.new-lines.ensures c.args.m.now c.args.from 0 c.serve.ensures.leaves)) w.in-Ok-None.field-0-is w.in-Ok-None.ensures.done)
+          (λ n h stands. request_void o g.met.O.ObjectStore.stays c.self.inside.services c.serve.new.self c.self.inside.coord c.self.inside.records file left c.new-lines.result c.serve.new.out c.new-lines.ensures c.args.m.now c.args.from c.serve.ensures.leaves n h stands
+          (subst (Serves o c.args.m.now (the_call o g.met.O.ObjectStore.stays c.self.inside.services c.serve.new.self c.self.inside.coord c.self.inside.records file left c.new-lines.result c.serve.new.out c.new-lines.ensures c.args.m.now c.args.from c.serve.ensures.leaves)) w.in-Ok-None.field-0-is w.in-Ok-None.ensures.done)
           c.args.outs.now)))
       | in-Ok-Some+in_ok-say_lines-in-Ok-Some+in_ok-send-in-Ok-Some w ↦ subst (λ r. IfOk r (Takes o (asked_here c.args.from c.args.m.now) (by_outs c.match-serve.outs c.args.self.now))) (sym w.result-is)
           (subst (λ outs. Takes o (asked_here c.args.from c.args.m.now) (by_outs outs c.args.self.now) true) (sym w.outs-is)
           (subst (λ k. Takes o (asked_here c.args.from c.args.m.now) (by_outs w.send.new.self k) true) c.self.view_is
-          (λ n h stands. request_takes o g.met.O.ObjectStore.stays c.self.inside.services c.serve.new.self c.self.inside.coord c.self.inside.records file left c.new-lines.result c.serve.new.out c.new-lines.ensures c.args.m.now c.args.from 0 c.serve.ensures.leaves n h stands
+          (λ n h stands. request_takes o g.met.O.ObjectStore.stays c.self.inside.services c.serve.new.self c.self.inside.coord c.self.inside.records file left c.new-lines.result c.serve.new.out c.new-lines.ensures c.args.m.now c.args.from c.serve.ensures.leaves n h stands
           w.in-Ok-Some.answer
-          (subst (Serves o c.args.m.now (the_call o g.met.O.ObjectStore.stays c.self.inside.services c.serve.new.self c.self.inside.coord c.self.inside.records file left c.new-lines.result c.serve.new.out c.new-lines.ensures c.args.m.now c.args.from 0 c.serve.ensures.leaves)) w.in-Ok-Some.field-0-is w.in-Ok-Some.ensures.done)
+          (subst (Serves o c.args.m.now (the_call o g.met.O.ObjectStore.stays c.self.inside.services c.serve.new.self c.self.inside.coord c.self.inside.records file left c.new-lines.result c.serve.new.out c.new-lines.ensures c.args.m.now c.args.from c.serve.ensures.leaves)) w.in-Ok-Some.field-0-is w.in-Ok-Some.ensures.done)
           c.args.outs.now w.send.new.self
           (one_more (of.Send c.args.from w.in-Ok-Some.answer) w.say_lines.new.outs w.send.new.self w.in_ok-send-in-Ok-Some.ensures
           ∙ (ap (λ es. es ++ Send c.args.from w.in-Ok-Some.answer ∷ []) w.in_ok-say_lines-in-Ok-Some.ensures
@@ -58,7 +58,7 @@ returns-clause-halted g c =
       | in-Err-Stopped+in_ok-say_lines-in-Err-Stopped w ↦ λ halted.
           subst (λ outs. Halts o (λ n h. outs_of (asked_here c.args.from c.args.m.now n h)) (by_outs outs c.args.self.now)) (sym w.outs-is)
           (subst (λ k. Halts o (λ n h. outs_of (asked_here c.args.from c.args.m.now n h)) (by_outs w.say_lines-in-Err-Stopped.new.outs k)) c.self.view_is
-          (λ n h stands. request_halts o g.met.O.ObjectStore.stays c.self.inside.services c.serve.new.self c.self.inside.coord c.self.inside.records file left c.new-lines.result c.serve.new.out c.new-lines.ensures c.args.m.now c.args.from 0 c.serve.ensures.leaves n h stands
+          (λ n h stands. request_halts o g.met.O.ObjectStore.stays c.self.inside.services c.serve.new.self c.self.inside.coord c.self.inside.records file left c.new-lines.result c.serve.new.out c.new-lines.ensures c.args.m.now c.args.from c.serve.ensures.leaves n h stands
           (w.in-Err-Stopped.ensures.stopped (ap Err w.in-Err-Stopped.field-0-is)) c.args.outs.now w.say_lines-in-Err-Stopped.new.outs w.in_ok-say_lines-in-Err-Stopped.ensures))
       | in-Err-Memory w ↦ λ halted. let never : Err fault.Memory ≡ Err fault.Halted = sym w.result-is ∙ halted in absurd (cc never)
     ]

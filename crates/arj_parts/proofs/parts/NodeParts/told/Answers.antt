@@ -27,7 +27,7 @@ returns-clause-done g c =
       | in-Ok+in_ok-say_lines-in-Ok+in_ok-send_back-in-Ok w ↦ subst (λ r. OnOk r (Takes o (other_here c.args.from (message.Told c.args.m.now)) (by_outs c.match-told.outs c.args.self.now) true)) (sym w.result-is)
           (subst (λ outs. Takes o (other_here c.args.from (message.Told c.args.m.now)) (by_outs outs c.args.self.now) true) (sym w.outs-is)
           (subst (λ k. Takes o (other_here c.args.from (message.Told c.args.m.now)) (by_outs w.send_back.new.outs k) true) c.self.view_is
-          (λ n h stands. handled_takes o g.met.O.ObjectStore.stays c.self.inside.services c.told.new.self c.self.inside.coord c.self.inside.records file left c.new-lines.result c.told.new.out c.new-lines.ensures (message.Told c.args.m.now) c.args.from 2 c.told.ensures.leaves n h stands
+          (λ n h stands. handled_takes o g.met.O.ObjectStore.stays c.self.inside.services c.told.new.self c.self.inside.coord c.self.inside.records file left c.new-lines.result c.told.new.out c.new-lines.ensures (message.Told c.args.m.now) c.args.from c.told.ensures.leaves n h stands
           (λ from. sent_to from w.in-Ok.answer) (told_states n h.disk h.parts c.args.from c.args.m.now) w.in-Ok.ensures.done c.args.outs.now w.send_back.new.outs
           (w.in_ok-send_back-in-Ok.ensures ∙ (ap (λ es. es ++ sends (sent_to c.args.from w.in-Ok.answer)) w.in_ok-say_lines-in-Ok.ensures
           ∙ append_assoc (effects_of c.args.outs.now) (says_of c.told.new.out) (sends (sent_to c.args.from w.in-Ok.answer)))))))
@@ -47,7 +47,7 @@ returns-clause-halted g c =
       | in-Err-Stopped+in_ok-say_lines-in-Err-Stopped w ↦ λ halted.
           subst (λ outs. Halts o (λ n h. outs_of (other_here c.args.from (message.Told c.args.m.now) n h)) (by_outs outs c.args.self.now)) (sym w.outs-is)
           (subst (λ k. Halts o (λ n h. outs_of (other_here c.args.from (message.Told c.args.m.now) n h)) (by_outs w.say_lines-in-Err-Stopped.new.outs k)) c.self.view_is
-          (λ n h stands. handled_halts o g.met.O.ObjectStore.stays c.self.inside.services c.told.new.self c.self.inside.coord c.self.inside.records file left c.new-lines.result c.told.new.out c.new-lines.ensures (message.Told c.args.m.now) c.args.from 2 c.told.ensures.leaves n h stands
+          (λ n h stands. handled_halts o g.met.O.ObjectStore.stays c.self.inside.services c.told.new.self c.self.inside.coord c.self.inside.records file left c.new-lines.result c.told.new.out c.new-lines.ensures (message.Told c.args.m.now) c.args.from c.told.ensures.leaves n h stands
           (told_states n h.disk h.parts c.args.from c.args.m.now) (w.in-Err-Stopped.ensures.stopped (ap Err w.in-Err-Stopped.field-0-is)) c.args.outs.now w.say_lines-in-Err-Stopped.new.outs w.in_ok-say_lines-in-Err-Stopped.ensures))
       | in-Err-Memory w ↦ λ halted. let never = sym w.result-is ∙ halted in absurd (cc never)
     ]
