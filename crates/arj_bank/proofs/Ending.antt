@@ -13,6 +13,11 @@ pub if_ok_with : {T E : Type 0} (r : Result T E) (P R : T → Type 0) (Q : Type 
 if_ok_with (Ok value) P R Q f p q = f value p q
 if_ok_with (Err fault) P R Q f p q = tt
 
+-- what an Ok value is, it is by other words
+pub if_ok_so : {T E : Type 0} (r : Result T E) (P R : T → Type 0) → ((value : T) → P value → R value) → IfOk r P → IfOk r R
+if_ok_so (Ok value) P R f p = f value p
+if_ok_so (Err fault) P R f p = tt
+
 -- no disk was read
 pub read_none : {D : Type 0} (d : disk.Ghosts D) (rack : List D) → HaveBeenRead d rack rack
 read_none d rack = record { files = refl; moved = moved_none d NODES rack }

@@ -1,15 +1,19 @@
 -- Reads leave all files as they are, and balances add up.
 use Rattle.std.proofs.Common.{◌≡◌, ℕ, zero, suc, ◌+◌, ◌-◌, List, [], ◌∷◌, true, false, Option, Some, None, if◌then◌else◌, refl, sym, ◌∙◌, ap, subst}
-use Rattle.std.specs.Prelude.{◌≤◌, nat_le, slice_get, slice_set}
+use Rattle.std.specs.Prelude.{◌≤◌, IsSome, nat_le, slice_get, slice_set}
 use Rattle.std.proofs.Common.{arith}
 use Rattle.std.proofs.lemmas.Bool.{and_parts}
 use Rattle.arj_gen.specs.declared.bank.TheConstants.{NODES}
 use Rattle.std.proofs.Math.Numerals.{add-one}
-use Rattle.arj_bank.specs.Balances.{AddUpTo, Holds, IsBalance, capped, node_files, files_in, is_number, no_files}
-use Rattle.arj_base.specs.declared.state.ObjectState.{ObjectState}
+use Rattle.arj_bank.specs.Balances.{AddUpTo, Held, IsBalance, capped, files_in, held_by, is_number, no_files, node_files}
 use Rattle.arj_base.specs.declared.uid.Uid.{Uid}
 use Rattle.arj_disk.specs.Disk.{Same}
 use Rattle.arj_disk.specs.FileMap.{FileMap}
+use Rattle.arj_disk.specs.Says.{slot_role}
+use Rattle.arj_disk.specs.declared.slot.Role.{Role}
+use Rattle.arj_disk.specs.declared.slot.Slot.{Slot}
+use Rattle.arj_store.specs.Pair.{HasOnly, Packs, Pair}
+use Rattle.arj_store.specs.declared.store.ObjectStore.{Ghosts}
 use Rattle.arj_world.proofs.Disks.{some_one}
 
 -- a number of a node of the bank
@@ -37,11 +41,17 @@ module _ {D : Type 0} (file : D → FileMap) where
   pub no_files_of : (node : ℕ) (rack : List D) → is_number node ≡ false → node_files file rack node ≡ no_files
   no_files_of node rack is = λ i. if is i then files_in file (slice_get rack (node - 1)) else no_files
 
-pub holds_by : (old new : FileMap) (uid : Uid) (state : Option ObjectState) → new ≡ old → Holds old uid state → Holds new uid state
-holds_by old new uid state same h = subst (λ f. Holds f uid state) (sym same) h
+-- what the store's trait promises of files among which there is none of a role
+abbrev pub IsBlank : {O : Type 0} → Ghosts O → Type 0
+IsBlank o = (r : Role) (file : FileMap) → ((q : Slot) → slot_role q ≡ Some r → file q ≡ None) → o.formed file r × HasOnly (o.pair file r) []
 
-pub holds_none : (file : FileMap) (uid : Uid) → file ≡ no_files → Holds file uid None
-holds_none file uid same = holds_by no_files file uid None same refl
+only_none : (p : Pair) → HasOnly p [] → (uid : Uid) (bytes : Option (List ℕ)) → p.held uid ≡ bytes → Packs bytes None
+only_none p only uid None is = refl
+only_none p only uid (Some bytes) is = absurd (only.others uid (subst IsSome (sym is) tt))
 
-pub add_more : (files now : ℕ → FileMap) (k before balance sum : ℕ) → now ≡ files → AddUpTo files k before → IsBalance now (k + 1) balance → sum ≡ capped (before + balance) → AddUpTo files (k + 1) sum
-add_more files now k before balance sum same adds is sum_is = subst (λ j. AddUpTo files j sum) (sym (add-one k)) (before, balance, adds, subst (λ f. IsBalance f (k + 1) balance) same is, sum_is)
+-- of no files a store reads no state
+pub packs_none : {O : Type 0} (o : Ghosts O) → IsBlank o → (file : FileMap) (r : Role) (uid : Uid) → file ≡ no_files → Packs (held_by o file r uid) None
+packs_none o blank file r uid same = subst (λ f. Packs (held_by o f r uid) None) (sym same) (only_none (o.pair no_files r) (blank r no_files (λ q of. refl)).1 uid (held_by o no_files r uid) refl)
+
+pub add_more : (held now : Held) (k before balance sum : ℕ) → now ≡ held → AddUpTo held k before → IsBalance now (k + 1) balance → sum ≡ capped (before + balance) → AddUpTo held (k + 1) sum
+add_more held now k before balance sum same adds is sum_is = subst (λ j. AddUpTo held j sum) (sym (add-one k)) (before, balance, adds, subst (λ h. IsBalance h (k + 1) balance) same is, sum_is)

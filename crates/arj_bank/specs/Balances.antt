@@ -1,6 +1,5 @@
 -- What the disks hold of the bank.
 use Rattle.std.specs.Prelude.{ℕ, zero, suc, ◌≡◌, ◌+◌, ◌-◌, ◌&&◌, Bool, List, [], ◌∷◌, Option, Some, None, slice_get, nat_le, nat_lt, if◌then◌else◌}
-use Rattle.arj_base.specs.State.{StateInForm, state_bytes}
 use Rattle.arj_base.specs.Uid.{entry, object}
 use Rattle.arj_base.specs.declared.state.Class.{Class}
 use Rattle.arj_base.specs.declared.state.ObjectState.{ObjectState}
@@ -10,10 +9,14 @@ use Rattle.arj_class.specs.Table.{class_of}
 use Rattle.arj_class.specs.declared.value.Value.{Value}
 use Rattle.arj_class.specs.declared.value.Value.TheVariants.{Account}
 use Rattle.arj_disk.specs.FileMap.{FileMap}
-use Rattle.arj_disk.specs.declared.slot.Slot.TheVariants.{Committed}
+use Rattle.arj_disk.specs.declared.disk.Disk as disk
+use Rattle.arj_disk.specs.declared.slot.Role.{Role}
+use Rattle.arj_disk.specs.declared.slot.Role.TheVariants as role
 use Rattle.arj_entry.specs.Entry.{EntryInForm, entry_payload}
 use Rattle.arj_entry.specs.declared.entry.Entry.{Entry}
 use Rattle.arj_gen.specs.declared.bank.TheConstants.{NODES}
+use Rattle.arj_store.specs.Pair.{Packs}
+use Rattle.arj_store.specs.declared.store.ObjectStore as store
 use Rattle.arj_text.specs.Fields.{IsRead}
 
 -- ---- files
@@ -37,14 +40,30 @@ node_files file rack node = if is_number node then files_in file (slice_get rack
 
 -- ---- states
 
--- the state that a file packs: none where there is no file, or it packs no state
-abbrev pub Packs : Option (List ℕ) → Option ObjectState → Type 0
-Packs None state = state ≡ None
-Packs (Some bytes) state = IsRead StateInForm state_bytes bytes state
+-- what files hold: the committed states of both roles, packed, by their Uids
+abbrev pub Holds : Type 0
+Holds = FileMap → Role → Uid → Option (List ℕ)
 
--- the committed state of an object or an entry, among these files
-abbrev pub Holds : FileMap → Uid → Option ObjectState → Type 0
-Holds file uid state = Packs (file (Committed uid)) state
+-- as an object store reads them
+abbrev pub held_by : {O : Type 0} → store.Ghosts O → Holds
+held_by o file r uid = (let p = o.pair file r in p.held uid)
+
+-- Disks that are read: what is said of a disk, and what its files hold.
+pub record Reader (D : Type 0) : Type 0 where
+  pub disk : disk.Ghosts D
+  pub holds : Holds
+
+-- those, of these
+abbrev pub reader : {D : Type 0} → disk.Ghosts D → Holds → Reader D
+reader d holds = record { disk = d; holds = holds }
+
+-- what the disk of each node holds
+abbrev pub Held : Type 0
+Held = ℕ → Role → Uid → Option (List ℕ)
+
+-- with these disks
+abbrev pub node_holds : {D : Type 0} → Reader D → List D → Held
+node_holds r rack node = r.holds (node_files (let d = r.disk in d.file) rack node)
 
 -- ---- entries
 
@@ -86,13 +105,13 @@ HasBalance (Some state) balance = (found : Option Value) × IsRead (IsOfClass st
 
 -- The balance of account x: that of its committed state on the first store that its entry, committed at node 1, lists. It is
 -- 0 where one of these isn't there.
-pub record IsBalance (files : ℕ → FileMap) (x balance : ℕ) : Type 0 where
+pub record IsBalance (held : Held) (x balance : ℕ) : Type 0 where
   pub named : Option ObjectState
-  pub named_is : Holds (files 1) (entry x) named
+  pub named_is : Packs (held 1 role.Names (entry x)) named
   pub store : ℕ
   pub listed : ListsFirst named store
   pub state : Option ObjectState
-  pub state_is : Holds (files store) (object x) state
+  pub state_is : Packs (held store role.Store (object x)) state
   pub balance_is : HasBalance state balance
 
 -- a sum of 64 bits: it stands still at the largest number
@@ -100,6 +119,6 @@ abbrev pub capped : ℕ → ℕ
 capped n = if nat_lt n 18446744073709551616 then n else 18446744073709551615
 
 -- the balances of the first so many accounts add up to this sum
-abbrev pub AddUpTo : (ℕ → FileMap) → ℕ → ℕ → Type 0
-AddUpTo files zero sum = sum ≡ 0
-AddUpTo files (suc k) sum = (before : ℕ) × (balance : ℕ) × AddUpTo files k before × IsBalance files (k + 1) balance × (sum ≡ capped (before + balance))
+abbrev pub AddUpTo : Held → ℕ → ℕ → Type 0
+AddUpTo held zero sum = sum ≡ 0
+AddUpTo held (suc k) sum = (before : ℕ) × (balance : ℕ) × AddUpTo held k before × IsBalance held (k + 1) balance × (sum ≡ capped (before + balance))

@@ -1,7 +1,7 @@
 -- Runs of the generated bank on a machine.
 use Rattle.std.specs.Prelude.{ℕ, ◌≡◌, ◌≢◌, ◌⊎◌, List, [], ◌∷◌, ◌++◌, true, false, length, map, take, Option, Some, None}
 use Rattle.std.specs.List.{AllByRecursion}
-use Rattle.arj_bank.specs.Balances.{AddUpTo, node_files}
+use Rattle.arj_bank.specs.Balances.{AddUpTo, Reader, node_files, node_holds}
 use Rattle.arj_bank.specs.Summary.{summary_of, summary_text}
 use Rattle.arj_disk.specs.FileMap.{FileMap}
 use Rattle.arj_disk.specs.declared.disk.Disk as disk
@@ -102,8 +102,8 @@ pub record EndsAtLimit {D M : Type 0} (m : Ghosts M D) (n : ℕ) (first : List D
   pub ended : AtLimit m (task first bank_header events) now
 
 -- these bytes are the summary of a run of so many events that left these disks and this journal
-abbrev pub SumsUp : {D : Type 0} → (D → FileMap) → ℕ → List D → List Line → List ℕ → Type 0
-SumsUp file events rack journal bytes = (sum : ℕ) × AddUpTo (node_files file rack) ACCOUNTS sum × (bytes ≡ summary_text (summary_of events journal sum))
+abbrev pub SumsUp : {D : Type 0} → Reader D → ℕ → List D → List Line → List ℕ → Type 0
+SumsUp r events rack journal bytes = (sum : ℕ) × AddUpTo (node_holds r rack) ACCOUNTS sum × (bytes ≡ summary_text (summary_of events journal sum))
 
 -- Disks were read: their files are as they were, and none of them was armed, nor any disk touched that is no node's of the bank.
 pub record HaveBeenRead {D : Type 0} (d : disk.Ghosts D) (before after : List D) : Type 0 where
@@ -112,12 +112,12 @@ pub record HaveBeenRead {D : Type 0} (d : disk.Ghosts D) (before after : List D)
 
 -- The whole bank of n was run, and these bytes are its summary. The sum was read from the disks that the run left. None of them
 -- was stopped.
-pub record IsSummary {D M : Type 0} (m : Ghosts M D) (d : disk.Ghosts D) (n : ℕ) (first : List D) (now : Left D M) (bytes : List ℕ) : Type 0 where
+pub record IsSummary {D M : Type 0} (m : Ghosts M D) (r : Reader D) (n : ℕ) (first : List D) (now : Left D M) (bytes : List ℕ) : Type 0 where
   pub mid : List D
   pub ran : RanBank m n first (left mid now.journal now.machine)
-  pub sums : SumsUp d.file (length (event_lines n)) mid now.journal bytes
-  pub read : HaveBeenRead d mid now.rack
-  pub unstopped : HaveNotStopped d mid now.rack
+  pub sums : SumsUp r (length (event_lines n)) mid now.journal bytes
+  pub read : HaveBeenRead r.disk mid now.rack
+  pub unstopped : HaveNotStopped r.disk mid now.rack
 
 -- The whole bank of n was run, and a disk was stopped while the sum was read.
 pub record StopsAtSum {D M : Type 0} (m : Ghosts M D) (d : disk.Ghosts D) (n : ℕ) (first : List D) (now : Left D M) : Type 0 where
@@ -153,16 +153,16 @@ abbrev pub left_by : {D M : Type 0} → Outside D → Answer M → Left D M
 left_by after answer = left after.rack answer.journal answer.machine
 
 -- A run of `generate n`: what it found and left outside of it, and what it answers, status by status.
-pub record Generates {D M : Type 0} (m : Ghosts M D) (d : disk.Ghosts D) (n : ℕ) (before after : Outside D) (answer : Answer M) : Type 0 where
+pub record Generates {D M : Type 0} (m : Ghosts M D) (r : Reader D) (n : ℕ) (before after : Outside D) (answer : Answer M) : Type 0 where
   -- the sink took the summary
-  pub summed : answer.status ≡ 0 → (text : List ℕ) × IsSummary m d n before.rack (left_by after answer) text × Takes before.taken text after.taken
+  pub summed : answer.status ≡ 0 → (text : List ℕ) × IsSummary m r n before.rack (left_by after answer) text × Takes before.taken text after.taken
   -- a write failed: the sink took a front of it
-  pub front : answer.status ≡ 4 → (text : List ℕ) × (count : ℕ) × IsSummary m d n before.rack (left_by after answer) text × Takes before.taken (take count text) after.taken
+  pub front : answer.status ≡ 4 → (text : List ℕ) × (count : ℕ) × IsSummary m r n before.rack (left_by after answer) text × Takes before.taken (take count text) after.taken
   -- else it took nothing
   pub unwritten : answer.status ≢ 0 → answer.status ≢ 4 → after.taken ≡ before.taken
-  pub memory : answer.status ≡ 5 → WantsMemory m d n before.rack after.rack
+  pub memory : answer.status ≡ 5 → WantsMemory m r.disk n before.rack after.rack
   pub limit : answer.status ≡ 6 → EndsAtLimit m n before.rack (left_by after answer)
-  pub stopped : answer.status ≡ 7 → StopsBank m d n before.rack (left_by after answer)
+  pub stopped : answer.status ≡ 7 → StopsBank m r.disk n before.rack (left_by after answer)
   -- these aren't answered: the words are a command line, and nothing is read
   pub never : (answer.status ≢ 1) × (answer.status ≢ 2) × (answer.status ≢ 3)
   pub unread : (after.left ≡ before.left) × (after.faults ≡ before.faults)

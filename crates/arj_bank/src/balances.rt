@@ -1,47 +1,18 @@
 // What the disks hold of the bank.
 ghost use Rattle.std.specs.Prelude.{◌≡◌, ◌+◌, [], Some, IfOk, IsErrOf, OnOk};
-ghost use Rattle.arj_base.specs.State.{StateInForm, state_bytes};
-ghost use Rattle.arj_bank.specs.Balances.{AddUpTo, HasBalance, Holds, IsBalance, ListsFirst, capped, node_files, first_node, is_number, number_in};
-ghost use Rattle.arj_disk.specs.Counted.{counts};
-ghost use Rattle.arj_disk.specs.Disk.{CountsCall, Same};
+ghost use Rattle.arj_bank.specs.Balances.{AddUpTo, HasBalance, IsBalance, ListsFirst, capped, first_node, held_by, is_number, node_files, node_holds, number_in, reader};
 ghost use Rattle.arj_gen.specs.declared.bank.TheConstants.{NODES};
-ghost use Rattle.arj_text.specs.Fields.{IsRead};
+ghost use Rattle.arj_store.specs.Pair.{Packs};
+ghost use Rattle.arj_store.specs.declared.answer.StoreFault.{StoreFault};
 ghost use Rattle.arj_world.specs.Disks.{HasStopped, HaveMoved, HaveNotStopped};
 
-use arj_base::{ObjectState, StateFault, Uid, entry_uid, object_uid, unpack};
+use arj_base::{ObjectState, Uid, entry_uid, object_uid};
 use arj_class::{ClassFault, Value};
-use arj_disk::{Disk, DiskFault, Rack, Slot};
+use arj_disk::{Disk, Rack, Role};
 use arj_entry::Entry;
 use arj_gen::{ACCOUNTS, NODES};
+use arj_store::{ObjectStore, StoreFault};
 use std::alloc::{AllocError, Global};
-
-// The state that bytes pack, if they pack one.
-fn state_in(alloc: Global, bytes: &[u8]) -> Result<Option<ObjectState>, AllocError>
-    ensures { IfOk result (λ state. IsRead StateInForm state_bytes bytes.now state) }
-{
-    match unpack(alloc, bytes) {
-        Ok(state) => Ok(Some(state)),
-        Err(StateFault::Memory) => Err(AllocError),
-        Err(_) => Ok(None),
-    }
-}
-
-// The committed state that a disk has of an object or an entry.
-fn committed<D: Disk>(
-    alloc: Global,
-    disk: &mut D,
-    uid: Uid,
-) -> Result<Option<ObjectState>, DiskFault>
-    ensures holds { IfOk result (λ state. Holds (D.file disk.old) uid state) }
-    ensures files { Same (D.file disk.old) (D.file disk.new) }
-    ensures counts { CountsCall (counts D.Disk disk.old) (counts D.Disk disk.new) result DiskFault.Stopped }
-{
-    let Some(bytes) = disk.read(alloc, Slot::Committed(uid))? else {
-        return Ok(None);
-    };
-    let state = state_in(alloc, bytes.as_slice())?;
-    Ok(state)
-}
 
 // Whether a number is that of a node of the bank.
 fn is_number(node: u8) -> bool
@@ -50,24 +21,25 @@ fn is_number(node: u8) -> bool
     1 <= node && node <= NODES
 }
 
-// The same of a node's disk. There is none for a number that is no node of the bank.
+// The committed state that the disk of a node has of an object or an entry. There is no disk for a number that is no node of the bank.
 #[tactic(auto, using(arj_world::proofs::Disks::moved_call, arj_world::proofs::Disks::moved_none, arj_world::proofs::Disks::stopped_at, arj_world::proofs::Disks::unstopped_none))]
-fn committed_at<D: Disk>(
+fn committed_at<D: Disk, O: ObjectStore>(
     alloc: Global,
     rack: &mut Rack<D>,
     node: u8,
+    role: Role,
     uid: Uid,
-) -> Result<Option<ObjectState>, DiskFault>
-    ensures holds { IfOk result (λ state. Holds (node_files D.file rack.old node) uid state) }
+) -> Result<Option<ObjectState>, StoreFault>
+    ensures packs { IfOk result (λ state. Packs (held_by O.ObjectStore (node_files D.file rack.old node) role uid) state) }
     ensures files { node_files D.file rack.new ≡ node_files D.file rack.old }
     ensures moved { HaveMoved D.Disk NODES [] rack.old rack.new }
-    ensures stopped { IsErrOf result DiskFault.Stopped → HasStopped D.Disk rack.old rack.new }
+    ensures stopped { IsErrOf result StoreFault.Stopped → HasStopped D.Disk rack.old rack.new }
     ensures unstopped { OnOk result (HaveNotStopped D.Disk rack.old rack.new) }
 {
     if !is_number(node) {
         return Ok(None);
     }
-    committed(alloc, rack.disk(node), uid)
+    O::look(alloc, rack.disk(node), role, uid)
 }
 
 // The first of these nodes, 0 where there is none.
@@ -119,16 +91,20 @@ fn balance_of(alloc: Global, state: Option<ObjectState>) -> Result<u64, AllocErr
 }
 
 // The balance of an account: of its committed state on the first store that naming lists for it, 0 where there is none.
-fn balance<D: Disk>(alloc: Global, rack: &mut Rack<D>, x: u16) -> Result<u64, DiskFault>
-    ensures balance { IfOk result (λ balance. IsBalance (node_files D.file rack.old) x balance) }
+fn balance<D: Disk, O: ObjectStore>(
+    alloc: Global,
+    rack: &mut Rack<D>,
+    x: u16,
+) -> Result<u64, StoreFault>
+    ensures balance { IfOk result (λ balance. IsBalance (node_holds (reader D.Disk (held_by O.ObjectStore)) rack.old) x balance) }
     ensures files { node_files D.file rack.new ≡ node_files D.file rack.old }
     ensures moved { HaveMoved D.Disk NODES [] rack.old rack.new }
-    ensures stopped { IsErrOf result DiskFault.Stopped → HasStopped D.Disk rack.old rack.new }
+    ensures stopped { IsErrOf result StoreFault.Stopped → HasStopped D.Disk rack.old rack.new }
     ensures unstopped { OnOk result (HaveNotStopped D.Disk rack.old rack.new) }
 {
-    let named = committed_at(alloc, rack, 1, entry_uid(x))?;
+    let named = committed_at::<D, O>(alloc, rack, 1, Role::Names, entry_uid(x))?;
     let store = first_store(alloc, named)?;
-    match committed_at(alloc, rack, store, object_uid(x)) {
+    match committed_at::<D, O>(alloc, rack, store, Role::Store, object_uid(x)) {
         Ok(state) => {
             let balance = balance_of(alloc, state)?;
             Ok(balance)
@@ -144,18 +120,18 @@ fn added(sum: u64, balance: u64) -> u64
     sum.saturating_add(balance)
 }
 
-/// The sum of the balances of all accounts, each read from the first store that naming lists for it. It stands still at the
-/// largest number of 64 bits. Stopped: a disk was stopped.
-pub fn sum<D: Disk>(alloc: Global, rack: &mut Rack<D>) -> Result<u64, DiskFault>
-    ensures sum { IfOk result (λ sum. AddUpTo (node_files D.file rack.old) ACCOUNTS sum) }
+/// The sum of the balances of all accounts, each read by this object store from the first store that naming lists for it. It
+/// stands still at the largest number of 64 bits. Stopped: a disk was stopped.
+pub fn sum<D: Disk, O: ObjectStore>(alloc: Global, rack: &mut Rack<D>) -> Result<u64, StoreFault>
+    ensures sum { IfOk result (λ sum. AddUpTo (node_holds (reader D.Disk (held_by O.ObjectStore)) rack.old) ACCOUNTS sum) }
     ensures files { node_files D.file rack.new ≡ node_files D.file rack.old }
     ensures moved { HaveMoved D.Disk NODES [] rack.old rack.new }
-    ensures stopped { IsErrOf result DiskFault.Stopped → HasStopped D.Disk rack.old rack.new }
+    ensures stopped { IsErrOf result StoreFault.Stopped → HasStopped D.Disk rack.old rack.new }
     ensures unstopped { OnOk result (HaveNotStopped D.Disk rack.old rack.new) }
 {
     let mut sum: u64 = 0;
     for k in 0..ACCOUNTS {
-        match balance(alloc, rack, k + 1) {
+        match balance::<D, O>(alloc, rack, k + 1) {
             Ok(balance) => sum = added(sum, balance),
             Err(fault) => return Err(fault),
         }

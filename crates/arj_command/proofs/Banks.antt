@@ -5,7 +5,7 @@ use Rattle.std.proofs.lemmas.List.{append-nil}
 use Rattle.arj_bank.specs.Bank.{AreOfBank, ComesSoFar, EndsAtLimit, Generates, HaveBeenRead, IsSummary, RanBank, left}
 use Rattle.arj_bank.proofs.Ending.{read_none}
 use Rattle.arj_command.specs.Facts.{Facts, behind}
-use Rattle.arj_command.specs.Outcome.{BankHeadline, FrontShows, RanOfBank, Said, around, world_of}
+use Rattle.arj_command.specs.Outcome.{BankHeadline, FrontShows, RanOfBank, Said, around, holds, world_of}
 use Rattle.arj_command.proofs.Shows.{behind_none, facts_of}
 use Rattle.arj_core.specs.declared.node.Core as core
 use Rattle.arj_disk.specs.FileMap.{FileMap}
@@ -22,7 +22,7 @@ use Rattle.arj_law_nodes.specs.nodes.Banks.{BankFrontsShow, BankLimitsShow, Bank
 use Rattle.arj_law_nodes.specs.nodes.Last.{EndsBehind}
 use Rattle.arj_law_nodes.specs.nodes.Promised.{ShowsThePromise}
 use Rattle.arj_law_nodes.specs.nodes.Readings.{Reads, files_at, readings_of}
-use Rattle.arj_bank.specs.Balances.{files_in, is_number, no_files, node_files}
+use Rattle.arj_bank.specs.Balances.{files_in, is_number, no_files, node_files, reader}
 use Rattle.arj_promise.specs.Excluded.{DisksAreInTime}
 use Rattle.arj_promise.specs.Disks.{DisksAre}
 use Rattle.arj_start.specs.Start.{none_written}
@@ -144,7 +144,7 @@ module _ {C D : Type 0} (c : core.Ghosts C) (d : disk.Ghosts D) where
     some_status (suc (suc (suc (suc (suc (suc (suc zero))))))) few one two three = inr (inr (inr (inr refl)))
     some_status (suc (suc (suc (suc (suc (suc (suc (suc n)))))))) few one two three = absurd (omega (arith, few))
 
-    pub bank_headline : (n : ℕ) (before after : Outside D) (says : Said C) (nodes : Option (AllNodes C)) → Generates (all_nodes c d) d n before after (answer says.status says.why says.journal nodes) → says.status ≤ 7
+    pub bank_headline : (n : ℕ) (before after : Outside D) (says : Said C) (nodes : Option (AllNodes C)) → Generates (all_nodes c d) (reader d (holds read)) n before after (answer says.status says.why says.journal nodes) → says.status ≤ 7
         → BanksShow c d read → BankLimitsShow c d read → BankFrontsShow c d read → says.world ≡ world_of nodes → BankHeadline c d read n (around before after) says
     bank_headline n before after says nodes g few whole limits fronts world = record {
       nodes = nodes;
@@ -157,7 +157,7 @@ module _ {C D : Type 0} (c : core.Ghosts C) (d : disk.Ghosts D) where
         kinds : (says.status ≡ 0) ⊎ ((says.status ≡ 4) ⊎ ((says.status ≡ 5) ⊎ ((says.status ≡ 6) ⊎ (says.status ≡ 7))))
         kinds = let never = g.never in some_status says.status few never.0 never.1 never.2
 
-        summed : (all : AllNodes C) → nodes ≡ Some all → (bytes : List ℕ) → IsSummary (all_nodes c d) d n before.rack (left after.rack says.journal nodes) bytes → RanOfBank c d read n before.rack (behind all after.rack says.journal)
+        summed : (all : AllNodes C) → nodes ≡ Some all → (bytes : List ℕ) → IsSummary (all_nodes c d) (reader d (holds read)) n before.rack (left after.rack says.journal nodes) bytes → RanOfBank c d read n before.rack (behind all after.rack says.journal)
         summed all is bytes s = bank_facts n before.rack s.mid after.rack says.journal nodes all whole is s.ran s.read
 
         facts : says.status ≢ 5 → (all : AllNodes C) → nodes ≡ Some all → RanOfBank c d read n before.rack (behind all after.rack says.journal)

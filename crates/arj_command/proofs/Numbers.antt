@@ -9,8 +9,8 @@ use Rattle.std.proofs.lemmas.Fmt.{decimal-digits_value, decimal_digit, decimal_i
 use Rattle.std.proofs.lemmas.Str.Parse.{IsNumeralModel, numerals_by_value, parse_plain, tells_digits}
 use Rattle.std.specs.declared.alloc.Global.{Global}
 use Rattle.std.specs.Prelude.{String}
+use Rattle.arj_bank.specs.Balances.{Reader}
 use Rattle.arj_bank.specs.Bank.{Generates}
-use Rattle.arj_disk.specs.declared.disk.Disk as disk
 use Rattle.arj_loop.specs.Replayed.{Answer, Outside}
 use Rattle.arj_loop.specs.declared.machine.Machine.{Ghosts}
 use Rattle.arj_command.specs.Command.{IsCheck, IsGenerate, IsPlain, IsReplay, NamesBank, most_banks}
@@ -68,9 +68,9 @@ not_two (word ∷ []) replay check = omega (arith, ap (λ bs. get_or bs 0 0) (sy
 not_two (word ∷ more ∷ words) replay check = replay
 
 -- words ask for one bank
-pub generates_one : {D M : Type 0} (m : Ghosts M D) (d : disk.Ghosts D) (words : List (String Global)) (n k : ℕ) → IsGenerate words n → IsGenerate words k → (before after : Outside D) (answer : Answer M)
-    → Generates m d n before after answer → Generates m d k before after answer
-generates_one m d words n k first second before after answer h = subst (λ i. Generates m d i before after answer) (one_number words n k first second) h
+pub generates_one : {D M : Type 0} (m : Ghosts M D) (r : Reader D) (words : List (String Global)) (n k : ℕ) → IsGenerate words n → IsGenerate words k → (before after : Outside D) (answer : Answer M)
+    → Generates m r n before after answer → Generates m r k before after answer
+generates_one m r words n k first second before after answer h = subst (λ i. Generates m r i before after answer) (one_number words n k first second) h
 
 -- a status up to 8 that isn't 8
 pub le_7 : (n : ℕ) → n ≤ 8 → (n ≡ 8 → ⊥) → n ≤ 7

@@ -1,6 +1,7 @@
 -- How a run of a command ends, by its status.
 use Rattle.std.specs.Prelude.{⊤, ◌≡◌, ◌≢◌, ℕ, List, [], ◌++◌, Option, Some, None}
 use Rattle.std.proofs.Common.{inl, inr}
+use Rattle.arj_bank.specs.Balances.{Holds, reader}
 use Rattle.arj_bank.specs.Bank.{AreOfBank, ComesSoFar, Generates, HaveBeenRead}
 use Rattle.arj_core.specs.declared.node.Core as core
 use Rattle.arj_disk.specs.declared.disk.Disk as disk
@@ -83,6 +84,10 @@ pub record Shown {C D : Type 0} (c : core.Ghosts C) (d : disk.Ghosts D) (read : 
 
 -- ---- a bank
 
+-- what files hold, read so
+abbrev pub holds : Reads → Holds
+holds read file r uid = (let reading = read file in reading.held r uid)
+
 -- A front of the events of the bank of n was run, from these disks on, and its disks were read since.
 pub record RanOfBank {C D : Type 0} (c : core.Ghosts C) (d : disk.Ghosts D) (read : Reads) (n : ℕ) (first : List D) (now : Behind C D) : Type 0 where
   pub events : List Event
@@ -105,7 +110,7 @@ FrontShows c d read n first after (inr (inr (events, are, ran))) = (let f = ran 
 pub record BankHeadline {C D : Type 0} (c : core.Ghosts C) (d : disk.Ghosts D) (read : Reads) (n : ℕ) (w : Around D) (says : Said C) : Type 0 where
   pub nodes : Option (AllNodes C)
   -- what the status means, and that the sink took the summary, whose sum is read from the disks
-  pub run : Generates (all_nodes c d) d n w.before w.after (answer says.status says.why says.journal nodes)
+  pub run : Generates (all_nodes c d) (reader d (holds read)) n w.before w.after (answer says.status says.why says.journal nodes)
   -- the world that is handed out
   pub world_is : says.world ≡ world_of nodes
   -- once the disks were formatted: what the events that were run show

@@ -1,5 +1,6 @@
 // The run of a command over any cores.
 ghost use Rattle.std.specs.Prelude.{◌≡◌, ◌≢◌, ◌≤◌, ◌⊎◌, ℕ, [], None};
+ghost use Rattle.arj_bank.specs.Balances.{held_by, reader};
 ghost use Rattle.arj_bank.specs.Bank.{Generates};
 ghost use Rattle.arj_base.specs.Count.{Rose};
 ghost use Rattle.arj_checking.specs.Checks.{Checks, ends};
@@ -9,7 +10,7 @@ ghost use Rattle.arj_loop.specs.Replayed.{Closes, StopsShort, answer, outside};
 ghost use Rattle.arj_nodes.specs.AllNodes.{AreFresh};
 ghost use Rattle.arj_nodes.specs.AsMachine.{all_nodes};
 ghost use Rattle.arj_law_nodes.specs.nodes.Cores.{SaysReadings};
-ghost use Rattle.arj_law_nodes.specs.nodes.Readings.{Reads};
+ghost use Rattle.arj_law_nodes.specs.nodes.Readings.{Reads, reading_of};
 
 use crate::words::{Command, asked_for};
 use arj_bank::generated;
@@ -21,6 +22,7 @@ use arj_journal::Lines;
 use arj_law_nodes::{banks_show_what_is_promised, nodes_show_what_is_promised};
 use arj_loop::{BadLine, replay};
 use arj_nodes::AllNodes;
+use arj_store::ObjectStore;
 use arj_world::World;
 use std::alloc::Global;
 
@@ -35,7 +37,7 @@ fn world_of<C>(nodes: Option<AllNodes<C>>) -> Option<World<C>>
 }
 
 // Runs the command that the words say, hands the nodes out, and answers the status.
-fn run_command<S: Source, K: Sink, D: Disk, C: Core + Drop>(
+fn run_command<S: Source, K: Sink, D: Disk, O: ObjectStore, C: Core + Drop>(
     alloc: Global,
     words: &[String],
     source: &mut S,
@@ -52,7 +54,7 @@ fn run_command<S: Source, K: Sink, D: Disk, C: Core + Drop>(
     requires nothing { found.old ≡ None }
     ensures closes { IsReplay words.now → result ≢ 4 → result ≢ 5 → Closes (all_nodes C.Core D.Disk) (outside (S.left source.old) (S.faults source.old) (K.taken sink.old) rack.old) (outside (S.left source.new) (S.faults source.new) (K.taken sink.new) rack.new) (answer result why.new journal.new nodes.new) }
     ensures short { IsReplay words.now → (result ≡ 4) ⊎ (result ≡ 5) → StopsShort (all_nodes C.Core D.Disk) (outside (S.left source.old) (S.faults source.old) (K.taken sink.old) rack.old) (outside (S.left source.new) (S.faults source.new) (K.taken sink.new) rack.new) result }
-    ensures generates { (n : ℕ) → IsGenerate words.now n → Generates (all_nodes C.Core D.Disk) D.Disk n (outside (S.left source.old) (S.faults source.old) (K.taken sink.old) rack.old) (outside (S.left source.new) (S.faults source.new) (K.taken sink.new) rack.new) (answer result why.new journal.new nodes.new) }
+    ensures generates { (n : ℕ) → IsGenerate words.now n → Generates (all_nodes C.Core D.Disk) (reader D.Disk (held_by O.ObjectStore)) n (outside (S.left source.old) (S.faults source.old) (K.taken sink.old) rack.old) (outside (S.left source.new) (S.faults source.new) (K.taken sink.new) rack.new) (answer result why.new journal.new nodes.new) }
     ensures checks { IsCheck words.now → Checks (ends (S.left source.old) (S.faults source.old) (K.taken sink.old)) (ends (S.left source.new) (S.faults source.new) (K.taken sink.new)) result found.new }
     ensures checks_alone { IsCheck words.now → (rack.new ≡ rack.old) × (journal.new ≡ journal.old) × (why.new ≡ why.old) × (nodes.new ≡ nodes.old) }
     ensures only_check { (IsCheck words.now → ⊥) → (found.new ≡ found.old) × (result ≢ 8) }
@@ -69,15 +71,15 @@ fn run_command<S: Source, K: Sink, D: Disk, C: Core + Drop>(
         Command::Replay => replay::<S, K, D, AllNodes<C>>(
             alloc, source, sink, rack, journal, why, nodes,
         ),
-        Command::Bank(n) => generated::<K, D, AllNodes<C>>(alloc, n, sink, rack, journal, nodes),
+        Command::Bank(n) => generated::<K, D, O, AllNodes<C>>(alloc, n, sink, rack, journal, nodes),
         Command::Check => checked::<S, K>(alloc, source, sink, found),
         Command::None => 1,
     }
 }
 
-/// Runs the command that the words say on cores of this type, over this source and sink and these disks, and answers its
-/// status. It says of any cores what `arjuna` says of the program's own.
-pub fn run_on<S: Source, K: Sink, D: Disk, C: Core + Drop>(
+/// Runs the command that the words say on cores of this type, over this source and sink and these disks, which this object store
+/// reads for a bank's sum, and answers its status. It says of any cores what `arjuna` says of the program's own.
+pub fn run_on<S: Source, K: Sink, D: Disk, O: ObjectStore, C: Core + Drop>(
     alloc: Global,
     words: &[String],
     source: &mut S,
@@ -94,7 +96,7 @@ pub fn run_on<S: Source, K: Sink, D: Disk, C: Core + Drop>(
     requires nothing { found.old ≡ None }
     ensures headline { (read : Reads) → SaysReadings C.Core read → IsReplay words.now → result ≢ 4 → result ≢ 5 → Headline C.Core D.Disk read (around (outside (S.left source.old) (S.faults source.old) (K.taken sink.old) rack.old) (outside (S.left source.new) (S.faults source.new) (K.taken sink.new) rack.new)) (said result why.new journal.new world.new) }
     ensures shown { (read : Reads) → SaysReadings C.Core read → IsReplay words.now → (result ≡ 4) ⊎ (result ≡ 5) → Shown C.Core D.Disk read (around (outside (S.left source.old) (S.faults source.old) (K.taken sink.old) rack.old) (outside (S.left source.new) (S.faults source.new) (K.taken sink.new) rack.new)) result }
-    ensures bank { (read : Reads) → SaysReadings C.Core read → (n : ℕ) → IsGenerate words.now n → BankHeadline C.Core D.Disk read n (around (outside (S.left source.old) (S.faults source.old) (K.taken sink.old) rack.old) (outside (S.left source.new) (S.faults source.new) (K.taken sink.new) rack.new)) (said result why.new journal.new world.new) }
+    ensures bank { SaysReadings C.Core (reading_of O.ObjectStore) → (n : ℕ) → IsGenerate words.now n → BankHeadline C.Core D.Disk (reading_of O.ObjectStore) n (around (outside (S.left source.old) (S.faults source.old) (K.taken sink.old) rack.old) (outside (S.left source.new) (S.faults source.new) (K.taken sink.new) rack.new)) (said result why.new journal.new world.new) }
     ensures checks { IsCheck words.now → Checks (ends (S.left source.old) (S.faults source.old) (K.taken sink.old)) (ends (S.left source.new) (S.faults source.new) (K.taken sink.new)) result found.new }
     ensures checks_alone { IsCheck words.now → (rack.new ≡ rack.old) × (journal.new ≡ journal.old) × (why.new ≡ why.old) × (world.new ≡ world.old) }
     ensures only_check { (IsCheck words.now → ⊥) → (found.new ≡ found.old) × (result ≢ 8) }
@@ -110,7 +112,7 @@ pub fn run_on<S: Source, K: Sink, D: Disk, C: Core + Drop>(
     nodes_show_what_is_promised::<C, D>();
     banks_show_what_is_promised::<C, D>();
     let mut nodes = None;
-    let status = run_command::<S, K, D, C>(
+    let status = run_command::<S, K, D, O, C>(
         alloc, words, source, sink, rack, journal, why, found, &mut nodes,
     );
     *world = world_of(nodes);

@@ -18,12 +18,16 @@ use arj_law_nodes::cores_say_their_readings;
 use arj_loop::BadLine;
 use arj_node::NodeCore;
 use arj_parts::NodeParts;
-use arj_store::{ObjectStore, ShadowStore};
+use arj_segment::SegmentStore;
+use arj_store::ObjectStore;
 use arj_world::World;
 use std::alloc::Global;
 
-/// A node of the program: its parts over a shadow store.
-pub type Node = NodeCore<NodeParts<ShadowStore>>;
+/// The object store of the program's nodes.
+pub type Store = SegmentStore;
+
+/// A node of the program.
+pub type Node = NodeCore<NodeParts<Store>>;
 
 /// Runs the command that the words say, over this source and sink and these disks, and answers its status. The journal is left
 /// in `journal`, and the world of the nodes, once the disks were formatted, in `world`, at every status but 4 and 5, and at status 2
@@ -52,11 +56,11 @@ pub fn arjuna<S: Source, K: Sink, D: Disk>(
 
     // A script: which bytes came and which of their lines were run, what each status means, what was written, and what the
     // journal, the disks and the world show of the events.
-    ensures headline { IsReplay words.now → result ≢ 4 → result ≢ 5 → Headline ⟦<Node as Core>⟧ D.Disk (reading_of ⟦<ShadowStore as ObjectStore>⟧) (around (outside (S.left source.old) (S.faults source.old) (K.taken sink.old) rack.old) (outside (S.left source.new) (S.faults source.new) (K.taken sink.new) rack.new)) (said result why.new journal.new world.new) }
+    ensures headline { IsReplay words.now → result ≢ 4 → result ≢ 5 → Headline ⟦<Node as Core>⟧ D.Disk (reading_of ⟦<Store as ObjectStore>⟧) (around (outside (S.left source.old) (S.faults source.old) (K.taken sink.old) rack.old) (outside (S.left source.new) (S.faults source.new) (K.taken sink.new) rack.new)) (said result why.new journal.new world.new) }
     // What still holds after a write that failed, or where memory was wanting.
-    ensures shown { IsReplay words.now → (result ≡ 4) ⊎ (result ≡ 5) → Shown ⟦<Node as Core>⟧ D.Disk (reading_of ⟦<ShadowStore as ObjectStore>⟧) (around (outside (S.left source.old) (S.faults source.old) (K.taken sink.old) rack.old) (outside (S.left source.new) (S.faults source.new) (K.taken sink.new) rack.new)) result }
+    ensures shown { IsReplay words.now → (result ≡ 4) ⊎ (result ≡ 5) → Shown ⟦<Node as Core>⟧ D.Disk (reading_of ⟦<Store as ObjectStore>⟧) (around (outside (S.left source.old) (S.faults source.old) (K.taken sink.old) rack.old) (outside (S.left source.new) (S.faults source.new) (K.taken sink.new) rack.new)) result }
     // A generated bank: what each status means, its summary, and the same of its events.
-    ensures bank { (n : ℕ) → IsGenerate words.now n → BankHeadline ⟦<Node as Core>⟧ D.Disk (reading_of ⟦<ShadowStore as ObjectStore>⟧) n (around (outside (S.left source.old) (S.faults source.old) (K.taken sink.old) rack.old) (outside (S.left source.new) (S.faults source.new) (K.taken sink.new) rack.new)) (said result why.new journal.new world.new) }
+    ensures bank { (n : ℕ) → IsGenerate words.now n → BankHeadline ⟦<Node as Core>⟧ D.Disk (reading_of ⟦<Store as ObjectStore>⟧) n (around (outside (S.left source.old) (S.faults source.old) (K.taken sink.old) rack.old) (outside (S.left source.new) (S.faults source.new) (K.taken sink.new) rack.new)) (said result why.new journal.new world.new) }
 
     // The check of a journal: what each status means, what was written of it, and that it touches nothing else.
     ensures checks { IsCheck words.now → Checks (ends (S.left source.old) (S.faults source.old) (K.taken sink.old)) (ends (S.left source.new) (S.faults source.new) (K.taken sink.new)) result found.new }
@@ -73,6 +77,6 @@ pub fn arjuna<S: Source, K: Sink, D: Disk>(
     ensures write_fault { result ≡ 4 → Rose (K.faults sink.old) (K.faults sink.new) }
     ensures no_write_fault { result ≢ 4 → K.faults sink.new ≡ K.faults sink.old }
 {
-    cores_say_their_readings();
-    run_on::<S, K, D, Node>(alloc, words, source, sink, rack, journal, why, found, world)
+    cores_say_their_readings::<Store>();
+    run_on::<S, K, D, Store, Node>(alloc, words, source, sink, rack, journal, why, found, world)
 }

@@ -1,21 +1,23 @@
 -- from the entry to the balance
 use Rattle.std.proofs.Common.{Err, ap, refl, subst}
-use Rattle.arj_bank.specs.Balances.{Holds, node_files}
-use Rattle.arj_disk.specs.declared.disk.DiskFault.TheVariants.{Stopped}
+use Rattle.arj_bank.specs.Balances.{Held, held_by, node_holds, reader}
+use Rattle.arj_disk.specs.declared.slot.Role.TheVariants.{Store, Names}
+use Rattle.arj_store.specs.declared.answer.StoreFault.TheVariants.{Stopped}
+use Rattle.arj_store.specs.Pair.{Packs}
 use Rattle.arj_gen.specs.declared.bank.TheConstants.{NODES}
 use Rattle.arj_world.proofs.Disks.{moved_on, same_fault, stopped_later, unstopped_on}
 use Rattle.arj_bank.proofs.balances.balance.Goals as goal
 
 pub returns-in_ok-balance-in-Ok-clause-balance : goal.returns-in_ok-balance-in-Ok-clause-balance
 returns-in_ok-balance-in-Ok-clause-balance g c =
-    let file = g.D.Disk.file in record {
+    let held : Held = node_holds (reader g.D.Disk (held_by g.O.ObjectStore)) c.args.rack.now in record {
       named = c.in_ok-named.named;
-      named_is = subst (λ uid. Holds (node_files file c.args.rack.now 1) uid c.in_ok-named.named) c.entry_uid.ensures c.in_ok-named.ensures.holds;
+      named_is = subst (λ uid. Packs (held 1 Names uid) c.in_ok-named.named) c.entry_uid.ensures c.in_ok-named.ensures.packs;
       store = c.in_ok-store.store;
       listed = c.in_ok-store.ensures;
       state = c.in-Ok.state;
-      state_is = subst (λ uid. Holds (node_files file c.args.rack.now c.in_ok-store.store) uid c.in-Ok.state) c.object_uid.ensures
-          (subst (λ files. Holds (files c.in_ok-store.store) c.object_uid.result c.in-Ok.state) c.committed_at.ensures.files c.in-Ok.ensures.holds);
+      state_is = subst (λ uid. Packs (held c.in_ok-store.store Store uid) c.in-Ok.state) c.object_uid.ensures
+          (subst (λ files. Packs (held_by g.O.ObjectStore (files c.in_ok-store.store) Store c.object_uid.result) c.in-Ok.state) c.committed_at.ensures.files c.in-Ok.ensures.packs);
       balance_is = c.in_ok-balance-in-Ok.ensures;
     }
 

@@ -1,5 +1,6 @@
 -- the run, and what it came to
 use Rattle.std.proofs.Common.{Err, ap, inl, inr, refl, subst}
+use Rattle.arj_bank.specs.Balances.{Reader, held_by, reader}
 use Rattle.arj_bank.specs.Bank.{IsSummary, SumsUp, left}
 use Rattle.arj_bank.specs.declared.stop.Stop.TheVariants.{Disk, Limit, Memory}
 use Rattle.arj_gen.specs.declared.bank.TheConstants.{NODES}
@@ -10,13 +11,13 @@ use Rattle.arj_bank.proofs.summed.summary.Goals as goal
 
 pub returns-in-Ok-clause-text : goal.returns-in-Ok-clause-text
 returns-in-Ok-clause-text g c =
-    let file = g.D.Disk.file in
-    if_ok_with c.sum_up.result (SumsUp file c.in-Ok.events c.run_bank.new.rack c.run_bank.new.journal) (IsSummary g.M.Machine g.D.Disk c.args.n c.args.rack.now (left c.sum_up.new.rack c.run_bank.new.journal c.run_bank.new.machine))
+    let r : Reader g.row.D.Denot = reader g.D.Disk (held_by g.O.ObjectStore) in
+    if_ok_with c.sum_up.result (SumsUp r c.in-Ok.events c.run_bank.new.rack c.run_bank.new.journal) (IsSummary g.M.Machine r c.args.n c.args.rack.now (left c.sum_up.new.rack c.run_bank.new.journal c.run_bank.new.machine))
     (HaveNotStopped g.D.Disk c.run_bank.new.rack c.sum_up.new.rack)
     (λ text sums unstopped. record {
       mid = c.run_bank.new.rack;
       ran = c.in-Ok.ensures.ran;
-      sums = subst (λ count. SumsUp file count c.run_bank.new.rack c.run_bank.new.journal text) c.in-Ok.ensures.count sums;
+      sums = subst (λ count. SumsUp r count c.run_bank.new.rack c.run_bank.new.journal text) c.in-Ok.ensures.count sums;
       read = record { files = c.sum_up.ensures.files; moved = c.sum_up.ensures.moved };
       unstopped = unstopped;
     })

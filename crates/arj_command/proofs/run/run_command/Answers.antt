@@ -1,5 +1,6 @@
 -- a script, a check, a bank, or no command
 use Rattle.std.proofs.Common.{arith, inl, inr, ap, refl}
+use Rattle.arj_bank.specs.Balances.{held_by, reader}
 use Rattle.arj_command.specs.Command.{IsCheck, IsGenerate, IsReplay}
 use Rattle.arj_command.proofs.Numbers.{generates_one, not_both, not_check, not_two}
 use Rattle.arj_command.proofs.Shows.{read_failed}
@@ -74,7 +75,7 @@ returns-in-Bank-clause-generates g c m is =
     let says : IsGenerate c.args.words.now c.in-Bank.n = rw c.in-Bank.is at c.asked_for.ensures in
     let e = c.generated.ensures in
     let statuses = e.statuses in
-    generates_one (all_nodes g.C.Core g.D.Disk) g.D.Disk c.args.words.now c.in-Bank.n m says is
+    generates_one (all_nodes g.C.Core g.D.Disk) (reader g.D.Disk (held_by g.O.ObjectStore)) c.args.words.now c.in-Bank.n m says is
     (outside (g.S.Source.left c.args.source.now) (g.S.Source.faults c.args.source.now) (g.K.Sink.taken c.args.sink.now) c.args.rack.now)
     (outside (g.S.Source.left c.args.source.now) (g.S.Source.faults c.args.source.now) (g.K.Sink.taken c.generated.new.sink) c.generated.new.rack)
     (answer c.generated.result c.args.why.now c.generated.new.journal c.generated.new.machine)

@@ -3,6 +3,7 @@ use Rattle.arj_command.specs.Outcome.{said}
 use Rattle.arj_command.proofs.Banks.{bank_headline}
 use Rattle.arj_command.proofs.Numbers.{le_7, not_check}
 use Rattle.arj_command.proofs.Shows.{headline, shown}
+use Rattle.arj_law_nodes.specs.nodes.Readings.{Reads, reading_of}
 use Rattle.arj_loop.specs.Replayed.{answer, outside}
 use Rattle.arj_command.proofs.run.run_on.Goals as goal
 
@@ -22,7 +23,8 @@ returns-clause-shown g c read says is which =
     shown g.C.Core g.D.Disk read before after c.run_command-status.result run (c.nodes_show_what_is_promised.ensures.stops read says before after c.run_command-status.result run)
 
 pub returns-clause-bank : goal.returns-clause-bank
-returns-clause-bank g c read says n is =
+returns-clause-bank g c says n is =
+    let read : Reads = reading_of g.O.ObjectStore in
     let before = outside (g.S.Source.left c.args.source.now) (g.S.Source.faults c.args.source.now) (g.K.Sink.taken c.args.sink.now) c.args.rack.now in
     let after = outside (g.S.Source.left c.run_command-status.new.source) (g.S.Source.faults c.run_command-status.new.source) (g.K.Sink.taken c.run_command-status.new.sink) c.run_command-status.new.rack in
     bank_headline g.C.Core g.D.Disk read n before after (said c.run_command-status.result c.run_command-status.new.why c.run_command-status.new.journal c.world_of.result) c.run_command-status.new.nodes (c.run_command-status.ensures.generates n is)

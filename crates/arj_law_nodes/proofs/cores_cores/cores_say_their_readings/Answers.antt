@@ -2,5 +2,5 @@ use Rattle.arj_law_nodes.proofs.{cores.Reading.parts_rest, cores.Reading.parts_s
 use Rattle.arj_law_nodes.proofs.cores_cores.cores_say_their_readings.Goals as goal
 
 pub returns : goal.returns
-returns c =
+returns g c =
     nodes_say _ _ (record { down = λ header k file d r. parts_rest _ k file d r; up = λ header k one file h s. parts_stand _ k _ file h s })

@@ -8,4 +8,4 @@ pub returns-clause-shown : goal.returns-clause-shown
 returns-clause-shown g c is which = c.run_on.ensures.shown _ c.cores_say_their_readings.ensures is which
 
 pub returns-clause-bank : goal.returns-clause-bank
-returns-clause-bank g c n is = c.run_on.ensures.bank _ c.cores_say_their_readings.ensures n is
+returns-clause-bank g c n is = c.run_on.ensures.bank c.cores_say_their_readings.ensures n is
