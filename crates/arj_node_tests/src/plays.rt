@@ -59,7 +59,7 @@ const DECIDED: Play = Play {
 
 // What node 1 writes in that run, and its disk calls.
 const DECIDES: &[u8] = b"0 disk write tmp
-0 disk rename tmp committed 0.1.1
+0 disk rename tmp segment names 1
 0 disk write tmp
 0 disk rename tmp incarnation
 1 began A top 1.1.1 -
@@ -91,15 +91,14 @@ const DECIDES: &[u8] = b"0 disk write tmp
 7 disk remove tmp
 7 disk names
 7 disk names
-7 disk read committed 0.1.1
+7 disk read segment names 1
 7 disk names
 7 disk read intent 1.1.1
 8 got 11
 8 got 12
 8 disk remove intent 1.1.1
 9 entry 1 0 1 2,3
-9 disk read committed 0.1.1
-9 disk read committed 0.0.1
+9 disk read segment names 1
 ";
 
 // It stops there and the rename isn't done: the stores ask, and are told an abort.
@@ -119,7 +118,7 @@ const UNDECIDED: Play = Play {
 
 // What node 1 writes in that one, and its disk calls.
 const PRESUMES: &[u8] = b"0 disk write tmp
-0 disk rename tmp committed 0.1.1
+0 disk rename tmp segment names 1
 0 disk write tmp
 0 disk rename tmp incarnation
 1 began A top 1.1.1 -
@@ -148,15 +147,14 @@ const PRESUMES: &[u8] = b"0 disk write tmp
 7 disk remove tmp
 7 disk names
 7 disk names
-7 disk read committed 0.1.1
+7 disk read segment names 1
 7 disk names
 8 got 9
 8 sent 2 told
 8 got 10
 8 sent 3 told
 9 entry 1 0 1 2,3
-9 disk read committed 0.1.1
-9 disk read committed 0.0.1
+9 disk read segment names 1
 ";
 
 // Store 2 in the first of these runs.
@@ -175,28 +173,25 @@ const COMMITS: Play = Play {
 
 // What store 2 writes where the record was put, and its disk calls.
 const HAS_COMMITTED: &[u8] = b"0 disk write tmp
-0 disk rename tmp committed 0.0.1
+0 disk rename tmp segment store 1
 0 disk write tmp
 0 disk rename tmp incarnation
 3 got 1
 3 sent 1 loaded
-3 disk read committed 0.0.1
+3 disk read segment store 1
 6 got 3
 6 prepared 2 1.1.1 store
 6 sent 1 prepared
-6 disk read committed 0.0.1
+6 disk read segment store 1
 6 disk write tmp
-6 disk rename tmp shadow 0.0.1
-6 disk write tmp
-6 disk rename tmp prepared store 1.1.1
+6 disk rename tmp pending store 1.1.1
 8 got 7
 8 done 2 1.1.1 store commit
 8 sent 1 acked
-8 disk rename shadow 0.0.1 committed 0.0.1
-8 disk remove prepared store 1.1.1
+8 disk rename pending store 1.1.1 segment store 2
 8 got 9
 9 copy 2 1 1 1.1.1 0000000000000001
-9 disk read committed 0.0.1
+9 disk read segment store 2
 ";
 
 // Store 2 in the second of these runs.
@@ -215,28 +210,25 @@ const ABORTS: Play = Play {
 
 // What store 2 writes where it was not put, and its disk calls.
 const HAS_ABORTED: &[u8] = b"0 disk write tmp
-0 disk rename tmp committed 0.0.1
+0 disk rename tmp segment store 1
 0 disk write tmp
 0 disk rename tmp incarnation
 3 got 1
 3 sent 1 loaded
-3 disk read committed 0.0.1
+3 disk read segment store 1
 6 got 3
 6 prepared 2 1.1.1 store
 6 sent 1 prepared
-6 disk read committed 0.0.1
+6 disk read segment store 1
 6 disk write tmp
-6 disk rename tmp shadow 0.0.1
-6 disk write tmp
-6 disk rename tmp prepared store 1.1.1
+6 disk rename tmp pending store 1.1.1
 8 got 7
 8 sent 1 query
 8 got 11
 8 done 2 1.1.1 store abort
-8 disk remove prepared store 1.1.1
-8 disk remove shadow 0.0.1
+8 disk remove pending store 1.1.1
 9 copy 2 1 0 0.0.0 0000000000000000
-9 disk read committed 0.0.1
+9 disk read segment store 1
 ";
 
 // ---- A's commit at node 2, which excludes store 4, while naming comes up again with the entry in doubt
@@ -268,7 +260,7 @@ const NAMES: Play = Play {
 
 // What naming writes in the second run, and its disk calls.
 const HAS_NAMED: &[u8] = b"0 disk write tmp
-0 disk rename tmp committed 0.1.1
+0 disk rename tmp segment names 1
 0 disk write tmp
 0 disk rename tmp incarnation
 3 got 1
@@ -282,11 +274,9 @@ const HAS_NAMED: &[u8] = b"0 disk write tmp
 8 granted 1 2.1.1 0.1.1 exclude
 8 prepared 1 2.1.1 names
 8 sent 2 confirmed
-8 disk read committed 0.1.1
+8 disk read segment names 1
 8 disk write tmp
-8 disk rename tmp shadow 0.1.1
-8 disk write tmp
-8 disk rename tmp prepared names 2.1.1
+8 disk rename tmp pending names 2.1.1
 9 halted 1
 11 void 12
 12 up 1 2
@@ -301,9 +291,8 @@ const HAS_NAMED: &[u8] = b"0 disk write tmp
 12 disk remove tmp
 12 disk names
 12 disk names
-12 disk read prepared names 2.1.1
-12 disk read shadow 0.1.1
-12 disk read committed 0.1.1
+12 disk read pending names 2.1.1
+12 disk read segment names 1
 12 disk names
 15 got 20
 15 sent 3 bound
@@ -311,11 +300,9 @@ const HAS_NAMED: &[u8] = b"0 disk write tmp
 17 done 1 2.1.1 names commit
 17 told 1 2.1.1 commit naming
 17 sent 2 acked
-17 disk rename shadow 0.1.1 committed 0.1.1
-17 disk remove prepared names 2.1.1
+17 disk rename pending names 2.1.1 segment names 2
 18 entry 1 1 2 3
-18 disk read committed 0.1.1
-18 disk read committed 0.0.1
+18 disk read segment names 2
 ";
 
 // The coordinator and server in the second run: store 4 is silent and excluded.
@@ -375,7 +362,6 @@ const HAS_EXCLUDED: &[u8] = b"0 disk write tmp
 17 got 17
 17 got 23
 17 disk remove intent 2.1.1
-18 disk read committed 0.0.1
 ";
 
 // The disk is asked for a stop, if there is one.

@@ -23,45 +23,45 @@ pub const TWO_COUNTERS: &[&[u8]] = &[
 // A call of the disk at which it is stopped, and whether that call is done.
 type Stop = (u32, bool);
 
-// The calls of the disk in the commit: two reads, the puts of two shadows, of the prepared file and of the record, which is
-// the decision, two renames, and the removals of the prepared file and, at the last acknowledgement, of the record.
-const COMMIT: u32 = 14;
+// The calls of the disk in the commit: two reads, the puts of the new states and of the record, which is the decision, the rename
+// that commits the states, and at the last acknowledgement the removal of the record.
+const COMMIT: u32 = 8;
 
 // The rename of the record in its place.
-const DECISION: u32 = 10;
+const DECISION: u32 = 6;
 
-// After these stops of the commit a restart makes so many calls. It begins with a read and a put of the incarnation, a
-// removal and the names; it ends with the names again, both entries, and the names again: seven calls beside the two entries.
-// Between stand the removal of a shadow that no prepared file names, or the read of the prepared file; then the read of the
-// record. What is prepared is then aborted by three removals, or committed by two renames, or the one that is left, and a
-// removal; and the record is removed.
+// After these stops of the commit a restart makes so many calls. It begins with a read and a put of the incarnation, a removal
+// and the names; it ends with a segment of states, the names, a segment of entries, and the names again: nine calls. Between
+// stands the read of what is prepared, or of the segment of a commit that was done; then the read of the record. What is
+// prepared is then removed, or renamed as the next segment; and the record is removed.
 const RESTARTS: &[(Stop, u32)] = &[
-    ((4, true), 10),
-    ((DECISION, false), 13),
-    ((DECISION, true), 15),
-    ((11, true), 14),
-    ((COMMIT, false), 11),
+    ((3, true), 9),
+    ((4, true), 11),
+    ((DECISION, false), 11),
+    ((DECISION, true), 13),
+    ((7, true), 12),
+    ((COMMIT, false), 12),
 ];
 
 // What is shown of both objects where the commit was decided, and where it wasn't.
 const NEW: &[u8] = b"1 entry 1 0 1 1
 1 copy 1 1 1 1.1.1 0000000000000003
-1 disk read committed 0.1.1
-1 disk read committed 0.0.1
+1 disk read segment names 1
+1 disk read segment store 2
 2 entry 2 0 1 1
 2 copy 1 2 1 1.1.1 0000000000000004
-2 disk read committed 0.1.2
-2 disk read committed 0.0.2
+2 disk read segment names 1
+2 disk read segment store 2
 ";
 
 const OLD: &[u8] = b"1 entry 1 0 1 1
 1 copy 1 1 0 0.0.0 0000000000000000
-1 disk read committed 0.1.1
-1 disk read committed 0.0.1
+1 disk read segment names 1
+1 disk read segment store 1
 2 entry 2 0 1 1
 2 copy 1 2 0 0.0.0 0000000000000000
-2 disk read committed 0.1.2
-2 disk read committed 0.0.2
+2 disk read segment names 1
+2 disk read segment store 1
 ";
 
 // A top adds to both counters, and its commit is stopped at this call: true where it is.

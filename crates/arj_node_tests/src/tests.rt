@@ -1,15 +1,15 @@
-// The tests, of nodes whose parts stand over a shadow store.
+// The tests, of nodes whose parts stand over segment files.
 use crate::alone::header;
 use crate::plays::{FOUR_NODES, THREE_NODES, decisions, exclusions};
 use crate::stops::{TWO_COUNTERS, commit_ends, restarts_end};
 use arj_node::NodeCore;
 use arj_parts::NodeParts;
-use arj_store::ShadowStore;
+use arj_segment::SegmentStore;
 use std::process::Abort;
 use std::test::Fail;
 
 // The node that is tested.
-type Node = NodeCore<NodeParts<ShadowStore>>;
+type Node = NodeCore<NodeParts<SegmentStore>>;
 
 // Nodes go through the two runs as the rules say, call by call of their disks.
 #[test]
