@@ -6,12 +6,12 @@ use Rattle.arj_serve.proofs.Looked.{stopped_too}
 use Rattle.arj_serve.proofs.Roles.{named_stands}
 use Rattle.arj_serve.proofs.services.Services.end_names.Goals as goal
 
-pub told-requires-clause-stands : goal.told-requires-clause-stands
-told-requires-clause-stands g c =
+pub told-requires : goal.told-requires
+told-requires g c =
     let o = g.O.ObjectStore in
     let n = c.in-Some.naming in
     let old : Kept g.row.O.Denot = record { number = c.self.inside.number; server = c.self.inside.server; naming = c.self.inside.naming; store = c.self.inside.store } in
-    named_stands o old c.args.self.now c.self.view_is n c.in-Some.is (g.D.Disk.file c.args.disk.now) c.requires.stands
+    record { stands = named_stands o old c.args.self.now c.self.view_is n c.in-Some.is (g.D.Disk.file c.args.disk.now) c.requires.stands }
 
 pub returns-in_err-told-clause-stopped : goal.returns-in_err-told-clause-stopped
 returns-in_err-told-clause-stopped g c = λ stop.

@@ -28,10 +28,10 @@ returns-in_err-end_states-clause-leaves g c =
     let call : Call g.row.O.Denot = record { old = now; new = now; file = file; left = middle; before = c.args.out.now; after = c.args.out.now } in
     store_leaves o g.met.O.ObjectStore.keeps_on g.met.O.ObjectStore.stays call c.requires.stands.0 c.requires.stands.1 c.end_states.ensures.leaves.only c.end_states.ensures.leaves.formed
 
-pub end_names-requires-clause-stands : goal.end_names-requires-clause-stands
-end_names-requires-clause-stands g c =
+pub end_names-requires : goal.end_names-requires
+end_names-requires g c =
     let d : Disk = c.requires.stands.0 in
-    (disk_after (store_told c.args.self.now.number c.args.action c.args.end d.store) d, (c.in_ok-end_states.ensures.done d c.requires.stands.1).stands)
+    record { stands = (disk_after (store_told c.args.self.now.number c.args.action c.args.end d.store) d, (c.in_ok-end_states.ensures.done d c.requires.stands.1).stands) }
 
 pub returns-in_err-end_names-clause-stopped : goal.returns-in_err-end_names-clause-stopped
 returns-in_err-end_names-clause-stopped g c = λ stop.
