@@ -9,3 +9,9 @@ pub mod Framing
 pub mod Happening
 pub mod Along
 pub mod Frames
+pub mod Halts
+pub mod Labeled
+pub mod Gone
+pub mod Plain
+pub mod Reasons
+pub mod Refusing

@@ -1,5 +1,6 @@
 // What each event writes, by the events and the journal alone.
 ghost use Rattle.arj_law_runs.specs.follow.Frames.{FramesHaveCauses};
+ghost use Rattle.arj_law_runs.specs.follow.Refusals.{PlainRefusalsFollow};
 
 /// In every run in form, wherever it begins and wherever disks stop, each line of a frame and of a stop to come has its cause: a
 /// frame that is sent has the next number, goes to a node, and comes from one that is up, or from nobody where the script hands over
@@ -8,4 +9,12 @@ ghost use Rattle.arj_law_runs.specs.follow.Frames.{FramesHaveCauses};
 /// where it is up, or as the first line of its restart, and in no crash of another node. It does nothing when it runs.
 pub fn frames_have_causes()
     ensures runs { FramesHaveCauses }
+{}
+
+/// In every run in form, wherever it begins and wherever disks stop, an event is refused with a number exactly where that is its lowest
+/// cause by the events and the journal before it: unknown node, node down, node up, label used, unknown label, ended, and, where the event
+/// names no action that began before, unknown object, no message, and a message. So such an event is refused exactly where the journal has a
+/// cause. It does nothing when it runs.
+pub fn plain_refusals_follow()
+    ensures runs { PlainRefusalsFollow }
 {}

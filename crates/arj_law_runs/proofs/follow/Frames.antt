@@ -74,7 +74,7 @@ fit_any accepted h [] = refl
 fit_any accepted h (b ∷ bs) = λ i. fits_any accepted h b i && fit_any accepted (behind h b) bs i
 
 -- an event that is counted is refused as before
-same_reasons : (e : Event) (w : World) → reasons e (counted w) ≡ reasons e w
+pub same_reasons : (e : Event) (w : World) → reasons e (counted w) ≡ reasons e w
 same_reasons (event.Begin l n) w = refl
 same_reasons (event.Serial l n) w = refl
 same_reasons (event.BeginIn l p) w = refl

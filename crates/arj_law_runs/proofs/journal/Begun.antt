@@ -18,7 +18,7 @@ use Rattle.arj_law_runs.proofs.kept.Labels.{one_name, put_label}
 -- ---- a new label and a new Uid
 
 -- what a label stands for goes by its name
-by_name : (labels : List (Label × Labelled)) (q l : Label) → name q ≡ name l → label_at q labels ≡ label_at l labels
+pub by_name : (labels : List (Label × Labelled)) (q l : Label) → name q ≡ name l → label_at q labels ≡ label_at l labels
 by_name labels q l same = ap (λ m. lookup (λ x. is_eq (slice_cmp nat_cmp m (name x))) labels) same
 
 pub new_label : (labels : List (Label × Labelled)) (acts : List Act) (l : Label) → label_at l labels ≡ None →
@@ -76,7 +76,7 @@ get_there (x ∷ xs) zero a b is = is
 get_there (x ∷ xs) (suc k) a b is = get_there xs k a b is
 
 -- what is behind a list stands at its end
-place_cases : {A : Type 0} (xs : List A) (b a : A) (k : ℕ) → at_place k (xs ++ b ∷ []) ≡ Some a →
+pub place_cases : {A : Type 0} (xs : List A) (b a : A) (k : ℕ) → at_place k (xs ++ b ∷ []) ≡ Some a →
     (at_place k xs ≡ Some a) ⊎ ((k ≡ suc (length xs)) × (b ≡ a))
 place_cases xs b a zero is = absurd (cc is)
 place_cases xs b a (suc k) is = ⊎_elim (λ old. inl old) (λ last. inr (ap suc last.0, last.1)) (get_more k b a xs is)

@@ -27,7 +27,7 @@ acts_turn B (body.Ended l) = refl
 acts_turn B (body.Recovered n u) = refl
 acts_turn B b = refl
 
-book_acts : (B : Book) (ls : List Line) → (let V = book_from B ls in V.acts) ≡ acts_from B.acts ls
+pub book_acts : (B : Book) (ls : List Line) → (let V = book_from B ls in V.acts) ≡ acts_from B.acts ls
 book_acts B [] = refl
 book_acts B (l ∷ ls) = book_acts (turned B l.body) ls ∙ ap (λ xs. acts_from xs ls) (acts_turn B l.body)
 

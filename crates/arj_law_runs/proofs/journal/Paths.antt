@@ -171,7 +171,7 @@ acts_grow B (Send to m ∷ es) = acts_grow B es
 acts_grow B (Do w ∷ es) = acts_grow B es
 
 -- a line behind which there are as many actions begins none
-none_begins : (B : Book) (b : Body) (es : List Effect) (xs : List Act) → B.acts ≡ xs → (let V = after (turned B b) es in V.acts) ≡ xs →
+pub none_begins : (B : Book) (b : Body) (es : List Effect) (xs : List Act) → B.acts ≡ xs → (let V = after (turned B b) es in V.acts) ≡ xs →
     (let V = turned B b in V.acts) ≡ xs
 none_begins B (body.Began l h u p) es xs is end =
     let V : Book = turned B (body.Began l h u p) in

@@ -66,14 +66,14 @@ module _ (e k : ℕ) (d : Disk) (t : Parts) (M : Seen) (good : IsGood (up k d t 
   abbrev B : Book
   B = book M.lines
 
-  knows_up : KnowsUp (book M.lines) d.intents t.coord
+  pub knows_up : KnowsUp (book M.lines) d.intents t.coord
   knows_up = let o = its_own k d (Some t) M w in o.live t refl
 
   mine : (u : Uid) → is_own u t.coord.tree ≡ true → u.node ≡ k
   mine u own = let i = it e k d t M good in
       eqb-true u.node t.coord.tree.node (and_parts (u.node == t.coord.tree.node) (u.inc == t.coord.tree.inc) own).0 ∙ i.node
 
-  works : length t.coord.doings ≡ length t.coord.tree.branches
+  pub works : length t.coord.doings ≡ length t.coord.tree.branches
   works = let i = it e k d t M good in i.faithful.works
 
   called : EachRecord (IsCalled (book M.lines) k) d.intents

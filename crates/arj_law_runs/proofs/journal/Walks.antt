@@ -138,7 +138,7 @@ inc_worked k B (Abort role.Names u) d is = refl
 inc_worked k B (PutIntent u i) d is = refl
 inc_worked k B (RemoveIntent u) d is = refl
 
-inc_in_part : (which : Uid → Bool) (w : Work) (d : Disk) → (let x = in_part which w d in x.inc) ≡ d.inc
+pub inc_in_part : (which : Uid → Bool) (w : Work) (d : Disk) → (let x = in_part which w d in x.inc) ≡ d.inc
 inc_in_part which Look d = refl
 inc_in_part which (PutInc i) d = refl
 inc_in_part which (Prepare r u states) d = refl
