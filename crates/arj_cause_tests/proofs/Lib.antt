@@ -2,6 +2,8 @@ pub mod Words
 pub mod Worked
 pub mod Rare
 pub mod Rarer
+mod Answers
+mod Followed
 mod Halts
 mod Longer
 mod OtherEvents
@@ -11,3 +13,4 @@ mod WrongDetails
 mod WrongEnds
 pub mod WrongEvents
 mod WrongNodes
+mod WrongRuns

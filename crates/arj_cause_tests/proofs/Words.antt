@@ -1,17 +1,20 @@
 -- Words for runs: their events with the lines that each wrote, changes of lines, and which lines lack a cause.
-use Rattle.std.specs.Prelude.{ℕ, zero, suc, ◌+◌, ◌-◌, List, [], ◌∷◌, ◌++◌, length, nat_le, replicate, refl, if◌then◌else◌}
+use Rattle.std.specs.Prelude.{ℕ, zero, suc, ◌+◌, ◌-◌, Bool, List, [], ◌∷◌, ◌++◌, length, map, nat_le, replicate, refl, if◌then◌else◌}
 use Rattle.std.proofs.Common.{arith}
 use Rattle.arj_base.specs.declared.binding.Binding.{Binding}
 use Rattle.arj_base.specs.declared.uid.Uid.{Uid}
 use Rattle.arj_class.specs.declared.value.Value.{Value}
 use Rattle.arj_text.specs.declared.label.Label.{Label}
 use Rattle.arj_journal.specs.declared.body.Body.{Body}
+use Rattle.arj_journal.specs.declared.body.Line.{Line}
 use Rattle.arj_journal.specs.declared.event.Event.{Event}
 use Rattle.arj_journal.specs.declared.header.Header.{Header}
 use Rattle.arj_journal.specs.declared.header.ObjectLine.{ObjectLine}
-use Rattle.arj_model.specs.Past.{Past, next, nothing_yet}
+use Rattle.arj_start.specs.Start.{fresh}
+use Rattle.arj_model.specs.Past.{Past, block, next, nothing_yet}
 use Rattle.arj_model.specs.CauseSpans.{Here, behind, here_at}
 use Rattle.arj_model.specs.Caused.{has_cause}
+use Rattle.arj_cause_tests.specs.Followed.{follows}
 
 -- a label of one letter
 abbrev pub l : ℕ → Label
@@ -107,3 +110,20 @@ event_from (suc (suc n)) e (w ∷ rest) = w ∷ event_from (suc n) e rest
 -- the same of a run
 abbrev pub of_other_event : ℕ → Event → Run → Run
 of_other_event n e r = run r.header (event_from n e r.wrote)
+
+-- the events of a run
+abbrev pub events : Run → List Event
+events r = map (λ w. w.0) r.wrote
+
+-- the lines of these events, the first of which has this number
+abbrev pub lines_from : ℕ → List Wrote → List Line
+lines_from n [] = []
+lines_from n (w ∷ rest) = block n w.1 ++ lines_from (n + 1) rest
+
+-- its journal
+abbrev pub journal : Run → List Line
+journal r = lines_from 1 r.wrote
+
+-- the journal follows the events
+abbrev pub is_followed : Run → Bool
+is_followed r = follows r.header fresh (events r) (journal r)

@@ -25,7 +25,7 @@ abbrev pub begins : Wrote
 begins = (event.Begin (l 65) 1, body.Began (l 65) kind.Top (u 1 1 1) None ∷ [])
 
 -- one increment, committed
-abbrev increment : Run
+abbrev pub increment : Run
 increment = run two_nodes (
     begins
     ∷ (
