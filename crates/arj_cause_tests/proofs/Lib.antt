@@ -14,3 +14,4 @@ mod WrongEnds
 pub mod WrongEvents
 mod WrongNodes
 mod WrongRuns
+mod runs
