@@ -1,2 +1,3 @@
 -- Lines in form, field by field.
+pub mod Labels
 pub mod World

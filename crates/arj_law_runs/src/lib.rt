@@ -8,7 +8,7 @@
 //! What it gives upward: `runs_make_few_bindings`, `frames_go_within`, `paths_are_those_of_journals`,
 //! `labels_are_known`, `trees_have_room`, `quiesces_leave_nothing_to_do`, `whoever_is_up_stays_up`,
 //! `whoever_waits_is_answered`, `changes_are_called`, `votes_are_used`, `frames_have_causes`,
-//! `lines_name_nodes`, `world_lines_are_in_form`, `plain_refusals_follow`.
+//! `lines_name_nodes`, `world_lines_are_in_form`, `labels_are_in_form`, `plain_refusals_follow`.
 #![tactic(auto)]
 
 mod bindings_bindings;
@@ -28,5 +28,5 @@ pub use lines::paths_are_those_of_journals;
 pub use names::labels_are_known;
 pub use rooms::trees_have_room;
 pub use rounds::{quiesces_leave_nothing_to_do, whoever_is_up_stays_up, whoever_waits_is_answered};
-pub use texts::{lines_name_nodes, world_lines_are_in_form};
+pub use texts::{labels_are_in_form, lines_name_nodes, world_lines_are_in_form};
 pub use votes::{changes_are_called, votes_are_used};

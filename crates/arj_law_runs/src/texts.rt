@@ -1,4 +1,5 @@
 // Lines in form: what each says of a run can be written, and read back.
+ghost use Rattle.arj_law_runs.specs.forms.Labels.{RunsSayLabels, RunsSayNames};
 ghost use Rattle.arj_law_runs.specs.forms.Nodes.{RunsNameNodes};
 ghost use Rattle.arj_law_runs.specs.forms.World.{RunsSayInForm};
 
@@ -15,4 +16,13 @@ pub fn world_lines_are_in_form()
 /// disks, and the store that an abort names since naming lists it already. It does nothing when it runs.
 pub fn lines_name_nodes()
     ensures { RunsNameNodes }
+{}
+
+/// In each run in form, wherever disks stop, with all crashes and restarts, from any start, each label that a line says is in form, a letter and
+/// letters or digits behind it: it is that of an action that began before, or of the one that begins, with the label of its event. So a line
+/// is in form that says beside it at most a node: of a commit that was called or is done, of an end, and of what was given up or lost. It
+/// does nothing when it runs.
+pub fn labels_are_in_form()
+    ensures labels { RunsSayLabels }
+    ensures lines { RunsSayNames }
 {}

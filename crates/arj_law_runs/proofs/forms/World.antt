@@ -643,7 +643,7 @@ module _ (hd : Header) where
   -- ---- lines in form
 
   module _ (form : HeaderInForm hd) where
-    node_form : (n : ℕ) → IsNode hd n → NodeInForm n
+    pub node_form : (n : ℕ) → IsNode hd n → NodeInForm n
     node_form n is =
         let p = and_parts (nat_le 1 n) (nat_le n hd.nodes) is in
         let low = leb-true 1 n p.0 in
