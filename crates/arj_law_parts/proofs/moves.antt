@@ -10,6 +10,7 @@
 -- look at none are some of them (`Happens`, `Moving`).
 pub mod Cuts
 pub mod Flat
+pub mod Others
 pub mod Reasons
 pub mod Happens
 pub mod Inputs

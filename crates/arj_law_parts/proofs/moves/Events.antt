@@ -25,8 +25,8 @@ use moves.Worlds.{asked_none, deliver_holds, either_holds, junk_holds, lost_hold
 use moves.Worlds.{sees_node}
 use moves.Worlds.{settled_holds, shows_hold, steps_hold, with_holds}
 use Rattle.arj_law_parts.specs.moves.Keeps.{Stands}
-use Rattle.arj_law_parts.specs.moves.Moments.{History, Moment, come, gone, no_history}
-use Rattle.arj_law_parts.specs.moves.With.{Brings, HoldsAt, HoldsWith, KeepsAll, KeepsWith, asked_at, asked_of_node, look, past_event}
+use Rattle.arj_law_parts.specs.moves.Moments.{History, Moment, come, gone, is_restart, no_history}
+use Rattle.arj_law_parts.specs.moves.With.{Brings, HoldsAt, HoldsWith, Closes, KeepsAll, KeepsSteps, KeepsWith, Opens, asked_at, asked_of_node, look, past_event}
 use Rattle.arj_law_parts.specs.moves.With.{past_moves}
 use Rattle.arj_law_parts.specs.moves.With.{past_of, past_unless, written}
 use Rattle.arj_law_parts.specs.steps.Writes.{asks}
@@ -40,7 +40,7 @@ none_of : {A : Type 0} (o : Option A) → is_some o ≡ false → o ≡ None
 none_of None h = refl
 none_of (Some a) h = absurd (cc h)
 
-module _ (hd : Header) (P : Moment → Type 0) {F : Type 0} (keeps : KeepsWith hd F P) where
+module _ (hd : Header) (P : Moment → Type 0) (keeps : KeepsSteps hd P) where
   -- ---- actions that begin
 
   -- the label that an event gives is new, its node is there, and the event begins the action before it has a line
@@ -221,6 +221,10 @@ module _ (hd : Header) (P : Moment → Type 0) {F : Type 0} (keeps : KeepsWith h
   brought : (e : Event) (i : Input) (g : History) → g.event ≡ e → Brings e i → Brings g.event i
   brought e i g its b = subst (λ (x : Event). Brings x i) (sym its) b
 
+  -- nor does it restart a node
+  not_restart : {e : Event} (g : History) → g.event ≡ e → is_restart e ≡ false → is_restart g.event ≡ false
+  not_restart g its other = ap is_restart its ∙ other
+
   pub happens_hold : (e : Event) (a : Arm) (g : History) (w : World) → first_reason (reasons e w) ≡ None → g.event ≡ e → Fresh g w →
       HoldsAt hd P g w → HoldsAt hd P (asked_of_node (asks e w) w g) (happens e a w)
   happens_hold (event.Begin l n) a g w free its fresh h =
@@ -251,14 +255,14 @@ module _ (hd : Header) (P : Moment → Type 0) {F : Type 0} (keeps : KeepsWith h
       act_holds (input.Abort l) l g w h (brought (event.Abort l) (input.Abort l) g its refl, fresh, tt)
   happens_hold (event.GiveUp l) a g w free its fresh h =
       act_holds (input.GiveUp l) l g w h (brought (event.GiveUp l) (input.GiveUp l) g its refl, fresh, tt)
-  happens_hold (event.Deliver k) a g w free its fresh h = deliver_holds hd P keeps g (frame_number k w) w h
+  happens_hold (event.Deliver k) a g w free its fresh h = deliver_holds hd P keeps g (not_restart g its refl) (frame_number k w) w h
   happens_hold (event.Lose k) a g w free its fresh h =
       lost_holds hd P keeps g (frame_number k w) w (at_place (frame_number k w) w.frames) refl h
-  happens_hold (event.Tick n) a g w free its fresh h = plain_hold hd P keeps n input.Tick g w refl h tt
-  happens_hold event.Settle a g w free its fresh h = settled_holds hd P keeps g most_frames w h
-  happens_hold event.Quiesce a g w free its fresh h = quiesce_holds hd P keeps g w h
+  happens_hold (event.Tick n) a g w free its fresh h = plain_hold hd P keeps n input.Tick g w refl h (not_restart g its refl)
+  happens_hold event.Settle a g w free its fresh h = settled_holds hd P keeps g (not_restart g its refl) most_frames w h
+  happens_hold event.Quiesce a g w free its fresh h = quiesce_holds hd P keeps g (not_restart g its refl) w h
   happens_hold (event.Crash n) a g w free its fresh h = plain_hold hd P keeps n input.Crash g w refl h tt
-  happens_hold (event.Restart n) a g w free its fresh h = plain_hold hd P keeps n input.Restart g w refl h tt
+  happens_hold (event.Restart n) a g w free its fresh h = plain_hold hd P keeps n input.Restart g w refl h (its, fresh)
   happens_hold (event.Stop n c how) a g w free its fresh h = says_hold hd P keeps (body.Armed n ∷ []) g (armed n a w) refl
       (same_seen hd P keeps g w (armed n a w) refl refl refl refl refl refl refl h)
   happens_hold (event.Junk n bytes) a g w free its fresh h = junk_holds hd P keeps g n w (nat_lt (length w.frames) most_frames) refl
@@ -270,158 +274,165 @@ module _ (hd : Header) (P : Moment → Type 0) {F : Type 0} (keeps : KeepsWith h
       (says_hold hd P keeps (body.Limit which.Frames ∷ []) g (record w { over = true }) refl
       (same_seen hd P keeps g w (record w { over = true }) refl refl refl refl refl refl refl h)) h
 
-  -- ---- as an event comes, and as it is over
+  -- ---- behind all that an event makes happen
 
-  opens_at : (e : Event) (g : History) (w : World) → w.over ≡ false → HoldsWith hd P g w → HoldsAt hd P (come e g) (counted w)
-  opens_at e g w over h = record {
-    sent = h.now.sent;
-    stands = record {
-      frames = h.now.stands.frames;
-      junk = h.now.stands.junk;
-      header = h.now.stands.header;
-      numbers = h.now.stands.numbers;
-      places = h.now.stands.places;
-      labels = h.now.stands.labels;
-    };
-    number = λ i. h.now.number i + 1;
-    wrote = ([], sym (h.lines over) ∙ sym (append-nil (let r = g.run in r.lines)));
-    holds = keeps.opens e (look g h.now.sent w) (h.lines over) (sym h.now.number ∙ h.count) h.now.holds;
-  }
-
-  -- what stands behind the lines of a world
-  behind_lines : (ls : List Line) (e : ℕ) (bs : List Body) → map (λ (l : Line). l.body) (drop (length ls) (ls ++ numbered e bs)) ≡ bs
-  behind_lines ls e bs = ap (λ xs. map (λ (l : Line). l.body) xs) (dropped ls (numbered e bs)) ∙ bodies_of bs
+  counted_free : (e : Event) (w : World) → first_reason (reasons e w) ≡ None → first_reason (reasons e (counted w)) ≡ None
+  counted_free (event.Begin l n) w is = is
+  counted_free (event.Serial l n) w is = is
+  counted_free (event.BeginIn l p) w is = is
+  counted_free (event.Top l p) w is = is
+  counted_free (event.Call l x o) w is = is
+  counted_free (event.Include l x n) w is = is
+  counted_free (event.Commit l) w is = is
+  counted_free (event.Abort l) w is = is
+  counted_free (event.GiveUp l) w is = is
+  counted_free (event.Deliver k) w is = by k is
     where
-      dropped : (xs ys : List Line) → drop (length xs) (xs ++ ys) ≡ ys
-      dropped [] ys = refl
-      dropped (x ∷ xs) ys = dropped xs ys
-
-      bodies_of : (bs : List Body) → map (λ (l : Line). l.body) (numbered e bs) ≡ bs
-      bodies_of [] = refl
-      bodies_of (b ∷ bs) = λ i. b ∷ bodies_of bs i
-
-  closes_at : (g : History) (w v : World) → (let r = g.run in r.lines) ≡ w.lines → g.number ≡ (let r = g.run in r.count) + 1 →
-      HoldsAt hd P g v →
-      HoldsWith hd P (gone (written w v) g) v
-  closes_at g w v fresh count h = record {
-    now = record {
-      sent = h.sent;
-      stands = h.stands;
-      number = h.number;
-      wrote = ([], sym (now ∙ at_last) ∙ sym (append-nil (g.run.lines ++ numbered (g.run.count + 1) (written w v))));
-      holds = keeps.closes (written w v) (look g h.sent v) (sym h.number ∙ count) all h.holds;
-    };
-    count = count;
-    lines = λ over. now ∙ at_last;
-  }
+      by : (k : FrameNo) → first_reason (reasons (event.Deliver k) w) ≡ None →
+          first_reason (reasons (event.Deliver k) (counted w)) ≡ None
+      by (input_frame.Number j) is = is
+      by input_frame.Last is = is
+  counted_free (event.Lose k) w is = by k is
     where
-      bs : List Body
-      bs = h.wrote.0
+      by : (k : FrameNo) → first_reason (reasons (event.Lose k) w) ≡ None → first_reason (reasons (event.Lose k) (counted w)) ≡ None
+      by (input_frame.Number j) is = is
+      by input_frame.Last is = is
+  counted_free (event.Tick n) w is = is
+  counted_free event.Settle w is = is
+  counted_free event.Quiesce w is = is
+  counted_free (event.Crash n) w is = is
+  counted_free (event.Restart n) w is = is
+  counted_free (event.Stop n c how) w is = is
+  counted_free (event.Junk n bytes) w is = is
+  counted_free (event.Show x) w is = is
 
-      same : written w v ≡ h.wrote.0
-      same = (λ i. map (λ (l : Line). l.body) (drop (length (sym fresh i)) (h.wrote.1 i))) ∙ behind_lines g.run.lines v.event h.wrote.0
+  -- what is asked of a node doesn't look at the event's number
+  same_asks : (g : History) (w : World) (e : Event) → asked_of_node (asks e (counted w)) (counted w) (come e g) ≡ asked_of_node (asks e w) w (come e g)
+  same_asks g w (event.Begin l n) = refl
+  same_asks g w (event.Serial l n) = refl
+  same_asks g w (event.BeginIn l p) = refl
+  same_asks g w (event.Top l p) = refl
+  same_asks g w (event.Call l x o) = refl
+  same_asks g w (event.Include l x n) = refl
+  same_asks g w (event.Commit l) = refl
+  same_asks g w (event.Abort l) = refl
+  same_asks g w (event.GiveUp l) = refl
+  same_asks g w (event.Deliver k) = refl
+  same_asks g w (event.Lose k) = refl
+  same_asks g w (event.Tick n) = refl
+  same_asks g w event.Settle = refl
+  same_asks g w event.Quiesce = refl
+  same_asks g w (event.Crash n) = refl
+  same_asks g w (event.Restart n) = refl
+  same_asks g w (event.Stop n c how) = refl
+  same_asks g w (event.Junk n bytes) = refl
+  same_asks g w (event.Show x) = refl
 
-      all : v.lines ≡ g.run.lines ++ numbered v.event (written w v)
-      all = h.wrote.1 ∙ (λ i. g.run.lines ++ numbered v.event (sym same i))
+  -- where the world doesn't refuse the event, and before it is over
+  pub happened : (e : Event) (a : Arm) (g : History) (w : World) → first_reason (reasons e w) ≡ None →
+      (let r = g.run in r.lines) ≡ w.lines → HoldsAt hd P (come e g) (counted w) →
+      HoldsAt hd P (asked_of_node (asks e w) w (come e g)) (limited (happens e a (counted w)))
+  happened e a g w is fresh h = limited_holds (asked_of_node (asks e w) w (come e g)) (happens e a (counted w))
+      (subst (λ q. HoldsAt hd P q (happens e a (counted w))) (same_asks g w e)
+      (happens_hold e a (come e g) (counted w) (counted_free e w is) refl fresh h))
 
-      now : g.run.lines ++ numbered (g.run.count + 1) (written w v) ≡ g.run.lines ++ numbered v.event (written w v)
-      now = λ i. g.run.lines ++ numbered ((sym count ∙ h.number) i) (written w v)
+-- ---- as an event comes, and as it is over
 
-      at_last : g.run.lines ++ numbered v.event (written w v) ≡ v.lines
-      at_last = sym all
+pub opens_at : (hd : Header) (P Q : Moment → Type 0) → Opens P Q → (e : Event) (g : History) (w : World) → w.over ≡ false →
+    HoldsWith hd P g w → HoldsAt hd Q (come e g) (counted w)
+opens_at hd P Q opens e g w over h = record {
+  sent = h.now.sent;
+  stands = record {
+    frames = h.now.stands.frames;
+    junk = h.now.stands.junk;
+    header = h.now.stands.header;
+    numbers = h.now.stands.numbers;
+    places = h.now.stands.places;
+    labels = h.now.stands.labels;
+  };
+  number = λ i. h.now.number i + 1;
+  wrote = ([], sym (h.lines over) ∙ sym (append-nil (let r = g.run in r.lines)));
+  holds = opens e (look g h.now.sent w) (h.lines over) (sym h.now.number ∙ h.count) h.now.holds;
+}
 
+-- what stands behind the lines of a world
+behind_lines : (ls : List Line) (e : ℕ) (bs : List Body) → map (λ (l : Line). l.body) (drop (length ls) (ls ++ numbered e bs)) ≡ bs
+behind_lines ls e bs = ap (λ xs. map (λ (l : Line). l.body) xs) (dropped ls (numbered e bs)) ∙ bodies_of bs
+  where
+    dropped : (xs ys : List Line) → drop (length xs) (xs ++ ys) ≡ ys
+    dropped [] ys = refl
+    dropped (x ∷ xs) ys = dropped xs ys
+
+    bodies_of : (bs : List Body) → map (λ (l : Line). l.body) (numbered e bs) ≡ bs
+    bodies_of [] = refl
+    bodies_of (b ∷ bs) = λ i. b ∷ bodies_of bs i
+
+pub closes_at : (hd : Header) (P Q : Moment → Type 0) → Closes P Q → (g : History) (w v : World) → (let r = g.run in r.lines) ≡ w.lines →
+    g.number ≡ (let r = g.run in r.count) + 1 → HoldsAt hd P g v → HoldsWith hd Q (gone (written w v) g) v
+closes_at hd P Q closes g w v fresh count h = record {
+  now = record {
+    sent = h.sent;
+    stands = h.stands;
+    number = h.number;
+    wrote = ([], sym (now ∙ at_last) ∙ sym (append-nil (g.run.lines ++ numbered (g.run.count + 1) (written w v))));
+    holds = closes (written w v) (look g h.sent v) (sym h.number ∙ count) all h.holds;
+  };
+  count = count;
+  lines = λ over. now ∙ at_last;
+}
+  where
+    bs : List Body
+    bs = h.wrote.0
+
+    same : written w v ≡ h.wrote.0
+    same = (λ i. map (λ (l : Line). l.body) (drop (length (sym fresh i)) (h.wrote.1 i))) ∙ behind_lines g.run.lines v.event h.wrote.0
+
+    all : v.lines ≡ g.run.lines ++ numbered v.event (written w v)
+    all = h.wrote.1 ∙ (λ i. g.run.lines ++ numbered v.event (sym same i))
+
+    now : g.run.lines ++ numbered (g.run.count + 1) (written w v) ≡ g.run.lines ++ numbered v.event (written w v)
+    now = λ i. g.run.lines ++ numbered ((sym count ∙ h.number) i) (written w v)
+
+    at_last : g.run.lines ++ numbered v.event (written w v) ≡ v.lines
+    at_last = sym all
+
+-- what is asked leaves the rest of the history as it is
+pub same_run : (e : Event) (g : History) (w : World) (o : Option (ℕ × Input)) →
+    ((let q = asked_of_node o w (come e g) in q.run) ≡ (let q = g in q.run))
+    × ((let q = asked_of_node o w (come e g) in q.number) ≡ (let q = g in q.number) + 1)
+same_run e g w None = (refl, refl)
+same_run e g w (Some b) = at (at_place b.0 w.nodes)
+  where
+    at : (n : Option Node) → ((let q = asked_at w.header b.1 n (come e g) in q.run) ≡ (let q = g in q.run))
+        × ((let q = asked_at w.header b.1 n (come e g) in q.number) ≡ (let q = g in q.number) + 1)
+    at None = (refl, refl)
+    at (Some n) = (refl, refl)
+
+module _ (hd : Header) (P : Moment → Type 0) {F : Type 0} (keeps : KeepsWith hd F P) where
   -- ---- events of a run
 
   unless_holds : (e : Event) (a : Arm) (g : History) (w : World) (r : Option ℕ) → first_reason (reasons e w) ≡ r → w.over ≡ false →
       HoldsWith hd P g w → HoldsWith hd P (past_unless e w (run_unless e a w r) g r) (run_unless e a w r)
   unless_holds e a g w (Some c) is over h =
-      closes_at (come e g) w (says (body.Refused c ∷ []) (counted w)) (h.lines over) (λ i. h.count i + 1)
-      (says_hold hd P keeps (body.Refused c ∷ []) (come e g) (counted w) refl (opens_at e g w over h))
+      closes_at hd P P keeps.closes (come e g) w (says (body.Refused c ∷ []) (counted w)) (h.lines over) (λ i. h.count i + 1)
+      (says_hold hd P keeps.steps (body.Refused c ∷ []) (come e g) (counted w) refl (opens_at hd P P keeps.opens e g w over h))
   unless_holds e a g w None is over h = by (lacks_labels (giving e w) w)
     where
-      counted_free : (e : Event) (w : World) → first_reason (reasons e w) ≡ None → first_reason (reasons e (counted w)) ≡ None
-      counted_free (event.Begin l n) w is = is
-      counted_free (event.Serial l n) w is = is
-      counted_free (event.BeginIn l p) w is = is
-      counted_free (event.Top l p) w is = is
-      counted_free (event.Call l x o) w is = is
-      counted_free (event.Include l x n) w is = is
-      counted_free (event.Commit l) w is = is
-      counted_free (event.Abort l) w is = is
-      counted_free (event.GiveUp l) w is = is
-      counted_free (event.Deliver k) w is = by k is
-        where
-          by : (k : FrameNo) → first_reason (reasons (event.Deliver k) w) ≡ None →
-              first_reason (reasons (event.Deliver k) (counted w)) ≡ None
-          by (input_frame.Number j) is = is
-          by input_frame.Last is = is
-      counted_free (event.Lose k) w is = by k is
-        where
-          by : (k : FrameNo) → first_reason (reasons (event.Lose k) w) ≡ None → first_reason (reasons (event.Lose k) (counted w)) ≡ None
-          by (input_frame.Number j) is = is
-          by input_frame.Last is = is
-      counted_free (event.Tick n) w is = is
-      counted_free event.Settle w is = is
-      counted_free event.Quiesce w is = is
-      counted_free (event.Crash n) w is = is
-      counted_free (event.Restart n) w is = is
-      counted_free (event.Stop n c how) w is = is
-      counted_free (event.Junk n bytes) w is = is
-      counted_free (event.Show x) w is = is
-
-      -- what is asked of a node doesn't look at the event's number
-      same_asks : (e : Event) → asked_of_node (asks e (counted w)) (counted w) (come e g) ≡ asked_of_node (asks e w) w (come e g)
-      same_asks (event.Begin l n) = refl
-      same_asks (event.Serial l n) = refl
-      same_asks (event.BeginIn l p) = refl
-      same_asks (event.Top l p) = refl
-      same_asks (event.Call l x o) = refl
-      same_asks (event.Include l x n) = refl
-      same_asks (event.Commit l) = refl
-      same_asks (event.Abort l) = refl
-      same_asks (event.GiveUp l) = refl
-      same_asks (event.Deliver k) = refl
-      same_asks (event.Lose k) = refl
-      same_asks (event.Tick n) = refl
-      same_asks event.Settle = refl
-      same_asks event.Quiesce = refl
-      same_asks (event.Crash n) = refl
-      same_asks (event.Restart n) = refl
-      same_asks (event.Stop n c how) = refl
-      same_asks (event.Junk n bytes) = refl
-      same_asks (event.Show x) = refl
-
-      happened : HoldsAt hd P (asked_of_node (asks e w) w (come e g)) (limited (happens e a (counted w)))
-      happened = limited_holds (asked_of_node (asks e w) w (come e g)) (happens e a (counted w))
-          (subst (λ q. HoldsAt hd P q (happens e a (counted w))) (same_asks e)
-          (happens_hold e a (come e g) (counted w) (counted_free e w is) refl (h.lines over) (opens_at e g w over h)))
-
-      -- what is asked leaves the rest of the history as it is
-      same_run : (o : Option (ℕ × Input)) → ((let q = asked_of_node o w (come e g) in q.run) ≡ (let q = g in q.run))
-          × ((let q = asked_of_node o w (come e g) in q.number) ≡ (let q = g in q.number) + 1)
-      same_run None = (refl, refl)
-      same_run (Some b) = at (at_place b.0 w.nodes)
-        where
-          at : (n : Option Node) → ((let q = asked_at w.header b.1 n (come e g) in q.run) ≡ (let q = g in q.run))
-              × ((let q = asked_at w.header b.1 n (come e g) in q.number) ≡ (let q = g in q.number) + 1)
-          at None = (refl, refl)
-          at (Some n) = (refl, refl)
-
       by : (b : Bool) → HoldsWith hd P
           (let v = if b then no_labels w else limited (happens e a (counted w)) in
           if b then g else gone (written w v) (asked_of_node (asks e w) w (come e g)))
           (if b then no_labels w else limited (happens e a (counted w)))
       by true = record {
-        now = says_hold hd P keeps (body.Limit which.Labels ∷ []) g (record w { over = true }) refl
-            (same_seen hd P keeps g w (record w { over = true }) refl refl refl refl refl refl refl h.now);
+        now = says_hold hd P keeps.steps (body.Limit which.Labels ∷ []) g (record w { over = true }) refl
+            (same_seen hd P keeps.steps g w (record w { over = true }) refl refl refl refl refl refl refl h.now);
         count = h.count;
         lines = λ never. absurd (cc never);
       }
       by false =
           let q = asked_of_node (asks e w) w (come e g) in
-          let same = same_run (asks e w) in
-          closes_at q w (limited (happens e a (counted w))) (ap (λ (r : Past). r.lines) same.0 ∙ h.lines over)
-          (same.1 ∙ (λ i. h.count i + 1) ∙ (λ i. (let r = sym same.0 i in r.count) + 1)) happened
+          let same = same_run e g w (asks e w) in
+          closes_at hd P P keeps.closes q w (limited (happens e a (counted w))) (ap (λ (r : Past). r.lines) same.0 ∙ h.lines over)
+          (same.1 ∙ (λ i. h.count i + 1) ∙ (λ i. (let r = sym same.0 i in r.count) + 1)) (happened hd P keeps.steps e a g w is (h.lines over) (opens_at hd P P keeps.opens e g w over h))
 
   pub event_with : (e : Asked) (g : History) (w : World) → HoldsWith hd P g w → HoldsWith hd P (past_event e w g) (run_event e w)
   event_with e g w h = by w.over refl
@@ -440,7 +451,7 @@ module _ (hd : Header) (P : Moment → Type 0) {F : Type 0} (keeps : KeepsWith h
   -- which stops are still to fall is nothing to it
   arms_with : (arms : List (ℕ × Arm)) (g : History) (w : World) → HoldsWith hd P g w → HoldsWith hd P g (record w { arms = arms })
   arms_with arms g w h = record {
-    now = same_seen hd P keeps g w (record w { arms = arms }) refl refl refl refl refl refl refl h.now;
+    now = same_seen hd P keeps.steps g w (record w { arms = arms }) refl refl refl refl refl refl refl h.now;
     count = h.count;
     lines = h.lines;
   }

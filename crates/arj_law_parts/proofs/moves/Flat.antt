@@ -1,7 +1,7 @@
 -- Effects as they come out of a step, without the messages of the node to itself: what was sent is then more than these say.
 use Rattle.arj_law_parts.proofs.Words
 use Words.{◌≡◌, ℕ, Bool, true, false, List, [], ◌∷◌, ◌++◌, refl, subst, inl, inr, ◌==◌, eqb-true, AllByRecursion, if◌then◌else◌}
-use Words.{Message, Disk, Effect, Say, Send, Do, Stop, worked, stopped, Parts, Ran, ran, first_queued, first_done, Post}
+use Words.{Event, Message, Disk, Effect, Say, Send, Do, Stop, worked, stopped, Parts, Ran, ran, first_queued, first_done, Post}
 use Rattle.arj_law_parts.proofs.Terms.{In, Within}
 use Rattle.arj_law_parts.specs.moves.Moments.{Moment, fits, framed, framed_if, halted, posted, said, sent, with_sent}
 use Rattle.arj_law_parts.specs.moves.With.{WalksWith}
@@ -82,6 +82,23 @@ flat_keeps P k base (Send to m ∷ es) end d M fewer f = by (fits M)
   where
     Goes : Bool → Type 0
     Goes b = Flat P k es end d (framed_if b (post k to m) M) → Flat P k es (With base end) d (framed_if b (post k to m) M)
+
+    by : (b : Bool) → Goes true → Goes false → Goes b
+    by true t f = t
+    by false t f = f
+
+-- the event is the same at the end
+pub flat_event : (P : Moment → Type 0) (k : ℕ) (e : Event) (es : List Effect) (end : Disk → Moment → Type 0) (d : Disk) (M : Moment) →
+    M.past.event ≡ e → Flat P k es end d M → Flat P k es (λ c N. end c N × (N.past.event ≡ e)) d M
+flat_event P k e [] end d M is f = (f.0, f.1, (f.2, is))
+flat_event P k e (Do w ∷ es) end d M is f = (f.0, flat_event P k e es end (worked w d) M is f.1)
+flat_event P k e (Say b ∷ es) end d M is f = flat_event P k e es end d (said (b ∷ []) M) is f
+flat_event P k e (Send to m ∷ es) end d M is f = by (fits M)
+    (flat_event P k e es end d (framed_if true (post k to m) M) is) (flat_event P k e es end d M is) f
+  where
+    Goes : Bool → Type 0
+    Goes b = Flat P k es end d (framed_if b (post k to m) M) →
+        Flat P k es (λ c N. end c N × (N.past.event ≡ e)) d (framed_if b (post k to m) M)
 
     by : (b : Bool) → Goes true → Goes false → Goes b
     by true t f = t

@@ -1,6 +1,6 @@
 -- Each message to another node has the line of its frame, in every run.
 use Rattle.arj_law_parts.proofs.Words
-use Words.{◌≡◌, ◌∙◌, ◌==◌, ◌+◌, ℕ, Bool, true, false, if◌then◌else◌, List, [], ◌∷◌, ◌++◌, refl, sym, ap, subst, inl, inr, ⊎_elim}
+use Words.{⊎_elim, ◌≡◌, ◌∙◌, ◌==◌, ◌+◌, ℕ, Bool, true, false, if◌then◌else◌, List, [], ◌∷◌, ◌++◌, refl, sym, ap, subst, inl, inr}
 use Words.{append_assoc}
 use Words.{eqb-true, Some, Header, Body, Line, Disk, Effect, Say, Send, Do, worked, Parts, numbered, Post, frame_kind, acts, again_all}
 use Words.{begin_action, parent_of, parts_in, restart_outs, tick_outs, with_coord, is_serial}
@@ -9,7 +9,7 @@ use Words.frame
 use Rattle.arj_law_parts.proofs.moves.{Events.run_with, Flat.post}
 use Rattle.arj_law_parts.specs.moves.Framed.{AreFramed, HasLine, RunsFrameMessages}
 use Rattle.arj_law_parts.specs.moves.Moments.{Moment, asks_now, fits, framed_if, given, posted, said, sent}
-use Rattle.arj_law_parts.specs.moves.With.{KeepsAll, UpWith, WalksWith}
+use Rattle.arj_law_parts.specs.moves.With.{KeepsAll, KeepsSteps, UpWith, WalksWith}
 
 has_more : (p : Post) (lines more : List Line) → HasLine p lines → HasLine p (lines ++ more)
 has_more p lines more h = record {
@@ -54,14 +54,12 @@ walk k v (Do w ∷ es) d M h = ((λ how. said_framed (body.Halted k ∷ []) M h)
 walk k v (Say b ∷ es) d M h = walk k v es d (said (b ∷ []) M) (said_framed (b ∷ []) M h)
 walk k v (Send to m ∷ es) d M h = walk k v es d (sent (post k to m) M) (sent_framed (post k to m) M h)
 
-frames_keep : (hd : Header) → KeepsAll hd AreFramed
-frames_keep hd = record {
-  opens = λ e M fresh number h. h;
-  closes = λ bodies M number lines h. h;
+frames_step : (hd : Header) → KeepsSteps hd AreFramed
+frames_step hd = record {
   quiet = λ bs M plain h. said_framed bs M h;
   junk = λ n M fit h. said_framed (body.Sent (M.past.frames + 1) 0 n frame.Junk ∷ []) M h;
   stop = λ k d live M h. said_framed (body.Halted k ∷ []) M h;
-  message = λ k d t v from m outs M h there meant is. walk k v outs d M h;
+  message = λ k d t v from m outs M h there meant may is. walk k v outs d M h;
   act = λ k d t i M is brings fresh asks free h. walk k (with_coord t (acts i d.intents t.coord).part) (acts i d.intents t.coord).outs d
       (asks_now i t.coord M) h;
   begin = λ k d t l how parent M brings fresh free gives none h.
@@ -69,7 +67,14 @@ frames_keep hd = record {
       walk k (with_coord t a.part) a.outs d (given l (record { node = k; serial = is_serial how }) M) h;
   tick = λ k d t M h. walk k (with_coord t (again_all t.coord.doings t.coord).part)
       (tick_outs (record { number = k; disk = d; live = Some t }) t) d M h;
-  restart = λ k d M h. walk k (parts_in k (d.inc + 1) d) (restart_outs hd k (d.inc + 1) d) d M h;
+  restart = λ k d M event first h. walk k (parts_in k (d.inc + 1) d) (restart_outs hd k (d.inc + 1) d) d M h;
+}
+
+frames_keep : (hd : Header) → KeepsAll hd AreFramed
+frames_keep hd = record {
+  opens = λ e M fresh number h. h;
+  closes = λ bodies M number lines h. h;
+  steps = frames_step hd;
   first = λ st formed p there. absurd there;
 }
 

@@ -2,7 +2,7 @@
 -- those that do, once it is allowed for more to have been sent.
 use Rattle.arj_law_parts.proofs.Words
 use Words.{Start, IsFormed, ◌≡◌, ℕ, Bool, true, false, List, [], ◌∷◌, ◌++◌, refl, sym, subst, append-nil, inr, Some}
-use Words.{IfSome, None, Option, ⊤, ◌==◌, if◌then◌else◌, Header, Body, Event, Disk, Effect, Say, Send, Do, worked, first_reason, happens, reasons}
+use Words.{IfSome, None, ⊤, ◌==◌, if◌then◌else◌, Header, Body, Event, Disk, Effect, Say, Send, Do, worked, first_reason, happens, reasons}
 use Words.{Input, World, Arm, steps, deliver, run_event, run_all, world_from, again_all, begin_action, tick_outs, acts}
 use Words.{◌+◌, ◌&&◌, and_parts, list_all, at_place, parent_of, parts_in, restart_outs, with_coord, frame_kind, Post, Seen}
 use Words.{is_serial, see}
@@ -23,7 +23,7 @@ use Rattle.arj_model.specs.Past.{nothing_yet}
 use Rattle.arj_law_parts.specs.moves.Keeps.{AsksNode, Keeps}
 use Rattle.arj_law_parts.specs.moves.Moments.{History, Moment, asks_now, fits, framed_if, given, posted, said}
 use Rattle.arj_law_parts.specs.moves.Seen as seen
-use Rattle.arj_law_parts.specs.moves.With.{ArePlain, HoldsAt, KeepsWith, WalksWith, asked_at, asked_of_node, is_plain_line, look}
+use Rattle.arj_law_parts.specs.moves.With.{ArePlain, HoldsAt, KeepsSteps, KeepsWith, WalksWith, asked_at, asked_of_node, is_plain_line, look}
 use Rattle.arj_law_parts.specs.moves.With.{past_event}
 use Rattle.arj_law_parts.specs.steps.Writes.{asks}
 
@@ -77,11 +77,9 @@ plain_quiet (b ∷ bs) h = let parts = and_parts (is_plain_line b) (list_all is_
     one (body.Sent k from to what) h = refl
     one b h = h
 
--- what looks at no history is kept
-pub wide_kept : (hd : Header) (F : Type 0) (P : Seen → Type 0) → KeepsFrom hd F P → KeepsWith hd F (Wide P)
-wide_kept hd F P keeps = record {
-  opens = λ e M fresh number h. h;
-  closes = λ bodies M number lines h. h;
+-- what looks at no history is kept within events
+pub wide_steps : (hd : Header) (F : Type 0) (P : Seen → Type 0) → KeepsFrom hd F P → KeepsSteps hd (Wide P)
+wide_steps hd F P keeps = record {
   quiet = λ bs M plain h. (h.0, h.1, keeps.quiet M.past.number bs (seen.with_sent h.0 M.seen) (plain_quiet bs plain) h.2);
   junk = λ n M fit h. (
     h.0,
@@ -90,7 +88,7 @@ wide_kept hd F P keeps = record {
         (seen.with_sent h.0 M.seen) refl h.2,
   );
   stop = λ k d live M h. (h.0, h.1, keeps.stop M.past.number k d live (seen.with_sent h.0 M.seen) h.2);
-  message = λ k d t v from m outs M h there meant is. wide_walk P k outs (Up P k v) d M h.0 h.1
+  message = λ k d t v from m outs M h there meant may is. wide_walk P k outs (Up P k v) d M h.0 h.1
       (keeps.message M.past.number k d t v from m outs (seen.with_sent h.0 M.seen) h.2 (h.1 (post from k m) there) meant is);
   act = λ k d t i M is brings fresh asks free h. wide_walk P k (acts i d.intents t.coord).outs
       (Up P k (with_coord t (acts i d.intents t.coord).part)) d (asks_now i t.coord M) h.0 h.1
@@ -101,8 +99,16 @@ wide_kept hd F P keeps = record {
   tick = λ k d t M h. wide_walk P k (tick_outs (record { number = k; disk = d; live = Some t }) t)
       (Up P k (with_coord t (again_all t.coord.doings t.coord).part)) d M h.0 h.1
       (keeps.tick M.past.number k d t (seen.with_sent h.0 M.seen) h.2);
-  restart = λ k d M h. wide_walk P k (restart_outs hd k (d.inc + 1) d) (Up P k (parts_in k (d.inc + 1) d)) d M h.0 h.1
+  restart = λ k d M event first h. wide_walk P k (restart_outs hd k (d.inc + 1) d) (Up P k (parts_in k (d.inc + 1) d)) d M h.0 h.1
       (keeps.restart M.past.number k d (seen.with_sent h.0 M.seen) h.2);
+}
+
+-- what looks at no history is kept
+pub wide_kept : (hd : Header) (F : Type 0) (P : Seen → Type 0) → KeepsFrom hd F P → KeepsWith hd F (Wide P)
+wide_kept hd F P keeps = record {
+  opens = λ e M fresh number h. h;
+  closes = λ bodies M number lines h. h;
+  steps = wide_steps hd F P keeps;
   first = keeps.first;
 }
 
@@ -118,6 +124,9 @@ IsSentTo hd k i M = ⊤
 module _ (hd : Header) (P : Seen → Type 0) {F : Type 0} (keeps : KeepsFrom hd F P) where
   kept : KeepsWith hd F (Wide P)
   kept = wide_kept hd F P keeps
+
+  steps_kept : KeepsSteps hd (Wide P)
+  steps_kept = wide_steps hd F P keeps
 
   -- a history in which this event is under way, and has written nothing yet
   abbrev since : Event → World → History
@@ -143,7 +152,7 @@ module _ (hd : Header) (P : Seen → Type 0) {F : Type 0} (keeps : KeepsFrom hd 
   narrow g w h = record {
     sent = h.holds.0;
     stands = record {
-      frames = all_to (IsSent h.sent) (IsSent h.holds.0) w.frames (worlds.sent_more hd (Wide P) kept h.sent h.holds.0 h.holds.1)
+      frames = all_to (IsSent h.sent) (IsSent h.holds.0) w.frames (worlds.sent_more hd (Wide P) steps_kept h.sent h.holds.0 h.holds.1)
           h.stands.frames;
       junk = h.stands.junk;
       header = h.stands.header;
@@ -155,11 +164,11 @@ module _ (hd : Header) (P : Seen → Type 0) {F : Type 0} (keeps : KeepsFrom hd 
   }
 
   -- a node takes an input of an event that brings it
-  went : (e : Event) (k : ℕ) (i : Input) (w : World) (h : Holds hd P w) → MayCome hd (Wide P) kept k i (look (since e w) h.sent w) →
+  went : (e : Event) (k : ℕ) (i : Input) (w : World) (h : Holds hd P w) → MayCome hd (Wide P) steps_kept k i (look (since e w) h.sent w) →
       Holds hd P (steps k i w)
   unfolding wide_at
   went e k i w h may = narrow (asked_at hd i (at_place k w.nodes) (since e w)) (steps k i w)
-      (worlds.steps_hold hd (Wide P) kept k i (since e w) w (wide_at e w h) may)
+      (worlds.steps_hold hd (Wide P) steps_kept k i (since e w) w (wide_at e w h) may)
 
   pub steps_hold : (k : ℕ) (i : Input) (w : World) (h : Holds hd P w) → IsSentTo hd k i (see h.sent w) → Holds hd P (steps k i w)
   steps_hold k (input.Begin l how parent) w h there = absurd there
@@ -168,20 +177,20 @@ module _ (hd : Header) (P : Seen → Type 0) {F : Type 0} (keeps : KeepsFrom hd 
   steps_hold k (input.Commit l) w h there = went (event.Commit l) k (input.Commit l) w h (refl, refl, tt)
   steps_hold k (input.Abort l) w h there = went (event.Abort l) k (input.Abort l) w h (refl, refl, tt)
   steps_hold k (input.GiveUp l) w h there = went (event.GiveUp l) k (input.GiveUp l) w h (refl, refl, tt)
-  steps_hold k (input.Frame f from m) w h there = went event.Settle k (input.Frame f from m) w h there
-  steps_hold k input.Tick w h there = went event.Settle k input.Tick w h tt
-  steps_hold k input.Restart w h there = went event.Settle k input.Restart w h tt
+  steps_hold k (input.Frame f from m) w h there = went event.Settle k (input.Frame f from m) w h (there, refl)
+  steps_hold k input.Tick w h there = went event.Settle k input.Tick w h refl
+  steps_hold k input.Restart w h there = went (event.Restart k) k input.Restart w h (refl, refl)
   steps_hold k input.Crash w h there = went event.Settle k input.Crash w h tt
   steps_hold k (input.Show x) w h there = went event.Settle k (input.Show x) w h tt
 
   pub deliver_holds : (k : ℕ) (w : World) → Holds hd P w → Holds hd P (deliver k w)
   deliver_holds k w h = narrow (since event.Settle w) (deliver k w)
-      (worlds.deliver_holds hd (Wide P) kept (since event.Settle w) k w (wide_at event.Settle w h))
+      (worlds.deliver_holds hd (Wide P) steps_kept (since event.Settle w) refl k w (wide_at event.Settle w h))
 
   pub happens_hold : (e : Event) (a : Arm) (w : World) → first_reason (reasons e w) ≡ None → Holds hd P w → Holds hd P (happens e a w)
   unfolding wide_at
   happens_hold e a w free h = narrow (asked_of_node (asks e w) w (since e w)) (happens e a w)
-      (event_happens hd (Wide P) kept e a (since e w) w free refl refl (wide_at e w h))
+      (event_happens hd (Wide P) steps_kept e a (since e w) w free refl refl (wide_at e w h))
 
   pub event_asked : (e : Asked) (w : World) → Holds hd P w → Holds hd P (run_event e w)
   event_asked e w h =

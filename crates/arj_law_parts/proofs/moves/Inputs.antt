@@ -1,20 +1,23 @@
 -- The steps of a node, input by input: each keeps the relation, done to the end or stopped.
 use Rattle.arj_law_parts.proofs.Words
-use Words.{◌≡◌, ℕ, ◌+◌, Bool, true, false, List, [], ◌∷◌, refl, sym, ap, subst, Option, Some, None, ◌==◌, IfSome, ⊤, if◌then◌else◌}
-use Words.{list_all, and_parts, Header, Label, Kind, Message, ObjectState, Uid, object, entry, Disk, Pair, Effect, Say, Send, Do, Look}
+use Words.{◌≡◌, ◌∙◌, ℕ, ◌+◌, Bool, true, false, List, [], ◌∷◌, refl, sym, ap, subst, Option, Some, None, ◌==◌, IfSome, ⊤, if◌then◌else◌}
+use Words.{list_all, and_parts, Event, Header, Label, Kind, Message, ObjectState, Uid, object, entry, Disk, Pair, Effect, Say, Send, Do, Look}
 use Words.{Prepare, Stop, Before, After, InPart, stopped, holder_of, held_at, again_all, begin_action, tick_outs, Parts, Handled, Void}
 use Words.{Took, taken, whole, with_coord, AreAll, Node, Input, Step, step, step_up, step_down, step_unless, refusal_at, frame_step}
 use Words.{handled_step, void_step, node_did, coord_did, restart_outs, parts_in, show_outs, show_entry, shown, entry_line, copy_line}
 use Words.{only_says, acts, parent_of, Labelled, all_both, taken_took, is_serial}
 use Words.body
+use Words.event
 use Words.input
 use Rattle.arj_law_parts.proofs.Terms.{In, MayGive, label_at}
 use Rattle.arj_law_parts.proofs.moves
 use moves.Flat.{Flat, Behind, within_same, flat_to}
+use moves.Others.{SendOthers, restart_others}
 use moves.Rounds.{AreLooks, LooksAlone, taken_looks, taken_meant, whole_ended, Ended}
 use Rattle.arj_law_parts.specs.moves.Keeps.{AsksNode, is_act}
-use Rattle.arj_law_parts.specs.moves.Moments.{Moment, asks_now, at, down, given, halted, said, taken_by, up, with_node}
-use Rattle.arj_law_parts.specs.moves.With.{Brings, IsFirst, KeepsWith, UpWith, WalksWith, is_plain_line}
+use Rattle.arj_law_parts.specs.moves.Moments.{Moment, asks_now, at, down, given, halted, is_restart, said, taken_by, up}
+use Rattle.arj_law_parts.specs.moves.Moments.{with_node}
+use Rattle.arj_law_parts.specs.moves.With.{Brings, IsFirst, KeepsSteps, UpWith, WalksWith, is_plain_line}
 use Rattle.arj_protocol.specs.Step.{show_step, does_nothing, crash_step}
 
 -- looks at the disk, and lines at which no view looks
@@ -51,7 +54,7 @@ show_still k x d = all_both is_still (show_entry k x d.names) (shown (copy_line 
     by true = shown_still (entry_line x) entries (entry x) d.names (holder_of (entry x) d.names)
     by false = refl
 
-module _ (hd : Header) (P : Moment → Type 0) {F : Type 0} (keeps : KeepsWith hd F P) (k : ℕ) where
+module _ (hd : Header) (P : Moment → Type 0) (keeps : KeepsSteps hd P) (k : ℕ) where
   -- the relation holds after the step, and where a stop falls into it; the node keeps its number
   abbrev pub Goes : Disk → Step → Moment → Type 0
   Goes d s M =
@@ -89,12 +92,17 @@ module _ (hd : Header) (P : Moment → Type 0) {F : Type 0} (keeps : KeepsWith h
   void_goes f outs d live M looks h = still_goes (void_step f (record { number = k; disk = d; live = live }) outs) d live M refl
       (all_both is_still outs (Say (body.Void f) ∷ []) (looks_still outs looks) refl) (looks_still outs looks) h
 
+  -- in an event that restarts no node
+  not_restarting : {A : Type 0} (e : Event) → is_restart e ≡ false → is_restart e ≡ true → A
+  not_restarting e other is = let no_way : true ≡ false = sym is ∙ other in absurd (cc no_way)
+
   -- a step that a handler walks through
-  did_goes : (live : Option Parts) (v : Parts) (outs : List Effect) (d : Disk) (M : Moment) → WalksWith P k outs (UpWith P k v) d M →
+  did_goes : (live : Option Parts) (v : Parts) (outs : List Effect) (d : Disk) (M : Moment) →
+      (is_restart M.past.event ≡ true → SendOthers outs) → WalksWith P k outs (UpWith P k v) d M →
       Goes d (node_did (record { number = k; disk = d; live = live }) [] v outs) M
-  did_goes live v outs d M w =
+  did_goes live v outs d M may w =
       let r = whole k v outs d in
-      let f = whole_ended hd P keeps k v outs d M w in (
+      let f = whole_ended hd P keeps k v outs d M may w in (
         flat_to P k r.outs (Ended hd P keeps k r) (λ c N. P (up k r.here.disk r.here.parts N)) d M
             (λ c N g. subst (λ x. P (up k x r.here.parts N)) g.0 g.2) f,
         flat_to P k r.outs (Ended hd P keeps k r) (λ c N. P (halted k c N)) d M (λ c N g. keeps.stop k c (Some r.here.parts) N g.2)
@@ -102,15 +110,16 @@ module _ (hd : Header) (P : Moment → Type 0) {F : Type 0} (keeps : KeepsWith h
         refl,
       )
 
-  got_goes : (f : ℕ) (live : Option Parts) (v : Parts) (outs : List Effect) (d : Disk) (M : Moment) → WalksWith P k outs (UpWith P k v) d
+  got_goes : (f : ℕ) (live : Option Parts) (v : Parts) (outs : List Effect) (d : Disk) (M : Moment) → is_restart M.past.event ≡ false →
+      WalksWith P k outs (UpWith P k v) d
       (said (body.Got f ∷ []) M) → Goes d (node_did (record { number = k; disk = d; live = live }) (Say (body.Got f) ∷ []) v outs) M
-  got_goes f live v outs d M w = did_goes live v outs d (said (body.Got f ∷ []) M) w
+  got_goes f live v outs d M other w = did_goes live v outs d (said (body.Got f ∷ []) M) (not_restarting M.past.event other) w
 
   frame_goes : (f from : ℕ) (m : Option Message) (d : Disk) (t : Parts) (M : Moment) →
-      IfSome m (λ x. In (record { from = from; to = k; message = x }) M.seen.sent) → P (up k d t M)
+      IfSome m (λ x. In (record { from = from; to = k; message = x }) M.seen.sent) → is_restart M.past.event ≡ false → P (up k d t M)
       → Goes d (frame_step f from (record { number = k; disk = d; live = Some t }) t m) M
-  frame_goes f from None d t M sent h = void_goes f [] d (Some t) M refl h
-  frame_goes f from (Some m) d t M sent h = by (taken k d t from m) (taken_looks k d t from m) refl
+  frame_goes f from None d t M sent other h = void_goes f [] d (Some t) M refl h
+  frame_goes f from (Some m) d t M sent other h = by (taken k d t from m) (taken_looks k d t from m) refl
     where
       got : P (up k d t (said (body.Got f ∷ []) M))
       got = keeps.quiet (body.Got f ∷ []) (up k d t M) refl h
@@ -118,8 +127,8 @@ module _ (hd : Header) (P : Moment → Type 0) {F : Type 0} (keeps : KeepsWith h
       by : (a : Handled) → LooksAlone a → taken k d t from m ≡ a →
           Goes d (handled_step f (record { number = k; disk = d; live = Some t }) a) M
       by (Void outs) looks is = void_goes f outs d (Some t) M looks h
-      by (Took v outs) looks is = got_goes f (Some t) v outs d M (keeps.message k d t v from m outs (said (body.Got f ∷ []) M) got sent
-          (taken_meant k d t v from m outs is) (taken_took k d t v from m outs is))
+      by (Took v outs) looks is = got_goes f (Some t) v outs d M other (keeps.message k d t v from m outs (said (body.Got f ∷ []) M) got sent
+          (taken_meant k d t v from m outs is) (not_restarting M.past.event other) (taken_took k d t v from m outs is))
 
   crash_goes : (d : Disk) (t : Parts) (M : Moment) → P (up k d t M) → Goes d (crash_step (record { number = k; disk = d; live = Some t })) M
   crash_goes d t M h =
@@ -134,28 +143,37 @@ module _ (hd : Header) (P : Moment → Type 0) {F : Type 0} (keeps : KeepsWith h
         refl,
       )
 
-  -- what an input rests on: a frame's message was sent, and the event brings what is asked of an action, before it has a line
+  -- what an input rests on: a frame's message was sent, the event restarts the node or none, and it brings what is asked of an action,
+  -- before it has a line
   abbrev pub MayCome : Input → Moment → Type 0
-  MayCome (input.Frame f from m) M = IfSome m (λ x. In (record { from = from; to = k; message = x }) M.seen.sent)
+  MayCome (input.Frame f from m) M =
+      IfSome m (λ x. In (record { from = from; to = k; message = x }) M.seen.sent) × (is_restart M.past.event ≡ false)
   MayCome (input.Begin l how parent) M = ⊥
-  MayCome input.Tick M = ⊤
-  MayCome input.Restart M = ⊤
+  MayCome input.Tick M = is_restart M.past.event ≡ false
+  MayCome input.Restart M = (M.past.event ≡ event.Restart k) × IsFirst M
   MayCome input.Crash M = ⊤
   MayCome (input.Show x) M = ⊤
   MayCome i M = Brings M.past.event i × IsFirst M × AsksNode hd i
+
+  -- an event that brings an input about an action restarts no node
+  brings_other : {A : Type 0} (e : Event) (i : Input) → Brings e i → is_restart e ≡ true → A
+  brings_other (event.Restart n) i brings is = absurd brings
+  brings_other e i brings is = absurd (cc is)
 
   act_goes : (i : Input) (d : Disk) (t : Parts) (M : Moment) → is_act i ≡ true → Brings M.past.event i × IsFirst M × AsksNode hd i →
       input.refusal_up hd i t.coord ≡ None → P (up k d t M)
       → Goes d (coord_did (record { number = k; disk = d; live = Some t }) t (acts i d.intents t.coord)) (asks_now i t.coord M)
   act_goes i d t M is comes free h = let a = acts i d.intents t.coord in
-      did_goes (Some t) (with_coord t a.part) a.outs d (asks_now i t.coord M) (keeps.act k d t i M is comes.0 comes.1 comes.2 free h)
+      did_goes (Some t) (with_coord t a.part) a.outs d (asks_now i t.coord M) (brings_other M.past.event i comes.0)
+      (keeps.act k d t i M is comes.0 comes.1 comes.2 free h)
 
   up_goes : (i : Input) (d : Disk) (t : Parts) (M : Moment) → MayCome i M → input.refusal_up hd i t.coord ≡ None → P (up k d t M) →
       Goes d (step_up i (record { number = k; disk = d; live = Some t }) t) (asks_now i t.coord M)
-  up_goes (input.Frame f from m) d t M sent free h = frame_goes f from m d t M sent h
+  up_goes (input.Frame f from m) d t M sent free h = frame_goes f from m d t M sent.0 sent.1 h
   up_goes input.Tick d t M sent free h =
       let n : Node = record { number = k; disk = d; live = Some t } in
-      did_goes (Some t) (with_coord t (again_all t.coord.doings t.coord).part) (tick_outs n t) d M (keeps.tick k d t M h)
+      did_goes (Some t) (with_coord t (again_all t.coord.doings t.coord).part) (tick_outs n t) d M (not_restarting M.past.event sent)
+      (keeps.tick k d t M h)
   up_goes input.Restart d t M sent free h =
       still_goes (does_nothing (record { number = k; disk = d; live = Some t })) d (Some t) M refl refl refl h
   up_goes input.Crash d t M sent free h = crash_goes d t M h
@@ -171,19 +189,20 @@ module _ (hd : Header) (P : Moment → Type 0) {F : Type 0} (keeps : KeepsWith h
   nothing_goes : (d : Disk) (M : Moment) → P (down k d M) → Goes d (does_nothing (record { number = k; disk = d; live = None })) M
   nothing_goes d M h = still_goes (does_nothing (record { number = k; disk = d; live = None })) d None M refl refl refl h
 
-  down_goes : (i : Input) (d : Disk) (M : Moment) → P (down k d M) → Goes d
+  down_goes : (i : Input) (d : Disk) (M : Moment) → MayCome i M → P (down k d M) → Goes d
       (step_down hd i (record { number = k; disk = d; live = None })) M
-  down_goes (input.Frame f from m) d M h = void_goes f [] d None M refl h
-  down_goes input.Restart d M h = did_goes None (parts_in k (d.inc + 1) d) (restart_outs hd k (d.inc + 1) d) d M (keeps.restart k d M h)
-  down_goes input.Tick d M h = nothing_goes d M h
-  down_goes input.Crash d M h = nothing_goes d M h
-  down_goes (input.Show x) d M h = nothing_goes d M h
-  down_goes (input.Begin l how parent) d M h = nothing_goes d M h
-  down_goes (input.Call l x o) d M h = nothing_goes d M h
-  down_goes (input.Include l x s) d M h = nothing_goes d M h
-  down_goes (input.Commit l) d M h = nothing_goes d M h
-  down_goes (input.Abort l) d M h = nothing_goes d M h
-  down_goes (input.GiveUp l) d M h = nothing_goes d M h
+  down_goes (input.Frame f from m) d M comes h = void_goes f [] d None M refl h
+  down_goes input.Restart d M comes h = did_goes None (parts_in k (d.inc + 1) d) (restart_outs hd k (d.inc + 1) d) d M
+      (λ is. restart_others hd k (d.inc + 1) d) (keeps.restart k d M comes.0 comes.1 h)
+  down_goes input.Tick d M comes h = nothing_goes d M h
+  down_goes input.Crash d M comes h = nothing_goes d M h
+  down_goes (input.Show x) d M comes h = nothing_goes d M h
+  down_goes (input.Begin l how parent) d M comes h = nothing_goes d M h
+  down_goes (input.Call l x o) d M comes h = nothing_goes d M h
+  down_goes (input.Include l x s) d M comes h = nothing_goes d M h
+  down_goes (input.Commit l) d M comes h = nothing_goes d M h
+  down_goes (input.Abort l) d M comes h = nothing_goes d M h
+  down_goes (input.GiveUp l) d M comes h = nothing_goes d M h
 
   refused_goes : (c : ℕ) (d : Disk) (live : Option Parts) (M : Moment) → P (at k d live M) →
       Goes d (only_says (record { number = k; disk = d; live = live }) (body.Refused c)) M
@@ -203,7 +222,7 @@ module _ (hd : Header) (P : Moment → Type 0) {F : Type 0} (keeps : KeepsWith h
           Goes d (step_unless hd i (record { number = k; disk = d; live = live }) r) (noted i live r M)
       by (Some c) None is sent h = refused_goes c d None M h
       by (Some c) (Some t) is sent h = refused_goes c d (Some t) M h
-      by None None is sent h = down_goes i d M h
+      by None None is sent h = down_goes i d M sent h
       by None (Some t) is sent h = up_goes i d t M sent is h
 
   -- where the node doesn't refuse, the label is given
@@ -223,4 +242,5 @@ module _ (hd : Header) (P : Moment → Type 0) {F : Type 0} (keeps : KeepsWith h
   begin_goes l how parent d (Some t) M brings at_first free gives h None is =
       let a = begin_action l how parent (parent_of parent t.coord) t.coord in
       let N : Moment = given l (record { node = k; serial = is_serial how }) M in
-      did_goes (Some t) (with_coord t a.part) a.outs d N (keeps.begin k d t l how parent M brings at_first free gives is h)
+      did_goes (Some t) (with_coord t a.part) a.outs d N (brings_other M.past.event (input.Begin l how parent) brings)
+      (keeps.begin k d t l how parent M brings at_first free gives is h)

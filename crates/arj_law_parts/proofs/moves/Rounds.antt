@@ -1,7 +1,7 @@
 -- A node's step with all messages to itself: what holds when it is up is kept by each message, and so by all rounds.
 use Rattle.arj_law_parts.proofs.Words
 use Words.{◌≡◌, ℕ, zero, suc, Bool, true, false, List, [], ◌∷◌, ◌++◌, refl, sym, subst, Option, Some, None, ⊤, if◌then◌else◌, option_map}
-use Words.{list_all, Uid, Header, Head, Asked, Ask, asks, Message, ObjectState, object, Disk, Effect, Say, Send, Do, Look, Prepare, Before}
+use Words.{list_all, AllByRecursion, Event, Uid, Header, Head, Asked, Ask, asks, Message, ObjectState, object, Disk, Effect, Say, Send, Do, Look, Prepare, Before}
 use Words.{After, InPart, Served, Prep, Ready, Already, Old, InDoubt, prepare_answer, holder_of, held_at, is_prepared, Reply, answers}
 use Words.{actor, last_end, Naming, confirm, Coord, heard, acked, Parts, Handled, Void, Took, Here, Ran, ran, ran_handled, handle_all}
 use Words.{next_round, rounds, whole, most_rounds, handle, is_meant, taken, handle_ask, handle_answer, handle_other, handle_ends}
@@ -13,10 +13,11 @@ use Words.prepared
 use Words.server
 use Words.naming
 use Rattle.arj_law_parts.proofs.Terms.{In}
-use Rattle.arj_law_parts.specs.moves.Moments.{Moment, at, up}
+use Rattle.arj_law_parts.specs.moves.Moments.{MayTake, Moment, at, is_restart, up}
 use Rattle.arj_law_parts.proofs.moves
-use moves.Flat.{Flat, With, Left, AreSent, within_same, are_sent, flat_to, flat_on, flat_keeps, walks_flat, ran_parts}
-use Rattle.arj_law_parts.specs.moves.With.{KeepsWith, StopsWith, UpWith, WalksWith}
+use moves.Flat.{Flat, With, Left, AreSent, within_same, are_sent, flat_to, flat_on, flat_event, flat_keeps, walks_flat, ran_parts}
+use moves.Others.{IsOther, SendOthers, WaitOthers, next_others, ran_others}
+use Rattle.arj_law_parts.specs.moves.With.{KeepsSteps, StopsWith, UpWith, WalksWith}
 use Rattle.arj_protocol.proofs.Taken.{taken_as}
 
 -- ---- what is void
@@ -141,7 +142,7 @@ taken_meant n d t v from m outs = by (is_meant t m)
 pub taken_looks : (n : ℕ) (d : Disk) (t : Parts) (from : ℕ) (m : Message) → LooksAlone (taken n d t from m)
 taken_looks n d t from m = taken_as LooksAlone n d t from m refl (handle_looks n d t from m)
 
-module _ (hd : Header) (P : Moment → Type 0) {F : Type 0} (keeps : KeepsWith hd F P) (k : ℕ) where
+module _ (hd : Header) (P : Moment → Type 0) (keeps : KeepsSteps hd P) (k : ℕ) where
   -- looks change nothing, and a stop at one is a stop
   pub looks_walk : (outs : List Effect) (d : Disk) (live : Option Parts) (M : Moment) → AreLooks outs → P (at k d live M) →
       WalksWith P k outs (λ c N. P (at k c live N)) d M
@@ -163,13 +164,13 @@ module _ (hd : Header) (P : Moment → Type 0) {F : Type 0} (keeps : KeepsWith h
   Handles from d t M (Took v outs) = WalksWith P k outs (UpWith P k v) d M
 
   pub handled : (from : ℕ) (m : Message) (d : Disk) (t : Parts) (M : Moment) → P (up k d t M) →
-      In (record { from = from; to = k; message = m }) M.seen.sent → Handles from d t M (taken k d t from m)
-  handled from m d t M h sent = by (taken k d t from m) refl (taken_looks k d t from m)
+      In (record { from = from; to = k; message = m }) M.seen.sent → MayTake M.past.event m → Handles from d t M (taken k d t from m)
+  handled from m d t M h sent may = by (taken k d t from m) refl (taken_looks k d t from m)
     where
       by : (a : Handled) → taken k d t from m ≡ a → LooksAlone a → Handles from d t M a
       by (Void outs) is looks = looks_walk outs d (Some t) M looks h
       by (Took v outs) is looks =
-          keeps.message k d t v from m outs M h sent (taken_meant k d t v from m outs is) (taken_took k d t v from m outs is)
+          keeps.message k d t v from m outs M h sent (taken_meant k d t v from m outs is) may (taken_took k d t v from m outs is)
 
   -- the node is up with what was left, and the relation holds
   abbrev pub Ended : Ran → Disk → Moment → Type 0
@@ -186,14 +187,24 @@ module _ (hd : Header) (P : Moment → Type 0) {F : Type 0} (keeps : KeepsWith h
   one_ended from h M (Void outs) w = walk_ended h.parts outs h.disk M w
   one_ended from h M (Took v outs) w = walk_ended v outs h.disk M w
 
-  pub all_ended : (ms : List Message) (h : Here) (M : Moment) → AreSent k ms M.seen.sent → P (up k h.disk h.parts M) →
+  -- a node that restarts has no request and no answer to itself waiting
+  abbrev pub MayWait : Event → Ran → Type 0
+  MayWait e r = is_restart e ≡ true → WaitOthers r
+
+  may_first : (e : Event) (m : Message) (ms : List Message) → (is_restart e ≡ true → AllByRecursion IsOther (m ∷ ms)) → MayTake e m
+  may_first e m ms may is = (may is).0
+
+  pub all_ended : (e : Event) (ms : List Message) (h : Here) (M : Moment) → M.past.event ≡ e →
+      (is_restart e ≡ true → AllByRecursion IsOther ms) → AreSent k ms M.seen.sent → P (up k h.disk h.parts M) →
       Flat P k (handle_all k ms h).outs (Ended (handle_all k ms h)) h.disk M
-  all_ended [] h M sent holds = (M.seen.sent, within_same M.seen.sent, (refl, tt, holds))
-  all_ended (m ∷ ms) h M sent holds =
-      flat_on P k r.outs t.outs (With M.seen.sent (Ended r)) (Ended (handle_all k (m ∷ ms) h)) h.disk M
+  all_ended e [] h M event may sent holds = (M.seen.sent, within_same M.seen.sent, (refl, tt, holds))
+  all_ended e (m ∷ ms) h M event may sent holds =
+      flat_on P k r.outs t.outs (λ c N. With M.seen.sent (Ended r) c N × (N.past.event ≡ e)) (Ended (handle_all k (m ∷ ms) h)) h.disk M
+      (flat_event P k e r.outs (With M.seen.sent (Ended r)) h.disk M event
       (flat_keeps P k M.seen.sent r.outs (Ended r) h.disk M (within_same M.seen.sent)
-      (one_ended k h M (taken k h.disk h.parts k m) (handled k m h.disk h.parts M holds sent.0)))
-      (rest (all_ended ms r.here))
+      (one_ended k h M (taken k h.disk h.parts k m)
+      (handled k m h.disk h.parts M holds sent.0 (subst (λ x. MayTake x m) (sym event) (may_first e m ms may))))))
+      (rest (all_ended e ms r.here))
     where
       r : Ran
       r = ran_handled k h (taken k h.disk h.parts k m)
@@ -205,39 +216,44 @@ module _ (hd : Header) (P : Moment → Type 0) {F : Type 0} (keeps : KeepsWith h
       both [] b N p q = q
       both (x ∷ xs) b N p q = (p.0, both xs b N p.1 q)
 
-      rest : ((N : Moment) → AreSent k ms N.seen.sent → P (up k r.here.disk r.here.parts N) → Flat P k t.outs (Ended t) r.here.disk N)
-          → (c : Disk) (N : Moment) → With M.seen.sent (Ended r) c N → Flat P k t.outs (Ended (handle_all k (m ∷ ms) h)) c N
-      rest ih c N f =
+      rest : ((N : Moment) → N.past.event ≡ e → (is_restart e ≡ true → AllByRecursion IsOther ms) → AreSent k ms N.seen.sent →
+          P (up k r.here.disk r.here.parts N) → Flat P k t.outs (Ended t) r.here.disk N)
+          → (c : Disk) (N : Moment) → With M.seen.sent (Ended r) c N × (N.past.event ≡ e) →
+          Flat P k t.outs (Ended (handle_all k (m ∷ ms) h)) c N
+      rest ih c N g =
+          let f = g.0 in
           let there : P (up k r.here.disk r.here.parts N) = subst (λ x. P (up k x r.here.parts N)) f.0.0 f.0.2 in
-          let more = ih N (are_sent k ms M.seen.sent N.seen.sent f.1 sent.1) there in
+          let more = ih N g.1 (λ is. (may is).1) (are_sent k ms M.seen.sent N.seen.sent f.1 sent.1) there in
           let kept = flat_keeps P k N.seen.sent t.outs (Ended t) r.here.disk N (within_same N.seen.sent) more in
           subst (λ x. Flat P k t.outs (Ended (handle_all k (m ∷ ms) h)) x N) (sym f.0.0)
           (flat_to P k t.outs (With N.seen.sent (Ended t)) (Ended (handle_all k (m ∷ ms) h)) r.here.disk N
           (λ b L g. (g.0.0, both r.queue t.queue L (are_sent k r.queue N.seen.sent L.seen.sent g.1 f.0.1) g.0.1, g.0.2)) kept)
 
-  pub rounds_ended : (j : ℕ) (r : Ran) (d : Disk) (M : Moment) → Flat P k r.outs (Ended r) d M →
+  pub rounds_ended : (e : Event) (j : ℕ) (r : Ran) (d : Disk) (M : Moment) → M.past.event ≡ e → MayWait e r → Flat P k r.outs (Ended r) d M →
       Flat P k (rounds k j r).outs (Ended (rounds k j r)) d M
-  rounds_ended zero r d M f = f
-  rounds_ended (suc j) r d M f = by r.queue refl (rounds_ended j (next_round k r) d M)
+  rounds_ended e zero r d M event may f = f
+  rounds_ended e (suc j) r d M event may f = by r.queue refl (rounds_ended e j (next_round k r) d M event)
     where
       t : Ran
       t = handle_all k r.queue r.here
 
       next : Flat P k (next_round k r).outs (Ended (next_round k r)) d M
-      next = flat_on P k r.outs t.outs (Ended r) (Ended (next_round k r)) d M f
-          (λ c N g. subst (λ x. Flat P k t.outs (Ended (next_round k r)) x N) (sym g.0)
-          (all_ended r.queue r.here N g.1 (subst (λ x. P (up k x r.here.parts N)) g.0 g.2)))
+      next = flat_on P k r.outs t.outs (λ c N. Ended r c N × (N.past.event ≡ e)) (Ended (next_round k r)) d M
+          (flat_event P k e r.outs (Ended r) d M event f)
+          (λ c N z. let g = z.0 in subst (λ x. Flat P k t.outs (Ended (next_round k r)) x N) (sym g.0)
+          (all_ended e r.queue r.here N z.1 may g.1 (subst (λ x. P (up k x r.here.parts N)) g.0 g.2)))
 
       one : List Message → Ran
       one q = elim q [ [] ↦ r | m ∷ ms ↦ rounds k j (next_round k r) ]
 
-      by : (q : List Message) → r.queue ≡ q → (Flat P k (next_round k r).outs (Ended (next_round k r)) d M →
+      by : (q : List Message) → r.queue ≡ q → (MayWait e (next_round k r) → Flat P k (next_round k r).outs (Ended (next_round k r)) d M →
           Flat P k (rounds k j (next_round k r)).outs (Ended (rounds k j (next_round k r))) d M)
           → Flat P k (one q).outs (Ended (one q)) d M
       by [] is ih = f
-      by (m ∷ ms) is ih = ih next
+      by (m ∷ ms) is ih = ih (λ restarts. next_others k r (may restarts)) next
 
   -- what a handler walks through holds at the end of its whole step
-  pub whole_ended : (v : Parts) (outs : List Effect) (d : Disk) (M : Moment) → WalksWith P k outs (UpWith P k v) d M →
-      Flat P k (whole k v outs d).outs (Ended (whole k v outs d)) d M
-  whole_ended v outs d M w = rounds_ended most_rounds (ran k v outs d) d M (walk_ended v outs d M w)
+  pub whole_ended : (v : Parts) (outs : List Effect) (d : Disk) (M : Moment) → (is_restart M.past.event ≡ true → SendOthers outs) →
+      WalksWith P k outs (UpWith P k v) d M → Flat P k (whole k v outs d).outs (Ended (whole k v outs d)) d M
+  whole_ended v outs d M may w = rounds_ended M.past.event most_rounds (ran k v outs d) d M refl (λ is. ran_others k v outs d (may is))
+      (walk_ended v outs d M w)

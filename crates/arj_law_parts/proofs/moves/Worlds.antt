@@ -20,8 +20,9 @@ use moves.Cuts.{Besides, fitting, flat_done, flat_cut, seen_as}
 use moves.Inputs.{Goes, MayCome, step_goes}
 use moves.Places.{all_on, all_placed, all_set, all_taken, all_to, place_same, set_long, set_there}
 use Rattle.arj_law_parts.specs.moves.Keeps.{HasPlace, Stands}
-use Rattle.arj_law_parts.specs.moves.Moments.{History, Moment, at, halted, is_asking, taken_by, with_asking, with_node, with_sent}
-use Rattle.arj_law_parts.specs.moves.With.{ArePlain, HoldsAt, KeepsWith, Wrote, asked_at, look}
+use Rattle.arj_law_parts.specs.moves.Moments.{History, Moment, at, halted, is_asking, is_restart, taken_by, with_asking, with_node}
+use Rattle.arj_law_parts.specs.moves.Moments.{with_sent}
+use Rattle.arj_law_parts.specs.moves.With.{ArePlain, HoldsAt, KeepsSteps, Wrote, asked_at, look}
 
 -- an input that asks nothing of an action leaves the history as it is
 pub asked_none : (hd : Header) (i : Input) (o : Option Node) (g : History) → is_asking i ≡ false → asked_at hd i o g ≡ g
@@ -47,7 +48,7 @@ asked_none hd i (Some n) g none = by n.live (refusal_at hd i n.live)
     by (Some t) (Some c) = refl
     by (Some t) None = λ j. record g { askings = same i t none j }
 
-module _ (hd : Header) (P : Moment → Type 0) {F : Type 0} (keeps : KeepsWith hd F P) where
+module _ (hd : Header) (P : Moment → Type 0) (keeps : KeepsSteps hd P) where
   -- ---- a step of a node in its world
 
   -- a node is what stands at its place
@@ -297,44 +298,45 @@ module _ (hd : Header) (P : Moment → Type 0) {F : Type 0} (keeps : KeepsWith h
           (sym (set_long k (mark f) w.frames)) h.holds;
     }
 
-    delivered_hold : (k : ℕ) (w : World) (o : Option Frame) → at_place k w.frames ≡ o → HoldsAt hd P g w →
+    delivered_hold : is_restart g.event ≡ false → (k : ℕ) (w : World) (o : Option Frame) → at_place k w.frames ≡ o → HoldsAt hd P g w →
         HoldsAt hd P g (deliver_frame k w o)
     unfolding marks_hold
-    delivered_hold k w None there h = h
-    delivered_hold k w (Some f) there h =
+    delivered_hold other k w None there h = h
+    delivered_hold other k w (Some f) there h =
         plain_hold f.to (input.Frame k f.from f.message) g (change_frame k as_delivered f w) refl
         (marks_hold k as_delivered f w (λ sent s. s) (λ s. s) there h)
-        (all_placed (IsSent h.sent) k f w.frames h.stands.frames there)
+        (all_placed (IsSent h.sent) k f w.frames h.stands.frames there, other)
 
-    pub deliver_holds : (k : ℕ) (w : World) → HoldsAt hd P g w → HoldsAt hd P g (deliver k w)
-    deliver_holds k w h = delivered_hold k w (at_place k w.frames) refl h
+    pub deliver_holds : is_restart g.event ≡ false → (k : ℕ) (w : World) → HoldsAt hd P g w → HoldsAt hd P g (deliver k w)
+    deliver_holds other k w h = delivered_hold other k w (at_place k w.frames) refl h
 
     pub lost_holds : (k : ℕ) (w : World) (o : Option Frame) → at_place k w.frames ≡ o → HoldsAt hd P g w → HoldsAt hd P g (lose_frame k w o)
     lost_holds k w None there h = h
     lost_holds k w (Some f) there h =
         says_hold (body.Dropped k ∷ []) g (change_frame k as_lost f w) refl (marks_hold k as_lost f w (λ sent s. s) (λ s. s) there h)
 
-    pub settled_holds : (fuel : ℕ) (w : World) → HoldsAt hd P g w → HoldsAt hd P g (settle_for fuel w)
-    settled_holds zero w h = h
-    settled_holds (suc fuel) w h = by (lowest w) (settled_holds fuel)
+    pub settled_holds : is_restart g.event ≡ false → (fuel : ℕ) (w : World) → HoldsAt hd P g w → HoldsAt hd P g (settle_for fuel w)
+    settled_holds other zero w h = h
+    settled_holds other (suc fuel) w h = by (lowest w) (settled_holds other fuel)
       where
         by : (o : Option ℕ) → ((v : World) → HoldsAt hd P g v → HoldsAt hd P g (settle_for fuel v)) →
             HoldsAt hd P g (elim o [ None ↦ w | Some k ↦ settle_for fuel (deliver k w) ])
         by None ih = h
-        by (Some k) ih = ih (deliver k w) (deliver_holds k w h)
+        by (Some k) ih = ih (deliver k w) (deliver_holds other k w h)
 
-    pub ticks_hold : (ns : List ℕ) (w : World) → HoldsAt hd P g w → HoldsAt hd P g (tick_all ns w)
-    ticks_hold [] w h = h
-    ticks_hold (n ∷ ns) w h =
-        ticks_hold ns (tick_up n w) (either_holds g (w.full || not (is_up_at n w)) w (steps n input.Tick w) h
-        (plain_hold n input.Tick g w refl h tt))
+    pub ticks_hold : is_restart g.event ≡ false → (ns : List ℕ) (w : World) → HoldsAt hd P g w → HoldsAt hd P g (tick_all ns w)
+    ticks_hold other [] w h = h
+    ticks_hold other (n ∷ ns) w h =
+        ticks_hold other ns (tick_up n w) (either_holds g (w.full || not (is_up_at n w)) w (steps n input.Tick w) h
+        (plain_hold n input.Tick g w refl h other))
 
-    pub quiesce_holds : (w : World) → HoldsAt hd P g w → HoldsAt hd P g (quiesce w)
-    quiesce_holds w h =
+    pub quiesce_holds : is_restart g.event ≡ false → (w : World) → HoldsAt hd P g w → HoldsAt hd P g (quiesce w)
+    quiesce_holds other w h =
         let a = settle w in
         let b = tick_all (node_numbers w) a in
         let c = settle b in
-        let held : HoldsAt hd P g c = settled_holds most_frames b (ticks_hold (node_numbers w) a (settled_holds most_frames w h)) in
+        let held : HoldsAt hd P g c = settled_holds other most_frames b
+        (ticks_hold other (node_numbers w) a (settled_holds other most_frames w h)) in
         either_holds g c.full c (says (body.Quiet (is_quiet c) ∷ []) c) held (says_hold (body.Quiet (is_quiet c) ∷ []) g c refl held)
 
     pub shows_hold : (x : ℕ) (ns : List ℕ) (w : World) → HoldsAt hd P g w → HoldsAt hd P g (show_all x ns w)

@@ -1,13 +1,13 @@
 -- What is seen at a moment of a run, with its history: the run before the event under way, that event, what was asked of actions by then,
 -- and how many frames were sent. The history is a function of the moves alone: no node has it.
-use Rattle.std.specs.Prelude.{ℕ, ◌+◌, ◌==◌, nat_lt, Bool, true, false, if◌then◌else◌, List, [], ◌∷◌, Option, Some, None}
+use Rattle.std.specs.Prelude.{◌≡◌, ℕ, ◌+◌, ◌==◌, nat_lt, Bool, true, false, if◌then◌else◌, List, [], ◌∷◌, Option, Some, None}
 use Rattle.arj_model.specs.Past.{Asked, Past, asked_of, next, nothing_yet}
 use Rattle.arj_start.specs.Start.{Start}
 use Rattle.arj_promise.specs.Runs.{Post, Seen}
-use Rattle.arj_protocol.specs.Words.{Body, Event, FrameKind, Label, Uid, nobody}
+use Rattle.arj_protocol.specs.Words.{Body, Event, FrameKind, Label, Message, Uid, asks, nobody}
 use Rattle.arj_protocol.specs.Words.body
 use Rattle.arj_protocol.specs.Words.event
-use Rattle.arj_protocol.specs.Ask.{actor, frame_kind}
+use Rattle.arj_protocol.specs.Ask.{actor, answers, frame_kind}
 use Rattle.arj_protocol.specs.Asking.{next_req}
 use Rattle.arj_protocol.specs.Coord.{Coord}
 use Rattle.arj_protocol.specs.Effect.{Disk}
@@ -48,6 +48,15 @@ pub record Moment : Type 0 where
 -- an event comes
 abbrev pub come : Event → History → History
 come e g = record g { event = e; number = g.number + 1 }
+
+-- the event restarts a node
+abbrev pub is_restart : Event → Bool
+is_restart (event.Restart n) = true
+is_restart e = false
+
+-- while a node restarts no request and no answer is taken
+abbrev pub MayTake : Event → Message → Type 0
+MayTake e m = is_restart e ≡ true → (asks m ≡ None) × (answers m ≡ None)
 
 -- the event has written these lines, and is over
 abbrev pub gone : List Body → History → History

@@ -21,8 +21,8 @@ use Rattle.arj_protocol.specs.Step as input
 use Rattle.arj_protocol.specs.World.{Asked, World, giving, lacks_labels, numbered, reasons, run_event, world_from}
 use Rattle.arj_start.specs.Kinds.{is_serial}
 use Rattle.arj_law_parts.specs.moves.Keeps.{AsksNode, MayGive, Stands, is_act, label_at}
-use Rattle.arj_law_parts.specs.moves.Moments.{History, Moment, asks_now, at, closed, come, down, fits, given, gone, halted, lined}
-use Rattle.arj_law_parts.specs.moves.Moments.{no_history, opened, taken_by}
+use Rattle.arj_law_parts.specs.moves.Moments.{History, MayTake, Moment, asks_now, at, closed, come, down, fits, given, gone, halted}
+use Rattle.arj_law_parts.specs.moves.Moments.{lined, no_history, opened, taken_by}
 use Rattle.arj_law_parts.specs.moves.Moments.{said, sent, up}
 use Rattle.arj_law_parts.specs.moves.Seen.{In, is_quiet_line}
 use Rattle.arj_law_parts.specs.steps.Writes.{asks}
@@ -79,19 +79,16 @@ ArePlain bs = list_all is_plain_line bs ≡ true
 abbrev pub IsFirst : Moment → Type 0
 IsFirst M = (let r = M.past.run in r.lines) ≡ (let s = M.seen in s.lines)
 
--- The relation is kept: as an event comes, and as it is over, with the lines that it wrote; by lines at which it doesn't look; by a frame
--- of bytes that are no message; by a node that stops; by each message that can be meant and is taken, each input about an action, and the
--- beginning of one; by a tick, and by a restart; and so much holds at first.
-pub record KeepsWith (hd : Header) (F : Type 0) (P : Moment → Type 0) : Type 0 where
-  pub opens : (e : Event) (M : Moment) → IsFirst M → M.past.number ≡ M.past.run.count → P M → P (opened e M)
-  pub closes : (bodies : List Body) (M : Moment) → M.past.number ≡ M.past.run.count + 1
-      → M.seen.lines ≡ M.past.run.lines ++ block M.past.number bodies → P M → P (closed bodies M)
+-- The relation is kept within an event: by lines at which it doesn't look; by a frame of bytes that are no message; by a node that stops; by
+-- each message that can be meant and is taken, each input about an action, and the beginning of one; by a tick, and by a restart, in an
+-- event of its own.
+pub record KeepsSteps (hd : Header) (P : Moment → Type 0) : Type 0 where
   pub quiet : (bs : List Body) (M : Moment) → ArePlain bs → P M → P (said bs M)
   pub junk : (n : ℕ) (M : Moment) → fits M ≡ true → P M → P (lined 0 n frame.Junk M)
   pub stop : (k : ℕ) (d : Disk) (live : Option Parts) (M : Moment) → P (at k d live M) → P (halted k d M)
   pub message : (k : ℕ) (d : Disk) (t v : Parts) (from : ℕ) (m : Message) (outs : List Effect) (M : Moment)
       → P (up k d t M) → In (record { from = from; to = k; message = m }) M.seen.sent → is_meant t m ≡ true →
-      handle k d t from m ≡ Took v outs → WalksWith P k outs (UpWith P k v) d M
+      MayTake M.past.event m → handle k d t from m ≡ Took v outs → WalksWith P k outs (UpWith P k v) d M
   pub act : (k : ℕ) (d : Disk) (t : Parts) (i : Input) (M : Moment) → is_act i ≡ true → Brings M.past.event i → IsFirst M → AsksNode hd i →
       refusal_up hd i t.coord ≡ None → P (up k d t M) → DidWith P k d t (acts i d.intents t.coord) (asks_now i t.coord M)
   pub begin : (k : ℕ) (d : Disk) (t : Parts) (l : Label) (how : Kind) (parent : Option Label) (M : Moment)
@@ -102,8 +99,23 @@ pub record KeepsWith (hd : Header) (F : Type 0) (P : Moment → Type 0) : Type 0
   pub tick : (k : ℕ) (d : Disk) (t : Parts) (M : Moment) → P (up k d t M)
       → WalksWith P k (tick_outs (record { number = k; disk = d; live = Some t }) t)
       (UpWith P k (with_coord t (again_all t.coord.doings t.coord).part)) d M
-  pub restart : (k : ℕ) (d : Disk) (M : Moment) → P (down k d M) →
+  pub restart : (k : ℕ) (d : Disk) (M : Moment) → M.past.event ≡ event.Restart k → IsFirst M → P (down k d M) →
       WalksWith P k (restart_outs hd k (d.inc + 1) d) (UpWith P k (parts_in k (d.inc + 1) d)) d M
+
+-- an event comes
+abbrev pub Opens : (Moment → Type 0) → (Moment → Type 0) → Type 0
+Opens P Q = (e : Event) (M : Moment) → IsFirst M → M.past.number ≡ M.past.run.count → P M → Q (opened e M)
+
+-- it is over, with the lines that it wrote
+abbrev pub Closes : (Moment → Type 0) → (Moment → Type 0) → Type 0
+Closes P Q = (bodies : List Body) (M : Moment) → M.past.number ≡ M.past.run.count + 1
+    → M.seen.lines ≡ M.past.run.lines ++ block M.past.number bodies → P M → Q (closed bodies M)
+
+-- It is kept within events, as an event comes, and as it is over; and so much holds at first.
+pub record KeepsWith (hd : Header) (F : Type 0) (P : Moment → Type 0) : Type 0 where
+  pub opens : Opens P P
+  pub closes : Closes P P
+  pub steps : KeepsSteps hd P
   pub first : F
 
 -- it holds wherever a run of the header may begin
