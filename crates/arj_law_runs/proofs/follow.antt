@@ -10,8 +10,10 @@ pub mod Happening
 pub mod Along
 pub mod Frames
 pub mod Halts
+pub mod Uids
 pub mod Labeled
 pub mod Gone
 pub mod Plain
 pub mod Reasons
 pub mod Refusing
+pub mod Shorts

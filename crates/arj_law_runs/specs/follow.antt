@@ -1,2 +1,3 @@
 pub mod Frames
 pub mod Refusals
+pub mod Shorts

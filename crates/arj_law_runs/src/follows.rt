@@ -1,6 +1,7 @@
 // What each event writes, by the events and the journal alone.
 ghost use Rattle.arj_law_runs.specs.follow.Frames.{FramesHaveCauses};
 ghost use Rattle.arj_law_runs.specs.follow.Refusals.{PlainRefusalsFollow};
+ghost use Rattle.arj_law_runs.specs.follow.Shorts.{ShortEventsFollow};
 
 /// In every run in form, wherever it begins and wherever disks stop, each line of a frame and of a stop to come has its cause: a
 /// frame that is sent has the next number, goes to a node, and comes from one that is up, or from nobody where the script hands over
@@ -17,4 +18,11 @@ pub fn frames_have_causes()
 /// cause. It does nothing when it runs.
 pub fn plain_refusals_follow()
     ensures runs { PlainRefusalsFollow }
+{}
+
+/// In every run in form, wherever it begins and wherever disks stop, the beginning of an action in no other one, the loss of a frame, the
+/// crash of a node and the arming of a disk follow the journal whole: they write the refusal by their lowest cause, or, where the journal
+/// has none, their own line alone, of the action that begins with the next Uid of its node. It does nothing when it runs.
+pub fn short_events_follow()
+    ensures runs { ShortEventsFollow }
 {}

@@ -8,7 +8,8 @@
 //! What it gives upward: `runs_make_few_bindings`, `frames_go_within`, `paths_are_those_of_journals`,
 //! `labels_are_known`, `trees_have_room`, `quiesces_leave_nothing_to_do`, `whoever_is_up_stays_up`,
 //! `whoever_waits_is_answered`, `changes_are_called`, `votes_are_used`, `frames_have_causes`,
-//! `lines_name_nodes`, `world_lines_are_in_form`, `labels_are_in_form`, `plain_refusals_follow`.
+//! `plain_refusals_follow`, `short_events_follow`, `labels_are_in_form`, `lines_name_nodes`,
+//! `world_lines_are_in_form`.
 #![tactic(auto)]
 
 mod bindings_bindings;
@@ -22,7 +23,7 @@ mod texts;
 mod votes;
 
 pub use bindings_bindings::runs_make_few_bindings;
-pub use follows::{frames_have_causes, plain_refusals_follow};
+pub use follows::{frames_have_causes, plain_refusals_follow, short_events_follow};
 pub use frames::frames_go_within;
 pub use lines::paths_are_those_of_journals;
 pub use names::labels_are_known;

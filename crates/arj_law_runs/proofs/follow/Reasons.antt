@@ -343,7 +343,7 @@ module _ (hd : Header) (p : Past) (w : World) (is : w.header ≡ hd) (start : p.
 -- ---- what nodes refuse where free action is named
 
 -- a node that is up refuses none of these
-begins_free : (l : Label) (k : Kind) (w : World) (o : Option Node) → is_up o ≡ true → refused_at (input.Begin l k None) w o ≡ None
+pub begins_free : (l : Label) (k : Kind) (w : World) (o : Option Node) → is_up o ≡ true → refused_at (input.Begin l k None) w o ≡ None
 begins_free l k w None up = refl
 begins_free l k w (Some n) up = by n.live up
   where

@@ -1,0 +1,30 @@
+-- Events that write one line of their own and no more: what they are refused for, and that line.
+use Rattle.std.specs.Prelude.{◌≡◌, List, [], ◌∷◌, Bool, true, false, MatchOption}
+use Rattle.arj_journal.specs.declared.body.Body.{Body}
+use Rattle.arj_journal.specs.declared.body.Body.TheVariants as body
+use Rattle.arj_journal.specs.declared.event.Event.{Event}
+use Rattle.arj_journal.specs.declared.event.Event.TheVariants as event
+use Rattle.arj_journal.specs.declared.header.Header.{Header}
+use Rattle.arj_model.specs.Past.{Past}
+use Rattle.arj_model.specs.Refusals.{refusal}
+use Rattle.arj_model.specs.Follows.{Accepted, Runs}
+use Rattle.arj_law_runs.specs.follow.Frames.{run_events}
+use Rattle.arj_promise.specs.Runs.{IsInForm, Run, journal_by}
+
+-- the event begins an action in no other, loses a frame, stops a node, or arms a disk
+abbrev pub is_short : Event → Bool
+is_short (event.Begin l n) = true
+is_short (event.Serial l n) = true
+is_short (event.Lose k) = true
+is_short (event.Crash n) = true
+is_short (event.Stop n calls k) = true
+is_short _ = false
+
+-- It has the line of its lowest cause, or, where the journal has none, its own.
+abbrev pub ShortEventsStep : Header → Past → Event → List Body → Type 0
+ShortEventsStep hd past e bodies =
+    is_short e ≡ true → MatchOption (refusal hd past e) (Accepted hd past e bodies) (λ c. bodies ≡ body.Refused c ∷ [])
+
+-- so it is of each event of a run
+abbrev pub ShortEventsFollow : Type 0
+ShortEventsFollow = (hd : Header) (r : Run hd) → IsInForm hd r → Runs (ShortEventsStep hd) r.start (run_events hd r) (journal_by hd r)
