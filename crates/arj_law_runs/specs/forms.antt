@@ -1,3 +1,4 @@
 pub mod Labels
 pub mod Nodes
+pub mod Numbers
 pub mod World

@@ -1,6 +1,7 @@
 // Lines in form: what each says of a run can be written, and read back.
 ghost use Rattle.arj_law_runs.specs.forms.Labels.{RunsSayLabels, RunsSayNames};
 ghost use Rattle.arj_law_runs.specs.forms.Nodes.{RunsNameNodes};
+ghost use Rattle.arj_law_runs.specs.forms.Numbers.{RunsNumberActions};
 ghost use Rattle.arj_law_runs.specs.forms.World.{RunsSayInForm};
 
 /// In each run in form, wherever disks stop, with all crashes and restarts, the number of each line's event has 32 bits; and each line that no
@@ -25,4 +26,11 @@ pub fn lines_name_nodes()
 pub fn labels_are_in_form()
     ensures labels { RunsSayLabels }
     ensures lines { RunsSayNames }
+{}
+
+/// In each run, wherever disks stop, with all crashes and restarts, from any start, each action that began is of a node that is there, of an
+/// incarnation that isn't after the one on that node's disk, and has at most the number 4,096: as many labels a run gives, and a node has no
+/// more actions at work. It does nothing when it runs.
+pub fn actions_are_numbered()
+    ensures { RunsNumberActions }
 {}

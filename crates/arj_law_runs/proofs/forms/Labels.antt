@@ -1,14 +1,15 @@
 -- Labels of lines are in form: each is that of an action that began, by an event in form; and so are lines of labels and nodes alone.
 use Rattle.arj_law_parts.proofs.Words
-use Words.{◌≡◌, ◌∙◌, List, [], ◌∷◌, Bool, true, false, cond, Option, Some, None, refl, sym, subst, AllByRecursion, ℕ, bytes_eq, bytes_eq-Decides}
+use Words.{◌≡◌, List, [], ◌∷◌, Bool, true, false, cond, Option, Some, None, refl, sym, subst, AllByRecursion, ℕ, bytes_eq, bytes_eq-Decides}
 use Words.{is_eq, match_ordering, insert_entry, Body, Event, Header, Kind, Label, label_cmp, name, Line, option_map}
-use Words.{Giving, Labelled, World, all_moved, counted, first_reason, giving, happens, lacks_labels, limited, moved, no_labels, reasons, run_event}
+use Words.{Giving, Labelled, World, all_moved, counted, first_reason, giving, happens, lacks_labels, limited, moved, no_labels, reasons}
+use Words.{run_event}
 use Words.{run_unless, world_by, world_from, Move, is_serial}
 use Words.body
 use Words.event
 use Words.kind
 use Rattle.arj_law_runs.proofs.Terms
-use Terms.{book, new_book, turned, AreRight, IsGiven, IsWritten, Right, label_at}
+use Terms.{book, new_book, turned, AreRight, IsGiven, Right, label_at}
 use Rattle.arj_journal.specs.LineForm.{BodyInForm, LineInForm, ParentInForm}
 use Rattle.arj_journal.specs.ScriptForm.{EventInForm, HeaderInForm}
 use Rattle.arj_law_runs.proofs.addresses.Runs.{lines_name}
@@ -36,7 +37,8 @@ some_is is = cc is
 abbrev GivenInForm : List (Label × Labelled) → Type 0
 GivenInForm given = AllByRecursion (λ (g : Label × Labelled). LabelInForm g.0) given
 
-insert_form : (l : Label) (v : Labelled) (m : List (Label × Labelled)) → LabelInForm l → GivenInForm m → GivenInForm (insert_entry label_cmp m l v)
+insert_form : (l : Label) (v : Labelled) (m : List (Label × Labelled)) → LabelInForm l → GivenInForm m →
+    GivenInForm (insert_entry label_cmp m l v)
 insert_form l v [] its all = (its, tt)
 insert_form l v (e ∷ es) its all = by (label_cmp l e.0) (insert_form l v es its all.1)
   where
@@ -109,13 +111,15 @@ named_form (b ∷ acts) n a all is = by (bytes_eq b.label n) refl is (named_form
 
 -- ---- lines
 
-turned_less : (B : Book) (b : Body) → ActsInForm (turned B b).acts → ActsInForm B.acts
-turned_less B (body.Began l k u p) all = all.1
-turned_less B b all = all
+-- what is so of the actions behind lines is so of those before
+module _ (P : Act → Type 0) where
+  turned_less : (B : Book) (b : Body) → AllByRecursion P (turned B b).acts → AllByRecursion P B.acts
+  turned_less B (body.Began l k u p) all = all.1
+  turned_less B b all = all
 
-book_less : (B : Book) (lines : List Line) → ActsInForm (book_from B lines).acts → ActsInForm B.acts
-book_less B [] all = all
-book_less B (line ∷ lines) all = turned_less B line.body (book_less (turned B line.body) lines all)
+  pub acts_less : (B : Book) (lines : List Line) → AllByRecursion P (book_from B lines).acts → AllByRecursion P B.acts
+  acts_less B [] all = all
+  acts_less B (line ∷ lines) all = turned_less B line.body (acts_less (turned B line.body) lines all)
 
 below_form : (acts : List Act) (k : Kind) (p : Option Label) → ActsInForm acts → IsBelow acts k (option_map name p) → ParentInForm p
 below_form acts k None all below = tt
@@ -143,8 +147,10 @@ body_form B b right all = tt
 lines_form : (B : Book) (lines : List Line) → AreRight B lines → ActsInForm (book_from B lines).acts →
     AllByRecursion (λ (line : Line). LabelsInForm line.body) lines
 lines_form B [] right all = tt
-lines_form B (line ∷ lines) right all =
-    (body_form B line.body right.0 (book_less (turned B line.body) lines all), lines_form (turned B line.body) lines right.1 all)
+lines_form B (line ∷ lines) right all = (
+  body_form B line.body right.0 (acts_less (λ (a : Act). is_label a.label ≡ true) (turned B line.body) lines all),
+  lines_form (turned B line.body) lines right.1 all,
+)
 
 pub runs_say_labels : RunsSayLabels
 runs_say_labels hd r form =

@@ -17,7 +17,7 @@ acts_more xs (l ∷ ls) more = acts_more (acts_after xs l.body) ls more
 
 -- ---- nodes
 
-all_in : {A : Type 0} (P : A → Type 0) (xs : List A) → AllByRecursion P xs → (x : A) → In x xs → P x
+pub all_in : {A : Type 0} (P : A → Type 0) (xs : List A) → AllByRecursion P xs → (x : A) → In x xs → P x
 all_in P [] all x i = absurd i
 all_in P (y ∷ ys) all x (inl same) = subst P same all.0
 all_in P (y ∷ ys) all x (inr i) = all_in P ys all.1 x i
