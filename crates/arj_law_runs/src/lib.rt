@@ -29,5 +29,7 @@ pub use lines::paths_are_those_of_journals;
 pub use names::labels_are_known;
 pub use rooms::trees_have_room;
 pub use rounds::{quiesces_leave_nothing_to_do, whoever_is_up_stays_up, whoever_waits_is_answered};
-pub use texts::{actions_are_numbered, labels_are_in_form, lines_name_nodes, world_lines_are_in_form};
+pub use texts::{
+    actions_are_numbered, labels_are_in_form, lines_name_nodes, world_lines_are_in_form,
+};
 pub use votes::{changes_are_called, votes_are_used};
