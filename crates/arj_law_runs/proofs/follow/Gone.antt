@@ -1,20 +1,20 @@
 -- An action has ended by the journal exactly where its node has no open one under its label.
 use Rattle.arj_law_parts.proofs.Words
-use Words.{◌≡◌, ◌∙◌, ◌==◌, ◌&&◌, ◌||◌, not, ℕ, zero, suc, Bool, true, false, cond, List, [], ◌∷◌, ◌++◌, length, refl, sym, ap, subst, Option, Some, None}
-use Words.{is_some, if◌then◌else◌, arith, bytes_eq, bytes_eq-Decides, in_find, in_to, in_from, In, and_parts, eqb-true, uid_eq, uid_same, is_on, map-append, AllByRecursion}
-use Words.{Label, name, Uid, End, Kind, Coord, Doing, doing_of, number_of, uid_at, Parts, Node, at_place, Branch, branch_of, branch_named, is_own}
-use Words.{Labelled, World, Header, see, Seen, is_serial, branch_numbered, lookup, is_eq, slice_cmp, nat_cmp, slice_get, map, inl, inr}
+use Words.{◌≡◌, ◌∙◌, ◌==◌, ◌&&◌, ◌||◌, not, ℕ, zero, suc, Bool, true, false, cond, List, [], ◌∷◌, ◌++◌, refl, sym, ap, subst, Option, Some, None}
+use Words.{is_some, if◌then◌else◌, bytes_eq, bytes_eq-Decides, in_find, in_to, In, eqb-true, uid_eq, uid_same, is_on, map-append, AllByRecursion}
+use Words.{Label, name, Uid, End, Kind, Doing, number_of, uid_at, Parts, Node, at_place, Branch, branch_of, branch_named, is_own}
+use Words.{Labelled, World, Header, see, is_serial, branch_numbered, lookup, is_eq, slice_cmp, nat_cmp, slice_get, map, inl, inr}
 use Words.ending
 use Rattle.arj_law_runs.proofs.Terms
-use Terms.{Act, act_in, acts, path, uids, upwards, Book, book, new_book, Holds, IsEnd, IsGiven, IsKept, IsKnown, IsMemory, IsUp, IsWritten, HasNames, label_at}
+use Terms.{Act, act_in, acts, path, uids, upwards, Book, book, Holds, IsEnd, IsGiven, IsKept, IsKnown, IsMemory, IsUp, IsWritten, HasNames, label_at}
 use Rattle.arj_law_parts.specs.steps.Named.{names_of}
 use Rattle.arj_law_runs.proofs.follow.Halts.{KnowsAll, is_alive}
-use Rattle.arj_law_runs.proofs.follow.Labeled.{FindLabels, FindsAll, KnowsFinds, label_there, place_there}
+use Rattle.arj_law_runs.proofs.follow.Labeled.{KnowsFinds, label_there, place_there}
 use Rattle.arj_law_runs.proofs.journal.{Begun.by_name, Closed.one_act, Models.is_book, Models.its_acts, Models.its_sound}
 use Rattle.arj_law_runs.proofs.kept.Walked.{same_number}
 use Rattle.arj_law_runs.specs.journal.Book.{is_over as over_in}
 use Rattle.arj_law_runs.specs.journal.Knows.{KnowsNode, KnowsUp}
-use Rattle.arj_model.specs.Actions.{ended, halts, has_end, is_halted, is_over}
+use Rattle.arj_model.specs.Actions.{halts, is_halted}
 use Rattle.arj_model.specs.Refusals.{has_ended, is_over_act}
 
 -- no open action is there

@@ -2,16 +2,15 @@
 use Rattle.arj_law_parts.proofs.Words
 use Words.{◌≡◌, ◌∙◌, ◌+◌, ◌<◌, ◌≤◌, ◌==◌, ◌&&◌, ◌||◌, not, ℕ, suc, Bool, true, false, cond, List, [], ◌∷◌, ◌++◌, length, map, refl, sym, ap, subst}
 use Words.{arith, inl, inr, ⊎_elim, Option, Some, None, is_some, nat_lt, nat_tests, append-nil, append_assoc, AllByRecursion, and_parts, eqb-true}
-use Words.{list_all, In, in_from, Body, Line, Header, Kind, Label, Message, Uid, again_all, begin_action, began_line, Disk, Do, Effect, Say, Send, Look}
-use Words.{⊤, Prepare, Commit, Abort, PutIntent, RemoveIntent, PutInc, Stop, Work, worked, stopped, Parts, Took, handle, holders, is_meant, naming_at, naming_back, numbers_to, parent_of, parts_in, Handled, Void, name, acts_own, again_own}
-use Words.{prepared_actions, query_about, recovered_records, restart_outs, hello_to, taken, tick_outs, tolds_again, tolds_again_own, uid_set, with_coord}
-use Words.{without_number, Input, Node, acts as does, begin_refusal, refusal_up, next_uid, numbered, Seen, is_serial, all_both, world_from, see}
+use Words.{list_all, In, Body, Line, Header, Kind, Label, Message, again_all, begin_action, began_line, Disk, Do, Effect, Say, Send, Look}
+use Words.{⊤, Prepare, Commit, Abort, PutIntent, RemoveIntent, PutInc, Work, worked, stopped, Parts, Took, handle, holders, is_meant, naming_at, naming_back, numbers_to, parent_of, parts_in, Handled, Void, name, acts_own, again_own}
+use Words.{prepared_actions, query_about, recovered_records, restart_outs, hello_to, tick_outs, tolds_again, tolds_again_own, uid_set, with_coord}
+use Words.{without_number, Input, Node, acts as does, refusal_up, next_uid, numbered, Seen, is_serial, all_both}
 use Words.body
-use Words.ending
 use Words.role
 use Rattle.arj_law_runs.proofs.Terms
-use Terms.{Act, Placed, option_map, acts, acts_after, acts_from, put, read, at, down, given, posted, said, up, Up, Walks, halted, walks_both, MayGive, label_at}
-use Terms.{Keeps, Holds, is_act, AreQuiet, Book, book, new_book, turned, AreLined, IsLined, Counts, IsKept, IsWritten, IsGood, Remembers, IsCounted, IsAtStarts}
+use Terms.{Act, Placed, option_map, acts, acts_after, acts_from, put, read, at, down, given, posted, said, up, Up, Walks, halted, walks_both}
+use Terms.{Keeps, is_act, AreQuiet, Book, book, new_book, turned, AreLined, IsLined, IsKept, IsWritten, Remembers, IsCounted}
 use Terms.seen
 use Rattle.arj_law_parts.proofs.steps.Still.{Still, back_good, coord_good, is_still, map_good, outs_of, says_still, taken_good}
 use Rattle.arj_law_parts.specs.moves.Seen.{is_quiet_line}
@@ -19,7 +18,7 @@ use Rattle.arj_law_parts.specs.steps.Spoken.{SaidIn}
 use Rattle.arj_law_runs.proofs.journal.{Models.book_acts, Owners.acts_more, Paths.none_begins, Runs.lines_keep, Walks.its_own}
 use Rattle.arj_law_runs.proofs.journal.Runs.{act_turns, message_turns, rest_goes, tick_turns}
 use Rattle.arj_law_runs.proofs.kept.{Handled.it, Walked.same_number}
-use Rattle.arj_law_runs.specs.journal.Knows.{KnowsNode, after}
+use Rattle.arj_law_runs.specs.journal.Knows.{after}
 use Rattle.arj_model.specs.Actions as model
 use Rattle.arj_model.specs.Actions.{Halt, begun_of, halt_of, halts, is_halted}
 

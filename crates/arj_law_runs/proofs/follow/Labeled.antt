@@ -2,12 +2,12 @@
 use Rattle.arj_law_parts.proofs.Words
 use Words.{◌≡◌, ◌∙◌, ◌+◌, ◌==◌, ◌&&◌, ℕ, zero, suc, Bool, true, false, cond, List, [], ◌∷◌, ◌++◌, length, map, refl, sym, ap, subst, arith, Option, Some}
 use Words.{None, bytes_eq-Decides, ⊎_elim, slice_get, is_at, is_eq, lookup, length-map, map-append, Label, label_cmp, name, again_all, begin_action, Coord, Doing, Idle}
-use Words.{doing_of, number_of, uid_at, Disk, Do, Effect, Say, Send, worked, stopped, Parts, Took, handle, tick_outs, with_coord, Input, Node, acts}
-use Words.{parent_of, parts_in, restart_outs, at_place, branch_of, Branch, Body, Header, Kind, Message, Uid, Seen, is_serial, heard, acked}
+use Words.{number_of, uid_at, Disk, Do, Effect, Say, Send, worked, stopped, Parts, tick_outs, with_coord, Input, Node, acts}
+use Words.{parent_of, parts_in, restart_outs, at_place, Header, Kind, Uid, Seen, is_serial, heard, acked}
 use Words.input
 use Rattle.arj_law_runs.proofs.Terms
-use Terms.{Keeps, at, down, given, posted, said, up, Up, Walks, halted, walks_both, act_in, Book, book, IsKept, IsWritten, is_act, same_acked}
-use Terms.{Act, disk_by, same_acts, same_again, same_heard, same_key, MayGive, label_at}
+use Terms.{Keeps, at, given, posted, said, up, Up, Walks, halted, walks_both, act_in, book, IsKept, IsWritten, is_act, same_acked}
+use Terms.{Act, disk_by, same_acts, same_again, same_heard, same_key, label_at}
 use Rattle.arj_law_parts.proofs.steps.CoordNames.{SameNames}
 use Rattle.arj_law_parts.specs.steps.Named.{names_of}
 use Rattle.arj_law_runs.proofs.journal.Begun.{new_label, place_cases}

@@ -2,8 +2,8 @@
 use Rattle.arj_law_parts.proofs.Words
 use Words.{◌≡◌, ◌∙◌, ◌+◌, ◌-◌, ◌||◌, not, ℕ, zero, suc, Bool, true, false, cond, List, [], ◌∷◌, ◌++◌, length, refl, sym, ap, Option, Some, None, nat_le}
 use Words.{nat_lt, append_assoc, AllByRecursion, Body, Event, Header, Line, Effect, Say, Send, Do, Disk, Stop, at_number, Input, Node, Step}
-use Words.{Parts, refusal, step, at_place, Arm, Frame, Giving, World, armed, as_delivered, as_lost, begins, bodies, change_frame}
-use Words.{count_works, cut, deliver, deliver_frame, disarmed, done_step, frame_number, giving, halted_at, halted_outs, happens, is_quiet}
+use Words.{Parts, refusal, step, at_place, Arm, Frame, Giving, World, armed, as_delivered, begins, bodies, change_frame}
+use Words.{count_works, cut, deliver, deliver_frame, disarmed, done_step, frame_number, halted_at, halted_outs, happens, is_quiet}
 use Words.{is_up_at, junk_fits, labels_unless, limited, lose_frame, lowest, most_frames, node_numbers, node_of, numbered, put, quiesce}
 use Words.{refused_at, sent_line, set_node, settle, settle_for, show_all, show_up, step_node, step_with, steps, tick_all, tick_up}
 use Words.{frame_kind, kind_below, worked, Message, Start}

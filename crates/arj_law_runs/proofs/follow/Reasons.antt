@@ -1,22 +1,22 @@
 -- The causes that the journal has for an event are the reasons of the world: of nodes, labels, objects and frames.
 use Rattle.arj_law_parts.proofs.Words
-use Words.{◌≡◌, ◌∙◌, ◌==◌, ◌&&◌, ◌||◌, not, ℕ, zero, suc, Bool, true, false, cond, List, [], ◌∷◌, length, refl, sym, ap, arith, Option, Some, None}
-use Words.{is_some, find, list_all, list_any, and_parts, nat_le, nat_tests, leb-true, bytes_eq, bytes_eq-Decides, is_at, label_cmp}
+use Words.{◌≡◌, ◌∙◌, ◌==◌, ◌&&◌, ◌||◌, not, ℕ, suc, Bool, true, false, cond, List, [], ◌∷◌, length, refl, sym, ap, arith, Option, Some, None}
+use Words.{is_some, list_all, list_any, and_parts, nat_le, nat_tests, bytes_eq, bytes_eq-Decides, is_at, label_cmp}
 use Words.{name, at_place, Event, FrameNo, Header, Label, Message, ObjectLine, Node, Parts, World, Labelled, is_empty, class_in, first_reason}
 use Words.{frame_number, is_frame, is_given, is_up, is_up_at, reasons, Input, refused_at, Kind, Coord, Branch, branch_named}
 use Words.{refused_by, node_of, kind_below, node_in, actor, is_below_16, is_serial, lacks_op, has_many_objects, has_open_child, sibling_waits, waits}
 use Words.{waits_above, waits_below, Op}
-use Words.{labelled, subst}
+use Words.{subst}
 use Rattle.arj_law_runs.proofs.Terms.{label_at}
 use Words.event
 use Words.frame_no
 use Words.input
 use Words.kind
 use Rattle.arj_law_parts.proofs.moves.Reasons.{first_not, not_not}
-use Rattle.arj_law_parts.specs.steps.Writes.{asks, node_refusal, refused_to}
+use Rattle.arj_law_parts.specs.steps.Writes.{asks, node_refusal}
 use Rattle.arj_law_runs.proofs.follow.Telling.{Tells, frame_test, has_is}
 use Rattle.arj_law_runs.proofs.follow.Gone.{is_gone, is_gone_branch}
-use Rattle.arj_law_runs.specs.follow.Refusals.{ended, is_plain_cause, names_action}
+use Rattle.arj_law_runs.specs.follow.Refusals.{ended, names_action}
 use Rattle.arj_model.specs.Past.{Past}
 use Rattle.arj_model.specs.Actions.{is_begun}
 use Rattle.arj_model.specs.Last.{object_line}

@@ -1,8 +1,8 @@
 -- In every run an event is refused by its lowest cause, as far as that asks of actions only whether they began.
 use Rattle.arj_law_parts.proofs.Words
-use Words.{◌≡◌, ◌∙◌, ◌+◌, ◌≤◌, ◌||◌, not, ℕ, zero, suc, Bool, true, false, cond, List, [], ◌∷◌, ◌++◌, length, map, refl, sym, ap, subst, arith}
-use Words.{Option, Some, None, is_some, nat_le, nat_lt, nat_tests, AllByRecursion, append_assoc, at_number, at_place, Body, Event, Header, Label}
-use Words.{Line, Node, Input, Step, Arm, World, Giving, Labelled, Effect, armed, begins, counted, count_works, done_step, first_reason, giving}
+use Words.{◌≡◌, ◌∙◌, ◌+◌, ◌≤◌, ◌||◌, not, ℕ, Bool, true, false, cond, List, [], ◌∷◌, ◌++◌, length, map, refl, sym, ap, subst, arith}
+use Words.{Option, Some, None, is_some, nat_le, nat_lt, nat_tests, AllByRecursion, at_number, at_place, Body, Event, Header, Label}
+use Words.{Line, Node, Input, Step, Arm, World, Giving, Labelled, armed, begins, counted, done_step, first_reason, giving}
 use Words.{happens, is_given, labels_unless, lacks_labels, limited, most_frames, no_labels, node_of, only_says, reasons, refusal, refused_at}
 use Words.{run_unless, step, step_node, step_with, steps, world_from, Move, moved, journal_by, IsInForm, Start, numbered, see, append-nil, ◌-◌}
 use Words.{cut, kind_below, disarmed, halted_at, is_at, label_cmp, name}
@@ -11,16 +11,14 @@ use Words.event
 use Words.input
 use Words.kind
 use Rattle.arj_law_runs.proofs.Terms.which
-use Rattle.arj_law_runs.proofs.Terms.{says, Holds, IsKept, IsWritten, Book, book, keeps_asked, label_at, new_book, act_in, acts}
+use Rattle.arj_law_runs.proofs.Terms.{says, Holds, IsWritten, book, keeps_asked, label_at, act_in, acts}
 use Rattle.arj_law_parts.proofs.moves.Happens.{first_asked}
 use Rattle.arj_law_parts.proofs.moves.Moving.{move_asked}
 use Rattle.arj_law_parts.proofs.parts.LivesNamed.{all_found}
-use Rattle.arj_law_parts.specs.moves.Keeps.{KeepsAsked}
-use Rattle.arj_law_parts.specs.steps.Writes.{asks, node_refusal, refused_to}
-use Rattle.arj_law_runs.proofs.addresses.Runs.{kept}
+use Rattle.arj_law_parts.specs.steps.Writes.{node_refusal}
 use Rattle.arj_law_runs.proofs.follow.Along.{Ended, Outcome, Went, event_of, runs_along}
 use Rattle.arj_law_runs.proofs.follow.Frames as frames
-use Rattle.arj_law_runs.proofs.follow.Plain.{IsNone, So, happens_so, limited_so}
+use Rattle.arj_law_runs.proofs.follow.Plain.{IsNone, happens_so, limited_so}
 use Rattle.arj_law_runs.proofs.follow.Gone.{ended_so, is_gone}
 use Rattle.arj_law_runs.proofs.follow.Halts.{KnowsAll, halts_keep}
 use Rattle.arj_law_runs.proofs.follow.Labeled.{KnowsFinds, finds_keep}

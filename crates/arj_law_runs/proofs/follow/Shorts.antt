@@ -1,10 +1,10 @@
 -- In every run events that write one line of their own follow the journal whole.
 use Rattle.arj_law_parts.proofs.Words
 use Words.{◌≡◌, ◌∙◌, ◌+◌, ◌-◌, ◌≤◌, ◌||◌, not, ℕ, Bool, true, false, cond, List, [], ◌∷◌, ◌++◌, length, refl, sym, ap, subst, arith, Option, Some, None}
-use Words.{is_some, nat_lt, nat_tests, AllByRecursion, at_number, at_place, Body, Event, Header, Label, Kind, Node, Parts, Input, Step, Arm, World, Frame}
-use Words.{FrameNo, Effect, Say, armed, counted, cut, disarmed, halted_at, done_step, first_reason, frame_number, happens, is_frame, is_up_at, is_up, lacks_labels}
-use Words.{limited, lose_frame, most_frames, next_uid, reasons, refusal, refused_at, step, step_node, step_with, steps, world_from, Move, moved, journal_by}
-use Words.{begins, gives_label, labels_unless, Giving, IsInForm, Start, numbered, Uid, parent_of, with_coord, see, name}
+use Words.{is_some, nat_lt, nat_tests, at_number, at_place, Body, Event, Header, Label, Kind, Node, Parts, Input, Step, Arm, World, Frame}
+use Words.{FrameNo, Say, armed, counted, cut, disarmed, halted_at, done_step, first_reason, frame_number, happens, is_frame, is_up_at, is_up}
+use Words.{limited, lose_frame, most_frames, next_uid, reasons, step, step_node, step_with, steps, world_from, Move, journal_by}
+use Words.{begins, gives_label, labels_unless, Giving, IsInForm, Start, numbered}
 use Words.body
 use Words.event
 use Words.frame_no
@@ -30,7 +30,7 @@ use Rattle.arj_law_runs.specs.follow.Shorts.{ShortEventsStep, is_short}
 use Rattle.arj_journal.specs.ScriptForm.{HeaderInForm}
 use Rattle.arj_model.specs.Follows.{Accepted, Runs}
 use Rattle.arj_model.specs.Own.{Begins}
-use Rattle.arj_model.specs.Past.{Past, at_start, block, is_refused, next}
+use Rattle.arj_model.specs.Past.{Past, at_start, block}
 use Rattle.arj_model.specs.Refusals as model
 use Rattle.arj_promise.specs.Runs.{HasWork, IsStoppedInForm, Run}
 use Rattle.arj_promise.specs.Starts.{IsFormed}

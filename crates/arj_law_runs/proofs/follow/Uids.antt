@@ -2,15 +2,15 @@
 use Rattle.arj_law_parts.proofs.Words
 use Words.{◌≡◌, ◌∙◌, ◌+◌, ◌≤◌, ◌==◌, ◌&&◌, ℕ, suc, Bool, true, false, cond, List, [], ◌∷◌, ◌++◌, length, filter, map, refl, sym, ap, subst, arith}
 use Words.{inl, inr, eqb-true, if◌then◌else◌, Option, Some, None, nat_tests, append-nil, append_assoc, length-append, option_map, AllByRecursion, and_parts, list_all, In, Body, Line}
-use Words.{Header, Kind, Label, Message, Uid, name, again_all, begin_action, began_line, Disk, Do, Effect, Say, Send, Look, PutInc, Stop, Before, After, InPart}
-use Words.{Work, worked, stopped, Parts, Handled, Took, Void, handle, holders, is_meant, parent_of, parts_in, query_about, restart_outs, taken, tick_outs}
+use Words.{Header, Kind, Label, Message, name, again_all, begin_action, began_line, Disk, Do, Effect, Say, Send, Look, PutInc, Stop, Before, After, InPart}
+use Words.{Work, worked, stopped, Parts, Handled, Took, Void, handle, holders, is_meant, parent_of, parts_in, query_about, restart_outs, tick_outs}
 use Words.{tolds_again, tolds_again_own, acts_own, again_own, with_coord, Input, Node, acts as does, refusal_up, next_uid, numbered, Seen, is_serial, all_both}
-use Words.{heard, acked, node_by, numbers_to, at_place, see, world_from, Start}
+use Words.{node_by, numbers_to, at_place, see, world_from, Start}
 use Words.body
 use Words.input
 use Rattle.arj_law_runs.proofs.Terms
-use Terms.{Act, acts, acts_after, at, down, given, posted, said, up, Up, Walks, halted, walks_both, Keeps, is_act, AreQuiet, Book, book, new_book, turned}
-use Terms.{IsKept, same_acked, same_acts, same_again, same_heard, IsAtStarts}
+use Terms.{Act, acts, acts_after, at, down, given, posted, said, up, Up, Walks, halted, walks_both, Keeps, is_act, AreQuiet, Book, book, turned}
+use Terms.{IsKept, same_acked, same_acts, same_again, same_heard}
 use Terms.seen
 use Rattle.arj_law_parts.proofs.steps.Still.{Still, coord_good, is_still, map_good, outs_of, says_still, taken_good}
 use Rattle.arj_law_parts.specs.moves.Seen.{is_quiet_line}
