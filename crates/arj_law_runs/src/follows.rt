@@ -21,8 +21,9 @@ pub fn plain_refusals_follow()
 {}
 
 /// In every run in form, wherever it begins and wherever disks stop, the beginning of an action in no other one, the loss of a frame, the
-/// crash of a node and the arming of a disk follow the journal whole: they write the refusal by their lowest cause, or, where the journal
-/// has none, their own line alone, of the action that begins with the next Uid of its node. It does nothing when it runs.
+/// crash of a node and the arming of a disk write the refusal by their lowest cause, or, where the journal has none, their own line alone.
+/// So does the beginning of an action in another one, where it isn't refused. Each action begins with the next Uid of its node, as the
+/// journal counts incarnations and actions, at its parent's node and of the kind that its parent's asks for. It does nothing when it runs.
 pub fn short_events_follow()
     ensures runs { ShortEventsFollow }
 {}

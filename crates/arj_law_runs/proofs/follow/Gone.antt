@@ -251,3 +251,7 @@ module _ (hd : Header) (w : World) (h : Holds hd KnowsAll w) (f : Holds hd Knows
       by None down = (λ i. over_in (book w.lines) a.uid || not (is_some (down i) && ((let d = n.disk in d.inc) == (let u = a.uid in u.inc))))
           ∙ or_true (over_in (book w.lines) a.uid) ∙ sym (ap (is_gone l) down)
       by (Some t) live = up_so t live ∙ sym (ap (is_gone l) live)
+
+  -- the action that the label is of
+  pub its_action : (x : Act) × (act_in (acts w.lines) (name l) ≡ Some x) × ((let u = x.uid in u.node) ≡ g.node) × (is_serial x.kind ≡ g.serial)
+  its_action = (begun.0, ap (λ xs. act_in xs (name l)) (sym acts_are) ∙ begun.1, node_is, begun.2)

@@ -287,7 +287,7 @@ module _ (hd : Header) (form : HeaderInForm hd) where
     begun : (l : Label) → is_begun p.lines (name l) ≡ is_given l w
     begun l = ap (λ ls. is_begun ls (name l)) s.base.lines ∙ given_begun w s.halts l
 
-    labelled_so : (l : Label) → is_given l t ≡ true → (g : Labelled) × (n : Node) × (label_at l t.labels ≡ Some g)
+    pub labelled_so : (l : Label) → is_given l t ≡ true → (g : Labelled) × (n : Node) × (label_at l t.labels ≡ Some g)
         × (at_place g.node t.nodes ≡ Some n) × (model.has_ended p.lines (name l) ≡ is_gone l n.live)
     labelled_so l is = by (label_at l w.labels) refl is
       where

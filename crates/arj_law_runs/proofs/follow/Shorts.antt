@@ -11,10 +11,13 @@ use Words.frame_no
 use Words.input
 use Words.kind
 use Rattle.arj_law_runs.proofs.Terms.which
+use Rattle.arj_law_runs.proofs.Terms.{Act, act_in, option_map}
+use Words.{if◌then◌else◌, refusal, refused_at, is_given, is_serial, kind_below, name, node_in, node_of}
+use Rattle.arj_protocol.specs.World.{kind_in}
 use Rattle.arj_law_runs.proofs.Terms.{says, Holds, IsMemory, IsUp, acts, keeps_asked}
 use Rattle.arj_law_parts.proofs.moves.Happens.{first_asked}
 use Rattle.arj_law_parts.proofs.moves.Moving.{move_asked}
-use Rattle.arj_law_parts.proofs.moves.Reasons.{first_not, not_not}
+use Rattle.arj_law_parts.proofs.moves.Reasons.{first_not, is_there, not_not}
 use Rattle.arj_law_parts.proofs.parts.LivesNamed.{all_found}
 use Rattle.arj_law_parts.specs.steps.Writes.{node_refusal}
 use Rattle.arj_law_runs.proofs.follow.Along.{Ended, Outcome, Went, event_of, runs_along}
@@ -23,14 +26,16 @@ use Rattle.arj_law_runs.proofs.follow.Plain.{crash_free}
 use Rattle.arj_law_runs.proofs.follow.Reasons.{begins_free, joined, refused_by_any}
 use Rattle.arj_law_runs.proofs.follow.Refusing as refusing
 use Rattle.arj_law_runs.proofs.follow.Refusing.{Came, IsRefused, IsRun, came, same_bodies}
+use Rattle.arj_law_runs.proofs.follow.Gone.{its_action}
 use Rattle.arj_law_runs.proofs.follow.Uids.{KnowsNext, count_of, next_keep}
 use Rattle.arj_law_runs.specs.follow.Frames.{FramesStep, run_events}
 use Rattle.arj_law_runs.specs.follow.Refusals.{names_action}
-use Rattle.arj_law_runs.specs.follow.Shorts.{ShortEventsStep, is_short}
+use Rattle.arj_law_runs.specs.follow.Shorts.{ShortEventsStep, begins_below, is_short}
 use Rattle.arj_journal.specs.ScriptForm.{HeaderInForm}
 use Rattle.arj_model.specs.Follows.{Accepted, Runs}
+use Rattle.arj_model.specs.Own as own
 use Rattle.arj_model.specs.Own.{Begins}
-use Rattle.arj_model.specs.Past.{Past, at_start, block}
+use Rattle.arj_model.specs.Past.{Past, at_start, block, is_refused, next}
 use Rattle.arj_model.specs.Refusals as model
 use Rattle.arj_promise.specs.Runs.{HasWork, IsStoppedInForm, Run}
 use Rattle.arj_promise.specs.Starts.{IsFormed}
@@ -101,8 +106,8 @@ module _ (hd : Header) (form : HeaderInForm hd) where
             (happens e arm t)
 
     -- what the world doesn't refuse
-    world_none : refused_by_any e t ≡ None → first_reason (reasons e t) ≡ None
-    world_none none = by (first_reason (reasons e t)) none
+    first_none : (e : Event) → refused_by_any e t ≡ None → first_reason (reasons e t) ≡ None
+    first_none e none = by (first_reason (reasons e t)) none
       where
         by : (o : Option ℕ) → joined o (node_refusal e t) ≡ None → o ≡ None
         by None is = refl
@@ -161,38 +166,85 @@ module _ (hd : Header) (form : HeaderInForm hd) where
         by None at up = absurd (cc up)
         by (Some x) at up = one x at x.live refl up
 
-    begins_line : (l : Label) (k : Kind) (n : ℕ) → is_up_at n t ≡ true →
-        Says (body.Began l k (model.next_uid p.start p.lines n) None) t (begins (record { label = l; kind = k; parent = None; node = n }) t)
-    begins_line l k n up =
-        subst (λ r. Says (body.Began l k (model.next_uid p.start p.lines n) None) t (steps n i (labels_unless g t r)))
-        (sym (begins_free l k t (at_place n w.nodes) up)) (by (at_place n w.nodes) refl up)
+    -- a node that is up begins an action which it doesn't refuse
+    begins_at : (l : Label) (k : Kind) (parent : Option Label) (n : ℕ) (x : Node) → at_place n w.nodes ≡ Some x → (v : Parts) → x.live ≡ Some v →
+        refused_at (input.Begin l k parent) t (at_place n w.nodes) ≡ None
+        → Says (body.Began l k (model.next_uid p.start p.lines n) parent) t (begins (record { label = l; kind = k; parent = parent; node = n }) t)
+    begins_at l k parent n x at v live free =
+        subst (λ r. Says (body.Began l k (model.next_uid p.start p.lines n) parent) t (steps n i (labels_unless g t r))) (sym free)
+        (subst (λ (o : Option Node). Says (body.Began l k (model.next_uid p.start p.lines n) parent) t (step_node n i V o)) (sym at) one)
       where
         i : Input
-        i = input.Begin l k None
+        i = input.Begin l k parent
 
         g : Giving
-        g = record { label = l; kind = k; parent = None; node = n }
+        g = record { label = l; kind = k; parent = parent; node = n }
 
         V : World
         V = gives_label g t
 
-        one : (x : Node) → at_place n w.nodes ≡ Some x → (o : Option Parts) → x.live ≡ o → is_some o ≡ true →
-            Says (body.Began l k (model.next_uid p.start p.lines n) None) t (step_node n i V (Some x))
-        one x at None live up = absurd (cc up)
-        one x at (Some v) live up =
+        granted : refusal t.header i x ≡ None
+        granted = sym (ap (refused_at i t) at) ∙ free
+
+        one : Says (body.Began l k (model.next_uid p.start p.lines n) parent) t (step_node n i V (Some x))
+        one =
             let did = input.acts i (let d = x.disk in d.intents) v.coord in
             let is : step t.header x i ≡ input.coord_did x v did
-            = ap (input.step_unless t.header i x) (ap (input.refusal_at t.header i) live) ∙ ap (input.step_of t.header i x) live in
-            let b : Body = body.Began l k (next_uid v.coord.tree) None in
+            = ap (input.step_unless t.header i x) granted ∙ ap (input.step_of t.header i x) live in
+            let b : Body = body.Began l k (next_uid v.coord.tree) parent in
             let after : Node = (input.coord_did x v did).after in
             let r = only_says b V few n x after (at_number n m.falls) (λ a found. works_at n a found) in
-            subst (λ u. Says (body.Began l k u None) t (step_node n i V (Some x))) (next_is n x at v live)
+            subst (λ u. Says (body.Began l k u parent) t (step_node n i V (Some x))) (next_is n x at v live)
             (subst (λ (z : Step). Says b t (step_with n x z V (at_number n m.falls))) (sym is) (record { lines = r.lines; full = r.full }))
 
+    begins_line : (l : Label) (k : Kind) (n : ℕ) → is_up_at n t ≡ true →
+        Says (body.Began l k (model.next_uid p.start p.lines n) None) t (begins (record { label = l; kind = k; parent = None; node = n }) t)
+    begins_line l k n up = by (at_place n w.nodes) refl up
+      where
+        one : (x : Node) → at_place n w.nodes ≡ Some x → (o : Option Parts) → x.live ≡ o → is_some o ≡ true →
+            Says (body.Began l k (model.next_uid p.start p.lines n) None) t (begins (record { label = l; kind = k; parent = None; node = n }) t)
+        one x at None live here = absurd (cc here)
+        one x at (Some v) live here = begins_at l k None n x at v live (begins_free l k t (at_place n w.nodes) up)
+
         by : (o : Option Node) → at_place n w.nodes ≡ o → is_up o ≡ true →
-            Says (body.Began l k (model.next_uid p.start p.lines n) None) t (step_node n i V o)
-        by None at up = absurd (cc up)
-        by (Some x) at up = one x at x.live refl up
+            Says (body.Began l k (model.next_uid p.start p.lines n) None) t (begins (record { label = l; kind = k; parent = None; node = n }) t)
+        by None at here = absurd (cc here)
+        by (Some x) at here = one x at x.live refl here
+
+    -- an action begins in another one
+    begins_in : (l q : Label) (k : Kind) → is_given q t ≡ true → refused_at (input.Begin l k (Some q)) t (at_place (node_of q t) w.nodes) ≡ None →
+        (n : ℕ) × (own.node_of p.lines (name q) ≡ Some n)
+        × Says (body.Began l k (model.next_uid p.start p.lines n) (Some q)) t
+        (begins (record { label = l; kind = k; parent = Some q; node = node_of q t }) t)
+    begins_in l q k given free =
+        let r = refusing.labelled_so hd form m p w stops s.base on q given in
+        let a = its_action hd w s.base.halts s.base.finds q r.0 r.2 r.1 r.3 in
+        let home : node_of q t ≡ (let g = r.0 in g.node) = ap node_in r.2 in
+        let at : at_place (node_of q t) w.nodes ≡ Some r.1 = ap (λ j. at_place j w.nodes) home ∙ r.3 in (
+          node_of q t,
+          (λ i. option_map (λ (x : Act). (let u = x.uid in u.node)) (act_in (acts (s.base.base.lines i)) (name q)))
+              ∙ ap (option_map (λ (x : Act). (let u = x.uid in u.node))) a.1 ∙ ap Some (a.2 ∙ sym home),
+          up r.1 at (let x = r.1 in x.live) refl,
+        )
+      where
+        up : (x : Node) → at_place (node_of q t) w.nodes ≡ Some x → (o : Option Parts) → x.live ≡ o →
+            Says (body.Began l k (model.next_uid p.start p.lines (node_of q t)) (Some q)) t
+            (begins (record { label = l; kind = k; parent = Some q; node = node_of q t }) t)
+        up x at None down =
+            let no_way : ◌≡◌ {A = Option ℕ} (Some 6) None = sym (ap (refused_at (input.Begin l k (Some q)) t) at
+            ∙ ap (input.refusal_at t.header (input.Begin l k (Some q))) down) ∙ free in
+            absurd (cc no_way)
+        up x at (Some v) live = begins_at l k (Some q) (node_of q t) x at v live free
+
+    -- its kind is that of the journal
+    kind_so : (q : Label) → is_given q t ≡ true → kind_below q t ≡ (if model.is_serializing p.lines (name q) then kind.Constituent else kind.Nested)
+    kind_so q given =
+        let r = refusing.labelled_so hd form m p w stops s.base on q given in
+        let a = its_action hd w s.base.halts s.base.finds q r.0 r.2 r.1 r.3 in
+        let serial : model.is_serializing p.lines (name q) ≡ (let g = r.0 in g.serial)
+        = (λ i. model.holds_of (λ (x : Act). is_serial x.kind) (act_in (acts (s.base.base.lines i)) (name q)))
+        ∙ ap (model.holds_of (λ (x : Act). is_serial x.kind)) a.1 ∙ a.3 in
+        ap kind_in r.2 ∙ (λ i. if (sym serial) i then kind.Constituent else kind.Nested)
 
     lose_line : (k : FrameNo) → is_frame k t ≡ true → Says (body.Dropped (frame_number k t)) t
         (lose_frame (frame_number k t) t (at_place (frame_number k t) t.frames))
@@ -215,6 +267,32 @@ module _ (hd : Header) (form : HeaderInForm hd) where
     has_line (event.Crash n) a short none = (body.Halted n, refl, crash_line n (up_at n [] none))
     has_line (event.Stop n calls k) a short none = (body.Armed n, refl, record { lines = refl; full = refl })
     has_line e a short none = absurd (cc short)
+
+    -- the label is that of an action which began in this run
+    there : (q : Label) (n : ℕ) (x : Bool) → first_reason ((n, x) ∷ (5, not (world.is_known q t)) ∷ (6, world.was_given q t) ∷ []) ≡ None →
+        is_given q t ≡ true
+    there q n x none = is_there q t (first_not n x ((5, not (world.is_known q t)) ∷ (6, world.was_given q t) ∷ []) none).1
+
+    node_none : (e : Event) → refused_by_any e t ≡ None → node_refusal e t ≡ None
+    node_none e none = by (first_reason (reasons e t)) none
+      where
+        by : (o : Option ℕ) → joined o (node_refusal e t) ≡ None → node_refusal e t ≡ None
+        by None is = is
+        by (Some c) is = let no_way : ◌≡◌ {A = Option ℕ} (Some c) None = is in absurd (cc no_way)
+
+    has_line_below : (e : Event) (a : Arm) → begins_below e ≡ true → refused_by_any e t ≡ None → HasLine e a
+    has_line_below (event.BeginIn l q) a below none =
+        let given = there q 4 (world.is_known l t) (first_none (event.BeginIn l q) none) in
+        let r = begins_in l q (kind_below q t) given (node_none (event.BeginIn l q) none) in (
+          body.Began l (kind_below q t) (model.next_uid p.start p.lines r.0) (Some q),
+          (r.0, r.1, ap (λ k. body.Began l k (model.next_uid p.start p.lines r.0) (Some q) ∷ []) (kind_so q given)),
+          r.2,
+        )
+    has_line_below (event.Top l q) a below none =
+        let given = there q 4 (world.is_known l t) (first_none (event.Top l q) none) in
+        let r = begins_in l q kind.Independent given (node_none (event.Top l q) none) in
+        (body.Began l kind.Independent (model.next_uid p.start p.lines r.0) (Some q), (r.0, r.1, refl), r.2)
+    has_line_below e a below none = absurd (cc below)
 
   -- ---- accepted events
 
@@ -277,6 +355,32 @@ module _ (hd : Header) (form : HeaderInForm hd) where
   }
   accepted_one p e bodies b short begins is = absurd (cc short)
 
+  accepted_below : (p : Past) (e : Event) (bodies : List Body) (b : Body) → begins_below e ≡ true → Begins hd p e (b ∷ []) → bodies ≡ b ∷ [] →
+      Accepted hd p e bodies
+  accepted_below p (event.BeginIn l q) bodies b below begins is = record {
+    own = b ∷ [];
+    others = [];
+    last = [];
+    parts = is;
+    begins = begins;
+    ends = refl;
+    only = refl;
+    halts = refl;
+    answers = tt;
+  }
+  accepted_below p (event.Top l q) bodies b below begins is = record {
+    own = b ∷ [];
+    others = [];
+    last = [];
+    parts = is;
+    begins = begins;
+    ends = refl;
+    only = refl;
+    halts = refl;
+    answers = tt;
+  }
+  accepted_below p e bodies b below begins is = absurd (cc below)
+
   short_plain : (e : Event) → is_short e ≡ true → names_action e ≡ false
   short_plain (event.BeginIn l q) short = absurd (cc short)
   short_plain (event.Top l q) short = absurd (cc short)
@@ -290,14 +394,21 @@ module _ (hd : Header) (form : HeaderInForm hd) where
   module _ (m : Move) (p : Past) (w : World) (stops : IsStoppedInForm m) (s : Stands p w) (on : w.over ≡ false) where
     follows : (bodies : List Body) → Came (event_of m) (let a = m.asked in a.arm) (counted (record w { arms = m.falls })) bodies →
         ShortEventsStep hd p (event_of m) bodies
-    follows bodies (IsRefused c refused is) short =
-        subst (λ o. MatchOption o (Accepted hd p (event_of m) bodies) (λ d. bodies ≡ body.Refused d ∷ []))
-        (sym (refusing.plain_same hd form m p w stops s.base on (short_plain (event_of m) short) ∙ refused)) is
-    follows bodies (IsRun none isnt lines) short =
-        let line = has_line m p w stops s on (event_of m) (let a = m.asked in a.arm) short (world_none m p w stops s on none) in
-        subst (λ o. MatchOption o (Accepted hd p (event_of m) bodies) (λ d. bodies ≡ body.Refused d ∷ []))
-        (sym (refusing.plain_same hd form m p w stops s.base on (short_plain (event_of m) short) ∙ none))
-        (accepted_one p (event_of m) bodies line.0 short line.1 (whole m p w stops s on bodies line.0 lines line.2))
+    follows bodies (IsRefused c refused is) = record {
+      short = λ short. subst (λ o. MatchOption o (Accepted hd p (event_of m) bodies) (λ d. bodies ≡ body.Refused d ∷ []))
+          (sym (refusing.plain_same hd form m p w stops s.base on (short_plain (event_of m) short) ∙ refused)) is;
+      below = λ below isnt. let no_way : true ≡ false = sym (ap is_refused is) ∙ isnt in absurd (cc no_way);
+    }
+    follows bodies (IsRun none isnt lines) = record {
+      short = λ short.
+          let line = has_line m p w stops s on (event_of m) (let a = m.asked in a.arm) short (first_none m p w stops s on (event_of m) none) in
+          subst (λ o. MatchOption o (Accepted hd p (event_of m) bodies) (λ d. bodies ≡ body.Refused d ∷ []))
+          (sym (refusing.plain_same hd form m p w stops s.base on (short_plain (event_of m) short) ∙ none))
+          (accepted_one p (event_of m) bodies line.0 short line.1 (whole m p w stops s on bodies line.0 lines line.2));
+      below = λ below other.
+          let line = has_line_below m p w stops s on (event_of m) (let a = m.asked in a.arm) below none in
+          accepted_below p (event_of m) bodies line.0 below line.1 (whole m p w stops s on bodies line.0 lines line.2);
+    }
 
     pub goes : Outcome (ShortEventsStep hd) Stands m p w
     goes = by (frames.goes hd form m p w stops s.base.base on)

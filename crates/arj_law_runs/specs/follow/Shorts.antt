@@ -5,7 +5,7 @@ use Rattle.arj_journal.specs.declared.body.Body.TheVariants as body
 use Rattle.arj_journal.specs.declared.event.Event.{Event}
 use Rattle.arj_journal.specs.declared.event.Event.TheVariants as event
 use Rattle.arj_journal.specs.declared.header.Header.{Header}
-use Rattle.arj_model.specs.Past.{Past}
+use Rattle.arj_model.specs.Past.{Past, is_refused}
 use Rattle.arj_model.specs.Refusals.{refusal}
 use Rattle.arj_model.specs.Follows.{Accepted, Runs}
 use Rattle.arj_law_runs.specs.follow.Frames.{run_events}
@@ -20,10 +20,17 @@ is_short (event.Crash n) = true
 is_short (event.Stop n calls k) = true
 is_short _ = false
 
--- It has the line of its lowest cause, or, where the journal has none, its own.
-abbrev pub ShortEventsStep : Header → Past → Event → List Body → Type 0
-ShortEventsStep hd past e bodies =
-    is_short e ≡ true → MatchOption (refusal hd past e) (Accepted hd past e bodies) (λ c. bodies ≡ body.Refused c ∷ [])
+-- the event begins an action in another one
+abbrev pub begins_below : Event → Bool
+begins_below (event.BeginIn l p) = true
+begins_below (event.Top l p) = true
+begins_below _ = false
+
+-- A short event has the line of its lowest cause, or, where the journal has none, its own. An action that begins in another one has its own,
+-- where that isn't refused.
+pub record ShortEventsStep (hd : Header) (past : Past) (e : Event) (bodies : List Body) : Type 0 where
+  pub short : is_short e ≡ true → MatchOption (refusal hd past e) (Accepted hd past e bodies) (λ c. bodies ≡ body.Refused c ∷ [])
+  pub below : begins_below e ≡ true → is_refused bodies ≡ false → Accepted hd past e bodies
 
 -- so it is of each event of a run
 abbrev pub ShortEventsFollow : Type 0
