@@ -1,6 +1,7 @@
 -- What an event writes, in the journal's own words, in every run.
 --
--- Lines of frames and halts are followed one by one, against the frames of the world and which of its nodes are up.
+-- Lines of frames and halts are followed one by one, against the frames of the world and which of its nodes are up. Refusals are
+-- followed event by event, against halts, labels and Uids that nodes and the journal have alike.
 pub mod Telling
 pub mod Walking
 pub mod Stepping

@@ -13,9 +13,9 @@ pub fn frames_have_causes()
 {}
 
 /// In every run in form, wherever it begins and wherever disks stop, an event is refused with a number exactly where that is its lowest
-/// cause by the events and the journal before it: unknown node, node down, node up, label used, unknown label, ended, and, where the event
-/// names no action that began before, unknown object, no message, and a message. So such an event is refused exactly where the journal has a
-/// cause. It does nothing when it runs.
+/// cause by the events and the journal before it: unknown node, node down, node up, label used, unknown label, ended, and, where the
+/// event names no action that began before, unknown object, no message, and a message. So such an event is refused exactly where the
+/// journal has a cause. It does nothing when it runs.
 pub fn plain_refusals_follow()
     ensures runs { PlainRefusalsFollow }
 {}

@@ -1,12 +1,15 @@
 -- An action has ended by the journal exactly where its node has no open one under its label.
 use Rattle.arj_law_parts.proofs.Words
-use Words.{◌≡◌, ◌∙◌, ◌==◌, ◌&&◌, ◌||◌, not, ℕ, zero, suc, Bool, true, false, cond, List, [], ◌∷◌, ◌++◌, refl, sym, ap, subst, Option, Some, None}
-use Words.{is_some, if◌then◌else◌, bytes_eq, bytes_eq-Decides, in_find, in_to, In, eqb-true, uid_eq, uid_same, is_on, map-append, AllByRecursion}
+use Words.{◌≡◌, ◌∙◌, ◌==◌, ◌&&◌, ◌||◌, not, ℕ, zero, suc, Bool, true, false, cond, List, [], ◌∷◌, ◌++◌, refl, sym, ap, subst, Option, Some}
+use Words.{None}
+use Words.{is_some, if◌then◌else◌, bytes_eq, bytes_eq-Decides, in_find, in_to, In, eqb-true, uid_eq, uid_same, is_on, map-append}
+use Words.{AllByRecursion}
 use Words.{Label, name, Uid, End, Kind, Doing, number_of, uid_at, Parts, Node, at_place, Branch, branch_of, branch_named, is_own}
 use Words.{Labelled, World, Header, see, is_serial, branch_numbered, lookup, is_eq, slice_cmp, nat_cmp, slice_get, map, inl, inr}
 use Words.ending
 use Rattle.arj_law_runs.proofs.Terms
-use Terms.{Act, act_in, acts, path, uids, upwards, Book, book, Holds, IsEnd, IsGiven, IsKept, IsKnown, IsMemory, IsUp, IsWritten, HasNames, label_at}
+use Terms.{Act, act_in, acts, path, uids, upwards, Book, book, Holds, IsEnd, IsGiven, IsKept, IsKnown, IsMemory, IsUp, IsWritten, HasNames}
+use Terms.{label_at}
 use Rattle.arj_law_parts.specs.steps.Named.{names_of}
 use Rattle.arj_law_runs.proofs.follow.Halts.{KnowsAll, is_alive}
 use Rattle.arj_law_runs.proofs.follow.Labeled.{KnowsFinds, label_there, place_there}
@@ -80,11 +83,13 @@ end_so B u k (Some ending.Commit) is = by (is_serial k) is
     last false true = refl
     last false false = refl
 
-    by : (b : Bool) → (if b then is_on B.ended u else is_on B.committed u) ≡ true → (is_on B.committed u || (is_on B.aborted u || is_on B.ended u)) ≡ true
+    by : (b : Bool) → (if b then is_on B.ended u else is_on B.committed u) ≡ true →
+        (is_on B.committed u || (is_on B.aborted u || is_on B.ended u)) ≡ true
     by true e = (λ i. is_on B.committed u || (is_on B.aborted u || e i)) ∙ last (is_on B.committed u) (is_on B.aborted u)
     by false e = λ i. e i || (is_on B.aborted u || is_on B.ended u)
 
-module _ (hd : Header) (w : World) (h : Holds hd KnowsAll w) (f : Holds hd KnowsFinds w) (l : Label) (g : Labelled) (given : label_at l w.labels ≡ Some g)
+module _ (hd : Header) (w : World) (h : Holds hd KnowsAll w) (f : Holds hd KnowsFinds w) (l : Label) (g : Labelled)
+    (given : label_at l w.labels ≡ Some g)
     (n : Node) (there : at_place g.node w.nodes ≡ Some n) where
   kept : IsKept (see h.sent w)
   kept = let k = h.holds in k.0
@@ -182,7 +187,8 @@ module _ (hd : Header) (w : World) (h : Holds hd KnowsAll w) (f : Holds hd Knows
         by (Some b) at =
             let inc : (let u = a.uid in u.inc) ≡ (let d = n.disk in d.inc)
             = ap (λ (u : Uid). u.inc) (same_action j b number at) ∙ its_inc in
-            let no_way : true ≡ false = sym (same_number (let d = n.disk in d.inc)) ∙ ap (λ i. (let d = n.disk in d.inc) == i) (sym inc) ∙ past in
+            let no_way : true ≡ false = sym (same_number (let d = n.disk in d.inc)) ∙ ap (λ i. (let d = n.disk in d.inc) == i) (sym inc)
+            ∙ past in
             absurd (cc no_way)
 
     -- an action of this incarnation stands under its label
@@ -211,13 +217,16 @@ module _ (hd : Header) (w : World) (h : Holds hd KnowsAll w) (f : Holds hd Knows
 
       same : known.act ≡ a
       same =
-          let k = in_find (λ (x : Act). bytes_eq x.label (name (let q = works.0 in q.label))) known.act (let X = book w.lines in X.acts) known.named in
-          one_act (acts w.lines) (let s = its_sound w.lines written.right in s.distinct) known.act a (subst (In known.act) acts_are k.0) among
+          let k = in_find (λ (x : Act). bytes_eq x.label (name (let q = works.0 in q.label))) known.act (let X = book w.lines in
+          X.acts) known.named in
+          one_act (acts w.lines) (let s = its_sound w.lines written.right in s.distinct) known.act a (subst
+          (In known.act) acts_are k.0) among
           known.uid
 
       its_label : name (let q = works.0 in q.label) ≡ name l
       its_label =
-          let k = in_find (λ (x : Act). bytes_eq x.label (name (let q = works.0 in q.label))) known.act (let X = book w.lines in X.acts) known.named in
+          let k = in_find (λ (x : Act). bytes_eq x.label (name (let q = works.0 in q.label))) known.act (let X = book w.lines in
+          X.acts) known.named in
           sym ((bytes_eq-Decides known.act.label (name (let q = works.0 in q.label))).0 k.1) ∙ ap (λ (x : Act). x.label) same ∙ label_is
 
       number : number_of l t.coord ≡ Some (let u = a.uid in u.num)
@@ -239,7 +248,8 @@ module _ (hd : Header) (w : World) (h : Holds hd KnowsAll w) (f : Holds hd Knows
         ∙ by ((let d = n.disk in d.inc) == (let u = a.uid in u.inc)) refl
       where
         by : (b : Bool) → ((let d = n.disk in d.inc) == (let u = a.uid in u.inc)) ≡ b →
-            (over_in (book w.lines) a.uid || not ((let d = n.disk in d.inc) == (let u = a.uid in u.inc))) ≡ is_gone_branch (branch_named l t.coord)
+            (over_in (book w.lines) a.uid || not ((let d = n.disk in d.inc) == (let u = a.uid in
+            u.inc))) ≡ is_gone_branch (branch_named l t.coord)
         by true now = (λ i. over_in (book w.lines) a.uid || not (now i)) ∙ or_false (over_in (book w.lines) a.uid) ∙ sym (gone_is now)
         by false past = (λ i. over_in (book w.lines) a.uid || not (past i)) ∙ or_true (over_in (book w.lines) a.uid)
             ∙ sym (gone_if (number_of l t.coord) refl past)
@@ -247,11 +257,14 @@ module _ (hd : Header) (w : World) (h : Holds hd KnowsAll w) (f : Holds hd Knows
   pub ended_so : has_ended w.lines (name l) ≡ is_gone l n.live
   ended_so = by_journal ∙ by n.live refl
     where
-      by : (o : Option Parts) → n.live ≡ o → (over_in (book w.lines) a.uid || not (is_alive (Some n) (let u = a.uid in u.inc))) ≡ is_gone l n.live
-      by None down = (λ i. over_in (book w.lines) a.uid || not (is_some (down i) && ((let d = n.disk in d.inc) == (let u = a.uid in u.inc))))
+      by : (o : Option Parts) → n.live ≡ o → (over_in (book w.lines) a.uid || not (is_alive (Some n) (let u = a.uid in
+          u.inc))) ≡ is_gone l n.live
+      by None down = (λ i. over_in (book w.lines) a.uid || not (is_some (down i) && ((let d = n.disk in d.inc) == (let u = a.uid in
+          u.inc))))
           ∙ or_true (over_in (book w.lines) a.uid) ∙ sym (ap (is_gone l) down)
       by (Some t) live = up_so t live ∙ sym (ap (is_gone l) live)
 
   -- the action that the label is of
-  pub its_action : (x : Act) × (act_in (acts w.lines) (name l) ≡ Some x) × ((let u = x.uid in u.node) ≡ g.node) × (is_serial x.kind ≡ g.serial)
+  pub its_action : (x : Act) × (act_in (acts w.lines) (name l) ≡ Some x) × ((let u = x.uid in u.node) ≡ g.node)
+      × (is_serial x.kind ≡ g.serial)
   its_action = (begun.0, ap (λ xs. act_in xs (name l)) (sym acts_are) ∙ begun.1, node_is, begun.2)

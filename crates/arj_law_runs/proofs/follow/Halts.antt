@@ -1,15 +1,20 @@
 -- Which actions' nodes halted since they began: those that aren't up, in the action's incarnation.
 use Rattle.arj_law_parts.proofs.Words
-use Words.{◌≡◌, ◌∙◌, ◌+◌, ◌<◌, ◌≤◌, ◌==◌, ◌&&◌, ◌||◌, not, ℕ, suc, Bool, true, false, cond, List, [], ◌∷◌, ◌++◌, length, map, refl, sym, ap, subst}
-use Words.{arith, inl, inr, ⊎_elim, Option, Some, None, is_some, nat_lt, nat_tests, append-nil, append_assoc, AllByRecursion, and_parts, eqb-true}
+use Words.{◌≡◌, ◌∙◌, ◌+◌, ◌<◌, ◌≤◌, ◌==◌, ◌&&◌, ◌||◌, not, ℕ, suc, Bool, true, false, cond, List, [], ◌∷◌, ◌++◌, length, map, refl, sym, ap}
+use Words.{subst}
+use Words.{arith, inl, inr, ⊎_elim, Option, Some, None, is_some, nat_lt, nat_tests, append-nil, append_assoc, AllByRecursion, and_parts}
+use Words.{eqb-true}
 use Words.{list_all, In, Body, Line, Header, Kind, Label, Message, again_all, begin_action, began_line, Disk, Do, Effect, Say, Send, Look}
-use Words.{⊤, Prepare, Commit, Abort, PutIntent, RemoveIntent, PutInc, Work, worked, stopped, Parts, Took, handle, holders, is_meant, naming_at, naming_back, numbers_to, parent_of, parts_in, Handled, Void, name, acts_own, again_own}
-use Words.{prepared_actions, query_about, recovered_records, restart_outs, hello_to, tick_outs, tolds_again, tolds_again_own, uid_set, with_coord}
+use Words.{⊤, Prepare, Commit, Abort, PutIntent, RemoveIntent, PutInc, Work, worked, stopped, Parts, Took, handle, holders, is_meant}
+use Words.{naming_at, naming_back, numbers_to, parent_of, parts_in, Handled, Void, name, acts_own, again_own}
+use Words.{prepared_actions, query_about, recovered_records, restart_outs, hello_to, tick_outs, tolds_again, tolds_again_own, uid_set}
+use Words.{with_coord}
 use Words.{without_number, Input, Node, acts as does, refusal_up, next_uid, numbered, Seen, is_serial, all_both}
 use Words.body
 use Words.role
 use Rattle.arj_law_runs.proofs.Terms
-use Terms.{Act, Placed, option_map, acts, acts_after, acts_from, put, read, at, down, given, posted, said, up, Up, Walks, halted, walks_both}
+use Terms.{Act, Placed, option_map, acts, acts_after, acts_from, put, read, at, down, given, posted, said, up, Up, Walks, halted}
+use Terms.{walks_both}
 use Terms.{Keeps, is_act, AreQuiet, Book, book, new_book, turned, AreLined, IsLined, IsKept, IsWritten, Remembers, IsCounted}
 use Terms.seen
 use Rattle.arj_law_parts.proofs.steps.Still.{Still, back_good, coord_good, is_still, map_good, outs_of, says_still, taken_good}
@@ -164,7 +169,8 @@ grown xs (l ∷ ls) = let more = grown (acts_after xs l.body) ls in let one = by
     by (Some b) = omega arith
 
 -- no halt ends an action that is still to begin
-none_halted : (a : Act) (xs : List Act) (n : ℕ) (ls : List Line) → length (acts_from xs ls) ≤ a.id → is_halted (read halt_of xs n ls) a ≡ false
+none_halted : (a : Act) (xs : List Act) (n : ℕ) (ls : List Line) → length (acts_from xs ls) ≤ a.id →
+    is_halted (read halt_of xs n ls) a ≡ false
 none_halted a xs n [] late = refl
 none_halted a xs n (m ∷ ls) late =
     put_halts n (halt_of xs m.body) (read halt_of (acts_after xs m.body) (n + 1) ls) a
@@ -210,7 +216,8 @@ module _ (k : ℕ) where
       x = record { number = k; disk = d; live = Some t }
 
       by : (b : Bool) → ((let u = a.uid in u.node) == k) ≡ b → IsTold (up k d t N) a
-      by true on = own a i on ∙ (λ j. not (is_alive (cond (sym on j) (Some x) (N.nodes (let u = a.uid in u.node))) (let u = a.uid in u.inc)))
+      by true on = own a i on ∙ (λ j. not (is_alive (cond (sym on j) (Some x) (N.nodes (let u = a.uid in u.node))) (let u = a.uid in
+          u.inc)))
       by false off =
           others a i off ∙ (λ j. not (is_alive (cond (sym off j) (Some x) (N.nodes (let u = a.uid in u.node))) (let u = a.uid in u.inc)))
 
@@ -245,7 +252,8 @@ module _ (k : ℕ) where
 
       by : (b : Bool) → ((let u = a.uid in u.node) == k) ≡ b → IsTold (halted e k d N) a
       by true on = now
-          ∙ (λ j. is_halted (halts N.lines) a || (turn (let u = a.uid in u.node) k on j && less a.id (length (acts N.lines)) (low N.lines a i) j))
+          ∙ (λ j. is_halted (halts N.lines) a || (turn (let u = a.uid in u.node) k on j && less a.id (length (acts N.lines))
+          (low N.lines a i) j))
           ∙ or_true (is_halted (halts N.lines) a)
           ∙ (λ j. not (is_alive (cond (sym on j) (Some x) (N.nodes (let u = a.uid in u.node))) (let u = a.uid in u.inc)))
       by false off = now
@@ -302,7 +310,8 @@ module _ (e k : ℕ) (d : Disk) (t : Parts) (M : Seen) (all : KnowsAll (up k d t
       is_meant t m ≡ true → handle k d t from m ≡ Took v outs → Walks KnowsHalts e k outs (Up KnowsHalts k v) d M
   message_told v from m outs there meant is =
       let g = message_turns e k d t M all.0.0 all.0.1 v from m outs there is in
-      let still : Still outs = subst (λ (h : Handled). Still (outs_of h)) ((λ i. cond (meant i) (handle k d t from m) (Void [])) ∙ is) (taken_good k d t from m) in
+      let still : Still outs = subst (λ (h : Handled). Still (outs_of h)) ((λ i. cond (meant i) (handle k d t from m) (Void []))
+      ∙ is) (taken_good k d t from m) in
       told_walk k e outs v d M (outs_still (book M.lines) outs still g.acts) (lined_incs k outs (book M.lines) g.lined)
       (its_others k d (Some t) M all.1) own
 
@@ -381,7 +390,8 @@ module _ (e k : ℕ) (d : Disk) (t : Parts) (M : Seen) (all : KnowsAll (up k d t
           by : In a (new ∷ acts M.lines) → is_halted (halts V.lines) a ≡ not (d.inc == (let u = a.uid in u.inc))
           by (inl same) =
               halts_now a ∙ subst (λ (x : Act). is_halted (halts M.lines) x ≡ false) same (none_halted new [] 0 M.lines (omega arith))
-              ∙ sym (ap not (ap (λ (x : Act). d.inc == (let u = x.uid in u.inc)) (sym same) ∙ ap (λ n. d.inc == n) its_inc ∙ same_number d.inc))
+              ∙ sym (ap not (ap (λ (x : Act). d.inc == (let u = x.uid in u.inc)) (sym same) ∙ ap (λ n. d.inc == n) its_inc
+              ∙ same_number d.inc))
           by (inr old) = halts_now a ∙ own a old on
 
 -- a restart
@@ -423,7 +433,8 @@ module _ (hd : Header) (e k : ℕ) (d : Disk) (M : Seen) (all : KnowsAll (down k
     where
       by : Remembers (book M.lines) k d.inc None → (let u = a.uid in u.inc) ≤ d.inc
       by c = ⊎_elim (λ lower. omega (arith, lower)) (λ same. omega (arith, same.0))
-          (all_in (λ (x : Act). IsCounted k d.inc c.0 x.uid) (book M.lines).acts c.1 a (subst (In a) (sym (book_acts new_book M.lines)) i) at)
+          (all_in (λ (x : Act). IsCounted k d.inc c.0 x.uid) (book M.lines).acts c.1 a (subst (In a) (sym
+          (book_acts new_book M.lines)) i) at)
 
   restart_told : Walks KnowsHalts e k (restart_outs hd k (d.inc + 1) d) (Up KnowsHalts k (parts_in k (d.inc + 1) d)) d M
   restart_told =
@@ -454,7 +465,8 @@ halts_keep hd = record {
   );
   stop = λ e k d live M all. (keep.stop e k d live M all.0, down_so k e d M (its_others k d live M all.1));
   message = λ e k d t v from m outs M all there meant is.
-      both e k outs v d M (keep.message e k d t v from m outs M all.0 there meant is) (message_told e k d t M all v from m outs there meant is);
+      both e k outs v d M (keep.message e k d t v from m outs M all.0 there meant is)
+      (message_told e k d t M all v from m outs there meant is);
   act = λ e k d t i M is none all. let did = does i d.intents t.coord in
       both e k did.outs (with_coord t did.part) d M (keep.act e k d t i M is none all.0) (act_told e k d t M all hd i is none);
   begin = λ e k d t l how parent M new may none all.

@@ -1,7 +1,9 @@
 -- Each action of a coordinator is found by its label.
 use Rattle.arj_law_parts.proofs.Words
-use Words.{◌≡◌, ◌∙◌, ◌+◌, ◌==◌, ◌&&◌, ℕ, zero, suc, Bool, true, false, cond, List, [], ◌∷◌, ◌++◌, length, map, refl, sym, ap, subst, arith, Option, Some}
-use Words.{None, bytes_eq-Decides, ⊎_elim, slice_get, is_at, is_eq, lookup, length-map, map-append, Label, label_cmp, name, again_all, begin_action, Coord, Doing, Idle}
+use Words.{◌≡◌, ◌∙◌, ◌+◌, ◌==◌, ◌&&◌, ℕ, zero, suc, Bool, true, false, cond, List, [], ◌∷◌, ◌++◌, length, map, refl, sym, ap, subst, arith}
+use Words.{Option, Some}
+use Words.{None, bytes_eq-Decides, ⊎_elim, slice_get, is_at, is_eq, lookup, length-map, map-append, Label, label_cmp, name, again_all}
+use Words.{begin_action, Coord, Doing, Idle}
 use Words.{number_of, uid_at, Disk, Do, Effect, Say, Send, worked, stopped, Parts, tick_outs, with_coord, Input, Node, acts}
 use Words.{parent_of, parts_in, restart_outs, at_place, Header, Kind, Uid, Seen, is_serial, heard, acked}
 use Words.input
@@ -12,7 +14,8 @@ use Rattle.arj_law_parts.proofs.steps.CoordNames.{SameNames}
 use Rattle.arj_law_parts.specs.steps.Named.{names_of}
 use Rattle.arj_law_runs.proofs.journal.Begun.{new_label, place_cases}
 use Rattle.arj_law_runs.proofs.journal.Runs.{knows_up, lines_keep, works}
-use Rattle.arj_law_runs.proofs.kept.{Labels.one_name, Labels.put_label, Parted.IsLeft, Parted.coord_kept, Starts.first_up, Walked.other_number}
+use Rattle.arj_law_runs.proofs.kept.{Labels.one_name, Labels.put_label, Parted.IsLeft, Parted.coord_kept, Starts.first_up}
+use Rattle.arj_law_runs.proofs.kept.{Walked.other_number}
 use Rattle.arj_law_runs.proofs.kept.{Walked.same_number}
 
 -- ---- one coordinator
@@ -77,7 +80,8 @@ pub label_there : (ds : List Doing) (j : ℕ) (m : Label) → at_place j (map (�
 label_there ds zero m is = let no_way : ◌≡◌ {A = Option Label} None (Some m) = is in absurd (cc no_way)
 label_there ds (suc i) m is = by ds i is
   where
-    by : (xs : List Doing) (i : ℕ) → slice_get (map (λ (d : Doing). d.label) xs) i ≡ Some m → (q : Doing) × (slice_get xs i ≡ Some q) × (q.label ≡ m)
+    by : (xs : List Doing) (i : ℕ) → slice_get (map (λ (d : Doing). d.label) xs) i ≡ Some m →
+        (q : Doing) × (slice_get xs i ≡ Some q) × (q.label ≡ m)
     by [] i no_way = let none : ◌≡◌ {A = Option Label} None (Some m) = no_way in absurd (cc none)
     by (x ∷ xs) zero here = let same : x.label ≡ m = cc in (x, refl, same)
     by (x ∷ xs) (suc i) there = by xs i there
@@ -143,7 +147,8 @@ both : (e k : ℕ) (outs : List Effect) (v : Parts) (d : Disk) (M : Seen) → Wa
 both e k outs v d M a b = walks_both IsKept FindLabels e k outs (Up IsKept k v) (Up FindLabels k v) d M a b
 
 -- a new label is none of those
-apart_label : (e k : ℕ) (d : Disk) (t : Parts) (M : Seen) → IsKept (up k d t M) → (l : Label) → label_at l M.labels ≡ None → (j : ℕ) (m : Label) →
+apart_label : (e k : ℕ) (d : Disk) (t : Parts) (M : Seen) → IsKept (up k d t M) → (l : Label) → label_at l M.labels ≡ None →
+    (j : ℕ) (m : Label) →
     at_place j (names_of t.coord) ≡ Some m → name m ≡ name l → ⊥
 apart_label e k d t M all l new j m is same =
     let written : IsWritten (up k d t M) = all.1 in
@@ -197,7 +202,8 @@ finds_keep hd = record {
   first = λ st formed. (
     keep.first st formed,
     λ j n t is live.
-        subst (λ (x : Parts). FindsAll x.coord) (first_up hd st j n t is live) (finds_new (let p = parts_in j (st.incs j + 1) (disk_by hd st j) in p.coord) refl),
+        subst (λ (x : Parts). FindsAll x.coord) (first_up hd st j n t is live) (finds_new (let p = parts_in j (st.incs j + 1)
+        (disk_by hd st j) in p.coord) refl),
   );
 }
   where

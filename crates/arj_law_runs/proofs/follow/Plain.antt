@@ -1,6 +1,7 @@
 -- An event that nobody refuses writes no refusal.
 use Rattle.arj_law_parts.proofs.Words
-use Words.{◌≡◌, ◌∙◌, ◌+◌, ◌-◌, ◌||◌, not, ℕ, zero, suc, Bool, true, false, cond, List, [], ◌∷◌, ◌++◌, length, refl, sym, ap, Option, Some, None, nat_le}
+use Words.{◌≡◌, ◌∙◌, ◌+◌, ◌-◌, ◌||◌, not, ℕ, zero, suc, Bool, true, false, cond, List, [], ◌∷◌, ◌++◌, length, refl, sym, ap, Option, Some}
+use Words.{None, nat_le}
 use Words.{nat_lt, append_assoc, AllByRecursion, Body, Event, Header, Line, Effect, Say, Send, Do, Disk, Stop, at_number, Input, Node, Step}
 use Words.{Parts, refusal, step, at_place, Arm, Frame, Giving, World, armed, as_delivered, begins, bodies, change_frame}
 use Words.{count_works, cut, deliver, deliver_frame, disarmed, done_step, frame_number, halted_at, halted_outs, happens, is_quiet}
@@ -143,7 +144,8 @@ module _ (L : List Line) (st : Start) where
           fits false arm =
               let c = cut (arm.works - 1) arm.how x.halting n.disk in
               put_so k (halted_outs k c) (set_node k (record n { disk = c.disk; live = None }) (disarmed k w))
-              (all_append (SaidIn IsNone) c.outs (Say (body.Halted k) ∷ []) (cut_none (arm.works - 1) arm.how x.halting n.disk said.1) (refl, tt))
+              (all_append (SaidIn IsNone) c.outs (Say (body.Halted k) ∷ []) (cut_none (arm.works - 1) arm.how x.halting n.disk said.1)
+              (refl, tt))
               (same w _ refl refl s)
 
           put_by : (a : Option Arm) → So (step_with k n x w a)
@@ -178,7 +180,8 @@ module _ (L : List Line) (st : Start) where
   ticks_so : (ns : List ℕ) (w : World) → So w → So (tick_all ns w)
   ticks_so [] w s = s
   ticks_so (n ∷ ns) w s =
-      ticks_so ns (tick_up n w) (either_so (w.full || not (is_up_at n w)) w (steps n input.Tick w) s (steps_so n input.Tick w (λ m is. tick_free w.header m) s))
+      ticks_so ns (tick_up n w) (either_so (w.full || not (is_up_at n w)) w (steps n input.Tick w) s (steps_so n input.Tick w
+      (λ m is. tick_free w.header m) s))
 
   shows_so : (x : ℕ) (ns : List ℕ) (w : World) → So w → So (show_all x ns w)
   shows_so x [] w s = s
@@ -188,7 +191,8 @@ module _ (L : List Line) (st : Start) where
   quiesce_so : (w : World) → So w → So (quiesce w)
   quiesce_so w s =
       let v = settle (tick_all (node_numbers w) (settle w)) in
-      let all = settle_so most_frames (tick_all (node_numbers w) (settle w)) (ticks_so (node_numbers w) (settle w) (settle_so most_frames w s)) in
+      let all = settle_so most_frames (tick_all (node_numbers w) (settle w)) (ticks_so (node_numbers w) (settle w)
+      (settle_so most_frames w s)) in
       either_so v.full v (says (body.Quiet (is_quiet v) ∷ []) v) all (adds v _ (body.Quiet (is_quiet v) ∷ []) refl refl (refl, tt) all)
 
   pub limited_so : (w : World) → So w → So (limited w)

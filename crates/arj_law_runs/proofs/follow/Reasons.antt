@@ -1,10 +1,13 @@
 -- The causes that the journal has for an event are the reasons of the world: of nodes, labels, objects and frames.
 use Rattle.arj_law_parts.proofs.Words
-use Words.{◌≡◌, ◌∙◌, ◌==◌, ◌&&◌, ◌||◌, not, ℕ, suc, Bool, true, false, cond, List, [], ◌∷◌, length, refl, sym, ap, arith, Option, Some, None}
+use Words.{◌≡◌, ◌∙◌, ◌==◌, ◌&&◌, ◌||◌, not, ℕ, suc, Bool, true, false, cond, List, [], ◌∷◌, length, refl, sym, ap, arith, Option, Some}
+use Words.{None}
 use Words.{is_some, list_all, list_any, and_parts, nat_le, nat_tests, bytes_eq, bytes_eq-Decides, is_at, label_cmp}
-use Words.{name, at_place, Event, FrameNo, Header, Label, Message, ObjectLine, Node, Parts, World, Labelled, is_empty, class_in, first_reason}
+use Words.{name, at_place, Event, FrameNo, Header, Label, Message, ObjectLine, Node, Parts, World, Labelled, is_empty, class_in}
+use Words.{first_reason}
 use Words.{frame_number, is_frame, is_given, is_up, is_up_at, reasons, Input, refused_at, Kind, Coord, Branch, branch_named}
-use Words.{refused_by, node_of, kind_below, node_in, actor, is_below_16, is_serial, lacks_op, has_many_objects, has_open_child, sibling_waits, waits}
+use Words.{refused_by, node_of, kind_below, node_in, actor, is_below_16, is_serial, lacks_op, has_many_objects, has_open_child}
+use Words.{sibling_waits, waits}
 use Words.{waits_above, waits_below, Op}
 use Words.{subst}
 use Rattle.arj_law_runs.proofs.Terms.{label_at}
@@ -80,7 +83,8 @@ first_high (r ∷ cs) all c is = by r.1 (first_high cs parts.1 c) is
     high : (n : ℕ) → nat_le 7 n ≡ true → nat_le n 6 ≡ false
     high n is = grind (arith, nat_tests, is)
 
-    by : (b : Bool) → (first_reason cs ≡ Some c → nat_le c ended ≡ false) → cond b (Some r.0) (first_reason cs) ≡ Some c → nat_le c ended ≡ false
+    by : (b : Bool) → (first_reason cs ≡ Some c → nat_le c ended ≡ false) → cond b (Some r.0) (first_reason cs) ≡ Some c →
+        nat_le c ended ≡ false
     by true rest here = let same : ◌≡◌ {A = Option ℕ} (Some r.0) (Some c) = here in let one : r.0 ≡ c = cc same in
         subst (λ k. nat_le k ended ≡ false) one (high r.0 parts.0)
     by false rest later = rest later
@@ -98,9 +102,11 @@ node_low : (h : Header) (l : Label) (i : Input) (asks : Asks l i) (o : Option Pa
     SameLow (cond (is_gone l o) (Some 6) a) (refusal_at h i o)
 node_low h l i asks None a high =
     subst (λ b. SameLow (Some 6) (cond b (Some 6) None)) (sym asks.about) (same_low (Some 6))
-node_low h l i asks (Some t) a high = subst (SameLow (cond (is_gone l (Some t)) (Some 6) a)) (sym (asks.finds h t.coord)) (by (branch_named l t.coord))
+node_low h l i asks (Some t) a high = subst (SameLow (cond (is_gone l (Some t)) (Some 6) a)) (sym (asks.finds h t.coord)) (by
+    (branch_named l t.coord))
   where
-    by : (o : Option Branch) → SameLow (cond (is_gone_branch o) (Some 6) a) (refused_by (λ b d. (6, is_some b.ended) ∷ asks.reasons h b d) t.coord o)
+    by : (o : Option Branch) → SameLow (cond (is_gone_branch o) (Some 6) a) (refused_by (λ b d. (6, is_some b.ended)
+        ∷ asks.reasons h b d) t.coord o)
     by None = same_low (Some 6)
     by (Some b) = low_first 6 (is_some b.ended) (is_some b.ended) a (first_reason (asks.reasons h b t.coord)) refl
         (low_high a (first_reason (asks.reasons h b t.coord)) high (first_high (asks.reasons h b t.coord) (asks.high h b t.coord)))
@@ -174,7 +180,8 @@ read bytes = by (read_message bytes)
     by (Ok r) = none r.1
     by (Err left) = refl
 
-module _ (hd : Header) (p : Past) (w : World) (is : w.header ≡ hd) (start : p.start ≡ w.start) (tells : Tells p.start p.lines w.frames w.nodes)
+module _ (hd : Header) (p : Past) (w : World) (is : w.header ≡ hd) (start : p.start ≡ w.start)
+    (tells : Tells p.start p.lines w.frames w.nodes)
     (begun : (l : Label) → is_begun p.lines (name l) ≡ is_given l w) where
   nodes : (n : ℕ) → model.is_node hd n ≡ world.is_node n w
   nodes n = λ i. nat_le 1 n && nat_le n (let h = sym is i in h.nodes)
@@ -201,7 +208,8 @@ module _ (hd : Header) (p : Past) (w : World) (is : w.header ≡ hd) (start : p.
   ups : (n : ℕ) → world.is_node n w ≡ true → is_some (at_place n w.nodes) ≡ true → model.is_down p.start p.lines n ≡ not (is_up_at n w)
   ups n node there = by (at_place n w.nodes) refl there
     where
-      by : (o : Option Node) → at_place n w.nodes ≡ o → is_some o ≡ true → model.is_down p.start p.lines n ≡ not (is_up (at_place n w.nodes))
+      by : (o : Option Node) → at_place n w.nodes ≡ o → is_some o ≡ true → model.is_down p.start p.lines n ≡ not (is_up
+          (at_place n w.nodes))
       by None at some = let no_way : false ≡ true = some in absurd (cc no_way)
       by (Some m) at some = tells.ups n m at ∙ sym (ap (λ (o : Option Node). not (is_up o)) at)
 
@@ -227,7 +235,8 @@ module _ (hd : Header) (p : Past) (w : World) (is : w.header ≡ hd) (start : p.
   -- ---- events that name free action
 
   -- a node's number comes first, and what is asked of a node where there is one
-  at_node : (a b : Bool) → a ≡ b → (n : ℕ) (d c : Bool) → (b ≡ true → d ≡ c) → (cs ds : List (ℕ × Bool)) → first_reason cs ≡ first_reason ds →
+  at_node : (a b : Bool) → a ≡ b → (n : ℕ) (d c : Bool) → (b ≡ true → d ≡ c) → (cs ds : List (ℕ × Bool)) →
+      first_reason cs ≡ first_reason ds →
       first_reason ((1, not a) ∷ (n, d) ∷ cs) ≡ first_reason ((1, not b) ∷ (n, c) ∷ ds)
   at_node true true same n d c where_so cs ds rest = λ i. cond (where_so refl i) (Some n) (rest i)
   at_node false false same n d c where_so cs ds rest = refl
@@ -249,8 +258,10 @@ module _ (hd : Header) (p : Past) (w : World) (is : w.header ≡ hd) (start : p.
     new l = λ i. cond (known l i) (Some 4) None
 
     pub plain : (e : Event) → names_action e ≡ false → first_reason (model.causes hd p e) ≡ first_reason (reasons e w)
-    plain (event.Begin l n) free = at_node _ _ (nodes n) 2 _ _ (down n) ((4, model.is_known p (name l)) ∷ []) ((4, world.is_known l w) ∷ []) (new l)
-    plain (event.Serial l n) free = at_node _ _ (nodes n) 2 _ _ (down n) ((4, model.is_known p (name l)) ∷ []) ((4, world.is_known l w) ∷ []) (new l)
+    plain (event.Begin l n) free = at_node _ _ (nodes n) 2 _ _ (down n) ((4, model.is_known p (name l)) ∷ []) ((4, world.is_known l w)
+        ∷ []) (new l)
+    plain (event.Serial l n) free = at_node _ _ (nodes n) 2 _ _ (down n) ((4, model.is_known p (name l)) ∷ []) ((4, world.is_known l w)
+        ∷ []) (new l)
     plain (event.Deliver k) free = λ i. cond (not (frames k i)) (Some 17) None
     plain (event.Lose k) free = λ i. cond (not (frames k i)) (Some 17) None
     plain (event.Tick n) free = at_node _ _ (nodes n) 2 _ _ (down n) [] [] refl
@@ -281,7 +292,8 @@ module _ (hd : Header) (p : Past) (w : World) (is : w.header ≡ hd) (start : p.
       of_label l i asks cs high =
           subst (λ k. SameLow (cond (not k) (Some 5) (cond (model.was_given p.start (name l) || over) (Some 6) (first_reason cs))) right)
           (sym (known l))
-          (subst (λ g. SameLow (cond (not (world.is_known l w)) (Some 5) (cond (g || over) (Some 6) (first_reason cs))) right) (sym (given l))
+          (subst (λ g. SameLow (cond (not (world.is_known l w)) (Some 5) (cond (g || over) (Some 6) (first_reason cs))) right) (sym
+          (given l))
           (by (world.was_given l w) (is_given l w) refl))
         where
           over : Bool
@@ -309,7 +321,8 @@ module _ (hd : Header) (p : Past) (w : World) (is : w.header ≡ hd) (start : p.
       -- and with a cause before that
       behind : (n : ℕ) (x y : Bool) (a b c : Option ℕ) → x ≡ y → SameLow a (joined b c) → SameLow (cond x (Some n) a)
           (joined (cond y (Some n) b) c)
-      behind n x y a b c same rest = subst (SameLow (cond x (Some n) a)) (sym (joined_first n y b c)) (low_first n x y a (joined b c) same rest)
+      behind n x y a b c same rest = subst (SameLow (cond x (Some n) a)) (sym (joined_first n y b c)) (low_first n x y a
+          (joined b c) same rest)
 
       pub named : (e : Event) → names_action e ≡ true → SameLow (first_reason (model.causes hd p e)) (refused_by_any e w)
       named (event.BeginIn l q) its = behind 4 _ _ _ _ _ (known l) (of_label q (input.Begin l (kind_below q w) (Some q))
@@ -355,8 +368,10 @@ second_not : (a b : Bool) (cs : List (ℕ × Bool)) → first_reason ((1, a) ∷
 second_not a b cs none = not_not b (first_not 2 (not b) cs (first_not 1 a ((2, not b) ∷ cs) none).1).0
 
 plain_free : (e : Event) (w : World) → names_action e ≡ false → first_reason (reasons e w) ≡ None → node_refusal e w ≡ None
-plain_free (event.Begin l n) w free none = begins_free l kind.Top w (at_place n w.nodes) (second_not (not (world.is_node n w)) (is_up_at n w) ((4, world.is_known l w) ∷ []) none)
-plain_free (event.Serial l n) w free none = begins_free l kind.Serial w (at_place n w.nodes) (second_not (not (world.is_node n w)) (is_up_at n w) ((4, world.is_known l w) ∷ []) none)
+plain_free (event.Begin l n) w free none = begins_free l kind.Top w (at_place n w.nodes) (second_not (not (world.is_node n w))
+    (is_up_at n w) ((4, world.is_known l w) ∷ []) none)
+plain_free (event.Serial l n) w free none = begins_free l kind.Serial w (at_place n w.nodes) (second_not (not (world.is_node n w))
+    (is_up_at n w) ((4, world.is_known l w) ∷ []) none)
 plain_free (event.BeginIn l q) w free none = absurd (cc free)
 plain_free (event.Top l q) w free none = absurd (cc free)
 plain_free (event.Call l x o) w free none = absurd (cc free)

@@ -3,8 +3,10 @@ use Rattle.arj_law_parts.proofs.Words
 use Words.{◌≡◌, ◌∙◌, ◌+◌, ◌≤◌, ◌||◌, not, ℕ, Bool, true, false, cond, List, [], ◌∷◌, ◌++◌, length, map, refl, sym, ap, subst, arith}
 use Words.{Option, Some, None, is_some, nat_le, nat_lt, nat_tests, AllByRecursion, at_number, at_place, Body, Event, Header, Label}
 use Words.{Line, Node, Input, Step, Arm, World, Giving, Labelled, armed, begins, counted, done_step, first_reason, giving}
-use Words.{happens, is_given, labels_unless, lacks_labels, limited, most_frames, no_labels, node_of, only_says, reasons, refusal, refused_at}
-use Words.{run_unless, step, step_node, step_with, steps, world_from, Move, moved, journal_by, IsInForm, Start, numbered, see, append-nil, ◌-◌}
+use Words.{happens, is_given, labels_unless, lacks_labels, limited, most_frames, no_labels, node_of, only_says, reasons, refusal}
+use Words.{refused_at}
+use Words.{run_unless, step, step_node, step_with, steps, world_from, Move, moved, journal_by, IsInForm, Start, numbered, see, append-nil}
+use Words.{◌-◌}
 use Words.{cut, kind_below, disarmed, halted_at, is_at, label_cmp, name}
 use Words.body
 use Words.event
@@ -104,7 +106,8 @@ module _ (c : ℕ) (w : World) (few : length w.frames ≤ most_frames) (k : ℕ)
       by true is = leaves n (armed k (record a { works = a.works - 0 }) w).arms
       by false is = absurd (cc is)
 
-  refused_step : (n : Node) → refusal w.header i n ≡ Some c → HaveWork w.arms → Leaves c w (step_with k n (step w.header n i) w (at_number k w.arms))
+  refused_step : (n : Node) → refusal w.header i n ≡ Some c → HaveWork w.arms →
+      Leaves c w (step_with k n (step w.header n i) w (at_number k w.arms))
   refused_step n is works =
       subst (λ (r : Option ℕ). Leaves c w (step_with k n (input.step_unless w.header i n r) w (at_number k w.arms))) (sym is)
       (with_arm n (at_number k w.arms) (λ a at. all_found HasWork k w.arms a works at))
@@ -149,11 +152,12 @@ pub data Came (e : Event) (a : Arm) (w : World) (bodies : List Body) : Type 0 wh
       w.lines ++ block w.event bodies ≡ (limited (happens e a w)).lines → Came e a w bodies
 
 -- behind it the run began as it did, and where it goes on each frame fits
-pub record Went_on (w v : World) : Type 0 where
+pub record Leads (w v : World) : Type 0 where
   pub start : v.start ≡ w.start
   pub full : v.over ≡ false → v.full ≡ false
 
-module _ (m : Move) (w : World) (on : w.over ≡ false) (free : w.full ≡ false) (few : length w.frames ≤ most_frames) (works : HaveWork m.falls)
+module _ (m : Move) (w : World) (on : w.over ≡ false) (free : w.full ≡ false) (few : length w.frames ≤ most_frames)
+    (works : HaveWork m.falls)
     (bodies : List Body) (lines : w.lines ++ block (w.event + 1) bodies ≡ (moved m w).lines) (count : (moved m w).event ≡ w.event + 1) where
   abbrev its_event : Event
   its_event = event_of m
@@ -172,7 +176,8 @@ module _ (m : Move) (w : World) (on : w.over ≡ false) (free : w.full ≡ false
   as_before = ap first_reason (frames.same_reasons its_event u)
 
   moved_is : (x : World) → run_unless its_event stop_of u (first_reason (reasons its_event u)) ≡ x → moved m w ≡ record x { arms = [] }
-  moved_is x is = ap (λ (y : World). record y { arms = [] }) ((λ i. cond (on i) u (run_unless its_event stop_of u (first_reason (reasons its_event u)))) ∙ is)
+  moved_is x is = ap (λ (y : World). record y { arms = [] }) ((λ i. cond (on i) u (run_unless its_event stop_of u (first_reason
+      (reasons its_event u)))) ∙ is)
 
   its : (x : World) → moved m w ≡ record x { arms = [] } → w.lines ++ block (w.event + 1) bodies ≡ x.lines
   its x is = lines ∙ ap (λ (y : World). y.lines) is
@@ -181,8 +186,8 @@ module _ (m : Move) (w : World) (on : w.over ≡ false) (free : w.full ≡ false
       bodies ≡ body.Refused c ∷ []
   only c x is said = same_bodies (w.event + 1) bodies (body.Refused c ∷ []) w.lines (its x is ∙ said)
 
-  goes_on : (x : World) → moved m w ≡ record x { arms = [] } → x.start ≡ w.start → (x.over ≡ false → x.full ≡ false) → Went_on w (moved m w)
-  goes_on x is start full = subst (Went_on w) (sym is) (record { start = start; full = full })
+  goes_on : (x : World) → moved m w ≡ record x { arms = [] } → x.start ≡ w.start → (x.over ≡ false → x.full ≡ false) → Leads w (moved m w)
+  goes_on x is start full = subst (Leads w) (sym is) (record { start = start; full = full })
 
   limited_free : (x : World) → (limited x).over ≡ false → (limited x).full ≡ false
   limited_free x = by x.full refl
@@ -201,20 +206,23 @@ module _ (m : Move) (w : World) (on : w.over ≡ false) (free : w.full ≡ false
   by_node : first_reason (reasons its_event came_to) ≡ None → refused_by_any its_event came_to ≡ node_refusal its_event came_to
   by_node is = ap (λ o. joined o (node_refusal its_event came_to)) is
 
-  pub came : Came its_event stop_of came_to bodies × Went_on w (moved m w)
+  pub came : Came its_event stop_of came_to bodies × Leads w (moved m w)
   came = by (first_reason (reasons its_event u)) refl
     where
-      accepted : first_reason (reasons its_event u) ≡ None → moved m w ≡ record (limited (happens its_event stop_of came_to)) { arms = [] } → (o : Option ℕ) →
-          node_refusal its_event came_to ≡ o → Came its_event stop_of came_to bodies × Went_on w (moved m w)
+      accepted : first_reason (reasons its_event u) ≡ None → moved m w ≡ record (limited
+          (happens its_event stop_of came_to)) { arms = [] } → (o : Option ℕ) →
+          node_refusal its_event came_to ≡ o → Came its_event stop_of came_to bodies × Leads w (moved m w)
       accepted none is (Some c) refused =
           let l = refused_leaves c its_event stop_of came_to few works refused in
           let same = limited_same (happens its_event stop_of came_to) (l.full ∙ free) in
-          let is_so : moved m w ≡ record (happens its_event stop_of came_to) { arms = [] } = is ∙ ap (λ (y : World). record y { arms = [] }) same in (
+          let is_so : moved m w ≡ record (happens its_event stop_of came_to) { arms = [] } = is
+          ∙ ap (λ (y : World). record y { arms = [] }) same in (
             IsRefused c (by_node (as_before ∙ none) ∙ refused) (only c (happens its_event stop_of came_to) is_so l.lines),
             goes_on (happens its_event stop_of came_to) is_so l.start (λ over. l.full ∙ free),
           )
       accepted none is None granted =
-          let s = limited_so w.lines w.start (happens its_event stop_of came_to) (happens_so w.lines w.start its_event stop_of came_to granted
+          let s = limited_so w.lines w.start (happens its_event stop_of came_to)
+          (happens_so w.lines w.start its_event stop_of came_to granted
           (record { start = refl; more = []; lines = sym (append-nil w.lines); none = tt })) in (
             IsRun (by_node (as_before ∙ none) ∙ granted)
                 (none_refused (w.event + 1) bodies
@@ -224,9 +232,11 @@ module _ (m : Move) (w : World) (on : w.over ≡ false) (free : w.full ≡ false
             goes_on (limited (happens its_event stop_of came_to)) is s.start (limited_free (happens its_event stop_of came_to)),
           )
 
-      labelled : first_reason (reasons its_event u) ≡ None → (b : Bool) → lacks_labels (giving its_event u) u ≡ b → Came its_event stop_of came_to bodies × Went_on w (moved m w)
+      labelled : first_reason (reasons its_event u) ≡ None → (b : Bool) → lacks_labels (giving its_event u) u ≡ b →
+          Came its_event stop_of came_to bodies × Leads w (moved m w)
       labelled none true lacks =
-          let is = moved_is (no_labels u) (ap (run_unless its_event stop_of u) none ∙ (λ i. cond (lacks i) (no_labels u) (limited (happens its_event stop_of came_to)))) in
+          let is = moved_is (no_labels u) (ap (run_unless its_event stop_of u) none
+          ∙ (λ i. cond (lacks i) (no_labels u) (limited (happens its_event stop_of came_to)))) in
           absurd (stays w.event (sym count ∙ ap (λ (x : World). x.event) is))
         where
           stays : (n : ℕ) → n + 1 ≡ n → ⊥
@@ -236,7 +246,7 @@ module _ (m : Move) (w : World) (on : w.over ≡ false) (free : w.full ≡ false
           (moved_is (limited (happens its_event stop_of came_to)) (ap (run_unless its_event stop_of u) none
           ∙ (λ i. cond (has i) (no_labels u) (limited (happens its_event stop_of came_to))))) (node_refusal its_event came_to) refl
 
-      by : (o : Option ℕ) → first_reason (reasons its_event u) ≡ o → Came its_event stop_of came_to bodies × Went_on w (moved m w)
+      by : (o : Option ℕ) → first_reason (reasons its_event u) ≡ o → Came its_event stop_of came_to bodies × Leads w (moved m w)
       by (Some c) refused =
           let x = says (body.Refused c ∷ []) came_to in
           let is = moved_is x (ap (run_unless its_event stop_of u) refused) in
@@ -298,15 +308,18 @@ module _ (hd : Header) (form : HeaderInForm hd) where
         node g given (Some n) at some =
             (g, n, given, at, ap (λ ls. model.has_ended ls (name l)) s.base.lines ∙ ended_so hd w s.halts s.finds l g given n at)
 
-        by : (o : Option Labelled) → label_at l w.labels ≡ o → is_some o ≡ true → (g : Labelled) × (n : Node) × (label_at l w.labels ≡ Some g)
+        by : (o : Option Labelled) → label_at l w.labels ≡ o → is_some o ≡ true →
+            (g : Labelled) × (n : Node) × (label_at l w.labels ≡ Some g)
             × (at_place g.node w.nodes ≡ Some n) × (model.has_ended p.lines (name l) ≡ is_gone l n.live)
         by None none some = let no_way : false ≡ true = some in absurd (cc no_way)
         by (Some g) given some = node g given (at_place g.node w.nodes) refl
-            (all_labels (λ (q : Labelled). is_some (at_place q.node w.nodes) ≡ true) (is_at (label_cmp l)) g w.labels s.halts.stands.labels given)
+            (all_labels (λ (q : Labelled). is_some (at_place q.node w.nodes) ≡ true) (is_at
+            (label_cmp l)) g w.labels s.halts.stands.labels given)
 
     -- where free action is named the journal's lowest cause and the refusal are one
     pub plain_same : names_action e ≡ false → model.refusal hd p e ≡ refused_by_any e t
-    plain_same free = same_first (model.causes hd p e) ∙ plain hd p t s.base.is s.start s.base.tells begun places e free ∙ sym (plain_any e t free)
+    plain_same free = same_first (model.causes hd p e) ∙ plain hd p t s.base.is s.start s.base.tells begun places e free
+        ∙ sym (plain_any e t free)
 
     -- and else, as far as they are plain
     pub same : (c : ℕ) → is_plain_cause e c ≡ true → (model.refusal hd p e ≡ Some c → refused_by_any e t ≡ Some c)
@@ -316,7 +329,8 @@ module _ (hd : Header) (form : HeaderInForm hd) where
         first : model.refusal hd p e ≡ first_reason (model.causes hd p e)
         first = same_first (model.causes hd p e)
 
-        by : (b : Bool) → names_action e ≡ b → (not b || nat_le c ended) ≡ true → (model.refusal hd p e ≡ Some c → refused_by_any e t ≡ Some c)
+        by : (b : Bool) → names_action e ≡ b → (not b || nat_le c ended) ≡ true → (model.refusal hd p e ≡ Some c →
+            refused_by_any e t ≡ Some c)
             × (refused_by_any e t ≡ Some c → model.refusal hd p e ≡ Some c)
         by true its low = let r = named hd p t s.base.is s.start s.base.tells begun places labelled_so e its c low in
             (λ is. r.0 (sym first ∙ is), λ is. first ∙ r.1 is)
@@ -362,10 +376,10 @@ module _ (hd : Header) (form : HeaderInForm hd) where
         count : (moved m w).event ≡ w.event + 1
         count = sym after.count ∙ ap (λ n. n + 1) s.base.count
 
-        c : Came e arm t bodies × Went_on w (moved m w)
+        c : Came e arm t bodies × Leads w (moved m w)
         c = came m w on (s.full on) s.base.few stops.1 bodies lines count
 
-        go : Went_on w (moved m w)
+        go : Leads w (moved m w)
         go = c.1
 
     pub goes : Outcome (PlainRefusalsStep hd) Stands m p w

@@ -1,8 +1,10 @@
 -- In every run events that write one line of their own follow the journal whole.
 use Rattle.arj_law_parts.proofs.Words
-use Words.{◌≡◌, ◌∙◌, ◌+◌, ◌-◌, ◌≤◌, ◌||◌, not, ℕ, Bool, true, false, cond, List, [], ◌∷◌, ◌++◌, length, refl, sym, ap, subst, arith, Option, Some, None}
+use Words.{◌≡◌, ◌∙◌, ◌+◌, ◌-◌, ◌≤◌, ◌||◌, not, ℕ, Bool, true, false, cond, List, [], ◌∷◌, ◌++◌, length, refl, sym, ap, subst, arith, Option}
+use Words.{Some, None}
 use Words.{is_some, nat_lt, nat_tests, at_number, at_place, Body, Event, Header, Label, Kind, Node, Parts, Input, Step, Arm, World, Frame}
-use Words.{FrameNo, Say, armed, counted, cut, disarmed, halted_at, done_step, first_reason, frame_number, happens, is_frame, is_up_at, is_up}
+use Words.{FrameNo, Say, armed, counted, cut, disarmed, halted_at, done_step, first_reason, frame_number, happens, is_frame, is_up_at}
+use Words.{is_up}
 use Words.{limited, lose_frame, most_frames, next_uid, reasons, step, step_node, step_with, steps, world_from, Move, journal_by}
 use Words.{begins, gives_label, labels_unless, Giving, IsInForm, Start, numbered}
 use Words.body
@@ -25,7 +27,7 @@ use Rattle.arj_law_runs.proofs.follow.Frames as frames
 use Rattle.arj_law_runs.proofs.follow.Plain.{crash_free}
 use Rattle.arj_law_runs.proofs.follow.Reasons.{begins_free, joined, refused_by_any}
 use Rattle.arj_law_runs.proofs.follow.Refusing as refusing
-use Rattle.arj_law_runs.proofs.follow.Refusing.{Came, IsRefused, IsRun, came, same_bodies}
+use Rattle.arj_law_runs.proofs.follow.Refusing.{Came, IsRefused, IsRun, same_bodies}
 use Rattle.arj_law_runs.proofs.follow.Gone.{its_action}
 use Rattle.arj_law_runs.proofs.follow.Uids.{KnowsNext, count_of, next_keep}
 use Rattle.arj_law_runs.specs.follow.Frames.{FramesStep, run_events}
@@ -97,7 +99,8 @@ module _ (hd : Header) (form : HeaderInForm hd) where
     few = s.base.base.few
 
     -- the event's own line is all that it writes
-    whole : (bodies : List Body) (b : Body) → t.lines ++ block t.event bodies ≡ (limited (happens e arm t)).lines → Says b t (happens e arm t) →
+    whole : (bodies : List Body) (b : Body) → t.lines ++ block t.event bodies ≡ (limited (happens e arm t)).lines →
+        Says b t (happens e arm t) →
         bodies ≡ b ∷ []
     whole bodies b lines its = same_bodies t.event bodies (b ∷ []) t.lines (lines ∙ ap (λ (x : World). x.lines) same ∙ its.lines)
       where
@@ -142,7 +145,8 @@ module _ (hd : Header) (form : HeaderInForm hd) where
     works_at : (n : ℕ) (a : Arm) → at_number n m.falls ≡ Some a → HasWork a
     works_at n a at = all_found HasWork n m.falls a stops.1 at
 
-    up_at : (n : ℕ) (cs : List (ℕ × Bool)) → first_reason ((1, not (world.is_node n t)) ∷ (2, not (is_up_at n t)) ∷ cs) ≡ None → is_up_at n t ≡ true
+    up_at : (n : ℕ) (cs : List (ℕ × Bool)) → first_reason ((1, not (world.is_node n t)) ∷ (2, not (is_up_at n t)) ∷ cs) ≡ None →
+        is_up_at n t ≡ true
     up_at n cs none = not_not (is_up_at n t) (first_not 2 (not (is_up_at n t)) cs
         (first_not 1 (not (world.is_node n t)) ((2, not (is_up_at n t)) ∷ cs) none).1).0
 
@@ -167,9 +171,11 @@ module _ (hd : Header) (form : HeaderInForm hd) where
         by (Some x) at up = one x at x.live refl up
 
     -- a node that is up begins an action which it doesn't refuse
-    begins_at : (l : Label) (k : Kind) (parent : Option Label) (n : ℕ) (x : Node) → at_place n w.nodes ≡ Some x → (v : Parts) → x.live ≡ Some v →
+    begins_at : (l : Label) (k : Kind) (parent : Option Label) (n : ℕ) (x : Node) → at_place n w.nodes ≡ Some x → (v : Parts) →
+        x.live ≡ Some v →
         refused_at (input.Begin l k parent) t (at_place n w.nodes) ≡ None
-        → Says (body.Began l k (model.next_uid p.start p.lines n) parent) t (begins (record { label = l; kind = k; parent = parent; node = n }) t)
+        → Says (body.Began l k (model.next_uid p.start p.lines n) parent) t (begins
+        (record { label = l; kind = k; parent = parent; node = n }) t)
     begins_at l k parent n x at v live free =
         subst (λ r. Says (body.Began l k (model.next_uid p.start p.lines n) parent) t (steps n i (labels_unless g t r))) (sym free)
         (subst (λ (o : Option Node). Says (body.Began l k (model.next_uid p.start p.lines n) parent) t (step_node n i V o)) (sym at) one)
@@ -202,17 +208,20 @@ module _ (hd : Header) (form : HeaderInForm hd) where
     begins_line l k n up = by (at_place n w.nodes) refl up
       where
         one : (x : Node) → at_place n w.nodes ≡ Some x → (o : Option Parts) → x.live ≡ o → is_some o ≡ true →
-            Says (body.Began l k (model.next_uid p.start p.lines n) None) t (begins (record { label = l; kind = k; parent = None; node = n }) t)
+            Says (body.Began l k (model.next_uid p.start p.lines n) None) t (begins
+            (record { label = l; kind = k; parent = None; node = n }) t)
         one x at None live here = absurd (cc here)
         one x at (Some v) live here = begins_at l k None n x at v live (begins_free l k t (at_place n w.nodes) up)
 
         by : (o : Option Node) → at_place n w.nodes ≡ o → is_up o ≡ true →
-            Says (body.Began l k (model.next_uid p.start p.lines n) None) t (begins (record { label = l; kind = k; parent = None; node = n }) t)
+            Says (body.Began l k (model.next_uid p.start p.lines n) None) t (begins
+            (record { label = l; kind = k; parent = None; node = n }) t)
         by None at here = absurd (cc here)
         by (Some x) at here = one x at x.live refl here
 
     -- an action begins in another one
-    begins_in : (l q : Label) (k : Kind) → is_given q t ≡ true → refused_at (input.Begin l k (Some q)) t (at_place (node_of q t) w.nodes) ≡ None →
+    begins_in : (l q : Label) (k : Kind) → is_given q t ≡ true → refused_at (input.Begin l k (Some q)) t (at_place
+        (node_of q t) w.nodes) ≡ None →
         (n : ℕ) × (own.node_of p.lines (name q) ≡ Some n)
         × Says (body.Began l k (model.next_uid p.start p.lines n) (Some q)) t
         (begins (record { label = l; kind = k; parent = Some q; node = node_of q t }) t)
@@ -237,7 +246,8 @@ module _ (hd : Header) (form : HeaderInForm hd) where
         up x at (Some v) live = begins_at l k (Some q) (node_of q t) x at v live free
 
     -- its kind is that of the journal
-    kind_so : (q : Label) → is_given q t ≡ true → kind_below q t ≡ (if model.is_serializing p.lines (name q) then kind.Constituent else kind.Nested)
+    kind_so : (q : Label) → is_given q t ≡ true → kind_below q t ≡ (if model.is_serializing p.lines
+        (name q) then kind.Constituent else kind.Nested)
     kind_so q given =
         let r = refusing.labelled_so hd form m p w stops s.base on q given in
         let a = its_action hd w s.base.halts s.base.finds q r.0 r.2 r.1 r.3 in
@@ -255,10 +265,20 @@ module _ (hd : Header) (form : HeaderInForm hd) where
         by (Some f) there = record { lines = refl; full = refl }
 
     has_line : (e : Event) (a : Arm) → is_short e ≡ true → first_reason (reasons e t) ≡ None → HasLine e a
-    has_line (event.Begin l n) a short none =
-        (body.Began l kind.Top (model.next_uid p.start p.lines n) None, refl, begins_line l kind.Top n (up_at n ((4, world.is_known l t) ∷ []) none))
-    has_line (event.Serial l n) a short none =
-        (body.Began l kind.Serial (model.next_uid p.start p.lines n) None, refl, begins_line l kind.Serial n (up_at n ((4, world.is_known l t) ∷ []) none))
+    has_line (event.Begin l n) a short none = (
+      body.Began l kind.Top (model.next_uid p.start p.lines n) None,
+      refl,
+      begins_line l kind.Top n (up_at n ((4, world.is_known l t)
+          ∷ []) none),
+    )
+    has_line (event.Serial l n) a short none = (
+      body.Began l kind.Serial (model.next_uid p.start p.lines n) None,
+      refl,
+      begins_line l kind.Serial n (up_at n ((
+        4,
+        world.is_known l t,
+      ) ∷ []) none),
+    )
     has_line (event.Lose k) a short none = (
       body.Dropped (frame_number k t),
       ap (λ j. body.Dropped j ∷ []) (named_frame k),
@@ -355,7 +375,8 @@ module _ (hd : Header) (form : HeaderInForm hd) where
   }
   accepted_one p e bodies b short begins is = absurd (cc short)
 
-  accepted_below : (p : Past) (e : Event) (bodies : List Body) (b : Body) → begins_below e ≡ true → Begins hd p e (b ∷ []) → bodies ≡ b ∷ [] →
+  accepted_below : (p : Past) (e : Event) (bodies : List Body) (b : Body) → begins_below e ≡ true → Begins hd p e (b ∷ []) →
+      bodies ≡ b ∷ [] →
       Accepted hd p e bodies
   accepted_below p (event.BeginIn l q) bodies b below begins is = record {
     own = b ∷ [];
@@ -401,7 +422,8 @@ module _ (hd : Header) (form : HeaderInForm hd) where
     }
     follows bodies (IsRun none isnt lines) = record {
       short = λ short.
-          let line = has_line m p w stops s on (event_of m) (let a = m.asked in a.arm) short (first_none m p w stops s on (event_of m) none) in
+          let line = has_line m p w stops s on (event_of m) (let a = m.asked in
+          a.arm) short (first_none m p w stops s on (event_of m) none) in
           subst (λ o. MatchOption o (Accepted hd p (event_of m) bodies) (λ d. bodies ≡ body.Refused d ∷ []))
           (sym (refusing.plain_same hd form m p w stops s.base on (short_plain (event_of m) short) ∙ none))
           (accepted_one p (event_of m) bodies line.0 short line.1 (whole m p w stops s on bodies line.0 lines line.2));

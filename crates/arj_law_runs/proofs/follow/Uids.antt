@@ -1,15 +1,21 @@
 -- Each node's incarnation is that of the journal, and it has begun as many actions in it as the journal has.
 use Rattle.arj_law_parts.proofs.Words
-use Words.{◌≡◌, ◌∙◌, ◌+◌, ◌≤◌, ◌==◌, ◌&&◌, ℕ, suc, Bool, true, false, cond, List, [], ◌∷◌, ◌++◌, length, filter, map, refl, sym, ap, subst, arith}
-use Words.{inl, inr, eqb-true, if◌then◌else◌, Option, Some, None, nat_tests, append-nil, append_assoc, length-append, option_map, AllByRecursion, and_parts, list_all, In, Body, Line}
-use Words.{Header, Kind, Label, Message, name, again_all, begin_action, began_line, Disk, Do, Effect, Say, Send, Look, PutInc, Stop, Before, After, InPart}
-use Words.{Work, worked, stopped, Parts, Handled, Took, Void, handle, holders, is_meant, parent_of, parts_in, query_about, restart_outs, tick_outs}
-use Words.{tolds_again, tolds_again_own, acts_own, again_own, with_coord, Input, Node, acts as does, refusal_up, next_uid, numbered, Seen, is_serial, all_both}
+use Words.{◌≡◌, ◌∙◌, ◌+◌, ◌≤◌, ◌==◌, ◌&&◌, ℕ, suc, Bool, true, false, cond, List, [], ◌∷◌, ◌++◌, length, filter, map, refl, sym, ap, subst}
+use Words.{arith}
+use Words.{inl, inr, eqb-true, if◌then◌else◌, Option, Some, None, nat_tests, append-nil, append_assoc, length-append, option_map}
+use Words.{AllByRecursion, and_parts, list_all, In, Body, Line}
+use Words.{Header, Kind, Label, Message, name, again_all, begin_action, began_line, Disk, Do, Effect, Say, Send, Look, PutInc, Stop, Before}
+use Words.{After, InPart}
+use Words.{Work, worked, stopped, Parts, Handled, Took, Void, handle, holders, is_meant, parent_of, parts_in, query_about, restart_outs}
+use Words.{tick_outs}
+use Words.{tolds_again, tolds_again_own, acts_own, again_own, with_coord, Input, Node, acts as does, refusal_up, next_uid, numbered, Seen}
+use Words.{is_serial, all_both}
 use Words.{node_by, numbers_to, at_place, see, world_from, Start}
 use Words.body
 use Words.input
 use Rattle.arj_law_runs.proofs.Terms
-use Terms.{Act, acts, acts_after, at, down, given, posted, said, up, Up, Walks, halted, walks_both, Keeps, is_act, AreQuiet, Book, book, turned}
+use Terms.{Act, acts, acts_after, at, down, given, posted, said, up, Up, Walks, halted, walks_both, Keeps, is_act, AreQuiet, Book, book}
+use Terms.{turned}
 use Terms.{IsKept, same_acked, same_acts, same_again, same_heard}
 use Terms.seen
 use Rattle.arj_law_parts.proofs.steps.Still.{Still, coord_good, is_still, map_good, outs_of, says_still, taken_good}
@@ -151,7 +157,14 @@ module _ (k : ℕ) where
       (low, λ t no_way. absurd (cc no_way))) (others_on e (body.Halted k ∷ []) N V refl refl refl flat rest)
 
   up_so : (d : Disk) (t : Parts) (N : Seen) → Own d.inc (length t.coord.tree.branches) N → Others N → KnowsUids (up k d t N)
-  up_so d t N own rest = back d (Some t) N (low, λ v live. (own.0, own.1 ∙ ap (λ (x : Parts). length x.coord.tree.branches) (one v live))) rest
+  up_so d t N own rest = back d (Some t) N (
+    low,
+    λ v live. (
+      own.0,
+      own.1 ∙ ap (λ (x : Parts). length x.coord.tree.branches)
+          (one v live),
+    ),
+  ) rest
     where
       one : (v : Parts) → ◌≡◌ {A = Option Parts} (Some t) (Some v) → t ≡ v
       one v live = let same : t ≡ v = cc in same
@@ -230,7 +243,8 @@ module _ (e k : ℕ) (d : Disk) (t : Parts) (M : Seen) (all : KnowsNext (up k d 
       (coord_good (tolds_again t.coord.telling) (tolds_again_own t.coord.telling)))
       (map_good query_about (holders d t) (λ u. refl)) in
       next_walk k e outs (with_coord t r.part) d M (outs_flat (book M.lines) outs still g.acts) (lined_incs k outs (book M.lines) g.lined)
-      (own (length (let c = r.part in let x = c.tree in x.branches)) (same_again t.coord.doings t.coord).count) (others k d (Some t) M all.1)
+      (own (length (let c = r.part in let x = c.tree in x.branches)) (same_again t.coord.doings t.coord).count) (others k d
+      (Some t) M all.1)
 
   -- an action begins
   begin_next : (l : Label) (how : Kind) (parent : Option Label) (N : Seen) → N.nodes ≡ M.nodes → N.start ≡ M.start → N.lines ≡ M.lines →
@@ -324,7 +338,8 @@ module _ (hd : Header) (e k : ℕ) (d : Disk) (M : Seen) (all : KnowsNext (down 
       let g = rest_goes hd e k d M all.0.0.0 all.0.0.1 in
       let b = body.Up k (d.inc + 1) in
       let V = said e (b ∷ []) M in (
-        λ how. down_so k e (stopped how Look d) M (subst (λ i. incarnation M.start M.lines k ≤ i) (sym (stopped_same how Look d tt)) low) rest,
+        λ how. down_so k e (stopped how Look d) M (subst (λ i. incarnation M.start M.lines k ≤ i) (sym
+            (stopped_same how Look d tt)) low) rest,
         (
           λ how. down_so k e (stopped how (PutInc (d.inc + 1)) d) M (raised how) rest,
           next_walk k e (behind hd e k d M all.0) (parts_in k (d.inc + 1) d) (worked (PutInc (d.inc + 1)) d) V
@@ -407,7 +422,8 @@ next_keep hd = record {
   );
   stop = λ e k d live M all. (keep.stop e k d live M all.0, down_so k e d M (here k d live M all.1).0 (others k d live M all.1));
   message = λ e k d t v from m outs M all there meant is.
-      both e k outs v d M (keep.message e k d t v from m outs M all.0 there meant is) (message_next e k d t M all v from m outs there meant is);
+      both e k outs v d M (keep.message e k d t v from m outs M all.0 there meant is)
+      (message_next e k d t M all v from m outs there meant is);
   act = λ e k d t i M is none all. let did = does i d.intents t.coord in
       both e k did.outs (with_coord t did.part) d M (keep.act e k d t i M is none all.0) (act_next e k d t M all hd i is none);
   begin = λ e k d t l how parent M new may none all.

@@ -26,7 +26,8 @@ begins_below (event.BeginIn l p) = true
 begins_below (event.Top l p) = true
 begins_below _ = false
 
--- A short event has the line of its lowest cause, or, where the journal has none, its own. An action that begins in another one has its own,
+-- A short event has the line of its lowest cause, or, where the journal has none, its own. An action that begins in another one has its
+-- own,
 -- where that isn't refused.
 pub record ShortEventsStep (hd : Header) (past : Past) (e : Event) (bodies : List Body) : Type 0 where
   pub short : is_short e ≡ true → MatchOption (refusal hd past e) (Accepted hd past e bodies) (λ c. bodies ≡ body.Refused c ∷ [])
