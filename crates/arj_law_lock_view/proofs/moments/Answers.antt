@@ -8,7 +8,7 @@ use Words.{asks, Reply, actor, answers, asked_by, last_end, response, again_all,
 use Words.{doing_of, Disk, Do}
 use Words.{Effect, Intent, Look, PutInc, Say, Send, acked, answer_query, tell, tell_all, tick_outs, Named, Naming, Handled, Parts, Took}
 use Words.{Void, ack_told}
-use Words.{by_reply, end_states, handle, handle_answer, handle_ask, handle_ends, handle_other, holders, is_earlier}
+use Words.{by_reply, end_states, handle, handle_answer, handle_ask, handle_ends, handle_other, holders, is_earlier, is_meant}
 use Words.{naming_told}
 use Words.{prepared_actions, query_about, store_told, with_coord, uid_set, without_number, AreAll, is_naming_effect, is_server_effect}
 use Words.{Input, Node, acts}
@@ -41,11 +41,11 @@ use Rattle.arj_law_lock_view.specs.moments.Made.{Tells}
 use Rattle.arj_law_lock_view.specs.moments.Made.{is_again, lines_behind}
 use Rattle.arj_law_parts.proofs.moves.{Flat.post, Happens.Wide, Happens.wide_kept, Happens.keeps_asked}
 use Rattle.arj_law_parts.proofs.parts.SaidIncs.{all_quiet}
-use Rattle.arj_law_parts.specs.moves.Moments.{Asking, Moment, asks_now, asking_of, at, closed, fits, found_act, given, halted, lined}
-use Rattle.arj_law_parts.specs.moves.Moments.{no_history, opened, said, sent, up}
+use Rattle.arj_law_parts.specs.moves.Moments.{Asking, MayTake, Moment, asks_now, asking_of, at, closed, fits, found_act, given, halted}
+use Rattle.arj_law_parts.specs.moves.Moments.{is_restart, lined, no_history, opened, said, sent, up}
 use Rattle.arj_law_parts.specs.moves.Seen.{In}
 use Rattle.arj_law_parts.specs.moves.Seen as seen
-use Rattle.arj_law_parts.specs.moves.With.{IsFirst, KeepsAll, KeepsWith, UpWith, WalksWith}
+use Rattle.arj_law_parts.specs.moves.With.{Closes, IsAtFirst, IsFirst, KeepsAll, KeepsSteps, KeepsWith, Opens, UpWith, WalksWith}
 use Rattle.arj_law_parts.proofs.moves.Together.{with_both}
 use Rattle.arj_law_parts.proofs.parts.CoordInputs.{named_found}
 use Rattle.arj_law_lock_view.specs.facts.Requests.{IsAskedBy, RequestsAreKnown}
@@ -363,7 +363,7 @@ module _ (S : Saying) where
 
   -- ---- at a later moment
 
-  made_later : (M N : Moment) → Later M N → ((j : ℕ) → N.seen.nodes j ≡ M.seen.nodes j) →
+  pub made_later : (M N : Moment) → Later M N → ((j : ℕ) → N.seen.nodes j ≡ M.seen.nodes j) →
       ((p : Post) → In p N.seen.sent → In p M.seen.sent) → AnswersAreMade S M → AnswersAreMade S N
   made_later M N later nodes same h = record {
     sent = λ p a r there is. to_later S ⊥ ⊥ M N p.from p.to a r (λ l. l) later (h.sent p a r (same p there) is);
@@ -484,50 +484,76 @@ asked_by_label S k d t M h first l b named = carried_asked S k t (asking_of l t.
     low : {m n : ℕ} → m ≡ n → m ≤ n
     low is = omega (arith, is)
 
-module _ (hd : Header) (S : Saying) (tells : Tells (Wide Known) S) where
+same_lines : (S : Saying) (M N : Moment) → N.seen ≡ M.seen → N.past.askings ≡ M.past.askings → (fits M ≡ false → fits N ≡ false) →
+    AnswersAreMade S M → AnswersAreMade S N
+same_lines S M N seen askings full h = made_later S M N
+    (record {
+      more = [];
+      lines = ap (λ (s : Seen). s.lines) seen ∙ sym (append-nil M.seen.lines);
+      askings = askings;
+      sent = λ p i. subst (In p) (ap (λ (s : Seen). s.sent) (sym seen)) i;
+      full = full;
+    })
+    (λ j. ap (λ (s : Seen). s.nodes j) seen) (λ p i. subst (In p) (ap (λ (s : Seen). s.sent) seen) i) h
+
+-- as an event comes, and as it is over
+pub made_opens : (S : Saying) → Opens (AnswersAreMade S) (AnswersAreMade S)
+made_opens S e M first number h = same_lines S M (opened e M) refl refl (λ f. f) h
+
+pub made_closes : (S : Saying) → Closes (AnswersAreMade S) (AnswersAreMade S)
+made_closes S bodies M number lines h = same_lines S M (closed bodies M) refl refl (λ f. f) h
+
+-- What is known beside: so much that an answer says what is so, and that requests are known.
+module _ (hd : Header) (S : Saying) (G : Moment → Type 0) (wide : KeepsSteps hd G) (knows : (M : Moment) → G M → Wide Known M)
+    (tells : Tells G S) where
   -- what is known, and that answers are made at places
   abbrev pub Both : Moment → Type 0
-  Both M = Wide Known M × AnswersAreMade S M
+  Both M = G M × AnswersAreMade S M
 
-  wide : KeepsWith hd (IsAtStarts hd Known) (Wide Known)
-  wide = wide_kept hd (IsAtStarts hd Known) Known (keeps_asked hd Known (known_keep hd))
+  -- the same, in words of requests
+  abbrev Plain : Moment → Type 0
+  Plain M = Wide Known M × AnswersAreMade S M
+
+  plain : (M : Moment) → Both M → Plain M
+  plain M h = (knows M h.0, h.1)
 
   both_walk : (k : ℕ) (outs : List Effect) (v : Parts) (d : Disk) (M : Moment) →
-      WalksWith (Wide Known) k outs (UpWith (Wide Known) k v) d M →
+      WalksWith G k outs (UpWith G k v) d M →
       WalksWith (AnswersAreMade S) k outs (UpWith (AnswersAreMade S) k v) d M → WalksWith Both k outs (UpWith Both k v) d M
   both_walk k outs v d M a b =
-      with_both (Wide Known) (AnswersAreMade S) k outs (UpWith (Wide Known) k v) (UpWith (AnswersAreMade S) k v) d M a b
-
-  same_lines : (M N : Moment) → N.seen ≡ M.seen → N.past.askings ≡ M.past.askings → (fits M ≡ false → fits N ≡ false) →
-      AnswersAreMade S M → AnswersAreMade S N
-  same_lines M N seen askings full h = made_later S M N
-      (record {
-        more = [];
-        lines = ap (λ (s : Seen). s.lines) seen ∙ sym (append-nil M.seen.lines);
-        askings = askings;
-        sent = λ p i. subst (In p) (ap (λ (s : Seen). s.sent) (sym seen)) i;
-        full = full;
-      })
-      (λ j. ap (λ (s : Seen). s.nodes j) seen) (λ p i. subst (In p) (ap (λ (s : Seen). s.sent) seen) i) h
+      with_both G (AnswersAreMade S) k outs (UpWith G k v) (UpWith (AnswersAreMade S) k v) d M a b
 
   message_made : (k : ℕ) (d : Disk) (t v : Parts) (from : ℕ) (m : Message) (outs : List Effect) (M : Moment) → Both (up k d t M) →
-      In (post from k m) M.seen.sent → handle k d t from m ≡ Took v outs →
+      In (post from k m) M.seen.sent → is_meant t m ≡ true → MayTake M.past.event m → handle k d t from m ≡ Took v outs →
       WalksWith (AnswersAreMade S) k outs (UpWith (AnswersAreMade S) k v) d M
-  message_made k d t v from m outs M h sent_it is = by (asks m) refl
+  message_made k d t v from m outs M h sent_it meant may is = by (asks m) refl
     where
+      known : Wide Known (up k d t M)
+      known = knows (up k d t M) h.0
+
+      -- no node restarts, where a request is taken
+      other : (a : Head × Ask) → asks m ≡ Some a → is_restart M.past.event ≡ false
+      other a asks_it = one (is_restart M.past.event) refl
+        where
+          one : (b : Bool) → is_restart M.past.event ≡ b → b ≡ false
+          one true restarts = absurd (none_is (sym (may restarts).0 ∙ asks_it))
+          one false apart = refl
+
       asked : (q : Head) (a : Ask) → asks m ≡ Some (q, a) → Serves from q a t v outs →
           WalksWith (AnswersAreMade S) k outs (UpWith (AnswersAreMade S) k v) d M
-      asked q a asks_it sv = serve_walk S k d t v from m q a outs M sent_it asks_it (home_of k d t M h.0 from m q a sent_it asks_it) h.1 sv
-          (λ new. tells k d t v from m q a sv.reply sv.front M h.0 sent_it asks_it new (is ∙ ap (Took v) sv.are))
+      asked q a asks_it sv = serve_walk S k d t v from m q a outs M sent_it asks_it
+          (home_of k d t M known from m q a sent_it asks_it) h.1 sv
+          (λ new. tells k d t v from m q a sv.reply sv.front M h.0 sent_it (other (q, a) asks_it) meant asks_it new
+          (is ∙ ap (Took v) sv.are))
 
       by : (o : Option (Head × Ask)) → asks m ≡ o → WalksWith (AnswersAreMade S) k outs (UpWith (AnswersAreMade S) k v) d M
       by None none =
-          let o = subst (IsOther t) is (other_of k d t M h.0 from m none) in
+          let o = subst (IsOther t) is (other_of k d t M known from m none) in
           other_walk S k t v outs d M o.0 (carried_up S k d t M h.1) o.1
       by (Some a) asks_it = asked a.0 a.1 asks_it (subst (IsServed from a.0 a.1 t)
           (sym (ap (handle_ask k d t from m) asks_it) ∙ is) (serves k d t from a.0 a.1))
 
-  act_carried : (k : ℕ) (d : Disk) (t : Parts) (i : Input) (M : Moment) → IsFirst M → refusal_up hd i t.coord ≡ None → Both (up k d t M) →
+  act_carried : (k : ℕ) (d : Disk) (t : Parts) (i : Input) (M : Moment) → IsFirst M → refusal_up hd i t.coord ≡ None → Plain (up k d t M) →
       Carried S k t (asks_now i t.coord M)
   act_carried k d t (input.Call l x o) M first free h = by (branch_named l t.coord) refl free
     where
@@ -556,11 +582,8 @@ module _ (hd : Header) (S : Saying) (tells : Tells (Wide Known) S) where
   act_carried k d t input.Crash M first free h = carried_up S k d t M h.1
   act_carried k d t (input.Show x) M first free h = carried_up S k d t M h.1
 
-  pub answers_keep : KeepsAll hd Both
-  answers_keep = record {
-    opens = λ e M first number h. (wide.opens e M first number h.0, same_lines M (opened e M) refl refl (λ f. f) h.1);
-    closes = λ bodies M number lines h.
-        (wide.closes bodies M number lines h.0, same_lines M (closed bodies M) refl refl (λ f. f) h.1);
+  pub answers_step : KeepsSteps hd Both
+  answers_step = record {
     quiet = λ bs M plain h. (
       wide.quiet bs M plain h.0,
       made_later S M (said bs M)
@@ -578,12 +601,14 @@ module _ (hd : Header) (S : Saying) (tells : Tells (Wide Known) S) where
       }) (λ j. refl) (λ p i. i) h.1,
     );
     stop = λ k d live M h. (wide.stop k d live M h.0, stop_any S k d live M h.1);
-    message = λ k d t v from m outs M h there meant is. both_walk k outs v d M (wide.message k d t v from m outs M h.0 there meant is)
-        (message_made k d t v from m outs M h there is);
+    message = λ k d t v from m outs M h there meant may is.
+        both_walk k outs v d M (wide.message k d t v from m outs M h.0 there meant may is)
+        (message_made k d t v from m outs M h there meant may is);
     act = λ k d t i M is brings first asks free h. let r = acts i d.intents t.coord in
         both_walk k r.outs (with_coord t r.part) d (asks_now i t.coord M) (wide.act k d t i M is brings first asks free h.0)
-        (other_walk S k t (with_coord t r.part) r.outs d (asks_now i t.coord M) (acts_mute k d t M h.0 hd i is free)
-        (act_carried k d t i M first free h) (all_in t.server.kept));
+        (other_walk S k t (with_coord t r.part) r.outs d (asks_now i t.coord M)
+        (acts_mute k d t M (knows (up k d t M) h.0) hd i is free)
+        (act_carried k d t i M first free (plain (up k d t M) h)) (all_in t.server.kept));
     begin = λ k d t l how parent M brings first free gives none h.
         let r = begin_action l how parent (parent_of parent t.coord) t.coord in
         let N = given l (record { node = k; serial = is_serial how }) M in
@@ -594,19 +619,32 @@ module _ (hd : Header) (S : Saying) (tells : Tells (Wide Known) S) where
     tick = λ k d t M h. let r = again_all t.coord.doings t.coord in
         let outs = tick_outs (record { number = k; disk = d; live = Some t }) t in
         both_walk k outs (with_coord t r.part) d M (wide.tick k d t M h.0) (other_walk S k t (with_coord t r.part) outs d M
-        (tick_mute k d t M h.0) (carried_up S k d t M h.1) (all_in t.server.kept));
-    restart = λ k d M h. let v = parts_in k (d.inc + 1) d in
-        both_walk k (restart_outs hd k (d.inc + 1) d) v d M (wide.restart k d M h.0)
+        (tick_mute k d t M (knows (up k d t M) h.0)) (carried_up S k d t M h.1) (all_in t.server.kept));
+    restart = λ k d M event first h. let v = parts_in k (d.inc + 1) d in
+        both_walk k (restart_outs hd k (d.inc + 1) d) v d M (wide.restart k d M event first h.0)
         (other_walk S k v v (restart_outs hd k (d.inc + 1) d) d M
         (restart_mute hd k (d.inc + 1) d) (carried_of S k d None v M h.1 tt) tt);
-    first = λ st formed. (
-      ([], (λ p i. i), wide.first st formed),
-      record {
-        sent = λ p a r there is. absurd there;
-        kept = λ j n t is live. subst (λ (z : Parts). AreKeptSo S (record { past = no_history st; seen = see [] (world_from hd st) }) j
-            z.server.kept)
-            (first_up hd st j n t is live) tt;
-        asked = λ k there. absurd there;
-      },
-    );
   }
+
+-- at first no answer was sent, and none is kept
+pub first_made : (hd : Header) (S : Saying) → IsAtFirst hd (AnswersAreMade S)
+first_made hd S st formed = record {
+  sent = λ p a r there is. absurd there;
+  kept = λ j n t is live. subst (λ (z : Parts). AreKeptSo S (record { past = no_history st; seen = see [] (world_from hd st) }) j
+      z.server.kept)
+      (first_up hd st j n t is live) tt;
+  asked = λ k there. absurd there;
+}
+
+pub known_wide : (hd : Header) → KeepsWith hd (IsAtStarts hd Known) (Wide Known)
+known_wide hd = wide_kept hd (IsAtStarts hd Known) Known (keeps_asked hd Known (known_keep hd))
+
+pub answers_keep : (hd : Header) (S : Saying) → Tells (Wide Known) S → KeepsAll hd (λ M. Wide Known M × AnswersAreMade S M)
+answers_keep hd S tells =
+    let known = known_wide hd in
+    record {
+      opens = λ e M first number h. (known.opens e M first number h.0, made_opens S e M first number h.1);
+      closes = λ bodies M number lines h. (known.closes bodies M number lines h.0, made_closes S bodies M number lines h.1);
+      steps = answers_step hd S (Wide Known) known.steps (λ M h. h) tells;
+      first = λ st formed. (([], (λ p i. i), known.first st formed), first_made hd S st formed);
+    }

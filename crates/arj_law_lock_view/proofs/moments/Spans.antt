@@ -1,8 +1,8 @@
 -- Answers in whole runs, and who takes them.
 use Rattle.arj_law_parts.proofs.Words
 use Words.{◌≤◌, ◌∙◌, ⊎_elim, inl, inr, sym, subst, ap, Asked}
-use Rattle.arj_law_lock_view.proofs.moments.Answers.{Both, Known, answers_keep}
-use Rattle.arj_law_lock_view.specs.moments.Made.{Saying, Tells}
+use Rattle.arj_law_lock_view.proofs.moments.Answers.{Known, answers_keep}
+use Rattle.arj_law_lock_view.specs.moments.Made.{AnswersAreMade, Saying, Tells}
 use Rattle.arj_law_lock_view.specs.moments.Runs.{AnswersAreTakenInSpan, RunsMakeAnswers, says_nothing}
 use Rattle.arj_law_parts.proofs.moves.{Events.run_with, Happens.Wide}
 
@@ -26,7 +26,7 @@ taken_in_span S M all p a r there is k asked act first =
 
 pub runs_make : RunsMakeAnswers
 runs_make hd r =
-    let h = run_with hd (Both hd says_nothing nothing) (answers_keep hd says_nothing nothing) r in
+    let h = run_with hd (λ M. Wide Known M × AnswersAreMade says_nothing M) (answers_keep hd says_nothing nothing) r in
     record {
       now = record {
         sent = h.now.sent;
@@ -40,4 +40,4 @@ runs_make hd r =
     }
   where
     nothing : Tells (Wide Known) says_nothing
-    nothing k d t v from m q a s front M known sent asks new is = tt
+    nothing k d t v from m q a s front M known sent other meant asks new is = tt

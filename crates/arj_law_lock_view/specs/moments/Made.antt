@@ -1,5 +1,5 @@
 -- When answers are made: at which place of the journal, and what each says of the lines before it.
-use Rattle.std.specs.Prelude.{◌≡◌, ◌≤◌, ◌⊎◌, ℕ, Bool, false, ◌&&◌, ◌==◌, List, [], ◌∷◌, ◌++◌, length, Option, Some, None, is_some}
+use Rattle.std.specs.Prelude.{◌≡◌, ◌≤◌, ◌⊎◌, ℕ, Bool, true, false, ◌&&◌, ◌==◌, List, [], ◌∷◌, ◌++◌, length, Option, Some, None, is_some}
 use Rattle.std.specs.Prelude.{not}
 use Rattle.std.specs.List.{AllByRecursion}
 use Rattle.arj_lock.proofs.Members as list
@@ -8,12 +8,12 @@ use Rattle.arj_protocol.specs.Words.ask
 use Rattle.arj_protocol.specs.Words.body
 use Rattle.arj_protocol.specs.Ask.{Reply, actor, answers, asked_by, frame_kind, response}
 use Rattle.arj_protocol.specs.Effect.{Disk, Do, Effect, Say, Send}
-use Rattle.arj_protocol.specs.Node.{Parts, Took, handle}
+use Rattle.arj_protocol.specs.Node.{Parts, Took, handle, is_meant}
 use Rattle.arj_protocol.specs.Order.{at_uid}
 use Rattle.arj_protocol.specs.Server.{Kept, Server, changed_by}
 use Rattle.arj_protocol.specs.Step.{Node}
 use Rattle.arj_protocol.specs.World.{numbered}
-use Rattle.arj_law_parts.specs.moves.Moments.{Asking, Moment, fits, up}
+use Rattle.arj_law_parts.specs.moves.Moments.{Asking, Moment, fits, is_restart, up}
 use Rattle.arj_law_parts.specs.moves.Seen.{In}
 use Rattle.arj_promise.specs.Runs.{Post}
 
@@ -104,9 +104,11 @@ lines_behind e (Say b ∷ es) lines = lines_behind e es (lines ++ numbered e (b 
 lines_behind e (Send to m ∷ es) lines = lines_behind e es lines
 lines_behind e (Do w ∷ es) lines = lines_behind e es lines
 
--- Where so much is known, whoever serves a request, and doesn't give an answer again, gives one that says what is so of the lines then.
+-- Where so much is known, and no node restarts, whoever serves a request, and doesn't give an answer again, gives one that says what is so
+-- of the lines then.
 abbrev pub Tells : (Moment → Type 0) → Saying → Type 0
 Tells G S = (k : ℕ) (d : Disk) (t v : Parts) (from : ℕ) (m : Message) (h : Head) (a : Ask) (r : Reply) (front : List Effect) (M : Moment) →
-    G (up k d t M) → In (record { from = from; to = k; message = m }) M.seen.sent → asks m ≡ Some (h, a) → is_again h a t.server ≡ false →
+    G (up k d t M) → In (record { from = from; to = k; message = m }) M.seen.sent → is_restart M.past.event ≡ false →
+    is_meant t m ≡ true → asks m ≡ Some (h, a) → is_again h a t.server ≡ false →
     handle k d t from m ≡ Took v (front ++ Send from (response (asked_by h) r) ∷ [])
     → S (record { from = k; to = from; head = h; ask = a; reply = r }) (lines_behind M.past.number front M.seen.lines)

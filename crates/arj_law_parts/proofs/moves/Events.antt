@@ -26,7 +26,8 @@ use moves.Worlds.{sees_node}
 use moves.Worlds.{settled_holds, shows_hold, steps_hold, with_holds}
 use Rattle.arj_law_parts.specs.moves.Keeps.{Stands}
 use Rattle.arj_law_parts.specs.moves.Moments.{History, Moment, come, gone, is_restart, no_history}
-use Rattle.arj_law_parts.specs.moves.With.{Brings, HoldsAt, HoldsWith, Closes, KeepsAll, KeepsSteps, KeepsWith, Opens, asked_at, asked_of_node, look, past_event}
+use Rattle.arj_law_parts.specs.moves.With.{Brings, HoldsAt, HoldsWith, Closes, KeepsAll, KeepsSteps, KeepsWith, Opens, asked_at}
+use Rattle.arj_law_parts.specs.moves.With.{asked_of_node, look, past_event}
 use Rattle.arj_law_parts.specs.moves.With.{past_moves}
 use Rattle.arj_law_parts.specs.moves.With.{past_of, past_unless, written}
 use Rattle.arj_law_parts.specs.steps.Writes.{asks}
@@ -307,7 +308,8 @@ module _ (hd : Header) (P : Moment → Type 0) (keeps : KeepsSteps hd P) where
   counted_free (event.Show x) w is = is
 
   -- what is asked of a node doesn't look at the event's number
-  same_asks : (g : History) (w : World) (e : Event) → asked_of_node (asks e (counted w)) (counted w) (come e g) ≡ asked_of_node (asks e w) w (come e g)
+  same_asks : (g : History) (w : World) (e : Event) → asked_of_node (asks e (counted w)) (counted w) (come e g) ≡ asked_of_node
+      (asks e w) w (come e g)
   same_asks g w (event.Begin l n) = refl
   same_asks g w (event.Serial l n) = refl
   same_asks g w (event.BeginIn l p) = refl
@@ -432,7 +434,8 @@ module _ (hd : Header) (P : Moment → Type 0) {F : Type 0} (keeps : KeepsWith h
           let q = asked_of_node (asks e w) w (come e g) in
           let same = same_run e g w (asks e w) in
           closes_at hd P P keeps.closes q w (limited (happens e a (counted w))) (ap (λ (r : Past). r.lines) same.0 ∙ h.lines over)
-          (same.1 ∙ (λ i. h.count i + 1) ∙ (λ i. (let r = sym same.0 i in r.count) + 1)) (happened hd P keeps.steps e a g w is (h.lines over) (opens_at hd P P keeps.opens e g w over h))
+          (same.1 ∙ (λ i. h.count i + 1) ∙ (λ i. (let r = sym same.0 i in r.count) + 1))
+          (happened hd P keeps.steps e a g w is (h.lines over) (opens_at hd P P keeps.opens e g w over h))
 
   pub event_with : (e : Asked) (g : History) (w : World) → HoldsWith hd P g w → HoldsWith hd P (past_event e w g) (run_event e w)
   event_with e g w h = by w.over refl

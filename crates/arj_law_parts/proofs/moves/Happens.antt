@@ -23,7 +23,8 @@ use Rattle.arj_model.specs.Past.{nothing_yet}
 use Rattle.arj_law_parts.specs.moves.Keeps.{AsksNode, Keeps}
 use Rattle.arj_law_parts.specs.moves.Moments.{History, Moment, asks_now, fits, framed_if, given, posted, said}
 use Rattle.arj_law_parts.specs.moves.Seen as seen
-use Rattle.arj_law_parts.specs.moves.With.{ArePlain, HoldsAt, KeepsSteps, KeepsWith, WalksWith, asked_at, asked_of_node, is_plain_line, look}
+use Rattle.arj_law_parts.specs.moves.With.{ArePlain, HoldsAt, KeepsSteps, KeepsWith, WalksWith, asked_at, asked_of_node, is_plain_line}
+use Rattle.arj_law_parts.specs.moves.With.{look}
 use Rattle.arj_law_parts.specs.moves.With.{past_event}
 use Rattle.arj_law_parts.specs.steps.Writes.{asks}
 

@@ -1,7 +1,8 @@
 -- The steps of a node, input by input: each keeps the relation, done to the end or stopped.
 use Rattle.arj_law_parts.proofs.Words
 use Words.{◌≡◌, ◌∙◌, ℕ, ◌+◌, Bool, true, false, List, [], ◌∷◌, refl, sym, ap, subst, Option, Some, None, ◌==◌, IfSome, ⊤, if◌then◌else◌}
-use Words.{list_all, and_parts, Event, Header, Label, Kind, Message, ObjectState, Uid, object, entry, Disk, Pair, Effect, Say, Send, Do, Look}
+use Words.{list_all, and_parts, Event, Header, Label, Kind, Message, ObjectState, Uid, object, entry, Disk, Pair, Effect, Say, Send, Do}
+use Words.{Look}
 use Words.{Prepare, Stop, Before, After, InPart, stopped, holder_of, held_at, again_all, begin_action, tick_outs, Parts, Handled, Void}
 use Words.{Took, taken, whole, with_coord, AreAll, Node, Input, Step, step, step_up, step_down, step_unless, refusal_at, frame_step}
 use Words.{handled_step, void_step, node_did, coord_did, restart_outs, parts_in, show_outs, show_entry, shown, entry_line, copy_line}
@@ -127,7 +128,8 @@ module _ (hd : Header) (P : Moment → Type 0) (keeps : KeepsSteps hd P) (k : �
       by : (a : Handled) → LooksAlone a → taken k d t from m ≡ a →
           Goes d (handled_step f (record { number = k; disk = d; live = Some t }) a) M
       by (Void outs) looks is = void_goes f outs d (Some t) M looks h
-      by (Took v outs) looks is = got_goes f (Some t) v outs d M other (keeps.message k d t v from m outs (said (body.Got f ∷ []) M) got sent
+      by (Took v outs) looks is = got_goes f (Some t) v outs d M other
+          (keeps.message k d t v from m outs (said (body.Got f ∷ []) M) got sent
           (taken_meant k d t v from m outs is) (not_restarting M.past.event other) (taken_took k d t v from m outs is))
 
   crash_goes : (d : Disk) (t : Parts) (M : Moment) → P (up k d t M) → Goes d (crash_step (record { number = k; disk = d; live = Some t })) M

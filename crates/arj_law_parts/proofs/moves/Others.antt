@@ -1,9 +1,12 @@
 -- What a node sends as it restarts, and what it sends when it takes that, are no requests and no answers.
 use Rattle.arj_law_parts.proofs.Words
 use Words.{◌≡◌, ⊤, ℕ, ◌||◌, Bool, true, false, cond, List, [], ◌∷◌, ◌++◌, refl, sym, subst, AllByRecursion, Option, Some, None, ◌==◌}
-use Words.{filter, map, Asked, Ask, End, Head, Header, Message, Uid, asks, answers, Reply, last_end, Disk, Do, Effect, Intent, Look, PutInc, Say}
-use Words.{Send, worked, acked, answer_query, tell, tell_all, Coord, Named, Naming, Handled, Here, Parts, Ran, Took, Void, ack_told, by_reply}
-use Words.{first_done, first_queued, handle, handle_all, handle_answer, handle_ask, handle_ends, handle_other, holders, is_earlier, is_meant}
+use Words.{filter, map, Asked, Ask, End, Head, Header, Message, Uid, asks, answers, Reply, last_end, Disk, Do, Effect, Intent, Look}
+use Words.{PutInc, Say}
+use Words.{Send, worked, acked, answer_query, tell, tell_all, Coord, Named, Naming, Handled, Here, Parts, Ran, Took, Void, ack_told}
+use Words.{by_reply}
+use Words.{first_done, first_queued, handle, handle_all, handle_answer, handle_ask, handle_ends, handle_other, holders, is_earlier}
+use Words.{is_meant}
 use Words.{naming_told, next_round, prepared_actions, query_about, ran, ran_handled, store_told, taken, with_coord, is_prepared, uid_set}
 use Words.{without_number, is_naming_effect, is_server_effect, end_states, hello_to, naming_at, naming_back, numbers_to, recovered_records}
 use Words.{restart_outs, tolds_again, ends_own, told_own, AreAll, back_lines, at_uid, has, root_or_self, not, is_kept_commit, ◌&&◌}
@@ -178,7 +181,8 @@ ran_others n t (Say b ∷ es) d all = ran_others n t es d all.1
 ran_others n t (Do w ∷ es) d all = ran_others n t es (worked w d) all.1
 ran_others n t (Send to m ∷ es) d all = by (to == n) (ran_others n t es d all.1)
   where
-    by : (b : Bool) → WaitOthers (ran n t es d) → WaitOthers (cond b (first_queued m (ran n t es d)) (first_done (Send to m) (ran n t es d)))
+    by : (b : Bool) → WaitOthers (ran n t es d) → WaitOthers
+        (cond b (first_queued m (ran n t es d)) (first_done (Send to m) (ran n t es d)))
     by true rest = (all.0, rest)
     by false rest = rest
 

@@ -1,7 +1,8 @@
 -- A node's step with all messages to itself: what holds when it is up is kept by each message, and so by all rounds.
 use Rattle.arj_law_parts.proofs.Words
 use Words.{◌≡◌, ℕ, zero, suc, Bool, true, false, List, [], ◌∷◌, ◌++◌, refl, sym, subst, Option, Some, None, ⊤, if◌then◌else◌, option_map}
-use Words.{list_all, AllByRecursion, Event, Uid, Header, Head, Asked, Ask, asks, Message, ObjectState, object, Disk, Effect, Say, Send, Do, Look, Prepare, Before}
+use Words.{list_all, AllByRecursion, Event, Uid, Header, Head, Asked, Ask, asks, Message, ObjectState, object, Disk, Effect, Say, Send}
+use Words.{Do, Look, Prepare, Before}
 use Words.{After, InPart, Served, Prep, Ready, Already, Old, InDoubt, prepare_answer, holder_of, held_at, is_prepared, Reply, answers}
 use Words.{actor, last_end, Naming, confirm, Coord, heard, acked, Parts, Handled, Void, Took, Here, Ran, ran, ran_handled, handle_all}
 use Words.{next_round, rounds, whole, most_rounds, handle, is_meant, taken, handle_ask, handle_answer, handle_other, handle_ends}
@@ -229,7 +230,8 @@ module _ (hd : Header) (P : Moment → Type 0) (keeps : KeepsSteps hd P) (k : �
           (flat_to P k t.outs (With N.seen.sent (Ended t)) (Ended (handle_all k (m ∷ ms) h)) r.here.disk N
           (λ b L g. (g.0.0, both r.queue t.queue L (are_sent k r.queue N.seen.sent L.seen.sent g.1 f.0.1) g.0.1, g.0.2)) kept)
 
-  pub rounds_ended : (e : Event) (j : ℕ) (r : Ran) (d : Disk) (M : Moment) → M.past.event ≡ e → MayWait e r → Flat P k r.outs (Ended r) d M →
+  pub rounds_ended : (e : Event) (j : ℕ) (r : Ran) (d : Disk) (M : Moment) → M.past.event ≡ e → MayWait e r →
+      Flat P k r.outs (Ended r) d M →
       Flat P k (rounds k j r).outs (Ended (rounds k j r)) d M
   rounds_ended e zero r d M event may f = f
   rounds_ended e (suc j) r d M event may f = by r.queue refl (rounds_ended e j (next_round k r) d M event)

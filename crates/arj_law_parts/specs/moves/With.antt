@@ -79,9 +79,9 @@ ArePlain bs = list_all is_plain_line bs ≡ true
 abbrev pub IsFirst : Moment → Type 0
 IsFirst M = (let r = M.past.run in r.lines) ≡ (let s = M.seen in s.lines)
 
--- The relation is kept within an event: by lines at which it doesn't look; by a frame of bytes that are no message; by a node that stops; by
--- each message that can be meant and is taken, each input about an action, and the beginning of one; by a tick, and by a restart, in an
--- event of its own.
+-- The relation is kept within an event: by lines at which it doesn't look; by a frame of bytes that are no message;
+-- by a node that stops; by each message that can be meant and is taken, each input about an action, and the beginning of
+-- one; by a tick, and by a restart, in an event of its own.
 pub record KeepsSteps (hd : Header) (P : Moment → Type 0) : Type 0 where
   pub quiet : (bs : List Body) (M : Moment) → ArePlain bs → P M → P (said bs M)
   pub junk : (n : ℕ) (M : Moment) → fits M ≡ true → P M → P (lined 0 n frame.Junk M)
