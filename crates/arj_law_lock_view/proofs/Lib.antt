@@ -5,3 +5,4 @@ pub mod journal
 pub mod running
 pub mod records
 pub mod moments
+pub mod asking

@@ -4,3 +4,4 @@ pub mod journal
 pub mod running
 pub mod records
 pub mod moments
+pub mod asking
