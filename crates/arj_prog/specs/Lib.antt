@@ -1,0 +1,4 @@
+pub mod Falls
+pub mod Listed
+pub mod Listing
+pub mod Tokens
