@@ -13,6 +13,6 @@ pub deepest : (ss : List Statement) → most deep-Statement ss ≤ statement_cou
 deepest [] = omega arith
 deepest (statement.Do x op ∷ ss) = omega (arith, deepest ss)
 deepest (statement.Print x op ∷ ss) = omega (arith, deepest ss)
-deepest (statement.If x op answer then other ∷ ss) = omega (arith, deepest ss)
+deepest (statement.If x op answer first second ∷ ss) = omega (arith, deepest ss)
 deepest (statement.Block retry body ∷ ss) = omega (arith, deepest ss)
 deepest (statement.Fail ∷ ss) = omega (arith, deepest ss)

@@ -1,4 +1,11 @@
+pub mod Drafts
 pub mod Falls
+pub mod Grammar
+pub mod Lines
 pub mod Listed
 pub mod Listing
+pub mod Meaning
+pub mod Nesting
+pub mod Objects
 pub mod Tokens
+pub mod Written

@@ -8,7 +8,7 @@ use Rattle.arj_prog.specs.Listing.{Listing, End, Do, Print, If, Block, Fail, joi
 abbrev pub before : Statement → Listing → Listing
 before (statement.Do x op) rest = Do x op rest
 before (statement.Print x op) rest = Print x op rest
-before (statement.If x op answer then other) rest = If x op answer then other rest
+before (statement.If x op answer first second) rest = If x op answer first second rest
 before (statement.Block retry body) rest = Block retry body rest
 before statement.Fail rest = Fail rest
 

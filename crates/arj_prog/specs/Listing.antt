@@ -8,7 +8,7 @@ pub data Listing : Type 0 where
   End : Listing
   Do : (x : ℕ) (op : Op) (rest : Listing) → Listing
   Print : (x : ℕ) (op : Op) (rest : Listing) → Listing
-  If : (x : ℕ) (op : Op) (answer : Answer) (then other rest : Listing) → Listing
+  If : (x : ℕ) (op : Op) (answer : Answer) (first second rest : Listing) → Listing
   Block : (retry : ℕ) (body rest : Listing) → Listing
   Fail : (rest : Listing) → Listing
 
@@ -17,7 +17,7 @@ abbrev pub statement_count : Listing → ℕ
 statement_count End = 0
 statement_count (Do x op rest) = 1 + statement_count rest
 statement_count (Print x op rest) = 1 + statement_count rest
-statement_count (If x op answer then other rest) = 1 + statement_count then + statement_count other + statement_count rest
+statement_count (If x op answer first second rest) = 1 + statement_count first + statement_count second + statement_count rest
 statement_count (Block retry body rest) = 1 + statement_count body + statement_count rest
 statement_count (Fail rest) = 1 + statement_count rest
 
@@ -26,6 +26,6 @@ abbrev pub joined : Listing → Listing → Listing
 joined End more = more
 joined (Do x op rest) more = Do x op (joined rest more)
 joined (Print x op rest) more = Print x op (joined rest more)
-joined (If x op answer then other rest) more = If x op answer then other (joined rest more)
+joined (If x op answer first second rest) more = If x op answer first second (joined rest more)
 joined (Block retry body rest) more = Block retry body (joined rest more)
 joined (Fail rest) more = Fail (joined rest more)

@@ -21,7 +21,7 @@ abbrev pub tokens : Listing → List Token
 tokens End = Ends ∷ []
 tokens (Do x op rest) = Does x op ∷ tokens rest
 tokens (Print x op rest) = Prints x op ∷ tokens rest
-tokens (If x op answer then other rest) = Asks x op answer ∷ (tokens then ++ (tokens other ++ tokens rest))
+tokens (If x op answer first second rest) = Asks x op answer ∷ (tokens first ++ (tokens second ++ tokens rest))
 tokens (Block retry body rest) = Tries retry ∷ (tokens body ++ tokens rest)
 tokens (Fail rest) = Fails ∷ tokens rest
 
@@ -30,7 +30,7 @@ abbrev pub build : Token → List Listing → List Listing
 build Ends ls = End ∷ ls
 build (Does x op) (rest ∷ ls) = Do x op rest ∷ ls
 build (Prints x op) (rest ∷ ls) = Print x op rest ∷ ls
-build (Asks x op answer) (then ∷ other ∷ rest ∷ ls) = If x op answer then other rest ∷ ls
+build (Asks x op answer) (first ∷ second ∷ rest ∷ ls) = If x op answer first second rest ∷ ls
 build (Tries retry) (body ∷ rest ∷ ls) = Block retry body rest ∷ ls
 build Fails (rest ∷ ls) = Fail rest ∷ ls
 build _ ls = ls
@@ -41,25 +41,25 @@ read [] = []
 read (t ∷ ts) = build t (read ts)
 
 -- the first of them
-abbrev pub first : List Listing → Listing
-first [] = End
-first (l ∷ ls) = l
+abbrev pub first_of : List Listing → Listing
+first_of [] = End
+first_of (l ∷ ls) = l
 
 pub read_tokens : (l : Listing) (ts : List Token) → read (tokens l ++ ts) ≡ l ∷ read ts
 read_tokens End ts = refl
 read_tokens (Do x op rest) ts = ap (build (Does x op)) (read_tokens rest ts)
 read_tokens (Print x op rest) ts = ap (build (Prints x op)) (read_tokens rest ts)
-read_tokens (If x op answer then other rest) ts =
-    ap (λ us. read (Asks x op answer ∷ us)) (append_assoc (tokens then) (tokens other ++ tokens rest) ts ∙ ap (λ us. tokens then ++ us) (append_assoc (tokens other) (tokens rest) ts))
-    ∙ ap (build (Asks x op answer)) (read_tokens then (tokens other ++ (tokens rest ++ ts)) ∙ ap (λ ls. then ∷ ls) (read_tokens other (tokens rest ++ ts) ∙ ap (λ ls. other ∷ ls) (read_tokens rest ts)))
+read_tokens (If x op answer first second rest) ts =
+    ap (λ us. read (Asks x op answer ∷ us)) (append_assoc (tokens first) (tokens second ++ tokens rest) ts ∙ ap (λ us. tokens first ++ us) (append_assoc (tokens second) (tokens rest) ts))
+    ∙ ap (build (Asks x op answer)) (read_tokens first (tokens second ++ (tokens rest ++ ts)) ∙ ap (λ ls. first ∷ ls) (read_tokens second (tokens rest ++ ts) ∙ ap (λ ls. second ∷ ls) (read_tokens rest ts)))
 read_tokens (Block retry body rest) ts =
     ap (λ us. read (Tries retry ∷ us)) (append_assoc (tokens body) (tokens rest) ts)
     ∙ ap (build (Tries retry)) (read_tokens body (tokens rest ++ ts) ∙ ap (λ ls. body ∷ ls) (read_tokens rest ts))
 read_tokens (Fail rest) ts = ap (build Fails) (read_tokens rest ts)
 
-pub back : (l : Listing) → first (read (tokens l)) ≡ l
-back l = ap (λ us. first (read us)) (sym (append-nil (tokens l))) ∙ ap first (read_tokens l [])
+pub back : (l : Listing) → first_of (read (tokens l)) ≡ l
+back l = ap (λ us. first_of (read us)) (sym (append-nil (tokens l))) ∙ ap first_of (read_tokens l [])
 
 -- a listing is stored as its tokens
 abbrev pub listing_code : Coded (List Token) → Coded Listing
-listing_code code = code_by (List Token) code tokens (λ ts. first (read ts)) back
+listing_code code = code_by (List Token) code tokens (λ ts. first_of (read ts)) back

@@ -8,9 +8,15 @@ use std::marker::Model;
 #[derive(Drop)]
 pub enum Statement {
     /// A call, whose answer is dropped.
-    Do { x: u16, op: Op },
+    Do {
+        x: u16,
+        op: Op,
+    },
     /// A call, whose answer is printed.
-    Print { x: u16, op: Op },
+    Print {
+        x: u16,
+        op: Op,
+    },
     /// A call, and the first list where it answers this, else the second.
     If {
         x: u16,
@@ -20,7 +26,10 @@ pub enum Statement {
         other: Statements,
     },
     /// A nested action, which is tried again at most so many times, 0 to 9.
-    Block { retry: u8, body: Statements },
+    Block {
+        retry: u8,
+        body: Statements,
+    },
     /// The whole program is aborted, and not tried again.
     Fail,
 }
@@ -82,5 +91,19 @@ impl Statements {
     {
         self.items.push(statement)?;
         Ok(())
+    }
+
+    /// The statements of a vector. It keeps their memory.
+    pub fn from_vec(items: Vec<Statement>) -> Statements
+        ensures { result ≡ listing_of items.items }
+    {
+        Statements { items }
+    }
+
+    /// The statements as a vector. It keeps their memory.
+    pub fn into_vec(self) -> Vec<Statement>
+        ensures { listing_of result.items ≡ self }
+    {
+        self.items
     }
 }
