@@ -1,6 +1,5 @@
 -- Calls in a line: no two have one text, and where an answer is cut off.
-use Rattle.std.proofs.Common.{◌≡◌, ◌≢◌, ℕ, ◌<◌, ◌^◌, List, [], ◌∷◌, ◌++◌, true, false, Option, Some, None, refl, sym, ◌∙◌, ap, subst, arith, append_assoc}
-use Rattle.std.specs.Prelude.{codes}
+use Rattle.std.proofs.Common.{◌≡◌, ◌≢◌, ℕ, ◌<◌, ◌^◌, List, [], ◌∷◌, ◌++◌, false, Some, None, refl, sym, ◌∙◌, ap, subst, arith, append_assoc}
 use Rattle.std.specs.Fmt.{decimal}
 use Rattle.std.proofs.lemmas.Bool.{both_ways}
 use Rattle.std.proofs.lemmas.Fmt.{decimal_injective}
@@ -10,7 +9,7 @@ use Rattle.arj_class.specs.declared.op.Op.TheVariants as op
 use Rattle.arj_class.specs.declared.op.Answer.{Answer}
 use Rattle.arj_journal.specs.declared.header.ObjectLine.{ObjectLine}
 use Rattle.arj_text.specs.Fields.{IsRead, OpTextInForm, has_byte}
-use Rattle.arj_text.specs.Words.{answer_text, hex, op_text}
+use Rattle.arj_text.specs.Words.{answer_text, op_text}
 use Rattle.arj_text.proofs.Texts.{cut_once, digits_only, no_cut}
 use Rattle.arj_journal_reader.proofs.ByKind.{lacks_both}
 use Rattle.arj_journal_reader.proofs.Calls.{op_facts}

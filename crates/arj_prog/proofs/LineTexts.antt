@@ -1,5 +1,5 @@
 -- Which lines of the programs have no text among those that were tried.
-use Rattle.std.proofs.Common.{◌≡◌, ◌≢◌, ℕ, List, true, false, None, refl}
+use Rattle.std.proofs.Common.{◌≢◌, ℕ, List, false, None, refl}
 use Rattle.std.specs.Prelude.{codes}
 use Rattle.std.specs.Fmt.{decimal}
 use Rattle.std.proofs.lemmas.Bool.{both_ways}

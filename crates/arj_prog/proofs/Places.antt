@@ -1,8 +1,7 @@
 -- What is taken at each place, and what is bad there.
-use Rattle.std.proofs.Common.{◌≡◌, ◌≢◌, ℕ, ◌≤◌, List, ◌++◌, length, true, false, Some, None, refl, sym, ◌∙◌, ap, subst}
+use Rattle.std.proofs.Common.{◌≡◌, ◌≢◌, ℕ, ◌≤◌, List, ◌++◌, length, true, false, Option, Some, None, refl, sym, ◌∙◌, ap, subst}
 use Rattle.std.specs.Prelude.{codes, is_some, if◌then◌else◌}
 use Rattle.std.specs.Fmt.{decimal}
-use Rattle.std.proofs.lemmas.Bool.{both_ways}
 use Rattle.arj_journal.specs.declared.header.Header.{Header}
 use Rattle.arj_prog.specs.declared.draft.Draft.{Draft}
 use Rattle.arj_prog.specs.declared.place.Place.{Place}
@@ -11,7 +10,9 @@ use Rattle.arj_prog.specs.declared.plan.Plan.{Plan}
 use Rattle.arj_prog.specs.declared.reader.ProgItem.{ProgItem}
 use Rattle.arj_prog.specs.declared.reader.ProgItem.TheVariants as item
 use Rattle.arj_prog.specs.declared.said.Said.{Said}
-use Rattle.arj_prog.specs.Drafts.{draft_behind, fits_draft}
+use Rattle.arj_prog.specs.declared.opening.Opening.{Opening}
+use Rattle.arj_prog.specs.declared.said.Said.TheVariants as said
+use Rattle.arj_prog.specs.Drafts.{behind_line, draft_at, draft_behind, ends_program, fits_draft, with_opening, with_program}
 use Rattle.arj_prog.specs.Grammar.{Form, Blank, Head, Seed, Turns, Says, DraftTook, FitsHead, HasForm, HeadingTook, IsBadLine, SeedInForm, Tells, TellsSaid, drafted, next_place, seeded}
 use Rattle.arj_prog.specs.Lines.{SaidInForm, said_text}
 use Rattle.arj_script.specs.Grammar as script
@@ -89,3 +90,15 @@ bad_over bytes says = λ form has. cases form has
     cases (Seed n) has = has.fits
     cases (Turns n) has = has.fits
     cases (Says s) has = has.fits
+
+-- No line changes the header.
+pub kept_header : (s : Said) (d : Draft) → (draft_behind s d).header ≡ d.header
+kept_header s d = at d.opening
+  where
+    between : (s : Said) → (draft_at None s d).header ≡ d.header
+    between (said.Prog label node retry) = refl
+    between _ = refl
+
+    at : (o : Option Opening) → (draft_at o s d).header ≡ d.header
+    at None = between s
+    at (Some o) = elim (ends_program s o) as (λ b. (if b then with_program o d else with_opening (Some (behind_line s o)) d).header ≡ d.header) [ true ↦ refl | false ↦ refl ]

@@ -10,7 +10,6 @@ use Rattle.arj_prog.specs.declared.frame.Frame.{Frame}
 use Rattle.arj_prog.specs.declared.frame.Opened.{Opened}
 use Rattle.arj_prog.specs.declared.frame.Opened.TheVariants as opened
 use Rattle.arj_prog.specs.declared.opening.Opening.{Opening}
-use Rattle.arj_prog.specs.declared.plan.Program.{Program}
 use Rattle.arj_prog.specs.declared.said.Said.{Said}
 use Rattle.arj_prog.specs.declared.said.Said.TheVariants as said
 use Rattle.arj_prog.specs.declared.statements.Statement.{Statement}

@@ -1,12 +1,12 @@
 -- Programs that are being read: which line may come next, and what it adds.
-use Rattle.std.specs.Prelude.{◌≡◌, ℕ, ◌+◌, List, [], ◌∷◌, ◌++◌, length, Bool, true, false, ◌==◌, ◌&&◌, ◌||◌, nat_lt, nat_le, not, if◌then◌else◌, Option, Some, None}
+use Rattle.std.specs.Prelude.{ℕ, ◌+◌, List, [], ◌∷◌, ◌++◌, length, Bool, true, false, ◌&&◌, nat_lt, nat_le, not, if◌then◌else◌, Option, Some, None}
 use Rattle.std.specs.List.{list_any}
 use Rattle.std.specs.Str.{bytes_eq}
 use Rattle.arj_prog.specs.declared.draft.Draft.{Draft}
 use Rattle.arj_prog.specs.declared.frame.Frame.{Frame}
 use Rattle.arj_prog.specs.declared.frame.Opened.{Opened}
 use Rattle.arj_prog.specs.declared.frame.Opened.TheVariants as opened
-use Rattle.arj_prog.specs.declared.limits.TheConstants.{BLOCKS, PROGRAM_OBJECTS, PROGRAMS, STATEMENTS}
+use Rattle.arj_prog.specs.declared.limits.TheConstants.{BLOCKS, PROGRAMS, STATEMENTS}
 use Rattle.arj_prog.specs.declared.opening.Opening.{Opening}
 use Rattle.arj_prog.specs.declared.plan.Plan.{Plan}
 use Rattle.arj_prog.specs.declared.plan.Program.{Program}
@@ -16,8 +16,8 @@ use Rattle.arj_prog.specs.declared.statements.Statement.{Statement}
 use Rattle.arj_prog.specs.declared.statements.Statement.TheVariants as statement
 use Rattle.arj_prog.specs.Listed.{add}
 use Rattle.arj_prog.specs.Listing.{Listing, End}
-use Rattle.arj_prog.specs.Nesting.{awaits_else, blocks_in, ended, in_second, is_in_first, is_nil}
-use Rattle.arj_prog.specs.Objects.{is_used, may_use, with_used}
+use Rattle.arj_prog.specs.Nesting.{awaits_else, blocks_in, ended, in_second, is_nil}
+use Rattle.arj_prog.specs.Objects.{may_use, with_used}
 use Rattle.arj_text.specs.declared.label.Label.{Label}
 use Rattle.arj_text.specs.Label.{name}
 

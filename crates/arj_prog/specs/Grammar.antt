@@ -1,7 +1,8 @@
 -- The grammar of client programs: which form a line may have at its place.
-use Rattle.std.specs.Prelude.{◌≡◌, ◌≤◌, ℕ, List, [], ◌∷◌, ◌++◌, length, codes, ⊤, Bool, true, false, if◌then◌else◌, Option, Some, None, is_some}
+use Rattle.std.specs.Prelude.{◌≡◌, ◌≤◌, ℕ, List, [], ◌++◌, length, codes, ⊤, Bool, true, false, if◌then◌else◌, Option, Some, None, is_some}
 use Rattle.std.specs.Fmt.{decimal}
 use Rattle.arj_journal.specs.declared.header.Header.{Header}
+use Rattle.arj_journal.specs.ScriptForm.{HeaderInForm}
 use Rattle.arj_prog.specs.declared.draft.Draft.{Draft}
 use Rattle.arj_prog.specs.declared.limits.TheConstants.{TURNS}
 use Rattle.arj_prog.specs.declared.place.Place.{Place}
@@ -104,3 +105,8 @@ HeadingTook old new bytes (Some p) = (old ≡ script.Objects p.0.nodes p.0.objec
 abbrev pub DraftTook : Draft → Draft → Said → Option Plan → Type 0
 DraftTook old new s None = (is_run s ≡ false) × (new ≡ draft_behind s old)
 DraftTook old new s (Some plan) = (is_run s ≡ true) × (plan ≡ plan_of old)
+
+-- the header of a plan that the reader tells of is in form
+abbrev pub TellsInForm : ProgItem → Type 0
+TellsInForm (item.Run plan) = HeaderInForm plan.header
+TellsInForm _ = ⊤

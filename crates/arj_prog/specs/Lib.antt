@@ -1,6 +1,7 @@
 pub mod Drafts
 pub mod Falls
 pub mod Grammar
+pub mod InForm
 pub mod Lines
 pub mod Listed
 pub mod Listing

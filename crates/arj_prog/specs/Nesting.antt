@@ -1,5 +1,5 @@
 -- Statements that are open one inside another, the innermost first.
-use Rattle.std.specs.Prelude.{ℕ, List, [], ◌∷◌, Bool, true, false, if◌then◌else◌, Option, Some, None}
+use Rattle.std.specs.Prelude.{ℕ, List, [], ◌∷◌, Bool, true, false, Some, None}
 use Rattle.std.specs.List.{count_by}
 use Rattle.arj_prog.specs.declared.frame.Frame.{Frame}
 use Rattle.arj_prog.specs.declared.frame.Opened.{Opened}

@@ -1,5 +1,5 @@
 // Programs that are being read, under their header.
-ghost use Rattle.std.specs.Prelude.{◌≡◌, ◌≢◌, IfOk, true, false, None, Some, Bool, OnErr, OnOk, IsErrOf};
+ghost use Rattle.std.specs.Prelude.{◌≡◌, ◌≢◌, IfOk, MatchOption, true, false, None, Some, Bool, OnErr, OnOk, IsErrOf};
 ghost use Rattle.std.specs.Str.{bytes_eq};
 ghost use Rattle.arj_prog.specs.Drafts.{begun_by, draft_at, draft_behind, ends_program, fits_at, fits_between, fits_draft, has_name, is_run, may_begin, plan_of, with_opening, with_program};
 ghost use Rattle.arj_prog.specs.declared.said.Said.{Said};
@@ -186,9 +186,11 @@ fn finished(alloc: Global, draft: &mut Draft) -> Plan
 }
 
 /// Takes a line of the programs as it is spelled. Some with the plan, at the line `run`.
+#[tactic(auto, using(crate::proofs::Places::kept_header))]
 pub fn drafting(alloc: Global, draft: &mut Draft, bytes: &[u8]) -> Result<Option<Plan>, ScriptFault>
     ensures ok { IfOk result (λ found. (s : Said) × SaidInForm draft.old.header.objects s × (fits_draft s draft.old ≡ true) × (bytes.now ≡ said_text s)
         × DraftTook draft.old draft.new s found) }
+    ensures kept { IfOk result (λ found. MatchOption found (draft.new.header ≡ draft.old.header) (λ plan. plan.header ≡ draft.old.header)) }
     ensures bad { IsErrOf result script_fault.Bad → (s : Said) → SaidInForm draft.old.header.objects s → fits_draft s draft.old ≡ true → bytes.now ≢ said_text s }
     ensures err { OnErr result (draft.new ≡ draft.old) }
 {

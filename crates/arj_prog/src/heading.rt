@@ -1,6 +1,7 @@
 // The lines of the header, its seed and its turns.
-ghost use Rattle.std.specs.Prelude.{◌≡◌, ◌≢◌, ◌≤◌, ◌++◌, ℕ, true, codes, length, is_some, IfOk, OnOk, OnErr, IsErrOf};
+ghost use Rattle.std.specs.Prelude.{◌≡◌, ◌≢◌, ◌≤◌, ◌++◌, ℕ, true, codes, length, is_some, IfOk, IfSome, OnOk, OnErr, IsErrOf};
 ghost use Rattle.std.specs.Fmt.{decimal};
+ghost use Rattle.arj_journal.specs.ScriptForm.{HeaderInForm};
 ghost use Rattle.arj_prog.specs.declared.limits.TheConstants.{TURNS};
 ghost use Rattle.arj_prog.specs.declared.place.Place.TheVariants.{Heading, Drafting};
 ghost use Rattle.arj_prog.specs.Grammar.{FitsHead, HeadingTook, IsBadLine, SeedInForm, drafted};
@@ -40,6 +41,7 @@ fn head_line(header: &mut Reader, bytes: &[u8]) -> Result<(), ScriptFault>
 fn end_header(header: &mut Reader) -> Result<Header, ScriptFault>
     requires { is_some (script.nodes_at header.old) ≡ true }
     ensures ok { IfOk result (λ h. header.old ≡ script.Objects h.nodes h.objects) }
+    ensures in_form { IfOk result (λ h. HeaderInForm h) }
     ensures memory { IsErrOf result script_fault.Bad → ⊥ }
     ensures err { OnErr result (header.new ≡ header.old) }
 {
@@ -60,6 +62,7 @@ pub fn heading(
     requires short { length bytes.now ≤ LINE_BYTES }
     requires says { script.IsBlank bytes.now → ⊥ }
     ensures ok { IfOk result (λ found. HeadingTook header.old header.new bytes.now found) }
+    ensures in_form { IfOk result (λ found. IfSome found (λ p. HeaderInForm p.0)) }
     ensures bad { IsErrOf result script_fault.Bad → IsBadLine (Heading header.old) bytes.now }
     ensures err { OnErr result (header.new ≡ header.old) }
 {
@@ -96,6 +99,7 @@ pub fn begin(
     bytes: &[u8],
 ) -> Result<Draft, ScriptFault>
     ensures ok { IfOk result (λ d. (n : ℕ) × IsWithin 1 TURNS n × (bytes.now ≡ codes "turns " ++ decimal n) × (Drafting d ≡ drafted header.old seed n)) }
+    ensures kept { IfOk result (λ d. d.header ≡ header.old) }
     ensures bad { IsErrOf result script_fault.Bad → (n : ℕ) → IsWithin 1 TURNS n → bytes.now ≢ codes "turns " ++ decimal n }
     ensures err { OnErr result (header.new ≡ header.old) }
 {

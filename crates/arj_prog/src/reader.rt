@@ -40,12 +40,16 @@ impl Model for ProgReader {
     ghost coded = { Prim.hlevel (codes, statements.the_row.coded, waiting.the_row.coded) };
 
     ghost view = { λ r. r.place };
+
+    ghost use Rattle.arj_prog.specs.InForm.{PlaceInForm};
+
+    ghost invariant = { λ r. PlaceInForm r.place };
 }
 
 impl ProgReader {
     ghost use Rattle.std.specs.Prelude.{◌≡◌, IfOk, OnErr, IsErrOf};
     ghost use Rattle.arj_prog.specs.declared.place.Place.TheVariants.{Heading};
-    ghost use Rattle.arj_prog.specs.Grammar.{Form, HasForm, IsBadLine, Tells, next_place};
+    ghost use Rattle.arj_prog.specs.Grammar.{Form, HasForm, IsBadLine, Tells, TellsInForm, next_place};
     ghost use Rattle.arj_script.specs.Grammar.{Start};
     ghost use Rattle.arj_script.specs.declared.fault.ScriptFault.TheVariants as script_fault;
 
@@ -64,6 +68,8 @@ impl ProgReader {
         // What is taken has this form at its place.
         ensures taken { IfOk result (λ item. (form : Form) × HasForm self.old bytes.now form
             × Tells self.old form item × (self.new ≡ next_place self.old form)) }
+        // A plan's header has 1 to 16 nodes, and objects in form among them, by their numbers.
+        ensures header { IfOk result (λ item. TellsInForm item) }
         // A line is bad exactly where it has no form at its place.
         ensures bad { IsErrOf result script_fault.Bad → IsBadLine self.old bytes.now }
         ensures err { OnErr result (self.new ≡ self.old) }

@@ -1,8 +1,8 @@
 -- The answer stands behind the first such sign.
-use Rattle.std.proofs.Common.{◌≡◌, ap, sym, subst, ◌∙◌, Some, None}
+use Rattle.std.proofs.Common.{ap, subst, ◌∙◌, Some, None}
 use Rattle.arj_text.specs.Fields.{IsRead}
 use Rattle.arj_text.specs.Words.{answer_text}
-use Rattle.arj_prog.specs.Lines.{AnswerInForm, answers_bytes, class_at}
+use Rattle.arj_prog.specs.Lines.{AnswerInForm, answers_bytes}
 use Rattle.arj_prog.proofs.Asked.{no_answer, no_back, no_front, no_words, test_read}
 use Rattle.arj_prog.proofs.call.test.Goals as goal
 

@@ -1,5 +1,5 @@
 -- The innermost comes last in the vector.
-use Rattle.std.proofs.Common.{◌≡◌, ℕ, ◌+◌, ◌-◌, length, sym, ◌∙◌, ap, refl, arith}
+use Rattle.std.proofs.Common.{◌≡◌, ◌+◌, ◌-◌, length, sym, ◌∙◌, ap, refl, arith}
 use Rattle.std.specs.Prelude.{reverse, slice_set}
 use Rattle.arj_prog.specs.Nesting.{in_second}
 use Rattle.arj_prog.proofs.Nests.{no_more, none_second, second_last}
