@@ -1,8 +1,13 @@
 // The lines of a script, up to the line `journal`.
-ghost use Rattle.std.specs.Prelude.{◌≡◌, ◌++◌, ◌∷◌, [], IfOk, OnOk, IfSome, codes};
+ghost use Rattle.std.specs.Prelude.{◌≡◌, ◌≢◌, ◌++◌, ◌∷◌, ◌+◌, ◌⊎◌, [], ℕ, Err, None, Some, IfOk, OnOk, IfSome, codes, length, false};
 ghost use Rattle.arj_journal.specs.ScriptForm.{HeaderInForm};
-ghost use Rattle.arj_script.specs.Input.{TellsInForm};
-ghost use Rattle.arj_seen.specs.Input.{ended, script_text};
+ghost use Rattle.arj_script.specs.Grammar.{Asks, Form, IsBadLine, Place, Start, next_place};
+ghost use Rattle.arj_script.specs.Input.{Tells, TellsInForm};
+ghost use Rattle.arj_seen.specs.Input.{AreScript, HasBadScript, HasNoJournal, IsNumber, IsScriptLine, asked_by as asked_by_form, header_after, script_text};
+ghost use Rattle.arj_seen.specs.declared.fault.SeenFault.{SeenFault as fault_type};
+ghost use Rattle.arj_seen.specs.declared.fault.SeenFault.TheVariants as seen_fault;
+ghost use Rattle.arj_seen.specs.declared.seen.ScriptLine.{ScriptLine as script_line};
+ghost use Rattle.arj_text.specs.Fields.{has_byte};
 
 use crate::SeenFault;
 use crate::seen::{Asked, ScriptLine};
@@ -20,7 +25,9 @@ pub struct Script {
 }
 
 // What an event asks for.
-fn asked_by(event: &Event) -> Asked {
+fn asked_by(event: &Event) -> Asked
+    ensures { result ≡ asked_by_form (Asks event.now) }
+{
     match event {
         Event::Settle | Event::Quiesce => Asked::Settling,
         _ => Asked::Event,
@@ -29,7 +36,9 @@ fn asked_by(event: &Event) -> Asked {
 
 // What an item of a script asks for. A header that it has is kept.
 fn note(item: Item, header: &mut Option<Header>) -> Asked
-    ensures { TellsInForm item → IfSome header.old HeaderInForm → IfSome header.new HeaderInForm }
+    ensures form { TellsInForm item → IfSome header.old HeaderInForm → IfSome header.new HeaderInForm }
+    ensures asks { (place : Place) (form : Form) → Tells place form item → result ≡ asked_by_form form }
+    ensures header { (place : Place) (form : Form) → Tells place form item → header.new ≡ header_after place form header.old }
 {
     match item {
         Item::Blank | Item::Part => Asked::Nothing,
@@ -49,7 +58,10 @@ fn take(
     line: &[u8],
 ) -> Result<(), SeenFault>
     ensures header { IfSome script.old.header HeaderInForm → IfSome script.new.header HeaderInForm }
-    ensures lines { OnOk result (script_text script.new.lines.items ≡ script_text script.old.lines.items ++ (line.now ++ 10 ∷ [])) }
+    ensures taken { OnOk result (has_byte 10 line.now ≡ false → (form : Form) × (last : script_line) × (script.new.lines.items ≡ script.old.lines.items ++ last ∷ [])
+        × (last.text ≡ line.now) × IsScriptLine reader.old last form × (reader.new ≡ next_place reader.old form) × (script.new.header ≡ header_after reader.old form script.old.header)) }
+    ensures bad { (fault : fault_type) → result ≡ Err fault → fault ≢ seen_fault.Memory
+        → (number : ℕ) × (fault ≡ seen_fault.NotOfAScript number) × IsNumber number (length script.old.lines.items + 1) × IsBadLine reader.old line.now }
 {
     let asked = match reader.line(line) {
         Ok(item) => note(item, &mut script.header),
@@ -66,8 +78,11 @@ fn take(
 
 /// The lines of a script up to the line `journal`, and what stands behind that one.
 pub fn script_of(alloc: Global, bytes: &[u8]) -> Result<(Script, &[u8]), SeenFault>
-    ensures { IfOk result (λ found. IfSome found.0.header HeaderInForm
+    ensures read { IfOk result (λ found. IfSome found.0.header HeaderInForm
+        × ((place : Place) × AreScript Start None found.0.lines.items place found.0.header)
         × (bytes.now ≡ script_text found.0.lines.items ++ (codes "journal\n" ++ found.1.now))) }
+    ensures bad { (fault : fault_type) → result ≡ Err fault → fault ≢ seen_fault.Memory
+        → (number : ℕ) × (((fault ≡ seen_fault.NotOfAScript number) × HasBadScript bytes.now number) ⊎ ((fault ≡ seen_fault.NoJournal number) × HasNoJournal bytes.now number)) }
 {
     let mut reader = Reader::new(alloc);
     let mut script = Script {

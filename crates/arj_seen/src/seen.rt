@@ -1,6 +1,7 @@
 // What is seen of a script and its journal.
-ghost use Rattle.std.specs.Prelude.{IfOk};
-ghost use Rattle.arj_seen.specs.Input.{IsSeen};
+ghost use Rattle.std.specs.Prelude.{◌≡◌, Err, IfOk};
+ghost use Rattle.arj_seen.specs.Input.{IsRefused, IsSeen};
+ghost use Rattle.arj_seen.specs.declared.fault.SeenFault.{SeenFault as fault_type};
 
 use crate::SeenFault;
 use crate::journal_part::journal_of;
@@ -37,7 +38,8 @@ pub struct Seen {
 
 /// Reads a script, a line `journal`, and the lines of a journal. An error names the first line that is none of these.
 pub fn see(alloc: Global, bytes: &[u8]) -> Result<Seen, SeenFault>
-    ensures { IfOk result (λ seen. IsSeen bytes.now seen) }
+    ensures seen { IfOk result (λ seen. IsSeen bytes.now seen) }
+    ensures refused { (fault : fault_type) → result ≡ Err fault → IsRefused bytes.now fault }
 {
     let (
         Script {
@@ -46,9 +48,9 @@ pub fn see(alloc: Global, bytes: &[u8]) -> Result<Seen, SeenFault>
         },
         rest,
     ) = script_of(alloc, bytes)?;
-    let before = script.len();
+    let before = script.len() + 1;
     let Some(header) = header else {
-        return Err(SeenFault::NoRun(before.saturating_add(1)));
+        return Err(SeenFault::NoRun(before));
     };
     let lines = journal_of(alloc, before, rest)?;
     Ok(Seen {
