@@ -17,4 +17,5 @@ pub mod Gone
 pub mod Plain
 pub mod Reasons
 pub mod Refusing
+pub mod Limits
 pub mod Shorts

@@ -1,4 +1,4 @@
--- An event that nobody refuses writes no refusal.
+-- An event that nobody refuses writes no refusal, and the limit of frames only where it ends the run.
 use Rattle.arj_law_parts.proofs.Words
 use Words.{◌≡◌, ◌∙◌, ◌+◌, ◌-◌, ◌||◌, not, ℕ, zero, suc, Bool, true, false, cond, List, [], ◌∷◌, ◌++◌, length, refl, sym, ap, Option, Some}
 use Words.{None, nat_le}
@@ -19,6 +19,7 @@ use Rattle.arj_law_parts.proofs.steps.StepLines.{OfInput, step_says}
 use Rattle.arj_law_parts.specs.steps.Spoken.{SaidIn, is_of_parts}
 use Rattle.arj_law_parts.specs.steps.Writes.{node_refusal}
 use Rattle.arj_law_runs.proofs.addresses.Lists.{all_append}
+use Rattle.arj_model.specs.Follows.{is_frame_limit, is_limited}
 use Rattle.arj_protocol.specs.Step.{refusal_at}
 
 -- the line is a refusal
@@ -26,12 +27,33 @@ abbrev pub is_refusal : Body → Bool
 is_refusal (body.Refused c) = true
 is_refusal _ = false
 
-abbrev pub IsNone : Body → Type 0
-IsNone b = is_refusal b ≡ false
+-- or says that the limit of frames was met
+abbrev is_special : Body → Bool
+is_special (body.Refused c) = true
+is_special (body.Limit which.Frames) = true
+is_special _ = false
+
+abbrev IsNone : Body → Type 0
+IsNone b = is_special b ≡ false
 
 parts_none : (b : Body) → is_of_parts b ≡ true → IsNone b
 parts_none (body.Refused c) is = absurd (cc is)
+parts_none (body.Limit l) is = absurd (cc is)
 parts_none b is = refl
+
+not_refused : (b : Body) → IsNone b → is_refusal b ≡ false
+not_refused (body.Refused c) none = absurd (cc none)
+not_refused b none = refl
+
+not_limited : (b : Body) → IsNone b → is_frame_limit b ≡ false
+not_limited (body.Limit which.Frames) none = absurd (cc none)
+not_limited (body.Limit which.Lines) none = refl
+not_limited (body.Limit which.Labels) none = refl
+not_limited b none = refl
+
+pub none_limited : (ls : List Line) → AllByRecursion (λ (l : Line). IsNone l.body) ls → is_limited ls ≡ false
+none_limited [] all = refl
+none_limited (l ∷ ls) all = λ i. not_limited l.body all.0 i || none_limited ls all.1 i
 
 abbrev Said : List Effect → Type 0
 Said es = AllByRecursion (SaidIn IsNone) es
@@ -195,9 +217,32 @@ module _ (L : List Line) (st : Start) where
       (settle_so most_frames w s)) in
       either_so v.full v (says (body.Quiet (is_quiet v) ∷ []) v) all (adds v _ (body.Quiet (is_quiet v) ∷ []) refl refl (refl, tt) all)
 
-  pub limited_so : (w : World) → So w → So (limited w)
-  limited_so w s = either_so w.full (says (body.Limit which.Frames ∷ []) (record w { over = true })) w
-      (adds w _ (body.Limit which.Frames ∷ []) refl refl (refl, tt) s) s
+  -- of which no line is a refusal
+  pub record Unrefused (v : World) : Type 0 where
+    pub start : v.start ≡ st
+    pub more : List Line
+    pub lines : v.lines ≡ L ++ more
+    pub none : AllByRecursion (λ (l : Line). is_refusal l.body ≡ false) more
+
+  pub limited_so : (w : World) → So w → Unrefused (limited w)
+  limited_so w s = by w.full
+    where
+      each : (ls : List Line) → AllByRecursion (λ (l : Line). IsNone l.body) ls →
+          AllByRecursion (λ (l : Line). is_refusal l.body ≡ false) ls
+      each [] all = tt
+      each (l ∷ ls) all = (not_refused l.body all.0, each ls all.1)
+
+      last : List Line
+      last = numbered w.event (body.Limit which.Frames ∷ [])
+
+      by : (b : Bool) → Unrefused (cond b (says (body.Limit which.Frames ∷ []) (record w { over = true })) w)
+      by true = record {
+        start = s.start;
+        more = s.more ++ last;
+        lines = ap (λ ls. ls ++ last) s.lines ∙ append_assoc L s.more last;
+        none = all_append (λ (l : Line). is_refusal l.body ≡ false) s.more last (each s.more s.none) (refl, tt);
+      }
+      by false = record { start = s.start; more = s.more; lines = s.lines; none = each s.more s.none }
 
   begins_so : (g : Giving) (w : World) → refused_at (input.Begin g.label g.kind g.parent) w (at_place g.node w.nodes) ≡ None → So w →
       So (begins g w)

@@ -20,7 +20,7 @@ use Rattle.arj_law_parts.proofs.parts.LivesNamed.{all_found}
 use Rattle.arj_law_parts.specs.steps.Writes.{node_refusal}
 use Rattle.arj_law_runs.proofs.follow.Along.{Ended, Outcome, Went, event_of, runs_along}
 use Rattle.arj_law_runs.proofs.follow.Frames as frames
-use Rattle.arj_law_runs.proofs.follow.Plain.{IsNone, happens_so, limited_so}
+use Rattle.arj_law_runs.proofs.follow.Plain.{happens_so, is_refusal, limited_so}
 use Rattle.arj_law_runs.proofs.follow.Gone.{ended_so, is_gone}
 use Rattle.arj_law_runs.proofs.follow.Halts.{KnowsAll, halts_keep}
 use Rattle.arj_law_runs.proofs.follow.Labeled.{KnowsFinds, finds_keep}
@@ -56,7 +56,7 @@ pub same_bodies : (n : ℕ) (bs cs : List Body) (ls : List Line) → ls ++ block
 same_bodies n bs cs ls is =
     sym (bodies_of n bs) ∙ ap (λ xs. map (λ (l : Line). l.body) xs) (behind_same ls (block n bs) (block n cs) is) ∙ bodies_of n cs
 
-none_refused : (n : ℕ) (bs : List Body) → AllByRecursion (λ (l : Line). IsNone l.body) (block n bs) → is_refused bs ≡ false
+none_refused : (n : ℕ) (bs : List Body) → AllByRecursion (λ (l : Line). is_refusal l.body ≡ false) (block n bs) → is_refused bs ≡ false
 none_refused n [] all = refl
 none_refused n (body.Refused c ∷ []) all = absurd (cc all.0)
 none_refused n (b ∷ []) all = refl
@@ -126,7 +126,8 @@ refused_begin c g w few works is =
     (refused_at_node c w few g.node (input.Begin g.label g.kind g.parent) is works)
 
 -- the event that a node refuses leaves nothing more
-refused_leaves : (c : ℕ) (e : Event) (a : Arm) (w : World) → length w.frames ≤ most_frames → HaveWork w.arms → node_refusal e w ≡ Some c →
+pub refused_leaves : (c : ℕ) (e : Event) (a : Arm) (w : World) → length w.frames ≤ most_frames → HaveWork w.arms →
+    node_refusal e w ≡ Some c →
     Leaves c w (happens e a w)
 refused_leaves c (event.Call l x o) a w few works is = refused_at_node c w few (node_of l w) (input.Call l x o) is works
 refused_leaves c (event.Include l x n) a w few works is = refused_at_node c w few (node_of l w) (input.Include l x n) is works
@@ -226,7 +227,8 @@ module _ (m : Move) (w : World) (on : w.over ≡ false) (free : w.full ≡ false
           (record { start = refl; more = []; lines = sym (append-nil w.lines); none = tt })) in (
             IsRun (by_node (as_before ∙ none) ∙ granted)
                 (none_refused (w.event + 1) bodies
-                (subst (AllByRecursion (λ (l : Line). IsNone l.body)) (sym (behind_same w.lines (block (w.event + 1) bodies) s.more
+                (subst (AllByRecursion (λ (l : Line). is_refusal l.body ≡ false)) (sym (behind_same w.lines (block
+                (w.event + 1) bodies) s.more
                 (its (limited (happens its_event stop_of came_to)) is ∙ s.lines))) s.none))
                 (its (limited (happens its_event stop_of came_to)) is),
             goes_on (limited (happens its_event stop_of came_to)) is s.start (limited_free (happens its_event stop_of came_to)),

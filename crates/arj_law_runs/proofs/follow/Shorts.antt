@@ -29,12 +29,15 @@ use Rattle.arj_law_runs.proofs.follow.Reasons.{begins_free, joined, refused_by_a
 use Rattle.arj_law_runs.proofs.follow.Refusing as refusing
 use Rattle.arj_law_runs.proofs.follow.Refusing.{Came, IsRefused, IsRun, same_bodies}
 use Rattle.arj_law_runs.proofs.follow.Gone.{its_action}
+use Rattle.arj_law_runs.proofs.follow.Limits.{goes_on}
+use Words.{inl}
 use Rattle.arj_law_runs.proofs.follow.Uids.{KnowsNext, count_of, next_keep}
 use Rattle.arj_law_runs.specs.follow.Frames.{FramesStep, run_events}
 use Rattle.arj_law_runs.specs.follow.Refusals.{names_action}
 use Rattle.arj_law_runs.specs.follow.Shorts.{ShortEventsStep, begins_below, is_short}
 use Rattle.arj_journal.specs.ScriptForm.{HeaderInForm}
-use Rattle.arj_model.specs.Follows.{Accepted, Runs}
+use Rattle.arj_model.specs.Follows.{Accepted, Runs, is_limited}
+use Rattle.arj_model.specs.Follows as model_step
 use Rattle.arj_model.specs.Own as own
 use Rattle.arj_model.specs.Own.{Begins}
 use Rattle.arj_model.specs.Past.{Past, at_start, block, is_refused, next}
@@ -84,6 +87,7 @@ module _ (hd : Header) (form : HeaderInForm hd) where
   pub record Stands (p : Past) (w : World) : Type 0 where
     pub base : refusing.Stands hd form p w
     pub next : Holds hd KnowsNext w
+    pub limit : w.over ≡ false → is_limited w.lines ≡ false
 
   module _ (m : Move) (p : Past) (w : World) (stops : IsStoppedInForm m) (s : Stands p w) (on : w.over ≡ false) where
     abbrev e : Event
@@ -413,20 +417,25 @@ module _ (hd : Header) (form : HeaderInForm hd) where
   short_plain e short = refl
 
   module _ (m : Move) (p : Past) (w : World) (stops : IsStoppedInForm m) (s : Stands p w) (on : w.over ≡ false) where
+    stepped : (bodies : List Body) → MatchOption (model.refusal hd p (event_of m)) (Accepted hd p (event_of m) bodies)
+        (λ d. bodies ≡ body.Refused d ∷ []) → model_step.Step hd p (event_of m) bodies
+    stepped bodies lines = record { goes_on = ap is_limited s.base.base.lines ∙ s.limit on; lines = inl lines }
+
     follows : (bodies : List Body) → Came (event_of m) (let a = m.asked in a.arm) (counted (record w { arms = m.falls })) bodies →
         ShortEventsStep hd p (event_of m) bodies
     follows bodies (IsRefused c refused is) = record {
-      short = λ short. subst (λ o. MatchOption o (Accepted hd p (event_of m) bodies) (λ d. bodies ≡ body.Refused d ∷ []))
-          (sym (refusing.plain_same hd form m p w stops s.base on (short_plain (event_of m) short) ∙ refused)) is;
+      short = λ short. stepped bodies (subst
+          (λ o. MatchOption o (Accepted hd p (event_of m) bodies) (λ d. bodies ≡ body.Refused d ∷ []))
+          (sym (refusing.plain_same hd form m p w stops s.base on (short_plain (event_of m) short) ∙ refused)) is);
       below = λ below isnt. let no_way : true ≡ false = sym (ap is_refused is) ∙ isnt in absurd (cc no_way);
     }
     follows bodies (IsRun none isnt lines) = record {
       short = λ short.
           let line = has_line m p w stops s on (event_of m) (let a = m.asked in
           a.arm) short (first_none m p w stops s on (event_of m) none) in
-          subst (λ o. MatchOption o (Accepted hd p (event_of m) bodies) (λ d. bodies ≡ body.Refused d ∷ []))
+          stepped bodies (subst (λ o. MatchOption o (Accepted hd p (event_of m) bodies) (λ d. bodies ≡ body.Refused d ∷ []))
           (sym (refusing.plain_same hd form m p w stops s.base on (short_plain (event_of m) short) ∙ none))
-          (accepted_one p (event_of m) bodies line.0 short line.1 (whole m p w stops s on bodies line.0 lines line.2));
+          (accepted_one p (event_of m) bodies line.0 short line.1 (whole m p w stops s on bodies line.0 lines line.2)));
       below = λ below other.
           let line = has_line_below m p w stops s on (event_of m) (let a = m.asked in a.arm) below none in
           accepted_below p (event_of m) bodies line.0 below line.1 (whole m p w stops s on bodies line.0 lines line.2);
@@ -442,12 +451,14 @@ module _ (hd : Header) (form : HeaderInForm hd) where
             Went bodies (follows bodies g.0) (record {
               base = g.1;
               next = move_asked hd KnowsNext (keeps_asked hd KnowsNext (next_keep hd)) m w s.next;
+              limit = goes_on m w on (s.base.full on) s.base.base.few stops.1 (s.limit on);
             })
 
   pub first_stands : (st : Start) → IsFormed hd st → Stands (at_start st) (world_from hd st)
   first_stands st formed = record {
     base = refusing.first_stands hd form st formed;
     next = first_asked hd st KnowsNext formed (keeps_asked hd KnowsNext (next_keep hd));
+    limit = λ on. refl;
   }
 
 pub shorts_follow : (hd : Header) (r : Run hd) → IsInForm hd r → Runs (ShortEventsStep hd) r.start (run_events hd r) (journal_by hd r)

@@ -1,13 +1,12 @@
 -- Events that write one line of their own and no more: what they are refused for, and that line.
-use Rattle.std.specs.Prelude.{◌≡◌, List, [], ◌∷◌, Bool, true, false, MatchOption}
+use Rattle.std.specs.Prelude.{◌≡◌, List, [], ◌∷◌, Bool, true, false}
 use Rattle.arj_journal.specs.declared.body.Body.{Body}
 use Rattle.arj_journal.specs.declared.body.Body.TheVariants as body
 use Rattle.arj_journal.specs.declared.event.Event.{Event}
 use Rattle.arj_journal.specs.declared.event.Event.TheVariants as event
 use Rattle.arj_journal.specs.declared.header.Header.{Header}
 use Rattle.arj_model.specs.Past.{Past, is_refused}
-use Rattle.arj_model.specs.Refusals.{refusal}
-use Rattle.arj_model.specs.Follows.{Accepted, Runs}
+use Rattle.arj_model.specs.Follows.{Accepted, Runs, Step}
 use Rattle.arj_law_runs.specs.follow.Frames.{run_events}
 use Rattle.arj_promise.specs.Runs.{IsInForm, Run, journal_by}
 
@@ -26,11 +25,10 @@ begins_below (event.BeginIn l p) = true
 begins_below (event.Top l p) = true
 begins_below _ = false
 
--- A short event has the line of its lowest cause, or, where the journal has none, its own. An action that begins in another one has its
--- own,
--- where that isn't refused.
+-- A short event writes what it may: the line of its lowest cause, or, where the journal has none, its own. An action that begins in another
+-- one has its own line, where that isn't refused.
 pub record ShortEventsStep (hd : Header) (past : Past) (e : Event) (bodies : List Body) : Type 0 where
-  pub short : is_short e ≡ true → MatchOption (refusal hd past e) (Accepted hd past e bodies) (λ c. bodies ≡ body.Refused c ∷ [])
+  pub short : is_short e ≡ true → Step hd past e bodies
   pub below : begins_below e ≡ true → is_refused bodies ≡ false → Accepted hd past e bodies
 
 -- so it is of each event of a run
