@@ -21,8 +21,9 @@ pub fn plain_refusals_follow()
 {}
 
 /// In every run in form, wherever it begins and wherever disks stop, the beginning of an action in no other one, the loss of a frame, the
-/// crash of a node and the arming of a disk write the refusal by their lowest cause, or, where the journal has none, their own line alone.
-/// So does the beginning of an action in another one, where it isn't refused. Each action begins with the next Uid of its node, as the
+/// crash of a node, the arming of a disk and the handing over of bytes write what `Step` of `arj_model` has for them: the refusal by
+/// their lowest cause, or, where the journal has none, their own line alone, and nothing behind the limit of frames. The beginning of an
+/// action in another one has its own line alone too, where it isn't refused. Each action begins with the next Uid of its node, as the
 /// journal counts incarnations and actions, at its parent's node and of the kind that its parent's asks for. It does nothing when it runs.
 pub fn short_events_follow()
     ensures runs { ShortEventsFollow }

@@ -30,7 +30,8 @@ use Rattle.arj_law_runs.proofs.follow.Refusing as refusing
 use Rattle.arj_law_runs.proofs.follow.Refusing.{Came, IsRefused, IsRun, same_bodies}
 use Rattle.arj_law_runs.proofs.follow.Gone.{its_action}
 use Rattle.arj_law_runs.proofs.follow.Limits.{goes_on}
-use Words.{inl}
+use Words.{inl, inr, junk_fits}
+use Words.frame
 use Rattle.arj_law_runs.proofs.follow.Uids.{KnowsNext, count_of, next_keep}
 use Rattle.arj_law_runs.specs.follow.Frames.{FramesStep, run_events}
 use Rattle.arj_law_runs.specs.follow.Refusals.{names_action}
@@ -48,6 +49,11 @@ use Rattle.arj_protocol.specs.World as world
 use Rattle.std.specs.Prelude.{MatchOption}
 
 -- ---- one line
+
+-- the short event has one line, whatever there is room for
+abbrev is_single : Event → Bool
+is_single (event.Junk n bytes) = false
+is_single e = is_short e
 
 -- the world has this line more, and each frame fits
 record Says (b : Body) (w v : World) : Type 0 where
@@ -103,14 +109,13 @@ module _ (hd : Header) (form : HeaderInForm hd) where
     few = s.base.base.few
 
     -- the event's own line is all that it writes
-    whole : (bodies : List Body) (b : Body) → t.lines ++ block t.event bodies ≡ (limited (happens e arm t)).lines →
-        Says b t (happens e arm t) →
-        bodies ≡ b ∷ []
-    whole bodies b lines its = same_bodies t.event bodies (b ∷ []) t.lines (lines ∙ ap (λ (x : World). x.lines) same ∙ its.lines)
+    whole : (e : Event) (a : Arm) (bodies : List Body) (b : Body) → t.lines ++ block t.event bodies ≡ (limited (happens e a t)).lines →
+        Says b t (happens e a t) → bodies ≡ b ∷ []
+    whole e a bodies b lines its = same_bodies t.event bodies (b ∷ []) t.lines (lines ∙ ap (λ (x : World). x.lines) same ∙ its.lines)
       where
-        same : limited (happens e arm t) ≡ happens e arm t
-        same = λ i. cond ((its.full ∙ s.base.full on) i) (says (body.Limit which.Frames ∷ []) (record (happens e arm t) { over = true }))
-            (happens e arm t)
+        same : limited (happens e a t) ≡ happens e a t
+        same = λ i. cond ((its.full ∙ s.base.full on) i) (says (body.Limit which.Frames ∷ []) (record (happens e a t) { over = true }))
+            (happens e a t)
 
     -- what the world doesn't refuse
     first_none : (e : Event) → refused_by_any e t ≡ None → first_reason (reasons e t) ≡ None
@@ -268,7 +273,7 @@ module _ (hd : Header) (form : HeaderInForm hd) where
         by None no_way = absurd (cc no_way)
         by (Some f) there = record { lines = refl; full = refl }
 
-    has_line : (e : Event) (a : Arm) → is_short e ≡ true → first_reason (reasons e t) ≡ None → HasLine e a
+    has_line : (e : Event) (a : Arm) → is_single e ≡ true → first_reason (reasons e t) ≡ None → HasLine e a
     has_line (event.Begin l n) a short none = (
       body.Began l kind.Top (model.next_uid p.start p.lines n) None,
       refl,
@@ -320,7 +325,7 @@ module _ (hd : Header) (form : HeaderInForm hd) where
 
   -- ---- accepted events
 
-  accepted_one : (p : Past) (e : Event) (bodies : List Body) (b : Body) → is_short e ≡ true → Begins hd p e (b ∷ []) → bodies ≡ b ∷ [] →
+  accepted_one : (p : Past) (e : Event) (bodies : List Body) (b : Body) → is_single e ≡ true → Begins hd p e (b ∷ []) → bodies ≡ b ∷ [] →
       Accepted hd p e bodies
   accepted_one p (event.Begin l n) bodies b short begins is = record {
     own = b ∷ [];
@@ -377,6 +382,7 @@ module _ (hd : Header) (form : HeaderInForm hd) where
     halts = refl;
     answers = tt;
   }
+  accepted_one p (event.Junk n bytes) bodies b short begins is = absurd (cc short)
   accepted_one p e bodies b short begins is = absurd (cc short)
 
   accepted_below : (p : Past) (e : Event) (bodies : List Body) (b : Body) → begins_below e ≡ true → Begins hd p e (b ∷ []) →
@@ -421,6 +427,45 @@ module _ (hd : Header) (form : HeaderInForm hd) where
         (λ d. bodies ≡ body.Refused d ∷ []) → model_step.Step hd p (event_of m) bodies
     stepped bodies lines = record { goes_on = ap is_limited s.base.base.lines ∙ s.limit on; lines = inl lines }
 
+    -- bytes that are no message are a frame, or meet the limit
+    handed : (n : ℕ) (bytes : List ℕ) (bodies : List Body) → (b : Bool) →
+        (counted (record w { arms = m.falls })).lines ++ block (w.event + 1) bodies
+        ≡ (limited (junk_fits n (counted (record w { arms = m.falls })) b)).lines → Accepted hd p (event.Junk n bytes) bodies
+    handed n bytes bodies true lines =
+        let b = body.Sent (length w.frames + 1) 0 n frame.Junk in
+        let x = junk_fits n (counted (record w { arms = m.falls })) true in
+        let same : limited x ≡ x = λ i. cond (s.base.full on i) (says (body.Limit which.Frames ∷ []) (record x { over = true })) x in
+        record {
+          own = b ∷ [];
+          others = [];
+          last = [];
+          parts = same_bodies (w.event + 1) bodies (b ∷ []) w.lines (lines ∙ ap (λ (y : World). y.lines) same);
+          begins = inl (ap (λ k. body.Sent (k + 1) 0 n frame.Junk ∷ []) (sym s.base.base.tells.last));
+          ends = refl;
+          only = refl;
+          halts = refl;
+          answers = tt;
+        }
+    handed n bytes bodies false lines = record {
+      own = [];
+      others = [];
+      last = body.Limit which.Frames ∷ [];
+      parts = same_bodies (w.event + 1) bodies (body.Limit which.Frames ∷ []) w.lines lines;
+      begins = inr refl;
+      ends = refl;
+      only = refl;
+      halts = refl;
+      answers = tt;
+    }
+
+    accepted : (e : Event) (a : Arm) (bodies : List Body) → is_short e ≡ true →
+        refused_by_any e (counted (record w { arms = m.falls })) ≡ None → w.lines ++ block (w.event + 1) bodies
+        ≡ (limited (happens e a (counted (record w { arms = m.falls })))).lines → Accepted hd p e bodies
+    accepted (event.Junk n bytes) a bodies short none lines = handed n bytes bodies (nat_lt (length w.frames) most_frames) lines
+    accepted e a bodies short none lines =
+        let line = has_line m p w stops s on e a short (first_none m p w stops s on e none) in
+        accepted_one p e bodies line.0 short line.1 (whole m p w stops s on e a bodies line.0 lines line.2)
+
     follows : (bodies : List Body) → Came (event_of m) (let a = m.asked in a.arm) (counted (record w { arms = m.falls })) bodies →
         ShortEventsStep hd p (event_of m) bodies
     follows bodies (IsRefused c refused is) = record {
@@ -430,15 +475,14 @@ module _ (hd : Header) (form : HeaderInForm hd) where
       below = λ below isnt. let no_way : true ≡ false = sym (ap is_refused is) ∙ isnt in absurd (cc no_way);
     }
     follows bodies (IsRun none isnt lines) = record {
-      short = λ short.
-          let line = has_line m p w stops s on (event_of m) (let a = m.asked in
-          a.arm) short (first_none m p w stops s on (event_of m) none) in
-          stepped bodies (subst (λ o. MatchOption o (Accepted hd p (event_of m) bodies) (λ d. bodies ≡ body.Refused d ∷ []))
+      short = λ short. stepped bodies (subst
+          (λ o. MatchOption o (Accepted hd p (event_of m) bodies) (λ d. bodies ≡ body.Refused d ∷ []))
           (sym (refusing.plain_same hd form m p w stops s.base on (short_plain (event_of m) short) ∙ none))
-          (accepted_one p (event_of m) bodies line.0 short line.1 (whole m p w stops s on bodies line.0 lines line.2)));
+          (accepted (event_of m) (let a = m.asked in a.arm) bodies short none lines));
       below = λ below other.
           let line = has_line_below m p w stops s on (event_of m) (let a = m.asked in a.arm) below none in
-          accepted_below p (event_of m) bodies line.0 below line.1 (whole m p w stops s on bodies line.0 lines line.2);
+          accepted_below p (event_of m) bodies line.0 below line.1
+          (whole m p w stops s on (event_of m) (let a = m.asked in a.arm) bodies line.0 lines line.2);
     }
 
     pub goes : Outcome (ShortEventsStep hd) Stands m p w

@@ -1,4 +1,4 @@
--- Events that write one line of their own and no more: what they are refused for, and that line.
+-- Events that write one line of their own and no more, and what they are refused for.
 use Rattle.std.specs.Prelude.{◌≡◌, List, [], ◌∷◌, Bool, true, false}
 use Rattle.arj_journal.specs.declared.body.Body.{Body}
 use Rattle.arj_journal.specs.declared.body.Body.TheVariants as body
@@ -10,13 +10,14 @@ use Rattle.arj_model.specs.Follows.{Accepted, Runs, Step}
 use Rattle.arj_law_runs.specs.follow.Frames.{run_events}
 use Rattle.arj_promise.specs.Runs.{IsInForm, Run, journal_by}
 
--- the event begins an action in no other, loses a frame, stops a node, or arms a disk
+-- the event begins an action in no other, loses a frame, crashes a node, arms a disk, or hands over bytes
 abbrev pub is_short : Event → Bool
 is_short (event.Begin l n) = true
 is_short (event.Serial l n) = true
 is_short (event.Lose k) = true
 is_short (event.Crash n) = true
 is_short (event.Stop n calls k) = true
+is_short (event.Junk n bytes) = true
 is_short _ = false
 
 -- the event begins an action in another one
