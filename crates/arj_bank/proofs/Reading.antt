@@ -47,7 +47,7 @@ IsBlank o = (r : Role) (file : FileMap) → ((q : Slot) → slot_role q ≡ Some
 
 only_none : (p : Pair) → HasOnly p [] → (uid : Uid) (bytes : Option (List ℕ)) → p.held uid ≡ bytes → Packs bytes None
 only_none p only uid None is = refl
-only_none p only uid (Some bytes) is = absurd (only.others uid (subst IsSome (sym is) tt))
+only_none p only uid (Some bytes) is = absurd (only.others uid (subst IsSome (sym is) refl))
 
 -- of no files a store reads no state
 pub packs_none : {O : Type 0} (o : Ghosts O) → IsBlank o → (file : FileMap) (r : Role) (uid : Uid) → file ≡ no_files → Packs (held_by o file r uid) None

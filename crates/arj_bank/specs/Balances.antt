@@ -49,7 +49,7 @@ abbrev pub held_by : {O : Type 0} → store.Ghosts O → Holds
 held_by o file r uid = (let p = o.pair file r in p.held uid)
 
 -- Disks that are read: what is said of a disk, and what its files hold.
-pub record Reader (D : Type 0) : Type 0 where
+pub record Reader (D : Type 0) : Type 1 where
   pub disk : disk.Ghosts D
   pub holds : Holds
 
