@@ -1,6 +1,6 @@
 -- Reads leave all files as they are, and balances add up.
 use Rattle.std.proofs.Common.{◌≡◌, ℕ, zero, suc, ◌+◌, ◌-◌, List, [], ◌∷◌, true, false, Option, Some, None, if◌then◌else◌, refl, sym, ◌∙◌, ap, subst}
-use Rattle.std.specs.Prelude.{◌≤◌, IsSome, nat_le, slice_get, slice_set}
+use Rattle.std.specs.Prelude.{◌≤◌, Contains, IsSome, nat_le, slice_get, slice_set}
 use Rattle.std.proofs.Common.{arith}
 use Rattle.std.proofs.lemmas.Bool.{and_parts}
 use Rattle.arj_gen.specs.declared.bank.TheConstants.{NODES}
@@ -45,9 +45,12 @@ module _ {D : Type 0} (file : D → FileMap) where
 abbrev pub IsBlank : {O : Type 0} → Ghosts O → Type 0
 IsBlank o = (r : Role) (file : FileMap) → ((q : Slot) → slot_role q ≡ Some r → file q ≡ None) → o.formed file r × HasOnly (o.pair file r) []
 
+no_element : (uid : Uid) → Contains [] uid → ⊥
+no_element uid is = omega (arith, is.1)
+
 only_none : (p : Pair) → HasOnly p [] → (uid : Uid) (bytes : Option (List ℕ)) → p.held uid ≡ bytes → Packs bytes None
 only_none p only uid None is = refl
-only_none p only uid (Some bytes) is = absurd (only.others uid (subst IsSome (sym is) refl))
+only_none p only uid (Some bytes) is = absurd (no_element uid (only.others uid (subst IsSome (sym is) refl)))
 
 -- of no files a store reads no state
 pub packs_none : {O : Type 0} (o : Ghosts O) → IsBlank o → (file : FileMap) (r : Role) (uid : Uid) → file ≡ no_files → Packs (held_by o file r uid) None
