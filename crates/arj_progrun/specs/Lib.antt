@@ -1,0 +1,7 @@
+pub mod Alone
+pub mod Client
+pub mod Events
+pub mod Kept
+pub mod Levels
+pub mod Meaning
+pub mod Schedule

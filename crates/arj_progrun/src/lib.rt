@@ -1,0 +1,21 @@
+//! Client programs under a seeded schedule: which events they give by what the nodes answer, and what is told of them.
+//!
+//! It stands on `arj_prog`, which has the programs. What it gives upward: `Schedule`, whose calls are the turns of
+//! `specs/Schedule.antt` over programs as `specs/Client.antt` has them, and the law
+//! `programs_mean_their_calls`: whatever the nodes answer, the calls of a program that committed are those that its
+//! statements make alone (`specs/Alone.antt`).
+#![tactic(auto)]
+
+mod client;
+mod copy;
+mod draws;
+mod labels;
+mod laws;
+mod level;
+mod phase;
+mod report;
+mod schedule;
+
+pub use laws::programs_mean_their_calls;
+pub use report::{Report, ReportLine};
+pub use schedule::{Given, Schedule};
