@@ -4,13 +4,12 @@ use Rattle.std.proofs.lemmas.List.{append_assoc}
 use Rattle.std.specs.Prelude.{⊤}
 use Rattle.std.specs.Str.{bytes_eq}
 use Rattle.arj_class.specs.Table.{answer_of}
-use Rattle.arj_class.specs.declared.op.Op.{Op}
 use Rattle.arj_model.specs.Serial.{Values}
 use Rattle.arj_prog.specs.Listing.{Listing, End, Do, Print, If, Block, Fail, joined}
 use Rattle.arj_progrun.specs.Meaning.{Failed, Gave, Made, Outcome, eval, followed, made, same_answer, values_behind, with_call, with_calls}
 use Rattle.arj_prog.specs.declared.statements.Statement.{Statement}
 use Rattle.arj_prog.specs.declared.statements.Statement.TheVariants as statement
-use Rattle.arj_progrun.specs.Alone.{Answered, Means, MeansItsCalls, Reaches, after_all, made_from}
+use Rattle.arj_progrun.specs.Alone.{Answered, Means, Reaches, after_all, made_from}
 use Rattle.arj_progrun.specs.Client.{Client, Level, Said, branch, cut, inner_of, joins, said_by, taken}
 use Rattle.arj_progrun.specs.declared.phase.Phase.{Phase}
 use Rattle.arj_progrun.specs.declared.phase.Phase.TheVariants as phase

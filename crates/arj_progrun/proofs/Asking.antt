@@ -1,5 +1,5 @@
 -- A program asks in its turn.
-use Rattle.std.proofs.Common.{◌≡◌, ◌∙◌, ◌≤◌, ◌+◌, ℕ, List, [], ◌∷◌, refl, ap, sym, subst, slice_get, slice_set, Option, Some, None, map, arith}
+use Rattle.std.proofs.Common.{◌≡◌, ◌∙◌, ◌+◌, ℕ, List, [], ◌∷◌, refl, ap, sym, subst, slice_get, slice_set, Option, Some, map, arith}
 use Rattle.std.specs.List.{AllByRecursion}
 use Rattle.std.specs.Option.{option_map}
 use Rattle.arj_journal.specs.declared.event.Event.{Event}
@@ -7,9 +7,9 @@ use Rattle.arj_progrun.proofs.Counts.{IsUpTo, turned_up}
 use Rattle.arj_progrun.proofs.Hearing.{get_mapped, get_within, map_set, set_within}
 use Rattle.arj_progrun.specs.Client.{asking, turned}
 use Rattle.arj_progrun.specs.Events.{ask_of}
-use Rattle.arj_progrun.specs.Kept.{AreWithin, Asks, IsWithin, clients_of, given_ask, given_by, standing_of, turning}
+use Rattle.arj_progrun.specs.Kept.{Asks, IsWithin, clients_of, given_ask, given_by, standing_of, turning}
 use Rattle.arj_progrun.specs.Levels.{client_of}
-use Rattle.arj_progrun.specs.Schedule.{Turning, asks_by_it, turn_by, turn_with}
+use Rattle.arj_progrun.specs.Schedule.{asks_by_it, turn_by, turn_with}
 use Rattle.arj_text.specs.Label.{name}
 use Rattle.arj_progrun.specs.declared.client.Client.{Client as kept_client}
 use Rattle.arj_progrun.specs.declared.schedule.Given.{Given}

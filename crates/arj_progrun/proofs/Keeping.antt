@@ -12,7 +12,7 @@ use Rattle.arj_prog.specs.declared.statements.Statement.TheVariants as statement
 use Rattle.arj_progrun.proofs.Alone.{CallsAt, Entries, Goes, Here, IsFresh, IsGood, answered_at, before, block_entered, cut_back, uncut, committed_at, fresh_is_here, here_means, passed, rest_in, said_in}
 use Rattle.arj_progrun.proofs.Stacks.{some_same}
 use Rattle.arj_progrun.specs.Alone.{MeansItsCalls, Reaches}
-use Rattle.arj_progrun.specs.Client.{Ask, Client, Level, LosesLast, Settles, Ticks, aborted, again, answered, asking, asks_by, asks_for, asks_next, begins, commits_at, cut, enters, first_client, halted, hears, inner_of, inside, is_open, is_over, is_phase, is_waiting, labelled, leaves, loses, loses_at, loses_top, refused_at, stands, taken, try_label, turned, unbegun, waits, waits_on}
+use Rattle.arj_progrun.specs.Client.{Ask, Client, Level, LosesLast, Settles, Ticks, aborted, again, answered, asking, asks_by, asks_for, asks_next, begins, commits_at, cut, hears, inner_of, inside, is_over, is_phase, is_waiting, labelled, leaves, loses, loses_at, loses_top, refused_at, stands, taken, try_label, turned, unbegun, waits, waits_on}
 use Rattle.arj_progrun.specs.Schedule.{Given, GivesAsk, Schedule, Standing, Turning, Turns, all_hear, clients_from, line_heard, lines_heard, own, turn_at, turn_by, turn_drawn}
 use Rattle.arj_gen.specs.Bank.{drawn, next_state}
 use Rattle.arj_progrun.specs.declared.phase.Phase.{Phase}

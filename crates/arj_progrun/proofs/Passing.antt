@@ -1,9 +1,9 @@
 -- A program leaves its next statement behind.
-use Rattle.std.proofs.Common.{◌≡◌, ◌∙◌, List, [], ◌∷◌, refl, ap, sym, subst, Option, Some, None}
+use Rattle.std.proofs.Common.{◌≡◌, ◌∙◌, List, [], ◌∷◌, ap, sym, Option, Some, None}
 use Rattle.std.specs.Borrow.{Bor}
 use Rattle.arj_prog.specs.Listing.{Listing, End}
 use Rattle.arj_prog.specs.declared.statements.Statement.{Statement}
-use Rattle.arj_progrun.specs.Client.{Client, Level, cut, inner_of, inside, inside_at, leaves}
+use Rattle.arj_progrun.specs.Client.{Client, Level, cut, inner_of, inside_at, leaves}
 use Rattle.arj_progrun.specs.Levels.{IsFront, IsPassed}
 
 pub pass_top : (c : Client) (found : Option (Bor Statement)) (top : Level) (rest : Listing) → c.blocks ≡ [] →

@@ -1,5 +1,5 @@
 -- Labels of programs' actions are short.
-use Rattle.std.proofs.Common.{◌≡◌, ◌<◌, ◌≤◌, ◌+◌, ℕ, List, ◌++◌, codes, length, length-append, arith}
+use Rattle.std.proofs.Common.{◌<◌, ◌≤◌, ℕ, ◌++◌, codes, length, length-append, arith}
 use Rattle.std.proofs.lemmas.Fmt.{length-decimal-le}
 use Rattle.std.specs.Fmt.{decimal}
 use Rattle.arj_progrun.specs.Client.{block_label, try_label}

@@ -1,5 +1,4 @@
 -- What an event asks.
-use Rattle.std.specs.Prelude.{ℕ, List, Option, Some, None}
 use Rattle.arj_journal.specs.declared.event.Event.{Event}
 use Rattle.arj_journal.specs.declared.event.Event.TheVariants as event
 use Rattle.arj_journal.specs.declared.event.FrameNo.TheVariants as frame_no

@@ -1,5 +1,5 @@
 -- Programs as the code keeps them, seen as the definitions have them.
-use Rattle.std.specs.Prelude.{ℕ, ◌≡◌, List, [], ◌∷◌, map, Option, Some, None}
+use Rattle.std.specs.Prelude.{◌≡◌, List, [], ◌∷◌, map, Option, Some, None}
 use Rattle.std.specs.Borrow.{Bor}
 use Rattle.arj_prog.specs.declared.statements.Statement.{Statement}
 use Rattle.arj_prog.specs.Listing.{Listing, End, joined}

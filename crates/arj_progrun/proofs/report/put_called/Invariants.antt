@@ -1,5 +1,5 @@
 -- what is put so far
-use Rattle.std.proofs.Common.{◌≡◌, ◌++◌, take, map}
+use Rattle.std.proofs.Common.{◌≡◌, ◌++◌, take}
 use Rattle.std.specs.List.{flat_map}
 use Rattle.arj_progrun.specs.Kept.{clients_of}
 use Rattle.arj_progrun.specs.Schedule.{commit_lines}

@@ -1,5 +1,5 @@
 -- a nested action is open
-use Rattle.std.proofs.Common.{arith, ap, length, ◌≤◌}
+use Rattle.std.proofs.Common.{arith, ap, length}
 use Rattle.arj_progrun.proofs.Stacks.{nested_some}
 use Rattle.arj_progrun.proofs.client.Client.is_nested.Goals as goal
 
