@@ -115,7 +115,8 @@ fn put_others(report: &mut Report, clients: &[Client]) -> Result<(), AllocError>
     Ok(())
 }
 
-/// The output: the committed programs with their prints, in the order in which their commits were called, and then the others.
+/// The output: the committed programs with their prints, in the order in which their commits were called, and then the
+/// others.
 pub fn report(alloc: Global, schedule: &Schedule) -> Result<Report, AllocError>
     ensures { IfOk result (λ told. told ≡ report_of (standing_of schedule.now)) }
 {
