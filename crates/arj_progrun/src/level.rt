@@ -22,8 +22,8 @@ pub struct Heard<'p> {
     pub answer: Bytes,
 }
 
-/// An action of a program: its label, its statements, those left, the innermost list last, how many tries are left, and its
-/// calls that count so far.
+/// An action of a program: its label, its statements, those left, the innermost list last, how many tries are left, and
+/// its calls that count so far.
 #[derive(Drop)]
 pub struct Level<'p> {
     pub label: Label,
