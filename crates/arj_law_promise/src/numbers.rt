@@ -1,4 +1,5 @@
 // Numbers that end.
+ghost use Rattle.arj_law_promise.specs.rooms.Actions.{FreshHasIncs, RunsSayActions};
 ghost use Rattle.arj_law_promise.specs.rooms.Incs.{IncsHaveNext, IncsRiseByOne};
 ghost use Rattle.arj_law_promise.specs.rooms.Numbers.{NumbersHaveRoom, NumbersRise};
 
@@ -11,4 +12,12 @@ pub fn numbers_have_room()
     ensures next { IncsHaveNext }
     ensures requests { NumbersRise }
     ensures room { NumbersHaveRoom }
+{}
+
+/// In every run in form, whatever stops fall, each line is in form that says that an action begins, that a restart found its record, or
+/// that its commit is told or done: if each node began 1,000,001 below the last incarnation that 32 bits count, as every node does that was
+/// formatted. It does nothing when it runs.
+pub fn lines_of_actions_are_in_form()
+    ensures lines { RunsSayActions }
+    ensures fresh { FreshHasIncs }
 {}
