@@ -1,7 +1,8 @@
 -- Journals that don't follow their events, each for the reason that is said of it, beside one that does.
-use Rattle.std.specs.Prelude.{◌≡◌, refl, ◌∷◌, ◌++◌, [], codes, false, true, None, take, drop}
-use Rattle.std.proofs.Common.{sym, ◌∙◌}
+use Rattle.std.specs.Prelude.{◌<◌, ◌^◌, ◌≡◌, refl, ◌∷◌, ◌++◌, [], codes, false, true, None, take, drop}
+use Rattle.std.proofs.Common.{arith, sym, ◌∙◌}
 use Rattle.arj_class.specs.declared.op.Op.TheVariants as op
+use Rattle.arj_journal.specs.LineForm.{BodyInForm}
 use Rattle.arj_journal.specs.declared.body.Body.TheVariants as body
 use Rattle.arj_journal.specs.declared.body.FrameKind.TheVariants as frame
 use Rattle.arj_journal.specs.declared.body.Kind.TheVariants as kind
@@ -142,3 +143,7 @@ unsent_frame = refl
 halt_behind : is_followed
     (run two_nodes ((event.Begin (l 65) 1, body.Began (l 65) kind.Top (u 1 1 1) None ∷ body.Halted 1 ∷ []) ∷ [])) ≡ false
 halt_behind = refl
+
+-- a number that has no 64 bits isn't in form
+too_great : BodyInForm (body.Ok (l 65) 1 (op.Add 18446744073709551616) (codes "done")) → ⊥
+too_great f = let less : 18446744073709551616 < 2 ^ 64 = f.2 in omega (arith, less)
