@@ -6,13 +6,14 @@ use crate::checked::explain_found;
 use crate::forms::form_of;
 use crate::help::{help, usage};
 use crate::pieces::{piece_at, word_at};
-use crate::refused::{count_of_refused, first_refused, refusal_words};
+use crate::refused::{count_of_refused, first_refused};
 use crate::shown::Shown;
 use crate::slip_tests::is;
 use crate::{Place, place_of_line, slip_of};
 use arj_checking::Finding;
 use arj_journal::{Body, Line, Which};
 use arj_loop::BadLine;
+use arj_words::refusal_words;
 use std::alloc::Global;
 use std::io;
 
