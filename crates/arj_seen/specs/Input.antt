@@ -7,7 +7,7 @@ use Rattle.arj_journal.specs.ScriptForm.{HeaderInForm}
 use Rattle.arj_journal.specs.declared.body.Line.{Line}
 use Rattle.arj_journal.specs.declared.event.Event.TheVariants as event
 use Rattle.arj_journal.specs.declared.header.Header.{Header}
-use Rattle.arj_script.specs.Grammar.{Asks, Form, HasForm, IsBadLine, Objects, Place, Run, Running, Start, next_place}
+use Rattle.arj_script.specs.Grammar.{Asks, Form, HasForm, IsBadLine, Objects, Place, Run, Start, next_place}
 use Rattle.arj_seen.specs.declared.fault.SeenFault.{SeenFault}
 use Rattle.arj_seen.specs.declared.fault.SeenFault.TheVariants as fault
 use Rattle.arj_seen.specs.declared.seen.Asked.{Asked}
