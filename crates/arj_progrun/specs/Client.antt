@@ -32,8 +32,8 @@ pub record Level : Type 0 where
   pub left : ℕ
   pub said : List Said
 
--- A program: its name, its number, its node, how often it may be tried again, its top, its open nested actions, the innermost first, how many
--- nested actions this try has begun, where it stands, the statement whose call it waits for, and how many turns its wait has had.
+-- A program: its name, its number, its node, how often it may be tried again, its top, its open nested actions, the innermost first, how
+-- many nested actions this try has begun, where it stands, the statement whose call it waits for, and how many turns its wait has had.
 pub record Client : Type 0 where
   pub name : Label
   pub number : ℕ

@@ -27,8 +27,8 @@ pub const PATIENCE: u32 = 8;
 /// The most turns of a plan.
 pub const MOST_TURNS: u32 = 20_000;
 
-/// A program: its number, from 1, its top, its nested actions that are open, the innermost last, how many nested actions
-/// this try has begun, where it stands, the statement whose call it waits for, and how many turns its wait has had.
+/// A program: its number, from 1, its top, its nested actions that are open, the innermost last, how many nested
+/// actions this try has begun, where it stands, the statement whose call it waits for, and how many turns its wait has had.
 #[derive(Drop)]
 pub struct Client<'p> {
     alloc: Global,

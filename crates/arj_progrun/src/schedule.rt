@@ -17,8 +17,8 @@ use arj_journal::{Body, Event, FrameNo, Label, Line};
 use arj_prog::Plan;
 use std::alloc::{AllocError, Global};
 
-/// How many nodes there are, the programs, the labels of the tops whose commits were called, in that order, and the state
-/// of the draws.
+/// How many nodes there are, the programs, the labels of the tops whose commits were called, in that order, and the
+/// state of the draws.
 #[derive(Drop)]
 pub struct Schedule<'p> {
     pub nodes: u8,
