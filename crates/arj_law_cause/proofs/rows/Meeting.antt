@@ -1,0 +1,229 @@
+-- A conflict that a server or naming answers is with the first row that stands against what was asked.
+use Rattle.arj_law_parts.proofs.Words
+use Words.{◌≡◌, ◌∙◌, ◌==◌, ◌&&◌, ◌||◌, ℕ, Bool, true, false, cond, filter, find, not, is_some, List, [], ◌∷◌, Option, Some, None, refl}
+use Words.{sym, ap, subst, eq-eqb, and_parts}
+use Words.{entry, object, op_mode, uid_eq, uid_same, uids_of, first_conflict, is_against, last_uid, Row, Uid, Mode, Binding, End, Entry}
+use Words.{Head, Op, Path, BoundReply, InvokedReply, actor, top_path}
+use Words.{Copy, Pair, Served, Naming, Server, at_number, at_uid, server_rows, rows_in_copy, rows_in_named, list_any, mode_code, What}
+use Words.{invoke_copy, put_number, reply, top_of, void}
+use Words.ask
+use Words.bound
+use Words.invoked
+use Words.mode
+use Words.naming
+use Words.server
+use Rattle.arj_law_serial.proofs.Terms.{rows_on}
+use Rattle.arj_law_lock_view.specs.moments.Made.{is_again, is_kept}
+use Rattle.arj_model.specs.CauseAnswers.{is_held, meets}
+use Rattle.arj_model.specs.CauseSpans.{holds_in, same_mode}
+use Rattle.arj_model.specs.Table.{table}
+use Rattle.arj_journal.specs.declared.body.Line.{Line}
+use Rattle.arj_protocol.proofs.Maps.{put_same}
+use Rattle.arj_protocol.specs.Laws.{naming_rows}
+use Rattle.arj_protocol.specs.Copy.{ask_copy}
+use Rattle.arj_protocol.specs.Named as Named
+use Rattle.arj_protocol.specs.Named.{Counted, Live, Made, bind_call, bind_made, bind_named, conflict_on, include_asked, live_above}
+use Rattle.arj_protocol.specs.Named.{live_asked, made_above, make_asked}
+use Rattle.arj_protocol.specs.Naming.{is_over, listed_entry, on_counted}
+use Rattle.arj_protocol.specs.Server.{Kept, apply_ends, changed_by, has_ended, invoke_kept, invoke_new, invoke_now, is_below, on_copy}
+use Rattle.arj_law_cause.specs.rows.Says.{entry_modes}
+
+some_is : {A : Type 0} {a b : A} → Some a ≡ Some b → a ≡ b
+some_is {A} {a} {b} is = let k : ◌≡◌ {A = Option A} (Some a) (Some b) = is in cc
+
+none_is : {A : Type 0} {x : A} → None ≡ Some x → ⊥
+none_is {A} {x} is = let no_way : ◌≡◌ {A = Option A} None (Some x) = is in cc
+
+-- what is asked meets this row, the first one against it
+pub record Meets (path : List Uid) (o : Uid) (asked : Mode) (u : Uid) (held : Mode) (rows : List Row) : Type 0 where
+  pub row : Row
+  pub found : first_conflict path o asked rows ≡ Some row
+  pub holder : last_uid (let r = row in r.holder) ≡ u
+  pub mode : (let r = row in r.mode) ≡ held
+
+-- ---- in the journal's table
+
+-- who passes a test that a wider one has is found among those that pass the wider one
+find_some : {A : Type 0} (p q : A → Bool) → ((a : A) → p a ≡ true → q a ≡ true) → (xs : List A) → find p xs ≡ find p (filter q xs)
+find_some p q wider [] = refl
+find_some p q wider (x ∷ xs) = by (p x) refl (q x) refl (find_some p q wider xs)
+  where
+    by : (b : Bool) → p x ≡ b → (c : Bool) → q x ≡ c → find p xs ≡ find p (filter q xs) →
+        cond b (Some x) (find p xs) ≡ find p (cond c (x ∷ filter q xs) (filter q xs))
+    by true is true also ih = λ i. cond (sym is i) (Some x) (find p (filter q xs))
+    by true is false other ih = let no_way : true ≡ false = sym (wider x is) ∙ other in absurd (cc no_way)
+    by false is true also ih = ih ∙ (λ i. cond (sym is i) (Some x) (find p (filter q xs)))
+    by false is false other ih = ih
+
+on_object : (path : List Uid) (o : Uid) (asked : Mode) (r : Row) → is_against path o asked r ≡ true → uid_eq r.object o ≡ true
+on_object path o asked r is = (and_parts (uid_eq r.object o) _ is).0
+
+pub meets_by : (n : ℕ) (path : List Uid) (o : Uid) (asked : Mode) (u : Uid) (held : Mode) (lines : List Line) (rows : List Row) →
+    rows_on o (table n lines) ≡ rows → Meets path o asked u held rows → meets n path o asked u held lines ≡ true
+meets_by n path o asked u held lines rows same m =
+    ap (holds_in (is_held u held)) (find_some (is_against path o asked) (λ (r : Row). uid_eq r.object o) (on_object path o asked)
+    (table n lines)
+    ∙ ap (find (is_against path o asked)) same ∙ m.found) ∙ one
+  where
+    one : is_held u held m.row ≡ true
+    one = (λ i. uid_eq (m.holder i) u && same_mode (m.mode i) held) ∙ (λ i. uid_same u i && eq-eqb (mode_code held) (mode_code held) refl i)
+
+-- ---- a server
+
+module _ (n : ℕ) (h : Head) (x : ℕ) (ends : List (Uid × End)) (o : Op) (u : Uid) (held : Mode) where
+  abbrev Answers : Served Server InvokedReply → Type 0
+  Answers r = r.reply ≡ Some (invoked.Conflict u held) → Meets (uids_of h.path) (object x) (op_mode o) u held (server_rows x r.part)
+
+  new_meets : (s : Server) → Answers (invoke_new n h x ends o s)
+  new_meets s = by (at_number x t.objects) refl
+    where
+      t : Server
+      t = (apply_ends n ends s).part
+
+      copied : (c : Copy) (f : Option Row) → first_conflict (uids_of h.path) (object x) (op_mode o) c.rows ≡ f →
+          (let r = ask_copy n h.path x o c f in r.reply ≡ Some (invoked.Conflict u held) →
+          Meets (uids_of h.path) (object x) (op_mode o) u held (rows_in_copy (at_number x (put_number x r.part t.objects))))
+      copied c None none is = let no_way : ◌≡◌ {A = InvokedReply} (invoked.Answered _) (invoked.Conflict u held) =
+          some_is is in absurd (cc no_way)
+      copied c (Some r) found is = record {
+        row = r;
+        found = ap (λ z. first_conflict (uids_of h.path) (object x) (op_mode o) (rows_in_copy z)) (put_same x c t.objects) ∙ found;
+        holder = ap holder_in (some_is is);
+        mode = ap mode_in (some_is is);
+      }
+        where
+          holder_in : InvokedReply → Uid
+          holder_in (invoked.Conflict w m) = w
+          holder_in q = u
+
+          mode_in : InvokedReply → Mode
+          mode_in (invoked.Conflict w m) = m
+          mode_in q = held
+
+      by : (f : Option Copy) → at_number x t.objects ≡ f →
+          (let r = on_copy x (invoke_copy n h.path x o) t f in r.reply ≡ Some (invoked.Conflict u held) →
+          Meets (uids_of h.path) (object x) (op_mode o) u held (server_rows x (server.keeps (actor h.path) h.req r.reply r.part)))
+      by None none is = let no_way : ◌≡◌ {A = InvokedReply} (invoked.Changed _) (invoked.Conflict u held) = some_is is in absurd (cc no_way)
+      by (Some c) at is = kept (let r = invoke_copy n h.path x o c in r.reply)
+          (copied c (first_conflict (uids_of h.path) (object x) (op_mode o) c.rows) refl is)
+        where
+          kept : (q : Option InvokedReply) → Meets (uids_of h.path) (object x) (op_mode o) u held
+              (rows_in_copy (at_number x (put_number x (let r = invoke_copy n h.path x o c in r.part) t.objects))) →
+              Meets (uids_of h.path) (object x) (op_mode o) u held (server_rows x (server.keeps (actor h.path) h.req q
+              (record t { objects = put_number x (let r = invoke_copy n h.path x o c in r.part) t.objects })))
+          kept None m = m
+          kept (Some q) m = m
+
+  pub invoke_meets : (b : Binding) (i : ℕ) (s : Server) → is_again h (ask.Invoke x b i ends o) s ≡ false →
+      Answers (server.invoke n h x b i ends o s)
+  invoke_meets b i s new = by (has_ended h.path s || is_below h.req (at_uid (actor h.path) s.kept))
+    where
+      void_none : {A : Type 0} → None ≡ Some (invoked.Conflict u held) → A
+      void_none is = absurd (none_is is)
+
+      kept : (f : Option Kept) → is_kept h.req f ≡ false → Answers (invoke_kept n h x ends o s f)
+      kept None off is = new_meets s is
+      kept (Some q) off is = one (q.req == h.req) off is
+        where
+          one : (c : Bool) → c ≡ false → Answers (cond {A = Served Server InvokedReply} c (reply s q.answer) (invoke_new n h x ends o s))
+          one true e is = absurd (cc e)
+          one false e is = new_meets s is
+
+      now : (w : Option What) → (not (is_some w) && is_kept h.req (at_uid (actor h.path) s.kept)) ≡ false →
+          Answers (invoke_now n h x ends o s w)
+      now (Some w) off is = let no_way : ◌≡◌ {A = InvokedReply} (invoked.Changed w) (invoked.Conflict u held) =
+          some_is is in absurd (cc no_way)
+      now None off is = kept (at_uid (actor h.path) s.kept) off is
+
+      by : (c : Bool) → Answers (cond {A = Served Server InvokedReply} c (void s) (invoke_now n h x ends o s (changed_by i x b s)))
+      by true is = void_none is
+      by false is = now (changed_by i x b s) new is
+
+-- ---- naming
+
+-- in one of the modes that may be asked for
+abbrev pub MeetsEntry : Path → ℕ → Bool → Uid → Mode → List Row → Type 0
+MeetsEntry p x include u held rows =
+    (w : Mode) × (((test : Mode → Bool) → test w ≡ true → list_any test (entry_modes include) ≡ true) × Meets (top_path p)
+    (entry x) w u held rows)
+
+module _ (p : Path) (x : ℕ) (u : Uid) (held : Mode) where
+  abbrev Binds : Bool → Served Counted BoundReply → Type 0
+  Binds include r = r.reply ≡ Some (bound.Conflict u held) → MeetsEntry p x include u held (let c = r.part in (let o = c.named in o.rows))
+
+  abbrev holder_in : BoundReply → Uid
+  holder_in (bound.Conflict w m) = w
+  holder_in q = u
+
+  abbrev mode_in : BoundReply → Mode
+  mode_in (bound.Conflict w m) = m
+  mode_in q = held
+
+  refused : (include : Bool) (w : Mode) → ((test : Mode → Bool) → test w ≡ true → list_any test (entry_modes include) ≡ true) →
+      (c : Counted) (r : Row) →
+      conflict_on x p w c.named ≡ Some r → Binds include (Named.refused_lock c r)
+  refused include w among c r found is =
+      (w, (among, record { row = r; found = found; holder = ap holder_in (some_is is); mode = ap mode_in (some_is is) }))
+
+  none_so : {A : Type 0} (q : BoundReply) → (holder : BoundReply → Bool) → holder q ≡ false → holder (bound.Conflict u held) ≡ true →
+      Some q ≡ Some (bound.Conflict u held) → A
+  none_so q test off on is = let no_way : false ≡ true = sym off ∙ ap test (some_is is) ∙ on in absurd (cc no_way)
+
+  abbrev is_conflict : BoundReply → Bool
+  is_conflict (bound.Conflict w m) = true
+  is_conflict q = false
+
+  first_of : (b : Bool) (test : Mode → Bool) → test mode.Write ≡ true → list_any test (entry_modes b) ≡ true
+  first_of true test is = λ i. is i || false
+  first_of false test is = by (test mode.Read) is
+    where
+      by : (c : Bool) → test mode.Write ≡ true → (c || (test mode.Write || false)) ≡ true
+      by true is = refl
+      by false is = λ i. is i || false
+
+  reads : (test : Mode → Bool) → test mode.Read ≡ true → list_any test (entry_modes false) ≡ true
+  reads test is = λ i. is i || (test mode.Write || false)
+
+  named_meets : (inc : ℕ) (include : Bool) (avoid : Binding) (e : Entry) (c : Counted) →
+      Binds include (bind_named inc x p include avoid e c)
+  named_meets inc true avoid e c = by (conflict_on x p mode.Write c.named) refl
+    where
+      by : (f : Option Row) → conflict_on x p mode.Write c.named ≡ f → Binds true (include_asked inc x p e c f)
+      by None none is = none_so _ is_conflict refl refl is
+      by (Some r) found is = refused true mode.Write (first_of true) c r found is
+  named_meets inc false avoid e c = call (live_above avoid c.named.live)
+    where
+      live : (l : Live) (f : Option Row) → conflict_on x p mode.Read c.named ≡ f → Binds false (live_asked inc x p e c l f)
+      live l None none is = none_so _ is_conflict refl refl is
+      live l (Some r) found is = refused false mode.Read reads c r found is
+
+      made : (m : Option Made) → Binds false (bind_made inc x p e c m)
+      made None is = none_so _ is_conflict refl refl is
+      made (Some m) is = none_so _ is_conflict refl refl is
+
+      make : (f : Option Row) → conflict_on x p mode.Write c.named ≡ f → Binds false (make_asked inc x p avoid e c f)
+      make None none is = made (made_above avoid (at_uid (top_of p) c.named.made)) is
+      make (Some r) found is = refused false mode.Write (first_of false) c r found is
+
+      call : (l : Option Live) → Binds false (bind_call inc x p avoid e c l)
+      call (Some l) = live l (conflict_on x p mode.Read c.named) refl
+      call None = make (conflict_on x p mode.Write c.named) refl
+
+  pub bind_meets : (include : Bool) (avoid : Binding) (d : Pair) (o : Naming) →
+      (naming.bind p x include avoid d o).reply ≡ Some (bound.Conflict u held) →
+      MeetsEntry p x include u held (naming_rows x (naming.bind p x include avoid d o).part)
+  bind_meets include avoid d o = by (is_over p o)
+    where
+      named : (f : Option Named.Named) → (let r = on_counted x (bind_named o.inc x p include avoid (listed_entry x d)) o f in
+          r.reply ≡ Some (bound.Conflict u held) → MeetsEntry p x include u held (naming_rows x r.part))
+      named None is = absurd (none_is is)
+      named (Some z) is =
+          let r = bind_named o.inc x p include avoid (listed_entry x d) (record { named = z; count = o.count }) in
+          subst (λ f. MeetsEntry p x include u held (rows_in_named f)) (sym (put_same x (let c = r.part in c.named) o.objects))
+          (named_meets o.inc include avoid (listed_entry x d) (record { named = z; count = o.count }) is)
+
+      by : (b : Bool) → (let r = cond {A = Served Naming BoundReply} b (void o)
+          (on_counted x (bind_named o.inc x p include avoid (listed_entry x d)) o (at_number x o.objects)) in
+          r.reply ≡ Some (bound.Conflict u held) → MeetsEntry p x include u held (naming_rows x r.part))
+      by true is = absurd (none_is is)
+      by false is = named (at_number x o.objects) is

@@ -1,0 +1,312 @@
+-- Whole runs, event by event: tables show locks inside of each event, so answers say what is so, and what they say stays so.
+use Rattle.arj_law_parts.proofs.Words
+use Words.{◌≡◌, ◌≤◌, ◌∙◌, ◌==◌, ◌+◌, ◌++◌, ℕ, Bool, true, false, if◌then◌else◌, List, [], ◌∷◌, length, Option, Some, None, refl, sym, ap}
+use Words.{subst, ⊤, arith, append-nil, append_assoc, map-append, Start, Body, Event, Header, Line}
+use Words.{asked_by, handle_ask, response, asks, Node, World, Arm, Move, counted, first_reason, giving, happens, is_serial, lacks_labels}
+use Words.{limited, moved, no_labels}
+use Words.{numbered, reasons, run_event, run_unless, see, Seen, all_moved, world_from, with_coord, again_all, begin_action, parent_of}
+use Words.{parts_in, restart_outs, tick_outs, acts as does, IsFormed}
+use Words.body
+use Rattle.arj_law_parts.proofs.Terms.{Asked, says}
+use Rattle.arj_law_parts.proofs.Terms.which
+use Rattle.arj_law_serial.proofs.Terms
+use Terms.{Action, memory_of, up_of}
+use Rattle.arj_law_lock_view.proofs.Terms.{same_number}
+use Rattle.arj_law_lock_view.proofs.moments.Answers.{Known, answers_step, first_made, known_wide, made_closes, made_later, made_opens}
+use Rattle.arj_law_lock_view.specs.moments.Made.{AnswersAreMade, Tells, lines_behind}
+use Rattle.arj_law_parts.proofs.moves.{Events.closes_at, Events.happened, Events.opens_at, Events.same_run, Firsts.first_stands}
+use Rattle.arj_law_parts.proofs.moves.{Happens.Wide, Happens.arms_hold, Happens.wide_steps, Together.with_both}
+use Rattle.arj_law_parts.proofs.moves.Worlds.{says_hold}
+use Rattle.arj_law_parts.specs.moves.Moments as Moments
+use Rattle.arj_law_parts.specs.moves.Moments.{History, Moment, asks_now, come, given, no_history, said}
+use Rattle.arj_law_parts.specs.moves.Seen as seen
+use Rattle.arj_law_parts.specs.moves.With.{Closes, HoldsAt, HoldsWith, KeepsSteps, UpWith, Wrote, asked_of_node, look, past_event}
+use Rattle.arj_law_parts.specs.moves.With.{past_moves, past_unless, written}
+use Rattle.arj_law_parts.specs.steps.Writes as writes
+use Rattle.arj_law_serial.proofs.holding.{Events.IsShown, Events.event_shown, Events.first_is_shown, Events.first_showing}
+use Rattle.arj_law_serial.proofs.holding.{Events.later_off, Running.Known as KnownOf, Running.Showing, Running.showing_kept}
+use Rattle.arj_model.specs.Past.{Past}
+use Rattle.arj_law_cause.proofs.rows.{Inside.Inside, Inside.inside_step, Telling.served_says, Telling.silent_front, Telling.table_then}
+use Rattle.arj_law_cause.specs.rows.{Runs.RunsMeetRows, Says.says_so}
+
+-- ---- two relations
+
+steps_both : (hd : Header) (P Q : Moment → Type 0) → KeepsSteps hd P → KeepsSteps hd Q → KeepsSteps hd (λ M. P M × Q M)
+steps_both hd P Q p q = record {
+  quiet = λ bs M plain h. (p.quiet bs M plain h.0, q.quiet bs M plain h.1);
+  junk = λ n M fit h. (p.junk n M fit h.0, q.junk n M fit h.1);
+  stop = λ k d live M h. (p.stop k d live M h.0, q.stop k d live M h.1);
+  message = λ k d t v from m outs M h there meant may is. with_both P Q k outs (UpWith P k v) (UpWith Q k v) d M
+      (p.message k d t v from m outs M h.0 there meant may is) (q.message k d t v from m outs M h.1 there meant may is);
+  act = λ k d t i M is brings fresh asks free h. let did = does i d.intents t.coord in
+      with_both P Q k did.outs (UpWith P k (with_coord t did.part)) (UpWith Q k (with_coord t did.part)) d (asks_now i t.coord M)
+      (p.act k d t i M is brings fresh asks free h.0) (q.act k d t i M is brings fresh asks free h.1);
+  begin = λ k d t l how parent M brings fresh new gives none h. let did = begin_action l how parent (parent_of parent t.coord) t.coord in
+      with_both P Q k did.outs (UpWith P k (with_coord t did.part)) (UpWith Q k (with_coord t did.part)) d
+      (given l (record { node = k; serial = is_serial how }) M) (p.begin k d t l how parent M brings fresh new gives none h.0)
+      (q.begin k d t l how parent M brings fresh new gives none h.1);
+  tick = λ k d t M h. let r = again_all t.coord.doings t.coord in
+      with_both P Q k (tick_outs (record {
+        number = k;
+        disk = d;
+        live =
+            Some t;
+      }) t) (UpWith P k (with_coord t r.part)) (UpWith Q k (with_coord t r.part)) d M
+      (p.tick k d t M h.0) (q.tick k d t M h.1);
+  restart = λ k d M event first h. with_both P Q k (restart_outs hd k (d.inc + 1) d) (UpWith P k (parts_in k (d.inc + 1) d))
+      (UpWith Q k (parts_in k (d.inc + 1) d)) d M (p.restart k d M event first h.0) (q.restart k d M event first h.1);
+}
+
+-- ---- what is known between events
+
+abbrev Base : Seen → Type 0
+Base S = (begun : List Action) × KnownOf begun S
+
+abbrev pub Core : Moment → Type 0
+Core M = (Wide Known M × Wide Base M) × AnswersAreMade says_so M
+
+-- ---- inside of an event
+
+-- so much is known, and tables show locks
+abbrev pub Tables : Header → List Line → ℕ → Moment → Type 0
+Tables hd before event M = (Wide Known M × Wide (Showing hd (length before) event) M) × Inside before event M
+
+-- and answers say what is so
+abbrev pub InEvent : Header → List Line → ℕ → Moment → Type 0
+InEvent hd before event M = Tables hd before event M × AnswersAreMade says_so M
+
+module _ (hd : Header) (before : List Line) (event : ℕ) (early : (j : ℕ) → (event == up_of j before) ≡ false) where
+  tables_step : KeepsSteps hd (Tables hd before event)
+  tables_step = steps_both hd (λ M. Wide Known M × Wide (Showing hd (length before) event) M) (Inside before event)
+      (steps_both hd (Wide Known) (Wide (Showing hd (length before) event)) (let k = known_wide hd in k.steps)
+      (wide_steps hd ⊤ (Showing hd (length before) event) (showing_kept hd (length before) event ⊤ tt))) (inside_step before event hd)
+
+  tells : Tells (Tables hd before event) says_so
+  tells k d t v from m h a r front M known there other meant asking new is =
+      let s = known.0.1 in
+      let n : Node = record { number = k; disk = d; live = Some t } in
+      let past = s.2.1.1.0.0 in
+      let q = past.nodes k n (λ i. if same_number k i then Some (record { number = k; disk = d; live = Some t }) else M.seen.nodes k) in
+      let l = q.live t refl in
+      served_says hd before event early k d t v from h r front (lines_behind M.past.number front M.seen.lines)
+      (table_then hd before event early k d t v from m front (response (asked_by h) r) M s.0 s.1 s.2 known.1 other there meant is
+      (silent_front k d t v from h a r front (sym (ap (handle_ask k d t from m) asking) ∙ is)))
+      l.place a new (sym (ap (handle_ask k d t from m) asking) ∙ is)
+
+  event_step : KeepsSteps hd (InEvent hd before event)
+  event_step = answers_step hd says_so (Tables hd before event) tables_step (λ M h. h.0.0) tells
+
+-- ---- events
+
+same_look : (g : History) (w : World) (arms : List (ℕ × Arm)) (P : Moment → Type 0) (hd : Header) → HoldsWith hd P g w →
+    HoldsWith hd P g (record w { arms = arms })
+same_look g w arms P hd h = record {
+  now = record {
+    sent = h.now.sent;
+    stands = record {
+      frames = h.now.stands.frames;
+      junk = h.now.stands.junk;
+      header = h.now.stands.header;
+      numbers = h.now.stands.numbers;
+      places = h.now.stands.places;
+      labels = h.now.stands.labels;
+    };
+    number = h.now.number;
+    wrote = h.now.wrote;
+    holds = h.now.holds;
+  };
+  count = h.count;
+  lines = h.lines;
+}
+
+-- an event writes more
+wrote_more : (g : History) (w : World) (bs : List Body) → Wrote g w → Wrote g (says bs w)
+wrote_more g w bs h = (
+  h.0 ++ bs,
+  ap (λ ls. ls ++ numbered w.event bs) h.1 ∙ append_assoc (let r = g.run in r.lines) (numbered w.event h.0) (numbered w.event bs)
+      ∙ ap (λ ls. (let r = g.run in r.lines) ++ ls) (sym (map-append (λ (b : Body). record { event = w.event; body = b }) h.0 bs)),
+)
+
+-- what holds between events
+pub record StandsSo (hd : Header) (g : History) (w : World) : Type 0 where
+  pub holds : HoldsWith hd Core g w
+  pub shown : IsShown hd w
+
+module _ (hd : Header) (g : History) (w : World) (h : StandsSo hd g w) where
+  early : (j : ℕ) → (w.event + 1 == up_of j w.lines) ≡ false
+  early j = let s = h.shown in later_off (up_of j w.lines) w.event (s.early j)
+
+  -- what tables show before the event
+  shows : (S : Seen) → S.lines ≡ w.lines → S.nodes ≡ (let z = see [] w in z.nodes) → Base S → Showing hd (length w.lines) (w.event + 1) S
+  shows S lines nodes base = (base.0, base.1, record { long = least (ap length lines); shown = λ since n off. shown_at n })
+    where
+      least : {m n : ℕ} → m ≡ n → n ≤ m
+      least is = omega (arith, is)
+
+      shown_at : (n : ℕ) → Terms.ShowsLocks n S.lines (memory_of (S.nodes n))
+      shown_at n = subst (λ ls. Terms.ShowsLocks n ls (memory_of (S.nodes n))) (sym lines)
+          (subst (λ f. Terms.ShowsLocks n w.lines (memory_of (f n)))
+          (sym nodes) (let s = h.shown in s.shown n))
+
+  -- as the event comes
+  opened_so : (e : Event) → w.over ≡ false → HoldsAt hd (InEvent hd w.lines (w.event + 1)) (come e g) (counted w)
+  opened_so e over =
+      let o = opens_at hd Core Core (λ f M first number c. (c.0, made_opens says_so f M first number c.1)) e g w over h.holds in
+      record {
+        sent = o.sent;
+        stands = o.stands;
+        number = o.number;
+        wrote = o.wrote;
+        holds = (
+          (
+            (
+              o.holds.0.0,
+              (let b = o.holds.0.1 in (
+                b.0,
+                b.1,
+                shows (seen.with_sent b.0 (let L =
+                    look (come e g) o.sent (counted w) in L.seen)) refl refl b.2,
+              )),
+            ),
+            record { number = refl; wrote = []; lines = sym (append-nil w.lines); starts = λ is j. refl },
+          ),
+          o.holds.1,
+        );
+      }
+
+  -- as it is over
+  closed_so : Closes (InEvent hd w.lines (w.event + 1)) Core
+  closed_so bodies M number lines c = (
+    (c.0.0.0, (let s = c.0.0.1 in (s.0, s.1, (s.2.0, s.2.1)))),
+    made_closes says_so bodies M number lines c.1,
+  )
+
+  labels_so : HoldsWith hd Core g (no_labels w)
+  labels_so =
+      let o = h.holds in
+      let c = o.now.holds in
+      let M = look g o.now.sent w in
+      record {
+        now = record {
+          sent = o.now.sent;
+          stands = record {
+            frames = o.now.stands.frames;
+            junk = o.now.stands.junk;
+            header = o.now.stands.header;
+            numbers = o.now.stands.numbers;
+            places = o.now.stands.places;
+            labels = o.now.stands.labels;
+          };
+          number = o.now.number;
+          wrote = wrote_more g w (body.Limit which.Labels ∷ []) o.now.wrote;
+          holds = (
+            (
+              (let k = known_wide hd in (let q = k.steps in q.quiet (body.Limit which.Labels ∷ []) M refl c.0.0)),
+              (let b = c.0.1 in
+                  let r = (let k = showing_kept hd (length w.lines) (w.event + 1) ⊤ tt in k.quiet w.event (body.Limit which.Labels ∷ [])
+                  (seen.with_sent b.0 M.seen) refl (shows (seen.with_sent b.0 M.seen) refl refl b.2)) in (b.0, b.1, (r.0, r.1))),
+            ),
+            made_later says_so M (said (body.Limit which.Labels ∷ []) M) (record {
+              more = numbered M.past.number (body.Limit which.Labels ∷ []);
+              lines = refl;
+              askings = refl;
+              sent = λ p i. i;
+              full = λ f. f;
+            }) (λ j. refl) (λ p i. i) c.1,
+          );
+        };
+        count = o.count;
+        lines = λ never. absurd (cc never);
+      }
+
+  unless_so : (e : Event) (a : Arm) (r : Option ℕ) → first_reason (reasons e w) ≡ r → w.over ≡ false →
+      HoldsWith hd Core (past_unless e w (run_unless e a w r) g r) (run_unless e a w r)
+  unless_so e a (Some c) is over =
+      closes_at hd (InEvent hd w.lines (w.event + 1)) Core closed_so (come e g) w (says (body.Refused c ∷ []) (counted w)) (let o =
+      h.holds in o.lines over) (λ i. (let o = h.holds in o.count i) + 1)
+      (says_hold hd (InEvent hd w.lines (w.event + 1)) (event_step hd w.lines (w.event + 1) early) (body.Refused c ∷ []) (come e g)
+      (counted w) refl (opened_so e over))
+  unless_so e a None is over = by (lacks_labels (giving e w) w)
+    where
+      by : (b : Bool) → HoldsWith hd Core
+          (let v = if b then no_labels w else limited (happens e a (counted w)) in
+          if b then g else (Moments.gone (written w v) (asked_of_node (writes.asks e w) w (come e g))))
+          (if b then no_labels w else limited (happens e a (counted w)))
+      by true = labels_so
+      by false =
+          let q = asked_of_node (writes.asks e w) w (come e g) in
+          let same = same_run e g w (writes.asks e w) in
+          let o = h.holds in
+          closes_at hd (InEvent hd w.lines (w.event + 1)) Core closed_so q w (limited (happens e a (counted w)))
+          (ap (λ (r : Past). r.lines) same.0 ∙ o.lines over)
+          (same.1 ∙ (λ i. o.count i + 1) ∙ (λ i. (let r = sym same.0 i in r.count) + 1))
+          (happened hd (InEvent hd w.lines (w.event + 1)) (event_step hd w.lines (w.event + 1) early) e a g w is (o.lines over)
+          (opened_so e over))
+
+  event_so : (e : Asked) → HoldsWith hd Core (past_event e w g) (run_event e w)
+  event_so e = by w.over refl
+    where
+      r : Option ℕ
+      r = first_reason (reasons e.event w)
+
+      by : (b : Bool) → w.over ≡ b → HoldsWith hd Core (if b then g else past_unless e.event w
+          (if b then w else run_unless e.event e.arm w r) g r)
+          (if b then w else run_unless e.event e.arm w r)
+      by true over = h.holds
+      by false over = unless_so e.event e.arm r refl over
+
+  pub next_so : (e : Asked) → StandsSo hd (past_event e w g) (run_event e w)
+  next_so e = record { holds = event_so e; shown = event_shown hd w h.shown e }
+
+-- ---- runs
+
+armed_so : (hd : Header) (g : History) (w : World) (arms : List (ℕ × Arm)) → StandsSo hd g w → StandsSo hd g (record w { arms = arms })
+armed_so hd g w arms h = record {
+  holds = same_look g w arms Core hd h.holds;
+  shown = (let s = h.shown in record { known = arms_hold hd Base arms w s.known; shown = s.shown; early = s.early });
+}
+
+moves_so : (hd : Header) (ms : List Move) (g : History) (w : World) → StandsSo hd g w →
+    HoldsWith hd Core (past_moves ms w g) (all_moved ms w)
+moves_so hd [] g w h = h.holds
+moves_so hd (m ∷ ms) g w h =
+    let v = record w { arms = m.falls } in
+    moves_so hd ms (past_event m.asked v g) (moved m w) (armed_so hd (past_event m.asked v g) (run_event m.asked v) []
+    (next_so hd g v (armed_so hd g w m.falls h) m.asked))
+
+first_so : (hd : Header) (st : Start) → IsFormed hd st → StandsSo hd (no_history st) (world_from hd st)
+first_so hd st formed = record {
+  holds = record {
+    now = record {
+      sent = [];
+      stands = first_stands hd st;
+      number = refl;
+      wrote = ([], refl);
+      holds = (
+        (
+          ([], (λ p i. i), (let k = known_wide hd in k.first st formed)),
+          ([], (λ p i. i), (let s = first_showing hd 0 st formed in (s.0, s.1))),
+        ),
+        first_made hd says_so st formed,
+      );
+    };
+    count = refl;
+    lines = λ over. refl;
+  };
+  shown = first_is_shown hd st formed;
+}
+
+pub runs_meet : RunsMeetRows
+runs_meet hd r =
+    let h = moves_so hd r.moves (no_history r.start) (world_from hd r.start) (first_so hd r.start r.formed) in
+    record {
+      now = record {
+        sent = h.now.sent;
+        stands = h.now.stands;
+        number = h.now.number;
+        wrote = h.now.wrote;
+        holds = h.now.holds.1;
+      };
+      count = h.count;
+      lines = h.lines;
+    }

@@ -1,0 +1,261 @@
+-- Inside of an event that restarts no node tables show locks, so whoever answers a conflict says what the journal's table has.
+use Rattle.arj_law_parts.proofs.Words
+use Words.{◌≡◌, ◌∙◌, ◌==◌, ◌++◌, ◌&&◌, ℕ, Bool, true, false, if◌then◌else◌, List, [], ◌∷◌, length, Option, Some, None, refl, sym, ap}
+use Words.{subst, ⊤, list_all, and_parts}
+use Words.{append-nil, append_assoc, map-append, option_map, is_some, eqb-true, entry, object, op_mode, uids_of, top_path, Ask, Asked}
+use Words.{Body, Head, Header, Line, Message, Uid, Op, Binding, End}
+use Words.{Reply, answers, asked_by, response, Disk, Do, Effect, Say, Send, worked, Naming, Handled, Parts, Took, Void, handle, serve}
+use Words.{served, sends_answer, if_naming}
+use Words.{with_naming, with_server, numbered, Post, Seen, InvokedReply, BoundReply, server_rows, is_meant}
+use Words.ask
+use Words.body
+use Words.bound
+use Words.invoked
+use Words.naming
+use Words.server
+use Rattle.arj_law_serial.proofs.Terms
+use Terms.{ShowsLocks, rows_on, up_of, memory_of, named_locks, Walks, Up}
+use Rattle.arj_law_lock_view.proofs.Terms.{same_number}
+use Rattle.arj_law_lock_view.proofs.moments.{Later.AreSilent, Serving.IsServed, Serving.serves}
+use Rattle.arj_law_lock_view.specs.moments.Made.{is_again, lines_behind}
+use Rattle.arj_law_parts.proofs.moves.Flat.{post}
+use Rattle.arj_law_parts.specs.moves.Moments.{Moment, is_restart, up}
+use Rattle.arj_law_parts.specs.moves.Seen.{In, Within}
+use Rattle.arj_law_parts.specs.moves.Seen as seen
+use Rattle.arj_law_runs.proofs.calls.WorldSteps.{reads_back}
+use Rattle.arj_law_serial.proofs.holding.{Lines.Since, Lines.since_all, Running.Showing, Running.showing_kept, Writes.none_starts}
+use Rattle.arj_law_serial.proofs.holding.Says.{All, says}
+use Rattle.arj_law_serial.proofs.holding.Sorts.{is_no_start}
+use Rattle.arj_model.specs.CauseAnswers.{meets}
+use Rattle.arj_model.specs.Table.{table}
+use Rattle.arj_protocol.specs.Laws.{naming_rows}
+use Rattle.arj_law_cause.proofs.rows.Inside.{Inside, handle_starts}
+use Rattle.arj_law_cause.proofs.rows.Meeting.{bind_meets, invoke_meets, meets_by}
+use Rattle.arj_law_cause.specs.rows.Says.{says_of}
+
+some_is : {A : Type 0} {a b : A} → Some a ≡ Some b → a ≡ b
+some_is {A} {a} {b} is = let k : ◌≡◌ {A = Option A} (Some a) (Some b) = is in cc
+
+none_is : {A : Type 0} {x : A} → None ≡ Some x → ⊥
+none_is {A} {x} is = let no_way : ◌≡◌ {A = Option A} None (Some x) = is in cc
+
+-- ---- what is sent last
+
+abbrev last_of : List Effect → Option Effect
+last_of [] = None
+last_of (e ∷ []) = Some e
+last_of (e ∷ f ∷ es) = last_of (f ∷ es)
+
+last_is : (es : List Effect) (e : Effect) → last_of (es ++ e ∷ []) ≡ Some e
+last_is [] e = refl
+last_is (a ∷ []) e = refl
+last_is (a ∷ b ∷ es) e = last_is (b ∷ es) e
+
+abbrev outs_in : Handled → List Effect
+outs_in (Void outs) = outs
+outs_in (Took v outs) = outs
+
+abbrev parts_in : Parts → Handled → Parts
+parts_in t (Void outs) = t
+parts_in t (Took v outs) = v
+
+abbrev reply_in : Effect → Option (Asked × Reply)
+reply_in (Send to m) = answers m
+reply_in e = None
+
+-- an answer that is sent last is the part's
+same_reply : (from : ℕ) (h : Head) (r q : Reply) (front outs : List Effect) → front ++ Send from (response (asked_by h) r) ∷ [] ≡
+    outs ++ Send from (response (asked_by h) q) ∷ [] → r ≡ q
+same_reply from h r q front outs same =
+    let one : Send from (response (asked_by h) r) ≡ Send from (response (asked_by h) q) =
+    some_is (sym (last_is front (Send from (response (asked_by h) r))) ∙ ap last_of same ∙ last_is outs
+    (Send from (response (asked_by h) q))) in
+    let two : ◌≡◌ {A = Option (Asked × Reply)} (Some (asked_by h, r)) (Some (asked_by h, q)) =
+    sym (reads_back (asked_by h) r) ∙ ap reply_in one ∙ reads_back (asked_by h) q in
+    ap (λ (z : Asked × Reply). z.1) (some_is two)
+
+-- ---- what a request is served with
+
+abbrev init_of : List Effect → List Effect
+init_of [] = []
+init_of (e ∷ []) = []
+init_of (e ∷ f ∷ es) = e ∷ init_of (f ∷ es)
+
+init_is : (es : List Effect) (e : Effect) → init_of (es ++ e ∷ []) ≡ es
+init_is [] e = refl
+init_is (a ∷ []) e = refl
+init_is (a ∷ b ∷ es) e = ap (λ xs. a ∷ xs) (init_is (b ∷ es) e)
+
+-- before its answer nothing is sent
+pub silent_front : (k : ℕ) (d : Disk) (t v : Parts) (from : ℕ) (h : Head) (a : Ask) (r : Reply) (front : List Effect) →
+    serve k d t from h a ≡ Took v (front ++ Send from (response (asked_by h) r) ∷ []) → AreSilent front
+silent_front k d t v from h a r front is =
+    let s = subst (IsServed from h a t) is (serves k d t from h a) in
+    subst AreSilent (sym (init_is s.front (Send from (response (asked_by h) s.reply))) ∙ ap init_of (sym s.are)
+    ∙ init_is front (Send from (response (asked_by h) r))) s.silent
+
+-- ---- lines behind effects
+
+abbrev said_by : List Effect → List Body
+said_by [] = []
+said_by (Say b ∷ es) = b ∷ said_by es
+said_by (Send to m ∷ es) = said_by es
+said_by (Do w ∷ es) = said_by es
+
+behind_said : (e : ℕ) (es : List Effect) (ls : List Line) → lines_behind e es ls ≡ ls ++ numbered e (said_by es)
+behind_said e [] ls = sym (append-nil ls)
+behind_said e (Say b ∷ es) ls = behind_said e es (ls ++ numbered e (b ∷ [])) ∙ append_assoc ls (numbered e (b ∷ []))
+    (numbered e (said_by es))
+behind_said e (Send to m ∷ es) ls = behind_said e es ls
+behind_said e (Do w ∷ es) ls = behind_said e es ls
+
+said_none : (j : ℕ) (es fs : List Effect) → All (is_no_start j) (es ++ fs) → list_all (is_no_start j) (said_by es) ≡ true
+said_none j [] fs all = refl
+said_none j (Say b ∷ es) fs all = let q = and_parts (is_no_start j b) (list_all (says (is_no_start j)) (es ++ fs)) all in
+    λ i. q.0 i && said_none j es fs q.1 i
+said_none j (Send to m ∷ es) fs all = said_none j es fs all
+said_none j (Do w ∷ es) fs all = said_none j es fs all
+
+-- a walk comes to where its last effect is sent
+walk_front : (P : Seen → Type 0) (e k : ℕ) (v : Parts) (front : List Effect) (to : ℕ) (m : Message) (d : Disk) (S : Seen) →
+    AreSilent front →
+    Walks P e k (front ++ Send to m ∷ []) (Up P k v) d S →
+    (c : Disk) × P (seen.up k c v (record S { lines = lines_behind e front S.lines; sent = post k to m ∷ S.sent }))
+walk_front P e k v [] to m d S silent w = (
+  d,
+  subst (λ ls. P (seen.up k d v (record S {
+    lines = ls;
+    sent =
+        post k to m ∷ S.sent;
+  }))) (append-nil S.lines) (w [] refl),
+)
+walk_front P e k v (Say b ∷ es) to m d S silent w = walk_front P e k v es to m d (seen.said e (b ∷ []) S) silent.1 w
+walk_front P e k v (Send n x ∷ es) to m d S silent w = absurd silent.0
+walk_front P e k v (Do x ∷ es) to m d S silent w = walk_front P e k v es to m (worked x d) S silent.1 w.1
+
+-- ---- tables
+
+module _ (hd : Header) (before : List Line) (event : ℕ) (early : (j : ℕ) → (event == up_of j before) ≡ false) where
+  -- what tables show, in the event behind these lines
+  abbrev pub InTable : Seen → Type 0
+  InTable = Showing hd (length before) event
+
+  -- where a request is answered, the table has the locks that the node has then
+  pub table_then : (k : ℕ) (d : Disk) (t v : Parts) (from : ℕ) (m : Message) (front : List Effect) (x : Message) (M : Moment)
+      (sent : List Post) →
+      Within M.seen.sent sent → InTable (seen.with_sent sent (let N = up k d t M in N.seen)) → Inside before event (up k d t M) →
+      is_restart M.past.event ≡ false →
+      In (post from k m) M.seen.sent → is_meant t m ≡ true → handle k d t from m ≡ Took v (front ++ Send from x ∷ []) → AreSilent front →
+      ShowsLocks k (lines_behind M.past.number front M.seen.lines) (Some v)
+  table_then k d t v from m front x M sent within shows inside other there meant is silent =
+      let steps = showing_kept hd (length before) event ⊤ tt in
+      let w = steps.message M.past.number k d t v from m (front ++ Send from x ∷ []) (seen.with_sent sent M.seen) shows
+      (within (post from k m) there) meant is in
+      let r = walk_front InTable M.past.number k v front from x d (seen.with_sent sent M.seen) silent w in
+      let s = r.1.2 in
+      subst (λ o. ShowsLocks k (lines_behind M.past.number front M.seen.lines) (memory_of o))
+      (λ i. if same_number k i then Some (record { number = k; disk = r.0; live = Some v }) else M.seen.nodes k)
+      (s.shown (subst (Since event (length before)) (sym its) (since_all event (inside.wrote ++ said_by front) before)) k
+      ((λ i. event == up_of k (its i)) ∙ (λ i. event == none_starts k event (inside.wrote ++ said_by front) none before i) ∙ early k))
+    where
+      both_none : (ws bs : List Body) → list_all (is_no_start k) ws ≡ true → list_all (is_no_start k) bs ≡ true →
+          list_all (is_no_start k) (ws ++ bs) ≡ true
+      both_none [] bs a b = b
+      both_none (w ∷ ws) bs a b = let q = and_parts (is_no_start k w)
+          (list_all (is_no_start k) ws) a in λ i. q.0 i && both_none ws bs q.1 b i
+
+      none : list_all (is_no_start k) (inside.wrote ++ said_by front) ≡ true
+      none = both_none inside.wrote (said_by front) (inside.starts other k)
+          (said_none k front (Send from x ∷ []) (handle_starts k d t v from m (front ++ Send from x ∷ []) is k))
+
+      its : lines_behind M.past.number front M.seen.lines ≡ before ++ numbered event (inside.wrote ++ said_by front)
+      its = behind_said M.past.number front M.seen.lines ∙ (λ i. inside.lines i ++ numbered (inside.number i) (said_by front))
+          ∙ append_assoc before (numbered event inside.wrote) (numbered event (said_by front))
+          ∙ ap (λ ls. before ++ ls) (sym (map-append (λ (b : Body). record { event = event; body = b }) inside.wrote (said_by front)))
+
+  -- ---- a request that is served
+
+  module _ (k : ℕ) (d : Disk) (t v : Parts) (from : ℕ) (h : Head) (r : Reply) (front : List Effect) (lines : List Line)
+      (shown : ShowsLocks k lines (Some v)) (place : is_some t.naming ≡ (k == 1)) where
+    abbrev Sent : Handled → Type 0
+    Sent a = a ≡ Took v (front ++ Send from (response (asked_by h) r) ∷ [])
+
+    -- the part's reply is what is sent
+    replied : (w : Parts) (outs : List Effect) (q : Reply) → Took w (outs ++ Send from (response (asked_by h) q) ∷ []) ≡
+        Took v (front ++ Send from (response (asked_by h) r) ∷ []) → (r ≡ q) × (w ≡ v)
+    replied w outs q same = (same_reply from h r q front outs (sym (ap outs_in same)), ap (parts_in t) same)
+
+    abbrev After : ℕ → Binding → ℕ → List (Uid × End) → Op → Parts
+    After x b i ends o = with_server t (server.invoke k h x b i ends o t.server).part
+
+    abbrev Bound : ℕ → Bool → Binding → Naming → Parts
+    Bound x include avoid o = with_naming t (naming.bind h.path x include avoid d.names o).part
+
+    invoked_says : (x : ℕ) (b : Binding) (i : ℕ) (ends : List (Uid × End)) (o : Op) →
+        is_again h (ask.Invoke x b i ends o) t.server ≡ false →
+        Sent (serve k d t from h (ask.Invoke x b i ends o)) → says_of k h (ask.Invoke x b i ends o) r lines
+    invoked_says x b i ends o new is = by (server.invoke k h x b i ends o t.server).reply refl is
+      where
+        says : (q : InvokedReply) → (server.invoke k h x b i ends o t.server).reply ≡ Some q → After x b i ends o ≡ v →
+            says_of k h (ask.Invoke x b i ends o) (Reply.Invoked q) lines
+        says (invoked.Answered a) at same = tt
+        says (invoked.Changed w) at same = tt
+        says (invoked.Conflict u m) at same = meets_by k (uids_of h.path) (object x) (op_mode o) u m lines (server_rows x (let w = After x b i ends o in w.server))
+            (shown.server x ∙ ap (λ (z : Parts). server_rows x z.server) (sym same)) (invoke_meets k h x ends o u m b i t.server new at)
+
+        by : (f : Option InvokedReply) → (server.invoke k h x b i ends o t.server).reply ≡ f →
+            Sent (sends_answer from h (After x b i ends o) (server.invoke k h x b i ends o t.server).outs (option_map Reply.Invoked f)) →
+            says_of k h (ask.Invoke x b i ends o) r lines
+        by None at e = let no_way : Void [] ≡ Took v (front ++ Send from (response (asked_by h) r) ∷ []) = e in absurd (cc no_way)
+        by (Some q) at e = let z = replied (After x b i ends o) (server.invoke k h x b i ends o t.server).outs (Reply.Invoked q) e in
+            subst (λ y. says_of k h (ask.Invoke x b i ends o) y lines) (sym z.0) (says q at z.1)
+
+    bound_says : (x : ℕ) (include : Bool) (avoid : Binding) → Sent (serve k d t from h (ask.Bind x include avoid)) →
+        says_of k h (ask.Bind x include avoid) r lines
+    bound_says x include avoid is = with_it t.naming refl is
+      where
+        named : (o : Naming) → t.naming ≡ Some o →
+            Sent (served from h (with_naming t) Reply.Bound (naming.bind h.path x include avoid d.names o)) →
+            says_of k h (ask.Bind x include avoid) r lines
+        named o there e = by (naming.bind h.path x include avoid d.names o).reply refl e
+          where
+            one : (k == 1) ≡ true
+            one = sym place ∙ ap is_some there
+
+            says : (q : BoundReply) → (naming.bind h.path x include avoid d.names o).reply ≡ Some q → Bound x include avoid o ≡ v →
+                says_of k h (ask.Bind x include avoid) (Reply.Bound q) lines
+            says (bound.Live b s i g stores) at same = tt
+            says (bound.Make b s g stores) at same = tt
+            says (bound.Write g stores) at same = tt
+            says (bound.Conflict u m) at same =
+                let z = bind_meets h.path x u m include avoid d.names o at in (
+                  eqb-true k 1 one,
+                  z.1.0 (λ w. meets 1 (top_path h.path) (entry x) w u m lines)
+                      (meets_by 1 (top_path h.path) (entry x) z.0 u m lines
+                      (naming_rows x (naming.bind h.path x include avoid d.names o).part)
+                      (subst (λ n. rows_on (entry x) (table n lines) ≡ named_locks x v.naming) (eqb-true k 1 one) (shown.naming x one)
+                      ∙ ap (λ (y : Parts). named_locks x y.naming) (sym same)) z.1.1),
+                )
+
+            by : (f : Option BoundReply) → (naming.bind h.path x include avoid d.names o).reply ≡ f →
+                Sent (sends_answer from h (Bound x include avoid o) (naming.bind h.path x include avoid d.names o).outs (option_map Reply.Bound f)) →
+                says_of k h (ask.Bind x include avoid) r lines
+            by None at e = let no_way : Void [] ≡ Took v (front ++ Send from (response (asked_by h) r) ∷ []) = e in absurd (cc no_way)
+            by (Some q) at e = let z = replied (Bound x include avoid o) (naming.bind h.path x include avoid d.names o).outs (Reply.Bound q) e in
+                subst (λ y. says_of k h (ask.Bind x include avoid) y lines) (sym z.0) (says q at z.1)
+
+        with_it : (f : Option Naming) → t.naming ≡ f →
+            Sent (if_naming (λ o. served from h (with_naming t) Reply.Bound (naming.bind h.path x include avoid d.names o)) f) →
+            says_of k h (ask.Bind x include avoid) r lines
+        with_it None there e = let no_way : Void [] ≡ Took v (front ++ Send from (response (asked_by h) r) ∷ []) = e in absurd (cc no_way)
+        with_it (Some o) there e = named o there e
+
+    pub served_says : (a : Ask) → is_again h a t.server ≡ false → Sent (serve k d t from h a) → says_of k h a r lines
+    served_says (ask.Invoke x b i ends o) new is = invoked_says x b i ends o new is
+    served_says (ask.Bind x include avoid) new is = bound_says x include avoid is
+    served_says (ask.Load x) new is = tt
+    served_says (ask.Activate b st) new is = tt
+    served_says (ask.Record x b i g) new is = tt
+    served_says (ask.Vote i ties ends) new is = tt
+    served_says (ask.Prepare states) new is = tt
+    served_says (ask.Confirm grants excluded included) new is = tt

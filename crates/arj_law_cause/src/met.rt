@@ -1,0 +1,13 @@
+// What conflicts meet.
+ghost use Rattle.arj_law_cause.specs.rows.Runs.{RunsMeetRows};
+ghost use Rattle.arj_law_cause.specs.rows.Says.{says_so};
+ghost use Rattle.arj_law_lock_view.specs.moments.Runs.{AnswersAreTakenInSpan};
+
+/// In every run, wherever disks stop, with all crashes and restarts, each answer that was sent was made at a place of the
+/// journal, and there a conflict is with a row of the journal's table: at a server the call meets it, at naming its top does,
+/// on the object's entry, in a mode that may be asked for; of this holder in this mode, and as the first one that stands
+/// against what was asked. And who takes one takes it in the span of what was asked. It does nothing when it runs.
+pub fn conflicts_are_met()
+    ensures runs { RunsMeetRows }
+    ensures span { AnswersAreTakenInSpan says_so }
+{}
