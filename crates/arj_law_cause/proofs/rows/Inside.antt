@@ -10,15 +10,14 @@ use Words.{tolds_again_own, all_both, holders, query_about, tolds_again, Post, f
 use Words.body
 use Words.frame
 use Words.input
+use Rattle.arj_law_lock_view.proofs.Terms.{never}
 use Rattle.arj_law_parts.proofs.moves.Flat.{post}
 use Rattle.arj_law_parts.specs.moves.Moments.{Moment, asks_now, at, fits, framed_if, given, is_restart, posted, said, sent, up}
 use Rattle.arj_law_parts.specs.moves.Seen.{is_quiet_line}
 use Rattle.arj_law_parts.specs.moves.With.{ArePlain, KeepsSteps, UpWith, WalksWith, is_plain_line}
 use Rattle.arj_law_serial.proofs.holding.Says.{All, handle_says, kind_says, outs_of, says}
 use Rattle.arj_law_serial.proofs.holding.Sorts.{by_kind, is_no_start}
-
-never : {A : Type 0} {b : Bool} → b ≡ true → b ≡ false → A
-never holds fails = let no_way : true ≡ false = sym holds ∙ fails in absurd (cc no_way)
+use Rattle.std.proofs.lemmas.List.Folds.{list_all-append}
 
 -- ---- lines by which no node starts
 
@@ -88,17 +87,12 @@ module _ (before : List Line) (event : ℕ) where
   more M ws bs number lines = (λ i. lines i ++ numbered (number i) bs) ∙ append_assoc before (numbered event ws) (numbered event bs)
       ∙ ap (λ ls. before ++ ls) (sym (map-append (λ (b : Body). record { event = event; body = b }) ws bs))
 
-  both_none : (ws bs : List Body) → NoStarts ws → NoStarts bs → NoStarts (ws ++ bs)
-  both_none [] bs a b j = b j
-  both_none (w ∷ ws) bs a b j = let q = and_parts (is_no_start j w) (list_all (is_no_start j) ws) (a j) in
-      λ i. q.0 i && both_none ws bs (λ n. (and_parts (is_no_start n w) (list_all (is_no_start n) ws) (a n)).1) b j i
-
   pub said_inside : (bs : List Body) (M : Moment) → (is_restart M.past.event ≡ false → NoStarts bs) → Inside M → Inside (said bs M)
   said_inside bs M none h = record {
     number = h.number;
     wrote = h.wrote ++ bs;
     lines = more M h.wrote bs h.number h.lines;
-    starts = λ is. both_none h.wrote bs (h.starts is) (none is);
+    starts = λ is. λ j. list_all-append (is_no_start j) h.wrote bs ∙ (λ i. h.starts is j i && none is j i);
   }
 
   same_inside : (M N : Moment) → N.past.number ≡ M.past.number → N.past.event ≡ M.past.event → N.seen.lines ≡ M.seen.lines → Inside M →

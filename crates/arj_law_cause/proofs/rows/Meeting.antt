@@ -12,6 +12,7 @@ use Words.invoked
 use Words.mode
 use Words.naming
 use Words.server
+use Rattle.arj_law_lock_view.proofs.{Terms.some_is, moments.Later.none_is}
 use Rattle.arj_law_serial.proofs.Terms.{rows_on}
 use Rattle.arj_law_lock_view.specs.moments.Made.{is_again, is_kept}
 use Rattle.arj_model.specs.CauseAnswers.{is_held, meets}
@@ -27,12 +28,6 @@ use Rattle.arj_protocol.specs.Named.{live_asked, made_above, make_asked}
 use Rattle.arj_protocol.specs.Naming.{is_over, listed_entry, on_counted}
 use Rattle.arj_protocol.specs.Server.{Kept, apply_ends, changed_by, has_ended, invoke_kept, invoke_new, invoke_now, is_below, on_copy}
 use Rattle.arj_law_cause.specs.rows.Says.{entry_modes}
-
-some_is : {A : Type 0} {a b : A} → Some a ≡ Some b → a ≡ b
-some_is {A} {a} {b} is = let k : ◌≡◌ {A = Option A} (Some a) (Some b) = is in cc
-
-none_is : {A : Type 0} {x : A} → None ≡ Some x → ⊥
-none_is {A} {x} is = let no_way : ◌≡◌ {A = Option A} None (Some x) = is in cc
 
 -- what is asked meets this row, the first one against it
 pub record Meets (path : List Uid) (o : Uid) (asked : Mode) (u : Uid) (held : Mode) (rows : List Row) : Type 0 where

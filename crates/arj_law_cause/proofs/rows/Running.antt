@@ -2,7 +2,7 @@
 use Rattle.arj_law_parts.proofs.Words
 use Words.{◌≡◌, ◌≤◌, ◌∙◌, ◌==◌, ◌+◌, ◌++◌, ℕ, Bool, true, false, if◌then◌else◌, List, [], ◌∷◌, length, Option, Some, None, refl, sym, ap}
 use Words.{subst, ⊤, arith, append-nil, append_assoc, map-append, Start, Body, Event, Header, Line}
-use Words.{asked_by, handle_ask, response, asks, Node, World, Arm, Move, counted, first_reason, giving, happens, is_serial, lacks_labels}
+use Words.{asked_by, handle_ask, response, Node, World, Arm, Move, counted, first_reason, giving, happens, is_serial, lacks_labels}
 use Words.{limited, moved, no_labels}
 use Words.{numbered, reasons, run_event, run_unless, see, Seen, all_moved, world_from, with_coord, again_all, begin_action, parent_of}
 use Words.{parts_in, restart_outs, tick_outs, acts as does, IsFormed}

@@ -8,14 +8,13 @@ use Words.{Reply, answers, asked_by, response, Disk, Do, Effect, Say, Send, work
 use Words.{served, sends_answer, if_naming}
 use Words.{with_naming, with_server, numbered, Post, Seen, InvokedReply, BoundReply, server_rows, is_meant}
 use Words.ask
-use Words.body
 use Words.bound
 use Words.invoked
 use Words.naming
 use Words.server
 use Rattle.arj_law_serial.proofs.Terms
 use Terms.{ShowsLocks, rows_on, up_of, memory_of, named_locks, Walks, Up}
-use Rattle.arj_law_lock_view.proofs.Terms.{same_number}
+use Rattle.arj_law_lock_view.proofs.Terms.{same_number, some_is}
 use Rattle.arj_law_lock_view.proofs.moments.{Later.AreSilent, Serving.IsServed, Serving.serves}
 use Rattle.arj_law_lock_view.specs.moments.Made.{is_again, lines_behind}
 use Rattle.arj_law_parts.proofs.moves.Flat.{post}
@@ -32,12 +31,7 @@ use Rattle.arj_protocol.specs.Laws.{naming_rows}
 use Rattle.arj_law_cause.proofs.rows.Inside.{Inside, handle_starts}
 use Rattle.arj_law_cause.proofs.rows.Meeting.{bind_meets, invoke_meets, meets_by}
 use Rattle.arj_law_cause.specs.rows.Says.{says_of}
-
-some_is : {A : Type 0} {a b : A} → Some a ≡ Some b → a ≡ b
-some_is {A} {a} {b} is = let k : ◌≡◌ {A = Option A} (Some a) (Some b) = is in cc
-
-none_is : {A : Type 0} {x : A} → None ≡ Some x → ⊥
-none_is {A} {x} is = let no_way : ◌≡◌ {A = Option A} None (Some x) = is in cc
+use Rattle.std.proofs.lemmas.List.Folds.{list_all-append}
 
 -- ---- what is sent last
 
@@ -55,9 +49,9 @@ abbrev outs_in : Handled → List Effect
 outs_in (Void outs) = outs
 outs_in (Took v outs) = outs
 
-abbrev parts_in : Parts → Handled → Parts
-parts_in t (Void outs) = t
-parts_in t (Took v outs) = v
+abbrev parts_of : Parts → Handled → Parts
+parts_of t (Void outs) = t
+parts_of t (Took v outs) = v
 
 abbrev reply_in : Effect → Option (Asked × Reply)
 reply_in (Send to m) = answers m
@@ -158,15 +152,9 @@ module _ (hd : Header) (before : List Line) (event : ℕ) (early : (j : ℕ) →
       (s.shown (subst (Since event (length before)) (sym its) (since_all event (inside.wrote ++ said_by front) before)) k
       ((λ i. event == up_of k (its i)) ∙ (λ i. event == none_starts k event (inside.wrote ++ said_by front) none before i) ∙ early k))
     where
-      both_none : (ws bs : List Body) → list_all (is_no_start k) ws ≡ true → list_all (is_no_start k) bs ≡ true →
-          list_all (is_no_start k) (ws ++ bs) ≡ true
-      both_none [] bs a b = b
-      both_none (w ∷ ws) bs a b = let q = and_parts (is_no_start k w)
-          (list_all (is_no_start k) ws) a in λ i. q.0 i && both_none ws bs q.1 b i
-
       none : list_all (is_no_start k) (inside.wrote ++ said_by front) ≡ true
-      none = both_none inside.wrote (said_by front) (inside.starts other k)
-          (said_none k front (Send from x ∷ []) (handle_starts k d t v from m (front ++ Send from x ∷ []) is k))
+      none = list_all-append (is_no_start k) inside.wrote (said_by front) ∙ (λ i. inside.starts other k i && said_none k front
+          (Send from x ∷ []) (handle_starts k d t v from m (front ++ Send from x ∷ []) is k) i)
 
       its : lines_behind M.past.number front M.seen.lines ≡ before ++ numbered event (inside.wrote ++ said_by front)
       its = behind_said M.past.number front M.seen.lines ∙ (λ i. inside.lines i ++ numbered (inside.number i) (said_by front))
@@ -183,7 +171,7 @@ module _ (hd : Header) (before : List Line) (event : ℕ) (early : (j : ℕ) →
     -- the part's reply is what is sent
     replied : (w : Parts) (outs : List Effect) (q : Reply) → Took w (outs ++ Send from (response (asked_by h) q) ∷ []) ≡
         Took v (front ++ Send from (response (asked_by h) r) ∷ []) → (r ≡ q) × (w ≡ v)
-    replied w outs q same = (same_reply from h r q front outs (sym (ap outs_in same)), ap (parts_in t) same)
+    replied w outs q same = (same_reply from h r q front outs (sym (ap outs_in same)), ap (parts_of t) same)
 
     abbrev After : ℕ → Binding → ℕ → List (Uid × End) → Op → Parts
     After x b i ends o = with_server t (server.invoke k h x b i ends o t.server).part

@@ -10,7 +10,7 @@ use Rattle.arj_protocol.specs.Words.ask
 use Rattle.arj_protocol.specs.Words.bound
 use Rattle.arj_protocol.specs.Words.invoked
 use Rattle.arj_protocol.specs.Words.mode
-use Rattle.arj_law_lock_view.specs.moments.Made.{Answer, Saying}
+use Rattle.arj_law_lock_view.specs.moments.Made.{Saying}
 
 -- the modes that a call, or an include, may ask for on an entry
 abbrev pub entry_modes : Bool → List Mode
