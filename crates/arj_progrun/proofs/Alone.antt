@@ -6,7 +6,7 @@ use Rattle.std.specs.Str.{bytes_eq}
 use Rattle.arj_class.specs.Table.{answer_of}
 use Rattle.arj_model.specs.Serial.{Values}
 use Rattle.arj_prog.specs.Listing.{Listing, End, Do, Print, If, Block, Fail, joined}
-use Rattle.arj_progrun.specs.Meaning.{Failed, Gave, Made, Outcome, eval, followed, made, same_answer, values_behind, with_call, with_calls}
+use Rattle.arj_prog.specs.Meaning.{Failed, Gave, Made, Outcome, eval, followed, made, same_answer, values_behind, with_call, with_calls}
 use Rattle.arj_prog.specs.declared.statements.Statement.{Statement}
 use Rattle.arj_prog.specs.declared.statements.Statement.TheVariants as statement
 use Rattle.arj_progrun.specs.Alone.{Answered, Means, Reaches, after_all, made_from}

@@ -3,7 +3,7 @@ use Rattle.std.specs.Prelude.{◌≡◌, List, [], ◌∷◌, ⊤}
 use Rattle.arj_class.specs.Table.{answer_of}
 use Rattle.arj_model.specs.Serial.{Values}
 use Rattle.arj_prog.specs.Listing.{Listing}
-use Rattle.arj_progrun.specs.Meaning.{Gave, Made, eval, made, values_behind, with_calls}
+use Rattle.arj_prog.specs.Meaning.{Gave, Made, eval, made, values_behind, with_calls}
 use Rattle.arj_progrun.specs.Client.{Client, Said}
 use Rattle.arj_progrun.specs.declared.phase.Phase.TheVariants as phase
 use Rattle.arj_text.specs.Words.{answer_text}

@@ -3,5 +3,4 @@ pub mod Client
 pub mod Events
 pub mod Kept
 pub mod Levels
-pub mod Meaning
 pub mod Schedule
