@@ -1,6 +1,7 @@
 pub mod Alone
 pub mod Asking
 pub mod Counts
+pub mod Driven
 pub mod Hearing
 pub mod Keeping
 pub mod Passing

@@ -14,8 +14,10 @@ mod laws;
 mod level;
 mod phase;
 mod report;
+mod run;
 mod schedule;
 
 pub use laws::programs_mean_their_calls;
 pub use report::{Report, ReportLine};
+pub use run::drive;
 pub use schedule::{Given, Schedule};
