@@ -12,7 +12,7 @@ returns-in_ok-push c =
     (ap rest_of c.in_ok-push.ensures.items ∙ pushed c.args.self.now.rest.items c.as_slice.result
     ∙ ap (λ l. joined l (rest_of c.args.self.now.rest.items))
     (c.as_slice.ensures ∙ first_branch c.args.statement.now c.args.answer.now c.in-If.x c.in-If.op c.in-If.wanted
-            c.in-If.then c.in-If.other c.in-If.is (sym c.in_ok-is_answer.ensures ∙ c.if-branch.true)))
+    c.in-If.then c.in-If.other c.in-If.is (sym c.in_ok-is_answer.ensures ∙ c.if-branch.true)))
 
 pub returns-in_ok-push-2 : goal.returns-in_ok-push-2
 returns-in_ok-push-2 c =

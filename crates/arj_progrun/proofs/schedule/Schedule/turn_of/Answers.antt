@@ -11,4 +11,4 @@ returns-clause-gives c =
 pub returns-clause-within : goal.returns-clause-within
 returns-clause-within c =
     counts_one c.args.turn c.args.at c.in_ok-event.event c.args.self.now.clients.items c.ask_at.new.clients.items
-        c.in_ok-event.ensures.asks c.requires.within.0
+    c.in_ok-event.ensures.asks c.requires.within.0
