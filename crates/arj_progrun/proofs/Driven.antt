@@ -70,7 +70,8 @@ event_given s plan t g by old new was mid going d turn n = record {
 }
 
 -- a turn whose event was stepped
-pub turn_stepped : {S T E : Type 0} (s : stepper.Ghosts S) (r : Result T E) (t : ℕ) (e : Event) (by : Option ℕ) (old new : S) (was mid now : Standing) (nodes : ℕ) →
+pub turn_stepped : {S T E : Type 0} (s : stepper.Ghosts S) (r : Result T E) (t : ℕ) (e : Event) (by : Option ℕ) (old new : S)
+    (was mid now : Standing) (nodes : ℕ) →
     gave (written e []) by mid ≡ turn_at nodes t was →
     OnOk r ((lines : List Line) × Stepped s (written e lines) old new × (now ≡ lines_heard by lines mid)) →
     OnOk r ((plan : Plan) → nodes_of plan ≡ nodes → are_over was ≡ false → IsDriven s plan t old was → IsDriven s plan (t + 1) new now)
@@ -82,7 +83,8 @@ turn_stepped s r t e by old new was mid now nodes turn stepped =
     stepped
 
 -- the quiesce behind the last turn
-pub quiesced : {S : Type 0} (s : stepper.Ghosts S) (plan : Plan) (lines : List Line) (old new : S) (before : Standing) (told : List ReportLine) →
+pub quiesced : {S : Type 0} (s : stepper.Ghosts S) (plan : Plan) (lines : List Line) (old new : S) (before : Standing)
+    (told : List ReportLine) →
     IsEnded s plan old before → Stepped s (written event.Quiesce lines) old new → told ≡ report_of (lines_heard None lines before) →
     Drives s plan new told
 quiesced s plan lines old new before told ended n is =

@@ -1,9 +1,9 @@
 //! Client programs under a seeded schedule: which events they give by what the nodes answer, and what is told of them.
 //!
-//! It stands on `arj_prog`, which has the programs. What it gives upward: `Schedule`, whose calls are the turns of
-//! `specs/Schedule.antt` over programs as `specs/Client.antt` has them, and the law
-//! `programs_mean_their_calls`: whatever the nodes answer, the calls of a program that committed are those that its
-//! statements make alone (`specs/Alone.antt`).
+//! It stands on `arj_prog`, which has the programs. What it gives upward: `drive`, which gives a stepper exactly the
+//! events of `specs/Schedule.antt` over programs as `specs/Client.antt` has them (`specs/Driving.antt`); `Schedule`,
+//! whose calls are its turns; and the law `programs_mean_their_calls`: whatever the nodes answer, the calls of a
+//! program that committed are those that its statements make alone (`specs/Alone.antt`).
 #![tactic(auto)]
 
 mod client;

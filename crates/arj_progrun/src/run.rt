@@ -88,8 +88,8 @@ fn all_turns<S: Stepper>(
 }
 
 /// Runs the programs of a plan by its schedule, and tells what became of them. The stepper has stepped no event.
-/// Limit: an event met this limit, and the stepper's journal says so last. Memory: memory is wanting, the stepper's or the
-/// call's own.
+/// Limit: an event met this limit, and the stepper's journal says so last. Memory: memory is wanting, the stepper's or
+/// the call's own.
 #[tactic(auto, using(crate::proofs::Driven::begins, crate::proofs::Driven::quiesced))]
 pub fn drive<S: Stepper>(alloc: Global, plan: &Plan, stepper: &mut S) -> Result<Report, StepFault>
     requires fresh { HasStepped S.Stepper [] stepper.old }
