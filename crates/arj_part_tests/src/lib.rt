@@ -1,8 +1,8 @@
-//! Tests of the parts that nodes are made of: messages, and stores, records and beginnings over disks that write down their
-//! calls.
+//! Tests of the parts that nodes are made of: messages, and stores, records and beginnings over disks that write down
+//! their calls.
 //!
-//! It stands on `arj_msg`, `arj_store`, `arj_intent`, `arj_recover` and `arj_disk`, which it knows by their contracts. It has tests, and
-//! the recording disk, which the tests of crates above use too.
+//! It stands on `arj_msg`, `arj_store`, `arj_segment`, `arj_intent`, `arj_recover` and `arj_disk`, which it knows by their
+//! contracts. It has tests, and the recording disk, which the tests of crates above use too.
 #![tactic(auto)]
 
 #[cfg(test)]
@@ -12,6 +12,8 @@ mod messages;
 mod recorder;
 #[cfg(test)]
 mod records;
+#[cfg(test)]
+mod segments;
 #[cfg(test)]
 mod stores;
 #[cfg(test)]

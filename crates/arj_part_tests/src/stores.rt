@@ -1,30 +1,29 @@
-// The store over disks that write down their calls and stop at one of them.
-ghost use Rattle.std.specs.Prelude.{◌≡◌, ◌⊎◌, ◌+◌, ◌<◌, ◌≤◌, None, Some, true, map, length, Contains, IfOk, OnOk};
+// Both object stores over disks that write down their calls and stop at one of them.
+ghost use Rattle.std.specs.Prelude.{◌≡◌, ◌+◌, ◌<◌, ◌≤◌, None, Some, map, length, Contains, IfOk, OnOk};
 ghost use Rattle.std.specs.List.{AllByRecursion};
 ghost use Rattle.arj_base.specs.State.{state_bytes};
-ghost use Rattle.arj_disk.specs.Formed.{AtMost};
-ghost use Rattle.arj_store.specs.Formed.{FormedFor, IsKnown};
-ghost use Rattle.arj_disk.specs.Says.{role_of, slot_role};
+ghost use Rattle.arj_disk.specs.Says.{slot_role};
 ghost use Rattle.arj_disk.specs.declared.slot.Slot.{Slot};
 ghost use Rattle.arj_base.specs.declared.limits.TheConstants.{MOST_BYTES};
-ghost use Rattle.arj_disk.specs.declared.limits.TheConstants.{MOST_KNOWN};
-ghost use Rattle.arj_store.specs.Kept.{role_kept, StoreKeeps};
+ghost use Rattle.arj_base.specs.declared.uid.Uid.{Uid};
+ghost use Rattle.arj_part_tests.specs.Known.{KnowsOurs, ours, uid_for};
 ghost use Rattle.arj_store.specs.Pair.{AreDistinct, uid_of};
 
 use crate::recorder::{Did, Recorder};
+use crate::segments::SEGMENTS;
 use crate::tables::{
-    Answers, CALLS, CASES, COMMITTED_ONE, COMMITTED_TWO, Call, Case, Content, FINDINGS, FIRST,
-    Files, Finding, Last, Left, NOBODY, Seen, TORN, Told, WRITE_TMP,
+    Answers, Asked, Call, Case, Content, FIRST, Files, Finding, Last, Left, NOBODY, SHADOWS, Seen,
+    TORN, Tables, Told,
 };
 use arj_base::{Bytes, Class, ObjectState, States, Uid, entry_uid, object_uid};
 use arj_disk::{Disk, DiskFault, MemDisk, Outcome, Role, Slot};
-use arj_store::{Found, ObjectStore, Read, ShadowStore, StoreFault};
+use arj_segment::SegmentStore;
+use arj_store::{Found, ObjectStore, Read, ShadowStore, StoreFault, known_objects};
 use std::alloc::{AllocError, Global};
 use std::test::Fail;
 
 fn uid(role: Role, x: u16) -> Uid
-    ensures own { role_of result ≡ role }
-    ensures num { result.num ≡ x }
+    ensures { result ≡ uid_for role x }
 {
     match role {
         Role::Store => object_uid(x),
@@ -61,8 +60,7 @@ fn state(
     writer: Uid,
     value: u8,
 ) -> Result<ObjectState, AllocError>
-    ensures own { IfOk result (λ s. role_of s.uid ≡ role) }
-    ensures num { IfOk result (λ s. s.uid.num ≡ x) }
+    ensures uid { IfOk result (λ s. s.uid ≡ uid_for role x) }
     ensures size { IfOk result (λ s. length (state_bytes s) ≤ MOST_BYTES) }
 {
     Ok(ObjectState {
@@ -83,6 +81,7 @@ fn states(
     values: [Option<u8>; 2],
 ) -> Result<States, AllocError>
     ensures distinct { IfOk result (AreDistinct role) }
+    ensures ours { IfOk result (λ states. (u : Uid) → Contains (map uid_of states) u → Contains (ours role) u) }
     ensures count { IfOk result (λ states. length states ≤ 2) }
     ensures sizes { IfOk result (AllByRecursion (λ s. length (state_bytes s) ≤ MOST_BYTES)) }
 {
@@ -103,21 +102,6 @@ fn states(
             Ok(states)
         }
     }
-}
-
-// Whether the disk has so few files that two states more are not too many.
-fn fit(alloc: Global, disk: &mut MemDisk, role: Role, states: &States) -> Result<bool, DiskFault>
-    requires formed { FormedFor (⟦<MemDisk as Disk>⟧.file disk.old) role }
-    requires count { length states.now ≤ 2 }
-    ensures few { IfOk result (λ fit. fit ≡ true → AtMost MOST_KNOWN (λ u. IsKnown (⟦<MemDisk as Disk>⟧.file disk.old) role u ⊎ Contains (map uid_of states.now) u)) }
-    ensures files { ⟦<MemDisk as Disk>⟧.file disk.new ≡ ⟦<MemDisk as Disk>⟧.file disk.old }
-    ensures arms { ⟦<MemDisk as Disk>⟧.arms disk.new ≡ ⟦<MemDisk as Disk>⟧.arms disk.old }
-{
-    let names = disk.names(alloc)?;
-    if names.as_slice().len() > 1000 {
-        return Ok(false);
-    }
-    Ok(true)
 }
 
 fn seen_of(state: &ObjectState) -> Seen {
@@ -154,14 +138,14 @@ fn begin(disk: &mut Recorder, stop: Option<(u32, Outcome)>)
     }
 }
 
-fn read(
+fn read<S: ObjectStore>(
     alloc: Global,
     disk: &mut Recorder,
-    store: &ShadowStore,
+    store: &S,
     uid: Uid,
 ) -> Result<Told, StoreFault>
-    requires keeps { StoreKeeps store.now (⟦<Recorder as Disk>⟧.file disk.old) }
-    requires formed { FormedFor (⟦<Recorder as Disk>⟧.file disk.old) (role_kept store.now) }
+    requires keeps { S.keeps store.now (⟦<Recorder as Disk>⟧.file disk.old) }
+    requires formed { S.formed (⟦<Recorder as Disk>⟧.file disk.old) (S.own_role store.now) }
     ensures files { ⟦<Recorder as Disk>⟧.file disk.new ≡ ⟦<Recorder as Disk>⟧.file disk.old }
     ensures arms { ⟦<Recorder as Disk>⟧.arms disk.new ≡ ⟦<Recorder as Disk>⟧.arms disk.old }
 {
@@ -169,24 +153,27 @@ fn read(
 }
 
 // One call over a disk that stops so.
-fn ask(
+fn ask<S: ObjectStore>(
     alloc: Global,
     disk: &mut Recorder,
-    store: &mut ShadowStore,
+    store: &mut S,
     role: Role,
     call: Call,
     stop: Option<(u32, Outcome)>,
 ) -> Result<Told, StoreFault>
-    requires role { role_kept store.old ≡ role }
-    requires keeps { StoreKeeps store.old (⟦<Recorder as Disk>⟧.file disk.old) }
-    requires formed { FormedFor (⟦<Recorder as Disk>⟧.file disk.old) role }
+    requires role { S.own_role store.old ≡ role }
+    requires keeps { S.keeps store.old (⟦<Recorder as Disk>⟧.file disk.old) }
+    requires formed { S.formed (⟦<Recorder as Disk>⟧.file disk.old) role }
+    requires known { KnowsOurs role (S.pair (⟦<Recorder as Disk>⟧.file disk.old) role) }
     requires arms { ⟦<Recorder as Disk>⟧.arms disk.old < 9 }
-    ensures role { role_kept store.new ≡ role }
-    ensures keeps { OnOk result (StoreKeeps store.new (⟦<Recorder as Disk>⟧.file disk.new)) }
-    ensures formed { FormedFor (⟦<Recorder as Disk>⟧.file disk.new) role }
+    ensures role { S.own_role store.new ≡ role }
+    ensures keeps { OnOk result (S.keeps store.new (⟦<Recorder as Disk>⟧.file disk.new)) }
+    ensures formed { S.formed (⟦<Recorder as Disk>⟧.file disk.new) role }
+    ensures known { KnowsOurs role (S.pair (⟦<Recorder as Disk>⟧.file disk.new) role) }
     ensures arms { ⟦<Recorder as Disk>⟧.arms disk.new ≤ ⟦<Recorder as Disk>⟧.arms disk.old + 1 }
     ensures none { stop ≡ None → ⟦<Recorder as Disk>⟧.arms disk.new ≡ ⟦<Recorder as Disk>⟧.arms disk.old }
 {
+    known_objects();
     match call {
         Call::Read(x) => {
             begin(disk, stop);
@@ -194,9 +181,6 @@ fn ask(
         }
         Call::Prepare(act, one, two) => {
             let states = states(alloc, role, 1, act, [one, two])?;
-            if !fit(alloc, &mut disk.disk, role, &states)? {
-                return Err(StoreFault::Memory);
-            }
             begin(disk, stop);
             Ok(Told::Prep(store.prepare(disk, act, &states)?))
         }
@@ -221,7 +205,7 @@ fn other(role: Role) -> Role
 }
 
 // Files of the other role and of none. No call of the role's store touches them, whatever they have.
-fn others(role: Role) -> [(Slot, Content); 4]
+fn others(role: Role) -> [(Slot, Content); 6]
     ensures { AllByRecursion (λ p. slot_role p.0 ≡ Some role → ⊥) result }
 {
     let of = other(role);
@@ -230,6 +214,8 @@ fn others(role: Role) -> [(Slot, Content); 4]
         (Slot::Committed(uid(of, 1)), b"second".as_slice()),
         (Slot::Shadow(uid(of, 1)), b"third".as_slice()),
         (Slot::Prepared(of, FIRST), b"fourth".as_slice()),
+        (Slot::Pending(of, FIRST), b"fifth".as_slice()),
+        (Slot::Segment(of, 1), b"sixth".as_slice()),
     ]
 }
 
@@ -245,14 +231,15 @@ fn beside(disk: &mut Recorder, role: Role) -> Result<(), DiskFault>
 }
 
 // A disk with files of the other role, and on it a store with objects 1 and 2 as far as there are values.
-fn start(
+fn start<S: ObjectStore + Drop>(
     alloc: Global,
     role: Role,
     values: [Option<u8>; 2],
-) -> Result<(Recorder, ShadowStore), StoreFault>
-    ensures role { IfOk result (λ made. role_kept made.1 ≡ role) }
-    ensures keeps { IfOk result (λ made. StoreKeeps made.1 (⟦<Recorder as Disk>⟧.file made.0)) }
-    ensures formed { IfOk result (λ made. FormedFor (⟦<Recorder as Disk>⟧.file made.0) role) }
+) -> Result<(Recorder, S), StoreFault>
+    ensures role { IfOk result (λ made. S.own_role made.1 ≡ role) }
+    ensures keeps { IfOk result (λ made. S.keeps made.1 (⟦<Recorder as Disk>⟧.file made.0)) }
+    ensures formed { IfOk result (λ made. S.formed (⟦<Recorder as Disk>⟧.file made.0) role) }
+    ensures known { IfOk result (λ made. KnowsOurs role (S.pair (⟦<Recorder as Disk>⟧.file made.0) role)) }
     ensures arms { IfOk result (λ made. ⟦<Recorder as Disk>⟧.arms made.0 ≡ 0) }
 {
     let mut disk = Recorder {
@@ -261,28 +248,31 @@ fn start(
     };
     beside(&mut disk, role)?;
     let states = states(alloc, role, 0, NOBODY, values)?;
-    let store = ShadowStore::format(alloc, &mut disk, role, &states)?;
+    let store = S::format(alloc, &mut disk, role, &states)?;
     Ok((disk, store))
 }
 
 // The store, or the one that the disk has.
-fn again(
+fn again<S: ObjectStore + Drop>(
     alloc: Global,
     disk: &mut Recorder,
-    store: ShadowStore,
+    store: S,
     role: Role,
     recovers: bool,
-) -> Result<ShadowStore, StoreFault>
-    requires role { role_kept store ≡ role }
-    requires keeps { StoreKeeps store (⟦<Recorder as Disk>⟧.file disk.old) }
-    requires formed { FormedFor (⟦<Recorder as Disk>⟧.file disk.old) role }
-    ensures role { IfOk result (λ store. role_kept store ≡ role) }
-    ensures keeps { IfOk result (λ store. StoreKeeps store (⟦<Recorder as Disk>⟧.file disk.new)) }
-    ensures formed { FormedFor (⟦<Recorder as Disk>⟧.file disk.new) role }
+) -> Result<S, StoreFault>
+    requires role { S.own_role store ≡ role }
+    requires keeps { S.keeps store (⟦<Recorder as Disk>⟧.file disk.old) }
+    requires formed { S.formed (⟦<Recorder as Disk>⟧.file disk.old) role }
+    requires known { KnowsOurs role (S.pair (⟦<Recorder as Disk>⟧.file disk.old) role) }
+    ensures role { IfOk result (λ store. S.own_role store ≡ role) }
+    ensures keeps { IfOk result (λ store. S.keeps store (⟦<Recorder as Disk>⟧.file disk.new)) }
+    ensures formed { S.formed (⟦<Recorder as Disk>⟧.file disk.new) role }
+    ensures known { KnowsOurs role (S.pair (⟦<Recorder as Disk>⟧.file disk.new) role) }
     ensures arms { ⟦<Recorder as Disk>⟧.arms disk.new ≡ ⟦<Recorder as Disk>⟧.arms disk.old }
 {
+    known_objects();
     if recovers {
-        return ShadowStore::recover(alloc, disk, role);
+        return S::recover(alloc, disk, role);
     }
     Ok(store)
 }
@@ -292,23 +282,20 @@ fn did(disk: &Recorder, calls: &[Did]) -> bool {
     disk.calls.as_slice() == calls
 }
 
-// What a format of objects 1 and 2 asks of the disk.
-const PUTS: &[Did] = &[
-    WRITE_TMP,
-    Did::Rename(Slot::Tmp, COMMITTED_ONE),
-    WRITE_TMP,
-    Did::Rename(Slot::Tmp, COMMITTED_TWO),
-];
-
-fn formats_so(alloc: Global) -> Result<bool, StoreFault> {
-    let (disk, _) = start(alloc, Role::Store, [Some(0), Some(0)])?;
-    Ok(did(&disk, PUTS))
+// Whether a format of objects 1 and 2 asks this of the disk.
+fn formats_so<S: ObjectStore + Drop>(alloc: Global, puts: &[Did]) -> Result<bool, StoreFault> {
+    let (disk, _store): (Recorder, S) = start(alloc, Role::Store, [Some(0), Some(0)])?;
+    Ok(did(&disk, puts))
 }
 
 // Whether the store answers the calls so, with these calls of the disk. It is recovered behind each, or not.
-fn answers_so(alloc: Global, recovers: bool) -> Result<bool, StoreFault> {
-    let (mut disk, mut store) = start(alloc, Role::Store, [Some(0), None])?;
-    for (call, want, calls) in CALLS {
+fn answers_so<S: ObjectStore + Drop>(
+    alloc: Global,
+    wanted: &[Asked],
+    recovers: bool,
+) -> Result<bool, StoreFault> {
+    let (mut disk, mut store): (Recorder, S) = start(alloc, Role::Store, [Some(0), None])?;
+    for (call, want, calls) in wanted {
         let answer = ask(alloc, &mut disk, &mut store, Role::Store, *call, None)?;
         if answer != *want || !did(&disk, calls) {
             return Ok(false);
@@ -318,12 +305,22 @@ fn answers_so(alloc: Global, recovers: bool) -> Result<bool, StoreFault> {
     Ok(true)
 }
 
+// So a store formats and answers.
+fn calls_in_a_row_of<S: ObjectStore + Drop>(
+    alloc: Global,
+    tables: &Tables,
+) -> Result<bool, StoreFault> {
+    Ok(
+        formats_so::<S>(alloc, tables.puts)?
+            && answers_so::<S>(alloc, tables.calls, false)?
+            && answers_so::<S>(alloc, tables.calls, true)?,
+    )
+}
+
 #[test]
 fn calls_in_a_row(rt: HostRuntime) -> Result<(), Fail> {
-    assert!(rt; formats_so(rt.alloc())?);
-    for recovers in [false, true] {
-        assert!(rt; answers_so(rt.alloc(), recovers)?);
-    }
+    assert!(rt; calls_in_a_row_of::<ShadowStore>(rt.alloc(), &SHADOWS)?);
+    assert!(rt; calls_in_a_row_of::<SegmentStore>(rt.alloc(), &SEGMENTS)?);
     Ok(())
 }
 
@@ -414,17 +411,22 @@ fn has_left(
 }
 
 // A store with objects 1 and 2, or with their entries, after these calls.
-fn reach(alloc: Global, role: Role, calls: &[Call]) -> Result<(Recorder, ShadowStore), StoreFault>
-    ensures role { IfOk result (λ made. role_kept made.1 ≡ role) }
-    ensures keeps { IfOk result (λ made. StoreKeeps made.1 (⟦<Recorder as Disk>⟧.file made.0)) }
-    ensures formed { IfOk result (λ made. FormedFor (⟦<Recorder as Disk>⟧.file made.0) role) }
+fn reach<S: ObjectStore + Drop>(
+    alloc: Global,
+    role: Role,
+    calls: &[Call],
+) -> Result<(Recorder, S), StoreFault>
+    ensures role { IfOk result (λ made. S.own_role made.1 ≡ role) }
+    ensures keeps { IfOk result (λ made. S.keeps made.1 (⟦<Recorder as Disk>⟧.file made.0)) }
+    ensures formed { IfOk result (λ made. S.formed (⟦<Recorder as Disk>⟧.file made.0) role) }
+    ensures known { IfOk result (λ made. KnowsOurs role (S.pair (⟦<Recorder as Disk>⟧.file made.0) role)) }
     ensures arms { IfOk result (λ made. ⟦<Recorder as Disk>⟧.arms made.0 ≡ 0) }
 {
     let value = match role {
         Role::Store => 0,
         Role::Names => 1,
     };
-    let (mut disk, mut store) = start(alloc, role, [Some(value), Some(value)])?;
+    let (mut disk, mut store): (Recorder, S) = start(alloc, role, [Some(value), Some(value)])?;
     for call in calls {
         ask(alloc, &mut disk, &mut store, role, *call, None)?;
     }
@@ -432,20 +434,23 @@ fn reach(alloc: Global, role: Role, calls: &[Call]) -> Result<(Recorder, ShadowS
 }
 
 // The last call, over a disk that stops so.
-fn finish(
+fn finish<S: ObjectStore + Drop>(
     alloc: Global,
     disk: &mut Recorder,
-    store: &mut ShadowStore,
+    store: &mut S,
     case: &Case,
     stop: Option<(u32, Outcome)>,
 ) -> Result<(), StoreFault>
-    requires role { role_kept store.old ≡ case.now.role }
-    requires keeps { StoreKeeps store.old (⟦<Recorder as Disk>⟧.file disk.old) }
-    requires formed { FormedFor (⟦<Recorder as Disk>⟧.file disk.old) case.now.role }
+    requires role { S.own_role store.old ≡ case.now.role }
+    requires keeps { S.keeps store.old (⟦<Recorder as Disk>⟧.file disk.old) }
+    requires formed { S.formed (⟦<Recorder as Disk>⟧.file disk.old) case.now.role }
+    requires known { KnowsOurs case.now.role (S.pair (⟦<Recorder as Disk>⟧.file disk.old) case.now.role) }
     requires arms { ⟦<Recorder as Disk>⟧.arms disk.old ≡ 0 }
-    ensures formed { FormedFor (⟦<Recorder as Disk>⟧.file disk.new) case.now.role }
+    ensures formed { S.formed (⟦<Recorder as Disk>⟧.file disk.new) case.now.role }
+    ensures known { KnowsOurs case.now.role (S.pair (⟦<Recorder as Disk>⟧.file disk.new) case.now.role) }
     ensures arms { ⟦<Recorder as Disk>⟧.arms disk.new ≤ 2 }
 {
+    known_objects();
     match case.last {
         Last::Call(call) => {
             ask(alloc, disk, store, case.role, call, stop)?;
@@ -455,36 +460,44 @@ fn finish(
             let torn = outcome(alloc, Ending::Torn)?;
             let _ = ask(alloc, disk, store, case.role, cut, Some((at, torn)));
             begin(disk, stop);
-            let _ = ShadowStore::recover(alloc, disk, case.role)?;
+            let _store = S::recover(alloc, disk, case.role)?;
             Ok(())
         }
     }
 }
 
 // What a recovered store answers to reads of 1 and of 2.
-fn answers(alloc: Global, disk: &mut Recorder, role: Role) -> Result<Answers, StoreFault>
-    requires formed { FormedFor (⟦<Recorder as Disk>⟧.file disk.old) role }
+fn answers<S: ObjectStore + Drop>(
+    alloc: Global,
+    disk: &mut Recorder,
+    role: Role,
+) -> Result<Answers, StoreFault>
+    requires formed { S.formed (⟦<Recorder as Disk>⟧.file disk.old) role }
+    requires known { KnowsOurs role (S.pair (⟦<Recorder as Disk>⟧.file disk.old) role) }
     requires arms { ⟦<Recorder as Disk>⟧.arms disk.old < 9 }
 {
-    let mut store = ShadowStore::recover(alloc, disk, role)?;
+    known_objects();
+    let mut store = S::recover(alloc, disk, role)?;
     let one = ask(alloc, disk, &mut store, role, Call::Read(1), None)?;
     let two = ask(alloc, disk, &mut store, role, Call::Read(2), None)?;
     Ok((one, two))
 }
 
 // Whether the last call ends as it should, over a disk that stops so: stopped exactly where a stop is given.
-fn finishes(
+fn finishes<S: ObjectStore + Drop>(
     alloc: Global,
     disk: &mut Recorder,
-    store: &mut ShadowStore,
+    store: &mut S,
     case: &Case,
     stop: Option<(u32, Outcome)>,
 ) -> Result<bool, StoreFault>
-    requires role { role_kept store.old ≡ case.now.role }
-    requires keeps { StoreKeeps store.old (⟦<Recorder as Disk>⟧.file disk.old) }
-    requires formed { FormedFor (⟦<Recorder as Disk>⟧.file disk.old) case.now.role }
+    requires role { S.own_role store.old ≡ case.now.role }
+    requires keeps { S.keeps store.old (⟦<Recorder as Disk>⟧.file disk.old) }
+    requires formed { S.formed (⟦<Recorder as Disk>⟧.file disk.old) case.now.role }
+    requires known { KnowsOurs case.now.role (S.pair (⟦<Recorder as Disk>⟧.file disk.old) case.now.role) }
     requires arms { ⟦<Recorder as Disk>⟧.arms disk.old ≡ 0 }
-    ensures formed { FormedFor (⟦<Recorder as Disk>⟧.file disk.new) case.now.role }
+    ensures formed { S.formed (⟦<Recorder as Disk>⟧.file disk.new) case.now.role }
+    ensures known { KnowsOurs case.now.role (S.pair (⟦<Recorder as Disk>⟧.file disk.new) case.now.role) }
     ensures arms { ⟦<Recorder as Disk>⟧.arms disk.new ≤ 2 }
 {
     let stops = stop.is_some();
@@ -496,34 +509,40 @@ fn finishes(
 }
 
 // Whether the disk has these files, and a recovered store answers so.
-fn has_all(alloc: Global, disk: &mut Recorder, role: Role, left: Left) -> Result<bool, StoreFault>
-    requires formed { FormedFor (⟦<Recorder as Disk>⟧.file disk.old) role }
+fn has_all<S: ObjectStore + Drop>(
+    alloc: Global,
+    disk: &mut Recorder,
+    role: Role,
+    left: Left,
+) -> Result<bool, StoreFault>
+    requires formed { S.formed (⟦<Recorder as Disk>⟧.file disk.old) role }
+    requires known { KnowsOurs role (S.pair (⟦<Recorder as Disk>⟧.file disk.old) role) }
     requires arms { ⟦<Recorder as Disk>⟧.arms disk.old < 9 }
 {
     let (tmp, files, told) = left;
     if !has_left(alloc, &mut disk.disk, role, tmp, files)? {
         return Ok(false);
     }
-    Ok(answers(alloc, disk, role)? == told)
+    Ok(answers::<S>(alloc, disk, role)? == told)
 }
 
 // Whether the last call with this stop, or with none, makes these calls of the disk and leaves this.
-fn leaves(
+fn leaves<S: ObjectStore + Drop>(
     alloc: Global,
     case: &Case,
     stop: Option<(u32, Outcome)>,
     dids: &[Did],
     left: Left,
 ) -> Result<bool, StoreFault> {
-    let (mut disk, mut store) = reach(alloc, case.role, case.calls)?;
+    let (mut disk, mut store): (Recorder, S) = reach(alloc, case.role, case.calls)?;
     if !finishes(alloc, &mut disk, &mut store, case, stop)? || !did(&disk, dids) {
         return Ok(false);
     }
-    has_all(alloc, &mut disk, case.role, left)
+    has_all::<S>(alloc, &mut disk, case.role, left)
 }
 
 // And so with a stop at this call of the disk.
-fn stopped_leaves(
+fn stopped_leaves<S: ObjectStore + Drop>(
     alloc: Global,
     case: &Case,
     at: (u32, Ending),
@@ -531,11 +550,11 @@ fn stopped_leaves(
     left: Left,
 ) -> Result<bool, StoreFault> {
     let outcome = outcome(alloc, at.1)?;
-    leaves(alloc, case, Some((at.0, outcome)), dids, left)
+    leaves::<S>(alloc, case, Some((at.0, outcome)), dids, left)
 }
 
 // Stops a call at each of its calls of the disk, in each way.
-fn follow(alloc: Global, case: &Case) -> Result<bool, StoreFault> {
+fn follow<S: ObjectStore + Drop>(alloc: Global, case: &Case) -> Result<bool, StoreFault> {
     let mut dids = Vec::new(alloc);
     let mut at = 0u32;
     let mut before = case.before;
@@ -544,29 +563,32 @@ fn follow(alloc: Global, case: &Case) -> Result<bool, StoreFault> {
         at = at.saturating_add(1);
         for ending in [Ending::Undone, Ending::Done, Ending::Torn] {
             let left = left_by(ending, *did, before, *after);
-            if !stopped_leaves(alloc, case, (at, ending), dids.as_slice(), left)? {
+            if !stopped_leaves::<S>(alloc, case, (at, ending), dids.as_slice(), left)? {
                 return Ok(false);
             }
         }
         before = *after;
     }
-    leaves(alloc, case, None, dids.as_slice(), before)
+    leaves::<S>(alloc, case, None, dids.as_slice(), before)
 }
 
 #[test]
 fn stopped_at_each_call(rt: HostRuntime) -> Result<(), Fail> {
-    for (place, case) in CASES.iter().enumerate() {
-        assert!(rt; follow(rt.alloc(), case)?, "case {place}");
+    for (place, case) in SHADOWS.cases.iter().enumerate() {
+        assert!(rt; follow::<ShadowStore>(rt.alloc(), case)?, "case {place}");
+    }
+    for (place, case) in SEGMENTS.cases.iter().enumerate() {
+        assert!(rt; follow::<SegmentStore>(rt.alloc(), case)?, "case {place}");
     }
     Ok(())
 }
 
-fn recover_after(alloc: Global, finding: &Finding) -> Result<ShadowStore, StoreFault> {
+fn recover_after<S: ObjectStore + Drop>(alloc: Global, finding: &Finding) -> Result<S, StoreFault> {
     let role = Role::Names;
-    let (mut disk, mut store) = reach(alloc, role, finding.calls)?;
+    let (mut disk, mut store): (Recorder, S) = reach(alloc, role, finding.calls)?;
     let stop = Some((finding.at, outcome(alloc, Ending::Torn)?));
     let _ = ask(alloc, &mut disk, &mut store, role, finding.cut, stop);
-    ShadowStore::recover(alloc, &mut disk, role)
+    S::recover(alloc, &mut disk, role)
 }
 
 fn committed_in(alloc: Global, found: &Found) -> Result<Vec<Seen>, AllocError> {
@@ -587,8 +609,9 @@ fn prepared_in(alloc: Global, found: &Found) -> Result<Vec<(Uid, Seen)>, AllocEr
     Ok(prepared)
 }
 
-// Whether the store has found these states, and lists these actions.
-fn has_found(alloc: Global, store: &ShadowStore, finding: &Finding) -> Result<bool, AllocError> {
+// Whether the store that is recovered finds these states, and lists these actions.
+fn has_found<S: ObjectStore + Drop>(alloc: Global, finding: &Finding) -> Result<bool, StoreFault> {
+    let store: S = recover_after(alloc, finding)?;
     if committed_in(alloc, store.found())?.as_slice() != finding.committed {
         return Ok(false);
     }
@@ -600,9 +623,17 @@ fn has_found(alloc: Global, store: &ShadowStore, finding: &Finding) -> Result<bo
 
 #[test]
 fn a_naming_store_is_found(rt: HostRuntime) -> Result<(), Fail> {
-    for (place, finding) in FINDINGS.iter().enumerate() {
-        let store = recover_after(rt.alloc(), finding)?;
-        assert!(rt; has_found(rt.alloc(), &store, finding)?, "finding {place}");
+    for (place, finding) in SHADOWS.findings.iter().enumerate() {
+        assert!(rt;
+            has_found::<ShadowStore>(rt.alloc(), finding)?,
+            "finding {place}"
+        );
+    }
+    for (place, finding) in SEGMENTS.findings.iter().enumerate() {
+        assert!(rt;
+            has_found::<SegmentStore>(rt.alloc(), finding)?,
+            "finding {place}"
+        );
     }
     Ok(())
 }

@@ -96,8 +96,33 @@ pub const PREPARED_FIRST: Slot = Slot::Prepared(Role::Store, FIRST);
 
 pub const WRITE_TMP: Did = Did::Write(Slot::Tmp);
 
-// Calls with their answers, and the calls of the disk that they make.
-pub const CALLS: &[(Call, Told, &[Did])] = &[
+// A call with its answer, and the calls of the disk that it makes.
+pub type Asked = (Call, Told, &'static [Did]);
+
+// What one kind of store does: the calls of the disk at a format of objects 1 and 2; calls in a row; calls that are stopped at
+// each call of the disk; and recoveries.
+#[derive(Clone, Copy)]
+pub struct Tables {
+    pub puts: &'static [Did],
+    pub calls: &'static [Asked],
+    pub cases: &'static [Case],
+    pub findings: &'static [Finding],
+}
+
+// The shadow store.
+pub const SHADOWS: Tables = Tables {
+    puts: &[
+        WRITE_TMP,
+        Did::Rename(Slot::Tmp, COMMITTED_ONE),
+        WRITE_TMP,
+        Did::Rename(Slot::Tmp, COMMITTED_TWO),
+    ],
+    calls: CALLS,
+    cases: CASES,
+    findings: FINDINGS,
+};
+
+const CALLS: &[Asked] = &[
     (
         Call::Prepare(FIRST, Some(1), None),
         Told::Prep(Prep::Prepared),
@@ -371,7 +396,7 @@ pub struct Case {
 
 pub const PREPARE_BOTH: Call = Call::Prepare(FIRST, Some(5), Some(6));
 
-pub const CASES: &[Case] = &[
+const CASES: &[Case] = &[
     Case {
         role: Role::Store,
         calls: &[],
@@ -484,35 +509,35 @@ pub struct Finding {
     pub actions: &'static [Uid],
 }
 
-const OLD_ENTRY: Seen = Seen {
+pub const OLD_ENTRY: Seen = Seen {
     uid: ENTRY_ONE,
     version: 0,
     writer: NOBODY,
     value: 1,
 };
 
-const NEW_ENTRY: Seen = Seen {
+pub const NEW_ENTRY: Seen = Seen {
     uid: ENTRY_ONE,
     version: 1,
     writer: FIRST,
     value: 5,
 };
 
-const OLD_OTHER: Seen = Seen {
+pub const OLD_OTHER: Seen = Seen {
     uid: ENTRY_TWO,
     version: 0,
     writer: NOBODY,
     value: 1,
 };
 
-const NEW_OTHER: Seen = Seen {
+pub const NEW_OTHER: Seen = Seen {
     uid: ENTRY_TWO,
     version: 1,
     writer: THIRD,
     value: 7,
 };
 
-pub const FINDINGS: &[Finding] = &[
+const FINDINGS: &[Finding] = &[
     Finding {
         calls: &[Call::Prepare(FIRST, Some(5), None)],
         cut: Call::Prepare(THIRD, None, Some(7)),

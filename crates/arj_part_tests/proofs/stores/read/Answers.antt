@@ -1,4 +1,4 @@
 use Rattle.arj_part_tests.proofs.stores.read.Goals as goal
 
 pub returns-clause-files : goal.returns-clause-files
-returns-clause-files c = λ i q. c.read_committed.ensures.files q i
+returns-clause-files g c = λ i q. c.read_committed.ensures.files q i
