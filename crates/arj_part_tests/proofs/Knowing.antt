@@ -26,16 +26,20 @@ module _ (role : Role) (p q : Pair) (act : Uid) (states : List ObjectState) (sam
   answered (InDoubt uid holder) a = in_part (inl a.2)
 
 -- and a format begins with these
-pub begun : (role : Role) (p : Pair) (states : List ObjectState) → HasOnly p states → ((u : Uid) → Contains (map uid_of states) u → Contains (ours role) u) → KnowsOurs role p
+pub begun : (role : Role) (p : Pair) (states : List ObjectState) → HasOnly p states
+    → ((u : Uid) → Contains (map uid_of states) u → Contains (ours role) u) → KnowsOurs role p
 begun role p states only mine u (inl held) = mine u (only.others u held)
 begun role p states only mine u (inr (a, named)) = absurd (subst (λ o. names o u) (only.none a) named)
 
 -- what is known by other words for the same files and the same role
-pub known_at : (pair : FileMap → Role → Pair) (role own : Role) (old now : FileMap) → own ≡ role → now ≡ old → KnowsOurs role (pair old role) → KnowsOurs role (pair now own)
+pub known_at : (pair : FileMap → Role → Pair) (role own : Role) (old now : FileMap) → own ≡ role → now ≡ old
+    → KnowsOurs role (pair old role) → KnowsOurs role (pair now own)
 known_at pair role own old now is same = subst (λ (k : FileMap × Role). KnowsOurs role (pair k.0 k.1)) (λ i. (sym same i, sym is i))
 
-pub known_for : (pair : FileMap → Role → Pair) (role own : Role) (now : FileMap) → own ≡ role → KnowsOurs role (pair now own) → KnowsOurs role (pair now role)
+pub known_for : (pair : FileMap → Role → Pair) (role own : Role) (now : FileMap) → own ≡ role
+    → KnowsOurs role (pair now own) → KnowsOurs role (pair now role)
 known_for pair role own now is = subst (λ r. KnowsOurs role (pair now r)) is
 
-pub formed_at : (formed : FileMap → Role → Type 0) (role own : Role) (old now : FileMap) → own ≡ role → now ≡ old → formed old role → formed now own
+pub formed_at : (formed : FileMap → Role → Type 0) (role own : Role) (old now : FileMap) → own ≡ role → now ≡ old
+    → formed old role → formed now own
 formed_at formed role own old now is same = subst (λ (k : FileMap × Role). formed k.0 k.1) (λ i. (sym same i, sym is i))

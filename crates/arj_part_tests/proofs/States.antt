@@ -31,7 +31,10 @@ distinct_one role s x is = record { distinct = (tt, tt); own = (own_role role s 
 
 pub distinct_two : (role : Role) (s t : ObjectState) → s.uid ≡ uid_for role 1 → t.uid ≡ uid_for role 2 → AreDistinct role (s ∷ t ∷ [])
 unfolding IsDistinct
-distinct_two role s t one two = record { distinct = ((other role, tt), (tt, tt)); own = (own_role role s 1 one, (own_role role t 2 two, tt)) }
+distinct_two role s t one two = record {
+  distinct = ((other role, tt), (tt, tt));
+  own = (own_role role s 1 one, (own_role role t 2 two, tt));
+}
   where
     apart : (r : Role) → uid_eq (uid_for r 1) (uid_for r 2) ≡ false
     apart Store = refl
@@ -55,7 +58,8 @@ pub ours_none : (role : Role) (u : Uid) → Contains [] u → Contains (ours rol
 ours_none role u is = absurd (no_element u is)
 
 one_ours : (role : Role) (own : Uid) → Contains (ours role) own → (u : Uid) → Contains (own ∷ []) u → Contains (ours role) u
-one_ours role own mine u is = ⊎_elim (λ (h : Contains [] u). ours_none role u h) (λ (h : own ≡ u). subst (Contains (ours role)) h mine) (Contains-push_cases [] own u is)
+one_ours role own mine u is = ⊎_elim (λ (h : Contains [] u). ours_none role u h) (λ (h : own ≡ u). subst (Contains (ours role)) h mine)
+    (Contains-push_cases [] own u is)
 
 pub ours_first : (role : Role) (s : ObjectState) → s.uid ≡ uid_for role 1 → (u : Uid) → Contains (s.uid ∷ []) u → Contains (ours role) u
 ours_first role s is = one_ours role s.uid (subst (Contains (ours role)) (sym is) (first_ours role))
@@ -63,6 +67,9 @@ ours_first role s is = one_ours role s.uid (subst (Contains (ours role)) (sym is
 pub ours_second : (role : Role) (s : ObjectState) → s.uid ≡ uid_for role 2 → (u : Uid) → Contains (s.uid ∷ []) u → Contains (ours role) u
 ours_second role s is = one_ours role s.uid (subst (Contains (ours role)) (sym is) (second_ours role))
 
-pub ours_both : (role : Role) (s t : ObjectState) → s.uid ≡ uid_for role 1 → t.uid ≡ uid_for role 2 → (u : Uid) → Contains (s.uid ∷ t.uid ∷ []) u → Contains (ours role) u
-ours_both role s t one two u is = ⊎_elim (ours_first role s one u) (λ (h : t.uid ≡ u). ours_second role t two u (subst (λ w. Contains (t.uid ∷ []) w) h (let below : 0 < length (t.uid ∷ []) = omega arith in Contains-get_or (t.uid ∷ []) 0 nobody below)))
+pub ours_both : (role : Role) (s t : ObjectState) → s.uid ≡ uid_for role 1 → t.uid ≡ uid_for role 2 → (u : Uid)
+    → Contains (s.uid ∷ t.uid ∷ []) u → Contains (ours role) u
+ours_both role s t one two u is = ⊎_elim (ours_first role s one u)
+    (λ (h : t.uid ≡ u). ours_second role t two u (subst (λ w. Contains (t.uid ∷ []) w) h
+    (let below : 0 < length (t.uid ∷ []) = omega arith in Contains-get_or (t.uid ∷ []) 0 nobody below)))
     (Contains-push_cases (s.uid ∷ []) t.uid u is)

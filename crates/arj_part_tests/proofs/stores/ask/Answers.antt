@@ -17,13 +17,16 @@ pub read-requires-clause-keeps : goal.read-requires-clause-keeps
 read-requires-clause-keeps g c = subst (g.S.ObjectStore.keeps c.args.store.now) (sym c.begin.ensures.files) c.requires.keeps
 
 pub read-requires-clause-formed : goal.read-requires-clause-formed
-read-requires-clause-formed g c = formed_at g.S.ObjectStore.formed c.args.role (g.S.ObjectStore.own_role c.args.store.now) (files_of c.args.disk.now.disk) (files_of c.begin.new.disk.disk) c.requires.role c.begin.ensures.files c.requires.formed
+read-requires-clause-formed g c = formed_at g.S.ObjectStore.formed c.args.role (g.S.ObjectStore.own_role c.args.store.now)
+    (files_of c.args.disk.now.disk) (files_of c.begin.new.disk.disk) c.requires.role c.begin.ensures.files c.requires.formed
 
 pub prepare-requires-clause-keeps : goal.prepare-requires-clause-keeps
 prepare-requires-clause-keeps g c = subst (g.S.ObjectStore.keeps c.args.store.now) (sym c.begin-in-Prepare.ensures.files) c.requires.keeps
 
 pub prepare-requires-clause-formed : goal.prepare-requires-clause-formed
-prepare-requires-clause-formed g c = formed_at g.S.ObjectStore.formed c.args.role (g.S.ObjectStore.own_role c.args.store.now) (files_of c.args.disk.now.disk) (files_of c.begin-in-Prepare.new.disk.disk) c.requires.role c.begin-in-Prepare.ensures.files c.requires.formed
+prepare-requires-clause-formed g c = formed_at g.S.ObjectStore.formed c.args.role (g.S.ObjectStore.own_role c.args.store.now)
+    (files_of c.args.disk.now.disk) (files_of c.begin-in-Prepare.new.disk.disk) c.requires.role c.begin-in-Prepare.ensures.files
+    c.requires.formed
 
 pub prepare-requires-clause-few : goal.prepare-requires-clause-few
 prepare-requires-clause-few g c =
@@ -31,7 +34,8 @@ prepare-requires-clause-few g c =
     let own = o.own_role c.args.store.now in
     let mid : FileMap = files_of c.begin-in-Prepare.new.disk.disk in
     let p : Pair = o.pair mid own in
-    let knows : KnowsOurs c.args.role p = known_at o.pair c.args.role own (files_of c.args.disk.now.disk) mid c.requires.role c.begin-in-Prepare.ensures.files c.requires.known in
+    let knows : KnowsOurs c.args.role p = known_at o.pair c.args.role own (files_of c.args.disk.now.disk) mid c.requires.role
+        c.begin-in-Prepare.ensures.files c.requires.known in
     let few : length (ours c.args.role) ≤ 65535 = omega arith in
     c.known_objects.ensures.few p c.in_ok-states-in-Prepare.states (ours c.args.role) few knows c.in_ok-states-in-Prepare.ensures.ours
 
@@ -39,22 +43,29 @@ pub commit-requires-clause-keeps : goal.commit-requires-clause-keeps
 commit-requires-clause-keeps g c = subst (g.S.ObjectStore.keeps c.args.store.now) (sym c.begin-in-Commit.ensures.files) c.requires.keeps
 
 pub commit-requires-clause-formed : goal.commit-requires-clause-formed
-commit-requires-clause-formed g c = formed_at g.S.ObjectStore.formed c.args.role (g.S.ObjectStore.own_role c.args.store.now) (files_of c.args.disk.now.disk) (files_of c.begin-in-Commit.new.disk.disk) c.requires.role c.begin-in-Commit.ensures.files c.requires.formed
+commit-requires-clause-formed g c = formed_at g.S.ObjectStore.formed c.args.role (g.S.ObjectStore.own_role c.args.store.now)
+    (files_of c.args.disk.now.disk) (files_of c.begin-in-Commit.new.disk.disk) c.requires.role c.begin-in-Commit.ensures.files
+    c.requires.formed
 
 pub abort-requires-clause-keeps : goal.abort-requires-clause-keeps
 abort-requires-clause-keeps g c = subst (g.S.ObjectStore.keeps c.args.store.now) (sym c.begin-in-Abort.ensures.files) c.requires.keeps
 
 pub abort-requires-clause-formed : goal.abort-requires-clause-formed
-abort-requires-clause-formed g c = formed_at g.S.ObjectStore.formed c.args.role (g.S.ObjectStore.own_role c.args.store.now) (files_of c.args.disk.now.disk) (files_of c.begin-in-Abort.new.disk.disk) c.requires.role c.begin-in-Abort.ensures.files c.requires.formed
+abort-requires-clause-formed g c = formed_at g.S.ObjectStore.formed c.args.role (g.S.ObjectStore.own_role c.args.store.now)
+    (files_of c.args.disk.now.disk) (files_of c.begin-in-Abort.new.disk.disk) c.requires.role c.begin-in-Abort.ensures.files
+    c.requires.formed
 
 pub returns-in-Read-clause-keeps : goal.returns-in-Read-clause-keeps
-returns-in-Read-clause-keeps g c = if_ok c.read.result _ (subst (g.S.ObjectStore.keeps c.args.store.now) (sym (c.read.ensures.files ∙ c.begin.ensures.files)) c.requires.keeps)
+returns-in-Read-clause-keeps g c = if_ok c.read.result _ (subst (g.S.ObjectStore.keeps c.args.store.now)
+    (sym (c.read.ensures.files ∙ c.begin.ensures.files)) c.requires.keeps)
 
 pub returns-in-Read-clause-formed : goal.returns-in-Read-clause-formed
-returns-in-Read-clause-formed g c = subst (λ f. g.S.ObjectStore.formed f c.args.role) (sym (c.read.ensures.files ∙ c.begin.ensures.files)) c.requires.formed
+returns-in-Read-clause-formed g c = subst (λ f. g.S.ObjectStore.formed f c.args.role)
+    (sym (c.read.ensures.files ∙ c.begin.ensures.files)) c.requires.formed
 
 pub returns-in-Read-clause-known : goal.returns-in-Read-clause-known
-returns-in-Read-clause-known g c = subst (λ f. KnowsOurs c.args.role (g.S.ObjectStore.pair f c.args.role)) (sym (c.read.ensures.files ∙ c.begin.ensures.files)) c.requires.known
+returns-in-Read-clause-known g c = subst (λ f. KnowsOurs c.args.role (g.S.ObjectStore.pair f c.args.role))
+    (sym (c.read.ensures.files ∙ c.begin.ensures.files)) c.requires.known
 
 pub returns-in_err-prepare-in-Prepare-clause-known : goal.returns-in_err-prepare-in-Prepare-clause-known
 returns-in_err-prepare-in-Prepare-clause-known g c =
@@ -62,10 +73,13 @@ returns-in_err-prepare-in-Prepare-clause-known g c =
     let own = o.own_role c.args.store.now in
     let mid : FileMap = files_of c.begin-in-Prepare.new.disk.disk in
     let p : Pair = o.pair mid own in
-    let knows : KnowsOurs c.args.role p = known_at o.pair c.args.role own (files_of c.args.disk.now.disk) mid c.requires.role c.begin-in-Prepare.ensures.files c.requires.known in
+    let knows : KnowsOurs c.args.role p = known_at o.pair c.args.role own (files_of c.args.disk.now.disk) mid c.requires.role
+        c.begin-in-Prepare.ensures.files c.requires.known in
     let left : FileMap = files_of c.prepare.new.disk.disk in
     let q : Pair = o.pair left own in
-    known_for o.pair c.args.role own left c.requires.role (in_part c.args.role p q c.in-Prepare.act c.in_ok-states-in-Prepare.states (c.known_objects.ensures.same p q) (c.known_objects.ensures.prepare p q c.in-Prepare.act c.in_ok-states-in-Prepare.states) c.in_ok-states-in-Prepare.ensures.ours knows c.in_err-prepare-in-Prepare.ensures.fault)
+    known_for o.pair c.args.role own left c.requires.role (in_part c.args.role p q c.in-Prepare.act c.in_ok-states-in-Prepare.states
+        (c.known_objects.ensures.same p q) (c.known_objects.ensures.prepare p q c.in-Prepare.act c.in_ok-states-in-Prepare.states)
+        c.in_ok-states-in-Prepare.ensures.ours knows c.in_err-prepare-in-Prepare.ensures.fault)
 
 pub returns-in_ok-prepare-in-Prepare-clause-known : goal.returns-in_ok-prepare-in-Prepare-clause-known
 returns-in_ok-prepare-in-Prepare-clause-known g c =
@@ -73,10 +87,13 @@ returns-in_ok-prepare-in-Prepare-clause-known g c =
     let own = o.own_role c.args.store.now in
     let mid : FileMap = files_of c.begin-in-Prepare.new.disk.disk in
     let p : Pair = o.pair mid own in
-    let knows : KnowsOurs c.args.role p = known_at o.pair c.args.role own (files_of c.args.disk.now.disk) mid c.requires.role c.begin-in-Prepare.ensures.files c.requires.known in
+    let knows : KnowsOurs c.args.role p = known_at o.pair c.args.role own (files_of c.args.disk.now.disk) mid c.requires.role
+        c.begin-in-Prepare.ensures.files c.requires.known in
     let left : FileMap = files_of c.prepare.new.disk.disk in
     let q : Pair = o.pair left own in
-    known_for o.pair c.args.role own left c.requires.role (answered c.args.role p q c.in-Prepare.act c.in_ok-states-in-Prepare.states (c.known_objects.ensures.same p q) (c.known_objects.ensures.prepare p q c.in-Prepare.act c.in_ok-states-in-Prepare.states) c.in_ok-states-in-Prepare.ensures.ours knows c.in_ok-prepare-in-Prepare.field-0 c.in_ok-prepare-in-Prepare.ensures.answer)
+    known_for o.pair c.args.role own left c.requires.role (answered c.args.role p q c.in-Prepare.act c.in_ok-states-in-Prepare.states
+        (c.known_objects.ensures.same p q) (c.known_objects.ensures.prepare p q c.in-Prepare.act c.in_ok-states-in-Prepare.states)
+        c.in_ok-states-in-Prepare.ensures.ours knows c.in_ok-prepare-in-Prepare.field-0 c.in_ok-prepare-in-Prepare.ensures.answer)
 
 pub returns-in_err-commit-in-Commit-clause-known : goal.returns-in_err-commit-in-Commit-clause-known
 returns-in_err-commit-in-Commit-clause-known g c =
@@ -84,10 +101,14 @@ returns-in_err-commit-in-Commit-clause-known g c =
     let own = o.own_role c.args.store.now in
     let mid : FileMap = files_of c.begin-in-Commit.new.disk.disk in
     let p : Pair = o.pair mid own in
-    let knows : KnowsOurs c.args.role p = known_at o.pair c.args.role own (files_of c.args.disk.now.disk) mid c.requires.role c.begin-in-Commit.ensures.files c.requires.known in
+    let knows : KnowsOurs c.args.role p = known_at o.pair c.args.role own (files_of c.args.disk.now.disk) mid c.requires.role
+        c.begin-in-Commit.ensures.files c.requires.known in
     let left : FileMap = files_of c.commit.new.disk.disk in
     let q : Pair = o.pair left own in
-    known_for o.pair c.args.role own left c.requires.role (λ u h. knows u (⊎_elim (λ (m : MovesSome p q c.in-Commit.act). c.known_objects.ensures.part p q c.in-Commit.act m u h) (λ (m : Moves p q c.in-Commit.act). c.known_objects.ensures.commit p q c.in-Commit.act m u h) c.in_err-commit-in-Commit.ensures.fault))
+    known_for o.pair c.args.role own left c.requires.role (λ u h. knows u
+        (⊎_elim (λ (m : MovesSome p q c.in-Commit.act). c.known_objects.ensures.part p q c.in-Commit.act m u h)
+        (λ (m : Moves p q c.in-Commit.act). c.known_objects.ensures.commit p q c.in-Commit.act m u h)
+        c.in_err-commit-in-Commit.ensures.fault))
 
 pub returns-in_ok-commit-in-Commit-clause-known : goal.returns-in_ok-commit-in-Commit-clause-known
 returns-in_ok-commit-in-Commit-clause-known g c =
@@ -95,10 +116,12 @@ returns-in_ok-commit-in-Commit-clause-known g c =
     let own = o.own_role c.args.store.now in
     let mid : FileMap = files_of c.begin-in-Commit.new.disk.disk in
     let p : Pair = o.pair mid own in
-    let knows : KnowsOurs c.args.role p = known_at o.pair c.args.role own (files_of c.args.disk.now.disk) mid c.requires.role c.begin-in-Commit.ensures.files c.requires.known in
+    let knows : KnowsOurs c.args.role p = known_at o.pair c.args.role own (files_of c.args.disk.now.disk) mid c.requires.role
+        c.begin-in-Commit.ensures.files c.requires.known in
     let left : FileMap = files_of c.commit.new.disk.disk in
     let q : Pair = o.pair left own in
-    known_for o.pair c.args.role own left c.requires.role (λ u h. knows u (c.known_objects.ensures.commit p q c.in-Commit.act c.in_ok-commit-in-Commit.ensures.moved u h))
+    known_for o.pair c.args.role own left c.requires.role (λ u h. knows u
+        (c.known_objects.ensures.commit p q c.in-Commit.act c.in_ok-commit-in-Commit.ensures.moved u h))
 
 pub returns-in_err-abort-in-Abort-clause-known : goal.returns-in_err-abort-in-Abort-clause-known
 returns-in_err-abort-in-Abort-clause-known g c =
@@ -106,10 +129,14 @@ returns-in_err-abort-in-Abort-clause-known g c =
     let own = o.own_role c.args.store.now in
     let mid : FileMap = files_of c.begin-in-Abort.new.disk.disk in
     let p : Pair = o.pair mid own in
-    let knows : KnowsOurs c.args.role p = known_at o.pair c.args.role own (files_of c.args.disk.now.disk) mid c.requires.role c.begin-in-Abort.ensures.files c.requires.known in
+    let knows : KnowsOurs c.args.role p = known_at o.pair c.args.role own (files_of c.args.disk.now.disk) mid c.requires.role
+        c.begin-in-Abort.ensures.files c.requires.known in
     let left : FileMap = files_of c.abort.new.disk.disk in
     let q : Pair = o.pair left own in
-    known_for o.pair c.args.role own left c.requires.role (λ u h. knows u (⊎_elim (λ (s : SamePair p q). c.known_objects.ensures.same p q s u h) (λ (d : Drops p q c.in-Abort.act). c.known_objects.ensures.abort p q c.in-Abort.act d u h) c.in_err-abort-in-Abort.ensures.fault))
+    known_for o.pair c.args.role own left c.requires.role (λ u h. knows u
+        (⊎_elim (λ (s : SamePair p q). c.known_objects.ensures.same p q s u h)
+        (λ (d : Drops p q c.in-Abort.act). c.known_objects.ensures.abort p q c.in-Abort.act d u h)
+        c.in_err-abort-in-Abort.ensures.fault))
 
 pub returns-in_ok-abort-in-Abort-clause-known : goal.returns-in_ok-abort-in-Abort-clause-known
 returns-in_ok-abort-in-Abort-clause-known g c =
@@ -117,7 +144,9 @@ returns-in_ok-abort-in-Abort-clause-known g c =
     let own = o.own_role c.args.store.now in
     let mid : FileMap = files_of c.begin-in-Abort.new.disk.disk in
     let p : Pair = o.pair mid own in
-    let knows : KnowsOurs c.args.role p = known_at o.pair c.args.role own (files_of c.args.disk.now.disk) mid c.requires.role c.begin-in-Abort.ensures.files c.requires.known in
+    let knows : KnowsOurs c.args.role p = known_at o.pair c.args.role own (files_of c.args.disk.now.disk) mid c.requires.role
+        c.begin-in-Abort.ensures.files c.requires.known in
     let left : FileMap = files_of c.abort.new.disk.disk in
     let q : Pair = o.pair left own in
-    known_for o.pair c.args.role own left c.requires.role (λ u h. knows u (c.known_objects.ensures.abort p q c.in-Abort.act c.in_ok-abort-in-Abort.ensures.dropped u h))
+    known_for o.pair c.args.role own left c.requires.role (λ u h. knows u
+        (c.known_objects.ensures.abort p q c.in-Abort.act c.in_ok-abort-in-Abort.ensures.dropped u h))
