@@ -33,7 +33,7 @@ pub other_rows : (o : Uid) (rows : List Row) → filter_map (other_row o) rows �
 other_rows o rows = left_out (λ row. uid_eq row.object o) rows
 
 -- the list up to a place, with what stands there
-take_next : {A : Type 0} (xs : List A) (i : ℕ) (x : A) → i < length xs → x ≡ get_or xs i x → take (i + 1) xs ≡ take i xs ++ x ∷ []
+pub take_next : {A : Type 0} (xs : List A) (i : ℕ) (x : A) → i < length xs → x ≡ get_or xs i x → take (i + 1) xs ≡ take i xs ++ x ∷ []
 take_next xs i x lt is = ap (λ n. take n xs) (one_more i) ∙ take-suc xs i x lt ∙ ap (λ y. take i xs ++ y ∷ []) (sym is)
   where
     one_more : (n : ℕ) → n + 1 ≡ suc n

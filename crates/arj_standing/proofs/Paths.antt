@@ -30,7 +30,7 @@ named [] [] has l = refl
 named [] (b ∷ bs) has l = absurd has
 named (a ∷ us) [] has l = absurd has
 named (a ∷ us) (b ∷ bs) has l =
-    (λ i. cond (bytes_eq (has.0 i) l) (has.2 i) (named us bs has.3 l i)) ∙ links_if (bytes_eq a.label l) (path_in us a) (path us l)
+    (λ i. cond (bytes_eq (has.0 i) l) (has.2 i) (named us bs has.4 l i)) ∙ links_if (bytes_eq a.label l) (path_in us a) (path us l)
 
 -- the path of an action by its Uid
 pub by_uid : (us : List Act) (bs : List Begun) → AreBegun us bs → (u : Uid) → links_of u bs ≡ links (path_by us u)
@@ -38,7 +38,7 @@ by_uid [] [] has u = refl
 by_uid [] (b ∷ bs) has u = absurd has
 by_uid (a ∷ us) [] has u = absurd has
 by_uid (a ∷ us) (b ∷ bs) has u =
-    (λ i. cond (uid_eq (has.1 i) u) (has.2 i) (by_uid us bs has.3 u i)) ∙ links_if (uid_eq a.uid u) (path_in us a) (path_by us u)
+    (λ i. cond (uid_eq (has.1 i) u) (has.2 i) (by_uid us bs has.4 u i)) ∙ links_if (uid_eq a.uid u) (path_in us a) (path_by us u)
 
 -- the path above an action
 pub above : (us : List Act) (bs : List Begun) → AreBegun us bs → (k : Kind) (p : Option Label) → links_above k p bs ≡ links (upwards (option_map name p) k (path us))
@@ -98,8 +98,22 @@ front_by_take [] = refl
 front_by_take (u ∷ []) = refl
 front_by_take (u ∷ w ∷ us) = ap (λ n. take n (u ∷ w ∷ us)) (one_less (length us)) ∙ ap (λ xs. u ∷ xs) (front_by_take (w ∷ us))
 
+-- as many are kept as have begun
+pub as_many : (us : List Act) (bs : List Begun) → AreBegun us bs → length bs ≡ length us
+as_many [] [] has = refl
+as_many [] (b ∷ bs) has = absurd has
+as_many (a ∷ us) [] has = absurd has
+as_many (a ∷ us) (b ∷ bs) has = ap suc (as_many us bs has.4)
+
 -- an action more has begun
-pub one_more : (us : List Act) (bs : List Begun) → AreBegun us bs → (l : Label) (k : Kind) (u : Uid) (p : Option Label) (q : List Link)
-    → q ≡ links_above k p bs ++ record { uid = u; serial = is_serial k } ∷ [] → AreBegun (acts_after us (body.Began l k u p)) (record { label = l; uid = u; path = q } ∷ bs)
-one_more us bs has l k u p q same =
-    (refl, refl, same ∙ longer us bs has (record { id = length us; label = name l; kind = k; uid = u; parent = option_map name p }) p refl, has)
+pub one_more : (us : List Act) (bs : List Begun) → AreBegun us bs → (n : ℕ) → n ≡ length bs → (l : Label) (k : Kind) (u : Uid) (p : Option Label) (q : List Link)
+    → q ≡ links_above k p bs ++ record { id = n; uid = u; serial = is_serial k } ∷ []
+    → AreBegun (acts_after us (body.Began l k u p)) (record { id = n; label = l; uid = u; path = q } ∷ bs)
+one_more us bs has n e l k u p q same =
+    let many : n ≡ length us = e ∙ as_many us bs has in (
+      refl,
+      refl,
+      same ∙ (λ i. links_above k p bs ++ record { id = many i; uid = u; serial = is_serial k } ∷ []) ∙ longer us bs has (record { id = length us; label = name l; kind = k; uid = u; parent = option_map name p }) p refl,
+      many,
+      has,
+    )

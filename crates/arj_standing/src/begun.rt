@@ -9,16 +9,18 @@ use arj_base::{Seq, Uid};
 use arj_journal::{Body, Kind, Label};
 use std::alloc::{AllocError, Global};
 
-/// An action on a path: its Uid, and whether it is a serializing action.
+/// An action on a path: how many began before it, its Uid, and whether it is a serializing action.
 #[derive(Clone, Copy)]
 pub struct Link {
+    pub id: usize,
     pub uid: Uid,
     pub serial: bool,
 }
 
-/// An action that has begun, with its path from the root to itself.
+/// An action that has begun, with the count of those before it, and its path from the root to itself.
 #[derive(Drop)]
 pub struct Begun {
+    pub id: usize,
     pub label: Label,
     pub uid: Uid,
     pub path: Seq<Link>,
@@ -69,7 +71,9 @@ pub fn begin(alloc: Global, begun: &mut Vec<Begun>, body: &Body) -> Result<(), A
             uid,
             parent,
         } => {
+            let id = begun.len();
             let link = Link {
+                id,
                 uid: *uid,
                 serial: is_serial(*kind),
             };
@@ -77,6 +81,7 @@ pub fn begin(alloc: Global, begun: &mut Vec<Begun>, body: &Body) -> Result<(), A
             begun.insert(
                 0,
                 Begun {
+                    id,
                     label: *label,
                     uid: *uid,
                     path,

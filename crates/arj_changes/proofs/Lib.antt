@@ -1,0 +1,7 @@
+mod Steps
+mod Paths
+mod Longer
+mod Tops
+mod Moved
+mod Sorted
+mod Folded
