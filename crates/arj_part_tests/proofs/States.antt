@@ -1,5 +1,5 @@
 -- States of objects 1 and 2 are of distinct objects of the role, and of no others.
-use Rattle.std.proofs.Common.{◌≡◌, ◌∙◌, ◌<◌, ◌⊎◌, ℕ, List, [], ◌∷◌, false, arith, refl, sym, ap, subst, ⊎_elim, length}
+use Rattle.std.proofs.Common.{◌≡◌, ◌∙◌, ◌<◌, ◌⊎◌, ℕ, [], ◌∷◌, false, arith, refl, sym, ap, subst, ⊎_elim, length}
 use Rattle.std.specs.Prelude.{Contains}
 use Rattle.std.specs.List.{IsDistinct}
 use Rattle.std.proofs.lemmas.List.Elements.{Contains-get_or, Contains-push_cases}

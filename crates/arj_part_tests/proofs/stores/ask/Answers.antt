@@ -1,10 +1,9 @@
 -- few objects are known, and no call makes others known
-use Rattle.std.proofs.Common.{◌≡◌, ◌≤◌, ◌∙◌, Ok, Err, Result, arith, length, subst, sym, ⊎_elim}
+use Rattle.std.proofs.Common.{◌≤◌, ◌∙◌, Ok, Err, Result, arith, length, subst, sym, ⊎_elim}
 use Rattle.std.specs.Prelude.{OnOk}
-use Rattle.arj_base.specs.declared.uid.Uid.{Uid}
 use Rattle.arj_disk.specs.Armed.{files_of}
 use Rattle.arj_disk.specs.FileMap.{FileMap}
-use Rattle.arj_store.specs.Pair.{Drops, IsKnown, Moves, MovesSome, Pair, SamePair}
+use Rattle.arj_store.specs.Pair.{Drops, Moves, MovesSome, Pair, SamePair}
 use Rattle.arj_part_tests.specs.Known.{KnowsOurs, ours}
 use Rattle.arj_part_tests.proofs.Knowing.{answered, formed_at, in_part, known_at, known_for}
 use Rattle.arj_part_tests.proofs.stores.ask.Goals as goal
