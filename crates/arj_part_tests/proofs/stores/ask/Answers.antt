@@ -34,7 +34,7 @@ prepare-requires-clause-few g c =
     let mid : FileMap = files_of c.begin-in-Prepare.new.disk.disk in
     let p : Pair = o.pair mid own in
     let knows : KnowsOurs c.args.role p = known_at o.pair c.args.role own (files_of c.args.disk.now.disk) mid c.requires.role
-        c.begin-in-Prepare.ensures.files c.requires.known in
+    c.begin-in-Prepare.ensures.files c.requires.known in
     let few : length (ours c.args.role) ≤ 65535 = omega arith in
     c.known_objects.ensures.few p c.in_ok-states-in-Prepare.states (ours c.args.role) few knows c.in_ok-states-in-Prepare.ensures.ours
 
@@ -73,12 +73,12 @@ returns-in_err-prepare-in-Prepare-clause-known g c =
     let mid : FileMap = files_of c.begin-in-Prepare.new.disk.disk in
     let p : Pair = o.pair mid own in
     let knows : KnowsOurs c.args.role p = known_at o.pair c.args.role own (files_of c.args.disk.now.disk) mid c.requires.role
-        c.begin-in-Prepare.ensures.files c.requires.known in
+    c.begin-in-Prepare.ensures.files c.requires.known in
     let left : FileMap = files_of c.prepare.new.disk.disk in
     let q : Pair = o.pair left own in
     known_for o.pair c.args.role own left c.requires.role (in_part c.args.role p q c.in-Prepare.act c.in_ok-states-in-Prepare.states
-        (c.known_objects.ensures.same p q) (c.known_objects.ensures.prepare p q c.in-Prepare.act c.in_ok-states-in-Prepare.states)
-        c.in_ok-states-in-Prepare.ensures.ours knows c.in_err-prepare-in-Prepare.ensures.fault)
+    (c.known_objects.ensures.same p q) (c.known_objects.ensures.prepare p q c.in-Prepare.act c.in_ok-states-in-Prepare.states)
+    c.in_ok-states-in-Prepare.ensures.ours knows c.in_err-prepare-in-Prepare.ensures.fault)
 
 pub returns-in_ok-prepare-in-Prepare-clause-known : goal.returns-in_ok-prepare-in-Prepare-clause-known
 returns-in_ok-prepare-in-Prepare-clause-known g c =
@@ -87,12 +87,12 @@ returns-in_ok-prepare-in-Prepare-clause-known g c =
     let mid : FileMap = files_of c.begin-in-Prepare.new.disk.disk in
     let p : Pair = o.pair mid own in
     let knows : KnowsOurs c.args.role p = known_at o.pair c.args.role own (files_of c.args.disk.now.disk) mid c.requires.role
-        c.begin-in-Prepare.ensures.files c.requires.known in
+    c.begin-in-Prepare.ensures.files c.requires.known in
     let left : FileMap = files_of c.prepare.new.disk.disk in
     let q : Pair = o.pair left own in
     known_for o.pair c.args.role own left c.requires.role (answered c.args.role p q c.in-Prepare.act c.in_ok-states-in-Prepare.states
-        (c.known_objects.ensures.same p q) (c.known_objects.ensures.prepare p q c.in-Prepare.act c.in_ok-states-in-Prepare.states)
-        c.in_ok-states-in-Prepare.ensures.ours knows c.in_ok-prepare-in-Prepare.field-0 c.in_ok-prepare-in-Prepare.ensures.answer)
+    (c.known_objects.ensures.same p q) (c.known_objects.ensures.prepare p q c.in-Prepare.act c.in_ok-states-in-Prepare.states)
+    c.in_ok-states-in-Prepare.ensures.ours knows c.in_ok-prepare-in-Prepare.field-0 c.in_ok-prepare-in-Prepare.ensures.answer)
 
 pub returns-in_err-commit-in-Commit-clause-known : goal.returns-in_err-commit-in-Commit-clause-known
 returns-in_err-commit-in-Commit-clause-known g c =
@@ -101,13 +101,13 @@ returns-in_err-commit-in-Commit-clause-known g c =
     let mid : FileMap = files_of c.begin-in-Commit.new.disk.disk in
     let p : Pair = o.pair mid own in
     let knows : KnowsOurs c.args.role p = known_at o.pair c.args.role own (files_of c.args.disk.now.disk) mid c.requires.role
-        c.begin-in-Commit.ensures.files c.requires.known in
+    c.begin-in-Commit.ensures.files c.requires.known in
     let left : FileMap = files_of c.commit.new.disk.disk in
     let q : Pair = o.pair left own in
     known_for o.pair c.args.role own left c.requires.role (λ u h. knows u
-        (⊎_elim (λ (m : MovesSome p q c.in-Commit.act). c.known_objects.ensures.part p q c.in-Commit.act m u h)
-        (λ (m : Moves p q c.in-Commit.act). c.known_objects.ensures.commit p q c.in-Commit.act m u h)
-        c.in_err-commit-in-Commit.ensures.fault))
+    (⊎_elim (λ (m : MovesSome p q c.in-Commit.act). c.known_objects.ensures.part p q c.in-Commit.act m u h)
+    (λ (m : Moves p q c.in-Commit.act). c.known_objects.ensures.commit p q c.in-Commit.act m u h)
+    c.in_err-commit-in-Commit.ensures.fault))
 
 pub returns-in_ok-commit-in-Commit-clause-known : goal.returns-in_ok-commit-in-Commit-clause-known
 returns-in_ok-commit-in-Commit-clause-known g c =
@@ -116,11 +116,11 @@ returns-in_ok-commit-in-Commit-clause-known g c =
     let mid : FileMap = files_of c.begin-in-Commit.new.disk.disk in
     let p : Pair = o.pair mid own in
     let knows : KnowsOurs c.args.role p = known_at o.pair c.args.role own (files_of c.args.disk.now.disk) mid c.requires.role
-        c.begin-in-Commit.ensures.files c.requires.known in
+    c.begin-in-Commit.ensures.files c.requires.known in
     let left : FileMap = files_of c.commit.new.disk.disk in
     let q : Pair = o.pair left own in
     known_for o.pair c.args.role own left c.requires.role (λ u h. knows u
-        (c.known_objects.ensures.commit p q c.in-Commit.act c.in_ok-commit-in-Commit.ensures.moved u h))
+    (c.known_objects.ensures.commit p q c.in-Commit.act c.in_ok-commit-in-Commit.ensures.moved u h))
 
 pub returns-in_err-abort-in-Abort-clause-known : goal.returns-in_err-abort-in-Abort-clause-known
 returns-in_err-abort-in-Abort-clause-known g c =
@@ -129,13 +129,13 @@ returns-in_err-abort-in-Abort-clause-known g c =
     let mid : FileMap = files_of c.begin-in-Abort.new.disk.disk in
     let p : Pair = o.pair mid own in
     let knows : KnowsOurs c.args.role p = known_at o.pair c.args.role own (files_of c.args.disk.now.disk) mid c.requires.role
-        c.begin-in-Abort.ensures.files c.requires.known in
+    c.begin-in-Abort.ensures.files c.requires.known in
     let left : FileMap = files_of c.abort.new.disk.disk in
     let q : Pair = o.pair left own in
     known_for o.pair c.args.role own left c.requires.role (λ u h. knows u
-        (⊎_elim (λ (s : SamePair p q). c.known_objects.ensures.same p q s u h)
-        (λ (d : Drops p q c.in-Abort.act). c.known_objects.ensures.abort p q c.in-Abort.act d u h)
-        c.in_err-abort-in-Abort.ensures.fault))
+    (⊎_elim (λ (s : SamePair p q). c.known_objects.ensures.same p q s u h)
+    (λ (d : Drops p q c.in-Abort.act). c.known_objects.ensures.abort p q c.in-Abort.act d u h)
+    c.in_err-abort-in-Abort.ensures.fault))
 
 pub returns-in_ok-abort-in-Abort-clause-known : goal.returns-in_ok-abort-in-Abort-clause-known
 returns-in_ok-abort-in-Abort-clause-known g c =
@@ -144,8 +144,8 @@ returns-in_ok-abort-in-Abort-clause-known g c =
     let mid : FileMap = files_of c.begin-in-Abort.new.disk.disk in
     let p : Pair = o.pair mid own in
     let knows : KnowsOurs c.args.role p = known_at o.pair c.args.role own (files_of c.args.disk.now.disk) mid c.requires.role
-        c.begin-in-Abort.ensures.files c.requires.known in
+    c.begin-in-Abort.ensures.files c.requires.known in
     let left : FileMap = files_of c.abort.new.disk.disk in
     let q : Pair = o.pair left own in
     known_for o.pair c.args.role own left c.requires.role (λ u h. knows u
-        (c.known_objects.ensures.abort p q c.in-Abort.act c.in_ok-abort-in-Abort.ensures.dropped u h))
+    (c.known_objects.ensures.abort p q c.in-Abort.act c.in_ok-abort-in-Abort.ensures.dropped u h))

@@ -15,7 +15,7 @@ returns-in_err-_store-in-Recovery-clause-known g c =
     let role = c.args.case.now.role in
     let p : Pair = o.pair (files_of c.begin.new.disk.disk) role in
     let knows : KnowsOurs role p = subst (λ f. KnowsOurs role (o.pair f role)) (sym c.begin.ensures.files)
-        c.ask-in-Recovery.ensures.known in
+    c.ask-in-Recovery.ensures.known in
     λ u h. knows u (c.known_objects.ensures.same p (o.pair (files_of c.recover.new.disk.disk) role) c.recover.ensures.pair u h)
 
 pub returns-in_ok-_store-in-Recovery-clause-known : goal.returns-in_ok-_store-in-Recovery-clause-known
@@ -24,5 +24,5 @@ returns-in_ok-_store-in-Recovery-clause-known g c =
     let role = c.args.case.now.role in
     let p : Pair = o.pair (files_of c.begin.new.disk.disk) role in
     let knows : KnowsOurs role p = subst (λ f. KnowsOurs role (o.pair f role)) (sym c.begin.ensures.files)
-        c.ask-in-Recovery.ensures.known in
+    c.ask-in-Recovery.ensures.known in
     λ u h. knows u (c.known_objects.ensures.same p (o.pair (files_of c.recover.new.disk.disk) role) c.recover.ensures.pair u h)

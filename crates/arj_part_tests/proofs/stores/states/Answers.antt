@@ -48,13 +48,13 @@ returns-in_ok-push-in-Some-clause-ours c = subst (AreOurs c.args.role)
 pub returns-in_ok-push-in-Some-2-2-clause-distinct : goal.returns-in_ok-push-in-Some-2-2-clause-distinct
 returns-in_ok-push-in-Some-2-2-clause-distinct c = subst (AreDistinct c.args.role)
     (two c.in_ok-state-in-Some-2.field-0 c.in_ok-state-in-Some-2-2.field-0 c.new-states.result c.push-in-Some-2.new.self
-        c.push-in-Some-2-2.new.self c.new-states.ensures c.in_ok-push-in-Some-2.ensures.ok c.in_ok-push-in-Some-2-2.ensures.ok)
+    c.push-in-Some-2-2.new.self c.new-states.ensures c.in_ok-push-in-Some-2.ensures.ok c.in_ok-push-in-Some-2-2.ensures.ok)
     (distinct_two c.args.role c.in_ok-state-in-Some-2.field-0 c.in_ok-state-in-Some-2-2.field-0 c.in_ok-state-in-Some-2.ensures.uid
-        c.in_ok-state-in-Some-2-2.ensures.uid)
+    c.in_ok-state-in-Some-2-2.ensures.uid)
 
 pub returns-in_ok-push-in-Some-2-2-clause-ours : goal.returns-in_ok-push-in-Some-2-2-clause-ours
 returns-in_ok-push-in-Some-2-2-clause-ours c = subst (AreOurs c.args.role)
     (two c.in_ok-state-in-Some-2.field-0 c.in_ok-state-in-Some-2-2.field-0 c.new-states.result c.push-in-Some-2.new.self
-        c.push-in-Some-2-2.new.self c.new-states.ensures c.in_ok-push-in-Some-2.ensures.ok c.in_ok-push-in-Some-2-2.ensures.ok)
+    c.push-in-Some-2-2.new.self c.new-states.ensures c.in_ok-push-in-Some-2.ensures.ok c.in_ok-push-in-Some-2-2.ensures.ok)
     (ours_both c.args.role c.in_ok-state-in-Some-2.field-0 c.in_ok-state-in-Some-2-2.field-0 c.in_ok-state-in-Some-2.ensures.uid
-        c.in_ok-state-in-Some-2-2.ensures.uid)
+    c.in_ok-state-in-Some-2-2.ensures.uid)
