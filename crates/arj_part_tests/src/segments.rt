@@ -90,7 +90,8 @@ const CALLS: &[Asked] = &[
     ),
 ];
 
-// Files of states by lines: the count; of each state its length, the object and its class, version and writer, the payload.
+// Files of states by lines: the count; of each state its length, the object and its class, version and writer, the
+// payload.
 const OLD_BOTH: Content = b"ARJS\0\x02\
     \0\x37ARJ1\0\0\0\0\0\0\0\0\0\0\0\0\0\0\0\x01\x01\
     \0\0\0\0\0\0\0\0\0\0\0\0\0\0\0\0\0\0\0\0\0\0\0\0\

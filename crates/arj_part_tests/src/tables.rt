@@ -99,8 +99,8 @@ pub const WRITE_TMP: Did = Did::Write(Slot::Tmp);
 // A call with its answer, and the calls of the disk that it makes.
 pub type Asked = (Call, Told, &'static [Did]);
 
-// What one kind of store does: the calls of the disk at a format of objects 1 and 2; calls in a row; calls that are stopped at
-// each call of the disk; and recoveries.
+// What one kind of store does: the calls of the disk at a format of objects 1 and 2; calls in a row; calls that are
+// stopped at each call of the disk; and recoveries.
 #[derive(Clone, Copy)]
 pub struct Tables {
     pub puts: &'static [Did],
