@@ -3,13 +3,12 @@ ghost use Rattle.std.specs.Prelude.{◌≡◌, ◌≤◌, ◌<◌, ◌+◌, IfOk
 ghost use Rattle.arj_journal.specs.ScriptForm.{HeaderInForm};
 ghost use Rattle.arj_node_tests.specs.Alone.{StandsSome};
 
-use crate::calls::put_calls;
 use arj_base::Bytes;
 use arj_core::{Core, CoreFault, Input, Output, Outputs};
 use arj_disk::{Disk, MemDisk, Outcome};
 use arj_journal::words::frame_word;
 use arj_journal::{Body, Header, Line, put_line};
-use arj_part_tests::{Did, Recorder};
+use arj_part_tests::{Did, Recorder, put_calls};
 use arj_script::{Item, Reader, ScriptFault};
 use std::alloc::{AllocError, Global};
 

@@ -10,8 +10,6 @@ mod alone;
 #[cfg(test)]
 mod bytes;
 #[cfg(test)]
-mod calls;
-#[cfg(test)]
 mod plays;
 #[cfg(test)]
 mod rows;

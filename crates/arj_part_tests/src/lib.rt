@@ -2,11 +2,12 @@
 //! their calls.
 //!
 //! It stands on `arj_msg`, `arj_store`, `arj_segment`, `arj_intent`, `arj_recover` and `arj_disk`, which it knows by their
-//! contracts. It has tests, and the recording disk, which the tests of crates above use too.
+//! contracts. It has tests, and the recording disk and the lines of its calls, which the tests of crates above use too.
 #![tactic(auto)]
 
 #[cfg(test)]
 mod beginnings;
+mod calls;
 #[cfg(test)]
 mod messages;
 mod recorder;
@@ -21,4 +22,5 @@ mod tables;
 #[cfg(test)]
 mod uses;
 
+pub use calls::put_calls;
 pub use recorder::{Did, Recorder};

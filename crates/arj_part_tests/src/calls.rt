@@ -1,7 +1,7 @@
 // The calls of a disk as lines.
+use crate::Did;
 use arj_base::{Bytes, Uid};
 use arj_disk::{Role, Slot};
-use arj_part_tests::Did;
 use std::alloc::AllocError;
 
 // A file of a Uid.
@@ -57,10 +57,10 @@ fn put_did(text: &mut Bytes, did: Did) -> Result<(), AllocError> {
     }
 }
 
-/// Puts the calls of a disk in an event, each as a line.
-pub fn put_calls(text: &mut Bytes, event: u32, calls: &[Did]) -> Result<(), AllocError> {
+/// Puts the calls of a disk, each as a line that begins with this number.
+pub fn put_calls(text: &mut Bytes, number: u32, calls: &[Did]) -> Result<(), AllocError> {
     for did in calls {
-        text.extend_decimal(u64::from(event))?;
+        text.extend_decimal(u64::from(number))?;
         put_did(text, *did)?;
         text.extend(b"\n")?;
     }
