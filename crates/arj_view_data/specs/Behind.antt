@@ -2,6 +2,7 @@
 use Rattle.std.specs.Prelude.{◌≡◌, ◌+◌, ℕ, List, length, Some, slice_get}
 use Rattle.arj_journal.specs.declared.body.Line.{Line}
 use Rattle.arj_model.specs.Actions.{acts}
+use Rattle.arj_changes.specs.Kept.{AreKept}
 use Rattle.arj_standing.specs.Begun.{AreBegun}
 use Rattle.arj_standing.specs.Doubts.{doubts}
 use Rattle.arj_standing.specs.Node.{IsTable}
@@ -18,3 +19,4 @@ pub record StandsBehind (lines : List Line) (s : Standing) : Type 0 where
   pub tables : AreTables lines s.tables.items
   pub nodes : length s.tables.items ≡ 16
   pub doubts : s.doubts.items ≡ doubts lines
+  pub changes : AreKept lines s.changes

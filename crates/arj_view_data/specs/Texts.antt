@@ -1,6 +1,7 @@
 -- What is told of a run, as lines of text: the lines of its journal, and behind them the lock tables and the doubts that they change.
 use Rattle.std.specs.Prelude.{ℕ, List, [], ◌∷◌, ◌++◌, codes, Bool, ◌&&◌, nat_lt, if◌then◌else◌}
-use Rattle.std.specs.List.{count_by, flat_map}
+use Rattle.std.specs.Fmt.{decimal}
+use Rattle.std.specs.List.{flat_map}
 use Rattle.arj_base.specs.Rows.{Row}
 use Rattle.arj_base.specs.Uid.{uid_text}
 use Rattle.arj_base.specs.declared.uid.Uid.{Uid}
@@ -9,10 +10,14 @@ use Rattle.arj_journal.specs.LineWords.{role_text}
 use Rattle.arj_journal.specs.declared.body.Body.{Body}
 use Rattle.arj_journal.specs.declared.body.Body.TheVariants as body
 use Rattle.arj_journal.specs.declared.body.Line.{Line}
+use Rattle.arj_journal.specs.declared.header.Header.{Header}
+use Rattle.arj_journal.specs.declared.header.ObjectLine.{ObjectLine}
+use Rattle.arj_model.specs.Last.{entry_state, listed}
 use Rattle.arj_model.specs.Table.{table}
+use Rattle.arj_changes.specs.Stores.{is_moved}
 use Rattle.arj_standing.specs.Doubts.{doubts}
 use Rattle.arj_standing.specs.declared.doubts.Doubt.{Doubt}
-use Rattle.arj_text.specs.Words.{mode_text, number_word, space, value_text}
+use Rattle.arj_text.specs.Words.{mode_text, number_word, space}
 
 -- a Uid of a path, a comma behind it
 abbrev pub step_text : Uid → List ℕ
@@ -58,15 +63,41 @@ doubts_behind lines (body.Prepared n u r) = doubts_text (doubts lines)
 doubts_behind lines (body.Done n u r e) = doubts_text (doubts lines)
 doubts_behind lines _ = []
 
+-- a store, a comma behind it
+abbrev pub store_text : ℕ → List ℕ
+store_text n = decimal n ++ codes ","
+
+-- the entry of an object: its version, its writer, and the stores that are listed
+abbrev pub listed_text : ℕ → ℕ → Uid → List ℕ → List ℕ
+listed_text x version writer stores =
+    codes "listed" ++ (number_word x ++ (number_word version ++ (uid_word writer ++ (space ++ (flat_map store_text stores ++ 10 ∷ [])))))
+
+-- that of an object of the header, once a store of it was excluded or included
+abbrev pub entry_text : Header → List Line → ObjectLine → List ℕ
+entry_text header lines o =
+    if is_moved lines o.x then listed_text o.x (entry_state header lines o.x).version (entry_state header lines o.x).writer (listed header lines o.x) else []
+
+-- those of all objects
+abbrev pub entries_text : Header → List Line → List ℕ
+entries_text header lines = flat_map (entry_text header lines) header.objects
+
+-- the same, behind these lines, where the last of them tells of a commit
+abbrev pub entries_behind : Header → List Line → Body → List ℕ
+entries_behind header lines (body.Committed l) = entries_text header lines
+entries_behind header lines (body.Recovered n u) = entries_text header lines
+entries_behind header lines _ = []
+
 -- a line of the journal, and what it changes
-abbrev pub line_behind : List Line → Line → List ℕ
-line_behind lines line = codes "line " ++ (line_text line ++ (table_behind lines line.body ++ doubts_behind lines line.body))
+abbrev pub line_behind : Header → List Line → Line → List ℕ
+line_behind header lines line =
+    codes "line " ++ (line_text line ++ (table_behind lines line.body ++ (doubts_behind lines line.body ++ entries_behind header lines line.body)))
 
 -- these lines, each with what it changes, behind those before them
-abbrev pub lines_behind : List Line → List Line → List ℕ
-lines_behind before [] = []
-lines_behind before (line ∷ rest) = line_behind (before ++ line ∷ []) line ++ lines_behind (before ++ line ∷ []) rest
+abbrev pub lines_behind : Header → List Line → List Line → List ℕ
+lines_behind header before [] = []
+lines_behind header before (line ∷ rest) =
+    line_behind header (before ++ line ∷ []) line ++ lines_behind header (before ++ line ∷ []) rest
 
 -- The lines of a journal, each with what it changes.
-abbrev pub run_text : List Line → List ℕ
-run_text lines = lines_behind [] lines
+abbrev pub run_text : Header → List Line → List ℕ
+run_text header lines = lines_behind header [] lines

@@ -28,6 +28,15 @@ fn put_uid(out: &mut Bytes, uid: Uid) -> Result<(), AllocError>
     put_decimal(out, uid.num)
 }
 
+/// A Uid, a space before it.
+#[tactic(auto, using(std::proofs::lemmas::List::append_assoc))]
+pub fn put_uid_word(out: &mut Bytes, uid: Uid) -> Result<(), AllocError>
+    ensures { OnOk result (out.new ≡ out.old ++ uid_word uid) }
+{
+    out.extend(b" ")?;
+    put_uid(out, uid)
+}
+
 // A Uid of a path, a comma behind it.
 #[tactic(auto, using(std::proofs::lemmas::List::append_assoc))]
 fn put_step(out: &mut Bytes, uid: Uid) -> Result<(), AllocError>
@@ -53,8 +62,7 @@ fn put_path(out: &mut Bytes, path: &[Uid]) -> Result<(), AllocError>
 fn put_row(out: &mut Bytes, lock: &Held) -> Result<(), AllocError>
     ensures { OnOk result (out.new ≡ out.old ++ row_text (shown lock.now)) }
 {
-    out.extend(b" ")?;
-    put_uid(out, lock.object)?;
+    put_uid_word(out, lock.object)?;
     put_word(out, mode_word(lock.mode))?;
     out.extend(b" ")?;
     put_path(out, lock.holder.as_slice())
@@ -112,8 +120,7 @@ fn put_doubt(out: &mut Bytes, doubt: &Doubt) -> Result<(), AllocError>
     ensures { OnOk result (out.new ≡ out.old ++ doubt_text doubt.now) }
 {
     put_number(out, u64::from(doubt.node))?;
-    out.extend(b" ")?;
-    put_uid(out, doubt.action)?;
+    put_uid_word(out, doubt.action)?;
     put_word(out, role_word(doubt.role))
 }
 

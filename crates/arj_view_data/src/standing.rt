@@ -7,16 +7,19 @@ ghost use Rattle.arj_standing.specs.Node.{IsTable};
 ghost use Rattle.arj_view_data.specs.Behind.{AreTables, StandsBehind};
 ghost use Rattle.arj_view_data.specs.Texts.{is_node};
 
+use arj_changes::Changes;
 use arj_journal::Line;
 use arj_standing::{Begun, Doubt, NodeLocks, begin, note_doubts};
 use std::alloc::{AllocError, Global};
 
-/// The actions that have begun, the lock tables of nodes 1 to 16, and what is prepared and not done, behind the lines so far.
+/// The actions that have begun, the lock tables of nodes 1 to 16, what is prepared and not done, and what actions change, behind the
+/// lines so far.
 #[derive(Drop)]
 pub struct Standing {
     pub begun: Vec<Begun>,
     pub tables: Vec<NodeLocks>,
     pub doubts: Vec<Doubt>,
+    pub changes: Changes,
 }
 
 // The tables of nodes 1 to 16 before the first line.
@@ -66,7 +69,7 @@ fn table_in(tables: &[NodeLocks], node: u8) -> Option<&NodeLocks>
 }
 
 impl Standing {
-    ghost use Rattle.std.specs.Prelude.{◌≡◌, ◌++◌, ◌∷◌, [], List, IfOk, OnOk, MatchOption, false, true};
+    ghost use Rattle.std.specs.Prelude.{◌≡◌, ◌++◌, ◌∷◌, ◌+◌, ◌<◌, ◌^◌, [], List, IfOk, OnOk, MatchOption, false, true, length};
     ghost use Rattle.arj_journal.specs.declared.body.Line.{Line as line_type};
     ghost use Rattle.arj_standing.specs.Node.{IsTable};
     ghost use Rattle.arj_view_data.specs.Behind.{StandsBehind};
@@ -80,14 +83,16 @@ impl Standing {
             begun: Vec::new(alloc),
             tables: no_locks(alloc)?,
             doubts: Vec::new(alloc),
+            changes: Changes::new(alloc),
         })
     }
 
     /// Takes a line, the next one.
     pub fn take(&mut self, alloc: Global, line: &Line) -> Result<(), AllocError>
-        ensures { OnOk result ((lines : List line_type) → StandsBehind lines self.old → StandsBehind (lines ++ line.now ∷ []) self.new) }
+        ensures { OnOk result ((lines : List line_type) → StandsBehind lines self.old → length lines + 1 < 2 ^ 64 → StandsBehind (lines ++ line.now ∷ []) self.new) }
     {
         take_each(&mut self.tables, alloc, self.begun.as_slice(), line)?;
+        self.changes.take(alloc, self.begun.as_slice(), line)?;
         begin(alloc, &mut self.begun, &line.body)?;
         note_doubts(alloc, &mut self.doubts, &line.body)?;
         Ok(())

@@ -21,7 +21,7 @@ script_line line = asked_text line.asked ++ (line.text ++ 10 ∷ [])
 
 -- what is told of a run: its script, what `run_text` tells of its journal, and the last states
 abbrev pub told_text : Seen → List ℕ
-told_text seen = flat_map script_line seen.script.items ++ (run_text seen.lines ++ told_states seen.header seen.lines)
+told_text seen = flat_map script_line seen.script.items ++ (run_text seen.header seen.lines ++ told_states seen.header seen.lines)
 
 -- The page: what stands before, what is told, escaped, and what stands behind.
 abbrev pub page_text : List ℕ → List ℕ → Seen → List ℕ

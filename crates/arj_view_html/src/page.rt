@@ -113,7 +113,6 @@ function readLine(text) {
   if (w[0] === 'halted') push(lives, w[1], { at, up: false });
   if (w[0] === 'up') push(lives, w[1], { at, up: true, inc: w[2] });
   if (w[0] === 'copy') push(copies, w[1] + ' ' + w[2], { at, version: w[3], writer: w[4], payload: w[5] });
-  if (w[0] === 'entry') push(entries, w[1], { at, version: w[2], stores: w[4] === '' ? [] : w[4].split(',') });
   if (w[0] === 'excluded') push(leaving, w[3] + ' ' + w[2], { at, who: w[1] });
 }
 
@@ -132,6 +131,12 @@ function readDoubts(words) {
   doubts.push({ at: lines.length, list });
 }
 
+// The entry of an object, once a store of it was excluded or included: its version, its writer, and the stores that are listed.
+function readListed(words) {
+  const stores = words[4].split(',').filter(store => store !== '');
+  push(entries, words[1], { at: lines.length, version: words[2], writer: words[3], stores });
+}
+
 // A last state stands with the place of the line behind which it is so.
 function statesAt(at) {
   const before = states[states.length - 1];
@@ -148,6 +153,7 @@ for (const text of told) {
   else if (words[0] === 'line') readLine(rest);
   else if (words[0] === 'locks') readTable(words);
   else if (words[0] === 'doubts') readDoubts(words);
+  else if (words[0] === 'listed') readListed(words);
   else if (words[0] === 'state') {
     statesAt(Number(words[1])).values.set(words[2], 'version ' + words[3] + ': ' + words.slice(4).join(' '));
   }
@@ -416,6 +422,8 @@ function storesTable(state) {
     const value = (state && state.values.get(object.x)) || 'as the last line below says';
     const head = make('th');
     head.append(make('b', '', 'object ' + object.x), document.createElement('br'), value);
+    const entry = last(entries.get(object.x), place);
+    if (entry) head.append(make('div', 'small', 'entry: version ' + entry.version + ', by ' + shown(entry.writer) + ', line ' + entry.at));
     row.append(head);
     const all = [...object.stores];
     for (const store of listedNow(object)) if (!all.includes(store)) all.push(store);

@@ -52,7 +52,7 @@ fn told(alloc: Global, seen: &Seen) -> Result<Bytes, AllocError>
 {
     let mut out = Bytes::new(alloc);
     put_script(&mut out, seen.script.as_slice())?;
-    put_run(alloc, &mut out, seen.lines.as_slice())?;
+    put_run(alloc, &mut out, &seen.header, seen.lines.as_slice())?;
     put_last_states(alloc, &mut out, &seen.header, seen.lines.as_slice())?;
     Ok(out)
 }

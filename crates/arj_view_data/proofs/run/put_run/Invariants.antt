@@ -6,6 +6,6 @@ use Rattle.arj_view_data.proofs.run.put_run.Given as goal
 
 abbrev pub invariant-loop-line : goal.invariant-loop-line
 invariant-loop-line l = record {
-  told : l.out ++ lines_behind (take l.line-index l.lines) (drop l.line-index l.lines) ≡ l.fn.out ++ run_text l.lines;
+  told : l.out ++ lines_behind l.header (take l.line-index l.lines) (drop l.line-index l.lines) ≡ l.fn.out ++ run_text l.header l.lines;
   standing : StandsBehind (take l.line-index l.lines) l.standing;
 }

@@ -1,4 +1,4 @@
-use Rattle.std.proofs.Common.{rules, ◌≡◌, ◌+◌, ◌-◌, Some, None, true, false, arith}
+use Rattle.std.proofs.Common.{◌≡◌, ◌+◌, ◌-◌, Some, None, true, false, arith}
 use Rattle.std.specs.Prelude.{slice_get}
 use Rattle.arj_standing.specs.Node.{IsTable}
 use Rattle.arj_view_data.specs.Texts.{is_node}
