@@ -72,7 +72,7 @@ fn numbers(alloc: Global, number: Option<u64>) -> Result<Numbers, AllocError> {
     Ok(numbers)
 }
 
-pub fn bytes(alloc: Global, pieces: &[&[u8]]) -> Result<Bytes, AllocError> {
+fn bytes(alloc: Global, pieces: &[&[u8]]) -> Result<Bytes, AllocError> {
     let mut bytes = Bytes::new(alloc);
     for piece in pieces {
         bytes.extend(piece)?;
@@ -99,14 +99,14 @@ fn words(alloc: Global, given: &[&str]) -> Result<Vec<String>, AllocError> {
 
 // How a run is fed: pieces of at most so many bytes, and one read and one write that may fail.
 #[derive(Clone, Copy)]
-pub struct Feeding {
+struct Feeding {
     chunk: usize,
     failing_read: Option<u64>,
     failing_write: Option<u64>,
 }
 
 // Long pieces, and nothing fails.
-pub const SURE: Feeding = Feeding {
+const SURE: Feeding = Feeding {
     chunk: 512,
     failing_read: None,
     failing_write: None,
@@ -115,23 +115,23 @@ pub const SURE: Feeding = Feeding {
 // What a run of the top call came to: its status, what the sink took, why a line is bad, whether there is a world, and the next
 // byte that the source gives.
 #[derive(Drop)]
-pub struct Came {
-    pub status: u8,
-    pub sink: MemSink,
+struct Came {
+    status: u8,
+    sink: MemSink,
     why: Option<BadLine>,
     has_world: bool,
     next: Option<u8>,
 }
 
 // A run of a command over these disks.
-pub fn run<D: Disk>(
+fn run(
     alloc: Global,
     given: &[&str],
     script: Bytes,
     feeding: Feeding,
-    rack: &mut Rack<D>,
+    rack: &mut Rack<MemDisk>,
 ) -> Result<Came, AllocError>
-    requires { AreFresh D.Disk rack.old }
+    requires { AreFresh ⟦<MemDisk as Disk>⟧ rack.old }
 {
     let words = words(alloc, given)?;
     let room = room(alloc, 32)?;
