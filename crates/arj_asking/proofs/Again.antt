@@ -1,5 +1,6 @@
 -- What is asked again, by the actions that wait among all.
-use Rattle.std.proofs.Common.{◌≡◌, ℕ, suc, ◌+◌, List, [], ◌∷◌, ◌++◌, Bool, true, Some, None, refl, ap, sym, ◌∙◌, arith, append_assoc, length, length-append, subst, eq-eqb}
+use Rattle.std.proofs.Common.{◌≡◌, ℕ, suc, ◌+◌, List, [], ◌∷◌, ◌++◌, Bool, true, Some, None, refl, ap, sym, ◌∙◌, arith, append_assoc}
+use Rattle.std.proofs.Common.{length, length-append, subst, eq-eqb}
 use Rattle.std.specs.Prelude.{slice_get, if◌then◌else◌, ◌==◌, ◌&&◌}
 use Rattle.arj_asking.specs.Again.{again_at}
 use Rattle.arj_coord.specs.Waiting.{now_in, waiting}
@@ -27,7 +28,8 @@ goes : (n : ℕ) (all ds : List Doing) (now : Now) (c : Coord) → now_in (at_pl
 goes n all ds now c is later =
     let t : Did Coord = again_now c now in
     (λ i. record { part = (later t.part i).part; outs = t.outs ++ (later t.part i).outs })
-    ∙ ap (λ (w : Now). let s : Did Coord = again_now c w in let q : Did Coord = again_at all (waiting (n + 1) ds) s.part in record { part = q.part; outs = s.outs ++ q.outs }) (sym is)
+    ∙ ap (λ (w : Now). let s : Did Coord = again_now c w in let q : Did Coord =
+    again_at all (waiting (n + 1) ds) s.part in record { part = q.part; outs = s.outs ++ q.outs }) (sym is)
 
 -- which asks nothing where it waits for nothing
 by_now : (n : ℕ) (all ds : List Doing) (now : Now) (c : Coord) → now_in (at_place n all) ≡ now
@@ -38,7 +40,8 @@ by_now n all ds Idle c is later = later c
 by_now n all ds (Calling s) c is later = goes n all ds (Calling s) c is later
 by_now n all ds (Committing m) c is later = goes n all ds (Committing m) c is later
 
-again_waiting : (n : ℕ) (before ds : List Doing) (c : Coord) → suc (length before) ≡ n → again_all ds c ≡ again_at (before ++ ds) (waiting n ds) c
+again_waiting : (n : ℕ) (before ds : List Doing) (c : Coord) → suc (length before) ≡ n →
+    again_all ds c ≡ again_at (before ++ ds) (waiting n ds) c
 again_waiting n before [] c is = refl
 again_waiting n before (d ∷ ds) c is =
     let all : before ++ d ∷ ds ≡ (before ++ d ∷ []) ++ ds = sym (append_assoc before (d ∷ []) ds) in

@@ -11,7 +11,8 @@ use Rattle.arj_protocol.specs.Asking.{again_now, asks_all, asks_node, call_steps
 use Rattle.arj_protocol.specs.Asking as asking
 use Rattle.arj_protocol.specs.Call.{Include, Known, Run, Steps, next_ask, next_node, start}
 use Rattle.arj_protocol.specs.Commit.{plan_of, waiting}
-use Rattle.arj_protocol.specs.Coord.{Calling, Committing, Coord, Doing, Idle, Keeping, Now, Root, Said, is_free, on_doing, on_root, retained_in, retains, root_at, second_uid, with_keeping, with_went}
+use Rattle.arj_protocol.specs.Coord.{Calling, Committing, Coord, Doing, Idle, Keeping, Now, Root, Said, is_free, on_doing, on_root}
+use Rattle.arj_protocol.specs.Coord.{retained_in, retains, root_at, second_uid, with_keeping, with_went}
 use Rattle.arj_protocol.specs.Effect.{Did, Effect, Send}
 use Rattle.arj_protocol.specs.Order.{unbound}
 use Rattle.arj_protocol.specs.Tree.{Branch, Tree, branch_of, ends_of, root_of, uses_object}
@@ -27,7 +28,8 @@ asks_behind : (p : Path) (req : ℕ) (ws : List (ℕ × Ask)) (u : Uid) (f : Doi
 asks_behind p req [] u f c = refl
 asks_behind p req (w ∷ ws) u f c =
     let went : Root → Root = with_went (record { path = uids_of p; node = w.0; invoke = is_invoke_ask w.1 }) in
-    ap (λ (d : Coord). let s : Did Coord = asks_all p req ws d in s.part) (root_behind u (root_of p) f went c) ∙ asks_behind p req ws u f (on_root (root_of p) went c)
+    ap (λ (d : Coord). let s : Did Coord =
+    asks_all p req ws d in s.part) (root_behind u (root_of p) f went c) ∙ asks_behind p req ws u f (on_root (root_of p) went c)
 
 asks_same : (p : Path) (req : ℕ) (ws : List (ℕ × Ask)) (c d : Coord) → (asks_all p req ws c).outs ≡ (asks_all p req ws d).outs
 asks_same p req [] c d = refl
@@ -36,18 +38,21 @@ asks_same p req (w ∷ ws) c d =
     λ i. Send w.0 (request (record { path = p; req = req }) w.1) ∷ same i
 
 -- what is asked and an action at work don't meet
-again_behind : (now : Now) (u : Uid) (f : Doing → Doing) (c : Coord) → (again_now (on_doing u f c) now).part ≡ on_doing u f ((again_now c now).part)
+again_behind : (now : Now) (u : Uid) (f : Doing → Doing) (c : Coord) →
+    (again_now (on_doing u f c) now).part ≡ on_doing u f ((again_now c now).part)
 again_behind Idle u f c = refl
 again_behind (Calling s) u f c =
     let ask : Ask = next_ask (ends_of (root_of s.path) c.tree) s in
-    ap (λ (t : Tree). let d : Did Coord = asks_node s.path s.req (next_node s, next_ask (ends_of (root_of s.path) t) s) (on_doing u f c) in d.part) (same_tree u f c)
+    ap (λ (t : Tree). let d : Did Coord =
+    asks_node s.path s.req (next_node s, next_ask (ends_of (root_of s.path) t) s) (on_doing u f c) in d.part) (same_tree u f c)
     ∙ root_behind u (root_of s.path) f (with_went (record { path = uids_of s.path; node = next_node s; invoke = is_invoke_ask ask })) c
 again_behind (Committing m) u f c = asks_behind (plan_of m).path (plan_of m).req (waiting m) u f c
 
 again_same : (now : Now) (u : Uid) (f : Doing → Doing) (c : Coord) → (again_now (on_doing u f c) now).outs ≡ (again_now c now).outs
 again_same Idle u f c = refl
 again_same (Calling s) u f c =
-    ap (λ (t : Tree). let d : Did Coord = asks_node s.path s.req (next_node s, next_ask (ends_of (root_of s.path) t) s) c in d.outs) (same_tree u f c)
+    ap (λ (t : Tree). let d : Did Coord =
+    asks_node s.path s.req (next_node s, next_ask (ends_of (root_of s.path) t) s) c in d.outs) (same_tree u f c)
 again_same (Committing m) u f c = asks_same (plan_of m).path (plan_of m).req (waiting m) (on_doing u f c) c
 
 -- what it waits for is asked before it waits
@@ -63,7 +68,8 @@ wait_outs now u req c before outs sent =
 
 -- ---- a call starts
 
-retained_by : (path : List Uid) (p : Path) (x : ℕ) (c : Coord) (o : Option Uid) → retained_in path (record c { tree = uses_object p x c.tree }) o ≡ retained_in path c o
+retained_by : (path : List Uid) (p : Path) (x : ℕ) (c : Coord) (o : Option Uid) →
+    retained_in path (record c { tree = uses_object p x c.tree }) o ≡ retained_in path c o
 retained_by path p x c None = refl
 retained_by path p x c (Some top) = refl
 
@@ -107,15 +113,18 @@ pub include_so : (P : Did Coord → Type 0) (p : Path) (x store : ℕ) (u : Uid)
 include_so P p x store u req c used s named req_is used_is steps_is so =
     let v : Uid = actor p in
     let req_so : req ≡ next_req v c = req_is ∙ ap (λ w. next_req w c) (sym named) in
-    let steps_so : s ≡ start p x (Include store) None unbound (next_req v c) = steps_is ∙ ap (start p x (Include store) None unbound) req_so in
+    let steps_so : s ≡ start p x (Include store) None unbound (next_req v c) =
+    steps_is ∙ ap (start p x (Include store) None unbound) req_so in
     subst P (λ i. waits_now (sym named i) (req_so i) (Calling (steps_so i)) (used_is i)) so
 
 -- ---- what waits is the action's
 
-pub call_waits : (u : Uid) (p : Path) (x : ℕ) (o : Op) (req : ℕ) (r : Root) (c : Coord) (k : Keeping) (s : Steps) → s ≡ call_steps p x o req r c k → actor p ≡ u → NowFits u req (Calling s)
+pub call_waits : (u : Uid) (p : Path) (x : ℕ) (o : Op) (req : ℕ) (r : Root) (c : Coord) (k : Keeping) (s : Steps) →
+    s ≡ call_steps p x o req r c k → actor p ≡ u → NowFits u req (Calling s)
 call_waits u p x o req r c k s is named = subst (λ t. NowFits u req (Calling t)) (sym is) (named, (refl, tt))
 
-pub include_waits : (u : Uid) (p : Path) (x store req : ℕ) (s : Steps) → s ≡ start p x (Include store) None unbound req → actor p ≡ u → IncludesNode (Include store) → NowFits u req (Calling s)
+pub include_waits : (u : Uid) (p : Path) (x store req : ℕ) (s : Steps) → s ≡ start p x (Include store) None unbound req → actor p ≡ u →
+    IncludesNode (Include store) → NowFits u req (Calling s)
 include_waits u p x store req s is named node = subst (λ t. NowFits u req (Calling t)) (sym is) (named, (refl, node))
 
 -- ---- who calls
@@ -125,7 +134,8 @@ path_by Q None p is so = absurd cc
 path_by Q (Some b) p is so = let same : p ≡ b.path = cc in subst Q same so
 
 -- of the action with this path
-pub with_path : (Q : Path → Type 0) (u : Uid) (t : Tree) (p : Path) → Some p ≡ path_of_branch (branch_of u t) → Q p → IfSome (branch_of u t) (λ b. Q b.path)
+pub with_path : (Q : Path → Type 0) (u : Uid) (t : Tree) (p : Path) → Some p ≡ path_of_branch (branch_of u t) → Q p →
+    IfSome (branch_of u t) (λ b. Q b.path)
 with_path Q u t p is so = path_by Q (branch_of u t) p is so
 
 used_path : (x : ℕ) (t : Tree) (o : Option Branch) (p : Path) → Some p ≡ path_of_branch o → used_by x t o ≡ uses_object p x t
@@ -143,6 +153,7 @@ none_by x t (Some b) is = absurd cc
 pub none_refused : (u : Uid) (x : ℕ) (t : Tree) → None ≡ path_of_branch (branch_of u t) → use_refusal u x t ≡ Some fault.Ended
 none_refused u x t is = none_by x t (branch_of u t) is
 
-pub not_refused : {T E : Type 0} (o : Option E) (was r : Result T E) (x : T) → was ≡ Ok x → IfSome o (λ e. was ≡ Err e) → IfSome o (λ e. r ≡ Err e)
+pub not_refused : {T E : Type 0} (o : Option E) (was r : Result T E) (x : T) → was ≡ Ok x → IfSome o (λ e. was ≡ Err e) →
+    IfSome o (λ e. r ≡ Err e)
 not_refused None was r x ok is = tt
 not_refused (Some e) was r x ok is = absurd cc

@@ -6,7 +6,8 @@ use Rattle.arj_coord.proofs.Maps.{doings_at_once}
 use Rattle.arj_coord.specs.Waiting.{idle_doing}
 use Rattle.arj_protocol.specs.Coord.{Coord, Doing, Root, Now, doing_of, on_doing, change_doing, on_root, root_at}
 use Rattle.arj_protocol.specs.Ending.{says, say_for, ended}
-use Rattle.arj_protocol.specs.Tree.{Tree, Branch, at_place, set_place, is_own, branch_of, ended_at, ended_branch, family_of, listed_end, root_of, with_family}
+use Rattle.arj_protocol.specs.Tree.{Tree, Branch, at_place, set_place, is_own, branch_of, ended_at, ended_branch, family_of, listed_end}
+use Rattle.arj_protocol.specs.Tree.{root_of, with_family}
 use Rattle.arj_protocol.specs.Words.{Uid, Path, End, Label, Body, uids_of}
 
 -- ---- places of a list
@@ -23,11 +24,13 @@ place_get (suc k) xs a b e = set_get xs k a b e
 -- ---- an action at work
 
 -- a changed action is found changed
-own_get : (t : Bool) (k : ℕ) (ds : List Doing) (d e : Doing) → (if t then at_place k ds else None) ≡ Some d → (if t then at_place k (set_place k e ds) else None) ≡ Some e
+own_get : (t : Bool) (k : ℕ) (ds : List Doing) (d e : Doing) → (if t then at_place k ds else None) ≡ Some d →
+    (if t then at_place k (set_place k e ds) else None) ≡ Some e
 own_get true k ds d e is = place_get k ds d e is
 own_get false k ds d e is = absurd cc
 
-found_by : (u : Uid) (f : Doing → Doing) (c : Coord) (o : Option Doing) → doing_of u c ≡ o → doing_of u (change_doing f u c o) ≡ option_map f o
+found_by : (u : Uid) (f : Doing → Doing) (c : Coord) (o : Option Doing) → doing_of u c ≡ o →
+    doing_of u (change_doing f u c o) ≡ option_map f o
 found_by u f c None is = is
 found_by u f c (Some d) is = own_get (is_own u c.tree) u.num c.doings d (f d) is
 
@@ -36,7 +39,11 @@ found_changed u f c = found_by u f c (doing_of u c) refl
 
 -- what an action waited for is forgotten
 pub waits_again : (u : Uid) (req : ℕ) (now : Now) (c : Coord)
-    → on_doing u (λ (d : Doing). record d { req = req; now = now }) (on_doing u idle_doing c) ≡ on_doing u (λ (d : Doing). record d { req = req; now = now }) c
+    → on_doing u (λ (d : Doing). record d { req = req; now = now }) (on_doing u idle_doing c) ≡ on_doing u (λ (d : Doing). record d {
+      req =
+          req;
+      now = now;
+    }) c
 waits_again u req now c = doings_at_once u (λ (d : Doing). record d { req = req; now = now }) idle_doing c
 
 pub idle_again : (u : Uid) (c : Coord) → on_doing u idle_doing (on_doing u idle_doing c) ≡ on_doing u idle_doing c
@@ -64,7 +71,8 @@ root_behind_by u root f g c None = refl
 root_behind_by u root f g c (Some d) = refl
 
 -- a root and an action at work don't meet
-pub root_behind : (u root : Uid) (f : Doing → Doing) (g : Root → Root) (c : Coord) → on_root root g (on_doing u f c) ≡ on_doing u f (on_root root g c)
+pub root_behind : (u root : Uid) (f : Doing → Doing) (g : Root → Root) (c : Coord) →
+    on_root root g (on_doing u f c) ≡ on_doing u f (on_root root g c)
 root_behind u root f g c = root_behind_by u root f g c (doing_of u c)
 
 tree_behind_by : (u : Uid) (f : Doing → Doing) (t : Tree) (c : Coord) (o : Option Doing)
@@ -96,7 +104,8 @@ own_by u false s t same = same
 
 own_listed : (u v : Uid) (e : End) (p : Path) (t : Tree) → is_own u (listed_end v e p t) ≡ is_own u t
 own_listed u v e p t =
-    own_by u (nat_le (length (uids_of p)) 1) (with_family (root_of p) (let f = family_of (root_of p) t in record f { ends = f.ends ++ (v, e) ∷ [] }) t) t refl
+    own_by u (nat_le (length (uids_of p)) 1) (with_family (root_of p) (let f =
+    family_of (root_of p) t in record f { ends = f.ends ++ (v, e) ∷ [] }) t) t refl
 
 own_ended_by : (u v : Uid) (e : End) (t : Tree) (o : Option Branch) → is_own u (ended_branch v e t o) ≡ is_own u t
 own_ended_by u v e t None = refl

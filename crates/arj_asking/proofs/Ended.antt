@@ -9,7 +9,10 @@ use Rattle.arj_coord.specs.Fits.{IncludesNode}
 use Rattle.arj_protocol.specs.Ask.{Reply, Bound, Loaded, Activated, Noted, Invoked, Voted, Prepared, Confirmed}
 use Rattle.arj_protocol.specs.Asking.{store_of}
 use Rattle.arj_protocol.specs.Call as call
-use Rattle.arj_protocol.specs.Call.{Known, Goal, Run, Include, At, AtBind, AtLoad, AtActivate, AtNote, AtInvoke, Steps, CallStep, CallEnd, On, Ended, Moved, answered, given_up, with_inc, same_binding, other_binding, bound_by, load_from, or_lost, made_by, bound_answer, loaded_state, loaded_answer, activated_by, recorded_answer, invoked_answer, load_given_up, named_again, live_known, made_known, write_known}
+use Rattle.arj_protocol.specs.Call.{Known, Goal, Run, Include, At, AtBind, AtLoad, AtActivate, AtNote, AtInvoke, Steps, CallStep, CallEnd}
+use Rattle.arj_protocol.specs.Call.{On, Ended, Moved, answered, given_up, with_inc, same_binding, other_binding, bound_by, load_from}
+use Rattle.arj_protocol.specs.Call.{or_lost, made_by, bound_answer, loaded_state, loaded_answer, activated_by, recorded_answer}
+use Rattle.arj_protocol.specs.Call.{invoked_answer, load_given_up, named_again, live_known, made_known, write_known}
 use Rattle.arj_protocol.specs.Coord.{Keeping}
 use Rattle.arj_protocol.specs.Order.{binding_eq, binding_less}
 use Rattle.arj_protocol.specs.Words.{BoundReply, LoadedReply, RecordedReply, InvokedReply}
@@ -29,7 +32,8 @@ either_fits P false m n so other = other
 
 inc_fits : (x : ℕ) (g : Goal) (i : ℕ) (kept : Known) (at : At) (first : Option ℕ) → Fits x g ((with_inc i kept at first).step)
 inc_fits x g i kept at None = tt
-inc_fits x g i kept at (Some first) = either_fits (λ (t : Moved). Fits x g t.step) (first == i) (call.moves (Some kept) at) (call.finds (Some kept) (call.Changed kept.server (call.two_incs first i))) tt tt
+inc_fits x g i kept at (Some first) =
+    either_fits (λ (t : Moved). Fits x g t.step) (first == i) (call.moves (Some kept) at) (call.finds (Some kept) (call.Changed kept.server (call.two_incs first i))) tt tt
 
 same_fits : (x : ℕ) (g : Goal) (old k : Known) (at : At) (i : Option ℕ) → Fits x g ((same_binding old k at i).step)
 same_fits x g old k at None = tt
@@ -53,12 +57,15 @@ lost_fits x g kept None = tt
 lost_fits x g kept (Some at) = tt
 
 bind_fits : (x : ℕ) (g : Goal) (free : Bool) (kept : Option Known) (r : BoundReply) → Fits x g ((bound_answer free kept r).step)
-bind_fits x g free kept (bound.Live b server i grant stores) = bound_fits x g free (live_known b server i grant stores) (AtInvoke (live_known b server i grant stores) i) kept
-bind_fits x g free kept (bound.Make b server grant stores) = made_fits x g free (made_known b server grant stores) kept (load_from (made_known b server grant stores) stores)
+bind_fits x g free kept (bound.Live b server i grant stores) =
+    bound_fits x g free (live_known b server i grant stores) (AtInvoke (live_known b server i grant stores) i) kept
+bind_fits x g free kept (bound.Make b server grant stores) =
+    made_fits x g free (made_known b server grant stores) kept (load_from (made_known b server grant stores) stores)
 bind_fits x g free kept (bound.Write grant stores) = lost_fits x g kept (load_from (write_known grant stores) stores)
 bind_fits x g free kept (bound.Conflict holder m) = tt
 
-load_fits : (x : ℕ) (g : Goal) (kept : Option Known) (k : Known) (s : ℕ) (r : LoadedReply) → IncludesNode g → MeantFor x (Loaded r) → Fits x g ((loaded_answer kept k s g r).step)
+load_fits : (x : ℕ) (g : Goal) (kept : Option Known) (k : Known) (s : ℕ) (r : LoadedReply) → IncludesNode g → MeantFor x (Loaded r) →
+    Fits x g ((loaded_answer kept k s g r).step)
 load_fits x (Run o) kept k s (loaded.State st) node meant = tt
 load_fits x (Include n) kept k s (loaded.State st) node meant = (node, meant)
 load_fits x g kept k s (loaded.InDoubt holder) node meant = tt
@@ -68,7 +75,8 @@ activate_fits x g k i None = tt
 activate_fits x g k i (Some old) =
     either_fits (λ (t : Moved). Fits x g t.step) (binding_eq old.binding k.binding) (with_inc i old (AtNote k i) old.inc) (call.moves (Some old) (AtNote k i)) (inc_fits x g i old (AtNote k i) old.inc) tt
 
-record_fits : (x : ℕ) (g : Goal) (kept : Option Known) (k : Known) (i : ℕ) (r : RecordedReply) → Fits x g ((recorded_answer kept k i r).step)
+record_fits : (x : ℕ) (g : Goal) (kept : Option Known) (k : Known) (i : ℕ) (r : RecordedReply) →
+    Fits x g ((recorded_answer kept k i r).step)
 record_fits x g kept k i recorded.Yes = tt
 record_fits x g kept k i (recorded.Changed w) = tt
 
@@ -77,7 +85,8 @@ invoke_fits x g kept k (invoked.Answered a) = tt
 invoke_fits x g kept k (invoked.Conflict holder m) = tt
 invoke_fits x g kept k (invoked.Changed w) = tt
 
-answer_fits : (x : ℕ) (free : Bool) (kept : Option Known) (g : Goal) (at : At) (r : Reply) → IncludesNode g → MeantFor x r → Fits x g ((answered free kept g at r).step)
+answer_fits : (x : ℕ) (free : Bool) (kept : Option Known) (g : Goal) (at : At) (r : Reply) → IncludesNode g → MeantFor x r →
+    Fits x g ((answered free kept g at r).step)
 answer_fits x free kept g (AtBind a) (Bound r) node meant = bind_fits x g free kept r
 answer_fits x free kept g (AtBind a) (Loaded r) node meant = tt
 answer_fits x free kept g (AtBind a) (Activated r) node meant = tt
@@ -119,13 +128,15 @@ answer_fits x free kept g (AtInvoke k i) (Voted r) node meant = tt
 answer_fits x free kept g (AtInvoke k i) (Prepared r) node meant = tt
 answer_fits x free kept g (AtInvoke k i) (Confirmed r) node meant = tt
 
-next_fits : (w : Caller) (s : Steps) (next : CallStep) → IncludesNode s.goal → w.x ≡ s.x → goal_of w.goal ≡ s.goal → Fits s.x s.goal next → StepFits w (came_by s next)
+next_fits : (w : Caller) (s : Steps) (next : CallStep) → IncludesNode s.goal → w.x ≡ s.x → goal_of w.goal ≡ s.goal → Fits s.x s.goal next →
+    StepFits w (came_by s next)
 next_fits w s (On at) node object goal fits = node
 next_fits w s (Ended e) node object goal fits =
     subst (λ x. EndFits x (store_of (goal_of w.goal)) e) (sym object) (subst (λ g. EndFits s.x (store_of g) e) (sym goal) fits)
 
 -- after an answer
-pub heard_fits : (w : Caller) (s : Steps) (free : Bool) (k : Keeping) (o : Option Reply) (came : Came) → IncludesNode s.goal → IsCaller w s → IfSome o (MeantFor s.x)
+pub heard_fits : (w : Caller) (s : Steps) (free : Bool) (k : Keeping) (o : Option Reply) (came : Came) → IncludesNode s.goal →
+    IsCaller w s → IfSome o (MeantFor s.x)
     → came ≡ (hears free k s o).came → StepFits w came
 heard_fits w s free k None came node caller meant is = subst (StepFits w) (sym is) tt
 heard_fits w s free k (Some r) came node caller meant is =
@@ -143,6 +154,7 @@ lost_at_fits x g (AtNote k i) = tt
 lost_at_fits x g (AtInvoke k i) = tt
 
 -- after a giveup
-pub given_up_fits : (w : Caller) (s : Steps) (came : Came) → IncludesNode s.goal → IsCaller w s → came ≡ came_by s (given_up s.at) → StepFits w came
+pub given_up_fits : (w : Caller) (s : Steps) (came : Came) → IncludesNode s.goal → IsCaller w s → came ≡ came_by s (given_up s.at) →
+    StepFits w came
 given_up_fits w s came node caller is =
     subst (StepFits w) (sym is) (next_fits w s (given_up s.at) node caller.object caller.goal (lost_at_fits s.x s.goal s.at))

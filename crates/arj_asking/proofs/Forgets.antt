@@ -5,7 +5,8 @@ use Rattle.arj_asking.specs.Hearing.{IsOf}
 use Rattle.arj_asking.proofs.Changes.{ended_idle, idle_again, says_idle, waits_again}
 use Rattle.arj_coord.specs.Waiting.{idle_doing}
 use Rattle.arj_protocol.specs.Ask.{actor}
-use Rattle.arj_protocol.specs.Asking.{asks_machine, asks_step, doomed_by, end_line, gaveup_lines, moved_commit, root_heard, step_call, step_commit}
+use Rattle.arj_protocol.specs.Asking.{asks_machine, asks_step, doomed_by, end_line, gaveup_lines, moved_commit, root_heard, step_call}
+use Rattle.arj_protocol.specs.Asking.{step_commit}
 use Rattle.arj_protocol.specs.Call.{Steps, CallStep, On, Ended}
 use Rattle.arj_protocol.specs.Commit.{Plan, Marked, CommitStep, Stays, Asks, Decides, Aborts, participants, plan_of}
 use Rattle.arj_protocol.specs.Coord.{Coord, Doing, Calling, Committing, on_doing, on_root}
@@ -31,7 +32,10 @@ forgets_decide : (p : Plan) (c : Coord) → decide p (on_doing (actor p.path) id
 forgets_decide p c =
     let u : Uid = actor p.path in
     λ i. record {
-      part = awaits u p (on_root (root_of p.path) (root_after p) (on_doing u (λ (d : Doing). record d { took = participants p }) (ended_idle u ending.Commit c i)));
+      part = awaits u p (on_root (root_of p.path) (root_after p) (on_doing u (λ (d : Doing). record d {
+        took =
+            participants p;
+      }) (ended_idle u ending.Commit c i)));
       outs = record_work u p ++ says_idle u body.Committed c i ++ map (decided_told (root_of p.path) u p) p.sent;
     }
 

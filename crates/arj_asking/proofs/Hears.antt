@@ -1,5 +1,6 @@
 -- A message to the coordinator, by what the action that had asked waits for.
-use Rattle.std.proofs.Common.{◌≡◌, ℕ, ◌+◌, ◌<◌, List, [], ◌∷◌, ◌++◌, Bool, true, false, Option, Some, None, refl, ap, sym, ◌∙◌, subst, arith, append_assoc}
+use Rattle.std.proofs.Common.{◌≡◌, ℕ, ◌+◌, ◌<◌, List, [], ◌∷◌, ◌++◌, Bool, true, false, Option, Some, None, refl, ap, sym, ◌∙◌, subst}
+use Rattle.std.proofs.Common.{arith, append_assoc}
 use Rattle.std.specs.Prelude.{◌↔◌, IfSome, IsTrue, option_map, if◌then◌else◌}
 use Rattle.arj_asking.proofs.Changes.{root_behind, same_roots}
 use Rattle.arj_asking.proofs.Forgets.{forgets_call, forgets_commit, forgets_lines}
@@ -14,12 +15,14 @@ use Rattle.arj_commit.specs.Steps.{heard_by}
 use Rattle.arj_coord.specs.Fits.{IncludesNode, NowFits}
 use Rattle.arj_coord.specs.Waiting.{idle_doing, now_in}
 use Rattle.arj_protocol.specs.Ask.{Reply, actor}
-use Rattle.arj_protocol.specs.Asking.{gaveup_lines, give_up_call, give_up_doing, goes_on, heard_call, heard_doing, heard_none, heard_now, last_req, moved_commit, root_lost, root_moved, waits_for_call}
+use Rattle.arj_protocol.specs.Asking.{gaveup_lines, give_up_call, give_up_doing, goes_on, heard_call, heard_doing, heard_none, heard_now}
+use Rattle.arj_protocol.specs.Asking.{last_req, moved_commit, root_lost, root_moved, waits_for_call}
 use Rattle.arj_protocol.specs.Asking as asking
 use Rattle.arj_protocol.specs.Call.{Steps, CallStep, On, Ended, Moved, answered, given_up, next_node}
 use Rattle.arj_protocol.specs.Commit as commit
 use Rattle.arj_protocol.specs.Commit.{Machine, plan_of}
-use Rattle.arj_protocol.specs.Coord.{Coord, Doing, Keeping, Now, Idle, Calling, Committing, Root, doing_of, is_free, keeping_of, on_doing, on_root, root_at}
+use Rattle.arj_protocol.specs.Coord.{Coord, Doing, Keeping, Now, Idle, Calling, Committing, Root, doing_of, is_free, keeping_of, on_doing}
+use Rattle.arj_protocol.specs.Coord.{on_root, root_at}
 use Rattle.arj_protocol.specs.Effect.{Did, Effect, Intent, Served}
 use Rattle.arj_protocol.specs.Step.{is_waiting, is_waiting_now}
 use Rattle.arj_protocol.specs.Tree.{root_of}
@@ -54,7 +57,8 @@ next_req_is : (n : ℕ) → n < 4294967295 → req_after n ≡ n + 1
 next_req_is n less = omega (arith, less)
 
 -- A call that goes on, where its action was taken to wait for nothing, and what follows does this.
-pub goes_on_so : (P : Did Coord → Type 0) (t s : Steps) (next : CallStep) (old c : Coord) → HasNext s → Onward t ≡ came_by s next → old ≡ on_doing (actor s.path) idle_doing c
+pub goes_on_so : (P : Did Coord → Type 0) (t s : Steps) (next : CallStep) (old c : Coord) → HasNext s → Onward t ≡ came_by s next →
+    old ≡ on_doing (actor s.path) idle_doing c
     → P (goes_on t old) → P (asking.step_call s next c)
 goes_on_so P t s (On at) old c has came idle so =
     let same : t ≡ steps_at s at = cc in
@@ -75,7 +79,8 @@ give_up_call_so P s old c mid came old_is came_is mid_is follows =
     (mid_is ∙ ap (on_root rt (root_lost s (given_up s.at))) old_is ∙ root_behind (actor s.path) rt idle_doing (root_lost s (given_up s.at)) c)
 
 -- with the line of the node that didn't answer
-pub lost_lines : (s : Steps) (old d : Coord) (u : Uid) (n : ℕ) (before mid after : List Effect) → u ≡ actor s.path → n ≡ next_node s → old ≡ on_doing (actor s.path) idle_doing d
+pub lost_lines : (s : Steps) (old d : Coord) (u : Uid) (n : ℕ) (before mid after : List Effect) → u ≡ actor s.path → n ≡ next_node s →
+    old ≡ on_doing (actor s.path) idle_doing d
     → mid ≡ before ++ gaveup_lines u (n ∷ []) old → after ≡ mid ++ (give_up_call s d).outs
     → after ≡ before ++ (gaveup_lines (actor s.path) (next_node s ∷ []) d ++ (give_up_call s d).outs)
 lost_lines s old d u n before mid after act node idle said stepped =
@@ -93,7 +98,8 @@ heard_at from None intents c d = heard_none c
 heard_at from (Some a) intents c d = heard_doing from a.0 a.1 intents c d
 
 -- nobody had asked
-pub no_asker : (from : ℕ) (o : Option (Asked × Reply)) (intents : List (Uid × Intent)) (c : Coord) → asker_in o ≡ None → heard_as from o intents c ≡ heard_none c
+pub no_asker : (from : ℕ) (o : Option (Asked × Reply)) (intents : List (Uid × Intent)) (c : Coord) → asker_in o ≡ None →
+    heard_as from o intents c ≡ heard_none c
 no_asker from None intents c is = refl
 no_asker from (Some a) intents c is = absurd cc
 
@@ -102,7 +108,8 @@ at_asker : (from : ℕ) (o : Option (Asked × Reply)) (intents : List (Uid × In
 at_asker from None intents c u is = refl
 at_asker from (Some a) intents c u is = let act : a.0.act ≡ u = cc in ap (λ v. heard_doing from a.0 a.1 intents c (doing_of v c)) act
 
-none_at : (from : ℕ) (o : Option (Asked × Reply)) (intents : List (Uid × Intent)) (c : Coord) → heard_at from o intents c None ≡ heard_none c
+none_at : (from : ℕ) (o : Option (Asked × Reply)) (intents : List (Uid × Intent)) (c : Coord) →
+    heard_at from o intents c None ≡ heard_none c
 none_at from None intents c = refl
 none_at from (Some a) intents c = refl
 
@@ -121,7 +128,8 @@ abbrev heard_in_now : ℕ → Option (Asked × Reply) → List (Uid × Intent) �
 heard_in_now from None intents c now = heard_none c
 heard_in_now from (Some a) intents c now = heard_now from a.0 a.1 intents c now
 
-at_now_by : (from : ℕ) (o : Option (Asked × Reply)) (intents : List (Uid × Intent)) (c : Coord) (d : Option Doing) (n : Now) → Some n ≡ option_map (λ (d : Doing). d.now) d
+at_now_by : (from : ℕ) (o : Option (Asked × Reply)) (intents : List (Uid × Intent)) (c : Coord) (d : Option Doing) (n : Now) →
+    Some n ≡ option_map (λ (d : Doing). d.now) d
     → heard_at from o intents c d ≡ heard_in_now from o intents c n
 at_now_by from o intents c None n is = absurd cc
 at_now_by from None intents c (Some d) n is = refl
@@ -135,12 +143,14 @@ void_by : (from : ℕ) (o : Option (Asked × Reply)) (intents : List (Uid × Int
     → heard_in_now from o intents c n ≡ heard_none c
 void_by from None intents c n other = refl
 void_by from (Some a) intents c Idle other = refl
-void_by from (Some a) intents c (Calling s) other = ap (λ (b : Bool). if b then asking.heard_by (heard_call s a.1 c) else heard_none c) other
+void_by from (Some a) intents c (Calling s) other =
+    ap (λ (b : Bool). if b then asking.heard_by (heard_call s a.1 c) else heard_none c) other
 void_by from (Some a) intents c (Committing m) other =
     ap (λ (b : Bool). if b then asking.heard_by (moved_commit a.0.act (commit.answered from m a.1) intents c) else heard_none c) other
 
 -- the action waits for another answer, or for none
-pub not_awaited : (from : ℕ) (o : Option (Asked × Reply)) (intents : List (Uid × Intent)) (c : Coord) (u : Uid) (n : Now) → asker_in o ≡ Some u
+pub not_awaited : (from : ℕ) (o : Option (Asked × Reply)) (intents : List (Uid × Intent)) (c : Coord) (u : Uid) (n : Now) →
+    asker_in o ≡ Some u
     → Some n ≡ option_map (λ (d : Doing). d.now) (doing_of u c) → waits_in from o n ≡ false → heard_as from o intents c ≡ heard_none c
 not_awaited from o intents c u n asks there other = at_now from o intents c u n asks there ∙ void_by from o intents c n other
 
@@ -148,7 +158,8 @@ same_now : (o : Option Doing) (n m : Now) → Some n ≡ option_map (λ (d : Doi
 same_now None n m there is = absurd cc
 same_now (Some d) n m there is = cc
 
-calling_by : (P : Served Coord (Unit {0}) → Type 0) (from : ℕ) (o : Option (Asked × Reply)) (intents : List (Uid × Intent)) (c : Coord) (s : Steps)
+calling_by : (P : Served Coord (Unit {0}) →
+    Type 0) (from : ℕ) (o : Option (Asked × Reply)) (intents : List (Uid × Intent)) (c : Coord) (s : Steps)
     → waits_in from o (Calling s) ≡ true → IfSome (awaited from s o) (λ r. P (asking.heard_by (heard_call s r c)))
     → P (heard_in_now from o intents c (Calling s))
 calling_by P from None intents c s waits so = absurd cc
@@ -158,15 +169,18 @@ calling_by P from (Some a) intents c s waits so =
     subst (λ (b : Bool). P (if b then asking.heard_by (heard_call s a.1 c) else heard_none c)) (sym waits) there
 
 -- a call that was taken out is answered
-pub hears_call : (P : Served Coord (Unit {0}) → Type 0) (from : ℕ) (o : Option (Asked × Reply)) (intents : List (Uid × Intent)) (c : Coord) (u : Uid) (n : Now) (s : Steps)
-    → asker_in o ≡ Some u → Some n ≡ option_map (λ (d : Doing). d.now) (doing_of u c) → waits_in from o n ≡ true → Calling s ≡ now_in (doing_of u c)
+pub hears_call : (P : Served Coord (Unit {0}) →
+    Type 0) (from : ℕ) (o : Option (Asked × Reply)) (intents : List (Uid × Intent)) (c : Coord) (u : Uid) (n : Now) (s : Steps)
+    → asker_in o ≡ Some u → Some n ≡ option_map (λ (d : Doing). d.now) (doing_of u c) → waits_in from o n ≡ true →
+    Calling s ≡ now_in (doing_of u c)
     → IfSome (awaited from s o) (λ r. P (asking.heard_by (heard_call s r c))) → P (heard_as from o intents c)
 hears_call P from o intents c u n s asks there waits taken so =
     let now_is : n ≡ Calling s = same_now (doing_of u c) n (Calling s) there taken in
     subst P (sym (at_now from o intents c u n asks there ∙ ap (heard_in_now from o intents c) now_is))
     (calling_by P from o intents c s (subst (λ m. waits_in from o m ≡ true) now_is waits) so)
 
-committing_by : (P : Served Coord (Unit {0}) → Type 0) (from : ℕ) (o : Option (Asked × Reply)) (intents : List (Uid × Intent)) (c : Coord) (u : Uid) (m : Machine)
+committing_by : (P : Served Coord (Unit {0}) →
+    Type 0) (from : ℕ) (o : Option (Asked × Reply)) (intents : List (Uid × Intent)) (c : Coord) (u : Uid) (m : Machine)
     → asker_in o ≡ Some u → waits_in from o (Committing m) ≡ true → P (asking.heard_by (moved_commit u (heard_by from o m) intents c))
     → P (heard_in_now from o intents c (Committing m))
 committing_by P from None intents c u m asks waits so = absurd cc
@@ -177,8 +191,10 @@ committing_by P from (Some a) intents c u m asks waits so =
     subst (λ (b : Bool). P (if b then asking.heard_by (moved_commit a.0.act (commit.answered from m a.1) intents c) else heard_none c)) (sym waits) there
 
 -- a commit that was taken out is answered
-pub hears_commit : (P : Served Coord (Unit {0}) → Type 0) (from : ℕ) (o : Option (Asked × Reply)) (intents : List (Uid × Intent)) (c : Coord) (u : Uid) (n : Now) (m : Machine)
-    → asker_in o ≡ Some u → Some n ≡ option_map (λ (d : Doing). d.now) (doing_of u c) → waits_in from o n ≡ true → Committing m ≡ now_in (doing_of u c)
+pub hears_commit : (P : Served Coord (Unit {0}) →
+    Type 0) (from : ℕ) (o : Option (Asked × Reply)) (intents : List (Uid × Intent)) (c : Coord) (u : Uid) (n : Now) (m : Machine)
+    → asker_in o ≡ Some u → Some n ≡ option_map (λ (d : Doing). d.now) (doing_of u c) → waits_in from o n ≡ true →
+    Committing m ≡ now_in (doing_of u c)
     → P (asking.heard_by (moved_commit u (heard_by from o m) intents c)) → P (heard_as from o intents c)
 hears_commit P from o intents c u n m asks there waits taken so =
     let now_is : n ≡ Committing m = same_now (doing_of u c) n (Committing m) there taken in
@@ -200,15 +216,18 @@ call_fits_by u None s fits is = absurd cc
 call_fits_by u (Some d) s fits is = subst (NowFits u d.req) (sym is) fits
 
 -- a call that was taken out
-pub call_fits : (u : Uid) (c : Coord) (s : Steps) → IfSome (doing_of u c) (λ (d : Doing). NowFits u d.req d.now) → Calling s ≡ now_in (doing_of u c)
+pub call_fits : (u : Uid) (c : Coord) (s : Steps) → IfSome (doing_of u c) (λ (d : Doing). NowFits u d.req d.now) →
+    Calling s ≡ now_in (doing_of u c)
     → (actor s.path ≡ u) × ((s.req ≡ last_req (doing_of u c)) × IncludesNode s.goal)
 call_fits u c s fits is = call_fits_by u (doing_of u c) s fits is
 
-commit_fits_by : (u : Uid) (o : Option Doing) (m : Machine) → IfSome o (λ (d : Doing). NowFits u d.req d.now) → Committing m ≡ now_in o → actor (plan_of m).path ≡ u
+commit_fits_by : (u : Uid) (o : Option Doing) (m : Machine) → IfSome o (λ (d : Doing). NowFits u d.req d.now) → Committing m ≡ now_in o →
+    actor (plan_of m).path ≡ u
 commit_fits_by u None m fits is = absurd cc
 commit_fits_by u (Some d) m fits is = let so : NowFits u d.req (Committing m) = subst (NowFits u d.req) (sym is) fits in so.0
 
-pub commit_fits : (u : Uid) (c : Coord) (m : Machine) → IfSome (doing_of u c) (λ (d : Doing). NowFits u d.req d.now) → Committing m ≡ now_in (doing_of u c)
+pub commit_fits : (u : Uid) (c : Coord) (m : Machine) → IfSome (doing_of u c) (λ (d : Doing). NowFits u d.req d.now) →
+    Committing m ≡ now_in (doing_of u c)
     → actor (plan_of m).path ≡ u
 commit_fits u c m fits is = commit_fits_by u (doing_of u c) m fits is
 
@@ -221,7 +240,8 @@ asker_has_room None u c asks room = absurd cc
 asker_has_room (Some a) u c asks room = let act : a.0.act ≡ u = cc in subst (λ v. HasRoom v c) act room
 
 -- and that is all of it
-pub room_of_asker : (o : Option (Asked × Reply)) (u : Uid) (c : Coord) (b : Bool) → Some u ≡ asker_in o → (IsTrue b ↔ HasRoom u c) → (IsTrue b ↔ AskerHasRoom o c)
+pub room_of_asker : (o : Option (Asked × Reply)) (u : Uid) (c : Coord) (b : Bool) → Some u ≡ asker_in o → (IsTrue b ↔ HasRoom u c) →
+    (IsTrue b ↔ AskerHasRoom o c)
 room_of_asker None u c b asks same = absurd cc
 room_of_asker (Some a) u c b asks same = let act : u ≡ a.0.act = cc in subst (λ v. IsTrue b ↔ HasRoom v c) act same
 
@@ -229,12 +249,15 @@ pub no_asker_room : (o : Option (Asked × Reply)) (c : Coord) → None ≡ asker
 no_asker_room None c asks = ((λ t. tt), (λ t. refl))
 no_asker_room (Some a) c asks = absurd cc
 
-loaded_by : (st : ObjectState) (o : Option Doing) (s : Steps) → is_loaded_for st o ≡ true → Calling s ≡ now_in o → uid_eq st.uid (object s.x) ≡ true
+loaded_by : (st : ObjectState) (o : Option Doing) (s : Steps) → is_loaded_for st o ≡ true → Calling s ≡ now_in o →
+    uid_eq st.uid (object s.x) ≡ true
 loaded_by st None s meant is = absurd cc
 loaded_by st (Some d) s meant is = subst (λ n. is_loaded_in st n ≡ true) (sym is) meant
 
-meant_by : (a : Asked) (r : Reply) (c : Coord) (s : Steps) → reply_is_meant c a r ≡ true → Calling s ≡ now_in (doing_of a.act c) → MeantFor s.x r
-meant_by a (Reply.Loaded (loaded.State st)) c s meant is = ap (λ (u : Uid). u.num) (uid_is st.uid (object s.x) (loaded_by st (doing_of a.act c) s meant is))
+meant_by : (a : Asked) (r : Reply) (c : Coord) (s : Steps) → reply_is_meant c a r ≡ true → Calling s ≡ now_in (doing_of a.act c) →
+    MeantFor s.x r
+meant_by a (Reply.Loaded (loaded.State st)) c s meant is =
+    ap (λ (u : Uid). u.num) (uid_is st.uid (object s.x) (loaded_by st (doing_of a.act c) s meant is))
 meant_by a (Reply.Loaded (loaded.InDoubt holder)) c s meant is = tt
 meant_by a (Reply.Bound r) c s meant is = tt
 meant_by a (Reply.Activated r) c s meant is = tt
@@ -249,7 +272,8 @@ some_meant true x r meant = meant
 some_meant false x r meant = tt
 
 -- a state that it was sent is of its object
-pub call_meant : (from : ℕ) (o : Option (Asked × Reply)) (c : Coord) (u : Uid) (s : Steps) → asker_in o ≡ Some u → answer_is_meant c o ≡ true
+pub call_meant : (from : ℕ) (o : Option (Asked × Reply)) (c : Coord) (u : Uid) (s : Steps) → asker_in o ≡ Some u →
+    answer_is_meant c o ≡ true
     → Calling s ≡ now_in (doing_of u c) → IfSome (awaited from s o) (MeantFor s.x)
 call_meant from None c u s asks meant is = tt
 call_meant from (Some a) c u s asks meant is =
@@ -258,10 +282,13 @@ call_meant from (Some a) c u s asks meant is =
 
 -- ---- what was taken out is answered or given up
 
-pub hears_call_so : (P : Served Coord (Unit {0}) → Type 0) (from : ℕ) (o : Option (Asked × Reply)) (intents : List (Uid × Intent)) (c mid : Coord) (u : Uid) (n : Now) (s : Steps) (free : Bool)
-    → asker_in o ≡ Some u → Some n ≡ option_map (λ (d : Doing). d.now) (doing_of u c) → waits_in from o n ≡ true → Calling s ≡ now_in (doing_of u c)
+pub hears_call_so : (P : Served Coord (Unit {0}) →
+    Type 0) (from : ℕ) (o : Option (Asked × Reply)) (intents : List (Uid × Intent)) (c mid : Coord) (u : Uid) (n : Now) (s : Steps) (free : Bool)
+    → asker_in o ≡ Some u → Some n ≡ option_map (λ (d : Doing). d.now) (doing_of u c) → waits_in from o n ≡ true →
+    Calling s ≡ now_in (doing_of u c)
     → IfSome (doing_of u c) (λ (d : Doing). NowFits u d.req d.now) → mid ≡ on_doing u idle_doing c → free ≡ free_in c n
-    → ((d : Coord) → mid ≡ on_doing (actor s.path) idle_doing d → free ≡ is_free (root_of s.path) (actor s.path) s.x d → IfSome (awaited from s o) (λ r. P (asking.heard_by (heard_call s r d))))
+    → ((d : Coord) → mid ≡ on_doing (actor s.path) idle_doing d → free ≡ is_free (root_of s.path) (actor s.path) s.x d →
+    IfSome (awaited from s o) (λ r. P (asking.heard_by (heard_call s r d))))
     → P (heard_as from o intents c)
 hears_call_so P from o intents c mid u n s free asks there waits taken fits idle free_is so =
     let act : actor s.path ≡ u = (call_fits u c s fits taken).0 in
@@ -269,8 +296,10 @@ hears_call_so P from o intents c mid u n s free asks there waits taken fits idle
     hears_call P from o intents c u n s asks there waits taken
     (so c (idle ∙ ap (λ v. on_doing v idle_doing c) (sym act)) (free_is ∙ ap (free_in c) now_is))
 
-pub hears_commit_so : (P : Served Coord (Unit {0}) → Type 0) (from : ℕ) (o : Option (Asked × Reply)) (intents : List (Uid × Intent)) (c mid : Coord) (u : Uid) (n : Now) (m : Machine)
-    → asker_in o ≡ Some u → Some n ≡ option_map (λ (d : Doing). d.now) (doing_of u c) → waits_in from o n ≡ true → Committing m ≡ now_in (doing_of u c)
+pub hears_commit_so : (P : Served Coord (Unit {0}) →
+    Type 0) (from : ℕ) (o : Option (Asked × Reply)) (intents : List (Uid × Intent)) (c mid : Coord) (u : Uid) (n : Now) (m : Machine)
+    → asker_in o ≡ Some u → Some n ≡ option_map (λ (d : Doing). d.now) (doing_of u c) → waits_in from o n ≡ true →
+    Committing m ≡ now_in (doing_of u c)
     → IfSome (doing_of u c) (λ (d : Doing). NowFits u d.req d.now) → mid ≡ on_doing u idle_doing c
     → P (asking.heard_by (moved_commit (actor (plan_of m).path) (heard_by from o m) intents mid))
     → P (heard_as from o intents c)
@@ -287,7 +316,8 @@ given_by u intents c (Some d) n waits is = ap (asking.gives_up u intents c) (sym
 
 pub gives_up_call_so : (P : Did Coord → Type 0) (intents : List (Uid × Intent)) (c mid : Coord) (u : Uid) (s : Steps)
     → Calling s ≡ now_in (doing_of u c) → IfSome (doing_of u c) (λ (d : Doing). NowFits u d.req d.now) → mid ≡ on_doing u idle_doing c
-    → ((d : Coord) → mid ≡ on_doing (actor s.path) idle_doing d → P (record { part = (give_up_call s d).part; outs = gaveup_lines (actor s.path) (next_node s ∷ []) d ++ (give_up_call s d).outs }))
+    → ((d : Coord) → mid ≡ on_doing (actor s.path) idle_doing d →
+    P (record { part = (give_up_call s d).part; outs = gaveup_lines (actor s.path) (next_node s ∷ []) d ++ (give_up_call s d).outs }))
     → P (asking.give_up u intents c)
 gives_up_call_so P intents c mid u s taken fits idle so =
     let act : actor s.path ≡ u = (call_fits u c s fits taken).0 in
@@ -310,9 +340,14 @@ gives_up_commit_so P intents c mid u m taken fits idle so =
     (λ i. moved_commit (act i) (commit.given_up m) intents (idle i)) ∙ forgets_commit u (commit.given_up m) intents c own in
     let lines : gaveup_lines (actor (plan_of m).path) (commit.nodes_given_up m) mid ≡ gaveup_lines u (commit.nodes_given_up m) c =
     (λ i. gaveup_lines (act i) (commit.nodes_given_up m) (idle i)) ∙ forgets_lines u (commit.nodes_given_up m) c in
-    subst P ((λ i. record { part = (moved i).part; outs = lines i ++ (moved i).outs }) ∙ sym (given_by u intents c (doing_of u c) (Committing m) refl taken)) so
+    subst P ((λ i. record {
+      part = (moved i).part;
+      outs =
+          lines i ++ (moved i).outs;
+    }) ∙ sym (given_by u intents c (doing_of u c) (Committing m) refl taken)) so
 
-idle_by : (u : Uid) (intents : List (Uid × Intent)) (c : Coord) (o : Option Doing) → is_waiting o ≡ false → give_up_doing u intents c o ≡ record { part = c; outs = [] }
+idle_by : (u : Uid) (intents : List (Uid × Intent)) (c : Coord) (o : Option Doing) → is_waiting o ≡ false →
+    give_up_doing u intents c o ≡ record { part = c; outs = [] }
 idle_by u intents c None idle = refl
 idle_by u intents c (Some d) idle = by d.now refl
   where
@@ -322,7 +357,8 @@ idle_by u intents c (Some d) idle = by d.now refl
     by (Committing m) is = let never : true ≡ false = sym (ap is_waiting_now is) ∙ idle in absurd cc
 
 -- what waits for nothing isn't given up
-pub gives_up_nothing : (u : Uid) (intents : List (Uid × Intent)) (c : Coord) → is_waiting (doing_of u c) ≡ false → asking.give_up u intents c ≡ record { part = c; outs = [] }
+pub gives_up_nothing : (u : Uid) (intents : List (Uid × Intent)) (c : Coord) → is_waiting (doing_of u c) ≡ false →
+    asking.give_up u intents c ≡ record { part = c; outs = [] }
 gives_up_nothing u intents c idle = idle_by u intents c (doing_of u c) idle
 
 waiting_by : (o : Option Doing) → is_waiting o ≡ true → Idle ≡ now_in o → ⊥
@@ -340,5 +376,7 @@ taken_so (Some r) = refl
 
 -- a commit that was taken out waits for it
 pub commit_awaited : (from : ℕ) (o : Option (Asked × Reply)) (c : Coord) (u : Uid) (n : Now) (m : Machine)
-    → Some n ≡ option_map (λ (d : Doing). d.now) (doing_of u c) → waits_in from o n ≡ true → Committing m ≡ now_in (doing_of u c) → waits_in from o (Committing m) ≡ true
-commit_awaited from o c u n m there waits taken = subst (λ k. waits_in from o k ≡ true) (same_now (doing_of u c) n (Committing m) there taken) waits
+    → Some n ≡ option_map (λ (d : Doing). d.now) (doing_of u c) → waits_in from o n ≡ true → Committing m ≡ now_in (doing_of u c) →
+    waits_in from o (Committing m) ≡ true
+commit_awaited from o c u n m there waits taken =
+    subst (λ k. waits_in from o k ≡ true) (same_now (doing_of u c) n (Committing m) there taken) waits

@@ -3,7 +3,9 @@ use Rattle.std.proofs.Common.{◌≡◌, ℕ, List, [], ◌∷◌, Option, Some,
 use Rattle.arj_asking.specs.Hearing.{IsOf}
 use Rattle.arj_commit.specs.Steps.{heard_by}
 use Rattle.arj_protocol.specs.Ask.{Reply, Bound, Loaded, Activated, Noted, Invoked, Voted, Prepared, Confirmed, actor}
-use Rattle.arj_protocol.specs.Commit.{Machine, Voting, Preparing, Confirming, Plan, Used, answered, given_up, start, plan_of, begin_confirm, begin_prepare, begin_vote, servers_of, targets_of, votes_left, stores_left, marks_store, marks_stores, with_states}
+use Rattle.arj_protocol.specs.Commit.{Machine, Voting, Preparing, Confirming, Plan, Used, answered, given_up, start, plan_of, begin_confirm}
+use Rattle.arj_protocol.specs.Commit.{begin_prepare, begin_vote, servers_of, targets_of, votes_left, stores_left, marks_store, marks_stores}
+use Rattle.arj_protocol.specs.Commit.{with_states}
 use Rattle.arj_protocol.specs.Order.{without_number, with_number}
 use Rattle.arj_protocol.specs.Words.{Asked}
 use Rattle.arj_protocol.specs.Words.voted
@@ -35,7 +37,8 @@ left_of_stores [] p = confirm_of p.used p
 left_of_stores (n ∷ ns) p = refl
 
 answered_of : (from : ℕ) (m : Machine) (r : Reply) → IsOf (actor (plan_of m).path) ((answered from m r).step)
-answered_of from (Voting p left) (Voted (voted.Yes states)) = left_of_votes (without_number from left) (record p { changed = with_states states p.changed })
+answered_of from (Voting p left) (Voted (voted.Yes states)) =
+    left_of_votes (without_number from left) (record p { changed = with_states states p.changed })
 answered_of from (Voting p left) (Voted (voted.Changed w)) = tt
 answered_of from (Voting p left) (Bound r) = refl
 answered_of from (Voting p left) (Loaded r) = refl
@@ -44,7 +47,8 @@ answered_of from (Voting p left) (Noted r) = refl
 answered_of from (Voting p left) (Invoked r) = refl
 answered_of from (Voting p left) (Prepared r) = refl
 answered_of from (Voting p left) (Confirmed r) = refl
-answered_of from (Preparing p left) (Prepared prepared.Yes) = left_of_stores (without_number from left) (record p { prepared = with_number from p.prepared })
+answered_of from (Preparing p left) (Prepared prepared.Yes) =
+    left_of_stores (without_number from left) (record p { prepared = with_number from p.prepared })
 answered_of from (Preparing p left) (Prepared (prepared.InDoubt x holder)) = left_of_stores (without_number from left) (marks_store from p)
 answered_of from (Preparing p left) (Prepared (prepared.Old x v)) = tt
 answered_of from (Preparing p left) (Bound r) = refl
@@ -80,5 +84,6 @@ marks_keep (s ∷ ss) p = marks_keep ss (marks_store s p)
 pub given_up_of : (m : Machine) → IsOf (actor (plan_of m).path) ((given_up m).step)
 given_up_of (Voting p left) = tt
 given_up_of (Preparing p left) =
-    let q : Plan = marks_stores left p in subst (λ path. IsOf (actor path) (begin_confirm q.used q)) (marks_keep left p) (confirm_of q.used q)
+    let q : Plan =
+    marks_stores left p in subst (λ path. IsOf (actor path) (begin_confirm q.used q)) (marks_keep left p) (confirm_of q.used q)
 given_up_of (Confirming p) = tt

@@ -28,13 +28,17 @@ step_asked s c ends invoke node m ends_are invoke_is node_is request_is =
 
 -- requests that aren't Invokes
 all_asked : (p : Path) (req : ℕ) (g : ℕ → Ask) → ((n : ℕ) → is_invoke_ask (g n) ≡ false) → (ns : List ℕ) (c : Coord)
-    → asked_each p (map {A = ℕ × Ask} {B = ℕ × Message} (λ w. (w.0, request (record { path = p; req = req }) w.1)) (map {A = ℕ} {B = ℕ × Ask} (λ n. (n, g n)) ns)) c
+    → asked_each p (map {A = ℕ × Ask} {B =
+    ℕ × Message} (λ w. (w.0, request (record { path = p; req = req }) w.1)) (map {A = ℕ} {B = ℕ × Ask} (λ n. (n, g n)) ns)) c
     ≡ asks_all p req (map {A = ℕ} {B = ℕ × Ask} (λ n. (n, g n)) ns) c
 all_asked p req g plain [] c = refl
 all_asked p req g plain (n ∷ ns) c =
-    let rest : List (ℕ × Message) = map {A = ℕ × Ask} {B = ℕ × Message} (λ w. (w.0, request (record { path = p; req = req }) w.1)) (map {A = ℕ} {B = ℕ × Ask} (λ n. (n, g n)) ns) in
+    let rest : List (ℕ × Message) =
+    map {A = ℕ × Ask} {B =
+    ℕ × Message} (λ w. (w.0, request (record { path = p; req = req }) w.1)) (map {A = ℕ} {B = ℕ × Ask} (λ n. (n, g n)) ns) in
     let first : Effect = Send n (request (record { path = p; req = req }) (g n)) in
-    let later : asked_each p rest (goes_to p (is_invoke_ask (g n)) n c) ≡ asks_all p req (map {A = ℕ} {B = ℕ × Ask} (λ n. (n, g n)) ns) (goes_to p (is_invoke_ask (g n)) n c) =
+    let later : asked_each p rest (goes_to p (is_invoke_ask (g n)) n c) ≡ asks_all p req (map {A = ℕ} {B =
+    ℕ × Ask} (λ n. (n, g n)) ns) (goes_to p (is_invoke_ask (g n)) n c) =
     all_asked p req g plain ns (goes_to p (is_invoke_ask (g n)) n c) in
     (λ i. record { part = go_to p rest (goes_to p (sym (plain n) i) n c); outs = first ∷ map sent_to rest })
     ∙ (λ i. record { part = (later i).part; outs = first ∷ (later i).outs })

@@ -6,7 +6,9 @@ use Rattle.arj_protocol.proofs.Maps.{put_same}
 use Rattle.arj_protocol.specs.Ask.{actor}
 use Rattle.arj_protocol.specs.Asking.{known_at_start, was_named}
 use Rattle.arj_protocol.specs.Call.{Known}
-use Rattle.arj_protocol.specs.Coord.{Coord, Joined, Keeping, Root, Said, counts, is_retained, joined_in, keeping_of, kept_of, known_for, nodes_sent, no_keeping, no_root, objects_in, on_root, plan_for, retained_in, retains, root_at, said_in, second_uid, survives, used_of, used_with, with_keeping}
+use Rattle.arj_protocol.specs.Coord.{Coord, Joined, Keeping, Root, Said, counts, is_retained, joined_in, keeping_of, kept_of, known_for}
+use Rattle.arj_protocol.specs.Coord.{nodes_sent, no_keeping, no_root, objects_in, on_root, plan_for, retained_in, retains, root_at, said_in}
+use Rattle.arj_protocol.specs.Coord.{second_uid, survives, used_of, used_with, with_keeping}
 use Rattle.arj_protocol.specs.Order.{number_set}
 use Rattle.arj_protocol.specs.Tree.{Tree, ends_of, root_of}
 use Rattle.arj_protocol.specs.Words.{Uid, Path}
@@ -65,7 +67,8 @@ objects_same top r c = λ i. number_set (map (λ (s : Said). s.x) (said_same top
 
 used_same : (top : Uid) (r : Root) (c : Coord) (x : ℕ) → used_of top r (of_tree c.tree) x ≡ used_of top r c x
 used_same top r c x =
-    ap (λ (said : List Said). let called : Bool = list_any (λ (s : Said). s.x == x) said in used_with x called top r c (known_for called x r)) (said_same top r c)
+    ap (λ (said : List Said). let called : Bool =
+    list_any (λ (s : Said). s.x == x) said in used_with x called top r c (known_for called x r)) (said_same top r c)
 
 pub plan_same : (p : Path) (req : ℕ) (r : Root) (c : Coord) → plan_for p req r (of_tree c.tree) ≡ plan_for p req r c
 plan_same p req r c =

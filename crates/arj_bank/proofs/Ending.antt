@@ -9,7 +9,8 @@ use Rattle.arj_loop.specs.declared.machine.Machine.{Ghosts}
 use Rattle.arj_world.proofs.Disks.{moved_none}
 
 -- what an answer has and what holds beside it
-pub if_ok_with : {T E : Type 0} (r : Result T E) (P R : T → Type 0) (Q : Type 0) → ((value : T) → P value → Q → R value) → IfOk r P → OnOk r Q → IfOk r R
+pub if_ok_with : {T E : Type 0} (r : Result T E) (P R : T → Type 0) (Q : Type 0) → ((value : T) → P value → Q → R value) → IfOk r P →
+    OnOk r Q → IfOk r R
 if_ok_with (Ok value) P R Q f p q = f value p q
 if_ok_with (Err fault) P R Q f p q = tt
 
@@ -23,14 +24,25 @@ pub read_none : {D : Type 0} (d : disk.Ghosts D) (rack : List D) → HaveBeenRea
 read_none d rack = record { files = refl; moved = moved_none d NODES rack }
 
 -- memory was wanting for the sum
-pub wants_sum : {D M : Type 0} (m : Ghosts M D) (d : disk.Ghosts D) (n : _) (first : List D) (now : Left D M) (after : List D) → RanBank m n first now → HaveBeenRead d now.rack after → WantsMemory m d n first after
+pub wants_sum : {D M : Type 0} (m : Ghosts M D) (d : disk.Ghosts D) (n : _) (first : List D) (now : Left D M) (after : List D) →
+    RanBank m n first now → HaveBeenRead d now.rack after → WantsMemory m d n first after
 wants_sum m d n first now after bank read =
     let whole = bank.ran in record {
       mid = now.rack;
       comes = inr (inr (
         bank.events,
         bank.are,
-        record { done = bank.events; rest = []; cut = sym (append-nil bank.events); machine = whole.machine; mid = now.rack; journal = now.journal; ran = whole.ran; since = refl },
+        record {
+          done = bank.events;
+          rest = [];
+          cut = sym (append-nil bank.events);
+          machine = whole.machine;
+          mid = now.rack;
+          journal =
+              now.journal;
+          ran = whole.ran;
+          since = refl;
+        },
       ));
       read = read;
     }

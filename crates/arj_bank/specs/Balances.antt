@@ -1,5 +1,6 @@
 -- What the disks hold of the bank.
-use Rattle.std.specs.Prelude.{ℕ, zero, suc, ◌≡◌, ◌+◌, ◌-◌, ◌&&◌, Bool, List, [], ◌∷◌, Option, Some, None, slice_get, nat_le, nat_lt, if◌then◌else◌}
+use Rattle.std.specs.Prelude.{ℕ, zero, suc, ◌≡◌, ◌+◌, ◌-◌, ◌&&◌, Bool, List, [], ◌∷◌, Option, Some, None, slice_get, nat_le, nat_lt}
+use Rattle.std.specs.Prelude.{if◌then◌else◌}
 use Rattle.arj_base.specs.Uid.{entry, object}
 use Rattle.arj_base.specs.declared.state.Class.{Class}
 use Rattle.arj_base.specs.declared.state.ObjectState.{ObjectState}
@@ -101,7 +102,8 @@ IsOfClass class value = (class_of value ≡ class) × ValueInForm value
 -- the balance of an object's state: 0 where there is no state, or it is no account's
 abbrev pub HasBalance : Option ObjectState → ℕ → Type 0
 HasBalance None balance = balance ≡ 0
-HasBalance (Some state) balance = (found : Option Value) × IsRead (IsOfClass state.class) payload_of state.payload found × (balance ≡ balance_in found)
+HasBalance (Some state) balance =
+    (found : Option Value) × IsRead (IsOfClass state.class) payload_of state.payload found × (balance ≡ balance_in found)
 
 -- The balance of account x: that of its committed state on the first store that its entry, committed at node 1, lists. It is
 -- 0 where one of these isn't there.
@@ -121,4 +123,5 @@ capped n = if nat_lt n 18446744073709551616 then n else 18446744073709551615
 -- the balances of the first so many accounts add up to this sum
 abbrev pub AddUpTo : Held → ℕ → ℕ → Type 0
 AddUpTo held zero sum = sum ≡ 0
-AddUpTo held (suc k) sum = (before : ℕ) × (balance : ℕ) × AddUpTo held k before × IsBalance held (k + 1) balance × (sum ≡ capped (before + balance))
+AddUpTo held (suc k) sum =
+    (before : ℕ) × (balance : ℕ) × AddUpTo held k before × IsBalance held (k + 1) balance × (sum ≡ capped (before + balance))

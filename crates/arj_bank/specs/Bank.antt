@@ -103,7 +103,8 @@ pub record EndsAtLimit {D M : Type 0} (m : Ghosts M D) (n : ℕ) (first : List D
 
 -- these bytes are the summary of a run of so many events that left these disks and this journal
 abbrev pub SumsUp : {D : Type 0} → Reader D → ℕ → List D → List Line → List ℕ → Type 0
-SumsUp r events rack journal bytes = (sum : ℕ) × AddUpTo (node_holds r rack) ACCOUNTS sum × (bytes ≡ summary_text (summary_of events journal sum))
+SumsUp r events rack journal bytes =
+    (sum : ℕ) × AddUpTo (node_holds r rack) ACCOUNTS sum × (bytes ≡ summary_text (summary_of events journal sum))
 
 -- Disks were read: their files are as they were, and none of them was armed, nor any disk touched that is no node's of the bank.
 pub record HaveBeenRead {D : Type 0} (d : disk.Ghosts D) (before after : List D) : Type 0 where
@@ -155,9 +156,11 @@ left_by after answer = left after.rack answer.journal answer.machine
 -- A run of `generate n`: what it found and left outside of it, and what it answers, status by status.
 pub record Generates {D M : Type 0} (m : Ghosts M D) (r : Reader D) (n : ℕ) (before after : Outside D) (answer : Answer M) : Type 0 where
   -- the sink took the summary
-  pub summed : answer.status ≡ 0 → (text : List ℕ) × IsSummary m r n before.rack (left_by after answer) text × Takes before.taken text after.taken
+  pub summed : answer.status ≡ 0 →
+      (text : List ℕ) × IsSummary m r n before.rack (left_by after answer) text × Takes before.taken text after.taken
   -- a write failed: the sink took a front of it
-  pub front : answer.status ≡ 4 → (text : List ℕ) × (count : ℕ) × IsSummary m r n before.rack (left_by after answer) text × Takes before.taken (take count text) after.taken
+  pub front : answer.status ≡ 4 →
+      (text : List ℕ) × (count : ℕ) × IsSummary m r n before.rack (left_by after answer) text × Takes before.taken (take count text) after.taken
   -- else it took nothing
   pub unwritten : answer.status ≢ 0 → answer.status ≢ 4 → after.taken ≡ before.taken
   pub memory : answer.status ≡ 5 → WantsMemory m r.disk n before.rack after.rack

@@ -25,7 +25,8 @@ pub record Underway {D M : Type 0} (m : Ghosts M D) (given rest : List Event) (o
   pub done : List Event
   pub cut : given ≡ done ++ rest
   pub form : AllByRecursion EventInForm rest
-  pub ran : (first : List D) (header : Header) → m.ran first header [] old.rack old.journal old.machine → m.ran first header done now.rack now.journal now.machine
+  pub ran : (first : List D) (header : Header) → m.ran first header [] old.rack old.journal old.machine →
+      m.ran first header done now.rack now.journal now.machine
   pub steps : m.steps now.machine ≡ length done
   pub going : m.over now.machine ≡ false
 
@@ -35,12 +36,15 @@ HasRun {D} m old = (first : List D) × (header : Header) × m.ran first header [
 
 -- some run has come to this event
 abbrev pub Goes : {D M : Type 0} → Ghosts M D → Event → Moment D M → Type 0
-Goes {D} {M} m e now = (given : List Event) × (rest : List Event) × (old : Moment D M) × Underway m given (e ∷ rest) old now × (length given ≤ MOST_EVENTS) × HasRun m old
+Goes {D} {M} m e now =
+    (given : List Event) × (rest : List Event) × (old : Moment D M) × Underway m given (e ∷ rest) old now × (length given ≤ MOST_EVENTS) × HasRun m old
 
 -- the run of these events came to a limit
 abbrev pub Ends : {D M : Type 0} → Ghosts M D → List Event → Moment D M → Left D M → Type 0
-Ends {D} m given old now = (first : List D) (header : Header) → m.ran first header [] old.rack old.journal old.machine → AtLimit m (task first header given) now
+Ends {D} m given old now =
+    (first : List D) (header : Header) → m.ran first header [] old.rack old.journal old.machine → AtLimit m (task first header given) now
 
 -- the run of these events came so far
 abbrev pub Wants : {D M : Type 0} → Ghosts M D → List Event → Moment D M → List D → Type 0
-Wants {D} m given old rack = (first : List D) (header : Header) → m.ran first header [] old.rack old.journal old.machine → RanFront m (task first header given) rack
+Wants {D} m given old rack =
+    (first : List D) (header : Header) → m.ran first header [] old.rack old.journal old.machine → RanFront m (task first header given) rack

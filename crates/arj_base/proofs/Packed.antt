@@ -1,5 +1,6 @@
 -- The fields of a packed state, one behind the other, are the whole.
-use Rattle.std.proofs.Common.{◌≡◌, ℕ, ◌+◌, ◌<◌, ◌≤◌, ◌==◌, if◌then◌else◌, List, ◌∷◌, ◌++◌, length, take, drop, get_or, codes, refl, sym, ◌∙◌, ap, arith, true, nat_eq}
+use Rattle.std.proofs.Common.{◌≡◌, ℕ, ◌+◌, ◌<◌, ◌≤◌, ◌==◌, if◌then◌else◌, List, ◌∷◌, ◌++◌, length, take, drop, get_or, codes, refl, sym}
+use Rattle.std.proofs.Common.{◌∙◌, ap, arith, true, nat_eq}
 use Rattle.std.specs.List.{starts_with}
 use Rattle.std.proofs.lemmas.List.{take-append-drop, drop-drop}
 use Rattle.std.proofs.lemmas.Slice.Eq.{bytes_eq-Decides}
@@ -22,13 +23,17 @@ cut n i bytes = sym (take-append-drop n (drop i bytes)) ∙ ap (λ rest. take n 
 begins : (bytes : List ℕ) → starts_with nat_eq bytes (codes "ARJ1") ≡ true → take 4 bytes ≡ codes "ARJ1"
 begins bytes is = sym ((bytes_eq-Decides (codes "ARJ1") (take 4 bytes)).0 is)
 
-pub spelled : (s : ObjectState) (bytes : List ℕ) → 47 ≤ length bytes → starts_with nat_eq bytes (codes "ARJ1") ≡ true → take 16 (drop 4 bytes) ≡ uid_bytes s.uid
-    → get_or bytes 20 0 ≡ class_code_of s.class → take 8 (drop 21 bytes) ≡ big_bytes 8 s.version → take 16 (drop 29 bytes) ≡ uid_bytes s.writer
+pub spelled : (s : ObjectState) (bytes : List ℕ) → 47 ≤ length bytes → starts_with nat_eq bytes (codes "ARJ1") ≡ true →
+    take 16 (drop 4 bytes) ≡ uid_bytes s.uid
+    → get_or bytes 20 0 ≡ class_code_of s.class → take 8 (drop 21 bytes) ≡ big_bytes 8 s.version →
+    take 16 (drop 29 bytes) ≡ uid_bytes s.writer
     → take 2 (drop 45 bytes) ≡ big_bytes 2 (length s.payload) → drop 47 bytes ≡ s.payload → bytes ≡ state_bytes s
 spelled s bytes long magic uid class version writer size payload =
     let from_size : drop 45 bytes ≡ big_bytes 2 (length s.payload) ++ s.payload = cut 2 45 bytes ∙ (λ i. size i ++ payload i) in
-    let from_writer : drop 29 bytes ≡ uid_bytes s.writer ++ (big_bytes 2 (length s.payload) ++ s.payload) = cut 16 29 bytes ∙ (λ i. writer i ++ from_size i) in
-    let from_version : drop 21 bytes ≡ big_bytes 8 s.version ++ (uid_bytes s.writer ++ (big_bytes 2 (length s.payload) ++ s.payload)) = cut 8 21 bytes ∙ (λ i. version i ++ from_writer i) in
+    let from_writer : drop 29 bytes ≡ uid_bytes s.writer ++ (big_bytes 2 (length s.payload) ++ s.payload) =
+    cut 16 29 bytes ∙ (λ i. writer i ++ from_size i) in
+    let from_version : drop 21 bytes ≡ big_bytes 8 s.version ++ (uid_bytes s.writer ++ (big_bytes 2 (length s.payload) ++ s.payload)) =
+    cut 8 21 bytes ∙ (λ i. version i ++ from_writer i) in
     let from_class : drop 20 bytes ≡ class_code_of s.class ∷ (big_bytes 8 s.version ++ (uid_bytes s.writer ++ (big_bytes 2 (length s.payload) ++ s.payload))) =
     drop-cons bytes 20 0 (omega (arith, long)) ∙ (λ i. class i ∷ from_version i) in
     cut 4 0 bytes ∙ (λ i. begins bytes magic i ++ (cut 16 4 bytes ∙ (λ j. uid j ++ from_class j)) i)

@@ -24,7 +24,8 @@ both false true to back = back refl
 both false false to back = refl
 
 pub uid_sym : (u w : Uid) → uid_eq u w ≡ uid_eq w u
-uid_sym u w = both (uid_eq u w) (uid_eq w u) (λ e. ap (λ v. uid_eq v u) (sym (uid_is u w e)) ∙ uid_same u) (λ e. ap (λ v. uid_eq v w) (sym (uid_is w u e)) ∙ uid_same w)
+uid_sym u w =
+    both (uid_eq u w) (uid_eq w u) (λ e. ap (λ v. uid_eq v u) (sym (uid_is u w e)) ∙ uid_same u) (λ e. ap (λ v. uid_eq v w) (sym (uid_is w u e)) ∙ uid_same w)
 
 -- two Uids are the same or not
 pub uid_cases : (u w : Uid) → (u ≡ w) ⊎ (u ≢ w)

@@ -1,6 +1,7 @@
 -- A lock table is a list of rows in order of granting. A row's holder is the path of the action that holds the
 -- lock, from its root to itself, and `tops` says how many leading Uids of it end with its top.
-use Rattle.std.specs.Prelude.{ℕ, List, [], ◌∷◌, length, Bool, false, ◌&&◌, if◌then◌else◌, filter, map, find, Option, Some, None, not, nat_lt}
+use Rattle.std.specs.Prelude.{ℕ, List, [], ◌∷◌, length, Bool, false, ◌&&◌, if◌then◌else◌, filter, map, find, Option, Some, None, not}
+use Rattle.std.specs.Prelude.{nat_lt}
 use Rattle.std.specs.List.{list_any, filter_map}
 use Rattle.std.specs.Option.{option_map}
 use Rattle.arj_base.specs.declared.mode.Mode.{Mode}
@@ -40,7 +41,10 @@ is_row_of object action row = uid_eq row.object object && uid_eq (last_uid row.h
 abbrev pub grant_row : Row → List Row → List Row
 grant_row new [] = new ∷ []
 grant_row new (row ∷ rows) =
-    if is_row_of new.object (last_uid new.holder) row then record row { mode = stronger row.mode new.mode } ∷ rows else row ∷ grant_row new rows
+    if is_row_of new.object (last_uid new.holder) row then record row {
+      mode =
+          stronger row.mode new.mode;
+    } ∷ rows else row ∷ grant_row new rows
 
 -- what is left when the rows of an action and of its descendants go
 abbrev pub drop_rows : Uid → List Row → List Row
@@ -76,7 +80,12 @@ has_any action rows = list_any (λ row. is_on row.holder action) rows
 
 -- the row in the name of the Uid before its holder
 abbrev pub renamed : Row → Row
-renamed row = record row { holder = front row.holder; tops = if nat_lt (length (front row.holder)) row.tops then length (front row.holder) else row.tops }
+renamed row =
+    record row {
+      holder = front row.holder;
+      tops =
+          if nat_lt (length (front row.holder)) row.tops then length (front row.holder) else row.tops;
+    }
 
 -- this holder is the heir, if there is one
 abbrev pub is_heir : Option Uid → Uid → Bool

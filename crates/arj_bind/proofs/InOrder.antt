@@ -13,7 +13,10 @@ use Rattle.arj_msg.specs.declared.message.LoadedReply.TheVariants as loaded
 use Rattle.arj_msg.specs.declared.message.RecordedReply.TheVariants as recorded
 use Rattle.arj_protocol.specs.Ask.{Reply, answers, reply_kind, ask_kind}
 use Rattle.arj_protocol.specs.Asking.{waits_for_call}
-use Rattle.arj_protocol.specs.Call.{Known, Goal, Run, Include, At, AtBind, AtLoad, AtActivate, AtNote, AtInvoke, CallStep, On, Ended, Changed, Steps, answered, given_up, moves, finds, with_inc, same_binding, other_binding, bound_by, bound_answer, activated_by, named_again, live_known, made_known, two_incs, two_bindings, next_ask, next_node}
+use Rattle.arj_protocol.specs.Call.{Known, Goal, Run, Include, At, AtBind, AtLoad, AtActivate, AtNote, AtInvoke, CallStep, On, Ended}
+use Rattle.arj_protocol.specs.Call.{Changed, Steps, answered, given_up, moves, finds, with_inc, same_binding, other_binding, bound_by}
+use Rattle.arj_protocol.specs.Call.{bound_answer, activated_by, named_again, live_known, made_known, two_incs, two_bindings, next_ask}
+use Rattle.arj_protocol.specs.Call.{next_node}
 use Rattle.arj_protocol.specs.Coord.{Keeping}
 use Rattle.arj_protocol.specs.Order.{binding_eq, binding_less}
 use Rattle.arj_bind.specs.Heard.{Onward, awaited, heard_in, hears, came_by, steps_at, req_after}
@@ -58,14 +61,17 @@ activated_next k st i (Some old) = by (binding_eq old.binding k.binding)
     by false = refl
 
 reply_next : (free : Bool) (kept : Option Known) (avoid : Binding) (r : BoundReply) → IsNext (AtBind avoid) (bound_answer free kept r).step
-reply_next free kept avoid (bound.Live b n i g stores) = bound_next (AtBind avoid) (AtInvoke (live_known b n i g stores) i) refl free (live_known b n i g stores) kept
+reply_next free kept avoid (bound.Live b n i g stores) =
+    bound_next (AtBind avoid) (AtInvoke (live_known b n i g stores) i) refl free (live_known b n i g stores) kept
 reply_next free kept avoid (bound.Make b n g []) = tt
-reply_next free kept avoid (bound.Make b n g (s ∷ ss)) = bound_next (AtBind avoid) (AtLoad (made_known b n g (s ∷ ss)) s ss) refl free (made_known b n g (s ∷ ss)) kept
+reply_next free kept avoid (bound.Make b n g (s ∷ ss)) =
+    bound_next (AtBind avoid) (AtLoad (made_known b n g (s ∷ ss)) s ss) refl free (made_known b n g (s ∷ ss)) kept
 reply_next free kept avoid (bound.Write g []) = tt
 reply_next free kept avoid (bound.Write g (s ∷ ss)) = refl
 reply_next free kept avoid (bound.Conflict holder m) = tt
 
-pub next_is : (free : Bool) (kept : Option Known) (g : Goal) (at : At) (r : Reply) → reply_kind r ≡ kind_at at → IsNext at (answered free kept g at r).step
+pub next_is : (free : Bool) (kept : Option Known) (g : Goal) (at : At) (r : Reply) → reply_kind r ≡ kind_at at →
+    IsNext at (answered free kept g at r).step
 next_is free kept g (AtBind avoid) (Reply.Bound r) is = reply_next free kept avoid r
 next_is free kept g (AtBind avoid) (Reply.Loaded r) is = absurd (cc is)
 next_is free kept g (AtBind avoid) (Reply.Activated r) is = absurd (cc is)
@@ -125,7 +131,8 @@ again_is (AtInvoke k i) = tt
 is_later : (n m : ℕ) (b : Bool) → n < 4294967295 → ((n == m) && b) ≡ true → (req_after n == m) ≡ false
 is_later n m b small is = let same = (and_parts (n == m) b is).0 in grind (arith, nat_tests)
 
-once_by : (from : ℕ) (free : Bool) (k : Keeping) (s t : Steps) (e : Option (Asked × Reply)) → s.req < 4294967295 → (hears free k s (awaited from s e)).came ≡ Onward t → awaited from t e ≡ None
+once_by : (from : ℕ) (free : Bool) (k : Keeping) (s t : Steps) (e : Option (Asked × Reply)) → s.req < 4294967295 →
+    (hears free k s (awaited from s e)).came ≡ Onward t → awaited from t e ≡ None
 once_by from free k s t None small is = refl
 once_by from free k s t (Some e) small is = by (waits_for_call from e.0 e.1 s) refl is
   where
@@ -136,9 +143,11 @@ once_by from free k s t (Some e) small is = by (waits_for_call from e.0 e.1 s) r
         λ i. cond (late i && ((reply_kind e.1 == ask_kind (next_ask [] t)) && (next_node t == from))) (Some e.1) None
     on waits (Ended x) is = absurd (cc is)
 
-    by : (b : Bool) → waits_for_call from e.0 e.1 s ≡ b → (hears free k s (cond b (Some e.1) None)).came ≡ Onward t → awaited from t (Some e) ≡ None
+    by : (b : Bool) → waits_for_call from e.0 e.1 s ≡ b → (hears free k s (cond b (Some e.1) None)).came ≡ Onward t →
+        awaited from t (Some e) ≡ None
     by true waits is = on waits (answered free k.kept s.goal s.at e.1).step is
     by false waits is = absurd (cc is)
 
-pub once_is : (from : ℕ) (m : Message) (free : Bool) (k : Keeping) (s t : Steps) → s.req < 4294967295 → (hears free k s (heard_in from m s)).came ≡ Onward t → heard_in from m t ≡ None
+pub once_is : (from : ℕ) (m : Message) (free : Bool) (k : Keeping) (s t : Steps) → s.req < 4294967295 →
+    (hears free k s (heard_in from m s)).came ≡ Onward t → heard_in from m t ≡ None
 once_is from m free k s t small is = once_by from free k s t (answers m) small is

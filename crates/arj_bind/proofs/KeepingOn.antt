@@ -7,7 +7,9 @@ use Rattle.arj_msg.specs.declared.message.BoundReply.TheVariants as bound
 use Rattle.arj_msg.specs.declared.message.LoadedReply.TheVariants as loaded
 use Rattle.arj_msg.specs.declared.message.InvokedReply.TheVariants as invoked
 use Rattle.arj_protocol.specs.Ask.{Reply}
-use Rattle.arj_protocol.specs.Call.{Known, Goal, Run, Include, At, AtBind, AtLoad, AtActivate, AtNote, AtInvoke, answered, moves, finds, with_inc, same_binding, other_binding, bound_by, bound_answer, activated_by, recorded_kept, named_again, made_by, or_lost, load_from, live_known, made_known, write_known, Changed, two_incs, two_bindings}
+use Rattle.arj_protocol.specs.Call.{Known, Goal, Run, Include, At, AtBind, AtLoad, AtActivate, AtNote, AtInvoke, answered, moves, finds}
+use Rattle.arj_protocol.specs.Call.{with_inc, same_binding, other_binding, bound_by, bound_answer, activated_by, recorded_kept, named_again}
+use Rattle.arj_protocol.specs.Call.{made_by, or_lost, load_from, live_known, made_known, write_known, Changed, two_incs, two_bindings}
 use Rattle.arj_protocol.specs.Order.{binding_eq, binding_less}
 use Rattle.arj_bind.specs.Laws.{StaysOrRises, KeepsOn}
 
@@ -19,14 +21,16 @@ same_on None = tt
 same_on (Some old) = same old
 
 -- an incarnation is named for what is kept, of which all but the incarnation may have changed
-inc_on : (old now : Known) (i : ℕ) (at : At) → now.binding ≡ old.binding → now.inc ≡ old.inc → KeepsOn (Some old) (with_inc i now at old.inc).kept
+inc_on : (old now : Known) (i : ℕ) (at : At) → now.binding ≡ old.binding → now.inc ≡ old.inc →
+    KeepsOn (Some old) (with_inc i now at old.inc).kept
 inc_on old now i at binding inc = by old.inc inc refl
   where
     by : (first : Option ℕ) → now.inc ≡ first → old.inc ≡ first → KeepsOn (Some old) (with_inc i now at first).kept
     by None is was = inr (binding, λ j given. let never : None ≡ Some j = sym was ∙ given in absurd (cc never))
     by (Some first) is was = pick (first == i)
       where
-        pick : (b : Bool) → KeepsOn (Some old) (cond b (moves (Some now) at) (finds (Some now) (Changed now.server (two_incs first i)))).kept
+        pick : (b : Bool) →
+            KeepsOn (Some old) (cond b (moves (Some now) at) (finds (Some now) (Changed now.server (two_incs first i)))).kept
         pick true = inr (binding, λ j old_is. inc ∙ old_is)
         pick false = inr (binding, λ j old_is. inc ∙ old_is)
 

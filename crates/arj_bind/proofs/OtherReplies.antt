@@ -3,7 +3,8 @@ use Rattle.std.proofs.Common.{◌≡◌, Bool, true, Option, nat_lt, refl, ◌�
 use Rattle.arj_protocol.specs.Ask.{Reply, reply_kind}
 use Rattle.arj_protocol.specs.Call.{Known, Goal, At, AtBind, AtLoad, AtActivate, AtNote, AtInvoke, Moved, answered, moves}
 
-pub other_reply : (free : Bool) (kept : Option Known) (g : Goal) (at : At) (r : Reply) → nat_lt 5 (reply_kind r) ≡ true → answered free kept g at r ≡ moves kept at
+pub other_reply : (free : Bool) (kept : Option Known) (g : Goal) (at : At) (r : Reply) → nat_lt 5 (reply_kind r) ≡ true →
+    answered free kept g at r ≡ moves kept at
 other_reply free kept g (AtBind avoid) (Reply.Voted r) is = refl
 other_reply free kept g (AtLoad k s rest) (Reply.Voted r) is = refl
 other_reply free kept g (AtActivate k st) (Reply.Voted r) is = refl
@@ -25,7 +26,8 @@ other_reply free kept g at (Reply.Activated i) is = absurd (cc is)
 other_reply free kept g at (Reply.Noted r) is = absurd (cc is)
 other_reply free kept g at (Reply.Invoked r) is = absurd (cc is)
 
-pub other_in : (free : Bool) (kept : Option Known) (g : Goal) (at : At) (o : Option Reply) (m : Moved) → IfSome o (λ r. nat_lt 5 (reply_kind r) ≡ true) → m ≡ moves kept at
+pub other_in : (free : Bool) (kept : Option Known) (g : Goal) (at : At) (o : Option Reply) (m : Moved) →
+    IfSome o (λ r. nat_lt 5 (reply_kind r) ≡ true) → m ≡ moves kept at
     → IfSome o (λ r. m ≡ answered free kept g at r)
 other_in free kept g at None m other is = tt
 other_in free kept g at (Some r) m other is = is ∙ sym (other_reply free kept g at r other)

@@ -8,7 +8,8 @@ use Rattle.arj_msg.specs.declared.message.BoundReply.TheVariants as bound
 use Rattle.arj_msg.specs.declared.message.Message.{Message}
 use Rattle.arj_protocol.specs.Ask.{Reply, answers, reply_kind, ask_kind}
 use Rattle.arj_protocol.specs.Asking.{waits_for_call, keeps_after, is_ended, granted_by}
-use Rattle.arj_protocol.specs.Call.{Known, Goal, At, AtBind, AtLoad, AtActivate, AtNote, AtInvoke, Steps, CallStep, CallEnd, Moved, answered, given_up, has_changed, spoils, ask_at}
+use Rattle.arj_protocol.specs.Call.{Known, Goal, At, AtBind, AtLoad, AtActivate, AtNote, AtInvoke, Steps, CallStep, CallEnd, Moved}
+use Rattle.arj_protocol.specs.Call.{answered, given_up, has_changed, spoils, ask_at}
 use Rattle.arj_protocol.specs.Call as call
 use Rattle.arj_protocol.specs.Coord.{Keeping, Grant, is_call}
 use Rattle.arj_bind.specs.Shown.{end_of}

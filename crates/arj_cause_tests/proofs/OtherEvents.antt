@@ -4,7 +4,8 @@ use Rattle.arj_class.specs.declared.op.Op.TheVariants as op
 use Rattle.arj_journal.specs.declared.event.Event.TheVariants as event
 use Rattle.arj_journal.specs.declared.event.FrameNo.TheVariants.{Number}
 use Rattle.arj_cause_tests.proofs.Words.{l, lacking, of_other_event}
-use Rattle.arj_cause_tests.proofs.Worked.{conflict, exclusion, inclusion, naming_stopped, nested_abort, rebinding, serializing, sibling_waits, stop_at_decision_done}
+use Rattle.arj_cause_tests.proofs.Worked.{conflict, exclusion, inclusion, naming_stopped, nested_abort, rebinding, serializing}
+use Rattle.arj_cause_tests.proofs.Worked.{sibling_waits, stop_at_decision_done}
 use Rattle.arj_cause_tests.proofs.Rare.{aborted_lost, changed_bind_naming}
 use Rattle.arj_cause_tests.proofs.Rarer.{changed_inc_server}
 

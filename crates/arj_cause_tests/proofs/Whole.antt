@@ -31,7 +31,8 @@ both_none : (xs ys : List ℕ) → xs ++ ys ≡ [] → (xs ≡ []) × (ys ≡ []
 both_none [] ys none = (refl, none)
 both_none (x ∷ xs) ys none = cc
 
-along : (header : Header) (past : Past) (wrote : List Wrote) → lacking_from header past wrote ≡ [] → Along (CausesStep header) past (events_of wrote) (end_from past wrote)
+along : (header : Header) (past : Past) (wrote : List Wrote) → lacking_from header past wrote ≡ [] →
+    Along (CausesStep header) past (events_of wrote) (end_from past wrote)
 along header past [] none = refl
 along header past (w ∷ rest) none =
     let parts = both_none (lacking_in (here_at header past w.0 w.1) w.1) (lacking_from header (next past w.0 w.1) rest) none in

@@ -52,7 +52,8 @@ run header wrote = record { header = header; wrote = wrote }
 -- the places of those lines of an event that lack a cause, from 1
 abbrev pub lacking_in : Here → List Body → List ℕ
 lacking_in h [] = []
-lacking_in h (body ∷ rest) = if has_cause h body then lacking_in (behind h body) rest else (length h.lines + 1) ∷ lacking_in (behind h body) rest
+lacking_in h (body ∷ rest) =
+    if has_cause h body then lacking_in (behind h body) rest else (length h.lines + 1) ∷ lacking_in (behind h body) rest
 
 -- the same over events
 abbrev pub lacking_from : Header → Past → List Wrote → List ℕ

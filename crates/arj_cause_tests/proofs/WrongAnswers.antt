@@ -9,7 +9,8 @@ use Rattle.arj_journal.specs.declared.body.Difference.TheVariants as difference
 use Rattle.arj_journal.specs.declared.body.FrameKind.TheVariants as frame
 use Rattle.arj_journal.specs.declared.body.Role.TheVariants as role
 use Rattle.arj_cause_tests.proofs.Words.{l, u, b, lacking, without, instead, after, before}
-use Rattle.arj_cause_tests.proofs.Worked.{conflict, inclusion, independent, lost_lock, naming_stopped, nested_abort, rebinding, sibling_waits}
+use Rattle.arj_cause_tests.proofs.Worked.{conflict, inclusion, independent, lost_lock, naming_stopped, nested_abort, rebinding}
+use Rattle.arj_cause_tests.proofs.Worked.{sibling_waits}
 use Rattle.arj_cause_tests.proofs.Rare.{aborted_listed, changed_bind_naming}
 use Rattle.arj_cause_tests.proofs.Rarer.{changed_bind_server, changed_inc_naming, changed_inc_server, conflict_pending}
 

@@ -7,7 +7,8 @@ use Rattle.arj_journal.specs.declared.body.FrameKind.TheVariants as frame
 use Rattle.arj_journal.specs.declared.body.Part.TheVariants as part
 use Rattle.arj_journal.specs.declared.body.Role.TheVariants as role
 use Rattle.arj_cause_tests.proofs.Words.{u, b, lacking, without, instead, after}
-use Rattle.arj_cause_tests.proofs.Worked.{conflict, exclusion, independent, lost_lock, naming_stopped, nested_abort, no_store_left, rebinding, stop_at_decision_done}
+use Rattle.arj_cause_tests.proofs.Worked.{conflict, exclusion, independent, lost_lock, naming_stopped, nested_abort, no_store_left}
+use Rattle.arj_cause_tests.proofs.Worked.{rebinding, stop_at_decision_done}
 use Rattle.arj_cause_tests.proofs.Rarer.{conflict_pending}
 
 -- `granted`: against another lock, raising nothing, or for nobody.

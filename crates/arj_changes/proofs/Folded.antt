@@ -1,5 +1,6 @@
 -- The entry of an object after the tops that moved its stores.
-use Rattle.std.proofs.Common.{◌≡◌, ◌≤◌, ◌<◌, ℕ, zero, suc, take, get_or, ◌+◌, List, [], ◌∷◌, ◌++◌, length, map, Bool, true, false, cond, not, ◌||◌, refl, sym, ◌∙◌, ap, append-nil, length-append, arith}
+use Rattle.std.proofs.Common.{◌≡◌, ◌≤◌, ◌<◌, ℕ, zero, suc, take, get_or, ◌+◌, List, [], ◌∷◌, ◌++◌, length, map, Bool, true, false, cond}
+use Rattle.std.proofs.Common.{not, ◌||◌, refl, sym, ◌∙◌, ap, append-nil, length-append, arith}
 use Rattle.std.specs.Prelude.{filter}
 use Rattle.std.proofs.lemmas.List.{map-append, take_more}
 use Rattle.arj_base.specs.Uid.{nobody}
@@ -10,7 +11,8 @@ use Rattle.arj_law.specs.Growth.{AreDecidedInOrder, IdleInPlace, first_stores}
 use Rattle.arj_model.specs.Actions.{acts}
 use Rattle.arj_model.specs.Calls.{Top, tops}
 use Rattle.arj_model.specs.CausePends.{has_some}
-use Rattle.arj_model.specs.Last.{changer_from, changers, increasing, is_among, joins_of, leaves_of, listed_after, listed_from, same_list, serial_tops, uid_of_id}
+use Rattle.arj_model.specs.Last.{changer_from, changers, increasing, is_among, joins_of, leaves_of, listed_after, listed_from, same_list}
+use Rattle.arj_model.specs.Last.{serial_tops, uid_of_id}
 use Rattle.arj_model.specs.Serial.{arrange, lex, serial_key}
 use Rattle.arj_start.specs.Start.{none_written}
 use Rattle.arj_changes.specs.Folded.{IsFolded, IsStepped, tops_ranked}
@@ -84,7 +86,8 @@ from_none : (n : ℕ) → n ≡ 0 + n
 from_none n = omega arith
 
 -- so the entry is that after the tops that did
-pub entry_is : (header : Header) (lines : List Line) (x : ℕ) (first : List ℕ) (ts : List Top) (e : EntryState) → first ≡ first_stores header x → ts ≡ filter (moves lines x) (serial_tops lines)
+pub entry_is : (header : Header) (lines : List Line) (x : ℕ) (first : List ℕ) (ts : List Top) (e : EntryState) →
+    first ≡ first_stores header x → ts ≡ filter (moves lines x) (serial_tops lines)
     → IsFolded lines x first ts e → IsEntry header lines x e
 entry_is header lines x first ts e is are f = record {
   stores = f.stores ∙ (λ i. listed_from lines x (is i) (are i)) ∙ sym (listed_decided header lines x (moves lines x) (serial_tops lines) (decided header lines x));
@@ -96,17 +99,21 @@ entry_is header lines x first ts e is are f = record {
 
 few_changers : (lines : List Line) (x : ℕ) (first : List ℕ) (ts : List Top) → length (changers lines x first ts) ≤ length ts
 few_changers lines x first [] = omega arith
-few_changers lines x first (t ∷ ts) = by (same_list (listed_after lines x first t) first) (few_changers lines x first ts) (few_changers lines x (listed_after lines x first t) ts)
+few_changers lines x first (t ∷ ts) =
+    by (same_list (listed_after lines x first t) first) (few_changers lines x first ts) (few_changers lines x (listed_after lines x first t) ts)
   where
-    by : (b : Bool) → length (changers lines x first ts) ≤ length ts → length (changers lines x (listed_after lines x first t) ts) ≤ length ts
+    by : (b : Bool) → length (changers lines x first ts) ≤ length ts →
+        length (changers lines x (listed_after lines x first t) ts) ≤ length ts
         → length (cond b (changers lines x first ts) (t ∷ changers lines x (listed_after lines x first t) ts)) ≤ length (t ∷ ts)
     by true stays moved = omega (arith, stays)
     by false stays moved = omega (arith, moved)
 
-pub version_few : (lines : List Line) (x : ℕ) (first : List ℕ) (ts : List Top) (e : EntryState) → IsFolded lines x first ts e → e.version ≤ length ts
+pub version_few : (lines : List Line) (x : ℕ) (first : List ℕ) (ts : List Top) (e : EntryState) → IsFolded lines x first ts e →
+    e.version ≤ length ts
 version_few lines x first ts e f = let few = few_changers lines x first ts in let is = f.version in omega (arith, few, is)
 
-pub step_more : (lines : List Line) (x : ℕ) (first : List ℕ) (ts : List Top) (t : Top) (old new : EntryState) → IsFolded lines x first ts old → IsStepped lines x t old new → IsFolded lines x first (ts ++ t ∷ []) new
+pub step_more : (lines : List Line) (x : ℕ) (first : List ℕ) (ts : List Top) (t : Top) (old new : EntryState) →
+    IsFolded lines x first ts old → IsStepped lines x t old new → IsFolded lines x first (ts ++ t ∷ []) new
 step_more lines x first ts t old new f s = record {
   stores = s.stores ∙ ap (λ stores. listed_after lines x stores t) f.stores ∙ sym (listed_append lines x first ts t);
   version = s.version ∙ (λ i. cond (same_list (listed_after lines x (f.stores i) t) (f.stores i)) (f.version i) (f.version i + 1)) ∙ count (same_list (listed_after lines x here t) here) ∙ sym (ap length (changers_append lines x first ts (t ∷ [])));
@@ -123,19 +130,23 @@ step_more lines x first ts t old new f s = record {
     count true = ap length (sym (append-nil before))
     count false = sym (length-append before (t ∷ []))
 
-    last : (b : Bool) → cond b (changer_from (acts lines) nobody before) (uid_of_id (acts lines) t.id) ≡ changer_from (acts lines) nobody (before ++ cond b [] (t ∷ []))
+    last : (b : Bool) →
+        cond b (changer_from (acts lines) nobody before) (uid_of_id (acts lines) t.id) ≡ changer_from (acts lines) nobody (before ++ cond b [] (t ∷ []))
     last true = ap (changer_from (acts lines) nobody) (sym (append-nil before))
     last false = sym (last_of_append (acts lines) nobody before t)
 
-pub nothing_yet : (lines : List Line) (x : ℕ) (first : List ℕ) (e : EntryState) → e.stores.items ≡ first → e.version ≡ 0 → e.writer ≡ nobody → IsFolded lines x first [] e
+pub nothing_yet : (lines : List Line) (x : ℕ) (first : List ℕ) (e : EntryState) → e.stores.items ≡ first → e.version ≡ 0 →
+    e.writer ≡ nobody → IsFolded lines x first [] e
 nothing_yet lines x first e s v w = record { stores = s; version = v; writer = w }
 
 -- what a step makes, by what is kept
-pub stores_step : (lines : List Line) (c : Changes) → AreKept lines c → (x : ℕ) (stores : List ℕ) (t : Top) → stores_after stores (left_by c t.id x) (joined_by c t.id x) ≡ listed_after lines x stores t
+pub stores_step : (lines : List Line) (c : Changes) → AreKept lines c → (x : ℕ) (stores : List ℕ) (t : Top) →
+    stores_after stores (left_by c t.id x) (joined_by c t.id x) ≡ listed_after lines x stores t
 stores_step lines c has x stores t = (λ i. stores_after stores (leaves_are lines c has t.id x i) (joins_are lines c has t.id x i))
 
 -- the tops so far, with the next one
-pub next_top : (rs : List Ranked) (i : ℕ) (d : Ranked) → i < length rs → tops_ranked (take (i + 1) rs) ≡ tops_ranked (take i rs) ++ (let r = get_or rs i d in top_called r.top) ∷ []
+pub next_top : (rs : List Ranked) (i : ℕ) (d : Ranked) → i < length rs →
+    tops_ranked (take (i + 1) rs) ≡ tops_ranked (take i rs) ++ (let r = get_or rs i d in top_called r.top) ∷ []
 next_top rs i d lt = ap tops_ranked (take_more rs i d lt) ∙ map-append (λ r. top_called r.top) (take i rs) (get_or rs i d ∷ [])
 
 pub count_tops_ranked : (rs : List Ranked) (i : ℕ) → length (tops_ranked (take i rs)) ≤ i

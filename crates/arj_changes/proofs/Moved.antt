@@ -1,5 +1,6 @@
 -- What a top moves, by what is kept of exclusions and includes.
-use Rattle.std.proofs.Common.{◌≡◌, ◌<◌, ℕ, suc, ◌+◌, List, [], ◌∷◌, ◌++◌, length, map, take, drop, get_or, Bool, true, false, cond, ◌&&◌, ◌||◌, ◌==◌, nat_lt, Option, Some, None, refl, sym, ◌∙◌, ap, arith}
+use Rattle.std.proofs.Common.{◌≡◌, ◌<◌, ℕ, suc, ◌+◌, List, [], ◌∷◌, ◌++◌, length, map, take, drop, get_or, Bool, true, false, cond, ◌&&◌}
+use Rattle.std.proofs.Common.{◌||◌, ◌==◌, nat_lt, Option, Some, None, refl, sym, ◌∙◌, ap, arith}
 use Rattle.std.specs.Prelude.{filter, slice_get}
 use Rattle.std.specs.List.{cons_option, filter_map, list_all, list_any}
 use Rattle.std.specs.Option.{option_map}
@@ -18,21 +19,26 @@ use Rattle.arj_changes.specs.Stores.{is_number, join_by, leave_by}
 use Rattle.arj_changes.specs.Tops.{leading}
 use Rattle.arj_changes.specs.declared.kept.Changes.{Changes}
 
-leaves_by : (id x : ℕ) (es : List (Placed Exclusion)) → filter_map (leave_by id x) (map (λ e. leave_of e.it) es) ≡ map (λ e. e.it.node) (filter (λ e. (e.it.top == id) && (e.it.x == x)) es)
+leaves_by : (id x : ℕ) (es : List (Placed Exclusion)) →
+    filter_map (leave_by id x) (map (λ e. leave_of e.it) es) ≡ map (λ e. e.it.node) (filter (λ e. (e.it.top == id) && (e.it.x == x)) es)
 leaves_by id x [] = refl
 leaves_by id x (e ∷ es) = by ((e.it.top == id) && (e.it.x == x)) (leaves_by id x es)
   where
-    by : (b : Bool) → filter_map (leave_by id x) (map (λ f. leave_of f.it) es) ≡ map (λ f. f.it.node) (filter (λ f. (f.it.top == id) && (f.it.x == x)) es)
+    by : (b : Bool) →
+        filter_map (leave_by id x) (map (λ f. leave_of f.it) es) ≡ map (λ f. f.it.node) (filter (λ f. (f.it.top == id) && (f.it.x == x)) es)
         → cons_option (cond b (Some e.it.node) None) (filter_map (leave_by id x) (map (λ f. leave_of f.it) es)) ≡ map (λ f. f.it.node) (cond b (e ∷ filter (λ f. (f.it.top == id) && (f.it.x == x)) es) (filter (λ f. (f.it.top == id) && (f.it.x == x)) es))
     by true ih = ap (λ ns. e.it.node ∷ ns) ih
     by false ih = ih
 
 -- the nodes that a top excluded
-pub leaves_are : (lines : List Line) (c : Changes) → AreKept lines c → (id x : ℕ) → filter_map (leave_by id x) c.leaves.items ≡ leaves_of lines id x
+pub leaves_are : (lines : List Line) (c : Changes) → AreKept lines c → (id x : ℕ) →
+    filter_map (leave_by id x) c.leaves.items ≡ leaves_of lines id x
 leaves_are lines c has id x = ap (filter_map (leave_by id x)) has.leaves ∙ leaves_by id x (excluded lines)
 
-join_is : (ends : List (Placed ℕ)) (id x : ℕ) (i : Placed Inclusion) (o : Option Act) → top_in i.it.path ≡ o → join_by (has_end ends) id x (join_of i.it) ≡ joins_by ends id x i o
-join_is ends id x i None e = (λ k. cond (is_number (option_map (λ a. a.id) (e k)) id && (i.it.x == x)) (cond (list_all (has_end ends) (ids (chain_in i.it.path))) (Some i.it.node) None) None)
+join_is : (ends : List (Placed ℕ)) (id x : ℕ) (i : Placed Inclusion) (o : Option Act) → top_in i.it.path ≡ o →
+    join_by (has_end ends) id x (join_of i.it) ≡ joins_by ends id x i o
+join_is ends id x i None e =
+    (λ k. cond (is_number (option_map (λ a. a.id) (e k)) id && (i.it.x == x)) (cond (list_all (has_end ends) (ids (chain_in i.it.path))) (Some i.it.node) None) None)
 join_is ends id x i (Some t) e =
     (λ k. cond (is_number (option_map (λ a. a.id) (e k)) id && (i.it.x == x)) (cond (list_all-map (has_end ends) (λ a. a.id) (chain_in i.it.path) k) (Some i.it.node) None) None)
     ∙ both (t.id == id) (i.it.x == x) (list_all (λ a. has_end ends a.id) (chain_in i.it.path))
@@ -42,22 +48,26 @@ join_is ends id x i (Some t) e =
     both true false c = refl
     both false b c = refl
 
-joins_all : (ends : List (Placed ℕ)) (id x : ℕ) (is : List (Placed Inclusion)) → filter_map (join_by (has_end ends) id x) (map (λ i. join_of i.it) is) ≡ filter_map (λ i. joins_by ends id x i (top_in i.it.path)) is
+joins_all : (ends : List (Placed ℕ)) (id x : ℕ) (is : List (Placed Inclusion)) →
+    filter_map (join_by (has_end ends) id x) (map (λ i. join_of i.it) is) ≡ filter_map (λ i. joins_by ends id x i (top_in i.it.path)) is
 joins_all ends id x [] = refl
 joins_all ends id x (i ∷ is) = (λ k. cons_option (join_is ends id x i (top_in i.it.path) refl k) (joins_all ends id x is k))
 
 -- the nodes of a top's surviving includes
-pub joins_are : (lines : List Line) (c : Changes) → AreKept lines c → (id x : ℕ) → filter_map (join_by (is_ended c) id x) c.joins.items ≡ joins_of lines id x
+pub joins_are : (lines : List Line) (c : Changes) → AreKept lines c → (id x : ℕ) →
+    filter_map (join_by (is_ended c) id x) c.joins.items ≡ joins_of lines id x
 joins_are lines c has id x =
     (λ k. filter_map (join_by (λ n. has.committed n k) id x) (has.joins k)) ∙ joins_all (committed lines) id x (included lines)
 
 -- an object is moved by an exclusion
-pub leave_any : (x : ℕ) (es : List (Placed Exclusion)) → list_any (λ l. l.x == x) (map (λ e. leave_of e.it) es) ≡ list_any (λ e. e.it.x == x) es
+pub leave_any : (x : ℕ) (es : List (Placed Exclusion)) →
+    list_any (λ l. l.x == x) (map (λ e. leave_of e.it) es) ≡ list_any (λ e. e.it.x == x) es
 leave_any x [] = refl
 leave_any x (e ∷ es) = ap (λ b. (e.it.x == x) || b) (leave_any x es)
 
 -- or by an include
-pub join_any : (x : ℕ) (is : List (Placed Inclusion)) → list_any (λ j. j.x == x) (map (λ i. join_of i.it) is) ≡ list_any (λ i. i.it.x == x) is
+pub join_any : (x : ℕ) (is : List (Placed Inclusion)) →
+    list_any (λ j. j.x == x) (map (λ i. join_of i.it) is) ≡ list_any (λ i. i.it.x == x) is
 join_any x [] = refl
 join_any x (i ∷ is) = ap (λ b. (i.it.x == x) || b) (join_any x is)
 
@@ -71,12 +81,16 @@ pub number_there : (n : ℕ) (ms : List ℕ) → slice_get ms (leading (λ m. na
 number_there n [] e = absurd (cc e)
 number_there n (m ∷ ms) e = by (number_there n ms) (n == m) refl (nat_lt n m) refl (nat_lt m n) refl e
   where
-    by : (slice_get ms (leading (λ k. nat_lt k n) ms) ≡ Some n → insert_number n ms ≡ ms) → (a : Bool) → (n == m) ≡ a → (b : Bool) → nat_lt n m ≡ b → (c : Bool) → nat_lt m n ≡ c
-        → slice_get (m ∷ ms) (cond c (1 + leading (λ k. nat_lt k n) ms) 0) ≡ Some n → cond a (m ∷ ms) (cond b (n ∷ m ∷ ms) (m ∷ insert_number n ms)) ≡ m ∷ ms
+    by : (slice_get ms (leading (λ k. nat_lt k n) ms) ≡ Some n → insert_number n ms ≡ ms) → (a : Bool) → (n == m) ≡ a → (b : Bool) →
+        nat_lt n m ≡ b → (c : Bool) → nat_lt m n ≡ c
+        → slice_get (m ∷ ms) (cond c (1 + leading (λ k. nat_lt k n) ms) 0) ≡ Some n →
+        cond a (m ∷ ms) (cond b (n ∷ m ∷ ms) (m ∷ insert_number n ms)) ≡ m ∷ ms
     by ih true same b lt c more g = refl
-    by ih false same true lt true more g = let never_both : nat_lt m n ≡ false = grind (arith, nat_tests, lt) in never (nat_lt m n) more never_both
+    by ih false same true lt true more g =
+        let never_both : nat_lt m n ≡ false = grind (arith, nat_tests, lt) in never (nat_lt m n) more never_both
     by ih false same true lt false more g = let is : m ≡ n = cc g in never (n == m) (eq-eqb n m (sym is)) same
-    by ih false same false lt true more g = ap (λ xs. m ∷ xs) (ih ((λ i. slice_get (m ∷ ms) (one_more (leading (λ k. nat_lt k n) ms) i)) ∙ g))
+    by ih false same false lt true more g =
+        ap (λ xs. m ∷ xs) (ih ((λ i. slice_get (m ∷ ms) (one_more (leading (λ k. nat_lt k n) ms) i)) ∙ g))
     by ih false same false lt false more g = let is : m ≡ n = cc g in never (n == m) (eq-eqb n m (sym is)) same
 
 -- a number that doesn't goes there
@@ -85,13 +99,17 @@ pub number_put : (n : ℕ) (ms : List ℕ) → (slice_get ms (leading (λ m. nat
 number_put n [] e = refl
 number_put n (m ∷ ms) e = by (number_put n ms) (n == m) refl (nat_lt n m) refl (nat_lt m n) refl e
   where
-    by : ((slice_get ms (leading (λ k. nat_lt k n) ms) ≡ Some n → ⊥) → insert_number n ms ≡ take (leading (λ k. nat_lt k n) ms) ms ++ n ∷ drop (leading (λ k. nat_lt k n) ms) ms)
+    by : ((slice_get ms (leading (λ k. nat_lt k n) ms) ≡ Some n → ⊥) →
+        insert_number n ms ≡ take (leading (λ k. nat_lt k n) ms) ms ++ n ∷ drop (leading (λ k. nat_lt k n) ms) ms)
         → (a : Bool) → (n == m) ≡ a → (b : Bool) → nat_lt n m ≡ b → (c : Bool) → nat_lt m n ≡ c
         → (slice_get (m ∷ ms) (cond c (1 + leading (λ k. nat_lt k n) ms) 0) ≡ Some n → ⊥)
         → cond a (m ∷ ms) (cond b (n ∷ m ∷ ms) (m ∷ insert_number n ms)) ≡ take (cond c (1 + leading (λ k. nat_lt k n) ms) 0) (m ∷ ms) ++ n ∷ drop (cond c (1 + leading (λ k. nat_lt k n) ms) 0) (m ∷ ms)
-    by ih true same b lt true more g = let is : n ≡ m = eqb-true n m same in let not_more : nat_lt m n ≡ false = grind (arith, nat_tests, is) in never (nat_lt m n) more not_more
+    by ih true same b lt true more g =
+        let is : n ≡ m =
+        eqb-true n m same in let not_more : nat_lt m n ≡ false = grind (arith, nat_tests, is) in never (nat_lt m n) more not_more
     by ih true same b lt false more g = absurd (g (ap Some (sym (eqb-true n m same))))
-    by ih false same true lt true more g = let never_both : nat_lt m n ≡ false = grind (arith, nat_tests, lt) in never (nat_lt m n) more never_both
+    by ih false same true lt true more g =
+        let never_both : nat_lt m n ≡ false = grind (arith, nat_tests, lt) in never (nat_lt m n) more never_both
     by ih false same true lt false more g = refl
     by ih false same false lt true more g =
         let k = leading (λ j. nat_lt j n) ms in
@@ -99,9 +117,11 @@ number_put n (m ∷ ms) e = by (number_put n ms) (n == m) refl (nat_lt n m) refl
     by ih false same false lt false more g = let is : (n == m) ≡ true = grind (arith, nat_tests, lt, more) in never (n == m) is same
 
 -- what is found of the items so far, with the next one
-pub next_found : {A : Type 0} (f : A → Option ℕ) (xs : List A) (i : ℕ) (x : A) → i < length xs → x ≡ get_or xs i x → filter_map f (take (i + 1) xs) ≡ filter_map f (take i xs) ++ cons_option (f x) []
+pub next_found : {A : Type 0} (f : A → Option ℕ) (xs : List A) (i : ℕ) (x : A) → i < length xs → x ≡ get_or xs i x →
+    filter_map f (take (i + 1) xs) ≡ filter_map f (take i xs) ++ cons_option (f x) []
 next_found f xs i x lt is = ap (filter_map f) (take_next xs i x lt is) ∙ filter_map-append f (take i xs) (x ∷ [])
 
 -- those that pass a test, with the next one
-pub next_passed : {A : Type 0} (p : A → Bool) (xs : List A) (i : ℕ) (x : A) → i < length xs → x ≡ get_or xs i x → filter p (take (i + 1) xs) ≡ filter p (take i xs) ++ cond (p x) (x ∷ []) []
+pub next_passed : {A : Type 0} (p : A → Bool) (xs : List A) (i : ℕ) (x : A) → i < length xs → x ≡ get_or xs i x →
+    filter p (take (i + 1) xs) ≡ filter p (take i xs) ++ cond (p x) (x ∷ []) []
 next_passed p xs i x lt is = ap (filter p) (take_next xs i x lt is) ∙ filter-append p (take i xs) (x ∷ [])

@@ -75,7 +75,8 @@ top_numbers p = ap (option_map (λ a. a.id)) (top_is p) ∙ by (top_in p)
 
 -- the exclusion that a line tells
 pub leave_is : (us : List Act) (bs : List Begun) → AreBegun us bs → (b : Body) → leave_in bs b ≡ option_map leave_of (excluded_of us b)
-leave_is us bs has (body.Excluded l x n) = (λ i. leave_by x n (top_number (named us bs has (name l) i))) ∙ ap (leave_by x n) (top_numbers (path us (name l))) ∙ by (top_in (path us (name l)))
+leave_is us bs has (body.Excluded l x n) =
+    (λ i. leave_by x n (top_number (named us bs has (name l) i))) ∙ ap (leave_by x n) (top_numbers (path us (name l))) ∙ by (top_in (path us (name l)))
   where
     by : (o : Option Act) → leave_by x n (option_map (λ a. a.id) o) ≡ option_map leave_of (exclusion_by x n o)
     by None = refl
@@ -97,7 +98,8 @@ root_is n [] = refl
 root_is n (a ∷ p) = refl
 
 -- the top whose commit a line calls
-pub called_is : (us : List Act) (bs : List Begun) → AreBegun us bs → (at : ℕ) (b : Body) → called_in bs at b ≡ called_in_path at (committing_of us b)
+pub called_is : (us : List Act) (bs : List Begun) → AreBegun us bs → (at : ℕ) (b : Body) →
+    called_in bs at b ≡ called_in_path at (committing_of us b)
 called_is us bs has at (body.Committing l) =
     (λ i. called_by at (named us bs has (name l) i) (top_link (named us bs has (name l) i))) ∙ ap (called_by at (links p)) (top_is p) ∙ by (top_in p)
   where

@@ -1,5 +1,6 @@
 -- One step of a loop along a list.
-use Rattle.std.proofs.Common.{◌≡◌, ◌<◌, ℕ, ◌+◌, List, [], ◌∷◌, ◌++◌, length, take, drop, get_or, Bool, true, false, cond, ◌&&◌, Option, sym, ◌∙◌, ap, append-nil}
+use Rattle.std.proofs.Common.{◌≡◌, ◌<◌, ℕ, ◌+◌, List, [], ◌∷◌, ◌++◌, length, take, drop, get_or, Bool, true, false, cond, ◌&&◌, Option, sym}
+use Rattle.std.proofs.Common.{◌∙◌, ap, append-nil}
 use Rattle.std.specs.Prelude.{filter}
 use Rattle.std.specs.List.{cons_option, filter_map, list_all}
 use Rattle.std.proofs.lemmas.List.{drop_more, take_more}
@@ -35,5 +36,6 @@ pub all_past : {A : Type 0} (p : A → Bool) (xs : List A) (i : ℕ) (d : A) →
 all_past p xs i d lt e = sym (all_more p xs i d true lt e)
 
 -- not all do, if the next doesn't
-pub all_not : {A : Type 0} (p : A → Bool) (xs : List A) (i : ℕ) (d : A) → i < length xs → p (get_or xs i d) ≡ false → list_all p (drop i xs) ≡ false
+pub all_not : {A : Type 0} (p : A → Bool) (xs : List A) (i : ℕ) (d : A) → i < length xs → p (get_or xs i d) ≡ false →
+    list_all p (drop i xs) ≡ false
 all_not p xs i d lt e = all_more p xs i d false lt e

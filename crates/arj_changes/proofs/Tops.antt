@@ -21,8 +21,19 @@ done_tops E F (m ∷ ms) = by (top_in m.it) (done_tops E F ms)
     done = is_done (has_end E) (λ u. list_any (λ p. uid_eq p.it u) F)
 
     one : (t : Act) (b : Bool) → tops_called (filter done (filter_map called_of ms)) ≡ filter_map (top_of E F) ms
-        → tops_called (cond b (record { id = t.id; uid = t.uid; root = root_or t.id (root_in m.it); at = m.at } ∷ filter done (filter_map called_of ms)) (filter done (filter_map called_of ms)))
-        ≡ cons_option (cond b (Some (record { id = t.id; root = root_or t.id (root_in m.it); at = m.at })) None) (filter_map (top_of E F) ms)
+        → tops_called (cond b (record {
+          id = t.id;
+          uid = t.uid;
+          root = root_or t.id (root_in m.it);
+          at =
+              m.at;
+        } ∷ filter done (filter_map called_of ms)) (filter done (filter_map called_of ms)))
+        ≡ cons_option (cond b (Some (record {
+          id = t.id;
+          root = root_or t.id (root_in m.it);
+          at =
+              m.at;
+        })) None) (filter_map (top_of E F) ms)
     one t true ih = ap (λ ts. record { id = t.id; root = root_or t.id (root_in m.it); at = m.at } ∷ ts) ih
     one t false ih = ih
 
@@ -32,7 +43,8 @@ done_tops E F (m ∷ ms) = by (top_in m.it) (done_tops E F ms)
     by (Some t) ih = one t (is_committed E F t) ih
 
 -- the committed tops
-pub tops_are : (lines : List Line) (c : Changes) → AreKept lines c → tops_called (filter (is_done (is_ended c) (is_found c)) c.called.items) ≡ tops lines
+pub tops_are : (lines : List Line) (c : Changes) → AreKept lines c →
+    tops_called (filter (is_done (is_ended c) (is_found c)) c.called.items) ≡ tops lines
 tops_are lines c has =
     (λ i. tops_called (filter (is_done (λ n. has.committed n i) (λ u. has.found u i)) (has.called i)))
     ∙ done_tops (committed lines) (recovered lines) (committings lines)

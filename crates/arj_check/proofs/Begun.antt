@@ -1,5 +1,6 @@
 -- The actions of a readable journal began by the rules.
-use Rattle.std.proofs.Common.{◌≡◌, ◌≢◌, ℕ, ◌+◌, List, [], ◌∷◌, ◌++◌, length, Bool, true, false, cond, ◌||◌, nat_le, Option, Some, None, slice_get, refl, sym, ◌∙◌, ap, subst}
+use Rattle.std.proofs.Common.{◌≡◌, ◌≢◌, ℕ, ◌+◌, List, [], ◌∷◌, ◌++◌, length, Bool, true, false, cond, ◌||◌, nat_le, Option, Some, None}
+use Rattle.std.proofs.Common.{slice_get, refl, sym, ◌∙◌, ap, subst}
 use Rattle.std.specs.Prelude.{not, is_some}
 use Rattle.std.specs.List.{AllByRecursion, list_any}
 use Rattle.std.specs.Option.{option_map}
@@ -14,10 +15,12 @@ use Rattle.arj_journal.specs.declared.body.Kind.{Kind}
 use Rattle.arj_journal.specs.declared.body.Kind.TheVariants as kind
 use Rattle.arj_journal.specs.declared.body.Line.{Line}
 use Rattle.arj_journal.specs.declared.header.Header.{Header}
-use Rattle.arj_model.specs.Actions.{Act, Begun, Placed, act_in, acts, acts_after, acts_from, begun_of, numbered, path, path_in, put, read, top_in, upwards}
+use Rattle.arj_model.specs.Actions.{Act, Begun, Placed, act_in, acts, acts_after, acts_from, begun_of, numbered, path, path_in, put, read}
+use Rattle.arj_model.specs.Actions.{top_in, upwards}
 use Rattle.arj_model.proofs.Read.{acts-append}
 use Rattle.arj_law.proofs.Common.{never}
-use Rattle.arj_reading.specs.Readable.{Readable, act_by, begin_rule, body_rule, broken_from, has_parent, is_parent_of, is_top, known, line_rule, met, named, named_as, unless}
+use Rattle.arj_reading.specs.Readable.{Readable, act_by, begin_rule, body_rule, broken_from, has_parent, is_parent_of, is_top, known}
+use Rattle.arj_reading.specs.Readable.{line_rule, met, named, named_as, unless}
 use Rattle.arj_reading.specs.Reading.{above_in, action_of, actions_of}
 use Rattle.arj_reading.specs.declared.action.Action.{Action}
 use Rattle.arj_reading.specs.declared.rule.Rule.{Rule}
@@ -37,18 +40,23 @@ abbrev pub BeganWell : List Act → Type 0
 BeganWell [] = Unit {0}
 BeganWell (a ∷ older) = (begin_rule older (begun_act a) ≡ None) × BeganWell older
 
-well_after : (header : Header) (before : List Line) (b : Body) → body_rule header (met before) b ≡ None → BeganWell (acts before) → BeganWell (acts_after (acts before) b)
+well_after : (header : Header) (before : List Line) (b : Body) → body_rule header (met before) b ≡ None → BeganWell (acts before) →
+    BeganWell (acts_after (acts before) b)
 well_after header before (body.Began l k u p) rule w = (rule, w)
 well_after header before b rule w = w
 
 -- a line that breaks no rule, by what it says
-pub body_keeps : (header : Header) (before : List Line) (last : ℕ) (line : Line) → line_rule header (met before) last line ≡ None → body_rule header (met before) line.body ≡ None
+pub body_keeps : (header : Header) (before : List Line) (last : ℕ) (line : Line) → line_rule header (met before) last line ≡ None →
+    body_rule header (met before) line.body ≡ None
 body_keeps header before last line e = (neither (unless (nat_le last line.event) rule.Order) (body_rule header (met before) line.body) e).1
 
 -- Something holds of each item that is read of a readable journal, where it holds of the item of each line.
 pub all_along : {A : Type 0} (header : Header) (lines : List Line) (f : List Act → Body → Option A) (P : Placed A → Type 0)
-    → ((before : List Line) (line : Line) (rest : List Line) (a : A) → lines ≡ before ++ line ∷ rest → body_rule header (met before) line.body ≡ None → BeganWell (acts before) → f (acts before) line.body ≡ Some a → P (record { at = length before; it = a }))
-    → (before rest : List Line) (last : ℕ) → lines ≡ before ++ rest → BeganWell (acts before) → broken_from header before last rest ≡ None → AllByRecursion P (read f (acts before) (length before) rest)
+    → ((before : List Line) (line : Line) (rest : List Line) (a : A) → lines ≡ before ++ line ∷ rest →
+    body_rule header (met before) line.body ≡ None → BeganWell (acts before) → f (acts before) line.body ≡ Some a →
+    P (record { at = length before; it = a }))
+    → (before rest : List Line) (last : ℕ) → lines ≡ before ++ rest → BeganWell (acts before) → broken_from header before last rest ≡ None →
+    AllByRecursion P (read f (acts before) (length before) rest)
 all_along header lines f P one before [] last e w b = tt
 all_along {A} header lines f P one before (line ∷ rest) last e w b =
     by (f (acts before) line.body) refl
@@ -60,14 +68,18 @@ all_along {A} header lines f P one before (line ∷ rest) last e w b =
     keeps : body_rule header (met before) line.body ≡ None
     keeps = body_keeps header before last line both.0
 
-    there : AllByRecursion P (read f (acts (before ++ line ∷ [])) (length (before ++ line ∷ [])) rest) → AllByRecursion P (read f (acts_after (acts before) line.body) (length before + 1) rest)
+    there : AllByRecursion P (read f (acts (before ++ line ∷ [])) (length (before ++ line ∷ [])) rest) →
+        AllByRecursion P (read f (acts_after (acts before) line.body) (length before + 1) rest)
     there next = subst (λ us. AllByRecursion P (read f us (length before + 1) rest)) (acts-append [] before line) (subst (λ n. AllByRecursion P (read f (acts (before ++ line ∷ [])) n rest)) (length_push before line) next)
 
-    by : (o : Option A) → f (acts before) line.body ≡ o → AllByRecursion P (read f (acts (before ++ line ∷ [])) (length (before ++ line ∷ [])) rest) → AllByRecursion P (put (length before) o (read f (acts_after (acts before) line.body) (length before + 1) rest))
+    by : (o : Option A) → f (acts before) line.body ≡ o →
+        AllByRecursion P (read f (acts (before ++ line ∷ [])) (length (before ++ line ∷ [])) rest) →
+        AllByRecursion P (put (length before) o (read f (acts_after (acts before) line.body) (length before + 1) rest))
     by None is next = there next
     by (Some a) is next = (one before line rest a e keeps w is, there next)
 
-well_along : (header : Header) (before rest : List Line) (last : ℕ) → BeganWell (acts before) → broken_from header before last rest ≡ None → BeganWell (acts (before ++ rest))
+well_along : (header : Header) (before rest : List Line) (last : ℕ) → BeganWell (acts before) → broken_from header before last rest ≡ None →
+    BeganWell (acts (before ++ rest))
 well_along header before [] last w b = subst (λ ls. BeganWell (acts ls)) (sym (append-nil before)) w
 well_along header before (line ∷ rest) last w b =
     let both : (line_rule header (met before) last line ≡ None) × (broken_from header (before ++ line ∷ []) line.event rest ≡ None) =
@@ -118,7 +130,8 @@ path_one (b ∷ older) l s e = by (path_one older l s) (bytes_eq b.label l) e
     only (x ∷ []) g = absurd (cc g)
     only (x ∷ y ∷ q) g = absurd (cc g)
 
-    by : (path older l ≡ s ∷ [] → act_in older l ≡ Some s) → (t : Bool) → cond t (path_in older b) (path older l) ≡ s ∷ [] → cond t (Some b) (act_in older l) ≡ Some s
+    by : (path older l ≡ s ∷ [] → act_in older l ≡ Some s) → (t : Bool) → cond t (path_in older b) (path older l) ≡ s ∷ [] →
+        cond t (Some b) (act_in older l) ≡ Some s
     by ih true g = ap Some (only (upwards b.parent b.kind (path older)) g)
     by ih false g = ih g
 
@@ -130,7 +143,8 @@ parent_is us l k e = by (act_in us l) refl e
     by (Some a) is g = (a, is)
 
 -- an action alone on its path that isn't serializing is a top
-kind_alone : (older : List Act) (k : Kind) (p : Option (List ℕ)) → has_parent older k p ≡ true → upwards p k (path older) ≡ [] → is_serial k ≡ false → is_top k ≡ true
+kind_alone : (older : List Act) (k : Kind) (p : Option (List ℕ)) → has_parent older k p ≡ true → upwards p k (path older) ≡ [] →
+    is_serial k ≡ false → is_top k ≡ true
 kind_alone older kind.Top None h u s = refl
 kind_alone older kind.Serial None h u s = never true refl s
 kind_alone older kind.Nested None h u s = never false h refl
@@ -143,7 +157,8 @@ kind_alone older kind.Constituent (Some l) h u s = refl
 kind_alone older kind.Nested (Some l) h u s = let a = parent_is older l kind.Nested h in absurd (path_some older l a.0 a.1 u)
 
 -- an action behind a serializing action alone is a top
-kind_behind : (older : List Act) (k : Kind) (p : Option (List ℕ)) → has_parent older k p ≡ true → (q : List Act) → upwards p k (path older) ≡ q → is_serial_alone q ≡ true → is_top k ≡ true
+kind_behind : (older : List Act) (k : Kind) (p : Option (List ℕ)) → has_parent older k p ≡ true → (q : List Act) →
+    upwards p k (path older) ≡ q → is_serial_alone q ≡ true → is_top k ≡ true
 kind_behind older kind.Top p h q u s = refl
 kind_behind older kind.Independent p h q u s = refl
 kind_behind older kind.Constituent p h q u s = refl
@@ -153,7 +168,8 @@ kind_behind older kind.Serial (Some l) h q u s = never false h refl
 kind_behind older kind.Nested None h q u s = never false h refl
 kind_behind older kind.Nested (Some l) h [] u s = never false s refl
 kind_behind older kind.Nested (Some l) h (x ∷ y ∷ q) u s = never false s refl
-kind_behind older kind.Nested (Some l) h (x ∷ []) u s = by (is_serial x.kind) s (subst (λ o. is_parent_of kind.Nested (option_map named_as o) ≡ true) (path_one older l x u) h)
+kind_behind older kind.Nested (Some l) h (x ∷ []) u s =
+    by (is_serial x.kind) s (subst (λ o. is_parent_of kind.Nested (option_map named_as o) ≡ true) (path_one older l x u) h)
   where
     by : (b : Bool) → b ≡ true → not b ≡ true → is_top kind.Nested ≡ true
     by true e g = never false g refl
@@ -188,7 +204,8 @@ top_older a older t new top = record {
     by false e = top.uid
 
 -- the newest action, where it is a top
-top_newest : (a : Act) (older : List Act) → a.id ≡ length older → is_top a.kind ≡ true → top_in (path_in older a) ≡ Some a → IsTop (a ∷ older) a
+top_newest : (a : Act) (older : List Act) → a.id ≡ length older → is_top a.kind ≡ true → top_in (path_in older a) ≡ Some a →
+    IsTop (a ∷ older) a
 top_newest a older id kind own = record {
   kind = kind;
   path = path_in older a;
@@ -205,7 +222,8 @@ abbrev HaveTops : List Act → Type 0
 HaveTops older = (m : List ℕ) (x : Act) → top_in (path older m) ≡ Some x → IsTop older x
 
 -- the top of the newest action's path
-newest_top : (a : Act) (older : List Act) → a.id ≡ length older → begin_rule older (begun_act a) ≡ None → HaveTops older → (t : Act) → top_in (path_in older a) ≡ Some t → IsTop (a ∷ older) t
+newest_top : (a : Act) (older : List Act) → a.id ≡ length older → begin_rule older (begun_act a) ≡ None → HaveTops older → (t : Act) →
+    top_in (path_in older a) ≡ Some t → IsTop (a ∷ older) t
 newest_top a older id rule ih t g = found (upwards a.parent a.kind (path older)) refl g
   where
     new : act_by older a.uid ≡ None
@@ -225,11 +243,14 @@ newest_top a older id rule ih t g = found (upwards a.parent a.kind (path older))
     right : has_parent older a.kind a.parent ≡ true
     right = parent_right older a rule
 
-    alone : (b : Bool) → is_serial a.kind ≡ b → upwards a.parent a.kind (path older) ≡ [] → cond b None (Some a) ≡ Some t → IsTop (a ∷ older) t
+    alone : (b : Bool) → is_serial a.kind ≡ b → upwards a.parent a.kind (path older) ≡ [] → cond b None (Some a) ≡ Some t →
+        IsTop (a ∷ older) t
     alone true s u e = absurd (cc e)
-    alone false s u e = own (cc e) (kind_alone older a.kind a.parent right u s) (ap (λ q. top_in (q ++ a ∷ [])) u ∙ (λ i. cond (s i) None (Some a)))
+    alone false s u e =
+        own (cc e) (kind_alone older a.kind a.parent right u s) (ap (λ q. top_in (q ++ a ∷ [])) u ∙ (λ i. cond (s i) None (Some a)))
 
-    behind : (q : List Act) → upwards a.parent a.kind (path older) ≡ q → q ≢ [] → (b : Bool) → is_serial_alone q ≡ b → top_in (q ++ a ∷ []) ≡ Some t → IsTop (a ∷ older) t
+    behind : (q : List Act) → upwards a.parent a.kind (path older) ≡ q → q ≢ [] → (b : Bool) → is_serial_alone q ≡ b →
+        top_in (q ++ a ∷ []) ≡ Some t → IsTop (a ∷ older) t
     behind q u some true s e =
         let top = top_behind q a some s in
         let is : Some a ≡ Some t = sym top.0 ∙ e in
@@ -273,10 +294,19 @@ top_later us (l ∷ ls) t w top = top_later (acts_after us l.body) ls t w (by (b
   where
     by : (o : Option Begun) → BeganWell (numbered us o) → IsTop (numbered us o) t
     by None v = top
-    by (Some b) v = top_older (record { id = length us; label = b.label; kind = b.kind; uid = b.uid; parent = b.parent }) us t (new_uid us (record { id = length us; label = b.label; kind = b.kind; uid = b.uid; parent = b.parent }) v.0) top
+    by (Some b) v =
+        top_older (record {
+          id = length us;
+          label = b.label;
+          kind = b.kind;
+          uid = b.uid;
+          parent =
+              b.parent;
+        }) us t (new_uid us (record { id = length us; label = b.label; kind = b.kind; uid = b.uid; parent = b.parent }) v.0) top
 
 -- a Uid is of its action, whatever comes later
-pub uid_stays : (us : List Act) (ls : List Line) (u : Uid) (a : Act) → BeganWell (acts_from us ls) → act_by us u ≡ Some a → act_by (acts_from us ls) u ≡ Some a
+pub uid_stays : (us : List Act) (ls : List Line) (u : Uid) (a : Act) → BeganWell (acts_from us ls) → act_by us u ≡ Some a →
+    act_by (acts_from us ls) u ≡ Some a
 uid_stays us [] u a w e = e
 uid_stays us (l ∷ ls) u a w e = uid_stays (acts_after us l.body) ls u a w (by (begun_of l.body) (well_before (acts_after us l.body) ls w))
   where
@@ -292,26 +322,39 @@ uid_stays us (l ∷ ls) u a w e = uid_stays (acts_after us l.body) ls u a w (by 
         from false is = e
 
 -- an action is kept at its number, whatever comes later
-pub actions_stay : (us : List Act) (ls : List Line) (i : ℕ) (a : Action) → slice_get (actions_of us) i ≡ Some a → slice_get (actions_of (acts_from us ls)) i ≡ Some a
+pub actions_stay : (us : List Act) (ls : List Line) (i : ℕ) (a : Action) → slice_get (actions_of us) i ≡ Some a →
+    slice_get (actions_of (acts_from us ls)) i ≡ Some a
 actions_stay us [] i a e = e
 actions_stay us (l ∷ ls) i a e = actions_stay (acts_after us l.body) ls i a (by (begun_of l.body))
   where
     by : (o : Option Begun) → slice_get (actions_of (numbered us o)) i ≡ Some a
     by None = e
-    by (Some b) = let n : Act = record { id = length us; label = b.label; kind = b.kind; uid = b.uid; parent = b.parent } in get_stays (actions_of us) (action_of n (above_in us n.kind n.parent) (path_in us n)) a i e
+    by (Some b) =
+        let n : Act =
+        record {
+          id = length us;
+          label = b.label;
+          kind = b.kind;
+          uid = b.uid;
+          parent =
+              b.parent;
+        } in get_stays (actions_of us) (action_of n (above_in us n.kind n.parent) (path_in us n)) a i e
 
 -- what is read of some lines is there whatever comes later
-pub read_stays : {A : Type 0} (f : List Act → Body → Option A) (g : Placed A → Bool) (us : List Act) (n : ℕ) (xs ys : List Line) → list_any g (read f us n xs) ≡ true → list_any g (read f us n (xs ++ ys)) ≡ true
+pub read_stays : {A : Type 0} (f : List Act → Body → Option A) (g : Placed A → Bool) (us : List Act) (n : ℕ) (xs ys : List Line) →
+    list_any g (read f us n xs) ≡ true → list_any g (read f us n (xs ++ ys)) ≡ true
 read_stays f g us n [] ys e = never false e refl
 read_stays {A} f g us n (x ∷ xs) ys e = by (read_stays f g (acts_after us x.body) (n + 1) xs ys) (f us x.body) e
   where
     Rest : Type 0
-    Rest = list_any g (read f (acts_after us x.body) (n + 1) xs) ≡ true → list_any g (read f (acts_after us x.body) (n + 1) (xs ++ ys)) ≡ true
+    Rest = list_any g (read f (acts_after us x.body) (n + 1) xs) ≡ true →
+        list_any g (read f (acts_after us x.body) (n + 1) (xs ++ ys)) ≡ true
 
     or_on : (b c d : Bool) → (c ≡ true → d ≡ true) → (b || c) ≡ true → (b || d) ≡ true
     or_on true c d h k = refl
     or_on false c d h k = h k
 
-    by : Rest → (o : Option A) → list_any g (put n o (read f (acts_after us x.body) (n + 1) xs)) ≡ true → list_any g (put n o (read f (acts_after us x.body) (n + 1) (xs ++ ys))) ≡ true
+    by : Rest → (o : Option A) → list_any g (put n o (read f (acts_after us x.body) (n + 1) xs)) ≡ true →
+        list_any g (put n o (read f (acts_after us x.body) (n + 1) (xs ++ ys))) ≡ true
     by ih None h = ih h
     by ih (Some a) h = or_on (g (record { at = n; it = a })) _ _ ih h

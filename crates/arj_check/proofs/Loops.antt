@@ -1,5 +1,6 @@
 -- The loops over actions and marks.
-use Rattle.std.proofs.Common.{◌≡◌, ◌<◌, ℕ, suc, ◌+◌, List, [], ◌∷◌, ◌++◌, length, map, take, Option, Some, None, slice_get, get_or, refl, sym, ◌∙◌, ap, arith}
+use Rattle.std.proofs.Common.{◌≡◌, ◌<◌, ℕ, suc, ◌+◌, List, [], ◌∷◌, ◌++◌, length, map, take, Option, Some, None, slice_get, get_or, refl}
+use Rattle.std.proofs.Common.{sym, ◌∙◌, ap, arith}
 use Rattle.std.specs.List.{filter_map, cons_option}
 use Rattle.std.proofs.lemmas.List.{append_assoc, append-nil}
 use Rattle.std.specs.Option.{option_map, unwrap_or}
@@ -21,11 +22,13 @@ pub top_step : (ts : List Top) (o : Option Top) (rest : List Top) → (ts ++ one
 top_step ts None rest = ap (λ us. us ++ rest) (append-nil ts)
 top_step ts (Some t) rest = append_assoc ts (t ∷ []) rest
 
-pub tops_start : (lines : List Line) (r : Reading) → HasRead lines r → filter_map (top_at (committed lines) (recovered lines) (paths (acts lines))) (map placed_of r.calls.items) ≡ tops lines
+pub tops_start : (lines : List Line) (r : Reading) → HasRead lines r →
+    filter_map (top_at (committed lines) (recovered lines) (paths (acts lines))) (map placed_of r.calls.items) ≡ tops lines
 tops_start lines r has = ap (filter_map (top_at (committed lines) (recovered lines) (paths (acts lines)))) has.calls ∙ sym (tops_are lines)
 
 -- one key more, or none
-pub key_step : (ks : List (List ℕ)) (o : Option (List ℕ)) (rest : List (List ℕ)) → (ks ++ cons_option o []) ++ rest ≡ ks ++ cons_option o rest
+pub key_step : (ks : List (List ℕ)) (o : Option (List ℕ)) (rest : List (List ℕ)) →
+    (ks ++ cons_option o []) ++ rest ≡ ks ++ cons_option o rest
 key_step ks None rest = ap (λ us. us ++ rest) (append-nil ks)
 key_step ks (Some k) rest = append_assoc ks (k ∷ []) rest
 
@@ -42,9 +45,11 @@ nested_start lines r has =
     ∙ sym (keys_by (committed lines) (recovered lines) (nested_of (tops lines) (committed lines)) (nested_place (tops lines) (committed lines)) (λ s top. refl) [] tt 0 lines)
 
 -- the path of the action that is next
-pub next_path : (lines : List Line) (i : ℕ) → i < length (actions_of (acts lines)) → (p : List Act) × (slice_get (paths (acts lines)) i ≡ Some p) × (take (suc i) (paths (acts lines)) ≡ take i (paths (acts lines)) ++ p ∷ [])
+pub next_path : (lines : List Line) (i : ℕ) → i < length (actions_of (acts lines)) →
+    (p : List Act) × (slice_get (paths (acts lines)) i ≡ Some p) × (take (suc i) (paths (acts lines)) ≡ take i (paths (acts lines)) ++ p ∷ [])
 next_path lines i lt =
-    let same : length (paths (acts lines)) ≡ length (actions_of (acts lines)) = length_paths (acts lines) ∙ sym (length_actions (acts lines)) in
+    let same : length (paths (acts lines)) ≡ length (actions_of (acts lines)) =
+    length_paths (acts lines) ∙ sym (length_actions (acts lines)) in
     let under : i < length (paths (acts lines)) = omega (arith, lt, same) in
     (get_or (paths (acts lines)) i [], slice_get-get_or (paths (acts lines)) i [] under, take-suc (paths (acts lines)) i [] under)
 
@@ -53,7 +58,8 @@ map_push f [] x = refl
 map_push f (y ∷ xs) x = ap (λ zs. f y ∷ zs) (map_push f xs x)
 
 -- one value more, as a test
-pub test_step : {A : Type 0} (f : List Act → A) (lines : List Line) (i : ℕ) (p : List Act) (tests : List A) (test : A) → take (suc i) (paths (acts lines)) ≡ take i (paths (acts lines)) ++ p ∷ [] → tests ≡ map f (take i (paths (acts lines))) → test ≡ f p
+pub test_step : {A : Type 0} (f : List Act → A) (lines : List Line) (i : ℕ) (p : List Act) (tests : List A) (test : A) →
+    take (suc i) (paths (acts lines)) ≡ take i (paths (acts lines)) ++ p ∷ [] → tests ≡ map f (take i (paths (acts lines))) → test ≡ f p
     → tests ++ test ∷ [] ≡ map f (take (i + 1) (paths (acts lines)))
 test_step f lines i p tests test more so_far is =
     (λ k. so_far k ++ is k ∷ []) ∙ sym (map_push f (take i (paths (acts lines))) p) ∙ ap (map f) (sym more) ∙ ap (λ n. map f (take n (paths (acts lines)))) (one_more i)
@@ -62,15 +68,18 @@ test_step f lines i p tests test more so_far is =
     one_more n = omega arith
 
 -- all of them
-pub test_end : {A : Type 0} (f : List Act → A) (lines : List Line) (n : ℕ) → n ≡ length (actions_of (acts lines)) → map f (take n (paths (acts lines))) ≡ map f (paths (acts lines))
-test_end f lines n e = ap (λ m. map f (take m (paths (acts lines)))) (e ∙ length_actions (acts lines) ∙ sym (length_paths (acts lines))) ∙ ap (map f) (take-length (paths (acts lines)))
+pub test_end : {A : Type 0} (f : List Act → A) (lines : List Line) (n : ℕ) → n ≡ length (actions_of (acts lines)) →
+    map f (take n (paths (acts lines))) ≡ map f (paths (acts lines))
+test_end f lines n e =
+    ap (λ m. map f (take m (paths (acts lines)))) (e ∙ length_actions (acts lines) ∙ sym (length_paths (acts lines))) ∙ ap (map f) (take-length (paths (acts lines)))
 
 -- where no numbers are kept, none are found
 pub none_below : (lines : List Line) (keys : List (List ℕ)) → keys ≡ [] → AreBelow (paths (acts lines)) nothing_below keys
 none_below lines keys e = record { at = λ i p is. ap (λ ks. numbers_at ks (Some i)) e }
 
 -- the numbers that are kept of each path are found
-pub commits_below : (lines : List Line) (keys : List (List ℕ)) → keys ≡ map (commits_in (committed lines)) (paths (acts lines)) → AreBelow (paths (acts lines)) (commits_in (committed lines)) keys
+pub commits_below : (lines : List Line) (keys : List (List ℕ)) → keys ≡ map (commits_in (committed lines)) (paths (acts lines)) →
+    AreBelow (paths (acts lines)) (commits_in (committed lines)) keys
 commits_below lines keys e = record {
   at = λ i p is. ap (λ ks. numbers_at ks (Some i)) e ∙ get_or_from_slice_get (map (commits_in (committed lines)) (paths (acts lines))) i (commits_in (committed lines) p) [] (slice_get-map (commits_in (committed lines)) (paths (acts lines)) i ∙ ap (option_map (commits_in (committed lines))) is);
 }
@@ -79,5 +88,6 @@ commits_below lines keys e = record {
 pub numbers_none : {A : Type 0} (f : A → List ℕ) (ks : List A) (i : ℕ) → slice_get ks i ≡ None → numbers_at (map f ks) (Some i) ≡ []
 numbers_none f ks i e = sym (unwrap_or-slice_get (map f ks) i []) ∙ ap (λ o. unwrap_or o []) (slice_get-map f ks i ∙ ap (option_map f) e)
 
-pub numbers_some : {A : Type 0} (f : A → List ℕ) (ks : List A) (i : ℕ) (k : A) → slice_get ks i ≡ Some k → numbers_at (map f ks) (Some i) ≡ f k
+pub numbers_some : {A : Type 0} (f : A → List ℕ) (ks : List A) (i : ℕ) (k : A) → slice_get ks i ≡ Some k →
+    numbers_at (map f ks) (Some i) ≡ f k
 numbers_some f ks i k e = get_or_from_slice_get (map f ks) i (f k) [] (slice_get-map f ks i ∙ ap (option_map f) e)

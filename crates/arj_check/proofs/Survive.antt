@@ -1,5 +1,6 @@
 -- Which calls survive, action by action.
-use Rattle.std.proofs.Common.{◌≡◌, ◌≢◌, ◌<◌, ◌⊎◌, inl, inr, ℕ, suc, List, [], ◌∷◌, ◌++◌, map, take, Bool, true, false, cond, ◌&&◌, ◌||◌, ◌==◌, Option, Some, None, slice_get, refl, sym, ◌∙◌, ap, arith}
+use Rattle.std.proofs.Common.{◌≡◌, ◌≢◌, ◌<◌, ◌⊎◌, inl, inr, ℕ, suc, List, [], ◌∷◌, ◌++◌, map, take, Bool, true, false, cond, ◌&&◌, ◌||◌}
+use Rattle.std.proofs.Common.{◌==◌, Option, Some, None, slice_get, refl, sym, ◌∙◌, ap, arith}
 use Rattle.std.specs.List.{list_all}
 use Rattle.std.specs.Prelude.{is_some}
 use Rattle.std.specs.BTreeMap.{get}
@@ -58,7 +59,8 @@ module _ (ends : List (Placed ℕ)) (found : List (Placed Uid)) (earlier : List 
   its_top top e t g = let same : Some top ≡ Some (top_action t) = sym e ∙ is.top ∙ ap (option_map top_action) g in cc same
 
   -- the action is a top itself
-  pub own_top : (top : TopAction) → a.top ≡ Some top → (top.number == i) ≡ true → (t : Act) × (top ≡ top_action t) × (survives ends found p ≡ is_committed ends found t)
+  pub own_top : (top : TopAction) → a.top ≡ Some top → (top.number == i) ≡ true →
+      (t : Act) × (top ≡ top_action t) × (survives ends found p ≡ is_committed ends found t)
   own_top top e same = by is.way
     where
       by : ((top_in p ≡ Some is.act) × (chain_in p ≡ [])) ⊎ ((top_in p ≡ None) ⊎ ((j : ℕ) × (q : List Act) × (t : Act) × (a.above ≡ Some j) × (slice_get earlier j ≡ Some q) × (top_in p ≡ Some t) × (top_in q ≡ Some t) × (t.id < i) × (chain_in p ≡ chain_in q ++ is.act ∷ [])))
@@ -73,18 +75,22 @@ module _ (ends : List (Placed ℕ)) (found : List (Placed Uid)) (earlier : List 
           absurd (omega (arith, lt, at))
 
   -- the action stands below another top
-  pub other_top : (top : TopAction) → a.top ≡ Some top → (top.number == i) ≡ false → survives ends found p ≡ (has_end ends i && test_at (map (survives ends found) earlier) a.above)
+  pub other_top : (top : TopAction) → a.top ≡ Some top → (top.number == i) ≡ false →
+      survives ends found p ≡ (has_end ends i && test_at (map (survives ends found) earlier) a.above)
   other_top top e apart = by is.way
     where
       by : ((top_in p ≡ Some is.act) × (chain_in p ≡ [])) ⊎ ((top_in p ≡ None) ⊎ ((j : ℕ) × (q : List Act) × (t : Act) × (a.above ≡ Some j) × (slice_get earlier j ≡ Some q) × (top_in p ≡ Some t) × (top_in q ≡ Some t) × (t.id < i) × (chain_in p ≡ chain_in q ++ is.act ∷ [])))
           → survives ends found p ≡ (has_end ends i && test_at (map (survives ends found) earlier) a.above)
-      by (inl w) = let it : top ≡ top_action is.act = its_top top e is.act w.0 in let at : top.number ≡ i = ap (λ x. x.number) it ∙ is.id in never (top.number == i) (eq-eqb top.number i at) apart
+      by (inl w) = let it : top ≡ top_action is.act =
+          its_top top e is.act w.0 in let at : top.number ≡ i =
+          ap (λ x. x.number) it ∙ is.id in never (top.number == i) (eq-eqb top.number i at) apart
       by (inr (inl none)) = let no : Some top ≡ None = sym e ∙ is.top ∙ ap (option_map top_action) none in absurd (cc no)
       by (inr (inr w)) =
           let j : ℕ = w.0 in
           let q : List Act = w.1 in
           let t : Act = w.2 in
-          let its : survives ends found q ≡ (list_all (λ b. has_end ends b.id) (chain_in q) && is_committed ends found t) = ap (survives_below ends found q) w.6 in
+          let its : survives ends found q ≡ (list_all (λ b. has_end ends b.id) (chain_in q) && is_committed ends found t) =
+          ap (survives_below ends found q) w.6 in
           let here : test_at (map (survives ends found) earlier) a.above ≡ survives ends found q =
           ap (test_at (map (survives ends found) earlier)) w.3 ∙ get_or_from_slice_get (map (survives ends found) earlier) j (survives ends found q) false (slice_get-map (survives ends found) earlier j ∙ ap (option_map (survives ends found)) w.4) in
           ap (survives_below ends found p) w.5
@@ -110,7 +116,8 @@ none_below (a ∷ b ∷ rest) e = by (is_serial a.kind) e
     by true g = absurd (cc g)
     by false g = absurd (cc g)
 
-commits_push : (ends : List (Placed ℕ)) (q : List Act) (a : Act) → map (commit_place ends) (ids (q ++ a ∷ [])) ≡ map (commit_place ends) (ids q) ++ commit_place ends a.id ∷ []
+commits_push : (ends : List (Placed ℕ)) (q : List Act) (a : Act) →
+    map (commit_place ends) (ids (q ++ a ∷ [])) ≡ map (commit_place ends) (ids q) ++ commit_place ends a.id ∷ []
 commits_push ends [] a = refl
 commits_push ends (x ∷ q) a = ap (λ ns. commit_place ends x.id ∷ ns) (commits_push ends q a)
 
@@ -140,7 +147,8 @@ module _ (ends : List (Placed ℕ)) (earlier : List (List Act)) (i : ℕ) (a : A
           let at : t.id ≡ i = ap (λ x. x.number) (sym it) ∙ eqb-true top.number i same in
           absurd (omega (arith, lt, at))
 
-  pub other_commits : (top : TopAction) → a.top ≡ Some top → (top.number == i) ≡ false → commits_in ends p ≡ numbers_at (map (commits_in ends) earlier) a.above ++ commit_place ends i ∷ []
+  pub other_commits : (top : TopAction) → a.top ≡ Some top → (top.number == i) ≡ false →
+      commits_in ends p ≡ numbers_at (map (commits_in ends) earlier) a.above ++ commit_place ends i ∷ []
   other_commits top e apart = by is.way
     where
       by : ((top_in p ≡ Some is.act) × (chain_in p ≡ [])) ⊎ ((top_in p ≡ None) ⊎ ((j : ℕ) × (q : List Act) × (t : Act) × (a.above ≡ Some j) × (slice_get earlier j ≡ Some q) × (top_in p ≡ Some t) × (top_in q ≡ Some t) × (t.id < i) × (chain_in p ≡ chain_in q ++ is.act ∷ [])))
@@ -163,13 +171,16 @@ pub commit_is : (ends : List (Placed ℕ)) (i : ℕ) → unwrap_or (first_place 
 commit_is [] i = refl
 commit_is (e ∷ ends) i = by (e.it == i) (commit_is ends i)
   where
-    by : (b : Bool) → unwrap_or (first_place ends i) 0 ≡ commit_place ends i → unwrap_or (cond b (Some e.at) (first_place ends i)) 0 ≡ cond b e.at (commit_place ends i)
+    by : (b : Bool) → unwrap_or (first_place ends i) 0 ≡ commit_place ends i →
+        unwrap_or (cond b (Some e.at) (first_place ends i)) 0 ≡ cond b e.at (commit_place ends i)
     by true ih = refl
     by false ih = ih
 
 -- a top is committed by a line of its number, or by a record of its Uid
-pub committed_is : (lines : List Line) (r : Reading) → HasRead lines r → (top : TopAction) → (is_some (get nat_cmp r.committed top.number) || is_some (get uid_order r.found top.uid)) ≡ is_committed_top (committed lines) (recovered lines) top
-committed_is lines r has top = (λ i. (ap is_some (has.committed_at top.number) ∙ first_has (committed lines) top.number) i || has.found top.uid i)
+pub committed_is : (lines : List Line) (r : Reading) → HasRead lines r → (top : TopAction) →
+    (is_some (get nat_cmp r.committed top.number) || is_some (get uid_order r.found top.uid)) ≡ is_committed_top (committed lines) (recovered lines) top
+committed_is lines r has top =
+    (λ i. (ap is_some (has.committed_at top.number) ∙ first_has (committed lines) top.number) i || has.found top.uid i)
 
 -- Tops by marks.
 
@@ -177,14 +188,17 @@ committed_is lines r has top = (λ i. (ap is_some (has.committed_at top.number) 
 abbrev pub top_kept : List (Placed ℕ) → List (Placed Uid) → ℕ → Option Action → Option TopAction → Option Top
 top_kept ends found at None top = None
 top_kept ends found at (Some a) None = None
-top_kept ends found at (Some a) (Some top) = cond (is_committed_top ends found top) (Some (record { id = top.number; root = a.root; at = at })) None
+top_kept ends found at (Some a) (Some top) =
+    cond (is_committed_top ends found top) (Some (record { id = top.number; root = a.root; at = at })) None
 
 -- the top of an action, if there is one
 abbrev pub top_found : Option Action → Option TopAction
 top_found None = None
 top_found (Some a) = a.top
 
-pub mark_top : (ends : List (Placed ℕ)) (found : List (Placed Uid)) (lines : List Line) (i at : ℕ) (o : Option Action) → o ≡ slice_get (actions_of (acts lines)) i → top_kept ends found at o (top_found o) ≡ top_at ends found (paths (acts lines)) (record { at = at; it = i })
+pub mark_top : (ends : List (Placed ℕ)) (found : List (Placed Uid)) (lines : List Line) (i at : ℕ) (o : Option Action) →
+    o ≡ slice_get (actions_of (acts lines)) i →
+    top_kept ends found at o (top_found o) ≡ top_at ends found (paths (acts lines)) (record { at = at; it = i })
 mark_top ends found lines i at None e = sym (ap (λ p. top_of ends found (record { at = at; it = p })) (ap (λ q. unwrap_or q []) none))
   where
     none : slice_get (paths (acts lines)) i ≡ None
@@ -198,10 +212,12 @@ mark_top ends found lines i at (Some a) e = by (next_path lines i (slice_get_wit
         ∙ same next.0 it.act (ap (λ b. b.root) it.is) (stands_some (take i (paths (acts lines))) i it.act a.above next.0 it.stands) (top_in next.0)
         ∙ ap (λ q. top_of ends found (record { at = at; it = unwrap_or q [] })) (sym next.1)
       where
-        same : (p : List Act) (act : Act) → a.root ≡ root_or act.id (root_in p) → p ≢ [] → (t : Option Act) → top_kept ends found at (Some a) (option_map top_action t) ≡ top_by ends found (record { at = at; it = p }) t
+        same : (p : List Act) (act : Act) → a.root ≡ root_or act.id (root_in p) → p ≢ [] → (t : Option Act) →
+            top_kept ends found at (Some a) (option_map top_action t) ≡ top_by ends found (record { at = at; it = p }) t
         same [] act root some t = absurd (some refl)
         same (r ∷ p) act root some None = refl
-        same (r ∷ p) act root some (Some t) = (λ k. cond (is_committed ends found t) (Some (record { id = t.id; root = root k; at = at })) None)
+        same (r ∷ p) act root some (Some t) =
+            (λ k. cond (is_committed ends found t) (Some (record { id = t.id; root = root k; at = at })) None)
 
 -- Which calls of an action survive, by what is kept of it.
 module _ (lines : List Line) (i : ℕ) (a : Action) (p : List Act) (kept : slice_get (actions_of (acts lines)) i ≡ Some a) (its : slice_get (paths (acts lines)) i ≡ Some p) where
@@ -211,12 +227,16 @@ module _ (lines : List Line) (i : ℕ) (a : Action) (p : List Act) (kept : slice
   pub survive_none : a.top ≡ None → false ≡ survives (committed lines) (recovered lines) p
   survive_none e = sym (no_top (committed lines) (recovered lines) (take i (paths (acts lines))) i a p here e)
 
-  pub survive_own : (top : TopAction) → a.top ≡ Some top → (top.number == i) ≡ true → is_committed_top (committed lines) (recovered lines) top ≡ survives (committed lines) (recovered lines) p
-  survive_own top e same = let o = own_top (committed lines) (recovered lines) (take i (paths (acts lines))) i a p here top e same in ap (is_committed_top (committed lines) (recovered lines)) o.1 ∙ sym o.2
+  pub survive_own : (top : TopAction) → a.top ≡ Some top → (top.number == i) ≡ true →
+      is_committed_top (committed lines) (recovered lines) top ≡ survives (committed lines) (recovered lines) p
+  survive_own top e same =
+      let o = own_top (committed lines) (recovered lines) (take i (paths (acts lines))) i a p here top e same in ap (is_committed_top (committed lines) (recovered lines)) o.1 ∙ sym o.2
 
-  pub survive_other : (before : List Bool) (top : TopAction) → a.top ≡ Some top → (top.number == i) ≡ false → before ≡ map (survives (committed lines) (recovered lines)) (take i (paths (acts lines)))
+  pub survive_other : (before : List Bool) (top : TopAction) → a.top ≡ Some top → (top.number == i) ≡ false →
+      before ≡ map (survives (committed lines) (recovered lines)) (take i (paths (acts lines)))
       → (has_end (committed lines) i && test_at before a.above) ≡ survives (committed lines) (recovered lines) p
-  survive_other before top e apart is = ap (λ ts. has_end (committed lines) i && test_at ts a.above) is ∙ sym (other_top (committed lines) (recovered lines) (take i (paths (acts lines))) i a p here top e apart)
+  survive_other before top e apart is =
+      ap (λ ts. has_end (committed lines) i && test_at ts a.above) is ∙ sym (other_top (committed lines) (recovered lines) (take i (paths (acts lines))) i a p here top e apart)
 
 -- The commits below the top of an action, by what is kept of it.
 module _ (lines : List Line) (i : ℕ) (a : Action) (p : List Act) (kept : slice_get (actions_of (acts lines)) i ≡ Some a) (its : slice_get (paths (acts lines)) i ≡ Some p) where
@@ -229,9 +249,11 @@ module _ (lines : List Line) (i : ℕ) (a : Action) (p : List Act) (kept : slice
   pub commits_own : (top : TopAction) → a.top ≡ Some top → (top.number == i) ≡ true → [] ≡ commits_in (committed lines) p
   commits_own top e same = sym (own_commits (committed lines) (take i (paths (acts lines))) i a p it_is top e same)
 
-  pub commits_other : (before : List (List ℕ)) (top : TopAction) → a.top ≡ Some top → (top.number == i) ≡ false → before ≡ map (commits_in (committed lines)) (take i (paths (acts lines)))
+  pub commits_other : (before : List (List ℕ)) (top : TopAction) → a.top ≡ Some top → (top.number == i) ≡ false →
+      before ≡ map (commits_in (committed lines)) (take i (paths (acts lines)))
       → numbers_at before a.above ++ commit_place (committed lines) i ∷ [] ≡ commits_in (committed lines) p
-  commits_other before top e apart is = ap (λ ks. numbers_at ks a.above ++ commit_place (committed lines) i ∷ []) is ∙ sym (other_commits (committed lines) (take i (paths (acts lines))) i a p it_is top e apart)
+  commits_other before top e apart is =
+      ap (λ ks. numbers_at ks a.above ++ commit_place (committed lines) i ∷ []) is ∙ sym (other_commits (committed lines) (take i (paths (acts lines))) i a p it_is top e apart)
 
 -- Keys by marks.
 module _ (lines : List Line) (ts : List Top) (below : List Act → List ℕ) (i at : ℕ) where
@@ -241,7 +263,8 @@ module _ (lines : List Line) (ts : List Top) (below : List Act → List ℕ) (i 
   pub key_none : slice_get (actions_of (acts lines)) i ≡ None → None ≡ its_key (path_at (paths (acts lines)) i)
   key_none e = sym (ap (λ q. its_key (unwrap_or q [])) (no_path (acts lines) i e))
 
-  path_found : (a : Action) → slice_get (actions_of (acts lines)) i ≡ Some a → (p : List Act) × (slice_get (paths (acts lines)) i ≡ Some p) × (a.top ≡ option_map top_action (top_in p))
+  path_found : (a : Action) → slice_get (actions_of (acts lines)) i ≡ Some a →
+      (p : List Act) × (slice_get (paths (acts lines)) i ≡ Some p) × (a.top ≡ option_map top_action (top_in p))
   path_found a e =
       let next = next_path lines i (slice_get_within (actions_of (acts lines)) i a e) in
       let it = is_at (acts lines) (are_numbered lines) i a next.0 e next.1 in
@@ -250,28 +273,41 @@ module _ (lines : List Line) (ts : List Top) (below : List Act → List ℕ) (i 
   at_path : (p : List Act) → slice_get (paths (acts lines)) i ≡ Some p → its_key p ≡ its_key (path_at (paths (acts lines)) i)
   at_path p e = ap (λ q. its_key (unwrap_or q [])) (sym e)
 
-  pub key_no_top : (a : Action) → slice_get (actions_of (acts lines)) i ≡ Some a → a.top ≡ None → None ≡ its_key (path_at (paths (acts lines)) i)
+  pub key_no_top : (a : Action) → slice_get (actions_of (acts lines)) i ≡ Some a → a.top ≡ None →
+      None ≡ its_key (path_at (paths (acts lines)) i)
   key_no_top a e none = let f = path_found a e in by f.0 (top_in f.0) (sym f.2 ∙ none) ∙ at_path f.0 f.1
     where
-      by : (p : List Act) (t : Option Act) → option_map top_action t ≡ None → None ≡ key_below (key_of ts below) (committed lines) (recovered lines) p at t
+      by : (p : List Act) (t : Option Act) → option_map top_action t ≡ None →
+          None ≡ key_below (key_of ts below) (committed lines) (recovered lines) p at t
       by p None g = refl
       by p (Some t) g = absurd (cc g)
 
-  test_of : (p : List Act) → slice_get (paths (acts lines)) i ≡ Some p → test_at (map (survives (committed lines) (recovered lines)) (paths (acts lines))) (Some i) ≡ survives (committed lines) (recovered lines) p
-  test_of p e = get_or_from_slice_get (map (survives (committed lines) (recovered lines)) (paths (acts lines))) i (survives (committed lines) (recovered lines) p) false (slice_get-map (survives (committed lines) (recovered lines)) (paths (acts lines)) i ∙ ap (option_map (survives (committed lines) (recovered lines))) e)
+  test_of : (p : List Act) → slice_get (paths (acts lines)) i ≡ Some p →
+      test_at (map (survives (committed lines) (recovered lines)) (paths (acts lines))) (Some i) ≡ survives (committed lines) (recovered lines) p
+  test_of p e =
+      get_or_from_slice_get (map (survives (committed lines) (recovered lines)) (paths (acts lines))) i (survives (committed lines) (recovered lines) p) false (slice_get-map (survives (committed lines) (recovered lines)) (paths (acts lines)) i ∙ ap (option_map (survives (committed lines) (recovered lines))) e)
 
-  pub key_some : (a : Action) (top : TopAction) (numbers : List ℕ) → slice_get (actions_of (acts lines)) i ≡ Some a → a.top ≡ Some top → test_at (map (survives (committed lines) (recovered lines)) (paths (acts lines))) (Some i) ≡ true
-      → ((p : List Act) → slice_get (paths (acts lines)) i ≡ Some p → numbers ≡ below p) → Some (serial_key ts top.number ++ (numbers ++ at ∷ [])) ≡ its_key (path_at (paths (acts lines)) i)
-  key_some a top numbers e is test are = let f = path_found a e in by f.0 (top_in f.0) (sym f.2 ∙ is) (sym (test_of f.0 f.1) ∙ test) (are f.0 f.1) ∙ at_path f.0 f.1
+  pub key_some : (a : Action) (top : TopAction) (numbers : List ℕ) → slice_get (actions_of (acts lines)) i ≡ Some a → a.top ≡ Some top →
+      test_at (map (survives (committed lines) (recovered lines)) (paths (acts lines))) (Some i) ≡ true
+      → ((p : List Act) → slice_get (paths (acts lines)) i ≡ Some p → numbers ≡ below p) →
+      Some (serial_key ts top.number ++ (numbers ++ at ∷ [])) ≡ its_key (path_at (paths (acts lines)) i)
+  key_some a top numbers e is test are =
+      let f = path_found a e in by f.0 (top_in f.0) (sym f.2 ∙ is) (sym (test_of f.0 f.1) ∙ test) (are f.0 f.1) ∙ at_path f.0 f.1
     where
-      by : (p : List Act) (t : Option Act) → option_map top_action t ≡ Some top → survives_below (committed lines) (recovered lines) p t ≡ true → numbers ≡ below p → Some (serial_key ts top.number ++ (numbers ++ at ∷ [])) ≡ key_below (key_of ts below) (committed lines) (recovered lines) p at t
+      by : (p : List Act) (t : Option Act) → option_map top_action t ≡ Some top →
+          survives_below (committed lines) (recovered lines) p t ≡ true → numbers ≡ below p →
+          Some (serial_key ts top.number ++ (numbers ++ at ∷ [])) ≡ key_below (key_of ts below) (committed lines) (recovered lines) p at t
       by p None g h n = absurd (cc g)
-      by p (Some t) g h n = let same : top_action t ≡ top = cc g in (λ k. Some (serial_key ts (ap (λ x. x.number) (sym same) k) ++ (n k ++ at ∷ []))) ∙ (λ k. cond (sym h k) (Some (serial_key ts t.id ++ (below p ++ at ∷ []))) None)
+      by p (Some t) g h n =
+          let same : top_action t ≡ top =
+          cc g in (λ k. Some (serial_key ts (ap (λ x. x.number) (sym same) k) ++ (n k ++ at ∷ []))) ∙ (λ k. cond (sym h k) (Some (serial_key ts t.id ++ (below p ++ at ∷ []))) None)
 
-  pub key_not : test_at (map (survives (committed lines) (recovered lines)) (paths (acts lines))) (Some i) ≡ false → (o : Option (List Act)) → slice_get (paths (acts lines)) i ≡ o → None ≡ its_key (path_at (paths (acts lines)) i)
+  pub key_not : test_at (map (survives (committed lines) (recovered lines)) (paths (acts lines))) (Some i) ≡ false →
+      (o : Option (List Act)) → slice_get (paths (acts lines)) i ≡ o → None ≡ its_key (path_at (paths (acts lines)) i)
   key_not test None e = sym (ap (λ q. its_key (unwrap_or q [])) e)
   key_not test (Some p) e = by (top_in p) (sym (test_of p e) ∙ test) ∙ at_path p e
     where
-      by : (t : Option Act) → survives_below (committed lines) (recovered lines) p t ≡ false → None ≡ key_below (key_of ts below) (committed lines) (recovered lines) p at t
+      by : (t : Option Act) → survives_below (committed lines) (recovered lines) p t ≡ false →
+          None ≡ key_below (key_of ts below) (committed lines) (recovered lines) p at t
       by None h = refl
       by (Some t) h = (λ k. cond (sym h k) (Some (serial_key ts t.id ++ (below p ++ at ∷ []))) None)

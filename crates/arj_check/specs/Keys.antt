@@ -1,5 +1,6 @@
 -- Items by the numbers of actions.
-use Rattle.std.specs.Prelude.{ℕ, List, [], ◌∷◌, ◌++◌, Bool, ◌&&◌, ◌||◌, if◌then◌else◌, Option, Some, None, slice_get, slice_index_or, ◌≡◌, ◌≢◌, ◌==◌, false}
+use Rattle.std.specs.Prelude.{ℕ, List, [], ◌∷◌, ◌++◌, Bool, ◌&&◌, ◌||◌, if◌then◌else◌, Option, Some, None, slice_get, slice_index_or, ◌≡◌}
+use Rattle.std.specs.Prelude.{◌≢◌, ◌==◌, false}
 use Rattle.std.specs.List.{list_all, list_any}
 use Rattle.std.specs.Option.{unwrap_or}
 use Rattle.arj_base.specs.Uid.{uid_eq}
@@ -31,7 +32,8 @@ top_at ends found ps m = top_of ends found (record { at = m.at; it = path_at ps 
 -- is of the path, the top and the place
 abbrev pub key_below : (List Act → Act → ℕ → List ℕ) → List (Placed ℕ) → List (Placed Uid) → List Act → ℕ → Option Act → Option (List ℕ)
 key_below key ends found p at None = None
-key_below key ends found p at (Some top) = if list_all (λ a. has_end ends a.id) (chain_in p) && is_committed ends found top then Some (key p top at) else None
+key_below key ends found p at (Some top) =
+    if list_all (λ a. has_end ends a.id) (chain_in p) && is_committed ends found top then Some (key p top at) else None
 
 -- the key of a call that was answered at a mark
 abbrev pub key_at : (List Act → Act → ℕ → List ℕ) → List (Placed ℕ) → List (Placed Uid) → List (List Act) → Placed ℕ → Option (List ℕ)

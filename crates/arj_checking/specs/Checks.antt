@@ -44,7 +44,8 @@ pub record Checks (before after : Ends) (status : ℕ) (found : Option Finding) 
   -- all is as it should be
   pub yes : status ≡ 0 → IsInOrder given × Takes before.taken (codes "serial yes\n" ++ codes "nested yes\n") after.taken
   -- a line is bad
-  pub bad : status ≡ 2 → (number : ℕ) × (at : Half) × (why : BadLine) × (found ≡ Some (finding.Bad number at why)) × IsBadAt given number at why × Takes before.taken (outside_text (body.Bad number)) after.taken
+  pub bad : status ≡ 2 →
+      (number : ℕ) × (at : Half) × (why : BadLine) × (found ≡ Some (finding.Bad number at why)) × IsBadAt given number at why × Takes before.taken (outside_text (body.Bad number)) after.taken
   -- a read failed: what had come could have been checked to its end
   pub fault : status ≡ 3 → IsCutOff given × (after.taken ≡ before.taken)
   -- a write failed: the sink took a front of the text of what is so of the input
@@ -52,9 +53,11 @@ pub record Checks (before after : Ends) (status : ℕ) (found : Option Finding) 
   -- memory was wanting: it took nothing
   pub memory : status ≡ 5 → after.taken ≡ before.taken
   -- a half has too many lines
-  pub many : status ≡ 6 → (at : Half) × (found ≡ Some (finding.Long at)) × IsTooMany given at × Takes before.taken (outside_text (body.Limit which.Lines)) after.taken
+  pub many : status ≡ 6 →
+      (at : Half) × (found ≡ Some (finding.Long at)) × IsTooMany given at × Takes before.taken (outside_text (body.Limit which.Lines)) after.taken
   -- the journal can't be read as a run, or an answer differs: the first line that breaks a rule, or the first call of each order
-  pub no : status ≡ 8 → (f : Finding) × (found ≡ Some f) × Finds given f × (finding_status f ≡ 8) × Takes before.taken (finding_text f) after.taken
+  pub no : status ≡ 8 →
+      (f : Finding) × (found ≡ Some f) × Finds given f × (finding_status f ≡ 8) × Takes before.taken (finding_text f) after.taken
   -- these aren't answered
   pub never : (status ≢ 1) × (status ≢ 7)
 

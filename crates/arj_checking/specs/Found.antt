@@ -36,15 +36,20 @@ IsWhole given header journal = (given.stopped ≡ AtEnd) × HasJournal (lines_of
 -- The line behind these lines of a script is bad: it is longer than 200 bytes, or it is no line of a script at its place, nor,
 -- behind `run`, the line `journal`; or the input ended, and there is no such line.
 abbrev pub IsBadInScript : Input → List (List ℕ) → BadLine → Type 0
-IsBadInScript given done why.TooLong = (place : Place) × (header : Option Header) × IsScript done place header × IsPastLine given done LINE_BYTES
-IsBadInScript given done why.Unknown = (place : Place) × (header : Option Header) × (line : List ℕ) × IsScript done place header × IsAtLine given done line
+IsBadInScript given done why.TooLong =
+    (place : Place) × (header : Option Header) × IsScript done place header × IsPastLine given done LINE_BYTES
+IsBadInScript given done why.Unknown =
+    (place : Place) × (header : Option Header) × (line : List ℕ) × IsScript done place header × IsAtLine given done line
     × (length done < SCRIPT_LINES) × IsBadLine place line × (BeginsJournal header line → ⊥)
-IsBadInScript given done why.Missing = (place : Place) × (header : Option Header) × IsScript done place header × (given.stopped ≡ AtEnd) × (done ≡ lines_of AtEnd given.came)
+IsBadInScript given done why.Missing =
+    (place : Place) × (header : Option Header) × IsScript done place header × (given.stopped ≡ AtEnd) × (done ≡ lines_of AtEnd given.came)
 
 -- The line behind these, which have a script and a journal, is bad: it is longer than 1,100 bytes, or no journal line has its text.
 abbrev pub IsBadInJournal : Input → List (List ℕ) → BadLine → Type 0
-IsBadInJournal given done why.TooLong = (header : Header) × (journal : List Line) × HasJournal done header journal × IsPastLine given done JOURNAL_LINE_BYTES
-IsBadInJournal given done why.Unknown = (header : Header) × (journal : List Line) × (line : List ℕ) × HasJournal done header journal × IsAtLine given done line
+IsBadInJournal given done why.TooLong =
+    (header : Header) × (journal : List Line) × HasJournal done header journal × IsPastLine given done JOURNAL_LINE_BYTES
+IsBadInJournal given done why.Unknown =
+    (header : Header) × (journal : List Line) × (line : List ℕ) × HasJournal done header journal × IsAtLine given done line
     × (length journal < JOURNAL_LINES) × IsNoLine line
 IsBadInJournal given done why.Missing = ⊥
 
@@ -59,9 +64,11 @@ IsBadAt given number at why = (done : List (List ℕ)) × (number ≡ length don
 
 -- a line more came than this half may have
 abbrev pub IsTooMany : Input → Half → Type 0
-IsTooMany given half.Script = (done : List (List ℕ)) × (place : Place) × (header : Option Header) × (line : List ℕ) × IsScript done place header × IsAtLine given done line
+IsTooMany given half.Script =
+    (done : List (List ℕ)) × (place : Place) × (header : Option Header) × (line : List ℕ) × IsScript done place header × IsAtLine given done line
     × (length done ≡ SCRIPT_LINES) × (BeginsJournal header line → ⊥)
-IsTooMany given half.Journal = (done : List (List ℕ)) × (header : Header) × (journal : List Line) × (line : List ℕ) × HasJournal done header journal × IsAtLine given done line
+IsTooMany given half.Journal =
+    (done : List (List ℕ)) × (header : Header) × (journal : List Line) × (line : List ℕ) × HasJournal done header journal × IsAtLine given done line
     × (length journal ≡ JOURNAL_LINES)
 
 -- this is so of a journal under this header: it can't be read as a run, or it can, and this is the verdict
@@ -74,12 +81,15 @@ Judges header journal _ = ⊥
 abbrev pub Finds : Input → Finding → Type 0
 Finds given (finding.Bad number at why) = IsBadAt given number at why
 Finds given (finding.Long at) = IsTooMany given at
-Finds given (finding.Unreadable b) = (header : Header) × (journal : List Line) × IsWhole given header journal × Judges header journal (finding.Unreadable b)
-Finds given (finding.Verdict v) = (header : Header) × (journal : List Line) × IsWhole given header journal × Judges header journal (finding.Verdict v)
+Finds given (finding.Unreadable b) =
+    (header : Header) × (journal : List Line) × IsWhole given header journal × Judges header journal (finding.Unreadable b)
+Finds given (finding.Verdict v) =
+    (header : Header) × (journal : List Line) × IsWhole given header journal × Judges header journal (finding.Verdict v)
 
 -- these lines are the front of an input that can be checked
 abbrev pub IsFront : List (List ℕ) → Type 0
-IsFront lines = ((place : Place) × (header : Option Header) × IsScript lines place header) ⊎ ((header : Header) × (journal : List Line) × HasJournal lines header journal)
+IsFront lines =
+    ((place : Place) × (header : Option Header) × IsScript lines place header) ⊎ ((header : Header) × (journal : List Line) × HasJournal lines header journal)
 
 -- a read failed, and what had come could have been checked to its end
 abbrev pub IsCutOff : Input → Type 0

@@ -41,7 +41,8 @@ room_at parts = if parts.in_journal then JOURNAL_LINES - length parts.journal el
 
 -- why the line behind these isn't taken
 abbrev pub IsWhy : Bool → List (List ℕ) → List ℕ → Stop → Parts → Type 0
-IsWhy false done line stop.Unknown parts = (length done < SCRIPT_LINES) × IsBadLine parts.reader line × (BeginsJournal parts.header line → ⊥)
+IsWhy false done line stop.Unknown parts =
+    (length done < SCRIPT_LINES) × IsBadLine parts.reader line × (BeginsJournal parts.header line → ⊥)
 IsWhy false done line stop.Long parts = (length done ≡ SCRIPT_LINES) × (BeginsJournal parts.header line → ⊥)
 IsWhy true done line stop.Unknown parts = (length parts.journal < JOURNAL_LINES) × IsNoLine line
 IsWhy true done line stop.Long parts = length parts.journal ≡ JOURNAL_LINES

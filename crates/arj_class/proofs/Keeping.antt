@@ -32,12 +32,21 @@ pub class_kept : (op : Op) (v : Value) → class_of (value_after op v) ≡ class
 class_kept Get v = refl
 class_kept Len v = refl
 class_kept (GetKey k) v = refl
-class_kept (Add n) v = elim v as (λ v. class_of (value_after (Add n) v) ≡ class_of v) [ Counter m ↦ one_class (nat_lt (m + n) 18446744073709551616) _ _ refl | Register bytes ↦ refl | Account m ↦ refl | Queue ns ↦ refl | Table ps ↦ refl ]
-class_kept (Set n) v = elim v as (λ v. class_of (value_after (Set n) v) ≡ class_of v) [ Counter m ↦ refl | Register bytes ↦ refl | Account m ↦ refl | Queue ns ↦ refl | Table ps ↦ refl ]
-class_kept (Put bytes) v = elim v as (λ v. class_of (value_after (Put bytes) v) ≡ class_of v) [ Counter m ↦ refl | Register old ↦ refl | Account m ↦ refl | Queue ns ↦ refl | Table ps ↦ refl ]
-class_kept (Deposit n) v = elim v as (λ v. class_of (value_after (Deposit n) v) ≡ class_of v) [ Counter m ↦ refl | Register bytes ↦ refl | Account m ↦ one_class (nat_lt (m + n) 18446744073709551616) _ _ refl | Queue ns ↦ refl | Table ps ↦ refl ]
-class_kept (Withdraw n) v = elim v as (λ v. class_of (value_after (Withdraw n) v) ≡ class_of v) [ Counter m ↦ refl | Register bytes ↦ refl | Account m ↦ one_class (nat_lt m n) _ _ refl | Queue ns ↦ refl | Table ps ↦ refl ]
-class_kept (Push n) v = elim v as (λ v. class_of (value_after (Push n) v) ≡ class_of v) [ Counter m ↦ refl | Register bytes ↦ refl | Account m ↦ refl | Queue ns ↦ one_class (nat_lt (length ns) 32) _ _ refl | Table ps ↦ refl ]
-class_kept Pop v = elim v as (λ v. class_of (value_after Pop v) ≡ class_of v) [ Counter m ↦ refl | Register bytes ↦ refl | Account m ↦ refl | Queue ns ↦ refl | Table ps ↦ refl ]
-class_kept (PutPair k x) v = elim v as (λ v. class_of (value_after (PutPair k x) v) ≡ class_of v) [ Counter m ↦ refl | Register bytes ↦ refl | Account m ↦ refl | Queue ns ↦ refl | Table ps ↦ one_class (is_full_for k ps) _ _ refl ]
-class_kept (Remove k) v = elim v as (λ v. class_of (value_after (Remove k) v) ≡ class_of v) [ Counter m ↦ refl | Register bytes ↦ refl | Account m ↦ refl | Queue ns ↦ refl | Table ps ↦ refl ]
+class_kept (Add n) v =
+    elim v as (λ v. class_of (value_after (Add n) v) ≡ class_of v) [ Counter m ↦ one_class (nat_lt (m + n) 18446744073709551616) _ _ refl | Register bytes ↦ refl | Account m ↦ refl | Queue ns ↦ refl | Table ps ↦ refl ]
+class_kept (Set n) v =
+    elim v as (λ v. class_of (value_after (Set n) v) ≡ class_of v) [ Counter m ↦ refl | Register bytes ↦ refl | Account m ↦ refl | Queue ns ↦ refl | Table ps ↦ refl ]
+class_kept (Put bytes) v =
+    elim v as (λ v. class_of (value_after (Put bytes) v) ≡ class_of v) [ Counter m ↦ refl | Register old ↦ refl | Account m ↦ refl | Queue ns ↦ refl | Table ps ↦ refl ]
+class_kept (Deposit n) v =
+    elim v as (λ v. class_of (value_after (Deposit n) v) ≡ class_of v) [ Counter m ↦ refl | Register bytes ↦ refl | Account m ↦ one_class (nat_lt (m + n) 18446744073709551616) _ _ refl | Queue ns ↦ refl | Table ps ↦ refl ]
+class_kept (Withdraw n) v =
+    elim v as (λ v. class_of (value_after (Withdraw n) v) ≡ class_of v) [ Counter m ↦ refl | Register bytes ↦ refl | Account m ↦ one_class (nat_lt m n) _ _ refl | Queue ns ↦ refl | Table ps ↦ refl ]
+class_kept (Push n) v =
+    elim v as (λ v. class_of (value_after (Push n) v) ≡ class_of v) [ Counter m ↦ refl | Register bytes ↦ refl | Account m ↦ refl | Queue ns ↦ one_class (nat_lt (length ns) 32) _ _ refl | Table ps ↦ refl ]
+class_kept Pop v =
+    elim v as (λ v. class_of (value_after Pop v) ≡ class_of v) [ Counter m ↦ refl | Register bytes ↦ refl | Account m ↦ refl | Queue ns ↦ refl | Table ps ↦ refl ]
+class_kept (PutPair k x) v =
+    elim v as (λ v. class_of (value_after (PutPair k x) v) ≡ class_of v) [ Counter m ↦ refl | Register bytes ↦ refl | Account m ↦ refl | Queue ns ↦ refl | Table ps ↦ one_class (is_full_for k ps) _ _ refl ]
+class_kept (Remove k) v =
+    elim v as (λ v. class_of (value_after (Remove k) v) ≡ class_of v) [ Counter m ↦ refl | Register bytes ↦ refl | Account m ↦ refl | Queue ns ↦ refl | Table ps ↦ refl ]

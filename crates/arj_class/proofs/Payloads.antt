@@ -42,7 +42,8 @@ same_number n m xs ys fits fits' same =
     (sym (from_be_bytes-to_be_bytes_8 n fits) ∙ ap (λ bytes. from_be_bytes w64 (take 8 bytes)) same ∙ from_be_bytes-to_be_bytes_8 m fits', ap (drop 8) same)
 
 -- sixteen bytes give the pair back
-same_pair : (p q : ℕ × ℕ) (xs ys : List ℕ) → p.0 < 2 ^ 64 → p.1 < 2 ^ 64 → q.0 < 2 ^ 64 → q.1 < 2 ^ 64 → pair_bytes p ++ xs ≡ pair_bytes q ++ ys → (p ≡ q) × (xs ≡ ys)
+same_pair : (p q : ℕ × ℕ) (xs ys : List ℕ) → p.0 < 2 ^ 64 → p.1 < 2 ^ 64 → q.0 < 2 ^ 64 → q.1 < 2 ^ 64 →
+    pair_bytes p ++ xs ≡ pair_bytes q ++ ys → (p ≡ q) × (xs ≡ ys)
 same_pair p q xs ys fits fits' fits2 fits3 same =
     let keys = same_number p.0 q.0 (big_bytes 8 p.1 ++ xs) (big_bytes 8 q.1 ++ ys) fits fits2 same in
     let values = same_number p.1 q.1 xs ys fits' fits3 keys.1 in
@@ -59,7 +60,8 @@ numbers_once (n ∷ ns) (m ∷ ms) fit fit' same =
     λ i. parts.0 i ∷ rest i
 
 -- a front of pairs that fit is given back by its bytes
-pub pairs_front : (ps ws : List (ℕ × ℕ)) (rest : List ℕ) → PairsFit ps → PairsFit ws → flat_map pair_bytes ws ≡ flat_map pair_bytes ps ++ rest
+pub pairs_front : (ps ws : List (ℕ × ℕ)) (rest : List ℕ) → PairsFit ps → PairsFit ws →
+    flat_map pair_bytes ws ≡ flat_map pair_bytes ps ++ rest
     → (qs : List (ℕ × ℕ)) × (ws ≡ ps ++ qs) × (rest ≡ flat_map pair_bytes qs)
 pairs_front [] ws rest fit fit' same = (ws, refl, sym same)
 pairs_front (p ∷ ps) [] rest fit fit' same = absurd (omega (arith, ap length same))
@@ -78,7 +80,8 @@ pairs_once (p ∷ ps) (q ∷ qs) fit fit' same =
     λ i. parts.0 i ∷ rest i
 
 -- one more number, or pair, of the bytes that are left
-pub front_more : {X : Type 0} (f : X → List ℕ) (xs : List X) (x : X) (payload rest behind : List ℕ) → payload ≡ flat_map f xs ++ rest → rest ≡ f x ++ behind
+pub front_more : {X : Type 0} (f : X → List ℕ) (xs : List X) (x : X) (payload rest behind : List ℕ) → payload ≡ flat_map f xs ++ rest →
+    rest ≡ f x ++ behind
     → payload ≡ flat_map f (xs ++ x ∷ []) ++ behind
 front_more f xs x payload rest behind is more =
     is ∙ ap (λ bytes. flat_map f xs ++ bytes) more ∙ sym (append_assoc (flat_map f xs) (f x) behind)
@@ -88,18 +91,21 @@ front_more f xs x payload rest behind is more =
     one_more f xs x = flat_map_more f [] xs x
 
 -- nothing is left behind the whole
-pub whole_front : {X : Type 0} (f : X → List ℕ) (xs : List X) (payload rest : List ℕ) → payload ≡ flat_map f xs ++ rest → length rest ≡ 0 → payload ≡ flat_map f xs
+pub whole_front : {X : Type 0} (f : X → List ℕ) (xs : List X) (payload rest : List ℕ) → payload ≡ flat_map f xs ++ rest → length rest ≡ 0 →
+    payload ≡ flat_map f xs
 whole_front f xs payload [] is none = is ∙ append-nil (flat_map f xs)
 whole_front f xs payload (b ∷ bs) is none = absurd (omega (arith, none))
 
 -- bytes behind 32 numbers are no queue's, and fewer than eight bytes at the end are none's
-pub no_queue : (ns : List ℕ) (rest payload : List ℕ) → payload ≡ flat_map (big_bytes 8) ns ++ rest → (length ns < 32 → length rest < 8) → 0 < length rest
+pub no_queue : (ns : List ℕ) (rest payload : List ℕ) → payload ≡ flat_map (big_bytes 8) ns ++ rest → (length ns < 32 → length rest < 8) →
+    0 < length rest
     → (w : List ℕ) → ValueInForm (Queue w) → payload_of (Queue w) ≡ payload → ⊥
 no_queue ns rest payload is few some w form same =
     omega (arith, ap length is, ap length same, length-append (flat_map (big_bytes 8) ns) rest, length_numbers ns, length_numbers w, form.0)
 
 -- the same of tables
-pub no_table : (ps : List (ℕ × ℕ)) (rest payload : List ℕ) → payload ≡ flat_map pair_bytes ps ++ rest → (length ps < 16 → length rest < 16) → 0 < length rest
+pub no_table : (ps : List (ℕ × ℕ)) (rest payload : List ℕ) → payload ≡ flat_map pair_bytes ps ++ rest →
+    (length ps < 16 → length rest < 16) → 0 < length rest
     → (w : List (ℕ × ℕ)) → ValueInForm (Table w) → payload_of (Table w) ≡ payload → ⊥
 no_table ps rest payload is few some w form same =
     omega (arith, ap length is, ap length same, length-append (flat_map pair_bytes ps) rest, length_pairs ps, length_pairs w, form.0)
@@ -123,8 +129,10 @@ below_in (q ∷ ps) p qs rise = (above_in q.0 ps p qs rise.0, below_in ps p qs r
     above_in k (q ∷ ps) p qs above = above_in k ps p qs above.1
 
 -- a pair whose key isn't above those before it is in no table
-pub no_table_unsorted : (ps : List (ℕ × ℕ)) (p : ℕ × ℕ) (payload rest behind : List ℕ) → payload ≡ flat_map pair_bytes ps ++ rest → rest ≡ pair_bytes p ++ behind
-    → PairsFit ps → PairsFit (p ∷ []) → (KeysBelow p.0 ps → ⊥) → (w : List (ℕ × ℕ)) → ValueInForm (Table w) → payload_of (Table w) ≡ payload → ⊥
+pub no_table_unsorted : (ps : List (ℕ × ℕ)) (p : ℕ × ℕ) (payload rest behind : List ℕ) → payload ≡ flat_map pair_bytes ps ++ rest →
+    rest ≡ pair_bytes p ++ behind
+    → PairsFit ps → PairsFit (p ∷ []) → (KeysBelow p.0 ps → ⊥) → (w : List (ℕ × ℕ)) → ValueInForm (Table w) →
+    payload_of (Table w) ≡ payload → ⊥
 no_table_unsorted ps p payload rest behind is more fit fit2 unsorted w form same =
     let whole = front_more pair_bytes ps p payload rest behind is more in
     let found = pairs_front (ps ++ p ∷ []) w behind (pairs_fit_append ps (p ∷ []) fit fit2) form.2 (same ∙ whole) in

@@ -1,5 +1,6 @@
 -- What a search finds among pairs whose keys rise, and what an edit at that place does.
-use Rattle.std.proofs.Common.{◌≡◌, ℕ, ◌+◌, ◌-◌, ◌<◌, ◌≤◌, zero, suc, List, [], ◌∷◌, length, get_or, set, Some, None, Result, Ok, Err, MatchResult, sym, ap, refl, arith, true, nat_lt, is_some, if◌then◌else◌}
+use Rattle.std.proofs.Common.{◌≡◌, ℕ, ◌+◌, ◌-◌, ◌<◌, ◌≤◌, zero, suc, List, [], ◌∷◌, length, get_or, set, Some, None, Result, Ok, Err}
+use Rattle.std.proofs.Common.{MatchResult, sym, ap, refl, arith, true, nat_lt, is_some, if◌then◌else◌}
 use Rattle.std.specs.Prelude.{IsTrue}
 use Rattle.std.specs.List.{insert, remove, slice_get}
 use Rattle.std.proofs.lemmas.Option.{get_or_from_slice_get, slice_get_within}
@@ -36,10 +37,12 @@ below_from_at k (p ∷ ps) each = (each 0 (omega arith), below_from_at k ps (λ 
 
 -- where the last of rising keys is below another, all are
 below_last : (k : ℕ) (ps : List (ℕ × ℕ)) → KeysRise ps → key_at ps (length ps - 1) < k → KeysBelow k ps
-below_last k ps rise last = below_from_at k ps (λ j within. grind (arith, rise_at ps rise j (length ps - 1), last, λ (same : j ≡ length ps - 1). ap (key_at ps) same))
+below_last k ps rise last =
+    below_from_at k ps (λ j within. grind (arith, rise_at ps rise j (length ps - 1), last, λ (same : j ≡ length ps - 1). ap (key_at ps) same))
 
 -- what comparing the last key with another says of all
-pub above_last : (k : ℕ) (ps : List (ℕ × ℕ)) (last : ℕ × ℕ) → KeysRise ps → Some last ≡ slice_get ps (length ps - 1) → (IsTrue (nat_lt last.0 k) → KeysBelow k ps) × (KeysBelow k ps → IsTrue (nat_lt last.0 k))
+pub above_last : (k : ℕ) (ps : List (ℕ × ℕ)) (last : ℕ × ℕ) → KeysRise ps → Some last ≡ slice_get ps (length ps - 1) →
+    (IsTrue (nat_lt last.0 k) → KeysBelow k ps) × (KeysBelow k ps → IsTrue (nat_lt last.0 k))
 above_last k ps last rise is =
     let same : key_at ps (length ps - 1) ≡ last.0 = ap (λ p. p.0) (get_or_from_slice_get ps (length ps - 1) last (0, 0) (sym is)) in
     let within : length ps - 1 < length ps = slice_get_within ps (length ps - 1) last (sym is) in (
@@ -55,7 +58,8 @@ module _ (ps : List (ℕ × ℕ)) (rise : KeysRise ps) (k : ℕ) where
       grind (arith, nat_tests))
 
   -- a binary search by key ends at the key's place or at its gap
-  pub searched : (r : Result ℕ ℕ) → IsSearchInRange r (length ps) → IsBinarySearchResult (λ pair. nat_cmp pair.0 k) ps r → MatchResult r (IsPlace k ps) (IsGap k ps)
+  pub searched : (r : Result ℕ ℕ) → IsSearchInRange r (length ps) → IsBinarySearchResult (λ pair. nat_cmp pair.0 k) ps r →
+      MatchResult r (IsPlace k ps) (IsGap k ps)
   searched (Ok at) within equal =
       let here : key_at ps at ≡ k = ranked _ k _ (sym (equal (0, 0))) in
       record { within = within; here = here; before = λ j less. omega (arith, rise_at ps rise j at less within, here) }
@@ -189,15 +193,18 @@ length_remove k [] = omega arith
 length_remove k (p ∷ ps) = grind (arith, nat_tests, length_remove k ps)
 
 -- a table has room for what a put leaves, and its keys rise still
-pub table_put : (k v : ℕ) (ps : List (ℕ × ℕ)) → length ps ≤ 16 → KeysRise ps → let after = if is_full_for k ps then ps else put_pair k v ps in (length after ≤ 16) × KeysRise after
+pub table_put : (k v : ℕ) (ps : List (ℕ × ℕ)) → length ps ≤ 16 → KeysRise ps → let after =
+    if is_full_for k ps then ps else put_pair k v ps in (length after ≤ 16) × KeysRise after
 table_put k v ps room rise = grind (arith, nat_tests, length_put k v ps, length_put_there k v ps rise, rise_put k v ps rise)
 
-pub table_remove : (k : ℕ) (ps : List (ℕ × ℕ)) → length ps ≤ 16 → KeysRise ps → (length (remove_pair k ps) ≤ 16) × KeysRise (remove_pair k ps)
+pub table_remove : (k : ℕ) (ps : List (ℕ × ℕ)) → length ps ≤ 16 → KeysRise ps →
+    (length (remove_pair k ps) ≤ 16) × KeysRise (remove_pair k ps)
 table_remove k ps room rise = (omega (arith, length_remove k ps), rise_remove k ps rise)
 
 -- a key that has a gap among 16 pairs or more finds no room
 pub full_in_gap : (k : ℕ) (ps : List (ℕ × ℕ)) (i : ℕ) → IsGap k ps i → 16 ≤ length ps → is_full_for k ps ≡ true
 full_in_gap k ps i gap full = grind (arith, nat_tests, value_in_gap k ps i gap)
 
-pub put_when_full : (k v : ℕ) (ps : List (ℕ × ℕ)) (i : ℕ) → IsGap k ps i → 16 ≤ length ps → ps ≡ (if is_full_for k ps then ps else put_pair k v ps)
+pub put_when_full : (k v : ℕ) (ps : List (ℕ × ℕ)) (i : ℕ) → IsGap k ps i → 16 ≤ length ps →
+    ps ≡ (if is_full_for k ps then ps else put_pair k v ps)
 put_when_full k v ps i gap full = rw (full_in_gap k ps i gap full) refl

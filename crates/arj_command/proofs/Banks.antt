@@ -1,5 +1,6 @@
 -- What a run of a bank shows.
-use Rattle.std.proofs.Common.{◌≡◌, ◌≢◌, ◌⊎◌, inl, inr, ℕ, zero, suc, ◌-◌, ◌≤◌, List, [], ◌++◌, Option, Some, None, false, refl, sym, ◌∙◌, ap, subst, arith}
+use Rattle.std.proofs.Common.{◌≡◌, ◌≢◌, ◌⊎◌, inl, inr, ℕ, zero, suc, ◌-◌, ◌≤◌, List, [], ◌++◌, Option, Some, None, false, refl, sym, ◌∙◌}
+use Rattle.std.proofs.Common.{ap, subst, arith}
 use Rattle.std.proofs.Math.Logic.{⊎_elim}
 use Rattle.std.proofs.lemmas.List.{append-nil}
 use Rattle.arj_bank.specs.Bank.{AreOfBank, ComesSoFar, EndsAtLimit, Generates, HaveBeenRead, IsSummary, RanBank, left}
@@ -37,11 +38,13 @@ use Rattle.arj_world.proofs.Disks.{some_one}
 whole_bank : (n : ℕ) (events : List Event) → AreOfBank n events → AreOfBank n (events ++ [])
 whole_bank n events are = subst (λ es. AreOfBank n es) (sym (append-nil events)) are
 
-node_is : {D : Type 0} (file : D → FileMap) (node : ℕ) (rack : List D) → is_number node ≡ true → node_files file rack node ≡ files_in file (slice_get rack (node - 1))
+node_is : {D : Type 0} (file : D → FileMap) (node : ℕ) (rack : List D) → is_number node ≡ true →
+    node_files file rack node ≡ files_in file (slice_get rack (node - 1))
 node_is file node rack is = λ i. if is i then files_in file (slice_get rack (node - 1)) else no_files
 
 -- reads leave what each disk says
-same_files : {D : Type 0} (d : disk.Ghosts D) (mid after : List D) → HaveBeenRead d mid after → (n : ℕ) → files_at d (at_place n after) ≡ files_at d (at_place n mid)
+same_files : {D : Type 0} (d : disk.Ghosts D) (mid after : List D) → HaveBeenRead d mid after → (n : ℕ) →
+    files_at d (at_place n after) ≡ files_at d (at_place n mid)
 same_files d mid after since zero = refl
 same_files {D} d mid after since (suc k) = by (is_number (suc k)) refl
   where
@@ -58,7 +61,8 @@ same_files {D} d mid after since (suc k) = by (is_number (suc k)) refl
         sym (here after) ∙ ((λ i. since.files i (suc k)) ∙ here mid)
     by false is = let past : NODES ≤ k = grind (arith, is) in ap (files_at d) (let m = since.moved in m.others k past)
 
-promise_stays : {D : Type 0} (d : disk.Ghosts D) (read : Reads) (t : Task D) (over : Bool) (journal : List Line) (mid after : List D) → HaveBeenRead d mid after → ShowsThePromise d read t over journal mid → ShowsThePromise d read t over journal after
+promise_stays : {D : Type 0} (d : disk.Ghosts D) (read : Reads) (t : Task D) (over : Bool) (journal : List Line) (mid after : List D) →
+    HaveBeenRead d mid after → ShowsThePromise d read t over journal mid → ShowsThePromise d read t over journal after
 promise_stays d read t over journal mid after since p =
     let same : readings_of d read after ≡ readings_of d read mid = λ i n. read (same_files d mid after since n i) in
     let r = p.run in
@@ -86,7 +90,8 @@ module _ {C D : Type 0} (c : core.Ghosts C) (d : disk.Ghosts D) where
     -- ---- what the events show
 
     -- reads leave what the disks say
-    bank_facts : (n : ℕ) (first mid after : List D) (journal : List Line) (nodes : Option (AllNodes C)) (all : AllNodes C) → BanksShow c d read → nodes ≡ Some all → RanBank (all_nodes c d) n first (left mid journal nodes) → HaveBeenRead d mid after
+    bank_facts : (n : ℕ) (first mid after : List D) (journal : List Line) (nodes : Option (AllNodes C)) (all : AllNodes C) →
+        BanksShow c d read → nodes ≡ Some all → RanBank (all_nodes c d) n first (left mid journal nodes) → HaveBeenRead d mid after
         → RanOfBank c d read n first (behind all after journal)
     bank_facts n first mid after journal nodes all show is bank since =
         let ran = bank.ran in
@@ -106,12 +111,14 @@ module _ {C D : Type 0} (c : core.Ghosts C) (d : disk.Ghosts D) where
               (subst (λ a. ShowsThePromise d read (task first bank_header bank.events) (let m = a in m.over) journal mid) same promise);
         }
 
-    limit_facts : (n : ℕ) (first rack : List D) (journal : List Line) (nodes : Option (AllNodes C)) (all : AllNodes C) → BankLimitsShow c d read → nodes ≡ Some all → EndsAtLimit (all_nodes c d) n first (left rack journal nodes)
+    limit_facts : (n : ℕ) (first rack : List D) (journal : List Line) (nodes : Option (AllNodes C)) (all : AllNodes C) →
+        BankLimitsShow c d read → nodes ≡ Some all → EndsAtLimit (all_nodes c d) n first (left rack journal nodes)
         → RanOfBank c d read n first (behind all rack journal)
     limit_facts n first rack journal nodes all show is l =
         let e = l.ended in
         let same : e.machine ≡ all = some_one e.machine all (sym e.machine_is ∙ is) in
-        let promise : ShowsThePromise d read (task first bank_header e.done) (let m = e.machine in m.over) journal rack = show n first (left rack journal nodes) l in
+        let promise : ShowsThePromise d read (task first bank_header e.done) (let m = e.machine in m.over) journal rack =
+        show n first (left rack journal nodes) l in
         record {
           events = e.done;
           rest = e.rest;
@@ -125,7 +132,8 @@ module _ {C D : Type 0} (c : core.Ghosts C) (d : disk.Ghosts D) where
           promise = subst (λ a. ShowsThePromise d read (task first bank_header e.done) (let m = a in m.over) journal rack) same promise;
         }
 
-    front_shows : (n : ℕ) (first after : List D) (comes : ComesSoFar (all_nodes c d) n first after) → BankFrontsShow c d read → FrontShows c d read n first after comes
+    front_shows : (n : ℕ) (first after : List D) (comes : ComesSoFar (all_nodes c d) n first after) → BankFrontsShow c d read →
+        FrontShows c d read n first after comes
     front_shows n first after (inl same) show = tt
     front_shows n first after (inr (inl formatted)) show = tt
     front_shows n first after (inr (inr (events, are, f))) show =
@@ -144,8 +152,10 @@ module _ {C D : Type 0} (c : core.Ghosts C) (d : disk.Ghosts D) where
     some_status (suc (suc (suc (suc (suc (suc (suc zero))))))) few one two three = inr (inr (inr (inr refl)))
     some_status (suc (suc (suc (suc (suc (suc (suc (suc n)))))))) few one two three = absurd (omega (arith, few))
 
-    pub bank_headline : (n : ℕ) (before after : Outside D) (says : Said C) (nodes : Option (AllNodes C)) → Generates (all_nodes c d) (reader d (holds read)) n before after (answer says.status says.why says.journal nodes) → says.status ≤ 7
-        → BanksShow c d read → BankLimitsShow c d read → BankFrontsShow c d read → says.world ≡ world_of nodes → BankHeadline c d read n (around before after) says
+    pub bank_headline : (n : ℕ) (before after : Outside D) (says : Said C) (nodes : Option (AllNodes C)) →
+        Generates (all_nodes c d) (reader d (holds read)) n before after (answer says.status says.why says.journal nodes) → says.status ≤ 7
+        → BanksShow c d read → BankLimitsShow c d read → BankFrontsShow c d read → says.world ≡ world_of nodes →
+        BankHeadline c d read n (around before after) says
     bank_headline n before after says nodes g few whole limits fronts world = record {
       nodes = nodes;
       run = g;
@@ -157,10 +167,13 @@ module _ {C D : Type 0} (c : core.Ghosts C) (d : disk.Ghosts D) where
         kinds : (says.status ≡ 0) ⊎ ((says.status ≡ 4) ⊎ ((says.status ≡ 5) ⊎ ((says.status ≡ 6) ⊎ (says.status ≡ 7))))
         kinds = let never = g.never in some_status says.status few never.0 never.1 never.2
 
-        summed : (all : AllNodes C) → nodes ≡ Some all → (bytes : List ℕ) → IsSummary (all_nodes c d) (reader d (holds read)) n before.rack (left after.rack says.journal nodes) bytes → RanOfBank c d read n before.rack (behind all after.rack says.journal)
+        summed : (all : AllNodes C) → nodes ≡ Some all → (bytes : List ℕ) →
+            IsSummary (all_nodes c d) (reader d (holds read)) n before.rack (left after.rack says.journal nodes) bytes →
+            RanOfBank c d read n before.rack (behind all after.rack says.journal)
         summed all is bytes s = bank_facts n before.rack s.mid after.rack says.journal nodes all whole is s.ran s.read
 
-        facts : says.status ≢ 5 → (all : AllNodes C) → nodes ≡ Some all → RanOfBank c d read n before.rack (behind all after.rack says.journal)
+        facts : says.status ≢ 5 → (all : AllNodes C) → nodes ≡ Some all →
+            RanOfBank c d read n before.rack (behind all after.rack says.journal)
         facts five all is =
             ⊎_elim (λ zero. let s = g.summed zero in summed all is s.0 s.1)
             (λ more. ⊎_elim (λ four. let s = g.front four in summed all is s.0 s.2)

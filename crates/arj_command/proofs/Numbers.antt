@@ -26,7 +26,8 @@ plain_decimal (suc k) small =
     (decimal_nonempty (suc k) (omega (arith, small)), λ e. absurd (omega (arith, e, first)), λ e. absurd (omega (arith, e, first)))
 
 -- and where a plain text was read as a number, it is that number's
-pub read_plain : {E : Type 0} (bytes : List ℕ) (r : Result ℕ E) (n : ℕ) → IsPlain bytes → ParsesUnsigned 32 10 bytes r → r ≡ Ok n → bytes ≡ decimal n
+pub read_plain : {E : Type 0} (bytes : List ℕ) (r : Result ℕ E) (n : ℕ) → IsPlain bytes → ParsesUnsigned 32 10 bytes r → r ≡ Ok n →
+    bytes ≡ decimal n
 read_plain {E} bytes (Ok m) n plain parses is =
     let p = parse_plain own {E = E} 32 bytes (Ok m) parses plain.1 in
     let same : m ≡ n = cc is in
@@ -34,8 +35,10 @@ read_plain {E} bytes (Ok m) n plain parses is =
 read_plain bytes (Err e) n plain parses is = absurd (cc is)
 
 -- one that is printed was read
-pub not_read : {E : Type 0} (bytes : List ℕ) (r : Result ℕ E) (fault : E) (n : ℕ) → n < most_banks → bytes ≡ decimal n → ParsesUnsigned 32 10 bytes r → r ≡ Err fault → ⊥
-not_read bytes r fault n small is parses failed = let found = parse-decimal 32 n bytes r (omega (arith, small)) (omega (arith, small)) is parses in absurd (cc (sym failed ∙ found))
+pub not_read : {E : Type 0} (bytes : List ℕ) (r : Result ℕ E) (fault : E) (n : ℕ) → n < most_banks → bytes ≡ decimal n →
+    ParsesUnsigned 32 10 bytes r → r ≡ Err fault → ⊥
+not_read bytes r fault n small is parses failed =
+    let found = parse-decimal 32 n bytes r (omega (arith, small)) (omega (arith, small)) is parses in absurd (cc (sym failed ∙ found))
 
 -- words name one text
 one_text : (words : List (String Global)) (a b : List ℕ) → NamesBank words a → NamesBank words b → a ≡ b
@@ -45,7 +48,8 @@ one_text (word ∷ number ∷ []) a b first second = sym first.1 ∙ second.1
 one_text (word ∷ number ∷ more ∷ words) a b first second = absurd first
 
 pub one_number : (words : List (String Global)) (m n : ℕ) → IsGenerate words m → IsGenerate words n → m ≡ n
-one_number words m n first second = decimal_injective m n (omega (arith, first.0)) (omega (arith, second.0)) (one_text words (decimal m) (decimal n) first.1 second.1)
+one_number words m n first second =
+    decimal_injective m n (omega (arith, first.0)) (omega (arith, second.0)) (one_text words (decimal m) (decimal n) first.1 second.1)
 
 -- `replay` is one word
 pub not_both : (words : List (String Global)) (text : List ℕ) → NamesBank words text → IsReplay words → ⊥
@@ -68,9 +72,11 @@ not_two (word ∷ []) replay check = omega (arith, ap (λ bs. get_or bs 0 0) (sy
 not_two (word ∷ more ∷ words) replay check = replay
 
 -- words ask for one bank
-pub generates_one : {D M : Type 0} (m : Ghosts M D) (r : Reader D) (words : List (String Global)) (n k : ℕ) → IsGenerate words n → IsGenerate words k → (before after : Outside D) (answer : Answer M)
+pub generates_one : {D M : Type 0} (m : Ghosts M D) (r : Reader D) (words : List (String Global)) (n k : ℕ) → IsGenerate words n →
+    IsGenerate words k → (before after : Outside D) (answer : Answer M)
     → Generates m r n before after answer → Generates m r k before after answer
-generates_one m r words n k first second before after answer h = subst (λ i. Generates m r i before after answer) (one_number words n k first second) h
+generates_one m r words n k first second before after answer h =
+    subst (λ i. Generates m r i before after answer) (one_number words n k first second) h
 
 -- a status up to 8 that isn't 8
 pub le_7 : (n : ℕ) → n ≤ 8 → (n ≡ 8 → ⊥) → n ≤ 7

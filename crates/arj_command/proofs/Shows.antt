@@ -80,11 +80,13 @@ at_fault m ending.Labels stopped rest place rack at header three why = absurd (o
 at_fault m ending.Frames stopped rest place rack at header three why = absurd (omega (arith, three))
 at_fault m ending.Format stopped rest place rack at header three why = absurd (omega (arith, three))
 
-pub read_failed : {D M : Type 0} (m : Ghosts M D) (before after : Outside D) (answer : Answer M) → Closes m before after answer → answer.status ≡ 3 → Rose before.faults after.faults
+pub read_failed : {D M : Type 0} (m : Ghosts M D) (before after : Outside D) (answer : Answer M) → Closes m before after answer →
+    answer.status ≡ 3 → Rose before.faults after.faults
 read_failed m before after answer closes three =
     let e = closes.ends in
     let r = e.reached in
-    closes.reads.at_fault (at_fault m closes.end closes.given.stopped r.rest r.place e.mid e.at (let s = r.stage in s.header) (sym closes.status_is ∙ three) r.why)
+    closes.reads.at_fault (at_fault m closes.end closes.given.stopped r.rest r.place e.mid e.at (let s =
+    r.stage in s.header) (sym closes.status_is ∙ three) r.why)
 
 module _ {C D : Type 0} (c : core.Ghosts C) (d : disk.Ghosts D) where
   -- nothing stands behind the lines of events
@@ -92,33 +94,41 @@ module _ {C D : Type 0} (c : core.Ghosts C) (d : disk.Ghosts D) where
   behind_none lines = ([], tt, sym (append-nil lines))
 
   -- what a run's end puts behind them
-  behind_end : (given : Arrived) (first after : List D) (end : End) (journal : List Line) → (e : EndsSo (all_nodes c d) given first after end journal) → EndsBehind (let at = e.at in at.journal) journal
+  behind_end : (given : Arrived) (first after : List D) (end : End) (journal : List Line) →
+      (e : EndsSo (all_nodes c d) given first after end journal) → EndsBehind (let at = e.at in at.journal) journal
   behind_end given first after end journal e = (_, is_last end (let at = e.at in at.count) _, e.journal_is)
 
   -- where nodes were formatted, they ran the events
   ran_at : (first mid : List D) (done : List (List ℕ)) (place : Place) (at : Hand (AllNodes C)) (s : Stage (all_nodes c d) first mid done place at) (all : AllNodes C) → at.machine ≡ Some all
       → RanAll c d (task first s.header (events_of s.forms)) all.over (hand all.world mid at.journal)
-  ran_at first mid done place at s all is = let runs = subst (λ machine. MachineRuns (all_nodes c d) first mid s.forms place s.header at.journal machine) is s.machine_is in runs.2
+  ran_at first mid done place at s all is =
+      let runs = subst (λ machine. MachineRuns (all_nodes c d) first mid s.forms place s.header at.journal machine) is s.machine_is in runs.2
 
   -- else there is no line of an event
   bare_at : (first mid : List D) (done : List (List ℕ)) (place : Place) (at : Hand (AllNodes C)) (s : Stage (all_nodes c d) first mid done place at) → at.machine ≡ None → at.journal ≡ []
-  bare_at first mid done place at s is = let runs = subst (λ machine. MachineRuns (all_nodes c d) first mid s.forms place s.header at.journal machine) is s.machine_is in runs.4
+  bare_at first mid done place at s is =
+      let runs = subst (λ machine. MachineRuns (all_nodes c d) first mid s.forms place s.header at.journal machine) is s.machine_is in runs.4
 
   only_last : (lines journal : List Line) → lines ≡ [] → EndsBehind lines journal → IsLast journal
   only_last lines journal none b = subst IsLast (sym (b.2 ∙ ap (λ ls. ls ++ b.0) none)) b.1
 
   -- the disks at the end are those of the last event
   end_rack : (given : Arrived) (first after : List D) (end : End) (journal : List Line) (e : EndsSo (all_nodes c d) given first after end journal) (all : AllNodes C) → (let at = e.at in at.machine) ≡ Some all → after ≡ e.mid
-  end_rack given first after end journal e all is = ⊎_elim (λ stopped. absurd (no_format end stopped.0 (let r = e.reached in r.why))) (λ other. other.1) e.racks
+  end_rack given first after end journal e all is =
+      ⊎_elim (λ stopped. absurd (no_format end stopped.0 (let r = e.reached in r.why))) (λ other. other.1) e.racks
     where
-      no_format : (end : End) → end ≡ ending.Format → (let r = e.reached in let s = r.stage in let g = script_of given in Why (all_nodes c d) end g.stopped r.rest r.place e.mid e.at s.header) → ⊥
+      no_format : (end : End) → end ≡ ending.Format →
+          (let r = e.reached in let s = r.stage in let g =
+          script_of given in Why (all_nodes c d) end g.stopped r.rest r.place e.mid e.at s.header) → ⊥
       no_format end stopped why =
-          let w = subst (λ x. (let r = e.reached in let s = r.stage in let g = script_of given in Why (all_nodes c d) x g.stopped r.rest r.place e.mid e.at s.header)) stopped why in
+          let w = subst (λ x. (let r = e.reached in let s = r.stage in let g =
+          script_of given in Why (all_nodes c d) x g.stopped r.rest r.place e.mid e.at s.header)) stopped why in
           let never : None ≡ Some all = sym w.5 ∙ is in
           cc never
 
   module _ (read : Reads) where
-    pub facts_of : (t : Task D) (all : AllNodes C) (rack : List D) (lines journal : List Line) → EndsBehind lines journal → RanAll c d t all.over (hand all.world rack lines) → ShowsThePromise d read t all.over journal rack
+    pub facts_of : (t : Task D) (all : AllNodes C) (rack : List D) (lines journal : List Line) → EndsBehind lines journal →
+        RanAll c d t all.over (hand all.world rack lines) → ShowsThePromise d read t all.over journal rack
         → Facts c d read t (behind all rack journal)
     facts_of t all rack lines journal last ran promise = record {
       lines = lines;
@@ -127,7 +137,8 @@ module _ {C D : Type 0} (c : core.Ghosts C) (d : disk.Ghosts D) where
       promise = promise;
       halts = subst (λ ls. HaltsHaveCause d t ls rack) (sym last.2) (halts_behind d t lines last.0 rack (no_halts last.0 last.1) (halts_told c d t all.over (hand all.world rack lines) ran));
       armed = subst (λ ls. ArmsAreTold (let h = t.header in h.nodes) t.events ls) (sym last.2)
-          (arms_behind (let h = t.header in h.nodes) t.events lines last.0 (no_arms last.0 last.1) (arms_told c d t all.over (hand all.world rack lines) ran));
+          (arms_behind (let h =
+          t.header in h.nodes) t.events lines last.0 (no_arms last.0 last.1) (arms_told c d t all.over (hand all.world rack lines) ran));
     }
 
     -- ---- a run that came to its end
@@ -138,17 +149,21 @@ module _ {C D : Type 0} (c : core.Ghosts C) (d : disk.Ghosts D) where
     ended given first after end journal e all is promise =
         let r = e.reached in
         let s = r.stage in
-        facts_of (task first s.header (events_of s.forms)) all after (let at = e.at in at.journal) journal (behind_end given first after end journal e)
-        (subst (λ rack. RanAll c d (task first s.header (events_of s.forms)) all.over (hand all.world rack (let at = e.at in at.journal))) (sym (end_rack given first after end journal e all is)) (ran_at first e.mid r.done r.place e.at s all is))
+        facts_of (task first s.header (events_of s.forms)) all after (let at =
+        e.at in at.journal) journal (behind_end given first after end journal e)
+        (subst (λ rack. RanAll c d (task first s.header (events_of s.forms)) all.over (hand all.world rack (let at =
+        e.at in at.journal))) (sym (end_rack given first after end journal e all is)) (ran_at first e.mid r.done r.place e.at s all is))
         promise
 
     pub headline : (before after : Outside D) (says : Said C) (nodes : Option (AllNodes C)) (run : Closes (all_nodes c d) before after (answer says.status says.why says.journal nodes))
-        → CloseShows c d read before after (answer says.status says.why says.journal nodes) run → says.world ≡ world_of nodes → Headline c d read (around before after) says
+        → CloseShows c d read before after (answer says.status says.why says.journal nodes) run → says.world ≡ world_of nodes →
+        Headline c d read (around before after) says
     headline before after says nodes run shows world = record {
       nodes = nodes;
       run = run;
       world_is = world;
-      facts = λ all is. let at = sym run.machine_is ∙ is in ended run.given before.rack after.rack run.end says.journal run.ends all at (shows all at);
+      facts = λ all is. let at =
+          sym run.machine_is ∙ is in ended run.given before.rack after.rack run.end says.journal run.ends all at (shows all at);
     }
 
     -- ---- a run that stopped short
@@ -164,9 +179,12 @@ module _ {C D : Type 0} (c : core.Ghosts C) (d : disk.Ghosts D) where
     came given first after status journal (inr (four, (end, e))) shows = (
       λ none.
           let r = e.reached in
-          only_last (let at = e.at in at.journal) journal (bare_at first e.mid r.done r.place e.at r.stage none) (behind_end given first after end journal e),
+          only_last (let at =
+          e.at in at.journal) journal (bare_at first e.mid r.done r.place e.at r.stage none) (behind_end given first after end journal e),
       λ all some. ended given first after end journal e all some (shows all some),
     )
 
-    pub shown : (before after : Outside D) (status : ℕ) (run : StopsShort (all_nodes c d) before after status) → StopShows c d read before after status run → Shown c d read (around before after) status
-    shown before after status run shows = record { run = run; facts = came run.given before.rack after.rack status run.journal run.run shows }
+    pub shown : (before after : Outside D) (status : ℕ) (run : StopsShort (all_nodes c d) before after status) →
+        StopShows c d read before after status run → Shown c d read (around before after) status
+    shown before after status run shows =
+        record { run = run; facts = came run.given before.rack after.rack status run.journal run.run shows }

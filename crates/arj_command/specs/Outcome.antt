@@ -64,15 +64,18 @@ pub record Headline {C D : Type 0} (c : core.Ghosts C) (d : disk.Ghosts D) (read
 
 -- Where the disks were formatted, what the events show of the lines that were run; else no event wrote a line. A run that was cut short shows
 -- it with the disks as they were behind these events: since then the next line may have been run in part.
-abbrev pub CameShows : {C D : Type 0} (c : core.Ghosts C) (d : disk.Ghosts D) → Reads → (given : Arrived) (first after : List D) (status : ℕ) (journal : List Line)
+abbrev pub CameShows : {C D : Type 0} (c : core.Ghosts C) (d : disk.Ghosts D) → Reads →
+    (given : Arrived) (first after : List D) (status : ℕ) (journal : List Line)
     → CameTo (all_nodes c d) given first after status journal → Type 0
 CameShows {C} c d read given first after status journal (inl (at, half, is, went)) =
     (at.machine ≡ None → journal ≡ [])
-    × ((all : AllNodes C) → at.machine ≡ Some all → (let h = half in let s = h.stage in Facts c d read (task first s.header (events_of s.forms)) (behind all h.mid journal)))
+    × ((all : AllNodes C) → at.machine ≡ Some all →
+    (let h = half in let s = h.stage in Facts c d read (task first s.header (events_of s.forms)) (behind all h.mid journal)))
 CameShows {C} c d read given first after status journal (inr (four, (end, ends))) =
     ((let e = ends in let at = e.at in at.machine) ≡ None → IsLast journal)
     × ((all : AllNodes C) → (let e = ends in let at = e.at in at.machine) ≡ Some all
-    → (let e = ends in let r = e.reached in let s = r.stage in Facts c d read (task first s.header (events_of s.forms)) (behind all after journal)))
+    → (let e = ends in let r = e.reached in let s =
+    r.stage in Facts c d read (task first s.header (events_of s.forms)) (behind all after journal)))
 
 -- What a run of a script to the status 4 or 5 shows.
 pub record Shown {C D : Type 0} (c : core.Ghosts C) (d : disk.Ghosts D) (read : Reads) (w : Around D) (status : ℕ) : Type 0 where
@@ -101,10 +104,12 @@ pub record RanOfBank {C D : Type 0} (c : core.Ghosts C) (d : disk.Ghosts D) (rea
   pub promise : ShowsThePromise d read (task first bank_header events) (let a = now.nodes in a.over) now.journal now.rack
 
 -- where memory was wanting in a front of the bank's events, what that shows
-abbrev pub FrontShows : {C D : Type 0} (c : core.Ghosts C) (d : disk.Ghosts D) → Reads → (n : ℕ) (first after : List D) → ComesSoFar (all_nodes c d) n first after → Type 0
+abbrev pub FrontShows : {C D : Type 0} (c : core.Ghosts C) (d : disk.Ghosts D) → Reads → (n : ℕ) (first after : List D) →
+    ComesSoFar (all_nodes c d) n first after → Type 0
 FrontShows c d read n first after (inl same) = ⊤
 FrontShows c d read n first after (inr (inl formatted)) = ⊤
-FrontShows c d read n first after (inr (inr (events, are, ran))) = (let f = ran in Facts c d read (task first bank_header f.done) (behind f.machine f.mid f.journal))
+FrontShows c d read n first after (inr (inr (events, are, ran))) =
+    (let f = ran in Facts c d read (task first bank_header f.done) (behind f.machine f.mid f.journal))
 
 -- What a run of `generate n` shows.
 pub record BankHeadline {C D : Type 0} (c : core.Ghosts C) (d : disk.Ghosts D) (read : Reads) (n : ℕ) (w : Around D) (says : Said C) : Type 0 where
@@ -114,5 +119,6 @@ pub record BankHeadline {C D : Type 0} (c : core.Ghosts C) (d : disk.Ghosts D) (
   -- the world that is handed out
   pub world_is : says.world ≡ world_of nodes
   -- once the disks were formatted: what the events that were run show
-  pub facts : says.status ≢ 5 → (all : AllNodes C) → nodes ≡ Some all → (let b = w.before in let a = w.after in RanOfBank c d read n b.rack (behind all a.rack says.journal))
+  pub facts : says.status ≢ 5 → (all : AllNodes C) → nodes ≡ Some all →
+      (let b = w.before in let a = w.after in RanOfBank c d read n b.rack (behind all a.rack says.journal))
   pub front : (five : says.status ≡ 5) → (let b = w.before in let m = run.memory five in FrontShows c d read n b.rack m.mid m.comes)

@@ -1,5 +1,6 @@
 -- The step that follows a vote, from its lists.
-use Rattle.std.proofs.Common.{◌≡◌, ℕ, ◌+◌, ◌≤◌, List, [], ◌∷◌, Bool, true, false, ◌||◌, Option, Some, None, if◌then◌else◌, is_some, nat_lt, refl, sym, ap, ◌∙◌, arith}
+use Rattle.std.proofs.Common.{◌≡◌, ℕ, ◌+◌, ◌≤◌, List, [], ◌∷◌, Bool, true, false, ◌||◌, Option, Some, None, if◌then◌else◌, is_some, nat_lt}
+use Rattle.std.proofs.Common.{refl, sym, ap, ◌∙◌, arith}
 use Rattle.std.specs.List.{flat_map, list_any, AllByRecursion, find}
 use Rattle.arj_base.specs.declared.state.ObjectState.{ObjectState}
 use Rattle.arj_base.specs.Uid.{uid_eq, object}
@@ -62,11 +63,13 @@ targets_same more p = λ i. number_set (flat_map (λ u. asks_same more p.changed
 
 -- ---- the step
 
-next_confirm : (more : List ObjectState) (p : Plan) (us : List Used) → next_of (begin_confirm us p) ≡ next_of (begin_confirm us (with_changed more p))
+next_confirm : (more : List ObjectState) (p : Plan) (us : List Used) →
+    next_of (begin_confirm us p) ≡ next_of (begin_confirm us (with_changed more p))
 next_confirm more p [] = refl
 next_confirm more p (u ∷ us) = refl
 
-next_prepare : (more : List ObjectState) (p : Plan) (ts : List ℕ) → next_of (begin_prepare ts p) ≡ next_of (begin_prepare ts (with_changed more p))
+next_prepare : (more : List ObjectState) (p : Plan) (ts : List ℕ) →
+    next_of (begin_prepare ts p) ≡ next_of (begin_prepare ts (with_changed more p))
 next_prepare more p [] = next_confirm more p p.used
 next_prepare more p (t ∷ ts) = refl
 

@@ -1,5 +1,6 @@
 -- The marks that the code makes are those of the protocol, where the loaded states are their objects'.
-use Rattle.std.proofs.Common.{◌≡◌, ℕ, List, [], ◌∷◌, Bool, true, false, ◌||◌, Option, Some, None, if◌then◌else◌, is_some, map, filter, refl, sym, ap, ◌∙◌, arith, IfSome}
+use Rattle.std.proofs.Common.{◌≡◌, ℕ, List, [], ◌∷◌, Bool, true, false, ◌||◌, Option, Some, None, if◌then◌else◌, is_some, map, filter, refl}
+use Rattle.std.proofs.Common.{sym, ap, ◌∙◌, arith, IfSome}
 use Rattle.std.specs.List.{AllByRecursion, find, filter_map, cons_option}
 use Rattle.std.proofs.lemmas.Bool.Decides.{nat_tests}
 use Rattle.arj_base.specs.declared.state.ObjectState.{ObjectState}
@@ -47,15 +48,22 @@ marks_same s changed (u ∷ us) all =
     by : (o : Option ObjectState) → IfSome o (IsOf u.x)
         → map {A = ObjectState} {B = ℕ × ℕ} (mark_of s) (filter_map (state_in s changed) us) ≡ marks_in s changed us
         → map {A = ObjectState} {B = ℕ × ℕ} (mark_of s) (cons_option o (filter_map (state_in s changed) us))
-        ≡ map {A = Used} {B = ℕ × ℕ} (λ w. (w.x, s)) (if is_some o then u ∷ filter (is_sent s changed) us else filter (is_sent s changed) us)
+        ≡ map {A = Used} {B =
+        ℕ × ℕ} (λ w. (w.x, s)) (if is_some o then u ∷ filter (is_sent s changed) us else filter (is_sent s changed) us)
     by None is rest = rest
     by (Some t) is rest = λ i. (is i, s) ∷ rest i
 
-pub marked_store : (s : ℕ) (p : Plan) → PlanFits p → marks_store s p ≡ record p { excluded = with_marks (marks_in s p.changed p.used) p.excluded }
+pub marked_store : (s : ℕ) (p : Plan) → PlanFits p →
+    marks_store s p ≡ record p { excluded = with_marks (marks_in s p.changed p.used) p.excluded }
 marked_store s p fits = ap (λ ms. record p { excluded = with_marks ms p.excluded }) (marks_same s p.changed p.used fits.used)
 
-pub marked_stores : (ss : List ℕ) (p : Plan) → PlanFits p → record p { excluded = marked_all ss p.changed p.used p.excluded } ≡ marks_stores ss p
+pub marked_stores : (ss : List ℕ) (p : Plan) → PlanFits p →
+    record p { excluded = marked_all ss p.changed p.used p.excluded } ≡ marks_stores ss p
 marked_stores [] p fits = refl
 marked_stores (s ∷ ss) p fits =
-    marked_stores ss (record p { excluded = with_marks (marks_in s p.changed p.used) p.excluded }) (record { used = fits.used; prepared = fits.prepared })
+    marked_stores ss (record p { excluded = with_marks (marks_in s p.changed p.used) p.excluded }) (record {
+      used = fits.used;
+      prepared =
+          fits.prepared;
+    })
     ∙ ap (marks_stores ss) (sym (marked_store s p fits))

@@ -1,5 +1,6 @@
 -- Sets of nodes increase, and those of a plan that fits are of nodes 1 to 16.
-use Rattle.std.proofs.Common.{◌≡◌, ℕ, ◌<◌, ◌≤◌, List, [], ◌∷◌, ◌++◌, Bool, true, false, not, ◌||◌, ◌==◌, Option, Some, None, if◌then◌else◌, map, filter, length, refl, subst, arith}
+use Rattle.std.proofs.Common.{◌≡◌, ℕ, ◌<◌, ◌≤◌, List, [], ◌∷◌, ◌++◌, Bool, true, false, not, ◌||◌, ◌==◌, Option, Some, None, if◌then◌else◌}
+use Rattle.std.proofs.Common.{map, filter, length, refl, subst, arith}
 use Rattle.std.specs.List.{flat_map, AllByRecursion}
 use Rattle.std.specs.List.Sorted.{IsStrictlySortedBy}
 use Rattle.std.specs.Ordering.{nat_cmp, match_ordering}
@@ -20,7 +21,8 @@ pub all_with : (P : ℕ → Type 0) (n : ℕ) (ns : List ℕ) → P n → AllByR
 all_with P n [] is all = (is, tt)
 all_with P n (m ∷ ns) is all = by (nat_cmp n m) (all_with P n ns is all.1)
   where
-    by : (o : Ordering) → AllByRecursion P (with_number n ns) → AllByRecursion P (match_ordering o (n ∷ m ∷ ns) (m ∷ ns) (m ∷ with_number n ns))
+    by : (o : Ordering) → AllByRecursion P (with_number n ns) →
+        AllByRecursion P (match_ordering o (n ∷ m ∷ ns) (m ∷ ns) (m ∷ with_number n ns))
     by Less rest = (is, all)
     by Equal rest = all
     by Greater rest = (all.0, rest)
@@ -37,7 +39,8 @@ pub all_without : (P : ℕ → Type 0) (n : ℕ) (ns : List ℕ) → AllByRecurs
 all_without P n [] all = tt
 all_without P n (m ∷ ns) all = by (m == n) (all_without P n ns all.1)
   where
-    by : (b : Bool) → AllByRecursion P (without_number n ns) → AllByRecursion P (if not b then m ∷ without_number n ns else without_number n ns)
+    by : (b : Bool) → AllByRecursion P (without_number n ns) →
+        AllByRecursion P (if not b then m ∷ without_number n ns else without_number n ns)
     by true rest = rest
     by false rest = (all.0, rest)
 
@@ -96,7 +99,8 @@ below (n ∷ ns) all = (omega (arith, all.0), below ns all.1)
 pub in_form : (ns : List ℕ) → AllByRecursion IsAtMost ns → AreInForm (number_set ns)
 in_form ns all =
     let set = number_set ns in
-    let few : length set ≤ 17 = length-le_from_below 17 set (sorted_set ns) (All-from_recursion (λ n. n < 17) set (below set (all_set IsAtMost ns all))) in
+    let few : length set ≤ 17 =
+    length-le_from_below 17 set (sorted_set ns) (All-from_recursion (λ n. n < 17) set (below set (all_set IsAtMost ns all))) in
     record { increasing = sorted_set ns; few = omega (arith, few) }
 
 -- ---- the nodes of a plan
@@ -105,7 +109,8 @@ stores_are : (u : Used) (o : Option ObjectState) → UsedFits u → AllByRecursi
 stores_are u None fits = fits.joins
 stores_are u (Some s) fits = all_append IsNode u.stores u.joins fits.stores fits.joins
 
-targets_are : (p : Plan) (us : List Used) → AllByRecursion UsedFits us → AllByRecursion IsNode (flat_map (λ u. stores_by u (changed_of u.x p)) us)
+targets_are : (p : Plan) (us : List Used) → AllByRecursion UsedFits us →
+    AllByRecursion IsNode (flat_map (λ u. stores_by u (changed_of u.x p)) us)
 targets_are p [] all = tt
 targets_are p (u ∷ us) all =
     all_append IsNode (stores_by u (changed_of u.x p)) (flat_map (λ w. stores_by w (changed_of w.x p)) us) (stores_are u (changed_of u.x p) all.0) (targets_are p us all.1)
@@ -113,7 +118,8 @@ targets_are p (u ∷ us) all =
 pub targets_nodes : (p : Plan) → PlanFits p → AllByRecursion IsNode (targets_of p)
 targets_nodes p fits = all_set IsNode (flat_map (λ u. stores_by u (changed_of u.x p)) p.used) (targets_are p p.used fits.used)
 
-servers_are : (us : List Used) → AllByRecursion UsedFits us → AllByRecursion IsAtMost (map (λ (u : Used). u.server) (filter (λ (u : Used). u.called) us))
+servers_are : (us : List Used) → AllByRecursion UsedFits us →
+    AllByRecursion IsAtMost (map (λ (u : Used). u.server) (filter (λ (u : Used). u.called) us))
 servers_are [] all = tt
 servers_are (u ∷ us) all = by u.called (servers_are us all.1)
   where

@@ -1,5 +1,6 @@
 -- The order of a commit, step by step.
-use Rattle.std.proofs.Common.{◌≡◌, ◌⊎◌, ℕ, ◌+◌, List, [], ◌∷◌, ◌++◌, Bool, true, false, not, ◌||◌, ◌&&◌, ◌==◌, nat_lt, if◌then◌else◌, map, refl, sym, ap, ◌∙◌, subst, arith, inl, inr}
+use Rattle.std.proofs.Common.{◌≡◌, ◌⊎◌, ℕ, ◌+◌, List, [], ◌∷◌, ◌++◌, Bool, true, false, not, ◌||◌, ◌&&◌, ◌==◌, nat_lt, if◌then◌else◌, map}
+use Rattle.std.proofs.Common.{refl, sym, ap, ◌∙◌, subst, arith, inl, inr}
 use Rattle.std.specs.List.{flat_map, find, list_any, list_all, AllByRecursion}
 use Rattle.std.specs.Ordering.{nat_cmp, match_ordering}
 use Rattle.std.specs.declared.cmp.Ordering.{Ordering}
@@ -15,10 +16,14 @@ use Rattle.arj_protocol.specs.Words.voted
 use Rattle.arj_protocol.specs.Words.prepared
 use Rattle.arj_protocol.specs.Words.confirmed
 use Rattle.arj_protocol.specs.Order.{has, with_number, without_number, number_set}
-use Rattle.arj_protocol.specs.Commit.{Plan, Used, Machine, Voting, Preparing, Stays, Asks, Decides, Aborts, Marked, start, servers_of, targets_of, states_for, marks_at, marks_store, marks_stores, stores_by, changed_of, is_marked, with_mark, with_marks, with_states, naming_node, participants, further, begin_confirm, begin_prepare, begin_vote, votes_left, stores_left}
+use Rattle.arj_protocol.specs.Commit.{Plan, Used, Machine, Voting, Preparing, Stays, Asks, Decides, Aborts, Marked, start, servers_of}
+use Rattle.arj_protocol.specs.Commit.{targets_of, states_for, marks_at, marks_store, marks_stores, stores_by, changed_of, is_marked}
+use Rattle.arj_protocol.specs.Commit.{with_mark, with_marks, with_states, naming_node, participants, further, begin_confirm, begin_prepare}
+use Rattle.arj_protocol.specs.Commit.{begin_vote, votes_left, stores_left}
 use Rattle.arj_commit.specs.Requests.{states_in}
 use Rattle.arj_commit.specs.Sets.{servers_in}
-use Rattle.arj_commit.specs.Runs.{Heard, Answer, GiveUp, DecidedBy, InOrder, IsFresh, Confirms, AllMarked, is_vote, is_of_store, is_ready, answers_of}
+use Rattle.arj_commit.specs.Runs.{Heard, Answer, GiveUp, DecidedBy, InOrder, IsFresh, Confirms, AllMarked, is_vote, is_of_store, is_ready}
+use Rattle.arj_commit.specs.Runs.{answers_of}
 
 -- ---- sets
 
@@ -44,7 +49,8 @@ has_with k (m ∷ ns) n = by (nat_cmp k m) refl (has_with k ns n)
     by : (o : Ordering) → nat_cmp k m ≡ o → has (with_number k ns) n ≡ ((k == n) || has ns n)
         → has (match_ordering o (k ∷ m ∷ ns) (m ∷ ns) (m ∷ with_number k ns)) n ≡ ((k == n) || ((m == n) || has ns n))
     by Less is rest = refl
-    by Equal is rest = ap (λ b. b || has ns n) (same_test k m n is) ∙ twice (k == n) (has ns n) ∙ ap (λ b. (k == n) || (b || has ns n)) (sym (same_test k m n is))
+    by Equal is rest =
+        ap (λ b. b || has ns n) (same_test k m n is) ∙ twice (k == n) (has ns n) ∙ ap (λ b. (k == n) || (b || has ns n)) (sym (same_test k m n is))
     by Greater is rest = ap (λ b. (m == n) || b) rest ∙ swap (m == n) (k == n) (has ns n)
 
 pub has_set : (ns : List ℕ) (n : ℕ) → has (number_set ns) n ≡ has ns n
@@ -73,7 +79,8 @@ gone : (n : ℕ) (ns : List ℕ) → has (without_number n ns) n ≡ false
 gone n [] = refl
 gone n (m ∷ ns) = by (m == n) refl (gone n ns)
   where
-    by : (b : Bool) → (m == n) ≡ b → has (without_number n ns) n ≡ false → has (if not b then m ∷ without_number n ns else without_number n ns) n ≡ false
+    by : (b : Bool) → (m == n) ≡ b → has (without_number n ns) n ≡ false →
+        has (if not b then m ∷ without_number n ns else without_number n ns) n ≡ false
     by true is rest = rest
     by false is rest = ap (λ b. b || has (without_number n ns) n) is ∙ rest
 
@@ -194,7 +201,8 @@ any_marks (m ∷ ms) all x s =
     ∙ swap (marked_in ms x s) (marks_it m x s) (marked_in all x s)
     ∙ sym (or_assoc (marks_it m x s) (marked_in ms x s) (marked_in all x s))
 
-weaker : (P Q : ObjectState → Type 0) → ((st : ObjectState) → P st → Q st) → (sts : List ObjectState) → AllByRecursion P sts → AllByRecursion Q sts
+weaker : (P Q : ObjectState → Type 0) → ((st : ObjectState) → P st → Q st) → (sts : List ObjectState) → AllByRecursion P sts →
+    AllByRecursion Q sts
 weaker P Q f [] all = tt
 weaker P Q f (st ∷ sts) all = (f st all.0, weaker P Q f sts all.1)
 
@@ -225,21 +233,24 @@ kept_marks [] p x s is = is
 kept_marks (t ∷ ts) p x s is = kept_marks ts (marks_store t p) x s (kept_mark t p x s is)
 
 -- the stores that are given up are marked for what they were sent
-given_marks : (ts : List ℕ) (p : Plan) (s : ℕ) → has ts s ≡ true → AllByRecursion (λ st. is_marked st.uid.num s (marks_stores ts p) ≡ true) (states_for s p)
+given_marks : (ts : List ℕ) (p : Plan) (s : ℕ) → has ts s ≡ true →
+    AllByRecursion (λ st. is_marked st.uid.num s (marks_stores ts p) ≡ true) (states_for s p)
 given_marks [] p s there = absurd (cc there)
 given_marks (t ∷ ts) p s there = by (t == s) refl there (given_marks ts (marks_store t p) s)
   where
     same : (t == s) ≡ true → t ≡ s
     same is = grind (arith, nat_tests, is)
 
-    kept : AllMarked t (marks_store t p) → AllByRecursion (λ st. is_marked st.uid.num t (marks_stores ts (marks_store t p)) ≡ true) (states_for t p)
+    kept : AllMarked t (marks_store t p) →
+        AllByRecursion (λ st. is_marked st.uid.num t (marks_stores ts (marks_store t p)) ≡ true) (states_for t p)
     kept all = weaker (λ st. is_marked st.uid.num t (marks_store t p) ≡ true) (λ st. is_marked st.uid.num t (marks_stores ts (marks_store t p)) ≡ true)
         (λ st is. kept_marks ts (marks_store t p) st.uid.num t is) (states_for t p) all
 
     by : (b : Bool) → (t == s) ≡ b → (b || has ts s) ≡ true
         → (has ts s ≡ true → AllByRecursion (λ st. is_marked st.uid.num s (marks_stores ts (marks_store t p)) ≡ true) (states_for s p))
         → AllByRecursion (λ st. is_marked st.uid.num s (marks_stores ts (marks_store t p)) ≡ true) (states_for s p)
-    by true is e rest = subst (λ k. AllByRecursion (λ st. is_marked st.uid.num k (marks_stores ts (marks_store t p)) ≡ true) (states_for k p)) (same is) (kept (all_marked t p))
+    by true is e rest =
+        subst (λ k. AllByRecursion (λ st. is_marked st.uid.num k (marks_stores ts (marks_store t p)) ≡ true) (states_for k p)) (same is) (kept (all_marked t p))
     by false is e rest = rest e
 
 marks_only : (ts : List ℕ) (p : Plan) → marks_stores ts p ≡ record p { excluded = let r = marks_stores ts p in r.excluded }
@@ -291,7 +302,8 @@ sent_same : (s : ℕ) (p q : Plan) → q.used ≡ p.used → q.changed ≡ p.cha
 sent_same s p q used changed = λ i. states_in s (changed i) (used i)
 
 after_yes : (from : ℕ) (left : List ℕ) (p q : Plan) (hs : List Heard)
-    → Stored (record p { prepared = with_number from p.prepared }) (without_number from left) hs q → Stored p left (Answer from (Reply.Prepared prepared.Yes) ∷ hs) q
+    → Stored (record p { prepared = with_number from p.prepared }) (without_number from left) hs q →
+    Stored p left (Answer from (Reply.Prepared prepared.Yes) ∷ hs) q
 after_yes from left p q hs t = record {
   stores = Answer from (Reply.Prepared prepared.Yes) ∷ t.stores;
   confirms = t.confirms;
@@ -312,7 +324,8 @@ after_yes from left p q hs t = record {
     ready s there true is = inl (t.prepared_grows s (has_with from p.prepared s ∙ left_true (from == s) _ is))
     ready s there false is = t.ready s (stays from s left is ∙ there)
 
-    first : (s : ℕ) → ((from == s) ≡ true) ⊎ (has p.prepared s ≡ true) → (has p.prepared s ≡ true) ⊎ (((from == s) || list_any (is_ready s) t.stores) ≡ true)
+    first : (s : ℕ) → ((from == s) ≡ true) ⊎ (has p.prepared s ≡ true) →
+        (has p.prepared s ≡ true) ⊎ (((from == s) || list_any (is_ready s) t.stores) ≡ true)
     first s (inl is) = inr (left_true (from == s) _ is)
     first s (inr is) = inl is
 
@@ -322,7 +335,8 @@ after_yes from left p q hs t = record {
     said s (inr is) = inr (right_true (from == s) _ is)
 
 after_busy : (from x : ℕ) (holder : Uid) (left : List ℕ) (p q : Plan) (hs : List Heard)
-    → Stored (marks_store from p) (without_number from left) hs q → Stored p left (Answer from (Reply.Prepared (prepared.InDoubt x holder)) ∷ hs) q
+    → Stored (marks_store from p) (without_number from left) hs q →
+    Stored p left (Answer from (Reply.Prepared (prepared.InDoubt x holder)) ∷ hs) q
 after_busy from x holder left p q hs t = record {
   stores = Answer from (Reply.Prepared (prepared.InDoubt x holder)) ∷ t.stores;
   confirms = t.confirms;
@@ -451,7 +465,8 @@ votes_go_on [] p q hs next d = polled_none p q hs d
 votes_go_on (n ∷ ns) p q hs next d = next d
 
 after_vote : (from : ℕ) (states : List ObjectState) (left : List ℕ) (p q : Plan) (hs : List Heard) → has left from ≡ true
-    → Polled (record p { changed = with_states states p.changed }) (without_number from left) hs q → Polled p left (Answer from (Reply.Voted (voted.Yes states)) ∷ hs) q
+    → Polled (record p { changed = with_states states p.changed }) (without_number from left) hs q →
+    Polled p left (Answer from (Reply.Voted (voted.Yes states)) ∷ hs) q
 after_vote from states left p q hs there t = record {
   votes = Answer from (Reply.Voted (voted.Yes states)) ∷ t.votes;
   rest = t.rest;
@@ -472,7 +487,8 @@ after_vote from states left p q hs there t = record {
     once : (s : ℕ) (b : Bool) → (from == s) ≡ b
         → (if from == s then 1 + answers_of s t.votes else answers_of s t.votes) ≡ (if has left s then 1 else 0)
     once s true is =
-        let none : has (without_number from left) s ≡ false = subst (λ n. has (without_number from left) n ≡ false) (same s is) (gone from left) in
+        let none : has (without_number from left) s ≡ false =
+        subst (λ n. has (without_number from left) n ≡ false) (same s is) (gone from left) in
         let had : has left s ≡ true = subst (λ n. has left n ≡ true) (same s is) there in
         (λ i. if is i then 1 + answers_of s t.votes else answers_of s t.votes)
         ∙ ap (λ n. 1 + n) (t.once s ∙ (λ i. if none i then 1 else 0))
@@ -519,7 +535,8 @@ from_votes (s ∷ ss) p q hs d =
 abbrev targets_by : List ObjectState → List Used → List ℕ
 targets_by changed used = number_set (flat_map (λ u. stores_by u (find (λ s. uid_eq s.uid (object u.x)) changed)) used)
 
-pub in_order : (p q : Plan) (heard : List Heard) → IsFresh p → (let begun : Marked = start p in DecidedBy heard begun.step q) → InOrder p heard q
+pub in_order : (p q : Plan) (heard : List Heard) → IsFresh p → (let begun : Marked = start p in DecidedBy heard begun.step q) →
+    InOrder p heard q
 in_order p q heard fresh d = record {
   votes = v.votes;
   stores = t.stores;

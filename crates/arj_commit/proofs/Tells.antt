@@ -15,7 +15,8 @@ use Rattle.arj_commit.specs.Steps.{voting, preparing}
 use Rattle.arj_commit.specs.Tolds.{sent_to, told_to, told_by, tolds, tolds_again}
 
 fused : (p : Plan) (m : Machine) (ns : List ℕ)
-    → map {A = ℕ} {B = ℕ × Message} (λ n. asked_of p (n, ask_of m n)) ns ≡ map {A = ℕ × Ask} {B = ℕ × Message} (asked_of p) (map {A = ℕ} {B = ℕ × Ask} (λ n. (n, ask_of m n)) ns)
+    → map {A = ℕ} {B = ℕ × Message} (λ n. asked_of p (n, ask_of m n)) ns ≡ map {A = ℕ × Ask} {B =
+    ℕ × Message} (asked_of p) (map {A = ℕ} {B = ℕ × Ask} (λ n. (n, ask_of m n)) ns)
 fused p m [] = refl
 fused p m (n ∷ ns) = ap (λ rest. asked_of p (n, ask_of m n) ∷ rest) (fused p m ns)
 
@@ -31,7 +32,8 @@ told_one p n true = refl
 told_one p n false = refl
 
 pub told_first : (p : Plan) (sent : List ℕ)
-    → map {A = ℕ × Message} {B = Effect} sent_to (tolds p sent (participants p) (has_record p)) ≡ map (decided_told (root_of p.path) (actor p.path) p) sent
+    → map {A = ℕ × Message} {B =
+    Effect} sent_to (tolds p sent (participants p) (has_record p)) ≡ map (decided_told (root_of p.path) (actor p.path) p) sent
 told_first p [] = refl
 told_first p (n ∷ ns) = λ i. told_one p n (has (participants p) n) i ∷ told_first p ns i
 

@@ -5,7 +5,8 @@ use Rattle.arj_protocol.specs.Ask.{Reply, ask_kind, reply_kind}
 use Rattle.arj_protocol.specs.Words.voted
 use Rattle.arj_protocol.specs.Words.prepared
 use Rattle.arj_protocol.specs.Words.confirmed
-use Rattle.arj_protocol.specs.Commit.{Plan, Used, Machine, CommitStep, Stays, Asks, Decides, left_of, ask_of, answered, given_up, servers_of, targets_of, states_for, is_marked}
+use Rattle.arj_protocol.specs.Commit.{Plan, Used, Machine, CommitStep, Stays, Asks, Decides, left_of, ask_of, answered, given_up}
+use Rattle.arj_protocol.specs.Commit.{servers_of, targets_of, states_for, is_marked}
 use Rattle.arj_protocol.specs.Order.{has}
 
 -- ---- what a commit hears

@@ -6,7 +6,8 @@ use Rattle.arj_msg.specs.declared.message.Asked.{Asked}
 use Rattle.arj_msg.specs.declared.message.Message.{Message}
 use Rattle.arj_protocol.specs.Ask.{Reply, actor, answers}
 use Rattle.arj_protocol.specs.Asking.{waits_for_commit}
-use Rattle.arj_protocol.specs.Commit.{Plan, Machine, Voting, Preparing, Confirming, CommitStep, Stays, Asks, Decides, Aborts, Marked, plainly, plan_of, answered, participants, has_record}
+use Rattle.arj_protocol.specs.Commit.{Plan, Machine, Voting, Preparing, Confirming, CommitStep, Stays, Asks, Decides, Aborts, Marked}
+use Rattle.arj_protocol.specs.Commit.{plainly, plan_of, answered, participants, has_record}
 use Rattle.arj_commit.specs.Awaiting.{Awaiting}
 use Rattle.arj_commit.specs.Fits.{IsNode}
 use Rattle.arj_commit.specs.declared.next.Next.{Next}

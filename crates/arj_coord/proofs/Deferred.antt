@@ -19,16 +19,21 @@ apart : (u w : Uid) (o : Ordering) → uid_order u w ≡ o → is_eq o ≡ false
 apart u w o is isnt = by (uid_eq w u) refl
   where
     by : (t : Bool) → uid_eq w u ≡ t → t ≡ false
-    by true same = let equal : w ≡ u = uid_is w u same in let never : true ≡ false = ap is_eq (sym (order_itself u) ∙ ap (uid_order u) (sym equal) ∙ is) ∙ isnt in never
+    by true same =
+        let equal : w ≡ u =
+        uid_is w u same in let never : true ≡ false = ap is_eq (sym (order_itself u) ∙ ap (uid_order u) (sym equal) ∙ is) ∙ isnt in never
     by false same = refl
 
 -- where none of these is of the top, all count
-all_count : (u root : Uid) (n : ℕ) (es : List (Uid × Intent)) → AllByRecursion (λ w. uid_order u w ≡ Less) (keys_of es) → list_any (is_member_of root n) es ≡ deferred_but u root n es
+all_count : (u root : Uid) (n : ℕ) (es : List (Uid × Intent)) → AllByRecursion (λ w. uid_order u w ≡ Less) (keys_of es) →
+    list_any (is_member_of root n) es ≡ deferred_but u root n es
 all_count u root n [] below = refl
-all_count u root n (e ∷ es) below = rw (apart u e.0 Less below.0 refl) (ap (λ r. is_member_of root n e || r) (all_count u root n es below.1))
+all_count u root n (e ∷ es) below =
+    rw (apart u e.0 Less below.0 refl) (ap (λ r. is_member_of root n e || r) (all_count u root n es below.1))
 
 -- without the record of a top
-pub deferred_is : (u root : Uid) (n : ℕ) (es : List (Uid × Intent)) → IsStrictlySortedBy uid_order (keys_of es) → is_deferred root (without_uid u es) n ≡ deferred_but u root n es
+pub deferred_is : (u root : Uid) (n : ℕ) (es : List (Uid × Intent)) → IsStrictlySortedBy uid_order (keys_of es) →
+    is_deferred root (without_uid u es) n ≡ deferred_but u root n es
 unfolding IsStrictlySortedBy
 deferred_is u root n [] sorted = refl
 deferred_is u root n (e ∷ es) sorted = by (uid_order u e.0) refl (deferred_is u root n es sorted.1)

@@ -19,10 +19,12 @@ get_set (suc k) w d (e ∷ ds) at = get_set k w d ds at
 pub doings_at_once : (u : Uid) (f g : Doing → Doing) (c : Coord) → on_doing u f (on_doing u g c) ≡ on_doing u (λ d. f (g d)) c
 doings_at_once u f g c = by (is_own u c.tree) refl
   where
-    here : (k : ℕ) (o : Option Doing) → at_place k c.doings ≡ o → u.num ≡ k → is_own u c.tree ≡ true → on_doing u f (change_doing g u c o) ≡ change_doing (λ d. f (g d)) u c o
+    here : (k : ℕ) (o : Option Doing) → at_place k c.doings ≡ o → u.num ≡ k → is_own u c.tree ≡ true →
+        on_doing u f (change_doing g u c o) ≡ change_doing (λ d. f (g d)) u c o
     here k None at num own = rw (own, num, at) refl
     here zero (Some d) at num own = absurd (cc at)
-    here (suc k) (Some d) at num own = rw (own, num, get_set k (g d) d c.doings at) (ap (λ ds. record c { doings = ds }) (set_twice k (f (g d)) (g d) c.doings))
+    here (suc k) (Some d) at num own =
+        rw (own, num, get_set k (g d) d c.doings at) (ap (λ ds. record c { doings = ds }) (set_twice k (f (g d)) (g d) c.doings))
 
     by : (t : Bool) → is_own u c.tree ≡ t → on_doing u f (on_doing u g c) ≡ on_doing u (λ d. f (g d)) c
     by true own = rw own (here u.num (at_place u.num c.doings) refl refl own)

@@ -1,11 +1,13 @@
 -- What is asked of all actions, asked of those that wait.
-use Rattle.std.proofs.Common.{◌≡◌, ℕ, ◌+◌, ◌==◌, zero, suc, List, [], ◌∷◌, Bool, true, false, not, ◌&&◌, ◌||◌, refl, ap, sym, ◌∙◌, Option, Some, None, arith, filter, if◌then◌else◌}
+use Rattle.std.proofs.Common.{◌≡◌, ℕ, ◌+◌, ◌==◌, zero, suc, List, [], ◌∷◌, Bool, true, false, not, ◌&&◌, ◌||◌, refl, ap, sym, ◌∙◌, Option}
+use Rattle.std.proofs.Common.{Some, None, arith, filter, if◌then◌else◌}
 use Rattle.std.proofs.lemmas.Bool.Decides.{nat_tests}
 use Rattle.std.specs.List.{list_any}
 use Rattle.std.specs.Prelude.{slice_get}
 use Rattle.arj_coord.specs.Waiting.{waiting, passes, waits_so, passes_at, any_passes, is_other, is_other_constituent}
 use Rattle.arj_protocol.specs.Ask.{actor}
-use Rattle.arj_protocol.specs.Coord.{Coord, Doing, Now, Idle, Calling, Committing, doing_of, of_root, calls_on, calls_now, branch_calls, others_call}
+use Rattle.arj_protocol.specs.Coord.{Coord, Doing, Now, Idle, Calling, Committing, doing_of, of_root, calls_on, calls_now, branch_calls}
+use Rattle.arj_protocol.specs.Coord.{others_call}
 use Rattle.arj_protocol.specs.Step.{is_waiting_now, is_waiting, waits, is_committing_now, is_committing, is_sibling}
 use Rattle.arj_protocol.specs.Tree.{Branch, at_place, is_open_below, root_of}
 use Rattle.arj_protocol.specs.Words.{Uid, uid_eq}
@@ -52,24 +54,29 @@ pub record Asks (test : Now → Bool) (asked : Option Doing → Bool) : Type 0 w
   pub some : (d : Doing) → asked (Some d) ≡ test d.now
 
 -- where there are no more actions none passes
-none_pass : (c : Coord) (on : Branch → Bool) (test : Now → Bool) (n : ℕ) (ds : List Doing) → AreFrom n c.tree.branches [] → false ≡ any_passes on test c (waiting n ds)
+none_pass : (c : Coord) (on : Branch → Bool) (test : Now → Bool) (n : ℕ) (ds : List Doing) → AreFrom n c.tree.branches [] →
+    false ≡ any_passes on test c (waiting n ds)
 none_pass c on test n [] none = refl
 none_pass c on test n (d ∷ ds) none = by (is_waiting_now d.now) (none_pass c on test (n + 1) ds (none_from n c.tree.branches none))
   where
     gone : passes_at on test c n ≡ false
     gone = ap (λ o. passes on o && waits_so test (at_place n c.doings)) (empty_from n c.tree.branches none)
 
-    by : (t : Bool) → false ≡ any_passes on test c (waiting (n + 1) ds) → false ≡ any_passes on test c (if t then n ∷ waiting (n + 1) ds else waiting (n + 1) ds)
+    by : (t : Bool) → false ≡ any_passes on test c (waiting (n + 1) ds) →
+        false ≡ any_passes on test c (if t then n ∷ waiting (n + 1) ds else waiting (n + 1) ds)
     by true ih = ih ∙ ap (λ b. b || any_passes on test c (waiting (n + 1) ds)) (sym gone)
     by false ih = ih
 
 -- the actions from a place on, with what they wait for, are asked as those of them that wait
-beside : (c : Coord) (on : Branch → Bool) (test : Now → Bool) (asked : Option Doing → Bool) → Asks test asked → OfWaiting test → (n : ℕ) (bs : List Branch) (ds : List Doing)
-    → AreFrom n c.tree.branches bs → AreFrom n c.doings ds → AreNamed c.tree.node c.tree.inc n bs → list_any (λ b. on b && asked (doing_of (actor b.path) c)) bs ≡ any_passes on test c (waiting n ds)
+beside : (c : Coord) (on : Branch → Bool) (test : Now → Bool) (asked : Option Doing → Bool) → Asks test asked → OfWaiting test →
+    (n : ℕ) (bs : List Branch) (ds : List Doing)
+    → AreFrom n c.tree.branches bs → AreFrom n c.doings ds → AreNamed c.tree.node c.tree.inc n bs →
+    list_any (λ b. on b && asked (doing_of (actor b.path) c)) bs ≡ any_passes on test c (waiting n ds)
 beside c on test asked asks idle n [] ds bs_are ds_are named = none_pass c on test n ds bs_are
 beside c on test asked asks idle n (b ∷ bs) [] bs_are ds_are named =
     let found : doing_of (actor b.path) c ≡ None = doing_at c (actor b.path) n named.0 ∙ empty_from n c.doings ds_are in
-    let here : (on b && asked (doing_of (actor b.path) c)) ≡ false = ap (λ o. on b && asked o) found ∙ ap (λ t. on b && t) asks.none ∙ and_false (on b) in
+    let here : (on b && asked (doing_of (actor b.path) c)) ≡ false =
+    ap (λ o. on b && asked o) found ∙ ap (λ t. on b && t) asks.none ∙ and_false (on b) in
     ap (λ t. t || list_any (λ b. on b && asked (doing_of (actor b.path) c)) bs) here
     ∙ beside c on test asked asks idle (n + 1) bs [] (next_from n c.tree.branches bs b bs_are) (none_from n c.doings ds_are) named.1.1
 beside c on test asked asks idle n (b ∷ bs) (d ∷ ds) bs_are ds_are named =
@@ -87,15 +94,18 @@ beside c on test asked asks idle n (b ∷ bs) (d ∷ ds) bs_are ds_are named =
     there : passes_at on test c n ≡ (on b && test d.now)
     there = λ i. passes on (first_from n c.tree.branches bs b bs_are i) && waits_so test (first_from n c.doings ds d ds_are i)
 
-    by : (t : Bool) → is_waiting_now d.now ≡ t → list_any (λ b. on b && asked (doing_of (actor b.path) c)) bs ≡ any_passes on test c (waiting (n + 1) ds)
+    by : (t : Bool) → is_waiting_now d.now ≡ t →
+        list_any (λ b. on b && asked (doing_of (actor b.path) c)) bs ≡ any_passes on test c (waiting (n + 1) ds)
         → ((on b && asked (doing_of (actor b.path) c)) || list_any (λ b. on b && asked (doing_of (actor b.path) c)) bs) ≡ any_passes on test c (if t then n ∷ waiting (n + 1) ds else waiting (n + 1) ds)
     by true is ih = (λ i. here i || ih i) ∙ ap (λ t. t || any_passes on test c (waiting (n + 1) ds)) (sym there)
     by false is ih = λ i. idle_here is i || ih i
 
 -- all actions with what they wait for are asked as those that wait
-pub asked_of : (c : Coord) (on : Branch → Bool) (test : Now → Bool) (asked : Option Doing → Bool) → Asks test asked → OfWaiting test → AreNamed c.tree.node c.tree.inc 1 c.tree.branches
+pub asked_of : (c : Coord) (on : Branch → Bool) (test : Now → Bool) (asked : Option Doing → Bool) → Asks test asked → OfWaiting test →
+    AreNamed c.tree.node c.tree.inc 1 c.tree.branches
     → list_any (λ b. on b && asked (doing_of (actor b.path) c)) c.tree.branches ≡ any_passes on test c (waiting 1 c.doings)
-asked_of c on test asked asks idle named = beside c on test asked asks idle 1 c.tree.branches c.doings (all_from c.tree.branches) (all_from c.doings) named
+asked_of c on test asked asks idle named =
+    beside c on test asked asks idle 1 c.tree.branches c.doings (all_from c.tree.branches) (all_from c.doings) named
 
 -- ---- the questions
 
@@ -122,16 +132,19 @@ calls_idle x (Calling s) is = absurd (cc is)
 calls_idle x (Committing m) is = refl
 
 -- one that passes among those that pass another test
-any_within : {A : Type 0} (on test both : A → Bool) (items : List A) → ((a : A) → (test a && on a) ≡ both a) → list_any on (filter test items) ≡ list_any both items
+any_within : {A : Type 0} (on test both : A → Bool) (items : List A) → ((a : A) → (test a && on a) ≡ both a) →
+    list_any on (filter test items) ≡ list_any both items
 any_within on test both [] same = refl
 any_within {A} on test both (a ∷ items) same = by (test a) refl (any_within on test both items same)
   where
-    by : (t : Bool) → test a ≡ t → list_any on (filter test items) ≡ list_any both items → list_any on (if t then a ∷ filter test items else filter test items) ≡ (both a || list_any both items)
+    by : (t : Bool) → test a ≡ t → list_any on (filter test items) ≡ list_any both items →
+        list_any on (if t then a ∷ filter test items else filter test items) ≡ (both a || list_any both items)
     by true is ih = (λ i. (ap (λ t. t && on a) (sym is) ∙ same a) i || ih i)
     by false is ih = ih ∙ ap (λ t. t || list_any both items) (ap (λ t. t && on a) (sym is) ∙ same a)
 
 -- whether an open descendant waits
-pub waits_below_is : (c : Coord) (u : Uid) (b : Bool) → AreNamed c.tree.node c.tree.inc 1 c.tree.branches → b ≡ any_passes (is_open_below u) is_waiting_now c (waiting 1 c.doings)
+pub waits_below_is : (c : Coord) (u : Uid) (b : Bool) → AreNamed c.tree.node c.tree.inc 1 c.tree.branches →
+    b ≡ any_passes (is_open_below u) is_waiting_now c (waiting 1 c.doings)
     → b ≡ list_any (λ w. is_open_below u w && waits c (actor w.path)) c.tree.branches
 waits_below_is c u b named is = is ∙ sym (asked_of c (is_open_below u) is_waiting_now is_waiting waits_asks waits_idle named)
 
@@ -151,7 +164,8 @@ sibling_is c w b named is =
     moved false q r s = refl
 
 -- whether another action of the root calls the object
-pub others_are : (c : Coord) (root but : Uid) (x : ℕ) (b : Bool) → AreNamed c.tree.node c.tree.inc 1 c.tree.branches → b ≡ any_passes (is_other root but) (calls_on x) c (waiting 1 c.doings) → b ≡ others_call root but x c
+pub others_are : (c : Coord) (root but : Uid) (x : ℕ) (b : Bool) → AreNamed c.tree.node c.tree.inc 1 c.tree.branches →
+    b ≡ any_passes (is_other root but) (calls_on x) c (waiting 1 c.doings) → b ≡ others_call root but x c
 others_are c root but x b named is =
     is ∙ sym (any_within (branch_calls x but c) (of_root root) (λ v. is_other root but v && calls_now x (doing_of (actor v.path) c)) c.tree.branches
     (λ v. moved (of_root root v) (not (uid_eq (actor v.path) but)) (calls_now x (doing_of (actor v.path) c)))

@@ -11,17 +11,20 @@ use Rattle.arj_tree.specs.Stands.{parent_in}
 use Rattle.arj_coord.specs.Waiting.{changed_at, changed_by, now_in}
 
 -- an action at a place that was changed
-pub changed_is : (f : Doing → Doing) (k number : ℕ) (ds : List Doing) (c d : Doing) → slice_get ds k ≡ Some c → number ≡ suc k → d ≡ f c → slice_set ds k d ≡ changed_at number f ds
+pub changed_is : (f : Doing → Doing) (k number : ℕ) (ds : List Doing) (c d : Doing) → slice_get ds k ≡ Some c → number ≡ suc k → d ≡ f c →
+    slice_set ds k d ≡ changed_at number f ds
 changed_is f k number ds c d at number_is is = ap (slice_set ds k) is ∙ (rw (number_is, at) refl)
 
 -- what was read at a place stands there
 pub read_at : (ds shown : List Doing) (k : ℕ) (d : Doing) → ds ≡ shown → k < length shown → d ≡ get_or ds k d → slice_get ds k ≡ Some d
 read_at ds shown k d same within read = slice_get_read ds (length ds) k d refl (subst (λ ds. k < length ds) (sym same) within) read
 
-pub read_shown : (ds shown : List Doing) (k : ℕ) (d : Doing) → ds ≡ shown → k < length shown → d ≡ get_or ds k d → slice_get shown k ≡ Some d
+pub read_shown : (ds shown : List Doing) (k : ℕ) (d : Doing) → ds ≡ shown → k < length shown → d ≡ get_or ds k d →
+    slice_get shown k ≡ Some d
 read_shown ds shown k d same within read = ap (λ ds. slice_get ds k) (sym same) ∙ read_at ds shown k d same within read
 
-pub read_number : (ds shown : List Doing) (k number : ℕ) (d : Doing) → ds ≡ shown → k < length shown → d ≡ get_or ds k d → number ≡ suc k → at_place number shown ≡ Some d
+pub read_number : (ds shown : List Doing) (k number : ℕ) (d : Doing) → ds ≡ shown → k < length shown → d ≡ get_or ds k d → number ≡ suc k →
+    at_place number shown ≡ Some d
 read_number ds shown k number d same within read is = ap (λ m. at_place m shown) is ∙ read_shown ds shown k d same within read
 
 -- nothing changes where there is no action
@@ -41,7 +44,8 @@ named_is None c = refl
 named_is (Some k) c = numbered_is k c.tree
 
 -- an action of this node that changed
-pub own_changed : (u : Uid) (f : Doing → Doing) (c : Coord) → is_own u c.tree ≡ true → record c { doings = changed_at u.num f c.doings } ≡ on_doing u f c
+pub own_changed : (u : Uid) (f : Doing → Doing) (c : Coord) → is_own u c.tree ≡ true →
+    record c { doings = changed_at u.num f c.doings } ≡ on_doing u f c
 own_changed u f c own = rw own (by (at_place u.num c.doings))
   where
     by : (o : Option Doing) → record c { doings = changed_by f u.num c.doings o } ≡ change_doing f u c o

@@ -29,14 +29,18 @@ slot_same Incarnation Incarnation e = refl
 slot_same Tmp Tmp e = refl
 slot_same (Committed u) (Committed w) e = ap Committed (uid_is u w e)
 slot_same (Shadow u) (Shadow w) e = ap Shadow (uid_is u w e)
-slot_same (Prepared r u) (Prepared s w) e = let both = and_parts (is_role r s) (uid_eq u w) e in λ i. Prepared (role_same r s both.0 i) (uid_is u w both.1 i)
+slot_same (Prepared r u) (Prepared s w) e =
+    let both = and_parts (is_role r s) (uid_eq u w) e in λ i. Prepared (role_same r s both.0 i) (uid_is u w both.1 i)
 slot_same (Intent u) (Intent w) e = ap Intent (uid_is u w e)
-slot_same (Pending r u) (Pending s w) e = let both = and_parts (is_role r s) (uid_eq u w) e in λ i. Pending (role_same r s both.0 i) (uid_is u w both.1 i)
-slot_same (Segment r j) (Segment s k) e = let both = and_parts (is_role r s) (j == k) e in λ i. Segment (role_same r s both.0 i) (eqb-true j k both.1 i)
+slot_same (Pending r u) (Pending s w) e =
+    let both = and_parts (is_role r s) (uid_eq u w) e in λ i. Pending (role_same r s both.0 i) (uid_is u w both.1 i)
+slot_same (Segment r j) (Segment s k) e =
+    let both = and_parts (is_role r s) (j == k) e in λ i. Segment (role_same r s both.0 i) (eqb-true j k both.1 i)
 slot_same a b e = cc
 
 -- a file that gets its own name stays
-pub renamed_itself : (old new : FileMap) (from to : Slot) (bytes : List ℕ) → from ≡ to → old from ≡ Some bytes → Writes old new to bytes → Renames old new from to
+pub renamed_itself : (old new : FileMap) (from to : Slot) (bytes : List ℕ) → from ≡ to → old from ≡ Some bytes → Writes old new to bytes →
+    Renames old new from to
 renamed_itself old new from to bytes same is written = record {
   here = written.here ∙ sym is;
   gone = λ other. absurd (other same);

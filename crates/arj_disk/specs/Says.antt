@@ -1,6 +1,7 @@
 -- What a disk says: whose each file is, the records of commits, and the incarnation. What it says of committed and
 -- prepared states is the object store's, which has a reading of its own.
-use Rattle.std.specs.Prelude.{◌≡◌, ◌≢◌, ◌==◌, ◌&&◌, ℕ, zero, suc, Bool, true, false, List, [], ◌∷◌, take, drop, get_or, Option, None, Some, IsSome, IsSomeAnd, option_map, unwrap_or, if◌then◌else◌}
+use Rattle.std.specs.Prelude.{◌≡◌, ◌≢◌, ◌==◌, ◌&&◌, ℕ, zero, suc, Bool, true, false, List, [], ◌∷◌, take, drop, get_or, Option, None, Some}
+use Rattle.std.specs.Prelude.{IsSome, IsSomeAnd, option_map, unwrap_or, if◌then◌else◌}
 use Rattle.std.specs.Int.{w32, w64, from_be_bytes}
 use Rattle.std.specs.Map.{lookup}
 use Rattle.arj_base.specs.declared.uid.Uid.{Uid}
@@ -43,7 +44,13 @@ SameOfRole role old new = (q : Slot) → slot_role q ≡ Some role → new q ≡
 
 -- the Uid in the first 16 of these bytes
 abbrev pub uid_in : List ℕ → Uid
-uid_in bytes = record { node = from_be_bytes w32 (take 4 bytes); inc = from_be_bytes w32 (take 4 (drop 4 bytes)); num = from_be_bytes w64 (take 8 (drop 8 bytes)) }
+uid_in bytes =
+    record {
+      node = from_be_bytes w32 (take 4 bytes);
+      inc = from_be_bytes w32 (take 4 (drop 4 bytes));
+      num =
+          from_be_bytes w64 (take 8 (drop 8 bytes));
+    }
 
 -- the first n Uids of these bytes, one behind the other
 abbrev pub uids_in : ℕ → List ℕ → List Uid
@@ -57,7 +64,12 @@ pub record Record : Type 0 where
 
 -- the record of each decided top that isn't acknowledged by all
 abbrev pub records : FileMap → Uid → Option Record
-records file top = option_map (λ bytes. record { root = uid_in (take 16 (drop 4 bytes)); nodes = take (get_or bytes 36 0) (drop 37 bytes) }) (file (Intent top))
+records file top =
+    option_map (λ bytes. record {
+      root = uid_in (take 16 (drop 4 bytes));
+      nodes =
+          take (get_or bytes 36 0) (drop 37 bytes);
+    }) (file (Intent top))
 
 -- how often the node was started
 abbrev pub inc : FileMap → ℕ

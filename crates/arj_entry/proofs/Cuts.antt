@@ -15,13 +15,15 @@ cut_once xs ys us vs same =
     )
 
 -- what stands behind the servers of an entry's payload
-pub stores_behind : (w : Entry) (servers behind payload : List ℕ) → payload ≡ nodes_bytes servers ++ behind → entry_payload w ≡ payload → (w.servers ≡ servers) × (nodes_bytes w.stores ++ [] ≡ behind)
+pub stores_behind : (w : Entry) (servers behind payload : List ℕ) → payload ≡ nodes_bytes servers ++ behind → entry_payload w ≡ payload →
+    (w.servers ≡ servers) × (nodes_bytes w.stores ++ [] ≡ behind)
 stores_behind w servers behind payload cut same =
     let both = cut_once w.servers servers (nodes_bytes w.stores) behind (same ∙ cut) in
     (both.0, append-nil (nodes_bytes w.stores) ∙ both.1)
 
 -- the whole of an entry's payload
-pub entry_once : (w : Entry) (servers stores behind rest payload : List ℕ) → payload ≡ nodes_bytes servers ++ behind → behind ≡ nodes_bytes stores ++ rest → entry_payload w ≡ payload
+pub entry_once : (w : Entry) (servers stores behind rest payload : List ℕ) → payload ≡ nodes_bytes servers ++ behind →
+    behind ≡ nodes_bytes stores ++ rest → entry_payload w ≡ payload
     → (w.servers ≡ servers) × (w.stores ≡ stores) × ([] ≡ rest)
 entry_once w servers stores behind rest payload cut cut' same =
     let first = stores_behind w servers behind payload cut same in

@@ -1,8 +1,10 @@
 -- The draws that wrap, and accounts and transfers one by one.
-use Rattle.std.proofs.Common.{◌≡◌, ◌≤◌, ℕ, zero, suc, length, length-append, codes, ◌+◌, ◌*◌, ◌%◌, List, [], ◌∷◌, ◌++◌, refl, ap, true, arith}
+use Rattle.std.proofs.Common.{◌≡◌, ◌≤◌, ℕ, zero, suc, length, length-append, codes, ◌+◌, ◌*◌, ◌%◌, List, [], ◌∷◌, ◌++◌, refl, ap, true}
+use Rattle.std.proofs.Common.{arith}
 use Rattle.std.proofs.Math.Nat.{mod-add-mod}
 use Rattle.std.proofs.Math.Numerals.{add-one}
-use Rattle.arj_gen.specs.Bank.{account_line, accounts, bank_header, behind_four, crashes, event_lines, giving, lines_of_first, loses, next_state, state_behind, transfer_from, transfer_lines}
+use Rattle.arj_gen.specs.Bank.{account_line, accounts, bank_header, behind_four, crashes, event_lines, giving, lines_of_first, loses}
+use Rattle.arj_gen.specs.Bank.{next_state, state_behind, transfer_from, transfer_lines}
 use Rattle.arj_gen.specs.declared.bank.TheConstants.{EVENTS}
 use Rattle.arj_journal.specs.ScriptForm.{HeaderInForm, ObjectLineInForm}
 use Rattle.arj_text.specs.Fields.{are_nodes}
@@ -41,7 +43,8 @@ all_counted n =
     let all : lines_of 200 ≡ 1626 = refl in
     omega (arith, before, more, all)
 
-fit : (x : ℕ) → 1 ≤ x → x ≤ 256 → (let o = account_line x in are_nodes 5 4 o.servers) ≡ true → (let o = account_line x in are_nodes 5 16 o.stores) ≡ true → ObjectLineInForm 5 (account_line x)
+fit : (x : ℕ) → 1 ≤ x → x ≤ 256 → (let o = account_line x in are_nodes 5 4 o.servers) ≡ true →
+    (let o = account_line x in are_nodes 5 16 o.stores) ≡ true → ObjectLineInForm 5 (account_line x)
 fit x least most servers stores = record { number = (least, most); value = omega arith; servers = servers; stores = stores }
 
 pub bank_fits : HeaderInForm bank_header

@@ -21,7 +21,8 @@ all_append (e ∷ a) b first more = (first.0, all_append a b first.1 more)
 pub says_none : (a : List Event) → SaysMore a a []
 says_none a = record { texts = sym (append-nil (map event_text a)); form = λ h. h }
 
-pub says_one : (a : List Event) (b : List Event) (e : Event) (line : List ℕ) → b ≡ a ++ e ∷ [] → EventInForm e → event_text e ≡ line → SaysMore a b (line ∷ [])
+pub says_one : (a : List Event) (b : List Event) (e : Event) (line : List ℕ) → b ≡ a ++ e ∷ [] → EventInForm e → event_text e ≡ line →
+    SaysMore a b (line ∷ [])
 says_one a b e line is form text = record {
   texts = ap (map event_text) is ∙ (map-append event_text a (e ∷ []) ∙ ap (λ l. map event_text a ++ l ∷ []) text);
   form = λ h. subst (AllByRecursion EventInForm) (sym is) (all_append a (e ∷ []) h (form, tt));
@@ -34,17 +35,22 @@ says_more a b c l m first more = record {
 }
 
 -- the texts of a transfer's events
-pub begin_says : (l : Label) (i n : ℕ) → name l ≡ tag i → event_text (event.Begin l n) ≡ codes "begin " ++ (tag i ++ (codes " at " ++ decimal n))
+pub begin_says : (l : Label) (i n : ℕ) → name l ≡ tag i →
+    event_text (event.Begin l n) ≡ codes "begin " ++ (tag i ++ (codes " at " ++ decimal n))
 begin_says l i n is = ap (λ bytes. event_begin bytes n) is
   where
     event_begin : List ℕ → ℕ → List ℕ
     event_begin bytes n = (codes "begin" ++ (codes " " ++ bytes)) ++ (codes " at" ++ (codes " " ++ decimal n))
 
-pub withdraw_says : (l : Label) (i x m : ℕ) → name l ≡ tag i → event_text (event.Call l x (op.Withdraw m)) ≡ codes "call " ++ (tag i ++ (codes " " ++ (decimal x ++ (codes " withdraw " ++ decimal m))))
-withdraw_says l i x m is = ap (λ bytes. (codes "call" ++ (codes " " ++ bytes)) ++ ((codes " " ++ decimal x) ++ (codes " " ++ (codes "withdraw" ++ (codes " " ++ decimal m))))) is
+pub withdraw_says : (l : Label) (i x m : ℕ) → name l ≡ tag i →
+    event_text (event.Call l x (op.Withdraw m)) ≡ codes "call " ++ (tag i ++ (codes " " ++ (decimal x ++ (codes " withdraw " ++ decimal m))))
+withdraw_says l i x m is =
+    ap (λ bytes. (codes "call" ++ (codes " " ++ bytes)) ++ ((codes " " ++ decimal x) ++ (codes " " ++ (codes "withdraw" ++ (codes " " ++ decimal m))))) is
 
-pub deposit_says : (l : Label) (i x m : ℕ) → name l ≡ tag i → event_text (event.Call l x (op.Deposit m)) ≡ codes "call " ++ (tag i ++ (codes " " ++ (decimal x ++ (codes " deposit " ++ decimal m))))
-deposit_says l i x m is = ap (λ bytes. (codes "call" ++ (codes " " ++ bytes)) ++ ((codes " " ++ decimal x) ++ (codes " " ++ (codes "deposit" ++ (codes " " ++ decimal m))))) is
+pub deposit_says : (l : Label) (i x m : ℕ) → name l ≡ tag i →
+    event_text (event.Call l x (op.Deposit m)) ≡ codes "call " ++ (tag i ++ (codes " " ++ (decimal x ++ (codes " deposit " ++ decimal m))))
+deposit_says l i x m is =
+    ap (λ bytes. (codes "call" ++ (codes " " ++ bytes)) ++ ((codes " " ++ decimal x) ++ (codes " " ++ (codes "deposit" ++ (codes " " ++ decimal m))))) is
 
 pub commit_says : (l : Label) (i : ℕ) → name l ≡ tag i → event_text (event.Commit l) ≡ codes "commit " ++ tag i
 commit_says l i is = ap (λ bytes. codes "commit" ++ (codes " " ++ bytes)) is

@@ -34,7 +34,8 @@ transfer_by first second third fourth = record {
 
 -- the transfer that is drawn from this state
 abbrev pub transfer_from : ℕ → Transfer
-transfer_from s = transfer_by (drawn s) (drawn (next_state s)) (drawn (next_state (next_state s))) (drawn (next_state (next_state (next_state s))))
+transfer_from s =
+    transfer_by (drawn s) (drawn (next_state s)) (drawn (next_state (next_state s))) (drawn (next_state (next_state (next_state s))))
 
 -- the label of a transfer
 abbrev pub tag : ℕ → List ℕ

@@ -61,7 +61,8 @@ module _ {X : Type 0} where
   other u e es isnt = rw isnt refl
 
   -- both lists have nothing more under the first key, and under each other what the whole lists have
-  rests : (e f : Uid × X) (es fs : List (Uid × X)) → Rises (e ∷ es) → Rises (f ∷ fs) → e.0 ≡ f.0 → ((u : Uid) → at_uid u (e ∷ es) ≡ at_uid u (f ∷ fs)) → (u : Uid) → at_uid u es ≡ at_uid u fs
+  rests : (e f : Uid × X) (es fs : List (Uid × X)) → Rises (e ∷ es) → Rises (f ∷ fs) → e.0 ≡ f.0 →
+      ((u : Uid) → at_uid u (e ∷ es) ≡ at_uid u (f ∷ fs)) → (u : Uid) → at_uid u es ≡ at_uid u fs
   unfolding IsStrictlySortedBy
   rests e f es fs rises rises' keys same u = by (uid_order u e.0) refl
     where
@@ -87,7 +88,8 @@ module _ {X : Type 0} where
       by Greater is rest = let never : None ≡ Some f.1 = sym (below f.0 e es rises (turned e.0 f.0 is)) ∙ same f.0 ∙ here f fs in cc
       by Equal is rest =
           let keys = order_exact e.0 f.0 is in
-          let values : Some e.1 ≡ Some f.1 = sym (here e es) ∙ same e.0 ∙ subst (λ k. at_uid k (f ∷ fs) ≡ Some f.1) (sym keys) (here f fs) in
+          let values : Some e.1 ≡ Some f.1 =
+          sym (here e es) ∙ same e.0 ∙ subst (λ k. at_uid k (f ∷ fs) ≡ Some f.1) (sym keys) (here f fs) in
           let value : e.1 ≡ f.1 = cc in
           λ i. (keys i, value i) ∷ rest (rests e f es fs rises rises' keys same) i
 
@@ -97,7 +99,8 @@ module _ {X : Type 0} where
   put_here k v [] = rw (order_itself k) refl
   put_here k v (e ∷ es) = by (uid_order k e.0) refl (put_here k v es)
     where
-      by : (o : Ordering) → uid_order k e.0 ≡ o → at_uid k (put_uid k v es) ≡ Some v → at_uid k (match_ordering o ((k, v) ∷ e ∷ es) ((e.0, v) ∷ es) (e ∷ put_uid k v es)) ≡ Some v
+      by : (o : Ordering) → uid_order k e.0 ≡ o → at_uid k (put_uid k v es) ≡ Some v →
+          at_uid k (match_ordering o ((k, v) ∷ e ∷ es) ((e.0, v) ∷ es) (e ∷ put_uid k v es)) ≡ Some v
       by Less is rest = rw (order_itself k) refl
       by Equal is rest = rw is refl
       by Greater is rest = rw is rest
@@ -106,16 +109,21 @@ module _ {X : Type 0} where
   put_other k j v [] isnt = rw isnt refl
   put_other k j v (e ∷ es) isnt = by (uid_order k e.0) refl (put_other k j v es isnt)
     where
-      by : (o : Ordering) → uid_order k e.0 ≡ o → at_uid j (put_uid k v es) ≡ at_uid j es → at_uid j (match_ordering o ((k, v) ∷ e ∷ es) ((e.0, v) ∷ es) (e ∷ put_uid k v es)) ≡ at_uid j (e ∷ es)
+      by : (o : Ordering) → uid_order k e.0 ≡ o → at_uid j (put_uid k v es) ≡ at_uid j es →
+          at_uid j (match_ordering o ((k, v) ∷ e ∷ es) ((e.0, v) ∷ es) (e ∷ put_uid k v es)) ≡ at_uid j (e ∷ es)
       by Less is rest = rw isnt refl
-      by Equal is rest = let apart : is_eq (uid_order j e.0) ≡ false = subst (λ w. is_eq (uid_order j w) ≡ false) (order_exact k e.0 is) isnt in rw apart refl
+      by Equal is rest =
+          let apart : is_eq (uid_order j e.0) ≡ false =
+          subst (λ w. is_eq (uid_order j w) ≡ false) (order_exact k e.0 is) isnt in rw apart refl
       by Greater is rest = rw rest refl
 
-  all_put : (P : Uid → Type 0) (k : Uid) (v : X) (es : List (Uid × X)) → AllByRecursion P (keys_of es) → P k → AllByRecursion P (keys_of (put_uid k v es))
+  all_put : (P : Uid → Type 0) (k : Uid) (v : X) (es : List (Uid × X)) → AllByRecursion P (keys_of es) → P k →
+      AllByRecursion P (keys_of (put_uid k v es))
   all_put P k v [] all p = (p, tt)
   all_put P k v (e ∷ es) all p = by (uid_order k e.0) (all_put P k v es all.1 p)
     where
-      by : (o : Ordering) → AllByRecursion P (keys_of (put_uid k v es)) → AllByRecursion P (keys_of (match_ordering o ((k, v) ∷ e ∷ es) ((e.0, v) ∷ es) (e ∷ put_uid k v es)))
+      by : (o : Ordering) → AllByRecursion P (keys_of (put_uid k v es)) →
+          AllByRecursion P (keys_of (match_ordering o ((k, v) ∷ e ∷ es) ((e.0, v) ∷ es) (e ∷ put_uid k v es)))
       by Less rest = (p, all)
       by Equal rest = all
       by Greater rest = (all.0, rest)
@@ -129,7 +137,8 @@ module _ {X : Type 0} where
   put_rises k v [] rises = (tt, tt)
   put_rises k v (e ∷ es) rises = by (uid_order k e.0) refl (put_rises k v es rises.1)
     where
-      by : (o : Ordering) → uid_order k e.0 ≡ o → Rises (put_uid k v es) → Rises (match_ordering o ((k, v) ∷ e ∷ es) ((e.0, v) ∷ es) (e ∷ put_uid k v es))
+      by : (o : Ordering) → uid_order k e.0 ≡ o → Rises (put_uid k v es) →
+          Rises (match_ordering o ((k, v) ∷ e ∷ es) ((e.0, v) ∷ es) (e ∷ put_uid k v es))
       by Less is rest = ((is, lower_yet k e.0 es is rises.0), rises)
       by Equal is rest = rises
       by Greater is rest = (all_put (λ w. uid_order e.0 w ≡ Less) k v es rises.0 (turned k e.0 is), rest)
@@ -141,7 +150,8 @@ module _ {X : Type 0} where
   without_here k [] rises = refl
   without_here k (e ∷ es) rises = by (is_eq (uid_order k e.0)) refl (without_here k es rises.1)
     where
-      by : (b : Bool) → is_eq (uid_order k e.0) ≡ b → at_uid k (without_uid k es) ≡ None → at_uid k (cond b es (e ∷ without_uid k es)) ≡ None
+      by : (b : Bool) → is_eq (uid_order k e.0) ≡ b → at_uid k (without_uid k es) ≡ None →
+          at_uid k (cond b es (e ∷ without_uid k es)) ≡ None
       by true is rest = subst (λ w. at_uid w es ≡ None) (sym (tied k e.0 is)) (first_gone e es rises)
       by false is rest = rw is rest
 
@@ -149,11 +159,14 @@ module _ {X : Type 0} where
   without_other k j [] isnt = refl
   without_other k j (e ∷ es) isnt = by (is_eq (uid_order k e.0)) refl (without_other k j es isnt)
     where
-      by : (b : Bool) → is_eq (uid_order k e.0) ≡ b → at_uid j (without_uid k es) ≡ at_uid j es → at_uid j (cond b es (e ∷ without_uid k es)) ≡ at_uid j (e ∷ es)
-      by true is rest = let apart : is_eq (uid_order j e.0) ≡ false = subst (λ w. is_eq (uid_order j w) ≡ false) (tied k e.0 is) isnt in rw apart refl
+      by : (b : Bool) → is_eq (uid_order k e.0) ≡ b → at_uid j (without_uid k es) ≡ at_uid j es →
+          at_uid j (cond b es (e ∷ without_uid k es)) ≡ at_uid j (e ∷ es)
+      by true is rest =
+          let apart : is_eq (uid_order j e.0) ≡ false = subst (λ w. is_eq (uid_order j w) ≡ false) (tied k e.0 is) isnt in rw apart refl
       by false is rest = rw rest refl
 
-  all_without : (P : Uid → Type 0) (k : Uid) (es : List (Uid × X)) → AllByRecursion P (keys_of es) → AllByRecursion P (keys_of (without_uid k es))
+  all_without : (P : Uid → Type 0) (k : Uid) (es : List (Uid × X)) → AllByRecursion P (keys_of es) →
+      AllByRecursion P (keys_of (without_uid k es))
   all_without P k [] all = tt
   all_without P k (e ∷ es) all = by (is_eq (uid_order k e.0)) (all_without P k es all.1)
     where

@@ -1,5 +1,6 @@
 -- The names of a disk, gone through in their order, give its records by their tops.
-use Rattle.std.proofs.Common.{◌≡◌, ◌⊎◌, ◌∙◌, List, [], ◌∷◌, ◌++◌, ℕ, zero, suc, ◌≤◌, take, length, arith, refl, sym, ap, subst, inl, inr, ⊎_elim, Option, Some, None}
+use Rattle.std.proofs.Common.{◌≡◌, ◌⊎◌, ◌∙◌, List, [], ◌∷◌, ◌++◌, ℕ, zero, suc, ◌≤◌, take, length, arith, refl, sym, ap, subst, inl, inr}
+use Rattle.std.proofs.Common.{⊎_elim, Option, Some, None}
 use Rattle.std.specs.Prelude.{◌≢◌, IsSome, is_some, option_map, flat_map, Contains, false}
 use Rattle.std.specs.List.{AllByRecursion}
 use Rattle.std.specs.List.Sorted.{IsStrictlySortedBy}
@@ -32,11 +33,13 @@ one_of top o = option_to_list (option_map (under top) o)
 
 -- ---- the entries rise
 
-below_one : (top b : Uid) (o : Option protocol.Intent) (es : Entries) → uid_order top b ≡ Less → IsBelowAll top es → IsBelowAll top (one_of b o ++ es)
+below_one : (top b : Uid) (o : Option protocol.Intent) (es : Entries) → uid_order top b ≡ Less → IsBelowAll top es →
+    IsBelowAll top (one_of b o ++ es)
 below_one top b None es less all = all
 below_one top b (Some i) es less all = (less, all)
 
-below_slot : (file : FileMap) (top : Uid) (q : Slot) (es : Entries) → slot_order (slot.Intent top) q ≡ Less → IsBelowAll top es → IsBelowAll top (entries_at file q ++ es)
+below_slot : (file : FileMap) (top : Uid) (q : Slot) (es : Entries) → slot_order (slot.Intent top) q ≡ Less → IsBelowAll top es →
+    IsBelowAll top (entries_at file q ++ es)
 below_slot file top slot.Incarnation es less all = all
 below_slot file top slot.Tmp es less all = all
 below_slot file top (slot.Committed u) es less all = all
@@ -46,7 +49,8 @@ below_slot file top (slot.Pending r u) es less all = all
 below_slot file top (slot.Segment r k) es less all = all
 below_slot file top (slot.Intent b) es less all = below_one top b (record_at file b) es less all
 
-below_names : (file : FileMap) (top : Uid) (names : List Slot) → AllByRecursion (λ q. slot_order (slot.Intent top) q ≡ Less) names → IsBelowAll top (listed file names)
+below_names : (file : FileMap) (top : Uid) (names : List Slot) → AllByRecursion (λ q. slot_order (slot.Intent top) q ≡ Less) names →
+    IsBelowAll top (listed file names)
 below_names file top [] all = tt
 below_names file top (q ∷ qs) all = below_slot file top q (listed file qs) all.0 (below_names file top qs all.1)
 
@@ -84,21 +88,30 @@ in_rest q x qs apart (suc k, within, is) = (k, omega arith, is)
 apart : (top b : Uid) (o : Ordering) → uid_order top b ≡ o → (o ≡ Equal → ⊥) → slot.Intent b ≢ slot.Intent top
 apart top b o is unequal same = let e : b ≡ top = cc in unequal (sym is ∙ ap (uid_order top) e ∙ order_itself top)
 
-passed : (top b : Uid) (o : Option protocol.Intent) (es : Entries) → is_eq (uid_order top b) ≡ false → at_uid top (one_of b o ++ es) ≡ at_uid top es
+passed : (top b : Uid) (o : Option protocol.Intent) (es : Entries) → is_eq (uid_order top b) ≡ false →
+    at_uid top (one_of b o ++ es) ≡ at_uid top es
 passed top b None es isnt = refl
 passed top b (Some i) es isnt = rw isnt refl
 
-met : (file : FileMap) (top : Uid) (o : Option protocol.Intent) (qs : List Slot) (es : Entries) → record_at file top ≡ o → Found file top qs es → at_uid top (one_of top o ++ es) ≡ o
-met file top None qs es is found = ⊎_elim (λ (h : at_uid top es ≡ record_at file top). h ∙ is) (λ (h : (at_uid top es ≡ None) × (Contains qs (slot.Intent top) → ⊥)). h.0) found
+met : (file : FileMap) (top : Uid) (o : Option protocol.Intent) (qs : List Slot) (es : Entries) → record_at file top ≡ o →
+    Found file top qs es → at_uid top (one_of top o ++ es) ≡ o
+met file top None qs es is found =
+    ⊎_elim (λ (h : at_uid top es ≡ record_at file top). h ∙ is) (λ (h : (at_uid top es ≡ None) × (Contains qs (slot.Intent top) →
+    ⊥)). h.0) found
 met file top (Some i) qs es is found = rw (order_itself top) refl
 
-skipped : (file : FileMap) (top : Uid) (q : Slot) (qs : List Slot) (es es' : Entries) → q ≢ slot.Intent top → at_uid top es' ≡ at_uid top es → Found file top qs es → Found file top (q ∷ qs) es'
+skipped : (file : FileMap) (top : Uid) (q : Slot) (qs : List Slot) (es es' : Entries) → q ≢ slot.Intent top →
+    at_uid top es' ≡ at_uid top es → Found file top qs es → Found file top (q ∷ qs) es'
 skipped file top q qs es es' apart same = ⊎_elim (λ (h : at_uid top es ≡ record_at file top). inl (same ∙ h))
-    (λ (h : (at_uid top es ≡ None) × (Contains qs (slot.Intent top) → ⊥)). inr (same ∙ h.0, λ has. h.1 (in_rest q (slot.Intent top) qs apart has)))
+    (λ (h : (at_uid top es ≡ None) × (Contains qs (slot.Intent top) →
+    ⊥)). inr (same ∙ h.0, λ has. h.1 (in_rest q (slot.Intent top) qs apart has)))
 
-found_by : (file : FileMap) (top b : Uid) (qs : List Slot) (es : Entries) (o : Ordering) → uid_order top b ≡ o → Found file top qs es → Found file top (slot.Intent b ∷ qs) (one_of b (record_at file b) ++ es)
-found_by file top b qs es Less is found = skipped file top (slot.Intent b) qs es (one_of b (record_at file b) ++ es) (apart top b Less is (λ (e : Less ≡ Equal). cc)) (passed top b (record_at file b) es (ap is_eq is)) found
-found_by file top b qs es Greater is found = skipped file top (slot.Intent b) qs es (one_of b (record_at file b) ++ es) (apart top b Greater is (λ (e : Greater ≡ Equal). cc)) (passed top b (record_at file b) es (ap is_eq is)) found
+found_by : (file : FileMap) (top b : Uid) (qs : List Slot) (es : Entries) (o : Ordering) → uid_order top b ≡ o → Found file top qs es →
+    Found file top (slot.Intent b ∷ qs) (one_of b (record_at file b) ++ es)
+found_by file top b qs es Less is found =
+    skipped file top (slot.Intent b) qs es (one_of b (record_at file b) ++ es) (apart top b Less is (λ (e : Less ≡ Equal). cc)) (passed top b (record_at file b) es (ap is_eq is)) found
+found_by file top b qs es Greater is found =
+    skipped file top (slot.Intent b) qs es (one_of b (record_at file b) ++ es) (apart top b Greater is (λ (e : Greater ≡ Equal). cc)) (passed top b (record_at file b) es (ap is_eq is)) found
 found_by file top b qs es Equal is found =
     let P : Uid → Type 0 = λ w. at_uid top (one_of w (record_at file w) ++ es) ≡ record_at file top in
     inl (subst P (order_exact top b is) (met file top (record_at file top) qs es refl found))
@@ -108,28 +121,37 @@ found_in file top [] = inr (refl, λ has. omega (arith, has.1))
 found_in file top (q ∷ qs) = by q (found_in file top qs)
   where
     by : (q : Slot) → Found file top qs (listed file qs) → Found file top (q ∷ qs) (entries_at file q ++ listed file qs)
-    by slot.Incarnation found = skipped file top slot.Incarnation qs (listed file qs) (listed file qs) (λ (e : slot.Incarnation ≡ slot.Intent top). cc) refl found
+    by slot.Incarnation found =
+        skipped file top slot.Incarnation qs (listed file qs) (listed file qs) (λ (e : slot.Incarnation ≡ slot.Intent top). cc) refl found
     by slot.Tmp found = skipped file top slot.Tmp qs (listed file qs) (listed file qs) (λ (e : slot.Tmp ≡ slot.Intent top). cc) refl found
-    by (slot.Committed u) found = skipped file top (slot.Committed u) qs (listed file qs) (listed file qs) (λ (e : slot.Committed u ≡ slot.Intent top). cc) refl found
-    by (slot.Shadow u) found = skipped file top (slot.Shadow u) qs (listed file qs) (listed file qs) (λ (e : slot.Shadow u ≡ slot.Intent top). cc) refl found
-    by (slot.Prepared r u) found = skipped file top (slot.Prepared r u) qs (listed file qs) (listed file qs) (λ (e : slot.Prepared r u ≡ slot.Intent top). cc) refl found
-    by (slot.Pending r u) found = skipped file top (slot.Pending r u) qs (listed file qs) (listed file qs) (λ (e : slot.Pending r u ≡ slot.Intent top). cc) refl found
-    by (slot.Segment r k) found = skipped file top (slot.Segment r k) qs (listed file qs) (listed file qs) (λ (e : slot.Segment r k ≡ slot.Intent top). cc) refl found
+    by (slot.Committed u) found =
+        skipped file top (slot.Committed u) qs (listed file qs) (listed file qs) (λ (e : slot.Committed u ≡ slot.Intent top). cc) refl found
+    by (slot.Shadow u) found =
+        skipped file top (slot.Shadow u) qs (listed file qs) (listed file qs) (λ (e : slot.Shadow u ≡ slot.Intent top). cc) refl found
+    by (slot.Prepared r u) found =
+        skipped file top (slot.Prepared r u) qs (listed file qs) (listed file qs) (λ (e : slot.Prepared r u ≡ slot.Intent top). cc) refl found
+    by (slot.Pending r u) found =
+        skipped file top (slot.Pending r u) qs (listed file qs) (listed file qs) (λ (e : slot.Pending r u ≡ slot.Intent top). cc) refl found
+    by (slot.Segment r k) found =
+        skipped file top (slot.Segment r k) qs (listed file qs) (listed file qs) (λ (e : slot.Segment r k ≡ slot.Intent top). cc) refl found
     by (slot.Intent b) found = found_by file top b qs (listed file qs) (uid_order top b) refl found
 
-no_record : (file : FileMap) (top : Uid) (o : Option (List ℕ)) → file (slot.Intent top) ≡ o → (IsSome (file (slot.Intent top)) → ⊥) → record_at file top ≡ None
+no_record : (file : FileMap) (top : Uid) (o : Option (List ℕ)) → file (slot.Intent top) ≡ o → (IsSome (file (slot.Intent top)) → ⊥) →
+    record_at file top ≡ None
 no_record file top None is none = rw is refl
 no_record file top (Some bytes) is none = absurd (none (ap is_some is))
 
 pub list_is : (file : FileMap) (names : List Slot) → Lists file names → AreRecords file (listed file names)
 list_is file names lists = record {
   there = λ top. ⊎_elim (λ (h : at_uid top (listed file names) ≡ record_at file top). h)
-      (λ (h : (at_uid top (listed file names) ≡ None) × (Contains names (slot.Intent top) → ⊥)). h.0 ∙ sym (no_record file top (file (slot.Intent top)) refl (λ some. h.1 ((lists.there (slot.Intent top)).0 some)))) (found_in file top names);
+      (λ (h : (at_uid top (listed file names) ≡ None) × (Contains names (slot.Intent top) →
+      ⊥)). h.0 ∙ sym (no_record file top (file (slot.Intent top)) refl (λ some. h.1 ((lists.there (slot.Intent top)).0 some)))) (found_in file top names);
   rises = listed_rises file names lists.increasing;
 }
 
 -- all names were gone through
-pub all_found : (file mid : FileMap) (names items : List Slot) (k : ℕ) (found : Entries) → Same file mid → Lists file names → items ≡ names → length items ≤ k → found ≡ listed mid (take k items) → AreRecords file found
+pub all_found : (file mid : FileMap) (names items : List Slot) (k : ℕ) (found : Entries) → Same file mid → Lists file names →
+    items ≡ names → length items ≤ k → found ≡ listed mid (take k items) → AreRecords file found
 all_found file mid names items k found same lists are whole is =
     let files : mid ≡ file = λ i q. same q i in
     subst (AreRecords file) (sym (is ∙ ap (λ f. listed f (take k items)) files ∙ ap (listed file) (take_all k items whole ∙ are))) (list_is file names lists)

@@ -22,11 +22,14 @@ OnlyRecord top old new = (q : Slot) → q ≢ slot.Intent top → q ≢ slot.Tmp
 module _ (top : Uid) (old new : FileMap) (others : OnlyRecord top old new) where
   -- no file of a role is a record, or Tmp
   roles_stay : (r : Role) → SameOfRole r old new
-  roles_stay r q is = others q (λ e. let never : None ≡ Some r = sym (ap slot_role e) ∙ is in absurd (cc never)) (λ e. let never : None ≡ Some r = sym (ap slot_role e) ∙ is in absurd (cc never))
+  roles_stay r q is =
+      others q (λ e. let never : None ≡ Some r = sym (ap slot_role e) ∙ is in absurd (cc never)) (λ e. let never : None ≡ Some r =
+      sym (ap slot_role e) ∙ is in absurd (cc never))
 
   -- the record of another top
   pub other_record : (u : Uid) (o : Ordering) → uid_order u top ≡ o → (o ≡ Equal → ⊥) → new (slot.Intent u) ≡ old (slot.Intent u)
-  other_record u o is unequal = others (slot.Intent u) (λ (e : slot.Intent u ≡ slot.Intent top). apart e) (λ (e : slot.Intent u ≡ slot.Tmp). cc)
+  other_record u o is unequal =
+      others (slot.Intent u) (λ (e : slot.Intent u ≡ slot.Intent top). apart e) (λ (e : slot.Intent u ≡ slot.Tmp). cc)
     where
       apart : slot.Intent u ≡ slot.Intent top → ⊥
       apart e = let same : u ≡ top = cc in unequal (sym is ∙ ap (λ w. uid_order w top) same ∙ order_itself top)
@@ -48,7 +51,8 @@ pub record Stays (old new : FileMap) : Type 0 where
   pub form : AreInForm old → AreInForm new
   pub roles : (r : Role) → SameOfRole r old new
 
-stays : (top : Uid) (old new : FileMap) → OnlyRecord top old new → (IfSome (old (slot.Intent top)) (IsIntentOf top) → IfSome (new (slot.Intent top)) (IsIntentOf top)) → Stays old new
+stays : (top : Uid) (old new : FileMap) → OnlyRecord top old new →
+    (IfSome (old (slot.Intent top)) (IsIntentOf top) → IfSome (new (slot.Intent top)) (IsIntentOf top)) → Stays old new
 stays top old new others here = record { form = stays_in_form top old new others here; roles = roles_stay top old new others }
 
 -- a removal, done or not
@@ -58,7 +62,8 @@ removed_stays old new top = ⊎_elim
     (λ (gone : Removes old new (slot.Intent top)). stays top old new (λ q other _. gone.others q other) (λ _. subst (λ o. IfSome o (IsIntentOf top)) (sym gone.gone) tt))
 
 -- a put, done or not
-pub put_stays : (old new : FileMap) (top : Uid) (bytes : List ℕ) → IsIntentOf top bytes → PutsOrNot old new (slot.Intent top) bytes → Stays old new
+pub put_stays : (old new : FileMap) (top : Uid) (bytes : List ℕ) → IsIntentOf top bytes → PutsOrNot old new (slot.Intent top) bytes →
+    Stays old new
 put_stays old new top bytes form puts = stays top old new puts.others (λ before. ⊎_elim
     (λ (same : new (slot.Intent top) ≡ old (slot.Intent top)). subst (λ o. IfSome o (IsIntentOf top)) (sym same) before)
     (λ (here : new (slot.Intent top) ≡ Some bytes). subst (λ o. IfSome o (IsIntentOf top)) (sym here) form) puts.here)

@@ -65,4 +65,5 @@ Does work old new = (d : protocol.Disk) → AreRecords old d.intents → AreReco
 
 -- The work was stopped, and left what a stop leaves of it.
 abbrev pub IsCut : protocol.Work → FileMap → FileMap → Type 0
-IsCut work old new = (how : protocol.Stop) × ((d : protocol.Disk) → AreRecords old d.intents → AreRecords new (protocol.stopped how work d).intents)
+IsCut work old new =
+    (how : protocol.Stop) × ((d : protocol.Disk) → AreRecords old d.intents → AreRecords new (protocol.stopped how work d).intents)

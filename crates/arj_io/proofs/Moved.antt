@@ -3,7 +3,8 @@ use Rattle.std.proofs.Common.{◌≡◌, ℕ, ◌++◌, ◌+◌, ◌-◌, List, 
 use Rattle.std.proofs.lemmas.List.{take_rest, take-append-drop, drop-drop}
 
 -- the front of what is behind a place, and what is behind that front
-pub moved_front : (read bytes left front : List ℕ) (at n : ℕ) → read ≡ bytes → drop at bytes ≡ left → front ≡ take n (take (length read - at) (drop at read)) → left ≡ front ++ drop (at + n) bytes
+pub moved_front : (read bytes left front : List ℕ) (at n : ℕ) → read ≡ bytes → drop at bytes ≡ left →
+    front ≡ take n (take (length read - at) (drop at read)) → left ≡ front ++ drop (at + n) bytes
 moved_front read bytes left front at n same behind copied =
     let left_is : drop at read ≡ left = ap (drop at) same ∙ behind in
     let front_is : front ≡ take n left = copied ∙ ap (take n) (take_rest read at ∙ left_is) in

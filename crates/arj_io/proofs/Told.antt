@@ -19,7 +19,8 @@ gives_more (Some x) (Some y) None p q first second = absurd second
 gives_more (Some x) (Some y) (Some z) p q first second = first ∙ ap (λ s. p ++ s) second ∙ sym (append_assoc p q z)
 
 -- a front of the bytes was taken, and then a front of what is behind it
-pub takes_front : (a b c : Option (List ℕ)) (bytes : List ℕ) (at n : ℕ) → Takes a (take at bytes) b → Takes b (take n (take (length bytes - at) (drop at bytes))) c → Takes a (take (at + n) bytes) c
+pub takes_front : (a b c : Option (List ℕ)) (bytes : List ℕ) (at n : ℕ) → Takes a (take at bytes) b →
+    Takes b (take n (take (length bytes - at) (drop at bytes))) c → Takes a (take (at + n) bytes) c
 takes_front a b c bytes at n first second =
     let joined : take at bytes ++ take n (take (length bytes - at) (drop at bytes)) ≡ take (at + n) bytes =
     ap (λ s. take at bytes ++ take n s) (take_rest bytes at) ∙ sym (take-add at n bytes)

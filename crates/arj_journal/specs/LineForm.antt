@@ -84,7 +84,8 @@ BodyInForm (body.Up n i) = NodeInForm n × WordInForm i
 BodyInForm (body.Armed n) = NodeInForm n
 BodyInForm (body.Recovered n u) = NodeInForm n × UidFits u
 BodyInForm (body.Refused c) = IsWithin 1 REFUSALS c
-BodyInForm (body.Entry x v servers stores) = ObjectInForm x × NumberInForm v × NodesInForm NODES STORES servers × NodesInForm NODES STORES stores
+BodyInForm (body.Entry x v servers stores) =
+    ObjectInForm x × NumberInForm v × NodesInForm NODES STORES servers × NodesInForm NODES STORES stores
 BodyInForm (body.Copy n x v u payload) = NodeInForm n × ObjectInForm x × NumberInForm v × UidFits u × AreBytes payload
 BodyInForm (body.Quiet b) = ⊤
 BodyInForm (body.Bad n) = WordInForm n

@@ -17,7 +17,8 @@ use Rattle.arj_journal.specs.declared.line_kind.DifferenceKind.TheVariants as di
 use Rattle.arj_journal.specs.declared.line_kind.LineKind.TheVariants as line
 use Rattle.arj_text.specs.declared.label.Label.{Label}
 use Rattle.arj_text.specs.Label.{name}
-use Rattle.arj_journal.specs.LineWords.{cause_word, difference_word, frame_text, kind_text, line_word, part_text, role_text, which_text, yes_text}
+use Rattle.arj_journal.specs.LineWords.{cause_word, difference_word, frame_text, kind_text, line_word, part_text, role_text, which_text}
+use Rattle.arj_journal.specs.LineWords.{yes_text}
 use Rattle.arj_journal.specs.ScriptText.{labelled}
 use Rattle.arj_text.specs.Words.{space, number_word, hex, list_text, mode_text, end_text, op_text}
 
@@ -84,8 +85,10 @@ body_text (body.Up n i) = line_word line.Up ++ (number_word n ++ number_word i)
 body_text (body.Armed n) = line_word line.Armed ++ number_word n
 body_text (body.Recovered n u) = line_word line.Recovered ++ (number_word n ++ uid_word u)
 body_text (body.Refused c) = line_word line.Refused ++ number_word c
-body_text (body.Entry x v servers stores) = line_word line.Entry ++ (number_word x ++ (number_word v ++ (space ++ (list_text servers ++ (space ++ list_text stores)))))
-body_text (body.Copy n x v u payload) = line_word line.Copy ++ (number_word n ++ (number_word x ++ (number_word v ++ (uid_word u ++ (space ++ hex payload)))))
+body_text (body.Entry x v servers stores) =
+    line_word line.Entry ++ (number_word x ++ (number_word v ++ (space ++ (list_text servers ++ (space ++ list_text stores)))))
+body_text (body.Copy n x v u payload) =
+    line_word line.Copy ++ (number_word n ++ (number_word x ++ (number_word v ++ (uid_word u ++ (space ++ hex payload)))))
 body_text (body.Quiet b) = line_word line.Quiet ++ (space ++ yes_text b)
 body_text (body.Bad n) = line_word line.Bad ++ number_word n
 body_text (body.Limit w) = line_word line.Limit ++ (space ++ which_text w)

@@ -13,7 +13,8 @@ use Rattle.arj_journal_reader.specs.Reading.{IsAnswerWord, is_word_answer}
 pub word_answer : (bytes : List ℕ) (a : Answer) → is_word_answer a ≡ true → bytes ≡ answer_text a → IsAnswerWord bytes
 word_answer bytes a word e = (a, word, e)
 
-pub no_word_answer : (bytes : List ℕ) → bytes ≢ codes "done" → bytes ≢ codes "over" → bytes ≢ codes "short" → bytes ≢ codes "full" → bytes ≢ codes "none" → IsAnswerWord bytes → ⊥
+pub no_word_answer : (bytes : List ℕ) → bytes ≢ codes "done" → bytes ≢ codes "over" → bytes ≢ codes "short" → bytes ≢ codes "full" →
+    bytes ≢ codes "none" → IsAnswerWord bytes → ⊥
 no_word_answer bytes done over short full nothing h = cases h.0 h.1 h.2
   where
     cases : (a : Answer) → is_word_answer a ≡ true → bytes ≢ answer_text a
@@ -26,11 +27,13 @@ no_word_answer bytes done over short full nothing h = cases h.0 h.1 h.2
     cases answer.Nothing word e = nothing e
 
 -- a number, and after a `get` without a key bytes
-pub number_answer : (asked : Op) (bytes : List ℕ) (n : ℕ) → IsRead (IsWithin 0 18446744073709551615) decimal bytes (Some n) → IsAnswer asked bytes
+pub number_answer : (asked : Op) (bytes : List ℕ) (n : ℕ) → IsRead (IsWithin 0 18446744073709551615) decimal bytes (Some n) →
+    IsAnswer asked bytes
 number_answer asked bytes n read =
     let high : n ≤ 18446744073709551615 = read.0.1 in
     let fits : NumberInForm n = omega arith in
     (answer.Number n, fits, read.1)
 
-pub text_answer : (asked : Op) (bytes found : List ℕ) → is_get asked ≡ true → IsRead (AreBytesUpTo 64) hex bytes (Some found) → IsAnswer asked bytes
+pub text_answer : (asked : Op) (bytes found : List ℕ) → is_get asked ≡ true → IsRead (AreBytesUpTo 64) hex bytes (Some found) →
+    IsAnswer asked bytes
 text_answer asked bytes found get read = (answer.Text found, (get, read.0), read.1)

@@ -28,7 +28,8 @@ LacksIn k f = Lacks k f.InForm f.text
 pub lacks_both : (k : ℕ) (xs ys : List ℕ) → has_byte k xs ≡ false → has_byte k ys ≡ false → has_byte k (xs ++ ys) ≡ false
 lacks_both k xs ys hx hy = list_any-append (λ b. b == k) xs ys ∙ or_from (has_byte k xs) (has_byte k ys) hx hy
 
-pub lacks_behind : (k c : ℕ) (xs ys : List ℕ) → (c == k) ≡ false → has_byte k xs ≡ false → has_byte k ys ≡ false → has_byte k (xs ++ c ∷ ys) ≡ false
+pub lacks_behind : (k c : ℕ) (xs ys : List ℕ) → (c == k) ≡ false → has_byte k xs ≡ false → has_byte k ys ≡ false →
+    has_byte k (xs ++ c ∷ ys) ≡ false
 lacks_behind k c xs ys other hx hy = lacks_both k xs (c ∷ ys) hx (or_from (c == k) (has_byte k ys) other hy)
 
 pub pair_once : (f g : Form) → OnceIn f → OnceIn g → OnceIn (f ▸ g)
@@ -60,10 +61,12 @@ pub record AreOfKinds (ks : Kinds) (InForm : ks.Whole → Type 0) (text : ks.Who
   pub seen : (w : ks.Whole) → InForm w → Seen ks w
 
 -- the text of a value that is taken apart
-seen_text : (ks : Kinds) (InForm : ks.Whole → Type 0) (text : ks.Whole → List ℕ) → AreOfKinds ks InForm text → (w : ks.Whole) (s : Seen ks w) → text w ≡ ks.word s.kind ++ 32 ∷ (ks.form s.kind).text s.value
+seen_text : (ks : Kinds) (InForm : ks.Whole → Type 0) (text : ks.Whole → List ℕ) → AreOfKinds ks InForm text →
+    (w : ks.Whole) (s : Seen ks w) → text w ≡ ks.word s.kind ++ 32 ∷ (ks.form s.kind).text s.value
 seen_text ks InForm text facts w s = ap text (sym s.made) ∙ facts.spelled s.kind s.value
 
-pub kinds_once : (ks : Kinds) (InForm : ks.Whole → Type 0) (text : ks.Whole → List ℕ) → AreOfKinds ks InForm text → ((k : ks.Kind) → OnceIn (ks.form k)) → Once InForm text
+pub kinds_once : (ks : Kinds) (InForm : ks.Whole → Type 0) (text : ks.Whole → List ℕ) → AreOfKinds ks InForm text →
+    ((k : ks.Kind) → OnceIn (ks.form k)) → Once InForm text
 kinds_once ks InForm text facts each w x fw fx e =
     let s = facts.seen w fw in
     let t = facts.seen x fx in
@@ -71,16 +74,20 @@ kinds_once ks InForm text facts each w x fw fx e =
     let cuts = cut_once 32 (ks.word s.kind) (ks.word t.kind) ((ks.form s.kind).text s.value) ((ks.form t.kind).text t.value) (facts.spaceless s.kind) (facts.spaceless t.kind) texts in
     let same : s.kind ≡ t.kind = facts.apart s.kind t.kind cuts.0 in
     let here = λ (v : (ks.form s.kind).Value) (fits : (ks.form s.kind).InForm v) (f : (ks.form s.kind).text s.value ≡ (ks.form s.kind).text v). ap (ks.make s.kind) (each s.kind s.value v s.fits fits f) in
-    let there = subst (λ l. (v : (ks.form l).Value) → (ks.form l).InForm v → (ks.form s.kind).text s.value ≡ (ks.form l).text v → ks.make s.kind s.value ≡ ks.make l v) same here in
+    let there = subst (λ l. (v : (ks.form l).Value) → (ks.form l).InForm v → (ks.form s.kind).text s.value ≡ (ks.form l).text v →
+    ks.make s.kind s.value ≡ ks.make l v) same here in
     sym s.made ∙ (there t.value t.fits cuts.1 ∙ t.made)
 
-pub kinds_lack : (c : ℕ) (ks : Kinds) (InForm : ks.Whole → Type 0) (text : ks.Whole → List ℕ) → AreOfKinds ks InForm text → (32 == c) ≡ false → ((k : ks.Kind) → has_byte c (ks.word k) ≡ false) → ((k : ks.Kind) → LacksIn c (ks.form k)) → Lacks c InForm text
+pub kinds_lack : (c : ℕ) (ks : Kinds) (InForm : ks.Whole → Type 0) (text : ks.Whole → List ℕ) → AreOfKinds ks InForm text →
+    (32 == c) ≡ false → ((k : ks.Kind) → has_byte c (ks.word k) ≡ false) → ((k : ks.Kind) → LacksIn c (ks.form k)) → Lacks c InForm text
 kinds_lack c ks InForm text facts other words each w fw =
     let s = facts.seen w fw in
     ap (has_byte c) (seen_text ks InForm text facts w s) ∙ lacks_behind c 32 (ks.word s.kind) ((ks.form s.kind).text s.value) other (words s.kind) (each s.kind s.value s.fits)
 
 -- What is read behind the word of its kind is what was to be read.
-pub kind_read : (ks : Kinds) (InForm : ks.Whole → Type 0) (text : ks.Whole → List ℕ) → AreOfKinds ks InForm text → (bytes first fields : List ℕ) (k : ks.Kind) (r : Result ks.Whole LineFault) → has_space first ≡ false → bytes ≡ first ++ 32 ∷ fields → first ≡ ks.word k → IsOfKind ks k fields r → IsTaken InForm text bytes r
+pub kind_read : (ks : Kinds) (InForm : ks.Whole → Type 0) (text : ks.Whole → List ℕ) → AreOfKinds ks InForm text →
+    (bytes first fields : List ℕ) (k : ks.Kind) (r : Result ks.Whole LineFault) → has_space first ≡ false → bytes ≡ first ++ 32 ∷ fields →
+    first ≡ ks.word k → IsOfKind ks k fields r → IsTaken InForm text bytes r
 kind_read ks InForm text facts bytes first fields k (Ok w) spaceless parts here h =
     let v = h.0 in
     let joined : first ++ 32 ∷ fields ≡ ks.word k ++ 32 ∷ (ks.form k).text v = λ i. here i ++ 32 ∷ h.2 i in
@@ -96,7 +103,9 @@ kind_read ks InForm text facts bytes first fields k (Err NotALine) spaceless par
 kind_read ks InForm text facts bytes first fields k (Err Memory) spaceless parts here h = tt
 
 -- Where the first word is that of no kind, there is nothing.
-pub no_kind : (ks : Kinds) (InForm : ks.Whole → Type 0) (text : ks.Whole → List ℕ) → AreOfKinds ks InForm text → (bytes first fields : List ℕ) (y : LineFault) → has_space first ≡ false → bytes ≡ first ++ 32 ∷ fields → IsTaken (λ k. ⊤) ks.word first (Err y) → IsTaken InForm text bytes (Err y)
+pub no_kind : (ks : Kinds) (InForm : ks.Whole → Type 0) (text : ks.Whole → List ℕ) → AreOfKinds ks InForm text →
+    (bytes first fields : List ℕ) (y : LineFault) → has_space first ≡ false → bytes ≡ first ++ 32 ∷ fields →
+    IsTaken (λ k. ⊤) ks.word first (Err y) → IsTaken InForm text bytes (Err y)
 no_kind ks InForm text facts bytes first fields NotALine spaceless parts none =
     λ w fw e.
     let s = facts.seen w fw in
@@ -104,7 +113,8 @@ no_kind ks InForm text facts bytes first fields NotALine spaceless parts none =
 no_kind ks InForm text facts bytes first fields Memory spaceless parts none = tt
 
 -- Where there is no space, there is nothing.
-pub one_word : (ks : Kinds) (InForm : ks.Whole → Type 0) (text : ks.Whole → List ℕ) → AreOfKinds ks InForm text → (bytes : List ℕ) → has_space bytes ≡ false → (w : ks.Whole) → InForm w → bytes ≢ text w
+pub one_word : (ks : Kinds) (InForm : ks.Whole → Type 0) (text : ks.Whole → List ℕ) → AreOfKinds ks InForm text → (bytes : List ℕ) →
+    has_space bytes ≡ false → (w : ks.Whole) → InForm w → bytes ≢ text w
 one_word ks InForm text facts bytes spaceless w fw e =
     let s = facts.seen w fw in
     no_cut 32 bytes (ks.word s.kind) ((ks.form s.kind).text s.value) spaceless (e ∙ seen_text ks InForm text facts w s)

@@ -36,7 +36,9 @@ cut_last (a ∷ r) (b ∷ s) w v hw hv e =
     (cc, rest.1)
 
 -- Answers hold no space and no end of a line.
-answer_lacks : (k : ℕ) → IsApart k → (p : Op) (a : Answer) → AnswerTextInForm p a → has_byte k (codes "done") ≡ false → has_byte k (codes "over") ≡ false → has_byte k (codes "short") ≡ false → has_byte k (codes "full") ≡ false → has_byte k (codes "none") ≡ false → has_byte k (answer_text a) ≡ false
+answer_lacks : (k : ℕ) → IsApart k → (p : Op) (a : Answer) → AnswerTextInForm p a → has_byte k (codes "done") ≡ false →
+    has_byte k (codes "over") ≡ false → has_byte k (codes "short") ≡ false → has_byte k (codes "full") ≡ false →
+    has_byte k (codes "none") ≡ false → has_byte k (answer_text a) ≡ false
 answer_lacks k apart p answer.Done h d o s f n = d
 answer_lacks k apart p (answer.Number m) h d o s f n = digits_only k m apart.digit h
 answer_lacks k apart p (answer.Text bytes) h d o s f n = hex_lacks k apart bytes h.1.1
@@ -197,7 +199,14 @@ op_words : HaveWords ops words
 op_words = record { known = words_known; letters = refl }
 
 ops_are : AreOfKinds ops OpFits op_text
-ops_are = record { spaceless = spaceless_words ops words op_words; apart = known_once word_of words words_known; fits = op_fits; spelled = op_spelled; seen = seen_op }
+ops_are = record {
+  spaceless = spaceless_words ops words op_words;
+  apart = known_once word_of words words_known;
+  fits = op_fits;
+  spelled =
+      op_spelled;
+  seen = seen_op;
+}
 
 number_facts : PieceFacts number
 number_facts = record { once = λ m n hm hn e. decimal_injective m n hm hn e; endless = λ n h. digits_only 10 n refl h }
@@ -250,7 +259,14 @@ either (op.PutPair k v) h = inr (h, refl)
 
 pub op_facts : PieceFacts (form_of Op OpTextInForm op_text)
 op_facts = mixed_facts ops OpFits OpTextInForm op_text (record { Bare = Bare; bare = bare_op; every = bares })
-    (record { are = ops_are; facts = kinds_facts ops words OpFits op_text op_words ops_are op_forms; known = bare_known; letters = refl; either = either })
+    (record {
+      are = ops_are;
+      facts = kinds_facts ops words OpFits op_text op_words ops_are op_forms;
+      known = bare_known;
+      letters =
+          refl;
+      either = either;
+    })
 
 -- an operation and its answer
 call_once : OnceIn call

@@ -30,7 +30,8 @@ pub line_once : Once LineInForm line_text
 line_once l m hl hm e = front_once l m hl hm (append_cancel_right (front l) (front m) (10 ∷ []) (sym (ends_so l) ∙ (e ∙ ends_so m)))
 
 front_endless : (l : Line) → LineInForm l → has_byte 10 (front l) ≡ false
-front_endless l h = lacks_behind 10 32 (decimal l.event) (body_text l.body) refl (number_lacks 10 end_apart l.event (omega (arith, h.0))) (bodies_facts.endless l.body h.1)
+front_endless l h =
+    lacks_behind 10 32 (decimal l.event) (body_text l.body) refl (number_lacks 10 end_apart l.event (omega (arith, h.0))) (bodies_facts.endless l.body h.1)
 
 -- A journal's text ends its first line at the first line feed.
 first_line : (l : Line) (ls : List Line) → text (l ∷ ls) ≡ front l ++ 10 ∷ text ls

@@ -22,7 +22,8 @@ use Rattle.arj_journal_reader.proofs.LineFacts.{BareCause, BareAsked, BareDoomed
 use Rattle.arj_text.proofs.Texts.{no_cut}
 
 -- What isn't taken is of no kind.
-pub not_of_kind : (ks : Kinds) (k : ks.Kind) (bytes : List ℕ) (y : LineFault) → IsTaken (ks.form k).InForm (ks.form k).text bytes (Err y) → IsOfKind ks k bytes (Err y)
+pub not_of_kind : (ks : Kinds) (k : ks.Kind) (bytes : List ℕ) (y : LineFault) → IsTaken (ks.form k).InForm (ks.form k).text bytes (Err y) →
+    IsOfKind ks k bytes (Err y)
 not_of_kind ks k bytes NotALine h = h
 not_of_kind ks k bytes Memory h = tt
 
@@ -45,7 +46,8 @@ spaceless_bare BareAsked = refl
 spaceless_bare BareDoomed = refl
 
 -- Where there is no space, a cause is one word.
-pub cause_of_word : (bytes : List ℕ) (r : Result Cause LineFault) → has_space bytes ≡ false → IsTaken OneWordCause cause_text bytes r → IsTaken CauseInForm cause_text bytes r
+pub cause_of_word : (bytes : List ℕ) (r : Result Cause LineFault) → has_space bytes ≡ false → IsTaken OneWordCause cause_text bytes r →
+    IsTaken CauseInForm cause_text bytes r
 cause_of_word bytes (Ok c) spaceless h = (one_word_fits c h.0, h.1)
 cause_of_word bytes (Err NotALine) spaceless h = λ c fits e. ⊎_elim
     (λ (b : (b : BareCause) × (bare_cause b ≡ c)). h (bare_cause b.0) (bare_is_one_word b.0) (e ∙ ap cause_text (sym b.1)))
@@ -54,7 +56,8 @@ cause_of_word bytes (Err NotALine) spaceless h = λ c fits e. ⊎_elim
 cause_of_word bytes (Err Memory) spaceless h = tt
 
 -- Where there is one, it isn't.
-pub cause_of_words : (bytes first fields : List ℕ) (r : Result Cause LineFault) → bytes ≡ first ++ 32 ∷ fields → IsTaken WordedCause cause_text bytes r → IsTaken CauseInForm cause_text bytes r
+pub cause_of_words : (bytes first fields : List ℕ) (r : Result Cause LineFault) → bytes ≡ first ++ 32 ∷ fields →
+    IsTaken WordedCause cause_text bytes r → IsTaken CauseInForm cause_text bytes r
 cause_of_words bytes first fields (Ok c) parts h = (h.0.0, h.1)
 cause_of_words bytes first fields (Err NotALine) parts h = λ c fits e. ⊎_elim
     (λ (b : (b : BareCause) × (bare_cause b ≡ c)). no_cut 32 (cause_text (bare_cause b.0)) first fields (spaceless_bare b.0) (ap cause_text b.1 ∙ (sym e ∙ parts)))
@@ -63,7 +66,9 @@ cause_of_words bytes first fields (Err NotALine) parts h = λ c fits e. ⊎_elim
 cause_of_words bytes first fields (Err Memory) parts h = tt
 
 -- What is from a wrong sender is no line.
-pub wrong_sender : (fields : List ℕ) (k : Word) (s : Sender) (n : Node) (f : FrameKind) → (word ▸ sender ▸ node ▸ frame).InForm (k, (s, (n, f))) × (fields ≡ (word ▸ sender ▸ node ▸ frame).text (k, (s, (n, f)))) → (s.number == 0) ≢ is_junk f → (v : (line_form line.Sent).Value) → (line_form line.Sent).InForm v → fields ≢ (line_form line.Sent).text v
+pub wrong_sender : (fields : List ℕ) (k : Word) (s : Sender) (n : Node) (f : FrameKind) →
+    (word ▸ sender ▸ node ▸ frame).InForm (k, (s, (n, f))) × (fields ≡ (word ▸ sender ▸ node ▸ frame).text (k, (s, (n, f)))) →
+    (s.number == 0) ≢ is_junk f → (v : (line_form line.Sent).Value) → (line_form line.Sent).InForm v → fields ≢ (line_form line.Sent).text v
 wrong_sender fields k s n f read other v fits e =
     let same = sent_facts.once (k, (s, (n, f))) v read.0 fits.0 (sym read.1 ∙ e) in
     other (subst (λ w. (w.1.0.number == 0) ≡ is_junk w.1.1.1) (sym same) fits.1)

@@ -1,5 +1,6 @@
 -- The pieces of a line that are one word: which bytes their texts lack, and that no two have one text.
-use Rattle.std.proofs.Common.{◌≡◌, ◌≢◌, ℕ, ◌+◌, ◌-◌, ◌/◌, ◌%◌, ◌<◌, ◌≤◌, List, [], ◌∷◌, ◌++◌, length, drop, true, false, ◌||◌, Some, None, refl, sym, ◌∙◌, ap, subst, arith, ⊎_elim}
+use Rattle.std.proofs.Common.{◌≡◌, ◌≢◌, ℕ, ◌+◌, ◌-◌, ◌/◌, ◌%◌, ◌<◌, ◌≤◌, List, [], ◌∷◌, ◌++◌, length, drop, true, false, ◌||◌, Some, None}
+use Rattle.std.proofs.Common.{refl, sym, ◌∙◌, ap, subst, arith, ⊎_elim}
 use Rattle.std.specs.Prelude.{◌==◌, Bool, codes, find, if◌then◌else◌, nat_lt, replicate}
 use Rattle.std.specs.List.{flat_map, list_all}
 use Rattle.std.specs.Fmt.{decimal}
@@ -79,7 +80,8 @@ letters_lack k apart (b ∷ bs) h =
     or_from (b == k) (has_byte k bs) (letter_lacks k b apart parts.0) (letters_lack k apart bs parts.1)
 
 sign_lacks : (k b : ℕ) → IsApart k → (is_letter b || is_digit b) ≡ true → (b == k) ≡ false
-sign_lacks k b apart h = ne_eqb b k (λ e. both_ways (is_letter k || is_digit k) (or_from (is_letter k) (is_digit k) apart.letter apart.digit) (subst (λ n. (is_letter n || is_digit n) ≡ true) e h))
+sign_lacks k b apart h =
+    ne_eqb b k (λ e. both_ways (is_letter k || is_digit k) (or_from (is_letter k) (is_digit k) apart.letter apart.digit) (subst (λ n. (is_letter n || is_digit n) ≡ true) e h))
 
 signs_lack : (k : ℕ) → IsApart k → (bs : List ℕ) → list_all (λ c. is_letter c || is_digit c) bs ≡ true → has_byte k bs ≡ false
 signs_lack k apart [] h = refl
@@ -104,7 +106,8 @@ same_label a b e f =
     let zeros_prop : IsProp (drop b.len b.text ≡ replicate (16 - b.len) 0) = hlevel props in
     let whole : PathP (λ i. length (f i) ≡ 16) a.whole b.whole = to_path_p (λ i. length (f i) ≡ 16) (whole_prop _ _) in
     let short : PathP (λ i. e i ≤ 16) a.short b.short = to_path_p (λ i. e i ≤ 16) (short_prop _ _) in
-    let zeros : PathP (λ i. drop (e i) (f i) ≡ replicate (16 - e i) 0) a.zeros b.zeros = to_path_p (λ i. drop (e i) (f i) ≡ replicate (16 - e i) 0) (zeros_prop _ _) in
+    let zeros : PathP (λ i. drop (e i) (f i) ≡ replicate (16 - e i) 0) a.zeros b.zeros =
+    to_path_p (λ i. drop (e i) (f i) ≡ replicate (16 - e i) 0) (zeros_prop _ _) in
     λ i. record { len = e i; text = f i; whole = whole i; short = short i; zeros = zeros i }
 
 label_text : (l : Label) → name l ++ replicate (16 - l.len) 0 ≡ l.text
@@ -146,11 +149,13 @@ pair_lacks_byte k apart b small =
 
 pairs_lack : (k : ℕ) → IsApart k → (bs : List ℕ) → AreBytes bs → has_byte k (flat_map hex_pair bs) ≡ false
 pairs_lack k apart [] fits = refl
-pairs_lack k apart (b ∷ bs) fits = lacks_both k (hex_pair b) (flat_map hex_pair bs) (pair_lacks_byte k apart b fits.0) (pairs_lack k apart bs fits.1)
+pairs_lack k apart (b ∷ bs) fits =
+    lacks_both k (hex_pair b) (flat_map hex_pair bs) (pair_lacks_byte k apart b fits.0) (pairs_lack k apart bs fits.1)
 
 pub hex_lacks : (k : ℕ) → IsApart k → Lacks k AreBytes hex
 hex_lacks k apart [] fits = or_from (45 == k) false apart.dash refl
-hex_lacks k apart (b ∷ bs) fits = lacks_both k (hex_pair b) (flat_map hex_pair bs) (pair_lacks_byte k apart b fits.0) (pairs_lack k apart bs fits.1)
+hex_lacks k apart (b ∷ bs) fits =
+    lacks_both k (hex_pair b) (flat_map hex_pair bs) (pair_lacks_byte k apart b fits.0) (pairs_lack k apart bs fits.1)
 
 hex_digit_once : (m n : ℕ) → m < 16 → n < 16 → hex_digit m ≡ hex_digit n → m ≡ n
 hex_digit_once m n hm hn e = grind (arith, nat_tests)
@@ -196,9 +201,11 @@ found_passes q p [] k e h = absurd cc
 found_passes q p (x ∷ xs) k e h =
     let parts = and_parts (p x) (list_all p xs) h in
     ⊎_elim
-    (λ (yes : q x ≡ true). let here : Some x ≡ Some k = sym (ap (λ t. if t then Some x else find q xs) yes) ∙ e in let same : x ≡ k = cc in subst (λ y. p y ≡ true) same parts.0)
+    (λ (yes : q x ≡ true). let here : Some x ≡ Some k = sym (ap (λ t. if t then Some x else find q xs) yes) ∙ e in let same : x ≡ k =
+    cc in subst (λ y. p y ≡ true) same parts.0)
     (λ (no : q x ≡ false). found_passes q p xs k (sym (ap (λ t. if t then Some x else find q xs) no) ∙ e) parts.1)
     (cases_Bool (q x))
 
-pub known_passes : {K : Type 0} (word : K → List ℕ) (every : List K) → IsKnown word every → (p : K → Bool) → list_all p every ≡ true → (k : K) → p k ≡ true
+pub known_passes : {K : Type 0} (word : K → List ℕ) (every : List K) → IsKnown word every → (p : K → Bool) → list_all p every ≡ true →
+    (k : K) → p k ≡ true
 known_passes word every known p h k = found_passes (λ j. bytes_eq (word j) (word k)) p every k (known k) h

@@ -24,15 +24,24 @@ use Rattle.arj_journal_reader.specs.declared.pieces.Version.{Version}
 use Rattle.arj_journal_reader.specs.declared.pieces.Word.{Word}
 use Rattle.arj_text.specs.Fields.{IsWithin, NumberInForm, WordInForm}
 use Rattle.arj_journal.specs.LineForm.{BodyInForm, CauseInForm, DifferenceInForm, NodeInForm, ObjectInForm, is_junk}
-use Rattle.arj_journal_reader.specs.LineKinds.{node, sender, refusal, object, word, version, label, parent, uid, binding, hex_bytes, nodes, kind, part, role, frame, which, mode, ending, yes_no, difference_form, make_difference, differences, difference_piece, WordedCause, cause_form, make_cause, causes, cause_piece, line_form, make_body, lines, nothing}
+use Rattle.arj_journal_reader.specs.LineKinds.{node, sender, refusal, object, word, version, label, parent, uid, binding, hex_bytes, nodes}
+use Rattle.arj_journal_reader.specs.LineKinds.{kind, part, role, frame, which, mode, ending, yes_no, difference_form, make_difference}
+use Rattle.arj_journal_reader.specs.LineKinds.{differences, difference_piece, WordedCause, cause_form, make_cause, causes, cause_piece}
+use Rattle.arj_journal_reader.specs.LineKinds.{line_form, make_body, lines, nothing}
 use Rattle.arj_journal.specs.LineText.{body_text, cause_text, difference_text}
-use Rattle.arj_journal.specs.LineWords.{cause_word, difference_word, frame_text, kind_text, line_word, part_text, role_text, which_text, yes_text}
-use Rattle.arj_journal_reader.specs.Spellings.{IsKnown, cause_kinds, difference_kinds, ends, frame_kinds, kinds, known_cause_kinds, known_difference_kinds, known_ends, known_frame_kinds, known_kinds, known_limits, known_line_kinds, known_modes, known_parts, known_roles, limits, line_kinds, modes, parts, roles}
+use Rattle.arj_journal.specs.LineWords.{cause_word, difference_word, frame_text, kind_text, line_word, part_text, role_text, which_text}
+use Rattle.arj_journal.specs.LineWords.{yes_text}
+use Rattle.arj_journal_reader.specs.Spellings.{IsKnown, cause_kinds, difference_kinds, ends, frame_kinds, kinds, known_cause_kinds}
+use Rattle.arj_journal_reader.specs.Spellings.{known_difference_kinds, known_ends, known_frame_kinds, known_kinds, known_limits}
+use Rattle.arj_journal_reader.specs.Spellings.{known_line_kinds, known_modes, known_parts, known_roles, limits, line_kinds, modes, parts}
+use Rattle.arj_journal_reader.specs.Spellings.{roles}
 use Rattle.arj_text.specs.Words.{end_text, mode_text}
 use Rattle.arj_journal_reader.proofs.ByKind.{AreOfKinds, Seen}
 use Rattle.arj_journal_reader.proofs.Calls.{call_facts}
-use Rattle.arj_journal_reader.proofs.Facts.{HaveWords, PieceFacts, WordFacts, alone, behind, form_of, kinds_facts, known_facts, mixed_facts, narrowed, numbered, spaceless, spaceless_words}
-use Rattle.arj_journal_reader.proofs.Leaves.{binding_lacks, binding_once, hex_lacks, hex_once, known_once, label_lacks, label_once, parent_lacks, parent_once, uid_lacks, uid_once}
+use Rattle.arj_journal_reader.proofs.Facts.{HaveWords, PieceFacts, WordFacts, alone, behind, form_of, kinds_facts, known_facts, mixed_facts}
+use Rattle.arj_journal_reader.proofs.Facts.{narrowed, numbered, spaceless, spaceless_words}
+use Rattle.arj_journal_reader.proofs.Leaves.{binding_lacks, binding_once, hex_lacks, hex_once, known_once, label_lacks, label_once}
+use Rattle.arj_journal_reader.proofs.Leaves.{parent_lacks, parent_once, uid_lacks, uid_once}
 use Rattle.arj_journal_reader.proofs.NodeLists.{nodes_lack, nodes_once}
 
 -- The pieces that are one word.
@@ -43,7 +52,10 @@ a_sender : WordFacts sender
 a_sender = numbered Sender (λ n. n.number) (λ n. IsWithin 0 NODES n.number) (λ n h. omega (arith, h.1)) (λ m n e i. record { number = e i })
 
 a_refusal : WordFacts refusal
-a_refusal = numbered Refusal (λ n. n.number) (λ n. IsWithin 1 REFUSALS n.number) (λ n h. omega (arith, h.1)) (λ m n e i. record { number = e i })
+a_refusal = numbered Refusal (λ n. n.number) (λ n. IsWithin 1 REFUSALS n.number) (λ n h. omega (arith, h.1)) (λ m n e i. record {
+  number =
+      e i;
+})
 
 an_object : WordFacts object
 an_object = numbered Object (λ n. n.number) (λ n. ObjectInForm n.number) (λ n h. omega (arith, h.1)) (λ m n e i. record { number = e i })
@@ -112,14 +124,24 @@ a_yes_no = known_facts yes_text (true ∷ false ∷ []) yes_no_known refl
 
 -- What was had and what is there now.
 seen_difference : (d : Difference) → DifferenceInForm d → Seen differences d
-seen_difference (difference.Inc had now) h = record { kind = difference_kind.Inc; value = (record { number = had }, record { number = now }); fits = (h.0, spaceless a_word (record { number = had }) h.0, h.1); made = refl }
-seen_difference (difference.Bind had now) h = record { kind = difference_kind.Bind; value = (had, now); fits = (h.0, spaceless a_binding had h.0, h.1); made = refl }
+seen_difference (difference.Inc had now) h =
+    record {
+      kind = difference_kind.Inc;
+      value = (record { number = had }, record { number = now });
+      fits =
+          (h.0, spaceless a_word (record { number = had }) h.0, h.1);
+      made = refl;
+    }
+seen_difference (difference.Bind had now) h =
+    record { kind = difference_kind.Bind; value = (had, now); fits = (h.0, spaceless a_binding had h.0, h.1); made = refl }
 
-difference_fits : (k : DifferenceKind) (v : (difference_form k).Value) → (difference_form k).InForm v → DifferenceInForm (make_difference k v)
+difference_fits : (k : DifferenceKind) (v : (difference_form k).Value) → (difference_form k).InForm v →
+    DifferenceInForm (make_difference k v)
 difference_fits difference_kind.Inc v h = (h.0, h.2)
 difference_fits difference_kind.Bind v h = (h.0, h.2)
 
-difference_spelled : (k : DifferenceKind) (v : (difference_form k).Value) → difference_text (make_difference k v) ≡ difference_word k ++ 32 ∷ (difference_form k).text v
+difference_spelled : (k : DifferenceKind) (v : (difference_form k).Value) →
+    difference_text (make_difference k v) ≡ difference_word k ++ 32 ∷ (difference_form k).text v
 difference_spelled difference_kind.Inc v = refl
 difference_spelled difference_kind.Bind v = refl
 
@@ -140,18 +162,47 @@ differences_are = record {
 }
 
 difference_facts : PieceFacts difference_piece
-difference_facts = kinds_facts differences difference_kinds DifferenceInForm difference_text words_of_differences differences_are difference_forms
+difference_facts =
+    kinds_facts differences difference_kinds DifferenceInForm difference_text words_of_differences differences_are difference_forms
 
 -- Why an action aborted.
 seen_cause : (c : Cause) → WordedCause c → Seen causes c
 seen_cause cause.Asked h = absurd (both_ways true h.1 refl)
 seen_cause cause.Doomed h = absurd (both_ways true h.1 refl)
 seen_cause (cause.Lost n) h = record { kind = cause_kind.Lost; value = record { number = n }; fits = h.0; made = refl }
-seen_cause (cause.Conflict u m n) h = record { kind = cause_kind.Conflict; value = (u, (m, record { number = n })); fits = (h.0.0, spaceless a_uid u h.0.0, (tt, spaceless a_mode m tt, h.0.1)); made = refl }
-seen_cause (cause.Changed n d) h = record { kind = cause_kind.Changed; value = (record { number = n }, d); fits = (h.0.0, spaceless a_node (record { number = n }) h.0.0, h.0.1); made = refl }
-seen_cause (cause.Old n x v) h = record { kind = cause_kind.Old; value = (record { number = n }, (record { number = x }, record { number = v })); fits = (h.0.0, spaceless a_node (record { number = n }) h.0.0, (h.0.1, spaceless an_object (record { number = x }) h.0.1, h.0.2)); made = refl }
+seen_cause (cause.Conflict u m n) h =
+    record {
+      kind = cause_kind.Conflict;
+      value = (u, (m, record { number = n }));
+      fits =
+          (h.0.0, spaceless a_uid u h.0.0, (tt, spaceless a_mode m tt, h.0.1));
+      made = refl;
+    }
+seen_cause (cause.Changed n d) h =
+    record {
+      kind = cause_kind.Changed;
+      value = (record { number = n }, d);
+      fits =
+          (h.0.0, spaceless a_node (record { number = n }) h.0.0, h.0.1);
+      made = refl;
+    }
+seen_cause (cause.Old n x v) h =
+    record {
+      kind = cause_kind.Old;
+      value = (record { number = n }, (record { number = x }, record { number = v }));
+      fits =
+          (h.0.0, spaceless a_node (record { number = n }) h.0.0, (h.0.1, spaceless an_object (record { number = x }) h.0.1, h.0.2));
+      made = refl;
+    }
 seen_cause (cause.NoStores x) h = record { kind = cause_kind.NoStores; value = record { number = x }; fits = h.0; made = refl }
-seen_cause (cause.Listed x n) h = record { kind = cause_kind.Listed; value = (record { number = x }, record { number = n }); fits = (h.0.0, spaceless an_object (record { number = x }) h.0.0, h.0.1); made = refl }
+seen_cause (cause.Listed x n) h =
+    record {
+      kind = cause_kind.Listed;
+      value = (record { number = x }, record { number = n });
+      fits =
+          (h.0.0, spaceless an_object (record { number = x }) h.0.0, h.0.1);
+      made = refl;
+    }
 
 cause_fits : (k : CauseKind) (v : (cause_form k).Value) → (cause_form k).InForm v → WordedCause (make_cause k v)
 cause_fits cause_kind.Asked v h = absurd v
@@ -222,41 +273,219 @@ either (cause.NoStores x) h = inr (h, refl)
 either (cause.Listed x n) h = inr (h, refl)
 
 cause_facts : PieceFacts cause_piece
-cause_facts = mixed_facts causes WordedCause CauseInForm cause_text (record { Bare = BareCause; bare = bare_cause; every = BareAsked ∷ BareDoomed ∷ [] })
-    (record { are = causes_are; facts = kinds_facts causes cause_kinds WordedCause cause_text words_of_causes causes_are cause_forms; known = bare_known; letters = refl; either = either })
+cause_facts =
+    mixed_facts causes WordedCause CauseInForm cause_text (record {
+      Bare = BareCause;
+      bare = bare_cause;
+      every =
+          BareAsked ∷ BareDoomed ∷ [];
+    })
+    (record {
+      are = causes_are;
+      facts =
+          kinds_facts causes cause_kinds WordedCause cause_text words_of_causes causes_are cause_forms;
+      known =
+          bare_known;
+      letters = refl;
+      either = either;
+    })
 
 -- The lines.
 seen_body : (b : Body) → BodyInForm b → Seen lines b
-seen_body (body.Began l k u p) h = record { kind = line.Began; value = (l, (k, (u, record { label = p }))); fits = (h.0, spaceless a_label l h.0, (tt, spaceless a_kind k tt, (h.1, spaceless a_uid u h.1, h.2))); made = refl }
-seen_body (body.Ok l x p a) h = record { kind = line.Ok; value = (l, (record { number = x }, record { op = p; answer = a })); fits = (h.0, spaceless a_label l h.0, (h.1, spaceless an_object (record { number = x }) h.1, (h.2, h.3))); made = refl }
-seen_body (body.Includes l x n) h = record { kind = line.Includes; value = (l, (record { number = x }, record { number = n })); fits = (h.0, spaceless a_label l h.0, (h.1, spaceless an_object (record { number = x }) h.1, h.2)); made = refl }
-seen_body (body.Conflict l u m n) h = record { kind = line.Conflict; value = (l, (u, (m, record { number = n }))); fits = (h.0, spaceless a_label l h.0, (h.1, spaceless a_uid u h.1, (tt, spaceless a_mode m tt, h.2))); made = refl }
-seen_body (body.Lost l n) h = record { kind = line.Lost; value = (l, record { number = n }); fits = (h.0, spaceless a_label l h.0, h.1); made = refl }
-seen_body (body.Changed l n d) h = record { kind = line.Changed; value = (l, (record { number = n }, d)); fits = (h.0, spaceless a_label l h.0, (h.1, spaceless a_node (record { number = n }) h.1, h.2)); made = refl }
+seen_body (body.Began l k u p) h =
+    record {
+      kind = line.Began;
+      value = (l, (k, (u, record { label = p })));
+      fits =
+          (h.0, spaceless a_label l h.0, (tt, spaceless a_kind k tt, (h.1, spaceless a_uid u h.1, h.2)));
+      made = refl;
+    }
+seen_body (body.Ok l x p a) h =
+    record {
+      kind = line.Ok;
+      value = (l, (record { number = x }, record { op = p; answer = a }));
+      fits =
+          (h.0, spaceless a_label l h.0, (h.1, spaceless an_object (record { number = x }) h.1, (h.2, h.3)));
+      made = refl;
+    }
+seen_body (body.Includes l x n) h =
+    record {
+      kind = line.Includes;
+      value = (l, (record { number = x }, record { number = n }));
+      fits =
+          (h.0, spaceless a_label l h.0, (h.1, spaceless an_object (record { number = x }) h.1, h.2));
+      made = refl;
+    }
+seen_body (body.Conflict l u m n) h =
+    record {
+      kind = line.Conflict;
+      value = (l, (u, (m, record { number = n })));
+      fits =
+          (h.0, spaceless a_label l h.0, (h.1, spaceless a_uid u h.1, (tt, spaceless a_mode m tt, h.2)));
+      made = refl;
+    }
+seen_body (body.Lost l n) h =
+    record { kind = line.Lost; value = (l, record { number = n }); fits = (h.0, spaceless a_label l h.0, h.1); made = refl }
+seen_body (body.Changed l n d) h =
+    record {
+      kind = line.Changed;
+      value = (l, (record { number = n }, d));
+      fits =
+          (h.0, spaceless a_label l h.0, (h.1, spaceless a_node (record { number = n }) h.1, h.2));
+      made = refl;
+    }
 seen_body (body.Committing l) h = record { kind = line.Committing; value = l; fits = h; made = refl }
 seen_body (body.Committed l) h = record { kind = line.Committed; value = l; fits = h; made = refl }
 seen_body (body.Ended l) h = record { kind = line.Ended; value = l; fits = h; made = refl }
 seen_body (body.Aborted l c) h = record { kind = line.Aborted; value = (l, c); fits = (h.0, spaceless a_label l h.0, h.1); made = refl }
-seen_body (body.GaveUp l n) h = record { kind = line.GaveUp; value = (l, record { number = n }); fits = (h.0, spaceless a_label l h.0, h.1); made = refl }
-seen_body (body.Excluded l x n) h = record { kind = line.Excluded; value = (l, (record { number = x }, record { number = n })); fits = (h.0, spaceless a_label l h.0, (h.1, spaceless an_object (record { number = x }) h.1, h.2)); made = refl }
-seen_body (body.Granted n u o m) h = record { kind = line.Granted; value = (record { number = n }, (u, (o, m))); fits = (h.0, spaceless a_node (record { number = n }) h.0, (h.1, spaceless a_uid u h.1, (h.2, spaceless a_uid o h.2, tt))); made = refl }
-seen_body (body.Lowered n u o) h = record { kind = line.Lowered; value = (record { number = n }, (u, o)); fits = (h.0, spaceless a_node (record { number = n }) h.0, (h.1, spaceless a_uid u h.1, h.2)); made = refl }
-seen_body (body.Bound x b n) h = record { kind = line.Bound; value = (record { number = x }, (b, record { number = n })); fits = (h.0, spaceless an_object (record { number = x }) h.0, (h.1, spaceless a_binding b h.1, h.2)); made = refl }
-seen_body (body.Active n x b) h = record { kind = line.Active; value = (record { number = n }, (record { number = x }, b)); fits = (h.0, spaceless a_node (record { number = n }) h.0, (h.1, spaceless an_object (record { number = x }) h.1, h.2)); made = refl }
-seen_body (body.Told n u e p) h = record { kind = line.Told; value = (record { number = n }, (u, (e, p))); fits = (h.0, spaceless a_node (record { number = n }) h.0, (h.1, spaceless a_uid u h.1, (tt, spaceless an_ending e tt, tt))); made = refl }
-seen_body (body.Prepared n u r) h = record { kind = line.Prepared; value = (record { number = n }, (u, r)); fits = (h.0, spaceless a_node (record { number = n }) h.0, (h.1, spaceless a_uid u h.1, tt)); made = refl }
-seen_body (body.Done n u r e) h = record { kind = line.Done; value = (record { number = n }, (u, (r, e))); fits = (h.0, spaceless a_node (record { number = n }) h.0, (h.1, spaceless a_uid u h.1, (tt, spaceless a_role r tt, tt))); made = refl }
-seen_body (body.Sent k s n f) h = record { kind = line.Sent; value = (record { number = k }, (record { number = s }, (record { number = n }, f))); fits = ((h.0, spaceless a_word (record { number = k }) h.0, (h.1.0, spaceless a_sender (record { number = s }) h.1.0, (h.2, spaceless a_node (record { number = n }) h.2, tt))), h.1.1); made = refl }
+seen_body (body.GaveUp l n) h =
+    record { kind = line.GaveUp; value = (l, record { number = n }); fits = (h.0, spaceless a_label l h.0, h.1); made = refl }
+seen_body (body.Excluded l x n) h =
+    record {
+      kind = line.Excluded;
+      value = (l, (record { number = x }, record { number = n }));
+      fits =
+          (h.0, spaceless a_label l h.0, (h.1, spaceless an_object (record { number = x }) h.1, h.2));
+      made = refl;
+    }
+seen_body (body.Granted n u o m) h =
+    record {
+      kind = line.Granted;
+      value = (record { number = n }, (u, (o, m)));
+      fits =
+          (h.0, spaceless a_node (record { number = n }) h.0, (h.1, spaceless a_uid u h.1, (h.2, spaceless a_uid o h.2, tt)));
+      made = refl;
+    }
+seen_body (body.Lowered n u o) h =
+    record {
+      kind = line.Lowered;
+      value = (record { number = n }, (u, o));
+      fits =
+          (h.0, spaceless a_node (record { number = n }) h.0, (h.1, spaceless a_uid u h.1, h.2));
+      made = refl;
+    }
+seen_body (body.Bound x b n) h =
+    record {
+      kind = line.Bound;
+      value = (record { number = x }, (b, record { number = n }));
+      fits =
+          (h.0, spaceless an_object (record { number = x }) h.0, (h.1, spaceless a_binding b h.1, h.2));
+      made = refl;
+    }
+seen_body (body.Active n x b) h =
+    record {
+      kind = line.Active;
+      value = (record { number = n }, (record { number = x }, b));
+      fits =
+          (h.0, spaceless a_node (record { number = n }) h.0, (h.1, spaceless an_object (record { number = x }) h.1, h.2));
+      made = refl;
+    }
+seen_body (body.Told n u e p) h =
+    record {
+      kind = line.Told;
+      value = (record { number = n }, (u, (e, p)));
+      fits =
+          (h.0, spaceless a_node (record { number = n }) h.0, (h.1, spaceless a_uid u h.1, (tt, spaceless an_ending e tt, tt)));
+      made = refl;
+    }
+seen_body (body.Prepared n u r) h =
+    record {
+      kind = line.Prepared;
+      value = (record { number = n }, (u, r));
+      fits =
+          (h.0, spaceless a_node (record { number = n }) h.0, (h.1, spaceless a_uid u h.1, tt));
+      made = refl;
+    }
+seen_body (body.Done n u r e) h =
+    record {
+      kind = line.Done;
+      value = (record { number = n }, (u, (r, e)));
+      fits =
+          (h.0, spaceless a_node (record { number = n }) h.0, (h.1, spaceless a_uid u h.1, (tt, spaceless a_role r tt, tt)));
+      made = refl;
+    }
+seen_body (body.Sent k s n f) h =
+    record {
+      kind = line.Sent;
+      value = (record { number = k }, (record { number = s }, (record { number = n }, f)));
+      fits = (
+        (
+          h.0,
+          spaceless a_word (record {
+            number =
+                k;
+          }) h.0,
+          (
+            h.1.0,
+            spaceless a_sender (record {
+              number =
+                  s;
+            }) h.1.0,
+            (h.2, spaceless a_node (record { number = n }) h.2, tt),
+          ),
+        ),
+        h.1.1,
+      );
+      made = refl;
+    }
 seen_body (body.Got k) h = record { kind = line.Got; value = record { number = k }; fits = h; made = refl }
 seen_body (body.Void k) h = record { kind = line.Void; value = record { number = k }; fits = h; made = refl }
 seen_body (body.Dropped k) h = record { kind = line.Dropped; value = record { number = k }; fits = h; made = refl }
 seen_body (body.Halted n) h = record { kind = line.Halted; value = record { number = n }; fits = h; made = refl }
-seen_body (body.Up n i) h = record { kind = line.Up; value = (record { number = n }, record { number = i }); fits = (h.0, spaceless a_node (record { number = n }) h.0, h.1); made = refl }
+seen_body (body.Up n i) h =
+    record {
+      kind = line.Up;
+      value = (record { number = n }, record { number = i });
+      fits =
+          (h.0, spaceless a_node (record { number = n }) h.0, h.1);
+      made = refl;
+    }
 seen_body (body.Armed n) h = record { kind = line.Armed; value = record { number = n }; fits = h; made = refl }
-seen_body (body.Recovered n u) h = record { kind = line.Recovered; value = (record { number = n }, u); fits = (h.0, spaceless a_node (record { number = n }) h.0, h.1); made = refl }
+seen_body (body.Recovered n u) h =
+    record {
+      kind = line.Recovered;
+      value = (record { number = n }, u);
+      fits =
+          (h.0, spaceless a_node (record { number = n }) h.0, h.1);
+      made = refl;
+    }
 seen_body (body.Refused c) h = record { kind = line.Refused; value = record { number = c }; fits = h; made = refl }
-seen_body (body.Entry x v s t) h = record { kind = line.Entry; value = (record { number = x }, (record { number = v }, (record { list = s }, record { list = t }))); fits = (h.0, spaceless an_object (record { number = x }) h.0, (h.1, spaceless a_version (record { number = v }) h.1, (h.2, spaceless a_nodes (record { list = s }) h.2, h.3))); made = refl }
-seen_body (body.Copy n x v u p) h = record { kind = line.Copy; value = (record { number = n }, (record { number = x }, (record { number = v }, (u, record { bytes = p })))); fits = (h.0, spaceless a_node (record { number = n }) h.0, (h.1, spaceless an_object (record { number = x }) h.1, (h.2, spaceless a_version (record { number = v }) h.2, (h.3, spaceless a_uid u h.3, h.4)))); made = refl }
+seen_body (body.Entry x v s t) h =
+    record {
+      kind = line.Entry;
+      value = (record { number = x }, (record { number = v }, (record { list = s }, record { list = t })));
+      fits = (
+        h.0,
+        spaceless an_object (record {
+          number =
+              x;
+        }) h.0,
+        (h.1, spaceless a_version (record { number = v }) h.1, (h.2, spaceless a_nodes (record { list = s }) h.2, h.3)),
+      );
+      made = refl;
+    }
+seen_body (body.Copy n x v u p) h =
+    record {
+      kind = line.Copy;
+      value =
+          (record { number = n }, (record { number = x }, (record { number = v }, (u, record { bytes = p }))));
+      fits = (
+        h.0,
+        spaceless a_node (record {
+          number =
+              n;
+        }) h.0,
+        (
+          h.1,
+          spaceless an_object (record {
+            number =
+                x;
+          }) h.1,
+          (h.2, spaceless a_version (record { number = v }) h.2, (h.3, spaceless a_uid u h.3, h.4)),
+        ),
+      );
+      made = refl;
+    }
 seen_body (body.Quiet b) h = record { kind = line.Quiet; value = b; fits = tt; made = refl }
 seen_body (body.Bad n) h = record { kind = line.Bad; value = record { number = n }; fits = h; made = refl }
 seen_body (body.Limit w) h = record { kind = line.Limit; value = w; fits = tt; made = refl }

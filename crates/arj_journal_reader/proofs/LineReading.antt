@@ -34,27 +34,32 @@ ends_so l = sym (append_assoc (decimal l.event) (32 ∷ body_text l.body) (10 �
 pub no_end : (bytes : List ℕ) → ((f : List ℕ) → bytes ≢ f ++ 10 ∷ []) → (l : Line) → LineInForm l → bytes ≢ line_text l
 no_end bytes none l h e = none (inner.text (inner_of l)) (e ∙ ends_so l)
 
-pub line_fails : (bytes text : List ℕ) (y : LineFault) → bytes ≡ text ++ 10 ∷ [] → IsTaken inner.InForm inner.text text (Err y) → IsTaken LineInForm line_text bytes (Err y)
+pub line_fails : (bytes text : List ℕ) (y : LineFault) → bytes ≡ text ++ 10 ∷ [] → IsTaken inner.InForm inner.text text (Err y) →
+    IsTaken LineInForm line_text bytes (Err y)
 line_fails bytes text NotALine parts none =
     λ l h e. none (inner_of l) (inner_fits l h) (append_cancel_right text (inner.text (inner_of l)) (10 ∷ []) (sym parts ∙ (e ∙ ends_so l)))
 line_fails bytes text Memory parts none = tt
 
-pub line_read : (bytes text : List ℕ) (k : Word) (b : Body) → bytes ≡ text ++ 10 ∷ [] → inner.InForm (k, b) × (text ≡ inner.text (k, b)) → IsTaken LineInForm line_text bytes (Ok (record { event = k.number; body = b }))
+pub line_read : (bytes text : List ℕ) (k : Word) (b : Body) → bytes ≡ text ++ 10 ∷ [] → inner.InForm (k, b) × (text ≡ inner.text (k, b)) →
+    IsTaken LineInForm line_text bytes (Ok (record { event = k.number; body = b }))
 line_read bytes text k b parts read =
     let l : Line = record { event = k.number; body = b } in
     ((read.0.0, read.0.2), parts ∙ (ap (λ t. t ++ 10 ∷ []) read.1 ∙ sym (ends_so l)))
 
 -- the three clauses of the reader
-pub read_so : (bytes : List ℕ) (r : Result Line LineFault) → IsTaken LineInForm line_text bytes r → IfOk r (λ l. LineInForm l × (bytes ≡ line_text l))
+pub read_so : (bytes : List ℕ) (r : Result Line LineFault) → IsTaken LineInForm line_text bytes r →
+    IfOk r (λ l. LineInForm l × (bytes ≡ line_text l))
 read_so bytes (Ok l) h = h
 read_so bytes (Err y) h = tt
 
-pub read_back : (bytes : List ℕ) (r : Result Line LineFault) → IsTaken LineInForm line_text bytes r → (l : Line) → LineInForm l → bytes ≡ line_text l → MatchResult r (λ m. m ≡ l) (λ fault. fault ≡ Memory)
+pub read_back : (bytes : List ℕ) (r : Result Line LineFault) → IsTaken LineInForm line_text bytes r → (l : Line) → LineInForm l →
+    bytes ≡ line_text l → MatchResult r (λ m. m ≡ l) (λ fault. fault ≡ Memory)
 read_back bytes (Ok m) h l fits e = line_once m l h.0 fits (sym h.1 ∙ e)
 read_back bytes (Err NotALine) h l fits e = absurd (h l fits e)
 read_back bytes (Err Memory) h l fits e = refl
 
-pub read_none : (bytes : List ℕ) (r : Result Line LineFault) → IsTaken LineInForm line_text bytes r → IsErrOf r NotALine → (l : Line) → LineInForm l → bytes ≢ line_text l
+pub read_none : (bytes : List ℕ) (r : Result Line LineFault) → IsTaken LineInForm line_text bytes r → IsErrOf r NotALine → (l : Line) →
+    LineInForm l → bytes ≢ line_text l
 read_none bytes (Ok l) h e = absurd cc
 read_none bytes (Err NotALine) h e = h
 read_none bytes (Err Memory) h e = absurd cc

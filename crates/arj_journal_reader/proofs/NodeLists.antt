@@ -20,10 +20,12 @@ small : (n : ℕ) → (nat_le 1 n && nat_le n 16) ≡ true → n < 2 ^ 64
 small n h = let high = leb-true n 16 (and_parts (nat_le 1 n) (nat_le n 16) h).1 in omega arith
 
 first_small : (n : ℕ) (ns : List ℕ) → AreNodes (n ∷ ns) → (n < 2 ^ 64) × AreNodes ns
-first_small n ns h = let parts = and_parts (nat_le 1 n && nat_le n 16) (list_all (λ m. nat_le 1 m && nat_le m 16) ns) h in (small n parts.0, parts.1)
+first_small n ns h =
+    let parts = and_parts (nat_le 1 n && nat_le n 16) (list_all (λ m. nat_le 1 m && nat_le m 16) ns) h in (small n parts.0, parts.1)
 
 are_nodes_of : (ns : List ℕ) → NodesInForm 16 16 ns → AreNodes ns
-are_nodes_of ns h = (and_parts (list_all (λ m. nat_le 1 m && nat_le m 16) ns) (is_distinct ns) (and_parts (nat_le 1 (length ns) && nat_le (length ns) 16) _ h).1).0
+are_nodes_of ns h =
+    (and_parts (list_all (λ m. nat_le 1 m && nat_le m 16) ns) (is_distinct ns) (and_parts (nat_le 1 (length ns) && nat_le (length ns) 16) _ h).1).0
 
 more_lack : (k : ℕ) → IsApart k → (ns : List ℕ) → AreNodes ns → has_byte k (flat_map behind_comma (decimals ns)) ≡ false
 more_lack k apart [] h = refl

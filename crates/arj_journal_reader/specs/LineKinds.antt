@@ -40,7 +40,8 @@ use Rattle.arj_text.specs.Label.{LabelInForm, name}
 use Rattle.arj_journal.specs.declared.limits.TheConstants.{NODES, REFUSALS, STORES}
 use Rattle.arj_journal.specs.LineForm.{CauseInForm, DifferenceInForm, NodeInForm, ObjectInForm, ParentInForm, is_junk}
 use Rattle.arj_journal.specs.LineText.{cause_text, difference_text, parent_text}
-use Rattle.arj_journal.specs.LineWords.{cause_word, difference_word, frame_text, kind_text, line_word, part_text, role_text, which_text, yes_text}
+use Rattle.arj_journal.specs.LineWords.{cause_word, difference_word, frame_text, kind_text, line_word, part_text, role_text, which_text}
+use Rattle.arj_journal.specs.LineWords.{yes_text}
 use Rattle.arj_text.specs.Words.{end_text, hex, list_text, mode_text, op_text}
 
 -- the pieces that are one word
@@ -191,7 +192,12 @@ cause_piece = record { Value = Cause; InForm = CauseInForm; text = cause_text }
 
 -- an operation, ` = `, and the text of its answer
 abbrev pub call : Form
-call = record { Value = Call; InForm = λ c. OpTextInForm c.op × IsAnswer c.op c.answer; text = λ c. op_text c.op ++ (codes " = " ++ c.answer) }
+call = record {
+  Value = Call;
+  InForm = λ c. OpTextInForm c.op × IsAnswer c.op c.answer;
+  text =
+      λ c. op_text c.op ++ (codes " = " ++ c.answer);
+}
 
 -- The lines.
 abbrev pub line_form : LineKind → Form

@@ -60,7 +60,8 @@ known_roles role.Names = refl
 
 -- the kinds of frames
 abbrev pub frame_kinds : List FrameKind
-frame_kinds = frame.Bind ∷ frame.Bound ∷ frame.Load ∷ frame.Loaded ∷ frame.Activate ∷ frame.Activated ∷ frame.Record ∷ frame.Recorded ∷ frame.Invoke ∷ frame.Invoked ∷ frame.Vote ∷ frame.Voted ∷ frame.Prepare ∷ frame.Prepared ∷ frame.Confirm ∷ frame.Confirmed ∷ frame.Told ∷ frame.Acked ∷ frame.Query ∷ frame.Hello ∷ frame.Junk ∷ []
+frame_kinds =
+    frame.Bind ∷ frame.Bound ∷ frame.Load ∷ frame.Loaded ∷ frame.Activate ∷ frame.Activated ∷ frame.Record ∷ frame.Recorded ∷ frame.Invoke ∷ frame.Invoked ∷ frame.Vote ∷ frame.Voted ∷ frame.Prepare ∷ frame.Prepared ∷ frame.Confirm ∷ frame.Confirmed ∷ frame.Told ∷ frame.Acked ∷ frame.Query ∷ frame.Hello ∷ frame.Junk ∷ []
 
 -- each kind of frame has a word of its own
 pub known_frame_kinds : IsKnown frame_text frame_kinds

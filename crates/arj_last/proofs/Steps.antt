@@ -1,5 +1,6 @@
 -- Last states, line by line.
-use Rattle.std.proofs.Common.{◌≡◌, ◌<◌, ◌≤◌, ℕ, suc, ◌+◌, List, [], ◌∷◌, ◌++◌, length, take, drop, get_or, Bool, true, false, cond, refl, sym, ◌∙◌, ap, arith}
+use Rattle.std.proofs.Common.{◌≡◌, ◌<◌, ◌≤◌, ℕ, suc, ◌+◌, List, [], ◌∷◌, ◌++◌, length, take, drop, get_or, Bool, true, false, cond, refl}
+use Rattle.std.proofs.Common.{sym, ◌∙◌, ap, arith}
 use Rattle.std.proofs.Math.Seq.{drop-cons}
 use Rattle.std.proofs.lemmas.List.{append-nil, drop_all}
 use Rattle.std.proofs.lemmas.List.Sums.{count_by_more_no, count_by_more_yes}
@@ -22,7 +23,8 @@ next_states every h ls i line lt is =
     ∙ (λ j. states_behind every h (sym (take_next ls i line lt is) j) line.body ++ states_from every h (sym (take_next ls i line lt is) j) (drop (i + 1) ls))
 
 -- how many of the lines tell of a commit, with the next one
-pub next_count : (ls : List Line) (i : ℕ) (line : Line) → i < length ls → line ≡ get_or ls i line → count_commits (take (i + 1) ls) ≡ count_commits (take i ls) + cond (is_commit line.body) 1 0
+pub next_count : (ls : List Line) (i : ℕ) (line : Line) → i < length ls → line ≡ get_or ls i line →
+    count_commits (take (i + 1) ls) ≡ count_commits (take i ls) + cond (is_commit line.body) 1 0
 next_count ls i line lt is = by (is_commit line.body) refl
   where
     there : (b : Bool) → is_commit line.body ≡ b → is_commit (get_or ls i line).body ≡ b
@@ -40,5 +42,6 @@ at_most_one true = omega arith
 at_most_one false = omega arith
 
 -- no lines are left at the end
-pub all_told : (every : ℕ) (h : Header) (ls : List Line) (i : ℕ) (out : List ℕ) → length ls ≤ i → out ≡ out ++ states_from every h (take i ls) (drop i ls)
+pub all_told : (every : ℕ) (h : Header) (ls : List Line) (i : ℕ) (out : List ℕ) → length ls ≤ i →
+    out ≡ out ++ states_from every h (take i ls) (drop i ls)
 all_told every h ls i out le = sym (append-nil out) ∙ ap (λ rest. out ++ states_from every h (take i ls) rest) (sym (drop_all i ls le))

@@ -1,5 +1,6 @@
 -- Tops that wrote an object, one write after another.
-use Rattle.std.proofs.Common.{◌≡◌, ◌<◌, ◌≤◌, ℕ, zero, suc, ◌+◌, List, [], ◌∷◌, ◌++◌, length, map, take, get_or, Bool, true, false, cond, ◌&&◌, ◌||◌, ◌==◌, nat_lt, Option, Some, None, refl, sym, ◌∙◌, ap, subst, arith, length-append}
+use Rattle.std.proofs.Common.{◌≡◌, ◌<◌, ◌≤◌, ℕ, zero, suc, ◌+◌, List, [], ◌∷◌, ◌++◌, length, map, take, get_or, Bool, true, false, cond}
+use Rattle.std.proofs.Common.{◌&&◌, ◌||◌, ◌==◌, nat_lt, Option, Some, None, refl, sym, ◌∙◌, ap, subst, arith, length-append}
 use Rattle.std.specs.Prelude.{filter}
 use Rattle.std.specs.BTreeMap.{BTreeMap, get}
 use Rattle.std.specs.List.{AllByRecursion, list_any}
@@ -62,7 +63,8 @@ count_more (d ∷ cs) c =
         ∙ four a b
         ∙ sym (λ i. cond (other i || eb i) (cond (ea i) n (n + 1)) (cond (ea i) n (n + 1) + 1))
       where
-        four : (a b : Bool) → cond (a || (false || false)) (cond b n (n + 1)) (cond b n (n + 1) + 1) ≡ cond (false || b) (cond a n (n + 1)) (cond a n (n + 1) + 1)
+        four : (a b : Bool) →
+            cond (a || (false || false)) (cond b n (n + 1)) (cond b n (n + 1) + 1) ≡ cond (false || b) (cond a n (n + 1)) (cond a n (n + 1) + 1)
         four true true = refl
         four true false = refl
         four false true = refl
@@ -74,11 +76,13 @@ count_more (d ∷ cs) c =
 abbrev pub KeysTell : List Top → Call → Call → Type 0
 KeysTell ts c d = same_writer (writer_of ts c) (writer_of ts d) ≡ (d.top == c.top)
 
-same_any : (ts : List Top) (c : Call) (ds : List Call) → AllByRecursion (KeysTell ts c) ds → list_any (λ d. same_writer (writer_of ts c) (writer_of ts d)) ds ≡ has_top ds c.top
+same_any : (ts : List Top) (c : Call) (ds : List Call) → AllByRecursion (KeysTell ts c) ds →
+    list_any (λ d. same_writer (writer_of ts c) (writer_of ts d)) ds ≡ has_top ds c.top
 same_any ts c [] h = refl
 same_any ts c (d ∷ ds) h = (λ i. h.0 i || same_any ts c ds h.1 i)
 
-pub wrote_more : (ts : List Top) (writes : List Call) (ws : List Writer) (c : Call) → Wrote ts writes ws → AllByRecursion (KeysTell ts c) writes → Wrote ts (writes ++ c ∷ []) (with_writer ws (writer_of ts c))
+pub wrote_more : (ts : List Top) (writes : List Call) (ws : List Writer) (c : Call) → Wrote ts writes ws →
+    AllByRecursion (KeysTell ts c) writes → Wrote ts (writes ++ c ∷ []) (with_writer ws (writer_of ts c))
 wrote_more ts writes ws c h own = by (list_any (same_writer k) ws) refl
   where
     k : Writer
@@ -95,7 +99,12 @@ wrote_more ts writes ws c h own = by (list_any (same_writer k) ws) refl
     or_false false = refl
 
     one : (w : Writer) → same_writer w k ≡ true → w ≡ k
-    one w is = let both = and_parts (w.unit == k.unit) (w.place == k.place) is in (λ i. record { unit = eqb-true w.unit k.unit both.0 i; place = eqb-true w.place k.place both.1 i })
+    one w is = let both =
+        and_parts (w.unit == k.unit) (w.place == k.place) is in (λ i. record {
+          unit = eqb-true w.unit k.unit both.0 i;
+          place =
+              eqb-true w.place k.place both.1 i;
+        })
 
     by : (b : Bool) → list_any (same_writer k) ws ≡ b → Wrote ts (writes ++ c ∷ []) (cond b ws (ws ++ k ∷ []))
     by true e = record {
@@ -103,11 +112,14 @@ wrote_more ts writes ws c h own = by (list_any (same_writer k) ws) refl
       same = λ w. h.same w ∙ also w (same_writer w k) refl ∙ sym (list_any-append (λ d. same_writer w (writer_of ts d)) writes (c ∷ []));
     }
       where
-        also : (w : Writer) (b : Bool) → same_writer w k ≡ b → list_any (λ d. same_writer w (writer_of ts d)) writes ≡ (list_any (λ d. same_writer w (writer_of ts d)) writes || (same_writer w k || false))
+        also : (w : Writer) (b : Bool) → same_writer w k ≡ b →
+            list_any (λ d. same_writer w (writer_of ts d)) writes ≡ (list_any (λ d. same_writer w (writer_of ts d)) writes || (same_writer w k || false))
         also w true is =
-            let here : list_any (λ d. same_writer w (writer_of ts d)) writes ≡ true = sym (h.same w) ∙ (λ i. list_any (same_writer (one w is i)) ws) ∙ e in
+            let here : list_any (λ d. same_writer w (writer_of ts d)) writes ≡ true =
+            sym (h.same w) ∙ (λ i. list_any (same_writer (one w is i)) ws) ∙ e in
             here ∙ (λ i. sym here i || (sym is i || false))
-        also w false is = or_false (list_any (λ d. same_writer w (writer_of ts d)) writes) ∙ (λ i. list_any (λ d. same_writer w (writer_of ts d)) writes || (sym is i || false))
+        also w false is =
+            or_false (list_any (λ d. same_writer w (writer_of ts d)) writes) ∙ (λ i. list_any (λ d. same_writer w (writer_of ts d)) writes || (sym is i || false))
     by false e = record {
       count = longer ∙ ap (λ n. n + 1) h.count ∙ sym (count_more writes c ∙ (λ i. cond ((sym known ∙ e) i) (count_tops writes) (count_tops writes + 1)));
       same = λ w. list_any-append (same_writer w) ws (k ∷ []) ∙ (λ i. h.same w i || (same_writer w k || false)) ∙ sym (list_any-append (λ d. same_writer w (writer_of ts d)) writes (c ∷ []));
@@ -128,7 +140,8 @@ by_place ts c d lt = by (unit_place ts (root_of ts d.top)) (top_place ts d.top) 
     by u p v q = (λ i. cond (nat_lt u v) true ((u == v) && cond (nat_lt p q) true ((p == q) && sym (later_place c.at d.at lt) i)))
 
 -- sorted, the keys are those of the calls in serial order
-pub sorted_keys : (lines : List Line) → arrange lex (map (serial_place (tops lines)) (committed_calls lines)) ≡ map (serial_place (tops lines)) (serial_calls lines)
+pub sorted_keys : (lines : List Line) →
+    arrange lex (map (serial_place (tops lines)) (committed_calls lines)) ≡ map (serial_place (tops lines)) (serial_calls lines)
 sorted_keys lines =
     arrange_map (serial_place (tops lines)) (committed_calls lines)
     ∙ ap (map (serial_place (tops lines))) (sym (arrange_same (serial_less (tops lines)) (by_key (serial_place (tops lines))) (committed_calls lines) (pairwise_map (λ c d. c.at < d.at) (λ c d. serial_less (tops lines) d c ≡ by_key (serial_place (tops lines)) d c) (by_place (tops lines)) (committed_calls lines) (rises lines))))
@@ -140,15 +153,21 @@ key_tells ts c d own = by (d.top == c.top) refl (same_writer (writer_of ts c) (w
     by true e true g = refl
     by true e false g =
         let one : d.top ≡ c.top = eqb-true d.top c.top e in
-        let same : same_writer (writer_of ts c) (writer_of ts c) ≡ true = (λ i. eq-eqb (unit_place ts (root_of ts c.top)) (unit_place ts (root_of ts c.top)) refl i && eq-eqb (top_place ts c.top) (top_place ts c.top) refl i) in
-        sym g ∙ (λ i. same_writer (writer_of ts c) (record { unit = unit_place ts (root_of ts (one i)); place = top_place ts (one i) })) ∙ same
+        let same : same_writer (writer_of ts c) (writer_of ts c) ≡ true =
+        (λ i. eq-eqb (unit_place ts (root_of ts c.top)) (unit_place ts (root_of ts c.top)) refl i && eq-eqb (top_place ts c.top) (top_place ts c.top) refl i) in
+        sym g ∙ (λ i. same_writer (writer_of ts c) (record {
+          unit = unit_place ts (root_of ts (one i));
+          place =
+              top_place ts (one i);
+        })) ∙ same
     by false e false g = refl
     by false e true g =
         let both = and_parts (unit_place ts (root_of ts c.top) == unit_place ts (root_of ts d.top)) (top_place ts c.top == top_place ts d.top) g in
         absurd (own e (sym (λ i. eqb-true (unit_place ts (root_of ts c.top)) (unit_place ts (root_of ts d.top)) both.0 i ∷ eqb-true (top_place ts c.top) (top_place ts d.top) both.1 i ∷ [])))
 
 -- each two calls in serial order have keys that tell their tops
-pub keys_tell : (lines : List Line) → AllByRecursion (λ c. AllByRecursion (λ d. HaveOwnKeys (tops lines) d c) (committed_calls lines)) (committed_calls lines)
+pub keys_tell : (lines : List Line) →
+    AllByRecursion (λ c. AllByRecursion (λ d. HaveOwnKeys (tops lines) d c) (committed_calls lines)) (committed_calls lines)
     → AllByRecursion (λ c. AllByRecursion (KeysTell (tops lines) c) (serial_calls lines)) (serial_calls lines)
 keys_tell lines own =
     all_arrange (λ c. AllByRecursion (KeysTell (tops lines) c) (serial_calls lines)) (serial_less (tops lines)) (committed_calls lines)
@@ -163,7 +182,8 @@ pub record NextCall (P : Call → Type 0) (key : Call → List ℕ) (calls : Lis
   pub is : k ≡ key call
   pub has : P call
 
-pub next_call : (P : Call → Type 0) (key : Call → List ℕ) (calls : List Call) (i : ℕ) (d : List ℕ) → i < length (map key calls) → AllByRecursion P calls → NextCall P key calls i (get_or (map key calls) i d)
+pub next_call : (P : Call → Type 0) (key : Call → List ℕ) (calls : List Call) (i : ℕ) (d : List ℕ) → i < length (map key calls) →
+    AllByRecursion P calls → NextCall P key calls i (get_or (map key calls) i d)
 next_call P key [] i d lt all = absurd (omega (arith, lt))
 next_call P key (c ∷ calls) zero d lt all = record { call = c; here = refl; is = refl; has = all.0 }
 next_call P key (c ∷ calls) (suc i) d lt all =
@@ -171,7 +191,8 @@ next_call P key (c ∷ calls) (suc i) d lt all =
     record { call = n.call; here = ap (λ cs. c ∷ cs) n.here; is = n.is; has = n.has }
 
 -- the writes on an object with the next call
-pub next_writes : (x : ℕ) (cs : List Call) (c : Call) → filter (writes_on x) (cs ++ c ∷ []) ≡ cond (writes_on x c) (filter (writes_on x) cs ++ c ∷ []) (filter (writes_on x) cs)
+pub next_writes : (x : ℕ) (cs : List Call) (c : Call) →
+    filter (writes_on x) (cs ++ c ∷ []) ≡ cond (writes_on x c) (filter (writes_on x) cs ++ c ∷ []) (filter (writes_on x) cs)
 next_writes x cs c = filter-append (writes_on x) cs (c ∷ []) ∙ by (writes_on x c)
   where
     by : (b : Bool) → filter (writes_on x) cs ++ cond b (c ∷ []) [] ≡ cond b (filter (writes_on x) cs ++ c ∷ []) (filter (writes_on x) cs)
@@ -192,23 +213,27 @@ all_take P (suc n) [] h = tt
 all_take P (suc n) (x ∷ xs) h = (h.0, all_take P n xs h.1)
 
 -- what is kept of an object after the next call
-pub wrote_next : (ts : List Top) (x : ℕ) (cs : List Call) (c : Call) (old new : List Writer) → new ≡ cond (writes_on x c) (with_writer old (writer_of ts c)) old
+pub wrote_next : (ts : List Top) (x : ℕ) (cs : List Call) (c : Call) (old new : List Writer) →
+    new ≡ cond (writes_on x c) (with_writer old (writer_of ts c)) old
     → AllByRecursion (KeysTell ts c) cs → Wrote ts (filter (writes_on x) cs) old → Wrote ts (filter (writes_on x) (cs ++ c ∷ [])) new
 wrote_next ts x cs c old new is own h = subst (λ ws. Wrote ts ws new) (sym (next_writes x cs c)) (by (writes_on x c) is)
   where
-    by : (b : Bool) → new ≡ cond b (with_writer old (writer_of ts c)) old → Wrote ts (cond b (filter (writes_on x) cs ++ c ∷ []) (filter (writes_on x) cs)) new
+    by : (b : Bool) → new ≡ cond b (with_writer old (writer_of ts c)) old →
+        Wrote ts (cond b (filter (writes_on x) cs ++ c ∷ []) (filter (writes_on x) cs)) new
     by true e = subst (Wrote ts (filter (writes_on x) cs ++ c ∷ [])) (sym e) (wrote_more ts (filter (writes_on x) cs) old c h (all_filter (KeysTell ts c) (writes_on x) cs own))
     by false e = subst (Wrote ts (filter (writes_on x) cs)) (sym e) h
 
 pub nothing_wrote : (ts : List Top) (ws : List Writer) → ws ≡ [] → Wrote ts [] ws
 nothing_wrote ts ws e = subst (Wrote ts []) (sym e) (record { count = refl; same = λ w. refl })
 
-pub all_both : {A : Type 0} (P Q : A → Type 0) (xs : List A) → AllByRecursion P xs → AllByRecursion Q xs → AllByRecursion (λ x. P x × Q x) xs
+pub all_both : {A : Type 0} (P Q : A → Type 0) (xs : List A) → AllByRecursion P xs → AllByRecursion Q xs →
+    AllByRecursion (λ x. P x × Q x) xs
 all_both P Q [] p q = tt
 all_both P Q (x ∷ xs) p q = ((p.0, q.0), all_both P Q xs p.1 q.1)
 
 -- what is at a place, seen through a function
-pub seen_there : {A B : Type 0} (f : A → B) (xs : List A) (i : ℕ) (x : A) → i < length xs → x ≡ get_or xs i x → f x ≡ get_or (map f xs) i (f x)
+pub seen_there : {A B : Type 0} (f : A → B) (xs : List A) (i : ℕ) (x : A) → i < length xs → x ≡ get_or xs i x →
+    f x ≡ get_or (map f xs) i (f x)
 seen_there f [] i x lt is = absurd (omega (arith, lt))
 seen_there f (y ∷ xs) zero x lt is = ap f is
 seen_there f (y ∷ xs) (suc i) x lt is = seen_there f xs i x (omega (arith, lt)) is
@@ -217,12 +242,15 @@ pub none_below : (lines : List Line) (keys : List (List ℕ)) → keys ≡ [] �
 none_below lines keys e = subst (AreBelow (paths (acts lines)) nothing_below) (sym e) (record { at = λ i p is. refl })
 
 -- what is kept of each object after the writers of one were taken out, and put back with one more
-pub one_noted : (x : ℕ) (w : Writer) (old mid new : BTreeMap ℕ (Vec Writer)) (taken own : Vec Writer) → taken.items ≡ writers_at old x → own.items ≡ with_writer taken.items w
-    → ((y : ℕ) → (x == y) ≡ false → writers_at mid y ≡ writers_at old y) → ((y : ℕ) → get nat_cmp new y ≡ cond (x == y) (Some own) (get nat_cmp mid y))
+pub one_noted : (x : ℕ) (w : Writer) (old mid new : BTreeMap ℕ (Vec Writer)) (taken own : Vec Writer) → taken.items ≡ writers_at old x →
+    own.items ≡ with_writer taken.items w
+    → ((y : ℕ) → (x == y) ≡ false → writers_at mid y ≡ writers_at old y) →
+    ((y : ℕ) → get nat_cmp new y ≡ cond (x == y) (Some own) (get nat_cmp mid y))
     → (y : ℕ) → writers_at new y ≡ cond (x == y) (with_writer (writers_at old y) w) (writers_at old y)
 one_noted x w old mid new taken own is has others put y = ap kept_or_none (put y) ∙ by (x == y) refl
   where
-    by : (b : Bool) → (x == y) ≡ b → kept_or_none (cond b (Some own) (get nat_cmp mid y)) ≡ cond b (with_writer (writers_at old y) w) (writers_at old y)
+    by : (b : Bool) → (x == y) ≡ b →
+        kept_or_none (cond b (Some own) (get nat_cmp mid y)) ≡ cond b (with_writer (writers_at old y) w) (writers_at old y)
     by true e = has ∙ ap (λ ws. with_writer ws w) (is ∙ ap (writers_at old) (eqb-true x y e))
     by false e = others y e
 
@@ -235,11 +263,13 @@ one_key true cx x w old new e put y =
     let same : cx ≡ x = cc e in
     put y ∙ (λ i. cond (sym same i == y) (with_writer (writers_at old y) w) (writers_at old y)) ∙ by (cx == y)
   where
-    by : (b : Bool) → cond b (with_writer (writers_at old y) w) (writers_at old y) ≡ cond (b && true) (with_writer (writers_at old y) w) (writers_at old y)
+    by : (b : Bool) →
+        cond b (with_writer (writers_at old y) w) (writers_at old y) ≡ cond (b && true) (with_writer (writers_at old y) w) (writers_at old y)
     by true = refl
     by false = refl
 
-pub no_key : (writes_it : Bool) (cx : ℕ) (w : Writer) (old : BTreeMap ℕ (Vec Writer)) → cond writes_it (Some cx) None ≡ None → (y : ℕ) → writers_at old y ≡ cond ((cx == y) && writes_it) (with_writer (writers_at old y) w) (writers_at old y)
+pub no_key : (writes_it : Bool) (cx : ℕ) (w : Writer) (old : BTreeMap ℕ (Vec Writer)) → cond writes_it (Some cx) None ≡ None → (y : ℕ) →
+    writers_at old y ≡ cond ((cx == y) && writes_it) (with_writer (writers_at old y) w) (writers_at old y)
 no_key true cx w old e y = absurd (cc e)
 no_key false cx w old e y = by (cx == y)
   where
@@ -255,7 +285,8 @@ taken_whole zero (x ∷ xs) le = absurd (omega (arith, le))
 taken_whole (suc n) (x ∷ xs) le = ap (λ ys. x ∷ ys) (taken_whole n xs (omega (arith, le)))
 
 -- the calls with the next one
-pub next_here : (calls : List Call) (i : ℕ) (c : Call) → take (suc i) calls ≡ take i calls ++ c ∷ [] → take (i + 1) calls ≡ take i calls ++ c ∷ []
+pub next_here : (calls : List Call) (i : ℕ) (c : Call) → take (suc i) calls ≡ take i calls ++ c ∷ [] →
+    take (i + 1) calls ≡ take i calls ++ c ∷ []
 next_here calls i c e = ap (λ n. take n calls) (one_more i) ∙ e
   where
     one_more : (n : ℕ) → n + 1 ≡ suc n

@@ -1,5 +1,6 @@
 -- What is told of last states, as lines of text: at the first place, behind lines that tell of commits, and at the last place.
-use Rattle.std.specs.Prelude.{ℕ, ◌+◌, ◌/◌, ◌%◌, ◌==◌, List, [], ◌∷◌, ◌++◌, codes, length, Bool, true, false, ◌&&◌, if◌then◌else◌, Option, Some, None}
+use Rattle.std.specs.Prelude.{ℕ, ◌+◌, ◌/◌, ◌%◌, ◌==◌, List, [], ◌∷◌, ◌++◌, codes, length, Bool, true, false, ◌&&◌, if◌then◌else◌, Option}
+use Rattle.std.specs.Prelude.{Some, None}
 use Rattle.std.specs.List.{count_by, flat_map}
 use Rattle.arj_class.specs.declared.value.Value.{Value}
 use Rattle.arj_journal.specs.declared.body.Body.{Body}
@@ -15,11 +16,13 @@ use Rattle.arj_text.specs.Words.{number_word, space, value_text}
 
 -- a state of an object behind so many lines: its version, and its value
 abbrev pub state_text : ℕ → ℕ → ℕ → Value → List ℕ
-state_text at x version v = codes "state" ++ (number_word at ++ (number_word x ++ (number_word version ++ (space ++ (value_text v ++ 10 ∷ [])))))
+state_text at x version v =
+    codes "state" ++ (number_word at ++ (number_word x ++ (number_word version ++ (space ++ (value_text v ++ 10 ∷ [])))))
 
 -- the last state of an object of the header
 abbrev pub object_text : Header → List Line → ObjectLine → List ℕ
-object_text header lines o = state_text (length lines) o.x (last_state header lines o.x).version (run (first_values header) (serial_calls lines) o.x)
+object_text header lines o =
+    state_text (length lines) o.x (last_state header lines o.x).version (run (first_values header) (serial_calls lines) o.x)
 
 -- so many lines, of which this is the first that breaks a rule
 abbrev pub unreadable_text : ℕ → ℕ → List ℕ

@@ -45,5 +45,6 @@ abbrev pub EndsSo : {T F : Type 0} → Ghosts T F → Input → T → Ending F �
 EndsSo t given taker ending.End = (given.stopped ≡ AtEnd) × t.stands (lines_of AtEnd given.came) taker
 EndsSo t given taker ending.Fault = (given.stopped ≡ AtFault) × t.stands (ended_lines given.came) taker
 EndsSo t given taker ending.TooLong = (done : List (List ℕ)) × t.stands done taker × IsPastLine given done (t.most taker)
-EndsSo t given taker (ending.Stopped why) = (done : List (List ℕ)) × (line : List ℕ) × t.stops done line why taker × IsAtLine given done line
+EndsSo t given taker (ending.Stopped why) =
+    (done : List (List ℕ)) × (line : List ℕ) × t.stops done line why taker × IsAtLine given done line
 EndsSo t given taker ending.Memory = ⊤

@@ -9,6 +9,13 @@ use Rattle.arj_lock.specs.Requests.{IsClear}
 use Rattle.arj_lock.proofs.Exclusion.{on_path}
 use Rattle.arj_lock.proofs.Members.{in_from}
 
-pub is_clear : (path : List Uid) (object : Uid) (mode : Mode) (rows : List Row) → first_conflict path object mode rows ≡ None → IsClear path object mode rows
+pub is_clear : (path : List Uid) (object : Uid) (mode : Mode) (rows : List Row) → first_conflict path object mode rows ≡ None →
+    IsClear path object mode rows
 is_clear path object mode rows none = λ r there same conflict.
-    on_path (record { object = object; holder = path; tops = 1; mode = mode }) r rows none (in_from r rows there) (ap (λ u. uid_eq u object) same ∙ uid_same object) conflict
+    on_path (record {
+      object = object;
+      holder = path;
+      tops = 1;
+      mode =
+          mode;
+    }) r rows none (in_from r rows there) (ap (λ u. uid_eq u object) same ∙ uid_same object) conflict

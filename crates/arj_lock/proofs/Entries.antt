@@ -1,5 +1,6 @@
 -- Locks under their grants: one that is found, one that comes, one that goes.
-use Rattle.std.proofs.Common.{◌≡◌, ℕ, suc, ◌+◌, ◌<◌, ◌≤◌, Bool, true, false, cond, not, ◌&&◌, ◌||◌, List, [], ◌∷◌, ◌++◌, length, filter, find, Option, Some, None, refl, sym, ◌∙◌, ap, subst, arith}
+use Rattle.std.proofs.Common.{◌≡◌, ℕ, suc, ◌+◌, ◌<◌, ◌≤◌, Bool, true, false, cond, not, ◌&&◌, ◌||◌, List, [], ◌∷◌, ◌++◌, length, filter}
+use Rattle.std.proofs.Common.{find, Option, Some, None, refl, sym, ◌∙◌, ap, subst, arith}
 use Rattle.std.proofs.Math.Bool.{or-false}
 use Rattle.std.proofs.lemmas.Bool.{and_parts}
 use Rattle.std.proofs.lemmas.Bool.Decides.{nat_tests}
@@ -41,7 +42,8 @@ parted n lock (e ∷ es) at = by (is_eq (nat_cmp n e.0)) refl at (parted n lock 
     test : ℕ → Bool
     test = is_at (nat_cmp n)
 
-    by : (b : Bool) → is_eq (nat_cmp n e.0) ≡ b → cond b (Some e.1) (lock_at n es) ≡ Some lock → (lock_at n es ≡ Some lock → Parted n lock es) → Parted n lock (e ∷ es)
+    by : (b : Bool) → is_eq (nat_cmp n e.0) ≡ b → cond b (Some e.1) (lock_at n es) ≡ Some lock →
+        (lock_at n es ≡ Some lock → Parted n lock es) → Parted n lock (e ∷ es)
     by true is found ih =
         let same : e.1 ≡ lock = cc in
         record {
@@ -77,7 +79,8 @@ Rises es = IsStrictlySortedBy nat_cmp (keys_of es)
 pub less_from : (m n : ℕ) → nat_cmp m n ≡ Less → m < n
 less_from m n e = grind (arith, nat_tests, e)
 
-later_in : (k m : ℕ) (lock : Lock) (es : List (ℕ × Lock)) → AllByRecursion (λ y. nat_cmp k y ≡ Less) (keys_of es) → lock_at m es ≡ Some lock → k < m
+later_in : (k m : ℕ) (lock : Lock) (es : List (ℕ × Lock)) → AllByRecursion (λ y. nat_cmp k y ≡ Less) (keys_of es) →
+    lock_at m es ≡ Some lock → k < m
 later_in k m lock [] all at = cc
 later_in k m lock (e ∷ es) all at = by (is_eq (nat_cmp m e.0)) refl at (later_in k m lock es all.1)
   where
@@ -86,7 +89,8 @@ later_in k m lock (e ∷ es) all at = by (is_eq (nat_cmp m e.0)) refl at (later_
     by false is found ih = ih found
 
 -- a later lock is under a greater grant, and is found there in the whole
-pub later : (e : ℕ × Lock) (es : List (ℕ × Lock)) (m : ℕ) (lock : Lock) → Rises (e ∷ es) → lock_at m es ≡ Some lock → (e.0 < m) × (lock_at m (e ∷ es) ≡ Some lock)
+pub later : (e : ℕ × Lock) (es : List (ℕ × Lock)) (m : ℕ) (lock : Lock) → Rises (e ∷ es) → lock_at m es ≡ Some lock →
+    (e.0 < m) × (lock_at m (e ∷ es) ≡ Some lock)
 unfolding IsStrictlySortedBy
 later e es m lock rises at = (less, (λ i. cond (other i) (Some e.1) (lock_at m es)) ∙ at)
   where
@@ -97,19 +101,25 @@ later e es m lock rises at = (less, (λ i. cond (other i) (Some e.1) (lock_at m 
     other = ap is_eq (sym (nat_cmp_is m e.0 Greater less))
 
 module _ (p : ℕ × Lock → Bool) where
-  pub find_none : (es : List (ℕ × Lock)) → Rises es → ((m : ℕ) (lock : Lock) → lock_at m es ≡ Some lock → p (m, lock) ≡ false) → find p es ≡ None
+  pub find_none : (es : List (ℕ × Lock)) → Rises es → ((m : ℕ) (lock : Lock) → lock_at m es ≡ Some lock → p (m, lock) ≡ false) →
+      find p es ≡ None
   unfolding IsStrictlySortedBy
   find_none [] rises none = refl
-  find_none (e ∷ es) rises none = (λ i. cond (none e.0 e.1 (at_head e es) i) (Some e) (find p es)) ∙ find_none es rises.1 (λ m lock at. none m lock (later e es m lock rises at).1)
+  find_none (e ∷ es) rises none =
+      (λ i. cond (none e.0 e.1 (at_head e es) i) (Some e) (find p es)) ∙ find_none es rises.1 (λ m lock at. none m lock (later e es m lock rises at).1)
 
-  pub find_first : (es : List (ℕ × Lock)) (n : ℕ) (lock : Lock) → Rises es → lock_at n es ≡ Some lock → p (n, lock) ≡ true → ((m : ℕ) (l : Lock) → lock_at m es ≡ Some l → p (m, l) ≡ true → n ≤ m) → find p es ≡ Some (n, lock)
+  pub find_first : (es : List (ℕ × Lock)) (n : ℕ) (lock : Lock) → Rises es → lock_at n es ≡ Some lock → p (n, lock) ≡ true →
+      ((m : ℕ) (l : Lock) → lock_at m es ≡ Some l → p (m, l) ≡ true → n ≤ m) → find p es ≡ Some (n, lock)
   unfolding IsStrictlySortedBy
   find_first [] n lock rises at passes least = cc
-  find_first (e ∷ es) n lock rises at passes least = by (p e) refl (is_eq (nat_cmp n e.0)) refl at (λ there. find_first es n lock rises.1 there passes (λ m l found. least m l (later e es m l rises found).1))
+  find_first (e ∷ es) n lock rises at passes least =
+      by (p e) refl (is_eq (nat_cmp n e.0)) refl at (λ there. find_first es n lock rises.1 there passes (λ m l found. least m l (later e es m l rises found).1))
     where
-      by : (b : Bool) → p e ≡ b → (c : Bool) → is_eq (nat_cmp n e.0) ≡ c → cond c (Some e.1) (lock_at n es) ≡ Some lock → (lock_at n es ≡ Some lock → find p es ≡ Some (n, lock)) → cond b (Some e) (find p es) ≡ Some (n, lock)
+      by : (b : Bool) → p e ≡ b → (c : Bool) → is_eq (nat_cmp n e.0) ≡ c → cond c (Some e.1) (lock_at n es) ≡ Some lock →
+          (lock_at n es ≡ Some lock → find p es ≡ Some (n, lock)) → cond b (Some e) (find p es) ≡ Some (n, lock)
       by true is true here found ih = let same : e.1 ≡ lock = cc in λ i. Some (sym (number n e.0 here) i, same i)
-      by true is false there found ih = let less = (later e es n lock rises found).0 in let le = least e.0 e.1 (at_head e es) is in absurd (omega (arith, less, le))
+      by true is false there found ih =
+          let less = (later e es n lock rises found).0 in let le = least e.0 e.1 (at_head e es) is in absurd (omega (arith, less, le))
       by false is true here found ih =
           let same : e.1 ≡ lock = cc in
           let never : true ≡ false = sym passes ∙ (λ i. p (number n e.0 here i, sym same i)) ∙ is in cc
@@ -118,9 +128,11 @@ module _ (p : ℕ × Lock → Bool) where
   pub found_at : (es : List (ℕ × Lock)) (e : ℕ × Lock) → Rises es → find p es ≡ Some e → (lock_at e.0 es ≡ Some e.1) × (p e ≡ true)
   unfolding IsStrictlySortedBy
   found_at [] e rises found = cc
-  found_at (x ∷ es) e rises found = by (p x) refl found (λ there. let f = found_at es e rises.1 there in ((later x es e.0 e.1 rises f.0).1, f.1))
+  found_at (x ∷ es) e rises found =
+      by (p x) refl found (λ there. let f = found_at es e rises.1 there in ((later x es e.0 e.1 rises f.0).1, f.1))
     where
-      by : (b : Bool) → p x ≡ b → cond b (Some x) (find p es) ≡ Some e → (find p es ≡ Some e → (lock_at e.0 (x ∷ es) ≡ Some e.1) × (p e ≡ true)) → (lock_at e.0 (x ∷ es) ≡ Some e.1) × (p e ≡ true)
+      by : (b : Bool) → p x ≡ b → cond b (Some x) (find p es) ≡ Some e →
+          (find p es ≡ Some e → (lock_at e.0 (x ∷ es) ≡ Some e.1) × (p e ≡ true)) → (lock_at e.0 (x ∷ es) ≡ Some e.1) × (p e ≡ true)
       by true is here ih = let same : x ≡ e = cc in (subst (λ y. lock_at y.0 (x ∷ es) ≡ Some y.1) same (at_head x es), ap p (sym same) ∙ is)
       by false is there ih = ih there
 
@@ -134,7 +146,8 @@ module _ (group : Group) (after : Option ℕ) (es : List (ℕ × Lock)) (index :
   test n = stands index group n && is_after after n
 
   test_is : (m : ℕ) (lock : Lock) → lock_at m es ≡ Some lock → test m ≡ is_next group after (m, lock)
-  test_is m lock at = (λ i. (are group m ∙ ap (has_lock group) at) i && is_after after m) ∙ turned (has group (shown lock)) (is_after after m)
+  test_is m lock at =
+      (λ i. (are group m ∙ ap (has_lock group) at) i && is_after after m) ∙ turned (has group (shown lock)) (is_after after m)
     where
       turned : (a b : Bool) → (a && b) ≡ (b && a)
       turned true true = refl
@@ -145,14 +158,16 @@ module _ (group : Group) (after : Option ℕ) (es : List (ℕ × Lock)) (index :
   pub indexed_none : IsFirst test None → find (is_next group after) es ≡ None
   indexed_none none = find_none (is_next group after) es rises (λ m lock at. sym (test_is m lock at) ∙ none m)
 
-  pub indexed_some : (n : ℕ) (lock : Lock) → lock_at n es ≡ Some lock → IsFirst test (Some n) → find (is_next group after) es ≡ Some (n, lock)
+  pub indexed_some : (n : ℕ) (lock : Lock) → lock_at n es ≡ Some lock → IsFirst test (Some n) →
+      find (is_next group after) es ≡ Some (n, lock)
   indexed_some n lock at first =
       find_first (is_next group after) es n lock rises at (sym (test_is n lock at) ∙ first.0) (λ m l there is. first.1 m (test_is m l there ∙ is))
 
   -- what the index has first is there
   pub indexed_there : (n : ℕ) → IsFirst test (Some n) → lock_at n es ≡ None → ⊥
   indexed_there n first none =
-      let never : true ≡ false = sym (and_parts (stands index group n) (is_after after n) first.0).0 ∙ are group n ∙ ap (has_lock group) none in cc
+      let never : true ≡ false =
+      sym (and_parts (stands index group n) (is_after after n) first.0).0 ∙ are group n ∙ ap (has_lock group) none in cc
 
 -- ---- one more, above all
 
@@ -168,7 +183,8 @@ module _ (n : ℕ) (lock : Lock) where
 
   pub pushed : (es : List (ℕ × Lock)) → IsAbove es n → insert_entry nat_cmp es n lock ≡ es ++ (n, lock) ∷ []
   pushed [] all = refl
-  pushed (e ∷ es) all = (λ i. match_ordering (above e.0 all.0 i) ((n, lock) ∷ e ∷ es) ((e.0, lock) ∷ es) (e ∷ insert_entry nat_cmp es n lock)) ∙ ap (λ xs. e ∷ xs) (pushed es all.1)
+  pushed (e ∷ es) all =
+      (λ i. match_ordering (above e.0 all.0 i) ((n, lock) ∷ e ∷ es) ((e.0, lock) ∷ es) (e ∷ insert_entry nat_cmp es n lock)) ∙ ap (λ xs. e ∷ xs) (pushed es all.1)
 
   pub none_above : (es : List (ℕ × Lock)) → IsAbove es n → lock_at n es ≡ None
   none_above [] all = refl
@@ -199,7 +215,8 @@ alone e es rises = by (lock_at e.0 es) refl
     by None is = is
     by (Some lock) is = let less = (later e es e.0 lock rises is).0 in absurd (omega (arith, less))
 
-pub one_indexed : (e : ℕ × Lock) (es : List (ℕ × Lock)) → Rises (e ∷ es) → (old new : BTreeSet Member) → Joins e.0 e.1 old new → (g : Group) (n : ℕ) (whole : Bool)
+pub one_indexed : (e : ℕ × Lock) (es : List (ℕ × Lock)) → Rises (e ∷ es) → (old new : BTreeSet Member) → Joins e.0 e.1 old new →
+    (g : Group) (n : ℕ) (whole : Bool)
     → (stands old g n || has_lock g (lock_at n (e ∷ es))) ≡ whole → (stands new g n || has_lock g (lock_at n es)) ≡ whole
 one_indexed e es rises old new joins g n whole are = (λ i. joins g n i || has_lock g (lock_at n es)) ∙ by (is_eq (nat_cmp n e.0)) refl ∙ are
   where
@@ -211,7 +228,8 @@ one_indexed e es rises old new joins g n whole are = (λ i. joins g n i || has_l
         reversed Equal = refl
         reversed Greater = refl
 
-    by : (b : Bool) → is_eq (nat_cmp n e.0) ≡ b → ((stands old g n || (is_eq (nat_cmp e.0 n) && has g (shown e.1))) || has_lock g (lock_at n es)) ≡ (stands old g n || has_lock g (cond (is_eq (nat_cmp n e.0)) (Some e.1) (lock_at n es)))
+    by : (b : Bool) → is_eq (nat_cmp n e.0) ≡ b →
+        ((stands old g n || (is_eq (nat_cmp e.0 n) && has g (shown e.1))) || has_lock g (lock_at n es)) ≡ (stands old g n || has_lock g (cond (is_eq (nat_cmp n e.0)) (Some e.1) (lock_at n es)))
     by true is =
         (λ i. (stands old g n || ((turned ∙ is) i && has g (shown e.1))) || has_lock g ((ap (λ m. lock_at m es) (number n e.0 is) ∙ alone e es rises) i))
         ∙ or-false (stands old g n || has g (shown e.1)) ∙ (λ i. stands old g n || has_lock g (cond (sym is i) (Some e.1) (lock_at n es)))
@@ -252,11 +270,13 @@ module _ (p : Row → Bool) where
   filter_none [] none = refl
   filter_none (r ∷ rows) none = by (p r) none (filter_none rows)
     where
-      by : (b : Bool) → (b || list_any p rows) ≡ false → (list_any p rows ≡ false → filter (λ x. not (p x)) rows ≡ rows) → cond (not b) (r ∷ filter (λ x. not (p x)) rows) (filter (λ x. not (p x)) rows) ≡ r ∷ rows
+      by : (b : Bool) → (b || list_any p rows) ≡ false → (list_any p rows ≡ false → filter (λ x. not (p x)) rows ≡ rows) →
+          cond (not b) (r ∷ filter (λ x. not (p x)) rows) (filter (λ x. not (p x)) rows) ≡ r ∷ rows
       by true is ih = cc
       by false is ih = ap (λ rs. r ∷ rs) (ih is)
 
-  pub filter_without : (bs : List Row) (r : Row) (as' : List Row) → p r ≡ true → filter (λ x. not (p x)) (bs ++ as') ≡ filter (λ x. not (p x)) (bs ++ r ∷ as')
+  pub filter_without : (bs : List Row) (r : Row) (as' : List Row) → p r ≡ true →
+      filter (λ x. not (p x)) (bs ++ as') ≡ filter (λ x. not (p x)) (bs ++ r ∷ as')
   filter_without [] r as' is = λ i. cond (not (sym is i)) (r ∷ filter (λ x. not (p x)) as') (filter (λ x. not (p x)) as')
   filter_without (b ∷ bs) r as' is = by (p b) (filter_without bs r as' is)
     where
@@ -272,7 +292,8 @@ module _ (group : Group) (es : List (ℕ × Lock)) where
   none_in_group none = none_passes (has group) (rows_in es) (find_row (has group) es ∙ ap (option_map (λ (e : ℕ × Lock). shown e.1)) none)
 
   pub one_in_group : (e : ℕ × Lock) → find (is_next group None) es ≡ Some e → list_any (has group) (rows_in es) ≡ true
-  one_in_group e found = one_passes (has group) (rows_in es) (shown e.1) (find_row (has group) es ∙ ap (option_map (λ (x : ℕ × Lock). shown x.1)) found)
+  one_in_group e found =
+      one_passes (has group) (rows_in es) (shown e.1) (find_row (has group) es ∙ ap (option_map (λ (x : ℕ × Lock). shown x.1)) found)
 
   pub some_in_group : (o : Option (ℕ × Lock)) → o ≡ find (is_next group None) es → is_some o ≡ list_any (has group) (rows_in es)
   some_in_group None is = sym (none_in_group (sym is))

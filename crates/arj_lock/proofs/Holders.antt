@@ -40,9 +40,12 @@ flipped : (u w : Uid) → is_same u w ≡ is_same w u
 flipped u w = tied u w ∙ uid_sym u w ∙ sym (tied w u)
 
 -- one more is in the set, and one less is left
-pub one_more : (w : Uid) (old new : BTreeSet Uid) → ((q : Uid) → contains set_order new q ≡ cond (is_at (set_order w) q) true (contains set_order old q))
-    → (u : Uid) (rest whole : Bool) → (contains set_order old u || (is_same u w || rest)) ≡ whole → (contains set_order new u || rest) ≡ whole
-one_more w old new puts u rest whole are = (λ i. puts u i || rest) ∙ (λ i. cond (flipped w u i) true (contains set_order old u) || rest) ∙ by (is_same u w) (contains set_order old u) ∙ are
+pub one_more : (w : Uid) (old new : BTreeSet Uid) →
+    ((q : Uid) → contains set_order new q ≡ cond (is_at (set_order w) q) true (contains set_order old q))
+    → (u : Uid) (rest whole : Bool) → (contains set_order old u || (is_same u w || rest)) ≡ whole →
+    (contains set_order new u || rest) ≡ whole
+one_more w old new puts u rest whole are =
+    (λ i. puts u i || rest) ∙ (λ i. cond (flipped w u i) true (contains set_order old u) || rest) ∙ by (is_same u w) (contains set_order old u) ∙ are
   where
     by : (t o : Bool) → (cond t true o || rest) ≡ (o || (t || rest))
     by true true = refl
@@ -53,7 +56,8 @@ one_more w old new puts u rest whole are = (λ i. puts u i || rest) ∙ (λ i. c
 abbrev pub is_holder : Uid → Uid → Row → Bool
 is_holder action u row = is_on row.holder action && is_same u (holder_of row)
 
-pub below_any : (action u : Uid) (es : List (ℕ × Lock)) → list_any (λ e. is_holder action u (shown e.1)) es ≡ list_any (is_same u) (below action (rows_in es))
+pub below_any : (action u : Uid) (es : List (ℕ × Lock)) →
+    list_any (λ e. is_holder action u (shown e.1)) es ≡ list_any (is_same u) (below action (rows_in es))
 below_any action u [] = refl
 below_any action u (e ∷ es) = by (is_on (shown e.1).holder action) (below_any action u es)
   where

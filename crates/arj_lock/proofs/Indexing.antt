@@ -1,5 +1,6 @@
 -- The members of groups, as locks come and go.
-use Rattle.std.proofs.Common.{◌≡◌, ℕ, ◌+◌, ◌<◌, Bool, true, false, cond, not, ◌&&◌, ◌||◌, List, [], ◌∷◌, length, drop, get_or, Option, Some, None, refl, sym, ◌∙◌, ap, subst}
+use Rattle.std.proofs.Common.{◌≡◌, ℕ, ◌+◌, ◌<◌, Bool, true, false, cond, not, ◌&&◌, ◌||◌, List, [], ◌∷◌, length, drop, get_or, Option, Some}
+use Rattle.std.proofs.Common.{None, refl, sym, ◌∙◌, ap, subst}
 use Rattle.std.proofs.Math.Bool.{or-false}
 use Rattle.std.proofs.lemmas.Bool.{and_parts, false_from_ne_true}
 use Rattle.std.proofs.lemmas.List.{drop_more}
@@ -22,7 +23,8 @@ use Rattle.arj_lock.specs.declared.group.Group.{Group}
 use Rattle.arj_lock.specs.declared.group.Group.TheVariants.{Own, Held, Below}
 use Rattle.arj_lock.specs.declared.group.Member.{Member}
 use Rattle.arj_lock.specs.declared.lock.Lock.{Lock}
-use Rattle.arj_lock.proofs.Orders.{against, eq_is, eq_itself, found_after, found_group, found_le, from_start, group_eq, groups_are, itself, number, same_member}
+use Rattle.arj_lock.proofs.Orders.{against, eq_is, eq_itself, found_after, found_group, found_le, from_start, group_eq, groups_are, itself}
+use Rattle.arj_lock.proofs.Orders.{number, same_member}
 
 -- ---- one member
 
@@ -32,7 +34,12 @@ module _ (g : Group) (n : ℕ) (old new : BTreeSet Member) where
 
   pub put_one : ((q : Member) → contains member_order new q ≡ cond (is_at (member_order this) q) true (contains member_order old q))
       → (h : Group) (m : ℕ) → stands new h m ≡ (stands old h m || (is_eq (nat_cmp n m) && same g h))
-  put_one puts h m = puts (record { group = h; grant = m }) ∙ (λ i. cond (same_member g h n m i) true (stands old h m)) ∙ by (is_eq (nat_cmp n m) && same g h) (stands old h m)
+  put_one puts h m =
+      puts (record {
+        group = h;
+        grant =
+            m;
+      }) ∙ (λ i. cond (same_member g h n m i) true (stands old h m)) ∙ by (is_eq (nat_cmp n m) && same g h) (stands old h m)
     where
       by : (b s : Bool) → cond b true s ≡ (s || b)
       by true true = refl
@@ -41,7 +48,12 @@ module _ (g : Group) (n : ℕ) (old new : BTreeSet Member) where
 
   pub take_one : ((q : Member) → contains member_order new q ≡ cond (is_at (member_order this) q) false (contains member_order old q))
       → (h : Group) (m : ℕ) → stands new h m ≡ (stands old h m && not (is_eq (nat_cmp n m) && same g h))
-  take_one takes h m = takes (record { group = h; grant = m }) ∙ (λ i. cond (same_member g h n m i) false (stands old h m)) ∙ by (is_eq (nat_cmp n m) && same g h) (stands old h m)
+  take_one takes h m =
+      takes (record {
+        group = h;
+        grant =
+            m;
+      }) ∙ (λ i. cond (same_member g h n m i) false (stands old h m)) ∙ by (is_eq (nat_cmp n m) && same g h) (stands old h m)
     where
       by : (b s : Bool) → cond b false s ≡ (s && not b)
       by true true = refl
@@ -76,11 +88,13 @@ module _ (path : List Uid) (i : ℕ) (within : i < length path) (n : ℕ) (old n
   left : drop i path ≡ u ∷ drop (i + 1) path
   left = drop_more path i nobody within
 
-  pub put_more : (whole : Bool) → stands new g m ≡ (stands old g m || (here && same (Below u) g)) → (stands old g m || (here && some (drop i path))) ≡ whole → (stands new g m || (here && some (drop (i + 1) path))) ≡ whole
+  pub put_more : (whole : Bool) → stands new g m ≡ (stands old g m || (here && same (Below u) g)) →
+      (stands old g m || (here && some (drop i path))) ≡ whole → (stands new g m || (here && some (drop (i + 1) path))) ≡ whole
   put_more whole put are =
       (λ j. put j || (here && some (drop (i + 1) path))) ∙ or_more (stands old g m) here (same (Below u) g) (some (drop (i + 1) path)) ∙ (λ j. stands old g m || (here && some (sym left j))) ∙ are
 
-  pub take_more : (whole : Bool) → stands new g m ≡ (stands old g m && not (here && same (Below u) g)) → (stands old g m && not (here && some (drop i path))) ≡ whole → (stands new g m && not (here && some (drop (i + 1) path))) ≡ whole
+  pub take_more : (whole : Bool) → stands new g m ≡ (stands old g m && not (here && same (Below u) g)) →
+      (stands old g m && not (here && some (drop i path))) ≡ whole → (stands new g m && not (here && some (drop (i + 1) path))) ≡ whole
   take_more whole taken are =
       (λ j. taken j && not (here && some (drop (i + 1) path))) ∙ and_more (stands old g m) here (same (Below u) g) (some (drop (i + 1) path)) ∙ (λ j. stands old g m && not (here && some (sym left j))) ∙ are
 
@@ -93,7 +107,8 @@ module _ (e : Bool) where
   abbrev out_of : Bool → Bool → Bool
   out_of s p = s && not (e && p)
 
-  pub six_put : (s a b c d f h s1 s2 s3 s4 s5 s6 : Bool) → s1 ≡ put_in s a → s2 ≡ put_in s1 b → s3 ≡ put_in s2 c → s4 ≡ put_in s3 d → s5 ≡ put_in s4 f → s6 ≡ put_in s5 h
+  pub six_put : (s a b c d f h s1 s2 s3 s4 s5 s6 : Bool) → s1 ≡ put_in s a → s2 ≡ put_in s1 b → s3 ≡ put_in s2 c → s4 ≡ put_in s3 d →
+      s5 ≡ put_in s4 f → s6 ≡ put_in s5 h
       → s6 ≡ put_in s (a || (b || (c || (d || (f || h)))))
   six_put s a b c d f h s1 s2 s3 s4 s5 s6 e1 e2 e3 e4 e5 e6 =
       e6 ∙ (λ i. put_in (e5 i) h) ∙ or_more s4 e f h
@@ -102,7 +117,8 @@ module _ (e : Bool) where
       ∙ (λ i. put_in (e2 i) (c || (d || (f || h)))) ∙ or_more s1 e b (c || (d || (f || h)))
       ∙ (λ i. put_in (e1 i) (b || (c || (d || (f || h))))) ∙ or_more s e a (b || (c || (d || (f || h))))
 
-  pub six_taken : (s a b c d f h s1 s2 s3 s4 s5 s6 : Bool) → s1 ≡ out_of s a → s2 ≡ out_of s1 b → s3 ≡ out_of s2 c → s4 ≡ out_of s3 d → s5 ≡ out_of s4 f → s6 ≡ out_of s5 h
+  pub six_taken : (s a b c d f h s1 s2 s3 s4 s5 s6 : Bool) → s1 ≡ out_of s a → s2 ≡ out_of s1 b → s3 ≡ out_of s2 c → s4 ≡ out_of s3 d →
+      s5 ≡ out_of s4 f → s6 ≡ out_of s5 h
       → s6 ≡ out_of s (a || (b || (c || (d || (f || h)))))
   six_taken s a b c d f h s1 s2 s3 s4 s5 s6 e1 e2 e3 e4 e5 e6 =
       e6 ∙ (λ i. out_of (e5 i) h) ∙ and_more s4 e f h
@@ -133,27 +149,36 @@ module _ (lock : Lock) (grant : ℕ) (g : Group) (n : ℕ) (old new s1 s2 s3 s4 
       (λ i. same (Own lock.object (is_last i)) g || (same (Held (is_last i)) g || (against lock Read g || (against lock Exclude g || (against lock Write g || list_any (λ u. same (Below u) g) (is_path i))))))
       ∙ groups_are lock g
 
-  pub joins : st s1 ≡ put_in is_it (st old) own → st s2 ≡ put_in is_it (st s1) held → st s3 ≡ put_in is_it (st s2) (against lock Read g) → st s4 ≡ put_in is_it (st s3) (against lock Exclude g)
-      → st s5 ≡ put_in is_it (st s4) (against lock Write g) → st new ≡ put_in is_it (st s5) some_of → st new ≡ (st old || (is_it && has g (shown lock)))
+  pub joins : st s1 ≡ put_in is_it (st old) own → st s2 ≡ put_in is_it (st s1) held → st s3 ≡ put_in is_it (st s2) (against lock Read g) →
+      st s4 ≡ put_in is_it (st s3) (against lock Exclude g)
+      → st s5 ≡ put_in is_it (st s4) (against lock Write g) → st new ≡ put_in is_it (st s5) some_of →
+      st new ≡ (st old || (is_it && has g (shown lock)))
   joins e1 e2 e3 e4 e5 e6 =
       six_put is_it (st old) own held (against lock Read g) (against lock Exclude g) (against lock Write g) some_of (st s1) (st s2) (st s3) (st s4) (st s5) (st new) e1 e2 e3 e4 e5 e6 ∙ (λ i. put_in is_it (st old) (all i))
 
-  pub leaves : st s1 ≡ out_of is_it (st old) own → st s2 ≡ out_of is_it (st s1) held → st s3 ≡ out_of is_it (st s2) (against lock Read g) → st s4 ≡ out_of is_it (st s3) (against lock Exclude g)
-      → st s5 ≡ out_of is_it (st s4) (against lock Write g) → st new ≡ out_of is_it (st s5) some_of → st new ≡ (st old && not (is_it && has g (shown lock)))
+  pub leaves : st s1 ≡ out_of is_it (st old) own → st s2 ≡ out_of is_it (st s1) held → st s3 ≡ out_of is_it (st s2) (against lock Read g) →
+      st s4 ≡ out_of is_it (st s3) (against lock Exclude g)
+      → st s5 ≡ out_of is_it (st s4) (against lock Write g) → st new ≡ out_of is_it (st s5) some_of →
+      st new ≡ (st old && not (is_it && has g (shown lock)))
   leaves e1 e2 e3 e4 e5 e6 =
       six_taken is_it (st old) own held (against lock Read g) (against lock Exclude g) (against lock Write g) some_of (st s1) (st s2) (st s3) (st s4) (st s5) (st new) e1 e2 e3 e4 e5 e6 ∙ (λ i. out_of is_it (st old) (all i))
 
 -- ---- a lock comes or goes
 
-pub joined_is : (grant : ℕ) (lock : Lock) (old new : BTreeSet Member) → Joins grant lock old new → (at : ℕ → Option Lock) → at grant ≡ None → AreIndexed at old → AreIndexed (put_lock grant lock at) new
-joined_is grant lock old new joins at none are g n = joins g n ∙ (λ i. are g n i || (is_eq (nat_cmp grant n) && has g (shown lock))) ∙ by (is_eq (nat_cmp grant n)) refl
+pub joined_is : (grant : ℕ) (lock : Lock) (old new : BTreeSet Member) → Joins grant lock old new → (at : ℕ → Option Lock) →
+    at grant ≡ None → AreIndexed at old → AreIndexed (put_lock grant lock at) new
+joined_is grant lock old new joins at none are g n =
+    joins g n ∙ (λ i. are g n i || (is_eq (nat_cmp grant n) && has g (shown lock))) ∙ by (is_eq (nat_cmp grant n)) refl
   where
-    by : (b : Bool) → is_eq (nat_cmp grant n) ≡ b → (has_lock g (at n) || (b && has g (shown lock))) ≡ has_lock g (cond b (Some lock) (at n))
+    by : (b : Bool) → is_eq (nat_cmp grant n) ≡ b →
+        (has_lock g (at n) || (b && has g (shown lock))) ≡ has_lock g (cond b (Some lock) (at n))
     by true own = (λ i. has_lock g ((ap at (sym (number grant n own)) ∙ none) i) || has g (shown lock))
     by false other = or-false (has_lock g (at n))
 
-pub left_is : (grant : ℕ) (lock : Lock) (old new : BTreeSet Member) → Leaves grant lock old new → (at : ℕ → Option Lock) → at grant ≡ Some lock → AreIndexed at old → AreIndexed (without_lock grant at) new
-left_is grant lock old new leaves at there are g n = leaves g n ∙ (λ i. are g n i && not (is_eq (nat_cmp grant n) && has g (shown lock))) ∙ by (is_eq (nat_cmp grant n)) refl
+pub left_is : (grant : ℕ) (lock : Lock) (old new : BTreeSet Member) → Leaves grant lock old new → (at : ℕ → Option Lock) →
+    at grant ≡ Some lock → AreIndexed at old → AreIndexed (without_lock grant at) new
+left_is grant lock old new leaves at there are g n =
+    leaves g n ∙ (λ i. are g n i && not (is_eq (nat_cmp grant n) && has g (shown lock))) ∙ by (is_eq (nat_cmp grant n)) refl
   where
     gone : (b : Bool) → (b && not b) ≡ false
     gone true = refl
@@ -167,7 +192,8 @@ left_is grant lock old new leaves at there are g n = leaves g n ∙ (λ i. are g
     by true own = (λ i. has_lock g ((ap at (sym (number grant n own)) ∙ there) i) && not (has g (shown lock))) ∙ gone (has g (shown lock))
     by false other = stays (has_lock g (at n))
 
-pub left_index : (grant : ℕ) (lock : Lock) (old new : BTreeSet Member) → Leaves grant lock old new → (at : ℕ → Option Lock) → at grant ≡ Some lock → (whole : Bool) → IsIndex at whole old → IsIndex (without_lock grant at) whole new
+pub left_index : (grant : ℕ) (lock : Lock) (old new : BTreeSet Member) → Leaves grant lock old new → (at : ℕ → Option Lock) →
+    at grant ≡ Some lock → (whole : Bool) → IsIndex at whole old → IsIndex (without_lock grant at) whole new
 left_index grant lock old new leaves at there true are = left_is grant lock old new leaves at there are
 left_index grant lock old new leaves at there false are = tt
 
@@ -183,9 +209,11 @@ module _ (index : BTreeSet Member) (g : Group) (after : Option ℕ) where
       let never : true ≡ false = sym p.0 ∙ none (record { group = g; grant = m }) (from_start g after m p.1) in cc)
 
   module _ (k : Member) (from : IsFromStart member_order (start g after) k) (there : contains member_order index k ≡ true)
-      (least : (q : Member) → IsFromStart member_order (start g after) q → contains member_order index q ≡ true → IsLeBy member_order k q) where
+      (least : (q : Member) → IsFromStart member_order (start g after) q → contains member_order index q ≡ true →
+      IsLeBy member_order k q) where
     below : (m : ℕ) → test m ≡ true → IsLeBy member_order k (record { group = g; grant = m })
-    below m is = let p = and_parts (stands index g m) (is_after after m) is in least (record { group = g; grant = m }) (from_start g after m p.1) p.0
+    below m is = let p =
+        and_parts (stands index g m) (is_after after m) is in least (record { group = g; grant = m }) (from_start g after m p.1) p.0
 
     pub first_some : k.group ≡ g → IsFirst test (Some k.grant)
     first_some same_group = (
@@ -209,7 +237,8 @@ module _ (index : BTreeSet Member) (g : Group) (after : Option ℕ) (lo : Bound 
     among = subst (IsKeyRangeOf member_order (start g after) Unbounded index) first has_range
 
     pub range_some : group_eq k.group g ≡ true → IsFirst (test index g after) (Some k.grant)
-    range_some same_group = first_some index g after k among.1.0.0 among.1.1 (λ q from there. among.2 q (from, tt) there) (eq_is k.group g same_group)
+    range_some same_group =
+        first_some index g after k among.1.0.0 among.1.1 (λ q from there. among.2 q (from, tt) there) (eq_is k.group g same_group)
 
     pub range_other : group_eq k.group g ≡ false → IsFirst (test index g after) None
     range_other other = first_other index g after k among.1.0.0 among.1.1 (λ q from there. among.2 q (from, tt) there)

@@ -1,5 +1,6 @@
 -- Rows of a list, and of what a step makes of it.
-use Rattle.std.proofs.Common.{◌≡◌, ◌⊎◌, ℕ, zero, suc, List, [], ◌∷◌, Bool, true, false, cond, Option, Some, None, refl, sym, ◌∙◌, ap, inl, inr, filter, map, find, arith, Contains}
+use Rattle.std.proofs.Common.{◌≡◌, ◌⊎◌, ℕ, zero, suc, List, [], ◌∷◌, Bool, true, false, cond, Option, Some, None, refl, sym, ◌∙◌, ap, inl}
+use Rattle.std.proofs.Common.{inr, filter, map, find, arith, Contains}
 use Rattle.std.specs.List.{filter_map, cons_option}
 
 -- the value stands in the list
@@ -21,7 +22,8 @@ pub in_filter : {X : Type 0} (p : X → Bool) (x : X) (xs : List X) → In x (fi
 in_filter p x [] i = absurd i
 in_filter {X} p x (y ∷ ys) i = by (in_filter p x ys) (p y) refl i
   where
-    by : (In x (filter p ys) → In x ys × (p x ≡ true)) → (b : Bool) → p y ≡ b → In x (cond b (y ∷ filter p ys) (filter p ys)) → In x (y ∷ ys) × (p x ≡ true)
+    by : (In x (filter p ys) → In x ys × (p x ≡ true)) → (b : Bool) → p y ≡ b → In x (cond b (y ∷ filter p ys) (filter p ys)) →
+        In x (y ∷ ys) × (p x ≡ true)
     by ih true e (inl is) = (inl is, ap p (sym is) ∙ e)
     by ih true e (inr j) = let r = ih j in (inr r.0, r.1)
     by ih false e j = let r = ih j in (inr r.0, r.1)
@@ -35,7 +37,8 @@ pub in_filter_map : {X Y : Type 0} (f : X → Option Y) (y : Y) (xs : List X) �
 in_filter_map f y [] i = absurd i
 in_filter_map {X} {Y} f y (x ∷ xs) i = by (in_filter_map f y xs) (f x) refl i
   where
-    by : (In y (filter_map f xs) → (x : X) × In x xs × (f x ≡ Some y)) → (o : Option Y) → f x ≡ o → In y (cons_option o (filter_map f xs)) → (z : X) × In z (x ∷ xs) × (f z ≡ Some y)
+    by : (In y (filter_map f xs) → (x : X) × In x xs × (f x ≡ Some y)) → (o : Option Y) → f x ≡ o → In y (cons_option o (filter_map f xs)) →
+        (z : X) × In z (x ∷ xs) × (f z ≡ Some y)
     by ih None e j = let r = ih j in (r.0, inr r.1, r.2)
     by ih (Some z) e (inl is) = (x, inl refl, e ∙ ap Some is)
     by ih (Some z) e (inr j) = let r = ih j in (r.0, inr r.1, r.2)
@@ -45,7 +48,8 @@ pub in_find : {X : Type 0} (p : X → Bool) (x : X) (xs : List X) → find p xs 
 in_find p x [] e = cc
 in_find {X} p x (y ∷ ys) e = by (in_find p x ys) (p y) refl e
   where
-    by : (find p ys ≡ Some x → In x ys × (p x ≡ true)) → (b : Bool) → p y ≡ b → cond b (Some y) (find p ys) ≡ Some x → In x (y ∷ ys) × (p x ≡ true)
+    by : (find p ys ≡ Some x → In x ys × (p x ≡ true)) → (b : Bool) → p y ≡ b → cond b (Some y) (find p ys) ≡ Some x →
+        In x (y ∷ ys) × (p x ≡ true)
     by ih true t is = let same : y ≡ x = cc in (inl same, ap p (sym same) ∙ t)
     by ih false t is = let r = ih is in (inr r.0, r.1)
 
@@ -54,7 +58,8 @@ pub in_find_none : {X : Type 0} (p : X → Bool) (x : X) (xs : List X) → find 
 in_find_none p x [] e i = absurd i
 in_find_none {X} p x (y ∷ ys) e i = by (in_find_none p x ys) (p y) refl e i
   where
-    by : (find p ys ≡ None → In x ys → p x ≡ false) → (b : Bool) → p y ≡ b → cond b (Some y) (find p ys) ≡ None → In x (y ∷ ys) → p x ≡ false
+    by : (find p ys ≡ None → In x ys → p x ≡ false) → (b : Bool) → p y ≡ b → cond b (Some y) (find p ys) ≡ None → In x (y ∷ ys) →
+        p x ≡ false
     by ih true t is j = cc
     by ih false t is (inl same) = ap p (sym same) ∙ t
     by ih false t is (inr j) = ih is j

@@ -1,5 +1,6 @@
 -- One lock of a group after the other: those that are stepped past fail a test.
-use Rattle.std.proofs.Common.{◌≡◌, ℕ, suc, ◌<◌, ◌≤◌, Bool, true, false, cond, not, ◌&&◌, ◌||◌, List, [], ◌∷◌, length, filter, find, take, Option, Some, None, refl, sym, ◌∙◌, ap, arith, zero}
+use Rattle.std.proofs.Common.{◌≡◌, ℕ, suc, ◌<◌, ◌≤◌, Bool, true, false, cond, not, ◌&&◌, ◌||◌, List, [], ◌∷◌, length, filter, find, take}
+use Rattle.std.proofs.Common.{Option, Some, None, refl, sym, ◌∙◌, ap, arith, zero}
 use Rattle.std.proofs.Math.Bool.{and-false}
 use Rattle.std.proofs.lemmas.Bool.{and_parts, false_from_ne_true}
 use Rattle.std.proofs.lemmas.Bool.Decides.{nat_tests}
@@ -61,17 +62,21 @@ module _ (after : Option ℕ) (n : ℕ) (is : is_after after n ≡ true) where
   fewer_after [] lock at = cc
   fewer_after (e ∷ es) lock at = here (is_eq (nat_cmp n e.0)) refl at (fewer_after es lock)
     where
-      by : (b : Bool) → nat_lt n e.0 ≡ b → (c : Bool) → is_after after e.0 ≡ c → left_after (Some n) es < left_after after es → length (cond b (e ∷ among (Some n) es) (among (Some n) es)) < length (cond c (e ∷ among after es) (among after es))
+      by : (b : Bool) → nat_lt n e.0 ≡ b → (c : Bool) → is_after after e.0 ≡ c → left_after (Some n) es < left_after after es →
+          length (cond b (e ∷ among (Some n) es) (among (Some n) es)) < length (cond c (e ∷ among after es) (among after es))
       by true one true two ih = omega (arith, ih)
       by true one false two ih = let never : true ≡ false = sym (after_both after n e.0 is one) ∙ two in cc
       by false one true two ih = omega (arith, ih)
       by false one false two ih = ih
 
-      here : (b : Bool) → is_eq (nat_cmp n e.0) ≡ b → cond b (Some e.1) (lock_at n es) ≡ Some lock → (lock_at n es ≡ Some lock → left_after (Some n) es < left_after after es) → left_after (Some n) (e ∷ es) < left_after after (e ∷ es)
+      here : (b : Bool) → is_eq (nat_cmp n e.0) ≡ b → cond b (Some e.1) (lock_at n es) ≡ Some lock →
+          (lock_at n es ≡ Some lock → left_after (Some n) es < left_after after es) → left_after (Some n) (e ∷ es) < left_after after (e ∷ es)
       here true own found ih =
           let same = number n e.0 own in
-          let one : left_after (Some n) (e ∷ es) ≡ left_after (Some n) es = λ i. length (cond ((ap (nat_lt n) (sym same) ∙ itself_not n) i) (e ∷ among (Some n) es) (among (Some n) es)) in
-          let two : left_after after (e ∷ es) ≡ suc (left_after after es) = λ i. length (cond ((ap (is_after after) (sym same) ∙ is) i) (e ∷ among after es) (among after es)) in
+          let one : left_after (Some n) (e ∷ es) ≡ left_after (Some n) es =
+          λ i. length (cond ((ap (nat_lt n) (sym same) ∙ itself_not n) i) (e ∷ among (Some n) es) (among (Some n) es)) in
+          let two : left_after after (e ∷ es) ≡ suc (left_after after es) =
+          λ i. length (cond ((ap (is_after after) (sym same) ∙ is) i) (e ∷ among after es) (among after es)) in
           let le = not_more es in omega (arith, one, two, le)
       here false other found ih = by (nat_lt n e.0) refl (is_after after e.0) refl (ih found)
 
@@ -95,15 +100,18 @@ module _ (group : Group) (A : Row → Bool) (only : (r : Row) → A r ≡ true �
   stop after [] none = refl
   stop after (e ∷ es) none = by (is_next group after e) refl none (stop after es)
     where
-      by : (b : Bool) → is_next group after e ≡ b → cond b (Some e) (find (is_next group after) es) ≡ None → (find (is_next group after) es ≡ None → find (next after) es ≡ None) → find (next after) (e ∷ es) ≡ None
+      by : (b : Bool) → is_next group after e ≡ b → cond b (Some e) (find (is_next group after) es) ≡ None →
+          (find (is_next group after) es ≡ None → find (next after) es ≡ None) → find (next after) (e ∷ es) ≡ None
       by true is found ih = cc
       by false is rest ih = (λ i. cond (none_next after e is i) (Some e) (find (next after) es)) ∙ ih rest
 
-  pub hit : (after : Option ℕ) (es : List (ℕ × Lock)) (x : ℕ × Lock) → find (is_next group after) es ≡ Some x → A (shown x.1) ≡ true → find (next after) es ≡ Some x
+  pub hit : (after : Option ℕ) (es : List (ℕ × Lock)) (x : ℕ × Lock) → find (is_next group after) es ≡ Some x → A (shown x.1) ≡ true →
+      find (next after) es ≡ Some x
   hit after [] x found passes = cc
   hit after (e ∷ es) x found passes = by (is_next group after e) refl found (λ rest. hit after es x rest passes)
     where
-      by : (b : Bool) → is_next group after e ≡ b → cond b (Some e) (find (is_next group after) es) ≡ Some x → (find (is_next group after) es ≡ Some x → find (next after) es ≡ Some x) → find (next after) (e ∷ es) ≡ Some x
+      by : (b : Bool) → is_next group after e ≡ b → cond b (Some e) (find (is_next group after) es) ≡ Some x →
+          (find (is_next group after) es ≡ Some x → find (next after) es ≡ Some x) → find (next after) (e ∷ es) ≡ Some x
       by true is here ih =
           let same : e ≡ x = cc in
           let late = (and_parts (is_after after e.0) (has group (shown e.1)) is).0 in
@@ -111,18 +119,21 @@ module _ (group : Group) (A : Row → Bool) (only : (r : Row) → A r ≡ true �
       by false is rest ih = (λ i. cond (none_next after e is i) (Some e) (find (next after) es)) ∙ ih rest
 
   -- all are behind the grant
-  all_behind : (after : Option ℕ) (n : ℕ) (es : List (ℕ × Lock)) → is_after after n ≡ true → AllByRecursion (λ k. nat_cmp n k ≡ Less) (keys_of es) → find (next (Some n)) es ≡ find (next after) es
+  all_behind : (after : Option ℕ) (n : ℕ) (es : List (ℕ × Lock)) → is_after after n ≡ true →
+      AllByRecursion (λ k. nat_cmp n k ≡ Less) (keys_of es) → find (next (Some n)) es ≡ find (next after) es
   all_behind after n [] is all = refl
   all_behind after n (e ∷ es) is all =
       let less = less_yes n e.0 (less_from n e.0 all.0) in
       λ i. cond ((less ∙ sym (after_both after n e.0 is less)) i && A (shown e.1)) (Some e) (all_behind after n es is all.1 i)
 
-  pub skip : (after : Option ℕ) (es : List (ℕ × Lock)) (x : ℕ × Lock) → Rises es → find (is_next group after) es ≡ Some x → A (shown x.1) ≡ false → find (next (Some x.0)) es ≡ find (next after) es
+  pub skip : (after : Option ℕ) (es : List (ℕ × Lock)) (x : ℕ × Lock) → Rises es → find (is_next group after) es ≡ Some x →
+      A (shown x.1) ≡ false → find (next (Some x.0)) es ≡ find (next after) es
   unfolding IsStrictlySortedBy
   skip after [] x rises found fails = refl
   skip after (e ∷ es) x rises found fails = by (is_next group after e) refl found (λ rest. skip after es x rises.1 rest fails)
     where
-      by : (b : Bool) → is_next group after e ≡ b → cond b (Some e) (find (is_next group after) es) ≡ Some x → (find (is_next group after) es ≡ Some x → find (next (Some x.0)) es ≡ find (next after) es)
+      by : (b : Bool) → is_next group after e ≡ b → cond b (Some e) (find (is_next group after) es) ≡ Some x →
+          (find (is_next group after) es ≡ Some x → find (next (Some x.0)) es ≡ find (next after) es)
           → find (next (Some x.0)) (e ∷ es) ≡ find (next after) (e ∷ es)
       by true is here ih =
           let same : e ≡ x = cc in
@@ -138,18 +149,21 @@ module _ (group : Group) (A : Row → Bool) (only : (r : Row) → A r ≡ true �
           (λ i. cond (more_not x.0 e.0 before i && A (shown e.1)) (Some e) (find (next (Some x.0)) es)) ∙ ih rest ∙ (λ i. cond (sym (none_next after e is) i) (Some e) (find (next after) es))
 
   -- and so, whether any passes
-  behind_any : (after : Option ℕ) (n : ℕ) (es : List (ℕ × Lock)) → is_after after n ≡ true → AllByRecursion (λ k. nat_cmp n k ≡ Less) (keys_of es) → list_any (next (Some n)) es ≡ list_any (next after) es
+  behind_any : (after : Option ℕ) (n : ℕ) (es : List (ℕ × Lock)) → is_after after n ≡ true →
+      AllByRecursion (λ k. nat_cmp n k ≡ Less) (keys_of es) → list_any (next (Some n)) es ≡ list_any (next after) es
   behind_any after n [] is all = refl
   behind_any after n (e ∷ es) is all =
       let less = less_yes n e.0 (less_from n e.0 all.0) in
       λ i. ((less ∙ sym (after_both after n e.0 is less)) i && A (shown e.1)) || behind_any after n es is all.1 i
 
-  pub any_step : (after : Option ℕ) (es : List (ℕ × Lock)) (x : ℕ × Lock) → Rises es → find (is_next group after) es ≡ Some x → list_any (next after) es ≡ (A (shown x.1) || list_any (next (Some x.0)) es)
+  pub any_step : (after : Option ℕ) (es : List (ℕ × Lock)) (x : ℕ × Lock) → Rises es → find (is_next group after) es ≡ Some x →
+      list_any (next after) es ≡ (A (shown x.1) || list_any (next (Some x.0)) es)
   unfolding IsStrictlySortedBy
   any_step after [] x rises found = cc
   any_step after (e ∷ es) x rises found = by (is_next group after e) refl found (λ rest. any_step after es x rises.1 rest)
     where
-      by : (b : Bool) → is_next group after e ≡ b → cond b (Some e) (find (is_next group after) es) ≡ Some x → (find (is_next group after) es ≡ Some x → list_any (next after) es ≡ (A (shown x.1) || list_any (next (Some x.0)) es))
+      by : (b : Bool) → is_next group after e ≡ b → cond b (Some e) (find (is_next group after) es) ≡ Some x →
+          (find (is_next group after) es ≡ Some x → list_any (next after) es ≡ (A (shown x.1) || list_any (next (Some x.0)) es))
           → list_any (next after) (e ∷ es) ≡ (A (shown x.1) || list_any (next (Some x.0)) (e ∷ es))
       by true is here ih =
           let same : e ≡ x = cc in
@@ -164,13 +178,15 @@ module _ (group : Group) (A : Row → Bool) (only : (r : Row) → A r ≡ true �
 
 -- ---- the tests for which they are
 
-pub against_only : (path : List Uid) (object : Uid) (mode : Mode) (r : Row) → is_against path object mode r ≡ true → has (Against object mode) r ≡ true
+pub against_only : (path : List Uid) (object : Uid) (mode : Mode) (r : Row) → is_against path object mode r ≡ true →
+    has (Against object mode) r ≡ true
 against_only path object mode r is =
     let p = and_parts (uid_eq r.object object) (not (is_on path (last_uid r.holder)) && conflicting r.mode mode) is in
     let q = and_parts (not (is_on path (last_uid r.holder))) (conflicting r.mode mode) p.1 in
     λ i. p.0 i && q.1 i
 
-pub against_on : (path : List Uid) (object : Uid) (mode : Mode) (r : Row) (b : Bool) → is_on path (last_uid r.holder) ≡ b → has (Against object mode) r ≡ true → is_against path object mode r ≡ not b
+pub against_on : (path : List Uid) (object : Uid) (mode : Mode) (r : Row) (b : Bool) → is_on path (last_uid r.holder) ≡ b →
+    has (Against object mode) r ≡ true → is_against path object mode r ≡ not b
 against_on path object mode r b on is =
     let p = and_parts (uid_eq r.object object) (conflicting r.mode mode) is in
     (λ i. p.0 i && (not (on i) && p.1 i)) ∙ by b
@@ -187,10 +203,13 @@ top_only action r is = on_more r.tops r.holder is
     on_more (suc n) [] on = on
     on_more (suc n) (u ∷ us) on = by (uid_eq u action) on (on_more n us)
       where
-        by : (b : Bool) → (b || is_on (take n us) action) ≡ true → (is_on (take n us) action ≡ true → is_on us action ≡ true) → (b || is_on us action) ≡ true
+        by : (b : Bool) → (b || is_on (take n us) action) ≡ true → (is_on (take n us) action ≡ true → is_on us action ≡ true) →
+            (b || is_on us action) ≡ true
         by true _ ih = refl
         by false rest ih = ih rest
 
 -- the lock that was found is in the group, and comes after the grant
-pub found_in : (group : Group) (after : Option ℕ) (es : List (ℕ × Lock)) (x : ℕ × Lock) → Rises es → find (is_next group after) es ≡ Some x → (is_after after x.0 ≡ true) × (has group (shown x.1) ≡ true)
-found_in group after es x rises found = and_parts (is_after after x.0) (has group (shown x.1)) (found_at (is_next group after) es x rises found).1
+pub found_in : (group : Group) (after : Option ℕ) (es : List (ℕ × Lock)) (x : ℕ × Lock) → Rises es →
+    find (is_next group after) es ≡ Some x → (is_after after x.0 ≡ true) × (has group (shown x.1) ≡ true)
+found_in group after es x rises found =
+    and_parts (is_after after x.0) (has group (shown x.1)) (found_at (is_next group after) es x rises found).1

@@ -1,5 +1,6 @@
 -- The orders in which an index keeps the members of groups.
-use Rattle.std.proofs.Common.{◌≡◌, ℕ, ◌≤◌, Bool, true, false, ◌&&◌, ◌||◌, List, [], ◌∷◌, Option, Some, None, refl, sym, ◌∙◌, ap, subst, rules, arith}
+use Rattle.std.proofs.Common.{◌≡◌, ℕ, ◌≤◌, Bool, true, false, ◌&&◌, ◌||◌, List, [], ◌∷◌, Option, Some, None, refl, sym, ◌∙◌, ap, subst}
+use Rattle.std.proofs.Common.{rules, arith}
 use Rattle.std.proofs.Math.Bool.{and-false, or-false}
 use Rattle.std.proofs.lemmas.Bool.{and_parts}
 use Rattle.std.proofs.lemmas.Bool.Decides.{nat_tests}
@@ -51,7 +52,9 @@ pub tied : (u w : Uid) → is_eq (uid_order u w) ≡ uid_eq u w
 tied u w = by (uid_order u w) refl
   where
     apart : (o : Ordering) → uid_order u w ≡ o → is_eq o ≡ false → uid_eq u w ≡ false
-    apart o is isnt = uid_other u w (λ same. let never : true ≡ false = sym (ap is_eq (tied_itself uid_total u)) ∙ (λ i. is_eq (uid_order u (same i))) ∙ ap is_eq is ∙ isnt in cc)
+    apart o is isnt =
+        uid_other u w (λ same. let never : true ≡ false =
+        sym (ap is_eq (tied_itself uid_total u)) ∙ (λ i. is_eq (uid_order u (same i))) ∙ ap is_eq is ∙ isnt in cc)
 
     by : (o : Ordering) → uid_order u w ≡ o → is_eq o ≡ uid_eq u w
     by Less is = sym (apart Less is refl)
@@ -72,7 +75,8 @@ both_eq Equal b = refl
 both_eq Greater b = refl
 
 -- the member that was put is the one asked for
-pub same_member : (g h : Group) (n m : ℕ) → is_eq (member_order (record { group = g; grant = n }) (record { group = h; grant = m })) ≡ (is_eq (nat_cmp n m) && same g h)
+pub same_member : (g h : Group) (n m : ℕ) →
+    is_eq (member_order (record { group = g; grant = n }) (record { group = h; grant = m })) ≡ (is_eq (nat_cmp n m) && same g h)
 same_member g h n m = both_eq (group_order g h) (nat_cmp n m) ∙ turned (same g h) (is_eq (nat_cmp n m))
   where
     turned : (a b : Bool) → (a && b) ≡ (b && a)
@@ -96,7 +100,8 @@ module _ (lock : Lock) where
 
   -- a lock is in these groups
   abbrev pub in_groups : Group → Bool
-  in_groups g = same (Own lock.object (last_uid path)) g || (same (Held (last_uid path)) g || (against Read g || (against Exclude g || (against Write g || list_any (λ u. same (Below u) g) path))))
+  in_groups g =
+      same (Own lock.object (last_uid path)) g || (same (Held (last_uid path)) g || (against Read g || (against Exclude g || (against Write g || list_any (λ u. same (Below u) g) path))))
 
   abbrev rest : Bool → Bool → Bool → Bool → Bool
   rest a b c d = (a && false) || ((b && false) || ((c && false) || d))
@@ -181,7 +186,8 @@ mode_exact Write Exclude e = cc
 mode_exact Write Write e = refl
 
 group_exact : (g h : Group) → group_order g h ≡ Equal → g ≡ h
-group_exact (Own o h) (Own p k) e = let w = then_parts (uid_order o p) (uid_order h k) e in λ i. Own (uid_exact o p w.0 i) (uid_exact h k w.1 i)
+group_exact (Own o h) (Own p k) e =
+    let w = then_parts (uid_order o p) (uid_order h k) e in λ i. Own (uid_exact o p w.0 i) (uid_exact h k w.1 i)
 group_exact (Own o h) (Held k) e = cc
 group_exact (Own o h) (Below a) e = cc
 group_exact (Own o h) (Against p n) e = cc
@@ -196,7 +202,8 @@ group_exact (Below b) (Against p n) e = cc
 group_exact (Against o m) (Own p k) e = cc
 group_exact (Against o m) (Held k) e = cc
 group_exact (Against o m) (Below a) e = cc
-group_exact (Against o m) (Against p n) e = let w = then_parts (uid_order o p) (mode_cmp m n) e in λ i. Against (uid_exact o p w.0 i) (mode_exact m n w.1 i)
+group_exact (Against o m) (Against p n) e =
+    let w = then_parts (uid_order o p) (mode_cmp m n) e in λ i. Against (uid_exact o p w.0 i) (mode_exact m n w.1 i)
 
 abbrev pub group_eq : Group → Group → Bool
 group_eq = (group_eqs.ghosts).eq
@@ -236,7 +243,8 @@ eq_is (Below b) (Against p n) e = cc
 eq_is (Against o m) (Own p k) e = cc
 eq_is (Against o m) (Held k) e = cc
 eq_is (Against o m) (Below a) e = cc
-eq_is (Against o m) (Against p n) e = let w = and_parts (uid_eq o p) ((mode_eqs.ghosts).eq m n) e in λ i. Against (uid_is o p w.0 i) (mode_eq_is m n w.1 i)
+eq_is (Against o m) (Against p n) e =
+    let w = and_parts (uid_eq o p) ((mode_eqs.ghosts).eq m n) e in λ i. Against (uid_is o p w.0 i) (mode_eq_is m n w.1 i)
 
 not_gt : (a b : Ordering) → is_gt (ordering_then a b) ≡ false → is_gt a ≡ false
 not_gt Less b e = refl
@@ -256,7 +264,8 @@ module _ (g : Group) (k : Member) where
   found_group after m from le = by (group_order k.group g) refl
     where
       by : (o : Ordering) → group_order k.group g ≡ o → k.group ≡ g
-      by Less is = let never : true ≡ false = ap is_gt (sym (group_total.antisymm g k.group ∙ ap ordering_reverse is)) ∙ not_below after from in cc
+      by Less is = let never : true ≡ false =
+          ap is_gt (sym (group_total.antisymm g k.group ∙ ap ordering_reverse is)) ∙ not_below after from in cc
       by Equal is = group_exact k.group g is
       by Greater is = let never : true ≡ false = ap is_gt (sym is) ∙ not_gt (group_order k.group g) (nat_cmp k.grant m) le in cc
 
@@ -265,9 +274,11 @@ module _ (g : Group) (k : Member) where
     itself = λ i. record { group = same_group i; grant = k.grant }
 
     pub found_le : (m : ℕ) → IsLeBy member_order k (at g m) → k.grant ≤ m
-    found_le m le = le_from_not_gt k.grant m (ap is_gt (sym (in_group g k.grant m (nat_cmp k.grant m) refl)) ∙ ap (λ x. is_gt (member_order x (at g m))) (sym itself) ∙ le)
+    found_le m le =
+        le_from_not_gt k.grant m (ap is_gt (sym (in_group g k.grant m (nat_cmp k.grant m) refl)) ∙ ap (λ x. is_gt (member_order x (at g m))) (sym itself) ∙ le)
 
     pub found_after : (after : Option ℕ) → IsFromStart member_order (start g after) k → is_after after k.grant ≡ true
     found_after None from = refl
     found_after (Some grant) from =
-        let e : nat_cmp grant k.grant ≡ Less = sym (in_group g grant k.grant (nat_cmp grant k.grant) refl) ∙ ap (member_order (at g grant)) (sym itself) ∙ from in grind (arith, nat_tests, e)
+        let e : nat_cmp grant k.grant ≡ Less =
+        sym (in_group g grant k.grant (nat_cmp grant k.grant) refl) ∙ ap (member_order (at g grant)) (sym itself) ∙ from in grind (arith, nat_tests, e)

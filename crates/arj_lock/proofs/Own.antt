@@ -1,5 +1,6 @@
 -- A change of an action's row of an object.
-use Rattle.std.proofs.Common.{Result, Ok, Err, OnErr, ◌≡◌, ℕ, List, [], ◌∷◌, ◌++◌, Bool, true, false, cond, ◌&&◌, ◌||◌, Option, Some, None, refl, sym, ◌∙◌, ap, subst, find, map}
+use Rattle.std.proofs.Common.{Result, Ok, Err, OnErr, ◌≡◌, ℕ, List, [], ◌∷◌, ◌++◌, Bool, true, false, cond, ◌&&◌, ◌||◌, Option, Some, None}
+use Rattle.std.proofs.Common.{refl, sym, ◌∙◌, ap, subst, find, map}
 use Rattle.std.proofs.Math.Bool.{or-false}
 use Rattle.std.proofs.lemmas.Bool.{and_parts, or_parts}
 use Rattle.std.specs.BTreeMap.{is_at}
@@ -36,15 +37,19 @@ changed_none p g (r ∷ rows) none =
     λ i. cond (parts.0 i) (g r) r ∷ changed_none p g rows parts.1 i
 
 -- the rows of an action on an object: where one is found, there is no other
-own_apart : (object holder : Uid) (r : Row) (rows : List Row) → is_row_of object holder r ≡ true → has_row r.object (last_uid r.holder) rows ≡ false → has_row object holder rows ≡ false
+own_apart : (object holder : Uid) (r : Row) (rows : List Row) → is_row_of object holder r ≡ true →
+    has_row r.object (last_uid r.holder) rows ≡ false → has_row object holder rows ≡ false
 own_apart object holder r rows own none =
     let parts = and_parts (uid_eq r.object object) (uid_eq (last_uid r.holder) holder) own in
     (λ i. has_row (sym (uid_is r.object object parts.0) i) (sym (uid_is (last_uid r.holder) holder parts.1) i) rows) ∙ none
 
-pub changed_at : (object holder : Uid) (g : Row → Row) (bs : List Row) (r : Row) (as' : List Row) → IsOneEach (bs ++ r ∷ as') → is_row_of object holder r ≡ true
+pub changed_at : (object holder : Uid) (g : Row → Row) (bs : List Row) (r : Row) (as' : List Row) → IsOneEach (bs ++ r ∷ as') →
+    is_row_of object holder r ≡ true
     → map (changed (is_row_of object holder) g) (bs ++ r ∷ as') ≡ bs ++ g r ∷ as'
-changed_at object holder g [] r as' one own = λ i. cond (own i) (g r) r ∷ changed_none (is_row_of object holder) g as' (own_apart object holder r as' own one.0) i
-changed_at object holder g (b ∷ bs) r as' one own = λ i. by (is_row_of object holder b) refl i ∷ changed_at object holder g bs r as' one.1 own i
+changed_at object holder g [] r as' one own =
+    λ i. cond (own i) (g r) r ∷ changed_none (is_row_of object holder) g as' (own_apart object holder r as' own one.0) i
+changed_at object holder g (b ∷ bs) r as' one own =
+    λ i. by (is_row_of object holder b) refl i ∷ changed_at object holder g bs r as' one.1 own i
   where
     mid : (p : Row → Bool) (xs : List Row) → list_any p (xs ++ r ∷ as') ≡ false → p r ≡ false
     mid p [] e = (or_parts (p r) (list_any p as') e).0
@@ -56,7 +61,8 @@ changed_at object holder g (b ∷ bs) r as' one own = λ i. by (is_row_of object
     by false e = refl
 
 -- a grant to an action that has a row of the object, and to one that has none
-pub grant_raises : (new : Row) (rows : List Row) → IsOneEach rows → has_row new.object (last_uid new.holder) rows ≡ true → map (raised new.object (last_uid new.holder) new.mode) rows ≡ grant_row new rows
+pub grant_raises : (new : Row) (rows : List Row) → IsOneEach rows → has_row new.object (last_uid new.holder) rows ≡ true →
+    map (raised new.object (last_uid new.holder) new.mode) rows ≡ grant_row new rows
 grant_raises new [] one there = cc
 grant_raises new (r ∷ rows) one there = by (is_row_of new.object (last_uid new.holder) r) refl there (grant_raises new rows one.1)
   where
@@ -66,16 +72,22 @@ grant_raises new (r ∷ rows) one there = by (is_row_of new.object (last_uid new
     g : Row → Row
     g row = record row { mode = stronger row.mode new.mode }
 
-    by : (b : Bool) → p r ≡ b → (b || list_any p rows) ≡ true → (has_row new.object (last_uid new.holder) rows ≡ true → map (raised new.object (last_uid new.holder) new.mode) rows ≡ grant_row new rows)
+    by : (b : Bool) → p r ≡ b → (b || list_any p rows) ≡ true →
+        (has_row new.object (last_uid new.holder) rows ≡ true →
+        map (raised new.object (last_uid new.holder) new.mode) rows ≡ grant_row new rows)
         → cond b (g r) r ∷ map (raised new.object (last_uid new.holder) new.mode) rows ≡ cond b (g r ∷ rows) (r ∷ grant_row new rows)
     by true e is ih = ap (λ rs. g r ∷ rs) (changed_none p g rows (own_apart new.object (last_uid new.holder) r rows e one.0))
     by false e is ih = ap (λ rs. r ∷ rs) (ih is)
 
-pub grant_new : (new : Row) (rows : List Row) → has_row new.object (last_uid new.holder) rows ≡ false → rows ++ new ∷ [] ≡ grant_row new rows
+pub grant_new : (new : Row) (rows : List Row) → has_row new.object (last_uid new.holder) rows ≡ false →
+    rows ++ new ∷ [] ≡ grant_row new rows
 grant_new new [] none = refl
 grant_new new (r ∷ rows) none =
     let parts = or_parts (is_row_of new.object (last_uid new.holder) r) (has_row new.object (last_uid new.holder) rows) none in
-    ap (λ rs. r ∷ rs) (grant_new new rows parts.1) ∙ (λ i. cond (sym parts.0 i) (record r { mode = stronger r.mode new.mode } ∷ rows) (r ∷ grant_row new rows))
+    ap (λ rs. r ∷ rs) (grant_new new rows parts.1) ∙ (λ i. cond (sym parts.0 i) (record r {
+      mode =
+          stronger r.mode new.mode;
+    } ∷ rows) (r ∷ grant_row new rows))
 
 -- a lowered row is of the same object and holder
 
@@ -106,7 +118,8 @@ module _ (object holder : Uid) (g : Row → Row) (es : List (ℕ × Lock)) where
     all : map (changed owned g) (rows_in es) ≡ found.front ++ g (shown lock) ∷ found.rest
     all = ap (map (changed owned g)) found.split ∙ changed_at object holder g found.front (shown lock) found.rest (subst IsOneEach found.split one) own
 
-    pub own_changed : (w : Lock) → shown w ≡ g (shown lock) → rows_in (set_value (is_at (nat_cmp n)) es w) ≡ map (changed owned g) (rows_in es)
+    pub own_changed : (w : Lock) → shown w ≡ g (shown lock) →
+        rows_in (set_value (is_at (nat_cmp n)) es w) ≡ map (changed owned g) (rows_in es)
     own_changed w is = found.put w ∙ (λ i. found.front ++ is i ∷ found.rest) ∙ sym all
 
     pub own_same : g (shown lock) ≡ shown lock → rows_in es ≡ map (changed owned g) (rows_in es)
@@ -115,9 +128,12 @@ module _ (object holder : Uid) (g : Row → Row) (es : List (ℕ × Lock)) where
   pub own_none : find (is_next (Own object holder) None) es ≡ None → rows_in es ≡ map (changed owned g) (rows_in es)
   own_none none = sym (changed_none owned g (rows_in es) (none_in_group (Own object holder) es none))
 
-pub own_mode : (object holder : Uid) (es : List (ℕ × Lock)) (o : Option (ℕ × Lock)) → find (is_next (Own object holder) None) es ≡ o → mode_of object holder (rows_in es) ≡ option_map (λ e. e.1.mode) o
-own_mode object holder es None found = ap (option_map (λ (r : Row). r.mode)) (find_row (is_row_of object holder) es ∙ ap (option_map (λ (e : ℕ × Lock). shown e.1)) found)
-own_mode object holder es (Some e) found = ap (option_map (λ (r : Row). r.mode)) (find_row (is_row_of object holder) es ∙ ap (option_map (λ (x : ℕ × Lock). shown x.1)) found)
+pub own_mode : (object holder : Uid) (es : List (ℕ × Lock)) (o : Option (ℕ × Lock)) → find (is_next (Own object holder) None) es ≡ o →
+    mode_of object holder (rows_in es) ≡ option_map (λ e. e.1.mode) o
+own_mode object holder es None found =
+    ap (option_map (λ (r : Row). r.mode)) (find_row (is_row_of object holder) es ∙ ap (option_map (λ (e : ℕ × Lock). shown e.1)) found)
+own_mode object holder es (Some e) found =
+    ap (option_map (λ (r : Row). r.mode)) (find_row (is_row_of object holder) es ∙ ap (option_map (λ (x : ℕ × Lock). shown x.1)) found)
 
 pub weaker : (a b : Mode) → nat_lt (mode_code a) (mode_code b) ≡ false → stronger a b ≡ a
 weaker Read Read e = refl
@@ -131,21 +147,27 @@ weaker Write Exclude e = refl
 weaker Write Write e = refl
 
 -- of an action's own row alone does a test hold that asks for it
-pub none_own : (object holder : Uid) (w : Row → Bool) (rows : List Row) → has_row object holder rows ≡ false → list_any (λ x. is_row_of object holder x && w x) rows ≡ false
+pub none_own : (object holder : Uid) (w : Row → Bool) (rows : List Row) → has_row object holder rows ≡ false →
+    list_any (λ x. is_row_of object holder x && w x) rows ≡ false
 none_own object holder w [] e = refl
-none_own object holder w (x ∷ rows) e = let parts = or_parts (is_row_of object holder x) (has_row object holder rows) e in λ i. (parts.0 i && w x) || none_own object holder w rows parts.1 i
+none_own object holder w (x ∷ rows) e =
+    let parts = or_parts (is_row_of object holder x) (has_row object holder rows) e in λ i. (parts.0 i && w x) || none_own object holder w rows parts.1 i
 
-pub only_own : (object holder : Uid) (w : Row → Bool) (bs : List Row) (r : Row) (as' : List Row) → IsOneEach (bs ++ r ∷ as') → is_row_of object holder r ≡ true
+pub only_own : (object holder : Uid) (w : Row → Bool) (bs : List Row) (r : Row) (as' : List Row) → IsOneEach (bs ++ r ∷ as') →
+    is_row_of object holder r ≡ true
     → list_any (λ x. is_row_of object holder x && w x) (bs ++ r ∷ as') ≡ w r
-only_own object holder w [] r as' one own = (λ i. (own i && w r) || none_own object holder w as' (own_apart object holder r as' own one.0) i) ∙ or-false (w r)
+only_own object holder w [] r as' one own =
+    (λ i. (own i && w r) || none_own object holder w as' (own_apart object holder r as' own one.0) i) ∙ or-false (w r)
 only_own object holder w (b ∷ bs) r as' one own = by (is_row_of object holder b) refl (only_own object holder w bs r as' one.1 own)
   where
     mid : (p : Row → Bool) (xs : List Row) → list_any p (xs ++ r ∷ as') ≡ false → p r ≡ false
     mid p [] e = (or_parts (p r) (list_any p as') e).0
     mid p (x ∷ xs) e = mid p xs (or_parts (p x) (list_any p (xs ++ r ∷ as')) e).1
 
-    by : (c : Bool) → is_row_of object holder b ≡ c → list_any (λ x. is_row_of object holder x && w x) (bs ++ r ∷ as') ≡ w r → ((c && w b) || list_any (λ x. is_row_of object holder x && w x) (bs ++ r ∷ as')) ≡ w r
-    by true e ih = let never : true ≡ false = sym own ∙ mid (is_row_of object holder) bs (own_apart object holder b (bs ++ r ∷ as') e one.0) in cc
+    by : (c : Bool) → is_row_of object holder b ≡ c → list_any (λ x. is_row_of object holder x && w x) (bs ++ r ∷ as') ≡ w r →
+        ((c && w b) || list_any (λ x. is_row_of object holder x && w x) (bs ++ r ∷ as')) ≡ w r
+    by true e ih =
+        let never : true ≡ false = sym own ∙ mid (is_row_of object holder) bs (own_apart object holder b (bs ++ r ∷ as') e one.0) in cc
     by false e ih = ih
 
 -- ---- whether there is one, by its mode
@@ -154,14 +176,16 @@ module _ (object holder : Uid) (f : Mode → Bool) (rows : List Row) where
   pub has_own : (b : Bool) → Some b ≡ option_map f (mode_of object holder rows) → has_row object holder rows ≡ true
   has_own b is = by (find (is_row_of object holder) rows) refl is
     where
-      by : (o : Option Row) → find (is_row_of object holder) rows ≡ o → Some b ≡ option_map f (option_map (λ (r : Row). r.mode) o) → has_row object holder rows ≡ true
+      by : (o : Option Row) → find (is_row_of object holder) rows ≡ o → Some b ≡ option_map f (option_map (λ (r : Row). r.mode) o) →
+          has_row object holder rows ≡ true
       by None found e = cc
       by (Some r) found e = one_passes (is_row_of object holder) rows r found
 
   pub has_none : None ≡ option_map f (mode_of object holder rows) → has_row object holder rows ≡ false
   has_none is = by (find (is_row_of object holder) rows) refl is
     where
-      by : (o : Option Row) → find (is_row_of object holder) rows ≡ o → None ≡ option_map f (option_map (λ (r : Row). r.mode) o) → has_row object holder rows ≡ false
+      by : (o : Option Row) → find (is_row_of object holder) rows ≡ o → None ≡ option_map f (option_map (λ (r : Row). r.mode) o) →
+          has_row object holder rows ≡ false
       by None found e = none_passes (is_row_of object holder) rows found
       by (Some r) found e = cc
 

@@ -1,12 +1,14 @@
 -- What a pass leaves, object by object and holder by holder.
-use Rattle.std.proofs.Common.{◌≡◌, ◌⊎◌, ◌≤◌, List, [], ◌∷◌, length, Bool, true, false, cond, not, ◌&&◌, ◌||◌, Option, Some, None, refl, sym, ◌∙◌, ap, inl, inr, find, Contains}
+use Rattle.std.proofs.Common.{◌≡◌, ◌⊎◌, ◌≤◌, List, [], ◌∷◌, length, Bool, true, false, cond, not, ◌&&◌, ◌||◌, Option, Some, None, refl, sym}
+use Rattle.std.proofs.Common.{◌∙◌, ap, inl, inr, find, Contains}
 use Rattle.std.specs.List.{list_any, filter_map, cons_option}
 use Rattle.std.specs.Option.{option_map}
 use Rattle.std.proofs.lemmas.Bool.{and_parts, false_from_ne_true}
 use Rattle.arj_base.specs.declared.uid.Uid.{Uid}
 use Rattle.arj_base.specs.Mode.{strongest}
 use Rattle.arj_base.specs.Path.{before_last}
-use Rattle.arj_base.specs.Rows.{Row, last_uid, front, is_on, is_row_of, is_held_by, is_heir, goes_to, has_any, has_row, mode_of, strengthened, handed_on, renamed, passed, pass_rows}
+use Rattle.arj_base.specs.Rows.{Row, last_uid, front, is_on, is_row_of, is_held_by, is_heir, goes_to, has_any, has_row, mode_of}
+use Rattle.arj_base.specs.Rows.{strengthened, handed_on, renamed, passed, pass_rows}
 use Rattle.arj_base.specs.Uid.{uid_eq}
 use Rattle.arj_base.proofs.Uids.{uid_is, uid_same}
 use Rattle.arj_lock.specs.Exclusion.{IsOneEach, NoneBelow}
@@ -22,23 +24,27 @@ given : {X Y : Type 0} (f : X → Option Y) (x : X) (y : Y) (xs : List X) → In
 given f x y [] i e = absurd i
 given {X} {Y} f x y (z ∷ zs) i e = by (f z) refl i (given f x y zs)
   where
-    by : (o : Option Y) → f z ≡ o → In x (z ∷ zs) → (In x zs → f x ≡ Some y → In y (filter_map f zs)) → In y (cons_option o (filter_map f zs))
+    by : (o : Option Y) → f z ≡ o → In x (z ∷ zs) → (In x zs → f x ≡ Some y → In y (filter_map f zs)) →
+        In y (cons_option o (filter_map f zs))
     by None at (inl is) ih = let never : ◌≡◌ {A = Option Y} None (Some y) = sym at ∙ ap f is ∙ e in cc
     by None at (inr j) ih = ih j e
     by (Some w) at (inl is) ih = let same : ◌≡◌ {A = Option Y} (Some w) (Some y) = sym at ∙ ap f is ∙ e in let one : w ≡ y = cc in inl one
     by (Some w) at (inr j) ih = inr (ih j e)
 
 -- the one row of an object and a holder is found
-pub only_found : (object holder : Uid) (r : Row) (rows : List Row) → IsOneEach rows → In r rows → is_row_of object holder r ≡ true → find (is_row_of object holder) rows ≡ Some r
+pub only_found : (object holder : Uid) (r : Row) (rows : List Row) → IsOneEach rows → In r rows → is_row_of object holder r ≡ true →
+    find (is_row_of object holder) rows ≡ Some r
 only_found object holder r [] one i own = absurd i
 only_found object holder r (row ∷ rows) one i own = by (is_row_of object holder row) refl i (only_found object holder r rows one.1)
   where
-    by : (b : Bool) → is_row_of object holder row ≡ b → In r (row ∷ rows) → (In r rows → is_row_of object holder r ≡ true → find (is_row_of object holder) rows ≡ Some r)
+    by : (b : Bool) → is_row_of object holder row ≡ b → In r (row ∷ rows) →
+        (In r rows → is_row_of object holder r ≡ true → find (is_row_of object holder) rows ≡ Some r)
         → cond b (Some row) (find (is_row_of object holder) rows) ≡ Some r
     by true e (inl is) ih = ap Some is
     by true e (inr j) ih =
         let p = and_parts (uid_eq row.object object) (uid_eq (last_uid row.holder) holder) e in
-        let other : is_row_of object holder r ≡ false = (λ k. is_row_of (sym (uid_is row.object object p.0) k) (sym (uid_is (last_uid row.holder) holder p.1) k) r) ∙ none_in (is_row_of row.object (last_uid row.holder)) r rows one.0 j in
+        let other : is_row_of object holder r ≡ false =
+        (λ k. is_row_of (sym (uid_is row.object object p.0) k) (sym (uid_is (last_uid row.holder) holder p.1) k) r) ∙ none_in (is_row_of row.object (last_uid row.holder)) r rows one.0 j in
         let never : true ≡ false = sym own ∙ other in cc
     by false e (inl is) ih = let never : true ≡ false = sym own ∙ ap (is_row_of object holder) (sym is) ∙ e in cc
     by false e (inr j) ih = ih j own
@@ -48,7 +54,8 @@ only_found object holder r (row ∷ rows) one i own = by (is_row_of object holde
 pub came_by : (action : Uid) (rows : List Row) (y : Row) → In y (pass_rows action rows) → CameBy action rows y
 came_by action rows y i = by (in_filter_map (passed action rows) y rows i)
   where
-    handed : (x : Row) → In x rows → is_held_by action x ≡ true → (o : Option Uid) → before_last x.holder ≡ o → handed_on rows x o ≡ Some y → CameBy action rows y
+    handed : (x : Row) → In x rows → is_held_by action x ≡ true → (o : Option Uid) → before_last x.holder ≡ o →
+        handed_on rows x o ≡ Some y → CameBy action rows y
     handed x j own None heir e = cc
     handed x j own (Some heir) parent e = cases (has_row x.object heir rows) refl e
       where
@@ -59,17 +66,21 @@ came_by action rows y i = by (in_filter_map (passed action rows) y rows i)
     at : (x : Row) → In x rows → (b : Bool) → is_held_by action x ≡ b → passed action rows x ≡ Some y → CameBy action rows y
     at x j true own e = handed x j own (before_last x.holder) refl (sym (at_held action rows x own) ∙ e)
     at x j false other e =
-        let is : ◌≡◌ {A = Option Row} (Some (strengthened x (find (goes_to action x) rows))) (Some y) = sym (at_other action rows x other) ∙ e in
+        let is : ◌≡◌ {A = Option Row} (Some (strengthened x (find (goes_to action x) rows))) (Some y) =
+        sym (at_other action rows x other) ∙ e in
         let same : strengthened x (find (goes_to action x) rows) ≡ y = cc in
         stayed x (in_to x rows j) other (sym same)
 
     by : (x : Row) × In x rows × (passed action rows x ≡ Some y) → CameBy action rows y
     by f = at f.0 f.1 (is_held_by action f.0) refl f.2
 
-pub stays_in : (action : Uid) (rows : List Row) (r : Row) → In r rows → is_held_by action r ≡ false → In (strengthened r (passing action r.object (last_uid r.holder) rows)) (pass_rows action rows)
-stays_in action rows r i other = given (passed action rows) r (strengthened r (passing action r.object (last_uid r.holder) rows)) rows i (at_other action rows r other)
+pub stays_in : (action : Uid) (rows : List Row) (r : Row) → In r rows → is_held_by action r ≡ false →
+    In (strengthened r (passing action r.object (last_uid r.holder) rows)) (pass_rows action rows)
+stays_in action rows r i other =
+    given (passed action rows) r (strengthened r (passing action r.object (last_uid r.holder) rows)) rows i (at_other action rows r other)
 
-passes_in : (action : Uid) (rows : List Row) (r : Row) (heir : Uid) → In r rows → is_held_by action r ≡ true → before_last r.holder ≡ Some heir → has_row r.object heir rows ≡ false → In (renamed r) (pass_rows action rows)
+passes_in : (action : Uid) (rows : List Row) (r : Row) (heir : Uid) → In r rows → is_held_by action r ≡ true →
+    before_last r.holder ≡ Some heir → has_row r.object heir rows ≡ false → In (renamed r) (pass_rows action rows)
 passes_in action rows r heir i own parent free =
     given (passed action rows) r (renamed r) rows i (at_held action rows r own ∙ ap (handed_on rows r) parent ∙ (λ k. cond (free k) None (Some (renamed r))))
 
@@ -101,7 +112,8 @@ pub which : (p : Row → Bool) (rows : List Row) → list_any p rows ≡ true �
 which p [] e = cc
 which p (row ∷ rows) e = by (p row) refl e (which p rows)
   where
-    by : (b : Bool) → p row ≡ b → (b || list_any p rows) ≡ true → (list_any p rows ≡ true → (r : Row) × In r rows × (p r ≡ true)) → (r : Row) × In r (row ∷ rows) × (p r ≡ true)
+    by : (b : Bool) → p row ≡ b → (b || list_any p rows) ≡ true → (list_any p rows ≡ true → (r : Row) × In r rows × (p r ≡ true)) →
+        (r : Row) × In r (row ∷ rows) × (p r ≡ true)
     by true own t ih = (row, inl refl, own)
     by false other t ih = let f = ih t in (f.0, inr f.1, f.2)
 
@@ -112,9 +124,11 @@ module _ (action : Uid) (rows : List Row) (one : IsOneEach rows) (object holder 
   t = is_row_of object holder
 
   -- an heir is another action, where it has no row of the object yet
-  other_heir : (x : Row) (heir : Uid) → In x rows → is_held_by action x ≡ true → has_row x.object heir rows ≡ false → uid_eq heir action ≡ false
+  other_heir : (x : Row) (heir : Uid) → In x rows → is_held_by action x ≡ true → has_row x.object heir rows ≡ false →
+      uid_eq heir action ≡ false
   other_heir x heir i own free = false_from_ne_true (uid_eq heir action) (λ same.
-      let here : is_row_of x.object heir x ≡ true = (λ k. uid_same x.object k && uid_eq (last_uid x.holder) (uid_is heir action same k)) ∙ own in
+      let here : is_row_of x.object heir x ≡ true =
+      (λ k. uid_same x.object k && uid_eq (last_uid x.holder) (uid_is heir action same k)) ∙ own in
       let never : true ≡ false = sym (has (is_row_of x.object heir) x rows i here) ∙ free in cc)
 
   -- the action holds nothing any more
@@ -122,7 +136,8 @@ module _ (action : Uid) (rows : List Row) (one : IsOneEach rows) (object holder 
   none_left y i = by (came_by action rows y i)
     where
       by : CameBy action rows y → is_held_by action y ≡ false
-      by (stayed x c other is) = ap (λ us. uid_eq (last_uid us) action) (ap (λ r. r.holder) is ∙ strong_holder x (passing action x.object (last_uid x.holder) rows)) ∙ other
+      by (stayed x c other is) =
+          ap (λ us. uid_eq (last_uid us) action) (ap (λ r. r.holder) is ∙ strong_holder x (passing action x.object (last_uid x.holder) rows)) ∙ other
       by (passed_on x c own heir parent free is) =
           ap (λ us. uid_eq (last_uid us) action) (ap (λ r. r.holder) is) ∙ ap (λ u. uid_eq u action) (heir_is x.holder heir parent).0 ∙ other_heir x heir (in_from x rows c) own free
 
@@ -136,15 +151,18 @@ module _ (action : Uid) (rows : List Row) (one : IsOneEach rows) (object holder 
 
   module _ (another : uid_eq holder action ≡ false) where
     not_held : (x : Row) → t x ≡ true → is_held_by action x ≡ false
-    not_held x own = ap (λ u. uid_eq u action) (uid_is (last_uid x.holder) holder (and_parts (uid_eq x.object object) (uid_eq (last_uid x.holder) holder) own).1) ∙ another
+    not_held x own =
+        ap (λ u. uid_eq u action) (uid_is (last_uid x.holder) holder (and_parts (uid_eq x.object object) (uid_eq (last_uid x.holder) holder) own).1) ∙ another
 
     -- the holder had a row
-    had : (x : Row) → find t rows ≡ Some x → mode_of object holder (pass_rows action rows) ≡ strongest (mode_of object holder rows) (passing_mode action object holder rows)
+    had : (x : Row) → find t rows ≡ Some x →
+        mode_of object holder (pass_rows action rows) ≡ strongest (mode_of object holder rows) (passing_mode action object holder rows)
     had x found =
         let f = in_find t x rows found in
         let p = and_parts (uid_eq x.object object) (uid_eq (last_uid x.holder) holder) f.1 in
         let o = passing action x.object (last_uid x.holder) rows in
-        let tested : t (strengthened x o) ≡ true = (λ k. uid_eq (strong_object x o k) object && uid_eq (last_uid (strong_holder x o k)) holder) ∙ f.1 in
+        let tested : t (strengthened x o) ≡ true =
+        (λ k. uid_eq (strong_object x o k) object && uid_eq (last_uid (strong_holder x o k)) holder) ∙ f.1 in
         ap (option_map (λ row. row.mode)) (only_found object holder (strengthened x o) (pass_rows action rows) (one_each_pass action rows one) (stays_in action rows x f.0 (not_held x f.1)) tested)
         ∙ strong_mode x o
         ∙ (λ k. strongest (Some x.mode) (passing_mode action (uid_is x.object object p.0 k) (uid_is (last_uid x.holder) holder p.1 k) rows))
@@ -158,8 +176,10 @@ module _ (action : Uid) (rows : List Row) (one : IsOneEach rows) (object holder 
     heir_of (Some heir) e = ap Some (uid_is heir holder e)
 
     -- it had none: it has what passes to it
-    had_none : find t rows ≡ None → mode_of object holder (pass_rows action rows) ≡ strongest (mode_of object holder rows) (passing_mode action object holder rows)
-    had_none none = by (find goes rows) refl ∙ ap (λ m. strongest (option_map (λ row. row.mode) m) (passing_mode action object holder rows)) (sym none)
+    had_none : find t rows ≡ None →
+        mode_of object holder (pass_rows action rows) ≡ strongest (mode_of object holder rows) (passing_mode action object holder rows)
+    had_none none =
+        by (find goes rows) refl ∙ ap (λ m. strongest (option_map (λ row. row.mode) m) (passing_mode action object holder rows)) (sym none)
       where
         free : (x : Row) → uid_eq x.object object ≡ true → has_row x.object holder rows ≡ false
         free x same = ap (λ u. has_row u holder rows) (uid_is x.object object same) ∙ false_from_ne_true (has_row object holder rows) (λ e.
@@ -187,18 +207,21 @@ module _ (action : Uid) (rows : List Row) (one : IsOneEach rows) (object holder 
                 let passes : goes x ≡ true = λ k. (p.0 k && own k) && (ap (λ m. is_heir m holder) parent ∙ same) k in
                 let never : true ≡ false = sym passes ∙ in_find_none goes x rows nothing (in_from x rows c) in cc)
 
-        by : (o : Option Row) → find goes rows ≡ o → mode_of object holder (pass_rows action rows) ≡ option_map (λ row. row.mode) (find goes rows)
+        by : (o : Option Row) → find goes rows ≡ o →
+            mode_of object holder (pass_rows action rows) ≡ option_map (λ row. row.mode) (find goes rows)
         by None e = ap (option_map (λ row. row.mode)) (find_none t (pass_rows action rows) (nobody e) ∙ sym e)
         by (Some c) e = comes c e ∙ ap (option_map (λ row. row.mode)) (sym e)
 
-    others : (o : Option Row) → find t rows ≡ o → mode_of object holder (pass_rows action rows) ≡ strongest (mode_of object holder rows) (passing_mode action object holder rows)
+    others : (o : Option Row) → find t rows ≡ o →
+        mode_of object holder (pass_rows action rows) ≡ strongest (mode_of object holder rows) (passing_mode action object holder rows)
     others None e = had_none e
     others (Some x) e = had x e
 
   pub pass_mode : mode_of object holder (pass_rows action rows) ≡ cond (uid_eq holder action) None (strongest (mode_of object holder rows) (passing_mode action object holder rows))
   pass_mode = by (uid_eq holder action) refl
     where
-      by : (b : Bool) → uid_eq holder action ≡ b → mode_of object holder (pass_rows action rows) ≡ cond b None (strongest (mode_of object holder rows) (passing_mode action object holder rows))
+      by : (b : Bool) → uid_eq holder action ≡ b →
+          mode_of object holder (pass_rows action rows) ≡ cond b None (strongest (mode_of object holder rows) (passing_mode action object holder rows))
       by true is = mine is
       by false another = others another (find t rows) refl
 
@@ -210,7 +233,8 @@ pass_fewer action rows other e = by (which (λ r. is_on r.holder other) (pass_ro
     at : (y : Row) → is_on y.holder other ≡ true → CameBy action rows y → has_any other rows ≡ true
     at y on (stayed x c held is) =
         has (λ r. is_on r.holder other) x rows (in_from x rows c) (ap (λ us. is_on us other) (sym (ap (λ r. r.holder) is ∙ strong_holder x (passing action x.object (last_uid x.holder) rows))) ∙ on)
-    at y on (passed_on x c own heir parent free is) = has (λ r. is_on r.holder other) x rows (in_from x rows c) (on_front x.holder other (ap (λ us. is_on us other) (sym (ap (λ r. r.holder) is)) ∙ on))
+    at y on (passed_on x c own heir parent free is) =
+        has (λ r. is_on r.holder other) x rows (in_from x rows c) (on_front x.holder other (ap (λ us. is_on us other) (sym (ap (λ r. r.holder) is)) ∙ on))
 
     by : (y : Row) × In y (pass_rows action rows) × (is_on y.holder other ≡ true) → has_any other rows ≡ true
     by f = at f.0 f.2 (came_by action rows f.0 f.1)
@@ -246,7 +270,8 @@ module _ (action : Uid) (rows : List Row) (none : NoneBelow action rows) (agree 
       has q (strengthened x o) after (stays_in action rows x i held) (ap (λ us. is_on us other) (strong_holder x o) ∙ on)
 
   module _ (another : uid_eq other action ≡ false) where
-    handed : (x : Row) → In x rows → is_held_by action x ≡ true → q x ≡ true → (m : Option Uid) → before_last x.holder ≡ m → has_any other after ≡ true
+    handed : (x : Row) → In x rows → is_held_by action x ≡ true → q x ≡ true → (m : Option Uid) → before_last x.holder ≡ m →
+        has_any other after ≡ true
     handed x i own on None parent =
         let last : other ≡ last_uid x.holder = sym (uid_is (last_uid x.holder) other (alone_on x.holder parent on)) in
         let never : true ≡ false = sym own ∙ ap (λ u. uid_eq u action) (sym last) ∙ another in cc
@@ -256,7 +281,8 @@ module _ (action : Uid) (rows : List Row) (none : NoneBelow action rows) (agree 
         before on_front_of false free = has q (renamed x) after (passes_in action rows x heir i own parent free) on_front_of
         before on_front_of true there =
             let s = which (is_row_of x.object heir) rows there in
-            let last : last_uid s.0.holder ≡ heir = uid_is (last_uid s.0.holder) heir (and_parts (uid_eq s.0.object x.object) (uid_eq (last_uid s.0.holder) heir) s.2).1 in
+            let last : last_uid s.0.holder ≡ heir =
+            uid_is (last_uid s.0.holder) heir (and_parts (uid_eq s.0.object x.object) (uid_eq (last_uid s.0.holder) heir) s.2).1 in
             let path : s.0.holder ≡ front x.holder = agree x s.0 (in_to x rows i) (in_to s.0 rows s.1) own (parent ∙ ap Some (sym last)) in
             kept s.0 s.1 (not_the_action s.0 last) (ap (λ us. is_on us other) path ∙ on_front_of)
           where
@@ -275,7 +301,8 @@ module _ (action : Uid) (rows : List Row) (none : NoneBelow action rows) (agree 
                 last_on us u on same = ap (is_on us) (sym same) ∙ on
 
         by : (uid_eq (last_uid x.holder) other ≡ true) ⊎ (is_on (front x.holder) other ≡ true) → has_any other after ≡ true
-        by (inl last) = let never : true ≡ false = sym own ∙ ap (λ u. uid_eq u action) (uid_is (last_uid x.holder) other last) ∙ another in cc
+        by (inl last) =
+            let never : true ≡ false = sym own ∙ ap (λ u. uid_eq u action) (uid_is (last_uid x.holder) other last) ∙ another in cc
         by (inr up) = before up (has_row x.object heir rows) refl
 
     still : has_any other rows ≡ true → has_any other after ≡ true
@@ -291,14 +318,16 @@ module _ (action : Uid) (rows : List Row) (none : NoneBelow action rows) (agree 
   gone : uid_eq other action ≡ true → has_any other after ≡ false
   gone is = false_from_ne_true (has_any other after) (λ e.
       let f = which q after e in
-      let never : true ≡ false = sym (ap (is_on f.0.holder) (sym (uid_is other action is)) ∙ f.2) ∙ off f.0 (came_by action rows f.0 f.1) in cc)
+      let never : true ≡ false =
+      sym (ap (is_on f.0.holder) (sym (uid_is other action is)) ∙ f.2) ∙ off f.0 (came_by action rows f.0 f.1) in cc)
     where
       off : (y : Row) → CameBy action rows y → is_on y.holder action ≡ false
       off y (stayed x c held is) =
           ap (λ us. is_on us action) (ap (λ r. r.holder) is ∙ strong_holder x (passing action x.object (last_uid x.holder) rows))
           ∙ false_from_ne_true (is_on x.holder action) (λ on. by x c held (on_parts x.holder action on))
         where
-          by : (x : Row) → Contains rows x → is_held_by action x ≡ false → (uid_eq (last_uid x.holder) action ≡ true) ⊎ (is_on (front x.holder) action ≡ true) → ⊥
+          by : (x : Row) → Contains rows x → is_held_by action x ≡ false →
+              (uid_eq (last_uid x.holder) action ≡ true) ⊎ (is_on (front x.holder) action ≡ true) → ⊥
           by x c held (inl last) = let never : true ≡ false = sym last ∙ held in cc
           by x c held (inr up) = let never : true ≡ false = sym up ∙ none x c in cc
       off y (passed_on x c own heir parent free is) = ap (λ us. is_on us action) (ap (λ r. r.holder) is) ∙ none x c
@@ -310,4 +339,5 @@ module _ (action : Uid) (rows : List Row) (none : NoneBelow action rows) (agree 
       by true is true e = gone is
       by true is false e = gone is
       by false another true e = still another e
-      by false another false e = false_from_ne_true (has_any other after) (λ on. let never : true ≡ false = sym (pass_fewer action rows other on) ∙ e in cc)
+      by false another false e =
+          false_from_ne_true (has_any other after) (λ on. let never : true ≡ false = sym (pass_fewer action rows other on) ∙ e in cc)

@@ -1,5 +1,6 @@
 -- One row passes: what is left to pass gives the same.
-use Rattle.std.proofs.Common.{◌≡◌, List, [], ◌∷◌, ◌++◌, Bool, true, false, cond, ◌&&◌, Option, Some, None, refl, sym, ◌∙◌, ap, inl, inr, find, map}
+use Rattle.std.proofs.Common.{◌≡◌, List, [], ◌∷◌, ◌++◌, Bool, true, false, cond, ◌&&◌, Option, Some, None, refl, sym, ◌∙◌, ap, inl, inr}
+use Rattle.std.proofs.Common.{find, map}
 use Rattle.std.specs.List.{filter_map, list_any, cons_option}
 use Rattle.std.proofs.lemmas.List.Elements.{filter_map-append}
 use Rattle.std.proofs.lemmas.List.{map-append, map-id}
@@ -8,7 +9,8 @@ use Rattle.arj_base.specs.declared.mode.Mode.{Mode}
 use Rattle.arj_base.specs.declared.uid.Uid.{Uid}
 use Rattle.arj_base.specs.Mode.{stronger}
 use Rattle.arj_base.specs.Path.{before_last}
-use Rattle.arj_base.specs.Rows.{Row, last_uid, front, is_row_of, is_held_by, has_row, pass_rows, passed, handed_on, strengthened, goes_to, is_heir, renamed}
+use Rattle.arj_base.specs.Rows.{Row, last_uid, front, is_row_of, is_held_by, has_row, pass_rows, passed, handed_on, strengthened, goes_to}
+use Rattle.arj_base.specs.Rows.{is_heir, renamed}
 use Rattle.arj_base.specs.Uid.{uid_eq}
 use Rattle.arj_lock.specs.Exclusion.{IsOneEach}
 use Rattle.arj_lock.specs.Passing.{raised}
@@ -29,12 +31,14 @@ in_right x [] ys i = i
 in_right x (z ∷ xs) ys i = inr (in_right x xs ys i)
 
 -- two searches that agree at each row, where the rows of one come from those of the other
-same_rows : (p q : Row → Option Row) (f : Row → Row) (xs : List Row) → ((x : Row) → In x xs → p (f x) ≡ q x) → filter_map p (map f xs) ≡ filter_map q xs
+same_rows : (p q : Row → Option Row) (f : Row → Row) (xs : List Row) → ((x : Row) → In x xs → p (f x) ≡ q x) →
+    filter_map p (map f xs) ≡ filter_map q xs
 same_rows p q f [] e = refl
 same_rows p q f (x ∷ xs) e = λ i. cons_option (e x (inl refl) i) (same_rows p q f xs (λ y j. e y (inr j)) i)
 
 -- and with other rows in the place of one
-with_row : (p q : Row → Option Row) (f : Row → Row) (bs : List Row) (more : List Row) (r : Row) (as' : List Row) → ((x : Row) → In x (bs ++ as') → p (f x) ≡ q x) → filter_map p more ≡ cons_option (q r) []
+with_row : (p q : Row → Option Row) (f : Row → Row) (bs : List Row) (more : List Row) (r : Row) (as' : List Row) →
+    ((x : Row) → In x (bs ++ as') → p (f x) ≡ q x) → filter_map p more ≡ cons_option (q r) []
     → filter_map p (map f bs ++ (more ++ map f as')) ≡ filter_map q (bs ++ r ∷ as')
 with_row p q f [] more r as' e here =
     filter_map-append p more (map f as') ∙ ap (λ rs. rs ++ filter_map p (map f as')) here ∙ back (q r) ∙ (λ i. cons_option (q r) (same_rows p q f as' e i))
@@ -48,16 +52,19 @@ find_more : (p : Row → Bool) (xs : List Row) (x : Row) (ys : List Row) → p x
 find_more p [] x ys other = λ i. cond (other i) (Some x) (find p ys)
 find_more p (y ∷ xs) x ys other = ap (cond (p y) (Some y)) (find_more p xs x ys other)
 
-find_here : (p : Row → Bool) (xs : List Row) (x : Row) (ys : List Row) → p x ≡ true → ((y : Row) → In y (xs ++ ys) → p y ≡ false) → find p (xs ++ x ∷ ys) ≡ Some x
+find_here : (p : Row → Bool) (xs : List Row) (x : Row) (ys : List Row) → p x ≡ true → ((y : Row) → In y (xs ++ ys) → p y ≡ false) →
+    find p (xs ++ x ∷ ys) ≡ Some x
 find_here p [] x ys own others = λ i. cond (own i) (Some x) (find p ys)
-find_here p (y ∷ xs) x ys own others = (λ i. cond (others y (inl refl) i) (Some y) (find p (xs ++ x ∷ ys))) ∙ find_here p xs x ys own (λ z j. others z (inr j))
+find_here p (y ∷ xs) x ys own others =
+    (λ i. cond (others y (inl refl) i) (Some y) (find p (xs ++ x ∷ ys))) ∙ find_here p xs x ys own (λ z j. others z (inr j))
 
 pub find_none : (p : Row → Bool) (xs : List Row) → ((y : Row) → In y xs → p y ≡ false) → find p xs ≡ None
 find_none p [] others = refl
 find_none p (y ∷ xs) others = (λ i. cond (others y (inl refl) i) (Some y) (find p xs)) ∙ find_none p xs (λ z j. others z (inr j))
 
 -- a search is the same among rows that are changed where it doesn't look
-find_map : (p : Row → Bool) (f : Row → Row) (xs : List Row) → ((x : Row) → p (f x) ≡ p x) → ((x : Row) → In x xs → p x ≡ true → f x ≡ x) → find p (map f xs) ≡ find p xs
+find_map : (p : Row → Bool) (f : Row → Row) (xs : List Row) → ((x : Row) → p (f x) ≡ p x) → ((x : Row) → In x xs → p x ≡ true → f x ≡ x) →
+    find p (map f xs) ≡ find p xs
 find_map p f [] same kept = refl
 find_map p f (x ∷ xs) same kept = (λ i. cond (same x i) (Some (f x)) (find_map p f xs same (λ y j. kept y (inr j)) i)) ∙ by (p x) refl
   where
@@ -67,25 +74,32 @@ find_map p f (x ∷ xs) same kept = (λ i. cond (same x i) (Some (f x)) (find_ma
 
 -- What a row becomes.
 
-pub at_held : (action : Uid) (rows : List Row) (x : Row) → is_held_by action x ≡ true → passed action rows x ≡ handed_on rows x (before_last x.holder)
-at_held action rows x own = λ i. cond (own i) (handed_on rows x (before_last x.holder)) (Some (strengthened x (find (goes_to action x) rows)))
+pub at_held : (action : Uid) (rows : List Row) (x : Row) → is_held_by action x ≡ true →
+    passed action rows x ≡ handed_on rows x (before_last x.holder)
+at_held action rows x own =
+    λ i. cond (own i) (handed_on rows x (before_last x.holder)) (Some (strengthened x (find (goes_to action x) rows)))
 
-pub at_other : (action : Uid) (rows : List Row) (x : Row) → is_held_by action x ≡ false → passed action rows x ≡ Some (strengthened x (find (goes_to action x) rows))
-at_other action rows x other = λ i. cond (other i) (handed_on rows x (before_last x.holder)) (Some (strengthened x (find (goes_to action x) rows)))
+pub at_other : (action : Uid) (rows : List Row) (x : Row) → is_held_by action x ≡ false →
+    passed action rows x ≡ Some (strengthened x (find (goes_to action x) rows))
+at_other action rows x other =
+    λ i. cond (other i) (handed_on rows x (before_last x.holder)) (Some (strengthened x (find (goes_to action x) rows)))
 
-handed_same : (old new : List Row) (x : Row) (o : Option Uid) → ((heir : Uid) → has_row x.object heir new ≡ has_row x.object heir old) → handed_on new x o ≡ handed_on old x o
+handed_same : (old new : List Row) (x : Row) (o : Option Uid) → ((heir : Uid) → has_row x.object heir new ≡ has_row x.object heir old) →
+    handed_on new x o ≡ handed_on old x o
 handed_same old new x None e = refl
 handed_same old new x (Some heir) e = λ i. cond (e heir i) None (Some (renamed x))
 
 -- a row becomes the same in both lists
-same_row : (action : Uid) (old new : List Row) (f : Row → Row) (x : Row) → is_held_by action (f x) ≡ is_held_by action x → (is_held_by action x ≡ true → f x ≡ x)
+same_row : (action : Uid) (old new : List Row) (f : Row → Row) (x : Row) → is_held_by action (f x) ≡ is_held_by action x →
+    (is_held_by action x ≡ true → f x ≡ x)
     → (is_held_by action x ≡ true → (heir : Uid) → has_row x.object heir new ≡ has_row x.object heir old)
     → (is_held_by action x ≡ false → strengthened (f x) (find (goes_to action (f x)) new) ≡ strengthened x (find (goes_to action x) old))
     → passed action new (f x) ≡ passed action old x
 same_row action old new f x last fixed heirs found = by (is_held_by action x) refl
   where
     by : (b : Bool) → is_held_by action x ≡ b → passed action new (f x) ≡ passed action old x
-    by true own = ap (passed action new) (fixed own) ∙ at_held action new x own ∙ handed_same old new x (before_last x.holder) (heirs own) ∙ sym (at_held action old x own)
+    by true own =
+        ap (passed action new) (fixed own) ∙ at_held action new x own ∙ handed_same old new x (before_last x.holder) (heirs own) ∙ sym (at_held action old x own)
     by false other = at_other action new (f x) (last ∙ other) ∙ ap Some (found other) ∙ sym (at_other action old x other)
 
 and_false : (a : Bool) → (a && false) ≡ false
@@ -109,7 +123,8 @@ nothing_passes action rows none = among rows (λ x i. none_in (is_held_by action
 object_apart : (object holder : Uid) (x : Row) → uid_eq x.object object ≡ false → is_row_of object holder x ≡ false
 object_apart object holder x apart = λ i. apart i && uid_eq (last_uid x.holder) holder
 
-raised_at : (object heir : Uid) (mode : Mode) (x : Row) → is_row_of object heir x ≡ true → raised object heir mode x ≡ record x { mode = stronger x.mode mode }
+raised_at : (object heir : Uid) (mode : Mode) (x : Row) → is_row_of object heir x ≡ true →
+    raised object heir mode x ≡ record x { mode = stronger x.mode mode }
 raised_at object heir mode x own = λ i. cond (own i) (record x { mode = stronger x.mode mode }) x
 
 raised_other : (object heir : Uid) (mode : Mode) (x : Row) → is_row_of object heir x ≡ false → raised object heir mode x ≡ x
@@ -144,8 +159,10 @@ module _ (action : Uid) (bs : List Row) (r : Row) (as' : List Row) (one : IsOneE
       by false e = refl
 
   -- it doesn't count for another row of the action
-  heirs_same : (x : Row) → In x (bs ++ as') → is_held_by action x ≡ true → (heir : Uid) → has_row x.object heir (bs ++ r ∷ as') ≡ has_row x.object heir (bs ++ as')
-  heirs_same x i held heir = any_more (is_row_of x.object heir) bs r as' (object_apart x.object heir r (uid_sym r.object x.object ∙ object_other x i held))
+  heirs_same : (x : Row) → In x (bs ++ as') → is_held_by action x ≡ true → (heir : Uid) →
+      has_row x.object heir (bs ++ r ∷ as') ≡ has_row x.object heir (bs ++ as')
+  heirs_same x i held heir =
+      any_more (is_row_of x.object heir) bs r as' (object_apart x.object heir r (uid_sym r.object x.object ∙ object_other x i held))
 
   -- It has no parent, and goes.
   pub passes_gone : before_last r.holder ≡ None → pass_rows action (bs ++ as') ≡ pass_rows action (bs ++ r ∷ as')
@@ -177,7 +194,8 @@ module _ (action : Uid) (bs : List Row) (r : Row) (as' : List Row) (one : IsOneE
     -- Its heir has a row already, which takes its mode.
     pub passes_merged : has_row r.object heir (bs ++ r ∷ as') ≡ true
         → pass_rows action (map (raised r.object heir r.mode) bs ++ map (raised r.object heir r.mode) as') ≡ pass_rows action (bs ++ r ∷ as')
-    passes_merged there = with_row (passed action new) (passed action (bs ++ r ∷ as')) f bs [] r as' at (sym (ap (λ o. cons_option o []) here))
+    passes_merged there =
+        with_row (passed action new) (passed action (bs ++ r ∷ as')) f bs [] r as' at (sym (ap (λ o. cons_option o []) here))
       where
         f : Row → Row
         f = raised r.object heir r.mode
@@ -203,18 +221,22 @@ module _ (action : Uid) (bs : List Row) (r : Row) (as' : List Row) (one : IsOneE
         held_same : (x : Row) → is_held_by action (f x) ≡ is_held_by action x
         held_same x = λ i. uid_eq (last_uid (holder x i)) action
 
-        heirs : (x : Row) → In x (bs ++ as') → is_held_by action x ≡ true → (h : Uid) → has_row x.object h new ≡ has_row x.object h (bs ++ r ∷ as')
-        heirs x i held h = ap (has_row x.object h) new_is ∙ any_same (is_row_of x.object h) (is_row_of x.object h) f (bs ++ as') (row_same x.object h) ∙ sym (heirs_same x i held h)
+        heirs : (x : Row) → In x (bs ++ as') → is_held_by action x ≡ true → (h : Uid) →
+            has_row x.object h new ≡ has_row x.object h (bs ++ r ∷ as')
+        heirs x i held h =
+            ap (has_row x.object h) new_is ∙ any_same (is_row_of x.object h) (is_row_of x.object h) f (bs ++ as') (row_same x.object h) ∙ sym (heirs_same x i held h)
 
         -- the action has no row of the object any more
         none_new : (x : Row) → uid_eq x.object r.object ≡ true → (y : Row) → In y (map f (bs ++ as')) → goes_to action x y ≡ false
         none_new x same y i =
             let z = in_map f y (bs ++ as') i in
-            let e : is_row_of r.object action y ≡ false = ap (is_row_of r.object action) (sym z.2) ∙ row_same r.object action z.0 ∙ apart z.0 z.1 in
+            let e : is_row_of r.object action y ≡ false =
+            ap (is_row_of r.object action) (sym z.2) ∙ row_same r.object action z.0 ∙ apart z.0 z.1 in
             (λ k. (ap (λ o. is_row_of o action y) (uid_is x.object r.object same) ∙ e) k && is_heir (before_last y.holder) (last_uid x.holder))
 
         -- the heir's row
-        heirs_row : (x : Row) → In x (bs ++ as') → is_row_of r.object heir x ≡ true → strengthened (f x) (find (goes_to action (f x)) new) ≡ strengthened x (find (goes_to action x) (bs ++ r ∷ as'))
+        heirs_row : (x : Row) → In x (bs ++ as') → is_row_of r.object heir x ≡ true →
+            strengthened (f x) (find (goes_to action (f x)) new) ≡ strengthened x (find (goes_to action x) (bs ++ r ∷ as'))
         heirs_row x i is =
             let same : uid_eq x.object r.object ≡ true = (and_parts (uid_eq x.object r.object) (uid_eq (last_uid x.holder) heir) is).0 in
             ap (strengthened (f x)) (ap (find (goes_to action (f x))) new_is ∙ find_none (goes_to action (f x)) (map f (bs ++ as')) (none_new (f x) (ap (λ o. uid_eq o r.object) (object x) ∙ same)))
@@ -222,16 +244,19 @@ module _ (action : Uid) (bs : List Row) (r : Row) (as' : List Row) (one : IsOneE
             ∙ sym (ap (strengthened x) (find_here (goes_to action x) bs r as' (goes x ∙ is) (λ y j. none_old x same y j)))
           where
             none_old : (x : Row) → uid_eq x.object r.object ≡ true → (y : Row) → In y (bs ++ as') → goes_to action x y ≡ false
-            none_old x same y j = λ k. (ap (λ o. is_row_of o action y) (uid_is x.object r.object same) ∙ apart y j) k && is_heir (before_last y.holder) (last_uid x.holder)
+            none_old x same y j =
+                λ k. (ap (λ o. is_row_of o action y) (uid_is x.object r.object same) ∙ apart y j) k && is_heir (before_last y.holder) (last_uid x.holder)
 
         -- a row of the action is not the heir's of this object
         kept : (x y : Row) → In y (bs ++ as') → goes_to action x y ≡ true → f y ≡ y
         kept x y j is = raised_other r.object heir r.mode y (false_from_ne_true (is_row_of r.object heir y) (λ e.
-            let own_y : is_held_by action y ≡ true = (and_parts (uid_eq y.object x.object) (is_held_by action y) (and_parts (is_row_of x.object action y) (is_heir (before_last y.holder) (last_uid x.holder)) is).0).1 in
+            let own_y : is_held_by action y ≡ true =
+            (and_parts (uid_eq y.object x.object) (is_held_by action y) (and_parts (is_row_of x.object action y) (is_heir (before_last y.holder) (last_uid x.holder)) is).0).1 in
             let same : uid_eq y.object r.object ≡ true = (and_parts (uid_eq y.object r.object) (uid_eq (last_uid y.holder) heir) e).0 in
             let never : true ≡ false = sym same ∙ object_other y j own_y in cc))
 
-        another : (x : Row) → In x (bs ++ as') → is_row_of r.object heir x ≡ false → strengthened (f x) (find (goes_to action (f x)) new) ≡ strengthened x (find (goes_to action x) (bs ++ r ∷ as'))
+        another : (x : Row) → In x (bs ++ as') → is_row_of r.object heir x ≡ false →
+            strengthened (f x) (find (goes_to action (f x)) new) ≡ strengthened x (find (goes_to action x) (bs ++ r ∷ as'))
         another x i other =
             ap (λ y. strengthened y (find (goes_to action y) new)) (raised_other r.object heir r.mode x other)
             ∙ ap (strengthened x) (ap (find (goes_to action x)) new_is ∙ find_map (goes_to action x) f (bs ++ as') goes_same (kept x) ∙ sym (find_more (goes_to action x) bs r as' (goes x ∙ other)))
@@ -245,7 +270,8 @@ module _ (action : Uid) (bs : List Row) (r : Row) (as' : List Row) (one : IsOneE
             (heirs x i)
             (λ other. by (is_row_of r.object heir x) refl)
           where
-            by : (b : Bool) → is_row_of r.object heir x ≡ b → strengthened (f x) (find (goes_to action (f x)) new) ≡ strengthened x (find (goes_to action x) (bs ++ r ∷ as'))
+            by : (b : Bool) → is_row_of r.object heir x ≡ b →
+                strengthened (f x) (find (goes_to action (f x)) new) ≡ strengthened x (find (goes_to action x) (bs ++ r ∷ as'))
             by true e = heirs_row x i e
             by false e = another x i e
 
@@ -272,7 +298,8 @@ module _ (action : Uid) (bs : List Row) (r : Row) (as' : List Row) (one : IsOneE
           here = at_held action (bs ++ r ∷ as') r own ∙ ap (handed_on (bs ++ r ∷ as') r) parent ∙ (λ i. cond (free i) None (Some (renamed r)))
 
           never_new : (x : Row) → goes_to action x (renamed r) ≡ false
-          never_new x = (λ i. (uid_eq r.object x.object && renamed_other i) && is_heir (before_last (front r.holder)) (last_uid x.holder)) ∙ (λ i. and_false (uid_eq r.object x.object) i && is_heir (before_last (front r.holder)) (last_uid x.holder))
+          never_new x =
+              (λ i. (uid_eq r.object x.object && renamed_other i) && is_heir (before_last (front r.holder)) (last_uid x.holder)) ∙ (λ i. and_false (uid_eq r.object x.object) i && is_heir (before_last (front r.holder)) (last_uid x.holder))
 
           there : passed action new (renamed r) ≡ Some (renamed r)
           there =

@@ -1,11 +1,13 @@
 -- A pass keeps exclusion, where no descendant of the action has a row.
-use Rattle.std.proofs.Common.{◌≡◌, ◌⊎◌, ◌≤◌, List, length, Bool, true, false, cond, Option, Some, None, refl, sym, ◌∙◌, ap, subst, inl, inr, find}
+use Rattle.std.proofs.Common.{◌≡◌, ◌⊎◌, ◌≤◌, List, length, Bool, true, false, cond, Option, Some, None, refl, sym, ◌∙◌, ap, subst, inl, inr}
+use Rattle.std.proofs.Common.{find}
 use Rattle.std.proofs.lemmas.Bool.{and_parts}
 use Rattle.arj_base.specs.declared.mode.Mode.{Mode}
 use Rattle.arj_base.specs.declared.uid.Uid.{Uid}
 use Rattle.arj_base.specs.Mode.{conflicting}
 use Rattle.arj_base.specs.Path.{before_last}
-use Rattle.arj_base.specs.Rows.{Row, is_on, front, last_uid, is_row_of, is_held_by, has_row, pass_rows, passed, handed_on, strengthened, goes_to, is_heir, renamed}
+use Rattle.arj_base.specs.Rows.{Row, is_on, front, last_uid, is_row_of, is_held_by, has_row, pass_rows, passed, handed_on, strengthened}
+use Rattle.arj_base.specs.Rows.{goes_to, is_heir, renamed}
 use Rattle.arj_base.specs.Uid.{uid_eq}
 use Rattle.arj_lock.specs.Exclusion.{Agree, GoTogether, Excluding, NoneBelow}
 use Rattle.arj_lock.proofs.Exclusion.{Excludes, excludes_from, excludes_to, conflict_sym, conflict_parts}
@@ -45,7 +47,8 @@ heir_on us heir e =
     let h = heir_is us heir e in
     on_front us heir (ap (is_on (front us)) (sym h.0) ∙ on_last (front us) h.1)
 
-handed : (action : Uid) (rows : List Row) (x y : Row) → In x rows → is_held_by action x ≡ true → (o : Option Uid) → before_last x.holder ≡ o → handed_on rows x o ≡ Some y → IsPassed action rows y
+handed : (action : Uid) (rows : List Row) (x y : Row) → In x rows → is_held_by action x ≡ true → (o : Option Uid) →
+    before_last x.holder ≡ o → handed_on rows x o ≡ Some y → IsPassed action rows y
 handed action rows x y i own None heir e = cc
 handed action rows x y i own (Some heir) before e = by (has_row x.object heir rows) e
   where
@@ -57,17 +60,45 @@ handed action rows x y i own (Some heir) before e = by (has_row x.object heir ro
         let holder : front x.holder ≡ y.holder = ap (λ r. r.holder) same in
         record {
           holder = (x, i, inr (h.1, holder));
-          shares = λ m c. (x, record { there = i; object = ap (λ r. r.object) same; kind = inr (record { own = own; heir = ap last_uid holder; parent = before ∙ ap Some (sym h.0 ∙ ap last_uid holder); long = h.1; on = ap (is_on x.holder) (ap last_uid (sym holder) ∙ h.0) ∙ heir_on x.holder heir before; path = inl holder }) }, ap (λ r. conflicting r.mode m) same ∙ c);
+          shares = λ m c. (
+            x,
+            record {
+              there = i;
+              object = ap (λ r. r.object) same;
+              kind =
+                  inr (record {
+                    own = own;
+                    heir = ap last_uid holder;
+                    parent = before ∙ ap Some (sym h.0 ∙ ap last_uid holder);
+                    long = h.1;
+                    on =
+                        ap (is_on x.holder) (ap last_uid (sym holder) ∙ h.0) ∙ heir_on x.holder heir before;
+                    path =
+                        inl holder;
+                  });
+            },
+            ap (λ r. conflicting r.mode m) same ∙ c,
+          );
         }
 
 heir_last : (us : List Uid) (o : Option Uid) (holder : Uid) → before_last us ≡ o → is_heir o holder ≡ true → before_last us ≡ Some holder
 heir_last us None holder e is = cc
 heir_last us (Some heir) holder e is = e ∙ ap Some (uid_is heir holder is)
 
-kept : (action : Uid) (rows : List Row) (x y : Row) → In x rows → is_held_by action x ≡ false → (o : Option Row) → find (goes_to action x) rows ≡ o → strengthened x o ≡ y → IsPassed action rows y
+kept : (action : Uid) (rows : List Row) (x y : Row) → In x rows → is_held_by action x ≡ false → (o : Option Row) →
+    find (goes_to action x) rows ≡ o → strengthened x o ≡ y → IsPassed action rows y
 kept action rows x y i other None found e = record {
   holder = (x, i, inl (ap (λ r. r.holder) e));
-  shares = λ m c. (x, record { there = i; object = ap (λ r. r.object) e; kind = inl (other, ap (λ r. r.holder) e) }, ap (λ r. conflicting r.mode m) e ∙ c);
+  shares = λ m c. (
+    x,
+    record {
+      there = i;
+      object = ap (λ r. r.object) e;
+      kind =
+          inl (other, ap (λ r. r.holder) e);
+    },
+    ap (λ r. conflicting r.mode m) e ∙ c,
+  );
 }
 kept action rows x y i other (Some p) found e = record {
   holder = (x, i, inl holder);
@@ -89,7 +120,8 @@ kept action rows x y i other (Some p) found e = record {
     heir : before_last p.holder ≡ Some (last_uid x.holder)
     heir = heir_last p.holder (before_last p.holder) (last_uid x.holder) refl parts.1
 
-    by : (m : Mode) → (conflicting x.mode m ≡ true) ⊎ (conflicting p.mode m ≡ true) → (c : Row) × Share action rows c y × (conflicting c.mode m ≡ true)
+    by : (m : Mode) → (conflicting x.mode m ≡ true) ⊎ (conflicting p.mode m ≡ true) →
+        (c : Row) × Share action rows c y × (conflicting c.mode m ≡ true)
     by m (inl c) = (x, record { there = i; object = ap (λ r. r.object) e; kind = inl (other, holder) }, c)
     by m (inr c) =
         let h = heir_is p.holder (last_uid x.holder) heir in (
@@ -97,7 +129,16 @@ kept action rows x y i other (Some p) found e = record {
           record {
             there = f.0;
             object = uid_is p.object x.object own.0 ∙ ap (λ r. r.object) e;
-            kind = inr (record { own = own.1; heir = h.0 ∙ ap last_uid holder; parent = heir ∙ ap (λ us. Some (last_uid us)) holder; long = h.1; on = ap (λ us. is_on p.holder (last_uid us)) (sym holder) ∙ heir_on p.holder (last_uid x.holder) heir; path = inr (x, i, holder) });
+            kind = inr (record {
+              own = own.1;
+              heir = h.0 ∙ ap last_uid holder;
+              parent = heir ∙ ap (λ us. Some (last_uid us)) holder;
+              long =
+                  h.1;
+              on = ap (λ us. is_on p.holder (last_uid us)) (sym holder) ∙ heir_on p.holder (last_uid x.holder) heir;
+              path =
+                  inr (x, i, holder);
+            });
           },
           c,
         )
@@ -105,9 +146,12 @@ kept action rows x y i other (Some p) found e = record {
 pub is_passed : (action : Uid) (rows : List Row) (y : Row) → In y (pass_rows action rows) → IsPassed action rows y
 is_passed action rows y i = by (in_filter_map (passed action rows) y rows i)
   where
-    at : (x : Row) → In x rows → (b : Bool) → is_held_by action x ≡ b → cond b (handed_on rows x (before_last x.holder)) (Some (strengthened x (find (goes_to action x) rows))) ≡ Some y → IsPassed action rows y
+    at : (x : Row) → In x rows → (b : Bool) → is_held_by action x ≡ b →
+        cond b (handed_on rows x (before_last x.holder)) (Some (strengthened x (find (goes_to action x) rows))) ≡ Some y →
+        IsPassed action rows y
     at x i true own e = handed action rows x y i own (before_last x.holder) refl e
-    at x i false other e = let is : strengthened x (find (goes_to action x) rows) ≡ y = cc in kept action rows x y i other (find (goes_to action x) rows) refl is
+    at x i false other e =
+        let is : strengthened x (find (goes_to action x) rows) ≡ y = cc in kept action rows x y i other (find (goes_to action x) rows) refl is
 
     by : (x : Row) × In x rows × (passed action rows x ≡ Some y) → IsPassed action rows y
     by f = at f.0 f.1 (is_held_by action f.0) refl f.2
@@ -118,7 +162,8 @@ abbrev Apart : Row → Row → Type 0
 Apart y z = (is_on z.holder (last_uid y.holder) ≡ true) ⊎ (is_on y.holder (last_uid z.holder) ≡ true)
 
 -- the path above the action is the same in each of its rows
-one_path : (action : Uid) (c d : Row) → Agree c.holder d.holder → 1 ≤ length c.holder → 1 ≤ length d.holder → is_held_by action c ≡ true → is_held_by action d ≡ true
+one_path : (action : Uid) (c d : Row) → Agree c.holder d.holder → 1 ≤ length c.holder → 1 ≤ length d.holder → is_held_by action c ≡ true →
+    is_held_by action d ≡ true
     → is_on (front c.holder) action ≡ false → is_on (front d.holder) action ≡ false → front c.holder ≡ front d.holder
 one_path action c d agree long also own other new none =
     sym (before_last_is c.holder action own new)
@@ -126,7 +171,8 @@ one_path action c d agree long also own other new none =
     ∙ before_last_is d.holder action other none
 
 -- whoever is not the action and is on its row's path stands before it
-stands_before : (action : Uid) (d : Row) (a : Uid) → is_held_by action d ≡ true → uid_eq a action ≡ false → is_on d.holder a ≡ true → is_on (front d.holder) a ≡ true
+stands_before : (action : Uid) (d : Row) (a : Uid) → is_held_by action d ≡ true → uid_eq a action ≡ false → is_on d.holder a ≡ true →
+    is_on (front d.holder) a ≡ true
 stands_before action d a own other on = by (on_parts d.holder a on)
   where
     by : (uid_eq (last_uid d.holder) a ≡ true) ⊎ (is_on (front d.holder) a ≡ true) → is_on (front d.holder) a ≡ true
@@ -136,18 +182,21 @@ stands_before action d a own other on = by (on_parts d.holder a on)
     by (inr before) = before
 
 -- the holder of the row that one mode comes from is on the other's path
-on_other : (action : Uid) (rows : List Row) (c d y z : Row) → Excludes rows → ((r : Row) → In r rows → is_on (front r.holder) action ≡ false)
+on_other : (action : Uid) (rows : List Row) (c d y z : Row) → Excludes rows →
+    ((r : Row) → In r rows → is_on (front r.holder) action ≡ false)
     → 1 ≤ length z.holder → Share action rows c y → Share action rows d z → is_on d.holder (last_uid c.holder) ≡ true → Apart y z
 on_other action rows c d y z e none long s t on = by s.kind t.kind
   where
     -- the holder of z's mode was the action: the other's holder stood before it
     above : IsHeirs action rows d z → is_held_by action c ≡ false → c.holder ≡ y.holder → is_on (front d.holder) (last_uid c.holder) ≡ true
         → (front d.holder ≡ z.holder) ⊎ ((x : Row) × In x rows × (x.holder ≡ z.holder)) → Apart y z
-    above h other same before (inl is) = inl (ap (is_on z.holder) (ap last_uid (sym same)) ∙ ap (λ us. is_on us (last_uid c.holder)) (sym is) ∙ before)
+    above h other same before (inl is) =
+        inl (ap (is_on z.holder) (ap last_uid (sym same)) ∙ ap (λ us. is_on us (last_uid c.holder)) (sym is) ∙ before)
     above h other same before (inr x) =
         let agrees : Agree z.holder d.holder = subst (λ us. Agree us d.holder) x.2 (e.agreed x.0 d x.1 t.there) in
         let with_y : Agree y.holder d.holder = subst (λ us. Agree us d.holder) same (e.agreed c d s.there t.there) in
-        let own : is_on y.holder (last_uid y.holder) ≡ true = subst (λ us. is_on us (last_uid us) ≡ true) same (on_last c.holder (e.named c s.there)) in
+        let own : is_on y.holder (last_uid y.holder) ≡ true =
+        subst (λ us. is_on us (last_uid us) ≡ true) same (on_last c.holder (e.named c s.there)) in
         between z.holder d.holder y.holder (last_uid z.holder) (last_uid y.holder) agrees with_y (on_last z.holder long) h.on own (ap (is_on d.holder) (ap last_uid (sym same)) ∙ on)
 
     by : IsOwn action c y ⊎ IsHeirs action rows c y → IsOwn action d z ⊎ IsHeirs action rows d z → Apart y z
@@ -182,8 +231,10 @@ pass_excludes action rows excluding none_below =
 
     agreed : (r s : Row) → HasHolder rows r → HasHolder rows s → Agree r.holder s.holder
     agreed r s (x, i, inl is) (w, j, inl also) = subst (Agree r.holder) also (subst (λ us. Agree us w.holder) is (e.agreed x w i j))
-    agreed r s (x, i, inr f) (w, j, inl also) = subst (Agree r.holder) also (subst (λ us. Agree us w.holder) f.1 (agree_front x.holder w.holder (e.agreed x w i j)))
-    agreed r s (x, i, inl is) (w, j, inr g) = subst (Agree r.holder) g.1 (subst (λ us. Agree us (front w.holder)) is (agree_sym (front w.holder) x.holder (agree_front w.holder x.holder (e.agreed w x j i))))
+    agreed r s (x, i, inr f) (w, j, inl also) =
+        subst (Agree r.holder) also (subst (λ us. Agree us w.holder) f.1 (agree_front x.holder w.holder (e.agreed x w i j)))
+    agreed r s (x, i, inl is) (w, j, inr g) =
+        subst (Agree r.holder) g.1 (subst (λ us. Agree us (front w.holder)) is (agree_sym (front w.holder) x.holder (agree_front w.holder x.holder (e.agreed w x j i))))
     agreed r s (x, i, inr f) (w, j, inr g) =
         let half : Agree (front w.holder) x.holder = agree_front w.holder x.holder (e.agreed w x j i) in
         subst (Agree r.holder) g.1 (subst (λ us. Agree us (front w.holder)) f.1 (agree_front x.holder (front w.holder) (agree_sym (front w.holder) x.holder half)))
@@ -198,6 +249,7 @@ pass_excludes action rows excluding none_below =
         let t = q.shares s.0.mode (conflict_sym z.mode s.0.mode ∙ s.2) in
         by s.0 t.0 s.1 t.1 (e.apart s.0 t.0 s.1.there t.1.there (s.1.object ∙ same ∙ sym t.1.object) (conflict_sym s.0.mode t.0.mode ∙ t.2))
       where
-        by : (c d : Row) → Share action rows c y → Share action rows d z → (is_on d.holder (last_uid c.holder) ≡ true) ⊎ (is_on c.holder (last_uid d.holder) ≡ true) → Apart y z
+        by : (c d : Row) → Share action rows c y → Share action rows d z →
+            (is_on d.holder (last_uid c.holder) ≡ true) ⊎ (is_on c.holder (last_uid d.holder) ≡ true) → Apart y z
         by c d s t (inl on) = on_other action rows c d y z e none (named z q.holder) s t on
         by c d s t (inr on) = turned y z (on_other action rows d c z y e none (named y p.holder) t s on)

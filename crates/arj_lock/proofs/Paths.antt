@@ -1,5 +1,6 @@
 -- Paths that agree.
-use Rattle.std.proofs.Common.{◌≡◌, ◌⊎◌, ◌≤◌, List, [], ◌∷◌, length, Bool, true, false, cond, ◌||◌, Some, refl, sym, ◌∙◌, ap, inl, inr, arith}
+use Rattle.std.proofs.Common.{◌≡◌, ◌⊎◌, ◌≤◌, List, [], ◌∷◌, length, Bool, true, false, cond, ◌||◌, Some, refl, sym, ◌∙◌, ap, inl, inr}
+use Rattle.std.proofs.Common.{arith}
 use Rattle.arj_base.specs.declared.uid.Uid.{Uid}
 use Rattle.arj_base.specs.Path.{before_last}
 use Rattle.arj_base.specs.Rows.{is_on, front, last_uid}
@@ -40,7 +41,8 @@ on_front [] a e = e
 on_front (u ∷ []) a e = cc
 on_front (u ∷ w ∷ us) a e = by (uid_eq u a) (on_front (w ∷ us) a) e
   where
-    by : (b : Bool) → (is_on (front (w ∷ us)) a ≡ true → is_on (w ∷ us) a ≡ true) → (b || is_on (front (w ∷ us)) a) ≡ true → (b || is_on (w ∷ us) a) ≡ true
+    by : (b : Bool) → (is_on (front (w ∷ us)) a ≡ true → is_on (w ∷ us) a ≡ true) → (b || is_on (front (w ∷ us)) a) ≡ true →
+        (b || is_on (w ∷ us) a) ≡ true
     by true ih e = refl
     by false ih e = ih e
 
@@ -58,7 +60,8 @@ before_front [] a e = cc
 before_front (u ∷ []) a e = cc
 before_front (u ∷ w ∷ us) a e = by (uid_eq u a) (before_front (w ∷ us) a) e
   where
-    by : (b : Bool) → (is_on (front (w ∷ us)) a ≡ true → before a (front (w ∷ us)) ≡ before a (w ∷ us)) → (b || is_on (front (w ∷ us)) a) ≡ true
+    by : (b : Bool) → (is_on (front (w ∷ us)) a ≡ true → before a (front (w ∷ us)) ≡ before a (w ∷ us)) →
+        (b || is_on (front (w ∷ us)) a) ≡ true
         → cond b [] (u ∷ before a (front (w ∷ us))) ≡ cond b [] (u ∷ before a (w ∷ us))
     by true ih e = refl
     by false ih e = ap (λ us. u ∷ us) (ih e)
@@ -68,7 +71,8 @@ before_last_is [] a last new = refl
 before_last_is (u ∷ []) a last new = λ i. cond (last i) [] (u ∷ [])
 before_last_is (u ∷ w ∷ us) a last new = by (uid_eq u a) (before_last_is (w ∷ us) a last) new
   where
-    by : (b : Bool) → (is_on (front (w ∷ us)) a ≡ false → before a (w ∷ us) ≡ front (w ∷ us)) → (b || is_on (front (w ∷ us)) a) ≡ false → cond b [] (u ∷ before a (w ∷ us)) ≡ u ∷ front (w ∷ us)
+    by : (b : Bool) → (is_on (front (w ∷ us)) a ≡ false → before a (w ∷ us) ≡ front (w ∷ us)) → (b || is_on (front (w ∷ us)) a) ≡ false →
+        cond b [] (u ∷ before a (w ∷ us)) ≡ u ∷ front (w ∷ us)
     by true ih e = cc
     by false ih e = ap (λ us. u ∷ us) (ih e)
 
@@ -80,12 +84,14 @@ on_before (u ∷ us) a b e = by (on_before us a b) (uid_eq u b) e
     more true ih e = refl
     more false ih e = ih e
 
-    by : (is_on (before b us) a ≡ true → is_on us a ≡ true) → (s : Bool) → is_on (cond s [] (u ∷ before b us)) a ≡ true → is_on (u ∷ us) a ≡ true
+    by : (is_on (before b us) a ≡ true → is_on us a ≡ true) → (s : Bool) → is_on (cond s [] (u ∷ before b us)) a ≡ true →
+        is_on (u ∷ us) a ≡ true
     by ih true e = cc
     by ih false e = more (uid_eq u a) ih e
 
 -- of two Uids of a path one stands before the other, or they are the same
-in_order : (us : List Uid) (a b : Uid) → is_on us a ≡ true → is_on us b ≡ true → (is_on (before a us) b ≡ true) ⊎ ((is_on (before b us) a ≡ true) ⊎ (a ≡ b))
+in_order : (us : List Uid) (a b : Uid) → is_on us a ≡ true → is_on us b ≡ true →
+    (is_on (before a us) b ≡ true) ⊎ ((is_on (before b us) a ≡ true) ⊎ (a ≡ b))
 in_order [] a b on_a on_b = cc
 in_order (u ∷ us) a b on_a on_b = by (uid_eq u a) refl (uid_eq u b) refl (in_order us a b) on_a on_b
   where
@@ -106,7 +112,8 @@ in_order (u ∷ us) a b on_a on_b = by (uid_eq u a) refl (uid_eq u b) refl (in_o
 
 -- Three paths that agree: where one action is on the first and the second, and another on the third and the second, the
 -- other is on the first, or the one on the third.
-pub between : (p q r : List Uid) (a b : Uid) → Agree p q → Agree r q → is_on p a ≡ true → is_on q a ≡ true → is_on r b ≡ true → is_on q b ≡ true → (is_on p b ≡ true) ⊎ (is_on r a ≡ true)
+pub between : (p q r : List Uid) (a b : Uid) → Agree p q → Agree r q → is_on p a ≡ true → is_on q a ≡ true → is_on r b ≡ true →
+    is_on q b ≡ true → (is_on p b ≡ true) ⊎ (is_on r a ≡ true)
 between p q r a b pq rq pa qa rb qb = by (in_order q a b qa qb)
   where
     by : (is_on (before a q) b ≡ true) ⊎ ((is_on (before b q) a ≡ true) ⊎ (a ≡ b)) → (is_on p b ≡ true) ⊎ (is_on r a ≡ true)

@@ -1,5 +1,6 @@
 -- A pass leaves no action two rows of one object.
-use Rattle.std.proofs.Common.{◌≡◌, ◌⊎◌, ℕ, zero, suc, ◌≤◌, List, [], ◌∷◌, ◌++◌, Bool, true, false, ◌||◌, refl, inl, inr, sym, ◌∙◌, ap, subst, arith}
+use Rattle.std.proofs.Common.{◌≡◌, ◌⊎◌, ℕ, zero, suc, ◌≤◌, List, [], ◌∷◌, ◌++◌, Bool, true, false, ◌||◌, refl, inl, inr, sym, ◌∙◌, ap}
+use Rattle.std.proofs.Common.{subst, arith}
 use Rattle.std.specs.List.{list_any}
 use Rattle.arj_base.specs.declared.uid.Uid.{Uid}
 use Rattle.arj_base.specs.Rows.{Row, is_held_by, pass_rows}
@@ -23,9 +24,11 @@ search_row p (r ∷ rows) = by (p r) refl (search_row p rows)
     by : (b : Bool) → p r ≡ b → (list_any p rows ≡ false) ⊎ Among p rows → (list_any p (r ∷ rows) ≡ false) ⊎ Among p (r ∷ rows)
     by true e found = inr (record { front = []; row = r; rest = rows; split = refl; passes = e })
     by false e (inl none) = inl (λ i. e i || none i)
-    by false e (inr a) = inr (record { front = r ∷ a.front; row = a.row; rest = a.rest; split = ap (λ rs. r ∷ rs) a.split; passes = a.passes })
+    by false e (inr a) =
+        inr (record { front = r ∷ a.front; row = a.row; rest = a.rest; split = ap (λ rs. r ∷ rs) a.split; passes = a.passes })
 
-all_pass : (steps : ℕ) (action : Uid) (rows : List Row) → count (is_held_by action) rows ≤ steps → IsOneEach rows → IsOneEach (pass_rows action rows)
+all_pass : (steps : ℕ) (action : Uid) (rows : List Row) → count (is_held_by action) rows ≤ steps → IsOneEach rows →
+    IsOneEach (pass_rows action rows)
 all_pass zero action rows few one = by (search_row (is_held_by action) rows)
   where
     by : (list_any (is_held_by action) rows ≡ false) ⊎ Among (is_held_by action) rows → IsOneEach (pass_rows action rows)
@@ -35,7 +38,8 @@ all_pass zero action rows few one = by (search_row (is_held_by action) rows)
         let never : ◌≡◌ {A = ℕ} 0 1 = omega (arith, few, e) in cc
 all_pass (suc steps) action rows few one = by (search_row (is_held_by action) rows) (λ new few one. all_pass steps action new few one)
   where
-    by : (list_any (is_held_by action) rows ≡ false) ⊎ Among (is_held_by action) rows → ((new : List Row) → count (is_held_by action) new ≤ steps → IsOneEach new → IsOneEach (pass_rows action new))
+    by : (list_any (is_held_by action) rows ≡ false) ⊎ Among (is_held_by action) rows →
+        ((new : List Row) → count (is_held_by action) new ≤ steps → IsOneEach new → IsOneEach (pass_rows action new))
         → IsOneEach (pass_rows action rows)
     by (inl none) more = subst IsOneEach (sym (nothing_passes action rows none)) one
     by (inr a) more =

@@ -21,7 +21,9 @@ AgreesWithAll path rows = (r : Row) → Contains rows r → Agree path r.holder
 
 -- two rows that may stand together
 abbrev pub GoTogether : Row → Row → Type 0
-GoTogether r s = r.object ≡ s.object → conflicting r.mode s.mode ≡ true → (is_on s.holder (last_uid r.holder) ≡ true) ⊎ (is_on r.holder (last_uid s.holder) ≡ true)
+GoTogether r s =
+    r.object ≡ s.object → conflicting r.mode s.mode ≡ true →
+    (is_on s.holder (last_uid r.holder) ≡ true) ⊎ (is_on r.holder (last_uid s.holder) ≡ true)
 
 -- A table that excludes: its paths agree, each with an action, and any two of its rows may stand together.
 pub record Excluding (rows : List Row) : Type 0 where
@@ -46,7 +48,9 @@ AreRelated on a b = (on a b ≡ true) ⊎ (on b a ≡ true)
 
 -- any two rows of one object that conflict have related holders
 abbrev pub AreApart : (Uid → Uid → Bool) → List Row → Type 0
-AreApart on rows = (r s : Row) → Contains rows r → Contains rows s → r.object ≡ s.object → conflicting r.mode s.mode ≡ true → AreRelated on (last_uid r.holder) (last_uid s.holder)
+AreApart on rows =
+    (r s : Row) → Contains rows r → Contains rows s → r.object ≡ s.object → conflicting r.mode s.mode ≡ true →
+    AreRelated on (last_uid r.holder) (last_uid s.holder)
 
 -- the action stands above itself, and so does whoever is on its path
 abbrev pub StandsBelow : (Uid → Uid → Bool) → List Uid → Type 0
@@ -59,5 +63,6 @@ pub record IsRightAbove (on : Uid → Uid → Bool) (action heir : Uid) : Type 0
 
 -- The action's rows may pass: each heir stands right above the action, and nobody below the action has a row.
 pub record MayPass (on : Uid → Uid → Bool) (action : Uid) (rows : List Row) : Type 0 where
-  pub heirs : (r : Row) → Contains rows r → last_uid r.holder ≡ action → (heir : Uid) → before_last r.holder ≡ Some heir → IsRightAbove on action heir
+  pub heirs : (r : Row) → Contains rows r → last_uid r.holder ≡ action → (heir : Uid) → before_last r.holder ≡ Some heir →
+      IsRightAbove on action heir
   pub lowest : (r : Row) → Contains rows r → on (last_uid r.holder) action ≡ true → last_uid r.holder ≡ action

@@ -39,9 +39,13 @@ passing_mode action object heir rows = option_map (λ row. row.mode) (passing ac
 -- A row after a pass: another holder's row in the stronger mode of its own and of what goes to it, or a row of the
 -- action in its heir's name, where the heir had none of the object.
 pub data CameBy (action : Uid) (rows : List Row) (new : Row) : Type 0 where
-  stayed : (old : Row) → Contains rows old → is_held_by action old ≡ false → new ≡ strengthened old (passing action old.object (last_uid old.holder) rows) → CameBy action rows new
-  passed_on : (old : Row) → Contains rows old → is_held_by action old ≡ true → (heir : Uid) → before_last old.holder ≡ Some heir → has_row old.object heir rows ≡ false → new ≡ renamed old → CameBy action rows new
+  stayed : (old : Row) → Contains rows old → is_held_by action old ≡ false →
+      new ≡ strengthened old (passing action old.object (last_uid old.holder) rows) → CameBy action rows new
+  passed_on : (old : Row) → Contains rows old → is_held_by action old ≡ true → (heir : Uid) → before_last old.holder ≡ Some heir →
+      has_row old.object heir rows ≡ false → new ≡ renamed old → CameBy action rows new
 
 -- where an heir has a row already, its path is the one in whose name the action's rows pass to it
 abbrev pub HeirsAgree : Uid → List Row → Type 0
-HeirsAgree action rows = (r s : Row) → Contains rows r → Contains rows s → is_held_by action r ≡ true → before_last r.holder ≡ Some (last_uid s.holder) → s.holder ≡ front r.holder
+HeirsAgree action rows =
+    (r s : Row) → Contains rows r → Contains rows s → is_held_by action r ≡ true → before_last r.holder ≡ Some (last_uid s.holder) →
+    s.holder ≡ front r.holder

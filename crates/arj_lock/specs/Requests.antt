@@ -24,7 +24,8 @@ is_rise (Some held) mode = nat_lt (mode_code held) (mode_code mode)
 
 -- each row of the object that conflicts with the mode is held by an action on the path
 abbrev pub IsClear : List Uid → Uid → Mode → List Row → Type 0
-IsClear path object mode rows = (r : Row) → Contains rows r → r.object ≡ object → conflicting r.mode mode ≡ true → is_on path (last_uid r.holder) ≡ true
+IsClear path object mode rows =
+    (r : Row) → Contains rows r → r.object ≡ object → conflicting r.mode mode ≡ true → is_on path (last_uid r.holder) ≡ true
 
 -- the action's row of the object is lowered to read
 abbrev pub lowered : Uid → Uid → Row → Row

@@ -1,5 +1,6 @@
 -- How many bytes can come before they are enough.
-use Rattle.std.proofs.Common.{◌≡◌, ℕ, ◌+◌, ◌*◌, ◌≤◌, List, [], ◌∷◌, ◌++◌, length, length-append, true, false, ◌||◌, sym, ◌∙◌, ap, subst, arith}
+use Rattle.std.proofs.Common.{◌≡◌, ℕ, ◌+◌, ◌*◌, ◌≤◌, List, [], ◌∷◌, ◌++◌, length, length-append, true, false, ◌||◌, sym, ◌∙◌, ap, subst}
+use Rattle.std.proofs.Common.{arith}
 use Rattle.std.specs.Prelude.{◌==◌, nat_lt}
 use Rattle.std.specs.List.{list_any}
 use Rattle.std.proofs.lemmas.Bool.{or_parts, or_from, cases_Bool, cond-true, cond-false, ltb-false, le-ltb}
@@ -24,16 +25,21 @@ short_from bytes h =
 
 -- and what makes them so
 pub short_of : (bytes : List ℕ) → IsShort bytes → is_enough bytes ≡ false
-short_of bytes is = or_from _ _ (le-ltb 100000 (length (ended_lines bytes)) is.few) (or_from _ _ is.short (le-ltb 200 (length (rest_line bytes)) is.rest))
+short_of bytes is =
+    or_from _ _ (le-ltb 100000 (length (ended_lines bytes)) is.few) (or_from _ _ is.short (le-ltb 200 (length (rest_line bytes)) is.rest))
 
 -- Bytes that aren't enough are few.
 abbrev Bound : List ℕ → List ℕ → Type 0
-Bound front bytes = list_any is_too_long (ended_from front bytes) ≡ false → length (rest_from front bytes) ≤ 200 → length front + length bytes ≤ 201 * length (ended_from front bytes) + 200
+Bound front bytes =
+    list_any is_too_long (ended_from front bytes) ≡ false → length (rest_from front bytes) ≤ 200 →
+    length front + length bytes ≤ 201 * length (ended_from front bytes) + 200
 
 bound_feed : (front : List ℕ) (b : ℕ) (bytes : List ℕ) → (b == 10) ≡ true → Bound [] bytes → Bound front (b ∷ bytes)
 bound_feed front b bytes feed later short rest =
-    let cut : ended_from front (b ∷ bytes) ≡ front ∷ ended_from [] bytes = cond-true (b == 10) (front ∷ ended_from [] bytes) (ended_from (front ++ b ∷ []) bytes) feed in
-    let left : rest_from front (b ∷ bytes) ≡ rest_from [] bytes = cond-true (b == 10) (rest_from [] bytes) (rest_from (front ++ b ∷ []) bytes) feed in
+    let cut : ended_from front (b ∷ bytes) ≡ front ∷ ended_from [] bytes =
+    cond-true (b == 10) (front ∷ ended_from [] bytes) (ended_from (front ++ b ∷ []) bytes) feed in
+    let left : rest_from front (b ∷ bytes) ≡ rest_from [] bytes =
+    cond-true (b == 10) (rest_from [] bytes) (rest_from (front ++ b ∷ []) bytes) feed in
     let parts = or_parts (is_too_long front) (list_any is_too_long (ended_from [] bytes)) (ap (λ ls. list_any is_too_long ls) (sym cut) ∙ short) in
     let on : 0 + length bytes ≤ 201 * length (ended_from [] bytes) + 200 = later parts.1 (subst (λ ls. length ls ≤ 200) left rest) in
     let small : length front ≤ 200 = ltb-false 200 (length front) parts.0 in
@@ -41,8 +47,10 @@ bound_feed front b bytes feed later short rest =
 
 bound_byte : (front : List ℕ) (b : ℕ) (bytes : List ℕ) → (b == 10) ≡ false → Bound (front ++ b ∷ []) bytes → Bound front (b ∷ bytes)
 bound_byte front b bytes other later short rest =
-    let on : ended_from front (b ∷ bytes) ≡ ended_from (front ++ b ∷ []) bytes = cond-false (b == 10) (front ∷ ended_from [] bytes) (ended_from (front ++ b ∷ []) bytes) other in
-    let left : rest_from front (b ∷ bytes) ≡ rest_from (front ++ b ∷ []) bytes = cond-false (b == 10) (rest_from [] bytes) (rest_from (front ++ b ∷ []) bytes) other in
+    let on : ended_from front (b ∷ bytes) ≡ ended_from (front ++ b ∷ []) bytes =
+    cond-false (b == 10) (front ∷ ended_from [] bytes) (ended_from (front ++ b ∷ []) bytes) other in
+    let left : rest_from front (b ∷ bytes) ≡ rest_from (front ++ b ∷ []) bytes =
+    cond-false (b == 10) (rest_from [] bytes) (rest_from (front ++ b ∷ []) bytes) other in
     let known = later (ap (λ ls. list_any is_too_long ls) (sym on) ∙ short) (subst (λ ls. length ls ≤ 200) left rest) in
     omega (arith, known, ap length on, length-append front (b ∷ []))
 

@@ -1,5 +1,6 @@
 -- One line more of a run.
-use Rattle.std.proofs.Common.{◌≡◌, inl, inr, ℕ, ◌+◌, ◌<◌, ◌⊎◌, List, [], ◌∷◌, ◌++◌, length, length-append, Bool, true, false, Option, Some, None, Result, Ok, Err, OnOk, IsOk, refl, sym, ◌∙◌, ap, subst, arith}
+use Rattle.std.proofs.Common.{◌≡◌, inl, inr, ℕ, ◌+◌, ◌<◌, ◌⊎◌, List, [], ◌∷◌, ◌++◌, length, length-append, Bool, true, false, Option, Some}
+use Rattle.std.proofs.Common.{None, Result, Ok, Err, OnOk, IsOk, refl, sym, ◌∙◌, ap, subst, arith}
 use Rattle.std.proofs.Math.Logic.{⊎_elim}
 use Rattle.std.proofs.lemmas.List.{append-nil}
 use Rattle.arj_journal.specs.ScriptForm.{EventInForm}
@@ -15,7 +16,8 @@ use Rattle.arj_script.proofs.Lines.{events_of-append}
 use Rattle.arj_loop.specs.declared.machine.Machine.{Ghosts}
 use Rattle.arj_loop.specs.Forms.{HaveForms}
 use Rattle.arj_loop.specs.Input.{header_from}
-use Rattle.arj_loop.specs.Running.{MachineRuns, Stage, Started, Stepped, Refused, IsStanding, AsksTooMany, AskedOf, ChangedBy, ChangedSince, HasRun, hand, header_at, held_by, overflown}
+use Rattle.arj_loop.specs.Running.{MachineRuns, Stage, Started, Stepped, Refused, IsStanding, AsksTooMany, AskedOf, ChangedBy, ChangedSince}
+use Rattle.arj_loop.specs.Running.{HasRun, hand, header_at, held_by, overflown}
 use Rattle.arj_loop.proofs.Steps.{events_within, have_forms_more, header_stays, header_then}
 
 -- the reader's answer
@@ -37,13 +39,22 @@ quiet_blank Running = record { events = refl; header = refl; running = λ e. e; 
 not_objects : (n : ℕ) (os : List ObjectLine) → Objects n os ≡ Running → ⊥
 not_objects n os e = cc
 
-quiet_of : (place : Place) (line : List ℕ) (form : Form) → HasForm place line form → Tells place form item.Blank ⊎ Tells place form item.Part → IsQuiet place form
+quiet_of : (place : Place) (line : List ℕ) (form : Form) → HasForm place line form →
+    Tells place form item.Blank ⊎ Tells place form item.Part → IsQuiet place form
 quiet_of place line Blank h told = quiet_blank place
-quiet_of Start line (Nodes n) h told = record { events = refl; header = refl; running = λ e. absurd (let never : Start ≡ Running = e in cc); waiting = λ no e. not_objects n [] e }
+quiet_of Start line (Nodes n) h told =
+    record {
+      events = refl;
+      header = refl;
+      running = λ e. absurd (let never : Start ≡ Running = e in cc);
+      waiting =
+          λ no e. not_objects n [] e;
+    }
 quiet_of (Objects n os) line (Nodes m) h told = absurd h.fits
 quiet_of Running line (Nodes m) h told = absurd h.fits
 quiet_of Start line (Object o) h told = absurd h.fits
-quiet_of (Objects n os) line (Object o) h told = record { events = refl; header = refl; running = λ e. absurd (not_objects n os e); waiting = λ no e. not_objects n _ e }
+quiet_of (Objects n os) line (Object o) h told =
+    record { events = refl; header = refl; running = λ e. absurd (not_objects n os e); waiting = λ no e. not_objects n _ e }
 quiet_of Running line (Object o) h told = absurd h.fits
 quiet_of Start line Run h told = absurd h.fits
 quiet_of (Objects n os) line Run h told = absurd (⊎_elim (λ t. t) (λ t. t) told)
@@ -53,12 +64,14 @@ quiet_of (Objects n os) line (Asks e) h told = absurd h.fits
 quiet_of Running line (Asks e) h told = absurd (⊎_elim (λ t. t) (λ t. t) told)
 
 machine_quiet : {D M : Type 0} (view : Ghosts M D) (first rack : List D) (lines : List (List ℕ)) (forms : List Form) (place : Place) (form : Form) (header : Header) (journal : List Line) (machine : Option M)
-    → HaveForms Start lines forms place → IsQuiet place form → MachineRuns view first rack forms place header journal machine → MachineRuns view first rack (forms ++ form ∷ []) (next_place place form) header journal machine
+    → HaveForms Start lines forms place → IsQuiet place form → MachineRuns view first rack forms place header journal machine →
+    MachineRuns view first rack (forms ++ form ∷ []) (next_place place form) header journal machine
 machine_quiet view first rack lines forms place form header journal None read q h =
     let events : events_of (forms ++ form ∷ []) ≡ [] = events_of-append forms (form ∷ []) ∙ (λ i. h.3 i ++ q.events i) in
     (q.waiting h.0, h.1, header_then Start forms (form ∷ []) lines place read h.2 ∙ q.header, events, h.4, h.5)
 machine_quiet view first rack lines forms place form header journal (Some machine) read q h =
-    let events : events_of (forms ++ form ∷ []) ≡ events_of forms = events_of-append forms (form ∷ []) ∙ ((λ j. events_of forms ++ q.events j) ∙ append-nil (events_of forms)) in
+    let events : events_of (forms ++ form ∷ []) ≡ events_of forms =
+    events_of-append forms (form ∷ []) ∙ ((λ j. events_of forms ++ q.events j) ∙ append-nil (events_of forms)) in
     (q.running h.0, header_stays Start forms (form ∷ []) (header.nodes, header.objects) h.1, subst (λ es. view.ran first header es rack journal machine) (sym events) h.2, h.3 ∙ ap length (sym events))
 
 count_more : (forms : List Form) (form : Form) (count : ℕ) → count ≡ length forms → count + 1 ≡ length (forms ++ form ∷ [])
@@ -67,7 +80,8 @@ count_more forms form count is = omega (arith, is, length-append forms (form ∷
 -- a line that is no event and no end of the header
 pub stage_quiet : {D M : Type 0} (view : Ghosts M D) (first rack : List D) (lines : List (List ℕ)) (line : List ℕ) (place after : Place) (machine : Option M) (count : ℕ) (journal : List Line)
     → (form : Form) × HasForm place line form × (Tells place form item.Blank ⊎ Tells place form item.Part) × (after ≡ next_place place form) → count < 100000
-    → Stage view first rack lines place (hand machine count journal) → Stage view first rack (lines ++ line ∷ []) after (hand machine (count + 1) journal)
+    → Stage view first rack lines place (hand machine count journal) →
+    Stage view first rack (lines ++ line ∷ []) after (hand machine (count + 1) journal)
 stage_quiet view first rack lines line place after machine count journal taken room s =
     let form = taken.0 in
     let q = quiet_of place line form taken.1 taken.2 in
@@ -90,7 +104,8 @@ record IsRun (place : Place) (form : Form) (header : Header) : Type 0 where
   nodes_are : header.nodes ≡ nodes
   objects_are : header.objects ≡ objects
 
-run_of : (place : Place) (line : List ℕ) (form : Form) (header : Header) → HasForm place line form → Tells place form (item.Run header) → IsRun place form header
+run_of : (place : Place) (line : List ℕ) (form : Form) (header : Header) → HasForm place line form → Tells place form (item.Run header) →
+    IsRun place form header
 run_of Start line Blank header h told = absurd told
 run_of (Objects n os) line Blank header h told = absurd told
 run_of Running line Blank header h told = absurd told
@@ -101,7 +116,8 @@ run_of Start line (Object o) header h told = absurd told
 run_of (Objects n os) line (Object o) header h told = absurd told
 run_of Running line (Object o) header h told = absurd told
 run_of Start line Run header h told = absurd h.fits
-run_of (Objects n os) line Run header h told = record { nodes = n; objects = os; place_is = refl; form_is = refl; nodes_are = told.0; objects_are = told.1 }
+run_of (Objects n os) line Run header h told =
+    record { nodes = n; objects = os; place_is = refl; form_is = refl; nodes_are = told.0; objects_are = told.1 }
 run_of Running line Run header h told = absurd h.fits
 run_of Start line (Asks e) header h told = absurd h.fits
 run_of (Objects n os) line (Asks e) header h told = absurd h.fits
@@ -124,9 +140,12 @@ bare_at view first rack lines line place after header (Some machine) count journ
     absurd (not_objects run.nodes run.objects (sym run.place_is ∙ s.machine_is.0))
 
 stage_run_at : {D M : Type 0} (view : Ghosts M D) (first rack after_rack : List D) (lines : List (List ℕ)) (line : List ℕ) (n : ℕ) (os : List ObjectLine) (header : Header) (machine after_machine : Option M) (count : ℕ) (journal : List Line)
-    → header.nodes ≡ n → header.objects ≡ os → HasForm (Objects n os) line Run → count < 100000 → Started view rack after_rack header after_machine
-    → Stage view first rack lines (Objects n os) (hand machine count journal) → Stage view first after_rack (lines ++ line ∷ []) Running (hand after_machine (count + 1) journal)
-stage_run_at view first rack after_rack lines line n os header (Some machine) after_machine count journal nodes objects has room st s = absurd (not_objects n os s.machine_is.0)
+    → header.nodes ≡ n → header.objects ≡ os → HasForm (Objects n os) line Run → count < 100000 →
+    Started view rack after_rack header after_machine
+    → Stage view first rack lines (Objects n os) (hand machine count journal) →
+    Stage view first after_rack (lines ++ line ∷ []) Running (hand after_machine (count + 1) journal)
+stage_run_at view first rack after_rack lines line n os header (Some machine) after_machine count journal nodes objects has room st s =
+    absurd (not_objects n os s.machine_is.0)
 stage_run_at {D} {M} view first rack after_rack lines line n os header None after_machine count journal nodes objects has room st s =
     let h = s.machine_is in
     let events : events_of (s.forms ++ Run ∷ []) ≡ [] = events_of-append s.forms (Run ∷ []) ∙ (λ i. h.3 i ++ []) in
@@ -153,10 +172,12 @@ stage_run_at {D} {M} view first rack after_rack lines line n os header None afte
 -- the line `run`, with which the machine starts
 pub stage_run : {D M : Type 0} (view : Ghosts M D) (first rack after_rack : List D) (lines : List (List ℕ)) (line : List ℕ) (place after : Place) (header : Header) (machine after_machine : Option M) (count : ℕ) (journal : List Line)
     → Taken place line (item.Run header) after → count < 100000 → Started view rack after_rack header after_machine
-    → Stage view first rack lines place (hand machine count journal) → Stage view first after_rack (lines ++ line ∷ []) after (hand after_machine (count + 1) journal)
+    → Stage view first rack lines place (hand machine count journal) →
+    Stage view first after_rack (lines ++ line ∷ []) after (hand after_machine (count + 1) journal)
 stage_run view first rack after_rack lines line place after header machine after_machine count journal taken room st s =
     let run = run_of place line taken.0 header taken.1 taken.2 in
-    let has : HasForm (Objects run.nodes run.objects) line Run = subst (λ p. HasForm p line Run) run.place_is (subst (λ f. HasForm place line f) run.form_is taken.1) in
+    let has : HasForm (Objects run.nodes run.objects) line Run =
+    subst (λ p. HasForm p line Run) run.place_is (subst (λ f. HasForm place line f) run.form_is taken.1) in
     let ends : Running ≡ after = sym (taken.3 ∙ (λ i. next_place (run.place_is i) (run.form_is i))) in
     subst (λ p. Stage view first after_rack (lines ++ line ∷ []) p (hand after_machine (count + 1) journal)) ends
     (stage_run_at view first rack after_rack lines line run.nodes run.objects header machine after_machine count journal run.nodes_are run.objects_are has room st
@@ -167,7 +188,8 @@ record IsEvent (place : Place) (form : Form) (told : Event) : Type 0 where
   place_is : place ≡ Running
   form_is : form ≡ Asks told
 
-event_of : (place : Place) (line : List ℕ) (form : Form) (told : Event) → HasForm place line form → Tells place form (item.Event told) → IsEvent place form told
+event_of : (place : Place) (line : List ℕ) (form : Form) (told : Event) → HasForm place line form → Tells place form (item.Event told) →
+    IsEvent place form told
 event_of Start line Blank e h told = absurd told
 event_of (Objects n os) line Blank e h told = absurd told
 event_of Running line Blank e h told = absurd told
@@ -191,13 +213,17 @@ some_is a b h = cc
 pub event_in_form : (place : Place) (line : List ℕ) (after : Place) (e : Event) → Taken place line (item.Event e) after → EventInForm e
 event_in_form place line after e taken =
     let is = event_of place line taken.0 e taken.1 taken.2 in
-    let has : HasForm Running line (Asks e) = subst (λ p. HasForm p line (Asks e)) is.place_is (subst (λ f. HasForm place line f) is.form_is taken.1) in
+    let has : HasForm Running line (Asks e) =
+    subst (λ p. HasForm p line (Asks e)) is.place_is (subst (λ f. HasForm place line f) is.form_is taken.1) in
     has.fits
 
 stage_event_at : {D M : Type 0} (view : Ghosts M D) (first rack after_rack : List D) (lines : List (List ℕ)) (line : List ℕ) (e : Event) (machine after_machine : Option M) (count : ℕ) (journal after_journal : List Line)
-    → HasForm Running line (Asks e) → count < 100000 → Stepped view (held_by rack machine journal) (held_by after_rack after_machine after_journal) e
-    → Stage view first rack lines Running (hand machine count journal) → Stage view first after_rack (lines ++ line ∷ []) Running (hand after_machine (count + 1) after_journal)
-stage_event_at view first rack after_rack lines line e None after_machine count journal after_journal has room st s = absurd (s.machine_is.0 refl)
+    → HasForm Running line (Asks e) → count < 100000 →
+    Stepped view (held_by rack machine journal) (held_by after_rack after_machine after_journal) e
+    → Stage view first rack lines Running (hand machine count journal) →
+    Stage view first after_rack (lines ++ line ∷ []) Running (hand after_machine (count + 1) after_journal)
+stage_event_at view first rack after_rack lines line e None after_machine count journal after_journal has room st s =
+    absurd (s.machine_is.0 refl)
 stage_event_at {D} {M} view first rack after_rack lines line e (Some machine) after_machine count journal after_journal has room st s =
     let h = s.machine_is in
     let same : machine ≡ st.before = some_is machine st.before st.machine_was in
@@ -223,11 +249,14 @@ stage_event_at {D} {M} view first rack after_rack lines line e (Some machine) af
 
 -- an event that the machine ran
 pub stage_event : {D M : Type 0} (view : Ghosts M D) (first rack after_rack : List D) (lines : List (List ℕ)) (line : List ℕ) (place after : Place) (e : Event) (machine after_machine : Option M) (count : ℕ) (journal after_journal : List Line)
-    → Taken place line (item.Event e) after → count < 100000 → Stepped view (held_by rack machine journal) (held_by after_rack after_machine after_journal) e
-    → Stage view first rack lines place (hand machine count journal) → Stage view first after_rack (lines ++ line ∷ []) after (hand after_machine (count + 1) after_journal)
+    → Taken place line (item.Event e) after → count < 100000 →
+    Stepped view (held_by rack machine journal) (held_by after_rack after_machine after_journal) e
+    → Stage view first rack lines place (hand machine count journal) →
+    Stage view first after_rack (lines ++ line ∷ []) after (hand after_machine (count + 1) after_journal)
 stage_event view first rack after_rack lines line place after e machine after_machine count journal after_journal taken room st s =
     let is = event_of place line taken.0 e taken.1 taken.2 in
-    let has : HasForm Running line (Asks e) = subst (λ p. HasForm p line (Asks e)) is.place_is (subst (λ f. HasForm place line f) is.form_is taken.1) in
+    let has : HasForm Running line (Asks e) =
+    subst (λ p. HasForm p line (Asks e)) is.place_is (subst (λ f. HasForm place line f) is.form_is taken.1) in
     let ends : Running ≡ after = sym (taken.3 ∙ (λ i. next_place (is.place_is i) (is.form_is i))) in
     subst (λ p. Stage view first after_rack (lines ++ line ∷ []) p (hand after_machine (count + 1) after_journal)) ends
     (stage_event_at view first rack after_rack lines line e machine after_machine count journal after_journal has room st
@@ -235,25 +264,31 @@ stage_event view first rack after_rack lines line place after e machine after_ma
 
 -- behind `run` the machine is there, with room for an event more
 pub standing : {D M : Type 0} (view : Ghosts M D) (first rack : List D) (lines : List (List ℕ)) (line : List ℕ) (place after : Place) (e : Event) (machine : Option M) (count : ℕ) (journal : List Line)
-    → Taken place line (item.Event e) after → Stage view first rack lines place (hand machine count journal) → overflown view machine ≡ false → IsStanding view rack journal machine
-standing view first rack lines line place after e None count journal taken s going = absurd (s.machine_is.0 (event_of place line taken.0 e taken.1 taken.2).place_is)
+    → Taken place line (item.Event e) after → Stage view first rack lines place (hand machine count journal) →
+    overflown view machine ≡ false → IsStanding view rack journal machine
+standing view first rack lines line place after e None count journal taken s going =
+    absurd (s.machine_is.0 (event_of place line taken.0 e taken.1 taken.2).place_is)
 standing view first rack lines line place after e (Some machine) count journal taken s going =
     (omega (arith, s.machine_is.3, events_within s.forms, s.counted, s.within), going, (first, s.header, events_of s.forms, s.machine_is.2))
 
 -- an event that the machine refused for want of labels
 pub stage_labels : {D M : Type 0} (view : Ghosts M D) (first rack after_rack : List D) (lines : List (List ℕ)) (line : List ℕ) (place after : Place) (e : Event) (machine after_machine : Option M) (count : ℕ) (journal after_journal : List Line)
-    → Taken place line (item.Event e) after → after_journal ≡ journal → Refused view (held_by rack machine journal) (held_by after_rack after_machine after_journal) e
+    → Taken place line (item.Event e) after → after_journal ≡ journal →
+    Refused view (held_by rack machine journal) (held_by after_rack after_machine after_journal) e
     → Stage view first rack lines place (hand machine count journal)
     → (now : Stage view first after_rack lines after (hand after_machine count after_journal)) × AsksTooMany view now.header after_rack after_machine after line
-stage_labels view first rack after_rack lines line place after e None after_machine count journal after_journal taken still st s = absurd (let never : None ≡ Some st.before = st.machine_was in cc)
+stage_labels view first rack after_rack lines line place after e None after_machine count journal after_journal taken still st s =
+    absurd (let never : None ≡ Some st.before = st.machine_was in cc)
 stage_labels {D} {M} view first rack after_rack lines line place after e (Some machine) after_machine count journal after_journal taken still st s =
     let is = event_of place line taken.0 e taken.1 taken.2 in
-    let has : HasForm Running line (Asks e) = subst (λ p. HasForm p line (Asks e)) is.place_is (subst (λ f. HasForm place line f) is.form_is taken.1) in
+    let has : HasForm Running line (Asks e) =
+    subst (λ p. HasForm p line (Asks e)) is.place_is (subst (λ f. HasForm place line f) is.form_is taken.1) in
     let ends : Running ≡ after = sym (taken.3 ∙ (λ i. next_place (is.place_is i) (is.form_is i))) in
     let h = s.machine_is in
     let same : machine ≡ st.before = some_is machine st.before st.machine_was in
     let full = st.full first s.header (events_of s.forms) (subst (λ en. view.ran first s.header (events_of s.forms) rack journal en) same h.2) in
-    let stands : MachineRuns view first after_rack s.forms Running s.header after_journal (Some st.after) = (refl, h.1, full.0, st.steps ∙ (ap view.steps (sym same) ∙ h.3)) in
+    let stands : MachineRuns view first after_rack s.forms Running s.header after_journal (Some st.after) =
+    (refl, h.1, full.0, st.steps ∙ (ap view.steps (sym same) ∙ h.3)) in
     let at_after : MachineRuns view first after_rack s.forms after s.header after_journal after_machine =
     subst (λ en. MachineRuns view first after_rack s.forms after s.header after_journal en) (sym st.machine_is)
     (subst (λ p. MachineRuns view first after_rack s.forms p s.header after_journal (Some st.after)) ends stands)
@@ -296,21 +331,25 @@ limited_moved view first rack lines p q machine m n journal line place count h =
 -- ---- what a line did to the disks
 
 -- they have stayed
-pub unchanged : {D M : Type 0} (view : Ghosts M D) (header : Header) (place : Place) (lines : List (List ℕ)) (rack : List D) → ChangedSince view header place lines rack rack
+pub unchanged : {D M : Type 0} (view : Ghosts M D) (header : Header) (place : Place) (lines : List (List ℕ)) (rack : List D) →
+    ChangedSince view header place lines rack rack
 unchanged view header place [] rack = refl
 unchanged view header place (line ∷ lines) rack = inl refl
 
 -- they were formatted
 pub format_since : {D M : Type 0} (view : Ghosts M D) (header : Header) (place : Place) (line : List ℕ) (rest tail : List (List ℕ)) (before after : List D) → rest ≡ line ∷ tail → HasForm place line Run → view.moved (header_at place) [] before after
     → ChangedSince view header place rest before after
-format_since view header place line rest tail before after is form moved = subst (λ lines. ChangedSince view header place lines before after) (sym is) (inr (Run, form, moved))
+format_since view header place line rest tail before after is form moved =
+    subst (λ lines. ChangedSince view header place lines before after) (sym is) (inr (Run, form, moved))
 
 -- `run` ends the header of its place
-header_is : (place : Place) (header : Header) (n : ℕ) (os : List ObjectLine) → place ≡ Objects n os → header.nodes ≡ n → header.objects ≡ os → header ≡ header_at place
+header_is : (place : Place) (header : Header) (n : ℕ) (os : List ObjectLine) → place ≡ Objects n os → header.nodes ≡ n →
+    header.objects ≡ os → header ≡ header_at place
 header_is place header n os is nodes objects = (λ i. record { nodes = nodes i; objects = objects i }) ∙ ap header_at (sym is)
 
 pub formatted_by : {D M : Type 0} (view : Ghosts M D) (before after : List D) (place : Place) (line : List ℕ) (next : Place) (header : Header)
-    → Taken place line (item.Run header) next → view.moved header [] before after → HasForm place line Run × view.moved (header_at place) [] before after
+    → Taken place line (item.Run header) next → view.moved header [] before after →
+    HasForm place line Run × view.moved (header_at place) [] before after
 formatted_by view before after place line next header taken moved =
     let run = run_of place line taken.0 header taken.1 taken.2 in (
       subst (λ f. HasForm place line f) run.form_is taken.1,
@@ -320,14 +359,17 @@ formatted_by view before after place line next header taken moved =
 -- `run` formats the disks
 pub changed_run : {D M : Type 0} (view : Ghosts M D) (given : Header) (before after : List D) (place : Place) (line : List ℕ) (next : Place) (header : Header)
     → Taken place line (item.Run header) next → view.moved header [] before after → ChangedBy view given place line before after
-changed_run view given before after place line next header taken moved = let f = formatted_by view before after place line next header taken moved in inr (Run, f.0, f.1)
+changed_run view given before after place line next header taken moved =
+    let f = formatted_by view before after place line next header taken moved in inr (Run, f.0, f.1)
 
 -- an event is run under the header of the lines before it
 pub changed_event : {D M : Type 0} (view : Ghosts M D) (first rack after : List D) (lines : List (List ℕ)) (line : List ℕ) (place next : Place) (e : Event) (machine : Option M) (count : ℕ) (journal : List Line)
     → Taken place line (item.Event e) next → (stage : Stage view first rack lines place (hand machine count journal))
-    → ((first : List D) (header : Header) (events : List Event) → HasRun view first header events (held_by rack machine journal) → view.moved header (e ∷ []) rack after)
+    → ((first : List D) (header : Header) (events : List Event) → HasRun view first header events (held_by rack machine journal) →
+    view.moved header (e ∷ []) rack after)
     → ChangedBy view stage.header place line rack after
-changed_event view first rack after lines line place next e None count journal taken s moved = absurd (s.machine_is.0 (event_of place line taken.0 e taken.1 taken.2).place_is)
+changed_event view first rack after lines line place next e None count journal taken s moved =
+    absurd (s.machine_is.0 (event_of place line taken.0 e taken.1 taken.2).place_is)
 changed_event view first rack after lines line place next e (Some machine) count journal taken s moved =
     let is = event_of place line taken.0 e taken.1 taken.2 in
     inr (Asks e, subst (λ f. HasForm place line f) is.form_is taken.1, moved first s.header (events_of s.forms) s.machine_is.2)

@@ -12,7 +12,8 @@ use Rattle.arj_loop.specs.Replayed.{EndsSo}
 use Rattle.arj_journal.specs.declared.header.Header.{Header}
 use Rattle.arj_script.specs.Grammar.{Place}
 use Rattle.arj_script.specs.Input.{Stopped}
-use Rattle.arj_loop.specs.Running.{Hand, HasEnded, Halfway, IsUnfinished, Reached, Gathers, Why, Work, hand, hand_of, last_body, last_lines, lines_before, status_of, events_run}
+use Rattle.arj_loop.specs.Running.{Hand, HasEnded, Halfway, IsUnfinished, Reached, Gathers, Why, Work, hand, hand_of, last_body, last_lines}
+use Rattle.arj_loop.specs.Running.{lines_before, status_of, events_run}
 use Rattle.arj_loop.proofs.Stages.{format_since, unchanged}
 use Rattle.arj_loop.proofs.Whole.{gathers_more}
 
@@ -61,18 +62,55 @@ pub end_kinds : (end : End) → (end ≡ ending.Format) ⊎ ((end ≡ ending.Mem
 end_kinds ending.Format = inl refl
 end_kinds ending.Memory = inr (inl refl)
 end_kinds ending.Write = inr (inr (inl refl))
-end_kinds ending.Whole = inr (inr (inr (record { write = λ n. (let never : ending.Whole ≡ ending.Write = n in cc); memory = λ n. (let never : ending.Whole ≡ ending.Memory = n in cc); format = λ n. (let never : ending.Whole ≡ ending.Format = n in cc) })))
-end_kinds (ending.Bad w) = inr (inr (inr (record { write = λ n. (let never : (ending.Bad w) ≡ ending.Write = n in cc); memory = λ n. (let never : (ending.Bad w) ≡ ending.Memory = n in cc); format = λ n. (let never : (ending.Bad w) ≡ ending.Format = n in cc) })))
-end_kinds ending.Fault = inr (inr (inr (record { write = λ n. (let never : ending.Fault ≡ ending.Write = n in cc); memory = λ n. (let never : ending.Fault ≡ ending.Memory = n in cc); format = λ n. (let never : ending.Fault ≡ ending.Format = n in cc) })))
-end_kinds ending.Lines = inr (inr (inr (record { write = λ n. (let never : ending.Lines ≡ ending.Write = n in cc); memory = λ n. (let never : ending.Lines ≡ ending.Memory = n in cc); format = λ n. (let never : ending.Lines ≡ ending.Format = n in cc) })))
-end_kinds ending.Labels = inr (inr (inr (record { write = λ n. (let never : ending.Labels ≡ ending.Write = n in cc); memory = λ n. (let never : ending.Labels ≡ ending.Memory = n in cc); format = λ n. (let never : ending.Labels ≡ ending.Format = n in cc) })))
-end_kinds ending.Frames = inr (inr (inr (record { write = λ n. (let never : ending.Frames ≡ ending.Write = n in cc); memory = λ n. (let never : ending.Frames ≡ ending.Memory = n in cc); format = λ n. (let never : ending.Frames ≡ ending.Format = n in cc) })))
+end_kinds ending.Whole =
+    inr (inr (inr (record {
+      write = λ n. (let never : ending.Whole ≡ ending.Write = n in cc);
+      memory =
+          λ n. (let never : ending.Whole ≡ ending.Memory = n in cc);
+      format = λ n. (let never : ending.Whole ≡ ending.Format = n in cc);
+    })))
+end_kinds (ending.Bad w) =
+    inr (inr (inr (record {
+      write = λ n. (let never : (ending.Bad w) ≡ ending.Write = n in cc);
+      memory =
+          λ n. (let never : (ending.Bad w) ≡ ending.Memory = n in cc);
+      format = λ n. (let never : (ending.Bad w) ≡ ending.Format = n in cc);
+    })))
+end_kinds ending.Fault =
+    inr (inr (inr (record {
+      write = λ n. (let never : ending.Fault ≡ ending.Write = n in cc);
+      memory =
+          λ n. (let never : ending.Fault ≡ ending.Memory = n in cc);
+      format = λ n. (let never : ending.Fault ≡ ending.Format = n in cc);
+    })))
+end_kinds ending.Lines =
+    inr (inr (inr (record {
+      write = λ n. (let never : ending.Lines ≡ ending.Write = n in cc);
+      memory =
+          λ n. (let never : ending.Lines ≡ ending.Memory = n in cc);
+      format = λ n. (let never : ending.Lines ≡ ending.Format = n in cc);
+    })))
+end_kinds ending.Labels =
+    inr (inr (inr (record {
+      write = λ n. (let never : ending.Labels ≡ ending.Write = n in cc);
+      memory =
+          λ n. (let never : ending.Labels ≡ ending.Memory = n in cc);
+      format = λ n. (let never : ending.Labels ≡ ending.Format = n in cc);
+    })))
+end_kinds ending.Frames =
+    inr (inr (inr (record {
+      write = λ n. (let never : ending.Frames ≡ ending.Write = n in cc);
+      memory =
+          λ n. (let never : ending.Frames ≡ ending.Memory = n in cc);
+      format = λ n. (let never : ending.Frames ≡ ending.Format = n in cc);
+    })))
 
 -- the line outside events
 abbrev LastOf : {D M : Type 0} → Ghosts M D → End → Hand M → List Line
 LastOf view end at = last_lines (last_body end at.count) (events_run view at.machine)
 
-format_last : {D M : Type 0} (view : Ghosts M D) (end : End) (at other : Hand M) → end ≡ ending.Format → LastOf view end at ≡ LastOf view end other
+format_last : {D M : Type 0} (view : Ghosts M D) (end : End) (at other : Hand M) → end ≡ ending.Format →
+    LastOf view end at ≡ LastOf view end other
 format_last view ending.Format at other is = refl
 format_last view ending.Whole at other is = refl
 format_last view (ending.Bad w) at other is = absurd (let never : (ending.Bad w) ≡ ending.Format = is in cc)
@@ -96,7 +134,8 @@ format_before ending.Frames count is = absurd (let never : ending.Frames ≡ end
 
 -- a run whose last line was put
 closed_by : {D M : Type 0} (view : Ghosts M D) (given : Arrived) (first : List D) (before : Option (List ℕ)) (now : Work D M) (end : End) (journal : List Line) → HasEnded view first before given now end → end ≢ ending.Write → end ≢ ending.Memory
-    → journal ≡ now.journal ++ LastOf view end (hand_of now) → (ends : EndsSo view given first now.rack end journal) × (now.session.runner.machine ≡ (let at = ends.at in at.machine))
+    → journal ≡ now.journal ++ LastOf view end (hand_of now) →
+    (ends : EndsSo view given first now.rack end journal) × (now.session.runner.machine ≡ (let at = ends.at in at.machine))
 closed_by {D} {M} view given first before now end journal h write memory is =
     ⊎_elim
     (λ stopped.
@@ -119,17 +158,30 @@ closed_by {D} {M} view given first before now end journal h write memory is =
     (λ more. ⊎_elim
     (λ failed. absurd (write failed))
     (λ other.
-    let r = h.reached other.write other.memory other.format in
-    (record { at = hand_of now; mid = now.rack; reached = r.0; racks = inr (other.format, refl); journal_is = is; went_on = r.1; past = r.2 }, refl))
+    let r = h.reached other.write other.memory other.format in (
+      record {
+        at = hand_of now;
+        mid = now.rack;
+        reached = r.0;
+        racks = inr (other.format, refl);
+        journal_is = is;
+        went_on = r.1;
+        past =
+            r.2;
+      },
+      refl,
+    ))
     more)
     rest)
     (end_kinds end)
 
 pub closes : {D M : Type 0} (view : Ghosts M D) (given : Arrived) (first : List D) (before : Option (List ℕ)) (now : Work D M) (end : End) (journal : List Line) (after : List ℕ) (status : ℕ)
     → HasEnded view first before given now end → end ≢ ending.Write
-    → (status ≢ 5 → (status ≡ status_of end) × (journal ≡ now.journal ++ LastOf view end (hand_of now)) × (after ≡ now.session.gather.waiting.items ++ text (LastOf view end (hand_of now))))
+    → (status ≢ 5 →
+    (status ≡ status_of end) × (journal ≡ now.journal ++ LastOf view end (hand_of now)) × (after ≡ now.session.gather.waiting.items ++ text (LastOf view end (hand_of now))))
     → status ≢ 5
-    → ((ends : EndsSo view given first now.rack end journal) × (now.session.runner.machine ≡ (let at = ends.at in at.machine))) × Gathers journal after before now.taken
+    → ((ends : EndsSo view given first now.rack end journal) × (now.session.runner.machine ≡ (let at =
+    ends.at in at.machine))) × Gathers journal after before now.taken
 closes view given first before now end journal after status h write put five =
     let p = put five in
     let memory : end ≢ ending.Memory = λ m. five (p.0 ∙ ap status_of m) in (
@@ -165,14 +217,18 @@ unfinished view ending.Fault stopped rest place rack at header cut why none runn
 unfinished view ending.Frames stopped rest place rack at header cut why none running = absurd (cut.2 refl)
 unfinished view (ending.Bad w) stopped rest place rack at header cut why none running =
     ⊎_elim (λ line. let never : line.0 ∷ line.1 ≡ [] = sym line.2 ∙ none in cc never) (λ missing. missing.2 running) why
-unfinished view ending.Lines stopped rest place rack at header cut why none running = let never : why.0 ∷ why.1 ≡ [] = sym why.2 ∙ none in cc never
-unfinished view ending.Labels stopped rest place rack at header cut why none running = let never : why.0 ∷ why.1 ≡ [] = sym why.2 ∙ none in cc never
-unfinished view ending.Format stopped rest place rack at header cut why none running = let never : why.0 ∷ why.1 ≡ [] = sym why.2 ∙ none in cc never
+unfinished view ending.Lines stopped rest place rack at header cut why none running =
+    let never : why.0 ∷ why.1 ≡ [] = sym why.2 ∙ none in cc never
+unfinished view ending.Labels stopped rest place rack at header cut why none running =
+    let never : why.0 ∷ why.1 ≡ [] = sym why.2 ∙ none in cc never
+unfinished view ending.Format stopped rest place rack at header cut why none running =
+    let never : why.0 ∷ why.1 ≡ [] = sym why.2 ∙ none in cc never
 unfinished view ending.Write stopped rest place rack at header cut why none running = why
 unfinished view ending.Memory stopped rest place rack at header cut why none running = why
 
 pub wants : {D M : Type 0} (view : Ghosts M D) (given : Arrived) (first : List D) (before : Option (List ℕ)) (now : Work D M) (end : End) (after : List ℕ)
-    → HasEnded view first before given now end → end ≢ ending.Write → (end ≢ ending.Whole) × (end ≢ ending.Fault) × (end ≢ ending.Frames) → after ≡ now.session.gather.waiting.items → Wanted view given first now.rack after before now.taken
+    → HasEnded view first before given now end → end ≢ ending.Write → (end ≢ ending.Whole) × (end ≢ ending.Fault) × (end ≢ ending.Frames) →
+    after ≡ now.session.gather.waiting.items → Wanted view given first now.rack after before now.taken
 wants {D} {M} view given first before now end after h write cut same =
     ⊎_elim
     (λ stopped.
@@ -181,7 +237,16 @@ wants {D} {M} view given first before now end after h write cut same =
     let why = r.why in
     record {
       at = hand None f.0 now.journal;
-      half = record { place = r.place; done = r.done; rest = r.rest; whole = r.whole; mid = first; stage = r.stage; since = format_since view (let s = r.stage in s.header) r.place why.0 r.rest why.1 first now.rack why.2 why.3 f.5 };
+      half = record {
+        place = r.place;
+        done = r.done;
+        rest = r.rest;
+        whole = r.whole;
+        mid = first;
+        stage = r.stage;
+        since =
+            format_since view (let s = r.stage in s.header) r.place why.0 r.rest why.1 first now.rack why.2 why.3 f.5;
+      };
       more = λ none. absurd (let never : why.0 ∷ why.1 ≡ [] = sym why.2 ∙ none in cc never);
       went_on = f.2;
       gathers = subst (λ w. Gathers now.journal w before now.taken) (sym same) (h.gathers write (λ m. (let never : ending.Format ≡ ending.Memory = sym stopped ∙ m in cc)));
@@ -189,7 +254,14 @@ wants {D} {M} view given first before now end after h write cut same =
     (λ rest. ⊎_elim
     (λ wanting.
     let m = h.memory wanting in
-    record { at = m.0; half = m.1; more = m.4; went_on = m.3; gathers = subst (λ w. Gathers (let at = m.0 in at.journal) w before now.taken) (sym same) m.2 })
+    record {
+      at = m.0;
+      half = m.1;
+      more = m.4;
+      went_on = m.3;
+      gathers =
+          subst (λ w. Gathers (let at = m.0 in at.journal) w before now.taken) (sym same) m.2;
+    })
     (λ more. ⊎_elim
     (λ failed. absurd (write failed))
     (λ other.
@@ -197,7 +269,16 @@ wants {D} {M} view given first before now end after h write cut same =
     let r = found.0 in
     record {
       at = hand_of now;
-      half = record { place = r.place; done = r.done; rest = r.rest; whole = r.whole; mid = now.rack; stage = r.stage; since = unchanged view (let s = r.stage in s.header) r.place r.rest now.rack };
+      half = record {
+        place = r.place;
+        done = r.done;
+        rest = r.rest;
+        whole = r.whole;
+        mid = now.rack;
+        stage = r.stage;
+        since =
+            unchanged view (let s = r.stage in s.header) r.place r.rest now.rack;
+      };
       more = unfinished view end given.stopped r.rest r.place now.rack (hand_of now) (let s = r.stage in s.header) cut r.why;
       went_on = fewer given end now.session.runner.lines found.1;
       gathers = subst (λ w. Gathers now.journal w before now.taken) (sym same) (h.gathers other.write other.memory);

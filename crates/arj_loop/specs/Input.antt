@@ -53,7 +53,8 @@ IsUpToLine bytes count =
 -- where the run ended at the line behind so many others, at most 511 bytes past that line came
 abbrev pub ReadsFewPast : Arrived → ℕ → Type 0
 ReadsFewPast given count =
-    given.stopped ≡ AtRunEnd → (used : List ℕ) × (past : List ℕ) × (given.came ≡ used ++ past) × (length past < READ_BYTES) × IsUpToLine used count
+    given.stopped ≡ AtRunEnd →
+    (used : List ℕ) × (past : List ℕ) × (given.came ≡ used ++ past) × (length past < READ_BYTES) × IsUpToLine used count
 
 -- the header that the line `run` ends
 abbrev pub header_from : Place → List Form → Option (ℕ × List ObjectLine)

@@ -10,7 +10,8 @@ use Rattle.arj_loop.specs.declared.ending.End.TheVariants as ending
 use Rattle.arj_loop.specs.declared.machine.Machine.{Ghosts}
 use Rattle.arj_script.specs.Grammar.{Place}
 use Rattle.arj_loop.specs.Input.{Arrived, Came, WentOn, ReadsFewPast, script_of, source_view}
-use Rattle.arj_loop.specs.Running.{Hand, Halfway, IsUnfinished, Reached, events_run, header_at, last_body, last_lines, lines_before, status_of, why_of}
+use Rattle.arj_loop.specs.Running.{Hand, Halfway, IsUnfinished, Reached, events_run, header_at, last_body, last_lines, lines_before}
+use Rattle.arj_loop.specs.Running.{status_of, why_of}
 
 -- What a run finds and leaves outside of it. The bytes that are left in the source, where it tells them, and its count of
 -- failed reads; the bytes that the sink has taken, where it tells them; and the disks.
@@ -37,11 +38,13 @@ answer status why journal machine = record { status = status; why = why; journal
 
 -- the sink took a front of the journal's text, and at 5 all of it
 abbrev pub TookFront : ℕ → List Line → Option (List ℕ) → Option (List ℕ) → Type 0
-TookFront status journal before after = (count : ℕ) × Takes before (take count (text journal)) after × (status ≡ 5 → count ≡ length (text journal))
+TookFront status journal before after =
+    (count : ℕ) × Takes before (take count (text journal)) after × (status ≡ 5 → count ≡ length (text journal))
 
 -- the disks that the run left are those of its last event, or a disk was stopped while it was formatted
 abbrev pub LeavesRack : {D M : Type 0} → Ghosts M D → End → Place → List D → List D → List D → Type 0
-LeavesRack m end place first mid after = ((end ≡ ending.Format) × m.stopped first after × m.moved (header_at place) [] mid after) ⊎ ((end ≢ ending.Format) × (after ≡ mid))
+LeavesRack m end place first mid after =
+    ((end ≡ ending.Format) × m.stopped first after × m.moved (header_at place) [] mid after) ⊎ ((end ≢ ending.Format) × (after ≡ mid))
 
 -- the journal, with the line outside events that the end writes
 abbrev pub whole_journal : {D M : Type 0} → Ghosts M D → End → Hand M → List Line
@@ -71,14 +74,17 @@ pub record Closes {D M : Type 0} (m : Ghosts M D) (before after : Outside D) (an
 
 -- the journal is that of the lines that were run
 abbrev pub ComesSoFar : {D M : Type 0} → Ghosts M D → Arrived → List D → List D → List Line → Type 0
-ComesSoFar {D} {M} m given first after journal = (at : Hand M) × Halfway m first after (script_of given) at × (journal ≡ at.journal) × WentOn given at.count
+ComesSoFar {D} {M} m given first after journal =
+    (at : Hand M) × Halfway m first after (script_of given) at × (journal ≡ at.journal) × WentOn given at.count
 
 -- how far a run to the status 4 or 5 came: so far, or, at 4, to its end
 abbrev pub CameTo : {D M : Type 0} → Ghosts M D → Arrived → List D → List D → ℕ → List Line → Type 0
-CameTo m given first after status journal = ComesSoFar m given first after journal ⊎ ((status ≡ 4) × ((end : End) × EndsSo m given first after end journal))
+CameTo m given first after status journal =
+    ComesSoFar m given first after journal ⊎ ((status ≡ 4) × ((end : End) × EndsSo m given first after end journal))
 
 -- it didn't come to its end: a line is left, or `run` wasn't read
-abbrev pub IsCutShort : {D M : Type 0} (m : Ghosts M D) (given : Arrived) (first after : List D) (status : ℕ) (journal : List Line) → CameTo m given first after status journal → Type 0
+abbrev pub IsCutShort : {D M : Type 0} (m : Ghosts M D) (given : Arrived) (first after : List D) (status : ℕ) (journal : List Line) →
+    CameTo m given first after status journal → Type 0
 IsCutShort m given first after status journal (inl (at, half, is, went)) = IsUnfinished half.place half.rest
 IsCutShort m given first after status journal (inr ended) = ⊥
 

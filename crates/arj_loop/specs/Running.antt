@@ -1,5 +1,6 @@
 -- What holds while a script is run, line by line, and where the run ends.
-use Rattle.std.specs.Prelude.{◌≡◌, ◌≢◌, ◌⊎◌, ◌≤◌, ◌<◌, ℕ, ◌+◌, ◌-◌, List, [], ◌∷◌, ◌++◌, length, take, Bool, true, false, MatchOption, Option, Some, None}
+use Rattle.std.specs.Prelude.{◌≡◌, ◌≢◌, ◌⊎◌, ◌≤◌, ◌<◌, ℕ, ◌+◌, ◌-◌, List, [], ◌∷◌, ◌++◌, length, take, Bool, true, false, MatchOption}
+use Rattle.std.specs.Prelude.{Option, Some, None}
 use Rattle.arj_io.specs.Told.{Takes}
 use Rattle.arj_journal.specs.declared.body.Body.{Body}
 use Rattle.arj_journal.specs.declared.body.Body.TheVariants as body
@@ -37,7 +38,8 @@ AskedOf m header place _ before after = after ≡ before
 
 -- the disks are as before, or as the line's form asked
 abbrev pub ChangedBy : {D M : Type 0} → Ghosts M D → Header → Place → List ℕ → List D → List D → Type 0
-ChangedBy m header place line before after = (after ≡ before) ⊎ ((form : Form) × HasForm place line form × AskedOf m header place form before after)
+ChangedBy m header place line before after =
+    (after ≡ before) ⊎ ((form : Form) × HasForm place line form × AskedOf m header place form before after)
 
 -- the same of the first of these lines, if there is one
 abbrev pub ChangedSince : {D M : Type 0} → Ghosts M D → Header → Place → List (List ℕ) → List D → List D → Type 0
@@ -102,7 +104,8 @@ pub record Stepped {D M : Type 0} (m : Ghosts M D) (from to : Held D M) (e : Eve
   pub after : M
   pub machine_was : from.machine ≡ Some before
   pub machine_is : to.machine ≡ Some after
-  pub ran : (first : List D) (header : Header) (events : List Event) → m.ran first header events from.rack from.journal before → m.ran first header (events ++ e ∷ []) to.rack to.journal after
+  pub ran : (first : List D) (header : Header) (events : List Event) → m.ran first header events from.rack from.journal before →
+      m.ran first header (events ++ e ∷ []) to.rack to.journal after
   pub steps : m.steps after ≡ m.steps before + 1
   pub lines : List Line
   pub grown : to.journal ≡ from.journal ++ lines
@@ -121,7 +124,8 @@ pub record Refused {D M : Type 0} (m : Ghosts M D) (from to : Held D M) (e : Eve
 -- the machine is there, and can run an event more
 abbrev pub IsStanding : {D M : Type 0} → Ghosts M D → List D → List Line → Option M → Type 0
 IsStanding m rack journal None = ⊥
-IsStanding {D} m rack journal (Some machine) = (m.steps machine < MOST_EVENTS) × (m.over machine ≡ false) × ((first : List D) × (header : Header) × (events : List Event) × m.ran first header events rack journal machine)
+IsStanding {D} m rack journal (Some machine) =
+    (m.steps machine < MOST_EVENTS) × (m.over machine ≡ false) × ((first : List D) × (header : Header) × (events : List Event) × m.ran first header events rack journal machine)
 
 -- The line asks for an event that would give one label too many.
 abbrev pub AsksTooMany : {D M : Type 0} → Ghosts M D → Header → List D → Option M → Place → List ℕ → Type 0
@@ -156,7 +160,8 @@ Why m ending.Fault stopped rest place rack at header = (stopped ≡ AtFault) × 
 Why m (ending.Bad w) stopped rest place rack at header =
     ((line : List ℕ) × (tail : List (List ℕ)) × (rest ≡ line ∷ tail) × (at.count < SCRIPT_LINES ⊎ (LINE_BYTES < length line)) × IsBadLine place line × IsBadBy w place line)
     ⊎ ((rest ≡ []) × (stopped ≡ AtEnd) × (place ≡ Running → ⊥) × (w ≡ why.Missing))
-Why m ending.Lines stopped rest place rack at header = (line : List ℕ) × (tail : List (List ℕ)) × (rest ≡ line ∷ tail) × (at.count ≡ SCRIPT_LINES) × (length line ≤ LINE_BYTES)
+Why m ending.Lines stopped rest place rack at header =
+    (line : List ℕ) × (tail : List (List ℕ)) × (rest ≡ line ∷ tail) × (at.count ≡ SCRIPT_LINES) × (length line ≤ LINE_BYTES)
 Why m ending.Labels stopped rest place rack at header =
     (line : List ℕ) × (tail : List (List ℕ)) × (rest ≡ line ∷ tail) × (at.count < SCRIPT_LINES) × AsksTooMany m header rack at.machine place line
 Why m ending.Frames stopped rest place rack at header = IsOverflown m at.machine at.journal
@@ -276,11 +281,14 @@ pub record HasEnded {D M : Type 0} (m : Ghosts M D) (first : List D) (before : O
       → Reached m first now.rack (script_of given) (hand_of now) end × WentOn given (lines_before end now.session.runner.lines) × ReadsFewPast given (lines_before end now.session.runner.lines)
   -- a disk was stopped while it was formatted: before that no disk had changed, and no machine was made
   pub none : end ≡ ending.Format → now.session.runner.machine ≡ None
-  pub format : end ≡ ending.Format → (count : ℕ) × (r : Reached m first first (script_of given) (hand None count now.journal) ending.Format) × WentOn given count × ReadsFewPast given count
+  pub format : end ≡ ending.Format →
+      (count : ℕ) × (r : Reached m first first (script_of given) (hand None count now.journal) ending.Format) × WentOn given count × ReadsFewPast given count
       × m.stopped first now.rack × m.moved (header_at r.place) [] first now.rack
   pub gathers : end ≢ ending.Write → end ≢ ending.Memory → Gathers now.journal now.session.gather.waiting.items before now.taken
   -- memory was wanting: the lines before the one in hand were run, and the text of theirs gathers
-  pub memory : end ≡ ending.Memory → (at : Hand M) × (h : Halfway m first now.rack (script_of given) at) × Gathers at.journal now.session.gather.waiting.items before now.taken × WentOn given at.count
+  pub memory : end ≡ ending.Memory →
+      (at : Hand M) × (h : Halfway m first now.rack (script_of given) at) × Gathers at.journal now.session.gather.waiting.items before now.taken × WentOn given at.count
       × IsUnfinished h.place h.rest
   -- a write failed
-  pub write : end ≡ ending.Write → (at : Hand M) × Halfway m first now.rack (script_of given) at × Fronts at.journal before now.taken × WentOn given at.count
+  pub write : end ≡ ending.Write →
+      (at : Hand M) × Halfway m first now.rack (script_of given) at × Fronts at.journal before now.taken × WentOn given at.count

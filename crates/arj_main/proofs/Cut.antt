@@ -51,7 +51,8 @@ pub any_alone : (p : ℕ → List ℕ → Bool) (n k : ℕ) (w : List ℕ) → h
 any_alone p n k w h = ap (λ ps. list_any (p n) ps) (piece_alone k w h)
 
 -- the piece in front, of a text that is cut
-pub front_at_cut : (k m : ℕ) (bytes w rest : List ℕ) → m ≡ 0 → has_byte k w ≡ false → bytes ≡ w ++ k ∷ rest → slice_get (pieces k bytes) m ≡ Some w
+pub front_at_cut : (k m : ℕ) (bytes w rest : List ℕ) → m ≡ 0 → has_byte k w ≡ false → bytes ≡ w ++ k ∷ rest →
+    slice_get (pieces k bytes) m ≡ Some w
 front_at_cut k m bytes w rest none h is =
     ap (λ ps. slice_get ps m) (pieces_at_cut k bytes w rest h is) ∙ ap (λ j. slice_get (w ∷ pieces k rest) j) none
 

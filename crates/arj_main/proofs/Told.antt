@@ -1,5 +1,6 @@
 -- What the reader tells, and the place that it is at.
-use Rattle.std.proofs.Common.{◌≡◌, ◌+◌, ◌-◌, ◌<◌, ℕ, List, [], ◌∷◌, ◌++◌, Option, IfSome, Some, None, zero, suc, false, refl, sym, subst, arith}
+use Rattle.std.proofs.Common.{◌≡◌, ◌+◌, ◌-◌, ◌<◌, ℕ, List, [], ◌∷◌, ◌++◌, Option, IfSome, Some, None, zero, suc, false, refl, sym, subst}
+use Rattle.std.proofs.Common.{arith}
 use Rattle.arj_journal.specs.declared.event.Event.{Event}
 use Rattle.arj_journal.specs.declared.header.Header.{Header}
 use Rattle.arj_main.specs.declared.place.Place as here
@@ -54,7 +55,8 @@ told_part Running bytes Run none has told = absurd told
 told_part Running bytes (Asks e) none has told = absurd told
 
 -- one line on
-pub leads_on : (from to : Place) (n i : ℕ) (rest line behind : List ℕ) (form : Form) → i < n → has_byte 10 line ≡ false → rest ≡ line ++ 10 ∷ behind → HasForm from line form
+pub leads_on : (from to : Place) (n i : ℕ) (rest line behind : List ℕ) (form : Form) → i < n → has_byte 10 line ≡ false →
+    rest ≡ line ++ 10 ∷ behind → HasForm from line form
     → Leads (next_place from form) (n - (i + 1)) (pieces 10 behind) to → Leads from (n - i) (pieces 10 rest) to
 leads_on from to n i rest line behind form within h is has on =
     let more : suc (n - (i + 1)) ≡ n - i = omega (arith, within) in
@@ -62,7 +64,8 @@ leads_on from to n i rest line behind form within h is has on =
     (subst (λ ps. Leads from (suc (n - (i + 1))) ps to) (sym (pieces_at_cut 10 rest line behind h is)) (form, has, on))
 
 -- the last line
-pub leads_last : (from to : Place) (n i : ℕ) (rest : List ℕ) (form : Form) → i < n → has_byte 10 rest ≡ false → HasForm from rest form → to ≡ next_place from form
+pub leads_last : (from to : Place) (n i : ℕ) (rest : List ℕ) (form : Form) → i < n → has_byte 10 rest ≡ false → HasForm from rest form →
+    to ≡ next_place from form
     → Leads from (n - i) (pieces 10 rest) to
 leads_last from to n i rest form within h has is =
     let more : suc (n - (i + 1)) ≡ n - i = omega (arith, within) in

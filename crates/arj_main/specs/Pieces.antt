@@ -4,7 +4,8 @@ use Rattle.std.specs.Prelude.{ℕ, List, [], ◌∷◌, ◌++◌, ◌==◌, if�
 -- the pieces of these bytes; `front` is what has come of the piece in hand
 abbrev pub pieces_from : ℕ → List ℕ → List ℕ → List (List ℕ)
 pieces_from separator front [] = front ∷ []
-pieces_from separator front (b ∷ bs) = if b == separator then front ∷ pieces_from separator [] bs else pieces_from separator (front ++ b ∷ []) bs
+pieces_from separator front (b ∷ bs) =
+    if b == separator then front ∷ pieces_from separator [] bs else pieces_from separator (front ++ b ∷ []) bs
 
 -- the pieces of a text: one more than it has separators
 abbrev pub pieces : ℕ → List ℕ → List (List ℕ)

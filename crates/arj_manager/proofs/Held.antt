@@ -1,5 +1,6 @@
 -- The tops of some objects, and of the others.
-use Rattle.std.proofs.Common.{◌≡◌, ◌⊎◌, inl, inr, ℕ, ◌+◌, ◌<◌, List, [], ◌∷◌, ◌++◌, length, drop, get_or, map, Bool, true, false, cond, ◌||◌, refl, ap, sym, ◌∙◌, subst, Contains, arith}
+use Rattle.std.proofs.Common.{◌≡◌, ◌⊎◌, inl, inr, ℕ, ◌+◌, ◌<◌, List, [], ◌∷◌, ◌++◌, length, drop, get_or, map, Bool, true, false, cond}
+use Rattle.std.proofs.Common.{◌||◌, refl, ap, sym, ◌∙◌, subst, Contains, arith}
 use Rattle.std.specs.BTreeMap.{is_at}
 use Rattle.std.specs.BTreeSet.{BTreeSet, contains}
 use Rattle.std.specs.Cmp.{eq_by_cmp_equiv}
@@ -16,7 +17,8 @@ use Rattle.arj_protocol.specs.Copy.{Copy}
 use Rattle.arj_manager.specs.Manager.{Copies, tops_in}
 
 -- those of one object more
-with_rows : (all so_far held rest : List Uid) (rows : List Row) → AreTops rows held → (u : Uid) → (Contains so_far u ⊎ Contains (map top_of rows ++ rest) u) ↔ Contains all u
+with_rows : (all so_far held rest : List Uid) (rows : List Row) → AreTops rows held → (u : Uid) →
+    (Contains so_far u ⊎ Contains (map top_of rows ++ rest) u) ↔ Contains all u
     → (Contains (so_far ++ held) u ⊎ Contains rest u) ↔ Contains all u
 with_rows all so_far held rest rows are u same = (to, λ has. from (same.1 has))
   where
@@ -36,13 +38,15 @@ with_rows all so_far held rest rows are u same = (to, λ has. from (same.1 has))
         both (inl new) = inl (Contains-append_right so_far held u ((are.each u).1 new))
         both (inr other) = inr other
 
-pub one_more : (all so_far new held : List Uid) (e : ℕ × Copy) (before after : Copies) → before ≡ e ∷ after → new ≡ so_far ++ held → AreTops e.1.rows held → (u : Uid)
+pub one_more : (all so_far new held : List Uid) (e : ℕ × Copy) (before after : Copies) → before ≡ e ∷ after → new ≡ so_far ++ held →
+    AreTops e.1.rows held → (u : Uid)
     → (Contains so_far u ⊎ Contains (tops_in before) u) ↔ Contains all u → (Contains new u ⊎ Contains (tops_in after) u) ↔ Contains all u
 one_more all so_far new held e before after first is are u same =
     subst (λ us. (Contains us u ⊎ Contains (tops_in after) u) ↔ Contains all u) (sym is)
     (with_rows all so_far held (tops_in after) e.1.rows are u (subst (λ m. (Contains so_far u ⊎ Contains (tops_in m) u) ↔ Contains all u) first same))
 
-pub none_left : (all so_far : List Uid) (before : Copies) → before ≡ [] → (u : Uid) → (Contains so_far u ⊎ Contains (tops_in before) u) ↔ Contains all u → Contains so_far u ↔ Contains all u
+pub none_left : (all so_far : List Uid) (before : Copies) → before ≡ [] → (u : Uid) →
+    (Contains so_far u ⊎ Contains (tops_in before) u) ↔ Contains all u → Contains so_far u ↔ Contains all u
 none_left all so_far before none u same = (λ has. same.0 (inl has), λ has. only (same.1 has))
   where
     only : Contains so_far u ⊎ Contains (tops_in before) u → Contains so_far u
@@ -57,7 +61,8 @@ listed_as us ws list same are = record {
 }
 
 -- a set with one Uid more, and those that are left
-pub set_more : (set new : BTreeSet Uid) (x : Uid) (uids : List Uid) (i : ℕ) → i < length uids → x ≡ get_or uids i x → ((u : Uid) → contains set_order new u ≡ cond (is_at (set_order x) u) true (contains set_order set u)) → (u : Uid)
+pub set_more : (set new : BTreeSet Uid) (x : Uid) (uids : List Uid) (i : ℕ) → i < length uids → x ≡ get_or uids i x →
+    ((u : Uid) → contains set_order new u ≡ cond (is_at (set_order x) u) true (contains set_order set u)) → (u : Uid)
     → (contains set_order set u || is_member (eq_by_cmp set_order) (drop i uids) u) ≡ is_member (eq_by_cmp set_order) uids u
     → (contains set_order new u || is_member (eq_by_cmp set_order) (drop (i + 1) uids) u) ≡ is_member (eq_by_cmp set_order) uids u
 set_more set new x uids i within read came u same =

@@ -28,10 +28,12 @@ or_some (Some v) p = refl
 
 -- ---- one record more
 
-image_more : (x : Uid) (r : Record Value) (rs : List (Record Value)) → IsArranged rs → records.image x (added r rs) ≡ option_or (records.image x rs) (records.image x (r ∷ []))
+image_more : (x : Uid) (r : Record Value) (rs : List (Record Value)) → IsArranged rs →
+    records.image x (added r rs) ≡ option_or (records.image x rs) (records.image x (r ∷ []))
 image_more x r rs p = ap (records.image x) (added_merged rs r p) ∙ image-merged rs (r ∷ []) x p (tt, tt)
 
-changed_more : (x : Uid) (r : Record Value) (rs : List (Record Value)) → IsArranged rs → is_changed x (added r rs) ≡ (is_changed x rs || is_changed x (r ∷ []))
+changed_more : (x : Uid) (r : Record Value) (rs : List (Record Value)) → IsArranged rs →
+    is_changed x (added r rs) ≡ (is_changed x rs || is_changed x (r ∷ []))
 changed_more x r rs p = ap (is_changed x) (added_merged rs r p) ∙ changed-merged rs (r ∷ []) x p (tt, tt)
 
 or_none : (o : Option Value) → option_or o None ≡ o
@@ -59,7 +61,8 @@ module _ (x : Uid) (v : Value) (rs : List (Record Value)) (p : IsArranged rs) wh
       ∙ sym (older_is (records.image x rs) v))))
 
   changed_written : is_changed x written ≡ true
-  changed_written = changed_more x (Persistence x) (added (Recovery x v) rs) (arranged_added (Recovery x v) rs p) ∙ or_right (is_changed x (added (Recovery x v) rs)) (is_changed x (Persistence x ∷ [])) marked
+  changed_written =
+      changed_more x (Persistence x) (added (Recovery x v) rs) (arranged_added (Recovery x v) rs p) ∙ or_right (is_changed x (added (Recovery x v) rs)) (is_changed x (Persistence x ∷ [])) marked
     where
       marked : is_changed {V = Value} x (Persistence x ∷ []) ≡ true
       marked = rw (uid_same x) refl
@@ -76,16 +79,24 @@ latest_is (Some v) now = refl
 one_list : (x : Uid) (s : Step) (l : Lists) → AreLists x l → images_in x (list_step x s l) ≡ image_step s (images_in x l)
 one_list x (Write holder tops v) l are = λ i. record { now = v; before = λ b. by b (uid_eq (last_uid holder) b) i }
   where
-    by : (b : Uid) (t : Bool) → records.image x (cond t (written x l.now (l.kept (last_uid holder)) (are.arranged (last_uid holder))) (l.kept b)) ≡ cond t (Some (older (records.image x (l.kept (last_uid holder))) l.now)) (records.image x (l.kept b))
+    by : (b : Uid) (t : Bool) →
+        records.image x (cond t (written x l.now (l.kept (last_uid holder)) (are.arranged (last_uid holder))) (l.kept b)) ≡ cond t (Some (older (records.image x (l.kept (last_uid holder))) l.now)) (records.image x (l.kept b))
     by b true = image_written x l.now (l.kept (last_uid holder)) (are.arranged (last_uid holder))
     by b false = refl
 one_list x (Nested u h) l are = λ i. record { now = l.now; before = λ b. by b (uid_eq h b) (uid_eq u b) i }
   where
-    by : (b : Uid) (s t : Bool) → records.image x (cond s (merged (l.kept h) (l.kept u)) (cond t [] (l.kept b))) ≡ cond s (option_or (records.image x (l.kept h)) (records.image x (l.kept u))) (cond t None (records.image x (l.kept b)))
+    by : (b : Uid) (s t : Bool) →
+        records.image x (cond s (merged (l.kept h) (l.kept u)) (cond t [] (l.kept b))) ≡ cond s (option_or (records.image x (l.kept h)) (records.image x (l.kept u))) (cond t None (records.image x (l.kept b)))
     by b true t = image-merged (l.kept h) (l.kept u) x (are.arranged h) (are.arranged u)
     by b false true = refl
     by b false false = refl
-one_list x (Abort u) l are = λ i. record { now = (ap (λ vs. latest vs l.now) (restored_once u x (l.kept u) (are.arranged u)) ∙ latest_is (records.image x (l.kept u)) l.now) i; before = λ b. by b (uid_eq u b) i }
+one_list x (Abort u) l are =
+    λ i. record {
+      now =
+          (ap (λ vs. latest vs l.now) (restored_once u x (l.kept u) (are.arranged u)) ∙ latest_is (records.image x (l.kept u)) l.now) i;
+      before =
+          λ b. by b (uid_eq u b) i;
+    }
   where
     by : (b : Uid) (t : Bool) → records.image x (cond t [] (l.kept b)) ≡ cond t None (records.image x (l.kept b))
     by b true = refl
@@ -97,7 +108,8 @@ one_list x (Top u) l are = λ i. record { now = l.now; before = λ b. by b (uid_
     by b false = refl
 
 -- what holds of each list holds of each that a call leaves
-gone : (P : List (Record Value) → Type 0) (u : Uid) (l : Lists) → P [] → ((b : Uid) → P (l.kept b)) → (b : Uid) → P (cond (uid_eq u b) [] (l.kept b))
+gone : (P : List (Record Value) → Type 0) (u : Uid) (l : Lists) → P [] → ((b : Uid) → P (l.kept b)) → (b : Uid) →
+    P (cond (uid_eq u b) [] (l.kept b))
 gone P u l none all b = by (uid_eq u b)
   where
     by : (t : Bool) → P (cond t [] (l.kept b))
@@ -153,13 +165,17 @@ lists_run : (x : Uid) (ss : List Step) (l : Lists) → AreLists x l → images_i
 lists_run x [] l are = refl
 lists_run x (s ∷ ss) l are = lists_run x ss (list_step x s l) (next_lists x s l are) ∙ ap (image_run ss) (one_list x s l are)
 
-pub lists_agree : (x : Uid) (ss : List Step) (base : Base) (es : List Over) (l : Lists) → AllMay ss es → AreLists x l → images_in x l ≡ images base es → images_in x (list_run x ss l) ≡ images (base_run ss base es) (stack_run ss es)
+pub lists_agree : (x : Uid) (ss : List Step) (base : Base) (es : List Over) (l : Lists) → AllMay ss es → AreLists x l →
+    images_in x l ≡ images base es → images_in x (list_run x ss l) ≡ images (base_run ss base es) (stack_run ss es)
 lists_agree x ss base es l may are same = lists_run x ss l are ∙ (ap (image_run ss) same ∙ images_run ss base es may)
 
 -- ---- ends
 
-pub undo_is : (x u : Uid) (l : Lists) (i : Images) → AreLists x l → images_in x l ≡ i → restored x (undo_calls u (l.kept u)) ≡ option_to_list (i.before u)
+pub undo_is : (x u : Uid) (l : Lists) (i : Images) → AreLists x l → images_in x l ≡ i →
+    restored x (undo_calls u (l.kept u)) ≡ option_to_list (i.before u)
 undo_is x u l i are same = restored_once u x (l.kept u) (are.arranged u) ∙ ap (λ (i : Images). option_to_list (i.before u)) same
 
-pub keep_is : (x u : Uid) (l : Lists) (i : Images) → AreLists x l → images_in x l ≡ i → records.raised x (keep_calls u (l.kept u)) ≡ cond (is_some (i.before u)) (u ∷ []) []
-keep_is x u l i are same = raised_once u x (l.kept u) (are.arranged u) ∙ ((λ k. cond (are.changed u k) (u ∷ []) []) ∙ ap (λ (i : Images). cond (is_some (i.before u)) (u ∷ []) []) same)
+pub keep_is : (x u : Uid) (l : Lists) (i : Images) → AreLists x l → images_in x l ≡ i →
+    records.raised x (keep_calls u (l.kept u)) ≡ cond (is_some (i.before u)) (u ∷ []) []
+keep_is x u l i are same =
+    raised_once u x (l.kept u) (are.arranged u) ∙ ((λ k. cond (are.changed u k) (u ∷ []) []) ∙ ap (λ (i : Images). cond (is_some (i.before u)) (u ∷ []) []) same)

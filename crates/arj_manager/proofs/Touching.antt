@@ -1,5 +1,6 @@
 -- What an end or an operation leaves of the actions that use an object.
-use Rattle.std.proofs.Common.{◌≡◌, ◌⊎◌, inl, inr, ℕ, zero, suc, List, [], ◌∷◌, Bool, true, false, cond, not, ◌&&◌, ◌||◌, Option, Some, None, refl, sym, ◌∙◌, ap, filter, take, min, length}
+use Rattle.std.proofs.Common.{◌≡◌, ◌⊎◌, inl, inr, ℕ, zero, suc, List, [], ◌∷◌, Bool, true, false, cond, not, ◌&&◌, ◌||◌, Option, Some, None}
+use Rattle.std.proofs.Common.{refl, sym, ◌∙◌, ap, filter, take, min, length}
 use Rattle.std.specs.List.{list_any}
 use Rattle.std.specs.Option.{option_map}
 use Rattle.std.proofs.lemmas.Bool.{and_parts, or_cases, or_left, or_parts, or_right, both_ways}
@@ -16,7 +17,8 @@ use Rattle.arj_class.specs.Forms.{payload_of}
 use Rattle.arj_class.specs.Table.{class_of, op_mode, writes, value_after}
 use Rattle.arj_lock.proofs.Leaves.{grant_any}
 use Rattle.arj_lock.proofs.PassLeaves.{pass_fewer}
-use Rattle.arj_protocol.specs.Copy.{Copy, Over, changed_state, current, end_copy, folded, holds, is_granted, is_of, is_top_in, is_top_over, over_of, overs_committed, row_for, run_copy, settled, written}
+use Rattle.arj_protocol.specs.Copy.{Copy, Over, changed_state, current, end_copy, folded, holds, is_granted, is_of, is_top_in, is_top_over}
+use Rattle.arj_protocol.specs.Copy.{over_of, overs_committed, row_for, run_copy, settled, written}
 use Rattle.arj_protocol.specs.Laws.{UnknownToCopy}
 use Rattle.arj_protocol.specs.Order.{next_version}
 use Rattle.arj_protocol.proofs.RowSteps.{not_last}
@@ -43,7 +45,8 @@ any_kept : {X : Type 0} (q p : X → Bool) (xs : List X) → list_any q (filter 
 any_kept q p [] some = some
 any_kept {X} q p (x ∷ xs) some = by (p x) (any_kept q p xs) some
   where
-    by : (b : Bool) → (list_any q (filter p xs) ≡ true → list_any q xs ≡ true) → list_any q (cond b (x ∷ filter p xs) (filter p xs)) ≡ true → (q x || list_any q xs) ≡ true
+    by : (b : Bool) → (list_any q (filter p xs) ≡ true → list_any q xs ≡ true) →
+        list_any q (cond b (x ∷ filter p xs) (filter p xs)) ≡ true → (q x || list_any q xs) ≡ true
     by true ih some = first (q x) some
       where
         first : (b : Bool) → (b || list_any q (filter p xs)) ≡ true → (b || list_any q xs) ≡ true
@@ -56,15 +59,18 @@ on_front [] w on = on
 on_front (u ∷ []) w on = absurd (cc on)
 on_front (u ∷ v ∷ us) w on = by (uid_eq u w) (on_front (v ∷ us) w) on
   where
-    by : (b : Bool) → (is_on (front (v ∷ us)) w ≡ true → is_on (v ∷ us) w ≡ true) → (b || is_on (front (v ∷ us)) w) ≡ true → (b || is_on (v ∷ us) w) ≡ true
+    by : (b : Bool) → (is_on (front (v ∷ us)) w ≡ true → is_on (v ∷ us) w ≡ true) → (b || is_on (front (v ∷ us)) w) ≡ true →
+        (b || is_on (v ∷ us) w) ≡ true
     by true ih on = refl
     by false ih on = ih on
 
-written_on : (w : Uid) (h : List Uid) (t : ℕ) (v : Value) (es : List Over) → on_stack w (written h t v es) ≡ true → (is_on h w ≡ true) ⊎ (on_stack w es ≡ true)
+written_on : (w : Uid) (h : List Uid) (t : ℕ) (v : Value) (es : List Over) → on_stack w (written h t v es) ≡ true →
+    (is_on h w ≡ true) ⊎ (on_stack w es ≡ true)
 written_on w h t v [] on = or_cases (is_on h w) false on
 written_on w h t v (e ∷ es) on = by (is_of (last_uid h) e) on
   where
-    by : (b : Bool) → on_stack w (cond b (record e { value = v } ∷ es) (record { holder = h; tops = t; value = v } ∷ e ∷ es)) ≡ true → (is_on h w ≡ true) ⊎ (on_stack w (e ∷ es) ≡ true)
+    by : (b : Bool) → on_stack w (cond b (record e { value = v } ∷ es) (record { holder = h; tops = t; value = v } ∷ e ∷ es)) ≡ true →
+        (is_on h w ≡ true) ⊎ (on_stack w (e ∷ es) ≡ true)
     by true on = inr on
     by false on = or_cases (is_on h w) (on_stack w (e ∷ es)) on
 
@@ -76,7 +82,8 @@ folded_on w u (e ∷ es) on = by (is_of u e) on
     up (inl here) = or_left (is_on e.holder w) (on_stack w es) (on_front e.holder w here)
     up (inr there) = or_right (is_on e.holder w) (on_stack w es) there
 
-    by : (b : Bool) → on_stack w (cond b (written (front e.holder) (min e.tops (length (front e.holder))) e.value es) (e ∷ es)) ≡ true → on_stack w (e ∷ es) ≡ true
+    by : (b : Bool) → on_stack w (cond b (written (front e.holder) (min e.tops (length (front e.holder))) e.value es) (e ∷ es)) ≡ true →
+        on_stack w (e ∷ es) ≡ true
     by true on = up (written_on w (front e.holder) (min e.tops (length (front e.holder))) e.value es on)
     by false on = on
 
@@ -84,7 +91,8 @@ committed_on : (w u : Uid) (o : Option Over) (c : Copy) → on_stack w (overs_co
 committed_on w u None c on = on
 committed_on w u (Some e) c on = by (is_top_over e) on
   where
-    by : (b : Bool) → on_stack w (cond {A = Copy} b (settled u e c) (record c { stack = folded u c.stack })).stack ≡ true → on_stack w c.stack ≡ true
+    by : (b : Bool) → on_stack w (cond {A = Copy} b (settled u e c) (record c { stack = folded u c.stack })).stack ≡ true →
+        on_stack w c.stack ≡ true
     by true on = any_kept (λ (o : Over). is_on o.holder w) (λ (o : Over). not (is_of u o)) c.stack on
     by false on = folded_on w u c.stack on
 
@@ -105,7 +113,8 @@ ends_touch w u ending.Abort c on =
 
 -- ---- after an operation the actions of its path use it besides
 
-pub run_touches : (w : Uid) (n : ℕ) (p : Path) (x : ℕ) (op : Op) (c : Copy) → is_on (uids_of p) w ≡ false → touches w (run_copy n p x op c).part ≡ true → touches w c ≡ true
+pub run_touches : (w : Uid) (n : ℕ) (p : Path) (x : ℕ) (op : Op) (c : Copy) → is_on (uids_of p) w ≡ false →
+    touches w (run_copy n p x op c).part ≡ true → touches w c ≡ true
 run_touches w n p x op c off on =
     more (uid_eq nobody w) (holds w (run_copy n p x op c).part.rows) (on_stack w (run_copy n p x op c).part.stack) (holds w c.rows) (on_stack w c.stack)
     (rows (is_granted (object x) (last_uid (uids_of p)) (op_mode op) c.rows)) (stack (writes op)) on
@@ -118,13 +127,17 @@ run_touches w n p x op c off on =
 
     rows : (b : Bool) → holds w (cond b c.rows (grant_row new c.rows)) ≡ true → holds w c.rows ≡ true
     rows true on = on
-    rows false on = only (or_cases (holds w c.rows) (not (has_row new.object (last_uid new.holder) c.rows) && is_on (uids_of p) w) (sym (grant_any new c.rows w) ∙ on))
+    rows false on =
+        only (or_cases (holds w c.rows) (not (has_row new.object (last_uid new.holder) c.rows) && is_on (uids_of p) w) (sym (grant_any new c.rows w) ∙ on))
       where
-        only : (holds w c.rows ≡ true) ⊎ ((not (has_row new.object (last_uid new.holder) c.rows) && is_on (uids_of p) w) ≡ true) → holds w c.rows ≡ true
+        only : (holds w c.rows ≡ true) ⊎ ((not (has_row new.object (last_uid new.holder) c.rows) && is_on (uids_of p) w) ≡ true) →
+            holds w c.rows ≡ true
         only (inl had) = had
         only (inr came) = other (and_parts (not (has_row new.object (last_uid new.holder) c.rows)) (is_on (uids_of p) w) came).1
 
-    stack : (b : Bool) → on_stack w (cond b (written (uids_of p) (tops_of p) (value_after op (current c.base c.stack)) c.stack) c.stack) ≡ true → on_stack w c.stack ≡ true
+    stack : (b : Bool) →
+        on_stack w (cond b (written (uids_of p) (tops_of p) (value_after op (current c.base c.stack)) c.stack) c.stack) ≡ true →
+        on_stack w c.stack ≡ true
     stack false on = on
     stack true on = only (written_on w (uids_of p) (tops_of p) (value_after op (current c.base c.stack)) c.stack on)
       where
@@ -144,7 +157,14 @@ no_over u (e ∷ es) someone none =
 pub no_state : (top : Uid) (x : ℕ) (c : Copy) → touches top c ≡ false → changed_state top x c ≡ None
 no_state top x c none =
     let p = unknown top c none in
-    ap (option_map (λ (e : Over). record { uid = object x; class = class_of c.base.value; version = next_version c.base.version; writer = top; payload = payload_of e.value })) (no_over top c.stack p.0 p.1.overlays)
+    ap (option_map (λ (e : Over). record {
+      uid = object x;
+      class = class_of c.base.value;
+      version = next_version c.base.version;
+      writer =
+          top;
+      payload = payload_of e.value;
+    })) (no_over top c.stack p.0 p.1.overlays)
 
 on_take : (n : ℕ) (us : List Uid) (u : Uid) → is_on (take n us) u ≡ true → is_on us u ≡ true
 on_take zero us u on = absurd (cc on)
@@ -159,7 +179,8 @@ top_holds : (u : Uid) (rows : List Row) → is_top_in u rows ≡ true → holds 
 top_holds u [] on = on
 top_holds u (r ∷ rows) on = by (or_cases (is_on (take r.tops r.holder) u) (is_top_in u rows) on) (top_holds u rows)
   where
-    by : (is_on (take r.tops r.holder) u ≡ true) ⊎ (is_top_in u rows ≡ true) → (is_top_in u rows ≡ true → holds u rows ≡ true) → (is_on r.holder u || holds u rows) ≡ true
+    by : (is_on (take r.tops r.holder) u ≡ true) ⊎ (is_top_in u rows ≡ true) → (is_top_in u rows ≡ true → holds u rows ≡ true) →
+        (is_on r.holder u || holds u rows) ≡ true
     by (inl here) ih = or_left (is_on r.holder u) (holds u rows) (on_take r.tops r.holder u here)
     by (inr there) ih = or_right (is_on r.holder u) (holds u rows) (ih there)
 

@@ -1,5 +1,6 @@
 -- The index keeps each object under each action that uses it.
-use Rattle.std.proofs.Common.{◌≡◌, ◌⊎◌, inl, inr, ℕ, List, [], ◌∷◌, length, Bool, true, false, cond, ◌||◌, Option, Some, None, refl, sym, ◌∙◌, ap, subst, arith, rules}
+use Rattle.std.proofs.Common.{◌≡◌, ◌⊎◌, inl, inr, ℕ, List, [], ◌∷◌, length, Bool, true, false, cond, ◌||◌, Option, Some, None, refl, sym}
+use Rattle.std.proofs.Common.{◌∙◌, ap, subst, arith, rules}
 use Rattle.std.specs.Prelude.{IsSome}
 use Rattle.std.specs.BTreeMap.{BTreeMap, get, is_at}
 use Rattle.std.specs.FinMap.{nat_cmp-IsAntisymmetric}
@@ -40,11 +41,13 @@ weaker : {X : Type 0} (P Q : X → Type 0) → ((x : X) → P x → Q x) → (xs
 weaker P Q f [] all = tt
 weaker P Q f (x ∷ xs) all = (f x all.0, weaker P Q f xs all.1)
 
-put_all : {X : Type 0} (P : ℕ × X → Type 0) (x : ℕ) (v : X) (m : List (ℕ × X)) → P (x, v) → AllByRecursion P m → AllByRecursion P (put_number x v m)
+put_all : {X : Type 0} (P : ℕ × X → Type 0) (x : ℕ) (v : X) (m : List (ℕ × X)) → P (x, v) → AllByRecursion P m →
+    AllByRecursion P (put_number x v m)
 put_all P x v [] here all = (here, tt)
 put_all {X} P x v (e ∷ es) here all = by (nat_cmp x e.0) refl (put_all P x v es here all.1)
   where
-    by : (r : Ordering) → nat_cmp x e.0 ≡ r → AllByRecursion P (put_number x v es) → AllByRecursion P (match_ordering r ((x, v) ∷ e ∷ es) ((e.0, v) ∷ es) (e ∷ put_number x v es))
+    by : (r : Ordering) → nat_cmp x e.0 ≡ r → AllByRecursion P (put_number x v es) →
+        AllByRecursion P (match_ordering r ((x, v) ∷ e ∷ es) ((e.0, v) ∷ es) (e ∷ put_number x v es))
     by Less is ih = (here, (all.0, all.1))
     by Equal is ih = (subst (λ n. P (n, v)) (nat_cmp-IsAntisymmetric x e.0 is) here, all.1)
     by Greater is ih = (all.0, ih)
@@ -60,10 +63,12 @@ removed_all {X} P t (e ∷ es) all = by (t e.0) (removed_all P t es all.1)
 -- ---- the index after each change
 
 -- more may stand in it
-pub more_indexed : (i j : BTreeMap Uid Known) (m : Copies) → ((u : Uid) (y : ℕ) → uses i u y ≡ true → uses j u y ≡ true) → IsIndexed i m → IsIndexed j m
+pub more_indexed : (i j : BTreeMap Uid Known) (m : Copies) → ((u : Uid) (y : ℕ) → uses i u y ≡ true → uses j u y ≡ true) → IsIndexed i m →
+    IsIndexed j m
 more_indexed i j m stays all = weaker _ _ (λ e here u on. stays u e.0 (here u on)) m all
 
-pub put_indexed : (index : BTreeMap Uid Known) (x : ℕ) (c : Copy) (m : Copies) → ((u : Uid) → touches u c ≡ true → uses index u x ≡ true) → IsIndexed index m → IsIndexed index (put_number x c m)
+pub put_indexed : (index : BTreeMap Uid Known) (x : ℕ) (c : Copy) (m : Copies) → ((u : Uid) → touches u c ≡ true → uses index u x ≡ true) →
+    IsIndexed index m → IsIndexed index (put_number x c m)
 put_indexed index x c m here all = put_all (λ (e : ℕ × Copy). (u : Uid) → touches u e.1 ≡ true → uses index u e.0 ≡ true) x c m here all
 
 pub removed_indexed : (index : BTreeMap Uid Known) (t : ℕ → Bool) (m : Copies) → IsIndexed index m → IsIndexed index (remove_entry t m)
@@ -96,17 +101,23 @@ module _ (index : BTreeMap Uid Known) (u : Uid) (o : Option Known) (is : get set
   pub walk_ends : (e : End) (m : Copies) → IsStrictlySortedBy nat_cmp xs → IsIndexed index m → ended_all u e xs m ≡ ended u e m
   walk_ends e m sorted all = all_ended u e xs m sorted (weaker _ _ (λ d here on. reach d.0 (here u on)) m all)
 
-  pub walk_any : (q : Question) (m : Copies) → IsStrictlySortedBy nat_cmp xs → IsStrictlySortedBy nat_cmp (keys_of m) → IsIndexed index m → any_answers q u (picked xs m) ≡ any_answers q u m
-  walk_any q m sorted ordered all = any_picked (λ (d : ℕ × Copy). answer_on q u d.1) xs m sorted ordered (weaker _ _ (λ d here on. reach d.0 (here u (answers_touch u q d.1 on))) m all)
+  pub walk_any : (q : Question) (m : Copies) → IsStrictlySortedBy nat_cmp xs → IsStrictlySortedBy nat_cmp (keys_of m) → IsIndexed index m →
+      any_answers q u (picked xs m) ≡ any_answers q u m
+  walk_any q m sorted ordered all =
+      any_picked (λ (d : ℕ × Copy). answer_on q u d.1) xs m sorted ordered (weaker _ _ (λ d here on. reach d.0 (here u (answers_touch u q d.1 on))) m all)
 
-  pub walk_states : (m : Copies) → IsStrictlySortedBy nat_cmp xs → IsStrictlySortedBy nat_cmp (keys_of m) → IsIndexed index m → changed_in u (picked xs m) ≡ changed_in u m
+  pub walk_states : (m : Copies) → IsStrictlySortedBy nat_cmp xs → IsStrictlySortedBy nat_cmp (keys_of m) → IsIndexed index m →
+      changed_in u (picked xs m) ≡ changed_in u m
   walk_states m sorted ordered all = made_picked (λ (d : ℕ × Copy). changed_state u d.0 d.1) xs m sorted ordered (weaker _ _ unread m all)
     where
-      unread : (d : ℕ × Copy) → ((w : Uid) → touches w d.1 ≡ true → uses index w d.0 ≡ true) → among xs d.0 ≡ false → changed_state u d.0 d.1 ≡ None
-      unread d here off = no_state u d.0 d.1 (false_from_ne_true (touches u d.1) (λ on. both_ways (among xs d.0) off (reach d.0 (here u on))))
+      unread : (d : ℕ × Copy) → ((w : Uid) → touches w d.1 ≡ true → uses index w d.0 ≡ true) → among xs d.0 ≡ false →
+          changed_state u d.0 d.1 ≡ None
+      unread d here off =
+          no_state u d.0 d.1 (false_from_ne_true (touches u d.1) (λ on. both_ways (among xs d.0) off (reach d.0 (here u on))))
 
   -- who is unknown, or used by nobody that is there, may go
-  pub walk_unused : (j : BTreeMap Uid Known) (m : Copies) → IsStrictlySortedBy nat_cmp xs → IsStrictlySortedBy nat_cmp (keys_of m) → any_answers question.Uses u (picked xs m) ≡ false
+  pub walk_unused : (j : BTreeMap Uid Known) (m : Copies) → IsStrictlySortedBy nat_cmp xs → IsStrictlySortedBy nat_cmp (keys_of m) →
+      any_answers question.Uses u (picked xs m) ≡ false
       → ((w : Uid) (y : ℕ) → uses index w y ≡ true → (uses j w y ≡ true) ⊎ (w ≡ u)) → IsIndexed index m → IsIndexed j m
   walk_unused j m sorted ordered unused stays all = go m (sym (walk_any question.Uses m sorted ordered all) ∙ unused) all
     where
@@ -133,22 +144,27 @@ found_all : (P : ℕ × Copy → Type 0) (x : ℕ) (c : Copy) (m : Copies) → A
 found_all P x c [] all at = absurd (cc at)
 found_all P x c (d ∷ ds) all at = by (is_at (nat_cmp x) d.0) refl (found_all P x c ds all.1) at
   where
-    by : (b : Bool) → is_at (nat_cmp x) d.0 ≡ b → (at_number x ds ≡ Some c → P (x, c)) → cond b (Some d.1) (at_number x ds) ≡ Some c → P (x, c)
+    by : (b : Bool) → is_at (nat_cmp x) d.0 ≡ b → (at_number x ds ≡ Some c → P (x, c)) → cond b (Some d.1) (at_number x ds) ≡ Some c →
+        P (x, c)
     by true is ih at = let found : d.1 ≡ c = cc at in subst P (λ i. (sym (at_is x d.0 is) i, found i)) all.0
     by false is ih at = ih at
 
 -- an activation notes the object under nobody
 pub activated_indexed : (i j : BTreeMap Uid Known) (x : ℕ) (b : Binding) (s : ObjectState) (c : Copy) (m : Copies) → c ≡ taken_copy b s
-    → ((u : Uid) → uses j u x ≡ (uses i u x || uid_eq nobody u)) → ((u : Uid) (y : ℕ) → uses i u y ≡ true → uses j u y ≡ true) → IsIndexed i m → IsIndexed j (put_number x c m)
-activated_indexed i j x b s c m taken here stays all = put_indexed j x c m (λ u on. by u (or_cases (uid_eq nobody u) false (ap (touches u) (sym taken) ∙ on))) (more_indexed i j m stays all)
+    → ((u : Uid) → uses j u x ≡ (uses i u x || uid_eq nobody u)) → ((u : Uid) (y : ℕ) → uses i u y ≡ true → uses j u y ≡ true) →
+    IsIndexed i m → IsIndexed j (put_number x c m)
+activated_indexed i j x b s c m taken here stays all =
+    put_indexed j x c m (λ u on. by u (or_cases (uid_eq nobody u) false (ap (touches u) (sym taken) ∙ on))) (more_indexed i j m stays all)
   where
     by : (u : Uid) → (uid_eq nobody u ≡ true) ⊎ (false ≡ true) → uses j u x ≡ true
     by u (inl is) = here u ∙ or_right (uses i u x) (uid_eq nobody u) is
     by u (inr never) = absurd (cc never)
 
 -- an operation notes it under each action of its path
-pub ran_indexed : (i j : BTreeMap Uid Known) (n : ℕ) (p : Path) (x : ℕ) (op : Op) (c new : Copy) (m es : Copies) → IsStrictlySortedBy nat_cmp (keys_of m) → at_number x m ≡ Some c
-    → es ≡ set_value (is_at (nat_cmp x)) m new → new ≡ (run_copy n p x op c).part → ((u : Uid) → is_on (uids_of p) u ≡ true → uses j u x ≡ true)
+pub ran_indexed : (i j : BTreeMap Uid Known) (n : ℕ) (p : Path) (x : ℕ) (op : Op) (c new : Copy) (m es : Copies) →
+    IsStrictlySortedBy nat_cmp (keys_of m) → at_number x m ≡ Some c
+    → es ≡ set_value (is_at (nat_cmp x)) m new → new ≡ (run_copy n p x op c).part →
+    ((u : Uid) → is_on (uids_of p) u ≡ true → uses j u x ≡ true)
     → ((u : Uid) (y : ℕ) → uses i u y ≡ true → uses j u y ≡ true) → IsIndexed i m → IsIndexed j es
 ran_indexed i j n p x op c new m es sorted at written ran here stays all =
     subst (IsIndexed j) (sym (written ∙ put_found x new m sorted (subst IsSome (sym at) refl)))
@@ -156,12 +172,16 @@ ran_indexed i j n p x op c new m es sorted at written ran here stays all =
   where
     by : (u : Uid) (b : Bool) → is_on (uids_of p) u ≡ b → touches u (run_copy n p x op c).part ≡ true → uses j u x ≡ true
     by u true is on = here u is
-    by u false is on = stays u x (found_all (λ (e : ℕ × Copy). (u : Uid) → touches u e.1 ≡ true → uses i u e.0 ≡ true) x c m all at u (run_touches u n p x op c is on))
+    by u false is on =
+        stays u x (found_all (λ (e : ℕ × Copy). (u : Uid) → touches u e.1 ≡ true →
+        uses i u e.0 ≡ true) x c m all at u (run_touches u n p x op c is on))
 
 -- a fault leaves it
-pub fault_indexed : (i j : BTreeMap Uid Known) (x : ℕ) (c new : Copy) (m es : Copies) → at_number x m ≡ Some c → es ≡ set_value (is_at (nat_cmp x)) m new → new ≡ c
+pub fault_indexed : (i j : BTreeMap Uid Known) (x : ℕ) (c new : Copy) (m es : Copies) → at_number x m ≡ Some c →
+    es ≡ set_value (is_at (nat_cmp x)) m new → new ≡ c
     → ((u : Uid) (y : ℕ) → uses i u y ≡ true → uses j u y ≡ true) → IsIndexed i m → IsIndexed j es
-fault_indexed i j x c new m es at written is stays all = subst (IsIndexed j) (sym (put_same x m m es c new refl at written is)) (more_indexed i j m stays all)
+fault_indexed i j x c new m es at written is stays all =
+    subst (IsIndexed j) (sym (put_same x m m es c new refl at written is)) (more_indexed i j m stays all)
 
 -- nothing is picked out of nothing
 pub none_picked : (xs : List ℕ) (m : Copies) (n : ℕ) → n ≡ length m → n ≡ 0 → picked xs m ≡ []
@@ -181,7 +201,8 @@ module _ (index : BTreeMap Uid Known) (u : Uid) (none : get set_order index u �
   pub unknown_any : (q : Question) (m : Copies) → IsIndexed index m → false ≡ any_answers q u m
   unknown_any q [] all = refl
   unknown_any q (d ∷ ds) all =
-      let off : answer_on q u d.1 ≡ false = false_from_ne_true (answer_on q u d.1) (λ on. both_ways (touches u d.1) (unused d all.0) (answers_touch u q d.1 on)) in
+      let off : answer_on q u d.1 ≡ false =
+      false_from_ne_true (answer_on q u d.1) (λ on. both_ways (touches u d.1) (unused d all.0) (answers_touch u q d.1 on)) in
       λ i. sym off i || unknown_any q ds all.1 i
 
   pub unknown_states : (m : Copies) → IsIndexed index m → [] ≡ changed_in u m
@@ -189,7 +210,9 @@ module _ (index : BTreeMap Uid Known) (u : Uid) (none : get set_order index u �
   unknown_states (d ∷ ds) all = λ i. cons_option (sym (no_state u d.0 d.1 (unused d all.0)) i) (unknown_states ds all.1 i)
 
 -- who is taken out of the index is the only one that is
-pub removed_uses : (i j : BTreeMap Uid Known) (u : Uid) → ((q : Uid) → get set_order j q ≡ cond (is_at (set_order u) q) None (get set_order i q)) → (w : Uid) (y : ℕ) → uses i w y ≡ true → (uses j w y ≡ true) ⊎ (w ≡ u)
+pub removed_uses : (i j : BTreeMap Uid Known) (u : Uid) →
+    ((q : Uid) → get set_order j q ≡ cond (is_at (set_order u) q) None (get set_order i q)) → (w : Uid) (y : ℕ) → uses i w y ≡ true →
+    (uses j w y ≡ true) ⊎ (w ≡ u)
 removed_uses i j u left w y on = by (set_order u w) refl (left w)
   where
     by : (r : Ordering) → set_order u w ≡ r → get set_order j w ≡ cond (is_eq r) None (get set_order i w) → (uses j w y ≡ true) ⊎ (w ≡ u)

@@ -1,5 +1,6 @@
 -- The two views under a write and under the ends.
-use Rattle.std.proofs.Common.{◌≡◌, ◌⊎◌, ℕ, Bool, true, false, List, [], ◌∷◌, Option, None, Some, cond, ap, sym, ◌∙◌, refl, inl, inr, find, not, min, length, ◌++◌}
+use Rattle.std.proofs.Common.{◌≡◌, ◌⊎◌, ℕ, Bool, true, false, List, [], ◌∷◌, Option, None, Some, cond, ap, sym, ◌∙◌, refl, inl, inr, find}
+use Rattle.std.proofs.Common.{not, min, length, ◌++◌}
 use Rattle.std.specs.List.{list_any, list_all}
 use Rattle.std.specs.Option.{option_map, option_or}
 use Rattle.std.proofs.lemmas.Bool.{and_parts, or_parts}
@@ -16,7 +17,8 @@ pub no_image : (base : Base) (u : Uid) (es : List Over) → over_of u es ≡ Non
 no_image base u [] none = refl
 no_image base u (e ∷ es) none = by (is_of u e) (no_image base u es) none
   where
-    by : (b : Bool) → (over_of u es ≡ None → image base es u ≡ None) → cond b (Some e) (find (is_of u) es) ≡ None → cond b (Some (current base es)) (image base es u) ≡ None
+    by : (b : Bool) → (over_of u es ≡ None → image base es u ≡ None) → cond b (Some e) (find (is_of u) es) ≡ None →
+        cond b (Some (current base es)) (image base es u) ≡ None
     by true ih none = absurd (cc none)
     by false ih none = ih none
 
@@ -29,10 +31,12 @@ now_written base holder tops v (e ∷ es) = by (is_of (last_uid holder) e)
     by true = refl
     by false = refl
 
-pub over_written : (holder : List Uid) (tops : ℕ) (v : Value) (es : List Over) (b : Uid) → overlay (written holder tops v es) b ≡ cond (uid_eq (last_uid holder) b) (Some v) (overlay es b)
+pub over_written : (holder : List Uid) (tops : ℕ) (v : Value) (es : List Over) (b : Uid) →
+    overlay (written holder tops v es) b ≡ cond (uid_eq (last_uid holder) b) (Some v) (overlay es b)
 over_written holder tops v [] b = by (uid_eq (last_uid holder) b)
   where
-    by : (t : Bool) → option_map (λ (e : Over). e.value) (cond t (Some (record { holder = holder; tops = tops; value = v })) None) ≡ cond t (Some v) None
+    by : (t : Bool) →
+        option_map (λ (e : Over). e.value) (cond t (Some (record { holder = holder; tops = tops; value = v })) None) ≡ cond t (Some v) None
     by true = refl
     by false = refl
 over_written holder tops v (e ∷ es) b = by (is_of (last_uid holder) e) refl
@@ -40,7 +44,11 @@ over_written holder tops v (e ∷ es) b = by (is_of (last_uid holder) e) refl
     new : Over
     new = record { holder = holder; tops = tops; value = v }
 
-    pick : (t s : Bool) (o : Over) → t ≡ s → option_map (λ (e : Over). e.value) (cond t (Some (record o { value = v })) (find (is_of b) es)) ≡ cond s (Some v) (option_map (λ (e : Over). e.value) (cond t (Some o) (find (is_of b) es)))
+    pick : (t s : Bool) (o : Over) → t ≡ s →
+        option_map (λ (e : Over). e.value) (cond t (Some (record o {
+          value =
+              v;
+        })) (find (is_of b) es)) ≡ cond s (Some v) (option_map (λ (e : Over). e.value) (cond t (Some o) (find (is_of b) es)))
     pick true true o is = refl
     pick true false o is = absurd (cc is)
     pick false true o is = absurd (cc is)
@@ -69,7 +77,8 @@ image_written base holder tops v (e ∷ es) may b = by (is_of (last_uid holder) 
     new : Over
     new = record { holder = holder; tops = tops; value = v }
 
-    pick : (t s : Bool) → t ≡ s → cond t (Some (current base es)) (image base es b) ≡ cond s (Some (current base es)) (cond t (Some (current base es)) (image base es b))
+    pick : (t s : Bool) → t ≡ s →
+        cond t (Some (current base es)) (image base es b) ≡ cond s (Some (current base es)) (cond t (Some (current base es)) (image base es b))
     pick true true is = refl
     pick true false is = absurd (cc is)
     pick false true is = absurd (cc is)
@@ -80,7 +89,10 @@ image_written base holder tops v (e ∷ es) may b = by (is_of (last_uid holder) 
     own false is = absurd (cc is)
 
     by : (t : Bool) → is_of u e ≡ t → (t ≡ true) ⊎ (over_of u (e ∷ es) ≡ None)
-        → image base (cond t (record e { value = v } ∷ es) (new ∷ e ∷ es)) b ≡ cond (uid_eq u b) (Some (older (image base (e ∷ es) u) (current base (e ∷ es)))) (image base (e ∷ es) b)
+        → image base (cond t (record e {
+          value =
+              v;
+        } ∷ es) (new ∷ e ∷ es)) b ≡ cond (uid_eq u b) (Some (older (image base (e ∷ es) u) (current base (e ∷ es)))) (image base (e ∷ es) b)
     by true is may =
         pick (is_of b e) (uid_eq u b) (ap (λ w. uid_eq w b) (uid_is (last_uid e.holder) u is))
         ∙ (λ i. cond (uid_eq u b) (Some (sym (own (is_of u e) is) i)) (image base (e ∷ es) b))
@@ -108,7 +120,8 @@ module _ (e : Over) (es : List Over) (none : over_of (last_uid e.holder) es ≡ 
   pub now_folded : (base : Base) → current base (folded u (e ∷ es)) ≡ current base (e ∷ es)
   now_folded base = ap (current base) folded_is ∙ now_written base (front e.holder) (min e.tops (length (front e.holder))) e.value es
 
-  pub over_folded : (b : Uid) → overlay (folded u (e ∷ es)) b ≡ cond (uid_eq h b) (overlay (e ∷ es) u) (cond (uid_eq u b) None (overlay (e ∷ es) b))
+  pub over_folded : (b : Uid) →
+      overlay (folded u (e ∷ es)) b ≡ cond (uid_eq h b) (overlay (e ∷ es) u) (cond (uid_eq u b) None (overlay (e ∷ es) b))
   over_folded b =
       ap (λ s. overlay s b) folded_is
       ∙ (over_written (front e.holder) (min e.tops (length (front e.holder))) e.value es b
@@ -140,7 +153,8 @@ undone_none u (e ∷ es) none =
     let p = or_parts (is_on e.holder u) (list_any (λ (e : Over). is_on e.holder u) es) none in
     λ i. cond (not (p.0 i)) (e ∷ undone_none u es p.1 i) (undone u es)
 
-pub undone_is : (u : Uid) (gone stays : List Over) → list_all (λ (e : Over). is_on e.holder u) gone ≡ true → list_any (λ (e : Over). is_on e.holder u) stays ≡ false → undone u (gone ++ stays) ≡ stays
+pub undone_is : (u : Uid) (gone stays : List Over) → list_all (λ (e : Over). is_on e.holder u) gone ≡ true →
+    list_any (λ (e : Over). is_on e.holder u) stays ≡ false → undone u (gone ++ stays) ≡ stays
 undone_is u [] stays all none = undone_none u stays none
 undone_is u (e ∷ gone) stays all none =
     let p = and_parts (is_on e.holder u) (list_all (λ (e : Over). is_on e.holder u) gone) all in
@@ -154,12 +168,16 @@ none_here a e [] stays none = by (is_of a e) none
     by false none = refl
 none_here a e (g ∷ gone) stays none = by (is_of a g) (none_here a e gone stays) none
   where
-    by : (t : Bool) → (over_of a (gone ++ e ∷ stays) ≡ None → is_of a e ≡ false) → cond t (Some g) (over_of a (gone ++ e ∷ stays)) ≡ None → is_of a e ≡ false
+    by : (t : Bool) → (over_of a (gone ++ e ∷ stays) ≡ None → is_of a e ≡ false) → cond t (Some g) (over_of a (gone ++ e ∷ stays)) ≡ None →
+        is_of a e ≡ false
     by true ih none = absurd (cc none)
     by false ih none = ih none
 
-pub lowest_image : (base : Base) (gone : List Over) (e : Over) (stays : List Over) → IsOneOver (gone ++ e ∷ stays) → image base (gone ++ e ∷ stays) (last_uid e.holder) ≡ Some (current base stays)
-lowest_image base [] e stays one = λ i. cond (uid_same (last_uid e.holder) i) (Some (current base stays)) (image base stays (last_uid e.holder))
+pub lowest_image : (base : Base) (gone : List Over) (e : Over) (stays : List Over) → IsOneOver (gone ++ e ∷ stays) →
+    image base (gone ++ e ∷ stays) (last_uid e.holder) ≡ Some (current base stays)
+lowest_image base [] e stays one =
+    λ i. cond (uid_same (last_uid e.holder) i) (Some (current base stays)) (image base stays (last_uid e.holder))
 lowest_image base (g ∷ gone) e stays one =
-    let other : is_of (last_uid e.holder) g ≡ false = uid_sym (last_uid g.holder) (last_uid e.holder) ∙ none_here (last_uid g.holder) e gone stays one.0 in
+    let other : is_of (last_uid e.holder) g ≡ false =
+    uid_sym (last_uid g.holder) (last_uid e.holder) ∙ none_here (last_uid g.holder) e gone stays one.0 in
     (λ i. cond (other i) (Some (current base (gone ++ e ∷ stays))) (image base (gone ++ e ∷ stays) (last_uid e.holder))) ∙ lowest_image base gone e stays one.1

@@ -24,9 +24,16 @@ latest (v ∷ vs) now = latest vs v
 -- A write on object x keeps its image and marks it as changed; a nested commit merges the action's list into its
 -- parent's; an abort restores what the list's undo gives back; a top's list goes.
 abbrev pub list_step : Uid → Step → Lists → Lists
-list_step x (Write holder tops v) l = record { now = v; kept = λ b. if uid_eq (last_uid holder) b then added (Persistence x) (added (Recovery x l.now) (l.kept (last_uid holder))) else l.kept b }
-list_step x (Nested u h) l = record { now = l.now; kept = λ b. if uid_eq h b then merged (l.kept h) (l.kept u) else (if uid_eq u b then [] else l.kept b) }
-list_step x (Abort u) l = record { now = latest (restored x (undo_calls u (l.kept u))) l.now; kept = λ b. if uid_eq u b then [] else l.kept b }
+list_step x (Write holder tops v) l =
+    record {
+      now = v;
+      kept =
+          λ b. if uid_eq (last_uid holder) b then added (Persistence x) (added (Recovery x l.now) (l.kept (last_uid holder))) else l.kept b;
+    }
+list_step x (Nested u h) l =
+    record { now = l.now; kept = λ b. if uid_eq h b then merged (l.kept h) (l.kept u) else (if uid_eq u b then [] else l.kept b) }
+list_step x (Abort u) l =
+    record { now = latest (restored x (undo_calls u (l.kept u))) l.now; kept = λ b. if uid_eq u b then [] else l.kept b }
 list_step x (Top u) l = record { now = l.now; kept = λ b. if uid_eq u b then [] else l.kept b }
 
 -- calls one after another

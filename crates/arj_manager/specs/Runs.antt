@@ -84,8 +84,14 @@ pub record Images : Type 0 where
 -- A first write keeps the value that stood there; a nested commit gives the parent the image where it has none; an
 -- abort goes back to the image; after any end the action has none.
 abbrev pub image_step : Step → Images → Images
-image_step (Write holder tops v) i = record { now = v; before = λ b. if uid_eq (last_uid holder) b then Some (older (i.before (last_uid holder)) i.now) else i.before b }
-image_step (Nested u h) i = record { now = i.now; before = λ b. if uid_eq h b then option_or (i.before h) (i.before u) else (if uid_eq u b then None else i.before b) }
+image_step (Write holder tops v) i =
+    record { now = v; before = λ b. if uid_eq (last_uid holder) b then Some (older (i.before (last_uid holder)) i.now) else i.before b }
+image_step (Nested u h) i =
+    record {
+      now = i.now;
+      before =
+          λ b. if uid_eq h b then option_or (i.before h) (i.before u) else (if uid_eq u b then None else i.before b);
+    }
 image_step (Abort u) i = record { now = older (i.before u) i.now; before = λ b. if uid_eq u b then None else i.before b }
 image_step (Top u) i = record { now = i.now; before = λ b. if uid_eq u b then None else i.before b }
 

@@ -111,7 +111,8 @@ sent k m n f = body.Sent k m n f
 
 -- the end of a commit on one node, behind `committing`
 abbrev pub commit_end : Label → ℕ → List Body
-commit_end l k = prepared 1 k role.Store ∷ body.Committed l ∷ done 1 k role.Store Commit ∷ told k Commit part.Naming ∷ told k Commit part.Server ∷ []
+commit_end l k =
+    prepared 1 k role.Store ∷ body.Committed l ∷ done 1 k role.Store Commit ∷ told k Commit part.Naming ∷ told k Commit part.Server ∷ []
 
 abbrev pub smallest_bodies : List (List Body)
 smallest_bodies =
@@ -337,7 +338,11 @@ rebinding_bodies =
     ∷ (body.Began M kind.Nested (uid_at 1 3) (Some A) ∷ [])
     ∷ (body.Refused 14 ∷ [])
     ∷ (body.Granted 1 (uid_at 1 1) (entry 1) Write ∷ body.Bound 1 (record { inc = 1; count = 2 }) 3 ∷ sent 5 1 3 frame.Activate ∷ [])
-    ∷ (body.Got 4 ∷ body.Got 5 ∷ body.Active 3 1 (record { inc = 1; count = 2 }) ∷ sent 6 3 1 frame.Activated ∷ body.Got 6 ∷ body.Lowered 1 (uid_at 1 1) (entry 1) ∷ sent 7 1 3 frame.Invoke ∷ body.Got 7 ∷ body.Granted 3 (uid_at 1 3) (object 1) Write ∷ sent 8 3 1 frame.Invoked ∷ body.Got 8 ∷ ok M (Add 1) (codes "done") ∷ [])
+    ∷ (body.Got 4 ∷ body.Got 5 ∷ body.Active 3 1 (record {
+      inc = 1;
+      count =
+          2;
+    }) ∷ sent 6 3 1 frame.Activated ∷ body.Got 6 ∷ body.Lowered 1 (uid_at 1 1) (entry 1) ∷ sent 7 1 3 frame.Invoke ∷ body.Got 7 ∷ body.Granted 3 (uid_at 1 3) (object 1) Write ∷ sent 8 3 1 frame.Invoked ∷ body.Got 8 ∷ ok M (Add 1) (codes "done") ∷ [])
     ∷ (body.Committed M ∷ sent 9 1 3 frame.Told ∷ [])
     ∷ (body.Committing A ∷ sent 10 1 3 frame.Vote ∷ [])
     ∷ (body.Got 9 ∷ body.Told 3 (uid_at 1 3) Commit part.Server ∷ body.Got 10 ∷ sent 11 3 1 frame.Voted ∷ body.Got 11 ∷ body.Prepared 1 (uid_at 1 1) role.Store ∷ body.Committed A ∷ sent 12 1 2 frame.Told ∷ sent 13 1 3 frame.Told ∷ body.Done 1 (uid_at 1 1) role.Store Commit ∷ body.Told 1 (uid_at 1 1) Commit part.Naming ∷ body.Got 12 ∷ body.Got 13 ∷ body.Told 3 (uid_at 1 1) Commit part.Server ∷ sent 14 3 1 frame.Acked ∷ body.Got 14 ∷ [])

@@ -42,7 +42,8 @@ junk_events =
     event.Junk 1 hello_bytes ∷ event.Junk 1 (255 ∷ []) ∷ event.Deliver (Number 1) ∷ event.Junk 1 (hello_bytes ++ 0 ∷ []) ∷ event.Junk 2 (255 ∷ []) ∷ []
 
 abbrev junk_bodies : List (List Body)
-junk_bodies = (body.Refused 18 ∷ []) ∷ (sent 1 0 1 frame.Junk ∷ []) ∷ (body.Void 1 ∷ []) ∷ (sent 2 0 1 frame.Junk ∷ []) ∷ (body.Refused 1 ∷ []) ∷ []
+junk_bodies =
+    (body.Refused 18 ∷ []) ∷ (sent 1 0 1 frame.Junk ∷ []) ∷ (body.Void 1 ∷ []) ∷ (sent 2 0 1 frame.Junk ∷ []) ∷ (body.Refused 1 ∷ []) ∷ []
 
 junk_follows : Follows (one_node 0) fresh junk_events (lines_of junk_bodies)
 unfolding message hello node number4 byte
@@ -67,13 +68,17 @@ no_other_refused : Step (one_node 0) nothing_yet (event.Junk 1 (255 ∷ [])) (bo
 unfolding message hello node number4 byte
 no_other_refused s = by s.lines
   where
-    unsent : (others last : List Body) → list_all (may_stand (event.Junk 1 (255 ∷ []))) others ≡ true → IsFrameLimit last → body.Refused 18 ∷ [] ≡ others ++ last → ⊥
+    unsent : (others last : List Body) → list_all (may_stand (event.Junk 1 (255 ∷ []))) others ≡ true → IsFrameLimit last →
+        body.Refused 18 ∷ [] ≡ others ++ last → ⊥
     unsent [] last only is e = let h : body.Refused 18 ∷ [] ≡ body.Limit which.Frames ∷ [] = e ∙ is in cc
     unsent (b ∷ bs) last only is e = cc
 
-    begins : (own others last : List Body) → Begins (one_node 0) nothing_yet (event.Junk 1 (255 ∷ [])) own → Ends (event.Junk 1 (255 ∷ [])) own last
+    begins : (own others last : List Body) → Begins (one_node 0) nothing_yet (event.Junk 1 (255 ∷ [])) own →
+        Ends (event.Junk 1 (255 ∷ [])) own last
         → list_all (may_stand (event.Junk 1 (255 ∷ []))) others ≡ true → body.Refused 18 ∷ [] ≡ own ++ (others ++ last) → ⊥
-    begins own others last (inl e) ends only parts = let h : body.Refused 18 ∷ [] ≡ (sent 1 0 1 frame.Junk ∷ []) ++ (others ++ last) = parts ∙ ap (λ (own : List Body). own ++ (others ++ last)) e in cc
+    begins own others last (inl e) ends only parts =
+        let h : body.Refused 18 ∷ [] ≡ (sent 1 0 1 frame.Junk ∷ []) ++ (others ++ last) =
+        parts ∙ ap (λ (own : List Body). own ++ (others ++ last)) e in cc
     begins own others last (inr e) ends only parts =
         unsent others last only (subst (λ own. Ends (event.Junk 1 (255 ∷ [])) own last) e ends) (parts ∙ ap (λ (own : List Body). own ++ (others ++ last)) e)
 

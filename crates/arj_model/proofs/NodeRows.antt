@@ -22,7 +22,10 @@ use Rattle.arj_journal.specs.declared.event.StopKind.TheVariants as stop
 use Rattle.arj_model.specs.Follows.{Follows, Step}
 use Rattle.arj_start.specs.Start.{fresh}
 use Rattle.arj_model.specs.Table.{table}
-use Rattle.arj_model.proofs.Journals.{A, B, C, D, N, S, uid, began, ok, told, prepared, on_entry, on_object, first_use, commit_end, lines_of, one_node, three_nodes, nested_abort_bodies, serializing_bodies, smallest_bodies, conflict_bodies, older_image_bodies, to_exclusion, stop_at_decision_done_bodies, naming_stopped_bodies, rebinding_bodies, M, two_servers, uid_at, four_nodes}
+use Rattle.arj_model.proofs.Journals.{A, B, C, D, N, S, uid, began, ok, told, prepared, on_entry, on_object, first_use, commit_end}
+use Rattle.arj_model.proofs.Journals.{lines_of, one_node, three_nodes, nested_abort_bodies, serializing_bodies, smallest_bodies}
+use Rattle.arj_model.proofs.Journals.{conflict_bodies, older_image_bodies, to_exclusion, stop_at_decision_done_bodies}
+use Rattle.arj_model.proofs.Journals.{naming_stopped_bodies, rebinding_bodies, M, two_servers, uid_at, four_nodes}
 use Rattle.arj_text.specs.Label.{name}
 use Rattle.arj_model.proofs.Rows.{went, went_doomed, accepted, at, runs, ◌&◌}
 
@@ -92,13 +95,20 @@ naming_stopped_tables :
     ≡ (at_two 2 Read ∷ []) ∷ (at_two 2 Exclude ∷ []) ∷ [] ∷ (at_two 2 Exclude ∷ []) ∷ (at_two 2 Exclude ∷ []) ∷ [] ∷ []
 naming_stopped_tables = refl
 
-naming_stopped_servers : tables 2 naming_stopped_bodies (3 ∷ 9 ∷ 10 ∷ []) ≡ (record { object = object 1; holder = uid_at 2 1 ∷ []; tops = 1; mode = Write } ∷ []) ∷ (record { object = object 1; holder = uid_at 2 1 ∷ []; tops = 1; mode = Write } ∷ []) ∷ [] ∷ []
+naming_stopped_servers : tables 2 naming_stopped_bodies (3 ∷ 9 ∷ 10 ∷ []) ≡ (record {
+  object = object 1;
+  holder = uid_at 2 1 ∷ [];
+  tops =
+      1;
+  mode = Write;
+} ∷ []) ∷ (record { object = object 1; holder = uid_at 2 1 ∷ []; tops = 1; mode = Write } ∷ []) ∷ [] ∷ []
 naming_stopped_servers = refl
 
 -- What each event of these runs may write.
 
 abbrev nested_abort_events : List Event
-nested_abort_events = event.Begin A 1 ∷ event.Call A 1 (Add 4) ∷ event.BeginIn N A ∷ event.Call N 1 (Add 5) ∷ event.Abort N ∷ event.Call A 1 Get ∷ event.Commit A ∷ []
+nested_abort_events =
+    event.Begin A 1 ∷ event.Call A 1 (Add 4) ∷ event.BeginIn N A ∷ event.Call N 1 (Add 5) ∷ event.Abort N ∷ event.Call A 1 Get ∷ event.Commit A ∷ []
 
 abbrev done : List ℕ
 done = codes "done"
@@ -233,7 +243,8 @@ naming_stopped_follows = runs (Step four_nodes) naming_stopped_events naming_sto
 
 -- A doomed action takes no more, and is aborted at its commit.
 abbrev rebinding_events : List Event
-rebinding_events = event.Begin A 1 ∷ event.BeginIn N A ∷ event.Call N 1 (Add 1) ∷ event.Call A 1 Get ∷ event.Deliver (Number 1) ∷ event.Deliver (Number 2) ∷ event.Lose (Number 3) ∷ event.GiveUp N ∷ event.Call N 1 Get ∷ event.Commit N ∷ event.BeginIn M A ∷ event.Call M 1 (Push 1) ∷ event.Call M 1 (Add 1) ∷ event.Settle ∷ event.Commit M ∷ event.Commit A ∷ event.Settle ∷ []
+rebinding_events =
+    event.Begin A 1 ∷ event.BeginIn N A ∷ event.Call N 1 (Add 1) ∷ event.Call A 1 Get ∷ event.Deliver (Number 1) ∷ event.Deliver (Number 2) ∷ event.Lose (Number 3) ∷ event.GiveUp N ∷ event.Call N 1 Get ∷ event.Commit N ∷ event.BeginIn M A ∷ event.Call M 1 (Push 1) ∷ event.Call M 1 (Add 1) ∷ event.Settle ∷ event.Commit M ∷ event.Commit A ∷ event.Settle ∷ []
 
 abbrev rebound : ℕ → List Body
 rebound n = lines_at rebinding_bodies n

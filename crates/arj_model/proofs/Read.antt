@@ -14,7 +14,8 @@ acts-append us [] l = refl
 acts-append us (k ∷ ls) l = acts-append (acts_after us k.body) ls l
 
 -- what is read of the journal so far stays, and at most one item comes, stamped with the actions so far
-pub read-append : {A : Type 0} (f : List Act → Body → Option A) (us : List Act) (n : ℕ) (ls : List Line) (l : Line) → read f us n (ls ++ l ∷ []) ≡ read f us n ls ++ put (n + length ls) (f (acts_from us ls) l.body) []
+pub read-append : {A : Type 0} (f : List Act → Body → Option A) (us : List Act) (n : ℕ) (ls : List Line) (l : Line) →
+    read f us n (ls ++ l ∷ []) ≡ read f us n ls ++ put (n + length ls) (f (acts_from us ls) l.body) []
 read-append f us n [] l = ap (λ m. put m (f us l.body) []) (omega arith)
 read-append {A} f us n (k ∷ ls) l =
     let e : n + 1 + length ls ≡ n + length (k ∷ ls) = omega arith in

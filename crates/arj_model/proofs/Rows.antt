@@ -1,5 +1,6 @@
 -- The definitions tried on the worked runs: each value is known beforehand, and another one would be refused.
-use Rattle.std.specs.Prelude.{◌≡◌, refl, ℕ, ◌+◌, List, [], ◌∷◌, ◌++◌, length, map, filter, codes, Bool, true, false, Some, None, MatchOption, ⊤}
+use Rattle.std.specs.Prelude.{◌≡◌, refl, ℕ, ◌+◌, List, [], ◌∷◌, ◌++◌, length, map, filter, codes, Bool, true, false, Some, None}
+use Rattle.std.specs.Prelude.{MatchOption, ⊤}
 use Rattle.std.specs.List.{list_all}
 use Rattle.std.proofs.Common.{arith, sym, inl, inr}
 use Rattle.std.proofs.lemmas.Fmt.{decimal_digit}
@@ -30,7 +31,9 @@ use Rattle.arj_start.specs.Start.{fresh}
 use Rattle.arj_model.specs.Refusals.{refusal}
 use Rattle.arj_model.specs.Follows.{IsAnswerOf, IsRefusedDoomed, is_limited, AnswersFit, Step, Accepted, AreEnding, Follows, Runs}
 use Rattle.arj_model.specs.Own.{Begins, Ends, may_stand, halts_fit}
-use Rattle.arj_model.proofs.Journals.{A, B, C, N, uid, counter, began, ok, lines_of, one_node, three_nodes, smallest_bodies, smallest, conflict, nested_abort, older_image, independent, serializing, to_inclusion, exclusion, inclusion, stop_at_decision_done, unit_round_a_top, many_includes}
+use Rattle.arj_model.proofs.Journals.{A, B, C, N, uid, counter, began, ok, lines_of, one_node, three_nodes, smallest_bodies, smallest}
+use Rattle.arj_model.proofs.Journals.{conflict, nested_abort, older_image, independent, serializing, to_inclusion, exclusion, inclusion}
+use Rattle.arj_model.proofs.Journals.{stop_at_decision_done, unit_round_a_top, many_includes}
 
 -- What a journal shows: the numbers of the committed tops; of each action, the newest first, whether it is over; the
 -- places of the surviving calls of committed tops; their answers in serial order; and of object 1 the last state, the
@@ -189,18 +192,32 @@ pub accepted :
     → AnswersFit past.start (past.accepted ++ asked_of past e ∷ []) (past.lines ++ block (past.count + 1) own) (past.count + 1) others
     → Accepted header past e (own ++ (others ++ last))
 accepted own others last begins ends only halts answers =
-    record { own = own; others = others; last = last; parts = refl; begins = begins; ends = ends; only = only; halts = halts; answers = answers }
+    record {
+      own = own;
+      others = others;
+      last = last;
+      parts = refl;
+      begins = begins;
+      ends = ends;
+      only = only;
+      halts = halts;
+      answers =
+          answers;
+    }
 
 pub went :
     {header : Header} {past : Past} {e : Event} {bodies : List Body}
-    → is_limited past.lines ≡ false → MatchOption (refusal header past e) (Accepted header past e bodies) (λ c. bodies ≡ body.Refused c ∷ []) → Step header past e bodies
+    → is_limited past.lines ≡ false →
+    MatchOption (refusal header past e) (Accepted header past e bodies) (λ c. bodies ≡ body.Refused c ∷ []) → Step header past e bodies
 went goes_on lines = record { goes_on = goes_on; lines = inl lines }
 
-pub went_doomed : {header : Header} {past : Past} {e : Event} {bodies : List Body} → is_limited past.lines ≡ false → IsRefusedDoomed header past e bodies → Step header past e bodies
+pub went_doomed : {header : Header} {past : Past} {e : Event} {bodies : List Body} → is_limited past.lines ≡ false →
+    IsRefusedDoomed header past e bodies → Step header past e bodies
 went_doomed goes_on lines = record { goes_on = goes_on; lines = inr lines }
 
 -- an answer to a call of the counter, at this value
-pub at : {op : Op} {answer : List ℕ} (n : ℕ) → has_op (class_of (Counter n)) op ≡ true → answer ≡ answer_text (answer_of op (Counter n)) → IsAnswerOf op answer
+pub at : {op : Op} {answer : List ℕ} (n : ℕ) → has_op (class_of (Counter n)) op ≡ true → answer ≡ answer_text (answer_of op (Counter n)) →
+    IsAnswerOf op answer
 at n has is = (Counter n, has, is)
 
 abbrev smallest_events : List Event

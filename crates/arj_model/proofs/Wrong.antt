@@ -1,6 +1,7 @@
 -- Small wrong journals that the definitions refuse, each beside a right one.
 use Rattle.std.specs.List.{list_all}
-use Rattle.std.specs.Prelude.{◌≡◌, ◌⊎◌, refl, ℕ, ◌+◌, List, [], ◌∷◌, ◌++◌, map, take, replicate, get_or, codes, Bool, true, false, cond, not, ◌==◌, nat_lt, Some, None}
+use Rattle.std.specs.Prelude.{◌≡◌, ◌⊎◌, refl, ℕ, ◌+◌, List, [], ◌∷◌, ◌++◌, map, take, replicate, get_or, codes, Bool, true, false, cond}
+use Rattle.std.specs.Prelude.{not, ◌==◌, nat_lt, Some, None}
 use Rattle.std.proofs.Common.{arith, inl, inr, ap, ◌∙◌}
 use Rattle.arj_base.specs.declared.state.Class.TheVariants as class
 use Rattle.arj_base.specs.Uid.{object}
@@ -28,7 +29,8 @@ use Rattle.arj_model.specs.Refusals.{next_uid, refusal}
 use Rattle.arj_model.specs.Own.{Begins, aborted_of, may_stand, halts_fit}
 use Rattle.arj_model.specs.Follows.{Step, Accepted, AnswerFits, AreEnding, IsAnswerOf, IsRefusedDoomed}
 use Rattle.arj_model.specs.Clean.{undecided, next_state}
-use Rattle.arj_model.proofs.Journals.{A, B, C, D, N, S, T, uid, began, counter, lines_of, one_node, three_nodes, nested_abort_bodies, sent, stop_at_decision_done_bodies, to_prepares}
+use Rattle.arj_model.proofs.Journals.{A, B, C, D, N, S, T, uid, began, counter, lines_of, one_node, three_nodes, nested_abort_bodies, sent}
+use Rattle.arj_model.proofs.Journals.{stop_at_decision_done_bodies, to_prepares}
 use Rattle.arj_model.proofs.Rows.{past_from}
 use Rattle.arj_model.proofs.NodeRows.{exclusion_events}
 
@@ -56,8 +58,10 @@ no_halt_first : Accepted (one_node 0) begun (event.Commit A) (body.Halted 1 ∷ 
 no_halt_first a = by a.begins
   where
     by : Begins (one_node 0) begun (event.Commit A) a.own → ⊥
-    by (inl e) = let h : body.Halted 1 ∷ body.Committing A ∷ [] ≡ (body.Committing A ∷ []) ++ (a.others ++ a.last) = a.parts ∙ ap (λ (own : List Body). own ++ (a.others ++ a.last)) e in cc
-    by (inr e) = let h : body.Halted 1 ∷ body.Committing A ∷ [] ≡ (body.Aborted A cause.Doomed ∷ []) ++ (a.others ++ a.last) = a.parts ∙ ap (λ (own : List Body). own ++ (a.others ++ a.last)) e.0 in cc
+    by (inl e) = let h : body.Halted 1 ∷ body.Committing A ∷ [] ≡ (body.Committing A ∷ []) ++ (a.others ++ a.last) =
+        a.parts ∙ ap (λ (own : List Body). own ++ (a.others ++ a.last)) e in cc
+    by (inr e) = let h : body.Halted 1 ∷ body.Committing A ∷ [] ≡ (body.Aborted A cause.Doomed ∷ []) ++ (a.others ++ a.last) =
+        a.parts ∙ ap (λ (own : List Body). own ++ (a.others ++ a.last)) e.0 in cc
 
 -- The halt is that of the action's node, and nothing stands behind it.
 commit_halts : map (halts_fit begun.lines (event.Commit A)) ((body.Halted 1 ∷ []) ∷ (body.Halted 2 ∷ []) ∷ (body.Halted 1 ∷ body.Committed A ∷ []) ∷ []) ≡ true ∷ false ∷ false ∷ []
@@ -123,7 +127,13 @@ next_without_aborted = refl
 
 -- The limit of labels is tested behind the causes 1 to 5 and before all others: A's node has halted.
 abbrev full : Past
-full = record { start = fresh; count = 4096; accepted = []; lines = block 1 (replicate 4095 (began B kind.Top 2 None) ++ began A kind.Top 1 None ∷ body.Halted 1 ∷ []) }
+full = record {
+  start = fresh;
+  count = 4096;
+  accepted = [];
+  lines =
+      block 1 (replicate 4095 (began B kind.Top 2 None) ++ began A kind.Top 1 None ∷ body.Halted 1 ∷ []);
+}
 
 late_causes :
     map (refusal (one_node 0) full) (event.Begin C 1 ∷ event.Serial C 2 ∷ event.BeginIn C A ∷ event.Top C A ∷ event.BeginIn A A ∷ event.BeginIn C D ∷ [])
@@ -165,12 +175,15 @@ node_first bodies = (uid_first bodies).node
 begins_so : (bodies : List Body) → Step (one_node 0) nothing_yet (event.Begin A 1) bodies → bodies ≡ began A kind.Top 1 None ∷ []
 begins_so bodies s = by s.lines
   where
-    alone : (own others last : List Body) → list_all (may_stand (event.Begin A 1)) others ≡ true → last ≡ [] → own ≡ began A kind.Top 1 None ∷ []
+    alone : (own others last : List Body) → list_all (may_stand (event.Begin A 1)) others ≡ true → last ≡ [] →
+        own ≡ began A kind.Top 1 None ∷ []
         → bodies ≡ own ++ (others ++ last) → bodies ≡ began A kind.Top 1 None ∷ []
-    alone own [] last only ends begins parts = parts ∙ (ap (λ (o : List Body). o ++ last) begins ∙ ap (λ (o : List Body). began A kind.Top 1 None ∷ o) ends)
+    alone own [] last only ends begins parts =
+        parts ∙ (ap (λ (o : List Body). o ++ last) begins ∙ ap (λ (o : List Body). began A kind.Top 1 None ∷ o) ends)
     alone own (b ∷ bs) last only ends begins parts = cc
 
-    by : (Accepted (one_node 0) nothing_yet (event.Begin A 1) bodies ⊎ IsRefusedDoomed (one_node 0) nothing_yet (event.Begin A 1) bodies) → bodies ≡ began A kind.Top 1 None ∷ []
+    by : (Accepted (one_node 0) nothing_yet (event.Begin A 1) bodies ⊎ IsRefusedDoomed (one_node 0) nothing_yet (event.Begin A 1) bodies) →
+        bodies ≡ began A kind.Top 1 None ∷ []
     by (inl a) = alone a.own a.others a.last a.only a.ends a.begins a.parts
     by (inr d) = let e = d.about in cc
 
@@ -181,8 +194,10 @@ no_silent_begin s = let h = begins_so [] s in cc
 no_later_uid : Step (one_node 0) nothing_yet (event.Begin A 1) (began A kind.Top 2 None ∷ []) → ⊥
 no_later_uid s = let h : 2 ≡ 1 = ap num_first (begins_so (began A kind.Top 2 None ∷ []) s) in omega (arith, h)
 
-no_other_node : Step (one_node 0) nothing_yet (event.Begin A 1) (body.Began A kind.Top (record { node = 2; inc = 1; num = 1 }) None ∷ []) → ⊥
-no_other_node s = let h : 2 ≡ 1 = ap node_first (begins_so (body.Began A kind.Top (record { node = 2; inc = 1; num = 1 }) None ∷ []) s) in omega (arith, h)
+no_other_node : Step (one_node 0) nothing_yet (event.Begin A 1) (body.Began A kind.Top (record { node = 2; inc = 1; num = 1 }) None ∷ []) →
+    ⊥
+no_other_node s =
+    let h : 2 ≡ 1 = ap node_first (begins_so (body.Began A kind.Top (record { node = 2; inc = 1; num = 1 }) None ∷ []) s) in omega (arith, h)
 
 no_other_kind : Step (one_node 0) nothing_yet (event.Begin A 1) (began A kind.Nested 1 None ∷ []) → ⊥
 no_other_kind s = let h = begins_so (began A kind.Nested 1 None ∷ []) s in cc
@@ -195,7 +210,8 @@ no_early_end : AreEnding 3 (record { event = 0; body = body.Bad 3 } ∷ []) → 
 no_early_end h = let e : 0 ≡ 3 = h.0 in omega (arith, e)
 
 -- Behind the limit of frames no event is run.
-no_event_behind : (bodies : List Body) → Step (one_node 0) (record begun { lines = begun.lines ++ block 2 (body.Limit which.Frames ∷ []) }) (event.Begin B 1) bodies → ⊥
+no_event_behind : (bodies : List Body) →
+    Step (one_node 0) (record begun { lines = begun.lines ++ block 2 (body.Limit which.Frames ∷ []) }) (event.Begin B 1) bodies → ⊥
 no_event_behind bodies s = let h : true ≡ false = s.goes_on in cc
 
 -- A run that goes on where another ended: node 2 is down, nodes had three incarnations before, and A was a label of that run.

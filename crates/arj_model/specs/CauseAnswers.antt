@@ -24,7 +24,8 @@ use Rattle.arj_model.specs.Actions.{Act, path, root_in, top_in, uids}
 use Rattle.arj_model.specs.Past.{Asked}
 use Rattle.arj_model.specs.Refusals.{holds_of, incarnation, is_root, object_used}
 use Rattle.arj_model.specs.Table.{table}
-use Rattle.arj_model.specs.CauseSpans.{Here, answered, asks_so, act_by, from_place, holds_in, is_call, is_call_of, is_include_of, nodes_of, of_event, same_mode, top_uids, was_sent}
+use Rattle.arj_model.specs.CauseSpans.{Here, answered, asks_so, act_by, from_place, holds_in, is_call, is_call_of, is_include_of, nodes_of}
+use Rattle.arj_model.specs.CauseSpans.{of_event, same_mode, top_uids, was_sent}
 use Rattle.arj_model.specs.CauseCopies.{had_both, is_older, may_have_met, was_bound}
 use Rattle.arj_model.specs.CausePends.{is_pending}
 

@@ -41,7 +41,8 @@ abbrev pub commit_differs_on : Here → Act → ℕ → ℕ → ℕ → Differen
 commit_differs_on h a c n x (difference.Inc had now) =
     nat_lt had now && (may_have_met h.start h.lines n x (root_in (path_of h a)) had
     && answered h c a.uid.node n (frame.Voted ∷ frame.Confirmed ∷ []) (λ before. incarnation h.start before n == now))
-commit_differs_on h a c n x (difference.Bind had now) = is_older had now && answered h c a.uid.node n (frame.Voted ∷ []) (had_both n x had now)
+commit_differs_on h a c n x (difference.Bind had now) =
+    is_older had now && answered h c a.uid.node n (frame.Voted ∷ []) (had_both n x had now)
 
 -- so it is of an object that the unit uses
 abbrev pub commit_differs : Here → List ℕ → ℕ → Difference → Bool

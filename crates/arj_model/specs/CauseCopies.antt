@@ -40,7 +40,8 @@ naming_of acts _ = None
 
 -- what it tells of a lock on an entry
 abbrev pub entering_of : List Act → Body → Option Entering
-entering_of acts (body.Granted n u o m) = if (n == 1) && is_entry o then Some (record { x = o.num; root = root_in (path_by acts u) }) else None
+entering_of acts (body.Granted n u o m) =
+    if (n == 1) && is_entry o then Some (record { x = o.num; root = root_in (path_by acts u) }) else None
 entering_of acts _ = None
 
 -- the copies that became active, each with its place
@@ -87,7 +88,8 @@ was_active_in st lines n x i = list_any (λ a. is_at n x a.it && (incarnation st
 
 -- a top of this root got a lock on the object's entry in this incarnation of naming's node
 abbrev pub has_entered_in : Start → List Line → ℕ → Option ℕ → ℕ → Bool
-has_entered_in st lines x root i = list_any (λ e. (e.it.x == x) && (is_root e.it.root root && (incarnation st (take e.at lines) 1 == i))) (enterings lines)
+has_entered_in st lines x root i =
+    list_any (λ e. (e.it.x == x) && (is_root e.it.root root && (incarnation st (take e.at lines) 1 == i))) (enterings lines)
 
 -- An action of this root may have met the node in this incarnation when it used the object: a copy was active there, or the
 -- node is naming's and the root has entered.

@@ -1,6 +1,7 @@
 -- Why locks are granted, lowered and let go, and why bindings and copies come: the causes of the lines `granted`, `lowered`,
 -- `bound`, `active` and `told`.
-use Rattle.std.specs.Prelude.{ℕ, ◌+◌, List, [], ◌∷◌, length, Bool, true, false, ◌==◌, ◌&&◌, ◌||◌, not, if◌then◌else◌, Option, Some, None, is_none}
+use Rattle.std.specs.Prelude.{ℕ, ◌+◌, List, [], ◌∷◌, length, Bool, true, false, ◌==◌, ◌&&◌, ◌||◌, not, if◌then◌else◌, Option, Some, None}
+use Rattle.std.specs.Prelude.{is_none}
 use Rattle.std.specs.List.{list_any, list_all}
 use Rattle.arj_base.specs.declared.binding.Binding.{Binding}
 use Rattle.arj_base.specs.declared.mode.Mode.{Mode}

@@ -1,5 +1,6 @@
 -- Why a node prepares, ends and restarts as it does, and what the world does: the causes of the other lines.
-use Rattle.std.specs.Prelude.{ℕ, ◌+◌, ◌-◌, List, [], ◌∷◌, filter, length, take, Bool, true, false, ◌==◌, ◌&&◌, ◌||◌, not, nat_lt, if◌then◌else◌, Option, Some, None}
+use Rattle.std.specs.Prelude.{ℕ, ◌+◌, ◌-◌, List, [], ◌∷◌, filter, length, take, Bool, true, false, ◌==◌, ◌&&◌, ◌||◌, not, nat_lt}
+use Rattle.std.specs.Prelude.{if◌then◌else◌, Option, Some, None}
 use Rattle.std.specs.List.{list_any, list_all}
 use Rattle.std.specs.Str.{bytes_eq}
 use Rattle.arj_base.specs.declared.mode.End.{End}
@@ -18,9 +19,11 @@ use Rattle.arj_journal.specs.declared.event.Event.TheVariants as event
 use Rattle.arj_text.specs.Label.{name}
 use Rattle.arj_model.specs.Actions.{Act, acts, path}
 use Rattle.arj_model.specs.Calls.{committings}
-use Rattle.arj_model.specs.Last.{entry_state, excluded, included, is_among, joins_of, last_state, listed, object_line, same_list, servers_of_line}
+use Rattle.arj_model.specs.Last.{entry_state, excluded, included, is_among, joins_of, last_state, listed, object_line, same_list}
+use Rattle.arj_model.specs.Last.{servers_of_line}
 use Rattle.arj_model.specs.Past.{Asked, Past}
-use Rattle.arj_model.specs.Refusals.{frame_no, has_frame, incarnation, is_down, is_first, is_node, is_waiting, last_frame, open_frames, refusal, was_called}
+use Rattle.arj_model.specs.Refusals.{frame_no, has_frame, incarnation, is_down, is_first, is_node, is_waiting, last_frame, open_frames}
+use Rattle.arj_model.specs.Refusals.{refusal, was_called}
 use Rattle.arj_model.specs.Follows.{is_behind_doom, label_doomed}
 use Rattle.arj_model.specs.Outcome.{has_cause_to_abort}
 use Rattle.arj_model.specs.CauseSpans.{Here, act_by, holds_in, is_doomed, is_top_in, nodes_of, same_frame}
@@ -105,11 +108,13 @@ is_always_taken carried = list_any (same_frame carried) (frame.Told ∷ frame.Qu
 
 -- `got`. It was sent to a node that is up, and is a message.
 abbrev pub got_caused : Here → ℕ → Bool
-got_caused h k = delivers h k h.event && frame_is (λ from to carried. not (is_down h.start h.lines to) && not (same_frame carried frame.Junk)) h.lines k
+got_caused h k =
+    delivers h k h.event && frame_is (λ from to carried. not (is_down h.start h.lines to) && not (same_frame carried frame.Junk)) h.lines k
 
 -- `void`. It was sent, and the node is down or the frame one that it needn't take.
 abbrev pub void_caused : Here → ℕ → Bool
-void_caused h k = delivers h k h.event && frame_is (λ from to carried. is_down h.start h.lines to || not (is_always_taken carried)) h.lines k
+void_caused h k =
+    delivers h k h.event && frame_is (λ from to carried. is_down h.start h.lines to || not (is_always_taken carried)) h.lines k
 
 -- the event loses this frame
 abbrev pub loses : Here → ℕ → Event → Bool

@@ -48,7 +48,8 @@ unit_uses lines a x =
 
 -- a surviving write or include of the top, of any object
 abbrev pub changes_any : List Line → ℕ → Bool
-changes_any lines id = list_any (λ c. writes c.op) (surviving lines id) || list_any (λ i. has_some (joins_of lines id i.it.x)) (included lines)
+changes_any lines id =
+    list_any (λ c. writes c.op) (surviving lines id) || list_any (λ i. has_some (joins_of lines id i.it.x)) (included lines)
 
 -- the node may be a store of the object: the header lists it, or an include named it
 abbrev pub may_store : Header → List Line → ℕ → ℕ → Bool

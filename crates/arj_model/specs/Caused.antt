@@ -19,7 +19,8 @@ use Rattle.arj_model.specs.CauseAnswers.{changed_caused, conflict_caused, includ
 use Rattle.arj_model.specs.CauseEnds.{committed_caused, ended_caused, excluded_caused, gaveup_caused, is_commit_of}
 use Rattle.arj_model.specs.CauseCommits.{aborted_caused}
 use Rattle.arj_model.specs.CauseLocks.{active_caused, bound_caused, granted_caused, lowered_caused, told_caused}
-use Rattle.arj_model.specs.CauseNodes.{arms, copy_caused, done_caused, dropped_caused, entry_caused, got_caused, may_halt, prepared_caused, quiet_caused, recovered_caused, refused_caused, sent_caused, up_caused, void_caused}
+use Rattle.arj_model.specs.CauseNodes.{arms, copy_caused, done_caused, dropped_caused, entry_caused, got_caused, may_halt, prepared_caused}
+use Rattle.arj_model.specs.CauseNodes.{quiet_caused, recovered_caused, refused_caused, sent_caused, up_caused, void_caused}
 
 -- the event begins an action with this label
 abbrev pub begins_action : List ℕ → Event → Bool

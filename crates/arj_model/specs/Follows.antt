@@ -1,6 +1,7 @@
 -- What it is for a journal to follow the events of a script: a refused event has the one line that says so, and an
 -- accepted one its own lines and between them those that may stand there, each answer to what was asked.
-use Rattle.std.specs.Prelude.{◌≡◌, ◌⊎◌, ℕ, ◌+◌, List, [], ◌∷◌, ◌++◌, length, Bool, true, false, Option, Some, None, is_some, nat_lt, MatchOption, ⊤}
+use Rattle.std.specs.Prelude.{◌≡◌, ◌⊎◌, ℕ, ◌+◌, List, [], ◌∷◌, ◌++◌, length, Bool, true, false, Option, Some, None, is_some, nat_lt}
+use Rattle.std.specs.Prelude.{MatchOption, ⊤}
 use Rattle.std.specs.List.{list_all, list_any}
 use Rattle.arj_class.specs.declared.op.Op.{Op}
 use Rattle.arj_class.specs.declared.value.Value.{Value}
@@ -122,7 +123,8 @@ AreEnding n _ = ⊥
 -- The journal is that of a run over these events, which began with this, and at each of which this holds. Behind the events
 -- stands at most one line outside them.
 abbrev pub Runs : (Past → Event → List Body → Type 0) → Start → List Event → List Line → Type 0
-Runs P st es lines = (end : Past) × (ending : List Line) × Along P (at_start st) es end × (lines ≡ end.lines ++ ending) × AreEnding (length es) ending
+Runs P st es lines =
+    (end : Past) × (ending : List Line) × Along P (at_start st) es end × (lines ≡ end.lines ++ ending) × AreEnding (length es) ending
 
 -- The journal follows the events, of a run that began with this.
 abbrev pub Follows : Header → Start → List Event → List Line → Type 0

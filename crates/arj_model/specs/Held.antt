@@ -39,7 +39,8 @@ holder_root row = first_of row.holder
 
 -- the row locks the call's object for its root, in a mode that the call needs
 abbrev pub locks_for : List Line → Call → Row → Bool
-locks_for lines c row = uid_eq row.object (object c.x) && (uid_eq (holder_root row) (root_uid lines c) && (if writes c.op then is_write row.mode else true))
+locks_for lines c row =
+    uid_eq row.object (object c.x) && (uid_eq (holder_root row) (root_uid lines c) && (if writes c.op then is_write row.mode else true))
 
 -- From its `ok` line to the `committing` line of the last member of its unit a call is locked for at this node.
 pub record IsHeldAt (lines : List Line) (tables : Tables) (n : ℕ) (c : Call) : Type 0 where
@@ -53,7 +54,8 @@ AreHeld lines tables node = AllByRecursion (λ c. IsHeldAt lines tables (node c)
 -- calls of one object and of different units, the second of which was answered while the first was held, are held at one
 -- node
 abbrev pub AreAtOneNode : List Line → (Call → ℕ) → Call → Call → Type 0
-AreAtOneNode lines node c d = (root_of_call lines c == root_of_call lines d) ≡ false → c.x ≡ d.x → c.at < d.at → d.at < unit_end lines c → node c ≡ node d
+AreAtOneNode lines node c d =
+    (root_of_call lines c == root_of_call lines d) ≡ false → c.x ≡ d.x → c.at < d.at → d.at < unit_end lines c → node c ≡ node d
 
 -- the lock tables that the journal shows
 abbrev pub tables_of : List Line → Tables

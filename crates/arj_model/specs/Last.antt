@@ -1,6 +1,7 @@
 -- What stands at the end of a journal: the last state of each object, the stores that are listed for it, and its
 -- naming entry.
-use Rattle.std.specs.Prelude.{ℕ, ◌+◌, List, [], ◌∷◌, ◌++◌, length, map, filter, find, Bool, true, false, ◌==◌, ◌&&◌, not, nat_lt, if◌then◌else◌, Option, Some, None}
+use Rattle.std.specs.Prelude.{ℕ, ◌+◌, List, [], ◌∷◌, ◌++◌, length, map, filter, find, Bool, true, false, ◌==◌, ◌&&◌, not, nat_lt}
+use Rattle.std.specs.Prelude.{if◌then◌else◌, Option, Some, None}
 use Rattle.std.specs.List.{list_any, list_all, filter_map}
 use Rattle.arj_base.specs.declared.uid.Uid.{Uid}
 use Rattle.arj_base.specs.declared.state.Class.TheVariants as class

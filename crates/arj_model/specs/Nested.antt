@@ -30,7 +30,9 @@ nested_calls lines = arrange (nested_less (committed lines)) (serial_calls lines
 -- of two conflicting calls of one top, each action below it that the first was made in and the second wasn't was
 -- committed before the second was answered
 abbrev pub IsFreedFor : List (Placed ℕ) → Call → Call → Type 0
-IsFreedFor ends c d = c.at < d.at → (c.top == d.top) ≡ true → is_conflict c d ≡ true → AllByRecursion (λ a. is_among d.chain a ≡ false → commit_place ends a < d.at) c.chain
+IsFreedFor ends c d =
+    c.at < d.at → (c.top == d.top) ≡ true → is_conflict c d ≡ true →
+    AllByRecursion (λ a. is_among d.chain a ≡ false → commit_place ends a < d.at) c.chain
 
 -- Nested order: so each two surviving calls of committed tops.
 abbrev pub FreedInOrder : List Line → Type 0

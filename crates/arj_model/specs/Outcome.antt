@@ -48,7 +48,8 @@ is_top_of u (Some a) = uid_eq a.uid u
 
 -- the node has halted since the top's commit was called
 abbrev pub has_halted_since : List Line → ℕ → Uid → Bool
-has_halted_since lines n u = list_any (λ m. is_top_of u (top_in m.it) && list_any (λ h. (h.it.node == n) && nat_lt m.at h.at) (halts lines)) (committings lines)
+has_halted_since lines n u =
+    list_any (λ m. is_top_of u (top_in m.it) && list_any (λ h. (h.it.node == n) && nat_lt m.at h.at) (halts lines)) (committings lines)
 
 -- A store, or naming, may abort what it prepared for a decided top only where it has committed it before, the top's commit excluded the node,
 -- or the node has halted since that commit was called.

@@ -1,5 +1,6 @@
 -- Which events are refused: the nodes that are up, the actions that wait, and the causes by number.
-use Rattle.std.specs.Prelude.{ℕ, ◌+◌, List, [], ◌∷◌, ◌++◌, length, filter, Bool, true, false, ◌==◌, ◌&&◌, ◌||◌, not, nat_lt, nat_le, if◌then◌else◌, Option, Some, None, is_some, is_none, Result, Ok, Err}
+use Rattle.std.specs.Prelude.{ℕ, ◌+◌, List, [], ◌∷◌, ◌++◌, length, filter, Bool, true, false, ◌==◌, ◌&&◌, ◌||◌, not, nat_lt, nat_le}
+use Rattle.std.specs.Prelude.{if◌then◌else◌, Option, Some, None, is_some, is_none, Result, Ok, Err}
 use Rattle.std.specs.List.{list_any}
 use Rattle.std.specs.Option.{option_map}
 use Rattle.std.specs.Str.{bytes_eq}
@@ -121,7 +122,8 @@ answers_to lines l = filter (λ line. is_answer_to l line.body) lines
 
 -- the accepted call or include of the action that isn't answered yet
 abbrev pub unanswered : List Asked → List Line → List ℕ → Option Asked
-unanswered accepted lines l = if nat_lt (length (answers_to lines l)) (length (asks_by accepted l)) then last_asked (asks_by accepted l) else None
+unanswered accepted lines l =
+    if nat_lt (length (answers_to lines l)) (length (asks_by accepted l)) then last_asked (asks_by accepted l) else None
 
 -- what it asks
 abbrev pub pending : List Asked → List Line → List ℕ → Option Event
@@ -154,7 +156,8 @@ waits_above past l = list_any (λ a. is_waiting past a.label) (path (acts past.l
 
 -- the action or one with it on its path waits
 abbrev pub waits_below : Past → List ℕ → Bool
-waits_below past l = list_any (λ a. list_any (λ b. bytes_eq b.label l) (path (acts past.lines) a.label) && is_waiting past a.label) (acts past.lines)
+waits_below past l =
+    list_any (λ a. list_any (λ b. bytes_eq b.label l) (path (acts past.lines) a.label) && is_waiting past a.label) (acts past.lines)
 
 -- the same, or one with it on its path: what a call, an include, a commit and an abort must not meet
 abbrev pub waits_near : Past → List ℕ → Bool
@@ -304,7 +307,8 @@ asks_known past l rest = (5, not (is_known past l)) ∷ (6, was_given past.start
 -- 12, doomed, is told apart.
 abbrev pub causes : Header → Past → Event → List (ℕ × Bool)
 causes header past (event.Begin l n) = (1, not (is_node header n)) ∷ (2, is_down past.start past.lines n) ∷ (4, is_known past (name l)) ∷ []
-causes header past (event.Serial l n) = (1, not (is_node header n)) ∷ (2, is_down past.start past.lines n) ∷ (4, is_known past (name l)) ∷ []
+causes header past (event.Serial l n) =
+    (1, not (is_node header n)) ∷ (2, is_down past.start past.lines n) ∷ (4, is_known past (name l)) ∷ []
 causes header past (event.BeginIn l p) =
     (4, is_known past (name l))
     ∷ asks_known past (name p) ((7, waits_above past (name p)) ∷ (15, is_deep past.lines (name p)) ∷ (16, has_all_actions past.lines (name p)) ∷ [])

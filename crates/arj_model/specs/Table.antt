@@ -44,7 +44,8 @@ tell_rows p u Abort rows = filter (λ row. not (is_in_part p row && is_on row.ho
 -- The table of node n after a line of this event. `acts` has the actions begun before the line, and `up` the event of
 -- the node's last `up` line: what is granted in that event the restart gave back.
 abbrev pub table_step : ℕ → List Act → ℕ → ℕ → Body → List Row → List Row
-table_step n acts up event (body.Granted m u o mode) rows = if m == n then grant_row (granted_row (event == up) acts u o mode) rows else rows
+table_step n acts up event (body.Granted m u o mode) rows =
+    if m == n then grant_row (granted_row (event == up) acts u o mode) rows else rows
 table_step n acts up event (body.Lowered m u o) rows = if m == n then lower_row u o rows else rows
 table_step n acts up event (body.Active m x b) rows = if m == n then close_rows (object x) rows else rows
 table_step n acts up event (body.Told m u end p) rows = if m == n then tell_rows p u end rows else rows

@@ -1,5 +1,6 @@
 -- What decoding gives: the message, or the place of the fault.
-use Rattle.std.proofs.Common.{◌≡◌, ◌≢◌, ℕ, ◌-◌, ◌<◌, ◌≤◌, zero, suc, List, [], ◌∷◌, ◌++◌, length, take, Result, Ok, Err, sym, ap, subst, refl, ◌∙◌, arith}
+use Rattle.std.proofs.Common.{◌≡◌, ◌≢◌, ℕ, ◌-◌, ◌<◌, ◌≤◌, zero, suc, List, [], ◌∷◌, ◌++◌, length, take, Result, Ok, Err, sym, ap, subst}
+use Rattle.std.proofs.Common.{refl, ◌∙◌, arith}
 use Rattle.std.specs.List.{concat}
 use Rattle.std.proofs.lemmas.List.{append-nil, length-append, nil_from_length}
 use Rattle.arj_msg.specs.declared.message.Message.{Message}
@@ -32,12 +33,14 @@ all_taken (f ∷ fs) = ap (λ gs. f ∷ gs) (all_taken fs)
 front_most : (m : Message) → MessageInForm m → (k : ℕ) → length (front m k) < 4294967296
 front_most m fits k = omega (arith, short_front (message_fields m) k, ap length (message_lawful.whole m fits), message_most.most m fits)
 
-further : (bytes : List ℕ) (left : ℕ) (r : Read) → IsBytes bytes → message.read bytes ≡ r → left_of r ≡ left → (m : Message) (k : ℕ) (more : List ℕ) → MessageInForm m → bytes ≡ front m k ++ more → length (front m k) ≤ length bytes - left
+further : (bytes : List ℕ) (left : ℕ) (r : Read) → IsBytes bytes → message.read bytes ≡ r → left_of r ≡ left →
+    (m : Message) (k : ℕ) (more : List ℕ) → MessageInForm m → bytes ≡ front m k ++ more → length (front m k) ≤ length bytes - left
 further bytes left r are read is m k more fits parts =
     omega (arith, message_lawful.furthest bytes m (front m k) more are fits (k, refl) parts, ap left_of read, is, ap length parts, length-append (front m k) more)
 
 -- a field isn't there
-pub stopped : (bytes : List ℕ) (left : ℕ) → IsBytes bytes → message.read bytes ≡ Err left → (left ≤ length bytes) × (length bytes - left < 4294967296) × IsFaultAt bytes (length bytes - left)
+pub stopped : (bytes : List ℕ) (left : ℕ) → IsBytes bytes → message.read bytes ≡ Err left →
+    (left ≤ length bytes) × (length bytes - left < 4294967296) × IsFaultAt bytes (length bytes - left)
 stopped bytes left are read =
     let at = message_lawful.stops bytes left are read in
     let parts : bytes ≡ front at.value at.is_front.0 ++ at.rest = at.parts ∙ ap (λ xs. xs ++ at.rest) at.is_front.1 in
@@ -82,13 +85,15 @@ followed bytes m rest are read some =
     )
 
 -- nothing follows it
-pub decoded : (bytes : List ℕ) (m : Message) (rest : List ℕ) → IsBytes bytes → message.read bytes ≡ Ok (m, rest) → length rest ≡ 0 → MessageInForm m × (message_bytes m ≡ bytes)
+pub decoded : (bytes : List ℕ) (m : Message) (rest : List ℕ) → IsBytes bytes → message.read bytes ≡ Ok (m, rest) → length rest ≡ 0 →
+    MessageInForm m × (message_bytes m ≡ bytes)
 decoded bytes m rest are read none =
     let got = message_lawful.found bytes m rest are read in
     (got.0, sym (got.1 ∙ ap (λ xs. message_bytes m ++ xs) (nil_from_length rest none) ∙ append-nil (message_bytes m)))
 
 -- a message that is spelled so is the one that is read
-pub only_one : (bytes : List ℕ) (m : Message) (rest : List ℕ) → message.read bytes ≡ Ok (m, rest) → (w : Message) → MessageInForm w → message_bytes w ≡ bytes → m ≡ w
+pub only_one : (bytes : List ℕ) (m : Message) (rest : List ℕ) → message.read bytes ≡ Ok (m, rest) → (w : Message) → MessageInForm w →
+    message_bytes w ≡ bytes → m ≡ w
 only_one bytes m rest read w fits is = let same : Ok (m, rest) ≡ Ok (w, []) = sym read ∙ read_as bytes w fits is in subst Is same refl
   where
     Is : Read → Type 0

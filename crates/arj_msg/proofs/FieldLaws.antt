@@ -1,11 +1,14 @@
 -- The laws of the fields.
-use Rattle.std.proofs.Common.{◌≡◌, ℕ, ◌+◌, ◌<◌, ◌≤◌, zero, suc, List, [], ◌∷◌, ◌++◌, length, take, drop, Some, None, Option, Result, Ok, Err, sym, ap, subst, refl, ◌∙◌, arith, Bool, true, false, ◌==◌, nat_lt, if◌then◌else◌, inl, inr}
+use Rattle.std.proofs.Common.{◌≡◌, ℕ, ◌+◌, ◌<◌, ◌≤◌, zero, suc, List, [], ◌∷◌, ◌++◌, length, take, drop, Some, None, Option, Result, Ok}
+use Rattle.std.proofs.Common.{Err, sym, ap, subst, refl, ◌∙◌, arith, Bool, true, false, ◌==◌, nat_lt, if◌then◌else◌, inl, inr}
 use Rattle.std.specs.List.{concat}
 use Rattle.std.specs.Int.{w16, w32, w64, from_be_bytes}
 use Rattle.std.proofs.lemmas.Bool.{cases_lt, ltb-false, le-ltb}
 use Rattle.std.proofs.lemmas.Bool.Decides.{nat_tests}
-use Rattle.std.proofs.lemmas.List.{take_at, drop_at, take-append-drop, drop-drop, length-append, length-take, length-drop, get_or-drop, get_or-take, get_or_past}
-use Rattle.std.proofs.lemmas.Nat.{be_bytes_2, be_bytes_4, be_bytes_8, from_be_bytes-to_be_bytes_2, from_be_bytes-to_be_bytes_4, from_be_bytes-to_be_bytes_8}
+use Rattle.std.proofs.lemmas.List.{take_at, drop_at, take-append-drop, drop-drop, length-append, length-take, length-drop, get_or-drop}
+use Rattle.std.proofs.lemmas.List.{get_or-take, get_or_past}
+use Rattle.std.proofs.lemmas.Nat.{be_bytes_2, be_bytes_4, be_bytes_8, from_be_bytes-to_be_bytes_2, from_be_bytes-to_be_bytes_4}
+use Rattle.std.proofs.lemmas.Nat.{from_be_bytes-to_be_bytes_8}
 use Rattle.byteorder.specs.Endian.{big_bytes}
 use Rattle.arj_base.specs.declared.uid.Uid.{Uid}
 use Rattle.arj_base.specs.declared.binding.Binding.{Binding}
@@ -16,7 +19,8 @@ use Rattle.arj_base.specs.declared.mode.End.TheVariants.{Abort, Commit}
 use Rattle.arj_base.specs.Mode.{mode_code}
 use Rattle.arj_base.specs.Uid.{uid_bytes, UidFits, nobody}
 use Rattle.arj_msg.specs.Format.{Format, one_field, between, cut_byte, byte, both, many, list, nothing}
-use Rattle.arj_msg.specs.Fields.{cut_fixed, node, object, number2, number4, number8, binding, binding_bytes, binding_from, BindingFits, uid, uid_from, flag, flag_code, mode, mode_from, outcome, end_from, end_code, ends, long_list}
+use Rattle.arj_msg.specs.Fields.{cut_fixed, node, object, number2, number4, number8, binding, binding_bytes, binding_from, BindingFits, uid}
+use Rattle.arj_msg.specs.Fields.{uid_from, flag, flag_code, mode, mode_from, outcome, end_from, end_code, ends, long_list}
 use Rattle.arj_msg.proofs.Laws.{IsBytes, Lawful, field_lawful, chain_lawful, shaped_lawful, many_lawful}
 
 -- what a test that gave a value says
@@ -46,7 +50,8 @@ le_between low high n above below = grind (arith, nat_tests)
 
 -- ---- one byte
 
-byte_found : (low high : ℕ) (bytes : List ℕ) (a : ℕ) (rest : List ℕ) → IsBytes bytes → cut_byte low high bytes ≡ Some (a, rest) → (between low high a ≡ true) × (bytes ≡ (a ∷ []) ++ rest)
+byte_found : (low high : ℕ) (bytes : List ℕ) (a : ℕ) (rest : List ℕ) → IsBytes bytes → cut_byte low high bytes ≡ Some (a, rest) →
+    (between low high a ≡ true) × (bytes ≡ (a ∷ []) ++ rest)
 byte_found low high [] a rest are e = absurd cc
 byte_found low high (b ∷ bytes) a rest are e =
     let found = if_some (between low high b) (b, bytes) (a, rest) e in
@@ -58,14 +63,19 @@ byte_again low high a rest fits = ap (λ t. if t then Some (a, rest) else None) 
 
 pub byte_lawful : (low high : ℕ) → low ≤ high → Lawful (byte low high)
 unfolding byte
-byte_lawful low high le = field_lawful (λ n. n ∷ []) (λ n. between low high n ≡ true) (cut_byte low high) (byte_found low high) (byte_again low high) (low, le_between low high low (omega arith) le)
+byte_lawful low high le =
+    field_lawful (λ n. n ∷ []) (λ n. between low high n ≡ true) (cut_byte low high) (byte_found low high) (byte_again low high) (low, le_between low high low (omega arith) le)
 
 -- ---- fields of a fixed number of bytes
 
-module _ {A : Type 0} (n : ℕ) (value : List ℕ → A) (spell : A → List ℕ) (allowed : A → Bool) (Fits : A → Type 0) (long : (a : A) → length (spell a) ≡ n)
-    (back : (bytes : List ℕ) → length bytes ≡ n → IsBytes bytes → spell (value bytes) ≡ bytes) (again : (a : A) → Fits a → value (spell a) ≡ a) (good : (a : A) → Fits a → allowed a ≡ true)
-    (fits_in : (bytes : List ℕ) → length bytes ≡ n → IsBytes bytes → allowed (value bytes) ≡ true → Fits (value bytes)) (one : (a : A) × Fits a) where
-  fixed_found : (bytes : List ℕ) (a : A) (rest : List ℕ) → IsBytes bytes → cut_fixed n value allowed bytes ≡ Some (a, rest) → Fits a × (bytes ≡ spell a ++ rest)
+module _ {A : Type 0} (n : ℕ) (value : List ℕ → A) (spell : A → List ℕ) (allowed : A → Bool) (Fits : A → Type 0) (long : (a : A) →
+    length (spell a) ≡ n)
+    (back : (bytes : List ℕ) → length bytes ≡ n → IsBytes bytes → spell (value bytes) ≡ bytes) (again : (a : A) → Fits a →
+    value (spell a) ≡ a) (good : (a : A) → Fits a → allowed a ≡ true)
+    (fits_in : (bytes : List ℕ) → length bytes ≡ n → IsBytes bytes → allowed (value bytes) ≡ true →
+    Fits (value bytes)) (one : (a : A) × Fits a) where
+  fixed_found : (bytes : List ℕ) (a : A) (rest : List ℕ) → IsBytes bytes → cut_fixed n value allowed bytes ≡ Some (a, rest) →
+      Fits a × (bytes ≡ spell a ++ rest)
   fixed_found bytes a rest are e =
       let enough = else_some (nat_lt (length bytes) n) (if allowed (value (take n bytes)) then Some (value (take n bytes), drop n bytes) else None) (a, rest) e in
       let found = if_some (allowed (value (take n bytes))) (value (take n bytes), drop n bytes) (a, rest) enough.1 in
@@ -110,27 +120,32 @@ node_lawful = byte_lawful 1 16 (omega arith)
 
 pub object_lawful : Lawful object
 unfolding object
-object_lawful = fixed_lawful 2 (from_be_bytes w16) (big_bytes 2) (between 1 256) (λ x. between 1 256 x ≡ true) (λ x. refl) back_2 (λ x fits. from_be_bytes-to_be_bytes_2 x (omega (arith, (between_le 1 256 x fits).1))) (λ x fits. fits)
+object_lawful =
+    fixed_lawful 2 (from_be_bytes w16) (big_bytes 2) (between 1 256) (λ x. between 1 256 x ≡ true) (λ x. refl) back_2 (λ x fits. from_be_bytes-to_be_bytes_2 x (omega (arith, (between_le 1 256 x fits).1))) (λ x fits. fits)
     (λ bytes size are good. good) (1, refl)
 
 pub number2_lawful : Lawful number2
 unfolding number2
-number2_lawful = fixed_lawful 2 (from_be_bytes w16) (big_bytes 2) (λ _. true) (λ n. n < 65536) (λ n. refl) back_2 (λ n fits. from_be_bytes-to_be_bytes_2 n fits) (λ n fits. refl) (λ bytes size are good. below_2 bytes are) (0, omega arith)
+number2_lawful =
+    fixed_lawful 2 (from_be_bytes w16) (big_bytes 2) (λ _. true) (λ n. n < 65536) (λ n. refl) back_2 (λ n fits. from_be_bytes-to_be_bytes_2 n fits) (λ n fits. refl) (λ bytes size are good. below_2 bytes are) (0, omega arith)
 
 pub number4_lawful : Lawful number4
 unfolding number4
-number4_lawful = fixed_lawful 4 (from_be_bytes w32) (big_bytes 4) (λ _. true) (λ n. n < 4294967296) (λ n. refl) back_4 (λ n fits. from_be_bytes-to_be_bytes_4 n fits) (λ n fits. refl) (λ bytes size are good. below_4 bytes are) (0, omega arith)
+number4_lawful =
+    fixed_lawful 4 (from_be_bytes w32) (big_bytes 4) (λ _. true) (λ n. n < 4294967296) (λ n. refl) back_4 (λ n fits. from_be_bytes-to_be_bytes_4 n fits) (λ n fits. refl) (λ bytes size are good. below_4 bytes are) (0, omega arith)
 
 pub number8_lawful : Lawful number8
 unfolding number8
-number8_lawful = fixed_lawful 8 (from_be_bytes w64) (big_bytes 8) (λ _. true) (λ n. n < 18446744073709551616) (λ n. refl) back_8 (λ n fits. from_be_bytes-to_be_bytes_8 n fits) (λ n fits. refl) (λ bytes size are good. below_8 bytes are) (0, omega arith)
+number8_lawful =
+    fixed_lawful 8 (from_be_bytes w64) (big_bytes 8) (λ _. true) (λ n. n < 18446744073709551616) (λ n. refl) back_8 (λ n fits. from_be_bytes-to_be_bytes_8 n fits) (λ n fits. refl) (λ bytes size are good. below_8 bytes are) (0, omega arith)
 
 binding_back : (bytes : List ℕ) → length bytes ≡ 8 → IsBytes bytes → binding_bytes (binding_from bytes) ≡ bytes
 binding_back bytes size are =
     (λ i. back_4 (take 4 bytes) (omega (arith, length-take 4 bytes)) (bytes_take 4 bytes are) i ++ back_4 (drop 4 bytes) (omega (arith, length-drop 4 bytes)) (bytes_drop 4 bytes are) i) ∙ take-append-drop 4 bytes
 
 binding_again : (b : Binding) → BindingFits b → binding_from (binding_bytes b) ≡ b
-binding_again b fits = λ i. record { inc = from_be_bytes-to_be_bytes_4 b.inc fits.0 i; count = from_be_bytes-to_be_bytes_4 b.count fits.1 i }
+binding_again b fits =
+    λ i. record { inc = from_be_bytes-to_be_bytes_4 b.inc fits.0 i; count = from_be_bytes-to_be_bytes_4 b.count fits.1 i }
 
 pub binding_lawful : Lawful binding
 unfolding binding
@@ -142,11 +157,18 @@ uid_back bytes size are =
     let node = back_4 (take 4 bytes) (omega (arith, length-take 4 bytes)) (bytes_take 4 bytes are) in
     let inc = back_4 (take 4 (drop 4 bytes)) (omega (arith, length-take 4 (drop 4 bytes), length-drop 4 bytes)) (bytes_take 4 (drop 4 bytes) (bytes_drop 4 bytes are)) in
     let num = back_8 (drop 8 bytes) (omega (arith, length-drop 8 bytes)) (bytes_drop 8 bytes are) in
-    let second : take 4 (drop 4 bytes) ++ drop 8 bytes ≡ drop 4 bytes = ap (λ xs. take 4 (drop 4 bytes) ++ xs) (sym (drop-drop 4 4 bytes)) ∙ take-append-drop 4 (drop 4 bytes) in
+    let second : take 4 (drop 4 bytes) ++ drop 8 bytes ≡ drop 4 bytes =
+    ap (λ xs. take 4 (drop 4 bytes) ++ xs) (sym (drop-drop 4 4 bytes)) ∙ take-append-drop 4 (drop 4 bytes) in
     (λ i. node i ++ (inc i ++ num i)) ∙ ap (λ xs. take 4 bytes ++ xs) second ∙ take-append-drop 4 bytes
 
 uid_again : (u : Uid) → UidFits u → uid_from (uid_bytes u) ≡ u
-uid_again u fits = λ i. record { node = from_be_bytes-to_be_bytes_4 u.node fits.0 i; inc = from_be_bytes-to_be_bytes_4 u.inc fits.1 i; num = from_be_bytes-to_be_bytes_8 u.num fits.2 i }
+uid_again u fits =
+    λ i. record {
+      node = from_be_bytes-to_be_bytes_4 u.node fits.0 i;
+      inc = from_be_bytes-to_be_bytes_4 u.inc fits.1 i;
+      num =
+          from_be_bytes-to_be_bytes_8 u.num fits.2 i;
+    }
 
 pub uid_lawful : Lawful uid
 unfolding uid
@@ -172,7 +194,8 @@ each_to P (suc last) all n le =
 
 pub flag_lawful : Lawful flag
 unfolding flag byte
-flag_lawful = shaped_lawful _ _ (byte_lawful 0 1 (omega arith)) (λ code fits. each_to (λ n. flag_code (n == 1) ≡ n) 1 (refl, refl) code (between_le 0 1 code fits).1) flag_back
+flag_lawful =
+    shaped_lawful _ _ (byte_lawful 0 1 (omega arith)) (λ code fits. each_to (λ n. flag_code (n == 1) ≡ n) 1 (refl, refl) code (between_le 0 1 code fits).1) flag_back
   where
     flag_back : (b : Bool) → (byte 0 1).Fits (flag_code b) → (flag_code b == 1) ≡ b
     flag_back true fits = refl
@@ -180,7 +203,8 @@ flag_lawful = shaped_lawful _ _ (byte_lawful 0 1 (omega arith)) (λ code fits. e
 
 pub mode_lawful : Lawful mode
 unfolding mode byte
-mode_lawful = shaped_lawful _ _ (byte_lawful 0 2 (omega arith)) (λ code fits. each_to (λ n. mode_code (mode_from n) ≡ n) 2 (refl, (refl, refl)) code (between_le 0 2 code fits).1) mode_back
+mode_lawful =
+    shaped_lawful _ _ (byte_lawful 0 2 (omega arith)) (λ code fits. each_to (λ n. mode_code (mode_from n) ≡ n) 2 (refl, (refl, refl)) code (between_le 0 2 code fits).1) mode_back
   where
     mode_back : (m : Mode) → (byte 0 2).Fits (mode_code m) → mode_from (mode_code m) ≡ m
     mode_back Read fits = refl
@@ -189,7 +213,8 @@ mode_lawful = shaped_lawful _ _ (byte_lawful 0 2 (omega arith)) (λ code fits. e
 
 pub outcome_lawful : Lawful outcome
 unfolding outcome byte
-outcome_lawful = shaped_lawful _ _ (byte_lawful 0 1 (omega arith)) (λ code fits. each_to (λ n. end_code (end_from n) ≡ n) 1 (refl, refl) code (between_le 0 1 code fits).1) end_back
+outcome_lawful =
+    shaped_lawful _ _ (byte_lawful 0 1 (omega arith)) (λ code fits. each_to (λ n. end_code (end_from n) ≡ n) 1 (refl, refl) code (between_le 0 1 code fits).1) end_back
   where
     end_back : (e : End) → (byte 0 1).Fits (end_code e) → end_from (end_code e) ≡ e
     end_back Abort fits = refl
@@ -201,11 +226,13 @@ pub both_lawful : {A B : Type 0} {f : Format A} {g : Format B} → Lawful f → 
 both_lawful {f = f} {g = g} law_f law_g = chain_lawful f (λ _. g) law_f (λ _ _. law_g)
 
 pub list_lawful : {A : Type 0} {f : Format A} → Lawful f → Lawful (list f)
-list_lawful {f = f} law = shaped_lawful _ _ (chain_lawful (byte 0 255) (many f) (byte_lawful 0 255 (omega arith)) (λ n _. many_lawful f law n))
+list_lawful {f = f} law =
+    shaped_lawful _ _ (chain_lawful (byte 0 255) (many f) (byte_lawful 0 255 (omega arith)) (λ n _. many_lawful f law n))
     (λ p fits. λ i. (fits.1.0 i, p.1)) (λ items fits. refl)
 
 pub long_list_lawful : {A : Type 0} {f : Format A} → Lawful f → Lawful (long_list f)
-long_list_lawful {f = f} law = shaped_lawful _ _ (chain_lawful number2 (many f) number2_lawful (λ n _. many_lawful f law n)) (λ p fits. λ i. (fits.1.0 i, p.1))
+long_list_lawful {f = f} law =
+    shaped_lawful _ _ (chain_lawful number2 (many f) number2_lawful (λ n _. many_lawful f law n)) (λ p fits. λ i. (fits.1.0 i, p.1))
     (λ items fits. refl)
 
 pub ends_lawful : Lawful ends

@@ -19,15 +19,19 @@ use Rattle.arj_class.specs.declared.op.Op.TheVariants as op
 use Rattle.arj_class.specs.declared.op.Answer.{Answer}
 use Rattle.arj_class.specs.declared.op.Answer.TheVariants as answered
 use Rattle.arj_msg.specs.Format.{Format, between, byte, both, list, nothing}
-use Rattle.arj_msg.specs.Fields.{node, object, number2, number4, number8, uid, binding, flag, mode as mode_form, outcome, ends, long_list, BindingFits}
+use Rattle.arj_msg.specs.Fields.{node, object, number2, number4, number8, uid, binding, flag, mode as mode_form, outcome, ends, long_list}
+use Rattle.arj_msg.specs.Fields.{BindingFits}
 use Rattle.arj_msg.specs.State.{state}
 use Rattle.arj_msg.specs.Head.{path, head, asked}
 use Rattle.arj_msg.specs.Operation.{operation, answer, text}
 use Rattle.arj_msg.specs.Requests as ask
 use Rattle.arj_msg.specs.Answers as tell
-use Rattle.arj_msg.specs.Replies.{changed, bound_reply, loaded_reply, recorded_reply, invoked_reply, voted_reply, prepared_reply, confirmed_reply}
+use Rattle.arj_msg.specs.Replies.{changed, bound_reply, loaded_reply, recorded_reply, invoked_reply, voted_reply, prepared_reply}
+use Rattle.arj_msg.specs.Replies.{confirmed_reply}
 use Rattle.arj_msg.specs.Layout.{message, MessageInForm, told, acked, query, hello}
-use Rattle.arj_msg.specs.InForm.{IsNode, IsObject, IsShort, IsLong, AreFew, AreMany, HeadFits, AskedFits, EndsFit, StateFits, OpFits, AnswerFits, WhatFits, BoundFits, LoadedFits, RecordedFits, InvokedFits, VotedFits, PreparedFits, ConfirmedFits, IsInForm}
+use Rattle.arj_msg.specs.InForm.{IsNode, IsObject, IsShort, IsLong, AreFew, AreMany, HeadFits, AskedFits, EndsFit, StateFits, OpFits}
+use Rattle.arj_msg.specs.InForm.{AnswerFits, WhatFits, BoundFits, LoadedFits, RecordedFits, InvokedFits, VotedFits, PreparedFits}
+use Rattle.arj_msg.specs.InForm.{ConfirmedFits, IsInForm}
 use Rattle.arj_msg.specs.declared.message.Head.{Head}
 use Rattle.arj_msg.specs.declared.message.Asked.{Asked}
 use Rattle.arj_msg.specs.declared.message.Message.{Message}
@@ -71,18 +75,24 @@ flat4 : {A B C D P Q R S : Type 0} → A ↔ P → B ↔ Q → C ↔ R → D ↔
 flat4 a b c d = (λ h. (a.0 h.0, b.0 h.1.0, c.0 h.1.1.0, d.0 h.1.1.1), λ h. (a.1 h.0, (b.1 h.1, (c.1 h.2, d.1 h.3))))
 
 flat5 : {A B C D E P Q R S T : Type 0} → A ↔ P → B ↔ Q → C ↔ R → D ↔ S → E ↔ T → (A × (B × (C × (D × E)))) ↔ (P × Q × R × S × T)
-flat5 a b c d e = (λ h. (a.0 h.0, b.0 h.1.0, c.0 h.1.1.0, d.0 h.1.1.1.0, e.0 h.1.1.1.1), λ h. (a.1 h.0, (b.1 h.1, (c.1 h.2, (d.1 h.3, e.1 h.4)))))
+flat5 a b c d e =
+    (λ h. (a.0 h.0, b.0 h.1.0, c.0 h.1.1.0, d.0 h.1.1.1.0, e.0 h.1.1.1.1), λ h. (a.1 h.0, (b.1 h.1, (c.1 h.2, (d.1 h.3, e.1 h.4)))))
 
-flat6 : {A B C D E F P Q R S T U : Type 0} → A ↔ P → B ↔ Q → C ↔ R → D ↔ S → E ↔ T → F ↔ U → (A × (B × (C × (D × (E × F))))) ↔ (P × Q × R × S × T × U)
-flat6 a b c d e f = (λ h. (a.0 h.0, b.0 h.1.0, c.0 h.1.1.0, d.0 h.1.1.1.0, e.0 h.1.1.1.1.0, f.0 h.1.1.1.1.1), λ h. (a.1 h.0, (b.1 h.1, (c.1 h.2, (d.1 h.3, (e.1 h.4, f.1 h.5))))))
+flat6 : {A B C D E F P Q R S T U : Type 0} → A ↔ P → B ↔ Q → C ↔ R → D ↔ S → E ↔ T → F ↔ U →
+    (A × (B × (C × (D × (E × F))))) ↔ (P × Q × R × S × T × U)
+flat6 a b c d e f =
+    (λ h. (a.0 h.0, b.0 h.1.0, c.0 h.1.1.0, d.0 h.1.1.1.0, e.0 h.1.1.1.1.0, f.0 h.1.1.1.1.1), λ h. (a.1 h.0, (b.1 h.1, (c.1 h.2, (d.1 h.3, (e.1 h.4, f.1 h.5))))))
 
 both_hold : (a b : Bool) → a ≡ true → b ≡ true → (a && b) ≡ true
 both_hold true b x y = y
 both_hold false b x y = x
 
 within : (low high n : ℕ) → (between low high n ≡ true) ↔ ((low ≤ n) × (n ≤ high))
-within low high n =
-    (λ h. let p = and_parts (nat_le low n) (nat_le n high) h in (leb-true low n p.0, leb-true n high p.1), λ h. both_hold (nat_le low n) (nat_le n high) (le-leb low n h.0) (le-leb n high h.1))
+within low high n = (
+  λ h. let p =
+      and_parts (nat_le low n) (nat_le n high) h in (leb-true low n p.0, leb-true n high p.1),
+  λ h. both_hold (nat_le low n) (nat_le n high) (le-leb low n h.0) (le-leb n high h.1),
+)
 
 every : {A : Type 0} (P Q : A → Type 0) → ((a : A) → P a ↔ Q a) → (xs : List A) → AllByRecursion P xs ↔ AllByRecursion Q xs
 every P Q one [] = same
@@ -134,7 +144,8 @@ outcome_fits end.Commit = refl
 
 few_iff : {A : Type 0} (f : Format A) (Q : A → Type 0) → ((a : A) → f.Fits a ↔ Q a) → (xs : List A) → (list f).Fits xs ↔ AreFew Q xs
 unfolding byte
-few_iff f Q one xs = (λ h. (((within 0 255 (length xs)).0 h.0).1, (every f.Fits Q one xs).0 h.1.1), λ h. ((within 0 255 (length xs)).1 (omega arith, h.0), (refl, (every f.Fits Q one xs).1 h.1)))
+few_iff f Q one xs =
+    (λ h. (((within 0 255 (length xs)).0 h.0).1, (every f.Fits Q one xs).0 h.1.1), λ h. ((within 0 255 (length xs)).1 (omega arith, h.0), (refl, (every f.Fits Q one xs).1 h.1)))
 
 many_iff : {A : Type 0} (f : Format A) (Q : A → Type 0) → ((a : A) → f.Fits a ↔ Q a) → (xs : List A) → (long_list f).Fits xs ↔ AreMany Q xs
 unfolding number2
@@ -146,7 +157,8 @@ ends_iff es = few_iff (both uid outcome) (λ e. UidFits e.0) (λ e. beside (outc
 uids_long : (p : Path) → length (uids_of p) ≡ p.len
 uids_long p = let most = p.most in let whole = p.whole in length-take-le p.len p.uids (omega (arith, most, whole))
 
-pub path_counts : (p : Path) → (1 ≤ length (uids_of p)) × (length (uids_of p) ≤ 16) × (1 ≤ tops_of p) × (tops_of p ≤ 2) × (tops_of p ≤ length (uids_of p))
+pub path_counts : (p : Path) →
+    (1 ≤ length (uids_of p)) × (length (uids_of p) ≤ 16) × (1 ≤ tops_of p) × (tops_of p ≤ 2) × (tops_of p ≤ length (uids_of p))
 path_counts p = (
   let some = p.some in omega (arith, uids_long p, some),
   let most = p.most in omega (arith, uids_long p, most),
@@ -209,7 +221,8 @@ what_iff (what.Bind had now) = two (binding_iff had) (binding_iff now)
 
 bound_iff : (r : BoundReply) → bound_reply.Fits r ↔ BoundFits r
 unfolding bound_reply
-bound_iff (bound_as.Live b s si ni stores) = flat5 (binding_iff b) (node_iff s) (short_iff si) (short_iff ni) (few_iff node IsNode node_iff stores)
+bound_iff (bound_as.Live b s si ni stores) =
+    flat5 (binding_iff b) (node_iff s) (short_iff si) (short_iff ni) (few_iff node IsNode node_iff stores)
 bound_iff (bound_as.Make b s ni stores) = flat4 (binding_iff b) (node_iff s) (short_iff ni) (few_iff node IsNode node_iff stores)
 bound_iff (bound_as.Write ni stores) = two (short_iff ni) (few_iff node IsNode node_iff stores)
 bound_iff (bound_as.Conflict holder m) = beside (mode_fits m) (uid_iff holder)
@@ -260,11 +273,14 @@ message_iff (of.Load m) = two (head_iff m.head) (object_iff m.x)
 message_iff (of.Loaded m) = two (asked_iff m.asked) (loaded_iff m.reply)
 message_iff (of.Activate m) = flat3 (head_iff m.head) (binding_iff m.binding) (state_iff m.state)
 message_iff (of.Activated m) = two (asked_iff m.asked) (short_iff m.server_inc)
-message_iff (of.RecordMsg m) = flat5 (head_iff m.head) (object_iff m.x) (binding_iff m.binding) (short_iff m.server_inc) (short_iff m.naming_inc)
+message_iff (of.RecordMsg m) =
+    flat5 (head_iff m.head) (object_iff m.x) (binding_iff m.binding) (short_iff m.server_inc) (short_iff m.naming_inc)
 message_iff (of.Recorded m) = two (asked_iff m.asked) (recorded_iff m.reply)
-message_iff (of.Invoke m) = flat6 (head_iff m.head) (object_iff m.x) (binding_iff m.binding) (short_iff m.server_inc) (ends_iff m.ends) (op_iff m.op)
+message_iff (of.Invoke m) =
+    flat6 (head_iff m.head) (object_iff m.x) (binding_iff m.binding) (short_iff m.server_inc) (ends_iff m.ends) (op_iff m.op)
 message_iff (of.Invoked m) = two (asked_iff m.asked) (invoked_iff m.reply)
-message_iff (of.Vote m) = flat4 (head_iff m.head) (short_iff m.server_inc) (few_iff (both object binding) (λ o. IsObject o.0 × BindingFits o.1) (λ o. two (object_iff o.0) (binding_iff o.1)) m.objects) (ends_iff m.ends)
+message_iff (of.Vote m) =
+    flat4 (head_iff m.head) (short_iff m.server_inc) (few_iff (both object binding) (λ o. IsObject o.0 × BindingFits o.1) (λ o. two (object_iff o.0) (binding_iff o.1)) m.objects) (ends_iff m.ends)
 message_iff (of.Voted m) = two (asked_iff m.asked) (voted_iff m.reply)
 message_iff (of.Prepare m) = two (head_iff m.head) (few_iff state StateFits state_iff m.states)
 message_iff (of.Prepared m) = two (asked_iff m.asked) (prepared_iff m.reply)

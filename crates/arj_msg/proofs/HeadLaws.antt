@@ -31,7 +31,8 @@ path_made_is p fits =
     let size : length p.1.0 ≡ p.0 = fits.1.0.0 in
     (path_is p.1.0 p.1.1 (omega (arith, size, count.0)) (omega (arith, size, count.1)) tops.0 (omega (arith, tops.1, min-le_right p.0 2)) (omega (arith, size, tops.1, min-le_left p.0 2)), size)
 
-path_forth : (p : (count : ℕ) × (List Uid × ℕ)) → path_form.Fits p → path.Fits (path_made p) × (path.spell (path_made p) ≡ path_form.spell p) × (path.fields (path_made p) ≡ path_form.fields p)
+path_forth : (p : (count : ℕ) × (List Uid × ℕ)) → path_form.Fits p →
+    path.Fits (path_made p) × (path.spell (path_made p) ≡ path_form.spell p) × (path.fields (path_made p) ≡ path_form.fields p)
 unfolding path
 path_forth p fits =
     let is = path_made_is p fits in
@@ -58,7 +59,8 @@ pub record ReadsPath (bytes : List ℕ) (us : List Uid) (tops : ℕ) (rest : Lis
   pub within : tops ≤ length us
   pub read : path.read bytes ≡ Ok (path_of us tops, rest)
 
-path_read : (bytes : List ℕ) (count : ℕ) (r1 : List ℕ) (us : List Uid) (r2 : List ℕ) (tops : ℕ) (r3 : List ℕ) → IsBytes bytes → (byte 1 16).read bytes ≡ Ok (count, r1) → read_many uid count r1 ≡ Ok (us, r2) → (byte 1 (min count 2)).read r2 ≡ Ok (tops, r3)
+path_read : (bytes : List ℕ) (count : ℕ) (r1 : List ℕ) (us : List Uid) (r2 : List ℕ) (tops : ℕ) (r3 : List ℕ) → IsBytes bytes →
+    (byte 1 16).read bytes ≡ Ok (count, r1) → read_many uid count r1 ≡ Ok (us, r2) → (byte 1 (min count 2)).read r2 ≡ Ok (tops, r3)
     → ReadsPath bytes us tops r3
 unfolding path
 path_read bytes count r1 us r2 tops r3 are e1 e2 e3 =
@@ -78,7 +80,8 @@ path_read bytes count r1 us r2 tops r3 are e1 e2 e3 =
       read = rw (e1, e2, e3) refl;
     }
 
-pub reads_path : (bytes : List ℕ) (count n limit : ℕ) (r1 : List ℕ) (us now : List Uid) (r2 : List ℕ) (tops : ℕ) (r3 : List ℕ) → IsBytes bytes → n ≡ count → limit ≡ min count 2 → now ≡ us → (byte 1 16).read bytes ≡ Ok (count, r1)
+pub reads_path : (bytes : List ℕ) (count n limit : ℕ) (r1 : List ℕ) (us now : List Uid) (r2 : List ℕ) (tops : ℕ) (r3 : List ℕ) →
+    IsBytes bytes → n ≡ count → limit ≡ min count 2 → now ≡ us → (byte 1 16).read bytes ≡ Ok (count, r1)
     → read_many uid n r1 ≡ Ok (us, r2) → (byte 1 limit).read r2 ≡ Ok (tops, r3) → ReadsPath bytes now tops r3
 reads_path bytes count n limit r1 us now r2 tops r3 are n_is limit_is now_is e1 e2 e3 =
     subst (λ ws. ReadsPath bytes ws tops r3) (sym now_is)

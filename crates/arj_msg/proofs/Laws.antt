@@ -1,6 +1,7 @@
 -- What holds of each format: what is read is spelled so, what is spelled so is read whatever follows, and where
 -- reading stops, it stops behind the most fields that can stand there.
-use Rattle.std.proofs.Common.{◌≡◌, ℕ, ◌+◌, ◌<◌, ◌≤◌, zero, suc, List, [], ◌∷◌, ◌++◌, length, get_or, take, Some, None, Option, Result, Ok, Err, sym, ap, subst, refl, ◌∙◌, append_assoc, arith, inl, inr, ◌⊎◌, ⊎_elim}
+use Rattle.std.proofs.Common.{◌≡◌, ℕ, ◌+◌, ◌<◌, ◌≤◌, zero, suc, List, [], ◌∷◌, ◌++◌, length, get_or, take, Some, None, Option, Result, Ok}
+use Rattle.std.proofs.Common.{Err, sym, ap, subst, refl, ◌∙◌, append_assoc, arith, inl, inr, ◌⊎◌, ⊎_elim}
 use Rattle.std.specs.List.{concat, flat_map}
 use Rattle.std.proofs.lemmas.List.{append-nil, length-append, get_or-drop, drop_at}
 use Rattle.std.proofs.lemmas.List.Folds.{concat-append}
@@ -22,7 +23,8 @@ abbrev pub IsFront : List (List ℕ) → List ℕ → Type 0
 IsFront fs xs = (k : ℕ) × (xs ≡ concat (take k fs))
 
 -- A front of two lists of fields is one of the first, or all of the first and a front of the second.
-pub front_of_two : (fs gs : List (List ℕ)) (k : ℕ) → ((j : ℕ) × (concat (take k (fs ++ gs)) ≡ concat (take j fs))) ⊎ ((j : ℕ) × (concat (take k (fs ++ gs)) ≡ concat fs ++ concat (take j gs)))
+pub front_of_two : (fs gs : List (List ℕ)) (k : ℕ) →
+    ((j : ℕ) × (concat (take k (fs ++ gs)) ≡ concat (take j fs))) ⊎ ((j : ℕ) × (concat (take k (fs ++ gs)) ≡ concat fs ++ concat (take j gs)))
 front_of_two [] gs k = inr (k, refl)
 front_of_two (f ∷ fs) gs zero = inl (0, refl)
 front_of_two (f ∷ fs) gs (suc k) =
@@ -36,7 +38,8 @@ front_of_first (f ∷ fs) gs (suc k) = let rest = front_of_first fs gs k in (suc
 
 pub front_of_second : (fs gs : List (List ℕ)) (k : ℕ) → IsFront (fs ++ gs) (concat fs ++ concat (take k gs))
 front_of_second [] gs k = (k, refl)
-front_of_second (f ∷ fs) gs k = let rest = front_of_second fs gs k in (suc rest.0, append_assoc f (concat fs) (concat (take k gs)) ∙ ap (λ xs. f ++ xs) rest.1)
+front_of_second (f ∷ fs) gs k =
+    let rest = front_of_second fs gs k in (suc rest.0, append_assoc f (concat fs) (concat (take k gs)) ∙ ap (λ xs. f ++ xs) rest.1)
 
 -- how many bytes are left behind what was read
 abbrev pub left_of : {A : Type 0} → Result (A × List ℕ) ℕ → ℕ
@@ -55,10 +58,12 @@ pub record Stops {A : Type 0} (f : Format A) (bytes : List ℕ) (left : ℕ) : T
 
 pub record Lawful {A : Type 0} (f : Format A) : Type 0 where
   pub whole : (a : A) → f.Fits a → concat (f.fields a) ≡ f.spell a
-  pub found : (bytes : List ℕ) (a : A) (rest : List ℕ) → IsBytes bytes → f.read bytes ≡ Ok (a, rest) → f.Fits a × (bytes ≡ f.spell a ++ rest)
+  pub found : (bytes : List ℕ) (a : A) (rest : List ℕ) → IsBytes bytes → f.read bytes ≡ Ok (a, rest) →
+      f.Fits a × (bytes ≡ f.spell a ++ rest)
   pub again : (a : A) (rest : List ℕ) → f.Fits a → f.read (f.spell a ++ rest) ≡ Ok (a, rest)
   pub stops : (bytes : List ℕ) (left : ℕ) → IsBytes bytes → f.read bytes ≡ Err left → Stops f bytes left
-  pub furthest : (bytes : List ℕ) (a : A) (front more : List ℕ) → IsBytes bytes → f.Fits a → IsFront (f.fields a) front → bytes ≡ front ++ more → left_of (f.read bytes) ≤ length more
+  pub furthest : (bytes : List ℕ) (a : A) (front more : List ℕ) → IsBytes bytes → f.Fits a → IsFront (f.fields a) front →
+      bytes ≡ front ++ more → left_of (f.read bytes) ≤ length more
   pub one : (a : A) × f.Fits a
 
 -- reading never leaves more bytes than there were
@@ -75,12 +80,15 @@ module _ {A : Type 0} (spell : A → List ℕ) (Fits : A → Type 0) (cut : List
     (cut_found : (bytes : List ℕ) (a : A) (rest : List ℕ) → IsBytes bytes → cut bytes ≡ Some (a, rest) → Fits a × (bytes ≡ spell a ++ rest))
     (cut_again : (a : A) (rest : List ℕ) → Fits a → cut (spell a ++ rest) ≡ Some (a, rest))
     (one : (a : A) × Fits a) where
-  field_found : (bytes : List ℕ) (a : A) (rest : List ℕ) (o : Option (A × List ℕ)) → IsBytes bytes → cut bytes ≡ o → one_of bytes o ≡ Ok (a, rest) → Fits a × (bytes ≡ spell a ++ rest)
+  field_found : (bytes : List ℕ) (a : A) (rest : List ℕ) (o : Option (A × List ℕ)) → IsBytes bytes → cut bytes ≡ o →
+      one_of bytes o ≡ Ok (a, rest) → Fits a × (bytes ≡ spell a ++ rest)
   field_found bytes a rest None are is e = absurd cc
   field_found bytes a rest (Some x) are is e = let same : Some x ≡ Some (a, rest) = cc in cut_found bytes a rest are (is ∙ same)
 
-  field_stops : (bytes : List ℕ) (left : ℕ) (o : Option (A × List ℕ)) → one_of bytes o ≡ Err left → Stops (one_field spell Fits cut) bytes left
-  field_stops bytes left None e = record { value = one.0; fits = one.1; front = []; rest = bytes; is_front = (0, refl); parts = refl; long = cc }
+  field_stops : (bytes : List ℕ) (left : ℕ) (o : Option (A × List ℕ)) → one_of bytes o ≡ Err left →
+      Stops (one_field spell Fits cut) bytes left
+  field_stops bytes left None e =
+      record { value = one.0; fits = one.1; front = []; rest = bytes; is_front = (0, refl); parts = refl; long = cc }
   field_stops bytes left (Some x) e = absurd cc
 
   field_left : (bytes : List ℕ) (o : Option (A × List ℕ)) → IsBytes bytes → cut bytes ≡ o → left_of (one_of bytes o) ≤ length bytes
@@ -89,7 +97,8 @@ module _ {A : Type 0} (spell : A → List ℕ) (Fits : A → Type 0) (cut : List
       let found = cut_found bytes x.0 x.1 are is in
       omega (arith, ap length found.1, length-append (spell x.0) x.1)
 
-  field_furthest : (bytes : List ℕ) (a : A) (k : ℕ) (more : List ℕ) → IsBytes bytes → Fits a → bytes ≡ concat (take k (spell a ∷ [])) ++ more → left_of (one_of bytes (cut bytes)) ≤ length more
+  field_furthest : (bytes : List ℕ) (a : A) (k : ℕ) (more : List ℕ) → IsBytes bytes → Fits a →
+      bytes ≡ concat (take k (spell a ∷ [])) ++ more → left_of (one_of bytes (cut bytes)) ≤ length more
   field_furthest bytes a zero more are fits is = omega (arith, field_left bytes (cut bytes) are refl, ap length is)
   field_furthest bytes a (suc k) more are fits is =
       let spelled : bytes ≡ spell a ++ more = is ∙ ap (λ xs. xs ++ more) (all_of_one (spell a) k) in
@@ -114,16 +123,20 @@ behind g r = r >>= λ x. (g x.0).read x.1 >>= λ y. Ok ((x.0, y.0), y.1)
 abbrev joined : {A : Type 0} {B : A → Type 0} (a : A) → Result (B a × List ℕ) ℕ → Result (((a : A) × B a) × List ℕ) ℕ
 joined a r = r >>= λ y. Ok ((a, y.0), y.1)
 
-module _ {A : Type 0} {B : A → Type 0} (f : Format A) (g : (a : A) → Format (B a)) (law_f : Lawful f) (law_g : (a : A) → f.Fits a → Lawful (g a)) where
+module _ {A : Type 0} {B : A → Type 0} (f : Format A) (g : (a : A) → Format (B a)) (law_f : Lawful f) (law_g : (a : A) → f.Fits a →
+    Lawful (g a)) where
   chain_whole : (p : (a : A) × B a) → (chain f g).Fits p → concat ((chain f g).fields p) ≡ (chain f g).spell p
-  chain_whole p fits = concat-append (f.fields p.0) ((g p.0).fields p.1) ∙ (λ i. law_f.whole p.0 fits.0 i ++ (law_g p.0 fits.0).whole p.1 fits.1 i)
+  chain_whole p fits =
+      concat-append (f.fields p.0) ((g p.0).fields p.1) ∙ (λ i. law_f.whole p.0 fits.0 i ++ (law_g p.0 fits.0).whole p.1 fits.1 i)
 
-  found_second : (bytes : List ℕ) (a : A) (middle : List ℕ) (p : (a : A) × B a) (rest : List ℕ) (s : Result (B a × List ℕ) ℕ) → IsBytes bytes → f.Fits a → bytes ≡ f.spell a ++ middle → (g a).read middle ≡ s
+  found_second : (bytes : List ℕ) (a : A) (middle : List ℕ) (p : (a : A) × B a) (rest : List ℕ) (s : Result (B a × List ℕ) ℕ) →
+      IsBytes bytes → f.Fits a → bytes ≡ f.spell a ++ middle → (g a).read middle ≡ s
       → joined {B = B} a s ≡ Ok (p, rest) → (chain f g).Fits p × (bytes ≡ (chain f g).spell p ++ rest)
   found_second bytes a middle p rest (Err n) are fits is read e = absurd cc
   found_second bytes a middle p rest (Ok y) are fits is read e =
       let got = (law_g a fits).found middle y.0 y.1 (bytes_of_rest bytes (f.spell a) middle are is) read in
-      let all : ((chain f g).Fits (a, y.0)) × (bytes ≡ (chain f g).spell (a, y.0) ++ y.1) = ((fits, got.0), is ∙ ap (λ xs. f.spell a ++ xs) got.1 ∙ sym (append_assoc (f.spell a) ((g a).spell y.0) y.1)) in
+      let all : ((chain f g).Fits (a, y.0)) × (bytes ≡ (chain f g).spell (a, y.0) ++ y.1) =
+      ((fits, got.0), is ∙ ap (λ xs. f.spell a ++ xs) got.1 ∙ sym (append_assoc (f.spell a) ((g a).spell y.0) y.1)) in
       let same : Ok ((a, y.0), y.1) ≡ Ok (p, rest) = e in
       subst (λ (z : Result (((a : A) × B a) × List ℕ) ℕ). Holds z) same all
     where
@@ -131,7 +144,8 @@ module _ {A : Type 0} {B : A → Type 0} (f : Format A) (g : (a : A) → Format 
       Holds (Ok z) = (chain f g).Fits z.0 × (bytes ≡ (chain f g).spell z.0 ++ z.1)
       Holds (Err n) = Unit {0}
 
-  chain_found : (bytes : List ℕ) (p : (a : A) × B a) (rest : List ℕ) (r : Result (A × List ℕ) ℕ) → IsBytes bytes → f.read bytes ≡ r → behind g r ≡ Ok (p, rest) → (chain f g).Fits p × (bytes ≡ (chain f g).spell p ++ rest)
+  chain_found : (bytes : List ℕ) (p : (a : A) × B a) (rest : List ℕ) (r : Result (A × List ℕ) ℕ) → IsBytes bytes → f.read bytes ≡ r →
+      behind g r ≡ Ok (p, rest) → (chain f g).Fits p × (bytes ≡ (chain f g).spell p ++ rest)
   chain_found bytes p rest (Err n) are read e = absurd cc
   chain_found bytes p rest (Ok x) are read e =
       let got = law_f.found bytes x.0 x.1 are read in
@@ -142,7 +156,8 @@ module _ {A : Type 0} {B : A → Type 0} (f : Format A) (g : (a : A) → Format 
       ap (λ bytes. behind g (f.read bytes)) (append_assoc (f.spell p.0) ((g p.0).spell p.1) rest) ∙ ap (behind g) (law_f.again p.0 ((g p.0).spell p.1 ++ rest) fits.0)
       ∙ ap (joined {B = B} p.0) ((law_g p.0 fits.0).again p.1 rest fits.1)
 
-  stops_second : (bytes : List ℕ) (left : ℕ) (a : A) (middle : List ℕ) (s : Result (B a × List ℕ) ℕ) → IsBytes bytes → f.Fits a → bytes ≡ f.spell a ++ middle → (g a).read middle ≡ s → joined {B = B} a s ≡ Err left → Stops (chain f g) bytes left
+  stops_second : (bytes : List ℕ) (left : ℕ) (a : A) (middle : List ℕ) (s : Result (B a × List ℕ) ℕ) → IsBytes bytes → f.Fits a →
+      bytes ≡ f.spell a ++ middle → (g a).read middle ≡ s → joined {B = B} a s ≡ Err left → Stops (chain f g) bytes left
   stops_second bytes left a middle (Ok y) are fits is read e = absurd cc
   stops_second bytes left a middle (Err n) are fits is read e =
       let same : n ≡ left = cc in
@@ -157,7 +172,8 @@ module _ {A : Type 0} {B : A → Type 0} (f : Format A) (g : (a : A) → Format 
         long = at.long ∙ same;
       }
 
-  chain_stops : (bytes : List ℕ) (left : ℕ) (r : Result (A × List ℕ) ℕ) → IsBytes bytes → f.read bytes ≡ r → behind g r ≡ Err left → Stops (chain f g) bytes left
+  chain_stops : (bytes : List ℕ) (left : ℕ) (r : Result (A × List ℕ) ℕ) → IsBytes bytes → f.read bytes ≡ r → behind g r ≡ Err left →
+      Stops (chain f g) bytes left
   chain_stops bytes left (Err n) are read e =
       let same : n ≡ left = cc in
       let at = law_f.stops bytes n are read in
@@ -186,12 +202,15 @@ module _ {A : Type 0} {B : A → Type 0} (f : Format A) (g : (a : A) → Format 
       let fewer = no_more (g x.0) (law_g x.0 got.0) x.1 (bytes_of_rest bytes (f.spell x.0) x.1 are got.1) in
       omega (arith, fewer, left_joined x.0 ((g x.0).read x.1))
 
-  chain_furthest : (bytes : List ℕ) (p : (a : A) × B a) (front more : List ℕ) → IsBytes bytes → (chain f g).Fits p → IsFront ((chain f g).fields p) front → bytes ≡ front ++ more → left_of ((chain f g).read bytes) ≤ length more
+  chain_furthest : (bytes : List ℕ) (p : (a : A) × B a) (front more : List ℕ) → IsBytes bytes → (chain f g).Fits p →
+      IsFront ((chain f g).fields p) front → bytes ≡ front ++ more → left_of ((chain f g).read bytes) ≤ length more
   chain_furthest bytes p front more are fits is_front is = ⊎_elim
-      (λ first. let less = law_f.furthest bytes p.0 front more are fits.0 (first.0, is_front.1 ∙ first.1) is in omega (arith, less, left_behind bytes (f.read bytes) are refl))
+      (λ first. let less =
+      law_f.furthest bytes p.0 front more are fits.0 (first.0, is_front.1 ∙ first.1) is in omega (arith, less, left_behind bytes (f.read bytes) are refl))
       (λ second.
       let rest = concat (take second.0 ((g p.0).fields p.1)) in
-      let spelled : bytes ≡ f.spell p.0 ++ (rest ++ more) = is ∙ (λ i. (is_front.1 ∙ second.1 ∙ (λ j. law_f.whole p.0 fits.0 j ++ rest)) i ++ more) ∙ append_assoc (f.spell p.0) rest more in
+      let spelled : bytes ≡ f.spell p.0 ++ (rest ++ more) =
+      is ∙ (λ i. (is_front.1 ∙ second.1 ∙ (λ j. law_f.whole p.0 fits.0 j ++ rest)) i ++ more) ∙ append_assoc (f.spell p.0) rest more in
       let read : f.read bytes ≡ Ok (p.0, rest ++ more) = ap f.read spelled ∙ law_f.again p.0 (rest ++ more) fits.0 in
       let less = (law_g p.0 fits.0).furthest (rest ++ more) p.1 rest more (bytes_of_rest bytes (f.spell p.0) (rest ++ more) are spelled) fits.1 (second.0, refl) refl in
       omega (arith, less, left_joined p.0 ((g p.0).read (rest ++ more)), ap (λ r. left_of (behind g r)) read))
@@ -212,15 +231,18 @@ module _ {A : Type 0} {B : A → Type 0} (f : Format A) (g : (a : A) → Format 
 abbrev pub made : {P A : Type 0} → (P → A) → Result (P × List ℕ) ℕ → Result (A × List ℕ) ℕ
 made to r = r >>= λ x. Ok (to x.0, x.1)
 
-module _ {P A : Type 0} (to : P → A) (f : Format P) (h : Format A) (law : Lawful f) (reads : (bytes : List ℕ) → h.read bytes ≡ made to (f.read bytes))
-    (forth : (p : P) → f.Fits p → h.Fits (to p) × (h.spell (to p) ≡ f.spell p) × (h.fields (to p) ≡ f.fields p)) (back : (a : A) → h.Fits a → (p : P) × f.Fits p × (to p ≡ a)) where
+module _ {P A : Type 0} (to : P → A) (f : Format P) (h : Format A) (law : Lawful f) (reads : (bytes : List ℕ) →
+    h.read bytes ≡ made to (f.read bytes))
+    (forth : (p : P) → f.Fits p → h.Fits (to p) × (h.spell (to p) ≡ f.spell p) × (h.fields (to p) ≡ f.fields p)) (back : (a : A) →
+    h.Fits a → (p : P) × f.Fits p × (to p ≡ a)) where
   image_whole : (a : A) → h.Fits a → concat (h.fields a) ≡ h.spell a
   image_whole a fits =
       let p = back a fits in
       let same = forth p.0 p.1 in
       subst (λ b. concat (h.fields b) ≡ h.spell b) p.2 (ap concat same.2 ∙ law.whole p.0 p.1 ∙ sym same.1)
 
-  image_found : (bytes : List ℕ) (a : A) (rest : List ℕ) (r : Result (P × List ℕ) ℕ) → IsBytes bytes → f.read bytes ≡ r → made to r ≡ Ok (a, rest) → h.Fits a × (bytes ≡ h.spell a ++ rest)
+  image_found : (bytes : List ℕ) (a : A) (rest : List ℕ) (r : Result (P × List ℕ) ℕ) → IsBytes bytes → f.read bytes ≡ r →
+      made to r ≡ Ok (a, rest) → h.Fits a × (bytes ≡ h.spell a ++ rest)
   image_found bytes a rest (Err n) are read e = absurd cc
   image_found bytes a rest (Ok x) are read e =
       let got = law.found bytes x.0 x.1 are read in
@@ -238,7 +260,8 @@ module _ {P A : Type 0} (to : P → A) (f : Format P) (h : Format A) (law : Lawf
       let same = forth p.0 p.1 in
       subst (λ b. h.read (h.spell b ++ rest) ≡ Ok (b, rest)) p.2 (ap (λ xs. h.read (xs ++ rest)) same.1 ∙ reads (f.spell p.0 ++ rest) ∙ ap (made to) (law.again p.0 rest p.1))
 
-  image_stops : (bytes : List ℕ) (left : ℕ) (r : Result (P × List ℕ) ℕ) → IsBytes bytes → f.read bytes ≡ r → made to r ≡ Err left → Stops h bytes left
+  image_stops : (bytes : List ℕ) (left : ℕ) (r : Result (P × List ℕ) ℕ) → IsBytes bytes → f.read bytes ≡ r → made to r ≡ Err left →
+      Stops h bytes left
   image_stops bytes left (Ok x) are read e = absurd cc
   image_stops bytes left (Err n) are read e =
       let same : n ≡ left = cc in
@@ -257,7 +280,8 @@ module _ {P A : Type 0} (to : P → A) (f : Format P) (h : Format A) (law : Lawf
   left_made (Ok x) = refl
   left_made (Err n) = refl
 
-  image_furthest : (bytes : List ℕ) (a : A) (front more : List ℕ) → IsBytes bytes → h.Fits a → IsFront (h.fields a) front → bytes ≡ front ++ more → left_of (h.read bytes) ≤ length more
+  image_furthest : (bytes : List ℕ) (a : A) (front more : List ℕ) → IsBytes bytes → h.Fits a → IsFront (h.fields a) front →
+      bytes ≡ front ++ more → left_of (h.read bytes) ≤ length more
   image_furthest bytes a front more are fits is_front is =
       let p = back a fits in
       let shown = forth p.0 p.1 in
@@ -275,7 +299,8 @@ module _ {P A : Type 0} (to : P → A) (f : Format P) (h : Format A) (law : Lawf
     one = let p = law.one in (to p.0, (forth p.0 p.1).0);
   }
 
-pub shaped_lawful : {A B : Type 0} (whole : A → B) (parts : B → A) {f : Format A} → Lawful f → ((a : A) → f.Fits a → parts (whole a) ≡ a) → ((b : B) → f.Fits (parts b) → whole (parts b) ≡ b)
+pub shaped_lawful : {A B : Type 0} (whole : A → B) (parts : B → A) {f : Format A} → Lawful f → ((a : A) → f.Fits a → parts (whole a) ≡ a) →
+    ((b : B) → f.Fits (parts b) → whole (parts b) ≡ b)
     → Lawful (shaped whole parts f)
 shaped_lawful whole parts {f = f} law there back =
     image_lawful whole f (shaped whole parts f) law (λ bytes. refl) (λ a fits. (subst f.Fits (sym (there a fits)) fits, ap f.spell (there a fits), ap f.fields (there a fits))) (λ b fits. (parts b, fits, back b fits))
@@ -294,12 +319,14 @@ module _ {A : Type 0} (f : Format A) (law : Lawful f) where
   none_again [] rest none = refl
   none_again (a ∷ items) rest none = absurd (omega (arith, none))
 
-  none_furthest : (bytes : List ℕ) (items : List A) (k : ℕ) (more : List ℕ) → length items ≡ 0 → bytes ≡ concat (take k (flat_map f.fields items)) ++ more → length bytes ≤ length more
+  none_furthest : (bytes : List ℕ) (items : List A) (k : ℕ) (more : List ℕ) → length items ≡ 0 →
+      bytes ≡ concat (take k (flat_map f.fields items)) ++ more → length bytes ≤ length more
   none_furthest bytes [] zero more none is = omega (arith, ap length is)
   none_furthest bytes [] (suc k) more none is = omega (arith, ap length is)
   none_furthest bytes (a ∷ items) k more none is = absurd (omega (arith, none))
 
-  none_found : (bytes : List ℕ) (items : List A) (rest : List ℕ) → read_many f 0 bytes ≡ Ok (items, rest) → (many f 0).Fits items × (bytes ≡ (many f 0).spell items ++ rest)
+  none_found : (bytes : List ℕ) (items : List A) (rest : List ℕ) → read_many f 0 bytes ≡ Ok (items, rest) →
+      (many f 0).Fits items × (bytes ≡ (many f 0).spell items ++ rest)
   none_found bytes items rest e = subst Holds e ((refl, tt), refl)
     where
       Holds : Result (List A × List ℕ) ℕ → Type 0
@@ -316,7 +343,8 @@ module _ {A : Type 0} (f : Format A) (law : Lawful f) where
     one = ([], (refl, tt));
   }
 
-  more_reads : (n : ℕ) (r : Result (A × List ℕ) ℕ) → (r >>= λ x. read_many f n x.1 >>= λ y. Ok (x.0 ∷ y.0, y.1)) ≡ made cons (behind (λ _. many f n) r)
+  more_reads : (n : ℕ) (r : Result (A × List ℕ) ℕ) →
+      (r >>= λ x. read_many f n x.1 >>= λ y. Ok (x.0 ∷ y.0, y.1)) ≡ made cons (behind (λ _. many f n) r)
   more_reads n (Err left) = refl
   more_reads n (Ok x) = again (read_many f n x.1)
     where
@@ -324,11 +352,13 @@ module _ {A : Type 0} (f : Format A) (law : Lawful f) where
       again (Err left) = refl
       again (Ok y) = refl
 
-  more_back : (n : ℕ) (items : List A) → (many f (suc n)).Fits items → (p : A × List A) × (f.Fits p.0 × (many f n).Fits p.1) × (cons p ≡ items)
+  more_back : (n : ℕ) (items : List A) → (many f (suc n)).Fits items →
+      (p : A × List A) × (f.Fits p.0 × (many f n).Fits p.1) × (cons p ≡ items)
   more_back n [] fits = absurd (omega (arith, fits.0))
   more_back n (a ∷ items) fits = ((a, items), (fits.1.0, (omega (arith, fits.0), fits.1.1)), refl)
 
   pub many_lawful : (n : ℕ) → Lawful (many f n)
   many_lawful zero = none_lawful
-  many_lawful (suc n) = image_lawful cons (chain f (λ _. many f n)) (many f (suc n)) (chain_lawful f (λ _. many f n) law (λ _ _. many_lawful n)) (λ bytes. more_reads n (f.read bytes))
+  many_lawful (suc n) =
+      image_lawful cons (chain f (λ _. many f n)) (many f (suc n)) (chain_lawful f (λ _. many f n) law (λ _ _. many_lawful n)) (λ bytes. more_reads n (f.read bytes))
       (λ p fits. ((ap suc fits.1.0, (fits.0, fits.1.1)), flat_map-cons f.spell p.0 p.1, flat_map-cons f.fields p.0 p.1)) (more_back n)

@@ -7,16 +7,19 @@ use Rattle.arj_msg.specs.Requests.{bind, load, activate, record_msg, invoke, vot
 use Rattle.arj_msg.specs.Answers.{bound, loaded, activated, recorded, invoked, voted, prepared, confirmed}
 use Rattle.arj_msg.specs.Layout.{told, acked, query, hello, message, message_cases, message_parts}
 use Rattle.arj_msg.proofs.Laws.{Lawful, shaped_lawful}
-use Rattle.arj_msg.proofs.FieldLaws.{node_lawful, object_lawful, number4_lawful, binding_lawful, uid_lawful, flag_lawful, ends_lawful, both_lawful, list_lawful, long_list_lawful}
+use Rattle.arj_msg.proofs.FieldLaws.{node_lawful, object_lawful, number4_lawful, binding_lawful, uid_lawful, flag_lawful, ends_lawful}
+use Rattle.arj_msg.proofs.FieldLaws.{both_lawful, list_lawful, long_list_lawful}
 use Rattle.arj_msg.proofs.TextLaws.{operation_lawful}
 use Rattle.arj_msg.proofs.StateLaws.{state_lawful}
 use Rattle.arj_msg.proofs.HeadLaws.{head_lawful, asked_lawful}
-use Rattle.arj_msg.proofs.ReplyLaws.{bound_reply_lawful, loaded_reply_lawful, recorded_reply_lawful, invoked_reply_lawful, voted_reply_lawful, prepared_reply_lawful, confirmed_reply_lawful}
+use Rattle.arj_msg.proofs.ReplyLaws.{bound_reply_lawful, loaded_reply_lawful, recorded_reply_lawful, invoked_reply_lawful}
+use Rattle.arj_msg.proofs.ReplyLaws.{voted_reply_lawful, prepared_reply_lawful, confirmed_reply_lawful}
 use Rattle.arj_msg.proofs.CaseLaws.{by_case, choice_lawful}
 
 bind_lawful : Lawful bind
 unfolding bind
-bind_lawful = shaped_lawful _ _ (both_lawful head_lawful (both_lawful object_lawful (both_lawful flag_lawful binding_lawful))) (λ p fits. refl) (λ m fits. refl)
+bind_lawful =
+    shaped_lawful _ _ (both_lawful head_lawful (both_lawful object_lawful (both_lawful flag_lawful binding_lawful))) (λ p fits. refl) (λ m fits. refl)
 
 bound_lawful : Lawful bound
 unfolding bound
@@ -40,7 +43,8 @@ activated_lawful = shaped_lawful _ _ (both_lawful asked_lawful number4_lawful) (
 
 record_msg_lawful : Lawful record_msg
 unfolding record_msg
-record_msg_lawful = shaped_lawful _ _ (both_lawful head_lawful (both_lawful object_lawful (both_lawful binding_lawful (both_lawful number4_lawful number4_lawful)))) (λ p fits. refl) (λ m fits. refl)
+record_msg_lawful =
+    shaped_lawful _ _ (both_lawful head_lawful (both_lawful object_lawful (both_lawful binding_lawful (both_lawful number4_lawful number4_lawful)))) (λ p fits. refl) (λ m fits. refl)
 
 recorded_lawful : Lawful recorded
 unfolding recorded
@@ -48,7 +52,8 @@ recorded_lawful = shaped_lawful _ _ (both_lawful asked_lawful recorded_reply_law
 
 invoke_lawful : Lawful invoke
 unfolding invoke
-invoke_lawful = shaped_lawful _ _ (both_lawful head_lawful (both_lawful object_lawful (both_lawful binding_lawful (both_lawful number4_lawful (both_lawful ends_lawful operation_lawful))))) (λ p fits. refl) (λ m fits. refl)
+invoke_lawful =
+    shaped_lawful _ _ (both_lawful head_lawful (both_lawful object_lawful (both_lawful binding_lawful (both_lawful number4_lawful (both_lawful ends_lawful operation_lawful))))) (λ p fits. refl) (λ m fits. refl)
 
 invoked_lawful : Lawful invoked
 unfolding invoked
@@ -56,7 +61,8 @@ invoked_lawful = shaped_lawful _ _ (both_lawful asked_lawful invoked_reply_lawfu
 
 vote_lawful : Lawful vote
 unfolding vote
-vote_lawful = shaped_lawful _ _ (both_lawful head_lawful (both_lawful number4_lawful (both_lawful (list_lawful (both_lawful object_lawful binding_lawful)) ends_lawful))) (λ p fits. refl) (λ m fits. refl)
+vote_lawful =
+    shaped_lawful _ _ (both_lawful head_lawful (both_lawful number4_lawful (both_lawful (list_lawful (both_lawful object_lawful binding_lawful)) ends_lawful))) (λ p fits. refl) (λ m fits. refl)
 
 voted_lawful : Lawful voted
 unfolding voted
@@ -72,7 +78,8 @@ prepared_lawful = shaped_lawful _ _ (both_lawful asked_lawful prepared_reply_law
 
 confirm_lawful : Lawful confirm
 unfolding confirm
-confirm_lawful = shaped_lawful _ _ (both_lawful head_lawful (both_lawful (list_lawful (both_lawful object_lawful number4_lawful)) (both_lawful (long_list_lawful (both_lawful object_lawful node_lawful)) (long_list_lawful (both_lawful object_lawful node_lawful))))) (λ p fits. refl) (λ m fits. refl)
+confirm_lawful =
+    shaped_lawful _ _ (both_lawful head_lawful (both_lawful (list_lawful (both_lawful object_lawful number4_lawful)) (both_lawful (long_list_lawful (both_lawful object_lawful node_lawful)) (long_list_lawful (both_lawful object_lawful node_lawful))))) (λ p fits. refl) (λ m fits. refl)
 
 confirmed_lawful : Lawful confirmed
 unfolding confirmed

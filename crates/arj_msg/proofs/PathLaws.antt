@@ -1,5 +1,6 @@
 -- Two paths are one where their Uids and their numbers of tops are, and each list of 1 to 16 Uids is that of a path.
-use Rattle.std.proofs.Common.{◌≡◌, ℕ, ◌-◌, ◌<◌, ◌≤◌, zero, suc, List, [], ◌∷◌, ◌++◌, length, take, drop, replicate, sym, ap, refl, ◌∙◌, arith, Bool, true, false, nat_le, if◌then◌else◌}
+use Rattle.std.proofs.Common.{◌≡◌, ℕ, ◌-◌, ◌<◌, ◌≤◌, zero, suc, List, [], ◌∷◌, ◌++◌, length, take, drop, replicate, sym, ap, refl, ◌∙◌}
+use Rattle.std.proofs.Common.{arith, Bool, true, false, nat_le, if◌then◌else◌}
 use Rattle.std.proofs.Props.{props}
 use Rattle.std.proofs.lemmas.List.{take-append-drop, take_at, length-take-le}
 use mathlib.Core.HLevel.{is_prop→PathP}
@@ -43,7 +44,8 @@ pub record Makes (p : Path) (us : List Uid) (tops : ℕ) : Type 0 where
   pub len : p.len ≡ length us
 
 is_made : (us : List Uid) (tops : ℕ) (a b c d e : Bool) (some : nat_le 1 (length us) ≡ a) (most : nat_le (length us) 16 ≡ b) (one : nat_le 1 tops ≡ c) (two : nat_le tops 2 ≡ d) (within : nat_le tops (length us) ≡ e)
-    → 1 ≤ length us → length us ≤ 16 → 1 ≤ tops → tops ≤ 2 → tops ≤ length us → Makes (path_if us tops a b c d e some most one two within) us tops
+    → 1 ≤ length us → length us ≤ 16 → 1 ≤ tops → tops ≤ 2 → tops ≤ length us →
+    Makes (path_if us tops a b c d e some most one two within) us tops
 is_made us tops true true true true true some most one two within h1 h2 h3 h4 h5 = record {
   has = take_at us (replicate (16 - length us) nobody) (length us) refl;
   ends_with = refl;
@@ -52,10 +54,13 @@ is_made us tops true true true true true some most one two within h1 h2 h3 h4 h5
 is_made us tops false b c d e some most one two within h1 h2 h3 h4 h5 = let no : true ≡ false = sym (le-leb _ _ h1) ∙ some in absurd cc
 is_made us tops true false c d e some most one two within h1 h2 h3 h4 h5 = let no : true ≡ false = sym (le-leb _ _ h2) ∙ most in absurd cc
 is_made us tops true true false d e some most one two within h1 h2 h3 h4 h5 = let no : true ≡ false = sym (le-leb _ _ h3) ∙ one in absurd cc
-is_made us tops true true true false e some most one two within h1 h2 h3 h4 h5 = let no : true ≡ false = sym (le-leb _ _ h4) ∙ two in absurd cc
-is_made us tops true true true true false some most one two within h1 h2 h3 h4 h5 = let no : true ≡ false = sym (le-leb _ _ h5) ∙ within in absurd cc
+is_made us tops true true true false e some most one two within h1 h2 h3 h4 h5 =
+    let no : true ≡ false = sym (le-leb _ _ h4) ∙ two in absurd cc
+is_made us tops true true true true false some most one two within h1 h2 h3 h4 h5 =
+    let no : true ≡ false = sym (le-leb _ _ h5) ∙ within in absurd cc
 
-pub path_is : (us : List Uid) (tops : ℕ) → 1 ≤ length us → length us ≤ 16 → 1 ≤ tops → tops ≤ 2 → tops ≤ length us → Makes (path_of us tops) us tops
+pub path_is : (us : List Uid) (tops : ℕ) → 1 ≤ length us → length us ≤ 16 → 1 ≤ tops → tops ≤ 2 → tops ≤ length us →
+    Makes (path_of us tops) us tops
 path_is us tops h1 h2 h3 h4 h5 = is_made us tops _ _ _ _ _ refl refl refl refl refl h1 h2 h3 h4 h5
 
 -- the array holds as many Uids as the path has

@@ -20,9 +20,14 @@ use Rattle.arj_msg.specs.Format.{made_by}
 use Rattle.arj_msg.specs.Fields.{node, binding, mode}
 use Rattle.arj_msg.specs.State.{state}
 use Rattle.arj_msg.specs.Operation.{answer}
-use Rattle.arj_msg.specs.Replies.{changed, changed_cases, changed_parts, bound_reply, bound_reply_cases, bound_reply_parts, loaded_reply, loaded_reply_cases, loaded_reply_parts, recorded_reply, recorded_reply_cases, recorded_reply_parts, invoked_reply, invoked_reply_cases, invoked_reply_parts, voted_reply, voted_reply_cases, voted_reply_parts, prepared_reply, prepared_reply_cases, prepared_reply_parts, confirmed_reply, confirmed_reply_cases, confirmed_reply_parts}
+use Rattle.arj_msg.specs.Replies.{changed, changed_cases, changed_parts, bound_reply, bound_reply_cases, bound_reply_parts, loaded_reply}
+use Rattle.arj_msg.specs.Replies.{loaded_reply_cases, loaded_reply_parts, recorded_reply, recorded_reply_cases, recorded_reply_parts}
+use Rattle.arj_msg.specs.Replies.{invoked_reply, invoked_reply_cases, invoked_reply_parts, voted_reply, voted_reply_cases}
+use Rattle.arj_msg.specs.Replies.{voted_reply_parts, prepared_reply, prepared_reply_cases, prepared_reply_parts, confirmed_reply}
+use Rattle.arj_msg.specs.Replies.{confirmed_reply_cases, confirmed_reply_parts}
 use Rattle.arj_msg.proofs.Laws.{Lawful}
-use Rattle.arj_msg.proofs.FieldLaws.{node_lawful, object_lawful, number4_lawful, number8_lawful, binding_lawful, uid_lawful, mode_lawful, both_lawful, list_lawful, nothing_lawful}
+use Rattle.arj_msg.proofs.FieldLaws.{node_lawful, object_lawful, number4_lawful, number8_lawful, binding_lawful, uid_lawful, mode_lawful}
+use Rattle.arj_msg.proofs.FieldLaws.{both_lawful, list_lawful, nothing_lawful}
 use Rattle.arj_msg.proofs.TextLaws.{answer_lawful}
 use Rattle.arj_msg.proofs.StateLaws.{state_lawful}
 use Rattle.arj_msg.proofs.CaseLaws.{by_case, choice_lawful}

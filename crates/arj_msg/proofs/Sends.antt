@@ -5,10 +5,12 @@ use Rattle.arj_class.specs.declared.op.Op.{Op}
 use Rattle.arj_class.specs.declared.op.Op.TheVariants as op
 use Rattle.arj_class.specs.declared.op.Answer.{Answer}
 use Rattle.arj_class.specs.declared.op.Answer.TheVariants as answered
-use Rattle.arj_msg.specs.InForm.{IsObject, IsShort, AreFew, StateFits, OpFits, AnswerFits, BoundFits, LoadedFits, InvokedFits, VotedFits, PreparedFits, ConfirmedFits, IsInForm}
+use Rattle.arj_msg.specs.InForm.{IsObject, IsShort, AreFew, StateFits, OpFits, AnswerFits, BoundFits, LoadedFits, InvokedFits, VotedFits}
+use Rattle.arj_msg.specs.InForm.{PreparedFits, ConfirmedFits, IsInForm}
 use Rattle.arj_msg.specs.Fields.{BindingFits}
 use Rattle.arj_msg.specs.Layout.{MessageInForm}
-use Rattle.arj_msg.specs.Sendable.{StateSends, OpSends, AnswerSends, BoundSends, LoadedSends, InvokedSends, VotedSends, PreparedSends, ConfirmedSends, IsSendable}
+use Rattle.arj_msg.specs.Sendable.{StateSends, OpSends, AnswerSends, BoundSends, LoadedSends, InvokedSends, VotedSends, PreparedSends}
+use Rattle.arj_msg.specs.Sendable.{ConfirmedSends, IsSendable}
 use Rattle.arj_msg.specs.declared.message.Message.{Message}
 use Rattle.arj_msg.specs.declared.message.Message.TheVariants as of
 use Rattle.arj_msg.specs.declared.message.BoundReply.{BoundReply}
@@ -97,11 +99,13 @@ table_sends (of.RecordMsg m) fits = fits.1
 table_sends (of.Recorded m) fits = tt
 table_sends (of.Invoke m) fits = (fits.1, fits.4.0, op_sends m.op fits.5)
 table_sends (of.Invoked m) fits = invoked_sends m.reply fits.1
-table_sends (of.Vote m) fits = (few_weaker (λ o. IsObject o.0 × BindingFits o.1) (λ o. IsObject o.0) (λ o one. one.0) m.objects fits.2, fits.3.0)
+table_sends (of.Vote m) fits =
+    (few_weaker (λ o. IsObject o.0 × BindingFits o.1) (λ o. IsObject o.0) (λ o one. one.0) m.objects fits.2, fits.3.0)
 table_sends (of.Voted m) fits = voted_sends m.reply fits.1
 table_sends (of.Prepare m) fits = few_weaker StateFits StateSends (λ s one. one.1) m.states fits.1
 table_sends (of.Prepared m) fits = prepared_sends m.reply fits.1
-table_sends (of.Confirm m) fits = (few_weaker (λ g. IsObject g.0 × IsShort g.1) (λ g. IsObject g.0) (λ g one. one.0) m.objects fits.1, fits.2, fits.3)
+table_sends (of.Confirm m) fits =
+    (few_weaker (λ g. IsObject g.0 × IsShort g.1) (λ g. IsObject g.0) (λ g one. one.0) m.objects fits.1, fits.2, fits.3)
 table_sends (of.Confirmed m) fits = confirmed_sends m.reply fits.1
 table_sends (of.Told m) fits = fits.1.0
 table_sends (of.Acked m) fits = tt

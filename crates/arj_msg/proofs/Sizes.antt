@@ -9,7 +9,11 @@ use Rattle.arj_msg.specs.Fields.{node, object, number2, number4, number8, bindin
 use Rattle.arj_msg.specs.State.{state}
 use Rattle.arj_msg.specs.Operation.{text, operation, op_cases, op_parts, answer, answer_cases, answer_parts}
 use Rattle.arj_msg.specs.Head.{path, path_parts, head, asked}
-use Rattle.arj_msg.specs.Replies.{changed, changed_cases, changed_parts, bound_reply, bound_reply_cases, bound_reply_parts, loaded_reply, loaded_reply_cases, loaded_reply_parts, recorded_reply, recorded_reply_cases, recorded_reply_parts, invoked_reply, invoked_reply_cases, invoked_reply_parts, voted_reply, voted_reply_cases, voted_reply_parts, prepared_reply, prepared_reply_cases, prepared_reply_parts, confirmed_reply, confirmed_reply_cases, confirmed_reply_parts}
+use Rattle.arj_msg.specs.Replies.{changed, changed_cases, changed_parts, bound_reply, bound_reply_cases, bound_reply_parts, loaded_reply}
+use Rattle.arj_msg.specs.Replies.{loaded_reply_cases, loaded_reply_parts, recorded_reply, recorded_reply_cases, recorded_reply_parts}
+use Rattle.arj_msg.specs.Replies.{invoked_reply, invoked_reply_cases, invoked_reply_parts, voted_reply, voted_reply_cases}
+use Rattle.arj_msg.specs.Replies.{voted_reply_parts, prepared_reply, prepared_reply_cases, prepared_reply_parts, confirmed_reply}
+use Rattle.arj_msg.specs.Replies.{confirmed_reply_cases, confirmed_reply_parts}
 use Rattle.arj_msg.specs.Requests.{bind, load, activate, record_msg, invoke, vote, prepare, confirm}
 use Rattle.arj_msg.specs.Answers.{bound, loaded, activated, recorded, invoked, voted, prepared, confirmed}
 use Rattle.arj_msg.specs.Layout.{told, acked, query, hello, message, message_cases, message_parts}
@@ -23,20 +27,23 @@ wider : {A : Type 0} {f : Format A} {n m : ℕ} → n ≤ m → AtMost f n → A
 wider le at = record { most = λ a fits. omega (arith, le, at.most a fits) }
 
 both_most : {A B : Type 0} {f : Format A} {g : Format B} {n m : ℕ} → AtMost f n → AtMost g m → AtMost (both f g) (n + m)
-both_most {f = f} {g = g} at_f at_g = record { most = λ p fits. omega (arith, length-append (f.spell p.0) (g.spell p.1), at_f.most p.0 fits.0, at_g.most p.1 fits.1) }
+both_most {f = f} {g = g} at_f at_g =
+    record { most = λ p fits. omega (arith, length-append (f.spell p.0) (g.spell p.1), at_f.most p.0 fits.0, at_g.most p.1 fits.1) }
 
 shaped_most : {A B : Type 0} (whole : A → B) (parts : B → A) {f : Format A} {n : ℕ} → AtMost f n → AtMost (shaped whole parts f) n
 shaped_most whole parts at = record { most = λ b fits. at.most (parts b) fits }
 
 -- no item of a list has more than 400 bytes
-items_most : {A : Type 0} (f : Format A) → AtMost f 400 → (items : List A) → AllByRecursion f.Fits items → length (flat_map f.spell items) ≤ 400 * length items
+items_most : {A : Type 0} (f : Format A) → AtMost f 400 → (items : List A) → AllByRecursion f.Fits items →
+    length (flat_map f.spell items) ≤ 400 * length items
 items_most f at [] fits = omega arith
 items_most f at (a ∷ items) fits =
     omega (arith, ap length (flat_map-cons f.spell a items), length-append (f.spell a) (flat_map f.spell items), at.most a fits.0, items_most f at items fits.1)
 
 list_most : {A : Type 0} {f : Format A} → AtMost f 400 → AtMost (list f) 102001
 unfolding byte
-list_most {f = f} at = record { most = λ items fits. omega (arith, items_most f at items fits.1.1, (between_le 0 255 (length items) fits.0).1) }
+list_most {f = f} at =
+    record { most = λ items fits. omega (arith, items_most f at items fits.1.1, (between_le 0 255 (length items) fits.0).1) }
 
 long_list_most : {A : Type 0} {f : Format A} → AtMost f 400 → AtMost (long_list f) 26214002
 unfolding number2
@@ -46,12 +53,14 @@ abbrev AllAtMost : {A : Type 0} → List (Case A) → ℕ → Type 0
 AllAtMost [] n = Unit {0}
 AllAtMost (c ∷ cases) n = AtMost c.form n × AllAtMost cases n
 
-one_most : {A : Type 0} (cases : List (Case A)) (n : ℕ) → AllAtMost cases n → (s : OneOf cases) → OneFits cases s → length (spell_one cases s) ≤ n
+one_most : {A : Type 0} (cases : List (Case A)) (n : ℕ) → AllAtMost cases n → (s : OneOf cases) → OneFits cases s →
+    length (spell_one cases s) ≤ n
 one_most [] n all s fits = absurd s
 one_most (c ∷ cases) n all (inl p) fits = all.0.most p fits
 one_most (c ∷ cases) n all (inr s) fits = one_most cases n all.1 s fits
 
-choice_most : {A : Type 0} (low : ℕ) (cases : List (Case A)) (parts : A → OneOf cases) (n : ℕ) → AllAtMost cases n → AtMost (choice low cases parts) (suc n)
+choice_most : {A : Type 0} (low : ℕ) (cases : List (Case A)) (parts : A → OneOf cases) (n : ℕ) → AllAtMost cases n →
+    AtMost (choice low cases parts) (suc n)
 choice_most low cases parts n all = record { most = λ a fits. omega (arith, one_most cases n all (parts a) fits) }
 
 -- ---- the fields
@@ -109,7 +118,8 @@ ends_most = list_most (wider (omega arith) (both_most uid_most outcome_most))
 
 operation_most : AtMost operation 66
 unfolding operation
-operation_most = choice_most 1 op_cases op_parts 65 (none, (number, (number, (text_most, (number, (number, (none, (number, (none, (number, (wider (omega arith) (both_most number8_most number8_most), (number, tt))))))))))))
+operation_most =
+    choice_most 1 op_cases op_parts 65 (none, (number, (number, (text_most, (number, (number, (none, (number, (none, (number, (wider (omega arith) (both_most number8_most number8_most), (number, tt))))))))))))
   where
     number : AtMost number8 65
     number = wider (omega arith) number8_most
@@ -119,7 +129,8 @@ operation_most = choice_most 1 op_cases op_parts 65 (none, (number, (number, (te
 
 answer_most : AtMost answer 66
 unfolding answer
-answer_most = choice_most 0 answer_cases answer_parts 65 (none, (wider (omega arith) number8_most, (text_most, (none, (none, (none, (none, tt)))))))
+answer_most =
+    choice_most 0 answer_cases answer_parts 65 (none, (wider (omega arith) number8_most, (text_most, (none, (none, (none, (none, tt)))))))
   where
     none : AtMost nothing 65
     none = wider (omega arith) nothing_most
@@ -144,35 +155,43 @@ asked_most = shaped_most _ _ (both_most uid_most number4_most)
 
 changed_most : AtMost changed 17
 unfolding changed
-changed_most = choice_most 0 changed_cases changed_parts 16 (wider (omega arith) (both_most number4_most number4_most), (wider (omega arith) (both_most binding_most binding_most), tt))
+changed_most =
+    choice_most 0 changed_cases changed_parts 16 (wider (omega arith) (both_most number4_most number4_most), (wider (omega arith) (both_most binding_most binding_most), tt))
 
 bound_reply_most : AtMost bound_reply 200000
 unfolding bound_reply
-bound_reply_most = choice_most 0 bound_reply_cases bound_reply_parts 199999 (wider (omega arith) (both_most binding_most (both_most node_most (both_most number4_most (both_most number4_most (list_most (wider (omega arith) node_most)))))), (wider (omega arith) (both_most binding_most (both_most node_most (both_most number4_most (list_most (wider (omega arith) node_most))))), (wider (omega arith) (both_most number4_most (list_most (wider (omega arith) node_most))), (wider (omega arith) (both_most uid_most mode_most), tt))))
+bound_reply_most =
+    choice_most 0 bound_reply_cases bound_reply_parts 199999 (wider (omega arith) (both_most binding_most (both_most node_most (both_most number4_most (both_most number4_most (list_most (wider (omega arith) node_most)))))), (wider (omega arith) (both_most binding_most (both_most node_most (both_most number4_most (list_most (wider (omega arith) node_most))))), (wider (omega arith) (both_most number4_most (list_most (wider (omega arith) node_most))), (wider (omega arith) (both_most uid_most mode_most), tt))))
 
 loaded_reply_most : AtMost loaded_reply 200000
 unfolding loaded_reply
-loaded_reply_most = choice_most 0 loaded_reply_cases loaded_reply_parts 199999 (wider (omega arith) state_most, (wider (omega arith) uid_most, tt))
+loaded_reply_most =
+    choice_most 0 loaded_reply_cases loaded_reply_parts 199999 (wider (omega arith) state_most, (wider (omega arith) uid_most, tt))
 
 recorded_reply_most : AtMost recorded_reply 200000
 unfolding recorded_reply
-recorded_reply_most = choice_most 0 recorded_reply_cases recorded_reply_parts 199999 (wider (omega arith) nothing_most, (wider (omega arith) changed_most, tt))
+recorded_reply_most =
+    choice_most 0 recorded_reply_cases recorded_reply_parts 199999 (wider (omega arith) nothing_most, (wider (omega arith) changed_most, tt))
 
 invoked_reply_most : AtMost invoked_reply 200000
 unfolding invoked_reply
-invoked_reply_most = choice_most 0 invoked_reply_cases invoked_reply_parts 199999 (wider (omega arith) answer_most, (wider (omega arith) (both_most uid_most mode_most), (wider (omega arith) changed_most, tt)))
+invoked_reply_most =
+    choice_most 0 invoked_reply_cases invoked_reply_parts 199999 (wider (omega arith) answer_most, (wider (omega arith) (both_most uid_most mode_most), (wider (omega arith) changed_most, tt)))
 
 voted_reply_most : AtMost voted_reply 200000
 unfolding voted_reply
-voted_reply_most = choice_most 0 voted_reply_cases voted_reply_parts 199999 (wider (omega arith) (list_most (wider (omega arith) state_most)), (wider (omega arith) changed_most, tt))
+voted_reply_most =
+    choice_most 0 voted_reply_cases voted_reply_parts 199999 (wider (omega arith) (list_most (wider (omega arith) state_most)), (wider (omega arith) changed_most, tt))
 
 prepared_reply_most : AtMost prepared_reply 200000
 unfolding prepared_reply
-prepared_reply_most = choice_most 0 prepared_reply_cases prepared_reply_parts 199999 (wider (omega arith) nothing_most, (wider (omega arith) (both_most object_most uid_most), (wider (omega arith) (both_most object_most number8_most), tt)))
+prepared_reply_most =
+    choice_most 0 prepared_reply_cases prepared_reply_parts 199999 (wider (omega arith) nothing_most, (wider (omega arith) (both_most object_most uid_most), (wider (omega arith) (both_most object_most number8_most), tt)))
 
 confirmed_reply_most : AtMost confirmed_reply 200000
 unfolding confirmed_reply
-confirmed_reply_most = choice_most 0 confirmed_reply_cases confirmed_reply_parts 199999 (wider (omega arith) nothing_most, (wider (omega arith) (both_most uid_most mode_most), (wider (omega arith) changed_most, (wider (omega arith) object_most, (wider (omega arith) (both_most object_most node_most), tt)))))
+confirmed_reply_most =
+    choice_most 0 confirmed_reply_cases confirmed_reply_parts 199999 (wider (omega arith) nothing_most, (wider (omega arith) (both_most uid_most mode_most), (wider (omega arith) changed_most, (wider (omega arith) object_most, (wider (omega arith) (both_most object_most node_most), tt)))))
 
 bind_most : AtMost bind 60000000
 unfolding bind
@@ -200,7 +219,8 @@ activated_most = shaped_most _ _ (wider (omega arith) (both_most asked_most numb
 
 record_msg_most : AtMost record_msg 60000000
 unfolding record_msg
-record_msg_most = shaped_most _ _ (wider (omega arith) (both_most head_most (both_most object_most (both_most binding_most (both_most number4_most number4_most)))))
+record_msg_most =
+    shaped_most _ _ (wider (omega arith) (both_most head_most (both_most object_most (both_most binding_most (both_most number4_most number4_most)))))
 
 recorded_most : AtMost recorded 60000000
 unfolding recorded
@@ -208,7 +228,8 @@ recorded_most = shaped_most _ _ (wider (omega arith) (both_most asked_most recor
 
 invoke_most : AtMost invoke 60000000
 unfolding invoke
-invoke_most = shaped_most _ _ (wider (omega arith) (both_most head_most (both_most object_most (both_most binding_most (both_most number4_most (both_most ends_most operation_most))))))
+invoke_most =
+    shaped_most _ _ (wider (omega arith) (both_most head_most (both_most object_most (both_most binding_most (both_most number4_most (both_most ends_most operation_most))))))
 
 invoked_most : AtMost invoked 60000000
 unfolding invoked
@@ -232,7 +253,8 @@ prepared_most = shaped_most _ _ (wider (omega arith) (both_most asked_most prepa
 
 confirm_most : AtMost confirm 60000000
 unfolding confirm
-confirm_most = shaped_most _ _ (wider (omega arith) (both_most head_most (both_most (list_most (wider (omega arith) (both_most object_most number4_most))) (both_most (long_list_most (wider (omega arith) (both_most object_most node_most))) (long_list_most (wider (omega arith) (both_most object_most node_most)))))))
+confirm_most =
+    shaped_most _ _ (wider (omega arith) (both_most head_most (both_most (list_most (wider (omega arith) (both_most object_most number4_most))) (both_most (long_list_most (wider (omega arith) (both_most object_most node_most))) (long_list_most (wider (omega arith) (both_most object_most node_most)))))))
 
 confirmed_most : AtMost confirmed 60000000
 unfolding confirmed
@@ -256,4 +278,5 @@ hello_most = shaped_most _ _ (wider (omega arith) (both_most node_most number4_m
 
 pub message_most : AtMost message 60000001
 unfolding message
-message_most = choice_most 1 message_cases message_parts 60000000 (bind_most, (bound_most, (load_most, (loaded_most, (activate_most, (activated_most, (record_msg_most, (recorded_most, (invoke_most, (invoked_most, (vote_most, (voted_most, (prepare_most, (prepared_most, (confirm_most, (confirmed_most, (told_most, (acked_most, (query_most, (hello_most, tt))))))))))))))))))))
+message_most =
+    choice_most 1 message_cases message_parts 60000000 (bind_most, (bound_most, (load_most, (loaded_most, (activate_most, (activated_most, (record_msg_most, (recorded_most, (invoke_most, (invoked_most, (vote_most, (voted_most, (prepare_most, (prepared_most, (confirm_most, (confirmed_most, (told_most, (acked_most, (query_most, (hello_most, tt))))))))))))))))))))

@@ -1,5 +1,7 @@
 -- The laws of object states in messages.
-use Rattle.std.proofs.Common.{◌≡◌, ◌≢◌, ℕ, ◌+◌, ◌*◌, ◌/◌, ◌<◌, ◌≤◌, List, [], ◌∷◌, ◌++◌, length, take, drop, Some, None, Option, is_some, Result, Ok, Err, codes, sym, ap, subst, refl, ◌∙◌, append_assoc, arith, Bool, true, false, ◌&&◌, nat_eq, nat_le, nat_lt, if◌then◌else◌}
+use Rattle.std.proofs.Common.{◌≡◌, ◌≢◌, ℕ, ◌+◌, ◌*◌, ◌/◌, ◌<◌, ◌≤◌, List, [], ◌∷◌, ◌++◌, length, take, drop, Some, None, Option, is_some}
+use Rattle.std.proofs.Common.{Result, Ok, Err, codes, sym, ap, subst, refl, ◌∙◌, append_assoc, arith, Bool, true, false, ◌&&◌, nat_eq}
+use Rattle.std.proofs.Common.{nat_le, nat_lt, if◌then◌else◌}
 use Rattle.std.specs.List.{flat_map, AllByRecursion, starts_with}
 use Rattle.std.proofs.Math.Nat.{mul-div_cancel_left, div-le_of_le-mul}
 use Rattle.std.proofs.lemmas.Bool.{le-leb, leb-true, lt-ltb, ltb-true}
@@ -18,14 +20,17 @@ use Rattle.arj_class.specs.Forms.{ValueInForm, NumbersFit, PairsFit, payload_of}
 use Rattle.arj_class.specs.Keys.{KeysAbove, KeysRise, pair_bytes}
 use Rattle.arj_msg.specs.Format.{Format, byte, both, many, between}
 use Rattle.arj_msg.specs.Fields.{number8, uid}
-use Rattle.arj_msg.specs.State.{all_read, in_all, rise_in, rises, rises_from, restores, Restores, magic, cut_magic, object_class, class_from, cut_long, long_bytes, packed, restored, state_from, with_rest, state_in, state}
+use Rattle.arj_msg.specs.State.{all_read, in_all, rise_in, rises, rises_from, restores, Restores, magic, cut_magic, object_class}
+use Rattle.arj_msg.specs.State.{class_from, cut_long, long_bytes, packed, restored, state_from, with_rest, state_in, state}
 use Rattle.arj_msg.proofs.Laws.{IsBytes, Lawful, field_lawful, shaped_lawful, many_lawful, bytes_of_rest}
-use Rattle.arj_msg.proofs.FieldLaws.{if_some, bytes_take, bytes_drop, byte_lawful, between_le, each_to, number8_lawful, uid_lawful, both_lawful}
+use Rattle.arj_msg.proofs.FieldLaws.{if_some, bytes_take, bytes_drop, byte_lawful, between_le, each_to, number8_lawful, uid_lawful}
+use Rattle.arj_msg.proofs.FieldLaws.{both_lawful}
 use Rattle.arj_msg.proofs.TextLaws.{long_found, long_again, long_lawful}
 
 -- ---- all of the bytes
 
-all_found_by : {A : Type 0} (f : Format A) → Lawful f → (bytes : List ℕ) (a : A) (r : Result (A × List ℕ) ℕ) → IsBytes bytes → f.read bytes ≡ r → all_read r ≡ Some a → f.Fits a × (bytes ≡ f.spell a)
+all_found_by : {A : Type 0} (f : Format A) → Lawful f → (bytes : List ℕ) (a : A) (r : Result (A × List ℕ) ℕ) → IsBytes bytes →
+    f.read bytes ≡ r → all_read r ≡ Some a → f.Fits a × (bytes ≡ f.spell a)
 all_found_by f law bytes a (Ok (w, [])) are read e =
     let same : w ≡ a = cc in
     let got = law.found bytes w [] are read in
@@ -33,7 +38,8 @@ all_found_by f law bytes a (Ok (w, [])) are read e =
 all_found_by f law bytes a (Ok (w, b ∷ rest)) are read e = absurd cc
 all_found_by f law bytes a (Err n) are read e = absurd cc
 
-pub all_found : {A : Type 0} (f : Format A) → Lawful f → (bytes : List ℕ) (a : A) → IsBytes bytes → in_all f bytes ≡ Some a → f.Fits a × (bytes ≡ f.spell a)
+pub all_found : {A : Type 0} (f : Format A) → Lawful f → (bytes : List ℕ) (a : A) → IsBytes bytes → in_all f bytes ≡ Some a →
+    f.Fits a × (bytes ≡ f.spell a)
 all_found f law bytes a are e = all_found_by f law bytes a (f.read bytes) are refl e
 
 pub all_again : {A : Type 0} (f : Format A) → Lawful f → (a : A) → f.Fits a → in_all f (f.spell a) ≡ Some a
@@ -116,7 +122,8 @@ short_payload (value.Table ps) form = omega (arith, length_pairs ps, form.0)
 pair_lawful : Lawful (both number8 number8)
 pair_lawful = both_lawful number8_lawful number8_lawful
 
-number_saved : (payload : List ℕ) → IsBytes payload → is_some (in_all number8 payload) ≡ true → (n : ℕ) × (n < 18446744073709551616) × (big_bytes 8 n ≡ payload)
+number_saved : (payload : List ℕ) → IsBytes payload → is_some (in_all number8 payload) ≡ true →
+    (n : ℕ) × (n < 18446744073709551616) × (big_bytes 8 n ≡ payload)
 unfolding number8
 number_saved payload are e =
     let there = is_there (in_all number8 payload) e in
@@ -163,7 +170,8 @@ queue_restores ns form =
     let payload = flat_map (big_bytes 8) ns in
     let count : length payload / 8 ≡ length ns = ap (λ m. m / 8) (length_numbers ns) ∙ mul-div_cancel_left (length ns) (omega arith) in
     let short = le-leb (length payload) 256 (omega (arith, length_numbers ns, form.0)) in
-    let read : in_all (many number8 (length payload / 8)) payload ≡ Some ns = ap (λ k. in_all (many number8 k) payload) count ∙ all_again (many number8 (length ns)) (many_lawful number8 number8_lawful (length ns)) ns (refl, fit_numbers ns form.1) in
+    let read : in_all (many number8 (length payload / 8)) payload ≡ Some ns =
+    ap (λ k. in_all (many number8 k) payload) count ∙ all_again (many number8 (length ns)) (many_lawful number8 number8_lawful (length ns)) ns (refl, fit_numbers ns form.1) in
     λ i. short i && is_some (read i)
 
 table_restores : (ps : List (ℕ × ℕ)) → ValueInForm (value.Table ps) → restores class.Table (flat_map pair_bytes ps) ≡ true
@@ -188,7 +196,8 @@ restores_again c payload saved = (λ i. restores (sym saved.1 i) (sym saved.3 i)
 
 -- ---- packed states
 
-magic_found : (bytes : List ℕ) (a : Unit {0}) (rest : List ℕ) → IsBytes bytes → cut_magic bytes ≡ Some (a, rest) → Unit {0} × (bytes ≡ codes "ARJ1" ++ rest)
+magic_found : (bytes : List ℕ) (a : Unit {0}) (rest : List ℕ) → IsBytes bytes → cut_magic bytes ≡ Some (a, rest) →
+    Unit {0} × (bytes ≡ codes "ARJ1" ++ rest)
 magic_found bytes a rest are e =
     let found = if_some (starts_with nat_eq bytes (codes "ARJ1")) (tt, drop 4 bytes) (a, rest) e in
     let front : codes "ARJ1" ≡ take 4 bytes = (bytes_eq-Decides (codes "ARJ1") (take 4 bytes)).0 found.0 in
@@ -211,7 +220,8 @@ class_there : (code : ℕ) → (byte 1 5).Fits code → class_code_of (class_fro
 unfolding byte
 class_there code fits =
     let within = between_le 1 5 code fits in
-    each_to (λ n. 1 ≤ n → class_code_of (class_from n) ≡ n) 5 ((λ _. refl), ((λ _. refl), ((λ _. refl), ((λ _. refl), ((λ _. refl), (λ le. absurd (omega (arith, le)))))))) code within.1 within.0
+    each_to (λ n. 1 ≤ n →
+    class_code_of (class_from n) ≡ n) 5 ((λ _. refl), ((λ _. refl), ((λ _. refl), ((λ _. refl), ((λ _. refl), (λ le. absurd (omega (arith, le)))))))) code within.1 within.0
 
 class_lawful : Lawful object_class
 unfolding object_class
@@ -219,7 +229,8 @@ class_lawful = shaped_lawful _ _ (byte_lawful 1 5 (omega arith)) class_there cla
 
 pub packed_lawful : Lawful packed
 unfolding packed
-packed_lawful = shaped_lawful _ _ (both_lawful magic_lawful (both_lawful uid_lawful (both_lawful class_lawful (both_lawful number8_lawful (both_lawful uid_lawful long_lawful))))) (λ p fits. refl) (λ s fits. refl)
+packed_lawful =
+    shaped_lawful _ _ (both_lawful magic_lawful (both_lawful uid_lawful (both_lawful class_lawful (both_lawful number8_lawful (both_lawful uid_lawful long_lawful))))) (λ p fits. refl) (λ s fits. refl)
 
 -- a packed state is spelled as in a file
 packed_bytes : (s : ObjectState) → packed.spell s ≡ state_bytes s
@@ -239,7 +250,8 @@ class_codes (value.Table ps) = refl
 
 fits_packed : (s : ObjectState) → StateInForm s → Restores s.class s.payload → packed.Fits s
 unfolding packed magic uid object_class byte number8 long_bytes
-fits_packed s form saved = (tt, (form.0, (subst (λ c. between 1 5 (class_code_of c) ≡ true) saved.1 (class_codes saved.0), (form.1, (form.2, form.3)))))
+fits_packed s form saved =
+    (tt, (form.0, (subst (λ c. between 1 5 (class_code_of c) ≡ true) saved.1 (class_codes saved.0), (form.1, (form.2, form.3)))))
 
 -- what is found in all of the bytes
 pub record Unpacks (bytes : List ℕ) (s : ObjectState) : Type 0 where
@@ -250,13 +262,20 @@ pub record Unpacks (bytes : List ℕ) (s : ObjectState) : Type 0 where
 payload_behind : (s : ObjectState) → IsBytes (state_bytes s) → IsBytes s.payload
 payload_behind s are = bytes_drop 47 (state_bytes s) are
 
-unpacks_by : (bytes : List ℕ) (s : ObjectState) (o : Option ObjectState) → IsBytes bytes → in_all packed bytes ≡ o → restored o ≡ Some s → Unpacks bytes s
+unpacks_by : (bytes : List ℕ) (s : ObjectState) (o : Option ObjectState) → IsBytes bytes → in_all packed bytes ≡ o → restored o ≡ Some s →
+    Unpacks bytes s
 unpacks_by bytes s None are read e = absurd cc
 unpacks_by bytes s (Some t) are read e =
     let found = if_some (restores t.class t.payload) t s e in
     let got = all_found packed packed_lawful bytes t are read in
     let spelled : bytes ≡ state_bytes t = got.1 ∙ packed_bytes t in
-    let all : Unpacks bytes t = record { spelled = spelled; in_form = packed_fits t got.0; saved = restores_found t.class t.payload (payload_behind t (subst IsBytes spelled are)) found.0 } in
+    let all : Unpacks bytes t =
+    record {
+      spelled = spelled;
+      in_form = packed_fits t got.0;
+      saved =
+          restores_found t.class t.payload (payload_behind t (subst IsBytes spelled are)) found.0;
+    } in
     subst (Unpacks bytes) found.1 all
 
 pub unpacks : (bytes : List ℕ) (s : ObjectState) → IsBytes bytes → state_from bytes ≡ Some s → Unpacks bytes s
@@ -266,46 +285,55 @@ unpacks bytes s are e = unpacks_by bytes s (in_all packed bytes) are refl e
 pub unpacks_again : (s : ObjectState) → StateInForm s → Restores s.class s.payload → state_from (state_bytes s) ≡ Some s
 unfolding state_from
 unpacks_again s form saved =
-    let read : in_all packed (state_bytes s) ≡ Some s = ap (in_all packed) (sym (packed_bytes s)) ∙ all_again packed packed_lawful s (fits_packed s form saved) in
+    let read : in_all packed (state_bytes s) ≡ Some s =
+    ap (in_all packed) (sym (packed_bytes s)) ∙ all_again packed packed_lawful s (fits_packed s form saved) in
     ap restored read ∙ ap (λ t. if t then Some s else None) (restores_again s.class s.payload saved)
 
-none_by : (bytes : List ℕ) (o : Option ObjectState) → IsBytes bytes → state_from bytes ≡ o → ((s : ObjectState) → StateInForm s → Restores s.class s.payload → state_bytes s ≢ bytes) → o ≡ None
+none_by : (bytes : List ℕ) (o : Option ObjectState) → IsBytes bytes → state_from bytes ≡ o →
+    ((s : ObjectState) → StateInForm s → Restores s.class s.payload → state_bytes s ≢ bytes) → o ≡ None
 none_by bytes None are read none = refl
 none_by bytes (Some s) are read none = let got = unpacks bytes s are read in absurd (none s got.in_form got.saved (sym got.spelled))
 
-pub unpacks_none : (bytes : List ℕ) → IsBytes bytes → ((s : ObjectState) → StateInForm s → Restores s.class s.payload → state_bytes s ≢ bytes) → state_from bytes ≡ None
+pub unpacks_none : (bytes : List ℕ) → IsBytes bytes →
+    ((s : ObjectState) → StateInForm s → Restores s.class s.payload → state_bytes s ≢ bytes) → state_from bytes ≡ None
 unpacks_none bytes are none = none_by bytes (state_from bytes) are refl none
 
 -- ---- the field
 
-state_found : (bytes : List ℕ) (s : ObjectState) (rest : List ℕ) (o : Option (List ℕ × List ℕ)) → IsBytes bytes → cut_long bytes ≡ o → state_in o ≡ Some (s, rest)
+state_found : (bytes : List ℕ) (s : ObjectState) (rest : List ℕ) (o : Option (List ℕ × List ℕ)) → IsBytes bytes → cut_long bytes ≡ o →
+    state_in o ≡ Some (s, rest)
     → (StateInForm s × Restores s.class s.payload) × (bytes ≡ (big_bytes 2 (length (state_bytes s)) ++ state_bytes s) ++ rest)
 state_found bytes s rest None are cut e = absurd cc
 state_found bytes s rest (Some p) are cut e = by (state_from p.0) refl e
   where
-    by : (o : Option ObjectState) → state_from p.0 ≡ o → with_rest p.1 o ≡ Some (s, rest) → (StateInForm s × Restores s.class s.payload) × (bytes ≡ (big_bytes 2 (length (state_bytes s)) ++ state_bytes s) ++ rest)
+    by : (o : Option ObjectState) → state_from p.0 ≡ o → with_rest p.1 o ≡ Some (s, rest) →
+        (StateInForm s × Restores s.class s.payload) × (bytes ≡ (big_bytes 2 (length (state_bytes s)) ++ state_bytes s) ++ rest)
     by None read e = absurd cc
     by (Some t) read e =
         let pair : (t, p.1) ≡ (s, rest) = some_is (t, p.1) (s, rest) e in
         let same : t ≡ s = ap (λ q. q.0) pair in
         let behind : p.1 ≡ rest = ap (λ q. q.1) pair in
         let long = long_found bytes p.0 p.1 are cut in
-        let are_packed : IsBytes p.0 = subst IsBytes (take_at p.0 p.1 (length p.0) refl) (bytes_take (length p.0) (p.0 ++ p.1) (bytes_of_rest bytes (big_bytes 2 (length p.0)) (p.0 ++ p.1) are (long.1 ∙ append_assoc (big_bytes 2 (length p.0)) p.0 p.1))) in
+        let are_packed : IsBytes p.0 =
+        subst IsBytes (take_at p.0 p.1 (length p.0) refl) (bytes_take (length p.0) (p.0 ++ p.1) (bytes_of_rest bytes (big_bytes 2 (length p.0)) (p.0 ++ p.1) are (long.1 ∙ append_assoc (big_bytes 2 (length p.0)) p.0 p.1))) in
         let got = unpacks p.0 s are_packed (read ∙ ap Some same) in
         ((got.in_form, got.saved), long.1 ∙ (λ i. (big_bytes 2 (length (got.spelled i)) ++ got.spelled i) ++ behind i))
 
 pub state_short : (s : ObjectState) → Restores s.class s.payload → length (state_bytes s) ≤ 303
 state_short s saved = omega (arith, short_payload saved.0 saved.2, ap length saved.3)
 
-state_again : (s : ObjectState) (rest : List ℕ) → StateInForm s × Restores s.class s.payload → state_in (cut_long ((big_bytes 2 (length (state_bytes s)) ++ state_bytes s) ++ rest)) ≡ Some (s, rest)
-state_again s rest fits = ap state_in (long_again (state_bytes s) rest (omega (arith, state_short s fits.1))) ∙ ap (with_rest rest) (unpacks_again s fits.0 fits.1)
+state_again : (s : ObjectState) (rest : List ℕ) → StateInForm s × Restores s.class s.payload →
+    state_in (cut_long ((big_bytes 2 (length (state_bytes s)) ++ state_bytes s) ++ rest)) ≡ Some (s, rest)
+state_again s rest fits =
+    ap state_in (long_again (state_bytes s) rest (omega (arith, state_short s fits.1))) ∙ ap (with_rest rest) (unpacks_again s fits.0 fits.1)
 
 abbrev some_state : ObjectState
 some_state = record { uid = nobody; class = class.Register; version = 0; writer = nobody; payload = [] }
 
 pub state_lawful : Lawful state
 unfolding state
-state_lawful = field_lawful (λ s. big_bytes 2 (length (state_bytes s)) ++ state_bytes s) (λ s. StateInForm s × Restores s.class s.payload) (λ bytes. state_in (cut_long bytes)) (λ bytes s rest are e. state_found bytes s rest (cut_long bytes) are refl e) state_again
+state_lawful =
+    field_lawful (λ s. big_bytes 2 (length (state_bytes s)) ++ state_bytes s) (λ s. StateInForm s × Restores s.class s.payload) (λ bytes. state_in (cut_long bytes)) (λ bytes s rest are e. state_found bytes s rest (cut_long bytes) are refl e) state_again
     (some_state, (((omega arith, omega arith, omega arith), omega arith, (omega arith, omega arith, omega arith), omega arith), (value.Register [], refl, omega arith, refl)))
 
 -- ---- writing one
@@ -318,8 +346,10 @@ unfolding state uid number8
 state_fits s own version writer saved = ((own, version, writer, omega (arith, state_payload s saved)), saved)
 
 -- what is put, piece by piece, is the state
-pub state_put : (s : ObjectState) (n : ℕ) (payload out o1 o2 o3 o4 o5 o6 o7 o8 : List ℕ) → n ≡ length s.payload → payload ≡ s.payload → o1 ≡ out ++ big_bytes 2 (47 + n) → o2 ≡ o1 ++ codes "ARJ1" → o3 ≡ o2 ++ uid.spell s.uid → o4 ≡ o3 ++ class_code_of s.class ∷ []
-    → o5 ≡ o4 ++ number8.spell s.version → o6 ≡ o5 ++ uid.spell s.writer → o7 ≡ o6 ++ big_bytes 2 n → o8 ≡ o7 ++ payload → o8 ≡ out ++ state.spell s
+pub state_put : (s : ObjectState) (n : ℕ) (payload out o1 o2 o3 o4 o5 o6 o7 o8 : List ℕ) → n ≡ length s.payload → payload ≡ s.payload →
+    o1 ≡ out ++ big_bytes 2 (47 + n) → o2 ≡ o1 ++ codes "ARJ1" → o3 ≡ o2 ++ uid.spell s.uid → o4 ≡ o3 ++ class_code_of s.class ∷ []
+    → o5 ≡ o4 ++ number8.spell s.version → o6 ≡ o5 ++ uid.spell s.writer → o7 ≡ o6 ++ big_bytes 2 n → o8 ≡ o7 ++ payload →
+    o8 ≡ out ++ state.spell s
 unfolding state uid number8
 state_put s n payload out o1 o2 o3 o4 o5 o6 o7 o8 long same e1 e2 e3 e4 e5 e6 e7 e8 =
     let size : 47 + length s.payload ≡ length (state_bytes s) = omega arith in

@@ -1,5 +1,6 @@
 -- The laws of bytes behind their length, of operations and of answers.
-use Rattle.std.proofs.Common.{◌≡◌, ℕ, ◌<◌, ◌≤◌, List, [], ◌∷◌, ◌++◌, length, take, drop, Some, None, sym, ap, refl, ◌∙◌, append_assoc, arith, true, false, ◌&&◌, nat_le, nat_lt, if◌then◌else◌}
+use Rattle.std.proofs.Common.{◌≡◌, ℕ, ◌<◌, ◌≤◌, List, [], ◌∷◌, ◌++◌, length, take, drop, Some, None, sym, ap, refl, ◌∙◌, append_assoc}
+use Rattle.std.proofs.Common.{arith, true, false, ◌&&◌, nat_le, nat_lt, if◌then◌else◌}
 use Rattle.std.specs.Int.{w16, from_be_bytes}
 use Rattle.std.proofs.lemmas.Bool.{le-leb, leb-true, le-ltb, ltb-false}
 use Rattle.std.proofs.lemmas.Bool.Decides.{nat_tests}
@@ -19,7 +20,8 @@ use Rattle.arj_msg.proofs.CaseLaws.{by_case, choice_lawful}
 
 -- the first n of enough bytes, and those behind them
 cut_at : (n : ℕ) (bytes a rest : List ℕ) → n ≤ length bytes → take n bytes ≡ a → drop n bytes ≡ rest → (length a ≡ n) × (bytes ≡ a ++ rest)
-cut_at n bytes a rest le front behind = (omega (arith, ap length front, length-take n bytes), sym (take-append-drop n bytes) ∙ (λ i. front i ++ behind i))
+cut_at n bytes a rest le front behind =
+    (omega (arith, ap length front, length-take n bytes), sym (take-append-drop n bytes) ∙ (λ i. front i ++ behind i))
 
 text_found : (bytes a rest : List ℕ) → IsBytes bytes → cut_text bytes ≡ Some (a, rest) → (length a ≤ 64) × (bytes ≡ (length a ∷ a) ++ rest)
 text_found [] a rest are e = absurd cc
@@ -32,14 +34,16 @@ text_found (n ∷ bytes) a rest are e =
 
 text_again : (a rest : List ℕ) → length a ≤ 64 → cut_text ((length a ∷ a) ++ rest) ≡ Some (a, rest)
 text_again a rest small =
-    let fits : (nat_le (length a) 64 && nat_le (length a) (length (a ++ rest))) ≡ true = (λ i. le-leb (length a) 64 small i && le-leb (length a) (length (a ++ rest)) (omega (arith, length-append a rest)) i) in
+    let fits : (nat_le (length a) 64 && nat_le (length a) (length (a ++ rest))) ≡ true =
+    (λ i. le-leb (length a) 64 small i && le-leb (length a) (length (a ++ rest)) (omega (arith, length-append a rest)) i) in
     ap (λ t. if t then Some (take (length a) (a ++ rest), drop (length a) (a ++ rest)) else None) fits ∙ (λ i. Some (take_at a rest (length a) refl i, drop_at a rest (length a) refl i))
 
 pub text_lawful : Lawful text
 unfolding text
 text_lawful = field_lawful (λ bytes. length bytes ∷ bytes) (λ bytes. length bytes ≤ 64) cut_text text_found text_again ([], omega arith)
 
-pub long_found : (bytes a rest : List ℕ) → IsBytes bytes → cut_long bytes ≡ Some (a, rest) → (length a < 65536) × (bytes ≡ (big_bytes 2 (length a) ++ a) ++ rest)
+pub long_found : (bytes a rest : List ℕ) → IsBytes bytes → cut_long bytes ≡ Some (a, rest) →
+    (length a < 65536) × (bytes ≡ (big_bytes 2 (length a) ++ a) ++ rest)
 long_found bytes a rest are e =
     let n = from_be_bytes w16 (take 2 bytes) in
     let two = else_some (nat_lt (length bytes) 2) (bytes_behind_length n (drop 2 bytes)) (a, rest) e in
@@ -61,7 +65,8 @@ long_again a rest small =
 
 pub long_lawful : Lawful long_bytes
 unfolding long_bytes
-long_lawful = field_lawful (λ bytes. big_bytes 2 (length bytes) ++ bytes) (λ bytes. length bytes < 65536) cut_long long_found long_again ([], omega arith)
+long_lawful =
+    field_lawful (λ bytes. big_bytes 2 (length bytes) ++ bytes) (λ bytes. length bytes < 65536) cut_long long_found long_again ([], omega arith)
 
 -- ---- operations and answers
 

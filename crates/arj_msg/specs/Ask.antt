@@ -23,8 +23,11 @@ abbrev pub request : Head → Ask → Message
 request h (ask.Bind x include avoid) = of.Bind (record { head = h; x = x; include = include; avoid = avoid })
 request h (ask.Load x) = of.Load (record { head = h; x = x })
 request h (ask.Activate binding state) = of.Activate (record { head = h; binding = binding; state = state })
-request h (ask.Record x binding server naming) = of.RecordMsg (record { head = h; x = x; binding = binding; server_inc = server; naming_inc = naming })
-request h (ask.Invoke x binding server ends op) = of.Invoke (record { head = h; x = x; binding = binding; server_inc = server; ends = ends; op = op })
+request h (ask.Record x binding server naming) =
+    of.RecordMsg (record { head = h; x = x; binding = binding; server_inc = server; naming_inc = naming })
+request h (ask.Invoke x binding server ends op) =
+    of.Invoke (record { head = h; x = x; binding = binding; server_inc = server; ends = ends; op = op })
 request h (ask.Vote server objects ends) = of.Vote (record { head = h; server_inc = server; objects = objects; ends = ends })
 request h (ask.Prepare states) = of.Prepare (record { head = h; states = states })
-request h (ask.Confirm objects excluded included) = of.Confirm (record { head = h; objects = objects; excluded = excluded; included = included })
+request h (ask.Confirm objects excluded included) =
+    of.Confirm (record { head = h; objects = objects; excluded = excluded; included = included })

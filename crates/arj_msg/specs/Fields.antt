@@ -55,7 +55,13 @@ binding = one_field binding_bytes BindingFits (cut_fixed 8 binding_from (λ _. t
 
 -- the Uid in sixteen bytes: four of its node, four of its incarnation, eight of its number
 abbrev pub uid_from : List ℕ → Uid
-uid_from bytes = record { node = from_be_bytes w32 (take 4 bytes); inc = from_be_bytes w32 (take 4 (drop 4 bytes)); num = from_be_bytes w64 (drop 8 bytes) }
+uid_from bytes =
+    record {
+      node = from_be_bytes w32 (take 4 bytes);
+      inc = from_be_bytes w32 (take 4 (drop 4 bytes));
+      num =
+          from_be_bytes w64 (drop 8 bytes);
+    }
 
 -- a Uid: sixteen bytes, any of them allowed
 unfoldable pub uid : Format Uid

@@ -29,13 +29,17 @@ path_with us tops some most one two within = record {
 }
 
 -- the path of one Uid, where the tests fail
-abbrev pub path_if : (us : List Uid) (tops : ℕ) (a b c d e : Bool) → nat_le 1 (length us) ≡ a → nat_le (length us) 16 ≡ b → nat_le 1 tops ≡ c → nat_le tops 2 ≡ d → nat_le tops (length us) ≡ e → Path
-path_if us tops true true true true true some most one two within = path_with us tops (leb-true _ _ some) (leb-true _ _ most) (leb-true _ _ one) (leb-true _ _ two) (leb-true _ _ within)
-path_if us tops _ _ _ _ _ some most one two within = path_with (nobody ∷ []) 1 (leb-true _ _ refl) (leb-true _ _ refl) (leb-true _ _ refl) (leb-true _ _ refl) (leb-true _ _ refl)
+abbrev pub path_if : (us : List Uid) (tops : ℕ) (a b c d e : Bool) → nat_le 1 (length us) ≡ a → nat_le (length us) 16 ≡ b →
+    nat_le 1 tops ≡ c → nat_le tops 2 ≡ d → nat_le tops (length us) ≡ e → Path
+path_if us tops true true true true true some most one two within =
+    path_with us tops (leb-true _ _ some) (leb-true _ _ most) (leb-true _ _ one) (leb-true _ _ two) (leb-true _ _ within)
+path_if us tops _ _ _ _ _ some most one two within =
+    path_with (nobody ∷ []) 1 (leb-true _ _ refl) (leb-true _ _ refl) (leb-true _ _ refl) (leb-true _ _ refl) (leb-true _ _ refl)
 
 -- the path with these Uids and this number of tops, where there is one
 abbrev pub path_of : List Uid → ℕ → Path
-path_of us tops = path_if us tops (nat_le 1 (length us)) (nat_le (length us) 16) (nat_le 1 tops) (nat_le tops 2) (nat_le tops (length us)) refl refl refl refl refl
+path_of us tops =
+    path_if us tops (nat_le 1 (length us)) (nat_le (length us) 16) (nat_le 1 tops) (nat_le tops 2) (nat_le tops (length us)) refl refl refl refl refl
 
 -- a path taken apart: the count of its Uids, the Uids, and the number of its tops
 abbrev pub path_parts : Path → (count : ℕ) × (List Uid × ℕ)

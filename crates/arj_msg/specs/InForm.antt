@@ -103,7 +103,8 @@ WhatFits (what.Bind had now) = BindingFits had × BindingFits now
 
 -- of a reply to a Bind: bindings, incarnations and Uids fit, a server is a node, stores are few nodes
 abbrev pub BoundFits : BoundReply → Type 0
-BoundFits (bound_as.Live binding server server_inc naming_inc stores) = BindingFits binding × IsNode server × IsShort server_inc × IsShort naming_inc × AreFew IsNode stores
+BoundFits (bound_as.Live binding server server_inc naming_inc stores) =
+    BindingFits binding × IsNode server × IsShort server_inc × IsShort naming_inc × AreFew IsNode stores
 BoundFits (bound_as.Make binding server naming_inc stores) = BindingFits binding × IsNode server × IsShort naming_inc × AreFew IsNode stores
 BoundFits (bound_as.Write naming_inc stores) = IsShort naming_inc × AreFew IsNode stores
 BoundFits (bound_as.Conflict holder mode) = UidFits holder

@@ -65,8 +65,10 @@ message_parts (of.Confirm m) = inr (inr (inr (inr (inr (inr (inr (inr (inr (inr 
 message_parts (of.Confirmed m) = inr (inr (inr (inr (inr (inr (inr (inr (inr (inr (inr (inr (inr (inr (inr (inl m)))))))))))))))
 message_parts (of.Told m) = inr (inr (inr (inr (inr (inr (inr (inr (inr (inr (inr (inr (inr (inr (inr (inr (inl m))))))))))))))))
 message_parts (of.Acked m) = inr (inr (inr (inr (inr (inr (inr (inr (inr (inr (inr (inr (inr (inr (inr (inr (inr (inl m)))))))))))))))))
-message_parts (of.Query m) = inr (inr (inr (inr (inr (inr (inr (inr (inr (inr (inr (inr (inr (inr (inr (inr (inr (inr (inl m))))))))))))))))))
-message_parts (of.Hello m) = inr (inr (inr (inr (inr (inr (inr (inr (inr (inr (inr (inr (inr (inr (inr (inr (inr (inr (inr (inl m)))))))))))))))))))
+message_parts (of.Query m) =
+    inr (inr (inr (inr (inr (inr (inr (inr (inr (inr (inr (inr (inr (inr (inr (inr (inr (inr (inl m))))))))))))))))))
+message_parts (of.Hello m) =
+    inr (inr (inr (inr (inr (inr (inr (inr (inr (inr (inr (inr (inr (inr (inr (inr (inr (inr (inr (inl m)))))))))))))))))))
 
 -- a message: its kind in one byte, from 1 to 20, and what is behind it
 unfoldable pub message : Format Message

@@ -37,7 +37,8 @@ changed = choice 0 changed_cases changed_parts
 
 -- codes 0 to 3: a live binding, a new one to make, an entry locked for an include, a conflict
 abbrev pub bound_reply_cases : List (Case BoundReply)
-bound_reply_cases = case (both binding (both node (both number4 (both number4 (list node))))) (λ p. bound_as.Live p.0 p.1.0 p.1.1.0 p.1.1.1.0 p.1.1.1.1) ∷ case (both binding (both node (both number4 (list node)))) (λ p. bound_as.Make p.0 p.1.0 p.1.1.0 p.1.1.1) ∷ case (both number4 (list node)) (λ p. bound_as.Write p.0 p.1) ∷ case (both uid mode) (λ p. bound_as.Conflict p.0 p.1) ∷ []
+bound_reply_cases =
+    case (both binding (both node (both number4 (both number4 (list node))))) (λ p. bound_as.Live p.0 p.1.0 p.1.1.0 p.1.1.1.0 p.1.1.1.1) ∷ case (both binding (both node (both number4 (list node)))) (λ p. bound_as.Make p.0 p.1.0 p.1.1.0 p.1.1.1) ∷ case (both number4 (list node)) (λ p. bound_as.Write p.0 p.1) ∷ case (both uid mode) (λ p. bound_as.Conflict p.0 p.1) ∷ []
 
 -- a reply to a Bind as one of the cases, with its fields in their order
 abbrev pub bound_reply_parts : BoundReply → OneOf bound_reply_cases
@@ -78,7 +79,8 @@ recorded_reply = choice 0 recorded_reply_cases recorded_reply_parts
 
 -- codes 0 to 2: the answer of the operation, a conflict with its holder and mode, or what changed
 abbrev pub invoked_reply_cases : List (Case InvokedReply)
-invoked_reply_cases = case answer invoked_as.Answered ∷ case (both uid mode) (λ p. invoked_as.Conflict p.0 p.1) ∷ case changed invoked_as.Changed ∷ []
+invoked_reply_cases =
+    case answer invoked_as.Answered ∷ case (both uid mode) (λ p. invoked_as.Conflict p.0 p.1) ∷ case changed invoked_as.Changed ∷ []
 
 -- a reply to an Invoke as one of the cases, with its fields in their order
 abbrev pub invoked_reply_parts : InvokedReply → OneOf invoked_reply_cases
@@ -105,7 +107,8 @@ voted_reply = choice 0 voted_reply_cases voted_reply_parts
 
 -- codes 0 to 2: yes, an object in doubt with its holder, or one whose held version the new one doesn't follow
 abbrev pub prepared_reply_cases : List (Case PreparedReply)
-prepared_reply_cases = case nothing (λ _. prepared_as.Yes) ∷ case (both object uid) (λ p. prepared_as.InDoubt p.0 p.1) ∷ case (both object number8) (λ p. prepared_as.Old p.0 p.1) ∷ []
+prepared_reply_cases =
+    case nothing (λ _. prepared_as.Yes) ∷ case (both object uid) (λ p. prepared_as.InDoubt p.0 p.1) ∷ case (both object number8) (λ p. prepared_as.Old p.0 p.1) ∷ []
 
 -- a reply to a Prepare as one of the cases, with the object and its holder or held version
 abbrev pub prepared_reply_parts : PreparedReply → OneOf prepared_reply_cases
@@ -119,7 +122,8 @@ prepared_reply = choice 0 prepared_reply_cases prepared_reply_parts
 
 -- codes 0 to 4: yes, a conflict, what changed, an object left without stores, a store listed already
 abbrev pub confirmed_reply_cases : List (Case ConfirmedReply)
-confirmed_reply_cases = case nothing (λ _. confirmed_as.Yes) ∷ case (both uid mode) (λ p. confirmed_as.Conflict p.0 p.1) ∷ case changed confirmed_as.Changed ∷ case object confirmed_as.NoStores ∷ case (both object node) (λ p. confirmed_as.Listed p.0 p.1) ∷ []
+confirmed_reply_cases =
+    case nothing (λ _. confirmed_as.Yes) ∷ case (both uid mode) (λ p. confirmed_as.Conflict p.0 p.1) ∷ case changed confirmed_as.Changed ∷ case object confirmed_as.NoStores ∷ case (both object node) (λ p. confirmed_as.Listed p.0 p.1) ∷ []
 
 -- a reply to a Confirm as one of the cases, with its fields in their order
 abbrev pub confirmed_reply_parts : ConfirmedReply → OneOf confirmed_reply_cases

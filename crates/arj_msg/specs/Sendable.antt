@@ -84,7 +84,8 @@ IsSendable (of.Vote m) = AreFew (λ o. IsObject o.0) m.objects × (length m.ends
 IsSendable (of.Voted m) = VotedSends m.reply
 IsSendable (of.Prepare m) = AreFew StateSends m.states
 IsSendable (of.Prepared m) = PreparedSends m.reply
-IsSendable (of.Confirm m) = AreFew (λ g. IsObject g.0) m.objects × AreMany (λ k. IsObject k.0 × IsNode k.1) m.excluded × AreMany (λ k. IsObject k.0 × IsNode k.1) m.included
+IsSendable (of.Confirm m) =
+    AreFew (λ g. IsObject g.0) m.objects × AreMany (λ k. IsObject k.0 × IsNode k.1) m.excluded × AreMany (λ k. IsObject k.0 × IsNode k.1) m.included
 IsSendable (of.Confirmed m) = ConfirmedSends m.reply
 IsSendable (of.Told m) = length m.ends ≤ 255
 IsSendable (of.Hello m) = IsNode m.node

@@ -1,5 +1,6 @@
 -- Object states in messages.
-use Rattle.std.specs.Prelude.{◌≡◌, ℕ, ◌<◌, ◌/◌, List, [], ◌∷◌, ◌++◌, length, take, drop, codes, nat_eq, ◌==◌, Bool, true, false, ◌&&◌, nat_le, nat_lt, Option, Some, None, is_some, Result, Ok, Err, if◌then◌else◌}
+use Rattle.std.specs.Prelude.{◌≡◌, ℕ, ◌<◌, ◌/◌, List, [], ◌∷◌, ◌++◌, length, take, drop, codes, nat_eq, ◌==◌, Bool, true, false, ◌&&◌}
+use Rattle.std.specs.Prelude.{nat_le, nat_lt, Option, Some, None, is_some, Result, Ok, Err, if◌then◌else◌}
 use Rattle.std.specs.List.{starts_with}
 use Rattle.std.specs.Int.{w16, from_be_bytes}
 use Rattle.byteorder.specs.Endian.{big_bytes}
@@ -63,7 +64,8 @@ magic = one_field (λ _. codes "ARJ1") (λ _. Unit {0}) cut_magic
 
 -- the class of an object, from its code
 abbrev pub class_from : ℕ → Class
-class_from code = if code == 1 then class.Counter else (if code == 2 then class.Register else (if code == 3 then class.Account else (if code == 4 then class.Queue else class.Table)))
+class_from code =
+    if code == 1 then class.Counter else (if code == 2 then class.Register else (if code == 3 then class.Account else (if code == 4 then class.Queue else class.Table)))
 
 -- the class of an object: one byte, 1 to 5
 unfoldable pub object_class : Format Class
@@ -83,7 +85,14 @@ long_bytes = one_field (λ bytes. big_bytes 2 (length bytes) ++ bytes) (λ bytes
 
 -- the packed states of objects
 unfoldable pub packed : Format ObjectState
-packed = shaped (λ p. record { uid = p.1.0; class = p.1.1.0; version = p.1.1.1.0; writer = p.1.1.1.1.0; payload = p.1.1.1.1.1 }) (λ s. (tt, (s.uid, (s.class, (s.version, (s.writer, s.payload))))))
+packed = shaped (λ p. record {
+  uid = p.1.0;
+  class = p.1.1.0;
+  version = p.1.1.1.0;
+  writer = p.1.1.1.1.0;
+  payload =
+      p.1.1.1.1.1;
+}) (λ s. (tt, (s.uid, (s.class, (s.version, (s.writer, s.payload))))))
     (both magic (both uid (both object_class (both number8 (both uid long_bytes)))))
 
 -- the state, if there is one and its payload restores in its class

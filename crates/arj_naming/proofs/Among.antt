@@ -33,9 +33,11 @@ turned true false false = refl
 turned false b c = refl
 
 -- those of a set that have an entry are those with an entry that are in the set
-pub in_both : (but : Uid) (us : List Uid) (es : List (Uid × List ObjectState)) → IsStrictlySortedBy uid_order us → IsStrictlySortedBy uid_order (keys_of es)
+pub in_both : (but : Uid) (us : List Uid) (es : List (Uid × List ObjectState)) → IsStrictlySortedBy uid_order us →
+    IsStrictlySortedBy uid_order (keys_of es)
     → filter (λ act. not (uid_eq act but) && is_some (at_uid act es)) us ≡ filter (λ act. not (uid_eq act but) && is_on us act) (map (λ (e : Uid × List ObjectState). e.0) es)
-in_both but us es rises keys = same_set (filter (λ act. not (uid_eq act but) && is_some (at_uid act es)) us) (filter (λ act. not (uid_eq act but) && is_on us act) (map (λ (e : Uid × List ObjectState). e.0) es))
+in_both but us es rises keys =
+    same_set (filter (λ act. not (uid_eq act but) && is_some (at_uid act es)) us) (filter (λ act. not (uid_eq act but) && is_on us act) (map (λ (e : Uid × List ObjectState). e.0) es))
     (IsStrictlySortedBy-filter uid_order (λ act. not (uid_eq act but) && is_some (at_uid act es)) us rises)
     (IsStrictlySortedBy-filter uid_order (λ act. not (uid_eq act but) && is_on us act) (map (λ (e : Uid × List ObjectState). e.0) es) (subst (IsStrictlySortedBy uid_order) (keys_are es) keys))
     (λ u. on_filter (λ act. not (uid_eq act but) && is_some (at_uid act es)) us u

@@ -1,11 +1,13 @@
 -- An action that hasn't touched an object: its end leaves the object as it is, and it stays apart from it while others act.
-use Rattle.std.proofs.Common.{◌≡◌, ◌∙◌, ◌||◌, ◌&&◌, ◌⊎◌, inl, inr, ℕ, Bool, true, false, cond, not, List, [], ◌∷◌, filter, refl, sym, ap, subst, Option, Some, None}
+use Rattle.std.proofs.Common.{◌≡◌, ◌∙◌, ◌||◌, ◌&&◌, ◌⊎◌, inl, inr, ℕ, Bool, true, false, cond, not, List, [], ◌∷◌, filter, refl, sym, ap}
+use Rattle.std.proofs.Common.{subst, Option, Some, None}
 use Rattle.std.proofs.lemmas.Bool.{false_from_ne_true, or_parts}
 use Rattle.std.specs.BTreeMap.{is_at}
 use Rattle.std.specs.List.{list_any}
 use Rattle.std.specs.Prelude.{option_map}
 use Rattle.std.specs.Ordering.{is_eq}
-use Rattle.arj_base.specs.Rows.{Row, front, grant_row, has_any, has_row, is_held_by, is_on, is_row_of, last_uid, lower_row, pass_rows, strengthened}
+use Rattle.arj_base.specs.Rows.{Row, front, grant_row, has_any, has_row, is_held_by, is_on, is_row_of, last_uid, lower_row, pass_rows}
+use Rattle.arj_base.specs.Rows.{strengthened}
 use Rattle.arj_base.specs.Mode.{stronger}
 use Rattle.arj_base.specs.Order.{uid_order}
 use Rattle.arj_base.proofs.Uids.{uid_is}
@@ -20,7 +22,9 @@ use Rattle.arj_law_store.proofs.store.Keys.{put_other, tied_is, with_on}
 use Rattle.arj_protocol.specs.Ask.{top_of}
 use Rattle.arj_protocol.specs.Copy.{is_granted}
 use Rattle.arj_protocol.specs.Effect.{reply, void}
-use Rattle.arj_protocol.specs.Named.{Counted, Live, Made, Named, bind_call, bind_made, bind_named, conflict_on, end_named, entry_row, hello_named, in_use, is_lowered, live_above, live_asked, locked, lower_lines, lowered, made_above, make_asked, note_made, note_named, note_other, include_asked}
+use Rattle.arj_protocol.specs.Named.{Counted, Live, Made, Named, bind_call, bind_made, bind_named, conflict_on, end_named, entry_row}
+use Rattle.arj_protocol.specs.Named.{hello_named, in_use, is_lowered, live_above, live_asked, locked, lower_lines, lowered, made_above}
+use Rattle.arj_protocol.specs.Named.{make_asked, note_made, note_named, note_other, include_asked}
 use Rattle.arj_protocol.specs.Naming.{loses}
 use Rattle.arj_protocol.specs.Order.{at_uid, binding_eq, without_uid}
 use Rattle.arj_protocol.specs.Words.{Binding, End, Entry, Mode, Path, Uid, entry, uid_eq}
@@ -42,7 +46,8 @@ and_false false = refl
 
 none_out : {X : Type 0} (p : X → Bool) (xs : List X) → list_any p xs ≡ false → filter (λ x. not (p x)) xs ≡ xs
 none_out p [] none = refl
-none_out p (x ∷ xs) none = let e = or_parts (p x) (list_any p xs) none in (λ i. cond (not (e.0 i)) (x ∷ filter (λ y. not (p y)) xs) (filter (λ y. not (p y)) xs)) ∙ ap (λ ys. x ∷ ys) (none_out p xs e.1)
+none_out p (x ∷ xs) none =
+    let e = or_parts (p x) (list_any p xs) none in (λ i. cond (not (e.0 i)) (x ∷ filter (λ y. not (p y)) xs) (filter (λ y. not (p y)) xs)) ∙ ap (λ ys. x ∷ ys) (none_out p xs e.1)
 
 none_left : {X : Type 0} (p q : X → Bool) (xs : List X) → list_any p xs ≡ false → list_any p (filter q xs) ≡ false
 none_left p q [] none = refl
@@ -56,7 +61,8 @@ not_made : (u : Uid) (m : List (Uid × Made)) → at_uid u m ≡ None → withou
 not_made u [] none = refl
 not_made u (d ∷ m) none = by (is_at (uid_order u) d.0) none (not_made u m)
   where
-    by : (b : Bool) → cond b (Some d.1) (at_uid u m) ≡ None → (at_uid u m ≡ None → without_uid u m ≡ m) → cond b m (d ∷ without_uid u m) ≡ d ∷ m
+    by : (b : Bool) → cond b (Some d.1) (at_uid u m) ≡ None → (at_uid u m ≡ None → without_uid u m ≡ m) →
+        cond b m (d ∷ without_uid u m) ≡ d ∷ m
     by true is rest = cc
     by false is rest = ap (λ es. d ∷ es) (rest is)
 
@@ -64,7 +70,8 @@ still_not_made : (u v : Uid) (m : List (Uid × Made)) → at_uid v m ≡ None �
 still_not_made u v [] none = refl
 still_not_made u v (d ∷ m) none = by (is_at (uid_order u) d.0) (is_at (uid_order v) d.0) refl none (still_not_made u v m)
   where
-    by : (a b : Bool) → is_at (uid_order v) d.0 ≡ b → cond b (Some d.1) (at_uid v m) ≡ None → (at_uid v m ≡ None → at_uid v (without_uid u m) ≡ None) → at_uid v (cond a m (d ∷ without_uid u m)) ≡ None
+    by : (a b : Bool) → is_at (uid_order v) d.0 ≡ b → cond b (Some d.1) (at_uid v m) ≡ None →
+        (at_uid v m ≡ None → at_uid v (without_uid u m) ≡ None) → at_uid v (cond a m (d ∷ without_uid u m)) ≡ None
     by a true test is rest = cc
     by true false test is rest = is
     by false false test is rest = (λ i. cond (test i) (Some d.1) (at_uid v (without_uid u m))) ∙ rest is
@@ -79,24 +86,32 @@ strong_holder : (r : Row) (o : Option Row) → (strengthened r o).holder ≡ r.h
 strong_holder r None = refl
 strong_holder r (Some s) = refl
 
-held_passed : (u v : Uid) (rows : List Row) → has_any v rows ≡ false → list_any (is_held_by v) rows ≡ false → list_any (is_held_by v) (pass_rows u rows) ≡ false
+held_passed : (u v : Uid) (rows : List Row) → has_any v rows ≡ false → list_any (is_held_by v) rows ≡ false →
+    list_any (is_held_by v) (pass_rows u rows) ≡ false
 held_passed u v rows off held = none_each (is_held_by v) (pass_rows u rows) (λ y i. by y (came_by u rows y i))
   where
     by : (y : Row) → CameBy u rows y → is_held_by v y ≡ false
-    by y (stayed r there other is) = ap (λ us. uid_eq (last_uid us) v) (ap (λ (q : Row). q.holder) is ∙ strong_holder r _) ∙ none_in (is_held_by v) r rows held (in_from r rows there)
-    by y (passed_on r there own heir parent free is) = ap (λ us. uid_eq (last_uid us) v) (ap (λ (q : Row). q.holder) is) ∙ false_from_ne_true (uid_eq (last_uid (front r.holder)) v) (λ same.
-        let on : is_on (front r.holder) v ≡ true = subst (λ w. is_on (front r.holder) w ≡ true) (uid_is (last_uid (front r.holder)) v same) (on_last (front r.holder) (heir_is r.holder heir parent).1) in
+    by y (stayed r there other is) =
+        ap (λ us. uid_eq (last_uid us) v) (ap (λ (q : Row). q.holder) is ∙ strong_holder r _) ∙ none_in (is_held_by v) r rows held (in_from r rows there)
+    by y (passed_on r there own heir parent free is) =
+        ap (λ us. uid_eq (last_uid us) v) (ap (λ (q : Row). q.holder) is) ∙ false_from_ne_true (uid_eq (last_uid (front r.holder)) v) (λ same.
+        let on : is_on (front r.holder) v ≡ true =
+        subst (λ w. is_on (front r.holder) w ≡ true) (uid_is (last_uid (front r.holder)) v same) (on_last (front r.holder) (heir_is r.holder heir parent).1) in
         never (is_on r.holder v) (on_front r.holder v on) (none_in (λ (q : Row). is_on q.holder v) r rows off (in_from r rows there)))
 
-held_granted : (v : Uid) (new : Row) (rows : List Row) → is_held_by v new ≡ false → list_any (is_held_by v) rows ≡ false → list_any (is_held_by v) (grant_row new rows) ≡ false
+held_granted : (v : Uid) (new : Row) (rows : List Row) → is_held_by v new ≡ false → list_any (is_held_by v) rows ≡ false →
+    list_any (is_held_by v) (grant_row new rows) ≡ false
 held_granted v new [] off none = λ i. off i || false
-held_granted v new (r ∷ rows) off none = let e = or_parts (is_held_by v r) (list_any (is_held_by v) rows) none in by (is_row_of new.object (last_uid new.holder) r) (held_granted v new rows off e.1) e.0
+held_granted v new (r ∷ rows) off none =
+    let e = or_parts (is_held_by v r) (list_any (is_held_by v) rows) none in by (is_row_of new.object (last_uid new.holder) r) (held_granted v new rows off e.1) e.0
   where
-    by : (b : Bool) → list_any (is_held_by v) (grant_row new rows) ≡ false → is_held_by v r ≡ false → list_any (is_held_by v) (cond b (record r { mode = stronger r.mode new.mode } ∷ rows) (r ∷ grant_row new rows)) ≡ false
+    by : (b : Bool) → list_any (is_held_by v) (grant_row new rows) ≡ false → is_held_by v r ≡ false →
+        list_any (is_held_by v) (cond b (record r { mode = stronger r.mode new.mode } ∷ rows) (r ∷ grant_row new rows)) ≡ false
     by true rest here = none
     by false rest here = (λ i. here i || list_any (is_held_by v) (grant_row new rows)) ∙ rest
 
-lowered_row : (top object v : Uid) (r : Row) → is_held_by v (cond (is_row_of object top r) (record r { mode = mode.Read }) r) ≡ is_held_by v r
+lowered_row : (top object v : Uid) (r : Row) →
+    is_held_by v (cond (is_row_of object top r) (record r { mode = mode.Read }) r) ≡ is_held_by v r
 lowered_row top object v r = by (is_row_of object top r)
   where
     by : (b : Bool) → is_held_by v (cond b (record r { mode = mode.Read }) r) ≡ is_held_by v r
@@ -115,9 +130,19 @@ no_loser u act (r ∷ rows) off =
 -- its own end leaves the object as it is
 pub apart_ended : (u : Uid) (e : End) (o : Named) → IsApart u o → end_named u e o ≡ o
 apart_ended u ending.Commit o apart =
-    λ i. record o { made = not_made u o.made apart.made i; asked = none_out (λ w. uid_eq w u) o.asked apart.asked i; rows = nothing_passes u o.rows apart.held i }
+    λ i. record o {
+      made = not_made u o.made apart.made i;
+      asked = none_out (λ w. uid_eq w u) o.asked apart.asked i;
+      rows =
+          nothing_passes u o.rows apart.held i;
+    }
 apart_ended u ending.Abort o apart =
-    λ i. record o { made = not_made u o.made apart.made i; asked = none_out (λ w. uid_eq w u) o.asked apart.asked i; rows = none_out (λ (r : Row). is_on r.holder u) o.rows apart.rows i }
+    λ i. record o {
+      made = not_made u o.made apart.made i;
+      asked = none_out (λ w. uid_eq w u) o.asked apart.asked i;
+      rows =
+          none_out (λ (r : Row). is_on r.holder u) o.rows apart.rows i;
+    }
 
 -- and the end of another leaves it apart
 pub apart_later : (u v : Uid) (e : End) (o : Named) → IsApart v o → IsApart v (end_named u e o)
@@ -141,14 +166,22 @@ apart_told v node inc o apart = record { made = apart.made; asked = apart.asked;
 -- ---- the calls of actions that it isn't on the path of
 
 apart_locked : (v : Uid) (x : ℕ) (p : Path) (m : Mode) (o : Named) → IsOff v p → IsApart v o → IsApart v (locked x p m o)
-apart_locked v x p m o off apart = record { made = apart.made; asked = apart.asked; rows = no_row (is_granted new.object (last_uid new.holder) new.mode o.rows); held = not_held (is_granted new.object (last_uid new.holder) new.mode o.rows) }
+apart_locked v x p m o off apart =
+    record {
+      made = apart.made;
+      asked = apart.asked;
+      rows = no_row (is_granted new.object (last_uid new.holder) new.mode o.rows);
+      held =
+          not_held (is_granted new.object (last_uid new.holder) new.mode o.rows);
+    }
   where
     new : Row
     new = entry_row x p m
 
     no_row : (b : Bool) → has_any v (cond b o.rows (grant_row new o.rows)) ≡ false
     no_row true = apart.rows
-    no_row false = grant_any new o.rows v ∙ (λ i. apart.rows i || (not (has_row new.object (last_uid new.holder) o.rows) && off.on i)) ∙ and_false (not (has_row new.object (last_uid new.holder) o.rows))
+    no_row false =
+        grant_any new o.rows v ∙ (λ i. apart.rows i || (not (has_row new.object (last_uid new.holder) o.rows) && off.on i)) ∙ and_false (not (has_row new.object (last_uid new.holder) o.rows))
 
     not_held : (b : Bool) → list_any (is_held_by v) (cond b o.rows (grant_row new o.rows)) ≡ false
     not_held true = apart.held
@@ -174,7 +207,13 @@ module _ (v : Uid) (inc x : ℕ) (p : Path) (e : Entry) (c : Counted) (off : IsO
   made_apart : (m : Option Made) → IsApart v (bind_made inc x p e c m).part.named
   made_apart (Some m) = apart_locked v x p mode.Write c.named off apart
   made_apart None = let o = apart_locked v x p mode.Write c.named off apart in
-      record { made = put_other (top_of p) v _ c.named.made (other_uid (top_of p) v off.top) ∙ apart.made; asked = o.asked; rows = o.rows; held = o.held }
+      record {
+        made = put_other (top_of p) v _ c.named.made (other_uid (top_of p) v off.top) ∙ apart.made;
+        asked = o.asked;
+        rows =
+            o.rows;
+        held = o.held;
+      }
 
   make_apart : (avoid : Binding) (r : Option Row) → IsApart v (make_asked inc x p avoid e c r).part.named
   make_apart avoid (Some r) = apart
@@ -209,13 +248,24 @@ module _ (v : Uid) (x : ℕ) (top : Uid) (b : Binding) (inc : ℕ) (o : Named) (
         made = is.made;
         asked = is.asked;
         rows = lower_any top (entry x) n.rows v ∙ is.rows;
-        held = any_same (is_held_by v) (is_held_by v) (λ row. cond (is_row_of (entry x) top row) (record row { mode = mode.Read }) row) n.rows (lowered_row top (entry x) v) ∙ is.held;
+        held = any_same (is_held_by v) (is_held_by v) (λ row. cond (is_row_of (entry x) top row) (record row {
+          mode =
+              mode.Read;
+        }) row) n.rows (lowered_row top (entry x) v) ∙ is.held;
       }
       by false = is
 
-  note_made_apart : (m : Made) → at_uid top o.made ≡ Some m → (recorded : Bool) → m.recorded ≡ recorded → IsApart v (note_made x top inc o m).part
+  note_made_apart : (m : Made) → at_uid top o.made ≡ Some m → (recorded : Bool) → m.recorded ≡ recorded →
+      IsApart v (note_made x top inc o m).part
   note_made_apart m at true is = subst (IsApart v) (λ i. (note_made x top inc o (record m { recorded = sym is i })).part) apart
-  note_made_apart m at false is = subst (IsApart v) (λ i. (note_made x top inc o (record m { recorded = sym is i })).part) (lowered_apart (in_use top (record m { recorded = false }) inc o) (used (record m { recorded = false }) (at ∙ (λ i. Some (record m { recorded = is i })))))
+  note_made_apart m at false is =
+      subst (IsApart v) (λ i. (note_made x top inc o (record m {
+        recorded =
+            sym is i;
+      })).part) (lowered_apart (in_use top (record m {
+        recorded =
+            false;
+      }) inc o) (used (record m { recorded = false }) (at ∙ (λ i. Some (record m { recorded = is i })))))
 
   other_apart : (m : Option Made) → at_uid top o.made ≡ m → IsApart v (note_other x top b inc o m).part
   other_apart None at = apart
@@ -246,11 +296,23 @@ module _ (x : ℕ) (top : Uid) (b : Binding) (inc : ℕ) (o : Named) where
       by true = refl
       by false = refl
 
-  note_made_live : (m : Made) → at_uid top o.made ≡ Some m → (recorded : Bool) → m.recorded ≡ recorded → (l : Live) → (note_made x top inc o m).part.live ≡ Some l → IsKnownLive l
-  note_made_live m at true is l live = inl ((λ i. (cond (sym is i) (reply o recorded.Yes) (record { part = lowered x top (in_use top m inc o); outs = lower_lines x top o; reply = Some recorded.Yes })).part.live) ∙ live)
+  note_made_live : (m : Made) → at_uid top o.made ≡ Some m → (recorded : Bool) → m.recorded ≡ recorded → (l : Live) →
+      (note_made x top inc o m).part.live ≡ Some l → IsKnownLive l
+  note_made_live m at true is l live =
+      inl ((λ i. (cond (sym is i) (reply o recorded.Yes) (record {
+        part = lowered x top (in_use top m inc o);
+        outs =
+            lower_lines x top o;
+        reply = Some recorded.Yes;
+      })).part.live) ∙ live)
   note_made_live m at false is l live =
       let found : Some (record { binding = m.binding; server = m.server; inc = inc }) ≡ Some l =
-      sym (lowered_live (in_use top m inc o)) ∙ ((λ i. (cond (sym is i) (reply o recorded.Yes) (record { part = lowered x top (in_use top m inc o); outs = lower_lines x top o; reply = Some recorded.Yes })).part.live) ∙ live) in
+      sym (lowered_live (in_use top m inc o)) ∙ ((λ i. (cond (sym is i) (reply o recorded.Yes) (record {
+        part =
+            lowered x top (in_use top m inc o);
+        outs = lower_lines x top o;
+        reply = Some recorded.Yes;
+      })).part.live) ∙ live) in
       inr (ap (option_map (λ (n : Made). n.server)) at ∙ ap (option_map (λ (k : Live). k.server)) found)
 
   other_live : (m : Option Made) → at_uid top o.made ≡ m → (l : Live) → (note_other x top b inc o m).part.live ≡ Some l → IsKnownLive l
@@ -266,7 +328,8 @@ module _ (x : ℕ) (top : Uid) (b : Binding) (inc : ℕ) (o : Named) where
     where
       by : (c : Bool) → is_binding b o.recorded ≡ c → IsKnownLive l
       by true is = inl ((λ i. (cond (sym is i) (reply o recorded.Yes) (note_other x top b inc o (at_uid top o.made))).part.live) ∙ live)
-      by false is = other_live (at_uid top o.made) refl l ((λ i. (cond (sym is i) (reply o recorded.Yes) (note_other x top b inc o (at_uid top o.made))).part.live) ∙ live)
+      by false is =
+          other_live (at_uid top o.made) refl l ((λ i. (cond (sym is i) (reply o recorded.Yes) (note_other x top b inc o (at_uid top o.made))).part.live) ∙ live)
 
 -- and a Bind makes none live
 module _ (inc x : ℕ) (p : Path) (e : Entry) (c : Counted) where

@@ -28,7 +28,8 @@ module _ {K : Type 0} (cmp : K → K → Ordering) (total : IsTotalOrder cmp) wh
       ap (λ o. match_ordering o (k ∷ x ∷ xs) (x ∷ xs) (x ∷ insert_key cmp xs k)) greater ∙ ap (λ ys. x ∷ ys) (key_last xs k rest sorted.1)
 
   -- and so an entry
-  pub entry_last : {X : Type 0} (es : List (K × X)) (k : K) (v : X) (rest : List K) → IsStrictlySortedBy cmp (keys_of es ++ k ∷ rest) → insert_entry cmp es k v ≡ es ++ (k, v) ∷ []
+  pub entry_last : {X : Type 0} (es : List (K × X)) (k : K) (v : X) (rest : List K) → IsStrictlySortedBy cmp (keys_of es ++ k ∷ rest) →
+      insert_entry cmp es k v ≡ es ++ (k, v) ∷ []
   unfolding IsStrictlySortedBy
   entry_last [] k v rest sorted = refl
   entry_last (e ∷ es) k v rest sorted =
@@ -36,13 +37,16 @@ module _ {K : Type 0} (cmp : K → K → Ordering) (total : IsTotalOrder cmp) wh
       ap (λ o. match_ordering o ((k, v) ∷ e ∷ es) ((e.0, v) ∷ es) (e ∷ insert_entry cmp es k v)) greater ∙ ap (λ ys. e ∷ ys) (entry_last es k v rest sorted.1)
 
   -- the first of what is left is put behind what is there
-  pub entry_goes : {X : Type 0} (es : List (K × X)) (k : K) (v : X) (left rest whole : List (K × X)) → es ++ left ≡ whole → left ≡ (k, v) ∷ rest → IsStrictlySortedBy cmp (keys_of whole) → insert_entry cmp es k v ++ rest ≡ whole
+  pub entry_goes : {X : Type 0} (es : List (K × X)) (k : K) (v : X) (left rest whole : List (K × X)) → es ++ left ≡ whole →
+      left ≡ (k, v) ∷ rest → IsStrictlySortedBy cmp (keys_of whole) → insert_entry cmp es k v ++ rest ≡ whole
   entry_goes {X} es k v left rest whole are is sorted =
       let shape : es ++ (k, v) ∷ rest ≡ whole = ap (λ l. es ++ l) (sym is) ∙ are in
-      let all : IsStrictlySortedBy cmp (keys_of es ++ k ∷ keys_of rest) = subst (IsStrictlySortedBy cmp) (map-append (λ (e : K × X). e.0) es ((k, v) ∷ rest)) (subst (λ w. IsStrictlySortedBy cmp (keys_of w)) (sym shape) sorted) in
+      let all : IsStrictlySortedBy cmp (keys_of es ++ k ∷ keys_of rest) =
+      subst (IsStrictlySortedBy cmp) (map-append (λ (e : K × X). e.0) es ((k, v) ∷ rest)) (subst (λ w. IsStrictlySortedBy cmp (keys_of w)) (sym shape) sorted) in
       ap (λ l. l ++ rest) (entry_last es k v (keys_of rest) all) ∙ (append_assoc es ((k, v) ∷ []) rest ∙ shape)
 
-  pub key_goes : (ks : List K) (k : K) (left rest whole : List K) → ks ++ left ≡ whole → left ≡ k ∷ rest → IsStrictlySortedBy cmp whole → insert_key cmp ks k ++ rest ≡ whole
+  pub key_goes : (ks : List K) (k : K) (left rest whole : List K) → ks ++ left ≡ whole → left ≡ k ∷ rest → IsStrictlySortedBy cmp whole →
+      insert_key cmp ks k ++ rest ≡ whole
   key_goes ks k left rest whole are is sorted =
       let shape : ks ++ k ∷ rest ≡ whole = ap (λ l. ks ++ l) (sym is) ∙ are in
       ap (λ l. l ++ rest) (key_last ks k rest (subst (IsStrictlySortedBy cmp) (sym shape) sorted)) ∙ (append_assoc ks (k ∷ []) rest ∙ shape)

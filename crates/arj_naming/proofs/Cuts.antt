@@ -27,7 +27,8 @@ said_append (Say t ∷ es) b = ap (λ ls. record { event = 0; body = t } ∷ ls)
 said_append (Send to m ∷ es) b = said_append es b
 said_append (Do w ∷ es) b = said_append es b
 
-pub cut_front : (a b : List Effect) (d : Pair) (p : files.Pair) (before after : List Line) → IsCut a d p before after → IsCut (a ++ b) d p before after
+pub cut_front : (a b : List Effect) (d : Pair) (p : files.Pair) (before after : List Line) → IsCut a d p before after →
+    IsCut (a ++ b) d p before after
 cut_front a b d p before after c = record {
   front = c.front;
   work = c.work;
@@ -38,7 +39,8 @@ cut_front a b d p before after c = record {
   lines = c.lines;
 }
 
-pub cut_back : (a b : List Effect) (d : Pair) (p : files.Pair) (before after : List Line) → IsCut b (pair_after a d) p (before ++ said a) after → IsCut (a ++ b) d p before after
+pub cut_back : (a b : List Effect) (d : Pair) (p : files.Pair) (before after : List Line) →
+    IsCut b (pair_after a d) p (before ++ said a) after → IsCut (a ++ b) d p before after
 cut_back a b d p before after c = record {
   front = a ++ c.front;
   work = c.work;

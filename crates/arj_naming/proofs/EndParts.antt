@@ -28,7 +28,8 @@ module _ (u : Uid) (e : End) (d : Pair) (n : Naming) where
   rest_is : (cond (is_on n.told u) (did_nothing n) (told_new u (taken_end u e n) d n)).outs ≡ others ++ last
   rest_is = by (is_on n.told u) (taken_end u e n)
     where
-      by : (b : Bool) (t : End) → (cond b (did_nothing n) (told_new u t d n)).outs ≡ abort_all (orphans_by u (cond b None (Some t)) d n) ++ (finished u (cond b None (Some t)) n).outs
+      by : (b : Bool) (t : End) →
+          (cond b (did_nothing n) (told_new u t d n)).outs ≡ abort_all (orphans_by u (cond b None (Some t)) d n) ++ (finished u (cond b None (Some t)) n).outs
       by true t = refl
       by false ending.Commit = refl
       by false ending.Abort = refl
@@ -61,7 +62,8 @@ module _ (u : Uid) (e : End) (d : Pair) (n : Naming) where
   own_cut p before after cut = subst (λ es. IsCut es d p before after) (sym told_outs) (cut_front own (others ++ last) d p before after cut)
 
   module _ (us : List Uid) (us_are : us ≡ orphans_by u (taken_by u e n) d n) (m : Pair) (m_is : m ≡ pair_after own d) (before between : List Line) (lines : between ≡ before ++ said own) where
-    pub others_cut : (p : files.Pair) (after : List Line) → IsCut (abort_all us) m p between after → IsCut (told u e d n).outs d p before after
+    pub others_cut : (p : files.Pair) (after : List Line) → IsCut (abort_all us) m p between after →
+        IsCut (told u e d n).outs d p before after
     others_cut p after cut =
         subst (λ es. IsCut es d p before after) (sym told_outs)
         (cut_back own (others ++ last) d p before after
@@ -78,7 +80,8 @@ module _ (u : Uid) (e : End) (d : Pair) (n : Naming) where
         is ∙ ((λ i. pair_after (abort_all (us_are i)) (m_is i)) ∙ (sym (after_append own others d) ∙ (sym (after_lines last (pair_after (own ++ others) d) only_lines)
         ∙ (sym (after_append (own ++ others) last d) ∙ (λ i. pair_after ((append_assoc own others last ∙ sym told_outs) i) d)))))
 
-    pub lines_are : (late after : List Line) → late ≡ between ++ said (abort_all us) → after ≡ late ++ said last → after ≡ before ++ said (told u e d n).outs
+    pub lines_are : (late after : List Line) → late ≡ between ++ said (abort_all us) → after ≡ late ++ said last →
+        after ≡ before ++ said (told u e d n).outs
     lines_are late after is ends =
         ends ∙ ((λ i. is i ++ said last) ∙ ((λ i. (lines i ++ said (abort_all (us_are i))) ++ said last)
         ∙ ((λ i. append_assoc before (said own) (said others) i ++ said last) ∙ (append_assoc before (said own ++ said others) (said last)

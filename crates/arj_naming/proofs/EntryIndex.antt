@@ -1,6 +1,7 @@
 -- Under each entry stands exactly who has prepared it: it stays so where an action prepares and ends, and a look at these
 -- finds what a look at all that is prepared finds.
-use Rattle.std.proofs.Common.{◌≡◌, ◌∙◌, ◌&&◌, ◌||◌, ◌+◌, ◌<◌, ℕ, Bool, true, false, cond, not, List, [], ◌∷◌, drop, get_or, length, refl, sym, ap, subst, Option, Some, None}
+use Rattle.std.proofs.Common.{◌≡◌, ◌∙◌, ◌&&◌, ◌||◌, ◌+◌, ◌<◌, ℕ, Bool, true, false, cond, not, List, [], ◌∷◌, drop, get_or, length, refl}
+use Rattle.std.proofs.Common.{sym, ap, subst, Option, Some, None}
 use Rattle.std.specs.BTreeMap.{is_at}
 use Rattle.std.specs.BTreeSet.{BTreeSet}
 use Rattle.std.specs.Cmp.{both_ways, eq_by_cmp_equiv}
@@ -21,7 +22,8 @@ use Rattle.arj_base.proofs.Uids.{uid_is, uid_sym}
 use Rattle.arj_naming.proofs.Among.{on_filter}
 use Rattle.arj_naming.proofs.Listed.{or_nothing}
 use Rattle.arj_naming.proofs.Written.{put_uid_at, tests_are, written_uid}
-use Rattle.arj_naming.specs.ByEntry.{AreByEntry, any_lists, has_state, has_state_in, is_of, is_on_set, lists_store, lists_store_in, stands_under}
+use Rattle.arj_naming.specs.ByEntry.{AreByEntry, any_lists, has_state, has_state_in, is_of, is_on_set, lists_store, lists_store_in}
+use Rattle.arj_naming.specs.ByEntry.{stands_under}
 use Rattle.arj_entry.specs.Entry.{is_listed}
 use Rattle.arj_protocol.specs.Values.{state_entry}
 use Rattle.arj_protocol.specs.Order.{at_uid, drop_uid, put_uid, with_uid, without_uid}
@@ -31,12 +33,15 @@ use Rattle.arj_law_store.proofs.store.Keys.{Rises, put_rises, tied_is, total, wi
 -- ---- one entry
 
 -- what stands under one entry is changed, and nothing elsewhere
-module _ (F : Bool → Bool → Bool) (idle : (a : Bool) → F a false ≡ a) (uid action : Uid) (old new : List (Uid × BTreeSet Uid)) (more : BTreeSet Uid)
-    (found : (u : Uid) → at_uid u new ≡ cond (uid_eq uid u) (Some more) (at_uid u old)) (keys : (act : Uid) → is_on more.keys act ≡ F (is_on_set act (at_uid uid old)) (uid_eq action act)) where
+module _ (F : Bool → Bool → Bool) (idle : (a : Bool) →
+    F a false ≡ a) (uid action : Uid) (old new : List (Uid × BTreeSet Uid)) (more : BTreeSet Uid)
+    (found : (u : Uid) → at_uid u new ≡ cond (uid_eq uid u) (Some more) (at_uid u old)) (keys : (act : Uid) →
+    is_on more.keys act ≡ F (is_on_set act (at_uid uid old)) (uid_eq action act)) where
   changed : (u act : Uid) → stands_under new u act ≡ F (stands_under old u act) (uid_eq uid u && uid_eq action act)
   changed u act = ap (is_on_set act) (found u) ∙ by (uid_eq uid u) refl
     where
-      by : (b : Bool) → uid_eq uid u ≡ b → is_on_set act (cond b (Some more) (at_uid u old)) ≡ F (is_on_set act (at_uid u old)) (b && uid_eq action act)
+      by : (b : Bool) → uid_eq uid u ≡ b →
+          is_on_set act (cond b (Some more) (at_uid u old)) ≡ F (is_on_set act (at_uid u old)) (b && uid_eq action act)
       by true is = keys act ∙ (λ i. F (is_on_set act (at_uid (uid_is uid u is i) old)) (uid_eq action act))
       by false isnt = sym (idle (is_on_set act (at_uid u old)))
 
@@ -47,13 +52,16 @@ module _ (uid action : Uid) (xs more : BTreeSet Uid) (old new : List (Uid × BTr
   before : (act : Uid) → is_on xs.keys act ≡ is_on_set act (at_uid uid old)
   before act = ap (is_on_set act) (sym at)
 
-  pub put_under : more.keys ≡ with_uid action xs.keys → (u act : Uid) → stands_under new u act ≡ (stands_under old u act || (uid_eq uid u && uid_eq action act))
-  put_under keys = changed (λ a b. a || b) or_nothing uid action old new more found (λ act. ap (λ ks. is_on ks act) keys ∙ (with_on xs.keys action act ∙ (λ i. before act i || uid_eq action act)))
+  pub put_under : more.keys ≡ with_uid action xs.keys → (u act : Uid) →
+      stands_under new u act ≡ (stands_under old u act || (uid_eq uid u && uid_eq action act))
+  put_under keys =
+      changed (λ a b. a || b) or_nothing uid action old new more found (λ act. ap (λ ks. is_on ks act) keys ∙ (with_on xs.keys action act ∙ (λ i. before act i || uid_eq action act)))
 
   pub same_under : more.keys ≡ xs.keys → (u act : Uid) → stands_under new u act ≡ stands_under old u act
   same_under keys = changed (λ a b. a) (λ a. refl) uid action old new more found (λ act. ap (λ ks. is_on ks act) keys ∙ before act)
 
-  pub take_under : more.keys ≡ drop_uid action xs.keys → (u act : Uid) → stands_under new u act ≡ (stands_under old u act && not (uid_eq uid u && uid_eq action act))
+  pub take_under : more.keys ≡ drop_uid action xs.keys → (u act : Uid) →
+      stands_under new u act ≡ (stands_under old u act && not (uid_eq uid u && uid_eq action act))
   take_under keys = changed (λ a b. a && not b) and_nothing uid action old new more found (λ act. ap (λ ks. is_on ks act) keys
       ∙ (on_filter (λ w. not (uid_eq w action)) xs.keys act ∙ (turned (not (uid_eq act action)) (is_on xs.keys act) ∙ (λ i. before act i && not (uid_sym act action i)))))
     where
@@ -68,9 +76,11 @@ module _ (uid action : Uid) (xs more : BTreeSet Uid) (old new : List (Uid × BTr
       turned false false = refl
 
 -- the first action under an entry
-pub first_put : (uid action : Uid) (xs none : BTreeSet Uid) (old new : List (Uid × BTreeSet Uid)) → at_uid uid old ≡ None → none.keys ≡ [] → xs.keys ≡ with_uid action none.keys → new ≡ put_uid uid xs old
+pub first_put : (uid action : Uid) (xs none : BTreeSet Uid) (old new : List (Uid × BTreeSet Uid)) → at_uid uid old ≡ None → none.keys ≡ [] →
+    xs.keys ≡ with_uid action none.keys → new ≡ put_uid uid xs old
     → (u act : Uid) → stands_under new u act ≡ (stands_under old u act || (uid_eq uid u && uid_eq action act))
-first_put uid action xs none old new at empty keys put = changed (λ a b. a || b) or_nothing uid action old new xs (λ u. ap (at_uid u) put ∙ put_uid_at uid xs old u)
+first_put uid action xs none old new at empty keys put =
+    changed (λ a b. a || b) or_nothing uid action old new xs (λ u. ap (at_uid u) put ∙ put_uid_at uid xs old u)
     (λ act. ap (λ ks. is_on ks act) (keys ∙ ap (with_uid action) empty) ∙ (or_nothing (uid_eq action act) ∙ (λ i. is_on_set act (sym at i) || uid_eq action act)))
 
 -- ---- the entries of some states
@@ -94,13 +104,17 @@ module _ (action : Uid) (states : List ObjectState) (i : ℕ) (s : ObjectState) 
   left : drop i states ≡ s ∷ drop (i + 1) states
   left = drop_more states i s within ∙ ap (λ t. t ∷ drop (i + 1) states) (sym is)
 
-  pub next_put : (old new : List (Uid × BTreeSet Uid)) (u act : Uid) (whole : Bool) → stands_under new u act ≡ (stands_under old u act || (uid_eq s.uid u && uid_eq action act))
-      → (stands_under old u act || is_of action (drop i states) u act) ≡ whole → (stands_under new u act || is_of action (drop (i + 1) states) u act) ≡ whole
+  pub next_put : (old new : List (Uid × BTreeSet Uid)) (u act : Uid) (whole : Bool) →
+      stands_under new u act ≡ (stands_under old u act || (uid_eq s.uid u && uid_eq action act))
+      → (stands_under old u act || is_of action (drop i states) u act) ≡ whole →
+      (stands_under new u act || is_of action (drop (i + 1) states) u act) ≡ whole
   next_put old new u act whole put are = (λ j. put j || is_of action (drop (i + 1) states) u act)
       ∙ (or_one (stands_under old u act) (uid_eq s.uid u) (has_state u (drop (i + 1) states)) (uid_eq action act) ∙ ((λ j. stands_under old u act || is_of action (sym left j) u act) ∙ are))
 
-  pub next_taken : (old new : List (Uid × BTreeSet Uid)) (u act : Uid) (whole : Bool) → stands_under new u act ≡ (stands_under old u act && not (uid_eq s.uid u && uid_eq action act))
-      → (stands_under old u act && not (is_of action (drop i states) u act)) ≡ whole → (stands_under new u act && not (is_of action (drop (i + 1) states) u act)) ≡ whole
+  pub next_taken : (old new : List (Uid × BTreeSet Uid)) (u act : Uid) (whole : Bool) →
+      stands_under new u act ≡ (stands_under old u act && not (uid_eq s.uid u && uid_eq action act))
+      → (stands_under old u act && not (is_of action (drop i states) u act)) ≡ whole →
+      (stands_under new u act && not (is_of action (drop (i + 1) states) u act)) ≡ whole
   next_taken old new u act whole taken are = (λ j. taken j && not (is_of action (drop (i + 1) states) u act))
       ∙ (and_one (stands_under old u act) (uid_eq s.uid u) (has_state u (drop (i + 1) states)) (uid_eq action act) ∙ ((λ j. stands_under old u act && not (is_of action (sym left j) u act)) ∙ are))
 
@@ -109,19 +123,25 @@ module _ (action : Uid) (states : List ObjectState) (i : ℕ) (s : ObjectState) 
   not_one u act none = by (uid_eq s.uid u) refl
     where
       by : (b : Bool) → uid_eq s.uid u ≡ b → (b && uid_eq action act) ≡ false
-      by true own = let here : has_state u states ≡ true = list_any_at (λ (t : ObjectState). uid_eq t.uid u) states i s within (ap (λ (t : ObjectState). uid_eq t.uid u) (sym is) ∙ own) in
+      by true own =
+          let here : has_state u states ≡ true =
+          list_any_at (λ (t : ObjectState). uid_eq t.uid u) states i s within (ap (λ (t : ObjectState). uid_eq t.uid u) (sym is) ∙ own) in
           (λ j. sym here j && uid_eq action act) ∙ none
       by false own = refl
 
-  pub next_other : (old new first : List (Uid × BTreeSet Uid)) (u act : Uid) → stands_under new u act ≡ (stands_under old u act || (uid_eq s.uid u && uid_eq action act))
-      → (is_of action states u act ≡ false → stands_under old u act ≡ stands_under first u act) → is_of action states u act ≡ false → stands_under new u act ≡ stands_under first u act
-  next_other old new first u act put are none = put ∙ ((λ j. stands_under old u act || not_one u act none j) ∙ (or_nothing (stands_under old u act) ∙ are none))
+  pub next_other : (old new first : List (Uid × BTreeSet Uid)) (u act : Uid) →
+      stands_under new u act ≡ (stands_under old u act || (uid_eq s.uid u && uid_eq action act))
+      → (is_of action states u act ≡ false → stands_under old u act ≡ stands_under first u act) → is_of action states u act ≡ false →
+      stands_under new u act ≡ stands_under first u act
+  next_other old new first u act put are none =
+      put ∙ ((λ j. stands_under old u act || not_one u act none j) ∙ (or_nothing (stands_under old u act) ∙ are none))
 
 -- ---- what an action has prepared
 
 module _ (action : Uid) (states : List ObjectState) (pend : List (Uid × List ObjectState)) (by_entry new : List (Uid × BTreeSet Uid)) where
   -- it is taken out
-  pub taken_out : Rises pend → at_uid action pend ≡ Some states → ((u act : Uid) → stands_under new u act ≡ (stands_under by_entry u act && not (is_of action states u act)))
+  pub taken_out : Rises pend → at_uid action pend ≡ Some states →
+      ((u act : Uid) → stands_under new u act ≡ (stands_under by_entry u act && not (is_of action states u act)))
       → AreByEntry pend by_entry → AreByEntry (without_uid action pend) new
   taken_out rises at taken are u act = taken u act ∙ ((λ i. are u act i && not (is_of action states u act)) ∙ by (uid_eq action act) refl)
     where
@@ -134,17 +154,21 @@ module _ (action : Uid) (states : List ObjectState) (pend : List (Uid × List Ob
       stays true false = refl
       stays false h = refl
 
-      by : (b : Bool) → uid_eq action act ≡ b → (has_state_in u (at_uid act pend) && not (has_state u states && b)) ≡ has_state_in u (at_uid act (without_uid action pend))
+      by : (b : Bool) → uid_eq action act ≡ b →
+          (has_state_in u (at_uid act pend) && not (has_state u states && b)) ≡ has_state_in u (at_uid act (without_uid action pend))
       by true own =
           let same : act ≡ action = sym (uid_is action act own) in
           (λ i. has_state_in u (at_uid (same i) pend) && not (has_state u states && true)) ∙ ((λ i. has_state_in u (at i) && not (has_state u states && true))
           ∙ (gone (has_state u states) ∙ (λ i. has_state_in u (sym (ap (λ w. at_uid w (without_uid action pend)) same ∙ without_here action pend rises) i))))
-      by false other = stays (has_state_in u (at_uid act pend)) (has_state u states) ∙ (λ i. has_state_in u (sym (without_other action act pend (tied_is act action ∙ other)) i))
+      by false other =
+          stays (has_state_in u (at_uid act pend)) (has_state u states) ∙ (λ i. has_state_in u (sym (without_other action act pend (tied_is act action ∙ other)) i))
 
   module _ (none : at_uid action pend ≡ None) (are : AreByEntry pend by_entry) where
     -- it is put where nothing was
-    pub put_in : ((u act : Uid) → stands_under new u act ≡ (stands_under by_entry u act || is_of action states u act)) → AreByEntry (put_uid action states pend) new
-    put_in put u act = put u act ∙ ((λ i. are u act i || is_of action states u act) ∙ (by (uid_eq action act) refl ∙ (λ i. has_state_in u (sym (put_uid_at action states pend act) i))))
+    pub put_in : ((u act : Uid) → stands_under new u act ≡ (stands_under by_entry u act || is_of action states u act)) →
+        AreByEntry (put_uid action states pend) new
+    put_in put u act =
+        put u act ∙ ((λ i. are u act i || is_of action states u act) ∙ (by (uid_eq action act) refl ∙ (λ i. has_state_in u (sym (put_uid_at action states pend act) i))))
       where
         comes : (h : Bool) → (h && true) ≡ h
         comes true = refl
@@ -155,12 +179,15 @@ module _ (action : Uid) (states : List ObjectState) (pend : List (Uid × List Ob
         stays false true = refl
         stays false false = refl
 
-        by : (b : Bool) → uid_eq action act ≡ b → (has_state_in u (at_uid act pend) || (has_state u states && b)) ≡ has_state_in u (cond b (Some states) (at_uid act pend))
-        by true own = (λ i. has_state_in u ((ap (λ w. at_uid w pend) (sym (uid_is action act own)) ∙ none) i) || (has_state u states && true)) ∙ comes (has_state u states)
+        by : (b : Bool) → uid_eq action act ≡ b →
+            (has_state_in u (at_uid act pend) || (has_state u states && b)) ≡ has_state_in u (cond b (Some states) (at_uid act pend))
+        by true own =
+            (λ i. has_state_in u ((ap (λ w. at_uid w pend) (sym (uid_is action act own)) ∙ none) i) || (has_state u states && true)) ∙ comes (has_state u states)
         by false other = stays (has_state_in u (at_uid act pend)) (has_state u states)
 
     -- it was put under some of its entries, and is taken away from under all
-    pub put_back : (some : List (Uid × BTreeSet Uid)) → ((u act : Uid) → is_of action states u act ≡ false → stands_under some u act ≡ stands_under by_entry u act)
+    pub put_back : (some : List (Uid × BTreeSet Uid)) →
+        ((u act : Uid) → is_of action states u act ≡ false → stands_under some u act ≡ stands_under by_entry u act)
         → ((u act : Uid) → stands_under new u act ≡ (stands_under some u act && not (is_of action states u act))) → AreByEntry pend new
     put_back some others taken u act = taken u act ∙ by (is_of action states u act) refl
       where
@@ -173,12 +200,14 @@ module _ (action : Uid) (states : List ObjectState) (pend : List (Uid × List Ob
         stays false = refl
 
         by : (b : Bool) → is_of action states u act ≡ b → (stands_under some u act && not b) ≡ has_state_in u (at_uid act pend)
-        by true own = nothing (stands_under some u act) ∙ (λ i. has_state_in u (sym (ap (λ w. at_uid w pend) (sym (uid_is action act (and_parts (has_state u states) (uid_eq action act) own).1)) ∙ none) i))
+        by true own =
+            nothing (stands_under some u act) ∙ (λ i. has_state_in u (sym (ap (λ w. at_uid w pend) (sym (uid_is action act (and_parts (has_state u states) (uid_eq action act) own).1)) ∙ none) i))
         by false other = stays (stands_under some u act) ∙ (others u act other ∙ are u act)
 
 -- what is taken out before it is put makes no difference
 pub put_again : {X : Type 0} (k : Uid) (v : X) (m : List (Uid × X)) → Rises m → put_uid k v (without_uid k m) ≡ put_uid k v m
-put_again k v m rises = same_entries (put_uid k v (without_uid k m)) (put_uid k v m) (put_rises k v (without_uid k m) (without_rises k m rises)) (put_rises k v m rises)
+put_again k v m rises =
+    same_entries (put_uid k v (without_uid k m)) (put_uid k v m) (put_rises k v (without_uid k m) (without_rises k m rises)) (put_rises k v m rises)
     (λ u. put_uid_at k v (without_uid k m) u ∙ (by u (uid_eq k u) refl ∙ sym (put_uid_at k v m u)))
   where
     by : (u : Uid) (b : Bool) → uid_eq k u ≡ b → cond b (Some v) (at_uid u (without_uid k m)) ≡ cond b (Some v) (at_uid u m)
@@ -196,8 +225,10 @@ module _ (x : ℕ) (top : Uid) (store : ℕ) (pend : List (Uid × List ObjectSta
       let w = Any-from_list_any (λ (st : ObjectState). uid_eq st.uid (entry x) && is_listed store (state_entry st).stores) states on in
       list_any-from_Any (λ (st : ObjectState). uid_eq st.uid (entry x)) states (w.0, w.1, w.2, w.3, (and_parts (uid_eq w.1.uid (entry x)) (is_listed store (state_entry w.1).stores) w.4).0)
 
-  pub looked : (acts : List Uid) → Rises pend → ((act : Uid) → is_on acts act ≡ has_state_in (entry x) (at_uid act pend)) → any_lists x top store pend acts ≡ list_any passes pend
-  looked acts rises are = both_ways (any_lists x top store pend acts) (list_any passes pend) (λ on. there (Any-from_list_any test acts on)) (λ on. back (Any-from_list_any passes pend on))
+  pub looked : (acts : List Uid) → Rises pend → ((act : Uid) → is_on acts act ≡ has_state_in (entry x) (at_uid act pend)) →
+      any_lists x top store pend acts ≡ list_any passes pend
+  looked acts rises are =
+      both_ways (any_lists x top store pend acts) (list_any passes pend) (λ on. there (Any-from_list_any test acts on)) (λ on. back (Any-from_list_any passes pend on))
     where
       test : Uid → Bool
       test act = not (uid_eq act top) && lists_store_in x store (at_uid act pend)
@@ -205,7 +236,8 @@ module _ (x : ℕ) (top : Uid) (store : ℕ) (pend : List (Uid × List ObjectSta
       there : Any (λ act. test act ≡ true) acts → list_any passes pend ≡ true
       there w = by (at_uid w.1 pend) refl (and_parts (not (uid_eq w.1 top)) (lists_store_in x store (at_uid w.1 pend)) w.4)
         where
-          by : (o : Option (List ObjectState)) → at_uid w.1 pend ≡ o → (not (uid_eq w.1 top) ≡ true) × (lists_store_in x store (at_uid w.1 pend) ≡ true) → list_any passes pend ≡ true
+          by : (o : Option (List ObjectState)) → at_uid w.1 pend ≡ o →
+              (not (uid_eq w.1 top) ≡ true) × (lists_store_in x store (at_uid w.1 pend) ≡ true) → list_any passes pend ≡ true
           by None at on = absurd (cc (sym (ap (lists_store_in x store) at) ∙ on.1))
           by (Some states) at on =
               let p = place_from_lookup (is_at (uid_order w.1)) pend states at in
@@ -216,7 +248,8 @@ module _ (x : ℕ) (top : Uid) (store : ℕ) (pend : List (Uid × List ObjectSta
       back : Any (λ (e : Uid × List ObjectState). passes e ≡ true) pend → any_lists x top store pend acts ≡ true
       back w =
           let on = and_parts (not (uid_eq w.1.0 top)) (lists_store x store w.1.1) w.4 in
-          let at : at_uid w.1.0 pend ≡ Some w.1.1 = lookup_from_place (eq_by_cmp_equiv total) pend w.0 w.1.0 w.1.1 (IsDistinct-from_sorted uid_order (keys_of pend) rises) (slice_get_read pend (length pend) w.0 w.1 refl w.2 (sym w.3)) in
+          let at : at_uid w.1.0 pend ≡ Some w.1.1 =
+          lookup_from_place (eq_by_cmp_equiv total) pend w.0 w.1.0 w.1.1 (IsDistinct-from_sorted uid_order (keys_of pend) rises) (slice_get_read pend (length pend) w.0 w.1 refl w.2 (sym w.3)) in
           let among : is_on acts w.1.0 ≡ true = are w.1.0 ∙ (ap (has_state_in (entry x)) at ∙ listed_has w.1.1 on.1) in
           let v = Any-from_list_any (λ u. uid_eq u w.1.0) acts among in
           list_any-from_Any test acts (v.0, v.1, v.2, v.3, subst (λ u. test u ≡ true) (sym (uid_is v.1 w.1.0 v.4)) ((λ i. on.0 i && lists_store_in x store (at_uid w.1.0 pend)) ∙ (ap (lists_store_in x store) at ∙ on.1)))

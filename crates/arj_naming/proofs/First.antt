@@ -1,5 +1,6 @@
 -- The entries of a header's objects, as a store puts them on a new disk.
-use Rattle.std.proofs.Common.{◌≡◌, ◌≤◌, ◌<◌, ◌+◌, ◌==◌, ◌&&◌, ◌∙◌, ℕ, Bool, true, false, not, List, [], ◌∷◌, ◌++◌, nat_le, nat_lt, map, length, refl, sym, ap, subst, Some, arith}
+use Rattle.std.proofs.Common.{◌≡◌, ◌≤◌, ◌<◌, ◌+◌, ◌==◌, ◌&&◌, ◌∙◌, ℕ, Bool, true, false, not, List, [], ◌∷◌, ◌++◌, nat_le, nat_lt, map}
+use Rattle.std.proofs.Common.{length, refl, sym, ap, subst, Some, arith}
 use Rattle.std.specs.Prelude.{IsSome}
 use Rattle.std.specs.List.{AllByRecursion, IsDistinct, list_all, list_any}
 use Rattle.std.specs.List.Sorted.{IsStrictlySortedBy}
@@ -116,11 +117,13 @@ module _ (n : ℕ) (few : n ≤ 16) (o : ObjectLine) (form : ObjectLineInForm n 
 abbrev pub firsts : List ObjectLine → List ObjectState
 firsts os = map first_entry os
 
-pub firsts_are : (n : ℕ) → n ≤ 16 → (os : List ObjectLine) → AllByRecursion (ObjectLineInForm n) os → AllByRecursion (λ s. IsEntryState s.uid s) (firsts os)
+pub firsts_are : (n : ℕ) → n ≤ 16 → (os : List ObjectLine) → AllByRecursion (ObjectLineInForm n) os →
+    AllByRecursion (λ s. IsEntryState s.uid s) (firsts os)
 firsts_are n few [] all = tt
 firsts_are n few (o ∷ os) all = (first_is n few o all.0, firsts_are n few os all.1)
 
-pub all_save : (n : ℕ) → n ≤ 16 → (os : List ObjectLine) → AllByRecursion (ObjectLineInForm n) os → AllByRecursion (λ (o : ObjectLine). EntryInForm (record { servers = o.servers; stores = o.stores })) os
+pub all_save : (n : ℕ) → n ≤ 16 → (os : List ObjectLine) → AllByRecursion (ObjectLineInForm n) os →
+    AllByRecursion (λ (o : ObjectLine). EntryInForm (record { servers = o.servers; stores = o.stores })) os
 all_save n few [] all = tt
 all_save n few (o ∷ os) all = (saves n few o all.0, all_save n few os all.1)
 
@@ -132,7 +135,8 @@ before x y less = let is : x < y = grind (arith, nat_tests, less) in sym (nat_cm
 sooner : (x y z : ℕ) → nat_lt x y ≡ true → nat_lt y z ≡ true → nat_lt x z ≡ true
 sooner x y z a b = grind (arith, nat_tests, a, b)
 
-below_all : (x : ℕ) (o : ObjectLine) (os : List ObjectLine) → nat_lt x o.x ≡ true → are_by_number (o ∷ os) ≡ true → AllByRecursion (λ w. uid_order (entry x) w ≡ Less) (map uid_of (firsts (o ∷ os)))
+below_all : (x : ℕ) (o : ObjectLine) (os : List ObjectLine) → nat_lt x o.x ≡ true → are_by_number (o ∷ os) ≡ true →
+    AllByRecursion (λ w. uid_order (entry x) w ≡ Less) (map uid_of (firsts (o ∷ os)))
 below_all x o [] less ordered = (before x o.x less, tt)
 below_all x o (p ∷ ps) less ordered =
     let q = and_parts (nat_lt o.x p.x) (are_by_number (p ∷ ps)) ordered in
@@ -147,28 +151,34 @@ firsts_rise (o ∷ p ∷ os) ordered =
     (below_all o.x p os q.0 q.1, firsts_rise (p ∷ os) q.1)
 
 -- objects by number, of which the first is no lower than this, are as few as the numbers from there on
-count_from : (n low : ℕ) (o : ObjectLine) (os : List ObjectLine) → low ≤ o.x → AllByRecursion (ObjectLineInForm n) (o ∷ os) → are_by_number (o ∷ os) ≡ true → low + length (firsts (o ∷ os)) ≤ 257
+count_from : (n low : ℕ) (o : ObjectLine) (os : List ObjectLine) → low ≤ o.x → AllByRecursion (ObjectLineInForm n) (o ∷ os) →
+    are_by_number (o ∷ os) ≡ true → low + length (firsts (o ∷ os)) ≤ 257
 count_from n low o [] least all ordered = omega (arith, least, all.0.number.1)
 count_from n low o (p ∷ ps) least all ordered =
     let q = and_parts (nat_lt o.x p.x) (are_by_number (p ∷ ps)) ordered in
     let next : o.x + 1 ≤ p.x = grind (arith, nat_tests, q.0) in
     omega (arith, least, count_from n (o.x + 1) p ps next all.1 q.1)
 
-pub firsts_few : (n : ℕ) (os : List ObjectLine) → AllByRecursion (ObjectLineInForm n) os → are_by_number os ≡ true → length (firsts os) ≤ 256
+pub firsts_few : (n : ℕ) (os : List ObjectLine) → AllByRecursion (ObjectLineInForm n) os → are_by_number os ≡ true →
+    length (firsts os) ≤ 256
 firsts_few n [] all ordered = omega arith
 firsts_few n (o ∷ os) all ordered = omega (arith, count_from n 1 o os all.0.number.0 all ordered)
 
 pub rising_once : (ss : List ObjectState) → IsStrictlySortedBy uid_order (map uid_of ss) → IsDistinct uid_eq (map uid_of ss)
-rising_once ss rises = subst (λ eq. IsDistinct eq (map uid_of ss)) (λ i u w. (tied_is u w ∙ uid_sym w u) i) (IsDistinct-from_sorted uid_order (map uid_of ss) rises)
+rising_once ss rises =
+    subst (λ eq. IsDistinct eq (map uid_of ss)) (λ i u w. (tied_is u w ∙ uid_sym w u) i) (IsDistinct-from_sorted uid_order (map uid_of ss) rises)
 
 -- states that stand by Uid are put in their order
-put_all : (held : List (Uid × ObjectState)) (ss : List ObjectState) → IsStrictlySortedBy uid_order (keys_of (held ++ by_uid ss)) → put_states ss held ≡ held ++ by_uid ss
+put_all : (held : List (Uid × ObjectState)) (ss : List ObjectState) → IsStrictlySortedBy uid_order (keys_of (held ++ by_uid ss)) →
+    put_states ss held ≡ held ++ by_uid ss
 put_all held [] rises = sym (append-nil held)
 put_all held (s ∷ ss) rises =
-    let goes : put_uid s.uid s held ++ by_uid ss ≡ held ++ by_uid (s ∷ ss) = entry_goes uid_order total held s.uid s (by_uid (s ∷ ss)) (by_uid ss) (held ++ by_uid (s ∷ ss)) refl refl rises in
+    let goes : put_uid s.uid s held ++ by_uid ss ≡ held ++ by_uid (s ∷ ss) =
+    entry_goes uid_order total held s.uid s (by_uid (s ∷ ss)) (by_uid ss) (held ++ by_uid (s ∷ ss)) refl refl rises in
     put_all (put_uid s.uid s held) ss (subst (λ w. IsStrictlySortedBy uid_order (keys_of w)) (sym goes) rises) ∙ goes
 
-pub pair_firsts : (ss : List ObjectState) → IsStrictlySortedBy uid_order (map uid_of ss) → pair_with ss ≡ record { held = by_uid ss; pend = [] }
+pub pair_firsts : (ss : List ObjectState) → IsStrictlySortedBy uid_order (map uid_of ss) →
+    pair_with ss ≡ record { held = by_uid ss; pend = [] }
 pair_firsts ss rises = λ i. record { held = put_all [] ss (subst (IsStrictlySortedBy uid_order) (sym (keys_by_uid ss)) rises) i; pend = [] }
 
 -- ---- found as if a recovery had found them
@@ -187,7 +197,8 @@ module _ (f : Found) (all : AllByRecursion (λ s. IsEntryState s.uid s) f.commit
   }
 
   module _ (p : files.Pair) (only : files.HasOnly p f.committed) where
-    each_held : (ss : List ObjectState) → AllByRecursion (λ (s : ObjectState). p.held s.uid ≡ Some (state_bytes s)) ss → AllByRecursion (λ s. IsEntryState s.uid s) ss → AllByRecursion (λ (s : ObjectState). files.IsHeld p s.uid s) ss
+    each_held : (ss : List ObjectState) → AllByRecursion (λ (s : ObjectState). p.held s.uid ≡ Some (state_bytes s)) ss →
+        AllByRecursion (λ s. IsEntryState s.uid s) ss → AllByRecursion (λ (s : ObjectState). files.IsHeld p s.uid s) ss
     each_held [] there are = tt
     each_held (s ∷ ss) there are = (record { bytes = there.0; in_form = are.0.state.in_form; own = refl }, each_held ss there.1 are.1)
 

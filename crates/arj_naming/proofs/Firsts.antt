@@ -9,10 +9,12 @@ module _ {A : Type 0} (f : A → Option ConfirmedReply) (xs : List A) (i : ℕ) 
   first_here : first_of_each f (drop i xs) ≡ either (f (get_or xs i d)) (first_of_each f (drop (i + 1) xs))
   first_here = ap (first_of_each f) (drop_more xs i d within)
 
-  pub found_first : (r : ConfirmedReply) → Some r ≡ f (get_or xs i d) → first_of_each f (drop i xs) ≡ first_of_each f xs → Some r ≡ first_of_each f xs
+  pub found_first : (r : ConfirmedReply) → Some r ≡ f (get_or xs i d) → first_of_each f (drop i xs) ≡ first_of_each f xs →
+      Some r ≡ first_of_each f xs
   found_first r is rest = (λ j. either (is j) (first_of_each f (drop (i + 1) xs))) ∙ (sym first_here ∙ rest)
 
-  pub pass_first : f (get_or xs i d) ≡ None → first_of_each f (drop i xs) ≡ first_of_each f xs → first_of_each f (drop (i + 1) xs) ≡ first_of_each f xs
+  pub pass_first : f (get_or xs i d) ≡ None → first_of_each f (drop i xs) ≡ first_of_each f xs →
+      first_of_each f (drop (i + 1) xs) ≡ first_of_each f xs
   pass_first none rest = (λ j. either (sym none j) (first_of_each f (drop (i + 1) xs))) ∙ (sym first_here ∙ rest)
 
   pub head_none : first_of_each f (drop i xs) ≡ None → f (get_or xs i d) ≡ None

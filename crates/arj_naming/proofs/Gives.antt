@@ -1,5 +1,6 @@
 -- The states that the files give are of entries, whatever a call of the store left.
-use Rattle.std.proofs.Common.{◌≡◌, ◌⊎◌, ◌∙◌, Bool, true, false, cond, List, [], ◌∷◌, refl, sym, ap, subst, inl, inr, ⊎_elim, Option, Some, None}
+use Rattle.std.proofs.Common.{◌≡◌, ◌⊎◌, ◌∙◌, Bool, true, false, cond, List, [], ◌∷◌, refl, sym, ap, subst, inl, inr, ⊎_elim, Option, Some}
+use Rattle.std.proofs.Common.{None}
 use Rattle.std.specs.Prelude.{IfSome, IsSome, option_map, unwrap_or}
 use Rattle.std.specs.List.{AllByRecursion}
 use Rattle.arj_base.specs.State.{state_bytes, StateInForm}
@@ -65,7 +66,8 @@ module _ (d : Pair) (good : AreEntries d) (act : Uid) where
       by None all = tt
       by (Some states) all = all.each
 
-  some_held : (which : Uid → Bool) (ss : List ObjectState) (held : List (Uid × ObjectState)) → AllByRecursion (λ s. IsEntryState s.uid s) ss → AllByRecursion (λ (e : Uid × ObjectState). IsEntryState e.0 e.1) held
+  some_held : (which : Uid → Bool) (ss : List ObjectState) (held : List (Uid × ObjectState)) →
+      AllByRecursion (λ s. IsEntryState s.uid s) ss → AllByRecursion (λ (e : Uid × ObjectState). IsEntryState e.0 e.1) held
       → AllByRecursion (λ (e : Uid × ObjectState). IsEntryState e.0 e.1) (moved_some which ss held)
   some_held which [] held new all = all
   some_held which (s ∷ ss) held new all = some_held which ss (cond (which s.uid) (put_uid s.uid s held) held) new.1 (by (which s.uid))
@@ -85,7 +87,8 @@ module _ (d : Pair) (good : AreEntries d) (act : Uid) where
 
 -- ---- after a call
 
-module _ (P Q : Role → files.Pair) (r : Role) (names_role : r ≡ Names) (d : Pair) (stands : IsPairOf (P Names) d) (good : AreEntries d) (act : Uid) where
+module _ (P Q : Role →
+    files.Pair) (r : Role) (names_role : r ≡ Names) (d : Pair) (stands : IsPairOf (P Names) d) (good : AreEntries d) (act : Uid) where
   pub abort_gives : files.SamePair (P r) (Q r) ⊎ files.Drops (P r) (Q r) act → GivesEntries (Q Names)
   abort_gives did = ⊎_elim
       (λ (same : files.SamePair (P Names) (Q Names)). gives_entries (Q Names) d (pair_same (P Names) (Q Names) d same stands) good)
@@ -94,22 +97,27 @@ module _ (P Q : Role → files.Pair) (r : Role) (names_role : r ≡ Names) (d : 
 
   pub commit_gives : files.MovesSome (P r) (Q r) act ⊎ files.Moves (P r) (Q r) act → GivesEntries (Q Names)
   commit_gives did = ⊎_elim
-      (λ (some : files.MovesSome (P Names) (Q Names) act). let part = pair_moves_some (P Names) (Q Names) d act (one_each d act good) some stands in gives_entries (Q Names) (pair_in_part part.0 act d) part.1 (good_part d good act part.0))
+      (λ (some : files.MovesSome (P Names) (Q Names) act). let part =
+      pair_moves_some (P Names) (Q Names) d act (one_each d act good) some stands in gives_entries (Q Names) (pair_in_part part.0 act d) part.1 (good_part d good act part.0))
       (λ (all : files.Moves (P Names) (Q Names) act). gives_entries (Q Names) (pair_committed act d) (pair_moves (P Names) (Q Names) d act (one_each d act good) all stands) (good_committed d good act))
       (subst (λ k. files.MovesSome (P k) (Q k) act ⊎ files.Moves (P k) (Q k) act) names_role did)
 
-  pub prepare_gives : (states : List ObjectState) → AreOfEntries states → files.SamePair (P r) (Q r) ⊎ files.Prepares (P r) (Q r) act states → GivesEntries (Q Names)
+  pub prepare_gives : (states : List ObjectState) → AreOfEntries states →
+      files.SamePair (P r) (Q r) ⊎ files.Prepares (P r) (Q r) act states → GivesEntries (Q Names)
   prepare_gives states new did = ⊎_elim
       (λ (same : files.SamePair (P Names) (Q Names)). gives_entries (Q Names) d (pair_same (P Names) (Q Names) d same stands) good)
       (λ (more : files.Prepares (P Names) (Q Names) act states). gives_entries (Q Names) (pair_prepared act states d) (pair_adds (P Names) (Q Names) d act states (in_form states new.each) more.adds stands) (good_prepared d good act states new))
       (subst (λ k. files.SamePair (P k) (Q k) ⊎ files.Prepares (P k) (Q k) act states) names_role did)
 
   -- a prepare that is answered left the pair, or prepared the action
-  answered : (states : List ObjectState) (a : Prep) → files.AnswersPrepare (P r) (Q r) act states a → files.SamePair (P r) (Q r) ⊎ files.Prepares (P r) (Q r) act states
-  answered states prep.Prepared answers = ⊎_elim (λ (again : IsSome ((P r).pend act) × files.SamePair (P r) (Q r)). inl again.1) (λ (new : files.Prepares (P r) (Q r) act states). inr new) answers
+  answered : (states : List ObjectState) (a : Prep) → files.AnswersPrepare (P r) (Q r) act states a →
+      files.SamePair (P r) (Q r) ⊎ files.Prepares (P r) (Q r) act states
+  answered states prep.Prepared answers =
+      ⊎_elim (λ (again : IsSome ((P r).pend act) × files.SamePair (P r) (Q r)). inl again.1) (λ (new : files.Prepares (P r) (Q r) act states). inr new) answers
   answered states (prep.InDoubt uid holder) answers = inl answers.2
   answered states (prep.Old uid v) answers = inl answers.2
   answered states (prep.Already uid by_act) answers = inl answers.2
 
-  pub answer_gives : (states : List ObjectState) → AreOfEntries states → (a : Prep) → files.AnswersPrepare (P r) (Q r) act states a → GivesEntries (Q Names)
+  pub answer_gives : (states : List ObjectState) → AreOfEntries states → (a : Prep) → files.AnswersPrepare (P r) (Q r) act states a →
+      GivesEntries (Q Names)
   answer_gives states new a answers = prepare_gives states new (answered states a answers)

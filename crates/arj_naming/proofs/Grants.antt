@@ -1,5 +1,6 @@
 -- A lock that an action has already isn't granted again.
-use Rattle.std.proofs.Common.{◌≡◌, ℕ, Bool, true, false, not, ◌&&◌, ◌||◌, nat_le, nat_lt, List, [], ◌∷◌, Some, cond, ap, sym, ◌∙◌, refl, arith, find}
+use Rattle.std.proofs.Common.{◌≡◌, ℕ, Bool, true, false, not, ◌&&◌, ◌||◌, nat_le, nat_lt, List, [], ◌∷◌, Some, cond, ap, sym, ◌∙◌, refl}
+use Rattle.std.proofs.Common.{arith, find}
 use Rattle.std.specs.Option.{option_map}
 use Rattle.std.proofs.lemmas.Bool.{or_parts, and_parts}
 use Rattle.std.proofs.lemmas.Bool.Decides.{nat_tests}
@@ -27,7 +28,8 @@ none_granted x act m (r ∷ rows) none =
     λ i. (p.0 i && nat_le (mode_code m) (mode_code r.mode)) || none_granted x act m rows p.1 i
 
 -- behind the action's row of the object it has it in no mode
-none_behind : (x act : Uid) (m : Mode) (r : Row) (rows : List Row) → has_row r.object (last_uid r.holder) rows ≡ false → is_row_of x act r ≡ true → is_granted x act m rows ≡ false
+none_behind : (x act : Uid) (m : Mode) (r : Row) (rows : List Row) → has_row r.object (last_uid r.holder) rows ≡ false →
+    is_row_of x act r ≡ true → is_granted x act m rows ≡ false
 none_behind x act m r rows one own =
     let p = and_parts (uid_eq r.object x) (uid_eq (last_uid r.holder) act) own in
     let object : r.object ≡ x = uid_is r.object x p.0 in
@@ -49,9 +51,11 @@ rise_is x act m (r ∷ rows) one = by (is_row_of x act r) (none_behind x act m r
         ∙ (ap not (sym (or_false (nat_le (mode_code m) (mode_code r.mode)))) ∙ (λ i. not (nat_le (mode_code m) (mode_code r.mode) || sym (none refl) i)))
     by false none ih = ih
 
-granted_stays : (new : Row) (rows : List Row) → IsOneEach rows → is_granted new.object (last_uid new.holder) new.mode rows ≡ true → grant_row new rows ≡ rows
+granted_stays : (new : Row) (rows : List Row) → IsOneEach rows → is_granted new.object (last_uid new.holder) new.mode rows ≡ true →
+    grant_row new rows ≡ rows
 granted_stays new [] one granted = absurd (cc granted)
-granted_stays new (r ∷ rows) one granted = by (is_row_of new.object (last_uid new.holder) r) (none_behind new.object (last_uid new.holder) new.mode r rows one.0) granted (granted_stays new rows one.1)
+granted_stays new (r ∷ rows) one granted =
+    by (is_row_of new.object (last_uid new.holder) r) (none_behind new.object (last_uid new.holder) new.mode r rows one.0) granted (granted_stays new rows one.1)
   where
     by : (b : Bool) → (b ≡ true → is_granted new.object (last_uid new.holder) new.mode rows ≡ false)
         → ((b && nat_le (mode_code new.mode) (mode_code r.mode)) || is_granted new.object (last_uid new.holder) new.mode rows) ≡ true
@@ -72,9 +76,11 @@ asked_rows new rows one = by (is_granted new.object (last_uid new.holder) new.mo
     by false stays = refl
 
 -- and a rise is what it says
-pub asked_lines : (n : ℕ) (new : Row) (rows : List Row) (rose : Bool) → IsOneEach rows → rose ≡ is_rise (mode_of new.object (last_uid new.holder) rows) new.mode
+pub asked_lines : (n : ℕ) (new : Row) (rows : List Row) (rose : Bool) → IsOneEach rows →
+    rose ≡ is_rise (mode_of new.object (last_uid new.holder) rows) new.mode
     → grant_lines n new rows ≡ cond rose (Say (body.Granted n (last_uid new.holder) new.object new.mode) ∷ []) []
-asked_lines n new rows rose one is = by (is_granted new.object (last_uid new.holder) new.mode rows) rose (is ∙ rise_is new.object (last_uid new.holder) new.mode rows one)
+asked_lines n new rows rose one is =
+    by (is_granted new.object (last_uid new.holder) new.mode rows) rose (is ∙ rise_is new.object (last_uid new.holder) new.mode rows one)
   where
     lines : List Effect
     lines = Say (body.Granted n (last_uid new.holder) new.object new.mode) ∷ []

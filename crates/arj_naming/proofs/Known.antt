@@ -1,5 +1,6 @@
 -- A store of entries knows of few objects, and new entries are small.
-use Rattle.std.proofs.Common.{◌≡◌, ◌∙◌, ◌≤◌, ◌<◌, ℕ, zero, suc, List, [], ◌∷◌, Bool, true, false, cond, refl, sym, ap, subst, ⊎_elim, map, length, get_or, Option, Some, None, arith}
+use Rattle.std.proofs.Common.{◌≡◌, ◌∙◌, ◌≤◌, ◌<◌, ℕ, zero, suc, List, [], ◌∷◌, Bool, true, false, cond, refl, sym, ap, subst, ⊎_elim, map}
+use Rattle.std.proofs.Common.{length, get_or, Option, Some, None, arith}
 use Rattle.std.specs.Prelude.{IsSome, IfSome, Contains, option_map}
 use Rattle.std.specs.List.{AllByRecursion}
 use Rattle.std.proofs.lemmas.Bool.{cases_eq}
@@ -37,8 +38,10 @@ contains_behind w u us c = (suc c.0, omega (arith, c.1), c.2)
 among_all : (n x : ℕ) → 1 ≤ x → x ≤ n → Contains (entries_to n) (entry x)
 among_all zero x one most = absurd (omega (arith, one, most))
 among_all (suc n) x one most = ⊎_elim
-    (λ (same : x ≡ suc n). let here : Contains (entry (suc n) ∷ entries_to n) (entry (suc n)) = (zero, omega arith, refl) in subst (λ y. Contains (entries_to (suc n)) (entry y)) (sym same) here)
-    (λ (other : x ≡ suc n → ⊥). contains_behind (entry (suc n)) (entry x) (entries_to n) (among_all n x one (omega (arith, most, other)))) (cases_eq x (suc n))
+    (λ (same : x ≡ suc n). let here : Contains (entry (suc n) ∷ entries_to n) (entry (suc n)) =
+    (zero, omega arith, refl) in subst (λ y. Contains (entries_to (suc n)) (entry y)) (sym same) here)
+    (λ (other : x ≡ suc n →
+    ⊥). contains_behind (entry (suc n)) (entry x) (entries_to n) (among_all n x one (omega (arith, most, other)))) (cases_eq x (suc n))
 
 -- a Uid that is an entry of an object
 abbrev IsOfObject : Uid → Type 0
@@ -50,11 +53,13 @@ known_among u is = subst (Contains (entries_to 256)) (sym is.1) (among_all 256 u
 own_object : (u : Uid) (s : ObjectState) → IsEntryState u s → IsOfObject u
 own_object u s is = (is.state.object, is.state.of)
 
-named_among : (states : List ObjectState) (u : Uid) → AllByRecursion (λ s. IsEntryState s.uid s) states → IsSome (new_of (packed states) u) → IsOfObject u
+named_among : (states : List ObjectState) (u : Uid) → AllByRecursion (λ s. IsEntryState s.uid s) states →
+    IsSome (new_of (packed states) u) → IsOfObject u
 named_among [] u all named = absurd (cc named)
 named_among (s ∷ ss) u all named = by (uid_eq u s.uid) refl named (named_among ss u all.1)
   where
-    by : (b : Bool) → uid_eq u s.uid ≡ b → IsSome (cond b (Some (state_bytes s)) (new_of (packed ss) u)) → (IsSome (new_of (packed ss) u) → IsOfObject u) → IsOfObject u
+    by : (b : Bool) → uid_eq u s.uid ≡ b → IsSome (cond b (Some (state_bytes s)) (new_of (packed ss) u)) →
+        (IsSome (new_of (packed ss) u) → IsOfObject u) → IsOfObject u
     by true is named rest = subst IsOfObject (sym (uid_is u s.uid is)) (own_object s.uid s all.0)
     by false is named rest = rest named
 
@@ -76,17 +81,20 @@ known_all p d are good u known = known_among u (⊎_elim held prepared known)
         by None at all = absurd (subst (λ o. names o u) (are.pend is.0 ∙ ap (option_map packed) at) is.1)
         by (Some states) at all = named_among states u all.each (subst (λ o. names o u) (are.pend is.0 ∙ ap (option_map packed) at) is.1)
 
-added_at : (states : List ObjectState) (i : ℕ) (u : Uid) → AllByRecursion (λ s. IsEntryState s.uid s) states → i < length (map uid_of states) → get_or (map uid_of states) i u ≡ u → IsOfObject u
+added_at : (states : List ObjectState) (i : ℕ) (u : Uid) → AllByRecursion (λ s. IsEntryState s.uid s) states →
+    i < length (map uid_of states) → get_or (map uid_of states) i u ≡ u → IsOfObject u
 added_at [] i u all within is = absurd (omega (arith, within))
 added_at (s ∷ ss) zero u all within is = subst IsOfObject is (own_object s.uid s all.0)
 added_at (s ∷ ss) (suc i) u all within is = added_at ss i u all.1 (omega (arith, within)) is
 
-pub added_all : (states : List ObjectState) → AllByRecursion (λ s. IsEntryState s.uid s) states → (u : Uid) → Contains (map uid_of states) u → Contains (entries_to 256) u
+pub added_all : (states : List ObjectState) → AllByRecursion (λ s. IsEntryState s.uid s) states → (u : Uid) →
+    Contains (map uid_of states) u → Contains (entries_to 256) u
 added_all states all u c = known_among u (added_at states c.0 u all c.1 c.2)
 
 -- ---- the role and the size of the states
 
-pub all_names : (states : List ObjectState) → AllByRecursion (λ s. IsEntryState s.uid s) states → AllByRecursion (λ s. role_of s.uid ≡ Names) states
+pub all_names : (states : List ObjectState) → AllByRecursion (λ s. IsEntryState s.uid s) states →
+    AllByRecursion (λ s. role_of s.uid ≡ Names) states
 all_names [] all = tt
 all_names (s ∷ ss) all = (ap role_of all.0.state.of, all_names ss all.1)
 
@@ -99,6 +107,7 @@ small_payload s is =
 small_state : (s : ObjectState) → length s.payload ≤ 512 → length (state_bytes s) ≤ 65535
 small_state s small = omega (arith, small)
 
-pub all_small : (states : List ObjectState) → AllByRecursion (λ s. IsEntryState s.uid s) states → AllByRecursion (λ s. length (state_bytes s) ≤ 65535) states
+pub all_small : (states : List ObjectState) → AllByRecursion (λ s. IsEntryState s.uid s) states →
+    AllByRecursion (λ s. length (state_bytes s) ≤ 65535) states
 all_small [] all = tt
 all_small (s ∷ ss) all = (small_state s (small_payload s all.0), all_small ss all.1)

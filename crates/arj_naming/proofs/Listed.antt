@@ -1,5 +1,6 @@
 -- Uids in a list, and lists of Uids that name the same.
-use Rattle.std.proofs.Common.{◌≡◌, ◌∙◌, ◌||◌, ◌&&◌, ◌<◌, ℕ, zero, suc, Bool, true, false, cond, List, [], ◌∷◌, ◌++◌, map, filter, length, get_or, refl, sym, subst, arith}
+use Rattle.std.proofs.Common.{◌≡◌, ◌∙◌, ◌||◌, ◌&&◌, ◌<◌, ℕ, zero, suc, Bool, true, false, cond, List, [], ◌∷◌, ◌++◌, map, filter, length}
+use Rattle.std.proofs.Common.{get_or, refl, sym, subst, arith}
 use Rattle.std.specs.Prelude.{Contains, ◌↔◌}
 use Rattle.std.specs.List.{list_any}
 use Rattle.arj_base.specs.Rows.{Row, is_on, is_held_by}
@@ -38,10 +39,12 @@ both_ways false false to back = refl
 
 -- a list that names the same as another
 pub on_listed : (uids listed : List Uid) (u : Uid) → AreListed uids listed → is_on listed u ≡ is_on uids u
-on_listed uids listed u are = both_ways (is_on listed u) (is_on uids u) (λ on. contains_on uids u ((are.each u).0 (on_contains listed u on))) (λ on. contains_on listed u ((are.each u).1 (on_contains uids u on)))
+on_listed uids listed u are =
+    both_ways (is_on listed u) (is_on uids u) (λ on. contains_on uids u ((are.each u).0 (on_contains listed u on))) (λ on. contains_on listed u ((are.each u).1 (on_contains uids u on)))
 
 pub listed_by : (uids listed : List Uid) → ((u : Uid) → is_on listed u ≡ is_on uids u) → (u : Uid) → Contains listed u ↔ Contains uids u
-listed_by uids listed same u = (λ c. on_contains uids u (sym (same u) ∙ contains_on listed u c), λ c. on_contains listed u (same u ∙ contains_on uids u c))
+listed_by uids listed same u =
+    (λ c. on_contains uids u (sym (same u) ∙ contains_on listed u c), λ c. on_contains listed u (same u ∙ contains_on uids u c))
 
 pub on_append : (us ws : List Uid) (u : Uid) → is_on (us ++ ws) u ≡ (is_on us u || is_on ws u)
 on_append [] ws u = refl

@@ -36,9 +36,11 @@ few_nodes ns are = omega (arith, length-le_from_distinct_below ns 17 (distinct n
 
 stays_out : (s n : ℕ) (ns : List ℕ) → is_listed n ns ≡ false → is_listed n (without_store s ns) ≡ false
 stays_out s n [] none = refl
-stays_out s n (m ∷ ms) none = by (m == s) (or_parts (m == n) (is_listed n ms) none) (stays_out s n ms (or_parts (m == n) (is_listed n ms) none).1)
+stays_out s n (m ∷ ms) none =
+    by (m == s) (or_parts (m == n) (is_listed n ms) none) (stays_out s n ms (or_parts (m == n) (is_listed n ms) none).1)
   where
-    by : (b : Bool) → ((m == n) ≡ false) × (is_listed n ms ≡ false) → is_listed n (without_store s ms) ≡ false → is_listed n (cond (not b) (m ∷ without_store s ms) (without_store s ms)) ≡ false
+    by : (b : Bool) → ((m == n) ≡ false) × (is_listed n ms ≡ false) → is_listed n (without_store s ms) ≡ false →
+        is_listed n (cond (not b) (m ∷ without_store s ms) (without_store s ms)) ≡ false
     by true p rest = rest
     by false p rest = λ i. p.0 i || rest i
 
@@ -54,7 +56,8 @@ each_without : (s : ℕ) (ns : List ℕ) → AllByRecursion IsNode ns → AllByR
 each_without s [] all = tt
 each_without s (n ∷ ns) all = by (n == s) (each_without s ns all.1)
   where
-    by : (b : Bool) → AllByRecursion IsNode (without_store s ns) → AllByRecursion IsNode (cond (not b) (n ∷ without_store s ns) (without_store s ns))
+    by : (b : Bool) → AllByRecursion IsNode (without_store s ns) →
+        AllByRecursion IsNode (cond (not b) (n ∷ without_store s ns) (without_store s ns))
     by true rest = rest
     by false rest = (all.0, rest)
 
@@ -69,7 +72,8 @@ listed_behind n s (m ∷ ms) none isnt = let p = or_parts (m == n) (is_listed n 
 
 once_behind : (s : ℕ) (ns : List ℕ) → IsOnce ns → is_listed s ns ≡ false → IsOnce (ns ++ s ∷ [])
 once_behind s [] once none = (refl, tt)
-once_behind s (n ∷ ns) once none = let p = or_parts (n == s) (is_listed s ns) none in (listed_behind n s ns once.0 (turned n s p.0), once_behind s ns once.1 p.1)
+once_behind s (n ∷ ns) once none =
+    let p = or_parts (n == s) (is_listed s ns) none in (listed_behind n s ns once.0 (turned n s p.0), once_behind s ns once.1 p.1)
 
 each_behind : (s : ℕ) (ns : List ℕ) → AllByRecursion IsNode ns → IsNode s → AllByRecursion IsNode (ns ++ s ∷ [])
 each_behind s [] all is = (is, tt)

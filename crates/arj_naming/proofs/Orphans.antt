@@ -41,7 +41,8 @@ module _ (xs : List Uid) (i : ℕ) (within : i < length xs) (d middle : Pair) (b
       (part_front (ends x) (abort_all (drop (i + 1) xs)) (pair_after (abort_all (take i xs)) d) p (subst (λ m. IsDoneInPart (ends x) m p) pair_is part)))
 
   pub one_pair : (new : Pair) → new ≡ pair_after (ends x) middle → new ≡ pair_after (abort_all (take (i + 1) xs)) d
-  one_pair new is = is ∙ ((λ j. pair_after (ends x) (pair_is j)) ∙ (sym (after_append (abort_all (take i xs)) (ends x) d) ∙ (λ j. pair_after (sym one_more j) d)))
+  one_pair new is =
+      is ∙ ((λ j. pair_after (ends x) (pair_is j)) ∙ (sym (after_append (abort_all (take i xs)) (ends x) d) ∙ (λ j. pair_after (sym one_more j) d)))
 
   pub one_said : (after : List Line) → after ≡ between ++ said (ends x) → after ≡ before ++ said (abort_all (take (i + 1) xs))
   one_said after is =

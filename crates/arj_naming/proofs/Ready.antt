@@ -16,7 +16,11 @@ use Rattle.arj_store.specs.Pair as files
 
 -- what stands before the store's answer stands before all of its effects
 behind : (top : Uid) (states : List ObjectState) (n : Naming) (outs : List Effect) (a : protocol.Prep)
-    → (prepared_by top states (record { part = n; outs = outs }) a).outs ≡ outs ++ (prepared_by top states (record { part = n; outs = [] }) a).outs
+    → (prepared_by top states (record { part = n; outs = outs }) a).outs ≡ outs ++ (prepared_by top states (record {
+      part = n;
+      outs =
+          [];
+    }) a).outs
 behind top states n outs protocol.Ready = refl
 behind top states n outs (protocol.InDoubt u holder) = refl
 behind top states n outs (protocol.Already u) = refl
@@ -30,7 +34,11 @@ same_part top states n outs (protocol.Already u) = refl
 same_part top states n outs (protocol.Old u v) = refl
 
 same_reply : (top : Uid) (states : List ObjectState) (n : Naming) (outs : List Effect) (a : protocol.Prep)
-    → (prepared_by top states (record { part = n; outs = [] }) a).reply ≡ (prepared_by top states (record { part = n; outs = outs }) a).reply
+    → (prepared_by top states (record { part = n; outs = [] }) a).reply ≡ (prepared_by top states (record {
+      part = n;
+      outs =
+          outs;
+    }) a).reply
 same_reply top states n outs protocol.Ready = refl
 same_reply top states n outs (protocol.InDoubt u holder) = refl
 same_reply top states n outs (protocol.Already u) = refl
@@ -46,7 +54,8 @@ module _ (r : Served Naming ConfirmedReply) (top : Uid) (d : Pair) (n : Naming) 
   still : pair_after ready.outs d ≡ d
   still = after_lines ready.outs d ready.only_lines
 
-  pub ready_done : {O : Type 0} (old between new : Kept O) (after : List Line) → old.pair ≡ d → between.pair ≡ d → HasDone (did_of (prepare_by top states d n)) between new middle after → HasDone (did_of r) old new before after
+  pub ready_done : {O : Type 0} (old between new : Kept O) (after : List Line) → old.pair ≡ d → between.pair ≡ d →
+      HasDone (did_of (prepare_by top states d n)) between new middle after → HasDone (did_of r) old new before after
   ready_done old between new after pair_is same done = record {
     part = done.part ∙ (same_part top states n ready.outs (prepare_answer top states d) ∙ (λ i. (sym ready.is i).part));
     lines = done.lines
@@ -56,10 +65,12 @@ module _ (r : Served Naming ConfirmedReply) (top : Uid) (d : Pair) (n : Naming) 
         ∙ ((λ i. pair_after (prepare_by top states d n).outs ((same ∙ sym still) i)) ∙ (sym (after_append ready.outs (prepare_by top states d n).outs d) ∙ (λ i. pair_after (sym outs_are i) (sym pair_is i))));
   }
 
-  pub ready_cut : (p : files.Pair) (after : List Line) → IsCut (prepare_by top states d n).outs d p middle after → IsCut r.outs d p before after
+  pub ready_cut : (p : files.Pair) (after : List Line) → IsCut (prepare_by top states d n).outs d p middle after →
+      IsCut r.outs d p before after
   ready_cut p after cut =
       subst (λ es. IsCut es d p before after) (sym outs_are)
       (cut_back ready.outs (prepare_by top states d n).outs d p before after (subst (λ x. IsCut (prepare_by top states d n).outs x p (before ++ said ready.outs) after) (sym still) (subst (λ ls. IsCut (prepare_by top states d n).outs d p ls after) ready.lines cut)))
 
   pub ready_part : (p : files.Pair) → IsDoneInPart (prepare_by top states d n).outs d p → IsDoneInPart r.outs d p
-  ready_part p part = subst (λ es. IsDoneInPart es d p) (sym outs_are) (part_back ready.outs (prepare_by top states d n).outs d p (subst (λ x. IsDoneInPart (prepare_by top states d n).outs x p) (sym still) part))
+  ready_part p part =
+      subst (λ es. IsDoneInPart es d p) (sym outs_are) (part_back ready.outs (prepare_by top states d n).outs d p (subst (λ x. IsDoneInPart (prepare_by top states d n).outs x p) (sym still) part))

@@ -27,14 +27,17 @@ entry_form u d good = by (held_at u d) (found IsEntryState u d.held good.held)
     by (Some s) own = own.state.in_form
 
 -- an entry that isn't in doubt was read
-pub read_shown : (p : files.Pair) (d : Pair) (x : ℕ) (a : Read) (before : List Line) → IsPairOf p d → AreEntries d → ((a b u : Uid) → names (p.pend a) u → names (p.pend b) u → a ≡ b)
-    → holder_of (entry x) d ≡ None → files.Reads p (entry x) a → before ++ said (entry_line x (state_of a)) ≡ before ++ said (shown (entry_line x) (entry x) d (holder_of (entry x) d))
+pub read_shown : (p : files.Pair) (d : Pair) (x : ℕ) (a : Read) (before : List Line) → IsPairOf p d → AreEntries d →
+    ((a b u : Uid) → names (p.pend a) u → names (p.pend b) u → a ≡ b)
+    → holder_of (entry x) d ≡ None → files.Reads p (entry x) a →
+    before ++ said (entry_line x (state_of a)) ≡ before ++ said (shown (entry_line x) (entry x) d (holder_of (entry x) d))
 read_shown p d x a before are good once free is =
     let at = read_is d (entry x) a free (reads p d are once (entry x) a (entry_form (entry x) d good) is) in
     (λ i. before ++ said (entry_line x (sym at i))) ∙ (λ i. before ++ said (shown (entry_line x) (entry x) d (sym free i)))
 
 -- an entry in doubt isn't shown
-pub not_shown : (d : Pair) (x : ℕ) (holder : Option Uid) (before : List Line) → holder ≡ holder_of (entry x) d → is_some holder ≡ true → before ≡ before ++ said (shown (entry_line x) (entry x) d (holder_of (entry x) d))
+pub not_shown : (d : Pair) (x : ℕ) (holder : Option Uid) (before : List Line) → holder ≡ holder_of (entry x) d → is_some holder ≡ true →
+    before ≡ before ++ said (shown (entry_line x) (entry x) d (holder_of (entry x) d))
 not_shown d x None before is some = absurd (cc some)
 not_shown d x (Some holder) before is some = sym (append-nil before) ∙ (λ i. before ++ said (shown (entry_line x) (entry x) d (is i)))
 

@@ -10,4 +10,5 @@ use Rattle.arj_store.specs.Pair.{packed}
 -- the states of the pair that files give are of entries
 pub record GivesEntries (p : files.Pair) : Type 0 where
   pub held : (s : ObjectState) → files.IsHeld p s.uid s → IsEntryState s.uid s
-  pub pend : (a : Uid) (states : List ObjectState) → p.pend a ≡ Some (packed states) → AllByRecursion StateInForm states → AreOfEntries states
+  pub pend : (a : Uid) (states : List ObjectState) → p.pend a ≡ Some (packed states) → AllByRecursion StateInForm states →
+      AreOfEntries states

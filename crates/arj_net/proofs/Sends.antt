@@ -31,7 +31,8 @@ newest : (net : List Sent) (frame : Frame) → is_open (net ++ new_frame frame �
 newest net frame = ap (λ found. option_map_or is_pending found false) (slice_get-last net (new_frame frame))
 
 -- the first open frame stays the first, and a new one is it where there was none
-pub front_after_send : (net : List Sent) (frame : Frame) (n : ℕ) → length net < 100000 → KeepsFront net n → KeepsFront (net ++ new_frame frame ∷ []) n
+pub front_after_send : (net : List Sent) (frame : Frame) (n : ℕ) → length net < 100000 → KeepsFront net n →
+    KeepsFront (net ++ new_frame frame ∷ []) n
 front_after_send net frame n room keeps =
     let longer = length-append net (new_frame frame ∷ []) in
     record {

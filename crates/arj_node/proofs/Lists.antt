@@ -18,9 +18,17 @@ pub ran_is : (n : ℕ) (t : Parts) (es : List Effect) (d : Disk) → ran n t es 
 ran_is n t [] d = refl
 ran_is n t (Say b ∷ es) d = ap (first_done (Say b)) (ran_is n t es d)
 ran_is n t (Do w ∷ es) d = ap (first_done (Do w)) (ran_is n t es (worked w d))
-ran_is n t (Send to m ∷ es) d = (λ i. cond (to == n) (first_queued m (ran_is n t es d i)) (first_done (Send to m) (ran_is n t es d i))) ∙ by (to == n)
+ran_is n t (Send to m ∷ es) d =
+    (λ i. cond (to == n) (first_queued m (ran_is n t es d i)) (first_done (Send to m) (ran_is n t es d i))) ∙ by (to == n)
   where
-    by : (b : Bool) → cond b (first_queued m (ran_so n t es d)) (first_done (Send to m) (ran_so n t es d)) ≡ record { here = record { disk = disk_after es d; parts = t }; outs = cond b (outward n es) (Send to m ∷ outward n es); queue = cond b (m ∷ inward n es) (inward n es) }
+    by : (b : Bool) →
+        cond b (first_queued m (ran_so n t es d)) (first_done (Send to m) (ran_so n t es d)) ≡ record {
+          here =
+              record { disk = disk_after es d; parts = t };
+          outs =
+              cond b (outward n es) (Send to m ∷ outward n es);
+          queue = cond b (m ∷ inward n es) (inward n es);
+        }
     by true = refl
     by false = refl
 
@@ -36,7 +44,8 @@ out_behind n (Say b ∷ es) fs = ap (λ rest. Say b ∷ rest) (out_behind n es f
 out_behind n (Do w ∷ es) fs = ap (λ rest. Do w ∷ rest) (out_behind n es fs)
 out_behind n (Send to m ∷ es) fs = (λ i. cond (to == n) (out_behind n es fs i) (Send to m ∷ out_behind n es fs i)) ∙ by (to == n)
   where
-    by : (b : Bool) → cond b (outward n es ++ outward n fs) (Send to m ∷ outward n es ++ outward n fs) ≡ cond b (outward n es) (Send to m ∷ outward n es) ++ outward n fs
+    by : (b : Bool) →
+        cond b (outward n es ++ outward n fs) (Send to m ∷ outward n es ++ outward n fs) ≡ cond b (outward n es) (Send to m ∷ outward n es) ++ outward n fs
     by true = refl
     by false = refl
 
@@ -46,7 +55,8 @@ in_behind n (Say b ∷ es) fs = in_behind n es fs
 in_behind n (Do w ∷ es) fs = in_behind n es fs
 in_behind n (Send to m ∷ es) fs = (λ i. cond (to == n) (m ∷ in_behind n es fs i) (in_behind n es fs i)) ∙ by (to == n)
   where
-    by : (b : Bool) → cond b (m ∷ inward n es ++ inward n fs) (inward n es ++ inward n fs) ≡ cond b (m ∷ inward n es) (inward n es) ++ inward n fs
+    by : (b : Bool) →
+        cond b (m ∷ inward n es ++ inward n fs) (inward n es ++ inward n fs) ≡ cond b (m ∷ inward n es) (inward n es) ++ inward n fs
     by true = refl
     by false = refl
 
@@ -57,14 +67,16 @@ disk_outward n (Say b ∷ es) d = disk_outward n es d
 disk_outward n (Do w ∷ es) d = disk_outward n es (worked w d)
 disk_outward n (Send to m ∷ es) d = by (to == n) (disk_outward n es d)
   where
-    by : (b : Bool) → disk_after (outward n es) d ≡ disk_after es d → disk_after (cond b (outward n es) (Send to m ∷ outward n es)) d ≡ disk_after es d
+    by : (b : Bool) → disk_after (outward n es) d ≡ disk_after es d →
+        disk_after (cond b (outward n es) (Send to m ∷ outward n es)) d ≡ disk_after es d
     by true same = same
     by false same = same
 
 -- ---- cuts
 
 module _ (left : Disk → Type 0) where
-  pub stopped_first : (es fs : List Effect) (d : Disk) (front : List Effect) → IsStoppedAt left es d front → IsStoppedAt left (es ++ fs) d front
+  pub stopped_first : (es fs : List Effect) (d : Disk) (front : List Effect) → IsStoppedAt left es d front →
+      IsStoppedAt left (es ++ fs) d front
   stopped_first es fs d front stop = record {
     work = stop.work;
     back = stop.back ++ fs;
@@ -73,7 +85,8 @@ module _ (left : Disk → Type 0) where
     disk = stop.disk;
   }
 
-  pub stopped_second : (es fs : List Effect) (d : Disk) (front : List Effect) → IsStoppedAt left fs (disk_after es d) front → IsStoppedAt left (es ++ fs) d (es ++ front)
+  pub stopped_second : (es fs : List Effect) (d : Disk) (front : List Effect) → IsStoppedAt left fs (disk_after es d) front →
+      IsStoppedAt left (es ++ fs) d (es ++ front)
   stopped_second es fs d front stop = record {
     work = stop.work;
     back = stop.back;
@@ -83,7 +96,8 @@ module _ (left : Disk → Type 0) where
   }
 
   -- the same stop of what goes out
-  pub stopped_outward : (n : ℕ) (es : List Effect) (d : Disk) (front : List Effect) → IsStoppedAt left es d front → IsStoppedAt left (outward n es) d (outward n front)
+  pub stopped_outward : (n : ℕ) (es : List Effect) (d : Disk) (front : List Effect) → IsStoppedAt left es d front →
+      IsStoppedAt left (outward n es) d (outward n front)
   stopped_outward n es d front stop = record {
     work = stop.work;
     back = outward n stop.back;
@@ -99,7 +113,8 @@ count_front (Say b ∷ front) w back = count_front front w back
 count_front (Send to m ∷ front) w back = count_front front w back
 count_front (Do v ∷ front) w back = let more = count_front front w back in omega (arith, more)
 
-pub cut_there : (front : List Effect) (w : Work) (back : List Effect) (how : Stop) (d : Disk) → cut (count_works front) how (front ++ Do w ∷ back) d ≡ record { outs = front; disk = stopped how w (disk_after front d) }
+pub cut_there : (front : List Effect) (w : Work) (back : List Effect) (how : Stop) (d : Disk) →
+    cut (count_works front) how (front ++ Do w ∷ back) d ≡ record { outs = front; disk = stopped how w (disk_after front d) }
 cut_there [] w back how d = refl
 cut_there (Say b ∷ front) w back how d = ap (behind_effect (Say b)) (cut_there front w back how d)
 cut_there (Send to m ∷ front) w back how d = ap (behind_effect (Send to m)) (cut_there front w back how d)
@@ -131,7 +146,8 @@ seen_loud n (Say b ∷ es) = ap (λ rest. Said b ∷ rest) (seen_loud n es)
 seen_loud n (Do w ∷ es) = seen_loud n es
 seen_loud n (Send to m ∷ es) = by (to == n) (seen_loud n es)
   where
-    by : (b : Bool) → seen (outward n es) ≡ seen (outward n (loud es)) → seen (cond b (outward n es) (Send to m ∷ outward n es)) ≡ seen (cond b (outward n (loud es)) (Send to m ∷ outward n (loud es)))
+    by : (b : Bool) → seen (outward n es) ≡ seen (outward n (loud es)) →
+        seen (cond b (outward n es) (Send to m ∷ outward n es)) ≡ seen (cond b (outward n (loud es)) (Send to m ∷ outward n (loud es)))
     by true same = same
     by false same = ap (λ rest. Sent to (frame_kind m) (Some m) ∷ rest) same
 
@@ -141,7 +157,8 @@ inward_loud n (Say b ∷ es) = inward_loud n es
 inward_loud n (Do w ∷ es) = inward_loud n es
 inward_loud n (Send to m ∷ es) = by (to == n) (inward_loud n es)
   where
-    by : (b : Bool) → inward n es ≡ inward n (loud es) → cond b (m ∷ inward n es) (inward n es) ≡ cond b (m ∷ inward n (loud es)) (inward n (loud es))
+    by : (b : Bool) → inward n es ≡ inward n (loud es) →
+        cond b (m ∷ inward n es) (inward n es) ≡ cond b (m ∷ inward n (loud es)) (inward n (loud es))
     by true same = ap (λ rest. m ∷ rest) same
     by false same = same
 

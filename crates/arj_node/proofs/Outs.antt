@@ -12,7 +12,8 @@ use Rattle.arj_protocol.specs.Ask.{frame_kind}
 use Rattle.arj_protocol.specs.Effect.{Effect, Say, Send}
 use Rattle.arj_protocol.specs.Words.{Body, FrameKind, Message}
 
-pub sent_one : (to : ℕ) (m : Message) (kind : FrameKind) (bytes : List ℕ) (a b : List Output) → MessageInForm m → bytes ≡ message_bytes m → kind ≡ frame_kind m → b ≡ a ++ output.Send to kind bytes ∷ [] → PutsOut (Send to m ∷ []) a b
+pub sent_one : (to : ℕ) (m : Message) (kind : FrameKind) (bytes : List ℕ) (a b : List Output) → MessageInForm m → bytes ≡ message_bytes m →
+    kind ≡ frame_kind m → b ≡ a ++ output.Send to kind bytes ∷ [] → PutsOut (Send to m ∷ []) a b
 sent_one to m kind bytes a b fits is same are = record {
   added = output.Send to kind bytes ∷ [];
   are = are;
@@ -35,8 +36,12 @@ other_out n to m isnt = λ i. cond (isnt i) [] (Send to m ∷ [])
 pub other_in : (n to : ℕ) (m : Message) → (to == n) ≡ false → inward n (Send to m ∷ []) ≡ []
 other_in n to m isnt = λ i. cond (isnt i) (m ∷ []) []
 
-pub put_step : (n : ℕ) (one : Effect) (es : List Effect) (a b c : List Output) → PutsOut (outward n (one ∷ [])) a b → PutsOut (outward n es) b c → PutsOut (outward n (one ∷ es)) a c
-put_step n one es a b c first rest = subst (λ xs. PutsOut xs a c) (sym (out_behind n (one ∷ []) es)) (puts_more (outward n (one ∷ [])) (outward n es) a b c first rest)
+pub put_step : (n : ℕ) (one : Effect) (es : List Effect) (a b c : List Output) → PutsOut (outward n (one ∷ [])) a b →
+    PutsOut (outward n es) b c → PutsOut (outward n (one ∷ es)) a c
+put_step n one es a b c first rest =
+    subst (λ xs. PutsOut xs a c) (sym (out_behind n (one ∷ []) es)) (puts_more (outward n (one ∷ [])) (outward n es) a b c first rest)
 
-pub queue_step : (n : ℕ) (one : Effect) (es : List Effect) (q0 q1 : List Message) → q1 ≡ q0 ++ inward n (one ∷ []) → q1 ++ inward n es ≡ q0 ++ inward n (one ∷ es)
-queue_step n one es q0 q1 is = ap (λ q. q ++ inward n es) is ∙ (append_assoc q0 (inward n (one ∷ [])) (inward n es) ∙ ap (λ xs. q0 ++ xs) (sym (in_behind n (one ∷ []) es)))
+pub queue_step : (n : ℕ) (one : Effect) (es : List Effect) (q0 q1 : List Message) → q1 ≡ q0 ++ inward n (one ∷ []) →
+    q1 ++ inward n es ≡ q0 ++ inward n (one ∷ es)
+queue_step n one es q0 q1 is =
+    ap (λ q. q ++ inward n es) is ∙ (append_assoc q0 (inward n (one ∷ [])) (inward n es) ∙ ap (λ xs. q0 ++ xs) (sym (in_behind n (one ∷ []) es)))

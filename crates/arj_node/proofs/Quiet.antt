@@ -3,7 +3,8 @@ use Rattle.std.proofs.Common.{◌≡◌, ℕ, Bool, true, false, cond, List, [],
 use Rattle.std.specs.Prelude.{⊤, option_map}
 use Rattle.arj_node.specs.Outgoing.{loud}
 use Rattle.arj_protocol.specs.Ask.{Reply, answers, last_end}
-use Rattle.arj_protocol.specs.Effect.{Disk, Effect, Served, Pair, Prep, Ready, Already, Old, InDoubt, held_at, holder_of, is_prepared, prepare_answer}
+use Rattle.arj_protocol.specs.Effect.{Disk, Effect, Served, Pair, Prep, Ready, Already, Old, InDoubt, held_at, holder_of, is_prepared}
+use Rattle.arj_protocol.specs.Effect.{prepare_answer}
 use Rattle.arj_protocol.specs.Asking.{heard}
 use Rattle.arj_protocol.specs.Confirm.{confirm}
 use Rattle.arj_protocol.specs.Ending.{acked}
@@ -11,7 +12,9 @@ use Rattle.arj_protocol.specs.Naming as naming
 use Rattle.arj_protocol.specs.Naming.{Naming}
 use Rattle.arj_protocol.specs.Server as server
 use Rattle.arj_protocol.specs.Coord.{Coord}
-use Rattle.arj_protocol.specs.Node.{Handled, Void, Took, Parts, sends_answer, served, if_naming, load_held, load_by, prepare_by, serve, handle_ends, handle_other, handle_answer, handle_ask, handle, by_reply, coord_heard, is_meant, taken, with_coord, with_naming, with_server}
+use Rattle.arj_protocol.specs.Node.{Handled, Void, Took, Parts, sends_answer, served, if_naming, load_held, load_by, prepare_by, serve}
+use Rattle.arj_protocol.specs.Node.{handle_ends, handle_other, handle_answer, handle_ask, handle, by_reply, coord_heard, is_meant, taken}
+use Rattle.arj_protocol.specs.Node.{with_coord, with_naming, with_server}
 use Rattle.arj_protocol.specs.Words.{Ask, Asked, End, Head, Message, ObjectState, Uid, asks, object}
 use Rattle.arj_protocol.specs.Words.ask
 use Rattle.arj_protocol.specs.Words.prepared
@@ -52,14 +55,20 @@ one_of true x y first second = first
 one_of false x y first second = second
 
 serve_quiet : (n : ℕ) (d : Disk) (t : Parts) (from : ℕ) (h : Head) (a : Ask) → IsQuiet (serve n d t from h a)
-serve_quiet n d t from h (ask.Bind x include avoid) = at_naming (λ o. served from h (with_naming t) Reply.Bound (naming.bind h.path x include avoid d.names o)) t.naming (λ o. served_quiet from h (with_naming t) Reply.Bound (naming.bind h.path x include avoid d.names o))
+serve_quiet n d t from h (ask.Bind x include avoid) =
+    at_naming (λ o. served from h (with_naming t) Reply.Bound (naming.bind h.path x include avoid d.names o)) t.naming (λ o. served_quiet from h (with_naming t) Reply.Bound (naming.bind h.path x include avoid d.names o))
 serve_quiet n d t from h (ask.Load x) = load_quiet x d.store from h t (holder_of (object x) d.store)
 serve_quiet n d t from h (ask.Activate b st) = served_quiet from h (with_server t) Reply.Activated (server.activate n h.path b st t.server)
-serve_quiet n d t from h (ask.Record x b i g) = at_naming (λ o. served from h (with_naming t) Reply.Noted (naming.note h.path x b i g o)) t.naming (λ o. served_quiet from h (with_naming t) Reply.Noted (naming.note h.path x b i g o))
-serve_quiet n d t from h (ask.Invoke x b i ends op) = served_quiet from h (with_server t) Reply.Invoked (server.invoke n h x b i ends op t.server)
-serve_quiet n d t from h (ask.Vote i ties ends) = served_quiet from h (with_server t) Reply.Voted (server.vote n h.path i ties ends t.server)
-serve_quiet n d t from h (ask.Prepare states) = one_of (is_prepared (actor h.path) d.store) (sends_answer from h t [] (Some (Reply.Prepared prepared.Yes))) (prepare_by n states from h t (prepare_answer (actor h.path) states d.store)) tt (prepare_quiet n states from h t (prepare_answer (actor h.path) states d.store))
-serve_quiet n d t from h (ask.Confirm grants excluded included) = at_naming (λ o. served from h (with_naming t) Reply.Confirmed (confirm h.path grants excluded included d.names o)) t.naming (λ o. served_quiet from h (with_naming t) Reply.Confirmed (confirm h.path grants excluded included d.names o))
+serve_quiet n d t from h (ask.Record x b i g) =
+    at_naming (λ o. served from h (with_naming t) Reply.Noted (naming.note h.path x b i g o)) t.naming (λ o. served_quiet from h (with_naming t) Reply.Noted (naming.note h.path x b i g o))
+serve_quiet n d t from h (ask.Invoke x b i ends op) =
+    served_quiet from h (with_server t) Reply.Invoked (server.invoke n h x b i ends op t.server)
+serve_quiet n d t from h (ask.Vote i ties ends) =
+    served_quiet from h (with_server t) Reply.Voted (server.vote n h.path i ties ends t.server)
+serve_quiet n d t from h (ask.Prepare states) =
+    one_of (is_prepared (actor h.path) d.store) (sends_answer from h t [] (Some (Reply.Prepared prepared.Yes))) (prepare_by n states from h t (prepare_answer (actor h.path) states d.store)) tt (prepare_quiet n states from h t (prepare_answer (actor h.path) states d.store))
+serve_quiet n d t from h (ask.Confirm grants excluded included) =
+    at_naming (λ o. served from h (with_naming t) Reply.Confirmed (confirm h.path grants excluded included d.names o)) t.naming (λ o. served_quiet from h (with_naming t) Reply.Confirmed (confirm h.path grants excluded included d.names o))
 
 replied : (t : Parts) (outs : List Effect) (o : Option (Unit {0})) → IsQuiet (by_reply t outs o)
 replied t outs None = refl
@@ -68,7 +77,8 @@ replied t outs (Some u) = tt
 heard_quiet : (t : Parts) (r : Served Coord (Unit {0})) → IsQuiet (coord_heard t r)
 heard_quiet t r = replied (with_coord t r.part) r.outs r.reply
 
-ends_quiet : (n : ℕ) (d : Disk) (t : Parts) (from : ℕ) (ack : Bool) (ends : List (Uid × End)) (o : Option (Uid × End)) → IsQuiet (handle_ends n d t from ack ends o)
+ends_quiet : (n : ℕ) (d : Disk) (t : Parts) (from : ℕ) (ack : Bool) (ends : List (Uid × End)) (o : Option (Uid × End)) →
+    IsQuiet (handle_ends n d t from ack ends o)
 ends_quiet n d t from ack ends None = tt
 ends_quiet n d t from ack ends (Some e) = tt
 

@@ -10,7 +10,8 @@ use Rattle.arj_protocol.specs.Words.{Message, read_message}
 
 pub message_back : (m : Message) → MessageInForm m → message_of (message_bytes m) ≡ Some m
 unfolding read_message
-message_back m fits = ap (λ bytes. whole_message (message.read bytes)) (sym (append-nil (message_bytes m))) ∙ ap whole_message (message_lawful.again m [] fits)
+message_back m fits =
+    ap (λ bytes. whole_message (message.read bytes)) (sym (append-nil (message_bytes m))) ∙ ap whole_message (message_lawful.again m [] fits)
 
 pub no_message : (bytes : List ℕ) → IsBytes bytes → ((m : Message) → MessageInForm m → message_bytes m ≢ bytes) → message_of bytes ≡ None
 unfolding read_message
@@ -19,4 +20,5 @@ no_message bytes are none = by (message.read bytes) refl
     by : (r : Result (Message × List ℕ) ℕ) → message.read bytes ≡ r → whole_message r ≡ None
     by (Err n) is = refl
     by (Ok (m, b ∷ rest)) is = refl
-    by (Ok (m, [])) is = let found = message_lawful.found bytes m [] are is in absurd (none m found.0 (sym (found.1 ∙ append-nil (message_bytes m))))
+    by (Ok (m, [])) is =
+        let found = message_lawful.found bytes m [] are is in absurd (none m found.0 (sym (found.1 ∙ append-nil (message_bytes m))))

@@ -9,7 +9,8 @@ use Rattle.arj_protocol.specs.Asking.{again_all}
 use Rattle.arj_protocol.specs.Coord.{Coord}
 use Rattle.arj_protocol.specs.Effect.{Did, Disk, Effect}
 use Rattle.arj_protocol.specs.Node.{Here, Parts, holders, query_about, with_coord}
-use Rattle.arj_protocol.specs.Step.{Input, Begin, Call, Include, Commit, Abort, GiveUp, acts, class_at, first_disk, parts_in, refusal_up, restart_outs, tolds_again}
+use Rattle.arj_protocol.specs.Step.{Input, Begin, Call, Include, Commit, Abort, GiveUp, acts, class_at, first_disk, parts_in, refusal_up}
+use Rattle.arj_protocol.specs.Step.{restart_outs, tolds_again}
 use Rattle.arj_protocol.specs.Words.{Class, Header}
 
 -- ---- inputs about an action

@@ -37,8 +37,11 @@ pub record Turn (P : Type 0) : Type 0 where
 
 -- whatever node it was, it did the step of this input
 abbrev pub DoesStep : {P : Type 0} → Ghosts P → Turn P → Input → Type 0
-DoesStep g t input = (header : Header) (n : Node) → IsNode g header t.old t.file n → Did (IsNode g header t.new t.left) (step header n input) t.before t.after
+DoesStep g t input =
+    (header : Header) (n : Node) → IsNode g header t.old t.file n → Did (IsNode g header t.new t.left) (step header n input) t.before t.after
 
 -- a stop cut the step
 abbrev pub StopsStep : {P : Type 0} → Ghosts P → Turn P → Input → Type 0
-StopsStep g t input = (header : Header) (n : Node) → IsNode g header t.old t.file n → WasCut (IsNode g header t.new t.left) n (step header n input) t.before t.after
+StopsStep g t input =
+    (header : Header) (n : Node) → IsNode g header t.old t.file n →
+    WasCut (IsNode g header t.new t.left) n (step header n input) t.before t.after

@@ -1,5 +1,6 @@
 -- One event more of a run of all nodes.
-use Rattle.std.proofs.Common.{◌≡◌, ℕ, Option, None, ◌+◌, ◌<◌, ◌≤◌, List, [], ◌∷◌, ◌++◌, length, length-append, Bool, true, false, Some, refl, sym, ◌∙◌, ap, subst, arith}
+use Rattle.std.proofs.Common.{◌≡◌, ℕ, Option, None, ◌+◌, ◌<◌, ◌≤◌, List, [], ◌∷◌, ◌++◌, length, length-append, Bool, true, false, Some}
+use Rattle.std.proofs.Common.{refl, sym, ◌∙◌, ap, subst, arith}
 use Rattle.std.specs.List.{AllByRecursion, cons_option}
 use Rattle.std.specs.Prelude.{All, get_or, slice_get}
 use Rattle.std.proofs.Math.Logic.{⊎_elim}
@@ -41,52 +42,91 @@ few_arms : (n : ℕ) (events : List Event) → length (arms_at n events) ≤ len
 few_arms n [] = omega arith
 few_arms n (e ∷ events) = by (arm_at n e) (few_arms n events)
   where
-    by : (o : Option (ℕ × Outcome)) → length (arms_at n events) ≤ length events → length (cons_option o (arms_at n events)) ≤ length (e ∷ events)
+    by : (o : Option (ℕ × Outcome)) → length (arms_at n events) ≤ length events →
+        length (cons_option o (arms_at n events)) ≤ length (e ∷ events)
     by None ih = omega (arith, ih)
     by (Some a) ih = omega (arith, ih)
 
 module _ {C D : Type 0} (c : core.Ghosts C) (d : disk.Ghosts D) where
   -- the mark that a run is over
   opened : (h : Hand C D) (w : World) → Stands c d.file h w → Stands c d.file h (unmarked w)
-  opened h w s = record { header = s.header; start = s.start; frames = s.frames; lines = s.lines; labels = s.labels; arms = s.arms; event = s.event; full = s.full; over = refl; nodes = s.nodes }
+  opened h w s =
+      record {
+        header = s.header;
+        start = s.start;
+        frames = s.frames;
+        lines = s.lines;
+        labels = s.labels;
+        arms = s.arms;
+        event =
+            s.event;
+        full = s.full;
+        over = refl;
+        nodes = s.nodes;
+      }
 
   as_it_is : (h : Hand C D) (w : World) → w.over ≡ false → Stands c d.file h (unmarked w) → Stands c d.file h w
-  as_it_is h w is s = record { header = s.header; start = s.start; frames = s.frames; lines = s.lines; labels = s.labels; arms = s.arms; event = s.event; full = s.full; over = is; nodes = s.nodes }
+  as_it_is h w is s =
+      record {
+        header = s.header;
+        start = s.start;
+        frames = s.frames;
+        lines = s.lines;
+        labels = s.labels;
+        arms = s.arms;
+        event =
+            s.event;
+        full = s.full;
+        over = is;
+        nodes = s.nodes;
+      }
 
   -- where no frame was too many, the nodes stand for what the protocol made
-  stands_now : (first : List D) (header : Header) (events : List Event) (now : Hand C D) → (r : RanAll c d (task first header events) false now) → Stands c d.file now (world_after header r.turns)
+  stands_now : (first : List D) (header : Header) (events : List Event) (now : Hand C D) →
+      (r : RanAll c d (task first header events) false now) → Stands c d.file now (world_after header r.turns)
   stands_now first header events now r = as_it_is now (world_after header r.turns) r.is_over r.stands
 
-  pub stands_some : (first : List D) (header : Header) (events : List Event) (now : Hand C D) → RanAll c d (task first header events) false now → StandsSome c d.file now
+  pub stands_some : (first : List D) (header : Header) (events : List Event) (now : Hand C D) →
+      RanAll c d (task first header events) false now → StandsSome c d.file now
   stands_some first header events now r = (world_after header r.turns, stands_now first header events now r)
 
   -- a turn more is told too
   told_more : (turns : List Turn) (t : Turn) (w : World) (before between after : List D) → TellTurns d w turns before between
-      → (let v = all_turned turns w in TellsStops d v.header.nodes (crashed_by t.event) between after v.lines (turned t v).lines) → TellTurns d w (turns ++ t ∷ []) before after
-  told_more [] t w before between after same tells = (after, subst (λ disks. TellsStops d w.header.nodes (crashed_by t.event) disks after w.lines (turned t w).lines) same tells, refl)
-  told_more (s ∷ turns) t w before between after told tells = (told.0, told.1, told_more turns t (turned s w) told.0 between after told.2 tells)
+      → (let v = all_turned turns w in TellsStops d v.header.nodes (crashed_by t.event) between after v.lines (turned t v).lines) →
+      TellTurns d w (turns ++ t ∷ []) before after
+  told_more [] t w before between after same tells =
+      (after, subst (λ disks. TellsStops d w.header.nodes (crashed_by t.event) disks after w.lines (turned t w).lines) same tells, refl)
+  told_more (s ∷ turns) t w before between after told tells =
+      (told.0, told.1, told_more turns t (turned s w) told.0 between after told.2 tells)
 
   -- no disk was armed oftener than there were events
-  armed_few : (nodes : ℕ) (events : List Event) (old new : List D) (i : ℕ) (a b : D) → HaveMoved d nodes events old new → slice_get old i ≡ Some a → slice_get new i ≡ Some b → d.arms b ≤ d.arms a + length events
+  armed_few : (nodes : ℕ) (events : List Event) (old new : List D) (i : ℕ) (a b : D) → HaveMoved d nodes events old new →
+      slice_get old i ≡ Some a → slice_get new i ≡ Some b → d.arms b ≤ d.arms a + length events
   armed_few nodes events old new i a b moved at then_at = ⊎_elim one other (cases_lt i nodes)
     where
       one : i < nodes → d.arms b ≤ d.arms a + length events
-      one less = let m : Moves (arms_at (i + 1) events) (counts d a) (counts d b) = moved.each i a b less at then_at in omega (arith, m.arms, few_arms (i + 1) events)
+      one less = let m : Moves (arms_at (i + 1) events) (counts d a) (counts d b) =
+          moved.each i a b less at then_at in omega (arith, m.arms, few_arms (i + 1) events)
 
       other : nodes ≤ i → d.arms b ≤ d.arms a + length events
-      other past = let same : a ≡ b = some_one a b (sym at ∙ (sym (moved.others i past) ∙ then_at)) in subst (λ x. d.arms x ≤ d.arms a + length events) same (omega arith)
+      other past = let same : a ≡ b =
+          some_one a b (sym at ∙ (sym (moved.others i past) ∙ then_at)) in subst (λ x. d.arms x ≤ d.arms a + length events) same (omega arith)
 
   -- no disk was armed too often
-  pub arms_left : (first : List D) (header : Header) (events : List Event) (over : Bool) (now : Hand C D) → RanAll c d (task first header events) over now → now.kept.event < MOST_EVENTS → All (λ one. d.arms one < 4294967295) now.disks
+  pub arms_left : (first : List D) (header : Header) (events : List Event) (over : Bool) (now : Hand C D) →
+      RanAll c d (task first header events) over now → now.kept.event < MOST_EVENTS → All (λ one. d.arms one < 4294967295) now.disks
   arms_left first header events over now r room k one less =
       let at : slice_get now.disks k ≡ Some (get_or now.disks k one) = slice_get-get_or now.disks k one less in
       let was = is_there k first (omega (arith, less, r.disks.count)) in
       let few : d.arms was.0 < 1000 = all_at (λ some. d.arms some < 1000) k first was.0 r.fresh was.1 in
-      let rose : d.arms (get_or now.disks k one) ≤ d.arms was.0 + length events = armed_few (header.nodes) events first now.disks k was.0 (get_or now.disks k one) r.disks was.1 at in
+      let rose : d.arms (get_or now.disks k one) ≤ d.arms was.0 + length events =
+      armed_few (header.nodes) events first now.disks k was.0 (get_or now.disks k one) r.disks was.1 at in
       omega (arith, few, rose, r.counted, room)
 
   -- the nodes are formatted
-  pub ran_first : (header : Header) (kept : Kept C) (first rack : List D) → AreFresh d first → Stands c d.file (hand kept rack []) (format header) → HaveMoved d header.nodes [] first rack → HaveNotStopped d first rack → RanAll c d (task first header []) false (hand kept rack [])
+  pub ran_first : (header : Header) (kept : Kept C) (first rack : List D) → AreFresh d first →
+      Stands c d.file (hand kept rack []) (format header) → HaveMoved d header.nodes [] first rack → HaveNotStopped d first rack →
+      RanAll c d (task first header []) false (hand kept rack [])
   ran_first header kept first rack fresh s moved unstopped = record {
     turns = [];
     are = refl;
@@ -103,9 +143,13 @@ module _ {C D : Type 0} (c : core.Ghosts C) (d : disk.Ghosts D) where
   }
 
   -- a turn more, by what it left
-  ran_turn : (first : List D) (header : Header) (events : List Event) (e : Event) (over : Bool) (old new : Hand C D) (t : Turn) → (r : RanAll c d (task first header events) false old) → t.event ≡ e → FallsAtWorks t
-      → Stands c d.file new (unmarked (turned t (world_after header r.turns))) → (let w = turned t (world_after header r.turns) in w.over) ≡ over
-      → new.kept.header ≡ old.kept.header → new.kept.event ≡ old.kept.event + 1 → HaveMoved d old.kept.header.nodes (e ∷ []) old.disks new.disks → TellsStops d old.kept.header.nodes (crashed_by e) old.disks new.disks old.journal new.journal
+  ran_turn : (first : List D) (header : Header) (events : List Event) (e : Event) (over : Bool) (old new : Hand C D) (t : Turn) →
+      (r : RanAll c d (task first header events) false old) → t.event ≡ e → FallsAtWorks t
+      → Stands c d.file new (unmarked (turned t (world_after header r.turns))) →
+      (let w = turned t (world_after header r.turns) in w.over) ≡ over
+      → new.kept.header ≡ old.kept.header → new.kept.event ≡ old.kept.event + 1 →
+      HaveMoved d old.kept.header.nodes (e ∷ []) old.disks new.disks →
+      TellsStops d old.kept.header.nodes (crashed_by e) old.disks new.disks old.journal new.journal
       → RanAll c d (task first header (events ++ e ∷ [])) over new
   ran_turn first header events e over old new t r is works s is_over same counted moved tells =
       let w = world_after header r.turns in
@@ -130,12 +174,18 @@ module _ {C D : Type 0} (c : core.Ghosts C) (d : disk.Ghosts D) where
       }
 
   -- what is in hand has stayed
-  pub ran_still : (first : List D) (header : Header) (events : List Event) (over : Bool) (old new : Hand C D) → new.kept ≡ old.kept → new.disks ≡ old.disks → new.journal ≡ old.journal → RanAll c d (task first header events) over old → RanAll c d (task first header events) over new
-  ran_still first header events over old new kept disks journal r = subst (RanAll c d (task first header events) over) (λ i. hand (sym kept i) (sym disks i) (sym journal i)) r
+  pub ran_still : (first : List D) (header : Header) (events : List Event) (over : Bool) (old new : Hand C D) → new.kept ≡ old.kept →
+      new.disks ≡ old.disks → new.journal ≡ old.journal → RanAll c d (task first header events) over old →
+      RanAll c d (task first header events) over new
+  ran_still first header events over old new kept disks journal r =
+      subst (RanAll c d (task first header events) over) (λ i. hand (sym kept i) (sym disks i) (sym journal i)) r
 
   -- an event was run
-  pub ran_more : (first : List D) (header : Header) (events : List Event) (e : Event) (old new : Hand C D) → RunsTo c d.file e old new → new.kept.header ≡ old.kept.header → new.kept.event ≡ old.kept.event + 1
-      → HaveMoved d old.kept.header.nodes (e ∷ []) old.disks new.disks → TellsStops d old.kept.header.nodes (crashed_by e) old.disks new.disks old.journal new.journal → RanAll c d (task first header events) false old → RanAll c d (task first header (events ++ e ∷ [])) false new
+  pub ran_more : (first : List D) (header : Header) (events : List Event) (e : Event) (old new : Hand C D) → RunsTo c d.file e old new →
+      new.kept.header ≡ old.kept.header → new.kept.event ≡ old.kept.event + 1
+      → HaveMoved d old.kept.header.nodes (e ∷ []) old.disks new.disks →
+      TellsStops d old.kept.header.nodes (crashed_by e) old.disks new.disks old.journal new.journal →
+      RanAll c d (task first header events) false old → RanAll c d (task first header (events ++ e ∷ [])) false new
   ran_more first header events e old new runs same counted moved tells r =
       let w = world_after header r.turns in
       let ran = runs w (stands_now first header events old r) in
@@ -144,13 +194,22 @@ module _ {C D : Type 0} (c : core.Ghosts C) (d : disk.Ghosts D) where
       ran_turn first header events e false old new t r refl ran.works (opened new (turned t w) s) s.over same counted moved tells
 
   -- an event was run, and a frame didn't fit
-  pub ran_over : (first : List D) (header : Header) (events : List Event) (e : Event) (old new : Hand C D) → RunsOver c d.file e old new → new.kept.header ≡ old.kept.header → new.kept.event ≡ old.kept.event + 1
-      → HaveMoved d old.kept.header.nodes (e ∷ []) old.disks new.disks → TellsStops d old.kept.header.nodes (crashed_by e) old.disks new.disks old.journal new.journal → RanAll c d (task first header events) false old → RanAll c d (task first header (events ++ e ∷ [])) true new
+  pub ran_over : (first : List D) (header : Header) (events : List Event) (e : Event) (old new : Hand C D) → RunsOver c d.file e old new →
+      new.kept.header ≡ old.kept.header → new.kept.event ≡ old.kept.event + 1
+      → HaveMoved d old.kept.header.nodes (e ∷ []) old.disks new.disks →
+      TellsStops d old.kept.header.nodes (crashed_by e) old.disks new.disks old.journal new.journal →
+      RanAll c d (task first header events) false old → RanAll c d (task first header (events ++ e ∷ [])) true new
   ran_over first header events e old new runs same counted moved tells r =
       let ran = runs (world_after header r.turns) (stands_now first header events old r) in
       let s = ran.stands in
-      ran_turn first header events e true old new (record { event = e; falls = ran.falls }) r refl ran.works s.stands s.over same counted moved tells
+      ran_turn first header events e true old new (record {
+        event = e;
+        falls =
+            ran.falls;
+      }) r refl ran.works s.stands s.over same counted moved tells
 
   -- what a call did to the disks of the nodes that it has, it did to those of the header
-  pub moved_by : (first : List D) (header : Header) (events more : List Event) (over : Bool) (now : Hand C D) (rack : List D) → RanAll c d (task first header events) over now → HaveMoved d now.kept.header.nodes more now.disks rack → HaveMoved d header.nodes more now.disks rack
+  pub moved_by : (first : List D) (header : Header) (events more : List Event) (over : Bool) (now : Hand C D) (rack : List D) →
+      RanAll c d (task first header events) over now → HaveMoved d now.kept.header.nodes more now.disks rack →
+      HaveMoved d header.nodes more now.disks rack
   moved_by first header events more over now rack r moved = subst (λ h. HaveMoved d h.nodes more now.disks rack) r.header moved

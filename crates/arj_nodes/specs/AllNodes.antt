@@ -26,7 +26,8 @@ world_after header turns = all_turned turns (format header)
 abbrev pub TellTurns : {D : Type 0} → disk.Ghosts D → World → List Turn → List D → List D → Type 0
 TellTurns d w [] before after = after ≡ before
 TellTurns d w (t ∷ ts) before after =
-    (between : List _) × TellsStops d w.header.nodes (crashed_by t.event) before between w.lines (let v = turned t w in v.lines) × TellTurns d (turned t w) ts between after
+    (between : List _) × TellsStops d w.header.nodes (crashed_by t.event) before between w.lines (let v =
+    turned t w in v.lines) × TellTurns d (turned t w) ts between after
 
 -- What is run: the disks on which it begins, its header and its events.
 pub record Task (D : Type 0) : Type 0 where

@@ -1,5 +1,6 @@
 -- What a journal tells of the stops and the arms of the disks on which its events were run.
-use Rattle.std.specs.Prelude.{ℕ, ◌≡◌, ◌+◌, ◌-◌, ◌≤◌, ◌&&◌, Bool, false, not, if◌then◌else◌, List, [], ◌∷◌, ◌++◌, length, filter, nat_le, Option, Some, None, is_some, slice_get}
+use Rattle.std.specs.Prelude.{ℕ, ◌≡◌, ◌+◌, ◌-◌, ◌≤◌, ◌&&◌, Bool, false, not, if◌then◌else◌, List, [], ◌∷◌, ◌++◌, length, filter, nat_le}
+use Rattle.std.specs.Prelude.{Option, Some, None, is_some, slice_get}
 use Rattle.arj_disk.specs.declared.disk.Disk as disk
 use Rattle.arj_law_parts.specs.steps.Halts.{armed_node, halted_node}
 use Rattle.arj_journal.specs.declared.event.Event.{Event}
@@ -26,7 +27,8 @@ stops_told events n lines = length (filter (tells_stop events n) lines)
 -- Each stop that a journal tells of is one that its node's disk counted since the first, and a disk of whose node it tells none counted none;
 -- and nobody halts but nodes of the header.
 pub record HaltsHaveCause {D : Type 0} (d : disk.Ghosts D) (t : Task D) (journal : List Line) (now : List D) : Type 0 where
-  pub each : (i : ℕ) (was is : D) → slice_get t.first i ≡ Some was → slice_get now i ≡ Some is → IsToldBy (stops_told t.events (i + 1) journal) (d.stops was) (d.stops is)
+  pub each : (i : ℕ) (was is : D) → slice_get t.first i ≡ Some was → slice_get now i ≡ Some is →
+      IsToldBy (stops_told t.events (i + 1) journal) (d.stops was) (d.stops is)
   pub others : (n : ℕ) → (1 ≤ n → n ≤ t.header.nodes → ⊥) → halts n journal ≡ 0
 
 -- ---- arms
@@ -37,7 +39,8 @@ tells_arm l = is_some (armed_node l.body)
 
 -- the line of an event of this number, where it asks for an arm of one of so many nodes
 abbrev pub arm_line : ℕ → ℕ → Event → List Line
-arm_line nodes number (event.Stop n calls kind) = if nat_le 1 n && nat_le n nodes then record { event = number; body = body.Armed n } ∷ [] else []
+arm_line nodes number (event.Stop n calls kind) =
+    if nat_le 1 n && nat_le n nodes then record { event = number; body = body.Armed n } ∷ [] else []
 arm_line nodes number _ = []
 
 -- the lines of events, of which the first has this number

@@ -26,11 +26,13 @@ module _ {O : Type 0} (o : Ghosts O) (n : ℕ) (p : Kept O) (old : FileMap) (h :
   same_coord = ap (λ (t : Parts). t.coord) stands.parts
 
   -- why it is refused
-  pub refused_so : (header : Header) (act : Act) (why : Option ℕ) → why ≡ refusal_up header (asked_of act) p.coord → why_at header act h ≡ why
+  pub refused_so : (header : Header) (act : Act) (why : Option ℕ) → why ≡ refusal_up header (asked_of act) p.coord →
+      why_at header act h ≡ why
   refused_so header act why is = ap (refusal_up header (asked_of act)) same_coord ∙ sym is
 
   -- `f` is what the coordinator does with the records on the disk, and these are its effects
-  module _ (f : List (Uid × Intent) → Coord → Did Coord) (own : AreAll is_coord_effect (f p.records p.coord).outs) (c : Coord) (none es : List Effect) (nothing : none ≡ []) (after : IsAfter (f p.records p.coord) c none es) where
+  module _ (f : List (Uid × Intent) → Coord →
+      Did Coord) (own : AreAll is_coord_effect (f p.records p.coord).outs) (c : Coord) (none es : List Effect) (nothing : none ≡ []) (after : IsAfter (f p.records p.coord) c none es) where
     same_did : f p.records p.coord ≡ f h.disk.intents h.parts.coord
     same_did = λ i. f (stands.records i) (sym same_coord i)
 
@@ -43,7 +45,12 @@ module _ {O : Type 0} (o : Ghosts O) (n : ℕ) (p : Kept O) (old : FileMap) (h :
     module _ (keeps_on : KeepsOn o) (stays : Stays o) (new : FileMap) (only : OnlyRecords old new) (form : AreInForm new) (before told : List Outgoing) where
       -- all of them were done
       pub did_does : (records : List (Uid × Intent)) → DoesRecords es old new p.records records before told
-          → node.Does (StandsOn o n (record { services = p.services; coord = c; records = records }) new) (with_coord h.parts (f h.disk.intents h.parts.coord).part) (f h.disk.intents h.parts.coord).outs h.disk before told
+          → node.Does (StandsOn o n (record {
+            services = p.services;
+            coord = c;
+            records =
+                records;
+          }) new) (with_coord h.parts (f h.disk.intents h.parts.coord).part) (f h.disk.intents h.parts.coord).outs h.disk before told
       did_does records does =
           let on = StandsOn o n (record { services = p.services; coord = c; records = records }) new in
           subst (λ (d : Did Coord). node.Does on (with_coord h.parts d.part) d.outs h.disk before told) same_did
@@ -52,7 +59,8 @@ module _ {O : Type 0} (o : Ghosts O) (n : ℕ) (p : Kept O) (old : FileMap) (h :
           (coord_does o keeps_on stays n p old new h stands only form c es records before told own_outs does)))
 
       -- a stop cut them
-      pub did_halts : CutsRecords es old new before told → IsHalted (RestsOn o n new) (f h.disk.intents h.parts.coord).outs h.disk before told
+      pub did_halts : CutsRecords es old new before told →
+          IsHalted (RestsOn o n new) (f h.disk.intents h.parts.coord).outs h.disk before told
       did_halts cut =
           subst (λ (d : Did Coord). IsHalted (RestsOn o n new) d.outs h.disk before told) same_did
           (subst (λ (xs : List Effect). IsHalted (RestsOn o n new) xs h.disk before told) same_outs

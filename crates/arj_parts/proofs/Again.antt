@@ -1,5 +1,6 @@
 -- A restart of a node's parts: what it leaves of the disk, what it says and sends, and where it is cut.
-use Rattle.std.proofs.Common.{◌≡◌, ◌==◌, ◌∙◌, ◌+◌, ◌++◌, ◌∷◌, ◌&&◌, ℕ, Bool, true, false, cond, List, [], map, refl, sym, ap, subst, Option, Some, None}
+use Rattle.std.proofs.Common.{◌≡◌, ◌==◌, ◌∙◌, ◌+◌, ◌++◌, ◌∷◌, ◌&&◌, ℕ, Bool, true, false, cond, List, [], map, refl, sym, ap, subst, Option}
+use Rattle.std.proofs.Common.{Some, None}
 use Rattle.std.proofs.lemmas.List.{append-nil, append_assoc}
 use Rattle.std.specs.Prelude.{option_map}
 use Rattle.arj_base.specs.State.{state_bytes}
@@ -30,7 +31,8 @@ use Rattle.arj_protocol.proofs.PartSays.{all_both, all_flat}
 use Rattle.arj_protocol.specs.Confirm.{recovered_lines, recovered_naming}
 use Rattle.arj_protocol.specs.Coord.{Coord, new_coord}
 use Rattle.arj_protocol.specs.Effect as effect
-use Rattle.arj_protocol.specs.Effect.{Disk, Effect, Pair, Say, Send, Do, Work, Look, PutInc, Prepare, Commit, Abort, PutIntent, RemoveIntent, Stop, Before, After, InPart, held_at, stopped, worked}
+use Rattle.arj_protocol.specs.Effect.{Disk, Effect, Pair, Say, Send, Do, Work, Look, PutInc, Prepare, Commit, Abort, PutIntent}
+use Rattle.arj_protocol.specs.Effect.{RemoveIntent, Stop, Before, After, InPart, held_at, stopped, worked}
 use Rattle.arj_protocol.specs.Naming.{Naming}
 use Rattle.arj_protocol.specs.Node.{prepared_actions, query_about}
 use Rattle.arj_protocol.specs.Order.{at_uid, uid_set, without_number}
@@ -85,11 +87,13 @@ module _ (test : Effect → Bool) where
   local_of never (Do w ∷ es) all = local_of never es (first_and_rest test (Do w) es all).1
 
   -- effects that leave the disk
-  leaves_disk : ((w : Work) (d : Disk) → test (Do w) ≡ true → worked w d ≡ d) → (es : List Effect) (d : Disk) → AreAll test es → disk_after es d ≡ d
+  leaves_disk : ((w : Work) (d : Disk) → test (Do w) ≡ true → worked w d ≡ d) → (es : List Effect) (d : Disk) → AreAll test es →
+      disk_after es d ≡ d
   leaves_disk same [] d all = refl
   leaves_disk same (Say b ∷ es) d all = leaves_disk same es d (first_and_rest test (Say b) es all).1
   leaves_disk same (Send to m ∷ es) d all = leaves_disk same es d (first_and_rest test (Send to m) es all).1
-  leaves_disk same (Do w ∷ es) d all = let own = first_and_rest test (Do w) es all in ap (disk_after es) (same w d own.0) ∙ leaves_disk same es d own.1
+  leaves_disk same (Do w ∷ es) d all =
+      let own = first_and_rest test (Do w) es all in ap (disk_after es) (same w d own.0) ∙ leaves_disk same es d own.1
 
 reading_same : (w : Work) (d : Disk) → is_reading (Do w) ≡ true → worked w d ≡ d
 reading_same Look d own = refl
@@ -174,7 +178,8 @@ back_reads None = refl
 back_reads (Some o) = all_flat is_reading _ o.objects (λ e. all_map is_reading _ e.1.rows (λ r. refl))
 
 rest_reads : (n : ℕ) (d : Disk) → AreAll is_reading (naming_lines n d ++ records_read n d)
-rest_reads n d = all_both is_reading (naming_lines n d) (records_read n d) (back_reads (naming_at n (d.inc + 1) d.names)) (all_map is_reading _ d.intents (λ e. refl))
+rest_reads n d =
+    all_both is_reading (naming_lines n d) (records_read n d) (back_reads (naming_at n (d.inc + 1) d.names)) (all_map is_reading _ d.intents (λ e. refl))
 
 all_sent : (hd : Header) (n k : ℕ) (d : Disk) → AreAll is_sent (sent_again hd n k d)
 all_sent hd n k d =
@@ -251,7 +256,8 @@ module _ {O : Type 0} (o : Ghosts O) (stays : Stays o) (mid new : FileMap) (only
 -- `one` is what it leaves of the files once the store is recovered
 module _ {O : Type 0} (o : Ghosts O) (n : ℕ) (old one : FileMap) (d : Disk) (rests : RestsOn o n old d) (formed : IsFormed o one) where
   -- it was cut until then
-  pub stops_begin : (before after : List Line) → IsCutOf o (begins_on n) old one before after → StopsBack o n one d (record { before = before; after = after })
+  pub stops_begin : (before after : List Line) → IsCutOf o (begins_on n) old one before after →
+      StopsBack o n one d (record { before = before; after = after })
   stops_begin before after cuts =
       let cut = cuts d rests.disk in
       let all = front_all is_start cut.front cut.work cut.back (subst (AreAll is_start) cut.are refl) in
@@ -279,7 +285,8 @@ module _ {O : Type 0} (o : Ghosts O) (n : ℕ) (old one : FileMap) (d : Disk) (r
     pub rests_one : RestsOn o n one (raised d)
     rests_one = rests_on o n old one d (raised d) rests formed says_one (record { store = refl; names = refl })
 
-    begun_lines : (before after : List Line) → after ≡ before ++ recover.said (begins_again n (inc old + 1)) → after ≡ before ++ said (begins_on n d)
+    begun_lines : (before after : List Line) → after ≡ before ++ recover.said (begins_again n (inc old + 1)) →
+        after ≡ before ++ said (begins_on n d)
     begun_lines before after are = are ∙ ap (λ i. before ++ record { event = 0; body = body.Up n (i + 1) } ∷ []) (sym rests.disk.inc)
 
     -- `two` is what naming leaves of them
@@ -294,7 +301,8 @@ module _ {O : Type 0} (o : Ghosts O) (n : ℕ) (old one : FileMap) (d : Disk) (r
       form_two u = only (Intent u) (λ e. cc e) (λ e. cc e)
 
       -- it was cut at naming
-      pub stops_named : (before mid after : List Line) → mid ≡ before ++ recover.said (begins_again n (inc old + 1)) → after ≡ mid → StopsBack o n two d (record { before = before; after = after })
+      pub stops_named : (before mid after : List Line) → mid ≡ before ++ recover.said (begins_again n (inc old + 1)) → after ≡ mid →
+          StopsBack o n two d (record { before = before; after = after })
       stops_named before mid after begun none = record {
         front = Do Look ∷ Do (PutInc (d.inc + 1)) ∷ Say (body.Up n (d.inc + 1)) ∷ [];
         stop = record { work = Look; back = naming_lines n d ++ records_read n d; how = Before; are = refl; disk = rests_two };
@@ -303,7 +311,9 @@ module _ {O : Type 0} (o : Ghosts O) (n : ℕ) (old one : FileMap) (d : Disk) (r
       }
 
       -- it was cut at the records
-      pub stops_records : (before mid behind after : List Line) → mid ≡ before ++ recover.said (begins_again n (inc old + 1)) → behind ≡ mid ++ said (naming_back (naming_at n k d.names)) → after ≡ behind → StopsBack o n two d (record { before = before; after = after })
+      pub stops_records : (before mid behind after : List Line) → mid ≡ before ++ recover.said (begins_again n (inc old + 1)) →
+          behind ≡ mid ++ said (naming_back (naming_at n k d.names)) → after ≡ behind →
+          StopsBack o n two d (record { before = before; after = after })
       stops_records before mid behind after begun found none = record {
         front = begins_on n d ++ naming_lines n d;
         stop = record {
@@ -317,11 +327,14 @@ module _ {O : Type 0} (o : Ghosts O) (n : ℕ) (old one : FileMap) (d : Disk) (r
         lines = none ∙ named_lines before mid behind begun found;
       }
         where
-          named_lines : (before mid behind : List Line) → mid ≡ before ++ recover.said (begins_again n (inc old + 1)) → behind ≡ mid ++ said (naming_back (naming_at n k d.names)) → behind ≡ before ++ said (begins_on n d ++ naming_lines n d)
-          named_lines before mid behind begun found = found ∙ ((λ i. begun_lines before mid begun i ++ said (naming_back (naming_at n (sym next i) d.names))) ∙ append_assoc before (said (begins_on n d)) (said (naming_lines n d)))
+          named_lines : (before mid behind : List Line) → mid ≡ before ++ recover.said (begins_again n (inc old + 1)) →
+              behind ≡ mid ++ said (naming_back (naming_at n k d.names)) → behind ≡ before ++ said (begins_on n d ++ naming_lines n d)
+          named_lines before mid behind begun found =
+              found ∙ ((λ i. begun_lines before mid begun i ++ said (naming_back (naming_at n (sym next i) d.names))) ∙ append_assoc before (said (begins_on n d)) (said (naming_lines n d)))
 
       -- it went through
-      pub back_lines : (before mid behind after : List Line) → mid ≡ before ++ recover.said (begins_again n (inc old + 1)) → behind ≡ mid ++ said (naming_back (naming_at n k d.names)) → after ≡ behind ++ said (recovered_records n d.intents)
+      pub back_lines : (before mid behind after : List Line) → mid ≡ before ++ recover.said (begins_again n (inc old + 1)) →
+          behind ≡ mid ++ said (naming_back (naming_at n k d.names)) → after ≡ behind ++ said (recovered_records n d.intents)
           → after ≡ before ++ said (outs_back n d)
       back_lines before mid behind after begun found records =
           records ∙ (ap (λ ls. ls ++ said (recovered_records n d.intents)) (found ∙ (λ i. begun_lines before mid begun i ++ said (naming_back (naming_at n (sym next i) d.names))))
@@ -331,9 +344,11 @@ module _ {O : Type 0} (o : Ghosts O) (n : ℕ) (old one : FileMap) (d : Disk) (r
 
       module _ (keeps_on : KeepsOn o) (store : O) (of : o.own_role store ≡ Store) (keeps : o.keeps store one) (found : Option (naming.Kept O)) (has : HasNaming o n k found two d.names) where
         abbrev pub parts_back : Coord → List (Uid × effect.Intent) → Kept O
-        parts_back c records = record { services = record { number = n; server = new_server k; naming = found; store = store }; coord = c; records = records }
+        parts_back c records =
+            record { services = record { number = n; server = new_server k; naming = found; store = store }; coord = c; records = records }
 
-        pub back_stands : (c : Coord) (records : List (Uid × effect.Intent)) → c ≡ record (new_coord n k) { telling = d.intents } → records ≡ d.intents → StandsOn o n (parts_back c records) two (record { disk = raised d; parts = parts_again n d })
+        pub back_stands : (c : Coord) (records : List (Uid × effect.Intent)) → c ≡ record (new_coord n k) { telling = d.intents } →
+            records ≡ d.intents → StandsOn o n (parts_back c records) two (record { disk = raised d; parts = parts_again n d })
         back_stands c records coord_is records_are = record {
           rests = rests_two;
           services = record {
@@ -347,17 +362,24 @@ module _ {O : Type 0} (o : Ghosts O) (n : ℕ) (old one : FileMap) (d : Disk) (r
           number = refl;
           named = has.named;
           records = records_are;
-          parts = (λ i. record { server = new_server (next i); naming = naming_at n (next i) d.names; coord = record (new_coord n (next i)) { telling = d.intents } })
+          parts = (λ i. record {
+            server = new_server (next i);
+            naming = naming_at n (next i) d.names;
+            coord =
+                record (new_coord n (next i)) { telling = d.intents };
+          })
               ∙ (λ i. record { server = new_server k; naming = sym has.part i; coord = sym coord_is i });
         }
 
 -- the files give entries, where the node has naming
-pub gives_one : {O : Type 0} (o : Ghosts O) (n : ℕ) (file : FileMap) (e : Disk) → RestsOn o n file e → has_naming n ≡ true → GivesEntries (o.pair file Names)
+pub gives_one : {O : Type 0} (o : Ghosts O) (n : ℕ) (file : FileMap) (e : Disk) → RestsOn o n file e → has_naming n ≡ true →
+    GivesEntries (o.pair file Names)
 gives_one o n file e rests is = (subst (λ b. NamesOn b o file e.names) is rests.names).1
 
 -- a list of all records is the one that the files have
 pub the_records : (file : FileMap) (entries all : List (Uid × effect.Intent)) → IsTheList file entries → AreRecords file all → all ≡ entries
-the_records file entries all only are = only (record { inc = 0; store = record { held = []; pend = [] }; names = record { held = []; pend = [] }; intents = all }) are
+the_records file entries all only are =
+    only (record { inc = 0; store = record { held = []; pend = [] }; names = record { held = []; pend = [] }; intents = all }) are
 
 -- ---- naming of a restart
 
@@ -372,7 +394,8 @@ module _ {O : Type 0} (o : Ghosts O) (n inc : ℕ) (old new : FileMap) (k : nami
   pub found_named : GivesEntries (o.pair new Names) → HasNaming o n inc (Some k) new p
   found_named gives = record { stands = (stands, names_are, gives); named = sym is; part = part_is }
 
-  pub found_lines : (before after : List Line) → after ≡ before ++ said (recovered_lines k.part) → after ≡ before ++ said (naming_back (naming_at n inc p))
+  pub found_lines : (before after : List Line) → after ≡ before ++ said (recovered_lines k.part) →
+      after ≡ before ++ said (naming_back (naming_at n inc p))
   found_lines before after are = are ∙ ap (λ found. before ++ said (naming_back found)) part_is
 
 -- no other does
@@ -402,7 +425,8 @@ module _ (hd : Header) (n k : ℕ) (d : Disk) (tolds : List Effect) (asked us : 
   abbrev hellos_to : ℕ → List Effect
   hellos_to nodes = map (hello_to n k) (without_number n (numbers_to nodes))
 
-  pub all_tell : tolds ≡ tolds_again d.intents → us ≡ uid_set (prepared_actions d.store ++ prepared_actions d.names) → asked ≡ us → hd.nodes ≡ m → Tells tolds a b → effects_of c ≡ effects_of b ++ map query_about asked → effects_of e ≡ effects_of c ++ hellos_to m
+  pub all_tell : tolds ≡ tolds_again d.intents → us ≡ uid_set (prepared_actions d.store ++ prepared_actions d.names) → asked ≡ us →
+      hd.nodes ≡ m → Tells tolds a b → effects_of c ≡ effects_of b ++ map query_about asked → effects_of e ≡ effects_of c ++ hellos_to m
       → Tells (sent_again hd n k d) a e
   all_tell tolds_are us_are asked_are nodes told queried greeted =
       greeted ∙ ((λ i. (queried ∙ (λ j. (told ∙ loud_tolds) j ++ map query_about ((asked_are ∙ us_are) j))) i ++ hellos_to (sym nodes i))
@@ -418,9 +442,11 @@ module _ (hd : Header) (n k : ℕ) (d : Disk) (tolds : List Effect) (asked us : 
 module _ {O : Type 0} (o : Ghosts O) (hd : Header) (n : ℕ) (d : Disk) (before mid after : List Outgoing) (none lines : List Line) (nothing : none ≡ []) (told : effects_of mid ≡ effects_of before ++ says_of lines) where
   -- what was said is handed back
   said_tells : (es : List Effect) → AreLocal es → lines ≡ none ++ said es → Tells es before mid
-  said_tells es local are = told ∙ ap (λ xs. effects_of before ++ xs) (ap says_of (are ∙ ap (λ xs. xs ++ said es) nothing) ∙ says_loud es local)
+  said_tells es local are =
+      told ∙ ap (λ xs. effects_of before ++ xs) (ap says_of (are ∙ ap (λ xs. xs ++ said es) nothing) ∙ says_loud es local)
 
-  pub restart_halts : (file : FileMap) → StopsBack o n file d (record { before = none; after = lines }) → IsHalted (RestsOn o n file) (outs_again hd n d) d before mid
+  pub restart_halts : (file : FileMap) → StopsBack o n file d (record { before = none; after = lines }) →
+      IsHalted (RestsOn o n file) (outs_again hd n d) d before mid
   restart_halts file stops = record {
     front = stops.front;
     stop = record {
@@ -433,7 +459,9 @@ module _ {O : Type 0} (o : Ghosts O) (hd : Header) (n : ℕ) (d : Disk) (before 
     tells = said_tells stops.front stops.local stops.lines;
   }
 
-  pub restart_does : (p : Kept O) (file : FileMap) (k : ℕ) → k ≡ d.inc + 1 → StandsOn o n p file (record { disk = raised d; parts = parts_again n d }) → lines ≡ none ++ said (outs_back n d) → Tells (sent_again hd n k (raised d)) mid after
+  pub restart_does : (p : Kept O) (file : FileMap) (k : ℕ) → k ≡ d.inc + 1 →
+      StandsOn o n p file (record { disk = raised d; parts = parts_again n d }) → lines ≡ none ++ said (outs_back n d) →
+      Tells (sent_again hd n k (raised d)) mid after
       → Does (StandsOn o n p file) (parts_again n d) (outs_again hd n d) d before after
   restart_does p file k is stands are sent = record {
     stands = subst (λ e. StandsOn o n p file (record { disk = e; parts = parts_again n d })) (sym disk_is) stands;

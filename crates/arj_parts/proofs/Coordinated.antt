@@ -18,10 +18,20 @@ use Rattle.arj_store.specs.declared.store.ObjectStore.{Ghosts}
 
 module _ {O : Type 0} (o : Ghosts O) (keeps_on : KeepsOn o) (stays : Stays o) (n : ℕ) (p : Kept O) (old new : FileMap) (h : Here) (stands : StandsOn o n p old h) (only : OnlyRecords old new) (form : AreInForm new) where
   -- all of it was done
-  pub coord_does : (c : Coord) (es : List Effect) (records : List (Uid × Intent)) (before after : List Outgoing) → AreAll is_coord_effect es → DoesRecords es old new p.records records before after
-      → node.Does (StandsOn o n (record { services = p.services; coord = c; records = records }) new) (with_coord h.parts c) es h.disk before after
+  pub coord_does : (c : Coord) (es : List Effect) (records : List (Uid × Intent)) (before after : List Outgoing) →
+      AreAll is_coord_effect es → DoesRecords es old new p.records records before after
+      → node.Does (StandsOn o n (record {
+        services = p.services;
+        coord = c;
+        records =
+            records;
+      }) new) (with_coord h.parts c) es h.disk before after
   coord_does c es records before after all does = record {
-    stands = subst (λ (d : Disk). StandsOn o n (record { services = p.services; coord = c; records = records }) new (record { disk = d; parts = with_coord h.parts c })) (sym (after_records es h.disk all)) (record {
+    stands = subst (λ (d : Disk). StandsOn o n (record { services = p.services; coord = c; records = records }) new (record {
+      disk =
+          d;
+      parts = with_coord h.parts c;
+    })) (sym (after_records es h.disk all)) (record {
       rests = rests_with o keeps_on stays old new only n h.disk (records_after es h.disk.intents) form (does.disk h.disk.intents stands.rests.disk.intents) stands.rests;
       services = services_with o keeps_on stays old new only p.services h.disk (records_after es h.disk.intents) stands.services;
       number = stands.number;
@@ -33,7 +43,8 @@ module _ {O : Type 0} (o : Ghosts O) (keeps_on : KeepsOn o) (stays : Stays o) (n
   }
 
   -- a stop cut it
-  pub coord_halts : (es : List Effect) (before after : List Outgoing) → AreAll is_coord_effect es → CutsRecords es old new before after → IsHalted (RestsOn o n new) es h.disk before after
+  pub coord_halts : (es : List Effect) (before after : List Outgoing) → AreAll is_coord_effect es → CutsRecords es old new before after →
+      IsHalted (RestsOn o n new) es h.disk before after
   coord_halts es before after all cut = record {
     front = cut.front;
     stop = record {

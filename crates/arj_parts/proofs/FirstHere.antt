@@ -1,5 +1,6 @@
 -- The parts of a node that is formatted stand on its first disk.
-use Rattle.std.proofs.Common.{◌≡◌, ◌==◌, ◌∙◌, ℕ, Bool, true, false, cond, List, [], ◌∷◌, map, filter, refl, sym, ap, subst, Option, Some, None, arith}
+use Rattle.std.proofs.Common.{◌≡◌, ◌==◌, ◌∙◌, ℕ, Bool, true, false, cond, List, [], ◌∷◌, map, filter, refl, sym, ap, subst, Option, Some}
+use Rattle.std.proofs.Common.{None, arith}
 use Rattle.std.proofs.lemmas.Bool.Decides.{nat_tests}
 use Rattle.std.specs.List.{AllByRecursion, IsDistinct}
 use Rattle.arj_disk.specs.FileMap.{FileMap}
@@ -50,18 +51,21 @@ module _ (k : ℕ) (o : ObjectLine) (form : ObjectLineInForm k o) where
     restores = saved;
   }
 
-firsts_are : (n k : ℕ) (os : List ObjectLine) → AllByRecursion (ObjectLineInForm k) os → AllByRecursion (λ (s : ObjectState). IsObjectState s.uid s) (map first_state (filter (λ (o : ObjectLine). has o.stores n) os))
+firsts_are : (n k : ℕ) (os : List ObjectLine) → AllByRecursion (ObjectLineInForm k) os →
+    AllByRecursion (λ (s : ObjectState). IsObjectState s.uid s) (map first_state (filter (λ (o : ObjectLine). has o.stores n) os))
 firsts_are n k [] form = tt
 firsts_are n k (o ∷ os) form = by (has o.stores n) (firsts_are n k os form.1)
   where
     rest : List ObjectLine
     rest = filter (λ (o : ObjectLine). has o.stores n) os
 
-    by : (b : Bool) → AllByRecursion (λ (s : ObjectState). IsObjectState s.uid s) (map first_state rest) → AllByRecursion (λ (s : ObjectState). IsObjectState s.uid s) (map first_state (cond b (o ∷ rest) rest))
+    by : (b : Bool) → AllByRecursion (λ (s : ObjectState). IsObjectState s.uid s) (map first_state rest) →
+        AllByRecursion (λ (s : ObjectState). IsObjectState s.uid s) (map first_state (cond b (o ∷ rest) rest))
     by true more = (first_is k o form.0, more)
     by false more = more
 
-put_all : (ss : List ObjectState) (held : List (Uid × ObjectState)) → AllByRecursion (λ (s : ObjectState). IsObjectState s.uid s) ss → AllByRecursion (λ (e : Uid × ObjectState). IsObjectState e.0 e.1) held
+put_all : (ss : List ObjectState) (held : List (Uid × ObjectState)) → AllByRecursion (λ (s : ObjectState). IsObjectState s.uid s) ss →
+    AllByRecursion (λ (e : Uid × ObjectState). IsObjectState e.0 e.1) held
     → AllByRecursion (λ (e : Uid × ObjectState). IsObjectState e.0 e.1) (put_states ss held)
 put_all [] held all good = good
 put_all (s ∷ ss) held all good = put_all ss (put_uid s.uid s held) all.1 (all_put IsObjectState s.uid s held good all.0)
@@ -91,9 +95,11 @@ module _ {O : Type 0} (o : Ghosts O) (keeps_on : KeepsOn o) (stays : Stays o) (s
     store_pair = pair_same (o.pair one Store) (o.pair two Store) stored (stays Store one two (store_stays one two only_two) formed_one).1 are
 
     abbrev pub first_parts : Kept O
-    first_parts = record { services = record { number = n; server = new_server 1; naming = found; store = store }; coord = new_coord n 1; records = [] }
+    first_parts =
+        record { services = record { number = n; server = new_server 1; naming = found; store = store }; coord = new_coord n 1; records = [] }
 
-    pub first_stands : HeaderInForm hd → HasNaming o n 1 found two (first_disk hd n).names → IsPairOf (o.pair two Names) (first_disk hd n).names → NamesOn (has_naming n) o two (first_disk hd n).names → o.formed two Names
+    pub first_stands : HeaderInForm hd → HasNaming o n 1 found two (first_disk hd n).names →
+        IsPairOf (o.pair two Names) (first_disk hd n).names → NamesOn (has_naming n) o two (first_disk hd n).names → o.formed two Names
         → IsFormed o three → IsFirst o two three → ((r : Role) → SameOfRole r two three) → StandsOn o n first_parts three (first_here hd n)
     first_stands form has named on formed_two formed first same = record {
       rests = record {
@@ -117,7 +123,8 @@ module _ {O : Type 0} (o : Ghosts O) (keeps_on : KeepsOn o) (stays : Stays o) (s
     }
       where
         still : (b : Bool) → NamesOn b o two (first_disk hd n).names → NamesOn b o three (first_disk hd n).names
-        still true on = ((first stored (first_disk hd n).names store_pair named).names, gives_same (o.pair two Names) (o.pair three Names) (stays Names two three (same Names) formed_two).1 on.1)
+        still true on =
+            ((first stored (first_disk hd n).names store_pair named).names, gives_same (o.pair two Names) (o.pair three Names) (stays Names two three (same Names) formed_two).1 on.1)
         still false on = on
 
 -- ---- naming of the first disk
@@ -139,7 +146,13 @@ module _ {O : Type 0} (o : Ghosts O) (hd : Header) (n : ℕ) (file : FileMap) (k
   names_are = pair ∙ ap (λ m. (first_disk hd m).names) (sym one)
 
   pub first_named : HasNaming o n 1 (Some k) file names
-  first_named = record { stands = (stands, names_are, gives); named = sym is; part = part ∙ (λ i. naming_at (sym one i) 1 (first_disk hd (sym one i)).names) }
+  first_named =
+      record {
+        stands = (stands, names_are, gives);
+        named = sym is;
+        part =
+            part ∙ (λ i. naming_at (sym one i) 1 (first_disk hd (sym one i)).names);
+      }
 
   pub first_pair_on : IsPairOf (o.pair file Names) names
   first_pair_on = subst (IsPairOf (o.pair file Names)) names_are stands.pair
@@ -156,7 +169,8 @@ module _ {O : Type 0} (o : Ghosts O) (hd : Header) (n : ℕ) (file : FileMap) (i
   first_unnamed = record { stands = refl; named = sym is; part = λ i. cond (sym is i) (Some (recovered_naming 1 no_names)) None }
 
   pub unnamed_pair_on : files.HasOnly (o.pair file Names) [] → IsPairOf (o.pair file Names) no_names
-  unnamed_pair_on only = subst (IsPairOf (o.pair file Names)) (λ i. pair_with (cond (sym is i) (map first_entry hd.objects) [])) (no_entries (o.pair file Names) only)
+  unnamed_pair_on only =
+      subst (IsPairOf (o.pair file Names)) (λ i. pair_with (cond (sym is i) (map first_entry hd.objects) [])) (no_entries (o.pair file Names) only)
 
   pub unnamed_names_on : NamesOn (has_naming n) o file no_names
   unnamed_names_on = subst (λ b. NamesOn b o file no_names) (sym is) refl

@@ -23,7 +23,8 @@ use Rattle.arj_serve.specs.Kept as serve
 use Rattle.arj_store.specs.declared.store.ObjectStore.{Ghosts}
 
 -- an answer leads to effects of a coordinator
-pub heard_all : (from : ℕ) (a : Option (Asked × Reply)) (intents : List (Uid × Intent)) (c : Coord) → AreAll is_coord_effect (heard_as from a intents c).outs
+pub heard_all : (from : ℕ) (a : Option (Asked × Reply)) (intents : List (Uid × Intent)) (c : Coord) →
+    AreAll is_coord_effect (heard_as from a intents c).outs
 heard_all from None intents c = refl
 heard_all from (Some a) intents c = heard_own from a.0 a.1 intents c
 
@@ -41,7 +42,8 @@ abbrev pub hears : (List (Uid × Intent) → Coord → Served Coord (Unit {0})) 
 hears f n h = coord_heard h.parts (f h.disk.intents h.parts.coord)
 
 -- the parts with these services, before and after
-abbrev pub the_call : {O : Type 0} → serve.Kept O → Coord → Coord → List (Uid × Intent) → List (Uid × Intent) → FileMap → FileMap → List Outgoing → List Outgoing → Call O
+abbrev pub the_call : {O : Type 0} → serve.Kept O → Coord → Coord → List (Uid × Intent) → List (Uid × Intent) → FileMap → FileMap →
+    List Outgoing → List Outgoing → Call O
 the_call s c now r kept file left before after = record {
   old = record { services = s; coord = c; records = r };
   new = record { services = s; coord = now; records = kept };
@@ -68,7 +70,8 @@ module _ {O : Type 0} (o : Ghosts O) (s : serve.Kept O) (c : Coord) (r : List (U
     same_heard f = λ i. f (sym stands.records i) (sym same_coord i)
 
   -- a message was void
-  pub heard_leaves : (now : Coord) (outs : List Outgoing) (f : List (Uid × Intent) → Coord → Served Coord (Unit {0})) → now ≡ c → false ≡ is_some (f r c).reply
+  pub heard_leaves : (now : Coord) (outs : List Outgoing) (f : List (Uid × Intent) → Coord → Served Coord (Unit {0})) → now ≡ c →
+      false ≡ is_some (f r c).reply
       → Takes o (hears f) (the_call s c now r r file file outs outs) false
   heard_leaves now outs f same void n h stands = record {
     looks = [];
@@ -82,7 +85,8 @@ module _ {O : Type 0} (o : Ghosts O) (s : serve.Kept O) (c : Coord) (r : List (U
   module _ (keeps_on : KeepsOn o) (stays : Stays o) (left : FileMap) (only : OnlyRecords file left) (form : AreInForm left) (now : Coord) (kept : List (Uid × Intent)) (before after : List Outgoing) (none es : List Effect) (nothing : none ≡ []) where
     -- ---- `f` is what the coordinator made of a message that was taken
 
-    module _ (f : List (Uid × Intent) → Coord → Served Coord (Unit {0})) (all : AreAll is_coord_effect (f r c).outs) (part : now ≡ (f r c).part) (outs : es ≡ none ++ (f r c).outs) (taken : true ≡ is_some (f r c).reply) where
+    module _ (f : List (Uid × Intent) → Coord →
+        Served Coord (Unit {0})) (all : AreAll is_coord_effect (f r c).outs) (part : now ≡ (f r c).part) (outs : es ≡ none ++ (f r c).outs) (taken : true ≡ is_some (f r c).reply) where
       are : es ≡ (f r c).outs
       are = outs ∙ ap (λ xs. xs ++ (f r c).outs) nothing
 
@@ -94,7 +98,8 @@ module _ {O : Type 0} (o : Ghosts O) (s : serve.Kept O) (c : Coord) (r : List (U
           ∙ ((λ i. by_reply (with_coord h.parts (f r c).part) (f r c).outs (is_tt (f r c).reply taken i)) ∙ (λ i. Took (with_coord h.parts (sym part i)) (sym are i)))
 
       -- its effects were done
-      pub heard_takes : DoesRecords es file left r kept before after → Takes o (hears f) (the_call s c now r kept file left before after) true
+      pub heard_takes : DoesRecords es file left r kept before after →
+          Takes o (hears f) (the_call s c now r kept file left before after) true
       heard_takes does n h stands = record {
         parts = with_coord h.parts now;
         effects = es;
@@ -103,20 +108,23 @@ module _ {O : Type 0} (o : Ghosts O) (s : serve.Kept O) (c : Coord) (r : List (U
       }
 
       -- its effects were stopped
-      pub heard_halts : CutsRecords es file left before after → Halts o (λ n h. node.outs_of (hears f n h)) (the_call s c now r kept file left before after)
+      pub heard_halts : CutsRecords es file left before after →
+          Halts o (λ n h. node.outs_of (hears f n h)) (the_call s c now r kept file left before after)
       heard_halts cut n h stands = subst (λ v. IsHalted (RestsOn o n left) (node.outs_of v) h.disk before after) (sym (took n h stands))
           (coord_halts o keeps_on stays n old file left h stands only form es before after own cut)
 
     -- ---- `f` is what it does at a query, which leaves it as it is
 
-    module _ (f : List (Uid × Intent) → Coord → List Effect) (all : AreAll is_coord_effect (f r c)) (outs : es ≡ none ++ f r c) (same : now ≡ c) where
+    module _ (f : List (Uid × Intent) → Coord →
+        List Effect) (all : AreAll is_coord_effect (f r c)) (outs : es ≡ none ++ f r c) (same : now ≡ c) where
       answered : es ≡ f r c
       answered = outs ∙ ap (λ xs. xs ++ f r c) nothing
 
       own_answer : AreAll is_coord_effect es
       own_answer = subst (AreAll is_coord_effect) (sym answered) all
 
-      pub query_takes : DoesRecords es file left r kept before after → Takes o (λ n h. Took h.parts (f h.disk.intents h.parts.coord)) (the_call s c now r kept file left before after) true
+      pub query_takes : DoesRecords es file left r kept before after →
+          Takes o (λ n h. Took h.parts (f h.disk.intents h.parts.coord)) (the_call s c now r kept file left before after) true
       query_takes does n h stands = record {
         parts = with_coord h.parts now;
         effects = es;
@@ -124,6 +132,8 @@ module _ {O : Type 0} (o : Ghosts O) (s : serve.Kept O) (c : Coord) (r : List (U
         does = coord_does o keeps_on stays n old file left h stands only form now es kept before after own_answer does;
       }
 
-      pub query_halts : CutsRecords es file left before after → Halts o (λ n h. f h.disk.intents h.parts.coord) (the_call s c now r kept file left before after)
-      query_halts cut n h stands = subst (λ xs. IsHalted (RestsOn o n left) xs h.disk before after) (answered ∙ sym (same_heard n h stands f))
+      pub query_halts : CutsRecords es file left before after →
+          Halts o (λ n h. f h.disk.intents h.parts.coord) (the_call s c now r kept file left before after)
+      query_halts cut n h stands =
+          subst (λ xs. IsHalted (RestsOn o n left) xs h.disk before after) (answered ∙ sym (same_heard n h stands f))
           (coord_halts o keeps_on stays n old file left h stands only form es before after own_answer cut)

@@ -10,7 +10,8 @@ use Rattle.arj_node.specs.Outgoing.{Tells, effect_of, effects_of, loud}
 use Rattle.arj_node.specs.declared.outgoing.Outgoing.{Outgoing}
 use Rattle.arj_node.specs.declared.outgoing.Outgoing.TheVariants as of
 use Rattle.arj_parts.specs.Records.{CutsRecords, DoesRecords, OnlyRecords, records_after, records_stopped, records_worked}
-use Rattle.arj_protocol.specs.Effect.{Disk, Effect, Pair, Say, Send, Do, PutIntent, RemoveIntent, Intent, Stop, Before, After, InPart, stopped}
+use Rattle.arj_protocol.specs.Effect.{Disk, Effect, Pair, Say, Send, Do, PutIntent, RemoveIntent, Intent, Stop, Before, After, InPart}
+use Rattle.arj_protocol.specs.Effect.{stopped}
 use Rattle.arj_protocol.specs.Order.{put_uid, without_uid}
 use Rattle.arj_protocol.specs.Words.{Body, Message, Uid}
 
@@ -27,16 +28,19 @@ loud_both (Send to m ∷ es) fs = ap (λ xs. Send to m ∷ xs) (loud_both es fs)
 loud_both (Do w ∷ es) fs = loud_both es fs
 
 pub tells_both : (es fs : List Effect) (a b c : List Outgoing) → Tells es a b → Tells fs b c → Tells (es ++ fs) a c
-tells_both es fs a b c first second = second ∙ (ap (λ xs. xs ++ loud fs) first ∙ (append_assoc (effects_of a) (loud es) (loud fs) ∙ ap (λ xs. effects_of a ++ xs) (sym (loud_both es fs))))
+tells_both es fs a b c first second =
+    second ∙ (ap (λ xs. xs ++ loud fs) first ∙ (append_assoc (effects_of a) (loud es) (loud fs) ∙ ap (λ xs. effects_of a ++ xs) (sym (loud_both es fs))))
 
-pub does_both : (es fs : List Effect) (old mid new : FileMap) (was cur now : List (Uid × Intent)) (a b c : List Outgoing) → DoesRecords es old mid was cur a b → DoesRecords fs mid new cur now b c → DoesRecords (es ++ fs) old new was now a c
+pub does_both : (es fs : List Effect) (old mid new : FileMap) (was cur now : List (Uid × Intent)) (a b c : List Outgoing) →
+    DoesRecords es old mid was cur a b → DoesRecords fs mid new cur now b c → DoesRecords (es ++ fs) old new was now a c
 does_both es fs old mid new was cur now a b c first second = record {
   memory = second.memory ∙ (ap (records_after fs) first.memory ∙ sym (after_both es fs was));
   disk = λ all are. subst (AreRecords new) (sym (after_both es fs all)) (second.disk (records_after es all) (first.disk all are));
   tells = tells_both es fs a b c first.tells second.tells;
 }
 
-pub cut_behind : (es fs : List Effect) (old mid new : FileMap) (was cur : List (Uid × Intent)) (a b c : List Outgoing) → DoesRecords es old mid was cur a b → CutsRecords fs mid new b c → CutsRecords (es ++ fs) old new a c
+pub cut_behind : (es fs : List Effect) (old mid new : FileMap) (was cur : List (Uid × Intent)) (a b c : List Outgoing) →
+    DoesRecords es old mid was cur a b → CutsRecords fs mid new b c → CutsRecords (es ++ fs) old new a c
 cut_behind es fs old mid new was cur a b c first second = record {
   front = es ++ second.front;
   work = second.work;
@@ -47,7 +51,8 @@ cut_behind es fs old mid new was cur a b c first second = record {
   tells = tells_both es second.front a b c first.tells second.tells;
 }
 
-pub cut_before : (es fs : List Effect) (old new : FileMap) (a b : List Outgoing) → CutsRecords es old new a b → CutsRecords (es ++ fs) old new a b
+pub cut_before : (es fs : List Effect) (old new : FileMap) (a b : List Outgoing) → CutsRecords es old new a b →
+    CutsRecords (es ++ fs) old new a b
 cut_before es fs old new a b cut = record {
   front = cut.front;
   work = cut.work;
@@ -70,32 +75,45 @@ nothing = record { held = []; pend = [] }
 abbrev disk_with : List (Uid × Intent) → Disk
 disk_with all = record { inc = 0; store = nothing; names = nothing; intents = all }
 
-told_one : (e : Effect) (o : Outgoing) (a b : List Outgoing) → b ≡ a ++ o ∷ [] → effect_of o ≡ e → loud (e ∷ []) ≡ e ∷ [] → Tells (e ∷ []) a b
-told_one e o a b are is heard = ap effects_of are ∙ (map-append effect_of a (o ∷ []) ∙ ap (λ x. effects_of a ++ x) ((λ i. is i ∷ []) ∙ sym heard))
+told_one : (e : Effect) (o : Outgoing) (a b : List Outgoing) → b ≡ a ++ o ∷ [] → effect_of o ≡ e → loud (e ∷ []) ≡ e ∷ [] →
+    Tells (e ∷ []) a b
+told_one e o a b are is heard =
+    ap effects_of are ∙ (map-append effect_of a (o ∷ []) ∙ ap (λ x. effects_of a ++ x) ((λ i. is i ∷ []) ∙ sym heard))
 
-pub said_does : (b : Body) (file : FileMap) (was : List (Uid × Intent)) (before after : List Outgoing) → after ≡ before ++ of.Say b ∷ [] → DoesRecords (Say b ∷ []) file file was was before after
-said_does b file was before after are = record { memory = refl; disk = λ all is. is; tells = told_one (Say b) (of.Say b) before after are refl refl }
+pub said_does : (b : Body) (file : FileMap) (was : List (Uid × Intent)) (before after : List Outgoing) → after ≡ before ++ of.Say b ∷ [] →
+    DoesRecords (Say b ∷ []) file file was was before after
+said_does b file was before after are =
+    record { memory = refl; disk = λ all is. is; tells = told_one (Say b) (of.Say b) before after are refl refl }
 
-pub sent_does : (to : ℕ) (m : Message) (file : FileMap) (was : List (Uid × Intent)) (before after : List Outgoing) → after ≡ before ++ of.Send to m ∷ [] → DoesRecords (Send to m ∷ []) file file was was before after
-sent_does to m file was before after are = record { memory = refl; disk = λ all is. is; tells = told_one (Send to m) (of.Send to m) before after are refl refl }
+pub sent_does : (to : ℕ) (m : Message) (file : FileMap) (was : List (Uid × Intent)) (before after : List Outgoing) →
+    after ≡ before ++ of.Send to m ∷ [] → DoesRecords (Send to m ∷ []) file file was was before after
+sent_does to m file was before after are =
+    record { memory = refl; disk = λ all is. is; tells = told_one (Send to m) (of.Send to m) before after are refl refl }
 
-pub put_does : (top : Uid) (i : Intent) (old new : FileMap) (was now : List (Uid × Intent)) (outs : List Outgoing) → Does (PutIntent top i) old new → now ≡ put_uid top i was → DoesRecords (Do (PutIntent top i) ∷ []) old new was now outs outs
-put_does top i old new was now outs does is = record { memory = is; disk = λ all are. does (disk_with all) are; tells = sym (append-nil (effects_of outs)) }
+pub put_does : (top : Uid) (i : Intent) (old new : FileMap) (was now : List (Uid × Intent)) (outs : List Outgoing) →
+    Does (PutIntent top i) old new → now ≡ put_uid top i was → DoesRecords (Do (PutIntent top i) ∷ []) old new was now outs outs
+put_does top i old new was now outs does is =
+    record { memory = is; disk = λ all are. does (disk_with all) are; tells = sym (append-nil (effects_of outs)) }
 
-pub removed_does : (top : Uid) (old new : FileMap) (was now : List (Uid × Intent)) (outs : List Outgoing) → Does (RemoveIntent top) old new → now ≡ without_uid top was → DoesRecords (Do (RemoveIntent top) ∷ []) old new was now outs outs
-removed_does top old new was now outs does is = record { memory = is; disk = λ all are. does (disk_with all) are; tells = sym (append-nil (effects_of outs)) }
+pub removed_does : (top : Uid) (old new : FileMap) (was now : List (Uid × Intent)) (outs : List Outgoing) →
+    Does (RemoveIntent top) old new → now ≡ without_uid top was → DoesRecords (Do (RemoveIntent top) ∷ []) old new was now outs outs
+removed_does top old new was now outs does is =
+    record { memory = is; disk = λ all are. does (disk_with all) are; tells = sym (append-nil (effects_of outs)) }
 
-stopped_put : (how : Stop) (top : Uid) (i : Intent) (all : List (Uid × Intent)) → (stopped how (PutIntent top i) (disk_with all)).intents ≡ records_stopped how (PutIntent top i) all
+stopped_put : (how : Stop) (top : Uid) (i : Intent) (all : List (Uid × Intent)) →
+    (stopped how (PutIntent top i) (disk_with all)).intents ≡ records_stopped how (PutIntent top i) all
 stopped_put Before top i all = refl
 stopped_put After top i all = refl
 stopped_put (InPart which) top i all = refl
 
-stopped_removal : (how : Stop) (top : Uid) (all : List (Uid × Intent)) → (stopped how (RemoveIntent top) (disk_with all)).intents ≡ records_stopped how (RemoveIntent top) all
+stopped_removal : (how : Stop) (top : Uid) (all : List (Uid × Intent)) →
+    (stopped how (RemoveIntent top) (disk_with all)).intents ≡ records_stopped how (RemoveIntent top) all
 stopped_removal Before top all = refl
 stopped_removal After top all = refl
 stopped_removal (InPart which) top all = refl
 
-pub put_cut : (top : Uid) (i : Intent) (old new : FileMap) (outs : List Outgoing) → IsCut (PutIntent top i) old new → CutsRecords (Do (PutIntent top i) ∷ []) old new outs outs
+pub put_cut : (top : Uid) (i : Intent) (old new : FileMap) (outs : List Outgoing) → IsCut (PutIntent top i) old new →
+    CutsRecords (Do (PutIntent top i) ∷ []) old new outs outs
 put_cut top i old new outs cut = record {
   front = [];
   work = PutIntent top i;
@@ -106,7 +124,8 @@ put_cut top i old new outs cut = record {
   tells = sym (append-nil (effects_of outs));
 }
 
-pub removed_cut : (top : Uid) (old new : FileMap) (outs : List Outgoing) → IsCut (RemoveIntent top) old new → CutsRecords (Do (RemoveIntent top) ∷ []) old new outs outs
+pub removed_cut : (top : Uid) (old new : FileMap) (outs : List Outgoing) → IsCut (RemoveIntent top) old new →
+    CutsRecords (Do (RemoveIntent top) ∷ []) old new outs outs
 removed_cut top old new outs cut = record {
   front = [];
   work = RemoveIntent top;
@@ -121,7 +140,8 @@ pub others_put : (old new : FileMap) (top : Uid) (bytes : List ℕ) → PutsOrNo
 others_put old new top bytes puts q apart tmp = puts.others q (apart top) tmp
 
 pub others_removed : (old new : FileMap) (top : Uid) → Same old new ⊎ Removes old new (slot.Intent top) → OnlyRecords old new
-others_removed old new top did q apart tmp = ⊎_elim (λ (same : Same old new). same q) (λ (gone : Removes old new (slot.Intent top)). gone.others q (apart top)) did
+others_removed old new top did q apart tmp =
+    ⊎_elim (λ (same : Same old new). same q) (λ (gone : Removes old new (slot.Intent top)). gone.others q (apart top)) did
 
 pub others_same : (file : FileMap) → OnlyRecords file file
 others_same file q apart tmp = refl

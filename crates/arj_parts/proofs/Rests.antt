@@ -22,7 +22,8 @@ use Rattle.arj_law_store.proofs.store.Pairs.{pair_same}
 use Rattle.arj_store.specs.declared.store.ObjectStore.{Ghosts}
 
 -- a file that is of no role is as before
-pub no_role_stays : (named : Bool) (old new : FileMap) → OnlyStates named old new → (q : Slot) → slot_role q ≡ None → q ≢ Tmp → new q ≡ old q
+pub no_role_stays : (named : Bool) (old new : FileMap) → OnlyStates named old new → (q : Slot) → slot_role q ≡ None → q ≢ Tmp →
+    new q ≡ old q
 no_role_stays true old new only q none tmp = only q none tmp
 no_role_stays false old new only q none tmp = only q (λ own. absurd (cc (sym none ∙ own))) tmp
 
@@ -37,7 +38,8 @@ has_still old new same (bytes, is, form) = (bytes, same ∙ is, form)
 
 module _ {O : Type 0} (o : Ghosts O) (stays : Stays o) (old new : FileMap) (d e : Disk) where
   -- the pair of entries, at a node with naming or without
-  names_on : (named : Bool) → Leaves named d e → OnlyStates named old new → o.formed old Names → IsPairOf (o.pair old Names) d.names → serve.IsFormed o named new → NamesOn named o new e.names
+  names_on : (named : Bool) → Leaves named d e → OnlyStates named old new → o.formed old Names → IsPairOf (o.pair old Names) d.names →
+      serve.IsFormed o named new → NamesOn named o new e.names
       → o.formed new Names × IsPairOf (o.pair new Names) e.names
   names_on true leaves only formed pair now on = (now.1, on.0)
   names_on false leaves only formed pair now on =
@@ -48,13 +50,21 @@ module _ {O : Type 0} (o : Ghosts O) (stays : Stays o) (old new : FileMap) (d e 
   store_formed true now = now.0
   store_formed false now = now
 
-  still : (n : ℕ) (named : Bool) → has_naming n ≡ named → RestsOn o n old d → Leaves named d e → OnlyStates named old new → serve.IsFormed o named new → serve.IsDiskOf o named new e → RestsOn o n new e
+  still : (n : ℕ) (named : Bool) → has_naming n ≡ named → RestsOn o n old d → Leaves named d e → OnlyStates named old new →
+      serve.IsFormed o named new → serve.IsDiskOf o named new e → RestsOn o n new e
   still n named is rests leaves only formed on =
       let none = no_role_stays named old new only in
       let names = names_on named leaves only rests.formed.names rests.disk.names formed on.names in
       let start : new Incarnation ≡ old Incarnation = none Incarnation refl (λ e. cc e) in
       record {
-        formed = record { store = store_formed named formed; names = names.0; incarnation = has_still old new start rests.formed.incarnation; intents = in_form_same old new (λ top. none (Intent top) refl (λ e. cc e)) rests.formed.intents };
+        formed = record {
+          store = store_formed named formed;
+          names = names.0;
+          incarnation =
+              has_still old new start rests.formed.incarnation;
+          intents =
+              in_form_same old new (λ top. none (Intent top) refl (λ e. cc e)) rests.formed.intents;
+        };
         disk = record {
           inc = leaves.inc ∙ (rests.disk.inc ∙ sym (inc_same old new start));
           store = on.store;
@@ -66,5 +76,6 @@ module _ {O : Type 0} (o : Ghosts O) (stays : Stays o) (old new : FileMap) (d e 
       }
 
   -- the node rests on what its services leave
-  pub rests_still : (n : ℕ) → RestsOn o n old d → Leaves (has_naming n) d e → OnlyStates (has_naming n) old new → serve.IsFormed o (has_naming n) new → serve.IsDiskOf o (has_naming n) new e → RestsOn o n new e
+  pub rests_still : (n : ℕ) → RestsOn o n old d → Leaves (has_naming n) d e → OnlyStates (has_naming n) old new →
+      serve.IsFormed o (has_naming n) new → serve.IsDiskOf o (has_naming n) new e → RestsOn o n new e
   rests_still n = still n (has_naming n) refl

@@ -18,7 +18,8 @@ use Rattle.arj_parts.specs.Works.{is_state_effect}
 use Rattle.arj_parts.proofs.Rests.{rests_still}
 use Rattle.arj_parts.proofs.StateWorks as works
 use Rattle.arj_parts.proofs.StateWorks.{after_leaves, cut_leaves, front_of}
-use Rattle.arj_protocol.specs.Effect.{Disk, Effect, Intent, Say, Send, Do, Look, PutInc, Prepare, Commit, Abort, PutIntent, RemoveIntent, stopped, worked}
+use Rattle.arj_protocol.specs.Effect.{Disk, Effect, Intent, Say, Send, Do, Look, PutInc, Prepare, Commit, Abort, PutIntent, RemoveIntent}
+use Rattle.arj_protocol.specs.Effect.{stopped, worked}
 use Rattle.arj_protocol.specs.Node.{Handled, Here, Parts, Void, Took, handle, query_about}
 use Rattle.arj_protocol.specs.Says.{AreAll}
 use Rattle.arj_protocol.specs.Words.{Message, Uid}
@@ -93,18 +94,24 @@ module _ {O : Type 0} (o : Ghosts O) (stays : Stays o) (n : ℕ) (p : Kept O) (h
   named = ap (λ (s : services.Kept O). is_some s.naming) is ∙ stands.named
 
   rests_on : (e : Disk) → works.Leaves (has_naming n) h.disk e → services.IsDiskOf o (has_naming n) call.left e → RestsOn o n call.left e
-  rests_on e left on = rests_still o stays call.file call.left h.disk e n stands.rests left (subst (λ b. services.OnlyStates b call.file call.left) named leaves.others) (subst (λ b. services.IsFormed o b call.left) named leaves.formed) on
+  rests_on e left on =
+      rests_still o stays call.file call.left h.disk e n stands.rests left (subst (λ b. services.OnlyStates b call.file call.left) named leaves.others) (subst (λ b. services.IsFormed o b call.left) named leaves.formed) on
 
   -- the parts with what the services are now
   abbrev pub parts_now : Kept O
   parts_now = record { services = call.new; coord = p.coord; records = p.records }
 
-  stands_now : (es : List Effect) → AreAll (is_state_effect (has_naming n)) es → serve.SamePlace call → services.StandsOn o call.new call.left (serve.disk_after es h.disk)
+  stands_now : (es : List Effect) → AreAll (is_state_effect (has_naming n)) es → serve.SamePlace call →
+      services.StandsOn o call.new call.left (serve.disk_after es h.disk)
       → StandsOn o n parts_now call.left (record { disk = disk_after es h.disk; parts = parts_with call.new p.coord })
   stands_now es all place on =
       let left = after_leaves (has_naming n) es h.disk all in
       let still : is_some call.new.naming ≡ has_naming n = place.named ∙ named in
-      subst (λ (d : Disk). StandsOn o n parts_now call.left (record { disk = d; parts = parts_with call.new p.coord })) (same_after es h.disk)
+      subst (λ (d : Disk). StandsOn o n parts_now call.left (record {
+        disk = d;
+        parts =
+            parts_with call.new p.coord;
+      })) (same_after es h.disk)
       (record {
         rests = rests_on (serve.disk_after es h.disk) left (subst (λ b. services.IsDiskOf o b call.left (serve.disk_after es h.disk)) still (disk_is o call.new call.left (serve.disk_after es h.disk) on));
         services = on;
@@ -115,17 +122,24 @@ module _ {O : Type 0} (o : Ghosts O) (stays : Stays o) (n : ℕ) (p : Kept O) (h
       })
 
   -- a message was taken, and its answer is handed back
-  pub takes_so : (v : Handled) (sent : List (ℕ × Message)) (before after : List Outgoing) → serve.Takes o v p.coord call h.disk sent → AreAll (is_state_effect (has_naming n)) (serve.outs_of v)
-      → ((es : List Effect) → call.after ≡ call.before ++ said es → effects_of after ≡ effects_of before ++ (says_of (said es) ++ sends sent))
+  pub takes_so : (v : Handled) (sent : List (ℕ × Message)) (before after : List Outgoing) → serve.Takes o v p.coord call h.disk sent →
+      AreAll (is_state_effect (has_naming n)) (serve.outs_of v)
+      → ((es : List Effect) → call.after ≡ call.before ++ said es →
+      effects_of after ≡ effects_of before ++ (says_of (said es) ++ sends sent))
       → node.Takes (StandsOn o n parts_now call.left) h v before after
   takes_so v sent before after takes all told =
-      let own : AreAll (is_state_effect (has_naming n)) (takes.done ++ sends sent) = subst (λ w. AreAll (is_state_effect (has_naming n)) (serve.outs_of w)) takes.is all in
+      let own : AreAll (is_state_effect (has_naming n)) (takes.done ++ sends sent) =
+      subst (λ w. AreAll (is_state_effect (has_naming n)) (serve.outs_of w)) takes.is all in
       record {
         parts = parts_with call.new p.coord;
         effects = takes.done ++ sends sent;
         is = takes.is;
         does = record {
-          stands = subst (λ (d : Disk). StandsOn o n parts_now call.left (record { disk = d; parts = parts_with call.new p.coord })) (sym (after_sends takes.done sent h.disk))
+          stands = subst (λ (d : Disk). StandsOn o n parts_now call.left (record {
+            disk = d;
+            parts =
+                parts_with call.new p.coord;
+          })) (sym (after_sends takes.done sent h.disk))
               (stands_now takes.done (fronts takes.done (sends sent) own) takes.place takes.stands);
           tells = told takes.done takes.lines ∙ ap (λ es. effects_of before ++ es) (loud_then takes.done sent takes.local);
         };
@@ -135,13 +149,18 @@ module _ {O : Type 0} (o : Ghosts O) (stays : Stays o) (n : ℕ) (p : Kept O) (h
       fronts es fs all = front_of (is_state_effect (has_naming n)) es fs all
 
   -- it was void
-  pub void_so : (v : Handled) (outs : List Outgoing) → serve.IsVoid o v call h.disk → node.Leaves (StandsOn o n parts_now call.left) h v outs outs
+  pub void_so : (v : Handled) (outs : List Outgoing) → serve.IsVoid o v call h.disk →
+      node.Leaves (StandsOn o n parts_now call.left) h v outs outs
   void_so v outs void = record {
     looks = void.looks;
     is = void.is;
     quiet = looks_quiet void.looks void.are;
     same = looks_same void.looks h.disk void.are;
-    stands = subst (StandsOn o n parts_now call.left) (λ i. record { disk = h.disk; parts = same i }) (stands_now [] refl void.place void.stands);
+    stands = subst (StandsOn o n parts_now call.left) (λ i. record {
+      disk = h.disk;
+      parts =
+          same i;
+    }) (stands_now [] refl void.place void.stands);
     outs = refl;
   }
     where
@@ -149,7 +168,8 @@ module _ {O : Type 0} (o : Ghosts O) (stays : Stays o) (n : ℕ) (p : Kept O) (h
       same = void.parts p.coord ∙ ((λ i. parts_with (is i) p.coord) ∙ sym stands.parts)
 
   -- it was stopped
-  pub cut_so : (outs : List Effect) (before after : List Outgoing) → serve.IsCut o outs call h.disk → AreAll (is_state_effect (has_naming n)) outs
+  pub cut_so : (outs : List Effect) (before after : List Outgoing) → serve.IsCut o outs call h.disk →
+      AreAll (is_state_effect (has_naming n)) outs
       → ((es : List Effect) → call.after ≡ call.before ++ said es → effects_of after ≡ effects_of before ++ says_of (said es))
       → IsHalted (RestsOn o n call.left) outs h.disk before after
   cut_so outs before after cut all told = record {
@@ -199,21 +219,26 @@ module _ {O : Type 0} (o : Ghosts O) (stays : Stays o) (was now : services.Kept 
     asked_so = λ i. asked (stands.number i) h.disk (sym stands.parts i) from m
 
     asked_states : AreAll (is_state_effect (has_naming n)) (serve.outs_of (asked n h.disk h.parts from m))
-    asked_states = subst (λ b. AreAll (is_state_effect b) (serve.outs_of (asked n h.disk h.parts from m))) named_so (asked_all n h.disk h.parts from m)
+    asked_states =
+        subst (λ b. AreAll (is_state_effect b) (serve.outs_of (asked n h.disk h.parts from m))) named_so (asked_all n h.disk h.parts from m)
 
-    pub request_void : Serves o m the_call None → (outs : List Outgoing) → node.Leaves (StandsOn o n new_parts left) h (asked n h.disk h.parts from m) outs outs
+    pub request_void : Serves o m the_call None → (outs : List Outgoing) →
+        node.Leaves (StandsOn o n new_parts left) h (asked n h.disk h.parts from m) outs outs
     request_void serves outs = void_so o stays n old_parts h the_call refl stands leaves (asked n h.disk h.parts from m) outs
         (subst (λ w. serve.IsVoid o w the_call h.disk) asked_so (serves h.disk stands.services from coord))
 
-    pub request_takes : (answer : Message) → Serves o m the_call (Some answer) → (before after : List Outgoing) → effects_of after ≡ effects_of before ++ (says_of lines ++ Send from answer ∷ [])
+    pub request_takes : (answer : Message) → Serves o m the_call (Some answer) → (before after : List Outgoing) →
+        effects_of after ≡ effects_of before ++ (says_of lines ++ Send from answer ∷ [])
         → node.Takes (StandsOn o n new_parts left) h (asked n h.disk h.parts from m) before after
-    request_takes answer serves before after told = takes_so o stays n old_parts h the_call refl stands leaves (asked n h.disk h.parts from m) ((from, answer) ∷ []) before after
+    request_takes answer serves before after told =
+        takes_so o stays n old_parts h the_call refl stands leaves (asked n h.disk h.parts from m) ((from, answer) ∷ []) before after
         (subst (λ w. serve.Takes o w coord the_call h.disk ((from, answer) ∷ [])) asked_so (serves h.disk stands.services from coord)) asked_states
         (λ es are. told ∙ ap (λ ls. effects_of before ++ (says_of ls ++ Send from answer ∷ [])) (said_all es are))
 
     pub request_halts : ServesInPart o m the_call → (before after : List Outgoing) → effects_of after ≡ effects_of before ++ says_of lines
         → IsHalted (RestsOn o n left) (node.outs_of (asked n h.disk h.parts from m)) h.disk before after
-    request_halts serves before after told = subst (λ es. IsHalted (RestsOn o n left) es h.disk before after) (same_outs (asked n h.disk h.parts from m))
+    request_halts serves before after told =
+        subst (λ es. IsHalted (RestsOn o n left) es h.disk before after) (same_outs (asked n h.disk h.parts from m))
         (cut_so o stays n old_parts h the_call refl stands leaves (serve.outs_of (asked n h.disk h.parts from m)) before after
         (subst (λ w. serve.IsCut o (serve.outs_of w) the_call h.disk) asked_so (serves h.disk stands.services from coord)) asked_states
         (λ es are. told ∙ ap (λ ls. effects_of before ++ says_of ls) (said_all es are)))
@@ -223,16 +248,22 @@ module _ {O : Type 0} (o : Ghosts O) (stays : Stays o) (was now : services.Kept 
     handled_so : handle was.number h.disk (parts_with was coord) from m ≡ handle n h.disk h.parts from m
     handled_so = λ i. handle (stands.number i) h.disk (sym stands.parts i) from m
 
-    pub handled_takes : (sent : ℕ → List (ℕ × Message)) → AreAll (is_state_effect (is_some h.parts.naming)) (serve.outs_of (handle n h.disk h.parts from m)) → Handles o m the_call sent → (before after : List Outgoing)
-        → effects_of after ≡ effects_of before ++ (says_of lines ++ sends (sent from)) → node.Takes (StandsOn o n new_parts left) h (handle n h.disk h.parts from m) before after
-    handled_takes sent all handles before after told = takes_so o stays n old_parts h the_call refl stands leaves (handle n h.disk h.parts from m) (sent from) before after
+    pub handled_takes : (sent : ℕ → List (ℕ × Message)) →
+        AreAll (is_state_effect (is_some h.parts.naming)) (serve.outs_of (handle n h.disk h.parts from m)) → Handles o m the_call sent →
+        (before after : List Outgoing)
+        → effects_of after ≡ effects_of before ++ (says_of lines ++ sends (sent from)) →
+        node.Takes (StandsOn o n new_parts left) h (handle n h.disk h.parts from m) before after
+    handled_takes sent all handles before after told =
+        takes_so o stays n old_parts h the_call refl stands leaves (handle n h.disk h.parts from m) (sent from) before after
         (subst (λ w. serve.Takes o w coord the_call h.disk (sent from)) handled_so (handles h.disk stands.services from coord))
         (subst (λ b. AreAll (is_state_effect b) (serve.outs_of (handle n h.disk h.parts from m))) named_so all)
         (λ es are. told ∙ ap (λ ls. effects_of before ++ (says_of ls ++ sends (sent from))) (said_all es are))
 
-    pub handled_halts : AreAll (is_state_effect (is_some h.parts.naming)) (serve.outs_of (handle n h.disk h.parts from m)) → HandlesInPart o m the_call → (before after : List Outgoing) → effects_of after ≡ effects_of before ++ says_of lines
+    pub handled_halts : AreAll (is_state_effect (is_some h.parts.naming)) (serve.outs_of (handle n h.disk h.parts from m)) →
+        HandlesInPart o m the_call → (before after : List Outgoing) → effects_of after ≡ effects_of before ++ says_of lines
         → IsHalted (RestsOn o n left) (node.outs_of (handle n h.disk h.parts from m)) h.disk before after
-    handled_halts all handles before after told = subst (λ es. IsHalted (RestsOn o n left) es h.disk before after) (same_outs (handle n h.disk h.parts from m))
+    handled_halts all handles before after told =
+        subst (λ es. IsHalted (RestsOn o n left) es h.disk before after) (same_outs (handle n h.disk h.parts from m))
         (cut_so o stays n old_parts h the_call refl stands leaves (serve.outs_of (handle n h.disk h.parts from m)) before after
         (subst (λ w. serve.IsCut o (serve.outs_of w) the_call h.disk) handled_so (handles h.disk stands.services from coord))
         (subst (λ b. AreAll (is_state_effect b) (serve.outs_of (handle n h.disk h.parts from m))) named_so all)

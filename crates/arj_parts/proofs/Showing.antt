@@ -28,7 +28,9 @@ use Rattle.arj_store.specs.declared.store.ObjectStore.{Ghosts}
 
 -- ---- reads and lines alone
 
-shown_states : (named : Bool) (line : Option ObjectState → List Effect) → ((s : Option ObjectState) → AreAll (is_state_effect named) (line s)) → (u : Uid) (d : Pair) (holder : Option Uid) → AreAll (is_state_effect named) (shown line u d holder)
+shown_states : (named : Bool) (line : Option ObjectState → List Effect) →
+    ((s : Option ObjectState) → AreAll (is_state_effect named) (line s)) → (u : Uid) (d : Pair) (holder : Option Uid) →
+    AreAll (is_state_effect named) (shown line u d holder)
 shown_states named line each u d (Some holder) = refl
 shown_states named line each u d None = each _
 
@@ -69,7 +71,8 @@ module _ {O : Type 0} (o : Ghosts O) (stays : Stays o) (p : Kept O) (x : ℕ) (f
               (ap says_of (lines_are (show_outs p.services.number x h.disk) is.lines) ∙ (says_loud (show_outs p.services.number x h.disk) is.local ∙ ap (λ k. loud (show_outs k x h.disk)) stands.number));
         }
 
-    pub show_cut : ShowsInPart o (show_outs p.services.number x) the_show → IsHalted (RestsOn o n left) (show_outs n x h.disk) h.disk before after
+    pub show_cut : ShowsInPart o (show_outs p.services.number x) the_show →
+        IsHalted (RestsOn o n left) (show_outs n x h.disk) h.disk before after
     show_cut cuts = subst (λ k. IsHalted (RestsOn o n left) (show_outs k x h.disk) h.disk before after) stands.number
         (cut_so o stays n p h the_show refl stands (subst (λ f. Leaves o (is_some p.services.naming) file f) (sym files_are) (nothing_left o p.services file h.disk stands.services))
         (show_outs p.services.number x h.disk) before after (cuts h.disk stands.services) (show_states (has_naming n) p.services.number x h.disk)

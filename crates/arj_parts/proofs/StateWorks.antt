@@ -3,7 +3,8 @@ use Rattle.std.proofs.Common.{◌≡◌, ◌∙◌, ◌&&◌, ℕ, Bool, true, f
 use Rattle.std.specs.List.{list_all}
 use Rattle.std.proofs.lemmas.Bool.{and_parts}
 use Rattle.arj_parts.specs.Works.{is_state_effect, is_state_work}
-use Rattle.arj_protocol.specs.Effect.{Disk, Effect, Say, Send, Do, Work, Look, PutInc, Prepare, Commit, Abort, PutIntent, RemoveIntent, Stop, Before, After, InPart, stopped, worked}
+use Rattle.arj_protocol.specs.Effect.{Disk, Effect, Say, Send, Do, Work, Look, PutInc, Prepare, Commit, Abort, PutIntent, RemoveIntent}
+use Rattle.arj_protocol.specs.Effect.{Stop, Before, After, InPart, stopped, worked}
 use Rattle.arj_protocol.specs.Says.{AreAll, is_naming_effect, is_names_work, is_server_effect}
 use Rattle.arj_protocol.specs.Words.role
 use Rattle.arj_serve.specs.Did.{disk_after}
@@ -36,7 +37,8 @@ naming_effect (Say b) own = refl
 naming_effect (Send to m) own = refl
 naming_effect (Do w) own = names_work w own
 
-all_of : (test other : Effect → Bool) → ((e : Effect) → test e ≡ true → other e ≡ true) → (es : List Effect) → AreAll test es → AreAll other es
+all_of : (test other : Effect → Bool) → ((e : Effect) → test e ≡ true → other e ≡ true) → (es : List Effect) → AreAll test es →
+    AreAll other es
 all_of test other each [] all = refl
 all_of test other each (e ∷ es) all = let own = first_and_rest test e es all in λ i. each e own.0 i && all_of test other each es own.1 i
 
@@ -58,13 +60,15 @@ as_before : (named : Bool) (d : Disk) → Leaves named d d
 as_before named d = record { inc = refl; intents = refl; names = λ none. refl }
 
 then_leaves : (named : Bool) (a b c : Disk) → Leaves named a b → Leaves named b c → Leaves named a c
-then_leaves named a b c first second = record { inc = second.inc ∙ first.inc; intents = second.intents ∙ first.intents; names = λ none. second.names none ∙ first.names none }
+then_leaves named a b c first second =
+    record { inc = second.inc ∙ first.inc; intents = second.intents ∙ first.intents; names = λ none. second.names none ∙ first.names none }
 
 pub worked_leaves : (named : Bool) (w : Work) (d : Disk) → is_state_work named w ≡ true → Leaves named d (worked w d)
 worked_leaves named Look d own = as_before named d
 worked_leaves named (PutInc i) d own = absurd (cc own)
 worked_leaves named (Prepare role.Store act states) d own = record { inc = refl; intents = refl; names = λ none. refl }
-worked_leaves named (Prepare role.Names act states) d own = record { inc = refl; intents = refl; names = λ none. absurd (cc (sym own ∙ none)) }
+worked_leaves named (Prepare role.Names act states) d own =
+    record { inc = refl; intents = refl; names = λ none. absurd (cc (sym own ∙ none)) }
 worked_leaves named (Commit role.Store act) d own = record { inc = refl; intents = refl; names = λ none. refl }
 worked_leaves named (Commit role.Names act) d own = record { inc = refl; intents = refl; names = λ none. absurd (cc (sym own ∙ none)) }
 worked_leaves named (Abort role.Store act) d own = record { inc = refl; intents = refl; names = λ none. refl }
@@ -79,7 +83,8 @@ stopped_leaves named (InPart which) Look d own = as_before named d
 stopped_leaves named (InPart which) (PutInc i) d own = as_before named d
 stopped_leaves named (InPart which) (Prepare r act states) d own = as_before named d
 stopped_leaves named (InPart which) (Commit role.Store act) d own = record { inc = refl; intents = refl; names = λ none. refl }
-stopped_leaves named (InPart which) (Commit role.Names act) d own = record { inc = refl; intents = refl; names = λ none. absurd (cc (sym own ∙ none)) }
+stopped_leaves named (InPart which) (Commit role.Names act) d own =
+    record { inc = refl; intents = refl; names = λ none. absurd (cc (sym own ∙ none)) }
 stopped_leaves named (InPart which) (Abort r act) d own = as_before named d
 stopped_leaves named (InPart which) (PutIntent top i) d own = as_before named d
 stopped_leaves named (InPart which) (RemoveIntent top) d own = as_before named d
@@ -93,14 +98,16 @@ after_leaves named (Do w ∷ es) d all =
     then_leaves named d (worked w d) (disk_after es (worked w d)) (worked_leaves named w d own.0) (after_leaves named es (worked w d) own.1)
 
 -- a front of effects, and the work behind it
-pub front_all : (test : Effect → Bool) (front : List Effect) (w : Work) (back : List Effect) → AreAll test (front ++ Do w ∷ back) → AreAll test front × (test (Do w) ≡ true)
+pub front_all : (test : Effect → Bool) (front : List Effect) (w : Work) (back : List Effect) → AreAll test (front ++ Do w ∷ back) →
+    AreAll test front × (test (Do w) ≡ true)
 front_all test [] w back all = (refl, (first_and_rest test (Do w) back all).0)
 front_all test (e ∷ es) w back all =
     let own = first_and_rest test e (es ++ Do w ∷ back) all in
     let rest = front_all test es w back own.1 in
     ((λ i. own.0 i && rest.0 i), rest.1)
 
-pub cut_leaves : (named : Bool) (front : List Effect) (w : Work) (back : List Effect) (how : Stop) (d : Disk) → AreAll (is_state_effect named) (front ++ Do w ∷ back) → Leaves named d (stopped how w (disk_after front d))
+pub cut_leaves : (named : Bool) (front : List Effect) (w : Work) (back : List Effect) (how : Stop) (d : Disk) →
+    AreAll (is_state_effect named) (front ++ Do w ∷ back) → Leaves named d (stopped how w (disk_after front d))
 cut_leaves named front w back how d all =
     let own = front_all (is_state_effect named) front w back all in
     then_leaves named d (disk_after front d) (stopped how w (disk_after front d)) (after_leaves named front d own.0) (stopped_leaves named how w (disk_after front d) own.1)

@@ -17,17 +17,22 @@ use Rattle.arj_serve.specs.Kept.{parts_with}
 use Rattle.arj_store.specs.declared.store.ObjectStore.{Ghosts}
 
 -- where the node makes the same of it, the parts took it
-module _ {O : Type 0} (o : Ghosts O) (handled other : ℕ → Here → Handled) (call : Call O) (same : (n : ℕ) (h : Here) → StandsOn o n call.old call.file h → other n h ≡ handled n h) where
+module _ {O : Type 0} (o : Ghosts O) (handled other : ℕ → Here → Handled) (call : Call O) (same : (n : ℕ) (h : Here) →
+    StandsOn o n call.old call.file h → other n h ≡ handled n h) where
   pub takes_as : (took : Bool) → Takes o other call took → Takes o handled call took
-  takes_as took takes n h stands = subst (λ v. IsTaken (StandsOn o n call.new call.left) h v call.before call.after took) (same n h stands) (takes n h stands)
+  takes_as took takes n h stands =
+      subst (λ v. IsTaken (StandsOn o n call.new call.left) h v call.before call.after took) (same n h stands) (takes n h stands)
 
   pub halts_as : Halts o (λ n h. outs_of (other n h)) call → Halts o (λ n h. outs_of (handled n h)) call
-  halts_as halts n h stands = subst (λ v. IsHalted (RestsOn o n call.left) (outs_of v) h.disk call.before call.after) (same n h stands) (halts n h stands)
+  halts_as halts n h stands =
+      subst (λ v. IsHalted (RestsOn o n call.left) (outs_of v) h.disk call.before call.after) (same n h stands) (halts n h stands)
 
 -- a void message leaves the parts as they were
-pub void_takes : {O : Type 0} (o : Ghosts O) (handled : ℕ → Here → Handled) (p : Kept O) (file : FileMap) (outs : List Outgoing) → ((n : ℕ) (h : Here) → StandsOn o n p file h → handled n h ≡ Void [])
+pub void_takes : {O : Type 0} (o : Ghosts O) (handled : ℕ → Here → Handled) (p : Kept O) (file : FileMap) (outs : List Outgoing) →
+    ((n : ℕ) (h : Here) → StandsOn o n p file h → handled n h ≡ Void [])
     → Takes o handled (record { old = p; new = p; file = file; left = file; before = outs; after = outs }) false
-void_takes o handled p file outs void n h stands = record { looks = []; is = void n h stands; quiet = refl; same = refl; stands = stands; outs = refl }
+void_takes o handled p file outs void n h stands =
+    record { looks = []; is = void n h stands; quiet = refl; same = refl; stands = stands; outs = refl }
 
 -- ---- by its kind
 
@@ -50,7 +55,8 @@ module _ (from : ℕ) (m : Message) (n : ℕ) (h : Here) where
   pub as_answer : asks m ≡ None → true ≡ is_some (answers m) → answered_here from m n h ≡ handled_here from m n h
   as_answer none is = by (answers m) is ∙ no_request none
     where
-      by : (a : Option (Asked × Reply)) → true ≡ is_some a → coord_heard h.parts (heard_as from a h.disk.intents h.parts.coord) ≡ handle_answer n h.disk h.parts from m a
+      by : (a : Option (Asked × Reply)) → true ≡ is_some a →
+          coord_heard h.parts (heard_as from a h.disk.intents h.parts.coord) ≡ handle_answer n h.disk h.parts from m a
       by None is = absurd (cc is)
       by (Some a) is = refl
 

@@ -13,7 +13,8 @@ pub one_more : (o : Outgoing) (a b : List Outgoing) → b ≡ a ++ o ∷ [] → 
 one_more o a b are = ap effects_of are ∙ map-append effect_of a (o ∷ [])
 
 -- what is left behind it, and behind what was there before
-pub say_step : (b : Body) (rest : List Effect) (was now : List Outgoing) → now ≡ was ++ of.Say b ∷ [] → effects_of now ++ rest ≡ effects_of was ++ Say b ∷ rest
+pub say_step : (b : Body) (rest : List Effect) (was now : List Outgoing) → now ≡ was ++ of.Say b ∷ [] →
+    effects_of now ++ rest ≡ effects_of was ++ Say b ∷ rest
 say_step b rest was now are = ap (λ es. es ++ rest) (one_more (of.Say b) was now are) ∙ append_assoc (effects_of was) (Say b ∷ []) rest
 
 pub sent_one : (to : ℕ) (m : Message) (a b : List Outgoing) → b ≡ a ++ of.Send to m ∷ [] → effects_of b ≡ effects_of a ++ Send to m ∷ []
@@ -23,5 +24,7 @@ pub nothing_more : (a : List Outgoing) → effects_of a ≡ effects_of a ++ []
 nothing_more a = sym (append-nil (effects_of a))
 
 -- what is left of a coordinator's effects likewise, but for work
-pub tell_step : (e : Effect) (rest : List Effect) (was now : List Outgoing) → Tells (e ∷ []) was now → effects_of now ++ loud rest ≡ effects_of was ++ loud (e ∷ rest)
-tell_step e rest was now tells = ap (λ es. es ++ loud rest) tells ∙ (append_assoc (effects_of was) (loud (e ∷ [])) (loud rest) ∙ ap (λ es. effects_of was ++ es) (sym (loud_both (e ∷ []) rest)))
+pub tell_step : (e : Effect) (rest : List Effect) (was now : List Outgoing) → Tells (e ∷ []) was now →
+    effects_of now ++ loud rest ≡ effects_of was ++ loud (e ∷ rest)
+tell_step e rest was now tells =
+    ap (λ es. es ++ loud rest) tells ∙ (append_assoc (effects_of was) (loud (e ∷ [])) (loud rest) ∙ ap (λ es. effects_of was ++ es) (sym (loud_both (e ∷ []) rest)))

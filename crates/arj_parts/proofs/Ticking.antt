@@ -58,7 +58,8 @@ asks_sent p req (a ∷ rest) c =
     let d = asks_node p req a c in
     asks_sent p req rest d.part
 
-asks_telling : (p : Path) (req : ℕ) (asked : List (ℕ × Ask)) (c : Coord) → (let d = asks_all p req asked c in let e = d.part in e.telling) ≡ c.telling
+asks_telling : (p : Path) (req : ℕ) (asked : List (ℕ × Ask)) (c : Coord) →
+    (let d = asks_all p req asked c in let e = d.part in e.telling) ≡ c.telling
 asks_telling p req [] c = refl
 asks_telling p req (a ∷ rest) c =
     let d = asks_node p req a c in
@@ -98,7 +99,12 @@ tick_sent h =
 
 module _ {O : Type 0} (o : Ghosts O) (n : ℕ) (p : Kept O) (file : FileMap) (h : Here) (stands : StandsOn o n p file h) where
   -- the parts with what their coordinator is now
-  pub stands_with : (c : Coord) → StandsOn o n (record { services = p.services; coord = c; records = p.records }) file (record { disk = h.disk; parts = with_coord h.parts c })
+  pub stands_with : (c : Coord) →
+      StandsOn o n (record { services = p.services; coord = c; records = p.records }) file (record {
+        disk = h.disk;
+        parts =
+            with_coord h.parts c;
+      })
   stands_with c = record {
     rests = stands.rests;
     services = stands.services;
@@ -110,22 +116,38 @@ module _ {O : Type 0} (o : Ghosts O) (n : ℕ) (p : Kept O) (file : FileMap) (h 
 
   -- these effects of the coordinator, and behind them queries, are what a tick sends
   pub ticks : (c : Coord) (es : List Effect) (us : List Uid) (before mid after : List Outgoing)
-      → c ≡ (let d = again_all p.coord.doings p.coord in d.part) → es ≡ (let d = again_all p.coord.doings p.coord in d.outs) ++ tolds_again p.coord.telling → us ≡ holders h.disk (parts_with p.services p.coord)
+      → c ≡ (let d = again_all p.coord.doings p.coord in d.part) →
+      es ≡ (let d = again_all p.coord.doings p.coord in d.outs) ++ tolds_again p.coord.telling →
+      us ≡ holders h.disk (parts_with p.services p.coord)
       → Tells es before mid → effects_of after ≡ effects_of mid ++ map query_about us
-      → node.Does (StandsOn o n (record { services = p.services; coord = c; records = p.records }) file) (with_coord h.parts (again_at h).part) (tick_outs h) h.disk before after
+      → node.Does (StandsOn o n (record {
+        services = p.services;
+        coord = c;
+        records =
+            p.records;
+      }) file) (with_coord h.parts (again_at h).part) (tick_outs h) h.disk before after
   ticks c es us before mid after part outs held told asked =
       let same : p.coord ≡ h.parts.coord = sym (same_coord o n p file h stands) in
       let now : c ≡ (again_at h).part = part ∙ (λ i. let x = same i in let d = again_all x.doings x in d.part) in
       record {
-        stands = subst (λ (d : Disk). StandsOn o n (record { services = p.services; coord = c; records = p.records }) file (record { disk = d; parts = with_coord h.parts (again_at h).part })) (sym (sent_quiet (tick_outs h) h.disk (tick_sent h)))
-            (subst (λ (x : Coord). StandsOn o n (record { services = p.services; coord = c; records = p.records }) file (record { disk = h.disk; parts = with_coord h.parts x })) now (stands_with c));
+        stands = subst (λ (d : Disk). StandsOn o n (record { services = p.services; coord = c; records = p.records }) file (record {
+          disk =
+              d;
+          parts = with_coord h.parts (again_at h).part;
+        })) (sym (sent_quiet (tick_outs h) h.disk (tick_sent h)))
+            (subst (λ (x : Coord). StandsOn o n (record { services = p.services; coord = c; records = p.records }) file (record {
+              disk =
+                  h.disk;
+              parts = with_coord h.parts x;
+            })) now (stands_with c));
         tells = asked ∙ (ap (λ xs. xs ++ map query_about us) told ∙ (append_assoc (effects_of before) (loud es) (map query_about us) ∙ ap (λ xs. effects_of before ++ xs) all));
       }
     where
       same_parts : holders h.disk (parts_with p.services p.coord) ≡ holders h.disk h.parts
       same_parts = ap (holders h.disk) (sym stands.parts)
 
-      outs_so : (let d = again_all p.coord.doings p.coord in d.outs) ++ tolds_again p.coord.telling ≡ (again_at h).outs ++ tolds_again h.parts.coord.telling
+      outs_so : (let d =
+          again_all p.coord.doings p.coord in d.outs) ++ tolds_again p.coord.telling ≡ (again_at h).outs ++ tolds_again h.parts.coord.telling
       outs_so = λ i. let x = sym (same_coord o n p file h stands) i in let d = again_all x.doings x in d.outs ++ tolds_again x.telling
 
       both : es ++ map query_about us ≡ tick_outs h
@@ -135,7 +157,8 @@ module _ {O : Type 0} (o : Ghosts O) (n : ℕ) (p : Kept O) (file : FileMap) (h 
       all = ap (λ xs. loud es ++ xs) (sym (sent_loud (map query_about us) (map_sent query_about us (λ u. refl)))) ∙ (sym (loud_both es (map query_about us)) ∙ ap loud both)
 
 -- what is sent again of requests and tolds, one behind the other
-pub sent_so : (old c : Coord) (telling : List (Uid × Intent)) (none es fs : List Effect) → none ≡ [] → c ≡ (let d = again_all old.doings old in d.part) → es ≡ none ++ (let d = again_all old.doings old in d.outs)
+pub sent_so : (old c : Coord) (telling : List (Uid × Intent)) (none es fs : List Effect) → none ≡ [] →
+    c ≡ (let d = again_all old.doings old in d.part) → es ≡ none ++ (let d = again_all old.doings old in d.outs)
     → telling ≡ c.telling → fs ≡ es ++ tolds_again telling → fs ≡ (let d = again_all old.doings old in d.outs) ++ tolds_again old.telling
 sent_so old c telling none es fs nothing part outs tells are =
     let again = again_all old.doings old in

@@ -22,7 +22,11 @@ Acts o did call = (n : ℕ) (h : Here) → StandsOn o n call.old call.file h
 -- An action was asked to do something: it was refused, where the answer is the reason, or it did it.
 abbrev pub IsAsked : {O : Type 0} → Ghosts O → Act → Option Class → Call O → Option ℕ → Type 0
 IsAsked o act class call refused = (header : Header) (n : ℕ) (h : Here) → IsClass header act class → StandsOn o n call.old call.file h
-    → IsActed (StandsOn o n call.new call.left) h (why_at header act h) (acts_at act h) (record { before = call.before; after = call.after }) refused
+    → IsActed (StandsOn o n call.new call.left) h (why_at header act h) (acts_at act h) (record {
+      before = call.before;
+      after =
+          call.after;
+    }) refused
 
 -- A stop of the disk cut what the action did, which wasn't refused.
 abbrev pub IsCutAsked : {O : Type 0} → Ghosts O → Act → Option Class → Call O → Type 0

@@ -24,8 +24,11 @@ StandsSome o p file = (n : ℕ) × (h : Here) × StandsOn o n p file h
 
 -- A message was taken, or was void, as the protocol's node has it, whatever the node is.
 abbrev pub Takes : {O : Type 0} → Ghosts O → (ℕ → Here → Handled) → Call O → Bool → Type 0
-Takes o handled call took = (n : ℕ) (h : Here) → StandsOn o n call.old call.file h → IsTaken (StandsOn o n call.new call.left) h (handled n h) call.before call.after took
+Takes o handled call took =
+    (n : ℕ) (h : Here) → StandsOn o n call.old call.file h →
+    IsTaken (StandsOn o n call.new call.left) h (handled n h) call.before call.after took
 
 -- A stop of the disk cut these effects.
 abbrev pub Halts : {O : Type 0} → Ghosts O → (ℕ → Here → List Effect) → Call O → Type 0
-Halts o effects call = (n : ℕ) (h : Here) → StandsOn o n call.old call.file h → IsHalted (RestsOn o n call.left) (effects n h) h.disk call.before call.after
+Halts o effects call =
+    (n : ℕ) (h : Here) → StandsOn o n call.old call.file h → IsHalted (RestsOn o n call.left) (effects n h) h.disk call.before call.after

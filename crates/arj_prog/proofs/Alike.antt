@@ -20,7 +20,8 @@ use Rattle.arj_prog.specs.Lines.{HeadInForm, SaidInForm, asked_text, head_text, 
 use Rattle.arj_prog.proofs.Asked.{asked_once, same_object}
 
 -- texts that differ in one of their first three bytes
-pub differ : (s t : List ℕ) → s ≡ t → ((get_or s 0 0 == get_or t 0 0) && ((get_or s 1 0 == get_or t 1 0) && (get_or s 2 0 == get_or t 2 0))) ≡ false → ⊥
+pub differ : (s t : List ℕ) → s ≡ t →
+    ((get_or s 0 0 == get_or t 0 0) && ((get_or s 1 0 == get_or t 1 0) && (get_or s 2 0 == get_or t 2 0))) ≡ false → ⊥
 differ s t e apart =
     let same : (k : ℕ) → (get_or s k 0 == get_or t k 0) ≡ true = λ k. eq-eqb (get_or s k 0) (get_or t k 0) (ap (λ u. get_or u k 0) e) in
     both_ways _ apart (and_from (get_or s 0 0 == get_or t 0 0) _ (same 0) (and_from (get_or s 1 0 == get_or t 1 0) _ (same 1) (same 2)))
@@ -41,7 +42,8 @@ abbrev Alike : Said → Said → Type 0
 Alike s t = (d : Draft) → fits_draft s d ≡ fits_draft t d
 
 -- lines that may stand alike between programs and in each
-both : (s t : Said) → ((d : Draft) → fits_at None s d ≡ fits_at None t d) → ((d : Draft) (o : Opening) → fits_at (Some o) s d ≡ fits_at (Some o) t d) → Alike s t
+both : (s t : Said) → ((d : Draft) → fits_at None s d ≡ fits_at None t d) →
+    ((d : Draft) (o : Opening) → fits_at (Some o) s d ≡ fits_at (Some o) t d) → Alike s t
 both s t outside inside d = cases d.opening
   where
     cases : (o : Option Opening) → fits_at o s d ≡ fits_at o t d
@@ -73,6 +75,7 @@ alike os said.Run said.Run hs ht e = λ d. refl
 alike os s t hs ht e = absurd (differ (said_text s) (said_text t) e refl)
 
 -- A line that may not stand where the draft is has no other reading that may.
-pub no_line : (os : List ObjectLine) (d : Draft) (bytes : List ℕ) (s t : Said) → IsRead (SaidInForm os) said_text bytes (Some s) → fits_draft s d ≡ false → SaidInForm os t → fits_draft t d ≡ true → bytes ≢ said_text t
+pub no_line : (os : List ObjectLine) (d : Draft) (bytes : List ℕ) (s t : Said) → IsRead (SaidInForm os) said_text bytes (Some s) →
+    fits_draft s d ≡ false → SaidInForm os t → fits_draft t d ≡ true → bytes ≢ said_text t
 no_line os d bytes s t read refused ht fits e =
     both_ways (fits_draft t d) (sym (alike os s t read.0 ht (sym read.1 ∙ e) d) ∙ refused) fits

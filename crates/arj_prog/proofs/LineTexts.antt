@@ -7,9 +7,12 @@ use Rattle.arj_journal.specs.declared.header.ObjectLine.{ObjectLine}
 use Rattle.arj_text.specs.Fields.{IsRead, IsWithin, behind}
 use Rattle.arj_prog.specs.declared.said.Said.{Said}
 use Rattle.arj_prog.specs.declared.said.Said.TheVariants as said
-use Rattle.arj_prog.specs.Lines.{CallInForm, HeadInForm, IsBareSaid, IsCallSaid, SaidInForm, TestInForm, asked_text, head_text, said_text, test_text}
+use Rattle.arj_prog.specs.Lines.{CallInForm, HeadInForm, IsBareSaid, IsCallSaid, SaidInForm, TestInForm, asked_text, head_text, said_text}
+use Rattle.arj_prog.specs.Lines.{test_text}
 
-pub no_calling : (os : List ObjectLine) (bytes : List ℕ) → IsRead (CallInForm os) (behind (codes "do ") asked_text) bytes None → IsRead (CallInForm os) (behind (codes "print ") asked_text) bytes None → IsRead (TestInForm os) (behind (codes "if ") test_text) bytes None → IsRead (IsCallSaid os) said_text bytes None
+pub no_calling : (os : List ObjectLine) (bytes : List ℕ) → IsRead (CallInForm os) (behind (codes "do ") asked_text) bytes None →
+    IsRead (CallInForm os) (behind (codes "print ") asked_text) bytes None →
+    IsRead (TestInForm os) (behind (codes "if ") test_text) bytes None → IsRead (IsCallSaid os) said_text bytes None
 no_calling os bytes does prints tests = λ s h e. cases s h e
   where
     cases : (s : Said) → IsCallSaid os s → bytes ≢ said_text s
@@ -18,7 +21,9 @@ no_calling os bytes does prints tests = λ s h e. cases s h e
     cases (said.If x op answer) h e = tests (x, op, answer) h.0 e
     cases _ h e = both_ways false refl h.1
 
-pub no_said : (os : List ObjectLine) (bytes : List ℕ) → IsRead IsBareSaid said_text bytes None → IsRead (IsCallSaid os) said_text bytes None → IsRead (IsWithin 0 9) (behind (codes "block ") decimal) bytes None → IsRead HeadInForm (behind (codes "prog ") head_text) bytes None → IsRead (SaidInForm os) said_text bytes None
+pub no_said : (os : List ObjectLine) (bytes : List ℕ) → IsRead IsBareSaid said_text bytes None →
+    IsRead (IsCallSaid os) said_text bytes None → IsRead (IsWithin 0 9) (behind (codes "block ") decimal) bytes None →
+    IsRead HeadInForm (behind (codes "prog ") head_text) bytes None → IsRead (SaidInForm os) said_text bytes None
 no_said os bytes bares calls blocks heads = λ s h e. cases s h e
   where
     cases : (s : Said) → SaidInForm os s → bytes ≢ said_text s

@@ -1,5 +1,6 @@
 -- The open statements, in the order in which they are kept.
-use Rattle.std.proofs.Common.{◌≡◌, ℕ, zero, suc, ◌+◌, ◌<◌, false, true, length, take, get_or, List, [], ◌∷◌, ◌++◌, sym, ◌∙◌, ap, refl, arith}
+use Rattle.std.proofs.Common.{◌≡◌, ℕ, zero, suc, ◌+◌, ◌<◌, false, true, length, take, get_or, List, [], ◌∷◌, ◌++◌, sym, ◌∙◌, ap, refl}
+use Rattle.std.proofs.Common.{arith}
 use Rattle.std.specs.Prelude.{cond, reverse, slice_set}
 use Rattle.std.proofs.lemmas.Bool.{both_ways}
 use Rattle.std.proofs.lemmas.List.{reverse-append}
@@ -13,9 +14,11 @@ pub blocks_reverse : (fs : List Frame) → blocks_in (reverse fs) ≡ blocks_in 
 blocks_reverse [] = refl
 blocks_reverse (f ∷ fs) =
     let ends : blocks_in (reverse (f ∷ fs)) ≡ blocks_in (reverse fs ++ f ∷ []) = ap blocks_in (reverse-append (f ∷ []) fs) in
-    let sums : blocks_in (reverse fs ++ f ∷ []) ≡ blocks_in (reverse fs) + blocks_in (f ∷ []) = sum_by-append (λ (g : Frame). cond (is_block g.opened) 1 0) (reverse fs) (f ∷ []) in
+    let sums : blocks_in (reverse fs ++ f ∷ []) ≡ blocks_in (reverse fs) + blocks_in (f ∷ []) =
+    sum_by-append (λ (g : Frame). cond (is_block g.opened) 1 0) (reverse fs) (f ∷ []) in
     let rest = blocks_reverse fs in
-    let front : blocks_in (f ∷ fs) ≡ blocks_in (f ∷ []) + blocks_in fs = sum_by-append (λ (g : Frame). cond (is_block g.opened) 1 0) (f ∷ []) fs in
+    let front : blocks_in (f ∷ fs) ≡ blocks_in (f ∷ []) + blocks_in fs =
+    sum_by-append (λ (g : Frame). cond (is_block g.opened) 1 0) (f ∷ []) fs in
     omega (arith, ends, sums, rest, front)
 
 last_split : (fs : List Frame) (n : ℕ) (f : Frame) → length fs ≡ n + 1 → fs ≡ take n fs ++ get_or fs n f ∷ []
@@ -35,7 +38,8 @@ abbrev second : Listing → Frame → Frame
 second list f = record { before = f.before; opened = with_first list f.opened }
 
 -- The innermost comes last.
-pub second_last : (fs : List Frame) (n : ℕ) (list : Listing) (f : Frame) → length fs ≡ n + 1 → f ≡ get_or fs n f → reverse (slice_set fs n (second list f)) ≡ in_second list (reverse fs)
+pub second_last : (fs : List Frame) (n : ℕ) (list : Listing) (f : Frame) → length fs ≡ n + 1 → f ≡ get_or fs n f →
+    reverse (slice_set fs n (second list f)) ≡ in_second list (reverse fs)
 second_last fs n list f long is =
     let whole : fs ≡ take n fs ++ f ∷ [] = last_split fs n f long ∙ ap (λ g. take n fs ++ g ∷ []) (sym is) in
     let old : reverse fs ≡ f ∷ reverse (take n fs) = ap reverse whole ∙ reverse-append (take n fs) (f ∷ []) in

@@ -13,7 +13,8 @@ use Rattle.arj_prog.specs.declared.said.Said.{Said}
 use Rattle.arj_prog.specs.declared.opening.Opening.{Opening}
 use Rattle.arj_prog.specs.declared.said.Said.TheVariants as said
 use Rattle.arj_prog.specs.Drafts.{behind_line, draft_at, draft_behind, ends_program, fits_draft, with_opening, with_program}
-use Rattle.arj_prog.specs.Grammar.{Form, Blank, Head, Seed, Turns, Says, DraftTook, FitsHead, HasForm, HeadingTook, IsBadLine, SeedInForm, Tells, TellsSaid, drafted, next_place, seeded}
+use Rattle.arj_prog.specs.Grammar.{Form, Blank, Head, Seed, Turns, Says, DraftTook, FitsHead, HasForm, HeadingTook, IsBadLine, SeedInForm}
+use Rattle.arj_prog.specs.Grammar.{Tells, TellsSaid, drafted, next_place, seeded}
 use Rattle.arj_prog.specs.Lines.{SaidInForm, said_text}
 use Rattle.arj_script.specs.Grammar as script
 use Rattle.arj_text.specs.Fields.{IsRead, IsWithin, behind}
@@ -22,36 +23,46 @@ use Rattle.arj_text.specs.Fields.{IsRead, IsWithin, behind}
 abbrev pub Took : Place → List ℕ → ProgItem → Place → Type 0
 Took place bytes told new = (form : Form) × HasForm place bytes form × Tells place form told × (new ≡ next_place place form)
 
-pub took_head : (h new : script.Place) (bytes : List ℕ) → length bytes ≤ 200 → HeadingTook h new bytes None → Took (Heading h) bytes item.Part (Heading new)
+pub took_head : (h new : script.Place) (bytes : List ℕ) → length bytes ≤ 200 → HeadingTook h new bytes None →
+    Took (Heading h) bytes item.Part (Heading new)
 took_head h new bytes short t =
     let has : HasForm (Heading h) bytes (Head t.0) = record { short = short; fits = t.1; spells = t.2 } in
     (Head t.0, has, tt, ap (λ q. Heading q) t.3)
 
-pub took_seed : (h new : script.Place) (bytes : List ℕ) (header : Header) (seed : ℕ) → length bytes ≤ 200 → HeadingTook h new bytes (Some (header, seed)) → Took (Heading h) bytes item.Part (Seeded header seed)
+pub took_seed : (h new : script.Place) (bytes : List ℕ) (header : Header) (seed : ℕ) → length bytes ≤ 200 →
+    HeadingTook h new bytes (Some (header, seed)) → Took (Heading h) bytes item.Part (Seeded header seed)
 took_seed h new bytes header seed short t =
     let there : is_some (script.nodes_at h) ≡ true = ap (λ q. is_some (script.nodes_at q)) t.0 in
     let has : HasForm (Heading h) bytes (Seed seed) = record { short = short; fits = (there, t.1); spells = t.2 } in
     let next : seeded h seed ≡ Seeded header seed = ap (λ q. seeded q seed) t.0 in
     (Seed seed, has, tt, sym next)
 
-pub took_turns : (header : Header) (seed : ℕ) (bytes : List ℕ) (d : Draft) → length bytes ≤ 200 → (n : ℕ) × IsWithin 1 20000 n × (bytes ≡ codes "turns " ++ decimal n) × (Drafting d ≡ drafted header seed n) → Took (Seeded header seed) bytes item.Part (Drafting d)
+pub took_turns : (header : Header) (seed : ℕ) (bytes : List ℕ) (d : Draft) → length bytes ≤ 200 →
+    (n : ℕ) × IsWithin 1 20000 n × (bytes ≡ codes "turns " ++ decimal n) × (Drafting d ≡ drafted header seed n) →
+    Took (Seeded header seed) bytes item.Part (Drafting d)
 took_turns header seed bytes d short t =
     let has : HasForm (Seeded header seed) bytes (Turns t.0) = record { short = short; fits = t.1; spells = t.2 } in
     (Turns t.0, has, tt, t.3)
 
-pub took_line : (d new : Draft) (bytes : List ℕ) → length bytes ≤ 200 → (s : Said) × SaidInForm d.header.objects s × (fits_draft s d ≡ true) × (bytes ≡ said_text s) × DraftTook d new s None → Took (Drafting d) bytes item.Part (Drafting new)
+pub took_line : (d new : Draft) (bytes : List ℕ) → length bytes ≤ 200 →
+    (s : Said) × SaidInForm d.header.objects s × (fits_draft s d ≡ true) × (bytes ≡ said_text s) × DraftTook d new s None →
+    Took (Drafting d) bytes item.Part (Drafting new)
 took_line d new bytes short t =
     let has : HasForm (Drafting d) bytes (Says t.0) = record { short = short; fits = (t.1, t.2); spells = t.3 } in
     let told : TellsSaid false d item.Part = tt in
     (Says t.0, has, subst (λ b. TellsSaid b d item.Part) (sym t.4.0) told, ap (λ q. Drafting q) t.4.1 ∙ ap (λ b. if b then Over else Drafting (draft_behind t.0 d)) (sym t.4.0))
 
-pub took_run : (d new : Draft) (bytes : List ℕ) (plan : Plan) → length bytes ≤ 200 → (s : Said) × SaidInForm d.header.objects s × (fits_draft s d ≡ true) × (bytes ≡ said_text s) × DraftTook d new s (Some plan) → Took (Drafting d) bytes (item.Run plan) Over
+pub took_run : (d new : Draft) (bytes : List ℕ) (plan : Plan) → length bytes ≤ 200 →
+    (s : Said) × SaidInForm d.header.objects s × (fits_draft s d ≡ true) × (bytes ≡ said_text s) × DraftTook d new s (Some plan) →
+    Took (Drafting d) bytes (item.Run plan) Over
 took_run d new bytes plan short t =
     let has : HasForm (Drafting d) bytes (Says t.0) = record { short = short; fits = (t.1, t.2); spells = t.3 } in
     (Says t.0, has, subst (λ b. TellsSaid b d (item.Run plan)) (sym t.4.0) t.4.1, ap (λ b. if b then Over else Drafting (draft_behind t.0 d)) (sym t.4.0))
 
 -- Bad lines.
-pub bad_heading : (h : script.Place) (bytes : List ℕ) → (script.IsBlank bytes → ⊥) → IsRead (SeedInForm h) (behind (codes "seed ") decimal) bytes None → ((f : script.Form) → FitsHead h f → script.Spells bytes f → ⊥) → IsBadLine (Heading h) bytes
+pub bad_heading : (h : script.Place) (bytes : List ℕ) → (script.IsBlank bytes → ⊥) →
+    IsRead (SeedInForm h) (behind (codes "seed ") decimal) bytes None → ((f : script.Form) → FitsHead h f → script.Spells bytes f → ⊥) →
+    IsBadLine (Heading h) bytes
 bad_heading h bytes says no_seed no_head = λ form has. cases form has
   where
     cases : (form : Form) → HasForm (Heading h) bytes form → ⊥
@@ -61,7 +72,8 @@ bad_heading h bytes says no_seed no_head = λ form has. cases form has
     cases (Turns n) has = has.fits
     cases (Says s) has = has.fits
 
-pub bad_seeded : (header : Header) (seed : ℕ) (bytes : List ℕ) → (script.IsBlank bytes → ⊥) → ((n : ℕ) → IsWithin 1 20000 n → bytes ≢ codes "turns " ++ decimal n) → IsBadLine (Seeded header seed) bytes
+pub bad_seeded : (header : Header) (seed : ℕ) (bytes : List ℕ) → (script.IsBlank bytes → ⊥) →
+    ((n : ℕ) → IsWithin 1 20000 n → bytes ≢ codes "turns " ++ decimal n) → IsBadLine (Seeded header seed) bytes
 bad_seeded header seed bytes says none = λ form has. cases form has
   where
     cases : (form : Form) → HasForm (Seeded header seed) bytes form → ⊥
@@ -71,7 +83,8 @@ bad_seeded header seed bytes says none = λ form has. cases form has
     cases (Turns n) has = none n has.fits has.spells
     cases (Says s) has = has.fits
 
-pub bad_draft : (d : Draft) (bytes : List ℕ) → (script.IsBlank bytes → ⊥) → ((s : Said) → SaidInForm d.header.objects s → fits_draft s d ≡ true → bytes ≢ said_text s) → IsBadLine (Drafting d) bytes
+pub bad_draft : (d : Draft) (bytes : List ℕ) → (script.IsBlank bytes → ⊥) →
+    ((s : Said) → SaidInForm d.header.objects s → fits_draft s d ≡ true → bytes ≢ said_text s) → IsBadLine (Drafting d) bytes
 bad_draft d bytes says none = λ form has. cases form has
   where
     cases : (form : Form) → HasForm (Drafting d) bytes form → ⊥
@@ -101,4 +114,5 @@ kept_header s d = at d.opening
 
     at : (o : Option Opening) → (draft_at o s d).header ≡ d.header
     at None = between s
-    at (Some o) = elim (ends_program s o) as (λ b. (if b then with_program o d else with_opening (Some (behind_line s o)) d).header ≡ d.header) [ true ↦ refl | false ↦ refl ]
+    at (Some o) =
+        elim (ends_program s o) as (λ b. (if b then with_program o d else with_opening (Some (behind_line s o)) d).header ≡ d.header) [ true ↦ refl | false ↦ refl ]

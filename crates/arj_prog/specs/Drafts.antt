@@ -1,5 +1,6 @@
 -- Programs that are being read: which line may come next, and what it adds.
-use Rattle.std.specs.Prelude.{ℕ, ◌+◌, List, [], ◌∷◌, ◌++◌, length, Bool, true, false, ◌&&◌, nat_lt, nat_le, not, if◌then◌else◌, Option, Some, None}
+use Rattle.std.specs.Prelude.{ℕ, ◌+◌, List, [], ◌∷◌, ◌++◌, length, Bool, true, false, ◌&&◌, nat_lt, nat_le, not, if◌then◌else◌, Option}
+use Rattle.std.specs.Prelude.{Some, None}
 use Rattle.std.specs.List.{list_any}
 use Rattle.std.specs.Str.{bytes_eq}
 use Rattle.arj_prog.specs.declared.draft.Draft.{Draft}
@@ -48,7 +49,16 @@ ended_in (f ∷ fs) o = moved fs (add f.before (ended f.opened o.list)) o.count 
 
 -- with this object used
 abbrev pub using : ℕ → Opening → Opening
-using x o = record { name = o.name; node = o.node; retry = o.retry; nest = o.nest; list = o.list; count = o.count; used = with_used x o.used }
+using x o = record {
+  name = o.name;
+  node = o.node;
+  retry = o.retry;
+  nest = o.nest;
+  list = o.list;
+  count = o.count;
+  used =
+      with_used x o.used;
+}
 
 -- whether another statement may come, with a call of the object
 abbrev pub may_call : ℕ → Opening → Bool

@@ -99,7 +99,8 @@ Tells _ _ _ = ⊥
 -- what a line of a header makes of its reader: another part of the header; or its end, with the seed
 abbrev pub HeadingTook : script.Place → script.Place → List ℕ → Option (Header × ℕ) → Type 0
 HeadingTook old new bytes None = (f : script.Form) × FitsHead old f × script.Spells bytes f × (new ≡ script.next_place old f)
-HeadingTook old new bytes (Some p) = (old ≡ script.Objects p.0.nodes p.0.objects) × IsWithin 0 WORD_MAX p.1 × (bytes ≡ codes "seed " ++ decimal p.1)
+HeadingTook old new bytes (Some p) =
+    (old ≡ script.Objects p.0.nodes p.0.objects) × IsWithin 0 WORD_MAX p.1 × (bytes ≡ codes "seed " ++ decimal p.1)
 
 -- what a line of the programs makes of the draft: it goes on; or it is run, as this plan
 abbrev pub DraftTook : Draft → Draft → Said → Option Plan → Type 0

@@ -49,7 +49,8 @@ CallInForm os p = AskedInForm p × (has_call (class_at p.0 os) p.1 ≡ true)
 -- An answer that a condition may name. Where bytes are answered, a text that is both the digits of bytes and a number is
 -- taken as the bytes.
 abbrev pub AnswerInForm : Bool → Answer → Type 0
-AnswerInForm bytes (Number n) = NumberInForm n × (bytes ≡ true → (found : List ℕ) → AreBytesUpTo REGISTER_BYTES found → decimal n ≢ hex found)
+AnswerInForm bytes (Number n) =
+    NumberInForm n × (bytes ≡ true → (found : List ℕ) → AreBytesUpTo REGISTER_BYTES found → decimal n ≢ hex found)
 AnswerInForm bytes (Text found) = (bytes ≡ true) × AreBytesUpTo REGISTER_BYTES found
 AnswerInForm bytes _ = ⊤
 

@@ -5,7 +5,9 @@ use Rattle.arj_journal.specs.declared.body.Body.TheVariants as body
 use Rattle.arj_prog.specs.Listing.{Listing}
 use Rattle.arj_prog.specs.declared.statements.Statement.{Statement}
 use Rattle.arj_prog.specs.declared.statements.Statement.TheVariants as statement
-use Rattle.arj_progrun.specs.Client.{Client, Level, aborted, again, answered, asking, asks_by, asks_for, asks_next, begins, commits_at, cut, hears, inner_of, inside, inside_at, is_over, is_phase, is_waiting, leaves, loses, loses_at, refused_at, stands, taken, turned, unbegun, waits, waits_on}
+use Rattle.arj_progrun.specs.Client.{Client, Level, aborted, again, answered, asking, asks_by, asks_for, asks_next, begins, commits_at, cut}
+use Rattle.arj_progrun.specs.Client.{hears, inner_of, inside, inside_at, is_over, is_phase, is_waiting, leaves, loses, loses_at, refused_at}
+use Rattle.arj_progrun.specs.Client.{stands, taken, turned, unbegun, waits, waits_on}
 use Rattle.arj_progrun.specs.declared.phase.Phase.{Phase}
 use Rattle.arj_progrun.specs.declared.phase.Phase.TheVariants as phase
 

@@ -1,5 +1,6 @@
 -- Programs that hear a line, one after another.
-use Rattle.std.proofs.Common.{◌≡◌, ◌∙◌, ℕ, zero, suc, ◌+◌, List, [], ◌∷◌, refl, ap, sym, length, slice_get, slice_set, slice_index_or, ◌<◌, Option, Some, None, Bool, subst, arith, map}
+use Rattle.std.proofs.Common.{◌≡◌, ◌∙◌, ℕ, zero, suc, ◌+◌, List, [], ◌∷◌, refl, ap, sym, length, slice_get, slice_set, slice_index_or, ◌<◌}
+use Rattle.std.proofs.Common.{Option, Some, None, Bool, subst, arith, map}
 use Rattle.std.proofs.Math.Numerals.{add-one}
 use Rattle.std.proofs.lemmas.List.{length-map}
 use Rattle.arj_progrun.proofs.Stacks.{some_same}

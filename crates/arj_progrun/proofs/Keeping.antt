@@ -1,5 +1,6 @@
 -- Programs stay good, whatever they ask and hear.
-use Rattle.std.proofs.Common.{◌≡◌, ◌∙◌, ℕ, zero, suc, ◌+◌, ◌-◌, List, [], ◌∷◌, ◌++◌, refl, ap, sym, subst, true, false, Bool, Some, None, Option, if◌then◌else◌, ◌&&◌, ◌||◌, ◌==◌, slice_get, slice_set, length, ◌%◌}
+use Rattle.std.proofs.Common.{◌≡◌, ◌∙◌, ℕ, zero, suc, ◌+◌, ◌-◌, List, [], ◌∷◌, ◌++◌, refl, ap, sym, subst, true, false, Bool, Some, None}
+use Rattle.std.proofs.Common.{Option, if◌then◌else◌, ◌&&◌, ◌||◌, ◌==◌, slice_get, slice_set, length, ◌%◌}
 use Rattle.std.specs.List.{AllByRecursion}
 use Rattle.arj_journal.specs.declared.body.Body.{Body}
 use Rattle.arj_journal.specs.declared.body.Body.TheVariants as body
@@ -9,11 +10,16 @@ use Rattle.arj_prog.specs.declared.plan.Plan.{Plan}
 use Rattle.arj_prog.specs.declared.plan.Program.{Program}
 use Rattle.arj_prog.specs.declared.statements.Statement.{Statement}
 use Rattle.arj_prog.specs.declared.statements.Statement.TheVariants as statement
-use Rattle.arj_progrun.proofs.Alone.{CallsAt, Entries, Goes, Here, IsFresh, IsGood, answered_at, before, block_entered, cut_back, uncut, committed_at, fresh_is_here, here_means, passed, rest_in, said_in}
+use Rattle.arj_progrun.proofs.Alone.{CallsAt, Entries, Goes, Here, IsFresh, IsGood, answered_at, before, block_entered, cut_back, uncut}
+use Rattle.arj_progrun.proofs.Alone.{committed_at, fresh_is_here, here_means, passed, rest_in, said_in}
 use Rattle.arj_progrun.proofs.Stacks.{some_same}
 use Rattle.arj_progrun.specs.Alone.{MeansItsCalls, Reaches}
-use Rattle.arj_progrun.specs.Client.{Ask, Client, Level, LosesLast, Settles, Ticks, aborted, again, answered, asking, asks_by, asks_for, asks_next, begins, commits_at, cut, hears, inner_of, inside, is_over, is_phase, is_waiting, labelled, leaves, loses, loses_at, loses_top, refused_at, stands, taken, try_label, turned, unbegun, waits, waits_on}
-use Rattle.arj_progrun.specs.Schedule.{Given, GivesAsk, Schedule, Standing, Turning, Turns, all_hear, clients_from, line_heard, lines_heard, own, turn_at, turn_by, turn_drawn}
+use Rattle.arj_progrun.specs.Client.{Ask, Client, Level, LosesLast, Settles, Ticks, aborted, again, answered, asking, asks_by, asks_for}
+use Rattle.arj_progrun.specs.Client.{asks_next, begins, commits_at, cut, hears, inner_of, inside, is_over, is_phase, is_waiting, labelled}
+use Rattle.arj_progrun.specs.Client.{leaves, loses, loses_at, loses_top, refused_at, stands, taken, try_label, turned, unbegun, waits}
+use Rattle.arj_progrun.specs.Client.{waits_on}
+use Rattle.arj_progrun.specs.Schedule.{Given, GivesAsk, Schedule, Standing, Turning, Turns, all_hear, clients_from, line_heard, lines_heard}
+use Rattle.arj_progrun.specs.Schedule.{own, turn_at, turn_by, turn_drawn}
 use Rattle.arj_gen.specs.Bank.{drawn, next_state}
 use Rattle.arj_progrun.specs.declared.phase.Phase.{Phase}
 use Rattle.arj_progrun.specs.declared.phase.Phase.TheVariants as phase

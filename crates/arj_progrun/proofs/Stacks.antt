@@ -1,5 +1,6 @@
 -- Lists of which the last item comes first.
-use Rattle.std.proofs.Common.{◌≡◌, ◌∙◌, ◌-◌, List, Option, Some, None, slice_get, length, sym, arith, [], ◌∷◌, ◌++◌, refl, ap, true, false, not, ◌≤◌, map, ℕ, if◌then◌else◌, append-nil}
+use Rattle.std.proofs.Common.{◌≡◌, ◌∙◌, ◌-◌, List, Option, Some, None, slice_get, length, sym, arith, [], ◌∷◌, ◌++◌, refl, ap, true, false}
+use Rattle.std.proofs.Common.{not, ◌≤◌, map, ℕ, if◌then◌else◌, append-nil}
 use Rattle.std.proofs.Common.{Vec, vec_len}
 use Rattle.std.proofs.lemmas.List.{map-append}
 use Rattle.std.specs.declared.alloc.Global.{Global}

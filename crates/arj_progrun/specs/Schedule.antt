@@ -1,5 +1,6 @@
 -- The schedule of the programs: which events they give, turn by turn, by what the nodes answered.
-use Rattle.std.specs.Prelude.{ℕ, zero, suc, ◌+◌, ◌%◌, ◌≡◌, ◌⊎◌, List, [], ◌∷◌, ◌++◌, length, map, filter, slice_get, slice_set, Bool, true, false, ◌==◌, ◌&&◌, ◌||◌, if◌then◌else◌, Option, Some, None}
+use Rattle.std.specs.Prelude.{ℕ, zero, suc, ◌+◌, ◌%◌, ◌≡◌, ◌⊎◌, List, [], ◌∷◌, ◌++◌, length, map, filter, slice_get, slice_set, Bool, true}
+use Rattle.std.specs.Prelude.{false, ◌==◌, ◌&&◌, ◌||◌, if◌then◌else◌, Option, Some, None}
 use Rattle.std.specs.List.{flat_map, list_all}
 use Rattle.std.specs.Str.{bytes_eq}
 use Rattle.arj_gen.specs.Bank.{drawn, next_state}
@@ -10,7 +11,8 @@ use Rattle.arj_journal.specs.declared.event.Event.{Event}
 use Rattle.arj_journal.specs.declared.event.Event.TheVariants as event
 use Rattle.arj_prog.specs.declared.plan.Plan.{Plan}
 use Rattle.arj_prog.specs.declared.plan.Program.{Program}
-use Rattle.arj_progrun.specs.Client.{Ask, Asking, Client, GivesUp, LosesLast, Said, Settles, Ticks, first_client, hears, is_over, is_phase, turned}
+use Rattle.arj_progrun.specs.Client.{Ask, Asking, Client, GivesUp, LosesLast, Said, Settles, Ticks, first_client, hears, is_over, is_phase}
+use Rattle.arj_progrun.specs.Client.{turned}
 use Rattle.arj_progrun.specs.Events.{ask_of}
 use Rattle.arj_progrun.specs.declared.phase.Phase.{Phase}
 use Rattle.arj_progrun.specs.declared.phase.Phase.TheVariants as phase

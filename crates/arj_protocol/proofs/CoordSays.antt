@@ -11,12 +11,20 @@ use Rattle.arj_protocol.specs.Order.{has, without_number, without_uid, at_uid}
 use Rattle.arj_protocol.specs.Effect.{Effect, Do, PutIntent, Intent, Served, Did}
 use Rattle.arj_protocol.specs.Ask.{Reply, actor}
 use Rattle.arj_protocol.specs.Tree.{Branch, branch_of, is_open, open_below, root_of, ends_of}
-use Rattle.arj_protocol.specs.Call.{Steps, Goal, Run, Include, CallEnd, Answered, Included, Conflict, Changed, Lost, CallStep, On, Ended, Moved, given_up, next_node}
+use Rattle.arj_protocol.specs.Call.{Steps, Goal, Run, Include, CallEnd, Answered, Included, Conflict, Changed, Lost, CallStep, On, Ended}
+use Rattle.arj_protocol.specs.Call.{Moved, given_up, next_node}
 use Rattle.arj_protocol.specs.Commit as commit
-use Rattle.arj_protocol.specs.Commit.{Machine, CommitStep, Stays, Asks, Decides, Aborts, Marked, Plan, participants, has_record, plan_of, waiting, nodes_given_up}
+use Rattle.arj_protocol.specs.Commit.{Machine, CommitStep, Stays, Asks, Decides, Aborts, Marked, Plan, participants, has_record, plan_of}
+use Rattle.arj_protocol.specs.Commit.{waiting, nodes_given_up}
 use Rattle.arj_protocol.specs.Coord.{Coord, Doing, Now, Idle, Calling, Committing, doing_of, root_at, plan_for, nodes_sent, servers_told}
-use Rattle.arj_protocol.specs.Ending.{says, say_for, tell, tell_all, tolds_by, tolds_of, tolds_of_branch, ended, ends_with, aborts_with, all_aborted, abort_action, decide, decided_told, record_work, acked, acked_by, acked_left, tolds_let_go, let_go, is_over, answer_query, answer_recorded, answer_decided, is_deferred, is_kept_commit, root_or_self, up_to}
-use Rattle.arj_protocol.specs.Asking.{asks_node, asks_all, call, include, end_line, step_call, moved_call, heard_call, mark_lines, commits_in, step_commit, moved_commit, commit_top, commit_open, commit_action, heard, heard_doing, heard_now, heard_by, heard_none, waits_for_call, waits_for_commit, gaveup_lines, gives_up, give_up, give_up_doing, again_now, again_all, answer_line, last_req}
+use Rattle.arj_protocol.specs.Ending.{says, say_for, tell, tell_all, tolds_by, tolds_of, tolds_of_branch, ended, ends_with, aborts_with}
+use Rattle.arj_protocol.specs.Ending.{all_aborted, abort_action, decide, decided_told, record_work, acked, acked_by, acked_left}
+use Rattle.arj_protocol.specs.Ending.{tolds_let_go, let_go, is_over, answer_query, answer_recorded, answer_decided, is_deferred}
+use Rattle.arj_protocol.specs.Ending.{is_kept_commit, root_or_self, up_to}
+use Rattle.arj_protocol.specs.Asking.{asks_node, asks_all, call, include, end_line, step_call, moved_call, heard_call, mark_lines}
+use Rattle.arj_protocol.specs.Asking.{commits_in, step_commit, moved_commit, commit_top, commit_open, commit_action, heard, heard_doing}
+use Rattle.arj_protocol.specs.Asking.{heard_now, heard_by, heard_none, waits_for_call, waits_for_commit, gaveup_lines, gives_up, give_up}
+use Rattle.arj_protocol.specs.Asking.{give_up_doing, again_now, again_all, answer_line, last_req}
 use Rattle.arj_protocol.specs.Step.{Input, acts, on_branch, parent_of, branch_named, tolds_again}
 use Rattle.arj_protocol.specs.Step as input
 use Rattle.arj_protocol.specs.Says.{AreAll, is_coord_effect, is_coord_line}
@@ -46,8 +54,10 @@ says_own u f c each = by (doing_of u c)
 -- ---- ends
 
 tolds_own : (u : Uid) (k : Kind) (p : Path) (intents : List (Uid × Intent)) (c : Coord) → Own (tolds_by u k p intents c)
-tolds_own u kind.Nested p intents c = tells_own (root_of p) false (up_to u (ends_of (root_of p) c.tree)) (servers_told u (root_at (root_of p) c) c)
-tolds_own u kind.Serial p intents c = tells_own u false ((u, ending.Abort) ∷ []) (filter (λ n. not (is_deferred u intents n)) (nodes_sent u (root_at u c)))
+tolds_own u kind.Nested p intents c =
+    tells_own (root_of p) false (up_to u (ends_of (root_of p) c.tree)) (servers_told u (root_at (root_of p) c) c)
+tolds_own u kind.Serial p intents c =
+    tells_own u false ((u, ending.Abort) ∷ []) (filter (λ n. not (is_deferred u intents n)) (nodes_sent u (root_at u c)))
 tolds_own u kind.Top p intents c = tells_own (root_of p) false ((u, ending.Abort) ∷ []) (nodes_sent u (root_at (root_of p) c))
 tolds_own u kind.Independent p intents c = tells_own (root_of p) false ((u, ending.Abort) ∷ []) (nodes_sent u (root_at (root_of p) c))
 tolds_own u kind.Constituent p intents c = tells_own (root_of p) false ((u, ending.Abort) ∷ []) (nodes_sent u (root_at (root_of p) c))
@@ -59,8 +69,10 @@ tolds_of_own intents c u = by (branch_of u c.tree)
     by None = refl
     by (Some b) = tolds_own u b.kind b.path intents c
 
-ends_own : (u : Uid) (e : End) (f : Label → Body) (intents : List (Uid × Intent)) (c : Coord) → ((l : Label) → is_coord_line (f l) ≡ true) → Own (ends_with u e f intents c).outs
-ends_own u e f intents c each = both_own (says u f c) (tolds_of intents (ended u e c) u) (says_own u f c each) (tolds_of_own intents (ended u e c) u)
+ends_own : (u : Uid) (e : End) (f : Label → Body) (intents : List (Uid × Intent)) (c : Coord) → ((l : Label) → is_coord_line (f l) ≡ true) →
+    Own (ends_with u e f intents c).outs
+ends_own u e f intents c each =
+    both_own (says u f c) (tolds_of intents (ended u e c) u) (says_own u f c each) (tolds_of_own intents (ended u e c) u)
 
 aborted_own : (us : List Uid) (c : Coord) → Own (all_aborted us c).outs
 aborted_own [] c = refl
@@ -77,7 +89,8 @@ abort_own u intents c =
 decided_own : (root u : Uid) (p : Plan) (n : ℕ) → is_coord_effect (decided_told root u p n) ≡ true
 decided_own root u p n = by (has (participants p) n)
   where
-    by : (b : Bool) → is_coord_effect (if b then tell root (has_record p) ((u, ending.Commit) ∷ []) n else tell root false ((u, ending.Abort) ∷ []) n) ≡ true
+    by : (b : Bool) →
+        is_coord_effect (if b then tell root (has_record p) ((u, ending.Commit) ∷ []) n else tell root false ((u, ending.Abort) ∷ []) n) ≡ true
     by true = refl
     by false = refl
 
@@ -127,7 +140,8 @@ decided_answer_own from u c =
 
 recorded_answer_own : (from : ℕ) (u : Uid) (c : Coord) (o : Option Intent) → Own (answer_recorded from u c o)
 recorded_answer_own from u c None = decided_answer_own from u c
-recorded_answer_own from u c (Some i) = all_if is_coord_effect (has i.nodes from) (tell i.root true ((u, ending.Commit) ∷ []) from ∷ []) (answer_decided from u c) refl (decided_answer_own from u c)
+recorded_answer_own from u c (Some i) =
+    all_if is_coord_effect (has i.nodes from) (tell i.root true ((u, ending.Commit) ∷ []) from ∷ []) (answer_decided from u c) refl (decided_answer_own from u c)
 
 pub query_own : (from : ℕ) (u : Uid) (intents : List (Uid × Intent)) (c : Coord) → Own (answer_query from u intents c)
 query_own from u intents c =
@@ -196,7 +210,8 @@ commit_own b intents c = by b.doomed
 
 -- ---- answers
 
-heard_now_own : (from : ℕ) (a : Asked) (r : Reply) (intents : List (Uid × Intent)) (c : Coord) (n : Now) → Own (heard_now from a r intents c n).outs
+heard_now_own : (from : ℕ) (a : Asked) (r : Reply) (intents : List (Uid × Intent)) (c : Coord) (n : Now) →
+    Own (heard_now from a r intents c n).outs
 heard_now_own from a r intents c Idle = refl
 heard_now_own from a r intents c (Calling s) = by (waits_for_call from a r s)
   where
@@ -219,12 +234,15 @@ heard_own from a r intents c = by (doing_of a.act c)
 -- ---- giveup, and what is sent again
 
 gaveup_own : (u : Uid) (nodes : List ℕ) (c : Coord) → Own (gaveup_lines u nodes c)
-gaveup_own u nodes c = all_flat is_coord_effect (λ n. says u (λ l. body.GaveUp l n) c) nodes (λ n. says_own u (λ l. body.GaveUp l n) c (λ l. refl))
+gaveup_own u nodes c =
+    all_flat is_coord_effect (λ n. says u (λ l. body.GaveUp l n) c) nodes (λ n. says_own u (λ l. body.GaveUp l n) c (λ l. refl))
 
 gives_up_own : (u : Uid) (intents : List (Uid × Intent)) (c : Coord) (n : Now) → Own (gives_up u intents c n).outs
 gives_up_own u intents c Idle = refl
-gives_up_own u intents c (Calling s) = both_own (gaveup_lines u (next_node s ∷ []) c) _ (gaveup_own u (next_node s ∷ []) c) (step_call_own s (given_up s.at) _)
-gives_up_own u intents c (Committing m) = both_own (gaveup_lines u (nodes_given_up m) c) _ (gaveup_own u (nodes_given_up m) c) (moved_commit_own u (commit.given_up m) intents c)
+gives_up_own u intents c (Calling s) =
+    both_own (gaveup_lines u (next_node s ∷ []) c) _ (gaveup_own u (next_node s ∷ []) c) (step_call_own s (given_up s.at) _)
+gives_up_own u intents c (Committing m) =
+    both_own (gaveup_lines u (nodes_given_up m) c) _ (gaveup_own u (nodes_given_up m) c) (moved_commit_own u (commit.given_up m) intents c)
 
 give_up_own : (u : Uid) (intents : List (Uid × Intent)) (c : Coord) → Own (give_up u intents c).outs
 give_up_own u intents c = by (doing_of u c)
@@ -245,7 +263,8 @@ again_own (d ∷ ds) c =
     both_own t.outs _ (again_now_own c d.now) (again_own ds t.part)
 
 pub tolds_again_own : (telling : List (Uid × Intent)) → Own (tolds_again telling)
-tolds_again_own telling = all_flat is_coord_effect (λ (e : Uid × Intent). tell_all e.1.root true ((e.0, ending.Commit) ∷ []) e.1.nodes) telling (λ e. tells_own e.1.root true ((e.0, ending.Commit) ∷ []) e.1.nodes)
+tolds_again_own telling =
+    all_flat is_coord_effect (λ (e : Uid × Intent). tell_all e.1.root true ((e.0, ending.Commit) ∷ []) e.1.nodes) telling (λ e. tells_own e.1.root true ((e.0, ending.Commit) ∷ []) e.1.nodes)
 
 -- ---- inputs
 
@@ -258,8 +277,10 @@ acts_own (input.Begin l k parent) intents c = refl
 acts_own (input.Call l x o) intents c = on_own (λ b. call b.path x o c) c (branch_named l c) (λ b. refl)
 acts_own (input.Include l x s) intents c = on_own (λ b. include b.path x s c) c (branch_named l c) (λ b. refl)
 acts_own (input.Commit l) intents c = on_own (λ b. commit_action b intents c) c (branch_named l c) (λ b. commit_own b intents c)
-acts_own (input.Abort l) intents c = on_own (λ b. abort_action (actor b.path) intents c) c (branch_named l c) (λ b. abort_own (actor b.path) intents c)
-acts_own (input.GiveUp l) intents c = on_own (λ b. give_up (actor b.path) intents c) c (branch_named l c) (λ b. give_up_own (actor b.path) intents c)
+acts_own (input.Abort l) intents c =
+    on_own (λ b. abort_action (actor b.path) intents c) c (branch_named l c) (λ b. abort_own (actor b.path) intents c)
+acts_own (input.GiveUp l) intents c =
+    on_own (λ b. give_up (actor b.path) intents c) c (branch_named l c) (λ b. give_up_own (actor b.path) intents c)
 acts_own (input.Frame k from m) intents c = refl
 acts_own input.Tick intents c = refl
 acts_own input.Restart intents c = refl

@@ -1,5 +1,6 @@
 -- Journal and frames only grow, whatever event is run.
-use Rattle.std.proofs.Common.{◌≡◌, ℕ, zero, suc, ◌+◌, List, [], ◌∷◌, ◌++◌, Bool, true, false, refl, sym, ◌∙◌, ap, map, length, Option, Some, None, append_assoc, append-nil}
+use Rattle.std.proofs.Common.{◌≡◌, ℕ, zero, suc, ◌+◌, List, [], ◌∷◌, ◌++◌, Bool, true, false, refl, sym, ◌∙◌, ap, map, length, Option, Some}
+use Rattle.std.proofs.Common.{None, append_assoc, append-nil}
 use Rattle.std.proofs.lemmas.List.{map-append}
 use Rattle.std.specs.Prelude.{slice_get, slice_set, nat_lt, not, ◌||◌, if◌then◌else◌}
 use Rattle.arj_protocol.specs.Words.{Body, Event}
@@ -10,7 +11,11 @@ use Rattle.arj_protocol.specs.Words.frame
 use Rattle.arj_protocol.specs.Tree.{at_place, set_place}
 use Rattle.arj_protocol.specs.Step.{Node, Input, first_reason}
 use Rattle.arj_protocol.specs.Step as input
-use Rattle.arj_protocol.specs.World.{World, Frame, Arm, Giving, Asked, says, numbered, steps, change_frame, as_delivered, as_lost, deliver_frame, deliver, lose_frame, lowest, settle_for, settle, tick_up, tick_all, is_up_at, node_numbers, is_quiet, quiet_line, quiesce, show_up, show_all, junk_fits, new_frame, labels_unless, gives_label, refused_at, begins, begins_any, giving, happens, limited, counted, no_labels, lacks_labels, run_accepted, run_unless, run_event, reasons, node_of, frame_number, armed}
+use Rattle.arj_protocol.specs.World.{World, Frame, Arm, Giving, Asked, says, numbered, steps, change_frame, as_delivered, as_lost}
+use Rattle.arj_protocol.specs.World.{deliver_frame, deliver, lose_frame, lowest, settle_for, settle, tick_up, tick_all, is_up_at}
+use Rattle.arj_protocol.specs.World.{node_numbers, is_quiet, quiet_line, quiesce, show_up, show_all, junk_fits, new_frame, labels_unless}
+use Rattle.arj_protocol.specs.World.{gives_label, refused_at, begins, begins_any, giving, happens, limited, counted, no_labels}
+use Rattle.arj_protocol.specs.World.{lacks_labels, run_accepted, run_unless, run_event, reasons, node_of, frame_number, armed}
 use Rattle.arj_protocol.specs.Laws.{Local, Grows, as_sent}
 use Rattle.arj_protocol.proofs.Steps.{steps_local}
 use Rattle.arj_start.specs.Limits.{most_frames}
@@ -52,18 +57,21 @@ says_grow bs w v frames lines = record {
 }
 
 -- a mark on a frame isn't seen
-marked_frames : (k : ℕ) (f : Frame) (mark : Frame → Frame) (fs : List Frame) → slice_get fs k ≡ Some f → as_sent (mark f) ≡ as_sent f → map as_sent (slice_set fs k (mark f)) ≡ map as_sent fs
+marked_frames : (k : ℕ) (f : Frame) (mark : Frame → Frame) (fs : List Frame) → slice_get fs k ≡ Some f → as_sent (mark f) ≡ as_sent f →
+    map as_sent (slice_set fs k (mark f)) ≡ map as_sent fs
 marked_frames k f mark [] h same = refl
 marked_frames zero f mark (g ∷ gs) h same =
     let e : g ≡ f = cc h in
     λ i. (same ∙ ap as_sent (sym e)) i ∷ map as_sent gs
 marked_frames (suc k) f mark (g ∷ gs) h same = λ i. as_sent g ∷ marked_frames k f mark gs h same i
 
-placed_frames : (k : ℕ) (f : Frame) (mark : Frame → Frame) (fs : List Frame) → at_place k fs ≡ Some f → as_sent (mark f) ≡ as_sent f → map as_sent (set_place k (mark f) fs) ≡ map as_sent fs
+placed_frames : (k : ℕ) (f : Frame) (mark : Frame → Frame) (fs : List Frame) → at_place k fs ≡ Some f → as_sent (mark f) ≡ as_sent f →
+    map as_sent (set_place k (mark f) fs) ≡ map as_sent fs
 placed_frames zero f mark fs h same = refl
 placed_frames (suc k) f mark fs h same = marked_frames k f mark fs h same
 
-changed_grows : (k : ℕ) (mark : Frame → Frame) (f : Frame) (w : World) → at_place k w.frames ≡ Some f → as_sent (mark f) ≡ as_sent f → Grows w (change_frame k mark f w)
+changed_grows : (k : ℕ) (mark : Frame → Frame) (f : Frame) (w : World) → at_place k w.frames ≡ Some f → as_sent (mark f) ≡ as_sent f →
+    Grows w (change_frame k mark f w)
 changed_grows k mark f w h same = record {
   sent = [];
   frames = placed_frames k f mark w.frames h same ∙ sym (append-nil (map as_sent w.frames));
@@ -88,7 +96,8 @@ settled_grows : (fuel : ℕ) (w : World) → Grows w (settle_for fuel w)
 settled_grows zero w = grows_same w w refl refl
 settled_grows (suc fuel) w = by (lowest w) (settled_grows fuel)
   where
-    by : (o : Option ℕ) → ((v : World) → Grows v (settle_for fuel v)) → Grows w (elim o [ None ↦ w | Some k ↦ settle_for fuel (deliver k w) ])
+    by : (o : Option ℕ) → ((v : World) → Grows v (settle_for fuel v)) →
+        Grows w (elim o [ None ↦ w | Some k ↦ settle_for fuel (deliver k w) ])
     by None ih = grows_same w w refl refl
     by (Some k) ih = grows_on w (deliver k w) (settle_for fuel (deliver k w)) (deliver_grows k w) (ih (deliver k w))
 
@@ -100,14 +109,16 @@ on_either w v u true a c = a
 on_either w v u false a c = c
 
 ticked_grows : (n : ℕ) (w : World) → Grows w (tick_up n w)
-ticked_grows n w = on_either w w (steps n input.Tick w) (w.full || not (is_up_at n w)) (grows_same w w refl refl) (steps_grow n input.Tick w)
+ticked_grows n w =
+    on_either w w (steps n input.Tick w) (w.full || not (is_up_at n w)) (grows_same w w refl refl) (steps_grow n input.Tick w)
 
 ticks_grow : (ns : List ℕ) (w : World) → Grows w (tick_all ns w)
 ticks_grow [] w = grows_same w w refl refl
 ticks_grow (n ∷ ns) w = grows_on w (tick_up n w) (tick_all ns (tick_up n w)) (ticked_grows n w) (ticks_grow ns (tick_up n w))
 
 quiet_grows : (w : World) → Grows w (quiet_line w)
-quiet_grows w = on_either w w (says (body.Quiet (is_quiet w) ∷ []) w) w.full (grows_same w w refl refl) (says_grow (body.Quiet (is_quiet w) ∷ []) w w refl refl)
+quiet_grows w =
+    on_either w w (says (body.Quiet (is_quiet w) ∷ []) w) w.full (grows_same w w refl refl) (says_grow (body.Quiet (is_quiet w) ∷ []) w w refl refl)
 
 quiesce_grows : (w : World) → Grows w (quiesce w)
 quiesce_grows w =
@@ -168,7 +179,11 @@ happens_grows (event.Junk n bytes) a w = junked_grows n w (nat_lt (length w.fram
 happens_grows (event.Show x) a w = shows_grow x (node_numbers w) w
 
 limited_grows : (w : World) → Grows w (limited w)
-limited_grows w = on_either w (says (body.Limit which.Frames ∷ []) (record w { over = true })) w w.full (says_grow (body.Limit which.Frames ∷ []) w (record w { over = true }) refl refl) (grows_same w w refl refl)
+limited_grows w =
+    on_either w (says (body.Limit which.Frames ∷ []) (record w {
+      over =
+          true;
+    })) w w.full (says_grow (body.Limit which.Frames ∷ []) w (record w { over = true }) refl refl) (grows_same w w refl refl)
 
 accepted_grows : (e : Event) (a : Arm) (w : World) → Grows w (run_accepted e a w)
 accepted_grows e a w =
@@ -182,4 +197,5 @@ unless_grows e a w None = accepted_grows e a w
 unless_grows e a w (Some c) = says_grow (body.Refused c ∷ []) w (counted w) refl refl
 
 pub event_grows : (e : Asked) (w : World) → Grows w (run_event e w)
-event_grows e w = on_either w w (run_unless e.event e.arm w (first_reason (reasons e.event w))) w.over (grows_same w w refl refl) (unless_grows e.event e.arm w (first_reason (reasons e.event w)))
+event_grows e w =
+    on_either w w (run_unless e.event e.arm w (first_reason (reasons e.event w))) w.over (grows_same w w refl refl) (unless_grows e.event e.arm w (first_reason (reasons e.event w)))

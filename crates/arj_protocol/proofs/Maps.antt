@@ -11,7 +11,8 @@ use Rattle.arj_protocol.specs.Order.{at_number, put_number, each}
 use Rattle.arj_protocol.specs.Tree.{at_place, set_place}
 
 -- a value put at another key leaves what is found
-pub put_other : {X : Type 0} (k j : ℕ) (v : X) (m : List (ℕ × X)) → is_eq (nat_cmp j k) ≡ false → at_number j (put_number k v m) ≡ at_number j m
+pub put_other : {X : Type 0} (k j : ℕ) (v : X) (m : List (ℕ × X)) → is_eq (nat_cmp j k) ≡ false →
+    at_number j (put_number k v m) ≡ at_number j m
 put_other {X} k j v [] h = rw h refl
 put_other {X} k j v (e ∷ es) h = by (nat_cmp k e.0) refl (put_other k j v es h)
   where
@@ -27,7 +28,8 @@ put_other {X} k j v (e ∷ es) h = by (nat_cmp k e.0) refl (put_other k j v es h
     by Greater is ih = rw ih refl
 
 -- a value changed at each key is found changed
-pub found-each : {X : Type 0} (f : ℕ → X → X) (k : ℕ) (m : List (ℕ × X)) → (P : Option X → Type 0) → ((x : X) → P (Some (f k x))) → P None → P (at_number k (each f m))
+pub found-each : {X : Type 0} (f : ℕ → X → X) (k : ℕ) (m : List (ℕ × X)) → (P : Option X → Type 0) → ((x : X) → P (Some (f k x))) → P None →
+    P (at_number k (each f m))
 found-each f k [] P some none = none
 found-each {X} f k (e ∷ es) P some none = by (nat_cmp k e.0) refl (found-each f k es P some none)
   where
@@ -60,17 +62,20 @@ put_same {X} k v (e ∷ es) = by (nat_cmp k e.0) refl (put_same k v es)
     itself : (n : ℕ) → is_eq (nat_cmp n n) ≡ true
     itself n = grind arith
 
-    by : (r : Ordering) → nat_cmp k e.0 ≡ r → at_number k (put_number k v es) ≡ Some v → at_number k (match_ordering r ((k, v) ∷ e ∷ es) ((e.0, v) ∷ es) (e ∷ put_number k v es)) ≡ Some v
+    by : (r : Ordering) → nat_cmp k e.0 ≡ r → at_number k (put_number k v es) ≡ Some v →
+        at_number k (match_ordering r ((k, v) ∷ e ∷ es) ((e.0, v) ∷ es) (e ∷ put_number k v es)) ≡ Some v
     by Less is ih = rw (itself k) refl
     by Equal is ih = rw is refl
     by Greater is ih = rw is ih
 
 -- what a key finds stands in the list
-pub found_any : {X : Type 0} (f : ℕ × X → Bool) (k : ℕ) (x : X) (m : List (ℕ × X)) → list_any f m ≡ false → at_number k m ≡ Some x → (j : ℕ) × (f (j, x) ≡ false)
+pub found_any : {X : Type 0} (f : ℕ × X → Bool) (k : ℕ) (x : X) (m : List (ℕ × X)) → list_any f m ≡ false → at_number k m ≡ Some x →
+    (j : ℕ) × (f (j, x) ≡ false)
 found_any f k x [] none h = absurd (cc h)
 found_any {X} f k x (e ∷ es) none h = by (nat_cmp k e.0) refl h (found_any f k x es (or_parts (f e) (list_any f es) none).1)
   where
-    by : (r : Ordering) → nat_cmp k e.0 ≡ r → cond (is_eq r) (Some e.1) (at_number k es) ≡ Some x → (at_number k es ≡ Some x → (j : ℕ) × (f (j, x) ≡ false)) → (j : ℕ) × (f (j, x) ≡ false)
+    by : (r : Ordering) → nat_cmp k e.0 ≡ r → cond (is_eq r) (Some e.1) (at_number k es) ≡ Some x →
+        (at_number k es ≡ Some x → (j : ℕ) × (f (j, x) ≡ false)) → (j : ℕ) × (f (j, x) ≡ false)
     by Less is found ih = ih found
     by Greater is found ih = ih found
     by Equal is found ih =

@@ -1,5 +1,6 @@
 -- Uids and bindings as numbers.
-use Rattle.std.proofs.Common.{◌≡◌, ◌<◌, ℕ, zero, suc, ◌==◌, Bool, true, false, refl, sym, ◌∙◌, ap, subst, ◌⊎◌, inl, inr, ⊎_elim, arith, nat_lt, ◌&&◌}
+use Rattle.std.proofs.Common.{◌≡◌, ◌<◌, ℕ, zero, suc, ◌==◌, Bool, true, false, refl, sym, ◌∙◌, ap, subst, ◌⊎◌, inl, inr, ⊎_elim, arith}
+use Rattle.std.proofs.Common.{nat_lt, ◌&&◌}
 use Rattle.std.proofs.lemmas.Bool.{cases_order, eqb-true, and_parts}
 use Rattle.std.specs.Cmp.{nat_cmp_is}
 use Rattle.std.specs.declared.cmp.Ordering.{Ordering}
@@ -61,19 +62,24 @@ abbrev Compares : Binding → Binding → Ordering → Ordering → Type 0
 Compares b c i n = (binding_less b c ≡ is_lt (ordering_then i n)) × (binding_eq b c ≡ is_eq (ordering_then i n))
 
 less : (b c : Binding) (n : Ordering) → b.count < 4294967296 → c.count < 4294967296 → b.inc < c.inc → Compares b c Less n
-less b c n fits fits2 h = (less_number (binding_number b) (binding_number c) (omega arith), other_number (binding_number b) (binding_number c) (inl (omega arith)))
+less b c n fits fits2 h =
+    (less_number (binding_number b) (binding_number c) (omega arith), other_number (binding_number b) (binding_number c) (inl (omega arith)))
 
 more : (b c : Binding) (n : Ordering) → b.count < 4294967296 → c.count < 4294967296 → c.inc < b.inc → Compares b c Greater n
-more b c n fits fits2 h = (more_number (binding_number b) (binding_number c) (omega arith), other_number (binding_number b) (binding_number c) (inr (omega arith)))
+more b c n fits fits2 h =
+    (more_number (binding_number b) (binding_number c) (omega arith), other_number (binding_number b) (binding_number c) (inr (omega arith)))
 
 same_less : (b c : Binding) → b.inc ≡ c.inc → b.count < c.count → Compares b c Equal Less
-same_less b c e h = (less_number (binding_number b) (binding_number c) (omega arith), other_number (binding_number b) (binding_number c) (inl (omega arith)))
+same_less b c e h =
+    (less_number (binding_number b) (binding_number c) (omega arith), other_number (binding_number b) (binding_number c) (inl (omega arith)))
 
 same_more : (b c : Binding) → b.inc ≡ c.inc → c.count < b.count → Compares b c Equal Greater
-same_more b c e h = (more_number (binding_number b) (binding_number c) (omega arith), other_number (binding_number b) (binding_number c) (inr (omega arith)))
+same_more b c e h =
+    (more_number (binding_number b) (binding_number c) (omega arith), other_number (binding_number b) (binding_number c) (inr (omega arith)))
 
 same_same : (b c : Binding) → b.inc ≡ c.inc → b.count ≡ c.count → Compares b c Equal Equal
-same_same b c e h = (more_number (binding_number b) (binding_number c) (omega arith), same_numbers (binding_number b) (binding_number c) (omega arith))
+same_same b c e h =
+    (more_number (binding_number b) (binding_number c) (omega arith), same_numbers (binding_number b) (binding_number c) (omega arith))
 
 by_counts : (b c : Binding) → b.inc ≡ c.inc → Compares b c Equal (nat_cmp b.count c.count)
 by_counts b c e = ⊎_elim {C = Compares b c Equal (nat_cmp b.count c.count)}

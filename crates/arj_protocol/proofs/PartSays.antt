@@ -2,7 +2,8 @@
 use Rattle.std.proofs.Common.{◌≡◌, ℕ, List, [], ◌∷◌, ◌++◌, Bool, true, false, refl, ◌+◌, Option, Some, None, ◌==◌, ◌&&◌}
 use Rattle.std.specs.Prelude.{not, ◌||◌, if◌then◌else◌, is_some}
 use Rattle.std.specs.List.{list_all, flat_map}
-use Rattle.arj_protocol.specs.Words.{Uid, End, Mode, Path, Head, Binding, ObjectState, Entry, Op, Row, What, RecordedReply, ConfirmedReply, is_on, object, entry, uids_of, tops_of, last_uid, op_mode, first_conflict}
+use Rattle.arj_protocol.specs.Words.{Uid, End, Mode, Path, Head, Binding, ObjectState, Entry, Op, Row, What, RecordedReply, ConfirmedReply}
+use Rattle.arj_protocol.specs.Words.{is_on, object, entry, uids_of, tops_of, last_uid, op_mode, first_conflict}
 use Rattle.arj_protocol.specs.Words.mode
 use Rattle.arj_protocol.specs.Words.ending
 use Rattle.arj_protocol.specs.Words.body
@@ -12,15 +13,22 @@ use Rattle.arj_protocol.specs.Words.what
 use Rattle.arj_protocol.specs.Words.recorded
 use Rattle.arj_protocol.specs.Words.confirmed
 use Rattle.arj_protocol.specs.Order.{at_number, at_uid, binding_eq, binding_less}
-use Rattle.arj_protocol.specs.Effect.{Effect, Say, Do, Look, Prepare, Served, Did, Pair, Prep, Ready, Already, Old, InDoubt, either, void, reply, did_nothing, is_prepared, prepare_answer}
+use Rattle.arj_protocol.specs.Effect.{Effect, Say, Do, Look, Prepare, Served, Did, Pair, Prep, Ready, Already, Old, InDoubt, either, void}
+use Rattle.arj_protocol.specs.Effect.{reply, did_nothing, is_prepared, prepare_answer}
 use Rattle.arj_protocol.specs.Ask.{actor, top_path, top_of}
 use Rattle.arj_protocol.specs.Copy.{Copy, row_for, grant_lines, is_granted, ask_copy, invoke_copy}
 use Rattle.arj_protocol.specs.Server as server
-use Rattle.arj_protocol.specs.Server.{Server, Kept, took_copy, has_ended, active_binding, end_one, end_new, apply_ends, is_told, has_locks, on_copy, kept_after, invoke_new, invoke_kept, invoke_now, is_below, vote_now, changed_by, other_inc, first_unbound}
-use Rattle.arj_protocol.specs.Named.{Named, Counted, Live, Made, bind_named, bind_call, live_asked, make_asked, include_asked, bind_made, lock_lines, conflict_on, live_above, made_above, next_server, note_named, note_other, note_made, is_lowered, lowered, lower_lines, in_use}
+use Rattle.arj_protocol.specs.Server.{Server, Kept, took_copy, has_ended, active_binding, end_one, end_new, apply_ends, is_told, has_locks}
+use Rattle.arj_protocol.specs.Server.{on_copy, kept_after, invoke_new, invoke_kept, invoke_now, is_below, vote_now, changed_by, other_inc}
+use Rattle.arj_protocol.specs.Server.{first_unbound}
+use Rattle.arj_protocol.specs.Named.{Named, Counted, Live, Made, bind_named, bind_call, live_asked, make_asked, include_asked, bind_made}
+use Rattle.arj_protocol.specs.Named.{lock_lines, conflict_on, live_above, made_above, next_server, note_named, note_other, note_made}
+use Rattle.arj_protocol.specs.Named.{is_lowered, lowered, lower_lines, in_use}
 use Rattle.arj_protocol.specs.Naming as naming
-use Rattle.arj_protocol.specs.Naming.{Naming, on_counted, on_named, is_over, listed_entry, end_entries, own_entries, end_orphans, orphans, end_lines, told_new}
-use Rattle.arj_protocol.specs.Confirm.{Grants, Marks, confirm, confirm_new, confirm_entries, prepared_by, confirms, lock_in, lock_all, wanted, checked, has_all, entries_after}
+use Rattle.arj_protocol.specs.Naming.{Naming, on_counted, on_named, is_over, listed_entry, end_entries, own_entries, end_orphans, orphans}
+use Rattle.arj_protocol.specs.Naming.{end_lines, told_new}
+use Rattle.arj_protocol.specs.Confirm.{Grants, Marks, confirm, confirm_new, confirm_entries, prepared_by, confirms, lock_in, lock_all}
+use Rattle.arj_protocol.specs.Confirm.{wanted, checked, has_all, entries_after}
 use Rattle.arj_protocol.specs.Says.{AreAll, is_server_effect, is_naming_effect}
 use Rattle.arj_protocol.proofs.RowSteps.{same_number}
 use Rattle.arj_protocol.specs.Order.{is_binding}
@@ -31,11 +39,13 @@ pub all_both : (test : Effect → Bool) (es fs : List Effect) → AreAll test es
 all_both test [] fs a b = b
 all_both test (e ∷ es) fs a b = by (test e) a (all_both test es fs)
   where
-    by : (t : Bool) → (t && list_all test es) ≡ true → (AreAll test es → AreAll test fs → AreAll test (es ++ fs)) → (t && list_all test (es ++ fs)) ≡ true
+    by : (t : Bool) → (t && list_all test es) ≡ true → (AreAll test es → AreAll test fs → AreAll test (es ++ fs)) →
+        (t && list_all test (es ++ fs)) ≡ true
     by true here ih = ih here b
     by false here ih = absurd (cc here)
 
-pub all_flat : {A : Type 0} (test : Effect → Bool) (f : A → List Effect) (items : List A) → ((a : A) → AreAll test (f a)) → AreAll test (flat_map f items)
+pub all_flat : {A : Type 0} (test : Effect → Bool) (f : A → List Effect) (items : List A) → ((a : A) → AreAll test (f a)) →
+    AreAll test (flat_map f items)
 all_flat test f [] each = refl
 all_flat test f (a ∷ rest) each = all_both test (f a) (flat_map f rest) (each a) (all_flat test f rest each)
 
@@ -49,7 +59,8 @@ module _ (n : ℕ) where
   abbrev Own : List Effect → Type 0
   Own outs = AreAll (is_server_effect n) outs
 
-  grant_own : (x : ℕ) (holder : List Uid) (tops : ℕ) (how : Mode) (rows : List Row) → Own (grant_lines n (row_for (object x) holder tops how) rows)
+  grant_own : (x : ℕ) (holder : List Uid) (tops : ℕ) (how : Mode) (rows : List Row) →
+      Own (grant_lines n (row_for (object x) holder tops how) rows)
   grant_own x holder tops how rows =
       all_if (is_server_effect n) (is_granted (object x) (last_uid holder) how rows) [] (Say (body.Granted n (last_uid holder) (object x) how) ∷ []) refl (rw (same_number n) refl)
 
@@ -93,7 +104,8 @@ module _ (n : ℕ) where
       let r = kept_after h (on_copy x (invoke_copy n h.path x op) t (at_number x t.objects)) in
       all_both (is_server_effect n) d.outs r.outs (ends_own ends s) (on_own h x op t (at_number x t.objects))
 
-  kept_own : (h : Head) (x : ℕ) (ends : List (Uid × End)) (op : Op) (s : Server) (k : Option Kept) → Own (invoke_kept n h x ends op s k).outs
+  kept_own : (h : Head) (x : ℕ) (ends : List (Uid × End)) (op : Op) (s : Server) (k : Option Kept) →
+      Own (invoke_kept n h x ends op s k).outs
   kept_own h x ends op s None = new_own h x ends op s
   kept_own h x ends op s (Some k) = by (k.req == h.req)
     where
@@ -101,7 +113,8 @@ module _ (n : ℕ) where
       by true = refl
       by false = new_own h x ends op s
 
-  pub invoke_own : (h : Head) (x : ℕ) (b : Binding) (i : ℕ) (ends : List (Uid × End)) (op : Op) (s : Server) → Own (server.invoke n h x b i ends op s).outs
+  pub invoke_own : (h : Head) (x : ℕ) (b : Binding) (i : ℕ) (ends : List (Uid × End)) (op : Op) (s : Server) →
+      Own (server.invoke n h x b i ends op s).outs
   invoke_own h x b i ends op s = by (has_ended h.path s || is_below h.req (at_uid (actor h.path) s.kept)) (changed_by i x b s)
     where
       by : (v : Bool) (w : Option What) → Own (if v then void s else invoke_now n h x ends op s w).outs
@@ -109,7 +122,8 @@ module _ (n : ℕ) where
       by false (Some w) = refl
       by false None = kept_own h x ends op s (at_uid (actor h.path) s.kept)
 
-  pub vote_own : (p : Path) (i : ℕ) (ties : List (ℕ × Binding)) (ends : List (Uid × End)) (s : Server) → Own (server.vote n p i ties ends s).outs
+  pub vote_own : (p : Path) (i : ℕ) (ties : List (ℕ × Binding)) (ends : List (Uid × End)) (s : Server) →
+      Own (server.vote n p i ties ends s).outs
   vote_own p i ties ends s = by (has_ended p s) (either (other_inc i s.inc) (first_unbound ties s))
     where
       by : (v : Bool) (w : Option What) → Own (if v then void s else vote_now n (actor p) ends s w).outs
@@ -129,13 +143,18 @@ lock_names x p m o =
 made_names : (inc x : ℕ) (p : Path) (e : Entry) (c : Counted) (m : Option Made) → Names (bind_made inc x p e c m).outs
 made_names inc x p e c (Some m) = lock_names x p mode.Write c.named
 made_names inc x p e c None =
-    all_both is_naming_effect (lock_lines x p mode.Write c.named) (Say (body.Bound x (record { inc = inc; count = c.count + 1 }) (next_server c.named.turn e.servers)) ∷ []) (lock_names x p mode.Write c.named) refl
+    all_both is_naming_effect (lock_lines x p mode.Write c.named) (Say (body.Bound x (record {
+      inc = inc;
+      count =
+          c.count + 1;
+    }) (next_server c.named.turn e.servers)) ∷ []) (lock_names x p mode.Write c.named) refl
 
 live_names : (inc x : ℕ) (p : Path) (e : Entry) (c : Counted) (l : Live) (r : Option Row) → Names (live_asked inc x p e c l r).outs
 live_names inc x p e c l (Some r) = refl
 live_names inc x p e c l None = lock_names x p mode.Read c.named
 
-make_names : (inc x : ℕ) (p : Path) (avoid : Binding) (e : Entry) (c : Counted) (r : Option Row) → Names (make_asked inc x p avoid e c r).outs
+make_names : (inc x : ℕ) (p : Path) (avoid : Binding) (e : Entry) (c : Counted) (r : Option Row) →
+    Names (make_asked inc x p avoid e c r).outs
 make_names inc x p avoid e c (Some r) = refl
 make_names inc x p avoid e c None = made_names inc x p e c (made_above avoid (at_uid (top_of p) c.named.made))
 
@@ -143,18 +162,22 @@ include_names : (inc x : ℕ) (p : Path) (e : Entry) (c : Counted) (r : Option R
 include_names inc x p e c (Some r) = refl
 include_names inc x p e c None = lock_names x p mode.Write c.named
 
-call_names : (inc x : ℕ) (p : Path) (avoid : Binding) (e : Entry) (c : Counted) (l : Option Live) → Names (bind_call inc x p avoid e c l).outs
+call_names : (inc x : ℕ) (p : Path) (avoid : Binding) (e : Entry) (c : Counted) (l : Option Live) →
+    Names (bind_call inc x p avoid e c l).outs
 call_names inc x p avoid e c (Some l) = live_names inc x p e c l (conflict_on x p mode.Read c.named)
 call_names inc x p avoid e c None = make_names inc x p avoid e c (conflict_on x p mode.Write c.named)
 
-bind_names : (inc x : ℕ) (p : Path) (include : Bool) (avoid : Binding) (e : Entry) (c : Counted) → Names (bind_named inc x p include avoid e c).outs
+bind_names : (inc x : ℕ) (p : Path) (include : Bool) (avoid : Binding) (e : Entry) (c : Counted) →
+    Names (bind_named inc x p include avoid e c).outs
 bind_names inc x p true avoid e c = include_names inc x p e c (conflict_on x p mode.Write c.named)
 bind_names inc x p false avoid e c = call_names inc x p avoid e c (live_above avoid c.named.live)
 
-pub bind_own : (p : Path) (x : ℕ) (include : Bool) (avoid : Binding) (d : Pair) (n : Naming) → Names (naming.bind p x include avoid d n).outs
+pub bind_own : (p : Path) (x : ℕ) (include : Bool) (avoid : Binding) (d : Pair) (n : Naming) →
+    Names (naming.bind p x include avoid d n).outs
 bind_own p x include avoid d n = by (is_over p n) (at_number x n.objects)
   where
-    by : (b : Bool) (o : Option Named) → Names (if b then void n else on_counted x (bind_named n.inc x p include avoid (listed_entry x d)) n o).outs
+    by : (b : Bool) (o : Option Named) →
+        Names (if b then void n else on_counted x (bind_named n.inc x p include avoid (listed_entry x d)) n o).outs
     by true o = refl
     by false None = refl
     by false (Some o) = bind_names n.inc x p include avoid (listed_entry x d) (record { named = o; count = n.count })
@@ -187,7 +210,8 @@ note_names x top b i o = by (is_binding b o.recorded) (at_uid top o.made)
 pub note_own : (p : Path) (x : ℕ) (b : Binding) (i g : ℕ) (n : Naming) → Names (naming.note p x b i g n).outs
 note_own p x b i g n = by (is_over p n || not (is_some (at_number x n.objects))) (g == n.inc) (at_number x n.objects)
   where
-    by : (v e : Bool) (o : Option Named) → Names (if v then void n else (if e then on_named x (note_named x (top_of p) b i) n o else reply n (recorded.Changed (what.Inc g n.inc)))).outs
+    by : (v e : Bool) (o : Option Named) →
+        Names (if v then void n else (if e then on_named x (note_named x (top_of p) b i) n o else reply n (recorded.Changed (what.Inc g n.inc)))).outs
     by true e o = refl
     by false false o = refl
     by false true None = refl
@@ -204,24 +228,31 @@ all_names (x ∷ xs) p n =
     let t = lock_all xs p d.part in
     all_both is_naming_effect d.outs t.outs (in_names x p n (at_number x n.objects)) (all_names xs p d.part)
 
-prepared_names : (top : Uid) (states : List ObjectState) (t : Did Naming) (a : Prep) → Names t.outs → Names (prepared_by top states t a).outs
-prepared_names top states t Ready own = all_both is_naming_effect t.outs (Do Look ∷ Do (Prepare role.Names top states) ∷ Say (body.Prepared 1 top role.Names) ∷ []) own refl
+prepared_names : (top : Uid) (states : List ObjectState) (t : Did Naming) (a : Prep) → Names t.outs →
+    Names (prepared_by top states t a).outs
+prepared_names top states t Ready own =
+    all_both is_naming_effect t.outs (Do Look ∷ Do (Prepare role.Names top states) ∷ Say (body.Prepared 1 top role.Names) ∷ []) own refl
 prepared_names top states t (Already u) own = all_both is_naming_effect t.outs (Do Look ∷ []) own refl
 prepared_names top states t (Old u v) own = all_both is_naming_effect t.outs (Do Look ∷ []) own refl
 prepared_names top states t (InDoubt u holder) own = all_both is_naming_effect t.outs (Do Look ∷ []) own refl
 
-entries_names : (top : Uid) (states : List ObjectState) (d : Pair) (t : Did Naming) → Names t.outs → Names (confirm_entries top states d t).outs
+entries_names : (top : Uid) (states : List ObjectState) (d : Pair) (t : Did Naming) → Names t.outs →
+    Names (confirm_entries top states d t).outs
 entries_names top [] d t own = own
 entries_names top (s ∷ ss) d t own = prepared_names top (s ∷ ss) t (prepare_answer top (s ∷ ss) d) own
 
-pub confirm_own : (p : Path) (grants : Grants) (excluded included : Marks) (d : Pair) (n : Naming) → Names (confirm p grants excluded included d n).outs
-confirm_own p grants excluded included d n = by (is_over p n || not (has_all grants n)) (is_on n.confirmed (top_of p) || is_prepared (top_of p) d) (checked p grants excluded included d n)
+pub confirm_own : (p : Path) (grants : Grants) (excluded included : Marks) (d : Pair) (n : Naming) →
+    Names (confirm p grants excluded included d n).outs
+confirm_own p grants excluded included d n =
+    by (is_over p n || not (has_all grants n)) (is_on n.confirmed (top_of p) || is_prepared (top_of p) d) (checked p grants excluded included d n)
   where
-    by : (v e : Bool) (r : Option ConfirmedReply) → Names (if v then void n else (if e then reply (confirms (top_of p) n) confirmed.Yes else confirm_new p grants excluded included d n r)).outs
+    by : (v e : Bool) (r : Option ConfirmedReply) →
+        Names (if v then void n else (if e then reply (confirms (top_of p) n) confirmed.Yes else confirm_new p grants excluded included d n r)).outs
     by true e r = refl
     by false true r = refl
     by false false (Some r) = refl
-    by false false None = entries_names (top_of p) (entries_after (top_of p) grants excluded included d) d (lock_all (wanted (top_of p) grants excluded d) p n) (all_names (wanted (top_of p) grants excluded d) p n)
+    by false false None =
+        entries_names (top_of p) (entries_after (top_of p) grants excluded included d) d (lock_all (wanted (top_of p) grants excluded d) p n) (all_names (wanted (top_of p) grants excluded d) p n)
 
 entries_end : (u : Uid) (e : End) → Names (end_entries u e)
 entries_end u ending.Commit = refl

@@ -7,7 +7,8 @@ use Rattle.arj_protocol.specs.Words.{Uid, Body, Row, Part, uid_eq, object, entry
 use Rattle.arj_protocol.specs.Words.body
 use Rattle.arj_protocol.specs.Words.part
 use Rattle.arj_protocol.specs.Effect.{Effect, Say, Send, Do}
-use Rattle.arj_protocol.specs.Says.{AreAll, is_server_effect, is_server_line, is_naming_effect, is_naming_line, is_coord_effect, is_coord_line, is_object, is_entry, is_server, is_naming}
+use Rattle.arj_protocol.specs.Says.{AreAll, is_server_effect, is_server_line, is_naming_effect, is_naming_line, is_coord_effect}
+use Rattle.arj_protocol.specs.Says.{is_coord_line, is_object, is_entry, is_server, is_naming}
 use Rattle.arj_protocol.specs.Laws.{Holders, rows_by, rows_after, same_part}
 
 -- the effect changes no row at this part
@@ -16,7 +17,8 @@ Quiet h n p o (Say b) = (rows : List Row) → rows_by h n p o b rows ≡ rows
 Quiet h n p o (Send to m) = ⊤
 Quiet h n p o (Do w) = ⊤
 
-pub all_quiet : (h : Holders) (n : ℕ) (p : Part) (o : Uid) (test : Effect → Bool) → ((e : Effect) → test e ≡ true → Quiet h n p o e) → (es : List Effect) → AreAll test es → (rows : List Row) → rows_after h n p o es rows ≡ rows
+pub all_quiet : (h : Holders) (n : ℕ) (p : Part) (o : Uid) (test : Effect → Bool) → ((e : Effect) → test e ≡ true → Quiet h n p o e) →
+    (es : List Effect) → AreAll test es → (rows : List Row) → rows_after h n p o es rows ≡ rows
 all_quiet h n p o test quiet [] all rows = refl
 all_quiet h n p o test quiet (e ∷ es) all rows =
     let q = and_parts (test e) (list_all test es) all in
@@ -59,12 +61,14 @@ if_apart a b rows others is = rw is (if_none a rows others)
 pub server_quiet : (h : Holders) (n x : ℕ) (e : Effect) → is_server_effect n e ≡ true → Quiet h 1 part.Naming (entry x) e
 server_quiet h n x (Say b) is = by b is
   where
-    parts : (p : Part) (m : ℕ) (rows others : List Row) → ((m == n) && is_server p) ≡ true → (if (m == 1) && same_part part.Naming p then others else rows) ≡ rows
+    parts : (p : Part) (m : ℕ) (rows others : List Row) → ((m == n) && is_server p) ≡ true →
+        (if (m == 1) && same_part part.Naming p then others else rows) ≡ rows
     parts part.Server m rows others is = if_none (m == 1) rows others
     parts part.Naming m rows others is = absurd (cc ((and_parts (m == n) false is).1))
 
     by : (b : Body) → is_server_line n b ≡ true → (rows : List Row) → rows_by h 1 part.Naming (entry x) b rows ≡ rows
-    by (body.Granted m u o how) is rows = if_apart (m == 1) (uid_eq o (entry x)) rows _ (object_apart o x (and_parts (m == n) (is_object o) is).1)
+    by (body.Granted m u o how) is rows =
+        if_apart (m == 1) (uid_eq o (entry x)) rows _ (object_apart o x (and_parts (m == n) (is_object o) is).1)
     by (body.Active m y c) is rows = if_none (m == 1) rows []
     by (body.Told m u e p) is rows = parts p m rows _ is
     by _ is rows = absurd (cc is)
@@ -75,13 +79,16 @@ server_quiet h n x (Do w) is = tt
 pub naming_quiet : (h : Holders) (n x : ℕ) (e : Effect) → is_naming_effect e ≡ true → Quiet h n part.Server (object x) e
 naming_quiet h n x (Say b) is = by b is
   where
-    parts : (p : Part) (m : ℕ) (rows others : List Row) → ((m == 1) && is_naming p) ≡ true → (if (m == n) && same_part part.Server p then others else rows) ≡ rows
+    parts : (p : Part) (m : ℕ) (rows others : List Row) → ((m == 1) && is_naming p) ≡ true →
+        (if (m == n) && same_part part.Server p then others else rows) ≡ rows
     parts part.Naming m rows others is = if_none (m == n) rows others
     parts part.Server m rows others is = absurd (cc ((and_parts (m == 1) false is).1))
 
     by : (b : Body) → is_naming_line b ≡ true → (rows : List Row) → rows_by h n part.Server (object x) b rows ≡ rows
-    by (body.Granted m u o how) is rows = if_apart (m == n) (uid_eq o (object x)) rows _ (entry_apart o x (and_parts (m == 1) (is_entry o) is).1)
-    by (body.Lowered m u o) is rows = if_apart (m == n) (uid_eq o (object x)) rows _ (entry_apart o x (and_parts (m == 1) (is_entry o) is).1)
+    by (body.Granted m u o how) is rows =
+        if_apart (m == n) (uid_eq o (object x)) rows _ (entry_apart o x (and_parts (m == 1) (is_entry o) is).1)
+    by (body.Lowered m u o) is rows =
+        if_apart (m == n) (uid_eq o (object x)) rows _ (entry_apart o x (and_parts (m == 1) (is_entry o) is).1)
     by (body.Bound y c m) is rows = refl
     by (body.Told m u e p) is rows = parts p m rows _ is
     by (body.Prepared m u r) is rows = refl

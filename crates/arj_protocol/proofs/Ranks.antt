@@ -1,5 +1,6 @@
 -- What a node sends to itself stands further on in the protocol each time, so the rounds of a step leave nothing.
-use Rattle.std.proofs.Common.{◌≡◌, ◌≤◌, ℕ, suc, ◌+◌, List, [], ◌∷◌, ◌++◌, Bool, true, false, refl, subst, map, Option, Some, None, ◌==◌, ◌&&◌, arith}
+use Rattle.std.proofs.Common.{◌≡◌, ◌≤◌, ℕ, suc, ◌+◌, List, [], ◌∷◌, ◌++◌, Bool, true, false, refl, subst, map, Option, Some, None, ◌==◌}
+use Rattle.std.proofs.Common.{◌&&◌, arith}
 use Rattle.std.proofs.lemmas.Bool.{and_parts}
 use Rattle.std.specs.Prelude.{nat_lt, if◌then◌else◌, ⊤, not, ◌||◌}
 use Rattle.std.specs.List.{list_all, AllByRecursion}
@@ -19,12 +20,20 @@ use Rattle.arj_protocol.specs.Order.{has, with_number, without_number, without_u
 use Rattle.arj_protocol.specs.Effect.{Effect, Say, Send, Do, PutIntent, Intent, Served}
 use Rattle.arj_protocol.specs.Ask.{Reply, actor, response, ask_kind, reply_kind}
 use Rattle.arj_protocol.specs.Tree.{Branch, branch_of, is_open, root_of, ends_of}
-use Rattle.arj_protocol.specs.Call.{Known, Steps, Goal, Run, Include, At, AtBind, AtLoad, AtActivate, AtNote, AtInvoke, CallEnd, CallStep, On, Ended, Moved, moves, finds, answered, bound_by, same_binding, other_binding, with_inc, named_again, live_known, made_known, next_ask, next_node, ask_at, two_bindings, two_incs}
+use Rattle.arj_protocol.specs.Call.{Known, Steps, Goal, Run, Include, At, AtBind, AtLoad, AtActivate, AtNote, AtInvoke, CallEnd, CallStep}
+use Rattle.arj_protocol.specs.Call.{On, Ended, Moved, moves, finds, answered, bound_by, same_binding, other_binding, with_inc, named_again}
+use Rattle.arj_protocol.specs.Call.{live_known, made_known, next_ask, next_node, ask_at, two_bindings, two_incs}
 use Rattle.arj_protocol.specs.Commit as commit
-use Rattle.arj_protocol.specs.Commit.{Machine, Voting, Preparing, Confirming, CommitStep, Stays, Asks, Decides, Aborts, Marked, Plan, Used, begin_confirm, begin_prepare, votes_left, stores_left, targets_of, waiting, plan_of, left_of, ask_of, participants, has_record, further}
+use Rattle.arj_protocol.specs.Commit.{Machine, Voting, Preparing, Confirming, CommitStep, Stays, Asks, Decides, Aborts, Marked, Plan, Used}
+use Rattle.arj_protocol.specs.Commit.{begin_confirm, begin_prepare, votes_left, stores_left, targets_of, waiting, plan_of, left_of, ask_of}
+use Rattle.arj_protocol.specs.Commit.{participants, has_record, further}
 use Rattle.arj_protocol.specs.Coord.{Coord, Doing, Now, Idle, Calling, Committing, doing_of, on_doing, on_root, is_free}
-use Rattle.arj_protocol.specs.Ending.{says, say_for, tell, tell_all, tolds_of, tolds_by, tolds_of_branch, ended, ends_with, decide, decided_told, record_work, acked, acked_by, acked_left, tolds_let_go, let_go, is_over, answer_query, answer_recorded, answer_decided, is_deferred, is_kept_commit, root_or_self}
-use Rattle.arj_protocol.specs.Asking.{asks_all, asks_node, step_call, heard_call, end_line, mark_lines, step_commit, moved_commit, heard, heard_doing, heard_now, heard_by, heard_none, waits_for_call, waits_for_commit, commits_in, root_moved, kept_at}
+use Rattle.arj_protocol.specs.Ending.{says, say_for, tell, tell_all, tolds_of, tolds_by, tolds_of_branch, ended, ends_with, decide}
+use Rattle.arj_protocol.specs.Ending.{decided_told, record_work, acked, acked_by, acked_left, tolds_let_go, let_go, is_over, answer_query}
+use Rattle.arj_protocol.specs.Ending.{answer_recorded, answer_decided, is_deferred, is_kept_commit, root_or_self}
+use Rattle.arj_protocol.specs.Asking.{asks_all, asks_node, step_call, heard_call, end_line, mark_lines, step_commit, moved_commit, heard}
+use Rattle.arj_protocol.specs.Asking.{heard_doing, heard_now, heard_by, heard_none, waits_for_call, waits_for_commit, commits_in}
+use Rattle.arj_protocol.specs.Asking.{root_moved, kept_at}
 use Rattle.arj_protocol.specs.Rank.{rank, is_above}
 use Rattle.arj_protocol.specs.Says.{AreAll, is_server_effect, is_naming_effect}
 use Rattle.arj_protocol.proofs.PartSays.{all_both, all_flat, all_if}
@@ -74,7 +83,8 @@ untold_above k root ends n low = grind arith
 tells_above : (k : ℕ) (root : Uid) (ends : List (Uid × End)) (nodes : List ℕ) → k ≤ 19 → Above k (tell_all root false ends nodes)
 tells_above k root ends nodes low = map_above k (tell root false ends) nodes (λ n. untold_above k root ends n low)
 
-tolds_by_above : (k : ℕ) (u : Uid) (q : Kind) (p : Path) (intents : List (Uid × Intent)) (c : Coord) → k ≤ 19 → Above k (tolds_by u q p intents c)
+tolds_by_above : (k : ℕ) (u : Uid) (q : Kind) (p : Path) (intents : List (Uid × Intent)) (c : Coord) → k ≤ 19 →
+    Above k (tolds_by u q p intents c)
 tolds_by_above k u kind.Nested p intents c low = tells_above k _ _ _ low
 tolds_by_above k u kind.Serial p intents c low = tells_above k _ _ _ low
 tolds_by_above k u kind.Top p intents c low = tells_above k _ _ _ low
@@ -88,8 +98,10 @@ tolds_above k intents c u low = by (branch_of u c.tree)
     by None = refl
     by (Some b) = tolds_by_above k u b.kind b.path intents c low
 
-ends_above : (k : ℕ) (u : Uid) (e : End) (f : Label → Body) (intents : List (Uid × Intent)) (c : Coord) → k ≤ 19 → Above k (ends_with u e f intents c).outs
-ends_above k u e f intents c low = both_above k (says u f c) (tolds_of intents (ended u e c) u) (says_above k u f c) (tolds_above k intents (ended u e c) u low)
+ends_above : (k : ℕ) (u : Uid) (e : End) (f : Label → Body) (intents : List (Uid × Intent)) (c : Coord) → k ≤ 19 →
+    Above k (ends_with u e f intents c).outs
+ends_above k u e f intents c low =
+    both_above k (says u f c) (tolds_of intents (ended u e c) u) (says_above k u f c) (tolds_above k intents (ended u e c) u low)
 
 decide_above : (k : ℕ) (p : Plan) (c : Coord) → k ≤ 17 → Above k (decide p c).outs
 decide_above k p c low =
@@ -104,7 +116,8 @@ decide_above k p c low =
     by true = refl
     by false = refl
 
-    pick : (n : ℕ) (b : Bool) → is_above k (if b then tell (root_of p.path) (has_record p) ((u, ending.Commit) ∷ []) n else tell (root_of p.path) false ((u, ending.Abort) ∷ []) n) ≡ true
+    pick : (n : ℕ) (b : Bool) →
+        is_above k (if b then tell (root_of p.path) (has_record p) ((u, ending.Commit) ∷ []) n else tell (root_of p.path) false ((u, ending.Abort) ∷ []) n) ≡ true
     pick n true = tell_above k (root_of p.path) (has_record p) ((u, ending.Commit) ∷ []) n low
     pick n false = tell_above k (root_of p.path) false ((u, ending.Abort) ∷ []) n low
 
@@ -113,7 +126,8 @@ decide_above k p c low =
 
 -- ---- acknowledgements and queries
 
-let_go_above : (k : ℕ) (u : Uid) (intents : List (Uid × Intent)) (c : Coord) (o : Option Intent) → k ≤ 19 → Above k (tolds_let_go u intents c o)
+let_go_above : (k : ℕ) (u : Uid) (intents : List (Uid × Intent)) (c : Coord) (o : Option Intent) → k ≤ 19 →
+    Above k (tolds_let_go u intents c o)
 let_go_above k u intents c None low = refl
 let_go_above k u intents c (Some i) low =
     all_if (is_above k) (not (uid_eq i.root u) && is_over (branch_of i.root c.tree)) (tell_all i.root false ((i.root, ending.Abort) ∷ []) (let_go i.root intents c i.nodes)) []
@@ -140,7 +154,8 @@ acked_above k from u intents c low = by (at_uid u c.telling)
 pub query_above : (from : ℕ) (u : Uid) (intents : List (Uid × Intent)) (c : Coord) → Above 1 (answer_query from u intents c)
 query_above from u intents c = by (is_open u c.tree || is_deferred u intents from) (at_uid u intents)
   where
-    decided : (b : Bool) → Above 1 (if b then tell (root_or_self u (branch_of u c.tree)) false ((u, ending.Commit) ∷ []) from ∷ [] else tell (root_or_self u (branch_of u c.tree)) false ((u, ending.Abort) ∷ []) from ∷ [])
+    decided : (b : Bool) →
+        Above 1 (if b then tell (root_or_self u (branch_of u c.tree)) false ((u, ending.Commit) ∷ []) from ∷ [] else tell (root_or_self u (branch_of u c.tree)) false ((u, ending.Abort) ∷ []) from ∷ [])
     decided true = refl
     decided false = refl
 
@@ -186,7 +201,8 @@ bound_next k free n at (Some old) high = by (binding_eq old.binding n.binding)
     same None = high
     same (Some i) = inc_next k i (named_again old n) at old.inc high
 
-    other : (b : Bool) → NextIs k (if b then moves (Some n) at else finds (Some old) (CallEnd.Changed 1 (two_bindings old.binding n.binding)))
+    other : (b : Bool) →
+        NextIs k (if b then moves (Some n) at else finds (Some old) (CallEnd.Changed 1 (two_bindings old.binding n.binding)))
     other true = high
     other false = tt
 
@@ -194,10 +210,13 @@ bound_next k free n at (Some old) high = by (binding_eq old.binding n.binding)
     by true = same n.inc
     by false = other (free && binding_less old.binding n.binding)
 
-reply_next : (free : Bool) (kept : Option Known) (g : Goal) (at : At) (r : Reply) → (reply_kind r == at_kind at) ≡ true → NextIs (reply_kind r) (answered free kept g at r)
-reply_next free kept g (AtBind avoid) (Reply.Bound (bound.Live b s i n ss)) is = bound_next 1 free (live_known b s i n ss) (AtInvoke (live_known b s i n ss) i) kept refl
+reply_next : (free : Bool) (kept : Option Known) (g : Goal) (at : At) (r : Reply) → (reply_kind r == at_kind at) ≡ true →
+    NextIs (reply_kind r) (answered free kept g at r)
+reply_next free kept g (AtBind avoid) (Reply.Bound (bound.Live b s i n ss)) is =
+    bound_next 1 free (live_known b s i n ss) (AtInvoke (live_known b s i n ss) i) kept refl
 reply_next free kept g (AtBind avoid) (Reply.Bound (bound.Make b s n [])) is = tt
-reply_next free kept g (AtBind avoid) (Reply.Bound (bound.Make b s n (t ∷ ts))) is = bound_next 1 free (made_known b s n (t ∷ ts)) (AtLoad (made_known b s n (t ∷ ts)) t ts) kept refl
+reply_next free kept g (AtBind avoid) (Reply.Bound (bound.Make b s n (t ∷ ts))) is =
+    bound_next 1 free (made_known b s n (t ∷ ts)) (AtLoad (made_known b s n (t ∷ ts)) t ts) kept refl
 reply_next free kept g (AtBind avoid) (Reply.Bound (bound.Write n [])) is = tt
 reply_next free kept g (AtBind avoid) (Reply.Bound (bound.Write n (t ∷ ts))) is = refl
 reply_next free kept g (AtBind avoid) (Reply.Bound (bound.Conflict q m)) is = tt
@@ -250,8 +269,14 @@ step_kind x g ends (AtInvoke k i) = refl
 twice : (k m n : ℕ) → nat_lt k m ≡ true → n ≡ m + m → nat_lt (suc (k + k)) n ≡ true
 twice k m n less is = grind arith
 
-asked_above : (k : ℕ) (p : Path) (req : ℕ) (a : ℕ × Ask) (c : Coord) → nat_lt k (ask_kind a.1) ≡ true → Above (suc (k + k)) (asks_node p req a c).outs
-asked_above k p req a c less = rw (twice k (ask_kind a.1) (rank (request (record { path = p; req = req }) a.1)) less (ask_rank (record { path = p; req = req }) a.1)) refl
+asked_above : (k : ℕ) (p : Path) (req : ℕ) (a : ℕ × Ask) (c : Coord) → nat_lt k (ask_kind a.1) ≡ true →
+    Above (suc (k + k)) (asks_node p req a c).outs
+asked_above k p req a c less =
+    rw (twice k (ask_kind a.1) (rank (request (record { path = p; req = req }) a.1)) less (ask_rank (record {
+      path = p;
+      req =
+          req;
+    }) a.1)) refl
 
 call_above : (k : ℕ) (s : Steps) (t : CallStep) (c : Coord) → Higher k t → Above (suc (k + k)) (step_call s t c).outs
 call_above k s (On at) c high =
@@ -262,7 +287,8 @@ call_above k s (Ended e) c high = says_above (suc (k + k)) (actor s.path) (end_l
 
 -- ---- a commit goes on
 
-all_asked_above : (k : ℕ) (p : Path) (req : ℕ) (asked : List (ℕ × Ask)) (c : Coord) → AllByRecursion (λ (a : ℕ × Ask). nat_lt k (ask_kind a.1) ≡ true) asked → Above (suc (k + k)) (asks_all p req asked c).outs
+all_asked_above : (k : ℕ) (p : Path) (req : ℕ) (asked : List (ℕ × Ask)) (c : Coord) →
+    AllByRecursion (λ (a : ℕ × Ask). nat_lt k (ask_kind a.1) ≡ true) asked → Above (suc (k + k)) (asks_all p req asked c).outs
 all_asked_above k p req [] c all = refl
 all_asked_above k p req (a ∷ rest) c all =
     let d = asks_node p req a c in
@@ -273,7 +299,8 @@ machine_kind (Voting p left) = 6
 machine_kind (Preparing p left) = 7
 machine_kind (Confirming p) = 8
 
-machine_asks : (k : ℕ) (m : Machine) (ns : List ℕ) → nat_lt k (machine_kind m) ≡ true → AllByRecursion (λ (a : ℕ × Ask). nat_lt k (ask_kind a.1) ≡ true) (map {A = ℕ} {B = ℕ × Ask} (λ n. (n, ask_of m n)) ns)
+machine_asks : (k : ℕ) (m : Machine) (ns : List ℕ) → nat_lt k (machine_kind m) ≡ true →
+    AllByRecursion (λ (a : ℕ × Ask). nat_lt k (ask_kind a.1) ≡ true) (map {A = ℕ} {B = ℕ × Ask} (λ n. (n, ask_of m n)) ns)
 machine_asks k m [] high = tt
 machine_asks k m (n ∷ ns) high = (by m high, machine_asks k m ns high)
   where
@@ -308,10 +335,13 @@ stores_next [] p = confirm_next p.used p
 stores_next (n ∷ ns) p = tt
 
 commit_next : (from : ℕ) (m : Machine) (r : Reply) → NextCommit (reply_kind r) (commit.answered from m r).step
-commit_next from (Voting p left) (Reply.Voted (voted.Yes states)) = votes_next (without_number from left) (record p { changed = commit.with_states states p.changed })
+commit_next from (Voting p left) (Reply.Voted (voted.Yes states)) =
+    votes_next (without_number from left) (record p { changed = commit.with_states states p.changed })
 commit_next from (Voting p left) (Reply.Voted (voted.Changed w)) = tt
-commit_next from (Preparing p left) (Reply.Prepared prepared.Yes) = stores_next (without_number from left) (record p { prepared = with_number from p.prepared })
-commit_next from (Preparing p left) (Reply.Prepared (prepared.InDoubt x q)) = stores_next (without_number from left) (commit.marks_store from p)
+commit_next from (Preparing p left) (Reply.Prepared prepared.Yes) =
+    stores_next (without_number from left) (record p { prepared = with_number from p.prepared })
+commit_next from (Preparing p left) (Reply.Prepared (prepared.InDoubt x q)) =
+    stores_next (without_number from left) (commit.marks_store from p)
 commit_next from (Preparing p left) (Reply.Prepared (prepared.Old x v)) = tt
 commit_next from (Confirming p) (Reply.Confirmed confirmed.Yes) = tt
 commit_next from (Confirming p) (Reply.Confirmed (confirmed.Conflict q m)) = tt
@@ -330,13 +360,17 @@ low_kind (Reply.Voted r) = omega arith
 low_kind (Reply.Prepared r) = omega arith
 low_kind (Reply.Confirmed r) = omega arith
 
-step_commit_above : (k : ℕ) (u : Uid) (s : CommitStep) (intents : List (Uid × Intent)) (c : Coord) → suc (k + k) ≤ 17 → NextCommit k s → Above (suc (k + k)) (step_commit u s intents c).outs
+step_commit_above : (k : ℕ) (u : Uid) (s : CommitStep) (intents : List (Uid × Intent)) (c : Coord) → suc (k + k) ≤ 17 → NextCommit k s →
+    Above (suc (k + k)) (step_commit u s intents c).outs
 step_commit_above k u (Stays m) intents c low next = refl
-step_commit_above k u (Asks m) intents c low next = all_asked_above k (plan_of m).path (plan_of m).req (waiting m) (commits_in u m c) (machine_asks k m (left_of m) next)
+step_commit_above k u (Asks m) intents c low next =
+    all_asked_above k (plan_of m).path (plan_of m).req (waiting m) (commits_in u m c) (machine_asks k m (left_of m) next)
 step_commit_above k u (Decides p) intents c low next = decide_above (suc (k + k)) p c low
-step_commit_above k u (Aborts why p) intents c low next = ends_above (suc (k + k)) u ending.Abort (λ l. body.Aborted l why) intents c (omega arith)
+step_commit_above k u (Aborts why p) intents c low next =
+    ends_above (suc (k + k)) u ending.Abort (λ l. body.Aborted l why) intents c (omega arith)
 
-moved_commit_above : (k : ℕ) (u : Uid) (m : Marked) (intents : List (Uid × Intent)) (c : Coord) → suc (k + k) ≤ 17 → NextCommit k m.step → Above (suc (k + k)) (moved_commit u m intents c).outs
+moved_commit_above : (k : ℕ) (u : Uid) (m : Marked) (intents : List (Uid × Intent)) (c : Coord) → suc (k + k) ≤ 17 → NextCommit k m.step →
+    Above (suc (k + k)) (moved_commit u m intents c).outs
 moved_commit_above k u m intents c low next =
     both_above (suc (k + k)) (mark_lines u m.marks c) (step_commit u m.step intents c).outs
     (all_flat (is_above (suc (k + k))) (λ (q : ℕ × ℕ). says u (λ l. body.Excluded l q.0 q.1) c) m.marks (λ q. says_above (suc (k + k)) u (λ l. body.Excluded l q.0 q.1) c))
@@ -344,7 +378,8 @@ moved_commit_above k u m intents c low next =
 
 -- ---- answers
 
-heard_now_above : (from : ℕ) (a : Asked) (r : Reply) (intents : List (Uid × Intent)) (c : Coord) (n : Now) → Above (suc (reply_kind r + reply_kind r)) (heard_now from a r intents c n).outs
+heard_now_above : (from : ℕ) (a : Asked) (r : Reply) (intents : List (Uid × Intent)) (c : Coord) (n : Now) →
+    Above (suc (reply_kind r + reply_kind r)) (heard_now from a r intents c n).outs
 heard_now_above from a r intents c Idle = refl
 heard_now_above from a r intents c (Calling s) = by (waits_for_call from a r s) refl
   where
@@ -353,17 +388,20 @@ heard_now_above from a r intents c (Calling s) = by (waits_for_call from a r s) 
         let q = and_parts e ((reply_kind r == ask_kind (next_ask [] s)) && f) is in
         subst (λ k. (reply_kind r == k) ≡ true) (step_kind s.x s.goal [] s.at) (and_parts (reply_kind r == ask_kind (next_ask [] s)) f q.1).0
 
-    by : (b : Bool) → waits_for_call from a r s ≡ b → Above (suc (reply_kind r + reply_kind r)) (if b then heard_by (heard_call s r c) else heard_none c).outs
+    by : (b : Bool) → waits_for_call from a r s ≡ b →
+        Above (suc (reply_kind r + reply_kind r)) (if b then heard_by (heard_call s r c) else heard_none c).outs
     by true is = call_above (reply_kind r) s (answered (is_free (root_of s.path) (actor s.path) s.x c) (kept_at s c) s.goal s.at r).step (on_root (root_of s.path) (root_moved s r (answered (is_free (root_of s.path) (actor s.path) s.x c) (kept_at s c) s.goal s.at r)) c)
         (reply_next (is_free (root_of s.path) (actor s.path) s.x c) (kept_at s c) s.goal s.at r (kinds (s.req == a.req) (next_node s == from) is))
     by false is = refl
 heard_now_above from a r intents c (Committing m) = by (waits_for_commit from a r m)
   where
-    by : (b : Bool) → Above (suc (reply_kind r + reply_kind r)) (if b then heard_by (moved_commit a.act (commit.answered from m r) intents c) else heard_none c).outs
+    by : (b : Bool) →
+        Above (suc (reply_kind r + reply_kind r)) (if b then heard_by (moved_commit a.act (commit.answered from m r) intents c) else heard_none c).outs
     by true = moved_commit_above (reply_kind r) a.act (commit.answered from m r) intents c (low_kind r) (commit_next from m r)
     by false = refl
 
-pub heard_above : (from : ℕ) (a : Asked) (r : Reply) (intents : List (Uid × Intent)) (c : Coord) → Above (suc (reply_kind r + reply_kind r)) (heard from a r intents c).outs
+pub heard_above : (from : ℕ) (a : Asked) (r : Reply) (intents : List (Uid × Intent)) (c : Coord) →
+    Above (suc (reply_kind r + reply_kind r)) (heard from a r intents c).outs
 heard_above from a r intents c = by (doing_of a.act c)
   where
     by : (o : Option Doing) → Above (suc (reply_kind r + reply_kind r)) (heard_doing from a r intents c o).outs

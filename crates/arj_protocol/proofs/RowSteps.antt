@@ -1,5 +1,6 @@
 -- Row steps against lines, and ends of which a list of rows knows nothing.
-use Rattle.std.proofs.Common.{◌≡◌, ℕ, List, [], ◌∷◌, ◌++◌, Bool, true, false, cond, refl, sym, ◌∙◌, ap, find, Some, None, ◌==◌, ◌&&◌, ◌⊎◌, inl, inr, ⊎_elim, arith}
+use Rattle.std.proofs.Common.{◌≡◌, ℕ, List, [], ◌∷◌, ◌++◌, Bool, true, false, cond, refl, sym, ◌∙◌, ap, find, Some, None, ◌==◌, ◌&&◌, ◌⊎◌}
+use Rattle.std.proofs.Common.{inl, inr, ⊎_elim, arith}
 use Rattle.std.proofs.lemmas.Bool.{eqb-true, or_parts, cases_Bool}
 use Rattle.std.specs.Prelude.{if◌then◌else◌}
 use Rattle.std.specs.List.{filter_map, cons_option}
@@ -8,7 +9,8 @@ use Rattle.std.specs.declared.cmp.Ordering.TheVariants.{Less, Equal, Greater}
 use Rattle.std.specs.Ordering.{nat_cmp, is_eq}
 use Rattle.std.specs.FinMap.{nat_cmp-IsAntisymmetric}
 use Rattle.arj_base.specs.Rows.{passed, goes_to, is_heir}
-use Rattle.arj_protocol.specs.Words.{Uid, End, Mode, Part, Row, uid_eq, nobody, is_on, last_uid, grant_row, drop_rows, pass_rows, before_last}
+use Rattle.arj_protocol.specs.Words.{Uid, End, Mode, Part, Row, uid_eq, nobody, is_on, last_uid, grant_row, drop_rows, pass_rows}
+use Rattle.arj_protocol.specs.Words.{before_last}
 use Rattle.arj_protocol.specs.Words.ending
 use Rattle.arj_protocol.specs.Words.body
 use Rattle.arj_protocol.specs.Effect.{Effect, Say, Send, Do}
@@ -22,7 +24,8 @@ same_number n = grind arith
 
 -- two numbers are one, or no test takes them for one
 pub one_or_two : (x y : ℕ) → (x ≡ y) ⊎ ((is_eq (nat_cmp y x) ≡ false) × ((x == y) ≡ false))
-one_or_two x y = ⊎_elim (λ yes_it_is. inl (eqb-true x y yes_it_is)) (λ other. inr (apart (nat_cmp y x) refl other, other)) (cases_Bool (x == y))
+one_or_two x y =
+    ⊎_elim (λ yes_it_is. inl (eqb-true x y yes_it_is)) (λ other. inr (apart (nat_cmp y x) refl other, other)) (cases_Bool (x == y))
   where
     apart : (r : Ordering) → nat_cmp y x ≡ r → (x == y) ≡ false → is_eq r ≡ false
     apart Less e other = refl
@@ -36,7 +39,8 @@ same_uid u = rw (same_number u.node, same_number u.inc, same_number u.num) refl
 
 -- ---- lists of effects
 
-pub after_both : (h : Holders) (n : ℕ) (p : Part) (o : Uid) (es fs : List Effect) (rows : List Row) → rows_after h n p o (es ++ fs) rows ≡ rows_after h n p o fs (rows_after h n p o es rows)
+pub after_both : (h : Holders) (n : ℕ) (p : Part) (o : Uid) (es fs : List Effect) (rows : List Row) →
+    rows_after h n p o (es ++ fs) rows ≡ rows_after h n p o fs (rows_after h n p o es rows)
 after_both h n p o [] fs rows = refl
 after_both h n p o (Say b ∷ es) fs rows = after_both h n p o es fs (rows_by h n p o b rows)
 after_both h n p o (Send to m ∷ es) fs rows = after_both h n p o es fs rows
@@ -44,19 +48,24 @@ after_both h n p o (Do w ∷ es) fs rows = after_both h n p o es fs rows
 
 -- ---- a grant
 
-granted_row : (h : Holders) (u : Uid) (o : Uid) (path : List Uid) (tops : ℕ) (how : Mode) → IsPathOf h u path tops → row_for o (h.path u) (h.tops u) how ≡ row_for o path tops how
+granted_row : (h : Holders) (u : Uid) (o : Uid) (path : List Uid) (tops : ℕ) (how : Mode) → IsPathOf h u path tops →
+    row_for o (h.path u) (h.tops u) how ≡ row_for o path tops how
 granted_row h u o path tops how is = λ i. row_for o (is.path_is i) (is.tops_are i) how
 
 -- the line of a grant makes the rows that were asked
-pub asked_after : (h : Holders) (n : ℕ) (p : Part) (o : Uid) (path : List Uid) (tops : ℕ) (how : Mode) (rows : List Row) → IsPathOf h (last_uid path) path tops → rows_after h n p o (grant_lines n (row_for o path tops how) rows) rows ≡ rows_asked (row_for o path tops how) rows
+pub asked_after : (h : Holders) (n : ℕ) (p : Part) (o : Uid) (path : List Uid) (tops : ℕ) (how : Mode) (rows : List Row) →
+    IsPathOf h (last_uid path) path tops →
+    rows_after h n p o (grant_lines n (row_for o path tops how) rows) rows ≡ rows_asked (row_for o path tops how) rows
 asked_after h n p o path tops how rows is = by (is_granted o (last_uid path) how rows)
   where
-    by : (b : Bool) → rows_after h n p o (if b then [] else Say (body.Granted n (last_uid path) o how) ∷ []) rows ≡ (if b then rows else grant_row (row_for o path tops how) rows)
+    by : (b : Bool) →
+        rows_after h n p o (if b then [] else Say (body.Granted n (last_uid path) o how) ∷ []) rows ≡ (if b then rows else grant_row (row_for o path tops how) rows)
     by true = refl
     by false = rw (same_number n, same_uid o) (ap (λ r. grant_row r rows) (granted_row h (last_uid path) o path tops how is))
 
 -- and leaves those of another object
-pub asked_elsewhere : (h : Holders) (n : ℕ) (p : Part) (o q : Uid) (path : List Uid) (tops : ℕ) (how : Mode) (rows others : List Row) → uid_eq o q ≡ false → rows_after h n p q (grant_lines n (row_for o path tops how) rows) others ≡ others
+pub asked_elsewhere : (h : Holders) (n : ℕ) (p : Part) (o q : Uid) (path : List Uid) (tops : ℕ) (how : Mode) (rows others : List Row) →
+    uid_eq o q ≡ false → rows_after h n p q (grant_lines n (row_for o path tops how) rows) others ≡ others
 asked_elsewhere h n p o q path tops how rows others apart = by (is_granted o (last_uid path) how rows)
   where
     by : (b : Bool) → rows_after h n p q (if b then [] else Say (body.Granted n (last_uid path) o how) ∷ []) others ≡ others
@@ -88,14 +97,17 @@ finds_none u row (r ∷ rows) someone none =
     let last_is : uid_eq (last_uid r.holder) u ≡ false = not_last r.holder u someone p.0 in
     by (uid_eq r.object row.object) last_is (finds_none u row rows someone p.1)
   where
-    by : (b : Bool) → uid_eq (last_uid r.holder) u ≡ false → find (goes_to u row) rows ≡ None → cond ((b && uid_eq (last_uid r.holder) u) && is_heir (before_last r.holder) (last_uid row.holder)) (Some r) (find (goes_to u row) rows) ≡ None
+    by : (b : Bool) → uid_eq (last_uid r.holder) u ≡ false → find (goes_to u row) rows ≡ None →
+        cond ((b && uid_eq (last_uid r.holder) u) && is_heir (before_last r.holder) (last_uid row.holder)) (Some r) (find (goes_to u row) rows) ≡ None
     by false last_is ih = ih
     by true last_is ih = rw last_is ih
 
-passes_one : (u : Uid) (all : List Row) (r : Row) → uid_eq (last_uid r.holder) u ≡ false → find (goes_to u r) all ≡ None → passed u all r ≡ Some r
+passes_one : (u : Uid) (all : List Row) (r : Row) → uid_eq (last_uid r.holder) u ≡ false → find (goes_to u r) all ≡ None →
+    passed u all r ≡ Some r
 passes_one u all r last_is none = rw (last_is, none) refl
 
-passes_rest : (u : Uid) (all rows : List Row) → uid_eq nobody u ≡ false → holds u all ≡ false → holds u rows ≡ false → filter_map (passed u all) rows ≡ rows
+passes_rest : (u : Uid) (all rows : List Row) → uid_eq nobody u ≡ false → holds u all ≡ false → holds u rows ≡ false →
+    filter_map (passed u all) rows ≡ rows
 passes_rest u all [] someone none here = refl
 passes_rest u all (r ∷ rows) someone none here =
     let p = holds_rest u r rows here in
@@ -110,5 +122,6 @@ ends_none u ending.Commit rows someone none = passes_none u rows someone none
 ends_none u ending.Abort rows someone none = drops_none u rows none
 
 -- the line of an end, which is said where a lock is held
-pub told_after : (h : Holders) (n : ℕ) (p : Part) (o u : Uid) (e : End) (rows : List Row) → same_part p p ≡ true → rows_by h n p o (body.Told n u e p) rows ≡ rows_ended e u rows
+pub told_after : (h : Holders) (n : ℕ) (p : Part) (o u : Uid) (e : End) (rows : List Row) → same_part p p ≡ true →
+    rows_by h n p o (body.Told n u e p) rows ≡ rows_ended e u rows
 told_after h n p o u e rows own = rw (same_number n, own) refl

@@ -38,259 +38,854 @@ text : Answer → List ℕ
 text a = answer_text a
 
 l_A : Label
-l_A = record { len = 1; text = 65 ∷ 0 ∷ 0 ∷ 0 ∷ 0 ∷ 0 ∷ 0 ∷ 0 ∷ 0 ∷ 0 ∷ 0 ∷ 0 ∷ 0 ∷ 0 ∷ 0 ∷ 0 ∷ []; whole = refl; short = omega arith; zeros = refl }
+l_A = record {
+  len = 1;
+  text = 65 ∷ 0 ∷ 0 ∷ 0 ∷ 0 ∷ 0 ∷ 0 ∷ 0 ∷ 0 ∷ 0 ∷ 0 ∷ 0 ∷ 0 ∷ 0 ∷ 0 ∷ 0 ∷ [];
+  whole = refl;
+  short =
+      omega arith;
+  zeros = refl;
+}
 
 l_B : Label
-l_B = record { len = 1; text = 66 ∷ 0 ∷ 0 ∷ 0 ∷ 0 ∷ 0 ∷ 0 ∷ 0 ∷ 0 ∷ 0 ∷ 0 ∷ 0 ∷ 0 ∷ 0 ∷ 0 ∷ 0 ∷ []; whole = refl; short = omega arith; zeros = refl }
+l_B = record {
+  len = 1;
+  text = 66 ∷ 0 ∷ 0 ∷ 0 ∷ 0 ∷ 0 ∷ 0 ∷ 0 ∷ 0 ∷ 0 ∷ 0 ∷ 0 ∷ 0 ∷ 0 ∷ 0 ∷ 0 ∷ [];
+  whole = refl;
+  short =
+      omega arith;
+  zeros = refl;
+}
 
 l_C2 : Label
-l_C2 = record { len = 2; text = 67 ∷ 50 ∷ 0 ∷ 0 ∷ 0 ∷ 0 ∷ 0 ∷ 0 ∷ 0 ∷ 0 ∷ 0 ∷ 0 ∷ 0 ∷ 0 ∷ 0 ∷ 0 ∷ []; whole = refl; short = omega arith; zeros = refl }
+l_C2 = record {
+  len = 2;
+  text = 67 ∷ 50 ∷ 0 ∷ 0 ∷ 0 ∷ 0 ∷ 0 ∷ 0 ∷ 0 ∷ 0 ∷ 0 ∷ 0 ∷ 0 ∷ 0 ∷ 0 ∷ 0 ∷ [];
+  whole = refl;
+  short =
+      omega arith;
+  zeros = refl;
+}
 
 l_C3 : Label
-l_C3 = record { len = 2; text = 67 ∷ 51 ∷ 0 ∷ 0 ∷ 0 ∷ 0 ∷ 0 ∷ 0 ∷ 0 ∷ 0 ∷ 0 ∷ 0 ∷ 0 ∷ 0 ∷ 0 ∷ 0 ∷ []; whole = refl; short = omega arith; zeros = refl }
+l_C3 = record {
+  len = 2;
+  text = 67 ∷ 51 ∷ 0 ∷ 0 ∷ 0 ∷ 0 ∷ 0 ∷ 0 ∷ 0 ∷ 0 ∷ 0 ∷ 0 ∷ 0 ∷ 0 ∷ 0 ∷ 0 ∷ [];
+  whole = refl;
+  short =
+      omega arith;
+  zeros = refl;
+}
 
 l_C4 : Label
-l_C4 = record { len = 2; text = 67 ∷ 52 ∷ 0 ∷ 0 ∷ 0 ∷ 0 ∷ 0 ∷ 0 ∷ 0 ∷ 0 ∷ 0 ∷ 0 ∷ 0 ∷ 0 ∷ 0 ∷ 0 ∷ []; whole = refl; short = omega arith; zeros = refl }
+l_C4 = record {
+  len = 2;
+  text = 67 ∷ 52 ∷ 0 ∷ 0 ∷ 0 ∷ 0 ∷ 0 ∷ 0 ∷ 0 ∷ 0 ∷ 0 ∷ 0 ∷ 0 ∷ 0 ∷ 0 ∷ 0 ∷ [];
+  whole = refl;
+  short =
+      omega arith;
+  zeros = refl;
+}
 
 l_C5 : Label
-l_C5 = record { len = 2; text = 67 ∷ 53 ∷ 0 ∷ 0 ∷ 0 ∷ 0 ∷ 0 ∷ 0 ∷ 0 ∷ 0 ∷ 0 ∷ 0 ∷ 0 ∷ 0 ∷ 0 ∷ 0 ∷ []; whole = refl; short = omega arith; zeros = refl }
+l_C5 = record {
+  len = 2;
+  text = 67 ∷ 53 ∷ 0 ∷ 0 ∷ 0 ∷ 0 ∷ 0 ∷ 0 ∷ 0 ∷ 0 ∷ 0 ∷ 0 ∷ 0 ∷ 0 ∷ 0 ∷ 0 ∷ [];
+  whole = refl;
+  short =
+      omega arith;
+  zeros = refl;
+}
 
 l_C6 : Label
-l_C6 = record { len = 2; text = 67 ∷ 54 ∷ 0 ∷ 0 ∷ 0 ∷ 0 ∷ 0 ∷ 0 ∷ 0 ∷ 0 ∷ 0 ∷ 0 ∷ 0 ∷ 0 ∷ 0 ∷ 0 ∷ []; whole = refl; short = omega arith; zeros = refl }
+l_C6 = record {
+  len = 2;
+  text = 67 ∷ 54 ∷ 0 ∷ 0 ∷ 0 ∷ 0 ∷ 0 ∷ 0 ∷ 0 ∷ 0 ∷ 0 ∷ 0 ∷ 0 ∷ 0 ∷ 0 ∷ 0 ∷ [];
+  whole = refl;
+  short =
+      omega arith;
+  zeros = refl;
+}
 
 l_C7 : Label
-l_C7 = record { len = 2; text = 67 ∷ 55 ∷ 0 ∷ 0 ∷ 0 ∷ 0 ∷ 0 ∷ 0 ∷ 0 ∷ 0 ∷ 0 ∷ 0 ∷ 0 ∷ 0 ∷ 0 ∷ 0 ∷ []; whole = refl; short = omega arith; zeros = refl }
+l_C7 = record {
+  len = 2;
+  text = 67 ∷ 55 ∷ 0 ∷ 0 ∷ 0 ∷ 0 ∷ 0 ∷ 0 ∷ 0 ∷ 0 ∷ 0 ∷ 0 ∷ 0 ∷ 0 ∷ 0 ∷ 0 ∷ [];
+  whole = refl;
+  short =
+      omega arith;
+  zeros = refl;
+}
 
 l_C8 : Label
-l_C8 = record { len = 2; text = 67 ∷ 56 ∷ 0 ∷ 0 ∷ 0 ∷ 0 ∷ 0 ∷ 0 ∷ 0 ∷ 0 ∷ 0 ∷ 0 ∷ 0 ∷ 0 ∷ 0 ∷ 0 ∷ []; whole = refl; short = omega arith; zeros = refl }
+l_C8 = record {
+  len = 2;
+  text = 67 ∷ 56 ∷ 0 ∷ 0 ∷ 0 ∷ 0 ∷ 0 ∷ 0 ∷ 0 ∷ 0 ∷ 0 ∷ 0 ∷ 0 ∷ 0 ∷ 0 ∷ 0 ∷ [];
+  whole = refl;
+  short =
+      omega arith;
+  zeros = refl;
+}
 
 l_C9 : Label
-l_C9 = record { len = 2; text = 67 ∷ 57 ∷ 0 ∷ 0 ∷ 0 ∷ 0 ∷ 0 ∷ 0 ∷ 0 ∷ 0 ∷ 0 ∷ 0 ∷ 0 ∷ 0 ∷ 0 ∷ 0 ∷ []; whole = refl; short = omega arith; zeros = refl }
+l_C9 = record {
+  len = 2;
+  text = 67 ∷ 57 ∷ 0 ∷ 0 ∷ 0 ∷ 0 ∷ 0 ∷ 0 ∷ 0 ∷ 0 ∷ 0 ∷ 0 ∷ 0 ∷ 0 ∷ 0 ∷ 0 ∷ [];
+  whole = refl;
+  short =
+      omega arith;
+  zeros = refl;
+}
 
 l_C10 : Label
-l_C10 = record { len = 3; text = 67 ∷ 49 ∷ 48 ∷ 0 ∷ 0 ∷ 0 ∷ 0 ∷ 0 ∷ 0 ∷ 0 ∷ 0 ∷ 0 ∷ 0 ∷ 0 ∷ 0 ∷ 0 ∷ []; whole = refl; short = omega arith; zeros = refl }
+l_C10 = record {
+  len = 3;
+  text = 67 ∷ 49 ∷ 48 ∷ 0 ∷ 0 ∷ 0 ∷ 0 ∷ 0 ∷ 0 ∷ 0 ∷ 0 ∷ 0 ∷ 0 ∷ 0 ∷ 0 ∷ 0 ∷ [];
+  whole = refl;
+  short =
+      omega arith;
+  zeros = refl;
+}
 
 l_C11 : Label
-l_C11 = record { len = 3; text = 67 ∷ 49 ∷ 49 ∷ 0 ∷ 0 ∷ 0 ∷ 0 ∷ 0 ∷ 0 ∷ 0 ∷ 0 ∷ 0 ∷ 0 ∷ 0 ∷ 0 ∷ 0 ∷ []; whole = refl; short = omega arith; zeros = refl }
+l_C11 = record {
+  len = 3;
+  text = 67 ∷ 49 ∷ 49 ∷ 0 ∷ 0 ∷ 0 ∷ 0 ∷ 0 ∷ 0 ∷ 0 ∷ 0 ∷ 0 ∷ 0 ∷ 0 ∷ 0 ∷ 0 ∷ [];
+  whole = refl;
+  short =
+      omega arith;
+  zeros = refl;
+}
 
 l_C12 : Label
-l_C12 = record { len = 3; text = 67 ∷ 49 ∷ 50 ∷ 0 ∷ 0 ∷ 0 ∷ 0 ∷ 0 ∷ 0 ∷ 0 ∷ 0 ∷ 0 ∷ 0 ∷ 0 ∷ 0 ∷ 0 ∷ []; whole = refl; short = omega arith; zeros = refl }
+l_C12 = record {
+  len = 3;
+  text = 67 ∷ 49 ∷ 50 ∷ 0 ∷ 0 ∷ 0 ∷ 0 ∷ 0 ∷ 0 ∷ 0 ∷ 0 ∷ 0 ∷ 0 ∷ 0 ∷ 0 ∷ 0 ∷ [];
+  whole = refl;
+  short =
+      omega arith;
+  zeros = refl;
+}
 
 l_C13 : Label
-l_C13 = record { len = 3; text = 67 ∷ 49 ∷ 51 ∷ 0 ∷ 0 ∷ 0 ∷ 0 ∷ 0 ∷ 0 ∷ 0 ∷ 0 ∷ 0 ∷ 0 ∷ 0 ∷ 0 ∷ 0 ∷ []; whole = refl; short = omega arith; zeros = refl }
+l_C13 = record {
+  len = 3;
+  text = 67 ∷ 49 ∷ 51 ∷ 0 ∷ 0 ∷ 0 ∷ 0 ∷ 0 ∷ 0 ∷ 0 ∷ 0 ∷ 0 ∷ 0 ∷ 0 ∷ 0 ∷ 0 ∷ [];
+  whole = refl;
+  short =
+      omega arith;
+  zeros = refl;
+}
 
 l_C14 : Label
-l_C14 = record { len = 3; text = 67 ∷ 49 ∷ 52 ∷ 0 ∷ 0 ∷ 0 ∷ 0 ∷ 0 ∷ 0 ∷ 0 ∷ 0 ∷ 0 ∷ 0 ∷ 0 ∷ 0 ∷ 0 ∷ []; whole = refl; short = omega arith; zeros = refl }
+l_C14 = record {
+  len = 3;
+  text = 67 ∷ 49 ∷ 52 ∷ 0 ∷ 0 ∷ 0 ∷ 0 ∷ 0 ∷ 0 ∷ 0 ∷ 0 ∷ 0 ∷ 0 ∷ 0 ∷ 0 ∷ 0 ∷ [];
+  whole = refl;
+  short =
+      omega arith;
+  zeros = refl;
+}
 
 l_C15 : Label
-l_C15 = record { len = 3; text = 67 ∷ 49 ∷ 53 ∷ 0 ∷ 0 ∷ 0 ∷ 0 ∷ 0 ∷ 0 ∷ 0 ∷ 0 ∷ 0 ∷ 0 ∷ 0 ∷ 0 ∷ 0 ∷ []; whole = refl; short = omega arith; zeros = refl }
+l_C15 = record {
+  len = 3;
+  text = 67 ∷ 49 ∷ 53 ∷ 0 ∷ 0 ∷ 0 ∷ 0 ∷ 0 ∷ 0 ∷ 0 ∷ 0 ∷ 0 ∷ 0 ∷ 0 ∷ 0 ∷ 0 ∷ [];
+  whole = refl;
+  short =
+      omega arith;
+  zeros = refl;
+}
 
 l_C16 : Label
-l_C16 = record { len = 3; text = 67 ∷ 49 ∷ 54 ∷ 0 ∷ 0 ∷ 0 ∷ 0 ∷ 0 ∷ 0 ∷ 0 ∷ 0 ∷ 0 ∷ 0 ∷ 0 ∷ 0 ∷ 0 ∷ []; whole = refl; short = omega arith; zeros = refl }
+l_C16 = record {
+  len = 3;
+  text = 67 ∷ 49 ∷ 54 ∷ 0 ∷ 0 ∷ 0 ∷ 0 ∷ 0 ∷ 0 ∷ 0 ∷ 0 ∷ 0 ∷ 0 ∷ 0 ∷ 0 ∷ 0 ∷ [];
+  whole = refl;
+  short =
+      omega arith;
+  zeros = refl;
+}
 
 l_C17 : Label
-l_C17 = record { len = 3; text = 67 ∷ 49 ∷ 55 ∷ 0 ∷ 0 ∷ 0 ∷ 0 ∷ 0 ∷ 0 ∷ 0 ∷ 0 ∷ 0 ∷ 0 ∷ 0 ∷ 0 ∷ 0 ∷ []; whole = refl; short = omega arith; zeros = refl }
+l_C17 = record {
+  len = 3;
+  text = 67 ∷ 49 ∷ 55 ∷ 0 ∷ 0 ∷ 0 ∷ 0 ∷ 0 ∷ 0 ∷ 0 ∷ 0 ∷ 0 ∷ 0 ∷ 0 ∷ 0 ∷ 0 ∷ [];
+  whole = refl;
+  short =
+      omega arith;
+  zeros = refl;
+}
 
 l_Z : Label
-l_Z = record { len = 1; text = 90 ∷ 0 ∷ 0 ∷ 0 ∷ 0 ∷ 0 ∷ 0 ∷ 0 ∷ 0 ∷ 0 ∷ 0 ∷ 0 ∷ 0 ∷ 0 ∷ 0 ∷ 0 ∷ []; whole = refl; short = omega arith; zeros = refl }
+l_Z = record {
+  len = 1;
+  text = 90 ∷ 0 ∷ 0 ∷ 0 ∷ 0 ∷ 0 ∷ 0 ∷ 0 ∷ 0 ∷ 0 ∷ 0 ∷ 0 ∷ 0 ∷ 0 ∷ 0 ∷ 0 ∷ [];
+  whole = refl;
+  short =
+      omega arith;
+  zeros = refl;
+}
 
 l_S : Label
-l_S = record { len = 1; text = 83 ∷ 0 ∷ 0 ∷ 0 ∷ 0 ∷ 0 ∷ 0 ∷ 0 ∷ 0 ∷ 0 ∷ 0 ∷ 0 ∷ 0 ∷ 0 ∷ 0 ∷ 0 ∷ []; whole = refl; short = omega arith; zeros = refl }
+l_S = record {
+  len = 1;
+  text = 83 ∷ 0 ∷ 0 ∷ 0 ∷ 0 ∷ 0 ∷ 0 ∷ 0 ∷ 0 ∷ 0 ∷ 0 ∷ 0 ∷ 0 ∷ 0 ∷ 0 ∷ 0 ∷ [];
+  whole = refl;
+  short =
+      omega arith;
+  zeros = refl;
+}
 
 l_T : Label
-l_T = record { len = 1; text = 84 ∷ 0 ∷ 0 ∷ 0 ∷ 0 ∷ 0 ∷ 0 ∷ 0 ∷ 0 ∷ 0 ∷ 0 ∷ 0 ∷ 0 ∷ 0 ∷ 0 ∷ 0 ∷ []; whole = refl; short = omega arith; zeros = refl }
+l_T = record {
+  len = 1;
+  text = 84 ∷ 0 ∷ 0 ∷ 0 ∷ 0 ∷ 0 ∷ 0 ∷ 0 ∷ 0 ∷ 0 ∷ 0 ∷ 0 ∷ 0 ∷ 0 ∷ 0 ∷ 0 ∷ [];
+  whole = refl;
+  short =
+      omega arith;
+  zeros = refl;
+}
 
 l_N2 : Label
-l_N2 = record { len = 2; text = 78 ∷ 50 ∷ 0 ∷ 0 ∷ 0 ∷ 0 ∷ 0 ∷ 0 ∷ 0 ∷ 0 ∷ 0 ∷ 0 ∷ 0 ∷ 0 ∷ 0 ∷ 0 ∷ []; whole = refl; short = omega arith; zeros = refl }
+l_N2 = record {
+  len = 2;
+  text = 78 ∷ 50 ∷ 0 ∷ 0 ∷ 0 ∷ 0 ∷ 0 ∷ 0 ∷ 0 ∷ 0 ∷ 0 ∷ 0 ∷ 0 ∷ 0 ∷ 0 ∷ 0 ∷ [];
+  whole = refl;
+  short =
+      omega arith;
+  zeros = refl;
+}
 
 l_N3 : Label
-l_N3 = record { len = 2; text = 78 ∷ 51 ∷ 0 ∷ 0 ∷ 0 ∷ 0 ∷ 0 ∷ 0 ∷ 0 ∷ 0 ∷ 0 ∷ 0 ∷ 0 ∷ 0 ∷ 0 ∷ 0 ∷ []; whole = refl; short = omega arith; zeros = refl }
+l_N3 = record {
+  len = 2;
+  text = 78 ∷ 51 ∷ 0 ∷ 0 ∷ 0 ∷ 0 ∷ 0 ∷ 0 ∷ 0 ∷ 0 ∷ 0 ∷ 0 ∷ 0 ∷ 0 ∷ 0 ∷ 0 ∷ [];
+  whole = refl;
+  short =
+      omega arith;
+  zeros = refl;
+}
 
 l_N4 : Label
-l_N4 = record { len = 2; text = 78 ∷ 52 ∷ 0 ∷ 0 ∷ 0 ∷ 0 ∷ 0 ∷ 0 ∷ 0 ∷ 0 ∷ 0 ∷ 0 ∷ 0 ∷ 0 ∷ 0 ∷ 0 ∷ []; whole = refl; short = omega arith; zeros = refl }
+l_N4 = record {
+  len = 2;
+  text = 78 ∷ 52 ∷ 0 ∷ 0 ∷ 0 ∷ 0 ∷ 0 ∷ 0 ∷ 0 ∷ 0 ∷ 0 ∷ 0 ∷ 0 ∷ 0 ∷ 0 ∷ 0 ∷ [];
+  whole = refl;
+  short =
+      omega arith;
+  zeros = refl;
+}
 
 l_N5 : Label
-l_N5 = record { len = 2; text = 78 ∷ 53 ∷ 0 ∷ 0 ∷ 0 ∷ 0 ∷ 0 ∷ 0 ∷ 0 ∷ 0 ∷ 0 ∷ 0 ∷ 0 ∷ 0 ∷ 0 ∷ 0 ∷ []; whole = refl; short = omega arith; zeros = refl }
+l_N5 = record {
+  len = 2;
+  text = 78 ∷ 53 ∷ 0 ∷ 0 ∷ 0 ∷ 0 ∷ 0 ∷ 0 ∷ 0 ∷ 0 ∷ 0 ∷ 0 ∷ 0 ∷ 0 ∷ 0 ∷ 0 ∷ [];
+  whole = refl;
+  short =
+      omega arith;
+  zeros = refl;
+}
 
 l_N6 : Label
-l_N6 = record { len = 2; text = 78 ∷ 54 ∷ 0 ∷ 0 ∷ 0 ∷ 0 ∷ 0 ∷ 0 ∷ 0 ∷ 0 ∷ 0 ∷ 0 ∷ 0 ∷ 0 ∷ 0 ∷ 0 ∷ []; whole = refl; short = omega arith; zeros = refl }
+l_N6 = record {
+  len = 2;
+  text = 78 ∷ 54 ∷ 0 ∷ 0 ∷ 0 ∷ 0 ∷ 0 ∷ 0 ∷ 0 ∷ 0 ∷ 0 ∷ 0 ∷ 0 ∷ 0 ∷ 0 ∷ 0 ∷ [];
+  whole = refl;
+  short =
+      omega arith;
+  zeros = refl;
+}
 
 l_N7 : Label
-l_N7 = record { len = 2; text = 78 ∷ 55 ∷ 0 ∷ 0 ∷ 0 ∷ 0 ∷ 0 ∷ 0 ∷ 0 ∷ 0 ∷ 0 ∷ 0 ∷ 0 ∷ 0 ∷ 0 ∷ 0 ∷ []; whole = refl; short = omega arith; zeros = refl }
+l_N7 = record {
+  len = 2;
+  text = 78 ∷ 55 ∷ 0 ∷ 0 ∷ 0 ∷ 0 ∷ 0 ∷ 0 ∷ 0 ∷ 0 ∷ 0 ∷ 0 ∷ 0 ∷ 0 ∷ 0 ∷ 0 ∷ [];
+  whole = refl;
+  short =
+      omega arith;
+  zeros = refl;
+}
 
 l_N8 : Label
-l_N8 = record { len = 2; text = 78 ∷ 56 ∷ 0 ∷ 0 ∷ 0 ∷ 0 ∷ 0 ∷ 0 ∷ 0 ∷ 0 ∷ 0 ∷ 0 ∷ 0 ∷ 0 ∷ 0 ∷ 0 ∷ []; whole = refl; short = omega arith; zeros = refl }
+l_N8 = record {
+  len = 2;
+  text = 78 ∷ 56 ∷ 0 ∷ 0 ∷ 0 ∷ 0 ∷ 0 ∷ 0 ∷ 0 ∷ 0 ∷ 0 ∷ 0 ∷ 0 ∷ 0 ∷ 0 ∷ 0 ∷ [];
+  whole = refl;
+  short =
+      omega arith;
+  zeros = refl;
+}
 
 l_N9 : Label
-l_N9 = record { len = 2; text = 78 ∷ 57 ∷ 0 ∷ 0 ∷ 0 ∷ 0 ∷ 0 ∷ 0 ∷ 0 ∷ 0 ∷ 0 ∷ 0 ∷ 0 ∷ 0 ∷ 0 ∷ 0 ∷ []; whole = refl; short = omega arith; zeros = refl }
+l_N9 = record {
+  len = 2;
+  text = 78 ∷ 57 ∷ 0 ∷ 0 ∷ 0 ∷ 0 ∷ 0 ∷ 0 ∷ 0 ∷ 0 ∷ 0 ∷ 0 ∷ 0 ∷ 0 ∷ 0 ∷ 0 ∷ [];
+  whole = refl;
+  short =
+      omega arith;
+  zeros = refl;
+}
 
 l_N10 : Label
-l_N10 = record { len = 3; text = 78 ∷ 49 ∷ 48 ∷ 0 ∷ 0 ∷ 0 ∷ 0 ∷ 0 ∷ 0 ∷ 0 ∷ 0 ∷ 0 ∷ 0 ∷ 0 ∷ 0 ∷ 0 ∷ []; whole = refl; short = omega arith; zeros = refl }
+l_N10 = record {
+  len = 3;
+  text = 78 ∷ 49 ∷ 48 ∷ 0 ∷ 0 ∷ 0 ∷ 0 ∷ 0 ∷ 0 ∷ 0 ∷ 0 ∷ 0 ∷ 0 ∷ 0 ∷ 0 ∷ 0 ∷ [];
+  whole = refl;
+  short =
+      omega arith;
+  zeros = refl;
+}
 
 l_N11 : Label
-l_N11 = record { len = 3; text = 78 ∷ 49 ∷ 49 ∷ 0 ∷ 0 ∷ 0 ∷ 0 ∷ 0 ∷ 0 ∷ 0 ∷ 0 ∷ 0 ∷ 0 ∷ 0 ∷ 0 ∷ 0 ∷ []; whole = refl; short = omega arith; zeros = refl }
+l_N11 = record {
+  len = 3;
+  text = 78 ∷ 49 ∷ 49 ∷ 0 ∷ 0 ∷ 0 ∷ 0 ∷ 0 ∷ 0 ∷ 0 ∷ 0 ∷ 0 ∷ 0 ∷ 0 ∷ 0 ∷ 0 ∷ [];
+  whole = refl;
+  short =
+      omega arith;
+  zeros = refl;
+}
 
 l_N12 : Label
-l_N12 = record { len = 3; text = 78 ∷ 49 ∷ 50 ∷ 0 ∷ 0 ∷ 0 ∷ 0 ∷ 0 ∷ 0 ∷ 0 ∷ 0 ∷ 0 ∷ 0 ∷ 0 ∷ 0 ∷ 0 ∷ []; whole = refl; short = omega arith; zeros = refl }
+l_N12 = record {
+  len = 3;
+  text = 78 ∷ 49 ∷ 50 ∷ 0 ∷ 0 ∷ 0 ∷ 0 ∷ 0 ∷ 0 ∷ 0 ∷ 0 ∷ 0 ∷ 0 ∷ 0 ∷ 0 ∷ 0 ∷ [];
+  whole = refl;
+  short =
+      omega arith;
+  zeros = refl;
+}
 
 l_N13 : Label
-l_N13 = record { len = 3; text = 78 ∷ 49 ∷ 51 ∷ 0 ∷ 0 ∷ 0 ∷ 0 ∷ 0 ∷ 0 ∷ 0 ∷ 0 ∷ 0 ∷ 0 ∷ 0 ∷ 0 ∷ 0 ∷ []; whole = refl; short = omega arith; zeros = refl }
+l_N13 = record {
+  len = 3;
+  text = 78 ∷ 49 ∷ 51 ∷ 0 ∷ 0 ∷ 0 ∷ 0 ∷ 0 ∷ 0 ∷ 0 ∷ 0 ∷ 0 ∷ 0 ∷ 0 ∷ 0 ∷ 0 ∷ [];
+  whole = refl;
+  short =
+      omega arith;
+  zeros = refl;
+}
 
 l_N14 : Label
-l_N14 = record { len = 3; text = 78 ∷ 49 ∷ 52 ∷ 0 ∷ 0 ∷ 0 ∷ 0 ∷ 0 ∷ 0 ∷ 0 ∷ 0 ∷ 0 ∷ 0 ∷ 0 ∷ 0 ∷ 0 ∷ []; whole = refl; short = omega arith; zeros = refl }
+l_N14 = record {
+  len = 3;
+  text = 78 ∷ 49 ∷ 52 ∷ 0 ∷ 0 ∷ 0 ∷ 0 ∷ 0 ∷ 0 ∷ 0 ∷ 0 ∷ 0 ∷ 0 ∷ 0 ∷ 0 ∷ 0 ∷ [];
+  whole = refl;
+  short =
+      omega arith;
+  zeros = refl;
+}
 
 l_N15 : Label
-l_N15 = record { len = 3; text = 78 ∷ 49 ∷ 53 ∷ 0 ∷ 0 ∷ 0 ∷ 0 ∷ 0 ∷ 0 ∷ 0 ∷ 0 ∷ 0 ∷ 0 ∷ 0 ∷ 0 ∷ 0 ∷ []; whole = refl; short = omega arith; zeros = refl }
+l_N15 = record {
+  len = 3;
+  text = 78 ∷ 49 ∷ 53 ∷ 0 ∷ 0 ∷ 0 ∷ 0 ∷ 0 ∷ 0 ∷ 0 ∷ 0 ∷ 0 ∷ 0 ∷ 0 ∷ 0 ∷ 0 ∷ [];
+  whole = refl;
+  short =
+      omega arith;
+  zeros = refl;
+}
 
 l_N16 : Label
-l_N16 = record { len = 3; text = 78 ∷ 49 ∷ 54 ∷ 0 ∷ 0 ∷ 0 ∷ 0 ∷ 0 ∷ 0 ∷ 0 ∷ 0 ∷ 0 ∷ 0 ∷ 0 ∷ 0 ∷ 0 ∷ []; whole = refl; short = omega arith; zeros = refl }
+l_N16 = record {
+  len = 3;
+  text = 78 ∷ 49 ∷ 54 ∷ 0 ∷ 0 ∷ 0 ∷ 0 ∷ 0 ∷ 0 ∷ 0 ∷ 0 ∷ 0 ∷ 0 ∷ 0 ∷ 0 ∷ 0 ∷ [];
+  whole = refl;
+  short =
+      omega arith;
+  zeros = refl;
+}
 
 l_N17 : Label
-l_N17 = record { len = 3; text = 78 ∷ 49 ∷ 55 ∷ 0 ∷ 0 ∷ 0 ∷ 0 ∷ 0 ∷ 0 ∷ 0 ∷ 0 ∷ 0 ∷ 0 ∷ 0 ∷ 0 ∷ 0 ∷ []; whole = refl; short = omega arith; zeros = refl }
+l_N17 = record {
+  len = 3;
+  text = 78 ∷ 49 ∷ 55 ∷ 0 ∷ 0 ∷ 0 ∷ 0 ∷ 0 ∷ 0 ∷ 0 ∷ 0 ∷ 0 ∷ 0 ∷ 0 ∷ 0 ∷ 0 ∷ [];
+  whole = refl;
+  short =
+      omega arith;
+  zeros = refl;
+}
 
 l_N18 : Label
-l_N18 = record { len = 3; text = 78 ∷ 49 ∷ 56 ∷ 0 ∷ 0 ∷ 0 ∷ 0 ∷ 0 ∷ 0 ∷ 0 ∷ 0 ∷ 0 ∷ 0 ∷ 0 ∷ 0 ∷ 0 ∷ []; whole = refl; short = omega arith; zeros = refl }
+l_N18 = record {
+  len = 3;
+  text = 78 ∷ 49 ∷ 56 ∷ 0 ∷ 0 ∷ 0 ∷ 0 ∷ 0 ∷ 0 ∷ 0 ∷ 0 ∷ 0 ∷ 0 ∷ 0 ∷ 0 ∷ 0 ∷ [];
+  whole = refl;
+  short =
+      omega arith;
+  zeros = refl;
+}
 
 l_N19 : Label
-l_N19 = record { len = 3; text = 78 ∷ 49 ∷ 57 ∷ 0 ∷ 0 ∷ 0 ∷ 0 ∷ 0 ∷ 0 ∷ 0 ∷ 0 ∷ 0 ∷ 0 ∷ 0 ∷ 0 ∷ 0 ∷ []; whole = refl; short = omega arith; zeros = refl }
+l_N19 = record {
+  len = 3;
+  text = 78 ∷ 49 ∷ 57 ∷ 0 ∷ 0 ∷ 0 ∷ 0 ∷ 0 ∷ 0 ∷ 0 ∷ 0 ∷ 0 ∷ 0 ∷ 0 ∷ 0 ∷ 0 ∷ [];
+  whole = refl;
+  short =
+      omega arith;
+  zeros = refl;
+}
 
 l_N20 : Label
-l_N20 = record { len = 3; text = 78 ∷ 50 ∷ 48 ∷ 0 ∷ 0 ∷ 0 ∷ 0 ∷ 0 ∷ 0 ∷ 0 ∷ 0 ∷ 0 ∷ 0 ∷ 0 ∷ 0 ∷ 0 ∷ []; whole = refl; short = omega arith; zeros = refl }
+l_N20 = record {
+  len = 3;
+  text = 78 ∷ 50 ∷ 48 ∷ 0 ∷ 0 ∷ 0 ∷ 0 ∷ 0 ∷ 0 ∷ 0 ∷ 0 ∷ 0 ∷ 0 ∷ 0 ∷ 0 ∷ 0 ∷ [];
+  whole = refl;
+  short =
+      omega arith;
+  zeros = refl;
+}
 
 l_N21 : Label
-l_N21 = record { len = 3; text = 78 ∷ 50 ∷ 49 ∷ 0 ∷ 0 ∷ 0 ∷ 0 ∷ 0 ∷ 0 ∷ 0 ∷ 0 ∷ 0 ∷ 0 ∷ 0 ∷ 0 ∷ 0 ∷ []; whole = refl; short = omega arith; zeros = refl }
+l_N21 = record {
+  len = 3;
+  text = 78 ∷ 50 ∷ 49 ∷ 0 ∷ 0 ∷ 0 ∷ 0 ∷ 0 ∷ 0 ∷ 0 ∷ 0 ∷ 0 ∷ 0 ∷ 0 ∷ 0 ∷ 0 ∷ [];
+  whole = refl;
+  short =
+      omega arith;
+  zeros = refl;
+}
 
 l_N22 : Label
-l_N22 = record { len = 3; text = 78 ∷ 50 ∷ 50 ∷ 0 ∷ 0 ∷ 0 ∷ 0 ∷ 0 ∷ 0 ∷ 0 ∷ 0 ∷ 0 ∷ 0 ∷ 0 ∷ 0 ∷ 0 ∷ []; whole = refl; short = omega arith; zeros = refl }
+l_N22 = record {
+  len = 3;
+  text = 78 ∷ 50 ∷ 50 ∷ 0 ∷ 0 ∷ 0 ∷ 0 ∷ 0 ∷ 0 ∷ 0 ∷ 0 ∷ 0 ∷ 0 ∷ 0 ∷ 0 ∷ 0 ∷ [];
+  whole = refl;
+  short =
+      omega arith;
+  zeros = refl;
+}
 
 l_N23 : Label
-l_N23 = record { len = 3; text = 78 ∷ 50 ∷ 51 ∷ 0 ∷ 0 ∷ 0 ∷ 0 ∷ 0 ∷ 0 ∷ 0 ∷ 0 ∷ 0 ∷ 0 ∷ 0 ∷ 0 ∷ 0 ∷ []; whole = refl; short = omega arith; zeros = refl }
+l_N23 = record {
+  len = 3;
+  text = 78 ∷ 50 ∷ 51 ∷ 0 ∷ 0 ∷ 0 ∷ 0 ∷ 0 ∷ 0 ∷ 0 ∷ 0 ∷ 0 ∷ 0 ∷ 0 ∷ 0 ∷ 0 ∷ [];
+  whole = refl;
+  short =
+      omega arith;
+  zeros = refl;
+}
 
 l_N24 : Label
-l_N24 = record { len = 3; text = 78 ∷ 50 ∷ 52 ∷ 0 ∷ 0 ∷ 0 ∷ 0 ∷ 0 ∷ 0 ∷ 0 ∷ 0 ∷ 0 ∷ 0 ∷ 0 ∷ 0 ∷ 0 ∷ []; whole = refl; short = omega arith; zeros = refl }
+l_N24 = record {
+  len = 3;
+  text = 78 ∷ 50 ∷ 52 ∷ 0 ∷ 0 ∷ 0 ∷ 0 ∷ 0 ∷ 0 ∷ 0 ∷ 0 ∷ 0 ∷ 0 ∷ 0 ∷ 0 ∷ 0 ∷ [];
+  whole = refl;
+  short =
+      omega arith;
+  zeros = refl;
+}
 
 l_N25 : Label
-l_N25 = record { len = 3; text = 78 ∷ 50 ∷ 53 ∷ 0 ∷ 0 ∷ 0 ∷ 0 ∷ 0 ∷ 0 ∷ 0 ∷ 0 ∷ 0 ∷ 0 ∷ 0 ∷ 0 ∷ 0 ∷ []; whole = refl; short = omega arith; zeros = refl }
+l_N25 = record {
+  len = 3;
+  text = 78 ∷ 50 ∷ 53 ∷ 0 ∷ 0 ∷ 0 ∷ 0 ∷ 0 ∷ 0 ∷ 0 ∷ 0 ∷ 0 ∷ 0 ∷ 0 ∷ 0 ∷ 0 ∷ [];
+  whole = refl;
+  short =
+      omega arith;
+  zeros = refl;
+}
 
 l_N26 : Label
-l_N26 = record { len = 3; text = 78 ∷ 50 ∷ 54 ∷ 0 ∷ 0 ∷ 0 ∷ 0 ∷ 0 ∷ 0 ∷ 0 ∷ 0 ∷ 0 ∷ 0 ∷ 0 ∷ 0 ∷ 0 ∷ []; whole = refl; short = omega arith; zeros = refl }
+l_N26 = record {
+  len = 3;
+  text = 78 ∷ 50 ∷ 54 ∷ 0 ∷ 0 ∷ 0 ∷ 0 ∷ 0 ∷ 0 ∷ 0 ∷ 0 ∷ 0 ∷ 0 ∷ 0 ∷ 0 ∷ 0 ∷ [];
+  whole = refl;
+  short =
+      omega arith;
+  zeros = refl;
+}
 
 l_N27 : Label
-l_N27 = record { len = 3; text = 78 ∷ 50 ∷ 55 ∷ 0 ∷ 0 ∷ 0 ∷ 0 ∷ 0 ∷ 0 ∷ 0 ∷ 0 ∷ 0 ∷ 0 ∷ 0 ∷ 0 ∷ 0 ∷ []; whole = refl; short = omega arith; zeros = refl }
+l_N27 = record {
+  len = 3;
+  text = 78 ∷ 50 ∷ 55 ∷ 0 ∷ 0 ∷ 0 ∷ 0 ∷ 0 ∷ 0 ∷ 0 ∷ 0 ∷ 0 ∷ 0 ∷ 0 ∷ 0 ∷ 0 ∷ [];
+  whole = refl;
+  short =
+      omega arith;
+  zeros = refl;
+}
 
 l_N28 : Label
-l_N28 = record { len = 3; text = 78 ∷ 50 ∷ 56 ∷ 0 ∷ 0 ∷ 0 ∷ 0 ∷ 0 ∷ 0 ∷ 0 ∷ 0 ∷ 0 ∷ 0 ∷ 0 ∷ 0 ∷ 0 ∷ []; whole = refl; short = omega arith; zeros = refl }
+l_N28 = record {
+  len = 3;
+  text = 78 ∷ 50 ∷ 56 ∷ 0 ∷ 0 ∷ 0 ∷ 0 ∷ 0 ∷ 0 ∷ 0 ∷ 0 ∷ 0 ∷ 0 ∷ 0 ∷ 0 ∷ 0 ∷ [];
+  whole = refl;
+  short =
+      omega arith;
+  zeros = refl;
+}
 
 l_N29 : Label
-l_N29 = record { len = 3; text = 78 ∷ 50 ∷ 57 ∷ 0 ∷ 0 ∷ 0 ∷ 0 ∷ 0 ∷ 0 ∷ 0 ∷ 0 ∷ 0 ∷ 0 ∷ 0 ∷ 0 ∷ 0 ∷ []; whole = refl; short = omega arith; zeros = refl }
+l_N29 = record {
+  len = 3;
+  text = 78 ∷ 50 ∷ 57 ∷ 0 ∷ 0 ∷ 0 ∷ 0 ∷ 0 ∷ 0 ∷ 0 ∷ 0 ∷ 0 ∷ 0 ∷ 0 ∷ 0 ∷ 0 ∷ [];
+  whole = refl;
+  short =
+      omega arith;
+  zeros = refl;
+}
 
 l_N30 : Label
-l_N30 = record { len = 3; text = 78 ∷ 51 ∷ 48 ∷ 0 ∷ 0 ∷ 0 ∷ 0 ∷ 0 ∷ 0 ∷ 0 ∷ 0 ∷ 0 ∷ 0 ∷ 0 ∷ 0 ∷ 0 ∷ []; whole = refl; short = omega arith; zeros = refl }
+l_N30 = record {
+  len = 3;
+  text = 78 ∷ 51 ∷ 48 ∷ 0 ∷ 0 ∷ 0 ∷ 0 ∷ 0 ∷ 0 ∷ 0 ∷ 0 ∷ 0 ∷ 0 ∷ 0 ∷ 0 ∷ 0 ∷ [];
+  whole = refl;
+  short =
+      omega arith;
+  zeros = refl;
+}
 
 l_N31 : Label
-l_N31 = record { len = 3; text = 78 ∷ 51 ∷ 49 ∷ 0 ∷ 0 ∷ 0 ∷ 0 ∷ 0 ∷ 0 ∷ 0 ∷ 0 ∷ 0 ∷ 0 ∷ 0 ∷ 0 ∷ 0 ∷ []; whole = refl; short = omega arith; zeros = refl }
+l_N31 = record {
+  len = 3;
+  text = 78 ∷ 51 ∷ 49 ∷ 0 ∷ 0 ∷ 0 ∷ 0 ∷ 0 ∷ 0 ∷ 0 ∷ 0 ∷ 0 ∷ 0 ∷ 0 ∷ 0 ∷ 0 ∷ [];
+  whole = refl;
+  short =
+      omega arith;
+  zeros = refl;
+}
 
 l_N32 : Label
-l_N32 = record { len = 3; text = 78 ∷ 51 ∷ 50 ∷ 0 ∷ 0 ∷ 0 ∷ 0 ∷ 0 ∷ 0 ∷ 0 ∷ 0 ∷ 0 ∷ 0 ∷ 0 ∷ 0 ∷ 0 ∷ []; whole = refl; short = omega arith; zeros = refl }
+l_N32 = record {
+  len = 3;
+  text = 78 ∷ 51 ∷ 50 ∷ 0 ∷ 0 ∷ 0 ∷ 0 ∷ 0 ∷ 0 ∷ 0 ∷ 0 ∷ 0 ∷ 0 ∷ 0 ∷ 0 ∷ 0 ∷ [];
+  whole = refl;
+  short =
+      omega arith;
+  zeros = refl;
+}
 
 l_N33 : Label
-l_N33 = record { len = 3; text = 78 ∷ 51 ∷ 51 ∷ 0 ∷ 0 ∷ 0 ∷ 0 ∷ 0 ∷ 0 ∷ 0 ∷ 0 ∷ 0 ∷ 0 ∷ 0 ∷ 0 ∷ 0 ∷ []; whole = refl; short = omega arith; zeros = refl }
+l_N33 = record {
+  len = 3;
+  text = 78 ∷ 51 ∷ 51 ∷ 0 ∷ 0 ∷ 0 ∷ 0 ∷ 0 ∷ 0 ∷ 0 ∷ 0 ∷ 0 ∷ 0 ∷ 0 ∷ 0 ∷ 0 ∷ [];
+  whole = refl;
+  short =
+      omega arith;
+  zeros = refl;
+}
 
 l_N34 : Label
-l_N34 = record { len = 3; text = 78 ∷ 51 ∷ 52 ∷ 0 ∷ 0 ∷ 0 ∷ 0 ∷ 0 ∷ 0 ∷ 0 ∷ 0 ∷ 0 ∷ 0 ∷ 0 ∷ 0 ∷ 0 ∷ []; whole = refl; short = omega arith; zeros = refl }
+l_N34 = record {
+  len = 3;
+  text = 78 ∷ 51 ∷ 52 ∷ 0 ∷ 0 ∷ 0 ∷ 0 ∷ 0 ∷ 0 ∷ 0 ∷ 0 ∷ 0 ∷ 0 ∷ 0 ∷ 0 ∷ 0 ∷ [];
+  whole = refl;
+  short =
+      omega arith;
+  zeros = refl;
+}
 
 l_N35 : Label
-l_N35 = record { len = 3; text = 78 ∷ 51 ∷ 53 ∷ 0 ∷ 0 ∷ 0 ∷ 0 ∷ 0 ∷ 0 ∷ 0 ∷ 0 ∷ 0 ∷ 0 ∷ 0 ∷ 0 ∷ 0 ∷ []; whole = refl; short = omega arith; zeros = refl }
+l_N35 = record {
+  len = 3;
+  text = 78 ∷ 51 ∷ 53 ∷ 0 ∷ 0 ∷ 0 ∷ 0 ∷ 0 ∷ 0 ∷ 0 ∷ 0 ∷ 0 ∷ 0 ∷ 0 ∷ 0 ∷ 0 ∷ [];
+  whole = refl;
+  short =
+      omega arith;
+  zeros = refl;
+}
 
 l_N36 : Label
-l_N36 = record { len = 3; text = 78 ∷ 51 ∷ 54 ∷ 0 ∷ 0 ∷ 0 ∷ 0 ∷ 0 ∷ 0 ∷ 0 ∷ 0 ∷ 0 ∷ 0 ∷ 0 ∷ 0 ∷ 0 ∷ []; whole = refl; short = omega arith; zeros = refl }
+l_N36 = record {
+  len = 3;
+  text = 78 ∷ 51 ∷ 54 ∷ 0 ∷ 0 ∷ 0 ∷ 0 ∷ 0 ∷ 0 ∷ 0 ∷ 0 ∷ 0 ∷ 0 ∷ 0 ∷ 0 ∷ 0 ∷ [];
+  whole = refl;
+  short =
+      omega arith;
+  zeros = refl;
+}
 
 l_N37 : Label
-l_N37 = record { len = 3; text = 78 ∷ 51 ∷ 55 ∷ 0 ∷ 0 ∷ 0 ∷ 0 ∷ 0 ∷ 0 ∷ 0 ∷ 0 ∷ 0 ∷ 0 ∷ 0 ∷ 0 ∷ 0 ∷ []; whole = refl; short = omega arith; zeros = refl }
+l_N37 = record {
+  len = 3;
+  text = 78 ∷ 51 ∷ 55 ∷ 0 ∷ 0 ∷ 0 ∷ 0 ∷ 0 ∷ 0 ∷ 0 ∷ 0 ∷ 0 ∷ 0 ∷ 0 ∷ 0 ∷ 0 ∷ [];
+  whole = refl;
+  short =
+      omega arith;
+  zeros = refl;
+}
 
 l_N38 : Label
-l_N38 = record { len = 3; text = 78 ∷ 51 ∷ 56 ∷ 0 ∷ 0 ∷ 0 ∷ 0 ∷ 0 ∷ 0 ∷ 0 ∷ 0 ∷ 0 ∷ 0 ∷ 0 ∷ 0 ∷ 0 ∷ []; whole = refl; short = omega arith; zeros = refl }
+l_N38 = record {
+  len = 3;
+  text = 78 ∷ 51 ∷ 56 ∷ 0 ∷ 0 ∷ 0 ∷ 0 ∷ 0 ∷ 0 ∷ 0 ∷ 0 ∷ 0 ∷ 0 ∷ 0 ∷ 0 ∷ 0 ∷ [];
+  whole = refl;
+  short =
+      omega arith;
+  zeros = refl;
+}
 
 l_N39 : Label
-l_N39 = record { len = 3; text = 78 ∷ 51 ∷ 57 ∷ 0 ∷ 0 ∷ 0 ∷ 0 ∷ 0 ∷ 0 ∷ 0 ∷ 0 ∷ 0 ∷ 0 ∷ 0 ∷ 0 ∷ 0 ∷ []; whole = refl; short = omega arith; zeros = refl }
+l_N39 = record {
+  len = 3;
+  text = 78 ∷ 51 ∷ 57 ∷ 0 ∷ 0 ∷ 0 ∷ 0 ∷ 0 ∷ 0 ∷ 0 ∷ 0 ∷ 0 ∷ 0 ∷ 0 ∷ 0 ∷ 0 ∷ [];
+  whole = refl;
+  short =
+      omega arith;
+  zeros = refl;
+}
 
 l_N40 : Label
-l_N40 = record { len = 3; text = 78 ∷ 52 ∷ 48 ∷ 0 ∷ 0 ∷ 0 ∷ 0 ∷ 0 ∷ 0 ∷ 0 ∷ 0 ∷ 0 ∷ 0 ∷ 0 ∷ 0 ∷ 0 ∷ []; whole = refl; short = omega arith; zeros = refl }
+l_N40 = record {
+  len = 3;
+  text = 78 ∷ 52 ∷ 48 ∷ 0 ∷ 0 ∷ 0 ∷ 0 ∷ 0 ∷ 0 ∷ 0 ∷ 0 ∷ 0 ∷ 0 ∷ 0 ∷ 0 ∷ 0 ∷ [];
+  whole = refl;
+  short =
+      omega arith;
+  zeros = refl;
+}
 
 l_N41 : Label
-l_N41 = record { len = 3; text = 78 ∷ 52 ∷ 49 ∷ 0 ∷ 0 ∷ 0 ∷ 0 ∷ 0 ∷ 0 ∷ 0 ∷ 0 ∷ 0 ∷ 0 ∷ 0 ∷ 0 ∷ 0 ∷ []; whole = refl; short = omega arith; zeros = refl }
+l_N41 = record {
+  len = 3;
+  text = 78 ∷ 52 ∷ 49 ∷ 0 ∷ 0 ∷ 0 ∷ 0 ∷ 0 ∷ 0 ∷ 0 ∷ 0 ∷ 0 ∷ 0 ∷ 0 ∷ 0 ∷ 0 ∷ [];
+  whole = refl;
+  short =
+      omega arith;
+  zeros = refl;
+}
 
 l_N42 : Label
-l_N42 = record { len = 3; text = 78 ∷ 52 ∷ 50 ∷ 0 ∷ 0 ∷ 0 ∷ 0 ∷ 0 ∷ 0 ∷ 0 ∷ 0 ∷ 0 ∷ 0 ∷ 0 ∷ 0 ∷ 0 ∷ []; whole = refl; short = omega arith; zeros = refl }
+l_N42 = record {
+  len = 3;
+  text = 78 ∷ 52 ∷ 50 ∷ 0 ∷ 0 ∷ 0 ∷ 0 ∷ 0 ∷ 0 ∷ 0 ∷ 0 ∷ 0 ∷ 0 ∷ 0 ∷ 0 ∷ 0 ∷ [];
+  whole = refl;
+  short =
+      omega arith;
+  zeros = refl;
+}
 
 l_N43 : Label
-l_N43 = record { len = 3; text = 78 ∷ 52 ∷ 51 ∷ 0 ∷ 0 ∷ 0 ∷ 0 ∷ 0 ∷ 0 ∷ 0 ∷ 0 ∷ 0 ∷ 0 ∷ 0 ∷ 0 ∷ 0 ∷ []; whole = refl; short = omega arith; zeros = refl }
+l_N43 = record {
+  len = 3;
+  text = 78 ∷ 52 ∷ 51 ∷ 0 ∷ 0 ∷ 0 ∷ 0 ∷ 0 ∷ 0 ∷ 0 ∷ 0 ∷ 0 ∷ 0 ∷ 0 ∷ 0 ∷ 0 ∷ [];
+  whole = refl;
+  short =
+      omega arith;
+  zeros = refl;
+}
 
 l_N44 : Label
-l_N44 = record { len = 3; text = 78 ∷ 52 ∷ 52 ∷ 0 ∷ 0 ∷ 0 ∷ 0 ∷ 0 ∷ 0 ∷ 0 ∷ 0 ∷ 0 ∷ 0 ∷ 0 ∷ 0 ∷ 0 ∷ []; whole = refl; short = omega arith; zeros = refl }
+l_N44 = record {
+  len = 3;
+  text = 78 ∷ 52 ∷ 52 ∷ 0 ∷ 0 ∷ 0 ∷ 0 ∷ 0 ∷ 0 ∷ 0 ∷ 0 ∷ 0 ∷ 0 ∷ 0 ∷ 0 ∷ 0 ∷ [];
+  whole = refl;
+  short =
+      omega arith;
+  zeros = refl;
+}
 
 l_N45 : Label
-l_N45 = record { len = 3; text = 78 ∷ 52 ∷ 53 ∷ 0 ∷ 0 ∷ 0 ∷ 0 ∷ 0 ∷ 0 ∷ 0 ∷ 0 ∷ 0 ∷ 0 ∷ 0 ∷ 0 ∷ 0 ∷ []; whole = refl; short = omega arith; zeros = refl }
+l_N45 = record {
+  len = 3;
+  text = 78 ∷ 52 ∷ 53 ∷ 0 ∷ 0 ∷ 0 ∷ 0 ∷ 0 ∷ 0 ∷ 0 ∷ 0 ∷ 0 ∷ 0 ∷ 0 ∷ 0 ∷ 0 ∷ [];
+  whole = refl;
+  short =
+      omega arith;
+  zeros = refl;
+}
 
 l_N46 : Label
-l_N46 = record { len = 3; text = 78 ∷ 52 ∷ 54 ∷ 0 ∷ 0 ∷ 0 ∷ 0 ∷ 0 ∷ 0 ∷ 0 ∷ 0 ∷ 0 ∷ 0 ∷ 0 ∷ 0 ∷ 0 ∷ []; whole = refl; short = omega arith; zeros = refl }
+l_N46 = record {
+  len = 3;
+  text = 78 ∷ 52 ∷ 54 ∷ 0 ∷ 0 ∷ 0 ∷ 0 ∷ 0 ∷ 0 ∷ 0 ∷ 0 ∷ 0 ∷ 0 ∷ 0 ∷ 0 ∷ 0 ∷ [];
+  whole = refl;
+  short =
+      omega arith;
+  zeros = refl;
+}
 
 l_N47 : Label
-l_N47 = record { len = 3; text = 78 ∷ 52 ∷ 55 ∷ 0 ∷ 0 ∷ 0 ∷ 0 ∷ 0 ∷ 0 ∷ 0 ∷ 0 ∷ 0 ∷ 0 ∷ 0 ∷ 0 ∷ 0 ∷ []; whole = refl; short = omega arith; zeros = refl }
+l_N47 = record {
+  len = 3;
+  text = 78 ∷ 52 ∷ 55 ∷ 0 ∷ 0 ∷ 0 ∷ 0 ∷ 0 ∷ 0 ∷ 0 ∷ 0 ∷ 0 ∷ 0 ∷ 0 ∷ 0 ∷ 0 ∷ [];
+  whole = refl;
+  short =
+      omega arith;
+  zeros = refl;
+}
 
 l_N48 : Label
-l_N48 = record { len = 3; text = 78 ∷ 52 ∷ 56 ∷ 0 ∷ 0 ∷ 0 ∷ 0 ∷ 0 ∷ 0 ∷ 0 ∷ 0 ∷ 0 ∷ 0 ∷ 0 ∷ 0 ∷ 0 ∷ []; whole = refl; short = omega arith; zeros = refl }
+l_N48 = record {
+  len = 3;
+  text = 78 ∷ 52 ∷ 56 ∷ 0 ∷ 0 ∷ 0 ∷ 0 ∷ 0 ∷ 0 ∷ 0 ∷ 0 ∷ 0 ∷ 0 ∷ 0 ∷ 0 ∷ 0 ∷ [];
+  whole = refl;
+  short =
+      omega arith;
+  zeros = refl;
+}
 
 l_N49 : Label
-l_N49 = record { len = 3; text = 78 ∷ 52 ∷ 57 ∷ 0 ∷ 0 ∷ 0 ∷ 0 ∷ 0 ∷ 0 ∷ 0 ∷ 0 ∷ 0 ∷ 0 ∷ 0 ∷ 0 ∷ 0 ∷ []; whole = refl; short = omega arith; zeros = refl }
+l_N49 = record {
+  len = 3;
+  text = 78 ∷ 52 ∷ 57 ∷ 0 ∷ 0 ∷ 0 ∷ 0 ∷ 0 ∷ 0 ∷ 0 ∷ 0 ∷ 0 ∷ 0 ∷ 0 ∷ 0 ∷ 0 ∷ [];
+  whole = refl;
+  short =
+      omega arith;
+  zeros = refl;
+}
 
 l_N50 : Label
-l_N50 = record { len = 3; text = 78 ∷ 53 ∷ 48 ∷ 0 ∷ 0 ∷ 0 ∷ 0 ∷ 0 ∷ 0 ∷ 0 ∷ 0 ∷ 0 ∷ 0 ∷ 0 ∷ 0 ∷ 0 ∷ []; whole = refl; short = omega arith; zeros = refl }
+l_N50 = record {
+  len = 3;
+  text = 78 ∷ 53 ∷ 48 ∷ 0 ∷ 0 ∷ 0 ∷ 0 ∷ 0 ∷ 0 ∷ 0 ∷ 0 ∷ 0 ∷ 0 ∷ 0 ∷ 0 ∷ 0 ∷ [];
+  whole = refl;
+  short =
+      omega arith;
+  zeros = refl;
+}
 
 l_N51 : Label
-l_N51 = record { len = 3; text = 78 ∷ 53 ∷ 49 ∷ 0 ∷ 0 ∷ 0 ∷ 0 ∷ 0 ∷ 0 ∷ 0 ∷ 0 ∷ 0 ∷ 0 ∷ 0 ∷ 0 ∷ 0 ∷ []; whole = refl; short = omega arith; zeros = refl }
+l_N51 = record {
+  len = 3;
+  text = 78 ∷ 53 ∷ 49 ∷ 0 ∷ 0 ∷ 0 ∷ 0 ∷ 0 ∷ 0 ∷ 0 ∷ 0 ∷ 0 ∷ 0 ∷ 0 ∷ 0 ∷ 0 ∷ [];
+  whole = refl;
+  short =
+      omega arith;
+  zeros = refl;
+}
 
 l_N52 : Label
-l_N52 = record { len = 3; text = 78 ∷ 53 ∷ 50 ∷ 0 ∷ 0 ∷ 0 ∷ 0 ∷ 0 ∷ 0 ∷ 0 ∷ 0 ∷ 0 ∷ 0 ∷ 0 ∷ 0 ∷ 0 ∷ []; whole = refl; short = omega arith; zeros = refl }
+l_N52 = record {
+  len = 3;
+  text = 78 ∷ 53 ∷ 50 ∷ 0 ∷ 0 ∷ 0 ∷ 0 ∷ 0 ∷ 0 ∷ 0 ∷ 0 ∷ 0 ∷ 0 ∷ 0 ∷ 0 ∷ 0 ∷ [];
+  whole = refl;
+  short =
+      omega arith;
+  zeros = refl;
+}
 
 l_N53 : Label
-l_N53 = record { len = 3; text = 78 ∷ 53 ∷ 51 ∷ 0 ∷ 0 ∷ 0 ∷ 0 ∷ 0 ∷ 0 ∷ 0 ∷ 0 ∷ 0 ∷ 0 ∷ 0 ∷ 0 ∷ 0 ∷ []; whole = refl; short = omega arith; zeros = refl }
+l_N53 = record {
+  len = 3;
+  text = 78 ∷ 53 ∷ 51 ∷ 0 ∷ 0 ∷ 0 ∷ 0 ∷ 0 ∷ 0 ∷ 0 ∷ 0 ∷ 0 ∷ 0 ∷ 0 ∷ 0 ∷ 0 ∷ [];
+  whole = refl;
+  short =
+      omega arith;
+  zeros = refl;
+}
 
 l_N54 : Label
-l_N54 = record { len = 3; text = 78 ∷ 53 ∷ 52 ∷ 0 ∷ 0 ∷ 0 ∷ 0 ∷ 0 ∷ 0 ∷ 0 ∷ 0 ∷ 0 ∷ 0 ∷ 0 ∷ 0 ∷ 0 ∷ []; whole = refl; short = omega arith; zeros = refl }
+l_N54 = record {
+  len = 3;
+  text = 78 ∷ 53 ∷ 52 ∷ 0 ∷ 0 ∷ 0 ∷ 0 ∷ 0 ∷ 0 ∷ 0 ∷ 0 ∷ 0 ∷ 0 ∷ 0 ∷ 0 ∷ 0 ∷ [];
+  whole = refl;
+  short =
+      omega arith;
+  zeros = refl;
+}
 
 l_N55 : Label
-l_N55 = record { len = 3; text = 78 ∷ 53 ∷ 53 ∷ 0 ∷ 0 ∷ 0 ∷ 0 ∷ 0 ∷ 0 ∷ 0 ∷ 0 ∷ 0 ∷ 0 ∷ 0 ∷ 0 ∷ 0 ∷ []; whole = refl; short = omega arith; zeros = refl }
+l_N55 = record {
+  len = 3;
+  text = 78 ∷ 53 ∷ 53 ∷ 0 ∷ 0 ∷ 0 ∷ 0 ∷ 0 ∷ 0 ∷ 0 ∷ 0 ∷ 0 ∷ 0 ∷ 0 ∷ 0 ∷ 0 ∷ [];
+  whole = refl;
+  short =
+      omega arith;
+  zeros = refl;
+}
 
 l_N56 : Label
-l_N56 = record { len = 3; text = 78 ∷ 53 ∷ 54 ∷ 0 ∷ 0 ∷ 0 ∷ 0 ∷ 0 ∷ 0 ∷ 0 ∷ 0 ∷ 0 ∷ 0 ∷ 0 ∷ 0 ∷ 0 ∷ []; whole = refl; short = omega arith; zeros = refl }
+l_N56 = record {
+  len = 3;
+  text = 78 ∷ 53 ∷ 54 ∷ 0 ∷ 0 ∷ 0 ∷ 0 ∷ 0 ∷ 0 ∷ 0 ∷ 0 ∷ 0 ∷ 0 ∷ 0 ∷ 0 ∷ 0 ∷ [];
+  whole = refl;
+  short =
+      omega arith;
+  zeros = refl;
+}
 
 l_N57 : Label
-l_N57 = record { len = 3; text = 78 ∷ 53 ∷ 55 ∷ 0 ∷ 0 ∷ 0 ∷ 0 ∷ 0 ∷ 0 ∷ 0 ∷ 0 ∷ 0 ∷ 0 ∷ 0 ∷ 0 ∷ 0 ∷ []; whole = refl; short = omega arith; zeros = refl }
+l_N57 = record {
+  len = 3;
+  text = 78 ∷ 53 ∷ 55 ∷ 0 ∷ 0 ∷ 0 ∷ 0 ∷ 0 ∷ 0 ∷ 0 ∷ 0 ∷ 0 ∷ 0 ∷ 0 ∷ 0 ∷ 0 ∷ [];
+  whole = refl;
+  short =
+      omega arith;
+  zeros = refl;
+}
 
 l_N58 : Label
-l_N58 = record { len = 3; text = 78 ∷ 53 ∷ 56 ∷ 0 ∷ 0 ∷ 0 ∷ 0 ∷ 0 ∷ 0 ∷ 0 ∷ 0 ∷ 0 ∷ 0 ∷ 0 ∷ 0 ∷ 0 ∷ []; whole = refl; short = omega arith; zeros = refl }
+l_N58 = record {
+  len = 3;
+  text = 78 ∷ 53 ∷ 56 ∷ 0 ∷ 0 ∷ 0 ∷ 0 ∷ 0 ∷ 0 ∷ 0 ∷ 0 ∷ 0 ∷ 0 ∷ 0 ∷ 0 ∷ 0 ∷ [];
+  whole = refl;
+  short =
+      omega arith;
+  zeros = refl;
+}
 
 l_N59 : Label
-l_N59 = record { len = 3; text = 78 ∷ 53 ∷ 57 ∷ 0 ∷ 0 ∷ 0 ∷ 0 ∷ 0 ∷ 0 ∷ 0 ∷ 0 ∷ 0 ∷ 0 ∷ 0 ∷ 0 ∷ 0 ∷ []; whole = refl; short = omega arith; zeros = refl }
+l_N59 = record {
+  len = 3;
+  text = 78 ∷ 53 ∷ 57 ∷ 0 ∷ 0 ∷ 0 ∷ 0 ∷ 0 ∷ 0 ∷ 0 ∷ 0 ∷ 0 ∷ 0 ∷ 0 ∷ 0 ∷ 0 ∷ [];
+  whole = refl;
+  short =
+      omega arith;
+  zeros = refl;
+}
 
 l_N60 : Label
-l_N60 = record { len = 3; text = 78 ∷ 54 ∷ 48 ∷ 0 ∷ 0 ∷ 0 ∷ 0 ∷ 0 ∷ 0 ∷ 0 ∷ 0 ∷ 0 ∷ 0 ∷ 0 ∷ 0 ∷ 0 ∷ []; whole = refl; short = omega arith; zeros = refl }
+l_N60 = record {
+  len = 3;
+  text = 78 ∷ 54 ∷ 48 ∷ 0 ∷ 0 ∷ 0 ∷ 0 ∷ 0 ∷ 0 ∷ 0 ∷ 0 ∷ 0 ∷ 0 ∷ 0 ∷ 0 ∷ 0 ∷ [];
+  whole = refl;
+  short =
+      omega arith;
+  zeros = refl;
+}
 
 l_N61 : Label
-l_N61 = record { len = 3; text = 78 ∷ 54 ∷ 49 ∷ 0 ∷ 0 ∷ 0 ∷ 0 ∷ 0 ∷ 0 ∷ 0 ∷ 0 ∷ 0 ∷ 0 ∷ 0 ∷ 0 ∷ 0 ∷ []; whole = refl; short = omega arith; zeros = refl }
+l_N61 = record {
+  len = 3;
+  text = 78 ∷ 54 ∷ 49 ∷ 0 ∷ 0 ∷ 0 ∷ 0 ∷ 0 ∷ 0 ∷ 0 ∷ 0 ∷ 0 ∷ 0 ∷ 0 ∷ 0 ∷ 0 ∷ [];
+  whole = refl;
+  short =
+      omega arith;
+  zeros = refl;
+}
 
 l_N62 : Label
-l_N62 = record { len = 3; text = 78 ∷ 54 ∷ 50 ∷ 0 ∷ 0 ∷ 0 ∷ 0 ∷ 0 ∷ 0 ∷ 0 ∷ 0 ∷ 0 ∷ 0 ∷ 0 ∷ 0 ∷ 0 ∷ []; whole = refl; short = omega arith; zeros = refl }
+l_N62 = record {
+  len = 3;
+  text = 78 ∷ 54 ∷ 50 ∷ 0 ∷ 0 ∷ 0 ∷ 0 ∷ 0 ∷ 0 ∷ 0 ∷ 0 ∷ 0 ∷ 0 ∷ 0 ∷ 0 ∷ 0 ∷ [];
+  whole = refl;
+  short =
+      omega arith;
+  zeros = refl;
+}
 
 l_N63 : Label
-l_N63 = record { len = 3; text = 78 ∷ 54 ∷ 51 ∷ 0 ∷ 0 ∷ 0 ∷ 0 ∷ 0 ∷ 0 ∷ 0 ∷ 0 ∷ 0 ∷ 0 ∷ 0 ∷ 0 ∷ 0 ∷ []; whole = refl; short = omega arith; zeros = refl }
+l_N63 = record {
+  len = 3;
+  text = 78 ∷ 54 ∷ 51 ∷ 0 ∷ 0 ∷ 0 ∷ 0 ∷ 0 ∷ 0 ∷ 0 ∷ 0 ∷ 0 ∷ 0 ∷ 0 ∷ 0 ∷ 0 ∷ [];
+  whole = refl;
+  short =
+      omega arith;
+  zeros = refl;
+}
 
 l_N64 : Label
-l_N64 = record { len = 3; text = 78 ∷ 54 ∷ 52 ∷ 0 ∷ 0 ∷ 0 ∷ 0 ∷ 0 ∷ 0 ∷ 0 ∷ 0 ∷ 0 ∷ 0 ∷ 0 ∷ 0 ∷ 0 ∷ []; whole = refl; short = omega arith; zeros = refl }
+l_N64 = record {
+  len = 3;
+  text = 78 ∷ 54 ∷ 52 ∷ 0 ∷ 0 ∷ 0 ∷ 0 ∷ 0 ∷ 0 ∷ 0 ∷ 0 ∷ 0 ∷ 0 ∷ 0 ∷ 0 ∷ 0 ∷ [];
+  whole = refl;
+  short =
+      omega arith;
+  zeros = refl;
+}
 
 l_N65 : Label
-l_N65 = record { len = 3; text = 78 ∷ 54 ∷ 53 ∷ 0 ∷ 0 ∷ 0 ∷ 0 ∷ 0 ∷ 0 ∷ 0 ∷ 0 ∷ 0 ∷ 0 ∷ 0 ∷ 0 ∷ 0 ∷ []; whole = refl; short = omega arith; zeros = refl }
+l_N65 = record {
+  len = 3;
+  text = 78 ∷ 54 ∷ 53 ∷ 0 ∷ 0 ∷ 0 ∷ 0 ∷ 0 ∷ 0 ∷ 0 ∷ 0 ∷ 0 ∷ 0 ∷ 0 ∷ 0 ∷ 0 ∷ [];
+  whole = refl;
+  short =
+      omega arith;
+  zeros = refl;
+}
 
 header_refusals : Header
 header_refusals = record { nodes = 1; objects = [] }
@@ -442,7 +1037,130 @@ unfolding u b does stops at text header_many_actions script_many_actions l_A l_N
 many_actions = refl
 
 header_many_objects : Header
-header_many_objects = record { nodes = 1; objects = record { x = 1; value = (value.Counter 0); servers = 1 ∷ []; stores = 1 ∷ [] } ∷ record { x = 2; value = (value.Counter 0); servers = 1 ∷ []; stores = 1 ∷ [] } ∷ record { x = 3; value = (value.Counter 0); servers = 1 ∷ []; stores = 1 ∷ [] } ∷ record { x = 4; value = (value.Counter 0); servers = 1 ∷ []; stores = 1 ∷ [] } ∷ record { x = 5; value = (value.Counter 0); servers = 1 ∷ []; stores = 1 ∷ [] } ∷ record { x = 6; value = (value.Counter 0); servers = 1 ∷ []; stores = 1 ∷ [] } ∷ record { x = 7; value = (value.Counter 0); servers = 1 ∷ []; stores = 1 ∷ [] } ∷ record { x = 8; value = (value.Counter 0); servers = 1 ∷ []; stores = 1 ∷ [] } ∷ record { x = 9; value = (value.Counter 0); servers = 1 ∷ []; stores = 1 ∷ [] } ∷ record { x = 10; value = (value.Counter 0); servers = 1 ∷ []; stores = 1 ∷ [] } ∷ record { x = 11; value = (value.Counter 0); servers = 1 ∷ []; stores = 1 ∷ [] } ∷ record { x = 12; value = (value.Counter 0); servers = 1 ∷ []; stores = 1 ∷ [] } ∷ record { x = 13; value = (value.Counter 0); servers = 1 ∷ []; stores = 1 ∷ [] } ∷ record { x = 14; value = (value.Counter 0); servers = 1 ∷ []; stores = 1 ∷ [] } ∷ record { x = 15; value = (value.Counter 0); servers = 1 ∷ []; stores = 1 ∷ [] } ∷ record { x = 16; value = (value.Counter 0); servers = 1 ∷ []; stores = 1 ∷ [] } ∷ record { x = 17; value = (value.Counter 0); servers = 1 ∷ []; stores = 1 ∷ [] } ∷ [] }
+header_many_objects =
+    record {
+      nodes = 1;
+      objects =
+          record { x = 1; value = (value.Counter 0); servers = 1 ∷ []; stores = 1 ∷ [] } ∷ record {
+            x = 2;
+            value = (value.Counter 0);
+            servers =
+                1 ∷ [];
+            stores =
+                1 ∷ [];
+          } ∷ record {
+            x =
+                3;
+            value = (value.Counter 0);
+            servers =
+                1 ∷ [];
+            stores =
+                1 ∷ [];
+          } ∷ record {
+            x =
+                4;
+            value = (value.Counter 0);
+            servers =
+                1 ∷ [];
+            stores =
+                1 ∷ [];
+          } ∷ record {
+            x =
+                5;
+            value = (value.Counter 0);
+            servers =
+                1 ∷ [];
+            stores =
+                1 ∷ [];
+          } ∷ record {
+            x =
+                6;
+            value = (value.Counter 0);
+            servers =
+                1 ∷ [];
+            stores =
+                1 ∷ [];
+          } ∷ record {
+            x =
+                7;
+            value = (value.Counter 0);
+            servers =
+                1 ∷ [];
+            stores =
+                1 ∷ [];
+          } ∷ record {
+            x =
+                8;
+            value = (value.Counter 0);
+            servers =
+                1 ∷ [];
+            stores =
+                1 ∷ [];
+          } ∷ record {
+            x =
+                9;
+            value = (value.Counter 0);
+            servers =
+                1 ∷ [];
+            stores =
+                1 ∷ [];
+          } ∷ record {
+            x =
+                10;
+            value = (value.Counter 0);
+            servers =
+                1 ∷ [];
+            stores =
+                1 ∷ [];
+          } ∷ record {
+            x =
+                11;
+            value = (value.Counter 0);
+            servers =
+                1 ∷ [];
+            stores =
+                1 ∷ [];
+          } ∷ record {
+            x =
+                12;
+            value = (value.Counter 0);
+            servers =
+                1 ∷ [];
+            stores =
+                1 ∷ [];
+          } ∷ record {
+            x =
+                13;
+            value = (value.Counter 0);
+            servers =
+                1 ∷ [];
+            stores =
+                1 ∷ [];
+          } ∷ record {
+            x =
+                14;
+            value = (value.Counter 0);
+            servers =
+                1 ∷ [];
+            stores =
+                1 ∷ [];
+          } ∷ record {
+            x =
+                15;
+            value = (value.Counter 0);
+            servers =
+                1 ∷ [];
+            stores =
+                1 ∷ [];
+          } ∷ record {
+            x =
+                16;
+            value = (value.Counter 0);
+            servers =
+                1 ∷ [];
+            stores = 1 ∷ [];
+          } ∷ record { x = 17; value = (value.Counter 0); servers = 1 ∷ []; stores = 1 ∷ [] } ∷ [];
+    }
 
 script_many_objects : List Asked
 script_many_objects =

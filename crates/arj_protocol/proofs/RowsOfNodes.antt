@@ -39,25 +39,74 @@ text : Answer → List ℕ
 text a = answer_text a
 
 l_A : Label
-l_A = record { len = 1; text = 65 ∷ 0 ∷ 0 ∷ 0 ∷ 0 ∷ 0 ∷ 0 ∷ 0 ∷ 0 ∷ 0 ∷ 0 ∷ 0 ∷ 0 ∷ 0 ∷ 0 ∷ 0 ∷ []; whole = refl; short = omega arith; zeros = refl }
+l_A = record {
+  len = 1;
+  text = 65 ∷ 0 ∷ 0 ∷ 0 ∷ 0 ∷ 0 ∷ 0 ∷ 0 ∷ 0 ∷ 0 ∷ 0 ∷ 0 ∷ 0 ∷ 0 ∷ 0 ∷ 0 ∷ [];
+  whole = refl;
+  short =
+      omega arith;
+  zeros = refl;
+}
 
 l_N : Label
-l_N = record { len = 1; text = 78 ∷ 0 ∷ 0 ∷ 0 ∷ 0 ∷ 0 ∷ 0 ∷ 0 ∷ 0 ∷ 0 ∷ 0 ∷ 0 ∷ 0 ∷ 0 ∷ 0 ∷ 0 ∷ []; whole = refl; short = omega arith; zeros = refl }
+l_N = record {
+  len = 1;
+  text = 78 ∷ 0 ∷ 0 ∷ 0 ∷ 0 ∷ 0 ∷ 0 ∷ 0 ∷ 0 ∷ 0 ∷ 0 ∷ 0 ∷ 0 ∷ 0 ∷ 0 ∷ 0 ∷ [];
+  whole = refl;
+  short =
+      omega arith;
+  zeros = refl;
+}
 
 l_M : Label
-l_M = record { len = 1; text = 77 ∷ 0 ∷ 0 ∷ 0 ∷ 0 ∷ 0 ∷ 0 ∷ 0 ∷ 0 ∷ 0 ∷ 0 ∷ 0 ∷ 0 ∷ 0 ∷ 0 ∷ 0 ∷ []; whole = refl; short = omega arith; zeros = refl }
+l_M = record {
+  len = 1;
+  text = 77 ∷ 0 ∷ 0 ∷ 0 ∷ 0 ∷ 0 ∷ 0 ∷ 0 ∷ 0 ∷ 0 ∷ 0 ∷ 0 ∷ 0 ∷ 0 ∷ 0 ∷ 0 ∷ [];
+  whole = refl;
+  short =
+      omega arith;
+  zeros = refl;
+}
 
 l_B : Label
-l_B = record { len = 1; text = 66 ∷ 0 ∷ 0 ∷ 0 ∷ 0 ∷ 0 ∷ 0 ∷ 0 ∷ 0 ∷ 0 ∷ 0 ∷ 0 ∷ 0 ∷ 0 ∷ 0 ∷ 0 ∷ []; whole = refl; short = omega arith; zeros = refl }
+l_B = record {
+  len = 1;
+  text = 66 ∷ 0 ∷ 0 ∷ 0 ∷ 0 ∷ 0 ∷ 0 ∷ 0 ∷ 0 ∷ 0 ∷ 0 ∷ 0 ∷ 0 ∷ 0 ∷ 0 ∷ 0 ∷ [];
+  whole = refl;
+  short =
+      omega arith;
+  zeros = refl;
+}
 
 l_I : Label
-l_I = record { len = 1; text = 73 ∷ 0 ∷ 0 ∷ 0 ∷ 0 ∷ 0 ∷ 0 ∷ 0 ∷ 0 ∷ 0 ∷ 0 ∷ 0 ∷ 0 ∷ 0 ∷ 0 ∷ 0 ∷ []; whole = refl; short = omega arith; zeros = refl }
+l_I = record {
+  len = 1;
+  text = 73 ∷ 0 ∷ 0 ∷ 0 ∷ 0 ∷ 0 ∷ 0 ∷ 0 ∷ 0 ∷ 0 ∷ 0 ∷ 0 ∷ 0 ∷ 0 ∷ 0 ∷ 0 ∷ [];
+  whole = refl;
+  short =
+      omega arith;
+  zeros = refl;
+}
 
 l_J : Label
-l_J = record { len = 1; text = 74 ∷ 0 ∷ 0 ∷ 0 ∷ 0 ∷ 0 ∷ 0 ∷ 0 ∷ 0 ∷ 0 ∷ 0 ∷ 0 ∷ 0 ∷ 0 ∷ 0 ∷ 0 ∷ []; whole = refl; short = omega arith; zeros = refl }
+l_J = record {
+  len = 1;
+  text = 74 ∷ 0 ∷ 0 ∷ 0 ∷ 0 ∷ 0 ∷ 0 ∷ 0 ∷ 0 ∷ 0 ∷ 0 ∷ 0 ∷ 0 ∷ 0 ∷ 0 ∷ 0 ∷ [];
+  whole = refl;
+  short =
+      omega arith;
+  zeros = refl;
+}
 
 l_K : Label
-l_K = record { len = 1; text = 75 ∷ 0 ∷ 0 ∷ 0 ∷ 0 ∷ 0 ∷ 0 ∷ 0 ∷ 0 ∷ 0 ∷ 0 ∷ 0 ∷ 0 ∷ 0 ∷ 0 ∷ 0 ∷ []; whole = refl; short = omega arith; zeros = refl }
+l_K = record {
+  len = 1;
+  text = 75 ∷ 0 ∷ 0 ∷ 0 ∷ 0 ∷ 0 ∷ 0 ∷ 0 ∷ 0 ∷ 0 ∷ 0 ∷ 0 ∷ 0 ∷ 0 ∷ 0 ∷ 0 ∷ [];
+  whole = refl;
+  short =
+      omega arith;
+  zeros = refl;
+}
 
 header_repeat : Header
 header_repeat = record { nodes = 2; objects = record { x = 1; value = (value.Counter 0); servers = 2 ∷ []; stores = 1 ∷ [] } ∷ [] }
@@ -138,7 +187,8 @@ unfolding u b does stops at text header_exclusion script_exclusion l_A
 exclusion = refl
 
 header_no_store_left : Header
-header_no_store_left = record { nodes = 3; objects = record { x = 1; value = (value.Counter 0); servers = 1 ∷ []; stores = 2 ∷ 3 ∷ [] } ∷ [] }
+header_no_store_left =
+    record { nodes = 3; objects = record { x = 1; value = (value.Counter 0); servers = 1 ∷ []; stores = 2 ∷ 3 ∷ [] } ∷ [] }
 
 script_no_store_left : List Asked
 script_no_store_left =
@@ -217,7 +267,8 @@ unfolding u b does stops at text header_inclusion script_inclusion l_A l_I l_J
 inclusion = refl
 
 header_sibling_waits : Header
-header_sibling_waits = record { nodes = 3; objects = record { x = 1; value = (value.Counter 0); servers = 2 ∷ 3 ∷ []; stores = 1 ∷ [] } ∷ [] }
+header_sibling_waits =
+    record { nodes = 3; objects = record { x = 1; value = (value.Counter 0); servers = 2 ∷ 3 ∷ []; stores = 1 ∷ [] } ∷ [] }
 
 script_sibling_waits : List Asked
 script_sibling_waits =
@@ -259,7 +310,8 @@ unfolding u b does stops at text header_lost_load script_lost_load l_A
 lost_load = refl
 
 header_all_frames_again : Header
-header_all_frames_again = record { nodes = 3; objects = record { x = 1; value = (value.Counter 0); servers = 1 ∷ []; stores = 2 ∷ 3 ∷ [] } ∷ [] }
+header_all_frames_again =
+    record { nodes = 3; objects = record { x = 1; value = (value.Counter 0); servers = 1 ∷ []; stores = 2 ∷ 3 ∷ [] } ∷ [] }
 
 script_all_frames_again : List Asked
 script_all_frames_again =

@@ -37,25 +37,74 @@ text : Answer → List ℕ
 text a = answer_text a
 
 l_A : Label
-l_A = record { len = 1; text = 65 ∷ 0 ∷ 0 ∷ 0 ∷ 0 ∷ 0 ∷ 0 ∷ 0 ∷ 0 ∷ 0 ∷ 0 ∷ 0 ∷ 0 ∷ 0 ∷ 0 ∷ 0 ∷ []; whole = refl; short = omega arith; zeros = refl }
+l_A = record {
+  len = 1;
+  text = 65 ∷ 0 ∷ 0 ∷ 0 ∷ 0 ∷ 0 ∷ 0 ∷ 0 ∷ 0 ∷ 0 ∷ 0 ∷ 0 ∷ 0 ∷ 0 ∷ 0 ∷ 0 ∷ [];
+  whole = refl;
+  short =
+      omega arith;
+  zeros = refl;
+}
 
 l_B : Label
-l_B = record { len = 1; text = 66 ∷ 0 ∷ 0 ∷ 0 ∷ 0 ∷ 0 ∷ 0 ∷ 0 ∷ 0 ∷ 0 ∷ 0 ∷ 0 ∷ 0 ∷ 0 ∷ 0 ∷ 0 ∷ []; whole = refl; short = omega arith; zeros = refl }
+l_B = record {
+  len = 1;
+  text = 66 ∷ 0 ∷ 0 ∷ 0 ∷ 0 ∷ 0 ∷ 0 ∷ 0 ∷ 0 ∷ 0 ∷ 0 ∷ 0 ∷ 0 ∷ 0 ∷ 0 ∷ 0 ∷ [];
+  whole = refl;
+  short =
+      omega arith;
+  zeros = refl;
+}
 
 l_N : Label
-l_N = record { len = 1; text = 78 ∷ 0 ∷ 0 ∷ 0 ∷ 0 ∷ 0 ∷ 0 ∷ 0 ∷ 0 ∷ 0 ∷ 0 ∷ 0 ∷ 0 ∷ 0 ∷ 0 ∷ 0 ∷ []; whole = refl; short = omega arith; zeros = refl }
+l_N = record {
+  len = 1;
+  text = 78 ∷ 0 ∷ 0 ∷ 0 ∷ 0 ∷ 0 ∷ 0 ∷ 0 ∷ 0 ∷ 0 ∷ 0 ∷ 0 ∷ 0 ∷ 0 ∷ 0 ∷ 0 ∷ [];
+  whole = refl;
+  short =
+      omega arith;
+  zeros = refl;
+}
 
 l_C : Label
-l_C = record { len = 1; text = 67 ∷ 0 ∷ 0 ∷ 0 ∷ 0 ∷ 0 ∷ 0 ∷ 0 ∷ 0 ∷ 0 ∷ 0 ∷ 0 ∷ 0 ∷ 0 ∷ 0 ∷ 0 ∷ []; whole = refl; short = omega arith; zeros = refl }
+l_C = record {
+  len = 1;
+  text = 67 ∷ 0 ∷ 0 ∷ 0 ∷ 0 ∷ 0 ∷ 0 ∷ 0 ∷ 0 ∷ 0 ∷ 0 ∷ 0 ∷ 0 ∷ 0 ∷ 0 ∷ 0 ∷ [];
+  whole = refl;
+  short =
+      omega arith;
+  zeros = refl;
+}
 
 l_D : Label
-l_D = record { len = 1; text = 68 ∷ 0 ∷ 0 ∷ 0 ∷ 0 ∷ 0 ∷ 0 ∷ 0 ∷ 0 ∷ 0 ∷ 0 ∷ 0 ∷ 0 ∷ 0 ∷ 0 ∷ 0 ∷ []; whole = refl; short = omega arith; zeros = refl }
+l_D = record {
+  len = 1;
+  text = 68 ∷ 0 ∷ 0 ∷ 0 ∷ 0 ∷ 0 ∷ 0 ∷ 0 ∷ 0 ∷ 0 ∷ 0 ∷ 0 ∷ 0 ∷ 0 ∷ 0 ∷ 0 ∷ [];
+  whole = refl;
+  short =
+      omega arith;
+  zeros = refl;
+}
 
 l_T : Label
-l_T = record { len = 1; text = 84 ∷ 0 ∷ 0 ∷ 0 ∷ 0 ∷ 0 ∷ 0 ∷ 0 ∷ 0 ∷ 0 ∷ 0 ∷ 0 ∷ 0 ∷ 0 ∷ 0 ∷ 0 ∷ []; whole = refl; short = omega arith; zeros = refl }
+l_T = record {
+  len = 1;
+  text = 84 ∷ 0 ∷ 0 ∷ 0 ∷ 0 ∷ 0 ∷ 0 ∷ 0 ∷ 0 ∷ 0 ∷ 0 ∷ 0 ∷ 0 ∷ 0 ∷ 0 ∷ 0 ∷ [];
+  whole = refl;
+  short =
+      omega arith;
+  zeros = refl;
+}
 
 l_S : Label
-l_S = record { len = 1; text = 83 ∷ 0 ∷ 0 ∷ 0 ∷ 0 ∷ 0 ∷ 0 ∷ 0 ∷ 0 ∷ 0 ∷ 0 ∷ 0 ∷ 0 ∷ 0 ∷ 0 ∷ 0 ∷ []; whole = refl; short = omega arith; zeros = refl }
+l_S = record {
+  len = 1;
+  text = 83 ∷ 0 ∷ 0 ∷ 0 ∷ 0 ∷ 0 ∷ 0 ∷ 0 ∷ 0 ∷ 0 ∷ 0 ∷ 0 ∷ 0 ∷ 0 ∷ 0 ∷ 0 ∷ [];
+  whole = refl;
+  short =
+      omega arith;
+  zeros = refl;
+}
 
 header_empty : Header
 header_empty = record { nodes = 1; objects = record { x = 1; value = (value.Counter 0); servers = 1 ∷ []; stores = 1 ∷ [] } ∷ [] }
@@ -110,7 +159,8 @@ unfolding u b does stops at text header_conflict script_conflict l_A l_B
 conflict = refl
 
 header_types_end : Header
-header_types_end = record { nodes = 1; objects = record { x = 1; value = (value.Counter 18446744073709551615); servers = 1 ∷ []; stores = 1 ∷ [] } ∷ [] }
+header_types_end =
+    record { nodes = 1; objects = record { x = 1; value = (value.Counter 18446744073709551615); servers = 1 ∷ []; stores = 1 ∷ [] } ∷ [] }
 
 script_types_end : List Asked
 script_types_end =

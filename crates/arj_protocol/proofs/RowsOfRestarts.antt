@@ -41,16 +41,44 @@ text : Answer → List ℕ
 text a = answer_text a
 
 l_A : Label
-l_A = record { len = 1; text = 65 ∷ 0 ∷ 0 ∷ 0 ∷ 0 ∷ 0 ∷ 0 ∷ 0 ∷ 0 ∷ 0 ∷ 0 ∷ 0 ∷ 0 ∷ 0 ∷ 0 ∷ 0 ∷ []; whole = refl; short = omega arith; zeros = refl }
+l_A = record {
+  len = 1;
+  text = 65 ∷ 0 ∷ 0 ∷ 0 ∷ 0 ∷ 0 ∷ 0 ∷ 0 ∷ 0 ∷ 0 ∷ 0 ∷ 0 ∷ 0 ∷ 0 ∷ 0 ∷ 0 ∷ [];
+  whole = refl;
+  short =
+      omega arith;
+  zeros = refl;
+}
 
 l_B : Label
-l_B = record { len = 1; text = 66 ∷ 0 ∷ 0 ∷ 0 ∷ 0 ∷ 0 ∷ 0 ∷ 0 ∷ 0 ∷ 0 ∷ 0 ∷ 0 ∷ 0 ∷ 0 ∷ 0 ∷ 0 ∷ []; whole = refl; short = omega arith; zeros = refl }
+l_B = record {
+  len = 1;
+  text = 66 ∷ 0 ∷ 0 ∷ 0 ∷ 0 ∷ 0 ∷ 0 ∷ 0 ∷ 0 ∷ 0 ∷ 0 ∷ 0 ∷ 0 ∷ 0 ∷ 0 ∷ 0 ∷ [];
+  whole = refl;
+  short =
+      omega arith;
+  zeros = refl;
+}
 
 l_S : Label
-l_S = record { len = 1; text = 83 ∷ 0 ∷ 0 ∷ 0 ∷ 0 ∷ 0 ∷ 0 ∷ 0 ∷ 0 ∷ 0 ∷ 0 ∷ 0 ∷ 0 ∷ 0 ∷ 0 ∷ 0 ∷ []; whole = refl; short = omega arith; zeros = refl }
+l_S = record {
+  len = 1;
+  text = 83 ∷ 0 ∷ 0 ∷ 0 ∷ 0 ∷ 0 ∷ 0 ∷ 0 ∷ 0 ∷ 0 ∷ 0 ∷ 0 ∷ 0 ∷ 0 ∷ 0 ∷ 0 ∷ [];
+  whole = refl;
+  short =
+      omega arith;
+  zeros = refl;
+}
 
 l_C : Label
-l_C = record { len = 1; text = 67 ∷ 0 ∷ 0 ∷ 0 ∷ 0 ∷ 0 ∷ 0 ∷ 0 ∷ 0 ∷ 0 ∷ 0 ∷ 0 ∷ 0 ∷ 0 ∷ 0 ∷ 0 ∷ []; whole = refl; short = omega arith; zeros = refl }
+l_C = record {
+  len = 1;
+  text = 67 ∷ 0 ∷ 0 ∷ 0 ∷ 0 ∷ 0 ∷ 0 ∷ 0 ∷ 0 ∷ 0 ∷ 0 ∷ 0 ∷ 0 ∷ 0 ∷ 0 ∷ 0 ∷ [];
+  whole = refl;
+  short =
+      omega arith;
+  zeros = refl;
+}
 
 header_lost_lock : Header
 header_lost_lock = record { nodes = 2; objects = record { x = 1; value = (value.Counter 0); servers = 2 ∷ []; stores = 1 ∷ [] } ∷ [] }
@@ -72,7 +100,8 @@ unfolding u b does stops at text header_lost_lock script_lost_lock l_A
 lost_lock = refl
 
 header_naming_stopped : Header
-header_naming_stopped = record { nodes = 4; objects = record { x = 1; value = (value.Counter 0); servers = 2 ∷ []; stores = 3 ∷ 4 ∷ [] } ∷ [] }
+header_naming_stopped =
+    record { nodes = 4; objects = record { x = 1; value = (value.Counter 0); servers = 2 ∷ []; stores = 3 ∷ 4 ∷ [] } ∷ [] }
 
 script_naming_stopped : List Asked
 script_naming_stopped =
@@ -105,7 +134,8 @@ unfolding u b does stops at text header_naming_stopped script_naming_stopped l_A
 naming_stopped = refl
 
 header_serializing_waits_for_records : Header
-header_serializing_waits_for_records = record { nodes = 2; objects = record { x = 1; value = (value.Counter 0); servers = 2 ∷ []; stores = 1 ∷ [] } ∷ [] }
+header_serializing_waits_for_records =
+    record { nodes = 2; objects = record { x = 1; value = (value.Counter 0); servers = 2 ∷ []; stores = 1 ∷ [] } ∷ [] }
 
 script_serializing_waits_for_records : List Asked
 script_serializing_waits_for_records =
@@ -132,7 +162,8 @@ unfolding u b does stops at text header_serializing_waits_for_records script_ser
 serializing_waits_for_records = refl
 
 header_stop_at_decision_undone : Header
-header_stop_at_decision_undone = record { nodes = 3; objects = record { x = 1; value = (value.Counter 0); servers = 1 ∷ []; stores = 2 ∷ 3 ∷ [] } ∷ [] }
+header_stop_at_decision_undone =
+    record { nodes = 3; objects = record { x = 1; value = (value.Counter 0); servers = 1 ∷ []; stores = 2 ∷ 3 ∷ [] } ∷ [] }
 
 script_stop_at_decision_undone : List Asked
 script_stop_at_decision_undone =
@@ -154,7 +185,8 @@ unfolding u b does stops at text header_stop_at_decision_undone script_stop_at_d
 stop_at_decision_undone = refl
 
 header_stop_at_decision_done : Header
-header_stop_at_decision_done = record { nodes = 3; objects = record { x = 1; value = (value.Counter 0); servers = 1 ∷ []; stores = 2 ∷ 3 ∷ [] } ∷ [] }
+header_stop_at_decision_done =
+    record { nodes = 3; objects = record { x = 1; value = (value.Counter 0); servers = 1 ∷ []; stores = 2 ∷ 3 ∷ [] } ∷ [] }
 
 script_stop_at_decision_done : List Asked
 script_stop_at_decision_done =

@@ -38,10 +38,18 @@ text : Answer → List ℕ
 text a = answer_text a
 
 l_A : Label
-l_A = record { len = 1; text = 65 ∷ 0 ∷ 0 ∷ 0 ∷ 0 ∷ 0 ∷ 0 ∷ 0 ∷ 0 ∷ 0 ∷ 0 ∷ 0 ∷ 0 ∷ 0 ∷ 0 ∷ 0 ∷ []; whole = refl; short = omega arith; zeros = refl }
+l_A = record {
+  len = 1;
+  text = 65 ∷ 0 ∷ 0 ∷ 0 ∷ 0 ∷ 0 ∷ 0 ∷ 0 ∷ 0 ∷ 0 ∷ 0 ∷ 0 ∷ 0 ∷ 0 ∷ 0 ∷ 0 ∷ [];
+  whole = refl;
+  short =
+      omega arith;
+  zeros = refl;
+}
 
 header_store_stops_at_read_undone : Header
-header_store_stops_at_read_undone = record { nodes = 3; objects = record { x = 1; value = (value.Counter 0); servers = 1 ∷ []; stores = 2 ∷ 3 ∷ [] } ∷ [] }
+header_store_stops_at_read_undone =
+    record { nodes = 3; objects = record { x = 1; value = (value.Counter 0); servers = 1 ∷ []; stores = 2 ∷ 3 ∷ [] } ∷ [] }
 
 script_store_stops_at_read_undone : List Asked
 script_store_stops_at_read_undone =
@@ -63,7 +71,8 @@ unfolding u b does stops at text header_store_stops_at_read_undone script_store_
 store_stops_at_read_undone = refl
 
 header_store_stops_at_read_done : Header
-header_store_stops_at_read_done = record { nodes = 3; objects = record { x = 1; value = (value.Counter 0); servers = 1 ∷ []; stores = 2 ∷ 3 ∷ [] } ∷ [] }
+header_store_stops_at_read_done =
+    record { nodes = 3; objects = record { x = 1; value = (value.Counter 0); servers = 1 ∷ []; stores = 2 ∷ 3 ∷ [] } ∷ [] }
 
 script_store_stops_at_read_done : List Asked
 script_store_stops_at_read_done =
@@ -85,7 +94,8 @@ unfolding u b does stops at text header_store_stops_at_read_done script_store_st
 store_stops_at_read_done = refl
 
 header_store_stops_at_read_torn : Header
-header_store_stops_at_read_torn = record { nodes = 3; objects = record { x = 1; value = (value.Counter 0); servers = 1 ∷ []; stores = 2 ∷ 3 ∷ [] } ∷ [] }
+header_store_stops_at_read_torn =
+    record { nodes = 3; objects = record { x = 1; value = (value.Counter 0); servers = 1 ∷ []; stores = 2 ∷ 3 ∷ [] } ∷ [] }
 
 script_store_stops_at_read_torn : List Asked
 script_store_stops_at_read_torn =
@@ -107,7 +117,8 @@ unfolding u b does stops at text header_store_stops_at_read_torn script_store_st
 store_stops_at_read_torn = refl
 
 header_store_stops_at_write_undone : Header
-header_store_stops_at_write_undone = record { nodes = 3; objects = record { x = 1; value = (value.Counter 0); servers = 1 ∷ []; stores = 2 ∷ 3 ∷ [] } ∷ [] }
+header_store_stops_at_write_undone =
+    record { nodes = 3; objects = record { x = 1; value = (value.Counter 0); servers = 1 ∷ []; stores = 2 ∷ 3 ∷ [] } ∷ [] }
 
 script_store_stops_at_write_undone : List Asked
 script_store_stops_at_write_undone =
@@ -129,7 +140,8 @@ unfolding u b does stops at text header_store_stops_at_write_undone script_store
 store_stops_at_write_undone = refl
 
 header_store_stops_at_write_done : Header
-header_store_stops_at_write_done = record { nodes = 3; objects = record { x = 1; value = (value.Counter 0); servers = 1 ∷ []; stores = 2 ∷ 3 ∷ [] } ∷ [] }
+header_store_stops_at_write_done =
+    record { nodes = 3; objects = record { x = 1; value = (value.Counter 0); servers = 1 ∷ []; stores = 2 ∷ 3 ∷ [] } ∷ [] }
 
 script_store_stops_at_write_done : List Asked
 script_store_stops_at_write_done =
@@ -151,7 +163,8 @@ unfolding u b does stops at text header_store_stops_at_write_done script_store_s
 store_stops_at_write_done = refl
 
 header_store_stops_at_write_torn : Header
-header_store_stops_at_write_torn = record { nodes = 3; objects = record { x = 1; value = (value.Counter 0); servers = 1 ∷ []; stores = 2 ∷ 3 ∷ [] } ∷ [] }
+header_store_stops_at_write_torn =
+    record { nodes = 3; objects = record { x = 1; value = (value.Counter 0); servers = 1 ∷ []; stores = 2 ∷ 3 ∷ [] } ∷ [] }
 
 script_store_stops_at_write_torn : List Asked
 script_store_stops_at_write_torn =
@@ -173,7 +186,8 @@ unfolding u b does stops at text header_store_stops_at_write_torn script_store_s
 store_stops_at_write_torn = refl
 
 header_store_stops_at_rename_undone : Header
-header_store_stops_at_rename_undone = record { nodes = 3; objects = record { x = 1; value = (value.Counter 0); servers = 1 ∷ []; stores = 2 ∷ 3 ∷ [] } ∷ [] }
+header_store_stops_at_rename_undone =
+    record { nodes = 3; objects = record { x = 1; value = (value.Counter 0); servers = 1 ∷ []; stores = 2 ∷ 3 ∷ [] } ∷ [] }
 
 script_store_stops_at_rename_undone : List Asked
 script_store_stops_at_rename_undone =
@@ -195,7 +209,8 @@ unfolding u b does stops at text header_store_stops_at_rename_undone script_stor
 store_stops_at_rename_undone = refl
 
 header_store_stops_at_rename_torn : Header
-header_store_stops_at_rename_torn = record { nodes = 3; objects = record { x = 1; value = (value.Counter 0); servers = 1 ∷ []; stores = 2 ∷ 3 ∷ [] } ∷ [] }
+header_store_stops_at_rename_torn =
+    record { nodes = 3; objects = record { x = 1; value = (value.Counter 0); servers = 1 ∷ []; stores = 2 ∷ 3 ∷ [] } ∷ [] }
 
 script_store_stops_at_rename_torn : List Asked
 script_store_stops_at_rename_torn =

@@ -4,7 +4,8 @@ use Rattle.arj_protocol.specs.Words.{Message}
 use Rattle.arj_protocol.specs.Effect.{Disk, Effect}
 use Rattle.arj_protocol.specs.Node.{Parts, Handled, Void, Took, handle, taken, is_meant}
 
-pub taken_as : (P : Handled → Type 0) (n : ℕ) (d : Disk) (t : Parts) (from : ℕ) (m : Message) → P (Void []) → P (handle n d t from m) → P (taken n d t from m)
+pub taken_as : (P : Handled → Type 0) (n : ℕ) (d : Disk) (t : Parts) (from : ℕ) (m : Message) → P (Void []) → P (handle n d t from m) →
+    P (taken n d t from m)
 taken_as P n d t from m void handled = by (is_meant t m)
   where
     by : (b : Bool) → P (if b then handle n d t from m else Void [])
@@ -12,7 +13,8 @@ taken_as P n d t from m void handled = by (is_meant t m)
     by false = void
 
 -- what isn't void was handled
-pub taken_took : (n : ℕ) (d : Disk) (t v : Parts) (from : ℕ) (m : Message) (outs : List Effect) → taken n d t from m ≡ Took v outs → handle n d t from m ≡ Took v outs
+pub taken_took : (n : ℕ) (d : Disk) (t v : Parts) (from : ℕ) (m : Message) (outs : List Effect) → taken n d t from m ≡ Took v outs →
+    handle n d t from m ≡ Took v outs
 taken_took n d t v from m outs = by (is_meant t m)
   where
     by : (b : Bool) → (if b then handle n d t from m else Void []) ≡ Took v outs → handle n d t from m ≡ Took v outs

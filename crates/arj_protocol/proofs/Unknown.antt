@@ -17,7 +17,8 @@ use Rattle.arj_protocol.specs.Server as server
 use Rattle.arj_protocol.specs.Server.{Server, apply_ends, end_one, end_new, is_told}
 use Rattle.arj_protocol.specs.Naming as naming
 use Rattle.arj_protocol.specs.Naming.{Naming, loses, loses_row, orphans, end_orphans, told_new, end_locks}
-use Rattle.arj_protocol.specs.Laws.{UnknownToCopy, UnknownToNamed, UnknownToServer, UnknownToNaming, AreUnknownAt, AreOfActions, OnlyEnds, OnlyTold, LeavesCopy}
+use Rattle.arj_protocol.specs.Laws.{UnknownToCopy, UnknownToNamed, UnknownToServer, UnknownToNaming, AreUnknownAt, AreOfActions, OnlyEnds}
+use Rattle.arj_protocol.specs.Laws.{OnlyTold, LeavesCopy}
 use Rattle.arj_protocol.proofs.RowSteps.{not_last, holds_rest, passes_none, drops_none}
 
 -- ---- lists
@@ -33,7 +34,8 @@ pub removes_none : {X : Type 0} (u : Uid) (m : List (Uid × X)) → at_uid u m �
 removes_none u [] none = refl
 removes_none {X} u (e ∷ es) none = by (is_eq (uid_order u e.0)) none (removes_none u es)
   where
-    by : (b : Bool) → cond b (Some e.1) (at_uid u es) ≡ None → (at_uid u es ≡ None → without_uid u es ≡ es) → cond b es (e ∷ without_uid u es) ≡ e ∷ es
+    by : (b : Bool) → cond b (Some e.1) (at_uid u es) ≡ None → (at_uid u es ≡ None → without_uid u es ≡ es) →
+        cond b es (e ∷ without_uid u es) ≡ e ∷ es
     by true none ih = absurd (cc none)
     by false none ih = ap (λ rest. e ∷ rest) (ih none)
 
@@ -71,24 +73,35 @@ copy_stays u ending.Abort c someone k = λ i. record c { stack = none_undone u c
 -- ---- one object at naming
 
 pub named_stays : (u : Uid) (e : End) (o : Named) → uid_eq nobody u ≡ false → UnknownToNamed u o → end_named u e o ≡ o
-named_stays u ending.Commit o someone k = λ i. record o { made = removes_none u o.made k.made i; asked = drops_no_uid u o.asked k.asked i; rows = passes_none u o.rows someone k.locks i }
-named_stays u ending.Abort o someone k = λ i. record o { made = removes_none u o.made k.made i; asked = drops_no_uid u o.asked k.asked i; rows = drops_none u o.rows k.locks i }
+named_stays u ending.Commit o someone k =
+    λ i. record o {
+      made = removes_none u o.made k.made i;
+      asked = drops_no_uid u o.asked k.asked i;
+      rows =
+          passes_none u o.rows someone k.locks i;
+    }
+named_stays u ending.Abort o someone k =
+    λ i. record o { made = removes_none u o.made k.made i; asked = drops_no_uid u o.asked k.asked i; rows = drops_none u o.rows k.locks i }
 
 -- ---- all objects
 
-copies_stay : (u : Uid) (e : End) (m : List (ℕ × Copy)) → uid_eq nobody u ≡ false → AllByRecursion (λ (x : ℕ × Copy). UnknownToCopy u x.1) m → each (λ x. end_copy u e) m ≡ m
+copies_stay : (u : Uid) (e : End) (m : List (ℕ × Copy)) → uid_eq nobody u ≡ false →
+    AllByRecursion (λ (x : ℕ × Copy). UnknownToCopy u x.1) m → each (λ x. end_copy u e) m ≡ m
 copies_stay u e [] someone all = refl
 copies_stay u e (x ∷ xs) someone all = λ i. (x.0, copy_stays u e x.1 someone all.0 i) ∷ copies_stay u e xs someone all.1 i
 
-all_named_stay : (u : Uid) (e : End) (m : List (ℕ × Named)) → uid_eq nobody u ≡ false → AllByRecursion (λ (x : ℕ × Named). UnknownToNamed u x.1) m → each (λ x. end_named u e) m ≡ m
+all_named_stay : (u : Uid) (e : End) (m : List (ℕ × Named)) → uid_eq nobody u ≡ false →
+    AllByRecursion (λ (x : ℕ × Named). UnknownToNamed u x.1) m → each (λ x. end_named u e) m ≡ m
 all_named_stay u e [] someone all = refl
 all_named_stay u e (x ∷ xs) someone all = λ i. (x.0, named_stays u e x.1 someone all.0 i) ∷ all_named_stay u e xs someone all.1 i
 
-copies_have_none : (u : Uid) (m : List (ℕ × Copy)) → AllByRecursion (λ (x : ℕ × Copy). UnknownToCopy u x.1) m → list_any (λ (x : ℕ × Copy). holds u x.1.rows) m ≡ false
+copies_have_none : (u : Uid) (m : List (ℕ × Copy)) → AllByRecursion (λ (x : ℕ × Copy). UnknownToCopy u x.1) m →
+    list_any (λ (x : ℕ × Copy). holds u x.1.rows) m ≡ false
 copies_have_none u [] all = refl
 copies_have_none u (x ∷ xs) all = let k = all.0 in rw k.locks (copies_have_none u xs all.1)
 
-named_have_none : (u : Uid) (m : List (ℕ × Named)) → AllByRecursion (λ (x : ℕ × Named). UnknownToNamed u x.1) m → list_any (λ (x : ℕ × Named). holds u x.1.rows) m ≡ false
+named_have_none : (u : Uid) (m : List (ℕ × Named)) → AllByRecursion (λ (x : ℕ × Named). UnknownToNamed u x.1) m →
+    list_any (λ (x : ℕ × Named). holds u x.1.rows) m ≡ false
 named_have_none u [] all = refl
 named_have_none u (x ∷ xs) all = let k = all.0 in rw k.locks (named_have_none u xs all.1)
 
@@ -97,10 +110,12 @@ named_have_none u (x ∷ xs) all = let k = all.0 in rw k.locks (named_have_none 
 pub NothingTold : Server → Did Server → Type 0
 NothingTold s d = (d.outs ≡ []) × OnlyEnds s d.part
 
-pub unknown_at_server : (n : ℕ) (u : Uid) (e : End) (s : Server) → uid_eq nobody u ≡ false → UnknownToServer u s → ((end_one n u e s).outs ≡ []) × OnlyEnds s (end_one n u e s).part
+pub unknown_at_server : (n : ℕ) (u : Uid) (e : End) (s : Server) → uid_eq nobody u ≡ false → UnknownToServer u s →
+    ((end_one n u e s).outs ≡ []) × OnlyEnds s (end_one n u e s).part
 unknown_at_server n u e s someone k = by (is_told u s)
   where
-    by : (b : Bool) → ((if b then did_nothing s else end_new n u (server.taken_end u e s) s).outs ≡ []) × OnlyEnds s (if b then did_nothing s else end_new n u (server.taken_end u e s) s).part
+    by : (b : Bool) →
+        ((if b then did_nothing s else end_new n u (server.taken_end u e s) s).outs ≡ []) × OnlyEnds s (if b then did_nothing s else end_new n u (server.taken_end u e s) s).part
     by true = (refl, record { inc = refl; objects = refl; kept = refl; voted = refl })
     by false = (
       rw (copies_have_none u s.objects k.objects) refl,
@@ -120,30 +135,38 @@ loses_none u act (r ∷ rows) none =
     let p = holds_rest u r rows none in
     by (is_held_by act r) p.0 (loses_none u act rows p.1)
   where
-    by : (b : Bool) → is_on r.holder u ≡ false → list_any (loses u act) rows ≡ false → ((b && is_on r.holder u) || list_any (loses u act) rows) ≡ false
+    by : (b : Bool) → is_on r.holder u ≡ false → list_any (loses u act) rows ≡ false →
+        ((b && is_on r.holder u) || list_any (loses u act) rows) ≡ false
     by true here ih = rw here ih
     by false here ih = ih
 
-loses_no_row : (u act : Uid) (m : List (ℕ × Named)) → AllByRecursion (λ (x : ℕ × Named). UnknownToNamed u x.1) m → list_any (λ (x : ℕ × Named). list_any (loses u act) x.1.rows) m ≡ false
+loses_no_row : (u act : Uid) (m : List (ℕ × Named)) → AllByRecursion (λ (x : ℕ × Named). UnknownToNamed u x.1) m →
+    list_any (λ (x : ℕ × Named). list_any (loses u act) x.1.rows) m ≡ false
 loses_no_row u act [] all = refl
 loses_no_row u act (x ∷ xs) all = let k = all.0 in rw (loses_none u act x.1.rows k.locks) (loses_no_row u act xs all.1)
 
-no_orphan : (u : Uid) (n : Naming) (acts : List Uid) → AllByRecursion (λ (x : ℕ × Named). UnknownToNamed u x.1) n.objects → filter (λ act. not (uid_eq act u) && loses_row u act n) acts ≡ []
+no_orphan : (u : Uid) (n : Naming) (acts : List Uid) → AllByRecursion (λ (x : ℕ × Named). UnknownToNamed u x.1) n.objects →
+    filter (λ act. not (uid_eq act u) && loses_row u act n) acts ≡ []
 no_orphan u n [] all = refl
 no_orphan u n (a ∷ acts) all = by (not (uid_eq a u)) (loses_no_row u a n.objects all) (no_orphan u n acts all)
   where
-    by : (b : Bool) → loses_row u a n ≡ false → filter (λ act. not (uid_eq act u) && loses_row u act n) acts ≡ [] → cond (b && loses_row u a n) (a ∷ filter (λ act. not (uid_eq act u) && loses_row u act n) acts) (filter (λ act. not (uid_eq act u) && loses_row u act n) acts) ≡ []
+    by : (b : Bool) → loses_row u a n ≡ false → filter (λ act. not (uid_eq act u) && loses_row u act n) acts ≡ [] →
+        cond (b && loses_row u a n) (a ∷ filter (λ act. not (uid_eq act u) && loses_row u act n) acts) (filter (λ act. not (uid_eq act u) && loses_row u act n) acts) ≡ []
     by true none ih = rw none ih
     by false none ih = ih
 
-no_orphans : (u : Uid) (e : End) (d : Pair) (n : Naming) → AllByRecursion (λ (x : ℕ × Named). UnknownToNamed u x.1) n.objects → end_orphans u e d n ≡ []
+no_orphans : (u : Uid) (e : End) (d : Pair) (n : Naming) → AllByRecursion (λ (x : ℕ × Named). UnknownToNamed u x.1) n.objects →
+    end_orphans u e d n ≡ []
 no_orphans u ending.Commit d n all = refl
-no_orphans u ending.Abort d n all = ap (flat_map (λ act. naming.end_entries act ending.Abort)) (no_orphan u n (map (λ (p : Uid × List ObjectState). p.0) d.pend) all)
+no_orphans u ending.Abort d n all =
+    ap (flat_map (λ act. naming.end_entries act ending.Abort)) (no_orphan u n (map (λ (p : Uid × List ObjectState). p.0) d.pend) all)
 
-pub unknown_at_naming : (u : Uid) (e : End) (d : Pair) (n : Naming) → uid_eq nobody u ≡ false → UnknownToNaming u n → is_prepared u d ≡ false → ((naming.told u e d n).outs ≡ []) × OnlyTold n (naming.told u e d n).part
+pub unknown_at_naming : (u : Uid) (e : End) (d : Pair) (n : Naming) → uid_eq nobody u ≡ false → UnknownToNaming u n →
+    is_prepared u d ≡ false → ((naming.told u e d n).outs ≡ []) × OnlyTold n (naming.told u e d n).part
 unknown_at_naming u e d n someone k free = rw free (by (is_on n.told u))
   where
-    by : (b : Bool) → ((if b then did_nothing n else told_new u (naming.taken_end u e n) d n).outs ≡ []) × OnlyTold n (if b then did_nothing n else told_new u (naming.taken_end u e n) d n).part
+    by : (b : Bool) →
+        ((if b then did_nothing n else told_new u (naming.taken_end u e n) d n).outs ≡ []) × OnlyTold n (if b then did_nothing n else told_new u (naming.taken_end u e n) d n).part
     by true = (refl, record { inc = refl; count = refl; objects = refl; confirmed = refl })
     by false = (
       rw (no_orphans u (naming.taken_end u e n) d n k.objects, named_have_none u n.objects k.objects) refl,
@@ -157,7 +180,8 @@ unknown_at_naming u e d n someone k free = rw free (by (is_on n.told u))
 
 -- ---- ends of which an object's part knows nothing
 
-end_leaves : (n x : ℕ) (u : Uid) (e : End) (s : Server) → uid_eq nobody u ≡ false → ((c : Copy) → at_number x s.objects ≡ Some c → UnknownToCopy u c) → LeavesCopy x s (end_one n u e s).part
+end_leaves : (n x : ℕ) (u : Uid) (e : End) (s : Server) → uid_eq nobody u ≡ false →
+    ((c : Copy) → at_number x s.objects ≡ Some c → UnknownToCopy u c) → LeavesCopy x s (end_one n u e s).part
 end_leaves n x u e s someone none = by (is_told u s)
   where
     found : (o : Option Copy) → at_number x s.objects ≡ o → option_map (end_copy u (server.taken_end u e s)) o ≡ o
@@ -172,7 +196,8 @@ same_unknown : (x : ℕ) (s t : Server) (ends : List (Uid × End)) → LeavesCop
 same_unknown x s t [] leaves none = tt
 same_unknown x s t (e ∷ es) leaves none = (λ c is. none.0 c (sym leaves ∙ is), same_unknown x s t es leaves none.1)
 
-pub ends_leave : (n x : ℕ) (ends : List (Uid × End)) (s : Server) → AreOfActions ends → AreUnknownAt x ends s → LeavesCopy x s (apply_ends n ends s).part
+pub ends_leave : (n x : ℕ) (ends : List (Uid × End)) (s : Server) → AreOfActions ends → AreUnknownAt x ends s →
+    LeavesCopy x s (apply_ends n ends s).part
 ends_leave n x [] s someone none = refl
 ends_leave n x (e ∷ es) s someone none =
     let d = end_one n e.0 e.1 s in
@@ -180,5 +205,6 @@ ends_leave n x (e ∷ es) s someone none =
     ends_leave n x es d.part someone.1 (same_unknown x s d.part es first_leaves none.1) ∙ first_leaves
 
 -- an end that was told before
-pub known_at_server : (n : ℕ) (u : Uid) (e : End) (s : Server) → is_told u s ≡ true → ((end_one n u e s).outs ≡ []) × ((end_one n u e s).part ≡ s)
+pub known_at_server : (n : ℕ) (u : Uid) (e : End) (s : Server) → is_told u s ≡ true →
+    ((end_one n u e s).outs ≡ []) × ((end_one n u e s).part ≡ s)
 known_at_server n u e s known = rw known (refl, refl)

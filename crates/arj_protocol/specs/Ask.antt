@@ -1,7 +1,8 @@
 -- Messages as the protocol looks at them: a request is who asks and what, an answer is who had asked and what is
 -- answered; four kinds stand alone.
 use Rattle.std.specs.Prelude.{ℕ, List, [], ◌∷◌, Option, Some, None, take}
-use Rattle.arj_protocol.specs.Words.{Uid, Path, End, uids_of, tops_of, last_uid, Message, Head, Asked, What, Difference, BoundReply, LoadedReply, RecordedReply, InvokedReply, VotedReply, PreparedReply, ConfirmedReply, FrameKind, Ask}
+use Rattle.arj_protocol.specs.Words.{Uid, Path, End, uids_of, tops_of, last_uid, Message, Head, Asked, What, Difference, BoundReply}
+use Rattle.arj_protocol.specs.Words.{LoadedReply, RecordedReply, InvokedReply, VotedReply, PreparedReply, ConfirmedReply, FrameKind, Ask}
 use Rattle.arj_protocol.specs.Words.ask
 use Rattle.arj_protocol.specs.Words.message
 use Rattle.arj_protocol.specs.Words.what

@@ -12,10 +12,14 @@ use Rattle.arj_protocol.specs.Order.{has, binding_eq, is_binding, unbound}
 use Rattle.arj_protocol.specs.Effect.{Effect, Say, Send, Intent, Served, Did}
 use Rattle.arj_protocol.specs.Ask.{Reply, actor, top_of, ask_kind, reply_kind, differs}
 use Rattle.arj_protocol.specs.Tree.{Branch, begun, next_uid, doomed_at, uses_object, root_of, ends_of}
-use Rattle.arj_protocol.specs.Call.{Known, Steps, Goal, Run, Include, CallEnd, Answered, Included, Conflict, Changed, Lost, CallStep, On, Ended, Moved, start, answered, given_up, next_ask, next_node, spoils, has_changed}
-use Rattle.arj_protocol.specs.Commit.{Machine, CommitStep, Stays, Asks, Decides, Aborts, Marked, Plan, plan_of, left_of, waiting, ask_of, nodes_given_up}
+use Rattle.arj_protocol.specs.Call.{Known, Steps, Goal, Run, Include, CallEnd, Answered, Included, Conflict, Changed, Lost, CallStep, On}
+use Rattle.arj_protocol.specs.Call.{Ended, Moved, start, answered, given_up, next_ask, next_node, spoils, has_changed}
+use Rattle.arj_protocol.specs.Commit.{Machine, CommitStep, Stays, Asks, Decides, Aborts, Marked, Plan, plan_of, left_of, waiting, ask_of}
+use Rattle.arj_protocol.specs.Commit.{nodes_given_up}
 use Rattle.arj_protocol.specs.Commit as commit
-use Rattle.arj_protocol.specs.Coord.{Coord, Doing, Now, Idle, Calling, Committing, Root, Keeping, Grant, doing_of, on_doing, root_at, on_root, with_label, keeping_of, with_keeping, with_went, with_said, with_join, with_grant, is_grant_of, retains, is_call, is_free, plan_for}
+use Rattle.arj_protocol.specs.Coord.{Coord, Doing, Now, Idle, Calling, Committing, Root, Keeping, Grant, doing_of, on_doing, root_at}
+use Rattle.arj_protocol.specs.Coord.{on_root, with_label, keeping_of, with_keeping, with_went, with_said, with_join, with_grant}
+use Rattle.arj_protocol.specs.Coord.{is_grant_of, retains, is_call, is_free, plan_for}
 use Rattle.arj_protocol.specs.Ending.{says, ends_with, aborts_with, decide}
 
 -- ---- an action begins
@@ -29,7 +33,11 @@ abbrev pub begin_action : Label → Kind → Option Label → Option Branch → 
 begin_action l k parent above c =
     let u = next_uid c.tree in
     record {
-      part = with_label l u.num (record c { tree = begun k above c.tree; doings = c.doings ++ record { label = l; req = 0; now = Idle; took = [] } ∷ [] });
+      part = with_label l u.num (record c {
+        tree = begun k above c.tree;
+        doings =
+            c.doings ++ record { label = l; req = 0; now = Idle; took = [] } ∷ [];
+      });
       outs = Say (began_line l k u parent) ∷ [];
     }
 
@@ -165,7 +173,10 @@ doomed_by u _ c = c
 -- a call or an include ends: what the root notes, and the line
 abbrev pub ends_call : Steps → CallEnd → Coord → Did Coord
 ends_call s e c = record {
-  part = doomed_by (actor s.path) e (on_root (root_of s.path) (root_heard s e) (on_doing (actor s.path) (λ (d : Doing). record d { now = Idle }) c));
+  part = doomed_by (actor s.path) e (on_root (root_of s.path) (root_heard s e) (on_doing (actor s.path) (λ (d : Doing). record d {
+    now =
+        Idle;
+  }) c));
   outs = says (actor s.path) (end_line s.x s.goal e) c;
 }
 

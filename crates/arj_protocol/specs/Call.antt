@@ -3,7 +3,8 @@
 use Rattle.arj_protocol.specs.Words.ask
 use Rattle.arj_protocol.specs.Words.op
 use Rattle.std.specs.Prelude.{ℕ, Bool, true, false, ◌&&◌, ◌||◌, ◌==◌, nat_lt, if◌then◌else◌, List, [], ◌∷◌, Option, Some, None, unwrap_or}
-use Rattle.arj_protocol.specs.Words.{Uid, Binding, Path, Mode, End, Op, Answer, ObjectState, What, BoundReply, LoadedReply, RecordedReply, InvokedReply, Ask}
+use Rattle.arj_protocol.specs.Words.{Uid, Binding, Path, Mode, End, Op, Answer, ObjectState, What, BoundReply, LoadedReply, RecordedReply}
+use Rattle.arj_protocol.specs.Words.{InvokedReply, Ask}
 use Rattle.arj_protocol.specs.Words.mode
 use Rattle.arj_protocol.specs.Words.what
 use Rattle.arj_protocol.specs.Words.bound
@@ -186,8 +187,10 @@ made_by free k kept (Some at) = bound_by free k at kept
 
 -- naming answered
 abbrev pub bound_answer : Bool → Option Known → BoundReply → Moved
-bound_answer free kept (bound.Live b server i g stores) = bound_by free (live_known b server i g stores) (AtInvoke (live_known b server i g stores) i) kept
-bound_answer free kept (bound.Make b server g stores) = made_by free (made_known b server g stores) kept (load_from (made_known b server g stores) stores)
+bound_answer free kept (bound.Live b server i g stores) =
+    bound_by free (live_known b server i g stores) (AtInvoke (live_known b server i g stores) i) kept
+bound_answer free kept (bound.Make b server g stores) =
+    made_by free (made_known b server g stores) kept (load_from (made_known b server g stores) stores)
 bound_answer free kept (bound.Write g stores) = or_lost kept (load_from (write_known g stores) stores)
 bound_answer free kept (bound.Conflict holder m) = finds kept (Conflict holder m 1)
 
@@ -204,7 +207,8 @@ loaded_answer kept k s g (loaded.InDoubt holder) = finds kept (Conflict holder m
 -- the server took the copy
 abbrev pub activated_by : Known → ℕ → Option Known → Moved
 activated_by k i None = moves None (AtNote k i)
-activated_by k i (Some old) = if binding_eq old.binding k.binding then with_inc i old (AtNote k i) old.inc else moves (Some old) (AtNote k i)
+activated_by k i (Some old) =
+    if binding_eq old.binding k.binding then with_inc i old (AtNote k i) old.inc else moves (Some old) (AtNote k i)
 
 -- the binding is recorded
 abbrev pub recorded_kept : Known → Option Known → Option Known

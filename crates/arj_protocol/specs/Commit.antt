@@ -1,9 +1,11 @@
 -- The commit of a top: votes of the servers, states prepared at the stores, the grants confirmed by naming, the decision.
 -- Each step asks its nodes, and ends when all have answered.
 use Rattle.arj_protocol.specs.Words.ask
-use Rattle.std.specs.Prelude.{ℕ, ◌+◌, Bool, true, false, not, ◌&&◌, ◌||◌, ◌==◌, nat_lt, if◌then◌else◌, List, [], ◌∷◌, ◌++◌, map, filter, find, Option, Some, None, min}
+use Rattle.std.specs.Prelude.{ℕ, ◌+◌, Bool, true, false, not, ◌&&◌, ◌||◌, ◌==◌, nat_lt, if◌then◌else◌, List, [], ◌∷◌, ◌++◌, map, filter}
+use Rattle.std.specs.Prelude.{find, Option, Some, None, min}
 use Rattle.std.specs.List.{flat_map, filter_map, list_any}
-use Rattle.arj_protocol.specs.Words.{Uid, Binding, Path, End, ObjectState, Cause, VotedReply, PreparedReply, ConfirmedReply, uid_eq, object, Ask}
+use Rattle.arj_protocol.specs.Words.{Uid, Binding, Path, End, ObjectState, Cause, VotedReply, PreparedReply, ConfirmedReply, uid_eq, object}
+use Rattle.arj_protocol.specs.Words.{Ask}
 use Rattle.arj_protocol.specs.Words.cause
 use Rattle.arj_protocol.specs.Words.voted
 use Rattle.arj_protocol.specs.Words.prepared
@@ -212,7 +214,8 @@ votes_left (n ∷ ns) p = Stays (Voting p (n ∷ ns))
 
 -- a server answered: its changed states are taken, or the commit aborts
 abbrev pub voted_by : ℕ → List ℕ → Plan → VotedReply → Marked
-voted_by from left p (voted.Yes states) = plainly (votes_left (without_number from left) (record p { changed = with_states states p.changed }))
+voted_by from left p (voted.Yes states) =
+    plainly (votes_left (without_number from left) (record p { changed = with_states states p.changed }))
 voted_by from left p (voted.Changed w) = plainly (Aborts (cause.Changed from (differs w)) p)
 
 -- the answer of the last store ends the step; what is marked by then is what the commit excludes

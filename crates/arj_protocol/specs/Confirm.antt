@@ -1,7 +1,9 @@
 -- What naming does at a Confirm, and what it finds at a restart.
-use Rattle.std.specs.Prelude.{ℕ, Bool, true, false, not, ◌&&◌, ◌||◌, ◌==◌, if◌then◌else◌, List, [], ◌∷◌, ◌++◌, map, filter, find, Option, Some, None, is_some, option_map}
+use Rattle.std.specs.Prelude.{ℕ, Bool, true, false, not, ◌&&◌, ◌||◌, ◌==◌, if◌then◌else◌, List, [], ◌∷◌, ◌++◌, map, filter, find, Option}
+use Rattle.std.specs.Prelude.{Some, None, is_some, option_map}
 use Rattle.std.specs.List.{flat_map, filter_map, list_any, list_all}
-use Rattle.arj_protocol.specs.Words.{Uid, Path, Entry, ObjectState, Row, ConfirmedReply, Mode, uid_eq, entry, entry_payload, is_on, is_listed, with_store, without_store, last_uid, nobody}
+use Rattle.arj_protocol.specs.Words.{Uid, Path, Entry, ObjectState, Row, ConfirmedReply, Mode, uid_eq, entry, entry_payload, is_on}
+use Rattle.arj_protocol.specs.Words.{is_listed, with_store, without_store, last_uid, nobody}
 use Rattle.arj_protocol.specs.Words.mode
 use Rattle.arj_protocol.specs.Words.class
 use Rattle.arj_protocol.specs.Words.body
@@ -9,7 +11,8 @@ use Rattle.arj_protocol.specs.Words.role
 use Rattle.arj_protocol.specs.Words.what
 use Rattle.arj_protocol.specs.Words.confirmed
 use Rattle.arj_protocol.specs.Order.{at_number, put_number, with_uid, next_version}
-use Rattle.arj_protocol.specs.Effect.{Effect, Say, Do, Look, Prepare, Served, Did, Pair, Prep, Ready, Already, Old, InDoubt, held_at, is_prepared, void, reply, either, prepare_answer}
+use Rattle.arj_protocol.specs.Effect.{Effect, Say, Do, Look, Prepare, Served, Did, Pair, Prep, Ready, Already, Old, InDoubt, held_at}
+use Rattle.arj_protocol.specs.Effect.{is_prepared, void, reply, either, prepare_answer}
 use Rattle.arj_protocol.specs.Values.{state_entry}
 use Rattle.arj_protocol.specs.Ask.{top_of}
 use Rattle.arj_protocol.specs.Copy.{row_for}
@@ -53,7 +56,14 @@ same_nodes _ _ = false
 -- the new entry of an object: one version above the old one, written by the top, with these stores
 abbrev pub entry_state : ℕ → Uid → ObjectState → List ℕ → ObjectState
 entry_state x top s stores =
-    record { uid = entry x; class = class.Entry; version = next_version s.version; writer = top; payload = entry_payload (record { servers = (state_entry s).servers; stores = stores }) }
+    record {
+      uid = entry x;
+      class = class.Entry;
+      version = next_version s.version;
+      writer = top;
+      payload =
+          entry_payload (record { servers = (state_entry s).servers; stores = stores });
+    }
 
 -- the new entry of an object, where it differs
 abbrev pub entry_by : ℕ → Uid → ObjectState → List ℕ → Option ObjectState
@@ -66,7 +76,8 @@ entry_after top excluded included x (Some s) = entry_by x top s (stores_after x 
 
 -- the entries that change, by object
 abbrev pub entries_after : Uid → Grants → Marks → Marks → Pair → List ObjectState
-entries_after top grants excluded included d = filter_map (λ (g : ℕ × ℕ). entry_after top excluded included g.0 (held_at (entry g.0) d)) grants
+entries_after top grants excluded included d =
+    filter_map (λ (g : ℕ × ℕ). entry_after top excluded included g.0 (held_at (entry g.0) d)) grants
 
 -- ---- the four checks
 
@@ -127,7 +138,8 @@ checked p grants excluded included d n =
 -- the exclude lock on an entry that is there is granted, with its lines
 abbrev pub lock_in : ℕ → Path → Naming → Option Named → Did Naming
 lock_in x p n None = record { part = n; outs = [] }
-lock_in x p n (Some o) = record { part = record n { objects = put_number x (locked x p mode.Exclude o) n.objects }; outs = lock_lines x p mode.Exclude o }
+lock_in x p n (Some o) =
+    record { part = record n { objects = put_number x (locked x p mode.Exclude o) n.objects }; outs = lock_lines x p mode.Exclude o }
 
 -- the exclude locks, one after another
 abbrev pub lock_all : List ℕ → Path → Naming → Did Naming
@@ -148,9 +160,12 @@ prepared_by top states t Ready = record {
   outs = t.outs ++ Do Look ∷ Do (Prepare role.Names top states) ∷ Say (body.Prepared 1 top role.Names) ∷ [];
   reply = Some confirmed.Yes;
 }
-prepared_by top states t (InDoubt u holder) = record { part = t.part; outs = t.outs ++ Do Look ∷ []; reply = Some (confirmed.Conflict holder mode.Write) }
-prepared_by top states t (Already u) = record { part = t.part; outs = t.outs ++ Do Look ∷ []; reply = Some (confirmed.Conflict top mode.Write) }
-prepared_by top states t (Old u v) = record { part = t.part; outs = t.outs ++ Do Look ∷ []; reply = Some (confirmed.Conflict nobody mode.Write) }
+prepared_by top states t (InDoubt u holder) =
+    record { part = t.part; outs = t.outs ++ Do Look ∷ []; reply = Some (confirmed.Conflict holder mode.Write) }
+prepared_by top states t (Already u) =
+    record { part = t.part; outs = t.outs ++ Do Look ∷ []; reply = Some (confirmed.Conflict top mode.Write) }
+prepared_by top states t (Old u v) =
+    record { part = t.part; outs = t.outs ++ Do Look ∷ []; reply = Some (confirmed.Conflict nobody mode.Write) }
 
 -- where no entry changes nothing is prepared
 abbrev pub confirm_entries : Uid → List ObjectState → Pair → Did Naming → Served Naming ConfirmedReply
@@ -204,7 +219,15 @@ back_lines o = map (λ r. Say (body.Granted 1 (last_uid r.holder) r.object r.mod
 
 -- the naming part of this incarnation, from what the disk says, with the lines of the locks that it gives back
 abbrev pub recovered_naming : ℕ → Pair → Naming
-recovered_naming inc d = record { inc = inc; count = 0; objects = map (named_back d) d.held; confirmed = map (λ (p : Uid × List ObjectState). p.0) d.pend; told = [] }
+recovered_naming inc d =
+    record {
+      inc = inc;
+      count = 0;
+      objects = map (named_back d) d.held;
+      confirmed = map (λ (p : Uid × List ObjectState). p.0) d.pend;
+      told =
+          [];
+    }
 
 -- these lines, object by object
 abbrev pub recovered_lines : Naming → List Effect

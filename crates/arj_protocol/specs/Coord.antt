@@ -1,6 +1,7 @@
 -- The coordinator part of a node: its actions, what each waits for, what each root has sent, heard and keeps, and the
 -- tolds that aren't acknowledged. What a root did and heard are lists, each item once; questions are filters on them.
-use Rattle.std.specs.Prelude.{ℕ, Bool, true, false, not, ◌&&◌, ◌||◌, ◌==◌, nat_lt, if◌then◌else◌, List, [], ◌∷◌, ◌++◌, map, filter, Option, Some, None, unwrap_or, min}
+use Rattle.std.specs.Prelude.{ℕ, Bool, true, false, not, ◌&&◌, ◌||◌, ◌==◌, nat_lt, if◌then◌else◌, List, [], ◌∷◌, ◌++◌, map, filter, Option}
+use Rattle.std.specs.Prelude.{Some, None, unwrap_or, min}
 use Rattle.std.specs.List.{list_any, list_all}
 use Rattle.std.specs.Map.{lookup}
 use Rattle.std.specs.BTreeMap.{insert_entry, is_at}
@@ -8,7 +9,8 @@ use Rattle.arj_protocol.specs.Words.{Uid, Binding, Path, ObjectState, Label, lab
 use Rattle.arj_protocol.specs.Order.{at_number, put_number, number_set, unbound}
 use Rattle.arj_protocol.specs.Effect.{Intent}
 use Rattle.arj_protocol.specs.Ask.{actor}
-use Rattle.arj_protocol.specs.Tree.{Tree, Branch, new_tree, at_place, set_place, branch_of, is_own, is_committed, is_merged, is_spent, root_of, ends_of}
+use Rattle.arj_protocol.specs.Tree.{Tree, Branch, new_tree, at_place, set_place, branch_of, is_own, is_committed, is_merged, is_spent}
+use Rattle.arj_protocol.specs.Tree.{root_of, ends_of}
 use Rattle.arj_protocol.specs.Call.{Known, Steps, Goal, Run, Include}
 use Rattle.arj_protocol.specs.Commit.{Machine, Used, Plan, least_of}
 use Rattle.arj_start.specs.Kinds.{is_constituent}

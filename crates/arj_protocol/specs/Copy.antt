@@ -1,9 +1,12 @@
 -- One object at a server: its active copy, as the state that was activated or last committed here, and over it what the
 -- open actions wrote, the deepest first; and the locks on it. An action's entry is its overlay, and what stands under an
 -- entry is its before-image.
-use Rattle.std.specs.Prelude.{ℕ, Bool, not, ◌&&◌, nat_le, if◌then◌else◌, List, [], ◌∷◌, length, take, filter, find, Option, Some, None, option_map, min}
+use Rattle.std.specs.Prelude.{ℕ, Bool, not, ◌&&◌, nat_le, if◌then◌else◌, List, [], ◌∷◌, length, take, filter, find, Option, Some, None}
+use Rattle.std.specs.Prelude.{option_map, min}
 use Rattle.std.specs.List.{list_any}
-use Rattle.arj_protocol.specs.Words.{Uid, Path, End, Mode, Op, Value, ObjectState, Row, uid_eq, object, uids_of, tops_of, last_uid, front, is_on, grant_row, drop_rows, pass_rows, is_row_of, first_conflict, mode_code, class_of, op_mode, writes, answer_of, value_after, payload_of, Binding, InvokedReply}
+use Rattle.arj_protocol.specs.Words.{Uid, Path, End, Mode, Op, Value, ObjectState, Row, uid_eq, object, uids_of, tops_of, last_uid, front}
+use Rattle.arj_protocol.specs.Words.{is_on, grant_row, drop_rows, pass_rows, is_row_of, first_conflict, mode_code, class_of, op_mode}
+use Rattle.arj_protocol.specs.Words.{writes, answer_of, value_after, payload_of, Binding, InvokedReply}
 use Rattle.arj_protocol.specs.Words.ending
 use Rattle.arj_protocol.specs.Words.body
 use Rattle.arj_protocol.specs.Words.invoked
@@ -32,7 +35,8 @@ pub record Copy : Type 0 where
 
 -- a copy as it is taken: with no overlay and no lock
 abbrev pub taken_copy : Binding → ObjectState → Copy
-taken_copy b s = record { binding = b; base = record { value = state_value s; version = s.version; writer = s.writer }; stack = []; rows = [] }
+taken_copy b s =
+    record { binding = b; base = record { value = state_value s; version = s.version; writer = s.writer }; stack = []; rows = [] }
 
 -- the value in place: that of the deepest overlay, or under all of them
 abbrev pub current : Base → List Over → Value
@@ -117,7 +121,11 @@ wrote p op v stack = if writes op then written (uids_of p) (tops_of p) (value_af
 -- the operation is done in its lock
 abbrev pub run_copy : ℕ → Path → ℕ → Op → Copy → Served Copy InvokedReply
 run_copy n p x op c = record {
-  part = record c { stack = wrote p op (current c.base c.stack) c.stack; rows = rows_asked (row_for (object x) (uids_of p) (tops_of p) (op_mode op)) c.rows };
+  part = record c {
+    stack = wrote p op (current c.base c.stack) c.stack;
+    rows =
+        rows_asked (row_for (object x) (uids_of p) (tops_of p) (op_mode op)) c.rows;
+  };
   outs = grant_lines n (row_for (object x) (uids_of p) (tops_of p) (op_mode op)) c.rows;
   reply = Some (invoked.Answered (answer_of op (current c.base c.stack)));
 }
@@ -133,4 +141,12 @@ invoke_copy n p x op c = ask_copy n p x op c (first_conflict (uids_of p) (object
 
 -- the state that a top made of the object, where it has an overlay
 abbrev pub changed_state : Uid → ℕ → Copy → Option ObjectState
-changed_state top x c = option_map (λ e. record { uid = object x; class = class_of c.base.value; version = next_version c.base.version; writer = top; payload = payload_of e.value }) (over_of top c.stack)
+changed_state top x c =
+    option_map (λ e. record {
+      uid = object x;
+      class = class_of c.base.value;
+      version = next_version c.base.version;
+      writer = top;
+      payload =
+          payload_of e.value;
+    }) (over_of top c.stack)

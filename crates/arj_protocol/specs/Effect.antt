@@ -1,5 +1,6 @@
 -- What a node does in a step: lines, messages and work on its disk, in order; and what the disk is.
-use Rattle.std.specs.Prelude.{ℕ, Bool, ◌==◌, ◌&&◌, ◌||◌, nat_lt, not, if◌then◌else◌, List, [], ◌∷◌, find, Option, Some, None, is_some, option_map, unwrap_or}
+use Rattle.std.specs.Prelude.{ℕ, Bool, ◌==◌, ◌&&◌, ◌||◌, nat_lt, not, if◌then◌else◌, List, [], ◌∷◌, find, Option, Some, None, is_some}
+use Rattle.std.specs.Prelude.{option_map, unwrap_or}
 use Rattle.std.specs.List.{list_any}
 use Rattle.arj_protocol.specs.Words.{Uid, uid_eq, ObjectState, class_code_of, Role, Body, Message}
 use Rattle.std.specs.Str.{bytes_eq}

@@ -1,5 +1,6 @@
 -- How actions end at their coordinator, who is told, and how tolds are acknowledged and asked for.
-use Rattle.std.specs.Prelude.{ℕ, Bool, true, false, not, ◌&&◌, ◌||◌, if◌then◌else◌, List, [], ◌∷◌, ◌++◌, map, filter, Option, Some, None, is_some}
+use Rattle.std.specs.Prelude.{ℕ, Bool, true, false, not, ◌&&◌, ◌||◌, if◌then◌else◌, List, [], ◌∷◌, ◌++◌, map, filter, Option, Some, None}
+use Rattle.std.specs.Prelude.{is_some}
 use Rattle.std.specs.List.{flat_map, list_any}
 use Rattle.arj_protocol.specs.Words.{Uid, Path, End, Cause, Body, Label, Kind, ObjectState, uid_eq}
 use Rattle.arj_protocol.specs.Words.ending
@@ -14,7 +15,8 @@ use Rattle.arj_protocol.specs.Confirm.{with_stores, without_stores, marked}
 use Rattle.arj_protocol.specs.Tree.{Branch, branch_of, is_open, ended_at, open_below, root_of, ends_of}
 use Rattle.arj_protocol.specs.Call.{Known}
 use Rattle.arj_protocol.specs.Commit.{Plan, participants, has_record, included_of}
-use Rattle.arj_protocol.specs.Coord.{Coord, Doing, Idle, Root, Keeping, doing_of, on_doing, root_at, on_root, nodes_sent, servers_told, is_kept_top}
+use Rattle.arj_protocol.specs.Coord.{Coord, Doing, Idle, Root, Keeping, doing_of, on_doing, root_at, on_root, nodes_sent, servers_told}
+use Rattle.arj_protocol.specs.Coord.{is_kept_top}
 
 -- ---- lines and tolds
 
@@ -52,8 +54,10 @@ is_deferred root intents n = list_any (is_member_of root n) intents
 -- ends. The end of a serializing action is told as an abort of it, and not to nodes that a record of a constituent lists.
 -- An aborted top is told to every node that was sent a message of it.
 abbrev pub tolds_by : Uid → Kind → Path → List (Uid × Intent) → Coord → List Effect
-tolds_by u kind.Nested p intents c = tell_all (root_of p) false (up_to u (ends_of (root_of p) c.tree)) (servers_told u (root_at (root_of p) c) c)
-tolds_by u kind.Serial p intents c = tell_all u false ((u, ending.Abort) ∷ []) (filter (λ n. not (is_deferred u intents n)) (nodes_sent u (root_at u c)))
+tolds_by u kind.Nested p intents c =
+    tell_all (root_of p) false (up_to u (ends_of (root_of p) c.tree)) (servers_told u (root_at (root_of p) c) c)
+tolds_by u kind.Serial p intents c =
+    tell_all u false ((u, ending.Abort) ∷ []) (filter (λ n. not (is_deferred u intents n)) (nodes_sent u (root_at u c)))
 tolds_by u _ p intents c = tell_all (root_of p) false ((u, ending.Abort) ∷ []) (nodes_sent u (root_at (root_of p) c))
 
 -- the messages that tell of the end of an action that is there
@@ -106,7 +110,8 @@ record_work u p = if has_record p then Do (PutIntent u (record { root = root_of 
 
 -- the acknowledgements of a decision with a record are awaited
 abbrev pub awaits : Uid → Plan → Coord → Coord
-awaits u p c = if has_record p then record c { telling = put_uid u (record { root = root_of p.path; nodes = participants p }) c.telling } else c
+awaits u p c =
+    if has_record p then record c { telling = put_uid u (record { root = root_of p.path; nodes = participants p }) c.telling } else c
 
 -- the commit's exclusions go out of a list that the root keeps, and its inclusions come last
 abbrev pub list_after : Plan → ℕ → Known → Known
@@ -133,7 +138,10 @@ root_after p r = record r { keeping = each (keeping_after p) r.keeping; states =
 -- the coordinator after the decision
 abbrev pub decided : Uid → Plan → Coord → Coord
 decided u p c =
-    awaits u p (on_root (root_of p.path) (root_after p) (on_doing u (λ (d : Doing). record d { took = participants p }) (ended u ending.Commit c)))
+    awaits u p (on_root (root_of p.path) (root_after p) (on_doing u (λ (d : Doing). record d {
+      took =
+          participants p;
+    }) (ended u ending.Commit c)))
 
 -- The record, which is the decision; then the answer; then the tolds, in increasing node order.
 abbrev pub decide : Plan → Coord → Did Coord
@@ -166,7 +174,8 @@ acked_left u i intents c [] = record {
   outs = Do (RemoveIntent u) ∷ tolds_let_go u (without_uid u intents) c (at_uid u intents);
   reply = Some tt;
 }
-acked_left u i intents c (n ∷ ns) = record { part = record c { telling = put_uid u (record i { nodes = n ∷ ns }) c.telling }; outs = []; reply = Some tt }
+acked_left u i intents c (n ∷ ns) =
+    record { part = record c { telling = put_uid u (record i { nodes = n ∷ ns }) c.telling }; outs = []; reply = Some tt }
 
 -- a node that the record lists acknowledged; of any other the message is void
 abbrev pub acked_by : ℕ → Uid → List (Uid × Intent) → Coord → Option Intent → Served Coord (Unit {0})
@@ -203,7 +212,8 @@ answer_decided from u c =
 -- with a record that lists the node the answer is commit, to be acknowledged
 abbrev pub answer_recorded : ℕ → Uid → Coord → Option Intent → List Effect
 answer_recorded from u c None = answer_decided from u c
-answer_recorded from u c (Some i) = if has i.nodes from then tell i.root true ((u, ending.Commit) ∷ []) from ∷ [] else answer_decided from u c
+answer_recorded from u c (Some i) =
+    if has i.nodes from then tell i.root true ((u, ending.Commit) ∷ []) from ∷ [] else answer_decided from u c
 
 -- Nothing while the action is open, and nothing of a serializing action while a record of a constituent lists the node;
 -- then by the record; then a kept constituent's commit; otherwise abort.

@@ -1,8 +1,10 @@
 -- What the laws of the protocol say.
-use Rattle.std.specs.Prelude.{◌≢◌, ⊤, ◌≡◌, ℕ, ◌-◌, Bool, true, false, not, ◌&&◌, ◌||◌, ◌==◌, nat_lt, if◌then◌else◌, List, [], ◌∷◌, ◌++◌, map, Option, Some, None}
+use Rattle.std.specs.Prelude.{◌≢◌, ⊤, ◌≡◌, ℕ, ◌-◌, Bool, true, false, not, ◌&&◌, ◌||◌, ◌==◌, nat_lt, if◌then◌else◌, List, [], ◌∷◌, ◌++◌}
+use Rattle.std.specs.Prelude.{map, Option, Some, None}
 use Rattle.std.specs.List.{AllByRecursion, list_any}
 use Rattle.arj_protocol.specs.Words.ask
-use Rattle.arj_protocol.specs.Words.{Uid, End, Part, Body, Line, Row, Message, Head, uid_eq, is_on, nobody, object, entry, grant_row, drop_rows, pass_rows, lower_row, Ask, asks}
+use Rattle.arj_protocol.specs.Words.{Uid, End, Part, Body, Line, Row, Message, Head, uid_eq, is_on, nobody, object, entry, grant_row}
+use Rattle.arj_protocol.specs.Words.{drop_rows, pass_rows, lower_row, Ask, asks}
 use Rattle.arj_protocol.specs.Words.ending
 use Rattle.arj_protocol.specs.Words.body
 use Rattle.arj_protocol.specs.Words.part
@@ -33,7 +35,8 @@ pub record Local (n : ℕ) (old new : World) : Type 0 where
 -- what a node does in a step: all effects, or those up to a stop and that it halted
 abbrev pub effects_until : ℕ → Node → Step → Option Arm → List Effect
 effects_until k n s None = s.outs
-effects_until k n s (Some a) = if nat_lt (count_works s.halting) a.works then s.outs else halted_outs k (cut (a.works - 1) a.how s.halting n.disk)
+effects_until k n s (Some a) =
+    if nat_lt (count_works s.halting) a.works then s.outs else halted_outs k (cut (a.works - 1) a.how s.halting n.disk)
 
 -- what a node that is there does with an input
 abbrev pub effects_of_node : ℕ → Input → World → Option Node → List Effect
@@ -77,7 +80,8 @@ rows_ended ending.Abort u rows = drop_rows u rows
 
 -- What a line does to the locks on an object, or on an entry, at a part of a node.
 abbrev pub rows_by : Holders → ℕ → Part → Uid → Body → List Row → List Row
-rows_by h n p o (body.Granted m u x how) rows = if (m == n) && uid_eq x o then grant_row (row_for o (h.path u) (h.tops u) how) rows else rows
+rows_by h n p o (body.Granted m u x how) rows =
+    if (m == n) && uid_eq x o then grant_row (row_for o (h.path u) (h.tops u) how) rows else rows
 rows_by h n p o (body.Lowered m u x) rows = if (m == n) && uid_eq x o then lower_row u o rows else rows
 rows_by h n p o (body.Active m x b) rows = if (m == n) && uid_eq (object x) o then [] else rows
 rows_by h n p o (body.Told m u e q) rows = if (m == n) && same_part p q then rows_ended e u rows else rows

@@ -2,7 +2,8 @@
 -- reads the object's committed entry; the locks on an entry are held by tops.
 use Rattle.std.specs.Prelude.{ℕ, ◌+◌, Bool, true, false, not, ◌&&◌, ◌==◌, nat_le, if◌then◌else◌, List, [], ◌∷◌, ◌++◌, Option, Some, None}
 use Rattle.std.specs.List.{list_any}
-use Rattle.arj_protocol.specs.Words.{Uid, Binding, Path, Mode, Entry, Row, BoundReply, RecordedReply, entry, tops_of, last_uid, is_on, is_row_of, lower_row, mode_code, drop_rows, pass_rows, first_conflict, End}
+use Rattle.arj_protocol.specs.Words.{Uid, Binding, Path, Mode, Entry, Row, BoundReply, RecordedReply, entry, tops_of, last_uid, is_on}
+use Rattle.arj_protocol.specs.Words.{is_row_of, lower_row, mode_code, drop_rows, pass_rows, first_conflict, End}
 use Rattle.arj_protocol.specs.Words.mode
 use Rattle.arj_protocol.specs.Words.ending
 use Rattle.arj_protocol.specs.Words.body
@@ -108,7 +109,8 @@ bound_again inc x p e c m = record {
 
 -- the binding is made for the top, at this server
 abbrev pub make : Binding → ℕ → Path → Named → Named
-make b server p o = record o { made = put_uid (top_of p) (record { binding = b; server = server; recorded = false }) o.made; turn = Some server }
+make b server p o =
+    record o { made = put_uid (top_of p) (record { binding = b; server = server; recorded = false }) o.made; turn = Some server }
 
 -- the next binding, to this server
 abbrev pub bound_new : ℕ → ℕ → Path → Entry → Counted → ℕ → Served Counted BoundReply

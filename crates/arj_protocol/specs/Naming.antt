@@ -2,7 +2,8 @@
 -- also reads the pair of entries on the disk.
 use Rattle.std.specs.Prelude.{ℕ, Bool, not, ◌&&◌, ◌||◌, ◌==◌, if◌then◌else◌, List, [], ◌∷◌, ◌++◌, map, filter, Option, Some, None, is_some}
 use Rattle.std.specs.List.{flat_map, list_any}
-use Rattle.arj_protocol.specs.Words.{Uid, Binding, Path, Entry, ObjectState, Row, End, BoundReply, RecordedReply, uid_eq, entry, is_on, is_held_by}
+use Rattle.arj_protocol.specs.Words.{Uid, Binding, Path, Entry, ObjectState, Row, End, BoundReply, RecordedReply, uid_eq, entry, is_on}
+use Rattle.arj_protocol.specs.Words.{is_held_by}
 use Rattle.arj_protocol.specs.Words.ending
 use Rattle.arj_protocol.specs.Words.body
 use Rattle.arj_protocol.specs.Words.part

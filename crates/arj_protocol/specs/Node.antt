@@ -1,7 +1,8 @@
 -- One node: its disk, and while it is up its parts. How a message is handled, with all messages that the node sends to
 -- itself by that.
 use Rattle.arj_protocol.specs.Words.ask
-use Rattle.std.specs.Prelude.{ℕ, zero, suc, Bool, true, not, ◌&&◌, ◌==◌, nat_lt, nat_le, if◌then◌else◌, List, [], ◌∷◌, ◌++◌, map, filter, Option, Some, None, option_map}
+use Rattle.std.specs.Prelude.{ℕ, zero, suc, Bool, true, not, ◌&&◌, ◌==◌, nat_lt, nat_le, if◌then◌else◌, List, [], ◌∷◌, ◌++◌, map, filter}
+use Rattle.std.specs.Prelude.{Option, Some, None, option_map}
 use Rattle.arj_journal.specs.declared.limits.TheConstants.{OBJECTS}
 use Rattle.arj_protocol.specs.Words.{Uid, Head, Asked, End, ObjectState, Op, class_of, has_op, uid_eq, Message, object, Ask, asks}
 use Rattle.arj_protocol.specs.Words.ending
@@ -12,7 +13,8 @@ use Rattle.arj_protocol.specs.Words.loaded
 use Rattle.arj_protocol.specs.Words.prepared
 use Rattle.arj_protocol.specs.Order.{uid_set, at_number, has}
 use Rattle.arj_protocol.specs.Copy.{Copy}
-use Rattle.arj_protocol.specs.Effect.{Effect, Say, Send, Do, Look, Prepare, Commit, Abort, worked, Disk, Pair, Served, Did, did_nothing, held_at, holder_of, is_prepared, names_object, Prep, Ready, Already, Old, InDoubt, prepare_answer}
+use Rattle.arj_protocol.specs.Effect.{Effect, Say, Send, Do, Look, Prepare, Commit, Abort, worked, Disk, Pair, Served, Did, did_nothing}
+use Rattle.arj_protocol.specs.Effect.{held_at, holder_of, is_prepared, names_object, Prep, Ready, Already, Old, InDoubt, prepare_answer}
 use Rattle.arj_protocol.specs.Ask.{Reply, answers, response, asked_by, actor, last_end}
 use Rattle.arj_protocol.specs.Server as server
 use Rattle.arj_protocol.specs.Server.{Server, server_holders}
@@ -79,7 +81,8 @@ prepare_by n states from h t Ready =
     sends_answer from h t (Do Look ∷ Do (Prepare role.Store (actor h.path) states) ∷ Say (body.Prepared n (actor h.path) role.Store) ∷ []) (Some (Reply.Prepared prepared.Yes))
 prepare_by n states from h t (Already u) = Void (Do Look ∷ [])
 prepare_by n states from h t (Old u v) = sends_answer from h t (Do Look ∷ []) (Some (Reply.Prepared (prepared.Old u.num v)))
-prepare_by n states from h t (InDoubt u holder) = sends_answer from h t (Do Look ∷ []) (Some (Reply.Prepared (prepared.InDoubt u.num holder)))
+prepare_by n states from h t (InDoubt u holder) =
+    sends_answer from h t (Do Look ∷ []) (Some (Reply.Prepared (prepared.InDoubt u.num holder)))
 
 -- what is prepared already is answered Yes again
 abbrev pub prepare_states : ℕ → Pair → List ObjectState → ℕ → Head → Parts → Handled
@@ -89,14 +92,16 @@ prepare_states n d states from h t =
 
 -- a request by its kind
 abbrev pub serve : ℕ → Disk → Parts → ℕ → Head → Ask → Handled
-serve n d t from h (ask.Bind x include avoid) = if_naming (λ o. served from h (with_naming t) Reply.Bound (naming.bind h.path x include avoid d.names o)) t.naming
+serve n d t from h (ask.Bind x include avoid) =
+    if_naming (λ o. served from h (with_naming t) Reply.Bound (naming.bind h.path x include avoid d.names o)) t.naming
 serve n d t from h (ask.Load x) = load_by x d.store from h t (holder_of (object x) d.store)
 serve n d t from h (ask.Activate b st) = served from h (with_server t) Reply.Activated (server.activate n h.path b st t.server)
 serve n d t from h (ask.Record x b i g) = if_naming (λ o. served from h (with_naming t) Reply.Noted (naming.note h.path x b i g o)) t.naming
 serve n d t from h (ask.Invoke x b i ends op) = served from h (with_server t) Reply.Invoked (server.invoke n h x b i ends op t.server)
 serve n d t from h (ask.Vote i ties ends) = served from h (with_server t) Reply.Voted (server.vote n h.path i ties ends t.server)
 serve n d t from h (ask.Prepare states) = prepare_states n d.store states from h t
-serve n d t from h (ask.Confirm grants excluded included) = if_naming (λ o. served from h (with_naming t) Reply.Confirmed (confirm h.path grants excluded included d.names o)) t.naming
+serve n d t from h (ask.Confirm grants excluded included) =
+    if_naming (λ o. served from h (with_naming t) Reply.Confirmed (confirm h.path grants excluded included d.names o)) t.naming
 
 -- ---- told
 
@@ -123,7 +128,12 @@ abbrev pub handle_told : ℕ → Disk → Parts → ℕ → Bool → List (Uid �
 handle_told n d t from ack ends u e =
     let o = naming_told u e d.names t.naming in
     let s = server.told n ends t.server in
-    Took (record { server = s.part; naming = o.part; coord = t.coord }) (store_told n u e d.store ++ o.outs ++ s.outs ++ ack_told from u ack)
+    Took (record {
+      server = s.part;
+      naming = o.part;
+      coord =
+          t.coord;
+    }) (store_told n u e d.store ++ o.outs ++ s.outs ++ ack_told from u ack)
 
 -- of a list of ends the store and naming act on the last one
 abbrev pub handle_ends : ℕ → Disk → Parts → ℕ → Bool → List (Uid × End) → Option (Uid × End) → Handled
@@ -160,7 +170,8 @@ naming_hello node inc (Some n) = Some (naming.hello node inc n)
 
 -- a node is up again: its earlier actions are asked about, and naming drops its live bindings
 abbrev pub handle_hello : Disk → Parts → ℕ → ℕ → Handled
-handle_hello d t node inc = Took (record t { naming = naming_hello node inc t.naming }) (map query_about (filter (is_earlier node inc) (holders d t)))
+handle_hello d t node inc =
+    Took (record t { naming = naming_hello node inc t.naming }) (map query_about (filter (is_earlier node inc) (holders d t)))
 
 -- ---- one message
 
@@ -253,7 +264,7 @@ answer_is_meant c (Some a) = reply_is_meant c a.0 a.1
 abbrev pub is_meant : Parts → Message → Bool
 is_meant t m = asked_is_meant t.server (asks m) && answer_is_meant t.coord (answers m)
 
--- What can't be meant is void, so that a node has an answer to every message. No such message is sent in a run.
+-- What can't be meant is void, so that a node has an answer to every message.
 abbrev pub taken : ℕ → Disk → Parts → ℕ → Message → Handled
 taken n d t from m = if is_meant t m then handle n d t from m else Void []
 

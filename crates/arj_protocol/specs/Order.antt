@@ -1,6 +1,7 @@
 -- How Uids, bindings and versions compare, and finite maps and sets: sorted lists, as an ordered map or set has its
 -- entries.
-use Rattle.std.specs.Prelude.{ℕ, zero, suc, ◌+◌, ◌*◌, Bool, true, false, ◌==◌, nat_lt, if◌then◌else◌, List, [], ◌∷◌, filter, map, Option, Some, None, not, min}
+use Rattle.std.specs.Prelude.{ℕ, zero, suc, ◌+◌, ◌*◌, Bool, true, false, ◌==◌, nat_lt, if◌then◌else◌, List, [], ◌∷◌, filter, map, Option}
+use Rattle.std.specs.Prelude.{Some, None, not, min}
 use Rattle.std.specs.List.{list_any}
 use Rattle.std.specs.Ordering.{nat_cmp}
 use Rattle.std.specs.Map.{lookup, remove_entry}

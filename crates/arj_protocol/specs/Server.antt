@@ -1,15 +1,18 @@
 -- The server part of a node: active copies, the last answer of each action, the ends that it was told, and the tops that
 -- it voted for.
-use Rattle.std.specs.Prelude.{ℕ, Bool, false, not, ◌&&◌, ◌||◌, ◌==◌, nat_lt, if◌then◌else◌, List, [], ◌∷◌, ◌++◌, map, Option, Some, None, is_some}
+use Rattle.std.specs.Prelude.{ℕ, Bool, false, not, ◌&&◌, ◌||◌, ◌==◌, nat_lt, if◌then◌else◌, List, [], ◌∷◌, ◌++◌, map, Option, Some, None}
+use Rattle.std.specs.Prelude.{is_some}
 use Rattle.std.specs.List.{list_any, flat_map, filter_map}
-use Rattle.arj_protocol.specs.Words.{Uid, Binding, Path, Head, End, Op, ObjectState, Row, What, InvokedReply, VotedReply, uids_of, is_on, top_uid}
+use Rattle.arj_protocol.specs.Words.{Uid, Binding, Path, Head, End, Op, ObjectState, Row, What, InvokedReply, VotedReply, uids_of, is_on}
+use Rattle.arj_protocol.specs.Words.{top_uid}
 use Rattle.arj_protocol.specs.Words.ending
 use Rattle.arj_protocol.specs.Words.body
 use Rattle.arj_protocol.specs.Words.part
 use Rattle.arj_protocol.specs.Words.what
 use Rattle.arj_protocol.specs.Words.invoked
 use Rattle.arj_protocol.specs.Words.voted
-use Rattle.arj_protocol.specs.Order.{at_number, put_number, each, at_uid, put_uid, without_uid, with_uid, drop_uid, binding_eq, binding_less, unbound}
+use Rattle.arj_protocol.specs.Order.{at_number, put_number, each, at_uid, put_uid, without_uid, with_uid, drop_uid, binding_eq}
+use Rattle.arj_protocol.specs.Order.{binding_less, unbound}
 use Rattle.arj_protocol.specs.Effect.{Effect, Say, Served, Did, void, reply, did_nothing, either}
 use Rattle.arj_protocol.specs.Ask.{actor}
 use Rattle.arj_protocol.specs.Copy.{Copy, taken_copy, invoke_copy, end_copy, holds, is_top_in, changed_state}
@@ -105,7 +108,13 @@ end_lines n u e s = if has_locks u s then Say (body.Told n u e part.Server) ∷ 
 -- an end that is new: locks and overlays pass on or go, and the answer kept for the action is forgotten
 abbrev pub end_new : ℕ → Uid → End → Server → Did Server
 end_new n u e s = record {
-  part = record s { objects = each (λ x. end_copy u e) s.objects; kept = without_uid u s.kept; ends = put_uid u e s.ends; voted = drop_uid u s.voted };
+  part = record s {
+    objects = each (λ x. end_copy u e) s.objects;
+    kept = without_uid u s.kept;
+    ends = put_uid u e s.ends;
+    voted =
+        drop_uid u s.voted;
+  };
   outs = end_lines n u e s;
 }
 
@@ -135,7 +144,8 @@ keeps act req (Some a) s = record s { kept = put_uid act (record { req = req; an
 -- A call on one object's copy, put back. There is a copy, since the binding is active.
 abbrev pub on_copy : ℕ → (Copy → Served Copy InvokedReply) → Server → Option Copy → Served Server InvokedReply
 on_copy x f s None = reply s (invoked.Changed (what.Bind unbound unbound))
-on_copy x f s (Some c) = let r = f c in record { part = record s { objects = put_number x r.part s.objects }; outs = r.outs; reply = r.reply }
+on_copy x f s (Some c) =
+    let r = f c in record { part = record s { objects = put_number x r.part s.objects }; outs = r.outs; reply = r.reply }
 
 -- the answer is kept with its request
 abbrev pub kept_after : Head → Served Server InvokedReply → Served Server InvokedReply

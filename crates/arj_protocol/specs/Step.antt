@@ -1,8 +1,10 @@
 -- What a node does at each input: the refusals that it finds itself, calls, commits and ends, frames, ticks, restarts.
-use Rattle.std.specs.Prelude.{ℕ, zero, suc, ◌+◌, Bool, true, false, not, ◌&&◌, ◌||◌, ◌==◌, if◌then◌else◌, List, [], ◌∷◌, ◌++◌, map, filter, find, Option, Some, None, is_some}
+use Rattle.std.specs.Prelude.{ℕ, zero, suc, ◌+◌, Bool, true, false, not, ◌&&◌, ◌||◌, ◌==◌, if◌then◌else◌, List, [], ◌∷◌, ◌++◌, map, filter}
+use Rattle.std.specs.Prelude.{find, Option, Some, None, is_some}
 use Rattle.std.specs.List.{flat_map, list_any}
 use Rattle.arj_start.specs.Start.{Mark, Marks, Start, fresh, none_written, unwritten}
-use Rattle.arj_protocol.specs.Words.{Uid, Kind, Op, Label, Class, Header, ObjectLine, ObjectState, Body, Message, uid_eq, uids_of, object, entry, class_of, has_op, payload_of, entry_payload, nobody}
+use Rattle.arj_protocol.specs.Words.{Uid, Kind, Op, Label, Class, Header, ObjectLine, ObjectState, Body, Message, uid_eq, uids_of, object}
+use Rattle.arj_protocol.specs.Words.{entry, class_of, has_op, payload_of, entry_payload, nobody}
 use Rattle.arj_protocol.specs.Words.ending
 use Rattle.arj_protocol.specs.Words.body
 use Rattle.arj_protocol.specs.Words.kind
@@ -15,7 +17,8 @@ use Rattle.arj_protocol.specs.Ask.{actor}
 use Rattle.arj_protocol.specs.Server.{new_server}
 use Rattle.arj_protocol.specs.Naming.{Naming}
 use Rattle.arj_protocol.specs.Confirm.{recovered_naming, recovered_lines}
-use Rattle.arj_protocol.specs.Tree.{Branch, at_place, has_open_child, is_too_deep, has_many_actions, has_many_objects, is_open_below, root_of}
+use Rattle.arj_protocol.specs.Tree.{Branch, at_place, has_open_child, is_too_deep, has_many_actions, has_many_objects, is_open_below}
+use Rattle.arj_protocol.specs.Tree.{root_of}
 use Rattle.arj_protocol.specs.Coord.{Coord, Doing, Now, Idle, Committing, new_coord, number_of, doing_of, of_root}
 use Rattle.arj_protocol.specs.Asking.{begin_action, call, include, commit_action, give_up, again_all}
 use Rattle.arj_protocol.specs.Ending.{abort_action, tell_all}
@@ -204,7 +207,8 @@ pub record Step : Type 0 where
 
 -- the effects of a node that is up, with all messages to itself
 abbrev pub steps_to : Node → List Effect → Ran → Step
-steps_to n before r = record { outs = before ++ r.outs; halting = before ++ r.outs; after = record n { disk = r.here.disk; live = Some r.here.parts } }
+steps_to n before r =
+    record { outs = before ++ r.outs; halting = before ++ r.outs; after = record n { disk = r.here.disk; live = Some r.here.parts } }
 
 -- the effects of a node that is up, and what its messages to itself lead to
 abbrev pub node_did : Node → List Effect → Parts → List Effect → Step
@@ -298,7 +302,8 @@ naming_back (Some o) = recovered_lines o
 
 -- the parts of a node that comes up in this incarnation, with its records to be told
 abbrev pub parts_in : ℕ → ℕ → Disk → Parts
-parts_in n inc d = record { server = new_server inc; naming = naming_at n inc d.names; coord = record (new_coord n inc) { telling = d.intents } }
+parts_in n inc d =
+    record { server = new_server inc; naming = naming_at n inc d.names; coord = record (new_coord n inc) { telling = d.intents } }
 
 -- the effects of a restart, in order
 abbrev pub restart_outs : Header → ℕ → ℕ → Disk → List Effect
@@ -349,7 +354,8 @@ show_step x n = record { outs = show_outs n.number x n.disk; halting = show_outs
 
 -- a node crashes: it is down, with its disk as it is
 abbrev pub crash_step : Node → Step
-crash_step n = record { outs = Say (body.Halted n.number) ∷ []; halting = Say (body.Halted n.number) ∷ []; after = record n { live = None } }
+crash_step n =
+    record { outs = Say (body.Halted n.number) ∷ []; halting = Say (body.Halted n.number) ∷ []; after = record n { live = None } }
 
 -- the step of a node that is up
 abbrev pub step_up : Input → Node → Parts → Step

@@ -1,6 +1,7 @@
 -- The actions that a node has begun in this incarnation, in order of beginning, and what each root has: the ends of its
 -- nested actions and constituents in the order in which they were decided, and what counts against its limits.
-use Rattle.std.specs.Prelude.{ℕ, zero, suc, ◌+◌, Bool, true, false, not, ◌&&◌, ◌==◌, nat_le, if◌then◌else◌, List, [], ◌∷◌, ◌++◌, length, filter, slice_get, slice_set, Option, Some, None, is_some, unwrap_or}
+use Rattle.std.specs.Prelude.{ℕ, zero, suc, ◌+◌, Bool, true, false, not, ◌&&◌, ◌==◌, nat_le, if◌then◌else◌, List, [], ◌∷◌, ◌++◌, length}
+use Rattle.std.specs.Prelude.{filter, slice_get, slice_set, Option, Some, None, is_some, unwrap_or}
 use Rattle.std.specs.List.{list_any}
 use Rattle.arj_protocol.specs.Words.{Uid, Path, End, Kind, uid_eq, uids_of, tops_of, first_uid, before_last, is_on, path_of}
 use Rattle.arj_protocol.specs.Words.kind

@@ -9,7 +9,8 @@ pub use Rattle.arj_base.specs.declared.state.ObjectState.{ObjectState}
 pub use Rattle.arj_base.specs.Order.{uid_order}
 pub use Rattle.arj_base.specs.Uid.{uid_eq, nobody, object, entry}
 pub use Rattle.arj_base.specs.Path.{uids_of, tops_of, first_uid, top_uid, before_last}
-pub use Rattle.arj_base.specs.Rows.{Row, last_uid, front, is_on, grant_row, drop_rows, pass_rows, lower_row, is_held_by, is_row_of, first_conflict}
+pub use Rattle.arj_base.specs.Rows.{Row, last_uid, front, is_on, grant_row, drop_rows, pass_rows, lower_row, is_held_by, is_row_of}
+pub use Rattle.arj_base.specs.Rows.{first_conflict}
 pub use Rattle.arj_base.specs.Mode.{stronger, mode_code, conflicting}
 pub use Rattle.arj_base.specs.State.{class_code_of}
 pub use Rattle.arj_class.specs.declared.op.Op.{Op}

@@ -1,5 +1,6 @@
 -- Which lines may stand in a journal that is to be read as a run, and the first one that breaks a rule.
-use Rattle.std.specs.Prelude.{◌≡◌, ℕ, ◌+◌, List, [], ◌∷◌, ◌++◌, length, find, Bool, true, false, ◌==◌, ◌&&◌, not, nat_lt, nat_le, if◌then◌else◌, Option, Some, None, is_some}
+use Rattle.std.specs.Prelude.{◌≡◌, ℕ, ◌+◌, List, [], ◌∷◌, ◌++◌, length, find, Bool, true, false, ◌==◌, ◌&&◌, not, nat_lt, nat_le}
+use Rattle.std.specs.Prelude.{if◌then◌else◌, Option, Some, None, is_some}
 use Rattle.std.specs.Option.{option_map}
 use Rattle.std.specs.List.{list_any}
 use Rattle.arj_base.specs.declared.uid.Uid.{Uid}
@@ -123,7 +124,8 @@ was_called calls a = if is_top a.kind then has_end calls a.number else true
 
 -- An action is committed: it isn't serializing, this is its first end, and the commit of a top was called.
 abbrev pub committed_rule : List (Placed ℕ) → List (Placed ℕ) → Named → Option Rule
-committed_rule calls ends a = or_else (unless (not (is_serial a.kind)) rule.EndOfKind) (or_else (end_rule ends a) (unless (was_called calls a) rule.Called))
+committed_rule calls ends a =
+    or_else (unless (not (is_serial a.kind)) rule.EndOfKind) (or_else (end_rule ends a) (unless (was_called calls a) rule.Called))
 
 -- A serializing action ends, and no other.
 abbrev pub ended_rule : List (Placed ℕ) → Named → Option Rule
@@ -200,7 +202,8 @@ broken_or at (Some r) behind = Some (record { line = at + 1; rule = r })
 -- the first of these lines that breaks a rule, behind those before them
 abbrev pub broken_from : Header → List Line → ℕ → List Line → Option Broken
 broken_from header before last [] = None
-broken_from header before last (line ∷ lines) = broken_or (length before) (line_rule header (met before) last line) (broken_from header (before ++ line ∷ []) line.event lines)
+broken_from header before last (line ∷ lines) =
+    broken_or (length before) (line_rule header (met before) last line) (broken_from header (before ++ line ∷ []) line.event lines)
 
 -- the first line of a journal that breaks a rule, and the rule
 abbrev pub broken : Header → List Line → Option Broken

@@ -1,5 +1,6 @@
 -- What the checker keeps of the lines that it has read.
-use Rattle.std.specs.Prelude.{◌≡◌, ℕ, ◌+◌, List, [], ◌∷◌, ◌++◌, length, map, Bool, true, false, ◌==◌, ◌||◌, nat_lt, if◌then◌else◌, Option, Some, None, is_some}
+use Rattle.std.specs.Prelude.{◌≡◌, ℕ, ◌+◌, List, [], ◌∷◌, ◌++◌, length, map, Bool, true, false, ◌==◌, ◌||◌, nat_lt, if◌then◌else◌, Option}
+use Rattle.std.specs.Prelude.{Some, None, is_some}
 use Rattle.std.specs.BTreeMap.{get}
 use Rattle.std.specs.List.{list_any}
 use Rattle.std.specs.Option.{option_map}
@@ -45,7 +46,16 @@ top_action t = record { number = t.id; uid = t.uid }
 
 -- an action with the number of the one above it, and its path
 abbrev pub action_of : Act → Option ℕ → List Act → Action
-action_of a above p = record { kind = a.kind; uid = a.uid; above = above; top = option_map top_action (top_in p); root = root_or a.id (root_in p); depth = capped (length p) }
+action_of a above p =
+    record {
+      kind = a.kind;
+      uid = a.uid;
+      above = above;
+      top = option_map top_action (top_in p);
+      root = root_or a.id (root_in p);
+      depth =
+          capped (length p);
+    }
 
 -- the actions, by their numbers
 abbrev pub actions_of : List Act → List Action
@@ -96,7 +106,25 @@ found_with (Some w) before u = before || uid_eq w u
 -- an action that begins, as it is kept
 abbrev pub next_of : List Act → Body → Option Next
 next_of us (body.Began l k u p) =
-    Some (record { label = l; action = action_of (record { id = length us; label = name l; kind = k; uid = u; parent = option_map name p }) (above_in us k (option_map name p)) (upwards (option_map name p) k (path us) ++ (record { id = length us; label = name l; kind = k; uid = u; parent = option_map name p }) ∷ []) })
+    Some (record {
+      label = l;
+      action =
+          action_of (record {
+            id = length us;
+            label = name l;
+            kind = k;
+            uid = u;
+            parent =
+                option_map name p;
+          }) (above_in us k (option_map name p)) (upwards (option_map name p) k (path us) ++ (record {
+            id = length us;
+            label =
+                name l;
+            kind = k;
+            uid = u;
+            parent = option_map name p;
+          }) ∷ []);
+    })
 next_of us _ = None
 
 -- the number of the action with a label, where one more begins

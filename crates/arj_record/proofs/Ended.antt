@@ -7,7 +7,8 @@ use Rattle.arj_base.proofs.Uids.{uid_same}
 use Rattle.arj_record.specs.declared.record.Record.{Record}
 use Rattle.arj_record.specs.declared.record.Record.TheVariants.{Recovery, Lock, Persistence}
 use Rattle.arj_record.specs.Record.{image_in, mode_in}
-use Rattle.arj_record.specs.Records.{found, forgotten, has_locks, image, is_changed, keep_calls, lock_mode, passed, raised, raises, released, restored, restores, undo_calls}
+use Rattle.arj_record.specs.Records.{found, forgotten, has_locks, image, is_changed, keep_calls, lock_mode, passed, raised, raises}
+use Rattle.arj_record.specs.Records.{released, restored, restores, undo_calls}
 use Rattle.arj_record.specs.Scene.{Call, pass, release}
 use Rattle.arj_record.proofs.Added.{found-forgotten}
 
@@ -31,14 +32,16 @@ undo_raised x (Recovery y v ∷ rs) calls = undo_raised x rs calls
 undo_raised x (Lock y m ∷ rs) calls = undo_raised x rs calls
 undo_raised x (Persistence y ∷ rs) calls = undo_raised x rs calls
 
-pub undo_releases : {V : Type 0} → (rs : List (Record V)) (action : Uid) → released (undo_calls action rs) ≡ cond (has_locks rs) (action ∷ []) []
+pub undo_releases : {V : Type 0} → (rs : List (Record V)) (action : Uid) →
+    released (undo_calls action rs) ≡ cond (has_locks rs) (action ∷ []) []
 undo_releases {V} rs action = undo_released rs (cond (has_locks rs) (release action ∷ []) []) ∙ by (has_locks rs)
   where
     by : (b : Bool) → released {V = V} (cond b (release action ∷ []) []) ≡ cond b (action ∷ []) []
     by true = refl
     by false = refl
 
-pub undo_no_more : {V : Type 0} → (rs : List (Record V)) (action x : Uid) → (raised x (undo_calls action rs) ≡ []) × (passed (undo_calls action rs) ≡ [])
+pub undo_no_more : {V : Type 0} → (rs : List (Record V)) (action x : Uid) →
+    (raised x (undo_calls action rs) ≡ []) × (passed (undo_calls action rs) ≡ [])
 undo_no_more {V} rs action x = (
   undo_raised x rs (cond (has_locks rs) (release action ∷ []) []) ∙ raise (has_locks rs),
   undo_passed rs (cond (has_locks rs) (release action ∷ []) []) ∙ none (has_locks rs),
@@ -72,14 +75,16 @@ raises_restore x action (Recovery y v ∷ rs) = raises_restore x action rs
 raises_restore x action (Lock y m ∷ rs) = raises_restore x action rs
 raises_restore x action (Persistence y ∷ rs) = raises_restore x action rs
 
-pub keep_passes : {V : Type 0} → (rs : List (Record V)) (action : Uid) → passed (keep_calls action rs) ≡ cond (has_locks rs) (action ∷ []) []
+pub keep_passes : {V : Type 0} → (rs : List (Record V)) (action : Uid) →
+    passed (keep_calls action rs) ≡ cond (has_locks rs) (action ∷ []) []
 keep_passes {V} rs action = by (has_locks rs)
   where
     by : (b : Bool) → passed (cond b (pass action ∷ []) [] ++ raises action rs) ≡ cond b (action ∷ []) []
     by true = ap (λ us. action ∷ us) (raises_pass action rs)
     by false = raises_pass action rs
 
-pub keep_no_more : {V : Type 0} → (rs : List (Record V)) (action x : Uid) → (restored x (keep_calls action rs) ≡ []) × (released (keep_calls action rs) ≡ [])
+pub keep_no_more : {V : Type 0} → (rs : List (Record V)) (action x : Uid) →
+    (restored x (keep_calls action rs) ≡ []) × (released (keep_calls action rs) ≡ [])
 keep_no_more {V} rs action x = (restore (has_locks rs), none (has_locks rs))
   where
     restore : (b : Bool) → restored x (cond b (pass action ∷ []) [] ++ raises action rs) ≡ []
@@ -106,21 +111,24 @@ locked (Persistence y ∷ rs) x mode e = locked rs x mode e
 
 -- Forgetting.
 
-pub image-forgotten : {V : Type 0} → (rs : List (Record V)) (gone x : Uid) → image x (forgotten gone rs) ≡ cond (uid_eq x gone) None (image x rs)
+pub image-forgotten : {V : Type 0} → (rs : List (Record V)) (gone x : Uid) →
+    image x (forgotten gone rs) ≡ cond (uid_eq x gone) None (image x rs)
 image-forgotten {V} rs gone x = ap (option_and_then image_in) (found-forgotten 1 x gone rs) ∙ by (uid_eq x gone)
   where
     by : (b : Bool) → option_and_then image_in (cond b None (found 1 x rs)) ≡ cond b None (image x rs)
     by true = refl
     by false = refl
 
-pub mode-forgotten : {V : Type 0} → (rs : List (Record V)) (gone x : Uid) → lock_mode x (forgotten gone rs) ≡ cond (uid_eq x gone) None (lock_mode x rs)
+pub mode-forgotten : {V : Type 0} → (rs : List (Record V)) (gone x : Uid) →
+    lock_mode x (forgotten gone rs) ≡ cond (uid_eq x gone) None (lock_mode x rs)
 mode-forgotten {V} rs gone x = ap (option_and_then mode_in) (found-forgotten 2 x gone rs) ∙ by (uid_eq x gone)
   where
     by : (b : Bool) → option_and_then mode_in (cond b None (found 2 x rs)) ≡ cond b None (lock_mode x rs)
     by true = refl
     by false = refl
 
-pub changed-forgotten : {V : Type 0} → (rs : List (Record V)) (gone x : Uid) → is_changed x (forgotten gone rs) ≡ cond (uid_eq x gone) false (is_changed x rs)
+pub changed-forgotten : {V : Type 0} → (rs : List (Record V)) (gone x : Uid) →
+    is_changed x (forgotten gone rs) ≡ cond (uid_eq x gone) false (is_changed x rs)
 changed-forgotten {V} rs gone x = ap is_some (found-forgotten 3 x gone rs) ∙ by (uid_eq x gone)
   where
     by : (b : Bool) → is_some (cond b None (found 3 x rs)) ≡ cond b false (is_changed x rs)

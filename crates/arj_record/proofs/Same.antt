@@ -29,7 +29,8 @@ pub is_of_same : {V : Type 0} → (order : ℕ) (x : Uid) (q r : Record V) → i
 is_of_same order x q r e = let p = is_of_parts (order_of r) (object_of r) q e in λ i. (p.0 i == order) && uid_eq (p.1 i) x
 
 -- two records that aren't of one kind and object don't pass the same test
-pub is_of_other : {V : Type 0} → (order : ℕ) (x : Uid) (q r : Record V) → is_like q r ≡ false → is_of order x q ≡ true → is_of order x r ≡ false
+pub is_of_other : {V : Type 0} → (order : ℕ) (x : Uid) (q r : Record V) → is_like q r ≡ false → is_of order x q ≡ true →
+    is_of order x r ≡ false
 is_of_other order x q r e f = by (is_of order x r) refl
   where
     by : (b : Bool) → is_of order x r ≡ b → b ≡ false

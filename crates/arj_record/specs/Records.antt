@@ -1,12 +1,14 @@
 -- The records of one action, as a list.
-use Rattle.std.specs.Prelude.{◌≡◌, ℕ, ◌≤◌, ◌++◌, nat_lt, not, if◌then◌else◌, Bool, false, List, [], ◌∷◌, Option, Some, None, is_some, find, filter, map, option_and_then}
+use Rattle.std.specs.Prelude.{◌≡◌, ℕ, ◌≤◌, ◌++◌, nat_lt, not, if◌then◌else◌, Bool, false, List, [], ◌∷◌, Option, Some, None, is_some, find}
+use Rattle.std.specs.Prelude.{filter, map, option_and_then}
 use Rattle.std.specs.List.{list_any, AllByRecursion}
 use Rattle.arj_base.specs.declared.mode.Mode.{Mode}
 use Rattle.arj_base.specs.declared.uid.Uid.{Uid}
 use Rattle.arj_base.specs.Uid.{uid_eq}
 use Rattle.arj_record.specs.declared.record.Record.{Record}
 use Rattle.arj_record.specs.declared.record.Record.TheVariants.{Recovery, Persistence}
-use Rattle.arj_record.specs.Record.{object_of, order_of, recovery_order, lock_order, persistence_order, is_of, is_like, joined, is_lock, image_in, mode_in}
+use Rattle.arj_record.specs.Record.{object_of, order_of, recovery_order, lock_order, persistence_order, is_of, is_like, joined, is_lock}
+use Rattle.arj_record.specs.Record.{image_in, mode_in}
 use Rattle.arj_record.specs.Scene.{Call, restore, pass, release, raise}
 
 -- What contracts see of a list: its records, and how many more it takes without asking for memory.

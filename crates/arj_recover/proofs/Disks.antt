@@ -19,10 +19,19 @@ use Rattle.arj_law_store.specs.store.Files.{IsPairOf}
 
 -- a role's pair is told from its files
 abbrev pub Stays : {O : Type 0} → Ghosts O → Type 0
-Stays o = (r : Role) (old new : FileMap) → SameOfRole r old new → o.formed old r → o.formed new r × files.SamePair (o.pair old r) (o.pair new r)
+Stays o = (r : Role) (old new : FileMap) → SameOfRole r old new → o.formed old r →
+    o.formed new r × files.SamePair (o.pair old r) (o.pair new r)
 
 pub same_pair : (p q : files.Pair) (d : Pair) → files.SamePair p q → IsPairOf p d → IsPairOf q d
-same_pair p q d same are = record { held = λ u. same.committed u ∙ are.held u; pend = λ a. same.prepared a ∙ are.pend a; held_rises = are.held_rises; pend_rises = are.pend_rises; in_form = are.in_form }
+same_pair p q d same are =
+    record {
+      held = λ u. same.committed u ∙ are.held u;
+      pend = λ a. same.prepared a ∙ are.pend a;
+      held_rises = are.held_rises;
+      pend_rises =
+          are.pend_rises;
+      in_form = are.in_form;
+    }
 
 -- each record is as before
 abbrev pub SameRecords : FileMap → FileMap → Type 0
@@ -46,8 +55,10 @@ in_form_same old new same form u = subst (λ f. IfSome f (IsIntentOf u)) (sym (s
 -- no file changes but the incarnation and Tmp
 pub only_own : (old new : FileMap) → ((q : Slot) → q ≢ slot.Incarnation → q ≢ slot.Tmp → new q ≡ old q) → OnlyOwn old new
 only_own old new others = record {
-  store = λ q is. others q (λ (e : q ≡ slot.Incarnation). let never : None ≡ Some role.Store = sym (ap slot_role e) ∙ is in cc) (λ (e : q ≡ slot.Tmp). let never : None ≡ Some role.Store = sym (ap slot_role e) ∙ is in cc);
-  names = λ q is. others q (λ (e : q ≡ slot.Incarnation). let never : None ≡ Some role.Names = sym (ap slot_role e) ∙ is in cc) (λ (e : q ≡ slot.Tmp). let never : None ≡ Some role.Names = sym (ap slot_role e) ∙ is in cc);
+  store = λ q is. others q (λ (e : q ≡ slot.Incarnation). let never : None ≡ Some role.Store =
+      sym (ap slot_role e) ∙ is in cc) (λ (e : q ≡ slot.Tmp). let never : None ≡ Some role.Store = sym (ap slot_role e) ∙ is in cc);
+  names = λ q is. others q (λ (e : q ≡ slot.Incarnation). let never : None ≡ Some role.Names =
+      sym (ap slot_role e) ∙ is in cc) (λ (e : q ≡ slot.Tmp). let never : None ≡ Some role.Names = sym (ap slot_role e) ∙ is in cc);
   intents = λ u. others (slot.Intent u) (λ e. cc) (λ e. cc);
 }
 
@@ -89,7 +100,9 @@ module _ {O : Type 0} (o : Ghosts O) (stays : Stays o) (old new : FileMap) (form
   }
     where
       other_role : OnlyOfRole role.Store old new → SameOfRole role.Names old new
-      other_role only q is = only q (λ (e : slot_role q ≡ Some role.Store). let never : Some role.Names ≡ Some role.Store = sym is ∙ e in cc) (λ (e : q ≡ slot.Tmp). let never : None ≡ Some role.Names = sym (ap slot_role e) ∙ is in cc)
+      other_role only q is =
+          only q (λ (e : slot_role q ≡ Some role.Store). let never : Some role.Names ≡ Some role.Store =
+          sym is ∙ e in cc) (λ (e : q ≡ slot.Tmp). let never : None ≡ Some role.Names = sym (ap slot_role e) ∙ is in cc)
 
   pub formed_role : OnlyOfRole role.Store old new → o.formed new role.Store → IsFormed o new
   formed_role only store = record {

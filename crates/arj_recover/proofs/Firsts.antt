@@ -62,7 +62,8 @@ unfolding IsDistinct
 distinct_at n [] by = tt
 distinct_at n (o ∷ os) by = with_one (has o.stores n) (distinct_at n os (behind o os by))
   where
-    with_one : (b : Bool) → IsDistinct uid_eq (map uid_of (map first_state (stored n os))) → IsDistinct uid_eq (map uid_of (map first_state (cond b (o ∷ stored n os) (stored n os))))
+    with_one : (b : Bool) → IsDistinct uid_eq (map uid_of (map first_state (stored n os))) →
+        IsDistinct uid_eq (map uid_of (map first_state (cond b (o ∷ stored n os) (stored n os))))
     with_one true more = (apart o.x (stored n os) (kept_above n o.x os (above o os by)), more)
     with_one false more = more
 
@@ -74,10 +75,12 @@ pub are_distinct : (n : ℕ) (hd : Header) → HeaderInForm hd → AreDistinct r
 are_distinct n hd form = record { distinct = distinct_at n hd.objects form.objects.1; own = own_at (stored n hd.objects) }
 
 -- numbers above x and up to 256 are few
-few_above : (x k : ℕ) (os : List ObjectLine) → are_by_number os ≡ true → AreAbove x os → AllByRecursion (ObjectLineInForm k) os → x ≤ 256 → length os + x ≤ 256
+few_above : (x k : ℕ) (os : List ObjectLine) → are_by_number os ≡ true → AreAbove x os → AllByRecursion (ObjectLineInForm k) os → x ≤ 256 →
+    length os + x ≤ 256
 few_above x k [] by all form less = omega (arith, less)
 few_above x k (o ∷ os) by all form less =
-    let more : length os + o.x ≤ 256 = few_above o.x k os (behind o os by) (above o os by) form.1 form.0.number.1 in omega (arith, more, all.0)
+    let more : length os + o.x ≤ 256 =
+    few_above o.x k os (behind o os by) (above o os by) form.1 form.0.number.1 in omega (arith, more, all.0)
 
 fewer : (n : ℕ) (os : List ObjectLine) → length (stored n os) ≤ length os
 fewer n [] = omega arith
@@ -97,19 +100,26 @@ positive k (o ∷ os) form = (omega (arith, form.0.number.0), positive k os form
 
 pub are_few : (n : ℕ) (hd : Header) → HeaderInForm hd → length (map first_state (stored n hd.objects)) ≤ 65535
 are_few n hd form =
-    let all : length hd.objects + 0 ≤ 256 = few_above 0 hd.nodes hd.objects form.objects.1 (positive hd.nodes hd.objects form.objects.0) form.objects.0 (omega arith) in
+    let all : length hd.objects + 0 ≤ 256 =
+    few_above 0 hd.nodes hd.objects form.objects.1 (positive hd.nodes hd.objects form.objects.0) form.objects.0 (omega arith) in
     omega (arith, all, fewer n hd.objects, length_states (stored n hd.objects))
 
 -- ---- in form
 
 form_one : (k : ℕ) (o : ObjectLine) → ObjectLineInForm k o → length (state_bytes (first_state o)) ≤ 65535 → StateInForm (first_state o)
-form_one k o form small = ((omega arith, omega arith, omega (arith, form.number.1)), omega arith, (omega arith, omega arith, omega arith), omega (arith, small))
+form_one k o form small =
+    ((omega arith, omega arith, omega (arith, form.number.1)), omega arith, (omega arith, omega arith, omega arith), omega (arith, small))
 
-pub firsts_form : (n k : ℕ) (os : List ObjectLine) → AllByRecursion (ObjectLineInForm k) os → AllByRecursion (λ s. length (state_bytes s) ≤ 65535) (map first_state (stored n os)) → AllByRecursion StateInForm (map first_state (stored n os))
+pub firsts_form : (n k : ℕ) (os : List ObjectLine) → AllByRecursion (ObjectLineInForm k) os →
+    AllByRecursion (λ s. length (state_bytes s) ≤ 65535) (map first_state (stored n os)) →
+    AllByRecursion StateInForm (map first_state (stored n os))
 firsts_form n k [] form small = tt
 firsts_form n k (o ∷ os) form small = by (has o.stores n) (λ more. firsts_form n k os form.1 more) small
   where
-    by : (b : Bool) → (AllByRecursion (λ s. length (state_bytes s) ≤ 65535) (map first_state (stored n os)) → AllByRecursion StateInForm (map first_state (stored n os)))
-        → AllByRecursion (λ s. length (state_bytes s) ≤ 65535) (map first_state (cond b (o ∷ stored n os) (stored n os))) → AllByRecursion StateInForm (map first_state (cond b (o ∷ stored n os) (stored n os)))
+    by : (b : Bool) →
+        (AllByRecursion (λ s. length (state_bytes s) ≤ 65535) (map first_state (stored n os)) →
+        AllByRecursion StateInForm (map first_state (stored n os)))
+        → AllByRecursion (λ s. length (state_bytes s) ≤ 65535) (map first_state (cond b (o ∷ stored n os) (stored n os))) →
+        AllByRecursion StateInForm (map first_state (cond b (o ∷ stored n os) (stored n os)))
     by true rest all = (form_one k o form.0 all.0, rest all.1)
     by false rest all = rest all

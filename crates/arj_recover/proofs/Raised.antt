@@ -44,7 +44,8 @@ module _ {O : Type 0} (o : Ghosts O) (stays : Stays o) (old new : FileMap) (form
       (⊎_elim (λ (same : new slot.Incarnation ≡ old slot.Incarnation). (formed.incarnation.0, same ∙ formed.incarnation.1, formed.incarnation.2))
       (λ (here : new slot.Incarnation ≡ Some (incarnation_bytes next)). has_put new next (fits put.0) here) put.1.here))
 
-  raised_here : inc old < 4294967295 → new slot.Incarnation ≡ Some (incarnation_bytes next) → OnlyOwn old new → IsWorked o (PutInc next) old new
+  raised_here : inc old < 4294967295 → new slot.Incarnation ≡ Some (incarnation_bytes next) → OnlyOwn old new →
+      IsWorked o (PutInc next) old new
   raised_here less here same d are = said_on o stays old new formed next d same (sym (inc_is new next (fits less) here)) are
 
   pub worked_raised : inc old < 4294967295 → Puts old new slot.Incarnation (incarnation_bytes next) → IsWorked o (PutInc next) old new
@@ -54,7 +55,8 @@ module _ {O : Type 0} (o : Ghosts O) (stays : Stays o) (old new : FileMap) (form
   next_of : (d : Disk) → IsDiskOf o old d → d.inc + 1 ≡ next
   next_of d are = ap (λ i. i + 1) are.inc
 
-  cut_at : (n : ℕ) (lines : List Line) (d : Disk) (how : Stop) → IsDiskOf o new (stopped how (PutInc (d.inc + 1)) d) → IsCut o (begins_again n (d.inc + 1)) d new (record { before = lines; after = lines })
+  cut_at : (n : ℕ) (lines : List Line) (d : Disk) (how : Stop) → IsDiskOf o new (stopped how (PutInc (d.inc + 1)) d) →
+      IsCut o (begins_again n (d.inc + 1)) d new (record { before = lines; after = lines })
   cut_at n lines d how left = record {
     front = Do Look ∷ [];
     work = PutInc (d.inc + 1);
@@ -65,7 +67,8 @@ module _ {O : Type 0} (o : Ghosts O) (stays : Stays o) (old new : FileMap) (form
     lines = sym (append-nil lines);
   }
 
-  cut_before : (n : ℕ) (lines : List Line) (d : Disk) → OnlyOwn old new → new slot.Incarnation ≡ old slot.Incarnation → IsDiskOf o old d → IsCut o (begins_again n (d.inc + 1)) d new (record { before = lines; after = lines })
+  cut_before : (n : ℕ) (lines : List Line) (d : Disk) → OnlyOwn old new → new slot.Incarnation ≡ old slot.Incarnation → IsDiskOf o old d →
+      IsCut o (begins_again n (d.inc + 1)) d new (record { before = lines; after = lines })
   cut_before n lines d own same are = cut_at n lines d Before (says_on o stays old new formed own same d are)
 
   pub cut_raised : (n : ℕ) (lines : List Line) → MayRaise old new → IsCutOf o (begins_on n) old new lines lines
@@ -74,10 +77,14 @@ module _ {O : Type 0} (o : Ghosts O) (stays : Stays o) (old new : FileMap) (form
       (λ (put : (inc old < 4294967295) × PutsOrNot old new slot.Incarnation (incarnation_bytes next)). ⊎_elim
       (λ (same : new slot.Incarnation ≡ old slot.Incarnation). cut_before n lines d (only_own old new put.1.others) same are)
       (λ (here : new slot.Incarnation ≡ Some (incarnation_bytes next)). cut_at n lines d After
-      (subst (λ i. IsDiskOf o new (record d { inc = i })) (sym (next_of d are)) (raised_here put.0 here (only_own old new put.1.others) d are))) put.1.here) files
+      (subst (λ i. IsDiskOf o new (record d {
+        inc =
+            i;
+      })) (sym (next_of d are)) (raised_here put.0 here (only_own old new put.1.others) d are))) put.1.here) files
 
   -- the store's recovery is stopped, once the node is up
-  pub cut_up : (n : ℕ) (mid : FileMap) (before after : List Line) → IsWorked o (PutInc next) old mid → SaysSame o mid new → after ≡ before ++ record { event = 0; body = body.Up n next } ∷ [] → IsCutOf o (begins_on n) old new before after
+  pub cut_up : (n : ℕ) (mid : FileMap) (before after : List Line) → IsWorked o (PutInc next) old mid → SaysSame o mid new →
+      after ≡ before ++ record { event = 0; body = body.Up n next } ∷ [] → IsCutOf o (begins_on n) old new before after
   cut_up n mid before after worked same lines d are = record {
     front = Do Look ∷ Do (PutInc (d.inc + 1)) ∷ Say (body.Up n (d.inc + 1)) ∷ [];
     work = Look;
@@ -97,10 +104,12 @@ rises old new = ⊎_elim
     (λ (same : Same old new). rises_same old new (inc_same old new (same slot.Incarnation)))
     (λ (put : (inc old < 4294967295) × PutsOrNot old new slot.Incarnation (incarnation_bytes (inc old + 1))). ⊎_elim
     (λ (same : new slot.Incarnation ≡ old slot.Incarnation). rises_same old new (inc_same old new same))
-    (λ (here : new slot.Incarnation ≡ Some (incarnation_bytes (inc old + 1))). let is : inc new ≡ inc old + 1 = inc_is new (inc old + 1) (omega (arith, put.0)) here in (omega (arith, is), omega (arith, is))) put.1.here)
+    (λ (here : new slot.Incarnation ≡ Some (incarnation_bytes (inc old + 1))). let is : inc new ≡ inc old + 1 =
+    inc_is new (inc old + 1) (omega (arith, put.0)) here in (omega (arith, is), omega (arith, is))) put.1.here)
 
 -- what stays behind the work leaves it done
-pub worked_on : {O : Type 0} (o : Ghosts O) (w : Work) (old mid new : FileMap) → IsWorked o w old mid → SaysSame o mid new → IsWorked o w old new
+pub worked_on : {O : Type 0} (o : Ghosts O) (w : Work) (old mid new : FileMap) → IsWorked o w old mid → SaysSame o mid new →
+    IsWorked o w old new
 worked_on o w old mid new worked same d are = same (protocol.worked w d) (worked d are)
 
 -- the first incarnation is put behind the first states

@@ -58,4 +58,6 @@ first_with store names = record { inc = 1; store = store; names = names; intents
 
 -- the files say the first disk with the pairs that they said before
 abbrev pub IsFirst : {O : Type 0} → Ghosts O → FileMap → FileMap → Type 0
-IsFirst o old new = (store names : Pair) → IsPairOf (o.pair old role.Store) store → IsPairOf (o.pair old role.Names) names → IsDiskOf o new (first_with store names)
+IsFirst o old new =
+    (store names : Pair) → IsPairOf (o.pair old role.Store) store → IsPairOf (o.pair old role.Names) names →
+    IsDiskOf o new (first_with store names)

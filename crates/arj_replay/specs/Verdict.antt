@@ -50,7 +50,8 @@ first_difference values (c ∷ cs) = differs_or c.at (wanted_of c.op (values c.x
 -- The difference as it is told: the place of the line counted from 1, the event of the line, and the answer that is wanted.
 abbrev pub IsWrong : List Line → Option Differs → Option Wrong → Type 0
 IsWrong lines None None = ⊤
-IsWrong lines (Some d) (Some w) = (w.line ≡ d.at + 1) × ((line : Line) → slice_get lines d.at ≡ Some line → w.event ≡ line.event) × (w.wanted ≡ d.wanted)
+IsWrong lines (Some d) (Some w) =
+    (w.line ≡ d.at + 1) × ((line : Line) → slice_get lines d.at ≡ Some line → w.event ≡ line.event) × (w.wanted ≡ d.wanted)
 IsWrong lines _ _ = ⊥
 
 -- the line at this place has the call, whose object is the header's and has the operation

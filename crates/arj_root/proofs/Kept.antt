@@ -1,5 +1,6 @@
 -- What a root keeps goes on fitting a plan.
-use Rattle.std.proofs.Common.{◌≡◌, ℕ, Bool, true, false, not, ◌&&◌, ◌==◌, List, [], ◌∷◌, ◌++◌, Option, Some, None, unwrap_or, IfSome, map, filter, cond, if◌then◌else◌, refl, ap, sym, subst, ◌∙◌, arith}
+use Rattle.std.proofs.Common.{◌≡◌, ℕ, Bool, true, false, not, ◌&&◌, ◌==◌, List, [], ◌∷◌, ◌++◌, Option, Some, None, unwrap_or, IfSome, map}
+use Rattle.std.proofs.Common.{filter, cond, if◌then◌else◌, refl, ap, sym, subst, ◌∙◌, arith}
 use Rattle.std.specs.Prelude.{⊤}
 use Rattle.std.specs.List.{AllByRecursion, flat_map}
 use Rattle.std.specs.List.Sorted.{IsStrictlySortedBy}
@@ -26,14 +27,19 @@ use Rattle.arj_msg.specs.declared.message.RecordedReply.TheVariants as recorded
 use Rattle.arj_protocol.proofs.Maps.{put_other, put_same}
 use Rattle.arj_protocol.specs.Ask.{Reply, answers, top_of}
 use Rattle.arj_protocol.specs.Asking.{granted_by, notes_grant, root_moved, waits_for_call, keeps_after, renewed, given_away}
-use Rattle.arj_protocol.specs.Call.{Known, Goal, Run, Include, Steps, At, AtBind, AtLoad, AtActivate, AtNote, AtInvoke, answered, has_changed, moves, finds, with_inc, same_binding, other_binding, bound_by, bound_answer, activated_by, recorded_kept, named_again, made_by, or_lost, load_from, live_known, made_known, write_known, Changed, two_incs, two_bindings}
+use Rattle.arj_protocol.specs.Call.{Known, Goal, Run, Include, Steps, At, AtBind, AtLoad, AtActivate, AtNote, AtInvoke, answered}
+use Rattle.arj_protocol.specs.Call.{has_changed, moves, finds, with_inc, same_binding, other_binding, bound_by, bound_answer, activated_by}
+use Rattle.arj_protocol.specs.Call.{recorded_kept, named_again, made_by, or_lost, load_from, live_known, made_known, write_known, Changed}
+use Rattle.arj_protocol.specs.Call.{two_incs, two_bindings}
 use Rattle.arj_protocol.specs.Commit.{Used, Plan, included_of, joins_left, is_marked}
 use Rattle.arj_protocol.specs.Confirm.{marked, with_stores, without_stores}
-use Rattle.arj_protocol.specs.Coord.{Coord, Root, Grant, keeping_of, with_keeping, Joined, Keeping, no_keeping, later_state, latest_of, joins_on, joined_with, same_join, or_kept_state, survives}
+use Rattle.arj_protocol.specs.Coord.{Coord, Root, Grant, keeping_of, with_keeping, Joined, Keeping, no_keeping, later_state, latest_of}
+use Rattle.arj_protocol.specs.Coord.{joins_on, joined_with, same_join, or_kept_state, survives}
 use Rattle.arj_protocol.specs.Ending.{keeping_after}
 use Rattle.arj_protocol.specs.Order.{at_number, put_number, number_set, each, binding_eq, binding_less}
 use Rattle.arj_protocol.specs.Words.{Uid, is_listed, with_store, without_store}
-use Rattle.arj_root.specs.Kept.{HasNumber, JoinFits, AreJoins, Keepings, keeping_in, KnownFits, KeptFits, AreKept, changed_at, States, AreNumbered}
+use Rattle.arj_root.specs.Kept.{HasNumber, JoinFits, AreJoins, Keepings, keeping_in, KnownFits, KeptFits, AreKept, changed_at, States}
+use Rattle.arj_root.specs.Kept.{AreNumbered}
 use Rattle.arj_root.proofs.Maps.{put_back}
 use Rattle.arj_root.specs.Merged.{of_joins}
 
@@ -72,9 +78,11 @@ put_put {X} k v w (e ∷ es) = by (nat_cmp k e.0) refl (put_put k v w es)
     by Greater is ih = rw is (ap (λ rest. e ∷ rest) ih)
 
 -- what is put over what was written is put over what was there
-pub put_over : {X : Type 0} (k : ℕ) (v new c : X) (m kept es : List (ℕ × X)) → at_number k m ≡ Some c → IsStrictlySortedBy nat_cmp (keys_of m)
+pub put_over : {X : Type 0} (k : ℕ) (v new c : X) (m kept es : List (ℕ × X)) → at_number k m ≡ Some c →
+    IsStrictlySortedBy nat_cmp (keys_of m)
     → es ≡ set_value (is_at (nat_cmp k)) m new → m ≡ kept → put_number k v es ≡ put_number k v kept
-put_over k v new c m kept es at sorted written same = ap (put_number k v) (put_back k m es c new new at sorted written refl) ∙ put_put k v new m ∙ ap (put_number k v) same
+put_over k v new c m kept es at sorted written same =
+    ap (put_number k v) (put_back k m es c new new at sorted written refl) ∙ put_put k v new m ∙ ap (put_number k v) same
 
 pub kept_put : (x : ℕ) (k : Keeping) (m : Keepings) → AreKept m → KeptFits k.kept → AreKept (put_number x k m)
 kept_put x k m all fits y = by (nat_cmp y x) refl
@@ -112,7 +120,8 @@ over f [] e es above = refl
 over f (k ∷ ks) e es above = rw (turned e.0 k above.0) (over f ks e (put_number k (f k (keeping_in k es)) es) above.1)
 
 -- changed at each key
-pub changed_each : (f : ℕ → Keeping → Keeping) (m : Keepings) → IsStrictlySortedBy nat_cmp (keys_of m) → changed_at f (keys_of m) m ≡ each f m
+pub changed_each : (f : ℕ → Keeping → Keeping) (m : Keepings) → IsStrictlySortedBy nat_cmp (keys_of m) →
+    changed_at f (keys_of m) m ≡ each f m
 unfolding IsStrictlySortedBy
 changed_each f [] sorted = refl
 changed_each f (e ∷ es) sorted =
@@ -172,7 +181,8 @@ other_fits free old k at was fits = by (free && binding_less old.binding k.bindi
     by true = fits
     by false = was
 
-bound_fits : (free : Bool) (k : Known) (at : At) (kept : Option Known) → KnownFits k → KeptFits kept → KeptFits (bound_by free k at kept).kept
+bound_fits : (free : Bool) (k : Known) (at : At) (kept : Option Known) → KnownFits k → KeptFits kept →
+    KeptFits (bound_by free k at kept).kept
 bound_fits free k at None fits was = fits
 bound_fits free k at (Some old) fits was = by (binding_eq old.binding k.binding)
   where
@@ -180,7 +190,8 @@ bound_fits free k at (Some old) fits was = by (binding_eq old.binding k.binding)
     by true = again_fits old k at k.inc was fits
     by false = other_fits free old k at was fits
 
-made_fits : (free : Bool) (k : Known) (kept : Option Known) (at : Option At) → KnownFits k → KeptFits kept → KeptFits (made_by free k kept at).kept
+made_fits : (free : Bool) (k : Known) (kept : Option Known) (at : Option At) → KnownFits k → KeptFits kept →
+    KeptFits (made_by free k kept at).kept
 made_fits free k kept None fits was = was
 made_fits free k kept (Some at) fits was = bound_fits free k at kept fits was
 
@@ -212,7 +223,8 @@ recorded_fits k (Some old) was = by (binding_eq old.binding k.binding)
     by true = record { server = was.server; stores = was.stores }
     by false = was
 
-answered_fits : (free : Bool) (kept : Option Known) (g : Goal) (at : At) (r : Reply) → KeptFits kept → ReplySends r → KeptFits (answered free kept g at r).kept
+answered_fits : (free : Bool) (kept : Option Known) (g : Goal) (at : At) (r : Reply) → KeptFits kept → ReplySends r →
+    KeptFits (answered free kept g at r).kept
 answered_fits free kept g (AtBind avoid) (Reply.Bound r) was s = reply_fits free kept r s was
 answered_fits free kept g (AtBind avoid) (Reply.Loaded r) was s = was
 answered_fits free kept g (AtBind avoid) (Reply.Activated r) was s = was
@@ -259,7 +271,8 @@ answered_fits free kept g (AtInvoke k i) (Reply.Voted r) was s = was
 answered_fits free kept g (AtInvoke k i) (Reply.Prepared r) was s = was
 answered_fits free kept g (AtInvoke k i) (Reply.Confirmed r) was s = was
 
-keeps_fits : (g : Goal) (spoilt : Bool) (kept : Option Known) (k : Keeping) → KeptFits k.kept → KeptFits kept → KeptFits ((keeps_after g spoilt kept k).kept)
+keeps_fits : (g : Goal) (spoilt : Bool) (kept : Option Known) (k : Keeping) → KeptFits k.kept → KeptFits kept →
+    KeptFits ((keeps_after g spoilt kept k).kept)
 keeps_fits (Run o) spoilt kept k was fits = fits
 keeps_fits (Include s) spoilt kept k was fits = was
 
@@ -271,7 +284,8 @@ hears_fits free k s from m was sends = by (answers m) (sends_reply m sends)
     on r fits true = keeps_fits s.goal _ (answered free k.kept s.goal s.at r).kept k was (answered_fits free k.kept s.goal s.at r was fits)
     on r fits false = was
 
-    by : (e : Option (Asked × Reply)) → IfSome e (λ (e : Asked × Reply). ReplySends e.1) → KeptFits ((hears free k s (awaited from s e)).keeping.kept)
+    by : (e : Option (Asked × Reply)) → IfSome e (λ (e : Asked × Reply). ReplySends e.1) →
+        KeptFits ((hears free k s (awaited from s e)).keeping.kept)
     by None is = was
     by (Some e) is = on e.1 is (waits_for_call from e.0 e.1 s)
 
@@ -280,7 +294,10 @@ pub answered_root : (s : Steps) (from : ℕ) (m : Message) (free : Bool) (old mi
     → grant ≡ granted_in (top_of s.path) s.x (answers m)
     → mid ≡ notes_grant grant old
     → keeping ≡ put_number s.x (hears free (keeping_in s.x mid.keeping) s (heard_in from m s)).keeping mid.keeping
-    → IfSome (heard_in from m s) (λ r. record mid { keeping = keeping } ≡ root_moved s r (answered free ((keeping_of s.x old).kept) s.goal s.at r) old)
+    → IfSome (heard_in from m s) (λ r. record mid {
+      keeping =
+          keeping;
+    } ≡ root_moved s r (answered free ((keeping_of s.x old).kept) s.goal s.at r) old)
 answered_root s from m free old mid grant keeping grant_is mid_is keeping_is = by (answers m) grant_is keeping_is
   where
     kept : Option Reply → Root → Root
@@ -291,14 +308,22 @@ answered_root s from m free old mid grant keeping grant_is mid_is keeping_is = b
     noted r None = refl
     noted r (Some g) = refl
 
-    on : (r : Reply) (b : Bool) → grant ≡ granted_by (top_of s.path) s.x r → record mid { keeping = keeping } ≡ kept (cond b (Some r) None) mid
-        → IfSome (cond b (Some r) None) (λ r. record mid { keeping = keeping } ≡ root_moved s r (answered free ((keeping_of s.x old).kept) s.goal s.at r) old)
-    on r true is changed = changed ∙ ap (kept (Some r)) (mid_is ∙ ap (λ g. notes_grant g old) is) ∙ noted r (granted_by (top_of s.path) s.x r)
+    on : (r : Reply) (b : Bool) → grant ≡ granted_by (top_of s.path) s.x r →
+        record mid { keeping = keeping } ≡ kept (cond b (Some r) None) mid
+        → IfSome (cond b (Some r) None) (λ r. record mid {
+          keeping =
+              keeping;
+        } ≡ root_moved s r (answered free ((keeping_of s.x old).kept) s.goal s.at r) old)
+    on r true is changed =
+        changed ∙ ap (kept (Some r)) (mid_is ∙ ap (λ g. notes_grant g old) is) ∙ noted r (granted_by (top_of s.path) s.x r)
     on r false is changed = tt
 
     by : (e : Option (Asked × Reply)) → grant ≡ granted_in (top_of s.path) s.x e
         → keeping ≡ put_number s.x (hears free (keeping_in s.x mid.keeping) s (awaited from s e)).keeping mid.keeping
-        → IfSome (awaited from s e) (λ r. record mid { keeping = keeping } ≡ root_moved s r (answered free ((keeping_of s.x old).kept) s.goal s.at r) old)
+        → IfSome (awaited from s e) (λ r. record mid {
+          keeping =
+              keeping;
+        } ≡ root_moved s r (answered free ((keeping_of s.x old).kept) s.goal s.at r) old)
     by None is changed = tt
     by (Some e) is changed = on e.1 (waits_for_call from e.0 e.1 s) is (ap (λ ks. record mid { keeping = ks }) changed)
 
@@ -334,7 +359,8 @@ without_fits (s ∷ ss) stores all = without_fits ss (without_store s stores) (s
 abbrev IsMark : ℕ × ℕ → Type 0
 IsMark m = IsNode m.1
 
-joined_marks : (x : ℕ) (stores : List ℕ) → AllByRecursion IsNode stores → AllByRecursion IsMark (map {A = ℕ} {B = ℕ × ℕ} (λ s. (x, s)) stores)
+joined_marks : (x : ℕ) (stores : List ℕ) → AllByRecursion IsNode stores →
+    AllByRecursion IsMark (map {A = ℕ} {B = ℕ × ℕ} (λ s. (x, s)) stores)
 joined_marks x [] all = tt
 joined_marks x (s ∷ stores) all = (all.0, joined_marks x stores all.1)
 
@@ -355,7 +381,8 @@ marked_fit x (m ∷ marks) all = by (m.0 == x) (marked_fit x marks all.1)
     rest : List (ℕ × ℕ)
     rest = filter (λ (m : ℕ × ℕ). m.0 == x) marks
 
-    by : (b : Bool) → AllByRecursion IsNode (marked x marks) → AllByRecursion IsNode (map (λ (m : ℕ × ℕ). m.1) (if b then m ∷ rest else rest))
+    by : (b : Bool) → AllByRecursion IsNode (marked x marks) →
+        AllByRecursion IsNode (map (λ (m : ℕ × ℕ). m.1) (if b then m ∷ rest else rest))
     by true more = (all.0, more)
     by false more = more
 
@@ -401,7 +428,8 @@ on_object x top c (j ∷ joined) all = by (j.x == x) refl (survives top j.path c
     is_of : (j.x == x) ≡ true → j.x ≡ x
     is_of same = grind (arith, nat_tests, same)
 
-    by : (b : Bool) → (j.x == x) ≡ b → (t : Bool) → AllByRecursion (λ (j : Joined). HasNumber x j.loaded × IsNode j.store) (joins_on x top (of_joins joined) c)
+    by : (b : Bool) → (j.x == x) ≡ b → (t : Bool) →
+        AllByRecursion (λ (j : Joined). HasNumber x j.loaded × IsNode j.store) (joins_on x top (of_joins joined) c)
         → AllByRecursion (λ (j : Joined). HasNumber x j.loaded × IsNode j.store) (if b && t then j ∷ joins_on x top (of_joins joined) c else joins_on x top (of_joins joined) c)
     by true same true rest = ((all.0.own ∙ is_of same, all.0.node), rest)
     by true same false rest = rest
@@ -413,10 +441,12 @@ latest_from x found [] is all = is
 latest_from x None (j ∷ joined) is all = latest_from x (Some j.loaded) joined all.0.0 all.1
 latest_from x (Some s) (j ∷ joined) is all = latest_from x (Some (later_state s j.loaded)) joined (later_is x s j.loaded is all.0.0) all.1
 
-pub latest_is : (x : ℕ) (top : Uid) (c : Coord) (joined : List Joined) → AreJoins joined → IfSome (latest_of None (joins_on x top (of_joins joined) c)) (HasNumber x)
+pub latest_is : (x : ℕ) (top : Uid) (c : Coord) (joined : List Joined) → AreJoins joined →
+    IfSome (latest_of None (joins_on x top (of_joins joined) c)) (HasNumber x)
 latest_is x top c joined all = latest_from x None (joins_on x top (of_joins joined) c) tt (on_object x top c joined all)
 
-stores_of : (x : ℕ) (joined : List Joined) → AllByRecursion (λ (j : Joined). HasNumber x j.loaded × IsNode j.store) joined → AllByRecursion IsNode (map (λ (j : Joined). j.store) joined)
+stores_of : (x : ℕ) (joined : List Joined) → AllByRecursion (λ (j : Joined). HasNumber x j.loaded × IsNode j.store) joined →
+    AllByRecursion IsNode (map (λ (j : Joined). j.store) joined)
 stores_of x [] all = tt
 stores_of x (j ∷ joined) all = (all.0.1, stores_of x joined all.1)
 
@@ -426,7 +456,8 @@ stores_are x top c joined all =
     all_set IsNode (map (λ (j : Joined). j.store) (joins_on x top (of_joins joined) c)) (stores_of x (joins_on x top (of_joins joined) c) (on_object x top c joined all))
 
 -- of a loaded state and a kept one
-pub kept_is : (x : ℕ) (loaded kept : Option ObjectState) → IfSome loaded (HasNumber x) → IfSome kept (HasNumber x) → IfSome (or_kept_state loaded kept) (HasNumber x)
+pub kept_is : (x : ℕ) (loaded kept : Option ObjectState) → IfSome loaded (HasNumber x) → IfSome kept (HasNumber x) →
+    IfSome (or_kept_state loaded kept) (HasNumber x)
 kept_is x None kept is was = tt
 kept_is x (Some s) None is was = is
 kept_is x (Some s) (Some t) is was = later_is x s t is was

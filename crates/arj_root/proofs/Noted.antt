@@ -1,5 +1,6 @@
 -- Questions on noted lists, answered by their paths at a number.
-use Rattle.std.proofs.Common.{◌≡◌, ℕ, Bool, true, false, not, ◌&&◌, ◌||◌, ◌==◌, List, filter, [], ◌∷◌, ◌++◌, append-nil, refl, ap, sym, ◌∙◌, if◌then◌else◌, arith}
+use Rattle.std.proofs.Common.{◌≡◌, ℕ, Bool, true, false, not, ◌&&◌, ◌||◌, ◌==◌, List, filter, [], ◌∷◌, ◌++◌, append-nil, refl, ap, sym, ◌∙◌}
+use Rattle.std.proofs.Common.{if◌then◌else◌, arith}
 use Rattle.std.specs.List.{list_any, list_all}
 use Rattle.std.specs.Ordering.{nat_cmp, is_eq}
 use Rattle.std.specs.declared.cmp.Ordering.{Ordering}
@@ -14,7 +15,8 @@ use Rattle.arj_protocol.specs.Words.{Uid}
 use Rattle.arj_root.specs.Noted.{of_calls, of_sends, Index, listed, indexed, paths_by, is_call_on, is_send_to, HasCalls, HasSends}
 
 -- one that passes a test on its path
-pub any_by : {A : Type 0} (on : A → Bool) (path : A → List Uid) (test : List Uid → Bool) (items : List A) → list_any (λ a. on a && test (path a)) items ≡ list_any test (paths_by on path items)
+pub any_by : {A : Type 0} (on : A → Bool) (path : A → List Uid) (test : List Uid → Bool) (items : List A) →
+    list_any (λ a. on a && test (path a)) items ≡ list_any test (paths_by on path items)
 any_by on path test [] = refl
 any_by {A} on path test (a ∷ items) = by (on a) (any_by on path test items)
   where
@@ -36,7 +38,8 @@ any_within {A} on test (a ∷ items) = by (on a) refl (test a) (any_within on te
     by false is false ih = ih
 
 -- all that have the number pass
-pub all_by : {A : Type 0} (on : A → Bool) (path : A → List Uid) (test : List Uid → Bool) (items : List A) → list_all (λ a. not (on a) || test (path a)) items ≡ list_all test (paths_by on path items)
+pub all_by : {A : Type 0} (on : A → Bool) (path : A → List Uid) (test : List Uid → Bool) (items : List A) →
+    list_all (λ a. not (on a) || test (path a)) items ≡ list_all test (paths_by on path items)
 all_by on path test [] = refl
 all_by {A} on path test (a ∷ items) = by (on a) (all_by on path test items)
   where
@@ -46,7 +49,8 @@ all_by {A} on path test (a ∷ items) = by (on a) (all_by on path test items)
     by false ih = ih
 
 -- one more item
-pub by_more : {A : Type 0} (on : A → Bool) (path : A → List Uid) (items : List A) (a : A) → paths_by on path (items ++ a ∷ []) ≡ paths_by on path items ++ (if on a then path a ∷ [] else [])
+pub by_more : {A : Type 0} (on : A → Bool) (path : A → List Uid) (items : List A) (a : A) →
+    paths_by on path (items ++ a ∷ []) ≡ paths_by on path items ++ (if on a then path a ∷ [] else [])
 by_more on path [] a = refl
 by_more on path (b ∷ items) a = by (on b) (by_more on path items a)
   where
@@ -89,9 +93,11 @@ swap false false = refl
 
 -- a call that is noted
 pub calls_more : (m : Index) (said : List Said) (s : Said) → HasCalls m said → HasCalls (indexed s.x s.path m) (said ++ s ∷ [])
-calls_more m said s has x = listed_more s.x x s.path m ∙ ap (λ ps. ps ++ (if s.x == x then s.path ∷ [] else [])) (has x) ∙ sym (by_more (is_call_on x) (λ s. s.path) said s)
+calls_more m said s has x =
+    listed_more s.x x s.path m ∙ ap (λ ps. ps ++ (if s.x == x then s.path ∷ [] else [])) (has x) ∙ sym (by_more (is_call_on x) (λ s. s.path) said s)
 
-pub call_is : (m : Index) (said : List Said) (s : Said) → HasCalls m said → list_any (same_said s) said ≡ list_any (λ p. uid_eq (last_uid s.path) (last_uid p)) (listed s.x m)
+pub call_is : (m : Index) (said : List Said) (s : Said) → HasCalls m said →
+    list_any (same_said s) said ≡ list_any (λ p. uid_eq (last_uid s.path) (last_uid p)) (listed s.x m)
 call_is m said s has =
     (λ i. list_any (λ t. turned t i) said) ∙ any_by (is_call_on s.x) (λ s. s.path) (λ p. uid_eq (last_uid s.path) (last_uid p)) said
     ∙ ap (list_any (λ p. uid_eq (last_uid s.path) (last_uid p))) (sym (has s.x))
@@ -100,7 +106,8 @@ call_is m said s has =
     turned t = swap (uid_eq (last_uid s.path) (last_uid t.path)) (s.x == t.x) ∙ ap (λ b. b && uid_eq (last_uid s.path) (last_uid t.path)) (flip s.x t.x)
 
 -- a send that is noted, in the index of its kind and in that of the other kind
-pub sends_more : (m : Index) (went : List Went) (w : Went) → HasSends w.invoke m went → HasSends w.invoke (indexed w.node w.path m) (went ++ w ∷ [])
+pub sends_more : (m : Index) (went : List Went) (w : Went) → HasSends w.invoke m went →
+    HasSends w.invoke (indexed w.node w.path m) (went ++ w ∷ [])
 sends_more m went w has n =
     listed_more w.node n w.path m ∙ (λ i. has n i ++ (if own i then w.path ∷ [] else [])) ∙ sym (by_more (is_send_to w.invoke n) (λ w. w.path) went w)
   where
@@ -111,7 +118,8 @@ sends_more m went w has n =
     own : (w.node == n) ≡ is_send_to w.invoke n w
     own = sym (swap (w.node == n) (same_flag w.invoke w.invoke) ∙ ap (λ b. b && (w.node == n)) (itself w.invoke))
 
-pub sends_other : (invoke : Bool) (m : Index) (went : List Went) (w : Went) → same_flag w.invoke invoke ≡ false → HasSends invoke m went → HasSends invoke m (went ++ w ∷ [])
+pub sends_other : (invoke : Bool) (m : Index) (went : List Went) (w : Went) → same_flag w.invoke invoke ≡ false → HasSends invoke m went →
+    HasSends invoke m (went ++ w ∷ [])
 sends_other invoke m went w other has n =
     has n ∙ sym (append-nil (paths_by (is_send_to invoke n) (λ w. w.path) went)) ∙ ap (λ b. paths_by (is_send_to invoke n) (λ w. w.path) went ++ (if b then w.path ∷ [] else [])) (sym none)
     ∙ sym (by_more (is_send_to invoke n) (λ w. w.path) went w)
@@ -119,7 +127,8 @@ sends_other invoke m went w other has n =
     none : is_send_to invoke n w ≡ false
     none = swap (w.node == n) (same_flag w.invoke invoke) ∙ ap (λ b. b && (w.node == n)) other
 
-pub send_is : (m : Index) (went : List Went) (w : Went) → HasSends w.invoke m went → list_any (same_went w) went ≡ list_any (λ p. uid_eq (last_uid w.path) (last_uid p)) (listed w.node m)
+pub send_is : (m : Index) (went : List Went) (w : Went) → HasSends w.invoke m went →
+    list_any (same_went w) went ≡ list_any (λ p. uid_eq (last_uid w.path) (last_uid p)) (listed w.node m)
 send_is m went w has =
     (λ i. list_any (λ v. turned v i) went) ∙ any_by (is_send_to w.invoke w.node) (λ w. w.path) (λ p. uid_eq (last_uid w.path) (last_uid p)) went
     ∙ ap (list_any (λ p. uid_eq (last_uid w.path) (last_uid p))) (sym (has w.node))
@@ -132,22 +141,27 @@ send_is m went w has =
 -- ---- noting a call
 
 -- what the index answered is what the list answers
-pub asked_call : (m : Index) (said kept : List Said) (s : Said) (u : Uid) (h : Bool) → said ≡ kept → HasCalls m said → u ≡ last_uid s.path → h ≡ list_any (λ p. uid_eq u (last_uid p)) (listed s.x m) → list_any (same_said s) kept ≡ h
+pub asked_call : (m : Index) (said kept : List Said) (s : Said) (u : Uid) (h : Bool) → said ≡ kept → HasCalls m said → u ≡ last_uid s.path →
+    h ≡ list_any (λ p. uid_eq u (last_uid p)) (listed s.x m) → list_any (same_said s) kept ≡ h
 asked_call m said kept s u h same has u_is h_is =
     ap (list_any (same_said s)) (sym same) ∙ call_is m said s has ∙ ap (λ u. list_any (λ p. uid_eq u (last_uid p)) (listed s.x m)) (sym u_is) ∙ sym h_is
 
 pub call_again : (s : Said) (kept : List Said) → list_any (same_said s) kept ≡ true → kept ≡ (with_said s (of_calls kept)).said
 call_again s kept found = rw found refl
 
-pub call_new : (s : Said) (said kept items : List Said) → list_any (same_said s) kept ≡ false → said ≡ kept → items ≡ said ++ s ∷ [] → items ≡ (with_said s (of_calls kept)).said
+pub call_new : (s : Said) (said kept items : List Said) → list_any (same_said s) kept ≡ false → said ≡ kept → items ≡ said ++ s ∷ [] →
+    items ≡ (with_said s (of_calls kept)).said
 call_new s said kept items none same items_is = rw none (items_is ∙ ap (λ (l : List Said). l ++ s ∷ []) same)
 
-pub calls_noted : (m new : Index) (said items : List Said) (s : Said) → HasCalls m said → new ≡ indexed s.x s.path m → items ≡ said ++ s ∷ [] → HasCalls new items
-calls_noted m new said items s has new_is items_is x = ap (listed x) new_is ∙ calls_more m said s has x ∙ ap (paths_by (is_call_on x) (λ s. s.path)) (sym items_is)
+pub calls_noted : (m new : Index) (said items : List Said) (s : Said) → HasCalls m said → new ≡ indexed s.x s.path m →
+    items ≡ said ++ s ∷ [] → HasCalls new items
+calls_noted m new said items s has new_is items_is x =
+    ap (listed x) new_is ∙ calls_more m said s has x ∙ ap (paths_by (is_call_on x) (λ s. s.path)) (sym items_is)
 
 -- ---- noting a send
 
-pub asked_send : (m : Index) (went kept : List Went) (w : Went) (k : ℕ) (u : Uid) (h : Bool) → went ≡ kept → HasSends w.invoke m went → k ≡ w.node → u ≡ last_uid w.path → h ≡ list_any (λ p. uid_eq u (last_uid p)) (listed k m)
+pub asked_send : (m : Index) (went kept : List Went) (w : Went) (k : ℕ) (u : Uid) (h : Bool) → went ≡ kept → HasSends w.invoke m went →
+    k ≡ w.node → u ≡ last_uid w.path → h ≡ list_any (λ p. uid_eq u (last_uid p)) (listed k m)
     → list_any (same_went w) kept ≡ h
 asked_send m went kept w k u h same has k_is u_is h_is =
     ap (list_any (same_went w)) (sym same) ∙ send_is m went w has ∙ (λ i. list_any (λ p. uid_eq (sym u_is i) (last_uid p)) (listed (sym k_is i) m)) ∙ sym h_is
@@ -155,12 +169,16 @@ asked_send m went kept w k u h same has k_is u_is h_is =
 pub send_again : (w : Went) (kept : List Went) → list_any (same_went w) kept ≡ true → kept ≡ (with_went w (of_sends kept)).went
 send_again w kept found = rw found refl
 
-pub send_new : (w : Went) (went kept items : List Went) → list_any (same_went w) kept ≡ false → went ≡ kept → items ≡ went ++ w ∷ [] → items ≡ (with_went w (of_sends kept)).went
+pub send_new : (w : Went) (went kept items : List Went) → list_any (same_went w) kept ≡ false → went ≡ kept → items ≡ went ++ w ∷ [] →
+    items ≡ (with_went w (of_sends kept)).went
 send_new w went kept items none same items_is = rw none (items_is ∙ ap (λ (l : List Went). l ++ w ∷ []) same)
 
-pub sends_noted : (m new : Index) (went items : List Went) (w : Went) (k : ℕ) → HasSends w.invoke m went → k ≡ w.node → new ≡ indexed k w.path m → items ≡ went ++ w ∷ [] → HasSends w.invoke new items
+pub sends_noted : (m new : Index) (went items : List Went) (w : Went) (k : ℕ) → HasSends w.invoke m went → k ≡ w.node →
+    new ≡ indexed k w.path m → items ≡ went ++ w ∷ [] → HasSends w.invoke new items
 sends_noted m new went items w k has k_is new_is items_is n =
     ap (listed n) (new_is ∙ ap (λ k. indexed k w.path m) k_is) ∙ sends_more m went w has n ∙ ap (paths_by (is_send_to w.invoke n) (λ w. w.path)) (sym items_is)
 
-pub sends_kept : (invoke : Bool) (m : Index) (went items : List Went) (w : Went) → same_flag w.invoke invoke ≡ false → HasSends invoke m went → items ≡ went ++ w ∷ [] → HasSends invoke m items
-sends_kept invoke m went items w other has items_is n = sends_other invoke m went w other has n ∙ ap (paths_by (is_send_to invoke n) (λ w. w.path)) (sym items_is)
+pub sends_kept : (invoke : Bool) (m : Index) (went items : List Went) (w : Went) → same_flag w.invoke invoke ≡ false →
+    HasSends invoke m went → items ≡ went ++ w ∷ [] → HasSends invoke m items
+sends_kept invoke m went items w other has items_is n =
+    sends_other invoke m went w other has n ∙ ap (paths_by (is_send_to invoke n) (λ w. w.path)) (sym items_is)

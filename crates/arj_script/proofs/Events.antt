@@ -7,9 +7,12 @@ use Rattle.arj_journal.specs.declared.event.Event.TheVariants as event
 use Rattle.arj_text.specs.Fields.{IsRead, ShortInForm, WordInForm, behind}
 use Rattle.arj_text.specs.Label.{LabelInForm, name}
 use Rattle.arj_journal.specs.ScriptText.{event_text}
-use Rattle.arj_script.specs.Events.{CallInForm, IncludeInForm, IsBeginning, IsOutside, IsWorking, JunkInForm, LabelAtInForm, LabelInLabel, StopInForm, call_text, include_text, junk_text, label_at_text, label_in_text, stop_text}
+use Rattle.arj_script.specs.Events.{CallInForm, IncludeInForm, IsBeginning, IsOutside, IsWorking, JunkInForm, LabelAtInForm, LabelInLabel}
+use Rattle.arj_script.specs.Events.{StopInForm, call_text, include_text, junk_text, label_at_text, label_in_text, stop_text}
 
-pub no_beginning : (bytes : List ℕ) → IsRead LabelAtInForm (label_at_text (codes "begin ")) bytes None → IsRead LabelInLabel (label_in_text (codes "begin ")) bytes None → IsRead LabelInLabel (label_in_text (codes "top ")) bytes None → IsRead LabelAtInForm (label_at_text (codes "serial ")) bytes None → IsRead IsBeginning event_text bytes None
+pub no_beginning : (bytes : List ℕ) → IsRead LabelAtInForm (label_at_text (codes "begin ")) bytes None →
+    IsRead LabelInLabel (label_in_text (codes "begin ")) bytes None → IsRead LabelInLabel (label_in_text (codes "top ")) bytes None →
+    IsRead LabelAtInForm (label_at_text (codes "serial ")) bytes None → IsRead IsBeginning event_text bytes None
 no_beginning bytes begins nests tops serials = λ e h same. cases e h same
   where
     cases : (e : Event) → IsBeginning e → bytes ≢ event_text e
@@ -19,7 +22,9 @@ no_beginning bytes begins nests tops serials = λ e h same. cases e h same
     cases (event.Serial l n) h same = serials (l, n) h.0 same
     cases _ h same = both_ways false refl h.1
 
-pub no_working : (bytes : List ℕ) → IsRead CallInForm call_text bytes None → IsRead IncludeInForm include_text bytes None → IsRead LabelInForm (behind (codes "commit ") name) bytes None → IsRead LabelInForm (behind (codes "abort ") name) bytes None → IsRead LabelInForm (behind (codes "giveup ") name) bytes None → IsRead IsWorking event_text bytes None
+pub no_working : (bytes : List ℕ) → IsRead CallInForm call_text bytes None → IsRead IncludeInForm include_text bytes None →
+    IsRead LabelInForm (behind (codes "commit ") name) bytes None → IsRead LabelInForm (behind (codes "abort ") name) bytes None →
+    IsRead LabelInForm (behind (codes "giveup ") name) bytes None → IsRead IsWorking event_text bytes None
 no_working bytes calls includes commits aborts giveups = λ e h same. cases e h same
   where
     cases : (e : Event) → IsWorking e → bytes ≢ event_text e
@@ -30,7 +35,10 @@ no_working bytes calls includes commits aborts giveups = λ e h same. cases e h 
     cases (event.GiveUp l) h same = giveups l h.0 same
     cases _ h same = both_ways false refl h.1
 
-pub no_outside : (bytes : List ℕ) → IsRead WordInForm (behind (codes "crash ") decimal) bytes None → IsRead WordInForm (behind (codes "restart ") decimal) bytes None → IsRead StopInForm stop_text bytes None → IsRead JunkInForm junk_text bytes None → IsRead ShortInForm (behind (codes "show ") decimal) bytes None → IsRead IsOutside event_text bytes None
+pub no_outside : (bytes : List ℕ) → IsRead WordInForm (behind (codes "crash ") decimal) bytes None →
+    IsRead WordInForm (behind (codes "restart ") decimal) bytes None → IsRead StopInForm stop_text bytes None →
+    IsRead JunkInForm junk_text bytes None → IsRead ShortInForm (behind (codes "show ") decimal) bytes None →
+    IsRead IsOutside event_text bytes None
 no_outside bytes crashes restarts stops junks shows = λ e h same. cases e h same
   where
     cases : (e : Event) → IsOutside e → bytes ≢ event_text e

@@ -27,6 +27,8 @@ same_number n o p o_form p_form same =
     decimal_injective o.x p.x o_small p_small cuts.0
 
 -- An object whose number was declared fits nowhere.
-pub declared_twice : (n : ℕ) (bytes : List ℕ) (os : List ObjectLine) (o p : ObjectLine) → IsRead (ObjectLineInForm n) object_text bytes (Some o) → has_object o.x os ≡ true → ObjectLineInForm n p → has_object p.x os ≡ false → bytes ≢ object_text p
+pub declared_twice : (n : ℕ) (bytes : List ℕ) (os : List ObjectLine) (o p : ObjectLine) →
+    IsRead (ObjectLineInForm n) object_text bytes (Some o) → has_object o.x os ≡ true → ObjectLineInForm n p → has_object p.x os ≡ false →
+    bytes ≢ object_text p
 declared_twice n bytes os o p read there fits free same =
     both_ways (has_object p.x os) free (subst (λ x. has_object x os ≡ true) (same_number n o p read.0 fits (sym read.1 ∙ same)) there)

@@ -7,7 +7,8 @@ use Rattle.arj_journal.specs.declared.header.ObjectLine.{ObjectLine}
 use Rattle.arj_journal.specs.ScriptForm.{ObjectLineInForm, ObjectsInForm, are_by_number}
 use Rattle.arj_script.specs.Grammar.{has_object, insert_object}
 
-insert_all : (n : ℕ) (o : ObjectLine) (os : List ObjectLine) → ObjectLineInForm n o → AllByRecursion (ObjectLineInForm n) os → AllByRecursion (ObjectLineInForm n) (insert_object o os)
+insert_all : (n : ℕ) (o : ObjectLine) (os : List ObjectLine) → ObjectLineInForm n o → AllByRecursion (ObjectLineInForm n) os →
+    AllByRecursion (ObjectLineInForm n) (insert_object o os)
 insert_all n o [] one all = (one, tt)
 insert_all n o (p ∷ os) one all =
     let later = insert_all n o os one all.1 in
@@ -18,7 +19,8 @@ rising_tail : (p : ObjectLine) (os : List ObjectLine) → are_by_number (p ∷ o
 rising_tail p [] h = refl
 rising_tail p (q ∷ os) h = (and_parts (nat_lt p.x q.x) (are_by_number (q ∷ os)) h).1
 
-rising_behind : (p o : ObjectLine) (os : List ObjectLine) → nat_lt p.x o.x ≡ true → are_by_number (p ∷ os) ≡ true → are_by_number (insert_object o os) ≡ true → are_by_number (p ∷ insert_object o os) ≡ true
+rising_behind : (p o : ObjectLine) (os : List ObjectLine) → nat_lt p.x o.x ≡ true → are_by_number (p ∷ os) ≡ true →
+    are_by_number (insert_object o os) ≡ true → are_by_number (p ∷ insert_object o os) ≡ true
 rising_behind p o [] less rising on = and_from (nat_lt p.x o.x) true less refl
 rising_behind p o (q ∷ os) less rising on =
     split on
@@ -28,10 +30,12 @@ rising_behind p o (q ∷ os) less rising on =
 
     split : are_by_number (insert_object o (q ∷ os)) ≡ true → are_by_number (p ∷ insert_object o (q ∷ os)) ≡ true
     split =
-        elim (nat_lt o.x q.x) as (λ t. are_by_number (if t then o ∷ q ∷ os else q ∷ insert_object o os) ≡ true → are_by_number (p ∷ (if t then o ∷ q ∷ os else q ∷ insert_object o os)) ≡ true)
+        elim (nat_lt o.x q.x) as (λ t. are_by_number (if t then o ∷ q ∷ os else q ∷ insert_object o os) ≡ true →
+        are_by_number (p ∷ (if t then o ∷ q ∷ os else q ∷ insert_object o os)) ≡ true)
         [ true ↦ λ h. and_from (nat_lt p.x o.x) (are_by_number (o ∷ q ∷ os)) less h | false ↦ λ h. and_from (nat_lt p.x q.x) (are_by_number (q ∷ insert_object o os)) first h ]
 
-pub rising_insert : (o : ObjectLine) (os : List ObjectLine) → are_by_number os ≡ true → has_object o.x os ≡ false → are_by_number (insert_object o os) ≡ true
+pub rising_insert : (o : ObjectLine) (os : List ObjectLine) → are_by_number os ≡ true → has_object o.x os ≡ false →
+    are_by_number (insert_object o os) ≡ true
 rising_insert o [] rising absent = refl
 rising_insert o (p ∷ os) rising absent =
     let parts = or_parts (p.x == o.x) (has_object o.x os) absent in
@@ -44,5 +48,6 @@ rising_insert o (p ∷ os) rising absent =
     ap are_by_number (cond-false (nat_lt o.x p.x) (o ∷ p ∷ os) (p ∷ insert_object o os) more) ∙ rising_behind p o os (lt-ltb p.x o.x below) rising on)
     (cases_Bool (nat_lt o.x p.x))
 
-pub insert_in_form : (n : ℕ) (o : ObjectLine) (os : List ObjectLine) → ObjectLineInForm n o → has_object o.x os ≡ false → ObjectsInForm n os → ObjectsInForm n (insert_object o os)
+pub insert_in_form : (n : ℕ) (o : ObjectLine) (os : List ObjectLine) → ObjectLineInForm n o → has_object o.x os ≡ false →
+    ObjectsInForm n os → ObjectsInForm n (insert_object o os)
 insert_in_form n o os one absent all = (insert_all n o os one all.0, rising_insert o os all.1 absent)

@@ -12,7 +12,8 @@ abbrev pub HasNoEnd : List ℕ → Type 0
 HasNoEnd bytes = list_any (λ b. b == 10) bytes ≡ false
 
 -- The first line ends at the first line feed.
-pub ended_from-line : (front piece more : List ℕ) → HasNoEnd piece → ended_from front (piece ++ 10 ∷ more) ≡ (front ++ piece) ∷ ended_from [] more
+pub ended_from-line : (front piece more : List ℕ) → HasNoEnd piece →
+    ended_from front (piece ++ 10 ∷ more) ≡ (front ++ piece) ∷ ended_from [] more
 ended_from-line front [] more h = ap (λ line. line ∷ ended_from [] more) (sym (append-nil front))
 ended_from-line front (b ∷ piece) more h =
     let parts = or_parts (b == 10) (list_any (λ c. c == 10) piece) h in
@@ -38,7 +39,8 @@ rest_from-piece front (b ∷ piece) h =
     cond-false (b == 10) _ _ parts.0 ∙ (rest_from-piece (front ++ b ∷ []) piece parts.1 ∙ append_assoc front (b ∷ []) piece)
 
 -- One byte more at the end.
-pub ended_from-push : (front bytes : List ℕ) (b : ℕ) → ended_from front (bytes ++ b ∷ []) ≡ ended_from front bytes ++ (if b == 10 then rest_from front bytes ∷ [] else [])
+pub ended_from-push : (front bytes : List ℕ) (b : ℕ) →
+    ended_from front (bytes ++ b ∷ []) ≡ ended_from front bytes ++ (if b == 10 then rest_from front bytes ∷ [] else [])
 ended_from-push front [] b = refl
 ended_from-push front (a ∷ bytes) b =
     let cut = ended_from-push [] bytes b in
@@ -46,7 +48,8 @@ ended_from-push front (a ∷ bytes) b =
     elim (a == 10) as (λ t. (if t then front ∷ ended_from [] (bytes ++ b ∷ []) else ended_from (front ++ a ∷ []) (bytes ++ b ∷ [])) ≡ (if t then front ∷ ended_from [] bytes else ended_from (front ++ a ∷ []) bytes) ++ (if b == 10 then (if t then rest_from [] bytes else rest_from (front ++ a ∷ []) bytes) ∷ [] else []))
     [ true ↦ ap (λ lines. front ∷ lines) cut | false ↦ on ]
 
-pub rest_from-push : (front bytes : List ℕ) (b : ℕ) → rest_from front (bytes ++ b ∷ []) ≡ (if b == 10 then [] else rest_from front bytes ++ b ∷ [])
+pub rest_from-push : (front bytes : List ℕ) (b : ℕ) →
+    rest_from front (bytes ++ b ∷ []) ≡ (if b == 10 then [] else rest_from front bytes ++ b ∷ [])
 rest_from-push front [] b = refl
 rest_from-push front (a ∷ bytes) b =
     let cut = rest_from-push [] bytes b in

@@ -19,7 +19,8 @@ in_hand most line = record { most = most; line = line }
 abbrev pub Takes : ℕ → List ℕ → List ℕ → Full → List ℕ → Type 0
 Takes most line bytes full.No after = (ended_from line bytes ≡ []) × (rest_from line bytes ≡ after) × (length after ≤ most)
 Takes most line bytes full.Line after = (ended_from line bytes ≡ after ∷ []) × (rest_from line bytes ≡ []) × (length after ≤ most)
-Takes most line bytes full.Long after = (ended_from line bytes ≡ []) × (take most (rest_from line bytes) ≡ after) × (length (rest_from line bytes) ≡ most + 1)
+Takes most line bytes full.Long after =
+    (ended_from line bytes ≡ []) × (take most (rest_from line bytes) ≡ after) × (length (rest_from line bytes) ≡ most + 1)
 
 -- All of the piece is taken, or what is taken of it ends the feed.
 abbrev pub IsTaken : Full → ℕ → ℕ → Type 0
@@ -50,10 +51,12 @@ pub record Cut : Type 0 where
 -- how the feeds go on behind one: with the line in hand; with none, since it was cleared; or not at all
 abbrev pub GoesOn : Full → List ℕ → List Took → (List ℕ → Cut → Type 0) → Cut → Type 0
 GoesOn full.No after ts on cut = on after cut
-GoesOn full.Line after ts on cut = (more : Cut) × (cut ≡ record { lines = after ∷ more.lines; rest = more.rest; long = more.long }) × on [] more
+GoesOn full.Line after ts on cut =
+    (more : Cut) × (cut ≡ record { lines = after ∷ more.lines; rest = more.rest; long = more.long }) × on [] more
 GoesOn full.Long after ts on cut = (ts ≡ []) × (cut ≡ record { lines = []; rest = after; long = true })
 
 -- Feeds one after another, from the line in hand, and what they give.
 abbrev pub Along : ℕ → List ℕ → List Took → Cut → Type 0
 Along most line [] cut = cut ≡ record { lines = []; rest = line; long = false }
-Along most line (t ∷ ts) cut = (after : List ℕ) × Takes most line t.bytes t.full after × GoesOn t.full after ts (λ l c. Along most l ts c) cut
+Along most line (t ∷ ts) cut =
+    (after : List ℕ) × Takes most line t.bytes t.full after × GoesOn t.full after ts (λ l c. Along most l ts c) cut

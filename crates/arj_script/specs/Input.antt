@@ -32,7 +32,8 @@ is_too_long line = nat_lt LINE_BYTES (length line)
 
 -- Nothing behind these bytes is run: a line is too long, or the line past the last that a script may have has ended.
 abbrev pub is_enough : List ℕ → Bool
-is_enough bytes = nat_lt SCRIPT_LINES (length (ended_lines bytes)) || (list_any is_too_long (ended_lines bytes) || is_too_long (rest_line bytes))
+is_enough bytes =
+    nat_lt SCRIPT_LINES (length (ended_lines bytes)) || (list_any is_too_long (ended_lines bytes) || is_too_long (rest_line bytes))
 
 -- How the reading of the source ended: at the input's end, at a read that failed, or where the run ended. A line that is
 -- too long ends the run as soon as its first byte too many is there, and so does the end of the line past the last.

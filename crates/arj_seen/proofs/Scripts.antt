@@ -18,11 +18,13 @@ script_more place end header after (first ∷ lines) line form h is other =
     (h.0, h.1, h.2, script_more (next_place place h.0) end (header_after place h.0 header) after lines line form h.3 is other)
 
 -- its text
-pub text_more : (lines : List ScriptLine) (line : ScriptLine) → script_text (lines ++ line ∷ []) ≡ script_text lines ++ (line.text ++ 10 ∷ [])
+pub text_more : (lines : List ScriptLine) (line : ScriptLine) →
+    script_text (lines ++ line ∷ []) ≡ script_text lines ++ (line.text ++ 10 ∷ [])
 text_more lines line = flat_map-append ended lines (line ∷ []) ∙ ap (λ t. script_text lines ++ t) (append-nil (line.text ++ 10 ∷ []))
 
 -- the input, with one line more
-pub front_more : (lines : List ScriptLine) (last : ScriptLine) (line bytes rest behind : List ℕ) → last.text ≡ line → bytes ≡ script_text lines ++ rest → rest ≡ line ++ 10 ∷ behind
+pub front_more : (lines : List ScriptLine) (last : ScriptLine) (line bytes rest behind : List ℕ) → last.text ≡ line →
+    bytes ≡ script_text lines ++ rest → rest ≡ line ++ 10 ∷ behind
     → bytes ≡ script_text (lines ++ last ∷ []) ++ behind
 front_more lines last line bytes rest behind is front cut =
     front ∙ ap (λ r. script_text lines ++ r) cut ∙ (λ i. script_text lines ++ (sym is i ++ 10 ∷ behind))
@@ -33,7 +35,8 @@ front_more lines last line bytes rest behind is front cut =
 -- what was read, with the next line
 pub script_next : (place next : Place) (header after : Option Header) (lines longer : List ScriptLine) (last : ScriptLine) (form : Form) (line : List ℕ)
     → AreScript Start None lines place header → IsScriptLine place last form → last.text ≡ line → line ≢ codes "journal"
-    → longer ≡ lines ++ last ∷ [] → next ≡ next_place place form → after ≡ header_after place form header → AreScript Start None longer next after
+    → longer ≡ lines ++ last ∷ [] → next ≡ next_place place form → after ≡ header_after place form header →
+    AreScript Start None longer next after
 script_next place next header after lines longer last form line h is text other more there then =
     subst (λ ls. AreScript Start None ls next after) (sym more)
     (subst (λ p. AreScript Start None (lines ++ last ∷ []) p after) (sym there)

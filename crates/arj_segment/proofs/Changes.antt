@@ -1,5 +1,6 @@
 -- What the changes of files leave: the pair, the forms of the files, and what is kept in memory.
-use Rattle.std.proofs.Common.{◌≡◌, ◌≢◌, ◌⊎◌, ◌∙◌, ◌==◌, true, false, true≢false, ℕ, List, [], ◌∷◌, ◌++◌, ◌<◌, arith, refl, sym, ap, subst, inl, inr, ⊎_elim, Option, Some, None}
+use Rattle.std.proofs.Common.{◌≡◌, ◌≢◌, ◌⊎◌, ◌∙◌, ◌==◌, true, false, true≢false, ℕ, List, [], ◌∷◌, ◌++◌, ◌<◌, arith, refl, sym, ap, subst}
+use Rattle.std.proofs.Common.{inl, inr, ⊎_elim, Option, Some, None}
 use Rattle.std.specs.Prelude.{is_some, IfSome, Contains, option_map, if◌then◌else◌}
 use Rattle.std.specs.List.{AllByRecursion}
 use Rattle.std.specs.Ordering.{nat_cmp}
@@ -37,17 +38,21 @@ pair_itself role file = record { committed = λ u. refl; prepared = λ a. refl }
 -- ---- numbers and places
 
 pub number_cases : (j k : ℕ) → (j ≡ k) ⊎ (j ≢ k)
-number_cases j k = ⊎_elim (λ (yes : (j == k) ≡ true). inl (eqb-true j k yes)) (λ (no : (j == k) ≡ false). inr (λ e. true≢false (sym (eq-eqb j k e) ∙ no))) (cases_Bool (j == k))
+number_cases j k =
+    ⊎_elim (λ (yes : (j == k) ≡ true). inl (eqb-true j k yes)) (λ (no : (j == k) ≡ false). inr (λ e. true≢false (sym (eq-eqb j k e) ∙ no))) (cases_Bool (j == k))
 
 -- above all numbers there is no segment
-pub above_all : (segment : ℕ → Option (List ℕ)) (ks : List ℕ) (k : ℕ) → AreNumbers segment ks → AllByRecursion (λ j. j < k) ks → IsAbove segment k
+pub above_all : (segment : ℕ → Option (List ℕ)) (ks : List ℕ) (k : ℕ) → AreNumbers segment ks → AllByRecursion (λ j. j < k) ks →
+    IsAbove segment k
 above_all segment ks k are below j from within = by (segment j) refl
   where
     by : (o : Option (List ℕ)) → segment j ≡ o → o ≡ None
     by None is = refl
-    by (Some bytes) is = let less = all_of (λ i. i < k) ks below j (are.there j within (ap is_some is)) in absurd (omega (arith, less, from))
+    by (Some bytes) is =
+        let less = all_of (λ i. i < k) ks below j (are.there j within (ap is_some is)) in absurd (omega (arith, less, from))
 
-module _ (old new : ℕ → Option (List ℕ)) (ks : List ℕ) (k : ℕ) (within : k < numbers) (are : AreNumbers old ks) (below : AllByRecursion (λ j. j < k) ks) (same : SameBut old new k) where
+module _ (old new : ℕ →
+    Option (List ℕ)) (ks : List ℕ) (k : ℕ) (within : k < numbers) (are : AreNumbers old ks) (below : AllByRecursion (λ j. j < k) ks) (same : SameBut old new k) where
   -- one more segment above all others
   pub one_more : AreNumbers new (ks ++ k ∷ [])
   one_more = record {
@@ -58,22 +63,27 @@ module _ (old new : ℕ → Option (List ℕ)) (ks : List ℕ) (k : ℕ) (within
   }
 
   -- it has the states of its objects now
-  pub places_more : (bytes : List ℕ) → new k ≡ Some bytes → (places places' : Uid → Option ℕ) → ((u : Uid) → places u ≡ place old u) → SetsEach (objects (states_in bytes)) (Some k) places places'
+  pub places_more : (bytes : List ℕ) → new k ≡ Some bytes → (places places' : Uid → Option ℕ) → ((u : Uid) → places u ≡ place old u) →
+      SetsEach (objects (states_in bytes)) (Some k) places places'
       → KeepsPlaces new places' (ks ++ k ∷ [])
   places_more bytes here places places' keeps each = record {
     places_are = λ u. each u ∙ by u (new_of (states_in bytes) u) refl ∙ sym (place_put old new k within (above_all old ks k are below) same u ∙ ap (λ o. place_after (state_in u o) k (place old u)) here);
     numbers_are = one_more;
   }
     where
-      by : (u : Uid) (o : Option (List ℕ)) → new_of (states_in bytes) u ≡ o → (if is_in (objects (states_in bytes)) u then Some k else places u) ≡ place_after (new_of (states_in bytes) u) k (place old u)
+      by : (u : Uid) (o : Option (List ℕ)) → new_of (states_in bytes) u ≡ o →
+          (if is_in (objects (states_in bytes)) u then Some k else places u) ≡ place_after (new_of (states_in bytes) u) k (place old u)
       by u None is = rw (among_objects (states_in bytes) u) (rw is (keeps u))
       by u (Some x) is = rw (among_objects (states_in bytes) u) (rw is refl)
 
 -- ---- the forms of files
 
 -- files in form, of whose pair no more is known and named than before, are formed
-pub formed_from : (role : Role) (old new : FileMap) → IsFormed old role → ((k : ℕ) → k < numbers → IfSome (new (slot.Segment role k)) (IsSegment role)) → ((a : Uid) → IfSome (new (slot.Pending role a)) (IsSegment role))
-    → ((a u : Uid) → names (pend new role a) u → names (pend old role a) u) → ((u : Uid) → IsKnown (pair_of new role) u → IsKnown (pair_of old role) u) → IsFormed new role
+pub formed_from : (role : Role) (old new : FileMap) → IsFormed old role →
+    ((k : ℕ) → k < numbers → IfSome (new (slot.Segment role k)) (IsSegment role)) →
+    ((a : Uid) → IfSome (new (slot.Pending role a)) (IsSegment role))
+    → ((a u : Uid) → names (pend new role a) u → names (pend old role a) u) →
+    ((u : Uid) → IsKnown (pair_of new role) u → IsKnown (pair_of old role) u) → IsFormed new role
 formed_from role old new formed segments pendings named known = record {
   segments = segments;
   pendings = pendings;
@@ -86,7 +96,8 @@ in_form role old new same = subst (λ o. IfSome o (IsSegment role)) (sym same)
 
 -- ---- a commit
 
-after_file : (o : Option (List ℕ)) (u : Uid) (before : Option (List ℕ)) → newer (state_in u o) before ≡ held_after (option_map states_in o) u before
+after_file : (o : Option (List ℕ)) (u : Uid) (before : Option (List ℕ)) →
+    newer (state_in u o) before ≡ held_after (option_map states_in o) u before
 after_file None u before = refl
 after_file (Some bytes) u before = refl
 
@@ -131,7 +142,13 @@ module _ (role : Role) (act : Uid) (old new : FileMap) (formed : IsFormed old ro
   same_holds u = ap (λ segment. holds segment u) (λ i j. abort_segments j i)
 
   pub abort_drops : Drops (pair_of old role) (pair_of new role) act
-  abort_drops = record { committed = same_holds; gone = ap (option_map states_in) removes.gone; others = λ a other. ap (option_map states_in) (abort_pending a other) }
+  abort_drops =
+      record {
+        committed = same_holds;
+        gone = ap (option_map states_in) removes.gone;
+        others =
+            λ a other. ap (option_map states_in) (abort_pending a other);
+      }
 
   pub abort_formed : IsFormed new role
   abort_formed = formed_from role old new formed

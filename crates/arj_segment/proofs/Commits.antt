@@ -27,9 +27,11 @@ whole_or_none p q act = ⊎_elim (λ (same : SamePair p q). inl (none_moved p q 
 pub at_most : (n : ℕ) (role : Role) (kept : Kept) (file : FileMap) → Keeps role kept file → length kept.numbers ≤ n → HasAtMost n file role
 at_most n role kept file keeps few = (kept.numbers, few, keeps.committed.numbers_are.there)
 
-module _ (pend : Uid → Option (List (Uid × List ℕ))) (actions : Uid → Option (List Uid)) (holdings : Uid → Option Uid) (keeps : KeepsPend pend actions holdings) where
+module _ (pend : Uid → Option (List (Uid × List ℕ))) (actions : Uid → Option (List Uid)) (holdings : Uid →
+    Option Uid) (keeps : KeepsPend pend actions holdings) where
   pub holder_is : (u a : Uid) → holdings u ≡ Some a → names (pend a) u
   holder_is u a is = subst (λ h. MatchOption h ((a : Uid) → names (pend a) u → ⊥) (λ a. names (pend a) u)) is (keeps.holders_are u)
 
   pub no_holder : (u : Uid) → holdings u ≡ None → ((a : Uid) × names (pend a) u) → ⊥
-  no_holder u is doubt = subst (λ h. MatchOption h ((a : Uid) → names (pend a) u → ⊥) (λ a. names (pend a) u)) is (keeps.holders_are u) doubt.0 doubt.1
+  no_holder u is doubt =
+      subst (λ h. MatchOption h ((a : Uid) → names (pend a) u → ⊥) (λ a. names (pend a) u)) is (keeps.holders_are u) doubt.0 doubt.1

@@ -11,14 +11,16 @@ use Rattle.arj_segment_file.specs.Format.{states_in}
 use Rattle.arj_store.specs.Effects.{objects}
 use Rattle.arj_store.specs.Pair.{Drops, Moves, SamePair}
 use Rattle.arj_store.specs.Table.{Sets}
-use Rattle.arj_segment.proofs.Changes.{abort_drops, abort_formed, abort_segments, commit_formed, commit_moves, commit_segments, pair_itself, places_more, same_files}
+use Rattle.arj_segment.proofs.Changes.{abort_drops, abort_formed, abort_segments, commit_formed, commit_moves, commit_segments, pair_itself}
+use Rattle.arj_segment.proofs.Changes.{places_more, same_files}
 use Rattle.arj_segment.proofs.Pend.{pend_ended}
 use Rattle.arj_segment.specs.Formed.{IsFormed}
 use Rattle.arj_segment.specs.Says.{numbers, pair_of, pend, place, segments}
 use Rattle.arj_segment.specs.Tables.{AreNumbers, KeepsPend, KeepsPlaces, SetsEach}
 
 -- an action that isn't kept has prepared nothing
-pub no_action : (file : FileMap) (role : Role) (actions : Uid → Option (List Uid)) (holdings : Uid → Option Uid) → KeepsPend (pend file role) actions holdings → (a : Uid) → actions a ≡ None → pend file role a ≡ None
+pub no_action : (file : FileMap) (role : Role) (actions : Uid → Option (List Uid)) (holdings : Uid → Option Uid) →
+    KeepsPend (pend file role) actions holdings → (a : Uid) → actions a ≡ None → pend file role a ≡ None
 no_action file role actions holdings keeps a none = by (pend file role a) (sym (keeps.actions_are a) ∙ none)
   where
     by : (o : Option (List (Uid × List ℕ))) → option_map objects o ≡ None → o ≡ None
@@ -31,20 +33,25 @@ pub record HasPending (file : FileMap) (role : Role) (a : Uid) (us : List Uid) :
   pub there : file (slot.Pending role a) ≡ Some bytes
   pub theirs : us ≡ objects (states_in bytes)
 
-pub an_action : (file : FileMap) (role : Role) (actions : Uid → Option (List Uid)) (holdings : Uid → Option Uid) → KeepsPend (pend file role) actions holdings → (a : Uid) (us : List Uid) → actions a ≡ Some us → HasPending file role a us
+pub an_action : (file : FileMap) (role : Role) (actions : Uid → Option (List Uid)) (holdings : Uid → Option Uid) →
+    KeepsPend (pend file role) actions holdings → (a : Uid) (us : List Uid) → actions a ≡ Some us → HasPending file role a us
 an_action file role actions holdings keeps a us is = by (file (slot.Pending role a)) refl (sym (keeps.actions_are a) ∙ is)
   where
-    by : (o : Option (List ℕ)) → file (slot.Pending role a) ≡ o → option_map objects (option_map states_in o) ≡ Some us → HasPending file role a us
+    by : (o : Option (List ℕ)) → file (slot.Pending role a) ≡ o → option_map objects (option_map states_in o) ≡ Some us →
+        HasPending file role a us
     by None none e = let never : None ≡ Some us = e in absurd cc
     by (Some bytes) there e = let same : objects (states_in bytes) ≡ us = cc in record { bytes = bytes; there = there; theirs = sym same }
 
 module _ (role : Role) (act : Uid) (us : List Uid) (old : FileMap) (formed : IsFormed old role) (has : HasPending old role act us)
-    (actions actions' : Uid → Option (List Uid)) (holdings holdings' : Uid → Option Uid) (keeps : KeepsPend (pend old role) actions holdings) where
+    (actions actions' : Uid → Option (List Uid)) (holdings holdings' : Uid →
+    Option Uid) (keeps : KeepsPend (pend old role) actions holdings) where
   -- ---- a commit
 
   module _ (new : FileMap) (ks : List ℕ) (k : ℕ) (within : k < numbers) (are : AreNumbers (segments old role) ks) (below : AllByRecursion (λ j. j < k) ks) where
-    pub commit_fault : Same old new ⊎ Renames old new (slot.Pending role act) (slot.Segment role k) → SamePair (pair_of old role) (pair_of new role) ⊎ Moves (pair_of old role) (pair_of new role) act
-    commit_fault = ⊎_elim (λ (same : Same old new). inl (subst (λ file. SamePair (pair_of old role) (pair_of file role)) (sym (same_files old new same)) (pair_itself role old)))
+    pub commit_fault : Same old new ⊎ Renames old new (slot.Pending role act) (slot.Segment role k) →
+        SamePair (pair_of old role) (pair_of new role) ⊎ Moves (pair_of old role) (pair_of new role) act
+    commit_fault =
+        ⊎_elim (λ (same : Same old new). inl (subst (λ file. SamePair (pair_of old role) (pair_of file role)) (sym (same_files old new same)) (pair_itself role old)))
         (λ (renames : Renames old new (slot.Pending role act) (slot.Segment role k)). inr (commit_moves role act old new formed ks k within are below renames))
 
     pub commit_end : Same old new ⊎ Renames old new (slot.Pending role act) (slot.Segment role k) → IsFormed new role
@@ -53,21 +60,26 @@ module _ (role : Role) (act : Uid) (us : List Uid) (old : FileMap) (formed : IsF
 
     module _ (renames : Renames old new (slot.Pending role act) (slot.Segment role k)) where
       pub commit_pend : Sets actions actions' act None → SetsEach us None holdings holdings' → KeepsPend (pend new role) actions' holdings'
-      commit_pend sets each = pend_ended (pend old role) (pend new role) act (states_in has.bytes) moves.others actions actions' holdings holdings' keeps formed.once (ap (option_map states_in) has.there) moves.gone sets
+      commit_pend sets each =
+          pend_ended (pend old role) (pend new role) act (states_in has.bytes) moves.others actions actions' holdings holdings' keeps formed.once (ap (option_map states_in) has.there) moves.gone sets
           (subst (λ ws. SetsEach ws None holdings holdings') has.theirs each)
         where
           moves : Moves (pair_of old role) (pair_of new role) act
           moves = commit_moves role act old new formed ks k within are below renames
 
-      pub commit_places : (places places' : Uid → Option ℕ) → ((u : Uid) → places u ≡ place (segments old role) u) → SetsEach us (Some k) places places' → KeepsPlaces (segments new role) places' (ks ++ k ∷ [])
-      commit_places places places' kept each = places_more (segments old role) (segments new role) ks k within are below (commit_segments role act old new formed ks k within are below renames) has.bytes (renames.here ∙ has.there) places places' kept
+      pub commit_places : (places places' : Uid → Option ℕ) → ((u : Uid) → places u ≡ place (segments old role) u) →
+          SetsEach us (Some k) places places' → KeepsPlaces (segments new role) places' (ks ++ k ∷ [])
+      commit_places places places' kept each =
+          places_more (segments old role) (segments new role) ks k within are below (commit_segments role act old new formed ks k within are below renames) has.bytes (renames.here ∙ has.there) places places' kept
           (subst (λ ws. SetsEach ws (Some k) places places') has.theirs each)
 
   -- ---- an abort
 
   module _ (new : FileMap) where
-    pub abort_fault : Same old new ⊎ Removes old new (slot.Pending role act) → SamePair (pair_of old role) (pair_of new role) ⊎ Drops (pair_of old role) (pair_of new role) act
-    abort_fault = ⊎_elim (λ (same : Same old new). inl (subst (λ file. SamePair (pair_of old role) (pair_of file role)) (sym (same_files old new same)) (pair_itself role old)))
+    pub abort_fault : Same old new ⊎ Removes old new (slot.Pending role act) →
+        SamePair (pair_of old role) (pair_of new role) ⊎ Drops (pair_of old role) (pair_of new role) act
+    abort_fault =
+        ⊎_elim (λ (same : Same old new). inl (subst (λ file. SamePair (pair_of old role) (pair_of file role)) (sym (same_files old new same)) (pair_itself role old)))
         (λ (removes : Removes old new (slot.Pending role act)). inr (abort_drops role act old new formed removes))
 
     pub abort_end : Same old new ⊎ Removes old new (slot.Pending role act) → IsFormed new role
@@ -76,11 +88,14 @@ module _ (role : Role) (act : Uid) (us : List Uid) (old : FileMap) (formed : IsF
 
     module _ (removes : Removes old new (slot.Pending role act)) where
       pub abort_pend : Sets actions actions' act None → SetsEach us None holdings holdings' → KeepsPend (pend new role) actions' holdings'
-      abort_pend sets each = pend_ended (pend old role) (pend new role) act (states_in has.bytes) drops.others actions actions' holdings holdings' keeps formed.once (ap (option_map states_in) has.there) drops.gone sets
+      abort_pend sets each =
+          pend_ended (pend old role) (pend new role) act (states_in has.bytes) drops.others actions actions' holdings holdings' keeps formed.once (ap (option_map states_in) has.there) drops.gone sets
           (subst (λ ws. SetsEach ws None holdings holdings') has.theirs each)
         where
           drops : Drops (pair_of old role) (pair_of new role) act
           drops = abort_drops role act old new formed removes
 
-      pub abort_places : (places : Uid → Option ℕ) (ks : List ℕ) → KeepsPlaces (segments old role) places ks → KeepsPlaces (segments new role) places ks
-      abort_places places ks kept = subst (λ segment. KeepsPlaces segment places ks) (λ i j. sym (abort_segments role act old new formed removes j) i) kept
+      pub abort_places : (places : Uid → Option ℕ) (ks : List ℕ) → KeepsPlaces (segments old role) places ks →
+          KeepsPlaces (segments new role) places ks
+      abort_places places ks kept =
+          subst (λ segment. KeepsPlaces segment places ks) (λ i j. sym (abort_segments role act old new formed removes j) i) kept

@@ -1,5 +1,6 @@
 -- Segments that are read one after the other, in increasing order.
-use Rattle.std.proofs.Common.{◌≡◌, ◌∙◌, ◌==◌, ◌||◌, true, false, Bool, ℕ, List, [], ◌∷◌, ◌++◌, ◌<◌, ◌≤◌, ◌+◌, arith, refl, sym, ap, subst, ⊎_elim, take, get_or, length, Option, Some, None}
+use Rattle.std.proofs.Common.{◌≡◌, ◌∙◌, ◌==◌, ◌||◌, true, false, Bool, ℕ, List, [], ◌∷◌, ◌++◌, ◌<◌, ◌≤◌, ◌+◌, arith, refl, sym, ap, subst}
+use Rattle.std.proofs.Common.{⊎_elim, take, get_or, length, Option, Some, None}
 use Rattle.std.specs.Prelude.{IsSome, is_some, Contains, MatchOption, option_map, if◌then◌else◌}
 use Rattle.std.specs.List.{AllByRecursion}
 use Rattle.std.specs.List.Sorted.{IsStrictlySortedBy}
@@ -40,7 +41,8 @@ has_it (j ∷ js) k is = ⊎_elim
     (Contains-append_cases (j ∷ []) js k is)
   where
     one : Contains (j ∷ []) k → j ≡ k
-    one is = ⊎_elim (λ (never : Contains [] k). let no : ⊥ = omega (arith, never.1) in absurd no) (λ (e : j ≡ k). e) (Contains-push_cases [] j k is)
+    one is = ⊎_elim (λ (never : Contains [] k). let no : ⊥ =
+        omega (arith, never.1) in absurd no) (λ (e : j ≡ k). e) (Contains-push_cases [] j k is)
 
 has_push : (ks : List ℕ) (k j : ℕ) → has (ks ++ k ∷ []) j ≡ (has ks j || (k == j))
 has_push [] k j = by (k == j)
@@ -63,11 +65,14 @@ hasnt (i ∷ is) k j below from = by (i == j) refl (hasnt is k j below.1 from)
     by false other rest = rest
 
 -- along numbers that increase, those before one are below it
-pub before_below : (ks : List ℕ) (i d : ℕ) → IsStrictlySortedBy nat_cmp ks → i < length ks → AllByRecursion (λ j. j < get_or ks i d) (take i ks)
-before_below ks i d rises within = all_map (λ j. nat_cmp j (get_or ks i d) ≡ Less) (λ j. j < get_or ks i d) (take i ks) (λ j. is_less j (get_or ks i d)) (before_order nat_cmp ks i d rises within)
+pub before_below : (ks : List ℕ) (i d : ℕ) → IsStrictlySortedBy nat_cmp ks → i < length ks →
+    AllByRecursion (λ j. j < get_or ks i d) (take i ks)
+before_below ks i d rises within =
+    all_map (λ j. nat_cmp j (get_or ks i d) ≡ Less) (λ j. j < get_or ks i d) (take i ks) (λ j. is_less j (get_or ks i d)) (before_order nat_cmp ks i d rises within)
 
 -- numbers that increase are all below the one behind their last
-pub all_below : (ks : List ℕ) (n next : ℕ) → IsStrictlySortedBy nat_cmp ks → length ks ≡ n + 1 → next ≡ get_or ks n 0 + 1 → AllByRecursion (λ j. j < next) ks
+pub all_below : (ks : List ℕ) (n next : ℕ) → IsStrictlySortedBy nat_cmp ks → length ks ≡ n + 1 → next ≡ get_or ks n 0 + 1 →
+    AllByRecursion (λ j. j < next) ks
 all_below ks n next rises long is =
     let within : n < length ks = omega (arith, long) in
     subst (AllByRecursion (λ j. j < next)) (sym (take_more ks n 0 within) ∙ take_all (n + 1) ks (omega (arith, long)))
@@ -93,10 +98,13 @@ module _ (ks : List ℕ) (segment : ℕ → Option (List ℕ)) (k : ℕ) (below 
 
   module _ (within : k < numbers) where
     pub holds_next : (u : Uid) → holds (sofar (ks ++ k ∷ []) segment) u ≡ newer (state_in u (segment k)) (holds (sofar ks segment) u)
-    holds_next u = held_put (sofar ks segment) (sofar (ks ++ k ∷ []) segment) k within above others u ∙ ap (λ o. newer (state_in u o) (holds (sofar ks segment) u)) at_it
+    holds_next u =
+        held_put (sofar ks segment) (sofar (ks ++ k ∷ []) segment) k within above others u ∙ ap (λ o. newer (state_in u o) (holds (sofar ks segment) u)) at_it
 
-    pub place_next : (u : Uid) → place (sofar (ks ++ k ∷ []) segment) u ≡ place_after (state_in u (segment k)) k (place (sofar ks segment) u)
-    place_next u = place_put (sofar ks segment) (sofar (ks ++ k ∷ []) segment) k within above others u ∙ ap (λ o. place_after (state_in u o) k (place (sofar ks segment) u)) at_it
+    pub place_next : (u : Uid) →
+        place (sofar (ks ++ k ∷ []) segment) u ≡ place_after (state_in u (segment k)) k (place (sofar ks segment) u)
+    place_next u =
+        place_put (sofar ks segment) (sofar (ks ++ k ∷ []) segment) k within above others u ∙ ap (λ o. place_after (state_in u o) k (place (sofar ks segment) u)) at_it
 
 -- what is nothing is nothing where it is asked for
 pub none_either : {X : Type 0} (b : Bool) (o : Option X) → o ≡ None → (if b then o else None) ≡ None
@@ -104,8 +112,10 @@ none_either true o is = is
 none_either false o is = refl
 
 -- when all are read, these are all
-pub placed_all : (ks : List ℕ) (segment : ℕ → Option (List ℕ)) → ((j : ℕ) → j < numbers → IsSome (segment j) → Contains ks j) → (u : Uid) → placed (sofar ks segment) u ≡ placed segment u
-placed_all ks segment there u = newest_same (state_at segment u) (state_at (sofar ks segment) u) numbers (λ j within. ap (state_in u) (by j within (segment j) refl))
+pub placed_all : (ks : List ℕ) (segment : ℕ → Option (List ℕ)) → ((j : ℕ) → j < numbers → IsSome (segment j) → Contains ks j) → (u : Uid) →
+    placed (sofar ks segment) u ≡ placed segment u
+placed_all ks segment there u =
+    newest_same (state_at segment u) (state_at (sofar ks segment) u) numbers (λ j within. ap (state_in u) (by j within (segment j) refl))
   where
     by : (j : ℕ) → j < numbers → (o : Option (List ℕ)) → segment j ≡ o → sofar ks segment j ≡ segment j
     by j within None is = none_either (has ks j) (segment j) is ∙ sym is
@@ -121,8 +131,11 @@ pub record HasGathered (segment : ℕ → Option (List ℕ)) (places : Uid → O
   pub places_are : (u : Uid) → places u ≡ place segment u
   pub states_are : (u : Uid) → Unpacks u (holds segment u) (states u)
 
-pub gathered_next : (ks : List ℕ) (i d : ℕ) (segment : ℕ → Option (List ℕ)) → IsStrictlySortedBy nat_cmp ks → i < length ks → get_or ks i d < numbers
-    → (places places' : Uid → Option ℕ) (states states' : Uid → Option ObjectState) → HasGathered (sofar (take i ks) segment) places states → Gathers (segment (get_or ks i d)) (get_or ks i d) places states places' states'
+pub gathered_next : (ks : List ℕ) (i d : ℕ) (segment : ℕ → Option (List ℕ)) → IsStrictlySortedBy nat_cmp ks → i < length ks →
+    get_or ks i d < numbers
+    → (places places' : Uid → Option ℕ) (states states' : Uid → Option ObjectState) →
+    HasGathered (sofar (take i ks) segment) places states →
+    Gathers (segment (get_or ks i d)) (get_or ks i d) places states places' states'
     → HasGathered (sofar (take (i + 1) ks) segment) places' states'
 gathered_next ks i d segment rises within small places places' states states' has_all gathers =
     subst (λ ls. HasGathered (sofar ls segment) places' states') (sym (take_more ks i d within)) (record {
@@ -135,15 +148,19 @@ gathered_next ks i d segment rises within small places places' states states' ha
 
     by_place : (u : Uid) (o : Option (List ℕ)) → state_in u (segment (get_or ks i d)) ≡ o
         → MatchOption o ((places' u ≡ places u) × (states' u ≡ states u)) (λ bytes. (places' u ≡ Some (get_or ks i d)) × Unpacks u (Some bytes) (states' u)) → places' u ≡ place (sofar (take i ks ++ get_or ks i d ∷ []) segment) u
-    by_place u None is same = same.0 ∙ has_all.places_are u ∙ sym (place_next (take i ks) segment (get_or ks i d) below small u ∙ ap (λ o. place_after o (get_or ks i d) (place (sofar (take i ks) segment) u)) is)
-    by_place u (Some bytes) is new = new.0 ∙ sym (place_next (take i ks) segment (get_or ks i d) below small u ∙ ap (λ o. place_after o (get_or ks i d) (place (sofar (take i ks) segment) u)) is)
+    by_place u None is same =
+        same.0 ∙ has_all.places_are u ∙ sym (place_next (take i ks) segment (get_or ks i d) below small u ∙ ap (λ o. place_after o (get_or ks i d) (place (sofar (take i ks) segment) u)) is)
+    by_place u (Some bytes) is new =
+        new.0 ∙ sym (place_next (take i ks) segment (get_or ks i d) below small u ∙ ap (λ o. place_after o (get_or ks i d) (place (sofar (take i ks) segment) u)) is)
 
-    by_state : (u : Uid) (o : Option (List ℕ)) → MatchOption o ((places' u ≡ places u) × (states' u ≡ states u)) (λ bytes. (places' u ≡ Some (get_or ks i d)) × Unpacks u (Some bytes) (states' u))
+    by_state : (u : Uid) (o : Option (List ℕ)) →
+        MatchOption o ((places' u ≡ places u) × (states' u ≡ states u)) (λ bytes. (places' u ≡ Some (get_or ks i d)) × Unpacks u (Some bytes) (states' u))
         → Unpacks u (newer o (holds (sofar (take i ks) segment) u)) (states' u)
     by_state u None same = subst (Unpacks u (holds (sofar (take i ks) segment) u)) (sym same.1) (has_all.states_are u)
     by_state u (Some bytes) new = new.1
 
-pub gathered_all : (ks : List ℕ) (i : ℕ) (segment : ℕ → Option (List ℕ)) → length ks ≤ i → ((j : ℕ) → j < numbers → IsSome (segment j) → Contains ks j) → (places : Uid → Option ℕ) (states : Uid → Option ObjectState)
+pub gathered_all : (ks : List ℕ) (i : ℕ) (segment : ℕ → Option (List ℕ)) → length ks ≤ i →
+    ((j : ℕ) → j < numbers → IsSome (segment j) → Contains ks j) → (places : Uid → Option ℕ) (states : Uid → Option ObjectState)
     → HasGathered (sofar (take i ks) segment) places states → HasGathered segment places states
 gathered_all ks i segment long there places states has_all = record {
   places_are = λ u. all.places_are u ∙ ap (option_map (λ p. p.0)) (placed_all ks segment there u);
@@ -153,7 +170,8 @@ gathered_all ks i segment long there places states has_all = record {
     all : HasGathered (sofar ks segment) places states
     all = subst (λ ls. HasGathered (sofar ls segment) places states) (take_all i ks long) has_all
 
-pub gathered_none : (segment : ℕ → Option (List ℕ)) (places : Uid → Option ℕ) (states : Uid → Option ObjectState) → ((u : Uid) → places u ≡ None) → ((u : Uid) → states u ≡ None) → HasGathered (sofar [] segment) places states
+pub gathered_none : (segment : ℕ → Option (List ℕ)) (places : Uid → Option ℕ) (states : Uid → Option ObjectState) →
+    ((u : Uid) → places u ≡ None) → ((u : Uid) → states u ≡ None) → HasGathered (sofar [] segment) places states
 gathered_none segment places states no_place no_state = record {
   places_are = λ u. no_place u ∙ sym (ap (option_map (λ p. p.0)) (placed_none segment u));
   states_are = λ u. subst (λ o. Unpacks u o (states u)) (sym (ap (option_map (λ p. p.1)) (placed_none segment u))) (no_state u);
@@ -161,17 +179,22 @@ gathered_none segment places states no_place no_state = record {
 
 -- ---- one object alone
 
-pub looked_next : (ks : List ℕ) (i d : ℕ) (segment : ℕ → Option (List ℕ)) → IsStrictlySortedBy nat_cmp ks → i < length ks → get_or ks i d < numbers → (u : Uid) (before after : Option ObjectState) → Packs (holds (sofar (take i ks) segment) u) before
-    → MatchOption (state_in u (segment (get_or ks i d))) (after ≡ before) (λ bytes. Packs (Some bytes) after) → Packs (holds (sofar (take (i + 1) ks) segment) u) after
+pub looked_next : (ks : List ℕ) (i d : ℕ) (segment : ℕ → Option (List ℕ)) → IsStrictlySortedBy nat_cmp ks → i < length ks →
+    get_or ks i d < numbers → (u : Uid) (before after : Option ObjectState) → Packs (holds (sofar (take i ks) segment) u) before
+    → MatchOption (state_in u (segment (get_or ks i d))) (after ≡ before) (λ bytes. Packs (Some bytes) after) →
+    Packs (holds (sofar (take (i + 1) ks) segment) u) after
 looked_next ks i d segment rises within small u before after packs looks =
     subst (λ ls. Packs (holds (sofar ls segment) u) after) (sym (take_more ks i d within))
     (subst (λ o. Packs o after) (sym (holds_next (take i ks) segment (get_or ks i d) (before_below ks i d rises within) small u)) (by (state_in u (segment (get_or ks i d))) looks))
   where
-    by : (o : Option (List ℕ)) → MatchOption o (after ≡ before) (λ bytes. Packs (Some bytes) after) → Packs (newer o (holds (sofar (take i ks) segment) u)) after
+    by : (o : Option (List ℕ)) → MatchOption o (after ≡ before) (λ bytes. Packs (Some bytes) after) →
+        Packs (newer o (holds (sofar (take i ks) segment) u)) after
     by None same = subst (Packs (holds (sofar (take i ks) segment) u)) (sym same) packs
     by (Some bytes) new = new
 
-pub looked_all : (ks : List ℕ) (i : ℕ) (segment : ℕ → Option (List ℕ)) → length ks ≤ i → ((j : ℕ) → j < numbers → IsSome (segment j) → Contains ks j) → (u : Uid) (state : Option ObjectState) → Packs (holds (sofar (take i ks) segment) u) state → Packs (holds segment u) state
+pub looked_all : (ks : List ℕ) (i : ℕ) (segment : ℕ → Option (List ℕ)) → length ks ≤ i →
+    ((j : ℕ) → j < numbers → IsSome (segment j) → Contains ks j) → (u : Uid) (state : Option ObjectState) →
+    Packs (holds (sofar (take i ks) segment) u) state → Packs (holds segment u) state
 looked_all ks i segment long there u state packs =
     subst (λ o. Packs o state) (ap (option_map (λ p. p.1)) (placed_all ks segment there u)) (subst (λ ls. Packs (holds (sofar ls segment) u) state) (take_all i ks long) packs)
 

@@ -1,5 +1,6 @@
 -- A merge changes nothing of the pair: the put of the merged segment, and the removal of the older ones.
-use Rattle.std.proofs.Common.{◌≡◌, ◌≢◌, ◌⊎◌, ◌∙◌, true≢false, ℕ, List, [], ◌∷◌, ◌<◌, ◌≤◌, arith, refl, sym, ap, subst, inl, inr, ⊎_elim, map, length, Option, Some, None}
+use Rattle.std.proofs.Common.{◌≡◌, ◌≢◌, ◌⊎◌, ◌∙◌, true≢false, ℕ, List, [], ◌∷◌, ◌<◌, ◌≤◌, arith, refl, sym, ap, subst, inl, inr, ⊎_elim}
+use Rattle.std.proofs.Common.{map, length, Option, Some, None}
 use Rattle.std.specs.Prelude.{IsSome, is_some, IfSome, Contains, option_map}
 use Rattle.std.specs.List.{AllByRecursion}
 use Rattle.std.specs.List.Sorted.{IsStrictlySortedBy}
@@ -38,13 +39,17 @@ rises_one : (k : ℕ) → IsStrictlySortedBy nat_cmp (k ∷ [])
 unfolding IsStrictlySortedBy
 rises_one k = (tt, tt)
 
-pub pair_then : (role : Role) (old mid new : FileMap) → SamePair (pair_of old role) (pair_of mid role) → SamePair (pair_of mid role) (pair_of new role) → SamePair (pair_of old role) (pair_of new role)
-pair_then role old mid new first then = record { committed = λ u. then.committed u ∙ first.committed u; prepared = λ a. then.prepared a ∙ first.prepared a }
+pub pair_then : (role : Role) (old mid new : FileMap) → SamePair (pair_of old role) (pair_of mid role) →
+    SamePair (pair_of mid role) (pair_of new role) → SamePair (pair_of old role) (pair_of new role)
+pair_then role old mid new first then =
+    record { committed = λ u. then.committed u ∙ first.committed u; prepared = λ a. then.prepared a ∙ first.prepared a }
 
 -- files in form with the pair of formed files are formed
-formed_same : (role : Role) (old new : FileMap) → IsFormed old role → SamePair (pair_of old role) (pair_of new role) → ((k : ℕ) → k < numbers → IfSome (new (slot.Segment role k)) (IsSegment role))
+formed_same : (role : Role) (old new : FileMap) → IsFormed old role → SamePair (pair_of old role) (pair_of new role) →
+    ((k : ℕ) → k < numbers → IfSome (new (slot.Segment role k)) (IsSegment role))
     → ((a : Uid) → IfSome (new (slot.Pending role a)) (IsSegment role)) → IsFormed new role
-formed_same role old new formed same segs pends = formed_from role old new formed segs pends (λ a u. subst (λ o. names o u) (same.prepared a)) (same_known (pair_of old role) (pair_of new role) same)
+formed_same role old new formed same segs pends =
+    formed_from role old new formed segs pends (λ a u. subst (λ o. names o u) (same.prepared a)) (same_known (pair_of old role) (pair_of new role) same)
 
 -- ---- the states of the merged segment
 
@@ -59,7 +64,8 @@ held_packed role file formed u x is = by (placed (segments file role) u) refl is
         let same : p.1 ≡ x = cc in
         subst (IsPacked role u) same (of_file role (file (slot.Segment role p.0)) (formed.segments p.0 at.0) u p.1 at.1)
 
-module _ (role : Role) (old : FileMap) (formed : IsFormed old role) (table : Uid → Option ObjectState) (unpacks : (u : Uid) → Unpacks u (held old role u) (table u)) (values : List ObjectState) (are : AreValuesOf table values) where
+module _ (role : Role) (old : FileMap) (formed : IsFormed old role) (table : Uid → Option ObjectState) (unpacks : (u : Uid) →
+    Unpacks u (held old role u) (table u)) (values : List ObjectState) (are : AreValuesOf table values) where
   each_fits : (ss : List ObjectState) → AllByRecursion (λ s. (held old role s.uid ≡ Some (state_bytes s)) × StateInForm s) ss
       → AllByRecursion (λ s. length (state_bytes s) ≤ MOST_BYTES) ss × AllByRecursion (λ s. role_of s.uid ≡ role) ss
   each_fits [] all = (tt, tt)
@@ -72,9 +78,15 @@ module _ (role : Role) (old : FileMap) (formed : IsFormed old role) (table : Uid
   merged_sizes = (each_fits values (each_held (held old role) table unpacks values are)).0
 
   pub merged_apart : AreDistinct role values
-  merged_apart = record { distinct = values_distinct (held old role) table unpacks values are; own = (each_fits values (each_held (held old role) table unpacks values are)).1 }
+  merged_apart =
+      record {
+        distinct = values_distinct (held old role) table unpacks values are;
+        own =
+            (each_fits values (each_held (held old role) table unpacks values are)).1;
+      }
 
-  known_held : (ss : List ObjectState) → AllByRecursion (λ s. (held old role s.uid ≡ Some (state_bytes s)) × StateInForm s) ss → AllByRecursion (λ u. IsKnown (pair_of old role) u) (map uid_of ss)
+  known_held : (ss : List ObjectState) → AllByRecursion (λ s. (held old role s.uid ≡ Some (state_bytes s)) × StateInForm s) ss →
+      AllByRecursion (λ u. IsKnown (pair_of old role) u) (map uid_of ss)
   known_held [] all = tt
   known_held (s ∷ ss) all = (inl (ap is_some all.0.0), known_held ss all.1)
 
@@ -91,7 +103,8 @@ module _ (role : Role) (old : FileMap) (formed : IsFormed old role) (table : Uid
   abbrev pub merged_is : AllByRecursion FitsRow values → (bytes : List ℕ) → bytes ≡ segment_bytes values → IsSegment role bytes
   merged_is fit bytes written = record { states = values; fit = fit; count = merged_count; distinct = merged_apart; written = written }
 
-  pub is_merged : (ks : List ℕ) (k : ℕ) → k < numbers → AllByRecursion (λ j. j < k) ks → AllByRecursion FitsRow values → (bytes : List ℕ) → bytes ≡ segment_bytes values → IsMerged role old ks k bytes
+  pub is_merged : (ks : List ℕ) (k : ℕ) → k < numbers → AllByRecursion (λ j. j < k) ks → AllByRecursion FitsRow values → (bytes : List ℕ) →
+      bytes ≡ segment_bytes values → IsMerged role old ks k bytes
   is_merged ks k within above fit bytes written = record {
     within = within;
     above = above;
@@ -117,7 +130,12 @@ module _ (role : Role) (old : FileMap) (formed : IsFormed old role) (ks : List �
       above = above_all (segments old role) ks k numbers_are m.above
 
       pub put_pair : SamePair (pair_of old role) (pair_of mid role)
-      put_pair = record { committed = merged_holds (segments old role) (segments mid role) k m.within above mid_segments all_held; prepared = λ a. ap (option_map states_in) (mid_pending a) }
+      put_pair = record {
+        committed =
+            merged_holds (segments old role) (segments mid role) k m.within above mid_segments all_held;
+        prepared =
+            λ a. ap (option_map states_in) (mid_pending a);
+      }
 
       pub put_top : IsTop (segments mid role) k
       put_top = merged_top (segments old role) (segments mid role) k m.within above mid_segments all_held
@@ -136,19 +154,27 @@ module _ (role : Role) (old : FileMap) (formed : IsFormed old role) (ks : List �
 
   -- ---- older segments go
 
-  module _ (mid new : FileMap) (others : (q : Slot) → q ≢ slot.Segment role k → q ≢ slot.Tmp → mid q ≡ old q) (here : mid (slot.Segment role k) ≡ Some bytes) (removes : RemovesSome role ks mid new) where
+  module _ (mid new : FileMap) (others : (q : Slot) → q ≢ slot.Segment role k → q ≢ slot.Tmp →
+      mid q ≡ old q) (here : mid (slot.Segment role k) ≡ Some bytes) (removes : RemovesSome role ks mid new) where
     kept_top : new (slot.Segment role k) ≡ mid (slot.Segment role k)
     kept_top = ⊎_elim (λ (e : new (slot.Segment role k) ≡ mid (slot.Segment role k)). e)
-        (λ (e : Contains ks k × (new (slot.Segment role k) ≡ None)). let less = all_of (λ j. j < k) ks m.above k e.0 in absurd (omega (arith, less))) (removes.each k)
+        (λ (e : Contains ks k × (new (slot.Segment role k) ≡ None)). let less =
+        all_of (λ j. j < k) ks m.above k e.0 in absurd (omega (arith, less))) (removes.each k)
 
     fewer : (j : ℕ) → j < numbers → (new (slot.Segment role j) ≡ mid (slot.Segment role j)) ⊎ (new (slot.Segment role j) ≡ None)
-    fewer j less = ⊎_elim (λ (e : new (slot.Segment role j) ≡ mid (slot.Segment role j)). inl e) (λ (e : Contains ks j × (new (slot.Segment role j) ≡ None)). inr e.1) (removes.each j)
+    fewer j less =
+        ⊎_elim (λ (e : new (slot.Segment role j) ≡ mid (slot.Segment role j)). inl e) (λ (e : Contains ks j × (new (slot.Segment role j) ≡ None)). inr e.1) (removes.each j)
 
     new_pending : (a : Uid) → new (slot.Pending role a) ≡ mid (slot.Pending role a)
     new_pending a = removes.others (slot.Pending role a) (λ j e. cc)
 
     gone_pair : SamePair (pair_of mid role) (pair_of new role)
-    gone_pair = record { committed = older_holds (segments mid role) (segments new role) k m.within (put_top mid others here) kept_top fewer; prepared = λ a. ap (option_map states_in) (new_pending a) }
+    gone_pair = record {
+      committed =
+          older_holds (segments mid role) (segments new role) k m.within (put_top mid others here) kept_top fewer;
+      prepared =
+          λ a. ap (option_map states_in) (new_pending a);
+    }
 
     pub removed_pair : SamePair (pair_of old role) (pair_of new role)
     removed_pair = pair_then role old mid new (put_pair mid others here) gone_pair
@@ -162,10 +188,12 @@ module _ (role : Role) (old : FileMap) (formed : IsFormed old role) (ks : List �
     pub removed_others : OnlyOfRole role old new
     removed_others q other tmp = removes.others q (λ j e. other (ap slot_role e)) ∙ segment_others role k old mid others q other tmp
 
-    pub removed_pend : (actions : Uid → Option (List Uid)) (holdings : Uid → Option Uid) → KeepsPend (pend old role) actions holdings → KeepsPend (pend new role) actions holdings
+    pub removed_pend : (actions : Uid → Option (List Uid)) (holdings : Uid → Option Uid) → KeepsPend (pend old role) actions holdings →
+        KeepsPend (pend new role) actions holdings
     removed_pend actions holdings keeps = subst (λ f. KeepsPend f actions holdings) (λ i a. sym (removed_pair.prepared a) i) keeps
 
-    pub removed_places : AreGone role ks new → (places places' : Uid → Option ℕ) → ((u : Uid) → places u ≡ place (segments old role) u) → AllInOne k places places' → KeepsPlaces (segments new role) places' (k ∷ [])
+    pub removed_places : AreGone role ks new → (places places' : Uid → Option ℕ) → ((u : Uid) → places u ≡ place (segments old role) u) →
+        AllInOne k places places' → KeepsPlaces (segments new role) places' (k ∷ [])
     removed_places gone places places' keeps all = record {
       places_are = λ u. all u ∙ ap (option_map (λ j. k)) (keeps u) ∙ either (placed (segments old role) u) ∙ ap (option_map (λ x. k)) (sym ((put_pair mid others here).committed u))
           ∙ sym (older_place (segments mid role) (segments new role) k m.within (put_top mid others here) kept_top fewer u);

@@ -23,4 +23,5 @@ all_of {X = X} P (y ∷ ys) all x is = ⊎_elim
     (Contains-append_cases (y ∷ []) ys x is)
   where
     one : (y x : X) → Contains (y ∷ []) x → y ≡ x
-    one y x is = ⊎_elim (λ (never : Contains [] x). let no : ⊥ = omega (arith, never.1) in absurd no) (λ (e : y ≡ x). e) (Contains-push_cases [] y x is)
+    one y x is = ⊎_elim (λ (never : Contains [] x). let no : ⊥ =
+        omega (arith, never.1) in absurd no) (λ (e : y ≡ x). e) (Contains-push_cases [] y x is)

@@ -20,9 +20,11 @@ module _ (role : Role) (ks : List ℕ) (k : ℕ) (among : Contains ks k) (old mi
   }
 
   pub removes_or_not : RemovesSome role ks old mid → Same mid new ⊎ Removes mid new (slot.Segment role k) → RemovesSome role ks old new
-  removes_or_not some = ⊎_elim (λ (same : Same mid new). subst (RemovesSome role ks old) (λ i q. sym (same q) i) some) (λ (removes : Removes mid new (slot.Segment role k)). removes_one some removes)
+  removes_or_not some =
+      ⊎_elim (λ (same : Same mid new). subst (RemovesSome role ks old) (λ i q. sym (same q) i) some) (λ (removes : Removes mid new (slot.Segment role k)). removes_one some removes)
 
-pub gone_more : (role : Role) (ks : List ℕ) (i d : ℕ) (mid new : FileMap) → i < length ks → AreGone role (take i ks) mid → Removes mid new (slot.Segment role (get_or ks i d)) → AreGone role (take (i + 1) ks) new
+pub gone_more : (role : Role) (ks : List ℕ) (i d : ℕ) (mid new : FileMap) → i < length ks → AreGone role (take i ks) mid →
+    Removes mid new (slot.Segment role (get_or ks i d)) → AreGone role (take (i + 1) ks) new
 gone_more role ks i d mid new within gone removes =
     all_take_more (λ k. new (slot.Segment role k) ≡ None) ks i d within
     (all_map (λ k. mid (slot.Segment role k) ≡ None) (λ k. new (slot.Segment role k) ≡ None) (take i ks)

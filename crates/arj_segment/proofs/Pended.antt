@@ -1,5 +1,6 @@
 -- Pending files that are read one after the other.
-use Rattle.std.proofs.Common.{◌≡◌, ◌≢◌, ◌∙◌, true, false, true≢false, Bool, ℕ, List, [], ◌∷◌, ◌++◌, ◌<◌, ◌≤◌, ◌+◌, refl, sym, ap, subst, ⊎_elim, map, take, get_or, length, Option, Some, None}
+use Rattle.std.proofs.Common.{◌≡◌, ◌≢◌, ◌∙◌, true, false, true≢false, Bool, ℕ, List, [], ◌∷◌, ◌++◌, ◌<◌, ◌≤◌, ◌+◌, refl, sym, ap, subst}
+use Rattle.std.proofs.Common.{⊎_elim, map, take, get_or, length, Option, Some, None}
 use Rattle.std.specs.Prelude.{IsSome, is_some, Contains, MatchOption, option_map, if◌then◌else◌}
 use Rattle.std.specs.List.{AllByRecursion}
 use Rattle.std.specs.List.Sorted.{IsStrictlySortedBy}
@@ -33,24 +34,32 @@ abbrev pub only_of : List Uid → (Uid → Option (List (Uid × List ℕ))) → 
 only_of acts prepared a = if is_in acts a then prepared a else None
 
 -- what is read of the actions so far
-pub record HasRead (acts : List Uid) (prepared : Uid → Option (List (Uid × List ℕ))) (pends : List (Uid × List ObjectState)) (actions : Uid → Option (List Uid)) (holdings : Uid → Option Uid) : Type 0 where
+pub record HasRead (acts : List Uid) (prepared : Uid →
+    Option (List (Uid × List ℕ))) (pends : List (Uid × List ObjectState)) (actions : Uid → Option (List Uid)) (holdings : Uid →
+    Option Uid) : Type 0 where
   pub keeps : KeepsPend (only_of acts prepared) actions holdings
   pub each : AllByRecursion (λ e. (prepared e.0 ≡ Some (packed e.1)) × AllByRecursion StateInForm e.1) pends
   pub every : (a : Uid) → is_in acts a ≡ true → IsSome (prepared a) → Contains (map (λ e. e.0) pends) a
   pub from : AllByRecursion (λ a. Contains acts a) (map (λ e. e.0) pends)
   pub by_action : IsStrictlySortedBy uid_order (map (λ e. e.0) pends)
 
-pub read_none : (prepared : Uid → Option (List (Uid × List ℕ))) (actions : Uid → Option (List Uid)) (holdings : Uid → Option Uid) → ((a : Uid) → actions a ≡ None) → ((u : Uid) → holdings u ≡ None) → HasRead [] prepared [] actions holdings
+pub read_none : (prepared : Uid → Option (List (Uid × List ℕ))) (actions : Uid → Option (List Uid)) (holdings : Uid → Option Uid) →
+    ((a : Uid) → actions a ≡ None) → ((u : Uid) → holdings u ≡ None) → HasRead [] prepared [] actions holdings
 unfolding IsStrictlySortedBy
 read_none prepared actions holdings no_action no_holder = record {
-  keeps = record { actions_are = no_action; holders_are = λ u. subst (λ h. MatchOption h ((a : Uid) → names None u → ⊥) (λ a. names None u)) (sym (no_holder u)) (λ a never. never) };
+  keeps = record {
+    actions_are = no_action;
+    holders_are =
+        λ u. subst (λ h. MatchOption h ((a : Uid) → names None u → ⊥) (λ a. names None u)) (sym (no_holder u)) (λ a never. never);
+  };
   each = tt;
   every = λ a is. absurd (true≢false (sym is));
   from = tt;
   by_action = tt;
 }
 
-names_push : (pends : List (Uid × List ObjectState)) (e : Uid × List ObjectState) → map (λ e. e.0) (pends ++ e ∷ []) ≡ map (λ e. e.0) pends ++ e.0 ∷ []
+names_push : (pends : List (Uid × List ObjectState)) (e : Uid × List ObjectState) →
+    map (λ e. e.0) (pends ++ e ∷ []) ≡ map (λ e. e.0) pends ++ e.0 ∷ []
 names_push [] e = refl
 names_push (f ∷ fs) e = ap (λ us. f.0 ∷ us) (names_push fs e)
 
@@ -75,19 +84,23 @@ module _ (acts : List Uid) (act : Uid) (prepared : Uid → Option (List (Uid × 
       by true named = named
       by false never = absurd never
 
-  module _ (pends pends' : List (Uid × List ObjectState)) (actions actions' : Uid → Option (List Uid)) (holdings holdings' : Uid → Option Uid) (before : AllByRecursion (λ b. uid_order b act ≡ Less) acts) (has : HasRead acts prepared pends actions holdings) where
+  module _ (pends pends' : List (Uid × List ObjectState)) (actions actions' : Uid → Option (List Uid)) (holdings holdings' : Uid →
+      Option Uid) (before : AllByRecursion (λ b. uid_order b act ≡ Less) acts) (has : HasRead acts prepared pends actions holdings) where
     was_in : (a : Uid) → a ≢ act → is_in (acts ++ act ∷ []) a ≡ true → is_in acts a ≡ true
-    was_in a other is = ⊎_elim (λ (e : a ≡ act). absurd (other e)) (λ (h : (a ≢ act) × (is_in acts a ≡ true)). h.1) (in_or_last acts act a is)
+    was_in a other is =
+        ⊎_elim (λ (e : a ≡ act). absurd (other e)) (λ (h : (a ≢ act) × (is_in acts a ≡ true)). h.1) (in_or_last acts act a is)
 
     -- the action has prepared nothing
-    read_nothing : prepared act ≡ None → pends' ≡ pends → SameTable actions actions' → SameTable holdings holdings' → HasRead (acts ++ act ∷ []) prepared pends' actions' holdings'
-    read_nothing none same same_actions same_holdings = subst (λ ps. HasRead (acts ++ act ∷ []) prepared ps actions' holdings') (sym same) (record {
-      keeps = moved;
-      each = has.each;
-      every = λ a is some. ⊎_elim (λ (e : a ≡ act). absurd (true≢false (sym some ∙ ap is_some (ap prepared e ∙ none)))) (λ (other : a ≢ act). has.every a (was_in a other is) some) (uid_cases a act);
-      from = all_map (λ a. Contains acts a) (λ a. Contains (acts ++ act ∷ []) a) (map (λ e. e.0) pends) (λ a is. Contains-append_left acts (act ∷ []) a is) has.from;
-      by_action = has.by_action;
-    })
+    read_nothing : prepared act ≡ None → pends' ≡ pends → SameTable actions actions' → SameTable holdings holdings' →
+        HasRead (acts ++ act ∷ []) prepared pends' actions' holdings'
+    read_nothing none same same_actions same_holdings =
+        subst (λ ps. HasRead (acts ++ act ∷ []) prepared ps actions' holdings') (sym same) (record {
+          keeps = moved;
+          each = has.each;
+          every = λ a is some. ⊎_elim (λ (e : a ≡ act). absurd (true≢false (sym some ∙ ap is_some (ap prepared e ∙ none)))) (λ (other : a ≢ act). has.every a (was_in a other is) some) (uid_cases a act);
+          from = all_map (λ a. Contains acts a) (λ a. Contains (acts ++ act ∷ []) a) (map (λ e. e.0) pends) (λ a is. Contains-append_left acts (act ∷ []) a is) has.from;
+          by_action = has.by_action;
+        })
       where
         all_same : only_of (acts ++ act ∷ []) prepared ≡ only_of acts prepared
         all_same = λ i a. one a i
@@ -100,38 +113,48 @@ module _ (acts : List Uid) (act : Uid) (prepared : Uid → Option (List (Uid × 
             (subst (KeepsPend (only_of acts prepared) actions) (λ i u. sym (same_holdings u) i) has.keeps))
 
     -- the action has prepared these states
-    read_states : (states : List ObjectState) → prepared act ≡ Some (packed states) → AllByRecursion StateInForm states → pends' ≡ pends ++ (act, states) ∷ [] → Sets actions actions' act (Some (objects (packed states)))
+    read_states : (states : List ObjectState) → prepared act ≡ Some (packed states) → AllByRecursion StateInForm states →
+        pends' ≡ pends ++ (act, states) ∷ [] → Sets actions actions' act (Some (objects (packed states)))
         → SetsEach (objects (packed states)) (Some act) holdings holdings' → HasRead (acts ++ act ∷ []) prepared pends' actions' holdings'
-    read_states states is in_form more sets each = subst (λ ps. HasRead (acts ++ act ∷ []) prepared ps actions' holdings') (sym more) (record {
-      keeps = pend_added (only_of acts prepared) (only_of (acts ++ act ∷ []) prepared) act (packed states) others actions actions' holdings holdings' has.keeps
-          (λ u named. subst (λ o. names o u) is (was u named)) (here ∙ is) sets each;
-      each = all_more (λ e. (prepared e.0 ≡ Some (packed e.1)) × AllByRecursion StateInForm e.1) pends (act, states) has.each (is, in_form);
-      every = λ a among some. subst (λ us. Contains us a) (sym (names_push pends (act, states)))
-          (⊎_elim (λ (e : a ≡ act). subst (Contains (map (λ e. e.0) pends ++ act ∷ [])) (sym e) (Contains-push (map (λ e. e.0) pends) act))
-          (λ (other : a ≢ act). Contains-append_left (map (λ e. e.0) pends) (act ∷ []) a (has.every a (was_in a other among) some)) (uid_cases a act));
-      from = subst (AllByRecursion (λ a. Contains (acts ++ act ∷ []) a)) (sym (names_push pends (act, states)))
-          (all_more (λ a. Contains (acts ++ act ∷ []) a) (map (λ e. e.0) pends) act
-          (all_map (λ a. Contains acts a) (λ a. Contains (acts ++ act ∷ []) a) (map (λ e. e.0) pends) (λ a among. Contains-append_left acts (act ∷ []) a among) has.from) (Contains-push acts act));
-      by_action = subst (IsStrictlySortedBy uid_order) (sym (names_push pends (act, states)))
-          (sorted_push uid_order (map (λ e. e.0) pends) act has.by_action (all_map (λ a. Contains acts a) (λ a. uid_order a act ≡ Less) (map (λ e. e.0) pends) (λ a among. all_of (λ b. uid_order b act ≡ Less) acts before a among) has.from));
-    })
+    read_states states is in_form more sets each =
+        subst (λ ps. HasRead (acts ++ act ∷ []) prepared ps actions' holdings') (sym more) (record {
+          keeps = pend_added (only_of acts prepared) (only_of (acts ++ act ∷ []) prepared) act (packed states) others actions actions' holdings holdings' has.keeps
+              (λ u named. subst (λ o. names o u) is (was u named)) (here ∙ is) sets each;
+          each = all_more (λ e. (prepared e.0 ≡ Some (packed e.1)) × AllByRecursion StateInForm e.1) pends (act, states) has.each (is, in_form);
+          every = λ a among some. subst (λ us. Contains us a) (sym (names_push pends (act, states)))
+              (⊎_elim (λ (e : a ≡ act). subst (Contains (map (λ e. e.0) pends ++ act ∷ [])) (sym e) (Contains-push (map (λ e. e.0) pends) act))
+              (λ (other : a ≢ act). Contains-append_left (map (λ e. e.0) pends) (act ∷ []) a (has.every a (was_in a other among) some)) (uid_cases a act));
+          from = subst (AllByRecursion (λ a. Contains (acts ++ act ∷ []) a)) (sym (names_push pends (act, states)))
+              (all_more (λ a. Contains (acts ++ act ∷ []) a) (map (λ e. e.0) pends) act
+              (all_map (λ a. Contains acts a) (λ a. Contains (acts ++ act ∷ []) a) (map (λ e. e.0) pends) (λ a among. Contains-append_left acts (act ∷ []) a among) has.from) (Contains-push acts act));
+          by_action = subst (IsStrictlySortedBy uid_order) (sym (names_push pends (act, states)))
+              (sorted_push uid_order (map (λ e. e.0) pends) act has.by_action (all_map (λ a. Contains acts a) (λ a. uid_order a act ≡ Less) (map (λ e. e.0) pends) (λ a among. all_of (λ b. uid_order b act ≡ Less) acts before a among) has.from));
+        })
 
-    read_one : ReadsPending (prepared act) act pends actions holdings pends' actions' holdings' → HasRead (acts ++ act ∷ []) prepared pends' actions' holdings'
+    read_one : ReadsPending (prepared act) act pends actions holdings pends' actions' holdings' →
+        HasRead (acts ++ act ∷ []) prepared pends' actions' holdings'
     read_one reads = by (prepared act) refl reads
       where
-        by : (o : Option (List (Uid × List ℕ))) → prepared act ≡ o → ReadsPending o act pends actions holdings pends' actions' holdings' → HasRead (acts ++ act ∷ []) prepared pends' actions' holdings'
+        by : (o : Option (List (Uid × List ℕ))) → prepared act ≡ o → ReadsPending o act pends actions holdings pends' actions' holdings' →
+            HasRead (acts ++ act ∷ []) prepared pends' actions' holdings'
         by None none same = read_nothing none same.0 same.1 same.2
-        by (Some es) is r = read_states r.0 (is ∙ ap Some (sym r.1)) r.2 r.3 (subst (λ us. Sets actions actions' act (Some (objects us))) (sym r.1) r.4) (subst (λ us. SetsEach (objects us) (Some act) holdings holdings') (sym r.1) r.5)
+        by (Some es) is r =
+            read_states r.0 (is ∙ ap Some (sym r.1)) r.2 r.3 (subst (λ us. Sets actions actions' act (Some (objects us))) (sym r.1) r.4) (subst (λ us. SetsEach (objects us) (Some act) holdings holdings') (sym r.1) r.5)
 
-pub read_next : (acts : List Uid) (i : ℕ) (d : Uid) (prepared : Uid → Option (List (Uid × List ℕ))) (pends pends' : List (Uid × List ObjectState)) (actions actions' : Uid → Option (List Uid)) (holdings holdings' : Uid → Option Uid)
+pub read_next : (acts : List Uid) (i : ℕ) (d : Uid) (prepared : Uid →
+    Option (List (Uid × List ℕ))) (pends pends' : List (Uid × List ObjectState)) (actions actions' : Uid →
+    Option (List Uid)) (holdings holdings' : Uid → Option Uid)
     → IsStrictlySortedBy uid_order acts → i < length acts → HasRead (take i acts) prepared pends actions holdings
-    → ReadsPending (prepared (get_or acts i d)) (get_or acts i d) pends actions holdings pends' actions' holdings' → HasRead (take (i + 1) acts) prepared pends' actions' holdings'
+    → ReadsPending (prepared (get_or acts i d)) (get_or acts i d) pends actions holdings pends' actions' holdings' →
+    HasRead (take (i + 1) acts) prepared pends' actions' holdings'
 read_next acts i d prepared pends pends' actions actions' holdings holdings' sorted within has reads =
     subst (λ us. HasRead us prepared pends' actions' holdings') (sym (take_more acts i d within))
     (read_one (take i acts) (get_or acts i d) prepared pends pends' actions actions' holdings holdings' (before_order uid_order acts i d sorted within) has reads)
 
-module _ (acts : List Uid) (i : ℕ) (long : length acts ≤ i) (prepared : Uid → Option (List (Uid × List ℕ))) (there : (a : Uid) → IsSome (prepared a) → Contains acts a)
-    (pends : List (Uid × List ObjectState)) (actions : Uid → Option (List Uid)) (holdings : Uid → Option Uid) (has : HasRead (take i acts) prepared pends actions holdings) where
+module _ (acts : List Uid) (i : ℕ) (long : length acts ≤ i) (prepared : Uid → Option (List (Uid × List ℕ))) (there : (a : Uid) →
+    IsSome (prepared a) → Contains acts a)
+    (pends : List (Uid × List ObjectState)) (actions : Uid → Option (List Uid)) (holdings : Uid →
+    Option Uid) (has : HasRead (take i acts) prepared pends actions holdings) where
   all : HasRead acts prepared pends actions holdings
   all = subst (λ us. HasRead us prepared pends actions holdings) (take_all i acts long) has
 

@@ -1,5 +1,6 @@
 -- What the put of a file leaves: of a Pending file, and of the first segment.
-use Rattle.std.proofs.Common.{◌≡◌, ◌≢◌, ◌⊎◌, ◌∙◌, true, false, true≢false, Bool, cond, ℕ, List, [], ◌∷◌, ◌≤◌, arith, refl, sym, ap, subst, inl, ⊎_elim, map, length, Option, Some, None}
+use Rattle.std.proofs.Common.{◌≡◌, ◌≢◌, ◌⊎◌, ◌∙◌, true, false, true≢false, Bool, cond, ℕ, List, [], ◌∷◌, ◌≤◌, arith, refl, sym, ap, subst}
+use Rattle.std.proofs.Common.{inl, ⊎_elim, map, length, Option, Some, None}
 use Rattle.std.specs.Prelude.{IsSome, is_some, Contains, option_map}
 use Rattle.std.specs.List.{AllByRecursion, IsDistinct}
 use Rattle.std.proofs.lemmas.List.{take_all}
@@ -56,7 +57,8 @@ module _ (role : Role) (act : Uid) (states : List ObjectState) (old new : FileMa
   }
 
   new_free : (u : Uid) → names (pend new role act) u → InDoubt (pair_of old role) u → ⊥
-  new_free u named = all_in (λ w. InDoubt (pair_of old role) w → ⊥) states free u (listed states u (subst (λ o. names o u) put_adds.here named))
+  new_free u named =
+      all_in (λ w. InDoubt (pair_of old role) w → ⊥) states free u (listed states u (subst (λ o. names o u) put_adds.here named))
 
   put_once : (a b u : Uid) → names (pend new role a) u → names (pend new role b) u → a ≡ b
   put_once a b u na nb = ⊎_elim
@@ -74,19 +76,23 @@ module _ (role : Role) (act : Uid) (states : List ObjectState) (old new : FileMa
     few = λ us distinct each. few us distinct (λ u among. known_prepared (pair_of old role) (pair_of new role) act states put_adds u (each u among));
   }
 
-pub put_others : (role : Role) (act : Uid) (old new : FileMap) → ((q : Slot) → q ≢ slot.Pending role act → q ≢ slot.Tmp → new q ≡ old q) → OnlyOfRole role old new
+pub put_others : (role : Role) (act : Uid) (old new : FileMap) → ((q : Slot) → q ≢ slot.Pending role act → q ≢ slot.Tmp → new q ≡ old q) →
+    OnlyOfRole role old new
 put_others role act old new others q other tmp = others q (λ e. other (ap slot_role e)) tmp
 
-pub segment_others : (role : Role) (k : ℕ) (old new : FileMap) → ((q : Slot) → q ≢ slot.Segment role k → q ≢ slot.Tmp → new q ≡ old q) → OnlyOfRole role old new
+pub segment_others : (role : Role) (k : ℕ) (old new : FileMap) → ((q : Slot) → q ≢ slot.Segment role k → q ≢ slot.Tmp → new q ≡ old q) →
+    OnlyOfRole role old new
 segment_others role k old new others q other tmp = others q (λ e. other (ap slot_role e)) tmp
 
 -- ---- the first segment
 
 -- each of distinct states is found under its Uid
-pub each_found : (states : List ObjectState) → IsDistinct uid_eq (map uid_of states) → AllByRecursion (λ s. new_of (packed states) s.uid ≡ Some (state_bytes s)) states
+pub each_found : (states : List ObjectState) → IsDistinct uid_eq (map uid_of states) →
+    AllByRecursion (λ s. new_of (packed states) s.uid ≡ Some (state_bytes s)) states
 unfolding IsDistinct
 each_found [] distinct = tt
-each_found (s ∷ ss) distinct = (ap (λ b. cond b (Some (state_bytes s)) (new_of (packed ss) s.uid)) (uid_same s.uid), later ss distinct.0 (each_found ss distinct.1))
+each_found (s ∷ ss) distinct =
+    (ap (λ b. cond b (Some (state_bytes s)) (new_of (packed ss) s.uid)) (uid_same s.uid), later ss distinct.0 (each_found ss distinct.1))
   where
     other : (t : ObjectState) → uid_eq s.uid t.uid ≡ false → uid_eq t.uid s.uid ≡ false
     other t apart = by (uid_eq t.uid s.uid) refl
@@ -95,12 +101,15 @@ each_found (s ∷ ss) distinct = (ap (λ b. cond b (Some (state_bytes s)) (new_o
         by false is = refl
         by true is = absurd (true≢false (sym (uid_same t.uid) ∙ ap (λ w. uid_eq w t.uid) (uid_is t.uid s.uid is) ∙ apart))
 
-    later : (ts : List ObjectState) → AllByRecursion (λ u. uid_eq s.uid u ≡ false) (map uid_of ts) → AllByRecursion (λ t. new_of (packed ss) t.uid ≡ Some (state_bytes t)) ts
+    later : (ts : List ObjectState) → AllByRecursion (λ u. uid_eq s.uid u ≡ false) (map uid_of ts) →
+        AllByRecursion (λ t. new_of (packed ss) t.uid ≡ Some (state_bytes t)) ts
         → AllByRecursion (λ t. cond (uid_eq t.uid s.uid) (Some (state_bytes s)) (new_of (packed ss) t.uid) ≡ Some (state_bytes t)) ts
     later [] apart all = tt
-    later (t ∷ ts) apart all = (ap (λ b. cond b (Some (state_bytes s)) (new_of (packed ss) t.uid)) (other t apart.0) ∙ all.0, later ts apart.1 all.1)
+    later (t ∷ ts) apart all =
+        (ap (λ b. cond b (Some (state_bytes s)) (new_of (packed ss) t.uid)) (other t apart.0) ∙ all.0, later ts apart.1 all.1)
 
-module _ (role : Role) (states : List ObjectState) (old new : FileMap) (none : (q : Slot) → slot_role q ≡ Some role → old q ≡ None) (distinct : IsDistinct uid_eq (map uid_of states)) (count : length states ≤ MOST_KNOWN)
+module _ (role : Role) (states : List ObjectState) (old new : FileMap) (none : (q : Slot) → slot_role q ≡ Some role →
+    old q ≡ None) (distinct : IsDistinct uid_eq (map uid_of states)) (count : length states ≤ MOST_KNOWN)
     (bytes : List ℕ) (is : IsSegment role bytes) (whole : is.states ≡ states)
     (others : (q : Slot) → q ≢ slot.Segment role 1 → q ≢ slot.Tmp → new q ≡ old q) (here : new (slot.Segment role 1) ≡ Some bytes) where
   pub first_segments : SameBut (segments old role) (segments new role) 1
@@ -113,7 +122,8 @@ module _ (role : Role) (states : List ObjectState) (old new : FileMap) (none : (
   file_is = states_are role bytes is ∙ ap packed whole
 
   first_held : (u : Uid) → held new role u ≡ new_of (packed states) u
-  first_held u = held_put (segments old role) (segments new role) 1 (omega arith) (λ j from below. none (slot.Segment role j) refl) first_segments u
+  first_held u =
+      held_put (segments old role) (segments new role) 1 (omega arith) (λ j from below. none (slot.Segment role j) refl) first_segments u
       ∙ (λ i. newer (state_in u (here i)) (nothing_held role old none u i)) ∙ ap (λ es. newer (new_of es u) None) file_is ∙ by (new_of (packed states) u)
     where
       by : (o : Option (List ℕ)) → newer o None ≡ o
@@ -121,7 +131,8 @@ module _ (role : Role) (states : List ObjectState) (old new : FileMap) (none : (
       by (Some x) = refl
 
   first_known : (u : Uid) → IsKnown (pair_of new role) u → Contains (map uid_of states) u
-  first_known u = ⊎_elim (λ (h : IsSome (held new role u)). among (map uid_of states) u (listed states u (sym (ap is_some (first_held u)) ∙ h)))
+  first_known u =
+      ⊎_elim (λ (h : IsSome (held new role u)). among (map uid_of states) u (listed states u (sym (ap is_some (first_held u)) ∙ h)))
       (λ (h : InDoubt (pair_of new role) u). absurd (subst (λ o. names o u) (ap (option_map states_in) (first_pending h.0)) h.1))
 
   pub first_only : HasOnly (pair_of new role) states
@@ -131,7 +142,8 @@ module _ (role : Role) (states : List ObjectState) (old new : FileMap) (none : (
     none = λ a. ap (option_map states_in) (first_pending a);
   }
     where
-      each : (ss : List ObjectState) → AllByRecursion (λ s. new_of (packed states) s.uid ≡ Some (state_bytes s)) ss → AllByRecursion (λ s. held new role s.uid ≡ Some (state_bytes s)) ss
+      each : (ss : List ObjectState) → AllByRecursion (λ s. new_of (packed states) s.uid ≡ Some (state_bytes s)) ss →
+          AllByRecursion (λ s. held new role s.uid ≡ Some (state_bytes s)) ss
       each [] all = tt
       each (s ∷ ss) all = (first_held s.uid ∙ all.0, each ss all.1)
 

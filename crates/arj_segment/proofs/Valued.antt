@@ -1,5 +1,6 @@
 -- The values of a table of committed states, in the order of their Uids, are all that is committed.
-use Rattle.std.proofs.Common.{◌≡◌, ◌∙◌, true, false, true≢false, Bool, ℕ, List, [], ◌∷◌, arith, refl, sym, ap, subst, map, Option, Some, None}
+use Rattle.std.proofs.Common.{◌≡◌, ◌∙◌, true, false, true≢false, Bool, ℕ, List, [], ◌∷◌, arith, refl, sym, ap, subst, map, Option, Some}
+use Rattle.std.proofs.Common.{None}
 use Rattle.std.specs.Prelude.{IsSome, is_some, Contains}
 use Rattle.std.specs.List.{AllByRecursion, IsDistinct}
 use Rattle.std.specs.List.Sorted.{IsStrictlySortedBy}
@@ -63,7 +64,8 @@ module _ (held : Uid → Option (List ℕ)) (table : Uid → Option ObjectState)
       by (Some x) (Some s) some is = refl
 
   -- the states of Uids, one after the other
-  along : (us : List Uid) (values : List ObjectState) → map table us ≡ map Some values → (us ≡ map uid_of values) × AllByRecursion (λ s. (held s.uid ≡ Some (state_bytes s)) × StateInForm s) values
+  along : (us : List Uid) (values : List ObjectState) → map table us ≡ map Some values →
+      (us ≡ map uid_of values) × AllByRecursion (λ s. (held s.uid ≡ Some (state_bytes s)) × StateInForm s) values
   along [] [] same = (refl, tt)
   along [] (s ∷ ss) same = let never : [] ≡ Some s ∷ map Some ss = same in absurd cc
   along (u ∷ us) [] same = let never : table u ∷ map table us ≡ [] = same in absurd cc
@@ -90,7 +92,8 @@ module _ (held : Uid → Option (List ℕ)) (table : Uid → Option ObjectState)
     pub values_distinct : IsDistinct uid_eq (map uid_of values)
     values_distinct = sorted_distinct (map uid_of values) values_sorted
 
-    each_packed : (ss : List ObjectState) → AllByRecursion (λ s. (held s.uid ≡ Some (state_bytes s)) × StateInForm s) ss → AllByRecursion (λ e. held e.0 ≡ Some e.1) (packed ss)
+    each_packed : (ss : List ObjectState) → AllByRecursion (λ s. (held s.uid ≡ Some (state_bytes s)) × StateInForm s) ss →
+        AllByRecursion (λ e. held e.0 ≡ Some e.1) (packed ss)
     each_packed [] all = tt
     each_packed (s ∷ ss) all = (all.0.0, each_packed ss all.1)
 
@@ -100,7 +103,8 @@ module _ (held : Uid → Option (List ℕ)) (table : Uid → Option ObjectState)
       where
         by_held : (o : Option (List ℕ)) → new_of (packed values) u ≡ None → held u ≡ o → None ≡ o
         by_held None none is = refl
-        by_held (Some x) none is = absurd (true≢false (sym (contained (map uid_of values) u (every_held u (ap is_some is))) ∙ ap (λ us. is_in us u) (sym (objects_packed values)) ∙ among_objects (packed values) u ∙ ap is_some none))
+        by_held (Some x) none is =
+            absurd (true≢false (sym (contained (map uid_of values) u (every_held u (ap is_some is))) ∙ ap (λ us. is_in us u) (sym (objects_packed values)) ∙ among_objects (packed values) u ∙ ap is_some none))
 
         by : (o : Option (List ℕ)) → new_of (packed values) u ≡ o → o ≡ held u
         by None none = by_held (held u) none refl

@@ -19,7 +19,8 @@ use Rattle.arj_segment.specs.Says.{held, numbers, pair_of, pend, segments, state
 module _ (role : Role) (file : FileMap) (none : (q : Slot) → slot_role q ≡ Some role → file q ≡ None) where
   -- no object has a committed state
   pub nothing_held : (u : Uid) → held file role u ≡ None
-  nothing_held u = ap (option_map (λ p. p.1)) (newest_none (state_at (segments file role) u) numbers (λ j below. ap (state_in u) (none (slot.Segment role j) refl)))
+  nothing_held u =
+      ap (option_map (λ p. p.1)) (newest_none (state_at (segments file role) u) numbers (λ j below. ap (state_in u) (none (slot.Segment role j) refl)))
 
   -- no action has anything prepared
   pub nothing_pends : (a : Uid) → pend file role a ≡ None
@@ -31,7 +32,8 @@ module _ (role : Role) (file : FileMap) (none : (q : Slot) → slot_role q ≡ S
 
   -- no object is known
   pub nothing_known : (u : Uid) → IsKnown (pair_of file role) u → ⊥
-  nothing_known u = ⊎_elim (λ (h : IsSome (held file role u)). true≢false (sym h ∙ ap is_some (nothing_held u))) (λ (h : InDoubt (pair_of file role) u). nothing_named h.0 u h.1)
+  nothing_known u =
+      ⊎_elim (λ (h : IsSome (held file role u)). true≢false (sym h ∙ ap is_some (nothing_held u))) (λ (h : InDoubt (pair_of file role) u). nothing_named h.0 u h.1)
 
   -- so the known objects are few: a list of them is empty
   few : (us : List Uid) → ((u : Uid) → Contains us u → IsKnown (pair_of file role) u) → length us ≤ MOST_KNOWN
@@ -56,5 +58,6 @@ module _ (role : Role) (file : FileMap) (none : (q : Slot) → slot_role q ≡ S
   }
 
 -- the same, as the store's law
-pub files_blank : (role : Role) (file : FileMap) → ((q : Slot) → slot_role q ≡ Some role → file q ≡ None) → IsFormed file role × HasOnly (pair_of file role) []
+pub files_blank : (role : Role) (file : FileMap) → ((q : Slot) → slot_role q ≡ Some role → file q ≡ None) →
+    IsFormed file role × HasOnly (pair_of file role) []
 files_blank role file none = (formed_of_none role file none, only_none role file none)

@@ -38,16 +38,24 @@ module _ (role : Role) (old new : FileMap) (same : SameOfRole role old new) wher
   }
 
 -- the same, as the store's law
-pub files_stay : (role : Role) (old new : FileMap) → SameOfRole role old new → IsFormed old role → IsFormed new role × SamePair (pair_of old role) (pair_of new role)
-files_stay role old new same formed =
-    (formed_of role old new same formed, record { committed = λ u. ap (λ p. p.held u) (same_pair role old new same); prepared = λ a. ap (λ p. p.pend a) (same_pair role old new same) })
+pub files_stay : (role : Role) (old new : FileMap) → SameOfRole role old new → IsFormed old role →
+    IsFormed new role × SamePair (pair_of old role) (pair_of new role)
+files_stay role old new same formed = (
+  formed_of role old new same formed,
+  record {
+    committed = λ u. ap (λ p. p.held u) (same_pair role old new same);
+    prepared =
+        λ a. ap (λ p. p.pend a) (same_pair role old new same);
+  },
+)
 
 module _ (role : Role) (file : FileMap) (formed : IsFormed file role) where
   -- each committed state is of an object of the role, and packs a state of it
   committed_sound : (u : Uid) → IfSome (held file role u) (λ bytes. (role_of u ≡ role) × IsStateOf u bytes)
   committed_sound u = by (placed (segments file role) u) refl
     where
-      by : (o : Option (ℕ × List ℕ)) → placed (segments file role) u ≡ o → IfSome (option_map (λ p. p.1) o) (λ bytes. (role_of u ≡ role) × IsStateOf u bytes)
+      by : (o : Option (ℕ × List ℕ)) → placed (segments file role) u ≡ o →
+          IfSome (option_map (λ p. p.1) o) (λ bytes. (role_of u ≡ role) × IsStateOf u bytes)
       by None is = tt
       by (Some p) is =
           let at = newest_is (state_at (segments file role) u) numbers p is in
@@ -55,17 +63,21 @@ module _ (role : Role) (file : FileMap) (formed : IsFormed file role) where
           (state.0, state.1)
 
   -- each new state that an action has prepared is of an object of the role, and packs a state of it
-  prepared_sound : (a u : Uid) → IfSome (pend file role a) (λ states. IfSome (new_of states u) (λ bytes. (role_of u ≡ role) × IsStateOf u bytes))
+  prepared_sound : (a u : Uid) →
+      IfSome (pend file role a) (λ states. IfSome (new_of states u) (λ bytes. (role_of u ≡ role) × IsStateOf u bytes))
   prepared_sound a u = by (file (slot.Pending role a)) (formed.pendings a)
     where
-      in_file : (bytes : List ℕ) → IsSegment role bytes → (o : Option (List ℕ)) → new_of (states_in bytes) u ≡ o → IfSome o (λ bytes. (role_of u ≡ role) × IsStateOf u bytes)
+      in_file : (bytes : List ℕ) → IsSegment role bytes → (o : Option (List ℕ)) → new_of (states_in bytes) u ≡ o →
+          IfSome o (λ bytes. (role_of u ≡ role) × IsStateOf u bytes)
       in_file bytes is None found = tt
       in_file bytes is (Some x) found = let state = of_file role (Some bytes) is u x found in (state.0, state.1)
 
-      by : (o : Option (List ℕ)) → IfSome o (IsSegment role) → IfSome (option_map states_in o) (λ states. IfSome (new_of states u) (λ bytes. (role_of u ≡ role) × IsStateOf u bytes))
+      by : (o : Option (List ℕ)) → IfSome o (IsSegment role) →
+          IfSome (option_map states_in o) (λ states. IfSome (new_of states u) (λ bytes. (role_of u ≡ role) × IsStateOf u bytes))
       by None is = tt
       by (Some bytes) is = in_file bytes is (new_of (states_in bytes) u) refl
 
 -- the pair that formed files give is sound, as the store's law
 pub files_sound : (role : Role) (file : FileMap) → IsFormed file role → IsSound role (pair_of file role)
-files_sound role file formed = record { committed = committed_sound role file formed; prepared = prepared_sound role file formed; once = formed.once }
+files_sound role file formed =
+    record { committed = committed_sound role file formed; prepared = prepared_sound role file formed; once = formed.once }

@@ -19,5 +19,6 @@ abbrev pub StoreKeeps : SegmentStore → FileMap → Type 0
 StoreKeeps store file = Keeps store.role store.kept file
 
 -- it still is where the files of the role are as before
-pub store_keeps_on : (store : SegmentStore) (old new : FileMap) → SameOfRole (role_kept store) old new → StoreKeeps store old → StoreKeeps store new
+pub store_keeps_on : (store : SegmentStore) (old new : FileMap) → SameOfRole (role_kept store) old new → StoreKeeps store old →
+    StoreKeeps store new
 store_keeps_on store old new same keeps = keeps_on store.role store.kept old new same keeps

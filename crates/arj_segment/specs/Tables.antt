@@ -1,5 +1,6 @@
 -- What is kept in memory of the files of a role, and what is read of them.
-use Rattle.std.specs.Prelude.{◌≡◌, ◌≢◌, ◌⊎◌, ◌<◌, ℕ, List, [], ◌∷◌, ◌++◌, map, Contains, Option, None, Some, IsSome, option_map, MatchOption, if◌then◌else◌}
+use Rattle.std.specs.Prelude.{◌≡◌, ◌≢◌, ◌⊎◌, ◌<◌, ℕ, List, [], ◌∷◌, ◌++◌, map, Contains, Option, None, Some, IsSome, option_map}
+use Rattle.std.specs.Prelude.{MatchOption, if◌then◌else◌}
 use Rattle.std.specs.List.{AllByRecursion}
 use Rattle.std.specs.List.Sorted.{IsStrictlySortedBy}
 use Rattle.std.specs.Ordering.{nat_cmp}
@@ -20,7 +21,8 @@ abbrev pub SetsEach : {V : Type 0} → List Uid → Option V → (Uid → Option
 SetsEach us value old new = (u : Uid) → new u ≡ (if is_in us u then value else old u)
 
 -- What is prepared is kept: each action with its objects, and each object that is prepared with its action.
-pub record KeepsPend (pend : Uid → Option (List (Uid × List ℕ))) (actions : Uid → Option (List Uid)) (holdings : Uid → Option Uid) : Type 0 where
+pub record KeepsPend (pend : Uid → Option (List (Uid × List ℕ))) (actions : Uid → Option (List Uid)) (holdings : Uid →
+    Option Uid) : Type 0 where
   pub actions_are : (a : Uid) → actions a ≡ option_map objects (pend a)
   pub holders_are : (u : Uid) → MatchOption (holdings u) ((a : Uid) → names (pend a) u → ⊥) (λ a. names (pend a) u)
 
@@ -51,12 +53,14 @@ kept_state u [] before = before
 kept_state u (s ∷ ss) before = kept_state u ss (if uid_eq u s.uid then Some s else before)
 
 -- what the segment with this number has of an object takes the place of what is kept of it
-abbrev pub Gathers : Option (List ℕ) → ℕ → (Uid → Option ℕ) → (Uid → Option ObjectState) → (Uid → Option ℕ) → (Uid → Option ObjectState) → Type 0
+abbrev pub Gathers : Option (List ℕ) → ℕ → (Uid → Option ℕ) → (Uid → Option ObjectState) → (Uid → Option ℕ) → (Uid → Option ObjectState) →
+    Type 0
 Gathers segment k places states places' states' =
     (u : Uid) → MatchOption (state_in u segment) ((places' u ≡ places u) × (states' u ≡ states u)) (λ bytes. (places' u ≡ Some k) × Unpacks u (Some bytes) (states' u))
 
 -- the action is listed with its states, unpacked, and kept with its objects, if it has prepared any
-abbrev pub ReadsPending : Option (List (Uid × List ℕ)) → Uid → List (Uid × List ObjectState) → (Uid → Option (List Uid)) → (Uid → Option Uid) → List (Uid × List ObjectState) → (Uid → Option (List Uid)) → (Uid → Option Uid) → Type 0
+abbrev pub ReadsPending : Option (List (Uid × List ℕ)) → Uid → List (Uid × List ObjectState) → (Uid → Option (List Uid)) →
+    (Uid → Option Uid) → List (Uid × List ObjectState) → (Uid → Option (List Uid)) → (Uid → Option Uid) → Type 0
 ReadsPending prepared a pends actions holdings pends' actions' holdings' =
     MatchOption prepared ((pends' ≡ pends) × SameTable actions actions' × SameTable holdings holdings')
     (λ es. (states : List ObjectState) × (packed states ≡ es) × AllByRecursion StateInForm states × (pends' ≡ pends ++ (a, states) ∷ [])

@@ -1,5 +1,6 @@
 -- What is read of the bytes that a file was written with, row by row.
-use Rattle.std.proofs.Common.{◌≡◌, ◌∙◌, ◌+◌, ◌-◌, ◌≤◌, ◌<◌, true, false, true≢false, Bool, cond, ℕ, zero, suc, List, [], ◌∷◌, ◌++◌, arith, refl, sym, ap, subst, map, length, take, drop, get_or, Option, Some, None}
+use Rattle.std.proofs.Common.{◌≡◌, ◌∙◌, ◌+◌, ◌-◌, ◌≤◌, ◌<◌, true, false, true≢false, Bool, cond, ℕ, zero, suc, List, [], ◌∷◌, ◌++◌, arith}
+use Rattle.std.proofs.Common.{refl, sym, ap, subst, map, length, take, drop, get_or, Option, Some, None}
 use Rattle.std.specs.Prelude.{flat_map, is_some, unwrap_or, IfSome}
 use Rattle.std.specs.List.{AllByRecursion, IsDistinct}
 use Rattle.std.proofs.lemmas.Bool.Decides.{nat_tests}
@@ -19,7 +20,8 @@ use Rattle.arj_store.specs.Effects.{objects}
 use Rattle.arj_store.specs.Pair.{Packs, packed, uid_of}
 use Rattle.arj_store.proofs.Bytes.{uid_back}
 use Rattle.arj_store.specs.Named.{uid_is}
-use Rattle.arj_segment_file.specs.Format.{row_of, row_bytes, segment_bytes, FitsRow, two_in, has_row, first_in, rest_in, keyed, rows_in, states_in, state_in, IsSegment}
+use Rattle.arj_segment_file.specs.Format.{row_of, row_bytes, segment_bytes, FitsRow, two_in, has_row, first_in, rest_in, keyed, rows_in}
+use Rattle.arj_segment_file.specs.Format.{states_in, state_in, IsSegment}
 
 -- ---- one row
 
@@ -62,7 +64,8 @@ state_long : (s : ObjectState) → 20 ≤ length (state_bytes s)
 state_long s = omega arith
 
 pub keyed_is : (s : ObjectState) → StateInForm s → keyed (state_bytes s) ≡ (s.uid, state_bytes s)
-keyed_is s form = λ i. (uid_back s.uid (class_code_of s.class ∷ (big_bytes 8 s.version ++ (uid_bytes s.writer ++ (big_bytes 2 (length s.payload) ++ s.payload)))) form.0 i, state_bytes s)
+keyed_is s form =
+    λ i. (uid_back s.uid (class_code_of s.class ∷ (big_bytes 8 s.version ++ (uid_bytes s.writer ++ (big_bytes 2 (length s.payload) ++ s.payload)))) form.0 i, state_bytes s)
 
 -- ---- rows
 
@@ -79,7 +82,8 @@ pub rows_none : (bytes : List ℕ) → rows_in zero bytes ≡ []
 unfolding rows_in
 rows_none bytes = refl
 
-rows_back : (states : List ObjectState) → AllByRecursion FitsRow states → rows_in (length states) (flat_map row_bytes states) ≡ packed states
+rows_back : (states : List ObjectState) → AllByRecursion FitsRow states →
+    rows_in (length states) (flat_map row_bytes states) ≡ packed states
 rows_back [] fit = rows_none []
 rows_back (s ∷ ss) fit =
     rows_next (length ss) (row_bytes s ++ flat_map row_bytes ss) (row_there (state_bytes s) (state_long s) (short fit.0.1) (flat_map row_bytes ss))
@@ -89,8 +93,10 @@ rows_back (s ∷ ss) fit =
     short : length (state_bytes s) ≤ MOST_BYTES → length (state_bytes s) < 65536
     short most = omega (arith, most)
 
-pub states_back : (states : List ObjectState) → AllByRecursion FitsRow states → length states < 65536 → states_in (segment_bytes states) ≡ packed states
-states_back states fit few = ap (λ n. rows_in n (flat_map row_bytes states)) (two_back (length states) (flat_map row_bytes states) few) ∙ rows_back states fit
+pub states_back : (states : List ObjectState) → AllByRecursion FitsRow states → length states < 65536 →
+    states_in (segment_bytes states) ≡ packed states
+states_back states fit few =
+    ap (λ n. rows_in n (flat_map row_bytes states)) (two_back (length states) (flat_map row_bytes states) few) ∙ rows_back states fit
 
 -- ---- a file in its grammar
 
@@ -109,7 +115,8 @@ module _ (role : Role) (bytes : List ℕ) (is : IsSegment role bytes) where
   pub each_is : AllByRecursion (λ e. IsPacked role e.0 e.1) (states_in bytes)
   each_is = subst (AllByRecursion (λ e. IsPacked role e.0 e.1)) (sym states_are) (by is.states is.fit is.distinct.own)
     where
-      by : (states : List ObjectState) → AllByRecursion FitsRow states → AllByRecursion (λ s. role_of s.uid ≡ role) states → AllByRecursion (λ e. IsPacked role e.0 e.1) (packed states)
+      by : (states : List ObjectState) → AllByRecursion FitsRow states → AllByRecursion (λ s. role_of s.uid ≡ role) states →
+          AllByRecursion (λ e. IsPacked role e.0 e.1) (packed states)
       by [] fit own = tt
       by (s ∷ ss) fit own = ((own.0, (s, fit.0.0, refl, refl), fit.0.1), by ss fit.1 own.1)
 
@@ -127,7 +134,8 @@ some_is : (y z : List ℕ) → Some y ≡ Some z → y ≡ z
 some_is y z e = ap (λ o. unwrap_or o []) e
 
 -- what is found among states is one of them
-pub found_in : (P : Uid → List ℕ → Type 0) (es : List (Uid × List ℕ)) → AllByRecursion (λ e. P e.0 e.1) es → (u : Uid) (x : List ℕ) → new_of es u ≡ Some x → P u x
+pub found_in : (P : Uid → List ℕ → Type 0) (es : List (Uid × List ℕ)) → AllByRecursion (λ e. P e.0 e.1) es → (u : Uid) (x : List ℕ) →
+    new_of es u ≡ Some x → P u x
 found_in P [] all u x is = absurd (true≢false (ap is_some (sym is)))
 found_in P (e ∷ es) all u x is = by (uid_eq u e.0) refl (found_in P es all.1 u x) is
   where
@@ -136,14 +144,16 @@ found_in P (e ∷ es) all u x is = by (uid_eq u e.0) refl (found_in P es all.1 u
     by false other rest found = rest found
 
 -- what is found in a file is a state of an object of the role
-pub of_file : (role : Role) (o : Option (List ℕ)) → IfSome o (IsSegment role) → (u : Uid) (x : List ℕ) → state_in u o ≡ Some x → IsPacked role u x
+pub of_file : (role : Role) (o : Option (List ℕ)) → IfSome o (IsSegment role) → (u : Uid) (x : List ℕ) → state_in u o ≡ Some x →
+    IsPacked role u x
 of_file role None is u x found = absurd (true≢false (ap is_some (sym found)))
 of_file role (Some bytes) is u x found = found_in (IsPacked role) (states_in bytes) (each_is role bytes is) u x found
 
 -- ---- a file that is read row by row
 
 pub short_file : (bytes : List ℕ) → length bytes < 6 → rows_in 0 bytes ≡ states_in bytes
-short_file bytes short = rows_none bytes ∙ sym (ap (rows_in (two_in (drop 4 bytes))) (drop_all 6 bytes (omega (arith, short))) ∙ rows_end (two_in (drop 4 bytes)) [] refl)
+short_file bytes short =
+    rows_none bytes ∙ sym (ap (rows_in (two_in (drop 4 bytes))) (drop_all 6 bytes (omega (arith, short))) ∙ rows_end (two_in (drop 4 bytes)) [] refl)
 
 -- the count of rows that are left, at a row
 left_is : (count row : ℕ) → row < count → count - row ≡ suc (count - (row + 1))
@@ -178,14 +188,17 @@ module _ (count row : ℕ) (rest : List ℕ) (states : List ObjectState) (whole 
   read_end gone = sym (append-nil (packed states)) ∙ ap (λ es. packed states ++ es) (sym (rows_end (count - row) rest gone)) ∙ rows
 
   pub read_all : count ≤ row → packed states ≡ whole
-  read_all all = sym (append-nil (packed states)) ∙ ap (λ es. packed states ++ es) (sym (ap (λ n. rows_in n rest) (none_left count row all) ∙ rows_none rest)) ∙ rows
+  read_all all =
+      sym (append-nil (packed states)) ∙ ap (λ es. packed states ++ es) (sym (ap (λ n. rows_in n rest) (none_left count row all) ∙ rows_none rest)) ∙ rows
 
   module _ (within : row < count) (there : has_row rest ≡ true) where
     row_is : rows_in (count - row) rest ≡ keyed (first_in rest) ∷ rows_in (count - (row + 1)) (rest_in rest)
     row_is = ap (λ n. rows_in n rest) (left_is count row within) ∙ rows_next (count - (row + 1)) rest there
 
-    pub read_more : (s : ObjectState) → StateInForm s → first_in rest ≡ state_bytes s → packed (states ++ s ∷ []) ++ rows_in (count - (row + 1)) (rest_in rest) ≡ whole
-    read_more s form is = ap (λ es. es ++ rows_in (count - (row + 1)) (rest_in rest)) (packed_push states s) ∙ append_assoc (packed states) ((s.uid, state_bytes s) ∷ []) (rows_in (count - (row + 1)) (rest_in rest))
+    pub read_more : (s : ObjectState) → StateInForm s → first_in rest ≡ state_bytes s →
+        packed (states ++ s ∷ []) ++ rows_in (count - (row + 1)) (rest_in rest) ≡ whole
+    read_more s form is =
+        ap (λ es. es ++ rows_in (count - (row + 1)) (rest_in rest)) (packed_push states s) ∙ append_assoc (packed states) ((s.uid, state_bytes s) ∷ []) (rows_in (count - (row + 1)) (rest_in rest))
         ∙ ap (λ e. packed states ++ e ∷ rows_in (count - (row + 1)) (rest_in rest)) (sym (ap keyed is ∙ keyed_is s form)) ∙ ap (λ es. packed states ++ es) (sym row_is) ∙ rows
 
     module _ (left : AllByRecursion (λ e. IsStateOf e.0 e.1) (rows_in (count - row) rest)) where
@@ -200,7 +213,8 @@ module _ (count row : ℕ) (rest : List ℕ) (states : List ObjectState) (whole 
 
 -- ---- a file that is written row by row
 
-pub flat_more : {X : Type 0} (f : X → List ℕ) (front : List ℕ) (xs : List X) (i : ℕ) (d : X) → i < length xs → (front ++ flat_map f (take i xs)) ++ f (get_or xs i d) ≡ front ++ flat_map f (take (i + 1) xs)
+pub flat_more : {X : Type 0} (f : X → List ℕ) (front : List ℕ) (xs : List X) (i : ℕ) (d : X) → i < length xs →
+    (front ++ flat_map f (take i xs)) ++ f (get_or xs i d) ≡ front ++ flat_map f (take (i + 1) xs)
 flat_more {X = X} f front xs i d within =
     append_assoc front (flat_map f (take i xs)) (f (get_or xs i d)) ∙ ap (λ bytes. front ++ bytes) (one (take i xs) (get_or xs i d) ∙ ap (flat_map f) (sym (take_more xs i d within)))
   where

@@ -1,5 +1,6 @@
 -- The bytes of Segment and Pending files, and what is read of them.
-use Rattle.std.specs.Prelude.{◌≡◌, ◌≤◌, ◌+◌, ◌*◌, ◌&&◌, nat_le, ℕ, zero, suc, Bool, List, [], ◌∷◌, ◌++◌, codes, length, take, drop, flat_map, slice_index, if◌then◌else◌, Option, None, Some}
+use Rattle.std.specs.Prelude.{◌≡◌, ◌≤◌, ◌+◌, ◌*◌, ◌&&◌, nat_le, ℕ, zero, suc, Bool, List, [], ◌∷◌, ◌++◌, codes, length, take, drop}
+use Rattle.std.specs.Prelude.{flat_map, slice_index, if◌then◌else◌, Option, None, Some}
 use Rattle.std.specs.List.{AllByRecursion}
 use Rattle.byteorder.specs.Endian.{big_bytes}
 use Rattle.arj_base.specs.State.{state_bytes, StateInForm}

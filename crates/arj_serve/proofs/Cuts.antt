@@ -9,7 +9,8 @@ use Rattle.arj_naming.specs.Files.{GivesEntries}
 use Rattle.arj_naming.specs.Kept as naming
 use Rattle.arj_naming.specs.Said.{said, pair_after, pair_worked}
 use Rattle.arj_naming.proofs.Cuts.{said_append}
-use Rattle.arj_protocol.specs.Effect.{Disk, Effect, Say, Send, Do, Work, Look, PutInc, Prepare, Commit, Abort, PutIntent, RemoveIntent, Stop, Before, After, InPart, stopped, worked}
+use Rattle.arj_protocol.specs.Effect.{Disk, Effect, Say, Send, Do, Work, Look, PutInc, Prepare, Commit, Abort, PutIntent, RemoveIntent}
+use Rattle.arj_protocol.specs.Effect.{Stop, Before, After, InPart, stopped, worked}
 use Rattle.arj_protocol.specs.Says.{AreAll, is_naming_effect, is_names_work}
 use Rattle.arj_protocol.specs.Words.role
 use Rattle.arj_serve.specs.Did.{AreLocal, Call, IsCut, disk_after}
@@ -32,8 +33,20 @@ local_append (Do w ∷ es) b la lb = local_append es b la lb
 
 module _ {O : Type 0} (o : Ghosts O) (call : Call O) (d : Disk) where
   -- nothing is done yet, and a read comes first
-  pub look_cut : (outs back : List Effect) → outs ≡ Do Look ∷ back → IsDiskOf o (is_some call.old.naming) call.left d → call.after ≡ call.before → IsCut o outs call d
-  look_cut outs back are is lines = record { front = []; work = Look; back = back; how = Before; are = are; local = tt; lines = lines ∙ sym (append-nil call.before); disk = is }
+  pub look_cut : (outs back : List Effect) → outs ≡ Do Look ∷ back → IsDiskOf o (is_some call.old.naming) call.left d →
+      call.after ≡ call.before → IsCut o outs call d
+  look_cut outs back are is lines =
+      record {
+        front = [];
+        work = Look;
+        back = back;
+        how = Before;
+        are = are;
+        local = tt;
+        lines = lines ∙ sym (append-nil call.before);
+        disk =
+            is;
+      }
 
   pub cut_front : (a b : List Effect) → IsCut o a call d → IsCut o (a ++ b) call d
   cut_front a b c = record {
@@ -47,7 +60,8 @@ module _ {O : Type 0} (o : Ghosts O) (call : Call O) (d : Disk) where
     disk = c.disk;
   }
 
-  pub cut_back : (a b : List Effect) → AreLocal a → IsCut o b (record call { before = call.before ++ said a }) (disk_after a d) → IsCut o (a ++ b) call d
+  pub cut_back : (a b : List Effect) → AreLocal a → IsCut o b (record call { before = call.before ++ said a }) (disk_after a d) →
+      IsCut o (a ++ b) call d
   cut_back a b local c = record {
     front = a ++ c.front;
     work = c.work;
@@ -84,7 +98,8 @@ work_is (Abort role.Names act) d own = refl
 work_is (PutIntent u i) d own = absurd (cc own)
 work_is (RemoveIntent u) d own = absurd (cc own)
 
-stop_is : (how : Stop) (w : Work) (d : Disk) → is_names_work w ≡ true → stopped how w d ≡ record d { names = naming.pair_stopped how w d.names }
+stop_is : (how : Stop) (w : Work) (d : Disk) → is_names_work w ≡ true →
+    stopped how w d ≡ record d { names = naming.pair_stopped how w d.names }
 stop_is Before w d own = refl
 stop_is After w d own = work_is w d own
 stop_is (InPart which) Look d own = refl
@@ -104,7 +119,8 @@ names_after (Do w ∷ es) d all =
     let own = names_parts (Do w) es all in
     ap (disk_after es) (work_is w d own.0) ∙ names_after es (record d { names = pair_worked w d.names }) own.1
 
-front_all : (a : List Effect) (w : Work) (b : List Effect) → AreAll is_naming_effect (a ++ Do w ∷ b) → AreAll is_naming_effect a × (is_names_work w ≡ true)
+front_all : (a : List Effect) (w : Work) (b : List Effect) → AreAll is_naming_effect (a ++ Do w ∷ b) →
+    AreAll is_naming_effect a × (is_names_work w ≡ true)
 front_all [] w b all = (refl, (names_parts (Do w) b all).0)
 front_all (e ∷ es) w b all =
     let own = names_parts e (es ++ Do w ∷ b) all in
@@ -112,8 +128,11 @@ front_all (e ∷ es) w b all =
     ((λ i. own.0 i && rest.0 i), rest.1)
 
 -- a cut of naming is one of its node
-pub names_cut : {O : Type 0} (o : Ghosts O) (call : Call O) (d : Disk) (outs : List Effect) → is_some call.old.naming ≡ true → AreAll is_naming_effect outs
-    → IsPairOf (o.pair call.left slot_role.Store) d.store → AreObjects d.store → naming.IsCut outs d.names (o.pair call.left slot_role.Names) call.before call.after → GivesEntries (o.pair call.left slot_role.Names) → IsCut o outs call d
+pub names_cut : {O : Type 0} (o : Ghosts O) (call : Call O) (d : Disk) (outs : List Effect) → is_some call.old.naming ≡ true →
+    AreAll is_naming_effect outs
+    → IsPairOf (o.pair call.left slot_role.Store) d.store → AreObjects d.store →
+    naming.IsCut outs d.names (o.pair call.left slot_role.Names) call.before call.after →
+    GivesEntries (o.pair call.left slot_role.Names) → IsCut o outs call d
 names_cut o call d outs named all store objects c gives =
     let own = front_all c.front c.work c.back (subst (AreAll is_naming_effect) c.are all) in
     let there : disk_after c.front d ≡ record d { names = pair_after c.front d.names } = names_after c.front d own.0 in
@@ -126,6 +145,9 @@ names_cut o call d outs named all store objects c gives =
       local = names_local c.front own.0;
       lines = c.lines;
       disk = subst (λ b. IsDiskOf o b call.left (stopped c.how c.work (disk_after c.front d))) (sym named)
-          (subst (IsDiskOf o true call.left) (sym (ap (stopped c.how c.work) there ∙ stop_is c.how c.work (record d { names = pair_after c.front d.names }) own.1))
+          (subst (IsDiskOf o true call.left) (sym (ap (stopped c.how c.work) there ∙ stop_is c.how c.work (record d {
+            names =
+                pair_after c.front d.names;
+          }) own.1))
           (record { store = store; objects = objects; names = (c.pair, gives) }));
     }

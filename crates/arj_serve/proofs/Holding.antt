@@ -1,5 +1,6 @@
 -- Who holds locks or is prepared, as the protocol's node lists them.
-use Rattle.std.proofs.Common.{◌≡◌, ◌∙◌, ◌||◌, ◌++◌, ◌<◌, ◌+◌, drop, length, get_or, Bool, true, false, cond, ℕ, List, [], ◌∷◌, map, filter, refl, sym, ap, subst, Option, Some, None}
+use Rattle.std.proofs.Common.{◌≡◌, ◌∙◌, ◌||◌, ◌++◌, ◌<◌, ◌+◌, drop, length, get_or, Bool, true, false, cond, ℕ, List, [], ◌∷◌, map, filter}
+use Rattle.std.proofs.Common.{refl, sym, ap, subst, Option, Some, None}
 use Rattle.std.specs.Prelude.{IsSome, is_some, option_map, ◌↔◌}
 use Rattle.std.specs.Ordering.{is_eq}
 use Rattle.std.proofs.lemmas.List.{append-nil, drop_more}
@@ -59,7 +60,8 @@ some_packed None is = is
 some_packed (Some ss) is = refl
 
 -- what the store lists are the prepared actions
-stores_on : (p : files.Pair) (d : Pair) (actions : List Uid) → IsPairOf p d → files.ListsActions p actions → (u : Uid) → is_on actions u ≡ is_on (prepared_actions d) u
+stores_on : (p : files.Pair) (d : Pair) (actions : List Uid) → IsPairOf p d → files.ListsActions p actions → (u : Uid) →
+    is_on actions u ≡ is_on (prepared_actions d) u
 stores_on p d actions are lists u = both_ways (is_on actions u) (is_on (prepared_actions d) u)
     (λ on. actions_on u d.pend ∙ packed_some (at_uid u d.pend) (subst IsSome (are.pend u) ((lists.there u).1 (on_contains actions u on))))
     (λ on. contains_on actions u ((lists.there u).0 (subst IsSome (sym (are.pend u)) (some_packed (at_uid u d.pend) (sym (actions_on u d.pend) ∙ on)))))
@@ -78,12 +80,15 @@ swapped false false false = refl
 
 -- what is on four lists one behind the other
 on_four : (a b c e : List Uid) (u : Uid) → is_on (a ++ b ++ c ++ e) u ≡ (((is_on a u || is_on b u) || is_on c u) || is_on e u)
-on_four a b c e u = on_append (a ++ b ++ c) e u ∙ ((λ i. on_append (a ++ b) c u i || is_on e u) ∙ (λ i. (on_append a b u i || is_on c u) || is_on e u))
+on_four a b c e u =
+    on_append (a ++ b ++ c) e u ∙ ((λ i. on_append (a ++ b) c u i || is_on e u) ∙ (λ i. (on_append a b u i || is_on c u) || is_on e u))
 
 module _ {O : Type 0} (o : Ghosts O) (k : Kept O) (file : FileMap) (d : Disk) (stands : StandsOn o k file d) where
   -- all together, in increasing order, are the protocol's holders
-  pub holders_are : (c : Coord) (tops actions all : List Uid) → AreListed (server_holders k.server) tops → files.ListsActions (o.pair file Store) actions → ListsNames k.naming (tops ++ actions) all → uid_set all ≡ holders d (parts_with k c)
-  holders_are c tops actions all listed lists names = same_set (uid_set all) (uid_set raw) (set_rises all) (set_rises raw) (λ u. set_on all u ∙ (by u k.naming stands.naming names ∙ sym (set_on raw u)))
+  pub holders_are : (c : Coord) (tops actions all : List Uid) → AreListed (server_holders k.server) tops →
+      files.ListsActions (o.pair file Store) actions → ListsNames k.naming (tops ++ actions) all → uid_set all ≡ holders d (parts_with k c)
+  holders_are c tops actions all listed lists names =
+      same_set (uid_set all) (uid_set raw) (set_rises all) (set_rises raw) (λ u. set_on all u ∙ (by u k.naming stands.naming names ∙ sym (set_on raw u)))
     where
       raw : List Uid
       raw = server_holders k.server ++ locks_of (option_map part_of k.naming) ++ prepared_actions d.store ++ prepared_actions d.names
@@ -104,8 +109,10 @@ module _ {O : Type 0} (o : Ghosts O) (k : Kept O) (file : FileMap) (d : Disk) (s
           ∙ sym (on_four (server_holders k.server) (naming_holders n.part) (prepared_actions d.store) (prepared_actions d.names) u)))))
 
   -- and so are the prepared actions
-  pub prepared_are : (actions all : List Uid) → files.ListsActions (o.pair file Store) actions → ListsPrepared k.naming actions all → uid_set all ≡ uid_set (prepared_actions d.store ++ prepared_actions d.names)
-  prepared_are actions all lists names = same_set (uid_set all) (uid_set raw) (set_rises all) (set_rises raw) (λ u. set_on all u ∙ (by u k.naming stands.naming names ∙ sym (set_on raw u)))
+  pub prepared_are : (actions all : List Uid) → files.ListsActions (o.pair file Store) actions → ListsPrepared k.naming actions all →
+      uid_set all ≡ uid_set (prepared_actions d.store ++ prepared_actions d.names)
+  prepared_are actions all lists names =
+      same_set (uid_set all) (uid_set raw) (set_rises all) (set_rises raw) (λ u. set_on all u ∙ (by u k.naming stands.naming names ∙ sym (set_on raw u)))
     where
       raw : List Uid
       raw = prepared_actions d.store ++ prepared_actions d.names
@@ -119,7 +126,8 @@ module _ {O : Type 0} (o : Ghosts O) (k : Kept O) (file : FileMap) (d : Disk) (s
           ∙ sym (on_append (prepared_actions d.store) (prepared_actions d.names) u)))
 
 -- a set from one place on, with the Uid before it
-pub set_more : (uids : List Uid) (i : ℕ) → i < length uids → with_uid (get_or uids i nobody) (uid_set (drop (i + 1) uids)) ≡ uid_set (drop i uids)
+pub set_more : (uids : List Uid) (i : ℕ) → i < length uids →
+    with_uid (get_or uids i nobody) (uid_set (drop (i + 1) uids)) ≡ uid_set (drop i uids)
 set_more uids i within = ap uid_set (sym (drop_more uids i nobody within))
 
 -- ---- nothing is prepared
@@ -133,7 +141,8 @@ list_clear false (e ∷ es) is = refl
 pub store_clear : (p : files.Pair) (d : Pair) (b : Bool) → IsPairOf p d → (b ≡ true) ↔ ((a : Uid) → p.pend a ≡ None) → b ≡ is_empty d.pend
 store_clear p d b are is = by b d.pend are.pend is
   where
-    by : (b : Bool) (es : List (Uid × List ObjectState)) → ((a : Uid) → p.pend a ≡ option_map packed (at_uid a es)) → (b ≡ true) ↔ ((a : Uid) → p.pend a ≡ None) → b ≡ is_empty es
+    by : (b : Bool) (es : List (Uid × List ObjectState)) → ((a : Uid) → p.pend a ≡ option_map packed (at_uid a es)) →
+        (b ≡ true) ↔ ((a : Uid) → p.pend a ≡ None) → b ≡ is_empty es
     by true [] at is = refl
     by true (e ∷ es) at is = absurd (cc (sym (is.0 refl e.0) ∙ (at e.0 ∙ ap (option_map packed) (here e es))))
     by false [] at is = is.1 at
@@ -147,20 +156,35 @@ queries_are (u ∷ us) = ap (λ es. query_about u ∷ es) (queries_are us)
 
 -- naming was told, and the known actions of earlier incarnations are asked about
 pub hello_handled : {O : Type 0} (o : Ghosts O) (m : Hello) (old new : Kept O) (held us : List Uid) (file : FileMap) (lines : List Line)
-    → ((d : Disk) → StandsOn o old file d → (c : Coord) → held ≡ holders d (parts_with old c)) → us ≡ filter (is_earlier m.node m.inc) held → Greets o m old new
-    → Handles o (message.Hello m) (record { old = old; new = new; file = file; left = file; before = lines; after = lines }) (λ from. queries us)
+    → ((d : Disk) → StandsOn o old file d → (c : Coord) → held ≡ holders d (parts_with old c)) →
+    us ≡ filter (is_earlier m.node m.inc) held → Greets o m old new
+    → Handles o (message.Hello m) (record {
+      old = old;
+      new = new;
+      file = file;
+      left = file;
+      before = lines;
+      after =
+          lines;
+    }) (λ from. queries us)
 hello_handled o m old new held us file lines holds earlier greets d stands from c = record {
   place = record { number = greets.number; named = greets.named };
   done = [];
   local = tt;
-  is = (λ i. Took (record { server = sym greets.server i; naming = sym greets.part i; coord = c }) (map query_about (filter (is_earlier m.node m.inc) (sym (holds d stands c) i))))
+  is = (λ i. Took (record {
+    server = sym greets.server i;
+    naming = sym greets.part i;
+    coord =
+        c;
+  }) (map query_about (filter (is_earlier m.node m.inc) (sym (holds d stands c) i))))
       ∙ (λ i. Took (parts_with new c) ((ap (map query_about) (sym earlier) ∙ sym (queries_are us)) i));
   lines = sym (append-nil lines);
   stands = greets.stands file d stands;
 }
 
 -- naming drops live bindings, and stands as before
-pub greeted : {O : Type 0} (o : Ghosts O) (m : Hello) (old now : Kept O) → old ≡ now → (n k : naming.Kept O) → old.naming ≡ Some n → k.part ≡ hello m.node m.inc n.part → k.pair ≡ n.pair → k.store ≡ n.store
+pub greeted : {O : Type 0} (o : Ghosts O) (m : Hello) (old now : Kept O) → old ≡ now → (n k : naming.Kept O) → old.naming ≡ Some n →
+    k.part ≡ hello m.node m.inc n.part → k.pair ≡ n.pair → k.store ≡ n.store
     → Greets o m now (record old { naming = Some k })
 greeted {O} o m old now view n k was part_is pair_is store_is =
     let Goal : Kept O → Type 0 = λ s. Greets o m s (record old { naming = Some k }) in
@@ -173,7 +197,8 @@ greeted {O} o m old now view n k was part_is pair_is store_is =
     } in
     subst Goal view here
   where
-    again : (file : FileMap) (d : Disk) → StandsOn o old file d → NamingStands o (Some n) file d.names → StandsOn o (record old { naming = Some k }) file d
+    again : (file : FileMap) (d : Disk) → StandsOn o old file d → NamingStands o (Some n) file d.names →
+        StandsOn o (record old { naming = Some k }) file d
     again file d st named = record {
       role_is = st.role_is;
       keeps = st.keeps;

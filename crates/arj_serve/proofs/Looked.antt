@@ -43,21 +43,27 @@ module _ {O : Type 0} (o : Ghosts O) (sound : Sound o) (s : Kept O) (file : File
   once_there = (sound Store file stands.formed).once
 
   pub store_holder : (u : Uid) (r : Option Uid)
-      → ((f : FileMap) → o.keeps store f → MatchOption r (files.InDoubt (o.pair f (o.own_role store)) u → ⊥) (λ act. names ((o.pair f (o.own_role store)).pend act) u)) → holder_of u d.store ≡ r
+      → ((f : FileMap) → o.keeps store f →
+      MatchOption r (files.InDoubt (o.pair f (o.own_role store)) u → ⊥) (λ act. names ((o.pair f (o.own_role store)).pend act) u)) →
+      holder_of u d.store ≡ r
   store_holder u r at = holder_as (o.pair file Store) d.store stands.pair once_there u r
       (subst (λ k. MatchOption r (files.InDoubt (o.pair file k) u → ⊥) (λ act. names ((o.pair file k).pend act) u)) role_is (at file keeps))
 
   pub store_reads : (u : Uid) (a : Read) → files.Reads (o.pair file (o.own_role store)) u a → ReadsAs d.store u a
-  store_reads u a at = reads (o.pair file Store) d.store stands.pair once_there u a (in_form_at u d.store stands.objects) (subst (λ k. files.Reads (o.pair file k) u a) role_is at)
+  store_reads u a at =
+      reads (o.pair file Store) d.store stands.pair once_there u a (in_form_at u d.store stands.objects) (subst (λ k. files.Reads (o.pair file k) u a) role_is at)
 
-  pub store_prepared : (act : Uid) (b : Bool) → ((f : FileMap) → o.keeps store f → (b ≡ true) ↔ IsSome ((o.pair f (o.own_role store)).pend act)) → is_prepared act d.store ≡ b
-  store_prepared act b at = prepared_as (o.pair file Store) d.store stands.pair act b (subst (λ k. (b ≡ true) ↔ IsSome ((o.pair file k).pend act)) role_is (at file keeps))
+  pub store_prepared : (act : Uid) (b : Bool) →
+      ((f : FileMap) → o.keeps store f → (b ≡ true) ↔ IsSome ((o.pair f (o.own_role store)).pend act)) → is_prepared act d.store ≡ b
+  store_prepared act b at =
+      prepared_as (o.pair file Store) d.store stands.pair act b (subst (λ k. (b ≡ true) ↔ IsSome ((o.pair file k).pend act)) role_is (at file keeps))
 
 pub on_err : {T E : Type 0} {P : Type 0} (r : Result T E) → P → OnErr r P
 on_err (Ok x) p = tt
 on_err (Err e) p = p
 
 -- a call that hands on a stop was stopped
-pub stopped_too : {T U : Type 0} (r : Result T StoreFault) (e : StoreFault) → IsErrAnd r (λ f. f ≡ e) → IsErrOf r Stopped → (let q : Result U StoreFault = Err e in IsErrOf q Stopped)
+pub stopped_too : {T U : Type 0} (r : Result T StoreFault) (e : StoreFault) → IsErrAnd r (λ f. f ≡ e) → IsErrOf r Stopped →
+    (let q : Result U StoreFault = Err e in IsErrOf q Stopped)
 stopped_too (Ok value) e is stop = absurd is
 stopped_too (Err other) e is stop = cc

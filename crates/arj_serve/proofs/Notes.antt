@@ -14,10 +14,14 @@ use Rattle.std.proofs.lemmas.Map.Keys.{sorted_tail}
 use Rattle.arj_naming.specs.Confirming.{AreLines}
 use Rattle.arj_protocol.specs.Ask.{top_of}
 use Rattle.arj_protocol.specs.Confirm as confirming
-use Rattle.arj_protocol.specs.Confirm.{Grants, Marks, checked, confirm_entries, confirm_new, confirms, entries_after, has_all, lock_all, prepared_by, wanted}
+use Rattle.arj_protocol.specs.Confirm.{Grants, Marks, checked, confirm_entries, confirm_new, confirms, entries_after, has_all, lock_all}
+use Rattle.arj_protocol.specs.Confirm.{prepared_by, wanted}
 use Rattle.arj_protocol.specs.Copy.{is_granted}
-use Rattle.arj_protocol.specs.Effect.{Effect, Say, Pair, Served, Did, Prep, Ready, Already, Old, InDoubt, is_prepared, prepare_answer, reply, void}
-use Rattle.arj_protocol.specs.Named.{Live, Made, Named, Counted, bind_call, bind_made, bind_named, conflict_on, entry_row, include_asked, in_use, is_lowered, lowered, live_above, live_asked, lock_lines, lower_lines, made_above, make_asked, note_made, note_named, note_other}
+use Rattle.arj_protocol.specs.Effect.{Effect, Say, Pair, Served, Did, Prep, Ready, Already, Old, InDoubt, is_prepared, prepare_answer}
+use Rattle.arj_protocol.specs.Effect.{reply, void}
+use Rattle.arj_protocol.specs.Named.{Live, Made, Named, Counted, bind_call, bind_made, bind_named, conflict_on, entry_row, include_asked}
+use Rattle.arj_protocol.specs.Named.{in_use, is_lowered, lowered, live_above, live_asked, lock_lines, lower_lines, made_above, make_asked}
+use Rattle.arj_protocol.specs.Named.{note_made, note_named, note_other}
 use Rattle.arj_protocol.specs.Naming as naming
 use Rattle.arj_protocol.specs.Naming.{Naming, is_over, listed_entry, on_counted, on_named}
 use Rattle.arj_protocol.specs.Order.{at_number, at_uid, binding_eq, put_number}
@@ -31,11 +35,14 @@ use Rattle.arj_serve.proofs.Served.{VoidIsNothing}
 use Rattle.arj_protocol.specs.Order.{is_binding}
 
 -- what was found under a number, put back, changes nothing
-pub put_as_found : {X : Type 0} (x : ℕ) (v : X) (es : List (ℕ × X)) → IsStrictlySortedBy nat_cmp (keys_of es) → at_number x es ≡ Some v → put_number x v es ≡ es
+pub put_as_found : {X : Type 0} (x : ℕ) (v : X) (es : List (ℕ × X)) → IsStrictlySortedBy nat_cmp (keys_of es) → at_number x es ≡ Some v →
+    put_number x v es ≡ es
 put_as_found x v [] sorted at = absurd (cc at)
-put_as_found {X} x v (e ∷ es) sorted at = by (nat_cmp x e.0) refl (λ more. put_as_found x v es (sorted_tail nat_cmp e.0 (keys_of es) sorted) more) at
+put_as_found {X} x v (e ∷ es) sorted at =
+    by (nat_cmp x e.0) refl (λ more. put_as_found x v es (sorted_tail nat_cmp e.0 (keys_of es) sorted) more) at
   where
-    by : (r : Ordering) → nat_cmp x e.0 ≡ r → (at_number x es ≡ Some v → put_number x v es ≡ es) → cond (is_eq r) (Some e.1) (lookup (is_at (nat_cmp x)) es) ≡ Some v
+    by : (r : Ordering) → nat_cmp x e.0 ≡ r → (at_number x es ≡ Some v → put_number x v es ≡ es) →
+        cond (is_eq r) (Some e.1) (lookup (is_at (nat_cmp x)) es) ≡ Some v
         → match_ordering r ((x, v) ∷ e ∷ es) ((e.0, v) ∷ es) (e ∷ put_number x v es) ≡ e ∷ es
     by Less is ih found = absurd (cc (sym (lookup-none (is_at (nat_cmp x)) (e ∷ es) (none_below_head nat_cmp_total x e es sorted is)) ∙ at))
     by Equal is ih found = let same : e.1 ≡ v = cc found in λ i. (e.0, sym same i) ∷ es
@@ -61,9 +68,11 @@ lines_append (e ∷ es) b la lb = absurd la
 
 made_said : (inc x : ℕ) (p : Path) (e : Entry) (c : Counted) (m : Option Made) → AreLines (bind_made inc x p e c m).outs
 made_said inc x p e c (Some m) = lock_said x p mode.Write c.named
-made_said inc x p e c None = lines_append (lock_lines x p mode.Write c.named) (Say (body.Bound x _ _) ∷ []) (lock_said x p mode.Write c.named) tt
+made_said inc x p e c None =
+    lines_append (lock_lines x p mode.Write c.named) (Say (body.Bound x _ _) ∷ []) (lock_said x p mode.Write c.named) tt
 
-make_said : (inc x : ℕ) (p : Path) (avoid : Binding) (e : Entry) (c : Counted) (r : Option Row) → AreLines (make_asked inc x p avoid e c r).outs
+make_said : (inc x : ℕ) (p : Path) (avoid : Binding) (e : Entry) (c : Counted) (r : Option Row) →
+    AreLines (make_asked inc x p avoid e c r).outs
 make_said inc x p avoid e c (Some r) = tt
 make_said inc x p avoid e c None = made_said inc x p e c (made_above avoid (at_uid (top_of p) c.named.made))
 
@@ -71,7 +80,8 @@ live_said : (inc x : ℕ) (p : Path) (e : Entry) (c : Counted) (l : Live) (r : O
 live_said inc x p e c l (Some r) = tt
 live_said inc x p e c l None = lock_said x p mode.Read c.named
 
-call_said : (inc x : ℕ) (p : Path) (avoid : Binding) (e : Entry) (c : Counted) (l : Option Live) → AreLines (bind_call inc x p avoid e c l).outs
+call_said : (inc x : ℕ) (p : Path) (avoid : Binding) (e : Entry) (c : Counted) (l : Option Live) →
+    AreLines (bind_call inc x p avoid e c l).outs
 call_said inc x p avoid e c (Some l) = live_said inc x p e c l (conflict_on x p mode.Read c.named)
 call_said inc x p avoid e c None = make_said inc x p avoid e c (conflict_on x p mode.Write c.named)
 
@@ -79,14 +89,17 @@ include_said : (inc x : ℕ) (p : Path) (e : Entry) (c : Counted) (r : Option Ro
 include_said inc x p e c (Some r) = tt
 include_said inc x p e c None = lock_said x p mode.Write c.named
 
-named_said : (inc x : ℕ) (p : Path) (include : Bool) (avoid : Binding) (e : Entry) (c : Counted) → AreLines (bind_named inc x p include avoid e c).outs
+named_said : (inc x : ℕ) (p : Path) (include : Bool) (avoid : Binding) (e : Entry) (c : Counted) →
+    AreLines (bind_named inc x p include avoid e c).outs
 named_said inc x p true avoid e c = include_said inc x p e c (conflict_on x p mode.Write c.named)
 named_said inc x p false avoid e c = call_said inc x p avoid e c (live_above avoid c.named.live)
 
-pub bind_said : (p : Path) (x : ℕ) (include : Bool) (avoid : Binding) (d : Pair) (n : Naming) → AreLines (naming.bind p x include avoid d n).outs
+pub bind_said : (p : Path) (x : ℕ) (include : Bool) (avoid : Binding) (d : Pair) (n : Naming) →
+    AreLines (naming.bind p x include avoid d n).outs
 bind_said p x include avoid d n = by (is_over p n) (at_number x n.objects)
   where
-    by : (b : Bool) (o : Option Named) → AreLines (if b then void n else on_counted x (bind_named n.inc x p include avoid (listed_entry x d)) n o).outs
+    by : (b : Bool) (o : Option Named) →
+        AreLines (if b then void n else on_counted x (bind_named n.inc x p include avoid (listed_entry x d)) n o).outs
     by true o = tt
     by false None = tt
     by false (Some o) = named_said n.inc x p include avoid (listed_entry x d) (record { named = o; count = n.count })
@@ -94,7 +107,13 @@ bind_said p x include avoid d n = by (is_over p n) (at_number x n.objects)
 note_made_said : (x : ℕ) (top : Uid) (i : ℕ) (o : Named) (m : Made) → AreLines (note_made x top i o m).outs
 note_made_said x top i o m = by m.recorded
   where
-    by : (b : Bool) → AreLines (if b then reply o recorded.Yes else record { part = lowered x top (in_use top m i o); outs = lower_lines x top o; reply = Some recorded.Yes }).outs
+    by : (b : Bool) →
+        AreLines (if b then reply o recorded.Yes else record {
+          part = lowered x top (in_use top m i o);
+          outs = lower_lines x top o;
+          reply =
+              Some recorded.Yes;
+        }).outs
     by true = tt
     by false = if_line (is_lowered x top o) (Say (body.Lowered 1 top (entry x))) tt
 
@@ -116,7 +135,8 @@ noted_said x top b i o = by (is_binding b o.recorded)
 pub note_said : (p : Path) (x : ℕ) (b : Binding) (i g : ℕ) (n : Naming) → AreLines (naming.note p x b i g n).outs
 note_said p x b i g n = by (is_over p n || not (is_some (at_number x n.objects))) (g == n.inc) (at_number x n.objects)
   where
-    by : (t s : Bool) (o : Option Named) → AreLines (if t then void n else (if s then on_named x (note_named x (top_of p) b i) n o else reply n (recorded.Changed (what.Inc g n.inc)))).outs
+    by : (t s : Bool) (o : Option Named) →
+        AreLines (if t then void n else (if s then on_named x (note_named x (top_of p) b i) n o else reply n (recorded.Changed (what.Inc g n.inc)))).outs
     by true s o = tt
     by false false o = tt
     by false true None = tt
@@ -132,7 +152,8 @@ made_answers : (inc x : ℕ) (p : Path) (e : Entry) (c : Counted) (m : Option Ma
 made_answers inc x p e c (Some m) none = cc none
 made_answers inc x p e c None none = cc none
 
-make_answers : (inc x : ℕ) (p : Path) (avoid : Binding) (e : Entry) (c : Counted) (r : Option Row) → Answers (make_asked inc x p avoid e c r)
+make_answers : (inc x : ℕ) (p : Path) (avoid : Binding) (e : Entry) (c : Counted) (r : Option Row) →
+    Answers (make_asked inc x p avoid e c r)
 make_answers inc x p avoid e c (Some r) none = cc none
 make_answers inc x p avoid e c None none = made_answers inc x p e c (made_above avoid (at_uid (top_of p) c.named.made)) none
 
@@ -140,7 +161,8 @@ live_answers : (inc x : ℕ) (p : Path) (e : Entry) (c : Counted) (l : Live) (r 
 live_answers inc x p e c l (Some r) none = cc none
 live_answers inc x p e c l None none = cc none
 
-call_answers : (inc x : ℕ) (p : Path) (avoid : Binding) (e : Entry) (c : Counted) (l : Option Live) → Answers (bind_call inc x p avoid e c l)
+call_answers : (inc x : ℕ) (p : Path) (avoid : Binding) (e : Entry) (c : Counted) (l : Option Live) →
+    Answers (bind_call inc x p avoid e c l)
 call_answers inc x p avoid e c (Some l) none = live_answers inc x p e c l (conflict_on x p mode.Read c.named) none
 call_answers inc x p avoid e c None none = make_answers inc x p avoid e c (conflict_on x p mode.Write c.named) none
 
@@ -148,14 +170,17 @@ include_answers : (inc x : ℕ) (p : Path) (e : Entry) (c : Counted) (r : Option
 include_answers inc x p e c (Some r) none = cc none
 include_answers inc x p e c None none = cc none
 
-named_answers : (inc x : ℕ) (p : Path) (include : Bool) (avoid : Binding) (e : Entry) (c : Counted) → Answers (bind_named inc x p include avoid e c)
+named_answers : (inc x : ℕ) (p : Path) (include : Bool) (avoid : Binding) (e : Entry) (c : Counted) →
+    Answers (bind_named inc x p include avoid e c)
 named_answers inc x p true avoid e c none = include_answers inc x p e c (conflict_on x p mode.Write c.named) none
 named_answers inc x p false avoid e c none = call_answers inc x p avoid e c (live_above avoid c.named.live) none
 
-pub bind_nothing : (p : Path) (x : ℕ) (include : Bool) (avoid : Binding) (d : Pair) (n : Naming) → VoidIsNothing n (naming.bind p x include avoid d n)
+pub bind_nothing : (p : Path) (x : ℕ) (include : Bool) (avoid : Binding) (d : Pair) (n : Naming) →
+    VoidIsNothing n (naming.bind p x include avoid d n)
 bind_nothing p x include avoid d n = by (is_over p n) (at_number x n.objects)
   where
-    by : (b : Bool) (o : Option Named) → VoidIsNothing n (if b then void n else on_counted x (bind_named n.inc x p include avoid (listed_entry x d)) n o)
+    by : (b : Bool) (o : Option Named) →
+        VoidIsNothing n (if b then void n else on_counted x (bind_named n.inc x p include avoid (listed_entry x d)) n o)
     by true o none = (refl, refl)
     by false None none = (refl, refl)
     by false (Some o) none = absurd (named_answers n.inc x p include avoid (listed_entry x d) (record { named = o; count = n.count }) none)
@@ -163,7 +188,13 @@ bind_nothing p x include avoid d n = by (is_over p n) (at_number x n.objects)
 note_made_answers : (x : ℕ) (top : Uid) (i : ℕ) (o : Named) (m : Made) → Answers (note_made x top i o m)
 note_made_answers x top i o m = by m.recorded
   where
-    by : (b : Bool) → Answers (if b then reply o recorded.Yes else record { part = lowered x top (in_use top m i o); outs = lower_lines x top o; reply = Some recorded.Yes })
+    by : (b : Bool) →
+        Answers (if b then reply o recorded.Yes else record {
+          part = lowered x top (in_use top m i o);
+          outs = lower_lines x top o;
+          reply =
+              Some recorded.Yes;
+        })
     by true none = cc none
     by false none = cc none
 
@@ -182,7 +213,8 @@ noted_nothing x top b i o = by (is_binding b o.recorded)
     by true none = absurd (cc none)
     by false none = other_nothing x top b i o (at_uid top o.made) none
 
-pub note_nothing : (p : Path) (x : ℕ) (b : Binding) (i g : ℕ) (n : Naming) → IsStrictlySortedBy nat_cmp (keys_of n.objects) → VoidIsNothing n (naming.note p x b i g n)
+pub note_nothing : (p : Path) (x : ℕ) (b : Binding) (i g : ℕ) (n : Naming) → IsStrictlySortedBy nat_cmp (keys_of n.objects) →
+    VoidIsNothing n (naming.note p x b i g n)
 note_nothing p x b i g n sorted = by (is_over p n || not (is_some (at_number x n.objects))) (g == n.inc) (at_number x n.objects) refl
   where
     by : (t s : Bool) (o : Option Named) → at_number x n.objects ≡ o
@@ -191,8 +223,13 @@ note_nothing p x b i g n sorted = by (is_over p n || not (is_some (at_number x n
     by false false o at none = absurd (cc none)
     by false true None at none = (refl, refl)
     by false true (Some o) at none =
-        let nothing = noted_nothing x (top_of p) b i o none in
-        ((λ j. record n { objects = put_number x (nothing.0 j) n.objects }) ∙ (λ j. record n { objects = put_as_found x o n.objects sorted at j }), nothing.1)
+        let nothing = noted_nothing x (top_of p) b i o none in (
+          (λ j. record n { objects = put_number x (nothing.0 j) n.objects }) ∙ (λ j. record n {
+            objects =
+                put_as_found x o n.objects sorted at j;
+          }),
+          nothing.1,
+        )
 
 entries_answer : (top : Uid) (states : List ObjectState) (d : Pair) (t : Did Naming) → Answers (confirm_entries top states d t)
 entries_answer top [] d t none = cc none
@@ -204,14 +241,19 @@ entries_answer top (s ∷ ss) d t none = by (prepare_answer top (s ∷ ss) d) no
     by (Already u) none = cc none
     by (Old u v) none = cc none
 
-new_answers : (p : Path) (grants : Grants) (excluded included : Marks) (d : Pair) (n : Naming) (r : Option ConfirmedReply) → Answers (confirm_new p grants excluded included d n r)
+new_answers : (p : Path) (grants : Grants) (excluded included : Marks) (d : Pair) (n : Naming) (r : Option ConfirmedReply) →
+    Answers (confirm_new p grants excluded included d n r)
 new_answers p grants excluded included d n (Some r) none = cc none
-new_answers p grants excluded included d n None none = entries_answer (top_of p) (entries_after (top_of p) grants excluded included d) d (lock_all (wanted (top_of p) grants excluded d) p n) none
+new_answers p grants excluded included d n None none =
+    entries_answer (top_of p) (entries_after (top_of p) grants excluded included d) d (lock_all (wanted (top_of p) grants excluded d) p n) none
 
-pub confirm_nothing : (p : Path) (grants : Grants) (excluded included : Marks) (d : Pair) (n : Naming) → VoidIsNothing n (confirming.confirm p grants excluded included d n)
-confirm_nothing p grants excluded included d n = by (is_over p n || not (has_all grants n)) (is_on n.confirmed (top_of p) || is_prepared (top_of p) d)
+pub confirm_nothing : (p : Path) (grants : Grants) (excluded included : Marks) (d : Pair) (n : Naming) →
+    VoidIsNothing n (confirming.confirm p grants excluded included d n)
+confirm_nothing p grants excluded included d n =
+    by (is_over p n || not (has_all grants n)) (is_on n.confirmed (top_of p) || is_prepared (top_of p) d)
   where
-    by : (t s : Bool) → VoidIsNothing n (if t then void n else (if s then reply (confirms (top_of p) n) confirmed.Yes else confirm_new p grants excluded included d n (checked p grants excluded included d n)))
+    by : (t s : Bool) →
+        VoidIsNothing n (if t then void n else (if s then reply (confirms (top_of p) n) confirmed.Yes else confirm_new p grants excluded included d n (checked p grants excluded included d n)))
     by true s none = (refl, refl)
     by false true none = absurd (cc none)
     by false false none = absurd (new_answers p grants excluded included d n (checked p grants excluded included d n) none)

@@ -13,8 +13,10 @@ nothing_twice : IsDistinct uid_eq []
 unfolding IsDistinct
 nothing_twice = tt
 
-pub objects_prepared : (act : Uid) (states : List ObjectState) (d : Pair) → AreObjects d → AreOfObjects states → AreObjects (pair_prepared act states d)
-objects_prepared act states d good new = record { held = good.held; pend = all_put (λ a ss. AreOfObjects ss) act states d.pend good.pend new }
+pub objects_prepared : (act : Uid) (states : List ObjectState) (d : Pair) → AreObjects d → AreOfObjects states →
+    AreObjects (pair_prepared act states d)
+objects_prepared act states d good new =
+    record { held = good.held; pend = all_put (λ a ss. AreOfObjects ss) act states d.pend good.pend new }
 
 pub objects_aborted : (act : Uid) (d : Pair) → AreObjects d → AreObjects (pair_aborted act d)
 objects_aborted act d good = record { held = good.held; pend = all_without (λ a ss. AreOfObjects ss) act d.pend good.pend }
@@ -30,7 +32,8 @@ new_objects act d good = by (at_uid act d.pend) (found (λ a ss. AreOfObjects ss
 abbrev AreHeld : List (Uid × ObjectState) → Type 0
 AreHeld held = AllByRecursion (λ (e : Uid × ObjectState). IsObjectState e.0 e.1) held
 
-all_moved : (which : Uid → Bool) (states : List ObjectState) (held : List (Uid × ObjectState)) → AllByRecursion (λ s. IsObjectState s.uid s) states → AreHeld held → AreHeld (moved_some which states held)
+all_moved : (which : Uid → Bool) (states : List ObjectState) (held : List (Uid × ObjectState)) →
+    AllByRecursion (λ s. IsObjectState s.uid s) states → AreHeld held → AreHeld (moved_some which states held)
 all_moved which [] held new all = all
 all_moved which (s ∷ ss) held new all = all_moved which ss (cond (which s.uid) (put_uid s.uid s held) held) new.1 (by (which s.uid))
   where
@@ -45,4 +48,5 @@ objects_committed act d good = record {
 }
 
 pub objects_in_part : (which : Uid → Bool) (act : Uid) (d : Pair) → AreObjects d → AreObjects (pair_in_part which act d)
-objects_in_part which act d good = record { held = all_moved which (new_states act d) d.held (new_objects act d good).each good.held; pend = good.pend }
+objects_in_part which act d good =
+    record { held = all_moved which (new_states act d) d.held (new_objects act d good).each good.held; pend = good.pend }

@@ -17,4 +17,5 @@ module _ {O : Type 0} (call : Call O) where
   place_server s same = record { number = ap (λ (k : Kept O). k.number) same; named = ap (λ (k : Kept O). is_some k.naming) same }
 
   pub place_naming : (n k : naming.Kept O) → call.old.naming ≡ Some n → call.new ≡ record call.old { naming = Some k } → SamePlace call
-  place_naming n k was is = record { number = ap (λ (s : Kept O). s.number) is; named = ap (λ (s : Kept O). is_some s.naming) is ∙ sym (ap is_some was) }
+  place_naming n k was is =
+      record { number = ap (λ (s : Kept O). s.number) is; named = ap (λ (s : Kept O). is_some s.naming) is ∙ sym (ap is_some was) }

@@ -54,7 +54,8 @@ abbrev pub KeepsOn : {O : Type 0} → Ghosts O → Type 0
 KeepsOn {O} o = (store : O) (old new : FileMap) → SameOfRole (o.own_role store) old new → o.keeps store old → o.keeps store new
 
 abbrev pub Stays : {O : Type 0} → Ghosts O → Type 0
-Stays o = (r : Role) (old new : FileMap) → SameOfRole r old new → o.formed old r → o.formed new r × files.SamePair (o.pair old r) (o.pair new r)
+Stays o = (r : Role) (old new : FileMap) → SameOfRole r old new → o.formed old r →
+    o.formed new r × files.SamePair (o.pair old r) (o.pair new r)
 
 module _ {O : Type 0} (o : Ghosts O) (keeps_on : KeepsOn o) (stays : Stays o) (old new : FileMap) where
   pub naming_goes_on : (n : Option (naming.Kept O)) (p : Pair) → SameOfRole Names old new → NamingStands o n old p → NamingStands o n new p
@@ -72,13 +73,15 @@ module _ {O : Type 0} (o : Ghosts O) (keeps_on : KeepsOn o) (stays : Stays o) (o
       )
 
   -- the entries on the disk, where the files of their role stay
-  pub names_go_on : (n : Option (naming.Kept O)) (p : Pair) → SameOfRole Names old new → NamingStands o n old p → NamesOn (is_some n) o new p
+  pub names_go_on : (n : Option (naming.Kept O)) (p : Pair) → SameOfRole Names old new → NamingStands o n old p →
+      NamesOn (is_some n) o new p
   names_go_on None p same stands = stands
   names_go_on (Some n) p same (stands, is, gives) =
       let formed = stays Names old new same stands.formed in
       (subst (IsPairOf (o.pair new Names)) is (pair_same (o.pair old Names) (o.pair new Names) n.pair formed.1 stands.pair), gives_same (o.pair old Names) (o.pair new Names) formed.1 gives)
 
-  pub formed_with : (n : Option (naming.Kept O)) (p : Pair) → SameOfRole Names old new → NamingStands o n old p → o.formed new Store → IsFormed o (is_some n) new
+  pub formed_with : (n : Option (naming.Kept O)) (p : Pair) → SameOfRole Names old new → NamingStands o n old p → o.formed new Store →
+      IsFormed o (is_some n) new
   formed_with None p same stands formed = formed
   formed_with (Some n) p same (stands, is, gives) formed = (formed, (stays Names old new same stands.formed).0)
 
@@ -108,7 +111,9 @@ pub left_as_was : {O : Type 0} (o : Ghosts O) (s : Kept O) (file : FileMap) → 
 left_as_was o s file stands = nothing_left o s file stands.0 stands.1
 
 -- where the services stand, their naming does
-pub named_stands : {O : Type 0} (o : Ghosts O) (old now : Kept O) → old ≡ now → (n : naming.Kept O) → old.naming ≡ Some n → (file : FileMap) → Stands o now file → naming.StandsOn o n file
+pub named_stands : {O : Type 0} (o : Ghosts O) (old now : Kept O) → old ≡ now → (n : naming.Kept O) → old.naming ≡ Some n →
+    (file : FileMap) → Stands o now file → naming.StandsOn o n file
 named_stands {O} o old now view n was file (d, stands) =
-    let named : NamingStands o (Some n) file d.names = subst (λ x. NamingStands o x file d.names) (sym (ap (λ (k : Kept O). k.naming) view) ∙ was) stands.naming in
+    let named : NamingStands o (Some n) file d.names =
+    subst (λ x. NamingStands o x file d.names) (sym (ap (λ (k : Kept O). k.naming) view) ∙ was) stands.naming in
     named.0

@@ -83,7 +83,8 @@ module _ {O : Type 0} (o : Ghosts O) (from : ℕ) (h : Head) (c : Coord) (call :
 
   -- a part's call, put back in its place, is served
   pub part_served : {S R : Type 0} (put : Coord → S → Parts) (s : S) (say : R → Reply) (r : Served S R) (answer : Option Message)
-      → VoidIsNothing s r → AreLocal r.outs → SamePlace call → ((e : Coord) → put e s ≡ parts_with old e) → ((e : Coord) → put e r.part ≡ parts_with new e) → call.after ≡ call.before ++ said r.outs
+      → VoidIsNothing s r → AreLocal r.outs → SamePlace call → ((e : Coord) → put e s ≡ parts_with old e) →
+      ((e : Coord) → put e r.part ≡ parts_with new e) → call.after ≡ call.before ++ said r.outs
       → answer ≡ option_map (λ x. response (asked_by h) (say x)) r.reply → StandsOn o new call.left (disk_after r.outs d)
       → IsServed o from (served from h (put c) say r) c call d answer
   part_served {S} {R} put s say r answer nothing local place same parts lines reply stands = by r.reply refl answer reply
@@ -110,18 +111,31 @@ module _ {O : Type 0} (o : Ghosts O) (from : ℕ) (h : Head) (c : Coord) (call :
         stands = stands;
       }
 
-      by : (reply : Option R) → r.reply ≡ reply → (a : Option Message) → a ≡ option_map (λ x. response (asked_by h) (say x)) r.reply → IsServed o from (served from h (put c) say r) c call d a
-      by None e a is = subst (IsServed o from (served from h (put c) say r) c call d) (sym (is ∙ ap (option_map (λ x. response (asked_by h) (say x))) e)) (none e)
-      by (Some x) e a is = subst (IsServed o from (served from h (put c) say r) c call d) (sym (is ∙ ap (option_map (λ x. response (asked_by h) (say x))) e)) (some x e)
+      by : (reply : Option R) → r.reply ≡ reply → (a : Option Message) → a ≡ option_map (λ x. response (asked_by h) (say x)) r.reply →
+          IsServed o from (served from h (put c) say r) c call d a
+      by None e a is =
+          subst (IsServed o from (served from h (put c) say r) c call d) (sym (is ∙ ap (option_map (λ x. response (asked_by h) (say x))) e)) (none e)
+      by (Some x) e a is =
+          subst (IsServed o from (served from h (put c) say r) c call d) (sym (is ∙ ap (option_map (λ x. response (asked_by h) (say x))) e)) (some x e)
 
   -- standing, with another server
   pub other_server : (s : Server) → new ≡ record old { server = s } → StandsOn o old call.left d → StandsOn o new call.left d
   other_server s is stands =
-      let t : StandsOn o (record old { server = s }) call.left d = record { role_is = stands.role_is; keeps = stands.keeps; formed = stands.formed; pair = stands.pair; objects = stands.objects; naming = stands.naming } in
+      let t : StandsOn o (record old { server = s }) call.left d =
+      record {
+        role_is = stands.role_is;
+        keeps = stands.keeps;
+        formed = stands.formed;
+        pair = stands.pair;
+        objects =
+            stands.objects;
+        naming = stands.naming;
+      } in
       subst (λ k. StandsOn o k call.left d) (sym is) t
 
   -- what a server does is served
-  pub server_served : {R : Type 0} (say : R → Reply) (r : Served Server R) (answer : Option Message) → VoidIsNothing old.server r → AreAll (is_server_effect old.number) r.outs
+  pub server_served : {R : Type 0} (say : R → Reply) (r : Served Server R) (answer : Option Message) → VoidIsNothing old.server r →
+      AreAll (is_server_effect old.number) r.outs
       → ServerDid r (λ x. response (asked_by h) (say x)) call answer → StandsOn o old call.left d
       → IsServed o from (served from h (with_server (parts_with old c)) say r) c call d answer
   server_served say r answer nothing all did stands =
@@ -132,38 +146,69 @@ module _ {O : Type 0} (o : Ghosts O) (from : ℕ) (h : Head) (c : Coord) (call :
   -- ---- naming
 
   -- naming's part, put back in its place
-  naming_put : (n k : naming.Kept O) (t : Naming) → old.naming ≡ Some n → new ≡ record old { naming = Some k } → k.part ≡ t → (e : Coord) → with_naming (parts_with old e) t ≡ parts_with new e
-  naming_put n k t was is part e = (λ i. record { server = old.server; naming = Some (sym part i); coord = e }) ∙ (λ i. parts_with (sym is i) e)
+  naming_put : (n k : naming.Kept O) (t : Naming) → old.naming ≡ Some n → new ≡ record old { naming = Some k } → k.part ≡ t → (e : Coord) →
+      with_naming (parts_with old e) t ≡ parts_with new e
+  naming_put n k t was is part e =
+      (λ i. record { server = old.server; naming = Some (sym part i); coord = e }) ∙ (λ i. parts_with (sym is i) e)
 
   naming_same : (n : naming.Kept O) → old.naming ≡ Some n → (e : Coord) → with_naming (parts_with old e) n.part ≡ parts_with old e
   naming_same n was e = λ i. record { server = old.server; naming = option_map part_of (sym was i); coord = e }
 
   -- standing, with another naming part
-  pub other_naming : (n k : naming.Kept O) (p : Pair) → new ≡ record old { naming = Some k } → naming.StandsOn o k call.left → k.pair ≡ p → GivesEntries (o.pair call.left slot_role.Names) → StandsOn o old call.left d → StandsOn o new call.left (record d { names = p })
+  pub other_naming : (n k : naming.Kept O) (p : Pair) → new ≡ record old { naming = Some k } → naming.StandsOn o k call.left → k.pair ≡ p →
+      GivesEntries (o.pair call.left slot_role.Names) → StandsOn o old call.left d → StandsOn o new call.left (record d { names = p })
   other_naming n k p is named pair gives stands =
-      let t : StandsOn o (record old { naming = Some k }) call.left (record d { names = p }) = record { role_is = stands.role_is; keeps = stands.keeps; formed = stands.formed; pair = stands.pair; objects = stands.objects; naming = (named, pair, gives) } in
+      let t : StandsOn o (record old { naming = Some k }) call.left (record d { names = p }) =
+      record {
+        role_is = stands.role_is;
+        keeps = stands.keeps;
+        formed = stands.formed;
+        pair = stands.pair;
+        objects =
+            stands.objects;
+        naming = (named, pair, gives);
+      } in
       subst (λ s. StandsOn o s call.left (record d { names = p })) (sym is) t
 
   -- what naming does in memory is served
-  pub noted_served : {R : Type 0} (say : R → Reply) (r : Served Naming R) (n k : naming.Kept O) (answer : Option Message) → old.naming ≡ Some n → new ≡ record old { naming = Some k }
-      → VoidIsNothing n.part r → AreLines r.outs → NamingDid r (λ x. response (asked_by h) (say x)) (record { old = n; new = k; before = call.before; after = call.after }) answer → StandsOn o old call.left d
+  pub noted_served : {R : Type 0} (say : R → Reply) (r : Served Naming R) (n k : naming.Kept O) (answer : Option Message) →
+      old.naming ≡ Some n → new ≡ record old { naming = Some k }
+      → VoidIsNothing n.part r → AreLines r.outs →
+      NamingDid r (λ x. response (asked_by h) (say x)) (record { old = n; new = k; before = call.before; after = call.after }) answer →
+      StandsOn o old call.left d
       → IsServed o from (served from h (with_naming (parts_with old c)) say r) c call d answer
   noted_served say r n k answer was is nothing lines did stands =
       let named : NamingStands o (Some n) call.left d.names = subst (λ m. NamingStands o m call.left d.names) was stands.naming in
-      let other : naming.StandsOn o (record n { part = r.part }) call.left = record { role_is = named.0.role_is; keeps = named.0.keeps; formed = named.0.formed; pair = named.0.pair } in
+      let other : naming.StandsOn o (record n { part = r.part }) call.left =
+      record { role_is = named.0.role_is; keeps = named.0.keeps; formed = named.0.formed; pair = named.0.pair } in
       part_served (λ e. with_naming (parts_with old e)) n.part say r answer nothing (lines_local r.outs lines) (place_naming call n k was is)
       (naming_same n was) (naming_put n k r.part was is (ap (λ (m : naming.Kept O). m.part) did.part)) did.lines did.reply
       (subst (StandsOn o new call.left) (sym (lines_after r.outs d lines))
       (other_naming n k d.names is (subst (λ m. naming.StandsOn o m call.left) (sym did.part) other) (ap (λ (m : naming.Kept O). m.pair) did.part ∙ named.1) named.2 stands))
 
   -- what naming does with its entries is served; the store of objects stands as before
-  pub confirm_served : {R : Type 0} (say : R → Reply) (r : Served Naming R) (n k : naming.Kept O) (answer : Option Message) → old.naming ≡ Some n → new ≡ record old { naming = Some k }
-      → VoidIsNothing n.part r → AreAll is_naming_effect r.outs → naming.HasDone (record { part = r.part; outs = r.outs }) n k call.before call.after → n.pair ≡ d.names → naming.StandsOn o k call.left → GivesEntries (o.pair call.left slot_role.Names)
-      → answer ≡ option_map (λ x. response (asked_by h) (say x)) r.reply → StandsOn o (record old { naming = None }) call.left (record d { names = no_entries })
+  pub confirm_served : {R : Type 0} (say : R → Reply) (r : Served Naming R) (n k : naming.Kept O) (answer : Option Message) →
+      old.naming ≡ Some n → new ≡ record old { naming = Some k }
+      → VoidIsNothing n.part r → AreAll is_naming_effect r.outs →
+      naming.HasDone (record { part = r.part; outs = r.outs }) n k call.before call.after → n.pair ≡ d.names →
+      naming.StandsOn o k call.left → GivesEntries (o.pair call.left slot_role.Names)
+      → answer ≡ option_map (λ x. response (asked_by h) (say x)) r.reply →
+      StandsOn o (record old { naming = None }) call.left (record d { names = no_entries })
       → IsServed o from (served from h (with_naming (parts_with old c)) say r) c call d answer
   confirm_served say r n k answer was is nothing all did pair named gives reply stands =
       let t : StandsOn o (record old { naming = Some k }) call.left (record d { names = pair_after r.outs d.names }) =
-      record { role_is = stands.role_is; keeps = stands.keeps; formed = stands.formed; pair = stands.pair; objects = stands.objects; naming = (named, did.pair ∙ (λ i. pair_after r.outs (pair i)), gives) } in
+      record {
+        role_is = stands.role_is;
+        keeps = stands.keeps;
+        formed = stands.formed;
+        pair = stands.pair;
+        objects =
+            stands.objects;
+        naming = (named, did.pair ∙ (λ i. pair_after r.outs (pair i)), gives);
+      } in
       part_served (λ e. with_naming (parts_with old e)) n.part say r answer nothing (names_local r.outs all) (place_naming call n k was is)
       (naming_same n was) (naming_put n k r.part was is did.part) did.lines reply
-      (subst (StandsOn o new call.left) (sym (names_after r.outs d all)) (subst (λ s. StandsOn o s call.left (record d { names = pair_after r.outs d.names })) (sym is) t))
+      (subst (StandsOn o new call.left) (sym (names_after r.outs d all)) (subst (λ s. StandsOn o s call.left (record d {
+        names =
+            pair_after r.outs d.names;
+      })) (sym is) t))

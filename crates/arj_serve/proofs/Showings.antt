@@ -64,10 +64,13 @@ module _ {O : Type 0} (o : Ghosts O) (k : Kept O) (file left : FileMap) (same : 
   still d stands = subst (λ f. StandsOn o k f d) (sym files_are) stands
 
   -- a stop fell into a read
-  cut_read : (line : Option ObjectState → List Effect) (u : Uid) (p : Pair) (outs : List Effect) (d : Disk) → StandsOn o k file d → holder_of u p ≡ None → shown line u p (holder_of u p) ≡ outs → after ≡ before → IsCut o outs call d
-  cut_read line u p outs d stands free are unsaid = look_cut o call d outs (line (held_at u p)) (sym are ∙ (λ i. shown line u p (free i))) (subst (λ f. IsDiskOf o (is_some k.naming) f d) (sym files_are) (disk_is o k file d stands)) unsaid
+  cut_read : (line : Option ObjectState → List Effect) (u : Uid) (p : Pair) (outs : List Effect) (d : Disk) → StandsOn o k file d →
+      holder_of u p ≡ None → shown line u p (holder_of u p) ≡ outs → after ≡ before → IsCut o outs call d
+  cut_read line u p outs d stands free are unsaid =
+      look_cut o call d outs (line (held_at u p)) (sym are ∙ (λ i. shown line u p (free i))) (subst (λ f. IsDiskOf o (is_some k.naming) f d) (sym files_are) (disk_is o k file d stands)) unsaid
 
-  pub copy_shown : (x : ℕ) (a : Read) → ((d : Disk) → StandsOn o k file d → ReadsAs d.store (object x) a) → after ≡ before ++ said (copy_line k.number x (state_of a))
+  pub copy_shown : (x : ℕ) (a : Read) → ((d : Disk) → StandsOn o k file d → ReadsAs d.store (object x) a) →
+      after ≡ before ++ said (copy_line k.number x (state_of a))
       → Shows o (λ (d : Disk). shown (copy_line k.number x) (object x) d.store (holder_of (object x) d.store)) call
   copy_shown x a reads lines d stands = record {
     local = shown_local (copy_line k.number x) (copy_lines k.number x) (object x) d.store (holder_of (object x) d.store);
@@ -78,24 +81,34 @@ module _ {O : Type 0} (o : Ghosts O) (k : Kept O) (file left : FileMap) (same : 
 
   pub copy_cut : (x : ℕ) → ((d : Disk) → StandsOn o k file d → holder_of (object x) d.store ≡ None) → after ≡ before
       → ShowsInPart o (λ (d : Disk). shown (copy_line k.number x) (object x) d.store (holder_of (object x) d.store)) call
-  copy_cut x free unsaid d stands = cut_read (copy_line k.number x) (object x) d.store (shown (copy_line k.number x) (object x) d.store (holder_of (object x) d.store)) d stands (free d stands) refl unsaid
+  copy_cut x free unsaid d stands =
+      cut_read (copy_line k.number x) (object x) d.store (shown (copy_line k.number x) (object x) d.store (holder_of (object x) d.store)) d stands (free d stands) refl unsaid
 
   -- naming shows an entry
   module _ (x : ℕ) (place : is_some k.naming ≡ (k.number == 1)) where
     pub no_entry : k.naming ≡ None → after ≡ before → Shows o (λ (d : Disk). show_entry k.number x d.names) call
     no_entry none unsaid d stands =
         let other : (k.number == 1) ≡ false = sym place ∙ ap is_some none in
-        let is : [] ≡ show_entry k.number x d.names = λ i. if sym other i then shown (entry_line x) (entry x) d.names (holder_of (entry x) d.names) else [] in
-        subst (λ es. IsShown o es call d) is (record { local = tt; quiet = refl; lines = unsaid ∙ sym (append-nil before); stands = still d stands })
+        let is : [] ≡ show_entry k.number x d.names =
+        λ i. if sym other i then shown (entry_line x) (entry x) d.names (holder_of (entry x) d.names) else [] in
+        subst (λ es. IsShown o es call d) is (record {
+          local = tt;
+          quiet = refl;
+          lines = unsaid ∙ sym (append-nil before);
+          stands =
+              still d stands;
+        })
 
     module _ (n : naming.Kept O) (was : k.naming ≡ Some n) where
-      entry_is : (d : Disk) → StandsOn o k file d → shown (entry_line x) (entry x) n.pair (holder_of (entry x) n.pair) ≡ show_entry k.number x d.names
+      entry_is : (d : Disk) → StandsOn o k file d →
+          shown (entry_line x) (entry x) n.pair (holder_of (entry x) n.pair) ≡ show_entry k.number x d.names
       entry_is d stands =
           let named : NamingStands o (Some n) file d.names = subst (λ m. NamingStands o m file d.names) was stands.naming in
           let here : (k.number == 1) ≡ true = sym place ∙ ap is_some was in
           (λ i. shown (entry_line x) (entry x) (named.1 i) (holder_of (entry x) (named.1 i))) ∙ (λ i. if sym here i then shown (entry_line x) (entry x) d.names (holder_of (entry x) d.names) else [])
 
-      pub entry_shown : after ≡ before ++ said (shown (entry_line x) (entry x) n.pair (holder_of (entry x) n.pair)) → Shows o (λ (d : Disk). show_entry k.number x d.names) call
+      pub entry_shown : after ≡ before ++ said (shown (entry_line x) (entry x) n.pair (holder_of (entry x) n.pair)) →
+          Shows o (λ (d : Disk). show_entry k.number x d.names) call
       entry_shown lines d stands = subst (λ es. IsShown o es call d) (entry_is d stands) (record {
         local = shown_local (entry_line x) (entry_lines x) (entry x) n.pair (holder_of (entry x) n.pair);
         quiet = shown_quiet (entry_line x) (entry_lines x) (entry x) n.pair (holder_of (entry x) n.pair) d;
@@ -104,7 +117,8 @@ module _ {O : Type 0} (o : Ghosts O) (k : Kept O) (file left : FileMap) (same : 
       })
 
       pub entry_cut : holder_of (entry x) n.pair ≡ None → after ≡ before → ShowsInPart o (λ (d : Disk). show_entry k.number x d.names) call
-      entry_cut free unsaid d stands = cut_read (entry_line x) (entry x) n.pair (show_entry k.number x d.names) d stands free (entry_is d stands) unsaid
+      entry_cut free unsaid d stands =
+          cut_read (entry_line x) (entry x) n.pair (show_entry k.number x d.names) d stands free (entry_is d stands) unsaid
 
 -- ---- one behind the other
 
@@ -113,7 +127,8 @@ module _ {O : Type 0} (o : Ghosts O) (k : Kept O) (file middle left : FileMap) (
   abbrev both : Call O
   both = record { old = k; new = k; file = file; left = left; before = before; after = after }
 
-  pub both_shown : Shows o g (record { old = k; new = k; file = middle; left = left; before = between; after = after }) → Shows o (λ (d : Disk). f d ++ g d) both
+  pub both_shown : Shows o g (record { old = k; new = k; file = middle; left = left; before = between; after = after }) →
+      Shows o (λ (d : Disk). f d ++ g d) both
   both_shown second d stands =
       let one = first d stands in
       let two = second d one.stands in
@@ -124,7 +139,8 @@ module _ {O : Type 0} (o : Ghosts O) (k : Kept O) (file middle left : FileMap) (
         stands = two.stands;
       }
 
-  pub both_cut : ShowsInPart o g (record { old = k; new = k; file = middle; left = left; before = between; after = after }) → ShowsInPart o (λ (d : Disk). f d ++ g d) both
+  pub both_cut : ShowsInPart o g (record { old = k; new = k; file = middle; left = left; before = between; after = after }) →
+      ShowsInPart o (λ (d : Disk). f d ++ g d) both
   both_cut second d stands =
       let one = first d stands in
       let c = second d one.stands in
@@ -140,5 +156,6 @@ module _ {O : Type 0} (o : Ghosts O) (k : Kept O) (file middle left : FileMap) (
       })
 
 -- a stop fell into the first
-pub first_cut : {O : Type 0} (o : Ghosts O) (call : Call O) (f g : Disk → List Effect) → ShowsInPart o f call → ShowsInPart o (λ (d : Disk). f d ++ g d) call
+pub first_cut : {O : Type 0} (o : Ghosts O) (call : Call O) (f g : Disk → List Effect) → ShowsInPart o f call →
+    ShowsInPart o (λ (d : Disk). f d ++ g d) call
 first_cut o call f g cut d stands = cut_front o call d (f d) (g d) (cut d stands)

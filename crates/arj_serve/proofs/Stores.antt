@@ -18,7 +18,8 @@ use Rattle.arj_law_store.proofs.store.Refused.{answer_is}
 use Rattle.arj_protocol.specs.Ask.{Reply, actor, asked_by, response}
 use Rattle.arj_protocol.specs.Coord.{Coord}
 use Rattle.arj_protocol.specs.Effect as protocol
-use Rattle.arj_protocol.specs.Effect.{Disk, Effect, Say, Send, Do, Look, Prepare, Commit, Abort, Before, After, InPart, Pair, held_at, holder_of, is_prepared, pair_prepared, pair_committed, pair_aborted, pair_in_part, prepare_answer}
+use Rattle.arj_protocol.specs.Effect.{Disk, Effect, Say, Send, Do, Look, Prepare, Commit, Abort, Before, After, InPart, Pair, held_at}
+use Rattle.arj_protocol.specs.Effect.{holder_of, is_prepared, pair_prepared, pair_committed, pair_aborted, pair_in_part, prepare_answer}
 use Rattle.arj_protocol.specs.Node.{Handled, end_states, load_by, load_held, prepare_by, sends_answer, serve, store_told}
 use Rattle.arj_protocol.specs.Order.{at_uid}
 use Rattle.arj_protocol.specs.Words.{Uid, End, Head, ObjectState, object}
@@ -58,7 +59,8 @@ module _ {O : Type 0} (o : Ghosts O) (call : Call O) (d : Disk) (from : ℕ) (c 
   abbrev load : Handled
   load = serve call.old.number d (parts_with call.old c) from h (ask.Load x)
 
-  pub load_served : (a : Read) → ReadsAs d.store (object x) a → call.new ≡ call.old → call.after ≡ call.before → StandsOn o call.new call.left d → IsServed o from load c call d (loaded_by h a)
+  pub load_served : (a : Read) → ReadsAs d.store (object x) a → call.new ≡ call.old → call.after ≡ call.before →
+      StandsOn o call.new call.left d → IsServed o from load c call d (loaded_by h a)
   load_served (read.State s) reads same lines stands = record {
     place = place_same call same;
     done = Do Look ∷ [];
@@ -90,7 +92,8 @@ module _ {O : Type 0} (o : Ghosts O) (call : Call O) (d : Disk) (from : ℕ) (c 
   load_looks (Some s) = (Send from (response (asked_by h) (Reply.Loaded (loaded.State s))) ∷ [], refl)
 
   -- a stop falls into the read, which comes where no action has prepared the object
-  pub load_cut : holder_of (object x) d.store ≡ None → call.after ≡ call.before → IsDiskOf o (is_some call.old.naming) call.left d → IsCut o (outs_of load) call d
+  pub load_cut : holder_of (object x) d.store ≡ None → call.after ≡ call.before → IsDiskOf o (is_some call.old.naming) call.left d →
+      IsCut o (outs_of load) call d
   load_cut free lines is =
       let looks = load_looks (held_at (object x) d.store) in
       look_cut o call d (outs_of load) looks.0 ((λ i. outs_of (load_by x d.store from h (parts_with call.old c) (free i))) ∙ looks.1) is lines
@@ -98,7 +101,8 @@ module _ {O : Type 0} (o : Ghosts O) (call : Call O) (d : Disk) (from : ℕ) (c 
 -- ---- after a call of the store
 
 -- what a call of the store leaves of its files, where it is the node's
-pub left_of : {O : Type 0} (o : Ghosts O) (store : O) → o.own_role store ≡ Store → (file left : FileMap) → OnlyOfRole (o.own_role store) file left → o.formed left (o.own_role store)
+pub left_of : {O : Type 0} (o : Ghosts O) (store : O) → o.own_role store ≡ Store → (file left : FileMap) →
+    OnlyOfRole (o.own_role store) file left → o.formed left (o.own_role store)
     → LeavesRole o Store file left
 left_of o store own file left only formed = subst (λ r. LeavesRole o r file left) own (record { only = only; formed = formed })
 
@@ -107,11 +111,19 @@ module _ {O : Type 0} (o : Ghosts O) (keeps_on : KeepsOn o) (stays : Stays o) (c
   same_names = names_stay call.file call.left only
 
   -- what the files say with another pair of the store
-  pub left_disk : (p : Pair) → IsPairOf (o.pair call.left Store) p → AreObjects p → IsDiskOf o (is_some call.old.naming) call.left (record d { store = p })
-  left_disk p pair objects = record { store = pair; objects = objects; names = names_go_on o keeps_on stays call.file call.left call.old.naming d.names same_names stands.naming }
+  pub left_disk : (p : Pair) → IsPairOf (o.pair call.left Store) p → AreObjects p →
+      IsDiskOf o (is_some call.old.naming) call.left (record d { store = p })
+  left_disk p pair objects =
+      record {
+        store = pair;
+        objects = objects;
+        names =
+            names_go_on o keeps_on stays call.file call.left call.old.naming d.names same_names stands.naming;
+      }
 
   -- and what the services stand on
-  pub left_stands : (p : Pair) → call.new ≡ record call.old { store = call.new.store } → o.own_role call.new.store ≡ Store → o.keeps call.new.store call.left → o.formed call.left Store
+  pub left_stands : (p : Pair) → call.new ≡ record call.old { store = call.new.store } → o.own_role call.new.store ≡ Store →
+      o.keeps call.new.store call.left → o.formed call.left Store
       → IsPairOf (o.pair call.left Store) p → AreObjects p → StandsOn o call.new call.left (record d { store = p })
   left_stands p same own keeps formed pair objects =
       let t : StandsOn o (record call.old { store = call.new.store }) call.left (record d { store = p }) = record {
@@ -154,19 +166,24 @@ module _ {O : Type 0} (o : Ghosts O) (keeps_on : KeepsOn o) (stays : Stays o) (c
         by None is = refl
         by (Some states) is = absurd (cc is)
 
-    own_at : (ss : List ObjectState) → AllByRecursion (λ s. IsObjectState s.uid s) ss → AllByRecursion (λ s. StateInForm s × IfSome (held_at s.uid d.store) (λ t. StateInForm t × (t.uid ≡ s.uid))) ss
+    own_at : (ss : List ObjectState) → AllByRecursion (λ s. IsObjectState s.uid s) ss →
+        AllByRecursion (λ s. StateInForm s × IfSome (held_at s.uid d.store) (λ t. StateInForm t × (t.uid ≡ s.uid))) ss
     own_at [] all = tt
-    own_at (s ∷ ss) all = ((all.0.in_form, by (held_at s.uid d.store) (found IsObjectState s.uid d.store.held stands.objects.held)), own_at ss all.1)
+    own_at (s ∷ ss) all =
+        ((all.0.in_form, by (held_at s.uid d.store) (found IsObjectState s.uid d.store.held stands.objects.held)), own_at ss all.1)
       where
         by : (o : Option ObjectState) → IfSome o (IsObjectState s.uid) → IfSome o (λ t. StateInForm t × (t.uid ≡ s.uid))
         by None held = tt
         by (Some t) held = (held.in_form, held.own)
 
     -- the store's answer is the protocol's
-    pub answer_so : (a : Prep) → files.AnswersPrepare (P Store) (Q Store) preparer states a → prepare_answer preparer states d.store ≡ prep_of a
-    answer_so a answers = answer_is (P Store) d.store preparer stands.pair once (Q Store) states a none_prepared (own_at states new.each) answers
+    pub answer_so : (a : Prep) → files.AnswersPrepare (P Store) (Q Store) preparer states a →
+        prepare_answer preparer states d.store ≡ prep_of a
+    answer_so a answers =
+        answer_is (P Store) d.store preparer stands.pair once (Q Store) states a none_prepared (own_at states new.each) answers
 
-    pub now_prepared : files.AnswersPrepare (P Store) (Q Store) preparer states prep.Prepared → IsPairOf (Q Store) (pair_prepared preparer states d.store)
+    pub now_prepared : files.AnswersPrepare (P Store) (Q Store) preparer states prep.Prepared →
+        IsPairOf (Q Store) (pair_prepared preparer states d.store)
     now_prepared answers = ⊎_elim
         (λ (again : IsSome ((P Store).pend preparer) × files.SamePair (P Store) (Q Store)). absurd (cc (subst IsSome none_prepared again.0)))
         (λ (did : files.Prepares (P Store) (Q Store) preparer states). pair_adds (P Store) (Q Store) d.store preparer states (in_form states new.each) did.adds stands.pair) answers
@@ -174,30 +191,77 @@ module _ {O : Type 0} (o : Ghosts O) (keeps_on : KeepsOn o) (stays : Stays o) (c
     pub now_same : files.SamePair (P Store) (Q Store) → IsPairOf (Q Store) d.store
     now_same same = pair_same (P Store) (Q Store) d.store same stands.pair
 
-    prepares_by : (a : protocol.Prep) → prepare_answer preparer states d.store ≡ a → call.new ≡ record call.old { store = call.new.store } → preparing ≡ prepare_by call.old.number states from h (parts_with call.new c) a
-    prepares_by a is same = (λ i. if first i then sends_answer from h (parts_with call.old c) [] (Some (Reply.Prepared prepared.Yes)) else prepare_by call.old.number states from h (parts_with call.old c) (prepare_answer preparer states d.store))
+    prepares_by : (a : protocol.Prep) → prepare_answer preparer states d.store ≡ a → call.new ≡ record call.old { store = call.new.store } →
+        preparing ≡ prepare_by call.old.number states from h (parts_with call.new c) a
+    prepares_by a is same =
+        (λ i. if first i then sends_answer from h (parts_with call.old c) [] (Some (Reply.Prepared prepared.Yes)) else prepare_by call.old.number states from h (parts_with call.old c) (prepare_answer preparer states d.store))
         ∙ ((λ i. prepare_by call.old.number states from h (parts_with call.old c) (is i)) ∙ (λ i. prepare_by call.old.number states from h (parts_with (sym same i) c) a))
 
-    pub prepare_served : (a : protocol.Prep) → prepare_answer preparer states d.store ≡ a → call.new ≡ record call.old { store = call.new.store } → call.after ≡ call.before ++ said (prep_done call.old.number preparer states a)
-        → StandsOn o call.new call.left (disk_after (prep_done call.old.number preparer states a) d) → IsServed o from preparing c call d (prep_reply h a)
-    prepare_served protocol.Ready is same lines on = record { place = place_store call same; done = prep_done call.old.number preparer states protocol.Ready; local = tt; is = prepares_by protocol.Ready is same; lines = lines; stands = on }
-    prepare_served (protocol.Already u) is same lines on = record { place = place_store call same; looks = Do Look ∷ []; are = tt; is = prepares_by (protocol.Already u) is same; parts = λ e i. parts_with (same i) e; lines = lines ∙ append-nil call.before; stands = on }
-    prepare_served (protocol.Old u v) is same lines on = record { place = place_store call same; done = Do Look ∷ []; local = tt; is = prepares_by (protocol.Old u v) is same; lines = lines; stands = on }
-    prepare_served (protocol.InDoubt u holder) is same lines on = record { place = place_store call same; done = Do Look ∷ []; local = tt; is = prepares_by (protocol.InDoubt u holder) is same; lines = lines; stands = on }
+    pub prepare_served : (a : protocol.Prep) → prepare_answer preparer states d.store ≡ a →
+        call.new ≡ record call.old { store = call.new.store } → call.after ≡ call.before ++ said (prep_done call.old.number preparer states a)
+        → StandsOn o call.new call.left (disk_after (prep_done call.old.number preparer states a) d) →
+        IsServed o from preparing c call d (prep_reply h a)
+    prepare_served protocol.Ready is same lines on =
+        record {
+          place = place_store call same;
+          done = prep_done call.old.number preparer states protocol.Ready;
+          local = tt;
+          is =
+              prepares_by protocol.Ready is same;
+          lines = lines;
+          stands = on;
+        }
+    prepare_served (protocol.Already u) is same lines on =
+        record {
+          place = place_store call same;
+          looks = Do Look ∷ [];
+          are = tt;
+          is = prepares_by (protocol.Already u) is same;
+          parts =
+              λ e i. parts_with (same i) e;
+          lines = lines ∙ append-nil call.before;
+          stands = on;
+        }
+    prepare_served (protocol.Old u v) is same lines on =
+        record {
+          place = place_store call same;
+          done = Do Look ∷ [];
+          local = tt;
+          is = prepares_by (protocol.Old u v) is same;
+          lines =
+              lines;
+          stands = on;
+        }
+    prepare_served (protocol.InDoubt u holder) is same lines on =
+        record {
+          place = place_store call same;
+          done = Do Look ∷ [];
+          local = tt;
+          is = prepares_by (protocol.InDoubt u holder) is same;
+          lines =
+              lines;
+          stands = on;
+        }
 
     -- the store's answer is given, with what the store did
-    pub prepared_served : (a : Prep) → files.AnswersPrepare (P Store) (Q Store) preparer states a → call.new ≡ record call.old { store = call.new.store } → o.own_role call.new.store ≡ Store → o.keeps call.new.store call.left
-        → o.formed call.left Store → call.after ≡ call.before ++ said (prep_done call.old.number preparer states (prep_of a)) → IsServed o from preparing c call d (prep_reply h (prep_of a))
+    pub prepared_served : (a : Prep) → files.AnswersPrepare (P Store) (Q Store) preparer states a →
+        call.new ≡ record call.old { store = call.new.store } → o.own_role call.new.store ≡ Store → o.keeps call.new.store call.left
+        → o.formed call.left Store → call.after ≡ call.before ++ said (prep_done call.old.number preparer states (prep_of a)) →
+        IsServed o from preparing c call d (prep_reply h (prep_of a))
     prepared_served a answers same role keeps formed lines = prepare_served (prep_of a) (answer_so a answers) same lines (on a answers)
       where
-        on : (a : Prep) → files.AnswersPrepare (P Store) (Q Store) preparer states a → StandsOn o call.new call.left (disk_after (prep_done call.old.number preparer states (prep_of a)) d)
-        on prep.Prepared answers = left_stands (pair_prepared preparer states d.store) same role keeps formed (now_prepared answers) (objects_prepared preparer states d.store stands.objects new)
+        on : (a : Prep) → files.AnswersPrepare (P Store) (Q Store) preparer states a →
+            StandsOn o call.new call.left (disk_after (prep_done call.old.number preparer states (prep_of a)) d)
+        on prep.Prepared answers =
+            left_stands (pair_prepared preparer states d.store) same role keeps formed (now_prepared answers) (objects_prepared preparer states d.store stands.objects new)
         on (prep.InDoubt u holder) answers = left_stands d.store same role keeps formed (now_same answers.2) stands.objects
         on (prep.Old u v) answers = left_stands d.store same role keeps formed (now_same answers.2) stands.objects
         on (prep.Already u by) answers = left_stands d.store same role keeps formed (now_same answers.2) stands.objects
 
-    prep_looks : (a : protocol.Prep) → (back : List Effect) × (outs_of (prepare_by call.old.number states from h (parts_with call.old c) a) ≡ Do Look ∷ back)
-    prep_looks protocol.Ready = (Do (Prepare role.Store preparer states) ∷ Say (body.Prepared call.old.number preparer role.Store) ∷ Send from (response (asked_by h) (Reply.Prepared prepared.Yes)) ∷ [], refl)
+    prep_looks : (a : protocol.Prep) →
+        (back : List Effect) × (outs_of (prepare_by call.old.number states from h (parts_with call.old c) a) ≡ Do Look ∷ back)
+    prep_looks protocol.Ready =
+        (Do (Prepare role.Store preparer states) ∷ Say (body.Prepared call.old.number preparer role.Store) ∷ Send from (response (asked_by h) (Reply.Prepared prepared.Yes)) ∷ [], refl)
     prep_looks (protocol.Already u) = ([], refl)
     prep_looks (protocol.Old u v) = (Send from (response (asked_by h) (Reply.Prepared (prepared.Old u.num v))) ∷ [], refl)
     prep_looks (protocol.InDoubt u holder) = (Send from (response (asked_by h) (Reply.Prepared (prepared.InDoubt u.num holder))) ∷ [], refl)
@@ -206,7 +270,8 @@ module _ {O : Type 0} (o : Ghosts O) (keeps_on : KeepsOn o) (stays : Stays o) (c
     not_yet = λ i. outs_of (if first i then sends_answer from h (parts_with call.old c) [] (Some (Reply.Prepared prepared.Yes)) else prepare_by call.old.number states from h (parts_with call.old c) (prepare_answer preparer states d.store))
 
     -- a stop falls into the reads, or behind the states
-    pub prepare_cut : call.after ≡ call.before → files.SamePair (P Store) (Q Store) ⊎ files.Prepares (P Store) (Q Store) preparer states → IsCut o (outs_of preparing) call d
+    pub prepare_cut : call.after ≡ call.before → files.SamePair (P Store) (Q Store) ⊎ files.Prepares (P Store) (Q Store) preparer states →
+        IsCut o (outs_of preparing) call d
     prepare_cut lines = ⊎_elim
         (λ (same : files.SamePair (P Store) (Q Store)). let looks = prep_looks (prepare_answer preparer states d.store) in
         look_cut o call d (outs_of preparing) looks.0 (not_yet ∙ looks.1) (left_disk d.store (now_same same) stands.objects) lines)
@@ -225,9 +290,11 @@ module _ {O : Type 0} (o : Ghosts O) (keeps_on : KeepsOn o) (stays : Stays o) (c
   -- ---- ends
 
   module _ (act : Uid) where
-    pub commit_cut : call.after ≡ call.before → files.MovesSome (P Store) (Q Store) act ⊎ files.Moves (P Store) (Q Store) act → IsCut o (end_states call.old.number act ending.Commit) call d
+    pub commit_cut : call.after ≡ call.before → files.MovesSome (P Store) (Q Store) act ⊎ files.Moves (P Store) (Q Store) act →
+        IsCut o (end_states call.old.number act ending.Commit) call d
     commit_cut lines = ⊎_elim
-        (λ (some : files.MovesSome (P Store) (Q Store) act). let part = pair_moves_some (P Store) (Q Store) d.store act (new_objects act d.store stands.objects).distinct some stands.pair in
+        (λ (some : files.MovesSome (P Store) (Q Store) act). let part =
+        pair_moves_some (P Store) (Q Store) d.store act (new_objects act d.store stands.objects).distinct some stands.pair in
         record {
           front = [];
           work = Commit role.Store act;
@@ -250,7 +317,8 @@ module _ {O : Type 0} (o : Ghosts O) (keeps_on : KeepsOn o) (stays : Stays o) (c
           disk = left_disk (pair_committed act d.store) (pair_moves (P Store) (Q Store) d.store act (new_objects act d.store stands.objects).distinct all stands.pair) (objects_committed act d.store stands.objects);
         })
 
-    pub abort_cut : call.after ≡ call.before → files.SamePair (P Store) (Q Store) ⊎ files.Drops (P Store) (Q Store) act → IsCut o (end_states call.old.number act ending.Abort) call d
+    pub abort_cut : call.after ≡ call.before → files.SamePair (P Store) (Q Store) ⊎ files.Drops (P Store) (Q Store) act →
+        IsCut o (end_states call.old.number act ending.Abort) call d
     abort_cut lines = ⊎_elim
         (λ (same : files.SamePair (P Store) (Q Store)).
         record {
@@ -275,16 +343,20 @@ module _ {O : Type 0} (o : Ghosts O) (keeps_on : KeepsOn o) (stays : Stays o) (c
           disk = left_disk (pair_aborted act d.store) (pair_drops (P Store) (Q Store) d.store act drops stands.pair) (objects_aborted act d.store stands.objects);
         })
 
-    pub committed_done : call.new ≡ record call.old { store = call.new.store } → o.own_role call.new.store ≡ Store → o.keeps call.new.store call.left → o.formed call.left Store → files.Moves (P Store) (Q Store) act
-        → call.after ≡ call.before ++ said (Say (body.Done call.old.number act role.Store ending.Commit) ∷ []) → IsDone o (end_states call.old.number act ending.Commit) call d
+    pub committed_done : call.new ≡ record call.old { store = call.new.store } → o.own_role call.new.store ≡ Store →
+        o.keeps call.new.store call.left → o.formed call.left Store → files.Moves (P Store) (Q Store) act
+        → call.after ≡ call.before ++ said (Say (body.Done call.old.number act role.Store ending.Commit) ∷ []) →
+        IsDone o (end_states call.old.number act ending.Commit) call d
     committed_done same own keeps formed moves lines = record {
       local = tt;
       lines = lines;
       stands = left_stands (pair_committed act d.store) same own keeps formed (pair_moves (P Store) (Q Store) d.store act (new_objects act d.store stands.objects).distinct moves stands.pair) (objects_committed act d.store stands.objects);
     }
 
-    pub aborted_done : call.new ≡ record call.old { store = call.new.store } → o.own_role call.new.store ≡ Store → o.keeps call.new.store call.left → o.formed call.left Store → files.Drops (P Store) (Q Store) act
-        → call.after ≡ call.before ++ said (Say (body.Done call.old.number act role.Store ending.Abort) ∷ []) → IsDone o (end_states call.old.number act ending.Abort) call d
+    pub aborted_done : call.new ≡ record call.old { store = call.new.store } → o.own_role call.new.store ≡ Store →
+        o.keeps call.new.store call.left → o.formed call.left Store → files.Drops (P Store) (Q Store) act
+        → call.after ≡ call.before ++ said (Say (body.Done call.old.number act role.Store ending.Abort) ∷ []) →
+        IsDone o (end_states call.old.number act ending.Abort) call d
     aborted_done same own keeps formed drops lines = record {
       local = tt;
       lines = lines;
@@ -292,7 +364,8 @@ module _ {O : Type 0} (o : Ghosts O) (keeps_on : KeepsOn o) (stays : Stays o) (c
     }
 
 -- what is prepared already is answered Yes again
-pub again_served : {O : Type 0} (o : Ghosts O) (call : Call O) (d : Disk) (from : ℕ) (c : Coord) (h : Head) (states : List ObjectState) → is_prepared (actor h.path) d.store ≡ true → call.new ≡ call.old
+pub again_served : {O : Type 0} (o : Ghosts O) (call : Call O) (d : Disk) (from : ℕ) (c : Coord) (h : Head) (states : List ObjectState) →
+    is_prepared (actor h.path) d.store ≡ true → call.new ≡ call.old
     → call.after ≡ call.before → StandsOn o call.new call.left d
     → IsServed o from (serve call.old.number d (parts_with call.old c) from h (ask.Prepare states)) c call d (Some (message.Prepared (prepared_to h prepared.Yes)))
 again_served {O} o call d from c h states is same lines stands = record {
@@ -306,7 +379,8 @@ again_served {O} o call d from c h states is same lines stands = record {
 }
 
 -- what isn't prepared doesn't end
-pub nothing_done : {O : Type 0} (o : Ghosts O) (call : Call O) (d : Disk) (act : Uid) (end : End) → is_prepared act d.store ≡ false → call.after ≡ call.before → StandsOn o call.new call.left d
+pub nothing_done : {O : Type 0} (o : Ghosts O) (call : Call O) (d : Disk) (act : Uid) (end : End) → is_prepared act d.store ≡ false →
+    call.after ≡ call.before → StandsOn o call.new call.left d
     → IsDone o (store_told call.old.number act end d.store) call d
 nothing_done o call d act end is lines stands =
     let none : [] ≡ store_told call.old.number act end d.store = λ i. if sym is i then end_states call.old.number act end else [] in
@@ -319,15 +393,19 @@ told_now n act end d is = λ i. if sym is i then end_states n act end else []
 -- ---- the number of an object that a store refuses
 
 -- the object of a refusal is one of the states'
-refused_number : (p : files.Pair) (act : Uid) (states : List ObjectState) (a : Prep) (u : Uid) → AllByRecursion (λ s. IsObjectState s.uid s) states → files.IsRefused p act states a
+refused_number : (p : files.Pair) (act : Uid) (states : List ObjectState) (a : Prep) (u : Uid) →
+    AllByRecursion (λ s. IsObjectState s.uid s) states → files.IsRefused p act states a
     → ((s : ObjectState) → files.Refuses p act s a → u ≡ s.uid) → IsObject u.num
 refused_number p act [] a u all refused is = absurd refused
 refused_number p act (s ∷ ss) a u all refused is = ⊎_elim
     (λ (here : files.Refuses p act s a). subst (λ (w : Uid). IsObject w.num) (sym (is s here)) all.0.number)
     (λ (behind : files.IsClear p act s × files.IsRefused p act ss a). refused_number p act ss a u all.1 behind.1 is) refused
 
-pub numbered : (p q : files.Pair) (act : Uid) (states : List ObjectState) (a : Prep) → AllByRecursion (λ s. IsObjectState s.uid s) states → files.AnswersPrepare p q act states a → IsNumbered a
+pub numbered : (p q : files.Pair) (act : Uid) (states : List ObjectState) (a : Prep) → AllByRecursion (λ s. IsObjectState s.uid s) states →
+    files.AnswersPrepare p q act states a → IsNumbered a
 numbered p q act states prep.Prepared all answers = tt
-numbered p q act states (prep.InDoubt u holder) all answers = refused_number p act states (prep.InDoubt u holder) u all answers.1 (λ s refuses. refuses.0)
+numbered p q act states (prep.InDoubt u holder) all answers =
+    refused_number p act states (prep.InDoubt u holder) u all answers.1 (λ s refuses. refuses.0)
 numbered p q act states (prep.Old u v) all answers = refused_number p act states (prep.Old u v) u all answers.1 (λ s refuses. refuses.0)
-numbered p q act states (prep.Already u by) all answers = refused_number p act states (prep.Already u by) u all answers.1 (λ s refuses. refuses.0)
+numbered p q act states (prep.Already u by) all answers =
+    refused_number p act states (prep.Already u by) u all answers.1 (λ s refuses. refuses.0)

@@ -21,7 +21,8 @@ use Rattle.arj_protocol.specs.Words.ending
 use Rattle.arj_protocol.specs.Words.message
 use Rattle.arj_serve.specs.Asked.{Handles, HandlesInPart, acked_by, sent_to}
 use Rattle.arj_serve.specs.Did.{AreLocal, Call, IsCut, disk_after, outs_of, sends}
-use Rattle.arj_serve.specs.Ended.{EndsInPart, EndsNames, EndsNamesInPart, EndsParts, EndsPartsInPart, EndsServer, EndsStates, NamesEnd, names_told, told_effects}
+use Rattle.arj_serve.specs.Ended.{EndsInPart, EndsNames, EndsNamesInPart, EndsParts, EndsPartsInPart, EndsServer, EndsStates, NamesEnd}
+use Rattle.arj_serve.specs.Ended.{names_told, told_effects}
 use Rattle.arj_serve.specs.Kept.{IsDiskOf, Kept, Leaves, LeavesNames, LeavesRole, StandsOn, part_of, parts_with}
 use Rattle.arj_serve.proofs.Cuts.{after_append, cut_back, cut_front, local_append}
 use Rattle.arj_serve.proofs.Places.{place_same}
@@ -33,7 +34,8 @@ use Rattle.arj_store.specs.declared.store.ObjectStore.{Ghosts}
 
 module _ {O : Type 0} (o : Ghosts O) (stays : Stays o) (file middle left : FileMap) where
   -- of the store's files and the entries'
-  pub leaves_both : (named : Bool) → o.formed middle Store → LeavesRole o Store file middle → LeavesNames o named middle left → Leaves o named file left
+  pub leaves_both : (named : Bool) → o.formed middle Store → LeavesRole o Store file middle → LeavesNames o named middle left →
+      Leaves o named file left
   leaves_both true formed store names = record {
     formed = ((stays Store middle left (store_stays middle left names.only) formed).0, names.formed);
     others = λ q none tmp. only_names middle left names.only q none tmp ∙ only_store true file middle store.only q none tmp;
@@ -54,18 +56,24 @@ names_as_were n act end d = by (is_prepared act d.store) end
     by false e = refl
 
 -- another server stands as well
-server_stands : {O : Type 0} (o : Ghosts O) (k : Kept O) (s : Server) (file : FileMap) (d : Disk) → StandsOn o k file d → StandsOn o (record k { server = s }) file d
-server_stands o k s file d st = record { role_is = st.role_is; keeps = st.keeps; formed = st.formed; pair = st.pair; objects = st.objects; naming = st.naming }
+server_stands : {O : Type 0} (o : Ghosts O) (k : Kept O) (s : Server) (file : FileMap) (d : Disk) → StandsOn o k file d →
+    StandsOn o (record k { server = s }) file d
+server_stands o k s file d st =
+    record { role_is = st.role_is; keeps = st.keeps; formed = st.formed; pair = st.pair; objects = st.objects; naming = st.naming }
 
 -- a stop fell into the store's part
-pub store_cut : {O : Type 0} (o : Ghosts O) (m : Told) (act : Uid) (end : End) (call : Call O) → EndsInPart o act end call → EndsPartsInPart o m act end call
+pub store_cut : {O : Type 0} (o : Ghosts O) (m : Told) (act : Uid) (end : End) (call : Call O) → EndsInPart o act end call →
+    EndsPartsInPart o m act end call
 store_cut o m act end call cut d stands =
     let names = (names_told m d.names (option_map part_of call.old.naming)).outs in
     let ends = (server.told call.old.number m.ends call.old.server).outs in
     let first = store_told call.old.number act end d.store in
     cut_front o call d (first ++ names) ends (cut_front o call d first names (cut d stands))
 
-module _ {O : Type 0} (o : Ghosts O) (m : Told) (act : Uid) (end : End) (old first : Kept O) (memory : first ≡ record old { store = first.store }) (file middle : FileMap) (before said_first : List Line) where
+module _ {O : Type 0} (o : Ghosts O) (m : Told) (act : Uid) (end : End) (old first : Kept O) (memory : first ≡ record old {
+  store =
+      first.store;
+}) (file middle : FileMap) (before said_first : List Line) where
   abbrev by_store : Call O
   by_store = record { old = old; new = first; file = file; left = middle; before = before; after = said_first }
 
@@ -78,7 +86,8 @@ module _ {O : Type 0} (o : Ghosts O) (m : Told) (act : Uid) (end : End) (old fir
   abbrev of_server : List Effect
   of_server = (server.told old.number m.ends old.server).outs
 
-  same_names : (d : Disk) → names_told m (disk_after (of_store d) d).names (option_map part_of first.naming) ≡ names_told m d.names (option_map part_of old.naming)
+  same_names : (d : Disk) →
+      names_told m (disk_after (of_store d) d).names (option_map part_of first.naming) ≡ names_told m d.names (option_map part_of old.naming)
   same_names d = λ i. names_told m (names_as_were old.number act end d i) (option_map part_of (memory i).naming)
 
   module _ (left : FileMap) (second : Kept O) (said_second : List Line) (done : EndsStates o act end by_store) where
@@ -86,7 +95,8 @@ module _ {O : Type 0} (o : Ghosts O) (m : Told) (act : Uid) (end : End) (old fir
     by_names = record { old = first; new = second; file = middle; left = left; before = said_first; after = said_second }
 
     -- or into naming's
-    pub naming_cut : EndsNamesInPart o m by_names → EndsPartsInPart o m act end (record { old = old; new = second; file = file; left = left; before = before; after = said_second })
+    pub naming_cut : EndsNamesInPart o m by_names →
+        EndsPartsInPart o m act end (record { old = old; new = second; file = file; left = left; before = before; after = said_second })
     naming_cut cut d stands =
         let call : Call O = record { old = old; new = second; file = file; left = left; before = before; after = said_second } in
         let one = done d stands in
@@ -102,17 +112,23 @@ module _ {O : Type 0} (o : Ghosts O) (m : Told) (act : Uid) (end : End) (old fir
           disk = subst (λ b. IsDiskOf o b left (stopped c.how c.work (disk_after c.front (disk_after (of_store d) d)))) (ap (λ (k : Kept O). is_some k.naming) memory) c.disk;
         }))
 
-    pub parts_end : (third : Kept O) (after : List Line) → EndsNames o m by_names → EndsServer m second third said_second after → ((n : ℕ) (s : Server) → AreAll (is_server_effect n) (server.told n m.ends s).outs)
+    pub parts_end : (third : Kept O) (after : List Line) → EndsNames o m by_names → EndsServer m second third said_second after →
+        ((n : ℕ) (s : Server) → AreAll (is_server_effect n) (server.told n m.ends s).outs)
         → EndsParts o m act end (record { old = old; new = third; file = file; left = left; before = before; after = after })
     parts_end third after names ends all d stands =
         let one = done d stands in
         let two : NamesEnd o m by_names (disk_after (of_store d) d) = names (disk_after (of_store d) d) one.stands in
         let number : second.number ≡ old.number = two.place.number ∙ ap (λ (k : Kept O). k.number) memory in
         let server_is : second.server ≡ old.server = two.server ∙ ap (λ (k : Kept O). k.server) memory in
-        let names_outs : (names_told m (disk_after (of_store d) d).names (option_map part_of first.naming)).outs ≡ of_names d = λ i. (same_names d i).outs in
-        let is_end : server.told second.number m.ends second.server ≡ server.told old.number m.ends old.server = λ i. server.told (number i) m.ends (server_is i) in
+        let names_outs : (names_told m (disk_after (of_store d) d).names (option_map part_of first.naming)).outs ≡ of_names d =
+        λ i. (same_names d i).outs in
+        let is_end : server.told second.number m.ends second.server ≡ server.told old.number m.ends old.server =
+        λ i. server.told (number i) m.ends (server_is i) in
         let none = all old.number old.server in
-        let on : StandsOn o (record second { server = (server.told second.number m.ends second.server).part }) left (disk_after (of_names d) (disk_after (of_store d) d)) =
+        let on : StandsOn o (record second {
+          server =
+              (server.told second.number m.ends second.server).part;
+        }) left (disk_after (of_names d) (disk_after (of_store d) d)) =
         server_stands o second (server.told second.number m.ends second.server).part left (disk_after (of_names d) (disk_after (of_store d) d)) (subst (λ es. StandsOn o second left (disk_after es (disk_after (of_store d) d))) names_outs two.done.stands) in
         record {
           place = record {
@@ -124,13 +140,22 @@ module _ {O : Type 0} (o : Ghosts O) (m : Told) (act : Uid) (end : End) (old fir
           done = record {
             local = local_append (of_store d ++ of_names d) of_server (local_append (of_store d) (of_names d) one.local (subst AreLocal names_outs two.done.local)) (server_local old.number of_server none);
             lines = ends.lines ∙ ((λ i. two.done.lines i ++ (same_said (is_end i).outs i)) ∙ lines_are d one.lines names_outs);
-            stands = subst (λ k. StandsOn o k left (disk_after (told_effects m act end (record { old = old; new = third; file = file; left = left; before = before; after = after }) d) d)) (sym ends.part)
+            stands = subst (λ k. StandsOn o k left (disk_after (told_effects m act end (record {
+              old = old;
+              new = third;
+              file = file;
+              left =
+                  left;
+              before = before;
+              after = after;
+            }) d) d)) (sym ends.part)
                 (subst (StandsOn o (record second { server = (server.told second.number m.ends second.server).part }) left)
                 (sym (after_append (of_store d ++ of_names d) of_server d ∙ (server_after old.number of_server (disk_after (of_store d ++ of_names d) d) none ∙ after_append (of_store d) (of_names d) d))) on);
           };
         }
       where
-        lines_are : (d : Disk) → said_first ≡ before ++ said (of_store d) → (names_told m (disk_after (of_store d) d).names (option_map part_of first.naming)).outs ≡ of_names d
+        lines_are : (d : Disk) → said_first ≡ before ++ said (of_store d) →
+            (names_told m (disk_after (of_store d) d).names (option_map part_of first.naming)).outs ≡ of_names d
             → (said_first ++ said (names_told m (disk_after (of_store d) d).names (option_map part_of first.naming)).outs) ++ said of_server ≡ before ++ said (of_store d ++ of_names d ++ of_server)
         lines_are d first_lines names_outs =
             (λ i. (first_lines i ++ said (names_outs i)) ++ said of_server) ∙ ((λ i. append_assoc before (said (of_store d)) (said (of_names d)) i ++ said of_server)
@@ -161,7 +186,12 @@ module _ {O : Type 0} (o : Ghosts O) (m : Told) (act : Uid) (end : End) (call : 
         done = told_effects m act end call d;
         local = p.done.local;
         is = (λ i. handle_ends n d (parts_with call.old c) from m.ack m.ends (last i))
-            ∙ (λ i. Took (record { server = sym p.server i; naming = (ap (λ (t : Did (Option Naming)). t.part) (sym (names_are d.names (option_map part_of call.old.naming))) ∙ sym p.naming) i; coord = c })
+            ∙ (λ i. Took (record {
+              server = sym p.server i;
+              naming =
+                  (ap (λ (t : Did (Option Naming)). t.part) (sym (names_are d.names (option_map part_of call.old.naming))) ∙ sym p.naming) i;
+              coord = c;
+            })
             (store_told n act end d.store ++ (sym (names_are d.names (option_map part_of call.old.naming)) i).outs ++ (server.told n m.ends call.old.server).outs ++ sym (acks from) i));
         lines = p.done.lines;
         stands = p.done.stands;
@@ -176,7 +206,8 @@ module _ {O : Type 0} (o : Ghosts O) (m : Told) (act : Uid) (end : End) (call : 
       (cut_front o call d (told_effects m act end call d) (ack_told from act m.ack) (cut d stands))
 
 -- a message without ends changes nothing
-pub told_nothing : {O : Type 0} (o : Ghosts O) (m : Told) (call : Call O) → last_end m.ends ≡ None → call.new ≡ call.old → call.left ≡ call.file → call.after ≡ call.before → Handles o (message.Told m) call (λ from. [])
+pub told_nothing : {O : Type 0} (o : Ghosts O) (m : Told) (call : Call O) → last_end m.ends ≡ None → call.new ≡ call.old →
+    call.left ≡ call.file → call.after ≡ call.before → Handles o (message.Told m) call (λ from. [])
 told_nothing o m call none same files lines d stands from c = record {
   place = place_same call same;
   done = [];

@@ -26,11 +26,15 @@ IsServed o from h c call d (Some m) = Takes o h c call d ((from, m) ∷ [])
 
 -- A request was served as the protocol has it, whoever asks, and with any coordinator, on what the disk says.
 abbrev pub Serves : {O : Type 0} → Ghosts O → Message → Call O → Option Message → Type 0
-Serves o m call answer = (d : Disk) → StandsOn o call.old call.file d → (from : ℕ) (c : Coord) → IsServed o from (asked call.old.number d (parts_with call.old c) from m) c call d answer
+Serves o m call answer =
+    (d : Disk) → StandsOn o call.old call.file d → (from : ℕ) (c : Coord) →
+    IsServed o from (asked call.old.number d (parts_with call.old c) from m) c call d answer
 
 -- A request was stopped.
 abbrev pub ServesInPart : {O : Type 0} → Ghosts O → Message → Call O → Type 0
-ServesInPart o m call = (d : Disk) → StandsOn o call.old call.file d → (from : ℕ) (c : Coord) → IsCut o (outs_of (asked call.old.number d (parts_with call.old c) from m)) call d
+ServesInPart o m call =
+    (d : Disk) → StandsOn o call.old call.file d → (from : ℕ) (c : Coord) →
+    IsCut o (outs_of (asked call.old.number d (parts_with call.old c) from m)) call d
 
 -- ---- messages that are no request
 
@@ -41,11 +45,15 @@ sent_to to (Some m) = (to, m) ∷ []
 
 -- A message was taken as the protocol has it, with any coordinator: then these are to be sent.
 abbrev pub Handles : {O : Type 0} → Ghosts O → Message → Call O → (ℕ → List (ℕ × Message)) → Type 0
-Handles o m call sent = (d : Disk) → StandsOn o call.old call.file d → (from : ℕ) (c : Coord) → Takes o (handle call.old.number d (parts_with call.old c) from m) c call d (sent from)
+Handles o m call sent =
+    (d : Disk) → StandsOn o call.old call.file d → (from : ℕ) (c : Coord) →
+    Takes o (handle call.old.number d (parts_with call.old c) from m) c call d (sent from)
 
 -- A message was stopped.
 abbrev pub HandlesInPart : {O : Type 0} → Ghosts O → Message → Call O → Type 0
-HandlesInPart o m call = (d : Disk) → StandsOn o call.old call.file d → (from : ℕ) (c : Coord) → IsCut o (outs_of (handle call.old.number d (parts_with call.old c) from m)) call d
+HandlesInPart o m call =
+    (d : Disk) → StandsOn o call.old call.file d → (from : ℕ) (c : Coord) →
+    IsCut o (outs_of (handle call.old.number d (parts_with call.old c) from m)) call d
 
 -- the acknowledgement of an end, where one is wanted
 abbrev pub acked_by : Told → Uid → Option Message

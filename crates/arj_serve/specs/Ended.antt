@@ -92,7 +92,8 @@ EndsNames o m call = (d : Disk) → StandsOn o call.old call.file d → NamesEnd
 
 -- so far as a stop let it
 abbrev pub EndsNamesInPart : {O : Type 0} → Ghosts O → Told → Call O → Type 0
-EndsNamesInPart o m call = (d : Disk) → StandsOn o call.old call.file d → IsCut o (names_told m d.names (option_map part_of call.old.naming)).outs call d
+EndsNamesInPart o m call =
+    (d : Disk) → StandsOn o call.old call.file d → IsCut o (names_told m d.names (option_map part_of call.old.naming)).outs call d
 
 -- the server applied the ends, and no other part changed
 pub record EndsServer {O : Type 0} (m : Told) (old new : Kept O) (before after : List Line) : Type 0 where

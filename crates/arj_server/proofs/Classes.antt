@@ -1,5 +1,6 @@
 -- Ends and operations keep each copy of one class, and the class of each copy.
-use Rattle.std.proofs.Common.{◌≡◌, ℕ, Bool, true, false, not, List, [], ◌∷◌, Option, Some, None, cond, filter, find, length, min, refl, ap, sym, ◌∙◌, subst}
+use Rattle.std.proofs.Common.{◌≡◌, ℕ, Bool, true, false, not, List, [], ◌∷◌, Option, Some, None, cond, filter, find, length, min, refl, ap}
+use Rattle.std.proofs.Common.{sym, ◌∙◌, subst}
 use Rattle.std.specs.Prelude.{IfSome, Result, Ok, Err, OnOk, OnErr}
 use Rattle.std.specs.List.{AllByRecursion}
 use Rattle.std.specs.List.Sorted.{IsStrictlySortedBy}
@@ -21,7 +22,8 @@ use Rattle.arj_class.specs.Table.{class_of, has_op, op_mode, value_after, writes
 use Rattle.arj_class.specs.declared.op.Op.{Op}
 use Rattle.arj_class.specs.declared.value.Value.{Value}
 use Rattle.arj_manager.specs.Manager.{invoke_at, invoke_in, ended}
-use Rattle.arj_protocol.specs.Copy.{Base, Copy, Over, ask_copy, current, end_copy, folded, invoke_copy, is_of, is_top_over, over_of, overs_committed, settled, written}
+use Rattle.arj_protocol.specs.Copy.{Base, Copy, Over, ask_copy, current, end_copy, folded, invoke_copy, is_of, is_top_over, over_of}
+use Rattle.arj_protocol.specs.Copy.{overs_committed, settled, written}
 use Rattle.arj_protocol.specs.Order.{at_number, put_number}
 use Rattle.arj_protocol.specs.Server.{Server, apply_ends, end_new, end_one, is_told, taken_end}
 use Rattle.arj_server.specs.Classes.{AreCopies, AreOfOneClass, ClassIs, HasOp, IsOfOneClass, MayDo}
@@ -42,11 +44,13 @@ of_found : (k : Class) (test : Over → Bool) (es : List Over) → AllOf k es �
 of_found k test [] all = tt
 of_found k test (e ∷ es) all = by (test e) (of_found k test es all.1)
   where
-    by : (b : Bool) → IfSome (find test es) (λ f. class_of f.value ≡ k) → IfSome (cond b (Some e) (find test es)) (λ f. class_of f.value ≡ k)
+    by : (b : Bool) → IfSome (find test es) (λ f. class_of f.value ≡ k) →
+        IfSome (cond b (Some e) (find test es)) (λ f. class_of f.value ≡ k)
     by true more = all.0
     by false more = more
 
-of_written : (k : Class) (holder : List Uid) (tops : ℕ) (v : Value) (es : List Over) → class_of v ≡ k → AllOf k es → AllOf k (written holder tops v es)
+of_written : (k : Class) (holder : List Uid) (tops : ℕ) (v : Value) (es : List Over) → class_of v ≡ k → AllOf k es →
+    AllOf k (written holder tops v es)
 of_written k holder tops v [] is all = (is, tt)
 of_written k holder tops v (e ∷ es) is all = by (is_of (last_uid holder) e)
   where
@@ -76,7 +80,8 @@ class_current : (k : Class) (base : Base) (es : List Over) → class_of base.val
 class_current k base [] is all = is
 class_current k base (e ∷ es) is all = all.0
 
-of_committed : (k : Class) (u : Uid) (c : Copy) (own : Option Over) → Is k c → IfSome own (λ e. class_of e.value ≡ k) → Is k (overs_committed u own c)
+of_committed : (k : Class) (u : Uid) (c : Copy) (own : Option Over) → Is k c → IfSome own (λ e. class_of e.value ≡ k) →
+    Is k (overs_committed u own c)
 of_committed k u c None is found = is
 of_committed k u c (Some e) is found = by (is_top_over e)
   where
@@ -90,7 +95,8 @@ of_ended k u ending.Abort c is = (is.0, of_filter k (λ o. not (is_on o.holder u
 of_ended k u ending.Commit c is = let d = of_committed k u c (over_of u c.stack) is (of_found k (is_of u) c.stack is.1) in (d.0, d.1)
 
 -- and so does an operation
-of_asked : ((op : Op) (v : Value) → class_of (value_after op v) ≡ class_of v) → (k : Class) (n : ℕ) (p : Path) (x : ℕ) (op : Op) (c : Copy) (met : Option Row) → Is k c → Is k (ask_copy n p x op c met).part
+of_asked : ((op : Op) (v : Value) → class_of (value_after op v) ≡ class_of v) →
+    (k : Class) (n : ℕ) (p : Path) (x : ℕ) (op : Op) (c : Copy) (met : Option Row) → Is k c → Is k (ask_copy n p x op c met).part
 of_asked keeps k n p x op c (Some r) is = is
 of_asked keeps k n p x op c None is = (is.0, by (writes op))
   where
@@ -104,7 +110,8 @@ pub of_put : (x : ℕ) (c : Copy) (m : List (ℕ × Copy)) → AreOfOneClass m �
 of_put x c [] all one = (one, tt)
 of_put x c (e ∷ m) all one = by (nat_cmp x e.0) (of_put x c m all.1 one)
   where
-    by : (r : Ordering) → AreOfOneClass (put_number x c m) → AreOfOneClass (match_ordering r ((x, c) ∷ e ∷ m) ((e.0, c) ∷ m) (e ∷ put_number x c m))
+    by : (r : Ordering) → AreOfOneClass (put_number x c m) →
+        AreOfOneClass (match_ordering r ((x, c) ∷ e ∷ m) ((e.0, c) ∷ m) (e ∷ put_number x c m))
     by Less more = (one, all)
     by Equal more = (one, all.1)
     by Greater more = (all.0, more)
@@ -119,9 +126,11 @@ of_at x (e ∷ m) all = by (is_eq (nat_cmp x e.0)) (of_at x m all.1)
 
 of_each : (u : Uid) (e : End) (m : List (ℕ × Copy)) → AreOfOneClass m → AreOfOneClass (ended u e m)
 of_each u e [] all = tt
-of_each u e (f ∷ m) all = (of_its (class_of f.1.base.value) (end_copy u e f.1) (of_ended (class_of f.1.base.value) u e f.1 (is_of_its f.1 all.0)), of_each u e m all.1)
+of_each u e (f ∷ m) all =
+    (of_its (class_of f.1.base.value) (end_copy u e f.1) (of_ended (class_of f.1.base.value) u e f.1 (is_of_its f.1 all.0)), of_each u e m all.1)
 
-pub of_invoked : ((op : Op) (v : Value) → class_of (value_after op v) ≡ class_of v) → (n : ℕ) (p : Path) (x : ℕ) (op : Op) (m : List (ℕ × Copy)) → AreOfOneClass m → AreOfOneClass (invoke_in n p x op m).part
+pub of_invoked : ((op : Op) (v : Value) → class_of (value_after op v) ≡ class_of v) →
+    (n : ℕ) (p : Path) (x : ℕ) (op : Op) (m : List (ℕ × Copy)) → AreOfOneClass m → AreOfOneClass (invoke_in n p x op m).part
 of_invoked keeps n p x op m all = by (at_number x m) (of_at x m all)
   where
     by : (found : Option Copy) → IfSome found IsOfOneClass → AreOfOneClass (invoke_at n p x op m found).part
@@ -137,7 +146,8 @@ module _ (x : ℕ) (P : Class → Type 0) where
   class_each u e [] all has = tt
   class_each u e (f ∷ m) all has = by (is_eq (nat_cmp x f.0)) (class_each u e m all.1) has
     where
-      by : (b : Bool) → (ClassIs x P m → ClassIs x P (ended u e m)) → IfSome (cond b (Some f.1) (at_number x m)) (λ c. P (class_of c.base.value))
+      by : (b : Bool) → (ClassIs x P m → ClassIs x P (ended u e m)) →
+          IfSome (cond b (Some f.1) (at_number x m)) (λ c. P (class_of c.base.value))
           → IfSome (cond b (Some (end_copy u e f.1)) (at_number x (ended u e m))) (λ c. P (class_of c.base.value))
       by true more is = subst P (sym (of_ended (class_of f.1.base.value) u e f.1 (is_of_its f.1 all.0)).0) is
       by false more is = more is
@@ -160,7 +170,8 @@ module _ (x : ℕ) (P : Class → Type 0) where
   class_ends n (e ∷ es) s both = class_ends n es (end_one n e.0 e.1 s).part (class_one n e.0 e.1 s both)
 
   -- a copy that is put in
-  pub class_put : (y : ℕ) (c : Copy) (m : List (ℕ × Copy)) → (x ≡ y → P (class_of c.base.value)) → ClassIs x P m → ClassIs x P (put_number y c m)
+  pub class_put : (y : ℕ) (c : Copy) (m : List (ℕ × Copy)) → (x ≡ y → P (class_of c.base.value)) → ClassIs x P m →
+      ClassIs x P (put_number y c m)
   class_put y c [] is has = by (nat_cmp x y) refl
     where
       by : (r : Ordering) → nat_cmp x y ≡ r → IfSome (cond (is_eq r) (Some c) None) (λ c. P (class_of c.base.value))
@@ -177,17 +188,21 @@ module _ (x : ℕ) (P : Class → Type 0) where
           at Equal e = is (nat_cmp-IsAntisymmetric x k e ∙ sym same)
           at Greater e = has
 
-      by : (r : Ordering) → nat_cmp y e.0 ≡ r → (ClassIs x P m → ClassIs x P (put_number y c m)) → ClassIs x P (match_ordering r ((y, c) ∷ e ∷ m) ((e.0, c) ∷ m) (e ∷ put_number y c m))
+      by : (r : Ordering) → nat_cmp y e.0 ≡ r → (ClassIs x P m → ClassIs x P (put_number y c m)) →
+          ClassIs x P (match_ordering r ((y, c) ∷ e ∷ m) ((e.0, c) ∷ m) (e ∷ put_number y c m))
       by Less r ih = here y (e ∷ m) refl has
       by Equal r ih = same (nat_cmp x e.0) refl has
         where
-          same : (q : Ordering) → nat_cmp x e.0 ≡ q → IfSome (cond (is_eq q) (Some e.1) (at_number x m)) (λ c. P (class_of c.base.value)) → IfSome (cond (is_eq q) (Some c) (at_number x m)) (λ c. P (class_of c.base.value))
+          same : (q : Ordering) → nat_cmp x e.0 ≡ q → IfSome (cond (is_eq q) (Some e.1) (at_number x m)) (λ c. P (class_of c.base.value)) →
+              IfSome (cond (is_eq q) (Some c) (at_number x m)) (λ c. P (class_of c.base.value))
           same Less q has = has
           same Equal q has = is (nat_cmp-IsAntisymmetric x e.0 q ∙ sym (nat_cmp-IsAntisymmetric y e.0 r))
           same Greater q has = has
       by Greater r ih = later (is_eq (nat_cmp x e.0)) ih has
         where
-          later : (b : Bool) → (ClassIs x P m → ClassIs x P (put_number y c m)) → IfSome (cond b (Some e.1) (at_number x m)) (λ c. P (class_of c.base.value)) → IfSome (cond b (Some e.1) (at_number x (put_number y c m))) (λ c. P (class_of c.base.value))
+          later : (b : Bool) → (ClassIs x P m → ClassIs x P (put_number y c m)) →
+              IfSome (cond b (Some e.1) (at_number x m)) (λ c. P (class_of c.base.value)) →
+              IfSome (cond b (Some e.1) (at_number x (put_number y c m))) (λ c. P (class_of c.base.value))
           later true more has = has
           later false more has = more has
 
@@ -209,39 +224,46 @@ module _ (x : ℕ) (P : Class → Type 0) where
 may_here : (x : ℕ) (op : Op) (m : List (ℕ × Copy)) → Both x (λ k. has_op k op ≡ true) m → MayDo x op m
 may_here x op m both = by (at_number x m) (of_at x m both.0) both.1
   where
-    by : (found : Option Copy) → IfSome found IsOfOneClass → IfSome found (λ c. has_op (class_of c.base.value) op ≡ true) → IfSome found (λ c. has_op (class_of (current c.base c.stack)) op ≡ true)
+    by : (found : Option Copy) → IfSome found IsOfOneClass → IfSome found (λ c. has_op (class_of c.base.value) op ≡ true) →
+        IfSome found (λ c. has_op (class_of (current c.base c.stack)) op ≡ true)
     by None one has = tt
     by (Some c) one has = ap (λ k. has_op k op) (class_current (class_of c.base.value) c.base c.stack refl one) ∙ has
 
 -- where the object's class has an operation, it may be done behind ends
-pub may_behind : (n x : ℕ) (op : Op) (ends : List (Uid × End)) (s t : Server) → AreOfOneClass s.objects → HasOp x op s.objects → t ≡ (apply_ends n ends s).part → MayDo x op t.objects
+pub may_behind : (n x : ℕ) (op : Op) (ends : List (Uid × End)) (s t : Server) → AreOfOneClass s.objects → HasOp x op s.objects →
+    t ≡ (apply_ends n ends s).part → MayDo x op t.objects
 may_behind n x op ends s t all has is =
     subst (λ (t : Server). MayDo x op t.objects) (sym is) (may_here x op (apply_ends n ends s).part.objects (class_ends x (λ k. has_op k op ≡ true) n ends s (all, has)))
 
 -- ---- the copies stand in increasing order
 
-above_put : (k x : ℕ) (c : Copy) (m : List (ℕ × Copy)) → nat_cmp k x ≡ Less → AllByRecursion (λ j. nat_cmp k j ≡ Less) (keys_of m) → AllByRecursion (λ j. nat_cmp k j ≡ Less) (keys_of (put_number x c m))
+above_put : (k x : ℕ) (c : Copy) (m : List (ℕ × Copy)) → nat_cmp k x ≡ Less → AllByRecursion (λ j. nat_cmp k j ≡ Less) (keys_of m) →
+    AllByRecursion (λ j. nat_cmp k j ≡ Less) (keys_of (put_number x c m))
 above_put k x c [] less above = (less, tt)
 above_put k x c (e ∷ m) less above = by (nat_cmp x e.0) (above_put k x c m less above.1)
   where
-    by : (r : Ordering) → AllByRecursion (λ j. nat_cmp k j ≡ Less) (keys_of (put_number x c m)) → AllByRecursion (λ j. nat_cmp k j ≡ Less) (keys_of (match_ordering r ((x, c) ∷ e ∷ m) ((e.0, c) ∷ m) (e ∷ put_number x c m)))
+    by : (r : Ordering) → AllByRecursion (λ j. nat_cmp k j ≡ Less) (keys_of (put_number x c m)) →
+        AllByRecursion (λ j. nat_cmp k j ≡ Less) (keys_of (match_ordering r ((x, c) ∷ e ∷ m) ((e.0, c) ∷ m) (e ∷ put_number x c m)))
     by Less more = (less, above)
     by Equal more = above
     by Greater more = (above.0, more)
 
-above_all : (x k : ℕ) (ks : List ℕ) → nat_cmp x k ≡ Less → AllByRecursion (λ j. nat_cmp k j ≡ Less) ks → AllByRecursion (λ j. nat_cmp x j ≡ Less) ks
+above_all : (x k : ℕ) (ks : List ℕ) → nat_cmp x k ≡ Less → AllByRecursion (λ j. nat_cmp k j ≡ Less) ks →
+    AllByRecursion (λ j. nat_cmp x j ≡ Less) ks
 above_all x k [] less above = tt
 above_all x k (j ∷ ks) less above = (nat_cmp_total.trans x k j less above.0, above_all x k ks less above.1)
 
 turned : (x k : ℕ) → nat_cmp x k ≡ Greater → nat_cmp k x ≡ Less
 turned x k is = nat_cmp_total.antisymm k x ∙ rw is refl
 
-sorted_put : (x : ℕ) (c : Copy) (m : List (ℕ × Copy)) → IsStrictlySortedBy nat_cmp (keys_of m) → IsStrictlySortedBy nat_cmp (keys_of (put_number x c m))
+sorted_put : (x : ℕ) (c : Copy) (m : List (ℕ × Copy)) → IsStrictlySortedBy nat_cmp (keys_of m) →
+    IsStrictlySortedBy nat_cmp (keys_of (put_number x c m))
 unfolding IsStrictlySortedBy
 sorted_put x c [] sorted = (tt, tt)
 sorted_put x c (e ∷ m) sorted = by (nat_cmp x e.0) refl (sorted_put x c m sorted.1)
   where
-    by : (r : Ordering) → nat_cmp x e.0 ≡ r → IsStrictlySortedBy nat_cmp (keys_of (put_number x c m)) → IsStrictlySortedBy nat_cmp (keys_of (match_ordering r ((x, c) ∷ e ∷ m) ((e.0, c) ∷ m) (e ∷ put_number x c m)))
+    by : (r : Ordering) → nat_cmp x e.0 ≡ r → IsStrictlySortedBy nat_cmp (keys_of (put_number x c m)) →
+        IsStrictlySortedBy nat_cmp (keys_of (match_ordering r ((x, c) ∷ e ∷ m) ((e.0, c) ∷ m) (e ∷ put_number x c m)))
     by Less is more = ((is, above_all x e.0 (keys_of m) is sorted.0), sorted)
     by Equal is more = sorted
     by Greater is more = (above_put e.0 x c m (turned x e.0 is) sorted.0, more)
@@ -258,7 +280,8 @@ copies_put x c m all one = (of_put x c m all.0 one, sorted_put x c m all.1)
 pub copies_ended : (u : Uid) (e : End) (m : List (ℕ × Copy)) → AreCopies m → AreCopies (ended u e m)
 copies_ended u e m all = (of_each u e m all.0, subst (IsStrictlySortedBy nat_cmp) (sym (keys_ended u e m)) all.1)
 
-copies_invoked : ((op : Op) (v : Value) → class_of (value_after op v) ≡ class_of v) → (n : ℕ) (p : Path) (x : ℕ) (op : Op) (m : List (ℕ × Copy)) → AreCopies m → AreCopies (invoke_in n p x op m).part
+copies_invoked : ((op : Op) (v : Value) → class_of (value_after op v) ≡ class_of v) →
+    (n : ℕ) (p : Path) (x : ℕ) (op : Op) (m : List (ℕ × Copy)) → AreCopies m → AreCopies (invoke_in n p x op m).part
 copies_invoked keeps n p x op m all = (of_invoked keeps n p x op m all.0, by (at_number x m))
   where
     by : (found : Option Copy) → IsStrictlySortedBy nat_cmp (keys_of (invoke_at n p x op m found).part)
@@ -266,17 +289,20 @@ copies_invoked keeps n p x op m all = (of_invoked keeps n p x op m all.0, by (at
     by (Some c) = sorted_put x (invoke_copy n p x op c).part m all.1
 
 -- a call leaves good copies, whether it was done or not
-pub either_way : {T E : Type 0} (r : Result T E) (new ok err : List (ℕ × Copy)) → AreCopies ok → AreCopies err → OnOk r (new ≡ ok) → OnErr r (new ≡ err) → AreCopies new
+pub either_way : {T E : Type 0} (r : Result T E) (new ok err : List (ℕ × Copy)) → AreCopies ok → AreCopies err → OnOk r (new ≡ ok) →
+    OnErr r (new ≡ err) → AreCopies new
 either_way (Ok x) new ok err good bad is isnt = subst AreCopies (sym is) good
 either_way (Err e) new ok err good bad is isnt = subst AreCopies (sym isnt) bad
 
-pub invoked_way : {T E : Type 0} (r : Result T E) (p : Path) (x : ℕ) (op : Op) (new old : List (ℕ × Copy)) → ((op : Op) (v : Value) → class_of (value_after op v) ≡ class_of v)
+pub invoked_way : {T E : Type 0} (r : Result T E) (p : Path) (x : ℕ) (op : Op) (new old : List (ℕ × Copy)) →
+    ((op : Op) (v : Value) → class_of (value_after op v) ≡ class_of v)
     → OnOk r ((n : ℕ) → new ≡ (invoke_in n p x op old).part) → OnErr r (new ≡ old) → AreCopies old → AreCopies new
 invoked_way (Ok d) p x op new old keeps is isnt all = subst AreCopies (sym (is 0)) (copies_invoked keeps 0 p x op old all)
 invoked_way (Err e) p x op new old keeps is isnt all = subst AreCopies (sym isnt) all
 
 -- the value in place is of the copy's class
-pub current_has : (x : ℕ) (op : Op) (m : List (ℕ × Copy)) (c : Copy) → AreOfOneClass m → at_number x m ≡ Some c → has_op (class_of (current c.base c.stack)) op ≡ has_op (class_of c.base.value) op
+pub current_has : (x : ℕ) (op : Op) (m : List (ℕ × Copy)) (c : Copy) → AreOfOneClass m → at_number x m ≡ Some c →
+    has_op (class_of (current c.base c.stack)) op ≡ has_op (class_of c.base.value) op
 current_has x op m c all at =
     let one : IsOfOneClass c = subst (λ o. IfSome o IsOfOneClass) at (of_at x m all) in
     ap (λ k. has_op k op) (class_current (class_of c.base.value) c.base c.stack refl one)

@@ -19,12 +19,15 @@ use Rattle.arj_server.specs.Lines.{said}
 pub unbound_step : (s : Server) (ts : List (ℕ × Binding)) (i : ℕ) (d : ℕ × Binding) (result found : Option What) → i < length ts
     → result ≡ changed_copy (get_or ts i d).1 (at_number (get_or ts i d).0 s.objects) → result ≡ found
     → either found (first_unbound (drop (i + 1) ts) s) ≡ first_unbound (drop i ts) s
-unbound_step s ts i d result found lt is here = ap (λ o. either o (first_unbound (drop (i + 1) ts) s)) (sym here ∙ is) ∙ sym (at_drop_more (λ us. first_unbound us s) ts i d lt)
+unbound_step s ts i d result found lt is here =
+    ap (λ o. either o (first_unbound (drop (i + 1) ts) s)) (sym here ∙ is) ∙ sym (at_drop_more (λ us. first_unbound us s) ts i d lt)
 
 -- the next end is applied, and then those behind it
 pub end_part : (n : ℕ) (s t : Server) (es : List (Uid × End)) (i : ℕ) (d : Uid × End) → i < length es
-    → t ≡ (end_one n (get_or es i d).0 (get_or es i d).1 s).part → (apply_ends n (drop (i + 1) es) t).part ≡ (apply_ends n (drop i es) s).part
-end_part n s t es i d lt is = ap (λ t. (apply_ends n (drop (i + 1) es) t).part) is ∙ sym (at_drop_more (λ fs. (apply_ends n fs s).part) es i d lt)
+    → t ≡ (end_one n (get_or es i d).0 (get_or es i d).1 s).part →
+    (apply_ends n (drop (i + 1) es) t).part ≡ (apply_ends n (drop i es) s).part
+end_part n s t es i d lt is =
+    ap (λ t. (apply_ends n (drop (i + 1) es) t).part) is ∙ sym (at_drop_more (λ fs. (apply_ends n fs s).part) es i d lt)
 
 pub end_lines : (n : ℕ) (s t : Server) (es : List (Uid × End)) (i : ℕ) (d : Uid × End) (old new : List Line) → i < length es
     → t ≡ (end_one n (get_or es i d).0 (get_or es i d).1 s).part → new ≡ old ++ said (end_one n (get_or es i d).0 (get_or es i d).1 s).outs
@@ -37,7 +40,8 @@ end_lines n s t es i d old new lt is lines =
     ∙ sym (at_drop_more (λ fs. old ++ said (apply_ends n fs s).outs) es i d lt)))
 
 -- the lines of the ends, and then those of the operation
-pub invoke_lines : (n : ℕ) (m : Invoke) (s t : Server) (es : List (Uid × End)) (old mid new : List Line) → es ≡ m.ends → t ≡ (apply_ends n es s).part → mid ≡ old ++ said (apply_ends n es s).outs
+pub invoke_lines : (n : ℕ) (m : Invoke) (s t : Server) (es : List (Uid × End)) (old mid new : List Line) → es ≡ m.ends →
+    t ≡ (apply_ends n es s).part → mid ≡ old ++ said (apply_ends n es s).outs
     → new ≡ mid ++ said (ran n m t).outs → new ≡ old ++ said ((apply_ends n m.ends s).outs ++ (ran n m (apply_ends n m.ends s).part).outs)
 invoke_lines n m s t es old mid new ends is first second =
     let d = apply_ends n es s in

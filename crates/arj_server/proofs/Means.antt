@@ -18,7 +18,8 @@ use Rattle.arj_protocol.specs.Ask.{actor}
 use Rattle.arj_protocol.specs.Copy.{Copy, ask_copy, invoke_copy}
 use Rattle.arj_protocol.specs.Effect.{Served, either, reply, void}
 use Rattle.arj_protocol.specs.Order.{at_number, at_uid, binding_eq, binding_less}
-use Rattle.arj_protocol.specs.Server.{Kept, Server, active_binding, apply_ends, changed_by, changed_copy, first_unbound, has_ended, invoke_kept, invoke_new, invoke_now, is_below, on_copy, other_inc, took_copy, vote_now}
+use Rattle.arj_protocol.specs.Server.{Kept, Server, active_binding, apply_ends, changed_by, changed_copy, first_unbound, has_ended}
+use Rattle.arj_protocol.specs.Server.{invoke_kept, invoke_new, invoke_now, is_below, on_copy, other_inc, took_copy, vote_now}
 use Rattle.arj_server.specs.Calls.{activated, invoked, voted}
 use Rattle.arj_server.specs.Meaning.{AreBound, VoidWhere}
 
@@ -27,8 +28,10 @@ void_or : {R : Type 0} (test : Bool) (s : Server) (r : Served Server R) → is_s
 void_or true s r some = record { nothing = λ is. refl; answered = λ is. absurd (cc is) }
 void_or false s r some = record { nothing = λ is. absurd (cc is); answered = λ is. some }
 
-pub void_activate : (n : ℕ) (m : Activate) (s : Server) → VoidWhere (has_ended m.head.path s || binding_less m.binding (active_binding m.state.uid.num s)) s (activated n m s)
-void_activate n m s = void_or (has_ended m.head.path s || binding_less m.binding (active_binding m.state.uid.num s)) s _ (by (binding_eq m.binding (active_binding m.state.uid.num s)))
+pub void_activate : (n : ℕ) (m : Activate) (s : Server) →
+    VoidWhere (has_ended m.head.path s || binding_less m.binding (active_binding m.state.uid.num s)) s (activated n m s)
+void_activate n m s =
+    void_or (has_ended m.head.path s || binding_less m.binding (active_binding m.state.uid.num s)) s _ (by (binding_eq m.binding (active_binding m.state.uid.num s)))
   where
     by : (b : Bool) → is_some (cond b (reply s s.inc) (took_copy n m.state.uid.num m.binding m.state s)).reply ≡ true
     by true = refl
@@ -53,8 +56,10 @@ kept_answers n m s (Some k) = by (k.req == m.head.req)
     by true = refl
     by false = new_answers n m s
 
-pub void_invoke : (n : ℕ) (m : Invoke) (s : Server) → VoidWhere (has_ended m.head.path s || is_below m.head.req (at_uid (actor m.head.path) s.kept)) s (invoked n m s)
-void_invoke n m s = void_or (has_ended m.head.path s || is_below m.head.req (at_uid (actor m.head.path) s.kept)) s _ (by (changed_by m.server_inc m.x m.binding s))
+pub void_invoke : (n : ℕ) (m : Invoke) (s : Server) →
+    VoidWhere (has_ended m.head.path s || is_below m.head.req (at_uid (actor m.head.path) s.kept)) s (invoked n m s)
+void_invoke n m s =
+    void_or (has_ended m.head.path s || is_below m.head.req (at_uid (actor m.head.path) s.kept)) s _ (by (changed_by m.server_inc m.x m.binding s))
   where
     by : (w : Option What) → is_some (invoke_now n m.head m.x m.ends m.op s w).reply ≡ true
     by None = kept_answers n m s (at_uid (actor m.head.path) s.kept)
@@ -81,7 +86,8 @@ same_req req k is = rw is (itself req)
     itself : (n : ℕ) → (n == n) ≡ true
     itself n = grind arith
 
-pub repeated : (n : ℕ) (m : Invoke) (s : Server) (k : Kept) → has_ended m.head.path s ≡ false → changed_by m.server_inc m.x m.binding s ≡ None → at_uid (actor m.head.path) s.kept ≡ Some k → k.req ≡ m.head.req
+pub repeated : (n : ℕ) (m : Invoke) (s : Server) (k : Kept) → has_ended m.head.path s ≡ false →
+    changed_by m.server_inc m.x m.binding s ≡ None → at_uid (actor m.head.path) s.kept ≡ Some k → k.req ≡ m.head.req
     → invoked n m s ≡ reply s k.answer
 repeated n m s k open_path same kept req =
     (λ i. cond (open_path i || is_below m.head.req (kept i)) (void s) (invoke_now n m.head m.x m.ends m.op s (same i)))
@@ -116,11 +122,13 @@ same_inc had now none = eqb-true had now (by (had == now) none)
     by true is = refl
     by false is = absurd (cc is)
 
-pub said_yes : (n : ℕ) (m : Vote) (s : Server) (states : List ObjectState) → (voted n m s).reply ≡ Some (voted_as.Yes states) → (m.server_inc ≡ s.inc) × AreBound s m.objects
+pub said_yes : (n : ℕ) (m : Vote) (s : Server) (states : List ObjectState) → (voted n m s).reply ≡ Some (voted_as.Yes states) →
+    (m.server_inc ≡ s.inc) × AreBound s m.objects
 said_yes n m s states is = by (has_ended m.head.path s) (either (other_inc m.server_inc s.inc) (first_unbound m.objects s)) refl is
   where
     by : (b : Bool) (w : Option What) → either (other_inc m.server_inc s.inc) (first_unbound m.objects s) ≡ w
-        → (cond b (void s) (vote_now n (actor m.head.path) m.ends s w)).reply ≡ Some (voted_as.Yes states) → (m.server_inc ≡ s.inc) × AreBound s m.objects
+        → (cond b (void s) (vote_now n (actor m.head.path) m.ends s w)).reply ≡ Some (voted_as.Yes states) →
+        (m.server_inc ≡ s.inc) × AreBound s m.objects
     by true w e is = absurd (cc is)
     by false (Some w) e is = absurd (cc is)
     by false None e is =

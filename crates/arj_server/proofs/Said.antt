@@ -18,7 +18,8 @@ said_more (Send to m ∷ es) fs = said_more es fs
 said_more (Do w ∷ es) fs = said_more es fs
 
 -- rows change by what is said
-pub rows_said : (h : Holders) (n : ℕ) (p : Part) (o : Uid) (es : List Effect) (rows : List Row) → rows_after h n p o es rows ≡ rows_by_lines h n p o (said es) rows
+pub rows_said : (h : Holders) (n : ℕ) (p : Part) (o : Uid) (es : List Effect) (rows : List Row) →
+    rows_after h n p o es rows ≡ rows_by_lines h n p o (said es) rows
 rows_said h n p o [] rows = refl
 rows_said h n p o (Say b ∷ es) rows = rows_said h n p o es (rows_by h n p o b rows)
 rows_said h n p o (Send to m ∷ es) rows = rows_said h n p o es rows
@@ -27,6 +28,11 @@ rows_said h n p o (Do w ∷ es) rows = rows_said h n p o es rows
 -- a server only says
 pub all_said : (n k : ℕ) (es : List Effect) → AreAll (is_server_effect n) es → numbered 0 (bodies n k es) ≡ said es
 all_said n k [] all = refl
-all_said n k (Say b ∷ es) all = ap (λ lines. record { event = 0; body = b } ∷ lines) (all_said n k es (and_parts (is_server_line n b) (list_all (is_server_effect n) es) all).1)
+all_said n k (Say b ∷ es) all =
+    ap (λ lines. record {
+      event = 0;
+      body =
+          b;
+    } ∷ lines) (all_said n k es (and_parts (is_server_line n b) (list_all (is_server_effect n) es) all).1)
 all_said n k (Send to m ∷ es) all = absurd (cc all)
 all_said n k (Do w ∷ es) all = absurd (cc all)

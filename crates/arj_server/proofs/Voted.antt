@@ -25,7 +25,8 @@ order_eq u w = by (uid_order u w) refl
     by : (r : Ordering) → uid_order u w ≡ r → is_eq r ≡ uid_eq w u
     by Less is = sym (uid_other w u (λ same. let never : Less ≡ Equal = sym is ∙ ap (uid_order u) same ∙ tied_itself total-law u in cc))
     by Equal is = sym (uid_same u) ∙ ap (λ v. uid_eq v u) (order_exact u w is)
-    by Greater is = sym (uid_other w u (λ same. let never : Greater ≡ Equal = sym is ∙ ap (uid_order u) same ∙ tied_itself total-law u in cc))
+    by Greater is =
+        sym (uid_other w u (λ same. let never : Greater ≡ Equal = sym is ∙ ap (uid_order u) same ∙ tied_itself total-law u in cc))
 
 -- where a Uid isn't in a list, nothing is dropped
 stays : (u : Uid) (us : List Uid) → list_any (is_at (uid_order u)) us ≡ false → drop_uid u us ≡ us
@@ -38,14 +39,16 @@ stays u (w ∷ us) none = (λ i. cond (not (isnt i)) (w ∷ drop_uid u us) (drop
     isnt : uid_eq w u ≡ false
     isnt = sym (order_eq u w) ∙ parts.0
 
-left : (u : Uid) (us : List Uid) → list_any (is_at (uid_order u)) (remove_key (is_at (uid_order u)) us) ≡ false → remove_key (is_at (uid_order u)) us ≡ drop_uid u us
+left : (u : Uid) (us : List Uid) → list_any (is_at (uid_order u)) (remove_key (is_at (uid_order u)) us) ≡ false →
+    remove_key (is_at (uid_order u)) us ≡ drop_uid u us
 left u [] none = refl
 left u (w ∷ us) none = by (is_eq (uid_order u w)) (uid_eq w u) (order_eq u w) none (left u us)
   where
     rest : List Uid
     rest = remove_key (is_at (uid_order u)) us
 
-    by : (a b : Bool) → a ≡ b → list_any (is_at (uid_order u)) (cond a us (w ∷ rest)) ≡ false → (list_any (is_at (uid_order u)) rest ≡ false → rest ≡ drop_uid u us)
+    by : (a b : Bool) → a ≡ b → list_any (is_at (uid_order u)) (cond a us (w ∷ rest)) ≡ false →
+        (list_any (is_at (uid_order u)) rest ≡ false → rest ≡ drop_uid u us)
         → cond a us (w ∷ rest) ≡ cond (not b) (w ∷ drop_uid u us) (drop_uid u us)
     by true true is none ih = sym (stays u us none)
     by false false is none ih = ap (λ vs. w ∷ vs) (ih (or_parts (is_eq (uid_order u w)) (list_any (is_at (uid_order u)) rest) none).1)
@@ -53,5 +56,6 @@ left u (w ∷ us) none = by (is_eq (uid_order u w)) (uid_eq w u) (order_eq u w) 
     by false true is none ih = absurd (cc is)
 
 -- what is left when one is taken out, once and for all
-pub drop_is : (u : Uid) (us new : List Uid) → new ≡ remove_key (is_at (uid_order u)) us → list_any (is_at (uid_order u)) new ≡ false → new ≡ drop_uid u us
+pub drop_is : (u : Uid) (us new : List Uid) → new ≡ remove_key (is_at (uid_order u)) us → list_any (is_at (uid_order u)) new ≡ false →
+    new ≡ drop_uid u us
 drop_is u us new is none = is ∙ left u us (subst (λ vs. list_any (is_at (uid_order u)) vs ≡ false) is none)

@@ -19,7 +19,8 @@ step true row xs ys same = same
 step false row xs ys same = ap (λ zs. row ∷ zs) same
 
 -- what a test leaves out, both ways
-left_out : (test : Row → Bool) (rows : List Row) → filter_map (λ row. cond (test row) None (Some row)) rows ≡ filter (λ row. not (test row)) rows
+left_out : (test : Row → Bool) (rows : List Row) →
+    filter_map (λ row. cond (test row) None (Some row)) rows ≡ filter (λ row. not (test row)) rows
 left_out test [] = refl
 left_out test (row ∷ rows) =
     step (test row) row (filter_map (λ r. cond (test r) None (Some r)) rows) (filter (λ r. not (test r)) rows) (left_out test rows)

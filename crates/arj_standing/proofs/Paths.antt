@@ -41,7 +41,8 @@ by_uid (a ∷ us) (b ∷ bs) has u =
     (λ i. cond (uid_eq (has.1 i) u) (has.2 i) (by_uid us bs has.4 u i)) ∙ links_if (uid_eq a.uid u) (path_in us a) (path_by us u)
 
 -- the path above an action
-pub above : (us : List Act) (bs : List Begun) → AreBegun us bs → (k : Kind) (p : Option Label) → links_above k p bs ≡ links (upwards (option_map name p) k (path us))
+pub above : (us : List Act) (bs : List Begun) → AreBegun us bs → (k : Kind) (p : Option Label) →
+    links_above k p bs ≡ links (upwards (option_map name p) k (path us))
 above us bs has kind.Top None = refl
 above us bs has kind.Nested None = refl
 above us bs has kind.Independent None = refl
@@ -106,14 +107,22 @@ as_many (a ∷ us) [] has = absurd has
 as_many (a ∷ us) (b ∷ bs) has = ap suc (as_many us bs has.4)
 
 -- an action more has begun
-pub one_more : (us : List Act) (bs : List Begun) → AreBegun us bs → (n : ℕ) → n ≡ length bs → (l : Label) (k : Kind) (u : Uid) (p : Option Label) (q : List Link)
+pub one_more : (us : List Act) (bs : List Begun) → AreBegun us bs → (n : ℕ) → n ≡ length bs →
+    (l : Label) (k : Kind) (u : Uid) (p : Option Label) (q : List Link)
     → q ≡ links_above k p bs ++ record { id = n; uid = u; serial = is_serial k } ∷ []
     → AreBegun (acts_after us (body.Began l k u p)) (record { id = n; label = l; uid = u; path = q } ∷ bs)
 one_more us bs has n e l k u p q same =
     let many : n ≡ length us = e ∙ as_many us bs has in (
       refl,
       refl,
-      same ∙ (λ i. links_above k p bs ++ record { id = many i; uid = u; serial = is_serial k } ∷ []) ∙ longer us bs has (record { id = length us; label = name l; kind = k; uid = u; parent = option_map name p }) p refl,
+      same ∙ (λ i. links_above k p bs ++ record { id = many i; uid = u; serial = is_serial k } ∷ []) ∙ longer us bs has (record {
+        id =
+            length us;
+        label = name l;
+        kind = k;
+        uid = u;
+        parent = option_map name p;
+      }) p refl,
       many,
       has,
     )

@@ -11,10 +11,12 @@ use Rattle.arj_standing.specs.Node.{up_from}
 goes_on : (n : ℕ) (us : List Act) (up : ℕ) (rows : List Row) (ls : List Line) (m : Line)
     → table_from n us up rows (ls ++ m ∷ []) ≡ table_step n (acts_from us ls) (up_from n up ls) m.event m.body (table_from n us up rows ls)
 goes_on n us up rows [] m = refl
-goes_on n us up rows (l ∷ ls) m = goes_on n (acts_after us l.body) (up_step n l.event l.body up) (table_step n us up l.event l.body rows) ls m
+goes_on n us up rows (l ∷ ls) m =
+    goes_on n (acts_after us l.body) (up_step n l.event l.body up) (table_step n us up l.event l.body rows) ls m
 
 -- the table after one line more
-pub table_more : (n : ℕ) (ls : List Line) (m : Line) → table n (ls ++ m ∷ []) ≡ table_step n (acts ls) (up_from n 0 ls) m.event m.body (table n ls)
+pub table_more : (n : ℕ) (ls : List Line) (m : Line) →
+    table n (ls ++ m ∷ []) ≡ table_step n (acts ls) (up_from n 0 ls) m.event m.body (table n ls)
 table_more n ls m = goes_on n [] 0 [] ls m
 
 -- the event of the last `up` line, after one line more

@@ -40,7 +40,8 @@ links_above k (Some p) bs = links_named (name p) bs
 -- the actions of a journal are kept so
 abbrev pub AreBegun : List Act → List Begun → Type 0
 AreBegun [] [] = ⊤
-AreBegun (a ∷ older) (b ∷ bs) = (name b.label ≡ a.label) × (b.uid ≡ a.uid) × (b.path ≡ links (path_in older a)) × (b.id ≡ a.id) × AreBegun older bs
+AreBegun (a ∷ older) (b ∷ bs) =
+    (name b.label ≡ a.label) × (b.uid ≡ a.uid) × (b.path ≡ links (path_in older a)) × (b.id ≡ a.id) × AreBegun older bs
 AreBegun _ _ = ⊥
 
 -- the top of a path, if it has one

@@ -22,11 +22,13 @@ same_named old new role a file same =
     pend_is new role a ∙ ap (λ o. option_map (with_each (new_state new)) (option_map named_in o)) file
     ∙ by (objects_of old role a) (λ u is. same u (names_if old role a u is)) ∙ sym (pend_is old role a)
   where
-    by : (o : Option (List Uid)) → ((u : Uid) → is_named o u ≡ true → new_state new u ≡ new_state old u) → option_map (with_each (new_state new)) o ≡ option_map (with_each (new_state old)) o
+    by : (o : Option (List Uid)) → ((u : Uid) → is_named o u ≡ true → new_state new u ≡ new_state old u) →
+        option_map (with_each (new_state new)) o ≡ option_map (with_each (new_state old)) o
     by None each = refl
     by (Some us) each = ap Some (each_same (new_state new) (new_state old) us each)
 
-module _ (role : Role) (P : Uid → Type 0) (old new : FileMap) (formed : FormedFor old role) (own : (u : Uid) → P u → role_of u ≡ role) (free : (u : Uid) → P u → InDoubt old role u → ⊥)
+module _ (role : Role) (P : Uid → Type 0) (old new : FileMap) (formed : FormedFor old role) (own : (u : Uid) → P u →
+    role_of u ≡ role) (free : (u : Uid) → P u → InDoubt old role u → ⊥)
     (changes : ChangesStates place.Shadow P old new) where
   pub same_committed : (u : Uid) → new (slot.Committed u) ≡ old (slot.Committed u)
   same_committed u = ⊎_elim (λ (e : new (slot.Committed u) ≡ old (slot.Committed u)). e)
@@ -46,7 +48,8 @@ module _ (role : Role) (P : Uid → Type 0) (old new : FileMap) (formed : Formed
       (changes (slot.Shadow u) (λ e. cc))
 
   pub named_shadow : (a u : Uid) → names (pend old role a) u → new (slot.Shadow u) ≡ old (slot.Shadow u)
-  named_shadow a u is = ⊎_elim (λ (e : new (slot.Shadow u) ≡ old (slot.Shadow u)). e) (λ (e : P u × IfSome (new (slot.Shadow u)) (IsStateOf u)). absurd (free u e.0 (a, is))) (shadow_cases u)
+  named_shadow a u is =
+      ⊎_elim (λ (e : new (slot.Shadow u) ≡ old (slot.Shadow u)). e) (λ (e : P u × IfSome (new (slot.Shadow u)) (IsStateOf u)). absurd (free u e.0 (a, is))) (shadow_cases u)
 
   pub changed_pair : SamePair role old new
   changed_pair = record {

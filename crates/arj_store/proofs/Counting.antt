@@ -10,5 +10,6 @@ pub record SameCounts (old new : Counts) : Type 0 where
   pub last_arm : new.last_arm ≡ old.last_arm
 
 -- one more call that was done
-pub counts_on : {T E : Type 0} {old mid new : Counts} {x : T} {stopped : E} → CountsCall mid new (Ok x) stopped → SameCounts old mid → SameCounts old new
+pub counts_on : {T E : Type 0} {old mid new : Counts} {x : T} {stopped : E} → CountsCall mid new (Ok x) stopped → SameCounts old mid →
+    SameCounts old new
 counts_on call same = record { stops = call.stops.ok ∙ same.stops; arms = call.arms ∙ same.arms; last_arm = call.last_arm ∙ same.last_arm }

@@ -25,7 +25,8 @@ module _ {X : Type 0} where
   here : (e : Uid × X) (es : List (Uid × X)) → at_uid e.0 (e ∷ es) ≡ Some e.1
   here e es = rw (order_itself e.0) refl
 
-  below : (u : Uid) (e : Uid × X) (es : List (Uid × X)) → IsStrictlySortedBy uid_order (keys_of (e ∷ es)) → uid_order u e.0 ≡ Less → at_uid u (e ∷ es) ≡ None
+  below : (u : Uid) (e : Uid × X) (es : List (Uid × X)) → IsStrictlySortedBy uid_order (keys_of (e ∷ es)) → uid_order u e.0 ≡ Less →
+      at_uid u (e ∷ es) ≡ None
   below u e es rises less = lookup-none (is_at (uid_order u)) (e ∷ es) (none_below_head total u e es rises less)
 
   first_gone : (e : Uid × X) (es : List (Uid × X)) → IsStrictlySortedBy uid_order (keys_of (e ∷ es)) → at_uid e.0 es ≡ None
@@ -33,7 +34,8 @@ module _ {X : Type 0} where
   first_gone e [] rises = refl
   first_gone e (f ∷ fs) rises = below e.0 f fs rises.1 rises.0.0
 
-  rest_rises : (e : Uid × X) (es : List (Uid × X)) → IsStrictlySortedBy uid_order (keys_of (e ∷ es)) → IsStrictlySortedBy uid_order (keys_of es)
+  rest_rises : (e : Uid × X) (es : List (Uid × X)) → IsStrictlySortedBy uid_order (keys_of (e ∷ es)) →
+      IsStrictlySortedBy uid_order (keys_of es)
   unfolding IsStrictlySortedBy
   rest_rises e es rises = rises.1
 
@@ -41,7 +43,8 @@ module _ {X : Type 0} where
   other u e es isnt = rw isnt refl
 
   -- both lists have nothing more under the first key, and under each other what the whole lists have
-  rests : (e f : Uid × X) (es fs : List (Uid × X)) → IsStrictlySortedBy uid_order (keys_of (e ∷ es)) → IsStrictlySortedBy uid_order (keys_of (f ∷ fs)) → e.0 ≡ f.0
+  rests : (e f : Uid × X) (es fs : List (Uid × X)) → IsStrictlySortedBy uid_order (keys_of (e ∷ es)) →
+      IsStrictlySortedBy uid_order (keys_of (f ∷ fs)) → e.0 ≡ f.0
       → ((u : Uid) → at_uid u (e ∷ es) ≡ at_uid u (f ∷ fs)) → (u : Uid) → at_uid u es ≡ at_uid u fs
   rests e f es fs rises rises' keys same u = by (uid_order u e.0) refl
     where
@@ -55,18 +58,21 @@ module _ {X : Type 0} where
           let first = order_exact u e.0 is in
           subst (λ k. at_uid k es ≡ None) (sym first) (first_gone e es rises) ∙ sym (subst (λ k. at_uid k fs ≡ None) (sym (first ∙ keys)) (first_gone f fs rises'))
 
-  pub same_entries : (es fs : List (Uid × X)) → IsStrictlySortedBy uid_order (keys_of es) → IsStrictlySortedBy uid_order (keys_of fs) → ((u : Uid) → at_uid u es ≡ at_uid u fs) → es ≡ fs
+  pub same_entries : (es fs : List (Uid × X)) → IsStrictlySortedBy uid_order (keys_of es) → IsStrictlySortedBy uid_order (keys_of fs) →
+      ((u : Uid) → at_uid u es ≡ at_uid u fs) → es ≡ fs
   same_entries [] [] rises rises' same = refl
   same_entries [] (f ∷ fs) rises rises' same = let never : None ≡ Some f.1 = same f.0 ∙ here f fs in cc
   same_entries (e ∷ es) [] rises rises' same = let never : Some e.1 ≡ None = sym (here e es) ∙ same e.0 in cc
-  same_entries (e ∷ es) (f ∷ fs) rises rises' same = by (uid_order e.0 f.0) refl (same_entries es fs (rest_rises e es rises) (rest_rises f fs rises'))
+  same_entries (e ∷ es) (f ∷ fs) rises rises' same =
+      by (uid_order e.0 f.0) refl (same_entries es fs (rest_rises e es rises) (rest_rises f fs rises'))
     where
       by : (o : Ordering) → uid_order e.0 f.0 ≡ o → (((u : Uid) → at_uid u es ≡ at_uid u fs) → es ≡ fs) → (e ∷ es) ≡ (f ∷ fs)
       by Less is rest = let never : Some e.1 ≡ None = sym (here e es) ∙ same e.0 ∙ below e.0 f fs rises' is in cc
       by Greater is rest = let never : None ≡ Some f.1 = sym (below f.0 e es rises (turned e.0 f.0 is)) ∙ same f.0 ∙ here f fs in cc
       by Equal is rest =
           let keys = order_exact e.0 f.0 is in
-          let values : Some e.1 ≡ Some f.1 = sym (here e es) ∙ same e.0 ∙ subst (λ k. at_uid k (f ∷ fs) ≡ Some f.1) (sym keys) (here f fs) in
+          let values : Some e.1 ≡ Some f.1 =
+          sym (here e es) ∙ same e.0 ∙ subst (λ k. at_uid k (f ∷ fs) ≡ Some f.1) (sym keys) (here f fs) in
           let value : e.1 ≡ f.1 = cc in
           λ i. (keys i, value i) ∷ rest (rests e f es fs rises rises' keys same) i
 

@@ -18,7 +18,8 @@ use Rattle.arj_store.specs.Named.{names_if, pend_of, same_pend, same_held, same_
 use Rattle.arj_store.proofs.Uids.{uid_cases}
 
 -- known objects of the new files were known before: then there are not too many
-pub fewer : (role : Role) (old new : FileMap) → FormedFor old role → ((u : Uid) → IsKnown new role u → IsKnown old role u) → (us : List Uid) → Rattle.std.specs.List.IsDistinct Rattle.arj_base.specs.Uid.uid_eq us
+pub fewer : (role : Role) (old new : FileMap) → FormedFor old role → ((u : Uid) → IsKnown new role u → IsKnown old role u) →
+    (us : List Uid) → Rattle.std.specs.List.IsDistinct Rattle.arj_base.specs.Uid.uid_eq us
     → ((u : Uid) → Contains us u → IsKnown new role u) → length us ≤ 65535
 fewer role old new formed known us distinct each = formed.few us distinct (λ u among. known u (each u among))
 
@@ -36,17 +37,20 @@ moved_new us old new moves u = ⊎_elim
     (λ i. first_file (e.2 i) (e.3 i)) ∙ moved_state (old (slot.Shadow u)) (old (slot.Committed u)) e.1)
     (moves.each u)
 
-pub moved_file : (us : List Uid) (old new : FileMap) → MovesShadows us old new → (role : Role) (a : Uid) → new (slot.Prepared role a) ≡ old (slot.Prepared role a)
+pub moved_file : (us : List Uid) (old new : FileMap) → MovesShadows us old new → (role : Role) (a : Uid) →
+    new (slot.Prepared role a) ≡ old (slot.Prepared role a)
 moved_file us old new moves role a = moves.others (slot.Prepared role a) (λ u. (λ e. cc, λ e. cc))
 
 pub moved_pend : (us : List Uid) (old new : FileMap) → MovesShadows us old new → (role : Role) (a : Uid) → pend new role a ≡ pend old role a
 moved_pend us old new moves role a = same_pend old new role a (moved_file us old new moves role a) (moved_new us old new moves)
 
 -- the state that a commit gives an object among the action's
-committed_state : (f : Uid → List ℕ) (us : List Uid) (u : Uid) (before : Option (List ℕ)) → is_in us u ≡ true → held_after (Some (with_each f us)) u before ≡ Some (f u)
+committed_state : (f : Uid → List ℕ) (us : List Uid) (u : Uid) (before : Option (List ℕ)) → is_in us u ≡ true →
+    held_after (Some (with_each f us)) u before ≡ Some (f u)
 committed_state f us u before is = ap (λ o. newer o before) (new_of_each f us u is)
 
-kept_state : (f : Uid → List ℕ) (us : List Uid) (u : Uid) (before : Option (List ℕ)) → is_in us u ≡ false → held_after (Some (with_each f us)) u before ≡ before
+kept_state : (f : Uid → List ℕ) (us : List Uid) (u : Uid) (before : Option (List ℕ)) → is_in us u ≡ false →
+    held_after (Some (with_each f us)) u before ≡ before
 kept_state f us u before isnt = ap (λ o. newer o before) (nothing_of_each f us u isnt)
 
 some_first : (shadow committed : Option (List ℕ)) → IsSome shadow → shadow ≡ Some (first_file shadow committed)
@@ -71,7 +75,8 @@ module _ (role : Role) (old new : FileMap) (act : Uid) (us : List Uid) (formed :
   after u is = ap (λ p. held_after p u (held old role u)) (pend_of old role act us objects) ∙ committed_state (new_state old) us u (held old role u) is
 
   after_others : (u : Uid) → is_in us u ≡ false → held_after (pend old role act) u (held old role u) ≡ held old role u
-  after_others u isnt = ap (λ p. held_after p u (held old role u)) (pend_of old role act us objects) ∙ kept_state (new_state old) us u (held old role u) isnt
+  after_others u isnt =
+      ap (λ p. held_after p u (held old role u)) (pend_of old role act us objects) ∙ kept_state (new_state old) us u (held old role u) isnt
 
   pub moves_some : MovesSome role old new act
   moves_some = record {
@@ -95,7 +100,8 @@ module _ (role : Role) (old new : FileMap) (act : Uid) (us : List Uid) (formed :
     where
       there : (u : Uid) → is_in us u ≡ true → old (slot.Shadow u) ≡ None → old (slot.Committed u) ≡ Some (new_state old u)
       there u is none = none_first (old (slot.Shadow u)) (old (slot.Committed u)) none
-          (⊎_elim (λ (h : IsSome (old (slot.Shadow u))). let never : false ≡ true = ap is_some (sym none) ∙ h in cc) (λ (h : IsSome (old (slot.Committed u))). h) (formed.there act u (named u is)))
+          (⊎_elim (λ (h : IsSome (old (slot.Shadow u))). let never : false ≡ true =
+          ap is_some (sym none) ∙ h in cc) (λ (h : IsSome (old (slot.Committed u))). h) (formed.there act u (named u is)))
 
   moved_names : (a u : Uid) → names (pend new role a) u → names (pend old role a) u
   moved_names a u is = subst (λ p. names p u) (moved_pend us old new moves role a) is

@@ -1,5 +1,6 @@
 -- A formatted disk.
-use Rattle.std.proofs.Common.{◌≡◌, ◌⊎◌, ◌∙◌, true, false, ◌==◌, ◌&&◌, List, [], ◌∷◌, ℕ, ◌≤◌, arith, refl, sym, ap, subst, inl, inr, ⊎_elim, map, take, Option, Some, None, length}
+use Rattle.std.proofs.Common.{◌≡◌, ◌⊎◌, ◌∙◌, true, false, ◌==◌, ◌&&◌, List, [], ◌∷◌, ℕ, ◌≤◌, arith, refl, sym, ap, subst, inl, inr, ⊎_elim}
+use Rattle.std.proofs.Common.{map, take, Option, Some, None, length}
 use Rattle.std.specs.Prelude.{IsSome, is_some, IfSome, option_map, Contains, MatchOption}
 use Rattle.std.specs.List.{AllByRecursion, IsDistinct}
 use Rattle.arj_base.specs.State.{state_bytes}
@@ -38,7 +39,8 @@ uid_equivalence = record {
   congr = λ u w v e. ap (λ x. uid_eq x v) (uid_is u w e);
 }
 
-module _ (role : Role) (states : List ObjectState) (old new : FileMap) (empty : (q : Slot) → slot_role q ≡ Some role → old q ≡ None) (owns : AllByRecursion (λ s. role_of s.uid ≡ role) states)
+module _ (role : Role) (states : List ObjectState) (old new : FileMap) (empty : (q : Slot) → slot_role q ≡ Some role →
+    old q ≡ None) (owns : AllByRecursion (λ s. role_of s.uid ≡ role) states)
     (puts : PutsStates place.Committed (map uid_of states) old new) where
   own : (u : Uid) → is_in (map uid_of states) u ≡ true → role_of u ≡ role
   own = all_in (λ u. role_of u ≡ role) states owns
@@ -59,10 +61,12 @@ module _ (role : Role) (states : List ObjectState) (old new : FileMap) (empty : 
       (puts (slot.Prepared role a) (λ e. cc))
 
   -- an object of the role that has a file is one of the states'
-  committed_cases : (u : Uid) → role_of u ≡ role → (new (slot.Committed u) ≡ None) ⊎ ((is_in (map uid_of states) u ≡ true) × IfSome (new (slot.Committed u)) (IsStateOf u))
+  committed_cases : (u : Uid) → role_of u ≡ role →
+      (new (slot.Committed u) ≡ None) ⊎ ((is_in (map uid_of states) u ≡ true) × IfSome (new (slot.Committed u)) (IsStateOf u))
   committed_cases u is = ⊎_elim (λ (e : new (slot.Committed u) ≡ old (slot.Committed u)). inl (e ∙ empty (slot.Committed u) (ap Some is)))
       (λ (e : (w : Uid) × (is_in (map uid_of states) w ≡ true) × (slot.Committed u ≡ slot.Committed w) × IfSome (new (slot.Committed u)) (IsStateOf w)).
-      let same : e.0 ≡ u = cc in inr (subst (λ w. is_in (map uid_of states) w ≡ true) same e.1, subst (λ w. IfSome (new (slot.Committed u)) (IsStateOf w)) same e.3))
+      let same : e.0 ≡ u =
+      cc in inr (subst (λ w. is_in (map uid_of states) w ≡ true) same e.1, subst (λ w. IfSome (new (slot.Committed u)) (IsStateOf w)) same e.3))
       (puts (slot.Committed u) (λ e. cc))
 
   nothing_pends : (a : Uid) → pend new role a ≡ None
@@ -72,7 +76,9 @@ module _ (role : Role) (states : List ObjectState) (old new : FileMap) (empty : 
   nothing_named a u is = subst (λ p. names p u) (nothing_pends a) is
 
   only_held : (u : Uid) → IsSome (held new role u) → is_in (map uid_of states) u ≡ true
-  only_held u is = ⊎_elim (λ (none : new (slot.Committed u) ≡ None). let never : false ≡ true = ap is_some (sym none) ∙ (held_of_role new role u is).1 in cc)
+  only_held u is =
+      ⊎_elim (λ (none : new (slot.Committed u) ≡ None). let never : false ≡ true =
+      ap is_some (sym none) ∙ (held_of_role new role u is).1 in cc)
       (λ (e : (is_in (map uid_of states) u ≡ true) × IfSome (new (slot.Committed u)) (IsStateOf u)). e.0) (committed_cases u (held_of_role new role u is).0)
 
   pub format_pair : HasStates place.Committed states new → HasOnly role new states
@@ -82,14 +88,18 @@ module _ (role : Role) (states : List ObjectState) (old new : FileMap) (empty : 
     none = nothing_pends;
   }
     where
-      each : (ss : List ObjectState) → AllByRecursion (λ s. role_of s.uid ≡ role) ss → HasStates place.Committed ss new → AllByRecursion (λ s. held new role s.uid ≡ Some (state_bytes s)) ss
+      each : (ss : List ObjectState) → AllByRecursion (λ s. role_of s.uid ≡ role) ss → HasStates place.Committed ss new →
+          AllByRecursion (λ s. held new role s.uid ≡ Some (state_bytes s)) ss
       each [] owns has = tt
       each (s ∷ ss) owns has = (held_own new role s.uid owns.0 ∙ has.0, each ss owns.1 has.1)
 
-  pub format_keeps : (a : Uid → Option (List Uid)) (h : Uid → Option Holding) → ((u : Uid) → a u ≡ None) → ((u : Uid) → h u ≡ None) → Keeps role a h new
+  pub format_keeps : (a : Uid → Option (List Uid)) (h : Uid → Option Holding) → ((u : Uid) → a u ≡ None) → ((u : Uid) → h u ≡ None) →
+      Keeps role a h new
   format_keeps a h no_actions no_holdings = record {
     actions_are = λ b. no_actions b ∙ sym (objects b);
-    holders_are = λ u. subst (λ o. MatchOption o ((b : Uid) → is_named (objects_of new role b) u ≡ false) (λ x. is_named (objects_of new role x.act) u ≡ true)) (sym (no_holdings u)) (λ b. ap (λ o. is_named o u) (objects b));
+    holders_are =
+        λ u. subst (λ o. MatchOption o ((b : Uid) →
+        is_named (objects_of new role b) u ≡ false) (λ x. is_named (objects_of new role x.act) u ≡ true)) (sym (no_holdings u)) (λ b. ap (λ o. is_named o u) (objects b));
     shadows_are = λ u is. ap is_some (no_shadow u is) ∙ sym (ap has_shadow (no_holdings u));
   }
     where
@@ -109,10 +119,13 @@ module _ (role : Role) (states : List ObjectState) (old new : FileMap) (empty : 
   }
     where
       count : (us : List Uid) → IsDistinct uid_eq us → ((u : Uid) → Contains us u → is_in (map uid_of states) u ≡ true) → length us ≤ 65535
-      count us distinct each = let le : length us ≤ length (map uid_of states) = length-le_from_is_member uid_equivalence us (map uid_of states) distinct (λ q is. each q (among us q is)) in omega (arith, length_map states)
+      count us distinct each =
+          let le : length us ≤ length (map uid_of states) =
+          length-le_from_is_member uid_equivalence us (map uid_of states) distinct (λ q is. each q (among us q is)) in omega (arith, length_map states)
 
 -- a format that ended too soon
-pub format_first : (role : Role) (states : List ObjectState) (old new : FileMap) → ((q : Slot) → slot_role q ≡ Some role → old q ≡ None) → AllByRecursion (λ s. role_of s.uid ≡ role) states
+pub format_first : (role : Role) (states : List ObjectState) (old new : FileMap) → ((q : Slot) → slot_role q ≡ Some role → old q ≡ None) →
+    AllByRecursion (λ s. role_of s.uid ≡ role) states
     → PutsFirst place.Committed states old new → HasFirst role new states
 format_first role states old new empty owns first = (
   first.count,

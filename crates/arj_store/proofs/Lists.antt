@@ -7,8 +7,10 @@ pub all_more : {X : Type 0} (P : X → Type 0) (xs : List X) (x : X) → AllByRe
 all_more P [] x all p = (p, tt)
 all_more P (y ∷ ys) x all p = (all.0, all_more P ys x all.1 p)
 
-pub all_take_more : {X : Type 0} (P : X → Type 0) (xs : List X) (i : ℕ) (d : X) → i < length xs → AllByRecursion P (take i xs) → P (get_or xs i d) → AllByRecursion P (take (i + 1) xs)
-all_take_more P xs i d within all p = subst (AllByRecursion P) (sym (take_more xs i d within)) (all_more P (take i xs) (get_or xs i d) all p)
+pub all_take_more : {X : Type 0} (P : X → Type 0) (xs : List X) (i : ℕ) (d : X) → i < length xs → AllByRecursion P (take i xs) →
+    P (get_or xs i d) → AllByRecursion P (take (i + 1) xs)
+all_take_more P xs i d within all p =
+    subst (AllByRecursion P) (sym (take_more xs i d within)) (all_more P (take i xs) (get_or xs i d) all p)
 
 pub all_at : {X : Type 0} (P : X → Type 0) (xs : List X) (i : ℕ) (d : X) → i < length xs → AllByRecursion P xs → P (get_or xs i d)
 all_at P [] i d within all = let never : ⊥ = omega arith in absurd never

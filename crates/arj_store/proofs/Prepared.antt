@@ -23,7 +23,8 @@ use Rattle.arj_store.proofs.Changes.{changed_pair, changed_formed, changed_of_ro
 use Rattle.arj_store.proofs.Uids.{uid_is, uid_cases}
 
 -- what holds of each state's object holds of each object of the list
-pub all_in : (P : Uid → Type 0) (states : List ObjectState) → AllByRecursion (λ s. P s.uid) states → (u : Uid) → is_in (map uid_of states) u ≡ true → P u
+pub all_in : (P : Uid → Type 0) (states : List ObjectState) → AllByRecursion (λ s. P s.uid) states → (u : Uid) →
+    is_in (map uid_of states) u ≡ true → P u
 all_in P [] all u is = let never : false ≡ true = is in cc
 all_in P (s ∷ ss) all u is = by (uid_eq u s.uid) refl (all_in P ss all.1 u)
   where
@@ -32,7 +33,8 @@ all_in P (s ∷ ss) all u is = by (uid_eq u s.uid) refl (all_in P ss all.1 u)
     by false e rest = rest (subst (λ (b : Bool). (b || is_in (map uid_of ss) u) ≡ true) e is)
 
 -- where each state has its shadow, the new states are these
-states_there : (file : FileMap) (states : List ObjectState) → HasStates place.Shadow states file → with_each (new_state file) (map uid_of states) ≡ packed states
+states_there : (file : FileMap) (states : List ObjectState) → HasStates place.Shadow states file →
+    with_each (new_state file) (map uid_of states) ≡ packed states
 states_there file [] there = refl
 states_there file (s ∷ ss) there = λ i. (s.uid, first_file (there.0 i) (file (slot.Committed s.uid))) ∷ states_there file ss there.1 i
 
@@ -40,7 +42,8 @@ states_there file (s ∷ ss) there = λ i. (s.uid, first_file (there.0 i) (file 
 pub among : (us : List Uid) (u : Uid) → is_in us u ≡ true → Contains us u
 among us u is = Contains-from_any uid_is u us is
 
-clear_free : (file : FileMap) (role : Role) (act : Uid) (states : List ObjectState) → AllByRecursion (IsClear file role act) states → AllByRecursion (λ s. InDoubt file role s.uid → ⊥) states
+clear_free : (file : FileMap) (role : Role) (act : Uid) (states : List ObjectState) → AllByRecursion (IsClear file role act) states →
+    AllByRecursion (λ s. InDoubt file role s.uid → ⊥) states
 clear_free file role act [] clear = tt
 clear_free file role act (s ∷ ss) clear = (clear.0.free, clear_free file role act ss clear.1)
 
@@ -88,7 +91,8 @@ module _ (role : Role) (act : Uid) (states : List ObjectState) (old new : FileMa
         moved (s ∷ ss) there = (same_shadow s.uid ∙ there.0, moved ss there.1)
 
     pub put_others : (a : Uid) → a ≢ act → pend new role a ≡ pend old role a
-    put_others a other = same_pend puts.between new role a (puts.file.others (slot.Prepared role a) (λ e. other cc) (λ e. cc)) same_state ∙ mid_pair.prepared a
+    put_others a other =
+        same_pend puts.between new role a (puts.file.others (slot.Prepared role a) (λ e. other cc) (λ e. cc)) same_state ∙ mid_pair.prepared a
 
     pub put_adds : Adds role old new act states
     put_adds = record {
@@ -98,7 +102,8 @@ module _ (role : Role) (act : Uid) (states : List ObjectState) (old new : FileMa
     }
 
     -- what an action names now, it named before, or it is the action that is put
-    pub put_names : (a u : Uid) → names (pend new role a) u → ((a ≡ act) × (is_in (map uid_of states) u ≡ true)) ⊎ ((a ≢ act) × names (pend old role a) u)
+    pub put_names : (a u : Uid) → names (pend new role a) u →
+        ((a ≡ act) × (is_in (map uid_of states) u ≡ true)) ⊎ ((a ≢ act) × names (pend old role a) u)
     put_names a u is = ⊎_elim
         (λ (e : a ≡ act). inl (e, subst (λ o. is_named o u ≡ true) (ap (objects_of new role) e ∙ put_objects) (named_if new role a u is)))
         (λ (other : a ≢ act). inr (other, subst (λ p. names p u) (put_others a other) is)) (uid_cases a act)
@@ -137,4 +142,5 @@ module _ (role : Role) (act : Uid) (states : List ObjectState) (old new : FileMa
             (λ (e : (h.0 ≢ act) × names (pend old role h.0) u). inl (inr (h.0, e.1))) (put_names h.0 u h.1))
 
     pub put_of_role : OnlyOfRole role old new
-    put_of_role q other tmp = puts.file.others q (λ e. other (ap slot_role e)) tmp ∙ changed_of_role role (λ u. is_in (map uid_of states) u ≡ true) old puts.between formed own free puts.shadows q other tmp
+    put_of_role q other tmp =
+        puts.file.others q (λ e. other (ap slot_role e)) tmp ∙ changed_of_role role (λ u. is_in (map uid_of states) u ≡ true) old puts.between formed own free puts.shadows q other tmp

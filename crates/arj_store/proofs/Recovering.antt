@@ -1,5 +1,6 @@
 -- Steps of a recovery, and what it leaves.
-use Rattle.std.proofs.Common.{◌≡◌, ◌≢◌, ◌⊎◌, ◌∙◌, Bool, true, false, List, [], ◌∷◌, ℕ, zero, suc, ◌+◌, ◌<◌, take, get_or, length, arith, refl, sym, ap, subst, inl, inr, ⊎_elim, Option, Some, None}
+use Rattle.std.proofs.Common.{◌≡◌, ◌≢◌, ◌⊎◌, ◌∙◌, Bool, true, false, List, [], ◌∷◌, ℕ, zero, suc, ◌+◌, ◌<◌, take, get_or, length, arith}
+use Rattle.std.proofs.Common.{refl, sym, ap, subst, inl, inr, ⊎_elim, Option, Some, None}
 use Rattle.std.specs.Prelude.{IsSome, is_some, IfSome, option_map, MatchOption, Contains}
 use Rattle.std.proofs.lemmas.Bool.{cases_Bool}
 use Rattle.std.proofs.lemmas.List.{take_more}
@@ -16,7 +17,8 @@ use Rattle.arj_disk.specs.Says.{role_of, OnlyOfRole}
 use Rattle.arj_store.specs.Says.{named_in, InDoubt}
 use Rattle.arj_store.specs.declared.memory.Holding.{Holding}
 use Rattle.arj_store.specs.OfFiles.{SamePair}
-use Rattle.arj_store.specs.Recovery.{ReadsAction, ReadsSlot, ReadsActions, SortsShadow, SortsSlot, SortsShadows, DropsShadow, DropsShadows, IsUnheld, act_of}
+use Rattle.arj_store.specs.Recovery.{ReadsAction, ReadsSlot, ReadsActions, SortsShadow, SortsSlot, SortsShadows, DropsShadow, DropsShadows}
+use Rattle.arj_store.specs.Recovery.{IsUnheld, act_of}
 use Rattle.arj_store.specs.Shadow.{is_in, is_named, objects_of, has_shadow, Keeps, HoldsAll}
 use Rattle.arj_store.specs.Table.{Sets, SameTable}
 use Rattle.arj_store.proofs.Changes.{changed_pair, changed_formed, changed_of_role, same_prepared}
@@ -29,8 +31,10 @@ only_one x q zero within is = sym is
 only_one x q (suc k) within is = let never : ⊥ = omega arith in absurd never
 
 -- a name that was seen, or the one at this place
-pub seen_more : (xs : List Slot) (i : ℕ) (d q : Slot) → i < length xs → Contains (take (i + 1) xs) q → Contains (take i xs) q ⊎ (q ≡ get_or xs i d)
-seen_more xs i d q within is = ⊎_elim (λ (h : Contains (take i xs) q). inl h) (λ (h : Contains (get_or xs i d ∷ []) q). inr (only_one (get_or xs i d) q h.0 h.1 h.2))
+pub seen_more : (xs : List Slot) (i : ℕ) (d q : Slot) → i < length xs → Contains (take (i + 1) xs) q →
+    Contains (take i xs) q ⊎ (q ≡ get_or xs i d)
+seen_more xs i d q within is =
+    ⊎_elim (λ (h : Contains (take i xs) q). inl h) (λ (h : Contains (get_or xs i d ∷ []) q). inr (only_one (get_or xs i d) q h.0 h.1 h.2))
     (Contains-append_cases (take i xs) (get_or xs i d ∷ []) q (subst (λ ys. Contains ys q) (take_more xs i d within) is))
 
 nothing_seen : (q : Slot) → Contains (take 0 []) q → ⊥
@@ -42,25 +46,31 @@ some_or_none (Some us) never = absurd (never us refl)
 
 -- ---- the prepared actions
 
-module _ (xs : List Slot) (i : ℕ) (d : Slot) (role : Role) (file : FileMap) (a a' : Uid → Option (List Uid)) (h h' : Uid → Option Holding) (within : i < length xs) (so_far : ReadsActions (take i xs) role file a h) where
+module _ (xs : List Slot) (i : ℕ) (d : Slot) (role : Role) (file : FileMap) (a a' : Uid → Option (List Uid)) (h h' : Uid →
+    Option Holding) (within : i < length xs) (so_far : ReadsActions (take i xs) role file a h) where
   -- nothing was added
-  read_same : SameTable a a' → SameTable h h' → ((act : Uid) → get_or xs i d ≡ slot.Prepared role act → objects_of file role act ≡ None) → ReadsActions (take (i + 1) xs) role file a' h'
+  read_same : SameTable a a' → SameTable h h' → ((act : Uid) → get_or xs i d ≡ slot.Prepared role act → objects_of file role act ≡ None) →
+      ReadsActions (take (i + 1) xs) role file a' h'
   read_same sa sh none = record {
     sound = λ act us is. so_far.sound act us (sym (sa act) ∙ is);
     complete = λ act is. ⊎_elim (λ (seen : Contains (take i xs) (slot.Prepared role act)). sa act ∙ so_far.complete act seen)
         (λ (here : slot.Prepared role act ≡ get_or xs i d).
-        sa act ∙ some_or_none (a act) (λ us some. let never : Some us ≡ None = sym (so_far.sound act us some) ∙ none act (sym here) in cc) ∙ sym (none act (sym here)))
+        sa act ∙ some_or_none (a act) (λ us some. let never : Some us ≡ None =
+        sym (so_far.sound act us some) ∙ none act (sym here) in cc) ∙ sym (none act (sym here)))
         (seen_more xs i d (slot.Prepared role act) within is);
-    held = λ u. subst (λ o. MatchOption o ((act : Uid) → is_named (a' act) u ≡ false) (λ x. (is_named (a' x.act) u ≡ true) × (x.shadow ≡ false))) (sym (sh u)) (kept u (h u) (so_far.held u));
+    held = λ u. subst (λ o. MatchOption o ((act : Uid) →
+        is_named (a' act) u ≡ false) (λ x. (is_named (a' x.act) u ≡ true) × (x.shadow ≡ false))) (sym (sh u)) (kept u (h u) (so_far.held u));
   }
     where
-      kept : (u : Uid) (o : Option Holding) → MatchOption o ((act : Uid) → is_named (a act) u ≡ false) (λ x. (is_named (a x.act) u ≡ true) × (x.shadow ≡ false))
+      kept : (u : Uid) (o : Option Holding) →
+          MatchOption o ((act : Uid) → is_named (a act) u ≡ false) (λ x. (is_named (a x.act) u ≡ true) × (x.shadow ≡ false))
           → MatchOption o ((act : Uid) → is_named (a' act) u ≡ false) (λ x. (is_named (a' x.act) u ≡ true) × (x.shadow ≡ false))
       kept u None none = λ act. ap (λ o. is_named o u) (sa act) ∙ none act
       kept u (Some x) named = (ap (λ o. is_named o u) (sa x.act) ∙ named.0, named.1)
 
   -- an action with its objects was added
-  read_one : (act : Uid) (us : List Uid) → get_or xs i d ≡ slot.Prepared role act → objects_of file role act ≡ Some us → Sets a a' act (Some us) → HoldsAll us act false h h' → ReadsActions (take (i + 1) xs) role file a' h'
+  read_one : (act : Uid) (us : List Uid) → get_or xs i d ≡ slot.Prepared role act → objects_of file role act ≡ Some us →
+      Sets a a' act (Some us) → HoldsAll us act false h h' → ReadsActions (take (i + 1) xs) role file a' h'
   read_one act us is objects sets holds = record {
     sound = λ b ws some. ⊎_elim (λ (e : b ≡ act). ap (objects_of file role) e ∙ objects ∙ sym sets.here ∙ ap a' (sym e) ∙ some) (λ (other : b ≢ act). so_far.sound b ws (sym (sets.others b other) ∙ some)) (uid_cases b act);
     complete = λ b seen. ⊎_elim (λ (e : b ≡ act). ap a' e ∙ sets.here ∙ sym objects ∙ ap (objects_of file role) (sym e))
@@ -68,24 +78,29 @@ module _ (xs : List Slot) (i : ℕ) (d : Slot) (role : Role) (file : FileMap) (a
         (λ (here : slot.Prepared role b ≡ get_or xs i d). absurd (other (same b act (here ∙ is)))) (seen_more xs i d (slot.Prepared role b) within seen))
         (uid_cases b act);
     held = λ u. ⊎_elim
-        (λ (among : is_in us u ≡ true). subst (λ o. MatchOption o ((b : Uid) → is_named (a' b) u ≡ false) (λ x. (is_named (a' x.act) u ≡ true) × (x.shadow ≡ false))) (sym (holds.here u among))
+        (λ (among : is_in us u ≡ true). subst (λ o. MatchOption o ((b : Uid) →
+        is_named (a' b) u ≡ false) (λ x. (is_named (a' x.act) u ≡ true) × (x.shadow ≡ false))) (sym (holds.here u among))
         (ap (λ o. is_named o u) sets.here ∙ among, refl))
-        (λ (apart : is_in us u ≡ false). subst (λ o. MatchOption o ((b : Uid) → is_named (a' b) u ≡ false) (λ x. (is_named (a' x.act) u ≡ true) × (x.shadow ≡ false))) (sym (holds.others u apart))
+        (λ (apart : is_in us u ≡ false). subst (λ o. MatchOption o ((b : Uid) →
+        is_named (a' b) u ≡ false) (λ x. (is_named (a' x.act) u ≡ true) × (x.shadow ≡ false))) (sym (holds.others u apart))
         (kept u apart (h u) (so_far.held u))) (cases_Bool (is_in us u));
   }
     where
       same : (b c : Uid) → slot.Prepared role b ≡ slot.Prepared role c → b ≡ c
       same b c e = cc
 
-      kept : (u : Uid) → is_in us u ≡ false → (o : Option Holding) → MatchOption o ((b : Uid) → is_named (a b) u ≡ false) (λ x. (is_named (a x.act) u ≡ true) × (x.shadow ≡ false))
+      kept : (u : Uid) → is_in us u ≡ false → (o : Option Holding) →
+          MatchOption o ((b : Uid) → is_named (a b) u ≡ false) (λ x. (is_named (a x.act) u ≡ true) × (x.shadow ≡ false))
           → MatchOption o ((b : Uid) → is_named (a' b) u ≡ false) (λ x. (is_named (a' x.act) u ≡ true) × (x.shadow ≡ false))
-      kept u apart None none = λ b. ⊎_elim (λ (e : b ≡ act). ap (λ o. is_named o u) (ap a' e ∙ sets.here) ∙ apart) (λ (other : b ≢ act). ap (λ o. is_named o u) (sets.others b other) ∙ none b) (uid_cases b act)
+      kept u apart None none =
+          λ b. ⊎_elim (λ (e : b ≡ act). ap (λ o. is_named o u) (ap a' e ∙ sets.here) ∙ apart) (λ (other : b ≢ act). ap (λ o. is_named o u) (sets.others b other) ∙ none b) (uid_cases b act)
       kept u apart (Some x) named = (ap (λ o. is_named o u) (sets.others x.act different) ∙ named.0, named.1)
         where
           -- what the action had before is what its file names
           before : (o : Option (List Uid)) → a act ≡ o → is_named o u ≡ true → ⊥
           before None is never = let no : false ≡ true = never in cc
-          before (Some ws) is found = let never : true ≡ false = sym found ∙ ap (λ o. is_named o u) (sym (so_far.sound act ws is) ∙ objects) ∙ apart in cc
+          before (Some ws) is found =
+              let never : true ≡ false = sym found ∙ ap (λ o. is_named o u) (sym (so_far.sound act ws is) ∙ objects) ∙ apart in cc
 
           different : x.act ≢ act
           different e = before (a act) refl (subst (λ b. is_named (a b) u ≡ true) e named.0)
@@ -93,26 +108,36 @@ module _ (xs : List Slot) (i : ℕ) (d : Slot) (role : Role) (file : FileMap) (a
   pub read_step : (s : Slot) → s ≡ get_or xs i d → ReadsSlot role file s a h a' h' → ReadsActions (take (i + 1) xs) role file a' h'
   read_step s here = ⊎_elim
       (λ (e : (act : Uid) × (s ≡ slot.Prepared role act) × ReadsAction role file act a h a' h'). by e.0 (sym here ∙ e.1) (objects_of file role e.0) refl e.2)
-      (λ (e : ((act : Uid) → s ≢ slot.Prepared role act) × SameTable a a' × SameTable h h'). read_same e.1 e.2 (λ act is. absurd (e.0 act (here ∙ is))))
+      (λ (e : ((act : Uid) →
+      s ≢ slot.Prepared role act) × SameTable a a' × SameTable h h'). read_same e.1 e.2 (λ act is. absurd (e.0 act (here ∙ is))))
     where
-      none_here : (act : Uid) → get_or xs i d ≡ slot.Prepared role act → objects_of file role act ≡ None → (b : Uid) → get_or xs i d ≡ slot.Prepared role b → objects_of file role b ≡ None
-      none_here act is none b is' = let same : slot.Prepared role act ≡ slot.Prepared role b = sym is ∙ is' in let e : act ≡ b = cc in ap (objects_of file role) (sym e) ∙ none
+      none_here : (act : Uid) → get_or xs i d ≡ slot.Prepared role act → objects_of file role act ≡ None → (b : Uid) →
+          get_or xs i d ≡ slot.Prepared role b → objects_of file role b ≡ None
+      none_here act is none b is' =
+          let same : slot.Prepared role act ≡ slot.Prepared role b =
+          sym is ∙ is' in let e : act ≡ b = cc in ap (objects_of file role) (sym e) ∙ none
 
       by : (act : Uid) → get_or xs i d ≡ slot.Prepared role act → (o : Option (List Uid)) → objects_of file role act ≡ o
           → MatchOption (objects_of file role act) (SameTable a a' × SameTable h h') (λ us. Sets a a' act (Some us) × HoldsAll us act false h h') → ReadsActions (take (i + 1) xs) role file a' h'
-      by act is None none reads = let r = subst (λ o. MatchOption o (SameTable a a' × SameTable h h') (λ us. Sets a a' act (Some us) × HoldsAll us act false h h')) none reads in read_same r.0 r.1 (none_here act is none)
-      by act is (Some us) some reads = let r = subst (λ o. MatchOption o (SameTable a a' × SameTable h h') (λ us. Sets a a' act (Some us) × HoldsAll us act false h h')) some reads in read_one act us is some r.0 r.1
+      by act is None none reads =
+          let r = subst (λ o. MatchOption o (SameTable a a' × SameTable h h') (λ us. Sets a a' act (Some us) × HoldsAll us act false h h')) none reads in read_same r.0 r.1 (none_here act is none)
+      by act is (Some us) some reads =
+          let r = subst (λ o. MatchOption o (SameTable a a' × SameTable h h') (λ us. Sets a a' act (Some us) × HoldsAll us act false h h')) some reads in read_one act us is some r.0 r.1
 
 -- the same, of the files as they are now
-pub read_step_now : (xs : List Slot) (i : ℕ) (d : Slot) (role : Role) (file now : FileMap) (a a' : Uid → Option (List Uid)) (h h' : Uid → Option Holding) → i < length xs → ReadsActions (take i xs) role file a h → now ≡ file
+pub read_step_now : (xs : List Slot) (i : ℕ) (d : Slot) (role : Role) (file now : FileMap) (a a' : Uid → Option (List Uid)) (h h' : Uid →
+    Option Holding) → i < length xs → ReadsActions (take i xs) role file a h → now ≡ file
     → ReadsSlot role now (get_or xs i d) a h a' h' → ReadsActions (take (i + 1) xs) role file a' h'
-read_step_now xs i d role file now a a' h h' within so_far same reads = read_step xs i d role file a a' h h' within so_far (get_or xs i d) refl (subst (λ f. ReadsSlot role f (get_or xs i d) a h a' h') same reads)
+read_step_now xs i d role file now a a' h h' within so_far same reads =
+    read_step xs i d role file a a' h h' within so_far (get_or xs i d) refl (subst (λ f. ReadsSlot role f (get_or xs i d) a h a' h') same reads)
 
-pub read_none : (xs : List Slot) (role : Role) (file : FileMap) (a : Uid → Option (List Uid)) (h : Uid → Option Holding) → ((u : Uid) → a u ≡ None) → ((u : Uid) → h u ≡ None) → ReadsActions (take 0 xs) role file a h
+pub read_none : (xs : List Slot) (role : Role) (file : FileMap) (a : Uid → Option (List Uid)) (h : Uid → Option Holding) →
+    ((u : Uid) → a u ≡ None) → ((u : Uid) → h u ≡ None) → ReadsActions (take 0 xs) role file a h
 read_none xs role file a h no_action none = record {
   sound = λ act us is. let never : None ≡ Some us = sym (no_action act) ∙ is in cc;
   complete = λ act is. absurd (empty xs (slot.Prepared role act) is);
-  held = λ u. subst (λ o. MatchOption o ((act : Uid) → is_named (a act) u ≡ false) (λ x. (is_named (a x.act) u ≡ true) × (x.shadow ≡ false))) (sym (none u)) (λ act. ap (λ o. is_named o u) (no_action act));
+  held = λ u. subst (λ o. MatchOption o ((act : Uid) →
+      is_named (a act) u ≡ false) (λ x. (is_named (a x.act) u ≡ true) × (x.shadow ≡ false))) (sym (none u)) (λ act. ap (λ o. is_named o u) (no_action act));
 }
   where
     empty : (xs : List Slot) (q : Slot) → Contains (take 0 xs) q → ⊥
@@ -122,7 +147,9 @@ read_none xs role file a h no_action none = record {
 -- ---- the shadows
 
 -- what may go of the shadows, after one more step
-pub drops_step : (role : Role) (before after : Uid → Option Holding) (old mid new : FileMap) → ((u : Uid) → act_of (after u) ≡ act_of (before u)) → DropsShadows role before old mid → DropsShadow role after mid new → DropsShadows role before old new
+pub drops_step : (role : Role) (before after : Uid → Option Holding) (old mid new : FileMap) →
+    ((u : Uid) → act_of (after u) ≡ act_of (before u)) → DropsShadows role before old mid → DropsShadow role after mid new →
+    DropsShadows role before old new
 drops_step role before after old mid new acts drops step q tmp = ⊎_elim (λ (same : new ≡ mid). kept (λ i. same i q))
     (λ (e : (u : Uid) × (role_of u ≡ role) × (after u ≡ None) × Removes mid new (slot.Shadow u)).
     ⊎_elim (λ (here : q ≡ slot.Shadow e.0). inr (e.0, (e.1, unheld e.0 e.2), here, subst (λ o. IfSome o (IsStateOf e.0)) (sym (ap new here ∙ e.3.gone)) tt))
@@ -146,13 +173,15 @@ contains_at xs i d within = (i, within, any_default xs i (get_or xs i d) d withi
     any_default (x ∷ xs) zero d e within = refl
     any_default (x ∷ xs) (suc i) d e within = any_default xs i d e (omega arith)
 
-module _ (xs : List Slot) (i : ℕ) (d : Slot) (role : Role) (old mid new : FileMap) (before h h' : Uid → Option Holding) (within : i < length xs) (there : (q : Slot) → Contains xs q → IsSome (old q))
+module _ (xs : List Slot) (i : ℕ) (d : Slot) (role : Role) (old mid new : FileMap) (before h h' : Uid →
+    Option Holding) (within : i < length xs) (there : (q : Slot) → Contains xs q → IsSome (old q))
     (sorted : SortsShadows (take i xs) role old before mid h) where
   same_shadow : (u w : Uid) → slot.Shadow u ≡ slot.Shadow w → u ≡ w
   same_shadow u w e = cc
 
   -- another name
-  sort_other : SameTable h h' → new ≡ mid → ((u : Uid) → get_or xs i d ≡ slot.Shadow u → role_of u ≢ role) → SortsShadows (take (i + 1) xs) role old before new h'
+  sort_other : SameTable h h' → new ≡ mid → ((u : Uid) → get_or xs i d ≡ slot.Shadow u → role_of u ≢ role) →
+      SortsShadows (take (i + 1) xs) role old before new h'
   sort_other sh same not_own = record {
     files = subst (DropsShadows role before old) (sym same) sorted.files;
     fewer = λ u is. sorted.fewer u (subst (λ f. IsSome (f (slot.Shadow u))) same is);
@@ -164,10 +193,12 @@ module _ (xs : List Slot) (i : ℕ) (d : Slot) (role : Role) (old mid new : File
   }
 
   -- a shadow that no action holds
-  sort_none : (u : Uid) → get_or xs i d ≡ slot.Shadow u → role_of u ≡ role → h u ≡ None → Sets h h' u None → Removes mid new (slot.Shadow u) → SortsShadows (take (i + 1) xs) role old before new h'
+  sort_none : (u : Uid) → get_or xs i d ≡ slot.Shadow u → role_of u ≡ role → h u ≡ None → Sets h h' u None →
+      Removes mid new (slot.Shadow u) → SortsShadows (take (i + 1) xs) role old before new h'
   sort_none w is mine free sets removes = record {
     files = drops_step role before h old mid new sorted.acts sorted.files (inr (w, mine, free, removes));
-    fewer = λ u some. ⊎_elim (λ (e : u ≡ w). let never : false ≡ true = ap is_some (sym (ap (λ v. new (slot.Shadow v)) e ∙ removes.gone)) ∙ some in cc)
+    fewer = λ u some. ⊎_elim (λ (e : u ≡ w). let never : false ≡ true =
+        ap is_some (sym (ap (λ v. new (slot.Shadow v)) e ∙ removes.gone)) ∙ some in cc)
         (λ (other : u ≢ w). sorted.fewer u (ap is_some (sym (stays u other)) ∙ some)) (uid_cases u w);
     acts = λ u. ⊎_elim (λ (e : u ≡ w). ap act_of (ap h' e ∙ sets.here ∙ sym free ∙ ap h (sym e)) ∙ sorted.acts u) (λ (other : u ≢ w). ap act_of (sets.others u other) ∙ sorted.acts u) (uid_cases u w);
     flags = λ u own seen. ⊎_elim (λ (e : u ≡ w). ap is_some (ap (λ v. new (slot.Shadow v)) e ∙ removes.gone) ∙ sym (ap has_shadow (ap h' e ∙ sets.here)))
@@ -181,7 +212,8 @@ module _ (xs : List Slot) (i : ℕ) (d : Slot) (role : Role) (old mid new : File
       stays u other = removes.others (slot.Shadow u) (λ e. other (same_shadow u w e))
 
   -- a shadow that an action holds
-  sort_held : (u : Uid) (x : Holding) → get_or xs i d ≡ slot.Shadow u → role_of u ≡ role → h u ≡ Some x → Sets h h' u (Some (record { act = x.act; shadow = true })) → new ≡ mid → SortsShadows (take (i + 1) xs) role old before new h'
+  sort_held : (u : Uid) (x : Holding) → get_or xs i d ≡ slot.Shadow u → role_of u ≡ role → h u ≡ Some x →
+      Sets h h' u (Some (record { act = x.act; shadow = true })) → new ≡ mid → SortsShadows (take (i + 1) xs) role old before new h'
   sort_held w x is mine holds sets same = record {
     files = subst (DropsShadows role before old) (sym same) sorted.files;
     fewer = λ u some. sorted.fewer u (subst (λ f. IsSome (f (slot.Shadow u))) same some);
@@ -211,27 +243,47 @@ module _ (xs : List Slot) (i : ℕ) (d : Slot) (role : Role) (old mid new : File
   pub sort_step : (s : Slot) → s ≡ get_or xs i d → SortsSlot role s mid h new h' → SortsShadows (take (i + 1) xs) role old before new h'
   sort_step s here = ⊎_elim
       (λ (e : (u : Uid) × (s ≡ slot.Shadow u) × (role_of u ≡ role) × SortsShadow u mid h new h'). by e.0 (sym here ∙ e.1) e.2 (h e.0) refl e.3)
-      (λ (e : ((u : Uid) → s ≡ slot.Shadow u → role_of u ≢ role) × SameTable h h' × (new ≡ mid)). sort_other e.1 e.2 (λ u is. e.0 u (here ∙ is)))
+      (λ (e : ((u : Uid) → s ≡ slot.Shadow u →
+      role_of u ≢ role) × SameTable h h' × (new ≡ mid)). sort_other e.1 e.2 (λ u is. e.0 u (here ∙ is)))
     where
       by : (u : Uid) → get_or xs i d ≡ slot.Shadow u → role_of u ≡ role → (o : Option Holding) → h u ≡ o
-          → MatchOption (h u) (Sets h h' u None × Removes mid new (slot.Shadow u)) (λ x. Sets h h' u (Some (record { act = x.act; shadow = true })) × (new ≡ mid)) → SortsShadows (take (i + 1) xs) role old before new h'
-      by u is own None none sorts = let r = subst (λ o. MatchOption o (Sets h h' u None × Removes mid new (slot.Shadow u)) (λ x. Sets h h' u (Some (record { act = x.act; shadow = true })) × (new ≡ mid))) none sorts in sort_none u is own none r.0 r.1
-      by u is own (Some x) some sorts = let r = subst (λ o. MatchOption o (Sets h h' u None × Removes mid new (slot.Shadow u)) (λ x. Sets h h' u (Some (record { act = x.act; shadow = true })) × (new ≡ mid))) some sorts in sort_held u x is own some r.0 r.1
+          → MatchOption (h u) (Sets h h' u None × Removes mid new (slot.Shadow u)) (λ x. Sets h h' u (Some (record {
+            act = x.act;
+            shadow =
+                true;
+          })) × (new ≡ mid)) → SortsShadows (take (i + 1) xs) role old before new h'
+      by u is own None none sorts =
+          let r = subst (λ o. MatchOption o (Sets h h' u None × Removes mid new (slot.Shadow u)) (λ x. Sets h h' u (Some (record {
+            act =
+                x.act;
+            shadow = true;
+          })) × (new ≡ mid))) none sorts in sort_none u is own none r.0 r.1
+      by u is own (Some x) some sorts =
+          let r = subst (λ o. MatchOption o (Sets h h' u None × Removes mid new (slot.Shadow u)) (λ x. Sets h h' u (Some (record {
+            act =
+                x.act;
+            shadow = true;
+          })) × (new ≡ mid))) some sorts in sort_held u x is own some r.0 r.1
 
 -- ---- what is recovered
 
-module _ (role : Role) (xs : List Slot) (old new : FileMap) (formed : FormedFor old role) (lists : Lists old xs) (a : Uid → Option (List Uid)) (h h' : Uid → Option Holding) (read : ReadsActions xs role old a h) where
+module _ (role : Role) (xs : List Slot) (old new : FileMap) (formed : FormedFor old role) (lists : Lists old xs) (a : Uid →
+    Option (List Uid)) (h h' : Uid → Option Holding) (read : ReadsActions xs role old a h) where
   pub kept_actions : (act : Uid) → a act ≡ objects_of old role act
   kept_actions act = by (old (slot.Prepared role act)) refl
     where
       by : (o : Option (List ℕ)) → old (slot.Prepared role act) ≡ o → a act ≡ objects_of old role act
-      by None none = some_or_none (a act) (λ us some. let never : Some us ≡ None = sym (read.sound act us some) ∙ ap (option_map named_in) none in cc) ∙ sym (ap (option_map named_in) none)
+      by None none =
+          some_or_none (a act) (λ us some. let never : Some us ≡ None =
+          sym (read.sound act us some) ∙ ap (option_map named_in) none in cc) ∙ sym (ap (option_map named_in) none)
       by (Some bytes) some = read.complete act ((lists.there (slot.Prepared role act)).0 (ap is_some some))
 
-  holder : (u : Uid) → MatchOption (h u) ((act : Uid) → is_named (objects_of old role act) u ≡ false) (λ x. is_named (objects_of old role x.act) u ≡ true)
+  holder : (u : Uid) →
+      MatchOption (h u) ((act : Uid) → is_named (objects_of old role act) u ≡ false) (λ x. is_named (objects_of old role x.act) u ≡ true)
   holder u = by (h u) (read.held u)
     where
-      by : (o : Option Holding) → MatchOption o ((act : Uid) → is_named (a act) u ≡ false) (λ x. (is_named (a x.act) u ≡ true) × (x.shadow ≡ false))
+      by : (o : Option Holding) →
+          MatchOption o ((act : Uid) → is_named (a act) u ≡ false) (λ x. (is_named (a x.act) u ≡ true) × (x.shadow ≡ false))
           → MatchOption o ((act : Uid) → is_named (objects_of old role act) u ≡ false) (λ x. is_named (objects_of old role x.act) u ≡ true)
       by None none = λ act. ap (λ o. is_named o u) (sym (kept_actions act)) ∙ none act
       by (Some x) named = ap (λ o. is_named o u) (sym (kept_actions x.act)) ∙ named.0
@@ -239,7 +291,9 @@ module _ (role : Role) (xs : List Slot) (old new : FileMap) (formed : FormedFor 
   pub no_flags : (u : Uid) → has_shadow (h u) ≡ false
   no_flags u = by (h u) (read.held u)
     where
-      by : (o : Option Holding) → MatchOption o ((act : Uid) → is_named (a act) u ≡ false) (λ x. (is_named (a x.act) u ≡ true) × (x.shadow ≡ false)) → has_shadow o ≡ false
+      by : (o : Option Holding) →
+          MatchOption o ((act : Uid) → is_named (a act) u ≡ false) (λ x. (is_named (a x.act) u ≡ true) × (x.shadow ≡ false)) →
+          has_shadow o ≡ false
       by None none = refl
       by (Some x) named = named.1
 
@@ -247,7 +301,10 @@ module _ (role : Role) (xs : List Slot) (old new : FileMap) (formed : FormedFor 
   unheld_own u is = is.0
 
   unheld_free : (u : Uid) → IsUnheld role h u → InDoubt old role u → ⊥
-  unheld_free u is doubt = let never : false ≡ true = sym (subst (λ o. MatchOption o ((act : Uid) → is_named (objects_of old role act) u ≡ false) (λ x. is_named (objects_of old role x.act) u ≡ true)) is.1 (holder u) doubt.0)
+  unheld_free u is doubt =
+      let never : false ≡ true =
+      sym (subst (λ o. MatchOption o ((act : Uid) →
+      is_named (objects_of old role act) u ≡ false) (λ x. is_named (objects_of old role x.act) u ≡ true)) is.1 (holder u) doubt.0)
       ∙ named_if old role doubt.0 u doubt.1 in cc
 
   pub recovered_pair : DropsShadows role h old new → SamePair role old new
@@ -267,16 +324,20 @@ module _ (role : Role) (xs : List Slot) (old new : FileMap) (formed : FormedFor 
   }
     where
       objects : (act : Uid) → objects_of new role act ≡ objects_of old role act
-      objects act = ap (option_map named_in) (same_prepared role (IsUnheld role h) old new formed unheld_own unheld_free sorts.files role act)
+      objects act =
+          ap (option_map named_in) (same_prepared role (IsUnheld role h) old new formed unheld_own unheld_free sorts.files role act)
 
-      by : (u : Uid) (o p : Option Holding) → act_of p ≡ act_of o → MatchOption o ((act : Uid) → is_named (objects_of old role act) u ≡ false) (λ x. is_named (objects_of old role x.act) u ≡ true)
+      by : (u : Uid) (o p : Option Holding) → act_of p ≡ act_of o →
+          MatchOption o ((act : Uid) → is_named (objects_of old role act) u ≡ false) (λ x. is_named (objects_of old role x.act) u ≡ true)
           → MatchOption p ((act : Uid) → is_named (objects_of new role act) u ≡ false) (λ x. is_named (objects_of new role x.act) u ≡ true)
       by u None None same none = λ act. ap (λ o. is_named o u) (objects act) ∙ none act
       by u None (Some y) same none = let never : Some y.act ≡ None = same in cc
       by u (Some x) None same named = let never : None ≡ Some x.act = same in cc
-      by u (Some x) (Some y) same named = let e : y.act ≡ x.act = cc in ap (λ b. is_named (objects_of new role b) u) e ∙ ap (λ o. is_named o u) (objects x.act) ∙ named
+      by u (Some x) (Some y) same named =
+          let e : y.act ≡ x.act = cc in ap (λ b. is_named (objects_of new role b) u) e ∙ ap (λ o. is_named o u) (objects x.act) ∙ named
 
-      flag : (u : Uid) → role_of u ≡ role → (o : Option (List ℕ)) → new (slot.Shadow u) ≡ o → (b : Bool) → has_shadow (h' u) ≡ b → is_some (new (slot.Shadow u)) ≡ has_shadow (h' u)
+      flag : (u : Uid) → role_of u ≡ role → (o : Option (List ℕ)) → new (slot.Shadow u) ≡ o → (b : Bool) → has_shadow (h' u) ≡ b →
+          is_some (new (slot.Shadow u)) ≡ has_shadow (h' u)
       flag u own (Some bytes) some b e = sorts.flags u own ((lists.there (slot.Shadow u)).0 (sorts.fewer u (ap is_some some)))
       flag u own None none true e = let never : false ≡ true = ap is_some (sym none) ∙ sorts.only u own e in cc
       flag u own None none false e = ap is_some none ∙ sym e

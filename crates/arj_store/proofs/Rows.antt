@@ -1,12 +1,14 @@
 -- What the calls of a store did, as rows of effects.
-use Rattle.std.proofs.Common.{◌≡◌, ◌⊎◌, ◌∙◌, Bool, true, false, ◌||◌, ◌&&◌, List, [], ◌∷◌, ◌++◌, ℕ, refl, sym, ap, subst, inl, inr, ⊎_elim, map, filter, cond, Option, Some, None}
+use Rattle.std.proofs.Common.{◌≡◌, ◌⊎◌, ◌∙◌, Bool, true, false, ◌||◌, ◌&&◌, List, [], ◌∷◌, ◌++◌, ℕ, refl, sym, ap, subst, inl, inr, ⊎_elim}
+use Rattle.std.proofs.Common.{map, filter, cond, Option, Some, None}
 use Rattle.std.specs.Prelude.{IsSome, is_some, MatchOption, if◌then◌else◌}
 use Rattle.std.proofs.lemmas.Bool.{cases_Bool}
 use Rattle.arj_base.specs.Uid.{uid_eq}
 use Rattle.arj_base.specs.declared.state.ObjectState.{ObjectState}
 use Rattle.arj_base.specs.declared.uid.Uid.{Uid}
 use Rattle.arj_disk.specs.Says.{new_of}
-use Rattle.arj_store.specs.Effects.{Effect, Move, Finish, Drop, MovesOne, Does, Row, objects, commit_row, DidPrepare, DidCommit, DidSome, DidAbort}
+use Rattle.arj_store.specs.Effects.{Effect, Move, Finish, Drop, MovesOne, Does, Row, objects, commit_row, DidPrepare, DidCommit, DidSome}
+use Rattle.arj_store.specs.Effects.{DidAbort}
 use Rattle.arj_store.specs.Pair.{Pair, SamePair, Drops, Moves, MovesSome, Prepares, newer, held_after}
 use Rattle.arj_store.specs.Shadow.{is_in}
 use Rattle.arj_store.proofs.Uids.{uid_same, uid_is, uid_other}
@@ -16,7 +18,8 @@ same_pairs : (p q : Pair) → SamePair p q → p ≡ q
 same_pairs p q same = λ i. record { held = λ u. sym (same.committed u) i; pend = λ a. sym (same.prepared a) i }
 
 row_then : (es : List Effect) (e : Effect) (p m q : Pair) → Row es p m → Does e m q → Row (es ++ e ∷ []) p q
-row_then [] e p m q row does = (q, subst (λ r. Does e r q) (sym (same_pairs p m row)) does, record { committed = λ u. refl; prepared = λ a. refl })
+row_then [] e p m q row does =
+    (q, subst (λ r. Does e r q) (sym (same_pairs p m row)) does, record { committed = λ u. refl; prepared = λ a. refl })
 row_then (f ∷ es) e p m q row does = (row.0, row.1, row_then es e row.0 m q row.2 does)
 
 -- a new state doesn't go by what was there
@@ -42,8 +45,10 @@ one_other : (p q : Pair) (w u : Uid) → uid_eq u w ≡ false → (with_one p q 
 one_other p q w u e = rw e refl
 
 -- the states of these objects are moved, and those of the others not
-row_of : (act : Uid) (states : List (Uid × List ℕ)) (us : List Uid) (p q : Pair) → p.pend act ≡ Some states → ((a : Uid) → q.pend a ≡ p.pend a)
-    → ((u : Uid) → is_in us u ≡ true → IsSome (new_of states u) × (q.held u ≡ newer (new_of states u) (p.held u))) → ((u : Uid) → is_in us u ≡ false → q.held u ≡ p.held u)
+row_of : (act : Uid) (states : List (Uid × List ℕ)) (us : List Uid) (p q : Pair) → p.pend act ≡ Some states →
+    ((a : Uid) → q.pend a ≡ p.pend a)
+    → ((u : Uid) → is_in us u ≡ true → IsSome (new_of states u) × (q.held u ≡ newer (new_of states u) (p.held u))) →
+    ((u : Uid) → is_in us u ≡ false → q.held u ≡ p.held u)
     → Row (map (Move act) us) p q
 row_of act states [] p q is pend moved same = record { committed = λ u. same u refl; prepared = pend }
 row_of act states (w ∷ ws) p q is pend moved same = (m, one, row_of act states ws m q is pend rest others)
@@ -60,7 +65,8 @@ row_of act states (w ∷ ws) p q is pend moved same = (m, one, row_of act states
     }
 
     rest : (u : Uid) → is_in ws u ≡ true → IsSome (new_of states u) × (q.held u ≡ newer (new_of states u) (m.held u))
-    rest u among = let all = moved u (rest_in (uid_eq u w) (is_in ws u) among) in (all.0, all.1 ∙ newer_any (new_of states u) (p.held u) (m.held u) all.0)
+    rest u among =
+        let all = moved u (rest_in (uid_eq u w) (is_in ws u) among) in (all.0, all.1 ∙ newer_any (new_of states u) (p.held u) (m.held u) all.0)
 
     others : (u : Uid) → is_in ws u ≡ false → q.held u ≡ m.held u
     others u out = ⊎_elim (λ (e : uid_eq u w ≡ true). ap q.held (uid_is u w e) ∙ sym (one_here p q w u e))
@@ -71,7 +77,8 @@ pub new_among : (states : List (Uid × List ℕ)) (u : Uid) → is_some (new_of 
 new_among [] u = refl
 new_among (e ∷ es) u = by (uid_eq u e.0) refl (new_among es u)
   where
-    by : (b : Bool) → uid_eq u e.0 ≡ b → is_some (new_of es u) ≡ is_in (objects es) u → is_some (cond (uid_eq u e.0) (Some e.1) (new_of es u)) ≡ (uid_eq u e.0 || is_in (objects es) u)
+    by : (b : Bool) → uid_eq u e.0 ≡ b → is_some (new_of es u) ≡ is_in (objects es) u →
+        is_some (cond (uid_eq u e.0) (Some e.1) (new_of es u)) ≡ (uid_eq u e.0 || is_in (objects es) u)
     by true is rest = rw is refl
     by false is rest = rw is rest
 
@@ -85,7 +92,16 @@ moved_again None a = refl
 moved_again (Some x) a = refl
 
 pub did_prepare : (p q : Pair) (act : Uid) (states : List ObjectState) → SamePair p q ⊎ Prepares p q act states → DidPrepare p q act states
-did_prepare p q act states = ⊎_elim (λ (same : SamePair p q). inl same) (λ (h : Prepares p q act states). inr (q, (h.first, h.adds), record { committed = λ u. refl; prepared = λ a. refl }))
+did_prepare p q act states =
+    ⊎_elim (λ (same : SamePair p q). inl same) (λ (h : Prepares p q act states). inr (
+      q,
+      (h.first, h.adds),
+      record {
+        committed =
+            λ u. refl;
+        prepared = λ a. refl;
+      },
+    ))
 
 pub did_commit : (p q : Pair) (act : Uid) → Moves p q act → DidCommit p q act
 did_commit p q act moves = by (p.pend act) refl
@@ -98,7 +114,8 @@ did_commit p q act moves = by (p.pend act) refl
       where
         prepared : (a : Uid) → (uid_eq a act ≡ true) ⊎ (uid_eq a act ≡ false) → q.pend a ≡ p.pend a
         prepared a = ⊎_elim (λ (e : uid_eq a act ≡ true). ap q.pend (uid_is a act e) ∙ moves.gone ∙ sym is ∙ sym (ap p.pend (uid_is a act e)))
-            (λ (e : uid_eq a act ≡ false). moves.others a (λ same. let never : true ≡ false = sym (uid_same act) ∙ ap (λ b. uid_eq b act) (sym same) ∙ e in cc))
+            (λ (e : uid_eq a act ≡ false). moves.others a (λ same. let never : true ≡ false =
+            sym (uid_same act) ∙ ap (λ b. uid_eq b act) (sym same) ∙ e in cc))
     by (Some states) is = row_then (map (Move act) (objects states)) (Finish act) p mid q all ((ap is_some is), finished, dropped)
       where
         mid : Pair
@@ -122,7 +139,8 @@ in_those : (test : Uid → Bool) (us : List Uid) (u : Uid) → is_in (filter tes
 in_those test [] u = refl
 in_those test (w ∷ ws) u = by (test w) (uid_eq u w) refl refl (in_those test ws u)
   where
-    by : (t e : Bool) → test w ≡ t → uid_eq u w ≡ e → is_in (filter test ws) u ≡ (is_in ws u && test u) → is_in (filter test (w ∷ ws)) u ≡ ((uid_eq u w || is_in ws u) && test u)
+    by : (t e : Bool) → test w ≡ t → uid_eq u w ≡ e → is_in (filter test ws) u ≡ (is_in ws u && test u) →
+        is_in (filter test (w ∷ ws)) u ≡ ((uid_eq u w || is_in ws u) && test u)
     by true true t e rest = rw t (rw e (sym (ap test (uid_is u w e) ∙ t)))
     by true false t e rest = rw t (rw e rest)
     by false true t e rest = rw t (rw e (rest ∙ none (is_in ws u) (test u) (ap test (uid_is u w e) ∙ t) ∙ sym (ap test (uid_is u w e) ∙ t)))
@@ -144,8 +162,16 @@ pub did_some : (p q : Pair) (act : Uid) → MovesSome p q act → DidSome p q ac
 did_some p q act some = by (p.pend act) refl
   where
     by : (o : Option (List (Uid × List ℕ))) → p.pend act ≡ o → (us : List Uid) × Row (map (Move act) us) p q
-    by None is = ([], record { committed = λ u. ⊎_elim (λ (h : q.held u ≡ p.held u). h) (λ (h : q.held u ≡ held_after (p.pend act) u (p.held u)). h ∙ ap (λ o. held_after o u (p.held u)) is) (some.committed u); prepared = some.prepared })
-    by (Some states) is = (filter was_moved (objects states), row_of act states (filter was_moved (objects states)) p q is some.prepared moved same)
+    by None is = (
+      [],
+      record {
+        committed =
+            λ u. ⊎_elim (λ (h : q.held u ≡ p.held u). h) (λ (h : q.held u ≡ held_after (p.pend act) u (p.held u)). h ∙ ap (λ o. held_after o u (p.held u)) is) (some.committed u);
+        prepared = some.prepared;
+      },
+    )
+    by (Some states) is =
+        (filter was_moved (objects states), row_of act states (filter was_moved (objects states)) p q is some.prepared moved same)
       where
         flag : (u : Uid) → (q.held u ≡ p.held u) ⊎ (q.held u ≡ held_after (p.pend act) u (p.held u)) → Bool
         flag u = ⊎_elim (λ _. false) (λ _. true)
@@ -153,15 +179,18 @@ did_some p q act some = by (p.pend act) refl
         was_moved : Uid → Bool
         was_moved u = flag u (some.committed u)
 
-        if_moved : (u : Uid) (h : (q.held u ≡ p.held u) ⊎ (q.held u ≡ held_after (p.pend act) u (p.held u))) → flag u h ≡ true → q.held u ≡ held_after (p.pend act) u (p.held u)
+        if_moved : (u : Uid) (h : (q.held u ≡ p.held u) ⊎ (q.held u ≡ held_after (p.pend act) u (p.held u))) → flag u h ≡ true →
+            q.held u ≡ held_after (p.pend act) u (p.held u)
         if_moved u (inl h) e = let never : false ≡ true = e in cc
         if_moved u (inr h) e = h
 
-        if_same : (u : Uid) (h : (q.held u ≡ p.held u) ⊎ (q.held u ≡ held_after (p.pend act) u (p.held u))) → flag u h ≡ false → q.held u ≡ p.held u
+        if_same : (u : Uid) (h : (q.held u ≡ p.held u) ⊎ (q.held u ≡ held_after (p.pend act) u (p.held u))) → flag u h ≡ false →
+            q.held u ≡ p.held u
         if_same u (inl h) e = h
         if_same u (inr h) e = let never : true ≡ false = e in cc
 
-        moved : (u : Uid) → is_in (filter was_moved (objects states)) u ≡ true → IsSome (new_of states u) × (q.held u ≡ newer (new_of states u) (p.held u))
+        moved : (u : Uid) → is_in (filter was_moved (objects states)) u ≡ true →
+            IsSome (new_of states u) × (q.held u ≡ newer (new_of states u) (p.held u))
         moved u among =
             let parts = both (is_in (objects states) u) (was_moved u) (sym (in_those was_moved (objects states) u) ∙ among) in
             (new_among states u ∙ parts.0, if_moved u (some.committed u) parts.1 ∙ ap (λ o. held_after o u (p.held u)) is)
@@ -170,8 +199,10 @@ did_some p q act some = by (p.pend act) refl
         same u out = ⊎_elim (λ (h : is_in (objects states) u ≡ false). either_way u (none_new (new_of states u) (p.held u) (new_among states u ∙ h)) (some.committed u)) (λ (h : was_moved u ≡ false). if_same u (some.committed u) h)
             (not_both (is_in (objects states) u) (was_moved u) (sym (in_those was_moved (objects states) u) ∙ out))
           where
-            either_way : (u : Uid) → newer (new_of states u) (p.held u) ≡ p.held u → (q.held u ≡ p.held u) ⊎ (q.held u ≡ held_after (p.pend act) u (p.held u)) → q.held u ≡ p.held u
-            either_way u none = ⊎_elim (λ (h : q.held u ≡ p.held u). h) (λ (h : q.held u ≡ held_after (p.pend act) u (p.held u)). h ∙ ap (λ o. held_after o u (p.held u)) is ∙ none)
+            either_way : (u : Uid) → newer (new_of states u) (p.held u) ≡ p.held u →
+                (q.held u ≡ p.held u) ⊎ (q.held u ≡ held_after (p.pend act) u (p.held u)) → q.held u ≡ p.held u
+            either_way u none =
+                ⊎_elim (λ (h : q.held u ≡ p.held u). h) (λ (h : q.held u ≡ held_after (p.pend act) u (p.held u)). h ∙ ap (λ o. held_after o u (p.held u)) is ∙ none)
 
 pub did_abort : (p q : Pair) (act : Uid) → Drops p q act → DidAbort p q act
 did_abort p q act drops = by (p.pend act) refl
@@ -181,5 +212,6 @@ did_abort p q act drops = by (p.pend act) refl
       where
         prepared : (a : Uid) → (uid_eq a act ≡ true) ⊎ (uid_eq a act ≡ false) → q.pend a ≡ p.pend a
         prepared a = ⊎_elim (λ (e : uid_eq a act ≡ true). ap q.pend (uid_is a act e) ∙ drops.gone ∙ sym is ∙ sym (ap p.pend (uid_is a act e)))
-            (λ (e : uid_eq a act ≡ false). drops.others a (λ same. let never : true ≡ false = sym (uid_same act) ∙ ap (λ b. uid_eq b act) (sym same) ∙ e in cc))
+            (λ (e : uid_eq a act ≡ false). drops.others a (λ same. let never : true ≡ false =
+            sym (uid_same act) ∙ ap (λ b. uid_eq b act) (sym same) ∙ e in cc))
     by (Some states) is = (q, (ap is_some is, drops), record { committed = λ u. refl; prepared = λ a. refl })

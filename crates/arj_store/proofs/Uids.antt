@@ -1,5 +1,6 @@
 -- Uids, lists of them, and tables under them.
-use Rattle.std.proofs.Common.{◌≡◌, ◌≢◌, ◌⊎◌, ◌∙◌, true, false, ◌||◌, List, [], ◌∷◌, ◌++◌, rules, arith, refl, sym, ap, inl, inr, ⊎_elim, map, Option, None, Some, length}
+use Rattle.std.proofs.Common.{◌≡◌, ◌≢◌, ◌⊎◌, ◌∙◌, true, false, ◌||◌, List, [], ◌∷◌, ◌++◌, rules, arith, refl, sym, ap, inl, inr, ⊎_elim}
+use Rattle.std.proofs.Common.{map, Option, None, Some, length}
 use Rattle.std.specs.BTreeMap.{is_at}
 use Rattle.std.specs.List.{All}
 use Rattle.std.specs.Map.{lookup, keys_of, values_of}
@@ -20,11 +21,13 @@ pub uid_isnt : (u w : Uid) → uid_eq u w ≡ false → u ≢ w
 uid_isnt u w e same = let never : true ≡ false = sym (uid_same u) ∙ ap (uid_eq u) same ∙ e in cc
 
 pub uid_other : (u w : Uid) → u ≢ w → uid_eq u w ≡ false
-uid_other u w other = ⊎_elim (λ (e : uid_eq u w ≡ true). absurd (other (uid_is u w e))) (λ (e : uid_eq u w ≡ false). e) (cases_Bool (uid_eq u w))
+uid_other u w other =
+    ⊎_elim (λ (e : uid_eq u w ≡ true). absurd (other (uid_is u w e))) (λ (e : uid_eq u w ≡ false). e) (cases_Bool (uid_eq u w))
 
 -- two Uids are the same or not
 pub uid_cases : (u w : Uid) → (u ≡ w) ⊎ (u ≢ w)
-uid_cases u w = ⊎_elim (λ (yes : uid_eq u w ≡ true). inl (uid_is u w yes)) (λ (no : uid_eq u w ≡ false). inr (uid_isnt u w no)) (cases_Bool (uid_eq u w))
+uid_cases u w =
+    ⊎_elim (λ (yes : uid_eq u w ≡ true). inl (uid_is u w yes)) (λ (no : uid_eq u w ≡ false). inr (uid_isnt u w no)) (cases_Bool (uid_eq u w))
 
 -- the order ties a Uid with itself alone
 pub order_exact : (u w : Uid) → uid_cmp u w ≡ Equal → u ≡ w
@@ -39,9 +42,11 @@ no_entries [] none = refl
 no_entries (e ∷ es) none = let never = none e.0 in let tied = order_itself e.0 in search rules
 
 -- the values are those under the keys
-pub values_under : {V : Type 0} (f : Uid → Option V) (es : List (Uid × V)) → All (λ e. f e.0 ≡ Some e.1) es → map f (keys_of es) ≡ map Some (values_of es)
+pub values_under : {V : Type 0} (f : Uid → Option V) (es : List (Uid × V)) → All (λ e. f e.0 ≡ Some e.1) es →
+    map f (keys_of es) ≡ map Some (values_of es)
 values_under f [] found = refl
-values_under f (e ∷ es) found = λ i. All-head (λ e. f e.0 ≡ Some e.1) e es found i ∷ values_under f es (All-tail (λ e. f e.0 ≡ Some e.1) e es found) i
+values_under f (e ∷ es) found =
+    λ i. All-head (λ e. f e.0 ≡ Some e.1) e es found i ∷ values_under f es (All-tail (λ e. f e.0 ≡ Some e.1) e es found) i
 
 pub nothing_in_none : {V : Type 0} (es : List (Uid × V)) → length es ≡ 0 → (q : Uid) → lookup (is_at (uid_cmp q)) es ≡ None
 nothing_in_none [] empty q = refl
@@ -52,7 +57,8 @@ pub in_more : (us : List Uid) (u w : Uid) → is_in (us ++ u ∷ []) w ≡ (is_i
 in_more us u w = list_any-append (uid_eq w) us (u ∷ [])
 
 pub in_or_last : (us : List Uid) (u w : Uid) → is_in (us ++ u ∷ []) w ≡ true → (w ≡ u) ⊎ ((w ≢ u) × (is_in us w ≡ true))
-in_or_last us u w is = ⊎_elim (λ (e : uid_eq w u ≡ true). inl (uid_is w u e)) (λ (e : uid_eq w u ≡ false). inr (uid_isnt w u e, found e)) (cases_Bool (uid_eq w u))
+in_or_last us u w is =
+    ⊎_elim (λ (e : uid_eq w u ≡ true). inl (uid_is w u e)) (λ (e : uid_eq w u ≡ false). inr (uid_isnt w u e, found e)) (cases_Bool (uid_eq w u))
   where
     found : uid_eq w u ≡ false → is_in us w ≡ true
     found e = grind (arith, in_more us u w)

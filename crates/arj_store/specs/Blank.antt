@@ -35,7 +35,8 @@ module _ (role : Role) (file : FileMap) (none : (q : Slot) → slot_role q ≡ S
 
   -- no object is known
   nothing_known : (u : Uid) → IsKnown file role u → ⊥
-  nothing_known u = ⊎_elim (λ (h : IsSome (held file role u)). true≢false (sym h ∙ ap is_some (nothing_held u))) (λ (h : (a : Uid) × names (pend file role a) u). nothing_named h.0 u h.1)
+  nothing_known u =
+      ⊎_elim (λ (h : IsSome (held file role u)). true≢false (sym h ∙ ap is_some (nothing_held u))) (λ (h : (a : Uid) × names (pend file role a) u). nothing_named h.0 u h.1)
 
   -- so the known objects are few: a list of them is empty
   few : (us : List Uid) → ((u : Uid) → Contains us u → IsKnown file role u) → length us ≤ MOST_KNOWN
@@ -63,5 +64,6 @@ module _ (role : Role) (file : FileMap) (none : (q : Slot) → slot_role q ≡ S
   }
 
 -- the same, as the store's law
-pub files_blank : (role : Role) (file : FileMap) → ((q : Slot) → slot_role q ≡ Some role → file q ≡ None) → FormedFor file role × HasOnly role file []
+pub files_blank : (role : Role) (file : FileMap) → ((q : Slot) → slot_role q ≡ Some role → file q ≡ None) →
+    FormedFor file role × HasOnly role file []
 files_blank role file none = (formed_of_none role file none, only_none role file none)

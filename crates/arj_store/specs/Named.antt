@@ -1,5 +1,6 @@
 -- What is prepared, read as the objects that an action's file names.
-use Rattle.std.proofs.Common.{◌≡◌, ◌∙◌, Bool, true, false, ◌==◌, ◌&&◌, ◌||◌, List, [], ◌∷◌, ℕ, refl, sym, true≢false, ap, subst, map, cond, Option, Some, None}
+use Rattle.std.proofs.Common.{◌≡◌, ◌∙◌, Bool, true, false, ◌==◌, ◌&&◌, ◌||◌, List, [], ◌∷◌, ℕ, refl, sym, true≢false, ap, subst, map, cond}
+use Rattle.std.proofs.Common.{Option, Some, None}
 use Rattle.std.specs.Prelude.{IsSome, is_some, option_map, if◌then◌else◌}
 use Rattle.std.proofs.lemmas.Bool.{eq-eqb, eqb-true, and_parts}
 use Rattle.arj_base.specs.Uid.{uid_eq}
@@ -32,7 +33,8 @@ pub new_of_each : (f : Uid → List ℕ) (us : List Uid) (u : Uid) → is_in us 
 new_of_each f [] u is = absurd (true≢false (sym is))
 new_of_each f (w ∷ ws) u is = by (uid_eq u w) refl (new_of_each f ws u)
   where
-    by : (b : Bool) → uid_eq u w ≡ b → (is_in ws u ≡ true → new_of (with_each f ws) u ≡ Some (f u)) → cond (uid_eq u w) (Some (f w)) (new_of (with_each f ws) u) ≡ Some (f u)
+    by : (b : Bool) → uid_eq u w ≡ b → (is_in ws u ≡ true → new_of (with_each f ws) u ≡ Some (f u)) →
+        cond (uid_eq u w) (Some (f w)) (new_of (with_each f ws) u) ≡ Some (f u)
     by true e rest = rw e (ap (λ x. Some (f x)) (sym (uid_is u w e)))
     by false e rest = rw e (rest (subst (λ (b : Bool). (b || is_in ws u) ≡ true) e is))
 
@@ -41,7 +43,8 @@ pub nothing_of_each : (f : Uid → List ℕ) (us : List Uid) (u : Uid) → is_in
 nothing_of_each f [] u isnt = refl
 nothing_of_each f (w ∷ ws) u isnt = by (uid_eq u w) refl (nothing_of_each f ws u)
   where
-    by : (b : Bool) → uid_eq u w ≡ b → (is_in ws u ≡ false → new_of (with_each f ws) u ≡ None) → cond (uid_eq u w) (Some (f w)) (new_of (with_each f ws) u) ≡ None
+    by : (b : Bool) → uid_eq u w ≡ b → (is_in ws u ≡ false → new_of (with_each f ws) u ≡ None) →
+        cond (uid_eq u w) (Some (f w)) (new_of (with_each f ws) u) ≡ None
     by true e rest = absurd (true≢false (subst (λ (b : Bool). (b || is_in ws u) ≡ false) e isnt))
     by false e rest = rw e (rest (subst (λ (b : Bool). (b || is_in ws u) ≡ false) e isnt))
 
@@ -61,7 +64,8 @@ each_same f g (u ∷ us) same = λ i. (u, same u (ap (λ b. b || is_in us u) (ui
 pub pend_is : (file : FileMap) (role : Role) (a : Uid) → pend file role a ≡ option_map (with_each (new_state file)) (objects_of file role a)
 pend_is file role a = by (file (Prepared role a))
   where
-    by : (o : Option (List ℕ)) → option_map (λ bytes. with_each (new_state file) (named_in bytes)) o ≡ option_map (with_each (new_state file)) (option_map named_in o)
+    by : (o : Option (List ℕ)) →
+        option_map (λ bytes. with_each (new_state file) (named_in bytes)) o ≡ option_map (with_each (new_state file)) (option_map named_in o)
     by None = refl
     by (Some bytes) = refl
 
@@ -88,7 +92,8 @@ pub named_if : (file : FileMap) (role : Role) (a u : Uid) → names (pend file r
 named_if file role a u is = each_names (new_state file) (objects_of file role a) u (subst (λ o. names o u) (pend_is file role a) is)
 
 -- the objects of an action that is prepared
-pub pend_of : (file : FileMap) (role : Role) (a : Uid) (us : List Uid) → objects_of file role a ≡ Some us → pend file role a ≡ Some (with_each (new_state file) us)
+pub pend_of : (file : FileMap) (role : Role) (a : Uid) (us : List Uid) → objects_of file role a ≡ Some us →
+    pend file role a ≡ Some (with_each (new_state file) us)
 pend_of file role a us is = pend_is file role a ∙ ap (option_map (with_each (new_state file))) is
 
 -- an action that has no file has nothing prepared
@@ -104,7 +109,8 @@ pend_there file role a is = rw (pend_is file role a) (by (objects_of file role a
     by (Some us) is = refl
 
 -- where files and new states are the same, so is what is prepared
-pub same_pend : (old new : FileMap) (role : Role) (a : Uid) → new (Prepared role a) ≡ old (Prepared role a) → ((u : Uid) → new_state new u ≡ new_state old u) → pend new role a ≡ pend old role a
+pub same_pend : (old new : FileMap) (role : Role) (a : Uid) → new (Prepared role a) ≡ old (Prepared role a) →
+    ((u : Uid) → new_state new u ≡ new_state old u) → pend new role a ≡ pend old role a
 same_pend old new role a file states = λ i. option_map (λ bytes. map (λ u. (u, states u i)) (named_in bytes)) (file i)
 
 -- and so is what is committed
@@ -112,7 +118,8 @@ pub same_held : (old new : FileMap) (role : Role) (u : Uid) → new (Committed u
 same_held old new role u file = λ i. if role_eq (role_of u) role then file i else None
 
 -- where the shadow and the committed file of an object are the same, so is its new state
-pub same_new : (old new : FileMap) (u : Uid) → new (Shadow u) ≡ old (Shadow u) → new (Committed u) ≡ old (Committed u) → new_state new u ≡ new_state old u
+pub same_new : (old new : FileMap) (u : Uid) → new (Shadow u) ≡ old (Shadow u) → new (Committed u) ≡ old (Committed u) →
+    new_state new u ≡ new_state old u
 same_new old new u shadow committed = λ i. first_file (shadow i) (committed i)
 
 -- each role is equal to itself, as role_eq tells
@@ -122,7 +129,8 @@ own_role Names = refl
 
 -- for the role of the object itself, its committed state is its committed file
 pub held_own : (file : FileMap) (role : Role) (u : Uid) → role_of u ≡ role → held file role u ≡ file (Committed u)
-held_own file role u own = subst (λ (r : Role). (if role_eq (role_of u) r then file (Committed u) else None) ≡ file (Committed u)) own (rw (own_role (role_of u)) refl)
+held_own file role u own =
+    subst (λ (r : Role). (if role_eq (role_of u) r then file (Committed u) else None) ≡ file (Committed u)) own (rw (own_role (role_of u)) refl)
 
 -- roles that role_eq tells equal are the same
 pub role_is : (a b : Role) → role_eq a b ≡ true → a ≡ b

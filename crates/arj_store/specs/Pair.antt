@@ -118,7 +118,8 @@ IsWrittenBy p act u = (t : ObjectState) × IsHeld p u t × (t.writer ≡ act)
 
 -- the committed state has version v, which is above that of the state, or equal with other bytes
 abbrev pub IsOld : Pair → ObjectState → ℕ → Type 0
-IsOld p s v = (t : ObjectState) × IsHeld p s.uid t × (t.version ≡ v) × ((s.version < v) ⊎ ((s.version ≡ v) × (state_bytes s ≢ state_bytes t)))
+IsOld p s v =
+    (t : ObjectState) × IsHeld p s.uid t × (t.version ≡ v) × ((s.version < v) ⊎ ((s.version ≡ v) × (state_bytes s ≢ state_bytes t)))
 
 -- The refusal of one state, the first of these that holds.
 abbrev pub Refuses : Pair → Uid → ObjectState → Prep → Type 0

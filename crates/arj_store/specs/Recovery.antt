@@ -1,5 +1,6 @@
 -- What a recovery of the shadow store reads and removes, name by name, and what it finds for the naming service.
-use Rattle.std.specs.Prelude.{◌≡◌, ◌≢◌, ◌⊎◌, ◌↔◌, true, false, List, [], ◌∷◌, map, flat_map, Contains, Option, Some, None, IsSome, is_some, option_map, MatchOption, if◌then◌else◌}
+use Rattle.std.specs.Prelude.{◌≡◌, ◌≢◌, ◌⊎◌, ◌↔◌, true, false, List, [], ◌∷◌, map, flat_map, Contains, Option, Some, None, IsSome, is_some}
+use Rattle.std.specs.Prelude.{option_map, MatchOption, if◌then◌else◌}
 use Rattle.std.specs.List.{AllByRecursion}
 use Rattle.std.specs.List.Sorted.{IsStrictlySortedBy}
 use Rattle.arj_base.specs.State.{state_bytes, StateInForm}
@@ -21,21 +22,26 @@ use Rattle.arj_store.specs.Shadow.{is_in, is_named, has_shadow, objects_of, slot
 use Rattle.arj_store.specs.Table.{Sets, SameTable}
 
 -- the action is kept with the objects of its file, if that is there
-abbrev pub ReadsAction : Role → FileMap → Uid → (Uid → Option (List Uid)) → (Uid → Option Holding) → (Uid → Option (List Uid)) → (Uid → Option Holding) → Type 0
+abbrev pub ReadsAction : Role → FileMap → Uid → (Uid → Option (List Uid)) → (Uid → Option Holding) → (Uid → Option (List Uid)) →
+    (Uid → Option Holding) → Type 0
 ReadsAction role file act actions holdings actions' holdings' =
     MatchOption (objects_of file role act) (SameTable actions actions' × SameTable holdings holdings') (λ us. Sets actions actions' act (Some us) × HoldsAll us act false holdings holdings')
 
 -- so is the action whose file this is, if it is one of the role
-abbrev pub ReadsSlot : Role → FileMap → Slot → (Uid → Option (List Uid)) → (Uid → Option Holding) → (Uid → Option (List Uid)) → (Uid → Option Holding) → Type 0
+abbrev pub ReadsSlot : Role → FileMap → Slot → (Uid → Option (List Uid)) → (Uid → Option Holding) → (Uid → Option (List Uid)) →
+    (Uid → Option Holding) → Type 0
 ReadsSlot role file q actions holdings actions' holdings' =
     ((act : Uid) × (q ≡ Prepared role act) × ReadsAction role file act actions holdings actions' holdings')
     ⊎ (((act : Uid) → q ≢ Prepared role act) × SameTable actions actions' × SameTable holdings holdings')
 
 -- of these names the prepared actions of the role are kept, and no others
-pub record ReadsActions (seen : List Slot) (role : Role) (file : FileMap) (actions : Uid → Option (List Uid)) (holdings : Uid → Option Holding) : Type 0 where
+pub record ReadsActions (seen : List Slot) (role : Role) (file : FileMap) (actions : Uid → Option (List Uid)) (holdings : Uid →
+    Option Holding) : Type 0 where
   pub sound : (act : Uid) (us : List Uid) → actions act ≡ Some us → objects_of file role act ≡ Some us
   pub complete : (act : Uid) → Contains seen (Prepared role act) → actions act ≡ objects_of file role act
-  pub held : (u : Uid) → MatchOption (holdings u) ((act : Uid) → is_named (actions act) u ≡ false) (λ h. (is_named (actions h.act) u ≡ true) × (h.shadow ≡ false))
+  pub held : (u : Uid) →
+      MatchOption (holdings u) ((act : Uid) →
+      is_named (actions act) u ≡ false) (λ h. (is_named (actions h.act) u ≡ true) × (h.shadow ≡ false))
 
 -- the shadow of an object is kept where an action holds the object, and else is removed
 abbrev pub SortsShadow : Uid → FileMap → (Uid → Option Holding) → FileMap → (Uid → Option Holding) → Type 0
@@ -66,7 +72,8 @@ act_of None = None
 act_of (Some h) = Some h.act
 
 -- of these names the shadows are sorted
-pub record SortsShadows (seen : List Slot) (role : Role) (old : FileMap) (before : Uid → Option Holding) (new : FileMap) (after : Uid → Option Holding) : Type 0 where
+pub record SortsShadows (seen : List Slot) (role : Role) (old : FileMap) (before : Uid → Option Holding) (new : FileMap) (after : Uid →
+    Option Holding) : Type 0 where
   pub files : DropsShadows role before old new
   pub fewer : (u : Uid) → IsSome (new (Shadow u)) → IsSome (old (Shadow u))
   pub acts : (u : Uid) → act_of (after u) ≡ act_of (before u)
@@ -100,7 +107,8 @@ HasEntry kind file u = (role_of u ≡ Names) × IsSome (file (slot_at kind u))
 
 -- each entry that has a file of this kind has here the file's state, and no other has one
 abbrev pub HasRead : Place → FileMap → (Uid → Option ObjectState) → Type 0
-HasRead kind file states = (u : Uid) → MatchOption (states u) (HasEntry kind file u → ⊥) (λ s. (role_of u ≡ Names) × IsStateAt kind file u s)
+HasRead kind file states =
+    (u : Uid) → MatchOption (states u) (HasEntry kind file u → ⊥) (λ s. (role_of u ≡ Names) × IsStateAt kind file u s)
 
 -- each of these has here the state of its file of this kind, and no other has one
 abbrev pub HasReadOf : Place → FileMap → List Uid → (Uid → Option ObjectState) → Type 0
@@ -120,7 +128,8 @@ abbrev pub HasStatesOf : (Uid → Option (List Uid)) → (Uid → Option ObjectS
 HasStatesOf actions state p = option_map (map state) (actions p.0) ≡ Some (map Some p.1)
 
 -- each action with the states of its objects, by Uid
-pub record ListsPrepared (actions : Uid → Option (List Uid)) (state : Uid → Option ObjectState) (prepared : List (Uid × List ObjectState)) : Type 0 where
+pub record ListsPrepared (actions : Uid → Option (List Uid)) (state : Uid →
+    Option ObjectState) (prepared : List (Uid × List ObjectState)) : Type 0 where
   pub increasing : IsStrictlySortedBy uid_order (map (λ p. p.0) prepared)
   pub every : (a : Uid) → IsSome (actions a) → Contains (map (λ p. p.0) prepared) a
   pub each : AllByRecursion (HasStatesOf actions state) prepared

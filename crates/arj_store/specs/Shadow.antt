@@ -1,5 +1,6 @@
 -- How the shadow store keeps the pair: what it has in memory, and what its calls do with the files.
-use Rattle.std.specs.Prelude.{◌≡◌, ◌≢◌, ◌⊎◌, ◌<◌, Bool, true, false, ℕ, List, map, take, Option, Some, None, IsSome, is_some, IfSome, option_map, MatchOption}
+use Rattle.std.specs.Prelude.{◌≡◌, ◌≢◌, ◌⊎◌, ◌<◌, Bool, true, false, ℕ, List, map, take, Option, Some, None, IsSome, is_some, IfSome}
+use Rattle.std.specs.Prelude.{option_map, MatchOption}
 use Rattle.std.specs.List.{list_any, AllByRecursion}
 use Rattle.arj_base.specs.State.{state_bytes}
 use Rattle.arj_base.specs.Uid.{uid_eq, UidFits}
@@ -45,7 +46,8 @@ objects_of file role a = option_map named_in (file (Prepared role a))
 -- object that is prepared; and which shadows are there. No other shadow is.
 pub record Keeps (role : Role) (actions : Uid → Option (List Uid)) (holdings : Uid → Option Holding) (file : FileMap) : Type 0 where
   pub actions_are : (a : Uid) → actions a ≡ objects_of file role a
-  pub holders_are : (u : Uid) → MatchOption (holdings u) ((a : Uid) → is_named (objects_of file role a) u ≡ false) (λ h. is_named (objects_of file role h.act) u ≡ true)
+  pub holders_are : (u : Uid) →
+      MatchOption (holdings u) ((a : Uid) → is_named (objects_of file role a) u ≡ false) (λ h. is_named (objects_of file role h.act) u ≡ true)
   pub shadows_are : (u : Uid) → role_of u ≡ role → is_some (file (Shadow u)) ≡ has_shadow (holdings u)
 
 -- the actions and holdings in memory are what the files of the role say
@@ -83,7 +85,8 @@ slot_at place.Shadow u = Shadow u
 
 -- Some files of this kind, of such objects, are gone or have other states; all other files but Tmp are as before.
 abbrev pub ChangesStates : Place → (Uid → Type 0) → FileMap → FileMap → Type 0
-ChangesStates kind P old new = (q : Slot) → q ≢ Tmp → (new q ≡ old q) ⊎ ((u : Uid) × P u × (q ≡ slot_at kind u) × IfSome (new q) (IsStateOf u))
+ChangesStates kind P old new =
+    (q : Slot) → q ≢ Tmp → (new q ≡ old q) ⊎ ((u : Uid) × P u × (q ≡ slot_at kind u) × IfSome (new q) (IsStateOf u))
 
 -- of objects of the list some files of this kind are gone or have other states; all others but Tmp are as before
 abbrev pub PutsStates : Place → List Uid → FileMap → FileMap → Type 0

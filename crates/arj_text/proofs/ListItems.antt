@@ -1,5 +1,6 @@
 -- The items of the lists that a line may have, and the lists.
-use Rattle.std.proofs.Common.{◌≡◌, ◌≢◌, ℕ, ◌≤◌, List, [], ◌∷◌, ◌++◌, length, map, true, false, ◌&&◌, Option, Some, None, refl, sym, ◌∙◌, ap, subst, arith}
+use Rattle.std.proofs.Common.{◌≡◌, ◌≢◌, ℕ, ◌≤◌, List, [], ◌∷◌, ◌++◌, length, map, true, false, ◌&&◌, Option, Some, None, refl, sym, ◌∙◌, ap}
+use Rattle.std.proofs.Common.{subst, arith}
 use Rattle.std.specs.Prelude.{◌==◌, nat_le, codes}
 use Rattle.std.specs.List.{flat_map, list_all, AllByRecursion}
 use Rattle.std.specs.Fmt.{decimal}
@@ -8,7 +9,8 @@ use Rattle.std.proofs.lemmas.Fmt.{decimal_injective}
 use Rattle.std.proofs.lemmas.List.{append_assoc}
 use Rattle.std.proofs.lemmas.List.Folds.{list_any-append}
 use Rattle.arj_text.specs.Words.{behind_comma, decimals, list_text, numbers_text, pair_texts, pairs_text, commas}
-use Rattle.arj_text.specs.Fields.{IsRead, IsWithin, ItemsInForm, NodesInForm, NumberInForm, NumbersInForm, PairInForm, PairsInForm, has_byte, is_distinct, is_rising, items_text, pair_text}
+use Rattle.arj_text.specs.Fields.{IsRead, IsWithin, ItemsInForm, NodesInForm, NumberInForm, NumbersInForm, PairInForm, PairsInForm}
+use Rattle.arj_text.specs.Fields.{has_byte, is_distinct, is_rising, items_text, pair_text}
 use Rattle.arj_text.proofs.Texts.{cut_once, digits_only}
 use Rattle.arj_text.proofs.Items.{items_only}
 
@@ -75,23 +77,30 @@ node_items n most ns few form =
 
 -- What was read as items is read as nodes where each is in place and none stands twice, and else no list of nodes has
 -- the text.
-pub no_nodes : (n most : ℕ) (bytes : List ℕ) → n ≤ 255 → IsRead (ItemsInForm (IsWithin 1 255) most) (items_text decimal) bytes None → IsRead (NodesInForm n most) list_text bytes None
+pub no_nodes : (n most : ℕ) (bytes : List ℕ) → n ≤ 255 → IsRead (ItemsInForm (IsWithin 1 255) most) (items_text decimal) bytes None →
+    IsRead (NodesInForm n most) list_text bytes None
 no_nodes n most bytes few none = λ ns form e. none ns (node_items n most ns few form) (e ∙ list_text_is ns)
 
-pub other_nodes : (n most : ℕ) (bytes found : List ℕ) → n ≤ 255 → IsRead (ItemsInForm (IsWithin 1 255) most) (items_text decimal) bytes (Some found) → (list_all (λ m. nat_le 1 m && nat_le m n) found && is_distinct found) ≡ false → IsRead (NodesInForm n most) list_text bytes None
+pub other_nodes : (n most : ℕ) (bytes found : List ℕ) → n ≤ 255 →
+    IsRead (ItemsInForm (IsWithin 1 255) most) (items_text decimal) bytes (Some found) →
+    (list_all (λ m. nat_le 1 m && nat_le m n) found && is_distinct found) ≡ false → IsRead (NodesInForm n most) list_text bytes None
 other_nodes n most bytes found few read not_so = λ ns form e.
     let items = node_items n most ns few form in
-    let same : found ≡ ns = items_only (IsWithin 1 255) decimal node_no_comma node_only found ns read.0.2 items.2 read.0.0 items.0 (sym read.1 ∙ (e ∙ list_text_is ns)) in
+    let same : found ≡ ns =
+    items_only (IsWithin 1 255) decimal node_no_comma node_only found ns read.0.2 items.2 read.0.0 items.0 (sym read.1 ∙ (e ∙ list_text_is ns)) in
     let tests = and_parts (nat_le 1 (length ns) && nat_le (length ns) most) _ form in
     both_ways _ not_so (subst (λ xs. (list_all (λ m. nat_le 1 m && nat_le m n) xs && is_distinct xs) ≡ true) (sym same) tests.1)
 
-pub same_nodes : (n most : ℕ) (bytes found : List ℕ) → IsRead (ItemsInForm (IsWithin 1 255) most) (items_text decimal) bytes (Some found) → (list_all (λ m. nat_le 1 m && nat_le m n) found && is_distinct found) ≡ true → IsRead (NodesInForm n most) list_text bytes (Some found)
+pub same_nodes : (n most : ℕ) (bytes found : List ℕ) → IsRead (ItemsInForm (IsWithin 1 255) most) (items_text decimal) bytes (Some found) →
+    (list_all (λ m. nat_le 1 m && nat_le m n) found && is_distinct found) ≡ true → IsRead (NodesInForm n most) list_text bytes (Some found)
 same_nodes n most bytes found read so =
-    let lengths : (nat_le 1 (length found) && nat_le (length found) most) ≡ true = and_from _ _ (le-leb 1 (length found) read.0.0) (le-leb (length found) most read.0.1) in
+    let lengths : (nat_le 1 (length found) && nat_le (length found) most) ≡ true =
+    and_from _ _ (le-leb 1 (length found) read.0.0) (le-leb (length found) most read.0.1) in
     (and_from _ _ lengths so, read.1 ∙ sym (list_text_is found))
 
 -- What was read as items is read as numbers, and what wasn't is `-` alone.
-pub numbers_read : (most : ℕ) (bytes : List ℕ) (found : Option (List ℕ)) → bytes ≢ codes "-" → IsRead (ItemsInForm NumberInForm most) (items_text decimal) bytes found → IsRead (NumbersInForm most) numbers_text bytes found
+pub numbers_read : (most : ℕ) (bytes : List ℕ) (found : Option (List ℕ)) → bytes ≢ codes "-" →
+    IsRead (ItemsInForm NumberInForm most) (items_text decimal) bytes found → IsRead (NumbersInForm most) numbers_text bytes found
 numbers_read most bytes None other none = λ ns form e. cases ns form e
   where
     cases : (ns : List ℕ) → NumbersInForm most ns → bytes ≢ numbers_text ns
@@ -100,27 +109,34 @@ numbers_read most bytes None other none = λ ns form e. cases ns form e
 numbers_read most bytes (Some ns) other read = ((read.0.1, read.0.2), read.1 ∙ sym (numbers_text_is ns read.0.0))
 
 -- What was read as items is read as pairs where the keys rise, and else no pairs have the text.
-pub no_pairs : (most : ℕ) (bytes : List ℕ) → bytes ≢ codes "-" → IsRead (ItemsInForm PairInForm most) (items_text pair_text) bytes None → IsRead (PairsInForm most) pairs_text bytes None
+pub no_pairs : (most : ℕ) (bytes : List ℕ) → bytes ≢ codes "-" → IsRead (ItemsInForm PairInForm most) (items_text pair_text) bytes None →
+    IsRead (PairsInForm most) pairs_text bytes None
 no_pairs most bytes other none = λ ps form e. cases ps form e
   where
     cases : (ps : List (ℕ × ℕ)) → PairsInForm most ps → bytes ≢ pairs_text ps
     cases [] form e = other e
     cases (p ∷ ps) form e = none (p ∷ ps) (omega arith, form.0, form.1) (e ∙ pairs_text_is (p ∷ ps) (omega arith))
 
-pub falling_pairs : (most : ℕ) (bytes : List ℕ) (found : List (ℕ × ℕ)) → bytes ≢ codes "-" → IsRead (ItemsInForm PairInForm most) (items_text pair_text) bytes (Some found) → is_rising found ≡ false → IsRead (PairsInForm most) pairs_text bytes None
+pub falling_pairs : (most : ℕ) (bytes : List ℕ) (found : List (ℕ × ℕ)) → bytes ≢ codes "-" →
+    IsRead (ItemsInForm PairInForm most) (items_text pair_text) bytes (Some found) → is_rising found ≡ false →
+    IsRead (PairsInForm most) pairs_text bytes None
 falling_pairs most bytes found other read falls = λ ps form e. cases ps form e
   where
     cases : (ps : List (ℕ × ℕ)) → PairsInForm most ps → bytes ≢ pairs_text ps
     cases [] form e = other e
     cases (p ∷ ps) form e =
-        let same : found ≡ p ∷ ps = items_only PairInForm pair_text pair_no_comma pair_only found (p ∷ ps) read.0.2 form.1 read.0.0 (omega arith) (sym read.1 ∙ (e ∙ pairs_text_is (p ∷ ps) (omega arith))) in
+        let same : found ≡ p ∷ ps =
+        items_only PairInForm pair_text pair_no_comma pair_only found (p ∷ ps) read.0.2 form.1 read.0.0 (omega arith) (sym read.1 ∙ (e ∙ pairs_text_is (p ∷ ps) (omega arith))) in
         both_ways _ falls (subst (λ qs. is_rising qs ≡ true) (sym same) form.2)
 
-pub rising_pairs : (most : ℕ) (bytes : List ℕ) (found : List (ℕ × ℕ)) → IsRead (ItemsInForm PairInForm most) (items_text pair_text) bytes (Some found) → is_rising found ≡ true → IsRead (PairsInForm most) pairs_text bytes (Some found)
+pub rising_pairs : (most : ℕ) (bytes : List ℕ) (found : List (ℕ × ℕ)) →
+    IsRead (ItemsInForm PairInForm most) (items_text pair_text) bytes (Some found) → is_rising found ≡ true →
+    IsRead (PairsInForm most) pairs_text bytes (Some found)
 rising_pairs most bytes found read rises = ((read.0.1, read.0.2, rises), read.1 ∙ sym (pairs_text_is found read.0.0))
 
 -- numbers in two parts, each behind a comma
-pub numbers_behind_commas : (ms ns : List ℕ) → flat_map behind_comma (decimals (ms ++ ns)) ≡ flat_map behind_comma (decimals ms) ++ flat_map behind_comma (decimals ns)
+pub numbers_behind_commas : (ms ns : List ℕ) →
+    flat_map behind_comma (decimals (ms ++ ns)) ≡ flat_map behind_comma (decimals ms) ++ flat_map behind_comma (decimals ns)
 numbers_behind_commas [] ns = refl
 numbers_behind_commas (m ∷ ms) ns =
     ap (λ text. behind_comma (decimal m) ++ text) (numbers_behind_commas ms ns) ∙ sym (append_assoc (behind_comma (decimal m)) (flat_map behind_comma (decimals ms)) (flat_map behind_comma (decimals ns)))

@@ -1,5 +1,6 @@
 -- Texts that are cut at a byte, and which texts do not hold it.
-use Rattle.std.proofs.Common.{◌≡◌, ◌≢◌, ℕ, ◌+◌, ◌<◌, ◌≤◌, ◌^◌, ◌%◌, List, [], ◌∷◌, ◌++◌, true, false, ◌||◌, Option, Some, None, refl, sym, ◌∙◌, ap, subst, arith}
+use Rattle.std.proofs.Common.{◌≡◌, ◌≢◌, ℕ, ◌+◌, ◌<◌, ◌≤◌, ◌^◌, ◌%◌, List, [], ◌∷◌, ◌++◌, true, false, ◌||◌, Option, Some, None, refl, sym}
+use Rattle.std.proofs.Common.{◌∙◌, ap, subst, arith}
 use Rattle.std.specs.Prelude.{◌==◌}
 use Rattle.std.specs.List.{list_all}
 use Rattle.std.specs.Fmt.{decimal}
@@ -50,7 +51,8 @@ digits_only k n apart h = decimal_by_steps (λ m ds. has_byte k ds ≡ false) on
 
 -- a letter or a digit is no space
 not_space_in_word : (b : ℕ) → (is_letter b || is_digit b) ≡ true → (b == 32) ≡ false
-not_space_in_word b h = ne_eqb b 32 (λ e. both_ways (is_letter 32 || is_digit 32) refl (subst (λ n. (is_letter n || is_digit n) ≡ true) e h))
+not_space_in_word b h =
+    ne_eqb b 32 (λ e. both_ways (is_letter 32 || is_digit 32) refl (subst (λ n. (is_letter n || is_digit n) ≡ true) e h))
 
 not_space_letter : (b : ℕ) → is_letter b ≡ true → (b == 32) ≡ false
 not_space_letter b h = ne_eqb b 32 (λ e. both_ways (is_letter 32) refl (subst (λ n. is_letter n ≡ true) e h))
@@ -74,16 +76,19 @@ same_rest [] r s e = e
 same_rest (b ∷ p) r s e = same_rest p r s (let tail : p ++ r ≡ p ++ s = cc in tail)
 
 -- Of a text without the separator nothing stands before one.
-pub no_separator : {A : Type 0} (k : ℕ) (InForm : A → Type 0) (text : A → List ℕ) (bytes : List ℕ) → has_byte k bytes ≡ false → HasNoFirst k InForm text bytes
+pub no_separator : {A : Type 0} (k : ℕ) (InForm : A → Type 0) (text : A → List ℕ) (bytes : List ℕ) → has_byte k bytes ≡ false →
+    HasNoFirst k InForm text bytes
 no_separator k InForm text bytes h = λ a r fits e. no_cut k bytes (text a) r h e
 
 -- What stands before the first separator is read alone, where nothing in form holds one.
-pub none_first : {A : Type 0} (k : ℕ) (InForm : A → Type 0) (text : A → List ℕ) (whole : (a : A) → InForm a → has_byte k (text a) ≡ false) (bytes w r : List ℕ)
+pub none_first : {A : Type 0} (k : ℕ) (InForm : A → Type 0) (text : A → List ℕ) (whole : (a : A) → InForm a →
+    has_byte k (text a) ≡ false) (bytes w r : List ℕ)
     → has_byte k w ≡ false → bytes ≡ w ++ k ∷ r → IsRead InForm text w None → HasNoFirst k InForm text bytes
 none_first k InForm text whole bytes w r hw parts none =
     λ b s fits e. none b fits (cut_once k w (text b) r s hw (whole b fits) (sym parts ∙ e)).0
 
-pub some_first : {A : Type 0} (k : ℕ) (InForm : A → Type 0) (text : A → List ℕ) (whole : (a : A) → InForm a → has_byte k (text a) ≡ false) (bytes w r : List ℕ) (a : A)
+pub some_first : {A : Type 0} (k : ℕ) (InForm : A → Type 0) (text : A → List ℕ) (whole : (a : A) → InForm a →
+    has_byte k (text a) ≡ false) (bytes w r : List ℕ) (a : A)
     → has_byte k w ≡ false → bytes ≡ w ++ k ∷ r → IsRead InForm text w (Some a) → IsFirst k InForm text bytes a r
 some_first k InForm text whole bytes w r a hw parts read = record {
   in_form = read.0;
@@ -94,6 +99,7 @@ some_first k InForm text whole bytes w r a hw parts read = record {
 }
 
 -- What was read behind a front is what was read with it.
-pub read_behind : {A : Type 0} (InForm : A → Type 0) (text : A → List ℕ) (front bytes rest : List ℕ) (found : Option A) → bytes ≡ front ++ rest → IsRead InForm text rest found → IsRead InForm (behind front text) bytes found
+pub read_behind : {A : Type 0} (InForm : A → Type 0) (text : A → List ℕ) (front bytes rest : List ℕ) (found : Option A) →
+    bytes ≡ front ++ rest → IsRead InForm text rest found → IsRead InForm (behind front text) bytes found
 read_behind InForm text front bytes rest None whole h = λ a fits e. h a fits (same_rest front rest (text a) (sym whole ∙ e))
 read_behind InForm text front bytes rest (Some a) whole h = (h.0, whole ∙ ap (λ r. front ++ r) h.1)

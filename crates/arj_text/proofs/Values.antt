@@ -9,11 +9,13 @@ use Rattle.arj_class.specs.declared.value.Value.TheVariants as value
 use Rattle.arj_class.specs.Forms.{NumbersFit, OpInForm, PairsFit, ValueInForm}
 use Rattle.arj_class.specs.Keys.{KeysAbove, KeysRise}
 use Rattle.arj_text.specs.Words.{op_text, hex}
-use Rattle.arj_text.specs.Fields.{IsRead, NumberInForm, AreBytesUpTo, PairInForm, OpTextInForm, ValueTextInForm, IsPutOp, is_below_first, is_put_op, is_rising, two_text}
+use Rattle.arj_text.specs.Fields.{IsRead, NumberInForm, AreBytesUpTo, PairInForm, OpTextInForm, ValueTextInForm, IsPutOp, is_below_first}
+use Rattle.arj_text.specs.Fields.{is_put_op, is_rising, two_text}
 use Rattle.arj_text.proofs.Texts.{same_rest}
 
 -- A put has one argument or two.
-pub no_put : (bytes arguments : List ℕ) → bytes ≡ codes "put " ++ arguments → IsRead (AreBytesUpTo 64) hex arguments None → IsRead PairInForm two_text arguments None → IsRead IsPutOp op_text bytes None
+pub no_put : (bytes arguments : List ℕ) → bytes ≡ codes "put " ++ arguments → IsRead (AreBytesUpTo 64) hex arguments None →
+    IsRead PairInForm two_text arguments None → IsRead IsPutOp op_text bytes None
 no_put bytes arguments whole no_bytes no_pair = λ o h e. cases o h.0 h.1 e
   where
     cases : (o : Op) → OpTextInForm o → is_put_op o ≡ true → bytes ≢ op_text o

@@ -1,5 +1,6 @@
 -- What reading a field of a line means, and which values are in form: within their widths and limits.
-use Rattle.std.specs.Prelude.{◌≡◌, ◌≢◌, ◌≤◌, ◌<◌, ◌^◌, ℕ, List, [], ◌∷◌, ◌++◌, length, map, ⊤, Bool, true, false, ◌==◌, ◌&&◌, nat_lt, nat_le, not, Option, Some, None}
+use Rattle.std.specs.Prelude.{◌≡◌, ◌≢◌, ◌≤◌, ◌<◌, ◌^◌, ℕ, List, [], ◌∷◌, ◌++◌, length, map, ⊤, Bool, true, false, ◌==◌, ◌&&◌, nat_lt}
+use Rattle.std.specs.Prelude.{nat_le, not, Option, Some, None}
 use Rattle.std.specs.List.{list_any, list_all, AllByRecursion}
 use Rattle.std.specs.Fmt.{decimal}
 use Rattle.arj_base.specs.declared.binding.Binding.{Binding}
@@ -23,7 +24,8 @@ HasNoFirst {A = A} separator InForm text bytes = (a : A) (rest : List ℕ) → I
 
 -- This is in form and stands before a separator at the front of the bytes, this rest stands behind that, and the bytes
 -- can be taken apart in no other way.
-pub record IsFirst {A : Type 0} (separator : ℕ) (InForm : A → Type 0) (text : A → List ℕ) (bytes : List ℕ) (a : A) (rest : List ℕ) : Type 0 where
+pub record IsFirst {A : Type 0} (separator : ℕ) (InForm : A → Type 0) (text : A →
+    List ℕ) (bytes : List ℕ) (a : A) (rest : List ℕ) : Type 0 where
   pub in_form : InForm a
   pub parts : bytes ≡ text a ++ separator ∷ rest
   pub only : (b : A) (r : List ℕ) → InForm b → bytes ≡ text b ++ separator ∷ r → (text a ≡ text b) × (rest ≡ r)

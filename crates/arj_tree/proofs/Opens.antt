@@ -1,5 +1,6 @@
 -- The open actions as actions begin, end and are doomed, and what is asked of them alone.
-use Rattle.std.proofs.Common.{◌≡◌, ℕ, ◌+◌, ◌<◌, zero, suc, List, [], ◌∷◌, ◌++◌, length, filter, not, ◌&&◌, ◌==◌, Bool, true, false, refl, ap, sym, ◌∙◌, Option, Some, None, arith, append_assoc, append-nil, add-zero, ◌||◌, is_some, if◌then◌else◌}
+use Rattle.std.proofs.Common.{◌≡◌, ℕ, ◌+◌, ◌<◌, zero, suc, List, [], ◌∷◌, ◌++◌, length, filter, not, ◌&&◌, ◌==◌, Bool, true, false, refl}
+use Rattle.std.proofs.Common.{ap, sym, ◌∙◌, Option, Some, None, arith, append_assoc, append-nil, add-zero, ◌||◌, is_some, if◌then◌else◌}
 use Rattle.std.specs.Prelude.{slice_get, slice_set}
 use Rattle.std.specs.List.{list_any}
 use Rattle.arj_protocol.specs.Ask.{actor}
@@ -8,7 +9,8 @@ use Rattle.arj_protocol.specs.Words.{Uid, End, uids_of, before_last}
 use Rattle.arj_tree.specs.Open.{opens, without, is_path_below, below, latest, has_child, first_in}
 
 -- an action that begins is the last one
-pub opens_begun : (n : ℕ) (bs : List Branch) (b : Branch) → b.ended ≡ None → opens n (bs ++ b ∷ []) ≡ opens n bs ++ (n + length bs, b.path) ∷ []
+pub opens_begun : (n : ℕ) (bs : List Branch) (b : Branch) → b.ended ≡ None →
+    opens n (bs ++ b ∷ []) ≡ opens n bs ++ (n + length bs, b.path) ∷ []
 opens_begun n [] b open_now = rw (open_now, add-zero) refl
 opens_begun n (c ∷ bs) b open_now = by (is_some c.ended) (opens_begun (n + 1) bs b open_now)
   where
@@ -28,19 +30,23 @@ without_below m n (b ∷ bs) less = by (is_some b.ended) (without_below m (n + 1
     other : (n == m) ≡ false
     other = grind (arith, less)
 
-    by : (t : Bool) → without m (opens (n + 1) bs) ≡ opens (n + 1) bs → without m (if t then opens (n + 1) bs else (n, b.path) ∷ opens (n + 1) bs) ≡ (if t then opens (n + 1) bs else (n, b.path) ∷ opens (n + 1) bs)
+    by : (t : Bool) → without m (opens (n + 1) bs) ≡ opens (n + 1) bs →
+        without m (if t then opens (n + 1) bs else (n, b.path) ∷ opens (n + 1) bs) ≡ (if t then opens (n + 1) bs else (n, b.path) ∷ opens (n + 1) bs)
     by true ih = ih
     by false ih = rw other (ap (λ es. (n, b.path) ∷ es) ih)
 
 -- an action that ends goes
-pub opens_ended : (n k : ℕ) (bs : List Branch) (b : Branch) (e : End) → slice_get bs k ≡ Some b → opens n (slice_set bs k (record b { ended = Some e })) ≡ without (n + k) (opens n bs)
+pub opens_ended : (n k : ℕ) (bs : List Branch) (b : Branch) (e : End) → slice_get bs k ≡ Some b →
+    opens n (slice_set bs k (record b { ended = Some e })) ≡ without (n + k) (opens n bs)
 opens_ended n k [] b e at = absurd (cc at)
-opens_ended n zero (c ∷ bs) b e at = by (is_some c.ended) (without_below n (n + 1) bs (omega arith)) ∙ ap (λ m. without m (opens n (c ∷ bs))) (sym (add-zero n))
+opens_ended n zero (c ∷ bs) b e at =
+    by (is_some c.ended) (without_below n (n + 1) bs (omega arith)) ∙ ap (λ m. without m (opens n (c ∷ bs))) (sym (add-zero n))
   where
     same : (n == n) ≡ true
     same = grind arith
 
-    by : (t : Bool) → without n (opens (n + 1) bs) ≡ opens (n + 1) bs → opens (n + 1) bs ≡ without n (if t then opens (n + 1) bs else (n, c.path) ∷ opens (n + 1) bs)
+    by : (t : Bool) → without n (opens (n + 1) bs) ≡ opens (n + 1) bs →
+        opens (n + 1) bs ≡ without n (if t then opens (n + 1) bs else (n, c.path) ∷ opens (n + 1) bs)
     by true stays = sym stays
     by false stays = rw same (sym stays)
 opens_ended n (suc k) (c ∷ bs) b e at = by (is_some c.ended) (opens_ended (n + 1) k bs b e at)
@@ -60,13 +66,16 @@ opens_ended n (suc k) (c ∷ bs) b e at = by (is_some c.ended) (opens_ended (n +
     by false ih = rw other (ap (λ es. (n, c.path) ∷ es) (ih ∙ ap (λ m. without m (opens (n + 1) bs)) place))
 
 -- an action that is doomed stays
-pub opens_doomed : (n k : ℕ) (bs : List Branch) (b : Branch) → slice_get bs k ≡ Some b → opens n (slice_set bs k (record b { doomed = true })) ≡ opens n bs
+pub opens_doomed : (n k : ℕ) (bs : List Branch) (b : Branch) → slice_get bs k ≡ Some b →
+    opens n (slice_set bs k (record b { doomed = true })) ≡ opens n bs
 opens_doomed n k [] b at = refl
-opens_doomed n zero (c ∷ bs) b at = let same : c ≡ b = cc at in ap (λ (x : Branch). if is_some x.ended then opens (n + 1) bs else (n, x.path) ∷ opens (n + 1) bs) (sym same)
+opens_doomed n zero (c ∷ bs) b at =
+    let same : c ≡ b = cc at in ap (λ (x : Branch). if is_some x.ended then opens (n + 1) bs else (n, x.path) ∷ opens (n + 1) bs) (sym same)
 opens_doomed n (suc k) (c ∷ bs) b at = ap (λ es. if is_some c.ended then es else (n, c.path) ∷ es) (opens_doomed (n + 1) k bs b at)
 
 -- an open action was begun in this one
-pub child_is : (u : Uid) (n : ℕ) (bs : List Branch) → list_any (λ b. is_parent u (before_last (uids_of b.path)) && not (is_some b.ended)) bs ≡ has_child u (opens n bs)
+pub child_is : (u : Uid) (n : ℕ) (bs : List Branch) →
+    list_any (λ b. is_parent u (before_last (uids_of b.path)) && not (is_some b.ended)) bs ≡ has_child u (opens n bs)
 child_is u n [] = refl
 child_is u n (b ∷ bs) = by (is_parent u (before_last (uids_of b.path))) refl (is_some b.ended) (child_is u (n + 1) bs)
   where
@@ -81,14 +90,16 @@ child_is u n (b ∷ bs) = by (is_parent u (before_last (uids_of b.path))) refl (
     by false is false ih = rw is ih
 
 -- the open descendants, the one begun last first
-pub below_is : (u : Uid) (n : ℕ) (bs : List Branch) (found : List Uid) → latest_first (filter (is_open_below u) bs) found ≡ below u (opens n bs) ++ found
+pub below_is : (u : Uid) (n : ℕ) (bs : List Branch) (found : List Uid) →
+    latest_first (filter (is_open_below u) bs) found ≡ below u (opens n bs) ++ found
 below_is u n [] found = refl
 below_is u n (b ∷ bs) found = by (is_path_below u b.path) refl (is_some b.ended) (below_is u (n + 1) bs)
   where
     rest : List Branch
     rest = filter (is_open_below u) bs
 
-    by : (p : Bool) → is_path_below u b.path ≡ p → (t : Bool) → ((found : List Uid) → latest_first rest found ≡ below u (opens (n + 1) bs) ++ found)
+    by : (p : Bool) → is_path_below u b.path ≡ p → (t : Bool) →
+        ((found : List Uid) → latest_first rest found ≡ below u (opens (n + 1) bs) ++ found)
         → latest_first (if p && not t then b ∷ rest else rest) found ≡ below u (if t then opens (n + 1) bs else (n, b.path) ∷ opens (n + 1) bs) ++ found
     by true is true ih = ih found
     by false is true ih = ih found
@@ -96,7 +107,8 @@ below_is u n (b ∷ bs) found = by (is_path_below u b.path) refl (is_some b.ende
     by false is false ih = rw is (ih found ∙ ap (λ us. us ++ found) (sym (append-nil (below u (opens (n + 1) bs)))))
 
 -- and the first of them
-pub latest_is : (u : Uid) (n : ℕ) (bs : List Branch) (found : List Uid) → latest u (first_in found) (opens n bs) ≡ first_in (latest_first (filter (is_open_below u) bs) found)
+pub latest_is : (u : Uid) (n : ℕ) (bs : List Branch) (found : List Uid) →
+    latest u (first_in found) (opens n bs) ≡ first_in (latest_first (filter (is_open_below u) bs) found)
 latest_is u n [] found = refl
 latest_is u n (b ∷ bs) found = by (is_path_below u b.path) refl (is_some b.ended) (latest_is u (n + 1) bs)
   where
@@ -106,7 +118,8 @@ latest_is u n (b ∷ bs) found = by (is_path_below u b.path) refl (is_some b.end
     chosen : Bool → Option Uid
     chosen p = latest u (if p then Some (actor b.path) else first_in found) (opens (n + 1) bs)
 
-    by : (p : Bool) → is_path_below u b.path ≡ p → (t : Bool) → ((found : List Uid) → latest u (first_in found) (opens (n + 1) bs) ≡ first_in (latest_first rest found))
+    by : (p : Bool) → is_path_below u b.path ≡ p → (t : Bool) →
+        ((found : List Uid) → latest u (first_in found) (opens (n + 1) bs) ≡ first_in (latest_first rest found))
         → latest u (first_in found) (if t then opens (n + 1) bs else (n, b.path) ∷ opens (n + 1) bs) ≡ first_in (latest_first (if p && not t then b ∷ rest else rest) found)
     by true is true ih = ih found
     by false is true ih = ih found

@@ -44,6 +44,7 @@ commits false waits true free = rw free refl
 commits false waits false free = rw free refl
 
 -- of an abort
-pub aborts : (ended waits : Bool) → waits ≡ false → first_reason ((6, ended) ∷ (7, waits) ∷ []) ≡ option_map number_of (first_fault ((fault.Ended, ended) ∷ (fault.OpenChildren, false) ∷ []))
+pub aborts : (ended waits : Bool) → waits ≡ false →
+    first_reason ((6, ended) ∷ (7, waits) ∷ []) ≡ option_map number_of (first_fault ((fault.Ended, ended) ∷ (fault.OpenChildren, false) ∷ []))
 aborts true waits free = refl
 aborts false waits free = rw free refl

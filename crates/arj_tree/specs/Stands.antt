@@ -11,7 +11,8 @@ use Rattle.arj_start.specs.Kinds.{is_serial}
 abbrev pub AreNamed : ℕ → ℕ → ℕ → List Branch → Type 0
 AreNamed node inc n [] = Unit {0}
 AreNamed node inc n (b ∷ bs) =
-    (actor b.path ≡ record { node = node; inc = inc; num = n }) × ((is_serial b.kind ≡ true → length (uids_of b.path) ≡ 1) × AreNamed node inc (n + 1) bs)
+    (actor b.path ≡ record { node = node; inc = inc; num = n }) × ((is_serial b.kind ≡ true →
+    length (uids_of b.path) ≡ 1) × AreNamed node inc (n + 1) bs)
 
 -- the open actions are kept beside all of them, and the counts are counts of these
 pub record Stands (node inc : ℕ) (branches : List Branch) (open_ones : Opens) (families : Families) : Type 0 where

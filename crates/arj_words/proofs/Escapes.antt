@@ -6,8 +6,10 @@ use Rattle.arj_words.specs.Page.{begins_with, entities, escaped, escaped_byte, i
 
 -- a byte that is shown, before such a text
 module _ (b : ℕ) (rest : List ℕ) (h : is_text_alone rest ≡ true) where
-  shown : (b == 38) ≡ false → (b == 60) ≡ false → (b == 62) ≡ false → (b == 34) ≡ false → (b == 39) ≡ false → (p : Bool) → is_text_alone (cond p b 63 ∷ rest) ≡ true
-  shown a l g q s true = (λ i. not (l i || (g i || (q i || s i))) && (cond (a i) (list_any (λ e. begins_with e rest) entities) true && is_text_alone rest)) ∙ h
+  shown : (b == 38) ≡ false → (b == 60) ≡ false → (b == 62) ≡ false → (b == 34) ≡ false → (b == 39) ≡ false → (p : Bool) →
+      is_text_alone (cond p b 63 ∷ rest) ≡ true
+  shown a l g q s true =
+      (λ i. not (l i || (g i || (q i || s i))) && (cond (a i) (list_any (λ e. begins_with e rest) entities) true && is_text_alone rest)) ∙ h
   shown a l g q s false = h
 
   by : (a l g q s f : Bool) → (b == 38) ≡ a → (b == 60) ≡ l → (b == 62) ≡ g → (b == 34) ≡ q → (b == 39) ≡ s

@@ -55,4 +55,5 @@ entities = codes "amp;" ∷ codes "lt;" ∷ codes "gt;" ∷ codes "quot;" ∷ co
 -- A text without markup: neither `<` nor `>` nor a quote stands in it, and each ampersand begins an entity.
 abbrev pub is_text_alone : List ℕ → Bool
 is_text_alone [] = true
-is_text_alone (b ∷ bytes) = not (is_markup b) && ((if b == 38 then list_any (λ e. begins_with e bytes) entities else true) && is_text_alone bytes)
+is_text_alone (b ∷ bytes) =
+    not (is_markup b) && ((if b == 38 then list_any (λ e. begins_with e bytes) entities else true) && is_text_alone bytes)

@@ -1,5 +1,6 @@
 -- A disk that is armed, and junk.
-use Rattle.std.proofs.Common.{◌≡◌, ℕ, zero, suc, ◌+◌, ◌-◌, ◌≤◌, ◌<◌, Bool, true, false, ◌||◌, List, [], ◌∷◌, ◌++◌, length, map, take, refl, ap, sym, ◌∙◌, subst, Some, None, arith}
+use Rattle.std.proofs.Common.{◌≡◌, ℕ, zero, suc, ◌+◌, ◌-◌, ◌≤◌, ◌<◌, Bool, true, false, ◌||◌, List, [], ◌∷◌, ◌++◌, length, map, take, refl}
+use Rattle.std.proofs.Common.{ap, sym, ◌∙◌, subst, Some, None, arith}
 use Rattle.std.specs.Prelude.{◌&&◌, ◌==◌, if◌then◌else◌, nat_le, nat_lt, not, slice_get, slice_set}
 use Rattle.std.proofs.lemmas.List.{append-nil, length-map}
 use Rattle.arj_core.specs.declared.node.Core.{Ghosts}
@@ -16,7 +17,8 @@ use Rattle.arj_protocol.specs.Words.{Event}
 use Rattle.arj_protocol.specs.Words.event
 use Rattle.arj_protocol.specs.Words.frame
 use Rattle.arj_protocol.specs.World as protocol
-use Rattle.arj_protocol.specs.World.{World, frames_with, giving, junk_fits, lacks_labels, new_frame, numbered, overflows, reasons, says, sent_line}
+use Rattle.arj_protocol.specs.World.{World, frames_with, giving, junk_fits, lacks_labels, new_frame, numbered, overflows, reasons, says}
+use Rattle.arj_protocol.specs.World.{sent_line}
 use Rattle.arj_world.specs.Goes.{Goes, GoesTo}
 use Rattle.arj_world.specs.Happens.{HappensTo, done}
 use Rattle.arj_world.specs.Arms.{arm_at, outcome_of}
@@ -45,7 +47,8 @@ take_one (suc (suc k)) a h = refl
 
 module _ {C D : Type 0} (core : Ghosts C) (file : D → FileMap) where
   -- a disk with the same files in the place of one
-  disk_set : (i : ℕ) (d d' : D) (h : Hand C D) (nodes : List Node) → AreNodes core file h.kept.header h.kept.cores h.disks nodes → i < h.kept.header.nodes → slice_get h.disks i ≡ Some d → ((q : Slot) → file d' q ≡ file d q)
+  disk_set : (i : ℕ) (d d' : D) (h : Hand C D) (nodes : List Node) → AreNodes core file h.kept.header h.kept.cores h.disks nodes →
+      i < h.kept.header.nodes → slice_get h.disks i ≡ Some d → ((q : Slot) → file d' q ≡ file d q)
       → AreNodes core file h.kept.header h.kept.cores (slice_set h.disks i d') nodes
   disk_set i d d' h nodes are within at same =
       let c = find i h.kept.cores (omega (arith, within, are.cores_count)) in
@@ -56,8 +59,14 @@ module _ {C D : Type 0} (core : Ghosts C) (file : D → FileMap) where
       (subst (λ cs. AreNodes core file h.kept.header cs (slice_set h.disks i d') (slice_set nodes i n.0)) (set_same i c.0 h.kept.cores c.1) set)
 
   -- a disk is armed, which leaves its files
-  pub happens_armed : (node calls : ℕ) (kind : StopKind) (d d' : D) (old : Hand C D) (journal : List Line) → 1 ≤ node → node ≤ old.kept.header.nodes → slice_get old.disks (node - 1) ≡ Some d → ((q : Slot) → file d' q ≡ file d q)
-      → journal ≡ old.journal ++ numbered old.kept.event (body.Armed node ∷ []) → HappensTo core file (done (event.Stop node calls kind)) old (record old { disks = slice_set old.disks (node - 1) d'; journal = journal })
+  pub happens_armed : (node calls : ℕ) (kind : StopKind) (d d' : D) (old : Hand C D) (journal : List Line) → 1 ≤ node →
+      node ≤ old.kept.header.nodes → slice_get old.disks (node - 1) ≡ Some d → ((q : Slot) → file d' q ≡ file d q)
+      → journal ≡ old.journal ++ numbered old.kept.event (body.Armed node ∷ []) →
+      HappensTo core file (done (event.Stop node calls kind)) old (record old {
+        disks = slice_set old.disks (node - 1) d';
+        journal =
+            journal;
+      })
   happens_armed node calls kind d d' old journal low high at same said w st = record {
     falls = [];
     works = tt;
@@ -76,7 +85,8 @@ module _ {C D : Type 0} (core : Ghosts C) (file : D → FileMap) where
   }
 
   -- an event that the world refuses asks for no arm of its nodes
-  pub refused_arms : (e : Event) (c : ℕ) (old : Hand C D) → ((w : World) → Keeps core old.kept w → Some c ≡ first_reason (reasons e w)) → StandsSome core file old
+  pub refused_arms : (e : Event) (c : ℕ) (old : Hand C D) → ((w : World) → Keeps core old.kept w → Some c ≡ first_reason (reasons e w)) →
+      StandsSome core file old
       → (n : ℕ) → 1 ≤ n → n ≤ old.kept.header.nodes → arm_at n e ≡ None
   refused_arms (event.Stop m calls kind) c old tests some n low high = by (m == n) refl
     where
@@ -91,7 +101,8 @@ module _ {C D : Type 0} (core : Ghosts C) (file : D → FileMap) where
           let header : w.header ≡ old.kept.header = some.1.header in
           let one : nat_le 1 m ≡ true = grind (arith, same, low) in
           let most : nat_le m w.header.nodes ≡ true = (λ i. nat_le m (header i).nodes) ∙ grind (arith, same, high) in
-          let never : Some c ≡ None = tests w (keeps_of core file old w some.1) ∙ (λ i. first_reason ((1, not (one i && nat_le m w.header.nodes)) ∷ [])) ∙ (λ i. first_reason ((1, not (most i)) ∷ [])) in
+          let never : Some c ≡ None =
+          tests w (keeps_of core file old w some.1) ∙ (λ i. first_reason ((1, not (one i && nat_le m w.header.nodes)) ∷ [])) ∙ (λ i. first_reason ((1, not (most i)) ∷ [])) in
           absurd (cc never)
   refused_arms (event.Begin l k) c old tests some n low high = refl
   refused_arms (event.Serial l k) c old tests some n low high = refl
@@ -113,8 +124,10 @@ module _ {C D : Type 0} (core : Ghosts C) (file : D → FileMap) where
   refused_arms (event.Show x) c old tests some n low high = refl
 
   -- nor does one that gives a label
-  pub given_arms : (e : Event) (old : Hand C D) → ((w : World) → Keeps core old.kept w → true ≡ lacks_labels (giving e w) w) → StandsSome core file old → (n : ℕ) → arm_at n e ≡ None
-  given_arms (event.Stop m calls kind) old lacks some n = let never : true ≡ false = lacks some.0 (keeps_of core file old some.0 some.1) in absurd (cc never)
+  pub given_arms : (e : Event) (old : Hand C D) → ((w : World) → Keeps core old.kept w → true ≡ lacks_labels (giving e w) w) →
+      StandsSome core file old → (n : ℕ) → arm_at n e ≡ None
+  given_arms (event.Stop m calls kind) old lacks some n =
+      let never : true ≡ false = lacks some.0 (keeps_of core file old some.0 some.1) in absurd (cc never)
   given_arms (event.Begin l k) old lacks some n = refl
   given_arms (event.Serial l k) old lacks some n = refl
   given_arms (event.BeginIn l p) old lacks some n = refl
@@ -137,8 +150,19 @@ module _ {C D : Type 0} (core : Ghosts C) (file : D → FileMap) where
   -- ---- junk
 
   -- what nobody sent is put
-  pub goes_junk : (n : ℕ) (bytes : List ℕ) (old : Hand C D) (sent : List net.Sent) (journal : List Line) (full : Bool) → message_of bytes ≡ None → length old.kept.net ≤ most_frames
-      → record { frames = map frame_of sent; lines = journal; full = full } ≡ put_seen 0 old.kept.event (Sent n frame.Junk (message_of bytes) ∷ []) (record { frames = map frame_of old.kept.net; lines = old.journal; full = old.kept.full })
+  pub goes_junk : (n : ℕ) (bytes : List ℕ) (old : Hand C D) (sent : List net.Sent) (journal : List Line) (full : Bool) →
+      message_of bytes ≡ None → length old.kept.net ≤ most_frames
+      → record {
+        frames = map frame_of sent;
+        lines = journal;
+        full =
+            full;
+      } ≡ put_seen 0 old.kept.event (Sent n frame.Junk (message_of bytes) ∷ []) (record {
+        frames = map frame_of old.kept.net;
+        lines =
+            old.journal;
+        full = old.kept.full;
+      })
       → GoesTo core file (protocol.junk n) old (record old { kept = record old.kept { net = sent; full = full }; journal = journal })
   goes_junk n bytes old sent journal full none few is w st = by (nat_lt (length w.frames) most_frames) refl
     where
@@ -157,7 +181,9 @@ module _ {C D : Type 0} (core : Ghosts C) (file : D → FileMap) where
       full_is : full ≡ (w.full || overflows w.frames (f ∷ []))
       full_is = ap (λ (p : Put). p.full) is ∙ (λ i. sym st.full i || overflows (sym st.frames i) (new_frame 0 n (none i) ∷ []))
 
-      stands : (v : World) → v.header ≡ w.header → v.start ≡ w.start → v.frames ≡ map frame_of sent → v.lines ≡ journal → v.labels ≡ w.labels → v.arms ≡ w.arms → v.event ≡ w.event → v.full ≡ full → v.over ≡ w.over → v.nodes ≡ w.nodes → Stands core file new v
+      stands : (v : World) → v.header ≡ w.header → v.start ≡ w.start → v.frames ≡ map frame_of sent → v.lines ≡ journal →
+          v.labels ≡ w.labels → v.arms ≡ w.arms → v.event ≡ w.event → v.full ≡ full → v.over ≡ w.over → v.nodes ≡ w.nodes →
+          Stands core file new v
       stands v header start frames lines labels arms event full over nodes = record {
         header = header ∙ st.header;
         start = start ∙ st.start;
@@ -179,7 +205,8 @@ module _ {C D : Type 0} (core : Ghosts C) (file : D → FileMap) where
       always true = refl
       always false = refl
 
-      by : (b : Bool) → nat_lt (length w.frames) most_frames ≡ b → Goes old.kept.header.nodes (protocol.junk n) (λ v. v) w (Stands core file new)
+      by : (b : Bool) → nat_lt (length w.frames) most_frames ≡ b →
+          Goes old.kept.header.nodes (protocol.junk n) (λ v. v) w (Stands core file new)
       by true room =
           let less : length w.frames < most_frames = grind (arith, room) in
           let fits : overflows w.frames (f ∷ []) ≡ false = grind (arith, less) in

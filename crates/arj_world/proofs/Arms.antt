@@ -1,5 +1,6 @@
 -- Arms by node, as the list that the protocol has of them.
-use Rattle.std.proofs.Common.{◌≡◌, ℕ, zero, suc, ◌+◌, ◌≤◌, ◌<◌, ◌==◌, Bool, true, false, not, if◌then◌else◌, [], ◌∷◌, ◌++◌, refl, ap, sym, ◌∙◌, subst, Option, Some, None, arith, filter}
+use Rattle.std.proofs.Common.{◌≡◌, ℕ, zero, suc, ◌+◌, ◌≤◌, ◌<◌, ◌==◌, Bool, true, false, not, if◌then◌else◌, [], ◌∷◌, ◌++◌, refl, ap, sym}
+use Rattle.std.proofs.Common.{◌∙◌, subst, Option, Some, None, arith, filter}
 use Rattle.std.specs.declared.cmp.Ordering.TheVariants.{Less, Equal, Greater}
 use Rattle.std.specs.Ordering.{nat_cmp}
 use Rattle.arj_protocol.specs.Order.{at_number, put_number}
@@ -63,10 +64,13 @@ none_of (suc c) k f h = (λ i. one_arm k (h k i) ++ none_of c (k + 1) f h i)
 -- what is picked at a node below the first one plays no part
 apart : (c k j : ℕ) (v : Option Arm) (f : Pick) → j < k → arms_from c k (but_at j v f) ≡ arms_from c k f
 apart zero k j v f h = refl
-apart (suc c) k j v f h = let other : (k == j) ≡ false = grind (arith, h) in (λ i. one_arm k ((if other i then v else f k)) ++ apart c (k + 1) j v f (omega (arith, h)) i)
+apart (suc c) k j v f h =
+    let other : (k == j) ≡ false =
+    grind (arith, h) in (λ i. one_arm k ((if other i then v else f k)) ++ apart c (k + 1) j v f (omega (arith, h)) i)
 
 -- an arm in the place of one that is there
-pub put : (c k j : ℕ) (a b : Arm) (f : Pick) → k ≤ j → j < k + c → f j ≡ Some b → put_number j a (arms_from c k f) ≡ arms_from c k (but_at j (Some a) f)
+pub put : (c k j : ℕ) (a b : Arm) (f : Pick) → k ≤ j → j < k + c → f j ≡ Some b →
+    put_number j a (arms_from c k f) ≡ arms_from c k (but_at j (Some a) f)
 put zero k j a b f low high has = absurd (omega (arith, low, high))
 put (suc c) k j a b f low high has = by (j == k) refl (λ h. put c (k + 1) j a b f (omega (arith, h)) (omega (arith, high)) has)
   where
@@ -74,25 +78,33 @@ put (suc c) k j a b f low high has = by (j == k) refl (λ h. put c (k + 1) j a b
     first None is = absurd (cc is)
     first (Some d) is = rw (equal k) refl
 
-    here : put_number k a (arms_from (suc c) k f) ≡ arms_from (suc c) k (but_at k (Some a) f) → k ≡ j → put_number j a (arms_from (suc c) k f) ≡ arms_from (suc c) k (but_at j (Some a) f)
+    here : put_number k a (arms_from (suc c) k f) ≡ arms_from (suc c) k (but_at k (Some a) f) → k ≡ j →
+        put_number j a (arms_from (suc c) k f) ≡ arms_from (suc c) k (but_at j (Some a) f)
     here h same = subst (λ n. put_number n a (arms_from (suc c) k f) ≡ arms_from (suc c) k (but_at n (Some a) f)) same h
 
-    later : (o : Option Arm) → k < j → put_number j a (arms_from c (k + 1) f) ≡ arms_from c (k + 1) (but_at j (Some a) f) → put_number j a (one_arm k o ++ arms_from c (k + 1) f) ≡ one_arm k o ++ arms_from c (k + 1) (but_at j (Some a) f)
+    later : (o : Option Arm) → k < j → put_number j a (arms_from c (k + 1) f) ≡ arms_from c (k + 1) (but_at j (Some a) f) →
+        put_number j a (one_arm k o ++ arms_from c (k + 1) f) ≡ one_arm k o ++ arms_from c (k + 1) (but_at j (Some a) f)
     later None h ih = ih
     later (Some d) h ih = let greater : nat_cmp j k ≡ Greater = grind (arith, h) in rw greater (ap (λ es. (k, d) ∷ es) ih)
 
-    by : (t : Bool) → (j == k) ≡ t → (k < j → put_number j a (arms_from c (k + 1) f) ≡ arms_from c (k + 1) (but_at j (Some a) f)) → put_number j a (arms_from (suc c) k f) ≡ arms_from (suc c) k (but_at j (Some a) f)
+    by : (t : Bool) → (j == k) ≡ t → (k < j → put_number j a (arms_from c (k + 1) f) ≡ arms_from c (k + 1) (but_at j (Some a) f)) →
+        put_number j a (arms_from (suc c) k f) ≡ arms_from (suc c) k (but_at j (Some a) f)
     by true h ih =
         let one : k ≡ j = same k j h in
         here (first (f k) (ap f one ∙ has) ∙ (λ i. (k, a) ∷ sym (apart c (k + 1) k (Some a) f (omega arith)) i) ∙ (λ i. one_arm k (if sym (itself k) i then Some a else f k) ++ arms_from c (k + 1) (but_at k (Some a) f))) one
-    by false h ih = let other : (k == j) ≡ false = grind (arith, h) in let next : k < j = behind k j low h in later (f k) next (ih next) ∙ (λ i. one_arm k (if sym other i then Some a else f k) ++ arms_from c (k + 1) (but_at j (Some a) f))
+    by false h ih =
+        let other : (k == j) ≡ false =
+        grind (arith, h) in let next : k < j =
+        behind k j low h in later (f k) next (ih next) ∙ (λ i. one_arm k (if sym other i then Some a else f k) ++ arms_from c (k + 1) (but_at j (Some a) f))
 
 -- a node's arm taken out
 pub without : (c k j : ℕ) (f : Pick) → filter (λ (e : ℕ × Arm). not (e.0 == j)) (arms_from c k f) ≡ arms_from c k (but_at j None f)
 without zero k j f = refl
 without (suc c) k j f = by (k == j) refl (f k) (without c (k + 1) j f)
   where
-    by : (t : Bool) → (k == j) ≡ t → (o : Option Arm) → filter (λ (e : ℕ × Arm). not (e.0 == j)) (arms_from c (k + 1) f) ≡ arms_from c (k + 1) (but_at j None f) → filter (λ (e : ℕ × Arm). not (e.0 == j)) (one_arm k o ++ arms_from c (k + 1) f) ≡ one_arm k (if k == j then None else o) ++ arms_from c (k + 1) (but_at j None f)
+    by : (t : Bool) → (k == j) ≡ t → (o : Option Arm) →
+        filter (λ (e : ℕ × Arm). not (e.0 == j)) (arms_from c (k + 1) f) ≡ arms_from c (k + 1) (but_at j None f) →
+        filter (λ (e : ℕ × Arm). not (e.0 == j)) (one_arm k o ++ arms_from c (k + 1) f) ≡ one_arm k (if k == j then None else o) ++ arms_from c (k + 1) (but_at j None f)
     by true h None ih = rw h ih
     by true h (Some a) ih = rw h ih
     by false h None ih = rw h ih

@@ -1,5 +1,6 @@
 -- Frames of a net as the protocol's: by number, marked, and the lowest that is still to be delivered.
-use Rattle.std.proofs.Common.{◌≡◌, ℕ, zero, suc, ◌+◌, ◌<◌, Bool, true, false, List, [], ◌∷◌, length, map, refl, ap, sym, ◌∙◌, Option, Some, None, MatchOption, arith}
+use Rattle.std.proofs.Common.{◌≡◌, ℕ, zero, suc, ◌+◌, ◌<◌, Bool, true, false, List, [], ◌∷◌, length, map, refl, ap, sym, ◌∙◌, Option, Some}
+use Rattle.std.proofs.Common.{None, MatchOption, arith}
 use Rattle.std.specs.Prelude.{if◌then◌else◌, slice_get, slice_set}
 use Rattle.std.specs.Option.{option_map, option_map_or}
 use Rattle.arj_net.specs.declared.net.Frame as net_frame
@@ -20,7 +21,8 @@ frame_at zero sent = refl
 frame_at (suc k) sent = placed k sent
 
 -- what was sent under the number of a frame that is there
-pub sent_there : (o : Option net.Sent) (f : net_frame.Frame) → option_map (λ (s : net.Sent). s.frame) o ≡ Some f → (s : net.Sent) × (o ≡ Some s) × (s.frame ≡ f)
+pub sent_there : (o : Option net.Sent) (f : net_frame.Frame) → option_map (λ (s : net.Sent). s.frame) o ≡ Some f →
+    (s : net.Sent) × (o ≡ Some s) × (s.frame ≡ f)
 sent_there None f is = absurd (cc is)
 sent_there (Some s) f is = (s, refl, cc is)
 
@@ -29,7 +31,8 @@ none_there None is = refl
 none_there (Some s) is = absurd (cc is)
 
 -- a number that no frame has marks nothing
-pub nothing_marked : (mark : net.Sent → net.Sent) (k : ℕ) (sent : List net.Sent) → nets.sent_as sent k ≡ None → nets.changed_at mark sent k ≡ sent
+pub nothing_marked : (mark : net.Sent → net.Sent) (k : ℕ) (sent : List net.Sent) → nets.sent_as sent k ≡ None →
+    nets.changed_at mark sent k ≡ sent
 nothing_marked mark zero sent none = refl
 nothing_marked mark (suc k) sent none = ap (λ (o : Option net.Sent). option_map_or (λ s. slice_set sent k (mark s)) o sent) none
 
@@ -39,7 +42,8 @@ map_set (t ∷ ts) zero s = refl
 map_set (t ∷ ts) (suc k) s = ap (λ fs. frame_of t ∷ fs) (map_set ts k s)
 
 -- a mark of a frame that is there
-pub marked : (mark : net.Sent → net.Sent) (change : Frame → Frame) (k : ℕ) (sent : List net.Sent) (s : net.Sent) → nets.sent_as sent k ≡ Some s → change (frame_of s) ≡ frame_of (mark s)
+pub marked : (mark : net.Sent → net.Sent) (change : Frame → Frame) (k : ℕ) (sent : List net.Sent) (s : net.Sent) →
+    nets.sent_as sent k ≡ Some s → change (frame_of s) ≡ frame_of (mark s)
     → map frame_of (nets.changed_at mark sent k) ≡ set_place k (change (frame_of s)) (map frame_of sent)
 marked mark change zero sent s at same = absurd (cc at)
 marked mark change (suc k) sent s at same =
@@ -68,20 +72,24 @@ none_from : (from : ℕ) (sent : List net.Sent) → ((k : ℕ) → Waits sent k 
 none_from from [] all = refl
 none_from from (s ∷ ss) all = by (nets.is_pending s) (all 0) (none_from (from + 1) ss (λ k. all (suc k)))
   where
-    by : (b : Bool) → b ≡ false → lowest_from (from + 1) (map frame_of ss) ≡ None → (if b then Some from else lowest_from (from + 1) (map frame_of ss)) ≡ None
+    by : (b : Bool) → b ≡ false → lowest_from (from + 1) (map frame_of ss) ≡ None →
+        (if b then Some from else lowest_from (from + 1) (map frame_of ss)) ≡ None
     by true h later = absurd (cc h)
     by false h later = later
 
-one_from : (from k : ℕ) (sent : List net.Sent) → Waits sent k ≡ true → ((j : ℕ) → j < k → Waits sent j ≡ false) → lowest_from from (map frame_of sent) ≡ Some (from + k)
+one_from : (from k : ℕ) (sent : List net.Sent) → Waits sent k ≡ true → ((j : ℕ) → j < k → Waits sent j ≡ false) →
+    lowest_from from (map frame_of sent) ≡ Some (from + k)
 one_from from k [] here below = absurd (cc here)
 one_from from zero (s ∷ ss) here below = by (nets.is_pending s) here
   where
     by : (b : Bool) → b ≡ true → (if b then Some from else lowest_from (from + 1) (map frame_of ss)) ≡ Some (from + 0)
     by true h = ap Some (omega arith)
     by false h = absurd (cc h)
-one_from from (suc k) (s ∷ ss) here below = by (nets.is_pending s) (below 0 (omega arith)) (one_from (from + 1) k ss here (λ j less. below (suc j) (omega (arith, less))))
+one_from from (suc k) (s ∷ ss) here below =
+    by (nets.is_pending s) (below 0 (omega arith)) (one_from (from + 1) k ss here (λ j less. below (suc j) (omega (arith, less))))
   where
-    by : (b : Bool) → b ≡ false → lowest_from (from + 1) (map frame_of ss) ≡ Some (from + 1 + k) → (if b then Some from else lowest_from (from + 1) (map frame_of ss)) ≡ Some (from + suc k)
+    by : (b : Bool) → b ≡ false → lowest_from (from + 1) (map frame_of ss) ≡ Some (from + 1 + k) →
+        (if b then Some from else lowest_from (from + 1) (map frame_of ss)) ≡ Some (from + suc k)
     by true h later = absurd (cc h)
     by false h later = later ∙ ap Some (omega arith)
 
@@ -95,6 +103,7 @@ one_lowest sent zero is = absurd (cc is.here)
 one_lowest sent (suc k) is = one_from 1 k sent is.here (λ j less. is.below (suc j) (omega (arith, less))) ∙ ap Some (omega arith)
 
 -- the lowest that is found
-pub lowest_found : (o : Option ℕ) (sent : List net.Sent) → MatchOption o ((k : ℕ) → nets.is_open sent k ≡ false) (nets.IsLowest sent) → o ≡ lowest_from 1 (map frame_of sent)
+pub lowest_found : (o : Option ℕ) (sent : List net.Sent) → MatchOption o ((k : ℕ) → nets.is_open sent k ≡ false) (nets.IsLowest sent) →
+    o ≡ lowest_from 1 (map frame_of sent)
 lowest_found None sent all = sym (none_lowest sent all)
 lowest_found (Some k) sent is = sym (one_lowest sent k is)

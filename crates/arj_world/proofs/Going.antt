@@ -29,18 +29,22 @@ start most go w = record {
     whole (Some a) = ap (λ (x : ℕ). Some (record a { works = x })) (omega arith)
 
 -- at its end no stop is still to fall
-pub finish : (most : ℕ) (run : World → World) (first now : World) (r : Reaches most run first (λ v. v) now) → run (with_arms (arms_of most (r.pick (λ k. None))) first) ≡ with_arms [] now
-finish most run first now r = r.same (λ k. None) (λ n a is. absurd (cc is)) ∙ ap (λ arms. with_arms arms now) (none_of most 1 (left_of r.done (λ k. None)) (λ n. refl))
+pub finish : (most : ℕ) (run : World → World) (first now : World) (r : Reaches most run first (λ v. v) now) →
+    run (with_arms (arms_of most (r.pick (λ k. None))) first) ≡ with_arms [] now
+finish most run first now r =
+    r.same (λ k. None) (λ n a is. absurd (cc is)) ∙ ap (λ arms. with_arms arms now) (none_of most 1 (left_of r.done (λ k. None)) (λ n. refl))
 
 -- and each stop that fell fell at a work
-pub fallen : (most : ℕ) (run rest : World → World) (first now : World) (r : Reaches most run first rest now) → FallAtWorks (arms_of most (r.pick (λ k. None)))
+pub fallen : (most : ℕ) (run rest : World → World) (first now : World) (r : Reaches most run first rest now) →
+    FallAtWorks (arms_of most (r.pick (λ k. None)))
 fallen most run rest first now r = all_from most 1 (r.pick (λ k. None)) (r.works (λ k. None) (λ n a is. absurd (cc is)))
 
 -- ---- from piece to piece
 
 module _ (most : ℕ) where
   -- what is left of one piece is done by the next
-  pub onward : (go left after : World → World) (w : World) (P Q : World → Type 0) → (g : Goes most go left w P) → Goes most left after g.now Q → Goes most go after w Q
+  pub onward : (go left after : World → World) (w : World) (P Q : World → Type 0) → (g : Goes most go left w P) →
+      Goes most left after g.now Q → Goes most go after w Q
   onward go left after w P Q g h = record {
     now = h.now;
     stands = h.stands;
@@ -48,23 +52,35 @@ module _ (most : ℕ) where
   }
 
   -- one piece, and then another one
-  pub behind : (go left after : World → World) (w : World) (P : World → Type 0) → Goes most go left w P → Goes most (λ v. after (go v)) (λ v. after (left v)) w P
-  behind go left after w P g = record { now = g.now; stands = g.stands; reaches = λ run rest first r. g.reaches run (λ v. rest (after v)) first r }
+  pub behind : (go left after : World → World) (w : World) (P : World → Type 0) → Goes most go left w P →
+      Goes most (λ v. after (go v)) (λ v. after (left v)) w P
+  behind go left after w P g =
+      record { now = g.now; stands = g.stands; reaches = λ run rest first r. g.reaches run (λ v. rest (after v)) first r }
 
   -- nothing is done
   pub stays : (go : World → World) (w : World) (P : World → Type 0) → P w → Goes most go go w P
   stays go w P p = record { now = w; stands = p; reaches = λ run rest first r. r }
 
   -- two ways to say what is done, which are one whatever arms there are
-  pub as_well : (go other left : World → World) (w : World) (P : World → Type 0) → ((arms : List (ℕ × Arm)) → go (with_arms arms w) ≡ other (with_arms arms w)) → Goes most other left w P → Goes most go left w P
+  pub as_well : (go other left : World → World) (w : World) (P : World → Type 0) →
+      ((arms : List (ℕ × Arm)) → go (with_arms arms w) ≡ other (with_arms arms w)) → Goes most other left w P → Goes most go left w P
   as_well go other left w P same g = record {
     now = g.now;
     stands = g.stands;
-    reaches = λ run rest first r. g.reaches run rest first (record { done = r.done; pick = r.pick; works = r.works; down = r.down; same = λ f admits. r.same f admits ∙ ap rest (same (arms_of most (left_of r.done f))) });
+    reaches = λ run rest first r. g.reaches run rest first (record {
+      done = r.done;
+      pick = r.pick;
+      works = r.works;
+      down = r.down;
+      same =
+          λ f admits. r.same f admits ∙ ap rest (same (arms_of most (left_of r.done f)));
+    });
   }
 
   -- something is done that doesn't look at arms, and leaves the nodes
-  pub plainly : (go : World → World) (w : World) (P : World → Type 0) → ((arms : List (ℕ × Arm)) → go (with_arms arms w) ≡ with_arms arms (go w)) → (go w).nodes ≡ w.nodes → P (go w) → Goes most go (λ v. v) w P
+  pub plainly : (go : World → World) (w : World) (P : World → Type 0) →
+      ((arms : List (ℕ × Arm)) → go (with_arms arms w) ≡ with_arms arms (go w)) → (go w).nodes ≡ w.nodes → P (go w) →
+      Goes most go (λ v. v) w P
   plainly go w P same nodes p = record {
     now = go w;
     stands = p;
@@ -82,10 +98,16 @@ module _ (most : ℕ) where
 
   -- ---- a step of a node
 
-  idle : (h : Header) (i : Input) (n : Node) → is_no_restart i ≡ true → n.live ≡ None → ((step h n i).after.live ≡ None) × (count_works (step h n i).halting ≡ 0)
-  idle h i n other down = subst (λ live. ((step h (record n { live = live }) i).after.live ≡ None) × (count_works (step h (record n { live = live }) i).halting ≡ 0)) (sym down) (by i other)
+  idle : (h : Header) (i : Input) (n : Node) → is_no_restart i ≡ true → n.live ≡ None →
+      ((step h n i).after.live ≡ None) × (count_works (step h n i).halting ≡ 0)
+  idle h i n other down =
+      subst (λ live. ((step h (record n { live = live }) i).after.live ≡ None) × (count_works (step h (record n {
+        live =
+            live;
+      }) i).halting ≡ 0)) (sym down) (by i other)
     where
-      by : (j : Input) → is_no_restart j ≡ true → ((step h (record n { live = None }) j).after.live ≡ None) × (count_works (step h (record n { live = None }) j).halting ≡ 0)
+      by : (j : Input) → is_no_restart j ≡ true →
+          ((step h (record n { live = None }) j).after.live ≡ None) × (count_works (step h (record n { live = None }) j).halting ≡ 0)
       by (input.Begin l k parent) o = (refl, refl)
       by (input.Call l x op) o = (refl, refl)
       by (input.Include l x s) o = (refl, refl)
@@ -98,7 +120,8 @@ module _ (most : ℕ) where
       by input.Crash o = (refl, refl)
       by (input.Show x) o = (refl, refl)
 
-  pub one_step : (k : ℕ) (i : Input) (w : World) (P : World → Type 0) → 1 ≤ k → k ≤ most → is_no_restart i ≡ true → StepsOne k i w P → Goes most (steps k i) (λ v. v) w P
+  pub one_step : (k : ℕ) (i : Input) (w : World) (P : World → Type 0) → 1 ≤ k → k ≤ most → is_no_restart i ≡ true → StepsOne k i w P →
+      Goes most (steps k i) (λ v. v) w P
   one_step k i w P low high other s = by s.went
     where
       n : Node

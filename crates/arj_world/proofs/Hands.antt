@@ -1,5 +1,6 @@
 -- From one world in hand to the next.
-use Rattle.std.proofs.Common.{◌≡◌, ℕ, zero, suc, ◌+◌, ◌-◌, ◌≤◌, ◌<◌, Bool, true, false, List, [], ◌∷◌, ◌++◌, length, map, refl, ap, sym, ◌∙◌, subst, Option, Some, None, arith}
+use Rattle.std.proofs.Common.{◌≡◌, ℕ, zero, suc, ◌+◌, ◌-◌, ◌≤◌, ◌<◌, Bool, true, false, List, [], ◌∷◌, ◌++◌, length, map, refl, ap, sym}
+use Rattle.std.proofs.Common.{◌∙◌, subst, Option, Some, None, arith}
 use Rattle.std.specs.Prelude.{if◌then◌else◌, not, ◌||◌, slice_get, option_map, Result, OnOk}
 use Rattle.std.proofs.lemmas.Result.{on_ok_weaker}
 use Rattle.std.specs.List.{list_all}
@@ -17,7 +18,8 @@ use Rattle.arj_protocol.specs.Step as input
 use Rattle.arj_protocol.specs.Tree.{at_place, set_place}
 use Rattle.arj_protocol.specs.Words.body
 use Rattle.arj_protocol.specs.World as protocol
-use Rattle.arj_protocol.specs.World.{World, Frame, change_frame, deliver_frame, lose_frame, numbered, says, lowest_from, settle_for, steps, step_node}
+use Rattle.arj_protocol.specs.World.{World, Frame, change_frame, deliver_frame, lose_frame, numbered, says, lowest_from, settle_for, steps}
+use Rattle.arj_protocol.specs.World.{step_node}
 use Rattle.arj_world.specs.Goes.{Goes, GoesTo, GoesPartTo, StepsTo, is_no_restart}
 use Rattle.arj_world.specs.Stands.{AreSomeNodes, Hand, Stands, StandsSome}
 use Rattle.arj_world.specs.Turns.{with_arms}
@@ -59,11 +61,13 @@ none_left done count all = let none : count - done ≡ 0 = omega (arith, all) in
 
 module _ {C D : Type 0} (core : Ghosts C) (file : D → FileMap) where
   -- a world goes on standing
-  pub goes_some : (go left : World → World) (old new : Hand C D) → GoesPartTo core file go left old new → StandsSome core file old → StandsSome core file new
+  pub goes_some : (go left : World → World) (old new : Hand C D) → GoesPartTo core file go left old new → StandsSome core file old →
+      StandsSome core file new
   goes_some go left old new goes some = let g = goes some.0 some.1 in (g.now, g.stands)
 
   -- one thing is done, and then another one
-  pub goes_both : (go left after : World → World) (first second third : Hand C D) → GoesPartTo core file go left first second → GoesPartTo core file left after second third
+  pub goes_both : (go left after : World → World) (first second third : Hand C D) → GoesPartTo core file go left first second →
+      GoesPartTo core file left after second third
       → second.kept.header ≡ first.kept.header → GoesPartTo core file go after first third
   goes_both go left after first second third a b same w st =
       let g = a w st in
@@ -75,22 +79,27 @@ module _ {C D : Type 0} (core : Ghosts C) (file : D → FileMap) where
   goes_behind go left after first second a w st = behind first.kept.header.nodes go left after w (Stands core file second) (a w st)
 
   -- one behind the other
-  pub goes_then : (go after : World → World) (first second third : Hand C D) → GoesTo core file go first second → GoesTo core file after second third
+  pub goes_then : (go after : World → World) (first second third : Hand C D) → GoesTo core file go first second →
+      GoesTo core file after second third
       → second.kept.header ≡ first.kept.header → GoesTo core file (λ v. after (go v)) first third
   goes_then go after first second third a b same =
       goes_both (λ v. after (go v)) after (λ v. v) first second third (goes_behind go (λ v. v) after first second a) b same
 
   -- nothing is done
   pub goes_nowhere : (go : World → World) (h : Hand C D)
-      → ((w : World) → Stands core file h w → (arms : List (ℕ × protocol.Arm)) → go (with_arms arms w) ≡ with_arms arms w) → GoesTo core file go h h
-  goes_nowhere go h same w st = as_well h.kept.header.nodes go (λ v. v) (λ v. v) w (Stands core file h) (same w st) (stays h.kept.header.nodes (λ v. v) w (Stands core file h) st)
+      → ((w : World) → Stands core file h w → (arms : List (ℕ × protocol.Arm)) → go (with_arms arms w) ≡ with_arms arms w) →
+      GoesTo core file go h h
+  goes_nowhere go h same w st =
+      as_well h.kept.header.nodes go (λ v. v) (λ v. v) w (Stands core file h) (same w st) (stays h.kept.header.nodes (λ v. v) w (Stands core file h) st)
 
   -- a step of a node, but no restart
-  pub goes_step : (node : ℕ) (i : Input) (old new : Hand C D) → 1 ≤ node → node ≤ old.kept.header.nodes → is_no_restart i ≡ true → StepsTo core file node i old new → GoesTo core file (steps node i) old new
+  pub goes_step : (node : ℕ) (i : Input) (old new : Hand C D) → 1 ≤ node → node ≤ old.kept.header.nodes → is_no_restart i ≡ true →
+      StepsTo core file node i old new → GoesTo core file (steps node i) old new
   goes_step node i old new low high other to w st = one_step old.kept.header.nodes node i w (Stands core file new) low high other (to w st)
 
   -- no node has this number
-  pub no_node : (node : ℕ) (nodes : List Node) (count : ℕ) → length nodes ≡ count → (1 ≤ node → node ≤ count → ⊥) → at_place node nodes ≡ None
+  pub no_node : (node : ℕ) (nodes : List Node) (count : ℕ) → length nodes ≡ count → (1 ≤ node → node ≤ count → ⊥) →
+      at_place node nodes ≡ None
   no_node zero nodes count is out = refl
   no_node (suc k) nodes count is out = past k nodes (λ less. out (omega arith) (omega (arith, less, is)))
     where
@@ -100,7 +109,8 @@ module _ {C D : Type 0} (core : Ghosts C) (file : D → FileMap) where
       past (suc k) (n ∷ ns) out = past k ns (λ less. out (omega (arith, less)))
 
   pub goes_not : (node : ℕ) (i : Input) (h : Hand C D) → (1 ≤ node → node ≤ h.kept.header.nodes → ⊥) → GoesTo core file (steps node i) h h
-  goes_not node i h out = goes_nowhere (steps node i) h (λ w st arms. ap (step_node node i (with_arms arms w)) (no_node node w.nodes h.kept.header.nodes st.nodes.nodes_count out))
+  goes_not node i h out =
+      goes_nowhere (steps node i) h (λ w st arms. ap (step_node node i (with_arms arms w)) (no_node node w.nodes h.kept.header.nodes st.nodes.nodes_count out))
 
   -- ---- frames
 
@@ -134,13 +144,15 @@ module _ {C D : Type 0} (core : Ghosts C) (file : D → FileMap) where
     at : (w : World) → Stands core file old w → at_place k w.frames ≡ Some (frame_of there.0)
     at w st = ap (at_place k) st.frames ∙ frame_at k old.kept.net ∙ ap (option_map frame_of) there.1
 
-    same : (w : World) → Stands core file old w → (arms : List (ℕ × protocol.Arm)) → protocol.deliver k (with_arms arms w) ≡ take (change_frame k protocol.as_delivered (frame_of there.0) (with_arms arms w))
+    same : (w : World) → Stands core file old w → (arms : List (ℕ × protocol.Arm)) →
+        protocol.deliver k (with_arms arms w) ≡ take (change_frame k protocol.as_delivered (frame_of there.0) (with_arms arms w))
     same w st arms = ap (deliver_frame k (with_arms arms w)) (at w st)
         ∙ ap (λ (x : net_frame.Frame). steps x.to (input.Frame k x.from (message_of x.bytes)) (change_frame k protocol.as_delivered (frame_of there.0) (with_arms arms w))) there.2
 
     -- a frame that is there is marked, and its node is to take it
     pub goes_mark : GoesPartTo core file (protocol.deliver k) take old next
-    goes_mark w st = as_well old.kept.header.nodes (protocol.deliver k) (λ v. take (change_frame k protocol.as_delivered (frame_of there.0) v)) take w (Stands core file next) (same w st)
+    goes_mark w st =
+        as_well old.kept.header.nodes (protocol.deliver k) (λ v. take (change_frame k protocol.as_delivered (frame_of there.0) v)) take w (Stands core file next) (same w st)
         (behind old.kept.header.nodes (change_frame k protocol.as_delivered (frame_of there.0)) (λ v. v) take w (Stands core file next)
         (plainly old.kept.header.nodes (change_frame k protocol.as_delivered (frame_of there.0)) w (Stands core file next) (λ arms. refl) refl (frames w st)))
 
@@ -150,10 +162,12 @@ module _ {C D : Type 0} (core : Ghosts C) (file : D → FileMap) where
 
   -- one that isn't there does nothing
   pub goes_undelivered : (k : ℕ) (old : Hand C D) → nets.frame_of old.kept.net k ≡ None → GoesTo core file (protocol.deliver k) old old
-  goes_undelivered k old none = goes_nowhere (protocol.deliver k) old (λ w st arms. ap (deliver_frame k (with_arms arms w)) (ap (at_place k) st.frames ∙ frame_at k old.kept.net ∙ ap (option_map frame_of) (none_there (nets.sent_as old.kept.net k) none)))
+  goes_undelivered k old none =
+      goes_nowhere (protocol.deliver k) old (λ w st arms. ap (deliver_frame k (with_arms arms w)) (ap (at_place k) st.frames ∙ frame_at k old.kept.net ∙ ap (option_map frame_of) (none_there (nets.sent_as old.kept.net k) none)))
 
   -- one that is lost has a line
-  pub goes_lose : (k : ℕ) (old : Hand C D) (journal : List Line) → journal ≡ old.journal ++ numbered old.kept.event (dropped_line k (nets.frame_of old.kept.net k))
+  pub goes_lose : (k : ℕ) (old : Hand C D) (journal : List Line) →
+      journal ≡ old.journal ++ numbered old.kept.event (dropped_line k (nets.frame_of old.kept.net k))
       → GoesTo core file (protocol.lose k) old (record (with_net (nets.changed_at nets.as_lost old.kept.net k) old) { journal = journal })
   goes_lose k old journal said = by (nets.frame_of old.kept.net k) refl
     where
@@ -164,7 +178,8 @@ module _ {C D : Type 0} (core : Ghosts C) (file : D → FileMap) where
       there f is w st =
           let s = sent_there (nets.sent_as old.kept.net k) f is in
           let lost : World → World = λ v. says (body.Dropped k ∷ []) (change_frame k protocol.as_lost (frame_of s.0) v) in
-          let at : at_place k w.frames ≡ Some (frame_of s.0) = ap (at_place k) st.frames ∙ frame_at k old.kept.net ∙ ap (option_map frame_of) s.1 in
+          let at : at_place k w.frames ≡ Some (frame_of s.0) =
+          ap (at_place k) st.frames ∙ frame_at k old.kept.net ∙ ap (option_map frame_of) s.1 in
           as_well old.kept.header.nodes (protocol.lose k) lost (λ v. v) w (Stands core file next) (λ arms. ap (lose_frame k (with_arms arms w)) at)
           (plainly old.kept.header.nodes lost w (Stands core file next) (λ arms. refl) refl (record {
             header = st.header;
@@ -183,7 +198,11 @@ module _ {C D : Type 0} (core : Ghosts C) (file : D → FileMap) where
       by (Some f) is = there f is
       by None is =
           let none = none_there (nets.sent_as old.kept.net k) is in
-          let same : old ≡ next = λ i. record (with_net (sym (nothing_marked nets.as_lost k old.kept.net none) i) old) { journal = sym (said ∙ ap (λ o. old.journal ++ numbered old.kept.event (dropped_line k o)) is ∙ append-nil old.journal) i } in
+          let same : old ≡ next =
+          λ i. record (with_net (sym (nothing_marked nets.as_lost k old.kept.net none) i) old) {
+            journal =
+                sym (said ∙ ap (λ o. old.journal ++ numbered old.kept.event (dropped_line k o)) is ∙ append-nil old.journal) i;
+          } in
           subst (GoesTo core file (protocol.lose k) old) same
           (goes_nowhere (protocol.lose k) old (λ w st arms. ap (lose_frame k (with_arms arms w)) (ap (at_place k) st.frames ∙ frame_at k old.kept.net ∙ ap (option_map frame_of) none)))
 
@@ -193,7 +212,8 @@ module _ {C D : Type 0} (core : Ghosts C) (file : D → FileMap) where
   abbrev pub lowest_in : Hand C D → Option ℕ
   lowest_in h = if h.kept.full then None else lowest_from 1 (map frame_of h.kept.net)
 
-  lowest_is : (h : Hand C D) (w : World) (arms : List (ℕ × protocol.Arm)) → Stands core file h w → protocol.lowest (with_arms arms w) ≡ lowest_in h
+  lowest_is : (h : Hand C D) (w : World) (arms : List (ℕ × protocol.Arm)) → Stands core file h w →
+      protocol.lowest (with_arms arms w) ≡ lowest_in h
   lowest_is h w arms st = λ i. if st.full i then None else lowest_from 1 (st.frames i)
 
   abbrev settles : ℕ → World → Option ℕ → World
@@ -202,9 +222,11 @@ module _ {C D : Type 0} (core : Ghosts C) (file : D → FileMap) where
   pub settle_starts : (h : Hand C D) → GoesPartTo core file protocol.settle (settle_for most_frames) h h
   settle_starts h w st = stays h.kept.header.nodes protocol.settle w (Stands core file h) st
 
-  pub settle_turns : (fuel k : ℕ) (go : World → World) (first old new : Hand C D) → GoesPartTo core file go (settle_for (suc fuel)) first old → lowest_in old ≡ Some k → GoesTo core file (protocol.deliver k) old new
+  pub settle_turns : (fuel k : ℕ) (go : World → World) (first old new : Hand C D) →
+      GoesPartTo core file go (settle_for (suc fuel)) first old → lowest_in old ≡ Some k → GoesTo core file (protocol.deliver k) old new
       → old.kept.header ≡ first.kept.header → GoesPartTo core file go (settle_for fuel) first new
-  settle_turns fuel k go first old new before low goes same = goes_both go (settle_for (suc fuel)) (settle_for fuel) first old new before turn same
+  settle_turns fuel k go first old new before low goes same =
+      goes_both go (settle_for (suc fuel)) (settle_for fuel) first old new before turn same
     where
       turn : GoesPartTo core file (settle_for (suc fuel)) (settle_for fuel) old new
       turn w st = as_well old.kept.header.nodes (settle_for (suc fuel)) (λ v. settle_for fuel (protocol.deliver k v)) (settle_for fuel) w (Stands core file new)
@@ -212,10 +234,13 @@ module _ {C D : Type 0} (core : Ghosts C) (file : D → FileMap) where
           (behind old.kept.header.nodes (protocol.deliver k) (λ v. v) (settle_for fuel) w (Stands core file new) (goes w st))
 
   -- none is left
-  pub settle_ends : (fuel : ℕ) (go : World → World) (first old : Hand C D) → GoesPartTo core file go (settle_for fuel) first old → lowest_in old ≡ None → old.kept.header ≡ first.kept.header → GoesTo core file go first old
-  settle_ends fuel go first old before none same = goes_both go (settle_for fuel) (λ v. v) first old old before (goes_nowhere (settle_for fuel) old (rests fuel)) same
+  pub settle_ends : (fuel : ℕ) (go : World → World) (first old : Hand C D) → GoesPartTo core file go (settle_for fuel) first old →
+      lowest_in old ≡ None → old.kept.header ≡ first.kept.header → GoesTo core file go first old
+  settle_ends fuel go first old before none same =
+      goes_both go (settle_for fuel) (λ v. v) first old old before (goes_nowhere (settle_for fuel) old (rests fuel)) same
     where
-      rests : (fuel : ℕ) (w : World) → Stands core file old w → (arms : List (ℕ × protocol.Arm)) → settle_for fuel (with_arms arms w) ≡ with_arms arms w
+      rests : (fuel : ℕ) (w : World) → Stands core file old w → (arms : List (ℕ × protocol.Arm)) →
+          settle_for fuel (with_arms arms w) ≡ with_arms arms w
       rests zero w st arms = refl
       rests (suc fuel) w st arms = ap (settles fuel (with_arms arms w)) (lowest_is old w arms st ∙ none)
 
@@ -225,63 +250,85 @@ module _ {C D : Type 0} (core : Ghosts C) (file : D → FileMap) where
   tick_full node h full = goes_nowhere (protocol.tick_up node) h
       (λ w st arms. λ i. if (st.full ∙ full) i || not (protocol.is_up_at node w) then with_arms arms w else steps node input.Tick (with_arms arms w))
 
-  pub tick_down : (node : ℕ) (h : Hand C D) → h.kept.full ≡ false → 1 ≤ node → node ≤ h.kept.header.nodes → Tells core node false h.kept → GoesTo core file (protocol.tick_up node) h h
+  pub tick_down : (node : ℕ) (h : Hand C D) → h.kept.full ≡ false → 1 ≤ node → node ≤ h.kept.header.nodes → Tells core node false h.kept →
+      GoesTo core file (protocol.tick_up node) h h
   tick_down node h fits low high says = goes_nowhere (protocol.tick_up node) h
       (λ w st arms. λ i. if (st.full ∙ fits) i || not (up_at core node false h.kept w low high (keeps_of core file h w st) says i) then with_arms arms w else steps node input.Tick (with_arms arms w))
 
-  pub tick_goes : (node : ℕ) (old new : Hand C D) → old.kept.full ≡ false → 1 ≤ node → node ≤ old.kept.header.nodes → Tells core node true old.kept → GoesTo core file (steps node input.Tick) old new → GoesTo core file (protocol.tick_up node) old new
-  tick_goes node old new fits low high says goes w st = as_well old.kept.header.nodes (protocol.tick_up node) (steps node input.Tick) (λ v. v) w (Stands core file new)
+  pub tick_goes : (node : ℕ) (old new : Hand C D) → old.kept.full ≡ false → 1 ≤ node → node ≤ old.kept.header.nodes →
+      Tells core node true old.kept → GoesTo core file (steps node input.Tick) old new → GoesTo core file (protocol.tick_up node) old new
+  tick_goes node old new fits low high says goes w st =
+      as_well old.kept.header.nodes (protocol.tick_up node) (steps node input.Tick) (λ v. v) w (Stands core file new)
       (λ arms. λ i. if (st.full ∙ fits) i || not (up_at core node true old.kept w low high (keeps_of core file old w st) says i) then with_arms arms w else steps node input.Tick (with_arms arms w)) (goes w st)
 
   -- ---- shows
 
-  pub show_down : (x node : ℕ) (h : Hand C D) → 1 ≤ node → node ≤ h.kept.header.nodes → Tells core node false h.kept → GoesTo core file (protocol.show_up x node) h h
+  pub show_down : (x node : ℕ) (h : Hand C D) → 1 ≤ node → node ≤ h.kept.header.nodes → Tells core node false h.kept →
+      GoesTo core file (protocol.show_up x node) h h
   show_down x node h low high says = goes_nowhere (protocol.show_up x node) h
       (λ w st arms. λ i. if up_at core node false h.kept w low high (keeps_of core file h w st) says i then steps node (input.Show x) (with_arms arms w) else with_arms arms w)
 
-  pub show_goes : (x node : ℕ) (old new : Hand C D) → 1 ≤ node → node ≤ old.kept.header.nodes → Tells core node true old.kept → GoesTo core file (steps node (input.Show x)) old new → GoesTo core file (protocol.show_up x node) old new
-  show_goes x node old new low high says goes w st = as_well old.kept.header.nodes (protocol.show_up x node) (steps node (input.Show x)) (λ v. v) w (Stands core file new)
+  pub show_goes : (x node : ℕ) (old new : Hand C D) → 1 ≤ node → node ≤ old.kept.header.nodes → Tells core node true old.kept →
+      GoesTo core file (steps node (input.Show x)) old new → GoesTo core file (protocol.show_up x node) old new
+  show_goes x node old new low high says goes w st =
+      as_well old.kept.header.nodes (protocol.show_up x node) (steps node (input.Show x)) (λ v. v) w (Stands core file new)
       (λ arms. λ i. if up_at core node true old.kept w low high (keeps_of core file old w st) says i then steps node (input.Show x) (with_arms arms w) else with_arms arms w) (goes w st)
 
   -- ---- one node after another
 
-  pub ticks_turn : (done node count : ℕ) (first old new : Hand C D) → GoesPartTo core file (protocol.tick_all (numbers_to count)) (protocol.tick_all (numbers_left done count)) first old → done < count → node ≡ done + 1
-      → GoesTo core file (protocol.tick_up node) old new → old.kept.header ≡ first.kept.header → GoesPartTo core file (protocol.tick_all (numbers_to count)) (protocol.tick_all (numbers_left (done + 1) count)) first new
+  pub ticks_turn : (done node count : ℕ) (first old new : Hand C D) →
+      GoesPartTo core file (protocol.tick_all (numbers_to count)) (protocol.tick_all (numbers_left done count)) first old → done < count →
+      node ≡ done + 1
+      → GoesTo core file (protocol.tick_up node) old new → old.kept.header ≡ first.kept.header →
+      GoesPartTo core file (protocol.tick_all (numbers_to count)) (protocol.tick_all (numbers_left (done + 1) count)) first new
   ticks_turn done node count first old new before less is goes same =
       goes_both (protocol.tick_all (numbers_to count)) (protocol.tick_all (numbers_left done count)) (protocol.tick_all (numbers_left (done + 1) count)) first old new before
       (subst (λ ns. GoesPartTo core file (protocol.tick_all ns) (protocol.tick_all (numbers_left (done + 1) count)) old new) (sym (next_left done node count less is))
       (goes_behind (protocol.tick_up node) (λ v. v) (protocol.tick_all (numbers_left (done + 1) count)) old new goes)) same
 
-  pub ticks_start : (count : ℕ) (h : Hand C D) → GoesPartTo core file (protocol.tick_all (numbers_to count)) (protocol.tick_all (numbers_left 0 count)) h h
-  ticks_start count h = subst (λ ns. GoesPartTo core file (protocol.tick_all (numbers_to count)) (protocol.tick_all ns) h h) (all_left count)
+  pub ticks_start : (count : ℕ) (h : Hand C D) →
+      GoesPartTo core file (protocol.tick_all (numbers_to count)) (protocol.tick_all (numbers_left 0 count)) h h
+  ticks_start count h =
+      subst (λ ns. GoesPartTo core file (protocol.tick_all (numbers_to count)) (protocol.tick_all ns) h h) (all_left count)
       (λ w st. stays h.kept.header.nodes (protocol.tick_all (numbers_to count)) w (Stands core file h) st)
 
-  pub ticks_end : (done count : ℕ) (first old : Hand C D) → GoesPartTo core file (protocol.tick_all (numbers_to count)) (protocol.tick_all (numbers_left done count)) first old → count ≤ done
+  pub ticks_end : (done count : ℕ) (first old : Hand C D) →
+      GoesPartTo core file (protocol.tick_all (numbers_to count)) (protocol.tick_all (numbers_left done count)) first old → count ≤ done
       → GoesTo core file (protocol.tick_all (numbers_to count)) first old
-  ticks_end done count first old before all = subst (λ ns. GoesPartTo core file (protocol.tick_all (numbers_to count)) (protocol.tick_all ns) first old) (none_left done count all) before
+  ticks_end done count first old before all =
+      subst (λ ns. GoesPartTo core file (protocol.tick_all (numbers_to count)) (protocol.tick_all ns) first old) (none_left done count all) before
 
-  pub shows_turn : (x done node count : ℕ) (first old new : Hand C D) → GoesPartTo core file (protocol.show_all x (numbers_to count)) (protocol.show_all x (numbers_left done count)) first old → done < count → node ≡ done + 1
-      → GoesTo core file (protocol.show_up x node) old new → old.kept.header ≡ first.kept.header → GoesPartTo core file (protocol.show_all x (numbers_to count)) (protocol.show_all x (numbers_left (done + 1) count)) first new
+  pub shows_turn : (x done node count : ℕ) (first old new : Hand C D) →
+      GoesPartTo core file (protocol.show_all x (numbers_to count)) (protocol.show_all x (numbers_left done count)) first old → done < count →
+      node ≡ done + 1
+      → GoesTo core file (protocol.show_up x node) old new → old.kept.header ≡ first.kept.header →
+      GoesPartTo core file (protocol.show_all x (numbers_to count)) (protocol.show_all x (numbers_left (done + 1) count)) first new
   shows_turn x done node count first old new before less is goes same =
       goes_both (protocol.show_all x (numbers_to count)) (protocol.show_all x (numbers_left done count)) (protocol.show_all x (numbers_left (done + 1) count)) first old new before
       (subst (λ ns. GoesPartTo core file (protocol.show_all x ns) (protocol.show_all x (numbers_left (done + 1) count)) old new) (sym (next_left done node count less is))
       (goes_behind (protocol.show_up x node) (λ v. v) (protocol.show_all x (numbers_left (done + 1) count)) old new goes)) same
 
-  pub shows_start : (x count : ℕ) (h : Hand C D) → GoesPartTo core file (protocol.show_all x (numbers_to count)) (protocol.show_all x (numbers_left 0 count)) h h
-  shows_start x count h = subst (λ ns. GoesPartTo core file (protocol.show_all x (numbers_to count)) (protocol.show_all x ns) h h) (all_left count)
+  pub shows_start : (x count : ℕ) (h : Hand C D) →
+      GoesPartTo core file (protocol.show_all x (numbers_to count)) (protocol.show_all x (numbers_left 0 count)) h h
+  shows_start x count h =
+      subst (λ ns. GoesPartTo core file (protocol.show_all x (numbers_to count)) (protocol.show_all x ns) h h) (all_left count)
       (λ w st. stays h.kept.header.nodes (protocol.show_all x (numbers_to count)) w (Stands core file h) st)
 
-  pub shows_end : (x done count : ℕ) (first old : Hand C D) → GoesPartTo core file (protocol.show_all x (numbers_to count)) (protocol.show_all x (numbers_left done count)) first old → count ≤ done
+  pub shows_end : (x done count : ℕ) (first old : Hand C D) →
+      GoesPartTo core file (protocol.show_all x (numbers_to count)) (protocol.show_all x (numbers_left done count)) first old → count ≤ done
       → GoesTo core file (protocol.show_all x (numbers_to count)) first old
-  shows_end x done count first old before all = subst (λ ns. GoesPartTo core file (protocol.show_all x (numbers_to count)) (protocol.show_all x ns) first old) (none_left done count all) before
+  shows_end x done count first old before all =
+      subst (λ ns. GoesPartTo core file (protocol.show_all x (numbers_to count)) (protocol.show_all x ns) first old) (none_left done count all) before
 
   -- ---- a quiesce
 
   pub quiet_full : (h : Hand C D) → h.kept.full ≡ true → GoesTo core file protocol.quiet_line h h
-  quiet_full h full = goes_nowhere protocol.quiet_line h (λ w st arms. λ i. if (st.full ∙ full) i then with_arms arms w else says (body.Quiet (protocol.is_quiet w) ∷ []) (with_arms arms w))
+  quiet_full h full =
+      goes_nowhere protocol.quiet_line h (λ w st arms. λ i. if (st.full ∙ full) i then with_arms arms w else says (body.Quiet (protocol.is_quiet w) ∷ []) (with_arms arms w))
 
   pub quiet_says : (h : Hand C D) (journal : List Line) → h.kept.full ≡ false
-      → ((header : Header) (nodes : List Node) → AreSomeNodes core header h.kept.cores nodes → journal ≡ h.journal ++ numbered h.kept.event (body.Quiet (list_all is_idle nodes) ∷ []))
+      → ((header : Header) (nodes : List Node) → AreSomeNodes core header h.kept.cores nodes →
+      journal ≡ h.journal ++ numbered h.kept.event (body.Quiet (list_all is_idle nodes) ∷ []))
       → GoesTo core file protocol.quiet_line h (record h { journal = journal })
   quiet_says h journal fits said w st =
       let line : World → World = λ v. says (body.Quiet (protocol.is_quiet w) ∷ []) v in
@@ -301,18 +348,28 @@ module _ {C D : Type 0} (core : Ghosts C) (file : D → FileMap) where
       }))
 
   -- whether a frame didn't fit or all did
-  pub quiet_goes : {E : Type 0} (h : Hand C D) (r : Result (Unit {0}) E) (journal : List Line) → (h.kept.full ≡ true → OnOk r (journal ≡ h.journal))
-      → (h.kept.full ≡ false → OnOk r ((header : Header) (nodes : List Node) → AreSomeNodes core header h.kept.cores nodes → journal ≡ h.journal ++ numbered h.kept.event (body.Quiet (list_all is_idle nodes) ∷ [])))
+  pub quiet_goes : {E : Type 0} (h : Hand C D) (r : Result (Unit {0}) E) (journal : List Line) →
+      (h.kept.full ≡ true → OnOk r (journal ≡ h.journal))
+      → (h.kept.full ≡ false →
+      OnOk r ((header : Header) (nodes : List Node) → AreSomeNodes core header h.kept.cores nodes →
+      journal ≡ h.journal ++ numbered h.kept.event (body.Quiet (list_all is_idle nodes) ∷ [])))
       → OnOk r (GoesTo core file protocol.quiet_line h (record h { journal = journal }))
   quiet_goes h r journal full fits = by h.kept.full refl
     where
       by : (b : Bool) → h.kept.full ≡ b → OnOk r (GoesTo core file protocol.quiet_line h (record h { journal = journal }))
-      by true is = on_ok_weaker r (λ (same : journal ≡ h.journal). subst (λ j. GoesTo core file protocol.quiet_line h (record h { journal = j })) (sym same) (quiet_full h is)) (full is)
-      by false is = on_ok_weaker r (λ (said : (header : Header) (nodes : List Node) → AreSomeNodes core header h.kept.cores nodes → journal ≡ h.journal ++ numbered h.kept.event (body.Quiet (list_all is_idle nodes) ∷ [])). quiet_says h journal is said) (fits is)
+      by true is = on_ok_weaker r (λ (same : journal ≡ h.journal). subst (λ j. GoesTo core file protocol.quiet_line h (record h {
+        journal =
+            j;
+      })) (sym same) (quiet_full h is)) (full is)
+      by false is =
+          on_ok_weaker r (λ (said : (header : Header) (nodes : List Node) → AreSomeNodes core header h.kept.cores nodes →
+          journal ≡ h.journal ++ numbered h.kept.event (body.Quiet (list_all is_idle nodes) ∷ [])). quiet_says h journal is said) (fits is)
 
-  pub quiesces : (first second third fourth fifth : Hand C D) → GoesTo core file protocol.settle first second → GoesTo core file (protocol.tick_all (numbers_to second.kept.header.nodes)) second third
+  pub quiesces : (first second third fourth fifth : Hand C D) → GoesTo core file protocol.settle first second →
+      GoesTo core file (protocol.tick_all (numbers_to second.kept.header.nodes)) second third
       → GoesTo core file protocol.settle third fourth → GoesTo core file protocol.quiet_line fourth fifth
-      → second.kept.header ≡ first.kept.header → third.kept.header ≡ second.kept.header → fourth.kept.header ≡ third.kept.header → GoesTo core file protocol.quiesce first fifth
+      → second.kept.header ≡ first.kept.header → third.kept.header ≡ second.kept.header → fourth.kept.header ≡ third.kept.header →
+      GoesTo core file protocol.quiesce first fifth
   quiesces first second third fourth fifth a b c d same_a same_b same_c w st =
       as_well first.kept.header.nodes protocol.quiesce (all second.kept.header) (λ v. v) w (Stands core file fifth)
       (λ arms. λ i. all ((st.header ∙ sym same_a) i) (with_arms arms w))

@@ -1,5 +1,6 @@
 -- A world goes on by steps of nodes, whatever stops are still to fall.
-use Rattle.std.proofs.Common.{◌≡◌, ℕ, zero, suc, ◌+◌, ◌-◌, ◌≤◌, ◌<◌, ◌==◌, Bool, true, false, List, [], ◌∷◌, ◌≢◌, refl, ap, sym, ◌∙◌, subst, Option, Some, None, arith, nat_lt}
+use Rattle.std.proofs.Common.{◌≡◌, ℕ, zero, suc, ◌+◌, ◌-◌, ◌≤◌, ◌<◌, ◌==◌, Bool, true, false, List, [], ◌∷◌, ◌≢◌, refl, ap, sym, ◌∙◌, subst}
+use Rattle.std.proofs.Common.{Option, Some, None, arith, nat_lt}
 use Rattle.std.specs.Prelude.{unwrap_or, option_map, IsSomeAnd, slice_get, slice_set}
 use Rattle.arj_protocol.specs.Effect.{Stop}
 use Rattle.arj_protocol.specs.Step.{Node, Input, Step, step}
@@ -30,11 +31,13 @@ by_key k f g here others m = by (m == k) refl
     by false h = others m h
 
 -- a place that is there has what is put there
-pub place_same : {A : Type 0} (k : ℕ) (a : A) (items : List A) (b : A) → at_place k items ≡ Some b → at_place k (set_place k a items) ≡ Some a
+pub place_same : {A : Type 0} (k : ℕ) (a : A) (items : List A) (b : A) → at_place k items ≡ Some b →
+    at_place k (set_place k a items) ≡ Some a
 place_same zero a items b at = absurd (cc at)
 place_same (suc k) a items b at = set_here k a items b at
   where
-    set_here : {A : Type 0} (i : ℕ) (a : A) (items : List A) (b : A) → slice_get items i ≡ Some b → slice_get (slice_set items i a) i ≡ Some a
+    set_here : {A : Type 0} (i : ℕ) (a : A) (items : List A) (b : A) → slice_get items i ≡ Some b →
+        slice_get (slice_set items i a) i ≡ Some a
     set_here i a [] b at = absurd (cc at)
     set_here zero a (x ∷ xs) b at = refl
     set_here (suc i) a (x ∷ xs) b at = set_here i a xs b at
@@ -55,10 +58,12 @@ module _ (most k : ℕ) (low : 1 ≤ k) (high : k ≤ most) (i : Input) (n : Nod
 
   -- the step of the node, with its arm
   stepped : (g : Pick) → steps k i (with_arms (arms_of most g) now) ≡ step_with k n s (with_arms (arms_of most g) now) (g k)
-  stepped g = let v = with_arms (arms_of most g) now in ap (step_node k i v) here ∙ ap (step_with k n s v) (found most 1 k g low (omega (arith, high)))
+  stepped g = let v =
+      with_arms (arms_of most g) now in ap (step_node k i v) here ∙ ap (step_with k n s v) (found most 1 k g low (omega (arith, high)))
 
   -- the step is done, and counts against what is still to fall
-  counted : (done : Works) (f : Pick) → Admits (but_at k (more c (done k)) done) f → steps k i (with_arms (arms_of most (left_of done f)) now) ≡ with_arms (arms_of most (left_of (but_at k (more c (done k)) done) f)) (done_step k s now)
+  counted : (done : Works) (f : Pick) → Admits (but_at k (more c (done k)) done) f →
+      steps k i (with_arms (arms_of most (left_of done f)) now) ≡ with_arms (arms_of most (left_of (but_at k (more c (done k)) done) f)) (done_step k s now)
   counted done f admits = stepped (left_of done f) ∙ by (f k) refl
     where
       v : World
@@ -79,9 +84,15 @@ module _ (most k : ℕ) (low : 1 ≤ k) (high : k ≤ most) (i : Input) (n : Nod
           let still : nat_lt c (a.works - d) ≡ true = grind (arith, room) in
           let left : left_of done f k ≡ Some (record a { works = a.works - d }) = (λ j. option_map (sub (had j)) (is j)) in
           let here' : but_at k (Some (record a { works = a.works - d - c })) (left_of done f) k ≡ left_of after f k =
-          at_key k (Some (record a { works = a.works - d - c })) (left_of done f) ∙ ap Some (fewer d a) ∙ (λ j. option_map (sub (sym (at_key k (more c (done k)) done ∙ ap (more c) had) j)) (sym is j)) in
+          at_key k (Some (record a {
+            works =
+                a.works - d - c;
+          })) (left_of done f) ∙ ap Some (fewer d a) ∙ (λ j. option_map (sub (sym (at_key k (more c (done k)) done ∙ ap (more c) had) j)) (sym is j)) in
           rw still (ap (λ arms. with_arms arms (done_step k s now))
-          (put most 1 k (record a { works = a.works - d - c }) (record a { works = a.works - d }) (left_of done f) low (omega (arith, high)) left
+          (put most 1 k (record a { works = a.works - d - c }) (record a {
+            works =
+                a.works - d;
+          }) (left_of done f) low (omega (arith, high)) left
           ∙ alike most 1 (but_at k (Some (record a { works = a.works - d - c })) (left_of done f)) (left_of after f)
           (by_key k (but_at k (Some (record a { works = a.works - d - c })) (left_of done f)) (left_of after f) here'
           (λ m h. at_other k m (Some (record a { works = a.works - d - c })) (left_of done f) h ∙ others m h))))
@@ -91,10 +102,12 @@ module _ (most k : ℕ) (low : 1 ≤ k) (high : k ≤ most) (i : Input) (n : Nod
       with_done None a had is room = absurd room
       with_done (Some d) a had is room = armed_on d a had is room
 
-      by : (o : Option Arm) → f k ≡ o → step_with k n s v (option_map (sub (done k)) o) ≡ with_arms (arms_of most (left_of after f)) (done_step k s now)
+      by : (o : Option Arm) → f k ≡ o →
+          step_with k n s v (option_map (sub (done k)) o) ≡ with_arms (arms_of most (left_of after f)) (done_step k s now)
       by None is = ap (λ arms. with_arms arms (done_step k s now))
           (alike most 1 (left_of done f) (left_of after f) (by_key k (left_of done f) (left_of after f) (ap (option_map (sub (done k))) is ∙ sym (ap (option_map (sub (after k))) is)) others))
-      by (Some a) is = with_done (done k) a refl is (subst (λ o. IsSomeAnd o (λ d. d < a.works)) (at_key k (more c (done k)) done) (admits k a is))
+      by (Some a) is =
+          with_done (done k) a refl is (subst (λ o. IsSomeAnd o (λ d. d < a.works)) (at_key k (more c (done k)) done) (admits k a is))
 
   -- a stop falls
   fell : (done : Works) (f : Pick) (d work : ℕ) (how : Stop) → done k ≡ Some d → work < c → f k ≡ None
@@ -158,14 +171,17 @@ module _ (most k : ℕ) (low : 1 ≤ k) (high : k ≤ most) (i : Input) (n : Nod
       none_had None h = refl
       none_had (Some d) h = absurd (cc h)
 
-      down : (j : ℕ) (m : Node) → but_at k (more c (r.done k)) r.done j ≡ None → at_place j (done_step k s now).nodes ≡ Some m → m.live ≡ None
+      down : (j : ℕ) (m : Node) → but_at k (more c (r.done k)) r.done j ≡ None → at_place j (done_step k s now).nodes ≡ Some m →
+          m.live ≡ None
       down j m none at = by (j == k) refl
         where
           by : (b : Bool) → (j == k) ≡ b → m.live ≡ None
           by true h =
               let same : j ≡ k = one k j h in
-              let had : r.done k ≡ None = none_had (r.done k) (sym (at_key k (more c (r.done k)) r.done) ∙ ap (but_at k (more c (r.done k)) r.done) (sym same) ∙ none) in
-              let is : s.after ≡ m = cc (sym (place_same k s.after now.nodes n here) ∙ ap (λ x. at_place x (done_step k s now).nodes) (sym same) ∙ at) in
+              let had : r.done k ≡ None =
+              none_had (r.done k) (sym (at_key k (more c (r.done k)) r.done) ∙ ap (but_at k (more c (r.done k)) r.done) (sym same) ∙ none) in
+              let is : s.after ≡ m =
+              cc (sym (place_same k s.after now.nodes n here) ∙ ap (λ x. at_place x (done_step k s now).nodes) (sym same) ∙ at) in
               ap (λ (x : Node). x.live) (sym is) ∙ (stays had).0
           by false h = r.down j m (sym (at_other k j (more c (r.done k)) r.done h) ∙ none) (sym (place_other k j s.after now.nodes (apart h)) ∙ at)
             where
@@ -173,7 +189,8 @@ module _ (most k : ℕ) (low : 1 ≤ k) (high : k ≤ most) (i : Input) (n : Nod
               apart h = grind (arith, h)
 
   -- a stop of the node's disk falls into the step: the node is down
-  pub goes_down : (run rest : World → World) (first : World) (r : Reaches most run first (λ w. rest (steps k i w)) now) (work : ℕ) (how : Stop)
+  pub goes_down : (run rest : World →
+      World) (first : World) (r : Reaches most run first (λ w. rest (steps k i w)) now) (work : ℕ) (how : Stop)
       → work < c → (r.done k ≡ None → c ≡ 0) → Reaches most run first rest (halted_at k n (cut work how s.halting n.disk) now)
   goes_down run rest first r work how within idle = by (r.done k) refl
     where
@@ -184,25 +201,37 @@ module _ (most k : ℕ) (low : 1 ≤ k) (high : k ≤ most) (i : Input) (n : Nod
         pick = λ f. r.pick (but_at k (Some (record { works = d + work + 1; how = how })) f);
         works = λ f admits. r.works (but_at k (Some (record { works = d + work + 1; how = how })) f) (wider f admits);
         down = down;
-        same = λ f admits. r.same (but_at k (Some (record { works = d + work + 1; how = how })) f) (wider f admits) ∙ ap rest (fell r.done f d work how had within (none_at f admits (f k) refl));
+        same = λ f admits. r.same (but_at k (Some (record {
+          works = d + work + 1;
+          how =
+              how;
+        })) f) (wider f admits) ∙ ap rest (fell r.done f d work how had within (none_at f admits (f k) refl));
       }
         where
           none_at : (f : Pick) → Admits (but_at k None r.done) f → (o : Option Arm) → f k ≡ o → o ≡ None
           none_at f admits None is = refl
           none_at f admits (Some a) is = absurd (subst (λ o. IsSomeAnd o (λ d. d < a.works)) (at_key k None r.done) (admits k a is))
 
-          wider : (f : Pick) → Admits (but_at k None r.done) f → Admits r.done (but_at k (Some (record { works = d + work + 1; how = how })) f)
+          wider : (f : Pick) → Admits (but_at k None r.done) f →
+              Admits r.done (but_at k (Some (record { works = d + work + 1; how = how })) f)
           wider f admits m a is = twice (m == k) refl
             where
               twice : (b : Bool) → (m == k) ≡ b → IsSomeAnd (r.done m) (λ d. d < a.works)
               twice true h =
                   let same : m ≡ k = one k m h in
-                  let arm : record { works = d + work + 1; how = how } ≡ a = cc (sym (at_key k (Some (record { works = d + work + 1; how = how })) f) ∙ ap (but_at k (Some (record { works = d + work + 1; how = how })) f) (sym same) ∙ is) in
+                  let arm : record { works = d + work + 1; how = how } ≡ a =
+                  cc (sym (at_key k (Some (record { works = d + work + 1; how = how })) f) ∙ ap (but_at k (Some (record {
+                    works =
+                        d + work + 1;
+                    how = how;
+                  })) f) (sym same) ∙ is) in
                   let room : d < a.works = subst (λ (x : Arm). d < x.works) arm (omega arith) in
                   subst (λ o. IsSomeAnd o (λ e. e < a.works)) (sym (ap r.done same ∙ had)) room
-              twice false h = subst (λ o. IsSomeAnd o (λ d. d < a.works)) (at_other k m None r.done h) (admits m a (sym (at_other k m (Some (record { works = d + work + 1; how = how })) f h) ∙ is))
+              twice false h =
+                  subst (λ o. IsSomeAnd o (λ d. d < a.works)) (at_other k m None r.done h) (admits m a (sym (at_other k m (Some (record { works = d + work + 1; how = how })) f h) ∙ is))
 
-          down : (j : ℕ) (m : Node) → but_at k None r.done j ≡ None → at_place j (halted_at k n (cut work how s.halting n.disk) now).nodes ≡ Some m → m.live ≡ None
+          down : (j : ℕ) (m : Node) → but_at k None r.done j ≡ None →
+              at_place j (halted_at k n (cut work how s.halting n.disk) now).nodes ≡ Some m → m.live ≡ None
           down j m none at = twice (j == k) refl
             where
               apart : (j == k) ≡ false → j ≢ k
@@ -214,6 +243,7 @@ module _ (most k : ℕ) (low : 1 ≤ k) (high : k ≤ most) (i : Input) (n : Nod
               twice : (b : Bool) → (j == k) ≡ b → m.live ≡ None
               twice true h =
                   let same : j ≡ k = one k j h in
-                  let is : after ≡ m = cc (sym (place_same k after now.nodes n here) ∙ ap (λ x. at_place x (halted_at k n (cut work how s.halting n.disk) now).nodes) (sym same) ∙ at) in
+                  let is : after ≡ m =
+                  cc (sym (place_same k after now.nodes n here) ∙ ap (λ x. at_place x (halted_at k n (cut work how s.halting n.disk) now).nodes) (sym same) ∙ at) in
                   ap (λ (x : Node). x.live) (sym is)
               twice false h = r.down j m (sym (at_other k j None r.done h) ∙ none) (sym (place_other k j after now.nodes (apart h)) ∙ at)

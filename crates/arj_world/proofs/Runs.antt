@@ -12,7 +12,8 @@ use Rattle.arj_protocol.specs.Words.{read_message}
 use Rattle.arj_protocol.specs.Words.body
 use Rattle.arj_protocol.specs.Words.event
 use Rattle.arj_protocol.specs.Words.which
-use Rattle.arj_protocol.specs.World.{World, Arm, counted, frame_number, giving, is_node, reads_whole, happens, lacks_labels, limited, no_labels, numbered, reasons, run_event, run_unless, says}
+use Rattle.arj_protocol.specs.World.{World, Arm, counted, frame_number, giving, is_node, reads_whole, happens, lacks_labels, limited}
+use Rattle.arj_protocol.specs.World.{no_labels, numbered, reasons, run_event, run_unless, says}
 use Rattle.arj_world.specs.Goes.{BeginsTo, GoesTo, arms_of}
 use Rattle.arj_world.specs.Happens.{Happened, HappensTo, IsOver, RunsOver, RunsTo, done}
 use Rattle.arj_world.specs.Stands.{Hand, Keeps, Kept, Stands, StandsSome}
@@ -27,7 +28,20 @@ on_ok_both A B (Err e) a b = tt
 module _ {C D : Type 0} (core : Ghosts C) (file : D → FileMap) where
   -- between events no stop is due
   unarmed : (h : Hand C D) (w : World) → Stands core file h w → Stands core file h (with_arms [] w)
-  unarmed h w st = record { header = st.header; start = st.start; frames = st.frames; lines = st.lines; labels = st.labels; arms = refl; event = st.event; full = st.full; over = st.over; nodes = st.nodes }
+  unarmed h w st =
+      record {
+        header = st.header;
+        start = st.start;
+        frames = st.frames;
+        lines = st.lines;
+        labels = st.labels;
+        arms = refl;
+        event =
+            st.event;
+        full = st.full;
+        over = st.over;
+        nodes = st.nodes;
+      }
 
   pub happens_so : (go : World → World) (old new : Hand C D) → BeginsTo core file go old new → HappensTo core file go old new
   happens_so go old new to w st =
@@ -43,39 +57,51 @@ module _ {C D : Type 0} (core : Ghosts C) (file : D → FileMap) where
 
   -- ---- what an accepted event does, at Ok
 
-  pub stands_on : {E : Type 0} (r : Result (Unit {0}) E) (e given : Event) (old new : Hand C D) → given ≡ e → OnOk r (HappensTo core file (done e) old new) → OnOk r (HappensTo core file (done given) old new)
+  pub stands_on : {E : Type 0} (r : Result (Unit {0}) E) (e given : Event) (old new : Hand C D) → given ≡ e →
+      OnOk r (HappensTo core file (done e) old new) → OnOk r (HappensTo core file (done given) old new)
   stands_on r e given old new is to = subst (λ x. OnOk r (HappensTo core file (done x) old new)) (sym is) to
 
-  pub begins_on : {E : Type 0} (r : Result (Unit {0}) E) (e given : Event) (old new : Hand C D) → given ≡ e → OnOk r (BeginsTo core file (done e) old new) → OnOk r (HappensTo core file (done given) old new)
-  begins_on r e given old new is to = stands_on r e given old new is (on_ok_weaker r (λ (go : BeginsTo core file (done e) old new). happens_so (done e) old new go) to)
+  pub begins_on : {E : Type 0} (r : Result (Unit {0}) E) (e given : Event) (old new : Hand C D) → given ≡ e →
+      OnOk r (BeginsTo core file (done e) old new) → OnOk r (HappensTo core file (done given) old new)
+  begins_on r e given old new is to =
+      stands_on r e given old new is (on_ok_weaker r (λ (go : BeginsTo core file (done e) old new). happens_so (done e) old new go) to)
 
-  pub goes_on : {E : Type 0} (r : Result (Unit {0}) E) (e given : Event) (old new : Hand C D) → given ≡ e → OnOk r (GoesTo core file (done e) old new) → OnOk r (HappensTo core file (done given) old new)
-  goes_on r e given old new is to = begins_on r e given old new is (on_ok_weaker r (λ (go : GoesTo core file (done e) old new). begins_so (done e) old new go) to)
+  pub goes_on : {E : Type 0} (r : Result (Unit {0}) E) (e given : Event) (old new : Hand C D) → given ≡ e →
+      OnOk r (GoesTo core file (done e) old new) → OnOk r (HappensTo core file (done given) old new)
+  goes_on r e given old new is to =
+      begins_on r e given old new is (on_ok_weaker r (λ (go : GoesTo core file (done e) old new). begins_so (done e) old new go) to)
 
   -- a frame by the number that is asked for
-  pub goes_numbered : (f : FrameNo) (k : ℕ) (go : ℕ → World → World) (old new : Hand C D) → ((w : World) → Keeps core old.kept w → k ≡ frame_number f w) → GoesTo core file (go k) old new
+  pub goes_numbered : (f : FrameNo) (k : ℕ) (go : ℕ → World → World) (old new : Hand C D) →
+      ((w : World) → Keeps core old.kept w → k ≡ frame_number f w) → GoesTo core file (go k) old new
       → GoesTo core file (λ w. go (frame_number f w) w) old new
-  goes_numbered f k go old new tells goes w st = as_well old.kept.header.nodes (λ v. go (frame_number f v) v) (go k) (λ v. v) w (Stands core file new)
+  goes_numbered f k go old new tells goes w st =
+      as_well old.kept.header.nodes (λ v. go (frame_number f v) v) (go k) (λ v. v) w (Stands core file new)
       (λ arms. ap (λ m. go m (with_arms arms w)) (sym (tells (with_arms arms w) (keeps_armed core old.kept w arms (keeps_of core file old w st))))) (goes w st)
 
   -- the node of an accepted event is there, where the first reason asks for it
-  pub accepted_range : (e given : Event) (n : ℕ) (rest : World → List (ℕ × Bool)) (old : Hand C D) → given ≡ e → ((w : World) → reasons e w ≡ (1, not (is_node n w)) ∷ rest w)
-      → ((w : World) → Keeps core old.kept w → None ≡ first_reason (reasons given w)) → StandsSome core file old → (1 ≤ n) × (n ≤ old.kept.header.nodes)
+  pub accepted_range : (e given : Event) (n : ℕ) (rest : World → List (ℕ × Bool)) (old : Hand C D) → given ≡ e →
+      ((w : World) → reasons e w ≡ (1, not (is_node n w)) ∷ rest w)
+      → ((w : World) → Keeps core old.kept w → None ≡ first_reason (reasons given w)) → StandsSome core file old →
+      (1 ≤ n) × (n ≤ old.kept.header.nodes)
   accepted_range e given n rest old is reason tests some =
       let w = some.0 in
       let keeps = keeps_of core file old w some.1 in
       in_range core n (rest w) old.kept w keeps (tests w keeps ∙ ap (λ x. first_reason (reasons x w)) is ∙ ap first_reason (reason w))
 
   -- bytes of accepted junk are no message
-  pub accepted_junk : (given : Event) (n : ℕ) (bytes : List ℕ) (old : Hand C D) → given ≡ event.Junk n bytes → ((w : World) → Keeps core old.kept w → None ≡ first_reason (reasons given w)) → StandsSome core file old → message_of bytes ≡ None
+  pub accepted_junk : (given : Event) (n : ℕ) (bytes : List ℕ) (old : Hand C D) → given ≡ event.Junk n bytes →
+      ((w : World) → Keeps core old.kept w → None ≡ first_reason (reasons given w)) → StandsSome core file old → message_of bytes ≡ None
   accepted_junk given n bytes old is tests some =
       let w = some.0 in
       let first = passed 1 (not (is_node n w)) ((18, reads_whole (read_message bytes)) ∷ []) (tests w (keeps_of core file old w some.1) ∙ ap (λ x. first_reason (reasons x w)) is) in
       no_message bytes (passed 18 (reads_whole (read_message bytes)) [] first.1).0
 
   -- what goes by the header
-  pub goes_headed : (go : Header → World → World) (old new : Hand C D) → GoesTo core file (go old.kept.header) old new → GoesTo core file (λ w. go w.header w) old new
-  goes_headed go old new goes w st = as_well old.kept.header.nodes (λ v. go v.header v) (go old.kept.header) (λ v. v) w (Stands core file new)
+  pub goes_headed : (go : Header → World → World) (old new : Hand C D) → GoesTo core file (go old.kept.header) old new →
+      GoesTo core file (λ w. go w.header w) old new
+  goes_headed go old new goes w st =
+      as_well old.kept.header.nodes (λ v. go v.header v) (go old.kept.header) (λ v. v) w (Stands core file new)
       (λ arms. ap (λ hd. go hd (with_arms arms w)) st.header) (goes w st)
 
   -- ---- an event that the world refuses, or runs
@@ -98,12 +124,35 @@ module _ {C D : Type 0} (core : Ghosts C) (file : D → FileMap) where
   counted_hand h = record h { kept = record h.kept { event = h.kept.event + 1 } }
 
   pub counted_stands : (h : Hand C D) (w : World) → Stands core file h w → Stands core file (counted_hand h) (counted w)
-  counted_stands h w st = record { header = st.header; start = st.start; frames = st.frames; lines = st.lines; labels = st.labels; arms = st.arms; event = ap (λ n. n + 1) st.event; full = st.full; over = st.over; nodes = st.nodes }
+  counted_stands h w st =
+      record {
+        header = st.header;
+        start = st.start;
+        frames = st.frames;
+        lines = st.lines;
+        labels = st.labels;
+        arms = st.arms;
+        event =
+            ap (λ n. n + 1) st.event;
+        full = st.full;
+        over = st.over;
+        nodes = st.nodes;
+      }
 
   pub keeps_uncounted : (k : Kept C) (n : ℕ) (w : World) → Keeps core (record k { event = n }) w → Keeps core k w
-  keeps_uncounted k n w keeps = record { header = keeps.header; start = keeps.start; frames = keeps.frames; labels = keeps.labels; nodes = keeps.nodes; count = keeps.count }
+  keeps_uncounted k n w keeps =
+      record {
+        header = keeps.header;
+        start = keeps.start;
+        frames = keeps.frames;
+        labels = keeps.labels;
+        nodes = keeps.nodes;
+        count =
+            keeps.count;
+      }
 
-  pub runs_refused : (e : Event) (c : ℕ) (old : Hand C D) (journal : List Line) → Tests e (Some c) old.kept → journal ≡ old.journal ++ numbered (old.kept.event + 1) (body.Refused c ∷ [])
+  pub runs_refused : (e : Event) (c : ℕ) (old : Hand C D) (journal : List Line) → Tests e (Some c) old.kept →
+      journal ≡ old.journal ++ numbered (old.kept.event + 1) (body.Refused c ∷ [])
       → RunsTo core file e old (record (counted_hand old) { journal = journal })
   runs_refused e c old journal tests said w st = record {
     falls = [];
@@ -146,11 +195,16 @@ module _ {C D : Type 0} (core : Ghosts C) (file : D → FileMap) where
       stands = subst (Stands core file new) (sym (ap (with_arms []) (run w st ∙ (λ i. if ((happened w st).stands.full ∙ fits) i then says (body.Limit which.Frames ∷ []) (record (made w st) { over = true }) else made w st)))) (happened w st).stands;
     }
 
-    pub runs_over : (journal : List Line) → new.kept.full ≡ true → journal ≡ new.journal ++ numbered new.kept.event (body.Limit which.Frames ∷ []) → RunsOver core file e old (record new { journal = journal })
+    pub runs_over : (journal : List Line) → new.kept.full ≡ true →
+        journal ≡ new.journal ++ numbered new.kept.event (body.Limit which.Frames ∷ []) →
+        RunsOver core file e old (record new { journal = journal })
     runs_over journal full said w st = record {
       falls = (happened w st).falls;
       works = (happened w st).works;
-      stands = subst (IsOver core file (record new { journal = journal })) (sym (ap (with_arms []) (run w st ∙ (λ i. if ((happened w st).stands.full ∙ full) i then says (body.Limit which.Frames ∷ []) (record (made w st) { over = true }) else made w st)))) (record {
+      stands = subst (IsOver core file (record new {
+        journal =
+            journal;
+      })) (sym (ap (with_arms []) (run w st ∙ (λ i. if ((happened w st).stands.full ∙ full) i then says (body.Limit which.Frames ∷ []) (record (made w st) { over = true }) else made w st)))) (record {
         over = refl;
         stands =
             let h = (happened w st).stands in

@@ -1,5 +1,6 @@
 -- What a core's step makes of a world in hand.
-use Rattle.std.proofs.Common.{◌≡◌, ◌≢◌, inl, inr, ℕ, zero, suc, ◌+◌, ◌-◌, ◌≤◌, ◌<◌, ◌==◌, Bool, true, false, ◌||◌, List, [], ◌∷◌, ◌++◌, length, map, refl, ap, sym, ◌∙◌, subst, Some, None, arith}
+use Rattle.std.proofs.Common.{◌≡◌, ◌≢◌, inl, inr, ℕ, zero, suc, ◌+◌, ◌-◌, ◌≤◌, ◌<◌, ◌==◌, Bool, true, false, ◌||◌, List, [], ◌∷◌, ◌++◌}
+use Rattle.std.proofs.Common.{length, map, refl, ap, sym, ◌∙◌, subst, Some, None, arith}
 use Rattle.std.specs.Prelude.{slice_get, slice_set}
 use Rattle.std.proofs.lemmas.List.{append_assoc, map-append, length-set}
 use Rattle.arj_core.specs.declared.node.Core.{Ghosts}
@@ -17,7 +18,8 @@ use Rattle.arj_protocol.specs.Effect.{Effect, Say, Send, Do}
 use Rattle.arj_protocol.specs.Step.{Node, Input, step}
 use Rattle.arj_protocol.specs.Words.{Body}
 use Rattle.arj_protocol.specs.Words.body
-use Rattle.arj_protocol.specs.World.{World, Cut, bodies, cut, count_works, done_step, halted_at, halted_outs, frames_with, numbered, overflows, put, sends, sent_line, new_frame, set_node}
+use Rattle.arj_protocol.specs.World.{World, Cut, bodies, cut, count_works, done_step, halted_at, halted_outs, frames_with, numbered}
+use Rattle.arj_protocol.specs.World.{overflows, put, sends, sent_line, new_frame, set_node}
 use Rattle.arj_world.specs.Goes.{StepsTo}
 use Rattle.arj_world.specs.Stands.{AreNodes, Hand, Kept, Stands, StandsSome}
 use Rattle.arj_world.specs.Wire.{Put, frame_of, put_seen, seen_bodies, seen_frames}
@@ -52,7 +54,8 @@ module _ {C D : Type 0} (core : Ghosts C) (file : D → FileMap) where
   -- one core with its disk and its node changed
   pub nodes_set : (h : Header) (cores : List C) (disks : List D) (nodes : List Node) (i : ℕ) (c c' : C) (d d' : D) (n n' : Node)
       → AreNodes core file h cores disks nodes → slice_get cores i ≡ Some c → slice_get disks i ≡ Some d → slice_get nodes i ≡ Some n
-      → core.stands h c' (file d') n' → n'.number ≡ n.number → AreNodes core file h (slice_set cores i c') (slice_set disks i d') (slice_set nodes i n')
+      → core.stands h c' (file d') n' → n'.number ≡ n.number →
+      AreNodes core file h (slice_set cores i c') (slice_set disks i d') (slice_set nodes i n')
   nodes_set h cores disks nodes i c c' d d' n n' are at_core at_disk at_node stands number = record {
     cores_count = length-set cores i c' ∙ are.cores_count;
     nodes_count = length-set nodes i n' ∙ are.nodes_count;
@@ -73,7 +76,8 @@ module _ {C D : Type 0} (core : Ghosts C) (file : D → FileMap) where
               let apart : j ≢ i = grind (arith, other) in
               are.numbers j m (sym (set_other i j n' nodes apart) ∙ node_is)
 
-      each : (j : ℕ) (x : C) (y : D) (m : Node) → slice_get (slice_set cores i c') j ≡ Some x → slice_get (slice_set disks i d') j ≡ Some y → slice_get (slice_set nodes i n') j ≡ Some m → core.stands h x (file y) m
+      each : (j : ℕ) (x : C) (y : D) (m : Node) → slice_get (slice_set cores i c') j ≡ Some x →
+          slice_get (slice_set disks i d') j ≡ Some y → slice_get (slice_set nodes i n') j ≡ Some m → core.stands h x (file y) m
       each j x y m core_is disk_is node_is = by (j == i) refl
         where
           one : (j == i) ≡ true → i ≡ j
@@ -85,9 +89,12 @@ module _ {C D : Type 0} (core : Ghosts C) (file : D → FileMap) where
           by : (b : Bool) → (j == i) ≡ b → core.stands h x (file y) m
           by true same =
               let e : i ≡ j = one same in
-              let cores_same : c' ≡ x = some_one c' x (sym (set_here i c' cores c at_core) ∙ ap (slice_get (slice_set cores i c')) e ∙ core_is) in
-              let disks_same : d' ≡ y = some_one d' y (sym (set_here i d' disks d at_disk) ∙ ap (slice_get (slice_set disks i d')) e ∙ disk_is) in
-              let nodes_same : n' ≡ m = some_one n' m (sym (set_here i n' nodes n at_node) ∙ ap (slice_get (slice_set nodes i n')) e ∙ node_is) in
+              let cores_same : c' ≡ x =
+              some_one c' x (sym (set_here i c' cores c at_core) ∙ ap (slice_get (slice_set cores i c')) e ∙ core_is) in
+              let disks_same : d' ≡ y =
+              some_one d' y (sym (set_here i d' disks d at_disk) ∙ ap (slice_get (slice_set disks i d')) e ∙ disk_is) in
+              let nodes_same : n' ≡ m =
+              some_one n' m (sym (set_here i n' nodes n at_node) ∙ ap (slice_get (slice_set nodes i n')) e ∙ node_is) in
               subst (λ z. core.stands h z (file y) m) cores_same (subst (λ z. core.stands h c' (file z) m) disks_same (subst (λ z. core.stands h c' (file d') z) nodes_same stands))
           by false other =
               are.each j x y m (sym (set_other i j c' cores (apart other)) ∙ core_is) (sym (set_other i j d' disks (apart other)) ∙ disk_is) (sym (set_other i j n' nodes (apart other)) ∙ node_is)
@@ -96,7 +103,8 @@ module _ {C D : Type 0} (core : Ghosts C) (file : D → FileMap) where
 
   -- the frames, lines and flag that a node's effects leave
   shows : (node : ℕ) (es : List Effect) (out : List Output) (k : Kept C) (journal : List Line) (p : Put)
-      → map seen_of out ≡ seen es → p ≡ put_seen node k.event (map seen_of out) (record { frames = map frame_of k.net; lines = journal; full = k.full })
+      → map seen_of out ≡ seen es →
+      p ≡ put_seen node k.event (map seen_of out) (record { frames = map frame_of k.net; lines = journal; full = k.full })
       → (p.frames ≡ frames_with (map frame_of k.net) (sends node es)) × (p.lines ≡ journal ++ numbered k.event (bodies node (length (map frame_of k.net)) es))
       × (p.full ≡ (k.full || overflows (map frame_of k.net) (sends node es)))
   shows node es out k journal p seen_so is =
@@ -112,8 +120,14 @@ module _ {C D : Type 0} (core : Ghosts C) (file : D → FileMap) where
   pub put_stands : (node : ℕ) (n' : Node) (es : List Effect) (out : List Output) (old new : Hand C D) (w : World) (p : Put)
       → Stands core file old w → new.kept.header ≡ old.kept.header → new.kept.labels ≡ old.kept.labels → new.kept.event ≡ old.kept.event
       → map seen_of out ≡ seen es → record { frames = map frame_of new.kept.net; lines = new.journal; full = new.kept.full } ≡ p
-      → p ≡ put_seen node old.kept.event (map seen_of out) (record { frames = map frame_of old.kept.net; lines = old.journal; full = old.kept.full })
-      → AreNodes core file new.kept.header new.kept.cores new.disks (set_node node n' w).nodes → Stands core file new (put node es (set_node node n' w))
+      → p ≡ put_seen node old.kept.event (map seen_of out) (record {
+        frames = map frame_of old.kept.net;
+        lines = old.journal;
+        full =
+            old.kept.full;
+      })
+      → AreNodes core file new.kept.header new.kept.cores new.disks (set_node node n' w).nodes →
+      Stands core file new (put node es (set_node node n' w))
   put_stands node n' es out old new w p st header labels event seen_so shown_is is nodes =
       let all = shows node es out old.kept old.journal p seen_so is in
       record {
@@ -179,12 +193,16 @@ module _ {C D : Type 0} (core : Ghosts C) (file : D → FileMap) where
       → put_of net journal full ≡ put_seen node old.kept.event (map seen_of out) (put_of old.kept.net old.journal old.kept.full)
       → StepsTo core file node i old (stepped (node - 1) c' d' old net journal full)
   done_to node i c c' d d' old net journal full out low high at_core at_disk done =
-      subst (λ m. put_of net journal full ≡ put_seen m old.kept.event (map seen_of out) (put_of old.kept.net old.journal old.kept.full) → StepsTo core file m i old (stepped (node - 1) c' d' old net journal full))
+      subst (λ m. put_of net journal full ≡ put_seen m old.kept.event (map seen_of out) (put_of old.kept.net old.journal old.kept.full) →
+      StepsTo core file m i old (stepped (node - 1) c' d' old net journal full))
       (omega (arith, low)) (done_at (node - 1) i c c' d d' old net journal full out (omega (arith, low, high)) at_core at_disk done)
 
   -- a line behind what was put out
   put_said : (n event : ℕ) (es : List Seen) (b : Body) (p : Put)
-      → put_seen n event (es ++ Said b ∷ []) p ≡ record (put_seen n event es p) { lines = (put_seen n event es p).lines ++ numbered event (b ∷ []) }
+      → put_seen n event (es ++ Said b ∷ []) p ≡ record (put_seen n event es p) {
+        lines =
+            (put_seen n event es p).lines ++ numbered event (b ∷ []);
+      }
   put_said n event es b p = λ i. record { frames = frames i; lines = lines i; full = full i }
     where
       same_frames : (xs : List Seen) → seen_frames n (xs ++ Said b ∷ []) ≡ seen_frames n xs
@@ -195,7 +213,8 @@ module _ {C D : Type 0} (core : Ghosts C) (file : D → FileMap) where
       more_bodies : (k : ℕ) (xs : List Seen) → seen_bodies n k (xs ++ Said b ∷ []) ≡ seen_bodies n k xs ++ b ∷ []
       more_bodies k [] = refl
       more_bodies k (Said a ∷ xs) = ap (λ bs. a ∷ bs) (more_bodies k xs)
-      more_bodies k (steps.Sent to what m ∷ xs) = ap (λ bs. sent_line (k + 1) n to what ++ bs) (more_bodies (k + 1) xs) ∙ sym (append_assoc (sent_line (k + 1) n to what) (seen_bodies n (k + 1) xs) (b ∷ []))
+      more_bodies k (steps.Sent to what m ∷ xs) =
+          ap (λ bs. sent_line (k + 1) n to what ++ bs) (more_bodies (k + 1) xs) ∙ sym (append_assoc (sent_line (k + 1) n to what) (seen_bodies n (k + 1) xs) (b ∷ []))
 
       frames : frames_with p.frames (seen_frames n (es ++ Said b ∷ [])) ≡ frames_with p.frames (seen_frames n es)
       frames = ap (frames_with p.frames) (same_frames es)
@@ -262,9 +281,17 @@ module _ {C D : Type 0} (core : Ghosts C) (file : D → FileMap) where
           ∙ ap (λ es. put_seen (suc j) old.kept.event es (put_of old.kept.net old.journal old.kept.full)) (sym said_is)
 
       after : Stands core file new (halted_at (suc j) n q w)
-      after = put_stands (suc j) (record n { disk = q.disk; live = None }) (halted_outs (suc j) q) (out ++ output.Say (body.Halted (suc j)) ∷ []) old new w (put_of net journal full) st refl refl refl
+      after = put_stands (suc j) (record n {
+        disk = q.disk;
+        live =
+            None;
+      }) (halted_outs (suc j) q) (out ++ output.Say (body.Halted (suc j)) ∷ []) old new w (put_of net journal full) st refl refl refl
           (said_is ∙ ap (λ es. es ++ Said (body.Halted (suc j)) ∷ []) (ap (map seen_of) was.outs.are ∙ was.outs.seen_so) ∙ sym (seen_behind q.outs (body.Halted (suc j)))) refl puts
-          (nodes_set old.kept.header old.kept.cores old.disks w.nodes j c c' d d' n (record n { disk = q.disk; live = None }) st.nodes at_core at_disk there.1 was.node refl)
+          (nodes_set old.kept.header old.kept.cores old.disks w.nodes j c c' d d' n (record n {
+            disk = q.disk;
+            live =
+                None;
+          }) st.nodes at_core at_disk there.1 was.node refl)
 
   pub cut_to : (node : ℕ) (i : Input) (c c' : C) (d d' : D) (old : Hand C D) (net : List Sent) (before journal : List Line) (full : Bool) (out : List Output)
       → 1 ≤ node → node ≤ old.kept.header.nodes → slice_get old.kept.cores (node - 1) ≡ Some c → slice_get old.disks (node - 1) ≡ Some d
@@ -273,12 +300,14 @@ module _ {C D : Type 0} (core : Ghosts C) (file : D → FileMap) where
       → journal ≡ before ++ numbered old.kept.event (body.Halted node ∷ [])
       → StepsTo core file node i old (stepped (node - 1) c' d' old net journal full)
   cut_to node i c c' d d' old net before journal full out low high at_core at_disk cuts =
-      subst (λ m. put_of net before full ≡ put_seen m old.kept.event (map seen_of out) (put_of old.kept.net old.journal old.kept.full) → journal ≡ before ++ numbered old.kept.event (body.Halted m ∷ [])
+      subst (λ m. put_of net before full ≡ put_seen m old.kept.event (map seen_of out) (put_of old.kept.net old.journal old.kept.full) →
+      journal ≡ before ++ numbered old.kept.event (body.Halted m ∷ [])
       → StepsTo core file m i old (stepped (node - 1) c' d' old net journal full))
       (omega (arith, low)) (cut_at (node - 1) i c c' d d' old net before journal full out (omega (arith, low, high)) at_core at_disk cuts)
 
   -- a core that stands is some node
-  pub some_node : (node : ℕ) (c : C) (d : D) (old : Hand C D) → 1 ≤ node → node ≤ old.kept.header.nodes → slice_get old.kept.cores (node - 1) ≡ Some c → slice_get old.disks (node - 1) ≡ Some d
+  pub some_node : (node : ℕ) (c : C) (d : D) (old : Hand C D) → 1 ≤ node → node ≤ old.kept.header.nodes →
+      slice_get old.kept.cores (node - 1) ≡ Some c → slice_get old.disks (node - 1) ≡ Some d
       → StandsSome core file old → (h : Header) × (n : Node) × core.stands h c (file d) n
   some_node node c d old low high at_core at_disk some =
       let w = some.0 in
@@ -288,22 +317,48 @@ module _ {C D : Type 0} (core : Ghosts C) (file : D → FileMap) where
 
   -- the hand as it is kept, with an item of a vector in its place
   pub done_kept : (node place : ℕ) (i : Input) (c c' : C) (d d' : D) (cores : List C) (old : Hand C D) (net : List Sent) (journal : List Line) (full : Bool) (out : List Output)
-      → 1 ≤ node → node ≤ old.kept.header.nodes → place ≡ node - 1 → cores ≡ old.kept.cores → slice_get old.kept.cores (node - 1) ≡ Some c → slice_get old.disks (node - 1) ≡ Some d
+      → 1 ≤ node → node ≤ old.kept.header.nodes → place ≡ node - 1 → cores ≡ old.kept.cores → slice_get old.kept.cores (node - 1) ≡ Some c →
+      slice_get old.disks (node - 1) ≡ Some d
       → ((h : Header) (n : Node) → core.stands h c (file d) n → Did (core.stands h c' (file d')) (step h n i) [] out)
       → put_of net journal full ≡ put_seen node old.kept.event (map seen_of out) (put_of old.kept.net old.journal old.kept.full)
-      → (new : Hand C D) → new ≡ record { kept = record old.kept { cores = slice_set cores place c'; net = net; full = full }; disks = slice_set old.disks (node - 1) d'; journal = journal }
+      → (new : Hand C D) →
+      new ≡ record {
+        kept = record old.kept { cores = slice_set cores place c'; net = net; full = full };
+        disks =
+            slice_set old.disks (node - 1) d';
+        journal = journal;
+      }
       → StepsTo core file node i old new
   done_kept node place i c c' d d' cores old net journal full out low high is same at_core at_disk done shown_is new new_is =
-      subst (StepsTo core file node i old) (sym (new_is ∙ (λ k. record { kept = record old.kept { cores = slice_set (same k) (is k) c'; net = net; full = full }; disks = slice_set old.disks (node - 1) d'; journal = journal })))
+      subst (StepsTo core file node i old) (sym (new_is ∙ (λ k. record {
+        kept =
+            record old.kept { cores = slice_set (same k) (is k) c'; net = net; full = full };
+        disks =
+            slice_set old.disks (node - 1) d';
+        journal = journal;
+      })))
       (done_to node i c c' d d' old net journal full out low high at_core at_disk done shown_is)
 
   pub cut_kept : (node place : ℕ) (i : Input) (c c' : C) (d d' : D) (cores : List C) (old : Hand C D) (net : List Sent) (before journal : List Line) (full : Bool) (out : List Output)
-      → 1 ≤ node → node ≤ old.kept.header.nodes → place ≡ node - 1 → cores ≡ old.kept.cores → slice_get old.kept.cores (node - 1) ≡ Some c → slice_get old.disks (node - 1) ≡ Some d
+      → 1 ≤ node → node ≤ old.kept.header.nodes → place ≡ node - 1 → cores ≡ old.kept.cores → slice_get old.kept.cores (node - 1) ≡ Some c →
+      slice_get old.disks (node - 1) ≡ Some d
       → ((h : Header) (n : Node) → core.stands h c (file d) n → WasCut (core.stands h c' (file d')) n (step h n i) [] out)
       → put_of net before full ≡ put_seen node old.kept.event (map seen_of out) (put_of old.kept.net old.journal old.kept.full)
       → journal ≡ before ++ numbered old.kept.event (body.Halted node ∷ [])
-      → (new : Hand C D) → new ≡ record { kept = record old.kept { cores = slice_set cores place c'; net = net; full = full }; disks = slice_set old.disks (node - 1) d'; journal = journal }
+      → (new : Hand C D) →
+      new ≡ record {
+        kept = record old.kept { cores = slice_set cores place c'; net = net; full = full };
+        disks =
+            slice_set old.disks (node - 1) d';
+        journal = journal;
+      }
       → StepsTo core file node i old new
   cut_kept node place i c c' d d' cores old net before journal full out low high is same at_core at_disk cuts shown_is line new new_is =
-      subst (StepsTo core file node i old) (sym (new_is ∙ (λ k. record { kept = record old.kept { cores = slice_set (same k) (is k) c'; net = net; full = full }; disks = slice_set old.disks (node - 1) d'; journal = journal })))
+      subst (StepsTo core file node i old) (sym (new_is ∙ (λ k. record {
+        kept =
+            record old.kept { cores = slice_set (same k) (is k) c'; net = net; full = full };
+        disks =
+            slice_set old.disks (node - 1) d';
+        journal = journal;
+      })))
       (cut_to node i c c' d d' old net before journal full out low high at_core at_disk cuts shown_is line)

@@ -1,5 +1,6 @@
 -- Lines that tell of stops, over one call and over several.
-use Rattle.std.proofs.Common.{◌≡◌, ◌∙◌, ◌+◌, ◌-◌, ◌≤◌, ◌<◌, ◌==◌, ◌&&◌, ℕ, zero, suc, Bool, true, false, not, List, [], ◌∷◌, ◌++◌, map, refl, sym, ap, subst, Option, Some, None, arith}
+use Rattle.std.proofs.Common.{◌≡◌, ◌∙◌, ◌+◌, ◌-◌, ◌≤◌, ◌<◌, ◌==◌, ◌&&◌, ℕ, zero, suc, Bool, true, false, not, List, [], ◌∷◌, ◌++◌, map}
+use Rattle.std.proofs.Common.{refl, sym, ap, subst, Option, Some, None, arith}
 use Rattle.std.specs.Prelude.{OnOk, Result, if◌then◌else◌, is_some, nat_le, slice_get, slice_set}
 use Rattle.std.specs.List.{list_all}
 use Rattle.std.proofs.lemmas.Bool.{and_parts}
@@ -77,17 +78,24 @@ not_this n (Some m) isnt = absurd (cc isnt)
 
 not_other : (n k : ℕ) (o : Option ℕ) → (n == k) ≡ false → is_only k o ≡ true → is_this n o ≡ false
 not_other n k None apart only = refl
-not_other n k (Some m) apart only = let same : m ≡ k = grind (arith, only) in subst (λ x. (x == n) ≡ false) (sym same) (grind (arith, apart))
+not_other n k (Some m) apart only =
+    let same : m ≡ k = grind (arith, only) in subst (λ x. (x == n) ≡ false) (sym same) (grind (arith, apart))
 
 -- what a stop leaves of effects
-pub cut_all : (test : Effect → Bool) (k : ℕ) (how : Stop) (es : List Effect) (d : effect.Disk) → list_all test es ≡ true → list_all test (cut k how es d).outs ≡ true
+pub cut_all : (test : Effect → Bool) (k : ℕ) (how : Stop) (es : List Effect) (d : effect.Disk) → list_all test es ≡ true →
+    list_all test (cut k how es d).outs ≡ true
 cut_all test k how [] d all = refl
 cut_all test zero how (Do w ∷ es) d all = refl
-cut_all test (suc k) how (Do w ∷ es) d all = let own = and_parts (test (Do w)) (list_all test es) all in λ i. own.0 i && cut_all test k how es (worked w d) own.1 i
-cut_all test zero how (Say b ∷ es) d all = let own = and_parts (test (Say b)) (list_all test es) all in λ i. own.0 i && cut_all test zero how es d own.1 i
-cut_all test (suc k) how (Say b ∷ es) d all = let own = and_parts (test (Say b)) (list_all test es) all in λ i. own.0 i && cut_all test (suc k) how es d own.1 i
-cut_all test zero how (Send to m ∷ es) d all = let own = and_parts (test (Send to m)) (list_all test es) all in λ i. own.0 i && cut_all test zero how es d own.1 i
-cut_all test (suc k) how (Send to m ∷ es) d all = let own = and_parts (test (Send to m)) (list_all test es) all in λ i. own.0 i && cut_all test (suc k) how es d own.1 i
+cut_all test (suc k) how (Do w ∷ es) d all =
+    let own = and_parts (test (Do w)) (list_all test es) all in λ i. own.0 i && cut_all test k how es (worked w d) own.1 i
+cut_all test zero how (Say b ∷ es) d all =
+    let own = and_parts (test (Say b)) (list_all test es) all in λ i. own.0 i && cut_all test zero how es d own.1 i
+cut_all test (suc k) how (Say b ∷ es) d all =
+    let own = and_parts (test (Say b)) (list_all test es) all in λ i. own.0 i && cut_all test (suc k) how es d own.1 i
+cut_all test zero how (Send to m ∷ es) d all =
+    let own = and_parts (test (Send to m)) (list_all test es) all in λ i. own.0 i && cut_all test zero how es d own.1 i
+cut_all test (suc k) how (Send to m ∷ es) d all =
+    let own = and_parts (test (Send to m)) (list_all test es) all in λ i. own.0 i && cut_all test (suc k) how es d own.1 i
 
 -- a node that is asked something says of none that it halted, but of itself where it is crashed
 calm_step : (n node k ev : ℕ) (hd : Header) (m : Node) (i : Input) → m.number ≡ node → crashed_at node i n ≡ false
@@ -95,7 +103,8 @@ calm_step : (n node k ev : ℕ) (hd : Header) (m : Node) (i : Input) → m.numbe
     × ((w : ℕ) (how : Stop) → halts n (numbered ev (seen_bodies node k (seen (cut w how (step hd m i).halting m.disk).outs))) ≡ 0)
 calm_step n node k ev hd m i number isnt = by i (is_crash i) refl isnt
   where
-    asked : (i : Input) → is_crash i ≡ false → ((es : List Effect) → es ≡ (step hd m i).outs → halts n (numbered ev (seen_bodies node k (seen es))) ≡ 0)
+    asked : (i : Input) → is_crash i ≡ false →
+        ((es : List Effect) → es ≡ (step hd m i).outs → halts n (numbered ev (seen_bodies node k (seen es))) ≡ 0)
         × ((w : ℕ) (how : Stop) → halts n (numbered ev (seen_bodies node k (seen (cut w how (step hd m i).halting m.disk).outs))) ≡ 0)
     asked i safe =
         let both = step_both hd m i safe in
@@ -104,13 +113,15 @@ calm_step n node k ev hd m i number isnt = by i (is_crash i) refl isnt
           λ w how. calm_seen n says_no_halt calm node k ev (cut w how (step hd m i).halting m.disk).outs (cut_all says_no_halt w how (step hd m i).halting m.disk both.1),
         )
 
-    by : (i : Input) (b : Bool) → is_crash i ≡ b → (is_crash i && (n == node)) ≡ false → ((es : List Effect) → es ≡ (step hd m i).outs → halts n (numbered ev (seen_bodies node k (seen es))) ≡ 0)
+    by : (i : Input) (b : Bool) → is_crash i ≡ b → (is_crash i && (n == node)) ≡ false →
+        ((es : List Effect) → es ≡ (step hd m i).outs → halts n (numbered ev (seen_bodies node k (seen es))) ≡ 0)
         × ((w : ℕ) (how : Stop) → halts n (numbered ev (seen_bodies node k (seen (cut w how (step hd m i).halting m.disk).outs))) ≡ 0)
     by i false safe isnt = asked i safe
     by input.Crash true is isnt =
         let both = crash_own hd m in
         let apart : (n == m.number) ≡ false = subst (λ x. (n == x) ≡ false) (sym number) isnt in
-        let calm : (b : Body) → is_only m.number (halted_node b) ≡ true → is_this n (halted_node b) ≡ false = λ b only. not_other n m.number (halted_node b) apart only in (
+        let calm : (b : Body) → is_only m.number (halted_node b) ≡ true → is_this n (halted_node b) ≡ false =
+        λ b only. not_other n m.number (halted_node b) apart only in (
           λ es is. calm_seen n (says_own_halt m.number) calm node k ev es (subst (λ xs. list_all (says_own_halt m.number) xs ≡ true) (sym is) both.0),
           λ w how. calm_seen n (says_own_halt m.number) calm node k ev (cut w how (step hd m input.Crash).halting m.disk).outs (cut_all (says_own_halt m.number) w how (step hd m input.Crash).halting m.disk both.1),
         )
@@ -174,10 +185,17 @@ told_then some more a b c x y = record {
 module _ {D : Type 0} (disk : Ghosts D) where
   -- a disk that was not called is told by no line
   untold : (d e : D) (lines : ℕ) → d ≡ e → lines ≡ 0 → IsToldBy lines (disk.stops d) (disk.stops e)
-  untold d e lines same none = subst (λ x. IsToldBy lines (disk.stops d) (disk.stops x)) same (record { later = omega arith; rose = λ less. omega (arith, none); only = λ is. refl })
+  untold d e lines same none =
+      subst (λ x. IsToldBy lines (disk.stops d) (disk.stops x)) same (record {
+        later = omega arith;
+        rose = λ less. omega (arith, none);
+        only =
+            λ is. refl;
+      })
 
   -- no call at all
-  pub tells_none : (nodes : ℕ) (crashed : ℕ → Bool) (disks : List D) (journal : List Line) → TellsStops disk nodes crashed disks disks journal journal
+  pub tells_none : (nodes : ℕ) (crashed : ℕ → Bool) (disks : List D) (journal : List Line) →
+      TellsStops disk nodes crashed disks disks journal journal
   tells_none nodes crashed disks journal = (
     [],
     sym (append-nil journal),
@@ -189,7 +207,8 @@ module _ {D : Type 0} (disk : Ghosts D) where
   )
 
   -- one behind the other
-  pub tells_then : (n m : ℕ) (first second third : List D) (before between after : List Line) → m ≡ n → TellsStops disk n nobody first second before between → TellsStops disk m nobody second third between after
+  pub tells_then : (n m : ℕ) (first second third : List D) (before between after : List Line) → m ≡ n →
+      TellsStops disk n nobody first second before between → TellsStops disk m nobody second third between after
       → TellsStops disk n nobody first third before after
   tells_then n m first second third before between after same (some, are, a) (more, are_then, b) = (
     some ++ more,
@@ -206,7 +225,8 @@ module _ {D : Type 0} (disk : Ghosts D) where
   )
 
   -- a line behind it that says of no node that it halted
-  pub tells_line : (nodes : ℕ) (crashed : ℕ → Bool) (old new : List D) (before after longer : List Line) (more : List Line) → ((n : ℕ) → halts n more ≡ 0) → longer ≡ after ++ more
+  pub tells_line : (nodes : ℕ) (crashed : ℕ → Bool) (old new : List D) (before after longer : List Line) (more : List Line) →
+      ((n : ℕ) → halts n more ≡ 0) → longer ≡ after ++ more
       → TellsStops disk nodes crashed old new before after → TellsStops disk nodes crashed old new before longer
   tells_line nodes crashed old new before after longer more none are (added, were, t) = (
     added ++ more,
@@ -222,8 +242,11 @@ module _ {D : Type 0} (disk : Ghosts D) where
       same n = omega (arith, none n, halts_both n added more)
 
   -- a node's disk is told by lines, and the lines tell of no other
-  pub tells_at : (nodes : ℕ) (crashed : ℕ → Bool) (node : ℕ) (disks : List D) (d e : D) (before after added : List Line) → 1 ≤ node → node ≤ nodes → slice_get disks (node - 1) ≡ Some d → after ≡ before ++ added
-      → IsToldBy (if crashed node then 0 else halts node added) (disk.stops d) (disk.stops e) → ((n : ℕ) → (n == node) ≡ false → halts n added ≡ 0) → TellsStops disk nodes crashed disks (slice_set disks (node - 1) e) before after
+  pub tells_at : (nodes : ℕ) (crashed : ℕ → Bool) (node : ℕ) (disks : List D) (d e : D) (before after added : List Line) → 1 ≤ node →
+      node ≤ nodes → slice_get disks (node - 1) ≡ Some d → after ≡ before ++ added
+      → IsToldBy (if crashed node then 0 else halts node added) (disk.stops d) (disk.stops e) →
+      ((n : ℕ) → (n == node) ≡ false → halts n added ≡ 0) →
+      TellsStops disk nodes crashed disks (slice_set disks (node - 1) e) before after
   tells_at nodes crashed node disks d e before after added low high at are own others = (
     added,
     are,
@@ -238,7 +261,8 @@ module _ {D : Type 0} (disk : Ghosts D) where
       apart n out false is = is
       apart n out true is = let same : n ≡ node = grind (arith, is) in absurd (out (omega (arith, same, low)) (omega (arith, same, high)))
 
-      by : (i : ℕ) (x y : D) → slice_get disks i ≡ Some x → slice_get (slice_set disks (node - 1) e) i ≡ Some y → (b : Bool) → ((i + 1) == node) ≡ b → IsToldBy (if crashed (i + 1) then 0 else halts (i + 1) added) (disk.stops x) (disk.stops y)
+      by : (i : ℕ) (x y : D) → slice_get disks i ≡ Some x → slice_get (slice_set disks (node - 1) e) i ≡ Some y → (b : Bool) →
+          ((i + 1) == node) ≡ b → IsToldBy (if crashed (i + 1) then 0 else halts (i + 1) added) (disk.stops x) (disk.stops y)
       by i x y at_x at_y true is =
           let number : i + 1 ≡ node = grind (arith, is) in
           let same : i ≡ node - 1 = omega (arith, number) in
@@ -252,8 +276,10 @@ module _ {D : Type 0} (disk : Ghosts D) where
           untold x y (if crashed (i + 1) then 0 else halts (i + 1) added) (some_one x y (sym at_x ∙ sym (set_other (node - 1) i e disks elsewhere) ∙ at_y)) (uncounted (crashed (i + 1)) (halts (i + 1) added) (others (i + 1) is))
 
   -- a disk was armed, and a line says so
-  pub tells_armed : (nodes node : ℕ) (disks : List D) (d e : D) (before after : List Line) (ev : ℕ) (b : Body) → 1 ≤ node → node ≤ nodes → slice_get disks (node - 1) ≡ Some d → disk.stops e ≡ disk.stops d
-      → halted_node b ≡ None → after ≡ before ++ numbered ev (b ∷ []) → TellsStops disk nodes nobody disks (slice_set disks (node - 1) e) before after
+  pub tells_armed : (nodes node : ℕ) (disks : List D) (d e : D) (before after : List Line) (ev : ℕ) (b : Body) → 1 ≤ node → node ≤ nodes →
+      slice_get disks (node - 1) ≡ Some d → disk.stops e ≡ disk.stops d
+      → halted_node b ≡ None → after ≡ before ++ numbered ev (b ∷ []) →
+      TellsStops disk nodes nobody disks (slice_set disks (node - 1) e) before after
   tells_armed nodes node disks d e before after ev b low high at stops isnt are =
       let none : (n : ℕ) → halts n (numbered ev (b ∷ [])) ≡ 0 = λ n. other_line n ev b (ap (is_this n) isnt) in
       tells_at nodes nobody node disks d e before after (numbered ev (b ∷ [])) low high at are
@@ -261,13 +287,16 @@ module _ {D : Type 0} (disk : Ghosts D) where
       (λ n apart. none n)
 
   -- the event that was given is this one
-  pub tells_of : {E : Type 0} (r : Result (Unit {0}) E) (nodes : ℕ) (e given : Event) (old new : List D) (before after : List Line) → given ≡ e → OnOk r (TellsStops disk nodes (crashed_by e) old new before after)
+  pub tells_of : {E : Type 0} (r : Result (Unit {0}) E) (nodes : ℕ) (e given : Event) (old new : List D) (before after : List Line) →
+      given ≡ e → OnOk r (TellsStops disk nodes (crashed_by e) old new before after)
       → OnOk r (TellsStops disk nodes (crashed_by given) old new before after)
-  tells_of r nodes e given old new before after is tells = subst (λ x. OnOk r (TellsStops disk nodes (crashed_by x) old new before after)) (sym is) tells
+  tells_of r nodes e given old new before after is tells =
+      subst (λ x. OnOk r (TellsStops disk nodes (crashed_by x) old new before after)) (sym is) tells
 
   module _ {C : Type 0} (core : core_ghosts C) (file : D → FileMap) where
     -- the node that a core is, by its number
-    node_there : (node : ℕ) (c : C) (d : D) (old : Hand C D) → 1 ≤ node → node ≤ old.kept.header.nodes → slice_get old.kept.cores (node - 1) ≡ Some c → slice_get old.disks (node - 1) ≡ Some d
+    node_there : (node : ℕ) (c : C) (d : D) (old : Hand C D) → 1 ≤ node → node ≤ old.kept.header.nodes →
+        slice_get old.kept.cores (node - 1) ≡ Some c → slice_get old.disks (node - 1) ≡ Some d
         → StandsSome core file old → (n : Node) × core.stands old.kept.header c (file d) n × (n.number ≡ node)
     node_there node c d old low high at_core at_disk some =
         let w = some.0 in
@@ -280,8 +309,10 @@ module _ {D : Type 0} (disk : Ghosts D) where
 
     -- a step was done: it was not stopped, and no line says that a node halted, but where it is crashed
     pub tells_done : (node : ℕ) (i : Input) (c c' : C) (d e : D) (old : Hand C D) (out : List Output) (after : List Line) (ev k : ℕ)
-        → 1 ≤ node → node ≤ old.kept.header.nodes → slice_get old.kept.cores (node - 1) ≡ Some c → slice_get old.disks (node - 1) ≡ Some d → StandsSome core file old
-        → ((h : Header) (n : Node) → core.stands h c (file d) n → Did (core.stands h c' (file e)) (step h n i) [] out) → disk.stops e ≡ disk.stops d
+        → 1 ≤ node → node ≤ old.kept.header.nodes → slice_get old.kept.cores (node - 1) ≡ Some c → slice_get old.disks (node - 1) ≡ Some d →
+        StandsSome core file old
+        → ((h : Header) (n : Node) → core.stands h c (file d) n → Did (core.stands h c' (file e)) (step h n i) [] out) →
+        disk.stops e ≡ disk.stops d
         → after ≡ old.journal ++ numbered ev (seen_bodies node k (map seen_of out))
         → TellsStops disk old.kept.header.nodes (crashed_at node i) old.disks (slice_set old.disks (node - 1) e) old.journal after
     tells_done node i c c' d e old out after ev k low high at_core at_disk some done stops lines =
@@ -289,7 +320,8 @@ module _ {D : Type 0} (disk : Ghosts D) where
         let did = done old.kept.header n.0 n.1 in
         let added = numbered ev (seen_bodies node k (seen (step old.kept.header n.0 i).outs)) in
         let are = lines ∙ ap (λ es. old.journal ++ numbered ev (seen_bodies node k es)) (seen_all (step old.kept.header n.0 i).outs out did.outs) in
-        let none : (m : ℕ) → crashed_at node i m ≡ false → halts m added ≡ 0 = λ m safe. (calm_step m node k ev old.kept.header n.0 i n.2 safe).0 (step old.kept.header n.0 i).outs refl in
+        let none : (m : ℕ) → crashed_at node i m ≡ false → halts m added ≡ 0 =
+        λ m safe. (calm_step m node k ev old.kept.header n.0 i n.2 safe).0 (step old.kept.header n.0 i).outs refl in
         tells_at old.kept.header.nodes (crashed_at node i) node old.disks d e old.journal after added low high at_disk are
         (steady (if crashed_at node i node then 0 else halts node added) (told added (crashed_at node i node) refl none))
         (λ m apart. none m (crashed_other node m i apart))
@@ -297,15 +329,19 @@ module _ {D : Type 0} (disk : Ghosts D) where
         steady : (lines : ℕ) → lines ≡ 0 → IsToldBy lines (disk.stops d) (disk.stops e)
         steady lines is = record { later = omega (arith, stops); rose = λ less. omega (arith, stops, is); only = λ is. stops }
 
-        told : (added : List Line) (b : Bool) → crashed_at node i node ≡ b → ((m : ℕ) → crashed_at node i m ≡ false → halts m added ≡ 0) → (if b then 0 else halts node added) ≡ 0
+        told : (added : List Line) (b : Bool) → crashed_at node i node ≡ b → ((m : ℕ) → crashed_at node i m ≡ false → halts m added ≡ 0) →
+            (if b then 0 else halts node added) ≡ 0
         told added true is none = refl
         told added false is none = none node is
 
     -- a stop cut the step, and a line says that the node halted
     pub tells_cut : (node : ℕ) (i : Input) (c c' : C) (d e : D) (old : Hand C D) (out : List Output) (between after : List Line) (ev ev' k : ℕ)
-        → 1 ≤ node → node ≤ old.kept.header.nodes → slice_get old.kept.cores (node - 1) ≡ Some c → slice_get old.disks (node - 1) ≡ Some d → StandsSome core file old
-        → ((h : Header) (n : Node) → core.stands h c (file d) n → WasCut (core.stands h c' (file e)) n (step h n i) [] out) → Rose (disk.stops d) (disk.stops e) → disk.stops d ≤ disk.stops e
-        → between ≡ old.journal ++ numbered ev (seen_bodies node k (map seen_of out)) → after ≡ between ++ numbered ev' (body.Halted node ∷ [])
+        → 1 ≤ node → node ≤ old.kept.header.nodes → slice_get old.kept.cores (node - 1) ≡ Some c → slice_get old.disks (node - 1) ≡ Some d →
+        StandsSome core file old
+        → ((h : Header) (n : Node) → core.stands h c (file d) n → WasCut (core.stands h c' (file e)) n (step h n i) [] out) →
+        Rose (disk.stops d) (disk.stops e) → disk.stops d ≤ disk.stops e
+        → between ≡ old.journal ++ numbered ev (seen_bodies node k (map seen_of out)) →
+        after ≡ between ++ numbered ev' (body.Halted node ∷ [])
         → TellsStops disk old.kept.header.nodes (crashed_at node i) old.disks (slice_set old.disks (node - 1) e) old.journal after
     tells_cut node i c c' d e old out between after ev ev' k low high at_core at_disk some cuts rose later lines line =
         let n = node_there node c d old low high at_core at_disk some in
@@ -313,16 +349,20 @@ module _ {D : Type 0} (disk : Ghosts D) where
         let es = (cut was.work was.how (step old.kept.header n.0 i).halting n.0.disk).outs in
         let front = numbered ev (seen_bodies node k (seen es)) in
         let last = numbered ev' (body.Halted node ∷ []) in
-        let are : after ≡ old.journal ++ (front ++ last) = line ∙ (ap (λ ls. ls ++ last) (lines ∙ ap (λ xs. old.journal ++ numbered ev (seen_bodies node k xs)) (seen_all es out was.outs)) ∙ append_assoc old.journal front last) in
-        let safe : (b : Bool) → crashed_at node i node ≡ b → crashed_at node i node ≡ false = λ b. elim b as (λ b. crashed_at node i node ≡ b → crashed_at node i node ≡ false) [
+        let are : after ≡ old.journal ++ (front ++ last) =
+        line ∙ (ap (λ ls. ls ++ last) (lines ∙ ap (λ xs. old.journal ++ numbered ev (seen_bodies node k xs)) (seen_all es out was.outs)) ∙ append_assoc old.journal front last) in
+        let safe : (b : Bool) → crashed_at node i node ≡ b → crashed_at node i node ≡ false =
+        λ b. elim b as (λ b. crashed_at node i node ≡ b → crashed_at node i node ≡ false) [
           | false ↦ λ is. is
           | true ↦ λ is. absurd (omega (arith, was.within, crash_unworked old.kept.header n.0 i (is_crashed node node i is)))
         ] in
-        let none : (m : ℕ) → crashed_at node i m ≡ false → halts m front ≡ 0 = λ m safe. (calm_step m node k ev old.kept.header n.0 i n.2 safe).1 was.work was.how in
+        let none : (m : ℕ) → crashed_at node i m ≡ false → halts m front ≡ 0 =
+        λ m safe. (calm_step m node k ev old.kept.header n.0 i n.2 safe).1 was.work was.how in
         let up : crashed_at node i node ≡ false = safe (crashed_at node i node) refl in
         let one : halts node last ≡ 1 = own node in
         let both = halts_both node front last in
-        let all : (if crashed_at node i node then 0 else halts node (front ++ last)) ≡ 1 = (λ j. if up j then 0 else halts node (front ++ last)) ∙ omega (arith, one, both, none node up) in
+        let all : (if crashed_at node i node then 0 else halts node (front ++ last)) ≡ 1 =
+        (λ j. if up j then 0 else halts node (front ++ last)) ∙ omega (arith, one, both, none node up) in
         tells_at old.kept.header.nodes (crashed_at node i) node old.disks d e old.journal after (front ++ last) low high at_disk are
         (record {
           later = later;

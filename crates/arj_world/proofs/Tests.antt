@@ -1,5 +1,6 @@
 -- What is tested of the world that is kept.
-use Rattle.std.proofs.Common.{◌≡◌, ℕ, zero, suc, ◌+◌, ◌-◌, ◌≤◌, ◌<◌, Bool, true, false, ◌&&◌, ◌||◌, ◌==◌, ◌≢◌, List, [], ◌∷◌, length, map, drop, get_or, refl, ap, sym, ◌∙◌, subst, Option, Some, None, arith}
+use Rattle.std.proofs.Common.{◌≡◌, ℕ, zero, suc, ◌+◌, ◌-◌, ◌≤◌, ◌<◌, Bool, true, false, ◌&&◌, ◌||◌, ◌==◌, ◌≢◌, List, [], ◌∷◌, length, map}
+use Rattle.std.proofs.Common.{drop, get_or, refl, ap, sym, ◌∙◌, subst, Option, Some, None, arith}
 use Rattle.std.specs.Prelude.{find, if◌then◌else◌, is_some, nat_le, not, slice_get, Result, Ok, Err}
 use Rattle.std.specs.List.{list_all, list_any}
 use Rattle.std.proofs.lemmas.List.{append-nil}
@@ -33,7 +34,8 @@ use Rattle.arj_world.proofs.Frames.{frame_at}
 pub refuses : (a : ℕ) (p : Bool) (rest : List (ℕ × Bool)) → p ≡ true → Some a ≡ first_reason ((a, p) ∷ rest)
 refuses a p rest holds = ap (λ b. first_reason ((a, b) ∷ rest)) (sym holds)
 
-pub passes : (a : ℕ) (p : Bool) (rest : List (ℕ × Bool)) (o : Option ℕ) → p ≡ false → o ≡ first_reason rest → o ≡ first_reason ((a, p) ∷ rest)
+pub passes : (a : ℕ) (p : Bool) (rest : List (ℕ × Bool)) (o : Option ℕ) → p ≡ false → o ≡ first_reason rest →
+    o ≡ first_reason ((a, p) ∷ rest)
 passes a p rest o fails later = later ∙ ap (λ b. first_reason ((a, b) ∷ rest)) (sym fails)
 
 -- ---- numbers of nodes
@@ -60,9 +62,12 @@ module _ {C : Type 0} (core : Ghosts C) where
 
   -- the core of a node says whether it is up
   abbrev pub Tells : ℕ → Bool → Kept C → Type 0
-  Tells node b k = (c : C) → slice_get k.cores (node - 1) ≡ Some c → (header : Header) (f : FileMap) (n : Node) → core.stands header c f n → b ≡ is_some n.live
+  Tells node b k =
+      (c : C) → slice_get k.cores (node - 1) ≡ Some c → (header : Header) (f : FileMap) (n : Node) → core.stands header c f n →
+      b ≡ is_some n.live
 
-  pub up_at : (node : ℕ) (b : Bool) (k : Kept C) (w : World) → 1 ≤ node → node ≤ k.header.nodes → Keeps core k w → Tells node b k → protocol.is_up_at node w ≡ b
+  pub up_at : (node : ℕ) (b : Bool) (k : Kept C) (w : World) → 1 ≤ node → node ≤ k.header.nodes → Keeps core k w → Tells node b k →
+      protocol.is_up_at node w ≡ b
   up_at zero b k w low high keeps says = absurd (omega (arith, low))
   up_at (suc j) b k w low high keeps says =
       let c = is_there j k.cores (omega (arith, high, keeps.count)) in
@@ -72,8 +77,10 @@ module _ {C : Type 0} (core : Ghosts C) where
 
   -- ---- frames
 
-  pub frame_there : (k : ℕ) (kept : Kept C) (w : World) → Keeps core kept w → is_some (at_place k w.frames) ≡ is_some (nets.frame_of kept.net k)
-  frame_there k kept w keeps = ap (λ fs. is_some (at_place k fs)) keeps.frames ∙ ap is_some (frame_at k kept.net) ∙ either (nets.sent_as kept.net k)
+  pub frame_there : (k : ℕ) (kept : Kept C) (w : World) → Keeps core kept w →
+      is_some (at_place k w.frames) ≡ is_some (nets.frame_of kept.net k)
+  frame_there k kept w keeps =
+      ap (λ fs. is_some (at_place k fs)) keeps.frames ∙ ap is_some (frame_at k kept.net) ∙ either (nets.sent_as kept.net k)
     where
       either : (o : Option net.Sent) → is_some (option_map frame_of o) ≡ is_some (option_map (λ (s : net.Sent). s.frame) o)
       either None = refl
@@ -117,7 +124,16 @@ module _ {C : Type 0} (core : Ghosts C) where
   new_refused l rest k w keeps is = refuses 4 (protocol.is_known l w) rest (known_is l true k w keeps is)
 
   pub keeps_armed : (k : Kept C) (w : World) (arms : List (ℕ × protocol.Arm)) → Keeps core k w → Keeps core k (with_arms arms w)
-  keeps_armed k w arms keeps = record { header = keeps.header; start = keeps.start; frames = keeps.frames; labels = keeps.labels; nodes = keeps.nodes; count = keeps.count }
+  keeps_armed k w arms keeps =
+      record {
+        header = keeps.header;
+        start = keeps.start;
+        frames = keeps.frames;
+        labels = keeps.labels;
+        nodes = keeps.nodes;
+        count =
+            keeps.count;
+      }
 
 module _ {C D : Type 0} (core : Ghosts C) (file : D → FileMap) where
   -- a world in hand is kept
@@ -143,11 +159,13 @@ module _ {C D : Type 0} (core : Ghosts C) (file : D → FileMap) where
 
 -- ---- objects
 
-pub any_line : (x : ℕ) (os : List ObjectLine) → list_any (λ (o : ObjectLine). o.x == x) os ≡ is_some (class_in (find (λ (o : ObjectLine). o.x == x) os))
+pub any_line : (x : ℕ) (os : List ObjectLine) →
+    list_any (λ (o : ObjectLine). o.x == x) os ≡ is_some (class_in (find (λ (o : ObjectLine). o.x == x) os))
 any_line x [] = refl
 any_line x (o ∷ os) = by (o.x == x) (any_line x os)
   where
-    by : (b : Bool) → list_any (λ (o : ObjectLine). o.x == x) os ≡ is_some (class_in (find (λ (o : ObjectLine). o.x == x) os)) → (b || list_any (λ (o : ObjectLine). o.x == x) os) ≡ is_some (class_in (if b then Some o else find (λ (o : ObjectLine). o.x == x) os))
+    by : (b : Bool) → list_any (λ (o : ObjectLine). o.x == x) os ≡ is_some (class_in (find (λ (o : ObjectLine). o.x == x) os)) →
+        (b || list_any (λ (o : ObjectLine). o.x == x) os) ≡ is_some (class_in (if b then Some o else find (λ (o : ObjectLine). o.x == x) os))
     by true later = refl
     by false later = later
 
@@ -155,16 +173,19 @@ any_line x (o ∷ os) = by (o.x == x) (any_line x os)
 
 pub is_one : (bytes : List ℕ) (m : Message) → MessageInForm m → message_bytes m ≡ bytes → reads_whole (read_message bytes) ≡ true
 unfolding read_message
-is_one bytes m fits are = ap (λ bs. reads_whole (message.read bs)) (sym are ∙ sym (append-nil (message_bytes m))) ∙ ap reads_whole (message_lawful.again m [] fits)
+is_one bytes m fits are =
+    ap (λ bs. reads_whole (message.read bs)) (sym are ∙ sym (append-nil (message_bytes m))) ∙ ap reads_whole (message_lawful.again m [] fits)
 
-pub is_none_of : (bytes : List ℕ) → IsBytes bytes → ((m : Message) → MessageInForm m → message_bytes m ≢ bytes) → reads_whole (read_message bytes) ≡ false
+pub is_none_of : (bytes : List ℕ) → IsBytes bytes → ((m : Message) → MessageInForm m → message_bytes m ≢ bytes) →
+    reads_whole (read_message bytes) ≡ false
 unfolding read_message
 is_none_of bytes are none = by (message.read bytes) refl
   where
     by : (r : Result (Message × List ℕ) ℕ) → message.read bytes ≡ r → reads_whole r ≡ false
     by (Err n) is = refl
     by (Ok (m, b ∷ rest)) is = refl
-    by (Ok (m, [])) is = let found = message_lawful.found bytes m [] are is in absurd (none m found.0 (sym (found.1 ∙ append-nil (message_bytes m))))
+    by (Ok (m, [])) is =
+        let found = message_lawful.found bytes m [] are is in absurd (none m found.0 (sym (found.1 ∙ append-nil (message_bytes m))))
 
 -- ---- a node that is there
 
@@ -190,15 +211,18 @@ drop_none (suc k) (x ∷ xs) h = drop_none k xs (omega (arith, h))
 
 module _ {C : Type 0} (core : Ghosts C) where
   -- one more says whether it is quiet
-  pub idle_next : (k : ℕ) (b : Bool) (c : C) (header : Header) (cores : List C) (nodes : List Node) → AreSomeNodes core header cores nodes → k < length cores → c ≡ get_or cores k c
-      → ((hd : Header) (f : FileMap) (n : Node) → core.stands hd c f n → b ≡ is_idle n) → list_all is_idle (drop k nodes) ≡ (b && list_all is_idle (drop (k + 1) nodes))
+  pub idle_next : (k : ℕ) (b : Bool) (c : C) (header : Header) (cores : List C) (nodes : List Node) → AreSomeNodes core header cores nodes →
+      k < length cores → c ≡ get_or cores k c
+      → ((hd : Header) (f : FileMap) (n : Node) → core.stands hd c f n → b ≡ is_idle n) →
+      list_all is_idle (drop k nodes) ≡ (b && list_all is_idle (drop (k + 1) nodes))
   idle_next k b c header cores nodes are less here says =
       let n = is_there k nodes (omega (arith, less, are.count)) in
       let st = are.each k c n.0 (slice_get_read cores (length cores) k c refl less here) n.1 in
       let next : suc k ≡ k + 1 = omega arith in
       ap (list_all is_idle) (drop_at k nodes n.0 n.1) ∙ (λ i. sym (says header st.0 n.0 st.1) i && list_all is_idle (drop (next i) nodes))
 
-  pub idle_end : (k : ℕ) (header : Header) (cores : List C) (nodes : List Node) → AreSomeNodes core header cores nodes → length cores ≤ k → list_all is_idle (drop k nodes) ≡ true
+  pub idle_end : (k : ℕ) (header : Header) (cores : List C) (nodes : List Node) → AreSomeNodes core header cores nodes → length cores ≤ k →
+      list_all is_idle (drop k nodes) ≡ true
   idle_end k header cores nodes are all = ap (list_all is_idle) (drop_none k nodes (omega (arith, all, are.count)))
 
 -- ---- what an accepted event knows
@@ -217,7 +241,8 @@ in_count n count is = by (nat_le 1 n) refl (nat_le n count) refl
     by false one b two = absurd (cc (sym is ∙ (λ i. not (one i && two i))))
 
 -- a node that the first reason asks for is there
-pub in_range : {C : Type 0} (core : Ghosts C) (n : ℕ) (rest : List (ℕ × Bool)) (k : Kept C) (w : World) → Keeps core k w → None ≡ first_reason ((1, not (protocol.is_node n w)) ∷ rest) → (1 ≤ n) × (n ≤ k.header.nodes)
+pub in_range : {C : Type 0} (core : Ghosts C) (n : ℕ) (rest : List (ℕ × Bool)) (k : Kept C) (w : World) → Keeps core k w →
+    None ≡ first_reason ((1, not (protocol.is_node n w)) ∷ rest) → (1 ≤ n) × (n ≤ k.header.nodes)
 in_range core n rest k w keeps is =
     let p = passed 1 (not (protocol.is_node n w)) rest is in
     in_count n k.header.nodes (sym (λ i. let hd = keeps.header i in not (nat_le 1 n && nat_le n hd.nodes)) ∙ p.0)

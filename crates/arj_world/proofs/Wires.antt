@@ -1,5 +1,6 @@
 -- What a node puts out, one thing after another.
-use Rattle.std.proofs.Common.{◌≡◌, ℕ, zero, suc, ◌+◌, ◌-◌, ◌≤◌, ◌<◌, Bool, true, false, ◌||◌, List, [], ◌∷◌, ◌++◌, length, map, take, refl, ap, sym, ◌∙◌, Some, arith, nat_lt}
+use Rattle.std.proofs.Common.{◌≡◌, ℕ, zero, suc, ◌+◌, ◌-◌, ◌≤◌, ◌<◌, Bool, true, false, ◌||◌, List, [], ◌∷◌, ◌++◌, length, map, take, refl}
+use Rattle.std.proofs.Common.{ap, sym, ◌∙◌, Some, arith, nat_lt}
 use Rattle.std.specs.Prelude.{nat_le}
 use Rattle.std.proofs.lemmas.List.{append-nil, append_assoc, map-append, length-append, length-map}
 use Rattle.arj_core.specs.Steps.{Seen, Said, Sent, seen, seen_of}
@@ -35,7 +36,8 @@ no_line k n to what h = let past : nat_le (k + 1) most_frames ≡ false = grind 
 past : (n k : ℕ) (es : List Seen) → most_frames ≤ k → seen_bodies n (k + 1) es ≡ seen_bodies n k es
 past n k [] h = refl
 past n k (Said b ∷ es) h = ap (λ bs. b ∷ bs) (past n k es h)
-past n k (Sent to what m ∷ es) h = (λ i. (no_line (k + 1) n to what (omega (arith, h)) ∙ sym (no_line k n to what h)) i ++ past n (k + 1) es (omega (arith, h)) i)
+past n k (Sent to what m ∷ es) h =
+    (λ i. (no_line (k + 1) n to what (omega (arith, h)) ∙ sym (no_line k n to what h)) i ++ past n (k + 1) es (omega (arith, h)) i)
 
 -- ---- one after another
 
@@ -64,7 +66,8 @@ all_are_lost : (fs new : List Frame) → most_frames ≤ length fs → frames_wi
 all_are_lost fs [] h = frames_nil fs
 all_are_lost fs (f ∷ new) h = one_is_lost fs f new h
 
-one_more : (fs : List Frame) (f : Frame) (new : List Frame) → length fs < most_frames → frames_with fs (f ∷ new) ≡ frames_with (fs ++ f ∷ []) new
+one_more : (fs : List Frame) (f : Frame) (new : List Frame) → length fs < most_frames →
+    frames_with fs (f ∷ new) ≡ frames_with (fs ++ f ∷ []) new
 one_more fs f new h = by (most_frames - length fs) refl
   where
     by : (r : ℕ) → most_frames - length fs ≡ r → fs ++ take r (f ∷ new) ≡ frames_with (fs ++ f ∷ []) new
@@ -84,16 +87,20 @@ put_none n event p few = λ i. record { frames = frames_nil p.frames i; lines = 
         or_false true = refl
         or_false false = refl
 
-pub lines_both : (event : ℕ) (ls : List Line) (cs bs : List Body) → ls ++ numbered event (cs ++ bs) ≡ (ls ++ numbered event cs) ++ numbered event bs
+pub lines_both : (event : ℕ) (ls : List Line) (cs bs : List Body) →
+    ls ++ numbered event (cs ++ bs) ≡ (ls ++ numbered event cs) ++ numbered event bs
 lines_both event ls cs bs = ap (λ x. ls ++ x) (map-append _ cs bs) ∙ sym (append_assoc ls (numbered event cs) (numbered event bs))
 
 -- lines, where what is put first leaves the frames so
-lines_next : (n event : ℕ) (ls : List Line) (first : List Body) (k : ℕ) (fs : List Frame) (es : List Seen) → seen_bodies n k es ≡ seen_bodies n (length fs) es
+lines_next : (n event : ℕ) (ls : List Line) (first : List Body) (k : ℕ) (fs : List Frame) (es : List Seen) →
+    seen_bodies n k es ≡ seen_bodies n (length fs) es
     → ls ++ numbered event (first ++ seen_bodies n k es) ≡ (ls ++ numbered event first) ++ numbered event (seen_bodies n (length fs) es)
-lines_next n event ls first k fs es same = ap (λ bs. ls ++ numbered event (first ++ bs)) same ∙ lines_both event ls first (seen_bodies n (length fs) es)
+lines_next n event ls first k fs es same =
+    ap (λ bs. ls ++ numbered event (first ++ bs)) same ∙ lines_both event ls first (seen_bodies n (length fs) es)
 
 -- the first thing, and then the others
-pub put_next : (n event : ℕ) (e : Seen) (es : List Seen) (p : Put) → length p.frames ≤ most_frames → put_seen n event (e ∷ es) p ≡ put_seen n event es (put_seen n event (e ∷ []) p)
+pub put_next : (n event : ℕ) (e : Seen) (es : List Seen) (p : Put) → length p.frames ≤ most_frames →
+    put_seen n event (e ∷ es) p ≡ put_seen n event es (put_seen n event (e ∷ []) p)
 put_next n event (Said b) es p few = λ i. record { frames = frames i; lines = lines i; full = full i }
   where
     same : frames_with p.frames [] ≡ p.frames
@@ -135,7 +142,8 @@ put_next n event (Sent to what m) es p few = by (nat_lt (length p.frames) most_f
     shifted true b c d same none = refl
     shifted false b c d same none = same ∙ ap (λ x. x || d) (sym none)
 
-    by : (b : Bool) → nat_lt (length p.frames) most_frames ≡ b → put_seen n event (Sent to what m ∷ es) p ≡ put_seen n event es (put_seen n event (Sent to what m ∷ []) p)
+    by : (b : Bool) → nat_lt (length p.frames) most_frames ≡ b →
+        put_seen n event (Sent to what m ∷ es) p ≡ put_seen n event es (put_seen n event (Sent to what m ∷ []) p)
     by true h = λ i. record { frames = frames i; lines = lines (ap (λ k. seen_bodies n k es) longer) i; full = full i }
       where
         room : length p.frames < most_frames
@@ -158,7 +166,12 @@ put_next n event (Sent to what m) es p few = by (nat_lt (length p.frames) most_f
 
         full : (p.full || overflows p.frames (f ∷ seen_frames n es)) ≡ ((p.full || overflows p.frames (f ∷ [])) || overflows (frames_with p.frames (f ∷ [])) (seen_frames n es))
         full = shifted p.full (overflows p.frames (f ∷ seen_frames n es)) (overflows p.frames (f ∷ [])) (overflows (frames_with p.frames (f ∷ [])) (seen_frames n es)) later one_more_fits
-    by false h = λ i. record { frames = frames i; lines = lines (past n (length p.frames) es none ∙ ap (λ fs. seen_bodies n (length fs) es) (sym stays)) i; full = full i }
+    by false h = λ i. record {
+      frames = frames i;
+      lines =
+          lines (past n (length p.frames) es none ∙ ap (λ fs. seen_bodies n (length fs) es) (sym stays)) i;
+      full = full i;
+    }
       where
         none : most_frames ≤ length p.frames
         none = grind (arith, h)
@@ -184,8 +197,10 @@ few_shown w journal few = omega (arith, few, length-map w.net frame_of)
 
 -- the next thing that is put out
 pub put_on : (n event : ℕ) (e : Output) (es : List Output) (w : Wire) (journal : List Line) (q : Put) → AreFew w.net
-    → q ≡ put_seen n event (seen_of e ∷ []) (shown w journal) → put_seen n event (map seen_of (e ∷ es)) (shown w journal) ≡ put_seen n event (map seen_of es) q
-put_on n event e es w journal q few is = put_next n event (seen_of e) (map seen_of es) (shown w journal) (few_shown w journal few) ∙ ap (put_seen n event (map seen_of es)) (sym is)
+    → q ≡ put_seen n event (seen_of e ∷ []) (shown w journal) →
+    put_seen n event (map seen_of (e ∷ es)) (shown w journal) ≡ put_seen n event (map seen_of es) q
+put_on n event e es w journal q few is =
+    put_next n event (seen_of e) (map seen_of es) (shown w journal) (few_shown w journal few) ∙ ap (put_seen n event (map seen_of es)) (sym is)
 
 -- all is put
 pub put_all : (n event : ℕ) (w : Wire) (journal : List Line) → AreFew w.net → put_seen n event [] (shown w journal) ≡ shown w journal

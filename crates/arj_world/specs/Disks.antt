@@ -17,7 +17,8 @@ pub record Moves (asked : List (ℕ × Outcome)) (old new : Counts) : Type 0 whe
 -- The disk of each of so many nodes was armed as these events ask for it, and all other disks are as they were.
 pub record HaveMoved {D : Type 0} (disk : Ghosts D) (nodes : ℕ) (events : List Event) (old new : List D) : Type 0 where
   pub count : length new ≡ length old
-  pub each : (i : ℕ) (d e : D) → i < nodes → slice_get old i ≡ Some d → slice_get new i ≡ Some e → Moves (arms_at (i + 1) events) (counts disk d) (counts disk e)
+  pub each : (i : ℕ) (d e : D) → i < nodes → slice_get old i ≡ Some d → slice_get new i ≡ Some e →
+      Moves (arms_at (i + 1) events) (counts disk d) (counts disk e)
   pub others : (i : ℕ) → nodes ≤ i → slice_get new i ≡ slice_get old i
 
 -- No disk was stopped: each count of stops is as before.

@@ -6,7 +6,8 @@ use Rattle.arj_journal.specs.declared.header.Header.{Header}
 use Rattle.arj_protocol.specs.Step.{first_node}
 
 -- The node's disk was formatted, and no other one has changed.
-pub record Formatted {C D : Type 0} (core : Ghosts C) (file : D → FileMap) (header : Header) (node : ℕ) (c : C) (old new : List D) : Type 0 where
+pub record Formatted {C D : Type 0} (core : Ghosts C) (file : D →
+    FileMap) (header : Header) (node : ℕ) (c : C) (old new : List D) : Type 0 where
   pub was : D
   pub disk : D
   pub there : slice_get old (node - 1) ≡ Some was

@@ -1,5 +1,6 @@
 -- How a world goes on within an event, where it isn't known yet which stops will fall into it.
-use Rattle.std.specs.Prelude.{ℕ, zero, suc, ◌+◌, ◌≡◌, ◌⊎◌, ◌-◌, ◌<◌, ◌==◌, Bool, true, false, if◌then◌else◌, List, [], ◌∷◌, ◌++◌, Option, Some, None, IsSomeAnd, unwrap_or, option_map}
+use Rattle.std.specs.Prelude.{ℕ, zero, suc, ◌+◌, ◌≡◌, ◌⊎◌, ◌-◌, ◌<◌, ◌==◌, Bool, true, false, if◌then◌else◌, List, [], ◌∷◌, ◌++◌, Option}
+use Rattle.std.specs.Prelude.{Some, None, IsSomeAnd, unwrap_or, option_map}
 use Rattle.arj_core.specs.declared.node.Core.{Ghosts}
 use Rattle.arj_disk.specs.FileMap.{FileMap}
 use Rattle.arj_protocol.specs.Effect.{Stop}
@@ -51,7 +52,8 @@ pub record Reaches (most : ℕ) (run : World → World) (first : World) (rest : 
   pub pick : Pick → Pick
   pub works : (f : Pick) → Admits done f → Admits (λ k. Some 0) (pick f)
   pub down : (k : ℕ) (n : Node) → done k ≡ None → at_place k now.nodes ≡ Some n → n.live ≡ None
-  pub same : (f : Pick) → Admits done f → run (with_arms (arms_of most (pick f)) first) ≡ rest (with_arms (arms_of most (left_of done f)) now)
+  pub same : (f : Pick) → Admits done f →
+      run (with_arms (arms_of most (pick f)) first) ≡ rest (with_arms (arms_of most (left_of done f)) now)
 
 -- the step of a node at this place was done, or a stop of its disk cut it; of the world then this holds
 abbrev pub Went : ℕ → Input → World → (World → Type 0) → Node → Type 0
@@ -77,7 +79,8 @@ StepsTo core file k i old new = (w : World) → Stands core file old w → Steps
 pub record Goes (most : ℕ) (go left : World → World) (w : World) (P : World → Type 0) : Type 0 where
   pub now : World
   pub stands : P now
-  pub reaches : (run rest : World → World) (first : World) → Reaches most run first (λ v. rest (go v)) w → Reaches most run first (λ v. rest (left v)) now
+  pub reaches : (run rest : World → World) (first : World) → Reaches most run first (λ v. rest (go v)) w →
+      Reaches most run first (λ v. rest (left v)) now
 
 -- so it is of each world that the hand stands for
 abbrev pub GoesPartTo : {C D : Type 0} → Ghosts C → (D → FileMap) → (World → World) → (World → World) → Hand C D → Hand C D → Type 0

@@ -20,7 +20,8 @@ AnswersEvent core file e old over journal = (w : World) → Stands core file old
 -- A commit, an abort and a giveup wrote the line that answers them, or that the action's node halted, or that they are refused, and
 -- with which number: in each whole world whose coordinators know their labels, and whom their commits wait for.
 abbrev pub EndsEvent : {C D : Type 0} → Ghosts C → (D → FileMap) → Event → Hand C D → List Line → Type 0
-EndsEvent core file e old journal = (l : Label) (w : World) → Stands core file old w → IsWhole w → AreNamed w → ends_label e l → IsEndAnswered e l w journal
+EndsEvent core file e old journal =
+    (l : Label) (w : World) → Stands core file old w → IsWhole w → AreNamed w → ends_label e l → IsEndAnswered e l w journal
 
 -- each frame was delivered or lost
 abbrev pub HasNoOpen : List Sent → Type 0

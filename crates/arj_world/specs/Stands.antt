@@ -22,7 +22,8 @@ pub record Kept (C : Type 0) : Type 0 where
   pub full : Bool
 
 -- each core with the files of its disk is the node at its place, whose number is that of the place
-pub record AreNodes {C D : Type 0} (core : Ghosts C) (file : D → FileMap) (header : Header) (cores : List C) (disks : List D) (nodes : List Node) : Type 0 where
+pub record AreNodes {C D : Type 0} (core : Ghosts C) (file : D →
+    FileMap) (header : Header) (cores : List C) (disks : List D) (nodes : List Node) : Type 0 where
   pub cores_count : length cores ≡ header.nodes
   pub nodes_count : length nodes ≡ header.nodes
   pub disks_count : header.nodes ≤ length disks
@@ -33,7 +34,8 @@ pub record AreNodes {C D : Type 0} (core : Ghosts C) (file : D → FileMap) (hea
 -- each core is the node at its place, with some files
 pub record AreSomeNodes {C : Type 0} (core : Ghosts C) (header : Header) (cores : List C) (nodes : List Node) : Type 0 where
   pub count : length nodes ≡ length cores
-  pub each : (i : ℕ) (c : C) (n : Node) → slice_get cores i ≡ Some c → slice_get nodes i ≡ Some n → (file : FileMap) × core.stands header c file n
+  pub each : (i : ℕ) (c : C) (n : Node) → slice_get cores i ≡ Some c → slice_get nodes i ≡ Some n →
+      (file : FileMap) × core.stands header c file n
 
 -- what is kept is what this world of the protocol has, with some files; it began as it was formatted
 pub record Keeps {C : Type 0} (core : Ghosts C) (k : Kept C) (w : World) : Type 0 where

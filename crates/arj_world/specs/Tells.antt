@@ -1,5 +1,6 @@
 -- Which lines of a journal tell of stops.
-use Rattle.std.specs.Prelude.{ℕ, ◌≡◌, ◌≤◌, ◌<◌, ◌+◌, ◌==◌, ◌&&◌, Bool, false, if◌then◌else◌, List, [], ◌∷◌, ◌++◌, Option, Some, None, length, slice_get}
+use Rattle.std.specs.Prelude.{ℕ, ◌≡◌, ◌≤◌, ◌<◌, ◌+◌, ◌==◌, ◌&&◌, Bool, false, if◌then◌else◌, List, [], ◌∷◌, ◌++◌, Option, Some, None}
+use Rattle.std.specs.Prelude.{length, slice_get}
 use Rattle.arj_disk.specs.declared.disk.Disk.{Ghosts}
 use Rattle.arj_law_parts.specs.steps.Halts.{halted_node, is_crash}
 use Rattle.arj_journal.specs.declared.body.Line.{Line}
@@ -27,12 +28,14 @@ pub record IsToldBy (lines old new : ℕ) : Type 0 where
 -- says that he halted.
 pub record AreTold {D : Type 0} (disk : Ghosts D) (nodes : ℕ) (crashed : ℕ → Bool) (old new : List D) (added : List Line) : Type 0 where
   pub count : length new ≡ length old
-  pub each : (i : ℕ) (d e : D) → slice_get old i ≡ Some d → slice_get new i ≡ Some e → IsToldBy (if crashed (i + 1) then 0 else halts (i + 1) added) (disk.stops d) (disk.stops e)
+  pub each : (i : ℕ) (d e : D) → slice_get old i ≡ Some d → slice_get new i ≡ Some e →
+      IsToldBy (if crashed (i + 1) then 0 else halts (i + 1) added) (disk.stops d) (disk.stops e)
   pub others : (n : ℕ) → (1 ≤ n → n ≤ nodes → ⊥) → halts n added ≡ 0
 
 -- such lines came
 abbrev pub TellsStops : {D : Type 0} → Ghosts D → ℕ → (ℕ → Bool) → List D → List D → List Line → List Line → Type 0
-TellsStops disk nodes crashed old new before after = (added : List Line) × (after ≡ before ++ added) × AreTold disk nodes crashed old new added
+TellsStops disk nodes crashed old new before after =
+    (added : List Line) × (after ≡ before ++ added) × AreTold disk nodes crashed old new added
 
 -- no node is crashed
 abbrev pub nobody : ℕ → Bool

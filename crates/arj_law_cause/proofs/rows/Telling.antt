@@ -188,7 +188,8 @@ module _ (hd : Header) (before : List Line) (event : ℕ) (early : (j : ℕ) →
             says_of k h (ask.Invoke x b i ends o) (Reply.Invoked q) lines
         says (invoked.Answered a) at same = tt
         says (invoked.Changed w) at same = tt
-        says (invoked.Conflict u m) at same = meets_by k (uids_of h.path) (object x) (op_mode o) u m lines (server_rows x (let w = After x b i ends o in w.server))
+        says (invoked.Conflict u m) at same =
+            meets_by k (uids_of h.path) (object x) (op_mode o) u m lines (server_rows x (let w = After x b i ends o in w.server))
             (shown.server x ∙ ap (λ (z : Parts). server_rows x z.server) (sym same)) (invoke_meets k h x ends o u m b i t.server new at)
 
         by : (f : Option InvokedReply) → (server.invoke k h x b i ends o t.server).reply ≡ f →
@@ -229,7 +230,8 @@ module _ (hd : Header) (before : List Line) (event : ℕ) (early : (j : ℕ) →
                 Sent (sends_answer from h (Bound x include avoid o) (naming.bind h.path x include avoid d.names o).outs (option_map Reply.Bound f)) →
                 says_of k h (ask.Bind x include avoid) r lines
             by None at e = let no_way : Void [] ≡ Took v (front ++ Send from (response (asked_by h) r) ∷ []) = e in absurd (cc no_way)
-            by (Some q) at e = let z = replied (Bound x include avoid o) (naming.bind h.path x include avoid d.names o).outs (Reply.Bound q) e in
+            by (Some q) at e =
+                let z = replied (Bound x include avoid o) (naming.bind h.path x include avoid d.names o).outs (Reply.Bound q) e in
                 subst (λ y. says_of k h (ask.Bind x include avoid) y lines) (sym z.0) (says q at z.1)
 
         with_it : (f : Option Naming) → t.naming ≡ f →

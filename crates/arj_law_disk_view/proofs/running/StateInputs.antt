@@ -79,7 +79,8 @@ module _ (F : Fits) (keep : MayKeep F) where
   give_up_so : (u : Uid) (intents : List (Uid × Intent)) (c : Coord) → CoordIsSo F c → (IsDone F keep) (give_up u intents c)
   give_up_so u intents c so = by (doing_of u c) refl
     where
-      with_lines : (nodes : List ℕ) (d : Did Coord) → (IsDone F keep) d → (IsDone F keep) (record { part = d.part; outs = gaveup_lines u nodes c ++ d.outs })
+      with_lines : (nodes : List ℕ) (d : Did Coord) → (IsDone F keep) d →
+          (IsDone F keep) (record { part = d.part; outs = gaveup_lines u nodes c ++ d.outs })
       with_lines nodes d w = (
         w.0,
         (both F keep) (gaveup_lines u nodes c) d.outs ((flat F keep) (λ n. says u (λ l. body.GaveUp l n) c) nodes (λ n. (lines F keep) u (λ l. body.GaveUp l n) c))
@@ -100,7 +101,8 @@ module _ (F : Fits) (keep : MayKeep F) where
       by None is = (so, tt)
       by (Some d) is = now d.now (so.works u d is)
 
-  again_so : (ds : List Doing) (c : Coord) → CoordIsSo F c → AllByRecursion (λ (d : Doing). NowIsSo F d.now) ds → (IsDone F keep) (again_all ds c)
+  again_so : (ds : List Doing) (c : Coord) → CoordIsSo F c → AllByRecursion (λ (d : Doing). NowIsSo F d.now) ds →
+      (IsDone F keep) (again_all ds c)
   again_so [] c so all = (so, tt)
   again_so (d ∷ ds) c so all =
       let a = again_now c d.now in

@@ -28,7 +28,8 @@ pub data OwnLog (m : Act) (s : State) : List Entry → List Call → Type 0 wher
 
 module _ (m : Act) (is : is_top m ≡ true) where
   -- what is spoilt stays so
-  pub own_later : (s t : State) → ((a : Act) → Clean t a → Clean s a) → (es : List Entry) (cs : List Call) → OwnLog m s es cs → OwnLog m t es cs
+  pub own_later : (s t : State) → ((a : Act) → Clean t a → Clean s a) → (es : List Entry) (cs : List Call) → OwnLog m s es cs →
+      OwnLog m t es cs
   own_later s t back [] [] nothing = nothing
   own_later s t back (e ∷ es) (c ∷ cs) (entry _ _ by gives w o l) = entry e c by gives w o (own_later s t back es cs l)
   own_later s t back (e ∷ es) cs (beside _ f l) = beside e (λ o clean. f o (back e.by clean)) (own_later s t back es cs l)

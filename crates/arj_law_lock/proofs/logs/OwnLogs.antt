@@ -17,7 +17,8 @@ use machine.Paths.{same_self, top_of, top_root}
 use machine.ValueClaims.{Clean, IsWaiting, Logged, Values}
 use machine.VoteRun.{run_all_votes, start_votes, votes_are_right}
 use Rattle.arj_law_lock.specs.logs.Given.{VotesGivenAreRight}
-use Rattle.arj_law_lock.proofs.logs.LoggedSteps.{Moves, OwnLog, Touched, apart, beside, goes, own_call, own_entry, own_handed, own_kept, own_later}
+use Rattle.arj_law_lock.proofs.logs.LoggedSteps.{Moves, OwnLog, Touched, apart, beside, goes, own_call, own_entry, own_handed, own_kept}
+use Rattle.arj_law_lock.proofs.logs.LoggedSteps.{own_later}
 use Rattle.arj_law_lock.proofs.logs.LoggedSteps.{own_logged, own_newest, touched}
 
 -- ---- runs

@@ -1,7 +1,9 @@
 -- What is right at a line, behind lines that are right, keeps the rules by which journals are read.
 use Rattle.arj_law_parts.proofs.Words
-use Words.{⊤, ◌≡◌, ◌≤◌, ◌&&◌, ◌||◌, ◌+◌, ◌==◌, ◌∙◌, ℕ, Bool, true, false, cond, not, List, [], ◌∷◌, ◌++◌, Option, Some, None, refl, sym, ap, subst, inl, inr}
-use Words.{arith, nat_tests, length, length-append, nat_lt, nat_le, option_map, is_some, uid_eq, uid_is, is_on, In, in_find_none, in_from, name}
+use Words.{⊤, ◌≡◌, ◌≤◌, ◌&&◌, ◌||◌, ◌+◌, ◌==◌, ◌∙◌, ℕ, Bool, true, false, cond, not, List, [], ◌∷◌, ◌++◌, Option, Some, None, refl, sym, ap}
+use Words.{subst, inl, inr}
+use Words.{arith, nat_tests, length, length-append, nat_lt, nat_le, option_map, is_some, uid_eq, uid_is, is_on, In, in_find_none, in_from}
+use Words.{name}
 use Words.{Body, Header, Kind, Label, Line, ObjectLine, Op, Uid, class_at, class_in, lacks_op, is_serial}
 use Words.body
 use Words.kind
@@ -156,7 +158,8 @@ module _ (hd : Header) (before : List Line) (right : AreRight new_book before) w
   was_called h true is = is
   was_called h false is = refl
 
-  pub line_keeps : (b : Body) → Right (book before) b → ShortBegin (acts before) b → CallFits hd b → reading.body_rule hd (met before) b ≡ None
+  pub line_keeps : (b : Body) → Right (book before) b → ShortBegin (acts before) b → CallFits hd b →
+      reading.body_rule hd (met before) b ≡ None
   line_keeps (body.Began l k u p) (label, uid, below, open_in) short fits =
       let same = its_acts before right in
       both _ _ (ap (λ o. unless (not (is_some (option_map named_as o))) rule.NewLabel)

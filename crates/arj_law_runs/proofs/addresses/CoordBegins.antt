@@ -77,7 +77,8 @@ module _ (G : ℕ → Type 0) (one : G 1) where
 
   pub acts_of : (i : Input) (intents : List (Uid × Intent)) (c : Coord) → Needs i c → CoordOf G c → (IsDone G one) (acts i intents c)
   acts_of (input.Begin l q parent) intents c its k = absurd its
-  acts_of (input.Call l x o) intents c its k = (on_named G one) l (λ b. call b.path x o c) c k (λ b is path. (call_is G one) b.path x o c path k)
+  acts_of (input.Call l x o) intents c its k =
+      (on_named G one) l (λ b. call b.path x o c) c k (λ b is path. (call_is G one) b.path x o c path k)
   acts_of (input.Include l x s) intents c its k =
       (on_named G one) l (λ b. include b.path x s c) c k (λ b is path. (include_is G one) b.path x s c path its k)
   acts_of (input.Commit l) intents c its k =
@@ -133,7 +134,8 @@ module _ (G : ℕ → Type 0) (one : G 1) where
       by None is = (k, tt)
       by (Some i) is = each (has i.nodes from)
         where
-          each : (b : Bool) → (IsServed G one) (cond {A = Served Coord (Unit {0})} b (acked_left u i intents c (without_number from i.nodes))
+          each : (b : Bool) →
+              (IsServed G one) (cond {A = Served Coord (Unit {0})} b (acked_left u i intents c (without_number from i.nodes))
               (record { part = c; outs = []; reply = None }))
           each true = left i (without_number from i.nodes)
               ((without_is G one) from i.nodes (all_at_uid (λ (j : Intent). AreOf G j.nodes) u i c.telling k.telling is))

@@ -70,7 +70,8 @@ module _ (G : ℕ → Type 0) (one : G 1) where
     where
       said : (nodes : List ℕ) → AreOf G nodes → AllOf G (gaveup_lines u nodes c)
       said [] all = tt
-      said (n ∷ ns) all = (both G one) (says u (λ l. body.GaveUp l n) c) (gaveup_lines u ns c) ((lines G one) u (λ l. body.GaveUp l n) c (λ l. all.0))
+      said (n ∷ ns) all =
+          (both G one) (says u (λ l. body.GaveUp l n) c) (gaveup_lines u ns c) ((lines G one) u (λ l. body.GaveUp l n) c (λ l. all.0))
           (said ns all.1)
 
       with_lines : (nodes : List ℕ) (d : Did Coord) → AreOf G nodes → (IsDone G one) d →
@@ -91,7 +92,8 @@ module _ (G : ℕ → Type 0) (one : G 1) where
       by None is = (k, tt)
       by (Some d) is = now d.now (k.works u d is)
 
-  again_is : (ds : List Doing) (c : Coord) → CoordOf G c → AllByRecursion (λ (d : Doing). NowOf G d.now) ds → (IsDone G one) (again_all ds c)
+  again_is : (ds : List Doing) (c : Coord) → CoordOf G c → AllByRecursion (λ (d : Doing). NowOf G d.now) ds →
+      (IsDone G one) (again_all ds c)
   again_is [] c k all = (k, tt)
   again_is (d ∷ ds) c k all =
       let a = again_now c d.now in
@@ -155,7 +157,8 @@ module _ (G : ℕ → Type 0) (one : G 1) where
   named_is c (Some j) b is k = all_placed (λ (q : Branch). PathOf G q.path) j c.tree.branches b k.paths is
 
   pub on_named : (l : Label) (f : Branch → Did Coord) (c : Coord) → CoordOf G c →
-      ((b : Branch) → branch_named l c ≡ Some b → PathOf G b.path → (IsDone G one) (f b)) → (IsDone G one) (on_branch f c (branch_named l c))
+      ((b : Branch) → branch_named l c ≡ Some b → PathOf G b.path → (IsDone G one) (f b)) →
+      (IsDone G one) (on_branch f c (branch_named l c))
   on_named l f c k each = by (branch_named l c) refl
     where
       by : (o : Option Branch) → branch_named l c ≡ o → (IsDone G one) (on_branch f c o)

@@ -463,7 +463,8 @@ module _ (G : ℕ → Type 0) (one : G 1) where
 
   -- the store is marked
   mark_is : (n : ℕ) (q : Plan) → G n → PlanOf G q → PlanOf G (marks_store n q)
-  mark_is n q its so = same_plan q (marks_store n q) refl refl refl refl (many (marks_at n q) q.excluded (there (states_for n q)) so.excluded) so
+  mark_is n q its so =
+      same_plan q (marks_store n q) refl refl refl refl (many (marks_at n q) q.excluded (there (states_for n q)) so.excluded) so
     where
       there : (ss : List ObjectState) → AreMarked (map {A = ObjectState} {B = ℕ × ℕ} (λ st. (st.uid.num, n)) ss)
       there [] = tt
@@ -697,7 +698,8 @@ module _ (G : ℕ → Type 0) (one : G 1) where
   step_commit_is u (Decides p) intents c k so = decide_is p c so k
   step_commit_is u (Aborts why p) intents c k so = ends_is u ending.Abort (λ l. body.Aborted l why) intents c k (λ l. so)
 
-  pub moved_commit_is : (u : Uid) (m : commit.Marked) (intents : List (Uid × Intent)) (c : Coord) → CoordOf G c → IsNext m.step → AreMarks m →
+  pub moved_commit_is : (u : Uid) (m : commit.Marked) (intents : List (Uid × Intent)) (c : Coord) → CoordOf G c → IsNext m.step →
+      AreMarks m →
       IsDone (moved_commit u m intents c)
   moved_commit_is u m intents c k so marks =
       let t = step_commit u m.step intents c in

@@ -1,8 +1,10 @@
 -- What a node makes of a message, and what it does at a tick and as it comes up.
 use Rattle.arj_law_parts.proofs.Words
-use Words.{◌≡◌, ◌==◌, ◌+◌, ℕ, List, [], ◌∷◌, ◌++◌, Bool, true, false, cond, filter, map, Option, Some, None, refl, sym, subst, eqb-true, ⊤, IfSome}
+use Words.{◌≡◌, ◌==◌, ◌+◌, ℕ, List, [], ◌∷◌, ◌++◌, Bool, true, false, cond, filter, map, Option, Some, None, refl, sym, subst, eqb-true, ⊤}
+use Words.{IfSome}
 use Words.{is_some, option_map, unwrap_or, match_ordering, Ordering, Less, Equal, Greater, uid_order, AllByRecursion, list_all, and_parts}
-use Words.{is_server_line, activate_own, ends_own, invoke_own, vote_own, Ask, Asked, Body, BoundReply, End, Head, Header, Message, ObjectState, Uid, asks, entry}
+use Words.{is_server_line, activate_own, ends_own, invoke_own, vote_own, Ask, Asked, Body, BoundReply, End, Head, Header, Message}
+use Words.{ObjectState, Uid, asks, entry}
 use Words.{object, Reply, actor, answers, asked_by, last_end, response, again_all, heard, confirm, recovered_naming, Coord, Abort, After}
 use Words.{Already, Before, Commit, Disk, Do, Effect, InDoubt, InPart, Intent, Look, Old, Pair, Prep, Prepare, PutInc, PutIntent, Ready}
 use Words.{RemoveIntent, Say, Send, Served, Stop, Work, held_at, holder_of, is_prepared, moved_some, new_states, prepare_answer, stopped}

@@ -45,7 +45,8 @@ module _ (Q : List (Label × Labelled) → Type 0) where
       by (Some k) rest = rest k
 
   quiesce_fits : (w : World) → Fits w → Fits (quiesce w)
-  quiesce_fits w fits = quiet (settle (tick_all (node_numbers w) (settle w))) (settle_fits most_frames (tick_all (node_numbers w) (settle w))
+  quiesce_fits w fits =
+      quiet (settle (tick_all (node_numbers w) (settle w))) (settle_fits most_frames (tick_all (node_numbers w) (settle w))
       (ticks_fit (node_numbers w) (settle w) (settle_fits most_frames w fits)))
     where
       quiet : (v : World) → Fits v → Fits (quiet_line v)

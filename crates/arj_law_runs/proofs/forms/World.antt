@@ -1,6 +1,7 @@
 -- What the world says of frames, stops, refusals and itself is in form, whatever stops fall.
 use Rattle.arj_law_parts.proofs.Words
-use Words.{◌≡◌, ◌≢◌, ◌∙◌, ◌≤◌, ◌<◌, ◌+◌, ◌-◌, ◌==◌, ◌||◌, ◌&&◌, ◌++◌, ℕ, zero, suc, Bool, true, false, cond, not, List, [], ◌∷◌, length, take}
+use Words.{◌≡◌, ◌≢◌, ◌∙◌, ◌≤◌, ◌<◌, ◌+◌, ◌-◌, ◌==◌, ◌||◌, ◌&&◌, ◌++◌, ℕ, zero, suc, Bool, true, false, cond, not, List, [], ◌∷◌, length}
+use Words.{take}
 use Words.{Option, Some, None, IfSome, refl, sym, ap, subst, arith, ⊤, nat_le, nat_lt, nat_tests, eqb-true, leb-true, and_parts, list_all}
 use Words.{append_assoc, length-append, slice_get, slice_set, AllByRecursion, Body, Event, Header, Line, Message, frame_kind}
 use Words.{Disk, Do, Effect, Say, Send, Stop, worked, at_number, Input, Node, Step, Parts, first_reason, refusal, step, at_place, set_place}
@@ -245,7 +246,8 @@ module _ (hd : Header) where
       f = new_frame k to (Some m)
 
       by : (b : Bool) → nat_le (j + 1) most_frames ≡ b
-          → (length (fs ++ f ∷ []) ≡ j + 1 → gs ≡ (fs ++ f ∷ []) ++ take (most_frames - (j + 1)) (sends k es) → Bodies gs (bodies k (j + 1) es))
+          → (length (fs ++ f ∷ []) ≡ j + 1 → gs ≡ (fs ++ f ∷ []) ++ take (most_frames - (j + 1)) (sends k es) →
+          Bodies gs (bodies k (j + 1) es))
           → Bodies gs (cond b (body.Sent (j + 1) k to (frame_kind m) ∷ []) [] ++ bodies k (j + 1) es)
       by true low rest =
           let le : j + 1 ≤ most_frames = leb-true (j + 1) most_frames low in
@@ -570,7 +572,10 @@ module _ (hd : Header) where
 
     limited_so : (w : World) → So w → So (limited w)
     limited_so w its = either_so w.full (says (body.Limit which.Frames ∷ []) (record w { over = true })) w
-        (says_so (body.Limit which.Frames) (record w { over = true }) tt (arms_so w (record w { over = true }) refl refl refl refl refl its)) its
+        (says_so (body.Limit which.Frames) (record w {
+          over =
+              true;
+        }) tt (arms_so w (record w { over = true }) refl refl refl refl refl its)) its
 
   -- the event's number
   counted_so : (top : ℕ) (w : World) → Speaks top w → Speaks (top + 1) (counted w)
@@ -701,7 +706,8 @@ module _ (hd : Header) where
       body_form : (b : Body) → BodySo w.frames b → is_of_parts b ≡ false → BodyInForm b
       body_form (body.Sent k from to what) o none =
           let f = o.frame in
-          let to_node = all_placed (λ (g : Frame). (nat_le 1 g.to && nat_le g.to hd.nodes) ≡ true) k w.frames f (within_of hd form w h) o.there
+          let to_node =
+          all_placed (λ (g : Frame). (nat_le 1 g.to && nat_le g.to hd.nodes) ≡ true) k w.frames f (within_of hd form w h) o.there
           in
           let there = all_placed (IsSent h.sent) k w.frames f h.stands.frames o.there in (
             frame_word k o.low,

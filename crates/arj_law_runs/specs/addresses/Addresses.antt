@@ -10,7 +10,8 @@ use Rattle.arj_protocol.specs.Words.bound
 use Rattle.arj_protocol.specs.Words.cause
 use Rattle.arj_protocol.specs.Words.role
 use Rattle.arj_protocol.specs.Ask.{Reply, answers}
-use Rattle.arj_protocol.specs.Call.{At, AtBind, AtLoad, AtActivate, AtNote, AtInvoke, Answered, CallEnd, CallStep, Changed, Conflict, Ended, Goal, Include, Included}
+use Rattle.arj_protocol.specs.Call.{At, AtBind, AtLoad, AtActivate, AtNote, AtInvoke, Answered, CallEnd, CallStep, Changed, Conflict, Ended}
+use Rattle.arj_protocol.specs.Call.{Goal, Include, Included}
 use Rattle.arj_protocol.specs.Call.{Known, Lost, Moved, On, Run, Steps}
 use Rattle.arj_protocol.specs.Commit.{Machine, Plan, Used, left_of, nodes_given_up, plan_of}
 use Rattle.arj_protocol.specs.Coord.{Calling, Committing, Coord, Doing, Idle, Joined, Keeping, Now, Root, Went, doing_of}

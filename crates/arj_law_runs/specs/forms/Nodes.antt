@@ -8,4 +8,5 @@ use Rattle.arj_promise.specs.Runs.{Run, journal_by}
 
 -- each line that a node says names nodes of the header alone, whether the run's events are in form or not
 abbrev pub RunsNameNodes : Type 0
-RunsNameNodes = (hd : Header) (r : Run hd) → HeaderInForm hd → AllByRecursion (λ (line : Line). SaysOf (IsNode hd) line.body) (journal_by hd r)
+RunsNameNodes =
+    (hd : Header) (r : Run hd) → HeaderInForm hd → AllByRecursion (λ (line : Line). SaysOf (IsNode hd) line.body) (journal_by hd r)

@@ -1,13 +1,15 @@
 use Rattle.std.proofs.Common.{◌≡◌, ◌++◌, refl, true}
 use Rattle.std.specs.Prelude.{is_some}
-use Rattle.arj_asking.proofs.Hears.{asker_has_room, call_fits, call_meant, commit_awaited, has_next, hears_call_so, hears_commit_so, not_idle, taken_so}
+use Rattle.arj_asking.proofs.Hears.{asker_has_room, call_fits, call_meant, commit_awaited, has_next, hears_call_so, hears_commit_so}
+use Rattle.arj_asking.proofs.Hears.{not_idle, taken_so}
 use Rattle.arj_coord.specs.Shown.{machine_of}
 use Rattle.arj_bind.specs.Heard.{awaited}
 use Rattle.arj_protocol.specs.Ask.{answers}
 use Rattle.arj_asking.proofs.answers.hear.Goals as goal
 
 pub hear_call-requires-clause-node : goal.hear_call-requires-clause-node
-hear_call-requires-clause-node c = (call_fits c.args.action c.args.coord.now c.in-Calling.steps c.fits.ensures c.in-Calling.ensures.taken).1.1
+hear_call-requires-clause-node c =
+    (call_fits c.args.action c.args.coord.now c.in-Calling.steps c.fits.ensures c.in-Calling.ensures.taken).1.1
 
 pub hear_call-requires-clause-room : goal.hear_call-requires-clause-room
 hear_call-requires-clause-room c =

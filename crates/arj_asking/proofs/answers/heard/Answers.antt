@@ -12,4 +12,5 @@ returns-in-None-clause-outs c =
     sym (append-nil c.args.outs.now) ∙ ap (λ (s : Served Coord (Unit {0})). c.args.outs.now ++ s.outs) (sym (c.in-None.ensures.void refl c.args.intents.now))
 
 pub returns-in-None-clause-taken : goal.returns-in-None-clause-taken
-returns-in-None-clause-taken c = ap (λ (s : Served Coord (Unit {0})). is_some s.reply) (sym (c.in-None.ensures.void refl c.args.intents.now))
+returns-in-None-clause-taken c =
+    ap (λ (s : Served Coord (Unit {0})). is_some s.reply) (sym (c.in-None.ensures.void refl c.args.intents.now))

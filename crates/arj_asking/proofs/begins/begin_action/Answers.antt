@@ -8,4 +8,5 @@ use Rattle.arj_asking.proofs.begins.begin_action.Goals as goal
 pub returns-clause-part : goal.returns-clause-part
 returns-clause-part c =
     c.in_ok-uid.ensures.part c.args.parent
-    ∙ ap (λ (b : Option Branch). let d : Did Coord = asking.begin_action c.args.label c.args.kind c.args.parent b c.args.coord.now in d.part) c.parent_of-above.ensures.branch
+    ∙ ap (λ (b : Option Branch). let d : Did Coord =
+    asking.begin_action c.args.label c.args.kind c.args.parent b c.args.coord.now in d.part) c.parent_of-above.ensures.branch

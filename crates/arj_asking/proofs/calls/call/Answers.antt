@@ -19,7 +19,8 @@ returns-clause-part c =
     let old = c.args.coord.now in
     let u = c.args.action in
     let p = c.in-Some.path in
-    let there : Some p ≡ path_of_branch (branch_of u old.tree) = c.in-Some.ensures.path ∙ ap (λ (t : Tree). path_of_branch (branch_of u t)) c.tree.ensures in
+    let there : Some p ≡ path_of_branch (branch_of u old.tree) =
+    c.in-Some.ensures.path ∙ ap (λ (t : Tree). path_of_branch (branch_of u t)) c.tree.ensures in
     with_path (λ q. c.wait_now.new.coord ≡ (asking.call q c.args.x c.args.op old).part) u old.tree p there
     (call_so (λ d. c.wait_now.new.coord ≡ d.part) p c.args.x c.args.op u c.is_free-free.result c.next_request-req.result old c.use_object.new.self c.start_call.new.coord c.in_ok-steps.steps
     c.in-Some.ensures.named (c.is_free-free.ensures ∙ ap (λ r. is_free r u c.args.x old) c.root.ensures) c.next_request-req.ensures
@@ -31,7 +32,8 @@ returns-clause-outs c =
     let old = c.args.coord.now in
     let u = c.args.action in
     let p = c.in-Some.path in
-    let there : Some p ≡ path_of_branch (branch_of u old.tree) = c.in-Some.ensures.path ∙ ap (λ (t : Tree). path_of_branch (branch_of u t)) c.tree.ensures in
+    let there : Some p ≡ path_of_branch (branch_of u old.tree) =
+    c.in-Some.ensures.path ∙ ap (λ (t : Tree). path_of_branch (branch_of u t)) c.tree.ensures in
     with_path (λ q. c.wait_now.new.outs ≡ c.args.outs.now ++ (asking.call q c.args.x c.args.op old).outs) u old.tree p there
     (call_so (λ d. c.wait_now.new.outs ≡ c.args.outs.now ++ d.outs) p c.args.x c.args.op u c.is_free-free.result c.next_request-req.result old c.use_object.new.self c.start_call.new.coord c.in_ok-steps.steps
     c.in-Some.ensures.named (c.is_free-free.ensures ∙ ap (λ r. is_free r u c.args.x old) c.root.ensures) c.next_request-req.ensures

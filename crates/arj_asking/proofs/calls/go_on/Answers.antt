@@ -12,5 +12,6 @@ returns-clause-outs c =
     let s = c.args.steps in
     let act : c.last-action.result ≡ actor s.path = c.last-action.ensures ∙ ap (λ (p : Path). actor p) c.path.ensures in
     on_ok_weaker c.wait_now.result
-    (λ sent. sent ∙ (λ i. c.args.outs.now ++ (let d : Did Coord = waits_now (act i) (c.request_number-req.ensures i) (Calling s) c.args.coord.now in d.outs)))
+    (λ sent. sent ∙ (λ i. c.args.outs.now ++ (let d : Did Coord =
+    waits_now (act i) (c.request_number-req.ensures i) (Calling s) c.args.coord.now in d.outs)))
     c.wait_now.ensures.outs

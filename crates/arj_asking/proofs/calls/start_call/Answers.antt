@@ -25,7 +25,8 @@ returns-clause-steps c =
     let k = renewed_at c.args.free p x old in
     let renew : Root → Root = λ r. with_keeping x (renewed c.args.free (keeping_of x r) ((keeping_of x r).kept)) r in
     let mid_is : mid ≡ on_root (root_of p) renew old = c.in_ok-renew.ensures ∙ ap (λ (v : Uid). on_root v renew old) c.root-root.ensures in
-    let has_is : root_at u mid ≡ with_keeping x k (root_at (root_of p) old) = (λ i. root_at (c.root-root.ensures i) (mid_is i)) ∙ root_there (root_of p) renew old in
+    let has_is : root_at u mid ≡ with_keeping x k (root_at (root_of p) old) =
+    (λ i. root_at (c.root-root.ensures i) (mid_is i)) ∙ root_there (root_of p) renew old in
     let tree_is : mid.tree ≡ old.tree = ap (λ (d : Coord). d.tree) mid_is in
     let top_is : c.last.result ≡ top_of p = c.last.ensures ∙ ap last_uid c.top_path.ensures.uids in
     let known_is : c.in_ok-known.known ≡ known_at_start (top_of p) x (root_at (root_of p) old) old k.kept =

@@ -5,7 +5,8 @@ use Rattle.arj_asking.proofs.giving.give_up.Goals as goal
 use Rattle.arj_coord.specs.Shown.{machine_of}
 
 pub give_up_call-requires-clause-node : goal.give_up_call-requires-clause-node
-give_up_call-requires-clause-node c = (call_fits c.args.action c.args.coord.now c.in-Calling.steps c.fits.ensures c.in-Calling.ensures.taken).1.1
+give_up_call-requires-clause-node c =
+    (call_fits c.args.action c.args.coord.now c.in-Calling.steps c.fits.ensures c.in-Calling.ensures.taken).1.1
 
 pub give_up_call-requires-clause-room : goal.give_up_call-requires-clause-room
 give_up_call-requires-clause-room c =

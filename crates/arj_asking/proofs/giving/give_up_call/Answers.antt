@@ -8,7 +8,8 @@ use Rattle.arj_protocol.specs.Words.{Path}
 use Rattle.arj_asking.proofs.giving.give_up_call.Goals as goal
 
 pub step_call-requires : goal.step_call-requires
-step_call-requires c = given_up_fits c.in_ok-caller.caller c.args.steps (came_of c.in_ok-step.step) c.requires.node c.in_ok-caller.ensures c.in_ok-step.ensures.came
+step_call-requires c =
+    given_up_fits c.in_ok-caller.caller c.args.steps (came_of c.in_ok-step.step) c.requires.node c.in_ok-caller.ensures c.in_ok-step.ensures.came
 
 pub returns-clause-part : goal.returns-clause-part
 returns-clause-part c =

@@ -22,16 +22,21 @@ returns-in_ok-balance-in-Ok-clause-balance g c =
     }
 
 pub returns-in_ok-balance-in-Ok-clause-moved : goal.returns-in_ok-balance-in-Ok-clause-moved
-returns-in_ok-balance-in-Ok-clause-moved g c = moved_on g.D.Disk NODES NODES c.args.rack.now c.committed_at.new.rack c.committed_at-2.new.rack refl c.committed_at.ensures.moved c.committed_at-2.ensures.moved
+returns-in_ok-balance-in-Ok-clause-moved g c =
+    moved_on g.D.Disk NODES NODES c.args.rack.now c.committed_at.new.rack c.committed_at-2.new.rack refl c.committed_at.ensures.moved c.committed_at-2.ensures.moved
 
 pub returns-in_ok-balance-in-Ok-clause-unstopped : goal.returns-in_ok-balance-in-Ok-clause-unstopped
-returns-in_ok-balance-in-Ok-clause-unstopped g c = unstopped_on g.D.Disk c.args.rack.now c.committed_at.new.rack c.committed_at-2.new.rack c.in_ok-named.ensures.unstopped c.in-Ok.ensures.unstopped
+returns-in_ok-balance-in-Ok-clause-unstopped g c =
+    unstopped_on g.D.Disk c.args.rack.now c.committed_at.new.rack c.committed_at-2.new.rack c.in_ok-named.ensures.unstopped c.in-Ok.ensures.unstopped
 
 pub returns-in_err-balance-in-Ok-clause-moved : goal.returns-in_err-balance-in-Ok-clause-moved
-returns-in_err-balance-in-Ok-clause-moved g c = moved_on g.D.Disk NODES NODES c.args.rack.now c.committed_at.new.rack c.committed_at-2.new.rack refl c.committed_at.ensures.moved c.committed_at-2.ensures.moved
+returns-in_err-balance-in-Ok-clause-moved g c =
+    moved_on g.D.Disk NODES NODES c.args.rack.now c.committed_at.new.rack c.committed_at-2.new.rack refl c.committed_at.ensures.moved c.committed_at-2.ensures.moved
 
 pub returns-in-Err-clause-moved : goal.returns-in-Err-clause-moved
-returns-in-Err-clause-moved g c = moved_on g.D.Disk NODES NODES c.args.rack.now c.committed_at.new.rack c.committed_at-2.new.rack refl c.committed_at.ensures.moved c.committed_at-2.ensures.moved
+returns-in-Err-clause-moved g c =
+    moved_on g.D.Disk NODES NODES c.args.rack.now c.committed_at.new.rack c.committed_at-2.new.rack refl c.committed_at.ensures.moved c.committed_at-2.ensures.moved
 
 pub returns-in-Err-clause-stopped : goal.returns-in-Err-clause-stopped
-returns-in-Err-clause-stopped g c is = stopped_later g.D.Disk NODES c.args.rack.now c.committed_at.new.rack c.committed_at-2.new.rack c.committed_at.ensures.moved c.committed_at-2.ensures.moved (c.in-Err.ensures.stopped (ap Err (same_fault (Err c.in-Err.fault) c.in-Err.fault Stopped refl is)))
+returns-in-Err-clause-stopped g c is =
+    stopped_later g.D.Disk NODES c.args.rack.now c.committed_at.new.rack c.committed_at-2.new.rack c.committed_at.ensures.moved c.committed_at-2.ensures.moved (c.in-Err.ensures.stopped (ap Err (same_fault (Err c.in-Err.fault) c.in-Err.fault Stopped refl is)))

@@ -10,7 +10,8 @@ use Rattle.arj_world.proofs.Disks.{moved_call, unstopped_ok}
 use Rattle.arj_bank.proofs.balances.committed_at.Goals as goal
 
 pub returns-clause-files : goal.returns-clause-files
-returns-clause-files g c = files_stay g.D.Disk.file c.args.node c.args.rack.now c.disk.result.now c.look.new.disk c.disk.ensures.value c.look.ensures.files
+returns-clause-files g c =
+    files_stay g.D.Disk.file c.args.node c.args.rack.now c.disk.result.now c.look.new.disk c.disk.ensures.value c.look.ensures.files
 
 pub returns-clause-moved : goal.returns-clause-moved
 returns-clause-moved g c =

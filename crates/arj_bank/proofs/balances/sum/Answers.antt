@@ -8,10 +8,12 @@ use Rattle.arj_world.proofs.Disks.{moved_on, same_fault, stopped_later, unstoppe
 use Rattle.arj_bank.proofs.balances.sum.Goals as goal
 
 pub returns-in-Err-clause-moved : goal.returns-in-Err-clause-moved
-returns-in-Err-clause-moved g c = moved_on g.D.Disk NODES NODES c.args.rack.now c.loop-k.rack c.balance.new.rack refl c.loop-k.invariant.moved c.balance.ensures.moved
+returns-in-Err-clause-moved g c =
+    moved_on g.D.Disk NODES NODES c.args.rack.now c.loop-k.rack c.balance.new.rack refl c.loop-k.invariant.moved c.balance.ensures.moved
 
 pub returns-in-Err-clause-stopped : goal.returns-in-Err-clause-stopped
-returns-in-Err-clause-stopped g c is = stopped_later g.D.Disk NODES c.args.rack.now c.loop-k.rack c.balance.new.rack c.loop-k.invariant.moved c.balance.ensures.moved (c.in-Err.ensures.stopped (ap Err (same_fault (Err c.in-Err.fault) c.in-Err.fault Stopped refl is)))
+returns-in-Err-clause-stopped g c is =
+    stopped_later g.D.Disk NODES c.args.rack.now c.loop-k.rack c.balance.new.rack c.loop-k.invariant.moved c.balance.ensures.moved (c.in-Err.ensures.stopped (ap Err (same_fault (Err c.in-Err.fault) c.in-Err.fault Stopped refl is)))
 
 pub loop-k-preserved : goal.loop-k-preserved
 loop-k-preserved g c = record {

@@ -69,11 +69,13 @@ returns-in-Err-Stopped-clause-stopped g c _ = record {
   journal = c.requires.fresh;
   machine = c.requires.none;
   stopped = c.in-Err-Stopped.ensures.stopped (ap Err c.in-Err-Stopped.field-0-is);
-  moved = let header = c.in_ok-script.ensures.header in subst (λ h. g.M.Machine.moved h [] c.args.rack.now c.format.new.rack) header.0 c.format.ensures.moved;
+  moved = let header =
+      c.in_ok-script.ensures.header in subst (λ h. g.M.Machine.moved h [] c.args.rack.now c.format.new.rack) header.0 c.format.ensures.moved;
 }
 
 pub returns-clause-memory : goal.returns-clause-memory
-returns-clause-memory g c _ = let header = c.in_ok-script.ensures.header in inr (inl (subst (λ h. g.M.Machine.moved h [] c.args.rack.now c.format.new.rack) header.0 c.format.ensures.moved))
+returns-clause-memory g c _ =
+    let header = c.in_ok-script.ensures.header in inr (inl (subst (λ h. g.M.Machine.moved h [] c.args.rack.now c.format.new.rack) header.0 c.format.ensures.moved))
 
 pub returns-in_err-script-clause-memory : goal.returns-in_err-script-clause-memory
 returns-in_err-script-clause-memory g c _ = inl refl

@@ -27,10 +27,18 @@ pub returns-in-Ok-clause-limit : goal.returns-in-Ok-clause-limit
 returns-in-Ok-clause-limit g c is = absurd (c.sum_up.ensures.limit is)
 
 pub returns-in-Ok-clause-stopped : goal.returns-in-Ok-clause-stopped
-returns-in-Ok-clause-stopped g c is = inr (record { mid = c.run_bank.new.rack; ran = c.in-Ok.ensures.ran; read = record { files = c.sum_up.ensures.files; moved = c.sum_up.ensures.moved }; stopped = c.sum_up.ensures.stopped is })
+returns-in-Ok-clause-stopped g c is =
+    inr (record {
+      mid = c.run_bank.new.rack;
+      ran = c.in-Ok.ensures.ran;
+      read =
+          record { files = c.sum_up.ensures.files; moved = c.sum_up.ensures.moved };
+      stopped = c.sum_up.ensures.stopped is;
+    })
 
 pub returns-in-Ok-clause-memory : goal.returns-in-Ok-clause-memory
-returns-in-Ok-clause-memory g c is = wants_sum g.M.Machine g.D.Disk c.args.n c.args.rack.now (left c.run_bank.new.rack c.run_bank.new.journal c.run_bank.new.machine) c.sum_up.new.rack c.in-Ok.ensures.ran
+returns-in-Ok-clause-memory g c is =
+    wants_sum g.M.Machine g.D.Disk c.args.n c.args.rack.now (left c.run_bank.new.rack c.run_bank.new.journal c.run_bank.new.machine) c.sum_up.new.rack c.in-Ok.ensures.ran
     (record { files = c.sum_up.ensures.files; moved = c.sum_up.ensures.moved })
 
 pub returns-in-Err-clause-limit : goal.returns-in-Err-clause-limit
@@ -40,4 +48,11 @@ pub returns-in-Err-clause-stopped : goal.returns-in-Err-clause-stopped
 returns-in-Err-clause-stopped g c is = inl (c.in-Err.ensures.stopped (ap Err (same_fault (Err c.in-Err.stop) c.in-Err.stop Disk refl is)))
 
 pub returns-in-Err-clause-memory : goal.returns-in-Err-clause-memory
-returns-in-Err-clause-memory g c is = record { mid = c.run_bank.new.rack; comes = c.in-Err.ensures.memory (ap Err (same_fault (Err c.in-Err.stop) c.in-Err.stop Memory refl is)); read = read_none g.D.Disk c.run_bank.new.rack }
+returns-in-Err-clause-memory g c is =
+    record {
+      mid = c.run_bank.new.rack;
+      comes =
+          c.in-Err.ensures.memory (ap Err (same_fault (Err c.in-Err.stop) c.in-Err.stop Memory refl is));
+      read =
+          read_none g.D.Disk c.run_bank.new.rack;
+    }

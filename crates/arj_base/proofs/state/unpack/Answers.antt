@@ -11,7 +11,14 @@ returns-clause-packed c =
     let payload : drop 47 bytes ≡ c.extend.new.self =
     sym (c.in_ok-extend.ensures.ok ∙ ap (λ front. front ++ take (length bytes - 47) (drop 47 bytes)) c.new-payload.ensures ∙ take_rest bytes 47) in
     let size : c.from_two-length.result ≡ length c.extend.new.self = omega (arith, ap length payload, length-drop 47 bytes) in
-    spelled (record { uid = c.from_bytes.result; class = c.in-Some.class; version = c.from_eight.result; writer = c.from_bytes-2.result; payload = c.extend.new.self })
+    spelled (record {
+      uid = c.from_bytes.result;
+      class = c.in-Some.class;
+      version = c.from_eight.result;
+      writer =
+          c.from_bytes-2.result;
+      payload = c.extend.new.self;
+    })
     bytes (omega arith) (sym c.if-not-starts_with.ensures.value) (sym (c.from_bytes.ensures.bytes ∙ c.field-2.ensures)) (sym c.in-Some.ensures)
     (sym (c.from_eight.ensures ∙ c.field-3.ensures)) (sym (c.from_bytes-2.ensures.bytes ∙ c.field-4.ensures))
     (sym (c.from_two-length.ensures ∙ c.field.ensures) ∙ ap (big_bytes 2) size) payload
@@ -19,7 +26,8 @@ returns-clause-packed c =
 -- each of them fits
 pub returns-clause-in_form : goal.returns-clause-in_form
 returns-clause-in_form c =
-    let payload = ap length c.in_ok-extend.ensures.ok ∙ ap (λ front. length (front ++ take (length c.args.bytes.now - 47) (drop 47 c.args.bytes.now))) c.new-payload.ensures ∙ ap length (take_rest c.args.bytes.now 47) in
+    let payload =
+    ap length c.in_ok-extend.ensures.ok ∙ ap (λ front. length (front ++ take (length c.args.bytes.now - 47) (drop 47 c.args.bytes.now))) c.new-payload.ensures ∙ ap length (take_rest c.args.bytes.now 47) in
     (c.from_bytes.ensures.fits, omega arith, c.from_bytes-2.ensures.fits, omega (arith, payload, length-drop 47 c.args.bytes.now))
 
 -- and no other state in form has these bytes

@@ -8,4 +8,6 @@ use Rattle.arj_changes.specs.Kept.{AreKept}
 use Rattle.arj_changes.proofs.entry.fold.Given as goal
 
 abbrev pub invariant-loop-one : goal.invariant-loop-one
-invariant-loop-one l = (lines : List Line) → AreBegun (acts lines) l.begun → AreKept lines l.changes → IsFolded lines l.x l.first (tops_ranked (take l.one-index l.ranked)) l.entry
+invariant-loop-one l =
+    (lines : List Line) → AreBegun (acts lines) l.begun → AreKept lines l.changes →
+    IsFolded lines l.x l.first (tops_ranked (take l.one-index l.ranked)) l.entry

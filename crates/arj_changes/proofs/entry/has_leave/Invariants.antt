@@ -4,4 +4,5 @@ use Rattle.std.specs.List.{list_any}
 use Rattle.arj_changes.proofs.entry.has_leave.Given as goal
 
 abbrev pub invariant-loop-leave : goal.invariant-loop-leave
-invariant-loop-leave l = list_any (λ leave. leave.x == l.x) (drop l.leave-index l.leave-items) ≡ list_any (λ leave. leave.x == l.x) l.leave-items
+invariant-loop-leave l =
+    list_any (λ leave. leave.x == l.x) (drop l.leave-index l.leave-items) ≡ list_any (λ leave. leave.x == l.x) l.leave-items

@@ -17,7 +17,8 @@ pub returns : goal.returns
 returns c = λ readable has.
     let lines = c.args.lines.now in
     let header = c.args.header.now in
-    let below : map (λ k. k.items) c.as_slice.result.now ≡ _ = ap (map (λ k. k.items)) c.as_slice.ensures.value ∙ c.in_ok-below.ensures lines has in
+    let below : map (λ k. k.items) c.as_slice.result.now ≡ _ =
+    ap (map (λ k. k.items)) c.as_slice.ensures.value ∙ c.in_ok-below.ensures lines has in
     let places : c.in_ok-places.places.items ≡ map (λ k. k.at) (nested_calls lines) =
     c.in_ok-places.ensures lines (commits_in (committed lines)) has (commits_below lines _ below) ∙ ap last_in_order (nested_start lines c.args.reading.now has) ∙ nested_places lines (own_keys header lines readable) in
     c.replay.ensures (nested_calls lines) (sym (c.as_slice-2.ensures.value ∙ places))

@@ -10,6 +10,8 @@ use Rattle.arj_check.specs.Kept.{HasTops}
 use Rattle.arj_check.proofs.keys.call_keys.Given as goal
 
 abbrev pub invariant-loop-mark : goal.invariant-loop-mark
-invariant-loop-mark l = (lines : List Line) (below : List Act → List ℕ) → HasRead lines l.reading → l.parts.survives.now ≡ map (survives (committed lines) (recovered lines)) (paths (acts lines)) → HasTops (tops lines) l.parts.tops.now
+invariant-loop-mark l =
+    (lines : List Line) (below : List Act → List ℕ) → HasRead lines l.reading →
+    l.parts.survives.now ≡ map (survives (committed lines) (recovered lines)) (paths (acts lines)) → HasTops (tops lines) l.parts.tops.now
     → AreBelow (paths (acts lines)) below (map (λ k. k.items) l.parts.below.now)
     → map (λ k. k.items) l.keys.items ++ filter_map (key_at (key_of (tops lines) below) (committed lines) (recovered lines) (paths (acts lines))) (map placed_of (drop l.mark-index l.mark-items)) ≡ filter_map (key_at (key_of (tops lines) below) (committed lines) (recovered lines) (paths (acts lines))) (map placed_of l.reading.said.items)

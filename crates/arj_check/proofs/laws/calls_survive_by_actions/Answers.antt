@@ -8,4 +8,5 @@ pub returns-clause-own : goal.returns-clause-own
 returns-clause-own c = survive_own
 
 pub returns-clause-below : goal.returns-clause-below
-returns-clause-below c = λ lines i a p kept its top e apart. survive_other lines i a p kept its (map (survives (committed lines) (recovered lines)) (take i (paths (acts lines)))) top e apart refl
+returns-clause-below c =
+    λ lines i a p kept its top e apart. survive_other lines i a p kept its (map (survives (committed lines) (recovered lines)) (take i (paths (acts lines)))) top e apart refl

@@ -19,5 +19,6 @@ returns-then-top-number c = λ lines p has ha hp before.
 pub returns : goal.returns
 returns c = λ lines p has ha hp before.
     let apart : (c.in-Some.top.number == c.args.number) ≡ false = grind (arith, nat_tests, c.if-top-number.false) in
-    let ended : c.contains_key-ended.result ≡ has_end (committed lines) c.args.number = c.contains_key-ended.ensures ∙ ap is_some (has.committed_at c.args.number) ∙ first_has (committed lines) c.args.number in
+    let ended : c.contains_key-ended.result ≡ has_end (committed lines) c.args.number =
+    c.contains_key-ended.ensures ∙ ap is_some (has.committed_at c.args.number) ∙ first_has (committed lines) c.args.number in
     c.both.ensures ∙ (λ i. ended i && c.is_true_at-above.ensures i) ∙ survive_other lines c.args.number c.args.action.now p ha hp c.args.before.now c.in-Some.top c.in-Some.is apart before

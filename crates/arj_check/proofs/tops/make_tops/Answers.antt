@@ -9,4 +9,5 @@ use Rattle.std.specs.List.{filter_map}
 use Rattle.arj_check.proofs.Loops.{tops_start}
 
 pub loop-mark-init : goal.loop-mark-init
-loop-mark-init c = λ lines has. ([], c.no_tops-tops.ensures, ap (λ ms. filter_map (top_at (committed lines) (recovered lines) (paths (acts lines))) (map placed_of ms)) c.deref-mark-items.ensures.value ∙ tops_start lines c.args.reading.now has)
+loop-mark-init c =
+    λ lines has. ([], c.no_tops-tops.ensures, ap (λ ms. filter_map (top_at (committed lines) (recovered lines) (paths (acts lines))) (map placed_of ms)) c.deref-mark-items.ensures.value ∙ tops_start lines c.args.reading.now has)

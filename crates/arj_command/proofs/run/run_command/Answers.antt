@@ -11,7 +11,8 @@ use Rattle.arj_command.proofs.run.run_command.Goals as goal
 -- ---- a script
 
 pub returns-in-Replay-clause-generates : goal.returns-in-Replay-clause-generates
-returns-in-Replay-clause-generates g c n is = let says : IsReplay c.args.words.now = rw c.in-Replay.is at c.asked_for.ensures in absurd (not_both c.args.words.now _ is.1 says)
+returns-in-Replay-clause-generates g c n is =
+    let says : IsReplay c.args.words.now = rw c.in-Replay.is at c.asked_for.ensures in absurd (not_both c.args.words.now _ is.1 says)
 
 pub returns-in-Replay-clause-closes : goal.returns-in-Replay-clause-closes
 returns-in-Replay-clause-closes g c _ four five = c.replay.ensures.closes four five
@@ -26,10 +27,12 @@ returns-in-Replay-clause-read_fault g c three =
     (c.replay.ensures.closes (λ e. omega (arith, e, three)) (λ e. omega (arith, e, three))) three
 
 pub returns-in-Replay-clause-checks : goal.returns-in-Replay-clause-checks
-returns-in-Replay-clause-checks g c is = let says : IsReplay c.args.words.now = rw c.in-Replay.is at c.asked_for.ensures in absurd (not_two c.args.words.now says is)
+returns-in-Replay-clause-checks g c is =
+    let says : IsReplay c.args.words.now = rw c.in-Replay.is at c.asked_for.ensures in absurd (not_two c.args.words.now says is)
 
 pub returns-in-Replay-clause-checks_alone : goal.returns-in-Replay-clause-checks_alone
-returns-in-Replay-clause-checks_alone g c is = let says : IsReplay c.args.words.now = rw c.in-Replay.is at c.asked_for.ensures in absurd (not_two c.args.words.now says is)
+returns-in-Replay-clause-checks_alone g c is =
+    let says : IsReplay c.args.words.now = rw c.in-Replay.is at c.asked_for.ensures in absurd (not_two c.args.words.now says is)
 
 pub returns-in-Replay-clause-only_check : goal.returns-in-Replay-clause-only_check
 returns-in-Replay-clause-only_check g c other = (refl, λ e. let s = c.replay.ensures.statuses in omega (arith, e, s.0))
@@ -37,19 +40,23 @@ returns-in-Replay-clause-only_check g c other = (refl, λ e. let s = c.replay.en
 -- ---- a check
 
 pub returns-in-Check-clause-closes : goal.returns-in-Check-clause-closes
-returns-in-Check-clause-closes g c is _ _ = let says : IsCheck c.args.words.now = rw c.in-Check.is at c.asked_for.ensures in absurd (not_two c.args.words.now is says)
+returns-in-Check-clause-closes g c is _ _ =
+    let says : IsCheck c.args.words.now = rw c.in-Check.is at c.asked_for.ensures in absurd (not_two c.args.words.now is says)
 
 pub returns-in-Check-clause-short : goal.returns-in-Check-clause-short
-returns-in-Check-clause-short g c is _ = let says : IsCheck c.args.words.now = rw c.in-Check.is at c.asked_for.ensures in absurd (not_two c.args.words.now is says)
+returns-in-Check-clause-short g c is _ =
+    let says : IsCheck c.args.words.now = rw c.in-Check.is at c.asked_for.ensures in absurd (not_two c.args.words.now is says)
 
 pub returns-in-Check-clause-generates : goal.returns-in-Check-clause-generates
-returns-in-Check-clause-generates g c n is = let says : IsCheck c.args.words.now = rw c.in-Check.is at c.asked_for.ensures in absurd (not_check c.args.words.now _ is.1 says)
+returns-in-Check-clause-generates g c n is =
+    let says : IsCheck c.args.words.now = rw c.in-Check.is at c.asked_for.ensures in absurd (not_check c.args.words.now _ is.1 says)
 
 pub returns-in-Check-clause-checks : goal.returns-in-Check-clause-checks
 returns-in-Check-clause-checks g c is = c.checked.ensures.checks
 
 pub returns-in-Check-clause-only_check : goal.returns-in-Check-clause-only_check
-returns-in-Check-clause-only_check g c other = let says : IsCheck c.args.words.now = rw c.in-Check.is at c.asked_for.ensures in absurd (other says)
+returns-in-Check-clause-only_check g c other =
+    let says : IsCheck c.args.words.now = rw c.in-Check.is at c.asked_for.ensures in absurd (other says)
 
 pub returns-in-Check-clause-read_fault : goal.returns-in-Check-clause-read_fault
 returns-in-Check-clause-read_fault g c three =
@@ -65,10 +72,14 @@ pub returns-in-Bank-clause-read_fault : goal.returns-in-Bank-clause-read_fault
 returns-in-Bank-clause-read_fault g c three = let statuses = c.generated.ensures.statuses in absurd (statuses.3 three)
 
 pub returns-in-Bank-clause-closes : goal.returns-in-Bank-clause-closes
-returns-in-Bank-clause-closes g c is _ _ = let says : IsGenerate c.args.words.now c.in-Bank.n = rw c.in-Bank.is at c.asked_for.ensures in absurd (not_both c.args.words.now _ says.1 is)
+returns-in-Bank-clause-closes g c is _ _ =
+    let says : IsGenerate c.args.words.now c.in-Bank.n =
+    rw c.in-Bank.is at c.asked_for.ensures in absurd (not_both c.args.words.now _ says.1 is)
 
 pub returns-in-Bank-clause-short : goal.returns-in-Bank-clause-short
-returns-in-Bank-clause-short g c is _ = let says : IsGenerate c.args.words.now c.in-Bank.n = rw c.in-Bank.is at c.asked_for.ensures in absurd (not_both c.args.words.now _ says.1 is)
+returns-in-Bank-clause-short g c is _ =
+    let says : IsGenerate c.args.words.now c.in-Bank.n =
+    rw c.in-Bank.is at c.asked_for.ensures in absurd (not_both c.args.words.now _ says.1 is)
 
 pub returns-in-Bank-clause-generates : goal.returns-in-Bank-clause-generates
 returns-in-Bank-clause-generates g c m is =
@@ -91,10 +102,14 @@ returns-in-Bank-clause-generates g c m is =
     })
 
 pub returns-in-Bank-clause-checks : goal.returns-in-Bank-clause-checks
-returns-in-Bank-clause-checks g c is = let says : IsGenerate c.args.words.now c.in-Bank.n = rw c.in-Bank.is at c.asked_for.ensures in absurd (not_check c.args.words.now _ says.1 is)
+returns-in-Bank-clause-checks g c is =
+    let says : IsGenerate c.args.words.now c.in-Bank.n =
+    rw c.in-Bank.is at c.asked_for.ensures in absurd (not_check c.args.words.now _ says.1 is)
 
 pub returns-in-Bank-clause-checks_alone : goal.returns-in-Bank-clause-checks_alone
-returns-in-Bank-clause-checks_alone g c is = let says : IsGenerate c.args.words.now c.in-Bank.n = rw c.in-Bank.is at c.asked_for.ensures in absurd (not_check c.args.words.now _ says.1 is)
+returns-in-Bank-clause-checks_alone g c is =
+    let says : IsGenerate c.args.words.now c.in-Bank.n =
+    rw c.in-Bank.is at c.asked_for.ensures in absurd (not_check c.args.words.now _ says.1 is)
 
 pub returns-in-Bank-clause-only_check : goal.returns-in-Bank-clause-only_check
 returns-in-Bank-clause-only_check g c other = (refl, λ e. let s = c.generated.ensures.statuses in omega (arith, e, s.0))

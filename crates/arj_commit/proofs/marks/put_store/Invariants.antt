@@ -5,4 +5,5 @@ use Rattle.arj_commit.proofs.marks.put_store.Given as goal
 
 -- the marks of the objects that are left are put into those so far
 abbrev pub invariant-loop-object : goal.invariant-loop-object
-invariant-loop-object l = with_marks (marks_in l.store l.changed (drop l.object-index l.used)) l.marks.items ≡ with_marks (marks_in l.store l.changed l.used) l.fn.marks.items
+invariant-loop-object l =
+    with_marks (marks_in l.store l.changed (drop l.object-index l.used)) l.marks.items ≡ with_marks (marks_in l.store l.changed l.used) l.fn.marks.items

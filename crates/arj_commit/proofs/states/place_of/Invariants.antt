@@ -5,4 +5,5 @@ use Rattle.arj_commit.proofs.states.place_of.Given as goal
 
 -- the state goes behind those that were looked at
 abbrev pub invariant-loop-at : goal.invariant-loop-at
-invariant-loop-at l = (s : ObjectState) → s.uid.num ≡ l.num → with_state s l.states ≡ take l.at l.states ++ with_state s (drop l.at l.states)
+invariant-loop-at l =
+    (s : ObjectState) → s.uid.num ≡ l.num → with_state s l.states ≡ take l.at l.states ++ with_state s (drop l.at l.states)

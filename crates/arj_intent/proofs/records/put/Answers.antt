@@ -14,7 +14,8 @@ returns-clause-work g c = on_ok_weaker c.put.result
     (subst (λ bytes. g.D.Disk.file c.put.new.disk (slot.Intent c.args.i.now.top) ≡ Some bytes) (c.as_slice.ensures ∙ c.in_ok-bytes.ensures.bytes) puts.here)) c.put.ensures.ok
 
 pub returns-clause-stopped : goal.returns-clause-stopped
-returns-clause-stopped g c = λ _. cut_put (g.D.Disk.file c.args.disk.now) (g.D.Disk.file c.put.new.disk) c.args.i.now.root c.args.i.now.top c.args.i.now.nodes c.in_ok-bytes.ensures.fits
+returns-clause-stopped g c =
+    λ _. cut_put (g.D.Disk.file c.args.disk.now) (g.D.Disk.file c.put.new.disk) c.args.i.now.root c.args.i.now.top c.args.i.now.nodes c.in_ok-bytes.ensures.fits
     (subst (PutsOrNot (g.D.Disk.file c.args.disk.now) (g.D.Disk.file c.put.new.disk) (slot.Intent c.args.i.now.top)) (c.as_slice.ensures ∙ c.in_ok-bytes.ensures.bytes) c.put.ensures.files)
 
 pub returns-clause-form : goal.returns-clause-form

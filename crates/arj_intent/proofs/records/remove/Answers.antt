@@ -11,10 +11,13 @@ returns-clause-work g c = on_ok_weaker c.remove.result
     has_removed (g.D.Disk.file c.args.disk.now) (g.D.Disk.file c.remove.new.self) c.args.top (λ q other _. gone.others q other) gone.gone) c.remove.ensures.ok
 
 pub returns-clause-stopped : goal.returns-clause-stopped
-returns-clause-stopped g c = λ _. cut_removed (g.D.Disk.file c.args.disk.now) (g.D.Disk.file c.remove.new.self) c.args.top c.remove.ensures.files
+returns-clause-stopped g c =
+    λ _. cut_removed (g.D.Disk.file c.args.disk.now) (g.D.Disk.file c.remove.new.self) c.args.top c.remove.ensures.files
 
 pub returns-clause-form : goal.returns-clause-form
-returns-clause-form g c = (removed_stays (g.D.Disk.file c.args.disk.now) (g.D.Disk.file c.remove.new.self) c.args.top c.remove.ensures.files).form
+returns-clause-form g c =
+    (removed_stays (g.D.Disk.file c.args.disk.now) (g.D.Disk.file c.remove.new.self) c.args.top c.remove.ensures.files).form
 
 pub returns-clause-roles : goal.returns-clause-roles
-returns-clause-roles g c = (removed_stays (g.D.Disk.file c.args.disk.now) (g.D.Disk.file c.remove.new.self) c.args.top c.remove.ensures.files).roles
+returns-clause-roles g c =
+    (removed_stays (g.D.Disk.file c.args.disk.now) (g.D.Disk.file c.remove.new.self) c.args.top c.remove.ensures.files).roles

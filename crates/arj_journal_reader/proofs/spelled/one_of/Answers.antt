@@ -10,5 +10,6 @@ returns g c a fits e =
     let known : find (λ j. bytes_eq (g.K.Spelled.spelling j) c.args.bytes.now) g.K.Spelled.kinds ≡ Some a =
     subst (λ bs. find (λ j. bytes_eq (g.K.Spelled.spelling j) bs) g.K.Spelled.kinds ≡ Some a) (sym e) (g.met.K.Spelled.known a) in
     let left = drop_all c.loop-kind.kind-index c.all-every.result.now (omega arith) in
-    let never : None ≡ Some a = subst (λ ks. find (λ j. bytes_eq (g.K.Spelled.spelling j) c.args.bytes.now) ks ≡ find (λ j. bytes_eq (g.K.Spelled.spelling j) c.args.bytes.now) g.K.Spelled.kinds) left c.loop-kind.invariant ∙ known in
+    let never : None ≡ Some a =
+    subst (λ ks. find (λ j. bytes_eq (g.K.Spelled.spelling j) c.args.bytes.now) ks ≡ find (λ j. bytes_eq (g.K.Spelled.spelling j) c.args.bytes.now) g.K.Spelled.kinds) left c.loop-kind.invariant ∙ known in
     cc

@@ -1,4 +1,5 @@
-use Rattle.std.proofs.Common.{rules, ◌≡◌, ◌<◌, ◌≤◌, ◌+◌, ◌%◌, ◌==◌, ◌&&◌, ◌∙◌, ◌++◌, [], ap, sym, cond, length, slice_index_or, take, drop, append_assoc, arith}
+use Rattle.std.proofs.Common.{rules, ◌≡◌, ◌<◌, ◌≤◌, ◌+◌, ◌%◌, ◌==◌, ◌&&◌, ◌∙◌, ◌++◌, [], ap, sym, cond, length, slice_index_or, take, drop}
+use Rattle.std.proofs.Common.{append_assoc, arith}
 use Rattle.arj_last.specs.Told.{count_commits, is_commit, states_behind, states_from, states_text}
 use Rattle.arj_last.proofs.Steps.{all_told, at_most_one, next_count, next_states}
 use Rattle.arj_last.proofs.told.put_commits.Goals as goal
@@ -14,7 +15,8 @@ loop-at-preserved c =
     let is : line ≡ slice_index_or lines i line = search rules in
     let upto = take (i + 1) lines in
     let rest = states_from every header upto (drop (i + 1) lines) in
-    let counted = c.commits_with-commits.ensures ∙ ap (λ n. n + cond (is_commit line.body) 1 0) c.loop-at.invariant.commits ∙ sym (next_count lines i line lt is) in
+    let counted =
+    c.commits_with-commits.ensures ∙ ap (λ n. n + cond (is_commit line.body) 1 0) c.loop-at.invariant.commits ∙ sym (next_count lines i line lt is) in
     let told = c.is_told-told.ensures ∙ ap (λ n. is_commit line.body && (n % every == 0)) counted in
     let one = at_most_one (is_commit line.body) in
     record {

@@ -9,7 +9,8 @@ use Rattle.arj_model.specs.Serial.{serial_calls, serial_less, writes_on}
 use Rattle.arj_replay.specs.Orders.{serial_place}
 use Rattle.arj_replay.specs.Verdict.{HasCall}
 use Rattle.arj_last.specs.Writers.{Wrote, writers_at}
-use Rattle.arj_last.proofs.Wrote.{KeysTell, all_both, all_take, keys_tell, next_call, next_here, nothing_wrote, seen_there, taken_whole, wrote_next}
+use Rattle.arj_last.proofs.Wrote.{KeysTell, all_both, all_take, keys_tell, next_call, next_here, nothing_wrote, seen_there, taken_whole}
+use Rattle.arj_last.proofs.Wrote.{wrote_next}
 use Rattle.arj_last.proofs.writers.writers_in.Goals as goal
 
 pub loop-key-init : goal.loop-key-init
@@ -23,7 +24,8 @@ loop-key-preserved c = λ header readable has x.
     let i = c.loop-key.key-index in
     let key = c.key-item.result in
     let keys = c.deref-key-items.result.now in
-    let are : map (λ k. k.items) keys ≡ map (serial_place ts) calls = ap (map (λ k. k.items)) c.deref-key-items.ensures.value ∙ c.in_ok-keys.ensures lines has in
+    let are : map (λ k. k.items) keys ≡ map (serial_place ts) calls =
+    ap (map (λ k. k.items)) c.deref-key-items.ensures.value ∙ c.in_ok-keys.ensures lines has in
     let lt : i < length keys = search rules in
     let is : key ≡ slice_index_or keys i key = search rules in
     let below : i < length (map (serial_place ts) calls) = subst (λ n. i < n) (sym (length-map keys (λ k. k.items)) ∙ ap length are) lt in
@@ -44,7 +46,8 @@ returns c = λ header readable has x.
     let calls = serial_calls lines in
     let i = c.loop-key.key-index in
     let keys = c.deref-key-items.result.now in
-    let are : map (λ k. k.items) keys ≡ map (serial_place ts) calls = ap (map (λ k. k.items)) c.deref-key-items.ensures.value ∙ c.in_ok-keys.ensures lines has in
+    let are : map (λ k. k.items) keys ≡ map (serial_place ts) calls =
+    ap (map (λ k. k.items)) c.deref-key-items.ensures.value ∙ c.in_ok-keys.ensures lines has in
     let many : length keys ≡ length calls = sym (length-map keys (λ k. k.items)) ∙ ap length are ∙ length-map calls (serial_place ts) in
     let le : length calls ≤ i = omega (arith, many, c.loop-key-test.false) in
     (c.loop-key.invariant header readable has x).count ∙ ap (λ cs. count_tops (filter (writes_on x) cs)) (taken_whole i calls le)

@@ -54,7 +54,8 @@ loop-count-preserved g c =
     }
 
 pub loop-count-smaller : goal.loop-count-smaller
-loop-count-smaller g c = c.in-Ok-take_piece.ensures.less (omega (arith, c.if-count-eq0.false, length-take-le c.in-Ok-read.count c.read.new.buf c.in-Ok-read.ensures.within))
+loop-count-smaller g c =
+    c.in-Ok-take_piece.ensures.less (omega (arith, c.if-count-eq0.false, length-take-le c.in-Ok-read.count c.read.new.buf c.in-Ok-read.ensures.within))
 
 pub returns-in-Err : goal.returns-in-Err
 returns-in-Err g c =

@@ -41,4 +41,5 @@ returns-clause-went g c used going =
     (i.2 used going)
 
 pub returns-clause-less : goal.returns-clause-less
-returns-clause-less g c some = c.loop-rest.invariant.less (omega (arith, some, eqb-true (length c.loop-rest.rest.now) 0 (sym c.is_empty.ensures ∙ c.loop-rest-test.false)))
+returns-clause-less g c some =
+    c.loop-rest.invariant.less (omega (arith, some, eqb-true (length c.loop-rest.rest.now) 0 (sym c.is_empty.ensures ∙ c.loop-rest-test.false)))

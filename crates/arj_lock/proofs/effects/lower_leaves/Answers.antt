@@ -12,7 +12,8 @@ pub returns-clause-any : goal.returns-clause-any
 returns-clause-any c = lower_any
 
 pub returns-clause-stays : goal.returns-clause-stays
-returns-clause-stays c = λ action object rows r there. in_to (lowered action object r) (lower_row action object rows) (changed_in (lowered action object) r rows (in_from r rows there))
+returns-clause-stays c =
+    λ action object rows r there. in_to (lowered action object r) (lower_row action object rows) (changed_in (lowered action object) r rows (in_from r rows there))
 
 pub returns-clause-each : goal.returns-clause-each
 returns-clause-each c = λ action object rows r there.

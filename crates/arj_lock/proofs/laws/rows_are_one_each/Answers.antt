@@ -23,4 +23,5 @@ pub returns-clause-close : goal.returns-clause-close
 returns-clause-close c = λ object rows one. one_each_filter (λ row. not (uid_eq row.object object)) rows one
 
 pub returns-clause-lower : goal.returns-clause-lower
-returns-clause-lower c = λ action object rows one. one_each_map (lowered action object) rows (lowered_object action object) (lowered_holder action object) one
+returns-clause-lower c =
+    λ action object rows one. one_each_map (lowered action object) rows (lowered_object action object) (lowered_holder action object) one

@@ -15,4 +15,5 @@ returns-in-Some c =
     (is_in_group (Own c.args.object c.args.action) c.args.grants.now e c.in-Some.ensures.sorted (sym c.in-Some.ensures.first)) c.requires (record e.1 { mode = Read }) refl
 
 pub returns-in_default : goal.returns-in_default
-returns-in_default c = own_none c.args.object c.args.action (λ row. record row { mode = Read }) c.args.grants.now (sym c.in_default.ensures.first)
+returns-in_default c =
+    own_none c.args.object c.args.action (λ row. record row { mode = Read }) c.args.grants.now (sym c.in_default.ensures.first)

@@ -11,7 +11,11 @@ use Rattle.arj_lock.proofs.Own.{own_changed, own_mode, own_none, own_same, weake
 use Rattle.arj_lock.proofs.pass.raise.Goals as goal
 
 pub returns-in_err-grant-clause-rows : goal.returns-in_err-grant-clause-rows
-returns-in_err-grant-clause-rows c = own_none c.args.object c.args.holder (λ row. record row { mode = stronger row.mode c.args.mode }) c.args.grants.now (sym c.in_err-grant.ensures.first)
+returns-in_err-grant-clause-rows c =
+    own_none c.args.object c.args.holder (λ row. record row {
+      mode =
+          stronger row.mode c.args.mode;
+    }) c.args.grants.now (sym c.in_err-grant.ensures.first)
 
 pub returns-in_err-grant-clause-rose : goal.returns-in_err-grant-clause-rose
 returns-in_err-grant-clause-rose c =
@@ -21,7 +25,10 @@ pub returns-then-lt-clause-rows : goal.returns-then-lt-clause-rows
 returns-then-lt-clause-rows c =
     let e : ℕ × Lock = (c.in_ok-grant.grant, c.in_ok-grant.lock) in
     ap rows_in c.set.ensures
-    ∙ own_changed c.args.object c.args.holder (λ row. record row { mode = stronger row.mode c.args.mode }) c.args.grants.now e.0 e.1 c.in_ok-grant.ensures.at
+    ∙ own_changed c.args.object c.args.holder (λ row. record row {
+      mode =
+          stronger row.mode c.args.mode;
+    }) c.args.grants.now e.0 e.1 c.in_ok-grant.ensures.at
     (is_in_group (Own c.args.object c.args.holder) c.args.grants.now e c.in_ok-grant.ensures.sorted (sym c.in_ok-grant.ensures.first)) c.requires c.with.result c.with.ensures
 
 pub returns-then-lt-clause-rose : goal.returns-then-lt-clause-rose
@@ -34,7 +41,10 @@ pub returns-clause-rows : goal.returns-clause-rows
 returns-clause-rows c =
     let e : ℕ × Lock = (c.in_ok-grant.grant, c.in_ok-grant.lock) in
     let weak : nat_lt (mode_code c.in_ok-grant.lock.mode) (mode_code c.args.mode) ≡ false = search rules in
-    own_same c.args.object c.args.holder (λ row. record row { mode = stronger row.mode c.args.mode }) c.args.grants.now e.0 e.1 c.in_ok-grant.ensures.at
+    own_same c.args.object c.args.holder (λ row. record row {
+      mode =
+          stronger row.mode c.args.mode;
+    }) c.args.grants.now e.0 e.1 c.in_ok-grant.ensures.at
     (is_in_group (Own c.args.object c.args.holder) c.args.grants.now e c.in_ok-grant.ensures.sorted (sym c.in_ok-grant.ensures.first)) c.requires (λ i. record (shown e.1) { mode = weaker e.1.mode c.args.mode weak i })
 
 pub returns-clause-rose : goal.returns-clause-rose

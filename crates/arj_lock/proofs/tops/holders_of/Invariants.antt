@@ -12,7 +12,8 @@ use Rattle.arj_lock.proofs.tops.holders_of.Given as goal
 -- with the holders of the locks that come after those so far they are all
 abbrev pub invariant-loop-grant : goal.invariant-loop-grant
 invariant-loop-grant l = record {
-  members : (u : Uid) → (contains set_order l.holders u || list_any (λ e. is_after l.after e.0 && is_holder l.fn.action u (shown e.1)) l.grants) ≡ list_any (λ e. is_holder l.fn.action u (shown e.1)) l.grants;
+  members : (u : Uid) →
+      (contains set_order l.holders u || list_any (λ e. is_after l.after e.0 && is_holder l.fn.action u (shown e.1)) l.grants) ≡ list_any (λ e. is_holder l.fn.action u (shown e.1)) l.grants;
   ordered : IsOrdered set_order l.holders;
 }
 

@@ -13,7 +13,8 @@ pub returns-then-is_ancestor_or_self : goal.returns-then-is_ancestor_or_self
 returns-then-is_ancestor_or_self c =
     let x : ℕ × Lock = (c.in-Some.grant, c.in-Some.lock) in
     let es = c.args.grants.now in
-    let passes : is_top_of c.args.action (shown x.1) ≡ true = ap (λ us. is_on us c.args.action) (sym c.top_path.ensures.uids) ∙ sym c.if-is_ancestor_or_self.ensures in
+    let passes : is_top_of c.args.action (shown x.1) ≡ true =
+    ap (λ us. is_on us c.args.action) (sym c.top_path.ensures.uids) ∙ sym c.if-is_ancestor_or_self.ensures in
     sym (one_passes (is_top_of c.args.action) (rows_in es) (shown x.1) (find_row (is_top_of c.args.action) es
     ∙ ap (option_map (λ (e : ℕ × Lock). shown e.1)) (sym c.loop-grant.invariant
     ∙ hit (Below c.args.action) (is_top_of c.args.action) (top_only c.args.action) c.loop-grant.after es x (sym c.in-Some.ensures.first) passes)))
@@ -26,7 +27,8 @@ loop-grant-smaller c =
 pub loop-grant-preserved : goal.loop-grant-preserved
 loop-grant-preserved c =
     let x : ℕ × Lock = (c.in-Some.grant, c.in-Some.lock) in
-    let fails : is_top_of c.args.action (shown x.1) ≡ false = ap (λ us. is_on us c.args.action) (sym c.top_path.ensures.uids) ∙ sym c.if-is_ancestor_or_self.ensures in
+    let fails : is_top_of c.args.action (shown x.1) ≡ false =
+    ap (λ us. is_on us c.args.action) (sym c.top_path.ensures.uids) ∙ sym c.if-is_ancestor_or_self.ensures in
     skip (Below c.args.action) (is_top_of c.args.action) (top_only c.args.action) c.loop-grant.after c.args.grants.now x c.in-Some.ensures.sorted (sym c.in-Some.ensures.first) fails ∙ c.loop-grant.invariant
 
 pub returns : goal.returns

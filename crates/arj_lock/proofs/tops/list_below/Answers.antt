@@ -9,4 +9,5 @@ use Rattle.arj_lock.proofs.tops.list_below.Goals as goal
 pub returns : goal.returns
 returns c =
     let uids : List Uid = below c.args.action (rows_in c.args.grants.now) in
-    IfOk-weaker c.listed.result (λ list. (us : List Uid) → IsFromIterResult set_order us c.in_ok-holders.holders → AreListed us list) (AreListed uids) (λ list are. are uids c.in_ok-holders.ensures) c.listed.ensures
+    IfOk-weaker c.listed.result (λ list. (us : List Uid) → IsFromIterResult set_order us c.in_ok-holders.holders →
+    AreListed us list) (AreListed uids) (λ list are. are uids c.in_ok-holders.ensures) c.listed.ensures

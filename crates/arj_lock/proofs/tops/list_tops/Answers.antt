@@ -9,4 +9,5 @@ use Rattle.arj_lock.proofs.tops.list_tops.Goals as goal
 pub returns : goal.returns
 returns c =
     let uids : List Uid = map top_of (rows_in c.args.grants.now) in
-    IfOk-weaker c.listed.result (λ list. (us : List Uid) → IsFromIterResult set_order us c.in_ok-tops.tops → AreListed us list) (AreListed uids) (λ list are. are uids c.in_ok-tops.ensures) c.listed.ensures
+    IfOk-weaker c.listed.result (λ list. (us : List Uid) → IsFromIterResult set_order us c.in_ok-tops.tops →
+    AreListed us list) (AreListed uids) (λ list are. are uids c.in_ok-tops.ensures) c.listed.ensures

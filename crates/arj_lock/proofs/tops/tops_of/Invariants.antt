@@ -10,6 +10,7 @@ use Rattle.arj_lock.proofs.tops.tops_of.Given as goal
 -- with the tops of the locks that are left they are all
 abbrev pub invariant-loop-lock : goal.invariant-loop-lock
 invariant-loop-lock l = record {
-  members : (u : Uid) → (contains set_order l.tops u || list_any (is_same u) (map top_of (rows_in l.lock-iterator))) ≡ list_any (is_same u) (map top_of (rows_in l.grants));
+  members : (u : Uid) →
+      (contains set_order l.tops u || list_any (is_same u) (map top_of (rows_in l.lock-iterator))) ≡ list_any (is_same u) (map top_of (rows_in l.grants));
   ordered : IsOrdered set_order l.tops;
 }

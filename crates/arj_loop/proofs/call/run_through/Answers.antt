@@ -25,7 +25,9 @@ returns-in-Ok-clause-closes g c four five =
 pub returns-in-Ok-clause-short : goal.returns-in-Ok-clause-short
 returns-in-Ok-clause-short g c which =
     let e = c.run-end.ensures.ended in
-    let five : c.close-status.result ≡ 5 = ⊎_elim (λ four. absurd (not_4 c.run-end.result c.close-status.result c.if-is_write.ensures four (λ other. let p = c.close-status.ensures.put other in p.0))) (λ is. is) which in
+    let five : c.close-status.result ≡ 5 =
+    ⊎_elim (λ four. absurd (not_4 c.run-end.result c.close-status.result c.if-is_write.ensures four (λ other. let p =
+    c.close-status.ensures.put other in p.0))) (λ is. is) which in
     subst (λ n. StopsShort g.M.Machine (outside (g.S.AskedSource.left c.args.source.now) (g.S.AskedSource.faults c.args.source.now) (g.K.Sink.taken c.args.sink.now) c.args.rack.now) (outside (g.S.AskedSource.left c.run-end.new.source) (g.S.AskedSource.faults c.run-end.new.source) (g.K.Sink.taken c.flush.new.sink) c.run-end.new.rack) n) (sym five)
     (short_5 g.M.Machine (outside (g.S.AskedSource.left c.args.source.now) (g.S.AskedSource.faults c.args.source.now) (g.K.Sink.taken c.args.sink.now) c.args.rack.now) (outside (g.S.AskedSource.left c.run-end.new.source) (g.S.AskedSource.faults c.run-end.new.source) (g.K.Sink.taken c.flush.new.sink) c.run-end.new.rack) e.0 c.close-status.new.session.gather.waiting.items (g.K.Sink.taken c.run-end.new.sink) e.1
     (wants g.M.Machine e.0 c.args.rack.now (g.K.Sink.taken c.args.sink.now) (work c.run-end.new.rack c.run-end.new.self c.run-end.new.journal (g.K.Sink.taken c.run-end.new.sink)) c.run-end.result c.close-status.new.session.gather.waiting.items e.2 c.if-is_write.ensures (c.close-status.ensures.cut five) (c.close-status.ensures.memory five)) c.in-Ok.ensures.wrote)

@@ -6,4 +6,5 @@ use Rattle.arj_manager.proofs.overlay.is_on_any.Given as goal
 
 -- what is left answers the same as the whole
 abbrev pub invariant-loop-overlay : goal.invariant-loop-overlay
-invariant-loop-overlay l = list_any (λ e. is_on e.holder l.action) (stack_of (drop l.overlay-index l.stack)) ≡ list_any (λ e. is_on e.holder l.action) (stack_of l.stack)
+invariant-loop-overlay l =
+    list_any (λ e. is_on e.holder l.action) (stack_of (drop l.overlay-index l.stack)) ≡ list_any (λ e. is_on e.holder l.action) (stack_of l.stack)

@@ -7,4 +7,5 @@ use Rattle.arj_manager.proofs.tops.in_order.Goals as goal
 
 pub returns : goal.returns
 returns c =
-    IfOk-weaker c.listed.result (λ list. (us : List Uid) → IsFromIterResult set_order us c.in_ok-set.set → AreListed us list) (AreListed c.args.uids.now) (λ list are. are c.args.uids.now c.in_ok-set.ensures) c.listed.ensures
+    IfOk-weaker c.listed.result (λ list. (us : List Uid) → IsFromIterResult set_order us c.in_ok-set.set →
+    AreListed us list) (AreListed c.args.uids.now) (λ list are. are c.args.uids.now c.in_ok-set.ensures) c.listed.ensures

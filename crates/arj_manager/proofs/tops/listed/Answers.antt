@@ -6,5 +6,6 @@ use Rattle.arj_manager.proofs.tops.listed.Goals as goal
 
 pub returns : goal.returns
 returns c = λ uids from.
-    let all : c.args.set.now.keys ≡ c.loop-uid.list = sym c.loop-uid.invariant ∙ ap (λ rest. c.loop-uid.list ++ rest) c.in-None.ensures.steps.0 ∙ append-nil c.loop-uid.list in
+    let all : c.args.set.now.keys ≡ c.loop-uid.list =
+    sym c.loop-uid.invariant ∙ ap (λ rest. c.loop-uid.list ++ rest) c.in-None.ensures.steps.0 ∙ append-nil c.loop-uid.list in
     subst (AreListed uids) all (uids_listed uids c.args.set.now from)

@@ -9,6 +9,7 @@ use Rattle.arj_manager.proofs.tops.set_of.Given as goal
 -- the set, with those that are left, has them all
 abbrev pub invariant-loop-uid : goal.invariant-loop-uid
 invariant-loop-uid l = record {
-  all : (u : Uid) → (contains set_order l.set u || is_member (eq_by_cmp set_order) (drop l.uid-index l.uids) u) ≡ is_member (eq_by_cmp set_order) l.uids u;
+  all : (u : Uid) →
+      (contains set_order l.set u || is_member (eq_by_cmp set_order) (drop l.uid-index l.uids) u) ≡ is_member (eq_by_cmp set_order) l.uids u;
   ordered : IsOrdered set_order l.set;
 }

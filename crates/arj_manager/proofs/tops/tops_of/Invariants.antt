@@ -6,4 +6,5 @@ use Rattle.arj_manager.proofs.tops.tops_of.Given as goal
 
 -- the tops so far, and those of the objects that are left
 abbrev pub invariant-loop-object : goal.invariant-loop-object
-invariant-loop-object l = (u : Uid) → (Contains l.tops.items u ⊎ Contains (tops_in l.object-iterator) u) ↔ Contains (tops_in l.objects.entries) u
+invariant-loop-object l =
+    (u : Uid) → (Contains l.tops.items u ⊎ Contains (tops_in l.object-iterator) u) ↔ Contains (tops_in l.objects.entries) u

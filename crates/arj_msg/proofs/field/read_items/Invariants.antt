@@ -4,4 +4,5 @@ use Rattle.arj_msg.proofs.Loop.{with_front}
 use Rattle.arj_msg.proofs.field.read_items.Given as goal
 
 abbrev pub invariant-loop : goal.invariant-loop
-invariant-loop g l = with_front l.items (read_many g.T.Field.format (l.count - l.counter) l.rest) ≡ read_many g.T.Field.format l.count l.bytes
+invariant-loop g l =
+    with_front l.items (read_many g.T.Field.format (l.count - l.counter) l.rest) ≡ read_many g.T.Field.format l.count l.bytes

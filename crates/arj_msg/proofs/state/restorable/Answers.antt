@@ -4,7 +4,8 @@ use Rattle.arj_msg.proofs.StateLaws.{unpacks_again, unpacks_none}
 use Rattle.arj_msg.proofs.state.restorable.Goals as goal
 
 pub returns-in_default : goal.returns-in_default
-returns-in_default c = sym (unpacks_none c.args.packed.now (λ i. omega (arith, c.type_inv.packed i)) (λ s form saved is. c.in-Err.ensures.none c.in_default.not-Memory s form.3 is))
+returns-in_default c =
+    sym (unpacks_none c.args.packed.now (λ i. omega (arith, c.type_inv.packed i)) (λ s form saved is. c.in-Err.ensures.none c.in_default.not-Memory s form.3 is))
 
 pub returns-in-Ok-restore_state : goal.returns-in-Ok-restore_state
 returns-in-Ok-restore_state c =

@@ -12,4 +12,8 @@ returns c =
     let bound = c.args.bound.now.entries in
     let new = c.hello_under.new.objects.entries in
     let are = all_changed (hello_named node inc) old new c.hello_under.ensures.keys c.requires.sorted (λ q. c.hello_under.ensures.at q ∙ all_told node inc old bound c.requires.bound q) in
-    record { objects = are; bound = still_bound node inc old bound c.requires.bound new c.hello_under.new.bound.entries are c.hello_under.ensures.bound }
+    record {
+      objects = are;
+      bound =
+          still_bound node inc old bound c.requires.bound new c.hello_under.new.bound.entries are c.hello_under.ensures.bound;
+    }

@@ -10,7 +10,8 @@ use Rattle.arj_naming.proofs.by_entry.put_prepared.Goals as goal
 pub returns-in-Err-clause-by_entry : goal.returns-in-Err-clause-by_entry
 returns-in-Err-clause-by_entry c = λ are.
     let act = c.args.action in
-    let none : at_uid act c.take_prepared.new.pend.entries ≡ None = ap (at_uid act) c.take_prepared.ensures.pend ∙ without_here act c.args.pend.now.entries c.take_prepared.ensures.by_action in
+    let none : at_uid act c.take_prepared.new.pend.entries ≡ None =
+    ap (at_uid act) c.take_prepared.ensures.pend ∙ without_here act c.args.pend.now.entries c.take_prepared.ensures.by_action in
     let some = c.put_all.new.by_entry.entries in
     put_back act c.args.states c.take_prepared.new.pend.entries c.take_prepared.new.by_entry.entries c.take_all.new.by_entry.entries none (c.take_prepared.ensures.by_entry are) some
     (λ u w off. c.put_all.ensures.others u w ((λ i. is_of act (c.as_slice.ensures i) u w) ∙ off))
@@ -23,7 +24,8 @@ returns-in-Ok-insert-clause-pend c =
 pub returns-in-Ok-insert-clause-by_entry : goal.returns-in-Ok-insert-clause-by_entry
 returns-in-Ok-insert-clause-by_entry c = λ are.
     let act = c.args.action in
-    let none : at_uid act c.take_prepared.new.pend.entries ≡ None = ap (at_uid act) c.take_prepared.ensures.pend ∙ without_here act c.args.pend.now.entries c.take_prepared.ensures.by_action in
+    let none : at_uid act c.take_prepared.new.pend.entries ≡ None =
+    ap (at_uid act) c.take_prepared.ensures.pend ∙ without_here act c.args.pend.now.entries c.take_prepared.ensures.by_action in
     let old = c.take_prepared.new.by_entry.entries in
     let new = c.put_all.new.by_entry.entries in
     subst (λ es. AreByEntry es new) (sym c.in-Ok-insert.ensures.entries)
@@ -33,9 +35,11 @@ returns-in-Ok-insert-clause-by_entry c = λ are.
 pub returns-clause-by_entry : goal.returns-clause-by_entry
 returns-clause-by_entry c = λ are.
     let act = c.args.action in
-    let none : at_uid act c.take_prepared.new.pend.entries ≡ None = ap (at_uid act) c.take_prepared.ensures.pend ∙ without_here act c.args.pend.now.entries c.take_prepared.ensures.by_action in
+    let none : at_uid act c.take_prepared.new.pend.entries ≡ None =
+    ap (at_uid act) c.take_prepared.ensures.pend ∙ without_here act c.args.pend.now.entries c.take_prepared.ensures.by_action in
     let some = c.put_all.new.by_entry.entries in
-    let same : c.as_slice-in-Err-insert.result.now ≡ c.args.states = c.as_slice-in-Err-insert.ensures ∙ ap (λ (p : Uid × List ObjectState). p.1) c.in-Err-insert.ensures.value_returned in
+    let same : c.as_slice-in-Err-insert.result.now ≡ c.args.states =
+    c.as_slice-in-Err-insert.ensures ∙ ap (λ (p : Uid × List ObjectState). p.1) c.in-Err-insert.ensures.value_returned in
     subst (λ es. AreByEntry es c.take_all-in-Err-insert.new.by_entry.entries) (sym c.in-Err-insert.ensures.err)
     (put_back act c.args.states c.take_prepared.new.pend.entries c.take_prepared.new.by_entry.entries c.take_all-in-Err-insert.new.by_entry.entries none (c.take_prepared.ensures.by_entry are) some
     (λ u w off. c.put_all.ensures.others u w ((λ i. is_of act (c.as_slice.ensures i) u w) ∙ off))

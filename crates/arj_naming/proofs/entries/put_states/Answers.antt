@@ -9,7 +9,8 @@ use Rattle.arj_protocol.specs.Effect.{moved}
 use Rattle.arj_naming.proofs.entries.put_states.Goals as goal
 
 pub returns-in_err-insert-clause-held : goal.returns-in_err-insert-clause-held
-returns-in_err-insert-clause-held c = subst (AllByRecursion (λ (e : Uid × ObjectState). IsEntryState e.0 e.1)) (sym c.in_err-insert.ensures.err) c.loop-state.invariant.held
+returns-in_err-insert-clause-held c =
+    subst (AllByRecursion (λ (e : Uid × ObjectState). IsEntryState e.0 e.1)) (sym c.in_err-insert.ensures.err) c.loop-state.invariant.held
 
 pub loop-state-preserved : goal.loop-state-preserved
 loop-state-preserved c =

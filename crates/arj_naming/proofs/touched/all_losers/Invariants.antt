@@ -9,4 +9,6 @@ use Rattle.arj_naming.proofs.touched.all_losers.Given as goal
 
 -- with the objects that are left the set has the losers of all
 abbrev pub invariant-loop-x : goal.invariant-loop-x
-invariant-loop-x l = (act : Uid) → (is_on l.losers.keys act || any_of (λ (o : Named). list_any (loses l.action act) o.rows) l.objects.entries l.x-iterator) ≡ any_of (λ (o : Named). list_any (loses l.action act) o.rows) l.objects.entries l.xs.keys
+invariant-loop-x l =
+    (act : Uid) →
+    (is_on l.losers.keys act || any_of (λ (o : Named). list_any (loses l.action act) o.rows) l.objects.entries l.x-iterator) ≡ any_of (λ (o : Named). list_any (loses l.action act) o.rows) l.objects.entries l.xs.keys

@@ -15,5 +15,6 @@ pub returns-in-Some : goal.returns-in-Some
 returns-in-Some c =
     let rows = c.in-Some.object.now.rows in
     let action = c.args.action in
-    IfOk-weaker c.holders_below.result (AreBelow action rows) (λ us. (act : Uid) → is_on us act ≡ test_at (λ (o : Named). list_any (loses action act) o.rows) (at_number c.args.x c.args.objects.now.entries))
+    IfOk-weaker c.holders_below.result (AreBelow action rows) (λ us. (act : Uid) →
+    is_on us act ≡ test_at (λ (o : Named). list_any (loses action act) o.rows) (at_number c.args.x c.args.objects.now.entries))
     (λ us are act. on_listed (below action rows) us act are ∙ (on_below action act rows ∙ (λ i. test_at (λ (o : Named). list_any (loses action act) o.rows) (c.in-Some.ensures.value i)))) c.holders_below.ensures

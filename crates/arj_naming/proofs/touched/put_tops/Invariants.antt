@@ -8,4 +8,5 @@ use Rattle.arj_naming.proofs.touched.put_tops.Given as goal
 
 -- with the objects that are left the set has the tops of all, and those before
 abbrev pub invariant-loop-x : goal.invariant-loop-x
-invariant-loop-x l = (u : Uid) → (is_on l.tops.keys u || any_of (λ (o : Named). is_on (map row_top o.rows) u) l.objects.entries l.x-iterator) ≡ (is_on l.fn.tops.keys u || any_of (λ (o : Named). is_on (map row_top o.rows) u) l.objects.entries l.xs.keys)
+invariant-loop-x l =
+    (u : Uid) → (is_on l.tops.keys u || any_of (λ (o : Named). is_on (map row_top o.rows) u) l.objects.entries l.x-iterator) ≡ (is_on l.fn.tops.keys u || any_of (λ (o : Named). is_on (map row_top o.rows) u) l.objects.entries l.xs.keys)

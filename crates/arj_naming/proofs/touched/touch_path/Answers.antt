@@ -12,7 +12,8 @@ returns-clause-here c =
     let acts = c.touch_all.new.touched.entries in
     let path = c.as_slice.ensures ∙ c.top_path-top.ensures.uids in
     on_ok_weaker c.touch_all.result
-    (λ (here : (u : Uid) → is_on c.as_slice.result.now u ≡ true → is_touched acts u c.args.x ≡ true). λ u. off_or_touched u c.args.path.now acts c.args.x
+    (λ (here : (u : Uid) → is_on c.as_slice.result.now u ≡ true →
+    is_touched acts u c.args.x ≡ true). λ u. off_or_touched u c.args.path.now acts c.args.x
     (c.touch_all.ensures.kept (top_of c.args.path.now) c.args.x (subst (λ w. is_touched c.touch.new.touched.entries w c.args.x ≡ true) (c.last.ensures ∙ ap last_uid c.top_path-top.ensures.uids) c.in_ok-touch.ensures.here))
     (λ w on. here w (ap (λ us. is_on us w) path ∙ on))) c.touch_all.ensures.here
 

@@ -17,7 +17,8 @@ take-requires-clause-spelled g c = in_form_sends c.in-Ok.m c.in-Ok.ensures.found
 
 pub returns-in-Ok-clause-done : goal.returns-in-Ok-clause-done
 returns-in-Ok-clause-done g c =
-    let is : message_of c.args.bytes.now ≡ Some c.in-Ok.m = ap message_of (sym c.in-Ok.ensures.found.1) ∙ message_back c.in-Ok.m c.in-Ok.ensures.found.0 in
+    let is : message_of c.args.bytes.now ≡ Some c.in-Ok.m =
+    ap message_of (sym c.in-Ok.ensures.found.1) ∙ message_back c.in-Ok.m c.in-Ok.ensures.found.0 in
     on_ok_weaker c.take.result
     (λ (done : (header : Header) (h : Here) → g.P.Parts.stands header c.args.number c.args.parts.now (g.D.Disk.file c.args.disk.now) h
     → Steps c.args.number (g.P.Parts.stands header c.args.number c.take.new.parts (g.D.Disk.file c.take.new.disk)) (frame_step c.args.frame c.args.from (up_node c.args.number h) h.parts (Some c.in-Ok.m)) c.args.out.now c.take.new.out).
@@ -25,7 +26,8 @@ returns-in-Ok-clause-done g c =
 
 pub returns-in-Ok-clause-halted : goal.returns-in-Ok-clause-halted
 returns-in-Ok-clause-halted g c = λ halted header h stands.
-    let is : message_of c.args.bytes.now ≡ Some c.in-Ok.m = ap message_of (sym c.in-Ok.ensures.found.1) ∙ message_back c.in-Ok.m c.in-Ok.ensures.found.0 in
+    let is : message_of c.args.bytes.now ≡ Some c.in-Ok.m =
+    ap message_of (sym c.in-Ok.ensures.found.1) ∙ message_back c.in-Ok.m c.in-Ok.ensures.found.0 in
     subst (λ o. IsCut (g.P.Parts.rests header c.args.number (g.D.Disk.file c.take.new.disk)) (frame_step c.args.frame c.args.from (up_node c.args.number h) h.parts o).halting h.disk c.args.out.now c.take.new.out) (sym is) (c.take.ensures.halted halted header h stands)
 
 pub returns-in_ok-push-in-Err-At-clause-done : goal.returns-in_ok-push-in-Err-At-clause-done

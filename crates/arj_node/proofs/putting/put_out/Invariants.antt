@@ -11,7 +11,8 @@ use Rattle.arj_node.proofs.putting.put_out.Given as goal
 -- what is left put out behind what is there is all of it put out
 abbrev pub invariant-loop-one : goal.invariant-loop-one
 invariant-loop-one l = record {
-  puts : (after : List Output) → PutsOut (outward l.number (effects_of (map outgoing_of (into_iter_items l.one-iterator)))) l.out after → PutsOut (outward l.number (effects_of l.fn.outs)) l.fn.out after;
+  puts : (after : List Output) → PutsOut (outward l.number (effects_of (map outgoing_of (into_iter_items l.one-iterator)))) l.out after →
+      PutsOut (outward l.number (effects_of l.fn.outs)) l.fn.out after;
   queue : l.queue.items ++ inward l.number (effects_of (map outgoing_of (into_iter_items l.one-iterator))) ≡ l.fn.queue.items ++ inward l.number (effects_of l.fn.outs);
   left : AreSpelled (map outgoing_of (into_iter_items l.one-iterator));
   spelled : AllByRecursion IsSendable l.fn.queue.items → AllByRecursion IsSendable l.queue.items;

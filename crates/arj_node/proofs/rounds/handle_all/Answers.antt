@@ -41,7 +41,8 @@ pub returns-in_err-handle_one-clause-halted : goal.returns-in_err-handle_one-cla
 returns-in_err-handle_one-clause-halted g c = λ halted header h stands.
     let step : (into_iter_items c.loop-m.m-iterator ≡ c.in-Some.m ∷ into_iter_items c.next.new.self) × (into_iter_len c.next.new.self + 1 ≡ into_iter_len c.loop-m.m-iterator) =
     subst (λ r. into_iter_steps c.loop-m.m-iterator r c.next.new.self) c.in-Some.is c.next.ensures.steps in
-    let fault : c.in_err-handle_one.field-0.0 ≡ Halted = same_fault c.from_residual.result c.in_err-handle_one.field-0.0 Halted c.from_residual.ensures.1 halted in
+    let fault : c.in_err-handle_one.field-0.0 ≡ Halted =
+    same_fault c.from_residual.result c.in_err-handle_one.field-0.0 Halted c.from_residual.ensures.1 halted in
     midway_cut c.args.number (g.P.Parts.stands header c.args.number c.loop-m.parts (g.D.Disk.file c.loop-m.disk)) (g.P.Parts.rests header c.args.number (g.D.Disk.file c.handle_one.new.disk))
     (handle_all c.args.number c.args.messages.items h) h.disk c.in-Some.m (into_iter_items c.next.new.self) c.args.out.now c.loop-m.out c.handle_one.new.out c.args.queue.now.items c.loop-m.queue.items
     (subst (λ ms. Midway c.args.number (g.P.Parts.stands header c.args.number c.loop-m.parts (g.D.Disk.file c.loop-m.disk)) (handle_all c.args.number c.args.messages.items h) h.disk ms (flow c.args.out.now c.loop-m.out c.args.queue.now.items c.loop-m.queue.items))

@@ -5,7 +5,8 @@ use Rattle.arj_msg.specs.Sendable.{IsSendable}
 use Rattle.arj_node.specs.Outgoing.{effects_of}
 use Rattle.arj_node.specs.Ran.{inward}
 use Rattle.arj_protocol.specs.Node.{handle_all, whole}
-use Rattle.arj_node.proofs.Handled.{Stage, flow, goes_so, is_nil, isnt_nil, same_fault, stage_end, stage_first, stage_halt, stage_over, stage_turn}
+use Rattle.arj_node.proofs.Handled.{Stage, flow, goes_so, is_nil, isnt_nil, same_fault, stage_end, stage_first, stage_halt, stage_over}
+use Rattle.arj_node.proofs.Handled.{stage_turn}
 use Rattle.arj_node.proofs.rounds.settle.Goals as goal
 
 pub rounds-init : goal.rounds-init
@@ -24,13 +25,15 @@ rounds-init g c = record {
 }
 
 pub returns-then-is_empty-clause-done : goal.returns-then-is_empty-clause-done
-returns-then-is_empty-clause-done g c = λ header t es d stands are. stage_over c.args.number (g.P.Parts.stands header c.args.number c.rounds.parts (g.D.Disk.file c.rounds.disk)) (24 - c.rounds.counter) (whole c.args.number t es d) d c.args.out.now c.rounds.out c.rounds.queue.items
+returns-then-is_empty-clause-done g c =
+    λ header t es d stands are. stage_over c.args.number (g.P.Parts.stands header c.args.number c.rounds.parts (g.D.Disk.file c.rounds.disk)) (24 - c.rounds.counter) (whole c.args.number t es d) d c.args.out.now c.rounds.out c.rounds.queue.items
     (c.rounds.invariant.all header t es d stands are (24 - c.rounds.counter) (omega (arith, c.rounds-test.true)))
     (is_nil c.rounds.queue.items c.rounds.queue.len c.rounds.queue.ok.0 c.if-is_empty.ensures)
 
 pub returns-in_err-round-clause-halted : goal.returns-in_err-round-clause-halted
 returns-in_err-round-clause-halted g c = λ halted header t es d stands are.
-    let fault : c.in_err-round.field-0.0 ≡ Halted = same_fault c.from_residual-in_err-round.result c.in_err-round.field-0.0 Halted c.from_residual-in_err-round.ensures.1 halted in
+    let fault : c.in_err-round.field-0.0 ≡ Halted =
+    same_fault c.from_residual-in_err-round.result c.in_err-round.field-0.0 Halted c.from_residual-in_err-round.ensures.1 halted in
     stage_halt c.args.number (g.P.Parts.stands header c.args.number c.rounds.parts (g.D.Disk.file c.rounds.disk)) (g.P.Parts.rests header c.args.number (g.D.Disk.file c.round.new.disk)) (23 - c.rounds.counter) (whole c.args.number t es d) d c.args.out.now c.rounds.out c.round.new.out c.rounds.queue.items
     (isnt_nil c.rounds.queue.items c.rounds.queue.len c.rounds.queue.ok.0 c.if-is_empty.ensures)
     (c.rounds.invariant.all header t es d stands are (suc (23 - c.rounds.counter)) (omega (arith, c.rounds-test.true)))
@@ -52,5 +55,6 @@ rounds-preserved g c =
     }
 
 pub returns-clause-done : goal.returns-clause-done
-returns-clause-done g c = λ header t es d stands are. stage_end c.args.number (g.P.Parts.stands header c.args.number c.rounds.parts (g.D.Disk.file c.rounds.disk)) (whole c.args.number t es d) d c.args.out.now c.rounds.out c.rounds.queue.items
+returns-clause-done g c =
+    λ header t es d stands are. stage_end c.args.number (g.P.Parts.stands header c.args.number c.rounds.parts (g.D.Disk.file c.rounds.disk)) (whole c.args.number t es d) d c.args.out.now c.rounds.out c.rounds.queue.items
     (c.rounds.invariant.all header t es d stands are 0 (omega (arith, c.rounds-test.false, c.rounds.auto.counter-end)))

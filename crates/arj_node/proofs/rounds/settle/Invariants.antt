@@ -13,8 +13,11 @@ use Rattle.arj_node.proofs.rounds.settle.Given as goal
 abbrev pub invariant-rounds : goal.invariant-rounds
 invariant-rounds g l = record {
   there : (header : Header) × (h : Here) × g.P.Parts.stands header l.number l.parts (g.D.Disk.file l.disk) h;
-  all : (header : Header) (t : Parts) (es : List Effect) (d : Disk) → g.P.Parts.stands header l.number l.fn.parts (g.D.Disk.file l.fn.disk) (record { disk = disk_after es d; parts = t }) → effects_of l.fn.outs ≡ loud es
-      → (k : ℕ) → k + l.counter ≡ 24 → Stage l.number k (g.P.Parts.stands header l.number l.parts (g.D.Disk.file l.disk)) (whole l.number t es d) d (flow l.fn.out l.out [] l.queue.items);
+  all : (header : Header) (t : Parts) (es : List Effect) (d : Disk) →
+      g.P.Parts.stands header l.number l.fn.parts (g.D.Disk.file l.fn.disk) (record { disk = disk_after es d; parts = t }) →
+      effects_of l.fn.outs ≡ loud es
+      → (k : ℕ) → k + l.counter ≡ 24 →
+      Stage l.number k (g.P.Parts.stands header l.number l.parts (g.D.Disk.file l.disk)) (whole l.number t es d) d (flow l.fn.out l.out [] l.queue.items);
   spelled : AllByRecursion IsSendable l.queue.items;
   stops : g.D.Disk.stops l.disk ≡ g.D.Disk.stops l.fn.disk;
   arms : g.D.Disk.arms l.disk ≡ g.D.Disk.arms l.fn.disk;

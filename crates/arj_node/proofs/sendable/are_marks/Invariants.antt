@@ -5,4 +5,5 @@ use Rattle.arj_node.proofs.sendable.are_marks.Given as goal
 
 -- if those that are left are marks, all are
 abbrev pub invariant-loop-mark : goal.invariant-loop-mark
-invariant-loop-mark l = AllByRecursion (λ k. IsObject k.0 × IsNode k.1) (drop l.mark-index l.marks) → AllByRecursion (λ k. IsObject k.0 × IsNode k.1) l.marks
+invariant-loop-mark l =
+    AllByRecursion (λ k. IsObject k.0 × IsNode k.1) (drop l.mark-index l.marks) → AllByRecursion (λ k. IsObject k.0 × IsNode k.1) l.marks

@@ -18,11 +18,14 @@ no_states = record { distinct = none; own = tt }
 
 -- what changes entries leaves the files of objects
 store_stays : (old new : FileMap) → OnlyOfRole role.Names old new → SameOfRole role.Store old new
-store_stays old new others q is = others q (λ e. let never : Some role.Store ≡ Some role.Names = sym is ∙ e in cc) (λ (e : q ≡ slot.Tmp). let never : None ≡ Some role.Store = sym (ap slot_role e) ∙ is in cc)
+store_stays old new others q is =
+    others q (λ e. let never : Some role.Store ≡ Some role.Names =
+    sym is ∙ e in cc) (λ (e : q ≡ slot.Tmp). let never : None ≡ Some role.Store = sym (ap slot_role e) ∙ is in cc)
 
 pub format-requires-2-clause-states : goal.format-requires-2-clause-states
 format-requires-2-clause-states g c = subst (AreDistinct role.Names) (sym c.new.ensures) no_states
 
 pub format_inc-requires-clause-store : goal.format_inc-requires-clause-store
-format_inc-requires-clause-store g c = (g.met.O.ObjectStore.stays role.Store (g.D.Disk.file c.format.new.disk) (g.D.Disk.file c.format-3.new.disk)
+format_inc-requires-clause-store g c =
+    (g.met.O.ObjectStore.stays role.Store (g.D.Disk.file c.format.new.disk) (g.D.Disk.file c.format-3.new.disk)
     (store_stays (g.D.Disk.file c.format.new.disk) (g.D.Disk.file c.format-3.new.disk) c.in_ok-_entries.ensures.others) c.in_ok-_objects.ensures.formed).0

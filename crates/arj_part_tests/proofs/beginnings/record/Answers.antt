@@ -5,8 +5,10 @@ use Rattle.arj_base.specs.declared.uid.Uid.{Uid}
 use Rattle.arj_intent.specs.Records.{IsInForm}
 use Rattle.arj_part_tests.proofs.beginnings.record.Goals as goal
 
-made : (root top : Uid) (nodes wanted : List ℕ) → nodes ≡ wanted → IsStrictlySortedBy nat_cmp wanted → length wanted < 256 → IsInForm (record { root = root; top = top; nodes = nodes })
-made root top nodes wanted is rises few = subst (λ ns. IsInForm (record { root = root; top = top; nodes = ns })) (sym is) (record { increasing = rises; few = few })
+made : (root top : Uid) (nodes wanted : List ℕ) → nodes ≡ wanted → IsStrictlySortedBy nat_cmp wanted → length wanted < 256 →
+    IsInForm (record { root = root; top = top; nodes = nodes })
+made root top nodes wanted is rises few =
+    subst (λ ns. IsInForm (record { root = root; top = top; nodes = ns })) (sym is) (record { increasing = rises; few = few })
 
 one : IsStrictlySortedBy nat_cmp (1 ∷ [])
 unfolding IsStrictlySortedBy

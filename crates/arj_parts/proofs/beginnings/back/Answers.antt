@@ -9,7 +9,8 @@ use Rattle.arj_serve.specs.Kept as serve
 use Rattle.arj_parts.proofs.beginnings.back.Goals as goal
 
 pub returns-in_err-inc-clause-stopped : goal.returns-in_err-inc-clause-stopped
-returns-in_err-inc-clause-stopped g c = λ stop d rests. stops_begin g.O.ObjectStore c.args.number (g.D.Disk.file c.args.disk.now) (g.D.Disk.file c.restart.new.disk) d rests c.restart.ensures.formed c.args.lines.now c.restart.new.out
+returns-in_err-inc-clause-stopped g c =
+    λ stop d rests. stops_begin g.O.ObjectStore c.args.number (g.D.Disk.file c.args.disk.now) (g.D.Disk.file c.restart.new.disk) d rests c.restart.ensures.formed c.args.lines.now c.restart.new.out
     (c.in_err-inc.ensures.stopped (stopped_too c.from_residual.result c.in_err-inc.field-0.0 c.from_residual.ensures.1 stop))
 
 pub naming_found-requires-clause-entries : goal.naming_found-requires-clause-entries
@@ -20,7 +21,8 @@ naming_found-requires-clause-entries g c =
     gives_one o c.args.number one (raised d) (rests_one o c.args.number (g.D.Disk.file c.args.disk.now) one d c.requires.rests.1 c.restart.ensures.formed c.in_ok-inc.ensures.work c.in_ok-inc.field-0.inc c.in_ok-inc.ensures.inc)
 
 pub returns-in_err-naming-clause-stopped : goal.returns-in_err-naming-clause-stopped
-returns-in_err-naming-clause-stopped g c = λ stop d rests. stops_named g.O.ObjectStore c.args.number (g.D.Disk.file c.args.disk.now) (g.D.Disk.file c.restart.new.disk) d rests c.restart.ensures.formed c.in_ok-inc.ensures.work c.in_ok-inc.field-0.inc c.in_ok-inc.ensures.inc g.met.O.ObjectStore.stays
+returns-in_err-naming-clause-stopped g c =
+    λ stop d rests. stops_named g.O.ObjectStore c.args.number (g.D.Disk.file c.args.disk.now) (g.D.Disk.file c.restart.new.disk) d rests c.restart.ensures.formed c.in_ok-inc.ensures.work c.in_ok-inc.field-0.inc c.in_ok-inc.ensures.inc g.met.O.ObjectStore.stays
     (g.D.Disk.file c.naming_found.new.disk) c.naming_found.ensures.others c.naming_found.ensures.pair c.naming_found.ensures.formed c.args.lines.now c.restart.new.out c.naming_found.new.lines c.in_ok-inc.ensures.lines
     (c.in_err-naming.ensures.stopped (stopped_too c.from_residual-in_err-naming.result c.in_err-naming.field-0.0 c.from_residual-in_err-naming.ensures.1 stop))
 
@@ -30,7 +32,11 @@ returns-in_err-coord-clause-stopped g c = λ stop d rests.
     let old = g.D.Disk.file c.args.disk.now in
     let one = g.D.Disk.file c.restart.new.disk in
     let at_one = rests_one o c.args.number old one d rests c.restart.ensures.formed c.in_ok-inc.ensures.work c.in_ok-inc.field-0.inc c.in_ok-inc.ensures.inc in
-    subst (λ f. StopsBack o c.args.number f d (record { before = c.args.lines.now; after = c.coord_found.new.lines })) (sym c.coord_found.ensures.files)
+    subst (λ f. StopsBack o c.args.number f d (record {
+      before = c.args.lines.now;
+      after =
+          c.coord_found.new.lines;
+    })) (sym c.coord_found.ensures.files)
     (stops_records o c.args.number old one d rests c.restart.ensures.formed c.in_ok-inc.ensures.work c.in_ok-inc.field-0.inc c.in_ok-inc.ensures.inc g.met.O.ObjectStore.stays (g.D.Disk.file c.naming_found.new.disk) c.naming_found.ensures.others c.naming_found.ensures.pair c.naming_found.ensures.formed
     c.args.lines.now c.restart.new.out c.naming_found.new.lines c.coord_found.new.lines c.in_ok-inc.ensures.lines (c.in_ok-naming.ensures.lines d.names at_one.disk.names)
     (c.in_err-coord.ensures.stopped (stopped_too c.from_residual-in_err-coord.result c.in_err-coord.field-0.0 c.from_residual-in_err-coord.ensures.1 stop)))
@@ -47,10 +53,27 @@ returns-clause-done g c = λ d rests.
     let at_two = rests_two o n old one d rests c.restart.ensures.formed c.in_ok-inc.ensures.work k c.in_ok-inc.ensures.inc g.met.O.ObjectStore.stays two c.naming_found.ensures.others c.naming_found.ensures.pair c.naming_found.ensures.formed in
     let found = c.in_ok-coord.ensures.found d.intents at_two.disk.intents in
     let has = c.in_ok-naming.ensures.has d.names at_one.disk.names at_one.names in
-    let services : serve.Kept g.row.O.Denot = record { number = n; server = new_server k; naming = c.in_ok-naming.naming; store = c.in_ok-inc.field-0.store } in
-    let services_are : services ≡ c.new-services.result = (λ i. record { number = n; server = sym c.new.ensures i; naming = c.in_ok-naming.naming; store = c.in_ok-inc.field-0.store }) ∙ sym c.new-services.ensures in
-    subst (λ f. StandsOn o n (record { services = c.new-services.result; coord = c.in_ok-coord.coord; records = c.in_ok-coord.records }) f (record { disk = raised d; parts = parts_again n d })) (sym c.coord_found.ensures.files)
-    (subst (λ s. StandsOn o n (record { services = s; coord = c.in_ok-coord.coord; records = c.in_ok-coord.records }) two (record { disk = raised d; parts = parts_again n d })) services_are
+    let services : serve.Kept g.row.O.Denot =
+    record { number = n; server = new_server k; naming = c.in_ok-naming.naming; store = c.in_ok-inc.field-0.store } in
+    let services_are : services ≡ c.new-services.result =
+    (λ i. record {
+      number = n;
+      server = sym c.new.ensures i;
+      naming = c.in_ok-naming.naming;
+      store =
+          c.in_ok-inc.field-0.store;
+    }) ∙ sym c.new-services.ensures in
+    subst (λ f. StandsOn o n (record {
+      services = c.new-services.result;
+      coord = c.in_ok-coord.coord;
+      records =
+          c.in_ok-coord.records;
+    }) f (record { disk = raised d; parts = parts_again n d })) (sym c.coord_found.ensures.files)
+    (subst (λ s. StandsOn o n (record { services = s; coord = c.in_ok-coord.coord; records = c.in_ok-coord.records }) two (record {
+      disk =
+          raised d;
+      parts = parts_again n d;
+    })) services_are
     (back_stands o n old one d rests c.restart.ensures.formed c.in_ok-inc.ensures.work k c.in_ok-inc.ensures.inc g.met.O.ObjectStore.stays two c.naming_found.ensures.others c.naming_found.ensures.pair c.naming_found.ensures.formed g.met.O.ObjectStore.keeps_on c.in_ok-inc.field-0.store
     c.in_ok-inc.ensures.role c.in_ok-inc.ensures.keeps c.in_ok-naming.naming has c.in_ok-coord.coord c.in_ok-coord.records found.0 found.1))
 

@@ -9,7 +9,10 @@ use Rattle.arj_parts.proofs.beginnings.coord_found.Goals as goal
 pub returns-clause-found : goal.returns-clause-found
 returns-clause-found g c = λ all are.
     let is = the_records (g.D.Disk.file c.args.disk.now) (map entry_of c.in_ok-found.found) all c.in_ok-found.ensures.only are in (
-      c.in_ok-coord.ensures ∙ ap (λ es. record (new_coord c.args.number c.args.inc) { telling = es }) (ap (map entry_of) c.as_slice.ensures ∙ sym is),
+      c.in_ok-coord.ensures ∙ ap (λ es. record (new_coord c.args.number c.args.inc) {
+        telling =
+            es;
+      }) (ap (map entry_of) c.as_slice.ensures ∙ sym is),
       c.in_ok-records.ensures ∙ (ap (map entry_of) c.as_slice-2.ensures ∙ sym is),
     )
 

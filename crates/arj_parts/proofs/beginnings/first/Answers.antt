@@ -19,8 +19,16 @@ returns-clause-stands g c =
     let n = c.args.number in
     let hd = c.args.header.now in
     let three = g.D.Disk.file c.format_inc.new.disk in
-    let services : serve.Kept g.row.O.Denot = record { number = n; server = new_server 1; naming = c.in_ok-naming.naming; store = c.in_ok-store.store } in
-    let services_are : services ≡ c.new-2.result = (λ i. record { number = n; server = sym c.new.ensures i; naming = c.in_ok-naming.naming; store = c.in_ok-store.store }) ∙ sym c.new-2.ensures in
+    let services : serve.Kept g.row.O.Denot =
+    record { number = n; server = new_server 1; naming = c.in_ok-naming.naming; store = c.in_ok-store.store } in
+    let services_are : services ≡ c.new-2.result =
+    (λ i. record {
+      number = n;
+      server = sym c.new.ensures i;
+      naming = c.in_ok-naming.naming;
+      store =
+          c.in_ok-store.store;
+    }) ∙ sym c.new-2.ensures in
     let are : first_parts g.O.ObjectStore g.met.O.ObjectStore.keeps_on g.met.O.ObjectStore.stays (g.D.Disk.file c.args.disk.now) (g.D.Disk.file c.format.new.disk) (g.D.Disk.file c.first_naming.new.disk) three n hd c.requires.empty c.in_ok-store.ensures.others c.in_ok-naming.ensures.others
     c.in_ok-store.ensures.formed c.in_ok-store.ensures.pair c.in_ok-store.store c.in_ok-store.ensures.role c.in_ok-store.ensures.keeps c.in_ok-naming.naming ≡ record { services = c.new-2.result; coord = c.new-3.result; records = c.new-4.result } =
     (λ i. record { services = services_are i; coord = sym c.new-3.ensures i; records = sym c.new-4.ensures i }) in

@@ -35,7 +35,8 @@ pub returns-in_err-perform_one-clause-halted : goal.returns-in_err-perform_one-c
 returns-in_err-perform_one-clause-halted g c = λ halted.
     let step : (into_iter_items c.loop-effect.effect-iterator ≡ c.in-Some.effect ∷ into_iter_items c.next.new.self) × (into_iter_len c.next.new.self + 1 ≡ into_iter_len c.loop-effect.effect-iterator) =
     subst (λ r. into_iter_steps c.loop-effect.effect-iterator r c.next.new.self) c.in-Some.is c.next.ensures.steps in
-    let fault : c.in_err-perform_one.field-0.0 ≡ Halted = same_fault c.from_residual.result c.in_err-perform_one.field-0.0 Halted c.from_residual.ensures.1 halted in
+    let fault : c.in_err-perform_one.field-0.0 ≡ Halted =
+    same_fault c.from_residual.result c.in_err-perform_one.field-0.0 Halted c.from_residual.ensures.1 halted in
     c.loop-effect.invariant.halted (g.D.Disk.file c.perform_one.new.disk) c.perform_one.new.outs
     (subst (λ es. CutsRecords es (g.D.Disk.file c.loop-effect.disk) (g.D.Disk.file c.perform_one.new.disk) c.loop-effect.outs c.perform_one.new.outs) (sym (ap (map effect_of) step.0))
     (cut_before (effect_of c.in-Some.effect ∷ []) (map effect_of (into_iter_items c.next.new.self)) (g.D.Disk.file c.loop-effect.disk) (g.D.Disk.file c.perform_one.new.disk) c.loop-effect.outs c.perform_one.new.outs
@@ -43,7 +44,8 @@ returns-in_err-perform_one-clause-halted g c = λ halted.
 
 pub returns-clause-done : goal.returns-clause-done
 returns-clause-done g c =
-    let none : into_iter_items c.loop-effect.effect-iterator ≡ [] = nil_from_length (into_iter_items c.loop-effect.effect-iterator) (sym c.loop-effect.effect-iterator.rest.ok.0 ∙ c.in-None.ensures.steps.0) in
+    let none : into_iter_items c.loop-effect.effect-iterator ≡ [] =
+    nil_from_length (into_iter_items c.loop-effect.effect-iterator) (sym c.loop-effect.effect-iterator.rest.ok.0 ∙ c.in-None.ensures.steps.0) in
     c.loop-effect.invariant.done (g.D.Disk.file c.loop-effect.disk) c.loop-effect.records c.loop-effect.outs
     (subst (λ es. DoesRecords (map effect_of es) (g.D.Disk.file c.loop-effect.disk) (g.D.Disk.file c.loop-effect.disk) c.loop-effect.records c.loop-effect.records c.loop-effect.outs c.loop-effect.outs) (sym none)
     (nothing_does (g.D.Disk.file c.loop-effect.disk) c.loop-effect.records c.loop-effect.outs))

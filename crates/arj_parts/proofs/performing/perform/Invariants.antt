@@ -13,9 +13,11 @@ use Rattle.arj_parts.proofs.performing.perform.Given as goal
 -- What is left, done or cut behind what was done, is all of it done or cut; nothing was stopped so far.
 abbrev pub invariant-loop-effect : goal.invariant-loop-effect
 invariant-loop-effect g l = record {
-  done : (new : FileMap) (now : List (Uid × Intent)) (after : List Outgoing) → DoesRecords (map effect_of (into_iter_items l.effect-iterator)) (g.D.Disk.file l.disk) new l.records now l.outs after
+  done : (new : FileMap) (now : List (Uid × Intent)) (after : List Outgoing) →
+      DoesRecords (map effect_of (into_iter_items l.effect-iterator)) (g.D.Disk.file l.disk) new l.records now l.outs after
       → DoesRecords l.fn.effects (g.D.Disk.file l.fn.disk) new l.fn.records now l.fn.outs after;
-  halted : (new : FileMap) (after : List Outgoing) → CutsRecords (map effect_of (into_iter_items l.effect-iterator)) (g.D.Disk.file l.disk) new l.outs after
+  halted : (new : FileMap) (after : List Outgoing) →
+      CutsRecords (map effect_of (into_iter_items l.effect-iterator)) (g.D.Disk.file l.disk) new l.outs after
       → CutsRecords l.fn.effects (g.D.Disk.file l.fn.disk) new l.fn.outs after;
   can : AllByRecursion CanBeDone (into_iter_items l.effect-iterator);
   form : AreInForm (g.D.Disk.file l.disk);

@@ -6,4 +6,5 @@ use Rattle.arj_parts.proofs.said.say_lines.Given as goal
 
 -- what is left handed back behind what is there is all of it handed back
 abbrev pub invariant-loop-line : goal.invariant-loop-line
-invariant-loop-line l = record { all : effects_of l.outs ++ says_of (into_iter_items l.line-iterator) ≡ effects_of l.fn.outs ++ says_of l.fn.lines }
+invariant-loop-line l =
+    record { all : effects_of l.outs ++ says_of (into_iter_items l.line-iterator) ≡ effects_of l.fn.outs ++ says_of l.fn.lines }

@@ -6,4 +6,5 @@ use Rattle.arj_parts.proofs.said.tell.Given as goal
 
 -- what is left handed back behind what is there is all of it handed back
 abbrev pub invariant-loop-effect : goal.invariant-loop-effect
-invariant-loop-effect l = record { all : effects_of l.outs ++ loud (map effect_of (into_iter_items l.effect-iterator)) ≡ effects_of l.fn.outs ++ loud l.fn.effects }
+invariant-loop-effect l =
+    record { all : effects_of l.outs ++ loud (map effect_of (into_iter_items l.effect-iterator)) ≡ effects_of l.fn.outs ++ loud l.fn.effects }

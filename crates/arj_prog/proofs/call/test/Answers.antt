@@ -23,7 +23,8 @@ returns-in-Some-3 c =
     let x = c.in-Some-2.x in
     let asked = c.in-Some-2.op in
     let as_bytes = c.answers_bytes.ensures ∙ ap (λ k. answers_bytes k asked) c.class_at.ensures in
-    let answered = subst (λ b. IsRead (AnswerInForm b) answer_text c.in-Some-after.word.now (Some c.in-Some-3.answer)) as_bytes (rw c.in-Some-3.is at c.in_ok-answer.ensures) in
+    let answered =
+    subst (λ b. IsRead (AnswerInForm b) answer_text c.in-Some-after.word.now (Some c.in-Some-3.answer)) as_bytes (rw c.in-Some-3.is at c.in_ok-answer.ensures) in
     test_read c.args.objects.now c.args.bytes.now c.in-Some.front.now c.in-Some.back.now c.in-Some-before.words.now c.in-Some-after.word.now (x, asked) c.in-Some-3.answer
     c.in-Some.ensures.1 c.in-Some-before.ensures c.in-Some-after.ensures.cases (rw c.in-Some-2.is at c.in_ok-x.ensures) answered
 

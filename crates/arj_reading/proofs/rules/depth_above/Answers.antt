@@ -1,4 +1,5 @@
-use Rattle.std.proofs.Common.{rules, ◌≡◌, List, Option, Some, None, length, ℕ, ◌+◌, ◌-◌, ◌*◌, ◌<◌, ◌≤◌, ◌/◌, ◌%◌, Bool, true, false, nat_eq, nat_lt, [], ◌∷◌, ◌++◌, slice_index_or, slice_set, bit_and, bit_or, Fits, w8, w32, w64, Bor, MutBor}
+use Rattle.std.proofs.Common.{rules, ◌≡◌, List, Option, Some, None, length, ℕ, ◌+◌, ◌-◌, ◌*◌, ◌<◌, ◌≤◌, ◌/◌, ◌%◌, Bool, true, false, nat_eq}
+use Rattle.std.proofs.Common.{nat_lt, [], ◌∷◌, ◌++◌, slice_index_or, slice_set, bit_and, bit_or, Fits, w8, w32, w64, Bor, MutBor}
 use Rattle.std.specs.Option.{option_copied, option_map}
 use Rattle.arj_journal.specs.declared.body.Line.{Line as line_type}
 use Rattle.arj_text.specs.Label.{name}
@@ -30,15 +31,18 @@ use Rattle.arj_reading.specs.Reading.{action_of}
 use Rattle.arj_reading.proofs.Numbers.{are_numbered, found_above, none_above}
 
 pub returns-in-None : goal.returns-in-None
-returns-in-None c = λ lines has. ap (λ p. capped (length p)) (sym (none_above (acts lines) c.args.kind (option_map name c.args.parent.now) (sym (c.above.ensures lines has) ∙ c.in-None.is)))
+returns-in-None c =
+    λ lines has. ap (λ p. capped (length p)) (sym (none_above (acts lines) c.args.kind (option_map name c.args.parent.now) (sym (c.above.ensures lines has) ∙ c.in-None.is)))
 
 pub returns-in-None-kept : goal.returns-in-None-kept
 returns-in-None-kept c = λ lines has.
     let f = found_above (acts lines) (are_numbered lines) c.args.kind (option_map name c.args.parent.now) c.in-Some.number c.args.reading.now.list.items c.kept.result has.list c.kept.ensures (sym (c.above.ensures lines has) ∙ c.in-Some.is) in
-    let never : None ≡ Some (action_of f.0 f.1 (upwards (option_map name c.args.parent.now) c.args.kind (path (acts lines)))) = sym c.in-None-kept.is ∙ f.2 in absurd (cc never)
+    let never : None ≡ Some (action_of f.0 f.1 (upwards (option_map name c.args.parent.now) c.args.kind (path (acts lines)))) =
+    sym c.in-None-kept.is ∙ f.2 in absurd (cc never)
 
 pub returns-in-Some-kept : goal.returns-in-Some-kept
 returns-in-Some-kept c = λ lines has.
     let f = found_above (acts lines) (are_numbered lines) c.args.kind (option_map name c.args.parent.now) c.in-Some.number c.args.reading.now.list.items c.kept.result has.list c.kept.ensures (sym (c.above.ensures lines has) ∙ c.in-Some.is) in
     let same : Some c.in-Some-kept.action ≡ Some (action_of f.0 f.1 (upwards (option_map name c.args.parent.now) c.args.kind (path (acts lines)))) = sym c.in-Some-kept.is ∙ f.2 in
-    let one : c.in-Some-kept.action ≡ action_of f.0 f.1 (upwards (option_map name c.args.parent.now) c.args.kind (path (acts lines))) = cc same in ap (λ a. a.depth) one
+    let one : c.in-Some-kept.action ≡ action_of f.0 f.1 (upwards (option_map name c.args.parent.now) c.args.kind (path (acts lines))) =
+    cc same in ap (λ a. a.depth) one

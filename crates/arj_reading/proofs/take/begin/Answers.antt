@@ -1,4 +1,6 @@
-use Rattle.std.proofs.Common.{rules, ◌≡◌, ◌≢◌, ◌+◌, ℕ, List, [], ◌∷◌, ◌++◌, Option, Some, None, length, OnOk, is_some, if◌then◌else◌, ◌-◌, ◌*◌, ◌<◌, ◌≤◌, ◌/◌, ◌%◌, Bool, true, false, nat_eq, nat_lt, slice_index_or, slice_set, bit_and, bit_or, Fits, w8, w32, w64, Bor, MutBor}
+use Rattle.std.proofs.Common.{rules, ◌≡◌, ◌≢◌, ◌+◌, ℕ, List, [], ◌∷◌, ◌++◌, Option, Some, None, length, OnOk, is_some, if◌then◌else◌, ◌-◌}
+use Rattle.std.proofs.Common.{◌*◌, ◌<◌, ◌≤◌, ◌/◌, ◌%◌, Bool, true, false, nat_eq, nat_lt, slice_index_or, slice_set, bit_and, bit_or, Fits}
+use Rattle.std.proofs.Common.{w8, w32, w64, Bor, MutBor}
 use Rattle.std.specs.BTreeMap.{get}
 use Rattle.std.specs.Option.{option_map}
 use Rattle.std.specs.Ordering.{nat_cmp}
@@ -10,7 +12,8 @@ use Rattle.arj_text.specs.Label.{name, label_cmp}
 use Rattle.arj_model.specs.Actions.{Act, acts, committed_of, ended_of, path_in, recovered_of}
 use Rattle.arj_start.specs.Kinds.{is_serial}
 use Rattle.arj_reading.specs.Readable.{called_of}
-use Rattle.arj_reading.specs.Reading.{HasRead, above_in, action_of, capped, found_with, known_with, labelled_with, listed_with, marked, next_of, noted, said_at}
+use Rattle.arj_reading.specs.Reading.{HasRead, above_in, action_of, capped, found_with, known_with, labelled_with, listed_with, marked}
+use Rattle.arj_reading.specs.Reading.{next_of, noted, said_at}
 use Rattle.arj_reading.proofs.take.begin.Goals as goal
 use Rattle.std.proofs.Common.{◌∙◌, ap, sym, cond}
 use Rattle.std.proofs.lemmas.Map.Text.{is_eq-slice_cmp}

@@ -18,7 +18,8 @@ returns c = λ lines line has at body.
       list = c.in_ok-begin.ensures.list ∙ ap (λ o. listed_with o c.args.reading.now.list.items) (c.next-next.ensures lines has);
       called_at = λ i. ap (λ m. get nat_cmp m i) c.in_ok-begin.ensures.called ∙ c.in_ok-note.ensures i ∙ ap (λ o. noted o c.args.at (get nat_cmp c.args.reading.now.called i) i) (c.called_number-called.ensures lines has);
       ended_at = λ i. ap (λ m. get nat_cmp m i) c.in_ok-begin.ensures.ended ∙ c.in_ok-note-2.ensures i ∙ ap (λ o. noted o c.args.at (get nat_cmp c.args.reading.now.ended i) i) (c.ended_number-ended.ensures lines has);
-      committed_at = λ i. ap (λ m. get nat_cmp m i) c.in_ok-begin.ensures.committed ∙ c.in_ok-note-3.ensures i ∙ ap (λ o. noted o c.args.at (get nat_cmp c.args.reading.now.committed i) i) (c.committed_number-committed.ensures lines has);
+      committed_at =
+          λ i. ap (λ m. get nat_cmp m i) c.in_ok-begin.ensures.committed ∙ c.in_ok-note-3.ensures i ∙ ap (λ o. noted o c.args.at (get nat_cmp c.args.reading.now.committed i) i) (c.committed_number-committed.ensures lines has);
       found = λ u. ap (λ m. is_some (get uid_order m u)) c.in_ok-begin.ensures.found ∙ c.in_ok-note_found.ensures u ∙ ap (λ o. found_with o (is_some (get uid_order c.args.reading.now.found u)) u) (c.found_uid.ensures (acts lines));
       said = ap (λ v. v.items) c.in_ok-begin.ensures.said ∙ c.in_ok-mark.ensures ∙ ap (λ o. marked o c.args.at c.args.reading.now.said.items) (c.said_number-said.ensures lines has);
       calls = ap (λ v. v.items) c.in_ok-begin.ensures.calls ∙ c.in_ok-mark-2.ensures ∙ ap (λ o. marked o c.args.at c.args.reading.now.calls.items) (c.called_number-called.ensures lines has);

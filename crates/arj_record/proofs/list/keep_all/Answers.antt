@@ -11,4 +11,5 @@ loop-record-preserved g c =
     c.keep_one-passed.ensures.passed c.keep_one-passed.ensures.calls told)
 
 pub returns : goal.returns
-returns g c = c.loop-record.invariant c.loop-record.scene (none_left g.S.Scene.step (kept_by c.args.action) c.loop-record.passed c.loop-record.items.items c.loop-record.scene (omega (arith, c.in_default.ensures.cases)))
+returns g c =
+    c.loop-record.invariant c.loop-record.scene (none_left g.S.Scene.step (kept_by c.args.action) c.loop-record.passed c.loop-record.items.items c.loop-record.scene (omega (arith, c.in_default.ensures.cases)))

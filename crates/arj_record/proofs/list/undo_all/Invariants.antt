@@ -7,7 +7,8 @@ use Rattle.arj_record.proofs.list.undo_all.Given as goal
 -- what is left leads to where the whole leads
 abbrev pub invariant-loop-record : goal.invariant-loop-record
 invariant-loop-record g l =
-    (new : g.row.S.Denot) → Told g.S.Scene.step l.scene (calls_from (undone_by l.action) l.released (reverse l.items.items)) new → Told g.S.Scene.step l.fn.scene (calls_from (undone_by l.action) false l.fn.items.items) new
+    (new : g.row.S.Denot) → Told g.S.Scene.step l.scene (calls_from (undone_by l.action) l.released (reverse l.items.items)) new →
+    Told g.S.Scene.step l.fn.scene (calls_from (undone_by l.action) false l.fn.items.items) new
 
 abbrev pub decreases-loop-record : goal.decreases-loop-record
 decreases-loop-record g l = vec_len l.items

@@ -24,13 +24,15 @@ format-requires-clause-count g c = subst (λ (ss : List ObjectState). length ss 
 
 -- where memory is wanting before it begins, nothing is there
 pub returns-in_err-states-clause-fault : goal.returns-in_err-states-clause-fault
-returns-in_err-states-clause-fault g c = on_err c.from_residual.result (0, (g.met.O.ObjectStore.blank role.Store (g.D.Disk.file c.args.disk.now) c.requires.empty).1)
+returns-in_err-states-clause-fault g c =
+    on_err c.from_residual.result (0, (g.met.O.ObjectStore.blank role.Store (g.D.Disk.file c.args.disk.now) c.requires.empty).1)
 
 pub returns-in_err-states-clause-formed : goal.returns-in_err-states-clause-formed
 returns-in_err-states-clause-formed g c = (g.met.O.ObjectStore.blank role.Store (g.D.Disk.file c.args.disk.now) c.requires.empty).0
 
 pub returns-clause-fault : goal.returns-clause-fault
-returns-clause-fault g c = subst (λ ss. OnErr c.format.result (HasFirst (g.O.ObjectStore.pair (g.D.Disk.file c.format.new.disk) role.Store) ss))
+returns-clause-fault g c =
+    subst (λ ss. OnErr c.format.result (HasFirst (g.O.ObjectStore.pair (g.D.Disk.file c.format.new.disk) role.Store) ss))
     (c.in_ok-states.ensures.states ∙ ap (λ (os : List ObjectLine). map first_state (filter (λ (o : ObjectLine). has o.stores c.args.node) os)) c.as_slice.ensures) c.format.ensures.fault
 
 pub returns-clause-pair : goal.returns-clause-pair

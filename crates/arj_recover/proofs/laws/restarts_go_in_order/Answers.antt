@@ -8,7 +8,8 @@ use Rattle.arj_recover.proofs.laws.restarts_go_in_order.Goals as goal
 
 -- six rows, each behind those before it
 six : (a b c t q h : List Effect) → ((((a ++ b) ++ c) ++ t) ++ q) ++ h ≡ a ++ (b ++ (c ++ (t ++ (q ++ h))))
-six a b c t q h = append_assoc (((a ++ b) ++ c) ++ t) q h ∙ (append_assoc ((a ++ b) ++ c) t (q ++ h) ∙ (append_assoc (a ++ b) c (t ++ (q ++ h)) ∙ append_assoc a b (c ++ (t ++ (q ++ h)))))
+six a b c t q h =
+    append_assoc (((a ++ b) ++ c) ++ t) q h ∙ (append_assoc ((a ++ b) ++ c) t (q ++ h) ∙ (append_assoc (a ++ b) c (t ++ (q ++ h)) ∙ append_assoc a b (c ++ (t ++ (q ++ h)))))
 
 pub returns : goal.returns
 returns c = λ hd n inc d. six (begins_again n inc) (naming_back (naming_at n inc d.names)) (Do Look ∷ recovered_records n d.intents) (tolds_again d.intents)

@@ -9,7 +9,8 @@ use Rattle.std.proofs.lemmas.List.{drop_all, length-map}
 use Rattle.arj_replay.proofs.Runs.{at_first, next_place}
 
 pub loop-place-init : goal.loop-place-init
-loop-place-init c = λ calls same all. (values_of_header c.args.header.now, at_first c.args.header.now c.in_ok-values.values (λ x. c.in_ok-values.ensures x ∙ ap (λ os. first_among os x) c.as_slice.ensures), refl)
+loop-place-init c =
+    λ calls same all. (values_of_header c.args.header.now, at_first c.args.header.now c.in_ok-values.values (λ x. c.in_ok-values.ensures x ∙ ap (λ os. first_among os x) c.as_slice.ensures), refl)
 
 pub loop-place-preserved : goal.loop-place-preserved
 loop-place-preserved c = λ calls same all.

@@ -13,6 +13,7 @@ returns-then-has_number-clause-bad c bad o fits free =
 pub returns-clause-in_form : goal.returns-clause-in_form
 returns-clause-in_form c all =
     let read = rw c.in-Some.is at c.in_ok-new.ensures in
-    let absent : has_object c.in-Some.new.x c.args.objects.now.items ≡ false = subst (λ os. has_object c.in-Some.new.x os ≡ false) c.deref.ensures.value (sym c.if-has_number.ensures) in
+    let absent : has_object c.in-Some.new.x c.args.objects.now.items ≡ false =
+    subst (λ os. has_object c.in-Some.new.x os ≡ false) c.deref.ensures.value (sym c.if-has_number.ensures) in
     let is : c.insert.new.self.items ≡ insert_object c.in-Some.new c.args.objects.now.items = search rules in
     subst (ObjectsInForm c.args.nodes) (sym is) (insert_in_form c.args.nodes c.in-Some.new c.args.objects.now.items read.0 absent all)

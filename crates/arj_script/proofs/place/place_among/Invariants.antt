@@ -5,4 +5,5 @@ use Rattle.arj_script.specs.Grammar.{insert_object}
 use Rattle.arj_script.proofs.place.place_among.Given as goal
 
 abbrev pub invariant-loop-at : goal.invariant-loop-at
-invariant-loop-at l = (o : ObjectLine) → o.x ≡ l.x → take l.at l.objects ++ insert_object o (drop l.at l.objects) ≡ insert_object o l.objects
+invariant-loop-at l =
+    (o : ObjectLine) → o.x ≡ l.x → take l.at l.objects ++ insert_object o (drop l.at l.objects) ≡ insert_object o l.objects

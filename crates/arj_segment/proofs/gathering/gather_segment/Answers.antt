@@ -12,8 +12,10 @@ use Rattle.arj_segment.proofs.gathering.gather_segment.Goals as goal
 pub returns-clause-ok : goal.returns-clause-ok
 returns-clause-ok g c =
     let within : c.args.number < numbers = omega arith in
-    let there : g.D.Disk.file c.args.disk.now (Segment c.args.role c.args.number) ≡ Some c.in-Some.bytes = sym c.in_ok-bytes.ensures.bytes ∙ c.in-Some.is in
-    let is : IsSegment c.args.role c.in-Some.bytes = subst (λ o. IfSome o (IsSegment c.args.role)) there (c.requires.segments c.args.number within) in
+    let there : g.D.Disk.file c.args.disk.now (Segment c.args.role c.args.number) ≡ Some c.in-Some.bytes =
+    sym c.in_ok-bytes.ensures.bytes ∙ c.in-Some.is in
+    let is : IsSegment c.args.role c.in-Some.bytes =
+    subst (λ o. IfSome o (IsSegment c.args.role)) there (c.requires.segments c.args.number within) in
     subst (λ o. Gathers o c.args.number (at c.args.gathered.now.places) (at c.args.gathered.now.states) (at c.set_each.new.table) (at c.keep_states.new.table)) (sym there)
     (gathers_file c.args.role c.in-Some.bytes is c.in_ok-states.states (c.in_ok-states.ensures.states ∙ ap states_in c.as_slice.ensures) c.args.number (at c.args.gathered.now.places) (at c.set_each.new.table) (at c.args.gathered.now.states) (at c.keep_states.new.table)
     c.in_ok-states.ensures.in_form

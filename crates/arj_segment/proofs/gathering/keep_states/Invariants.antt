@@ -7,4 +7,5 @@ use Rattle.arj_segment.proofs.gathering.keep_states.Given as goal
 
 -- the states that are left, put over what is kept, give what all give over what was kept
 abbrev pub invariant-loop-state : goal.invariant-loop-state
-invariant-loop-state l = (u : Uid) → kept_state u (into_iter_items l.state-iterator) (at l.table u) ≡ kept_state u l.fn.states (at l.fn.table u)
+invariant-loop-state l =
+    (u : Uid) → kept_state u (into_iter_items l.state-iterator) (at l.table u) ≡ kept_state u l.fn.states (at l.fn.table u)

@@ -15,7 +15,13 @@ pub numbers_in-requires : goal.numbers_in-requires
 numbers_in-requires g c = c.requires.increasing
 
 pub loop-number-init : goal.loop-number-init
-loop-number-init g c = record { state = looked_none (segments (g.D.Disk.file c.args.disk.now) c.args.role) c.args.uid; files = refl; counts = record { stops = refl; arms = refl; last_arm = refl } }
+loop-number-init g c =
+    record {
+      state = looked_none (segments (g.D.Disk.file c.args.disk.now) c.args.role) c.args.uid;
+      files = refl;
+      counts =
+          record { stops = refl; arms = refl; last_arm = refl };
+    }
 
 pub loop-number-preserved : goal.loop-number-preserved
 loop-number-preserved g c =

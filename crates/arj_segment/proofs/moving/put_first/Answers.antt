@@ -12,7 +12,8 @@ use Rattle.arj_segment.proofs.moving.put_first.Goals as goal
 
 pub returns-in_err-file-clause-fault : goal.returns-in_err-file-clause-fault
 returns-in_err-file-clause-fault g c =
-    let first : HasFirst (pair_of (g.D.Disk.file c.args.disk.now) c.args.role) c.args.states.now = (0, only_none c.args.role (g.D.Disk.file c.args.disk.now) c.requires.empty) in
+    let first : HasFirst (pair_of (g.D.Disk.file c.args.disk.now) c.args.role) c.args.states.now =
+    (0, only_none c.args.role (g.D.Disk.file c.args.disk.now) c.requires.empty) in
     on_err _ first
 
 pub returns-in_err-file-clause-formed : goal.returns-in_err-file-clause-formed
@@ -20,7 +21,8 @@ returns-in_err-file-clause-formed g c = formed_of_none c.args.role (g.D.Disk.fil
 
 pub returns-in_err-objects-clause-fault : goal.returns-in_err-objects-clause-fault
 returns-in_err-objects-clause-fault g c =
-    let first : HasFirst (pair_of (g.D.Disk.file c.args.disk.now) c.args.role) c.args.states.now = (0, only_none c.args.role (g.D.Disk.file c.args.disk.now) c.requires.empty) in
+    let first : HasFirst (pair_of (g.D.Disk.file c.args.disk.now) c.args.role) c.args.states.now =
+    (0, only_none c.args.role (g.D.Disk.file c.args.disk.now) c.requires.empty) in
     on_err _ first
 
 pub returns-in_err-objects-clause-formed : goal.returns-in_err-objects-clause-formed
@@ -28,42 +30,51 @@ returns-in_err-objects-clause-formed g c = formed_of_none c.args.role (g.D.Disk.
 
 pub returns-in_err-put-clause-fault : goal.returns-in_err-put-clause-fault
 returns-in_err-put-clause-fault g c =
-    let is : IsSegment c.args.role c.as_slice.result.now = segment_is c.args.role c.args.states.now c.in_ok-file.ensures.fit c.requires.count c.requires.states c.as_slice.result.now (c.as_slice.ensures ∙ c.in_ok-file.ensures.bytes) in
+    let is : IsSegment c.args.role c.as_slice.result.now =
+    segment_is c.args.role c.args.states.now c.in_ok-file.ensures.fit c.requires.count c.requires.states c.as_slice.result.now (c.as_slice.ensures ∙ c.in_ok-file.ensures.bytes) in
     on_err _ (first_fault c.args.role c.args.states.now (g.D.Disk.file c.args.disk.now) c.requires.empty c.requires.states.distinct c.requires.count c.as_slice.result.now is refl (g.D.Disk.file c.put.new.disk) c.put.ensures.files)
 
 pub returns-in_err-put-clause-formed : goal.returns-in_err-put-clause-formed
 returns-in_err-put-clause-formed g c =
-    let is : IsSegment c.args.role c.as_slice.result.now = segment_is c.args.role c.args.states.now c.in_ok-file.ensures.fit c.requires.count c.requires.states c.as_slice.result.now (c.as_slice.ensures ∙ c.in_ok-file.ensures.bytes) in
+    let is : IsSegment c.args.role c.as_slice.result.now =
+    segment_is c.args.role c.args.states.now c.in_ok-file.ensures.fit c.requires.count c.requires.states c.as_slice.result.now (c.as_slice.ensures ∙ c.in_ok-file.ensures.bytes) in
     first_end c.args.role c.args.states.now (g.D.Disk.file c.args.disk.now) c.requires.empty c.requires.states.distinct c.requires.count c.as_slice.result.now is refl (g.D.Disk.file c.put.new.disk) c.put.ensures.files
 
 pub returns-in_err-put-clause-others : goal.returns-in_err-put-clause-others
-returns-in_err-put-clause-others g c = first_rest c.args.role (g.D.Disk.file c.args.disk.now) (g.D.Disk.file c.put.new.disk) c.put.ensures.files.others
+returns-in_err-put-clause-others g c =
+    first_rest c.args.role (g.D.Disk.file c.args.disk.now) (g.D.Disk.file c.put.new.disk) c.put.ensures.files.others
 
 pub returns-in_err-set_each-clause-fault : goal.returns-in_err-set_each-clause-fault
 returns-in_err-set_each-clause-fault g c =
-    let is : IsSegment c.args.role c.as_slice.result.now = segment_is c.args.role c.args.states.now c.in_ok-file.ensures.fit c.requires.count c.requires.states c.as_slice.result.now (c.as_slice.ensures ∙ c.in_ok-file.ensures.bytes) in
+    let is : IsSegment c.args.role c.as_slice.result.now =
+    segment_is c.args.role c.args.states.now c.in_ok-file.ensures.fit c.requires.count c.requires.states c.as_slice.result.now (c.as_slice.ensures ∙ c.in_ok-file.ensures.bytes) in
     on_err _ (first_fault c.args.role c.args.states.now (g.D.Disk.file c.args.disk.now) c.requires.empty c.requires.states.distinct c.requires.count c.as_slice.result.now is refl (g.D.Disk.file c.put.new.disk) c.put.ensures.files)
 
 pub returns-in_err-set_each-clause-formed : goal.returns-in_err-set_each-clause-formed
 returns-in_err-set_each-clause-formed g c =
-    let is : IsSegment c.args.role c.as_slice.result.now = segment_is c.args.role c.args.states.now c.in_ok-file.ensures.fit c.requires.count c.requires.states c.as_slice.result.now (c.as_slice.ensures ∙ c.in_ok-file.ensures.bytes) in
+    let is : IsSegment c.args.role c.as_slice.result.now =
+    segment_is c.args.role c.args.states.now c.in_ok-file.ensures.fit c.requires.count c.requires.states c.as_slice.result.now (c.as_slice.ensures ∙ c.in_ok-file.ensures.bytes) in
     first_end c.args.role c.args.states.now (g.D.Disk.file c.args.disk.now) c.requires.empty c.requires.states.distinct c.requires.count c.as_slice.result.now is refl (g.D.Disk.file c.put.new.disk) c.put.ensures.files
 
 pub returns-in_err-set_each-clause-others : goal.returns-in_err-set_each-clause-others
-returns-in_err-set_each-clause-others g c = first_rest c.args.role (g.D.Disk.file c.args.disk.now) (g.D.Disk.file c.put.new.disk) c.put.ensures.files.others
+returns-in_err-set_each-clause-others g c =
+    first_rest c.args.role (g.D.Disk.file c.args.disk.now) (g.D.Disk.file c.put.new.disk) c.put.ensures.files.others
 
 pub returns-in_err-push-clause-fault : goal.returns-in_err-push-clause-fault
 returns-in_err-push-clause-fault g c =
-    let is : IsSegment c.args.role c.as_slice.result.now = segment_is c.args.role c.args.states.now c.in_ok-file.ensures.fit c.requires.count c.requires.states c.as_slice.result.now (c.as_slice.ensures ∙ c.in_ok-file.ensures.bytes) in
+    let is : IsSegment c.args.role c.as_slice.result.now =
+    segment_is c.args.role c.args.states.now c.in_ok-file.ensures.fit c.requires.count c.requires.states c.as_slice.result.now (c.as_slice.ensures ∙ c.in_ok-file.ensures.bytes) in
     on_err _ (first_fault c.args.role c.args.states.now (g.D.Disk.file c.args.disk.now) c.requires.empty c.requires.states.distinct c.requires.count c.as_slice.result.now is refl (g.D.Disk.file c.put.new.disk) c.put.ensures.files)
 
 pub returns-in_err-push-clause-formed : goal.returns-in_err-push-clause-formed
 returns-in_err-push-clause-formed g c =
-    let is : IsSegment c.args.role c.as_slice.result.now = segment_is c.args.role c.args.states.now c.in_ok-file.ensures.fit c.requires.count c.requires.states c.as_slice.result.now (c.as_slice.ensures ∙ c.in_ok-file.ensures.bytes) in
+    let is : IsSegment c.args.role c.as_slice.result.now =
+    segment_is c.args.role c.args.states.now c.in_ok-file.ensures.fit c.requires.count c.requires.states c.as_slice.result.now (c.as_slice.ensures ∙ c.in_ok-file.ensures.bytes) in
     first_end c.args.role c.args.states.now (g.D.Disk.file c.args.disk.now) c.requires.empty c.requires.states.distinct c.requires.count c.as_slice.result.now is refl (g.D.Disk.file c.put.new.disk) c.put.ensures.files
 
 pub returns-in_err-push-clause-others : goal.returns-in_err-push-clause-others
-returns-in_err-push-clause-others g c = first_rest c.args.role (g.D.Disk.file c.args.disk.now) (g.D.Disk.file c.put.new.disk) c.put.ensures.files.others
+returns-in_err-push-clause-others g c =
+    first_rest c.args.role (g.D.Disk.file c.args.disk.now) (g.D.Disk.file c.put.new.disk) c.put.ensures.files.others
 
 pub returns-then-is_empty-clause-pair : goal.returns-then-is_empty-clause-pair
 returns-then-is_empty-clause-pair g c =
@@ -75,7 +86,8 @@ returns-then-is_empty-clause-formed g c = formed_of_none c.args.role (g.D.Disk.f
 
 pub returns-clause-keeps : goal.returns-clause-keeps
 returns-clause-keeps g c =
-    let is : IsSegment c.args.role c.as_slice.result.now = segment_is c.args.role c.args.states.now c.in_ok-file.ensures.fit c.requires.count c.requires.states c.as_slice.result.now (c.as_slice.ensures ∙ c.in_ok-file.ensures.bytes) in
+    let is : IsSegment c.args.role c.as_slice.result.now =
+    segment_is c.args.role c.args.states.now c.in_ok-file.ensures.fit c.requires.count c.requires.states c.as_slice.result.now (c.as_slice.ensures ∙ c.in_ok-file.ensures.bytes) in
     record {
       pending = first_pend c.args.role c.args.states.now (g.D.Disk.file c.args.disk.now) c.requires.empty c.requires.states.distinct c.requires.count c.as_slice.result.now is refl (g.D.Disk.file c.put.new.disk) c.in_ok-put.ensures.ok (at c.args.kept.now.actions) (at c.args.kept.now.holdings) c.requires.keeps.pending;
       committed = subst (λ ks. KeepsPlaces (segments (g.D.Disk.file c.put.new.disk) c.args.role) (at c.set_each.new.table) ks) (sym (c.in_ok-push.ensures.ok ∙ ap (λ ks. ks ++ 1 ∷ []) c.requires.numbers))
@@ -86,12 +98,14 @@ returns-clause-keeps g c =
 
 pub returns-clause-pair : goal.returns-clause-pair
 returns-clause-pair g c =
-    let is : IsSegment c.args.role c.as_slice.result.now = segment_is c.args.role c.args.states.now c.in_ok-file.ensures.fit c.requires.count c.requires.states c.as_slice.result.now (c.as_slice.ensures ∙ c.in_ok-file.ensures.bytes) in
+    let is : IsSegment c.args.role c.as_slice.result.now =
+    segment_is c.args.role c.args.states.now c.in_ok-file.ensures.fit c.requires.count c.requires.states c.as_slice.result.now (c.as_slice.ensures ∙ c.in_ok-file.ensures.bytes) in
     first_pair c.args.role c.args.states.now (g.D.Disk.file c.args.disk.now) c.requires.empty c.requires.states.distinct c.requires.count c.as_slice.result.now is refl (g.D.Disk.file c.put.new.disk) c.in_ok-put.ensures.ok
 
 pub returns-clause-formed : goal.returns-clause-formed
 returns-clause-formed g c =
-    let is : IsSegment c.args.role c.as_slice.result.now = segment_is c.args.role c.args.states.now c.in_ok-file.ensures.fit c.requires.count c.requires.states c.as_slice.result.now (c.as_slice.ensures ∙ c.in_ok-file.ensures.bytes) in
+    let is : IsSegment c.args.role c.as_slice.result.now =
+    segment_is c.args.role c.args.states.now c.in_ok-file.ensures.fit c.requires.count c.requires.states c.as_slice.result.now (c.as_slice.ensures ∙ c.in_ok-file.ensures.bytes) in
     first_end c.args.role c.args.states.now (g.D.Disk.file c.args.disk.now) c.requires.empty c.requires.states.distinct c.requires.count c.as_slice.result.now is refl (g.D.Disk.file c.put.new.disk) c.put.ensures.files
 
 pub returns-clause-others : goal.returns-clause-others

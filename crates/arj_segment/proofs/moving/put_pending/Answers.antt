@@ -12,43 +12,51 @@ use Rattle.arj_segment.proofs.moving.put_pending.Goals as goal
 pub returns-in_err-put-clause-fault : goal.returns-in_err-put-clause-fault
 returns-in_err-put-clause-fault g c =
     let count : length c.args.states.now ≤ MOST_KNOWN = omega arith in
-    let is : IsSegment c.args.role c.as_slice.result.now = segment_is c.args.role c.args.states.now c.in_ok-file.ensures.fit count c.requires.states c.as_slice.result.now (c.as_slice.ensures ∙ c.in_ok-file.ensures.bytes) in
+    let is : IsSegment c.args.role c.as_slice.result.now =
+    segment_is c.args.role c.args.states.now c.in_ok-file.ensures.fit count c.requires.states c.as_slice.result.now (c.as_slice.ensures ∙ c.in_ok-file.ensures.bytes) in
     on_err _ (pending_fault c.args.role c.args.act c.args.states.now (g.D.Disk.file c.args.disk.now) c.requires.formed c.requires.first c.requires.free c.requires.few c.as_slice.result.now is refl (g.D.Disk.file c.put.new.disk) c.put.ensures.files)
 
 pub returns-in_err-put-clause-formed : goal.returns-in_err-put-clause-formed
 returns-in_err-put-clause-formed g c =
     let count : length c.args.states.now ≤ MOST_KNOWN = omega arith in
-    let is : IsSegment c.args.role c.as_slice.result.now = segment_is c.args.role c.args.states.now c.in_ok-file.ensures.fit count c.requires.states c.as_slice.result.now (c.as_slice.ensures ∙ c.in_ok-file.ensures.bytes) in
+    let is : IsSegment c.args.role c.as_slice.result.now =
+    segment_is c.args.role c.args.states.now c.in_ok-file.ensures.fit count c.requires.states c.as_slice.result.now (c.as_slice.ensures ∙ c.in_ok-file.ensures.bytes) in
     pending_end c.args.role c.args.act c.args.states.now (g.D.Disk.file c.args.disk.now) c.requires.formed c.requires.first c.requires.free c.requires.few c.as_slice.result.now is refl (g.D.Disk.file c.put.new.disk) c.put.ensures.files
 
 pub returns-in_err-put-clause-others : goal.returns-in_err-put-clause-others
-returns-in_err-put-clause-others g c = put_others c.args.role c.args.act (g.D.Disk.file c.args.disk.now) (g.D.Disk.file c.put.new.disk) c.put.ensures.files.others
+returns-in_err-put-clause-others g c =
+    put_others c.args.role c.args.act (g.D.Disk.file c.args.disk.now) (g.D.Disk.file c.put.new.disk) c.put.ensures.files.others
 
 pub returns-in_err-add-clause-fault : goal.returns-in_err-add-clause-fault
 returns-in_err-add-clause-fault g c =
     let count : length c.args.states.now ≤ MOST_KNOWN = omega arith in
-    let is : IsSegment c.args.role c.as_slice.result.now = segment_is c.args.role c.args.states.now c.in_ok-file.ensures.fit count c.requires.states c.as_slice.result.now (c.as_slice.ensures ∙ c.in_ok-file.ensures.bytes) in
+    let is : IsSegment c.args.role c.as_slice.result.now =
+    segment_is c.args.role c.args.states.now c.in_ok-file.ensures.fit count c.requires.states c.as_slice.result.now (c.as_slice.ensures ∙ c.in_ok-file.ensures.bytes) in
     on_err _ (pending_fault c.args.role c.args.act c.args.states.now (g.D.Disk.file c.args.disk.now) c.requires.formed c.requires.first c.requires.free c.requires.few c.as_slice.result.now is refl (g.D.Disk.file c.put.new.disk) c.put.ensures.files)
 
 pub returns-in_err-add-clause-formed : goal.returns-in_err-add-clause-formed
 returns-in_err-add-clause-formed g c =
     let count : length c.args.states.now ≤ MOST_KNOWN = omega arith in
-    let is : IsSegment c.args.role c.as_slice.result.now = segment_is c.args.role c.args.states.now c.in_ok-file.ensures.fit count c.requires.states c.as_slice.result.now (c.as_slice.ensures ∙ c.in_ok-file.ensures.bytes) in
+    let is : IsSegment c.args.role c.as_slice.result.now =
+    segment_is c.args.role c.args.states.now c.in_ok-file.ensures.fit count c.requires.states c.as_slice.result.now (c.as_slice.ensures ∙ c.in_ok-file.ensures.bytes) in
     pending_end c.args.role c.args.act c.args.states.now (g.D.Disk.file c.args.disk.now) c.requires.formed c.requires.first c.requires.free c.requires.few c.as_slice.result.now is refl (g.D.Disk.file c.put.new.disk) c.put.ensures.files
 
 pub returns-in_err-add-clause-others : goal.returns-in_err-add-clause-others
-returns-in_err-add-clause-others g c = put_others c.args.role c.args.act (g.D.Disk.file c.args.disk.now) (g.D.Disk.file c.put.new.disk) c.put.ensures.files.others
+returns-in_err-add-clause-others g c =
+    put_others c.args.role c.args.act (g.D.Disk.file c.args.disk.now) (g.D.Disk.file c.put.new.disk) c.put.ensures.files.others
 
 pub returns-clause-added : goal.returns-clause-added
 returns-clause-added g c =
     let count : length c.args.states.now ≤ MOST_KNOWN = omega arith in
-    let is : IsSegment c.args.role c.as_slice.result.now = segment_is c.args.role c.args.states.now c.in_ok-file.ensures.fit count c.requires.states c.as_slice.result.now (c.as_slice.ensures ∙ c.in_ok-file.ensures.bytes) in
+    let is : IsSegment c.args.role c.as_slice.result.now =
+    segment_is c.args.role c.args.states.now c.in_ok-file.ensures.fit count c.requires.states c.as_slice.result.now (c.as_slice.ensures ∙ c.in_ok-file.ensures.bytes) in
     pending_adds c.args.role c.args.act c.args.states.now (g.D.Disk.file c.args.disk.now) c.requires.formed c.requires.first c.requires.free c.requires.few c.as_slice.result.now is refl (g.D.Disk.file c.put.new.disk) c.in_ok-put.ensures.ok
 
 pub returns-clause-keeps : goal.returns-clause-keeps
 returns-clause-keeps g c =
     let count : length c.args.states.now ≤ MOST_KNOWN = omega arith in
-    let is : IsSegment c.args.role c.as_slice.result.now = segment_is c.args.role c.args.states.now c.in_ok-file.ensures.fit count c.requires.states c.as_slice.result.now (c.as_slice.ensures ∙ c.in_ok-file.ensures.bytes) in
+    let is : IsSegment c.args.role c.as_slice.result.now =
+    segment_is c.args.role c.args.states.now c.in_ok-file.ensures.fit count c.requires.states c.as_slice.result.now (c.as_slice.ensures ∙ c.in_ok-file.ensures.bytes) in
     record {
       pending = pending_pend c.args.role c.args.act c.args.states.now (g.D.Disk.file c.args.disk.now) c.requires.formed c.requires.first c.requires.free c.requires.few c.as_slice.result.now is refl (g.D.Disk.file c.put.new.disk) c.in_ok-put.ensures.ok c.in_ok-objects.objects c.in_ok-objects.ensures (at c.args.kept.now.actions) (at c.add.new.self.actions) (at c.args.kept.now.holdings) (at c.add.new.self.holdings)
           c.requires.keeps.pending c.in_ok-add.ensures.actions c.in_ok-add.ensures.holdings;
@@ -60,8 +68,10 @@ returns-clause-keeps g c =
 pub returns-clause-formed : goal.returns-clause-formed
 returns-clause-formed g c =
     let count : length c.args.states.now ≤ MOST_KNOWN = omega arith in
-    let is : IsSegment c.args.role c.as_slice.result.now = segment_is c.args.role c.args.states.now c.in_ok-file.ensures.fit count c.requires.states c.as_slice.result.now (c.as_slice.ensures ∙ c.in_ok-file.ensures.bytes) in
+    let is : IsSegment c.args.role c.as_slice.result.now =
+    segment_is c.args.role c.args.states.now c.in_ok-file.ensures.fit count c.requires.states c.as_slice.result.now (c.as_slice.ensures ∙ c.in_ok-file.ensures.bytes) in
     pending_end c.args.role c.args.act c.args.states.now (g.D.Disk.file c.args.disk.now) c.requires.formed c.requires.first c.requires.free c.requires.few c.as_slice.result.now is refl (g.D.Disk.file c.put.new.disk) c.put.ensures.files
 
 pub returns-clause-others : goal.returns-clause-others
-returns-clause-others g c = put_others c.args.role c.args.act (g.D.Disk.file c.args.disk.now) (g.D.Disk.file c.put.new.disk) c.put.ensures.files.others
+returns-clause-others g c =
+    put_others c.args.role c.args.act (g.D.Disk.file c.args.disk.now) (g.D.Disk.file c.put.new.disk) c.put.ensures.files.others

@@ -13,4 +13,5 @@ loop-slot-preserved c =
     picks_next (Pending c.args.role) uid_order c.args.names.now c.loop-slot.slot-index _ c.loop-slot.acts _ within c.loop-slot.invariant c.requires (pendings_ordered c.args.role) (pendings_once c.args.role) c.in_ok-take_act.ensures
 
 pub returns-clause-there : goal.returns-clause-there
-returns-clause-there c = (picked_all (Pending c.args.role) uid_order c.args.names.now c.loop-slot.slot-index c.loop-slot.acts (omega arith) c.loop-slot.invariant).there
+returns-clause-there c =
+    (picked_all (Pending c.args.role) uid_order c.args.names.now c.loop-slot.slot-index c.loop-slot.acts (omega arith) c.loop-slot.invariant).there

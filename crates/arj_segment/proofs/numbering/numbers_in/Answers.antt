@@ -21,4 +21,5 @@ loop-slot-preserved c =
     }
 
 pub returns-clause-there : goal.returns-clause-there
-returns-clause-there c = (picked_all (Segment c.args.role) nat_cmp c.args.names.now c.loop-slot.slot-index c.loop-slot.numbers (omega arith) c.loop-slot.invariant.picks).there
+returns-clause-there c =
+    (picked_all (Segment c.args.role) nat_cmp c.args.names.now c.loop-slot.slot-index c.loop-slot.numbers (omega arith) c.loop-slot.invariant.picks).there

@@ -20,11 +20,14 @@ pub returns-clause-keeps : goal.returns-clause-keeps
 returns-clause-keeps g c = record {
   pending = c.in_ok-pends.ensures.keeps;
   committed = record {
-    places_are = subst (λ file. (u : Uid) → at c.in_ok-gathered.gathered.places u ≡ place (segments file c.args.role) u) c.read_pendings.ensures.files c.in_ok-gathered.ensures.places;
-    numbers_are = are_numbers (g.D.Disk.file c.args.disk.now) c.args.role c.args.names.now c.in_ok-numbers.numbers c.requires.lists c.in_ok-numbers.ensures.there c.in_ok-numbers.ensures.below c.in_ok-numbers.ensures.rises;
+    places_are = subst (λ file. (u : Uid) →
+        at c.in_ok-gathered.gathered.places u ≡ place (segments file c.args.role) u) c.read_pendings.ensures.files c.in_ok-gathered.ensures.places;
+    numbers_are =
+        are_numbers (g.D.Disk.file c.args.disk.now) c.args.role c.args.names.now c.in_ok-numbers.numbers c.requires.lists c.in_ok-numbers.ensures.there c.in_ok-numbers.ensures.below c.in_ok-numbers.ensures.rises;
   };
 }
 
 pub returns-clause-found : goal.returns-clause-found
 returns-clause-found g c = c.in_ok-found.ensures (g.D.Disk.file c.args.disk.now)
-    (subst (λ file. (u : Uid) → Unpacks u (held file c.args.role u) (at c.in_ok-gathered.gathered.states u)) c.read_pendings.ensures.files c.in_ok-gathered.ensures.states) c.in_ok-pends.ensures.pends
+    (subst (λ file. (u : Uid) →
+    Unpacks u (held file c.args.role u) (at c.in_ok-gathered.gathered.states u)) c.read_pendings.ensures.files c.in_ok-gathered.ensures.states) c.in_ok-pends.ensures.pends

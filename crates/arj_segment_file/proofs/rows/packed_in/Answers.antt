@@ -6,7 +6,8 @@ use Rattle.arj_segment_file.proofs.Read.{find_all, find_end, find_here, find_lat
 use Rattle.arj_segment_file.proofs.rows.packed_in.Goals as goal
 
 pub returns-in_default : goal.returns-in_default
-returns-in_default c = find_end c.rows_of-count.result.0 c.loop-row.row c.loop-row.rest.now c.args.uid (new_of (states_in c.args.bytes.now) c.args.uid) c.in_default.ensures c.loop-row.invariant
+returns-in_default c =
+    find_end c.rows_of-count.result.0 c.loop-row.row c.loop-row.rest.now c.args.uid (new_of (states_in c.args.bytes.now) c.args.uid) c.in_default.ensures c.loop-row.invariant
 
 pub returns-then-eq : goal.returns-then-eq
 returns-then-eq c =

@@ -11,7 +11,8 @@ use Rattle.arj_segment_file.proofs.rows.states_of.Goals as goal
 pub loop-row-init : goal.loop-row-init
 loop-row-init c =
     let all : c.rows_of-count.result.0 - 0 ≡ c.rows_of-count.result.0 = omega arith in
-    let rows : rows_in (c.rows_of-count.result.0 - 0) c.rows_of-count.result.1.now ≡ states_in c.args.bytes.now = ap (λ n. rows_in n c.rows_of-count.result.1.now) all ∙ c.rows_of-count.ensures in
+    let rows : rows_in (c.rows_of-count.result.0 - 0) c.rows_of-count.result.1.now ≡ states_in c.args.bytes.now =
+    ap (λ n. rows_in n c.rows_of-count.result.1.now) all ∙ c.rows_of-count.ensures in
     record {
       rows = ap (λ ss. packed ss ++ rows_in (c.rows_of-count.result.0 - 0) c.rows_of-count.result.1.now) c.new-states.ensures ∙ rows;
       left = subst (AllByRecursion (λ e. IsStateOf e.0 e.1)) (sym rows) (packs_is c.requires.0 c.args.bytes.now c.requires.1);
@@ -19,7 +20,8 @@ loop-row-init c =
     }
 
 pub returns-in_default-clause-states : goal.returns-in_default-clause-states
-returns-in_default-clause-states c = read_end c.rows_of-count.result.0 c.loop-row.row c.loop-row.rest.now c.loop-row.states (states_in c.args.bytes.now) c.loop-row.invariant.rows c.in_default.ensures
+returns-in_default-clause-states c =
+    read_end c.rows_of-count.result.0 c.loop-row.row c.loop-row.rest.now c.loop-row.states (states_in c.args.bytes.now) c.loop-row.invariant.rows c.in_default.ensures
 
 pub unreachable-requires : goal.unreachable-requires
 unreachable-requires c =
@@ -39,4 +41,5 @@ loop-row-preserved c =
     }
 
 pub returns-clause-states : goal.returns-clause-states
-returns-clause-states c = read_all c.rows_of-count.result.0 c.loop-row.row c.loop-row.rest.now c.loop-row.states (states_in c.args.bytes.now) c.loop-row.invariant.rows c.loop-row-test.false
+returns-clause-states c =
+    read_all c.rows_of-count.result.0 c.loop-row.row c.loop-row.rest.now c.loop-row.states (states_in c.args.bytes.now) c.loop-row.invariant.rows c.loop-row-test.false

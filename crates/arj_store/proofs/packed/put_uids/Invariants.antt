@@ -5,4 +5,5 @@ use Rattle.arj_base.specs.Uid.{uid_bytes, UidFits}
 use Rattle.arj_store.proofs.packed.put_uids.Given as goal
 
 abbrev pub invariant-loop-uid : goal.invariant-loop-uid
-invariant-loop-uid l = record { bytes : l.bytes ≡ l.initial.bytes ++ flat_map uid_bytes (take l.uid-index l.uids); fit : AllByRecursion UidFits (take l.uid-index l.uids) }
+invariant-loop-uid l =
+    record { bytes : l.bytes ≡ l.initial.bytes ++ flat_map uid_bytes (take l.uid-index l.uids); fit : AllByRecursion UidFits (take l.uid-index l.uids) }

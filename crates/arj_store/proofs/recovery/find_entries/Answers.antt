@@ -25,4 +25,8 @@ pub returns-clause-found : goal.returns-clause-found
 returns-clause-found g c =
     finds (g.D.Disk.file c.args.disk.now) (at c.args.pending.now.actions) (at c.args.pending.now.holdings) c.requires.formed c.requires.keeps (at c.in_ok-shadows.shadows) (at c.in_ok-committed.committed)
     c.in_ok-shadows.ensures.read (subst (λ file. HasRead Committed file (at c.in_ok-committed.committed)) c.read_each.ensures.files c.in_ok-committed.ensures.read)
-    (record { committed = c.in_ok-committed-2.committed; prepared = c.in_ok-prepared.prepared }) c.in_ok-committed-2.ensures c.in_ok-prepared.ensures
+    (record {
+      committed = c.in_ok-committed-2.committed;
+      prepared =
+          c.in_ok-prepared.prepared;
+    }) c.in_ok-committed-2.ensures c.in_ok-prepared.ensures

@@ -20,5 +20,6 @@ loop-uid-preserved c =
 pub returns : goal.returns
 returns c u =
     let same : c.as_slice-uid-items.result.now ≡ c.in_ok-held.held = search rules in
-    let all : c.loop-uid.left ≡ filter (λ u. has_shadow (at c.args.holdings.now u)) c.as_slice-uid-items.result.now = grind (arith, common_steps, take_rest) in
+    let all : c.loop-uid.left ≡ filter (λ u. has_shadow (at c.args.holdings.now u)) c.as_slice-uid-items.result.now =
+    grind (arith, common_steps, take_rest) in
     ap (λ us. is_in us u) (all ∙ ap (filter (λ u. has_shadow (at c.args.holdings.now u))) same) ∙ left_are (at c.args.holdings.now) c.in_ok-held.held c.in_ok-held.ensures.there u

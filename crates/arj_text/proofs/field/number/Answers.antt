@@ -17,18 +17,21 @@ returns-in_default-parse c n within e =
 
 pub returns-then-n-low : goal.returns-then-n-low
 returns-then-n-low c n within e =
-    let read : c.parse.result ≡ Ok n = parse-decimal 64 n c.in-Ok.text.now c.parse.result (omega arith) (omega arith) (c.in-Ok.ensures.cases.0 ∙ e) c.parse.ensures.value.0 in
+    let read : c.parse.result ≡ Ok n =
+    parse-decimal 64 n c.in-Ok.text.now c.parse.result (omega arith) (omega arith) (c.in-Ok.ensures.cases.0 ∙ e) c.parse.ensures.value.0 in
     let same : c.in-Ok-parse.n ≡ n = cc in
     absurd (omega arith)
 
 pub returns-then-high-n : goal.returns-then-high-n
 returns-then-high-n c n within e =
-    let read : c.parse.result ≡ Ok n = parse-decimal 64 n c.in-Ok.text.now c.parse.result (omega arith) (omega arith) (c.in-Ok.ensures.cases.0 ∙ e) c.parse.ensures.value.0 in
+    let read : c.parse.result ≡ Ok n =
+    parse-decimal 64 n c.in-Ok.text.now c.parse.result (omega arith) (omega arith) (c.in-Ok.ensures.cases.0 ∙ e) c.parse.ensures.value.0 in
     let same : c.in-Ok-parse.n ≡ n = cc in
     absurd (omega arith)
 
 pub returns-else-branch : goal.returns-else-branch
 returns-else-branch c n within e =
-    let read : c.parse.result ≡ Ok n = parse-decimal 64 n c.in-Ok.text.now c.parse.result (omega arith) (omega arith) (c.in-Ok.ensures.cases.0 ∙ e) c.parse.ensures.value.0 in
+    let read : c.parse.result ≡ Ok n =
+    parse-decimal 64 n c.in-Ok.text.now c.parse.result (omega arith) (omega arith) (c.in-Ok.ensures.cases.0 ∙ e) c.parse.ensures.value.0 in
     let same : c.in-Ok-parse.n ≡ n = cc in
     MatchBool-at_false _ _ c.if-branch.false c.in_ok-is_printed.ensures (c.in-Ok.ensures.cases.0 ∙ (e ∙ ap decimal (sym same)))

@@ -4,4 +4,5 @@ use Rattle.arj_text.specs.Words.{behind_comma, decimals}
 use Rattle.arj_text.proofs.words.put_more_nodes.Given as goal
 
 abbrev pub invariant-loop-node : goal.invariant-loop-node
-invariant-loop-node l = l.out ++ flat_map behind_comma (decimals (drop l.node-index l.nodes)) ≡ l.fn.out ++ flat_map behind_comma (decimals l.nodes)
+invariant-loop-node l =
+    l.out ++ flat_map behind_comma (decimals (drop l.node-index l.nodes)) ≡ l.fn.out ++ flat_map behind_comma (decimals l.nodes)

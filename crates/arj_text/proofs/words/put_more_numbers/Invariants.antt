@@ -4,4 +4,5 @@ use Rattle.arj_text.specs.Words.{behind_comma, decimals}
 use Rattle.arj_text.proofs.words.put_more_numbers.Given as goal
 
 abbrev pub invariant-loop-n : goal.invariant-loop-n
-invariant-loop-n l = l.out ++ flat_map behind_comma (decimals (drop l.n-index l.numbers)) ≡ l.fn.out ++ flat_map behind_comma (decimals l.numbers)
+invariant-loop-n l =
+    l.out ++ flat_map behind_comma (decimals (drop l.n-index l.numbers)) ≡ l.fn.out ++ flat_map behind_comma (decimals l.numbers)

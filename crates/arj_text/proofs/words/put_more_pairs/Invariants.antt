@@ -4,4 +4,5 @@ use Rattle.arj_text.specs.Words.{behind_comma, pair_texts}
 use Rattle.arj_text.proofs.words.put_more_pairs.Given as goal
 
 abbrev pub invariant-loop-pair : goal.invariant-loop-pair
-invariant-loop-pair l = l.out ++ flat_map behind_comma (pair_texts (drop l.pair-index l.pairs)) ≡ l.fn.out ++ flat_map behind_comma (pair_texts l.pairs)
+invariant-loop-pair l =
+    l.out ++ flat_map behind_comma (pair_texts (drop l.pair-index l.pairs)) ≡ l.fn.out ++ flat_map behind_comma (pair_texts l.pairs)

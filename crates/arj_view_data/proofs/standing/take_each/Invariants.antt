@@ -13,5 +13,6 @@ abbrev pub invariant-loop-at : goal.invariant-loop-at
 invariant-loop-at l = record {
   count : length l.tables.items ≡ length l.fn.tables.items;
   taken : (lines : List Line) → AreBegun (acts lines) l.begun → AreTables lines l.fn.tables.items
-      → (i : ℕ) (s : NodeLocks) → slice_get l.tables.items i ≡ Some s → IsTable (1 + i) (cond (nat_lt i l.at) (lines ++ l.line ∷ []) lines) s;
+      → (i : ℕ) (s : NodeLocks) → slice_get l.tables.items i ≡ Some s →
+      IsTable (1 + i) (cond (nat_lt i l.at) (lines ++ l.line ∷ []) lines) s;
 }

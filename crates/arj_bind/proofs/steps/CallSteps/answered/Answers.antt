@@ -9,7 +9,15 @@ use Rattle.arj_bind.proofs.steps.CallSteps.answered.Goals as goal
 
 pub returns : goal.returns
 returns c =
-    let s : Steps = record { path = c.self.inside.path; x = c.self.inside.x; goal = goal_of c.self.inside.goal; req = c.self.inside.req; at = at_of c.self.inside.at } in
+    let s : Steps =
+    record {
+      path = c.self.inside.path;
+      x = c.self.inside.x;
+      goal = goal_of c.self.inside.goal;
+      req = c.self.inside.req;
+      at =
+          at_of c.self.inside.at;
+    } in
     let taken : c.takes.result ≡ true = search rules in
     let there : is_some (heard_in c.args.from c.args.message s) ≡ true =
     (λ i. is_some (heard_in c.args.from c.args.message (c.self.view_is i))) ∙ (sym c.takes.ensures ∙ taken) in

@@ -14,7 +14,8 @@ push-requires c =
 pub returns-in-Ok-clause-took : goal.returns-in-Ok-clause-took
 returns-in-Ok-clause-took c =
     let r = c.in-Ok.ensures.read in
-    let room : length c.args.self.now.journal < 1000000 = omega (arith, c.if-as_slice-ge-JOURNAL_LINES.false, ap length c.as_slice.ensures) in
+    let room : length c.args.self.now.journal < 1000000 =
+    omega (arith, c.if-as_slice-ge-JOURNAL_LINES.false, ap length c.as_slice.ensures) in
     let line : IsLine c.args.line.now c.in-Ok.read = record { short = c.requires.short; form = r.0; text = r.1 } in
     on_ok_weaker c.push.result
     (λ is done at. subst (λ p. IsAt (done ++ c.args.line.now ∷ []) p) (sym is) (at_more done c.args.line.now c.args.self.now c.in-Ok.read c.requires.half room line at))

@@ -5,7 +5,8 @@ use Rattle.arj_class.specs.Forms.{PairsFit}
 use Rattle.arj_class.specs.Keys.{KeysBelow, KeysRise, pair_bytes}
 use Rattle.arj_class.proofs.Payloads.{front_more, whole_front, pairs_fit_append, no_table, no_table_unsorted, pairs_once, rise_push}
 use Rattle.arj_class.proofs.table.TableObjectClass.restore_state.Goals as goal
-use Rattle.arj_class.proofs.table.TableObjectClass.restore_state.Goals.{then-len-eq-TABLE_PAIRS-via-then-len-eq-TABLE_PAIRS, then-len-eq-TABLE_PAIRS-via-else-len-eq-TABLE_PAIRS+then-not-is_above}
+use Rattle.arj_class.proofs.table.TableObjectClass.restore_state.Goals.{then-len-eq-TABLE_PAIRS-via-then-len-eq-TABLE_PAIRS}
+use Rattle.arj_class.proofs.table.TableObjectClass.restore_state.Goals.{then-len-eq-TABLE_PAIRS-via-else-len-eq-TABLE_PAIRS+then-not-is_above}
 
 -- a pair more than a table holds, or a key that isn't above those before it
 pub returns-then-len-eq-TABLE_PAIRS-clause-none : goal.returns-then-len-eq-TABLE_PAIRS-clause-none
@@ -18,7 +19,8 @@ returns-then-len-eq-TABLE_PAIRS-clause-none c _ w form same =
       | then-len-eq-TABLE_PAIRS-via-else-len-eq-TABLE_PAIRS+then-not-is_above taken ↦
           no_table_unsorted c.loop-pair.pairs.items c.in-Some.pair c.args.payload.now c.loop-pair.rest.now c.in-Some.behind.now c.loop-pair.invariant.front c.in-Some.ensures.bytes
           c.loop-pair.invariant.fit c.in-Some.ensures.fit
-          (λ below. let never : false ≡ true = taken.if-not-is_above.ensures.1 (subst (KeysBelow c.in-Some.pair.0) (sym taken.as_slice.ensures.value) below) in cc) w form same
+          (λ below. let never : false ≡ true =
+          taken.if-not-is_above.ensures.1 (subst (KeysBelow c.in-Some.pair.0) (sym taken.as_slice.ensures.value) below) in cc) w form same
     ]
 
 pub loop-pair-preserved : goal.loop-pair-preserved

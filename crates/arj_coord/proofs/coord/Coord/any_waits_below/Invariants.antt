@@ -6,4 +6,5 @@ use Rattle.arj_coord.proofs.coord.Coord.any_waits_below.Given as goal
 
 -- what is left answers the same as the whole
 abbrev pub invariant-loop-number : goal.invariant-loop-number
-invariant-loop-number l = any_passes (is_open_below l.action) is_waiting_now l.self l.number-iterator ≡ any_passes (is_open_below l.action) is_waiting_now l.self (waiting 1 l.self.doings)
+invariant-loop-number l =
+    any_passes (is_open_below l.action) is_waiting_now l.self l.number-iterator ≡ any_passes (is_open_below l.action) is_waiting_now l.self (waiting 1 l.self.doings)

@@ -5,4 +5,5 @@ use Rattle.arj_coord.proofs.coord.Coord.let_go.Given as goal
 
 -- the nodes so far, and those that are left
 abbrev pub invariant-loop-node : goal.invariant-loop-node
-invariant-loop-node l = l.left ++ let_go l.root (without_uid l.top l.intents) l.self (drop l.node-index l.nodes) ≡ let_go l.root (without_uid l.top l.intents) l.self l.nodes
+invariant-loop-node l =
+    l.left ++ let_go l.root (without_uid l.top l.intents) l.self (drop l.node-index l.nodes) ≡ let_go l.root (without_uid l.top l.intents) l.self l.nodes

@@ -8,5 +8,10 @@ use Rattle.arj_coord.proofs.coord.Coord.note_call.Goals as goal
 
 pub returns-in-Some : goal.returns-in-Some
 returns-in-Some c =
-    on_ok_weaker c.note_call.result (λ is. changed_there (root_of c.args.path.now) c.root-root.result (with_said (record { path = uids_of c.args.path.now; x = c.args.x })) c.args.self.now (shown c.self.inside) c.in-Some.has.now c.note_call.new.self (c.get_mut.follows.lender c.note_call.new.self).entries
+    on_ok_weaker c.note_call.result (λ is. changed_there (root_of c.args.path.now) c.root-root.result (with_said (record {
+      path =
+          uids_of c.args.path.now;
+      x =
+          c.args.x;
+    })) c.args.self.now (shown c.self.inside) c.in-Some.has.now c.note_call.new.self (c.get_mut.follows.lender c.note_call.new.self).entries
     c.root-root.ensures c.self.view_is (sym c.in-Some.ensures.value) c.get_mut.ensures.ordered (c.get_mut.follows.holds c.note_call.new.self).0 is) c.note_call.ensures

@@ -11,4 +11,5 @@ invariant_of-self-2 c =
     fits_waits c.args.action c.args.req (now_of c.args.now) s.tree s.doings c.wait.new.self (sym c.is_own.ensures ∙ c.if-not-is_own.false) c.requires c.in_ok-wait.ensures.waits c.self.invariant
 
 pub invariant_of-self : goal.invariant_of-self
-invariant_of-self c = let s = c.self.inside in subst (λ (ds : List Doing). AllFit s.tree.node s.tree.inc 1 ds) (sym c.in_err-wait.ensures.kept) c.self.invariant
+invariant_of-self c =
+    let s = c.self.inside in subst (λ (ds : List Doing). AllFit s.tree.node s.tree.inc 1 ds) (sym c.in_err-wait.ensures.kept) c.self.invariant

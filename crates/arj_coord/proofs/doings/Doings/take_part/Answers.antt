@@ -15,5 +15,8 @@ invariant_of-self c =
 pub returns-in-Some : goal.returns-in-Some
 returns-in-Some c =
     ap (λ ds. slice_set ds c.in-Some.place c.take_part.new.self) c.self.view_is
-    ∙ changed_is (λ (d : Doing). record d { took = c.args.nodes }) c.in-Some.place c.args.number c.args.self.now c.index_mut.result.now c.take_part.new.self
+    ∙ changed_is (λ (d : Doing). record d {
+      took =
+          c.args.nodes;
+    }) c.in-Some.place c.args.number c.args.self.now c.index_mut.result.now c.take_part.new.self
     (read_shown _ c.args.self.now c.in-Some.place c.index_mut.result.now c.self.view_is c.in-Some.ensures.1 c.index_mut.ensures.value) c.in-Some.ensures.0 c.take_part.ensures

@@ -16,5 +16,9 @@ invariant_of-self-2 c =
 pub returns-clause-waits : goal.returns-clause-waits
 returns-clause-waits c =
     ap (λ ds. slice_set ds c.in-Some.place c.wait.new.self) c.self.view_is
-    ∙ changed_is (λ (d : Doing). record d { req = c.args.req; now = now_of c.args.now }) c.in-Some.place c.args.number c.args.self.now c.index_mut.result.now c.wait.new.self
+    ∙ changed_is (λ (d : Doing). record d {
+      req = c.args.req;
+      now =
+          now_of c.args.now;
+    }) c.in-Some.place c.args.number c.args.self.now c.index_mut.result.now c.wait.new.self
     (read_shown _ c.args.self.now c.in-Some.place c.index_mut.result.now c.self.view_is c.in-Some.ensures.1 c.index_mut.ensures.value) c.in-Some.ensures.0 c.wait.ensures

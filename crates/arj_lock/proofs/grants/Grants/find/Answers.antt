@@ -5,7 +5,8 @@ use Rattle.arj_lock.proofs.Entries.{if_found, indexed_none, indexed_some}
 use Rattle.arj_lock.proofs.grants.Grants.find.Goals as goal
 
 pub returns-then-not-self-clause-at : goal.returns-then-not-self-clause-at
-returns-then-not-self-clause-at c = rw (sym c.self.view_is) (if_found (is_next c.args.group c.args.after) c.self.inside.locks.entries c.scan.result c.self.invariant.sorted c.scan.ensures.first)
+returns-then-not-self-clause-at c =
+    rw (sym c.self.view_is) (if_found (is_next c.args.group c.args.after) c.self.inside.locks.entries c.scan.result c.self.invariant.sorted c.scan.ensures.first)
 
 pub returns-in_err-grant-clause-first : goal.returns-in_err-grant-clause-first
 returns-in_err-grant-clause-first c =

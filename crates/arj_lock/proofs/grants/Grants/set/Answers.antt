@@ -9,6 +9,7 @@ invariant_of-self c =
     record {
       sorted = c.replace.ensures.sorted;
       indexed =
-          subst (λ (f : ℕ → Option Lock). IsIndex f c.exchanged-self-inside.result c.exchanged-self-inside.new.index) (λ i m. sym (c.replace.ensures.at m) i)
+          subst (λ (f : ℕ →
+          Option Lock). IsIndex f c.exchanged-self-inside.result c.exchanged-self-inside.new.index) (λ i m. sym (c.replace.ensures.at m) i)
           (c.exchanged-self-inside.ensures at (ap (lock_at c.args.grant) c.self.view_is ∙ c.requires) c.self.invariant.indexed);
     }

@@ -7,4 +7,5 @@ use Rattle.arj_lock.proofs.OneEach.{one_each_filter}
 use Rattle.arj_lock.proofs.table.LockTable.drop_action.Goals as goal
 
 pub invariant_of-self : goal.invariant_of-self
-invariant_of-self c = subst IsOneEach (sym c.remove_all.ensures) (one_each_filter (λ row. not (has (Below c.args.action) row)) (rows_in c.self.inside.grants) c.self.invariant)
+invariant_of-self c =
+    subst IsOneEach (sym c.remove_all.ensures) (one_each_filter (λ row. not (has (Below c.args.action) row)) (rows_in c.self.inside.grants) c.self.invariant)

@@ -46,7 +46,8 @@ returns-in_err-push-clause-kept c =
     on_err c.from_residual.result
     (ap rows_in c.in_err-push.ensures.err ∙ c.raise.ensures.rows ∙ changed_none (is_row_of c.args.object c.last-2.result) (λ (row : Row). record row { mode = stronger row.mode c.args.mode }) old none ∙ c.self.view_is)
 
-granted : (c : goal.In_ok-push) → rows_in c.push.new.self ≡ grant_row (asked c.args.path.now c.args.object c.args.mode) (rows_in c.self.inside.grants)
+granted : (c : goal.In_ok-push) →
+    rows_in c.push.new.self ≡ grant_row (asked c.args.path.now c.args.object c.args.mode) (rows_in c.self.inside.grants)
 granted c =
     let new = asked c.args.path.now c.args.object c.args.mode in
     let old = rows_in c.self.inside.grants in
@@ -56,7 +57,8 @@ granted c =
     ∙ grant_new new old (ap (λ h. has_row c.args.object h old) (sym c.last-2.ensures) ∙ none)
 
 pub invariant_of-self-2 : goal.invariant_of-self-2
-invariant_of-self-2 c = subst IsOneEach (sym (granted c)) (one_each_grant (asked c.args.path.now c.args.object c.args.mode) (rows_in c.self.inside.grants) c.self.invariant)
+invariant_of-self-2 c =
+    subst IsOneEach (sym (granted c)) (one_each_grant (asked c.args.path.now c.args.object c.args.mode) (rows_in c.self.inside.grants) c.self.invariant)
 
 pub returns-clause-granted : goal.returns-clause-granted
 returns-clause-granted c = granted c ∙ ap (grant_row (asked c.args.path.now c.args.object c.args.mode)) c.self.view_is

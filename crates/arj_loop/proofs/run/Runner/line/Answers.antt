@@ -6,7 +6,8 @@ use Rattle.arj_script.specs.Grammar.{Start}
 use Rattle.arj_script.specs.Input.{TellsInForm}
 use Rattle.arj_loop.specs.declared.ending.End.TheVariants as ending
 use Rattle.arj_loop.specs.Running.{StageOf}
-use Rattle.arj_loop.proofs.Stages.{Taken, stage_quiet, stage_run, stage_event, stage_labels, standing, ready_at, bare_at, event_in_form, both_ok, ok_from, stage_moved, limited_moved, changed_event, changed_run, formatted_by}
+use Rattle.arj_loop.proofs.Stages.{Taken, stage_quiet, stage_run, stage_event, stage_labels, standing, ready_at, bare_at, event_in_form}
+use Rattle.arj_loop.proofs.Stages.{both_ok, ok_from, stage_moved, limited_moved, changed_event, changed_run, formatted_by}
 use Rattle.arj_loop.proofs.run.Runner.line.Goals as goal
 
 pub start-requires-clause-form : goal.start-requires-clause-form

@@ -12,8 +12,26 @@ returns-in-Err-clause-ended g c first before given done at =
     let e = c.in-Err.ensures in
     ended_line g.M.Machine first before given done (work c.args.rack.now c.args.self.now c.args.journal.now (g.K.Sink.taken c.args.sink.now)) _ c.in-Err.end
     (subst (λ line. RunnerEnds g.M.Machine (work c.args.rack.now (with_cutter c.args.self.now (in_hand c.args.self.now.cutter.most line)) c.args.journal.now (g.K.Sink.taken c.args.sink.now))
-    (work c.line-2.new.rack (record { runner = c.line-2.new.self; cutter = c.args.self.now.cutter; gather = c.args.self.now.gather }) c.line-2.new.journal (g.K.Sink.taken c.args.sink.now)) c.in-Err.end) c.line.ensures.is
-    (record { bad = e.bad; many = e.many; kept = e.kept; labels = e.labels; labels_going = e.labels_going; format = e.format; still = e.still; only = e.only; moved = e.moved; waits = refl; taken = refl }))
+    (work c.line-2.new.rack (record {
+      runner = c.line-2.new.self;
+      cutter = c.args.self.now.cutter;
+      gather =
+          c.args.self.now.gather;
+    }) c.line-2.new.journal (g.K.Sink.taken c.args.sink.now)) c.in-Err.end) c.line.ensures.is
+    (record {
+      bad = e.bad;
+      many = e.many;
+      kept = e.kept;
+      labels = e.labels;
+      labels_going = e.labels_going;
+      format = e.format;
+      still =
+          e.still;
+      only = e.only;
+      moved = e.moved;
+      waits = refl;
+      taken = refl;
+    }))
     at
 
 pub returns-clause-gathers : goal.returns-clause-gathers
@@ -34,8 +52,21 @@ returns-then-is_overflown-clause-ended g c first before given done at =
 pub returns-in-Err-put_lines-clause-ended : goal.returns-in-Err-put_lines-clause-ended
 returns-in-Err-put_lines-clause-ended g c first before given done at =
     let line = c.args.self.now.cutter.line in
-    put_ended c.in-Err-put_lines.end (HasEnded g.M.Machine first before given (work c.line-2.new.rack (record { runner = c.line-2.new.self; cutter = c.args.self.now.cutter; gather = c.put_lines.new.self }) c.line-2.new.journal (g.K.Sink.taken c.put_lines.new.sink))) c.in-Err-put_lines.ensures.only
-    (λ write. ended_write g.M.Machine first before given (done ++ line ∷ []) at.tail (work c.line-2.new.rack (record { runner = c.line-2.new.self; cutter = c.args.self.now.cutter; gather = c.put_lines.new.self }) c.line-2.new.journal (g.K.Sink.taken c.put_lines.new.sink))
+    put_ended c.in-Err-put_lines.end (HasEnded g.M.Machine first before given (work c.line-2.new.rack (record {
+      runner =
+          c.line-2.new.self;
+      cutter =
+          c.args.self.now.cutter;
+      gather =
+          c.put_lines.new.self;
+    }) c.line-2.new.journal (g.K.Sink.taken c.put_lines.new.sink))) c.in-Err-put_lines.ensures.only
+    (λ write. ended_write g.M.Machine first before given (done ++ line ∷ []) at.tail (work c.line-2.new.rack (record {
+      runner =
+          c.line-2.new.self;
+      cutter =
+          c.args.self.now.cutter;
+      gather = c.put_lines.new.self;
+    }) c.line-2.new.journal (g.K.Sink.taken c.put_lines.new.sink))
     (whole_next (let s = script_of given in s.lines) done (line ∷ at.tail) line at.tail at.cut refl)
     (subst (λ l. StageOf g.M.Machine first c.line-2.new.rack (done ++ l ∷ []) c.line-2.new.self c.line-2.new.journal) c.line.ensures.is (c.in-Ok.ensures.went first done at.stage))
     (went_more given (length done) (length (done ++ line ∷ [])) (omega (arith, length-append done (line ∷ []))) at.went_on)

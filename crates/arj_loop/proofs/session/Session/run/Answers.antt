@@ -6,7 +6,8 @@ use Rattle.arj_script.specs.Input.{AtEnd, AtFault, AtRunEnd}
 use Rattle.arj_loop.specs.Input.{arrived, source_view}
 use Rattle.arj_loop.specs.Running.{work}
 use Rattle.arj_loop.proofs.Bytes.{few_bytes}
-use Rattle.arj_loop.proofs.Sessions.{all_written, came_end, came_fault, came_run, ended_fault, ended_flush, gives_nothing, going_first, going_flushed, going_short, no_more}
+use Rattle.arj_loop.proofs.Sessions.{all_written, came_end, came_fault, came_run, ended_fault, ended_flush, gives_nothing, going_first}
+use Rattle.arj_loop.proofs.Sessions.{going_flushed, going_short, no_more}
 use Rattle.arj_loop.proofs.session.Session.run.Goals as goal
 
 pub loop-buffer-init : goal.loop-buffer-init
@@ -40,7 +41,10 @@ returns-in_default-clause-ended g c =
 pub last-requires : goal.last-requires
 last-requires g c =
     let i = c.loop-buffer.invariant.used in
-    record { going = (c.args.rack.now, g.K.Sink.taken c.args.sink.now, i.0, going_flushed g.M.Machine c.args.rack.now (g.K.Sink.taken c.args.sink.now) i.0 (work c.loop-buffer.rack c.loop-buffer.self c.loop-buffer.journal (g.K.Sink.taken c.loop-buffer.sink)) c.flush.new.self (g.K.Sink.taken c.flush.new.sink) i.3 c.in-Ok.ensures.empty c.in-Ok.ensures.wrote) }
+    record {
+      going =
+          (c.args.rack.now, g.K.Sink.taken c.args.sink.now, i.0, going_flushed g.M.Machine c.args.rack.now (g.K.Sink.taken c.args.sink.now) i.0 (work c.loop-buffer.rack c.loop-buffer.self c.loop-buffer.journal (g.K.Sink.taken c.loop-buffer.sink)) c.flush.new.self (g.K.Sink.taken c.flush.new.sink) i.3 c.in-Ok.ensures.empty c.in-Ok.ensures.wrote);
+    }
 
 pub returns-then-count-eq0-clause-ended : goal.returns-then-count-eq0-clause-ended
 returns-then-count-eq0-clause-ended g c =
@@ -54,7 +58,10 @@ returns-then-count-eq0-clause-ended g c =
 pub piece-requires : goal.piece-requires
 piece-requires g c =
     let i = c.loop-buffer.invariant.used in
-    record { going = (c.args.rack.now, g.K.Sink.taken c.args.sink.now, i.0, going_flushed g.M.Machine c.args.rack.now (g.K.Sink.taken c.args.sink.now) i.0 (work c.loop-buffer.rack c.loop-buffer.self c.loop-buffer.journal (g.K.Sink.taken c.loop-buffer.sink)) c.flush.new.self (g.K.Sink.taken c.flush.new.sink) i.3 c.in-Ok.ensures.empty c.in-Ok.ensures.wrote) }
+    record {
+      going =
+          (c.args.rack.now, g.K.Sink.taken c.args.sink.now, i.0, going_flushed g.M.Machine c.args.rack.now (g.K.Sink.taken c.args.sink.now) i.0 (work c.loop-buffer.rack c.loop-buffer.self c.loop-buffer.journal (g.K.Sink.taken c.loop-buffer.sink)) c.flush.new.self (g.K.Sink.taken c.flush.new.sink) i.3 c.in-Ok.ensures.empty c.in-Ok.ensures.wrote);
+    }
 
 pub overflow_add-came : goal.overflow_add-came
 overflow_add-came g c =

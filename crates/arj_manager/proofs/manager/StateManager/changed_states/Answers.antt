@@ -6,7 +6,8 @@ use Rattle.arj_manager.proofs.Upkeep.{unknown_states, walk_states}
 use Rattle.arj_manager.proofs.manager.StateManager.changed_states.Goals as goal
 
 pub returns-in_default : goal.returns-in_default
-returns-in_default c = c.new.ensures ∙ (unknown_states c.self.inside.index c.args.top (sym c.in_default.ensures.value) c.self.inside.objects.entries c.self.invariant ∙ ap (changed_in c.args.top) c.self.view_is)
+returns-in_default c =
+    c.new.ensures ∙ (unknown_states c.self.inside.index c.args.top (sym c.in_default.ensures.value) c.self.inside.objects.entries c.self.invariant ∙ ap (changed_in c.args.top) c.self.view_is)
 
 pub returns : goal.returns
 returns c =

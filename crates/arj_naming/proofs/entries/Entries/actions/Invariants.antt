@@ -5,4 +5,5 @@ use Rattle.arj_naming.proofs.entries.Entries.actions.Given as goal
 
 -- the actions so far, and those that are left
 abbrev pub invariant-loop-action : goal.invariant-loop-action
-invariant-loop-action l = l.actions ++ map (λ (p : Uid × List ObjectState). p.0) l.action-iterator ≡ map (λ (p : Uid × List ObjectState). p.0) l.self.pend
+invariant-loop-action l =
+    l.actions ++ map (λ (p : Uid × List ObjectState). p.0) l.action-iterator ≡ map (λ (p : Uid × List ObjectState). p.0) l.self.pend

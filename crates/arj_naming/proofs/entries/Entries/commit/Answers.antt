@@ -9,7 +9,8 @@ use Rattle.arj_naming.proofs.entries.Entries.commit.Goals as goal
 
 pub put_states-requires-clause-states : goal.put_states-requires-clause-states
 put_states-requires-clause-states c =
-    let own : AreOfEntries c.in-Some.states = subst (λ o. IfSome o AreOfEntries) (sym c.in-Some.ensures.states) (found (λ a states. AreOfEntries states) c.args.action c.self.inside.pend.entries c.self.invariant.entries.pend) in
+    let own : AreOfEntries c.in-Some.states =
+    subst (λ o. IfSome o AreOfEntries) (sym c.in-Some.ensures.states) (found (λ a states. AreOfEntries states) c.args.action c.self.inside.pend.entries c.self.invariant.entries.pend) in
     subst (AllByRecursion (λ (s : ObjectState). IsEntryState s.uid s)) (sym c.into_vec.ensures) own.each
 
 pub invariant_of-self : goal.invariant_of-self

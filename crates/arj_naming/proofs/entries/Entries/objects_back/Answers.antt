@@ -19,7 +19,8 @@ use Rattle.arj_protocol.specs.Named.{Named}
 use Rattle.arj_naming.proofs.entries.Entries.objects_back.Goals as goal
 
 pub object_of-requires : goal.object_of-requires
-object_of-requires c = (subst (AllByRecursion (λ (e : Uid × ObjectState). IsEntryState e.0 e.1)) c.in-Some.ensures.steps c.loop-uid.invariant.left).0.state.object
+object_of-requires c =
+    (subst (AllByRecursion (λ (e : Uid × ObjectState). IsEntryState e.0 e.1)) c.in-Some.ensures.steps c.loop-uid.invariant.left).0.state.object
 
 pub loop-uid-preserved-in_ok-insert : goal.loop-uid-preserved-in_ok-insert
 loop-uid-preserved-in_ok-insert c =

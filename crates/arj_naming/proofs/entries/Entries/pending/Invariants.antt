@@ -9,4 +9,5 @@ use Rattle.arj_naming.proofs.entries.Entries.pending.Given as goal
 
 -- with the actions that are left it is what it is with all
 abbrev pub invariant-loop-action : goal.invariant-loop-action
-invariant-loop-action l = (u : Uid) → either (at_uid u l.pending.entries) (option_map prepared_as (pending_of u l.action-iterator)) ≡ option_map prepared_as (pending_of u l.self.pend)
+invariant-loop-action l =
+    (u : Uid) → either (at_uid u l.pending.entries) (option_map prepared_as (pending_of u l.action-iterator)) ≡ option_map prepared_as (pending_of u l.self.pend)

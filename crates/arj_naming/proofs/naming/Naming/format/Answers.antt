@@ -4,7 +4,8 @@ use Rattle.std.specs.List.{AllByRecursion}
 use Rattle.arj_disk.specs.declared.slot.Role.TheVariants.{Names}
 use Rattle.arj_entry.specs.Entry.{EntryInForm}
 use Rattle.arj_journal.specs.declared.header.ObjectLine.{ObjectLine}
-use Rattle.arj_naming.proofs.First.{first_found, firsts, header_all, header_distinct, header_few, header_pair, header_rises, header_saves, header_sizes, only_pair}
+use Rattle.arj_naming.proofs.First.{first_found, firsts, header_all, header_distinct, header_few, header_pair, header_rises, header_saves}
+use Rattle.arj_naming.proofs.First.{header_sizes, only_pair}
 use Rattle.arj_naming.proofs.Gives.{gives_entries}
 use Rattle.arj_naming.proofs.Recovered.{each_by_uid}
 use Rattle.arj_naming.proofs.Store.{on_err}
@@ -17,16 +18,24 @@ use Rattle.arj_law_store.specs.store.Found.{by_uid, pair_found}
 use Rattle.arj_naming.proofs.naming.Naming.format.Goals as goal
 
 pub first_entries-requires : goal.first_entries-requires
-first_entries-requires g c = subst (AllByRecursion (λ (o : ObjectLine). EntryInForm (record { servers = o.servers; stores = o.stores }))) (sym c.as_slice.ensures) (header_saves c.args.header.now c.requires.header (firsts c.args.header.now.objects) refl)
+first_entries-requires g c =
+    subst (AllByRecursion (λ (o : ObjectLine). EntryInForm (record {
+      servers = o.servers;
+      stores =
+          o.stores;
+    }))) (sym c.as_slice.ensures) (header_saves c.args.header.now c.requires.header (firsts c.args.header.now.objects) refl)
 
 pub format-requires-clause-states : goal.format-requires-clause-states
-format-requires-clause-states g c = header_distinct c.args.header.now c.requires.header c.in_ok-states.states (c.in_ok-states.ensures ∙ ap firsts c.as_slice.ensures)
+format-requires-clause-states g c =
+    header_distinct c.args.header.now c.requires.header c.in_ok-states.states (c.in_ok-states.ensures ∙ ap firsts c.as_slice.ensures)
 
 pub format-requires-clause-count : goal.format-requires-clause-count
-format-requires-clause-count g c = header_few c.args.header.now c.requires.header c.in_ok-states.states (c.in_ok-states.ensures ∙ ap firsts c.as_slice.ensures)
+format-requires-clause-count g c =
+    header_few c.args.header.now c.requires.header c.in_ok-states.states (c.in_ok-states.ensures ∙ ap firsts c.as_slice.ensures)
 
 pub format-requires-clause-sizes : goal.format-requires-clause-sizes
-format-requires-clause-sizes g c = header_sizes c.args.header.now c.requires.header c.in_ok-states.states (c.in_ok-states.ensures ∙ ap firsts c.as_slice.ensures)
+format-requires-clause-sizes g c =
+    header_sizes c.args.header.now c.requires.header c.in_ok-states.states (c.in_ok-states.ensures ∙ ap firsts c.as_slice.ensures)
 
 pub recovered-requires : goal.recovered-requires
 recovered-requires g c =
@@ -38,13 +47,15 @@ recovered-requires g c =
 
 -- where memory is wanting before it begins, nothing is there
 pub returns-in_err-states-clause-fault : goal.returns-in_err-states-clause-fault
-returns-in_err-states-clause-fault g c = on_err c.from_residual.result (0, (g.met.O.ObjectStore.blank Names (g.D.Disk.file c.args.disk.now) c.requires.empty).1)
+returns-in_err-states-clause-fault g c =
+    on_err c.from_residual.result (0, (g.met.O.ObjectStore.blank Names (g.D.Disk.file c.args.disk.now) c.requires.empty).1)
 
 pub returns-in_err-states-clause-formed : goal.returns-in_err-states-clause-formed
 returns-in_err-states-clause-formed g c = (g.met.O.ObjectStore.blank Names (g.D.Disk.file c.args.disk.now) c.requires.empty).0
 
 pub returns-in_err-store-clause-fault : goal.returns-in_err-store-clause-fault
-returns-in_err-store-clause-fault g c = on_err c.from_residual-in_err-store.result (subst (HasFirst (g.O.ObjectStore.pair (g.D.Disk.file c.format.new.disk) Names)) (c.in_ok-states.ensures ∙ ap firsts c.as_slice.ensures) c.in_err-store.ensures.fault)
+returns-in_err-store-clause-fault g c =
+    on_err c.from_residual-in_err-store.result (subst (HasFirst (g.O.ObjectStore.pair (g.D.Disk.file c.format.new.disk) Names)) (c.in_ok-states.ensures ∙ ap firsts c.as_slice.ensures) c.in_err-store.ensures.fault)
 
 -- all of them are there
 pub returns-in_err-memory-clause-fault : goal.returns-in_err-memory-clause-fault
@@ -72,7 +83,8 @@ returns-clause-pair g c =
     let ss = c.in_ok-states.states in
     let are : ss ≡ firsts hd.objects = c.in_ok-states.ensures ∙ ap firsts c.as_slice.ensures in
     let f : Found = record { committed = ss; prepared = c.new.result } in
-    let pair : pair_found f ≡ (first_disk hd 1).names = (λ i. record { held = by_uid ss; pend = c.new.ensures i }) ∙ header_pair hd c.requires.header ss are in
+    let pair : pair_found f ≡ (first_disk hd 1).names =
+    (λ i. record { held = by_uid ss; pend = c.new.ensures i }) ∙ header_pair hd c.requires.header ss are in
     c.in_ok-memory.ensures.entries ∙ pair
 
 pub returns-clause-part : goal.returns-clause-part
@@ -81,7 +93,8 @@ returns-clause-part g c =
     let ss = c.in_ok-states.states in
     let are : ss ≡ firsts hd.objects = c.in_ok-states.ensures ∙ ap firsts c.as_slice.ensures in
     let f : Found = record { committed = ss; prepared = c.new.result } in
-    let pair : pair_found f ≡ (first_disk hd 1).names = (λ i. record { held = by_uid ss; pend = c.new.ensures i }) ∙ header_pair hd c.requires.header ss are in
+    let pair : pair_found f ≡ (first_disk hd 1).names =
+    (λ i. record { held = by_uid ss; pend = c.new.ensures i }) ∙ header_pair hd c.requires.header ss are in
     ap Some (c.in_ok-memory.ensures.part ∙ ap (recovered_naming 1) pair)
 
 pub returns-clause-entries : goal.returns-clause-entries

@@ -5,4 +5,5 @@ use Rattle.arj_naming.proofs.Gives.{gives_entries}
 use Rattle.arj_naming.proofs.naming.Naming.gives_entries.Goals as goal
 
 pub returns : goal.returns
-returns g c = gives_entries (g.O.ObjectStore.pair (g.D.Disk.file c.args._disk.now) Names) c.args.self.now.pair c.requires.pair (subst (λ k. AreEntries k.pair) c.self.view_is c.are_entries.ensures)
+returns g c =
+    gives_entries (g.O.ObjectStore.pair (g.D.Disk.file c.args._disk.now) Names) c.args.self.now.pair c.requires.pair (subst (λ k. AreEntries k.pair) c.self.view_is c.are_entries.ensures)

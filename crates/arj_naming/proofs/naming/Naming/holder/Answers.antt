@@ -14,5 +14,7 @@ returns g c = λ file stands.
     let store_is : c.self.inside.store ≡ c.args.self.now.store = ap (λ (k : Kept g.row.O.Denot). k.store) c.self.view_is in
     let at = c.holder.ensures file (subst (λ s. o.keeps s file) (sym store_is) stands.keeps) in
     sym (holder_as (o.pair file Names) c.args.self.now.pair stands.pair (g.met.O.ObjectStore.sound Names file stands.formed).once (entry c.args.x) c.holder.result
-    (subst (λ u. MatchOption c.holder.result (files.InDoubt (o.pair file Names) u → ⊥) (λ act. names ((o.pair file Names).pend act) u)) c.entry_uid.ensures
-    (subst (λ r. MatchOption c.holder.result (files.InDoubt (o.pair file r) c.entry_uid.result → ⊥) (λ act. names ((o.pair file r).pend act) c.entry_uid.result)) (ap o.own_role store_is ∙ stands.role_is) at)))
+    (subst (λ u. MatchOption c.holder.result (files.InDoubt (o.pair file Names) u →
+    ⊥) (λ act. names ((o.pair file Names).pend act) u)) c.entry_uid.ensures
+    (subst (λ r. MatchOption c.holder.result (files.InDoubt (o.pair file r) c.entry_uid.result →
+    ⊥) (λ act. names ((o.pair file r).pend act) c.entry_uid.result)) (ap o.own_role store_is ∙ stands.role_is) at)))

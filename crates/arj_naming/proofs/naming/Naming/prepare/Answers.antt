@@ -5,7 +5,8 @@ use Rattle.arj_naming.specs.Confirming.{prepare_by}
 use Rattle.arj_naming.specs.Entries.{AreEntries}
 use Rattle.arj_naming.proofs.Gives.{answer_gives, prepare_gives}
 use Rattle.arj_naming.proofs.Known.{entries_to, as_many, known_all, added_all, all_small}
-use Rattle.arj_naming.proofs.Store.{on_err, cut_part, prepare_cut, prepared_done, prepared_pair, prepared_part, prepared_reply, refused_done, refused_reply}
+use Rattle.arj_naming.proofs.Store.{on_err, cut_part, prepare_cut, prepared_done, prepared_pair, prepared_part, prepared_reply}
+use Rattle.arj_naming.proofs.Store.{refused_done, refused_reply}
 use Rattle.arj_protocol.specs.Confirm.{confirms}
 use Rattle.arj_protocol.specs.Effect.{pair_prepared}
 use Rattle.arj_store.specs.Pair as files

@@ -25,10 +25,13 @@ returns-clause-stands g c =
     }
 
 pub returns-in_err-store-clause-entries : goal.returns-in_err-store-clause-entries
-returns-in_err-store-clause-entries g c = gives_same (g.O.ObjectStore.pair (g.D.Disk.file c.args.disk.now) Names) (g.O.ObjectStore.pair (g.D.Disk.file c.recover.new.disk) Names) c.recover.ensures.pair c.requires.entries
+returns-in_err-store-clause-entries g c =
+    gives_same (g.O.ObjectStore.pair (g.D.Disk.file c.args.disk.now) Names) (g.O.ObjectStore.pair (g.D.Disk.file c.recover.new.disk) Names) c.recover.ensures.pair c.requires.entries
 
 pub returns-in_err-memory-clause-entries : goal.returns-in_err-memory-clause-entries
-returns-in_err-memory-clause-entries g c = gives_same (g.O.ObjectStore.pair (g.D.Disk.file c.args.disk.now) Names) (g.O.ObjectStore.pair (g.D.Disk.file c.recover.new.disk) Names) c.recover.ensures.pair c.requires.entries
+returns-in_err-memory-clause-entries g c =
+    gives_same (g.O.ObjectStore.pair (g.D.Disk.file c.args.disk.now) Names) (g.O.ObjectStore.pair (g.D.Disk.file c.recover.new.disk) Names) c.recover.ensures.pair c.requires.entries
 
 pub returns-clause-entries : goal.returns-clause-entries
-returns-clause-entries g c = gives_same (g.O.ObjectStore.pair (g.D.Disk.file c.args.disk.now) Names) (g.O.ObjectStore.pair (g.D.Disk.file c.recover.new.disk) Names) c.recover.ensures.pair c.requires.entries
+returns-clause-entries g c =
+    gives_same (g.O.ObjectStore.pair (g.D.Disk.file c.args.disk.now) Names) (g.O.ObjectStore.pair (g.D.Disk.file c.recover.new.disk) Names) c.recover.ensures.pair c.requires.entries

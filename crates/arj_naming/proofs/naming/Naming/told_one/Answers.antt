@@ -45,7 +45,8 @@ returns-clause-done g c =
     let us_are = c.as_slice.ensures ∙ (c.in_ok-plan.ensures.orphans ∙ ((λ i. orphans_by c.args.action (c.in_ok-plan.ensures.taken i) c.self.inside.memory.entries c.self.inside.memory.part)
     ∙ ap (λ k. orphans_by c.args.action (taken_by c.args.action c.args.end k.part) k.pair k.part) c.self.view_is)) in
     let taken_is = c.in_ok-plan.ensures.taken ∙ ap (λ k. taken_by c.args.action c.args.end k.part) c.self.view_is in
-    let part_is : c.self-2.inside.memory.part ≡ n = ap (λ k. k.part) c.self-2.view_is ∙ (c.in-Ok.ensures.done.part ∙ c.in_ok-end_own.ensures.done.part) in
+    let part_is : c.self-2.inside.memory.part ≡ n =
+    ap (λ k. k.part) c.self-2.view_is ∙ (c.in-Ok.ensures.done.part ∙ c.in_ok-end_own.ensures.done.part) in
     record {
       part = c.in_ok-finish.ensures.part ∙ ((λ i. (finished c.args.action (taken_is i) (part_is i)).part) ∙ sym (told_part c.args.action c.args.end c.args.self.now.pair n));
       lines = lines_are c.args.action c.args.end c.args.self.now.pair n c.as_slice.result.now us_are c.end_own.new.self.pair c.in_ok-end_own.ensures.done.pair c.args.out.now c.end_own.new.out c.in_ok-end_own.ensures.done.lines

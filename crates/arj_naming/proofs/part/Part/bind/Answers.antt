@@ -12,7 +12,15 @@ use Rattle.arj_naming.proofs.part.Part.bind.Goals as goal
 pub returns-in-Ok-clause-part : goal.returns-in-Ok-clause-part
 returns-in-Ok-clause-part c =
     let part = c.self.inside in
-    let inside : Naming = record { inc = part.counter.inc; count = part.counter.count; objects = part.objects.entries; confirmed = part.confirmed.keys; told = part.told.keys } in
+    let inside : Naming =
+    record {
+      inc = part.counter.inc;
+      count = part.counter.count;
+      objects = part.objects.entries;
+      confirmed = part.confirmed.keys;
+      told =
+          part.told.keys;
+    } in
     let new : Counted = record { named = c.bind.new.self; count = c.bind.new.counter.count } in
     let es = (c.get_mut.follows.lender c.bind.new.self).entries in
     (λ i. record { inc = c.in-Ok.ensures.inc i; count = new.count; objects = es; confirmed = inside.confirmed; told = inside.told })
@@ -29,7 +37,8 @@ invariant_of-self-in-Ok c =
     let at = sym c.in-Some.ensures.value in
     let part = c.self.inside in
     let before : Counted = record { named = o; count = part.counter.count } in
-    let is : new ≡ (bind_named part.counter.inc x p m.include m.avoid c.in_ok-entry.entry before).part.named = ap (λ (k : Counted). k.named) c.in-Ok.ensures.served.part in
+    let is : new ≡ (bind_named part.counter.inc x p m.include m.avoid c.in_ok-entry.entry before).part.named =
+    ap (λ (k : Counted). k.named) c.in-Ok.ensures.served.part in
     let more = c.touch_path.new.touched.entries in
     let mid = changed_indexed x o new part.objects.entries (c.get_mut.follows.lender new).entries at (c.get_mut.follows.holds new).0 part.touched.entries more part.bound.entries part.bound.entries c.touch_path.ensures.kept (λ n q on. on) c.self.invariant
     (λ u apart. ⊎_elim (λ (off : IsOff u p). inl (subst (IsApart u) (sym is) (apart_bound u part.counter.inc x p c.in_ok-entry.entry before off apart m.include m.avoid))) (λ (on : is_touched more u x ≡ true). inr on) (c.in_ok-touch_path.ensures.here u))

@@ -10,7 +10,8 @@ use Rattle.arj_protocol.specs.Order.{at_number}
 use Rattle.arj_naming.proofs.part.Part.lock_all.Goals as goal
 
 pub lock_in-requires : goal.lock_in-requires
-lock_in-requires c = head_none (refused_exclude c.args.path.now c.loop-x.self) c.args.xs.now c.loop-x.x-index 0 c.loop-x-test.true c.loop-x.invariant.free
+lock_in-requires c =
+    head_none (refused_exclude c.args.path.now c.loop-x.self) c.args.xs.now c.loop-x.x-index 0 c.loop-x-test.true c.loop-x.invariant.free
 
 pub loop-x-preserved : goal.loop-x-preserved
 loop-x-preserved c =

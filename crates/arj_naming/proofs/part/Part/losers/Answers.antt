@@ -15,7 +15,8 @@ returns-in-Some c =
     let u = c.args.action in
     let m = c.self.inside.objects.entries in
     let xs = c.in-Some.xs.now.keys in
-    IfOk-weaker c.all_losers.result (λ losers. (act : Uid) → is_on losers.keys act ≡ any_of (λ (o : Named). list_any (loses u act) o.rows) m xs)
+    IfOk-weaker c.all_losers.result (λ losers. (act : Uid) →
+    is_on losers.keys act ≡ any_of (λ (o : Named). list_any (loses u act) o.rows) m xs)
     (λ losers. (act : Uid) → is_on losers.keys act ≡ loses_row u act c.args.self.now)
     (λ losers is act. is act
     ∙ (any_touched u (λ (o : Named). list_any (loses u act) o.rows) m xs c.self.invariant.sorted (subst (λ s. AreTouched u m (λ x. is_in_set x s)) (sym c.in-Some.ensures.value) (c.self.invariant.touched u)) (λ o apart. no_loser u act o.rows apart.rows)

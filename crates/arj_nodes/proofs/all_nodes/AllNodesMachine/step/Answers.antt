@@ -57,13 +57,17 @@ returns-in-Err-Labels-clause-kept g c _ =
     (ap (λ k. k.event) kept.0, c.requires.going, kept.2)
 
 pub returns-in-Ok-clause-moved : goal.returns-in-Ok-clause-moved
-returns-in-Ok-clause-moved g c first header events ran = moved_by g.C.Core g.D.Disk first header events (c.args.event ∷ []) c.args.self.now.over (hand c.args.self.now.world c.args.rack.now c.args.journal.now) c.step.new.rack ran c.step.ensures.disks
+returns-in-Ok-clause-moved g c first header events ran =
+    moved_by g.C.Core g.D.Disk first header events (c.args.event ∷ []) c.args.self.now.over (hand c.args.self.now.world c.args.rack.now c.args.journal.now) c.step.new.rack ran c.step.ensures.disks
 
 pub returns-in-Err-Labels-clause-moved : goal.returns-in-Err-Labels-clause-moved
-returns-in-Err-Labels-clause-moved g c first header events ran = moved_by g.C.Core g.D.Disk first header events (c.args.event ∷ []) c.args.self.now.over (hand c.args.self.now.world c.args.rack.now c.args.journal.now) c.step.new.rack ran c.step.ensures.disks
+returns-in-Err-Labels-clause-moved g c first header events ran =
+    moved_by g.C.Core g.D.Disk first header events (c.args.event ∷ []) c.args.self.now.over (hand c.args.self.now.world c.args.rack.now c.args.journal.now) c.step.new.rack ran c.step.ensures.disks
 
 pub returns-in-Err-Frames-clause-moved : goal.returns-in-Err-Frames-clause-moved
-returns-in-Err-Frames-clause-moved g c first header events ran = moved_by g.C.Core g.D.Disk first header events (c.args.event ∷ []) c.args.self.now.over (hand c.args.self.now.world c.args.rack.now c.args.journal.now) c.step.new.rack ran c.step.ensures.disks
+returns-in-Err-Frames-clause-moved g c first header events ran =
+    moved_by g.C.Core g.D.Disk first header events (c.args.event ∷ []) c.args.self.now.over (hand c.args.self.now.world c.args.rack.now c.args.journal.now) c.step.new.rack ran c.step.ensures.disks
 
 pub returns-in-Err-Memory-clause-moved : goal.returns-in-Err-Memory-clause-moved
-returns-in-Err-Memory-clause-moved g c first header events ran = moved_by g.C.Core g.D.Disk first header events (c.args.event ∷ []) c.args.self.now.over (hand c.args.self.now.world c.args.rack.now c.args.journal.now) c.step.new.rack ran c.step.ensures.disks
+returns-in-Err-Memory-clause-moved g c first header events ran =
+    moved_by g.C.Core g.D.Disk first header events (c.args.event ∷ []) c.args.self.now.over (hand c.args.self.now.world c.args.rack.now c.args.journal.now) c.step.new.rack ran c.step.ensures.disks

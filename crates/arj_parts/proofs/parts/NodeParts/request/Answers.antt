@@ -15,7 +15,8 @@ use Rattle.arj_node.specs.declared.outgoing.Outgoing.TheVariants as of
 use Rattle.arj_protocol.specs.Effect.{Send}
 use Rattle.arj_serve.specs.Asked.{Serves}
 use Rattle.arj_parts.proofs.parts.NodeParts.request.Goals as goal
-use Rattle.arj_parts.proofs.parts.NodeParts.request.Goals.{in-Ok-None, in-Ok-Some+in_ok-say_lines-in-Ok-Some+in_ok-send-in-Ok-Some, in-Err-Stopped+in_ok-say_lines-in-Err-Stopped, in-Err-Memory}
+use Rattle.arj_parts.proofs.parts.NodeParts.request.Goals.{in-Ok-None, in-Ok-Some+in_ok-say_lines-in-Ok-Some+in_ok-send-in-Ok-Some}
+use Rattle.arj_parts.proofs.parts.NodeParts.request.Goals.{in-Err-Stopped+in_ok-say_lines-in-Err-Stopped, in-Err-Memory}
 
 pub returns-clause-done : goal.returns-clause-done
 returns-clause-done g c =
@@ -23,7 +24,8 @@ returns-clause-done g c =
     let file = g.D.Disk.file c.args.disk.now in
     let left = g.D.Disk.file c.serve.new.disk in
     let now : Kept g.row.O.Denot = record { services = c.serve.new.self; coord = c.self.inside.coord; records = c.self.inside.records } in
-    let by_outs : List Outgoing → Kept g.row.O.Denot → Call g.row.O.Denot = λ outs k. record { old = k; new = now; file = file; left = left; before = c.args.outs.now; after = outs } in
+    let by_outs : List Outgoing → Kept g.row.O.Denot → Call g.row.O.Denot =
+    λ outs k. record { old = k; new = now; file = file; left = left; before = c.args.outs.now; after = outs } in
     elim c.match-serve.branch [
       | in-Ok-None w ↦ subst (λ r. IfOk r (Takes o (asked_here c.args.from c.args.m.now) (by_outs c.match-serve.outs c.args.self.now))) (sym w.result-is)
           (subst (λ outs. Takes o (asked_here c.args.from c.args.m.now) (by_outs outs c.args.self.now) false) (sym w.outs-is)
@@ -51,10 +53,12 @@ returns-clause-halted g c =
     let file = g.D.Disk.file c.args.disk.now in
     let left = g.D.Disk.file c.serve.new.disk in
     let now : Kept g.row.O.Denot = record { services = c.serve.new.self; coord = c.self.inside.coord; records = c.self.inside.records } in
-    let by_outs : List Outgoing → Kept g.row.O.Denot → Call g.row.O.Denot = λ outs k. record { old = k; new = now; file = file; left = left; before = c.args.outs.now; after = outs } in
+    let by_outs : List Outgoing → Kept g.row.O.Denot → Call g.row.O.Denot =
+    λ outs k. record { old = k; new = now; file = file; left = left; before = c.args.outs.now; after = outs } in
     elim c.match-serve.branch [
       | in-Ok-None w ↦ λ halted. let never : Ok false ≡ Err fault.Halted = sym w.result-is ∙ halted in absurd (cc never)
-      | in-Ok-Some+in_ok-say_lines-in-Ok-Some+in_ok-send-in-Ok-Some w ↦ λ halted. let never : Ok true ≡ Err fault.Halted = sym w.result-is ∙ halted in absurd (cc never)
+      | in-Ok-Some+in_ok-say_lines-in-Ok-Some+in_ok-send-in-Ok-Some w ↦ λ halted. let never : Ok true ≡ Err fault.Halted =
+          sym w.result-is ∙ halted in absurd (cc never)
       | in-Err-Stopped+in_ok-say_lines-in-Err-Stopped w ↦ λ halted.
           subst (λ outs. Halts o (λ n h. outs_of (asked_here c.args.from c.args.m.now n h)) (by_outs outs c.args.self.now)) (sym w.outs-is)
           (subst (λ k. Halts o (λ n h. outs_of (asked_here c.args.from c.args.m.now n h)) (by_outs w.say_lines-in-Err-Stopped.new.outs k)) c.self.view_is

@@ -12,7 +12,16 @@ take_asked-requires-clause-no_answer g c = none_is (answers c.args.m) (sym c.if-
 pub returns-clause-done : goal.returns-clause-done
 returns-clause-done g c =
     let o = g.O.ObjectStore in
-    let call : Call g.row.O.Denot = record { old = c.args.self.now; new = c.answer.new.self; file = g.D.Disk.file c.args.disk.now; left = g.D.Disk.file c.answer.new.disk; before = c.args.outs.now; after = c.answer.new.outs } in
+    let call : Call g.row.O.Denot =
+    record {
+      old = c.args.self.now;
+      new = c.answer.new.self;
+      file = g.D.Disk.file c.args.disk.now;
+      left =
+          g.D.Disk.file c.answer.new.disk;
+      before = c.args.outs.now;
+      after = c.answer.new.outs;
+    } in
     IfOk-weaker c.answer.result (Takes o (answered_here c.args.from c.args.m) call) (Takes o (handled_here c.args.from c.args.m) call)
     (takes_as o (handled_here c.args.from c.args.m) (answered_here c.args.from c.args.m) call
     (λ n h stands. as_answer c.args.from c.args.m n h (c.is_answer.ensures.no_request c.if-not-is_answer.false) (sym c.if-not-is_answer.false ∙ c.is_answer.ensures.answer)))
@@ -21,7 +30,16 @@ returns-clause-done g c =
 pub returns-clause-halted : goal.returns-clause-halted
 returns-clause-halted g c = λ halted.
     let o = g.O.ObjectStore in
-    let call : Call g.row.O.Denot = record { old = c.args.self.now; new = c.answer.new.self; file = g.D.Disk.file c.args.disk.now; left = g.D.Disk.file c.answer.new.disk; before = c.args.outs.now; after = c.answer.new.outs } in
+    let call : Call g.row.O.Denot =
+    record {
+      old = c.args.self.now;
+      new = c.answer.new.self;
+      file = g.D.Disk.file c.args.disk.now;
+      left =
+          g.D.Disk.file c.answer.new.disk;
+      before = c.args.outs.now;
+      after = c.answer.new.outs;
+    } in
     halts_as o (handled_here c.args.from c.args.m) (answered_here c.args.from c.args.m) call
     (λ n h stands. as_answer c.args.from c.args.m n h (c.is_answer.ensures.no_request c.if-not-is_answer.false) (sym c.if-not-is_answer.false ∙ c.is_answer.ensures.answer))
     (c.answer.ensures.halted halted)

@@ -29,7 +29,16 @@ pub returns-clause-done : goal.returns-clause-done
 returns-clause-done g c =
     let o = g.O.ObjectStore in
     let file = g.D.Disk.file c.args.disk.now in
-    let call : Call g.row.O.Denot = record { old = c.args.self.now; new = c.take_meant.new.self; file = file; left = g.D.Disk.file c.take_meant.new.disk; before = c.args.outs.now; after = c.take_meant.new.outs } in
+    let call : Call g.row.O.Denot =
+    record {
+      old = c.args.self.now;
+      new = c.take_meant.new.self;
+      file = file;
+      left = g.D.Disk.file c.take_meant.new.disk;
+      before =
+          c.args.outs.now;
+      after = c.take_meant.new.outs;
+    } in
     IfOk-weaker c.take_meant.result (Takes o (handled_here c.args.from c.args.m) call) (Takes o (taken_here c.args.from c.args.m) call)
     (takes_as o (taken_here c.args.from c.args.m) (handled_here c.args.from c.args.m) call
     (λ n h stands. as_meant o c.args.self.now file c.args.from c.args.m c.is_meant.result c.is_meant.ensures n h stands c.if-not-is_meant.false))
@@ -39,7 +48,16 @@ pub returns-clause-halted : goal.returns-clause-halted
 returns-clause-halted g c = λ halted.
     let o = g.O.ObjectStore in
     let file = g.D.Disk.file c.args.disk.now in
-    let call : Call g.row.O.Denot = record { old = c.args.self.now; new = c.take_meant.new.self; file = file; left = g.D.Disk.file c.take_meant.new.disk; before = c.args.outs.now; after = c.take_meant.new.outs } in
+    let call : Call g.row.O.Denot =
+    record {
+      old = c.args.self.now;
+      new = c.take_meant.new.self;
+      file = file;
+      left = g.D.Disk.file c.take_meant.new.disk;
+      before =
+          c.args.outs.now;
+      after = c.take_meant.new.outs;
+    } in
     halts_as o (taken_here c.args.from c.args.m) (handled_here c.args.from c.args.m) call
     (λ n h stands. as_meant o c.args.self.now file c.args.from c.args.m c.is_meant.result c.is_meant.ensures n h stands c.if-not-is_meant.false)
     (c.take_meant.ensures.halted halted)

@@ -14,7 +14,8 @@ use Rattle.arj_protocol.specs.Words.message
 use Rattle.arj_serve.specs.Asked.{sent_to}
 use Rattle.arj_serve.specs.Did.{sends}
 use Rattle.arj_parts.proofs.parts.NodeParts.told.Goals as goal
-use Rattle.arj_parts.proofs.parts.NodeParts.told.Goals.{in-Ok+in_ok-say_lines-in-Ok+in_ok-send_back-in-Ok, in-Err-Stopped+in_ok-say_lines-in-Err-Stopped, in-Err-Memory}
+use Rattle.arj_parts.proofs.parts.NodeParts.told.Goals.{in-Ok+in_ok-say_lines-in-Ok+in_ok-send_back-in-Ok}
+use Rattle.arj_parts.proofs.parts.NodeParts.told.Goals.{in-Err-Stopped+in_ok-say_lines-in-Err-Stopped, in-Err-Memory}
 
 pub returns-clause-done : goal.returns-clause-done
 returns-clause-done g c =
@@ -22,7 +23,8 @@ returns-clause-done g c =
     let file = g.D.Disk.file c.args.disk.now in
     let left = g.D.Disk.file c.told.new.disk in
     let now : Kept g.row.O.Denot = record { services = c.told.new.self; coord = c.self.inside.coord; records = c.self.inside.records } in
-    let by_outs : List Outgoing → Kept g.row.O.Denot → Call g.row.O.Denot = λ outs k. record { old = k; new = now; file = file; left = left; before = c.args.outs.now; after = outs } in
+    let by_outs : List Outgoing → Kept g.row.O.Denot → Call g.row.O.Denot =
+    λ outs k. record { old = k; new = now; file = file; left = left; before = c.args.outs.now; after = outs } in
     elim c.match-told.branch [
       | in-Ok+in_ok-say_lines-in-Ok+in_ok-send_back-in-Ok w ↦ subst (λ r. OnOk r (Takes o (other_here c.args.from (message.Told c.args.m.now)) (by_outs c.match-told.outs c.args.self.now) true)) (sym w.result-is)
           (subst (λ outs. Takes o (other_here c.args.from (message.Told c.args.m.now)) (by_outs outs c.args.self.now) true) (sym w.outs-is)
@@ -41,7 +43,8 @@ returns-clause-halted g c =
     let file = g.D.Disk.file c.args.disk.now in
     let left = g.D.Disk.file c.told.new.disk in
     let now : Kept g.row.O.Denot = record { services = c.told.new.self; coord = c.self.inside.coord; records = c.self.inside.records } in
-    let by_outs : List Outgoing → Kept g.row.O.Denot → Call g.row.O.Denot = λ outs k. record { old = k; new = now; file = file; left = left; before = c.args.outs.now; after = outs } in
+    let by_outs : List Outgoing → Kept g.row.O.Denot → Call g.row.O.Denot =
+    λ outs k. record { old = k; new = now; file = file; left = left; before = c.args.outs.now; after = outs } in
     elim c.match-told.branch [
       | in-Ok+in_ok-say_lines-in-Ok+in_ok-send_back-in-Ok w ↦ λ halted. let never = sym w.result-is ∙ halted in absurd (cc never)
       | in-Err-Stopped+in_ok-say_lines-in-Err-Stopped w ↦ λ halted.

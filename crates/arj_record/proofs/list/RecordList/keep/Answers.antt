@@ -13,7 +13,8 @@ returns-clause-calls g c =
     subst P (keep_is c.args.action c.self.inside.items.items c.self.invariant.1 ∙ ap (λ rs. keep_calls c.args.action rs) same) c.keep_all.ensures
 
 pub returns-clause-once : goal.returns-clause-once
-returns-clause-once g c = λ x. subst (λ (l : Records g.row.V.Denot). raised x (keep_calls c.args.action l.records) ≡ cond (is_some (found 3 x l.records)) (c.args.action ∷ []) []) c.self.view_is (raised_once c.args.action x c.self.inside.items.items c.self.invariant.1)
+returns-clause-once g c =
+    λ x. subst (λ (l : Records g.row.V.Denot). raised x (keep_calls c.args.action l.records) ≡ cond (is_some (found 3 x l.records)) (c.args.action ∷ []) []) c.self.view_is (raised_once c.args.action x c.self.inside.items.items c.self.invariant.1)
 
 pub returns-clause-locks : goal.returns-clause-locks
 returns-clause-locks g c = keep_passes c.args.self.records c.args.action

@@ -19,4 +19,5 @@ returns-clause-each g c =
     ∙ (found-gathered order x c.self.inside.items.items parent c.self.invariant.1 arranged ∙ ap (λ (l : Records g.row.V.Denot). combined (found order x parent) (found order x l.records)) c.self.view_is)
 
 pub returns-clause-grows : goal.returns-clause-grows
-returns-clause-grows g c = omega (arith, ap length c.hand_all.ensures.records, length-gathered c.self.inside.items.items c.args.parent.now.records, ap (λ (l : Records g.row.V.Denot). length l.records) c.self.view_is)
+returns-clause-grows g c =
+    omega (arith, ap length c.hand_all.ensures.records, length-gathered c.self.inside.items.items c.args.parent.now.records, ap (λ (l : Records g.row.V.Denot). length l.records) c.self.view_is)

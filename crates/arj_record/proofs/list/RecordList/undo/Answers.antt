@@ -14,7 +14,8 @@ returns-clause-calls g c =
     subst P (undo_is c.args.action c.self.inside.items.items c.self.invariant.1 ∙ ap (λ rs. undo_calls c.args.action rs) same) c.undo_all.ensures
 
 pub returns-clause-once : goal.returns-clause-once
-returns-clause-once g c = λ x. subst (λ (l : Records g.row.V.Denot). restored x (undo_calls c.args.action l.records) ≡ option_to_list (image x l.records)) c.self.view_is (restored_once c.args.action x c.self.inside.items.items c.self.invariant.1)
+returns-clause-once g c =
+    λ x. subst (λ (l : Records g.row.V.Denot). restored x (undo_calls c.args.action l.records) ≡ option_to_list (image x l.records)) c.self.view_is (restored_once c.args.action x c.self.inside.items.items c.self.invariant.1)
 
 pub returns-clause-locks : goal.returns-clause-locks
 returns-clause-locks g c = undo_releases c.args.self.records c.args.action

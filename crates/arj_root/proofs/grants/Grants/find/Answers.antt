@@ -6,7 +6,8 @@ use Rattle.arj_root.proofs.Placed.{found_place, place_within}
 use Rattle.arj_root.proofs.grants.Grants.find.Goals as goal
 
 pub returns-clause-place : goal.returns-clause-place
-returns-clause-place c = found_place c.self.inside.places c.self.inside.grants.items c.args.self.now c.args.top c.args.x c.place.result c.self.invariant c.self.view_is c.place.ensures
+returns-clause-place c =
+    found_place c.self.inside.places c.self.inside.grants.items c.args.self.now c.args.top c.args.x c.place.result c.self.invariant c.self.view_is c.place.ensures
 
 inside : (test : coord.Grant → Bool) (gs : List coord.Grant) (o : Option ℕ) → o ≡ place_of test 0 gs → IfSome o (λ at. at < length gs)
 inside test gs None is = tt

@@ -16,7 +16,11 @@ invariant_of-self c =
     taken_up (coord.same_join j) (rejoined j.loaded) j c.self.inside.joined.items c.as_slice.result.now c.self.inside.joined.items c.in-Some.at c.index_mut.result.now c.take.new.self c.as_slice.ensures.value refl
     (ap (λ (u : Uid). place_of (is_join_of u j.x j.store) 0 c.as_slice.result.now) (sym c.last.ensures) ∙ sym c.in-Some.ensures.place) c.in-Some.ensures.within c.index_mut.ensures.value c.take.ensures
     ∙ sym (joined_is j c.self.inside.joined.items) in
-    subst AreJoins (sym is) (joins_more j c.self.inside.joined.items c.self.invariant (record { node = c.requires.node; own = c.requires.own }))
+    subst AreJoins (sym is) (joins_more j c.self.inside.joined.items c.self.invariant (record {
+      node = c.requires.node;
+      own =
+          c.requires.own;
+    }))
 
 pub returns-in-Some-clause-noted : goal.returns-in-Some-clause-noted
 returns-in-Some-clause-noted c =

@@ -8,7 +8,8 @@ use Rattle.arj_root.proofs.keepings.Keepings.answered.Goals as goal
 
 pub put-requires : goal.put-requires
 put-requires c =
-    let was : KeptFits c.take-keeping.result.kept = subst (λ (k : coord.Keeping). KeptFits k.kept) (sym c.take-keeping.ensures.keeping) c.take-keeping.ensures.fits in
+    let was : KeptFits c.take-keeping.result.kept =
+    subst (λ (k : coord.Keeping). KeptFits k.kept) (sym c.take-keeping.ensures.keeping) c.take-keeping.ensures.fits in
     subst (λ (k : coord.Keeping). KeptFits k.kept) (sym c.in_ok-step.ensures.keeping)
     (hears_fits c.args.free c.take-keeping.result c.args.steps c.args.from c.args.message was c.requires)
 

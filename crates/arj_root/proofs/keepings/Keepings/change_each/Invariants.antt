@@ -5,4 +5,5 @@ use Rattle.arj_root.proofs.keepings.Keepings.change_each.Given as goal
 
 -- the rest of the objects changes what is left as all of them change the whole
 abbrev pub invariant-loop-x : goal.invariant-loop-x
-invariant-loop-x l = changed_at (keeping_after l.plan) (drop l.x-index l.objects) l.self ≡ changed_at (keeping_after l.plan) l.objects l.fn.self
+invariant-loop-x l =
+    changed_at (keeping_after l.plan) (drop l.x-index l.objects) l.self ≡ changed_at (keeping_after l.plan) l.objects l.fn.self

@@ -6,6 +6,7 @@ use Rattle.arj_root.proofs.root.Root.answered.Goals as goal
 pub returns-clause-root : goal.returns-clause-root
 returns-clause-root c =
     let f = c.self.inside in
-    let mid : coord.Root = record { went = f.sends; said = f.calls; joined = f.joins; grants = f.grants; keeping = f.keeping; states = f.states } in
+    let mid : coord.Root =
+    record { went = f.sends; said = f.calls; joined = f.joins; grants = f.grants; keeping = f.keeping; states = f.states } in
     answered_root c.args.steps c.args.from c.args.message c.args.free c.args.self.now mid c.granted.result c.answered.new.self c.granted.ensures (c.self.view_is ∙ c.in_ok-note_granted.ensures)
     c.in_ok-step.ensures.keeping

@@ -13,7 +13,8 @@ returns-then-has-clause-noted c =
 pub invariant_of-self-2 : goal.invariant_of-self-2
 invariant_of-self-2 c =
     let w : Went = record { path = uids_of c.args.path.now; node = c.args.node; invoke = true } in
-    let items : c.push_reserved.new.self.items ≡ c.self.inside.went.items ++ w ∷ [] = c.push_reserved.ensures.items ∙ ap (λ (l : List Went). l ++ w ∷ []) c.reserve.ensures.items in
+    let items : c.push_reserved.new.self.items ≡ c.self.inside.went.items ++ w ∷ [] =
+    c.push_reserved.ensures.items ∙ ap (λ (l : List Went). l ++ w ∷ []) c.reserve.ensures.items in
     let own : HasSends true c.add.new.self c.push_reserved.new.self.items =
     sends_noted c.self.inside.invokes c.add.new.self c.self.inside.went.items c.push_reserved.new.self.items w c.from-2.result c.self.invariant.0 c.from-2.ensures c.in_ok-add.ensures.added items in
     let kept : HasSends false c.self.inside.others c.push_reserved.new.self.items =

@@ -18,8 +18,24 @@ returns-in_err-abort-clause-stopped g c = λ stop d stands.
     let o = g.O.ObjectStore in
     let file : FileMap = g.D.Disk.file c.args.disk.now in
     let left : FileMap = g.D.Disk.file c.abort.new.disk in
-    let own : o.own_role c.self.inside.store ≡ Store = ap (λ (k : Kept g.row.O.Denot). o.own_role k.store) c.self.view_is ∙ stands.role_is in
-    let call : Call g.row.O.Denot = record { old = c.args.self.now; new = record { number = c.self.inside.number; server = c.self.inside.server; naming = c.self.inside.naming; store = c.abort.new.self }; file = file; left = left; before = c.args.out.now; after = c.args.out.now } in
+    let own : o.own_role c.self.inside.store ≡ Store =
+    ap (λ (k : Kept g.row.O.Denot). o.own_role k.store) c.self.view_is ∙ stands.role_is in
+    let call : Call g.row.O.Denot =
+    record {
+      old = c.args.self.now;
+      new =
+          record {
+            number = c.self.inside.number;
+            server = c.self.inside.server;
+            naming = c.self.inside.naming;
+            store =
+                c.abort.new.self;
+          };
+      file = file;
+      left = left;
+      before = c.args.out.now;
+      after = c.args.out.now;
+    } in
     abort_cut o g.met.O.ObjectStore.keeps_on g.met.O.ObjectStore.stays call d stands (subst (λ r. OnlyOfRole r file left) own c.abort.ensures.others) c.args.act refl
     (subst (λ r. files.SamePair (o.pair file r) (o.pair left r) ⊎ files.Drops (o.pair file r) (o.pair left r) c.args.act) own c.in_err-abort.ensures.fault)
 
@@ -42,10 +58,29 @@ returns-clause-done g c = λ d stands.
     let o = g.O.ObjectStore in
     let file : FileMap = g.D.Disk.file c.args.disk.now in
     let left : FileMap = g.D.Disk.file c.abort.new.disk in
-    let own : o.own_role c.self.inside.store ≡ Store = ap (λ (k : Kept g.row.O.Denot). o.own_role k.store) c.self.view_is ∙ stands.role_is in
-    let call : Call g.row.O.Denot = record { old = c.args.self.now; new = record { number = c.self.inside.number; server = c.self.inside.server; naming = c.self.inside.naming; store = c.abort.new.self }; file = file; left = left; before = c.args.out.now; after = c.say_done.new.out } in
+    let own : o.own_role c.self.inside.store ≡ Store =
+    ap (λ (k : Kept g.row.O.Denot). o.own_role k.store) c.self.view_is ∙ stands.role_is in
+    let call : Call g.row.O.Denot =
+    record {
+      old = c.args.self.now;
+      new =
+          record {
+            number = c.self.inside.number;
+            server = c.self.inside.server;
+            naming = c.self.inside.naming;
+            store =
+                c.abort.new.self;
+          };
+      file = file;
+      left = left;
+      before = c.args.out.now;
+      after = c.say_done.new.out;
+    } in
     aborted_done o g.met.O.ObjectStore.keeps_on g.met.O.ObjectStore.stays call d stands (subst (λ r. OnlyOfRole r file left) own c.abort.ensures.others) c.args.act
-    (λ i. record (c.self.view_is i) { store = c.abort.new.self }) (c.in_ok-abort.ensures.role ∙ own) c.in_ok-abort.ensures.keeps (subst (λ r. o.formed left r) own c.abort.ensures.formed)
+    (λ i. record (c.self.view_is i) {
+      store =
+          c.abort.new.self;
+    }) (c.in_ok-abort.ensures.role ∙ own) c.in_ok-abort.ensures.keeps (subst (λ r. o.formed left r) own c.abort.ensures.formed)
     (subst (λ r. files.Drops (o.pair file r) (o.pair left r) c.args.act) own c.in_ok-abort.ensures.dropped)
     (c.in_ok-say_done.ensures ∙ (λ i. c.args.out.now ++ said (Say (body.Done (c.self.view_is i).number c.args.act role.Store ending.Abort) ∷ [])))
 

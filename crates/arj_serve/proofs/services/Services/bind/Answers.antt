@@ -18,9 +18,25 @@ pub returns : goal.returns
 returns g c =
     let m = c.args.m.now in
     let n = c.in-Some.naming in
-    let old : Kept g.row.O.Denot = record { number = c.self.inside.number; server = c.self.inside.server; naming = c.self.inside.naming; store = c.self.inside.store } in
-    let call : FileMap → Call g.row.O.Denot = λ file. record { old = c.args.self.now; new = record old { naming = Some c.bind.new.naming }; file = file; left = file; before = c.args.out.now; after = c.bind.new.out } in
-    IfOk-weaker c.bind.result (NamingDid (bind_by m n.pair n.part) (λ r. message.Bound (bound_to m.head r)) (record { old = n; new = c.bind.new.naming; before = c.args.out.now; after = c.bind.new.out }))
+    let old : Kept g.row.O.Denot =
+    record { number = c.self.inside.number; server = c.self.inside.server; naming = c.self.inside.naming; store = c.self.inside.store } in
+    let call : FileMap → Call g.row.O.Denot =
+    λ file. record {
+      old = c.args.self.now;
+      new = record old { naming = Some c.bind.new.naming };
+      file = file;
+      left = file;
+      before =
+          c.args.out.now;
+      after = c.bind.new.out;
+    } in
+    IfOk-weaker c.bind.result (NamingDid (bind_by m n.pair n.part) (λ r. message.Bound (bound_to m.head r)) (record {
+      old = n;
+      new =
+          c.bind.new.naming;
+      before = c.args.out.now;
+      after = c.bind.new.out;
+    }))
     (λ answer. (file : FileMap) → Serves g.O.ObjectStore (message.Bind m) (call file) answer)
     (λ answer did file. naming_asked g.O.ObjectStore (message.Bind m) m.head Reply.Bound (λ p t. bind_by m p t)
     (λ k t d from e is. λ i. if_naming (λ x. served from m.head (with_naming (parts_with k e)) Reply.Bound (naming.bind m.head.path m.x m.include m.avoid d.names x)) (sym is i))

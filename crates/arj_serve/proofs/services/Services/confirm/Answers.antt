@@ -14,7 +14,8 @@ pub confirm-requires-clause-stands : goal.confirm-requires-clause-stands
 confirm-requires-clause-stands g c =
     let o = g.O.ObjectStore in
     let n = c.in-Some.naming in
-    let old : Kept g.row.O.Denot = record { number = c.self.inside.number; server = c.self.inside.server; naming = c.self.inside.naming; store = c.self.inside.store } in
+    let old : Kept g.row.O.Denot =
+    record { number = c.self.inside.number; server = c.self.inside.server; naming = c.self.inside.naming; store = c.self.inside.store } in
     named_stands o old c.args.self.now c.self.view_is n c.in-Some.is (g.D.Disk.file c.args.disk.now) c.requires.stands
 
 pub returns-in_err-answer-clause-stopped : goal.returns-in_err-answer-clause-stopped
@@ -22,17 +23,22 @@ returns-in_err-answer-clause-stopped g c = λ stop.
     let o = g.O.ObjectStore in
     let m = c.args.m.now in
     let n = c.in-Some.naming in
-    let old : Kept g.row.O.Denot = record { number = c.self.inside.number; server = c.self.inside.server; naming = c.self.inside.naming; store = c.self.inside.store } in
+    let old : Kept g.row.O.Denot =
+    record { number = c.self.inside.number; server = c.self.inside.server; naming = c.self.inside.naming; store = c.self.inside.store } in
     let file : FileMap = g.D.Disk.file c.args.disk.now in
     let left : FileMap = g.D.Disk.file c.confirm.new.disk in
     confirm_cut o g.met.O.ObjectStore.keeps_on g.met.O.ObjectStore.stays old n c.in-Some.is file left c.confirm.ensures.others m c.args.self.now c.self.view_is c.args.out.now c.confirm.new.out (λ p x. c.parts_act_alone.ensures.confirm m.head.path m.objects m.excluded m.included p x)
-    (record old { naming = Some c.confirm.new.self }) (c.in_err-answer.ensures.stopped (stopped_too c.from_residual.result c.in_err-answer.field-0.0 c.from_residual.ensures.1 stop)) c.confirm.ensures.entries
+    (record old {
+      naming =
+          Some c.confirm.new.self;
+    }) (c.in_err-answer.ensures.stopped (stopped_too c.from_residual.result c.in_err-answer.field-0.0 c.from_residual.ensures.1 stop)) c.confirm.ensures.entries
 
 pub returns-in_err-answer-clause-leaves : goal.returns-in_err-answer-clause-leaves
 returns-in_err-answer-clause-leaves g c =
     let o = g.O.ObjectStore in
     let n = c.in-Some.naming in
-    let old : Kept g.row.O.Denot = record { number = c.self.inside.number; server = c.self.inside.server; naming = c.self.inside.naming; store = c.self.inside.store } in
+    let old : Kept g.row.O.Denot =
+    record { number = c.self.inside.number; server = c.self.inside.server; naming = c.self.inside.naming; store = c.self.inside.store } in
     let file : FileMap = g.D.Disk.file c.args.disk.now in
     let left : FileMap = g.D.Disk.file c.confirm.new.disk in
     names_leaves o g.met.O.ObjectStore.keeps_on g.met.O.ObjectStore.stays old n c.in-Some.is file left c.confirm.ensures.others c.args.self.now c.self.view_is c.requires.stands c.confirm.ensures.formed
@@ -42,7 +48,8 @@ returns-clause-done g c =
     let o = g.O.ObjectStore in
     let m = c.args.m.now in
     let n = c.in-Some.naming in
-    let old : Kept g.row.O.Denot = record { number = c.self.inside.number; server = c.self.inside.server; naming = c.self.inside.naming; store = c.self.inside.store } in
+    let old : Kept g.row.O.Denot =
+    record { number = c.self.inside.number; server = c.self.inside.server; naming = c.self.inside.naming; store = c.self.inside.store } in
     let file : FileMap = g.D.Disk.file c.args.disk.now in
     let left : FileMap = g.D.Disk.file c.confirm.new.disk in
     confirm_done o g.met.O.ObjectStore.keeps_on g.met.O.ObjectStore.stays old n c.in-Some.is file left c.confirm.ensures.others m c.args.self.now c.self.view_is c.args.out.now c.confirm.new.out (λ p x. c.parts_act_alone.ensures.confirm m.head.path m.objects m.excluded m.included p x)
@@ -53,7 +60,8 @@ pub returns-clause-leaves : goal.returns-clause-leaves
 returns-clause-leaves g c =
     let o = g.O.ObjectStore in
     let n = c.in-Some.naming in
-    let old : Kept g.row.O.Denot = record { number = c.self.inside.number; server = c.self.inside.server; naming = c.self.inside.naming; store = c.self.inside.store } in
+    let old : Kept g.row.O.Denot =
+    record { number = c.self.inside.number; server = c.self.inside.server; naming = c.self.inside.naming; store = c.self.inside.store } in
     let file : FileMap = g.D.Disk.file c.args.disk.now in
     let left : FileMap = g.D.Disk.file c.confirm.new.disk in
     names_leaves o g.met.O.ObjectStore.keeps_on g.met.O.ObjectStore.stays old n c.in-Some.is file left c.confirm.ensures.others c.args.self.now c.self.view_is c.requires.stands c.confirm.ensures.formed

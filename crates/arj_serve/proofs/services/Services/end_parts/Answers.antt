@@ -17,7 +17,16 @@ returns-in_err-end_states-clause-stopped g c = λ stop.
     let now = c.args.self.now in
     let file : FileMap = g.D.Disk.file c.args.disk.now in
     let middle : FileMap = g.D.Disk.file c.end_states.new.disk in
-    store_cut o m c.args.action c.args.end (record { old = now; new = c.end_states.new.self; file = file; left = middle; before = c.args.out.now; after = c.end_states.new.out }) (c.in_err-end_states.ensures.stopped (stopped_too c.from_residual.result c.in_err-end_states.field-0.0 c.from_residual.ensures.1 stop))
+    store_cut o m c.args.action c.args.end (record {
+      old = now;
+      new = c.end_states.new.self;
+      file = file;
+      left = middle;
+      before =
+          c.args.out.now;
+      after =
+          c.end_states.new.out;
+    }) (c.in_err-end_states.ensures.stopped (stopped_too c.from_residual.result c.in_err-end_states.field-0.0 c.from_residual.ensures.1 stop))
 
 pub returns-in_err-end_states-clause-leaves : goal.returns-in_err-end_states-clause-leaves
 returns-in_err-end_states-clause-leaves g c =
@@ -25,13 +34,17 @@ returns-in_err-end_states-clause-leaves g c =
     let now = c.args.self.now in
     let file : FileMap = g.D.Disk.file c.args.disk.now in
     let middle : FileMap = g.D.Disk.file c.end_states.new.disk in
-    let call : Call g.row.O.Denot = record { old = now; new = now; file = file; left = middle; before = c.args.out.now; after = c.args.out.now } in
+    let call : Call g.row.O.Denot =
+    record { old = now; new = now; file = file; left = middle; before = c.args.out.now; after = c.args.out.now } in
     store_leaves o g.met.O.ObjectStore.keeps_on g.met.O.ObjectStore.stays call c.requires.stands.0 c.requires.stands.1 c.end_states.ensures.leaves.only c.end_states.ensures.leaves.formed
 
 pub end_names-requires : goal.end_names-requires
 end_names-requires g c =
     let d : Disk = c.requires.stands.0 in
-    record { stands = (disk_after (store_told c.args.self.now.number c.args.action c.args.end d.store) d, (c.in_ok-end_states.ensures.done d c.requires.stands.1).stands) }
+    record {
+      stands =
+          (disk_after (store_told c.args.self.now.number c.args.action c.args.end d.store) d, (c.in_ok-end_states.ensures.done d c.requires.stands.1).stands);
+    }
 
 pub returns-in_err-end_names-clause-stopped : goal.returns-in_err-end_names-clause-stopped
 returns-in_err-end_names-clause-stopped g c = λ stop.

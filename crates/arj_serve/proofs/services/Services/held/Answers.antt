@@ -15,8 +15,10 @@ pub returns : goal.returns
 returns g c =
     let o = g.O.ObjectStore in
     let now = c.args.self.now in
-    let old : Kept g.row.O.Denot = record { number = c.self.inside.number; server = c.self.inside.server; naming = c.self.inside.naming; store = c.self.inside.store } in
-    IfOk-weaker c.in_order.result (λ us. us ≡ uid_set c.as_slice-2.result.now) (λ us. (file : FileMap) (d : Disk) → StandsOn o now file d → (e : Coord) → us ≡ holders d (parts_with now e))
+    let old : Kept g.row.O.Denot =
+    record { number = c.self.inside.number; server = c.self.inside.server; naming = c.self.inside.naming; store = c.self.inside.store } in
+    IfOk-weaker c.in_order.result (λ us. us ≡ uid_set c.as_slice-2.result.now) (λ us. (file : FileMap) (d : Disk) → StandsOn o now file d →
+    (e : Coord) → us ≡ holders d (parts_with now e))
     (λ us is file d stands e.
     let st : StandsOn o old file d = subst (λ k. StandsOn o k file d) (sym c.self.view_is) stands in
     is ∙ (ap uid_set c.as_slice-2.ensures ∙ (holders_are o old file d st e c.in_ok-all.all c.in_ok-prepared.prepared c.push_names.new.all c.in_ok-all.ensures

@@ -18,9 +18,25 @@ returns g c =
     let o = g.O.ObjectStore in
     let m = c.args.m.now in
     let n = c.in-Some.naming in
-    let old : Kept g.row.O.Denot = record { number = c.self.inside.number; server = c.self.inside.server; naming = c.self.inside.naming; store = c.self.inside.store } in
-    let call : FileMap → Call g.row.O.Denot = λ file. record { old = c.args.self.now; new = record old { naming = Some c.note.new.naming }; file = file; left = file; before = c.args.out.now; after = c.note.new.out } in
-    IfOk-weaker c.note.result (NamingDid (note_by m n.part) (λ r. message.Recorded (recorded_to m.head r)) (record { old = n; new = c.note.new.naming; before = c.args.out.now; after = c.note.new.out }))
+    let old : Kept g.row.O.Denot =
+    record { number = c.self.inside.number; server = c.self.inside.server; naming = c.self.inside.naming; store = c.self.inside.store } in
+    let call : FileMap → Call g.row.O.Denot =
+    λ file. record {
+      old = c.args.self.now;
+      new = record old { naming = Some c.note.new.naming };
+      file = file;
+      left = file;
+      before =
+          c.args.out.now;
+      after = c.note.new.out;
+    } in
+    IfOk-weaker c.note.result (NamingDid (note_by m n.part) (λ r. message.Recorded (recorded_to m.head r)) (record {
+      old = n;
+      new =
+          c.note.new.naming;
+      before = c.args.out.now;
+      after = c.note.new.out;
+    }))
     (λ answer. (file : FileMap) → Serves o (message.RecordMsg m) (call file) answer)
     (λ answer did file. naming_asked o (message.RecordMsg m) m.head Reply.Noted (λ p t. note_by m t)
     (λ k t d from e is. λ i. if_naming (λ x. served from m.head (with_naming (parts_with k e)) Reply.Noted (note_by m x)) (sym is i))

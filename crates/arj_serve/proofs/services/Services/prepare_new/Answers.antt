@@ -23,7 +23,8 @@ prepare-requires-clause-few g c =
     let o = g.O.ObjectStore in
     let stands = c.requires.stands.1 in
     let P : Role → files.Pair = λ r. o.pair (g.D.Disk.file c.args.disk.now) r in
-    let own : o.own_role c.self.inside.store ≡ Store = ap (λ (k : Kept g.row.O.Denot). o.own_role k.store) c.self.view_is ∙ stands.role_is in
+    let own : o.own_role c.self.inside.store ≡ Store =
+    ap (λ (k : Kept g.row.O.Denot). o.own_role k.store) c.self.view_is ∙ stands.role_is in
     c.known_objects.ensures.few (P (o.own_role c.self.inside.store)) c.args.m.now.states all_objects (omega (arith, as_many))
     (λ u known. known_objects (P Store) c.requires.stands.0.store stands.pair stands.objects u (subst (λ r. files.IsKnown (P r) u) own known)) (λ u added. added_objects c.args.m.now.states c.requires.states.each u added)
 
@@ -34,8 +35,24 @@ returns-in_err-answer-clause-stopped g c = λ stop d stands from e.
     let now = c.args.self.now in
     let file : FileMap = g.D.Disk.file c.args.disk.now in
     let left : FileMap = g.D.Disk.file c.prepare.new.disk in
-    let own : o.own_role c.self.inside.store ≡ Store = ap (λ (k : Kept g.row.O.Denot). o.own_role k.store) c.self.view_is ∙ c.requires.stands.1.role_is in
-    let call : Call g.row.O.Denot = record { old = now; new = record { number = c.self.inside.number; server = c.self.inside.server; naming = c.self.inside.naming; store = c.prepare.new.self }; file = file; left = left; before = c.args.out.now; after = c.args.out.now } in
+    let own : o.own_role c.self.inside.store ≡ Store =
+    ap (λ (k : Kept g.row.O.Denot). o.own_role k.store) c.self.view_is ∙ c.requires.stands.1.role_is in
+    let call : Call g.row.O.Denot =
+    record {
+      old = now;
+      new =
+          record {
+            number = c.self.inside.number;
+            server = c.self.inside.server;
+            naming = c.self.inside.naming;
+            store =
+                c.prepare.new.self;
+          };
+      file = file;
+      left = left;
+      before = c.args.out.now;
+      after = c.args.out.now;
+    } in
     let P : Role → files.Pair = λ r. o.pair file r in
     let Q : Role → files.Pair = λ r. o.pair left r in
     prepare_cut o g.met.O.ObjectStore.keeps_on g.met.O.ObjectStore.stays call d stands (subst (λ r. OnlyOfRole r file left) own c.prepare.ensures.others) from e m.head m.states c.requires.states (c.requires.first d stands)
@@ -48,8 +65,10 @@ returns-in_err-answer-clause-leaves g c =
     let now = c.args.self.now in
     let file : FileMap = g.D.Disk.file c.args.disk.now in
     let left : FileMap = g.D.Disk.file c.prepare.new.disk in
-    let own : o.own_role c.self.inside.store ≡ Store = ap (λ (k : Kept g.row.O.Denot). o.own_role k.store) c.self.view_is ∙ c.requires.stands.1.role_is in
-    let call : Call g.row.O.Denot = record { old = now; new = now; file = file; left = left; before = c.args.out.now; after = c.args.out.now } in
+    let own : o.own_role c.self.inside.store ≡ Store =
+    ap (λ (k : Kept g.row.O.Denot). o.own_role k.store) c.self.view_is ∙ c.requires.stands.1.role_is in
+    let call : Call g.row.O.Denot =
+    record { old = now; new = now; file = file; left = left; before = c.args.out.now; after = c.args.out.now } in
     store_leaves o g.met.O.ObjectStore.keeps_on g.met.O.ObjectStore.stays call c.requires.stands.0 c.requires.stands.1 (subst (λ r. OnlyOfRole r file left) own c.prepare.ensures.others)
     (subst (λ r. o.formed left r) own c.prepare.ensures.formed)
 
@@ -59,8 +78,10 @@ returns-in_err-say_prepared-clause-leaves g c =
     let now = c.args.self.now in
     let file : FileMap = g.D.Disk.file c.args.disk.now in
     let left : FileMap = g.D.Disk.file c.prepare.new.disk in
-    let own : o.own_role c.self.inside.store ≡ Store = ap (λ (k : Kept g.row.O.Denot). o.own_role k.store) c.self.view_is ∙ c.requires.stands.1.role_is in
-    let call : Call g.row.O.Denot = record { old = now; new = now; file = file; left = left; before = c.args.out.now; after = c.args.out.now } in
+    let own : o.own_role c.self.inside.store ≡ Store =
+    ap (λ (k : Kept g.row.O.Denot). o.own_role k.store) c.self.view_is ∙ c.requires.stands.1.role_is in
+    let call : Call g.row.O.Denot =
+    record { old = now; new = now; file = file; left = left; before = c.args.out.now; after = c.args.out.now } in
     store_leaves o g.met.O.ObjectStore.keeps_on g.met.O.ObjectStore.stays call c.requires.stands.0 c.requires.stands.1 (subst (λ r. OnlyOfRole r file left) own c.prepare.ensures.others)
     (subst (λ r. o.formed left r) own c.prepare.ensures.formed)
 
@@ -78,14 +99,33 @@ returns-clause-done g c = λ d stands from e.
     let now = c.args.self.now in
     let file : FileMap = g.D.Disk.file c.args.disk.now in
     let left : FileMap = g.D.Disk.file c.prepare.new.disk in
-    let own : o.own_role c.self.inside.store ≡ Store = ap (λ (k : Kept g.row.O.Denot). o.own_role k.store) c.self.view_is ∙ c.requires.stands.1.role_is in
-    let call : Call g.row.O.Denot = record { old = now; new = record { number = c.self.inside.number; server = c.self.inside.server; naming = c.self.inside.naming; store = c.prepare.new.self }; file = file; left = left; before = c.args.out.now; after = c.say_prepared.new.out } in
+    let own : o.own_role c.self.inside.store ≡ Store =
+    ap (λ (k : Kept g.row.O.Denot). o.own_role k.store) c.self.view_is ∙ c.requires.stands.1.role_is in
+    let call : Call g.row.O.Denot =
+    record {
+      old = now;
+      new =
+          record {
+            number = c.self.inside.number;
+            server = c.self.inside.server;
+            naming = c.self.inside.naming;
+            store =
+                c.prepare.new.self;
+          };
+      file = file;
+      left = left;
+      before = c.args.out.now;
+      after = c.say_prepared.new.out;
+    } in
     let answer = c.in_ok-answer.answer in
     let answers = subst (λ r. files.AnswersPrepare (o.pair file r) (o.pair left r) (actor m.head.path) m.states answer) own
     (subst (λ u. files.AnswersPrepare (o.pair file (o.own_role c.self.inside.store)) (o.pair left (o.own_role c.self.inside.store)) u m.states answer) c.last-action.ensures c.in_ok-answer.ensures.answer) in
     subst (IsServed o from _ e call d) (sym c.answered.ensures)
     (prepared_served o g.met.O.ObjectStore.keeps_on g.met.O.ObjectStore.stays call d stands (subst (λ r. OnlyOfRole r file left) own c.prepare.ensures.others) from e m.head m.states c.requires.states (c.requires.first d stands)
-    (g.met.O.ObjectStore.sound Store file stands.formed).once answer answers (λ i. record (c.self.view_is i) { store = c.prepare.new.self }) (c.prepare.ensures.role ∙ own) c.in_ok-answer.ensures.keeps
+    (g.met.O.ObjectStore.sound Store file stands.formed).once answer answers (λ i. record (c.self.view_is i) {
+      store =
+          c.prepare.new.self;
+    }) (c.prepare.ensures.role ∙ own) c.in_ok-answer.ensures.keeps
     (subst (λ r. o.formed left r) own c.prepare.ensures.formed)
     (c.in_ok-say_prepared.ensures m.states ∙ (λ i. c.args.out.now ++ said (prep_done (c.self.view_is i).number (c.last-action.ensures i) m.states (prep_of answer)))))
 
@@ -95,7 +135,9 @@ returns-clause-leaves g c =
     let now = c.args.self.now in
     let file : FileMap = g.D.Disk.file c.args.disk.now in
     let left : FileMap = g.D.Disk.file c.prepare.new.disk in
-    let own : o.own_role c.self.inside.store ≡ Store = ap (λ (k : Kept g.row.O.Denot). o.own_role k.store) c.self.view_is ∙ c.requires.stands.1.role_is in
-    let call : Call g.row.O.Denot = record { old = now; new = now; file = file; left = left; before = c.args.out.now; after = c.args.out.now } in
+    let own : o.own_role c.self.inside.store ≡ Store =
+    ap (λ (k : Kept g.row.O.Denot). o.own_role k.store) c.self.view_is ∙ c.requires.stands.1.role_is in
+    let call : Call g.row.O.Denot =
+    record { old = now; new = now; file = file; left = left; before = c.args.out.now; after = c.args.out.now } in
     store_leaves o g.met.O.ObjectStore.keeps_on g.met.O.ObjectStore.stays call c.requires.stands.0 c.requires.stands.1 (subst (λ r. OnlyOfRole r file left) own c.prepare.ensures.others)
     (subst (λ r. o.formed left r) own c.prepare.ensures.formed)

@@ -14,8 +14,10 @@ pub returns : goal.returns
 returns g c =
     let o = g.O.ObjectStore in
     let now = c.args.self.now in
-    let old : Kept g.row.O.Denot = record { number = c.self.inside.number; server = c.self.inside.server; naming = c.self.inside.naming; store = c.self.inside.store } in
-    IfOk-weaker c.in_order.result (λ us. us ≡ uid_set c.as_slice.result.now) (λ us. (file : FileMap) (d : Disk) → StandsOn o now file d → us ≡ uid_set (prepared_actions d.store ++ prepared_actions d.names))
+    let old : Kept g.row.O.Denot =
+    record { number = c.self.inside.number; server = c.self.inside.server; naming = c.self.inside.naming; store = c.self.inside.store } in
+    IfOk-weaker c.in_order.result (λ us. us ≡ uid_set c.as_slice.result.now) (λ us. (file : FileMap) (d : Disk) → StandsOn o now file d →
+    us ≡ uid_set (prepared_actions d.store ++ prepared_actions d.names))
     (λ us is file d stands.
     let st : StandsOn o old file d = subst (λ k. StandsOn o k file d) (sym c.self.view_is) stands in
     is ∙ (ap uid_set c.as_slice.ensures ∙ prepared_are o old file d st c.in_ok-all.all c.push_prepared.new.all

@@ -22,7 +22,8 @@ pub returns-in_ok-bind-in-Bind-clause-done : goal.returns-in_ok-bind-in-Bind-cla
 returns-in_ok-bind-in-Bind-clause-done g c = rw c.in-Bind.is (c.in_ok-bind-in-Bind.ensures (g.D.Disk.file c.args.disk.now))
 
 pub returns-in_ok-activate-in-Activate-clause-done : goal.returns-in_ok-activate-in-Activate-clause-done
-returns-in_ok-activate-in-Activate-clause-done g c = rw c.in-Activate.is (c.in_ok-activate-in-Activate.ensures (g.D.Disk.file c.args.disk.now))
+returns-in_ok-activate-in-Activate-clause-done g c =
+    rw c.in-Activate.is (c.in_ok-activate-in-Activate.ensures (g.D.Disk.file c.args.disk.now))
 
 pub returns-in_ok-note-in-RecordMsg-clause-done : goal.returns-in_ok-note-in-RecordMsg-clause-done
 returns-in_ok-note-in-RecordMsg-clause-done g c = rw c.in-RecordMsg.is (c.in_ok-note-in-RecordMsg.ensures (g.D.Disk.file c.args.disk.now))
@@ -37,31 +38,39 @@ pub returns-in_ok-bind-in-Bind-clause-leaves : goal.returns-in_ok-bind-in-Bind-c
 returns-in_ok-bind-in-Bind-clause-leaves g c = left_as_was g.O.ObjectStore c.args.self.now (g.D.Disk.file c.args.disk.now) c.requires.stands
 
 pub returns-in_err-bind-in-Bind-clause-leaves : goal.returns-in_err-bind-in-Bind-clause-leaves
-returns-in_err-bind-in-Bind-clause-leaves g c = left_as_was g.O.ObjectStore c.args.self.now (g.D.Disk.file c.args.disk.now) c.requires.stands
+returns-in_err-bind-in-Bind-clause-leaves g c =
+    left_as_was g.O.ObjectStore c.args.self.now (g.D.Disk.file c.args.disk.now) c.requires.stands
 
 pub returns-in_ok-activate-in-Activate-clause-leaves : goal.returns-in_ok-activate-in-Activate-clause-leaves
-returns-in_ok-activate-in-Activate-clause-leaves g c = left_as_was g.O.ObjectStore c.args.self.now (g.D.Disk.file c.args.disk.now) c.requires.stands
+returns-in_ok-activate-in-Activate-clause-leaves g c =
+    left_as_was g.O.ObjectStore c.args.self.now (g.D.Disk.file c.args.disk.now) c.requires.stands
 
 pub returns-in_err-activate-in-Activate-clause-leaves : goal.returns-in_err-activate-in-Activate-clause-leaves
-returns-in_err-activate-in-Activate-clause-leaves g c = left_as_was g.O.ObjectStore c.args.self.now (g.D.Disk.file c.args.disk.now) c.requires.stands
+returns-in_err-activate-in-Activate-clause-leaves g c =
+    left_as_was g.O.ObjectStore c.args.self.now (g.D.Disk.file c.args.disk.now) c.requires.stands
 
 pub returns-in_ok-note-in-RecordMsg-clause-leaves : goal.returns-in_ok-note-in-RecordMsg-clause-leaves
-returns-in_ok-note-in-RecordMsg-clause-leaves g c = left_as_was g.O.ObjectStore c.args.self.now (g.D.Disk.file c.args.disk.now) c.requires.stands
+returns-in_ok-note-in-RecordMsg-clause-leaves g c =
+    left_as_was g.O.ObjectStore c.args.self.now (g.D.Disk.file c.args.disk.now) c.requires.stands
 
 pub returns-in_err-note-in-RecordMsg-clause-leaves : goal.returns-in_err-note-in-RecordMsg-clause-leaves
-returns-in_err-note-in-RecordMsg-clause-leaves g c = left_as_was g.O.ObjectStore c.args.self.now (g.D.Disk.file c.args.disk.now) c.requires.stands
+returns-in_err-note-in-RecordMsg-clause-leaves g c =
+    left_as_was g.O.ObjectStore c.args.self.now (g.D.Disk.file c.args.disk.now) c.requires.stands
 
 pub returns-in_ok-invoke-in-Invoke-clause-leaves : goal.returns-in_ok-invoke-in-Invoke-clause-leaves
-returns-in_ok-invoke-in-Invoke-clause-leaves g c = left_as_was g.O.ObjectStore c.args.self.now (g.D.Disk.file c.args.disk.now) c.requires.stands
+returns-in_ok-invoke-in-Invoke-clause-leaves g c =
+    left_as_was g.O.ObjectStore c.args.self.now (g.D.Disk.file c.args.disk.now) c.requires.stands
 
 pub returns-in_err-invoke-in-Invoke-clause-leaves : goal.returns-in_err-invoke-in-Invoke-clause-leaves
-returns-in_err-invoke-in-Invoke-clause-leaves g c = left_as_was g.O.ObjectStore c.args.self.now (g.D.Disk.file c.args.disk.now) c.requires.stands
+returns-in_err-invoke-in-Invoke-clause-leaves g c =
+    left_as_was g.O.ObjectStore c.args.self.now (g.D.Disk.file c.args.disk.now) c.requires.stands
 
 pub returns-in_ok-vote-in-Vote-clause-leaves : goal.returns-in_ok-vote-in-Vote-clause-leaves
 returns-in_ok-vote-in-Vote-clause-leaves g c = left_as_was g.O.ObjectStore c.args.self.now (g.D.Disk.file c.args.disk.now) c.requires.stands
 
 pub returns-in_err-vote-in-Vote-clause-leaves : goal.returns-in_err-vote-in-Vote-clause-leaves
-returns-in_err-vote-in-Vote-clause-leaves g c = left_as_was g.O.ObjectStore c.args.self.now (g.D.Disk.file c.args.disk.now) c.requires.stands
+returns-in_err-vote-in-Vote-clause-leaves g c =
+    left_as_was g.O.ObjectStore c.args.self.now (g.D.Disk.file c.args.disk.now) c.requires.stands
 
 pub returns-in-Load-clause-done : goal.returns-in-Load-clause-done
 returns-in-Load-clause-done g c = rw c.in-Load.is c.load.ensures.done

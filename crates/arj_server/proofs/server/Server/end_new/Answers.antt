@@ -6,7 +6,8 @@ use Rattle.arj_server.proofs.Voted.{drop_is}
 use Rattle.arj_server.proofs.server.Server.end_new.Goals as goal
 
 pub invariant_of-self-2 : goal.invariant_of-self-2
-invariant_of-self-2 c = subst AreCopies (sym c.end_objects.ensures) (copies_ended c.args.action c.args.end c.self.inside.manager c.self.invariant)
+invariant_of-self-2 c =
+    subst AreCopies (sym c.end_objects.ensures) (copies_ended c.args.action c.args.end c.self.inside.manager c.self.invariant)
 
 pub returns-clause-part : goal.returns-clause-part
 returns-clause-part c =

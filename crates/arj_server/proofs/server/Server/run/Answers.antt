@@ -14,7 +14,10 @@ invariant_of-self c =
 
 pub returns-clause-part : goal.returns-clause-part
 returns-clause-part c =
-    subst (λ (s : Server). OnOk c.answer.result (the_view (record c.self.inside { manager = c.invoke-done.new.self }) ≡ (ran c.args.node c.args.m.now s).part)) c.self.view_is
+    subst (λ (s : Server). OnOk c.answer.result (the_view (record c.self.inside {
+      manager =
+          c.invoke-done.new.self;
+    }) ≡ (ran c.args.node c.args.m.now s).part)) c.self.view_is
     (run_part c.args.node c.args.m.now (the_view c.self.inside) c.invoke-done.new.self c.invoke-done.result c.answer.result c.self.invariant.1 c.invoke-done.ensures.copies c.invoke-done.ensures.named c.invoke-done.ensures.kept c.answer.ensures.reply)
 
 pub returns-clause-lines : goal.returns-clause-lines

@@ -6,7 +6,8 @@ use Rattle.arj_store.proofs.Readings.{named_holder, not_in_doubt, is_held}
 use Rattle.arj_store.proofs.shadow.ShadowStoreObjectStore.read_committed.Goals as goal
 
 pub returns-in-Some-clause-answer : goal.returns-in-Some-clause-answer
-returns-in-Some-clause-answer g c = named_holder c.args.self.now.role (at c.args.self.now.pending.actions) (at c.args.self.now.pending.holdings) (g.D.Disk.file c.args.disk.now) c.requires.keeps c.args.uid c.in-Some.holding.now (sym c.get.ensures ∙ ap option_copied c.in-Some.is)
+returns-in-Some-clause-answer g c =
+    named_holder c.args.self.now.role (at c.args.self.now.pending.actions) (at c.args.self.now.pending.holdings) (g.D.Disk.file c.args.disk.now) c.requires.keeps c.args.uid c.in-Some.holding.now (sym c.get.ensures ∙ ap option_copied c.in-Some.is)
 
 pub returns-in-Some-2-clause-answer : goal.returns-in-Some-2-clause-answer
 returns-in-Some-2-clause-answer g c =

@@ -10,4 +10,5 @@ returns-clause-named c =
     (read_shown _ c.args.self.now c.in_ok-place.place c.index.result.now c.self.view_is c.in_ok-place.ensures.within c.index.ensures)
 
 pub returns-clause-single : goal.returns-clause-single
-returns-clause-single c = single_at c.self.inside.node c.self.inside.inc 1 c.in_ok-place.place c.self.inside.actions.items c.index.result.now c.self.invariant.0.named (read_at _ c.args.self.now c.in_ok-place.place c.index.result.now c.self.view_is c.in_ok-place.ensures.within c.index.ensures)
+returns-clause-single c =
+    single_at c.self.inside.node c.self.inside.inc 1 c.in_ok-place.place c.self.inside.actions.items c.index.result.now c.self.invariant.0.named (read_at _ c.args.self.now c.in_ok-place.place c.index.result.now c.self.view_is c.in_ok-place.ensures.within c.index.ensures)

@@ -6,7 +6,8 @@ use Rattle.arj_tree.proofs.tree.Tree.begin.Goals as goal
 pub invariant_of-self-2 : goal.invariant_of-self-2
 invariant_of-self-2 c =
     let t = c.self.inside in
-    let named : c.next-uid.result ≡ record { node = t.node; inc = t.inc; num = length t.actions.items + 1 } = c.next-uid.ensures ∙ ap (λ (t : Tree). next_uid t) (sym c.self.view_is) in (
+    let named : c.next-uid.result ≡ record { node = t.node; inc = t.inc; num = length t.actions.items + 1 } =
+    c.next-uid.ensures ∙ ap (λ (t : Tree). next_uid t) (sym c.self.view_is) in (
       same_stands t.node t.inc _ _ _ _ _ _
           (c.push_reserved.ensures.items ∙ (λ i. c.reserve.ensures.items i ++ c.new.ensures i ∷ []))
           (c.push_reserved-2.ensures.items ∙ (λ i. c.reserve-2.ensures.items i ++ (c.next-uid.result.num, c.path_below-path.result) ∷ []))

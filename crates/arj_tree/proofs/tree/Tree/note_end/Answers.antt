@@ -12,7 +12,11 @@ invariant_of-self c =
 
 pub returns : goal.returns
 returns c b at =
-    let same : Some c.index_mut.result.now ≡ Some b = sym (read_shown _ c.args.self.now c.args.place c.index_mut.result.now c.self.view_is c.requires c.index_mut.ensures.value) ∙ at in
+    let same : Some c.index_mut.result.now ≡ Some b =
+    sym (read_shown _ c.args.self.now c.args.place c.index_mut.result.now c.self.view_is c.requires c.index_mut.ensures.value) ∙ at in
     let here : c.index_mut.result.now ≡ b = cc same in
     ap (λ (t : Tree). with_branch c.args.place c.end.new.self t) c.self.view_is
-    ∙ ap (λ x. with_branch c.args.place x c.args.self.now) (c.end.ensures ∙ ap (λ (x : Branch). record x { ended = Some c.args.outcome }) here)
+    ∙ ap (λ x. with_branch c.args.place x c.args.self.now) (c.end.ensures ∙ ap (λ (x : Branch). record x {
+      ended =
+          Some c.args.outcome;
+    }) here)

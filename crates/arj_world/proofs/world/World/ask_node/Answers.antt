@@ -19,7 +19,8 @@ returns-in-Some-clause-goes g c =
     c.step_core.ensures.steps
 
 pub returns-in-None-clause-goes : goal.returns-in-None-clause-goes
-returns-in-None-clause-goes g c = goes_not g.C.Core g.D.Disk.file c.args.node (input_of c.args.input) (hand c.args.self.now c.args.rack.now c.args.journal.now) c.in-None.ensures
+returns-in-None-clause-goes g c =
+    goes_not g.C.Core g.D.Disk.file c.args.node (input_of c.args.input) (hand c.args.self.now c.args.rack.now c.args.journal.now) c.in-None.ensures
 
 pub returns-in-Some-clause-tells : goal.returns-in-Some-clause-tells
 returns-in-Some-clause-tells g c =

@@ -33,7 +33,9 @@ returns-clause-goes g c =
     c.ask_node.ensures.goes
 
 pub returns-clause-disks : goal.returns-clause-disks
-returns-clause-disks g c = subst (λ h. HaveMoved g.D.Disk h.nodes [] c.args.rack.now c.ask_node.new.rack) c.in_ok-frame.ensures.header c.ask_node.ensures.disks
+returns-clause-disks g c =
+    subst (λ h. HaveMoved g.D.Disk h.nodes [] c.args.rack.now c.ask_node.new.rack) c.in_ok-frame.ensures.header c.ask_node.ensures.disks
 
 pub returns-clause-tells : goal.returns-clause-tells
-returns-clause-tells g c = subst (λ h. OnOk c.ask_node.result (TellsStops g.D.Disk h.nodes nobody c.args.rack.now c.ask_node.new.rack c.args.journal.now c.ask_node.new.journal)) c.in_ok-frame.ensures.header c.ask_node.ensures.tells
+returns-clause-tells g c =
+    subst (λ h. OnOk c.ask_node.result (TellsStops g.D.Disk h.nodes nobody c.args.rack.now c.ask_node.new.rack c.args.journal.now c.ask_node.new.journal)) c.in_ok-frame.ensures.header c.ask_node.ensures.tells

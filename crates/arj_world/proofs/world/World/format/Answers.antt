@@ -26,12 +26,15 @@ loop-node-preserved g c = record {
 }
 
 pub format_node-requires-clause-empty : goal.format_node-requires-clause-empty
-format_node-requires-clause-empty g c = λ d at. empty_next g.C.Core g.D.Disk.file c.args.header c.args.rack.now (λ e. (slot : Slot) → g.D.Disk.file e slot ≡ None) c.loop-node.cores.items c.loop-node.rack
+format_node-requires-clause-empty g c =
+    λ d at. empty_next g.C.Core g.D.Disk.file c.args.header c.args.rack.now (λ e. (slot : Slot) →
+    g.D.Disk.file e slot ≡ None) c.loop-node.cores.items c.loop-node.rack
     (c.loop-node.node + 1 - 1) d c.loop-node.invariant.so (omega (arith, c.loop-node.invariant.count)) c.requires.empty at
 
 pub returns-clause-stands : goal.returns-clause-stands
 returns-clause-stands g c =
-    let all : length c.loop-node.cores.items ≡ c.args.header.nodes = omega (arith, c.loop-node.invariant.count, c.loop-node-test.false, c.loop-node.auto.node-end) in
+    let all : length c.loop-node.cores.items ≡ c.args.header.nodes =
+    omega (arith, c.loop-node.invariant.count, c.loop-node-test.false, c.loop-node.auto.node-end) in
     record {
       header = refl;
       start = refl;
@@ -47,32 +50,38 @@ returns-clause-stands g c =
 
 pub invariant_of-result : goal.invariant_of-result
 invariant_of-result g c =
-    let all : length c.loop-node.cores.items ≡ c.args.header.nodes = omega (arith, c.loop-node.invariant.count, c.loop-node-test.false, c.loop-node.auto.node-end) in
+    let all : length c.loop-node.cores.items ≡ c.args.header.nodes =
+    omega (arith, c.loop-node.invariant.count, c.loop-node-test.false, c.loop-node.auto.node-end) in
     (c.requires.form.nodes.0, c.requires.form.nodes.1, all, omega (arith, ap length c.new.ensures.net))
 
 pub returns-clause-disks : goal.returns-clause-disks
 returns-clause-disks g c = c.loop-node.invariant.disks
 
 pub returns-in_err-format_node-clause-disks : goal.returns-in_err-format_node-clause-disks
-returns-in_err-format_node-clause-disks g c = moved_on g.D.Disk c.args.header.nodes c.args.header.nodes c.args.rack.now c.loop-node.rack c.format_node.new.rack refl c.loop-node.invariant.disks c.format_node.ensures.disks
+returns-in_err-format_node-clause-disks g c =
+    moved_on g.D.Disk c.args.header.nodes c.args.header.nodes c.args.rack.now c.loop-node.rack c.format_node.new.rack refl c.loop-node.invariant.disks c.format_node.ensures.disks
 
 pub returns-in_err-push-clause-disks : goal.returns-in_err-push-clause-disks
-returns-in_err-push-clause-disks g c = moved_on g.D.Disk c.args.header.nodes c.args.header.nodes c.args.rack.now c.loop-node.rack c.format_node.new.rack refl c.loop-node.invariant.disks c.in_ok-format_node.ensures.disks
+returns-in_err-push-clause-disks g c =
+    moved_on g.D.Disk c.args.header.nodes c.args.header.nodes c.args.rack.now c.loop-node.rack c.format_node.new.rack refl c.loop-node.invariant.disks c.in_ok-format_node.ensures.disks
 
 pub returns-in_err-format_node-clause-stopped : goal.returns-in_err-format_node-clause-stopped
 returns-in_err-format_node-clause-stopped g c = λ stopped.
-    let fault : c.in_err-format_node.field-0.0 ≡ Stopped = same_fault c.from_residual.result c.in_err-format_node.field-0.0 Stopped c.from_residual.ensures.1 stopped in
+    let fault : c.in_err-format_node.field-0.0 ≡ Stopped =
+    same_fault c.from_residual.result c.in_err-format_node.field-0.0 Stopped c.from_residual.ensures.1 stopped in
     stopped_later g.D.Disk c.args.header.nodes c.args.rack.now c.loop-node.rack c.format_node.new.rack c.loop-node.invariant.disks c.format_node.ensures.disks (c.in_err-format_node.ensures.stopped (ap Err fault))
 
 pub returns-clause-unstopped : goal.returns-clause-unstopped
 returns-clause-unstopped g c = λ _. c.loop-node.invariant.unstopped
 
 pub returns-in_err-push-clause-unstopped : goal.returns-in_err-push-clause-unstopped
-returns-in_err-push-clause-unstopped g c = λ _. unstopped_on g.D.Disk c.args.rack.now c.loop-node.rack c.format_node.new.rack c.loop-node.invariant.unstopped (c.in_ok-format_node.ensures.unstopped (λ e. absurd (cc e)))
+returns-in_err-push-clause-unstopped g c =
+    λ _. unstopped_on g.D.Disk c.args.rack.now c.loop-node.rack c.format_node.new.rack c.loop-node.invariant.unstopped (c.in_ok-format_node.ensures.unstopped (λ e. absurd (cc e)))
 
 pub returns-in_err-format_node-clause-unstopped : goal.returns-in_err-format_node-clause-unstopped
 returns-in_err-format_node-clause-unstopped g c = λ none.
     unstopped_on g.D.Disk c.args.rack.now c.loop-node.rack c.format_node.new.rack c.loop-node.invariant.unstopped
     (c.in_err-format_node.ensures.unstopped (λ e.
-    let fault : c.in_err-format_node.field-0.0 ≡ Stopped = same_fault (Err c.in_err-format_node.field-0.0) c.in_err-format_node.field-0.0 Stopped refl e in
+    let fault : c.in_err-format_node.field-0.0 ≡ Stopped =
+    same_fault (Err c.in_err-format_node.field-0.0) c.in_err-format_node.field-0.0 Stopped refl e in
     none (is_fault c.from_residual.result c.in_err-format_node.field-0.0 c.from_residual.ensures.1 ∙ ap Err fault)))

@@ -7,4 +7,6 @@ use Rattle.arj_world.specs.Stands.{AreSomeNodes}
 use Rattle.arj_world.proofs.world.World.is_quiet.Given as goal
 
 abbrev pub invariant-loop-core : goal.invariant-loop-core
-invariant-loop-core g l = (header : Header) (nodes : List Node) → AreSomeNodes g.C.Core header l.self.cores nodes → list_all is_idle nodes ≡ list_all is_idle (drop l.core-index nodes)
+invariant-loop-core g l =
+    (header : Header) (nodes : List Node) → AreSomeNodes g.C.Core header l.self.cores nodes →
+    list_all is_idle nodes ≡ list_all is_idle (drop l.core-index nodes)

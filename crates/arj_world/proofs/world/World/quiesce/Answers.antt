@@ -18,7 +18,8 @@ returns-clause-goes g c =
     (quiet_goes g.C.Core g.D.Disk.file fourth c.say_quiet.result c.say_quiet.new.journal c.say_quiet.ensures.full c.say_quiet.ensures.said)
 
 pub returns-in_err-tick_all-clause-disks : goal.returns-in_err-tick_all-clause-disks
-returns-in_err-tick_all-clause-disks g c = moved_on g.D.Disk c.args.self.now.header.nodes c.settle.new.self.header.nodes c.args.rack.now c.settle.new.rack c.tick_all.new.rack (ap (λ h. h.nodes) c.in_ok-settle.ensures.header) c.settle.ensures.disks c.tick_all.ensures.disks
+returns-in_err-tick_all-clause-disks g c =
+    moved_on g.D.Disk c.args.self.now.header.nodes c.settle.new.self.header.nodes c.args.rack.now c.settle.new.rack c.tick_all.new.rack (ap (λ h. h.nodes) c.in_ok-settle.ensures.header) c.settle.ensures.disks c.tick_all.ensures.disks
 
 pub returns-in_err-settle-2-clause-disks : goal.returns-in_err-settle-2-clause-disks
 returns-in_err-settle-2-clause-disks g c =

@@ -19,11 +19,32 @@ returns-clause-goes g c =
     on_ok_weaker c.send.result
     (λ (put : shown c.send.new.self c.send.new.journal ≡ put_seen 0 c.self.inside.wire.event (Sent c.in-Some.n frame.Junk (message_of c.args.bytes) ∷ []) (shown c.self.inside.wire c.args.journal.now)).
     subst (GoesTo g.C.Core g.D.Disk.file (junk c.args.node) old)
-    (sym ((λ i. hand (record { header = c.self.inside.header; cores = c.self.inside.cores.items; net = c.send.new.self.net; labels = c.self.inside.labels.entries; event = c.send.ensures.event i; full = c.send.new.self.full }) c.args.rack.now c.send.new.journal)
-    ∙ (λ i. hand (record (c.self.view_is i) { net = c.send.new.self.net; full = c.send.new.self.full }) c.args.rack.now c.send.new.journal)))
-    (subst (λ m. GoesTo g.C.Core g.D.Disk.file (junk m) old (hand (record c.args.self.now { net = c.send.new.self.net; full = c.send.new.self.full }) c.args.rack.now c.send.new.journal)) n.0
+    (sym ((λ i. hand (record {
+      header = c.self.inside.header;
+      cores = c.self.inside.cores.items;
+      net = c.send.new.self.net;
+      labels =
+          c.self.inside.labels.entries;
+      event = c.send.ensures.event i;
+      full = c.send.new.self.full;
+    }) c.args.rack.now c.send.new.journal)
+    ∙ (λ i. hand (record (c.self.view_is i) {
+      net = c.send.new.self.net;
+      full =
+          c.send.new.self.full;
+    }) c.args.rack.now c.send.new.journal)))
+    (subst (λ m. GoesTo g.C.Core g.D.Disk.file (junk m) old (hand (record c.args.self.now {
+      net = c.send.new.self.net;
+      full =
+          c.send.new.self.full;
+    }) c.args.rack.now c.send.new.journal)) n.0
     (goes_junk g.C.Core g.D.Disk.file c.in-Some.n c.args.bytes old c.send.new.self.net c.send.new.journal c.send.new.self.full c.requires.junk (subst (λ k. length k.net ≤ most_frames) c.self.view_is c.self.invariant.3)
-    (put ∙ (λ i. put_seen 0 (c.self.view_is i).event (Sent c.in-Some.n frame.Junk (message_of c.args.bytes) ∷ []) (record { frames = map frame_of (c.self.view_is i).net; lines = c.args.journal.now; full = (c.self.view_is i).full }))))))
+    (put ∙ (λ i. put_seen 0 (c.self.view_is i).event (Sent c.in-Some.n frame.Junk (message_of c.args.bytes) ∷ []) (record {
+      frames =
+          map frame_of (c.self.view_is i).net;
+      lines = c.args.journal.now;
+      full = (c.self.view_is i).full;
+    }))))))
     c.send.ensures.put
 
 pub returns-clause-tells : goal.returns-clause-tells

@@ -8,7 +8,8 @@ use Rattle.arj_world.proofs.Tells.{tells_then}
 use Rattle.arj_world.proofs.world.World.settle.Goals as goal
 
 pub returns-in_default-clause-goes : goal.returns-in_default-clause-goes
-returns-in_default-clause-goes g c = settle_ends g.C.Core g.D.Disk.file c.loop-left.left settle (hand c.args.self.now c.args.rack.now c.args.journal.now) (hand c.loop-left.self c.loop-left.rack c.loop-left.journal)
+returns-in_default-clause-goes g c =
+    settle_ends g.C.Core g.D.Disk.file c.loop-left.left settle (hand c.args.self.now c.args.rack.now c.args.journal.now) (hand c.loop-left.self c.loop-left.rack c.loop-left.journal)
     c.loop-left.invariant.goes (sym c.lowest.ensures ∙ c.in_default.is) c.loop-left.invariant.header
 
 pub loop-left-preserved : goal.loop-left-preserved
@@ -26,7 +27,8 @@ loop-left-preserved g c =
     }
 
 pub returns-in_err-deliver-clause-disks : goal.returns-in_err-deliver-clause-disks
-returns-in_err-deliver-clause-disks g c = moved_on g.D.Disk c.args.self.now.header.nodes c.loop-left.self.header.nodes c.args.rack.now c.loop-left.rack c.deliver.new.rack (ap (λ h. h.nodes) c.loop-left.invariant.header) c.loop-left.invariant.disks c.deliver.ensures.disks
+returns-in_err-deliver-clause-disks g c =
+    moved_on g.D.Disk c.args.self.now.header.nodes c.loop-left.self.header.nodes c.args.rack.now c.loop-left.rack c.deliver.new.rack (ap (λ h. h.nodes) c.loop-left.invariant.header) c.loop-left.invariant.disks c.deliver.ensures.disks
 
 pub returns-in_default-clause-tells : goal.returns-in_default-clause-tells
 returns-in_default-clause-tells g c = c.loop-left.invariant.tells

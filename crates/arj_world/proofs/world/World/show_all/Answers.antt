@@ -36,7 +36,8 @@ returns-clause-goes g c =
     (shows_end g.C.Core g.D.Disk.file c.args.x c.loop-node.node c.self.inside.header.nodes first now c.loop-node.invariant.goes c.loop-node-test.false)
 
 pub returns-in_err-show_up-clause-disks : goal.returns-in_err-show_up-clause-disks
-returns-in_err-show_up-clause-disks g c = moved_on g.D.Disk c.args.self.now.header.nodes c.loop-node.self.header.nodes c.args.rack.now c.loop-node.rack c.show_up.new.rack (ap (λ h. h.nodes) c.loop-node.invariant.header) c.loop-node.invariant.disks c.show_up.ensures.disks
+returns-in_err-show_up-clause-disks g c =
+    moved_on g.D.Disk c.args.self.now.header.nodes c.loop-node.self.header.nodes c.args.rack.now c.loop-node.rack c.show_up.new.rack (ap (λ h. h.nodes) c.loop-node.invariant.header) c.loop-node.invariant.disks c.show_up.ensures.disks
 
 pub returns-clause-tells : goal.returns-clause-tells
 returns-clause-tells g c = c.loop-node.invariant.tells

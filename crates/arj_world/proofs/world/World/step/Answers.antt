@@ -41,7 +41,8 @@ pub returns-then-lacks_labels-clause-kept : goal.returns-then-lacks_labels-claus
 returns-then-lacks_labels-clause-kept g c = λ e. (refl, refl, refl)
 
 pub returns-then-lacks_labels-clause-labels : goal.returns-then-lacks_labels-clause-labels
-returns-then-lacks_labels-clause-labels g c = λ e w keeps. (sym c.in_default.is ∙ c.in_ok-cause.ensures.cause w keeps, sym (c.if-lacks_labels.ensures w keeps))
+returns-then-lacks_labels-clause-labels g c =
+    λ e w keeps. (sym c.in_default.is ∙ c.in_ok-cause.ensures.cause w keeps, sym (c.if-lacks_labels.ensures w keeps))
 
 pub happen-requires-clause-accepted : goal.happen-requires-clause-accepted
 happen-requires-clause-accepted g c = λ w keeps.
@@ -73,7 +74,8 @@ returns-clause-frames g c = λ e.
     c.end.new.journal (c.end.ensures.full e) (c.end.ensures.said e)
 
 pub returns-clause-last : goal.returns-clause-last
-returns-clause-last g c = λ e. (c.happen.new.journal, record { event = c.happen.new.self.event; body = body.Limit which.Frames }, c.end.ensures.said e, refl)
+returns-clause-last g c =
+    λ e. (c.happen.new.journal, record { event = c.happen.new.self.event; body = body.Limit which.Frames }, c.end.ensures.said e, refl)
 
 pub returns-clause-kept : goal.returns-clause-kept
 returns-clause-kept g c = λ e. absurd (c.end.ensures.labels e)
@@ -82,13 +84,18 @@ pub returns-clause-labels : goal.returns-clause-labels
 returns-clause-labels g c = λ e. absurd (c.end.ensures.labels e)
 
 pub returns-in-Some-clause-counted : goal.returns-in-Some-clause-counted
-returns-in-Some-clause-counted g c = on_ok_weaker c.refuse.result (λ (next : c.refuse.new.self ≡ record c.args.self.now { event = c.args.self.now.event + 1 }). ap (λ k. k.event) next) c.refuse.ensures.counted
+returns-in-Some-clause-counted g c =
+    on_ok_weaker c.refuse.result (λ (next : c.refuse.new.self ≡ record c.args.self.now {
+      event =
+          c.args.self.now.event + 1;
+    }). ap (λ k. k.event) next) c.refuse.ensures.counted
 
 pub returns-in-Some-clause-counted_over : goal.returns-in-Some-clause-counted_over
 returns-in-Some-clause-counted_over g c = λ e. absurd (c.refuse.ensures.frames e)
 
 pub returns-in-Some-clause-grown : goal.returns-in-Some-clause-grown
-returns-in-Some-clause-grown g c = on_ok_weaker c.refuse.result (λ (said : c.refuse.new.journal ≡ c.args.journal.now ++ numbered (c.args.self.now.event + 1) (body.Refused c.in-Some.cause ∷ [])). (numbered (c.args.self.now.event + 1) (body.Refused c.in-Some.cause ∷ []), said)) c.refuse.ensures.said
+returns-in-Some-clause-grown g c =
+    on_ok_weaker c.refuse.result (λ (said : c.refuse.new.journal ≡ c.args.journal.now ++ numbered (c.args.self.now.event + 1) (body.Refused c.in-Some.cause ∷ [])). (numbered (c.args.self.now.event + 1) (body.Refused c.in-Some.cause ∷ []), said)) c.refuse.ensures.said
 
 pub returns-in-Some-clause-grown_over : goal.returns-in-Some-clause-grown_over
 returns-in-Some-clause-grown_over g c = λ e. absurd (c.refuse.ensures.frames e)
@@ -196,6 +203,7 @@ returns-in-Some-clause-disks g c = moved_unasked g.D.Disk c.args.self.now.header
     (moved_none g.D.Disk c.args.self.now.header.nodes c.args.rack.now)
 
 pub returns-then-lacks_labels-clause-disks : goal.returns-then-lacks_labels-clause-disks
-returns-then-lacks_labels-clause-disks g c = moved_unasked g.D.Disk c.args.self.now.header.nodes c.args.event c.args.rack.now c.args.rack.now
+returns-then-lacks_labels-clause-disks g c =
+    moved_unasked g.D.Disk c.args.self.now.header.nodes c.args.event c.args.rack.now c.args.rack.now
     (λ n low high. given_arms g.C.Core g.D.Disk.file c.args.event (hand c.args.self.now c.args.rack.now c.args.journal.now) c.if-lacks_labels.ensures c.requires.stands n)
     (moved_none g.D.Disk c.args.self.now.header.nodes c.args.rack.now)

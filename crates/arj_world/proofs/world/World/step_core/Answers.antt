@@ -21,7 +21,10 @@ step-requires g c =
     let within : c.from.result < length c.self.inside.cores.items = search rules in
     let at_core : slice_get c.args.self.now.cores (c.args.node - 1) ≡ Some c.index_mut-core.result.now =
     (λ i. slice_get (sym cores i) (sym place i)) ∙ slice_get_read c.self.inside.cores.items _ c.from.result c.index_mut-core.result.now refl within c.index_mut-core.ensures.value in
-    record { stands = some_node g.C.Core g.D.Disk.file c.args.node c.index_mut-core.result.now c.disk.result.now (hand c.args.self.now c.args.rack.now c.args.journal.now) c.requires.least c.requires.greatest at_core c.disk.ensures.value c.requires.stands }
+    record {
+      stands =
+          some_node g.C.Core g.D.Disk.file c.args.node c.index_mut-core.result.now c.disk.result.now (hand c.args.self.now c.args.rack.now c.args.journal.now) c.requires.least c.requires.greatest at_core c.disk.ensures.value c.requires.stands;
+    }
 
 pub returns-in-Ok-clause-steps : goal.returns-in-Ok-clause-steps
 returns-in-Ok-clause-steps g c =
@@ -36,9 +39,32 @@ returns-in-Ok-clause-steps g c =
     c.self.inside.cores.items (hand c.args.self.now c.args.rack.now c.args.journal.now) c.put.new.self.net c.put.new.journal c.put.new.self.full c.step.new.out
     c.requires.least c.requires.greatest place cores at_core c.disk.ensures.value
     (λ h n st. subst (λ o. Did (g.C.Core.stands h c.step.new.self (g.D.Disk.file c.step.new.disk)) (step h n (input_of c.args.input)) o c.step.new.out) c.new-outputs.ensures (c.in-Ok.ensures.done h n st))
-    (put ∙ (λ i. put_seen c.args.node (c.self.view_is i).event (map seen_of c.step.new.out) (record { frames = map frame_of (c.self.view_is i).net; lines = c.args.journal.now; full = (c.self.view_is i).full })))
-    _ ((λ i. record { kept = record { header = c.self.inside.header; cores = cores'; net = c.put.new.self.net; labels = c.self.inside.labels.entries; event = c.put.ensures.event i; full = c.put.new.self.full }; disks = disks'; journal = c.put.new.journal })
-    ∙ (λ i. record { kept = record (c.self.view_is i) { cores = cores'; net = c.put.new.self.net; full = c.put.new.self.full }; disks = disks'; journal = c.put.new.journal }))) c.put.ensures.put
+    (put ∙ (λ i. put_seen c.args.node (c.self.view_is i).event (map seen_of c.step.new.out) (record {
+      frames =
+          map frame_of (c.self.view_is i).net;
+      lines = c.args.journal.now;
+      full = (c.self.view_is i).full;
+    })))
+    _ ((λ i. record {
+      kept =
+          record {
+            header = c.self.inside.header;
+            cores = cores';
+            net = c.put.new.self.net;
+            labels = c.self.inside.labels.entries;
+            event =
+                c.put.ensures.event i;
+            full = c.put.new.self.full;
+          };
+      disks = disks';
+      journal = c.put.new.journal;
+    })
+    ∙ (λ i. record {
+      kept = record (c.self.view_is i) { cores = cores'; net = c.put.new.self.net; full = c.put.new.self.full };
+      disks =
+          disks';
+      journal = c.put.new.journal;
+    }))) c.put.ensures.put
 
 pub returns-in_ok-put-in-Err-Halted-clause-steps : goal.returns-in_ok-put-in-Err-Halted-clause-steps
 returns-in_ok-put-in-Err-Halted-clause-steps g c =
@@ -55,8 +81,32 @@ returns-in_ok-put-in-Err-Halted-clause-steps g c =
     (λ h n st. subst (λ o. WasCut (g.C.Core.stands h c.step.new.self (g.D.Disk.file c.step.new.disk)) n (step h n (input_of c.args.input)) o c.step.new.out) c.new-outputs.ensures (c.in-Err-Halted.ensures.halted (ap Err c.in-Err-Halted.field-0-is) h n st))
     (c.in_ok-put-in-Err-Halted.ensures.put ∙ (λ i. put_seen c.args.node (c.self.view_is i).event (map seen_of c.step.new.out) (record { frames = map frame_of (c.self.view_is i).net; lines = c.args.journal.now; full = (c.self.view_is i).full })))
     (line ∙ (λ i. c.put-in-Err-Halted.new.journal ++ numbered ((c.in_ok-put-in-Err-Halted.ensures.event ∙ ap (λ k. k.event) c.self.view_is) i) (body.Halted c.args.node ∷ [])))
-    _ ((λ i. record { kept = record { header = c.self.inside.header; cores = cores'; net = c.put-in-Err-Halted.new.self.net; labels = c.self.inside.labels.entries; event = c.in_ok-put-in-Err-Halted.ensures.event i; full = c.put-in-Err-Halted.new.self.full }; disks = disks'; journal = c.say.new.journal })
-    ∙ (λ i. record { kept = record (c.self.view_is i) { cores = cores'; net = c.put-in-Err-Halted.new.self.net; full = c.put-in-Err-Halted.new.self.full }; disks = disks'; journal = c.say.new.journal }))) c.say.ensures
+    _ ((λ i. record {
+      kept =
+          record {
+            header = c.self.inside.header;
+            cores = cores';
+            net = c.put-in-Err-Halted.new.self.net;
+            labels =
+                c.self.inside.labels.entries;
+            event = c.in_ok-put-in-Err-Halted.ensures.event i;
+            full = c.put-in-Err-Halted.new.self.full;
+          };
+      disks =
+          disks';
+      journal = c.say.new.journal;
+    })
+    ∙ (λ i. record {
+      kept =
+          record (c.self.view_is i) {
+            cores = cores';
+            net = c.put-in-Err-Halted.new.self.net;
+            full =
+                c.put-in-Err-Halted.new.self.full;
+          };
+      disks = disks';
+      journal = c.say.new.journal;
+    }))) c.say.ensures
 
 pub returns-in-Ok-clause-tells : goal.returns-in-Ok-clause-tells
 returns-in-Ok-clause-tells g c =
@@ -88,13 +138,17 @@ returns-in_ok-put-in-Err-Halted-clause-tells g c =
     (counts.rose (ap Err c.in-Err-Halted.field-0-is)) counts.later (ap (λ (p : Put). p.lines) c.in_ok-put-in-Err-Halted.ensures.put) line) c.say.ensures
 
 pub returns-in-Ok-clause-disks : goal.returns-in-Ok-clause-disks
-returns-in-Ok-clause-disks g c = moved_set g.D.Disk c.args.self.now.header.nodes c.args.node c.args.rack.now c.disk.result.now c.step.new.disk c.step.result Halted c.requires.least c.requires.greatest c.disk.ensures.value c.step.ensures.counts
+returns-in-Ok-clause-disks g c =
+    moved_set g.D.Disk c.args.self.now.header.nodes c.args.node c.args.rack.now c.disk.result.now c.step.new.disk c.step.result Halted c.requires.least c.requires.greatest c.disk.ensures.value c.step.ensures.counts
 
 pub returns-in_err-put-in-Err-Halted-clause-disks : goal.returns-in_err-put-in-Err-Halted-clause-disks
-returns-in_err-put-in-Err-Halted-clause-disks g c = moved_set g.D.Disk c.args.self.now.header.nodes c.args.node c.args.rack.now c.disk.result.now c.step.new.disk c.step.result Halted c.requires.least c.requires.greatest c.disk.ensures.value c.step.ensures.counts
+returns-in_err-put-in-Err-Halted-clause-disks g c =
+    moved_set g.D.Disk c.args.self.now.header.nodes c.args.node c.args.rack.now c.disk.result.now c.step.new.disk c.step.result Halted c.requires.least c.requires.greatest c.disk.ensures.value c.step.ensures.counts
 
 pub returns-in_ok-put-in-Err-Halted-clause-disks : goal.returns-in_ok-put-in-Err-Halted-clause-disks
-returns-in_ok-put-in-Err-Halted-clause-disks g c = moved_set g.D.Disk c.args.self.now.header.nodes c.args.node c.args.rack.now c.disk.result.now c.step.new.disk c.step.result Halted c.requires.least c.requires.greatest c.disk.ensures.value c.step.ensures.counts
+returns-in_ok-put-in-Err-Halted-clause-disks g c =
+    moved_set g.D.Disk c.args.self.now.header.nodes c.args.node c.args.rack.now c.disk.result.now c.step.new.disk c.step.result Halted c.requires.least c.requires.greatest c.disk.ensures.value c.step.ensures.counts
 
 pub returns-in-Err-Memory-clause-disks : goal.returns-in-Err-Memory-clause-disks
-returns-in-Err-Memory-clause-disks g c = moved_set g.D.Disk c.args.self.now.header.nodes c.args.node c.args.rack.now c.disk.result.now c.step.new.disk c.step.result Halted c.requires.least c.requires.greatest c.disk.ensures.value c.step.ensures.counts
+returns-in-Err-Memory-clause-disks g c =
+    moved_set g.D.Disk c.args.self.now.header.nodes c.args.node c.args.rack.now c.disk.result.now c.step.new.disk c.step.result Halted c.requires.least c.requires.greatest c.disk.ensures.value c.step.ensures.counts
