@@ -2,8 +2,7 @@
 //!
 //! It stands on `arj_journal`, which writes, and on `arj_text`, which reads the fields of a line. What it gives upward:
 //! `read_line` accepts exactly the texts of the lines in form (`specs/LineForm.antt` of `arj_journal`), and no two
-//! journals of such lines have one text (`one_text_per_journal`). No program needs it: it says that what is written can
-//! be read in one way.
+//! journals of such lines have one text (`one_text_per_journal`). `uid` reads a Uid alone.
 #![tactic(auto)]
 
 mod action_lines;
@@ -23,3 +22,4 @@ mod uid;
 pub use fault::LineFault;
 pub use law::one_text_per_journal;
 pub use read::read_line;
+pub use uid::uid;
