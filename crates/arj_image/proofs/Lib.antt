@@ -1,0 +1,9 @@
+pub mod FileTexts
+pub mod Images
+pub mod Kept
+pub mod Lasts
+pub mod Once
+pub mod Slots
+pub mod Taking
+pub mod Turns
+pub mod Values

@@ -1,0 +1,4 @@
+pub mod Grammar
+pub mod Known
+pub mod Texts
+pub mod Written

@@ -1,0 +1,7 @@
+// How long the lines of an image may be.
+
+/// The most bytes of a line before the files, without its end.
+pub const IMAGE_LINE_BYTES: usize = 1_100;
+
+/// The most bytes of the line of a file, without its end.
+pub const FILE_LINE_BYTES: usize = 200_000;

@@ -1,0 +1,73 @@
+// The text of an image.
+ghost use Rattle.std.specs.Prelude.{◌≡◌, ◌++◌, IfOk, OnOk, map};
+ghost use Rattle.std.specs.List.{flat_map};
+ghost use Rattle.arj_image.specs.Grammar.{Has, Object, Says};
+ghost use Rattle.arj_image.specs.Texts.{counts_text};
+ghost use Rattle.arj_image.specs.Written.{form_text, image_text as text_of};
+
+use crate::file::put_file;
+use crate::image::{Image, NodeFile};
+use arj_base::Bytes;
+use arj_journal::{Line, ObjectLine, put_line, put_nodes, put_object};
+use arj_text::words::{put_number, put_numbered};
+use std::alloc::{AllocError, Global};
+
+/// The text of an image, each line with its end.
+pub fn image_text(alloc: Global, image: &Image) -> Result<Bytes, AllocError>
+    ensures { IfOk result (λ text. text ≡ text_of image.now) }
+{
+    let mut out = Bytes::new(alloc);
+    put_nodes(&mut out, image.header.nodes)?;
+    out.extend(b"\n")?;
+    put_objects(&mut out, image.header.objects.as_slice())?;
+    put_counts(&mut out, image.events, image.frames)?;
+    out.extend(b"\njournal\n")?;
+    put_journal(&mut out, image.journal.as_slice())?;
+    out.extend(b"files\n")?;
+    put_files(alloc, &mut out, image.files.as_slice())?;
+    Ok(out)
+}
+
+// The counts of events and of frames.
+#[tactic(auto, using(std::proofs::lemmas::List::append_assoc))]
+fn put_counts(out: &mut Bytes, events: u32, frames: u32) -> Result<(), AllocError>
+    ensures { OnOk result (out.new ≡ out.old ++ counts_text (events, frames)) }
+{
+    put_numbered(out, b"counts", u64::from(events))?;
+    put_number(out, u64::from(frames))
+}
+
+// The lines of objects.
+#[tactic(auto, using(std::proofs::lemmas::List::append_assoc))]
+fn put_objects(out: &mut Bytes, objects: &[ObjectLine]) -> Result<(), AllocError>
+    ensures { OnOk result (out.new ≡ out.old ++ flat_map form_text (map Object objects.now)) }
+{
+    for object in objects {
+        put_object(out, object)?;
+        out.extend(b"\n")?;
+    }
+    Ok(())
+}
+
+// The lines of a journal.
+#[tactic(auto, using(std::proofs::lemmas::List::append_assoc))]
+fn put_journal(out: &mut Bytes, lines: &[Line]) -> Result<(), AllocError>
+    ensures { OnOk result (out.new ≡ out.old ++ flat_map form_text (map Says lines.now)) }
+{
+    for line in lines {
+        put_line(out, line)?;
+    }
+    Ok(())
+}
+
+// The lines of files.
+#[tactic(auto, using(std::proofs::lemmas::List::append_assoc))]
+fn put_files(alloc: Global, out: &mut Bytes, files: &[NodeFile]) -> Result<(), AllocError>
+    ensures { OnOk result (out.new ≡ out.old ++ flat_map form_text (map Has files.now)) }
+{
+    for file in files {
+        put_file(alloc, out, file)?;
+        out.extend(b"\n")?;
+    }
+    Ok(())
+}
