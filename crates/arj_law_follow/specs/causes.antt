@@ -1,0 +1,2 @@
+-- Causes of refusals, in the journal's own words.
+pub mod Refusals
