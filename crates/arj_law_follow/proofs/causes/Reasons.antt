@@ -169,7 +169,7 @@ finds_begin l q k = record {
   down = λ h. refl;
 }
 
-finds_call : (l : Label) (x : ℕ) (o : Op) → Finds (input.Call l x o) l
+pub finds_call : (l : Label) (x : ℕ) (o : Op) → Finds (input.Call l x o) l
 finds_call l x o = record {
   reasons = λ h b c. (7, waits_above b c || waits_below b c) ∷ (11, is_serial b.kind) ∷ (12, b.doomed) ∷ (13, not (is_some (class_at x h)))
       ∷ (14, lacks_op o (class_at x h)) ∷ (16, has_many_objects b x c.tree) ∷ [];
@@ -178,7 +178,7 @@ finds_call l x o = record {
   down = λ h. refl;
 }
 
-finds_include : (l : Label) (x s : ℕ) → Finds (input.Include l x s) l
+pub finds_include : (l : Label) (x s : ℕ) → Finds (input.Include l x s) l
 finds_include l x s = record {
   reasons = λ h b c. (7, waits_above b c || waits_below b c) ∷ (11, is_serial b.kind) ∷ (12, b.doomed) ∷ (13, not (is_some (class_at x h)))
       ∷ (16, has_many_objects b x c.tree) ∷ [];
@@ -187,7 +187,7 @@ finds_include l x s = record {
   down = λ h. refl;
 }
 
-finds_commit : (l : Label) → Finds (input.Commit l) l
+pub finds_commit : (l : Label) → Finds (input.Commit l) l
 finds_commit l = record {
   reasons = λ h b c. (7, waits_above b c || waits_below b c || sibling_waits b c) ∷ (9, has_open_child (actor b.path) c.tree) ∷ [];
   finds = λ h c. refl;

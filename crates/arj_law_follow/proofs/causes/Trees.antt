@@ -112,9 +112,12 @@ module _ (hd : Header) (w : World) (h : Holds hd KnowsAll w) (f : Holds hd Knows
           let same_act : o.0 ≡ a = its_own a i o.0 (let x = o.1 in x.among) (let x = o.1 in x.uid) in (
             c.0,
             place_in (let v = a.uid in v.num) c.0 t.coord.tree.branches (found_by a.uid t.coord.tree c.0 c.1).1,
-            sym (same a.uid c.0 o.0 o.1) ∙ ap below_act same_act ∙ is,
+            carried (below_act o.0) (below_branch c.0) (same a.uid c.0 o.0 o.1) (ap below_act same_act ∙ is),
           )
         where
+          carried : (y z : Bool) → y ≡ z → y ≡ true → z ≡ true
+          carried y z e so = sym e ∙ so
+
           on : (front : List Uid) (v z : Uid) → is_on (front ++ v ∷ z ∷ []) v ≡ true
           on [] v z = λ i. uid_same v i || is_on (z ∷ []) v
           on (y ∷ ys) v z = or_right (uid_eq y v) (is_on (ys ++ v ∷ z ∷ []) v) (on ys v z)
