@@ -8,4 +8,7 @@ pub mod Steps
 pub mod Framed
 pub mod Fitting
 pub mod Showing
+pub mod Numbers
+pub mod Aborts
+pub mod Begun
 pub mod Events

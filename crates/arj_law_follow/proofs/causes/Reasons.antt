@@ -195,7 +195,7 @@ finds_commit l = record {
   down = λ h. refl;
 }
 
-finds_abort : (l : Label) → Finds (input.Abort l) l
+pub finds_abort : (l : Label) → Finds (input.Abort l) l
 finds_abort l = record {
   reasons = λ h b c. (7, waits_above b c || waits_below b c) ∷ [];
   finds = λ h c. refl;
@@ -203,7 +203,7 @@ finds_abort l = record {
   down = λ h. refl;
 }
 
-finds_giveup : (l : Label) → Finds (input.GiveUp l) l
+pub finds_giveup : (l : Label) → Finds (input.GiveUp l) l
 finds_giveup l = record {
   reasons = λ h b c. (8, not (waits c (actor b.path))) ∷ [];
   finds = λ h c. refl;

@@ -47,18 +47,24 @@ use Rattle.arj_law_runs.proofs.follow.Telling.{frame_test}
 use Rattle.arj_law_runs.proofs.follow.Walking.{AreFor}
 use Rattle.arj_law_follow.proofs.causes.{Reasons.Finds, Reasons.finds_call, Reasons.finds_commit, Reasons.finds_include, Standing.IsOne}
 use Rattle.arj_law_follow.proofs.causes.{Standing.its_uid, Standing.named_one, Standing.own_number}
+use Rattle.arj_law_runs.proofs.follow.Uids.{count_of}
+use Rattle.arj_law_follow.proofs.causes.{Reasons.finds_abort, Reasons.finds_giveup}
+use Rattle.arj_law_follow.proofs.lines.{Aborts.abort_lines, Begun.begins_none, Begun.turn_next, Begun.turn_same, Numbers.AreInTurn}
+use Rattle.arj_law_follow.proofs.lines.{Saying.say_all}
+use Words.{bytes_eq}
 use Rattle.arj_law_follow.proofs.lines.Fitting
 use Fitting.{Limited, halts_goes, limit_parts, may_meet, message_works, only_goes}
 use Rattle.arj_law_follow.proofs.lines.Framed.{ArePlain, behind_own, front_so, is_delivery_of, is_taken, net_fits}
 use Rattle.arj_law_follow.proofs.lines.Saying
 use Saying.{Adds, Goes, Halts, Led, Tells, Through, fits, is_message_line, list_both, step_adds}
 use Rattle.arj_law_follow.proofs.lines.Steps
-use Steps.{IsBack, IsCommitLine, IsTaken, Nothing, call_tells, commit_tells, finds, frame_tells, include_tells, nothing_tells}
+use Steps.{IsBack, IsCommitLine, IsTaken, Nothing, abort_tells, call_tells, commit_tells, finds, frame_tells, giveup_tells, include_tells}
+use Steps.{loses, nothing_tells}
 use Steps.{restart_tells}
 use Steps.{tick_tells}
 use Rattle.arj_law_follow.proofs.lines.Showing.{shown_line, shows_all}
 use Rattle.arj_law_follow.proofs.lines.Working.{works}
-use Rattle.arj_law_follow.specs.lines.Lines.{BeginsCommitSo, BeginsSo, HasLines, LinesStep, NetFits, has_lines, is_show}
+use Rattle.arj_law_follow.specs.lines.Lines.{AreGivenUp, BeginsCommitSo, BeginsSo, HasLines, LinesStep, NetFits, is_show}
 use Rattle.arj_law_follow.specs.lines.Lines.{may_stand_or_lose}
 use Rattle.arj_law_follow.specs.lines.Lines.{is_of_net}
 use Rattle.arj_journal.specs.ScriptForm.{HeaderInForm}
@@ -81,9 +87,10 @@ use Rattle.std.proofs.lemmas.List.{take-append-drop, length-take}
 
 -- ---- labels
 
--- the event is a commit
+-- the event ends an action, or gives up what one waits for
 abbrev is_commit : Event → Bool
 is_commit (event.Commit l) = true
+is_commit (event.GiveUp l) = true
 is_commit e = false
 
 -- two labels of one name are one
@@ -294,6 +301,7 @@ module _ (e : Event) where
   takes_work (event.Call l x o) = true
   takes_work (event.Include l x n) = true
   takes_work (event.Commit l) = true
+  takes_work (event.Abort l) = true
   takes_work (event.Deliver k) = true
   takes_work (event.Tick n) = true
   takes_work _ = false
@@ -331,6 +339,7 @@ work_stands e takes (body.Lost l n) is = refl
 work_stands (event.Call l x o) takes b is = is
 work_stands (event.Include l x n) takes b is = is
 work_stands (event.Commit l) takes b is = is
+work_stands (event.Abort l) takes b is = is
 work_stands (event.Deliver k) takes b is = is
 work_stands (event.Tick n) takes b is = is
 work_stands e takes b is = absurd (cc takes)
@@ -364,6 +373,34 @@ restart_may n (body.Told m u e p) is = refl
 restart_may n (body.Prepared m u r) is = refl
 restart_may n (body.Done m u r e) is = refl
 restart_may n b is = absurd (cc is)
+
+giveup_may : (l : Label) (b : Body) → fits (loses l) b ≡ true → may_stand_or_lose (event.GiveUp l) b ≡ true
+giveup_may l (body.Lost m n) is = refl
+giveup_may l (body.Aborted m (cause.Lost n)) is = or_none (bytes_eq (name m) (name l)) is
+  where
+    or_none : (z : Bool) → (z || false) ≡ true → z ≡ true
+    or_none true e = refl
+    or_none false e = e
+giveup_may l (body.Aborted m c) is = or_none (own.is_refusal_of_commit c) is
+  where
+    or_none : (z : Bool) → (z || false) ≡ true → z ≡ true
+    or_none true e = refl
+    or_none false e = e
+giveup_may l (body.Sent k from to what) is = message_works (body.Sent k from to what) is
+giveup_may l (body.Ok m x o r) is = refl
+giveup_may l (body.Includes m x n) is = refl
+giveup_may l (body.Conflict m h j k) is = refl
+giveup_may l (body.Changed m n d) is = refl
+giveup_may l (body.Committed m) is = refl
+giveup_may l (body.Excluded m x n) is = refl
+giveup_may l (body.Granted n u o k) is = refl
+giveup_may l (body.Lowered n u o) is = refl
+giveup_may l (body.Bound x b n) is = refl
+giveup_may l (body.Active n x b) is = refl
+giveup_may l (body.Told n u e p) is = refl
+giveup_may l (body.Prepared n u r) is = refl
+giveup_may l (body.Done n u r e) is = refl
+giveup_may l b is = absurd (cc is)
 
 -- in a settle and a quiesce more may stand
 abbrev settles : Event → Bool
@@ -606,6 +643,7 @@ module _ (hd : Header) (form : HeaderInForm hd) where
       pub live : node.live ≡ Some parts
       pub branch : Branch
       pub named : branch_named l parts.coord ≡ Some branch
+      pub going : is_some branch.ended ≡ false
       pub free : refusal t.header i node ≡ None
       pub home : own.node_of p.lines (name l) ≡ Some (node_of l t)
 
@@ -624,8 +662,17 @@ module _ (hd : Header) (form : HeaderInForm hd) where
         found : (n : Node) → at_place (node_of l t) t.nodes ≡ Some n → own.node_of p.lines (name l) ≡ Some (node_of l t) → (v : Parts) →
             n.live ≡ Some v → refusal t.header i n ≡ None → (o : Option Branch) → branch_named l v.coord ≡ o →
             refused_by (λ b d. (6, is_some b.ended) ∷ f.reasons t.header b d) v.coord o ≡ None → Asks l i
-        found n there home v live none (Some b) named up =
-            record { node = n; there = there; parts = v; live = live; branch = b; named = named; free = none; home = home }
+        found n there home v live none (Some b) named up = record {
+          node = n;
+          there = there;
+          parts = v;
+          live = live;
+          branch = b;
+          named = named;
+          going = (first_not 6 (is_some b.ended) (f.reasons t.header b v.coord) up).0;
+          free = none;
+          home = home;
+        }
         found n there home v live none None named up = let no_way : ◌≡◌ {A = Option ℕ} (Some 6) None = up in absurd (cc no_way)
 
         live : (n : Node) → at_place (node_of l t) t.nodes ≡ Some n → own.node_of p.lines (name l) ≡ Some (node_of l t) →
@@ -662,6 +709,75 @@ module _ (hd : Header) (form : HeaderInForm hd) where
         ∙ ap (λ z. input.coord_did q.node q.parts (input.on_branch (λ b. Words.include b.path x n (let v = q.parts in v.coord))
         (let v = q.parts in v.coord) z)) q.named))
         (include_tells (node_of l t) q.node q.parts q.branch x n))
+
+    -- what its coordinator does with it, under its label
+    record Works (l : Label) (i : Input) (q : Asks l i) : Type 0 where
+      pub doing : Doing
+      pub does : (let b = q.branch in let v = q.parts in doing_of (actor b.path) v.coord) ≡ Some doing
+      pub label : doing.label ≡ l
+
+    works_so : (l : Label) (i : Input) (q : Asks l i) → Works l i q
+    works_so l i q =
+        let v = q.parts in
+        let r = named_one hd w s.base.halts s.base.finds (node_of l t) q.node q.there q.parts q.live l q.branch q.named in
+        let one : IsOne w.lines v.coord.doings (uid_at r.0 v.coord) q.branch r.2 = r.3 in
+        let actor_is = its_uid hd w s.base.halts s.base.finds (node_of l t) q.node q.there q.parts q.live
+        (uid_at r.0 v.coord) q.branch r.1 in
+        let same_name : name (let d = one.doing in d.label) ≡ name l
+        = sym one.label_is ∙ named_label (terms.acts w.lines) (name l) r.2 r.4 in record {
+          doing = one.doing;
+          does = ap (λ u. doing_of u v.coord) actor_is
+              ∙ (λ j. cond (own_number hd w s.base.halts s.base.finds (node_of l t) q.node q.there q.parts q.live r.0 j)
+              (at_place r.0 v.coord.doings) None) ∙ one.does;
+          label = label_is (let d = one.doing in d.label) l same_name;
+        }
+
+    giveup_adds : (l : Label) → Asks l (input.GiveUp l) →
+        Adds (Led (loses l) (AreGivenUp l) (node_of l t)) t (steps (node_of l t) (input.GiveUp l) t)
+    giveup_adds l q =
+        let o = works_so l (input.GiveUp l) q in
+        let at = node_of l t in
+        node_adds (Led (loses l) (AreGivenUp l) at) at (input.GiveUp l) t q.node q.there
+        (subst (Tells (Led (loses l) (AreGivenUp l) at) at (let k = q.node in k.disk))
+        (sym (taken_step (input.GiveUp l) q.node q.parts q.live q.free
+        ∙ ap (λ z. input.coord_did q.node q.parts (input.on_branch (λ b. Words.give_up (actor b.path)
+        (let k = q.node in let d = k.disk in d.intents) (let v = q.parts in v.coord)) (let v = q.parts in v.coord) z)) q.named))
+        (subst (λ (x : Label). (let c = Words.give_up (let b = q.branch in actor b.path) (let k = q.node in let d = k.disk in d.intents)
+        (let v = q.parts in v.coord) in Tells (Led (loses x) (AreGivenUp x) at) at (let k = q.node in k.disk)
+        (Words.node_did q.node [] (Words.with_coord q.parts c.part) c.outs))) o.label
+        (giveup_tells at q.node q.parts (let b = q.branch in actor b.path) (let k = q.node in let d = k.disk in d.intents) o.doing o.does)))
+
+    -- the lines of what an abort ends
+    abbrev AreAbortedOf : Label → List Body → Type 0
+    AreAbortedOf l bs = own.AreAborted (own.aborted_of p.lines (act_in (terms.acts p.lines) (name l))) bs
+
+    abort_adds : AreInTurn (terms.acts p.lines) → (l : Label) → Asks l (input.Abort l) →
+        Adds (Led works (AreAbortedOf l) (node_of l t)) t (steps (node_of l t) (input.Abort l) t)
+    abort_adds turn l q =
+        let at = node_of l t in
+        node_adds (Led works (AreAbortedOf l) at) at (input.Abort l) t q.node q.there
+        (subst (Tells (Led works (AreAbortedOf l) at) at (let k = q.node in k.disk))
+        (sym (taken_step (input.Abort l) q.node q.parts q.live q.free
+        ∙ ap (λ z. input.coord_did q.node q.parts (input.on_branch (λ b. Words.abort_action (actor b.path)
+        (let k = q.node in let d = k.disk in d.intents) (let v = q.parts in v.coord)) (let v = q.parts in v.coord) z)) q.named))
+        (abort_tells at q.node q.parts (AreAbortedOf l) (let b = q.branch in actor b.path) (let k = q.node in let d = k.disk in d.intents)
+        r.0 r.1 (subst (λ ls. own.AreAborted (own.aborted_of ls (act_in (terms.acts ls) (name l))) r.0) (sym base.lines) r.2)))
+      where
+        its : (let good = s.next.holds.0.0.0 in IsUp good.0 s.next.sent w.labels (node_of l t)
+            (let k = q.node in let d = k.disk in d.inc) q.parts)
+        its = let good = s.next.holds.0.0.0 in let place = good.1.places (node_of l t) q.node q.there in
+            subst (IsMemory good.0 s.next.sent w.labels (node_of l t) (let k = q.node in let d = k.disk in d.inc)) q.live place.memory
+
+        count : (let v = q.parts in count_of v.coord.tree.node v.coord.tree.inc (terms.acts w.lines) ≡ length v.coord.tree.branches)
+        count = (λ i. count_of (its.node i) (its.inc i) (terms.acts w.lines)) ∙ ((s.next.holds.1
+            (node_of l t) q.node q.there).1 q.parts q.live).1
+
+        r : (own_lines : List Body) × ((let b = q.branch in let v = q.parts in Words.all_aborted (Words.open_below
+            (actor b.path) v.coord.tree
+            ++ actor b.path ∷ []) v.coord).outs ≡ say_all own_lines)
+            × own.AreAborted (own.aborted_of w.lines (act_in (terms.acts w.lines) (name l))) own_lines
+        r = abort_lines hd w s.base.halts s.base.finds (node_of l t) q.node q.there q.parts q.live l q.branch q.named q.going
+            (subst (λ ls. AreInTurn (terms.acts ls)) base.lines turn) count
 
     -- the commit's line, as the journal has the action
     abbrev IsCommitOf : Label → List Body → Type 0
@@ -743,7 +859,7 @@ module _ (hd : Header) (form : HeaderInForm hd) where
             ∙ ap (input.step_of t.header input.Restart x) live in
             let tells : Tells (Led (finds n) (IsBack n ((let d = x.disk in d.inc) + 1)) n) n x.disk (input.restart_step t.header x)
             = subst (λ k. Tells (Led (finds k) (IsBack k ((let d = x.disk in d.inc) + 1)) k) k x.disk
-                (input.restart_step t.header x)) number
+            (input.restart_step t.header x)) number
             (restart_tells t.header x) in (
               IsBack n ((let d = x.disk in d.inc) + 1),
               λ bs its. ⊎_elim (λ up. inl ((let d = x.disk in d.inc) + 1, below _ _ low, up)) (λ halted. inr halted) its,
@@ -933,6 +1049,7 @@ module _ (hd : Header) (form : HeaderInForm hd) where
     -- what an accepted event has it has so
     begins_so : (e : Event) → is_commit e ≡ false → (bs : List Body) → Begins hd p e bs → BeginsSo hd p e bs
     begins_so (event.Commit l) off bs its = absurd (cc off)
+    begins_so (event.GiveUp l) off bs its = absurd (cc off)
     begins_so e off bs its = its
 
     may_so : (e : Event) (bs : List Body) → list_all (may_stand e) bs ≡ true → list_all (may_stand_or_lose e) bs ≡ true
@@ -973,82 +1090,96 @@ module _ (hd : Header) (form : HeaderInForm hd) where
         by None a = a
         by (Some c) is = absurd (never c is)
 
-    module _ (bodies : List Body) (isnt : is_refused bodies ≡ false) where
+    module _ (turn : AreInTurn (terms.acts p.lines)) (bodies : List Body) (isnt : is_refused bodies ≡ false) where
       of_short : (e : Event) → is_commit e ≡ false → is_short e ≡ true → ShortEventsStep hd p e bodies → HasLines hd p e bodies
       of_short e off short x = accepted_lines e bodies off (accepted_of e bodies isnt (x.short short))
 
-      accepted : (e : Event) (a : Arm) → has_lines e ≡ true → FramesStep hd p e bodies → ShortEventsStep hd p e bodies →
+      accepted : (e : Event) (a : Arm) → FramesStep hd p e bodies → ShortEventsStep hd p e bodies →
           refused_by_any e t ≡ None → w.lines ++ block t.event bodies ≡ (limited (happens e a t)).lines → HasLines hd p e bodies
-      accepted (event.Begin l n) a has fit x none lines = of_short (event.Begin l n) refl refl x
-      accepted (event.Serial l n) a has fit x none lines = of_short (event.Serial l n) refl refl x
-      accepted (event.Lose k) a has fit x none lines = of_short (event.Lose k) refl refl x
-      accepted (event.Crash n) a has fit x none lines = of_short (event.Crash n) refl refl x
-      accepted (event.Stop n c k) a has fit x none lines = of_short (event.Stop n c k) refl refl x
-      accepted (event.Junk n bytes) a has fit x none lines = of_short (event.Junk n bytes) refl refl x
-      accepted (event.BeginIn l q) a has fit x none lines = accepted_lines (event.BeginIn l q) bodies refl (x.below refl isnt)
-      accepted (event.Top l q) a has fit x none lines = accepted_lines (event.Top l q) bodies refl (x.below refl isnt)
-      accepted (event.Call l x o) a has fit short none lines =
+      accepted (event.Begin l n) a fit x none lines = of_short (event.Begin l n) refl refl x
+      accepted (event.Serial l n) a fit x none lines = of_short (event.Serial l n) refl refl x
+      accepted (event.Lose k) a fit x none lines = of_short (event.Lose k) refl refl x
+      accepted (event.Crash n) a fit x none lines = of_short (event.Crash n) refl refl x
+      accepted (event.Stop n c k) a fit x none lines = of_short (event.Stop n c k) refl refl x
+      accepted (event.Junk n bytes) a fit x none lines = of_short (event.Junk n bytes) refl refl x
+      accepted (event.BeginIn l q) a fit x none lines = accepted_lines (event.BeginIn l q) bodies refl (x.below refl isnt)
+      accepted (event.Top l q) a fit x none lines = accepted_lines (event.Top l q) bodies refl (x.below refl isnt)
+      accepted (event.Call l x o) a fit short none lines =
           let e = event.Call l x o in
           let given = is_there l t (world_none e none) in
           let q = asks_so l (input.Call l x o) (finds_call l x o) given (node_none e none) in
           simple e bodies fit isnt (node_of l t) (happens e a t) (call_adds l x o q) lines refl refl (λ bs last met. met)
-              (λ bs is. is) q.home
+          (λ bs is. is) q.home
           (λ n. refl) refl
-      accepted (event.Include l x m) a has fit short none lines =
+      accepted (event.Include l x m) a fit short none lines =
           let e = event.Include l x m in
           let given = is_there l t (first_not 1 (not (world.is_node m t)) ((5, not (world.is_known l t)) ∷ (6, world.was_given l t) ∷ [])
           (world_none e none)).1 in
           let q = asks_so l (input.Include l x m) (finds_include l x m) given (node_none e none) in
           simple e bodies fit isnt (node_of l t) (happens e a t) (include_adds l x m q) lines refl refl (λ bs last met. met)
-              (λ bs is. is) q.home
+          (λ bs is. is) q.home
           (λ n. refl) refl
-      accepted (event.Commit l) a has fit short none lines =
+      accepted (event.Commit l) a fit short none lines =
           let e = event.Commit l in
           let given = is_there l t (world_none e none) in
           let q = asks_so l (input.Commit l) (finds_commit l) given (node_none e none) in
           let r = commit_adds l q in
           at_node e bodies fit isnt works r.0 (node_of l t) (happens e a t) (limit_parts (Led works r.0 (node_of l t)) t
-              (happens e a t) bodies
+          (happens e a t) bodies
           r.2 lines) r.1 (λ bs last met. met) (work_may e refl) refl no_halt (λ bs is. is) q.home (plain_works e (node_of l t))
           (λ bs its. inr (λ n. refl))
-      accepted (event.Deliver k) a has fit short none lines =
+      accepted (event.Deliver k) a fit short none lines =
           let e = event.Deliver k in
           let f = frame_there k (not_not (is_frame k t) (first_not 17 (not (is_frame k t)) [] (world_none e none)).0) in
           let to = (let g = f.frame in g.to) in
           at_node e bodies fit isnt works (IsTaken (frame_number k t)) to (happens e a t) (limit_parts (Led works (IsTaken
-              (frame_number k t)) to)
+          (frame_number k t)) to)
           t (happens e a t) bodies (deliver_adds k f) lines)
           (λ bs its. subst (λ j. own.IsDelivery j bs) (sym (named_frame k)) its) (λ bs last met. met) (work_may e refl) refl no_halt
           (λ bs is. is)
           f.home (plain_works e to) (λ bs its. inr (λ n. refl))
-      accepted (event.Tick n) a has fit short none lines =
+      accepted (event.Tick n) a fit short none lines =
           let e = event.Tick n in
           let up = not_not (is_up_at n t) (first_not 2 (not (is_up_at n t)) []
           (first_not 1 (not (world.is_node n t)) ((2, not (is_up_at n t)) ∷ []) (world_none e none)).1).0 in
           simple e bodies fit isnt n (happens e a t) (tick_adds n up) lines refl refl (λ bs last met. met) (λ bs is. is) refl
-              (λ k. refl) refl
-      accepted (event.Restart n) a has fit short none lines =
+          (λ k. refl) refl
+      accepted (event.Restart n) a fit short none lines =
           let e = event.Restart n in
           let at = first_not 1 (not (world.is_node n t)) ((3, is_up_at n t) ∷ []) (world_none e none) in
           let node = not_not (world.is_node n t) at.0 in
           let down = (first_not 3 (is_up_at n t) [] at.1).0 in
           let r = restart_adds n node down in
           at_node e bodies fit isnt (finds n) r.0 n (happens e a t) (limit_parts (Led (finds n) r.0 n) t
-              (happens e a t) bodies r.2 lines) r.1
+          (happens e a t) bodies r.2 lines) r.1
           (λ bs last met. met) (restart_may n) refl (λ j. refl) (λ bs is. is) refl
           (λ bs goes. plain_all e refl bs) (λ bs its. inl (some bs (r.1 bs its)))
         where
           some : (bs : List Body) → own.IsRestart p n bs → 1 ≤ length bs
           some bs its = ⊎_elim (λ up. subst (λ z. 1 ≤ length z) (sym up.2) (omega arith))
               (λ halted. subst (λ z. 1 ≤ length z) (sym halted) (omega arith)) its
-      accepted event.Settle a has fit short none lines =
+      accepted event.Settle a fit short none lines =
           let l = limit_parts AllStand t (settle t) bodies (settle_stands most_frames t) lines in
           at_nodes event.Settle bodies fit isnt refl l.added l.last l.has l.parts (may_meet AllStand t (settle t) bodies l)
-      accepted event.Quiesce a has fit short none lines = quiesced bodies fit isnt lines
-      accepted (event.Show x) a has fit short none lines = accepted_lines (event.Show x) bodies refl
+      accepted event.Quiesce a fit short none lines = quiesced bodies fit isnt lines
+      accepted (event.Show x) a fit short none lines = accepted_lines (event.Show x) bodies refl
           (shown_accepted x bodies fit isnt lines)
-      accepted (event.Abort l) a has fit short none lines = absurd (cc has)
-      accepted (event.GiveUp l) a has fit short none lines = absurd (cc has)
+      accepted (event.Abort l) a fit short none lines =
+          let e = event.Abort l in
+          let given = is_there l t (world_none e none) in
+          let q = asks_so l (input.Abort l) (finds_abort l) given (node_none e none) in
+          let at = node_of l t in
+          at_node e bodies fit isnt works (AreAbortedOf l) at (happens e a t) (limit_parts (Led works (AreAbortedOf l) at) t
+          (happens e a t) bodies (abort_adds turn l q) lines) (λ bs its. its) (λ bs last met. met) (work_may e refl) refl no_halt
+          (λ bs is. is) q.home (plain_works e at) (λ bs its. inr (λ n. refl))
+      accepted (event.GiveUp l) a fit short none lines =
+          let e = event.GiveUp l in
+          let given = is_there l t (world_none e none) in
+          let q = asks_so l (input.GiveUp l) (finds_giveup l) given (node_none e none) in
+          let at = node_of l t in
+          at_node e bodies fit isnt (loses l) (AreGivenUp l) at (happens e a t) (limit_parts (Led (loses l) (AreGivenUp l) at) t
+          (happens e a t) bodies (giveup_adds l q) lines) (λ bs its. its) (λ bs last met. met) (giveup_may l) refl (λ n. refl)
+          (λ bs is. is) q.home (λ bs goes. no_delivery e (loses l) at bs (λ j. refl) (λ j. refl) goes) (λ bs its. inr (λ n. refl))
 
     -- ---- an event
 
@@ -1078,37 +1209,55 @@ module _ (hd : Header) (form : HeaderInForm hd) where
           by (IsRun none isnt lines) = subst (λ o. MatchOption o (Accepted hd p (event_of m) bodies) (λ d. bodies ≡ body.Refused d ∷ []))
               (sym (same ∙ none)) (shown (event_of m) arm show fit isnt lines)
 
-      pub follows : Came (event_of m) arm t bodies → ShortEventsStep hd p (event_of m) bodies → LinesStep hd p (event_of m) bodies
-      follows (IsRefused c refused is) short = record {
-        lines = λ has isnt. let no_way : true ≡ false = sym (ap is_refused is) ∙ isnt in absurd (cc no_way);
+      pub follows : AreInTurn (terms.acts p.lines) → Came (event_of m) arm t bodies → ShortEventsStep hd p (event_of m) bodies →
+          LinesStep hd p (event_of m) bodies
+      follows turn (IsRefused c refused is) short = record {
+        lines = λ isnt. let no_way : true ≡ false = sym (ap is_refused is) ∙ isnt in absurd (cc no_way);
         shown = λ show. shown_step show (IsRefused c refused is);
       }
-      follows (IsRun none isnt lines) short = record {
-        lines = λ has off. accepted bodies isnt (event_of m) arm has fit short none lines;
+      follows turn (IsRun none isnt lines) short = record {
+        lines = λ off. accepted turn bodies isnt (event_of m) arm fit short none lines;
         shown = λ show. shown_step show (IsRun none isnt lines);
       }
 
-    pub goes : Outcome (LinesStep hd) (shorts.Stands hd form) m p w
-    goes = by (shorts.goes hd form m p w stops s on) (frames.goes hd form m p w stops s.base.base on)
-      where
-        by : Outcome (ShortEventsStep hd) (shorts.Stands hd form) m p w → Outcome (FramesStep hd) (frames.Stands hd form) m p w →
-            Outcome (LinesStep hd) (shorts.Stands hd form) m p w
-        by (Ended over event lines) other = Ended over event lines
-        by (Went bodies step after) other = ends bodies step after other
-          where
-            ends : (bodies : List Body) → ShortEventsStep hd p (event_of m) bodies →
-                shorts.Stands hd form (next p (event_of m) bodies) (moved m w) → Outcome (FramesStep hd) (frames.Stands hd form) m p w →
-                Outcome (LinesStep hd) (shorts.Stands hd form) m p w
-            ends bodies step after (Ended over event lines) = Ended over event lines
-            ends bodies step after (Went cs fit later) =
-                let one : cs ≡ bodies = same_bodies (p.count + 1) cs bodies p.lines (later.lines ∙ sym (let b = after.base in
-                let c = b.base in c.lines)) in
-                let fits_too = subst (FramesStep hd p (event_of m)) one fit in
-                let g = refusing.goes_with hd form m p w stops s.base on bodies (let b = after.base in b.base) in
-                Went bodies (follows bodies fits_too g.0 step) after
+      -- actions stay in turn
+      turned : AreInTurn (terms.acts p.lines) → Came (event_of m) arm t bodies → LinesStep hd p (event_of m) bodies →
+          AreInTurn (terms.acts (let q = next p (event_of m) bodies in q.lines))
+      turned turn (IsRefused c refused is) x = turn_same p bodies (ap (list_all begins_none) is) turn
+      turned turn (IsRun none isnt lines) x = turn_next hd p (event_of m) bodies (x.lines isnt) turn
+
+  -- the run stands so at each event, and its actions are in turn
+  record Turned (p : Past) (w : World) : Type 0 where
+    pub base : shorts.Stands hd form p w
+    pub turn : AreInTurn (terms.acts p.lines)
+
+  goes : (m : Move) (p : Past) (w : World) → IsStoppedInForm m → Turned p w → w.over ≡ false → Outcome (LinesStep hd) Turned m p w
+  goes m p w stops x on = by (shorts.goes hd form m p w stops s on) (frames.goes hd form m p w stops s.base.base on)
+    where
+      s : shorts.Stands hd form p w
+      s = x.base
+
+      by : Outcome (ShortEventsStep hd) (shorts.Stands hd form) m p w → Outcome (FramesStep hd) (frames.Stands hd form) m p w →
+          Outcome (LinesStep hd) Turned m p w
+      by (Ended over event lines) other = Ended over event lines
+      by (Went bodies step after) other = ends bodies step after other
+        where
+          ends : (bodies : List Body) → ShortEventsStep hd p (event_of m) bodies →
+              shorts.Stands hd form (next p (event_of m) bodies) (moved m w) → Outcome (FramesStep hd) (frames.Stands hd form) m p w →
+              Outcome (LinesStep hd) Turned m p w
+          ends bodies step after (Ended over event lines) = Ended over event lines
+          ends bodies step after (Went cs fit later) =
+              let one : cs ≡ bodies = same_bodies (p.count + 1) cs bodies p.lines (later.lines ∙ sym (let b = after.base in
+              let c = b.base in c.lines)) in
+              let fits_too = subst (FramesStep hd p (event_of m)) one fit in
+              let g = refusing.goes_with hd form m p w stops s.base on bodies (let b = after.base in b.base) in
+              let y = follows m p w stops s on bodies fits_too x.turn g.0 step in
+              Went bodies y (record { base = after; turn = turned m p w stops s on bodies fits_too x.turn g.0 y })
 
 pub lines_follow : (hd : Header) (r : Run hd) → IsInForm hd r → Runs (LinesStep hd) r.start (run_events hd r) (journal_by hd r)
 lines_follow hd r form =
-    runs_along (LinesStep hd) (shorts.Stands hd form.header) IsStoppedInForm (λ p w s. s.base.base.lines) (λ p w s. s.base.base.count)
-    (λ m p w stops s on. goes hd form.header m p w stops s on) r.start r.moves (world_from hd r.start) form.stops
-    (shorts.first_stands hd form.header r.start r.formed)
+    runs_along (LinesStep hd) (Turned hd form.header) IsStoppedInForm
+    (λ p w x. (let s : shorts.Stands hd form.header p w = x.base in s.base.base.lines))
+    (λ p w x. (let s : shorts.Stands hd form.header p w = x.base in s.base.base.count))
+    (λ m p w stops x on. goes hd form.header m p w stops x on) r.start r.moves (world_from hd r.start) form.stops
+    (record { base = shorts.first_stands hd form.header r.start r.formed; turn = tt })

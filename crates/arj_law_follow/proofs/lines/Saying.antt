@@ -174,8 +174,13 @@ pub record Tells (P : List Body → Type 0) (k : ℕ) (d : Disk) (s : Step) : Ty
 
 pub step_adds : (P : List Body → Type 0) (k : ℕ) (n : Node) (s : Step) (w : World) (o : Option Arm) → Tells P k n.disk s →
     Adds P w (step_with k n s w o)
-step_adds P k n s w None tells = record { added = bodies k (length w.frames) s.outs; lines = refl; event = refl; has = tells.through
-    (length w.frames) }
+step_adds P k n s w None tells = record {
+  added = bodies k (length w.frames) s.outs;
+  lines = refl;
+  event = refl;
+  has = tells.through
+      (length w.frames);
+}
 step_adds P k n s w (Some a) tells = by (nat_lt (count_works s.halting) a.works)
   where
     by : (b : Bool) → Adds P w (cond b (done_step k s (armed k (record a { works = a.works - count_works s.halting }) w))

@@ -22,13 +22,18 @@ use Words.commit
 use Words.ending
 use Words.input
 use Words.kind
+use Words.{Aborts, Confirming, Machine, Plan, Preparing, Voting, abort_action, all_aborted, all_both, bytes_eq, gaveup_lines, give_up}
+use Words.{give_up_call, give_up_doing, given_up, gives_up, next_node, nodes_given_up, on_root, open_below, root_lost, root_of}
+use Words.{step_commit}
 use Rattle.arj_protocol.specs.Commit.{start}
+use Rattle.arj_law_follow.specs.lines.Lines.{AreGivenUp}
 use Rattle.arj_model.specs.Own.{commit_line}
 use Rattle.arj_law_parts.proofs.moves.Rounds.{AreLooks, LooksAlone, is_look, taken_looks}
 use Rattle.arj_law_follow.proofs.lines.Saying
 use Saying.{Goes, Halts, Through, Led, Such, Tells, goes_halted, goes_through, led_tells, led_whole, own_bodies, say_all, such_work}
 use Rattle.arj_law_follow.proofs.lines.Working
-use Working.{Work, asks_all_work, moved_commit_work, says_work, tells_work, tolds_of_work, vote_refuses, work_both, work_map, works}
+use Working.{Work, asks_all_work, moved_commit_work, says_work, step_call_work, stores_refuse, tells_work, tolds_of_work, vote_refuses}
+use Working.{work_both, work_map, works}
 use Working.{taken_work}
 use Rattle.arj_law_parts.proofs.steps.Still.{outs_of}
 
@@ -52,7 +57,91 @@ did k Own n t own outs fs is work its =
     let all : (whole n.number t outs n.disk).outs ≡ say_all own ++ w.0 = ap (λ es. (whole n.number t es n.disk).outs) is ∙ w.1 in
     led_tells works Own k n.disk (node_did n [] t outs) own w.0 all all w.2 its
 
+did_such : (T : Body → Bool) → ((b : Body) → works b ≡ true → T b ≡ true) → (k : ℕ) (Own : List Body → Type 0) (n : Node) (t : Parts)
+    (own : List Body) (outs fs : List Effect) → outs ≡ say_all own ++ fs → Such T fs → Own own →
+    Tells (Led T Own k) k n.disk (node_did n [] t outs)
+did_such T covers k Own n t own outs fs is such its =
+    let w = led_whole T covers n.number t own fs n.disk such in
+    let all : (whole n.number t outs n.disk).outs ≡ say_all own ++ w.0 = ap (λ es. (whole n.number t es n.disk).outs) is ∙ w.1 in
+    led_tells T Own k n.disk (node_did n [] t outs) own w.0 all all w.2 its
+
+-- the line says that a commit of this action met a lost node, or is work
+abbrev pub loses : Label → Body → Bool
+loses l (body.Aborted m (cause.Lost n)) = bytes_eq (name m) (name l)
+loses l b = works b
+
+covers_loses : (l : Label) (b : Body) → works b ≡ true → loses l b ≡ true
+covers_loses l (body.Aborted m (cause.Lost n)) is = absurd (cc is)
+covers_loses l b is = is
+
 module _ (k : ℕ) (n : Node) (t : Parts) where
+  -- an abort says a line for each action that it ends
+  pub abort_tells : (Own : List Body → Type 0) (u : Uid) (intents : List (Uid × Intent)) (own : List Body) →
+      (all_aborted (open_below u t.coord.tree ++ u ∷ []) t.coord).outs ≡ say_all own → Own own →
+      (let d = abort_action u intents t.coord in Tells (Led works Own k) k n.disk (node_did n [] (with_coord t d.part) d.outs))
+  abort_tells Own u intents own is its =
+      let us = open_below u t.coord.tree ++ u ∷ [] in
+      let a = all_aborted us t.coord in
+      let fs = flat_map (tolds_of intents a.part) us in
+      did k Own n (with_coord t a.part) own (a.outs ++ fs) fs (ap (λ es. es ++ fs) is)
+      (all_flat says_work (tolds_of intents a.part) us (λ v. tolds_of_work intents a.part v)) its
+
+  -- a giveup says a line for each node that is given up
+  module _ (u : Uid) (intents : List (Uid × Intent)) (q : Doing) (does : doing_of u t.coord ≡ Some q) where
+    gaveup_said : (nodes : List ℕ) → gaveup_lines u nodes t.coord ≡ say_all (map (λ (m : ℕ). body.GaveUp q.label m) nodes)
+    gaveup_said [] = refl
+    gaveup_said (m ∷ nodes) = λ i. ap (say_for (λ l. body.GaveUp l m)) does i ++ gaveup_said nodes i
+
+    all_given : (nodes : List ℕ) → AreGivenUp q.label (map (λ (m : ℕ). body.GaveUp q.label m) nodes)
+    all_given [] = tt
+    all_given (m ∷ nodes) = (refl, all_given nodes)
+
+    lost_says : (m : ℕ) → Such (loses q.label) (says u (λ l. body.Aborted l (cause.Lost m)) t.coord)
+    lost_says m = subst (λ o. Such (loses q.label) (say_for (λ l. body.Aborted l (cause.Lost m)) o)) (sym does)
+        (λ i. bytes_same (name q.label) i && true)
+      where
+        bytes_same : (l : List ℕ) → bytes_eq l l ≡ true
+        bytes_same [] = refl
+        bytes_same (b ∷ l) = λ i. number_same b i && bytes_same l i
+          where
+            number_same : (a : ℕ) → (a == a) ≡ true
+            number_same a = grind (arith, nat_tests)
+
+    lost_commit : (m : ℕ) (p : Plan) → Such (loses q.label) (step_commit u (Aborts (cause.Lost m) p) intents t.coord).outs
+    lost_commit m p =
+        let rest = tolds_of intents (Words.ended u ending.Abort t.coord) u in
+        all_both (Saying.says_such (loses q.label)) (says u (λ l. body.Aborted l (cause.Lost m)) t.coord) rest (lost_says m)
+        (such_work (loses q.label) (covers_loses q.label) rest (tolds_of_work intents (Words.ended u ending.Abort t.coord) u))
+
+    commit_such : (m : Machine) → Such (loses q.label) (moved_commit u (commit.given_up m) intents t.coord).outs
+    commit_such (Voting p left) = lost_commit (commit.first_of left) p
+    commit_such (Preparing p left) =
+        let d = moved_commit u (commit.given_up (Preparing p left)) intents t.coord in
+        such_work (loses q.label) (covers_loses q.label) d.outs
+        (moved_commit_work u (commit.given_up (Preparing p left)) intents t.coord (stores_refuse [] (commit.marks_stores left p)))
+    commit_such (Confirming p) = lost_commit 1 p
+
+    abbrev Gives : Words.Did Coord → Type 0
+    Gives d = Tells (Led (loses q.label) (AreGivenUp q.label) k) k n.disk (node_did n [] (with_coord t d.part) d.outs)
+
+    gives : (nodes : List ℕ) (d : Words.Did Coord) → Such (loses q.label) d.outs →
+        Gives (record { part = d.part; outs = gaveup_lines u nodes t.coord ++ d.outs })
+    gives nodes d such =
+        did_such (loses q.label) (covers_loses q.label) k (AreGivenUp q.label) n (with_coord t d.part)
+        (map (λ (m : ℕ). body.GaveUp q.label m) nodes) (gaveup_lines u nodes t.coord ++ d.outs) d.outs
+        (ap (λ es. es ++ d.outs) (gaveup_said nodes)) such (all_given nodes)
+
+    pub giveup_tells : Gives (give_up u intents t.coord)
+    giveup_tells = subst (λ o. Gives (give_up_doing u intents t.coord o)) (sym does) (now q.now)
+      where
+        now : (m : Now) → Gives (gives_up u intents t.coord m)
+        now Idle = gives [] (record { part = t.coord; outs = [] }) refl
+        now (Calling s) =
+            let d = give_up_call s t.coord in
+            gives (next_node s ∷ []) d (such_work (loses q.label) (covers_loses q.label) d.outs
+            (step_call_work s (given_up s.at) (on_root (root_of s.path) (root_lost s (given_up s.at)) t.coord)))
+        now (Committing m) = gives (nodes_given_up m) (moved_commit u (commit.given_up m) intents t.coord) (commit_such m)
+
   -- calls and includes ask
   pub call_tells : (b : Branch) (x : ℕ) (o : Op) → (let d = call b.path x o t.coord in
       Tells (Led works Nothing k) k n.disk (node_did n [] (with_coord t d.part) d.outs))

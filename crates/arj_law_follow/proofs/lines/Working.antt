@@ -198,7 +198,7 @@ step_commit_work u (Aborts why p) intents c so =
 pub marks_work : (u : Uid) (marks : List (ℕ × ℕ)) (c : Coord) → Work (mark_lines u marks c)
 marks_work u marks c =
     all_flat says_work (λ (k : ℕ × ℕ). says u (λ l. body.Excluded l k.0 k.1) c) marks (λ k. says_so u (λ l. body.Excluded l k.0 k.1) c
-        (λ l. refl))
+    (λ l. refl))
 
 pub moved_commit_work : (u : Uid) (m : Marked) (intents : List (Uid × Intent)) (c : Coord) → Refuses m.step →
     Work (moved_commit u m intents c).outs
@@ -265,7 +265,7 @@ heard_work from a r intents c = by (doing_of a.act c)
       where
         one : (b : Bool) →
             Work (cond {A = Served Coord (Unit {0})} b (heard_by (moved_commit a.act (commit.answered from m r) intents c))
-                (heard_none c)).outs
+            (heard_none c)).outs
         one true = moved_commit_work a.act (commit.answered from m r) intents c (answer_refuses from m r)
         one false = refl
 

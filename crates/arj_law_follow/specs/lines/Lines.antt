@@ -43,9 +43,16 @@ abbrev pub BeginsCommitSo : Label → Option Act → List Body → Type 0
 BeginsCommitSo l None own = ⊥
 BeginsCommitSo l (Some a) own = (own ≡ commit_line a.kind l ∷ []) ⊎ (own ≡ body.Aborted l cause.Doomed ∷ [])
 
--- the lines with which an event begins: of a commit without why its action is doomed
+-- each line says that the action gave up a node
+abbrev pub AreGivenUp : Label → List Body → Type 0
+AreGivenUp l [] = ⊤
+AreGivenUp l (body.GaveUp m n ∷ own) = (m ≡ l) × AreGivenUp l own
+AreGivenUp l own = ⊥
+
+-- the lines with which an event begins: of a commit without why its action is doomed, and of a giveup whatever nodes it names
 abbrev pub BeginsSo : Header → Past → Event → List Body → Type 0
 BeginsSo header past (event.Commit l) own = BeginsCommitSo l (act_in (acts past.lines) (name l)) own
+BeginsSo header past (event.GiveUp l) own = AreGivenUp l own
 BeginsSo header past e own = Begins header past e own
 
 -- The lines of an accepted event, but for what was asked: it begins with its own, and ends with its own where its kind has one at the end;
@@ -61,12 +68,6 @@ pub record HasLines (header : Header) (past : Past) (e : Event) (bodies : List B
   pub halts : halts_fit past.lines e others ≡ true
   pub net : NetFits past.start (past.accepted ++ asked_of past e ∷ []) (past.lines ++ block (past.count + 1) own) (past.count + 1) others
 
--- all kinds of events but an abort and a giveup
-abbrev pub has_lines : Event → Bool
-has_lines (event.Abort l) = false
-has_lines (event.GiveUp l) = false
-has_lines _ = true
-
 -- the event shows what is held of an object
 abbrev pub is_show : Event → Bool
 is_show (event.Show x) = true
@@ -74,7 +75,7 @@ is_show _ = false
 
 -- An accepted event has such lines; and a show writes what it may.
 pub record LinesStep (hd : Header) (past : Past) (e : Event) (bodies : List Body) : Type 0 where
-  pub lines : has_lines e ≡ true → is_refused bodies ≡ false → HasLines hd past e bodies
+  pub lines : is_refused bodies ≡ false → HasLines hd past e bodies
   pub shown : is_show e ≡ true → Step hd past e bodies
 
 -- so it is of each event of a run
