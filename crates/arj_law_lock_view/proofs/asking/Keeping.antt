@@ -42,13 +42,14 @@ use Rattle.arj_model.specs.Refusals.{asks_by, is_ask_by, last_asked}
 use Rattle.arj_protocol.specs.Step.{waits_above, waits_below}
 use Rattle.arj_start.specs.Start.{Start}
 use Rattle.arj_law_lock_view.proofs.asking.Handling as Handling
-use Rattle.arj_law_lock_view.proofs.asking.Handling.{handle_goes}
+use Rattle.arj_law_lock_view.proofs.asking.Handling.{goes_so}
 use Rattle.arj_law_lock_view.proofs.asking.Knowing.{IsThere, KnowsCoord, is_there, knows_coord, one_name}
 use Rattle.arj_law_lock_view.proofs.asking.Turning.{acts_turn, again_dumb, again_turn, asked_idle, dumb_both, rise_of, still_there}
 use Rattle.arj_law_lock_view.proofs.asking.Tying.{OffTied, Own, answers_stay, dumb_walk, ends_walk, like_tied, none_first, off_of, own_of}
 use Rattle.arj_law_lock_view.proofs.asking.Tying.{stop_tied, tied_same}
 use Rattle.arj_law_lock_view.specs.asking.Asked.{AskedAreTied, IsTied, IsTiedAt, accepted_of, asks_goal, count_asks}
-use Rattle.arj_law_lock_view.specs.asking.Turns.{AreDumb, Ends, IsDumb, NumbersRise, Rests, Turns, calling, is_else, is_reply}
+use Rattle.arj_law_lock_view.specs.asking.Turns.{AreDumb, EndsSo, IsDumb, IsGivenUp, IsHeardIn, NumbersRise, RestsSo, TurnsSo, Why}
+use Rattle.arj_law_lock_view.specs.asking.Turns.{calling, is_else, is_reply}
 
 some_is : {A : Type 0} {a b : A} → Some a ≡ Some b → a ≡ b
 some_is {A} {a} {b} is = let k : ◌≡◌ {A = Option A} (Some a) (Some b) = is in cc
@@ -76,7 +77,7 @@ plain_line (body.Lost l n) is = absurd (cc is)
 plain_line (body.Changed l n d) is = absurd (cc is)
 plain_line b is = refl
 
-plain_lines : (bs : List Body) → ArePlain bs → AllByRecursion (λ (b : Body). is_reply b ≡ false) bs
+pub plain_lines : (bs : List Body) → ArePlain bs → AllByRecursion (λ (b : Body). is_reply b ≡ false) bs
 plain_lines [] plain = tt
 plain_lines (b ∷ bs) plain = let q = and_parts (is_plain_line b) (list_all is_plain_line bs) plain in (plain_line b q.0, plain_lines bs q.1)
 
@@ -92,7 +93,14 @@ again_tolds : (telling : List (Uid × Intent)) → AreDumb (tolds_again telling)
 again_tolds telling = all_flat IsDumb (λ (e : Uid × Intent). tell_all e.1.root true ((e.0, ending.Commit) ∷ []) e.1.nodes) telling
     (λ e. all_map IsDumb _ e.1.nodes (λ n. tt))
 
-restart_dumb : (hd : Header) (k inc : ℕ) (d : Disk) → AreDumb (restart_outs hd k inc d)
+pub tick_dumb : (k : ℕ) (d : Disk) (t : Parts) → AreDumb (tick_outs (record { number = k; disk = d; live = Some t }) t)
+tick_dumb k d t =
+    let r = again_all t.coord.doings t.coord in
+    dumb_both (r.outs ++ tolds_again t.coord.telling) (map query_about (holders d t))
+    (dumb_both r.outs (tolds_again t.coord.telling) (again_dumb t.coord.doings t.coord) (again_tolds t.coord.telling))
+    (all_map IsDumb query_about (holders d t) (λ u. tt))
+
+pub restart_dumb : (hd : Header) (k inc : ℕ) (d : Disk) → AreDumb (restart_outs hd k inc d)
 restart_dumb hd k inc d =
     let back = naming_back (naming_at k inc d.names) in
     let records = Do Look ∷ recovered_records k d.intents in
@@ -176,11 +184,11 @@ module _ (k : ℕ) (d : Disk) (t : Parts) (M : Moment) (h : HasPaths (up k d t M
       up k d t M in seen.with_sent h.0 N.seen) h.2.1 k k t t u w x y (mine u x found)
       (mine w y at) ((bytes_eq-Decides (name x.label) (name y.label)).0 e))
 
-  pub turn_walk : (v : Parts) (outs : List Effect) → Turns t.coord outs v.coord → NumbersRise t.coord v.coord →
+  pub turn_walk : (W : Why) (v : Parts) (outs : List Effect) → TurnsSo W t.coord outs v.coord → NumbersRise t.coord v.coord →
       WalksWith AskedAreTied k outs (UpWith AskedAreTied k v) d M
-  turn_walk v outs (Rests dumb came) rise = dumb_walk k v outs d M dumb (off_of k d (Some t) M tied) (λ u x at. let c = came u x at in
+  turn_walk W v outs (RestsSo dumb came) rise = dumb_walk k v outs d M dumb (off_of k d (Some t) M tied) (λ u x at. let c = came u x at in
       like_tied M.past.askings M.seen.lines u c.0 x c.2 (rise u c.0 x c.1 at) (own_of k d t M tied u c.0 c.1))
-  turn_walk v outs (Ends u x s g front found is lined are after) rise =
+  turn_walk W v outs (EndsSo u x s g front found is lined why are after) rise =
       subst (λ es. WalksWith AskedAreTied k es (UpWith AskedAreTied k v) d M)
       (sym are) (ends_walk k t v u x s g found is (λ w y at e. same_names u x found w y at e) rise after front d M lined (record {
         off = off_of k d (Some t) M tied;
@@ -506,7 +514,7 @@ module _ (hd : Header) (G : Moment → Type 0) (steps : KeepsSteps hd G) (paths 
       let q = paths (up k d t M) h.0 in
       let j = its k d t M q h.1 in
       let did = does i d.intents t.coord in
-      turn_walk k d t M q h.1 (with_coord t did.part) did.outs
+      turn_walk k d t M q h.1 IsGivenUp (with_coord t did.part) did.outs
       (acts_turn t.coord q.2.0 (paths_of q.2.0) (tree k d t M q h.1) j.coord hd i d.intents is free)
       (rise_of t.coord did.part (further_acts t.coord q.2.0 (paths_of q.2.0) (tree k d t M q h.1) j.coord (let u =
       j.its in u.numbered) i d.intents other))
@@ -521,7 +529,7 @@ module _ (hd : Header) (G : Moment → Type 0) (steps : KeepsSteps hd G) (paths 
       let j = its k d t M q h.1 in
       let did = does (input.Commit l) d.intents t.coord in
       turn_walk k d t N q (more_tied a (up k d t M) (λ m. ap (is_ask_by m) (brings_commit M.past.event l brings)) h.1)
-      (with_coord t did.part) did.outs
+      IsGivenUp (with_coord t did.part) did.outs
       (acts_turn t.coord q.2.0 (paths_of q.2.0) (tree k d t M q h.1) j.coord hd (input.Commit l) d.intents refl free)
       (rise_of t.coord did.part (further_acts t.coord q.2.0 (paths_of q.2.0) (tree k d t M q h.1) j.coord (let u =
       j.its in u.numbered) (input.Commit l)
@@ -604,9 +612,11 @@ module _ (hd : Header) (G : Moment → Type 0) (steps : KeepsSteps hd G) (paths 
     message = λ k d t v from m outs M h there meant may is.
         let q = paths (up k d t M) h.0 in
         let j = its k d t M q h.1 in
-        let goes = subst (Handling.Goes k d t from) is (handle_goes k d t from q.2.0 (paths_of q.2.0) (tree k d t M q h.1) j.coord
-        (let u = j.its in u.numbered) m) in
-        both k outs v d M (steps.message k d t v from m outs M h.0 there meant may is) (turn_walk k d t M q h.1 v outs goes.0 goes.1);
+        let goes = subst (Handling.GoesSo (IsHeardIn from m) k d t from) is
+        (goes_so (IsHeardIn from m) k d t from q.2.0 (paths_of q.2.0) (tree k d t M q h.1) j.coord
+        (let u = j.its in u.numbered) m (λ w s g h. h)) in
+        both k outs v d M (steps.message k d t v from m outs M h.0 there meant may is)
+        (turn_walk k d t M q h.1 (IsHeardIn from m) v outs goes.0 goes.1);
     act = λ k d t i M is brings fresh asks free h. let did = does i d.intents t.coord in
         both k did.outs (with_coord t did.part) d (asks_now i t.coord M) (steps.act k d t i M is brings fresh asks free h.0)
         (act_tied k d t i M is brings fresh free h);
@@ -618,11 +628,8 @@ module _ (hd : Header) (G : Moment → Type 0) (steps : KeepsSteps hd G) (paths 
         let q = paths (up k d t M) h.0 in
         let r = again_all t.coord.doings t.coord in
         let outs = tick_outs (record { number = k; disk = d; live = Some t }) t in
-        both k outs (with_coord t r.part) d M (steps.tick k d t M h.0) (turn_walk k d t M q h.1 (with_coord t r.part) outs
-        (Rests (dumb_both (r.outs ++ tolds_again t.coord.telling) (map query_about (holders d t))
-        (dumb_both r.outs (tolds_again t.coord.telling)
-        (again_dumb t.coord.doings t.coord) (again_tolds t.coord.telling)) (all_map IsDumb query_about (holders d t) (λ u. tt)))
-        (again_turn t.coord)) (rise_of t.coord r.part (further_again t.coord t.coord.doings)));
+        both k outs (with_coord t r.part) d M (steps.tick k d t M h.0) (turn_walk k d t M q h.1 IsGivenUp (with_coord t r.part) outs
+        (RestsSo (tick_dumb k d t) (again_turn t.coord)) (rise_of t.coord r.part (further_again t.coord t.coord.doings)));
     restart = λ k d M event first h.
         both k (restart_outs hd k (d.inc + 1) d) (parts_in k (d.inc + 1) d) d M (steps.restart k d M event first h.0)
         (dumb_walk k (parts_in k (d.inc + 1) d) (restart_outs hd k (d.inc + 1) d) d M (restart_dumb hd k (d.inc + 1) d)

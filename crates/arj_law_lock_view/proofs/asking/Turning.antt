@@ -1,5 +1,6 @@
 -- A coordinator goes on: which of its calls and includes are answered, and that all others wait on.
 use Rattle.arj_law_parts.proofs.Words
+use Words.{Answer, Mode, ObjectState, What, Write, is_include, ◌==◌}
 use Words.{⊎_elim, ◌≡◌, ◌≢◌, ◌⊎◌, ◌≤◌, ◌+◌, arith, ◌&&◌, ◌||◌, ◌++◌, ◌∙◌, ℕ, zero, suc, Bool, true, false, cond, not, List, [], ◌∷◌, map}
 use Words.{filter, Option, Some, None, refl}
 use Words.{sym, ap, subst, inl, inr, ⊤, AllByRecursion, list_any, flat_map, uid_cases, Ask, Asked, Body, End, Kind, Label, Path, Uid}
@@ -10,7 +11,9 @@ use Words.{heard_none, heard_now}
 use Words.{kept_at, last_req, mark_lines, moved_commit, next_node, root_heard, root_lost, root_moved, step_call, step_commit}
 use Words.{waits_for_call}
 use Words.{waits_for_commit, Answered, CallEnd, CallStep, Changed, Conflict, Ended, Included, Lost, Moved, On, Steps, answered, given_up}
-use Words.{start, Aborts, Asks}
+use Words.{Aborts, Asks, At, AtActivate, AtBind, AtInvoke, AtLoad, AtNote, BoundReply, Goal, Known, LoadedReply, Run}
+use Words.{activated_by, bound_answer, bound_by, finds, live_known, load_from, loaded_answer, made_by, made_known, moves, named_again}
+use Words.{or_lost, other_binding, same_binding, two_bindings, two_incs, with_inc, write_known, binding_eq, binding_less}
 use Words.{CommitStep, Decides, Machine, Marked, Plan, Stays, has_record, nodes_given_up, participants, plan_of, Calling, Committing}
 use Words.{Coord, Doing, Idle, Now}
 use Words.{change_doing, doing_of, is_free, on_doing, on_root, plan_for, root_at, Did, Do, Effect, Intent, PutIntent, Served, abort_action}
@@ -25,9 +28,13 @@ use Words.body
 use Words.cause
 use Words.ending
 use Words.kind
+use Words.bound
 use Words.calls
 use Words.commit
 use Words.input
+use Words.invoked
+use Words.loaded
+use Words.recorded
 use Rattle.arj_law_lock_view.proofs.Terms
 use Terms.{Action, IsBusy, IsGoodCoord, IsStepOf, IsTree, Paths, answer_step, giveup_step, vote_step, actor_is, doomed_same, doing_other}
 use Terms.{end_tree_on, doing_here, on_own}
@@ -37,8 +44,8 @@ use Rattle.arj_law_parts.proofs.moves.Reasons.{first_not}
 use Rattle.arj_protocol.specs.Ending.{is_over, let_go}
 use Rattle.arj_protocol.specs.Step.{abort_reasons, is_waiting, is_waiting_now, sibling_waits, waits, waits_above, waits_below}
 use Rattle.arj_protocol.specs.Tree.{is_open_below, latest_first}
-use Rattle.arj_law_lock_view.specs.asking.Turns.{AreDumb, AreLined, CameFrom, Ends, IsDumb, IsLike, IsLined, IsOneCall, Rests}
-use Rattle.arj_law_lock_view.specs.asking.Turns.{NumbersRise, Turns, calling, is_else, is_reply}
+use Rattle.arj_law_lock_view.specs.asking.Turns.{AreDumb, AreGiveups, CameFrom, EndsSo, IsDumb, IsLike, SaysGiveup, IsOneCall, RestsSo}
+use Rattle.arj_law_lock_view.specs.asking.Turns.{IsGivenUp, IsHeardBy, NumbersRise, TurnsSo, Why, calling, is_else, is_giveup, is_reply}
 
 some_is : {A : Type 0} {a b : A} → Some a ≡ Some b → a ≡ b
 some_is {A} {a} {b} is = let k : ◌≡◌ {A = Option A} (Some a) (Some b) = is in cc
@@ -58,10 +65,10 @@ says_dumb u f c its = by (doing_of u c)
     by None = tt
     by (Some d) = (its d.label, tt)
 
-says_lined : (u : Uid) (f : Label → Body) (c : Coord) → ((l : Label) → is_reply (f l) ≡ false) → AreLined (says u f c)
+says_lined : (u : Uid) (f : Label → Body) (c : Coord) → ((l : Label) → is_giveup (f l) ≡ true) → AreGiveups (says u f c)
 says_lined u f c its = by (doing_of u c)
   where
-    by : (o : Option Doing) → AreLined (say_for f o)
+    by : (o : Option Doing) → AreGiveups (say_for f o)
     by None = tt
     by (Some d) = (its d.label, tt)
 
@@ -129,8 +136,96 @@ moved_dumb u m intents c =
 gaveup_dumb : (u : Uid) (ns : List ℕ) (c : Coord) → AreDumb (gaveup_lines u ns c)
 gaveup_dumb u ns c = all_flat IsDumb (λ n. says u (λ l. body.GaveUp l n) c) ns (λ n. says_dumb u (λ l. body.GaveUp l n) c (λ l. refl))
 
-gaveup_lined : (u : Uid) (ns : List ℕ) (c : Coord) → AreLined (gaveup_lines u ns c)
-gaveup_lined u ns c = all_flat IsLined (λ n. says u (λ l. body.GaveUp l n) c) ns (λ n. says_lined u (λ l. body.GaveUp l n) c (λ l. refl))
+gaveup_lined : (u : Uid) (ns : List ℕ) (c : Coord) → AreGiveups (gaveup_lines u ns c)
+gaveup_lined u ns c = all_flat SaysGiveup (λ n. says u (λ l. body.GaveUp l n) c) ns (λ n. says_lined u (λ l. body.GaveUp l n) c (λ l. refl))
+
+-- ---- by what calls end
+
+-- where a step ends, so it is of its end
+abbrev pub StepEnds : (CallEnd → Type 0) → CallStep → Type 0
+StepEnds Q (On at) = ⊤
+StepEnds Q (Ended e) = Q e
+
+-- An answer ends a call or an include, but for other ends: an include by the state that was loaded, and an Invoke by its answer.
+module _ (Q : CallEnd → Type 0) (changed : (n : ℕ) (w : What) → Q (Changed n w)) (conflict : (u : Uid) (m : Mode) (n : ℕ) →
+    Q (Conflict u m n))
+    (lost : (n : ℕ) (sent : Bool) → Q (Lost n sent)) where
+  with_ends : (i : ℕ) (kept : Known) (at : At) (o : Option ℕ) → StepEnds Q (with_inc i kept at o).step
+  with_ends i kept at None = tt
+  with_ends i kept at (Some first) = by (first == i)
+    where
+      by : (b : Bool) → StepEnds Q (cond b (moves (Some kept) at) (finds (Some kept) (Changed kept.server (two_incs first i)))).step
+      by true = tt
+      by false = changed kept.server (two_incs first i)
+
+  bound_ends : (free : Bool) (k : Known) (at : At) (o : Option Known) → StepEnds Q (bound_by free k at o).step
+  bound_ends free k at None = tt
+  bound_ends free k at (Some old) = by (binding_eq old.binding k.binding)
+    where
+      same : (o : Option ℕ) → StepEnds Q (same_binding old k at o).step
+      same None = tt
+      same (Some i) = with_ends i (named_again old k) at old.inc
+
+      other : (b : Bool) →
+          StepEnds Q (cond b (moves (Some k) at) (finds (Some old) (Changed 1 (two_bindings old.binding k.binding)))).step
+      other true = tt
+      other false = changed 1 (two_bindings old.binding k.binding)
+
+      by : (b : Bool) → StepEnds Q (cond b (same_binding old k at k.inc) (other_binding free old k at)).step
+      by true = same k.inc
+      by false = other (free && binding_less old.binding k.binding)
+
+  named_ends : (free : Bool) (kept : Option Known) (r : BoundReply) → StepEnds Q (bound_answer free kept r).step
+  named_ends free kept (bound.Live b server i n stores) =
+      bound_ends free (live_known b server i n stores) (AtInvoke (live_known b server i n stores) i) kept
+  named_ends free kept (bound.Make b server n stores) = by (load_from (made_known b server n stores) stores)
+    where
+      by : (o : Option At) → StepEnds Q (made_by free (made_known b server n stores) kept o).step
+      by None = lost 1 false
+      by (Some at) = bound_ends free (made_known b server n stores) at kept
+  named_ends free kept (bound.Write n stores) = by (load_from (write_known n stores) stores)
+    where
+      by : (o : Option At) → StepEnds Q (or_lost kept o).step
+      by None = lost 1 false
+      by (Some at) = tt
+  named_ends free kept (bound.Conflict holder m) = conflict holder m 1
+
+  taken_ends : (k : Known) (i : ℕ) (kept : Option Known) → StepEnds Q (activated_by k i kept).step
+  taken_ends k i None = tt
+  taken_ends k i (Some old) = by (binding_eq old.binding k.binding)
+    where
+      by : (b : Bool) → StepEnds Q (cond b (with_inc i old (AtNote k i) old.inc) (moves (Some old) (AtNote k i))).step
+      by true = with_ends i old (AtNote k i) old.inc
+      by false = tt
+
+  loaded_ends : (g : Goal) (kept : Option Known) (k : Known) (s : ℕ) (r : LoadedReply) →
+      ((st : ObjectState) → is_include g ≡ true → Q (Included st)) → StepEnds Q (loaded_answer kept k s g r).step
+  loaded_ends (Run o) kept k s (loaded.State st) included = tt
+  loaded_ends (calls.Include n) kept k s (loaded.State st) included = included st refl
+  loaded_ends g kept k s (loaded.InDoubt holder) included = conflict holder Write s
+
+  pub answered_ends : (g : Goal) (free : Bool) (kept : Option Known) (at : At) (r : Reply) →
+      ((st : ObjectState) → is_include g ≡ true → Q (Included st)) →
+      ((k : Known) (i : ℕ) (a : Answer) → at ≡ AtInvoke k i → r ≡ Reply.Invoked (invoked.Answered a) → Q (Answered a)) →
+      StepEnds Q (answered free kept g at r).step
+  answered_ends g free kept (AtBind avoid) (Reply.Bound r) included its = named_ends free kept r
+  answered_ends g free kept (AtLoad k s rest) (Reply.Loaded r) included its = loaded_ends g kept k s r included
+  answered_ends g free kept (AtActivate k st) (Reply.Activated i) included its = taken_ends k i kept
+  answered_ends g free kept (AtNote k i) (Reply.Noted recorded.Yes) included its = tt
+  answered_ends g free kept (AtNote k i) (Reply.Noted (recorded.Changed w)) included its = changed 1 w
+  answered_ends g free kept (AtInvoke k i) (Reply.Invoked (invoked.Answered a)) included its = its k i a refl refl
+  answered_ends g free kept (AtInvoke k i) (Reply.Invoked (invoked.Conflict holder m)) included its = conflict holder m k.server
+  answered_ends g free kept (AtInvoke k i) (Reply.Invoked (invoked.Changed w)) included its = changed k.server w
+  answered_ends g free kept at r included its = tt
+
+-- what is given up is lost, where it ends
+lost_ends : (u : Uid) (s : Steps) (at : At) → StepEnds (IsGivenUp u s) (given_up at)
+lost_ends u s (AtBind avoid) = tt
+lost_ends u s (AtLoad k n []) = tt
+lost_ends u s (AtLoad k n (x ∷ rest)) = tt
+lost_ends u s (AtActivate k st) = tt
+lost_ends u s (AtNote k i) = tt
+lost_ends u s (AtInvoke k i) = tt
 
 -- ---- what waits
 
@@ -266,12 +361,12 @@ module _ (c : Coord) where
       steps_is a b same = some_is (ap calling same)
 
   -- ends with a line behind lines
-  ends_turn : (u : Uid) (d : Doing) (s : Steps) (g : CallEnd) (front : List Effect) (e : Coord) → doing_of u c ≡ Some d →
+  ends_turn : (W : Why) (u : Uid) (d : Doing) (s : Steps) (g : CallEnd) (front : List Effect) (e : Coord) → doing_of u c ≡ Some d →
       d.now ≡ Calling s →
-      actor s.path ≡ u → AreLined front → doing_of u e ≡ Some d → AllCame e →
-      Turns c (front ++ (step_call s (Ended g) e).outs) (step_call s (Ended g) e).part
-  ends_turn u d s g front e found is own lined there all =
-      Ends u d s g front found is lined (ap (λ (o : Option Doing). front ++ say_for (end_line s.x s.goal g) o)
+      actor s.path ≡ u → AreGiveups front → W u s g → doing_of u e ≡ Some d → AllCame e →
+      TurnsSo W c (front ++ (step_call s (Ended g) e).outs) (step_call s (Ended g) e).part
+  ends_turn W u d s g front e found is own lined why there all =
+      EndsSo u d s g front found is lined why (ap (λ (o : Option Doing). front ++ say_for (end_line s.x s.goal g) o)
       (ap (λ v. doing_of v e) own ∙ there)) ended_so
     where
       After : Uid → Doing → Type 0
@@ -330,28 +425,28 @@ module _ (c : Coord) where
     no_call u d m found is x at = ap (λ (z : Doing). calling z.now) (some_is (sym at ∙ found)) ∙ ap calling is
 
     -- a call takes a step
-    call_turn : (u : Uid) (d : Doing) (s : Steps) (front : List Effect) (n : CallStep) (e : Coord) → doing_of u c ≡ Some d →
+    call_turn : (W : Why) (u : Uid) (d : Doing) (s : Steps) (front : List Effect) (n : CallStep) (e : Coord) → doing_of u c ≡ Some d →
         d.now ≡ Calling s →
-        AreLined front → AreDumb front → doing_of u e ≡ Some d → AllCame e →
-        Turns c (front ++ (step_call s n e).outs) (step_call s n e).part
-    call_turn u d s front (On at) e found is lined dumb there all =
-        Rests (dumb_both front (step_call s (On at) e).outs dumb (tt, tt))
+        AreGiveups front → AreDumb front → StepEnds (W u s) n → doing_of u e ≡ Some d → AllCame e →
+        TurnsSo W c (front ++ (step_call s n e).outs) (step_call s n e).part
+    call_turn W u d s front (On at) e found is lined dumb why there all =
+        RestsSo (dumb_both front (step_call s (On at) e).outs dumb (tt, tt))
         (came_goes s (record s { req = s.req + 1; at = at }) d e (ap (λ v. doing_of v c) (its_actor u d s found is) ∙ found) is
         (record { path = refl; object = refl; goal = refl }) all)
-    call_turn u d s front (Ended g) e found is lined dumb there all =
-        ends_turn u d s g front e found is (its_actor u d s found is) lined there all
+    call_turn W u d s front (Ended g) e found is lined dumb why there all =
+        ends_turn W u d s g front e found is (its_actor u d s found is) lined why there all
 
     pub heard_turn : (from : ℕ) (a : Asked) (r : Reply) (intents : List (Uid × Intent)) →
-        Turns c (heard from a r intents c).outs (heard from a r intents c).part
+        TurnsSo (IsHeardBy from a r) c (heard from a r intents c).outs (heard from a r intents c).part
     heard_turn from a r intents = by (doing_of a.act c) refl
       where
-        nothing : Turns c [] c
-        nothing = Rests tt came_same
+        nothing : TurnsSo (IsHeardBy from a r) c [] c
+        nothing = RestsSo tt came_same
 
         now : (d : Doing) → doing_of a.act c ≡ Some d → (n : Now) → d.now ≡ n →
-            Turns c (heard_now from a r intents c n).outs (heard_now from a r intents c n).part
+            TurnsSo (IsHeardBy from a r) c (heard_now from a r intents c n).outs (heard_now from a r intents c n).part
         now d found Idle is = nothing
-        now d found (Calling s) is = one (waits_for_call from a r s)
+        now d found (Calling s) is = one (waits_for_call from a r s) refl
           where
             m : Moved
             m = answered (is_free (root_of s.path) (actor s.path) s.x c) (kept_at s c) s.goal s.at r
@@ -359,10 +454,26 @@ module _ (c : Coord) where
             Result : Bool → Served Coord (Unit {0})
             Result w = cond {A = Served Coord (Unit {0})} w (heard_by (heard_call s r c)) (heard_none c)
 
-            one : (w : Bool) → Turns c (Result w).outs (Result w).part
-            one true = call_turn a.act d s [] m.step (on_root (root_of s.path) (root_moved s r m) c) found is tt tt found
-                (λ u x at. came_same u x at)
-            one false = nothing
+            -- whatever the answer ends is heard
+            ends_so : waits_for_call from a r s ≡ true → StepEnds (IsHeardBy from a r a.act s) m.step
+            ends_so waits = answered_ends (IsHeardBy from a r a.act s)
+                (λ n w. record { act = refl; waits = waits; fits = tt; its = λ x e. absurd (cc e) })
+                (λ u q n. record { act = refl; waits = waits; fits = tt; its = λ x e. absurd (cc e) })
+                (λ n sent. record { act = refl; waits = waits; fits = tt; its = λ x e. absurd (cc e) })
+                s.goal (is_free (root_of s.path) (actor s.path) s.x c) (kept_at s c) s.at r
+                (λ st it. record { act = refl; waits = waits; fits = it; its = λ x e. absurd (cc e) })
+                (λ k i x at_it it. record {
+                  act = refl;
+                  waits = waits;
+                  fits = tt;
+                  its = λ y e. (k, i, at_it, it ∙ ap (λ z. Reply.Invoked (invoked.Answered z)) (let same : x ≡ y = cc e in same));
+                })
+
+            one : (w : Bool) → waits_for_call from a r s ≡ w → TurnsSo (IsHeardBy from a r) c (Result w).outs (Result w).part
+            one true waits = call_turn (IsHeardBy from a r) a.act d s [] m.step
+                (on_root (root_of s.path) (root_moved s r m) c) found is tt tt
+                (ends_so waits) found (λ u x at. came_same u x at)
+            one false waits = nothing
         now d found (Committing m) is = one (waits_for_commit from a r m)
           where
             st : CommitStep
@@ -378,28 +489,29 @@ module _ (c : Coord) where
             Result w = cond {A = Served Coord (Unit {0})} w (heard_by (moved_commit a.act (commit.answered from m r) intents c))
                 (heard_none c)
 
-            one : (w : Bool) → Turns c (Result w).outs (Result w).part
-            one true = Rests (moved_dumb a.act (commit.answered from m r) intents c)
+            one : (w : Bool) → TurnsSo (IsHeardBy from a r) c (Result w).outs (Result w).part
+            one true = RestsSo (moved_dumb a.act (commit.answered from m r) intents c)
                 (came_step a.act st intents (no_call a.act d m found is)
                 (own st (answer_step actions paths tree from m r)))
             one false = nothing
 
-        by : (o : Option Doing) → doing_of a.act c ≡ o → Turns c (heard_doing from a r intents c o).outs
+        by : (o : Option Doing) → doing_of a.act c ≡ o → TurnsSo (IsHeardBy from a r) c (heard_doing from a r intents c o).outs
             (heard_doing from a r intents c o).part
         by None is = nothing
         by (Some d) is = now d is d.now refl
 
-    give_turn : (u : Uid) (intents : List (Uid × Intent)) → Turns c (give_up u intents c).outs (give_up u intents c).part
+    give_turn : (u : Uid) (intents : List (Uid × Intent)) → TurnsSo IsGivenUp c (give_up u intents c).outs (give_up u intents c).part
     give_turn u intents = by (doing_of u c) refl
       where
         now : (d : Doing) → doing_of u c ≡ Some d → (n : Now) → d.now ≡ n →
-            Turns c (gives_up u intents c n).outs (gives_up u intents c n).part
-        now d found Idle is = Rests tt came_same
-        now d found (Calling s) is = call_turn u d s (gaveup_lines u (next_node s ∷ []) c) (given_up s.at)
+            TurnsSo IsGivenUp c (gives_up u intents c n).outs (gives_up u intents c n).part
+        now d found Idle is = RestsSo tt came_same
+        now d found (Calling s) is = call_turn IsGivenUp u d s (gaveup_lines u (next_node s ∷ []) c) (given_up s.at)
             (on_root (root_of s.path) (root_lost s (given_up s.at)) c) found is (gaveup_lined u (next_node s ∷ []) c)
-            (gaveup_dumb u (next_node s ∷ []) c) found (λ w x at. came_same w x at)
+            (gaveup_dumb u (next_node s ∷ []) c) (lost_ends u s s.at) found
+            (λ w x at. came_same w x at)
         now d found (Committing m) is =
-            Rests (dumb_both (gaveup_lines u (nodes_given_up m) c) (moved_commit u (commit.given_up m) intents c).outs
+            RestsSo (dumb_both (gaveup_lines u (nodes_given_up m) c) (moved_commit u (commit.given_up m) intents c).outs
             (gaveup_dumb u (nodes_given_up m) c) (moved_dumb u (commit.given_up m) intents c))
             (came_step u (commit.given_up m).step intents (no_call u d m found is)
             (own (commit.given_up m).step (giveup_step actions paths tree m)))
@@ -410,8 +522,9 @@ module _ (c : Coord) where
             own (Decides p) so = ap actor so.0 ∙ its_plan u d m found is
             own (Aborts why p) so = tt
 
-        by : (o : Option Doing) → doing_of u c ≡ o → Turns c (give_up_doing u intents c o).outs (give_up_doing u intents c o).part
-        by None is = Rests tt came_same
+        by : (o : Option Doing) → doing_of u c ≡ o →
+            TurnsSo IsGivenUp c (give_up_doing u intents c o).outs (give_up_doing u intents c o).part
+        by None is = RestsSo tt came_same
         by (Some d) is = now d is d.now refl
 
     -- ---- who doesn't wait
@@ -458,7 +571,7 @@ module _ (c : Coord) where
     -- ---- inputs
 
     commit_turn : (b : Branch) (intents : List (Uid × Intent)) → IsNoCall (actor b.path) →
-        Turns c (commit_action b intents c).outs (commit_action b intents c).part
+        TurnsSo IsGivenUp c (commit_action b intents c).outs (commit_action b intents c).part
     commit_turn b intents none = doomed b.doomed
       where
         u : Uid
@@ -473,17 +586,17 @@ module _ (c : Coord) where
         own (Decides p) so = ap actor so.0
         own (Aborts why p) so = tt
 
-        top : Turns c (commit_top b.path intents c).outs (commit_top b.path intents c).part
-        top = Rests (dumb_both (says u body.Committing c) (moved_commit u (commit.start plan) intents c).outs
+        top : TurnsSo IsGivenUp c (commit_top b.path intents c).outs (commit_top b.path intents c).part
+        top = RestsSo (dumb_both (says u body.Committing c) (moved_commit u (commit.start plan) intents c).outs
             (says_dumb u body.Committing c (λ l. refl)) (moved_dumb u (commit.start plan) intents c))
             (came_step u (commit.start plan).step intents none
             (own (commit.start plan).step (vote_step actions paths tree (servers_of plan) plan plan (refl, refl))))
 
         ends : (e : End) (f : Label → Body) → ((l : Label) → is_reply (f l) ≡ false) →
-            Turns c (ends_with u e f intents c).outs (ends_with u e f intents c).part
-        ends e f its = Rests (ends_dumb u e f intents c its) (came_ended u e c none came_same)
+            TurnsSo IsGivenUp c (ends_with u e f intents c).outs (ends_with u e f intents c).part
+        ends e f its = RestsSo (ends_dumb u e f intents c its) (came_ended u e c none came_same)
 
-        kinds : (q : Kind) → Turns c (commit_open b intents c q).outs (commit_open b intents c q).part
+        kinds : (q : Kind) → TurnsSo IsGivenUp c (commit_open b intents c q).outs (commit_open b intents c q).part
         kinds kind.Nested = ends ending.Commit body.Committed (λ l. refl)
         kinds kind.Serial = ends ending.Commit body.Ended (λ l. refl)
         kinds kind.Top = top
@@ -493,17 +606,17 @@ module _ (c : Coord) where
         Result : Bool → Did Coord
         Result w = cond {A = Did Coord} w (aborts_with u cause.Doomed intents c) (commit_open b intents c b.kind)
 
-        doomed : (w : Bool) → Turns c (Result w).outs (Result w).part
+        doomed : (w : Bool) → TurnsSo IsGivenUp c (Result w).outs (Result w).part
         doomed true = ends ending.Abort (λ l. body.Aborted l cause.Doomed) (λ l. refl)
         doomed false = kinds b.kind
 
     abort_turn : (b : Branch) (intents : List (Uid × Intent)) →
         AllByRecursion IsNoCall (open_below (actor b.path) c.tree ++ actor b.path ∷ []) →
-        Turns c (abort_action (actor b.path) intents c).outs (abort_action (actor b.path) intents c).part
+        TurnsSo IsGivenUp c (abort_action (actor b.path) intents c).outs (abort_action (actor b.path) intents c).part
     abort_turn b intents none =
         let us = open_below (actor b.path) c.tree ++ actor b.path ∷ [] in
         let t = all_aborted us c in
-        Rests (dumb_both t.outs (flat_map (tolds_of intents t.part) us) (all_dumb us c)
+        RestsSo (dumb_both t.outs (flat_map (tolds_of intents t.part) us) (all_dumb us c)
         (all_flat IsDumb (tolds_of intents t.part) us (λ w. tolds_dumb intents t.part w))) (came_all us c none came_same)
 
     -- who isn't refused doesn't wait
@@ -524,14 +637,14 @@ module _ (c : Coord) where
 
     -- inputs other than a call, an include, and the beginning of an action
     pub acts_turn : (hd : Header) (i : Input) (intents : List (Uid × Intent)) → is_else i ≡ true → refusal_up hd i c ≡ None →
-        Turns c (acts i intents c).outs (acts i intents c).part
+        TurnsSo IsGivenUp c (acts i intents c).outs (acts i intents c).part
     acts_turn hd (input.Begin l q parent) intents is free = absurd (cc is)
     acts_turn hd (input.Call l x o) intents is free = absurd (cc is)
     acts_turn hd (input.Include l x s) intents is free = absurd (cc is)
     acts_turn hd (input.Commit l) intents is free = by (branch_named l c) free
       where
         by : (f : Option Branch) → refused_by commit_reasons c f ≡ None →
-            Turns c (on_branch (λ b. commit_action b intents c) c f).outs (on_branch (λ b. commit_action b intents c) c f).part
+            TurnsSo IsGivenUp c (on_branch (λ b. commit_action b intents c) c f).outs (on_branch (λ b. commit_action b intents c) c f).part
         by None none = absurd (cc none)
         by (Some b) none =
             let one = first_not 6 (is_some b.ended) ((7, (waits_above b c || waits_below b c) || sibling_waits b c)
@@ -543,7 +656,7 @@ module _ (c : Coord) where
     acts_turn hd (input.Abort l) intents is free = by (branch_named l c) free
       where
         by : (f : Option Branch) → refused_by abort_reasons c f ≡ None →
-            Turns c (on_branch (λ b. abort_action (actor b.path) intents c) c f).outs
+            TurnsSo IsGivenUp c (on_branch (λ b. abort_action (actor b.path) intents c) c f).outs
             (on_branch (λ b. abort_action (actor b.path) intents c) c f).part
         by None none = absurd (cc none)
         by (Some b) none =
@@ -553,19 +666,19 @@ module _ (c : Coord) where
     acts_turn hd (input.GiveUp l) intents is free = by (branch_named l c)
       where
         by : (f : Option Branch) →
-            Turns c (on_branch (λ b. give_up (actor b.path) intents c) c f).outs
+            TurnsSo IsGivenUp c (on_branch (λ b. give_up (actor b.path) intents c) c f).outs
             (on_branch (λ b. give_up (actor b.path) intents c) c f).part
-        by None = Rests tt came_same
+        by None = RestsSo tt came_same
         by (Some b) = give_turn (actor b.path) intents
-    acts_turn hd (input.Frame j from m) intents is free = Rests tt came_same
-    acts_turn hd input.Tick intents is free = Rests tt came_same
-    acts_turn hd input.Restart intents is free = Rests tt came_same
-    acts_turn hd input.Crash intents is free = Rests tt came_same
-    acts_turn hd (input.Show x) intents is free = Rests tt came_same
+    acts_turn hd (input.Frame j from m) intents is free = RestsSo tt came_same
+    acts_turn hd input.Tick intents is free = RestsSo tt came_same
+    acts_turn hd input.Restart intents is free = RestsSo tt came_same
+    acts_turn hd input.Crash intents is free = RestsSo tt came_same
+    acts_turn hd (input.Show x) intents is free = RestsSo tt came_same
 
-  pub acked_turn : (from : ℕ) (u : Uid) (intents : List (Uid × Intent)) →
-      Turns c (acked from u intents c).outs (acked from u intents c).part
-  acked_turn from u intents = by (at_uid u c.telling)
+  pub acked_turn : (W : Why) (from : ℕ) (u : Uid) (intents : List (Uid × Intent)) →
+      TurnsSo W c (acked from u intents c).outs (acked from u intents c).part
+  acked_turn W from u intents = by (at_uid u c.telling)
     where
       gone : (o : Option Intent) → AreDumb (tolds_let_go u (without_uid u intents) c o)
       gone None = tt
@@ -576,21 +689,21 @@ module _ (c : Coord) where
           one true = tells_dumb i.root false ((i.root, ending.Abort) ∷ []) (let_go i.root (without_uid u intents) c i.nodes)
           one false = tt
 
-      left : (i : Intent) (ns : List ℕ) → Turns c (acked_left u i intents c ns).outs (acked_left u i intents c ns).part
-      left i [] = Rests (tt, gone (at_uid u intents)) (λ w x at. came_same w x at)
-      left i (n ∷ ns) = Rests tt (λ w x at. came_same w x at)
+      left : (i : Intent) (ns : List ℕ) → TurnsSo W c (acked_left u i intents c ns).outs (acked_left u i intents c ns).part
+      left i [] = RestsSo (tt, gone (at_uid u intents)) (λ w x at. came_same w x at)
+      left i (n ∷ ns) = RestsSo tt (λ w x at. came_same w x at)
 
-      by : (o : Option Intent) → Turns c (acked_by from u intents c o).outs (acked_by from u intents c o).part
-      by None = Rests tt came_same
+      by : (o : Option Intent) → TurnsSo W c (acked_by from u intents c o).outs (acked_by from u intents c o).part
+      by None = RestsSo tt came_same
       by (Some i) = one (has i.nodes from)
         where
           Result : Bool → Served Coord (Unit {0})
           Result b = cond {A = Served Coord (Unit {0})} b (acked_left u i intents c (without_number from i.nodes))
               (record { part = c; outs = []; reply = None })
 
-          one : (b : Bool) → Turns c (Result b).outs (Result b).part
+          one : (b : Bool) → TurnsSo W c (Result b).outs (Result b).part
           one true = left i (without_number from i.nodes)
-          one false = Rests tt came_same
+          one false = RestsSo tt came_same
 
   again_came : (ds : List Doing) (e : Coord) → AllCame e → AllCame (again_all ds e).part
   again_came [] e t = t

@@ -9,7 +9,6 @@ use Words.{Calling, Idle, Now, end_line, Post}
 use Words.{Committing, frame_kind, uids_of}
 use Words.body
 use Words.calls
-use Words.list
 use Rattle.arj_law_lock_view.proofs.Terms.{act_in, acts, acts_after, same_number}
 use Rattle.arj_law_runs.proofs.journal.Owners.{acts_more}
 use Rattle.arj_law_parts.proofs.moves.Flat.{post}
@@ -18,7 +17,7 @@ use Rattle.arj_law_parts.specs.moves.With.{UpWith, WalksWith}
 use Rattle.arj_model.specs.Actions.{Act, acts_from}
 use Rattle.arj_model.specs.Refusals.{answers_to, asks_by, is_answer_to, last_asked}
 use Rattle.arj_law_lock_view.specs.asking.Asked.{AskedAreTied, IsTied, IsTiedAt, accepted_of, asks_goal, count_answers, count_asks}
-use Rattle.arj_law_lock_view.specs.asking.Turns.{AreDumb, AreLined, CameFrom, IsLike, IsOneCall, calling, is_reply}
+use Rattle.arj_law_lock_view.specs.asking.Turns.{AreDumb, AreGiveups, CameFrom, IsLike, IsOneCall, calling, is_giveup, is_reply}
 
 some_is : {A : Type 0} {a b : A} → Some a ≡ Some b → a ≡ b
 some_is {A} {a} {b} is = let k : ◌≡◌ {A = Option A} (Some a) (Some b) = is in cc
@@ -40,7 +39,7 @@ filter_on p (x ∷ xs) ys = by (p x) (filter_on p xs ys)
     by true ih = ap (λ zs. x ∷ zs) ih
     by false ih = ih
 
-dumb_line : (b : Body) → is_reply b ≡ false → (l : List ℕ) → is_answer_to l b ≡ false
+pub dumb_line : (b : Body) → is_reply b ≡ false → (l : List ℕ) → is_answer_to l b ≡ false
 dumb_line (body.Ok m x o a) is l = absurd (cc is)
 dumb_line (body.Includes m x n) is l = absurd (cc is)
 dumb_line (body.Conflict m u h n) is l = absurd (cc is)
@@ -48,8 +47,12 @@ dumb_line (body.Lost m n) is l = absurd (cc is)
 dumb_line (body.Changed m n d) is l = absurd (cc is)
 dumb_line b is l = refl
 
+pub giveup_dumb : (b : Body) → is_giveup b ≡ true → is_reply b ≡ false
+giveup_dumb (body.GaveUp l n) is = refl
+giveup_dumb b is = absurd (cc is)
+
 -- the line that ends a call answers to its label
-reply_line : (x : ℕ) (g : Goal) (e : CallEnd) (m : Label) (l : List ℕ) → is_answer_to l (end_line x g e m) ≡ bytes_eq (name m) l
+pub reply_line : (x : ℕ) (g : Goal) (e : CallEnd) (m : Label) (l : List ℕ) → is_answer_to l (end_line x g e m) ≡ bytes_eq (name m) l
 reply_line x (Run o) (Answered a) m l = refl
 reply_line x (calls.Include s) (Answered a) m l = refl
 reply_line x g (Included s) m l = refl
@@ -74,7 +77,7 @@ pub answers_stay : (ls : List Line) (e : ℕ) (bs : List Body) (l : List ℕ) �
 answers_stay ls e bs l all = filter_on (λ (line : Line). is_answer_to l line.body) ls (numbered e bs)
     ∙ ap (λ xs. answers_to ls l ++ xs) (none_more e bs l all) ∙ nothing_more (answers_to ls l)
 
-one_more : (ls : List Line) (e : ℕ) (b : Body) (l : List ℕ) → is_answer_to l b ≡ true →
+pub one_more : (ls : List Line) (e : ℕ) (b : Body) (l : List ℕ) → is_answer_to l b ≡ true →
     count_answers (ls ++ numbered e (b ∷ [])) l ≡ count_answers ls l + 1
 one_more ls e b l is = ap length (filter_on (λ (line : Line). is_answer_to l line.body) ls (numbered e (b ∷ []))
     ∙ (λ i. answers_to ls l ++ cond (is i) (record { event = e; body = b } ∷ []) [])) ∙ length-append (answers_to ls l)
@@ -298,10 +301,10 @@ module _ (k : ℕ) where
             apart false e = refl
             apart true e = absurd (other (same w from.0 from.1 e))
 
-    pub ends_walk : (front : List Effect) (c : Disk) (N : Moment) → AreLined front → Apart t u d N →
+    pub ends_walk : (front : List Effect) (c : Disk) (N : Moment) → AreGiveups front → Apart t u d N →
         WalksWith AskedAreTied k (front ++ Say line ∷ []) (UpWith AskedAreTied k v) c N
     ends_walk [] c N lined h = let q = ended N h in put_tied c (Some v) (said (line ∷ []) N) q.0
         (λ z up. subst (λ (y : Parts). Own y (said (line ∷ []) N)) (some_is up) q.1)
-    ends_walk (Say b ∷ es) c N lined h = ends_walk es c (said (b ∷ []) N) lined.1 (apart_said t u d b N lined.0 h)
+    ends_walk (Say b ∷ es) c N lined h = ends_walk es c (said (b ∷ []) N) lined.1 (apart_said t u d b N (giveup_dumb b lined.0) h)
     ends_walk (Send to m ∷ es) c N lined h = absurd lined.0
     ends_walk (Do w ∷ es) c N lined h = absurd lined.0

@@ -1,10 +1,12 @@
 -- How the calls and includes of a coordinator go on as it takes something, and which lines answer them.
 use Rattle.std.specs.Prelude.{⊤, ◌≡◌, ◌≢◌, ◌⊎◌, ◌≤◌, ℕ, Bool, true, false, List, [], ◌∷◌, ◌++◌, Option, Some, None}
 use Rattle.std.specs.List.{AllByRecursion}
-use Rattle.arj_protocol.specs.Words.{Body, Uid}
+use Rattle.arj_protocol.specs.Words.{Answer, Asked, Body, Message, Uid}
 use Rattle.arj_protocol.specs.Words.body
-use Rattle.arj_protocol.specs.Asking.{end_line}
-use Rattle.arj_protocol.specs.Call.{CallEnd, Steps}
+use Rattle.arj_protocol.specs.Words.invoked
+use Rattle.arj_protocol.specs.Ask.{Reply, answers}
+use Rattle.arj_protocol.specs.Asking.{end_line, waits_for_call}
+use Rattle.arj_protocol.specs.Call.{Answered, AtInvoke, CallEnd, Goal, Included, Known, Lost, Steps, is_include}
 use Rattle.arj_protocol.specs.Coord.{Calling, Coord, Doing, Now, doing_of}
 use Rattle.arj_protocol.specs.Effect.{Effect, Say}
 use Rattle.arj_protocol.specs.Step.{Input}
@@ -38,6 +40,19 @@ IsLined e = ⊥
 abbrev pub AreLined : List Effect → Type 0
 AreLined outs = AllByRecursion IsLined outs
 
+-- the line says that an action gave up a node
+abbrev pub is_giveup : Body → Bool
+is_giveup (body.GaveUp l n) = true
+is_giveup b = false
+
+-- they only say such lines
+abbrev pub SaysGiveup : Effect → Type 0
+SaysGiveup (Say b) = is_giveup b ≡ true
+SaysGiveup e = ⊥
+
+abbrev pub AreGiveups : List Effect → Type 0
+AreGiveups outs = AllByRecursion SaysGiveup outs
+
 -- ---- what waits
 
 -- the call or include that is waited for
@@ -70,6 +85,41 @@ pub data Turns (c : Coord) (outs : List Effect) (e : Coord) : Type 0 where
       ((w : Uid) (x : Doing) → doing_of w e ≡ Some x → ((w ≡ u) × (x.label ≡ d.label) × (calling x.now ≡ None)) ⊎
       ((w ≢ u) × CameFrom c w x))
       → Turns c outs e
+
+-- only an include ends with the state that was loaded
+abbrev pub FitsGoal : Goal → CallEnd → Type 0
+FitsGoal g (Included st) = is_include g ≡ true
+FitsGoal g e = ⊤
+
+-- why a call or an include ends: of this action, in these steps, by this end
+abbrev pub Why : Type 1
+Why = Uid → Steps → CallEnd → Type 0
+
+-- it was given up
+abbrev pub IsGivenUp : Why
+IsGivenUp u s (Lost n sent) = ⊤
+IsGivenUp u s g = ⊥
+
+-- It took this answer of this node, for which it waited; where that is a call's own answer, it is what an Invoke was answered.
+pub record IsHeardBy (from : ℕ) (a : Asked) (r : Reply) (u : Uid) (s : Steps) (g : CallEnd) : Type 0 where
+  pub act : u ≡ a.act
+  pub waits : waits_for_call from a r s ≡ true
+  pub fits : FitsGoal s.goal g
+  pub its : (x : Answer) → g ≡ Answered x → (k : Known) × (i : ℕ) × (s.at ≡ AtInvoke k i) × (r ≡ Reply.Invoked (invoked.Answered x))
+
+-- it took what a message says
+abbrev pub IsHeardIn : ℕ → Message → Why
+IsHeardIn from m u s g = (a : Asked) × (r : Reply) × (answers m ≡ Some (a, r)) × IsHeardBy from a r u s g
+
+-- So it goes on, where what is answered is for a reason, behind giveups.
+pub data TurnsSo (W : Why) (c : Coord) (outs : List Effect) (e : Coord) : Type 0 where
+  RestsSo : AreDumb outs → ((u : Uid) (x : Doing) → doing_of u e ≡ Some x → CameFrom c u x) → TurnsSo W c outs e
+  EndsSo : (u : Uid) (d : Doing) (s : Steps) (g : CallEnd) (front : List Effect) → doing_of u c ≡ Some d → d.now ≡ Calling s →
+      AreGiveups front → W u s g →
+      outs ≡ front ++ Say (end_line s.x s.goal g d.label) ∷ [] →
+      ((w : Uid) (x : Doing) → doing_of w e ≡ Some x → ((w ≡ u) × (x.label ≡ d.label) × (calling x.now ≡ None)) ⊎
+      ((w ≢ u) × CameFrom c w x))
+      → TurnsSo W c outs e
 
 -- the numbers of requests don't fall
 abbrev pub NumbersRise : Coord → Coord → Type 0
