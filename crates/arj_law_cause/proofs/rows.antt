@@ -1,8 +1,27 @@
--- What answers say of the journal's tables, and that it is so.
+-- What answers say of the journal's tables, and that it is so; and that the lines of answers have their causes.
 --
--- A conflict is with the first row that stands against what was asked (`Meeting`). Inside of an event all lines are of it (`Inside`), so tables show
--- locks there, and whoever answers says what the table has (`Telling`). Event by event so it is in whole runs (`Running`).
+-- A conflict is with the first row that stands against what was asked, and an operation is run in its lock (`Meeting`). Inside of an
+-- event all
+-- lines are of it (`Inside`), so tables show locks there, of actions that began (`Holders`), and whoever answers says what the table has
+-- (`Telling`). Event by event so it is in whole runs (`Running`).
+--
+-- A call ends at its coordinator by the answer that it takes, or given up (`Ending`, `Dumb`). There the action waits for what was asked
+-- last,
+-- and the answer was made in its span (`Taking`), under its path (`Paths`), where the journal's row finds it (`Spans`, `Rows`). So each
+-- line
+-- of an event fits (`Lined`, `Asks`); and as what is accepted is what coordinators were asked (`Accepting`), each line of a run (`Whole`).
 pub mod Meeting
 pub mod Inside
+pub mod Holders
 pub mod Telling
 pub mod Running
+pub mod Dumb
+pub mod Ending
+pub mod Taking
+pub mod Paths
+pub mod Spans
+pub mod Rows
+pub mod Asks
+pub mod Lined
+pub mod Accepting
+pub mod Whole

@@ -1,11 +1,11 @@
--- A conflict that a server or naming answers is with the first row that stands against what was asked.
+-- A conflict that a server or naming answers is with the first row that stands against what was asked; and an operation is run in its lock.
 use Rattle.arj_law_parts.proofs.Words
 use Words.{◌≡◌, ◌∙◌, ◌==◌, ◌&&◌, ◌||◌, ℕ, Bool, true, false, cond, filter, find, not, is_some, List, [], ◌∷◌, Option, Some, None, refl}
-use Words.{sym, ap, subst, eq-eqb, and_parts}
+use Words.{sym, ap, subst, eq-eqb, and_parts, ◌≤◌, arith, nat_le, nat_tests, In, in_filter, in_from, is_row_of, Answer}
 use Words.{entry, object, op_mode, uid_eq, uid_same, uids_of, first_conflict, is_against, last_uid, Row, Uid, Mode, Binding, End, Entry}
 use Words.{Head, Op, Path, BoundReply, InvokedReply, actor, top_path}
 use Words.{Copy, Pair, Served, Naming, Server, at_number, at_uid, server_rows, rows_in_copy, rows_in_named, list_any, mode_code, What}
-use Words.{invoke_copy, put_number, reply, top_of, void}
+use Words.{invoke_copy, put_number, reply, run_copy, row_for, tops_of, top_of, void}
 use Words.ask
 use Words.bound
 use Words.invoked
@@ -14,8 +14,11 @@ use Words.naming
 use Words.server
 use Rattle.arj_law_lock_view.proofs.{Terms.some_is, moments.Later.none_is}
 use Rattle.arj_law_serial.proofs.Terms.{rows_on}
+use Rattle.arj_law_parts.proofs.parts.Stands.{asked_has}
+use Rattle.arj_law_parts.specs.parts.Rows.{HasLock}
+use Rattle.arj_law_runs.proofs.calls.CommitPlans.{any_in}
 use Rattle.arj_law_lock_view.specs.moments.Made.{is_again, is_kept}
-use Rattle.arj_model.specs.CauseAnswers.{is_held, meets}
+use Rattle.arj_model.specs.CauseAnswers.{has_lock, is_held, meets}
 use Rattle.arj_model.specs.CauseSpans.{holds_in, same_mode}
 use Rattle.arj_model.specs.Table.{table}
 use Rattle.arj_journal.specs.declared.body.Line.{Line}
@@ -62,6 +65,20 @@ meets_by n path o asked u held lines rows same m =
   where
     one : is_held u held m.row ≡ true
     one = (λ i. uid_eq (m.holder i) u && same_mode (m.mode i) held) ∙ (λ i. uid_same u i && eq-eqb (mode_code held) (mode_code held) refl i)
+
+-- so is a lock of the action
+pub lock_by : (n : ℕ) (u o : Uid) (asked : Mode) (lines : List Line) (rows : List Row) → rows_on o (table n lines) ≡ rows →
+    HasLock u (mode_code asked) rows → has_lock n u o asked lines ≡ true
+lock_by n u o asked lines rows same lock =
+    let i = in_filter (λ (z : Row). uid_eq z.object o) lock.0 (table n lines) (subst (In lock.0) (sym same) (in_from lock.0 rows lock.1)) in
+    any_in (λ (z : Row). is_row_of o u z && nat_le (mode_code asked) (mode_code z.mode)) lock.0 (table n lines) i.0
+    (λ j. (i.1 j && owner j) && strong (mode_code asked) (mode_code (let r = lock.0 in r.mode)) lock.3 j)
+  where
+    owner : uid_eq (last_uid (let r = lock.0 in r.holder)) u ≡ true
+    owner = ap (λ w. uid_eq w u) lock.2 ∙ uid_same u
+
+    strong : (a b : ℕ) → a ≤ b → nat_le a b ≡ true
+    strong a b le = grind (arith, nat_tests, le)
 
 -- ---- a server
 
@@ -131,6 +148,64 @@ module _ (n : ℕ) (h : Head) (x : ℕ) (ends : List (Uid × End)) (o : Op) (u :
       now None off is = kept (at_uid (actor h.path) s.kept) off is
 
       by : (c : Bool) → Answers (cond {A = Served Server InvokedReply} c (void s) (invoke_now n h x ends o s (changed_by i x b s)))
+      by true is = void_none is
+      by false is = now (changed_by i x b s) new is
+
+-- an operation that was run has its lock
+module _ (n : ℕ) (h : Head) (x : ℕ) (ends : List (Uid × End)) (o : Op) (a : Answer) where
+  abbrev Runs : Served Server InvokedReply → Type 0
+  Runs r = r.reply ≡ Some (invoked.Answered a) → HasLock (actor h.path) (mode_code (op_mode o)) (server_rows x r.part)
+
+  new_runs : (s : Server) → Runs (invoke_new n h x ends o s)
+  new_runs s = by (at_number x t.objects)
+    where
+      t : Server
+      t = (apply_ends n ends s).part
+
+      copied : (c : Copy) (f : Option Row) → (let r = ask_copy n h.path x o c f in r.reply ≡ Some (invoked.Answered a) →
+          HasLock (actor h.path) (mode_code (op_mode o)) (rows_in_copy (at_number x (put_number x r.part t.objects))))
+      copied c (Some r) is = let no_way : ◌≡◌ {A = InvokedReply} (invoked.Conflict _ _) (invoked.Answered a) =
+          some_is is in absurd (cc no_way)
+      copied c None is =
+          let new : Row = row_for (object x) (uids_of h.path) (tops_of h.path) (op_mode o) in
+          subst (λ z. HasLock (actor h.path) (mode_code (op_mode o)) (rows_in_copy z))
+          (sym (put_same x (let r = run_copy n h.path x o c in r.part) t.objects)) (asked_has new c.rows)
+
+      by : (f : Option Copy) → (let r = on_copy x (invoke_copy n h.path x o) t f in r.reply ≡ Some (invoked.Answered a) →
+          HasLock (actor h.path) (mode_code (op_mode o)) (server_rows x (server.keeps (actor h.path) h.req r.reply r.part)))
+      by None is = let no_way : ◌≡◌ {A = InvokedReply} (invoked.Changed _) (invoked.Answered a) = some_is is in absurd (cc no_way)
+      by (Some c) is = kept (let r = invoke_copy n h.path x o c in r.reply)
+          (copied c (first_conflict (uids_of h.path) (object x) (op_mode o) c.rows) is)
+        where
+          kept : (q : Option InvokedReply) → HasLock (actor h.path) (mode_code (op_mode o))
+              (rows_in_copy (at_number x (put_number x (let r = invoke_copy n h.path x o c in r.part) t.objects))) →
+              HasLock (actor h.path) (mode_code (op_mode o)) (server_rows x (server.keeps (actor h.path) h.req q
+              (record t { objects = put_number x (let r = invoke_copy n h.path x o c in r.part) t.objects })))
+          kept None m = m
+          kept (Some q) m = m
+
+  pub invoke_runs : (b : Binding) (i : ℕ) (s : Server) → is_again h (ask.Invoke x b i ends o) s ≡ false →
+      Runs (server.invoke n h x b i ends o s)
+  invoke_runs b i s new = by (has_ended h.path s || is_below h.req (at_uid (actor h.path) s.kept))
+    where
+      void_none : {A : Type 0} → None ≡ Some (invoked.Answered a) → A
+      void_none is = absurd (none_is is)
+
+      kept : (f : Option Kept) → is_kept h.req f ≡ false → Runs (invoke_kept n h x ends o s f)
+      kept None off is = new_runs s is
+      kept (Some q) off is = one (q.req == h.req) off is
+        where
+          one : (c : Bool) → c ≡ false → Runs (cond {A = Served Server InvokedReply} c (reply s q.answer) (invoke_new n h x ends o s))
+          one true e is = absurd (cc e)
+          one false e is = new_runs s is
+
+      now : (w : Option What) → (not (is_some w) && is_kept h.req (at_uid (actor h.path) s.kept)) ≡ false →
+          Runs (invoke_now n h x ends o s w)
+      now (Some w) off is = let no_way : ◌≡◌ {A = InvokedReply} (invoked.Changed w) (invoked.Answered a) =
+          some_is is in absurd (cc no_way)
+      now None off is = kept (at_uid (actor h.path) s.kept) off is
+
+      by : (c : Bool) → Runs (cond {A = Served Server InvokedReply} c (void s) (invoke_now n h x ends o s (changed_by i x b s)))
       by true is = void_none is
       by false is = now (changed_by i x b s) new is
 

@@ -18,7 +18,7 @@ use Rattle.arj_law_parts.proofs.moves.{Events.closes_at, Events.happened, Events
 use Rattle.arj_law_parts.proofs.moves.{Happens.Wide, Happens.arms_hold, Happens.wide_steps, Together.with_both}
 use Rattle.arj_law_parts.proofs.moves.Worlds.{says_hold}
 use Rattle.arj_law_parts.specs.moves.Moments as Moments
-use Rattle.arj_law_parts.specs.moves.Moments.{History, Moment, asks_now, come, given, no_history, said}
+use Rattle.arj_law_parts.specs.moves.Moments.{History, Moment, asks_now, closed, come, given, no_history, opened, said}
 use Rattle.arj_law_parts.specs.moves.Seen as seen
 use Rattle.arj_law_parts.specs.moves.With.{Closes, HoldsAt, HoldsWith, KeepsSteps, UpWith, Wrote, asked_of_node, look, past_event}
 use Rattle.arj_law_parts.specs.moves.With.{past_moves, past_unless, written}
@@ -31,7 +31,7 @@ use Rattle.arj_law_cause.specs.rows.{Runs.RunsMeetRows, Says.says_so}
 
 -- ---- two relations
 
-steps_both : (hd : Header) (P Q : Moment → Type 0) → KeepsSteps hd P → KeepsSteps hd Q → KeepsSteps hd (λ M. P M × Q M)
+pub steps_both : (hd : Header) (P Q : Moment → Type 0) → KeepsSteps hd P → KeepsSteps hd Q → KeepsSteps hd (λ M. P M × Q M)
 steps_both hd P Q p q = record {
   quiet = λ bs M plain h. (p.quiet bs M plain h.0, q.quiet bs M plain h.1);
   junk = λ n M fit h. (p.junk n M fit h.0, q.junk n M fit h.1);
@@ -59,7 +59,7 @@ steps_both hd P Q p q = record {
 
 -- ---- what is known between events
 
-abbrev Base : Seen → Type 0
+abbrev pub Base : Seen → Type 0
 Base S = (begun : List Action) × KnownOf begun S
 
 abbrev pub Core : Moment → Type 0
@@ -88,12 +88,12 @@ module _ (hd : Header) (before : List Line) (event : ℕ) (early : (j : ℕ) →
       let past = s.2.1.1.0.0 in
       let q = past.nodes k n (λ i. if same_number k i then Some (record { number = k; disk = d; live = Some t }) else M.seen.nodes k) in
       let l = q.live t refl in
-      served_says hd before event early k d t v from h r front (lines_behind M.past.number front M.seen.lines)
-      (table_then hd before event early k d t v from m front (response (asked_by h) r) M s.0 s.1 s.2 known.1 other there meant is
-      (silent_front k d t v from h a r front (sym (ap (handle_ask k d t from m) asking) ∙ is)))
+      let shown = table_then hd before event early k d t v from m front (response (asked_by h) r) M s.0 s.1 s.2 known.1 other there meant is
+      (silent_front k d t v from h a r front (sym (ap (handle_ask k d t from m) asking) ∙ is)) in
+      served_says hd before event early k d t v from h r front (lines_behind M.past.number front M.seen.lines) shown.0 shown.1
       l.place a new (sym (ap (handle_ask k d t from m) asking) ∙ is)
 
-  event_step : KeepsSteps hd (InEvent hd before event)
+  pub event_step : KeepsSteps hd (InEvent hd before event)
   event_step = answers_step hd says_so (Tables hd before event) tables_step (λ M h. h.0.0) tells
 
 -- ---- events
@@ -127,185 +127,232 @@ wrote_more g w bs h = (
       ∙ ap (λ ls. (let r = g.run in r.lines) ++ ls) (sym (map-append (λ (b : Body). record { event = w.event; body = b }) h.0 bs)),
 )
 
--- what holds between events
-pub record StandsSo (hd : Header) (g : History) (w : World) : Type 0 where
-  pub holds : HoldsWith hd Core g w
-  pub shown : IsShown hd w
+-- Beside what is known so a relation is kept between events, and inside of each another one, that knows it too: the first leads to the
+-- second as the event comes, and comes back as it's over.
+pub record Beside (hd : Header) (P : Moment → Type 0) (I : List Line → ℕ → Moment → Type 0) : Type 0 where
+  pub inner : (before : List Line) (event : ℕ) → ((j : ℕ) → (event == up_of j before) ≡ false) → KeepsSteps hd (I before event)
+  pub knows : (before : List Line) (event : ℕ) (M : Moment) → I before event M → InEvent hd before event M
+  pub opens : (e : Event) (M : Moment) → P M → P (opened e M)
+  pub enters : (before : List Line) (event : ℕ) (M : Moment) → M.past.number ≡ event → (let r = M.past.run in r.lines) ≡ before →
+      M.seen.lines ≡ before → InEvent hd before event M → P M → I before event M
+  pub leaves : (before : List Line) (event : ℕ) (bodies : List Body) (M : Moment) → I before event M → P (closed bodies M)
+  pub labels : (M : Moment) → P M → P (said (body.Limit which.Labels ∷ []) M)
 
-module _ (hd : Header) (g : History) (w : World) (h : StandsSo hd g w) where
-  early : (j : ℕ) → (w.event + 1 == up_of j w.lines) ≡ false
-  early j = let s = h.shown in later_off (up_of j w.lines) w.event (s.early j)
+module _ (hd : Header) (P : Moment → Type 0) (I : List Line → ℕ → Moment → Type 0) (beside : Beside hd P I) where
+  -- what holds between events
+  abbrev Rest : Moment → Type 0
+  Rest M = Core M × P M
 
-  -- what tables show before the event
-  shows : (S : Seen) → S.lines ≡ w.lines → S.nodes ≡ (let z = see [] w in z.nodes) → Base S → Showing hd (length w.lines) (w.event + 1) S
-  shows S lines nodes base = (base.0, base.1, record { long = least (ap length lines); shown = λ since n off. shown_at n })
-    where
-      least : {m n : ℕ} → m ≡ n → n ≤ m
-      least is = omega (arith, is)
+  pub record StandsSo (g : History) (w : World) : Type 0 where
+    pub holds : HoldsWith hd (λ M. Core M × P M) g w
+    pub shown : IsShown hd w
 
-      shown_at : (n : ℕ) → Terms.ShowsLocks n S.lines (memory_of (S.nodes n))
-      shown_at n = subst (λ ls. Terms.ShowsLocks n ls (memory_of (S.nodes n))) (sym lines)
-          (subst (λ f. Terms.ShowsLocks n w.lines (memory_of (f n)))
-          (sym nodes) (let s = h.shown in s.shown n))
+  module _ (g : History) (w : World) (h : StandsSo g w) where
+    early : (j : ℕ) → (w.event + 1 == up_of j w.lines) ≡ false
+    early j = let s = h.shown in later_off (up_of j w.lines) w.event (s.early j)
 
-  -- as the event comes
-  opened_so : (e : Event) → w.over ≡ false → HoldsAt hd (InEvent hd w.lines (w.event + 1)) (come e g) (counted w)
-  opened_so e over =
-      let o = opens_at hd Core Core (λ f M first number c. (c.0, made_opens says_so f M first number c.1)) e g w over h.holds in
-      record {
-        sent = o.sent;
-        stands = o.stands;
-        number = o.number;
-        wrote = o.wrote;
+    -- what tables show before the event
+    shows : (S : Seen) → S.lines ≡ w.lines → S.nodes ≡ (let z = see [] w in z.nodes) → Base S →
+        Showing hd (length w.lines) (w.event + 1) S
+    shows S lines nodes base = (base.0, base.1, record { long = least (ap length lines); shown = λ since n off. shown_at n })
+      where
+        least : {m n : ℕ} → m ≡ n → n ≤ m
+        least is = omega (arith, is)
+
+        shown_at : (n : ℕ) → Terms.ShowsLocks n S.lines (memory_of (S.nodes n))
+        shown_at n = subst (λ ls. Terms.ShowsLocks n ls (memory_of (S.nodes n))) (sym lines)
+            (subst (λ f. Terms.ShowsLocks n w.lines (memory_of (f n)))
+            (sym nodes) (let s = h.shown in s.shown n))
+
+    -- as the event comes
+    opened_so : (e : Event) → w.over ≡ false → HoldsAt hd (I w.lines (w.event + 1)) (come e g) (counted w)
+    opened_so e over =
+        let o = opens_at hd Rest Rest (λ f M first number c.
+        ((c.0.0, made_opens says_so f M first number c.0.1), beside.opens f M c.1)) e g w
+        over h.holds in
+        record {
+          sent = o.sent;
+          stands = o.stands;
+          number = o.number;
+          wrote = o.wrote;
+          holds = beside.enters w.lines (w.event + 1) (look (come e g) o.sent (counted w)) refl (let q = h.holds in q.lines over) refl (
+            (
+              (
+                o.holds.0.0.0,
+                (let b = o.holds.0.0.1 in (
+                  b.0,
+                  b.1,
+                  shows (seen.with_sent b.0 (let L = look (come e g) o.sent (counted w) in L.seen)) refl refl b.2,
+                )),
+              ),
+              record { number = refl; wrote = []; lines = sym (append-nil w.lines); starts = λ is j. refl },
+            ),
+            o.holds.0.1,
+          ) o.holds.1;
+        }
+
+    -- as it is over
+    closed_so : Closes (I w.lines (w.event + 1)) Rest
+    closed_so bodies M number lines c =
+        let k = beside.knows w.lines (w.event + 1) M c in (
+          ((k.0.0.0, (let s = k.0.0.1 in (s.0, s.1, (s.2.0, s.2.1)))), made_closes says_so bodies M number lines k.1),
+          beside.leaves w.lines (w.event + 1) bodies M c,
+        )
+
+    labels_so : HoldsWith hd Rest g (no_labels w)
+    labels_so =
+        let o = h.holds in
+        let c = o.now.holds.0 in
+        let M = look g o.now.sent w in
+        record {
+          now = record {
+            sent = o.now.sent;
+            stands = record {
+              frames = o.now.stands.frames;
+              junk = o.now.stands.junk;
+              header = o.now.stands.header;
+              numbers = o.now.stands.numbers;
+              places = o.now.stands.places;
+              labels = o.now.stands.labels;
+            };
+            number = o.now.number;
+            wrote = wrote_more g w (body.Limit which.Labels ∷ []) o.now.wrote;
+            holds = (
+              (
+                (
+                  (let k = known_wide hd in (let q = k.steps in q.quiet (body.Limit which.Labels ∷ []) M refl c.0.0)),
+                  (let b = c.0.1 in
+                      let r = (let k = showing_kept hd (length w.lines) (w.event + 1) ⊤ tt in k.quiet w.event (body.Limit which.Labels ∷ [])
+                      (seen.with_sent b.0 M.seen) refl (shows (seen.with_sent b.0 M.seen) refl refl b.2)) in (b.0, b.1, (r.0, r.1))),
+                ),
+                made_later says_so M (said (body.Limit which.Labels ∷ []) M) (record {
+                  more = numbered M.past.number (body.Limit which.Labels ∷ []);
+                  lines = refl;
+                  askings = refl;
+                  sent = λ p i. i;
+                  full = λ f. f;
+                }) (λ j. refl) (λ p i. i) c.1,
+              ),
+              beside.labels M o.now.holds.1,
+            );
+          };
+          count = o.count;
+          lines = λ never. absurd (cc never);
+        }
+
+    -- an event that the world refuses, or doesn't
+    pub refused_at : (e : Event) (c : ℕ) → w.over ≡ false →
+        HoldsAt hd (I w.lines (w.event + 1)) (come e g) (says (body.Refused c ∷ []) (counted w))
+    refused_at e c over = says_hold hd (I w.lines (w.event + 1)) (beside.inner w.lines (w.event + 1) early) (body.Refused c ∷ []) (come e g)
+        (counted w) refl (opened_so e over)
+
+    pub happened_at : (e : Event) (a : Arm) → first_reason (reasons e w) ≡ None → w.over ≡ false →
+        HoldsAt hd (I w.lines (w.event + 1)) (asked_of_node (writes.asks e w) w (come e g)) (limited (happens e a (counted w)))
+    happened_at e a is over = happened hd (I w.lines (w.event + 1)) (beside.inner w.lines (w.event + 1) early) e a g w is
+        (let o = h.holds in o.lines over) (opened_so e over)
+
+    unless_so : (e : Event) (a : Arm) (r : Option ℕ) → first_reason (reasons e w) ≡ r → w.over ≡ false →
+        HoldsWith hd Rest (past_unless e w (run_unless e a w r) g r) (run_unless e a w r)
+    unless_so e a (Some c) is over =
+        closes_at hd (I w.lines (w.event + 1)) Rest closed_so (come e g) w (says (body.Refused c ∷ []) (counted w)) (let o =
+        h.holds in o.lines over) (λ i. (let o = h.holds in o.count i) + 1) (refused_at e c over)
+    unless_so e a None is over = by (lacks_labels (giving e w) w)
+      where
+        by : (b : Bool) → HoldsWith hd Rest
+            (let v = if b then no_labels w else limited (happens e a (counted w)) in
+            if b then g else (Moments.gone (written w v) (asked_of_node (writes.asks e w) w (come e g))))
+            (if b then no_labels w else limited (happens e a (counted w)))
+        by true = labels_so
+        by false =
+            let q = asked_of_node (writes.asks e w) w (come e g) in
+            let same = same_run e g w (writes.asks e w) in
+            let o = h.holds in
+            closes_at hd (I w.lines (w.event + 1)) Rest closed_so q w (limited (happens e a (counted w)))
+            (ap (λ (r : Past). r.lines) same.0 ∙ o.lines over)
+            (same.1 ∙ (λ i. o.count i + 1) ∙ (λ i. (let r = sym same.0 i in r.count) + 1)) (happened_at e a is over)
+
+    event_so : (e : Asked) → HoldsWith hd Rest (past_event e w g) (run_event e w)
+    event_so e = by w.over refl
+      where
+        r : Option ℕ
+        r = first_reason (reasons e.event w)
+
+        by : (b : Bool) → w.over ≡ b → HoldsWith hd Rest (if b then g else past_unless e.event w
+            (if b then w else run_unless e.event e.arm w r) g r)
+            (if b then w else run_unless e.event e.arm w r)
+        by true over = h.holds
+        by false over = unless_so e.event e.arm r refl over
+
+    pub next_so : (e : Asked) → StandsSo (past_event e w g) (run_event e w)
+    next_so e = record { holds = event_so e; shown = event_shown hd w h.shown e }
+
+  -- ---- runs
+
+  pub armed_so : (g : History) (w : World) (arms : List (ℕ × Arm)) → StandsSo g w → StandsSo g (record w { arms = arms })
+  armed_so g w arms h = record {
+    holds = same_look g w arms Rest hd h.holds;
+    shown = (let s = h.shown in record { known = arms_hold hd Base arms w s.known; shown = s.shown; early = s.early });
+  }
+
+  pub move_so : (m : Move) (g : History) (w : World) → StandsSo g w → StandsSo (past_event m.asked (record w { arms = m.falls }) g)
+      (moved m w)
+  move_so m g w h =
+      let v = record w { arms = m.falls } in
+      armed_so (past_event m.asked v g) (run_event m.asked v) [] (next_so g v (armed_so g w m.falls h) m.asked)
+
+  moves_so : (ms : List Move) (g : History) (w : World) → StandsSo g w → HoldsWith hd Rest (past_moves ms w g) (all_moved ms w)
+  moves_so [] g w h = h.holds
+  moves_so (m ∷ ms) g w h = moves_so ms (past_event m.asked (record w { arms = m.falls }) g) (moved m w) (move_so m g w h)
+
+  pub first_so : (st : Start) → IsFormed hd st → P (look (no_history st) [] (world_from hd st)) →
+      StandsSo (no_history st) (world_from hd st)
+  first_so st formed first = record {
+    holds = record {
+      now = record {
+        sent = [];
+        stands = first_stands hd st;
+        number = refl;
+        wrote = ([], refl);
         holds = (
           (
             (
-              o.holds.0.0,
-              (let b = o.holds.0.1 in (
-                b.0,
-                b.1,
-                shows (seen.with_sent b.0 (let L =
-                    look (come e g) o.sent (counted w) in L.seen)) refl refl b.2,
-              )),
+              ([], (λ p i. i), (let k = known_wide hd in k.first st formed)),
+              ([], (λ p i. i), (let s = first_showing hd 0 st formed in (s.0, s.1))),
             ),
-            record { number = refl; wrote = []; lines = sym (append-nil w.lines); starts = λ is j. refl },
+            first_made hd says_so st formed,
           ),
-          o.holds.1,
+          first,
         );
-      }
-
-  -- as it is over
-  closed_so : Closes (InEvent hd w.lines (w.event + 1)) Core
-  closed_so bodies M number lines c = (
-    (c.0.0.0, (let s = c.0.0.1 in (s.0, s.1, (s.2.0, s.2.1)))),
-    made_closes says_so bodies M number lines c.1,
-  )
-
-  labels_so : HoldsWith hd Core g (no_labels w)
-  labels_so =
-      let o = h.holds in
-      let c = o.now.holds in
-      let M = look g o.now.sent w in
-      record {
-        now = record {
-          sent = o.now.sent;
-          stands = record {
-            frames = o.now.stands.frames;
-            junk = o.now.stands.junk;
-            header = o.now.stands.header;
-            numbers = o.now.stands.numbers;
-            places = o.now.stands.places;
-            labels = o.now.stands.labels;
-          };
-          number = o.now.number;
-          wrote = wrote_more g w (body.Limit which.Labels ∷ []) o.now.wrote;
-          holds = (
-            (
-              (let k = known_wide hd in (let q = k.steps in q.quiet (body.Limit which.Labels ∷ []) M refl c.0.0)),
-              (let b = c.0.1 in
-                  let r = (let k = showing_kept hd (length w.lines) (w.event + 1) ⊤ tt in k.quiet w.event (body.Limit which.Labels ∷ [])
-                  (seen.with_sent b.0 M.seen) refl (shows (seen.with_sent b.0 M.seen) refl refl b.2)) in (b.0, b.1, (r.0, r.1))),
-            ),
-            made_later says_so M (said (body.Limit which.Labels ∷ []) M) (record {
-              more = numbered M.past.number (body.Limit which.Labels ∷ []);
-              lines = refl;
-              askings = refl;
-              sent = λ p i. i;
-              full = λ f. f;
-            }) (λ j. refl) (λ p i. i) c.1,
-          );
-        };
-        count = o.count;
-        lines = λ never. absurd (cc never);
-      }
-
-  unless_so : (e : Event) (a : Arm) (r : Option ℕ) → first_reason (reasons e w) ≡ r → w.over ≡ false →
-      HoldsWith hd Core (past_unless e w (run_unless e a w r) g r) (run_unless e a w r)
-  unless_so e a (Some c) is over =
-      closes_at hd (InEvent hd w.lines (w.event + 1)) Core closed_so (come e g) w (says (body.Refused c ∷ []) (counted w)) (let o =
-      h.holds in o.lines over) (λ i. (let o = h.holds in o.count i) + 1)
-      (says_hold hd (InEvent hd w.lines (w.event + 1)) (event_step hd w.lines (w.event + 1) early) (body.Refused c ∷ []) (come e g)
-      (counted w) refl (opened_so e over))
-  unless_so e a None is over = by (lacks_labels (giving e w) w)
-    where
-      by : (b : Bool) → HoldsWith hd Core
-          (let v = if b then no_labels w else limited (happens e a (counted w)) in
-          if b then g else (Moments.gone (written w v) (asked_of_node (writes.asks e w) w (come e g))))
-          (if b then no_labels w else limited (happens e a (counted w)))
-      by true = labels_so
-      by false =
-          let q = asked_of_node (writes.asks e w) w (come e g) in
-          let same = same_run e g w (writes.asks e w) in
-          let o = h.holds in
-          closes_at hd (InEvent hd w.lines (w.event + 1)) Core closed_so q w (limited (happens e a (counted w)))
-          (ap (λ (r : Past). r.lines) same.0 ∙ o.lines over)
-          (same.1 ∙ (λ i. o.count i + 1) ∙ (λ i. (let r = sym same.0 i in r.count) + 1))
-          (happened hd (InEvent hd w.lines (w.event + 1)) (event_step hd w.lines (w.event + 1) early) e a g w is (o.lines over)
-          (opened_so e over))
-
-  event_so : (e : Asked) → HoldsWith hd Core (past_event e w g) (run_event e w)
-  event_so e = by w.over refl
-    where
-      r : Option ℕ
-      r = first_reason (reasons e.event w)
-
-      by : (b : Bool) → w.over ≡ b → HoldsWith hd Core (if b then g else past_unless e.event w
-          (if b then w else run_unless e.event e.arm w r) g r)
-          (if b then w else run_unless e.event e.arm w r)
-      by true over = h.holds
-      by false over = unless_so e.event e.arm r refl over
-
-  pub next_so : (e : Asked) → StandsSo hd (past_event e w g) (run_event e w)
-  next_so e = record { holds = event_so e; shown = event_shown hd w h.shown e }
-
--- ---- runs
-
-armed_so : (hd : Header) (g : History) (w : World) (arms : List (ℕ × Arm)) → StandsSo hd g w → StandsSo hd g (record w { arms = arms })
-armed_so hd g w arms h = record {
-  holds = same_look g w arms Core hd h.holds;
-  shown = (let s = h.shown in record { known = arms_hold hd Base arms w s.known; shown = s.shown; early = s.early });
-}
-
-moves_so : (hd : Header) (ms : List Move) (g : History) (w : World) → StandsSo hd g w →
-    HoldsWith hd Core (past_moves ms w g) (all_moved ms w)
-moves_so hd [] g w h = h.holds
-moves_so hd (m ∷ ms) g w h =
-    let v = record w { arms = m.falls } in
-    moves_so hd ms (past_event m.asked v g) (moved m w) (armed_so hd (past_event m.asked v g) (run_event m.asked v) []
-    (next_so hd g v (armed_so hd g w m.falls h) m.asked))
-
-first_so : (hd : Header) (st : Start) → IsFormed hd st → StandsSo hd (no_history st) (world_from hd st)
-first_so hd st formed = record {
-  holds = record {
-    now = record {
-      sent = [];
-      stands = first_stands hd st;
-      number = refl;
-      wrote = ([], refl);
-      holds = (
-        (
-          ([], (λ p i. i), (let k = known_wide hd in k.first st formed)),
-          ([], (λ p i. i), (let s = first_showing hd 0 st formed in (s.0, s.1))),
-        ),
-        first_made hd says_so st formed,
-      );
+      };
+      count = refl;
+      lines = λ over. refl;
     };
-    count = refl;
-    lines = λ over. refl;
-  };
-  shown = first_is_shown hd st formed;
+    shown = first_is_shown hd st formed;
+  }
+
+-- nothing else
+none_beside : (hd : Header) → Beside hd (λ M. ⊤) (InEvent hd)
+none_beside hd = record {
+  inner = λ before event early. event_step hd before event early;
+  knows = λ before event M h. h;
+  opens = λ e M h. tt;
+  enters = λ before event M number first lines k h. k;
+  leaves = λ before event bodies M h. tt;
+  labels = λ M h. tt;
 }
 
 pub runs_meet : RunsMeetRows
 runs_meet hd r =
-    let h = moves_so hd r.moves (no_history r.start) (world_from hd r.start) (first_so hd r.start r.formed) in
+    let b = none_beside hd in
+    let h = moves_so hd (λ M. ⊤) (InEvent hd) b r.moves (no_history r.start) (world_from hd r.start)
+    (first_so hd (λ M. ⊤) (InEvent hd) b r.start r.formed tt) in
     record {
       now = record {
         sent = h.now.sent;
         stands = h.now.stands;
         number = h.now.number;
         wrote = h.now.wrote;
-        holds = h.now.holds.1;
+        holds = h.now.holds.0.1;
       };
       count = h.count;
       lines = h.lines;

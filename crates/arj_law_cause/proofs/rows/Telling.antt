@@ -1,11 +1,13 @@
--- Inside of an event that restarts no node tables show locks, so whoever answers a conflict says what the journal's table has.
+-- Inside of an event that restarts no node tables show locks, so whoever answers a conflict, or runs an operation, says what the
+-- journal's table has.
 use Rattle.arj_law_parts.proofs.Words
 use Words.{◌≡◌, ◌∙◌, ◌==◌, ◌++◌, ◌&&◌, ℕ, Bool, true, false, if◌then◌else◌, List, [], ◌∷◌, length, Option, Some, None, refl, sym, ap}
 use Words.{subst, ⊤, list_all, and_parts}
 use Words.{append-nil, append_assoc, map-append, option_map, is_some, eqb-true, entry, object, op_mode, uids_of, top_path, Ask, Asked}
-use Words.{Body, Head, Header, Line, Message, Uid, Op, Binding, End}
+use Words.{Body, Head, Header, Line, Message, Mode, Uid, Op, Binding, End}
 use Words.{Reply, answers, asked_by, response, Disk, Do, Effect, Say, Send, worked, Naming, Handled, Parts, Took, Void, handle, serve}
-use Words.{served, sends_answer, if_naming}
+use Words.{served, sends_answer, if_naming, Contains, In, Row, actor, at_number, in_find, in_to, is_against, last_uid, Copy, rows_in_copy}
+use Words.{rows_in_named, Named, Node}
 use Words.{with_naming, with_server, numbered, Post, Seen, InvokedReply, BoundReply, server_rows, is_meant}
 use Words.ask
 use Words.bound
@@ -13,13 +15,14 @@ use Words.invoked
 use Words.naming
 use Words.server
 use Rattle.arj_law_serial.proofs.Terms
-use Terms.{ShowsLocks, rows_on, up_of, memory_of, named_locks, Walks, Up}
+use Terms.{ShowsLocks, rows_on, up_of, memory_of, named_locks, Walks, Up, AreAlike, IsMemory, IsUp, acts, has_act, HoldsNames, paths_of}
+use Terms.{begun_tree, path_found}
 use Rattle.arj_law_lock_view.proofs.Terms.{same_number, some_is}
 use Rattle.arj_law_lock_view.proofs.moments.{Later.AreSilent, Serving.IsServed, Serving.serves}
 use Rattle.arj_law_lock_view.specs.moments.Made.{is_again, lines_behind}
 use Rattle.arj_law_parts.proofs.moves.Flat.{post}
 use Rattle.arj_law_parts.specs.moves.Moments.{Moment, is_restart, up}
-use Rattle.arj_law_parts.specs.moves.Seen.{In, Within}
+use Rattle.arj_law_parts.specs.moves.Seen.{Within}
 use Rattle.arj_law_parts.specs.moves.Seen as seen
 use Rattle.arj_law_runs.proofs.calls.WorldSteps.{reads_back}
 use Rattle.arj_law_serial.proofs.holding.{Lines.Since, Lines.since_all, Running.Showing, Running.showing_kept, Writes.none_starts}
@@ -29,8 +32,13 @@ use Rattle.arj_model.specs.CauseAnswers.{meets}
 use Rattle.arj_model.specs.Table.{table}
 use Rattle.arj_protocol.specs.Laws.{naming_rows}
 use Rattle.arj_law_cause.proofs.rows.Inside.{Inside, handle_starts}
-use Rattle.arj_law_cause.proofs.rows.Meeting.{bind_meets, invoke_meets, meets_by}
-use Rattle.arj_law_cause.specs.rows.Says.{says_of}
+use Rattle.arj_law_cause.proofs.rows.Holders.{begun_act, entry_upper, upper_act}
+use Rattle.arj_law_cause.proofs.rows.Meeting.{Meets, bind_meets, invoke_meets, invoke_runs, lock_by, meets_by}
+use Rattle.arj_law_cause.specs.rows.Says.{has_upper, says_of}
+use Rattle.arj_law_parts.proofs.parts.LivesNamed.{all_found}
+use Terms.{IsEntryRow}
+use Terms.{HaveUpper}
+use Rattle.arj_law_serial.proofs.holding.Running.{alike_of}
 use Rattle.std.proofs.lemmas.List.Folds.{list_all-append}
 
 -- ---- what is sent last
@@ -127,30 +135,85 @@ walk_front P e k v (Say b ∷ es) to m d S silent w = walk_front P e k v es to m
 walk_front P e k v (Send n x ∷ es) to m d S silent w = absurd silent.0
 walk_front P e k v (Do x ∷ es) to m d S silent w = walk_front P e k v es to m (worked x d) S silent.1 w.1
 
+-- the row that is met is there
+met : (path : List Uid) (o : Uid) (asked : Mode) (u : Uid) (held : Mode) (rows : List Row) (m : Meets path o asked u held rows) →
+    In m.row rows
+met path o asked u held rows m = (in_find (is_against path o asked) m.row rows m.found).0
+
 -- ---- tables
+
+-- who has locks has begun by these lines, and on entries is no nested action
+pub record AreHolders (v : Parts) (lines : List Line) : Type 0 where
+  pub server : (x : ℕ) (r : Row) → In r (server_rows x v.server) → has_act (acts lines) (last_uid r.holder) ≡ true
+  pub naming : (o : Naming) → v.naming ≡ Some o → (x : ℕ) (r : Row) → In r (naming_rows x o) →
+      has_upper (acts lines) (last_uid r.holder) ≡ true
 
 module _ (hd : Header) (before : List Line) (event : ℕ) (early : (j : ℕ) → (event == up_of j before) ≡ false) where
   -- what tables show, in the event behind these lines
   abbrev pub InTable : Seen → Type 0
   InTable = Showing hd (length before) event
 
+  -- so it is of a node that is up
+  holders_of : (k : ℕ) (v : Parts) (S : Seen) (n : Node) → S.nodes k ≡ Some n → n.live ≡ Some v → InTable S → AreHolders v S.lines
+  holders_of k v S n there live z = record {
+    server = λ x r i. at_server x r (at_number x v.server.objects) refl i;
+    naming = λ o is x r i. at_entry o is x r (at_number x o.objects) refl i;
+  }
+    where
+      alike : AreAlike z.0 (acts S.lines)
+      alike = alike_of hd (length before) event z.0 S z.1.0
+
+      its : (let d = n.disk in IsUp z.0 S.sent S.labels k d.inc v)
+      its = let good = z.1.0.1.0 in let place = good.places k n there in
+          subst (IsMemory z.0 S.sent S.labels k (let d = n.disk in d.inc)) live place.memory
+
+      at_server : (x : ℕ) (r : Row) (o : Option Copy) → at_number x v.server.objects ≡ o → In r (rows_in_copy o) →
+          has_act (acts S.lines) (last_uid r.holder) ≡ true
+      at_server x r None at i = absurd i
+      at_server x r (Some c) at i =
+          let good = z.1.0.1.0 in
+          let node = its.good (paths_of z.0) (begun_tree z.0 good.begun) (path_found z.0 good.begun) in
+          let f = (let a = node.knows in a.rows x c r at (in_to r c.rows i)) in
+          ap (λ us. has_act (acts S.lines) (last_uid us)) f.2 ∙ begun_act z.0 (acts S.lines) alike f.0 f.1
+
+      at_entry : (o : Naming) → v.naming ≡ Some o → (x : ℕ) (r : Row) (f : Option Named) → at_number x o.objects ≡ f →
+          In r (rows_in_named f) → has_upper (acts S.lines) (last_uid r.holder) ≡ true
+      at_entry o is x r None at i = absurd i
+      at_entry o is x r (Some q) at i =
+          let upper = z.1.1.1.0 k n there in
+          let h : HoldsNames z.0 o = upper.live v o live is in
+          let rows = all_found (λ (q : Named). (r : Row) → Contains q.rows r → IsEntryRow z.0 r) x o.objects q h.entries at in
+          let uppers = all_found (λ (q : Named). HaveUpper z.0 q.rows) x o.objects q
+          (let b = h.objects in (let u = b.uppers in u.rows)) at in
+          let c : Contains q.rows r = in_to r q.rows i in
+          upper_act z.0 (acts S.lines) alike (last_uid r.holder) (entry_upper z.0 r (rows r c) (uppers r c))
+
   -- where a request is answered, the table has the locks that the node has then
   pub table_then : (k : ℕ) (d : Disk) (t v : Parts) (from : ℕ) (m : Message) (front : List Effect) (x : Message) (M : Moment)
       (sent : List Post) →
       Within M.seen.sent sent → InTable (seen.with_sent sent (let N = up k d t M in N.seen)) → Inside before event (up k d t M) →
       is_restart M.past.event ≡ false →
-      In (post from k m) M.seen.sent → is_meant t m ≡ true → handle k d t from m ≡ Took v (front ++ Send from x ∷ []) → AreSilent front →
-      ShowsLocks k (lines_behind M.past.number front M.seen.lines) (Some v)
+      seen.In (post from k m) M.seen.sent → is_meant t m ≡ true → handle k d t from m ≡ Took v (front ++ Send from x ∷ []) →
+      AreSilent front →
+      ShowsLocks k (lines_behind M.past.number front M.seen.lines) (Some v) × AreHolders v (lines_behind M.past.number front M.seen.lines)
   table_then k d t v from m front x M sent within shows inside other there meant is silent =
       let steps = showing_kept hd (length before) event ⊤ tt in
       let w = steps.message M.past.number k d t v from m (front ++ Send from x ∷ []) (seen.with_sent sent M.seen) shows
       (within (post from k m) there) meant is in
       let r = walk_front InTable M.past.number k v front from x d (seen.with_sent sent M.seen) silent w in
       let s = r.1.2 in
-      subst (λ o. ShowsLocks k (lines_behind M.past.number front M.seen.lines) (memory_of o))
-      (λ i. if same_number k i then Some (record { number = k; disk = r.0; live = Some v }) else M.seen.nodes k)
-      (s.shown (subst (Since event (length before)) (sym its) (since_all event (inside.wrote ++ said_by front) before)) k
-      ((λ i. event == up_of k (its i)) ∙ (λ i. event == none_starts k event (inside.wrote ++ said_by front) none before i) ∙ early k))
+      let here : (if k == k then Some (record { number = k; disk = r.0; live = Some v }) else M.seen.nodes k) ≡
+      Some (record { number = k; disk = r.0; live = Some v }) =
+      λ i. if same_number k i then Some (record { number = k; disk = r.0; live = Some v }) else M.seen.nodes k in (
+        subst (λ o. ShowsLocks k (lines_behind M.past.number front M.seen.lines) (memory_of o)) here
+            (s.shown (subst (Since event (length before)) (sym its) (since_all event (inside.wrote ++ said_by front) before)) k
+            ((λ i. event == up_of k (its i)) ∙ (λ i. event == none_starts k event (inside.wrote ++ said_by front) none before i)
+            ∙ early k)),
+        holders_of k v (seen.up k r.0 v (record M.seen {
+          lines = lines_behind M.past.number front M.seen.lines;
+          sent = post k from x ∷ sent;
+        })) (record { number = k; disk = r.0; live = Some v }) here refl r.1,
+      )
     where
       none : list_all (is_no_start k) (inside.wrote ++ said_by front) ≡ true
       none = list_all-append (is_no_start k) inside.wrote (said_by front) ∙ (λ i. inside.starts other k i && said_none k front
@@ -164,7 +227,7 @@ module _ (hd : Header) (before : List Line) (event : ℕ) (early : (j : ℕ) →
   -- ---- a request that is served
 
   module _ (k : ℕ) (d : Disk) (t v : Parts) (from : ℕ) (h : Head) (r : Reply) (front : List Effect) (lines : List Line)
-      (shown : ShowsLocks k lines (Some v)) (place : is_some t.naming ≡ (k == 1)) where
+      (shown : ShowsLocks k lines (Some v)) (holders : AreHolders v lines) (place : is_some t.naming ≡ (k == 1)) where
     abbrev Sent : Handled → Type 0
     Sent a = a ≡ Took v (front ++ Send from (response (asked_by h) r) ∷ [])
 
@@ -186,11 +249,18 @@ module _ (hd : Header) (before : List Line) (event : ℕ) (early : (j : ℕ) →
       where
         says : (q : InvokedReply) → (server.invoke k h x b i ends o t.server).reply ≡ Some q → After x b i ends o ≡ v →
             says_of k h (ask.Invoke x b i ends o) (Reply.Invoked q) lines
-        says (invoked.Answered a) at same = tt
+        says (invoked.Answered a) at same =
+            lock_by k (actor h.path) (object x) (op_mode o) lines (server_rows x (let w = After x b i ends o in w.server))
+            (shown.server x ∙ ap (λ (z : Parts). server_rows x z.server) (sym same)) (invoke_runs k h x ends o a b i t.server new at)
         says (invoked.Changed w) at same = tt
         says (invoked.Conflict u m) at same =
-            meets_by k (uids_of h.path) (object x) (op_mode o) u m lines (server_rows x (let w = After x b i ends o in w.server))
-            (shown.server x ∙ ap (λ (z : Parts). server_rows x z.server) (sym same)) (invoke_meets k h x ends o u m b i t.server new at)
+            let q = invoke_meets k h x ends o u m b i t.server new at in (
+              meets_by k (uids_of h.path) (object x) (op_mode o) u m lines (server_rows x (let w = After x b i ends o in w.server))
+                  (shown.server x ∙ ap (λ (z : Parts). server_rows x z.server) (sym same)) q,
+              ap (has_act (acts lines)) (sym q.holder) ∙ holders.server x q.row (subst (λ (z : Parts). In q.row
+                  (server_rows x z.server)) same
+                  (met (uids_of h.path) (object x) (op_mode o) u m (server_rows x (let w = After x b i ends o in w.server)) q)),
+            )
 
         by : (f : Option InvokedReply) → (server.invoke k h x b i ends o t.server).reply ≡ f →
             Sent (sends_answer from h (After x b i ends o) (server.invoke k h x b i ends o t.server).outs (option_map Reply.Invoked f)) →
@@ -224,10 +294,14 @@ module _ (hd : Header) (before : List Line) (event : ℕ) (early : (j : ℕ) →
                       (naming_rows x (naming.bind h.path x include avoid d.names o).part)
                       (subst (λ n. rows_on (entry x) (table n lines) ≡ named_locks x v.naming) (eqb-true k 1 one) (shown.naming x one)
                       ∙ ap (λ (y : Parts). named_locks x y.naming) (sym same)) z.1.1),
+                  (let q = z.1.1 in ap (has_upper (acts lines)) (sym q.holder) ∙ holders.naming
+                      (naming.bind h.path x include avoid d.names o).part (ap (λ (y : Parts). y.naming) (sym same)) x q.row
+                      (met (top_path h.path) (entry x) z.0 u m (naming_rows x (naming.bind h.path x include avoid d.names o).part) q)),
                 )
 
             by : (f : Option BoundReply) → (naming.bind h.path x include avoid d.names o).reply ≡ f →
-                Sent (sends_answer from h (Bound x include avoid o) (naming.bind h.path x include avoid d.names o).outs (option_map Reply.Bound f)) →
+                Sent (sends_answer from h (Bound x include avoid o) (naming.bind h.path x include avoid d.names o).outs
+                (option_map Reply.Bound f)) →
                 says_of k h (ask.Bind x include avoid) r lines
             by None at e = let no_way : Void [] ≡ Took v (front ++ Send from (response (asked_by h) r) ∷ []) = e in absurd (cc no_way)
             by (Some q) at e =

@@ -1,28 +1,39 @@
 -- What an answer says of the lines before the place where it was made.
-use Rattle.std.specs.Prelude.{⊤, ◌≡◌, ℕ, Bool, true, false, List, [], ◌∷◌}
+use Rattle.std.specs.Prelude.{⊤, ◌≡◌, ℕ, Bool, true, false, List, [], ◌∷◌, ◌&&◌, not}
 use Rattle.std.specs.List.{list_any}
-use Rattle.arj_base.specs.Uid.{entry, object}
+use Rattle.arj_base.specs.Uid.{entry, object, uid_eq}
 use Rattle.arj_class.specs.Table.{op_mode}
-use Rattle.arj_model.specs.CauseAnswers.{meets}
-use Rattle.arj_protocol.specs.Ask.{Reply, top_path}
-use Rattle.arj_protocol.specs.Words.{Ask, Head, Line, Mode, uids_of}
+use Rattle.arj_model.specs.Actions.{Act, acts}
+use Rattle.arj_model.specs.CauseAnswers.{has_lock, meets}
+use Rattle.arj_protocol.specs.Ask.{Reply, actor, top_path}
+use Rattle.arj_protocol.specs.Tree.{is_nested}
+use Rattle.arj_protocol.specs.Words.{Ask, Head, Line, Mode, Uid, uids_of}
 use Rattle.arj_protocol.specs.Words.ask
 use Rattle.arj_protocol.specs.Words.bound
 use Rattle.arj_protocol.specs.Words.invoked
 use Rattle.arj_protocol.specs.Words.mode
 use Rattle.arj_law_lock_view.specs.moments.Made.{Saying}
+use Rattle.arj_law_runs.specs.journal.Right.{has_act}
 
 -- the modes that a call, or an include, may ask for on an entry
 abbrev pub entry_modes : Bool → List Mode
 entry_modes true = mode.Write ∷ []
 entry_modes false = mode.Read ∷ mode.Write ∷ []
 
--- A conflict: at a server the call, and at naming its top, meets the row of this holder in this mode.
+-- an action with this Uid began, and no nested one
+abbrev pub has_upper : List Act → Uid → Bool
+has_upper acts u = list_any (λ (a : Act). uid_eq a.uid u && not (is_nested a.kind)) acts
+
+-- A conflict: at a server the call, and at naming its top, meets the row of this holder in this mode, an action that began, at naming no
+-- nested one. And where a server answers with what the operation gives, the action has its lock.
 abbrev pub says_of : ℕ → Head → Ask → Reply → List Line → Type 0
 says_of n h (ask.Invoke x b i ends o) (Reply.Invoked (invoked.Conflict u m)) before =
-    meets n (uids_of h.path) (object x) (op_mode o) u m before ≡ true
+    (meets n (uids_of h.path) (object x) (op_mode o) u m before ≡ true) × (has_act (acts before) u ≡ true)
+says_of n h (ask.Invoke x b i ends o) (Reply.Invoked (invoked.Answered a)) before =
+    has_lock n (actor h.path) (object x) (op_mode o) before ≡ true
 says_of n h (ask.Bind x include avoid) (Reply.Bound (bound.Conflict u m)) before =
     (n ≡ 1) × (list_any (λ asked. meets 1 (top_path h.path) (entry x) asked u m before) (entry_modes include) ≡ true)
+    × (has_upper (acts before) u ≡ true)
 says_of n h a r before = ⊤
 
 -- so it is of an answer

@@ -1,0 +1,414 @@
+-- How calls and includes end at a coordinator: by an answer that it takes, or given up.
+use Rattle.arj_law_parts.proofs.Words
+use Words.{⊎_elim, ◌≡◌, ◌∙◌, ◌++◌, ◌&&◌, ◌==◌, ℕ, Bool, true, false, cond, List, [], ◌∷◌, Option, Some, None, refl, sym, ap, ⊤}
+use Words.{option_map}
+use Words.{Ask, Asked, Binding, End, Head, Kind, Label, Message, Mode, ObjectState, Uid}
+use Words.{asks, object, Reply, actor, answers, answered, end_line, gaveup_lines, give_up, give_up_doing, gives_up}
+use Words.{heard, heard_by, heard_call, heard_doing, heard_none, heard_now, kept_at, moved_commit, next_node, root_lost, root_moved}
+use Words.{step_call}
+use Words.{waits_for_call, waits_for_commit, Answered, At, AtActivate, AtBind, AtInvoke, AtLoad, AtNote, CallEnd, CallStep, Changed}
+use Words.{Conflict}
+use Words.{Ended, Goal, Include, Included, Known, Lost, Moved, On, Run, Steps, given_up, Calling, Committing, Coord, Doing, Idle, Now}
+use Words.{doing_of}
+use Words.{is_free, on_root, Disk, Effect, Intent, Say, Served, say_for, says, root_of, nodes_given_up, acked, acked_by, acked_left}
+use Words.{Input, acts, branch_named, on_branch, call, include, commit_action, abort_action, Branch, at_uid, has, without_number, held_at}
+use Words.{holder_of}
+use Words.{is_prepared, prepare_answer, Already, InDoubt, Old, Prep, Ready, Naming, Handled, Parts, Took, Void, by_reply, confirm, handle}
+use Words.{handle_answer, handle_ask, handle_ends, handle_other, if_naming, last_end, load_by, load_held, prepare_by, sends_answer, serve}
+use Words.{with_coord, with_naming, with_server}
+use Words.ask
+use Words.body
+use Words.bound
+use Words.calls
+use Words.commit
+use Words.input
+use Words.invoked
+use Words.loaded
+use Words.message
+use Words.mode
+use Words.naming
+use Words.prepared
+use Words.recorded
+use Words.server
+use Words.{activated_by, bound_by, finds, load_from, made_by, made_known, moves, named_again, or_lost, other_binding, same_binding}
+use Words.{two_incs}
+use Words.{with_inc, write_known, binding_eq, binding_less}
+use Rattle.arj_law_lock_view.proofs.asking.Turning.{dumb_both}
+use Rattle.arj_law_lock_view.specs.asking.Turns.{AreDumb, AreLined, Ends, Rests, Turns, calling}
+use Rattle.arj_law_cause.proofs.rows.Dumb.{abort_dumb, commit_dumb, gaveup_dumb, moved_dumb}
+
+-- ---- a step and an answer to it
+
+-- a conflict is what naming answered to a Bind, a store to a Load, or a server to an Invoke
+pub data IsConflict (at : At) (r : Reply) (u : Uid) (m : Mode) (n : ℕ) : Type 0 where
+  ByNaming : (avoid : Binding) → at ≡ AtBind avoid → r ≡ Reply.Bound (bound.Conflict u m) → n ≡ 1 → IsConflict at r u m n
+  ByStore : (k : Known) (s : ℕ) (rest : List ℕ) → at ≡ AtLoad k s rest → r ≡ Reply.Loaded (loaded.InDoubt u) → m ≡ mode.Write → n ≡ s →
+      IsConflict at r u m n
+  ByServer : (k : Known) (i : ℕ) → at ≡ AtInvoke k i → r ≡ Reply.Invoked (invoked.Conflict u m) → n ≡ k.server → IsConflict at r u m n
+
+-- the answer ends the step so
+abbrev pub EndsBy : At → Reply → CallEnd → Type 0
+EndsBy at r (Answered a) = (k : Known) × (i : ℕ) × (at ≡ AtInvoke k i) × (r ≡ Reply.Invoked (invoked.Answered a))
+EndsBy at r (Conflict u m n) = IsConflict at r u m n
+EndsBy at r e = ⊤
+
+-- where it ends it
+abbrev StepEnds : At → Reply → CallStep → Type 0
+StepEnds at r (On next) = ⊤
+StepEnds at r (Ended e) = EndsBy at r e
+
+-- the call goes on, or has changed
+abbrev IsPlain : CallStep → Type 0
+IsPlain (On next) = ⊤
+IsPlain (Ended (Changed n w)) = ⊤
+IsPlain (Ended e) = ⊥
+
+plain_ends : (at : At) (r : Reply) (s : CallStep) → IsPlain s → StepEnds at r s
+plain_ends at r (On next) plain = tt
+plain_ends at r (Ended (Changed n w)) plain = tt
+plain_ends at r (Ended (Answered a)) plain = absurd plain
+plain_ends at r (Ended (Included st)) plain = absurd plain
+plain_ends at r (Ended (Conflict u m n)) plain = absurd plain
+plain_ends at r (Ended (Lost n b)) plain = absurd plain
+
+inc_plain : (i : ℕ) (kept : Known) (at : At) (o : Option ℕ) → IsPlain (with_inc i kept at o).step
+inc_plain i kept at None = tt
+inc_plain i kept at (Some first) = by (first == i)
+  where
+    by : (b : Bool) →
+        IsPlain (cond {A = Moved} b (moves (Some kept) at) (finds (Some kept) (Changed kept.server (two_incs first i)))).step
+    by true = tt
+    by false = tt
+
+bound_plain : (free : Bool) (k : Known) (at : At) (o : Option Known) → IsPlain (bound_by free k at o).step
+bound_plain free k at None = tt
+bound_plain free k at (Some old) = by (binding_eq old.binding k.binding)
+  where
+    same : (o : Option ℕ) → IsPlain (same_binding old k at o).step
+    same None = tt
+    same (Some i) = inc_plain i (named_again old k) at old.inc
+
+    other : (b : Bool) → IsPlain (cond {A = Moved} b (moves (Some k) at)
+        (finds (Some old) (Changed 1 (calls.two_bindings old.binding k.binding)))).step
+    other true = tt
+    other false = tt
+
+    by : (b : Bool) → IsPlain (cond {A = Moved} b (same_binding old k at k.inc) (other_binding free old k at)).step
+    by true = same k.inc
+    by false = other (free && binding_less old.binding k.binding)
+
+activated_plain : (k : Known) (i : ℕ) (o : Option Known) → IsPlain (activated_by k i o).step
+activated_plain k i None = tt
+activated_plain k i (Some old) = by (binding_eq old.binding k.binding)
+  where
+    by : (b : Bool) → IsPlain (cond {A = Moved} b (with_inc i old (AtNote k i) old.inc) (moves (Some old) (AtNote k i))).step
+    by true = inc_plain i old (AtNote k i) old.inc
+    by false = tt
+
+ends_by : (free : Bool) (kept : Option Known) (g : Goal) (at : At) (r : Reply) → StepEnds at r (answered free kept g at r).step
+ends_by free kept g (AtBind avoid) (Reply.Bound (bound.Live b server i given stores)) =
+    plain_ends (AtBind avoid) (Reply.Bound (bound.Live b server i given stores))
+    (answered free kept g (AtBind avoid) (Reply.Bound (bound.Live b server i given stores))).step
+    (bound_plain free (calls.live_known b server i given stores) (AtInvoke (calls.live_known b server i given stores) i) kept)
+ends_by free kept g (AtBind avoid) (Reply.Bound (bound.Make b server given stores)) =
+    by (load_from (made_known b server given stores) stores)
+  where
+    by : (o : Option At) → StepEnds (AtBind avoid) (Reply.Bound (bound.Make b server given stores))
+        (made_by free (made_known b server given stores) kept o).step
+    by None = tt
+    by (Some at) = plain_ends (AtBind avoid) (Reply.Bound (bound.Make b server given stores))
+        (bound_by free (made_known b server given stores) at kept).step (bound_plain free (made_known b server given stores) at kept)
+ends_by free kept g (AtBind avoid) (Reply.Bound (bound.Write given stores)) = by (load_from (write_known given stores) stores)
+  where
+    by : (o : Option At) → StepEnds (AtBind avoid) (Reply.Bound (bound.Write given stores)) (or_lost kept o).step
+    by None = tt
+    by (Some at) = tt
+ends_by free kept g (AtBind avoid) (Reply.Bound (bound.Conflict u m)) = ByNaming avoid refl refl refl
+ends_by free kept g (AtLoad k s rest) (Reply.Loaded (loaded.State st)) = by g
+  where
+    by : (g : Goal) → StepEnds (AtLoad k s rest) (Reply.Loaded (loaded.State st)) (calls.loaded_state kept k st g).step
+    by (Run o) = tt
+    by (Include n) = tt
+ends_by free kept g (AtLoad k s rest) (Reply.Loaded (loaded.InDoubt u)) = ByStore k s rest refl refl refl refl
+ends_by free kept g (AtActivate k st) (Reply.Activated i) =
+    plain_ends (AtActivate k st) (Reply.Activated i) (activated_by k i kept).step (activated_plain k i kept)
+ends_by free kept g (AtNote k i) (Reply.Noted recorded.Yes) = tt
+ends_by free kept g (AtNote k i) (Reply.Noted (recorded.Changed w)) = tt
+ends_by free kept g (AtInvoke k i) (Reply.Invoked (invoked.Answered a)) = (k, i, refl, refl)
+ends_by free kept g (AtInvoke k i) (Reply.Invoked (invoked.Conflict u m)) = ByServer k i refl refl refl
+ends_by free kept g (AtInvoke k i) (Reply.Invoked (invoked.Changed w)) = tt
+ends_by free kept g at r = tt
+
+-- ---- what a coordinator says
+
+-- No call or include is answered; or one is, by the last effect, behind lines, for a reason.
+pub data Says (Why : Uid → Doing → Steps → CallEnd → List Effect → Type 0) (c : Coord) (outs : List Effect) : Type 0 where
+  Nothing : AreDumb outs → Says Why c outs
+  Ending : (u : Uid) (d : Doing) (s : Steps) (g : CallEnd) (front : List Effect) → doing_of u c ≡ Some d → d.now ≡ Calling s →
+      AreLined front →
+      outs ≡ front ++ Say (end_line s.x s.goal g d.label) ∷ [] → Why u d s g front → Says Why c outs
+
+-- an answer was taken for which it waits
+pub record Takes (from : ℕ) (a : Asked) (r : Reply) (u : Uid) (s : Steps) (g : CallEnd) (front : List Effect) : Type 0 where
+  pub alone : front ≡ []
+  pub act : a.act ≡ u
+  pub waits : waits_for_call from a r s ≡ true
+  pub ends : EndsBy s.at r g
+
+-- it took an answer
+abbrev pub Heard : ℕ → Message → Uid → Doing → Steps → CallEnd → List Effect → Type 0
+Heard from m u w s g front = (a : Asked) × (r : Reply) × (answers m ≡ Some (a, r)) × Takes from a r u s g front
+
+-- it was given up, as the line before says
+pub record GivesUp (v u : Uid) (d : Doing) (s : Steps) (g : CallEnd) (front : List Effect) : Type 0 where
+  pub act : u ≡ v
+  pub line : front ≡ Say (body.GaveUp d.label (next_node s)) ∷ []
+  pub ends : given_up s.at ≡ Ended g
+
+-- the input gives it up
+abbrev pub GaveUp : Coord → Input → Uid → Doing → Steps → CallEnd → List Effect → Type 0
+GaveUp c i u d s g front = (l : Label) × (b : Branch) × (i ≡ input.GiveUp l) × (branch_named l c ≡ Some b) × GivesUp
+    (actor b.path) u d s g front
+
+module _ (c : Coord) (busy : (u : Uid) (d : Doing) (s : Steps) → doing_of u c ≡ Some d → d.now ≡ Calling s → actor s.path ≡ u) where
+  -- the line of an action that is there
+  its_line : (u : Uid) (d : Doing) (s : Steps) (g : CallEnd) (e : Coord) → doing_of u c ≡ Some d → d.now ≡ Calling s →
+      doing_of u e ≡ Some d →
+      says (actor s.path) (end_line s.x s.goal g) e ≡ Say (end_line s.x s.goal g d.label) ∷ []
+  its_line u d s g e found is there =
+      ap (say_for (end_line s.x s.goal g)) (ap (λ v. doing_of v e) (busy u d s found is) ∙ there)
+
+  pub heard_says : (from : ℕ) (a : Asked) (r : Reply) (intents : List (Uid × Intent)) →
+      Says (λ u d s g front. Takes from a r u s g front) c (heard from a r intents c).outs
+  heard_says from a r intents = by (doing_of a.act c) refl
+    where
+      Out : List Effect → Type 0
+      Out outs = Says (λ u d s g front. Takes from a r u s g front) c outs
+
+      now : (d : Doing) → doing_of a.act c ≡ Some d → (n : Now) → d.now ≡ n → Out (heard_now from a r intents c n).outs
+      now d found Idle is = Nothing tt
+      now d found (Calling s) is = one (waits_for_call from a r s) refl
+        where
+          stepped : waits_for_call from a r s ≡ true → (n : CallStep) → StepEnds s.at r n →
+              Out (step_call s n (on_root (root_of s.path)
+              (root_moved s r (answered (is_free (root_of s.path) (actor s.path) s.x c) (kept_at s c) s.goal s.at r)) c)).outs
+          stepped waits (On next) ends = Nothing (tt, tt)
+          stepped waits (Ended g) ends = Ending a.act d s g [] found is tt (its_line a.act d s g
+              (on_root (root_of s.path) (root_moved s r (answered (is_free (root_of s.path) (actor s.path) s.x c)
+              (kept_at s c) s.goal s.at r)) c)
+              found is found)
+              (record { alone = refl; act = refl; waits = waits; ends = ends })
+
+          one : (w : Bool) → waits_for_call from a r s ≡ w →
+              Out (cond {A = Served Coord (Unit {0})} w (heard_by (heard_call s r c)) (heard_none c)).outs
+          one true waits = stepped waits (answered (is_free (root_of s.path) (actor s.path) s.x c) (kept_at s c) s.goal s.at r).step
+              (ends_by (is_free (root_of s.path) (actor s.path) s.x c) (kept_at s c) s.goal s.at r)
+          one false waits = Nothing tt
+      now d found (Committing m) is = one (waits_for_commit from a r m)
+        where
+          one : (w : Bool) → Out (cond {A = Served Coord (Unit {0})} w (heard_by (moved_commit a.act (commit.answered from m r) intents c))
+              (heard_none c)).outs
+          one true = Nothing (moved_dumb a.act (commit.answered from m r) intents c)
+          one false = Nothing tt
+
+      by : (o : Option Doing) → doing_of a.act c ≡ o → Out (heard_doing from a r intents c o).outs
+      by None is = Nothing tt
+      by (Some d) is = now d is d.now refl
+
+  give_says : (u : Uid) (intents : List (Uid × Intent)) → Says (λ v d s g front. GivesUp u v d s g front) c (give_up u intents c).outs
+  give_says u intents = by (doing_of u c) refl
+    where
+      Out : List Effect → Type 0
+      Out outs = Says (λ v d s g front. GivesUp u v d s g front) c outs
+
+      now : (d : Doing) → doing_of u c ≡ Some d → (n : Now) → d.now ≡ n → Out (gives_up u intents c n).outs
+      now d found Idle is = Nothing tt
+      now d found (Calling s) is = stepped (given_up s.at) refl
+        where
+          lines : gaveup_lines u (next_node s ∷ []) c ≡ Say (body.GaveUp d.label (next_node s)) ∷ []
+          lines = ap (λ o. say_for (λ l. body.GaveUp l (next_node s)) o ++ []) found
+
+          stepped : (n : CallStep) → given_up s.at ≡ n → Out (gaveup_lines u (next_node s ∷ []) c
+              ++ (step_call s n (on_root (root_of s.path) (root_lost s (given_up s.at)) c)).outs)
+          stepped (On next) ends = Nothing (dumb_both (gaveup_lines u (next_node s ∷ []) c)
+              (step_call s (On next) (on_root (root_of s.path) (root_lost s (given_up s.at)) c)).outs
+              (gaveup_dumb u (next_node s ∷ []) c) (tt, tt))
+          stepped (Ended g) ends = Ending u d s g (Say (body.GaveUp d.label (next_node s)) ∷ []) found is (refl, tt)
+              (λ i. lines i ++ its_line u d s g (on_root (root_of s.path) (root_lost s (given_up s.at)) c) found is found i)
+              (record { act = refl; line = refl; ends = ends })
+      now d found (Committing m) is = Nothing (dumb_both (gaveup_lines u (nodes_given_up m) c)
+          (moved_commit u (commit.given_up m) intents c).outs (gaveup_dumb u (nodes_given_up m) c)
+          (moved_dumb u (commit.given_up m) intents c))
+
+      by : (o : Option Doing) → doing_of u c ≡ o → Out (give_up_doing u intents c o).outs
+      by None is = Nothing tt
+      by (Some d) is = now d is d.now refl
+
+  -- what it does of an event: only a giveup answers anything
+  pub acts_say : (i : Input) (intents : List (Uid × Intent)) → ((l : Label) (q : Kind) (p : Option Label) → i ≡ input.Begin l q p → ⊥) →
+      Says (GaveUp c i) c (acts i intents c).outs
+  acts_say (input.Begin l q p) intents other = absurd (other l q p refl)
+  acts_say (input.Call l x o) intents other = by (branch_named l c)
+    where
+      by : (f : Option Branch) → Says (GaveUp c (input.Call l x o)) c (on_branch (λ b. call b.path x o c) c f).outs
+      by None = Nothing tt
+      by (Some b) = Nothing (tt, tt)
+  acts_say (input.Include l x s) intents other = by (branch_named l c)
+    where
+      by : (f : Option Branch) → Says (GaveUp c (input.Include l x s)) c (on_branch (λ b. include b.path x s c) c f).outs
+      by None = Nothing tt
+      by (Some b) = Nothing (tt, tt)
+  acts_say (input.Commit l) intents other = by (branch_named l c)
+    where
+      by : (f : Option Branch) → Says (GaveUp c (input.Commit l)) c (on_branch (λ b. commit_action b intents c) c f).outs
+      by None = Nothing tt
+      by (Some b) = Nothing (commit_dumb b intents c)
+  acts_say (input.Abort l) intents other = by (branch_named l c)
+    where
+      by : (f : Option Branch) → Says (GaveUp c (input.Abort l)) c (on_branch (λ b. abort_action (actor b.path) intents c) c f).outs
+      by None = Nothing tt
+      by (Some b) = Nothing (abort_dumb (actor b.path) intents c)
+  acts_say (input.GiveUp l) intents other = by (branch_named l c) refl
+    where
+      given : (b : Branch) → branch_named l c ≡ Some b → (outs : List Effect) →
+          Says (λ v d s g front. GivesUp (actor b.path) v d s g front) c outs → Says (GaveUp c (input.GiveUp l)) c outs
+      given b named outs (Nothing dumb) = Nothing dumb
+      given b named outs (Ending u d s g front found is lined are why) =
+          Ending u d s g front found is lined are (l, b, refl, named, why)
+
+      by : (f : Option Branch) → branch_named l c ≡ f →
+          Says (GaveUp c (input.GiveUp l)) c (on_branch (λ b. give_up (actor b.path) intents c) c f).outs
+      by None named = Nothing tt
+      by (Some b) named = given b named (give_up (actor b.path) intents c).outs (give_says (actor b.path) intents)
+  acts_say i intents other = Nothing tt
+
+-- ---- messages
+
+-- who stays as it was answers nothing
+rests : (c e : Coord) (outs : List Effect) → ((u : Uid) → doing_of u e ≡ doing_of u c) → Turns c outs e → AreDumb outs
+rests c e outs same (Rests dumb came) = dumb
+rests c e outs same (Ends u d s g front found is lined are after) =
+    ⊎_elim {C = AreDumb outs} (λ q. absurd (busy q.2)) (λ q. absurd (q.0 refl)) (after u d (same u ∙ found))
+  where
+    busy : calling d.now ≡ None → ⊥
+    busy none = let no_way : ◌≡◌ {A = Option Steps} (Some s) None = sym (ap calling is) ∙ none in cc no_way
+
+module _ (k : ℕ) (d : Disk) (t : Parts) (from : ℕ) where
+  -- what its actions are at stays as it was
+  abbrev KeepsWorks : Handled → Type 0
+  KeepsWorks (Void outs) = ⊤
+  KeepsWorks (Took v outs) = (u : Uid) → doing_of u v.coord ≡ doing_of u t.coord
+
+  sent_works : (h : Head) (v : Parts) (outs : List Effect) (o : Option Reply) → v.coord ≡ t.coord →
+      KeepsWorks (sends_answer from h v outs o)
+  sent_works h v outs None same = tt
+  sent_works h v outs (Some r) same = λ u. ap (doing_of u) same
+
+  with_it : (f : Naming → Handled) (o : Option Naming) → ((n : Naming) → KeepsWorks (f n)) → KeepsWorks (if_naming f o)
+  with_it f None each = tt
+  with_it f (Some n) each = each n
+
+  asked_works : (h : Head) (a : Ask) → KeepsWorks (serve k d t from h a)
+  asked_works h (ask.Bind x include avoid) = with_it _ t.naming (λ n. let r = naming.bind h.path x include avoid d.names n in
+      sent_works h (with_naming t r.part) r.outs (option_map Reply.Bound r.reply) refl)
+  asked_works h (ask.Load x) = load (holder_of (object x) d.store)
+    where
+      held : (s : Option ObjectState) → KeepsWorks (load_held from h t s)
+      held None = tt
+      held (Some s) = λ u. refl
+
+      load : (o : Option Uid) → KeepsWorks (load_by x d.store from h t o)
+      load (Some u) = λ w. refl
+      load None = held (held_at (object x) d.store)
+  asked_works h (ask.Activate b st) = let r = server.activate k h.path b st t.server in
+      sent_works h (with_server t r.part) r.outs (option_map Reply.Activated r.reply) refl
+  asked_works h (ask.Record x b i g) = with_it _ t.naming (λ n. let r = naming.note h.path x b i g n in
+      sent_works h (with_naming t r.part) r.outs (option_map Reply.Noted r.reply) refl)
+  asked_works h (ask.Invoke x b i ends o) = let r = server.invoke k h x b i ends o t.server in
+      sent_works h (with_server t r.part) r.outs (option_map Reply.Invoked r.reply) refl
+  asked_works h (ask.Vote i ties ends) = let r = server.vote k h.path i ties ends t.server in
+      sent_works h (with_server t r.part) r.outs (option_map Reply.Voted r.reply) refl
+  asked_works h (ask.Prepare states) = each (is_prepared (actor h.path) d.store)
+    where
+      new : (a : Prep) → KeepsWorks (prepare_by k states from h t a)
+      new Ready = λ u. refl
+      new (Already u) = tt
+      new (Old u v) = λ w. refl
+      new (InDoubt u holder) = λ w. refl
+
+      each : (b : Bool) → KeepsWorks (cond b (sends_answer from h t [] (Some (Reply.Prepared prepared.Yes)))
+          (prepare_by k states from h t (prepare_answer (actor h.path) states d.store)))
+      each true = λ u. refl
+      each false = new (prepare_answer (actor h.path) states d.store)
+  asked_works h (ask.Confirm grants excluded included) = with_it _ t.naming
+      (λ n. let r = confirm h.path grants excluded included d.names n in
+      sent_works h (with_naming t r.part) r.outs (option_map Reply.Confirmed r.reply) refl)
+
+  acked_works : (u w : Uid) (intents : List (Uid × Intent)) (c : Coord) → doing_of w (acked from u intents c).part ≡ doing_of w c
+  acked_works u w intents c = by (at_uid u c.telling)
+    where
+      left : (i : Intent) (ns : List ℕ) → doing_of w (acked_left u i intents c ns).part ≡ doing_of w c
+      left i [] = refl
+      left i (n ∷ ns) = refl
+
+      by : (o : Option Intent) → doing_of w (acked_by from u intents c o).part ≡ doing_of w c
+      by None = refl
+      by (Some i) = one (has i.nodes from)
+        where
+          one : (b : Bool) → doing_of w (cond {A = Served Coord (Unit {0})} b (acked_left u i intents c (without_number from i.nodes))
+              (record { part = c; outs = []; reply = None })).part ≡ doing_of w c
+          one true = left i (without_number from i.nodes)
+          one false = refl
+
+  ends_works : (ack : Bool) (ends : List (Uid × End)) (o : Option (Uid × End)) → KeepsWorks (handle_ends k d t from ack ends o)
+  ends_works ack ends None = λ u. refl
+  ends_works ack ends (Some e) = λ u. refl
+
+  other_works : (m : Message) → KeepsWorks (handle_other k d t from m)
+  other_works (message.Told m) = ends_works m.ack m.ends (last_end m.ends)
+  other_works (message.Acked m) = by (let r = acked from m.act d.intents t.coord in r.reply)
+    where
+      by : (o : Option (Unit {0})) →
+          KeepsWorks (by_reply (with_coord t (acked from m.act d.intents t.coord).part) (acked from m.act d.intents t.coord).outs o)
+      by None = tt
+      by (Some u) = λ w. acked_works m.act w d.intents t.coord
+  other_works (message.Query m) = λ u. refl
+  other_works (message.Hello m) = λ u. refl
+  other_works m = tt
+
+  -- the coordinator answers a call where it takes the answer for which that waits
+  abbrev pub Said : Message → Handled → Type 0
+  Said m (Void outs) = ⊤
+  Said m (Took v outs) = Says (Heard from m) t.coord outs
+
+  -- its calls go on
+  abbrev pub TurnsTo : Handled → Type 0
+  TurnsTo (Void outs) = ⊤
+  TurnsTo (Took v outs) = Turns t.coord outs v.coord
+
+  kept_says : (m : Message) (h : Handled) → KeepsWorks h → TurnsTo h → Said m h
+  kept_says m (Void outs) works turns = tt
+  kept_says m (Took v outs) works turns = Nothing (rests t.coord v.coord outs works turns)
+
+  pub message_says : (m : Message) → ((u : Uid) (d : Doing) (s : Steps) → doing_of u t.coord ≡ Some d → d.now ≡ Calling s →
+      actor s.path ≡ u) →
+      TurnsTo (handle k d t from m) → Said m (handle k d t from m)
+  message_says m busy turns = by (asks m) refl turns
+    where
+      took : (a : Asked) (r : Reply) → answers m ≡ Some (a, r) → (outs : List Effect) →
+          Says (λ u w s g front. Takes from a r u s g front) t.coord outs → Says (Heard from m) t.coord outs
+      took a r is outs (Nothing dumb) = Nothing dumb
+      took a r is outs (Ending u w s g front found calls lined are why) = Ending u w s g front found calls lined are (a, r, is, why)
+
+      answer : (o : Option (Asked × Reply)) → answers m ≡ o → TurnsTo (handle_answer k d t from m o) → Said m (handle_answer k d t from m o)
+      answer None none turns = kept_says m (handle_other k d t from m) (other_works m) turns
+      answer (Some a) some turns = replied (let q = heard from a.0 a.1 d.intents t.coord in q.reply)
+        where
+          replied : (o : Option (Unit {0})) → Said m (by_reply (with_coord t (heard from a.0 a.1 d.intents t.coord).part)
+              (heard from a.0 a.1 d.intents t.coord).outs o)
+          replied None = tt
+          replied (Some u) = took a.0 a.1 some (heard from a.0 a.1 d.intents t.coord).outs (heard_says t.coord busy from a.0 a.1 d.intents)
+
+      by : (o : Option (Head × Ask)) → asks m ≡ o → TurnsTo (handle_ask k d t from m o) → Said m (handle_ask k d t from m o)
+      by None none turns = answer (answers m) refl turns
+      by (Some a) some turns = kept_says m (serve k d t from a.0 a.1) (asked_works a.0 a.1) turns

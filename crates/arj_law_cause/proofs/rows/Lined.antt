@@ -1,0 +1,368 @@
+-- Inside of an event each line that answers a call has its cause behind those before it.
+use Rattle.arj_law_parts.proofs.Words
+use Words.{◌≡◌, ◌∙◌, ◌==◌, ◌+◌, ◌++◌, ◌&&◌, ℕ, Bool, true, false, if◌then◌else◌, List, [], ◌∷◌, length, map, Option, Some, None, refl}
+use Words.{sym, ap}
+use Words.{filter, ◌⊎◌, In, inl, inr, subst, ⊤, AllByRecursion, list_all, and_parts, append-nil, append_assoc, map-append, Start, Asked}
+use Words.{Body, Header, Kind}
+use Words.{Label, Line, Message, Uid, Reply, answers, again_all, begin_action, end_line, Answered, CallEnd, Changed, Conflict}
+use Words.{Ended, Goal, Include, Included, Lost, Run, Steps, At, AtActivate, AtBind, AtInvoke, AtLoad, AtNote, given_up, Calling, Coord}
+use Words.{Doing}
+use Words.{doing_of, Disk, Do, Effect, Say, Send, stopped, worked, Handled, Parts, Took, Void, handle, holders, query_about, with_coord}
+use Words.{Input}
+use Words.{Intent, kept_of, root_at, root_of, waits_for_call, acts as does, parent_of, parts_in, restart_outs, tick_outs, tolds_again}
+use Words.{numbered, is_serial, Post, frame_kind, actor}
+use Rattle.arj_protocol.specs.Asking.{answer_line}
+use Words.body
+use Words.frame
+use Words.input
+use Rattle.arj_law_parts.proofs.parts.SaidIncs.{all_map}
+use Rattle.arj_law_lock_view.proofs.asking.{Handling.Goes, Handling.handle_goes, Keeping.its, Keeping.tree, Turning.again_dumb}
+use Rattle.arj_law_lock_view.proofs.asking.{Turning.dumb_both}
+use Rattle.arj_law_lock_view.specs.asking.{Asked.accepted_of, Turns.AreDumb, Turns.IsDumb, Turns.is_reply}
+use Rattle.arj_law_serial.proofs.Terms.{is_act, paths_of}
+use Rattle.arj_law_parts.proofs.moves.{Flat.post, Together.with_both}
+use Rattle.arj_law_parts.specs.moves.Moments.{Asking, History, Moment, asking_of, asks_now, at, fits, framed_if, given, halted, posted}
+use Rattle.arj_law_parts.specs.moves.Moments.{said}
+use Rattle.arj_law_parts.specs.moves.Moments.{sent, up, with_asking}
+use Rattle.arj_law_parts.specs.moves.With.{ArePlain, IsFirst, KeepsSteps, UpWith, WalksWith, is_plain_line}
+use Rattle.arj_law_parts.specs.moves.Seen as seen
+use Rattle.arj_law_runs.proofs.follow.Walking.{behind_all}
+use Rattle.arj_law_runs.specs.follow.Frames.{are_so}
+use Rattle.arj_model.specs.CauseSpans.{Here, behind}
+use Rattle.arj_model.specs.Past.{Asked as AskedOf}
+use Rattle.arj_law_cause.proofs.rows.Asks.{AreSameAsks, asks_same, asks_some}
+use Rattle.arj_law_cause.proofs.rows.Dumb.{again_tolds, restart_dumb}
+use Rattle.arj_law_cause.proofs.rows.Ending.{Ending, EndsBy, GaveUp, Heard, Nothing, Said, Says, TurnsTo, acts_say, message_says}
+use Rattle.arj_law_cause.proofs.rows.Rows.{conflict_so, ok_so}
+use Rattle.arj_law_cause.proofs.rows.Taking.{AskedPaths, IsPathAt, Works, caller, stands_on, taken}
+use Rattle.arj_law_cause.specs.rows.Lines.{answer_fits}
+
+-- ---- lines
+
+-- a line that answers nothing fits
+fits_any : (h : Here) (b : Body) → is_reply b ≡ false → answer_fits h b ≡ true
+fits_any h (body.Ok l x o a) is = absurd (cc is)
+fits_any h (body.Conflict l u m n) is = absurd (cc is)
+fits_any h b is = refl
+
+plain_line : (b : Body) → is_plain_line b ≡ true → is_reply b ≡ false
+plain_line (body.Ok l x o a) is = absurd (cc is)
+plain_line (body.Includes l x n) is = absurd (cc is)
+plain_line (body.Conflict l u m n) is = absurd (cc is)
+plain_line (body.Lost l n) is = absurd (cc is)
+plain_line (body.Changed l n d) is = absurd (cc is)
+plain_line b is = refl
+
+-- it fits wherever it stands
+abbrev pub FitsAnywhere : Body → Type 0
+FitsAnywhere b = (h : Here) → answer_fits h b ≡ true
+
+abbrev AreFree : List Body → Type 0
+AreFree bs = AllByRecursion FitsAnywhere bs
+
+plain_free : (bs : List Body) → ArePlain bs → AreFree bs
+plain_free [] plain = tt
+plain_free (b ∷ bs) plain = let q = and_parts (is_plain_line b) (list_all is_plain_line bs) plain in
+    ((λ h. fits_any h b (plain_line b q.0)), plain_free bs q.1)
+
+free_so : (h : Here) (bs : List Body) → AreFree bs → are_so answer_fits h bs ≡ true
+free_so h [] all = refl
+free_so h (b ∷ bs) all = λ i. all.0 h i && free_so (behind h b) bs all.1 i
+
+so_both : (h : Here) (cs bs : List Body) → are_so answer_fits h cs ≡ true → are_so answer_fits (behind_all h cs) bs ≡ true →
+    are_so answer_fits h (cs ++ bs) ≡ true
+so_both h [] bs first more = more
+so_both h (c ∷ cs) bs first more =
+    let p = and_parts (answer_fits h c) (are_so answer_fits (behind h c) cs) first in λ i. p.0 i && so_both (behind h c) cs bs p.1 more i
+
+-- behind lines only they are more
+pub behind_is : (h : Here) (bs : List Body) → behind_all h bs ≡ record h { lines = h.lines ++ numbered h.number bs }
+behind_is h [] = λ i. record h { lines = sym (append-nil h.lines) i }
+behind_is h (b ∷ bs) = behind_is (behind h b) bs
+    ∙ (λ i. record h { lines = append_assoc h.lines (record { event = h.number; body = b } ∷ []) (numbered h.number bs) i })
+
+-- what was asked has its path by some first lines, whatever comes
+pub path_more : (ls ms : List Line) (q : Asking) → IsPathAt ls q → IsPathAt (ls ++ ms) q
+path_more ls ms q h = record {
+  first = h.first;
+  more = h.more ++ ms;
+  are = (λ i. h.are i ++ ms) ∙ append_assoc h.first h.more ms;
+  path = h.path;
+}
+
+-- ---- effects
+
+-- an effect's line fits wherever it stands
+abbrev IsFree : Effect → Type 0
+IsFree (Say b) = FitsAnywhere b
+IsFree e = ⊤
+
+abbrev AreFreeBy : List Effect → Type 0
+AreFreeBy outs = AllByRecursion IsFree outs
+
+dumb_free : (outs : List Effect) → AreDumb outs → AreFreeBy outs
+dumb_free [] dumb = tt
+dumb_free (Say b ∷ es) dumb = ((λ h. fits_any h b dumb.0), dumb_free es dumb.1)
+dumb_free (Send to m ∷ es) dumb = (tt, dumb_free es dumb.1)
+dumb_free (Do w ∷ es) dumb = (tt, dumb_free es dumb.1)
+
+-- what is given up is lost
+lost_free : (x : ℕ) (goal : Goal) (g : CallEnd) (l : Label) (at : At) → given_up at ≡ Ended g → FitsAnywhere (end_line x goal g l)
+lost_free x goal (Answered a) l at is = absurd (other at is)
+  where
+    other : (at : At) → given_up at ≡ Ended (Answered a) → ⊥
+    other (AtBind avoid) is = cc is
+    other (AtLoad k s []) is = cc is
+    other (AtLoad k s (t ∷ ts)) is = cc is
+    other (AtActivate k st) is = cc is
+    other (AtNote k i) is = cc is
+    other (AtInvoke k i) is = cc is
+lost_free x goal (Included st) l at is = λ h. refl
+lost_free x goal (Conflict u m n) l at is = absurd (other at is)
+  where
+    other : (at : At) → given_up at ≡ Ended (Conflict u m n) → ⊥
+    other (AtBind avoid) is = cc is
+    other (AtLoad k s []) is = cc is
+    other (AtLoad k s (t ∷ ts)) is = cc is
+    other (AtActivate k st) is = cc is
+    other (AtNote k i) is = cc is
+    other (AtInvoke k i) is = cc is
+lost_free x goal (Changed n w) l at is = λ h. refl
+lost_free x goal (Lost n b) l at is = λ h. refl
+
+-- ---- inside of an event
+
+module _ (hd : Header) (st : Start) (before : List Line) (event : ℕ) where
+  -- where a line comes, with these accepted events
+  abbrev pub here_of : List AskedOf → Moment → List Line → Here
+  here_of accepted M ls = record {
+    header = hd;
+    start = st;
+    accepted = accepted;
+    event = M.past.event;
+    number = event;
+    first = length before;
+    lines = ls;
+  }
+
+  -- behind these lines all are of the event, and each fits, whatever else was accepted
+  pub record Lined (M : Moment) : Type 0 where
+    pub number : M.past.number ≡ event
+    pub first : (let r = M.past.run in r.lines) ≡ before
+    pub wrote : List Body
+    pub lines : M.seen.lines ≡ before ++ numbered event wrote
+    pub paths : AskedPaths M
+    pub fit : (accepted : List AskedOf) → AreSameAsks accepted (accepted_of M.past.askings) →
+        are_so answer_fits (here_of accepted M before) wrote ≡ true
+
+  more : (M : Moment) (ws bs : List Body) → M.past.number ≡ event → M.seen.lines ≡ before ++ numbered event ws →
+      M.seen.lines ++ numbered M.past.number bs ≡ before ++ numbered event (ws ++ bs)
+  more M ws bs number lines = (λ i. lines i ++ numbered (number i) bs) ∙ append_assoc before (numbered event ws) (numbered event bs)
+      ∙ ap (λ ls. before ++ ls) (sym (map-append (λ (b : Body). record { event = event; body = b }) ws bs))
+
+  -- lines come that fit
+  said_so : (bs : List Body) (M : Moment) → ((accepted : List AskedOf) → AreSameAsks accepted (accepted_of M.past.askings) → (h : Here) →
+      h ≡ here_of accepted M M.seen.lines → are_so answer_fits h bs ≡ true) → Lined M → Lined (said bs M)
+  said_so bs M fit h = record {
+    number = h.number;
+    first = h.first;
+    wrote = h.wrote ++ bs;
+    lines = more M h.wrote bs h.number h.lines;
+    paths = λ q i. path_more M.seen.lines (numbered M.past.number bs) q (h.paths q i);
+    fit = λ accepted same. so_both (here_of accepted M before) h.wrote bs (h.fit accepted same)
+        (fit accepted same (behind_all (here_of accepted M before) h.wrote)
+        (behind_is (here_of accepted M before) h.wrote ∙ (λ i. here_of accepted M (sym h.lines i))));
+  }
+
+  pub free_lined : (bs : List Body) (M : Moment) → AllByRecursion FitsAnywhere bs → Lined M → Lined (said bs M)
+  free_lined bs M all h = said_so bs M (λ accepted same g is. free_so g bs all) h
+
+  one_lined : (b : Body) (M : Moment) → ((accepted : List AskedOf) → AreSameAsks accepted (accepted_of M.past.askings) →
+      answer_fits (here_of accepted M M.seen.lines) b ≡ true) → Lined M → Lined (said (b ∷ []) M)
+  one_lined b M fits h = said_so (b ∷ []) M (λ accepted same g is. λ i. (ap (λ z. answer_fits z b) is ∙ fits accepted same) i && true) h
+
+  same_lined : (M N : Moment) → N.past ≡ M.past → N.seen.lines ≡ M.seen.lines → Lined M → Lined N
+  same_lined M N past lines h = record {
+    number = ap (λ p. p.number) past ∙ h.number;
+    first = ap (λ p. let r = p.run in r.lines) past ∙ h.first;
+    wrote = h.wrote;
+    lines = lines ∙ h.lines;
+    paths = λ q there. let p = h.paths q (subst (λ (z : History). In q z.askings) past there) in
+        record { first = p.first; more = p.more; are = lines ∙ p.are; path = p.path };
+    fit = λ accepted same. (λ i. are_so answer_fits (record {
+      header = hd;
+      start = st;
+      accepted = accepted;
+      event = (let p = past i in p.event);
+      number = event;
+      first = length before;
+      lines = before;
+    }) h.wrote) ∙ h.fit accepted (same ∙ ap (λ (p : History). filter asks_some (accepted_of p.askings)) past);
+  }
+
+  framed_lined : (b : Body) (M : Moment) (n : ℕ) → FitsAnywhere b → Lined M →
+      Lined (record (said (b ∷ []) M) { past = record M.past { frames = n } })
+  framed_lined b M n free h = let o = free_lined (b ∷ []) M (free, tt) h in
+      record { number = o.number; first = o.first; wrote = o.wrote; lines = o.lines; paths = o.paths; fit = o.fit }
+
+  halted_lined : (k : ℕ) (d : Disk) (M : Moment) → Lined M → Lined (halted k d M)
+  halted_lined k d M h = let o = free_lined (body.Halted k ∷ []) M ((λ g. refl), tt) h in
+      record { number = o.number; first = o.first; wrote = o.wrote; lines = o.lines; paths = o.paths; fit = o.fit }
+
+  sent_lined : (p : Post) (M : Moment) → Lined M → Lined (sent p M)
+  sent_lined p M h = by (p.to == p.from) (fits M)
+    where
+      by : (self fit : Bool) → Lined (if self then posted p M else framed_if fit p M)
+      by true fit = same_lined M (posted p M) refl refl h
+      by false true = let o = framed_lined (body.Sent (M.past.frames + 1) p.from p.to (frame_kind p.message)) M (M.past.frames + 1)
+          (λ g. refl) h in
+          record { number = o.number; first = o.first; wrote = o.wrote; lines = o.lines; paths = o.paths; fit = o.fit }
+      by false false = h
+
+  free_walk : (k : ℕ) (v : Parts) (outs : List Effect) (d : Disk) (M : Moment) → AllByRecursion IsFree outs → Lined M →
+      WalksWith Lined k outs (UpWith Lined k v) d M
+  free_walk k v [] d M all h = same_lined M (up k d v M) refl refl h
+  free_walk k v (Do w ∷ es) d M all h = ((λ how. halted_lined k (stopped how w d) M h), free_walk k v es (worked w d) M all.1 h)
+  free_walk k v (Say b ∷ es) d M all h = free_walk k v es d (said (b ∷ []) M) all.1 (free_lined (b ∷ []) M (all.0, tt) h)
+  free_walk k v (Send to m ∷ es) d M all h = free_walk k v es d (sent (post k to m) M) all.1 (sent_lined (post k to m) M h)
+
+  -- a call is asked where nothing is written yet
+  asks_lined : (i : Input) (c : Coord) (M : Moment) → IsFirst M → Lined M → Lined (asks_now i c M)
+  asks_lined i c M fresh h = record {
+    number = h.number;
+    first = h.first;
+    wrote = [];
+    lines = sym fresh ∙ h.first ∙ sym (append-nil before);
+    paths = asked i;
+    fit = λ accepted same. refl;
+  }
+    where
+      new : (l : Label) (q : Asking) → (asking_of l c M.past.run M.past.event ≡ q) ⊎ In q M.past.askings → IsPathAt M.seen.lines q
+      new l q (inl is) = subst (IsPathAt M.seen.lines) is (record {
+        first = (let r = M.past.run in r.lines);
+        more = [];
+        are = sym fresh ∙ sym (append-nil (let r = M.past.run in r.lines));
+        path = refl;
+      })
+      new l q (inr i) = h.paths q i
+
+      asked : (i : Input) (q : Asking) → In q (with_asking i c M.past.run M.past.event M.past.askings) → IsPathAt M.seen.lines q
+      asked (input.Call l x o) q there = new l q there
+      asked (input.Include l x n) q there = new l q there
+      asked (input.Commit l) q there = new l q there
+      asked i q there = h.paths q there
+
+  -- ---- steps
+
+  module _ (G : Moment → Type 0) (steps : KeepsSteps hd G) (works : (k : ℕ) (d : Disk) (t : Parts) (M : Moment) → G (up k d t M) →
+      AskedPaths (up k d t M) → Works hd k d t M) where
+    abbrev Both : Moment → Type 0
+    Both M = G M × Lined M
+
+    both : (k : ℕ) (outs : List Effect) (v : Parts) (d : Disk) (M : Moment) → WalksWith G k outs (UpWith G k v) d M →
+        WalksWith Lined k outs (UpWith Lined k v) d M → WalksWith Both k outs (UpWith Both k v) d M
+    both k outs v d M a b = with_both G Lined k outs (UpWith G k v) (UpWith Lined k v) d M a b
+
+    module _ (k : ℕ) (d : Disk) (t : Parts) (M : Moment) (W : Works hd k d t M) (h : Lined M) where
+      busy : (u : Uid) (w : Doing) (s : Steps) → doing_of u t.coord ≡ Some w → w.now ≡ Calling s → actor s.path ≡ u
+      busy u w s found is = let c = caller hd k d t M W u w s found is in c.actor
+
+      -- the line of a call that takes an answer
+      line_fits : (from : ℕ) (m : Message) → seen.In (post from k m) M.seen.sent → (u : Uid) (w : Doing) (s : Steps) (g : CallEnd) →
+          doing_of u t.coord ≡ Some w → w.now ≡ Calling s → (a : Asked) (r : Reply) → answers m ≡ Some (a, r) → a.act ≡ u →
+          waits_for_call from a r s ≡ true → EndsBy s.at r g → (accepted : List AskedOf) →
+          AreSameAsks accepted (accepted_of M.past.askings) →
+          answer_fits (here_of accepted M M.seen.lines) (end_line s.x s.goal g w.label) ≡ true
+      line_fits from m there u w s g found is a r answer act waits ends accepted same = by g ends
+        where
+          by : (g : CallEnd) → EndsBy s.at r g → answer_fits (here_of accepted M M.seen.lines) (end_line s.x s.goal g w.label) ≡ true
+          by (Answered b) ends = on s.goal refl
+            where
+              on : (z : Goal) → s.goal ≡ z → answer_fits (here_of accepted M M.seen.lines) (answer_line s.x z b w.label) ≡ true
+              on (Run o) goal = ok_so hd k M (here_of accepted M M.seen.lines) refl refl
+                  (asks_same accepted (accepted_of M.past.askings) same) u w s (caller hd k d t M W u w s found is) W.firsts
+                  (kept_of s.x (root_at (root_of s.path) t.coord)) (stands_on hd k d t M W u w s found is) from a r
+                  (taken hd k d t M W u w s found is from m there a r answer act waits) ends.0 ends.1 o b ends.2 goal ends.3
+              on (Include n) goal = refl
+          by (Included stored) ends = refl
+          by (Conflict v held n) ends = conflict_so hd k M (here_of accepted M M.seen.lines) refl refl
+              (asks_same accepted (accepted_of M.past.askings) same) u w s (caller hd k d t M W u w s found is)
+              W.firsts (kept_of s.x (root_at (root_of s.path) t.coord)) (stands_on hd k d t M W u w s found is) from a r
+              (taken hd k d t M W u w s found is from m there a r answer act waits) v held n ends
+          by (Changed n x) ends = refl
+          by (Lost n b) ends = refl
+
+      message_lined : (v : Parts) (from : ℕ) (m : Message) (outs : List Effect) → seen.In (post from k m) M.seen.sent →
+          handle k d t from m ≡ Took v outs → WalksWith Lined k outs (UpWith Lined k v) d M
+      message_lined v from m outs there is = by (subst (Said k d t from m) is (message_says k d t from m busy (turns
+          (handle k d t from m) goes)))
+        where
+          goes : Goes k d t from (handle k d t from m)
+          goes =
+              let q = W.paths in
+              let i = its k d t M W.paths W.tied in
+              handle_goes k d t from W.paths.2.0 (paths_of W.paths.2.0) (tree k d t M W.paths W.tied) i.coord
+              (let u = i.its in u.numbered) m
+
+          turns : (x : Handled) → Goes k d t from x → TurnsTo k d t from x
+          turns (Void es) g = tt
+          turns (Took z es) g = g.0
+
+          by : Says (Heard from m) t.coord outs → WalksWith Lined k outs (UpWith Lined k v) d M
+          by (Nothing dumb) = free_walk k v outs d M (dumb_free outs dumb) h
+          by (Ending u w s g front found calls lined are (a, r, answer, takes)) =
+              subst (λ es. WalksWith Lined k es (UpWith Lined k v) d M)
+              (sym (are ∙ ap (λ es. es ++ Say (end_line s.x s.goal g w.label) ∷ []) takes.alone))
+              (same_lined (said (end_line s.x s.goal g w.label ∷ []) M) (up k d v (said (end_line s.x s.goal g w.label ∷ []) M)) refl refl
+              (one_lined (end_line s.x s.goal g w.label) M
+              (line_fits from m there u w s g found calls a r answer takes.act takes.waits takes.ends) h))
+
+      act_lined : (i : Input) (intents : List (Uid × Intent)) → ((l : Label) (q : Kind) (p : Option Label) → i ≡ input.Begin l q p → ⊥) →
+          AreFreeBy (does i intents t.coord).outs
+      act_lined i intents other = by (acts_say t.coord busy i intents other)
+        where
+          by : Says (GaveUp t.coord i) t.coord (does i intents t.coord).outs → AreFreeBy (does i intents t.coord).outs
+          by (Nothing dumb) = dumb_free (does i intents t.coord).outs dumb
+          by (Ending u w s g front found calls lined are (l, b, gives, named, why)) =
+              subst AreFreeBy (sym (are ∙ ap (λ es. es ++ Say (end_line s.x s.goal g w.label) ∷ []) why.line))
+              ((λ z. refl), (lost_free s.x s.goal g w.label s.at why.ends, tt))
+
+    pub lined_step : KeepsSteps hd Both
+    lined_step = record {
+      quiet = λ bs M plain h. (steps.quiet bs M plain h.0, free_lined bs M (plain_free bs plain) h.1);
+      junk = λ n M fit h. (
+        steps.junk n M fit h.0,
+        framed_lined (body.Sent (M.past.frames + 1) 0 n frame.Junk) M (M.past.frames + 1) (λ g. refl) h.1,
+      );
+      stop = λ k d live M h. (steps.stop k d live M h.0, halted_lined k d M (same_lined (at k d live M) M refl refl h.1));
+      message = λ k d t v from m outs M h there meant may is.
+          both k outs v d M (steps.message k d t v from m outs M h.0 there meant may is)
+          (message_lined k d t M (works k d t M h.0 (let q = h.1 in q.paths)) (same_lined
+          (up k d t M) M refl refl h.1) v from m outs there is);
+      act = λ k d t i M is brings fresh asks free h. let did = does i d.intents t.coord in
+          both k did.outs (with_coord t did.part) d (asks_now i t.coord M) (steps.act k d t i M is brings fresh asks free h.0)
+          (free_walk k (with_coord t did.part) did.outs d (asks_now i t.coord M)
+          (act_lined k d t M (works k d t M h.0 (let q = h.1 in q.paths)) (same_lined (up k d t M) M refl refl h.1) i d.intents
+          (no_begin i is))
+          (asks_lined i t.coord M fresh (same_lined (up k d t M) M refl refl h.1)));
+      begin = λ k d t l how parent M brings fresh new gives none h.
+          let did = begin_action l how parent (parent_of parent t.coord) t.coord in
+          both k did.outs (with_coord t did.part) d (given l (record { node = k; serial = is_serial how }) M)
+          (steps.begin k d t l how parent M brings fresh new gives none h.0)
+          (free_walk k (with_coord t did.part) did.outs d (given l (record { node = k; serial = is_serial how }) M) ((λ g. refl), tt)
+          (same_lined (up k d t M) (given l (record { node = k; serial = is_serial how }) M) refl refl h.1));
+      tick = λ k d t M h.
+          let r = again_all t.coord.doings t.coord in
+          let outs = tick_outs (record { number = k; disk = d; live = Some t }) t in
+          both k outs (with_coord t r.part) d M (steps.tick k d t M h.0) (free_walk k (with_coord t r.part) outs d M
+          (dumb_free outs (dumb_both (r.outs ++ tolds_again t.coord.telling) (map query_about (holders d t))
+          (dumb_both r.outs (tolds_again t.coord.telling) (again_dumb t.coord.doings t.coord) (again_tolds t.coord.telling))
+          (all_map IsDumb query_about (holders d t) (λ u. tt)))) (same_lined (up k d t M) M refl refl h.1));
+      restart = λ k d M event first h.
+          both k (restart_outs hd k (d.inc + 1) d) (parts_in k (d.inc + 1) d) d M (steps.restart k d M event first h.0)
+          (free_walk k (parts_in k (d.inc + 1) d) (restart_outs hd k (d.inc + 1) d) d M
+          (dumb_free (restart_outs hd k (d.inc + 1) d) (restart_dumb hd k (d.inc + 1) d)) (same_lined (at k d None M) M refl refl h.1));
+    }
+      where
+        no_begin : (i : Input) → is_act i ≡ true → (l : Label) (q : Kind) (p : Option Label) → i ≡ input.Begin l q p → ⊥
+        no_begin i is l q p same = let no_way : false ≡ true = sym (ap is_act same) ∙ is in cc no_way

@@ -1,0 +1,317 @@
+-- A conflict, and an answer of an operation, has its cause by the journal where the line is written.
+use Rattle.arj_law_parts.proofs.Words
+use Words.{◌≡◌, ◌∙◌, ◌++◌, ◌&&◌, ◌||◌, not, ℕ, Bool, true, false, List, [], ◌∷◌, length, take, Option, Some, None, refl, sym}
+use Words.{◌⊎◌, ◌+◌, bytes_eq-Decides, ap, subst, arith, eq-eqb, and_parts, list_any, Binding, In, End, Ask, Asked, Event, Header, Line}
+use Words.{Mode, Op, Row, Uid, entry, object}
+use Rattle.arj_protocol.specs.Words.{FrameKind}
+use Words.{Answer, Known, Label, leb-true, node_at, ◌≤◌, ◌<◌, is_nested, ask_at, op_mode, first_conflict, in_find, is_against, is_on}
+use Words.{last_uid, name, uid_eq, uid_is, uids_of, top_path, tops_of, actor, Reply, response, frame_kind}
+use Words.{is_include, At, AtBind, AtInvoke, AtLoad, Goal, Include, Run, Steps, Doing, nat_le}
+use Words.ask
+use Words.bound
+use Words.frame
+use Words.invoked
+use Words.loaded
+use Words.mode
+use Rattle.arj_protocol.specs.Words.op
+use Rattle.arj_law_serial.proofs.Terms
+use Terms.{Act, act_in, acts, any_in, has_act, uids, path}
+use Rattle.arj_law_lock_view.specs.asking.Asked.{accepted_of, asks_goal}
+use Rattle.arj_law_parts.specs.moves.Moments.{Moment}
+use Rattle.arj_law_lock_view.specs.moments.Made.{BeginsWith}
+use Rattle.arj_law_parts.specs.parts.Messages.{IsTopAction}
+use Rattle.arj_law_runs.specs.addresses.Binds.{StandsOn}
+use Rattle.arj_law_runs.specs.calls.Coords.{bare, head_of}
+use Rattle.arj_model.specs.CauseAnswers.{conflict_caused, has_lock, is_held, meets, meets_at_naming, meets_at_server, meets_at_store}
+use Rattle.arj_model.specs.CauseAnswers.{mode_of_call}
+use Rattle.arj_model.specs.CauseAnswers.{modes_on_entry, ok_caused}
+use Rattle.arj_model.specs.CauseSpans.{Here, act_by, answered, asks_so, holds_in, is_call_of, nodes_of, same_frame, same_mode, same_op}
+use Rattle.arj_model.specs.CauseSpans.{top_uids}
+use Rattle.arj_model.specs.Past.{Asked as AskedOf, label_of}
+use Rattle.arj_model.specs.Refusals.{answers_to, asks_by, has_ended, last_asked, object_used}
+use Rattle.arj_model.specs.Table.{table}
+use Rattle.arj_law_cause.proofs.rows.{Ending.IsConflict, Ending.ByNaming, Ending.ByServer, Ending.ByStore}
+use Rattle.arj_law_cause.proofs.rows.Holders.{any_later, off_path, one_found, one_passes, upper_from}
+use Rattle.arj_law_cause.proofs.rows.{Paths.top_is, Spans.answered_at, Spans.in_range, Spans.rows_so}
+use Rattle.arj_law_cause.proofs.rows.Taking.{AskedPaths, IsCaller, IsTaken}
+use Rattle.arj_law_cause.specs.rows.{Lines.came_from_store, Says.entry_modes, Says.has_upper, Says.says_of}
+
+-- ---- requests
+
+-- an Invoke but for its ends
+abbrev with_ends : List (Uid × End) → Ask → Ask
+with_ends es (ask.Invoke x b i ends o) = ask.Invoke x b i es o
+with_ends es a = a
+
+invoke_is : (a : Ask) (x : ℕ) (b : Binding) (i : ℕ) (o : Op) → bare a ≡ ask.Invoke x b i [] o →
+    (ends : List (Uid × End)) × (a ≡ ask.Invoke x b i ends o)
+invoke_is (ask.Invoke y c j ends p) x b i o is = (ends, ap (with_ends ends) is)
+invoke_is (ask.Bind y include avoid) x b i o is = absurd (cc is)
+invoke_is (ask.Load y) x b i o is = absurd (cc is)
+invoke_is (ask.Activate c st) x b i o is = absurd (cc is)
+invoke_is (ask.Record y c j g) x b i o is = absurd (cc is)
+invoke_is (ask.Vote j ties ends) x b i o is = absurd (cc is)
+invoke_is (ask.Prepare states) x b i o is = absurd (cc is)
+invoke_is (ask.Confirm grants excluded included) x b i o is = absurd (cc is)
+
+bind_is : (a : Ask) (x : ℕ) (include : Bool) (avoid : Binding) → bare a ≡ ask.Bind x include avoid → a ≡ ask.Bind x include avoid
+bind_is (ask.Invoke y c j ends p) x include avoid is = absurd (cc is)
+bind_is a x include avoid is = is
+
+-- ---- what was asked, in the journal's words
+
+used_is : (e : Event) (l : Label) (x : ℕ) (g : Goal) → e ≡ asks_goal l x g → object_used e ≡ Some x
+used_is e l x (Run o) is = ap object_used is
+used_is e l x (Include n) is = ap object_used is
+
+label_is : (e : Event) (l : Label) (x : ℕ) (g : Goal) → e ≡ asks_goal l x g → label_of e ≡ name l
+label_is e l x (Run o) is = ap label_of is
+label_is e l x (Include n) is = ap label_of is
+
+modes_are : (e : Event) (l : Label) (x : ℕ) (g : Goal) → e ≡ asks_goal l x g → modes_on_entry e ≡ entry_modes (is_include g)
+modes_are e l x (Run o) is = ap modes_on_entry is
+modes_are e l x (Include n) is = ap modes_on_entry is
+
+op_same : (o : Op) → same_op o o ≡ true
+op_same op.Get = refl
+op_same (op.Add n) = eq-eqb n n refl
+op_same (op.Set n) = eq-eqb n n refl
+op_same (op.Put bytes) = (bytes_eq-Decides bytes bytes).1 refl
+op_same (op.Deposit n) = eq-eqb n n refl
+op_same (op.Withdraw n) = eq-eqb n n refl
+op_same op.Len = refl
+op_same (op.Push n) = eq-eqb n n refl
+op_same op.Pop = refl
+op_same (op.GetKey n) = eq-eqb n n refl
+op_same (op.PutPair j n) = λ i. eq-eqb j j refl i && eq-eqb n n refl i
+op_same (op.Remove n) = eq-eqb n n refl
+
+-- who is met isn't on the path that asks
+off_met : (n : ℕ) (us : List Uid) (o : Uid) (asked : Mode) (u : Uid) (held : Mode) (lines : List Line) →
+    meets n us o asked u held lines ≡ true →
+    is_on us u ≡ false
+off_met n us o asked u held lines is = by (first_conflict us o asked (table n lines)) refl is
+  where
+    turn : (b : Bool) → not b ≡ true → b ≡ false
+    turn true no_way = absurd (cc no_way)
+    turn false is = refl
+
+    by : (f : Option Row) → first_conflict us o asked (table n lines) ≡ f → holds_in (is_held u held) f ≡ true → is_on us u ≡ false
+    by None found none = absurd (cc none)
+    by (Some r) found held_so =
+        let p = and_parts (uid_eq (last_uid r.holder) u) (same_mode r.mode held) held_so in
+        let i = in_find (is_against us o asked) r (table n lines) found in
+        let a = and_parts (uid_eq r.object o) _ i.1 in
+        let b = and_parts (not (is_on us (last_uid r.holder))) _ a.1 in
+        ap (is_on us) (sym (uid_is (last_uid r.holder) u p.0)) ∙ turn (is_on us (last_uid r.holder)) b.0
+
+off_any : (ws : List Mode) (us : List Uid) (o : Uid) (u : Uid) (held : Mode) (lines : List Line) →
+    list_any (λ asked. meets 1 us o asked u held lines) ws ≡ true → is_on us u ≡ false
+off_any ws us o u held lines is =
+    let q = one_passes (λ asked. meets 1 us o asked u held lines) ws is in off_met 1 us o q.0 u held lines q.2
+
+-- an action that isn't nested began
+began : (xs : List Act) (u : Uid) → has_upper xs u ≡ true → has_act xs u ≡ true
+began xs u is =
+    let q = one_passes (λ (a : Act). uid_eq a.uid u && not (is_nested a.kind)) xs is in
+    any_in (λ (a : Act). uid_eq a.uid u) q.0 xs q.1 (and_parts (uid_eq (let a = q.0 in a.uid) u) _ q.2).0
+
+-- only a call is run
+only_run : (g : Goal) (kept : Option Known) (at : At) (x : Known) (i : ℕ) → StandsOn g kept at → at ≡ AtInvoke x i → (o : Op) × (g ≡ Run o)
+only_run (Run o) kept at x i stands is = (o, refl)
+only_run (Include n) kept at x i stands is = let never : ⊥ = subst (StandsOn (Include n) kept) is stands in absurd never
+
+-- ---- the rows
+
+module _ (hd : Header) (k : ℕ) (M : Moment) (h : Here) (header : h.header ≡ hd) (lines : h.lines ≡ M.seen.lines)
+    (accepted : (l : List ℕ) → asks_by h.accepted l ≡ asks_by (accepted_of M.past.askings) l) (u : Uid) (w : Doing) (s : Steps)
+    (c : IsCaller k M u w s)
+    (paths : AskedPaths M) (kept : Option Known) (stands : StandsOn s.goal kept s.at) where
+  abbrev q : AskedOf
+  q = let a = c.asked in let z = a.asking in z.asked
+
+  -- a row of the action and of what it asked
+  row_so : (row : Act → AskedOf → Bool) → row c.act (let a = c.asked in let z = a.asking in z.asked) ≡ true →
+      asks_so h (name w.label) row ≡ true
+  row_so row is = rows_so h (name w.label) c.act (let a = c.asked in let z = a.asking in z.asked) row
+      (ap (λ ls. act_in (acts ls) (name w.label)) lines ∙ c.named)
+      (ap (λ ls. has_ended ls (name w.label)) lines ∙ c.stays)
+      (ap length (accepted (name w.label)) ∙ c.more ∙ ap (λ ls. length (answers_to ls (name w.label)) + 1) (sym lines))
+      (ap last_asked (accepted (name w.label)) ∙ (let a = c.asked in a.last)) is
+
+  its_event : (let z = q in z.event) ≡ asks_goal (let g = c.asked.goal in g.0) s.x s.goal
+  its_event = let g = c.asked.goal in g.2
+
+  used : object_used (let z = q in z.event) ≡ Some s.x
+  used = used_is (let z = q in z.event) (let g = c.asked.goal in g.0) s.x s.goal its_event
+
+  its_path : uids (let z = q in z.path) ≡ uids_of s.path
+  its_path = let a = c.asked in a.path
+
+  -- who began before began by then
+  known : (v : Uid) (before after : List Line) → M.seen.lines ≡ before ++ after → has_act (acts before) v ≡ true →
+      holds_in (λ a. true) (act_by h.lines v) ≡ true
+  known v before after are is = one_found (λ (a : Act). uid_eq a.uid v) (acts h.lines)
+      (ap (λ ls. has_act (acts ls) v) (lines ∙ are) ∙ any_later (λ (a : Act). uid_eq a.uid v) before after is)
+
+  -- ---- an answer that it takes
+
+  module _ (from : ℕ) (a : Asked) (r : Reply) (T : IsTaken hd k from M s (let z = c.asked in z.asking) a r) where
+    -- where a frame of this kind brought the answer, the row finds what shows there
+    found_at : (what : FrameKind) → frame_kind (response a r) ≡ what → same_frame what what ≡ true → (shows : List Line → Bool) →
+        shows T.before ≡ true → answered h (let z = q in z.at) (let v = c.act.uid in v.node) from (what ∷ []) shows ≡ true
+    found_at what kind same shows is =
+        subst (λ home. answered h (let z = q in z.at) home from (what ∷ []) shows ≡ true) (sym c.home)
+        (answered_at h (let z = q in z.at) k from what (what ∷ []) shows T.before T.after (lines ∙ T.are) T.late
+        (subst (λ z. (from ≡ k) ⊎ BeginsWith from k z T.after) kind T.framed) (λ i. same i || false) is)
+
+    -- a conflict, by what the row finds of it
+    conflict_by : (v : Uid) (m : Mode) → has_act (acts T.before) v ≡ true → is_on (uids_of s.path) v ≡ false →
+        (meets_at_server h c.act (let z = c.asked in let y = z.asking in y.asked) s.x v m from
+        || (meets_at_naming h c.act (let z = c.asked in let y = z.asking in y.asked) s.x v m from
+        || meets_at_store h c.act (let z = c.asked in let y = z.asking in y.asked) s.x v m from)) ≡ true →
+        conflict_caused h (name w.label) v m from ≡ true
+    conflict_by v m there off is =
+        let on_it = row_so (λ b z. not (is_on (uids z.path) v) && holds_in (λ x. meets_at_server h b z x v m from
+        || (meets_at_naming h b z x v m from || meets_at_store h b z x v m from)) (object_used z.event))
+        (λ i. (ap not (ap (λ us. is_on us v) its_path ∙ off)) i
+        && (ap (holds_in (λ x. meets_at_server h c.act (let z = c.asked in let y = z.asking in y.asked) x v m from
+        || (meets_at_naming h c.act (let z = c.asked in let y = z.asking in y.asked) x v m from
+        || meets_at_store h c.act (let z = c.asked in let y = z.asking in y.asked) x v m from))) used ∙ is) i) in
+        λ i. known v T.before T.after T.are there i && on_it i
+
+    -- a server's conflict
+    server_so : (x : Known) (i : ℕ) (v : Uid) (m : Mode) → s.at ≡ AtInvoke x i → r ≡ Reply.Invoked (invoked.Conflict v m) →
+        conflict_caused h (name w.label) v m from ≡ true
+    server_so x i v m at is = conflict_by v m so.1 (off_met from (uids_of s.path) (object s.x) (op_mode run.0) v m T.before so.0)
+        (λ j. met j || (meets_at_naming h c.act (let z = c.asked in let y = z.asking in y.asked) s.x v m from
+        || meets_at_store h c.act (let z = c.asked in let y = z.asking in y.asked) s.x v m from))
+      where
+        run : (o : Op) × (s.goal ≡ Run o)
+        run = only_run s.goal kept s.at x i stands at
+
+        request : (ends : List (Uid × End)) × (T.ask ≡ ask.Invoke s.x x.binding i ends run.0)
+        request = invoke_is T.ask s.x x.binding i run.0 (T.same ∙ (λ j. ask_at s.x (run.1 j) [] (at j)))
+
+        so : (meets from (uids_of s.path) (object s.x) (op_mode run.0) v m T.before ≡ true) × (has_act (acts T.before) v ≡ true)
+        so = subst (λ z. says_of from (head_of s) z (Reply.Invoked (invoked.Conflict v m)) T.before) request.1
+            (subst (λ z. says_of from (head_of s) T.ask z T.before) is T.so)
+
+        its_mode : mode_of_call (let z = q in z.event) ≡ Some (op_mode run.0)
+        its_mode = ap mode_of_call (its_event ∙ ap (asks_goal (let g = c.asked.goal in g.0) s.x) run.1)
+
+        met : meets_at_server h c.act (let z = c.asked in let y = z.asking in y.asked) s.x v m from ≡ true
+        met = ap (holds_in (λ asked. answered h (let z = q in z.at) (let b = c.act.uid in b.node) from (frame.Invoked ∷ [])
+            (meets from (uids (let z = q in z.path)) (object s.x) asked v m))) its_mode
+            ∙ found_at frame.Invoked (ap (λ z. frame_kind (response a z)) is) refl
+            (meets from (uids (let z = q in z.path)) (object s.x) (op_mode run.0) v m)
+            (ap (λ us. meets from us (object s.x) (op_mode run.0) v m T.before) its_path ∙ so.0)
+
+    -- an operation that was run
+    pub ok_so : (x : Known) (i : ℕ) (o : Op) (b : Answer) → s.at ≡ AtInvoke x i → s.goal ≡ Run o → r ≡ Reply.Invoked (invoked.Answered b) →
+        ok_caused h (name w.label) s.x o ≡ true
+    ok_so x i o b at goal is =
+        row_so (λ y z. is_call_of s.x o z.event && list_any (λ n. answered h z.at y.uid.node n (frame.Invoked ∷ [])
+        (has_lock n y.uid (object s.x) (op_mode o))) (nodes_of h.header))
+        (λ j. (ap (is_call_of s.x o) (its_event ∙ ap (asks_goal (let g = c.asked.goal in g.0) s.x) goal)
+        ∙ (λ l. eq-eqb s.x s.x refl l && op_same o l)) j && locked j)
+      where
+        request : (ends : List (Uid × End)) × (T.ask ≡ ask.Invoke s.x x.binding i ends o)
+        request = invoke_is T.ask s.x x.binding i o (T.same ∙ (λ j. ask_at s.x (goal j) [] (at j)))
+
+        so : has_lock from (actor s.path) (object s.x) (op_mode o) T.before ≡ true
+        so = subst (λ z. says_of from (head_of s) z (Reply.Invoked (invoked.Answered b)) T.before) request.1
+            (subst (λ z. says_of from (head_of s) T.ask z T.before) is T.so)
+
+        among : In from (nodes_of hd)
+        among =
+            let p = and_parts (nat_le 1 from) (nat_le from hd.nodes) T.sender in
+            in_range 1 hd.nodes from (leb-true 1 from p.0) (high from hd.nodes (leb-true from hd.nodes p.1))
+          where
+            high : (m n : ℕ) → m ≤ n → m < 1 + n
+            high m n le = omega (arith, le)
+
+        locked : list_any (λ n. answered h (let z = q in z.at) (let y = c.act.uid in y.node) n (frame.Invoked ∷ [])
+            (has_lock n c.act.uid (object s.x) (op_mode o))) (nodes_of h.header) ≡ true
+        locked = any_in (λ n. answered h (let z = q in z.at) (let y = c.act.uid in y.node) n (frame.Invoked ∷ [])
+            (has_lock n c.act.uid (object s.x) (op_mode o))) from (nodes_of h.header)
+            (subst (λ (z : Header). In from (nodes_of z)) (sym header) among)
+            (found_at frame.Invoked (ap (λ z. frame_kind (response a z)) is) refl (has_lock from c.act.uid (object s.x) (op_mode o))
+            (ap (λ v. has_lock from v (object s.x) (op_mode o) T.before) (c.uid ∙ sym c.actor) ∙ so))
+
+    -- naming's conflict
+    naming_so : (avoid : Binding) (v : Uid) (m : Mode) → s.at ≡ AtBind avoid → r ≡ Reply.Bound (bound.Conflict v m) →
+        conflict_caused h (name w.label) v m from ≡ true
+    naming_so avoid v m at is = conflict_by v m (began (acts T.before) v so.2) off (by (meets_at_server h c.act q s.x v m from))
+      where
+        request : T.ask ≡ ask.Bind s.x (is_include s.goal) avoid
+        request = bind_is T.ask s.x (is_include s.goal) avoid (T.same ∙ (λ j. ask_at s.x s.goal [] (at j)))
+
+        so : (from ≡ 1) × (list_any (λ asked. meets 1 (top_path s.path) (entry s.x) asked v m T.before) (entry_modes
+            (is_include s.goal)) ≡ true)
+            × (has_upper (acts T.before) v ≡ true)
+        so = subst (λ z. says_of from (head_of s) z (Reply.Bound (bound.Conflict v m)) T.before) request
+            (subst (λ z. says_of from (head_of s) T.ask z T.before) is T.so)
+
+        upper : IsTopAction c.begun v
+        upper = upper_from c.begun (acts M.seen.lines) c.alike v (ap (λ ls. has_upper (acts ls) v) T.are
+            ∙ any_later (λ (y : Act). uid_eq y.uid v && not (is_nested y.kind)) T.before T.after so.2)
+
+        off : is_on (uids_of s.path) v ≡ false
+        off = ap (λ p. is_on (uids_of p) v) (sym c.path)
+            ∙ off_path c.begun c.all v upper c.caller c.there (ap (λ p. is_on (take (tops_of p) (uids_of p)) v) c.path
+            ∙ off_any (entry_modes (is_include s.goal)) (top_path s.path) (entry s.x) v m T.before so.1)
+
+        -- its top's path is what the journal has
+        tops : top_uids (let z = q in z.path) ≡ top_path s.path
+        tops =
+            let f = paths c.asked.asking c.asked.there in
+            let l : label_of (let z = q in z.event) ≡ name w.label =
+            label_is (let z = q in z.event) (let g = c.asked.goal in g.0) s.x s.goal its_event ∙ (let g = c.asked.goal in g.1) in
+            let at_first : (let z = q in z.path) ≡ path (acts f.first) (name w.label) = f.path ∙ ap (path (acts f.first)) l in
+            ap top_uids at_first
+            ∙ top_is c.begun c.all M.seen.lines f.first f.more f.are c.distinct c.alike (name w.label) c.act c.named c.caller c.there
+            (c.uid ∙ sym c.actor ∙ ap actor (sym c.path)) (ap uids (sym at_first) ∙ its_path ∙ ap uids_of (sym c.path))
+            ∙ ap top_path c.path
+
+        met : meets_at_naming h c.act q s.x v m from ≡ true
+        met =
+            let one = one_passes (λ asked. meets 1 (top_path s.path) (entry s.x) asked v m T.before) (entry_modes
+            (is_include s.goal)) so.1 in
+            λ j. (eq-eqb from 1 so.0) j && any_in (λ asked. answered h (let z = q in z.at) (let y = c.act.uid in y.node) 1
+            (frame.Bound ∷ [])
+            (meets 1 (top_uids (let z = q in z.path)) (entry s.x) asked v m)) one.0 (modes_on_entry (let z = q in z.event))
+            (subst (In one.0) (sym (modes_are (let z = q in z.event) (let g = c.asked.goal in g.0) s.x s.goal its_event)) one.1)
+            (subst (λ n. answered h (let z = q in z.at) (let y = c.act.uid in y.node) n (frame.Bound ∷ [])
+            (meets 1 (top_uids (let z = q in z.path)) (entry s.x) one.0 v m) ≡ true) so.0
+            (found_at frame.Bound (ap (λ z. frame_kind (response a z)) is) refl
+            (meets 1 (top_uids (let z = q in z.path)) (entry s.x) one.0 v m)
+            (ap (λ us. meets 1 us (entry s.x) one.0 v m T.before) tops ∙ one.2))) j
+
+        by : (b : Bool) → (b || (meets_at_naming h c.act q s.x v m from || meets_at_store h c.act q s.x v m from)) ≡ true
+        by true = refl
+        by false = λ j. met j || meets_at_store h c.act q s.x v m from
+
+    -- a store's conflict
+    store_so : (x : Known) (n : ℕ) (rest : List ℕ) (v : Uid) (m : Mode) → s.at ≡ AtLoad x n rest → r ≡ Reply.Loaded (loaded.InDoubt v) →
+        m ≡ mode.Write → came_from_store h (name w.label) m from ≡ true
+    store_so x n rest v m at is write = λ i. same_mode (write i) mode.Write
+        && row_so (λ y z. answered h z.at y.uid.node from (frame.Loaded ∷ []) (λ before. true))
+        (found_at frame.Loaded (ap (λ z. frame_kind (response a z)) is) refl (λ before. true) refl) i
+
+    -- any conflict's line
+    pub conflict_so : (v : Uid) (m : Mode) (n : ℕ) → IsConflict s.at r v m n →
+        (conflict_caused h (name w.label) v m n || came_from_store h (name w.label) m n) ≡ true
+    conflict_so v m n (ByNaming avoid at is one) =
+        let its : n ≡ from = one ∙ ap (λ z. node_at z) (sym at) ∙ T.node in
+        λ i. (ap (conflict_caused h (name w.label) v m) its ∙ naming_so avoid v m at is) i || came_from_store h (name w.label) m n
+    conflict_so v m n (ByServer x i at is one) =
+        let its : n ≡ from = one ∙ ap (λ z. node_at z) (sym at) ∙ T.node in
+        λ j. (ap (conflict_caused h (name w.label) v m) its ∙ server_so x i v m at is) j || came_from_store h (name w.label) m n
+    conflict_so v m n (ByStore x y rest at is write one) =
+        let its : n ≡ from = one ∙ ap (λ z. node_at z) (sym at) ∙ T.node in
+        by (conflict_caused h (name w.label) v m n) (ap (came_from_store h (name w.label) m) its ∙ store_so x y rest v m at is write)
+      where
+        by : (b : Bool) → came_from_store h (name w.label) m n ≡ true → (b || came_from_store h (name w.label) m n) ≡ true
+        by true it = refl
+        by false it = it

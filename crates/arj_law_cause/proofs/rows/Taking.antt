@@ -1,0 +1,257 @@
+-- What is known where a call's line is written: the action that asked, what it asked, and the answer that is taken.
+use Rattle.arj_law_parts.proofs.Words
+use Words.{⊎_elim, ◌≡◌, ◌⊎◌, ◌≤◌, ◌∙◌, ◌+◌, ◌==◌, ◌++◌, ◌&&◌, ◌||◌, not, ℕ, Bool, true, false, cond, List, [], length, Option, Some, None}
+use Words.{refl, sym, ap, subst, inl, inr, arith, and_parts, eqb-true, eq-eqb, is_some, bytes_eq, In, in_find, in_to}
+use Words.{Ask, Asked, Header, Line, Message, Uid, name, Reply, actor, answers, frame_kind, response, reply_kind}
+use Words.{ask_kind, next_ask, next_node, waits_for_call, Steps, Calling, Doing, doing_of, Disk, Parts, Node, at_place, is_own, Contains}
+use Words.{End, kept_of, root_at, root_of}
+use Rattle.arj_law_serial.proofs.Terms
+use Terms.{Act, Action, AreAlike, AreBegun, AreDistinct, IsAsking, IsBusy, IsNumbered, act_in, action_of, acts, actor_is, begun_tree, book}
+use Terms.{its_acts, its_sound, is_book, paths_of, same_number, IsUp, IsEnd, IsKnown}
+use Rattle.arj_law_lock_view.proofs.asking.{Keeping.HasPaths, Keeping.its, Keeping.mine, Knowing.IsThere, Knowing.KnowsCoord}
+use Rattle.arj_law_lock_view.proofs.asking.{Tying.own_of}
+use Rattle.arj_law_lock_view.proofs.moments.Answers.{Known}
+use Rattle.arj_law_lock_view.specs.asking.{Asked.AskedAreTied, Asked.IsAskedSo, Asked.IsTied, Asked.count_answers, Asked.count_asks}
+use Rattle.arj_law_lock_view.specs.asking.{Turns.calling}
+use Rattle.arj_law_lock_view.specs.facts.Requests.{IsAskedBy}
+use Rattle.arj_law_lock_view.specs.moments.Made.{AnswersAreMade, AnswersTo, BeginsWith}
+use Rattle.arj_law_parts.proofs.moves.{Flat.post, Happens.Wide}
+use Rattle.arj_law_parts.specs.moves.Moments.{Asking, Moment, up}
+use Rattle.arj_law_parts.specs.moves.Seen as seen
+use Rattle.arj_law_runs.proofs.follow.Halts.{KnowsAll, is_alive}
+use Rattle.arj_law_runs.specs.addresses.Addresses.{AreAddressed, IsNode}
+use Rattle.arj_law_runs.specs.addresses.Binds.{StandsOn}
+use Rattle.arj_law_runs.specs.calls.Coords.{IsOfStep, bare, head_of}
+use Rattle.arj_law_runs.specs.journal.Book.{is_over as over_in}
+use Rattle.arj_law_runs.specs.journal.Knows.{IsWritten}
+use Rattle.arj_model.specs.Actions.{halts, is_halted, path}
+use Rattle.arj_model.specs.Past.{label_of}
+use Rattle.arj_model.specs.Refusals.{has_ended, is_over_act}
+use Rattle.arj_law_cause.specs.rows.Says.{says_of, says_so}
+
+some_is : {A : Type 0} {a b : A} → Some a ≡ Some b → a ≡ b
+some_is {A} {a} {b} is = let k : ◌≡◌ {A = Option A} (Some a) (Some b) = is in cc
+
+none_is : {A P : Type 0} {x : A} → None ≡ Some x → P
+none_is {A} {P} {x} is = let no_way : ◌≡◌ {A = Option A} None (Some x) = is in absurd (cc no_way)
+
+-- ---- paths of what was asked
+
+-- the path of what was asked is that of its label by some first lines
+pub record IsPathAt (lines : List Line) (q : Asking) : Type 0 where
+  pub first : List Line
+  pub more : List Line
+  pub are : lines ≡ first ++ more
+  pub path : (let e = q.asked in e.path) ≡ path (acts first) (label_of (let e = q.asked in e.event))
+
+abbrev pub AskedPaths : Moment → Type 0
+AskedPaths M = (q : Asking) → In q M.past.askings → IsPathAt M.seen.lines q
+
+-- ---- a node at work
+
+pub record Works (hd : Header) (k : ℕ) (d : Disk) (t : Parts) (M : Moment) : Type 0 where
+  pub paths : HasPaths (up k d t M)
+  pub tied : AskedAreTied (up k d t M)
+  pub known : Wide Known (up k d t M)
+  pub all : Wide KnowsAll (up k d t M)
+  pub addressed : Wide (AreAddressed hd) (up k d t M)
+  pub made : AnswersAreMade says_so (up k d t M)
+  pub firsts : AskedPaths (up k d t M)
+
+-- The action that waits, in the journal's words: it's open, has one more asked than answered, and waits for that.
+pub record IsCaller (k : ℕ) (M : Moment) (u : Uid) (w : Doing) (s : Steps) : Type 0 where
+  pub act : Act
+  pub named : act_in (acts M.seen.lines) (name w.label) ≡ Some act
+  pub uid : act.uid ≡ u
+  pub home : (let v = act.uid in v.node) ≡ k
+  pub stays : has_ended M.seen.lines (name w.label) ≡ false
+  pub more : count_asks M.past.askings (name w.label) ≡ count_answers M.seen.lines (name w.label) + 1
+  pub asked : IsAskedSo M.past.askings u w s
+  pub actor : actor s.path ≡ u
+  pub begun : List Action
+  pub all : AreBegun begun
+  pub alike : AreAlike begun (acts M.seen.lines)
+  pub distinct : AreDistinct (acts M.seen.lines)
+  pub caller : Action
+  pub there : Contains begun caller
+  pub path : (let a = caller in a.path) ≡ s.path
+
+-- The answer that is taken is to the last request of what was asked; where it was made, and what it says of the lines before.
+pub record IsTaken (hd : Header) (k from : ℕ) (M : Moment) (s : Steps) (q : Asking) (a : Asked) (r : Reply) : Type 0 where
+  pub ask : Ask
+  pub same : bare ask ≡ next_ask [] s
+  pub node : next_node s ≡ from
+  pub sender : IsNode hd from
+  pub before : List Line
+  pub after : List Line
+  pub are : M.seen.lines ≡ before ++ after
+  pub late : (let e = q.asked in e.at) ≤ length before
+  pub framed : (from ≡ k) ⊎ BeginsWith from k (frame_kind (response a r)) after
+  pub so : says_of from (head_of s) ask r before
+
+module _ (hd : Header) (k : ℕ) (d : Disk) (t : Parts) (M : Moment) (W : Works hd k d t M) (u : Uid) (w : Doing) (s : Steps)
+    (found : doing_of u t.coord ≡ Some w) (is : w.now ≡ Calling s) where
+  abbrev mine_node : Node
+  mine_node = record { number = k; disk = d; live = Some t }
+
+  here : (let N = up k d t M in N.seen.nodes k) ≡ Some (record { number = k; disk = d; live = Some t })
+  here = λ i. cond (same_number k i) (Some (record { number = k; disk = d; live = Some t })) (M.seen.nodes k)
+
+  knows : KnowsCoord W.paths.2.0 (let N = up k d t M in seen.with_sent W.paths.0 N.seen) k t
+  knows = its k d t M W.paths W.tied
+
+  stands : IsThere (let N = up k d t M in seen.with_sent W.paths.0 N.seen) k t u w
+  stands = mine k d t M W.paths W.tied u w found
+
+  own : is_own u t.coord.tree ≡ true
+  own = by (is_own u t.coord.tree) refl found
+    where
+      by : (b : Bool) → is_own u t.coord.tree ≡ b → cond b (at_place u.num t.coord.doings) None ≡ Some w → b ≡ true
+      by true e at = refl
+      by false e at = none_is at
+
+  asking : IsAsking t.coord.tree u s.path
+  asking = subst (IsBusy t.coord.tree u) is (let g = knows.coord in g.busy u w found)
+
+  its_up : IsUp W.paths.2.0 W.paths.0 M.seen.labels k d.inc t
+  its_up = let g = W.paths.2.1.1.0 in let p = g.places k mine_node here in p.memory
+
+  number : s.req ≡ w.req
+  number = subst (IsNumbered w.req) is (let i = its_up in i.numbered u w found)
+
+  pub call : IsTied M.past.askings M.seen.lines u w (Some s)
+  call = subst (IsTied M.past.askings M.seen.lines u w) (ap calling is) (own_of k d t M W.tied u w found)
+
+  pub caller : IsCaller k M u w s
+  caller = record {
+    act = stands.act;
+    named = stands.named;
+    uid = stands.uid;
+    home = ap (λ (v : Uid). v.node) stands.uid ∙ stands.node;
+    stays = open_yet;
+    more = call.0;
+    asked = call.1;
+    actor = its_actor;
+    begun = W.paths.2.0;
+    all = all;
+    alike = alike;
+    distinct = distinct;
+    caller = action_of asking.branch;
+    there = (let g = knows.coord in g.known u asking.branch asking.found);
+    path = asking.path;
+  }
+    where
+      all : AreBegun W.paths.2.0
+      all = let g = W.paths.2.1.1.0 in g.begun
+
+      written : IsWritten (let N = up k d t M in seen.with_sent W.paths.0 N.seen)
+      written = W.paths.2.1.1.2
+
+      acts_are : (let B = book M.seen.lines in B.acts) ≡ acts M.seen.lines
+      acts_are = its_acts M.seen.lines written.right
+
+      alike : AreAlike W.paths.2.0 (acts M.seen.lines)
+      alike = subst (AreAlike W.paths.2.0) acts_are W.paths.2.1.1.1
+
+      distinct : AreDistinct (acts M.seen.lines)
+      distinct = let s = its_sound M.seen.lines written.right in s.distinct
+
+      its_actor : actor s.path ≡ u
+      its_actor = actor_is W.paths.2.0 (paths_of W.paths.2.0) (begun_tree W.paths.2.0 (let g = W.paths.2.1.1.0 in g.begun)) u s.path t.coord
+          knows.coord asking
+
+      among : In stands.act (acts M.seen.lines)
+      among = (in_find (λ (x : Act). bytes_eq x.label (name w.label)) stands.act (acts M.seen.lines) stands.named).0
+
+      -- it has no end by the book
+      unended : over_in (book M.seen.lines) u ≡ false
+      unended =
+          let up_here = knows.knows in
+          let a : IsKnown (book M.seen.lines) u (let b = asking.branch in b.kind) (let b = asking.branch in b.ended) w.label =
+          (let n = up_here.knows in n.acts u asking.branch w asking.found found) in
+          by (let b = asking.branch in b.ended) asking.opened a.end
+        where
+          by : (o : Option End) → is_some o ≡ false → IsEnd (book M.seen.lines) u (let b = asking.branch in b.kind) o →
+              over_in (book M.seen.lines) u ≡ false
+          by None free end = end.0
+          by (Some e) free end = let no_way : true ≡ false = free in absurd (cc no_way)
+
+      -- and its node hasn't halted since it began
+      alive : is_halted (halts M.seen.lines) stands.act ≡ false
+      alive =
+          let told = W.all.2.1 stands.act among in
+          told ∙ ap (λ o. not (is_alive o (let v = stands.act in (let x = v.uid in x.inc))))
+          ((λ i. (let N = up k d t M in N.seen.nodes) ((ap (λ (v : Uid). v.node) stands.uid ∙ stands.node) i)) ∙ here)
+          ∙ ap not (ap (λ (v : Uid). d.inc == v.inc) stands.uid ∙ same_inc)
+        where
+          same_inc : (d.inc == u.inc) ≡ true
+          same_inc = let i = its_up in eq-eqb d.inc u.inc
+              (sym (eqb-true u.inc t.coord.tree.inc (and_parts (u.node == t.coord.tree.node) (u.inc == t.coord.tree.inc) own).1 ∙ i.inc))
+
+      open_yet : has_ended M.seen.lines (name w.label) ≡ false
+      open_yet =
+          ap (is_over_act M.seen.lines) stands.named
+          ∙ (λ i. (let b = is_book M.seen.lines written.right in b.over stands.act (in_to stands.act (acts M.seen.lines) among)) i
+          || is_halted (halts M.seen.lines) stands.act)
+          ∙ (λ i. (ap (over_in (book M.seen.lines)) stands.uid ∙ unended) i || alive i)
+
+  -- an include is never run
+  pub stands_on : StandsOn s.goal (kept_of s.x (root_at (root_of s.path) t.coord)) s.at
+  stands_on =
+      let b = W.known.2.0.0.1 in
+      let n = b.nodes k mine_node t here refl in
+      n.steps u w s found is
+
+  -- ---- an answer is taken
+
+  module _ (from : ℕ) (m : Message) (sent_it : seen.In (post from k m) M.seen.sent) (a : Asked) (r : Reply) (answer : answers m ≡ Some
+      (a, r))
+      (act : a.act ≡ u) (waits : waits_for_call from a r s ≡ true) where
+    ans : AnswersTo says_so ⊥ (up k d t M) from k a r
+    ans = W.made.sent (post from k m) a r sent_it answer
+
+    parts : ((s.req == a.req) ≡ true) × (((reply_kind r == ask_kind (next_ask [] s)) ≡ true) × ((next_node s == from) ≡ true))
+    parts =
+        let p = and_parts (s.req == a.req) ((reply_kind r == ask_kind (next_ask [] s)) && (next_node s == from)) waits in
+        let q = and_parts (reply_kind r == ask_kind (next_ask [] s)) (next_node s == from) p.1 in (p.0, (q.0, q.1))
+
+    asker : actor (let h = ans.0 in h.path) ≡ u
+    asker = ap (λ (b : Asked). b.act) ans.2 ∙ act
+
+    req_is : (let h = ans.0 in h.req) ≡ w.req
+    req_is = ap (λ (b : Asked). b.req) ans.2 ∙ sym (eqb-true s.req a.req parts.0) ∙ number
+
+    asked_by_it : IsAskedBy t.coord (let q = ans.3 in let p = q.request in p.to) ans.0 ans.1
+    asked_by_it =
+        let q = ans.3 in
+        W.known.2.0.1 k mine_node t here refl q.request ans.0 ans.1 (W.known.1 q.request q.posted) q.from q.asking
+        (ap (λ v. is_own v t.coord.tree) asker ∙ own)
+
+    doing_is : (let q = asked_by_it in q.doing) ≡ w
+    doing_is = let q = asked_by_it in some_is (sym q.found ∙ ap (λ v. doing_of v t.coord) asker ∙ found)
+
+    of_step : IsOfStep s (let q = ans.3 in let p = q.request in p.to) ans.0 ans.1
+    of_step = let q = asked_by_it in
+        q.step s (ap (λ (x : Doing). x.now) doing_is ∙ is) (req_is ∙ ap (λ (x : Doing). x.req) (sym doing_is))
+
+    pub taken : IsTaken hd k from M s (let c = caller in let q = c.asked in q.asking) a r
+    unfolding caller
+    taken =
+        let q = ans.3 in
+        let z = q.made in
+        let c = call.1 in record {
+          ask = ans.1;
+          same = (let o = of_step in o.same);
+          node = eqb-true (next_node s) from parts.1.1;
+          sender = (let p = W.addressed.2.1.1 (post from k m) (W.addressed.1 (post from k m) sent_it) in p.0);
+          before = z.before;
+          after = z.after;
+          are = z.are;
+          late = z.behind c.asking c.there (c.act ∙ sym asker) (low c.first);
+          framed = ⊎_elim (λ here. inl here) (λ f. inr (⊎_elim {C = BeginsWith from k (frame_kind (response a r)) z.after}
+              (λ b. subst (λ x. BeginsWith from k (frame_kind (response x r)) z.after) ans.2 b) (λ never. absurd never) f)) z.framed;
+          so = subst (λ h. says_of from h ans.1 r z.before) (let o = of_step in o.head) z.so;
+        }
+      where
+        low : {n : ℕ} → n ≤ w.req → n ≤ (let h = ans.0 in h.req)
+        low le = omega (arith, le, req_is)

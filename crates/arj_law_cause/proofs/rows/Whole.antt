@@ -1,0 +1,342 @@
+-- In every run each line that answers a call has its cause.
+use Rattle.arj_law_parts.proofs.Words
+use Words.{◌≡◌, ◌∙◌, ◌+◌, ◌++◌, ℕ, Bool, true, false, cond, if◌then◌else◌, List, [], ◌∷◌, length, Option, Some, None, refl, sym, ap}
+use Words.{Arm, Event, arith, append-nil, filter, at_place, Body, Header, Label, Line, Node, Start, IsFormed, World, counted}
+use Words.{first_reason, giving}
+use Words.{happens, is_given, lacks_labels, limited, no_labels, node_in, node_of, numbered, reasons, run_event, run_unless, world_from}
+use Words.{Move, moved}
+use Words.{Disk, Input, Parts}
+use Words.body
+use Rattle.arj_law_parts.proofs.Terms.which
+use Rattle.arj_law_serial.proofs.Terms.{IsAtStarts}
+use Rattle.arj_law_lock_view.proofs.asking.{Keeping.first_tied, Keeping.tied_step, Tied.Pathed, Tied.paths_of_wide, Tied.pathed_wide}
+use Rattle.arj_law_lock_view.specs.asking.Asked.{AskedAreTied, accepted_of}
+use Rattle.arj_law_parts.proofs.moves.{Happens.Wide, Happens.keeps_asked, Happens.wide_kept}
+use Rattle.arj_law_parts.specs.moves.Moments.{History, Moment, come, gone, no_history, up}
+use Rattle.arj_law_parts.specs.moves.With.{KeepsSteps, KeepsWith, asked_at, asked_of_node, look, past_event, past_unless, written}
+use Rattle.arj_law_parts.specs.steps.Writes as writes
+use Rattle.arj_law_runs.proofs.addresses.Runs.{kept}
+use Rattle.arj_law_runs.proofs.follow.Along.{Ended, Outcome, Went, event_of, runs_along}
+use Rattle.arj_law_runs.proofs.follow.Frames as frames
+use Rattle.arj_law_runs.proofs.follow.Halts.{KnowsAll, halts_keep}
+use Rattle.arj_law_runs.proofs.follow.Reasons.{joined, refused_by_any}
+use Rattle.arj_law_runs.proofs.follow.Refusing as refusing
+use Rattle.arj_law_runs.proofs.follow.Refusing.{Came, IsRefused, IsRun, same_bodies}
+use Rattle.arj_law_runs.specs.addresses.Addresses.{AreAddressed}
+use Rattle.arj_law_runs.specs.follow.Frames.{FramesStep, are_so}
+use Rattle.arj_journal.specs.ScriptForm.{HeaderInForm}
+use Rattle.arj_model.specs.CauseSpans.{here_at}
+use Rattle.arj_model.specs.Actions.{acts, path}
+use Rattle.arj_model.specs.Past.{Past, asked_of, at_start, block, is_refused, label_of, next}
+use Rattle.arj_promise.specs.Runs.{IsStoppedInForm}
+use Rattle.arj_law_cause.proofs.rows.{Accepting.asked_same, Accepting.refused_asks, Accepting.same_refusal, Asks.AreSameAsks}
+use Rattle.arj_law_cause.proofs.rows.{Asks.asks_some}
+use Rattle.arj_law_cause.proofs.rows.Lined
+use Rattle.arj_law_cause.proofs.rows.Running
+use Rattle.arj_law_cause.proofs.rows.Running.{Beside, InEvent, StandsSo, event_step, steps_both}
+use Rattle.arj_law_cause.proofs.rows.Taking.{AskedPaths, Works}
+use Rattle.arj_law_cause.specs.rows.Lines.{AnswersHaveCauses, AnswersStep, answer_fits}
+
+none_is : {A P : Type 0} {x : A} → None ≡ Some x → P
+none_is {A} {P} {x} is = let no_way : ◌≡◌ {A = Option A} None (Some x) = is in absurd (cc no_way)
+
+some_is : {A : Type 0} {a b : A} → Some a ≡ Some b → a ≡ b
+some_is {A} {a} {b} is = let k : ◌≡◌ {A = Option A} (Some a) (Some b) = is in cc
+
+-- what is asked of a node is asked by the event
+same_event : (o : Option (ℕ × Input)) (w : World) (g : History) → (let q = asked_of_node o w g in q.event) ≡ g.event
+same_event None w g = refl
+same_event (Some a) w g = by (at_place a.0 w.nodes)
+  where
+    by : (n : Option Node) → (let q = asked_at w.header a.1 n g in q.event) ≡ g.event
+    by None = refl
+    by (Some n) = refl
+
+module _ (hd : Header) (form : HeaderInForm hd) (st : Start) where
+  -- ---- what is known
+
+  abbrev Knows : Moment → Type 0
+  Knows M = Wide Pathed M × (Wide KnowsAll M × Wide (AreAddressed hd) M)
+
+  abbrev Tied : Moment → Type 0
+  Tied M = Knows M × AskedAreTied M
+
+  halts_wide : KeepsWith hd (IsAtStarts hd KnowsAll) (Wide KnowsAll)
+  halts_wide = wide_kept hd (IsAtStarts hd KnowsAll) KnowsAll (keeps_asked hd KnowsAll (halts_keep hd))
+
+  names_wide : KeepsWith hd (IsAtStarts hd (AreAddressed hd)) (Wide (AreAddressed hd))
+  names_wide = wide_kept hd (IsAtStarts hd (AreAddressed hd)) (AreAddressed hd) (kept hd form)
+
+  knows_steps : KeepsSteps hd Knows
+  knows_steps = steps_both hd (Wide Pathed) (λ M. Wide KnowsAll M × Wide (AreAddressed hd) M) (let k = pathed_wide hd in k.steps)
+      (steps_both hd (Wide KnowsAll) (Wide (AreAddressed hd)) (let k = halts_wide in k.steps) (let k = names_wide in k.steps))
+
+  tied_steps : KeepsSteps hd Tied
+  tied_steps = tied_step hd Knows knows_steps (λ M h. paths_of_wide M h.0)
+
+  -- between events, and inside of one
+  abbrev Between : Moment → Type 0
+  Between M = Tied M × AskedPaths M
+
+  abbrev Inner : List Line → ℕ → Moment → Type 0
+  Inner before event M = (InEvent hd before event M × Tied M) × Lined.Lined hd st before event M
+
+  works : (before : List Line) (event k : ℕ) (d : Disk) (t : Parts) (M : Moment) →
+      InEvent hd before event (up k d t M) × Tied (up k d t M) → AskedPaths (up k d t M) → Works hd k d t M
+  works before event k d t M h paths = record {
+    paths = paths_of_wide (up k d t M) h.1.0.0;
+    tied = h.1.1;
+    known = h.0.0.0.0;
+    all = h.1.0.1.0;
+    addressed = h.1.0.1.1;
+    made = h.0.1;
+    firsts = paths;
+  }
+
+  pub its_beside : Beside hd Between Inner
+  its_beside = record {
+    inner = λ before event early. Lined.lined_step hd st before event (λ M. InEvent hd before event M × Tied M)
+        (steps_both hd (InEvent hd before event) Tied (event_step hd before event early) tied_steps)
+        (λ k d t M h paths. works before event k d t M h paths);
+    knows = λ before event M h. h.0.0;
+    opens = λ e M h. ((h.0.0, (let t = h.0.1 in record { tied = t.tied; new = t.new })), h.1);
+    enters = λ before event M number first lines k h. (
+      (k, h.0),
+      record {
+        number = number;
+        first = first;
+        wrote = [];
+        lines = lines ∙ sym (append-nil before);
+        paths = h.1;
+        fit = λ accepted same. refl;
+      },
+    );
+    leaves = λ before event bodies M h.
+        ((h.0.1.0, (let t = h.0.1.1 in record { tied = t.tied; new = t.new })), (let l = h.1 in l.paths));
+    labels = λ M h. (
+      tied_steps.quiet (body.Limit which.Labels ∷ []) M refl h.0,
+      λ q i. Lined.path_more M.seen.lines (numbered M.past.number (body.Limit which.Labels ∷ [])) q (h.1 q i),
+    );
+  }
+
+  -- ---- events
+
+  -- a run up to an event, and the world there
+  pub record Stands (p : Past) (w : World) : Type 0 where
+    pub base : refusing.Stands hd form p w
+    pub history : History
+    pub so : StandsSo hd Between Inner its_beside history w
+    pub start : p.start ≡ st
+    pub asks : AreSameAsks p.accepted (accepted_of history.askings)
+
+  module _ (m : Move) (p : Past) (w : World) (stops : IsStoppedInForm m) (s : Stands p w) (on : w.over ≡ false) where
+    abbrev e : Event
+    e = event_of m
+
+    abbrev arm : Arm
+    arm = let a = m.asked in a.arm
+
+    -- the world as the event comes
+    abbrev v : World
+    v = record w { arms = m.falls }
+
+    armed : StandsSo hd Between Inner its_beside s.history v
+    armed = Running.armed_so hd Between Inner its_beside s.history w m.falls s.so
+
+    lines_are : p.lines ≡ w.lines
+    lines_are = let b = s.base in let f = b.base in f.lines
+
+    count_is : p.count ≡ w.event
+    count_is = let b = s.base in let f = b.base in f.count
+
+    run_lines : (let r = s.history.run in r.lines) ≡ w.lines
+    run_lines = let h = s.so in let o = h.holds in o.lines on
+
+    run_count : (let r = s.history.run in r.count) ≡ w.event
+    run_count = let h = s.so in let o = h.holds in sym o.count ∙ (let n = o.now in n.number)
+
+    -- what was asked is the same in both
+    asked_is : asked_of p e ≡ asked_of s.history.run e
+    asked_is = λ i. record {
+      path = path (acts ((lines_are ∙ sym run_lines) i)) (label_of e);
+      event = e;
+      number = (count_is ∙ sym run_count) i + 1;
+      at = length ((lines_are ∙ sym run_lines) i);
+    }
+
+    -- a label that was given is that of an action at a node
+    there : (l : Label) → is_given l v ≡ true →
+        (n : Node) × (at_place (node_of l v) w.nodes ≡ Some n)
+    there l given =
+        let q = refusing.labelled_so hd form m p w stops s.base on l given in
+        (q.1, ap (λ j. at_place j w.nodes) (ap node_in q.2) ∙ q.3)
+
+    -- the world doesn't refuse the event, as it's counted, and before
+    as_before : first_reason (reasons e (counted v)) ≡
+        first_reason (reasons e v)
+    as_before = ap first_reason (frames.same_reasons e v)
+
+    -- a label is left for it, since it was run
+    has_label : first_reason (reasons e v) ≡ None → (moved m w).event ≡ w.event + 1 →
+        lacks_labels (giving e v) v ≡ false
+    has_label free count = by (lacks_labels (giving e v) v) refl
+      where
+        stays : (n : ℕ) → n ≡ n + 1 → ⊥
+        stays n is = omega (arith, is)
+
+        by : (b : Bool) → lacks_labels (giving e v) v ≡ b → b ≡ false
+        by false has = refl
+        by true lacks =
+            let same : (moved m w).event ≡ w.event =
+            (λ i. (let x = cond (on i) v (run_unless e arm v
+            (first_reason (reasons e v))) in x.event))
+            ∙ (λ i. (let x = run_unless e arm v (free i) in x.event))
+            ∙ (λ i. (let x = cond (lacks i) (no_labels v)
+            (limited (happens e arm (counted v))) in x.event)) in
+            absurd (stays w.event (sym same ∙ count))
+
+    -- the history behind it
+    after_is : (r : Option ℕ) → first_reason (reasons e v) ≡ r →
+        past_event m.asked v s.history
+        ≡ past_unless e v (run_event m.asked v) s.history r
+    after_is r is = (λ i. if on i then s.history else past_unless e v
+        (run_event m.asked v) s.history (first_reason (reasons e v)))
+        ∙ ap (past_unless e v (run_event m.asked v) s.history) is
+
+    module _ (bodies : List Body) (count : (moved m w).event ≡ w.event + 1) where
+      -- what is accepted is what was asked
+      abbrev Agrees : Type 0
+      Agrees = AreSameAsks (next p e bodies).accepted
+          (accepted_of (let h = past_event m.asked v s.history in h.askings))
+
+      -- refused
+      refused_agrees : (c : ℕ) → refused_by_any e (counted v) ≡ Some c → bodies ≡ body.Refused c ∷ [] →
+          Agrees
+      refused_agrees c refused is = (λ i. filter asks_some (if ap is_refused is i then p.accepted else p.accepted ++ asked_of p e ∷ []))
+          ∙ s.asks ∙ ap (λ ks. filter asks_some (accepted_of ks)) (sym (by (first_reason (reasons e v)) refl))
+        where
+          by : (r : Option ℕ) → first_reason (reasons e v) ≡ r →
+              (let h = past_event m.asked v s.history in h.askings) ≡ s.history.askings
+          by (Some d) world = ap (λ (h : History). h.askings) (after_is (Some d) world)
+          by None free = ap (λ (h : History). h.askings) (after_is None free)
+              ∙ on_label (lacks_labels (giving e v) v)
+            where
+              node : writes.node_refusal e v ≡ Some c
+              node = sym (same_refusal e v)
+                  ∙ ap (λ r. joined r (writes.node_refusal e (counted v))) (sym (as_before ∙ free)) ∙ refused
+
+              on_label : (b : Bool) → (let h = if b then s.history else
+                  gone
+                  (written v (run_event m.asked v))
+                  (asked_of_node (writes.asks e v) v (come e s.history)) in
+                  h.askings) ≡ s.history.askings
+              on_label true = refl
+              on_label false = refused_asks v (come e s.history)
+                  (writes.asks e v) c node
+
+      -- or not
+      module _ (none : refused_by_any e (counted v) ≡ None) (isnt : is_refused bodies ≡ false) where
+        free : first_reason (reasons e v) ≡ None
+        free = by (first_reason (reasons e v)) refl
+          where
+            by : (r : Option ℕ) → first_reason (reasons e v) ≡ r → r ≡ None
+            by None is = refl
+            by (Some c) is = none_is (sym none ∙ ap (λ r. joined r (writes.node_refusal e (counted v)))
+                (as_before ∙ is))
+
+        granted : writes.node_refusal e v ≡ None
+        granted = sym (same_refusal e v)
+            ∙ ap (λ r. joined r (writes.node_refusal e (counted v))) (sym (as_before ∙ free)) ∙ none
+
+        abbrev asked_then : History
+        asked_then =
+            asked_of_node (writes.asks e v) v (come e s.history)
+
+        accepted_same : AreSameAsks (next p e bodies).accepted (accepted_of (let h = asked_then in h.askings))
+        accepted_same = (λ i. filter asks_some (if isnt i then p.accepted else p.accepted ++ asked_of p e ∷ []))
+            ∙ asked_same p v s.history s.asks there e free granted asked_is
+
+        run_agrees : Agrees
+        run_agrees = accepted_same ∙ ap (λ ks. filter asks_some (accepted_of ks)) (sym (ap (λ (h : History). h.askings) (after_is None free)
+            ∙ (λ i. (let h = if has_label free count i then s.history else
+            gone
+            (written v (run_event m.asked v))
+            (asked_of_node (writes.asks e v) v (come e s.history)) in
+            h.askings))))
+
+        -- each line has its cause
+        run_fits : (let x = counted v in x.lines) ++ block (w.event + 1) bodies
+            ≡ (limited (happens e arm (counted v))).lines →
+            AnswersStep hd p e bodies
+        run_fits lines =
+            let H = Running.happened_at hd Between Inner its_beside s.history v armed e
+            arm free on in
+            let L = H.holds.1 in
+            let wrote : bodies ≡ L.wrote = same_bodies (w.event + 1) bodies L.wrote w.lines (lines ∙ L.lines) in
+            (λ i. are_so answer_fits (record {
+              header = hd;
+              start = s.start i;
+              accepted = (next p e bodies).accepted;
+              event = sym (same_event (writes.asks e v) v
+                  (come e s.history)) i;
+              number = count_is i + 1;
+              first = length (lines_are i);
+              lines = lines_are i;
+            }) (wrote i)) ∙ L.fit (next p e bodies).accepted accepted_same
+
+      stands_then : refusing.Stands hd form (next p e bodies) (moved m w) → Agrees → Stands (next p e bodies) (moved m w)
+      stands_then base agrees = record {
+        base = base;
+        history = past_event m.asked v s.history;
+        so = Running.move_so hd Between Inner its_beside m s.history w s.so;
+        start = s.start;
+        asks = agrees;
+      }
+
+      went : Came e arm (counted v) bodies →
+          refusing.Stands hd form (next p e bodies) (moved m w) → Outcome (AnswersStep hd) Stands m p w
+      went (IsRefused c refused is) base = Went bodies (ap (λ bs. are_so answer_fits (here_at hd p e bs) bs) is)
+          (stands_then base (refused_agrees c refused is))
+      went (IsRun none isnt lines) base = Went bodies (run_fits none isnt lines) (stands_then base (run_agrees none isnt))
+
+    goes : Outcome (AnswersStep hd) Stands m p w
+    goes = by (frames.goes hd form m p w stops (let b = s.base in b.base) on)
+      where
+        by : Outcome (FramesStep hd) (frames.Stands hd form) m p w → Outcome (AnswersStep hd) Stands m p w
+        by (Ended over event lines) = Ended over event lines
+        by (Went bodies step after) =
+            let c = refusing.goes_with hd form m p w stops s.base on bodies after in
+            went bodies (sym after.count ∙ ap (λ n. n + 1) count_is) c.0 c.1
+
+  -- ---- as a run begins
+
+  first_between : IsFormed hd st → Between (look (no_history st) [] (world_from hd st))
+  first_between formed = (
+    (
+      (
+        ([], (λ p i. i), (let k = pathed_wide hd in k.first st formed)),
+        (
+          ([], (λ p i. i), (let k = halts_wide in k.first st formed)),
+          ([], (λ p i. i), (let k = names_wide in k.first st formed)),
+        ),
+      ),
+      (let t = first_tied hd st in record { tied = t.tied; new = t.new }),
+    ),
+    λ q i. absurd i,
+  )
+
+  pub first_stands : IsFormed hd st → Stands (at_start st) (world_from hd st)
+  first_stands formed = record {
+    base = refusing.first_stands hd form st formed;
+    history = no_history st;
+    so = Running.first_so hd Between Inner its_beside st formed (first_between formed);
+    start = refl;
+    asks = refl;
+  }
+
+pub answers_are_caused : AnswersHaveCauses
+answers_are_caused hd r form =
+    runs_along (AnswersStep hd) (Stands hd form.header r.start) IsStoppedInForm (λ p w s. let b = s.base in let f = b.base in f.lines)
+    (λ p w s. let b = s.base in let f = b.base in f.count)
+    (λ m p w stops s on. goes hd form.header r.start m p w stops s on) r.start r.moves (world_from hd r.start) form.stops
+    (first_stands hd form.header r.start r.formed)

@@ -1,0 +1,35 @@
+-- The lines that answer calls, against the causes that the journal has for them.
+use Rattle.std.specs.Prelude.{◌≡◌, ℕ, List, [], ◌∷◌, Bool, true, ◌&&◌, ◌||◌}
+use Rattle.arj_base.specs.declared.mode.Mode.{Mode}
+use Rattle.arj_base.specs.declared.mode.Mode.TheVariants.{Write}
+use Rattle.arj_journal.specs.declared.body.Body.{Body}
+use Rattle.arj_journal.specs.declared.body.Body.TheVariants as body
+use Rattle.arj_journal.specs.declared.body.FrameKind.TheVariants as frame
+use Rattle.arj_journal.specs.declared.event.Event.{Event}
+use Rattle.arj_journal.specs.declared.header.Header.{Header}
+use Rattle.arj_text.specs.Label.{name}
+use Rattle.arj_model.specs.Past.{Past}
+use Rattle.arj_model.specs.CauseSpans.{Here, answered, asks_so, here_at, same_mode}
+use Rattle.arj_model.specs.Caused.{has_cause}
+use Rattle.arj_model.specs.Follows.{Runs}
+use Rattle.arj_law_runs.specs.follow.Frames.{are_so, run_events}
+use Rattle.arj_promise.specs.Runs.{IsInForm, Run, journal_by}
+
+-- a store answered what was asked with a conflict, over a write
+abbrev pub came_from_store : Here → List ℕ → Mode → ℕ → Bool
+came_from_store h l held n =
+    same_mode held Write && asks_so h l (λ a k. answered h k.at a.uid.node n (frame.Loaded ∷ []) (λ before. true))
+
+-- A line that answers a call as done has its cause; so has one that says a conflict, unless a store said it.
+abbrev pub answer_fits : Here → Body → Bool
+answer_fits h (body.Ok l x op answer) = has_cause h (body.Ok l x op answer)
+answer_fits h (body.Conflict l u held n) = has_cause h (body.Conflict l u held n) || came_from_store h (name l) held n
+answer_fits h _ = true
+
+-- so it is of each line that an event wrote
+abbrev pub AnswersStep : Header → Past → Event → List Body → Type 0
+AnswersStep hd past e bodies = are_so answer_fits (here_at hd past e bodies) bodies ≡ true
+
+-- and of each line of a run
+abbrev pub AnswersHaveCauses : Type 0
+AnswersHaveCauses = (hd : Header) (r : Run hd) → IsInForm hd r → Runs (AnswersStep hd) r.start (run_events hd r) (journal_by hd r)
