@@ -6,10 +6,9 @@
 -- (`Telling`). Event by event so it is in whole runs (`Running`).
 --
 -- A call ends at its coordinator by the answer that it takes, or given up (`Ending`, `Dumb`). There the action waits for what was asked
--- last,
--- and the answer was made in its span (`Taking`), under its path (`Paths`), where the journal's row finds it (`Spans`, `Rows`). So each
--- line
--- of an event fits (`Lined`, `Asks`); and as what is accepted is what coordinators were asked (`Accepting`), each line of a run (`Whole`).
+-- last, and the answer was made in its span (`Taking`), under its path (`Paths`), where the journal's row finds it (`Spans`, `Rows`); what
+-- is given up says so before (`Giving`). So each line of an event fits (`Lined`, `Asks`); and as what is accepted is what coordinators were
+-- asked (`Accepting`), each line of a run (`Whole`).
 pub mod Meeting
 pub mod Inside
 pub mod Holders
@@ -21,6 +20,7 @@ pub mod Taking
 pub mod Paths
 pub mod Spans
 pub mod Rows
+pub mod Giving
 pub mod Asks
 pub mod Lined
 pub mod Accepting

@@ -2,11 +2,13 @@
 ghost use Rattle.arj_law_cause.specs.rows.Lines.{AnswersHaveCauses};
 
 /// In every run in form, wherever it begins and wherever disks stop, each line that answers a call with what its operation
-/// gave, and each that says a conflict, has its cause by the events and the journal before it. It is of what was asked last
-/// of its action, which is open and has no other answer to it. Where a node answered that, in the span of what was asked, the
-/// journal's table of the node had the action's own lock, or the row of this holder in this mode as the first one against what
-/// was asked, at naming against its top: of an action that began, and isn't on the path that asks. Of a conflict that a store
-/// says, over a state in doubt, it says that this node answered a Load in the span, and no more. It does nothing when it runs.
+/// gave, each that says a conflict, and each that says what was lost, has its cause by the events and the journal before it. It
+/// is of what was asked last of its action, which is open and has no other answer to it. Where a node answered that, in the span
+/// of what was asked, the journal's table of the node had the action's own lock, or the row of this holder in this mode as the
+/// first one against what was asked, at naming against its top: of an action that began, and isn't on the path that asks. And
+/// what is lost was given up in the event, as the line before says. Two answers are left out: of a conflict that a store says,
+/// over a state in doubt, it says that this node answered a Load in the span, and no more; and of what is lost at naming without
+/// a giveup, as where no store is listed, that naming answered a Bind in the span. It does nothing when it runs.
 pub fn answers_have_causes()
     ensures runs { AnswersHaveCauses }
 {}

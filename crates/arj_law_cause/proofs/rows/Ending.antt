@@ -2,7 +2,7 @@
 use Rattle.arj_law_parts.proofs.Words
 use Words.{⊎_elim, ◌≡◌, ◌∙◌, ◌++◌, ◌&&◌, ◌==◌, ℕ, Bool, true, false, cond, List, [], ◌∷◌, Option, Some, None, refl, sym, ap, ⊤}
 use Words.{option_map}
-use Words.{Ask, Asked, Binding, End, Head, Kind, Label, Message, Mode, ObjectState, Uid}
+use Words.{Ask, Asked, Binding, BoundReply, End, Head, Kind, Label, Message, Mode, ObjectState, Uid}
 use Words.{asks, object, Reply, actor, answers, answered, end_line, gaveup_lines, give_up, give_up_doing, gives_up}
 use Words.{heard, heard_by, heard_call, heard_doing, heard_none, heard_now, kept_at, moved_commit, next_node, root_lost, root_moved}
 use Words.{step_call}
@@ -50,6 +50,7 @@ pub data IsConflict (at : At) (r : Reply) (u : Uid) (m : Mode) (n : ℕ) : Type 
 abbrev pub EndsBy : At → Reply → CallEnd → Type 0
 EndsBy at r (Answered a) = (k : Known) × (i : ℕ) × (at ≡ AtInvoke k i) × (r ≡ Reply.Invoked (invoked.Answered a))
 EndsBy at r (Conflict u m n) = IsConflict at r u m n
+EndsBy at r (Lost n b) = (avoid : Binding) × (q : BoundReply) × (at ≡ AtBind avoid) × (r ≡ Reply.Bound q) × (n ≡ 1)
 EndsBy at r e = ⊤
 
 -- where it ends it
@@ -115,13 +116,13 @@ ends_by free kept g (AtBind avoid) (Reply.Bound (bound.Make b server given store
   where
     by : (o : Option At) → StepEnds (AtBind avoid) (Reply.Bound (bound.Make b server given stores))
         (made_by free (made_known b server given stores) kept o).step
-    by None = tt
+    by None = (avoid, bound.Make b server given stores, refl, refl, refl)
     by (Some at) = plain_ends (AtBind avoid) (Reply.Bound (bound.Make b server given stores))
         (bound_by free (made_known b server given stores) at kept).step (bound_plain free (made_known b server given stores) at kept)
 ends_by free kept g (AtBind avoid) (Reply.Bound (bound.Write given stores)) = by (load_from (write_known given stores) stores)
   where
     by : (o : Option At) → StepEnds (AtBind avoid) (Reply.Bound (bound.Write given stores)) (or_lost kept o).step
-    by None = tt
+    by None = (avoid, bound.Write given stores, refl, refl, refl)
     by (Some at) = tt
 ends_by free kept g (AtBind avoid) (Reply.Bound (bound.Conflict u m)) = ByNaming avoid refl refl refl
 ends_by free kept g (AtLoad k s rest) (Reply.Loaded (loaded.State st)) = by g

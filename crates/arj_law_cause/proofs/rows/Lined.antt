@@ -5,7 +5,7 @@ use Words.{sym, ap}
 use Words.{filter, ◌⊎◌, In, inl, inr, subst, ⊤, AllByRecursion, list_all, and_parts, append-nil, append_assoc, map-append, Start, Asked}
 use Words.{Body, Header, Kind}
 use Words.{Label, Line, Message, Uid, Reply, answers, again_all, begin_action, end_line, Answered, CallEnd, Changed, Conflict}
-use Words.{Ended, Goal, Include, Included, Lost, Run, Steps, At, AtActivate, AtBind, AtInvoke, AtLoad, AtNote, given_up, Calling, Coord}
+use Words.{Ended, Goal, Include, Included, Lost, Run, Steps, given_up, Calling, Coord}
 use Words.{Doing}
 use Words.{doing_of, Disk, Do, Effect, Say, Send, stopped, worked, Handled, Parts, Took, Void, handle, holders, query_about, with_coord}
 use Words.{Input}
@@ -35,7 +35,16 @@ use Rattle.arj_law_cause.proofs.rows.Dumb.{again_tolds, restart_dumb}
 use Rattle.arj_law_cause.proofs.rows.Ending.{Ending, EndsBy, GaveUp, Heard, Nothing, Said, Says, TurnsTo, acts_say, message_says}
 use Rattle.arj_law_cause.proofs.rows.Rows.{conflict_so, ok_so}
 use Rattle.arj_law_cause.proofs.rows.Taking.{AskedPaths, IsPathAt, Works, caller, stands_on, taken}
-use Rattle.arj_law_cause.specs.rows.Lines.{answer_fits}
+use Rattle.arj_law_runs.proofs.journal.Beginning as Beginning
+use Rattle.arj_law_runs.proofs.journal.Beginning.{named_at}
+use Rattle.arj_law_lock_view.proofs.asking.Keeping.{mine}
+use Rattle.arj_law_parts.specs.moves.With.{Brings}
+use Rattle.arj_model.specs.CauseAnswers.{gives_up}
+use Rattle.arj_model.specs.Caused.{has_cause}
+use Rattle.arj_law_cause.proofs.rows.Giving.{brings_give, given_lost, lost_so}
+use Rattle.arj_law_cause.proofs.rows.Rows.{lost_at_naming}
+use Words.{◌||◌, Branch, branch_named, bytes_eq, bytes_eq-Decides, given_up, name, next_node}
+use Rattle.arj_law_cause.specs.rows.Lines.{answer_fits, came_from_naming}
 
 -- ---- lines
 
@@ -43,6 +52,7 @@ use Rattle.arj_law_cause.specs.rows.Lines.{answer_fits}
 fits_any : (h : Here) (b : Body) → is_reply b ≡ false → answer_fits h b ≡ true
 fits_any h (body.Ok l x o a) is = absurd (cc is)
 fits_any h (body.Conflict l u m n) is = absurd (cc is)
+fits_any h (body.Lost l n) is = absurd (cc is)
 fits_any h b is = refl
 
 plain_line : (b : Body) → is_plain_line b ≡ true → is_reply b ≡ false
@@ -106,29 +116,21 @@ dumb_free (Say b ∷ es) dumb = ((λ h. fits_any h b dumb.0), dumb_free es dumb.
 dumb_free (Send to m ∷ es) dumb = (tt, dumb_free es dumb.1)
 dumb_free (Do w ∷ es) dumb = (tt, dumb_free es dumb.1)
 
--- what is given up is lost
-lost_free : (x : ℕ) (goal : Goal) (g : CallEnd) (l : Label) (at : At) → given_up at ≡ Ended g → FitsAnywhere (end_line x goal g l)
-lost_free x goal (Answered a) l at is = absurd (other at is)
-  where
-    other : (at : At) → given_up at ≡ Ended (Answered a) → ⊥
-    other (AtBind avoid) is = cc is
-    other (AtLoad k s []) is = cc is
-    other (AtLoad k s (t ∷ ts)) is = cc is
-    other (AtActivate k st) is = cc is
-    other (AtNote k i) is = cc is
-    other (AtInvoke k i) is = cc is
-lost_free x goal (Included st) l at is = λ h. refl
-lost_free x goal (Conflict u m n) l at is = absurd (other at is)
-  where
-    other : (at : At) → given_up at ≡ Ended (Conflict u m n) → ⊥
-    other (AtBind avoid) is = cc is
-    other (AtLoad k s []) is = cc is
-    other (AtLoad k s (t ∷ ts)) is = cc is
-    other (AtActivate k st) is = cc is
-    other (AtNote k i) is = cc is
-    other (AtInvoke k i) is = cc is
-lost_free x goal (Changed n w) l at is = λ h. refl
-lost_free x goal (Lost n b) l at is = λ h. refl
+-- ---- tests
+
+first : (a b : Bool) → a ≡ true → (a || b) ≡ true
+first a b is = λ i. is i || b
+
+either : (a b : Bool) → b ≡ true → (a || b) ≡ true
+either true b is = refl
+either false b is = is
+
+-- an input about an action begins none
+no_begin : (i : Input) → is_act i ≡ true → (l : Label) (q : Kind) (p : Option Label) → i ≡ input.Begin l q p → ⊥
+no_begin i is l q p same = let no_way : false ≡ true = sym (ap is_act same) ∙ is in cc no_way
+
+some_is : {A : Type 0} {a b : A} → Some a ≡ Some b → a ≡ b
+some_is {A} {a} {b} is = let k : ◌≡◌ {A = Option A} (Some a) (Some b) = is in cc
 
 -- ---- inside of an event
 
@@ -290,7 +292,12 @@ module _ (hd : Header) (st : Start) (before : List Line) (event : ℕ) where
               W.firsts (kept_of s.x (root_at (root_of s.path) t.coord)) (stands_on hd k d t M W u w s found is) from a r
               (taken hd k d t M W u w s found is from m there a r answer act waits) v held n ends
           by (Changed n x) ends = refl
-          by (Lost n b) ends = refl
+          by (Lost n b) ends = either (has_cause (here_of accepted M M.seen.lines) (body.Lost w.label n))
+              (came_from_naming (here_of accepted M M.seen.lines) (name w.label) n) (lost_at_naming hd k M
+              (here_of accepted M M.seen.lines) refl refl (asks_same accepted (accepted_of M.past.askings) same) u w s
+              (caller hd k d t M W u w s found is) W.firsts (kept_of s.x (root_at (root_of s.path) t.coord))
+              (stands_on hd k d t M W u w s found is) from a r (taken hd k d t M W u w s found is from m there a r answer act waits)
+              ends.0 ends.1 n ends.2 ends.3 ends.4)
 
       message_lined : (v : Parts) (from : ℕ) (m : Message) (outs : List Effect) → seen.In (post from k m) M.seen.sent →
           handle k d t from m ≡ Took v outs → WalksWith Lined k outs (UpWith Lined k v) d M
@@ -317,15 +324,78 @@ module _ (hd : Header) (st : Start) (before : List Line) (event : ℕ) where
               (one_lined (end_line s.x s.goal g w.label) M
               (line_fits from m there u w s g found calls a r answer takes.act takes.waits takes.ends) h))
 
+      -- of an event that gives nothing up
       act_lined : (i : Input) (intents : List (Uid × Intent)) → ((l : Label) (q : Kind) (p : Option Label) → i ≡ input.Begin l q p → ⊥) →
-          AreFreeBy (does i intents t.coord).outs
-      act_lined i intents other = by (acts_say t.coord busy i intents other)
+          ((l : Label) → i ≡ input.GiveUp l → ⊥) → AreFreeBy (does i intents t.coord).outs
+      act_lined i intents other kept = by (acts_say t.coord busy i intents other)
         where
           by : Says (GaveUp t.coord i) t.coord (does i intents t.coord).outs → AreFreeBy (does i intents t.coord).outs
           by (Nothing dumb) = dumb_free (does i intents t.coord).outs dumb
-          by (Ending u w s g front found calls lined are (l, b, gives, named, why)) =
-              subst AreFreeBy (sym (are ∙ ap (λ es. es ++ Say (end_line s.x s.goal g w.label) ∷ []) why.line))
-              ((λ z. refl), (lost_free s.x s.goal g w.label s.at why.ends, tt))
+          by (Ending u w s g front found calls lined are (l, b, gives, named, why)) = absurd (kept l gives)
+
+      -- of one that gives a call up
+      give_lined : (l : Label) → Brings M.past.event (input.GiveUp l) → (let did = does (input.GiveUp l) d.intents t.coord in
+          WalksWith Lined k did.outs (UpWith Lined k (with_coord t did.part)) d M)
+      give_lined l brings = by (acts_say t.coord busy (input.GiveUp l) d.intents (no_begin (input.GiveUp l) refl))
+        where
+          lost : (u : Uid) (w : Doing) (s : Steps) (g : CallEnd) (m : Label) (b : Branch) → doing_of u t.coord ≡ Some w →
+              w.now ≡ Calling s → input.GiveUp l ≡ input.GiveUp m → branch_named m t.coord ≡ Some b → u ≡ actor b.path →
+              given_up s.at ≡ Ended g → (accepted : List AskedOf) → AreSameAsks accepted (accepted_of M.past.askings) →
+              (let N = said (body.GaveUp w.label (next_node s) ∷ []) M in
+              answer_fits (here_of accepted N N.seen.lines) (end_line s.x s.goal g w.label) ≡ true)
+          lost u w s g m b found calls gives named at_act ends accepted same =
+              let its = given_lost s.at g ends in
+              let N = said (body.GaveUp w.label (next_node s) ∷ []) M in
+              let H = here_of accepted N N.seen.lines in
+              subst (λ e. answer_fits H (end_line s.x s.goal e w.label) ≡ true) (sym its.2)
+              (subst (λ n. answer_fits H (body.Lost w.label n) ≡ true) its.3
+              (first (has_cause H (body.Lost w.label (next_node s))) (came_from_naming H (name w.label) (next_node s))
+              (lost_so k M H M.past.number u w s (caller hd k d t M W u w s found calls) (next_node s) refl
+              (asks_same accepted (accepted_of M.past.askings) same) before event h.wrote refl
+              (more M h.wrote (body.GaveUp w.label (next_node s) ∷ []) h.number h.lines)
+              (ap (gives_up (name w.label)) (brings_give M.past.event l brings) ∙ same_label))))
+            where
+              label_of_it : l ≡ m
+              label_of_it = let z : l ≡ m = cc gives in z
+
+              nm : Beginning.IsNamed t.coord m b
+              nm = named_at t.coord (let i = its k d t M W.paths W.tied in i.names) m b named
+
+              who : u ≡ nm.act
+              who =
+                  let i = mine k d t M W.paths W.tied nm.act nm.doing nm.does in
+                  at_act ∙ ap (λ (z : Branch). actor z.path) (sym (some_is (sym i.found ∙ nm.found))) ∙ i.at_end
+
+              doing_is : w ≡ nm.doing
+              doing_is = some_is (sym found ∙ ap (λ z. doing_of z t.coord) who ∙ nm.does)
+
+              same_label : bytes_eq (name l) (name w.label) ≡ true
+              same_label = ap (bytes_eq (name l)) (ap (λ (z : Doing). name z.label) doing_is ∙ nm.name_is ∙ ap name (sym label_of_it))
+                  ∙ (bytes_eq-Decides (name l) (name l)).1 refl
+
+          by : Says (GaveUp t.coord (input.GiveUp l)) t.coord (does (input.GiveUp l) d.intents t.coord).outs →
+              WalksWith Lined k (does (input.GiveUp l) d.intents t.coord).outs (UpWith Lined k
+              (with_coord t (let did = does (input.GiveUp l) d.intents t.coord in did.part))) d M
+          by (Nothing dumb) = free_walk k (with_coord t (let did = does (input.GiveUp l) d.intents t.coord in did.part))
+              (does (input.GiveUp l) d.intents t.coord).outs d M (dumb_free (does (input.GiveUp l) d.intents t.coord).outs dumb) h
+          by (Ending u w s g front found calls lined are (m, b, gives, named, why)) =
+              let N = said (body.GaveUp w.label (next_node s) ∷ []) M in
+              subst (λ es. WalksWith Lined k es (UpWith Lined k
+              (with_coord t (let did = does (input.GiveUp l) d.intents t.coord in did.part))) d M)
+              (sym (are ∙ ap (λ es. es ++ Say (end_line s.x s.goal g w.label) ∷ []) why.line))
+              (same_lined (said (end_line s.x s.goal g w.label ∷ []) N) (up k d (with_coord t (let did =
+              does (input.GiveUp l) d.intents t.coord in did.part)) (said (end_line s.x s.goal g w.label ∷ []) N)) refl refl
+              (one_lined (end_line s.x s.goal g w.label) N
+              (lost u w s g m b found calls gives named why.act why.ends)
+              (free_lined (body.GaveUp w.label (next_node s) ∷ []) M ((λ z. refl), tt) h)))
+
+      acts_lined : (i : Input) → is_act i ≡ true → Brings M.past.event i → IsFirst M →
+          (let did = does i d.intents t.coord in
+          WalksWith Lined k did.outs (UpWith Lined k (with_coord t did.part)) d (asks_now i t.coord M))
+      acts_lined (input.GiveUp l) is brings fresh = give_lined l brings
+      acts_lined i is brings fresh = let did = does i d.intents t.coord in
+          free_walk k (with_coord t did.part) did.outs d (asks_now i t.coord M) (act_lined i d.intents (no_begin i is)
+          (λ l same. absurd (cc same))) (asks_lined i t.coord M fresh h)
 
     pub lined_step : KeepsSteps hd Both
     lined_step = record {
@@ -341,10 +411,7 @@ module _ (hd : Header) (st : Start) (before : List Line) (event : ℕ) where
           (up k d t M) M refl refl h.1) v from m outs there is);
       act = λ k d t i M is brings fresh asks free h. let did = does i d.intents t.coord in
           both k did.outs (with_coord t did.part) d (asks_now i t.coord M) (steps.act k d t i M is brings fresh asks free h.0)
-          (free_walk k (with_coord t did.part) did.outs d (asks_now i t.coord M)
-          (act_lined k d t M (works k d t M h.0 (let q = h.1 in q.paths)) (same_lined (up k d t M) M refl refl h.1) i d.intents
-          (no_begin i is))
-          (asks_lined i t.coord M fresh (same_lined (up k d t M) M refl refl h.1)));
+          (acts_lined k d t M (works k d t M h.0 (let q = h.1 in q.paths)) (same_lined (up k d t M) M refl refl h.1) i is brings fresh);
       begin = λ k d t l how parent M brings fresh new gives none h.
           let did = begin_action l how parent (parent_of parent t.coord) t.coord in
           both k did.outs (with_coord t did.part) d (given l (record { node = k; serial = is_serial how }) M)
@@ -363,6 +430,3 @@ module _ (hd : Header) (st : Start) (before : List Line) (event : ℕ) where
           (free_walk k (parts_in k (d.inc + 1) d) (restart_outs hd k (d.inc + 1) d) d M
           (dumb_free (restart_outs hd k (d.inc + 1) d) (restart_dumb hd k (d.inc + 1) d)) (same_lined (at k d None M) M refl refl h.1));
     }
-      where
-        no_begin : (i : Input) → is_act i ≡ true → (l : Label) (q : Kind) (p : Option Label) → i ≡ input.Begin l q p → ⊥
-        no_begin i is l q p same = let no_way : false ≡ true = sym (ap is_act same) ∙ is in cc no_way

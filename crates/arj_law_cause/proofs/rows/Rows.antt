@@ -1,7 +1,8 @@
 -- A conflict, and an answer of an operation, has its cause by the journal where the line is written.
 use Rattle.arj_law_parts.proofs.Words
 use Words.{◌≡◌, ◌∙◌, ◌++◌, ◌&&◌, ◌||◌, not, ℕ, Bool, true, false, List, [], ◌∷◌, length, take, Option, Some, None, refl, sym}
-use Words.{◌⊎◌, ◌+◌, bytes_eq-Decides, ap, subst, arith, eq-eqb, and_parts, list_any, Binding, In, End, Ask, Asked, Event, Header, Line}
+use Words.{BoundReply, ◌⊎◌, ◌+◌, bytes_eq-Decides, ap, subst, arith, eq-eqb, and_parts}
+use Words.{list_any, Binding, In, End, Ask, Asked, Event, Header, Line}
 use Words.{Mode, Op, Row, Uid, entry, object}
 use Rattle.arj_protocol.specs.Words.{FrameKind}
 use Words.{Answer, Known, Label, leb-true, node_at, ◌≤◌, ◌<◌, is_nested, ask_at, op_mode, first_conflict, in_find, is_against, is_on}
@@ -34,7 +35,7 @@ use Rattle.arj_law_cause.proofs.rows.{Ending.IsConflict, Ending.ByNaming, Ending
 use Rattle.arj_law_cause.proofs.rows.Holders.{any_later, off_path, one_found, one_passes, upper_from}
 use Rattle.arj_law_cause.proofs.rows.{Paths.top_is, Spans.answered_at, Spans.in_range, Spans.rows_so}
 use Rattle.arj_law_cause.proofs.rows.Taking.{AskedPaths, IsCaller, IsTaken}
-use Rattle.arj_law_cause.specs.rows.{Lines.came_from_store, Says.entry_modes, Says.has_upper, Says.says_of}
+use Rattle.arj_law_cause.specs.rows.{Lines.came_from_naming, Lines.came_from_store, Says.entry_modes, Says.has_upper, Says.says_of}
 
 -- ---- requests
 
@@ -298,6 +299,15 @@ module _ (hd : Header) (k : ℕ) (M : Moment) (h : Here) (header : h.header ≡ 
     store_so x n rest v m at is write = λ i. same_mode (write i) mode.Write
         && row_so (λ y z. answered h z.at y.uid.node from (frame.Loaded ∷ []) (λ before. true))
         (found_at frame.Loaded (ap (λ z. frame_kind (response a z)) is) refl (λ before. true) refl) i
+
+    -- naming's answer without a store
+    pub lost_at_naming : (avoid : Binding) (z : BoundReply) (n : ℕ) → s.at ≡ AtBind avoid → r ≡ Reply.Bound z → n ≡ 1 →
+        came_from_naming h (name w.label) n ≡ true
+    lost_at_naming avoid z n at is one = λ i. eq-eqb n 1 one i
+        && row_so (λ y x. answered h x.at y.uid.node 1 (frame.Bound ∷ []) (λ before. true))
+        (subst (λ m. answered h (let x = q in x.at) (let y = c.act.uid in y.node) m (frame.Bound ∷ []) (λ before. true) ≡ true)
+        (sym (ap (λ x. node_at x) (sym at) ∙ T.node))
+        (found_at frame.Bound (ap (λ x. frame_kind (response a x)) is) refl (λ before. true) refl)) i
 
     -- any conflict's line
     pub conflict_so : (v : Uid) (m : Mode) (n : ℕ) → IsConflict s.at r v m n →

@@ -1,5 +1,5 @@
 -- The lines that answer calls, against the causes that the journal has for them.
-use Rattle.std.specs.Prelude.{◌≡◌, ℕ, List, [], ◌∷◌, Bool, true, ◌&&◌, ◌||◌}
+use Rattle.std.specs.Prelude.{◌≡◌, ℕ, List, [], ◌∷◌, Bool, true, ◌==◌, ◌&&◌, ◌||◌}
 use Rattle.arj_base.specs.declared.mode.Mode.{Mode}
 use Rattle.arj_base.specs.declared.mode.Mode.TheVariants.{Write}
 use Rattle.arj_journal.specs.declared.body.Body.{Body}
@@ -20,10 +20,16 @@ abbrev pub came_from_store : Here → List ℕ → Mode → ℕ → Bool
 came_from_store h l held n =
     same_mode held Write && asks_so h l (λ a k. answered h k.at a.uid.node n (frame.Loaded ∷ []) (λ before. true))
 
--- A line that answers a call as done has its cause; so has one that says a conflict, unless a store said it.
+-- naming answered what was asked; it does so with no store where none is listed
+abbrev pub came_from_naming : Here → List ℕ → ℕ → Bool
+came_from_naming h l n = (n == 1) && asks_so h l (λ a k. answered h k.at a.uid.node 1 (frame.Bound ∷ []) (λ before. true))
+
+-- A line that answers a call as done has its cause; so has one that says a conflict, unless a store said it; and one that says what was
+-- lost, by its giveup, unless naming answered.
 abbrev pub answer_fits : Here → Body → Bool
 answer_fits h (body.Ok l x op answer) = has_cause h (body.Ok l x op answer)
 answer_fits h (body.Conflict l u held n) = has_cause h (body.Conflict l u held n) || came_from_store h (name l) held n
+answer_fits h (body.Lost l n) = has_cause h (body.Lost l n) || came_from_naming h (name l) n
 answer_fits h _ = true
 
 -- so it is of each line that an event wrote
