@@ -1,9 +1,8 @@
 -- What answers say of the journal's tables, and that it is so; and that the lines of answers have their causes.
 --
--- A conflict is with the first row that stands against what was asked, and an operation is run in its lock (`Meeting`). Inside of an
--- event all
--- lines are of it (`Inside`), so tables show locks there, of actions that began (`Holders`), and whoever answers says what the table has
--- (`Telling`). Event by event so it is in whole runs (`Running`).
+-- A conflict is with the first row that stands against what was asked, and an operation is run in its lock (`Meeting`). Inside of an event
+-- all lines are of it (`Inside`), so tables show locks there, of actions that began (`Holders`), and whoever answers says what the table
+-- has (`Telling`). Event by event so it is in whole runs (`Running`).
 --
 -- A call ends at its coordinator by the answer that it takes, or given up (`Ending`, `Dumb`). There the action waits for what was asked
 -- last, and the answer was made in its span (`Taking`), under its path (`Paths`), where the journal's row finds it (`Spans`, `Rows`); what

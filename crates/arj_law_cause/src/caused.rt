@@ -8,7 +8,10 @@ ghost use Rattle.arj_law_cause.specs.rows.Lines.{AnswersHaveCauses};
 /// first one against what was asked, at naming against its top: of an action that began, and isn't on the path that asks. And
 /// what is lost was given up in the event, as the line before says. Two answers are left out: of a conflict that a store says,
 /// over a state in doubt, it says that this node answered a Load in the span, and no more; and of what is lost at naming without
-/// a giveup, as where no store is listed, that naming answered a Bind in the span. It does nothing when it runs.
+/// a giveup, as where no store is listed, that naming answered a Bind in the span. Of two more lines it says a part: one that
+/// answers an include is of the include that was asked last, of this store for this object; and one that says what changed is
+/// of a call, and an answer of this node or of naming was in the span, or one of some server that it has a copy, unless the
+/// action runs where that is. It does nothing when it runs.
 pub fn answers_have_causes()
     ensures runs { AnswersHaveCauses }
 {}

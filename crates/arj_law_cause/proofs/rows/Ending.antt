@@ -2,7 +2,7 @@
 use Rattle.arj_law_parts.proofs.Words
 use Words.{⊎_elim, ◌≡◌, ◌∙◌, ◌++◌, ◌&&◌, ◌==◌, ℕ, Bool, true, false, cond, List, [], ◌∷◌, Option, Some, None, refl, sym, ap, ⊤}
 use Words.{option_map}
-use Words.{Ask, Asked, Binding, BoundReply, End, Head, Kind, Label, Message, Mode, ObjectState, Uid}
+use Words.{Ask, Asked, Binding, BoundReply, End, Head, InvokedReply, Kind, Label, Message, Mode, ObjectState, RecordedReply, Uid}
 use Words.{asks, object, Reply, actor, answers, answered, end_line, gaveup_lines, give_up, give_up_doing, gives_up}
 use Words.{heard, heard_by, heard_call, heard_doing, heard_none, heard_now, kept_at, moved_commit, next_node, root_lost, root_moved}
 use Words.{step_call}
@@ -46,17 +46,28 @@ pub data IsConflict (at : At) (r : Reply) (u : Uid) (m : Mode) (n : ℕ) : Type 
       IsConflict at r u m n
   ByServer : (k : Known) (i : ℕ) → at ≡ AtInvoke k i → r ≡ Reply.Invoked (invoked.Conflict u m) → n ≡ k.server → IsConflict at r u m n
 
+-- A change is what naming's answer to a Bind, or to a Record, showed, or a server's answer to an Activate, or to an Invoke.
+pub data IsChange (at : At) (r : Reply) (n : ℕ) : Type 0 where
+  OnLive : (avoid b : Binding) (server i g : ℕ) (stores : List ℕ) → at ≡ AtBind avoid → r ≡ Reply.Bound (bound.Live b server i g stores) →
+      IsChange at r n
+  OnMake : (avoid b : Binding) (server g : ℕ) (stores : List ℕ) → at ≡ AtBind avoid → r ≡ Reply.Bound (bound.Make b server g stores) →
+      IsChange at r n
+  OnActivate : (k : Known) (st : ObjectState) (i : ℕ) → at ≡ AtActivate k st → r ≡ Reply.Activated i → IsChange at r n
+  OnNote : (k : Known) (i : ℕ) (q : RecordedReply) → at ≡ AtNote k i → r ≡ Reply.Noted q → IsChange at r n
+  OnInvoke : (k : Known) (i : ℕ) (q : InvokedReply) → at ≡ AtInvoke k i → r ≡ Reply.Invoked q → n ≡ k.server → IsChange at r n
+
 -- the answer ends the step so
-abbrev pub EndsBy : At → Reply → CallEnd → Type 0
-EndsBy at r (Answered a) = (k : Known) × (i : ℕ) × (at ≡ AtInvoke k i) × (r ≡ Reply.Invoked (invoked.Answered a))
-EndsBy at r (Conflict u m n) = IsConflict at r u m n
-EndsBy at r (Lost n b) = (avoid : Binding) × (q : BoundReply) × (at ≡ AtBind avoid) × (r ≡ Reply.Bound q) × (n ≡ 1)
-EndsBy at r e = ⊤
+abbrev pub EndsBy : Goal → At → Reply → CallEnd → Type 0
+EndsBy goal at r (Answered a) = (k : Known) × (i : ℕ) × (at ≡ AtInvoke k i) × (r ≡ Reply.Invoked (invoked.Answered a))
+EndsBy goal at r (Included st) = (n : ℕ) × (goal ≡ Include n)
+EndsBy goal at r (Conflict u m n) = IsConflict at r u m n
+EndsBy goal at r (Changed n w) = IsChange at r n
+EndsBy goal at r (Lost n b) = (avoid : Binding) × (q : BoundReply) × (at ≡ AtBind avoid) × (r ≡ Reply.Bound q) × (n ≡ 1)
 
 -- where it ends it
-abbrev StepEnds : At → Reply → CallStep → Type 0
-StepEnds at r (On next) = ⊤
-StepEnds at r (Ended e) = EndsBy at r e
+abbrev StepEnds : Goal → At → Reply → CallStep → Type 0
+StepEnds goal at r (On next) = ⊤
+StepEnds goal at r (Ended e) = EndsBy goal at r e
 
 -- the call goes on, or has changed
 abbrev IsPlain : CallStep → Type 0
@@ -64,13 +75,13 @@ IsPlain (On next) = ⊤
 IsPlain (Ended (Changed n w)) = ⊤
 IsPlain (Ended e) = ⊥
 
-plain_ends : (at : At) (r : Reply) (s : CallStep) → IsPlain s → StepEnds at r s
-plain_ends at r (On next) plain = tt
-plain_ends at r (Ended (Changed n w)) plain = tt
-plain_ends at r (Ended (Answered a)) plain = absurd plain
-plain_ends at r (Ended (Included st)) plain = absurd plain
-plain_ends at r (Ended (Conflict u m n)) plain = absurd plain
-plain_ends at r (Ended (Lost n b)) plain = absurd plain
+plain_ends : (goal : Goal) (at : At) (r : Reply) (s : CallStep) → ((n : ℕ) → IsChange at r n) → IsPlain s → StepEnds goal at r s
+plain_ends goal at r (On next) change plain = tt
+plain_ends goal at r (Ended (Changed n w)) change plain = change n
+plain_ends goal at r (Ended (Answered a)) change plain = absurd plain
+plain_ends goal at r (Ended (Included st)) change plain = absurd plain
+plain_ends goal at r (Ended (Conflict u m n)) change plain = absurd plain
+plain_ends goal at r (Ended (Lost n b)) change plain = absurd plain
 
 inc_plain : (i : ℕ) (kept : Known) (at : At) (o : Option ℕ) → IsPlain (with_inc i kept at o).step
 inc_plain i kept at None = tt
@@ -106,38 +117,41 @@ activated_plain k i (Some old) = by (binding_eq old.binding k.binding)
     by true = inc_plain i old (AtNote k i) old.inc
     by false = tt
 
-ends_by : (free : Bool) (kept : Option Known) (g : Goal) (at : At) (r : Reply) → StepEnds at r (answered free kept g at r).step
+ends_by : (free : Bool) (kept : Option Known) (g : Goal) (at : At) (r : Reply) → StepEnds g at r (answered free kept g at r).step
 ends_by free kept g (AtBind avoid) (Reply.Bound (bound.Live b server i given stores)) =
-    plain_ends (AtBind avoid) (Reply.Bound (bound.Live b server i given stores))
+    plain_ends g (AtBind avoid) (Reply.Bound (bound.Live b server i given stores))
     (answered free kept g (AtBind avoid) (Reply.Bound (bound.Live b server i given stores))).step
+    (λ n. OnLive avoid b server i given stores refl refl)
     (bound_plain free (calls.live_known b server i given stores) (AtInvoke (calls.live_known b server i given stores) i) kept)
 ends_by free kept g (AtBind avoid) (Reply.Bound (bound.Make b server given stores)) =
     by (load_from (made_known b server given stores) stores)
   where
-    by : (o : Option At) → StepEnds (AtBind avoid) (Reply.Bound (bound.Make b server given stores))
+    by : (o : Option At) → StepEnds g (AtBind avoid) (Reply.Bound (bound.Make b server given stores))
         (made_by free (made_known b server given stores) kept o).step
     by None = (avoid, bound.Make b server given stores, refl, refl, refl)
-    by (Some at) = plain_ends (AtBind avoid) (Reply.Bound (bound.Make b server given stores))
-        (bound_by free (made_known b server given stores) at kept).step (bound_plain free (made_known b server given stores) at kept)
+    by (Some at) = plain_ends g (AtBind avoid) (Reply.Bound (bound.Make b server given stores))
+        (bound_by free (made_known b server given stores) at kept).step (λ n. OnMake avoid b server given stores refl refl)
+        (bound_plain free (made_known b server given stores) at kept)
 ends_by free kept g (AtBind avoid) (Reply.Bound (bound.Write given stores)) = by (load_from (write_known given stores) stores)
   where
-    by : (o : Option At) → StepEnds (AtBind avoid) (Reply.Bound (bound.Write given stores)) (or_lost kept o).step
+    by : (o : Option At) → StepEnds g (AtBind avoid) (Reply.Bound (bound.Write given stores)) (or_lost kept o).step
     by None = (avoid, bound.Write given stores, refl, refl, refl)
     by (Some at) = tt
 ends_by free kept g (AtBind avoid) (Reply.Bound (bound.Conflict u m)) = ByNaming avoid refl refl refl
 ends_by free kept g (AtLoad k s rest) (Reply.Loaded (loaded.State st)) = by g
   where
-    by : (g : Goal) → StepEnds (AtLoad k s rest) (Reply.Loaded (loaded.State st)) (calls.loaded_state kept k st g).step
+    by : (g : Goal) → StepEnds g (AtLoad k s rest) (Reply.Loaded (loaded.State st)) (calls.loaded_state kept k st g).step
     by (Run o) = tt
-    by (Include n) = tt
+    by (Include n) = (n, refl)
 ends_by free kept g (AtLoad k s rest) (Reply.Loaded (loaded.InDoubt u)) = ByStore k s rest refl refl refl refl
 ends_by free kept g (AtActivate k st) (Reply.Activated i) =
-    plain_ends (AtActivate k st) (Reply.Activated i) (activated_by k i kept).step (activated_plain k i kept)
+    plain_ends g (AtActivate k st) (Reply.Activated i) (activated_by k i kept).step (λ n. OnActivate k st i refl refl)
+    (activated_plain k i kept)
 ends_by free kept g (AtNote k i) (Reply.Noted recorded.Yes) = tt
-ends_by free kept g (AtNote k i) (Reply.Noted (recorded.Changed w)) = tt
+ends_by free kept g (AtNote k i) (Reply.Noted (recorded.Changed w)) = OnNote k i (recorded.Changed w) refl refl
 ends_by free kept g (AtInvoke k i) (Reply.Invoked (invoked.Answered a)) = (k, i, refl, refl)
 ends_by free kept g (AtInvoke k i) (Reply.Invoked (invoked.Conflict u m)) = ByServer k i refl refl refl
-ends_by free kept g (AtInvoke k i) (Reply.Invoked (invoked.Changed w)) = tt
+ends_by free kept g (AtInvoke k i) (Reply.Invoked (invoked.Changed w)) = OnInvoke k i (invoked.Changed w) refl refl refl
 ends_by free kept g at r = tt
 
 -- ---- what a coordinator says
@@ -154,7 +168,7 @@ pub record Takes (from : ℕ) (a : Asked) (r : Reply) (u : Uid) (s : Steps) (g :
   pub alone : front ≡ []
   pub act : a.act ≡ u
   pub waits : waits_for_call from a r s ≡ true
-  pub ends : EndsBy s.at r g
+  pub ends : EndsBy s.goal s.at r g
 
 -- it took an answer
 abbrev pub Heard : ℕ → Message → Uid → Doing → Steps → CallEnd → List Effect → Type 0
@@ -190,7 +204,7 @@ module _ (c : Coord) (busy : (u : Uid) (d : Doing) (s : Steps) → doing_of u c 
       now d found Idle is = Nothing tt
       now d found (Calling s) is = one (waits_for_call from a r s) refl
         where
-          stepped : waits_for_call from a r s ≡ true → (n : CallStep) → StepEnds s.at r n →
+          stepped : waits_for_call from a r s ≡ true → (n : CallStep) → StepEnds s.goal s.at r n →
               Out (step_call s n (on_root (root_of s.path)
               (root_moved s r (answered (is_free (root_of s.path) (actor s.path) s.x c) (kept_at s c) s.goal s.at r)) c)).outs
           stepped waits (On next) ends = Nothing (tt, tt)

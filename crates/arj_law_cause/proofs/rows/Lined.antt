@@ -33,7 +33,10 @@ use Rattle.arj_model.specs.Past.{Asked as AskedOf}
 use Rattle.arj_law_cause.proofs.rows.Asks.{AreSameAsks, asks_same, asks_some}
 use Rattle.arj_law_cause.proofs.rows.Dumb.{again_tolds, restart_dumb}
 use Rattle.arj_law_cause.proofs.rows.Ending.{Ending, EndsBy, GaveUp, Heard, Nothing, Said, Says, TurnsTo, acts_say, message_says}
-use Rattle.arj_law_cause.proofs.rows.Rows.{conflict_so, ok_so}
+use Rattle.arj_law_cause.proofs.rows.Rows.{changed_so, conflict_so, included_so, ok_so}
+use Rattle.arj_law_cause.proofs.rows.Spans.{or_first, or_last}
+use Rattle.arj_law_runs.specs.addresses.Binds.{StandsOn}
+use Words.{AtInvoke}
 use Rattle.arj_law_cause.proofs.rows.Taking.{AskedPaths, IsPathAt, Works, caller, stands_on, taken}
 use Rattle.arj_law_runs.proofs.journal.Beginning as Beginning
 use Rattle.arj_law_runs.proofs.journal.Beginning.{named_at}
@@ -43,7 +46,7 @@ use Rattle.arj_model.specs.CauseAnswers.{gives_up}
 use Rattle.arj_model.specs.Caused.{has_cause}
 use Rattle.arj_law_cause.proofs.rows.Giving.{brings_give, given_lost, lost_so}
 use Rattle.arj_law_cause.proofs.rows.Rows.{lost_at_naming}
-use Words.{◌||◌, Branch, branch_named, bytes_eq, bytes_eq-Decides, given_up, name, next_node}
+use Words.{Branch, branch_named, bytes_eq, bytes_eq-Decides, given_up, name, next_node}
 use Rattle.arj_law_cause.specs.rows.Lines.{answer_fits, came_from_naming}
 
 -- ---- lines
@@ -53,6 +56,8 @@ fits_any : (h : Here) (b : Body) → is_reply b ≡ false → answer_fits h b �
 fits_any h (body.Ok l x o a) is = absurd (cc is)
 fits_any h (body.Conflict l u m n) is = absurd (cc is)
 fits_any h (body.Lost l n) is = absurd (cc is)
+fits_any h (body.Includes l x n) is = absurd (cc is)
+fits_any h (body.Changed l n d) is = absurd (cc is)
 fits_any h b is = refl
 
 plain_line : (b : Body) → is_plain_line b ≡ true → is_reply b ≡ false
@@ -117,13 +122,6 @@ dumb_free (Send to m ∷ es) dumb = (tt, dumb_free es dumb.1)
 dumb_free (Do w ∷ es) dumb = (tt, dumb_free es dumb.1)
 
 -- ---- tests
-
-first : (a b : Bool) → a ≡ true → (a || b) ≡ true
-first a b is = λ i. is i || b
-
-either : (a b : Bool) → b ≡ true → (a || b) ≡ true
-either true b is = refl
-either false b is = is
 
 -- an input about an action begins none
 no_begin : (i : Input) → is_act i ≡ true → (l : Label) (q : Kind) (p : Option Label) → i ≡ input.Begin l q p → ⊥
@@ -272,12 +270,12 @@ module _ (hd : Header) (st : Start) (before : List Line) (event : ℕ) where
       -- the line of a call that takes an answer
       line_fits : (from : ℕ) (m : Message) → seen.In (post from k m) M.seen.sent → (u : Uid) (w : Doing) (s : Steps) (g : CallEnd) →
           doing_of u t.coord ≡ Some w → w.now ≡ Calling s → (a : Asked) (r : Reply) → answers m ≡ Some (a, r) → a.act ≡ u →
-          waits_for_call from a r s ≡ true → EndsBy s.at r g → (accepted : List AskedOf) →
+          waits_for_call from a r s ≡ true → EndsBy s.goal s.at r g → (accepted : List AskedOf) →
           AreSameAsks accepted (accepted_of M.past.askings) →
           answer_fits (here_of accepted M M.seen.lines) (end_line s.x s.goal g w.label) ≡ true
       line_fits from m there u w s g found is a r answer act waits ends accepted same = by g ends
         where
-          by : (g : CallEnd) → EndsBy s.at r g → answer_fits (here_of accepted M M.seen.lines) (end_line s.x s.goal g w.label) ≡ true
+          by : (g : CallEnd) → EndsBy s.goal s.at r g → answer_fits (here_of accepted M M.seen.lines) (end_line s.x s.goal g w.label) ≡ true
           by (Answered b) ends = on s.goal refl
             where
               on : (z : Goal) → s.goal ≡ z → answer_fits (here_of accepted M M.seen.lines) (answer_line s.x z b w.label) ≡ true
@@ -285,14 +283,23 @@ module _ (hd : Header) (st : Start) (before : List Line) (event : ℕ) where
                   (asks_same accepted (accepted_of M.past.askings) same) u w s (caller hd k d t M W u w s found is) W.firsts
                   (kept_of s.x (root_at (root_of s.path) t.coord)) (stands_on hd k d t M W u w s found is) from a r
                   (taken hd k d t M W u w s found is from m there a r answer act waits) ends.0 ends.1 o b ends.2 goal ends.3
-              on (Include n) goal = refl
-          by (Included stored) ends = refl
+              on (Include n) goal = let never : ⊥ = subst (λ z. StandsOn z (kept_of s.x (root_at (root_of s.path) t.coord))
+                  (AtInvoke ends.0 ends.1)) goal (subst (StandsOn s.goal (kept_of s.x (root_at (root_of s.path) t.coord))) ends.2
+                  (stands_on hd k d t M W u w s found is)) in absurd never
+          by (Included stored) ends =
+              subst (λ z. answer_fits (here_of accepted M M.seen.lines) (end_line s.x z (Included stored) w.label) ≡ true) (sym ends.1)
+              (included_so hd k M (here_of accepted M M.seen.lines) refl refl
+              (asks_same accepted (accepted_of M.past.askings) same) u w s (caller hd k d t M W u w s found is) W.firsts
+              (kept_of s.x (root_at (root_of s.path) t.coord)) (stands_on hd k d t M W u w s found is) ends.0 ends.1)
           by (Conflict v held n) ends = conflict_so hd k M (here_of accepted M M.seen.lines) refl refl
               (asks_same accepted (accepted_of M.past.askings) same) u w s (caller hd k d t M W u w s found is)
               W.firsts (kept_of s.x (root_at (root_of s.path) t.coord)) (stands_on hd k d t M W u w s found is) from a r
               (taken hd k d t M W u w s found is from m there a r answer act waits) v held n ends
-          by (Changed n x) ends = refl
-          by (Lost n b) ends = either (has_cause (here_of accepted M M.seen.lines) (body.Lost w.label n))
+          by (Changed n x) ends = changed_so hd k M (here_of accepted M M.seen.lines) refl refl
+              (asks_same accepted (accepted_of M.past.askings) same) u w s (caller hd k d t M W u w s found is) W.firsts
+              (kept_of s.x (root_at (root_of s.path) t.coord)) (stands_on hd k d t M W u w s found is) from a r
+              (taken hd k d t M W u w s found is from m there a r answer act waits) n ends
+          by (Lost n b) ends = or_last (has_cause (here_of accepted M M.seen.lines) (body.Lost w.label n))
               (came_from_naming (here_of accepted M M.seen.lines) (name w.label) n) (lost_at_naming hd k M
               (here_of accepted M M.seen.lines) refl refl (asks_same accepted (accepted_of M.past.askings) same) u w s
               (caller hd k d t M W u w s found is) W.firsts (kept_of s.x (root_at (root_of s.path) t.coord))
@@ -349,7 +356,7 @@ module _ (hd : Header) (st : Start) (before : List Line) (event : ℕ) where
               let H = here_of accepted N N.seen.lines in
               subst (λ e. answer_fits H (end_line s.x s.goal e w.label) ≡ true) (sym its.2)
               (subst (λ n. answer_fits H (body.Lost w.label n) ≡ true) its.3
-              (first (has_cause H (body.Lost w.label (next_node s))) (came_from_naming H (name w.label) (next_node s))
+              (or_first (has_cause H (body.Lost w.label (next_node s))) (came_from_naming H (name w.label) (next_node s))
               (lost_so k M H M.past.number u w s (caller hd k d t M W u w s found calls) (next_node s) refl
               (asks_same accepted (accepted_of M.past.askings) same) before event h.wrote refl
               (more M h.wrote (body.GaveUp w.label (next_node s) ∷ []) h.number h.lines)

@@ -7,7 +7,7 @@ use Words.{Mode, Op, Row, Uid, entry, object}
 use Rattle.arj_protocol.specs.Words.{FrameKind}
 use Words.{Answer, Known, Label, leb-true, node_at, ◌≤◌, ◌<◌, is_nested, ask_at, op_mode, first_conflict, in_find, is_against, is_on}
 use Words.{last_uid, name, uid_eq, uid_is, uids_of, top_path, tops_of, actor, Reply, response, frame_kind}
-use Words.{is_include, At, AtBind, AtInvoke, AtLoad, Goal, Include, Run, Steps, Doing, nat_le}
+use Words.{⊎_elim, ◌==◌, inl, inr, is_include, At, AtActivate, AtBind, AtInvoke, AtLoad, AtNote, Goal, Include, Run, Steps, Doing, nat_le}
 use Words.ask
 use Words.bound
 use Words.frame
@@ -24,18 +24,21 @@ use Rattle.arj_law_parts.specs.parts.Messages.{IsTopAction}
 use Rattle.arj_law_runs.specs.addresses.Binds.{StandsOn}
 use Rattle.arj_law_runs.specs.calls.Coords.{bare, head_of}
 use Rattle.arj_model.specs.CauseAnswers.{conflict_caused, has_lock, is_held, meets, meets_at_naming, meets_at_server, meets_at_store}
-use Rattle.arj_model.specs.CauseAnswers.{mode_of_call}
-use Rattle.arj_model.specs.CauseAnswers.{modes_on_entry, ok_caused}
-use Rattle.arj_model.specs.CauseSpans.{Here, act_by, answered, asks_so, holds_in, is_call_of, nodes_of, same_frame, same_mode, same_op}
+use Rattle.arj_model.specs.CauseAnswers.{mode_of_call, modes_on_entry, ok_caused, was_told}
+use Rattle.arj_model.specs.CauseSpans.{Here, act_by, answered, asks_so, holds_in, is_call, is_call_of, is_include_of, nodes_of, same_frame}
+use Rattle.arj_model.specs.CauseSpans.{same_mode, same_op, was_sent}
 use Rattle.arj_model.specs.CauseSpans.{top_uids}
 use Rattle.arj_model.specs.Past.{Asked as AskedOf, label_of}
 use Rattle.arj_model.specs.Refusals.{answers_to, asks_by, has_ended, last_asked, object_used}
 use Rattle.arj_model.specs.Table.{table}
-use Rattle.arj_law_cause.proofs.rows.{Ending.IsConflict, Ending.ByNaming, Ending.ByServer, Ending.ByStore}
+use Rattle.arj_law_cause.proofs.rows.Ending.{IsChange, OnActivate, OnInvoke, OnLive, OnMake, OnNote}
+use Rattle.arj_law_cause.proofs.rows.Ending.{IsConflict, ByNaming, ByServer, ByStore}
 use Rattle.arj_law_cause.proofs.rows.Holders.{any_later, off_path, one_found, one_passes, upper_from}
-use Rattle.arj_law_cause.proofs.rows.{Paths.top_is, Spans.answered_at, Spans.in_range, Spans.rows_so}
+use Rattle.arj_law_cause.proofs.rows.Paths.{top_is}
+use Rattle.arj_law_cause.proofs.rows.Spans.{answered_at, in_range, or_first, or_last, rows_so, sent_to}
 use Rattle.arj_law_cause.proofs.rows.Taking.{AskedPaths, IsCaller, IsTaken}
-use Rattle.arj_law_cause.specs.rows.{Lines.came_from_naming, Lines.came_from_store, Says.entry_modes, Says.has_upper, Says.says_of}
+use Rattle.arj_law_cause.specs.rows.Lines.{came_from_naming, came_from_store, was_activated, was_called, was_include}
+use Rattle.arj_law_cause.specs.rows.Says.{entry_modes, has_upper, says_of}
 
 -- ---- requests
 
@@ -117,10 +120,15 @@ began xs u is =
     let q = one_passes (λ (a : Act). uid_eq a.uid u && not (is_nested a.kind)) xs is in
     any_in (λ (a : Act). uid_eq a.uid u) q.0 xs q.1 (and_parts (uid_eq (let a = q.0 in a.uid) u) _ q.2).0
 
--- only a call is run
-only_run : (g : Goal) (kept : Option Known) (at : At) (x : Known) (i : ℕ) → StandsOn g kept at → at ≡ AtInvoke x i → (o : Op) × (g ≡ Run o)
-only_run (Run o) kept at x i stands is = (o, refl)
-only_run (Include n) kept at x i stands is = let never : ⊥ = subst (StandsOn (Include n) kept) is stands in absurd never
+-- only a call is run, and goes to a server
+pub only_run : (g : Goal) (kept : Option Known) (at b : At) → StandsOn g kept at → at ≡ b →
+    ((n : ℕ) → StandsOn (Include n) kept b → ⊥) → (o : Op) × (g ≡ Run o)
+only_run (Run o) kept at b stands is never = (o, refl)
+only_run (Include n) kept at b stands is never = absurd (never n (subst (StandsOn (Include n) kept) is stands))
+
+runs_so : (g : Goal) → is_include g ≡ false → (o : Op) × (g ≡ Run o)
+runs_so (Run o) is = (o, refl)
+runs_so (Include n) is = let no_way : true ≡ false = is in absurd (cc no_way)
 
 -- ---- the rows
 
@@ -155,6 +163,12 @@ module _ (hd : Header) (k : ℕ) (M : Moment) (h : Here) (header : h.header ≡ 
   known v before after are is = one_found (λ (a : Act). uid_eq a.uid v) (acts h.lines)
       (ap (λ ls. has_act (acts ls) v) (lines ∙ are) ∙ any_later (λ (a : Act). uid_eq a.uid v) before after is)
 
+  -- an include that is done
+  pub included_so : (n : ℕ) → s.goal ≡ Include n → was_include h (name w.label) s.x n ≡ true
+  included_so n goal = row_so (λ b z. is_include_of s.x n z.event)
+      (ap (is_include_of s.x n) (its_event ∙ ap (asks_goal (let g = c.asked.goal in g.0) s.x) goal)
+      ∙ (λ i. eq-eqb s.x s.x refl i && eq-eqb n n refl i))
+
   -- ---- an answer that it takes
 
   module _ (from : ℕ) (a : Asked) (r : Reply) (T : IsTaken hd k from M s (let z = c.asked in z.asking) a r) where
@@ -165,6 +179,17 @@ module _ (hd : Header) (k : ℕ) (M : Moment) (h : Here) (header : h.header ≡ 
         subst (λ home. answered h (let z = q in z.at) home from (what ∷ []) shows ≡ true) (sym c.home)
         (answered_at h (let z = q in z.at) k from what (what ∷ []) shows T.before T.after (lines ∙ T.are) T.late
         (subst (λ z. (from ≡ k) ⊎ BeginsWith from k z T.after) kind T.framed) (λ i. same i || false) is)
+
+    -- the answer came from a node
+    among : In from (nodes_of h.header)
+    among = subst (λ (z : Header). In from (nodes_of z)) (sym header) (in_range 1 hd.nodes from (leb-true 1 from p.0)
+        (high from hd.nodes (leb-true from hd.nodes p.1)))
+      where
+        p : (nat_le 1 from ≡ true) × (nat_le from hd.nodes ≡ true)
+        p = and_parts (nat_le 1 from) (nat_le from hd.nodes) T.sender
+
+        high : (m n : ℕ) → m ≤ n → m < 1 + n
+        high m n le = omega (arith, le)
 
     -- a conflict, by what the row finds of it
     conflict_by : (v : Uid) (m : Mode) → has_act (acts T.before) v ≡ true → is_on (uids_of s.path) v ≡ false →
@@ -189,7 +214,7 @@ module _ (hd : Header) (k : ℕ) (M : Moment) (h : Here) (header : h.header ≡ 
         || meets_at_store h c.act (let z = c.asked in let y = z.asking in y.asked) s.x v m from))
       where
         run : (o : Op) × (s.goal ≡ Run o)
-        run = only_run s.goal kept s.at x i stands at
+        run = only_run s.goal kept s.at (AtInvoke x i) stands at (λ n off. off)
 
         request : (ends : List (Uid × End)) × (T.ask ≡ ask.Invoke s.x x.binding i ends run.0)
         request = invoke_is T.ask s.x x.binding i run.0 (T.same ∙ (λ j. ask_at s.x (run.1 j) [] (at j)))
@@ -224,21 +249,105 @@ module _ (hd : Header) (k : ℕ) (M : Moment) (h : Here) (header : h.header ≡ 
         so = subst (λ z. says_of from (head_of s) z (Reply.Invoked (invoked.Answered b)) T.before) request.1
             (subst (λ z. says_of from (head_of s) T.ask z T.before) is T.so)
 
-        among : In from (nodes_of hd)
-        among =
-            let p = and_parts (nat_le 1 from) (nat_le from hd.nodes) T.sender in
-            in_range 1 hd.nodes from (leb-true 1 from p.0) (high from hd.nodes (leb-true from hd.nodes p.1))
-          where
-            high : (m n : ℕ) → m ≤ n → m < 1 + n
-            high m n le = omega (arith, le)
-
         locked : list_any (λ n. answered h (let z = q in z.at) (let y = c.act.uid in y.node) n (frame.Invoked ∷ [])
             (has_lock n c.act.uid (object s.x) (op_mode o))) (nodes_of h.header) ≡ true
         locked = any_in (λ n. answered h (let z = q in z.at) (let y = c.act.uid in y.node) n (frame.Invoked ∷ [])
             (has_lock n c.act.uid (object s.x) (op_mode o))) from (nodes_of h.header)
-            (subst (λ (z : Header). In from (nodes_of z)) (sym header) among)
+            among
             (found_at frame.Invoked (ap (λ z. frame_kind (response a z)) is) refl (has_lock from c.act.uid (object s.x) (op_mode o))
             (ap (λ v. has_lock from v (object s.x) (op_mode o) T.before) (c.uid ∙ sym c.actor) ∙ so))
+
+    -- its frame was sent in the span, unless it's the action's own node
+    sent_so : (what : FrameKind) (kinds : List FrameKind) → frame_kind (response a r) ≡ what →
+        list_any (same_frame what) kinds ≡ true →
+        ((let v = c.act.uid in v.node) ≡ from) ⊎ (was_sent h (let z = q in z.at) from (let v = c.act.uid in v.node) kinds ≡ true)
+    sent_so what kinds kind among_them =
+        ⊎_elim {C = ((let v = c.act.uid in v.node) ≡ from) ⊎ (was_sent h (let z = q in z.at) from (let v = c.act.uid in v.node) kinds ≡ true)}
+        (λ same. inl (c.home ∙ sym same))
+        (λ f. inr (subst (λ home. was_sent h (let z = q in z.at) from home kinds ≡ true) (sym c.home) f))
+        (sent_to h (let z = q in z.at) k from what kinds (λ before. true) T.before T.after (lines ∙ T.are) T.late
+        (subst (λ z. (from ≡ k) ⊎ BeginsWith from k z T.after) kind T.framed) among_them refl)
+
+    -- a call of which this was told
+    called_so : (n : ℕ) (o : Op) → s.goal ≡ Run o → (was_told h n c.act q || was_activated h c.act q) ≡ true →
+        was_called h (name w.label) n ≡ true
+    called_so n o goal is = row_so (λ b z. is_call z.event && (was_told h n b z || was_activated h b z))
+        (λ j. (ap is_call (its_event ∙ ap (asks_goal (let g = c.asked.goal in g.0) s.x) goal)) j && is j)
+
+    -- by naming
+    named_told : (n : ℕ) (what : FrameKind) → from ≡ 1 → frame_kind (response a r) ≡ what →
+        list_any (same_frame what) (frame.Bound ∷ frame.Recorded ∷ []) ≡ true →
+        (was_told h n c.act q || was_activated h c.act q) ≡ true
+    named_told n what one kind among_them = or_first (was_told h n c.act q) (was_activated h c.act q)
+        (⊎_elim {C = was_told h n c.act q ≡ true}
+        (λ same. or_first ((let v = c.act.uid in v.node) == 1) (its_node || (by_server || by_naming))
+        (eq-eqb (let v = c.act.uid in v.node) 1 (same ∙ one)))
+        (λ sent. or_last ((let v = c.act.uid in v.node) == 1) (its_node || (by_server || by_naming))
+        (or_last its_node (by_server || by_naming) (or_last by_server by_naming
+        (subst (λ m. was_sent h (let z = q in z.at) m (let v = c.act.uid in v.node) (frame.Bound ∷ frame.Recorded ∷ []) ≡ true) one sent))))
+        (sent_so what (frame.Bound ∷ frame.Recorded ∷ []) kind among_them))
+      where
+        its_node : Bool
+        its_node = (let v = c.act.uid in v.node) == n
+
+        by_server : Bool
+        by_server = was_sent h (let z = q in z.at) n (let v = c.act.uid in v.node) (frame.Activated ∷ frame.Invoked ∷ [])
+
+        by_naming : Bool
+        by_naming = was_sent h (let z = q in z.at) 1 (let v = c.act.uid in v.node) (frame.Bound ∷ frame.Recorded ∷ [])
+
+    -- by the server
+    server_told : (n : ℕ) → from ≡ n → frame_kind (response a r) ≡ frame.Invoked →
+        (was_told h n c.act q || was_activated h c.act q) ≡ true
+    server_told n one kind = or_first (was_told h n c.act q) (was_activated h c.act q)
+        (or_last ((let v = c.act.uid in v.node) == 1) (its_node || (by_server || by_naming))
+        (⊎_elim {C = (its_node || (by_server || by_naming)) ≡ true}
+        (λ same. or_first its_node (by_server || by_naming) (eq-eqb (let v = c.act.uid in v.node) n (same ∙ one)))
+        (λ sent. or_last its_node (by_server || by_naming) (or_first by_server by_naming
+        (subst (λ m. was_sent h (let z = q in z.at) m (let v = c.act.uid in v.node) (frame.Activated ∷ frame.Invoked ∷ []) ≡ true) one
+        sent))) (sent_so frame.Invoked (frame.Activated ∷ frame.Invoked ∷ []) kind refl)))
+      where
+        its_node : Bool
+        its_node = (let v = c.act.uid in v.node) == n
+
+        by_server : Bool
+        by_server = was_sent h (let z = q in z.at) n (let v = c.act.uid in v.node) (frame.Activated ∷ frame.Invoked ∷ [])
+
+        by_naming : Bool
+        by_naming = was_sent h (let z = q in z.at) 1 (let v = c.act.uid in v.node) (frame.Bound ∷ frame.Recorded ∷ [])
+
+    -- what changed, in a call
+    pub changed_so : (n : ℕ) → IsChange s.at r n → was_called h (name w.label) n ≡ true
+    changed_so n (OnLive avoid b server i g stores at is) =
+        let so : is_include s.goal ≡ false =
+        subst (λ z. says_of from (head_of s) z (Reply.Bound (bound.Live b server i g stores)) T.before)
+        (bind_is T.ask s.x (is_include s.goal) avoid (T.same ∙ (λ j. ask_at s.x s.goal [] (at j))))
+        (subst (λ z. says_of from (head_of s) T.ask z T.before) is T.so) in
+        let run = runs_so s.goal so in
+        called_so n run.0 run.1 (named_told n frame.Bound (sym T.node ∙ ap (λ z. node_at z) at)
+        (ap (λ z. frame_kind (response a z)) is) refl)
+    changed_so n (OnMake avoid b server g stores at is) =
+        let so : is_include s.goal ≡ false =
+        subst (λ z. says_of from (head_of s) z (Reply.Bound (bound.Make b server g stores)) T.before)
+        (bind_is T.ask s.x (is_include s.goal) avoid (T.same ∙ (λ j. ask_at s.x s.goal [] (at j))))
+        (subst (λ z. says_of from (head_of s) T.ask z T.before) is T.so) in
+        let run = runs_so s.goal so in
+        called_so n run.0 run.1 (named_told n frame.Bound (sym T.node ∙ ap (λ z. node_at z) at)
+        (ap (λ z. frame_kind (response a z)) is) refl)
+    changed_so n (OnActivate x st i at is) =
+        let run = only_run s.goal kept s.at (AtActivate x st) stands at (λ m off. off) in
+        called_so n run.0 run.1 (or_last (was_told h n c.act q) (was_activated h c.act q)
+        (any_in (λ m. answered h (let z = q in z.at) (let v = c.act.uid in v.node) m (frame.Activated ∷ []) (λ before. true)) from
+        (nodes_of h.header) among
+        (found_at frame.Activated (ap (λ z. frame_kind (response a z)) is) refl (λ before. true) refl)))
+    changed_so n (OnNote x i z at is) =
+        let run = only_run s.goal kept s.at (AtNote x i) stands at (λ m off. off) in
+        called_so n run.0 run.1 (named_told n frame.Recorded (sym T.node ∙ ap (λ y. node_at y) at)
+        (ap (λ y. frame_kind (response a y)) is) refl)
+    changed_so n (OnInvoke x i z at is one) =
+        let run = only_run s.goal kept s.at (AtInvoke x i) stands at (λ m off. off) in
+        called_so n run.0 run.1 (server_told n (sym (one ∙ ap (λ y. node_at y) (sym at) ∙ T.node))
+        (ap (λ y. frame_kind (response a y)) is))
 
     -- naming's conflict
     naming_so : (avoid : Binding) (v : Uid) (m : Mode) → s.at ≡ AtBind avoid → r ≡ Reply.Bound (bound.Conflict v m) →

@@ -1,6 +1,6 @@
 -- Where an answer was made in the span of what was asked, the journal's row finds it.
 use Rattle.arj_law_parts.proofs.Words
-use Words.{⊎_elim, ◌≡◌, ◌⊎◌, ◌≤◌, ◌<◌, ◌∙◌, ◌+◌, ◌-◌, ◌==◌, ◌++◌, ◌&&◌, ℕ, zero, suc, Bool, true, false, cond, List, [], ◌∷◌}
+use Words.{⊎_elim, ◌≡◌, ◌⊎◌, ◌≤◌, ◌<◌, ◌∙◌, ◌+◌, ◌-◌, ◌==◌, ◌++◌, ◌&&◌, ◌||◌, ℕ, zero, suc, Bool, true, false, cond, List, [], ◌∷◌}
 use Rattle.std.specs.Prelude.{drop}
 use Rattle.arj_protocol.specs.Words.{FrameKind}
 use Words.{length, take, Some, None, refl, sym, ap, inl, inr, arith, nat_lt, nat_tests, eqb-true, eq-eqb, list_any}
@@ -8,11 +8,20 @@ use Words.{length-append, In, if◌then◌else◌, Line}
 use Rattle.arj_law_serial.proofs.Terms
 use Terms.{Act, act_in, acts, any_in}
 use Rattle.arj_law_lock_view.specs.moments.Made.{BeginsWith}
-use Rattle.arj_model.specs.CauseSpans.{Here, answered, asking, asks_so, begins_with, from_place, holds_in, is_frame, same_frame}
+use Rattle.arj_model.specs.CauseSpans.{Here, answered, asking, asks_so, begins_with, from_place, holds_in, is_frame, same_frame, was_sent}
 use Rattle.arj_model.specs.Past.{Asked}
 use Rattle.arj_model.specs.Refusals.{answers_to, asks_by, has_ended, holds_of, last_asked, unanswered}
 use Rattle.std.proofs.Math.Seq.{drop-append_seam, take-append_seam}
 use Rattle.std.specs.List.{range_with_len}
+
+-- ---- tests
+
+pub or_first : (a b : Bool) → a ≡ true → (a || b) ≡ true
+or_first a b is = λ i. is i || b
+
+pub or_last : (a b : Bool) → b ≡ true → (a || b) ≡ true
+or_last true b is = refl
+or_last false b is = is
 
 -- ---- places
 
@@ -26,6 +35,16 @@ in_range a (suc n) p low high = by (a == p) refl (in_range (a + 1) n p)
     by : (b : Bool) → (a == p) ≡ b → (a + 1 ≤ p → p < (a + 1) + n → In p (range_with_len (a + 1) n)) → In p (a ∷ range_with_len (a + 1) n)
     by true e ih = inl (eqb-true a p e)
     by false e ih = inr (ih (next low e) (omega (arith, high)))
+
+any_behind : {A : Type 0} (f : A → Bool) (xs ys : List A) → list_any f ys ≡ true → list_any f (xs ++ ys) ≡ true
+any_behind f [] ys is = is
+any_behind f (x ∷ xs) ys is = or_last (f x) (list_any f (xs ++ ys)) (any_behind f xs ys is)
+
+any_dropped : {A : Type 0} (f : A → Bool) (n : ℕ) (xs ys : List A) → n ≤ length xs → list_any f ys ≡ true →
+    list_any f (drop n (xs ++ ys)) ≡ true
+any_dropped f zero xs ys late is = any_behind f xs ys is
+any_dropped f (suc n) [] ys late is = absurd (omega (arith, late))
+any_dropped f (suc n) (x ∷ xs) ys late is = any_dropped f n xs ys (omega (arith, late)) is
 
 -- ---- an answer
 
@@ -67,6 +86,16 @@ module _ (h : Here) (a home n : ℕ) (what : FrameKind) (kinds : List FrameKind)
     where
       room : (b c l : ℕ) → a ≤ b → l ≡ b + c → 1 ≤ c → b < a + (l - a)
       room b c l low is some = omega (arith, low, is, some)
+
+  -- the node is the own one, or its frame was sent in the span
+  pub sent_to : (n ≡ home) ⊎ (was_sent h a n home kinds ≡ true)
+  sent_to = ⊎_elim (λ same. inl same) (λ f. inr (ap (λ ls. list_any (λ (line : Line). is_frame n home kinds line.body) (drop a ls)) are
+      ∙ any_dropped (λ (line : Line). is_frame n home kinds line.body) a before after late (shown after f))) framed
+    where
+      shown : (ls : List Line) → BeginsWith n home what ls → list_any (λ (line : Line). is_frame n home kinds line.body) ls ≡ true
+      shown [] f = absurd f
+      shown (line ∷ rest) f = or_first (is_frame n home kinds line.body)
+          (list_any (λ (line : Line). is_frame n home kinds line.body) rest) (begins (line ∷ rest) f).0
 
   pub answered_at : answered h a home n kinds shows ≡ true
   answered_at = by (n == home) refl

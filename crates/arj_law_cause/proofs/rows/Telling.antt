@@ -17,6 +17,7 @@ use Words.server
 use Rattle.arj_law_serial.proofs.Terms
 use Terms.{ShowsLocks, rows_on, up_of, memory_of, named_locks, Walks, Up, AreAlike, IsMemory, IsUp, acts, has_act, HoldsNames, paths_of}
 use Terms.{begun_tree, path_found}
+use Rattle.arj_law_disk_view.proofs.running.HeardBinds.{bind_kind}
 use Rattle.arj_law_lock_view.proofs.Terms.{same_number, some_is}
 use Rattle.arj_law_lock_view.proofs.moments.{Later.AreSilent, Serving.IsServed, Serving.serves}
 use Rattle.arj_law_lock_view.specs.moments.Made.{is_again, lines_behind}
@@ -283,8 +284,8 @@ module _ (hd : Header) (before : List Line) (event : ℕ) (early : (j : ℕ) →
 
             says : (q : BoundReply) → (naming.bind h.path x include avoid d.names o).reply ≡ Some q → Bound x include avoid o ≡ v →
                 says_of k h (ask.Bind x include avoid) (Reply.Bound q) lines
-            says (bound.Live b s i g stores) at same = tt
-            says (bound.Make b s g stores) at same = tt
+            says (bound.Live b s i g stores) at same = bind_kind h.path x include avoid d.names o (bound.Live b s i g stores) at
+            says (bound.Make b s g stores) at same = bind_kind h.path x include avoid d.names o (bound.Make b s g stores) at
             says (bound.Write g stores) at same = tt
             says (bound.Conflict u m) at same =
                 let z = bind_meets h.path x u m include avoid d.names o at in (

@@ -25,7 +25,7 @@ abbrev pub has_upper : List Act → Uid → Bool
 has_upper acts u = list_any (λ (a : Act). uid_eq a.uid u && not (is_nested a.kind)) acts
 
 -- A conflict: at a server the call, and at naming its top, meets the row of this holder in this mode, an action that began, at naming no
--- nested one. And where a server answers with what the operation gives, the action has its lock.
+-- nested one. Where a server answers with what the operation gives, the action has its lock; and naming names a binding to no include.
 abbrev pub says_of : ℕ → Head → Ask → Reply → List Line → Type 0
 says_of n h (ask.Invoke x b i ends o) (Reply.Invoked (invoked.Conflict u m)) before =
     (meets n (uids_of h.path) (object x) (op_mode o) u m before ≡ true) × (has_act (acts before) u ≡ true)
@@ -34,6 +34,8 @@ says_of n h (ask.Invoke x b i ends o) (Reply.Invoked (invoked.Answered a)) befor
 says_of n h (ask.Bind x include avoid) (Reply.Bound (bound.Conflict u m)) before =
     (n ≡ 1) × (list_any (λ asked. meets 1 (top_path h.path) (entry x) asked u m before) (entry_modes include) ≡ true)
     × (has_upper (acts before) u ≡ true)
+says_of n h (ask.Bind x include avoid) (Reply.Bound (bound.Live b server i g stores)) before = include ≡ false
+says_of n h (ask.Bind x include avoid) (Reply.Bound (bound.Make b server g stores)) before = include ≡ false
 says_of n h a r before = ⊤
 
 -- so it is of an answer
