@@ -257,88 +257,73 @@ module _ (hd : Header) (k : ℕ) (M : Moment) (h : Here) (header : h.header ≡ 
             (found_at frame.Invoked (ap (λ z. frame_kind (response a z)) is) refl (has_lock from c.act.uid (object s.x) (op_mode o))
             (ap (λ v. has_lock from v (object s.x) (op_mode o) T.before) (c.uid ∙ sym c.actor) ∙ so))
 
+    -- the node of the action
+    abbrev its_home : ℕ
+    its_home = let v = c.act.uid in v.node
+
     -- its frame was sent in the span, unless it's the action's own node
     sent_so : (what : FrameKind) (kinds : List FrameKind) → frame_kind (response a r) ≡ what →
-        list_any (same_frame what) kinds ≡ true →
-        ((let v = c.act.uid in v.node) ≡ from) ⊎ (was_sent h (let z = q in z.at) from (let v = c.act.uid in v.node) kinds ≡ true)
+        list_any (same_frame what) kinds ≡ true → (its_home ≡ from) ⊎ (was_sent h (let z = q in z.at) from its_home kinds ≡ true)
     sent_so what kinds kind among_them =
-        ⊎_elim {C = ((let v = c.act.uid in v.node) ≡ from) ⊎ (was_sent h (let z = q in z.at) from (let v = c.act.uid in v.node) kinds ≡ true)}
+        ⊎_elim {C = (its_home ≡ from) ⊎ (was_sent h (let z = q in z.at) from its_home kinds ≡ true)}
         (λ same. inl (c.home ∙ sym same))
         (λ f. inr (subst (λ home. was_sent h (let z = q in z.at) from home kinds ≡ true) (sym c.home) f))
         (sent_to h (let z = q in z.at) k from what kinds (λ before. true) T.before T.after (lines ∙ T.are) T.late
         (subst (λ z. (from ≡ k) ⊎ BeginsWith from k z T.after) kind T.framed) among_them refl)
 
-    -- a call of which this was told
+    -- a call that was told of the node
     called_so : (n : ℕ) (o : Op) → s.goal ≡ Run o → (was_told h n c.act q || was_activated h c.act q) ≡ true →
         was_called h (name w.label) n ≡ true
     called_so n o goal is = row_so (λ b z. is_call z.event && (was_told h n b z || was_activated h b z))
         (λ j. (ap is_call (its_event ∙ ap (asks_goal (let g = c.asked.goal in g.0) s.x) goal)) j && is j)
 
-    -- by naming
+    -- a server of this number sent it, or naming did
+    abbrev by_server : ℕ → Bool
+    by_server n = was_sent h (let z = q in z.at) n its_home (frame.Activated ∷ frame.Invoked ∷ [])
+
+    abbrev by_naming : Bool
+    by_naming = was_sent h (let z = q in z.at) 1 its_home (frame.Bound ∷ frame.Recorded ∷ [])
+
     named_told : (n : ℕ) (what : FrameKind) → from ≡ 1 → frame_kind (response a r) ≡ what →
-        list_any (same_frame what) (frame.Bound ∷ frame.Recorded ∷ []) ≡ true →
-        (was_told h n c.act q || was_activated h c.act q) ≡ true
+        list_any (same_frame what) (frame.Bound ∷ frame.Recorded ∷ []) ≡ true → (was_told h n c.act q || was_activated h c.act q) ≡ true
     named_told n what one kind among_them = or_first (was_told h n c.act q) (was_activated h c.act q)
         (⊎_elim {C = was_told h n c.act q ≡ true}
-        (λ same. or_first ((let v = c.act.uid in v.node) == 1) (its_node || (by_server || by_naming))
-        (eq-eqb (let v = c.act.uid in v.node) 1 (same ∙ one)))
-        (λ sent. or_last ((let v = c.act.uid in v.node) == 1) (its_node || (by_server || by_naming))
-        (or_last its_node (by_server || by_naming) (or_last by_server by_naming
-        (subst (λ m. was_sent h (let z = q in z.at) m (let v = c.act.uid in v.node) (frame.Bound ∷ frame.Recorded ∷ []) ≡ true) one sent))))
+        (λ same. or_first (its_home == 1) ((its_home == n) || (by_server n || by_naming)) (eq-eqb its_home 1 (same ∙ one)))
+        (λ sent. or_last (its_home == 1) ((its_home == n) || (by_server n || by_naming))
+        (or_last (its_home == n) (by_server n || by_naming) (or_last (by_server n) by_naming
+        (subst (λ m. was_sent h (let z = q in z.at) m its_home (frame.Bound ∷ frame.Recorded ∷ []) ≡ true) one sent))))
         (sent_so what (frame.Bound ∷ frame.Recorded ∷ []) kind among_them))
-      where
-        its_node : Bool
-        its_node = (let v = c.act.uid in v.node) == n
 
-        by_server : Bool
-        by_server = was_sent h (let z = q in z.at) n (let v = c.act.uid in v.node) (frame.Activated ∷ frame.Invoked ∷ [])
-
-        by_naming : Bool
-        by_naming = was_sent h (let z = q in z.at) 1 (let v = c.act.uid in v.node) (frame.Bound ∷ frame.Recorded ∷ [])
-
-    -- by the server
     server_told : (n : ℕ) → from ≡ n → frame_kind (response a r) ≡ frame.Invoked →
         (was_told h n c.act q || was_activated h c.act q) ≡ true
     server_told n one kind = or_first (was_told h n c.act q) (was_activated h c.act q)
-        (or_last ((let v = c.act.uid in v.node) == 1) (its_node || (by_server || by_naming))
-        (⊎_elim {C = (its_node || (by_server || by_naming)) ≡ true}
-        (λ same. or_first its_node (by_server || by_naming) (eq-eqb (let v = c.act.uid in v.node) n (same ∙ one)))
-        (λ sent. or_last its_node (by_server || by_naming) (or_first by_server by_naming
-        (subst (λ m. was_sent h (let z = q in z.at) m (let v = c.act.uid in v.node) (frame.Activated ∷ frame.Invoked ∷ []) ≡ true) one
-        sent))) (sent_so frame.Invoked (frame.Activated ∷ frame.Invoked ∷ []) kind refl)))
+        (or_last (its_home == 1) ((its_home == n) || (by_server n || by_naming))
+        (⊎_elim {C = ((its_home == n) || (by_server n || by_naming)) ≡ true}
+        (λ same. or_first (its_home == n) (by_server n || by_naming) (eq-eqb its_home n (same ∙ one)))
+        (λ sent. or_last (its_home == n) (by_server n || by_naming) (or_first (by_server n) by_naming
+        (subst (λ m. was_sent h (let z = q in z.at) m its_home (frame.Activated ∷ frame.Invoked ∷ []) ≡ true) one sent)))
+        (sent_so frame.Invoked (frame.Activated ∷ frame.Invoked ∷ []) kind refl)))
+
+    -- naming answers with a binding only to a call
+    bound_told : (n : ℕ) (avoid : Binding) (z : BoundReply) → s.at ≡ AtBind avoid → r ≡ Reply.Bound z →
+        (says_of from (head_of s) (ask.Bind s.x (is_include s.goal) avoid) (Reply.Bound z) T.before → is_include s.goal ≡ false) →
+        was_called h (name w.label) n ≡ true
+    bound_told n avoid z at is says = called_so n run.0 run.1 (named_told n frame.Bound (sym T.node ∙ ap (λ y. node_at y) at)
+        (ap (λ y. frame_kind (response a y)) is) refl)
       where
-        its_node : Bool
-        its_node = (let v = c.act.uid in v.node) == n
-
-        by_server : Bool
-        by_server = was_sent h (let z = q in z.at) n (let v = c.act.uid in v.node) (frame.Activated ∷ frame.Invoked ∷ [])
-
-        by_naming : Bool
-        by_naming = was_sent h (let z = q in z.at) 1 (let v = c.act.uid in v.node) (frame.Bound ∷ frame.Recorded ∷ [])
+        run : (o : Op) × (s.goal ≡ Run o)
+        run = runs_so s.goal (says (subst (λ y. says_of from (head_of s) y (Reply.Bound z) T.before)
+            (bind_is T.ask s.x (is_include s.goal) avoid (T.same ∙ (λ j. ask_at s.x s.goal [] (at j))))
+            (subst (λ y. says_of from (head_of s) T.ask y T.before) is T.so)))
 
     -- what changed, in a call
     pub changed_so : (n : ℕ) → IsChange s.at r n → was_called h (name w.label) n ≡ true
-    changed_so n (OnLive avoid b server i g stores at is) =
-        let so : is_include s.goal ≡ false =
-        subst (λ z. says_of from (head_of s) z (Reply.Bound (bound.Live b server i g stores)) T.before)
-        (bind_is T.ask s.x (is_include s.goal) avoid (T.same ∙ (λ j. ask_at s.x s.goal [] (at j))))
-        (subst (λ z. says_of from (head_of s) T.ask z T.before) is T.so) in
-        let run = runs_so s.goal so in
-        called_so n run.0 run.1 (named_told n frame.Bound (sym T.node ∙ ap (λ z. node_at z) at)
-        (ap (λ z. frame_kind (response a z)) is) refl)
-    changed_so n (OnMake avoid b server g stores at is) =
-        let so : is_include s.goal ≡ false =
-        subst (λ z. says_of from (head_of s) z (Reply.Bound (bound.Make b server g stores)) T.before)
-        (bind_is T.ask s.x (is_include s.goal) avoid (T.same ∙ (λ j. ask_at s.x s.goal [] (at j))))
-        (subst (λ z. says_of from (head_of s) T.ask z T.before) is T.so) in
-        let run = runs_so s.goal so in
-        called_so n run.0 run.1 (named_told n frame.Bound (sym T.node ∙ ap (λ z. node_at z) at)
-        (ap (λ z. frame_kind (response a z)) is) refl)
+    changed_so n (OnLive avoid b server i g stores at is) = bound_told n avoid (bound.Live b server i g stores) at is (λ so. so)
+    changed_so n (OnMake avoid b server g stores at is) = bound_told n avoid (bound.Make b server g stores) at is (λ so. so)
     changed_so n (OnActivate x st i at is) =
         let run = only_run s.goal kept s.at (AtActivate x st) stands at (λ m off. off) in
         called_so n run.0 run.1 (or_last (was_told h n c.act q) (was_activated h c.act q)
-        (any_in (λ m. answered h (let z = q in z.at) (let v = c.act.uid in v.node) m (frame.Activated ∷ []) (λ before. true)) from
-        (nodes_of h.header) among
+        (any_in (λ m. answered h (let z = q in z.at) its_home m (frame.Activated ∷ []) (λ before. true)) from (nodes_of h.header) among
         (found_at frame.Activated (ap (λ z. frame_kind (response a z)) is) refl (λ before. true) refl)))
     changed_so n (OnNote x i z at is) =
         let run = only_run s.goal kept s.at (AtNote x i) stands at (λ m off. off) in
