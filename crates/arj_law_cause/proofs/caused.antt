@@ -1,0 +1,17 @@
+-- Rows of causes: that each line of one kind has its cause, in every run.
+--
+-- What is known of lines gives rows (`Forms`): of frames and of disks that stop (`Frames`), of plain refusals (`Refused`), of limits, by the
+-- lines that events write (`Filling`, `Limit`), and of commits that are done (`Lines`, `Committed`). What is known at each moment gives
+-- rows of what nodes say, where each handler says what has its cause (`Walks`, `Nodes`), event by event in whole runs (`Running`): of
+-- restarts (`Up`).
+pub mod Forms
+pub mod Frames
+pub mod Refused
+pub mod Walks
+pub mod Running
+pub mod Nodes
+pub mod Filling
+pub mod Limit
+pub mod Lines
+pub mod Committed
+pub mod Up

@@ -1,0 +1,273 @@
+-- Whole runs, event by event: where each handler says what has its cause, each line of the kind has.
+use Rattle.arj_law_parts.proofs.Words
+use Words.{◌≡◌, ◌∙◌, ◌+◌, ◌++◌, ◌&&◌, not, ℕ, Bool, true, false, if◌then◌else◌, cond, List, [], ◌∷◌, length, Option, Some, None, refl}
+use Words.{sym, ap}
+use Words.{subst, append-nil, list_all, map, Start, Body, Event, Header, Line, Arm, World, Move, Input, Node, at_place, counted}
+use Words.{first_reason, giving}
+use Words.{⊤, Post, happens, lacks_labels, limited, moved, no_labels, numbered, reasons, run_event, run_unless, see, world_from}
+use Words.{IsFormed, IsInForm}
+use Words.body
+use Rattle.arj_law_parts.proofs.Terms.{says}
+use Rattle.arj_law_parts.proofs.Terms.which
+use Rattle.arj_law_parts.proofs.moves.{Events.closes_at, Events.happened, Events.opens_at, Events.same_run, Firsts.first_stands}
+use Rattle.arj_law_parts.proofs.moves.Worlds.{says_hold}
+use Rattle.arj_law_parts.specs.moves.Moments.{History, Moment, come, gone, no_history}
+use Rattle.arj_law_parts.specs.moves.Seen.{is_quiet_line}
+use Rattle.arj_law_parts.specs.moves.With.{HoldsAt, HoldsWith, KeepsAll, KeepsSteps, asked_at, asked_of_node, look, written}
+use Rattle.arj_law_parts.specs.steps.Writes as writes
+use Rattle.arj_law_runs.proofs.follow.Along.{Ended, Outcome, Went, event_of, runs_along}
+use Rattle.arj_law_runs.specs.follow.Frames.{are_so, run_events}
+use Rattle.arj_model.specs.CauseSpans.{Here, here_at}
+use Rattle.arj_model.specs.Follows.{Runs}
+use Rattle.arj_model.specs.Past.{Asked, Past, asked_of, at_start, block, is_refused, next}
+use Rattle.arj_promise.specs.Runs.{IsStoppedInForm, Run, journal_by}
+use Rattle.arj_start.specs.Start.{fresh}
+use Rattle.std.specs.Prelude.{drop}
+use Rattle.arj_law_cause.proofs.caused.Walks as walks
+use Rattle.arj_law_cause.proofs.caused.Forms.{behind_block}
+use Rattle.arj_law_cause.specs.caused.Rows.{RowHolds, RowStep, row}
+
+-- What is known beside a relation that is kept: what holds of the world between events gives it as an event comes, and each handler keeps
+-- it in the event.
+pub record Knows (hd : Header) (G : Moment → Type 0) : Type 1 where
+  pub Between : World → Type 0
+  pub In : World → Moment → Type 0
+  pub first : (st : Start) → IsFormed hd st → Between (world_from hd st)
+  pub next : (m : Move) (w : World) → Between w → Between (moved m w)
+  pub arms : (w : World) (arms : List (ℕ × Arm)) → Between w → Between (record w { arms = arms })
+  pub opens : (w : World) (e : Event) (g : History) (sent : List Post) → Between w → G (look (come e g) sent (counted w)) →
+      In w (look (come e g) sent (counted w))
+  pub steps : (w : World) → Between w → KeepsSteps hd (In w)
+  pub back : (w : World) (M : Moment) → In w M → G M
+
+-- nothing more
+abbrev pub nothing_more : (hd : Header) (G : Moment → Type 0) → KeepsSteps hd G → Knows hd G
+nothing_more hd G steps = record {
+  Between = λ w. ⊤;
+  In = λ w. G;
+  first = λ st formed. tt;
+  next = λ m w b. tt;
+  arms = λ w arms b. tt;
+  opens = λ w e g sent b c. c;
+  steps = λ w b. steps;
+  back = λ w M c. c;
+}
+
+module _ (of : Body → Bool) (quiet : (b : Body) → is_quiet_line b ≡ true → of b ≡ false) (halts : (k : ℕ) → of (body.Halted k) ≡ false)
+    (hd : Header) (G : Moment → Type 0) (keeps : KeepsAll hd G) (K : Knows hd G)
+    (well : (st : Start) (q : Past) (e : Event) (w : World) → (let k = K in k.Between w) → q.lines ≡ w.lines → q.count ≡ w.event →
+    walks.SaysWell hd of quiet halts st q e (let k = K in k.In w)) where
+  -- lines of the kind, wherever they come
+  abbrev kind : Here → Body → Bool
+  kind h = of
+
+  -- A run up to an event, the world there, and what is known of it with its history.
+  record Stands (p : Past) (w : World) : Type 0 where
+    pub lines : p.lines ≡ w.lines
+    pub count : p.count ≡ w.event
+    pub start : w.start ≡ p.start
+    pub past : History
+    pub run : past.run ≡ record p { start = fresh }
+    pub holds : HoldsWith hd G past w
+    pub between : K.Between w
+
+  -- what is seen doesn't tell which stops are to fall
+  same_look : (g : History) (w : World) (arms : List (ℕ × Arm)) → HoldsWith hd G g w → HoldsWith hd G g (record w { arms = arms })
+  same_look g w arms h = record {
+    now = record {
+      sent = h.now.sent;
+      stands = record {
+        frames = h.now.stands.frames;
+        junk = h.now.stands.junk;
+        header = h.now.stands.header;
+        numbers = h.now.stands.numbers;
+        places = h.now.stands.places;
+        labels = h.now.stands.labels;
+      };
+      number = h.now.number;
+      wrote = h.now.wrote;
+      holds = h.now.holds;
+    };
+    count = h.count;
+    lines = h.lines;
+  }
+
+  -- ---- an event
+
+  module _ (m : Move) (p : Past) (w : World) (s : Stands p w) (on : w.over ≡ false) where
+    abbrev u : World
+    u = record w { arms = m.falls }
+
+    abbrev e : Event
+    e = event_of m
+
+    abbrev arm : Arm
+    arm = let a = m.asked in a.arm
+
+    -- the run before the event, as its history has it
+    abbrev q : Past
+    q = record p { start = fresh }
+
+    abbrev Inside : Moment → Type 0
+    Inside = walks.Inside hd of quiet halts p.start q e
+
+    abbrev Both : Moment → Type 0
+    Both M = K.In (record w { arms = m.falls }) M × Inside M
+
+    here : K.Between (record w { arms = m.falls })
+    here = K.arms w m.falls s.between
+
+    both_steps : KeepsSteps hd Both
+    both_steps = walks.inside_steps hd of quiet halts p.start q e (K.In u) (K.steps u here) (well p.start q e u here s.lines s.count)
+
+    held : HoldsWith hd G s.past u
+    held = same_look s.past w m.falls s.holds
+
+    fresh_lines : (let r = s.past.run in r.lines) ≡ w.lines
+    fresh_lines = ap (λ (r : Past). r.lines) s.run ∙ s.lines
+
+    number_is : (let g = s.past in g.number) ≡ p.count
+    number_is = held.count ∙ ap (λ (r : Past). r.count) s.run
+
+    -- as the event comes
+    opened : HoldsAt hd Both (come e s.past) (counted u)
+    opened =
+        let o = opens_at hd G G keeps.opens e s.past u on held in
+        record {
+          sent = o.sent;
+          stands = o.stands;
+          number = o.number;
+          wrote = o.wrote;
+          holds = (
+            K.opens (record w { arms = m.falls }) e s.past o.sent here o.holds,
+            record {
+              event = refl;
+              run = s.run;
+              number = ap (λ n. n + 1) (sym s.count);
+              start = s.start;
+              wrote = [];
+              lines = sym s.lines ∙ sym (append-nil p.lines);
+              fit = refl;
+            },
+          );
+        }
+
+    -- The event is over, and left this world.
+    closed : (g : History) (v : World) → g.run ≡ s.past.run → g.event ≡ e → g.number ≡ (let h = s.past in h.number) + 1 →
+        HoldsAt hd Both g v
+        → moved m w ≡ record v { arms = [] } → Outcome (RowStep kind hd) Stands m p w
+    closed g v same its number h is =
+        let bs = written u v in
+        let i = h.holds.1 in
+        let wrote : i.wrote ≡ written u v = sym its_bodies in
+        Went bs (fits bs (subst (λ cs. are_so (row kind) (walks.first_here hd of quiet halts p.start q e) cs ≡ true) wrote i.fit)) (record {
+          lines = (λ j. p.lines ++ block (p.count + 1) (sym wrote j)) ∙ sym i.lines ∙ ap (λ (x : World). x.lines) (sym is);
+          count = sym (sym h.number ∙ number ∙ (λ j. number_is j + 1)) ∙ ap (λ (x : World). x.event) (sym is);
+          start = ap (λ (x : World). x.start) is ∙ i.start;
+          past = gone bs g;
+          run = (λ j. next ((same ∙ s.run) j) (its j) bs);
+          holds = subst (HoldsWith hd G (gone bs g)) (sym is) (same_look (gone bs g) v [] after);
+          between = K.next m w s.between;
+        })
+      where
+        count_is : g.number ≡ (let r = g.run in r.count) + 1
+        count_is = number ∙ (λ j. held.count j + 1) ∙ (λ j. (let r = sym same j in r.count) + 1)
+
+        after : HoldsWith hd G (gone (written u v) g) v
+        after = closes_at hd Both G (λ bodies M number lines c. keeps.closes bodies M number lines (K.back u M c.0)) g u v
+            (ap (λ (r : Past). r.lines) same ∙ fresh_lines) count_is h
+
+        -- the lines that were written are those of the event
+        its_bodies : written u v ≡ (let i = h.holds.1 in i.wrote)
+        its_bodies =
+            let i = h.holds.1 in
+            (λ j. map (λ (l : Line). l.body) (drop (length (sym s.lines j)) (i.lines j))) ∙ behind_block p.lines (p.count + 1) i.wrote
+
+        -- a refusal isn't of the kind, and any other line comes where the event was accepted
+        fits : (bs : List Body) → are_so (row kind) (walks.first_here hd of quiet halts p.start q e) bs ≡ true → RowStep kind hd p e bs
+        fits bs fit = by (is_refused bs) refl
+          where
+            at : Bool → Here
+            at b = record {
+              header = hd;
+              start = p.start;
+              accepted = (if b then p.accepted else p.accepted ++ asked_of p e ∷ []);
+              event = e;
+              number = p.count + 1;
+              first = length p.lines;
+              lines = p.lines;
+            }
+
+            none : (cs : List Body) → is_refused cs ≡ true → list_all (λ b. not (of b)) cs ≡ true
+            none (body.Refused c ∷ []) is = λ i. not (quiet (body.Refused c) refl i) && true
+            none cs is = absurd (cc is)
+
+            by : (b : Bool) → is_refused bs ≡ b → are_so (row kind) (at b) bs ≡ true
+            by false is = fit
+            by true is = walks.none_rows kind (at true) bs (λ g. none bs is)
+
+    goes : Outcome (RowStep kind hd) Stands m p w
+    goes = by (first_reason (reasons e u)) refl
+      where
+        moved_is : (v : World) → run_unless e arm u (first_reason (reasons e u)) ≡ v → moved m w ≡ record v { arms = [] }
+        moved_is v is = ap (λ (x : World). record x { arms = [] }) ((λ i. cond (on i) u (run_unless e arm u (first_reason
+            (reasons e u)))) ∙ is)
+
+        -- what is asked leaves the event under way
+        same_event : (o : Option (ℕ × Input)) → (let g = asked_of_node o u (come e s.past) in g.event) ≡ e
+        same_event None = refl
+        same_event (Some b) = at (at_place b.0 w.nodes)
+          where
+            at : (n : Option Node) → (let g = asked_at (let w = u in w.header) b.1 n (come e s.past) in g.event) ≡ e
+            at None = refl
+            at (Some n) = refl
+
+        run_so : first_reason (reasons e u) ≡ None → (b : Bool) → lacks_labels (giving e u) u ≡ b → Outcome (RowStep kind hd) Stands m p w
+        run_so none true full =
+            let is = moved_is (no_labels u) (ap (run_unless e arm u) none
+            ∙ (λ i. cond (full i) (no_labels u) (limited (happens e arm (counted u))))) in
+            Ended (ap (λ (x : World). x.over) is) (ap (λ (x : World). x.event) is) (ap (λ (x : World). x.lines) is)
+        run_so none false has =
+            let v = limited (happens e arm (counted u)) in
+            let is = moved_is v (ap (run_unless e arm u) none
+            ∙ (λ i. cond (has i) (no_labels u) (limited (happens e arm (counted u))))) in
+            let g = asked_of_node (writes.asks e u) u (come e s.past) in
+            let same = same_run e s.past u (writes.asks e u) in
+            closed g v same.0 (same_event (writes.asks e u)) same.1
+            (happened hd Both both_steps e arm s.past u none fresh_lines opened) is
+
+        by : (r : Option ℕ) → first_reason (reasons e u) ≡ r → Outcome (RowStep kind hd) Stands m p w
+        by None is = run_so is (lacks_labels (giving e u) u) refl
+        by (Some c) is =
+            let v = says (body.Refused c ∷ []) (counted u) in
+            closed (come e s.past) v refl refl refl (says_hold hd Both both_steps (body.Refused c ∷ []) (come e s.past)
+            (counted u) refl opened)
+            (moved_is v (ap (run_unless e arm u) is))
+
+  -- ---- runs
+
+  first_so : (st : Start) → IsFormed hd st → Stands (at_start st) (world_from hd st)
+  first_so st formed = record {
+    lines = refl;
+    count = refl;
+    start = refl;
+    past = no_history st;
+    run = refl;
+    holds = record {
+      now = record {
+        sent = [];
+        stands = first_stands hd st;
+        number = refl;
+        wrote = ([], refl);
+        holds = keeps.first st formed;
+      };
+      count = refl;
+      lines = λ over. refl;
+    };
+    between = K.first st formed;
+  }
+
+  pub row_run : (r : Run hd) → IsInForm hd r → Runs (RowStep kind hd) r.start (run_events hd r) (journal_by hd r)
+  row_run r form =
+      runs_along (RowStep kind hd) Stands IsStoppedInForm (λ p w s. s.lines) (λ p w s. s.count) (λ m p w stops s on. goes m p w s on)
+      r.start r.moves (world_from hd r.start) form.stops (first_so r.start r.formed)

@@ -1,0 +1,57 @@
+-- Which lines each row of causes is of.
+use Rattle.std.specs.Prelude.{Bool, true, false}
+use Rattle.arj_journal.specs.declared.body.Body.{Body}
+use Rattle.arj_journal.specs.declared.body.Body.TheVariants as body
+use Rattle.arj_base.specs.declared.mode.End.TheVariants as ending
+use Rattle.arj_model.specs.CauseSpans.{Here}
+use Rattle.arj_law_runs.specs.follow.Refusals.{is_plain_cause}
+
+-- a frame was sent
+abbrev pub is_sent : Body → Bool
+is_sent (body.Sent k from to carried) = true
+is_sent _ = false
+
+-- a frame was delivered, and had effect
+abbrev pub is_got : Body → Bool
+is_got (body.Got k) = true
+is_got _ = false
+
+-- it was delivered, and had none
+abbrev pub is_void : Body → Bool
+is_void (body.Void k) = true
+is_void _ = false
+
+-- it was lost
+abbrev pub is_dropped : Body → Bool
+is_dropped (body.Dropped k) = true
+is_dropped _ = false
+
+-- a disk was armed
+abbrev pub is_armed : Body → Bool
+is_armed (body.Armed n) = true
+is_armed _ = false
+
+-- a node halted
+abbrev pub is_halted : Body → Bool
+is_halted (body.Halted n) = true
+is_halted _ = false
+
+-- a node is up
+abbrev pub is_up : Body → Bool
+is_up (body.Up n i) = true
+is_up _ = false
+
+-- a limit was met
+abbrev pub is_limit : Body → Bool
+is_limit (body.Limit what) = true
+is_limit _ = false
+
+-- the event was refused, for one of the causes of nodes, labels, objects and frames
+abbrev pub is_plain_refusal : Here → Body → Bool
+is_plain_refusal h (body.Refused c) = is_plain_cause h.event c
+is_plain_refusal h _ = false
+
+-- a commit was done, at a store or at naming
+abbrev pub is_commit_done : Body → Bool
+is_commit_done (body.Done n u r ending.Commit) = true
+is_commit_done _ = false

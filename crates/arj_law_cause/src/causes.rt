@@ -1,0 +1,43 @@
+// Rows of causes: lines of the world, and what nodes do.
+ghost use Rattle.arj_law_cause.specs.caused.Kinds.{is_armed, is_commit_done, is_dropped, is_got, is_halted, is_limit, is_plain_refusal, is_sent, is_up, is_void};
+ghost use Rattle.arj_law_cause.specs.caused.Rows.{RowHolds, RowHoldsWhere};
+
+/// In every run in form, wherever it begins and wherever disks stop, each line of a frame has its cause by the events and the lines before
+/// it, row by row: a frame that is sent has the next number and goes from a node that is up, or from nobody where the script hands over
+/// bytes that are no message; one that is got or void was sent, is the one that the event names or the first that is open, and its node is up
+/// or it may be void; one that is dropped was sent, and the event names it. It does nothing when it runs.
+pub fn frame_lines_have_causes()
+    ensures sent { RowHolds is_sent }
+    ensures got { RowHolds is_got }
+    ensures void { RowHolds is_void }
+    ensures dropped { RowHolds is_dropped }
+{}
+
+/// In every such run a disk is armed where the event arms it, and a node halts in no crash of another one. It does nothing when it runs.
+pub fn stops_have_causes()
+    ensures armed { RowHolds is_armed }
+    ensures halted { RowHolds is_halted }
+{}
+
+/// In every such run a line `up` stands in a restart of its node, with an incarnation above the one that the journal has for it. It does
+/// nothing when it runs.
+pub fn restarts_have_causes()
+    ensures up { RowHolds is_up }
+{}
+
+/// In every such run a line `limit` within an event stands where as many frames were sent as a run may send. It does nothing when it runs.
+pub fn limits_have_causes()
+    ensures limit { RowHolds is_limit }
+{}
+
+/// In every such run an event that is refused for a cause of nodes, labels, objects or frames has that as its lowest cause by the journal
+/// before it. It does nothing when it runs.
+pub fn plain_refusals_have_causes()
+    ensures refused { RowHoldsWhere is_plain_refusal }
+{}
+
+/// In every such run a commit is done, at a store or at naming, of an action that is committed by the lines before. It does nothing when it
+/// runs.
+pub fn commits_done_have_causes()
+    ensures done { RowHolds is_commit_done }
+{}
