@@ -3,7 +3,8 @@
 -- What is known of lines gives rows (`Forms`): of frames and of disks that stop (`Frames`), of plain refusals (`Refused`), of limits, by the
 -- lines that events write (`Filling`, `Limit`), and of commits that are done (`Lines`, `Committed`). What is known at each moment gives
 -- rows of what nodes say, where each handler says what has its cause (`Walks`, `Nodes`), event by event in whole runs (`Running`): of
--- restarts (`Up`).
+-- restarts (`Up`). Of quiesces, by the lines that events write: what was asked is what was accepted (`Accepted`), so no action waits where
+-- every node is idle (`Waiting`, `Quiet`).
 pub mod Forms
 pub mod Frames
 pub mod Refused
@@ -15,3 +16,6 @@ pub mod Limit
 pub mod Lines
 pub mod Committed
 pub mod Up
+pub mod Accepted
+pub mod Waiting
+pub mod Quiet

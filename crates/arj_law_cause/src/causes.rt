@@ -1,5 +1,5 @@
 // Rows of causes: lines of the world, and what nodes do.
-ghost use Rattle.arj_law_cause.specs.caused.Kinds.{is_armed, is_commit_done, is_dropped, is_got, is_halted, is_limit, is_plain_refusal, is_sent, is_up, is_void};
+ghost use Rattle.arj_law_cause.specs.caused.Kinds.{is_armed, is_commit_done, is_dropped, is_got, is_halted, is_limit, is_plain_refusal, is_quiet, is_sent, is_up, is_void};
 ghost use Rattle.arj_law_cause.specs.caused.Rows.{RowHolds, RowHoldsWhere};
 
 /// In every run in form, wherever it begins and wherever disks stop, each line of a frame has its cause by the events and the lines before
@@ -40,4 +40,10 @@ pub fn plain_refusals_have_causes()
 /// runs.
 pub fn commits_done_have_causes()
     ensures done { RowHolds is_commit_done }
+{}
+
+/// In every such run a line `quiet` stands in a quiesce, and where it says yes every node is up, no frame is open, and no action waits, by
+/// the events and the lines before it. It does nothing when it runs.
+pub fn quiesces_have_causes()
+    ensures quiet { RowHolds is_quiet }
 {}

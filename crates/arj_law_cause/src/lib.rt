@@ -4,7 +4,7 @@
 //! its cause, row by row.
 //!
 //! What it gives upward: `conflicts_are_met`, `frame_lines_have_causes`, `stops_have_causes`, `restarts_have_causes`,
-//! `limits_have_causes`, `plain_refusals_have_causes`, `commits_done_have_causes`.
+//! `limits_have_causes`, `plain_refusals_have_causes`, `commits_done_have_causes`, `quiesces_have_causes`.
 #![tactic(auto)]
 
 mod causes;
@@ -12,6 +12,6 @@ mod met;
 
 pub use causes::{
     commits_done_have_causes, frame_lines_have_causes, limits_have_causes,
-    plain_refusals_have_causes, restarts_have_causes, stops_have_causes,
+    plain_refusals_have_causes, quiesces_have_causes, restarts_have_causes, stops_have_causes,
 };
 pub use met::conflicts_are_met;

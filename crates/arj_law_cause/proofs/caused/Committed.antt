@@ -1,18 +1,17 @@
 -- The row of commits that are done: each is of an action that is committed by then.
 use Rattle.arj_law_parts.proofs.Words
-use Words.{◌≡◌, ◌∙◌, ◌&&◌, Bool, true, false, List, [], ◌∷◌, ◌++◌, Option, Some, None, refl, sym, ap, subst, find, uid_eq, uid_is}
+use Words.{◌≡◌, ◌∙◌, ◌&&◌, true, false, List, Option, Some, None, refl, sym, ap, subst, find, uid_eq, uid_is}
 use Words.{uid_same, In}
-use Words.{in_find, in_find_none, in_from, Body, Header, Line, Uid, see, world_by, IsInForm}
+use Words.{in_find, in_find_none, in_from, Body, Header, Line, Uid, see, world_by}
 use Words.body
 use Words.ending
-use Rattle.arj_law_runs.proofs.Terms.{Act, Holds, IsWritten, acts, book, keeps_asked, moves_asked, new_book, AreRight}
+use Rattle.arj_law_runs.proofs.Terms.{Act, Holds, IsWritten, acts, keeps_asked, moves_asked, new_book, AreRight}
 use Rattle.arj_law_runs.proofs.follow.Frames.{frames_are_caused}
 use Rattle.arj_law_runs.proofs.follow.Halts.{KnowsAll, halts_keep}
 use Rattle.arj_law_runs.proofs.journal.{Closed.one_act, Models.caused, Models.its_sound, Models.right_before}
 use Rattle.arj_law_runs.specs.follow.Frames.{FramesStep, run_events}
 use Rattle.arj_law_runs.specs.journal.Laws.{AreDistinct, IsCaused, IsCommittedIn}
 use Rattle.arj_model.specs.Actions.{committed, is_committed, recovered}
-use Rattle.arj_model.specs.CauseLocks.{has_end_of}
 use Rattle.arj_model.specs.CauseSpans.{Here, act_by, holds_in}
 use Rattle.arj_model.specs.Caused.{has_cause}
 use Rattle.arj_promise.specs.Runs.{Run, journal_by}

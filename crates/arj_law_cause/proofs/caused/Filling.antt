@@ -25,6 +25,7 @@ use Rattle.arj_law_parts.proofs.steps.Frames.{fits}
 use Rattle.arj_law_parts.proofs.steps.StepLines.{OfInput, step_says}
 use Rattle.arj_law_parts.specs.steps.Spoken.{SaidIn, is_of_parts}
 use Rattle.arj_law_runs.proofs.addresses.Lists.{all_append}
+use Rattle.arj_model.specs.CauseNodes.{is_quiesce}
 use Rattle.arj_protocol.specs.Words.{FrameKind}
 
 -- the lines of parts pass, and those of frames, of stops and of refusals
@@ -222,10 +223,12 @@ module _ (free : Body → Bool) (f : IsFree free) where
     shows_so x (n ∷ ns) w s = shows_so x ns (show_up x n w)
         (either_so (is_up_at n w) (steps n (input.Show x) w) w (steps_so n (input.Show x) w s) s)
 
-    -- a quiesce, but for its last line
+    -- a quiesce, before the frames of its ticks are delivered, and but for its last line
+    pub ticked_so : (w : World) → So w → So (tick_all (node_numbers w) (settle w))
+    ticked_so w s = ticks_so (node_numbers w) (settle w) (settle_so most_frames w s)
+
     pub inner_so : (w : World) → So w → So (settle (tick_all (node_numbers w) (settle w)))
-    inner_so w s = settle_so most_frames (tick_all (node_numbers w) (settle w)) (ticks_so (node_numbers w) (settle w)
-        (settle_so most_frames w s))
+    inner_so w s = settle_so most_frames (tick_all (node_numbers w) (settle w)) (ticked_so w s)
 
     begins_so : (g : Giving) (w : World) → So w → So (begins g w)
     begins_so g w s = by (refused_at i w (at_place g.node w.nodes))
@@ -272,31 +275,32 @@ module _ (free : Body → Bool) (f : IsFree free) where
         (record { few = marked.filled.few; full = marked.filled.full }) marked
 
     -- all that an event makes happen, where also the last line of a quiesce passes
-    pub happens_so : (quiet : (b : Bool) → free (body.Quiet b) ≡ true) (e : Event) (a : Arm) (w : World) → So w → So (happens e a w)
-    happens_so quiet (event.Call l x o) a w s = steps_so (node_of l w) (input.Call l x o) w s
-    happens_so quiet (event.Include l x n) a w s = steps_so (node_of l w) (input.Include l x n) w s
-    happens_so quiet (event.Commit l) a w s = steps_so (node_of l w) (input.Commit l) w s
-    happens_so quiet (event.Abort l) a w s = steps_so (node_of l w) (input.Abort l) w s
-    happens_so quiet (event.GiveUp l) a w s = steps_so (node_of l w) (input.GiveUp l) w s
-    happens_so quiet (event.Deliver k) a w s = deliver_so (frame_number k w) w s
-    happens_so quiet (event.Lose k) a w s = lose_so (frame_number k w) w (at_place (frame_number k w) w.frames) s
-    happens_so quiet (event.Tick n) a w s = steps_so n input.Tick w s
-    happens_so quiet event.Settle a w s = settle_so most_frames w s
-    happens_so quiet event.Quiesce a w s =
+    pub happens_so : (e : Event) (a : Arm) (w : World) → ((b : Bool) → is_quiesce e ≡ true → free (body.Quiet b) ≡ true) → So w →
+        So (happens e a w)
+    happens_so (event.Call l x o) a w quiet s = steps_so (node_of l w) (input.Call l x o) w s
+    happens_so (event.Include l x n) a w quiet s = steps_so (node_of l w) (input.Include l x n) w s
+    happens_so (event.Commit l) a w quiet s = steps_so (node_of l w) (input.Commit l) w s
+    happens_so (event.Abort l) a w quiet s = steps_so (node_of l w) (input.Abort l) w s
+    happens_so (event.GiveUp l) a w quiet s = steps_so (node_of l w) (input.GiveUp l) w s
+    happens_so (event.Deliver k) a w quiet s = deliver_so (frame_number k w) w s
+    happens_so (event.Lose k) a w quiet s = lose_so (frame_number k w) w (at_place (frame_number k w) w.frames) s
+    happens_so (event.Tick n) a w quiet s = steps_so n input.Tick w s
+    happens_so event.Settle a w quiet s = settle_so most_frames w s
+    happens_so event.Quiesce a w quiet s =
         let v = settle (tick_all (node_numbers w) (settle w)) in
         let all = inner_so w s in
         either_so v.full v (says (body.Quiet (is_quiet v) ∷ []) v) all
-        (adds v _ (body.Quiet (is_quiet v) ∷ []) refl (quiet (is_quiet v), tt)
+        (adds v _ (body.Quiet (is_quiet v) ∷ []) refl (quiet (is_quiet v) refl, tt)
         (record { few = all.filled.few; full = all.filled.full }) all)
-    happens_so quiet (event.Crash n) a w s = steps_so n input.Crash w s
-    happens_so quiet (event.Restart n) a w s = steps_so n input.Restart w s
-    happens_so quiet (event.Stop n c how) a w s =
+    happens_so (event.Crash n) a w quiet s = steps_so n input.Crash w s
+    happens_so (event.Restart n) a w quiet s = steps_so n input.Restart w s
+    happens_so (event.Stop n c how) a w quiet s =
         adds w _ (body.Armed n ∷ []) refl (f.armed n, tt) (record { few = s.filled.few; full = s.filled.full }) s
-    happens_so quiet (event.Junk n bytes) a w s = junk_so n w (nat_lt (length w.frames) most_frames) refl s
-    happens_so quiet (event.Show x) a w s = shows_so x (node_numbers w) w s
-    happens_so quiet (event.Begin l n) a w s = begins_so (record { label = l; kind = kind.Top; parent = None; node = n }) w s
-    happens_so quiet (event.Serial l n) a w s = begins_so (record { label = l; kind = kind.Serial; parent = None; node = n }) w s
-    happens_so quiet (event.BeginIn l p) a w s =
+    happens_so (event.Junk n bytes) a w quiet s = junk_so n w (nat_lt (length w.frames) most_frames) refl s
+    happens_so (event.Show x) a w quiet s = shows_so x (node_numbers w) w s
+    happens_so (event.Begin l n) a w quiet s = begins_so (record { label = l; kind = kind.Top; parent = None; node = n }) w s
+    happens_so (event.Serial l n) a w quiet s = begins_so (record { label = l; kind = kind.Serial; parent = None; node = n }) w s
+    happens_so (event.BeginIn l p) a w quiet s =
         begins_so (record { label = l; kind = kind_below p w; parent = Some p; node = node_of p w }) w s
-    happens_so quiet (event.Top l p) a w s =
+    happens_so (event.Top l p) a w quiet s =
         begins_so (record { label = l; kind = kind.Independent; parent = Some p; node = node_of p w }) w s

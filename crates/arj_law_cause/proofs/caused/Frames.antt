@@ -1,11 +1,11 @@
 -- The rows of frames, of stops to come and of halts: so much is known of these lines.
 use Rattle.arj_law_parts.proofs.Words
-use Words.{◌≡◌, Bool, true, refl, Body, Header, and_parts, IsInForm}
+use Words.{◌≡◌, Bool, true, refl, Body, and_parts}
 use Words.body
 use Rattle.arj_law_runs.proofs.follow.Frames.{frames_are_caused}
 use Rattle.arj_law_runs.specs.follow.Frames.{FramesStep, frame_fits, run_events}
 use Rattle.arj_model.specs.CauseSpans.{Here, here_at}
-use Rattle.arj_promise.specs.Runs.{Run, journal_by}
+use Rattle.arj_promise.specs.Runs.{journal_by}
 use Rattle.arj_law_cause.proofs.caused.Forms.{runs_too, so_too}
 use Rattle.arj_law_cause.specs.caused.Kinds.{is_armed, is_dropped, is_got, is_halted, is_sent, is_void}
 use Rattle.arj_law_cause.specs.caused.Rows.{RowHolds, RowStep, row}

@@ -1,11 +1,11 @@
 -- The row of limits: within an event a limit is that of frames, and as many were sent as a run may send.
 use Rattle.arj_law_parts.proofs.Words
-use Words.{◌≡◌, ◌∙◌, ◌+◌, ◌≤◌, ◌==◌, ◌&&◌, ◌||◌, not, ℕ, Bool, true, false, cond, List, [], ◌∷◌, ◌++◌, length, map, refl, sym, ap}
+use Words.{◌≡◌, ◌∙◌, ◌+◌, ◌==◌, ◌&&◌, not, ℕ, Bool, true, false, cond, List, [], ◌∷◌, ◌++◌, length, map, refl, sym, ap}
 use Words.{subst, arith, append-nil}
-use Words.{append_assoc, map-append, nat_tests, Option, Some, None, AllByRecursion, Arm, Body, Event, Frame, Header, Line, Move, World}
+use Words.{append_assoc, map-append, nat_tests, Option, Some, None, AllByRecursion, Arm, Body, Event, Header, Line, Move, World}
 use Words.{counted}
-use Words.{first_reason, giving, happens, lacks_labels, limited, moved, most_frames, no_labels, numbered, reasons, run_unless, world_from}
-use Words.{IsInForm, list_all}
+use Words.{first_reason, giving, happens, lacks_labels, limited, moved, most_frames, no_labels, reasons, run_unless, world_from}
+use Words.{list_all}
 use Words.body
 use Rattle.arj_journal.specs.ScriptForm.{HeaderInForm}
 use Rattle.arj_law_parts.proofs.Terms.{says}
@@ -13,13 +13,12 @@ use Rattle.arj_law_parts.proofs.Terms.which
 use Rattle.arj_law_parts.specs.steps.Spoken.{is_of_parts}
 use Rattle.arj_law_runs.proofs.follow.Along.{Ended, Outcome, Went, event_of, runs_along}
 use Rattle.arj_law_runs.proofs.follow.Frames as frames
-use Rattle.arj_law_runs.proofs.follow.Refusing.{same_bodies}
 use Rattle.arj_law_runs.proofs.follow.Walking.{behind_all}
-use Rattle.arj_law_runs.specs.follow.Frames.{FramesStep, are_so, run_events}
+use Rattle.arj_law_runs.specs.follow.Frames.{FramesStep, are_so}
 use Rattle.arj_model.specs.CauseSpans.{Here, here_at}
 use Rattle.arj_model.specs.Past.{Past, at_start, block, next}
 use Rattle.arj_model.specs.Refusals.{frame_from, frame_step, last_frame}
-use Rattle.arj_promise.specs.Runs.{IsStoppedInForm, Run, journal_by}
+use Rattle.arj_promise.specs.Runs.{IsStoppedInForm}
 use Rattle.arj_promise.specs.Starts.{IsFormed}
 use Rattle.arj_law_cause.proofs.caused.Filling as filling
 use Rattle.arj_law_cause.proofs.caused.Filling.{IsFilled, IsFree}
@@ -157,7 +156,7 @@ module _ (hd : Header) (form : HeaderInForm hd) where
           x = happens e arm t
 
           so : filling.So free are_free w.lines (happens e arm t)
-          so = filling.happens_so free are_free w.lines (λ b. refl) e arm t (record {
+          so = filling.happens_so free are_free w.lines e arm t (λ b is. refl) (record {
             more = [];
             lines = sym (append-nil w.lines);
             passes = tt;

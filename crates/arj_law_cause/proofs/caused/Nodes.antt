@@ -1,6 +1,6 @@
 -- What is kept whatever the history; and lines that no coordinator says.
 use Rattle.arj_law_parts.proofs.Words
-use Words.{◌≡◌, ◌&&◌, Bool, true, not, List, [], ◌∷◌, refl, list_all, and_parts, Body, Header, Seen, Effect, Say, Send, Do}
+use Words.{◌≡◌, ◌&&◌, Bool, true, List, [], ◌∷◌, refl, list_all, and_parts, Header, Seen, Effect}
 use Rattle.arj_law_parts.proofs.moves.Happens.{Wide, keeps_asked, wide_kept}
 use Rattle.arj_law_parts.specs.moves.Keeps.{IsAtStarts, Keeps}
 use Rattle.arj_law_parts.specs.moves.With.{KeepsAll}

@@ -1,10 +1,10 @@
 -- The row of plain refusals: an event that is refused with such a number writes its refusal alone, and that is its lowest cause.
 use Rattle.arj_law_parts.proofs.Words
-use Words.{◌≡◌, ◌∙◌, ◌+◌, ◌-◌, ◌==◌, ◌&&◌, ◌||◌, not, ℕ, Bool, true, false, cond, List, [], ◌∷◌, ◌++◌, refl, sym, ap, subst, arith}
+use Words.{◌≡◌, ◌∙◌, ◌+◌, ◌-◌, ◌==◌, ◌&&◌, ◌||◌, not, ℕ, Bool, true, false, cond, List, [], ◌∷◌, refl, sym, ap, subst, arith}
 use Words.{append-nil}
-use Words.{Option, Some, None, nat_le, nat_tests, eqb-true, length, AllByRecursion, list_all, and_parts, Arm, Body, Event, Header, Line}
+use Words.{Option, Some, None, nat_tests, eqb-true, length, AllByRecursion, list_all, and_parts, Arm, Body, Event, Header, Line}
 use Words.{Move, World, counted, first_reason}
-use Words.{happens, limited, reasons, world_from, IsInForm}
+use Words.{happens, reasons, world_from}
 use Words.body
 use Words.event
 use Rattle.arj_journal.specs.ScriptForm.{HeaderInForm}
@@ -15,15 +15,14 @@ use Rattle.arj_law_runs.proofs.follow.Plain.{happens_so, is_refusal, limited_so}
 use Rattle.arj_law_runs.proofs.follow.Reasons.{joined, refused_by_any}
 use Rattle.arj_law_runs.proofs.follow.Refusing as refusing
 use Rattle.arj_law_runs.proofs.follow.Refusing.{Came, IsRefused, IsRun, Stands}
-use Rattle.arj_law_runs.specs.follow.Frames.{FramesStep, are_so, run_events}
-use Rattle.arj_law_runs.specs.follow.Refusals.{is_plain_cause, names_action}
+use Rattle.arj_law_runs.specs.follow.Frames.{FramesStep, are_so}
+use Rattle.arj_law_runs.specs.follow.Refusals.{is_plain_cause}
 use Rattle.arj_model.specs.CauseNodes.{is_cause, refused_caused}
 use Rattle.arj_model.specs.CauseSpans.{Here, behind, here_at, holds_in, is_doomed}
-use Rattle.arj_model.specs.Caused.{has_cause}
-use Rattle.arj_model.specs.Follows.{Runs, is_behind_doom, label_doomed}
-use Rattle.arj_model.specs.Past.{Past, block, next}
+use Rattle.arj_model.specs.Follows.{is_behind_doom, label_doomed}
+use Rattle.arj_model.specs.Past.{Past, block}
 use Rattle.arj_model.specs.Refusals.{causes, first_cause, refusal}
-use Rattle.arj_promise.specs.Runs.{IsStoppedInForm, Run, journal_by}
+use Rattle.arj_promise.specs.Runs.{IsStoppedInForm}
 use Rattle.arj_law_cause.specs.caused.Kinds.{is_plain_refusal}
 use Rattle.arj_law_cause.specs.caused.Rows.{RowHoldsWhere, RowStep, row}
 use Rattle.std.proofs.Math.Nat.{add-sub_cancel}

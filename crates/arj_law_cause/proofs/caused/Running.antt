@@ -4,11 +4,10 @@ use Words.{◌≡◌, ◌∙◌, ◌+◌, ◌++◌, ◌&&◌, not, ℕ, Bool, tr
 use Words.{sym, ap}
 use Words.{subst, append-nil, list_all, map, Start, Body, Event, Header, Line, Arm, World, Move, Input, Node, at_place, counted}
 use Words.{first_reason, giving}
-use Words.{⊤, Post, happens, lacks_labels, limited, moved, no_labels, numbered, reasons, run_event, run_unless, see, world_from}
+use Words.{⊤, Post, happens, lacks_labels, limited, moved, no_labels, reasons, run_unless, world_from}
 use Words.{IsFormed, IsInForm}
 use Words.body
 use Rattle.arj_law_parts.proofs.Terms.{says}
-use Rattle.arj_law_parts.proofs.Terms.which
 use Rattle.arj_law_parts.proofs.moves.{Events.closes_at, Events.happened, Events.opens_at, Events.same_run, Firsts.first_stands}
 use Rattle.arj_law_parts.proofs.moves.Worlds.{says_hold}
 use Rattle.arj_law_parts.specs.moves.Moments.{History, Moment, come, gone, no_history}
@@ -17,15 +16,15 @@ use Rattle.arj_law_parts.specs.moves.With.{HoldsAt, HoldsWith, KeepsAll, KeepsSt
 use Rattle.arj_law_parts.specs.steps.Writes as writes
 use Rattle.arj_law_runs.proofs.follow.Along.{Ended, Outcome, Went, event_of, runs_along}
 use Rattle.arj_law_runs.specs.follow.Frames.{are_so, run_events}
-use Rattle.arj_model.specs.CauseSpans.{Here, here_at}
+use Rattle.arj_model.specs.CauseSpans.{Here}
 use Rattle.arj_model.specs.Follows.{Runs}
-use Rattle.arj_model.specs.Past.{Asked, Past, asked_of, at_start, block, is_refused, next}
+use Rattle.arj_model.specs.Past.{Past, asked_of, at_start, block, is_refused, next}
 use Rattle.arj_promise.specs.Runs.{IsStoppedInForm, Run, journal_by}
 use Rattle.arj_start.specs.Start.{fresh}
 use Rattle.std.specs.Prelude.{drop}
 use Rattle.arj_law_cause.proofs.caused.Walks as walks
 use Rattle.arj_law_cause.proofs.caused.Forms.{behind_block}
-use Rattle.arj_law_cause.specs.caused.Rows.{RowHolds, RowStep, row}
+use Rattle.arj_law_cause.specs.caused.Rows.{RowStep, row}
 
 -- What is known beside a relation that is kept: what holds of the world between events gives it as an event comes, and each handler keeps
 -- it in the event.

@@ -1,16 +1,16 @@
 -- The row of nodes that are up again: a restart puts an incarnation above that of the journal.
 use Rattle.arj_law_parts.proofs.Words
-use Words.{◌≡◌, ◌∙◌, ◌≤◌, ◌+◌, ◌==◌, ◌&&◌, not, ℕ, Bool, true, false, if◌then◌else◌, List, [], ◌∷◌, ◌++◌, Option, Some, None, refl, sym}
+use Words.{◌≡◌, ◌∙◌, ◌≤◌, ◌+◌, ◌&&◌, ℕ, true, false, if◌then◌else◌, List, [], ◌++◌, Some, None, refl, sym}
 use Words.{ap, subst, arith}
-use Words.{nat_lt, nat_tests, list_all, map, Line, restart_outs, Body, Effect, Say, Send, Do, Disk, Event, Header, Message, Parts}
-use Words.{Handled, Took, Void, Seen, Start}
-use Words.{acts as does, acts_own, again_all, again_own, all_both, handle, holders, is_meant, map_own, parent_of, query_about, tick_outs}
-use Words.{tolds_again, tolds_again_own, AreAll, Input, cond, begin_action}
+use Words.{nat_lt, nat_tests, map, Line, restart_outs, Body, Effect, Say, Send, Do, Disk, Event, Header}
+use Words.{Handled, Void, Start}
+use Words.{acts as does, acts_own, again_all, again_own, all_both, handle, holders, parent_of, query_about, tick_outs}
+use Words.{tolds_again, tolds_again_own, cond, begin_action}
 use Words.body
 use Words.event
 use Words.input
 use Rattle.arj_law_parts.proofs.moves.Happens.{Wide}
-use Rattle.arj_law_parts.proofs.steps.Still.{Still, coord_good, is_still, map_good, outs_of, says_still, taken_good}
+use Rattle.arj_law_parts.proofs.steps.Still.{Still, coord_good, map_good, outs_of, says_still, taken_good}
 use Rattle.arj_law_parts.specs.moves.Moments.{Moment}
 use Rattle.arj_law_parts.specs.moves.Seen as seen
 use Rattle.arj_law_parts.specs.moves.Seen.{is_quiet_line}

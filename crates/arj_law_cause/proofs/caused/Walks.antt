@@ -10,7 +10,7 @@ use Words.frame
 use Words.input
 use Rattle.arj_law_parts.proofs.moves.{Flat.post, Together.with_both}
 use Rattle.arj_law_parts.specs.moves.Keeps.{AsksNode, MayGive, is_act, label_at}
-use Rattle.arj_law_parts.specs.moves.Moments.{MayTake, Moment, asks_now, at, fits, framed_if, given, halted, lined, posted, said, sent, up}
+use Rattle.arj_law_parts.specs.moves.Moments.{MayTake, Moment, asks_now, at, fits, framed_if, given, halted, lined, posted, said, up}
 use Rattle.arj_law_parts.specs.moves.Seen.{AreQuiet, In, is_quiet_line}
 use Rattle.arj_law_parts.specs.moves.With.{ArePlain, Brings, IsFirst, KeepsSteps, UpWith, WalksWith, is_plain_line}
 use Rattle.arj_law_runs.proofs.follow.Walking.{behind_all}

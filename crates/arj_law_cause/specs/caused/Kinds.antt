@@ -55,3 +55,8 @@ is_plain_refusal h _ = false
 abbrev pub is_commit_done : Body → Bool
 is_commit_done (body.Done n u r ending.Commit) = true
 is_commit_done _ = false
+
+-- a quiesce said whether all is quiet
+abbrev pub is_quiet : Body → Bool
+is_quiet (body.Quiet still) = true
+is_quiet _ = false
