@@ -1,2 +1,2 @@
 pub mod rows
-pub mod caused
+pub mod kinds

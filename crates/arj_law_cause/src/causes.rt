@@ -1,6 +1,6 @@
 // Rows of causes: lines of the world, and what nodes do.
-ghost use Rattle.arj_law_cause.specs.caused.Kinds.{is_armed, is_commit_done, is_dropped, is_got, is_halted, is_limit, is_plain_refusal, is_quiet, is_sent, is_up, is_void};
-ghost use Rattle.arj_law_cause.specs.caused.Rows.{RowHolds, RowHoldsWhere};
+ghost use Rattle.arj_law_cause.specs.kinds.Kinds.{is_armed, is_commit_done, is_dropped, is_got, is_halted, is_limit, is_plain_refusal, is_quiet, is_sent, is_up, is_void};
+ghost use Rattle.arj_law_cause.specs.kinds.Rows.{RowHolds, RowHoldsWhere};
 
 /// In every run in form, wherever it begins and wherever disks stop, each line of a frame has its cause by the events and the lines before
 /// it, row by row: a frame that is sent has the next number and goes from a node that is up, or from nobody where the script hands over

@@ -1,6 +1,6 @@
 //! Causes of a journal's lines: conflicts against the journal's tables, and rows of what nodes do and of the world.
 //!
-//! `rows/` has what answers say of the lines before the place where they are made, `caused/` that each line of one kind has
+//! `rows/` has what answers say of the lines before the place where they are made, `kinds/` that each line of one kind has
 //! its cause, row by row.
 //!
 //! What it gives upward: `conflicts_are_met`, `frame_lines_have_causes`, `stops_have_causes`, `restarts_have_causes`,

@@ -1,4 +1,4 @@
-use Rattle.arj_law_cause.proofs.caused.Committed.{done_row}
+use Rattle.arj_law_cause.proofs.kinds.Committed.{done_row}
 use Rattle.arj_law_cause.proofs.causes.commits_done_have_causes.Goals as goal
 
 pub returns : goal.returns

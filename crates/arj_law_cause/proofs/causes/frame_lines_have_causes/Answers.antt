@@ -1,4 +1,4 @@
-use Rattle.arj_law_cause.proofs.caused.Frames.{dropped_row, got_row, sent_row, void_row}
+use Rattle.arj_law_cause.proofs.kinds.Frames.{dropped_row, got_row, sent_row, void_row}
 use Rattle.arj_law_cause.proofs.causes.frame_lines_have_causes.Goals as goal
 
 pub returns-clause-sent : goal.returns-clause-sent

@@ -1,4 +1,4 @@
-use Rattle.arj_law_cause.proofs.caused.Up.{up_row}
+use Rattle.arj_law_cause.proofs.kinds.Up.{up_row}
 use Rattle.arj_law_cause.proofs.causes.restarts_have_causes.Goals as goal
 
 pub returns : goal.returns

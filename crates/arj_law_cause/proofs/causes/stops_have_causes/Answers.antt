@@ -1,4 +1,4 @@
-use Rattle.arj_law_cause.proofs.caused.Frames.{armed_row, halted_row}
+use Rattle.arj_law_cause.proofs.kinds.Frames.{armed_row, halted_row}
 use Rattle.arj_law_cause.proofs.causes.stops_have_causes.Goals as goal
 
 pub returns-clause-armed : goal.returns-clause-armed

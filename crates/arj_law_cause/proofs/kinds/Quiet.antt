@@ -40,13 +40,13 @@ use Rattle.arj_model.specs.Refusals.{open_from, open_step}
 use Rattle.arj_model.specs.Refusals.{was_called}
 use Rattle.arj_promise.specs.Runs.{IsStoppedInForm}
 use Rattle.arj_protocol.specs.Step.{is_idle_with}
-use Rattle.arj_law_cause.proofs.caused.Accepted.{IsToldBy, told_on}
-use Rattle.arj_law_cause.proofs.caused.Filling as filling
-use Rattle.arj_law_cause.proofs.caused.Filling.{IsFilled, IsFree}
-use Rattle.arj_law_cause.proofs.caused.Waiting.{Tied, nobody_waits}
-use Rattle.arj_law_cause.proofs.caused.Walks.{behind_lines, none_rows, so_both}
-use Rattle.arj_law_cause.specs.caused.Kinds.{is_quiet}
-use Rattle.arj_law_cause.specs.caused.Rows.{RowHolds, RowStep, row}
+use Rattle.arj_law_cause.proofs.kinds.Accepted.{IsToldBy, told_on}
+use Rattle.arj_law_cause.proofs.kinds.Filling as filling
+use Rattle.arj_law_cause.proofs.kinds.Filling.{IsFilled, IsFree}
+use Rattle.arj_law_cause.proofs.kinds.Waiting.{Tied, nobody_waits}
+use Rattle.arj_law_cause.proofs.kinds.Walks.{behind_lines, none_rows, so_both}
+use Rattle.arj_law_cause.specs.kinds.Kinds.{is_quiet}
+use Rattle.arj_law_cause.specs.kinds.Rows.{RowHolds, RowStep, row}
 use Rattle.std.proofs.lemmas.List.{append_cancel_left}
 use Rattle.std.specs.List.{range_with_len}
 

@@ -22,9 +22,9 @@ use Rattle.arj_model.specs.Past.{Past, asked_of, at_start, block, is_refused, ne
 use Rattle.arj_promise.specs.Runs.{IsStoppedInForm, Run, journal_by}
 use Rattle.arj_start.specs.Start.{fresh}
 use Rattle.std.specs.Prelude.{drop}
-use Rattle.arj_law_cause.proofs.caused.Walks as walks
-use Rattle.arj_law_cause.proofs.caused.Forms.{behind_block}
-use Rattle.arj_law_cause.specs.caused.Rows.{RowStep, row}
+use Rattle.arj_law_cause.proofs.kinds.Walks as walks
+use Rattle.arj_law_cause.proofs.kinds.Forms.{behind_block}
+use Rattle.arj_law_cause.specs.kinds.Rows.{RowStep, row}
 
 -- What is known beside a relation that is kept: what holds of the world between events gives it as an event comes, and each handler keeps
 -- it in the event.

@@ -20,11 +20,11 @@ use Rattle.arj_model.specs.Past.{Past, at_start, block, next}
 use Rattle.arj_model.specs.Refusals.{frame_from, frame_step, last_frame}
 use Rattle.arj_promise.specs.Runs.{IsStoppedInForm}
 use Rattle.arj_promise.specs.Starts.{IsFormed}
-use Rattle.arj_law_cause.proofs.caused.Filling as filling
-use Rattle.arj_law_cause.proofs.caused.Filling.{IsFilled, IsFree}
-use Rattle.arj_law_cause.proofs.caused.Walks.{behind_lines, none_rows, so_both}
-use Rattle.arj_law_cause.specs.caused.Kinds.{is_limit}
-use Rattle.arj_law_cause.specs.caused.Rows.{RowHolds, RowStep, row}
+use Rattle.arj_law_cause.proofs.kinds.Filling as filling
+use Rattle.arj_law_cause.proofs.kinds.Filling.{IsFilled, IsFree}
+use Rattle.arj_law_cause.proofs.kinds.Walks.{behind_lines, none_rows, so_both}
+use Rattle.arj_law_cause.specs.kinds.Kinds.{is_limit}
+use Rattle.arj_law_cause.specs.kinds.Rows.{RowHolds, RowStep, row}
 use Rattle.std.proofs.lemmas.List.{append_cancel_left}
 
 -- lines of the kind, wherever they come

@@ -33,7 +33,7 @@ use Rattle.arj_protocol.specs.Step.{is_idle_with}
 use Rattle.arj_model.specs.Actions.{is_over}
 use Rattle.arj_model.specs.Refusals as model
 use Rattle.arj_model.specs.Refusals.{answers_to, asks_by, holds_of, is_waiting, unanswered, was_called}
-use Rattle.arj_law_cause.proofs.caused.Accepted.{IsToldBy}
+use Rattle.arj_law_cause.proofs.kinds.Accepted.{IsToldBy}
 
 some_is : {A : Type 0} {a b : A} → Some a ≡ Some b → a ≡ b
 some_is {A} {a} {b} is = let k : ◌≡◌ {A = Option A} (Some a) (Some b) = is in cc

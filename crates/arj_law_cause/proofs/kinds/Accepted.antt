@@ -26,7 +26,7 @@ use Rattle.arj_promise.specs.Runs.{IsStoppedInForm}
 use Rattle.arj_protocol.specs.Step.{refusal_at}
 use Rattle.arj_start.specs.Start.{fresh}
 use Rattle.std.specs.Prelude.{drop}
-use Rattle.arj_law_cause.proofs.caused.Forms.{behind_block}
+use Rattle.arj_law_cause.proofs.kinds.Forms.{behind_block}
 
 -- The history's run is this one, and what was asked of actions by calls and includes is what was accepted.
 pub record IsToldBy (p : Past) (g : History) : Type 0 where

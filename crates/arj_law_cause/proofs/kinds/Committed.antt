@@ -15,9 +15,9 @@ use Rattle.arj_model.specs.Actions.{committed, is_committed, recovered}
 use Rattle.arj_model.specs.CauseSpans.{Here, act_by, holds_in}
 use Rattle.arj_model.specs.Caused.{has_cause}
 use Rattle.arj_promise.specs.Runs.{Run, journal_by}
-use Rattle.arj_law_cause.proofs.caused.Lines.{lines_row}
-use Rattle.arj_law_cause.specs.caused.Kinds.{is_commit_done}
-use Rattle.arj_law_cause.specs.caused.Rows.{RowHolds}
+use Rattle.arj_law_cause.proofs.kinds.Lines.{lines_row}
+use Rattle.arj_law_cause.specs.kinds.Kinds.{is_commit_done}
+use Rattle.arj_law_cause.specs.kinds.Rows.{RowHolds}
 
 -- an action is found by its Uid
 pub act_found : (xs : List Act) → AreDistinct xs → (a : Act) → In a xs → (u : Uid) → a.uid ≡ u →

@@ -18,7 +18,7 @@ use Rattle.arj_law_runs.specs.follow.Frames.{are_so}
 use Rattle.arj_model.specs.CauseSpans.{Here, behind}
 use Rattle.arj_model.specs.Caused.{has_cause}
 use Rattle.arj_model.specs.Past.{Past, asked_of}
-use Rattle.arj_law_cause.specs.caused.Rows.{row}
+use Rattle.arj_law_cause.specs.kinds.Rows.{row}
 
 -- ---- lines behind one another
 

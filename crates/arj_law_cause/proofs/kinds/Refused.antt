@@ -23,8 +23,8 @@ use Rattle.arj_model.specs.Follows.{is_behind_doom, label_doomed}
 use Rattle.arj_model.specs.Past.{Past, block}
 use Rattle.arj_model.specs.Refusals.{causes, first_cause, refusal}
 use Rattle.arj_promise.specs.Runs.{IsStoppedInForm}
-use Rattle.arj_law_cause.specs.caused.Kinds.{is_plain_refusal}
-use Rattle.arj_law_cause.specs.caused.Rows.{RowHoldsWhere, RowStep, row}
+use Rattle.arj_law_cause.specs.kinds.Kinds.{is_plain_refusal}
+use Rattle.arj_law_cause.specs.kinds.Rows.{RowHoldsWhere, RowStep, row}
 use Rattle.std.proofs.Math.Nat.{add-sub_cancel}
 use Rattle.std.proofs.lemmas.List.{append_cancel_left}
 

@@ -6,9 +6,9 @@ use Rattle.arj_law_runs.proofs.follow.Frames.{frames_are_caused}
 use Rattle.arj_law_runs.specs.follow.Frames.{FramesStep, frame_fits, run_events}
 use Rattle.arj_model.specs.CauseSpans.{Here, here_at}
 use Rattle.arj_promise.specs.Runs.{journal_by}
-use Rattle.arj_law_cause.proofs.caused.Forms.{runs_too, so_too}
-use Rattle.arj_law_cause.specs.caused.Kinds.{is_armed, is_dropped, is_got, is_halted, is_sent, is_void}
-use Rattle.arj_law_cause.specs.caused.Rows.{RowHolds, RowStep, row}
+use Rattle.arj_law_cause.proofs.kinds.Forms.{runs_too, so_too}
+use Rattle.arj_law_cause.specs.kinds.Kinds.{is_armed, is_dropped, is_got, is_halted, is_sent, is_void}
+use Rattle.arj_law_cause.specs.kinds.Rows.{RowHolds, RowStep, row}
 
 row_by : (of : Body → Bool) → ((h : Here) (b : Body) → frame_fits h b ≡ true → row (λ g. of) h b ≡ true) → RowHolds of
 row_by of fits hd r form =

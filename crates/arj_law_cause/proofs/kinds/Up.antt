@@ -20,11 +20,11 @@ use Rattle.arj_law_runs.proofs.kept.Walked.{same_number}
 use Rattle.arj_model.specs.CauseNodes.{restarts}
 use Rattle.arj_model.specs.Past.{Past}
 use Rattle.arj_model.specs.Refusals.{incarnation}
-use Rattle.arj_law_cause.proofs.caused.Nodes.{all_too, wide_all}
-use Rattle.arj_law_cause.proofs.caused.Running.{nothing_more, row_run}
-use Rattle.arj_law_cause.proofs.caused.Walks as walks
-use Rattle.arj_law_cause.specs.caused.Kinds.{is_up}
-use Rattle.arj_law_cause.specs.caused.Rows.{RowHolds}
+use Rattle.arj_law_cause.proofs.kinds.Nodes.{all_too, wide_all}
+use Rattle.arj_law_cause.proofs.kinds.Running.{nothing_more, row_run}
+use Rattle.arj_law_cause.proofs.kinds.Walks as walks
+use Rattle.arj_law_cause.specs.kinds.Kinds.{is_up}
+use Rattle.arj_law_cause.specs.kinds.Rows.{RowHolds}
 
 quiet : (b : Body) → is_quiet_line b ≡ true → is_up b ≡ false
 quiet (body.Up n i) is = absurd (cc is)

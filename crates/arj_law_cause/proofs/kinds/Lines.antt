@@ -8,7 +8,7 @@ use Rattle.arj_model.specs.CauseSpans.{Here, behind, here_at}
 use Rattle.arj_model.specs.Caused.{has_cause}
 use Rattle.arj_model.specs.Follows.{Runs}
 use Rattle.arj_model.specs.Past.{Along, Past, block, next}
-use Rattle.arj_law_cause.specs.caused.Rows.{RowStep, row}
+use Rattle.arj_law_cause.specs.kinds.Rows.{RowStep, row}
 
 -- the lines behind a run so far
 more_lines : (P : Past → Event → List Body → Type 0) (es : List Event) (p end : Past) → Along P p es end →
