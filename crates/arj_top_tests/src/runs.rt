@@ -72,7 +72,7 @@ fn numbers(alloc: Global, number: Option<u64>) -> Result<Numbers, AllocError> {
     Ok(numbers)
 }
 
-fn bytes(alloc: Global, pieces: &[&[u8]]) -> Result<Bytes, AllocError> {
+pub fn bytes(alloc: Global, pieces: &[&[u8]]) -> Result<Bytes, AllocError> {
     let mut bytes = Bytes::new(alloc);
     for piece in pieces {
         bytes.extend(piece)?;
@@ -99,10 +99,10 @@ fn words(alloc: Global, given: &[&str]) -> Result<Vec<String>, AllocError> {
 
 // How a run is fed: pieces of at most so many bytes, and one read and one write that may fail.
 #[derive(Clone, Copy)]
-struct Feeding {
-    chunk: usize,
-    failing_read: Option<u64>,
-    failing_write: Option<u64>,
+pub struct Feeding {
+    pub chunk: usize,
+    pub failing_read: Option<u64>,
+    pub failing_write: Option<u64>,
 }
 
 // Long pieces, and nothing fails.
@@ -115,9 +115,9 @@ const SURE: Feeding = Feeding {
 // What a run of the top call came to: its status, what the sink took, why a line is bad, whether there is a world, and the next
 // byte that the source gives.
 #[derive(Drop)]
-struct Came {
-    status: u8,
-    sink: MemSink,
+pub struct Came {
+    pub status: u8,
+    pub sink: MemSink,
     why: Option<BadLine>,
     has_world: bool,
     next: Option<u8>,
@@ -172,7 +172,7 @@ fn next_byte(source: &mut MemSource) -> Option<u8> {
 }
 
 // A run of a script over empty disks.
-fn replayed(alloc: Global, pieces: &[&[u8]], feeding: Feeding) -> Result<Came, AllocError> {
+pub fn replayed(alloc: Global, pieces: &[&[u8]], feeding: Feeding) -> Result<Came, AllocError> {
     let script = bytes(alloc, pieces)?;
     let mut rack = empty_rack(alloc)?;
     run(alloc, ["replay"].as_slice(), script, feeding, &mut rack)

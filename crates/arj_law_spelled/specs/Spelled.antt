@@ -1,0 +1,38 @@
+-- What is sent in a run can be spelled, and what isn't shown of it.
+use Rattle.std.specs.Prelude.{◌≤◌, length, ⊤}
+use Rattle.std.specs.List.{AllByRecursion}
+use Rattle.arj_journal.specs.ScriptForm.{HeaderInForm}
+use Rattle.arj_msg.specs.Sendable.{IsSendable, InvokedSends, LoadedSends, OpSends, StateSends, VotedSends}
+use Rattle.arj_protocol.specs.Words.{BoundReply, Header, Message}
+use Rattle.arj_protocol.specs.Words.bound
+use Rattle.arj_protocol.specs.Words.message
+use Rattle.arj_law_parts.specs.moves.Keeps.{Holds}
+use Rattle.arj_law_parts.specs.moves.Seen.{In}
+use Rattle.arj_promise.specs.Runs.{Post, Run, Seen, world_by}
+
+-- at most 255 stores
+abbrev pub ListsFew : BoundReply → Type 0
+ListsFew (bound.Live b server i g stores) = length stores ≤ 255
+ListsFew (bound.Make b server g stores) = length stores ≤ 255
+ListsFew (bound.Write g stores) = length stores ≤ 255
+ListsFew (bound.Conflict holder m) = ⊤
+
+-- Of a message, what isn't shown: its states restore, registers have at most 64 bytes, and there are at most 255 stores of an entry and
+-- states of a vote.
+abbrev pub IsLeft : Message → Type 0
+IsLeft (message.Bound m) = ListsFew m.reply
+IsLeft (message.Loaded m) = LoadedSends m.reply
+IsLeft (message.Activate m) = StateSends m.state
+IsLeft (message.Invoke m) = OpSends m.op
+IsLeft (message.Invoked m) = InvokedSends m.reply
+IsLeft (message.Voted m) = VotedSends m.reply
+IsLeft (message.Prepare m) = AllByRecursion StateSends m.states
+IsLeft m = ⊤
+
+-- each message that was sent can be spelled, where that is so
+abbrev pub AreSendable : Seen → Type 0
+AreSendable M = (p : Post) → In p M.sent → IsLeft p.message → IsSendable p.message
+
+-- in every run
+abbrev pub RunsSpell : Type 0
+RunsSpell = (hd : Header) → HeaderInForm hd → (r : Run hd) → Holds hd AreSendable (world_by hd r)
