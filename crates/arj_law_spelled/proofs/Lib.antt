@@ -4,4 +4,7 @@ pub mod Commits
 pub mod Requests
 pub mod Replies
 pub mod Tolds
+pub mod Servers
+pub mod Saves
+pub mod Saving
 pub mod Messages

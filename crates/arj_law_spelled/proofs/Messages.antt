@@ -1,14 +1,19 @@
 -- Each message that was sent can be spelled, but for what is left to say of it.
 use Rattle.arj_law_parts.proofs.Words
 use Words.{◌≡◌, ◌≤◌, ◌∙◌, ℕ, List, length, Option, Some, None, AllByRecursion, refl, sym, ap, subst, false, true, Ask, Asked, Binding, BoundReply}
-use Words.{ConfirmedReply, Head, Header, Message, PreparedReply, ObjectState, asks, Reply, answers, Node, Post, Seen, see, world_by, is_some}
+use Words.{ConfirmedReply, End, Head, Header, LoadedReply, Message, Op, PreparedReply, ObjectState, Uid, VotedReply, asks, Reply, answers, Node, Post}
+use Words.{Seen, World, see, world_by, is_some}
 use Words.ask
 use Words.bound
 use Words.confirmed
+use Words.loaded
 use Words.message
 use Words.prepared
+use Words.voted
 use Rattle.arj_law_promise.proofs.Terms
-use Terms.{HasObject, HeaderInForm, In, IsGood, KeepsAsked, all_each, moves_asked}
+use Terms.{HasObject, HeaderInForm, Holds, In, IsGood, KeepsAsked, all_each, moves_asked}
+use Rattle.arj_class.specs.declared.op.Op.TheVariants as op
+use Rattle.arj_law_disk_view.specs.running.States.{ReplyIsSo}
 use Rattle.arj_law_parts.specs.parts.Incs.{SaysInc}
 use Rattle.arj_law_promise.proofs.meant.Posts.{RequestsAre}
 use Rattle.arj_law_promise.specs.meant.Meant.{AskFits}
@@ -17,10 +22,13 @@ use Rattle.arj_law_runs.specs.addresses.Addresses.{AnsweredOf, AreOf, BoundOf, P
 use Rattle.arj_law_spelled.proofs.Commits.{node_number, object_number, room}
 use Rattle.arj_law_spelled.proofs.Replies.{Asks, RepliesFit, ReplyFits, replies_keep}
 use Rattle.arj_law_spelled.proofs.Requests.{AreShort, Known, requests_keep}
+use Rattle.arj_law_spelled.proofs.Saves.{F, MessageSaves}
+use Rattle.arj_law_spelled.proofs.Saving.{SavesWhere, saves_keep}
 use Rattle.arj_law_spelled.proofs.Tolds.{ToldFew, ToldsFew, tolds_keep}
-use Rattle.arj_law_spelled.specs.Spelled.{IsLeft, ListsFew, RunsSpell}
+use Rattle.arj_law_spelled.specs.Spelled.{AreSendable, AreSpelled, IsLeft, IsLeftThen, ListsFew, RunsRestore, RunsSpell, VotesFew}
 use Rattle.arj_msg.specs.InForm.{AreFew, IsNode, IsObject}
-use Rattle.arj_msg.specs.Sendable.{BoundSends, ConfirmedSends, IsSendable, PreparedSends}
+use Rattle.arj_msg.specs.Sendable.{BoundSends, ConfirmedSends, IsSendable, LoadedSends, OpSends, PreparedSends, VotedSends}
+use Rattle.arj_text.specs.Fields.{OpTextInForm}
 
 module _ (hd : Header) (form : HeaderInForm hd) where
   abbrev Short : Seen → Type 0
@@ -48,9 +56,15 @@ module _ (hd : Header) (form : HeaderInForm hd) where
   abbrev Said : Seen → Type 0
   Said M = Short M × RepliesFit M
 
-  keep : KeepsAsked hd (λ M. Said M × ToldsFew M)
-  keep = tolds_keep hd Said (replies_keep hd Short (requests_keep hd form) good of_requests)
+  abbrev Told : Seen → Type 0
+  Told M = Said M × ToldsFew M
+
+  told_keep : KeepsAsked hd Told
+  told_keep = tolds_keep hd Said (replies_keep hd Short (requests_keep hd form) good of_requests)
       (λ k d t M all. few_ends t.coord.tree (let s = all.0 in let n = s.0 in room hd form k d t M n.0))
+
+  keep : KeepsAsked hd (λ M. Told M × SavesWhere M)
+  keep = saves_keep hd form Told told_keep (λ M all. good M (let s = all.0 in s.0))
 
   -- ---- kind by kind
 
@@ -127,38 +141,80 @@ module _ (hd : Header) (form : HeaderInForm hd) where
   sends p (message.Query m) is k own left = tt
   sends p (message.Hello m) is k own left = node_number hd form m.node (k.hello m.node (sym (own m.node m.inc refl)))
 
-pub runs_spell : RunsSpell
-runs_spell hd form r =
-    let h = moves_asked hd (λ M. Said hd form M × ToldsFew M) (keep hd form) r in
-    let every = h.holds in
-    let all = every.0 in
-    let M = see h.sent (world_by hd r) in
-    record {
-      sent = h.sent;
-      stands = h.stands;
-      holds = λ p there left. sends hd form p p.message refl
-          (record {
-            asked = λ z a is. (fits hd form M all.0 p z a there is, (let s = all.0 in s.1 p z a there is));
-            said = λ a z is. all.1 p a z there is;
-            told = every.1 p there;
-            address = address hd form M all.0 p there;
-            hello = λ from same. subst (IsOfHeader hd) same (let a = address hd form M all.0 p there in a.0);
-          })
-          (λ n i is. hello_own hd form M all.0 (λ k here. let z = h.stands in z.places k here) p there n i is)
-          left;
-    }
-  where
-    address : (hd : Header) (form : HeaderInForm hd) (M : Seen) → Short hd form M → (p : Post) → In p M.sent → PostOf (IsOfHeader hd) p
-    address hd form M short p there = let k = short.0 in let b = k.0 in let m = b.0 in let w = m.0 in let a = w.0.0.1 in let so = a.1 in
-        so.1 p there
+-- ---- where operations are in form
 
-    hello_own : (hd : Header) (form : HeaderInForm hd) (M : Seen) → Short hd form M → ((k : ℕ) → IsOfHeader hd k →
-        is_some (M.nodes k) ≡ true) → (p : Post) → In p M.sent → (n i : ℕ) →
-        p.message ≡ message.Hello (record { node = n; inc = i }) → n ≡ p.from
-    hello_own hd form M short places p there n i is = by (M.nodes p.from) refl
-      where
-        by : (o : Option Node) → M.nodes p.from ≡ o → n ≡ p.from
-        by None none = let no_way : false ≡ true = sym (ap is_some none) ∙ places p.from (let a = address hd form M short p there in a.0) in
-            absurd (cc no_way)
-        by (Some node) found = let g = good hd form M short in let w = g.1 in let s = w.so p node there found in
-            (subst (λ (z : Message). SaysInc p.from node.disk.inc z) is s.inc).0
+loaded_left : (r : LoadedReply) → ReplyIsSo F (Reply.Loaded r) → LoadedSends r
+loaded_left (loaded.State st) its = its
+loaded_left (loaded.InDoubt h) its = tt
+
+voted_left : (r : VotedReply) → ReplyIsSo F (Reply.Voted r) → VotesFew r → VotedSends r
+voted_left (voted.Yes states) its few = (few, its)
+voted_left (voted.Changed w) its few = tt
+
+op_sends : (o : Op) → OpTextInForm o → OpSends o
+op_sends (op.Put bytes) fits = fits.0
+op_sends o fits = tt
+
+left_of : (m : Message) → MessageSaves m → ((h : Head) (x : ℕ) (b : Binding) (i : ℕ) (ends : List (Uid × End)) (o : Op) →
+    asks m ≡ Some (h, ask.Invoke x b i ends o) → OpTextInForm o) → IsLeftThen m → IsLeft m
+left_of (message.Bound m) s ops few = few
+left_of (message.Loaded m) s ops few = let z = s.0 in loaded_left m.reply z.1
+left_of (message.Activate m) s ops few = let z = s.0 in z.0
+left_of (message.Invoke m) s ops few = op_sends m.op (ops m.head m.x m.binding m.server_inc m.ends m.op refl)
+left_of (message.Invoked m) s ops few = s.1 m.asked m.reply refl
+left_of (message.Voted m) s ops few = let z = s.0 in voted_left m.reply z.1 few
+left_of (message.Prepare m) s ops few = let z = s.0 in z.0
+left_of m s ops few = tt
+
+-- ---- in every run
+
+module _ (hd : Header) (form : HeaderInForm hd) (w : World) (h : Holds hd (λ M. Told hd form M × SavesWhere M) w) where
+  abbrev M : Seen
+  M = see h.sent w
+
+  told : Told hd form M
+  told = let k = h.holds in k.0
+
+  short : Short hd form M
+  short = let t = told in let s = t.0 in s.0
+
+  address : (p : Post) → In p M.sent → PostOf (IsOfHeader hd) p
+  address p there = let k = short.0 in let b = k.0 in let m = b.0 in let z = m.0 in let a = z.0.0.1 in let so = a.1 in so.1 p there
+
+  hello_own : (p : Post) → In p M.sent → (n i : ℕ) → p.message ≡ message.Hello (record { node = n; inc = i }) → n ≡ p.from
+  hello_own p there n i is = by (M.nodes p.from) refl
+    where
+      by : (o : Option Node) → M.nodes p.from ≡ o → n ≡ p.from
+      by None none = let no_way : false ≡ true = sym (ap is_some none) ∙ (let z = h.stands in z.places p.from (let a = address p there in a.0)) in
+          absurd (cc no_way)
+      by (Some node) found = let g = good hd form M short in let z = g.1 in let s = z.so p node there found in
+          (subst (λ (y : Message). SaysInc p.from node.disk.inc y) is s.inc).0
+
+  known : (p : Post) → In p M.sent → IsKnownSo hd form p
+  known p there = record {
+    asked = λ z a is. (fits hd form M short p z a there is, short.1 p z a there is);
+    said = λ a z is. (let t = told in let s = t.0 in s.1 p a z there is);
+    told = (let t = told in t.1 p there);
+    address = address p there;
+    hello = λ from same. subst (IsOfHeader hd) same (let a = address p there in a.0);
+  }
+
+  its : (p : Post) → In p M.sent → IsLeft p.message → IsSendable p.message
+  its p there left = sends hd form p p.message refl (known p there) (λ n i is. hello_own p there n i is) left
+
+  pub spelled : Holds hd AreSendable w
+  spelled = record { sent = h.sent; stands = h.stands; holds = its }
+
+  pub restored : Holds hd AreSpelled w
+  restored = record {
+    sent = h.sent;
+    stands = h.stands;
+    holds = λ older ops p there few. let k = h.holds in let all = k.1 (older, ops) in
+        its p there (left_of p.message (all.1 p there) (λ z x b i ends o is. ops p z x b i ends o there is) few);
+  }
+
+pub runs_spell : RunsSpell
+runs_spell hd form r = spelled hd form (world_by hd r) (moves_asked hd (λ M. Told hd form M × SavesWhere M) (keep hd form) r)
+
+pub runs_restore : RunsRestore
+runs_restore hd form r = restored hd form (world_by hd r) (moves_asked hd (λ M. Told hd form M × SavesWhere M) (keep hd form) r)
