@@ -7,4 +7,5 @@ pub mod Tolds
 pub mod Servers
 pub mod Saves
 pub mod Saving
+pub mod Operations
 pub mod Messages

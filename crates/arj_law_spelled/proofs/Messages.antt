@@ -22,10 +22,11 @@ use Rattle.arj_law_runs.specs.addresses.Addresses.{AnsweredOf, AreOf, BoundOf, P
 use Rattle.arj_law_spelled.proofs.Commits.{node_number, object_number, room}
 use Rattle.arj_law_spelled.proofs.Replies.{Asks, RepliesFit, ReplyFits, replies_keep}
 use Rattle.arj_law_spelled.proofs.Requests.{AreShort, Known, requests_keep}
-use Rattle.arj_law_spelled.proofs.Saves.{F, MessageSaves}
+use Rattle.arj_law_spelled.proofs.Operations.{ops_in_form}
+use Rattle.arj_law_spelled.proofs.Saves.{AreOpsIn, F, MessageSaves}
 use Rattle.arj_law_spelled.proofs.Saving.{SavesWhere, saves_keep}
 use Rattle.arj_law_spelled.proofs.Tolds.{ToldFew, ToldsFew, tolds_keep}
-use Rattle.arj_law_spelled.specs.Spelled.{AreSendable, AreSpelled, IsLeft, IsLeftThen, ListsFew, RunsRestore, RunsSpell, VotesFew}
+use Rattle.arj_law_spelled.specs.Spelled.{AreSendable, AreSpelled, IsLeft, IsLeftThen, ListsFew, RunsInFormSpell, RunsSpell, VotesFew}
 use Rattle.arj_msg.specs.InForm.{AreFew, IsNode, IsObject}
 use Rattle.arj_msg.specs.Sendable.{BoundSends, ConfirmedSends, IsSendable, LoadedSends, OpSends, PreparedSends, VotedSends}
 use Rattle.arj_text.specs.Fields.{OpTextInForm}
@@ -205,16 +206,21 @@ module _ (hd : Header) (form : HeaderInForm hd) (w : World) (h : Holds hd (λ M.
   pub spelled : Holds hd AreSendable w
   spelled = record { sent = h.sent; stands = h.stands; holds = its }
 
-  pub restored : Holds hd AreSpelled w
-  restored = record {
+  pub restored : AreOpsIn h.sent → Holds hd AreSpelled w
+  restored ops = record {
     sent = h.sent;
     stands = h.stands;
-    holds = λ older ops p there few. let k = h.holds in let all = k.1 (older, ops) in
+    holds = λ older p there few. let k = h.holds in let all = k.1 (older, ops) in
         its p there (left_of p.message (all.1 p there) (λ z x b i ends o is. ops p z x b i ends o there is) few);
   }
 
 pub runs_spell : RunsSpell
 runs_spell hd form r = spelled hd form (world_by hd r) (moves_asked hd (λ M. Told hd form M × SavesWhere M) (keep hd form) r)
 
-pub runs_restore : RunsRestore
-runs_restore hd form r = restored hd form (world_by hd r) (moves_asked hd (λ M. Told hd form M × SavesWhere M) (keep hd form) r)
+pub runs_in_form : RunsInFormSpell
+runs_in_form hd r form =
+    let header = form.header in
+    let h = ops_in_form hd (λ M. Told hd header M × SavesWhere M) (keep hd header)
+    (λ M all. good hd header M (let t = all.0 in let s = t.0 in s.0)) r form in
+    restored hd header (world_by hd r) (record { sent = h.sent; stands = h.stands; holds = (let b = h.holds in b.0) })
+    (λ p z x b i ends o there is. (let k = h.holds in k.1 p z (ask.Invoke x b i ends o) there is))

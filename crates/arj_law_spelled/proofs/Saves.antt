@@ -77,6 +77,11 @@ MessageSaves m = MessageIsSo F m × AnswersSave m
 abbrev pub AreSavedIn : Seen → Type 0
 AreSavedIn M = ((j : ℕ) (n : Node) → M.nodes j ≡ Some n → NodeSaves n) × ((p : Post) → In p M.sent → MessageSaves p.message)
 
+-- each operation that is asked of a server is in form
+abbrev pub AreOpsIn : List Post → Type 0
+AreOpsIn sent = (p : Post) (h : Head) (x : ℕ) (b : Binding) (i : ℕ) (ends : List (Uid × End)) (o : Op) → In p sent →
+    asks p.message ≡ Some (h, ask.Invoke x b i ends o) → OpTextInForm o
+
 -- ---- pairs
 
 moved_so : (ss : List ObjectState) (held : List (Uid × ObjectState)) → AllByRecursion (Own Saved) ss → Held Saved held → Held Saved (moved ss held)

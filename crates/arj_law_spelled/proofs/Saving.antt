@@ -21,9 +21,9 @@ use waiting.Serving.{quiet_silent}
 use Rattle.arj_law_runs.proofs.addresses.Lists.{all_map}
 use Rattle.arj_law_serial.proofs.joint.FormNodes.{Held, put_so}
 use Rattle.arj_law_serial.specs.joint.Forms.{PairIsSo}
-use Rattle.arj_law_spelled.proofs.Saves.{AllSave, AreSavedIn, By, EffectSaves, F, MessageSaves, NodeSaves, PartsSave, Saved, Store, UpSaves}
+use Rattle.arj_law_spelled.proofs.Saves.{AllSave, AreOpsIn, AreSavedIn, By, EffectSaves, F, MessageSaves, NodeSaves, PartsSave, Saved, Store, UpSaves}
 use Rattle.arj_law_spelled.proofs.Saves.{coord_saves, keep, message_saves, stopped_so, worked_so}
-use Rattle.arj_law_spelled.specs.Spelled.{AreOpsIn, OlderRestore}
+use Rattle.arj_law_spelled.specs.Spelled.{OlderRestore}
 use Rattle.arj_msg.specs.Sendable.{StateSends}
 use Rattle.arj_text.specs.Fields.{NumberInForm, PairInForm, ValueTextInForm, is_below_first, is_rising}
 

@@ -1,18 +1,16 @@
 -- What is sent in a run can be spelled, and what isn't shown of it.
-use Rattle.std.specs.Prelude.{◌≡◌, ◌≤◌, ℕ, List, Some, length, ⊤}
+use Rattle.std.specs.Prelude.{◌≤◌, ℕ, length, ⊤}
 use Rattle.std.specs.List.{AllByRecursion}
 use Rattle.arj_journal.specs.ScriptForm.{HeaderInForm}
 use Rattle.arj_msg.specs.Sendable.{IsSendable, InvokedSends, LoadedSends, OpSends, StateSends, VotedSends}
-use Rattle.arj_protocol.specs.Words.{Binding, BoundReply, End, Head, Header, Message, ObjectState, Op, Uid, VotedReply, asks}
-use Rattle.arj_protocol.specs.Words.ask
+use Rattle.arj_protocol.specs.Words.{BoundReply, Header, Message, ObjectState, VotedReply}
 use Rattle.arj_protocol.specs.Words.bound
 use Rattle.arj_protocol.specs.Words.message
 use Rattle.arj_protocol.specs.Words.voted
 use Rattle.arj_law_parts.specs.moves.Keeps.{Holds}
 use Rattle.arj_law_parts.specs.moves.Seen.{In}
-use Rattle.arj_promise.specs.Runs.{Post, Run, Seen, world_by}
-use Rattle.arj_start.specs.Start.{Start}
-use Rattle.arj_text.specs.Fields.{OpTextInForm}
+use Rattle.arj_promise.specs.Runs.{IsInForm, Post, Run, Seen, world_by}
+use Rattle.arj_start.specs.Start.{Start, fresh}
 
 -- at most 255 stores
 abbrev pub ListsFew : BoundReply → Type 0
@@ -37,16 +35,11 @@ IsLeft m = ⊤
 abbrev pub AreSendable : Seen → Type 0
 AreSendable M = (p : Post) → In p M.sent → IsLeft p.message → IsSendable p.message
 
--- ---- where operations are in form
+-- ---- in runs in form
 
 -- older states restore
 abbrev pub OlderRestore : Start → Type 0
 OlderRestore st = AllByRecursion (λ (a : ℕ × ObjectState). StateSends a.1) st.older
-
--- each operation that is asked of a server is in form, as those of scripts are
-abbrev pub AreOpsIn : List Post → Type 0
-AreOpsIn sent = (p : Post) (h : Head) (x : ℕ) (b : Binding) (i : ℕ) (ends : List (Uid × End)) (o : Op) → In p sent →
-    asks p.message ≡ Some (h, ask.Invoke x b i ends o) → OpTextInForm o
 
 -- at most 255 states
 abbrev pub VotesFew : VotedReply → Type 0
@@ -59,15 +52,19 @@ IsLeftThen (message.Bound m) = ListsFew m.reply
 IsLeftThen (message.Voted m) = VotesFew m.reply
 IsLeftThen m = ⊤
 
--- where it is so, each message that was sent can be spelled, but for that
+-- where older states restore, each message that was sent can be spelled, but for that
 abbrev pub AreSpelled : Seen → Type 0
-AreSpelled M = OlderRestore M.start → AreOpsIn M.sent → (p : Post) → In p M.sent → IsLeftThen p.message → IsSendable p.message
+AreSpelled M = OlderRestore M.start → (p : Post) → In p M.sent → IsLeftThen p.message → IsSendable p.message
 
 -- ---- runs
 
--- in every run
-abbrev pub RunsRestore : Type 0
-RunsRestore = (hd : Header) → HeaderInForm hd → (r : Run hd) → Holds hd AreSpelled (world_by hd r)
+-- in every run in form
+abbrev pub RunsInFormSpell : Type 0
+RunsInFormSpell = (hd : Header) (r : Run hd) → IsInForm hd r → Holds hd AreSpelled (world_by hd r)
+
+-- at a format there are no older states
+abbrev pub FreshRestores : Type 0
+FreshRestores = OlderRestore fresh
 
 -- in every run
 abbrev pub RunsSpell : Type 0
