@@ -1,11 +1,14 @@
 pub mod Lists
+pub mod Onces
 pub mod Plans
 pub mod Commits
 pub mod Requests
 pub mod Replies
 pub mod Tolds
 pub mod Servers
+pub mod Pairs
 pub mod Saves
 pub mod Saving
+pub mod Names
 pub mod Operations
 pub mod Messages

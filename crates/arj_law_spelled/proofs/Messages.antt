@@ -1,6 +1,6 @@
 -- Each message that was sent can be spelled, but for what is left to say of it.
 use Rattle.arj_law_parts.proofs.Words
-use Words.{◌≡◌, ◌≤◌, ◌∙◌, ℕ, List, length, Option, Some, None, AllByRecursion, refl, sym, ap, subst, false, true, Ask, Asked, Binding, BoundReply}
+use Words.{◌≡◌, ◌≤◌, ◌∙◌, arith, ℕ, List, length, Option, Some, None, AllByRecursion, refl, sym, ap, subst, false, true, Ask, Asked, Binding, BoundReply}
 use Words.{ConfirmedReply, End, Head, Header, LoadedReply, Message, Op, PreparedReply, ObjectState, Uid, VotedReply, asks, Reply, answers, Node, Post}
 use Words.{Seen, World, see, world_by, is_some}
 use Words.ask
@@ -18,8 +18,9 @@ use Rattle.arj_law_parts.specs.parts.Incs.{SaysInc}
 use Rattle.arj_law_promise.proofs.meant.Posts.{RequestsAre}
 use Rattle.arj_law_promise.specs.meant.Meant.{AskFits}
 use Rattle.arj_law_runs.proofs.coordinators.RunCoords.{few_ends}
-use Rattle.arj_law_runs.specs.addresses.Addresses.{AnsweredOf, AreOf, BoundOf, PostOf, IsNode as IsOfHeader}
+use Rattle.arj_law_runs.specs.addresses.Addresses.{AnsweredOf, AreOf, AreSo, BoundOf, PostOf, IsNode as IsOfHeader}
 use Rattle.arj_law_spelled.proofs.Commits.{node_number, object_number, room}
+use Rattle.arj_law_spelled.proofs.Names.{NamesSo, few_stores, names_keep}
 use Rattle.arj_law_spelled.proofs.Replies.{Asks, RepliesFit, ReplyFits, replies_keep}
 use Rattle.arj_law_spelled.proofs.Requests.{AreShort, Known, requests_keep}
 use Rattle.arj_law_spelled.proofs.Operations.{ops_in_form}
@@ -41,31 +42,40 @@ module _ (hd : Header) (form : HeaderInForm hd) where
   fits : (M : Seen) → Short M → (p : Post) (h : Head) (a : Ask) → In p M.sent → asks p.message ≡ Some (h, a) → AskFits hd a
   fits M short = let k = short.0 in let b = k.0 in let w = b.0 in w.1
 
+  addressed : (M : Seen) → Short M → AreSo (IsOfHeader hd) M
+  addressed M short = let k = short.0 in let b = k.0 in let m = b.0 in let z = m.0 in let a = z.0.0.1 in a.1
+
   objects : (xs : List (ℕ × ℕ)) → AllByRecursion (λ (g : ℕ × ℕ). HasObject hd g.0) xs → AllByRecursion (λ (g : ℕ × ℕ). IsObject g.0) xs
   objects xs all = all_each (λ (g : ℕ × ℕ). HasObject hd g.0) (λ (g : ℕ × ℕ). IsObject g.0) xs (λ g has. object_number hd form g.0 has) all
 
-  of_requests : (M : Seen) → Short M → Asks M
-  of_requests M short = record {
+  abbrev Named : Seen → Type 0
+  Named M = Short M × NamesSo M
+
+  of_requests : (M : Seen) → Named M → Asks M
+  of_requests M its = let short = its.0 in record {
     prepares = λ p h states there is. all_each (λ (s : ObjectState). HasObject hd s.uid.num) (λ (s : ObjectState). IsObject s.uid.num) states
         (λ s has. object_number hd form s.uid.num has) (let f = fits M short p h (ask.Prepare states) there is in f.1);
     confirms = λ p h grants ex inc there is. (
       objects grants (let f = fits M short p h (ask.Confirm grants ex inc) there is in f.1),
       (let s = short.1 p h (ask.Confirm grants ex inc) there is in let m = s.2 in m.1),
     );
+    entries = λ j n is x.
+        let most = few_stores hd form n.disk (its.1 j n is) (let z = addressed M short in let a = z.0 j n is in a.1) x in omega (arith, most);
   }
 
   abbrev Said : Seen → Type 0
-  Said M = Short M × RepliesFit M
+  Said M = Named M × RepliesFit M
 
   abbrev Told : Seen → Type 0
   Told M = Said M × ToldsFew M
 
   told_keep : KeepsAsked hd Told
-  told_keep = tolds_keep hd Said (replies_keep hd Short (requests_keep hd form) good of_requests)
-      (λ k d t M all. few_ends t.coord.tree (let s = all.0 in let n = s.0 in room hd form k d t M n.0))
+  told_keep = tolds_keep hd Said (replies_keep hd Named (names_keep hd form Short (requests_keep hd form))
+      (λ M all. good M all.0) of_requests)
+      (λ k d t M all. few_ends t.coord.tree (let s = all.0 in let n = s.0 in let z = n.0 in room hd form k d t M z.0))
 
   keep : KeepsAsked hd (λ M. Told M × SavesWhere M)
-  keep = saves_keep hd form Told told_keep (λ M all. good M (let s = all.0 in s.0))
+  keep = saves_keep hd form Told told_keep (λ M all. good M (let s = all.0 in let n = s.0 in n.0))
 
   -- ---- kind by kind
 
@@ -129,7 +139,8 @@ module _ (hd : Header) (form : HeaderInForm hd) where
   sends p (message.Bound m) is k own left =
       let a = k.address in
       let b = a.2 in
-      bound_sends m.reply (subst (λ (z : Message). AnsweredOf (IsOfHeader hd) (answers z)) is b.1) left
+      bound_sends m.reply (subst (λ (z : Message). AnsweredOf (IsOfHeader hd) (answers z)) is b.1)
+          (k.said m.asked (Reply.Bound m.reply) (ap answers is))
   sends p (message.Prepared m) is k own left = prepared_sends m.reply (k.said m.asked (Reply.Prepared m.reply) (ap answers is))
   sends p (message.Confirmed m) is k own left = confirmed_sends m.reply (k.said m.asked (Reply.Confirmed m.reply) (ap answers is))
   sends p (message.Loaded m) is k own left = left
@@ -158,7 +169,6 @@ op_sends o fits = tt
 
 left_of : (m : Message) → MessageSaves m → ((h : Head) (x : ℕ) (b : Binding) (i : ℕ) (ends : List (Uid × End)) (o : Op) →
     asks m ≡ Some (h, ask.Invoke x b i ends o) → OpTextInForm o) → IsLeftThen m → IsLeft m
-left_of (message.Bound m) s ops few = few
 left_of (message.Loaded m) s ops few = let z = s.0 in loaded_left m.reply z.1
 left_of (message.Activate m) s ops few = let z = s.0 in z.0
 left_of (message.Invoke m) s ops few = op_sends m.op (ops m.head m.x m.binding m.server_inc m.ends m.op refl)
@@ -177,10 +187,10 @@ module _ (hd : Header) (form : HeaderInForm hd) (w : World) (h : Holds hd (λ M.
   told = let k = h.holds in k.0
 
   short : Short hd form M
-  short = let t = told in let s = t.0 in s.0
+  short = let t = told in let s = t.0 in let n = s.0 in n.0
 
   address : (p : Post) → In p M.sent → PostOf (IsOfHeader hd) p
-  address p there = let k = short.0 in let b = k.0 in let m = b.0 in let z = m.0 in let a = z.0.0.1 in let so = a.1 in so.1 p there
+  address p there = let a = addressed hd form M short in a.1 p there
 
   hello_own : (p : Post) → In p M.sent → (n i : ℕ) → p.message ≡ message.Hello (record { node = n; inc = i }) → n ≡ p.from
   hello_own p there n i is = by (M.nodes p.from) refl
@@ -221,6 +231,6 @@ pub runs_in_form : RunsInFormSpell
 runs_in_form hd r form =
     let header = form.header in
     let h = ops_in_form hd (λ M. Told hd header M × SavesWhere M) (keep hd header)
-    (λ M all. good hd header M (let t = all.0 in let s = t.0 in s.0)) r form in
+    (λ M all. good hd header M (let t = all.0 in let s = t.0 in let n = s.0 in n.0)) r form in
     restored hd header (world_by hd r) (record { sent = h.sent; stands = h.stands; holds = (let b = h.holds in b.0) })
     (λ p z x b i ends o there is. (let k = h.holds in k.1 p z (ask.Invoke x b i ends o) there is))

@@ -1,6 +1,6 @@
 -- What stores and naming answer is about objects, and a node: those that they were asked about.
 use Rattle.arj_law_parts.proofs.Words
-use Words.{◌≡◌, ◌∙◌, ◌++◌, ◌+◌, ◌==◌, ◌||◌, not, ℕ, Bool, true, false, cond, List, [], ◌∷◌, filter, map, Option, Some, None, IfSome, refl, sym, ap, subst, ⊎_elim}
+use Words.{◌≡◌, ◌≤◌, length, ◌∙◌, ◌++◌, ◌+◌, ◌==◌, ◌||◌, not, ℕ, Bool, true, false, cond, List, [], ◌∷◌, filter, map, Option, Some, None, IfSome, refl, sym, ap, subst, ⊎_elim}
 use Words.{⊤, option_map, unwrap_or, AllByRecursion, list_all, and_parts, cons_option, Ask, Asked, ConfirmedReply, End, Head}
 use Words.{Header, Message, ObjectState, Path, Row, Uid, asks, object, Reply, actor, answers, asked_by, last_end, response, heard}
 use Words.{again_all, begin_action, is_serial, Grants, Marks, checked, confirm, confirm_entries, confirm_new, confirms, entries_after}
@@ -12,12 +12,15 @@ use Words.{coord_heard, end_states, handle, handle_ends, handle_other, holders, 
 use Words.{prepare_by, query_about, sends_answer, serve, served, store_told, with_coord, with_naming, with_server, AreAll, is_naming_effect}
 use Words.{is_server_effect, acts as acts_of, parent_of, parts_in, restart_outs, activate_own, bind_own, confirm_own, ends_own, invoke_own}
 use Words.{note_own, told_own, vote_own, response_reads_back, Post, Seen, uid_eq, void, reply, conflict_in, at_number, last_uid}
+use Words.{Binding, BoundReply, Counted, Live, Made, Named, Node, bind_call, bind_made, bind_named, conflict_on, include_asked, live_above}
+use Words.{live_asked, made_above, make_asked, on_counted, at_uid}
 use Words.ask
 use Words.body
 use Words.confirmed
 use Words.ending
 use Words.loaded
 use Words.message
+use Words.mode
 use Words.prepared
 use Words.role
 use Words.what
@@ -25,16 +28,18 @@ use Words.naming
 use Words.server
 use Rattle.arj_law_promise.proofs.Terms
 use Terms.{AllQuiet, AllSilent, In, IsGood, KeepsAsked, Up, Walks, all_append, by_coord, by_message, given, restart_silent, some_is, up}
-use Terms.{walks_both, Action, IsGoodOf}
+use Terms.{walks_both, Action, IsGoodOf, node_here}
 use Rattle.arj_law_promise.proofs.waiting
 use waiting.AskedEffects.{acked_quiet, acts_quiet, heard_quiet, query_quiet, tick_quiet}
 use waiting.Serving.{quiet_silent}
+use Rattle.arj_law_spelled.specs.Spelled.{ListsFew}
 use Rattle.arj_msg.specs.InForm.{IsNode, IsObject}
 
--- an object, and the node
+-- an object, and the node; at most 255 stores
 abbrev pub ReplyFits : Reply → Type 0
 ReplyFits (Reply.Prepared (prepared.InDoubt x holder)) = IsObject x
 ReplyFits (Reply.Prepared (prepared.Old x v)) = IsObject x
+ReplyFits (Reply.Bound r) = ListsFew r
 ReplyFits (Reply.Confirmed (confirmed.NoStores x)) = IsObject x
 ReplyFits (Reply.Confirmed (confirmed.Listed x n)) = IsObject x × IsNode n
 ReplyFits r = ⊤
@@ -243,9 +248,51 @@ module _ (p : Path) (grants : Grants) (excluded included : Marks) (d : Pair) (n 
       by false true false true = tt
       by false true false false = new (checked p grants excluded included d n) checks
 
+-- ---- naming's answer to a Bind
+
+module _ (p : Path) (x : ℕ) (avoid : Binding) (d : Pair) (n : Naming) (few : length (let e = listed_entry x d in e.stores) ≤ 255) where
+  abbrev Few : Served Counted BoundReply → Type 0
+  Few r = IfSome r.reply ListsFew
+
+  live : (c : Counted) (l : Live) (o : Option Row) → Few (live_asked n.inc x p (listed_entry x d) c l o)
+  live c l None = few
+  live c l (Some r) = tt
+
+  made : (c : Counted) (o : Option Made) → Few (bind_made n.inc x p (listed_entry x d) c o)
+  made c None = few
+  made c (Some m) = few
+
+  make : (c : Counted) (o : Option Row) → Few (make_asked n.inc x p avoid (listed_entry x d) c o)
+  make c None = let o = c.named in made c (made_above avoid (at_uid (top_of p) o.made))
+  make c (Some r) = tt
+
+  write : (c : Counted) (o : Option Row) → Few (include_asked n.inc x p (listed_entry x d) c o)
+  write c None = few
+  write c (Some r) = tt
+
+  call : (c : Counted) (o : Option Live) → Few (bind_call n.inc x p avoid (listed_entry x d) c o)
+  call c None = make c (conflict_on x p mode.Write c.named)
+  call c (Some l) = live c l (conflict_on x p mode.Read c.named)
+
+  named_few : (c : Counted) (b : Bool) → Few (bind_named n.inc x p b avoid (listed_entry x d) c)
+  named_few c true = write c (conflict_on x p mode.Write c.named)
+  named_few c false = let o = c.named in call c (live_above avoid o.live)
+
+  bound_few : (include : Bool) → IfSome (let r = naming.bind p x include avoid d n in r.reply) ListsFew
+  bound_few include = by (is_over p n) (at_number x n.objects)
+    where
+      at : (o : Option Named) → IfSome (let r = on_counted x (bind_named n.inc x p include avoid (listed_entry x d)) n o in r.reply) ListsFew
+      at None = tt
+      at (Some o) = named_few (record { named = o; count = n.count }) include
+
+      by : (b : Bool) (o : Option Named) → IfSome (let r = cond {A = Served Naming BoundReply} b (void n)
+          (on_counted x (bind_named n.inc x p include avoid (listed_entry x d)) n o) in r.reply) ListsFew
+      by true o = tt
+      by false o = at o
+
 -- ---- a node's answer
 
-module _ (k : ℕ) (d : Disk) (t : Parts) (from : ℕ) where
+module _ (k : ℕ) (d : Disk) (t : Parts) (from : ℕ) (few : (x : ℕ) → length (let e = listed_entry x d.names in e.stores) ≤ 255) where
   abbrev By : Handled → Type 0
   By (Void es) = ⊤
   By (Took v es) = AllFit es
@@ -272,7 +319,12 @@ module _ (k : ℕ) (d : Disk) (t : Parts) (from : ℕ) where
     asked h (ask.Bind x include avoid) is =
         with_it (λ o. served from h (with_naming t) Reply.Bound (naming.bind h.path x include avoid d.names o)) t.naming
         (λ n. let r = naming.bind h.path x include avoid d.names n in answered_by h (with_naming t r.part) r.outs
-        (option_map Reply.Bound r.reply) (naming_fit r.outs (bind_own h.path x include avoid d.names n)) (said Reply.Bound (λ q. tt) r.reply))
+        (option_map Reply.Bound r.reply) (naming_fit r.outs (bind_own h.path x include avoid d.names n))
+        (as_bound r.reply (bound_few h.path x avoid d.names n (few x) include)))
+      where
+        as_bound : (o : Option BoundReply) → IfSome o ListsFew → IfSome (option_map Reply.Bound o) ReplyFits
+        as_bound None fits = tt
+        as_bound (Some q) fits = fits
     asked h (ask.Load x) is = load (holder_of (object x) d.store)
       where
         state : (o : Option ObjectState) → By (load_held from h t o)
@@ -366,13 +418,15 @@ module _ (k : ℕ) (d : Disk) (t : Parts) (from : ℕ) where
 
 -- ---- in every run
 
--- what must be known of a request that comes
+-- what must be known of a request that comes, and of entries
 pub record Asks (M : Seen) : Type 0 where
   pub prepares : (p : Post) (h : Head) (states : List ObjectState) → In p M.sent → asks p.message ≡ Some (h, ask.Prepare states) →
       AllByRecursion (λ (s : ObjectState). IsObject s.uid.num) states
   pub confirms : (p : Post) (h : Head) (grants : Grants) (excluded included : Marks) → In p M.sent →
       asks p.message ≡ Some (h, ask.Confirm grants excluded included) →
       AllByRecursion (λ (g : ℕ × ℕ). IsObject g.0) grants × AllByRecursion (λ (x : ℕ × ℕ). IsObject x.0 × IsNode x.1) included
+  pub entries : (j : ℕ) (n : Node) → M.nodes j ≡ Some n → (x : ℕ) →
+      length (let e = listed_entry x (let d = n.disk in d.names) in e.stores) ≤ 255
 
 -- beside what is kept by every handler, where that says so much of requests
 pub replies_keep : (hd : Header) (R : Seen → Type 0) → KeepsAsked hd R → ((M : Seen) → R M → IsGood M) → ((M : Seen) → R M → Asks M) →
@@ -409,7 +463,8 @@ replies_keep hd R keeps good knows = record {
     came : (e k : ℕ) (d : Disk) (t v : Parts) (from : ℕ) (m : Message) (outs : List Effect) (M : Seen) (begun : List Action) (its : IsGoodOf begun
         (up k d t M)) → Asks (up k d t M) → In (record { from = from; to = k; message = m }) M.sent → handle k d t from m ≡ Took v outs →
         AllFit outs
-    came e k d t v from m outs M begun its asks_so there is = subst (By k d t from) is (message_fits k d t from m
+    came e k d t v from m outs M begun its asks_so there is = let few = asks_so.entries k _ (node_here M k _) in
+        subst (By k d t from few) is (message_fits k d t from few m
         (λ h states same. asks_so.prepares _ h states there same) (λ h g ex inc same. asks_so.confirms _ h g ex inc there same)
         (λ a r. quiet_fit (heard from a r d.intents t.coord).outs (heard_quiet begun e k d t M its from a r))
         (λ u. quiet_fit (acked from u d.intents t.coord).outs (acked_quiet begun e k d t M its from u))

@@ -38,6 +38,7 @@ use Rattle.arj_law_runs.proofs.addresses.Lists.{all_at_uid, all_put, all_without
 use Rattle.arj_law_serial.proofs.Terms.{OpTextInForm}
 use Rattle.arj_law_serial.proofs.joint.FormNodes.{Held, put_so}
 use Rattle.arj_law_serial.specs.joint.Forms.{PairIsSo}
+use Rattle.arj_law_spelled.proofs.Pairs.{aborted_so, committed_so, in_part_so, prepared_so}
 use Rattle.arj_law_spelled.proofs.Servers as servers
 use Rattle.arj_law_spelled.proofs.Servers.{Restored, ServerSaves}
 use Rattle.arj_msg.specs.Sendable.{InvokedSends, StateSends}
@@ -82,49 +83,6 @@ abbrev pub AreOpsIn : List Post → Type 0
 AreOpsIn sent = (p : Post) (h : Head) (x : ℕ) (b : Binding) (i : ℕ) (ends : List (Uid × End)) (o : Op) → In p sent →
     asks p.message ≡ Some (h, ask.Invoke x b i ends o) → OpTextInForm o
 
--- ---- pairs
-
-moved_so : (ss : List ObjectState) (held : List (Uid × ObjectState)) → AllByRecursion (Own Saved) ss → Held Saved held → Held Saved (moved ss held)
-moved_so [] held its so = so
-moved_so (s ∷ ss) held its so = moved_so ss (put_uid s.uid s held) its.1 (put_so Saved s held its.0 so)
-
-moved_some_so : (which : Uid → Bool) (ss : List ObjectState) (held : List (Uid × ObjectState)) → AllByRecursion (Own Saved) ss →
-    Held Saved held → Held Saved (moved_some which ss held)
-moved_some_so which [] held its so = so
-moved_some_so which (s ∷ ss) held its so =
-    moved_some_so which ss (cond (which s.uid) (put_uid s.uid s held) held) its.1 (by (which s.uid))
-  where
-    by : (b : Bool) → Held Saved (cond b (put_uid s.uid s held) held)
-    by true = put_so Saved s held its.0 so
-    by false = so
-
-new_so_far : (a : Uid) (d : Pair) → PairIsSo Saved d → AllByRecursion (Own Saved) (new_states a d)
-new_so_far a d so = by (at_uid a d.pend) refl
-  where
-    by : (o : Option (List ObjectState)) → at_uid a d.pend ≡ o → AllByRecursion (Own Saved) (unwrap_or o [])
-    by None is = tt
-    by (Some ss) is = all_at_uid (AllByRecursion (Own Saved)) a ss d.pend so.pend is
-
-prepared_so : (a : Uid) (states : List ObjectState) (d : Pair) → AllByRecursion (Own Saved) states → PairIsSo Saved d →
-    PairIsSo Saved (pair_prepared a states d)
-prepared_so a states d its so = record {
-  held = so.held;
-  pend = all_put (λ (e : Uid × List ObjectState). AllByRecursion (Own Saved) e.1) a states d.pend (λ w. its) so.pend;
-}
-
-committed_so : (a : Uid) (d : Pair) → PairIsSo Saved d → PairIsSo Saved (pair_committed a d)
-committed_so a d so = record {
-  held = moved_so (new_states a d) d.held (new_so_far a d so) so.held;
-  pend = all_without (λ (e : Uid × List ObjectState). AllByRecursion (Own Saved) e.1) a d.pend so.pend;
-}
-
-aborted_so : (a : Uid) (d : Pair) → PairIsSo Saved d → PairIsSo Saved (pair_aborted a d)
-aborted_so a d so =
-    record { held = so.held; pend = all_without (λ (e : Uid × List ObjectState). AllByRecursion (Own Saved) e.1) a d.pend so.pend }
-
-in_part_so : (which : Uid → Bool) (a : Uid) (d : Pair) → PairIsSo Saved d → PairIsSo Saved (pair_in_part which a d)
-in_part_so which a d so = record { held = moved_some_so which (new_states a d) d.held (new_so_far a d so) so.held; pend = so.pend }
-
 -- ---- work, and effects
 
 abbrev pub WorkSaves : Work → Type 0
@@ -137,11 +95,11 @@ Store d = PairIsSo Saved d.store
 pub worked_so : (w : Work) (d : Disk) → WorkSaves w → Store d → Store (worked w d)
 worked_so Look d its so = so
 worked_so (PutInc i) d its so = so
-worked_so (Prepare role.Store u states) d its so = prepared_so u states d.store its so
+worked_so (Prepare role.Store u states) d its so = prepared_so Saved u states d.store its so
 worked_so (Prepare role.Names u states) d its so = so
-worked_so (Commit role.Store u) d its so = committed_so u d.store so
+worked_so (Commit role.Store u) d its so = committed_so Saved u d.store so
 worked_so (Commit role.Names u) d its so = so
-worked_so (Abort role.Store u) d its so = aborted_so u d.store so
+worked_so (Abort role.Store u) d its so = aborted_so Saved u d.store so
 worked_so (Abort role.Names u) d its so = so
 worked_so (PutIntent u i) d its so = so
 worked_so (RemoveIntent u) d its so = so
@@ -149,7 +107,7 @@ worked_so (RemoveIntent u) d its so = so
 pub stopped_so : (how : Stop) (w : Work) (d : Disk) → WorkSaves w → Store d → Store (stopped how w d)
 stopped_so Before w d its so = so
 stopped_so After w d its so = worked_so w d its so
-stopped_so (InPart which) (Commit role.Store u) d its so = in_part_so which u d.store so
+stopped_so (InPart which) (Commit role.Store u) d its so = in_part_so Saved which u d.store so
 stopped_so (InPart which) (Commit role.Names u) d its so = so
 stopped_so (InPart which) Look d its so = so
 stopped_so (InPart which) (PutInc i) d its so = so

@@ -19,10 +19,8 @@ ListsFew (bound.Make b server g stores) = length stores ≤ 255
 ListsFew (bound.Write g stores) = length stores ≤ 255
 ListsFew (bound.Conflict holder m) = ⊤
 
--- Of a message, what isn't shown: its states restore, registers have at most 64 bytes, and there are at most 255 stores of an entry and
--- states of a vote.
+-- Of a message, what isn't shown: its states restore, registers have at most 64 bytes, and a vote has at most 255 states.
 abbrev pub IsLeft : Message → Type 0
-IsLeft (message.Bound m) = ListsFew m.reply
 IsLeft (message.Loaded m) = LoadedSends m.reply
 IsLeft (message.Activate m) = StateSends m.state
 IsLeft (message.Invoke m) = OpSends m.op
@@ -46,9 +44,8 @@ abbrev pub VotesFew : VotedReply → Type 0
 VotesFew (voted.Yes states) = length states ≤ 255
 VotesFew (voted.Changed w) = ⊤
 
--- Of a message, what isn't shown then: there are at most 255 stores of an entry and states of a vote.
+-- Of a message, what isn't shown then: a vote has at most 255 states.
 abbrev pub IsLeftThen : Message → Type 0
-IsLeftThen (message.Bound m) = ListsFew m.reply
 IsLeftThen (message.Voted m) = VotesFew m.reply
 IsLeftThen m = ⊤
 
