@@ -43,3 +43,10 @@ known_for pair role own now is = subst (λ r. KnowsOurs role (pair now r)) is
 pub formed_at : (formed : FileMap → Role → Type 0) (role own : Role) (old now : FileMap) → own ≡ role → now ≡ old
     → formed old role → formed now own
 formed_at formed role own old now is same = subst (λ (k : FileMap × Role). formed k.0 k.1) (λ i. (sym same i, sym is i))
+
+-- what is known once more files are left, by any relation of the files before and behind that carries it
+pub carried : (pair : FileMap → Role → Pair) (role own : Role) (old now left : FileMap) → own ≡ role → now ≡ old
+    → KnowsOurs role (pair old role) → (R : Pair → Pair → Type 0)
+    → ((p q : Pair) → R p q → KnowsOurs role p → KnowsOurs role q) → R (pair now own) (pair left own) → KnowsOurs role (pair left role)
+carried pair role own old now left is same was R carries r =
+    known_for pair role own left is (carries (pair now own) (pair left own) r (known_at pair role own old now is same was))

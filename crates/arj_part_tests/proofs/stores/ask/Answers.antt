@@ -1,11 +1,11 @@
 -- few objects are known, and no call makes others known
-use Rattle.std.proofs.Common.{◌≤◌, ◌∙◌, Ok, Err, Result, arith, length, subst, sym, ⊎_elim}
+use Rattle.std.proofs.Common.{◌≤◌, ◌⊎◌, ◌∙◌, Ok, Err, Result, arith, length, subst, sym, ⊎_elim}
 use Rattle.std.specs.Prelude.{OnOk}
 use Rattle.arj_disk.specs.Armed.{files_of}
 use Rattle.arj_disk.specs.FileMap.{FileMap}
-use Rattle.arj_store.specs.Pair.{Drops, Moves, MovesSome, Pair, SamePair}
+use Rattle.arj_store.specs.Pair.{AnswersPrepare, Drops, Moves, MovesSome, Prepares, SamePair}
 use Rattle.arj_part_tests.specs.Known.{KnowsOurs, ours}
-use Rattle.arj_part_tests.proofs.Knowing.{answered, formed_at, in_part, known_at, known_for}
+use Rattle.arj_part_tests.proofs.Knowing.{answered, carried, formed_at, in_part, known_at}
 use Rattle.arj_part_tests.proofs.stores.ask.Goals as goal
 
 if_ok : {T E : Type 0} (r : Result T E) (P : Type 0) → P → OnOk r P
@@ -32,11 +32,10 @@ prepare-requires-clause-few g c =
     let o = g.S.ObjectStore in
     let own = o.own_role c.args.store.now in
     let mid : FileMap = files_of c.begin-in-Prepare.new.disk.disk in
-    let p : Pair = o.pair mid own in
-    let knows : KnowsOurs c.args.role p = known_at o.pair c.args.role own (files_of c.args.disk.now.disk) mid c.requires.role
-    c.begin-in-Prepare.ensures.files c.requires.known in
     let few : length (ours c.args.role) ≤ 65535 = omega arith in
-    c.known_objects.ensures.few p c.in_ok-states-in-Prepare.states (ours c.args.role) few knows c.in_ok-states-in-Prepare.ensures.ours
+    c.known_objects.ensures.few (o.pair mid own) c.in_ok-states-in-Prepare.states (ours c.args.role) few (known_at o.pair c.args.role own
+    (files_of c.args.disk.now.disk) mid c.requires.role c.begin-in-Prepare.ensures.files c.requires.known)
+    c.in_ok-states-in-Prepare.ensures.ours
 
 pub commit-requires-clause-keeps : goal.commit-requires-clause-keeps
 commit-requires-clause-keeps g c = subst (g.S.ObjectStore.keeps c.args.store.now) (sym c.begin-in-Commit.ensures.files) c.requires.keeps
@@ -68,84 +67,48 @@ returns-in-Read-clause-known g c = subst (λ f. KnowsOurs c.args.role (g.S.Objec
 
 pub returns-in_err-prepare-in-Prepare-clause-known : goal.returns-in_err-prepare-in-Prepare-clause-known
 returns-in_err-prepare-in-Prepare-clause-known g c =
-    let o = g.S.ObjectStore in
-    let own = o.own_role c.args.store.now in
-    let mid : FileMap = files_of c.begin-in-Prepare.new.disk.disk in
-    let p : Pair = o.pair mid own in
-    let knows : KnowsOurs c.args.role p = known_at o.pair c.args.role own (files_of c.args.disk.now.disk) mid c.requires.role
-    c.begin-in-Prepare.ensures.files c.requires.known in
-    let left : FileMap = files_of c.prepare.new.disk.disk in
-    let q : Pair = o.pair left own in
-    known_for o.pair c.args.role own left c.requires.role (in_part c.args.role p q c.in-Prepare.act c.in_ok-states-in-Prepare.states
-    (c.known_objects.ensures.same p q) (c.known_objects.ensures.prepare p q c.in-Prepare.act c.in_ok-states-in-Prepare.states)
-    c.in_ok-states-in-Prepare.ensures.ours knows c.in_err-prepare-in-Prepare.ensures.fault)
+    carried g.S.ObjectStore.pair _ _ _ _ (files_of c.prepare.new.disk.disk) c.requires.role c.begin-in-Prepare.ensures.files
+    c.requires.known
+    (λ p q. SamePair p q ⊎ Prepares p q c.in-Prepare.act c.in_ok-states-in-Prepare.states)
+    (λ p q r knows. in_part c.args.role p q c.in-Prepare.act c.in_ok-states-in-Prepare.states (c.known_objects.ensures.same p q)
+    (c.known_objects.ensures.prepare p q c.in-Prepare.act c.in_ok-states-in-Prepare.states) c.in_ok-states-in-Prepare.ensures.ours knows r)
+    c.in_err-prepare-in-Prepare.ensures.fault
 
 pub returns-in_ok-prepare-in-Prepare-clause-known : goal.returns-in_ok-prepare-in-Prepare-clause-known
 returns-in_ok-prepare-in-Prepare-clause-known g c =
-    let o = g.S.ObjectStore in
-    let own = o.own_role c.args.store.now in
-    let mid : FileMap = files_of c.begin-in-Prepare.new.disk.disk in
-    let p : Pair = o.pair mid own in
-    let knows : KnowsOurs c.args.role p = known_at o.pair c.args.role own (files_of c.args.disk.now.disk) mid c.requires.role
-    c.begin-in-Prepare.ensures.files c.requires.known in
-    let left : FileMap = files_of c.prepare.new.disk.disk in
-    let q : Pair = o.pair left own in
-    known_for o.pair c.args.role own left c.requires.role (answered c.args.role p q c.in-Prepare.act c.in_ok-states-in-Prepare.states
-    (c.known_objects.ensures.same p q) (c.known_objects.ensures.prepare p q c.in-Prepare.act c.in_ok-states-in-Prepare.states)
-    c.in_ok-states-in-Prepare.ensures.ours knows c.in_ok-prepare-in-Prepare.field-0 c.in_ok-prepare-in-Prepare.ensures.answer)
+    carried g.S.ObjectStore.pair _ _ _ _ (files_of c.prepare.new.disk.disk) c.requires.role c.begin-in-Prepare.ensures.files
+    c.requires.known
+    (λ p q. AnswersPrepare p q c.in-Prepare.act c.in_ok-states-in-Prepare.states c.in_ok-prepare-in-Prepare.field-0)
+    (λ p q r knows. answered c.args.role p q c.in-Prepare.act c.in_ok-states-in-Prepare.states (c.known_objects.ensures.same p q)
+    (c.known_objects.ensures.prepare p q c.in-Prepare.act c.in_ok-states-in-Prepare.states) c.in_ok-states-in-Prepare.ensures.ours knows
+    c.in_ok-prepare-in-Prepare.field-0 r)
+    c.in_ok-prepare-in-Prepare.ensures.answer
 
 pub returns-in_err-commit-in-Commit-clause-known : goal.returns-in_err-commit-in-Commit-clause-known
 returns-in_err-commit-in-Commit-clause-known g c =
-    let o = g.S.ObjectStore in
-    let own = o.own_role c.args.store.now in
-    let mid : FileMap = files_of c.begin-in-Commit.new.disk.disk in
-    let p : Pair = o.pair mid own in
-    let knows : KnowsOurs c.args.role p = known_at o.pair c.args.role own (files_of c.args.disk.now.disk) mid c.requires.role
-    c.begin-in-Commit.ensures.files c.requires.known in
-    let left : FileMap = files_of c.commit.new.disk.disk in
-    let q : Pair = o.pair left own in
-    known_for o.pair c.args.role own left c.requires.role (λ u h. knows u
-    (⊎_elim (λ (m : MovesSome p q c.in-Commit.act). c.known_objects.ensures.part p q c.in-Commit.act m u h)
-    (λ (m : Moves p q c.in-Commit.act). c.known_objects.ensures.commit p q c.in-Commit.act m u h)
-    c.in_err-commit-in-Commit.ensures.fault))
+    carried g.S.ObjectStore.pair _ _ _ _ (files_of c.commit.new.disk.disk) c.requires.role c.begin-in-Commit.ensures.files c.requires.known
+    (λ p q. MovesSome p q c.in-Commit.act ⊎ Moves p q c.in-Commit.act)
+    (λ p q r knows u h. knows u (⊎_elim (c.known_objects.ensures.part p q c.in-Commit.act)
+    (c.known_objects.ensures.commit p q c.in-Commit.act) r u h))
+    c.in_err-commit-in-Commit.ensures.fault
 
 pub returns-in_ok-commit-in-Commit-clause-known : goal.returns-in_ok-commit-in-Commit-clause-known
 returns-in_ok-commit-in-Commit-clause-known g c =
-    let o = g.S.ObjectStore in
-    let own = o.own_role c.args.store.now in
-    let mid : FileMap = files_of c.begin-in-Commit.new.disk.disk in
-    let p : Pair = o.pair mid own in
-    let knows : KnowsOurs c.args.role p = known_at o.pair c.args.role own (files_of c.args.disk.now.disk) mid c.requires.role
-    c.begin-in-Commit.ensures.files c.requires.known in
-    let left : FileMap = files_of c.commit.new.disk.disk in
-    let q : Pair = o.pair left own in
-    known_for o.pair c.args.role own left c.requires.role (λ u h. knows u
-    (c.known_objects.ensures.commit p q c.in-Commit.act c.in_ok-commit-in-Commit.ensures.moved u h))
+    carried g.S.ObjectStore.pair _ _ _ _ (files_of c.commit.new.disk.disk) c.requires.role c.begin-in-Commit.ensures.files c.requires.known
+    (λ p q. Moves p q c.in-Commit.act)
+    (λ p q r knows u h. knows u (c.known_objects.ensures.commit p q c.in-Commit.act r u h))
+    c.in_ok-commit-in-Commit.ensures.moved
 
 pub returns-in_err-abort-in-Abort-clause-known : goal.returns-in_err-abort-in-Abort-clause-known
 returns-in_err-abort-in-Abort-clause-known g c =
-    let o = g.S.ObjectStore in
-    let own = o.own_role c.args.store.now in
-    let mid : FileMap = files_of c.begin-in-Abort.new.disk.disk in
-    let p : Pair = o.pair mid own in
-    let knows : KnowsOurs c.args.role p = known_at o.pair c.args.role own (files_of c.args.disk.now.disk) mid c.requires.role
-    c.begin-in-Abort.ensures.files c.requires.known in
-    let left : FileMap = files_of c.abort.new.disk.disk in
-    let q : Pair = o.pair left own in
-    known_for o.pair c.args.role own left c.requires.role (λ u h. knows u
-    (⊎_elim (λ (s : SamePair p q). c.known_objects.ensures.same p q s u h)
-    (λ (d : Drops p q c.in-Abort.act). c.known_objects.ensures.abort p q c.in-Abort.act d u h)
-    c.in_err-abort-in-Abort.ensures.fault))
+    carried g.S.ObjectStore.pair _ _ _ _ (files_of c.abort.new.disk.disk) c.requires.role c.begin-in-Abort.ensures.files c.requires.known
+    (λ p q. SamePair p q ⊎ Drops p q c.in-Abort.act)
+    (λ p q r knows u h. knows u (⊎_elim (c.known_objects.ensures.same p q) (c.known_objects.ensures.abort p q c.in-Abort.act) r u h))
+    c.in_err-abort-in-Abort.ensures.fault
 
 pub returns-in_ok-abort-in-Abort-clause-known : goal.returns-in_ok-abort-in-Abort-clause-known
 returns-in_ok-abort-in-Abort-clause-known g c =
-    let o = g.S.ObjectStore in
-    let own = o.own_role c.args.store.now in
-    let mid : FileMap = files_of c.begin-in-Abort.new.disk.disk in
-    let p : Pair = o.pair mid own in
-    let knows : KnowsOurs c.args.role p = known_at o.pair c.args.role own (files_of c.args.disk.now.disk) mid c.requires.role
-    c.begin-in-Abort.ensures.files c.requires.known in
-    let left : FileMap = files_of c.abort.new.disk.disk in
-    let q : Pair = o.pair left own in
-    known_for o.pair c.args.role own left c.requires.role (λ u h. knows u
-    (c.known_objects.ensures.abort p q c.in-Abort.act c.in_ok-abort-in-Abort.ensures.dropped u h))
+    carried g.S.ObjectStore.pair _ _ _ _ (files_of c.abort.new.disk.disk) c.requires.role c.begin-in-Abort.ensures.files c.requires.known
+    (λ p q. Drops p q c.in-Abort.act)
+    (λ p q r knows u h. knows u (c.known_objects.ensures.abort p q c.in-Abort.act r u h))
+    c.in_ok-abort-in-Abort.ensures.dropped
