@@ -1,4 +1,4 @@
--- On several nodes, none of which stops: runs of 150 events that were chosen at random. Each journal follows its events.
+-- On several nodes, none of which stops: runs of 150 events that were chosen at random. Each journal follows its events, and each line has its cause.
 use Rattle.std.specs.Prelude.{◌≡◌, refl, [], ◌∷◌, codes, true, Some, None}
 use Rattle.arj_base.specs.declared.mode.Mode.TheVariants.{Exclude, Read, Write}
 use Rattle.arj_base.specs.declared.mode.End.TheVariants.{Abort, Commit}
@@ -12,7 +12,7 @@ use Rattle.arj_journal.specs.declared.body.Part.TheVariants as part
 use Rattle.arj_journal.specs.declared.body.Role.TheVariants as role
 use Rattle.arj_journal.specs.declared.event.Event.TheVariants as event
 use Rattle.arj_journal.specs.declared.event.FrameNo.TheVariants.{Number}
-use Rattle.arj_cause_tests.proofs.Words.{Run, b, is_followed, l, nodes, object_line, run, u}
+use Rattle.arj_cause_tests.proofs.Words.{Run, b, is_followed, l, lacking, nodes, object_line, run, u}
 
 abbrev calls_1 : Run
 calls_1 = run
@@ -165,6 +165,9 @@ calls_1 = run
 
 calls_1_follows : is_followed calls_1 ≡ true
 calls_1_follows = refl
+
+calls_1_has_causes : lacking calls_1 ≡ []
+calls_1_has_causes = refl
 
 abbrev calls_2 : Run
 calls_2 = run
@@ -332,6 +335,9 @@ calls_2 = run
 
 calls_2_follows : is_followed calls_2 ≡ true
 calls_2_follows = refl
+
+calls_2_has_causes : lacking calls_2 ≡ []
+calls_2_has_causes = refl
 
 abbrev calls_3 : Run
 calls_3 = run
@@ -503,6 +509,9 @@ calls_3 = run
 calls_3_follows : is_followed calls_3 ≡ true
 calls_3_follows = refl
 
+calls_3_has_causes : lacking calls_3 ≡ []
+calls_3_has_causes = refl
+
 abbrev calls_4 : Run
 calls_4 = run
     (nodes 5 (object_line 1 (value.Counter 7) (4 ∷ []) (1 ∷ 3 ∷ []) ∷ object_line 2 (value.Counter 8) (5 ∷ []) (4 ∷ 2 ∷ 5 ∷ []) ∷ []))
@@ -655,3 +664,6 @@ calls_4 = run
 
 calls_4_follows : is_followed calls_4 ≡ true
 calls_4_follows = refl
+
+calls_4_has_causes : lacking calls_4 ≡ []
+calls_4_has_causes = refl

@@ -1,4 +1,4 @@
--- On several nodes, which crash and whose disks stop: runs of 150 events that were chosen at random. Each journal follows its events.
+-- On several nodes, which crash and whose disks stop: runs of 150 events that were chosen at random. Each journal follows its events, and each line has its cause.
 use Rattle.std.specs.Prelude.{◌≡◌, refl, [], ◌∷◌, codes, true, Some, None}
 use Rattle.arj_base.specs.declared.mode.Mode.TheVariants.{Exclude, Read, Write}
 use Rattle.arj_base.specs.declared.mode.End.TheVariants.{Abort, Commit}
@@ -14,7 +14,7 @@ use Rattle.arj_journal.specs.declared.body.Role.TheVariants as role
 use Rattle.arj_journal.specs.declared.event.Event.TheVariants as event
 use Rattle.arj_journal.specs.declared.event.StopKind.TheVariants as stop
 use Rattle.arj_journal.specs.declared.event.FrameNo.TheVariants.{Number}
-use Rattle.arj_cause_tests.proofs.Words.{Run, b, is_followed, l, nodes, object_line, run, u}
+use Rattle.arj_cause_tests.proofs.Words.{Run, b, is_followed, l, lacking, nodes, object_line, run, u}
 
 abbrev crash_1 : Run
 crash_1 = run
@@ -203,6 +203,9 @@ crash_1 = run
 crash_1_follows : is_followed crash_1 ≡ true
 crash_1_follows = refl
 
+crash_1_has_causes : lacking crash_1 ≡ []
+crash_1_has_causes = refl
+
 abbrev crash_2 : Run
 crash_2 = run
     (nodes 3 (object_line 1 (value.Counter 18446744073709551614) (3 ∷ 2 ∷ []) (3 ∷ 1 ∷ []) ∷ []))
@@ -371,6 +374,9 @@ crash_2 = run
 
 crash_2_follows : is_followed crash_2 ≡ true
 crash_2_follows = refl
+
+crash_2_has_causes : lacking crash_2 ≡ []
+crash_2_has_causes = refl
 
 abbrev crash_3 : Run
 crash_3 = run
@@ -548,6 +554,9 @@ crash_3 = run
 
 crash_3_follows : is_followed crash_3 ≡ true
 crash_3_follows = refl
+
+crash_3_has_causes : lacking crash_3 ≡ []
+crash_3_has_causes = refl
 
 abbrev crash_4 : Run
 crash_4 = run
@@ -747,3 +756,6 @@ crash_4 = run
 
 crash_4_follows : is_followed crash_4 ≡ true
 crash_4_follows = refl
+
+crash_4_has_causes : lacking crash_4 ≡ []
+crash_4_has_causes = refl

@@ -1,4 +1,4 @@
--- Runs of 150 events of all kinds that were chosen at random. Each journal follows its events.
+-- Runs of 150 events of all kinds that were chosen at random. Each journal follows its events, and each line has its cause.
 use Rattle.std.specs.Prelude.{◌≡◌, refl, [], ◌∷◌, codes, true, Some, None}
 use Rattle.arj_base.specs.declared.mode.Mode.TheVariants.{Read, Write}
 use Rattle.arj_base.specs.declared.mode.End.TheVariants.{Abort, Commit}
@@ -14,7 +14,7 @@ use Rattle.arj_journal.specs.declared.body.Role.TheVariants as role
 use Rattle.arj_journal.specs.declared.event.Event.TheVariants as event
 use Rattle.arj_journal.specs.declared.event.StopKind.TheVariants as stop
 use Rattle.arj_journal.specs.declared.event.FrameNo.TheVariants.{Number}
-use Rattle.arj_cause_tests.proofs.Words.{Run, b, is_followed, l, nodes, object_line, run, u}
+use Rattle.arj_cause_tests.proofs.Words.{Run, b, is_followed, l, lacking, nodes, object_line, run, u}
 
 abbrev full_1 : Run
 full_1 = run
@@ -164,6 +164,9 @@ full_1 = run
 
 full_1_follows : is_followed full_1 ≡ true
 full_1_follows = refl
+
+full_1_has_causes : lacking full_1 ≡ []
+full_1_has_causes = refl
 
 abbrev full_2 : Run
 full_2 = run
@@ -335,6 +338,9 @@ full_2 = run
 
 full_2_follows : is_followed full_2 ≡ true
 full_2_follows = refl
+
+full_2_has_causes : lacking full_2 ≡ []
+full_2_has_causes = refl
 
 abbrev full_3 : Run
 full_3 = run
@@ -533,6 +539,9 @@ full_3 = run
 
 full_3_follows : is_followed full_3 ≡ true
 full_3_follows = refl
+
+full_3_has_causes : lacking full_3 ≡ []
+full_3_has_causes = refl
 
 abbrev full_4 : Run
 full_4 = run
@@ -757,3 +766,6 @@ full_4 = run
 
 full_4_follows : is_followed full_4 ≡ true
 full_4_follows = refl
+
+full_4_has_causes : lacking full_4 ≡ []
+full_4_has_causes = refl

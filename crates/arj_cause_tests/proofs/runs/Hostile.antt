@@ -14,7 +14,7 @@ use Rattle.arj_journal.specs.declared.body.Role.TheVariants as role
 use Rattle.arj_journal.specs.declared.event.Event.TheVariants as event
 use Rattle.arj_journal.specs.declared.event.StopKind.TheVariants as stop
 use Rattle.arj_journal.specs.declared.event.FrameNo.TheVariants.{Last, Number}
-use Rattle.arj_cause_tests.proofs.Words.{Run, b, is_followed, l, nodes, object_line, run, u}
+use Rattle.arj_cause_tests.proofs.Words.{Run, b, is_followed, l, lacking, nodes, object_line, run, u}
 
 abbrev hostile_1 : Run
 hostile_1 = run
@@ -202,6 +202,9 @@ hostile_1 = run
 hostile_1_follows : is_followed hostile_1 ≡ true
 hostile_1_follows = refl
 
+hostile_1_has_causes : lacking hostile_1 ≡ []
+hostile_1_has_causes = refl
+
 abbrev hostile_2 : Run
 hostile_2 = run
     (nodes 2 (object_line 1 (value.Queue (8 ∷ 5 ∷ [])) (1 ∷ []) (2 ∷ 1 ∷ []) ∷ []))
@@ -384,6 +387,9 @@ hostile_2 = run
 
 hostile_2_follows : is_followed hostile_2 ≡ true
 hostile_2_follows = refl
+
+hostile_2_has_causes : lacking hostile_2 ≡ []
+hostile_2_has_causes = refl
 
 abbrev hostile_3 : Run
 hostile_3 = run
@@ -569,6 +575,9 @@ hostile_3 = run
 
 hostile_3_follows : is_followed hostile_3 ≡ true
 hostile_3_follows = refl
+
+hostile_3_has_causes : lacking hostile_3 ≡ []
+hostile_3_has_causes = refl
 
 abbrev hostile_4 : Run
 hostile_4 = run
@@ -761,3 +770,6 @@ hostile_4 = run
 
 hostile_4_follows : is_followed hostile_4 ≡ true
 hostile_4_follows = refl
+
+hostile_4_has_causes : lacking hostile_4 ≡ []
+hostile_4_has_causes = refl

@@ -1,4 +1,4 @@
--- On one node: runs of 150 events that were chosen at random. Each journal follows its events.
+-- On one node: runs of 150 events that were chosen at random. Each journal follows its events, and each line has its cause.
 use Rattle.std.specs.Prelude.{◌≡◌, refl, [], ◌∷◌, codes, true, Some, None}
 use Rattle.arj_base.specs.declared.mode.Mode.TheVariants.{Read, Write}
 use Rattle.arj_base.specs.declared.mode.End.TheVariants.{Abort, Commit}
@@ -10,7 +10,7 @@ use Rattle.arj_journal.specs.declared.body.Kind.TheVariants as kind
 use Rattle.arj_journal.specs.declared.body.Part.TheVariants as part
 use Rattle.arj_journal.specs.declared.body.Role.TheVariants as role
 use Rattle.arj_journal.specs.declared.event.Event.TheVariants as event
-use Rattle.arj_cause_tests.proofs.Words.{Run, b, is_followed, l, nodes, object_line, run, u}
+use Rattle.arj_cause_tests.proofs.Words.{Run, b, is_followed, l, lacking, nodes, object_line, run, u}
 
 abbrev local_more_1 : Run
 local_more_1 = run
@@ -247,6 +247,9 @@ local_more_1 = run
 
 local_more_1_follows : is_followed local_more_1 ≡ true
 local_more_1_follows = refl
+
+local_more_1_has_causes : lacking local_more_1 ≡ []
+local_more_1_has_causes = refl
 
 abbrev local_more_2 : Run
 local_more_2 = run
@@ -487,3 +490,6 @@ local_more_2 = run
 
 local_more_2_follows : is_followed local_more_2 ≡ true
 local_more_2_follows = refl
+
+local_more_2_has_causes : lacking local_more_2 ≡ []
+local_more_2_has_causes = refl
