@@ -4,6 +4,7 @@
 -- and the limit of frames.
 pub mod Working
 pub mod Saying
+pub mod Rising
 pub mod Steps
 pub mod Framed
 pub mod Fitting

@@ -17,7 +17,7 @@ use Rattle.arj_model.specs.Refusals.{is_root}
 
 -- ---- lists
 
-filter_same : {A : Type 0} (p q : A → Bool) (xs : List A) → ((x : A) → In x xs → p x ≡ q x) → filter p xs ≡ filter q xs
+pub filter_same : {A : Type 0} (p q : A → Bool) (xs : List A) → ((x : A) → In x xs → p x ≡ q x) → filter p xs ≡ filter q xs
 filter_same p q [] same = refl
 filter_same p q (x ∷ xs) same = by (p x) (q x) (same x (inl refl)) (filter_same p q xs (λ y i. same y (inr i)))
   where

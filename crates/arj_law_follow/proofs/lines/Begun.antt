@@ -15,10 +15,10 @@ use Rattle.arj_law_runs.proofs.journal.Owners.{acts_more}
 use Rattle.arj_law_follow.proofs.lines.Numbers.{AreInTurn}
 use Rattle.arj_law_follow.proofs.lines.Saying
 use Saying.{list_both}
-use Rattle.arj_law_follow.specs.lines.Lines.{AreGivenUp, BeginsCommitSo, BeginsSo, HasLines, may_stand_or_lose}
+use Rattle.arj_law_follow.specs.lines.Lines.{BeginsCommitSo, BeginsSo, HasLines, may_stand_or_lose}
 use Rattle.arj_model.specs.Actions.{act_in, begun_of}
 use Rattle.arj_model.specs.Actions as model
-use Rattle.arj_model.specs.Own.{AreAborted, Ends, MayMeetLimit, aborted_of, commit_line}
+use Rattle.arj_model.specs.Own.{AreAborted, AreGiveUps, Ends, MayMeetLimit, aborted_of, commit_line}
 use Rattle.arj_model.specs.Past.{Past, block}
 use Rattle.arj_model.specs.Refusals.{frame_no, is_serializing, last_frame}
 use Rattle.arj_model.specs.Refusals as model_refusals
@@ -108,10 +108,11 @@ aborted_none [] (b ∷ bs) all = absurd all
 aborted_none (a ∷ xs) [] all = absurd all
 aborted_none (a ∷ xs) (b ∷ bs) all = absurd all
 
-given_none : (l : Label) (bs : List Body) → AreGivenUp l bs → list_all begins_none bs ≡ true
-given_none l [] all = refl
-given_none l (body.GaveUp m n ∷ bs) all = given_none l bs all.1
-given_none l (b ∷ bs) all = absurd all
+given_none : (l : Label) (bs : List Body) → AreGiveUps l bs → list_all begins_none bs ≡ true
+given_none l [] its = absurd its
+given_none l (body.GaveUp m n ∷ []) its = refl
+given_none l (body.GaveUp m n ∷ body.GaveUp j i ∷ bs) its = given_none l (body.GaveUp j i ∷ bs) its.2
+given_none l bs its = absurd its
 
 module _ (hd : Header) (past : Past) where
   own_none : (e : Event) → begins_one e ≡ false → (own : List Body) → BeginsSo hd past e own → list_all begins_none own ≡ true

@@ -52,6 +52,9 @@ use Rattle.arj_law_follow.proofs.causes.{Reasons.finds_abort, Reasons.finds_give
 use Rattle.arj_law_follow.proofs.lines.{Aborts.abort_lines, Begun.begins_none, Begun.turn_next, Begun.turn_same, Numbers.AreInTurn}
 use Rattle.arj_law_follow.proofs.lines.{Saying.say_all}
 use Words.{bytes_eq}
+use Rattle.arj_law_runs.proofs.Terms.{keeps_asked}
+use Rattle.arj_law_parts.proofs.moves.{Happens.first_asked, Moving.move_asked}
+use Rattle.arj_law_follow.proofs.lines.Rising.{KnowsRising, rising_keep}
 use Rattle.arj_law_follow.proofs.lines.Fitting
 use Fitting.{Limited, halts_goes, limit_parts, may_meet, message_works, only_goes}
 use Rattle.arj_law_follow.proofs.lines.Framed.{ArePlain, behind_own, front_so, is_delivery_of, is_taken, net_fits}
@@ -64,7 +67,7 @@ use Steps.{restart_tells}
 use Steps.{tick_tells}
 use Rattle.arj_law_follow.proofs.lines.Showing.{shown_line, shows_all}
 use Rattle.arj_law_follow.proofs.lines.Working.{works}
-use Rattle.arj_law_follow.specs.lines.Lines.{AreGivenUp, BeginsCommitSo, BeginsSo, HasLines, LinesStep, NetFits, is_show}
+use Rattle.arj_law_follow.specs.lines.Lines.{BeginsCommitSo, BeginsSo, HasLines, LinesStep, NetFits, is_show}
 use Rattle.arj_law_follow.specs.lines.Lines.{may_stand_or_lose}
 use Rattle.arj_law_follow.specs.lines.Lines.{is_of_net}
 use Rattle.arj_journal.specs.ScriptForm.{HeaderInForm}
@@ -87,10 +90,9 @@ use Rattle.std.proofs.lemmas.List.{take-append-drop, length-take}
 
 -- ---- labels
 
--- the event ends an action, or gives up what one waits for
+-- the event is a commit
 abbrev is_commit : Event → Bool
 is_commit (event.Commit l) = true
-is_commit (event.GiveUp l) = true
 is_commit e = false
 
 -- two labels of one name are one
@@ -732,20 +734,32 @@ module _ (hd : Header) (form : HeaderInForm hd) where
           label = label_is (let d = one.doing in d.label) l same_name;
         }
 
-    giveup_adds : (l : Label) → Asks l (input.GiveUp l) →
-        Adds (Led (loses l) (AreGivenUp l) (node_of l t)) t (steps (node_of l t) (input.GiveUp l) t)
-    giveup_adds l q =
+    giveup_adds : Holds hd KnowsRising w → (l : Label) → Asks l (input.GiveUp l) →
+        Adds (Led (loses l) (own.AreGiveUps l) (node_of l t)) t (steps (node_of l t) (input.GiveUp l) t)
+    giveup_adds rising l q =
         let o = works_so l (input.GiveUp l) q in
+        let u = (let b = q.branch in actor b.path) in
         let at = node_of l t in
-        node_adds (Led (loses l) (AreGivenUp l) at) at (input.GiveUp l) t q.node q.there
-        (subst (Tells (Led (loses l) (AreGivenUp l) at) at (let k = q.node in k.disk))
+        node_adds (Led (loses l) (own.AreGiveUps l) at) at (input.GiveUp l) t q.node q.there
+        (subst (Tells (Led (loses l) (own.AreGiveUps l) at) at (let k = q.node in k.disk))
         (sym (taken_step (input.GiveUp l) q.node q.parts q.live q.free
         ∙ ap (λ z. input.coord_did q.node q.parts (input.on_branch (λ b. Words.give_up (actor b.path)
         (let k = q.node in let d = k.disk in d.intents) (let v = q.parts in v.coord)) (let v = q.parts in v.coord) z)) q.named))
         (subst (λ (x : Label). (let c = Words.give_up (let b = q.branch in actor b.path) (let k = q.node in let d = k.disk in d.intents)
-        (let v = q.parts in v.coord) in Tells (Led (loses x) (AreGivenUp x) at) at (let k = q.node in k.disk)
+        (let v = q.parts in v.coord) in Tells (Led (loses x) (own.AreGiveUps x) at) at (let k = q.node in k.disk)
         (Words.node_did q.node [] (Words.with_coord q.parts c.part) c.outs))) o.label
-        (giveup_tells at q.node q.parts (let b = q.branch in actor b.path) (let k = q.node in let d = k.disk in d.intents) o.doing o.does)))
+        (giveup_tells at q.node q.parts (let b = q.branch in actor b.path) (let k = q.node in let d = k.disk in d.intents) o.doing o.does
+        (rising.holds.1 (node_of l t) q.node q.parts q.there q.live u o.doing o.does)
+        (ap (λ z. Words.is_waiting z) (sym o.does) ∙ (not_not (Words.waits (let v = q.parts in v.coord) u)
+        (first_not 8 (not (Words.waits (let v = q.parts in v.coord) u)) [] (first_not 6 (is_some (let b = q.branch in b.ended))
+        ((8, not (Words.waits (let v = q.parts in v.coord) u)) ∷ []) not_refused).1).0)))))
+      where
+        not_refused : first_reason ((6, is_some (let b = q.branch in b.ended))
+            ∷ (8, not (Words.waits (let v = q.parts in v.coord) (let b = q.branch in actor b.path))) ∷ []) ≡ None
+        not_refused =
+            sym (ap (refused_by (λ b d. (6, is_some b.ended) ∷ (8, not (Words.waits d (actor b.path))) ∷ []) (let v = q.parts in v.coord))
+            q.named)
+            ∙ sym (ap (input.refusal_at t.header (input.GiveUp l)) q.live) ∙ q.free
 
     -- the lines of what an abort ends
     abbrev AreAbortedOf : Label → List Body → Type 0
@@ -1049,7 +1063,6 @@ module _ (hd : Header) (form : HeaderInForm hd) where
     -- what an accepted event has it has so
     begins_so : (e : Event) → is_commit e ≡ false → (bs : List Body) → Begins hd p e bs → BeginsSo hd p e bs
     begins_so (event.Commit l) off bs its = absurd (cc off)
-    begins_so (event.GiveUp l) off bs its = absurd (cc off)
     begins_so e off bs its = its
 
     may_so : (e : Event) (bs : List Body) → list_all (may_stand e) bs ≡ true → list_all (may_stand_or_lose e) bs ≡ true
@@ -1090,7 +1103,8 @@ module _ (hd : Header) (form : HeaderInForm hd) where
         by None a = a
         by (Some c) is = absurd (never c is)
 
-    module _ (turn : AreInTurn (terms.acts p.lines)) (bodies : List Body) (isnt : is_refused bodies ≡ false) where
+    module _ (turn : AreInTurn (terms.acts p.lines)) (rising : Holds hd KnowsRising w) (bodies : List Body) (isnt : is_refused bodies
+        ≡ false) where
       of_short : (e : Event) → is_commit e ≡ false → is_short e ≡ true → ShortEventsStep hd p e bodies → HasLines hd p e bodies
       of_short e off short x = accepted_lines e bodies off (accepted_of e bodies isnt (x.short short))
 
@@ -1177,8 +1191,8 @@ module _ (hd : Header) (form : HeaderInForm hd) where
           let given = is_there l t (world_none e none) in
           let q = asks_so l (input.GiveUp l) (finds_giveup l) given (node_none e none) in
           let at = node_of l t in
-          at_node e bodies fit isnt (loses l) (AreGivenUp l) at (happens e a t) (limit_parts (Led (loses l) (AreGivenUp l) at) t
-          (happens e a t) bodies (giveup_adds l q) lines) (λ bs its. its) (λ bs last met. met) (giveup_may l) refl (λ n. refl)
+          at_node e bodies fit isnt (loses l) (own.AreGiveUps l) at (happens e a t) (limit_parts (Led (loses l) (own.AreGiveUps l) at) t
+          (happens e a t) bodies (giveup_adds rising l q) lines) (λ bs its. its) (λ bs last met. met) (giveup_may l) refl (λ n. refl)
           (λ bs is. is) q.home (λ bs goes. no_delivery e (loses l) at bs (λ j. refl) (λ j. refl) goes) (λ bs its. inr (λ n. refl))
 
     -- ---- an event
@@ -1209,14 +1223,15 @@ module _ (hd : Header) (form : HeaderInForm hd) where
           by (IsRun none isnt lines) = subst (λ o. MatchOption o (Accepted hd p (event_of m) bodies) (λ d. bodies ≡ body.Refused d ∷ []))
               (sym (same ∙ none)) (shown (event_of m) arm show fit isnt lines)
 
-      pub follows : AreInTurn (terms.acts p.lines) → Came (event_of m) arm t bodies → ShortEventsStep hd p (event_of m) bodies →
+      pub follows : AreInTurn (terms.acts p.lines) → Holds hd KnowsRising w → Came (event_of m) arm t bodies → ShortEventsStep hd p
+          (event_of m) bodies →
           LinesStep hd p (event_of m) bodies
-      follows turn (IsRefused c refused is) short = record {
+      follows turn rising (IsRefused c refused is) short = record {
         lines = λ isnt. let no_way : true ≡ false = sym (ap is_refused is) ∙ isnt in absurd (cc no_way);
         shown = λ show. shown_step show (IsRefused c refused is);
       }
-      follows turn (IsRun none isnt lines) short = record {
-        lines = λ off. accepted turn bodies isnt (event_of m) arm fit short none lines;
+      follows turn rising (IsRun none isnt lines) short = record {
+        lines = λ off. accepted turn rising bodies isnt (event_of m) arm fit short none lines;
         shown = λ show. shown_step show (IsRun none isnt lines);
       }
 
@@ -1230,12 +1245,16 @@ module _ (hd : Header) (form : HeaderInForm hd) where
   record Turned (p : Past) (w : World) : Type 0 where
     pub base : shorts.Stands hd form p w
     pub turn : AreInTurn (terms.acts p.lines)
+    pub rising : Holds hd KnowsRising w
 
   goes : (m : Move) (p : Past) (w : World) → IsStoppedInForm m → Turned p w → w.over ≡ false → Outcome (LinesStep hd) Turned m p w
   goes m p w stops x on = by (shorts.goes hd form m p w stops s on) (frames.goes hd form m p w stops s.base.base on)
     where
       s : shorts.Stands hd form p w
       s = x.base
+
+      moved_rising : Holds hd KnowsRising (moved m w)
+      moved_rising = move_asked hd KnowsRising (keeps_asked hd KnowsRising (rising_keep hd)) m w x.rising
 
       by : Outcome (ShortEventsStep hd) (shorts.Stands hd form) m p w → Outcome (FramesStep hd) (frames.Stands hd form) m p w →
           Outcome (LinesStep hd) Turned m p w
@@ -1251,8 +1270,8 @@ module _ (hd : Header) (form : HeaderInForm hd) where
               let c = b.base in c.lines)) in
               let fits_too = subst (FramesStep hd p (event_of m)) one fit in
               let g = refusing.goes_with hd form m p w stops s.base on bodies (let b = after.base in b.base) in
-              let y = follows m p w stops s on bodies fits_too x.turn g.0 step in
-              Went bodies y (record { base = after; turn = turned m p w stops s on bodies fits_too x.turn g.0 y })
+              let y = follows m p w stops s on bodies fits_too x.turn x.rising g.0 step in
+              Went bodies y (record { base = after; turn = turned m p w stops s on bodies fits_too x.turn g.0 y; rising = moved_rising })
 
 pub lines_follow : (hd : Header) (r : Run hd) → IsInForm hd r → Runs (LinesStep hd) r.start (run_events hd r) (journal_by hd r)
 lines_follow hd r form =
@@ -1260,4 +1279,8 @@ lines_follow hd r form =
     (λ p w x. (let s : shorts.Stands hd form.header p w = x.base in s.base.base.lines))
     (λ p w x. (let s : shorts.Stands hd form.header p w = x.base in s.base.base.count))
     (λ m p w stops x on. goes hd form.header m p w stops x on) r.start r.moves (world_from hd r.start) form.stops
-    (record { base = shorts.first_stands hd form.header r.start r.formed; turn = tt })
+    (record {
+      base = shorts.first_stands hd form.header r.start r.formed;
+      turn = tt;
+      rising = first_asked hd r.start KnowsRising r.formed (keeps_asked hd KnowsRising (rising_keep hd));
+    })

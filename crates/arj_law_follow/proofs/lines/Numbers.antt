@@ -9,6 +9,7 @@ use Words.kind
 use Rattle.arj_law_runs.proofs.Terms.{Act, path, path_in, uids, upwards, AreDistinct}
 use Rattle.arj_law_runs.proofs.follow.Uids.{count_of}
 use Rattle.arj_law_runs.proofs.journal.{Models.apart_acts, Ties.path_new, Ties.path_old}
+use Rattle.arj_law_follow.proofs.causes.Roots.{filter_same}
 use Rattle.arj_model.specs.Actions.{is_over}
 use Rattle.arj_model.specs.Own.{aborted_by}
 
@@ -81,16 +82,6 @@ pub on_same : (xs : List Act) → AreDistinct xs → (c : Act) → In c xs → (
 on_same xs distinct c i [] all = refl
 on_same xs distinct c i (u ∷ us) all =
     λ j. apart_acts xs distinct u c (all u (inl refl)) i j || on_same xs distinct c i us (λ b h. all b (inr h)) j
-
-pub filter_same : {A : Type 0} (p q : A → Bool) (xs : List A) → ((x : A) → In x xs → p x ≡ q x) → filter p xs ≡ filter q xs
-filter_same p q [] same = refl
-filter_same p q (x ∷ xs) same = by (p x) (q x) (same x (inl refl)) (filter_same p q xs (λ y i. same y (inr i)))
-  where
-    by : (a b : Bool) → a ≡ b → filter p xs ≡ filter q xs → cond a (x ∷ filter p xs) (filter p xs) ≡ cond b (x ∷ filter q xs) (filter q xs)
-    by true true e rest = ap (λ ys. x ∷ ys) rest
-    by false false e rest = rest
-    by true false e rest = absurd (cc e)
-    by false true e rest = absurd (cc e)
 
 -- an abort ends these actions of the journal, the newest first
 abbrev pub ends_below : List Line → List Act → Uid → Act → Bool

@@ -26,8 +26,10 @@ use Words.{Aborts, Confirming, Machine, Plan, Preparing, Voting, abort_action, a
 use Words.{give_up_call, give_up_doing, given_up, gives_up, next_node, nodes_given_up, on_root, open_below, root_lost, root_of}
 use Words.{step_commit}
 use Rattle.arj_protocol.specs.Commit.{start}
-use Rattle.arj_law_follow.specs.lines.Lines.{AreGivenUp}
-use Rattle.arj_model.specs.Own.{commit_line}
+use Rattle.arj_law_follow.proofs.lines.Rising.{IsRising}
+use Rattle.arj_law_parts.proofs.parts.Numbered.{AreUp}
+use Words.{is_empty, is_waiting_now}
+use Rattle.arj_model.specs.Own.{AreGiveUps, commit_line}
 use Rattle.arj_law_parts.proofs.moves.Rounds.{AreLooks, LooksAlone, is_look, taken_looks}
 use Rattle.arj_law_follow.proofs.lines.Saying
 use Saying.{Goes, Halts, Through, Led, Such, Tells, goes_halted, goes_through, led_tells, led_whole, own_bodies, say_all, such_work}
@@ -92,9 +94,9 @@ module _ (k : ℕ) (n : Node) (t : Parts) where
     gaveup_said [] = refl
     gaveup_said (m ∷ nodes) = λ i. ap (say_for (λ l. body.GaveUp l m)) does i ++ gaveup_said nodes i
 
-    all_given : (nodes : List ℕ) → AreGivenUp q.label (map (λ (m : ℕ). body.GaveUp q.label m) nodes)
-    all_given [] = tt
-    all_given (m ∷ nodes) = (refl, all_given nodes)
+    all_given : (m : ℕ) (nodes : List ℕ) → AreUp (m ∷ nodes) → AreGiveUps q.label (map (λ (j : ℕ). body.GaveUp q.label j) (m ∷ nodes))
+    all_given m [] up = refl
+    all_given m (j ∷ nodes) up = (refl, up.0.0, all_given j nodes up.1)
 
     lost_says : (m : ℕ) → Such (loses q.label) (says u (λ l. body.Aborted l (cause.Lost m)) t.coord)
     lost_says m = subst (λ o. Such (loses q.label) (say_for (λ l. body.Aborted l (cause.Lost m)) o)) (sym does)
@@ -122,25 +124,36 @@ module _ (k : ℕ) (n : Node) (t : Parts) where
     commit_such (Confirming p) = lost_commit 1 p
 
     abbrev Gives : Words.Did Coord → Type 0
-    Gives d = Tells (Led (loses q.label) (AreGivenUp q.label) k) k n.disk (node_did n [] (with_coord t d.part) d.outs)
+    Gives d = Tells (Led (loses q.label) (AreGiveUps q.label) k) k n.disk (node_did n [] (with_coord t d.part) d.outs)
 
     gives : (nodes : List ℕ) (d : Words.Did Coord) → Such (loses q.label) d.outs →
+        AreGiveUps q.label (map (λ (m : ℕ). body.GaveUp q.label m) nodes) →
         Gives (record { part = d.part; outs = gaveup_lines u nodes t.coord ++ d.outs })
-    gives nodes d such =
-        did_such (loses q.label) (covers_loses q.label) k (AreGivenUp q.label) n (with_coord t d.part)
+    gives nodes d such its =
+        did_such (loses q.label) (covers_loses q.label) k (AreGiveUps q.label) n (with_coord t d.part)
         (map (λ (m : ℕ). body.GaveUp q.label m) nodes) (gaveup_lines u nodes t.coord ++ d.outs) d.outs
-        (ap (λ es. es ++ d.outs) (gaveup_said nodes)) such (all_given nodes)
+        (ap (λ es. es ++ d.outs) (gaveup_said nodes)) such its
 
-    pub giveup_tells : Gives (give_up u intents t.coord)
-    giveup_tells = subst (λ o. Gives (give_up_doing u intents t.coord o)) (sym does) (now q.now)
+    nodes_rise : (m : Machine) → IsRising (Committing m) → AreGiveUps q.label (map (λ (j : ℕ). body.GaveUp q.label j) (nodes_given_up m))
+    nodes_rise (Voting p left) rise = refl
+    nodes_rise (Preparing p left) rise = by left rise.0 rise.1
       where
-        now : (m : Now) → Gives (gives_up u intents t.coord m)
-        now Idle = gives [] (record { part = t.coord; outs = [] }) refl
-        now (Calling s) =
+        by : (ns : List ℕ) → AreUp ns → is_empty ns ≡ false → AreGiveUps q.label (map (λ (j : ℕ). body.GaveUp q.label j) ns)
+        by [] up some = absurd (cc some)
+        by (j ∷ ns) up some = all_given j ns up
+    nodes_rise (Confirming p) rise = refl
+
+    pub giveup_tells : IsRising q.now → is_waiting_now q.now ≡ true → Gives (give_up u intents t.coord)
+    giveup_tells rise waits = subst (λ o. Gives (give_up_doing u intents t.coord o)) (sym does) (now q.now rise waits)
+      where
+        now : (m : Now) → IsRising m → is_waiting_now m ≡ true → Gives (gives_up u intents t.coord m)
+        now Idle rise waits = absurd (cc waits)
+        now (Calling s) rise waits =
             let d = give_up_call s t.coord in
             gives (next_node s ∷ []) d (such_work (loses q.label) (covers_loses q.label) d.outs
-            (step_call_work s (given_up s.at) (on_root (root_of s.path) (root_lost s (given_up s.at)) t.coord)))
-        now (Committing m) = gives (nodes_given_up m) (moved_commit u (commit.given_up m) intents t.coord) (commit_such m)
+            (step_call_work s (given_up s.at) (on_root (root_of s.path) (root_lost s (given_up s.at)) t.coord))) refl
+        now (Committing m) rise waits =
+            gives (nodes_given_up m) (moved_commit u (commit.given_up m) intents t.coord) (commit_such m) (nodes_rise m rise)
 
   -- calls and includes ask
   pub call_tells : (b : Branch) (x : ℕ) (o : Op) → (let d = call b.path x o t.coord in

@@ -43,16 +43,9 @@ abbrev pub BeginsCommitSo : Label → Option Act → List Body → Type 0
 BeginsCommitSo l None own = ⊥
 BeginsCommitSo l (Some a) own = (own ≡ commit_line a.kind l ∷ []) ⊎ (own ≡ body.Aborted l cause.Doomed ∷ [])
 
--- each line says that the action gave up a node
-abbrev pub AreGivenUp : Label → List Body → Type 0
-AreGivenUp l [] = ⊤
-AreGivenUp l (body.GaveUp m n ∷ own) = (m ≡ l) × AreGivenUp l own
-AreGivenUp l own = ⊥
-
--- the lines with which an event begins: of a commit without why its action is doomed, and of a giveup whatever nodes it names
+-- the lines with which an event begins: of a commit without why its action is doomed
 abbrev pub BeginsSo : Header → Past → Event → List Body → Type 0
 BeginsSo header past (event.Commit l) own = BeginsCommitSo l (act_in (acts past.lines) (name l)) own
-BeginsSo header past (event.GiveUp l) own = AreGivenUp l own
 BeginsSo header past e own = Begins header past e own
 
 -- The lines of an accepted event, but for what was asked: it begins with its own, and ends with its own where its kind has one at the end;
