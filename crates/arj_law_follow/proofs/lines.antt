@@ -12,4 +12,8 @@ pub mod Showing
 pub mod Numbers
 pub mod Aborts
 pub mod Begun
+pub mod Labels
+pub mod Several
+pub mod May
+pub mod Adding
 pub mod Events

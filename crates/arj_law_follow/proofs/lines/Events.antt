@@ -29,11 +29,8 @@ use Rattle.arj_law_runs.proofs.Terms.{Act, Holds, IsMemory, IsUp, act_in, option
 use Rattle.arj_law_runs.proofs.Terms as terms
 use Rattle.arj_law_parts.proofs.moves.Reasons.{first_not, is_there, not_not}
 use Rattle.arj_law_parts.specs.steps.Writes.{node_refusal}
-use Rattle.arj_law_runs.proofs.journal.Ties.{named_label}
-use Rattle.arj_law_runs.proofs.addresses.Runs.{within_of}
 use Rattle.arj_law_runs.proofs.follow.Along.{Ended, Outcome, Went, event_of, runs_along}
 use Rattle.arj_law_runs.proofs.follow.Frames as frames
-use Rattle.arj_law_runs.proofs.follow.Gone.{its_action}
 use Rattle.arj_law_runs.proofs.follow.Reasons.{joined, refused_by_any}
 use Rattle.arj_law_runs.proofs.follow.Refusing as refusing
 use Rattle.arj_law_runs.proofs.follow.Refusing.{Came, IsRefused, IsRun}
@@ -43,36 +40,28 @@ use Rattle.arj_law_runs.specs.follow.Frames.{FramesStep, are_so, frame_fits, run
 use Rattle.arj_law_runs.specs.follow.Shorts.{ShortEventsStep, is_short}
 use Rattle.arj_law_runs.specs.follow.Refusals.{names_action}
 use Rattle.arj_law_runs.proofs.follow.Refusing.{same_bodies}
-use Rattle.arj_law_runs.proofs.follow.Telling.{frame_test}
-use Rattle.arj_law_runs.proofs.follow.Walking.{AreFor}
-use Rattle.arj_law_follow.proofs.causes.{Reasons.Finds, Reasons.finds_call, Reasons.finds_commit, Reasons.finds_include, Standing.IsOne}
-use Rattle.arj_law_follow.proofs.causes.{Standing.its_uid, Standing.named_one, Standing.own_number}
-use Rattle.arj_law_runs.proofs.follow.Uids.{count_of}
+use Rattle.arj_law_follow.proofs.causes.{Reasons.finds_call, Reasons.finds_commit, Reasons.finds_include}
 use Rattle.arj_law_follow.proofs.causes.{Reasons.finds_abort, Reasons.finds_giveup}
-use Rattle.arj_law_follow.proofs.lines.{Aborts.abort_lines, Begun.begins_none, Begun.turn_next, Begun.turn_same, Numbers.AreInTurn}
-use Rattle.arj_law_follow.proofs.lines.{Saying.say_all}
+use Rattle.arj_law_follow.proofs.lines.{Begun.begins_none, Begun.turn_next, Begun.turn_same, Numbers.AreInTurn}
 use Words.{bytes_eq}
 use Rattle.arj_law_runs.proofs.Terms.{keeps_asked}
 use Rattle.arj_law_parts.proofs.moves.{Happens.first_asked, Moving.move_asked}
 use Rattle.arj_law_follow.proofs.lines.Rising.{KnowsRising, rising_keep}
 use Rattle.arj_law_follow.proofs.lines.Fitting
-use Fitting.{Limited, halts_goes, limit_parts, may_meet, message_works, only_goes}
-use Rattle.arj_law_follow.proofs.lines.Framed.{ArePlain, behind_own, front_so, is_delivery_of, is_taken, net_fits}
+use Fitting.{Limited, halts_goes, limit_parts, may_meet, only_goes}
+use Rattle.arj_law_follow.proofs.lines.Framed.{ArePlain, behind_own, front_so, is_delivery_of, net_fits}
 use Rattle.arj_law_follow.proofs.lines.Saying
-use Saying.{Adds, Goes, Halts, Led, Tells, Through, fits, is_message_line, list_both, step_adds}
+use Saying.{Adds, Goes, Led, fits}
 use Rattle.arj_law_follow.proofs.lines.Steps
-use Steps.{IsBack, IsCommitLine, IsTaken, Nothing, abort_tells, call_tells, commit_tells, finds, frame_tells, giveup_tells, include_tells}
-use Steps.{loses, nothing_tells}
-use Steps.{restart_tells}
-use Steps.{tick_tells}
+use Steps.{IsTaken, Nothing, finds}
+use Steps.{loses}
 use Rattle.arj_law_follow.proofs.lines.Showing.{shown_line, shows_all}
 use Rattle.arj_law_follow.proofs.lines.Working.{works}
-use Rattle.arj_law_follow.specs.lines.Lines.{BeginsCommitSo, BeginsSo, HasLines, LinesStep, NetFits, is_show}
+use Rattle.arj_law_follow.specs.lines.Lines.{BeginsSo, HasLines, LinesStep, NetFits, is_show}
 use Rattle.arj_law_follow.specs.lines.Lines.{may_stand_or_lose}
 use Rattle.arj_law_follow.specs.lines.Lines.{is_of_net}
 use Rattle.arj_journal.specs.ScriptForm.{HeaderInForm}
 use Rattle.arj_model.specs.CauseNodes.{restarts}
-use Rattle.arj_model.specs.CausePends.{frame_is, sends as sends_frame}
 use Rattle.arj_model.specs.CauseSpans.{Here, here_at}
 use Rattle.arj_model.specs.Follows.{Accepted, Runs, is_limited}
 use Rattle.arj_model.specs.Follows as model_step
@@ -82,422 +71,16 @@ use Rattle.arj_model.specs.Past.{Asked as AskedOf, Past, asked_of, block, is_ref
 use Rattle.arj_model.specs.Refusals as model
 use Rattle.arj_promise.specs.Runs.{IsStoppedInForm, Run}
 use Rattle.arj_protocol.specs.World as world
-use Rattle.arj_protocol.specs.Words.{FrameKind}
-use Rattle.std.specs.Prelude.{MatchOption, drop, replicate}
-use Rattle.std.proofs.Math.Path.{PathP, to_path_p}
-use Rattle.std.proofs.Props.{props}
-use Rattle.std.proofs.lemmas.List.{take-append-drop, length-take}
-
--- ---- labels
+use Rattle.std.specs.Prelude.{MatchOption}
+use Rattle.arj_law_follow.proofs.lines.Several.{AllStand, all_quiesced, settle_stands, stands}
+use Rattle.arj_law_follow.proofs.lines.May.{giveup_may, no_delivery, plain_all, restart_may, settle_may, settles, work_stands, may_by}
+use Rattle.arj_law_follow.proofs.lines.May.{takes_work}
+use Rattle.arj_law_follow.proofs.lines.Adding as adding
 
 -- the event is a commit
 abbrev is_commit : Event → Bool
 is_commit (event.Commit l) = true
 is_commit e = false
-
--- two labels of one name are one
-label_by : (a b : Label) → (e : a.len ≡ b.len) → (f : a.text ≡ b.text) → a ≡ b
-label_by a b e f =
-    let whole_prop : IsProp (length b.text ≡ 16) = hlevel props in
-    let short_prop : IsProp (b.len ≤ 16) = hlevel props in
-    let zeros_prop : IsProp (drop b.len b.text ≡ replicate (16 - b.len) 0) = hlevel props in
-    let whole : PathP (λ i. length (f i) ≡ 16) a.whole b.whole = to_path_p (λ i. length (f i) ≡ 16) (whole_prop _ _) in
-    let short : PathP (λ i. e i ≤ 16) a.short b.short = to_path_p (λ i. e i ≤ 16) (short_prop _ _) in
-    let zeros : PathP (λ i. drop (e i) (f i) ≡ replicate (16 - e i) 0) a.zeros b.zeros =
-    to_path_p (λ i. drop (e i) (f i) ≡ replicate (16 - e i) 0) (zeros_prop _ _) in
-    λ i. record { len = e i; text = f i; whole = whole i; short = short i; zeros = zeros i }
-
-label_text : (l : Label) → name l ++ replicate (16 - l.len) 0 ≡ l.text
-label_text l = ap (λ rest. name l ++ rest) (sym l.zeros) ∙ take-append-drop l.len l.text
-
-label_length : (l : Label) → length (name l) ≡ l.len
-label_length l = let short : l.len ≤ 16 = l.short in omega (arith, l.whole, length-take l.len l.text)
-
-pub label_is : (a b : Label) → name a ≡ name b → a ≡ b
-label_is a b e =
-    let len : a.len ≡ b.len = sym (label_length a) ∙ (ap length e ∙ label_length b) in
-    let padded : name a ++ replicate (16 - a.len) 0 ≡ name b ++ replicate (16 - b.len) 0 = λ i. e i ++ replicate (16 - len i) 0 in
-    label_by a b len (sym (label_text a) ∙ (padded ∙ label_text b))
-
--- ---- the node that a frame is for
-
-module _ (k : ℕ) where
-  itself : (n : ℕ) → (n == n) ≡ true
-  itself n = grind (arith, nat_tests)
-
-  any : ℕ → ℕ → FrameKind → Bool
-  any a b c = true
-
-  abbrev to_node : ℕ → ℕ → ℕ → FrameKind → Bool
-  to_node x a b c = b == x
-
-  -- what a line makes of it
-  abbrev One : Body → Option ℕ → Type 0
-  One b found = (sends_frame (λ a c d. true) k b ≡ false → own.receiver_step k b found ≡ found)
-      × (sends_frame (λ a c d. true) k b ≡ true → (x : ℕ) × (own.receiver_step k b found ≡ Some x) × (sends_frame (to_node x) k b ≡ true))
-
-  one : (b : Body) (found : Option ℕ) → One b found
-  one (body.Sent j from to what) found = by (j == k)
-    where
-      by : (z : Bool) → ((z && true) ≡ false → (cond z (Some to) found) ≡ found)
-          × ((z && true) ≡ true → (x : ℕ) × (cond z (Some to) found ≡ Some x) × ((z && (to == x)) ≡ true))
-      by true = (λ is. absurd (cc is), λ is. (to, refl, itself to))
-      by false = (λ is. refl, λ is. absurd (cc is))
-  one b found = (λ is. refl, λ is. absurd (cc is))
-
-  abbrev All : List Line → Option ℕ → Type 0
-  All ls found = (frame_is (λ a c d. true) ls k ≡ false → own.receiver_from k found ls ≡ found)
-      × (frame_is (λ a c d. true) ls k ≡ true → (x : ℕ) × (own.receiver_from k found ls ≡ Some x) × (frame_is (to_node x) ls k ≡ true))
-
-  all_lines : (ls : List Line) (found : Option ℕ) → All ls found
-  all_lines [] found = (λ is. refl, λ is. absurd (cc is))
-  all_lines (l ∷ ls) found =
-      by (sends_frame (λ a c d. true) k l.body) refl (frame_is (λ a c d. true) ls k) refl (one l.body found)
-      (all_lines ls (own.receiver_step k l.body found))
-    where
-      by : (z : Bool) → sends_frame (λ a c d. true) k l.body ≡ z → (y : Bool) → frame_is (λ a c d. true) ls k ≡ y → One l.body found →
-          All ls (own.receiver_step k l.body found) →
-          ((z || y) ≡ false → own.receiver_from k (own.receiver_step k l.body found) ls ≡ found)
-          × ((z || y) ≡ true → (x : ℕ) × (own.receiver_from k (own.receiver_step k l.body found) ls ≡ Some x)
-          × ((sends_frame (to_node x) k l.body || frame_is (to_node x) ls k) ≡ true))
-      by z e true f first rest = (
-        λ is. absurd (cc (sym (or_right z true refl) ∙ is)),
-        λ is. let r = rest.1 f in (r.0, r.1, or_right (sends_frame (to_node r.0) k l.body) (frame_is (to_node r.0) ls k) r.2),
-      )
-      by true e false f first rest = (
-        λ is. absurd (cc is),
-        λ is. let r = first.1 e in (r.0, rest.0 f ∙ r.1, or_left (sends_frame (to_node r.0) k l.body) (frame_is (to_node r.0) ls k) r.2),
-      )
-      by false e false f first rest = (λ is. rest.0 f ∙ first.0 e, λ is. absurd (cc is))
-
-  pub receiver_is : (ls : List Line) (f : ℕ) → frame_is (λ a c d. true) ls k ≡ true → ((x : ℕ) → frame_is (to_node x) ls k ≡ (f == x)) →
-      own.receiver ls k ≡ Some f
-  receiver_is ls f some each =
-      let r = (all_lines ls None).1 some in
-      r.1 ∙ ap Some (sym (eqb-true f r.0 (sym (each r.0) ∙ r.2)))
-
--- ---- lines that stand in events of several nodes
-
--- a node's work, a frame, a delivery or a halt
-abbrev stands : Body → Bool
-stands (body.Got k) = true
-stands (body.Void k) = true
-stands (body.Halted n) = true
-stands b = works b || is_message_line b
-
-abbrev AllStand : List Body → Type 0
-AllStand bs = list_all stands bs ≡ true
-
-fits_stand : (b : Body) → fits works b ≡ true → stands b ≡ true
-fits_stand (body.Got k) is = refl
-fits_stand (body.Void k) is = refl
-fits_stand (body.Halted n) is = refl
-fits_stand b is = is
-
-goes_stand : (k : ℕ) (bs : List Body) → Goes works k bs → AllStand bs
-goes_stand k bs goes = only_goes works stands k bs fits_stand refl goes
-
-led_stand : (Own : List Body → Type 0) → ((own : List Body) → Own own → AllStand own) → (k : ℕ) (bs : List Body) → Led works Own k bs →
-    AllStand bs
-led_stand Own so k bs l = ap (list_all stands) l.parts ∙ list_both stands l.own l.others (so l.own l.is_own) (goes_stand k l.others l.rest)
-
-taken_stands : (j : ℕ) (own : List Body) → IsTaken j own → AllStand own
-taken_stands j own (inl is) = ap (list_all stands) is
-taken_stands j own (inr is) = ap (list_all stands) is
-
-nothing_stands : (own : List Body) → Nothing own → AllStand own
-nothing_stands own is = ap (list_all stands) is
-
--- what is said becomes another thing said
-weaker : (P Q : List Body → Type 0) (k : ℕ) (d : Disk) (s : Step) → ((bs : List Body) → P bs → Q bs) → Tells P k d s → Tells Q k d s
-weaker P Q k d s so t = record {
-  through = λ j. so (bodies k j s.outs) (t.through j);
-  halted = λ j c how. so (bodies k j (halted_outs k (cut c how s.halting d))) (t.halted j c how);
-}
-
-adds_none : (w : World) → Adds AllStand w w
-adds_none w = record { added = []; lines = sym (append-nil w.lines); event = refl; has = refl }
-
-adds_both : (w v u : World) → Adds AllStand w v → Adds AllStand v u → Adds AllStand w u
-adds_both w v u a b = record {
-  added = a.added ++ b.added;
-  lines = b.lines ∙ (λ i. a.lines i ++ numbered (a.event i) b.added) ∙ append_assoc w.lines (numbered w.event a.added)
-      (numbered w.event b.added)
-      ∙ ap (λ ls. w.lines ++ ls) (sym (map-append (λ (c : Body). record { event = w.event; body = c }) a.added b.added));
-  event = b.event ∙ a.event;
-  has = list_both stands a.added b.added a.has b.has;
-}
-
--- a node takes an input
-node_adds : (P : List Body → Type 0) (k : ℕ) (i : Input) (w : World) (n : Node) → at_place k w.nodes ≡ Some n →
-    Tells P k n.disk (step w.header n i) → Adds P w (steps k i w)
-node_adds P k i w n there tells =
-    subst (λ (o : Option Node). Adds P w (step_node k i w o)) (sym there) (step_adds P k n (step w.header n i) w (at_number k w.arms) tells)
-
--- ---- settles, and ticks of all nodes
-
-deliver_stands : (j : ℕ) (w : World) → Adds AllStand w (deliver j w)
-deliver_stands j w = by (at_place j w.frames)
-  where
-    at : (f : Frame) (v : World) → Adds AllStand w v → (o : Option Node) → at_place f.to v.nodes ≡ o →
-        Adds AllStand v (step_node f.to (input.Frame j f.from f.message) v o)
-    at f v a None is = adds_none v
-    at f v a (Some n) is = step_adds AllStand f.to n (step v.header n (input.Frame j f.from f.message)) v (at_number f.to v.arms)
-        (weaker (Led works (IsTaken j) f.to) AllStand f.to n.disk (step v.header n (input.Frame j f.from f.message))
-        (led_stand (IsTaken j) (taken_stands j) f.to) (frame_tells f.to n j v.header f.from f.message))
-
-    by : (o : Option Frame) → Adds AllStand w (deliver_frame j w o)
-    by None = adds_none w
-    by (Some f) =
-        let v = change_frame j as_delivered f w in
-        let a : Adds AllStand w v = record { added = []; lines = sym (append-nil w.lines); event = refl; has = refl } in
-        adds_both w v (steps f.to (input.Frame j f.from f.message) v) a (at f v a (at_place f.to v.nodes) refl)
-
-settle_stands : (fuel : ℕ) (w : World) → Adds AllStand w (settle_for fuel w)
-settle_stands zero w = adds_none w
-settle_stands (suc fuel) w = by (lowest w) (λ k. adds_both w (deliver k w) (settle_for fuel (deliver k w)) (deliver_stands k w)
-    (settle_stands fuel (deliver k w)))
-  where
-    by : (o : Option ℕ) → ((k : ℕ) → Adds AllStand w (settle_for fuel (deliver k w))) →
-        Adds AllStand w (elim o [ None ↦ w | Some k ↦ settle_for fuel (deliver k w) ])
-    by None rest = adds_none w
-    by (Some k) rest = rest k
-
--- a tick at a node that is up, or nothing
-tick_of : (k : ℕ) (hd : Header) (n : Node) → Tells (Led works Nothing k) k n.disk (step hd n input.Tick)
-tick_of k hd n = by n.live refl
-  where
-    by : (o : Option Parts) → n.live ≡ o → Tells (Led works Nothing k) k n.disk (step hd n input.Tick)
-    by None is = subst (Tells (Led works Nothing k) k n.disk) (sym (ap (input.step_unless hd input.Tick n)
-        (ap (input.refusal_at hd input.Tick) is) ∙ ap (input.step_of hd input.Tick n) is)) (nothing_tells works k n)
-    by (Some t) is = subst (Tells (Led works Nothing k) k n.disk) (sym (ap (input.step_unless hd input.Tick n)
-        (ap (input.refusal_at hd input.Tick) is) ∙ ap (input.step_of hd input.Tick n) is)) (tick_tells k n t)
-
-ticks_stand : (ns : List ℕ) (w : World) → Adds AllStand w (tick_all ns w)
-ticks_stand [] w = adds_none w
-ticks_stand (k ∷ ns) w = adds_both w (tick_up k w) (tick_all ns (tick_up k w)) (by (w.full || not (is_up_at k w))) (ticks_stand ns
-    (tick_up k w))
-  where
-    at : (o : Option Node) → at_place k w.nodes ≡ o → Adds AllStand w (step_node k input.Tick w o)
-    at None is = adds_none w
-    at (Some n) is = step_adds AllStand k n (step w.header n input.Tick) w (at_number k w.arms)
-        (weaker (Led works Nothing k) AllStand k n.disk (step w.header n input.Tick) (led_stand Nothing nothing_stands k)
-        (tick_of k w.header n))
-
-    by : (b : Bool) → Adds AllStand w (cond b w (steps k input.Tick w))
-    by true = adds_none w
-    by false = at (at_place k w.nodes) refl
-
--- a quiesce, before its line
-all_quiesced : (w : World) → Adds AllStand w (settle (tick_all (node_numbers w) (settle w)))
-all_quiesced w =
-    let v = settle w in
-    let u = tick_all (node_numbers w) v in
-    adds_both w u (settle u) (adds_both w v u (settle_stands most_frames w) (ticks_stand (node_numbers w) v)) (settle_stands most_frames u)
-
--- ---- lines as those that may stand
-
-module _ (e : Event) where
-  -- work may stand in an event of these kinds
-  abbrev takes_work : Event → Bool
-  takes_work (event.Call l x o) = true
-  takes_work (event.Include l x n) = true
-  takes_work (event.Commit l) = true
-  takes_work (event.Abort l) = true
-  takes_work (event.Deliver k) = true
-  takes_work (event.Tick n) = true
-  takes_work _ = false
-
-  work_or_lost : (b : Body) → fits works b ≡ true → (own.is_work b ≡ true) ⊎ ((l : Label) × (n : ℕ) × (b ≡ body.Lost l n))
-  work_or_lost (body.Lost l n) is = inr (l, n, refl)
-  work_or_lost (body.Sent k from to what) is = inl (message_works (body.Sent k from to what) is)
-  work_or_lost (body.Aborted l c) is = inl (or_none (own.is_refusal_of_commit c) is)
-    where
-      or_none : (z : Bool) → (z || false) ≡ true → z ≡ true
-      or_none true e = refl
-      or_none false e = e
-  work_or_lost (body.Ok l x o r) is = inl refl
-  work_or_lost (body.Includes l x n) is = inl refl
-  work_or_lost (body.Conflict l h m n) is = inl refl
-  work_or_lost (body.Changed l n d) is = inl refl
-  work_or_lost (body.Committed l) is = inl refl
-  work_or_lost (body.Excluded l x n) is = inl refl
-  work_or_lost (body.Granted n u o m) is = inl refl
-  work_or_lost (body.Lowered n u o) is = inl refl
-  work_or_lost (body.Bound x b n) is = inl refl
-  work_or_lost (body.Active n x b) is = inl refl
-  work_or_lost (body.Told n u e p) is = inl refl
-  work_or_lost (body.Prepared n u r) is = inl refl
-  work_or_lost (body.Done n u r e) is = inl refl
-  work_or_lost b is = absurd (cc is)
-
-  -- the line may stand where work may
-  may_by : (may : Body → Bool) → ((l : Label) (n : ℕ) → may (body.Lost l n) ≡ true) → ((b : Body) → own.is_work b ≡ true → may b ≡ true) →
-      (b : Body) → fits works b ≡ true → may b ≡ true
-  may_by may lost work b is = ⊎_elim (λ w. work b w) (λ l. ap may l.2 ∙ lost l.0 l.1) (work_or_lost b is)
-
-work_stands : (e : Event) → takes_work e e ≡ true → (b : Body) → own.is_work b ≡ true → may_stand_or_lose e b ≡ true
-work_stands e takes (body.Lost l n) is = refl
-work_stands (event.Call l x o) takes b is = is
-work_stands (event.Include l x n) takes b is = is
-work_stands (event.Commit l) takes b is = is
-work_stands (event.Abort l) takes b is = is
-work_stands (event.Deliver k) takes b is = is
-work_stands (event.Tick n) takes b is = is
-work_stands e takes b is = absurd (cc takes)
-
--- ---- what an event adds
-
-restart_may : (n : ℕ) (b : Body) → fits (finds n) b ≡ true → may_stand_or_lose (event.Restart n) b ≡ true
-restart_may n (body.Recovered m u) is = or_none (m == n) is
-  where
-    or_none : (z : Bool) → (z || false) ≡ true → z ≡ true
-    or_none true e = refl
-    or_none false e = e
-restart_may n (body.Lost l m) is = refl
-restart_may n (body.Sent k from to what) is = message_works (body.Sent k from to what) is
-restart_may n (body.Aborted l c) is = or_none (own.is_refusal_of_commit c) is
-  where
-    or_none : (z : Bool) → (z || false) ≡ true → z ≡ true
-    or_none true e = refl
-    or_none false e = e
-restart_may n (body.Ok l x o r) is = refl
-restart_may n (body.Includes l x m) is = refl
-restart_may n (body.Conflict l h m k) is = refl
-restart_may n (body.Changed l m d) is = refl
-restart_may n (body.Committed l) is = refl
-restart_may n (body.Excluded l x m) is = refl
-restart_may n (body.Granted m u o k) is = refl
-restart_may n (body.Lowered m u o) is = refl
-restart_may n (body.Bound x b m) is = refl
-restart_may n (body.Active m x b) is = refl
-restart_may n (body.Told m u e p) is = refl
-restart_may n (body.Prepared m u r) is = refl
-restart_may n (body.Done m u r e) is = refl
-restart_may n b is = absurd (cc is)
-
-giveup_may : (l : Label) (b : Body) → fits (loses l) b ≡ true → may_stand_or_lose (event.GiveUp l) b ≡ true
-giveup_may l (body.Lost m n) is = refl
-giveup_may l (body.Aborted m (cause.Lost n)) is = or_none (bytes_eq (name m) (name l)) is
-  where
-    or_none : (z : Bool) → (z || false) ≡ true → z ≡ true
-    or_none true e = refl
-    or_none false e = e
-giveup_may l (body.Aborted m c) is = or_none (own.is_refusal_of_commit c) is
-  where
-    or_none : (z : Bool) → (z || false) ≡ true → z ≡ true
-    or_none true e = refl
-    or_none false e = e
-giveup_may l (body.Sent k from to what) is = message_works (body.Sent k from to what) is
-giveup_may l (body.Ok m x o r) is = refl
-giveup_may l (body.Includes m x n) is = refl
-giveup_may l (body.Conflict m h j k) is = refl
-giveup_may l (body.Changed m n d) is = refl
-giveup_may l (body.Committed m) is = refl
-giveup_may l (body.Excluded m x n) is = refl
-giveup_may l (body.Granted n u o k) is = refl
-giveup_may l (body.Lowered n u o) is = refl
-giveup_may l (body.Bound x b n) is = refl
-giveup_may l (body.Active n x b) is = refl
-giveup_may l (body.Told n u e p) is = refl
-giveup_may l (body.Prepared n u r) is = refl
-giveup_may l (body.Done n u r e) is = refl
-giveup_may l b is = absurd (cc is)
-
--- in a settle and a quiesce more may stand
-abbrev settles : Event → Bool
-settles event.Settle = true
-settles event.Quiesce = true
-settles _ = false
-
-settle_by : (may : Body → Bool) → ((l : Label) (n : ℕ) → may (body.Lost l n) ≡ true) → ((b : Body) → own.is_work b ≡ true → may b ≡ true) →
-    ((b : Body) → own.is_delivery b ≡ true → may b ≡ true) → (b : Body) → stands b ≡ true → may b ≡ true
-settle_by may lost work taken (body.Got k) is = taken (body.Got k) refl
-settle_by may lost work taken (body.Void k) is = taken (body.Void k) refl
-settle_by may lost work taken (body.Halted n) is = work (body.Halted n) refl
-settle_by may lost work taken (body.Lost l n) is = lost l n
-settle_by may lost work taken (body.Sent k from to what) is =
-    work (body.Sent k from to what) (message_works (body.Sent k from to what) is)
-settle_by may lost work taken (body.Aborted l c) is = work (body.Aborted l c) (or_none (own.is_refusal_of_commit c) is)
-  where
-    or_none : (z : Bool) → (z || false) ≡ true → z ≡ true
-    or_none true e = refl
-    or_none false e = e
-settle_by may lost work taken (body.Ok l x o r) is = work (body.Ok l x o r) refl
-settle_by may lost work taken (body.Includes l x n) is = work (body.Includes l x n) refl
-settle_by may lost work taken (body.Conflict l h m n) is = work (body.Conflict l h m n) refl
-settle_by may lost work taken (body.Changed l n d) is = work (body.Changed l n d) refl
-settle_by may lost work taken (body.Committed l) is = work (body.Committed l) refl
-settle_by may lost work taken (body.Excluded l x n) is = work (body.Excluded l x n) refl
-settle_by may lost work taken (body.Granted n u o m) is = work (body.Granted n u o m) refl
-settle_by may lost work taken (body.Lowered n u o) is = work (body.Lowered n u o) refl
-settle_by may lost work taken (body.Bound x b n) is = work (body.Bound x b n) refl
-settle_by may lost work taken (body.Active n x b) is = work (body.Active n x b) refl
-settle_by may lost work taken (body.Told n u e p) is = work (body.Told n u e p) refl
-settle_by may lost work taken (body.Prepared n u r) is = work (body.Prepared n u r) refl
-settle_by may lost work taken (body.Done n u r e) is = work (body.Done n u r e) refl
-settle_by may lost work taken b is = absurd (cc is)
-
-settle_may : (e : Event) → settles e ≡ true → (b : Body) → stands b ≡ true → may_stand_or_lose e b ≡ true
-settle_may event.Settle its b is = settle_by (may_stand_or_lose event.Settle) (λ l n. refl) work taken b is
-  where
-    work : (c : Body) → own.is_work c ≡ true → may_stand_or_lose event.Settle c ≡ true
-    work (body.Lost l n) w = refl
-    work c w = or_left (own.is_work c) (own.is_delivery c) w
-
-    taken : (c : Body) → own.is_delivery c ≡ true → may_stand_or_lose event.Settle c ≡ true
-    taken (body.Lost l n) w = refl
-    taken c w = or_right (own.is_work c) (own.is_delivery c) w
-settle_may event.Quiesce its b is = settle_by (may_stand_or_lose event.Quiesce) (λ l n. refl) work taken b is
-  where
-    work : (c : Body) → own.is_work c ≡ true → may_stand_or_lose event.Quiesce c ≡ true
-    work (body.Lost l n) w = refl
-    work c w = or_left (own.is_work c) (own.is_delivery c) w
-
-    taken : (c : Body) → own.is_delivery c ≡ true → may_stand_or_lose event.Quiesce c ≡ true
-    taken (body.Lost l n) w = refl
-    taken c w = or_right (own.is_work c) (own.is_delivery c) w
-settle_may e its b is = absurd (cc its)
-
--- ---- deliveries
-
--- no line of a kind is one of a delivery
-no_delivery : (e : Event) (T : Body → Bool) (k : ℕ) (bs : List Body) → ((j : ℕ) → T (body.Got j) ≡ false) → ((j : ℕ) → T (body.Void j)
-    ≡ false) →
-    Goes T k bs → ArePlain e bs
-no_delivery e T k bs got void (Through all) = plain bs all
-  where
-    off : (b : Body) → fits T b ≡ true → (is_delivery_of e && is_taken b) ≡ false
-    off (body.Got j) is = absurd (cc (sym is ∙ (λ i. got j i || false)))
-    off (body.Void j) is = absurd (cc (sym is ∙ (λ i. void j i || false)))
-    off b is = and_false (is_delivery_of e)
-      where
-        and_false : (z : Bool) → (z && false) ≡ false
-        and_false true = refl
-        and_false false = refl
-
-    plain : (cs : List Body) → list_all (fits T) cs ≡ true → ArePlain e cs
-    plain [] all = tt
-    plain (c ∷ cs) all = let r = and_parts (fits T c) (list_all (fits T) cs) all in (off c r.0, plain cs r.1)
-no_delivery e T k bs got void (Halts front all is) = subst (ArePlain e) (sym is) (plain front all)
-  where
-    and_false : (z : Bool) → (z && false) ≡ false
-    and_false true = refl
-    and_false false = refl
-
-    off : (b : Body) → fits T b ≡ true → (is_delivery_of e && is_taken b) ≡ false
-    off (body.Got j) is = absurd (cc (sym is ∙ (λ i. got j i || false)))
-    off (body.Void j) is = absurd (cc (sym is ∙ (λ i. void j i || false)))
-    off b is = and_false (is_delivery_of e)
-
-    plain : (cs : List Body) → list_all (fits T) cs ≡ true → ArePlain e (cs ++ body.Halted k ∷ [])
-    plain [] all = (and_false (is_delivery_of e), tt)
-    plain (c ∷ cs) all = let r = and_parts (fits T c) (list_all (fits T) cs) all in (off c r.0, plain cs r.1)
-
--- an event that delivers no frame of its own
-plain_all : (e : Event) → is_delivery_of e ≡ false → (bs : List Body) → ArePlain e bs
-plain_all e off [] = tt
-plain_all e off (b ∷ bs) = ((λ i. off i && is_taken b), plain_all e off bs)
 
 -- ---- runs
 
@@ -634,313 +217,6 @@ module _ (hd : Header) (form : HeaderInForm hd) where
           each : (bs : List Body) → AllStand bs → list_all (may_stand_or_lose e) bs ≡ true
           each [] all = refl
           each (b ∷ bs) all = let r = and_parts (stands b) (list_all stands bs) all in λ i. settle_may e its b r.0 i && each bs r.1 i
-
-    -- ---- an action's own node
-
-    -- the node that an event asks about an action, where it doesn't refuse
-    record Asks (l : Label) (i : Input) : Type 0 where
-      pub node : Node
-      pub there : at_place (node_of l t) t.nodes ≡ Some node
-      pub parts : Parts
-      pub live : node.live ≡ Some parts
-      pub branch : Branch
-      pub named : branch_named l parts.coord ≡ Some branch
-      pub going : is_some branch.ended ≡ false
-      pub free : refusal t.header i node ≡ None
-      pub home : own.node_of p.lines (name l) ≡ Some (node_of l t)
-
-    asks_so : (l : Label) (i : Input) (f : Finds i l) → is_given l t ≡ true → refused_at i t (at_place (node_of l t) t.nodes) ≡ None →
-        Asks l i
-    asks_so l i f given free =
-        let r = refusing.labelled_so hd form m p w stops s.base on l given in
-        let g = r.0 in
-        let there : at_place (node_of l t) t.nodes ≡ Some r.1 = ap (λ o. at_place (node_in o) t.nodes) r.2 ∙ r.3 in
-        let a = its_action hd w s.base.halts s.base.finds l r.0 r.2 r.1 r.3 in
-        let home : own.node_of p.lines (name l) ≡ Some (node_of l t)
-        = (λ i. option_map (λ (x : Act). (let u = x.uid in u.node)) (act_in (terms.acts (base.lines i)) (name l)))
-        ∙ ap (option_map (λ (x : Act). (let u = x.uid in u.node))) a.1 ∙ ap Some (a.2 ∙ sym (ap node_in r.2)) in
-        live r.1 there home (let n = r.1 in n.live) refl (sym (ap (refused_at i t) there) ∙ free)
-      where
-        found : (n : Node) → at_place (node_of l t) t.nodes ≡ Some n → own.node_of p.lines (name l) ≡ Some (node_of l t) → (v : Parts) →
-            n.live ≡ Some v → refusal t.header i n ≡ None → (o : Option Branch) → branch_named l v.coord ≡ o →
-            refused_by (λ b d. (6, is_some b.ended) ∷ f.reasons t.header b d) v.coord o ≡ None → Asks l i
-        found n there home v live none (Some b) named up = record {
-          node = n;
-          there = there;
-          parts = v;
-          live = live;
-          branch = b;
-          named = named;
-          going = (first_not 6 (is_some b.ended) (f.reasons t.header b v.coord) up).0;
-          free = none;
-          home = home;
-        }
-        found n there home v live none None named up = let no_way : ◌≡◌ {A = Option ℕ} (Some 6) None = up in absurd (cc no_way)
-
-        live : (n : Node) → at_place (node_of l t) t.nodes ≡ Some n → own.node_of p.lines (name l) ≡ Some (node_of l t) →
-            (o : Option Parts) →
-            n.live ≡ o → refusal t.header i n ≡ None → Asks l i
-        live n there home None is none =
-            let no_way : ◌≡◌ {A = Option ℕ} (Some 6) None = sym (ap (input.refusal_at t.header i) is ∙ f.down t.header) ∙ none in
-            absurd (cc no_way)
-        live n there home (Some v) is none = found n there home v is none (branch_named l v.coord) refl
-            (ap (λ o. refused_by (λ b d. (6, is_some b.ended) ∷ f.reasons t.header b d) v.coord o) refl
-            ∙ sym (f.finds t.header v.coord) ∙ sym (ap (input.refusal_at t.header i) is) ∙ none)
-
-    -- the step of a node that takes it
-    taken_step : (i : Input) (n : Node) (v : Parts) → n.live ≡ Some v → refusal t.header i n ≡ None → step t.header n i
-        ≡ input.step_up i n v
-    taken_step i n v live free = ap (input.step_unless t.header i n) free ∙ ap (input.step_of t.header i n) live
-
-    call_adds : (l : Label) (x : ℕ) (o : Op) → Asks l (input.Call l x o) →
-        Adds (Led works Nothing (node_of l t)) t (steps (node_of l t) (input.Call l x o) t)
-    call_adds l x o q =
-        node_adds (Led works Nothing (node_of l t)) (node_of l t) (input.Call l x o) t q.node q.there
-        (subst (Tells (Led works Nothing (node_of l t)) (node_of l t) (let n = q.node in n.disk))
-        (sym (taken_step (input.Call l x o) q.node q.parts q.live q.free
-        ∙ ap (λ z. input.coord_did q.node q.parts (input.on_branch (λ b. Words.call b.path x o (let v = q.parts in v.coord))
-        (let v = q.parts in v.coord) z)) q.named))
-        (call_tells (node_of l t) q.node q.parts q.branch x o))
-
-    include_adds : (l : Label) (x n : ℕ) → Asks l (input.Include l x n) →
-        Adds (Led works Nothing (node_of l t)) t (steps (node_of l t) (input.Include l x n) t)
-    include_adds l x n q =
-        node_adds (Led works Nothing (node_of l t)) (node_of l t) (input.Include l x n) t q.node q.there
-        (subst (Tells (Led works Nothing (node_of l t)) (node_of l t) (let k = q.node in k.disk))
-        (sym (taken_step (input.Include l x n) q.node q.parts q.live q.free
-        ∙ ap (λ z. input.coord_did q.node q.parts (input.on_branch (λ b. Words.include b.path x n (let v = q.parts in v.coord))
-        (let v = q.parts in v.coord) z)) q.named))
-        (include_tells (node_of l t) q.node q.parts q.branch x n))
-
-    -- what its coordinator does with it, under its label
-    record Works (l : Label) (i : Input) (q : Asks l i) : Type 0 where
-      pub doing : Doing
-      pub does : (let b = q.branch in let v = q.parts in doing_of (actor b.path) v.coord) ≡ Some doing
-      pub label : doing.label ≡ l
-
-    works_so : (l : Label) (i : Input) (q : Asks l i) → Works l i q
-    works_so l i q =
-        let v = q.parts in
-        let r = named_one hd w s.base.halts s.base.finds (node_of l t) q.node q.there q.parts q.live l q.branch q.named in
-        let one : IsOne w.lines v.coord.doings (uid_at r.0 v.coord) q.branch r.2 = r.3 in
-        let actor_is = its_uid hd w s.base.halts s.base.finds (node_of l t) q.node q.there q.parts q.live
-        (uid_at r.0 v.coord) q.branch r.1 in
-        let same_name : name (let d = one.doing in d.label) ≡ name l
-        = sym one.label_is ∙ named_label (terms.acts w.lines) (name l) r.2 r.4 in record {
-          doing = one.doing;
-          does = ap (λ u. doing_of u v.coord) actor_is
-              ∙ (λ j. cond (own_number hd w s.base.halts s.base.finds (node_of l t) q.node q.there q.parts q.live r.0 j)
-              (at_place r.0 v.coord.doings) None) ∙ one.does;
-          label = label_is (let d = one.doing in d.label) l same_name;
-        }
-
-    giveup_adds : Holds hd KnowsRising w → (l : Label) → Asks l (input.GiveUp l) →
-        Adds (Led (loses l) (own.AreGiveUps l) (node_of l t)) t (steps (node_of l t) (input.GiveUp l) t)
-    giveup_adds rising l q =
-        let o = works_so l (input.GiveUp l) q in
-        let u = (let b = q.branch in actor b.path) in
-        let at = node_of l t in
-        node_adds (Led (loses l) (own.AreGiveUps l) at) at (input.GiveUp l) t q.node q.there
-        (subst (Tells (Led (loses l) (own.AreGiveUps l) at) at (let k = q.node in k.disk))
-        (sym (taken_step (input.GiveUp l) q.node q.parts q.live q.free
-        ∙ ap (λ z. input.coord_did q.node q.parts (input.on_branch (λ b. Words.give_up (actor b.path)
-        (let k = q.node in let d = k.disk in d.intents) (let v = q.parts in v.coord)) (let v = q.parts in v.coord) z)) q.named))
-        (subst (λ (x : Label). (let c = Words.give_up (let b = q.branch in actor b.path) (let k = q.node in let d = k.disk in d.intents)
-        (let v = q.parts in v.coord) in Tells (Led (loses x) (own.AreGiveUps x) at) at (let k = q.node in k.disk)
-        (Words.node_did q.node [] (Words.with_coord q.parts c.part) c.outs))) o.label
-        (giveup_tells at q.node q.parts (let b = q.branch in actor b.path) (let k = q.node in let d = k.disk in d.intents) o.doing o.does
-        (rising.holds.1 (node_of l t) q.node q.parts q.there q.live u o.doing o.does)
-        (ap (λ z. Words.is_waiting z) (sym o.does) ∙ (not_not (Words.waits (let v = q.parts in v.coord) u)
-        (first_not 8 (not (Words.waits (let v = q.parts in v.coord) u)) [] (first_not 6 (is_some (let b = q.branch in b.ended))
-        ((8, not (Words.waits (let v = q.parts in v.coord) u)) ∷ []) not_refused).1).0)))))
-      where
-        not_refused : first_reason ((6, is_some (let b = q.branch in b.ended))
-            ∷ (8, not (Words.waits (let v = q.parts in v.coord) (let b = q.branch in actor b.path))) ∷ []) ≡ None
-        not_refused =
-            sym (ap (refused_by (λ b d. (6, is_some b.ended) ∷ (8, not (Words.waits d (actor b.path))) ∷ []) (let v = q.parts in v.coord))
-            q.named)
-            ∙ sym (ap (input.refusal_at t.header (input.GiveUp l)) q.live) ∙ q.free
-
-    -- the lines of what an abort ends
-    abbrev AreAbortedOf : Label → List Body → Type 0
-    AreAbortedOf l bs = own.AreAborted (own.aborted_of p.lines (act_in (terms.acts p.lines) (name l))) bs
-
-    abort_adds : AreInTurn (terms.acts p.lines) → (l : Label) → Asks l (input.Abort l) →
-        Adds (Led works (AreAbortedOf l) (node_of l t)) t (steps (node_of l t) (input.Abort l) t)
-    abort_adds turn l q =
-        let at = node_of l t in
-        node_adds (Led works (AreAbortedOf l) at) at (input.Abort l) t q.node q.there
-        (subst (Tells (Led works (AreAbortedOf l) at) at (let k = q.node in k.disk))
-        (sym (taken_step (input.Abort l) q.node q.parts q.live q.free
-        ∙ ap (λ z. input.coord_did q.node q.parts (input.on_branch (λ b. Words.abort_action (actor b.path)
-        (let k = q.node in let d = k.disk in d.intents) (let v = q.parts in v.coord)) (let v = q.parts in v.coord) z)) q.named))
-        (abort_tells at q.node q.parts (AreAbortedOf l) (let b = q.branch in actor b.path) (let k = q.node in let d = k.disk in d.intents)
-        r.0 r.1 (subst (λ ls. own.AreAborted (own.aborted_of ls (act_in (terms.acts ls) (name l))) r.0) (sym base.lines) r.2)))
-      where
-        its : (let good = s.next.holds.0.0.0 in IsUp good.0 s.next.sent w.labels (node_of l t)
-            (let k = q.node in let d = k.disk in d.inc) q.parts)
-        its = let good = s.next.holds.0.0.0 in let place = good.1.places (node_of l t) q.node q.there in
-            subst (IsMemory good.0 s.next.sent w.labels (node_of l t) (let k = q.node in let d = k.disk in d.inc)) q.live place.memory
-
-        count : (let v = q.parts in count_of v.coord.tree.node v.coord.tree.inc (terms.acts w.lines) ≡ length v.coord.tree.branches)
-        count = (λ i. count_of (its.node i) (its.inc i) (terms.acts w.lines)) ∙ ((s.next.holds.1
-            (node_of l t) q.node q.there).1 q.parts q.live).1
-
-        r : (own_lines : List Body) × ((let b = q.branch in let v = q.parts in Words.all_aborted (Words.open_below
-            (actor b.path) v.coord.tree
-            ++ actor b.path ∷ []) v.coord).outs ≡ say_all own_lines)
-            × own.AreAborted (own.aborted_of w.lines (act_in (terms.acts w.lines) (name l))) own_lines
-        r = abort_lines hd w s.base.halts s.base.finds (node_of l t) q.node q.there q.parts q.live l q.branch q.named q.going
-            (subst (λ ls. AreInTurn (terms.acts ls)) base.lines turn) count
-
-    -- the commit's line, as the journal has the action
-    abbrev IsCommitOf : Label → List Body → Type 0
-    IsCommitOf l bs = BeginsCommitSo l (act_in (terms.acts p.lines) (name l)) bs
-
-    commit_adds : (l : Label) → Asks l (input.Commit l) →
-        (Own : List Body → Type 0) × ((bs : List Body) → Own bs → IsCommitOf l bs)
-        × Adds (Led works Own (node_of l t)) t (steps (node_of l t) (input.Commit l) t)
-    commit_adds l q =
-        let v = q.parts in
-        let n = q.node in
-        let r = named_one hd w s.base.halts s.base.finds (node_of l t) q.node q.there q.parts q.live l q.branch q.named in
-        let one : IsOne w.lines v.coord.doings (uid_at r.0 v.coord) q.branch r.2 = r.3 in
-        let actor_is = its_uid hd w s.base.halts s.base.finds (node_of l t) q.node q.there q.parts q.live
-        (uid_at r.0 v.coord) q.branch r.1 in
-        let does : doing_of (actor (let b = q.branch in b.path)) v.coord ≡ Some one.doing
-        = ap (λ u. doing_of u v.coord) actor_is
-        ∙ (λ i. cond (own_number hd w s.base.halts s.base.finds (node_of l t) q.node q.there q.parts q.live r.0 i)
-        (at_place r.0 v.coord.doings)
-        None) ∙ one.does in
-        let same_name : name (let d = one.doing in d.label) ≡ name l
-        = sym one.label_is ∙ named_label (terms.acts w.lines) (name l) r.2 r.4 in
-        let label : (let d = one.doing in d.label) ≡ l = label_is (let d = one.doing in d.label) l same_name in
-        let found : act_in (terms.acts p.lines) (name l) ≡ Some r.2 = ap (λ ls. act_in (terms.acts ls) (name l)) base.lines ∙ r.4 in
-        let Own : List Body → Type 0 = IsCommitLine (let b = q.branch in b.kind) (let d = one.doing in d.label) in (
-          Own,
-          λ bs its. subst (λ o. BeginsCommitSo l o bs) (sym found) (subst (λ (x : Label). (bs ≡ own.commit_line
-              (let a = r.2 in a.kind) x ∷ [])
-              ⊎ (bs ≡ body.Aborted x cause.Doomed ∷ [])) label (subst (λ k. (bs ≡ own.commit_line k (let d = one.doing in d.label) ∷ [])
-              ⊎ (bs ≡ body.Aborted (let d = one.doing in d.label) cause.Doomed ∷ [])) (sym one.kind_is) its)),
-          node_adds (Led works Own (node_of l t)) (node_of l t) (input.Commit l) t q.node q.there
-              (subst (Tells (Led works Own (node_of l t)) (node_of l t) n.disk)
-              (sym (taken_step (input.Commit l) q.node q.parts q.live q.free
-              ∙ ap (λ z. input.coord_did q.node q.parts (input.on_branch (λ b. Words.commit_action b (let d = n.disk in d.intents) v.coord)
-              v.coord z)) q.named))
-              (commit_tells (node_of l t) q.node q.parts q.branch (let d = n.disk in d.intents) one.doing does)),
-        )
-
-    -- ---- a node by its number
-
-    up_node : (n : ℕ) → is_up_at n t ≡ true → (x : Node) × (v : Parts) × (at_place n t.nodes ≡ Some x) × (x.live ≡ Some v)
-    up_node n up = by (at_place n t.nodes) refl up
-      where
-        live : (x : Node) → at_place n t.nodes ≡ Some x → (o : Option Parts) → x.live ≡ o → is_some o ≡ true →
-            (x : Node) × (v : Parts) × (at_place n t.nodes ≡ Some x) × (x.live ≡ Some v)
-        live x at None is some = absurd (cc some)
-        live x at (Some v) is some = (x, v, at, is)
-
-        by : (o : Option Node) → at_place n t.nodes ≡ o → is_up o ≡ true →
-            (x : Node) × (v : Parts) × (at_place n t.nodes ≡ Some x) × (x.live ≡ Some v)
-        by None at some = absurd (cc some)
-        by (Some x) at some = live x at x.live refl some
-
-    tick_adds : (n : ℕ) → is_up_at n t ≡ true → Adds (Led works Nothing n) t (steps n input.Tick t)
-    tick_adds n up =
-        let x = up_node n up in
-        node_adds (Led works Nothing n) n input.Tick t x.0 x.2 (tick_of n t.header x.0)
-
-    -- a restart of a node that is down
-    restart_adds : (n : ℕ) → world.is_node n t ≡ true → is_up_at n t ≡ false →
-        (Own : List Body → Type 0) × ((bs : List Body) → Own bs → own.IsRestart p n bs) × Adds (Led (finds n) Own n) t
-        (steps n input.Restart t)
-    restart_adds n node down = by (at_place n t.nodes) refl (base.placed.places n (subst (λ h. model.is_node h n ≡ true) base.is node)) down
-      where
-        below : (a b : ℕ) → a ≤ b → a < b + 1
-        below a b le = omega (arith, le)
-
-        at : (x : Node) → at_place n t.nodes ≡ Some x → (o : Option Parts) → x.live ≡ o → is_some o ≡ false →
-            (Own : List Body → Type 0) × ((bs : List Body) → Own bs → own.IsRestart p n bs)
-            × Adds (Led (finds n) Own n) t (steps n input.Restart t)
-        at x there (Some v) live off = absurd (cc off)
-        at x there None live off =
-            let number : x.number ≡ n = (base.placed.nodes n x there).1 in
-            let r = (s.next.holds.1 n x there).0 in
-            let low : model.incarnation p.start p.lines n ≤ (let d = x.disk in d.inc)
-            = subst (λ i. i ≤ (let d = x.disk in d.inc)) (sym (λ i. model.incarnation (s.base.start i) (base.lines i) n)) r in
-            let step_is : step t.header x input.Restart ≡ input.restart_step t.header x
-            = ap (input.step_unless t.header input.Restart x) (ap (input.refusal_at t.header input.Restart) live)
-            ∙ ap (input.step_of t.header input.Restart x) live in
-            let tells : Tells (Led (finds n) (IsBack n ((let d = x.disk in d.inc) + 1)) n) n x.disk (input.restart_step t.header x)
-            = subst (λ k. Tells (Led (finds k) (IsBack k ((let d = x.disk in d.inc) + 1)) k) k x.disk
-            (input.restart_step t.header x)) number
-            (restart_tells t.header x) in (
-              IsBack n ((let d = x.disk in d.inc) + 1),
-              λ bs its. ⊎_elim (λ up. inl ((let d = x.disk in d.inc) + 1, below _ _ low, up)) (λ halted. inr halted) its,
-              node_adds (Led (finds n) (IsBack n ((let d = x.disk in d.inc) + 1)) n) n input.Restart t x there
-                  (subst (Tells (Led (finds n) (IsBack n ((let d = x.disk in d.inc) + 1)) n) n x.disk) (sym step_is) tells),
-            )
-
-        by : (o : Option Node) → at_place n t.nodes ≡ o → is_some o ≡ true → is_up o ≡ false →
-            (Own : List Body → Type 0) × ((bs : List Body) → Own bs → own.IsRestart p n bs)
-            × Adds (Led (finds n) Own n) t (steps n input.Restart t)
-        by None there some off = absurd (cc some)
-        by (Some x) there some off = at x there x.live refl off
-
-    -- ---- a frame that the script names
-
-    named_frame : (k : FrameNo) → model.frame_no p.lines k ≡ frame_number k t
-    named_frame (frame_no.Number k) = refl
-    named_frame frame_no.Last = base.tells.last
-
-    -- it is there, for this node
-    record Frames (k : FrameNo) : Type 0 where
-      pub frame : Frame
-      pub there : at_place (frame_number k t) t.frames ≡ Some frame
-      pub node : Node
-      pub place : at_place (let f = frame in f.to) t.nodes ≡ Some node
-      pub home : own.node_of_event p.lines (event.Deliver k) ≡ Some (let f = frame in f.to)
-
-    frame_there : (k : FrameNo) → is_frame k t ≡ true → Frames k
-    frame_there k some = by (at_place (frame_number k t) t.frames) refl some
-      where
-        of_node : (j : ℕ) (fs : List Frame) (f : Frame) → at_place j fs ≡ Some f → AreFor hd fs → model.is_node hd f.to ≡ true
-        of_node zero fs f is all = let no_way : ◌≡◌ {A = Option Frame} None (Some f) = is in absurd (cc no_way)
-        of_node (suc j) fs f is all = go j fs is all
-          where
-            go : (j : ℕ) (fs : List Frame) → Words.slice_get fs j ≡ Some f → AreFor hd fs → model.is_node hd f.to ≡ true
-            go j [] is all = let no_way : ◌≡◌ {A = Option Frame} None (Some f) = is in absurd (cc no_way)
-            go zero (g ∷ fs) is all = let same : g ≡ f = cc is in subst (λ (x : Frame). model.is_node hd x.to ≡ true) same all.0
-            go (suc j) (g ∷ fs) is all = go j fs is all.1
-
-        home : (f : Frame) → at_place (frame_number k t) t.frames ≡ Some f → own.node_of_event p.lines (event.Deliver k) ≡ Some f.to
-        home f there = ap (own.receiver p.lines) (named_frame k)
-            ∙ receiver_is (frame_number k t) p.lines f.to
-            (base.tells.frames (λ a c d. true) (frame_number k t) ∙ ap (frame_test (λ a c d. true)) there)
-            (λ x. base.tells.frames (to_node (frame_number k t) x) (frame_number k t) ∙ ap (frame_test (to_node
-            (frame_number k t) x)) there)
-
-        at : (f : Frame) → at_place (frame_number k t) t.frames ≡ Some f → (o : Option Node) → at_place f.to t.nodes ≡ o → is_some o
-            ≡ true →
-            Frames k
-        at f there (Some n) is some = record { frame = f; there = there; node = n; place = is; home = home f there }
-        at f there None is some = absurd (cc some)
-
-        by : (o : Option Frame) → at_place (frame_number k t) t.frames ≡ o → is_some o ≡ true → Frames k
-        by None there some = absurd (cc some)
-        by (Some f) there some = at f there (at_place f.to t.nodes) refl
-            (base.placed.places f.to (of_node (frame_number k t) t.frames f there (within_of hd form w base.holds)))
-
-    deliver_adds : (k : FrameNo) (f : Frames k) → (let g = f.frame in
-        Adds (Led works (IsTaken (frame_number k t)) g.to) t (deliver (frame_number k t) t))
-    deliver_adds k f =
-        let g = f.frame in
-        let j = frame_number k t in
-        let v = change_frame j as_delivered g t in
-        let a = node_adds (Led works (IsTaken j) g.to) g.to (input.Frame j g.from g.message) v f.node f.place
-        (frame_tells g.to f.node j v.header g.from g.message) in
-        subst (λ o. Adds (Led works (IsTaken j) g.to) t (deliver_frame j t o)) (sym f.there)
-        (record { added = a.added; lines = a.lines; event = a.event; has = a.has })
 
     -- ---- every kind of event
 
@@ -1121,49 +397,55 @@ module _ (hd : Header) (form : HeaderInForm hd) where
       accepted (event.Call l x o) a fit short none lines =
           let e = event.Call l x o in
           let given = is_there l t (world_none e none) in
-          let q = asks_so l (input.Call l x o) (finds_call l x o) given (node_none e none) in
-          simple e bodies fit isnt (node_of l t) (happens e a t) (call_adds l x o q) lines refl refl (λ bs last met. met)
+          let q = adding.asks_so hd form m p w stops s on l (input.Call l x o) (finds_call l x o) given (node_none e none) in
+          simple e bodies fit isnt (node_of l t) (happens e a t) (adding.call_adds hd form m p w stops s on l x o q) lines refl refl
+          (λ bs last met. met)
           (λ bs is. is) q.home
           (λ n. refl) refl
-      accepted (event.Include l x m) a fit short none lines =
-          let e = event.Include l x m in
-          let given = is_there l t (first_not 1 (not (world.is_node m t)) ((5, not (world.is_known l t)) ∷ (6, world.was_given l t) ∷ [])
+      accepted (event.Include l x store) a fit short none lines =
+          let e = event.Include l x store in
+          let given = is_there l t (first_not 1 (not (world.is_node store t)) ((5, not (world.is_known l t)) ∷
+          (6, world.was_given l t) ∷ [])
           (world_none e none)).1 in
-          let q = asks_so l (input.Include l x m) (finds_include l x m) given (node_none e none) in
-          simple e bodies fit isnt (node_of l t) (happens e a t) (include_adds l x m q) lines refl refl (λ bs last met. met)
+          let q = adding.asks_so hd form m p w stops s on l (input.Include l x store) (finds_include l x store) given (node_none e none) in
+          simple e bodies fit isnt (node_of l t) (happens e a t) (adding.include_adds hd form m p w stops s on l x store q) lines refl refl
+          (λ bs last met. met)
           (λ bs is. is) q.home
           (λ n. refl) refl
       accepted (event.Commit l) a fit short none lines =
           let e = event.Commit l in
           let given = is_there l t (world_none e none) in
-          let q = asks_so l (input.Commit l) (finds_commit l) given (node_none e none) in
-          let r = commit_adds l q in
+          let q = adding.asks_so hd form m p w stops s on l (input.Commit l) (finds_commit l) given (node_none e none) in
+          let r = adding.commit_adds hd form m p w stops s on l q in
           at_node e bodies fit isnt works r.0 (node_of l t) (happens e a t) (limit_parts (Led works r.0 (node_of l t)) t
           (happens e a t) bodies
           r.2 lines) r.1 (λ bs last met. met) (work_may e refl) refl no_halt (λ bs is. is) q.home (plain_works e (node_of l t))
           (λ bs its. inr (λ n. refl))
       accepted (event.Deliver k) a fit short none lines =
           let e = event.Deliver k in
-          let f = frame_there k (not_not (is_frame k t) (first_not 17 (not (is_frame k t)) [] (world_none e none)).0) in
+          let f = adding.frame_there hd form m p w stops s on k (not_not (is_frame k t) (first_not 17 (not (is_frame k t)) []
+          (world_none e none)).0) in
           let to = (let g = f.frame in g.to) in
           at_node e bodies fit isnt works (IsTaken (frame_number k t)) to (happens e a t) (limit_parts (Led works (IsTaken
           (frame_number k t)) to)
-          t (happens e a t) bodies (deliver_adds k f) lines)
-          (λ bs its. subst (λ j. own.IsDelivery j bs) (sym (named_frame k)) its) (λ bs last met. met) (work_may e refl) refl no_halt
+          t (happens e a t) bodies (adding.deliver_adds hd form m p w stops s on k f) lines)
+          (λ bs its. subst (λ j. own.IsDelivery j bs) (sym (adding.named_frame hd form m p w stops s on k)) its) (λ bs last met. met)
+          (work_may e refl) refl no_halt
           (λ bs is. is)
           f.home (plain_works e to) (λ bs its. inr (λ n. refl))
       accepted (event.Tick n) a fit short none lines =
           let e = event.Tick n in
           let up = not_not (is_up_at n t) (first_not 2 (not (is_up_at n t)) []
           (first_not 1 (not (world.is_node n t)) ((2, not (is_up_at n t)) ∷ []) (world_none e none)).1).0 in
-          simple e bodies fit isnt n (happens e a t) (tick_adds n up) lines refl refl (λ bs last met. met) (λ bs is. is) refl
+          simple e bodies fit isnt n (happens e a t) (adding.tick_adds hd form m p w stops s on n up) lines refl refl (λ bs last met. met)
+          (λ bs is. is) refl
           (λ k. refl) refl
       accepted (event.Restart n) a fit short none lines =
           let e = event.Restart n in
           let at = first_not 1 (not (world.is_node n t)) ((3, is_up_at n t) ∷ []) (world_none e none) in
           let node = not_not (world.is_node n t) at.0 in
           let down = (first_not 3 (is_up_at n t) [] at.1).0 in
-          let r = restart_adds n node down in
+          let r = adding.restart_adds hd form m p w stops s on n node down in
           at_node e bodies fit isnt (finds n) r.0 n (happens e a t) (limit_parts (Led (finds n) r.0 n) t
           (happens e a t) bodies r.2 lines) r.1
           (λ bs last met. met) (restart_may n) refl (λ j. refl) (λ bs is. is) refl
@@ -1181,18 +463,21 @@ module _ (hd : Header) (form : HeaderInForm hd) where
       accepted (event.Abort l) a fit short none lines =
           let e = event.Abort l in
           let given = is_there l t (world_none e none) in
-          let q = asks_so l (input.Abort l) (finds_abort l) given (node_none e none) in
+          let q = adding.asks_so hd form m p w stops s on l (input.Abort l) (finds_abort l) given (node_none e none) in
           let at = node_of l t in
-          at_node e bodies fit isnt works (AreAbortedOf l) at (happens e a t) (limit_parts (Led works (AreAbortedOf l) at) t
-          (happens e a t) bodies (abort_adds turn l q) lines) (λ bs its. its) (λ bs last met. met) (work_may e refl) refl no_halt
+          at_node e bodies fit isnt works (adding.AreAbortedOf hd form m p w stops s on l) at (happens e a t) (limit_parts (Led works
+          (adding.AreAbortedOf hd form m p w stops s on l) at) t
+          (happens e a t) bodies (adding.abort_adds hd form m p w stops s on turn l q) lines) (λ bs its. its) (λ bs last met. met)
+          (work_may e refl) refl no_halt
           (λ bs is. is) q.home (plain_works e at) (λ bs its. inr (λ n. refl))
       accepted (event.GiveUp l) a fit short none lines =
           let e = event.GiveUp l in
           let given = is_there l t (world_none e none) in
-          let q = asks_so l (input.GiveUp l) (finds_giveup l) given (node_none e none) in
+          let q = adding.asks_so hd form m p w stops s on l (input.GiveUp l) (finds_giveup l) given (node_none e none) in
           let at = node_of l t in
           at_node e bodies fit isnt (loses l) (own.AreGiveUps l) at (happens e a t) (limit_parts (Led (loses l) (own.AreGiveUps l) at) t
-          (happens e a t) bodies (giveup_adds rising l q) lines) (λ bs its. its) (λ bs last met. met) (giveup_may l) refl (λ n. refl)
+          (happens e a t) bodies (adding.giveup_adds hd form m p w stops s on rising l q) lines) (λ bs its. its) (λ bs last met. met)
+          (giveup_may l) refl (λ n. refl)
           (λ bs is. is) q.home (λ bs goes. no_delivery e (loses l) at bs (λ j. refl) (λ j. refl) goes) (λ bs its. inr (λ n. refl))
 
     -- ---- an event
