@@ -1,15 +1,10 @@
 -- An abort ends the open actions below its own and then that one, the newest first, as the journal has them.
 use Rattle.arj_law_parts.proofs.Words
 use Words.{◌≡◌, ◌⊎◌, ◌∙◌, ◌≤◌, ◌<◌, ◌+◌, ◌==◌, ◌&&◌, ◌||◌, not, ℕ, zero, suc, Bool, true, false, cond, List, [], ◌∷◌, ◌++◌, filter}
-use Words.{length, map}
-use Words.{refl, sym, ap, subst, arith, nat_tests, inl, inr, ⊎_elim, Option, Some, None, is_some, In, append_assoc, append-nil, and_parts}
-use Words.{eqb-true}
-use Words.{filter-append, map-append, slice_get, in_filter, is_on, uid_eq, uid_is, uid_same, name, actor, Uid, Body}
-use Words.{Header, Label}
-use Words.{Branch, Coord, Doing, Node, Parts, Say, World, all_aborted, at_place, branch_named, branch_of}
-use Words.{ended}
-use Words.{ended_at, ended_branch, End, is_own, latest_first, is_open_below, open_below, say_for, says, uid_at, uids_of, Idle}
-use Words.{Tree}
+use Words.{length, map, refl, sym, ap, subst, arith, nat_tests, inl, inr, ⊎_elim, Option, Some, None, is_some, In, append_assoc}
+use Words.{append-nil, and_parts, eqb-true, filter-append, map-append, slice_get, in_filter, is_on, uid_eq, uid_is, uid_same, name, actor}
+use Words.{Uid, Body, Header, Label, Branch, Coord, Doing, Node, Parts, Say, World, all_aborted, at_place, branch_named, branch_of, ended}
+use Words.{ended_at, ended_branch, End, is_own, latest_first, is_open_below, open_below, say_for, says, uid_at, uids_of, Idle, Tree}
 use Words.{family_of, nat_le, root_of, set_place, with_family}
 use Words.body
 use Words.cause

@@ -1,22 +1,15 @@
 -- What an event about one action, one node or one frame adds at its node: own lines, and then work.
 use Rattle.arj_law_parts.proofs.Words
 use Words.{◌≡◌, ◌⊎◌, ◌∙◌, ◌+◌, ◌-◌, ◌≤◌, ◌<◌, ◌==◌, ◌&&◌, ◌||◌, ◌++◌, not, ℕ, zero, suc, Bool, true, false, cond, List, [], ◌∷◌, length}
-use Words.{refl, sym, ap}
-use Words.{subst, arith, nat_tests, inl, inr, ⊎_elim, Option, Some, None, is_some, list_all, and_parts, or_left, or_right, append_assoc}
-use Words.{append-nil}
-use Words.{map-append, length-append, eqb-true, bytes_eq-Decides, AllByRecursion, nat_lt, at_number, at_place, set_place, Body, Event}
-use Words.{Header}
-use Words.{Label, Kind, FrameNo, Op, Uid, Branch, Coord, Doing, Node, Parts, Input, Step, Arm, World, Frame, Labelled, Disk, Stop, Effect}
-use Words.{Say}
-use Words.{Send, Do, Line, Message, actor, armed, as_delivered, branch_named, change_frame, count_works, counted, cut, deliver}
-use Words.{deliver_frame}
-use Words.{disarmed, doing_of, done_step, first_reason, frame_number, frames_with, halted_at, halted_outs, happens, is_frame, is_given}
-use Words.{is_quiet}
-use Words.{is_up, is_up_at, kind_below, labelled, limited, lowest, most_frames, name, node_in, node_numbers, node_of, numbered, quiesce}
-use Words.{reasons}
-use Words.{refusal, refused_at, refused_by, sends, settle, settle_for, show_all, show_up, step, step_node, step_with, steps, tick_all}
-use Words.{tick_up}
-use Words.{uid_at, uids_of, world_from, worked, Move, moved, journal_by, IsInForm, Start, branch_of, acts, bodies, take}
+use Words.{refl, sym, ap, subst, arith, nat_tests, inl, inr, ⊎_elim, Option, Some, None, is_some, list_all, and_parts, or_left, or_right}
+use Words.{append_assoc, append-nil, map-append, length-append, eqb-true, bytes_eq-Decides, AllByRecursion, nat_lt, at_number, at_place}
+use Words.{set_place, Body, Event, Header, Label, Kind, FrameNo, Op, Uid, Branch, Coord, Doing, Node, Parts, Input, Step, Arm, World}
+use Words.{Frame, Labelled, Disk, Stop, Effect, Say, Send, Do, Line, Message, actor, armed, as_delivered, branch_named, change_frame}
+use Words.{count_works, counted, cut, deliver, deliver_frame, disarmed, doing_of, done_step, first_reason, frame_number, frames_with}
+use Words.{halted_at, halted_outs, happens, is_frame, is_given, is_quiet, is_up, is_up_at, kind_below, labelled, limited, lowest}
+use Words.{most_frames, name, node_in, node_numbers, node_of, numbered, quiesce, reasons, refusal, refused_at, refused_by, sends, settle}
+use Words.{settle_for, show_all, show_up, step, step_node, step_with, steps, tick_all, tick_up, uid_at, uids_of, world_from, worked, Move}
+use Words.{moved, journal_by, IsInForm, Start, branch_of, acts, bodies, take, bytes_eq}
 use Words.body
 use Words.cause
 use Words.event
@@ -25,7 +18,7 @@ use Words.frame_no
 use Words.input
 use Words.kind
 use Rattle.arj_law_runs.proofs.Terms.which
-use Rattle.arj_law_runs.proofs.Terms.{Act, Holds, IsMemory, IsUp, act_in, option_map, says}
+use Rattle.arj_law_runs.proofs.Terms.{Act, Holds, IsMemory, IsUp, act_in, option_map, says, keeps_asked}
 use Rattle.arj_law_runs.proofs.Terms as terms
 use Rattle.arj_law_parts.proofs.moves.Reasons.{first_not, not_not}
 use Rattle.arj_law_runs.proofs.journal.Ties.{named_label}
@@ -33,25 +26,19 @@ use Rattle.arj_law_runs.proofs.addresses.Runs.{within_of}
 use Rattle.arj_law_runs.proofs.follow.Frames as frames
 use Rattle.arj_law_runs.proofs.follow.Gone.{its_action}
 use Rattle.arj_law_runs.proofs.follow.Refusing as refusing
-use Rattle.arj_law_runs.proofs.follow.Refusing.{Came, IsRefused, IsRun}
+use Rattle.arj_law_runs.proofs.follow.Refusing.{Came, IsRefused, IsRun, same_bodies}
 use Rattle.arj_law_runs.proofs.follow.Shorts as shorts
-use Rattle.arj_law_runs.proofs.follow.Refusing.{same_bodies}
 use Rattle.arj_law_runs.proofs.follow.Telling.{frame_test}
 use Rattle.arj_law_runs.proofs.follow.Walking.{AreFor}
-use Rattle.arj_law_follow.proofs.causes.{Reasons.Finds, Standing.IsOne}
-use Rattle.arj_law_follow.proofs.causes.{Standing.its_uid, Standing.named_one, Standing.own_number}
+use Rattle.arj_law_follow.proofs.causes.{Reasons.Finds, Standing.IsOne, Standing.its_uid, Standing.named_one, Standing.own_number}
 use Rattle.arj_law_runs.proofs.follow.Uids.{count_of}
-use Rattle.arj_law_follow.proofs.lines.{Aborts.abort_lines, Numbers.AreInTurn}
-use Rattle.arj_law_follow.proofs.lines.{Saying.say_all}
-use Words.{bytes_eq}
-use Rattle.arj_law_runs.proofs.Terms.{keeps_asked}
+use Rattle.arj_law_follow.proofs.lines.{Aborts.abort_lines, Numbers.AreInTurn, Saying.say_all}
 use Rattle.arj_law_follow.proofs.lines.Rising.{KnowsRising}
 use Rattle.arj_law_follow.proofs.lines.Saying
 use Saying.{Adds, Led, Tells}
 use Rattle.arj_law_follow.proofs.lines.Steps
 use Steps.{IsBack, IsCommitLine, IsTaken, Nothing, abort_tells, call_tells, commit_tells, finds, frame_tells, giveup_tells, include_tells}
-use Steps.{loses}
-use Steps.{restart_tells}
+use Steps.{loses, restart_tells}
 use Rattle.arj_law_follow.proofs.lines.Working.{works}
 use Rattle.arj_law_follow.specs.lines.Lines.{BeginsCommitSo}
 use Rattle.arj_journal.specs.ScriptForm.{HeaderInForm}

@@ -1,9 +1,7 @@
 -- Which events begin an action, and that actions so stay in turn.
 use Rattle.arj_law_parts.proofs.Words
-use Words.{◌≡◌, ◌∙◌, ◌+◌, ◌&&◌, ◌++◌, ℕ, Bool, true, false, List, [], ◌∷◌, refl, sym, ap, subst, inl, inr, Option}
-use Words.{Some, None}
-use Words.{cond, list_all, and_parts, append_assoc, append-nil, map-append, Body, Event, Header, Label, Kind, Line}
-use Words.{Uid, name}
+use Words.{◌≡◌, ◌∙◌, ◌+◌, ◌&&◌, ◌++◌, ℕ, Bool, true, false, List, [], ◌∷◌, refl, sym, ap, subst, inl, inr, Option, Some, None, cond}
+use Words.{list_all, and_parts, append_assoc, append-nil, map-append, Body, Event, Header, Label, Kind, Line, Uid, name}
 use Words.body
 use Words.cause
 use Words.event

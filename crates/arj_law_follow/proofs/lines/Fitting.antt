@@ -1,9 +1,7 @@
 -- Lines that an event adds, as those that may stand in it, with the limit of frames behind them.
 use Rattle.arj_law_parts.proofs.Words
-use Words.{◌≡◌, ◌⊎◌, ◌∙◌, ◌&&◌, ◌||◌, ◌++◌, not, ℕ, Bool, true, false, cond, List, [], ◌∷◌, refl, sym, ap, inl}
-use Words.{inr, ⊎_elim}
-use Words.{Option, list_all, and_parts, append_assoc, append-nil, map-append, Body, World, limited}
-use Words.{numbered}
+use Words.{◌≡◌, ◌⊎◌, ◌∙◌, ◌&&◌, ◌||◌, ◌++◌, not, ℕ, Bool, true, false, cond, List, [], ◌∷◌, refl, sym, ap, inl, inr, ⊎_elim, Option}
+use Words.{list_all, and_parts, append_assoc, append-nil, map-append, Body, World, limited, numbered}
 use Words.body
 use Words.frame
 use Rattle.arj_law_runs.proofs.Terms.{says}

@@ -1,12 +1,7 @@
 -- Labels of one name are one label; and the node that a frame is for, by the journal and by the world.
 use Rattle.arj_law_parts.proofs.Words
-use Words.{◌≡◌, ◌∙◌, ◌-◌, ◌≤◌, ◌==◌, ◌&&◌, ◌||◌, ◌++◌, ℕ, Bool, true, false, cond, List, [], ◌∷◌, length}
-use Words.{refl, sym, ap}
-use Words.{arith, nat_tests, Option, Some, None, or_left, or_right}
-use Words.{eqb-true, Body}
-use Words.{Label}
-use Words.{Line}
-use Words.{name}
+use Words.{◌≡◌, ◌∙◌, ◌-◌, ◌≤◌, ◌==◌, ◌&&◌, ◌||◌, ◌++◌, ℕ, Bool, true, false, cond, List, [], ◌∷◌, length, refl, sym, ap, arith, nat_tests}
+use Words.{Option, Some, None, or_left, or_right, eqb-true, Body, Label, Line, name}
 use Words.body
 use Rattle.arj_model.specs.CausePends.{frame_is, sends as sends_frame}
 use Rattle.arj_model.specs.Own as own

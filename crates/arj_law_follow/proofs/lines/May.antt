@@ -1,23 +1,17 @@
 -- Lines of work as those that may stand in an event of each kind.
 use Rattle.arj_law_parts.proofs.Words
-use Words.{◌≡◌, ◌⊎◌, ◌∙◌, ◌==◌, ◌&&◌, ◌||◌, ◌++◌, ℕ, Bool, true, false, List, [], ◌∷◌}
-use Words.{refl, sym, ap}
-use Words.{subst, inl, inr, ⊎_elim, list_all, and_parts, or_left, or_right}
-use Words.{Body, Event}
-use Words.{Label}
-use Words.{name}
+use Words.{◌≡◌, ◌⊎◌, ◌∙◌, ◌==◌, ◌&&◌, ◌||◌, ◌++◌, ℕ, Bool, true, false, List, [], ◌∷◌, refl, sym, ap, subst, inl, inr, ⊎_elim, list_all}
+use Words.{and_parts, or_left, or_right, Body, Event, Label, name, bytes_eq}
 use Words.body
 use Words.cause
 use Words.event
-use Words.{bytes_eq}
 use Rattle.arj_law_follow.proofs.lines.Fitting
 use Fitting.{message_works}
 use Rattle.arj_law_follow.proofs.lines.Framed.{ArePlain, is_delivery_of, is_taken}
 use Rattle.arj_law_follow.proofs.lines.Saying
 use Saying.{Goes, Halts, Through, fits}
 use Rattle.arj_law_follow.proofs.lines.Steps
-use Steps.{finds}
-use Steps.{loses}
+use Steps.{finds, loses}
 use Rattle.arj_law_follow.proofs.lines.Working.{works}
 use Rattle.arj_law_follow.specs.lines.Lines.{may_stand_or_lose}
 use Rattle.arj_model.specs.Own as own

@@ -1,10 +1,7 @@
 -- Actions of one node and incarnation are numbered in the order in which they began, in the journal as in a coordinator's tree.
 use Rattle.arj_law_parts.proofs.Words
-use Words.{◌≡◌, ◌∙◌, ◌≤◌, ◌+◌, ◌==◌, ◌&&◌, ◌||◌, not, ℕ, zero, suc, Bool, true, false, cond, List, [], ◌∷◌, ◌++◌, filter, length}
-use Words.{map}
-use Words.{refl, sym, ap, subst, arith, inl, inr, Option, Some, None, In, and_parts}
-use Words.{eqb-true}
-use Words.{bytes_eq, is_on, list_any, Uid, Kind, Line}
+use Words.{◌≡◌, ◌∙◌, ◌≤◌, ◌+◌, ◌==◌, ◌&&◌, ◌||◌, not, ℕ, zero, suc, Bool, true, false, cond, List, [], ◌∷◌, ◌++◌, filter, length, map}
+use Words.{refl, sym, ap, subst, arith, inl, inr, Option, Some, None, In, and_parts, eqb-true, bytes_eq, is_on, list_any, Uid, Kind, Line}
 use Words.kind
 use Rattle.arj_law_runs.proofs.Terms.{Act, path, path_in, uids, upwards, AreDistinct}
 use Rattle.arj_law_runs.proofs.follow.Uids.{count_of}

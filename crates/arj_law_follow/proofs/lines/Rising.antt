@@ -2,24 +2,19 @@
 use Rattle.arj_law_parts.proofs.Words
 use Words.{◌≡◌, ◌∙◌, ◌+◌, ◌<◌, ◌==◌, not, ℕ, zero, suc, Bool, true, false, cond, List, [], ◌∷◌, ◌++◌, filter, refl, sym, ap, subst, ⊤}
 use Words.{Used, flat_map, map, AllByRecursion, Option, Some, None, Uid, Header, Kind, Label, Intent, again_all, begin_action, heard}
-use Words.{acked, acts, tick_outs}
-use Words.{with_coord}
-use Words.{Coord, Doing, Now, Idle, Calling, Committing, Plan, doing_of, is_empty, left_of, without_number, Disk, Do, Effect, Say, Send}
-use Words.{worked}
-use Words.{stopped, Parts, Input, Node, parent_of, parts_in, restart_outs, at_place, Seen, is_serial}
+use Words.{acked, acts, tick_outs, with_coord, Coord, Doing, Now, Idle, Calling, Committing, Plan, doing_of, is_empty, left_of}
+use Words.{without_number, Disk, Do, Effect, Say, Send, worked, stopped, Parts, Input, Node, parent_of, parts_in, restart_outs, at_place}
+use Words.{Seen, is_serial}
 use Rattle.arj_law_runs.proofs.Terms
 use Terms.{Keeps, at, given, posted, said, up, Up, Walks, halted, walks_both, IsKept, disk_by}
 use Rattle.arj_law_parts.proofs.coordinator
 use coordinator.{Works.KeepsWorks, Works.works_begun, Works.works_move}
 use coordinator.Trace.{AsksThem, ButOne, Came, IsAsked, NewPlan, NoneLeft, OfNaming, OfServers, OfStores, OldPlan, PlanFrom, StillAll}
-use coordinator.Trace.{Trace, Whom}
-use coordinator.Trace.{trace_keeps}
+use coordinator.Trace.{Trace, Whom, trace_keeps}
 use coordinator.Walks.{acts_trace, heard_trace, acked_trace, again_keeps}
 use Rattle.arj_law_parts.proofs.parts.Numbered.{AreUp, set_up}
 use Rattle.arj_law_runs.proofs.journal.Runs.{lines_keep}
-use Rattle.arj_law_runs.proofs.kept.{Parted.IsLeft, Parted.coord_kept, Starts.first_up}
-use Rattle.arj_law_runs.proofs.kept.{Walked.other_number}
-use Rattle.arj_law_runs.proofs.kept.{Walked.same_number}
+use Rattle.arj_law_runs.proofs.kept.{Parted.IsLeft, Parted.coord_kept, Starts.first_up, Walked.other_number, Walked.same_number}
 
 -- ---- one coordinator
 

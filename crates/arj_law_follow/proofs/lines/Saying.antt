@@ -1,12 +1,10 @@
 -- Which lines a step of a node writes: those of its effects, with its frames, and maybe its halt as the last.
 use Rattle.arj_law_parts.proofs.Words
 use Words.{◌≡◌, ◌∙◌, ◌+◌, ◌-◌, ◌==◌, ◌&&◌, ◌||◌, ◌++◌, not, ℕ, zero, suc, Bool, true, false, cond, List, [], ◌∷◌, length, map, refl, sym}
-use Words.{ap}
-use Words.{Option, Some, None, list_all, and_parts, or_left, or_right, append_assoc, nat_le, nat_lt, all_both, AreAll, Body, Message}
-use Words.{Effect, Say}
-use Words.{Send, Do, Disk, Stop, worked, Node, Step, Parts, ran, first_done, first_queued, whole, most_rounds, World, Arm}
-use Words.{armed, bodies, count_works, cut, disarmed, done_step, frame_kind, halted_at, halted_outs, most_frames, numbered}
-use Words.{sent_line, step_with}
+use Words.{ap, Option, Some, None, list_all, and_parts, or_left, or_right, append_assoc, nat_le, nat_lt, all_both, AreAll, Body, Message}
+use Words.{Effect, Say, Send, Do, Disk, Stop, worked, Node, Step, Parts, ran, first_done, first_queued, whole, most_rounds, World, Arm}
+use Words.{armed, bodies, count_works, cut, disarmed, done_step, frame_kind, halted_at, halted_outs, most_frames, numbered, sent_line}
+use Words.{step_with}
 use Words.body
 use Words.frame
 use Words.message

@@ -1,19 +1,9 @@
 -- What stands in events of several nodes: a settle, a quiesce, and ticks of all.
 use Rattle.arj_law_parts.proofs.Words
-use Words.{◌≡◌, ◌∙◌, ◌||◌, ◌++◌, not, ℕ, zero, suc, Bool, true, false, cond, List, [], ◌∷◌}
-use Words.{refl, sym, ap}
-use Words.{subst, inl, inr, Option, Some, None, list_all, append_assoc}
-use Words.{append-nil}
-use Words.{map-append, at_number, at_place, Body}
-use Words.{Header}
-use Words.{Node, Parts, Input, Step, World, Frame, Disk}
-use Words.{as_delivered, change_frame, cut, deliver}
-use Words.{deliver_frame}
-use Words.{halted_outs}
-use Words.{is_up_at, lowest, most_frames, node_numbers, numbered}
-use Words.{settle, settle_for, step, step_node, steps, tick_all}
-use Words.{tick_up}
-use Words.{bodies}
+use Words.{◌≡◌, ◌∙◌, ◌||◌, ◌++◌, not, ℕ, zero, suc, Bool, true, false, cond, List, [], ◌∷◌, refl, sym, ap, subst, inl, inr, Option, Some}
+use Words.{None, list_all, append_assoc, append-nil, map-append, at_number, at_place, Body, Header, Node, Parts, Input, Step, World}
+use Words.{Frame, Disk, as_delivered, change_frame, cut, deliver, deliver_frame, halted_outs, is_up_at, lowest, most_frames, node_numbers}
+use Words.{numbered, settle, settle_for, step, step_node, steps, tick_all, tick_up, bodies}
 use Words.body
 use Words.input
 use Rattle.arj_law_follow.proofs.lines.Fitting
@@ -21,9 +11,7 @@ use Fitting.{only_goes}
 use Rattle.arj_law_follow.proofs.lines.Saying
 use Saying.{Adds, Goes, Led, Tells, fits, is_message_line, list_both, step_adds}
 use Rattle.arj_law_follow.proofs.lines.Steps
-use Steps.{IsTaken, Nothing, frame_tells}
-use Steps.{nothing_tells}
-use Steps.{tick_tells}
+use Steps.{IsTaken, Nothing, frame_tells, nothing_tells, tick_tells}
 use Rattle.arj_law_follow.proofs.lines.Working.{works}
 
 -- ---- lines that stand in events of several nodes
