@@ -1,4 +1,5 @@
 // Why calls are answered as they are.
+ghost use Rattle.arj_law_cause.specs.operations.Runs.{RunsAnswerOperations};
 ghost use Rattle.arj_law_cause.specs.rows.Lines.{AnswersHaveCauses};
 
 /// In every run in form, wherever it begins and wherever disks stop, each line that answers a call with what its operation
@@ -14,4 +15,10 @@ ghost use Rattle.arj_law_cause.specs.rows.Lines.{AnswersHaveCauses};
 /// action runs where that is. It does nothing when it runs.
 pub fn answers_have_causes()
     ensures runs { AnswersHaveCauses }
+{}
+
+/// In every run in form, wherever it begins and wherever disks stop, each `ok` line has the text of an answer of the operation
+/// that it names: one that the operation gives at some value of a class that has it. It does nothing when it runs.
+pub fn answers_are_of_their_operations()
+    ensures runs { RunsAnswerOperations }
 {}

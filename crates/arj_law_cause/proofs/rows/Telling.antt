@@ -54,7 +54,7 @@ last_is [] e = refl
 last_is (a ∷ []) e = refl
 last_is (a ∷ b ∷ es) e = last_is (b ∷ es) e
 
-abbrev outs_in : Handled → List Effect
+abbrev pub outs_in : Handled → List Effect
 outs_in (Void outs) = outs
 outs_in (Took v outs) = outs
 
@@ -67,7 +67,7 @@ reply_in (Send to m) = answers m
 reply_in e = None
 
 -- an answer that is sent last is the part's
-same_reply : (from : ℕ) (h : Head) (r q : Reply) (front outs : List Effect) → front ++ Send from (response (asked_by h) r) ∷ [] ≡
+pub same_reply : (from : ℕ) (h : Head) (r q : Reply) (front outs : List Effect) → front ++ Send from (response (asked_by h) r) ∷ [] ≡
     outs ++ Send from (response (asked_by h) q) ∷ [] → r ≡ q
 same_reply from h r q front outs same =
     let one : Send from (response (asked_by h) r) ≡ Send from (response (asked_by h) q) =

@@ -70,7 +70,7 @@ module _ (k : Kind) where
 -- ---- classes
 
 -- what is read back is of the class
-real_class : (c : Class) (v : Value) → class_of v ≡ c → (bytes : List ℕ) → class_of (value_in c bytes) ≡ c
+pub real_class : (c : Class) (v : Value) → class_of v ≡ c → (bytes : List ℕ) → class_of (value_in c bytes) ≡ c
 real_class class.Entry (value.Counter n) is bytes = is
 real_class class.Entry (value.Register bs) is bytes = let no_way : ◌≡◌ {A = Class} class.Register class.Entry = is in cc
 real_class class.Entry (value.Account n) is bytes = let no_way : ◌≡◌ {A = Class} class.Account class.Entry = is in cc
