@@ -1,10 +1,10 @@
 -- Rows of causes: that each line of one kind has its cause, in every run.
 --
--- What is known of lines gives rows (`Forms`): of frames and of disks that stop (`Frames`), of plain refusals (`Refused`), of limits, by the
--- lines that events write (`Filling`, `Limit`), and of commits that are done (`Lines`, `Committed`). What is known at each moment gives
+-- What is known of lines gives rows (`Forms`): of frames and of disks that stop (`Frames`), of plain refusals (`Refused`), of limits, by
+-- the lines that events write (`Filling`, `Limit`), and of commits that are done (`Lines`, `Committed`). What is known at each moment gives
 -- rows of what nodes say, where each handler says what has its cause (`Walks`, `Nodes`), event by event in whole runs (`Running`): of
--- restarts (`Up`). Of quiesces, by the lines that events write: what was asked is what was accepted (`Accepted`), so no action waits where
--- every node is idle (`Waiting`, `Quiet`).
+-- restarts (`Up`), and, with what is known of lines, of records that they find (`Recovered`). Of quiesces, by the lines that events write:
+-- what was asked is what was accepted (`Accepted`), so no action waits where every node is idle (`Waiting`, `Quiet`).
 pub mod Forms
 pub mod Frames
 pub mod Refused
@@ -19,3 +19,4 @@ pub mod Up
 pub mod Accepted
 pub mod Waiting
 pub mod Quiet
+pub mod Recovered

@@ -1,5 +1,5 @@
 // Rows of causes: lines of the world, and what nodes do.
-ghost use Rattle.arj_law_cause.specs.kinds.Kinds.{is_armed, is_commit_done, is_dropped, is_got, is_halted, is_limit, is_plain_refusal, is_quiet, is_sent, is_up, is_void};
+ghost use Rattle.arj_law_cause.specs.kinds.Kinds.{is_armed, is_commit_done, is_dropped, is_found, is_got, is_halted, is_limit, is_plain_refusal, is_quiet, is_sent, is_up, is_void};
 ghost use Rattle.arj_law_cause.specs.kinds.Rows.{RowHolds, RowHoldsWhere};
 
 /// In every run in form, wherever it begins and wherever disks stop, each line of a frame has its cause by the events and the lines before
@@ -46,4 +46,10 @@ pub fn commits_done_have_causes()
 /// the events and the lines before it. It does nothing when it runs.
 pub fn quiesces_have_causes()
     ensures quiet { RowHolds is_quiet }
+{}
+
+/// In every such run a line `recovered` stands in a restart of its node, and is of a top that began there, whose commit was called, and of
+/// which no line says that it was aborted. It does nothing when it runs.
+pub fn recoveries_have_causes()
+    ensures found { RowHolds is_found }
 {}

@@ -82,7 +82,7 @@ to_cause h (body.Bad a) its k = absurd (cc its)
 to_cause h (body.Limit a) its k = absurd (cc its)
 
 -- the lines of a run are right
-right_lines : (hd : Header) (r : Run hd) → AreRight new_book (journal_by hd r)
+pub right_lines : (hd : Header) (r : Run hd) → AreRight new_book (journal_by hd r)
 right_lines hd r =
     let h : Holds hd KnowsAll (world_by hd r) = moves_asked hd KnowsAll (keeps_asked hd KnowsAll (halts_keep hd)) r in
     let k = h.holds in let written : IsWritten (see h.sent (world_by hd r)) = k.0.1 in written.right

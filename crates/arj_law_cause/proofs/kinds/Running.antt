@@ -24,7 +24,7 @@ use Rattle.arj_start.specs.Start.{fresh}
 use Rattle.std.specs.Prelude.{drop}
 use Rattle.arj_law_cause.proofs.kinds.Walks as walks
 use Rattle.arj_law_cause.proofs.kinds.Forms.{behind_block}
-use Rattle.arj_law_cause.specs.kinds.Rows.{RowStep, row}
+use Rattle.arj_law_cause.specs.kinds.Rows.{TestedStep, tested}
 
 -- What is known beside a relation that is kept: what holds of the world between events gives it as an event comes, and each handler keeps
 -- it in the event.
@@ -52,10 +52,11 @@ nothing_more hd G steps = record {
   back = λ w M c. c;
 }
 
-module _ (of : Body → Bool) (quiet : (b : Body) → is_quiet_line b ≡ true → of b ≡ false) (halts : (k : ℕ) → of (body.Halted k) ≡ false)
+module _ (test : Here → Body → Bool) (of : Body → Bool) (quiet : (b : Body) → is_quiet_line b ≡ true → of b ≡ false)
+    (halts : (k : ℕ) → of (body.Halted k) ≡ false)
     (hd : Header) (G : Moment → Type 0) (keeps : KeepsAll hd G) (K : Knows hd G)
     (well : (st : Start) (q : Past) (e : Event) (w : World) → (let k = K in k.Between w) → q.lines ≡ w.lines → q.count ≡ w.event →
-    walks.SaysWell hd of quiet halts st q e (let k = K in k.In w)) where
+    walks.SaysWell test hd of quiet halts st q e (let k = K in k.In w)) where
   -- lines of the kind, wherever they come
   abbrev kind : Here → Body → Bool
   kind h = of
@@ -108,7 +109,7 @@ module _ (of : Body → Bool) (quiet : (b : Body) → is_quiet_line b ≡ true �
     q = record p { start = fresh }
 
     abbrev Inside : Moment → Type 0
-    Inside = walks.Inside hd of quiet halts p.start q e
+    Inside = walks.Inside test hd of quiet halts p.start q e
 
     abbrev Both : Moment → Type 0
     Both M = K.In (record w { arms = m.falls }) M × Inside M
@@ -117,7 +118,7 @@ module _ (of : Body → Bool) (quiet : (b : Body) → is_quiet_line b ≡ true �
     here = K.arms w m.falls s.between
 
     both_steps : KeepsSteps hd Both
-    both_steps = walks.inside_steps hd of quiet halts p.start q e (K.In u) (K.steps u here) (well p.start q e u here s.lines s.count)
+    both_steps = walks.inside_steps test hd of quiet halts p.start q e (K.In u) (K.steps u here) (well p.start q e u here s.lines s.count)
 
     held : HoldsWith hd G s.past u
     held = same_look s.past w m.falls s.holds
@@ -154,12 +155,13 @@ module _ (of : Body → Bool) (quiet : (b : Body) → is_quiet_line b ≡ true �
     -- The event is over, and left this world.
     closed : (g : History) (v : World) → g.run ≡ s.past.run → g.event ≡ e → g.number ≡ (let h = s.past in h.number) + 1 →
         HoldsAt hd Both g v
-        → moved m w ≡ record v { arms = [] } → Outcome (RowStep kind hd) Stands m p w
+        → moved m w ≡ record v { arms = [] } → Outcome (TestedStep test kind hd) Stands m p w
     closed g v same its number h is =
         let bs = written u v in
         let i = h.holds.1 in
         let wrote : i.wrote ≡ written u v = sym its_bodies in
-        Went bs (fits bs (subst (λ cs. are_so (row kind) (walks.first_here hd of quiet halts p.start q e) cs ≡ true) wrote i.fit)) (record {
+        Went bs (fits bs (subst (λ cs. are_so (tested test kind) (walks.first_here test hd of quiet halts p.start q e) cs ≡ true) wrote i.fit))
+        (record {
           lines = (λ j. p.lines ++ block (p.count + 1) (sym wrote j)) ∙ sym i.lines ∙ ap (λ (x : World). x.lines) (sym is);
           count = sym (sym h.number ∙ number ∙ (λ j. number_is j + 1)) ∙ ap (λ (x : World). x.event) (sym is);
           start = ap (λ (x : World). x.start) is ∙ i.start;
@@ -183,7 +185,8 @@ module _ (of : Body → Bool) (quiet : (b : Body) → is_quiet_line b ≡ true �
             (λ j. map (λ (l : Line). l.body) (drop (length (sym s.lines j)) (i.lines j))) ∙ behind_block p.lines (p.count + 1) i.wrote
 
         -- a refusal isn't of the kind, and any other line comes where the event was accepted
-        fits : (bs : List Body) → are_so (row kind) (walks.first_here hd of quiet halts p.start q e) bs ≡ true → RowStep kind hd p e bs
+        fits : (bs : List Body) → are_so (tested test kind) (walks.first_here test hd of quiet halts p.start q e) bs ≡ true →
+            TestedStep test kind hd p e bs
         fits bs fit = by (is_refused bs) refl
           where
             at : Bool → Here
@@ -201,11 +204,11 @@ module _ (of : Body → Bool) (quiet : (b : Body) → is_quiet_line b ≡ true �
             none (body.Refused c ∷ []) is = λ i. not (quiet (body.Refused c) refl i) && true
             none cs is = absurd (cc is)
 
-            by : (b : Bool) → is_refused bs ≡ b → are_so (row kind) (at b) bs ≡ true
+            by : (b : Bool) → is_refused bs ≡ b → are_so (tested test kind) (at b) bs ≡ true
             by false is = fit
-            by true is = walks.none_rows kind (at true) bs (λ g. none bs is)
+            by true is = walks.none_pass test kind (at true) bs (λ g. none bs is)
 
-    goes : Outcome (RowStep kind hd) Stands m p w
+    goes : Outcome (TestedStep test kind hd) Stands m p w
     goes = by (first_reason (reasons e u)) refl
       where
         moved_is : (v : World) → run_unless e arm u (first_reason (reasons e u)) ≡ v → moved m w ≡ record v { arms = [] }
@@ -221,7 +224,8 @@ module _ (of : Body → Bool) (quiet : (b : Body) → is_quiet_line b ≡ true �
             at None = refl
             at (Some n) = refl
 
-        run_so : first_reason (reasons e u) ≡ None → (b : Bool) → lacks_labels (giving e u) u ≡ b → Outcome (RowStep kind hd) Stands m p w
+        run_so : first_reason (reasons e u) ≡ None → (b : Bool) → lacks_labels (giving e u) u ≡ b →
+            Outcome (TestedStep test kind hd) Stands m p w
         run_so none true full =
             let is = moved_is (no_labels u) (ap (run_unless e arm u) none
             ∙ (λ i. cond (full i) (no_labels u) (limited (happens e arm (counted u))))) in
@@ -235,7 +239,7 @@ module _ (of : Body → Bool) (quiet : (b : Body) → is_quiet_line b ≡ true �
             closed g v same.0 (same_event (writes.asks e u)) same.1
             (happened hd Both both_steps e arm s.past u none fresh_lines opened) is
 
-        by : (r : Option ℕ) → first_reason (reasons e u) ≡ r → Outcome (RowStep kind hd) Stands m p w
+        by : (r : Option ℕ) → first_reason (reasons e u) ≡ r → Outcome (TestedStep test kind hd) Stands m p w
         by None is = run_so is (lacks_labels (giving e u) u) refl
         by (Some c) is =
             let v = says (body.Refused c ∷ []) (counted u) in
@@ -266,7 +270,8 @@ module _ (of : Body → Bool) (quiet : (b : Body) → is_quiet_line b ≡ true �
     between = K.first st formed;
   }
 
-  pub row_run : (r : Run hd) → IsInForm hd r → Runs (RowStep kind hd) r.start (run_events hd r) (journal_by hd r)
+  pub row_run : (r : Run hd) → IsInForm hd r → Runs (TestedStep test kind hd) r.start (run_events hd r) (journal_by hd r)
   row_run r form =
-      runs_along (RowStep kind hd) Stands IsStoppedInForm (λ p w s. s.lines) (λ p w s. s.count) (λ m p w stops s on. goes m p w s on)
+      runs_along (TestedStep test kind hd) Stands IsStoppedInForm (λ p w s. s.lines) (λ p w s. s.count)
+      (λ m p w stops s on. goes m p w s on)
       r.start r.moves (world_from hd r.start) form.stops (first_so r.start r.formed)

@@ -18,6 +18,7 @@ use Rattle.arj_law_runs.proofs.follow.Halts as halts
 use Rattle.arj_law_runs.proofs.follow.Uids.{KnowsNext, next_keep}
 use Rattle.arj_law_runs.proofs.kept.Walked.{same_number}
 use Rattle.arj_model.specs.CauseNodes.{restarts}
+use Rattle.arj_model.specs.Caused.{has_cause}
 use Rattle.arj_model.specs.Past.{Past}
 use Rattle.arj_model.specs.Refusals.{incarnation}
 use Rattle.arj_law_cause.proofs.kinds.Nodes.{all_too, wide_all}
@@ -34,21 +35,21 @@ no_halt : (k : ℕ) → is_up (body.Halted k) ≡ false
 no_halt k = refl
 
 module _ (hd : Header) (st : Start) (q : Past) (e : Event) where
-  still_none : (x : Effect) → says_still x ≡ true → walks.says_none hd is_up quiet no_halt st q e x ≡ true
+  still_none : (x : Effect) → says_still x ≡ true → walks.says_none has_cause hd is_up quiet no_halt st q e x ≡ true
   still_none (Say (body.Up n i)) is = absurd (cc is)
   still_none (Say b) is = refl
   still_none (Send to m) is = refl
   still_none (Do w) is = refl
 
-  still_well : (es : List Effect) (ls : List Line) → Still es → walks.Well hd is_up quiet no_halt st q e es ls
-  still_well es ls still = walks.none_well hd is_up quiet no_halt st q e es ls
-      (all_too says_still (walks.says_none hd is_up quiet no_halt st q e) still_none es still)
+  still_well : (es : List Effect) (ls : List Line) → Still es → walks.Well has_cause hd is_up quiet no_halt st q e es ls
+  still_well es ls still = walks.none_well has_cause hd is_up quiet no_halt st q e es ls
+      (all_too says_still (walks.says_none has_cause hd is_up quiet no_halt st q e) still_none es still)
 
   -- the incarnation that a restart puts is above the journal's
   restart_well : (k : ℕ) (d : Disk) (M : Moment) → M.past.event ≡ event.Restart k →
       Wide KnowsNext (record M { seen = seen.down k d M.seen }) →
-      walks.Inside hd is_up quiet no_halt st q e M →
-      walks.Well hd is_up quiet no_halt st q e (restart_outs hd k (d.inc + 1) d) M.seen.lines
+      walks.Inside has_cause hd is_up quiet no_halt st q e M →
+      walks.Well has_cause hd is_up quiet no_halt st q e (restart_outs hd k (d.inc + 1) d) M.seen.lines
   restart_well k d M its known h =
       let M2 = seen.with_sent known.0 M.seen in
       let all = known.2 in
@@ -67,7 +68,7 @@ module _ (hd : Header) (st : Start) (q : Past) (e : Event) where
       up_is : incarnation st M.seen.lines k ≤ d.inc → (restarts k e && nat_lt (incarnation st M.seen.lines k) (d.inc + 1)) ≡ true
       up_is low = λ i. (ap (restarts k) (sym h.event ∙ its) ∙ same_number k) i && below (incarnation st M.seen.lines k) d.inc low i
 
-  well : walks.SaysWell hd is_up quiet no_halt st q e (Wide KnowsNext)
+  well : walks.SaysWell has_cause hd is_up quiet no_halt st q e (Wide KnowsNext)
   well = record {
     message = λ k d t v from m outs M known h there meant may is. still_well outs M.seen.lines
         (subst (λ (x : Handled). Still (outs_of x)) ((λ i. cond (meant i) (handle k d t from m) (Void [])) ∙ is) (taken_good k d t from m));
@@ -89,5 +90,5 @@ module _ (hd : Header) (st : Start) (q : Past) (e : Event) where
 pub up_row : RowHolds is_up
 up_row hd =
     let keeps = wide_all hd KnowsNext (next_keep hd) in
-    row_run is_up quiet no_halt hd (Wide KnowsNext) keeps (nothing_more hd (Wide KnowsNext) keeps.steps)
+    row_run has_cause is_up quiet no_halt hd (Wide KnowsNext) keeps (nothing_more hd (Wide KnowsNext) keeps.steps)
     (λ st q e w between lines count. well hd st q e)

@@ -18,7 +18,7 @@ use Rattle.arj_law_runs.specs.follow.Frames.{are_so}
 use Rattle.arj_model.specs.CauseSpans.{Here, behind}
 use Rattle.arj_model.specs.Caused.{has_cause}
 use Rattle.arj_model.specs.Past.{Past, asked_of}
-use Rattle.arj_law_cause.specs.kinds.Rows.{row}
+use Rattle.arj_law_cause.specs.kinds.Rows.{row, tested}
 
 -- ---- lines behind one another
 
@@ -33,24 +33,37 @@ so_both f h [] bs first more = more
 so_both f h (c ∷ cs) bs first more =
     let p = and_parts (f h c) (are_so f (behind h c) cs) first in λ i. p.0 i && so_both f (behind h c) cs bs p.1 more i
 
--- a line of another kind needs no cause
-pub other_row : (of : Here → Body → Bool) (h : Here) (b : Body) → of h b ≡ false → row of h b ≡ true
-other_row of h b other = λ i. not (other i) || has_cause h b
+-- a line of another kind passes
+pub others_pass : (test of : Here → Body → Bool) (h : Here) (b : Body) → of h b ≡ false → tested test of h b ≡ true
+others_pass test of h b other = λ i. not (other i) || test h b
 
-pub none_rows : (of : Here → Body → Bool) (h : Here) (bs : List Body) → ((g : Here) → list_all (λ b. not (of g b)) bs ≡ true) →
-    are_so (row of) h bs ≡ true
-none_rows of h [] none = refl
-none_rows of h (b ∷ bs) none =
-    λ i. at h (of h b) refl i && none_rows of (behind h b) bs (λ g. (and_parts (not (of g b)) (list_all (λ c. not (of g c)) bs)
+pub none_pass : (test of : Here → Body → Bool) (h : Here) (bs : List Body) → ((g : Here) → list_all (λ b. not (of g b)) bs ≡ true) →
+    are_so (tested test of) h bs ≡ true
+none_pass test of h [] none = refl
+none_pass test of h (b ∷ bs) none =
+    λ i. at h (of h b) refl i && none_pass test of (behind h b) bs (λ g. (and_parts (not (of g b)) (list_all (λ c. not (of g c)) bs)
     (none g)).1) i
   where
-    at : (g : Here) (x : Bool) → of g b ≡ x → row of g b ≡ true
-    at g false is = other_row of g b is
+    at : (g : Here) (x : Bool) → of g b ≡ x → tested test of g b ≡ true
+    at g false is = others_pass test of g b is
     at g true is =
         let no_way : not (of g b) ≡ true = (and_parts (not (of g b)) (list_all (λ c. not (of g c)) bs) (none g)).0 in
         absurd (cc (ap not (sym is) ∙ no_way))
 
-module _ (hd : Header) (of : Body → Bool) (quiet : (b : Body) → is_quiet_line b ≡ true → of b ≡ false)
+-- none needs a cause
+pub none_rows : (of : Here → Body → Bool) (h : Here) (bs : List Body) → ((g : Here) → list_all (λ b. not (of g b)) bs ≡ true) →
+    are_so (row of) h bs ≡ true
+none_rows = none_pass has_cause
+
+pub other_row : (of : Here → Body → Bool) (h : Here) (b : Body) → of h b ≡ false → row of h b ≡ true
+other_row = others_pass has_cause
+
+-- what an effect says passes
+abbrev pub says_so : (Body → Bool) → Effect → Bool
+says_so ok (Say b) = ok b
+says_so ok _ = true
+
+module _ (test : Here → Body → Bool) (hd : Header) (of : Body → Bool) (quiet : (b : Body) → is_quiet_line b ≡ true → of b ≡ false)
     (halts : (k : ℕ) → of (body.Halted k) ≡ false) (st : Start) (q : Past) (e : Event) where
   -- lines of the kind, wherever they come
   abbrev pub kind : Here → Body → Bool
@@ -71,15 +84,15 @@ module _ (hd : Header) (of : Body → Bool) (quiet : (b : Body) → is_quiet_lin
   abbrev pub here_behind : List Line → Here
   here_behind ls = record first_here { lines = ls }
 
-  -- Each line of the kind that these effects say has its cause, behind these lines and those of the effects before it. A frame may make
+  -- Each line of the kind that these effects say passes the test, behind these lines and those of the effects before it. A frame may make
   -- lines of its own.
   abbrev pub Well : List Effect → List Line → Type 0
   Well [] ls = ⊤
   Well (Do w ∷ es) ls = Well es ls
-  Well (Say b ∷ es) ls = (row kind (here_behind ls) b ≡ true) × Well es (ls ++ numbered (q.count + 1) (b ∷ []))
+  Well (Say b ∷ es) ls = (tested test kind (here_behind ls) b ≡ true) × Well es (ls ++ numbered (q.count + 1) (b ∷ []))
   Well (Send to m ∷ es) ls = (more : List Body) → AreQuiet more → Well es (ls ++ numbered (q.count + 1) more)
 
-  -- a moment of the event: all lines behind the first ones are of it, and those of the kind have their causes
+  -- a moment of the event: all lines behind the first ones are of it, and those of the kind pass the test
   pub record Inside (M : Moment) : Type 0 where
     pub event : M.past.event ≡ e
     pub run : M.past.run ≡ q
@@ -87,9 +100,10 @@ module _ (hd : Header) (of : Body → Bool) (quiet : (b : Body) → is_quiet_lin
     pub start : M.seen.start ≡ st
     pub wrote : List Body
     pub lines : M.seen.lines ≡ q.lines ++ numbered (q.count + 1) wrote
-    pub fit : are_so (row kind) first_here wrote ≡ true
+    pub fit : are_so (tested test kind) first_here wrote ≡ true
 
-  pub said_inside : (bs : List Body) (M : Moment) → are_so (row kind) (here_behind M.seen.lines) bs ≡ true → Inside M → Inside (said bs M)
+  pub said_inside : (bs : List Body) (M : Moment) → are_so (tested test kind) (here_behind M.seen.lines) bs ≡ true → Inside M →
+      Inside (said bs M)
   said_inside bs M fit h = record {
     event = h.event;
     run = h.run;
@@ -99,8 +113,9 @@ module _ (hd : Header) (of : Body → Bool) (quiet : (b : Body) → is_quiet_lin
     lines = (λ i. h.lines i ++ numbered (h.number i) bs)
         ∙ append_assoc q.lines (numbered (q.count + 1) h.wrote) (numbered (q.count + 1) bs)
         ∙ ap (λ ls. q.lines ++ ls) (sym (map-append (λ (b : Body). record { event = q.count + 1; body = b }) h.wrote bs));
-    fit = so_both (row kind) first_here h.wrote bs h.fit
-        (subst (λ g. are_so (row kind) g bs ≡ true) (sym (behind_lines first_here h.wrote ∙ (λ i. here_behind (sym h.lines i)))) fit);
+    fit = so_both (tested test kind) first_here h.wrote bs h.fit
+        (subst (λ g. are_so (tested test kind) g bs ≡ true)
+        (sym (behind_lines first_here h.wrote ∙ (λ i. here_behind (sym h.lines i)))) fit);
   }
 
   pub same_inside : (M N : Moment) → N.past ≡ M.past → N.seen.start ≡ M.seen.start → N.seen.lines ≡ M.seen.lines → Inside M → Inside N
@@ -116,7 +131,7 @@ module _ (hd : Header) (of : Body → Bool) (quiet : (b : Body) → is_quiet_lin
 
   -- lines of another kind
   none_inside : (bs : List Body) (M : Moment) → list_all (λ b. not (of b)) bs ≡ true → Inside M → Inside (said bs M)
-  none_inside bs M none h = said_inside bs M (none_rows kind (here_behind M.seen.lines) bs (λ g. none)) h
+  none_inside bs M none h = said_inside bs M (none_pass test kind (here_behind M.seen.lines) bs (λ g. none)) h
 
   halted_inside : (k : ℕ) (d : Disk) (M : Moment) → Inside M → Inside (halted k d M)
   halted_inside k d M h = none_inside (body.Halted k ∷ []) (at k d None M) (λ i. not (halts k i) && true)
@@ -188,14 +203,24 @@ module _ (hd : Header) (of : Body → Bool) (quiet : (b : Body) → is_quiet_lin
       let p = and_parts (not (of b)) (list_all says_none es) none in
       (by (of b) refl p.0, none_well es (ls ++ numbered (q.count + 1) (b ∷ [])) p.1)
     where
-      by : (x : Bool) → of b ≡ x → not (of b) ≡ true → row kind (here_behind ls) b ≡ true
-      by false is free = other_row kind (here_behind ls) b is
+      by : (x : Bool) → of b ≡ x → not (of b) ≡ true → tested test kind (here_behind ls) b ≡ true
+      by false is free = others_pass test kind (here_behind ls) b is
       by true is free = absurd (cc (ap not (sym is) ∙ free))
   none_well (Send to m ∷ es) ls none = λ more are. none_well es (ls ++ numbered (q.count + 1) more) none
 
+  -- effects of which each line that passes another test passes this one too
+  pub each_well : (ok : Body → Bool) → ((ls : List Line) (b : Body) → ok b ≡ true → tested test kind (here_behind ls) b ≡ true) →
+      (es : List Effect) (ls : List Line) → list_all (says_so ok) es ≡ true → Well es ls
+  each_well ok to [] ls all = tt
+  each_well ok to (Do w ∷ es) ls all = each_well ok to es ls all
+  each_well ok to (Say b ∷ es) ls all =
+      let p = and_parts (ok b) (list_all (says_so ok) es) all in
+      (to ls b p.0, each_well ok to es (ls ++ numbered (q.count + 1) (b ∷ [])) p.1)
+  each_well ok to (Send to_node m ∷ es) ls all = λ more are. each_well ok to es (ls ++ numbered (q.count + 1) more) all
+
   -- ---- handlers
 
-  -- Each handler says what has its cause, where so much is known.
+  -- Each handler says what passes the test, where so much is known.
   pub record SaysWell (G : Moment → Type 0) : Type 0 where
     pub message : (k : ℕ) (d : Disk) (t v : Parts) (from : ℕ) (m : Message) (outs : List Effect) (M : Moment) → G (up k d t M) → Inside M →
         In (record { from = from; to = k; message = m }) M.seen.sent → is_meant t m ≡ true → MayTake M.past.event m →

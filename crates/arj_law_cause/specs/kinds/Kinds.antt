@@ -60,3 +60,8 @@ is_commit_done _ = false
 abbrev pub is_quiet : Body → Bool
 is_quiet (body.Quiet still) = true
 is_quiet _ = false
+
+-- a restart found the record of a top
+abbrev pub is_found : Body → Bool
+is_found (body.Recovered n u) = true
+is_found _ = false

@@ -10,9 +10,17 @@ use Rattle.arj_model.specs.Follows.{Runs}
 use Rattle.arj_model.specs.Past.{Past}
 use Rattle.arj_promise.specs.Runs.{IsInForm, Run, journal_by}
 
+-- a line passes this test, if it is one of these
+abbrev pub tested : (Here → Body → Bool) → (Here → Body → Bool) → Here → Body → Bool
+tested test of h b = not (of h b) || test h b
+
 -- a line has its cause, if it is one of these
 abbrev pub row : (Here → Body → Bool) → Here → Body → Bool
-row of h b = not (of h b) || has_cause h b
+row of h b = tested has_cause of h b
+
+-- each line that an event wrote passes the test, behind those before it, if it is one of these
+abbrev pub TestedStep : (Here → Body → Bool) → (Here → Body → Bool) → Header → Past → Event → List Body → Type 0
+TestedStep test of hd past e bodies = are_so (tested test of) (here_at hd past e bodies) bodies ≡ true
 
 -- so it is of each line that an event wrote, behind those before it
 abbrev pub RowStep : (Here → Body → Bool) → Header → Past → Event → List Body → Type 0
