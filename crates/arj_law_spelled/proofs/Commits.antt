@@ -1,10 +1,14 @@
 -- Commits under way use few objects, name few ends and mark few stores, in every run.
 use Rattle.arj_law_parts.proofs.Words
-use Words.{◌≡◌, ◌≢◌, ◌≤◌, ◌<◌, ◌+◌, ◌∙◌, ◌&&◌, ◌==◌, arith, ℕ, zero, suc, Bool, true, false, cond, List, [], ◌∷◌, length, map, refl, ap, sym}
-use Words.{subst, ⊎_elim, AllByRecursion, IfSome, Option, Some, None, nat_le, and_parts, leb-true, length-map, has, Asked, Effect, Header, Kind}
+use Words.{◌≡◌, ◌≢◌, ◌≤◌, ◌<◌, ◌+◌, ◌∙◌, ◌&&◌, ◌==◌, arith, ℕ, zero, suc, Bool, true, false, cond, List, [], ◌∷◌, length, map, refl, ap}
+use Words.{sym}
+use Words.{subst, ⊎_elim, AllByRecursion, IfSome, Option, Some, None, nat_le, and_parts, leb-true, length-map, has, Asked, Effect, Header}
+use Words.{Kind}
 use Words.{Label, Message, ObjectState, Path, Uid, actor, object, again_all, begin_action, is_serial, last_req, tick_outs, Reply}
-use Words.{waits_for_commit, Machine, Plan, Used, left_of, plan_of, Committing, Coord, Doing, Root, doing_of, new_coord, objects_in, plan_for}
-use Words.{root_at, used_of, number_set, joins_on, Joined, Disk, Intent, Parts, Took, handle, with_coord, Input, Node, acts, parent_of, parts_in}
+use Words.{waits_for_commit, Machine, Plan, Used, left_of, plan_of, Committing, Coord, Doing, Root, doing_of, new_coord, objects_in}
+use Words.{plan_for}
+use Words.{root_at, used_of, number_set, joins_on, Joined, Disk, Intent, Parts, Took, handle, with_coord, Input, Node, acts, parent_of}
+use Words.{parts_in}
 use Words.{restart_outs, Branch, at_place, is_own, root_of, Seen, uid_eq, ask_kind, reply_kind, ask_of}
 use Words.input
 use Rattle.arj_law_promise.proofs.Terms
@@ -67,9 +71,9 @@ module _ (hd : Header) (form : HeaderInForm hd) where
   -- increasing numbers of nodes are few
   pub few_nodes : (ns : List ℕ) → AreRising ns → AreOf (IsNode hd) ns → length ns ≤ 16
   few_nodes ns up all =
-      let most = few_between 1 17 ns (omega arith) up (all_each (IsNode hd) (λ n. (1 ≤ n) × (n < 17)) ns (λ n is. (let b = node_number n is in
-      let high = b.1 in
-      (b.0, omega (arith, high)))) all) in
+      let low_high = all_each (IsNode hd) (λ n. (1 ≤ n) × (n < 17)) ns
+      (λ n is. (let b = node_number n is in let high = b.1 in (b.0, omega (arith, high)))) all in
+      let most = few_between 1 17 ns (omega arith) up low_high in
       omega (arith, most)
 
 -- ---- what is known of a commit under way
@@ -188,7 +192,8 @@ module _ (hd : Header) (form : HeaderInForm hd) where
         by (cases.OfParts mine same plain sent_to) = subst (AreAt IsFew) (sym same) own
         by (cases.Asks u query same outs_are) = subst (AreAt IsFew) (sym same) own
         by (cases.Heard a r some same outs_are) = subst (AreAt IsFew) same (at_heard IsFew t.coord own from a r d.intents
-            (λ q n does is waits its. answered_few a.act from n r (of_few hd form k d t M base a.act q does n is) (waits_on from a r n waits)
+            (λ q n does is waits its. answered_few a.act from n r (of_few hd form k d t M base a.act q does n is) (waits_on from a r n
+            waits)
             its))
         by (cases.Acks u which same outs_are) = subst (AreAt IsFew) same (at_acked IsFew t.coord own from u d.intents)
 
@@ -224,7 +229,8 @@ module _ (hd : Header) (form : HeaderInForm hd) where
       ups_at Few k d None M (halted e k d M) (λ j. refl) (others_up Few k d live M g.1) (λ t is. absurd (cc is)),
     );
     message = λ e k d t v from m outs M g there meant is. both e k outs v d M (keeps.message e k d t v from m outs M g.0 there meant is)
-        (ups_walk Few k e v (message_few k d t M g.0 (others_here k d t M g.1) from m v outs is) outs d M (others_up Few k d (Some t) M g.1));
+        (ups_walk Few k e v (message_few k d t M g.0 (others_here k d t M g.1) from m v outs is) outs d M (others_up Few k d (Some t) M
+        g.1));
     act = λ e k d t i M is asks free g. let did = acts i d.intents t.coord in both e k did.outs (with_coord t did.part) d M
         (keeps.act e k d t i M is asks free g.0)
         (ups_walk Few k e (with_coord t did.part) (acts_few k d t M g.0 (others_here k d t M g.1) i (other i is)) did.outs d M

@@ -125,6 +125,7 @@ all_mark Q m (k ∷ ks) its all = by (nat_lt k.0 m.0 || ((k.0 == m.0) && nat_lt 
     by true ih = (all.0, ih)
     by false ih = (its, all)
 
-pub all_marks : (Q : ℕ × ℕ → Type 0) (ms ks : List (ℕ × ℕ)) → AllByRecursion Q ms → AllByRecursion Q ks → AllByRecursion Q (with_marks ms ks)
+pub all_marks : (Q : ℕ × ℕ → Type 0) (ms ks : List (ℕ × ℕ)) → AllByRecursion Q ms → AllByRecursion Q ks →
+    AllByRecursion Q (with_marks ms ks)
 all_marks Q [] ks its all = all
 all_marks Q (m ∷ ms) ks its all = all_marks Q ms (with_mark m ks) its.1 (all_mark Q m ks its.0 all)

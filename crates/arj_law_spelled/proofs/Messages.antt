@@ -1,7 +1,9 @@
 -- Each message that was sent can be spelled, but for what is left to say of it.
 use Rattle.arj_law_parts.proofs.Words
-use Words.{◌≡◌, ◌≤◌, ◌∙◌, arith, ℕ, List, length, Option, Some, None, AllByRecursion, refl, sym, ap, subst, false, true, Ask, Asked, Binding, BoundReply}
-use Words.{ConfirmedReply, End, Head, Header, LoadedReply, Message, Op, PreparedReply, ObjectState, Uid, VotedReply, asks, Reply, answers, Node, Post}
+use Words.{◌≡◌, ◌≤◌, ◌∙◌, arith, ℕ, List, length, Option, Some, None, AllByRecursion, refl, sym, ap, subst, false, true, Ask, Asked}
+use Words.{Binding, BoundReply}
+use Words.{ConfirmedReply, End, Head, Header, LoadedReply, Message, Op, PreparedReply, ObjectState, Uid, VotedReply, asks, Reply, answers}
+use Words.{Node, Post}
 use Words.{Seen, World, see, world_by, is_some}
 use Words.ask
 use Words.bound
@@ -21,13 +23,13 @@ use Rattle.arj_law_runs.proofs.coordinators.RunCoords.{few_ends}
 use Rattle.arj_law_runs.specs.addresses.Addresses.{AnsweredOf, AreOf, AreSo, BoundOf, PostOf, IsNode as IsOfHeader}
 use Rattle.arj_law_spelled.proofs.Commits.{node_number, object_number, room}
 use Rattle.arj_law_spelled.proofs.Names.{NamesSo, few_stores, names_keep}
-use Rattle.arj_law_spelled.proofs.Replies.{Asks, RepliesFit, ReplyFits, replies_keep}
+use Rattle.arj_law_spelled.proofs.Replies.{Asks, ListsFew, RepliesFit, ReplyFits, replies_keep}
 use Rattle.arj_law_spelled.proofs.Requests.{AreShort, Known, requests_keep}
 use Rattle.arj_law_spelled.proofs.Operations.{ops_in_form}
 use Rattle.arj_law_spelled.proofs.Saves.{AreOpsIn, F, MessageSaves}
 use Rattle.arj_law_spelled.proofs.Saving.{SavesWhere, saves_keep}
 use Rattle.arj_law_spelled.proofs.Tolds.{ToldFew, ToldsFew, tolds_keep}
-use Rattle.arj_law_spelled.specs.Spelled.{AreSendable, AreSpelled, IsLeft, IsLeftThen, ListsFew, RunsInFormSpell, RunsSpell, VotesFew}
+use Rattle.arj_law_spelled.specs.Spelled.{AreSendable, AreSpelled, IsLeft, IsLeftThen, RunsInFormSpell, RunsSpell, VotesFew}
 use Rattle.arj_msg.specs.InForm.{AreFew, IsNode, IsObject}
 use Rattle.arj_msg.specs.Sendable.{BoundSends, ConfirmedSends, IsSendable, LoadedSends, OpSends, PreparedSends, VotedSends}
 use Rattle.arj_text.specs.Fields.{OpTextInForm}
@@ -53,14 +55,17 @@ module _ (hd : Header) (form : HeaderInForm hd) where
 
   of_requests : (M : Seen) → Named M → Asks M
   of_requests M its = let short = its.0 in record {
-    prepares = λ p h states there is. all_each (λ (s : ObjectState). HasObject hd s.uid.num) (λ (s : ObjectState). IsObject s.uid.num) states
+    prepares = λ p h states there is. all_each (λ (s : ObjectState). HasObject hd s.uid.num) (λ (s : ObjectState). IsObject s.uid.num)
+        states
         (λ s has. object_number hd form s.uid.num has) (let f = fits M short p h (ask.Prepare states) there is in f.1);
     confirms = λ p h grants ex inc there is. (
       objects grants (let f = fits M short p h (ask.Confirm grants ex inc) there is in f.1),
       (let s = short.1 p h (ask.Confirm grants ex inc) there is in let m = s.2 in m.1),
     );
     entries = λ j n is x.
-        let most = few_stores hd form n.disk (its.1 j n is) (let z = addressed M short in let a = z.0 j n is in a.1) x in omega (arith, most);
+        let a = addressed M short in
+        let most = few_stores hd form n.disk (its.1 j n is) (a.0 j n is).1 x in
+        omega (arith, most);
   }
 
   abbrev Said : Seen → Type 0
@@ -140,7 +145,7 @@ module _ (hd : Header) (form : HeaderInForm hd) where
       let a = k.address in
       let b = a.2 in
       bound_sends m.reply (subst (λ (z : Message). AnsweredOf (IsOfHeader hd) (answers z)) is b.1)
-          (k.said m.asked (Reply.Bound m.reply) (ap answers is))
+      (k.said m.asked (Reply.Bound m.reply) (ap answers is))
   sends p (message.Prepared m) is k own left = prepared_sends m.reply (k.said m.asked (Reply.Prepared m.reply) (ap answers is))
   sends p (message.Confirmed m) is k own left = confirmed_sends m.reply (k.said m.asked (Reply.Confirmed m.reply) (ap answers is))
   sends p (message.Loaded m) is k own left = left
@@ -196,7 +201,9 @@ module _ (hd : Header) (form : HeaderInForm hd) (w : World) (h : Holds hd (λ M.
   hello_own p there n i is = by (M.nodes p.from) refl
     where
       by : (o : Option Node) → M.nodes p.from ≡ o → n ≡ p.from
-      by None none = let no_way : false ≡ true = sym (ap is_some none) ∙ (let z = h.stands in z.places p.from (let a = address p there in a.0)) in
+      by None none =
+          let from = (address p there).0 in
+          let no_way : false ≡ true = sym (ap is_some none) ∙ (let z = h.stands in z.places p.from from) in
           absurd (cc no_way)
       by (Some node) found = let g = good hd form M short in let z = g.1 in let s = z.so p node there found in
           (subst (λ (y : Message). SaysInc p.from node.disk.inc y) is s.inc).0

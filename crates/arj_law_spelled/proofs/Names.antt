@@ -1,17 +1,26 @@
 -- In every run each entry has each of its stores once, and so there are at most 16 of them.
 use Rattle.arj_law_parts.proofs.Words
-use Words.{◌≡◌, ◌≤◌, ◌<◌, ◌+◌, ◌++◌, ◌==◌, ◌||◌, ◌&&◌, ◌∙◌, nat_le, not, ℕ, Bool, true, false, cond, List, [], ◌∷◌, filter, map, length, Option, Some, None}
-use Words.{arith, nat_tests, refl, sym, ap, subst, ⊎_elim, ⊤, option_map, AllByRecursion, list_all, and_parts, cons_option, flat_map, Ask, Asked, End, Entry, Head}
-use Words.{ConfirmedReply, Header, Message, ObjectLine, ObjectState, Path, Uid, asks, entry, object, is_on, Reply, actor, answers, asked_by, last_end, response}
+use Words.{◌≡◌, ◌≤◌, ◌+◌, ◌++◌, ◌==◌, ◌||◌, ◌&&◌, ◌∙◌, nat_le, not, ℕ, Bool, true, false, cond, List, [], ◌∷◌, filter, map, length, Option}
+use Words.{Some, None}
+use Words.{arith, nat_tests, refl, sym, subst, ⊤, option_map, AllByRecursion, list_all, and_parts, cons_option, flat_map, Ask, End, Entry}
+use Words.{Head}
+use Words.{ConfirmedReply, Header, Message, ObjectLine, ObjectState, Path, Uid, entry, object, is_on, Reply, actor, asked_by, last_end}
+use Words.{response}
 use Words.{top_of, entry_back, again_all, begin_action, heard, is_serial, Grants, Marks, checked, confirm, confirm_entries, confirm_new}
-use Words.{confirms, entries_after, entry_after, entry_state, has_all, lock_all, lock_in, marked, prepared_by, same_nodes, stores_after, wanted}
-use Words.{without_stores, Coord, Abort, After, Already, Before, Commit, Did, Disk, Do, Effect, InDoubt, InPart, Look, Old, Pair, Prep, Prepare, PutInc}
-use Words.{PutIntent, Ready, RemoveIntent, Say, Send, Served, Stop, Work, did_nothing, held_at, holder_of, is_prepared, prepare_answer, reply}
-use Words.{stopped, void, worked, acked, answer_query, tick_outs, tolds_again, Named, lock_lines, Naming, end_entries, end_lines, end_orphans, is_over}
-use Words.{orphans, own_entries, taken_end, told_new, listed_entry, state_entry, Handled, Parts, Took, Void, ack_told, coord_heard, end_states, handle}
-use Words.{handle_ends, handle_other, holders, if_naming, is_earlier, load_by, load_held, naming_told, prepare_by, query_about, sends_answer}
-use Words.{serve, served, store_told, with_coord, with_naming, with_server, at_number, at_uid, put_uid, put_states, AreAll, is_server_effect, Node}
-use Words.{acts as acts_of, parent_of, parts_in, restart_outs, node_by, Start, Post, Seen, activate_own, ends_own, invoke_own, vote_own}
+use Words.{confirms, entries_after, entry_after, entry_state, has_all, lock_all, lock_in, marked, prepared_by, same_nodes, stores_after}
+use Words.{wanted}
+use Words.{without_stores, Coord, Abort, After, Already, Before, Commit, Did, Disk, Do, Effect, InDoubt, InPart, Look, Old, Pair, Prep}
+use Words.{Prepare, PutInc}
+use Words.{PutIntent, Ready, RemoveIntent, Say, Send, Served, Stop, Work, did_nothing, held_at, holder_of, is_prepared, prepare_answer}
+use Words.{reply}
+use Words.{stopped, void, worked, acked, answer_query, tick_outs, tolds_again, Named, lock_lines, Naming, end_entries, end_lines}
+use Words.{end_orphans, is_over}
+use Words.{orphans, own_entries, taken_end, told_new, listed_entry, state_entry, Handled, Parts, Took, Void, ack_told, coord_heard}
+use Words.{end_states, handle}
+use Words.{handle_ends, handle_other, holders, if_naming, is_earlier, load_by, load_held, naming_told, prepare_by, query_about}
+use Words.{sends_answer}
+use Words.{serve, served, store_told, with_coord, with_naming, with_server, at_number, put_uid, put_states, AreAll, is_server_effect, Node}
+use Words.{acts as acts_of, parent_of, parts_in, restart_outs, Start, Seen, activate_own, ends_own, invoke_own, vote_own}
 use Words.ask
 use Words.body
 use Words.confirmed
@@ -25,8 +34,9 @@ use Words.role
 use Words.naming
 use Words.server
 use Rattle.arj_law_promise.proofs.Terms
-use Terms.{HeaderInForm, ObjectLineInForm, KeepsAsked, Own, Up, Walks, all_append, at, by_coord, by_message, disk_by, entries_from, entry_by, first_at}
-use Terms.{given, posted, said, up, walks_both, In}
+use Terms.{HeaderInForm, ObjectLineInForm, KeepsAsked, Own, Up, Walks, all_append, at, by_coord, by_message, disk_by, entries_from}
+use Terms.{entry_by, first_at}
+use Terms.{given, posted, said, walks_both}
 use Rattle.arj_law_disk_view.proofs.running.StateTicks as ticks
 use Rattle.arj_law_disk_view.proofs.view.{HeardWalks.is_say, ServedWalks.lock_says}
 use Rattle.arj_law_disk_view.specs.running.States.{AllSay, PreparesNone}
@@ -164,9 +174,9 @@ entries_apart top (g ∷ gs) excluded included d so = by (held_at (entry g.0) d)
     apart s once =
         let e = state_entry s in
         subst (λ (f : Entry). Once f.stores)
-            (sym (entry_back (record { servers = (state_entry s).servers; stores = stores_after g.0 excluded included (state_entry s) })))
-            (once_with (marked g.0 included) (without_stores (marked g.0 excluded) e.stores)
-            (once_without (marked g.0 excluded) e.stores once))
+        (sym (entry_back (record { servers = (state_entry s).servers; stores = stores_after g.0 excluded included (state_entry s) })))
+        (once_with (marked g.0 included) (without_stores (marked g.0 excluded) e.stores)
+        (once_without (marked g.0 excluded) e.stores once))
 
     made : (s : ObjectState) (b : Bool) → held_at (entry g.0) d ≡ Some s → Later → AllByRecursion (Own Apart) (cons_option (cond b None
         (Some (entry_state g.0 top s (stores_after g.0 excluded included (state_entry s))))) (entries_after top gs excluded included d))
@@ -349,7 +359,8 @@ module _ (k : ℕ) (d : Disk) (t : Parts) (from : ℕ) (names : Names d) where
 
   message_apart : (m : Message) → By (handle k d t from m)
   message_apart m = by_message k d t from By tt m (λ h a is. asked h a)
-      (λ a q is. let r = heard from a q d.intents t.coord in coord_left r (coord_apart r.outs (heard_own from a q d.intents t.coord))) (other m)
+      (λ a q is. let r = heard from a q d.intents t.coord in
+      coord_left r (coord_apart r.outs (heard_own from a q d.intents t.coord))) (other m)
 
 -- ---- nodes
 
@@ -443,7 +454,8 @@ names_keep hd form R keeps = record {
       (coord_apart q.outs (again_own t.coord.doings t.coord)) (coord_apart (tolds_again t.coord.telling) (tolds_again_own t.coord.telling)))
       (queries_apart (holders d t))) g.1;
   restart = λ e k d M g. let outs = restart_outs hd k (d.inc + 1) d in
-      beside e k outs None (parts_in k (d.inc + 1) d) d M (keeps.restart e k d M g.0) (says_apart outs (ticks.restart_so F keep hd k d)) g.1;
+      beside e k outs None (parts_in k (d.inc + 1) d) d M (keeps.restart e k d M g.0) (says_apart outs (ticks.restart_so F keep hd k d))
+      g.1;
   first = λ st formed.
       (keeps.first st formed, λ j n is. subst (λ (y : Node). Names y.disk) (first_at hd st j n is) (first_apart hd form st j));
 }
@@ -467,11 +479,13 @@ few_stores hd form d names of x = by (held_at (entry x) d.names) refl
     by None is = omega arith
     by (Some s) is =
         let once = names.held (entry x) s is in
-        let known = all_at_uid (StateOf (IsNode hd)) (entry x) s (let p = d.names in p.held) (pairs (let p = d.names in p.held) of.held) is in
+        let p = d.names in
+        let known = all_at_uid (StateOf (IsNode hd)) (entry x) s p.held (pairs p.held of.held) is in
         let e = known.1 in
         few_once 16 (let f = state_entry s in f.stores) once.0 (numbers (let f = state_entry s in f.stores) e.stores)
       where
-        pairs : (es : List (Uid × ObjectState)) → AllByRecursion (λ (e : Uid × ObjectState). (e.0 ≡ entry (let u = e.0 in u.num)) × StateOf (IsNode hd) e.1) es →
+        pairs : (es : List (Uid × ObjectState)) →
+            AllByRecursion (λ (e : Uid × ObjectState). (e.0 ≡ entry (let u = e.0 in u.num)) × StateOf (IsNode hd) e.1) es →
             AllByRecursion (λ (e : Uid × ObjectState). StateOf (IsNode hd) e.1) es
         pairs [] all = tt
         pairs (e ∷ es) all = ((all.0).1, pairs es all.1)

@@ -1,6 +1,7 @@
 -- Lists of nodes that each stand once: marks keep them so, and there are at most as many as there are nodes.
 use Rattle.arj_law_parts.proofs.Words
-use Words.{◌≡◌, ◌≤◌, ◌==◌, ◌+◌, ◌++◌, ◌||◌, ◌&&◌, arith, nat_tests, ℕ, zero, suc, Bool, true, false, cond, not, List, [], ◌∷◌, filter, length, eqb-true}
+use Words.{◌≡◌, ◌≤◌, ◌==◌, ◌+◌, ◌++◌, ◌||◌, arith, nat_tests, ℕ, zero, suc, Bool, true, false, cond, not, List, [], ◌∷◌, filter, length}
+use Words.{eqb-true}
 use Words.{refl, subst, AllByRecursion, or_parts, and_parts, is_listed, with_store, without_store, with_stores, without_stores, ⊤}
 use Rattle.arj_law_serial.proofs.Terms.{is_distinct}
 
@@ -26,7 +27,8 @@ unlisted_filter test n [] none = none
 unlisted_filter test n (m ∷ ms) none =
     let both = or_parts (m == n) (is_listed n ms) none in by (test m) both.0 (unlisted_filter test n ms both.1)
   where
-    by : (b : Bool) → (m == n) ≡ false → is_listed n (filter test ms) ≡ false → is_listed n (cond b (m ∷ filter test ms) (filter test ms)) ≡ false
+    by : (b : Bool) → (m == n) ≡ false → is_listed n (filter test ms) ≡ false →
+        is_listed n (cond b (m ∷ filter test ms) (filter test ms)) ≡ false
     by true apart ih = λ i. apart i || ih i
     by false apart ih = ih
 

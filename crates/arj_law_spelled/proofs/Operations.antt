@@ -1,16 +1,16 @@
 -- In runs in form each operation that is asked of a server is in form: it is that of the event which asked for the call.
 use Rattle.arj_law_parts.proofs.Words
-use Words.{◌≡◌, ◌+◌, ◌==◌, ◌∙◌, ◌&&◌, ◌++◌, ℕ, Bool, true, false, cond, if◌then◌else◌, List, [], ◌∷◌, length, map, Option, Some, None, refl, sym}
-use Words.{ap, subst, ⊎_elim, inl, inr, ⊤, AllByRecursion, and_parts, append-nil, list_all, Ask, Body, Event, Head, Header, Kind, Label, Line, Op, Uid}
+use Words.{◌≡◌, ◌+◌, ◌==◌, ◌∙◌, ◌&&◌, ◌++◌, ℕ, Bool, true, false, cond, if◌then◌else◌, List, [], ◌∷◌, Option, Some, None, refl, sym}
+use Words.{ap, subst, ⊎_elim, inl, inr, ⊤, AllByRecursion, and_parts, append-nil, list_all, Ask, Body, Event, Head, Header, Uid}
 use Words.{asks, frame_kind, begin_action, is_serial, At, AtActivate, AtBind, AtInvoke, AtLoad, AtNote, Goal, Include, Run, Steps, ask_at}
-use Words.{Confirming, Machine, Preparing, Voting, ask_of, Calling, Committing, Coord, Doing, Idle, Now, doing_of, again_all, Disk, Do, Effect, Say}
+use Words.{Confirming, Machine, Preparing, Voting, ask_of, Calling, Committing, Coord, Doing, Idle, Now, doing_of, again_all, Disk, Do}
+use Words.{Effect, Say}
 use Words.{Send, worked, tick_outs, Parts, with_coord, Input, Node, acts as acts_of, parent_of, parts_in, restart_outs}
-use Words.{World, lacks_labels, giving, run_event, first_reason, reasons, at_place, Move, Post, Seen, see, world_by, all_moved, moved, IsInForm}
+use Words.{World, lacks_labels, giving, run_event, first_reason, reasons, at_place, Move, Post, Seen, world_by, moved, IsInForm}
 use Words.{AreMovesInForm, actor, refusal_at, world_from, Message, IfSome}
 use Words.list
 use Words.ask
 use Words.body
-use Words.event
 use Words.frame
 use Words.input
 use Rattle.arj_law_promise.proofs.Terms
@@ -20,12 +20,13 @@ use Rattle.arj_law_lock_view.proofs.asking.Tied.{Pathed, tied_keep}
 use Rattle.arj_law_lock_view.specs.asking.Asked.{AskedAreTied, IsAskedSo, IsTied, asks_goal}
 use Rattle.arj_law_lock_view.specs.asking.Turns.{calling}
 use Rattle.arj_law_parts.proofs.moves.{Events.run_with, Flat.within_more, Happens.Wide, Places.all_to, Together.with_both}
-use Rattle.arj_law_parts.specs.moves.Keeps.{IsSent, Stands}
+use Rattle.arj_law_parts.specs.moves.Keeps.{IsSent}
 use Rattle.arj_law_parts.specs.moves.Moments.{Asking, History, Moment, asks_now, come, fits, framed_if, given, posted, said, up}
 use Rattle.arj_law_parts.specs.moves.Seen as seen
 use Rattle.arj_law_parts.specs.moves.Seen.{Within, is_quiet_line}
-use Rattle.arj_law_parts.specs.moves.With.{ArePlain, KeepsAll, UpWith, WalksWith, asked_at, asked_of_node, is_plain_line, past_event, past_moves}
-use Rattle.arj_law_parts.specs.moves.With.{past_of, past_unless, written}
+use Rattle.arj_law_parts.specs.moves.With.{ArePlain, KeepsAll, UpWith, WalksWith, asked_at, asked_of_node, is_plain_line, past_event}
+use Rattle.arj_law_parts.specs.moves.With.{past_moves}
+use Rattle.arj_law_parts.specs.moves.With.{past_unless, written}
 use Rattle.arj_law_parts.specs.moves.Moments.{gone, no_history, taken_by}
 use Rattle.arj_law_parts.specs.steps.Writes.{asks as asks_of}
 use Rattle.arj_law_promise.proofs.meant.Posts.{act_sends, message_sends, tick_sends}
@@ -148,7 +149,8 @@ end_with Q k v (Send to m ∷ es) d M w = by (to == k) (fits M) w (λ N. end_wit
 
 -- where more was sent, and operations of all of it are in form
 abbrev WideBy : (Seen → Type 0) → Moment → Type 0
-WideBy X M = (sent : List Post) × Within M.seen.sent sent × X (seen.with_sent sent M.seen) × OpsWhere (AsksForm M.past) (seen.with_sent sent M.seen)
+WideBy X M = (sent : List Post) × Within M.seen.sent sent × X (seen.with_sent sent M.seen) ×
+    OpsWhere (AsksForm M.past) (seen.with_sent sent M.seen)
 
 no_line : (Q : Seen → Type 0) (M : Seen) → Q (record M { lines = M.lines ++ [] }) → Q M
 no_line Q M q = subst (λ ls. Q (record M { lines = ls })) (append-nil M.lines) q
@@ -277,7 +279,8 @@ module _ (hd : Header) (X : Seen → Type 0) (keeps : KeepsAsked hd X) (good : (
       tick = λ k d t0 M h. let w = h.1 in
           let S = seen.with_sent w.0 M.seen in
           let g = good (seen_up k d t0 S) w.2 in
-          step k (with_coord t0 (again_all t0.coord.doings t0.coord).part) (tick_outs (record { number = k; disk = d; live = Some t0 }) t0) d M
+          step k (with_coord t0 (again_all t0.coord.doings t0.coord).part)
+          (tick_outs (record { number = k; disk = d; live = Some t0 }) t0) d M
           w.0 w.1 (t.steps.tick k d t0 M h.0) (tick_sends g.0 M.past.number k d t0 S g.1)
           (keeps.tick M.past.number k d t0 S w.2) w.3;
       restart = λ k d M comes fresh h. let w = h.1 in
@@ -324,7 +327,8 @@ event_form e w v g None form all = by (lacks_labels (giving e w) w)
 moves_form : (ms : List Move) (w : World) (g : History) → AreMovesInForm ms → AsksForm g → AsksForm (past_moves ms w g)
 moves_form [] w g forms all = all
 moves_form (m ∷ ms) w g forms all =
-    moves_form ms (moved m w) (past_event m.asked (record w { arms = m.falls }) g) forms.1 (by (let v = record w { arms = m.falls } in v.over))
+    moves_form ms (moved m w) (past_event m.asked (record w { arms = m.falls }) g) forms.1
+    (by (let v = record w { arms = m.falls } in v.over))
   where
     v : World
     v = record w { arms = m.falls }
@@ -332,11 +336,13 @@ moves_form (m ∷ ms) w g forms all =
     by : (b : Bool) → AsksForm (cond b g (past_unless (let a = m.asked in a.event) v (run_event m.asked v) g
         (first_reason (reasons (let a = m.asked in a.event) v))))
     by true = all
-    by false = event_form (let a = m.asked in a.event) v (run_event m.asked v) g (first_reason (reasons (let a = m.asked in a.event) v)) forms.0 all
+    by false = event_form (let a = m.asked in a.event) v (run_event m.asked v) g
+        (first_reason (reasons (let a = m.asked in a.event) v)) forms.0 all
 
 -- what is kept holds of a run in form, with what operations are in form
 pub ops_in_form : (hd : Header) (X : Seen → Type 0) → KeepsAsked hd X → ((M : Seen) → X M → IsGood M) → (r : RunOf hd) →
-    IsInForm hd r → Holds hd (λ M. X M × ((p : Post) (h : Head) (a : Ask) → In p M.sent → asks p.message ≡ Some (h, a) → OpOf a)) (world_by hd r)
+    IsInForm hd r → Holds hd (λ M. X M × ((p : Post) (h : Head) (a : Ask) → In p M.sent → asks p.message ≡ Some (h, a) →
+    OpOf a)) (world_by hd r)
 ops_in_form hd X keeps good r form =
     let h = run_with hd (P hd X keeps good) (ops_keep hd X keeps good) r in
     let n = h.now in

@@ -1,9 +1,12 @@
 -- How long the lists of a commit's plan get, and of which objects its marks are: what each step of a commit keeps.
 use Rattle.arj_law_parts.proofs.Words
-use Words.{◌≡◌, ◌⊎◌, ◌≤◌, ◌<◌, ◌==◌, ◌+◌, ◌*◌, arith, ℕ, Bool, true, false, cond, not, List, [], ◌∷◌, filter, length, map, refl, sym, subst, inl, inr}
-use Words.{⊎_elim, AllByRecursion, IfSome, Option, Some, None, filter_map, cons_option, length-map, ObjectState, Uid, object, Reply, flat_map}
+use Words.{◌≡◌, ◌⊎◌, ◌≤◌, ◌<◌, ◌==◌, ◌+◌, ◌*◌, arith, ℕ, Bool, true, false, cond, not, List, [], ◌∷◌, filter, length, map, refl, sym, subst}
+use Words.{inl, inr}
+use Words.{⊎_elim, AllByRecursion, IfSome, Option, Some, None, filter_map, cons_option, length-map, ObjectState, Uid, object, Reply}
+use Words.{flat_map}
 use Words.{Confirming, Machine, Plan, Preparing, Used, Voting, begin_confirm, begin_prepare, begin_vote, marks_at, marks_store}
-use Words.{marks_stores, plan_of, left_of, servers_of, state_for, states_for, stores_by, stores_left, targets_of, votes_left, changed_of, has}
+use Words.{marks_stores, plan_of, left_of, servers_of, state_for, states_for, stores_by, stores_left, targets_of, votes_left, changed_of}
+use Words.{has}
 use Words.{with_number, without_number}
 use Words.confirmed
 use Words.prepared
@@ -77,7 +80,8 @@ module _ (s : ℕ) (p : Plan) where
     where
       by : (o : Option ObjectState) → state_for s p w ≡ o →
           AllByRecursion OfObject (map {A = ObjectState} {B = ℕ × ℕ} (λ st. (st.uid.num, s)) (filter_map (state_for s p) us)) →
-          AllByRecursion OfObject (map {A = ObjectState} {B = ℕ × ℕ} (λ st. (st.uid.num, s)) (cons_option o (filter_map (state_for s p) us)))
+          AllByRecursion OfObject (map {A = ObjectState} {B =
+          ℕ × ℕ} (λ st. (st.uid.num, s)) (cons_option o (filter_map (state_for s p) us)))
       by None is ih = ih
       by (Some st) is ih = (subst (λ (v : Uid). IsObject v.num) (sym (sends.0 st is)) objects.0, ih)
 
@@ -190,7 +194,8 @@ module _ (u : Uid) where
   -- a giveup
   pub given_few : (m : Machine) → IsOfFew m → IsFew u m → IsNext IsFew u (commit.given_up m).step
   given_few (Voting p left) f its = tt
-  given_few (Preparing p left) f its = confirm_few (marks_stores left p) (marked_all u left p its.0 its.1 f.few f.objects f.loaded (let marks =
+  given_few (Preparing p left) f its =
+      confirm_few (marks_stores left p) (marked_all u left p its.0 its.1 f.few f.objects f.loaded (let marks =
       its.2 in marks.1) (let marks = its.2 in ⊎_elim
       (λ none. let few = f.left marks.0 in
       let zero : length p.excluded ≤ 0 = subst (λ (ms : List (ℕ × ℕ)). length ms ≤ 0) (sym none) (omega arith) in

@@ -1,12 +1,16 @@
 -- What stores and naming answer is about objects, and a node: those that they were asked about.
 use Rattle.arj_law_parts.proofs.Words
-use Words.{◌≡◌, ◌≤◌, length, ◌∙◌, ◌++◌, ◌+◌, ◌==◌, ◌||◌, not, ℕ, Bool, true, false, cond, List, [], ◌∷◌, filter, map, Option, Some, None, IfSome, refl, sym, ap, subst, ⊎_elim}
+use Words.{◌≡◌, ◌≤◌, length, ◌∙◌, ◌++◌, ◌+◌, ◌==◌, ◌||◌, not, ℕ, Bool, true, false, cond, List, [], ◌∷◌, filter, map, Option, Some, None}
+use Words.{IfSome, refl, sym, ap, subst, ⊎_elim}
 use Words.{⊤, option_map, unwrap_or, AllByRecursion, list_all, and_parts, cons_option, Ask, Asked, ConfirmedReply, End, Head}
 use Words.{Header, Message, ObjectState, Path, Row, Uid, asks, object, Reply, actor, answers, asked_by, last_end, response, heard}
 use Words.{again_all, begin_action, is_serial, Grants, Marks, checked, confirm, confirm_entries, confirm_new, confirms, entries_after}
-use Words.{entry_after, first_of_each, has_all, is_bare, is_there, lock_all, other_grant, prepared_by, refused_exclude, wanted, top_of, Coord}
-use Words.{Already, Did, Disk, Do, Effect, InDoubt, Look, Old, Pair, Prep, Prepare, Ready, Say, Send, Served, either, first_refusal, held_at}
-use Words.{holder_of, is_prepared, prepare_answer, refusal_in, refusal_of, by_holder, is_old, worked, acked, answer_query, tick_outs, Naming, is_over}
+use Words.{entry_after, first_of_each, has_all, is_bare, is_there, lock_all, other_grant, prepared_by, refused_exclude, wanted, top_of}
+use Words.{Coord}
+use Words.{Already, Did, Disk, Do, Effect, InDoubt, Look, Old, Pair, Prep, Prepare, Ready, Say, Send, Served, either, first_refusal}
+use Words.{held_at}
+use Words.{holder_of, is_prepared, prepare_answer, refusal_in, refusal_of, by_holder, is_old, worked, acked, answer_query, tick_outs}
+use Words.{Naming, is_over}
 use Words.{listed_entry, is_listed, same_nodes, state_entry, stores_after, entry_state, entry, is_on, Handled, Parts, Took, Void, ack_told}
 use Words.{coord_heard, end_states, handle, handle_ends, handle_other, holders, if_naming, is_earlier, load_by, load_held, naming_told}
 use Words.{prepare_by, query_about, sends_answer, serve, served, store_told, with_coord, with_naming, with_server, AreAll, is_naming_effect}
@@ -16,6 +20,7 @@ use Words.{Binding, BoundReply, Counted, Live, Made, Named, Node, bind_call, bin
 use Words.{live_asked, made_above, make_asked, on_counted, at_uid}
 use Words.ask
 use Words.body
+use Words.bound
 use Words.confirmed
 use Words.ending
 use Words.loaded
@@ -32,10 +37,16 @@ use Terms.{walks_both, Action, IsGoodOf, node_here}
 use Rattle.arj_law_promise.proofs.waiting
 use waiting.AskedEffects.{acked_quiet, acts_quiet, heard_quiet, query_quiet, tick_quiet}
 use waiting.Serving.{quiet_silent}
-use Rattle.arj_law_spelled.specs.Spelled.{ListsFew}
 use Rattle.arj_msg.specs.InForm.{IsNode, IsObject}
 
--- an object, and the node; at most 255 stores
+-- at most 255 stores
+abbrev pub ListsFew : BoundReply → Type 0
+ListsFew (bound.Live b server i g stores) = length stores ≤ 255
+ListsFew (bound.Make b server g stores) = length stores ≤ 255
+ListsFew (bound.Write g stores) = length stores ≤ 255
+ListsFew (bound.Conflict holder m) = ⊤
+
+-- an object, and the node; so many stores
 abbrev pub ReplyFits : Reply → Type 0
 ReplyFits (Reply.Prepared (prepared.InDoubt x holder)) = IsObject x
 ReplyFits (Reply.Prepared (prepared.Old x v)) = IsObject x
@@ -114,8 +125,8 @@ refused_fits act s (Some h) holder is = by (uid_eq h.writer act) (is_old s h)
     held_by (Some u) = is
 
     by : (a b : Bool) →
-        IfSome (cond {A = Option Prep} a (Some (Already s.uid)) (cond {A = Option Prep} b (Some (Old s.uid h.version)) (by_holder s holder)))
-        PrepFits
+        IfSome (cond {A = Option Prep} a (Some (Already s.uid))
+        (cond {A = Option Prep} b (Some (Old s.uid h.version)) (by_holder s holder))) PrepFits
     by true b = tt
     by false true = is
     by false false = held_by holder
@@ -281,7 +292,8 @@ module _ (p : Path) (x : ℕ) (avoid : Binding) (d : Pair) (n : Naming) (few : l
   bound_few : (include : Bool) → IfSome (let r = naming.bind p x include avoid d n in r.reply) ListsFew
   bound_few include = by (is_over p n) (at_number x n.objects)
     where
-      at : (o : Option Named) → IfSome (let r = on_counted x (bind_named n.inc x p include avoid (listed_entry x d)) n o in r.reply) ListsFew
+      at : (o : Option Named) →
+          IfSome (let r = on_counted x (bind_named n.inc x p include avoid (listed_entry x d)) n o in r.reply) ListsFew
       at None = tt
       at (Some o) = named_few (record { named = o; count = n.count }) include
 
@@ -460,7 +472,8 @@ replies_keep hd R keeps good knows = record {
     beside e k outs v d M fit walked all = walks_both R RepliesFit e k outs (Up R k v) (Up RepliesFit k v) d M walked
         (walk e k v outs d M fit all)
 
-    came : (e k : ℕ) (d : Disk) (t v : Parts) (from : ℕ) (m : Message) (outs : List Effect) (M : Seen) (begun : List Action) (its : IsGoodOf begun
+    came : (e k : ℕ) (d : Disk) (t v : Parts) (from : ℕ) (m : Message) (outs : List Effect) (M : Seen) (begun : List Action) (its : IsGoodOf
+        begun
         (up k d t M)) → Asks (up k d t M) → In (record { from = from; to = k; message = m }) M.sent → handle k d t from m ≡ Took v outs →
         AllFit outs
     came e k d t v from m outs M begun its asks_so there is = let few = asks_so.entries k _ (node_here M k _) in

@@ -1,21 +1,20 @@
--- States restore wherever they are: on the disks of stores, at servers, with coordinators and in messages; and what servers answer is short.
+-- States restore wherever they are: on disks of stores, at servers, with coordinators and in messages; and servers answer what is short.
 use Rattle.arj_law_parts.proofs.Words
-use Words.{◌≡◌, ◌∙◌, ◌++◌, ◌+◌, ◌==◌, ◌||◌, ℕ, Bool, true, false, cond, filter, map, List, [], ◌∷◌, not, Option, Some, None, IfSome, refl, sym, ap}
-use Words.{subst, ⊎_elim, ⊤, inl, inr, arith, nat_tests, option_map, unwrap_or, AllByRecursion, cons_option, flat_map, list_all, and_parts, object}
-use Words.{activate_own, bind_own, confirm_own, ends_own, invoke_own, note_own, told_own, vote_own, Ask, Asked, BoundReply, End, Head, Header, Kind}
-use Words.{InvokedReply, Label, Message, ObjectState, Op, Path, Uid, VotedReply, asks, Reply, actor, answers, asked_by, last_end, response}
-use Words.{again_all, begin_action, heard, is_serial, Coord, Abort, After, Already, Before, Commit, Did, Disk, Do, Effect, InDoubt, InPart, Look}
-use Words.{Old, Pair, Prep, Prepare, PutInc, PutIntent, Ready, RemoveIntent, Say, Send, Served, Stop, Work, held_at, holder_of, is_prepared}
-use Words.{moved_some, new_states, pair_aborted, pair_committed, pair_in_part, pair_prepared, prepare_answer, stopped, worked, acked}
-use Words.{answer_query, tick_outs, Naming, Handled, Parts, Took, Void, ack_told, coord_heard, end_states, handle, handle_ends, handle_other}
-use Words.{holders, if_naming, is_earlier, is_meant, answer_is_meant, asked_is_meant, reply_is_meant, load_by, load_held, naming_told, prepare_by}
-use Words.{query_about, sends_answer, serve, served, store_told, with_coord, with_naming, with_server, at_uid, put_uid, AreAll}
-use Words.{is_naming_effect, is_server_effect, Input, Node, Server, acts as acts_of, parent_of, parts_in, restart_outs, response_reads_back, Post}
+use Words.{◌≡◌, ◌∙◌, ◌++◌, ℕ, Bool, true, false, cond, filter, map, List, [], ◌∷◌, Option, Some, None, IfSome, refl, sym, ap}
+use Words.{subst, ⊤, option_map, AllByRecursion, list_all, and_parts, object}
+use Words.{activate_own, bind_own, confirm_own, ends_own, invoke_own, note_own, told_own, vote_own, Ask, Asked, End, Head}
+use Words.{InvokedReply, Message, ObjectState, Op, Uid, asks, Reply, actor, answers, asked_by, last_end, response}
+use Words.{heard, Coord, Abort, After, Already, Before, Commit, Disk, Do, Effect, InDoubt, InPart, Look}
+use Words.{Old, Prep, Prepare, PutInc, PutIntent, Ready, RemoveIntent, Say, Send, Served, Stop, Work, held_at, holder_of, is_prepared}
+use Words.{prepare_answer, stopped, worked, acked}
+use Words.{answer_query, Naming, Handled, Parts, Took, Void, ack_told, coord_heard, end_states, handle, handle_ends, handle_other}
+use Words.{holders, if_naming, is_earlier, is_meant, answer_is_meant, asked_is_meant, load_by, load_held, naming_told, prepare_by}
+use Words.{query_about, sends_answer, serve, served, store_told, with_naming, with_server, AreAll}
+use Words.{is_naming_effect, is_server_effect, Node, response_reads_back, Post}
 use Words.{Seen, Binding, confirm}
 use Words.ask
 use Words.body
 use Words.ending
-use Words.invoked
 use Words.loaded
 use Words.message
 use Words.prepared
@@ -24,19 +23,13 @@ use Words.voted
 use Words.naming
 use Words.server
 use Rattle.arj_law_promise.proofs.Terms
-use Terms.{AllQuiet, AllSilent, Fits, In, IsGood, IsGoodOf, Action, KeepsAsked, Own, Up, Walks, all_append, at, down, by_coord, by_message, given}
-use Terms.{halted, is_act, moved, node_here, posted, restart_silent, said, some_is, up, walks_both}
-use Rattle.arj_law_disk_view.proofs.running.StateEnds.{acks_so, new_so, query_so}
-use Rattle.arj_law_disk_view.proofs.running.StateInputs.{acts_so, begins_so, hears_so}
-use Rattle.arj_law_disk_view.proofs.running.StateTicks as ticks
-use Rattle.arj_law_disk_view.specs.running.States.{AllSay, AnsweredIsSo, AskIsSo, AskedIsSo, CoordIsSo, MayKeep, MessageIsSo, PreparesNone, ReplyIsSo}
-use Rattle.arj_law_parts.proofs.parts.Keys.{put_cases}
-use Rattle.arj_law_promise.proofs.waiting
-use waiting.AskedEffects.{acked_quiet, acts_quiet, heard_quiet, query_quiet, tick_quiet}
-use waiting.Serving.{quiet_silent}
-use Rattle.arj_law_runs.proofs.addresses.Lists.{all_at_uid, all_put, all_without}
+use Terms.{AllSilent, Fits, In, Own, all_append, by_coord, by_message}
+use Terms.{some_is}
+use Rattle.arj_law_disk_view.proofs.running.StateEnds.{acks_so, query_so}
+use Rattle.arj_law_disk_view.proofs.running.StateInputs.{hears_so}
+use Rattle.arj_law_disk_view.specs.running.States.{AllSay, AnsweredIsSo, AskIsSo, AskedIsSo, CoordIsSo, MayKeep, MessageIsSo, PreparesNone}
+use Rattle.arj_law_disk_view.specs.running.States.{ReplyIsSo}
 use Rattle.arj_law_serial.proofs.Terms.{OpTextInForm}
-use Rattle.arj_law_serial.proofs.joint.FormNodes.{Held, put_so}
 use Rattle.arj_law_serial.specs.joint.Forms.{PairIsSo}
 use Rattle.arj_law_spelled.proofs.Pairs.{aborted_so, committed_so, in_part_so, prepared_so}
 use Rattle.arj_law_spelled.proofs.Servers as servers
@@ -140,7 +133,11 @@ works_so (RemoveIntent u) none = tt
 pub coord_saves : (es : List Effect) → AllSay F es → AllSilent es → AllSave es
 coord_saves [] all silent = tt
 coord_saves (Send to m ∷ es) all silent = (
-  (all.0, λ a r is. let no_way : ◌≡◌ {A = Option (Asked × Reply)} None (Some (a, Reply.Invoked r)) = sym silent.0 ∙ is in absurd (cc no_way)),
+  (
+    all.0,
+    λ a r is. let no_way : ◌≡◌ {A = Option (Asked × Reply)} None (Some (a, Reply.Invoked r)) =
+        sym silent.0 ∙ is in absurd (cc no_way),
+  ),
   coord_saves es all.1 silent.1,
 )
 coord_saves (Say b ∷ es) all silent = (tt, coord_saves es all.1 silent.1)
@@ -326,7 +323,8 @@ module _ (k : ℕ) (d : Disk) (t : Parts) (from : ℕ) (store : Store d) (its : 
 
       other : (p : Message) → By (handle_other k d t from p)
       other (message.Told p) = ends_left p.ack p.ends (last_end p.ends)
-      other (message.Acked p) = coord_left (acked from p.act d.intents t.coord) (acks_so F keep from p.act d.intents t.coord its.1) (acks p.act)
+      other (message.Acked p) =
+          coord_left (acked from p.act d.intents t.coord) (acks_so F keep from p.act d.intents t.coord its.1) (acks p.act)
       other (message.Query p) = (
         its,
         coord_saves (answer_query from p.act d.intents t.coord)

@@ -1,15 +1,14 @@
 -- In every run states restore and answers are short, where operations are in form and so are older states.
 use Rattle.arj_law_parts.proofs.Words
-use Words.{◌≡◌, ◌<◌, ◌+◌, ◌==◌, ◌∙◌, ℕ, Bool, true, false, cond, if◌then◌else◌, filter, map, List, [], ◌∷◌, Option, Some, None, refl, sym, ap, subst}
-use Words.{⊎_elim, inr, arith, nat_tests, nat_lt, AllByRecursion, and_parts, End, Head, Header, ObjectLine, ObjectState, Op, Uid, Value, asks}
-use Words.{ValueInForm, PairsFit, KeysRise, class_of, payload_of, answers, again_all, begin_action, heard, is_serial, Coord, Disk, Do, Effect, Say, Send}
+use Words.{◌≡◌, ◌<◌, ◌+◌, ◌==◌, ◌∙◌, ℕ, Bool, true, false, cond, if◌then◌else◌, filter, map, List, [], ◌∷◌, Option, Some, None, refl, subst}
+use Words.{⊎_elim, inr, arith, nat_tests, AllByRecursion, and_parts, Header, ObjectLine, ObjectState, Uid, Value}
+use Words.{ValueInForm, PairsFit, KeysRise, again_all, begin_action, heard, is_serial, Disk, Do, Effect, Say, Send}
 use Words.{stopped, worked, acked, answer_query, tick_outs, Parts, Took, handle, has, put_uid, with_coord, Node, acts as acts_of, parent_of}
-use Words.{parts_in, put_states, restart_outs, node_by, Start, IsFormed, world_from, see, Post, Seen, at_uid, Message, is_meant}
-use Words.ask
+use Words.{parts_in, put_states, restart_outs, node_by, Start, Post, Seen, Message, is_meant}
 use Words.value
 use Rattle.arj_law_promise.proofs.Terms
-use Terms.{Action, AllQuiet, AllSilent, HeaderInForm, In, IsGood, IsGoodOf, KeepsAsked, ObjectLineInForm, Own, Up, Walks, all_append}
-use Terms.{all_filter, at, disk_by, first_at, given, halted, is_act, older_at, posted, restart_silent, said, state_by, states_from, up, walks_both}
+use Terms.{Action, HeaderInForm, In, IsGood, IsGoodOf, KeepsAsked, ObjectLineInForm, Own, Up, Walks, all_append}
+use Terms.{all_filter, at, disk_by, first_at, given, older_at, posted, restart_silent, said, state_by, states_from, up, walks_both}
 use Rattle.arj_class.specs.Forms.{NumbersFit}
 use Rattle.arj_class.specs.Keys.{KeysAbove}
 use Rattle.arj_law_disk_view.proofs.running.StateEnds.{new_so}
@@ -18,10 +17,8 @@ use Rattle.arj_law_disk_view.proofs.running.StateTicks as ticks
 use Rattle.arj_law_promise.proofs.waiting
 use waiting.AskedEffects.{acked_quiet, acts_quiet, heard_quiet, query_quiet, tick_quiet}
 use waiting.Serving.{quiet_silent}
-use Rattle.arj_law_runs.proofs.addresses.Lists.{all_map}
 use Rattle.arj_law_serial.proofs.joint.FormNodes.{Held, put_so}
-use Rattle.arj_law_serial.specs.joint.Forms.{PairIsSo}
-use Rattle.arj_law_spelled.proofs.Saves.{AllSave, AreOpsIn, AreSavedIn, By, EffectSaves, F, MessageSaves, NodeSaves, PartsSave, Saved, Store, UpSaves}
+use Rattle.arj_law_spelled.proofs.Saves.{AllSave, AreOpsIn, AreSavedIn, By, F, MessageSaves, NodeSaves, PartsSave, Saved, Store, UpSaves}
 use Rattle.arj_law_spelled.proofs.Saves.{coord_saves, keep, message_saves, stopped_so, worked_so}
 use Rattle.arj_law_spelled.specs.Spelled.{OlderRestore}
 use Rattle.arj_msg.specs.Sendable.{StateSends}
@@ -44,7 +41,8 @@ rest : (k : ℕ) (d : Disk) (live : Option Parts) (M : Seen) → AreSavedIn (at 
 rest k d live M all =
     (λ j n apart is. all.0 j n ((λ i. cond (apart i) (Some (record { number = k; disk = d; live = live })) (M.nodes j)) ∙ is), all.1)
 
-own : (k : ℕ) (d : Disk) (live : Option Parts) (M : Seen) → AreSavedIn (at k d live M) → NodeSaves (record { number = k; disk = d; live = live })
+own : (k : ℕ) (d : Disk) (live : Option Parts) (M : Seen) → AreSavedIn (at k d live M) →
+    NodeSaves (record { number = k; disk = d; live = live })
 own k d live M all = all.0 k (record { number = k; disk = d; live = live })
     (λ i. cond (same k i) (Some (record { number = k; disk = d; live = live })) (M.nodes k))
   where
@@ -137,7 +135,8 @@ module _ (hd : Header) (form : HeaderInForm hd) (st : Start) (older : OlderResto
   older_so n [] all = tt
   older_so n (a ∷ more) all = by (a.0 == n) (older_so n more all.1)
     where
-      by : (b : Bool) → AllByRecursion (Own Saved) (older_at n more) → AllByRecursion (Own Saved) (cond b (a.1 ∷ older_at n more) (older_at n more))
+      by : (b : Bool) → AllByRecursion (Own Saved) (older_at n more) →
+          AllByRecursion (Own Saved) (cond b (a.1 ∷ older_at n more) (older_at n more))
       by true ih = (all.0, ih)
       by false ih = ih
 

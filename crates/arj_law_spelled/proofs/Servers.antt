@@ -1,15 +1,18 @@
 -- Values of copies are in form, so what a server votes restores, and what it answers is short: where operations are in form.
 use Rattle.arj_law_parts.proofs.Words
-use Words.{◌≡◌, ◌≤◌, ◌==◌, ◌||◌, ◌∙◌, ℕ, List, [], ◌∷◌, Bool, true, false, cond, length, not, Option, Some, None, refl, sym, ap, subst, min, IfSome, ⊤}
-use Words.{option_map, AllByRecursion, cons_option, filter_map, object, Answer, Binding, Class, End, Head, InvokedReply, ObjectState, nat_lt, ◌+◌, ◌-◌}
-use Words.{Op, Path, Row, Uid, Value, VotedReply, What, answer_of, class_of, first_conflict, front, is_on, last_uid, op_mode, tops_of, uids_of}
-use Words.{ValueInForm, value_after, value_back, value_in, writes, payload_of, Reply, actor, Base, Copy, Over, ask_copy, changed_state, current}
-use Words.{end_copy, folded, invoke_copy, is_full_for, is_of, is_top_over, over_of, overs_committed, run_copy, settled, taken_copy, written, Did}
-use Words.{Served, did_nothing, either, reply, void, at_number, at_uid, put_number, binding_eq, binding_less, next_version, Kept, Server, activate}
+use Words.{◌≡◌, ◌==◌, ◌||◌, ◌∙◌, ℕ, List, [], ◌∷◌, Bool, true, false, cond, length, not, Option, Some, None, refl, sym, subst, min, IfSome}
+use Words.{⊤}
+use Words.{option_map, AllByRecursion, cons_option, filter_map, object, Answer, Binding, Class, End, Head, InvokedReply, ObjectState}
+use Words.{nat_lt, ◌+◌}
+use Words.{Op, Path, Row, Uid, Value, VotedReply, What, answer_of, class_of, first_conflict, front, is_on, last_uid, op_mode, tops_of}
+use Words.{uids_of}
+use Words.{ValueInForm, value_after, value_back, value_in, writes, payload_of, actor, Base, Copy, Over, ask_copy, changed_state, current}
+use Words.{end_copy, folded, invoke_copy, is_full_for, is_of, is_top_over, over_of, overs_committed, run_copy, settled, taken_copy, written}
+use Words.{Did}
+use Words.{Served, did_nothing, either, reply, void, at_number, at_uid, binding_eq, binding_less, next_version, Kept, Server, activate}
 use Words.{active_binding, apply_ends, changed_by, end_new, end_one, first_unbound, has_ended, invoke, invoke_kept, invoke_new, invoke_now}
 use Words.{is_below, is_told, keeps, on_copy, other_inc, told, took_copy, vote, vote_now}
 use Words.ending
-use Words.invoked
 use Words.value
 use Words.voted
 use Rattle.arj_class.specs.declared.op.Answer.TheVariants as answer
@@ -242,7 +245,8 @@ pub invoke_so : (n : ℕ) (h : Head) (x : ℕ) (b : Binding) (i : ℕ) (ends : L
     ServerSaves s → Answers (invoke n h x b i ends o s)
 invoke_so n h x b i ends o s fits all = by (has_ended h.path s || is_below h.req (at_uid (actor h.path) s.kept))
   where
-    stays : (act : Uid) (req : ℕ) (a : Option InvokedReply) (v : Server) → IfSome a InvokedSends → ServerSaves v → ServerSaves (keeps act req a v)
+    stays : (act : Uid) (req : ℕ) (a : Option InvokedReply) (v : Server) → IfSome a InvokedSends → ServerSaves v →
+        ServerSaves (keeps act req a v)
     stays act req None v sends its = its
     stays act req (Some a) v sends its = (
       its.0,

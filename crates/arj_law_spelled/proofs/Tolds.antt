@@ -1,15 +1,21 @@
 -- Ends that are told are few: one, or those that a root lists up to one of them.
 use Rattle.arj_law_parts.proofs.Words
-use Words.{◌≡◌, ◌≤◌, ◌++◌, ◌+◌, ◌||◌, ◌&&◌, arith, ℕ, Bool, true, false, cond, not, List, [], ◌∷◌, filter, length, map, Option, Some, None, refl, sym}
-use Words.{subst, inl, inr, ⊎_elim, ⊤, AllByRecursion, actor, asked_by, next_node, give_up_call, Moved, PutIntent, Ask, Asked, Body, End, Head, Header, Kind, Label, Message, Path, Uid, asks, request, Reply}
+use Words.{◌≡◌, ◌≤◌, ◌++◌, ◌+◌, ◌||◌, ◌&&◌, arith, ℕ, Bool, true, false, cond, not, List, [], ◌∷◌, filter, length, map, Option, Some, None}
+use Words.{refl, sym}
+use Words.{subst, inl, inr, ⊎_elim, ⊤, AllByRecursion, actor, asked_by, next_node, give_up_call, Moved, PutIntent, Ask, Asked, Body, End}
+use Words.{Head, Header, Kind, Label, Message, Path, Uid, asks, request, Reply}
 use Words.{response, again_all, again_now, asks_all, asks_node, begin_action, call, call_steps, commit_action, commit_open, commit_top}
 use Words.{commits_in, end_line, gaveup_lines, give_up, give_up_doing, gives_up, goes_on, heard, heard_by, heard_call, heard_doing}
 use Words.{heard_none, heard_now, include, is_serial, last_req, mark_lines, moved_commit, step_call, step_commit, waits_for_call}
-use Words.{waits_for_commit, CallStep, Ended, On, Steps, answered, given_up, kept_at, Aborts, Asks, CommitStep, Decides, Marked, Plan, Stays}
-use Words.{has_record, nodes_given_up, participants, plan_of, waiting, Calling, Committing, Coord, Doing, Idle, Now, doing_of, is_free, plan_for}
-use Words.{root_at, Did, Disk, Do, Effect, Intent, Say, Send, Served, worked, abort_action, aborts_with, acked, acked_by, acked_left, all_aborted}
+use Words.{waits_for_commit, CallStep, Ended, On, Steps, answered, given_up, kept_at, Aborts, Asks, CommitStep, Decides, Marked, Plan}
+use Words.{Stays}
+use Words.{has_record, nodes_given_up, participants, plan_of, waiting, Calling, Committing, Coord, Doing, Idle, Now, doing_of, is_free}
+use Words.{plan_for}
+use Words.{root_at, Did, Disk, Do, Effect, Intent, Say, Send, Served, worked, abort_action, aborts_with, acked, acked_by, acked_left}
+use Words.{all_aborted}
 use Words.{answer_decided, answer_query, answer_recorded, decide, decided_told, ended, ends_with, is_deferred, is_kept_commit, let_go}
-use Words.{record_work, root_lost, root_moved, on_root, on_doing, root_or_self, say_for, says, tell, tell_all, tolds_by, tolds_let_go, tolds_of}
+use Words.{record_work, root_lost, root_moved, on_root, on_doing, root_or_self, say_for, says, tell, tell_all, tolds_by, tolds_let_go}
+use Words.{tolds_of}
 use Words.{tolds_of_branch, up_to, nodes_sent, servers_told, at_uid, has, without_number, without_uid, tick_outs, Parts, Took, handle}
 use Words.{holders, query_about, with_coord, Input, acts, branch_named, on_branch, parent_of, parts_in, restart_outs, tolds_again, Branch}
 use Words.{branch_of, ends_of, is_open, open_below, root_of, uid_eq, Post, Seen, flat_map}
@@ -107,8 +113,15 @@ tolds_few intents c u few = by (branch_of u c.tree)
     kinds p kind.Nested =
         let less = up_shorter u (ends_of (root_of p) c.tree) in
         let most = few (root_of p) in
-        told_all (root_of p) false (up_to u (ends_of (root_of p) c.tree)) (servers_told u (root_at (root_of p) c) c) (omega (arith, less, most))
-    kinds p kind.Serial = told_all u false ((u, ending.Abort) ∷ []) (filter (λ n. not (is_deferred u intents n)) (nodes_sent u (root_at u c)))
+        told_all (root_of p) false (up_to u (ends_of (root_of p) c.tree)) (servers_told u (root_at (root_of p) c) c) (omega (
+          arith,
+          less,
+          most,
+        ))
+    kinds p kind.Serial = told_all u false ((
+      u,
+      ending.Abort,
+    ) ∷ []) (filter (λ n. not (is_deferred u intents n)) (nodes_sent u (root_at u c)))
         (one u ending.Abort)
     kinds p kind.Top = told_all (root_of p) false ((u, ending.Abort) ∷ []) (nodes_sent u (root_at (root_of p) c)) (one u ending.Abort)
     kinds p kind.Independent =
@@ -180,7 +193,8 @@ commit_if b intents c = doomed b.doomed
     plan = commit.start (plan_for b.path (last_req (doing_of u c)) (root_at (root_of b.path) c) c)
 
     top : If (commit_top b.path intents c)
-    top few = both (says u body.Committing c) (moved_commit u plan intents c).outs (said u body.Committing c) (moved_if u plan intents c few)
+    top few = both (says u body.Committing c) (moved_commit u plan intents c).outs (said u body.Committing c) (moved_if u plan intents c
+        few)
 
     kinds : (k : Kind) → If (commit_open b intents c k)
     kinds kind.Nested few = ends_if u ending.Commit body.Committed intents c few
@@ -273,7 +287,8 @@ heard_if from a r intents c = by (doing_of a.act c)
     Heard : Served Coord (Unit {0}) → Type 0
     Heard q = HasFewEnds (let e = q.part in e.tree) → AllTell q.outs
 
-    now : (n : Now) → HasFewEnds (let q = heard_now from a r intents c n in let e = q.part in e.tree) → AllTell (heard_now from a r intents c n).outs
+    now : (n : Now) → HasFewEnds (let q = heard_now from a r intents c n in let e = q.part in e.tree) →
+        AllTell (heard_now from a r intents c n).outs
     now Idle few = tt
     now (Calling s) few = one_of (waits_for_call from a r s)
       where
@@ -287,7 +302,8 @@ heard_if from a r intents c = by (doing_of a.act c)
       where
         one_of : (w : Bool) → HasFewEnds (let q = cond {A = Served Coord (Unit {0})} w
             (heard_by (moved_commit a.act (commit.answered from m r) intents c)) (heard_none c) in let e = q.part in e.tree) →
-            AllTell (cond {A = Served Coord (Unit {0})} w (heard_by (moved_commit a.act (commit.answered from m r) intents c)) (heard_none c)).outs
+            AllTell (cond {A = Served Coord (Unit {0})} w (heard_by (moved_commit a.act (commit.answered from m r) intents c)) (heard_none
+            c)).outs
         one_of true few_now = moved_if a.act (commit.answered from m r) intents c few_now
         one_of false few_now = tt
 
@@ -305,7 +321,8 @@ acked_few from u intents c = by (at_uid u c.telling)
 
     rest : (o : Option Intent) → AllTell (tolds_let_go u (without_uid u intents) c o)
     rest None = tt
-    rest (Some i) = let_go_few (not (uid_eq i.root u) && is_over (branch_of i.root c.tree)) i (let_go i.root (without_uid u intents) c i.nodes)
+    rest (Some i) = let_go_few (not (uid_eq i.root u) && is_over (branch_of i.root c.tree)) i (let_go i.root (without_uid u intents) c
+        i.nodes)
 
     gone : (i : Intent) (ns : List ℕ) → AllTell (acked_left u i intents c ns).outs
     gone i [] = (tt, rest (at_uid u intents))
@@ -428,7 +445,8 @@ tolds_keep hd R keeps room = record {
   tick = λ e k d t M g. beside e k (tick_outs (record { number = k; disk = d; live = Some t }) t)
       (with_coord t (again_all t.coord.doings t.coord).part) d M (λ few. tick_few k d t) (keeps.tick e k d t M g.0) g.1;
   restart = λ e k d M g. beside e k (restart_outs hd k (d.inc + 1) d) (parts_in k (d.inc + 1) d) d M
-      (λ few. restart_said Tells (λ b. tt) hd k (d.inc + 1) d tt tt (again_few d.intents) (λ u. tt) (λ n. tt)) (keeps.restart e k d M g.0) g.1;
+      (λ few. restart_said Tells (λ b. tt) hd k (d.inc + 1) d tt tt (again_few d.intents) (λ u. tt) (λ n. tt)) (keeps.restart e k d M g.0)
+      g.1;
   first = λ st formed. (keeps.first st formed, λ p there. absurd there);
 }
   where

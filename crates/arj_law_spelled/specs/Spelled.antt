@@ -3,21 +3,13 @@ use Rattle.std.specs.Prelude.{◌≤◌, ℕ, length, ⊤}
 use Rattle.std.specs.List.{AllByRecursion}
 use Rattle.arj_journal.specs.ScriptForm.{HeaderInForm}
 use Rattle.arj_msg.specs.Sendable.{IsSendable, InvokedSends, LoadedSends, OpSends, StateSends, VotedSends}
-use Rattle.arj_protocol.specs.Words.{BoundReply, Header, Message, ObjectState, VotedReply}
-use Rattle.arj_protocol.specs.Words.bound
+use Rattle.arj_protocol.specs.Words.{Header, Message, ObjectState, VotedReply}
 use Rattle.arj_protocol.specs.Words.message
 use Rattle.arj_protocol.specs.Words.voted
 use Rattle.arj_law_parts.specs.moves.Keeps.{Holds}
 use Rattle.arj_law_parts.specs.moves.Seen.{In}
 use Rattle.arj_promise.specs.Runs.{IsInForm, Post, Run, Seen, world_by}
 use Rattle.arj_start.specs.Start.{Start, fresh}
-
--- at most 255 stores
-abbrev pub ListsFew : BoundReply → Type 0
-ListsFew (bound.Live b server i g stores) = length stores ≤ 255
-ListsFew (bound.Make b server g stores) = length stores ≤ 255
-ListsFew (bound.Write g stores) = length stores ≤ 255
-ListsFew (bound.Conflict holder m) = ⊤
 
 -- Of a message, what isn't shown: its states restore, registers have at most 64 bytes, and a vote has at most 255 states.
 abbrev pub IsLeft : Message → Type 0
