@@ -1,13 +1,10 @@
 -- A coordinator counts the actions of each root: as many as its tree has of it.
 use Rattle.arj_law_parts.proofs.Words
 use Words.{◌≡◌, ◌∙◌, ◌+◌, ◌==◌, ℕ, zero, suc, Bool, true, false, cond, List, [], ◌∷◌, ◌++◌, filter, length, refl, sym, ap, subst, arith}
-use Words.{nat_tests, nat_le, Option, Some, None, is_some, slice_get, slice_set, unwrap_or, length-append, filter-append, put_other}
-use Words.{put_same}
-use Words.{at_number, put_number, Branch, Coord, End, Family, Kind, Label, Path, Tree, Uid, at_place, begin_action, begun_by, branch_of}
-use Words.{doomed_at}
-use Words.{doomed_branch, ended_at, ended_branch, eqb-true, family_of, new_coord, next_uid, no_family, parent_of, path_below, root_of}
-use Words.{set_place}
-use Words.{uids_of, uses_object, with_family, Intent}
+use Words.{nat_tests, nat_le, Option, Some, None, slice_get, slice_set, unwrap_or, length-append, filter-append, put_other, put_same}
+use Words.{at_number, put_number, Branch, Coord, End, Family, Kind, Path, Tree, Uid, at_place, begun_by, branch_of, doomed_at}
+use Words.{doomed_branch, ended_at, ended_branch, eqb-true, family_of, next_uid, no_family, parent_of, path_below, root_of, set_place}
+use Words.{uids_of, uses_object, with_family}
 use Rattle.arj_law_runs.proofs.Terms.{found_by, actions_at}
 use Rattle.arj_law_runs.proofs.coordinators.CoordRooms.{acked_tree, again_tree}
 use Rattle.arj_law_runs.proofs.coordinators.RunCoords.{IsKept}

@@ -1,12 +1,10 @@
 -- The reasons that a node finds are causes of the journal, one by one, from what the tree has on.
 use Rattle.arj_law_parts.proofs.Words
 use Words.{◌≡◌, ◌∙◌, ◌≤◌, ◌==◌, ◌&&◌, ◌||◌, not, ℕ, Bool, true, false, cond, List, [], ◌∷◌, refl, sym, ap, subst, arith, nat_tests}
-use Words.{Option, Some}
-use Words.{None, is_some, nat_le, nat_lt, list_all, and_parts, or_left, or_right, eqb-true, name, actor, Event, Header, Label}
-use Words.{Kind}
-use Words.{ObjectLine, Op, Node, Parts, World, Branch, Coord, Labelled, Input, at_place, branch_named, class_at, class_in, first_reason}
-use Words.{has_many_objects, has_open_child, is_below_16, is_serial, kind_below, lacks_op, refusal_at, refusal_up, refused_by}
-use Words.{sibling_waits, waits, waits_above, waits_below, node_of, refused_at, is_given, reasons}
+use Words.{Option, Some, None, is_some, nat_le, nat_lt, list_all, and_parts, or_left, or_right, eqb-true, name, actor, Event, Header}
+use Words.{Label, Kind, ObjectLine, Op, Node, Parts, World, Branch, Coord, Labelled, Input, at_place, branch_named, class_at, class_in}
+use Words.{first_reason, has_many_objects, has_open_child, is_below_16, is_serial, kind_below, lacks_op, refusal_at, refusal_up}
+use Words.{refused_by, sibling_waits, waits, waits_above, waits_below, node_of, refused_at, is_given, reasons}
 use Words.event
 use Words.input
 use Words.kind

@@ -1,10 +1,8 @@
 -- In every run the refusals that go by the tree of actions are those that the journal has causes for.
 use Rattle.arj_law_parts.proofs.Words
-use Words.{◌≡◌, ◌∙◌, ◌≤◌, ◌&&◌, not, ◌==◌, ℕ, Bool, true, false, List, [], ◌∷◌, refl, sym, ap, subst, Option, Some, None, nat_lt}
-use Words.{and_parts, name}
-use Words.{at_place, Body, Event, Header, Label, Node, Parts, World, Branch, Labelled, Arm, branch_named, counted, is_given, is_serial}
-use Words.{kind_below}
-use Words.{labelled, node_in, node_of, world_from, Move, journal_by, moved, IsInForm, Start, eq-eqb}
+use Words.{◌≡◌, ◌∙◌, ◌≤◌, ◌&&◌, not, ◌==◌, ℕ, Bool, true, false, List, [], ◌∷◌, refl, sym, ap, Option, Some, None, nat_lt, and_parts}
+use Words.{name, at_place, Body, Event, Header, Label, Node, Parts, World, Branch, Labelled, Arm, branch_named, counted, is_given}
+use Words.{is_serial, kind_below, node_in, node_of, world_from, Move, journal_by, IsInForm, Start}
 use Words.body
 use Words.kind
 use Rattle.arj_law_runs.proofs.Terms.{Act, Holds, keeps_asked, label_at}

@@ -1,10 +1,8 @@
 -- The actions of one root are as many in the journal as in the tree of their coordinator.
 use Rattle.arj_law_parts.proofs.Words
-use Words.{◌≡◌, ◌∙◌, ◌≤◌, ◌+◌, ◌==◌, ◌&&◌, ◌||◌, ℕ, zero, suc, Bool, true, false, cond, List, [], ◌∷◌, ◌++◌, filter, length, refl}
-use Words.{sym, ap}
-use Words.{subst, arith, nat_tests, nat_le, Option, Some, None, inl, inr, In, slice_get, eqb-true, uid_eq, uid_is}
-use Words.{uid_same}
-use Words.{bytes_eq, first_uid, is_on, Uid, Kind, Header, World, Node, Parts, Branch, at_place, branch_of, is_own, root_of, uid_at}
+use Words.{◌≡◌, ◌∙◌, ◌≤◌, ◌+◌, ◌==◌, ◌&&◌, ◌||◌, ℕ, zero, suc, Bool, true, false, cond, List, [], ◌∷◌, ◌++◌, filter, length, refl, sym}
+use Words.{ap, subst, arith, nat_tests, nat_le, Option, Some, None, inl, inr, In, slice_get, eqb-true, uid_eq, uid_is, uid_same, bytes_eq}
+use Words.{first_uid, is_on, Uid, Kind, Header, World, Node, Parts, Branch, at_place, branch_of, is_own, root_of, uid_at}
 use Words.kind
 use Rattle.arj_law_runs.proofs.Terms.{Act, act_in, acts, path, path_in, uids, upwards, AreDistinct, Holds, has_act, found_by, own_is}
 use Rattle.arj_law_runs.proofs.follow.Halts.{KnowsAll}

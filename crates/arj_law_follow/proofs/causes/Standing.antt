@@ -1,19 +1,15 @@
 -- The actions of a coordinator that is up are those of the journal: each with its path, its kind, and whether it is over.
 use Rattle.arj_law_parts.proofs.Words
-use Words.{◌≡◌, ◌∙◌, ◌==◌, ◌&&◌, ◌||◌, not, ℕ, Bool, true, false, cond, List, [], ◌∷◌, refl, sym, ap, subst, Option, Some, None, In}
-use Words.{in_from}
-use Words.{in_to, is_some, inl, inr, bytes_eq-Decides, AllByRecursion, Body, Header, Kind, Label, Uid, actor, name, number_of, uid_at}
-use Words.{uids_of}
-use Words.{at_place, Branch, Doing, Node, Parts, World, branch_named, branch_numbered, branch_of, doing_of, is_on, is_own, uid_eq, see}
-use Words.{is_eq, lookup, nat_cmp, slice_cmp, Labelled, map, root_of}
+use Words.{◌≡◌, ◌∙◌, ◌==◌, ◌&&◌, ℕ, true, cond, List, [], ◌∷◌, refl, sym, ap, subst, Option, Some, None, In, in_to, is_some, inl, inr}
+use Words.{AllByRecursion, Header, Label, Uid, actor, name, number_of, uid_at, uids_of, at_place, Branch, Doing, Node, Parts, World}
+use Words.{branch_named, branch_numbered, branch_of, is_on, is_own, see, is_eq, lookup, nat_cmp, slice_cmp, map, root_of}
 use Rattle.arj_law_runs.proofs.Terms
 use Terms.{Act, act_in, acts, path, uids, book, Holds, IsGiven, IsGoodCoord, IsKept, IsKnown, IsMemory, IsUp, IsWritten, HasNames}
 use Terms.{KnowsUp, found_by, paths_of, begun_tree, path_found}
 use Rattle.arj_law_runs.proofs.follow.Gone.{ended_so, is_gone, is_gone_branch}
 use Rattle.arj_law_runs.proofs.follow.Halts.{KnowsAll}
 use Rattle.arj_law_runs.proofs.follow.Labeled.{KnowsFinds, label_there, place_there}
-use Rattle.arj_law_runs.proofs.journal.{Models.its_acts, Models.its_sound, Models.named_in}
-use Rattle.arj_law_runs.proofs.journal.{Ties.named_label}
+use Rattle.arj_law_runs.proofs.journal.{Models.its_acts, Models.its_sound, Models.named_in, Ties.named_label}
 use Rattle.arj_law_runs.proofs.calls.CoordKnown.{root_own}
 use Rattle.arj_law_runs.proofs.kept.Walked.{same_number}
 use Rattle.arj_law_runs.specs.journal.Knows.{KnowsNode}

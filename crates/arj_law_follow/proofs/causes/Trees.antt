@@ -1,23 +1,18 @@
 -- What a node finds of the action under a label, the journal has of it: its kind, its depth, its open children, and how many actions its
 -- root has.
 use Rattle.arj_law_parts.proofs.Words
-use Words.{◌≡◌, ◌∙◌, ◌&&◌, ◌||◌, not, ℕ, Bool, true, false, cond, List, [], ◌∷◌, ◌++◌, filter, length, refl, sym, ap, Some}
-use Words.{None, inl}
-use Words.{inr, In, is_some, list_any, nat_le, and_parts, or_left, or_right, length-map, before_last, first_uid, is_on, name}
-use Words.{uid_same}
-use Words.{actor, Header, Label, Node, Parts, Uid, World, Branch, at_place, branch_named, branch_of, has_open_child, is_own}
-use Words.{is_parent}
+use Words.{◌≡◌, ◌∙◌, ◌&&◌, ◌||◌, not, ℕ, Bool, true, false, cond, List, [], ◌∷◌, ◌++◌, filter, length, refl, sym, ap, Some, None, inl}
+use Words.{inr, In, is_some, list_any, nat_le, and_parts, or_left, or_right, length-map, before_last, first_uid, is_on, name, uid_same}
+use Words.{actor, Header, Label, Node, Parts, Uid, World, Branch, at_place, branch_named, branch_of, has_open_child, is_own, is_parent}
 use Words.{is_serial, most_actions, root_of, uid_at, uid_eq, uids_of}
 use Rattle.arj_law_runs.proofs.Terms.{Act, act_in, acts, path, uids, Holds, found_by, place_in, placed}
 use Rattle.arj_law_parts.proofs.parts.Stores.{one_of as any_one}
 use Rattle.arj_law_runs.proofs.follow.Halts.{KnowsAll}
 use Rattle.arj_law_runs.proofs.follow.Labeled.{KnowsFinds}
 use Rattle.arj_law_runs.proofs.journal.{Closed.one_act, Ties.named_label}
-use Rattle.arj_law_follow.proofs.causes.{Above.parent_on, Above.same_parent, Counting.Counts, Roots.has_root}
-use Rattle.arj_law_follow.proofs.causes.{Roots.same_count}
+use Rattle.arj_law_follow.proofs.causes.{Above.parent_on, Above.same_parent, Counting.Counts, Roots.has_root, Roots.same_count}
 use Rattle.arj_law_follow.proofs.causes.{Roots.same_roots, Standing.IsOne, Standing.apart, Standing.below_one, Standing.formed}
-use Rattle.arj_law_follow.proofs.causes.{Standing.its_uid}
-use Rattle.arj_law_follow.proofs.causes.{Standing.named_one, Standing.one_of, Standing.own_number, Standing.root_is_own}
+use Rattle.arj_law_follow.proofs.causes.{Standing.its_uid, Standing.named_one, Standing.one_of, Standing.own_number, Standing.root_is_own}
 use Rattle.arj_model.specs.Actions.{is_over}
 use Rattle.arj_model.specs.Refusals as model
 use Rattle.arj_protocol.specs.Tree.{has_many_actions, is_too_deep}

@@ -1,18 +1,14 @@
 -- What of a coordinator's tree ends, dooms and uses of objects leave as it is, all that it does but a beginning leaves.
 use Rattle.arj_law_parts.proofs.Words
 use Words.{◌≡◌, ◌∙◌, ◌+◌, ℕ, Bool, true, false, cond, List, [], ◌∷◌, ◌++◌, refl, sym, subst, Option, Some, None, Reply, actor, asks_all}
-use Words.{asks_node}
-use Words.{call, call_steps, commit_action, commit_open, commit_top, commits_in, doomed_by, ends_call, give_up, give_up_doing, gives_up}
-use Words.{goes_on}
-use Words.{heard, heard_by, heard_call, heard_doing, heard_none, heard_now, include, kept_at, moved_commit, next_req, renewed, root_heard}
-use Words.{root_lost, root_moved, step_call, step_commit, waits_for_call, waits_for_commit, Answered, CallEnd, CallStep, Changed}
-use Words.{Conflict}
-use Words.{Ended, Included, Lost, On, Steps, answered, given_up, start, Aborts, Asks, CommitStep, Decides, Plan, Stays, has_record}
-use Words.{participants, plan_of, Calling, Committing, Coord, Doing, Idle, Now, doing_of, is_free, keeping_of, on_doing, on_root, root_at}
-use Words.{with_keeping, Intent, Served, abort_action, aborts_with, all_aborted, decide, ended, root_after, put_uid, unbound, Input, acts}
-use Words.{branch_named, on_branch, Branch, Tree, doomed_at, ended_at, open_below, root_of, uses_object, Asked, Ask, End, Header, Kind}
-use Words.{Label}
-use Words.{Op, Path, Uid}
+use Words.{asks_node, call, call_steps, commit_action, commit_open, commit_top, commits_in, doomed_by, ends_call, give_up, give_up_doing}
+use Words.{gives_up, goes_on, heard, heard_by, heard_call, heard_doing, heard_none, heard_now, include, kept_at, moved_commit, next_req}
+use Words.{renewed, root_heard, root_lost, root_moved, step_call, step_commit, waits_for_call, waits_for_commit, Answered, CallEnd}
+use Words.{CallStep, Changed, Conflict, Ended, Included, Lost, On, Steps, answered, given_up, start, Aborts, Asks, CommitStep, Decides}
+use Words.{Plan, Stays, has_record, participants, plan_of, Calling, Committing, Coord, Doing, Idle, Now, doing_of, is_free, keeping_of}
+use Words.{on_doing, on_root, root_at, with_keeping, Intent, Served, abort_action, aborts_with, all_aborted, decide, ended, root_after}
+use Words.{put_uid, unbound, Input, acts, branch_named, on_branch, Branch, Tree, doomed_at, ended_at, open_below, root_of, uses_object}
+use Words.{Asked, Ask, End, Kind, Label, Op, Path, Uid}
 use Words.calls
 use Words.commit
 use Words.input

@@ -1,15 +1,10 @@
 -- What an event about one action, one node or one frame adds at its node: own lines, and then work.
 use Rattle.arj_law_parts.proofs.Words
-use Words.{◌≡◌, ◌⊎◌, ◌∙◌, ◌+◌, ◌-◌, ◌≤◌, ◌<◌, ◌==◌, ◌&&◌, ◌||◌, ◌++◌, not, ℕ, zero, suc, Bool, true, false, cond, List, [], ◌∷◌, length}
-use Words.{refl, sym, ap, subst, arith, nat_tests, inl, inr, ⊎_elim, Option, Some, None, is_some, list_all, and_parts, or_left, or_right}
-use Words.{append_assoc, append-nil, map-append, length-append, eqb-true, bytes_eq-Decides, AllByRecursion, nat_lt, at_number, at_place}
-use Words.{set_place, Body, Event, Header, Label, Kind, FrameNo, Op, Uid, Branch, Coord, Doing, Node, Parts, Input, Step, Arm, World}
-use Words.{Frame, Labelled, Disk, Stop, Effect, Say, Send, Do, Line, Message, actor, armed, as_delivered, branch_named, change_frame}
-use Words.{count_works, counted, cut, deliver, deliver_frame, disarmed, doing_of, done_step, first_reason, frame_number, frames_with}
-use Words.{halted_at, halted_outs, happens, is_frame, is_given, is_quiet, is_up, is_up_at, kind_below, labelled, limited, lowest}
-use Words.{most_frames, name, node_in, node_numbers, node_of, numbered, quiesce, reasons, refusal, refused_at, refused_by, sends, settle}
-use Words.{settle_for, show_all, show_up, step, step_node, step_with, steps, tick_all, tick_up, uid_at, uids_of, world_from, worked, Move}
-use Words.{moved, journal_by, IsInForm, Start, branch_of, acts, bodies, take, bytes_eq}
+use Words.{◌≡◌, ◌⊎◌, ◌∙◌, ◌+◌, ◌≤◌, ◌<◌, ◌++◌, not, ℕ, zero, suc, true, false, cond, List, [], ◌∷◌, length, refl, sym, ap, subst, arith}
+use Words.{inl, inr, ⊎_elim, Option, Some, None, is_some, at_place, Body, Header, Label, FrameNo, Op, Branch, Doing, Node, Parts, Input}
+use Words.{Arm, World, Frame, actor, as_delivered, branch_named, change_frame, counted, deliver, deliver_frame, doing_of, first_reason}
+use Words.{frame_number, is_frame, is_given, is_up, is_up_at, name, node_in, node_of, reasons, refusal, refused_at, refused_by, step}
+use Words.{steps, uid_at, Move, acts}
 use Words.body
 use Words.cause
 use Words.event
@@ -18,7 +13,7 @@ use Words.frame_no
 use Words.input
 use Words.kind
 use Rattle.arj_law_runs.proofs.Terms.which
-use Rattle.arj_law_runs.proofs.Terms.{Act, Holds, IsMemory, IsUp, act_in, option_map, says, keeps_asked}
+use Rattle.arj_law_runs.proofs.Terms.{Act, Holds, IsMemory, IsUp, act_in, option_map}
 use Rattle.arj_law_runs.proofs.Terms as terms
 use Rattle.arj_law_parts.proofs.moves.Reasons.{first_not, not_not}
 use Rattle.arj_law_runs.proofs.journal.Ties.{named_label}
@@ -26,7 +21,6 @@ use Rattle.arj_law_runs.proofs.addresses.Runs.{within_of}
 use Rattle.arj_law_runs.proofs.follow.Frames as frames
 use Rattle.arj_law_runs.proofs.follow.Gone.{its_action}
 use Rattle.arj_law_runs.proofs.follow.Refusing as refusing
-use Rattle.arj_law_runs.proofs.follow.Refusing.{Came, IsRefused, IsRun, same_bodies}
 use Rattle.arj_law_runs.proofs.follow.Shorts as shorts
 use Rattle.arj_law_runs.proofs.follow.Telling.{frame_test}
 use Rattle.arj_law_runs.proofs.follow.Walking.{AreFor}
@@ -43,7 +37,6 @@ use Rattle.arj_law_follow.proofs.lines.Working.{works}
 use Rattle.arj_law_follow.specs.lines.Lines.{BeginsCommitSo}
 use Rattle.arj_journal.specs.ScriptForm.{HeaderInForm}
 use Rattle.arj_model.specs.Own as own
-use Rattle.arj_model.specs.Own.{Begins, Ends, IsFrameLimit, MayMeetLimit, halts_fit, may_stand}
 use Rattle.arj_model.specs.Past.{Past}
 use Rattle.arj_model.specs.Refusals as model
 use Rattle.arj_promise.specs.Runs.{IsStoppedInForm}

@@ -1,15 +1,10 @@
 -- In every run accepted events write their own lines, those that may stand between them, and their ends.
 use Rattle.arj_law_parts.proofs.Words
-use Words.{◌≡◌, ◌⊎◌, ◌∙◌, ◌+◌, ◌-◌, ◌≤◌, ◌<◌, ◌==◌, ◌&&◌, ◌||◌, ◌++◌, not, ℕ, zero, suc, Bool, true, false, cond, List, [], ◌∷◌, length}
-use Words.{refl, sym, ap, subst, arith, nat_tests, inl, inr, ⊎_elim, Option, Some, None, is_some, list_all, and_parts, or_left, or_right}
-use Words.{append_assoc, append-nil, map-append, length-append, eqb-true, bytes_eq-Decides, AllByRecursion, nat_lt, at_number, at_place}
-use Words.{set_place, Body, Event, Header, Label, Kind, FrameNo, Op, Uid, Branch, Coord, Doing, Node, Parts, Input, Step, Arm, World}
-use Words.{Frame, Labelled, Disk, Stop, Effect, Say, Send, Do, Line, Message, actor, armed, as_delivered, branch_named, change_frame}
-use Words.{count_works, counted, cut, deliver, deliver_frame, disarmed, doing_of, done_step, first_reason, frame_number, frames_with}
-use Words.{halted_at, halted_outs, happens, is_frame, is_given, is_quiet, is_up, is_up_at, kind_below, labelled, limited, lowest}
-use Words.{most_frames, name, node_in, node_numbers, node_of, numbered, quiesce, reasons, refusal, refused_at, refused_by, sends, settle}
-use Words.{settle_for, show_all, show_up, step, step_node, step_with, steps, tick_all, tick_up, uid_at, uids_of, world_from, worked, Move}
-use Words.{moved, journal_by, IsInForm, Start, branch_of, acts, bodies, take, bytes_eq}
+use Words.{◌≡◌, ◌⊎◌, ◌∙◌, ◌+◌, ◌-◌, ◌≤◌, ◌==◌, ◌&&◌, ◌++◌, not, ℕ, Bool, true, false, cond, List, [], ◌∷◌, length, refl, sym, ap, subst}
+use Words.{arith, nat_tests, inl, inr, ⊎_elim, Option, Some, None, list_all, and_parts, append_assoc, append-nil, map-append}
+use Words.{length-append, Body, Event, Header, Step, Arm, World, Stop, Line, counted, first_reason, frame_number, happens, is_frame}
+use Words.{is_quiet, is_up_at, limited, most_frames, node_numbers, node_of, numbered, quiesce, reasons, refusal, settle, show_all, step}
+use Words.{tick_all, world_from, Move, moved, journal_by, IsInForm, acts, bodies}
 use Words.body
 use Words.cause
 use Words.event
@@ -18,7 +13,7 @@ use Words.frame_no
 use Words.input
 use Words.kind
 use Rattle.arj_law_runs.proofs.Terms.which
-use Rattle.arj_law_runs.proofs.Terms.{Act, Holds, IsMemory, IsUp, act_in, option_map, says, keeps_asked}
+use Rattle.arj_law_runs.proofs.Terms.{Holds, says, keeps_asked}
 use Rattle.arj_law_runs.proofs.Terms as terms
 use Rattle.arj_law_parts.proofs.moves.Reasons.{first_not, is_there, not_not}
 use Rattle.arj_law_parts.specs.steps.Writes.{node_refusal}
@@ -53,7 +48,7 @@ use Rattle.arj_model.specs.CauseSpans.{Here, here_at}
 use Rattle.arj_model.specs.Follows.{Accepted, Runs, is_limited}
 use Rattle.arj_model.specs.Follows as model_step
 use Rattle.arj_model.specs.Own as own
-use Rattle.arj_model.specs.Own.{Begins, Ends, IsFrameLimit, MayMeetLimit, halts_fit, may_stand}
+use Rattle.arj_model.specs.Own.{Begins, Ends, MayMeetLimit, halts_fit, may_stand}
 use Rattle.arj_model.specs.Past.{Asked as AskedOf, Past, asked_of, block, is_refused, next}
 use Rattle.arj_model.specs.Refusals as model
 use Rattle.arj_promise.specs.Runs.{IsStoppedInForm, Run}

@@ -1,7 +1,7 @@
 -- Frames and halts between an event's own lines, from what is known of each of its lines.
 use Rattle.arj_law_parts.proofs.Words
-use Words.{◌≡◌, ◌⊎◌, ◌≤◌, ◌∙◌, ◌+◌, ◌==◌, ◌&&◌, ◌||◌, not, ℕ, Bool, true, false, List, [], ◌∷◌, ◌++◌, length, refl, sym, ap, subst}
-use Words.{and_parts, arith, nat_tests, eqb-true, append_assoc, append-nil, Body, Event, Header, Line, Start}
+use Words.{◌≡◌, ◌⊎◌, ◌≤◌, ◌∙◌, ◌+◌, ◌==◌, ◌&&◌, ◌||◌, not, ℕ, Bool, true, false, List, [], ◌∷◌, ◌++◌, length, refl, sym, ap, and_parts}
+use Words.{arith, nat_tests, eqb-true, Body, Event, Start}
 use Words.body
 use Words.event
 use Rattle.arj_law_runs.specs.follow.Frames.{are_so, frame_fits}

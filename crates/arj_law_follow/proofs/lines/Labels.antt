@@ -5,7 +5,6 @@ use Words.{Option, Some, None, or_left, or_right, eqb-true, Body, Label, Line, n
 use Words.body
 use Rattle.arj_model.specs.CausePends.{frame_is, sends as sends_frame}
 use Rattle.arj_model.specs.Own as own
-use Rattle.arj_model.specs.Own.{Begins, Ends, IsFrameLimit, MayMeetLimit, halts_fit, may_stand}
 use Rattle.arj_protocol.specs.Words.{FrameKind}
 use Rattle.std.specs.Prelude.{drop, replicate}
 use Rattle.std.proofs.Math.Path.{PathP, to_path_p}

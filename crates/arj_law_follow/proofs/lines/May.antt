@@ -15,7 +15,6 @@ use Steps.{finds, loses}
 use Rattle.arj_law_follow.proofs.lines.Working.{works}
 use Rattle.arj_law_follow.specs.lines.Lines.{may_stand_or_lose}
 use Rattle.arj_model.specs.Own as own
-use Rattle.arj_model.specs.Own.{Begins, Ends, IsFrameLimit, MayMeetLimit, halts_fit, may_stand}
 use Rattle.arj_law_follow.proofs.lines.Several.{stands}
 
 -- ---- lines as those that may stand

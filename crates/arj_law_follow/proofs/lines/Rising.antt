@@ -1,10 +1,9 @@
 -- A commit waits for nodes in increasing order, and for some.
 use Rattle.arj_law_parts.proofs.Words
-use Words.{◌≡◌, ◌∙◌, ◌+◌, ◌<◌, ◌==◌, not, ℕ, zero, suc, Bool, true, false, cond, List, [], ◌∷◌, ◌++◌, filter, refl, sym, ap, subst, ⊤}
-use Words.{Used, flat_map, map, AllByRecursion, Option, Some, None, Uid, Header, Kind, Label, Intent, again_all, begin_action, heard}
-use Words.{acked, acts, tick_outs, with_coord, Coord, Doing, Now, Idle, Calling, Committing, Plan, doing_of, is_empty, left_of}
-use Words.{without_number, Disk, Do, Effect, Say, Send, worked, stopped, Parts, Input, Node, parent_of, parts_in, restart_outs, at_place}
-use Words.{Seen, is_serial}
+use Words.{◌≡◌, ◌∙◌, ◌+◌, ◌<◌, ◌==◌, not, ℕ, zero, suc, Bool, true, false, cond, List, [], ◌∷◌, filter, refl, sym, ap, subst, ⊤, Used}
+use Words.{flat_map, map, AllByRecursion, Option, Some, None, Uid, Header, again_all, begin_action, acts, tick_outs, with_coord, Coord}
+use Words.{Doing, Now, Idle, Calling, Committing, Plan, doing_of, is_empty, left_of, without_number, Disk, Do, Effect, Say, Send, worked}
+use Words.{stopped, Parts, Node, parent_of, parts_in, restart_outs, at_place, Seen, is_serial}
 use Rattle.arj_law_runs.proofs.Terms
 use Terms.{Keeps, at, given, posted, said, up, Up, Walks, halted, walks_both, IsKept, disk_by}
 use Rattle.arj_law_parts.proofs.coordinator

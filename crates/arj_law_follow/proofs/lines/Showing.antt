@@ -2,10 +2,10 @@
 use Rattle.arj_law_parts.proofs.Words
 use Words.{◌≡◌, ◌∙◌, ◌+◌, ◌-◌, ◌≤◌, ◌==◌, ◌&&◌, ◌||◌, ◌++◌, ℕ, zero, suc, Bool, true, false, cond, List, [], ◌∷◌, length, refl, sym, ap}
 use Words.{subst, arith, nat_tests, Option, Some, None, list_all, and_parts, append_assoc, append-nil, map-append, nat_lt, at_number}
-use Words.{at_place, Body, Disk, Stop, Effect, Say, Send, Do, Node, Parts, Input, Step, Arm, World, Uid, ObjectState, Pair, Header, Cut}
-use Words.{armed, bodies, count_works, copy_line, cut, disarmed, done_step, entry, entry_line, frames_with, halted_at, halted_outs}
-use Words.{held_at, holder_of, is_up_at, most_frames, numbered, object, sends, show_all, show_entry, show_outs, show_up, shown, step}
-use Words.{step_node, step_with, steps, worked}
+use Words.{at_place, Body, Disk, Stop, Effect, Say, Send, Do, Node, Parts, Step, Arm, World, Uid, ObjectState, Pair, Header, armed}
+use Words.{bodies, count_works, copy_line, cut, disarmed, done_step, entry, entry_line, frames_with, halted_at, halted_outs, held_at}
+use Words.{holder_of, is_up_at, most_frames, numbered, object, sends, show_all, show_entry, show_outs, show_up, shown, step, step_node}
+use Words.{step_with, steps, worked}
 use Words.body
 use Words.input
 use Rattle.arj_law_follow.proofs.lines.Saying.{list_both}

@@ -1,16 +1,14 @@
 -- What each input makes a node say: own lines first, and then its work.
 use Rattle.arj_law_parts.proofs.Words
-use Words.{◌≡◌, ◌⊎◌, ◌∙◌, ◌+◌, ◌==◌, ◌&&◌, ◌||◌, ◌++◌, not, ℕ, zero, suc, Bool, true, false, cond, List, [], ◌∷◌, map, refl, sym, ap}
-use Words.{subst, arith, nat_tests, inl, inr, Option, Some, None, is_some, list_all, and_parts, or_left, append_assoc, append-nil}
-use Words.{flat_map, all_flat, Body, Disk, Do, Effect, Look, PutInc, Say, Send, Stop, worked, Intent, Header, Label, Kind, Message, Op}
-use Words.{Path, Uid, Handled, Took, Void, again_all, again_now, asks_all, bodies, call, commit_action, commit_open, commit_top, cut}
-use Words.{halted_outs, holders, include, most_rounds, name, naming_at, naming_back, hello_to, node_did, numbers_to, on_branch, parts_in}
-use Words.{plan_of, prepared_actions, query_about, ran, recovered_records, restart_outs, says, say_for, show_outs, show_entry, shown}
-use Words.{copy_line, entry_line, taken, tick_step, tolds_again, tell_all, uid_set, whole, with_coord, without_number, Branch, Coord}
-use Words.{Doing, Idle, Calling, Committing, Now, Node, Parts, Step, actor, acts, branch_named, doing_of, frame_step, handled_step}
-use Words.{void_step, refusal, step, step_of, step_unless, Naming, Named, ObjectState, tolds_of, mark_lines, moved_commit, aborts_with}
-use Words.{ends_with, Input, Pair, holder_of, held_at, object, entry, back_lines, Aborts, Confirming, Machine, Plan, Preparing, Voting}
-use Words.{abort_action, all_aborted, all_both, bytes_eq, gaveup_lines, give_up, give_up_call, give_up_doing, given_up, gives_up}
+use Words.{◌≡◌, ◌⊎◌, ◌∙◌, ◌+◌, ◌==◌, ◌&&◌, ◌++◌, ℕ, zero, suc, Bool, true, false, cond, List, [], ◌∷◌, map, refl, sym, ap, subst, arith}
+use Words.{nat_tests, inl, inr, Option, Some, None, list_all, and_parts, flat_map, all_flat, Body, Disk, Do, Effect, Look, PutInc, Say}
+use Words.{Send, Stop, worked, Intent, Header, Label, Kind, Message, Op, Uid, Handled, Took, Void, again_all, again_now, bodies, call}
+use Words.{commit_action, commit_open, commit_top, cut, halted_outs, holders, include, most_rounds, name, naming_at, naming_back}
+use Words.{hello_to, node_did, numbers_to, parts_in, plan_of, prepared_actions, query_about, ran, recovered_records, restart_outs, says}
+use Words.{say_for, taken, tick_step, tolds_again, tell_all, uid_set, whole, with_coord, without_number, Branch, Coord, Doing, Idle}
+use Words.{Calling, Committing, Now, Node, Parts, actor, doing_of, frame_step, handled_step, void_step, step, step_of, step_unless}
+use Words.{Naming, Named, tolds_of, moved_commit, aborts_with, ends_with, back_lines, Aborts, Confirming, Machine, Plan, Preparing}
+use Words.{Voting, abort_action, all_aborted, all_both, bytes_eq, gaveup_lines, give_up, give_up_call, give_up_doing, given_up, gives_up}
 use Words.{next_node, nodes_given_up, on_root, open_below, root_lost, root_of, step_commit, is_empty, is_waiting_now}
 use Words.body
 use Words.cause
@@ -24,7 +22,7 @@ use Rattle.arj_law_parts.proofs.parts.Numbered.{AreUp}
 use Rattle.arj_model.specs.Own.{AreGiveUps, commit_line}
 use Rattle.arj_law_parts.proofs.moves.Rounds.{AreLooks, LooksAlone, is_look, taken_looks}
 use Rattle.arj_law_follow.proofs.lines.Saying
-use Saying.{Goes, Halts, Through, Led, Such, Tells, goes_halted, goes_through, led_tells, led_whole, own_bodies, say_all, such_work}
+use Saying.{Through, Led, Such, Tells, goes_halted, goes_through, led_tells, led_whole, say_all, such_work}
 use Rattle.arj_law_follow.proofs.lines.Working
 use Working.{Work, asks_all_work, moved_commit_work, says_work, step_call_work, stores_refuse, tells_work, tolds_of_work, vote_refuses}
 use Working.{work_both, work_map, works, taken_work}

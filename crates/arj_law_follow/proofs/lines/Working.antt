@@ -1,22 +1,21 @@
 -- What a node says as it takes a message is work: answers, ends of commits, locks, bindings and states.
 use Rattle.arj_law_parts.proofs.Words
 use Words.{◌≡◌, ◌∙◌, ◌==◌, ◌&&◌, ◌++◌, ℕ, zero, suc, Bool, true, false, cond, List, [], ◌∷◌, map, filter, refl, sym, Option, Some, None}
-use Words.{option_map, list_all, and_parts, append-nil, append_assoc, flat_map, all_both, all_flat, AreAll, Reply, actor, answers}
-use Words.{asked_by, last_end, response, heard, heard_by, heard_call, heard_doing, heard_none, heard_now, waits_for_call}
-use Words.{waits_for_commit, mark_lines, moved_commit, end_line, step_call, step_commit, asks_all, asks_node, commits_in, waiting}
-use Words.{plan_of, Answered, Included, Conflict, Changed, Lost, CallEnd, CallStep, Ended, Goal, Include, On, Run, Steps, Aborts, Asks}
-use Words.{CommitStep, Decides, Machine, Marked, Plan, Stays, has_record, participants, root_of, Calling, Committing, Coord, Doing, Idle}
-use Words.{Now, doing_of, decide, decided_told, record_work, says, say_for, tell, tolds_of, tolds_by, tolds_of_branch, tell_all, up_to}
-use Words.{servers_told, nodes_sent, is_deferred, ends_of, root_at, branch_of, Branch, acked, acked_by, acked_left, answer_query}
-use Words.{answer_recorded, answer_decided, is_kept_commit, root_or_self, tolds_let_go, let_go, at_uid, without_uid, without_number, has}
-use Words.{is_open, not, ◌||◌, Intent, Served, Did, Disk, Effect, Pair, Say, Send, Do, PutIntent, Prep, Ready, Already, Old, InDoubt}
-use Words.{held_at, holder_of, is_prepared, prepare_answer, worked, confirm, Naming, Handled, Void, Took, Here, Parts, Ran, ack_told}
-use Words.{by_reply, end_states, first_done, first_queued, handle, handle_all, handle_answer, handle_ask, handle_ends, handle_other}
-use Words.{handle_told, holders, if_naming, is_earlier, is_meant, load_by, load_held, naming_told, next_round, prepare_by, prepare_states}
-use Words.{query_about, ran, ran_handled, rounds, sends_answer, serve, served, store_told, taken, with_coord, with_naming, with_server}
-use Words.{is_naming_effect, is_naming_line, is_server_effect, is_server_line, activate_own, bind_own, confirm_own, ends_own, invoke_own}
-use Words.{note_own, told_own, vote_own, Uid, End, Head, Asked, ObjectState, Body, Message, Label, Path, Kind, Cause, Answer, object, Ask}
-use Words.{asks, uid_eq}
+use Words.{option_map, list_all, and_parts, append-nil, append_assoc, all_both, all_flat, AreAll, Reply, actor, answers, asked_by}
+use Words.{last_end, response, heard, heard_by, heard_call, heard_doing, heard_none, heard_now, waits_for_call, waits_for_commit}
+use Words.{mark_lines, moved_commit, end_line, step_call, step_commit, asks_all, asks_node, commits_in, waiting, plan_of, Answered}
+use Words.{Included, Conflict, Changed, Lost, CallEnd, CallStep, Ended, Goal, Include, On, Run, Steps, Aborts, Asks, CommitStep, Decides}
+use Words.{Machine, Marked, Plan, Stays, has_record, participants, root_of, Calling, Committing, Coord, Doing, Idle, Now, doing_of}
+use Words.{decide, decided_told, record_work, says, say_for, tell, tolds_of, tolds_by, tolds_of_branch, tell_all, up_to, servers_told}
+use Words.{nodes_sent, is_deferred, ends_of, root_at, branch_of, Branch, acked, acked_by, acked_left, answer_query, answer_recorded}
+use Words.{answer_decided, is_kept_commit, root_or_self, tolds_let_go, let_go, at_uid, without_uid, without_number, has, is_open, not}
+use Words.{◌||◌, Intent, Served, Disk, Effect, Pair, Say, Send, Do, PutIntent, Prep, Ready, Already, Old, InDoubt, held_at, holder_of}
+use Words.{is_prepared, prepare_answer, worked, confirm, Naming, Handled, Void, Took, Here, Parts, Ran, ack_told, by_reply, end_states}
+use Words.{first_done, first_queued, handle, handle_all, handle_answer, handle_ask, handle_ends, handle_other, handle_told, holders}
+use Words.{if_naming, is_earlier, is_meant, load_by, load_held, naming_told, next_round, prepare_by, prepare_states, query_about, ran}
+use Words.{ran_handled, rounds, sends_answer, serve, served, store_told, taken, with_coord, with_naming, with_server, is_naming_effect}
+use Words.{is_naming_line, is_server_effect, is_server_line, activate_own, bind_own, confirm_own, ends_own, invoke_own, note_own}
+use Words.{told_own, vote_own, Uid, End, Head, Asked, ObjectState, Body, Message, Label, Path, Kind, object, Ask, asks, uid_eq}
 use Words.naming
 use Words.server
 use Words.ask
