@@ -160,7 +160,8 @@ module _ (test : Here → Body → Bool) (of : Body → Bool) (quiet : (b : Body
         let bs = written u v in
         let i = h.holds.1 in
         let wrote : i.wrote ≡ written u v = sym its_bodies in
-        Went bs (fits bs (subst (λ cs. are_so (tested test kind) (walks.first_here test hd of quiet halts p.start q e) cs ≡ true) wrote i.fit))
+        Went bs (fits bs (subst (λ cs. are_so (tested test kind)
+        (walks.first_here test hd of quiet halts p.start q e) cs ≡ true) wrote i.fit))
         (record {
           lines = (λ j. p.lines ++ block (p.count + 1) (sym wrote j)) ∙ sym i.lines ∙ ap (λ (x : World). x.lines) (sym is);
           count = sym (sym h.number ∙ number ∙ (λ j. number_is j + 1)) ∙ ap (λ (x : World). x.event) (sym is);
