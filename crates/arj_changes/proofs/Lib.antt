@@ -1,7 +1,7 @@
-mod Steps
-mod Paths
-mod Longer
-mod Tops
-mod Moved
-mod Sorted
+pub mod Steps
+pub mod Paths
+pub mod Longer
+pub mod Tops
+pub mod Moved
+pub mod Sorted
 mod Folded

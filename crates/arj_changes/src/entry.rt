@@ -116,8 +116,8 @@ fn are_same(a: &[u8], b: &[u8]) -> bool
     a == b
 }
 
-// One change more, unless the stores stay.
-fn counted(version: usize, stays: bool) -> usize
+/// One more, unless what is counted stays.
+pub fn counted(version: usize, stays: bool) -> usize
     ensures { version + 1 < 2 ^ 64 → result ≡ (if stays then version else version + 1) }
 {
     if stays {
@@ -177,8 +177,8 @@ fn fold(
     Ok(entry)
 }
 
-// The stores of an object of the header.
-fn first_stores(header: &Header, x: u16) -> &[u8]
+/// The stores of an object of the header, none where it has no such object.
+pub fn first_stores(header: &Header, x: u16) -> &[u8]
     ensures { result.now ≡ stores_of_line (object_line header.now x) }
 {
     for object in header.objects.as_slice() {

@@ -12,5 +12,10 @@ mod order;
 mod path;
 mod read;
 
-pub use entry::{EntryState, entry_of, is_moved};
+pub use entry::{EntryState, counted, entry_of, first_stores, is_moved};
 pub use kept::{Called, Changes, Join, Leave};
+pub use moves::{are_committed, is_among, joins_of};
+pub use numbers::{either, note_number};
+pub use order::{done_in, place_of, root_of, unit_of};
+pub use path::{chain_ids, root_number, top_link};
+pub use read::called_in;

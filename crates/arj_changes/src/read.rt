@@ -73,8 +73,8 @@ fn called_by(path: &[Link], at: usize) -> Option<Called>
     }
 }
 
-// The top whose commit a line calls.
-fn called_in(begun: &[Begun], body: &Body, at: usize) -> Option<Called>
+/// The top whose commit a line at this place calls.
+pub fn called_in(begun: &[Begun], body: &Body, at: usize) -> Option<Called>
     ensures { result ≡ called_in_line begun.now at body.now }
 {
     match body {

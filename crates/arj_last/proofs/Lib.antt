@@ -1,3 +1,10 @@
-pub mod Steps
-pub mod Values
-pub mod Wrote
+mod Put
+mod Longer
+mod Tops
+mod Survive
+mod Sorted
+mod Counts
+mod Ends
+mod Cuts
+mod Tells
+mod Lines

@@ -1,68 +1,93 @@
--- What is told of last states, as lines of text: at the first place, behind lines that tell of commits, and at the last place.
-use Rattle.std.specs.Prelude.{ℕ, ◌+◌, ◌/◌, ◌%◌, ◌==◌, List, [], ◌∷◌, ◌++◌, codes, length, Bool, true, false, ◌&&◌, if◌then◌else◌, Option}
-use Rattle.std.specs.Prelude.{Some, None}
-use Rattle.std.specs.List.{count_by, flat_map}
+-- What is told of last states, as lines of text.
+use Rattle.std.specs.Prelude.{ℕ, ◌-◌, List, [], ◌∷◌, ◌++◌, codes, length, filter, Bool, true, false, ◌==◌, ◌&&◌, ◌||◌, not, if◌then◌else◌, Option, Some, None, is_some}
+use Rattle.std.specs.List.{flat_map, list_any}
+use Rattle.arj_base.specs.Uid.{nobody}
+use Rattle.arj_base.specs.declared.uid.Uid.{Uid}
 use Rattle.arj_class.specs.declared.value.Value.{Value}
+use Rattle.arj_journal.specs.LineText.{uid_word}
 use Rattle.arj_journal.specs.declared.body.Body.{Body}
 use Rattle.arj_journal.specs.declared.body.Body.TheVariants as body
 use Rattle.arj_journal.specs.declared.body.Line.{Line}
 use Rattle.arj_journal.specs.declared.header.Header.{Header}
 use Rattle.arj_journal.specs.declared.header.ObjectLine.{ObjectLine}
+use Rattle.arj_model.specs.Actions.{Act, acts, committed, is_committed, path, recovered, root_in, top_in}
+use Rattle.arj_model.specs.Calls.{made, root_or}
 use Rattle.arj_model.specs.Last.{first_values, last_state}
-use Rattle.arj_model.specs.Serial.{run, serial_calls}
+use Rattle.arj_model.specs.Serial.{run, serial_calls, writes_on}
+use Rattle.arj_model.specs.Table.{path_by}
 use Rattle.arj_reading.specs.Readable.{broken}
 use Rattle.arj_reading.specs.declared.rule.Broken.{Broken}
+use Rattle.arj_text.specs.Label.{name}
 use Rattle.arj_text.specs.Words.{number_word, space, value_text}
 
--- a state of an object behind so many lines: its version, and its value
-abbrev pub state_text : ℕ → ℕ → ℕ → Value → List ℕ
-state_text at x version v =
-    codes "state" ++ (number_word at ++ (number_word x ++ (number_word version ++ (space ++ (value_text v ++ 10 ∷ [])))))
+-- a state of an object behind so many lines: its version, its writer, and its value
+abbrev pub state_text : ℕ → ℕ → ℕ → Uid → Value → List ℕ
+state_text at x version writer v =
+    codes "state" ++ (number_word at ++ (number_word x ++ (number_word version ++ (uid_word writer ++ (space ++ (value_text v ++ 10 ∷ []))))))
 
--- the last state of an object of the header
-abbrev pub object_text : Header → List Line → ObjectLine → List ℕ
-object_text header lines o =
-    state_text (length lines) o.x (last_state header lines o.x).version (run (first_values header) (serial_calls lines) o.x)
+-- the first state of an object of a header
+abbrev pub first_text : ObjectLine → List ℕ
+first_text o = state_text 0 o.x 0 nobody o.value
 
--- so many lines, of which this is the first that breaks a rule
-abbrev pub unreadable_text : ℕ → ℕ → List ℕ
-unreadable_text at line = codes "unreadable" ++ (number_word at ++ (number_word line ++ 10 ∷ []))
+-- the last state of object x behind these lines
+abbrev pub object_text : Header → List Line → ℕ → List ℕ
+object_text header lines x =
+    state_text (length lines) x (last_state header lines x).version (last_state header lines x).writer (run (first_values header) (serial_calls lines) x)
 
--- the last states of all objects of the header, or the first line that breaks a rule
-abbrev pub states_or : Header → List Line → Option Broken → List ℕ
-states_or header lines None = flat_map (object_text header lines) header.objects
-states_or header lines (Some b) = unreadable_text (length lines) b.line
+-- no line breaks a rule of journals that can be read as a run
+abbrev pub is_readable : Header → List Line → Bool
+is_readable header lines = not (is_some (broken header lines))
 
--- the last states behind these lines, where they can be read as a run
-abbrev pub states_text : Header → List Line → List ℕ
-states_text header lines = states_or header lines (broken header lines)
+-- the path of the action whose top a line may change the states of: it answers a call, or tells of a commit
+abbrev pub told_path : List Act → Body → List Act
+told_path us (body.Ok l x op answer) = path us (name l)
+told_path us (body.Committing l) = path us (name l)
+told_path us (body.Committed l) = path us (name l)
+told_path us (body.Recovered n u) = path_by us u
+told_path us _ = []
 
--- a line by which a commit is known
-abbrev pub is_commit : Body → Bool
-is_commit (body.Committed l) = true
-is_commit (body.Recovered n u) = true
-is_commit _ = false
+-- the top with this number has answered a write on the object
+abbrev pub wrote_in : List Line → ℕ → ℕ → Bool
+wrote_in lines id x = list_any (λ c. c.top == id) (filter (writes_on x) (made lines))
 
--- how many of these lines tell of a commit
-abbrev pub count_commits : List Line → ℕ
-count_commits lines = count_by (λ line. is_commit line.body) lines
+-- of a top that is committed, the states of what it wrote are told; of one in a serializing action all are, since it moves the others
+-- in the serial order
+abbrev pub is_told_of : List Line → List Act → ℕ → Option Act → Bool
+is_told_of lines p x None = false
+is_told_of lines p x (Some t) =
+    is_committed (committed lines) (recovered lines) t && (not (root_or t.id (root_in p) == t.id) || wrote_in lines t.id x)
 
--- The last states behind these lines, where the last of them tells of a commit, and it is the next that is told: each so many-th is, as
--- `every` says.
-abbrev pub states_behind : ℕ → Header → List Line → Body → List ℕ
-states_behind every header lines b =
-    if is_commit b && (count_commits lines % every == 0) then states_text header lines else []
+-- the last state of object x is told behind these lines, of which this is the last
+abbrev pub is_told : List Line → Body → ℕ → Bool
+is_told lines b x = is_told_of lines (told_path (acts lines) b) x (top_in (told_path (acts lines) b))
 
--- the last states behind each of these lines that tells of a commit, behind those before them
-abbrev pub states_from : ℕ → Header → List Line → List Line → List ℕ
-states_from every header before [] = []
-states_from every header before (line ∷ rest) =
-    states_behind every header (before ++ line ∷ []) line.body ++ states_from every header (before ++ line ∷ []) rest
+-- the last state of an object of the header, where it is told
+abbrev pub told_text : Header → List Line → Body → ObjectLine → List ℕ
+told_text header lines b o = if is_told lines b o.x then object_text header lines o.x else []
 
--- Of many commits each so many-th is told, so that states are told at most a thousand times between the first and the last.
-abbrev pub every_of : List Line → ℕ
-every_of lines = count_commits lines / 1000 + 1
+-- those of all objects, where these lines can be read as a run
+abbrev pub states_behind : Header → List Line → Body → List ℕ
+states_behind header lines b = if is_readable header lines then flat_map (told_text header lines b) header.objects else []
 
--- The first states, those behind commits, and the last ones.
+-- those behind each of these lines, behind those before them
+abbrev pub states_from : Header → List Line → List Line → List ℕ
+states_from header before [] = []
+states_from header before (line ∷ rest) = states_behind header (before ++ line ∷ []) line.body ++ states_from header (before ++ line ∷ []) rest
+
+-- that this line is the first that breaks a rule
+abbrev pub broken_text : ℕ → List ℕ
+broken_text line = codes "unreadable" ++ (number_word line ++ 10 ∷ [])
+
+-- the first line that breaks a rule of journals that can be read as a run, if one does
+abbrev pub unreadable_text : Option Broken → List ℕ
+unreadable_text None = []
+unreadable_text (Some b) = broken_text b.line
+
+-- The first states, those behind each line that may have changed them, and the first line that breaks a rule.
 abbrev pub told_states : Header → List Line → List ℕ
-told_states header lines = states_text header [] ++ (states_from (every_of lines) header [] lines ++ states_text header lines)
+told_states header lines = flat_map first_text header.objects ++ (states_from header [] lines ++ unreadable_text (broken header lines))
+
+-- the lines before the first that breaks a rule, of so many
+abbrev pub readable_count : ℕ → Option Broken → ℕ
+readable_count count None = count
+readable_count count (Some b) = b.line - 1

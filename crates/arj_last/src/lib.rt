@@ -1,14 +1,23 @@
-//! The last states behind a part of a journal: of each object of the header its value and its version.
+//! The last states of objects behind each part of a journal: value, version, and who wrote it.
 //!
-//! It stands on `arj_check`, which sorts the calls of a journal, and on `arj_replay`, which runs them. What it gives upward:
-//! `last_states` answers values and versions of `last_state` (`arj_model/specs/Last.antt`), or the first line that breaks a rule;
-//! `put_last_states` appends exactly `told_states` of a header and a journal (`specs/Told.antt`).
+//! It stands on `arj_changes`, which keeps commits line by line, and on `arj_replay`, which sorts and runs calls. What it gives upward:
+//! `Writes` goes line by line, and `last_state_of` answers value, version and writer of `last_state` (`arj_model/specs/Last.antt`), at the
+//! cost of the writes on that object; `put_last_states` appends exactly `told_states` of a header and a journal (`specs/Told.antt`).
 #![tactic(auto)]
 
-mod states;
+mod behind;
+mod counting;
+mod groups;
+mod kept;
+mod keys;
+mod picked;
+mod readable;
+mod state;
+mod take;
 mod told;
-mod writers;
+mod whole;
 
-pub use states::{LastStates, last_states};
-pub use told::put_last_states;
-pub use writers::Writer;
+pub use groups::items_at;
+pub use kept::{Write, Writes};
+pub use state::{LastState, last_state_of};
+pub use whole::put_last_states;

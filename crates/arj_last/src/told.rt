@@ -1,25 +1,48 @@
 // What is told of last states.
-ghost use Rattle.std.specs.Prelude.{◌≡◌, ◌<◌, ◌+◌, ◌^◌, ◌%◌, ◌==◌, ◌&&◌, ◌++◌, [], List, Some, OnOk, if◌then◌else◌, length};
-ghost use Rattle.std.specs.BTreeMap.{get};
-ghost use Rattle.std.specs.List.{AllByRecursion, flat_map};
-ghost use Rattle.std.specs.Ordering.{nat_cmp};
+ghost use Rattle.std.specs.Prelude.{◌≡◌, ◌++◌, ◌==◌, [], List, Some, OnOk, true, not, if◌then◌else◌};
+ghost use Rattle.std.specs.List.{flat_map, list_any};
+ghost use Rattle.arj_journal.specs.LineText.{uid_word};
+ghost use Rattle.arj_journal.specs.declared.body.Body.{Body as body_type};
 ghost use Rattle.arj_journal.specs.declared.body.Line.{Line as line_type};
-ghost use Rattle.arj_journal.specs.declared.header.Header.{Header as header_type};
-ghost use Rattle.arj_model.specs.Last.{first_values};
-ghost use Rattle.arj_model.specs.Serial.{run, serial_calls};
-ghost use Rattle.arj_last.specs.Told.{count_commits, is_commit as is_commit_line, object_text, state_text, states_from, states_text, told_states, unreadable_text};
-ghost use Rattle.arj_last.specs.Writers.{HasVersions};
+ghost use Rattle.arj_journal.specs.declared.header.ObjectLine.{ObjectLine as object_type};
+ghost use Rattle.arj_changes.specs.Lines.{root_number as root_number_of};
+ghost use Rattle.arj_model.specs.Actions.{acts};
+ghost use Rattle.arj_model.specs.Last.{object_line};
+ghost use Rattle.arj_standing.specs.Begun.{AreBegun, links};
+ghost use Rattle.arj_last.specs.Behind.{StandsBehind};
+ghost use Rattle.arj_last.specs.Told.{first_text, is_readable, is_told as is_told_in, object_text, state_text, states_behind, told_path, told_text, wrote_in};
 
-use crate::states::{LastStates, last_states};
-use arj_base::Bytes;
+use crate::behind::Standing;
+use crate::groups::items_at;
+use crate::kept::Write;
+use crate::keys::is_committed;
+use crate::state::last_state_of;
+use arj_base::{Bytes, Uid};
+use arj_changes::{either, root_number, top_link};
 use arj_class::Value;
 use arj_journal::{Body, Header, Line, ObjectLine};
-use arj_reading::CheckFault;
-use arj_text::words::{put_number, put_numbered, put_value};
+use arj_standing::{Begun, Link, path_named, path_of};
+use arj_text::words::{put_decimal, put_number, put_numbered, put_value};
 use std::alloc::{AllocError, Global};
 
-// Of how many commits the last states are told at most.
-const STATES: usize = 1000;
+// Nobody's Uid.
+const NOBODY: Uid = Uid {
+    node: 0,
+    inc: 0,
+    num: 0,
+};
+
+// A Uid, a space before it.
+#[tactic(auto, using(std::proofs::lemmas::List::append_assoc))]
+fn put_uid(out: &mut Bytes, uid: Uid) -> Result<(), AllocError>
+    ensures { OnOk result (out.new ≡ out.old ++ uid_word uid) }
+{
+    put_number(out, u64::from(uid.node))?;
+    out.extend(b".")?;
+    put_decimal(out, u64::from(uid.inc))?;
+    out.extend(b".")?;
+    put_decimal(out, uid.num)
+}
 
 // A state of an object behind so many lines.
 #[tactic(auto, using(std::proofs::lemmas::List::append_assoc))]
@@ -28,170 +51,156 @@ fn put_state(
     at: usize,
     x: u16,
     version: usize,
+    writer: Uid,
     value: &Value,
 ) -> Result<(), AllocError>
-    ensures { OnOk result (out.new ≡ out.old ++ state_text at x version value.now) }
+    ensures { OnOk result (out.new ≡ out.old ++ state_text at x version writer value.now) }
 {
     put_numbered(out, b"state", at as u64)?;
     put_number(out, u64::from(x))?;
     put_number(out, version as u64)?;
+    put_uid(out, writer)?;
     out.extend(b" ")?;
     put_value(out, value)?;
     out.extend(b"\n")
 }
 
-// The last state of an object of the header.
-fn put_object(
-    out: &mut Bytes,
-    at: usize,
-    object: &ObjectLine,
-    last: &LastStates,
-) -> Result<(), AllocError>
-    ensures { (header : header_type) (lines : List line_type) → at ≡ length lines → HasVersions lines last.now.writers
-        → get nat_cmp last.now.values object.now.x ≡ Some (run (first_values header) (serial_calls lines) object.now.x)
-        → OnOk result (out.new ≡ out.old ++ object_text header lines object.now) }
-{
-    match last.values.get(&object.x) {
-        None => Ok(()),
-        Some(value) => put_state(out, at, object.x, last.version(object.x), value),
-    }
-}
-
-// The last states of objects of the header.
-fn put_objects(
-    out: &mut Bytes,
-    at: usize,
-    objects: &[ObjectLine],
-    last: &LastStates,
-) -> Result<(), AllocError>
-    ensures { (header : header_type) (lines : List line_type) → at ≡ length lines → HasVersions lines last.now.writers
-        → AllByRecursion (λ o. get nat_cmp last.now.values o.x ≡ Some (run (first_values header) (serial_calls lines) o.x)) objects.now
-        → OnOk result (out.new ≡ out.old ++ flat_map (object_text header lines) objects.now) }
+/// Puts the first states of objects of a header.
+pub fn put_first_states(out: &mut Bytes, objects: &[ObjectLine]) -> Result<(), AllocError>
+    ensures { OnOk result (out.new ≡ out.old ++ flat_map first_text objects.now) }
 {
     for object in objects {
-        put_object(out, at, object, last)?;
+        put_state(out, 0, object.x, 0, NOBODY, &object.value)?;
     }
     Ok(())
 }
 
-// So many lines, of which this is the first that breaks a rule.
-#[tactic(auto, using(std::proofs::lemmas::List::append_assoc))]
-fn put_unreadable(out: &mut Bytes, at: usize, line: usize) -> Result<(), AllocError>
-    ensures { OnOk result (out.new ≡ out.old ++ unreadable_text at line) }
+// The path of the action whose top a line may change the states of.
+fn path_in<'a>(begun: &'a [Begun], body: &Body) -> &'a [Link]
+    ensures { (lines : List line_type) → AreBegun (acts lines) begun.now → result.now ≡ links (told_path (acts lines) body.now) }
 {
-    put_numbered(out, b"unreadable", at as u64)?;
-    put_number(out, line as u64)?;
-    out.extend(b"\n")
-}
-
-// The last states behind these lines.
-fn put_states(
-    alloc: Global,
-    out: &mut Bytes,
-    header: &Header,
-    lines: &[Line],
-) -> Result<(), AllocError>
-    ensures { OnOk result (out.new ≡ out.old ++ states_text header.now lines.now) }
-{
-    match last_states(alloc, header, lines) {
-        Ok(last) => put_objects(out, lines.len(), header.objects.as_slice(), &last),
-        Err(CheckFault::Unreadable(broken)) => put_unreadable(out, lines.len(), broken.line),
-        Err(CheckFault::Memory) => Err(AllocError),
+    match body {
+        Body::Ok { label, .. } => path_named(begun, label),
+        Body::Committing { label } => path_named(begun, label),
+        Body::Committed { label } => path_named(begun, label),
+        Body::Recovered { action, .. } => path_of(begun, *action),
+        _ => &[],
     }
 }
 
-// The same, if they are told.
-fn put_states_if(
+// Whether the top of a path stands in a serializing action: its root is another.
+fn moves_others(path: &[Link], top: usize) -> bool
+    ensures { result ≡ not (root_number_of top path.now == top) }
+{
+    root_number(path, top) != top
+}
+
+// Whether the states of an object are told behind a line that may change those of the top of a path.
+fn is_told(standing: &Standing, path: &[Link], x: u16) -> bool
+    ensures { (lines : List line_type) (body : body_type) → StandsBehind lines standing.now → path.now ≡ links (told_path (acts lines) body) → result ≡ is_told_in lines body x }
+{
+    let Some(top) = top_link(path) else {
+        return false;
+    };
+    if !is_committed(&standing.changes, top.id, top.uid) {
+        return false;
+    }
+    let moves = moves_others(path, top.id);
+    let wrote = has_written(standing, top.id, x);
+    either(moves, wrote)
+}
+
+// Whether a top has answered one of these writes.
+fn has_write(writes: &[Write], top: usize) -> bool
+    ensures { result ≡ list_any (λ w. w.top == top) writes.now }
+{
+    for write in writes {
+        if write.top == top {
+            return true;
+        }
+    }
+    false
+}
+
+// Whether a top has answered a write on the object.
+fn has_written(standing: &Standing, top: usize, x: u16) -> bool
+    ensures { (lines : List line_type) → StandsBehind lines standing.now → result ≡ wrote_in lines top x }
+{
+    has_write(items_at(&standing.writes.on, usize::from(x)), top)
+}
+
+// The last state of an object of the header.
+fn put_object(
     alloc: Global,
     out: &mut Bytes,
     header: &Header,
     lines: &[Line],
+    standing: &Standing,
+    x: u16,
+) -> Result<(), AllocError>
+    ensures { (o : object_type) → StandsBehind lines.now standing.now → is_readable header.now lines.now ≡ true → object_line header.now x ≡ Some o
+        → OnOk result (out.new ≡ out.old ++ object_text header.now lines.now x) }
+{
+    match last_state_of(alloc, header, lines, &standing.changes, &standing.writes, x)? {
+        None => Ok(()),
+        Some(last) => put_state(out, lines.len(), x, last.version, last.writer, &last.value),
+    }
+}
+
+// The same, if it is told.
+fn put_object_if(
+    alloc: Global,
+    out: &mut Bytes,
+    header: &Header,
+    lines: &[Line],
+    standing: &Standing,
+    x: u16,
     told: bool,
 ) -> Result<(), AllocError>
-    ensures { OnOk result (out.new ≡ out.old ++ (if told then states_text header.now lines.now else [])) }
+    ensures { (o : object_type) → StandsBehind lines.now standing.now → is_readable header.now lines.now ≡ true → object_line header.now x ≡ Some o
+        → OnOk result (out.new ≡ out.old ++ (if told then object_text header.now lines.now x else [])) }
 {
     if told {
-        put_states(alloc, out, header, lines)
+        put_object(alloc, out, header, lines, standing, x)
     } else {
         Ok(())
     }
 }
 
-// Whether a line tells of a commit.
-fn is_commit(body: &Body) -> bool
-    ensures { result ≡ is_commit_line body.now }
-{
-    match body {
-        Body::Committed { .. } | Body::Recovered { .. } => true,
-        _ => false,
-    }
-}
-
-// How many lines tell of a commit.
-fn commits_in(lines: &[Line]) -> usize
-    ensures { result ≡ count_commits lines.now }
-{
-    let mut commits = 0;
-    for line in lines {
-        if is_commit(&line.body) {
-            commits += 1;
-        }
-    }
-    commits
-}
-
-// How many lines tell of a commit, with one line more.
-fn commits_with(commits: usize, body: &Body) -> usize
-    requires { commits + 1 < 2 ^ 64 }
-    ensures { result ≡ commits + (if is_commit_line body.now then 1 else 0) }
-{
-    if is_commit(body) {
-        commits + 1
-    } else {
-        commits
-    }
-}
-
-// Whether the last states are told behind a line.
-fn is_told(body: &Body, commits: usize, every: usize) -> bool
-    requires { 0 < every }
-    ensures { result ≡ (is_commit_line body.now && (commits % every == 0)) }
-{
-    is_commit(body) && commits % every == 0
-}
-
-// The last states behind lines that tell of commits.
-fn put_commits(
+// The last states of those of these objects that are told.
+fn put_objects(
     alloc: Global,
     out: &mut Bytes,
     header: &Header,
     lines: &[Line],
-    every: usize,
+    standing: &Standing,
+    path: &[Link],
 ) -> Result<(), AllocError>
-    requires { 0 < every }
-    ensures { OnOk result (out.new ≡ out.old ++ states_from every header.now [] lines.now) }
+    ensures { (body : body_type) → StandsBehind lines.now standing.now → is_readable header.now lines.now ≡ true → path.now ≡ links (told_path (acts lines.now) body)
+        → OnOk result (out.new ≡ out.old ++ flat_map (told_text header.now lines.now body) header.now.objects) }
 {
-    let mut commits = 0;
-    for (at, line) in lines.iter().enumerate() {
-        commits = commits_with(commits, &line.body);
-        let told = is_told(&line.body, commits, every);
-        put_states_if(alloc, out, header, &lines[..at + 1], told)?;
+    for object in header.objects.as_slice() {
+        let told = is_told(standing, path, object.x);
+        put_object_if(alloc, out, header, lines, standing, object.x, told)?;
     }
     Ok(())
 }
 
-/// Puts what is told of last states: the first, those behind lines that tell of commits, and the last.
-#[tactic(auto, using(std::proofs::lemmas::List::append_assoc))]
-pub fn put_last_states(
+/// Puts the last states that the last of the lines so far may have changed, where these can be read as a run.
+pub fn put_states_behind(
     alloc: Global,
     out: &mut Bytes,
     header: &Header,
     lines: &[Line],
+    standing: &Standing,
+    readable: bool,
+    body: &Body,
 ) -> Result<(), AllocError>
-    ensures { OnOk result (out.new ≡ out.old ++ told_states header.now lines.now) }
+    ensures { StandsBehind lines.now standing.now → readable ≡ is_readable header.now lines.now → OnOk result (out.new ≡ out.old ++ states_behind header.now lines.now body.now) }
 {
-    let every = commits_in(lines) / STATES + 1;
-    put_states(alloc, out, header, &[])?;
-    put_commits(alloc, out, header, lines, every)?;
-    put_states(alloc, out, header, lines)
+    if !readable {
+        return Ok(());
+    }
+    let path = path_in(standing.begun.as_slice(), body);
+    put_objects(alloc, out, header, lines, standing, path)
 }

@@ -70,7 +70,8 @@ const classes = new Map();
 // What changes, each with the place of the line behind which it stands: 0 before the first.
 const tables = new Map();
 const doubts = [];
-const states = [];
+const states = new Map();
+let unreadable = null;
 const copies = new Map();
 const entries = new Map();
 const leaving = new Map();
@@ -137,13 +138,10 @@ function readListed(words) {
   push(entries, words[1], { at: lines.length, version: words[2], writer: words[3], stores });
 }
 
-// A last state stands with the place of the line behind which it is so.
-function statesAt(at) {
-  const before = states[states.length - 1];
-  if (before && before.at === at) return before;
-  const next = { at, values: new Map(), unreadable: null };
-  states.push(next);
-  return next;
+// The last state of an object, from the line of this number on: its version, its writer, and its value.
+function readState(words) {
+  const state = { at: Number(words[1]), version: words[3], writer: words[4], value: words.slice(5).join(' ') };
+  push(states, words[2], state);
 }
 
 for (const text of told) {
@@ -154,10 +152,8 @@ for (const text of told) {
   else if (words[0] === 'locks') readTable(words);
   else if (words[0] === 'doubts') readDoubts(words);
   else if (words[0] === 'listed') readListed(words);
-  else if (words[0] === 'state') {
-    statesAt(Number(words[1])).values.set(words[2], 'version ' + words[3] + ': ' + words.slice(4).join(' '));
-  }
-  else if (words[0] === 'unreadable') statesAt(Number(words[1])).unreadable = words[2];
+  else if (words[0] === 'state') readState(words);
+  else if (words[0] === 'unreadable') unreadable = Number(words[1]);
 }
 
 // Events are counted. Lines of the journal stand under the event whose number they have.
@@ -415,13 +411,15 @@ function storeCell(object, store, value) {
   return cell;
 }
 
-function storesTable(state) {
+function storesTable() {
   const table = make('table');
   for (const object of objects.slice(0, 200)) {
     const row = make('tr');
-    const value = (state && state.values.get(object.x)) || 'as the last line below says';
+    const state = last(states.get(object.x), place);
+    const value = 'version ' + state.version + ': ' + state.value;
     const head = make('th');
     head.append(make('b', '', 'object ' + object.x), document.createElement('br'), value);
+    if (state.at > 0) head.append(make('div', 'small', 'by ' + shown(state.writer) + ', line ' + state.at));
     const entry = last(entries.get(object.x), place);
     if (entry) head.append(make('div', 'small', 'entry: version ' + entry.version + ', by ' + shown(entry.writer) + ', line ' + entry.at));
     row.append(head);
@@ -533,15 +531,13 @@ function timelines() {
 
 function drawSide() {
   const side = document.getElementById('side');
-  const state = last(states, place);
   const kept = side.scrollTop;
   side.replaceChildren();
   side.append(make('h2', '', 'Stores'));
-  const broken = state !== null && state.unreadable !== null;
-  if (broken) side.append(make('div', 'down', 'The journal cannot be read as a run from its line ' + state.unreadable + ' on.'));
-  const caption = 'a listed store holds them, but for what is in doubt';
-  if (state && !broken) side.append(make('div', 'small', 'last states behind line ' + state.at + '; ' + caption));
-  side.append(storesTable(state), make('h2', '', 'Nodes'), nodesTable(), make('h2', '', 'Locks in time'), timelines());
+  const broken = unreadable !== null && place >= unreadable;
+  if (broken) side.append(make('div', 'down', 'The journal cannot be read as a run from its line ' + unreadable + ' on.'));
+  side.append(make('div', 'small', 'last states; a listed store holds them, but for what is in doubt'));
+  side.append(storesTable(), make('h2', '', 'Nodes'), nodesTable(), make('h2', '', 'Locks in time'), timelines());
   side.scrollTop = kept;
 }
 

@@ -1,25 +1,25 @@
-use Rattle.std.proofs.Common.{rules, ◌≡◌, ◌<◌, ◌∙◌, ◌++◌, Some, ap, sym, subst, length, slice_index_or, take, append_assoc}
-use Rattle.std.specs.BTreeMap.{get}
+use Rattle.std.proofs.Common.{rules, ◌≡◌, ◌<◌, ◌∙◌, ◌++◌, [], Some, ap, append_assoc, cond, length, slice_index_or, subst, sym, take}
 use Rattle.std.specs.List.{flat_map}
-use Rattle.std.specs.Ordering.{nat_cmp}
 use Rattle.arj_journal.specs.declared.header.ObjectLine.{ObjectLine}
-use Rattle.arj_model.specs.Last.{first_values}
-use Rattle.arj_model.specs.Serial.{run, serial_calls}
-use Rattle.arj_last.specs.Told.{object_text}
-use Rattle.arj_last.proofs.Values.{at_place, flat_next}
+use Rattle.arj_model.specs.Last.{object_line}
+use Rattle.arj_last.proofs.Tells.{all_found, at_place, flat_next}
+use Rattle.arj_last.specs.Told.{object_text, told_text}
 use Rattle.arj_last.proofs.told.put_objects.Goals as goal
 
 pub loop-object-preserved : goal.loop-object-preserved
-loop-object-preserved c = λ header lines at versions all.
-    let objects = c.args.objects.now in
+loop-object-preserved c = λ body h readable is.
+    let header = c.args.header.now in
+    let lines = c.args.lines.now in
+    let objects = header.objects in
     let i = c.loop-object.object-index in
     let o = c.object-item.result in
     let lt : i < length objects = search rules in
-    let is : o ≡ slice_index_or objects i o = search rules in
-    let text = object_text header lines in
-    let P : ObjectLine → Type 0 = λ p. get nat_cmp c.args.last.now.values p.x ≡ Some (run (first_values header) (serial_calls lines) p.x) in
-    let here : P o = subst P (sym is) (at_place P objects i o lt all) in
-    c.in_ok-put_object.ensures header lines at versions here
-    ∙ ap (λ t. t ++ text o) (c.loop-object.invariant header lines at versions all)
+    let at : o ≡ slice_index_or objects i o = search rules in
+    let P : ObjectLine → Type 0 = λ q. (p : ObjectLine) × (object_line header q.x ≡ Some p) in
+    let here : P o = subst P (sym at) (at_place P objects i o lt (all_found header)) in
+    let text = told_text header lines body in
+    c.in_ok-put_object_if.ensures here.0 h readable here.1
+    ∙ (λ j. c.loop-object.out ++ cond (c.is_told-told.ensures lines body h is j) (object_text header lines o.x) [])
+    ∙ ap (λ t. t ++ text o) (c.loop-object.invariant body h readable is)
     ∙ append_assoc c.args.out.now (flat_map text (take i objects)) (text o)
-    ∙ ap (λ t. c.args.out.now ++ t) (sym (flat_next text objects i o lt is))
+    ∙ ap (λ t. c.args.out.now ++ t) (sym (flat_next text objects i o lt at))

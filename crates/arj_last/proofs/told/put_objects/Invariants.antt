@@ -1,17 +1,13 @@
--- What is told of the objects so far.
-use Rattle.std.proofs.Common.{◌≡◌, ◌++◌, List, Some, length, take}
-use Rattle.std.specs.BTreeMap.{get}
-use Rattle.std.specs.List.{AllByRecursion, flat_map}
-use Rattle.std.specs.Ordering.{nat_cmp}
-use Rattle.arj_journal.specs.declared.body.Line.{Line}
-use Rattle.arj_journal.specs.declared.header.Header.{Header}
-use Rattle.arj_model.specs.Last.{first_values}
-use Rattle.arj_model.specs.Serial.{run, serial_calls}
-use Rattle.arj_last.specs.Told.{object_text}
-use Rattle.arj_last.specs.Writers.{HasVersions}
+-- What is told so far.
+use Rattle.std.proofs.Common.{◌≡◌, ◌++◌, true, take}
+use Rattle.std.specs.List.{flat_map}
+use Rattle.arj_journal.specs.declared.body.Body.{Body}
+use Rattle.arj_model.specs.Actions.{acts}
+use Rattle.arj_standing.specs.Begun.{links}
+use Rattle.arj_last.specs.Behind.{StandsBehind}
+use Rattle.arj_last.specs.Told.{is_readable, told_path, told_text}
 use Rattle.arj_last.proofs.told.put_objects.Given as goal
 
 abbrev pub invariant-loop-object : goal.invariant-loop-object
-invariant-loop-object l = (header : Header) (lines : List Line) → l.at ≡ length lines → HasVersions lines l.last.writers
-    → AllByRecursion (λ o. get nat_cmp l.last.values o.x ≡ Some (run (first_values header) (serial_calls lines) o.x)) l.objects
-    → l.out ≡ l.fn.out ++ flat_map (object_text header lines) (take l.object-index l.objects)
+invariant-loop-object l = (body : Body) → StandsBehind l.lines l.standing → is_readable l.header l.lines ≡ true → l.path ≡ links (told_path (acts l.lines) body)
+    → l.out ≡ l.fn.out ++ flat_map (told_text l.header l.lines body) (take l.object-index l.header.objects)
