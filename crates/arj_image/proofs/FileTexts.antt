@@ -1,5 +1,6 @@
 -- The line of a file is taken apart in one way.
-use Rattle.std.proofs.Common.{◌≡◌, ◌≢◌, ℕ, ◌<◌, ◌≤◌, ◌^◌, List, [], ◌∷◌, ◌++◌, Bool, true, false, None, Some, refl, sym, ◌∙◌, ap, subst, arith}
+use Rattle.std.proofs.Common.{◌≡◌, ◌≢◌, ℕ, ◌<◌, ◌≤◌, ◌^◌, List, [], ◌∷◌, ◌++◌, Bool, true, false, None, Some, refl, sym, ◌∙◌, ap, subst}
+use Rattle.std.proofs.Common.{arith}
 use Rattle.std.specs.Fmt.{decimal}
 use Rattle.std.proofs.lemmas.Bool.{both_ways}
 use Rattle.arj_disk.specs.declared.slot.Slot.{Slot}
@@ -46,7 +47,8 @@ held_no_bytes bytes name digits spaceless parts none = λ h fits e.
     none h.1 fits.1 (last_once 32 name (slot_text h.0) digits (hex h.1) spaceless (spaceless_hex h.1) (sym parts ∙ e)).1
 
 -- no node stands first
-pub file_no_node : (nodes : ℕ) (bytes : List ℕ) → HasNoFirst 32 (IsWithin 1 nodes) decimal bytes → IsRead (FileInForm nodes) file_text bytes None
+pub file_no_node : (nodes : ℕ) (bytes : List ℕ) → HasNoFirst 32 (IsWithin 1 nodes) decimal bytes →
+    IsRead (FileInForm nodes) file_text bytes None
 file_no_node nodes bytes none = λ f fits e. none f.node (held_text (f.slot, f.bytes)) fits.0 e
 
 -- behind the node there is no file
@@ -63,5 +65,6 @@ file_named_once nodes f g few hf hg e =
     let g_small : g.node < 2 ^ 64 = omega (arith, hg.0.1) in
     let cuts = cut_once 32 (decimal f.node) (decimal g.node) (held_text (f.slot, f.bytes)) (held_text (g.slot, g.bytes))
     (digits_only 32 f.node refl f_small) (digits_only 32 g.node refl g_small) e in
-    let names = last_once 32 (slot_text f.slot) (slot_text g.slot) (hex f.bytes) (hex g.bytes) (spaceless_hex f.bytes) (spaceless_hex g.bytes) cuts.1 in
+    let names = last_once 32 (slot_text f.slot) (slot_text g.slot) (hex f.bytes) (hex g.bytes) (spaceless_hex f.bytes)
+    (spaceless_hex g.bytes) cuts.1 in
     (number_once f.node g.node f_small g_small cuts.0, slot_once f.slot g.slot hf.1.0 hg.1.0 names.0)

@@ -7,13 +7,15 @@ use Rattle.arj_image.specs.declared.image.Image.{Image}
 use Rattle.arj_image.specs.declared.place.Place.{Place}
 use Rattle.arj_image.specs.declared.place.Stage.{Stage}
 use Rattle.arj_image.specs.declared.place.Stage.TheVariants as stage
-use Rattle.arj_image.specs.Grammar.{FitsAt, Form, Nodes, Object, Counts, Journal, Says, Files, Has, next_at, next_place, nothing_read, spelling}
+use Rattle.arj_image.specs.Grammar.{FitsAt, Form, Nodes, Object, Counts, Journal, Says, Files, Has, next_at, next_place, nothing_read}
+use Rattle.arj_image.specs.Grammar.{spelling}
 use Rattle.arj_image.specs.Written.{Goes, ImageInForm, form_text, image_forms, image_text, whole_place}
 use Rattle.arj_text.proofs.Texts.{cut_once, no_cut}
 use Rattle.arj_text.specs.Fields.{has_byte}
 
 -- a place has at most 16 nodes
-stays_few : (s : Stage) (i : Image) (f : Form) → i.header.nodes ≤ 16 → FitsAt s i f → (let p = next_at s i f in let j = p.image in j.header.nodes) ≤ 16
+stays_few : (s : Stage) (i : Image) (f : Form) → i.header.nodes ≤ 16 → FitsAt s i f →
+    (let p = next_at s i f in let j = p.image in j.header.nodes) ≤ 16
 stays_few stage.Start i (Nodes n) few h = h.1
 stays_few stage.Objects i (Object o) few h = few
 stays_few stage.Objects i (Counts p) few h = few
@@ -73,5 +75,6 @@ leads_once p q r (f ∷ fs) (g ∷ gs) few one two e =
 
 pub image_once : (i j : Image) → ImageInForm i → ImageInForm j → image_text i ≡ image_text j → i ≡ j
 image_once i j hi hj e =
-    let one = leads_once nothing_read (whole_place i) (whole_place j) (image_forms i) (image_forms j) (omega arith) (goes i hi) (goes j hj) e in
+    let one = leads_once nothing_read (whole_place i) (whole_place j) (image_forms i) (image_forms j) (omega arith) (goes i hi)
+    (goes j hj) e in
     ap (λ (p : Place). p.image) one

@@ -57,7 +57,8 @@ file_once nodes few f g hf hg e =
     let g_small : g.node < 2 ^ 64 = omega (arith, hg.0.1) in
     let cuts = cut_once 32 (decimal f.node) (decimal g.node) (held_text (f.slot, f.bytes)) (held_text (g.slot, g.bytes))
     (digits_only 32 f.node refl f_small) (digits_only 32 g.node refl g_small) e in
-    let held = last_once 32 (slot_text f.slot) (slot_text g.slot) (hex f.bytes) (hex g.bytes) (spaceless_hex f.bytes) (spaceless_hex g.bytes) cuts.1 in
+    let held = last_once 32 (slot_text f.slot) (slot_text g.slot) (hex f.bytes) (hex g.bytes) (spaceless_hex f.bytes)
+    (spaceless_hex g.bytes) cuts.1 in
     let bytes = hex_once f.bytes g.bytes hf.1.1 hg.1.1 held.1 in
     λ i. record { node = names.0 i; slot = names.1 i; bytes = bytes i }
 

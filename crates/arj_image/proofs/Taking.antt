@@ -1,5 +1,6 @@
 -- What takes a line at each stage.
-use Rattle.std.proofs.Common.{◌≡◌, ◌≢◌, ℕ, ◌≤◌, ◌<◌, List, [], ◌∷◌, ◌++◌, length, codes, true, false, Some, refl, sym, ◌∙◌, ap, subst, append_assoc}
+use Rattle.std.proofs.Common.{◌≡◌, ◌≢◌, ℕ, ◌≤◌, ◌<◌, List, [], ◌∷◌, ◌++◌, length, codes, true, false, Some, refl, sym, ◌∙◌, ap, subst}
+use Rattle.std.proofs.Common.{append_assoc}
 use Rattle.std.proofs.lemmas.Bool.{both_ways}
 use Rattle.std.proofs.lemmas.List.{append_cancel_right}
 use Rattle.std.specs.Fmt.{decimal}
@@ -10,7 +11,8 @@ use Rattle.arj_image.specs.declared.place.Stage.{Stage}
 use Rattle.arj_image.specs.declared.place.Stage.TheVariants as stage
 use Rattle.arj_image.proofs.Once.{file_once}
 use Rattle.arj_image.proofs.Values.{object_once}
-use Rattle.arj_image.specs.Grammar.{CountsInForm, FileFits, FitsAt, HasForm, most_bytes, next_place, Form, Nodes, Object, Counts, Journal, Says, Files, Has, ObjectFits, spelling, with_nodes}
+use Rattle.arj_image.specs.Grammar.{CountsInForm, FileFits, FitsAt, HasForm, most_bytes, next_place, Form, Nodes, Object, Counts, Journal}
+use Rattle.arj_image.specs.Grammar.{Says, Files, Has, ObjectFits, spelling, with_nodes}
 use Rattle.arj_image.specs.Known.{HasNone, Takes}
 use Rattle.arj_image.specs.Texts.{FileInForm, counts_text, file_text, is_before, is_last, said_text}
 use Rattle.arj_journal.specs.LineForm.{LineInForm}
@@ -37,10 +39,19 @@ pub counts_take : (p : Place) (bytes : List ℕ) (events frames : ℕ) → p.sta
 counts_take p bytes events frames is form e = (Counts (events, frames), at_stage p stage.Objects (Counts (events, frames)) is form, e, refl)
 
 pub object_takes : (p : Place) (bytes : List ℕ) (os : List ObjectLine) → p.stage ≡ stage.Objects →
-    ((o : ObjectLine) × (let i = p.image in ObjectFits i.header.nodes i.header.objects o) × (bytes ≡ object_text o) × (os ≡ (let i = p.image in i.header.objects) ++ o ∷ [])) →
+    ((o : ObjectLine) × (let i = p.image in ObjectFits i.header.nodes i.header.objects o) × (bytes ≡ object_text o) × (os ≡ (let i =
+    p.image in i.header.objects) ++ o ∷ [])) →
     Takes p (record p { image = (let i = p.image in record i { header = record (i.header) { objects = os } }) }) bytes
-object_takes p bytes os is (o, fits, e, more) =
-    (Object o, at_stage p stage.Objects (Object o) is fits, e, (λ i. let j = p.image in record { stage = is i; image = record j { header = record (j.header) { objects = more i } } }))
+object_takes p bytes os is (o, fits, e, more) = (
+  Object o,
+  at_stage p stage.Objects (Object o) is fits,
+  e,
+  (λ i. let j = p.image in record {
+    stage = is i;
+    image =
+        record j { header = record (j.header) { objects = more i } };
+  }),
+)
 
 pub journal_takes : (p : Place) (bytes : List ℕ) → p.stage ≡ stage.Counted → bytes ≡ codes "journal" →
     Takes p (record { stage = stage.Journal; image = p.image }) bytes
@@ -68,7 +79,8 @@ said_none bytes ended is none l form e =
 
 -- an object or a file that isn't behind the last one
 pub object_out_of_turn : (n : ℕ) (bytes : List ℕ) (os : List ObjectLine) (new o : ObjectLine) → n ≤ 255 →
-    IsRead (ObjectLineInForm n) object_text bytes (Some new) → is_last (λ (p : ObjectLine). nat_lt p.x new.x) os ≡ false → ObjectFits n os o →
+    IsRead (ObjectLineInForm n) object_text bytes (Some new) → is_last (λ (p : ObjectLine). nat_lt p.x new.x) os ≡ false →
+    ObjectFits n os o →
     bytes ≢ object_text o
 object_out_of_turn n bytes os new o few read late fits e =
     let same = object_once n few new o read.0 fits.0 (sym read.1 ∙ e) in
@@ -82,7 +94,8 @@ file_out_of_turn n bytes fs new f few read late fits e =
     both_ways _ (subst (λ (z : NodeFile). is_last (λ (g : NodeFile). is_before g z) fs ≡ false) same late) fits.1
 
 pub file_takes : (p : Place) (bytes : List ℕ) (fs : List NodeFile) → p.stage ≡ stage.Files →
-    ((f : NodeFile) × (let i = p.image in FileFits i.header.nodes i.files f) × (bytes ≡ file_text f) × (fs ≡ (let i = p.image in i.files) ++ f ∷ [])) →
+    ((f : NodeFile) × (let i = p.image in FileFits i.header.nodes i.files f) × (bytes ≡ file_text f) × (fs ≡ (let i =
+    p.image in i.files) ++ f ∷ [])) →
     Takes p (record p { image = record (p.image) { files = fs } }) bytes
 file_takes p bytes fs is (f, fits, e, more) =
     (Has f, at_stage p stage.Files (Has f) is fits, e, (λ i. record { stage = is i; image = record (p.image) { files = more i } }))

@@ -73,6 +73,7 @@ module _ (i : Image) (form : ImageInForm i) where
   goes =
       goes_on nothing_read (at_journal i.journal) (whole_place i) (journal_forms i) (Files ∷ map Has i.files)
       (goes_on nothing_read counted (at_journal i.journal) (counted_forms i) (Journal ∷ map Says i.journal)
-      (goes_on nothing_read (at_objects i.header.objects) counted (head_forms i) (Counts (i.events, i.frames) ∷ []) (form.nodes, objects_go [] i.header.objects form.objects) (form.counts, refl))
+      (goes_on nothing_read (at_objects i.header.objects) counted (head_forms i) (Counts (i.events, i.frames) ∷ [])
+      (form.nodes, objects_go [] i.header.objects form.objects) (form.counts, refl))
       (cc, lines_go [] i.journal form.journal))
       (cc, files_go [] i.files form.files)

@@ -1,5 +1,6 @@
 -- No two objects have one line, and none has an end in its midst.
-use Rattle.std.proofs.Common.{◌≡◌, ◌≢◌, ℕ, ◌<◌, ◌≤◌, ◌^◌, List, [], ◌∷◌, ◌++◌, length, map, codes, true, false, refl, sym, ◌∙◌, ap, subst, arith, append_assoc}
+use Rattle.std.proofs.Common.{◌≡◌, ◌≢◌, ℕ, ◌<◌, ◌≤◌, ◌^◌, List, [], ◌∷◌, ◌++◌, length, map, codes, true, false, refl, sym, ◌∙◌, ap, subst}
+use Rattle.std.proofs.Common.{arith, append_assoc}
 use Rattle.std.specs.Fmt.{decimal}
 use Rattle.std.specs.List.{AllByRecursion, flat_map}
 use Rattle.std.proofs.lemmas.Bool.{both_ways, or_from}
@@ -16,7 +17,8 @@ use Rattle.arj_text.proofs.ListItems.{list_text_is, node_items, node_no_comma, n
 use Rattle.arj_text.proofs.ListItems.{pair_no_comma, pair_only, pairs_text_is}
 use Rattle.arj_text.proofs.Spaceless.{spaceless_nodes, value_cut, value_words}
 use Rattle.arj_text.proofs.Texts.{cut_once, digits_only, same_rest}
-use Rattle.arj_text.specs.Fields.{IsWithin, ItemsInForm, NodesInForm, NumberInForm, PairInForm, ValueTextInForm, has_byte, items_text, pair_text}
+use Rattle.arj_text.specs.Fields.{IsWithin, ItemsInForm, NodesInForm, NumberInForm, PairInForm, ValueTextInForm, has_byte, items_text}
+use Rattle.arj_text.specs.Fields.{pair_text}
 use Rattle.arj_text.specs.Words.{behind_comma, decimals, hex, list_text, numbers_text, pair_texts, pairs_text, value_text}
 
 -- lists of nodes
@@ -39,7 +41,8 @@ no_dash n rest small e = by (decimal n) refl e
         both_ways true (subst (λ b. has_byte 45 (b ∷ ds) ≡ false) (sym same) lacks) refl
 
 -- numbers, or a dash for none
-numbers_once : (ms ns : List ℕ) → AllByRecursion NumberInForm ms → AllByRecursion NumberInForm ns → numbers_text ms ≡ numbers_text ns → ms ≡ ns
+numbers_once : (ms ns : List ℕ) → AllByRecursion NumberInForm ms → AllByRecursion NumberInForm ns → numbers_text ms ≡ numbers_text ns →
+    ms ≡ ns
 numbers_once [] [] hm hn e = refl
 numbers_once [] (n ∷ ns) hm hn e = absurd (no_dash n (flat_map behind_comma (decimals ns)) hn.0 e)
 numbers_once (m ∷ ms) [] hm hn e = absurd (no_dash m (flat_map behind_comma (decimals ms)) hm.0 (sym e))
@@ -51,9 +54,11 @@ numbers_once (m ∷ ms) (n ∷ ns) hm hn e =
 pairs_once : (ps qs : List (ℕ × ℕ)) → AllByRecursion PairInForm ps → AllByRecursion PairInForm qs → pairs_text ps ≡ pairs_text qs → ps ≡ qs
 pairs_once [] [] hp hq e = refl
 pairs_once [] (q ∷ qs) hp hq e =
-    absurd (no_dash q.0 (58 ∷ decimal q.1 ++ flat_map behind_comma (pair_texts qs)) hq.0.0 (e ∙ append_assoc (decimal q.0) (58 ∷ decimal q.1) _))
+    absurd (no_dash q.0 (58 ∷ decimal q.1 ++ flat_map behind_comma (pair_texts qs)) hq.0.0 (e
+    ∙ append_assoc (decimal q.0) (58 ∷ decimal q.1) _))
 pairs_once (p ∷ ps) [] hp hq e =
-    absurd (no_dash p.0 (58 ∷ decimal p.1 ++ flat_map behind_comma (pair_texts ps)) hp.0.0 (sym e ∙ append_assoc (decimal p.0) (58 ∷ decimal p.1) _))
+    absurd (no_dash p.0 (58 ∷ decimal p.1 ++ flat_map behind_comma (pair_texts ps)) hp.0.0 (sym e
+    ∙ append_assoc (decimal p.0) (58 ∷ decimal p.1) _))
 pairs_once (p ∷ ps) (q ∷ qs) hp hq e =
     items_only PairInForm pair_text pair_no_comma pair_only (p ∷ ps) (q ∷ qs) hp hq (omega arith) (omega arith)
     (sym (pairs_text_is (p ∷ ps) (omega arith)) ∙ (e ∙ pairs_text_is (q ∷ qs) (omega arith)))
@@ -72,7 +77,8 @@ value_once (value.Counter n) w hv hw e = by w hw e (ap first e)
     by _ hw e l = absurd (omega (arith, l))
 value_once (value.Register bs) w hv hw e = by w hw e (ap first e)
   where
-    by : (w : Value) → ValueTextInForm w → value_text (value.Register bs) ≡ value_text w → 114 ≡ first (value_text w) → value.Register bs ≡ w
+    by : (w : Value) → ValueTextInForm w → value_text (value.Register bs) ≡ value_text w → 114 ≡ first (value_text w) →
+        value.Register bs ≡ w
     by (value.Register cs) hw e _ = ap value.Register (hex_once bs cs hv.1 hw.1 (same_rest (codes "register ") (hex bs) (hex cs) e))
     by _ hw e l = absurd (omega (arith, l))
 value_once (value.Account n) w hv hw e = by w hw e (ap first e)
@@ -104,19 +110,24 @@ pub object_once : (n : ℕ) → n ≤ 255 → Once (ObjectLineInForm n) object_t
 object_once n few o p ho hp e =
     let o_small : o.x < 2 ^ 64 = omega (arith, ho.number.1) in
     let p_small : p.x < 2 ^ 64 = omega (arith, hp.number.1) in
-    let rest = same_rest (codes "object ") (decimal o.x ++ 32 ∷ (value_text o.value ++ 32 ∷ servers_of o)) (decimal p.x ++ 32 ∷ (value_text p.value ++ 32 ∷ servers_of p)) e in
-    let numbers = cut_once 32 (decimal o.x) (decimal p.x) (value_text o.value ++ 32 ∷ servers_of o) (value_text p.value ++ 32 ∷ servers_of p)
+    let rest = same_rest (codes "object ") (decimal o.x ++ 32 ∷ (value_text o.value ++ 32 ∷ servers_of o)) (decimal p.x ++ 32 ∷
+    (value_text p.value ++ 32 ∷ servers_of p)) e in
+    let numbers = cut_once 32 (decimal o.x) (decimal p.x) (value_text o.value ++ 32 ∷ servers_of o)
+    (value_text p.value ++ 32 ∷ servers_of p)
     (digits_only 32 o.x refl o_small) (digits_only 32 p.x refl p_small) rest in
     let x = number_once o.x p.x o_small p_small numbers.0 in
     let two = value_words o.value ho.value in
     let parts : value_text o.value ++ 32 ∷ servers_of o ≡ two.class ++ 32 ∷ (two.word ++ 32 ∷ servers_of o) =
     ap (λ t. t ++ 32 ∷ servers_of o) two.is ∙ append_assoc two.class (32 ∷ two.word) (32 ∷ servers_of o) in
-    let values = value_cut (value_text o.value ++ 32 ∷ servers_of o) two.class (two.word ++ 32 ∷ servers_of o) two.word (servers_of o) p.value (servers_of p)
+    let values = value_cut (value_text o.value ++ 32 ∷ servers_of o) two.class (two.word ++ 32 ∷ servers_of o) two.word
+    (servers_of o) p.value (servers_of p)
     two.class_whole parts two.word_whole refl hp.value numbers.1 in
     let value = value_once o.value p.value ho.value hp.value (two.is ∙ values.0) in
-    let servers = same_rest (codes "servers ") (list_text o.servers ++ 32 ∷ stores_of o) (list_text p.servers ++ 32 ∷ stores_of p) values.1 in
+    let servers = same_rest (codes "servers ") (list_text o.servers ++ 32 ∷ stores_of o)
+    (list_text p.servers ++ 32 ∷ stores_of p) values.1 in
     let lists = cut_once 32 (list_text o.servers) (list_text p.servers) (stores_of o) (stores_of p)
-    (spaceless_nodes n 8 o.servers (omega (arith, few)) ho.servers) (spaceless_nodes n 8 p.servers (omega (arith, few)) hp.servers) servers in
+    (spaceless_nodes n 8 o.servers (omega (arith, few)) ho.servers) (spaceless_nodes n 8 p.servers (omega
+    (arith, few)) hp.servers) servers in
     let served = nodes_once n 8 (omega (arith, few)) o.servers p.servers ho.servers hp.servers lists.0 in
     let stores = same_rest (codes "stores ") (list_text o.stores) (list_text p.stores) lists.1 in
     let stored = nodes_once n 16 (omega (arith, few)) o.stores p.stores ho.stores hp.stores stores in
@@ -126,7 +137,8 @@ object_once n few o p ho hp e =
 items_end : {A : Type 0} (InForm : A → Type 0) (text : A → List ℕ) → ((a : A) → InForm a → has_byte 10 (text a) ≡ false) →
     (items : List A) → AllByRecursion InForm items → has_byte 10 (items_text text items) ≡ false
 items_end InForm text each [] all = refl
-items_end {A = A} InForm text each (a ∷ items) all = lacks_both 10 (text a) (flat_map behind_comma (map text items)) (each a all.0) (more items all.1)
+items_end {A = A} InForm text each (a ∷ items) all =
+    lacks_both 10 (text a) (flat_map behind_comma (map text items)) (each a all.0) (more items all.1)
   where
     more : (items : List A) → AllByRecursion InForm items → has_byte 10 (flat_map behind_comma (map text items)) ≡ false
     more [] all = refl
@@ -151,12 +163,14 @@ value_ends (value.Table (p ∷ ps)) h =
     lacks_both 10 (codes "table ") (pairs_text (p ∷ ps)) refl
     (ap (has_byte 10) (pairs_text_is (p ∷ ps) (omega arith)) ∙
     items_end PairInForm pair_text
-    (λ q fits. lacks_behind 10 58 (decimal q.0) (decimal q.1) refl (digits_only 10 q.0 refl fits.0) (digits_only 10 q.1 refl fits.1)) (p ∷ ps) h.1)
+    (λ q fits. lacks_behind 10 58 (decimal q.0) (decimal q.1) refl (digits_only 10 q.0 refl fits.0) (digits_only 10 q.1 refl fits.1))
+    (p ∷ ps) h.1)
 
 pub object_ends : (n : ℕ) → n ≤ 255 → (o : ObjectLine) → ObjectLineInForm n o → has_byte 10 (object_text o) ≡ false
 object_ends n few o h =
     lacks_both 10 (codes "object ") (decimal o.x ++ 32 ∷ (value_text o.value ++ 32 ∷ servers_of o)) refl
-    (lacks_behind 10 32 (decimal o.x) (value_text o.value ++ 32 ∷ servers_of o) refl (number_lacks 10 end_apart o.x (omega (arith, h.number.1)))
+    (lacks_behind 10 32 (decimal o.x) (value_text o.value ++ 32 ∷ servers_of o) refl (number_lacks 10 end_apart o.x (omega
+    (arith, h.number.1)))
     (lacks_behind 10 32 (value_text o.value) (servers_of o) refl (value_ends o.value h.value)
     (lacks_both 10 (codes "servers ") (list_text o.servers ++ 32 ∷ stores_of o) refl
     (lacks_behind 10 32 (list_text o.servers) (stores_of o) refl (nodes_end n 8 (omega (arith, few)) o.servers h.servers)

@@ -1,5 +1,6 @@
 -- Writes that count, one after another.
-use Rattle.std.proofs.Common.{◌≡◌, ◌≤◌, ℕ, ◌+◌, List, [], ◌∷◌, ◌++◌, length, map, Bool, true, false, cond, ◌&&◌, ◌||◌, ◌==◌, refl, sym, ◌∙◌, ap, arith}
+use Rattle.std.proofs.Common.{◌≡◌, ◌≤◌, ℕ, ◌+◌, List, [], ◌∷◌, ◌++◌, length, map, Bool, true, false, cond, ◌&&◌, ◌||◌, ◌==◌, refl, sym, ◌∙◌}
+use Rattle.std.proofs.Common.{ap, arith}
 use Rattle.std.specs.List.{list_any}
 use Rattle.std.proofs.lemmas.Bool.{eqb-true}
 use Rattle.std.proofs.lemmas.Bool.Decides.{nat_tests}
@@ -30,13 +31,15 @@ count_more (v ∷ ws) w =
     n = count_wrotes ws
 
     by : (s : Bool) → (w.top == v.top) ≡ s → (a : Bool) → has_wrote ws v.top ≡ a → (b : Bool) → has_wrote ws w.top ≡ b
-        → cond (has_wrote ws v.top || ((w.top == v.top) || false)) (cond (has_wrote ws w.top) n (n + 1)) (cond (has_wrote ws w.top) n (n + 1) + 1)
+        → cond (has_wrote ws v.top || ((w.top == v.top) || false)) (cond (has_wrote ws w.top) n (n + 1)) (cond (has_wrote ws w.top) n
+        (n + 1) + 1)
         ≡ cond ((v.top == w.top) || has_wrote ws w.top) (cond (has_wrote ws v.top) n (n + 1)) (cond (has_wrote ws v.top) n (n + 1) + 1)
     by true same a ea b eb =
         let one : w.top ≡ v.top = eqb-true w.top v.top same in
         let other : (v.top == w.top) ≡ true = turned v.top w.top ∙ same in
         let ab : has_wrote ws v.top ≡ has_wrote ws w.top = ap (has_wrote ws) (sym one) in
-        (λ i. cond (has_wrote ws v.top || (same i || false)) (cond (has_wrote ws w.top) n (n + 1)) (cond (has_wrote ws w.top) n (n + 1) + 1))
+        (λ i. cond (has_wrote ws v.top || (same i || false)) (cond (has_wrote ws w.top) n (n + 1)) (cond (has_wrote ws w.top) n
+        (n + 1) + 1))
         ∙ (λ i. cond (or_true (has_wrote ws v.top) i) (cond (sym ab i) n (n + 1)) (cond (sym ab i) n (n + 1) + 1))
         ∙ (λ i. cond (sym other i || has_wrote ws w.top) (cond (has_wrote ws v.top) n (n + 1)) (cond (has_wrote ws v.top) n (n + 1) + 1))
       where
@@ -50,7 +53,8 @@ count_more (v ∷ ws) w =
         ∙ sym (λ i. cond (other i || eb i) (cond (ea i) n (n + 1)) (cond (ea i) n (n + 1) + 1))
       where
         four : (a b : Bool) →
-            cond (a || (false || false)) (cond b n (n + 1)) (cond b n (n + 1) + 1) ≡ cond (false || b) (cond a n (n + 1)) (cond a n (n + 1) + 1)
+            cond (a || (false || false)) (cond b n (n + 1)) (cond b n (n + 1) + 1) ≡ cond (false || b) (cond a n (n + 1)) (cond a n
+            (n + 1) + 1)
         four true true = refl
         four true false = refl
         four false true = refl

@@ -1,5 +1,6 @@
 -- How many lines of a journal can be read as a run.
-use Rattle.std.proofs.Common.{◌≡◌, ◌<◌, ◌≤◌, ℕ, zero, suc, ◌+◌, ◌-◌, List, [], ◌∷◌, ◌++◌, length, take, Bool, true, false, cond, nat_le, nat_lt, not}
+use Rattle.std.proofs.Common.{◌≡◌, ◌<◌, ◌≤◌, ℕ, zero, suc, ◌+◌, ◌-◌, List, [], ◌∷◌, ◌++◌, length, take, Bool, true, false, cond, nat_le}
+use Rattle.std.proofs.Common.{nat_lt, not}
 use Rattle.std.proofs.Common.{Option, Some, None, refl, sym, ◌∙◌, ap, subst, arith, length-append}
 use Rattle.std.specs.Prelude.{is_some}
 use Rattle.std.proofs.lemmas.Bool.Decides.{nat_tests}
@@ -25,7 +26,8 @@ stands header before last (l ∷ ls) b e =
     by (line_rule header (met before) last l) (λ g. stands header (before ++ l ∷ []) l.event ls b g) e
   where
     by : (r : Option Rule) → (broken_from header (before ++ l ∷ []) l.event ls ≡ Some b → Stands (length (before ++ l ∷ [])) (length ls) b)
-        → broken_or (length before) r (broken_from header (before ++ l ∷ []) l.event ls) ≡ Some b → Stands (length before) (length (l ∷ ls)) b
+        → broken_or (length before) r (broken_from header (before ++ l ∷ []) l.event ls) ≡ Some b →
+        Stands (length before) (length (l ∷ ls)) b
     by None ih g =
         let h = ih g in
         let longer = one_longer before l in
@@ -55,7 +57,8 @@ cut : (header : Header) (before : List Line) (last i : ℕ) (ls : List Line) →
 cut header before last zero ls le = none_up_to (length before + 0) (broken_from header before last ls) (λ b e.
     let above = (stands header before last ls b e).above in omega (arith, above))
 cut header before last (suc i) [] le = refl
-cut header before last (suc i) (l ∷ ls) le = by (line_rule header (met before) last l) (cut header (before ++ l ∷ []) l.event i ls (omega (arith, le)))
+cut header before last (suc i) (l ∷ ls) le =
+    by (line_rule header (met before) last l) (cut header (before ++ l ∷ []) l.event i ls (omega (arith, le)))
   where
     rest : Option Broken
     rest = broken_from header (before ++ l ∷ []) l.event ls
@@ -64,7 +67,8 @@ cut header before last (suc i) (l ∷ ls) le = by (line_rule header (met before)
     longer = let one = one_longer before l in omega (arith, one)
 
     by : (r : Option Rule) → broken_from header (before ++ l ∷ []) l.event (take i ls) ≡ up_to (length (before ++ l ∷ []) + i) rest
-        → broken_or (length before) r (broken_from header (before ++ l ∷ []) l.event (take i ls)) ≡ up_to (length before + suc i) (broken_or (length before) r rest)
+        → broken_or (length before) r (broken_from header (before ++ l ∷ []) l.event (take i ls)) ≡ up_to (length before + suc i)
+        (broken_or (length before) r rest)
     by None ih = ih ∙ ap (λ n. up_to n rest) longer
     by (Some r) ih =
         let yes : nat_le (length before + 1) (length before + suc i) ≡ true = grind (arith, nat_tests) in
@@ -93,7 +97,8 @@ readable_here header lines i lt =
         both false e = grind (arith, nat_tests, e, positive)
 
 -- no line breaks a rule where as many can be read as there are
-pub none_unreadable : (header : Header) (lines : List Line) (n : ℕ) → n ≡ readable_count (length lines) (broken header lines) → length lines ≤ n →
+pub none_unreadable : (header : Header) (lines : List Line) (n : ℕ) → n ≡ readable_count (length lines) (broken header lines) →
+    length lines ≤ n →
     broken header lines ≡ None
 none_unreadable header lines n is le = by (broken header lines) (λ b e. stands header [] 0 lines b e) is
   where
@@ -105,7 +110,8 @@ none_unreadable header lines n is le = by (broken header lines) (λ b e. stands 
         absurd (omega (arith, e, le, above, within))
 
 -- the first that breaks a rule stands behind those that can be read
-pub next_unreadable : (header : Header) (lines : List Line) (n : ℕ) → n ≡ readable_count (length lines) (broken header lines) → n < length lines →
+pub next_unreadable : (header : Header) (lines : List Line) (n : ℕ) → n ≡ readable_count (length lines) (broken header lines) →
+    n < length lines →
     (b : Broken) × (broken header lines ≡ Some b) × (n + 1 ≡ b.line)
 next_unreadable header lines n is lt = by (broken header lines) (λ b e. stands header [] 0 lines b e) is
   where

@@ -24,11 +24,13 @@ use Rattle.arj_last.specs.declared.state.LastState.{LastState}
 pub writes_have_lines : (header : Header) (lines : List Line) (x : ℕ) → AllByRecursion (HasCall header lines) (committed_calls lines) →
     AllByRecursion (HasCall header lines) (writes_of lines x)
 writes_have_lines header lines x all =
-    all_filtered (HasCall header lines) (writes_on x) (serial_calls lines) (all_arrange (HasCall header lines) (serial_less (tops lines)) (committed_calls lines) all)
+    all_filtered (HasCall header lines) (writes_on x) (serial_calls lines) (all_arrange (HasCall header lines) (serial_less (tops lines))
+    (committed_calls lines) all)
 
 -- its value after them
 pub value_there : (header : Header) (lines : List Line) (x : ℕ) (o : ObjectLine) (m : BTreeMap ℕ Value) → object_line header x ≡ Some o →
-    HasValues header (run (first_values header) (writes_of lines x)) m → get nat_cmp m x ≡ Some (run (first_values header) (serial_calls lines) x)
+    HasValues header (run (first_values header) (writes_of lines x)) m →
+    get nat_cmp m x ≡ Some (run (first_values header) (serial_calls lines) x)
 value_there header lines x o m is has = has.value x o is ∙ ap Some (sym (value_of_writes (first_values header) lines x))
 
 none_more : (n : ℕ) → n ≡ 0 + n

@@ -15,10 +15,12 @@ drop_next ls i line lt is = drop-cons ls i line lt ∙ (λ j. sym is j ∷ drop 
 
 -- what is told behind the lines that are left begins with what is told behind the next one
 pub next_states : (h : Header) (ls : List Line) (i : ℕ) (line : Line) → i < length ls → line ≡ get_or ls i line
-    → states_from h (take i ls) (drop i ls) ≡ states_behind h (take (i + 1) ls) line.body ++ states_from h (take (i + 1) ls) (drop (i + 1) ls)
+    → states_from h (take i ls) (drop i ls) ≡ states_behind h (take (i + 1) ls) line.body ++ states_from h (take (i + 1) ls) (drop
+    (i + 1) ls)
 next_states h ls i line lt is =
     ap (states_from h (take i ls)) (drop_next ls i line lt is)
-    ∙ (λ j. states_behind h (sym (take_next ls i line lt is) j) line.body ++ states_from h (sym (take_next ls i line lt is) j) (drop (i + 1) ls))
+    ∙ (λ j. states_behind h (sym (take_next ls i line lt is) j) line.body ++ states_from h (sym (take_next ls i line lt is) j) (drop
+    (i + 1) ls))
 
 -- no lines are left at the end
 pub all_told : (h : Header) (ls : List Line) (i : ℕ) (out : List ℕ) → length ls ≤ i → out ≡ out ++ states_from h (take i ls) (drop i ls)

@@ -1,5 +1,6 @@
 -- What is kept of a journal with one line more.
-use Rattle.std.proofs.Common.{◌≡◌, ℕ, ◌+◌, List, [], ◌∷◌, ◌++◌, length, map, Bool, true, false, cond, ◌&&◌, ◌==◌, Option, Some, None, refl, sym}
+use Rattle.std.proofs.Common.{◌≡◌, ℕ, ◌+◌, List, [], ◌∷◌, ◌++◌, length, map, Bool, true, false, cond, ◌&&◌, ◌==◌, Option, Some, None, refl}
+use Rattle.std.proofs.Common.{sym}
 use Rattle.std.proofs.Common.{◌∙◌, ap, arith}
 use Rattle.std.specs.Prelude.{filter}
 use Rattle.std.specs.List.{cons_option, filter_map}
@@ -39,7 +40,16 @@ module _ (y at n : ℕ) (place : at ≡ n) where
   -- a write in an action with this path and top
   write_there : (p : List Act) (x : ℕ) (op : Op) (answer : List ℕ) (o : Option Act)
       → cond ((x == y) && writes op) (cons_option (write_by at (links p) (option_map link o)) []) []
-      ≡ map write_of (filter (writes_on y) (cons_option (made_in (record { at = n; it = record { path = p; x = x; op = op; answer = answer } }) o) []))
+      ≡ map write_of (filter (writes_on y) (cons_option (made_in (record {
+        at = n;
+        it = record {
+          path = p;
+          x = x;
+          op = op;
+          answer =
+              answer;
+        };
+      }) o) []))
   write_there p x op answer None = by ((x == y) && writes op) []
     where
       by : (b : Bool) (none : List Write) → cond b none none ≡ none
@@ -61,7 +71,8 @@ module _ (y at n : ℕ) (place : at ≡ n) where
   written_there : (us : List Act) (bs : List Begun) → AreBegun us bs → (b : Body)
       → written_on bs at y b ≡ map write_of (filter (writes_on y) (filter_map made_of (put n (said_of us b) [])))
   written_there us bs has (body.Ok l x op answer) =
-      (λ i. cond ((x == y) && writes op) (cons_option (write_by at (named us bs has (name l) i) (top_link (named us bs has (name l) i))) []) [])
+      (λ i. cond ((x == y) && writes op) (cons_option (write_by at (named us bs has (name l) i) (top_link (named us bs has
+      (name l) i))) []) [])
       ∙ (λ i. cond ((x == y) && writes op) (cons_option (write_by at (links p) (top_is p i)) []) [])
       ∙ write_there p x op answer (top_in p)
     where
@@ -70,7 +81,8 @@ module _ (y at n : ℕ) (place : at ≡ n) where
   written_there us bs has b = refl
 
 -- the writes on an object
-pub on_more : (lines : List Line) (line : Line) (bs : List Begun) (y at : ℕ) (old : List Write) → AreBegun (acts lines) bs → at ≡ length lines
+pub on_more : (lines : List Line) (line : Line) (bs : List Begun) (y at : ℕ) (old : List Write) → AreBegun (acts lines) bs →
+    at ≡ length lines
     → old ≡ map write_of (filter (writes_on y) (made lines)) →
     old ++ written_on bs at y line.body ≡ map write_of (filter (writes_on y) (made (lines ++ line ∷ [])))
 on_more lines line bs y at old has place is =
@@ -86,7 +98,8 @@ on_more lines line bs y at old has place is =
     here : List (Placed Said)
     here = put n (said_of (acts lines) line.body) []
 
-called_there : (by_root : Bool) (n : ℕ) (o : Option Called) → filter (λ c. number_of by_root c == n) (cons_option o []) ≡ called_at by_root n o
+called_there : (by_root : Bool) (n : ℕ) (o : Option Called) →
+    filter (λ c. number_of by_root c == n) (cons_option o []) ≡ called_at by_root n o
 called_there by_root n None = refl
 called_there by_root n (Some c) = refl
 
@@ -98,7 +111,8 @@ pub called_under : (by_root : Bool) (lines : List Line) (line : Line) (bs : List
 called_under by_root lines line bs n at old o has place one is =
     (λ i. is i ++ sym (called_there by_root n o) i)
     ∙ sym (filter-append test (filter_map called_of (committings lines)) (cons_option o []))
-    ∙ ap (filter test) (called_more lines line (filter_map called_of (committings lines)) o at place refl (one ∙ called_is (acts lines) bs has at line.body))
+    ∙ ap (filter test) (called_more lines line (filter_map called_of (committings lines)) o at place refl (one
+    ∙ called_is (acts lines) bs has at line.body))
   where
     test : Called → Bool
     test c = number_of by_root c == n

@@ -1,5 +1,6 @@
 -- Surviving writes, sorted by their keys.
-use Rattle.std.proofs.Common.{◌≡◌, ◌<◌, ℕ, ◌+◌, List, [], ◌∷◌, ◌++◌, length, map, Bool, true, false, cond, ◌&&◌, ◌==◌, nat_lt, Option, Some, None}
+use Rattle.std.proofs.Common.{◌≡◌, ◌<◌, ℕ, ◌+◌, List, [], ◌∷◌, ◌++◌, length, map, Bool, true, false, cond, ◌&&◌, ◌==◌, nat_lt, Option, Some}
+use Rattle.std.proofs.Common.{None}
 use Rattle.std.proofs.Common.{slice_get, refl, sym, ◌∙◌, ap, subst, arith, length-append, append_assoc}
 use Rattle.std.specs.Prelude.{filter}
 use Rattle.std.specs.List.{AllByRecursion, cons_option, filter_map}
@@ -41,7 +42,11 @@ stand test before (w ∷ ws) n is =
     (stand test (before ++ w ∷ []) ws (n + 1) (ap (λ m. m + 1) is ∙ sym (length-append before (w ∷ [])))))
   where
     by : (b : Bool) → AllByRecursion (λ p. slice_get (before ++ w ∷ ws) p.at ≡ Some p.it) (survivors_from test (n + 1) ws)
-        → AllByRecursion (λ p. slice_get (before ++ w ∷ ws) p.at ≡ Some p.it) (cons_option (cond b (Some (record { at = n; it = w })) None) (survivors_from test (n + 1) ws))
+        → AllByRecursion (λ p. slice_get (before ++ w ∷ ws) p.at ≡ Some p.it) (cons_option (cond b (Some (record {
+          at = n;
+          it =
+              w;
+        })) None) (survivors_from test (n + 1) ws))
     by true there = (ap (slice_get (before ++ w ∷ ws)) is ∙ at_seam before w ws, there)
     by false there = there
 
@@ -103,8 +108,11 @@ pub picked_are : (lines : List Line) (c : Changes) (w : Writes) → AreKept line
 picked_are lines c w has writes x all keys places alls are is =
     ap (filter_map (wrote_at all)) (is ∙ ap last_in_order are ∙ ap (map last_of) (keys_map (key_of key) ps) ∙ last_places key sorted)
     ∙ pick all sorted (all_arrange (λ p. slice_get all p.at ≡ Some p.it) (by_key (key_of key)) ps (stand test [] all 0 refl))
-    ∙ ap (λ qs. map counted_write (map (λ p. p.it) qs)) (arrange_same (by_key (key_of key)) less_placed ps (pairwise_map (λ p q. p.at < q.at) (λ p q. by_key (key_of key) q p ≡ less_placed q p) (later ts) ps (rise test 0 all)))
-    ∙ ap (map counted_write) (sym (arrange_map less_write (λ p. p.it) ps) ∙ ap (arrange less_write) (survivors_are test 0 all ∙ ap (filter test) (alls ∙ writes.on x) ∙ sym (filter_map_test test write_of (filter (writes_on x) (made lines))) ∙ ap (map write_of) (writes_last lines c has x)) ∙ arrange_map less_write write_of (filter (writes_on x) (committed_calls lines)))
+    ∙ ap (λ qs. map counted_write (map (λ p. p.it) qs)) (arrange_same (by_key (key_of key)) less_placed ps (pairwise_map
+    (λ p q. p.at < q.at) (λ p q. by_key (key_of key) q p ≡ less_placed q p) (later ts) ps (rise test 0 all)))
+    ∙ ap (map counted_write) (sym (arrange_map less_write (λ p. p.it) ps) ∙ ap (arrange less_write) (survivors_are test 0 all
+    ∙ ap (filter test) (alls ∙ writes.on x) ∙ sym (filter_map_test test write_of (filter (writes_on x) (made lines)))
+    ∙ ap (map write_of) (writes_last lines c has x)) ∙ arrange_map less_write write_of (filter (writes_on x) (committed_calls lines)))
     ∙ both_maps (arrange (serial_less ts) (filter (writes_on x) (committed_calls lines)))
     ∙ ap (map wrote_of) (filter_sorted (λ d. serial_key ts d.top) (writes_on x) (committed_calls lines))
   where

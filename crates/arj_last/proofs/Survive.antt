@@ -1,5 +1,6 @@
 -- Writes that survive.
-use Rattle.std.proofs.Common.{◌≡◌, ◌<◌, ℕ, zero, suc, ◌+◌, List, [], ◌∷◌, ◌++◌, length, map, take, get_or, Bool, true, false, cond, ◌&&◌, ◌||◌, Option, Some, None}
+use Rattle.std.proofs.Common.{◌≡◌, ◌<◌, ℕ, zero, suc, ◌+◌, List, [], ◌∷◌, ◌++◌, length, map, take, get_or, Bool, true, false, cond, ◌&&◌}
+use Rattle.std.proofs.Common.{◌||◌, Option, Some, None}
 use Rattle.std.proofs.Common.{refl, sym, ◌∙◌, ap, arith}
 use Rattle.std.specs.Prelude.{filter}
 use Rattle.std.specs.List.{cons_option, filter_map, list_all, list_any}
@@ -49,7 +50,8 @@ module _ (E : List (Placed ℕ)) (F : List (Placed Uid)) where
       one t = (λ i. list_all-map (has_end E) (λ a. a.id) (chain_in s.it.path) i && is_committed E F t)
 
       with : (t : Act) (b : Bool) → filter_map (kept E F) ss ≡ filter lasts rest
-          → cons_option (cond b (Some (call_of s t)) None) (filter_map (kept E F) ss) ≡ cond b (call_of s t ∷ filter lasts rest) (filter lasts rest)
+          → cons_option (cond b (Some (call_of s t)) None) (filter_map (kept E F) ss) ≡ cond b (call_of s t ∷ filter lasts rest)
+          (filter lasts rest)
       with t true ih = ap (λ cs. call_of s t ∷ cs) ih
       with t false ih = ih
 
@@ -62,7 +64,8 @@ module _ (E : List (Placed ℕ)) (F : List (Placed Uid)) where
 
 -- the surviving writes on an object
 pub writes_last : (lines : List Line) (c : Changes) → AreKept lines c → (x : ℕ)
-    → filter (λ d. survives_by (is_ended c) (is_found c) (write_of d)) (filter (writes_on x) (made lines)) ≡ filter (writes_on x) (committed_calls lines)
+    → filter (λ d. survives_by (is_ended c) (is_found c) (write_of d)) (filter (writes_on x) (made lines)) ≡ filter (writes_on x)
+    (committed_calls lines)
 writes_last lines c has x =
     (λ i. filter (λ d. survives_by (λ n. has.committed n i) (λ u. has.found u i) (write_of d)) (filter (writes_on x) (made lines)))
     ∙ both_tests (lasts (committed lines) (recovered lines)) (writes_on x) (made lines)
@@ -76,7 +79,11 @@ survivors_are test n [] = refl
 survivors_are test n (w ∷ ws) = by (test w) (survivors_are test (n + 1) ws)
   where
     by : (b : Bool) → map (λ p. p.it) (survivors_from test (n + 1) ws) ≡ filter test ws
-        → map (λ p. p.it) (cons_option (cond b (Some (record { at = n; it = w })) None) (survivors_from test (n + 1) ws)) ≡ cond b (w ∷ filter test ws) (filter test ws)
+        → map (λ p. p.it) (cons_option (cond b (Some (record {
+          at = n;
+          it =
+              w;
+        })) None) (survivors_from test (n + 1) ws)) ≡ cond b (w ∷ filter test ws) (filter test ws)
     by true ih = ap (λ vs. w ∷ vs) ih
     by false ih = ih
 
@@ -88,7 +95,8 @@ survivors_more test n [] w = ap (λ m. cons_option (survivor test m w) []) (none
     none_more : (n : ℕ) → n ≡ n + 0
     none_more n = omega arith
 survivors_more test n (v ∷ ws) w =
-    ap (cons_option (survivor test n v)) (survivors_more test (n + 1) ws w ∙ ap (λ m. survivors_from test (n + 1) ws ++ cons_option (survivor test m w) []) (next n (length ws)))
+    ap (cons_option (survivor test n v)) (survivors_more test (n + 1) ws w
+    ∙ ap (λ m. survivors_from test (n + 1) ws ++ cons_option (survivor test m w) []) (next n (length ws)))
     ∙ by (survivor test n v) (survivors_from test (n + 1) ws) (cons_option (survivor test (n + length (v ∷ ws)) w) [])
   where
     next : (n m : ℕ) → n + 1 + m ≡ n + suc m
@@ -100,10 +108,12 @@ survivors_more test n (v ∷ ws) w =
 
 -- the keys of those so far, with the next one
 pub keys_more : (key : ℕ → List ℕ) (test : Write → Bool) (all : List Write) (i : ℕ) (w : Write) → i < length all → w ≡ get_or all i w
-    → map (key_of key) (survivors_from test 0 (take (i + 1) all)) ≡ map (key_of key) (survivors_from test 0 (take i all)) ++ cons_option (option_map (key_of key) (survivor test i w)) []
+    → map (key_of key) (survivors_from test 0 (take (i + 1) all)) ≡ map (key_of key) (survivors_from test 0 (take i all)) ++ cons_option
+    (option_map (key_of key) (survivor test i w)) []
 keys_more key test all i w lt is =
     ap (λ ws. map (key_of key) (survivors_from test 0 ws)) (take_next all i w lt is)
-    ∙ ap (map (key_of key)) (survivors_more test 0 (take i all) w ∙ ap (λ n. survivors_from test 0 (take i all) ++ cons_option (survivor test n w) []) (so_many i all lt))
+    ∙ ap (map (key_of key)) (survivors_more test 0 (take i all) w
+    ∙ ap (λ n. survivors_from test 0 (take i all) ++ cons_option (survivor test n w) []) (so_many i all lt))
     ∙ map-append (key_of key) (survivors_from test 0 (take i all)) (cons_option (survivor test i w) [])
     ∙ ap (λ ks. map (key_of key) (survivors_from test 0 (take i all)) ++ ks) (by (survivor test i w))
   where

@@ -1,5 +1,6 @@
 -- Which last states are told.
-use Rattle.std.proofs.Common.{◌≡◌, ◌<◌, ℕ, zero, suc, ◌+◌, List, [], ◌∷◌, ◌++◌, length, map, take, get_or, append-nil, Bool, true, false, cond, ◌&&◌, ◌||◌, ◌==◌, not}
+use Rattle.std.proofs.Common.{◌≡◌, ◌<◌, ℕ, zero, suc, ◌+◌, List, [], ◌∷◌, ◌++◌, length, map, take, get_or, append-nil, Bool, true, false}
+use Rattle.std.proofs.Common.{cond, ◌&&◌, ◌||◌, ◌==◌, not}
 use Rattle.std.proofs.Common.{Option, Some, None, refl, sym, ◌∙◌, ap, append_assoc, arith}
 use Rattle.std.specs.Prelude.{filter, find}
 use Rattle.std.specs.List.{AllByRecursion, flat_map, list_any}
@@ -41,7 +42,8 @@ found (p ∷ front) o back = by (found front o back) (p.x == o.x)
 pub all_found : (h : Header) → AllByRecursion (λ o. (p : ObjectLine) × (object_line h o.x ≡ Some p)) h.objects
 all_found h = go [] h.objects refl
   where
-    go : (front back : List ObjectLine) → h.objects ≡ front ++ back → AllByRecursion (λ o. (p : ObjectLine) × (object_line h o.x ≡ Some p)) back
+    go : (front back : List ObjectLine) → h.objects ≡ front ++ back →
+        AllByRecursion (λ o. (p : ObjectLine) × (object_line h o.x ≡ Some p)) back
     go front [] e = tt
     go front (o ∷ back) e =
         let there = found front o back in
@@ -57,7 +59,8 @@ at_place P (x ∷ xs) (suc i) d lt all = at_place P xs i d (omega (arith, lt)) a
 pub flat_next : {A : Type 0} (f : A → List ℕ) (xs : List A) (i : ℕ) (x : A) → i < length xs → x ≡ get_or xs i x →
     flat_map f (take (i + 1) xs) ≡ flat_map f (take i xs) ++ f x
 flat_next f xs i x lt is =
-    ap (flat_map f) (take_next xs i x lt is) ∙ flat_map-append f (take i xs) (x ∷ []) ∙ ap (λ t. flat_map f (take i xs) ++ t) (append-nil (f x))
+    ap (flat_map f) (take_next xs i x lt is) ∙ flat_map-append f (take i xs) (x ∷ [])
+    ∙ ap (λ t. flat_map f (take i xs) ++ t) (append-nil (f x))
 
 -- answered writes of a top, as they are kept
 pub any_wrote : (id : ℕ) (cs : List Call) → list_any (λ w. w.top == id) (map write_of cs) ≡ list_any (λ c. c.top == id) cs
@@ -78,13 +81,16 @@ no_top lines p x e = by (top_in p) (sym (top_is p) ∙ e)
 
 -- what is told of the top of a path, by what is kept
 pub its_top : (lines : List Line) (c : Changes) → AreKept lines c → (p : List Act) (x : ℕ) (top : Link) → top_link (links p) ≡ Some top
-    → is_told_of lines p x (top_in p) ≡ ((is_ended c top.id || is_found c top.uid) && (not (root_number top.id (links p) == top.id) || wrote_in lines top.id x))
+    → is_told_of lines p x (top_in p) ≡ ((is_ended c top.id || is_found c top.uid) && (not (root_number top.id
+    (links p) == top.id) || wrote_in lines top.id x))
 its_top lines c has p x top e = by (top_in p) (sym (top_is p) ∙ e)
   where
     by : (o : Option Act) → option_map link o ≡ Some top
-        → is_told_of lines p x o ≡ ((is_ended c top.id || is_found c top.uid) && (not (root_number top.id (links p) == top.id) || wrote_in lines top.id x))
+        → is_told_of lines p x o ≡ ((is_ended c top.id || is_found c top.uid) && (not (root_number top.id
+        (links p) == top.id) || wrote_in lines top.id x))
     by None g = absurd (cc g)
     by (Some t) g =
         let same : link t ≡ top = cc g in
         (λ i. (sym (has.committed t.id) i || sym (has.found t.uid) i) && (not (sym (root_is t.id p) i == t.id) || wrote_in lines t.id x))
-        ∙ (λ i. (is_ended c (let l = same i in l.id) || is_found c (let l = same i in l.uid)) && (not (root_number (let l = same i in l.id) (links p) == (let l = same i in l.id)) || wrote_in lines (let l = same i in l.id) x))
+        ∙ (λ i. (is_ended c (let l = same i in l.id) || is_found c (let l = same i in l.uid)) && (not (root_number (let l =
+        same i in l.id) (links p) == (let l = same i in l.id)) || wrote_in lines (let l = same i in l.id) x))

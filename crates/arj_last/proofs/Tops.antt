@@ -42,8 +42,12 @@ pub key_among : (lines : List Line) (c : Changes) → AreKept lines c → (top r
     → unit ≡ filter (is_done (is_ended c) (is_found c)) (filter (λ d. number_of true d == root) (filter_map called_of (committings lines)))
     → (unit_place (tops_called unit) root ∷ top_place (tops_called own) top ∷ []) ≡ serial_key (tops lines) top
 key_among lines c has top root own unit owns is units =
-    (λ i. (ap (λ cs. unit_place (tops_called cs) root) units ∙ found_among (λ ts. unit_place ts root) (λ t n. max t.at n) (λ d. number_of true d == root) done (λ d ts. refl) called ∙ ap (λ ts. unit_place ts root) are ∙ ap (unit_place (tops lines)) root_is) i
-    ∷ (ap (λ cs. top_place (tops_called cs) top) owns ∙ found_among (λ ts. top_place ts top) (λ t n. t.at) (λ d. number_of false d == top) done (λ d ts. refl) called ∙ ap (λ ts. top_place ts top) are) i ∷ [])
+    (λ i. (ap (λ cs. unit_place (tops_called cs) root) units
+    ∙ found_among (λ ts. unit_place ts root) (λ t n. max t.at n) (λ d. number_of true d == root) done (λ d ts. refl) called
+    ∙ ap (λ ts. unit_place ts root) are ∙ ap (unit_place (tops lines)) root_is) i
+    ∷ (ap (λ cs. top_place (tops_called cs) top) owns
+    ∙ found_among (λ ts. top_place ts top) (λ t n. t.at) (λ d. number_of false d == top) done (λ d ts. refl) called
+    ∙ ap (λ ts. top_place ts top) are) i ∷ [])
   where
     done : Called → Bool
     done = is_done (is_ended c) (is_found c)
@@ -55,4 +59,6 @@ key_among lines c has top root own unit owns is units =
     are = ap (λ cs. tops_called (filter done cs)) (sym has.called) ∙ tops_are lines c has
 
     root_is : root ≡ root_of (tops lines) top
-    root_is = is ∙ ap (λ cs. root_of (tops_called cs) top) owns ∙ found_among (λ ts. root_of ts top) (λ t n. t.root) (λ d. number_of false d == top) done (λ d ts. refl) called ∙ ap (λ ts. root_of ts top) are
+    root_is = is ∙ ap (λ cs. root_of (tops_called cs) top) owns
+        ∙ found_among (λ ts. root_of ts top) (λ t n. t.root) (λ d. number_of false d == top) done (λ d ts. refl) called
+        ∙ ap (λ ts. root_of ts top) are

@@ -1,5 +1,6 @@
 -- What is told of last states, as lines of text.
-use Rattle.std.specs.Prelude.{ℕ, ◌-◌, List, [], ◌∷◌, ◌++◌, codes, length, filter, Bool, true, false, ◌==◌, ◌&&◌, ◌||◌, not, if◌then◌else◌, Option, Some, None, is_some}
+use Rattle.std.specs.Prelude.{ℕ, ◌-◌, List, [], ◌∷◌, ◌++◌, codes, length, filter, Bool, true, false, ◌==◌, ◌&&◌, ◌||◌, not, if◌then◌else◌}
+use Rattle.std.specs.Prelude.{Option, Some, None, is_some}
 use Rattle.std.specs.List.{flat_map, list_any}
 use Rattle.arj_base.specs.Uid.{nobody}
 use Rattle.arj_base.specs.declared.uid.Uid.{Uid}
@@ -23,7 +24,8 @@ use Rattle.arj_text.specs.Words.{number_word, space, value_text}
 -- a state of an object behind so many lines: its version, its writer, and its value
 abbrev pub state_text : ℕ → ℕ → ℕ → Uid → Value → List ℕ
 state_text at x version writer v =
-    codes "state" ++ (number_word at ++ (number_word x ++ (number_word version ++ (uid_word writer ++ (space ++ (value_text v ++ 10 ∷ []))))))
+    codes "state" ++ (number_word at ++ (number_word x ++ (number_word version ++ (uid_word writer ++ (space ++
+    (value_text v ++ 10 ∷ []))))))
 
 -- the first state of an object of a header
 abbrev pub first_text : ObjectLine → List ℕ
@@ -32,7 +34,8 @@ first_text o = state_text 0 o.x 0 nobody o.value
 -- the last state of object x behind these lines
 abbrev pub object_text : Header → List Line → ℕ → List ℕ
 object_text header lines x =
-    state_text (length lines) x (last_state header lines x).version (last_state header lines x).writer (run (first_values header) (serial_calls lines) x)
+    state_text (length lines) x (last_state header lines x).version (last_state header lines x).writer (run (first_values header)
+    (serial_calls lines) x)
 
 -- no line breaks a rule of journals that can be read as a run
 abbrev pub is_readable : Header → List Line → Bool
@@ -72,7 +75,8 @@ states_behind header lines b = if is_readable header lines then flat_map (told_t
 -- those behind each of these lines, behind those before them
 abbrev pub states_from : Header → List Line → List Line → List ℕ
 states_from header before [] = []
-states_from header before (line ∷ rest) = states_behind header (before ++ line ∷ []) line.body ++ states_from header (before ++ line ∷ []) rest
+states_from header before (line ∷ rest) =
+    states_behind header (before ++ line ∷ []) line.body ++ states_from header (before ++ line ∷ []) rest
 
 -- that this line is the first that breaks a rule
 abbrev pub broken_text : ℕ → List ℕ

@@ -6,4 +6,5 @@ returns-then-is_text-clause-ok c = files_take c.args.place.now c.args.bytes.now 
 
 pub returns-clause-ok : goal.returns-clause-ok
 returns-clause-ok c =
-    said_takes c.args.place.now c.args.bytes.now c.in_ok-line.line c.push.new.self c.requires c.in_ok-line.ensures.ok.0 c.in_ok-line.ensures.ok.1 c.in_ok-push.ensures.ok
+    said_takes c.args.place.now c.args.bytes.now c.in_ok-line.line c.push.new.self c.requires c.in_ok-line.ensures.ok.0
+    c.in_ok-line.ensures.ok.1 c.in_ok-push.ensures.ok

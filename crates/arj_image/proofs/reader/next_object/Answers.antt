@@ -9,4 +9,5 @@ pub returns-then-not-is_above-clause-bad : goal.returns-then-not-is_above-clause
 returns-then-not-is_above-clause-bad c bad o fits =
     object_out_of_turn c.args.nodes c.args.bytes.now c.args.objects.now c.in-Some.new o (omega (arith, c.ranges.nodes.fits))
     (rw c.in-Some.is at c.in_ok-new.ensures)
-    (subst (λ os. is_last (λ (p : ObjectLine). nat_lt p.x c.in-Some.new.x) os ≡ false) c.as_slice.ensures (sym c.if-not-is_above.ensures)) fits
+    (subst (λ os. is_last (λ (p : ObjectLine). nat_lt p.x c.in-Some.new.x) os ≡ false) c.as_slice.ensures
+    (sym c.if-not-is_above.ensures)) fits

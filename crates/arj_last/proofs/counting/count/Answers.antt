@@ -15,7 +15,9 @@ loop-wrote-preserved c =
     let room : n + 1 < 18446744073709551616 = search rules in
     let known = c.is_noted.ensures ∙ before.tops w.top in
     record {
-      count = c.counted-count.ensures room ∙ (λ j. cond (known j) (before.count j) (before.count j + 1)) ∙ sym (count_more (take i ws) w) ∙ ap count_wrotes (sym next);
+      count = c.counted-count.ensures room ∙ (λ j. cond (known j) (before.count j) (before.count j + 1))
+          ∙ sym (count_more (take i ws) w) ∙ ap count_wrotes (sym next);
       few = subst (λ m. m ≤ i + 1) (sym (c.counted-count.ensures room)) (few c.is_noted.result n i before.few);
-      tops = λ top. c.in_ok-note_number.ensures top ∙ (λ j. before.tops top j || (w.top == top)) ∙ sym (has_more (take i ws) w top) ∙ ap (λ vs. has_wrote vs top) (sym next);
+      tops = λ top. c.in_ok-note_number.ensures top ∙ (λ j. before.tops top j || (w.top == top)) ∙ sym (has_more (take i ws) w top)
+          ∙ ap (λ vs. has_wrote vs top) (sym next);
     }

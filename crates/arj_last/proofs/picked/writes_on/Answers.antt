@@ -15,7 +15,9 @@ returns c = λ lines has writes.
     let x = c.args.x in
     let keys = map (λ k. k.items) c.in_ok-keys.keys.items in
     let places = c.in_ok-places.places.items in
-    IfOk-weaker c.picked.result (λ ws. ws.items ≡ filter_map (wrote_at all) c.as_slice.result.now) (λ ws. ws.items ≡ map wrote_of (writes_of lines x))
+    IfOk-weaker c.picked.result (λ ws. ws.items ≡ filter_map (wrote_at all) c.as_slice.result.now) (λ ws. ws.items ≡ map wrote_of
+    (writes_of lines x))
     (λ ws h. h ∙ ap (filter_map (wrote_at all)) c.as_slice.ensures.value
-    ∙ picked_are lines changes kept has writes x all keys places (c.items_at-all.ensures ∙ ap (items_of kept.on) c.from.ensures) (c.in_ok-keys.ensures lines has writes) c.in_ok-places.ensures)
+    ∙ picked_are lines changes kept has writes x all keys places (c.items_at-all.ensures
+    ∙ ap (items_of kept.on) c.from.ensures) (c.in_ok-keys.ensures lines has writes) c.in_ok-places.ensures)
     c.picked.ensures

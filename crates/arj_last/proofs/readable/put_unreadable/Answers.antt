@@ -15,4 +15,5 @@ returns c = λ e.
     let lt : c.args.readable < length c.args.lines.now = search rules in
     let one : c.saturating_add.result ≡ c.args.readable + 1 = search rules in
     let next = next_unreadable c.args.header.now c.args.lines.now c.args.readable e lt in
-    subst (λ text. OnOk c.put_broken.result (c.put_broken.new.out ≡ c.args.out.now ++ text)) (ap broken_text (one ∙ next.2) ∙ sym (ap unreadable_text next.1)) c.put_broken.ensures
+    subst (λ text. OnOk c.put_broken.result (c.put_broken.new.out ≡ c.args.out.now ++ text)) (ap broken_text (one ∙ next.2)
+    ∙ sym (ap unreadable_text next.1)) c.put_broken.ensures

@@ -8,16 +8,20 @@ use Rattle.arj_last.proofs.told.path_in.Goals as goal
 
 pub returns-in-Ok : goal.returns-in-Ok
 returns-in-Ok c = λ lines has.
-    c.path_named.ensures ∙ named (acts lines) c.args.begun.now has (name c.in-Ok.label) ∙ ap (λ b. links (told_path (acts lines) b)) (sym c.in-Ok.is)
+    c.path_named.ensures ∙ named (acts lines) c.args.begun.now has (name c.in-Ok.label)
+    ∙ ap (λ b. links (told_path (acts lines) b)) (sym c.in-Ok.is)
 
 pub returns-in-Committing : goal.returns-in-Committing
 returns-in-Committing c = λ lines has.
-    c.path_named-in-Committing.ensures ∙ named (acts lines) c.args.begun.now has (name c.in-Committing.label) ∙ ap (λ b. links (told_path (acts lines) b)) (sym c.in-Committing.is)
+    c.path_named-in-Committing.ensures ∙ named (acts lines) c.args.begun.now has (name c.in-Committing.label)
+    ∙ ap (λ b. links (told_path (acts lines) b)) (sym c.in-Committing.is)
 
 pub returns-in-Committed : goal.returns-in-Committed
 returns-in-Committed c = λ lines has.
-    c.path_named-in-Committed.ensures ∙ named (acts lines) c.args.begun.now has (name c.in-Committed.label) ∙ ap (λ b. links (told_path (acts lines) b)) (sym c.in-Committed.is)
+    c.path_named-in-Committed.ensures ∙ named (acts lines) c.args.begun.now has (name c.in-Committed.label)
+    ∙ ap (λ b. links (told_path (acts lines) b)) (sym c.in-Committed.is)
 
 pub returns-in-Recovered : goal.returns-in-Recovered
 returns-in-Recovered c = λ lines has.
-    c.path_of.ensures ∙ by_uid (acts lines) c.args.begun.now has c.in-Recovered.action ∙ ap (λ b. links (told_path (acts lines) b)) (sym c.in-Recovered.is)
+    c.path_of.ensures ∙ by_uid (acts lines) c.args.begun.now has c.in-Recovered.action
+    ∙ ap (λ b. links (told_path (acts lines) b)) (sym c.in-Recovered.is)

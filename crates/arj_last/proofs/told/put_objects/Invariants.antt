@@ -9,5 +9,6 @@ use Rattle.arj_last.specs.Told.{is_readable, told_path, told_text}
 use Rattle.arj_last.proofs.told.put_objects.Given as goal
 
 abbrev pub invariant-loop-object : goal.invariant-loop-object
-invariant-loop-object l = (body : Body) → StandsBehind l.lines l.standing → is_readable l.header l.lines ≡ true → l.path ≡ links (told_path (acts l.lines) body)
+invariant-loop-object l = (body : Body) → StandsBehind l.lines l.standing → is_readable l.header l.lines ≡ true →
+    l.path ≡ links (told_path (acts l.lines) body)
     → l.out ≡ l.fn.out ++ flat_map (told_text l.header l.lines body) (take l.object-index l.header.objects)

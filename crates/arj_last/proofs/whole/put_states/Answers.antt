@@ -1,4 +1,5 @@
-use Rattle.std.proofs.Common.{rules, ◌≡◌, ◌<◌, ◌≤◌, ◌+◌, ◌∙◌, ◌++◌, ap, sym, subst, length, slice_index_or, take, drop, append_assoc, nat_lt}
+use Rattle.std.proofs.Common.{rules, ◌≡◌, ◌<◌, ◌≤◌, ◌+◌, ◌∙◌, ◌++◌, ap, sym, subst, length, slice_index_or, take, drop, append_assoc}
+use Rattle.std.proofs.Common.{nat_lt}
 use Rattle.arj_standing.proofs.Filters.{take_next}
 use Rattle.arj_last.proofs.Cuts.{readable_here}
 use Rattle.arj_last.proofs.Lines.{all_told, next_states}
@@ -17,7 +18,8 @@ loop-at-preserved c =
     let few : length (take i lines) + 1 < 18446744073709551616 = search rules in
     let upto = take (i + 1) lines in
     let now : StandsBehind upto c.take.new.self =
-    subst (λ ls. StandsBehind ls c.take.new.self) (sym (take_next lines i line lt is)) (c.in_ok-take.ensures (take i lines) c.loop-at.invariant.standing few) in
+    subst (λ ls. StandsBehind ls c.take.new.self) (sym (take_next lines i line lt is)) (c.in_ok-take.ensures
+    (take i lines) c.loop-at.invariant.standing few) in
     let rest = states_from header upto (drop (i + 1) lines) in
     record {
       told = λ e.

@@ -8,7 +8,9 @@ pub returns : goal.returns
 returns c = λ lines h few.
     let line = c.args.line.now in
     record {
-      begun = subst (λ us. AreBegun us c.begin.new.begun.items) (sym (acts-append [] lines line)) (c.in_ok-begin.ensures (acts lines) h.begun);
-      changes = c.in_ok-take-2.ensures lines (subst (AreBegun (acts lines)) (sym c.as_slice-2.ensures.value) h.begun) h.changes (subst (λ n. n + 1 < 18446744073709551616) (sym h.changes.count) few);
+      begun = subst (λ us. AreBegun us c.begin.new.begun.items) (sym (acts-append [] lines line)) (c.in_ok-begin.ensures
+          (acts lines) h.begun);
+      changes = c.in_ok-take-2.ensures lines (subst (AreBegun (acts lines)) (sym c.as_slice-2.ensures.value) h.begun) h.changes (subst
+          (λ n. n + 1 < 18446744073709551616) (sym h.changes.count) few);
       writes = c.in_ok-take.ensures lines (subst (AreBegun (acts lines)) (sym c.as_slice.ensures.value) h.begun) h.changes.count h.writes;
     }
