@@ -28,16 +28,19 @@ fn has(entry: &Entry, servers: &[u8], stores: &[u8]) -> bool {
     entry.servers.as_slice() == servers && entry.stores.as_slice() == stores
 }
 
-// Whether an entry with these nodes is saved so and restored.
+// Whether an entry with these nodes is saved so.
 fn is_saved(alloc: Global, servers: &[u8], stores: &[u8], payload: &[u8]) -> Result<bool, Fail> {
     if servers.len() > 255 || stores.len() > 255 {
         return Ok(false);
     }
-    let entry = entry(alloc, servers, stores)?;
-    if entry.save(alloc)?.as_slice() != payload {
-        return Ok(false);
-    }
-    Ok(has(&Entry::restore(alloc, payload)?, servers, stores))
+    let saved = entry(alloc, servers, stores)?.save(alloc)?;
+    Ok(saved.as_slice() == payload)
+}
+
+// Whether it is restored from that.
+fn is_restored(alloc: Global, servers: &[u8], stores: &[u8], payload: &[u8]) -> Result<bool, Fail> {
+    let restored = Entry::restore(alloc, payload)?;
+    Ok(has(&restored, servers, stores))
 }
 
 #[test]
@@ -49,6 +52,7 @@ fn an_entry_has_these_bytes(rt: HostRuntime) -> Result<(), Fail> {
         (&[], &[7, 7], &[0, 2, 7, 7]),
     ] {
         assert!(rt; is_saved(rt.alloc(), servers, stores, payload)?);
+        assert!(rt; is_restored(rt.alloc(), servers, stores, payload)?);
     }
     Ok(())
 }
