@@ -16,6 +16,11 @@ abbrev pub IsCheck : List (String Global) → Type 0
 IsCheck (word ∷ []) = string_bytes word ≡ codes "check"
 IsCheck _ = ⊥
 
+-- it is the one word `program`
+abbrev pub IsProgram : List (String Global) → Type 0
+IsProgram (word ∷ []) = string_bytes word ≡ codes "program"
+IsProgram _ = ⊥
+
 -- it is the word `generate` and this text
 abbrev pub NamesBank : List (String Global) → List ℕ → Type 0
 NamesBank (word ∷ number ∷ []) text = (string_bytes word ≡ codes "generate") × (string_bytes number ≡ text)
@@ -29,15 +34,16 @@ most_banks = 4294967296
 abbrev pub IsGenerate : List (String Global) → ℕ → Type 0
 IsGenerate words n = (n < most_banks) × NamesBank words (decimal n)
 
--- it is one of the three
+-- it is one of the four
 abbrev pub IsCommand : List (String Global) → Type 0
-IsCommand words = IsReplay words ⊎ (IsCheck words ⊎ ((n : ℕ) × IsGenerate words n))
+IsCommand words = IsReplay words ⊎ (IsCheck words ⊎ (IsProgram words ⊎ ((n : ℕ) × IsGenerate words n)))
 
 -- what the words ask for
 abbrev pub Says : List (String Global) → Command → Type 0
 Says words command.Replay = IsReplay words
 Says words (command.Bank n) = IsGenerate words n
 Says words command.Check = IsCheck words
+Says words command.Program = IsProgram words
 Says words command.None = IsCommand words → ⊥
 
 -- the text begins with no `+`, and with a zero only where that is all of it

@@ -1,3 +1,4 @@
 pub mod Command
 pub mod Facts
 pub mod Outcome
+pub mod Programs

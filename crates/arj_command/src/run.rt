@@ -4,13 +4,15 @@ ghost use Rattle.arj_bank.specs.Balances.{held_by, reader};
 ghost use Rattle.arj_bank.specs.Bank.{Generates};
 ghost use Rattle.arj_base.specs.Count.{Rose};
 ghost use Rattle.arj_checking.specs.Checks.{Checks, ends};
-ghost use Rattle.arj_command.specs.Command.{IsCheck, IsCommand, IsGenerate, IsReplay};
+ghost use Rattle.arj_command.specs.Command.{IsCheck, IsCommand, IsGenerate, IsProgram, IsReplay};
 ghost use Rattle.arj_command.specs.Outcome.{BankHeadline, Headline, Shown, around, said, world_of};
+ghost use Rattle.arj_command.specs.Programs.{ProgramsHeadline};
 ghost use Rattle.arj_loop.specs.Replayed.{Closes, StopsShort, answer, outside};
 ghost use Rattle.arj_nodes.specs.AllNodes.{AreFresh};
 ghost use Rattle.arj_nodes.specs.AsMachine.{all_nodes};
 ghost use Rattle.arj_law_nodes.specs.nodes.Cores.{SaysReadings};
 ghost use Rattle.arj_law_nodes.specs.nodes.Readings.{Reads, reading_of};
+ghost use Rattle.arj_programs.specs.Outcome.{RunsPrograms};
 
 use crate::words::{Command, asked_for};
 use arj_bank::generated;
@@ -22,6 +24,8 @@ use arj_journal::Lines;
 use arj_law_nodes::{banks_show_what_is_promised, nodes_show_what_is_promised};
 use arj_loop::{BadLine, replay};
 use arj_nodes::AllNodes;
+use arj_programs::run_programs;
+use arj_progrun::programs_mean_their_calls;
 use arj_store::ObjectStore;
 use arj_world::World;
 use std::alloc::Global;
@@ -55,6 +59,7 @@ fn run_command<S: Source, K: Sink, D: Disk, O: ObjectStore, C: Core + Drop>(
     ensures closes { IsReplay words.now → result ≢ 4 → result ≢ 5 → Closes (all_nodes C.Core D.Disk) (outside (S.left source.old) (S.faults source.old) (K.taken sink.old) rack.old) (outside (S.left source.new) (S.faults source.new) (K.taken sink.new) rack.new) (answer result why.new journal.new nodes.new) }
     ensures short { IsReplay words.now → (result ≡ 4) ⊎ (result ≡ 5) → StopsShort (all_nodes C.Core D.Disk) (outside (S.left source.old) (S.faults source.old) (K.taken sink.old) rack.old) (outside (S.left source.new) (S.faults source.new) (K.taken sink.new) rack.new) result }
     ensures generates { (n : ℕ) → IsGenerate words.now n → Generates (all_nodes C.Core D.Disk) (reader D.Disk (held_by O.ObjectStore)) n (outside (S.left source.old) (S.faults source.old) (K.taken sink.old) rack.old) (outside (S.left source.new) (S.faults source.new) (K.taken sink.new) rack.new) (answer result why.new journal.new nodes.new) }
+    ensures programs { IsProgram words.now → RunsPrograms (all_nodes C.Core D.Disk) (outside (S.left source.old) (S.faults source.old) (K.taken sink.old) rack.old) (outside (S.left source.new) (S.faults source.new) (K.taken sink.new) rack.new) (answer result why.new journal.new nodes.new) }
     ensures checks { IsCheck words.now → Checks (ends (S.left source.old) (S.faults source.old) (K.taken sink.old)) (ends (S.left source.new) (S.faults source.new) (K.taken sink.new)) result found.new }
     ensures checks_alone { IsCheck words.now → (rack.new ≡ rack.old) × (journal.new ≡ journal.old) × (why.new ≡ why.old) × (nodes.new ≡ nodes.old) }
     ensures only_check { (IsCheck words.now → ⊥) → (found.new ≡ found.old) × (result ≢ 8) }
@@ -73,6 +78,9 @@ fn run_command<S: Source, K: Sink, D: Disk, O: ObjectStore, C: Core + Drop>(
         ),
         Command::Bank(n) => generated::<K, D, O, AllNodes<C>>(alloc, n, sink, rack, journal, nodes),
         Command::Check => checked::<S, K>(alloc, source, sink, found),
+        Command::Program => run_programs::<S, K, D, AllNodes<C>>(
+            alloc, source, sink, rack, journal, why, nodes,
+        ),
         Command::None => 1,
     }
 }
@@ -97,6 +105,7 @@ pub fn run_on<S: Source, K: Sink, D: Disk, O: ObjectStore, C: Core + Drop>(
     ensures headline { (read : Reads) → SaysReadings C.Core read → IsReplay words.now → result ≢ 4 → result ≢ 5 → Headline C.Core D.Disk read (around (outside (S.left source.old) (S.faults source.old) (K.taken sink.old) rack.old) (outside (S.left source.new) (S.faults source.new) (K.taken sink.new) rack.new)) (said result why.new journal.new world.new) }
     ensures shown { (read : Reads) → SaysReadings C.Core read → IsReplay words.now → (result ≡ 4) ⊎ (result ≡ 5) → Shown C.Core D.Disk read (around (outside (S.left source.old) (S.faults source.old) (K.taken sink.old) rack.old) (outside (S.left source.new) (S.faults source.new) (K.taken sink.new) rack.new)) result }
     ensures bank { SaysReadings C.Core (reading_of O.ObjectStore) → (n : ℕ) → IsGenerate words.now n → BankHeadline C.Core D.Disk (reading_of O.ObjectStore) n (around (outside (S.left source.old) (S.faults source.old) (K.taken sink.old) rack.old) (outside (S.left source.new) (S.faults source.new) (K.taken sink.new) rack.new)) (said result why.new journal.new world.new) }
+    ensures programs { (read : Reads) → SaysReadings C.Core read → IsProgram words.now → ProgramsHeadline C.Core D.Disk read (around (outside (S.left source.old) (S.faults source.old) (K.taken sink.old) rack.old) (outside (S.left source.new) (S.faults source.new) (K.taken sink.new) rack.new)) (said result why.new journal.new world.new) }
     ensures checks { IsCheck words.now → Checks (ends (S.left source.old) (S.faults source.old) (K.taken sink.old)) (ends (S.left source.new) (S.faults source.new) (K.taken sink.new)) result found.new }
     ensures checks_alone { IsCheck words.now → (rack.new ≡ rack.old) × (journal.new ≡ journal.old) × (why.new ≡ why.old) × (world.new ≡ world.old) }
     ensures only_check { (IsCheck words.now → ⊥) → (found.new ≡ found.old) × (result ≢ 8) }
@@ -111,6 +120,7 @@ pub fn run_on<S: Source, K: Sink, D: Disk, O: ObjectStore, C: Core + Drop>(
 {
     nodes_show_what_is_promised::<C, D>();
     banks_show_what_is_promised::<C, D>();
+    programs_mean_their_calls();
     let mut nodes = None;
     let status = run_command::<S, K, D, O, C>(
         alloc, words, source, sink, rack, journal, why, found, &mut nodes,

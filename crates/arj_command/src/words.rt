@@ -1,7 +1,7 @@
 // What the words of the command line ask for.
 ghost use Rattle.std.specs.Prelude.{◌≡◌, ◌<◌, ℕ, List, MatchBool, MatchOption};
 ghost use Rattle.std.specs.Fmt.{decimal};
-ghost use Rattle.arj_command.specs.Command.{IsCheck, IsPlain, IsReplay, NamesBank, Says, most_banks};
+ghost use Rattle.arj_command.specs.Command.{IsCheck, IsPlain, IsProgram, IsReplay, NamesBank, Says, most_banks};
 
 /// What is asked for.
 #[derive(Clone, Copy)]
@@ -12,6 +12,8 @@ pub enum Command {
     Bank(u32),
     /// A finished journal is checked.
     Check,
+    /// Client programs are run.
+    Program,
     /// Nothing: the words aren't a command line.
     None,
 }
@@ -73,6 +75,16 @@ fn is_check(words: &[String]) -> bool
     word.as_str() == "check"
 }
 
+// Whether it is the one word `program`.
+fn is_program(words: &[String]) -> bool
+    ensures { MatchBool result (IsProgram words.now) (IsProgram words.now → ⊥) }
+{
+    let [word] = words else {
+        return false;
+    };
+    word.as_str() == "program"
+}
+
 /// What the words ask for.
 pub fn asked_for(words: &[String]) -> Command
     ensures { Says words.now result }
@@ -82,6 +94,9 @@ pub fn asked_for(words: &[String]) -> Command
     }
     if is_check(words) {
         return Command::Check;
+    }
+    if is_program(words) {
+        return Command::Program;
     }
     let Some(word) = bank_word(words) else {
         return Command::None;

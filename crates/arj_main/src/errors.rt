@@ -6,6 +6,7 @@ use crate::checked::explain_found;
 use crate::forms::form_of;
 use crate::help::{help, usage};
 use crate::pieces::{piece_at, word_at};
+use crate::programs::{bad_programs, many_lines};
 use crate::refused::{count_of_refused, first_refused};
 use crate::shown::Shown;
 use crate::slip_tests::is;
@@ -17,12 +18,13 @@ use arj_words::refusal_words;
 use std::alloc::Global;
 use std::io;
 
-/// What a run leaves, of which is told: its words, whether there are none, or they are a command and a file; the input as far as it
-/// was read, where it is remembered; the journal; why a line is bad; and what was found of a journal that was checked.
+/// What a run leaves, of which is told: its words, whether there are none, or they are a command and a file, or they are `program`; the
+/// input as far as it was read, where it is remembered; the journal; why a line is bad; and what was found of a journal that was checked.
 #[derive(Clone, Copy)]
 pub struct Ran<'a> {
     pub no_words: bool,
     pub gave_file: bool,
+    pub programs: bool,
     pub script: Option<&'a [u8]>,
     pub journal: &'a [Line],
     pub why: Option<BadLine>,
@@ -30,20 +32,21 @@ pub struct Ran<'a> {
 }
 
 /// Says on standard error what ended the program's run, and where, by the status and what the run left. At status 0 it says how
-/// many events were refused, if some were.
+/// many events were refused, if some were, but not of client programs, whose schedule has such events.
 pub fn explain(rt: &impl Eprint, alloc: Global, status: u8, ran: &Ran) -> io::Result<()> {
     let last = ran.journal.last();
     if let Some(found) = ran.found {
         return explain_found(rt, alloc, found, ran.script);
     }
     match status {
+        0 if ran.programs => Ok(()),
         0 => refusals(rt, ran.journal),
         1 if ran.no_words => usage(rt),
         1 => help(rt, ran.gave_file),
         2 => bad_line(rt, alloc, ran),
         3 => eprintln!(rt; "arjuna: standard input could not be read"),
         4 => eprintln!(rt; "arjuna: standard output could not be written"),
-        6 => limit(rt, last),
+        6 => limit(rt, ran.programs, last),
         7 => stopped_disk(rt, last),
         _ => eprintln!(rt; "arjuna: out of memory"),
     }
@@ -80,6 +83,9 @@ fn bad_line(rt: &impl Eprint, alloc: Global, ran: &Ran) -> io::Result<()> {
     let Some(number) = number_of(ran.journal.last()) else {
         return eprintln!(rt; "arjuna: a line of the script is {why}");
     };
+    if ran.programs {
+        return bad_programs(rt, alloc, why, ran.script, number);
+    }
     match ran.script {
         Some(script) => known_line(rt, alloc, why, script, number),
         None => eprintln!(rt; "arjuna: line {number} of the script is {why}"),
@@ -166,11 +172,12 @@ fn number_of(last: Option<&Line>) -> Option<u32>
     }
 }
 
-fn limit(rt: &impl Eprint, last: Option<&Line>) -> io::Result<()> {
+fn limit(rt: &impl Eprint, programs: bool, last: Option<&Line>) -> io::Result<()> {
     if let Some(line) = last {
         if let Body::Limit { which } = &line.body {
             let event = line.event;
             return match which {
+                Which::Lines if programs => many_lines(rt),
                 Which::Lines => eprintln!(rt;
                     "arjuna: more than 100000 script lines, after event {event}"
                 ),

@@ -11,7 +11,7 @@ pub fn help(rt: &impl Eprint, gave_file: bool) -> io::Result<()> {
     usage(rt)?;
     if gave_file {
         eprintln!(rt;
-            "`replay` and `check` take no file: the input comes on standard input, as in `arjuna replay < FILE`"
+            "`replay`, `program` and `check` take no file: the input comes on standard input, as in `arjuna replay < FILE`"
         )?;
     }
     eprintln!(rt;
@@ -19,6 +19,9 @@ pub fn help(rt: &impl Eprint, gave_file: bool) -> io::Result<()> {
     )?;
     eprintln!(rt;
         "  arjuna check < JOURNAL   checks a script, a line `journal` and a journal's lines: is it serial, are nested calls in order"
+    )?;
+    eprintln!(rt;
+        "  arjuna program < PROGRAMS   runs client programs with retries by a seeded schedule, and writes what became of each"
     )?;
     eprintln!(rt;
         "  arjuna generate N        runs the bank of the number N, from 0 to 4294967295, and writes its summary"

@@ -1,8 +1,8 @@
 //! The main's own work: the words of the command line, a source that remembers what it gave, and what is said on standard error.
 //!
-//! It stands on `arj_script`, whose reader tells where a line stands, `arj_io`, `arj_loop`, `arj_journal` and `arj_checking`. It gives
-//! no contract upward: what it says tells of a status, and of what was found, that are known. Which slip of a bad line is named, and
-//! when, says `specs/Slips.antt`.
+//! It stands on `arj_script` and `arj_prog`, whose readers tell where a line stands, `arj_io`, `arj_loop`, `arj_journal` and
+//! `arj_checking`. It gives no contract upward: what it says tells of a status, and of what was found, that are known. Which slip of a
+//! bad line of a script is named, and when, says `specs/Slips.antt`.
 #![tactic(auto)]
 
 mod checked;
@@ -12,6 +12,7 @@ mod forms;
 mod help;
 mod pieces;
 mod place;
+mod programs;
 mod refused;
 mod remembering;
 mod shown;

@@ -69,8 +69,8 @@ pub fn slip_of(line: &[u8], place: &Place) -> Option<Slip>
     }
 }
 
-// The first slip of its text alone.
-fn text_slip(line: &[u8]) -> Option<Slip>
+/// The first slip of its text alone.
+pub fn text_slip(line: &[u8]) -> Option<Slip>
     ensures { result ≡ first_slip (text_slips line.now) }
 {
     if begins_with_mark(line) {

@@ -3,6 +3,7 @@ pub mod Asking
 pub mod Counts
 pub mod Driven
 pub mod Hearing
+pub mod InForm
 pub mod Keeping
 pub mod Passing
 pub mod Short

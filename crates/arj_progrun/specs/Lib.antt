@@ -2,6 +2,8 @@ pub mod Alone
 pub mod Client
 pub mod Driving
 pub mod Events
+pub mod InForm
 pub mod Kept
 pub mod Levels
 pub mod Schedule
+pub mod Stepped

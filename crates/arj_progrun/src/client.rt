@@ -3,6 +3,7 @@ ghost use Rattle.std.specs.Prelude.{◌≡◌, ◌<◌, ◌∷◌, OnOk, IfOk, S
 ghost use Rattle.std.specs.Option.{option_map};
 ghost use Rattle.std.specs.Str.{bytes_eq};
 ghost use Rattle.arj_prog.specs.Listed.{listing_of};
+ghost use Rattle.arj_prog.specs.declared.limits.TheConstants.{TURNS};
 ghost use Rattle.arj_progrun.specs.Client.{aborted, answered, attempt, begins, calls, commits_at, halted, hears, inner, is_open, joins, loses, loses_top, refused_at};
 ghost use Rattle.arj_progrun.specs.Client.{asking, asks_by, asks_for, asks_next, first_client, inside, is_none, stands, taken, turned, unbegun, waits, waits_on};
 ghost use Rattle.arj_progrun.specs.declared.phase.Phase.TheVariants as phase;
@@ -23,9 +24,6 @@ use std::alloc::{AllocError, Global};
 
 /// In which turn of a wait an action is given up.
 pub const PATIENCE: u32 = 8;
-
-/// The most turns of a plan.
-pub const MOST_TURNS: u32 = 20_000;
 
 /// A program: its number, from 1, its top, its nested actions that are open, the innermost last, how many nested
 /// actions this try has begun, where it stands, the statement whose call it waits for, and how many turns its wait has had.
@@ -110,8 +108,8 @@ impl<'p> Client<'p> {
 
     /// What it gives in its turn, if anything.
     pub fn turn(&mut self) -> Result<Option<Event>, AllocError>
-        requires few { self.old.begun < MOST_TURNS }
-        requires patient { self.old.waited < MOST_TURNS }
+        requires few { self.old.begun < TURNS }
+        requires patient { self.old.waited < TURNS }
         ensures { IfOk result (λ given. asking (option_map ask_of given) (client_of self.new) ≡ turned (client_of self.old)) }
     {
         if self.phase.is_over() {
@@ -126,7 +124,7 @@ impl<'p> Client<'p> {
 
     // What it gives in a turn in which it waits: it is given up in the eighth.
     fn wait(&mut self) -> Option<Event>
-        requires patient { self.old.waited < MOST_TURNS }
+        requires patient { self.old.waited < TURNS }
         ensures { asking (option_map ask_of result) (client_of self.new) ≡ waits_on (client_of self.old) }
     {
         self.waited += 1;
@@ -140,7 +138,7 @@ impl<'p> Client<'p> {
 
     // Its next event.
     fn next(&mut self) -> Result<Event, AllocError>
-        requires few { self.old.begun < MOST_TURNS }
+        requires few { self.old.begun < TURNS }
         ensures { IfOk result (λ event. asking (Some (ask_of event)) (client_of self.new) ≡ asks_by self.old.phase (client_of self.old)) }
     {
         match self.phase {
@@ -171,7 +169,7 @@ impl<'p> Client<'p> {
     // Begins its innermost action.
     #[tactic(auto, using(crate::proofs::Stacks::stacked_more))]
     fn begin(&mut self) -> Result<Event, AllocError>
-        requires few { self.old.begun < MOST_TURNS }
+        requires few { self.old.begun < TURNS }
         ensures { IfOk result (λ event. asking (Some (ask_of event)) (client_of self.new) ≡ begins (let c = client_of self.old in c.blocks) (client_of self.old)) }
     {
         self.phase = Phase::Beginning;
@@ -187,7 +185,7 @@ impl<'p> Client<'p> {
     // Begins a nested action in its innermost one.
     #[tactic(auto, using(crate::proofs::Stacks::stacked_more))]
     fn begin_block(&mut self, block: Level<'p>) -> Result<Event, AllocError>
-        requires few { self.old.begun < MOST_TURNS }
+        requires few { self.old.begun < TURNS }
         ensures { IfOk result (λ event. asking (Some (ask_of event)) (client_of self.new) ≡ (let c = client_of self.old in begins (level_of block.entry ∷ c.blocks) c)) }
     {
         let parent = self.label();
@@ -202,7 +200,7 @@ impl<'p> Client<'p> {
 
     // What a statement asks.
     fn ask(&mut self, statement: &'p Statement) -> Result<Event, AllocError>
-        requires few { self.old.begun < MOST_TURNS }
+        requires few { self.old.begun < TURNS }
         ensures { IfOk result (λ event. asking (Some (ask_of event)) (client_of self.new) ≡ asks_for statement.now (client_of self.old)) }
     {
         match statement {
@@ -234,7 +232,7 @@ impl<'p> Client<'p> {
 
     // Opens a nested action.
     fn enter(&mut self, retry: u8, body: &'p [Statement]) -> Result<Event, AllocError>
-        requires few { self.old.begun < MOST_TURNS }
+        requires few { self.old.begun < TURNS }
         ensures { IfOk result (λ event. asking (Some (ask_of event)) (client_of self.new) ≡ asks_for (statement.Block retry (listing_of body.now)) (client_of self.old)) }
     {
         let label = self.label();

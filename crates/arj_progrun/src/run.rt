@@ -5,102 +5,137 @@ ghost use Rattle.arj_journal.specs.declared.body.Line.{Line};
 ghost use Rattle.arj_journal.specs.declared.body.Which.{Which as which_type};
 ghost use Rattle.arj_journal.specs.declared.step.StepFault.TheVariants as step_fault;
 ghost use Rattle.arj_prog.specs.declared.plan.Plan.{Plan as plan_type};
-ghost use Rattle.arj_progrun.specs.Driving.{Drives, HasStepped, IsDriven, IsEnded, Stepped, written};
+ghost use Rattle.arj_prog.specs.declared.limits.TheConstants.{TURNS};
+ghost use Rattle.arj_progrun.specs.Driving.{Drives, EndsAt, IsDriven, IsEnded, Stands, StandsOn, StopsAt, Takes, moment};
 ghost use Rattle.arj_progrun.specs.Kept.{AreWithin, standing_of};
 ghost use Rattle.arj_progrun.specs.Schedule.{are_over, lines_heard};
-ghost use Rattle.arj_progrun.specs.declared.client.TheConstants.{MOST_TURNS};
+ghost use Rattle.arj_progrun.specs.Stepped.{HasStepped, Stepped, stepping, written};
 
+use crate::nodes::{LastLines, Nodes};
 use crate::report::{Report, report};
 use crate::schedule::{Given, Schedule};
-use arj_journal::{Event, Lines, StepFault, Stepper};
+use arj_journal::{Event, StepFault, Stepper};
 use arj_prog::Plan;
 use std::alloc::Global;
 
 // Steps an event, and lets the programs take its lines.
-fn step<S: Stepper>(
-    alloc: Global,
+fn step<R, N: Nodes<R>>(
     schedule: &mut Schedule,
     event: &Event,
     by: Option<usize>,
-    stepper: &mut S,
+    nodes: &mut N,
+    on: &mut R,
 ) -> Result<(), StepFault>
-    requires room { S.steps stepper.old < 200000 }
-    ensures steps { OnOk result ((lines : List Line) × Stepped S.Stepper (written event.now lines) stepper.old stepper.new
+    requires room { (let s = N.stepped nodes.old on.old in s.steps) < 200000 }
+    requires takes { N.takes event.now }
+    requires stands { Stands N.Nodes (moment nodes.old on.old) }
+    ensures steps { OnOk result ((lines : List Line) × Stepped (written event.now lines) (N.stepped nodes.old on.old) (N.stepped nodes.new on.new)
         × (standing_of schedule.new ≡ lines_heard by lines (standing_of schedule.old))) }
     ensures within { OnOk result ((turn : ℕ) → AreWithin turn schedule.old → AreWithin turn schedule.new) }
     ensures nodes { OnOk result (schedule.new.nodes ≡ schedule.old.nodes) }
     ensures long { OnOk result (vec_len schedule.new.clients ≡ vec_len schedule.old.clients) }
-    ensures limit { (which : which_type) → IsErrOf result (step_fault.Limit which) → EndsWithLimit which (S.journal stepper.new) }
+    ensures stands { OnOk result (StandsOn N.Nodes (moment nodes.old on.old) (moment nodes.new on.new)) }
+    ensures limit { (which : which_type) → IsErrOf result (step_fault.Limit which) → EndsAt N.Nodes which (moment nodes.old on.old) (moment nodes.new on.new) }
+    ensures memory { IsErrOf result step_fault.Memory → StopsAt N.Nodes (moment nodes.old on.old) (moment nodes.new on.new) }
 {
-    let mut lines = Lines::new(alloc);
-    stepper.step(event, &mut lines)?;
-    schedule.hear(lines.as_slice(), by)?;
+    nodes.step(event, on)?;
+    schedule.hear(nodes.lines(), by)?;
     Ok(())
 }
 
 // Steps what the turn of this number gives.
-fn run_turn<S: Stepper>(
-    alloc: Global,
+fn run_turn<R, N: Nodes<R>>(
     schedule: &mut Schedule,
     turn: u32,
-    stepper: &mut S,
+    nodes: &mut N,
+    on: &mut R,
 ) -> Result<(), StepFault>
-    requires room { S.steps stepper.old < 200000 }
+    requires room { (let s = N.stepped nodes.old on.old in s.steps) < 200000 }
+    requires driven { (plan : plan_type) × Takes N.Nodes plan × ((let h = plan.header in h.nodes) ≡ schedule.old.nodes)
+        × IsDriven plan turn (N.stepped nodes.old on.old) (standing_of schedule.old) }
+    requires stands { Stands N.Nodes (moment nodes.old on.old) }
     requires nodes { 0 < schedule.old.nodes }
     requires programs { 0 < vec_len schedule.old.clients }
-    requires within { AreWithin turn schedule.old × (turn < MOST_TURNS) }
+    requires within { AreWithin turn schedule.old × (turn < TURNS) }
     ensures ran { OnOk result ((plan : plan_type) → (let h = plan.header in h.nodes) ≡ schedule.old.nodes → are_over (standing_of schedule.old) ≡ false →
-        IsDriven S.Stepper plan turn stepper.old (standing_of schedule.old) → IsDriven S.Stepper plan (turn + 1) stepper.new (standing_of schedule.new)) }
+        IsDriven plan turn (N.stepped nodes.old on.old) (standing_of schedule.old) → IsDriven plan (turn + 1) (N.stepped nodes.new on.new) (standing_of schedule.new)) }
     ensures within { OnOk result (AreWithin (turn + 1) schedule.new) }
     ensures nodes { OnOk result (schedule.new.nodes ≡ schedule.old.nodes) }
     ensures long { OnOk result (vec_len schedule.new.clients ≡ vec_len schedule.old.clients) }
-    ensures limit { (which : which_type) → IsErrOf result (step_fault.Limit which) → EndsWithLimit which (S.journal stepper.new) }
+    ensures stands { OnOk result (StandsOn N.Nodes (moment nodes.old on.old) (moment nodes.new on.new)) }
+    ensures limit { (which : which_type) → IsErrOf result (step_fault.Limit which) → EndsAt N.Nodes which (moment nodes.old on.old) (moment nodes.new on.new) }
+    ensures memory { IsErrOf result step_fault.Memory → StopsAt N.Nodes (moment nodes.old on.old) (moment nodes.new on.new) }
 {
     match schedule.turn(turn)? {
         Given::Nothing => Ok(()),
-        Given::Own(event) => step(alloc, schedule, &event, None, stepper),
-        Given::By(at, event) => step(alloc, schedule, &event, Some(at), stepper),
+        Given::Own(event) => step(schedule, &event, None, nodes, on),
+        Given::By(at, event) => step(schedule, &event, Some(at), nodes, on),
     }
 }
 
 // Takes the turns of a plan, until every program is finished.
-fn all_turns<S: Stepper>(
-    alloc: Global,
+fn all_turns<R, N: Nodes<R>>(
     schedule: &mut Schedule,
     plan: &Plan,
-    stepper: &mut S,
+    nodes: &mut N,
+    on: &mut R,
 ) -> Result<(), StepFault>
-    requires begun { IsDriven S.Stepper plan.now 0 stepper.old (standing_of schedule.old) }
-    requires turns { (let p = plan.now in p.turns) ≤ MOST_TURNS }
+    requires begun { IsDriven plan.now 0 (N.stepped nodes.old on.old) (standing_of schedule.old) }
+    requires takes { Takes N.Nodes plan.now }
+    requires stands { Stands N.Nodes (moment nodes.old on.old) }
+    requires turns { (let p = plan.now in p.turns) ≤ TURNS }
     requires nodes { (0 < schedule.old.nodes) × ((let p = plan.now in let h = p.header in h.nodes) ≡ schedule.old.nodes) }
     requires programs { 0 < vec_len schedule.old.clients }
     requires within { AreWithin 0 schedule.old }
-    ensures ended { OnOk result (IsEnded S.Stepper plan.now stepper.new (standing_of schedule.new)) }
-    ensures limit { (which : which_type) → IsErrOf result (step_fault.Limit which) → EndsWithLimit which (S.journal stepper.new) }
+    ensures ended { OnOk result (IsEnded plan.now (N.stepped nodes.new on.new) (standing_of schedule.new)) }
+    ensures stands { OnOk result (StandsOn N.Nodes (moment nodes.old on.old) (moment nodes.new on.new)) }
+    ensures limit { (which : which_type) → IsErrOf result (step_fault.Limit which) → EndsAt N.Nodes which (moment nodes.old on.old) (moment nodes.new on.new) }
+    ensures memory { IsErrOf result step_fault.Memory → StopsAt N.Nodes (moment nodes.old on.old) (moment nodes.new on.new) }
 {
     for turn in 0..plan.turns {
         if schedule.is_over() {
             return Ok(());
         }
-        run_turn(alloc, schedule, turn, stepper)?;
+        run_turn(schedule, turn, nodes, on)?;
     }
     Ok(())
 }
 
-/// Runs the programs of a plan by its schedule, and tells what became of them. The stepper has stepped no event.
-/// Limit: an event met this limit, and the stepper's journal says so last. Memory: memory is wanting, the stepper's or
-/// the call's own.
+/// Runs the programs of a plan by its schedule on nodes that have stepped no event, and tells what became of them. Limit: an
+/// event met this limit, and the journal says so last. Memory: memory is wanting, the nodes' or the call's own.
 #[tactic(auto, using(crate::proofs::Driven::begins, crate::proofs::Driven::quiesced))]
-pub fn drive<S: Stepper>(alloc: Global, plan: &Plan, stepper: &mut S) -> Result<Report, StepFault>
-    requires fresh { HasStepped S.Stepper [] stepper.old }
+pub fn drive_on<R, N: Nodes<R>>(
+    alloc: Global,
+    plan: &Plan,
+    nodes: &mut N,
+    on: &mut R,
+) -> Result<Report, StepFault>
+    requires fresh { HasStepped [] (N.stepped nodes.old on.old) }
+    requires takes { Takes N.Nodes plan.now }
+    requires stands { Stands N.Nodes (moment nodes.old on.old) }
     requires nodes { 0 < (let p = plan.now in let h = p.header in h.nodes) }
-    requires turns { (let p = plan.now in p.turns) ≤ MOST_TURNS }
+    requires turns { (let p = plan.now in p.turns) ≤ TURNS }
     requires programs { (0 < length (let p = plan.now in p.programs)) × (length (let p = plan.now in p.programs) < 256) }
-    ensures drives { IfOk result (λ told. Drives S.Stepper plan.now stepper.new told) }
-    ensures limit { (which : which_type) → IsErrOf result (step_fault.Limit which) → EndsWithLimit which (S.journal stepper.new) }
+    ensures drives { IfOk result (λ told. Drives plan.now (N.stepped nodes.new on.new) told) }
+    ensures stands { OnOk result (StandsOn N.Nodes (moment nodes.old on.old) (moment nodes.new on.new)) }
+    ensures limit { (which : which_type) → IsErrOf result (step_fault.Limit which) → EndsAt N.Nodes which (moment nodes.old on.old) (moment nodes.new on.new) }
+    ensures memory { IsErrOf result step_fault.Memory → StopsAt N.Nodes (moment nodes.old on.old) (moment nodes.new on.new) }
 {
     let mut schedule = Schedule::new(alloc, plan)?;
-    all_turns(alloc, &mut schedule, plan, stepper)?;
-    step(alloc, &mut schedule, &Event::Quiesce, None, stepper)?;
+    all_turns(&mut schedule, plan, nodes, on)?;
+    step(&mut schedule, &Event::Quiesce, None, nodes, on)?;
     Ok(report(alloc, &schedule)?)
+}
+
+/// Runs the programs of a plan by its schedule on a stepper that has stepped no event, and tells what became of them. Limit: an
+/// event met this limit, and the stepper's journal says so last. Memory: memory is wanting, the stepper's or the call's own.
+pub fn drive<S: Stepper>(alloc: Global, plan: &Plan, stepper: &mut S) -> Result<Report, StepFault>
+    requires fresh { HasStepped [] (stepping (S.events stepper.old) (S.journal stepper.old) (S.steps stepper.old)) }
+    requires nodes { 0 < (let p = plan.now in let h = p.header in h.nodes) }
+    requires turns { (let p = plan.now in p.turns) ≤ TURNS }
+    requires programs { (0 < length (let p = plan.now in p.programs)) × (length (let p = plan.now in p.programs) < 256) }
+    ensures drives { IfOk result (λ told. Drives plan.now (stepping (S.events stepper.new) (S.journal stepper.new) (S.steps stepper.new)) told) }
+    ensures limit { (which : which_type) → IsErrOf result (step_fault.Limit which) → EndsWithLimit which (S.journal stepper.new) }
+{
+    drive_on::<S, LastLines>(alloc, plan, &mut LastLines::new(alloc), stepper)
 }

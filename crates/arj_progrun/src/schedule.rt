@@ -9,7 +9,7 @@ ghost use Rattle.arj_progrun.specs.Events.{ask_of};
 ghost use Rattle.arj_progrun.specs.Kept.{Asks, Hears, IsWithin, given_ask, given_by};
 ghost use Rattle.arj_progrun.specs.Schedule.{asks_by_it};
 ghost use Rattle.arj_text.specs.Label.{name};
-ghost use Rattle.arj_progrun.specs.declared.client.TheConstants.{MOST_TURNS};
+ghost use Rattle.arj_prog.specs.declared.limits.TheConstants.{TURNS};
 
 use crate::client::Client;
 use crate::draws::next_of;
@@ -70,7 +70,7 @@ impl<'p> Schedule<'p> {
     pub fn turn(&mut self, turn: u32) -> Result<Given, AllocError>
         requires nodes { 0 < self.old.nodes }
         requires programs { 0 < vec_len self.old.clients }
-        requires within { AreWithin turn self.old × (turn < MOST_TURNS) }
+        requires within { AreWithin turn self.old × (turn < TURNS) }
         ensures gives { IfOk result (λ given. turning given self.new ≡ turn_at self.old.nodes turn (standing_of self.old)) }
         ensures within { OnOk result (AreWithin (turn + 1) self.new) }
         ensures nodes { OnOk result (self.new.nodes ≡ self.old.nodes) }
@@ -92,7 +92,7 @@ impl<'p> Schedule<'p> {
     // What the program at this place gives in its turn.
     fn turn_of(&mut self, at: usize, turn: u32) -> Result<Given, AllocError>
         requires place { at < vec_len self.old.clients }
-        requires within { AreWithin turn self.old × (turn < MOST_TURNS) }
+        requires within { AreWithin turn self.old × (turn < TURNS) }
         ensures gives { IfOk result (λ given. turning given self.new ≡ turn_by at (slice_get (clients_of self.old.clients.items) at) (standing_of self.old)) }
         ensures within { OnOk result (AreWithin (turn + 1) self.new) }
         ensures nodes { OnOk result (self.new.nodes ≡ self.old.nodes) }
@@ -174,7 +174,7 @@ fn hear_all(clients: &mut Vec<Client>, body: &Body, by: Option<usize>) -> Result
 // What the program at this place asks in its turn.
 fn ask_at(clients: &mut Vec<Client>, at: usize) -> Result<Option<Event>, AllocError>
     requires place { at < vec_len clients.old }
-    requires few { (turn : ℕ) × AllByRecursion (IsWithin turn) clients.old.items × (turn < MOST_TURNS) }
+    requires few { (turn : ℕ) × AllByRecursion (IsWithin turn) clients.old.items × (turn < TURNS) }
     ensures asks { IfOk result (λ event. Asks at event clients.old.items clients.new.items) }
     ensures long { vec_len clients.new ≡ vec_len clients.old }
 {

@@ -18,6 +18,7 @@ fn main(rt: HostRuntime) -> ExitCode {
     let mut left = Left {
         no_words: false,
         gave_file: false,
+        programs: false,
         script: None,
         journal: Lines::new(alloc),
         why: None,
@@ -32,6 +33,7 @@ fn main(rt: HostRuntime) -> ExitCode {
     let ran = Ran {
         no_words: left.no_words,
         gave_file: left.gave_file,
+        programs: left.programs,
         script: left.script.as_ref().map(|script| script.as_slice()),
         journal: left.journal.as_slice(),
         why: left.why,
@@ -44,7 +46,7 @@ fn main(rt: HostRuntime) -> ExitCode {
 
 // Whether a word is a command that stands alone.
 fn takes_no_word(word: &str) -> bool {
-    word == "replay" || word == "check"
+    word == "replay" || word == "program" || word == "check"
 }
 
 // What the run leaves to be told of.
@@ -52,6 +54,7 @@ fn takes_no_word(word: &str) -> bool {
 struct Left {
     no_words: bool,
     gave_file: bool,
+    programs: bool,
     script: Option<Bytes>,
     journal: Lines,
     why: Option<BadLine>,
@@ -67,6 +70,7 @@ fn run(rt: &HostRuntime, left: &mut Left) -> io::Result<u8>
     let words = words(rt, alloc)?;
     left.no_words = words.len() == 0;
     left.gave_file = words.len() == 2 && takes_no_word(words[0].as_str());
+    left.programs = words.len() == 1 && words[0].as_str() == "program";
     let input = StdSource::new(BufReader::new(alloc, rt.reader())?);
     let mut source = Remembering::new(alloc, input);
     let mut sink = StdSink::new(io::writer(rt));

@@ -1,8 +1,9 @@
 -- a script, a check, a bank, or no command
 use Rattle.std.proofs.Common.{arith, inl, inr, ap, refl}
 use Rattle.arj_bank.specs.Balances.{held_by, reader}
-use Rattle.arj_command.specs.Command.{IsCheck, IsGenerate, IsReplay}
+use Rattle.arj_command.specs.Command.{IsCheck, IsGenerate, IsProgram, IsReplay}
 use Rattle.arj_command.proofs.Numbers.{generates_one, not_both, not_check, not_two}
+use Rattle.arj_command.proofs.Programs.{not_program_bank, not_program_check, not_program_replay}
 use Rattle.arj_command.proofs.Shows.{read_failed}
 use Rattle.arj_loop.specs.Replayed.{answer, outside}
 use Rattle.arj_nodes.specs.AsMachine.{all_nodes}
@@ -37,7 +38,46 @@ returns-in-Replay-clause-checks_alone g c is =
 pub returns-in-Replay-clause-only_check : goal.returns-in-Replay-clause-only_check
 returns-in-Replay-clause-only_check g c other = (refl, λ e. let s = c.replay.ensures.statuses in omega (arith, e, s.0))
 
+pub returns-in-Replay-clause-programs : goal.returns-in-Replay-clause-programs
+returns-in-Replay-clause-programs g c is =
+    let says : IsReplay c.args.words.now = rw c.in-Replay.is at c.asked_for.ensures in absurd (not_program_replay c.args.words.now says is)
+
+-- ---- client programs
+
+pub returns-in-Program-clause-programs : goal.returns-in-Program-clause-programs
+returns-in-Program-clause-programs g c is = c.run_programs.ensures.runs
+
+pub returns-in-Program-clause-closes : goal.returns-in-Program-clause-closes
+returns-in-Program-clause-closes g c is _ _ =
+    let says : IsProgram c.args.words.now = rw c.in-Program.is at c.asked_for.ensures in absurd (not_program_replay c.args.words.now is says)
+
+pub returns-in-Program-clause-short : goal.returns-in-Program-clause-short
+returns-in-Program-clause-short g c is _ =
+    let says : IsProgram c.args.words.now = rw c.in-Program.is at c.asked_for.ensures in absurd (not_program_replay c.args.words.now is says)
+
+pub returns-in-Program-clause-generates : goal.returns-in-Program-clause-generates
+returns-in-Program-clause-generates g c n is =
+    let says : IsProgram c.args.words.now = rw c.in-Program.is at c.asked_for.ensures in absurd (not_program_bank c.args.words.now _ is.1 says)
+
+pub returns-in-Program-clause-checks : goal.returns-in-Program-clause-checks
+returns-in-Program-clause-checks g c is =
+    let says : IsProgram c.args.words.now = rw c.in-Program.is at c.asked_for.ensures in absurd (not_program_check c.args.words.now is says)
+
+pub returns-in-Program-clause-checks_alone : goal.returns-in-Program-clause-checks_alone
+returns-in-Program-clause-checks_alone g c is =
+    let says : IsProgram c.args.words.now = rw c.in-Program.is at c.asked_for.ensures in absurd (not_program_check c.args.words.now is says)
+
+pub returns-in-Program-clause-only_check : goal.returns-in-Program-clause-only_check
+returns-in-Program-clause-only_check g c other = (refl, λ e. let s = c.run_programs.ensures.statuses in omega (arith, e, s.0))
+
+pub returns-in-Program-clause-read_fault : goal.returns-in-Program-clause-read_fault
+returns-in-Program-clause-read_fault g c three = c.run_programs.ensures.read_fault three
+
 -- ---- a check
+
+pub returns-in-Check-clause-programs : goal.returns-in-Check-clause-programs
+returns-in-Check-clause-programs g c is =
+    let says : IsCheck c.args.words.now = rw c.in-Check.is at c.asked_for.ensures in absurd (not_program_check c.args.words.now says is)
 
 pub returns-in-Check-clause-closes : goal.returns-in-Check-clause-closes
 returns-in-Check-clause-closes g c is _ _ =
@@ -114,7 +154,15 @@ returns-in-Bank-clause-checks_alone g c is =
 pub returns-in-Bank-clause-only_check : goal.returns-in-Bank-clause-only_check
 returns-in-Bank-clause-only_check g c other = (refl, λ e. let s = c.generated.ensures.statuses in omega (arith, e, s.0))
 
+pub returns-in-Bank-clause-programs : goal.returns-in-Bank-clause-programs
+returns-in-Bank-clause-programs g c is =
+    let says : IsGenerate c.args.words.now c.in-Bank.n =
+    rw c.in-Bank.is at c.asked_for.ensures in absurd (not_program_bank c.args.words.now _ says.1 is)
+
 -- ---- no command
+
+pub returns-in-None-clause-programs : goal.returns-in-None-clause-programs
+returns-in-None-clause-programs g c is = absurd ((rw c.in-None.is at c.asked_for.ensures) (inr (inr (inl is))))
 
 pub returns-in-None-clause-checks : goal.returns-in-None-clause-checks
 returns-in-None-clause-checks g c is = absurd ((rw c.in-None.is at c.asked_for.ensures) (inr (inl is)))
@@ -126,4 +174,4 @@ pub returns-in-None-clause-closes : goal.returns-in-None-clause-closes
 returns-in-None-clause-closes g c is _ _ = absurd ((rw c.in-None.is at c.asked_for.ensures) (inl is))
 
 pub returns-in-None-clause-generates : goal.returns-in-None-clause-generates
-returns-in-None-clause-generates g c n is = absurd ((rw c.in-None.is at c.asked_for.ensures) (inr (inr (n, is))))
+returns-in-None-clause-generates g c n is = absurd ((rw c.in-None.is at c.asked_for.ensures) (inr (inr (inr (n, is)))))

@@ -2,6 +2,7 @@
 use Rattle.arj_command.specs.Outcome.{said}
 use Rattle.arj_command.proofs.Banks.{bank_headline}
 use Rattle.arj_command.proofs.Numbers.{le_7, not_check}
+use Rattle.arj_command.proofs.Programs.{programs_headline}
 use Rattle.arj_command.proofs.Shows.{headline, shown}
 use Rattle.arj_law_nodes.specs.nodes.Readings.{Reads, reading_of}
 use Rattle.arj_loop.specs.Replayed.{answer, outside}
@@ -30,3 +31,10 @@ returns-clause-bank g c says n is =
     bank_headline g.C.Core g.D.Disk read n before after (said c.run_command-status.result c.run_command-status.new.why c.run_command-status.new.journal c.world_of.result) c.run_command-status.new.nodes (c.run_command-status.ensures.generates n is)
     (let only = c.run_command-status.ensures.only_check (λ check. not_check c.args.words.now _ is.1 check) in le_7 c.run_command-status.result c.run_command-status.ensures.statuses only.1)
     (c.banks_show_what_is_promised.ensures.whole read says) (c.banks_show_what_is_promised.ensures.limits read says) (c.banks_show_what_is_promised.ensures.fronts read says) c.world_of.ensures
+
+pub returns-clause-programs : goal.returns-clause-programs
+returns-clause-programs g c read says is =
+    let before = outside (g.S.Source.left c.args.source.now) (g.S.Source.faults c.args.source.now) (g.K.Sink.taken c.args.sink.now) c.args.rack.now in
+    let after = outside (g.S.Source.left c.run_command-status.new.source) (g.S.Source.faults c.run_command-status.new.source) (g.K.Sink.taken c.run_command-status.new.sink) c.run_command-status.new.rack in
+    programs_headline g.C.Core g.D.Disk read (c.nodes_show_what_is_promised.ensures.runs read says) c.programs_mean_their_calls.ensures before after
+    (said c.run_command-status.result c.run_command-status.new.why c.run_command-status.new.journal c.world_of.result) c.run_command-status.new.nodes (c.run_command-status.ensures.programs is) c.world_of.ensures

@@ -1,0 +1,208 @@
+// What is said of client programs that can't be read.
+use crate::errors::line_at;
+use crate::pieces::word_at;
+use crate::shown::Shown;
+use crate::slip::text_slip;
+use crate::slip_tests::is;
+use arj_loop::BadLine;
+use arj_prog::{BLOCKS, PROGRAM_OBJECTS, ProgReader, STATEMENTS, TURNS};
+use arj_script::SCRIPT_LINES;
+use arj_text::field::cut;
+use std::alloc::Global;
+use std::io;
+
+/// What could stand in the place of a line.
+#[derive(Clone, Copy, Debug, PartialEq, Eq)]
+enum Expected {
+    Start,
+    Header,
+    Turns,
+    FirstProgram,
+    Program,
+    StatementOrElse,
+    StatementOrEnd,
+    Other,
+}
+
+/// Says why client programs weren't run: which line is bad, its text, what could stand there, and how to mend it.
+pub fn bad_programs(
+    rt: &impl Eprint,
+    alloc: Global,
+    why: BadLine,
+    input: Option<&[u8]>,
+    number: u32,
+) -> io::Result<()> {
+    let Some(input) = input else {
+        return eprintln!(rt; "arjuna: line {number} of the client programs is {why}");
+    };
+    let wanted = expected(alloc, input, (number as usize).saturating_sub(1));
+    if let BadLine::Missing = why {
+        eprintln!(rt; "arjuna: the input ended before `run`")?;
+        return say_expected(rt, wanted);
+    }
+    let line = line_at(input, number);
+    eprintln!(rt;
+        "arjuna: line {number} of the client programs is {why}: `{}`",
+        Shown(line)
+    )?;
+    if let BadLine::TooLong = why {
+        return Ok(());
+    }
+    say_expected(rt, wanted)?;
+    say_slip(rt, input, line)
+}
+
+/// Says that there are too many lines.
+pub fn many_lines(rt: &impl Eprint) -> io::Result<()> {
+    eprintln!(rt; "arjuna: more than {SCRIPT_LINES} lines")
+}
+
+// Whether a line would be taken behind so many lines of the input.
+fn takes(alloc: Global, input: &[u8], before: usize, line: &[u8]) -> bool {
+    let mut reader = ProgReader::new(alloc);
+    let mut rest = input;
+    for _ in 0..before {
+        let Some((first, behind)) = cut(rest, b'\n') else {
+            return reader.line(rest).is_ok() && reader.line(line).is_ok();
+        };
+        if reader.line(first).is_err() {
+            return false;
+        }
+        rest = behind;
+    }
+    reader.line(line).is_ok()
+}
+
+// What could stand behind so many lines of the input.
+fn expected(alloc: Global, input: &[u8], before: usize) -> Expected {
+    if takes(alloc, input, before, b"nodes 1") {
+        return Expected::Start;
+    }
+    if takes(alloc, input, before, b"seed 0") {
+        return Expected::Header;
+    }
+    if takes(alloc, input, before, b"turns 1") {
+        return Expected::Turns;
+    }
+    if takes(alloc, input, before, b"else") {
+        return Expected::StatementOrElse;
+    }
+    if takes(alloc, input, before, b"end") {
+        return Expected::StatementOrEnd;
+    }
+    if takes(alloc, input, before, b"run") {
+        return Expected::Program;
+    }
+    if takes(alloc, input, before, b"prog P at 1 retry 0") {
+        return Expected::FirstProgram;
+    }
+    Expected::Other
+}
+
+// Says what could stand there.
+fn say_expected(rt: &impl Eprint, wanted: Expected) -> io::Result<()> {
+    match wanted {
+        Expected::Start => eprintln!(rt;
+            "arjuna: expected here: `nodes N`, with N from 1 to 16, before anything but blank lines and comments"
+        ),
+        Expected::Header => eprintln!(rt;
+            "arjuna: expected here: `object X CLASS VALUE servers LIST stores LIST`, or `seed S`, with S up to 4294967295"
+        ),
+        Expected::Turns => eprintln!(rt;
+            "arjuna: expected here: `turns T`, with T from 1 to {TURNS}"
+        ),
+        Expected::FirstProgram => eprintln!(rt;
+            "arjuna: expected here: `prog NAME at N retry K`, with a node of the header and K from 0 to 9"
+        ),
+        Expected::Program => eprintln!(rt;
+            "arjuna: expected here: `prog NAME at N retry K`, with a new name, a node of the header and K from 0 to 9, or `run`"
+        ),
+        Expected::StatementOrElse => eprintln!(rt;
+            "arjuna: expected here: `do X OP`, `print X OP`, `if X OP = ANSWER`, `block K`, `fail`, or `else`, which ends the first list of an `if`"
+        ),
+        Expected::StatementOrEnd => eprintln!(rt;
+            "arjuna: expected here: `do X OP`, `print X OP`, `if X OP = ANSWER`, `block K`, `fail`, or `end`"
+        ),
+        Expected::Other => Ok(()),
+    }
+}
+
+// Says how to mend the line, where that is known.
+fn say_slip(rt: &impl Eprint, input: &[u8], line: &[u8]) -> io::Result<()> {
+    if let Some(slip) = text_slip(line) {
+        return eprintln!(rt; "arjuna: the slip: {slip}");
+    }
+    if !has_call(word_at(line, 0)) {
+        return Ok(());
+    }
+    let object = word_at(line, 1);
+    let Some(class) = class_of(input, object) else {
+        return eprintln!(rt;
+            "arjuna: the slip: the header has no object `{}`",
+            Shown(object)
+        );
+    };
+    if !has_operation(class, word_at(line, 2)) {
+        return eprintln!(rt;
+            "arjuna: the slip: object {} is of class {}, whose operations are {}",
+            Shown(object),
+            Shown(class),
+            operations(class)
+        );
+    }
+    eprintln!(rt;
+        "arjuna: a program has at most {STATEMENTS} statements and {PROGRAM_OBJECTS} objects, and at most {BLOCKS} blocks stand one inside another"
+    )
+}
+
+// Whether a line that begins with the word has a call.
+fn has_call(word: &[u8]) -> bool {
+    is(word, b"do") || is(word, b"print") || is(word, b"if")
+}
+
+// The class that the header says of an object.
+fn class_of<'a>(input: &'a [u8], object: &[u8]) -> Option<&'a [u8]> {
+    let mut rest = input;
+    for _ in 0..SCRIPT_LINES {
+        let (line, behind) = cut(rest, b'\n')?;
+        if is(word_at(line, 0), b"object") && word_at(line, 1) == object {
+            return Some(word_at(line, 2));
+        }
+        rest = behind;
+    }
+    None
+}
+
+// The operations of a class.
+fn operations(class: &[u8]) -> &'static str {
+    if is(class, b"counter") {
+        return "`get`, `add n` and `set n`";
+    }
+    if is(class, b"account") {
+        return "`get`, `deposit n` and `withdraw n`";
+    }
+    if is(class, b"register") {
+        return "`get` and `put HEX`";
+    }
+    if is(class, b"queue") {
+        return "`len`, `push n` and `pop`";
+    }
+    "`get k`, `put k v` and `remove k`"
+}
+
+// Whether a class has an operation of this word.
+fn has_operation(class: &[u8], word: &[u8]) -> bool {
+    if is(class, b"counter") {
+        return is(word, b"get") || is(word, b"add") || is(word, b"set");
+    }
+    if is(class, b"account") {
+        return is(word, b"get") || is(word, b"deposit") || is(word, b"withdraw");
+    }
+    if is(class, b"register") {
+        return is(word, b"get") || is(word, b"put");
+    }
+    if is(class, b"queue") {
+        return is(word, b"len") || is(word, b"push") || is(word, b"pop");
+    }
+    is(word, b"get") || is(word, b"put") || is(word, b"remove")
+}

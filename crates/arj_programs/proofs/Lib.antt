@@ -1,0 +1,5 @@
+pub mod Fits
+pub mod Readings
+pub mod Runnings
+pub mod Sayings
+pub mod Stages
