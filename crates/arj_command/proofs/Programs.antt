@@ -53,7 +53,8 @@ not_program_check (word ∷ more ∷ words) check program = check
 
 -- whatever the nodes answer, the calls of committed programs are those that their statements make alone
 abbrev pub ProgramsMeanTheirCalls : Type 0
-ProgramsMeanTheirCalls = (plan : Plan) (trace : List Given) (end : Standing) → Schedule plan trace end → AllByRecursion MeansItsCalls end.clients
+ProgramsMeanTheirCalls = (plan : Plan) (trace : List Given) (end : Standing) → Schedule plan trace end →
+    AllByRecursion MeansItsCalls end.clients
 
 module _ {C D : Type 0} (c : core.Ghosts C) (d : disk.Ghosts D) (read : Reads) where
   -- what was run shows what is promised
@@ -70,11 +71,13 @@ module _ {C D : Type 0} (c : core.Ghosts C) (d : disk.Ghosts D) (read : Reads) w
   -- what stands behind the lines of events at a limit
   ends_behind : (w : Which) (header : Header) (nodes : AllNodes C) (rack : List D) (lines journal : List Line) →
       EndsBy (all_nodes c d) w header nodes rack lines journal → EndsBehind lines journal
-  ends_behind which.Frames header nodes rack lines journal (over, last, is) = subst (λ ls. EndsBehind lines ls) (sym is) (behind_none c d lines)
+  ends_behind which.Frames header nodes rack lines journal (over, last, is) =
+      subst (λ ls. EndsBehind lines ls) (sym is) (behind_none c d lines)
   ends_behind which.Labels header nodes rack lines journal (going, full, is) = (no_labels _ ∷ [], refl, is)
   ends_behind which.Lines header nodes rack lines journal never = absurd never
 
-  pub programs_headline : RunsShow c d read → ProgramsMeanTheirCalls → (before after : Outside D) (says : Said C) (nodes : Option (AllNodes C)) →
+  pub programs_headline : RunsShow c d read → ProgramsMeanTheirCalls →
+      (before after : Outside D) (says : Said C) (nodes : Option (AllNodes C)) →
       RunsPrograms (all_nodes c d) before after (answer says.status says.why says.journal nodes) → says.world ≡ world_of nodes →
       ProgramsHeadline c d read (around before after) says
   programs_headline show mean before after says nodes run world = record {

@@ -28,16 +28,19 @@ pub record ShowsPlan {C D : Type 0} (c : core.Ghosts C) (d : disk.Ghosts D) (rea
 abbrev pub ShowsLimit : {C D : Type 0} (c : core.Ghosts C) (d : disk.Ghosts D) → Reads → (header : Header) (first : List D)
     (now : Left D (AllNodes C)) → MetLimit (all_nodes c d) header first now → Type 0
 ShowsLimit c d read header first now r =
-    Facts c d read (task first header (let l = r in let q = l.run in q.events)) (behind (let l = r in l.machine) (let n = now in n.rack) (let n = now in n.journal))
+    Facts c d read (task first header (let l = r in let q = l.run in q.events)) (behind (let l = r in l.machine) (let n =
+    now in n.rack) (let n = now in n.journal))
 
 -- what was run before memory was wanting: the same, with the disks as they were behind these events
 abbrev pub ShowsFront : {C D : Type 0} (c : core.Ghosts C) (d : disk.Ghosts D) → Reads → (header : Header) (first rack : List D) →
     WasLeft (all_nodes c d) first header rack → Type 0
 ShowsFront c d read header first rack r =
-    Facts c d read (task first header (let l = r in let q = l.run in q.events)) (behind (let l = r in l.machine) (let l = r in l.mid) (let l = r in let q = l.run in q.lines))
+    Facts c d read (task first header (let l = r in let q = l.run in q.events)) (behind (let l = r in l.machine) (let l =
+    r in l.mid) (let l = r in let q = l.run in q.lines))
 
 -- What a run of client programs shows, at each status.
-pub record ProgramsHeadline {C D : Type 0} (c : core.Ghosts C) (d : disk.Ghosts D) (read : Reads) (w : Around D) (says : Said C) : Type 0 where
+pub record ProgramsHeadline {C D : Type 0} (c : core.Ghosts C) (d : disk.Ghosts D) (read : Reads) (w : Around D)
+    (says : Said C) : Type 0 where
   pub nodes : Option (AllNodes C)
   -- which bytes came, what the status means, what was run of their plan, and that the sink took what became of the programs
   pub run : RunsPrograms (all_nodes c d) w.before w.after (answer says.status says.why says.journal nodes)

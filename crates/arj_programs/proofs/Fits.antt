@@ -1,5 +1,6 @@
 -- A plan that was read has no more than it may have.
-use Rattle.std.proofs.Common.{◌≡◌, ◌∙◌, ◌≤◌, ◌<◌, ◌+◌, ℕ, List, [], ◌∷◌, ◌++◌, length, refl, sym, ap, subst, arith, true, false, Option, Some, None}
+use Rattle.std.proofs.Common.{◌≡◌, ◌≤◌, ◌<◌, ℕ, List, [], ◌∷◌, ◌++◌, length, refl, sym, subst, arith, true, false, Option}
+use Rattle.std.proofs.Common.{Some, None}
 use Rattle.std.proofs.lemmas.Bool.{and_parts, both_ways}
 use Rattle.std.proofs.lemmas.Bool.Decides.{nat_tests}
 use Rattle.std.proofs.lemmas.List.{length-append}
@@ -7,9 +8,10 @@ use Rattle.std.specs.List.{AllByRecursion}
 use Rattle.std.specs.Prelude.{Bool, ⊤, IfSome, if◌then◌else◌, nat_lt}
 use Rattle.arj_journal.specs.ScriptForm.{HeaderInForm}
 use Rattle.arj_prog.proofs.Places.{kept_header}
-use Rattle.arj_prog.specs.Drafts.{behind_line, draft_at, draft_behind, ends_program, fits_at, fits_draft, is_run, plan_of, program_of, with_opening}
+use Rattle.arj_prog.specs.Drafts.{behind_line, draft_at, draft_behind, ends_program, fits_at, fits_draft, is_run, plan_of, program_of}
+use Rattle.arj_prog.specs.Drafts.{with_opening}
 use Rattle.arj_prog.specs.Drafts.{with_program}
-use Rattle.arj_prog.specs.Grammar.{Blank, Fits, Form, HasForm, Head, Says, Seed, Turns, next_place, seeded}
+use Rattle.arj_prog.specs.Grammar.{Blank, Fits, Form, Head, Says, Seed, Turns, next_place, seeded}
 use Rattle.arj_prog.specs.Lines.{SaidInForm}
 use Rattle.arj_prog.specs.Written.{draft_lines, plan_lines}
 use Rattle.arj_prog.specs.declared.draft.Draft.{Draft}
@@ -66,7 +68,8 @@ kept_turns s d = at d.opening
     at : (o : Option Opening) → (let e = draft_at o s d in e.turns) ≡ d.turns
     at None = between s
     at (Some o) =
-        elim (ends_program s o) as (λ b. (let e = (if b then with_program o d else with_opening (Some (behind_line s o)) d) in e.turns) ≡ d.turns)
+        elim (ends_program s o) as (λ b. (let e =
+        (if b then with_program o d else with_opening (Some (behind_line s o)) d) in e.turns) ≡ d.turns)
         [ true ↦ refl | false ↦ refl ]
 
 room_more : (s : Said) (d : Draft) → fits_draft s d ≡ true → is_run s ≡ false → HaveRoom d.programs d.opening →
@@ -165,7 +168,8 @@ plan_is_fit grow kept in_form lines plan header p =
     let runs = p.runs in
     let fits : fits_draft said.Run p.draft ≡ true = let f = runs.fits in f.1 in
     let back : plan_of p.draft ≡ plan = sym p.plan_is in
-    let said = subst (λ ls. AllByRecursion (SaidInForm (let h = (let d = p.draft in d.header) in h.objects)) ls) (kept p.draft fits) good.lines in
+    let said = subst (λ ls. AllByRecursion (SaidInForm (let h = (let d =
+    p.draft in d.header) in h.objects)) ls) (kept p.draft fits) good.lines in
     record {
       form = in_form plan header
           (subst (λ q. AllByRecursion (SaidInForm (let h = (let r = q in r.header) in h.objects)) (plan_lines q)) back said);

@@ -1,13 +1,12 @@
 -- What was read, where reading ended.
-use Rattle.std.proofs.Common.{◌≡◌, ◌∙◌, ◌+◌, ℕ, List, refl, sym, ap, subst, Option, Some, None, Ok, Err}
+use Rattle.std.proofs.Common.{◌≡◌, ◌+◌, ℕ, List, refl, ap, subst, Some, None, Ok, Err}
 use Rattle.std.specs.Prelude.{IfSome}
 use Rattle.arj_journal.specs.ScriptForm.{HeaderInForm}
 use Rattle.arj_lines.specs.Reading.{Input, IsAtLine, IsPastLine}
 use Rattle.arj_loop.specs.declared.ending.BadLine.TheVariants as why
 use Rattle.arj_prog.specs.declared.plan.Plan.{Plan}
-use Rattle.arj_programs.specs.Input.{IsBadAt, IsCutOff, IsFit, IsFront, IsFrontAt, IsPlan, IsTooMany, IsWhole, Reads}
+use Rattle.arj_programs.specs.Input.{IsFit, IsFront, IsFrontAt, IsPlan, Reads}
 use Rattle.arj_programs.specs.Taking.{IsAt, StopsAt}
-use Rattle.arj_programs.specs.declared.reading.Stop.{Stop}
 use Rattle.arj_programs.specs.declared.reading.Stop.TheVariants as stop
 use Rattle.arj_programs.specs.declared.taking.Refusal.TheVariants as refusal
 use Rattle.arj_programs.specs.declared.taking.Taking.{Taking}

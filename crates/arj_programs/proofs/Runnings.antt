@@ -1,5 +1,6 @@
 -- Plans that are run on a machine.
-use Rattle.std.proofs.Common.{◌≡◌, ◌∙◌, ◌≤◌, ◌<◌, ◌+◌, ◌⊎◌, inl, inr, ℕ, zero, suc, List, [], ◌∷◌, ◌++◌, length, refl, sym, ap, subst, arith, true, false, Some, None}
+use Rattle.std.proofs.Common.{◌≡◌, ◌∙◌, ◌<◌, ◌+◌, ◌⊎◌, inl, inr, ℕ, zero, suc, List, [], ◌∷◌, ◌++◌, length, refl, sym, ap, subst}
+use Rattle.std.proofs.Common.{arith, true, false, Some}
 use Rattle.std.specs.List.{AllByRecursion}
 use Rattle.std.specs.Prelude.{Err, IsErrOf}
 use Rattle.std.proofs.lemmas.List.{length-append}
@@ -17,8 +18,8 @@ use Rattle.arj_programs.specs.Runs.{HasEnded, IsRunning, MetLimit, Ran, RanPlan,
 use Rattle.arj_programs.specs.declared.driven.Driven.{Driven}
 use Rattle.arj_progrun.specs.Driving.{Drives}
 use Rattle.arj_progrun.specs.InForm.{PlanInForm}
-use Rattle.arj_progrun.specs.Schedule.{Given, Schedule, Standing, Turns}
-use Rattle.arj_progrun.specs.Stepped.{HasStepped, Stepping, stepping}
+use Rattle.arj_progrun.specs.Schedule.{Given, Standing, Turns}
+use Rattle.arj_progrun.specs.Stepped.{Stepping, stepping}
 use Rattle.arj_progrun.specs.declared.report.ReportLine.{ReportLine}
 
 -- the plan whose header has no objects
@@ -30,9 +31,11 @@ bare_in_form plan form =
     let header = form.header in record { header = record { nodes = header.nodes; objects = (tt, refl) }; programs = form.programs }
 
 -- the schedule goes by the count of nodes alone
-turns_of_bare : (plan : Plan) (turns : ℕ) (trace : List Given) (now : Standing) → Turns (bare plan) turns trace now → Turns plan turns trace now
+turns_of_bare : (plan : Plan) (turns : ℕ) (trace : List Given) (now : Standing) → Turns (bare plan) turns trace now →
+    Turns plan turns trace now
 turns_of_bare plan zero trace now took = took
-turns_of_bare plan (suc t) trace now (before, front, took, going, gives) = (before, front, turns_of_bare plan t front before took, going, gives)
+turns_of_bare plan (suc t) trace now (before, front, took, going, gives) =
+    (before, front, turns_of_bare plan t front before took, going, gives)
 
 pub drives_plan : (plan : Plan) (now : Stepping) (told : List ReportLine) → Drives (bare plan) now told → Drives plan now told
 drives_plan plan now told d =
@@ -81,7 +84,8 @@ module _ {D M : Type 0} (m : Ghosts M D) where
   pub stepped : (first : List D) (header : Header) (old new : Driven M) (before after : List D) (e : Event) → EventInForm e →
       m.steps old.machine < 200000 → m.steps new.machine ≡ m.steps old.machine + 1 → m.over new.machine ≡ false →
       new.events ≡ old.events ++ e ∷ [] →
-      (m.ran first header old.events before old.journal old.machine → m.ran first header (old.events ++ e ∷ []) after new.journal new.machine) →
+      (m.ran first header old.events before old.journal old.machine →
+      m.ran first header (old.events ++ e ∷ []) after new.journal new.machine) →
       IsRunning m first header old before → IsRunning m first header new after
   stepped first header old new before after e form room steps going events runs r = record {
     ran = subst (λ es. m.ran first header es after new.journal new.machine) (sym events) (runs r.ran);
@@ -95,7 +99,8 @@ module _ {D M : Type 0} (m : Ghosts M D) where
   -- a frame didn't fit in it
   pub at_frames : (first : List D) (header : Header) (old new : Driven M) (before after : List D) (e : Event) → EventInForm e →
       m.steps old.machine < 200000 → m.over new.machine ≡ true → EndsAtFrames new.journal →
-      (m.ran first header old.events before old.journal old.machine → m.ran first header (old.events ++ e ∷ []) after new.journal new.machine) →
+      (m.ran first header old.events before old.journal old.machine →
+      m.ran first header (old.events ++ e ∷ []) after new.journal new.machine) →
       IsRunning m first header old before → HasEnded m which.Frames first header new after
   at_frames first header old new before after e form room over last runs r =
       let run : Ran m first header new.machine after = record {
@@ -111,7 +116,8 @@ module _ {D M : Type 0} (m : Ghosts M D) where
   -- it would have given one label too many
   pub at_labels : (first : List D) (header : Header) (old new : Driven M) (machine : M) (before after : List D) (lines : List Line)
       (e : Event) → new.machine ≡ machine → m.over machine ≡ false →
-      (m.ran first header old.events before old.journal old.machine → m.ran first header old.events after lines machine × m.is_full header e after machine) →
+      (m.ran first header old.events before old.journal old.machine →
+      m.ran first header old.events after lines machine × m.is_full header e after machine) →
       new.journal ≡ lines ++ no_labels (m.steps machine) ∷ [] →
       IsRunning m first header old before → HasEnded m which.Labels first header new after
   at_labels first header old new machine before after lines e is going runs last r =
@@ -147,7 +153,8 @@ module _ {D M : Type 0} (m : Ghosts M D) where
 
   -- ---- a plan
 
-  pub runs_first : (first : List D) (header : Header) (d : Driven M) (rack : List D) → d.events ≡ [] → d.journal ≡ [] → HeaderInForm header →
+  pub runs_first : (first : List D) (header : Header) (d : Driven M) (rack : List D) → d.events ≡ [] → d.journal ≡ [] →
+      HeaderInForm header →
       m.steps d.machine ≡ 0 → m.ran first header [] rack [] d.machine → m.over d.machine ≡ false → IsRunning m first header d rack
   runs_first first header d rack events journal form steps ran going = record {
     ran = subst (λ es. m.ran first header es rack d.journal d.machine) (sym events)

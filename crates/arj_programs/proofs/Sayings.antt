@@ -1,8 +1,8 @@
 -- What is said, and what a run leaves.
-use Rattle.std.proofs.Common.{◌≡◌, ◌≢◌, ◌⊎◌, inl, inr, ◌∙◌, ℕ, List, [], ◌∷◌, ◌++◌, take, refl, sym, ap, subst, arith, Option, Some, None, Ok, Err}
+use Rattle.std.proofs.Common.{◌≡◌, ◌≢◌, ◌⊎◌, inl, inr, ◌∙◌, ℕ, List, [], ◌∷◌, ◌++◌, take, refl, sym, subst, arith, Option, None}
+use Rattle.std.proofs.Common.{Ok, Err}
 use Rattle.std.proofs.Math.Logic.{⊎_elim}
 use Rattle.arj_io.specs.Told.{Takes}
-use Rattle.arj_journal.specs.declared.body.Body.TheVariants as body
 use Rattle.arj_journal.specs.declared.body.Line.{Line}
 use Rattle.arj_journal.specs.declared.body.Which.{Which}
 use Rattle.arj_journal.specs.declared.body.Which.TheVariants as which
@@ -14,8 +14,8 @@ use Rattle.arj_loop.specs.declared.ending.BadLine.{BadLine}
 use Rattle.arj_loop.specs.declared.machine.Machine.{Ghosts}
 use Rattle.arj_prog.specs.declared.plan.Plan.{Plan}
 use Rattle.arj_programs.specs.Input.{IsWhole, Reads}
-use Rattle.arj_programs.specs.Outcome.{RunsPrograms, Says, SaysLast, left_by}
-use Rattle.arj_programs.specs.Runs.{ComesSoFar, EndsBy, Left, MetLimit, RanPlan, StopsAtFormat, WasLeft, left}
+use Rattle.arj_programs.specs.Outcome.{RunsPrograms, Says, left_by}
+use Rattle.arj_programs.specs.Runs.{ComesSoFar, EndsBy, Left, MetLimit, RanPlan, WasLeft, left}
 use Rattle.arj_programs.specs.Said.{Comes, SaysPlan, SaysStop}
 use Rattle.arj_programs.specs.declared.programs.Said.{Said}
 use Rattle.arj_programs.specs.declared.programs.Silence.TheVariants as silence
@@ -63,12 +63,24 @@ module _ {D M : Type 0} (m : Ghosts M D) where
   pub comes_ran : (plan : Plan) (first : List D) (now : Left D M) (told : List ReportLine) → RanPlan m plan first now told →
       ComesSoFar m plan first now.rack
   comes_ran plan first now told ran =
-      let left_so : WasLeft m first plan.header now.rack = record { machine = ran.machine; mid = now.rack; run = ran.run; since = inl refl } in
+      let left_so : WasLeft m first plan.header now.rack = record {
+        machine = ran.machine;
+        mid = now.rack;
+        run = ran.run;
+        since =
+            inl refl;
+      } in
       inr (inr left_so)
 
   pub comes_met : (plan : Plan) (first : List D) (now : Left D M) → MetLimit m plan.header first now → ComesSoFar m plan first now.rack
   comes_met plan first now met =
-      let left_so : WasLeft m first plan.header now.rack = record { machine = met.machine; mid = now.rack; run = met.run; since = inl refl } in
+      let left_so : WasLeft m first plan.header now.rack = record {
+        machine = met.machine;
+        mid = now.rack;
+        run = met.run;
+        since =
+            inl refl;
+      } in
       inr (inr left_so)
 
   -- a journal that tells of a limit has a last line
@@ -96,7 +108,8 @@ module _ {D M : Type 0} (m : Ghosts M D) where
       Says m given before.rack (left_by after answer) answer.why said.text said.status → answer.status ≡ said.status →
       Takes before.taken said.text after.taken → RunsPrograms m before after answer
   wrote given before after answer said reads says is takes =
-      let not : (k : ℕ) → k ≢ 0 → k ≢ 2 → k ≢ 6 → answer.status ≢ k = λ k zero two six e. not_said said.status k says.only zero two six (sym is ∙ e) in
+      let not : (k : ℕ) → k ≢ 0 → k ≢ 2 → k ≢ 6 →
+      answer.status ≢ k = λ k zero two six e. not_said said.status k says.only zero two six (sym is ∙ e) in
       let three : answer.status ≢ 3 = not 3 (λ e. omega (arith, e)) (λ e. omega (arith, e)) (λ e. omega (arith, e)) in
       let four : answer.status ≢ 4 = not 4 (λ e. omega (arith, e)) (λ e. omega (arith, e)) (λ e. omega (arith, e)) in
       let five : answer.status ≢ 5 = not 5 (λ e. omega (arith, e)) (λ e. omega (arith, e)) (λ e. omega (arith, e)) in
@@ -106,7 +119,12 @@ module _ {D M : Type 0} (m : Ghosts M D) where
       record {
         given = given;
         reads = reads;
-        says = λ _ _ _ _. (said.text, subst (λ n. Says m given before.rack (left_by after answer) answer.why said.text n) (sym is) says, takes);
+        says = λ _ _ _ _. (
+          said.text,
+          subst (λ n. Says m given before.rack (left_by after answer) answer.why said.text n)
+              (sym is) says,
+          takes,
+        );
         front = λ e. absurd (four e);
         fault = λ e. absurd (three e);
         memory = λ e. absurd (five e);
@@ -128,7 +146,8 @@ module _ {D M : Type 0} (m : Ghosts M D) where
     fault = λ e. absurd (omega (arith, is, e));
     memory = λ e. absurd (omega (arith, is, e));
     stopped = λ e. absurd (omega (arith, is, e));
-    unsaid = λ which. absurd (⊎_elim (λ e. omega (arith, is, e)) (λ rest. ⊎_elim (λ e. omega (arith, is, e)) (λ e. omega (arith, is, e)) rest) which);
+    unsaid = λ which. absurd (⊎_elim (λ e. omega (arith, is, e)) (λ rest. ⊎_elim (λ e. omega (arith, is, e)) (λ e. omega
+        (arith, is, e)) rest) which);
     never = ((λ e. omega (arith, is, e)), λ e. omega (arith, is, e));
   }
 

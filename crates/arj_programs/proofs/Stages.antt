@@ -1,12 +1,12 @@
 -- One line more of client programs.
-use Rattle.std.proofs.Common.{◌≡◌, ◌≢◌, ◌∙◌, ◌≤◌, ◌<◌, ◌+◌, ℕ, List, [], ◌∷◌, ◌++◌, length, refl, sym, ap, subst, arith, true, false, Option, Some, None}
+use Rattle.std.proofs.Common.{◌≡◌, ◌≢◌, ◌∙◌, ◌≤◌, ◌<◌, ◌+◌, ℕ, List, [], ◌∷◌, ◌++◌, length, refl, sym, ap, subst, arith, true, false}
+use Rattle.std.proofs.Common.{Option, Some, None}
 use Rattle.std.proofs.Common.{append_assoc}
 use Rattle.std.proofs.lemmas.Bool.{both_ways}
 use Rattle.std.proofs.lemmas.List.{length-append}
 use Rattle.std.specs.List.{AllByRecursion}
-use Rattle.std.specs.Prelude.{Bool, IfSome, ⊤, if◌then◌else◌}
+use Rattle.std.specs.Prelude.{Bool, IfSome, if◌then◌else◌}
 use Rattle.arj_journal.specs.ScriptForm.{HeaderInForm}
-use Rattle.arj_journal.specs.declared.header.Header.{Header}
 use Rattle.arj_prog.specs.Drafts.{draft_behind, is_run, plan_of}
 use Rattle.arj_prog.specs.Grammar.{Blank, Form, HasForm, Head, Says, Seed, Tells, TellsInForm, TellsSaid, Turns, next_place, seeded}
 use Rattle.arj_prog.specs.declared.draft.Draft.{Draft}
@@ -17,7 +17,7 @@ use Rattle.arj_prog.specs.declared.reader.ProgItem.{ProgItem}
 use Rattle.arj_prog.specs.declared.reader.ProgItem.TheVariants as item
 use Rattle.arj_prog.specs.declared.said.Said.{Said}
 use Rattle.arj_prog.specs.declared.said.Said.TheVariants as said
-use Rattle.arj_programs.specs.Input.{HaveForms, IsBlankBehind, IsFront, IsFrontAt, IsPlan, beginning}
+use Rattle.arj_programs.specs.Input.{HaveForms, IsBlankBehind, IsFrontAt, IsPlan, beginning}
 use Rattle.arj_programs.specs.Keeping.{plan_behind}
 use Rattle.arj_programs.specs.Taking.{IsAt}
 use Rattle.arj_programs.specs.declared.taking.Taking.{Taking}
@@ -31,7 +31,8 @@ forms_more : (place end : Place) (lines : List (List ℕ)) (forms : List Form) (
     HaveForms place lines forms end → HasForm end line form →
     HaveForms place (lines ++ line ∷ []) (forms ++ form ∷ []) (next_place end form)
 forms_more place end [] [] line form is has = (subst (λ p. HasForm p line form) (sym is) has, ap (λ p. next_place p form) is)
-forms_more place end (l ∷ lines) (f ∷ forms) line form (h, more) has = (h, forms_more (next_place place f) end lines forms line form more has)
+forms_more place end (l ∷ lines) (f ∷ forms) line form (h, more) has =
+    (h, forms_more (next_place place f) end lines forms line form more has)
 forms_more place end [] (f ∷ forms) line form is has = absurd is
 forms_more place end (l ∷ lines) [] line form is has = absurd is
 

@@ -52,7 +52,8 @@ SaysLimit m given first now text =
     ⊎ ((plan : Plan) × IsWhole given plan × MetLimit m plan.header first now × SaysLast now.journal text)
 
 -- What is said with a status.
-pub record Says {D M : Type 0} (m : Ghosts M D) (given : Input) (first : List D) (now : Left D M) (why : Option BadLine) (text : List ℕ) (status : ℕ) : Type 0 where
+pub record Says {D M : Type 0} (m : Ghosts M D) (given : Input) (first : List D) (now : Left D M) (why : Option BadLine) (text : List ℕ)
+    (status : ℕ) : Type 0 where
   pub ran : status ≡ 0 → SaysRun m given first now text
   pub bad : status ≡ 2 → SaysBad given first now why text
   pub limit : status ≡ 6 → SaysLimit m given first now text
@@ -71,7 +72,8 @@ pub record RunsPrograms {D M : Type 0} (m : Ghosts M D) (before after : Outside 
       (text : List ℕ) × Says m given before.rack (left_by after answer) answer.why text answer.status × Takes before.taken text after.taken
   -- a write failed: the sink took a front of what is said with another status
   pub front : answer.status ≡ 4 →
-      (text : List ℕ) × (count : ℕ) × (status : ℕ) × Says m given before.rack (left_by after answer) answer.why text status × Takes before.taken (take count text) after.taken
+      (text : List ℕ) × (count : ℕ) × (status : ℕ) × Says m given before.rack (left_by after answer) answer.why text status
+      × Takes before.taken (take count text) after.taken
   -- a read failed: nothing was run
   pub fault : answer.status ≡ 3 → IsCutOff given × (after.rack ≡ before.rack) × (answer.journal ≡ []) × (answer.machine ≡ None)
   -- memory was wanting: so far it came

@@ -1,5 +1,5 @@
 -- What is said of an input, or why nothing is.
-use Rattle.std.specs.Prelude.{ℕ, ◌≡◌, ◌⊎◌, List, [], ◌∷◌, Option, Some, None, Result, Ok, Err}
+use Rattle.std.specs.Prelude.{◌≡◌, ◌⊎◌, List, [], ◌∷◌, Option, Some, None, Result, Ok, Err}
 use Rattle.arj_journal.specs.LineText.{line_text}
 use Rattle.arj_journal.specs.declared.body.Body.TheVariants as body
 use Rattle.arj_journal.specs.declared.body.Line.{Line}
@@ -22,9 +22,11 @@ use Rattle.arj_progrun.specs.declared.report.ReportLine.{ReportLine}
 -- an input that isn't run: the line that says so, which is the whole journal, and the status
 abbrev pub SaysStop : Stop → List Line → Option BadLine → Said → Type 0
 SaysStop (stop.Bad number bad) journal why said =
-    (said.status ≡ 2) × (why ≡ Some bad) × (journal ≡ outside_line (body.Bad number) ∷ []) × (said.text ≡ line_text (outside_line (body.Bad number)))
+    (said.status ≡ 2) × (why ≡ Some bad) × (journal ≡ outside_line (body.Bad number) ∷ [])
+    × (said.text ≡ line_text (outside_line (body.Bad number)))
 SaysStop stop.Long journal why said =
-    (said.status ≡ 6) × (journal ≡ outside_line (body.Limit which.Lines) ∷ []) × (said.text ≡ line_text (outside_line (body.Limit which.Lines)))
+    (said.status ≡ 6) × (journal ≡ outside_line (body.Limit which.Lines) ∷ [])
+    × (said.text ≡ line_text (outside_line (body.Limit which.Lines)))
 SaysStop _ journal why said = ⊥
 
 -- a plan that was run: what became of its programs, or that a limit was met

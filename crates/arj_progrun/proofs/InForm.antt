@@ -1,7 +1,8 @@
 -- What the programs of a plan in form ask is in form.
-use Rattle.std.proofs.Common.{◌≡◌, ◌∙◌, ℕ, zero, suc, ◌+◌, ◌-◌, ◌<◌, ◌≤◌, ◌^◌, List, [], ◌∷◌, ◌++◌, refl, ap, sym, subst, true, false, Bool, Some, None}
-use Rattle.std.proofs.Common.{Option, if◌then◌else◌, ◌&&◌, ◌||◌, ◌==◌, slice_get, slice_set, length, ◌%◌, ◌/◌, arith, append-nil}
-use Rattle.std.specs.Prelude.{codes, ⊤}
+use Rattle.std.proofs.Common.{◌≡◌, ◌∙◌, ℕ, zero, suc, ◌+◌, ◌-◌, ◌<◌, ◌≤◌, ◌^◌, List, [], ◌∷◌, ◌++◌, refl, ap, sym, subst, true, false, Bool}
+use Rattle.std.proofs.Common.{Some, None}
+use Rattle.std.proofs.Common.{Option, if◌then◌else◌, ◌&&◌, ◌||◌, ◌==◌, slice_get, slice_set, length, ◌%◌, ◌/◌, arith}
+use Rattle.std.specs.Prelude.{⊤}
 use Rattle.std.specs.Fmt.{decimal, digit_glyph, digits, digits_onto}
 use Rattle.std.specs.List.{AllByRecursion, flat_map, list_all}
 use Rattle.std.proofs.lemmas.Bool.Decides.{nat_tests}
@@ -21,7 +22,6 @@ use Rattle.arj_prog.specs.Listing.{Listing, End, Do, Print, If, Block, Fail, joi
 use Rattle.arj_prog.specs.Written.{listing_lines, program_lines}
 use Rattle.arj_prog.specs.declared.plan.Plan.{Plan}
 use Rattle.arj_prog.specs.declared.plan.Program.{Program}
-use Rattle.arj_prog.specs.declared.said.Said.{Said}
 use Rattle.arj_prog.specs.declared.said.Said.TheVariants as said
 use Rattle.arj_prog.specs.declared.statements.Statement.{Statement}
 use Rattle.arj_prog.specs.declared.statements.Statement.TheVariants as statement
@@ -29,7 +29,8 @@ use Rattle.arj_progrun.proofs.Driven.{gave, nodes_of}
 use Rattle.arj_progrun.proofs.Stacks.{some_same}
 use Rattle.arj_progrun.specs.Client as client
 use Rattle.arj_progrun.specs.Client.{Ask, Asking, Client, Level, aborted, again, answered, asking, asks_by, asks_for, asks_next, begins}
-use Rattle.arj_progrun.specs.Client.{block_label, branch, commits_at, cut, first_client, hears, inner_of, inside, inside_at, is_over, is_phase}
+use Rattle.arj_progrun.specs.Client.{block_label, branch, commits_at, cut, first_client, hears, inner_of, inside, inside_at, is_over}
+use Rattle.arj_progrun.specs.Client.{is_phase}
 use Rattle.arj_progrun.specs.Client.{is_waiting, labelled, leaves, loses, loses_at, loses_top, refused_at, stands, taken, try_label, turned}
 use Rattle.arj_progrun.specs.Client.{unbegun, waits, waits_on}
 use Rattle.arj_progrun.specs.Driving.{IsDriven, Takes}
@@ -61,7 +62,8 @@ digits_in_word : (k n : ℕ) (acc : List ℕ) → list_all in_word acc ≡ true 
 digits_in_word zero n acc h = h
 digits_in_word (suc k) n acc h =
     let more : list_all in_word (digit_glyph false (n % 10) ∷ acc) ≡ true = ap (λ b. b && list_all in_word acc) (glyph_in_word n) ∙ h in
-    either_in_word (n / 10 == 0) (digit_glyph false (n % 10) ∷ acc) _ more (digits_in_word k (n / 10) (digit_glyph false (n % 10) ∷ acc) more)
+    either_in_word (n / 10 == 0) (digit_glyph false (n % 10) ∷ acc) _ more (digits_in_word k (n / 10) (digit_glyph false
+    (n % 10) ∷ acc) more)
 
 decimal_in_word : (n : ℕ) → list_all in_word (decimal n) ≡ true
 unfolding digits
@@ -169,7 +171,11 @@ answered_form answer (Some s) c fits h =
 
 commits_form : (bs : List Level) (c : Client) → AllByRecursion LevelInForm bs → ClientInForm c → ClientInForm (commits_at bs c)
 commits_form [] c all h = stands_form phase.Committed c h
-commits_form (b ∷ bs) c all h = inside_form (client.joins b) bs (record c { blocks = bs; phase = phase.Ready }) (λ l k. k) all.1 (blocks_form bs phase.Ready c all.1 h)
+commits_form (b ∷ bs) c all h = inside_form (client.joins b) bs (record c {
+  blocks = bs;
+  phase =
+      phase.Ready;
+}) (λ l k. k) all.1 (blocks_form bs phase.Ready c all.1 h)
 
 loses_top_form : (b : Bool) (c : Client) → ClientInForm c →
     ClientInForm (let t = c.top in
@@ -347,7 +353,11 @@ turn_form nodes turn draw s some few all =
     let small : 1 + draw % nodes < 2 ^ 32 = omega (arith, some, few) in
     either_turn ((turn % 16 == 3) || (turn % 16 == 11)) (own client.Settles s) second (tt, all)
     (either_turn (turn % 16 == 7) (own (client.Ticks (1 + draw % nodes)) s) third (small, all)
-    (either_turn (turn % 16 == 15) (own (if draw % 4 == 0 then client.LosesLast else client.Settles) s) last (either_ask (draw % 4 == 0), all)
+    (either_turn (turn % 16 == 15) (own (if draw % 4 == 0 then client.LosesLast else client.Settles) s) last (
+      either_ask
+          (draw % 4 == 0),
+      all,
+    )
     (turn_by_form at (slice_get s.clients at) s all refl)))
 
 gives_form : (o : Option Ask) (t : Turning) (front trace : List Given) (now : Standing) → StandingInForm t.now →
@@ -374,7 +384,8 @@ turn_at_form plan turn s fits all =
     let n = (let h = fits.header in h.nodes) in
     turn_form (nodes_of plan) turn (drawn s.state) (record s { state = next_state s.state }) n.0 n.1 all
 
-turns_form : (plan : Plan) (turns : ℕ) (trace : List Given) (now : Standing) → PlanInForm plan → Turns plan turns trace now → StandingInForm now
+turns_form : (plan : Plan) (turns : ℕ) (trace : List Given) (now : Standing) → PlanInForm plan → Turns plan turns trace now →
+    StandingInForm now
 turns_form plan zero trace now fits took = subst StandingInForm (sym took.1) (first_form 1 plan.programs fits.programs)
 turns_form plan (suc t) trace now fits (before, front, took, going, gives) =
     gives_form _ (turn_at (nodes_of plan) t before) front trace now
@@ -396,8 +407,10 @@ event_form (event.Lose frame_no.Last) h = tt
 event_form _ h = absurd h
 
 -- nodes take what a turn gives
-pub turn_takes : {N R : Type 0} (n : nodes.Ghosts N R) (t : ℕ) (now : Stepping) (was mid : Standing) (count : ℕ) (e : Event) (by : Option ℕ) →
-    (plan : Plan) × Takes n plan × (nodes_of plan ≡ count) × IsDriven plan t now was → gave (written e []) by mid ≡ turn_at count t was → n.takes e
+pub turn_takes : {N R : Type 0} (n : nodes.Ghosts N R) (t : ℕ) (now : Stepping) (was mid : Standing) (count : ℕ) (e : Event)
+    (by : Option ℕ) →
+    (plan : Plan) × Takes n plan × (nodes_of plan ≡ count) × IsDriven plan t now was →
+    gave (written e []) by mid ≡ turn_at count t was → n.takes e
 turn_takes n t now was mid count e by (plan, takes, same, d) is =
     takes e (λ fits.
     let all = turn_at_form plan t was fits (turns_form plan t d.trace was fits d.took) in
@@ -441,4 +454,8 @@ lines_programs os (p ∷ ps) h =
 
 pub plan_in_form : (plan : Plan) → HeaderInForm plan.header →
     AllByRecursion (SaidInForm (let h = plan.header in h.objects)) (flat_map program_lines plan.programs) → PlanInForm plan
-plan_in_form plan header lines = record { header = header; programs = lines_programs (let h = plan.header in h.objects) plan.programs lines }
+plan_in_form plan header lines = record {
+  header = header;
+  programs = lines_programs (let h =
+      plan.header in h.objects) plan.programs lines;
+}

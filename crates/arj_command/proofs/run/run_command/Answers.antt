@@ -49,15 +49,18 @@ returns-in-Program-clause-programs g c is = c.run_programs.ensures.runs
 
 pub returns-in-Program-clause-closes : goal.returns-in-Program-clause-closes
 returns-in-Program-clause-closes g c is _ _ =
-    let says : IsProgram c.args.words.now = rw c.in-Program.is at c.asked_for.ensures in absurd (not_program_replay c.args.words.now is says)
+    let says : IsProgram c.args.words.now =
+    rw c.in-Program.is at c.asked_for.ensures in absurd (not_program_replay c.args.words.now is says)
 
 pub returns-in-Program-clause-short : goal.returns-in-Program-clause-short
 returns-in-Program-clause-short g c is _ =
-    let says : IsProgram c.args.words.now = rw c.in-Program.is at c.asked_for.ensures in absurd (not_program_replay c.args.words.now is says)
+    let says : IsProgram c.args.words.now =
+    rw c.in-Program.is at c.asked_for.ensures in absurd (not_program_replay c.args.words.now is says)
 
 pub returns-in-Program-clause-generates : goal.returns-in-Program-clause-generates
 returns-in-Program-clause-generates g c n is =
-    let says : IsProgram c.args.words.now = rw c.in-Program.is at c.asked_for.ensures in absurd (not_program_bank c.args.words.now _ is.1 says)
+    let says : IsProgram c.args.words.now =
+    rw c.in-Program.is at c.asked_for.ensures in absurd (not_program_bank c.args.words.now _ is.1 says)
 
 pub returns-in-Program-clause-checks : goal.returns-in-Program-clause-checks
 returns-in-Program-clause-checks g c is =

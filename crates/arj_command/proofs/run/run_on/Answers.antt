@@ -34,7 +34,11 @@ returns-clause-bank g c says n is =
 
 pub returns-clause-programs : goal.returns-clause-programs
 returns-clause-programs g c read says is =
-    let before = outside (g.S.Source.left c.args.source.now) (g.S.Source.faults c.args.source.now) (g.K.Sink.taken c.args.sink.now) c.args.rack.now in
-    let after = outside (g.S.Source.left c.run_command-status.new.source) (g.S.Source.faults c.run_command-status.new.source) (g.K.Sink.taken c.run_command-status.new.sink) c.run_command-status.new.rack in
-    programs_headline g.C.Core g.D.Disk read (c.nodes_show_what_is_promised.ensures.runs read says) c.programs_mean_their_calls.ensures before after
-    (said c.run_command-status.result c.run_command-status.new.why c.run_command-status.new.journal c.world_of.result) c.run_command-status.new.nodes (c.run_command-status.ensures.programs is) c.world_of.ensures
+    let before = outside (g.S.Source.left c.args.source.now) (g.S.Source.faults c.args.source.now)
+    (g.K.Sink.taken c.args.sink.now) c.args.rack.now in
+    let after = outside (g.S.Source.left c.run_command-status.new.source) (g.S.Source.faults c.run_command-status.new.source)
+    (g.K.Sink.taken c.run_command-status.new.sink) c.run_command-status.new.rack in
+    programs_headline g.C.Core g.D.Disk read
+    (c.nodes_show_what_is_promised.ensures.runs read says) c.programs_mean_their_calls.ensures before after
+    (said c.run_command-status.result c.run_command-status.new.why c.run_command-status.new.journal c.world_of.result)
+    c.run_command-status.new.nodes (c.run_command-status.ensures.programs is) c.world_of.ensures

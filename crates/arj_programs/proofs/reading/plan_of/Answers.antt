@@ -1,5 +1,5 @@
 -- where reading ended
-use Rattle.std.proofs.Common.{◌≡◌, ◌∙◌, ℕ, List, Err, Some, ap, subst, sym}
+use Rattle.std.proofs.Common.{◌≡◌, ◌∙◌, ℕ, List, Err, subst, sym}
 use Rattle.arj_lines.specs.Reading.{IsAtLine, IsPastLine}
 use Rattle.arj_programs.proofs.Readings.{reads_long, reads_plan, reads_unknown}
 use Rattle.arj_programs.specs.Input.{Reads}
@@ -21,8 +21,10 @@ returns-in-TooLong c given e =
 
 pub returns-in-Stopped-Unknown : goal.returns-in-Stopped-Unknown
 returns-in-Stopped-Unknown c given e =
-    let one : (done : List (List ℕ)) × (line : List ℕ) × StopsAt done line c.in-Stopped-Unknown.field-0 c.args.taking.now × IsAtLine given done line = rw c.in-Stopped-Unknown.is at e in
+    let one : (done : List (List ℕ)) × (line : List ℕ) × StopsAt done line c.in-Stopped-Unknown.field-0 c.args.taking.now
+    × IsAtLine given done line = rw c.in-Stopped-Unknown.is at e in
     let is : c.in-Stopped-Unknown.field-0 ≡ refusal.Unknown = rw c.in-Stopped-Unknown.is at c.in-Stopped-Unknown.field-0-is in
     let ends : (done : List (List ℕ)) × (line : List ℕ) × StopsAt done line refusal.Unknown c.args.taking.now × IsAtLine given done line =
     subst (λ why. (done : List (List ℕ)) × (line : List ℕ) × StopsAt done line why c.args.taking.now × IsAtLine given done line) is one in
-    subst (λ s. Reads given (Err s)) (sym c.bad_line-in-Stopped-Unknown.ensures) (reads_unknown given c.args.taking.now ends.0 ends.1 ends.2 ends.3)
+    subst (λ s. Reads given (Err s)) (sym c.bad_line-in-Stopped-Unknown.ensures)
+    (reads_unknown given c.args.taking.now ends.0 ends.1 ends.2 ends.3)

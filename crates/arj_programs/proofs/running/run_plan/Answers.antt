@@ -1,7 +1,7 @@
 -- a plan on a machine that was just made
-use Rattle.std.proofs.Common.{◌≡◌, ◌∙◌, Err, ap, inl, inr, subst, sym, []}
+use Rattle.std.proofs.Common.{◌≡◌, ◌∙◌, Err, ap, inr, subst, sym, []}
 use Rattle.arj_journal.specs.declared.step.StepFault.TheVariants as step_fault
-use Rattle.arj_programs.proofs.Runnings.{bare, left_so, met_limit, ran_plan, runs_first}
+use Rattle.arj_programs.proofs.Runnings.{left_so, met_limit, ran_plan, runs_first}
 use Rattle.arj_programs.specs.Runs.{IsRunning}
 use Rattle.arj_progrun.specs.Driving.{Drives}
 use Rattle.arj_progrun.specs.Stepped.{stepping}
@@ -22,7 +22,8 @@ returns-in-Ok-told-clause-told g c =
     (ap g.M.Machine.over c.new-driven.ensures.machine ∙ made.2) in
     ran_plan g.M.Machine c.args.plan c.args.rack.now d c.drive_on-told.new.on c.in-Ok-told.report
     (c.in-Ok-told.ensures.stands c.args.rack.now c.args.plan.header first)
-    (subst (λ p. Drives p (stepping d.events d.journal (g.M.Machine.steps d.machine)) c.in-Ok-told.report) c.take_header-header.ensures.left c.in-Ok-told.ensures.drives)
+    (subst (λ p. Drives p (stepping d.events d.journal
+    (g.M.Machine.steps d.machine)) c.in-Ok-told.report) c.take_header-header.ensures.left c.in-Ok-told.ensures.drives)
 
 pub returns-in-Err-Limit-clause-limit : goal.returns-in-Err-Limit-clause-limit
 returns-in-Err-Limit-clause-limit g c _ =

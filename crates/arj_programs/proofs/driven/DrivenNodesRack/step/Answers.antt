@@ -14,7 +14,8 @@ returns-in-Err-Labels-clause-ended g c w is first header running =
     c.in_ok-push-in-Err-Labels.ensures.ok ∙ ap (λ n. c.step.new.journal ++ no_labels n ∷ []) c.stepped.ensures in
     let new = record c.args.self.now { machine = c.step.new.self; journal = c.push-in-Err-Labels.new.self } in
     subst (λ v. HasEnded g.M.Machine v first header new c.step.new.rack) (same_limit which.Labels w is)
-    (at_labels g.M.Machine first header c.args.self.now new c.step.new.self c.args.on.now c.step.new.rack c.step.new.journal c.in_ok-asked.asked refl kept.1
+    (at_labels g.M.Machine first header c.args.self.now new c.step.new.self c.args.on.now c.step.new.rack c.step.new.journal
+    c.in_ok-asked.asked refl kept.1
     (labels first header c.args.self.now.events) pushed running)
 
 pub returns-in-Err-Frames-clause-ended : goal.returns-in-Err-Frames-clause-ended
@@ -24,4 +25,5 @@ returns-in-Err-Frames-clause-ended g c w is first header running =
     let new = record c.args.self.now { machine = c.step.new.self; journal = c.step.new.journal } in
     subst (λ v. HasEnded g.M.Machine v first header new c.step.new.rack) (same_limit which.Frames w is)
     (at_frames g.M.Machine first header c.args.self.now new c.args.on.now c.step.new.rack c.in_ok-asked.asked
-    (subst EventInForm (sym c.in_ok-asked.ensures) c.requires.takes) c.requires.room over.0 over.3 (frames first header c.args.self.now.events) running)
+    (subst EventInForm (sym c.in_ok-asked.ensures) c.requires.takes) c.requires.room over.0 over.3
+    (frames first header c.args.self.now.events) running)
