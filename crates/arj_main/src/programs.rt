@@ -35,7 +35,7 @@ pub fn bad_programs(
     let Some(input) = input else {
         return eprintln!(rt; "arjuna: line {number} of the client programs is {why}");
     };
-    let wanted = expected(alloc, input, (number as usize).saturating_sub(1));
+    let wanted = could_stand(alloc, input, (number as usize).saturating_sub(1));
     if let BadLine::Missing = why {
         eprintln!(rt; "arjuna: the input ended before `run`")?;
         return say_expected(rt, wanted);
@@ -74,7 +74,7 @@ fn takes(alloc: Global, input: &[u8], before: usize, line: &[u8]) -> bool {
 }
 
 // What could stand behind so many lines of the input.
-fn expected(alloc: Global, input: &[u8], before: usize) -> Expected {
+fn could_stand(alloc: Global, input: &[u8], before: usize) -> Expected {
     if takes(alloc, input, before, b"nodes 1") {
         return Expected::Start;
     }
