@@ -16,6 +16,7 @@ commit B
 
 // What its first three events write.
 const FIRST: &[u8] = b"1 began A top 1.1.1 -\n";
+
 const SECOND: &[u8] = b"2 granted 1 1.1.1 0.1.1 write
 2 bound 1 1.1 1
 2 active 1 1 1.1
@@ -23,6 +24,7 @@ const SECOND: &[u8] = b"2 granted 1 1.1.1 0.1.1 write
 2 granted 1 1.1.1 0.0.1 write
 2 ok A 1 add 1 = done
 ";
+
 const THIRD: &[u8] = b"3 committing A
 3 prepared 1 1.1.1 store
 3 committed A
@@ -69,13 +71,49 @@ fn first_reads_and_writes(rt: HostRuntime) -> Result<(), Fail> {
         (1, None, Some(3), 4, [FIRST, SECOND].as_slice()),
         (1, None, Some(4), 4, [FIRST, SECOND, THIRD].as_slice()),
         (512, Some(1), None, 3, [].as_slice()),
-        (512, Some(2), None, 3, [FIRST, SECOND, THIRD, REST].as_slice()),
-        (512, Some(3), None, 0, [FIRST, SECOND, THIRD, REST].as_slice()),
-        (512, Some(4), None, 0, [FIRST, SECOND, THIRD, REST].as_slice()),
+        (
+            512,
+            Some(2),
+            None,
+            3,
+            [FIRST, SECOND, THIRD, REST].as_slice(),
+        ),
+        (
+            512,
+            Some(3),
+            None,
+            0,
+            [FIRST, SECOND, THIRD, REST].as_slice(),
+        ),
+        (
+            512,
+            Some(4),
+            None,
+            0,
+            [FIRST, SECOND, THIRD, REST].as_slice(),
+        ),
         (512, None, Some(1), 4, [].as_slice()),
-        (512, None, Some(2), 0, [FIRST, SECOND, THIRD, REST].as_slice()),
-        (512, None, Some(3), 0, [FIRST, SECOND, THIRD, REST].as_slice()),
-        (512, None, Some(4), 0, [FIRST, SECOND, THIRD, REST].as_slice()),
+        (
+            512,
+            None,
+            Some(2),
+            0,
+            [FIRST, SECOND, THIRD, REST].as_slice(),
+        ),
+        (
+            512,
+            None,
+            Some(3),
+            0,
+            [FIRST, SECOND, THIRD, REST].as_slice(),
+        ),
+        (
+            512,
+            None,
+            Some(4),
+            0,
+            [FIRST, SECOND, THIRD, REST].as_slice(),
+        ),
     ] {
         let feeding = Feeding {
             chunk,
