@@ -151,7 +151,7 @@ fn hear_call(
     ensures part { OnOk result ((c : coordinator.Coord) → coord.old ≡ on_doing (actor steps.path) idle_doing c → delivery.free ≡ is_free (root_of steps.path) (actor steps.path) steps.x c → IfSome (heard_in delivery.from delivery.message steps) (λ r. coord.new ≡ (heard_call steps r c).part)) }
     ensures outs { OnOk result ((c : coordinator.Coord) → coord.old ≡ on_doing (actor steps.path) idle_doing c → delivery.free ≡ is_free (root_of steps.path) (actor steps.path) steps.x c → IfSome (heard_in delivery.from delivery.message steps) (λ r. outs.new ≡ outs.old ++ (heard_call steps r c).outs)) }
 {
-    let caller = caller_of(&steps)?;
+    let caller = caller_of(alloc, &steps)?;
     let Delivery {
         from,
         message,

@@ -119,13 +119,13 @@ pub struct Caller {
 }
 
 /// Who calls by these steps.
-pub fn caller_of(steps: &CallSteps) -> Result<Caller, AllocError>
+pub fn caller_of(alloc: Global, steps: &CallSteps) -> Result<Caller, AllocError>
     ensures { IfOk result (λ caller. IsCaller caller steps.now) }
 {
     Ok(Caller {
         path: *steps.path(),
         x: steps.object(),
-        goal: steps.goal().copy()?,
+        goal: steps.goal().copy(alloc)?,
     })
 }
 

@@ -2,10 +2,9 @@
 use Rattle.std.specs.Prelude.{ℕ, zero, suc, ◌≡◌, ◌+◌, ◌-◌, ◌&&◌, Bool, List, [], ◌∷◌, Option, Some, None, slice_get, nat_le, nat_lt}
 use Rattle.std.specs.Prelude.{if◌then◌else◌}
 use Rattle.arj_base.specs.Uid.{entry, object}
-use Rattle.arj_base.specs.declared.state.Class.{Class}
 use Rattle.arj_base.specs.declared.state.ObjectState.{ObjectState}
 use Rattle.arj_base.specs.declared.uid.Uid.{Uid}
-use Rattle.arj_class.specs.Forms.{ValueInForm, payload_of}
+use Rattle.arj_class.specs.Forms.{FormatHolds, ValueInForm, payload_of}
 use Rattle.arj_class.specs.Table.{class_of}
 use Rattle.arj_class.specs.declared.value.Value.{Value}
 use Rattle.arj_class.specs.declared.value.Value.TheVariants.{Account}
@@ -95,15 +94,15 @@ abbrev pub balance_in : Option Value → ℕ
 balance_in None = 0
 balance_in (Some value) = number_in value
 
--- a value in form, of this class
-abbrev pub IsOfClass : Class → Value → Type 0
-IsOfClass class value = (class_of value ≡ class) × ValueInForm value
+-- a value in form, of the state's class, that its format holds
+abbrev pub IsOfState : ObjectState → Value → Type 0
+IsOfState state value = (class_of value ≡ state.class) × ValueInForm value × FormatHolds state.format value
 
 -- the balance of an object's state: 0 where there is no state, or it is no account's
 abbrev pub HasBalance : Option ObjectState → ℕ → Type 0
 HasBalance None balance = balance ≡ 0
 HasBalance (Some state) balance =
-    (found : Option Value) × IsRead (IsOfClass state.class) payload_of state.payload found × (balance ≡ balance_in found)
+    (found : Option Value) × IsRead (IsOfState state) payload_of state.payload found × (balance ≡ balance_in found)
 
 -- The balance of account x: that of its committed state on the first store that its entry, committed at node 1, lists. It is
 -- 0 where one of these isn't there.

@@ -83,7 +83,7 @@ fn balance_of(alloc: Global, state: Option<ObjectState>) -> Result<u64, AllocErr
     let Some(state) = state else {
         return Ok(0);
     };
-    match Value::restore_state(alloc, state.class, state.payload.as_slice()) {
+    match Value::restore_state(alloc, state.class, state.format, state.payload.as_slice()) {
         Ok(value) => Ok(number_of(&value)),
         Err(ClassFault::Memory) => Err(AllocError),
         Err(ClassFault::Payload) => Ok(0),

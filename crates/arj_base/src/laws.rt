@@ -1,11 +1,13 @@
-// Laws of Uids and of orders.
+// Laws of Uids, of classes and of orders.
 ghost use Rattle.std.specs.Prelude.{◌≡◌, ◌≢◌, true, false};
 ghost use Rattle.std.specs.Cmp.{IsTotalOrder};
 ghost use Rattle.std.specs.declared.cmp.Ordering.TheVariants.{Equal};
 ghost use Rattle.arj_base.specs.Order.{uid_order, binding_order, mode_order};
+ghost use Rattle.arj_base.specs.State.{class_code_of};
 ghost use Rattle.arj_base.specs.Uid.{uid_eq};
 ghost use Rattle.arj_base.specs.declared.binding.Binding.{Binding};
 ghost use Rattle.arj_base.specs.declared.mode.Mode.{Mode};
+ghost use Rattle.arj_base.specs.declared.state.Class.{Class};
 ghost use Rattle.arj_base.specs.declared.uid.Uid.{Uid};
 
 use crate::{Binding, Mode, Uid};
@@ -17,6 +19,11 @@ pub fn uids_are_told_apart()
     ensures turned { (u w : Uid) → uid_eq u w ≡ uid_eq w u }
     ensures one { (u w : Uid) → uid_eq u w ≡ true → u ≡ w }
     ensures two { (u w : Uid) → uid_eq u w ≡ false → u ≢ w }
+{}
+
+/// Classes are told apart by their codes in packed states. It does nothing when it runs.
+pub fn classes_are_told_apart()
+    ensures { (c d : Class) → class_code_of c ≡ class_code_of d → c ≡ d }
 {}
 
 /// The orders in which Uids, bindings and modes are sorted, in memory and in every list that says "increasing": Uids by node,

@@ -16,13 +16,13 @@ mod state;
 mod uid;
 
 pub use binding::Binding;
-pub use laws::{orders_are_by_fields, uids_are_told_apart};
+pub use laws::{classes_are_told_apart, orders_are_by_fields, uids_are_told_apart};
 pub use limits::{LAST_VERSION, MOST_ACTIONS, MOST_BYTES, MOST_OBJECTS, MOST_UIDS};
 pub use mode::{End, Mode, conflicts, stronger};
 pub use path::Path;
 pub use seq::{Bytes, Ends, NodeList, Numbers, Pairs, Seq, States, Uids};
 pub use state::{
-    Class, ObjectState, PACKED_HEAD, StateFault, class_code, class_of_code, next_version, pack,
-    unpack,
+    Class, Format, ObjectState, StateFault, class_code, class_of_code, is_object_class,
+    next_version, pack, unpack,
 };
 pub use uid::{Uid, entry_uid, object_uid};

@@ -48,6 +48,11 @@ impl<T> Seq<T> {
     {
         self.items
     }
+
+    /// Where its memory is from.
+    pub fn allocator(&self) -> Global {
+        *self.items.allocator()
+    }
 }
 
 impl<T: Copy> Seq<T> {
@@ -55,8 +60,7 @@ impl<T: Copy> Seq<T> {
     pub fn copy(&self) -> Result<Self, AllocError>
         ensures { IfOk result (λ copied. copied ≡ self.now) }
     {
-        let alloc = *self.items.allocator();
-        let items = Vec::from_slice(alloc, self.items.as_slice())?;
+        let items = Vec::from_slice(self.allocator(), self.items.as_slice())?;
         Ok(Seq { items })
     }
 }

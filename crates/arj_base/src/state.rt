@@ -1,6 +1,6 @@
 // Object states, packed for a disk or a message.
-ghost use Rattle.std.specs.Prelude.{◌≡◌, ◌≢◌, ◌+◌, ◌<◌, ◌≤◌, ◌^◌, length, take, drop, IfOk, IfErr, OnOk, MatchOption};
-ghost use Rattle.arj_base.specs.State.{state_bytes, version_after, class_code_of, state_fault, named_fault, StateInForm};
+ghost use Rattle.std.specs.Prelude.{◌≡◌, ◌≢◌, ◌+◌, ◌++◌, ◌<◌, ◌≤◌, ◌^◌, length, take, drop, IfOk, IfErr, OnOk, MatchOption};
+ghost use Rattle.arj_base.specs.State.{state_bytes, class_bytes, version_fits, version_of_code, version_after, class_code_of, is_object_class as is_of_objects, state_fault, named_fault, StateInForm};
 ghost use Rattle.arj_base.specs.declared.state.ObjectState.{ObjectState};
 ghost use Rattle.arj_base.specs.declared.state.StateFault.TheVariants as fault;
 ghost use Rattle.byteorder.specs.Endian.{big_bytes};
@@ -10,7 +10,8 @@ use byteorder::{BigEndian, ByteOrder};
 use std::alloc::{AllocError, AllocFailed, Global};
 use thiserror::Error;
 
-/// The class of an object, or of a naming entry. Its code in a packed state is its place here, from 0.
+/// The class of an object, of a naming entry, or of an object that is gone. Its code in a packed state is its place here,
+/// from 0.
 #[derive(Clone, Copy, Debug, PartialEq, Eq)]
 pub enum Class {
     Entry,
@@ -19,6 +20,52 @@ pub enum Class {
     Account,
     Queue,
     Table,
+    Gone,
+}
+
+/// How a state is packed: states are written in format two, and those of format one are read for ever.
+#[derive(Clone, Copy, Debug, PartialEq, Eq)]
+pub enum Format {
+    /// `ARJ1`: a register has at most 64 bytes.
+    One,
+    /// `ARJ2`: the class has a version, and a register at most 192 bytes.
+    Two,
+}
+
+impl Format {
+    ghost use Rattle.arj_base.specs.State.{behind_class, format_in, format_mark};
+
+    // What a packed state begins with.
+    fn mark(self) -> [u8; 4]
+        ensures { result ≡ format_mark self }
+    {
+        match self {
+            Format::One => *b"ARJ1",
+            Format::Two => *b"ARJ2",
+        }
+    }
+
+    // The format that bytes begin with.
+    fn of(bytes: &[u8]) -> Option<Format>
+        ensures { result ≡ format_in bytes.now }
+    {
+        if bytes.starts_with(b"ARJ1") {
+            return Some(Format::One);
+        }
+        bytes.starts_with(b"ARJ2").then_some(Format::Two)
+    }
+
+    // Where the class ends in a packed state.
+    fn behind_class(self) -> usize
+        ensures ends { result ≡ behind_class self }
+        ensures small { result ≤ 22 }
+        ensures far { 21 ≤ result }
+    {
+        match self {
+            Format::One => 21,
+            Format::Two => 22,
+        }
+    }
 }
 
 /// The state of an object as its store keeps it: the version counts the commits that wrote it, and the writer is
@@ -30,6 +77,7 @@ pub struct ObjectState {
     pub version: u64,
     pub writer: Uid,
     pub payload: Bytes,
+    pub format: Format,
 }
 
 /// Why bytes are no packed state, in the order in which they are tested.
@@ -38,7 +86,7 @@ pub enum StateFault {
     /// Too few bytes for the fixed fields.
     #[error("too few bytes")]
     Short,
-    /// They don't begin with `ARJ1`.
+    /// They begin neither with `ARJ1` nor with `ARJ2`.
     #[error("not a packed state")]
     Magic,
     /// There is no class with this code.
@@ -50,6 +98,9 @@ pub enum StateFault {
     /// Memory is wanting.
     #[error("out of memory")]
     Memory,
+    /// The class version is another than the class has.
+    #[error("no such version of the class")]
+    ClassVersion,
 }
 
 impl From<AllocError> for StateFault {
@@ -92,9 +143,9 @@ pub fn pack(alloc: Global, state: &ObjectState) -> Result<Bytes, AllocError>
 {
     let length = state.payload.as_slice().len() as u16;
     let mut packed = Bytes::new(alloc);
-    packed.extend(b"ARJ1")?;
+    packed.extend(&state.format.mark())?;
     packed.extend(&state.uid.to_bytes())?;
-    packed.push(class_code(state.class))?;
+    put_class(&mut packed, state.format, state.class)?;
     packed.extend(&eight(state.version))?;
     packed.extend(&state.writer.to_bytes())?;
     packed.extend(&two(length))?;
@@ -102,8 +153,16 @@ pub fn pack(alloc: Global, state: &ObjectState) -> Result<Bytes, AllocError>
     Ok(packed)
 }
 
-/// How many bytes of a packed state stand before its payload.
-pub const PACKED_HEAD: usize = 47;
+// Puts the class at the end, in format two with its version.
+fn put_class(packed: &mut Bytes, format: Format, class: Class) -> Result<(), AllocError>
+    ensures ok { OnOk result (packed.new ≡ packed.old ++ class_bytes format class) }
+{
+    let code = class_code(class);
+    match format {
+        Format::One => packed.push(code),
+        Format::Two => packed.extend(&[code, version_of(code)]),
+    }
+}
 
 /// Reads a packed state: exactly what `pack` writes, and nothing behind it.
 pub fn unpack(alloc: Global, bytes: &[u8]) -> Result<ObjectState, StateFault>
@@ -116,28 +175,51 @@ pub fn unpack(alloc: Global, bytes: &[u8]) -> Result<ObjectState, StateFault>
     if bytes.len() < 4 {
         return Err(StateFault::Short);
     }
-    if !bytes.starts_with(b"ARJ1") {
+    let Some(format) = Format::of(bytes) else {
         return Err(StateFault::Magic);
-    }
-    if bytes.len() < PACKED_HEAD {
+    };
+    let at = format.behind_class();
+    if bytes.len() < at + 26 {
         return Err(StateFault::Short);
     }
     let Some(class) = class_of_code(bytes[20]) else {
         return Err(StateFault::Class);
     };
-    let length = from_two(&field::<2>(bytes, 45));
-    if usize::from(length) != bytes.len() - PACKED_HEAD {
+    if !has_version(format, bytes) {
+        return Err(StateFault::ClassVersion);
+    }
+    let length = from_two(&field::<2>(bytes, at + 24));
+    if usize::from(length) != bytes.len() - (at + 26) {
         return Err(StateFault::Length);
     }
     let mut payload = Bytes::new(alloc);
-    payload.extend(&bytes[PACKED_HEAD..])?;
+    payload.extend(&bytes[at + 26..])?;
     Ok(ObjectState {
         uid: Uid::from_bytes(&field::<16>(bytes, 4)),
         class,
-        version: from_eight(&field::<8>(bytes, 21)),
-        writer: Uid::from_bytes(&field::<16>(bytes, 29)),
+        version: from_eight(&field::<8>(bytes, at)),
+        writer: Uid::from_bytes(&field::<16>(bytes, at + 8)),
         payload,
+        format,
     })
+}
+
+// Whether the class version is the one that the class has.
+fn has_version(format: Format, bytes: &[u8]) -> bool
+    requires { 22 ≤ length bytes.now }
+    ensures { result ≡ version_fits format bytes.now }
+{
+    match format {
+        Format::One => true,
+        Format::Two => bytes[21] == version_of(bytes[20]),
+    }
+}
+
+// The class version of the class with this code.
+fn version_of(code: u8) -> u8
+    ensures { result ≡ version_of_code code }
+{
+    if code == 2 { 2 } else { 1 }
 }
 
 /// The N bytes from a place on.
@@ -152,7 +234,7 @@ fn field<const N: usize>(bytes: &[u8], at: usize) -> [u8; N]
 
 /// The class with this code in a packed state, None exactly where no class has it.
 pub fn class_of_code(code: u8) -> Option<Class>
-    ensures { MatchOption result (5 < code) (λ class. class_code_of class ≡ code) }
+    ensures { MatchOption result (6 < code) (λ class. class_code_of class ≡ code) }
 {
     match code {
         0 => Some(Class::Entry),
@@ -161,11 +243,12 @@ pub fn class_of_code(code: u8) -> Option<Class>
         3 => Some(Class::Account),
         4 => Some(Class::Queue),
         5 => Some(Class::Table),
+        6 => Some(Class::Gone),
         _ => None,
     }
 }
 
-/// The code of a class in a packed state, from 0 to 5.
+/// The code of a class in a packed state, from 0 to 6.
 pub fn class_code(class: Class) -> u8
     ensures { result ≡ class_code_of class }
 {
@@ -176,6 +259,17 @@ pub fn class_code(class: Class) -> u8
         Class::Account => 3,
         Class::Queue => 4,
         Class::Table => 5,
+        Class::Gone => 6,
+    }
+}
+
+/// Whether objects have this class: neither naming entries' nor that of what is gone.
+pub fn is_object_class(class: Class) -> bool
+    ensures { result ≡ is_of_objects class }
+{
+    match class {
+        Class::Entry | Class::Gone => false,
+        _ => true,
     }
 }
 

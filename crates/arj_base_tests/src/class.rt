@@ -1,8 +1,8 @@
 // The class table at values from outside. Values are given as their payloads.
 ghost use Rattle.arj_class.specs.Forms.{OpInForm};
 
-use arj_base::{Bytes, Class, Numbers, Pairs};
-use arj_class::{Account, Answer, ApplyFault, Counter, Op, Queue, Register, Table, Value};
+use arj_base::{Bytes, Class, Format, Mode, Numbers, Pairs};
+use arj_class::{Account, Answer, ApplyFault, Counter, Gone, Op, Queue, Register, Table, Value};
 use std::alloc::{AllocError, Global};
 use std::test::Fail;
 
@@ -41,6 +41,8 @@ fn answer_text(alloc: Global, answer: &Result<Answer, ApplyFault>) -> Result<Str
         Ok(Answer::Short) => format!(in alloc; "short"),
         Ok(Answer::Full) => format!(in alloc; "full"),
         Ok(Answer::Nothing) => format!(in alloc; "none"),
+        Ok(Answer::There) => format!(in alloc; "there"),
+        Ok(Answer::Gone) => format!(in alloc; "gone"),
         Err(fault) => format!(in alloc; "{fault}"),
     }
 }
@@ -52,32 +54,41 @@ fn told(alloc: Global, value: &mut Value, op: &Op) -> Result<String, AllocError>
     answer_text(alloc, &value.apply(op))
 }
 
+// A value as its state says it: its class and its payload.
+type Saved<'a> = (Class, &'a [u8]);
+
 // Whether a copy of a value is saved so.
-fn has_payload(alloc: Global, value: &Value, payload: &[u8]) -> Result<bool, AllocError> {
+fn is_saved_so(alloc: Global, value: &Value, saved: Saved) -> Result<bool, AllocError> {
+    let (class, payload) = saved;
+    if value.class() != class {
+        return Ok(false);
+    }
     let copy = value.copy(alloc)?;
     Ok(copy.save_state(alloc)?.as_slice() == payload)
 }
 
-// Whether a value with the first payload answers so to the operation, and has the second payload then.
-fn answers(
-    alloc: Global,
-    class: Class,
-    payloads: (&[u8], &[u8]),
-    op: &Op,
-    want: &str,
-) -> Result<bool, Fail> {
+// Whether the first value answers so to the operation, and is the second then.
+fn answers(alloc: Global, before: Saved, op: &Op, want: &str, after: Saved) -> Result<bool, Fail> {
     if !op.is_in_form() {
         return Ok(false);
     }
-    let mut value = Value::restore_state(alloc, class, payloads.0)?;
+    let (class, payload) = before;
+    let mut value = Value::restore_state(alloc, class, Format::Two, payload)?;
     let told = told(alloc, &mut value, op)?;
-    Ok(told.as_str() == want && has_payload(alloc, &value, payloads.1)?)
+    Ok(told.as_str() == want && is_saved_so(alloc, &value, after)?)
 }
 
 // A register is put.
 fn a_put_answers(alloc: Global) -> Result<bool, Fail> {
     let op = Op::Put(bytes(alloc, &[0, 0xff])?);
-    answers(alloc, Class::Register, (b"any", &[0, 0xff]), &op, "done")
+    let after = [0, 0xff].as_slice();
+    answers(
+        alloc,
+        (Class::Register, b"any"),
+        &op,
+        "done",
+        (Class::Register, after),
+    )
 }
 
 // A pair of the table takes another value.
@@ -86,8 +97,13 @@ fn a_put_pair_answers(alloc: Global) -> Result<bool, Fail> {
     other_value[1] = 5;
     let pairs = words(alloc, &PAIRS)?;
     let other_pairs = words(alloc, &other_value)?;
-    let payloads = (pairs.as_slice(), other_pairs.as_slice());
-    answers(alloc, Class::Table, payloads, &Op::PutPair(1, 5), "done")
+    answers(
+        alloc,
+        (Class::Table, pairs.as_slice()),
+        &Op::PutPair(1, 5),
+        "done",
+        (Class::Table, other_pairs.as_slice()),
+    )
 }
 
 // What leaves the value as it is, of these numbers: each with its answer.
@@ -115,20 +131,15 @@ fn op_at(place: usize) -> Op {
 // Whether a value of these numbers answers so, and stays as it is.
 fn keeps(alloc: Global, class: Class, numbers: &[u8], op: &Op, want: &str) -> Result<bool, Fail> {
     let payload = words(alloc, numbers)?;
-    answers(
-        alloc,
-        class,
-        (payload.as_slice(), payload.as_slice()),
-        op,
-        want,
-    )
+    let saved = (class, payload.as_slice());
+    answers(alloc, saved, op, want, saved)
 }
 
 #[test]
 fn classes_answer_as_the_table(rt: HostRuntime) -> Result<(), Fail> {
     let alloc = rt.alloc();
-    let bytes = [0, 0xff].as_slice();
-    assert!(rt; answers(alloc, Class::Register, (bytes, bytes), &Op::Get, "[0, 255]")?);
+    let saved = (Class::Register, [0, 0xff].as_slice());
+    assert!(rt; answers(alloc, saved, &Op::Get, "[0, 255]", saved)?);
     assert!(rt; a_put_answers(alloc)?);
     assert!(rt; a_put_pair_answers(alloc)?);
     for (place, (class, numbers, want)) in ROWS.iter().enumerate() {
@@ -136,6 +147,125 @@ fn classes_answer_as_the_table(rt: HostRuntime) -> Result<(), Fail> {
             keeps(alloc, *class, numbers, &op_at(place), want)?,
             "{want}"
         );
+    }
+    Ok(())
+}
+
+// What each class has of the operations in their order, with a counter's value for `create`: each by a letter for its mode.
+const MODES: [(Class, &[u8]); 7] = [
+    (Class::Counter, b"rww---------ww"),
+    (Class::Register, b"r--w---------w"),
+    (Class::Account, b"r---ww-------w"),
+    (Class::Queue, b"------rww----w"),
+    (Class::Table, b"---------rww-w"),
+    (Class::Entry, b"--------------"),
+    (Class::Gone, b"--------------"),
+];
+
+// The operation at this place in their order.
+fn op_in_order(alloc: Global, place: usize) -> Op {
+    match place {
+        0 => Op::Get,
+        1 => Op::Add(1),
+        2 => Op::Set(1),
+        3 => Op::Put(Bytes::new(alloc)),
+        4 => Op::Deposit(1),
+        5 => Op::Withdraw(1),
+        6 => Op::Len,
+        7 => Op::Push(1),
+        8 => Op::Pop,
+        9 => Op::GetKey(1),
+        10 => Op::PutPair(1, 1),
+        11 => Op::Remove(1),
+        12 => Op::Create(Value::Counter(Counter::new(7))),
+        _ => Op::Destroy,
+    }
+}
+
+// The letter of the mode in which the class does the operation, a dash where it lacks it.
+fn letter(class: Class, op: &Op) -> u8 {
+    match Value::mode(class, op) {
+        Some(Mode::Read) => b'r',
+        Some(Mode::Exclude) => b'x',
+        Some(Mode::Write) => b'w',
+        None => b'-',
+    }
+}
+
+#[test]
+fn classes_have_their_operations(rt: HostRuntime) -> Result<(), Fail> {
+    for (class, letters) in MODES {
+        for (place, want) in letters.iter().enumerate() {
+            assert_eq!(rt; letter(class, &op_in_order(rt.alloc(), place)), *want);
+        }
+    }
+    Ok(())
+}
+
+// A counter of value 7, and one that is gone.
+const SEVEN: Saved<'static> = (Class::Counter, &[0, 0, 0, 0, 0, 0, 0, 7]);
+
+const NO_COUNTER: Saved<'static> = (Class::Gone, &[1]);
+
+const NO_QUEUE: Saved<'static> = (Class::Gone, &[4]);
+
+// How objects come and go: what was, the place of the operation in their order, its answer, and what is.
+const COMING: [(Saved<'static>, usize, &str, Saved<'static>); 8] = [
+    (NO_COUNTER, 0, "gone", NO_COUNTER),
+    (NO_COUNTER, 7, "the class lacks this operation", NO_COUNTER),
+    (NO_COUNTER, 12, "done", SEVEN),
+    (NO_COUNTER, 13, "gone", NO_COUNTER),
+    (NO_QUEUE, 8, "gone", NO_QUEUE),
+    (NO_QUEUE, 12, "the class lacks this operation", NO_QUEUE),
+    (SEVEN, 12, "there", SEVEN),
+    (SEVEN, 13, "done", NO_COUNTER),
+];
+
+#[test]
+fn objects_come_and_go(rt: HostRuntime) -> Result<(), Fail> {
+    let alloc = rt.alloc();
+    for (before, place, want, after) in COMING {
+        assert!(rt;
+            answers(alloc, before, &op_in_order(alloc, place), want, after)?,
+            "{want}"
+        );
+    }
+    Ok(())
+}
+
+// An operation by which an object would come as one that is gone.
+fn comes_gone() -> Op {
+    match Gone::new(Class::Counter) {
+        Some(gone) => Op::Create(Value::Gone(gone)),
+        None => Op::Destroy,
+    }
+}
+
+#[test]
+fn no_object_comes_as_one_that_is_gone(rt: HostRuntime) -> Result<(), Fail> {
+    assert!(rt; !comes_gone().is_in_form());
+    Ok(())
+}
+
+// Whether a value of the class is restored from so many bytes of zeros in this format.
+fn restores(
+    alloc: Global,
+    class: Class,
+    format: Format,
+    length: usize,
+) -> Result<bool, AllocError> {
+    let zeros = [0; 193];
+    match Value::restore_state(alloc, class, format, &zeros[..length]) {
+        Ok(value) => is_saved_so(alloc, &value, (class, &zeros[..length])),
+        Err(_) => Ok(false),
+    }
+}
+
+#[test]
+fn registers_are_longer_in_format_two(rt: HostRuntime) -> Result<(), Fail> {
+    for (format, most) in [(Format::One, 64), (Format::Two, 192)] {
+        assert!(rt; restores(rt.alloc(), Class::Register, format, most)?);
+        assert!(rt; !restores(rt.alloc(), Class::Register, format, most + 1)?);
     }
     Ok(())
 }
@@ -148,8 +278,11 @@ fn payloads_out_of_form_are_refused(rt: HostRuntime) -> Result<(), Fail> {
         (Class::Table, falling.as_slice()),
         (Class::Counter, [0; 7].as_slice()),
         (Class::Entry, &[]),
+        (Class::Gone, &[0]),
+        (Class::Gone, &[6]),
+        (Class::Gone, &[1, 1]),
     ] {
-        let Err(fault) = Value::restore_state(alloc, class, payload) else {
+        let Err(fault) = Value::restore_state(alloc, class, Format::Two, payload) else {
             return Err(Fail::new("restored"));
         };
         assert_eq!(rt;

@@ -1,7 +1,7 @@
 // A server's active objects, worked by nested actions.
 ghost use Rattle.std.specs.Prelude.{◌<◌};
 
-use arj_base::{Binding, Bytes, Class, ObjectState, Path, Uid, object_uid};
+use arj_base::{Binding, Bytes, Class, Format, ObjectState, Path, Uid, object_uid};
 use arj_class::{Op, Value};
 use arj_manager::StateManager;
 use std::alloc::{AllocError, Global};
@@ -29,6 +29,7 @@ fn zero(alloc: Global, x: u16) -> Result<ObjectState, AllocError> {
         version: 1,
         writer: action(0),
         payload,
+        format: Format::Two,
     })
 }
 

@@ -6,7 +6,7 @@ ghost use Rattle.arj_bind.specs.Shown.{goal_of};
 use arj_base::{Mode, ObjectState, Uid};
 use arj_class::{Answer, Op};
 use arj_msg::What;
-use std::alloc::AllocError;
+use std::alloc::{AllocError, Global};
 
 /// What the steps are for: an operation on the object, or the object's state for a store that is included.
 #[derive(Drop)]
@@ -39,28 +39,28 @@ impl Goal {
     }
 
     /// The same again, in other memory.
-    pub fn copy(&self) -> Result<Goal, AllocError>
+    pub fn copy(&self, alloc: Global) -> Result<Goal, AllocError>
         ensures { IfOk result (λ copied. copied ≡ self.now) }
     {
         Ok(match self {
-            Goal::Call(op) => Goal::Call(copy_op(op)?),
+            Goal::Call(op) => Goal::Call(copy_op(alloc, op)?),
             Goal::Include(store) => Goal::Include(*store),
         })
     }
 
     // The operation again, in other memory. An include has none; it never comes to an Invoke.
-    pub(crate) fn operation(&self) -> Result<Op, AllocError>
+    pub(crate) fn operation(&self, alloc: Global) -> Result<Op, AllocError>
         ensures { IfOk result (λ op. op ≡ invoked_op (goal_of self.now)) }
     {
         match self {
-            Goal::Call(op) => copy_op(op),
+            Goal::Call(op) => copy_op(alloc, op),
             Goal::Include(_) => Ok(Op::Get),
         }
     }
 }
 
 // An operation again, in other memory.
-fn copy_op(op: &Op) -> Result<Op, AllocError>
+fn copy_op(alloc: Global, op: &Op) -> Result<Op, AllocError>
     ensures { IfOk result (λ copied. copied ≡ op.now) }
 {
     Ok(match op {
@@ -76,5 +76,7 @@ fn copy_op(op: &Op) -> Result<Op, AllocError>
         Op::GetKey(key) => Op::GetKey(*key),
         Op::PutPair(key, n) => Op::PutPair(*key, *n),
         Op::Remove(key) => Op::Remove(*key),
+        Op::Create(value) => Op::Create(value.copy(alloc)?),
+        Op::Destroy => Op::Destroy,
     })
 }

@@ -289,7 +289,7 @@ fn request(head: Head, x: u16, goal: &Goal, ends: &Ends, at: &At) -> Result<Mess
             binding: step.known.binding,
             server_inc: step.inc,
             ends: ends.copy()?,
-            op: goal.operation()?,
+            op: goal.operation(ends.allocator())?,
         }),
     })
 }

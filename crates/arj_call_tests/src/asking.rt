@@ -6,7 +6,7 @@ use arj_asking::{
     again_all, asker_has_room, begin_action, call, commit_action, give_up, has_room, heard,
     is_meant,
 };
-use arj_base::{Binding, NodeList, ObjectState, States, Uid, object_uid};
+use arj_base::{Binding, Format, NodeList, ObjectState, States, Uid, object_uid};
 use arj_class::{Answer, Counter, ObjectClass, Op};
 use arj_coord::{Coord, Effect, Effects, Records};
 use arj_journal::{Body, Kind, Label};
@@ -99,6 +99,7 @@ fn state(alloc: Global) -> Result<ObjectState, AllocError>
         version: 1,
         writer: TOP,
         payload: Counter::new(0).save_state(alloc)?,
+        format: Format::Two,
     })
 }
 

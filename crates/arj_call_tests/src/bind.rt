@@ -1,5 +1,7 @@
 // Calls on one object by the answers that they get, one after another.
-use arj_base::{Binding, Bytes, Class, Ends, Mode, NodeList, ObjectState, Path, Uid, object_uid};
+use arj_base::{
+    Binding, Bytes, Class, Ends, Format, Mode, NodeList, ObjectState, Path, Uid, object_uid,
+};
 use arj_bind::{CallEnd, CallStep, CallSteps, Goal, Keeping};
 use arj_class::{Answer, Op};
 use arj_msg::{
@@ -252,6 +254,7 @@ fn state(alloc: Global) -> ObjectState {
         version: 0,
         writer: OTHER,
         payload: Bytes::new(alloc),
+        format: Format::Two,
     }
 }
 

@@ -1,7 +1,9 @@
 // An object under nested actions, with values worked out by hand.
-use arj_base::{Binding, Bytes, Class, Mode, ObjectState, Path, Uid, object_uid};
-use arj_class::{Op, Value};
-use arj_manager::{ManagerFault, StateManager};
+ghost use Rattle.arj_class.specs.Forms.{OpInForm};
+
+use arj_base::{Binding, Bytes, Class, Format, Mode, ObjectState, Path, Uid, object_uid};
+use arj_class::{Account, Answer, Counter, Op, Value};
+use arj_manager::{ManagerFault, Ran, StateManager};
 use std::alloc::{AllocError, Global};
 use std::test::Fail;
 
@@ -26,6 +28,7 @@ fn counter(alloc: Global, x: u16, value: u8) -> Result<ObjectState, AllocError> 
         version: 7,
         writer: action(1),
         payload,
+        format: Format::Two,
     })
 }
 
@@ -84,6 +87,78 @@ fn number(manager: &StateManager, x: u16) -> Option<u64> {
         Value::Counter(counter) => Some(counter.number()),
         _ => None,
     }
+}
+
+// What the action with this number does with object 3, a counter that is gone at first.
+#[derive(Clone, Copy, Debug)]
+enum Deed {
+    Get,
+    Create(u64),
+    CreateAccount,
+    Destroy,
+    Commit,
+    Abort,
+}
+
+// What it is answered.
+#[derive(Clone, Copy, Debug, PartialEq, Eq)]
+enum Reply {
+    Number(u64),
+    Done,
+    There,
+    Gone,
+    WrongOp,
+    Ended,
+    Other,
+}
+
+fn reply_of(done: Result<Option<Ran>, ManagerFault>) -> Reply {
+    match done {
+        Ok(Some(ran)) => match ran.answer {
+            Answer::Number(number) => Reply::Number(number),
+            Answer::Done => Reply::Done,
+            Answer::There => Reply::There,
+            Answer::Gone => Reply::Gone,
+            _ => Reply::Other,
+        },
+        Err(ManagerFault::WrongOp) => Reply::WrongOp,
+        _ => Reply::Other,
+    }
+}
+
+fn operate(manager: &mut StateManager, num: u64, op: &Op) -> Option<Reply>
+    requires { OpInForm op.now }
+{
+    Some(reply_of(manager.invoke(3, &path(num)?, op)))
+}
+
+fn create(manager: &mut StateManager, num: u64, value: Value) -> Option<Reply> {
+    let op = Op::Create(value);
+    if !op.is_in_form() {
+        return None;
+    }
+    operate(manager, num, &op)
+}
+
+fn act(manager: &mut StateManager, num: u64, deed: Deed) -> Option<Reply> {
+    match deed {
+        Deed::Get => return operate(manager, num, &Op::Get),
+        Deed::Create(n) => return create(manager, num, Value::Counter(Counter::new(n))),
+        Deed::CreateAccount => return create(manager, num, Value::Account(Account::new(1))),
+        Deed::Destroy => return operate(manager, num, &Op::Destroy),
+        Deed::Commit => manager.commit(action(num)),
+        Deed::Abort => manager.abort(action(num)),
+    }
+    Some(Reply::Ended)
+}
+
+// The state of object 3 as a counter that is gone, in version 7.
+fn gone_counter(alloc: Global) -> Result<ObjectState, AllocError> {
+    let mut state = counter(alloc, 3, 0)?;
+    state.class = Class::Gone;
+    state.payload = Bytes::new(alloc);
+    state.payload.extend(&[1])?;
+    Ok(state)
 }
 
 #[test]
@@ -159,5 +234,41 @@ fn faults_and_copies_that_go(rt: HostRuntime) -> Result<(), Fail> {
     manager.deactivate(1);
     assert_eq!(rt; number(&manager, 1), None);
     assert_eq!(rt; number(&manager, 2), Some(20));
+    Ok(())
+}
+
+#[test]
+fn an_object_comes_and_goes(rt: HostRuntime) -> Result<(), Fail> {
+    let alloc = rt.alloc();
+    let gone = gone_counter(alloc)?;
+    let mut manager = StateManager::new(alloc);
+    assert!(rt; manager.activate(alloc, 3, BINDING, &gone).is_ok());
+    // who does what, what is answered, and the number then in place, none where the object is gone
+    let rows = [
+        (2, Deed::Get, Reply::Gone, None),
+        (2, Deed::CreateAccount, Reply::WrongOp, None),
+        (2, Deed::Create(7), Reply::Done, Some(7)),
+        (3, Deed::Destroy, Reply::Done, None),
+        (3, Deed::Destroy, Reply::Gone, None),
+        (3, Deed::Abort, Reply::Ended, Some(7)),
+        (2, Deed::Create(9), Reply::There, Some(7)),
+        (2, Deed::CreateAccount, Reply::WrongOp, Some(7)),
+        (2, Deed::Get, Reply::Number(7), Some(7)),
+        (2, Deed::Commit, Reply::Ended, Some(7)),
+        (6, Deed::Destroy, Reply::Done, None),
+        (6, Deed::Get, Reply::Gone, None),
+    ];
+    for (num, deed, want, then) in rows {
+        assert_eq!(rt; act(&mut manager, num, deed), Some(want));
+        assert_eq!(rt; number(&manager, 3), then);
+    }
+    let states = manager.changed_states(alloc, action(6))?;
+    match states.as_slice() {
+        [state] => {
+            assert!(rt; state.class == Class::Gone && state.version == 9);
+            assert_eq!(rt; state.payload.as_slice(), gone.payload.as_slice());
+        }
+        _ => return Err(Fail::new("not one state")),
+    }
     Ok(())
 }

@@ -6,8 +6,10 @@ ghost use Rattle.arj_class.specs.Table.{has_op};
 ghost use Rattle.arj_class.specs.declared.value.Value.TheVariants as value;
 ghost use Rattle.arj_server.specs.Classes.{IsOfClass};
 
-use arj_base::{Binding, Bytes, Class, End, Ends, Mode, ObjectState, Path, Uid, object_uid};
-use arj_class::{Answer, Op};
+use arj_base::{
+    Binding, Bytes, Class, End, Ends, Format, Mode, ObjectState, Path, Uid, object_uid,
+};
+use arj_class::{Answer, Counter, Op, Value};
 use arj_journal::{Body, Lines, Part};
 use arj_msg::{
     Activate, Activated, Binds, Head, Invoke, Invoked, InvokedReply, Told, Vote, Voted, VotedReply,
@@ -24,13 +26,15 @@ const INC: u32 = 4;
 // The nested ends of the root 2, in order of decision.
 const ENDS: [(u64, End); 3] = [(4, End::Commit), (5, End::Abort), (3, End::Abort)];
 
-// What a server is asked: to take object 1 by the binding 1.n, to add to it, to read it, to vote in an incarnation, to
-// end an action, who holds locks.
+// What a server is asked: to take object 1 by the binding 1.n, to add to it, to read it, to create it at a number, to destroy
+// it, to vote in an incarnation, to end an action, who holds locks.
 #[derive(Clone, Copy)]
 enum Ask {
     Activate(u32),
     Add(u64),
     Get,
+    Create(u64),
+    Destroy,
     Vote(u32),
     Told(End),
     Held,
@@ -44,7 +48,10 @@ enum Seen {
     Done,
     Number(u64),
     Locked(u64),
+    There,
+    Gone,
     State(u8, u64, u64),
+    GoneState(u8, u64, u64),
     Holder(u64),
     Other,
 }
@@ -173,6 +180,7 @@ fn activate(
             version: 7,
             writer: action(9),
             payload: payload(alloc)?,
+            format: Format::Two,
         },
     };
     Ok(match take(server, &m, out)? {
@@ -206,13 +214,15 @@ fn invoke(
         Some(answer) => match answer.reply {
             InvokedReply::Answered(Answer::Done) => Seen::Done,
             InvokedReply::Answered(Answer::Number(number)) => Seen::Number(number),
+            InvokedReply::Answered(Answer::There) => Seen::There,
+            InvokedReply::Answered(Answer::Gone) => Seen::Gone,
             InvokedReply::Conflict { holder, .. } => Seen::Locked(holder.num),
             _ => Seen::Other,
         },
     })
 }
 
-// The state of a yes is told by the last byte of its payload, its version and its writer.
+// The state of a yes is told by the last byte of its payload, which is a gone object's class, its version and its writer.
 fn vote(
     alloc: Global,
     server: &mut Server,
@@ -245,9 +255,11 @@ fn state_of(states: &[ObjectState]) -> Seen {
     let [state] = states else {
         return Seen::Other;
     };
-    match state.payload.as_slice() {
-        [.., last] => Seen::State(*last, state.version, state.writer.num),
-        [] => Seen::Other,
+    let (version, writer) = (state.version, state.writer.num);
+    match (state.class, state.payload.as_slice()) {
+        (Class::Counter, [.., last]) => Seen::State(*last, version, writer),
+        (Class::Gone, [.., last]) => Seen::GoneState(*last, version, writer),
+        _ => Seen::Other,
     }
 }
 
@@ -294,6 +306,11 @@ fn play(
         Ask::Activate(count) => activate(alloc, server, step, count, out),
         Ask::Add(n) => invoke(alloc, server, step, Op::Add(n), out),
         Ask::Get => invoke(alloc, server, step, Op::Get, out),
+        Ask::Create(n) => {
+            let value = Value::Counter(Counter::new(n));
+            invoke(alloc, server, step, Op::Create(value), out)
+        }
+        Ask::Destroy => invoke(alloc, server, step, Op::Destroy, out),
         Ask::Vote(inc) => vote(alloc, server, step, inc, out),
         Ask::Told(end) => tell(alloc, server, step, end, out),
         Ask::Held => held(alloc, server),
@@ -412,5 +429,30 @@ fn a_commit_without_a_vote_is_an_abort(rt: HostRuntime) -> Result<(), Fail> {
     let (right, lines) = played(rt.alloc(), &steps)?;
     assert_eq!(rt; right, steps.len());
     assert_eq!(rt; lines.as_slice(), [0, 2, 62, 26].as_slice());
+    Ok(())
+}
+
+#[test]
+fn an_object_comes_and_goes(rt: HostRuntime) -> Result<(), Fail> {
+    let steps = [
+        asked([1, 0, 0], 1, 0, Ask::Activate(2), Seen::Incarnation(INC)),
+        asked([2, 0, 0], 1, 0, Ask::Create(7), Seen::There),
+        asked([2, 0, 0], 2, 0, Ask::Destroy, Seen::Done),
+        asked([2, 0, 0], 3, 0, Ask::Get, Seen::Gone),
+        asked([2, 0, 0], 3, 0, Ask::Get, Seen::Gone),
+        asked([2, 3, 0], 1, 0, Ask::Create(7), Seen::Done),
+        asked([2, 3, 0], 2, 0, Ask::Get, Seen::Number(7)),
+        asked([2, 3, 0], 3, 0, Ask::Create(8), Seen::There),
+        asked([2, 3, 0], 3, 0, Ask::Create(8), Seen::There),
+        asked([2, 0, 0], 4, 3, Ask::Get, Seen::Gone),
+        asked([2, 0, 0], 5, 3, Ask::Vote(INC), Seen::GoneState(1, 8, 2)),
+        asked([2, 0, 0], 0, 0, Ask::Told(End::Commit), Seen::Done),
+        asked([6, 0, 0], 1, 0, Ask::Get, Seen::Gone),
+        asked([6, 0, 0], 2, 0, Ask::Create(9), Seen::Done),
+        asked([6, 0, 0], 3, 0, Ask::Vote(INC), Seen::State(9, 9, 6)),
+    ];
+    let (right, lines) = played(rt.alloc(), &steps)?;
+    assert_eq!(rt; right, steps.len());
+    assert_eq!(rt; lines.as_slice(), [0, 2, 3, 63, 42, 26, 6].as_slice());
     Ok(())
 }

@@ -11,16 +11,19 @@ use Rattle.std.proofs.lemmas.Bool.{and_parts, eqb-true, eq-eqb}
 use Rattle.std.proofs.lemmas.Bool.Decides.{Decides-and, Decides-like, Decides-ltb, Decides-or, nat_tests}
 use Rattle.std.proofs.lemmas.List.{append-nil}
 use Rattle.std.proofs.lemmas.Slice.Eq.{bytes_eq-Decides}
-use Rattle.arj_class.specs.Table.{answer_of, class_of, has_op, is_full_for, number_or_nothing, value_at}
-use Rattle.arj_class.specs.declared.op.Answer.TheVariants.{Done, Over, Short, Full}
+use Rattle.arj_base.specs.declared.state.Class.{Class}
+use Rattle.arj_base.specs.declared.state.Class.TheVariants as class
+use Rattle.arj_class.specs.Table.{answer_of, class_of, has_op, is_full_for, is_value_of, number_or_nothing, own_class, value_at}
+use Rattle.arj_class.specs.declared.op.Answer.TheVariants.{Done, Over, Short, Full, There}
+use Rattle.arj_class.specs.declared.op.Answer.TheVariants as answer
 use Rattle.arj_class.specs.declared.op.Op.{Op}
-use Rattle.arj_class.specs.declared.op.Op.TheVariants.{Get, Add, Set, Put, Deposit, Withdraw, Len, Push, Pop, GetKey, PutPair, Remove}
+use Rattle.arj_class.specs.declared.op.Op.TheVariants.{Get, Add, Set, Put, Deposit, Withdraw, Len, Push, Pop, GetKey, PutPair, Remove, Create, Destroy}
 use Rattle.arj_class.specs.declared.value.Value.{Value}
-use Rattle.arj_class.specs.declared.value.Value.TheVariants.{Counter, Register, Account, Queue, Table}
+use Rattle.arj_class.specs.declared.value.Value.TheVariants.{Counter, Register, Account, Queue, Table, Gone}
 use Rattle.arj_model.specs.Follows.{IsAnswerOf}
 use Rattle.arj_text.specs.Label.{is_digit}
 use Rattle.arj_text.specs.Words.{answer_text, hex, hex_digit, hex_pair}
-use Rattle.arj_cause_tests.specs.Answers.{answers, are_last, are_pairs, is_hex, is_high, is_low, is_nil, is_number, onto}
+use Rattle.arj_cause_tests.specs.Answers.{answers, answers_gone, answers_there, are_last, are_pairs, is_hex, is_high, is_low, is_nil, is_number, onto}
 
 -- ---- numbers
 
@@ -340,11 +343,37 @@ found_is : (text : List ℕ) (o : Option ℕ) → text ≡ answer_text (number_o
 found_is text None is = inl is
 found_is text (Some n) is = inr (n, is)
 
-pub answers_decide : (o : Op) (text : List ℕ) → Decides (answers o text) (IsAnswerOf o text)
-answers_decide Get text = Decides-like (is_number text || is_hex text) to (λ h. from h.0 h.1 h.2)
+-- a value of some class isn't gone
+of_its_own : (c : Class) (w : Value) → is_value_of c w ≡ true → is_value_of (class_of w) w ≡ true
+of_its_own c (Gone d) is = absurd (let e = sym (never c) ∙ is in cc e)
+  where
+    never : (c : Class) → is_value_of c (Gone d) ≡ false
+    never class.Entry = refl
+    never _ = refl
+of_its_own c (Counter n) is = refl
+of_its_own c (Register bytes) is = refl
+of_its_own c (Account n) is = refl
+of_its_own c (Queue ns) is = refl
+of_its_own c (Table ps) is = refl
+
+-- the value isn't gone, and the text is this word
+of_class_decides : (w : Value) (text other : List ℕ) →
+    Decides (is_value_of (class_of w) w && bytes_eq text other) ((is_value_of (class_of w) w ≡ true) × (text ≡ other))
+of_class_decides w text other = Decides-and (is_value_of (class_of w) w) (bytes_eq text other) ((λ e. e), (λ e. e)) (word text other)
+
+-- the text answers the operation at some object that is there, of a class that has it
+abbrev IsAnswerThere : Op → List ℕ → Type 0
+IsAnswerThere op text = (v : Value) × (has_op (class_of v) op ≡ true) × (text ≡ answer_text (answer_of op v))
+
+-- the text answers it at some object that is gone
+abbrev IsAnswerGone : Op → List ℕ → Type 0
+IsAnswerGone op text = (c : Class) × (has_op c op ≡ true) × (text ≡ answer_text (answer_of op (Gone c)))
+
+there_decide : (o : Op) (text : List ℕ) → Decides (answers_there o text) (IsAnswerThere o text)
+there_decide Get text = Decides-like (is_number text || is_hex text) to (λ h. from h.0 h.1 h.2)
     (Decides-or (is_number text) (is_hex text) (number_decides text) (hex_decides text))
   where
-    to : ((n : ℕ) × (text ≡ decimal n)) ⊎ ((bytes : List ℕ) × (text ≡ hex bytes)) → IsAnswerOf Get text
+    to : ((n : ℕ) × (text ≡ decimal n)) ⊎ ((bytes : List ℕ) × (text ≡ hex bytes)) → IsAnswerThere Get text
     to (inl h) = (Counter h.0, refl, h.1)
     to (inr h) = (Register h.0, refl, h.1)
 
@@ -355,9 +384,10 @@ answers_decide Get text = Decides-like (is_number text || is_hex text) to (λ h.
     from (Account n) has is = inl (n, is)
     from (Queue ns) has is = absurd (cc has)
     from (Table ps) has is = absurd (cc has)
-answers_decide (Add n) text = Decides-like (answers (Add n) text) to (λ h. from h.0 h.1 h.2) (sum_decides n text)
+    from (Gone c) has is = absurd (cc has)
+there_decide (Add n) text = Decides-like (answers_there (Add n) text) to (λ h. from h.0 h.1 h.2) (sum_decides n text)
   where
-    to : ((n < 18446744073709551616) × (text ≡ codes "done")) ⊎ (text ≡ codes "over") → IsAnswerOf (Add n) text
+    to : ((n < 18446744073709551616) × (text ≡ codes "done")) ⊎ (text ≡ codes "over") → IsAnswerThere (Add n) text
     to (inl h) = (Counter 0, refl, h.1 ∙ ap (λ b. answer_text (cond b Done Over)) (sym (from_none n h.0)))
     to (inr e) = (Counter 18446744073709551616, refl, e ∙ ap (λ b. answer_text (cond b Done Over)) (sym (past_it n)))
 
@@ -368,9 +398,10 @@ answers_decide (Add n) text = Decides-like (answers (Add n) text) to (λ h. from
     from (Account m) has is = absurd (cc has)
     from (Queue ns) has is = absurd (cc has)
     from (Table ps) has is = absurd (cc has)
-answers_decide (Deposit n) text = Decides-like (answers (Deposit n) text) to (λ h. from h.0 h.1 h.2) (sum_decides n text)
+    from (Gone c) has is = absurd (cc has)
+there_decide (Deposit n) text = Decides-like (answers_there (Deposit n) text) to (λ h. from h.0 h.1 h.2) (sum_decides n text)
   where
-    to : ((n < 18446744073709551616) × (text ≡ codes "done")) ⊎ (text ≡ codes "over") → IsAnswerOf (Deposit n) text
+    to : ((n < 18446744073709551616) × (text ≡ codes "done")) ⊎ (text ≡ codes "over") → IsAnswerThere (Deposit n) text
     to (inl h) = (Account 0, refl, h.1 ∙ ap (λ b. answer_text (cond b Done Over)) (sym (from_none n h.0)))
     to (inr e) = (Account 18446744073709551616, refl, e ∙ ap (λ b. answer_text (cond b Done Over)) (sym (past_it n)))
 
@@ -381,7 +412,8 @@ answers_decide (Deposit n) text = Decides-like (answers (Deposit n) text) to (λ
     from (Register bytes) has is = absurd (cc has)
     from (Queue ns) has is = absurd (cc has)
     from (Table ps) has is = absurd (cc has)
-answers_decide (Set n) text = Decides-like (answers (Set n) text) (λ e. (Counter 0, refl, e)) (λ h. from h.0 h.1 h.2)
+    from (Gone c) has is = absurd (cc has)
+there_decide (Set n) text = Decides-like (answers_there (Set n) text) (λ e. (Counter 0, refl, e)) (λ h. from h.0 h.1 h.2)
     (word text (codes "done"))
   where
     from : (v : Value) → has_op (class_of v) (Set n) ≡ true → text ≡ answer_text (answer_of (Set n) v) → text ≡ codes "done"
@@ -390,7 +422,8 @@ answers_decide (Set n) text = Decides-like (answers (Set n) text) (λ e. (Counte
     from (Register bytes) has is = absurd (cc has)
     from (Queue ns) has is = absurd (cc has)
     from (Table ps) has is = absurd (cc has)
-answers_decide (Put bytes) text = Decides-like (answers (Put bytes) text) (λ e. (Register [], refl, e)) (λ h. from h.0 h.1 h.2)
+    from (Gone c) has is = absurd (cc has)
+there_decide (Put bytes) text = Decides-like (answers_there (Put bytes) text) (λ e. (Register [], refl, e)) (λ h. from h.0 h.1 h.2)
     (word text (codes "done"))
   where
     from : (v : Value) → has_op (class_of v) (Put bytes) ≡ true → text ≡ answer_text (answer_of (Put bytes) v) → text ≡ codes "done"
@@ -399,7 +432,8 @@ answers_decide (Put bytes) text = Decides-like (answers (Put bytes) text) (λ e.
     from (Account m) has is = absurd (cc has)
     from (Queue ns) has is = absurd (cc has)
     from (Table ps) has is = absurd (cc has)
-answers_decide (Withdraw n) text = Decides-like (answers (Withdraw n) text) to (λ h. from h.0 h.1 h.2)
+    from (Gone c) has is = absurd (cc has)
+there_decide (Withdraw n) text = Decides-like (answers_there (Withdraw n) text) to (λ h. from h.0 h.1 h.2)
     (Decides-or (bytes_eq text (codes "done")) (nat_lt 0 n && bytes_eq text (codes "short")) (word text (codes "done"))
     (Decides-and (nat_lt 0 n) (bytes_eq text (codes "short")) (Decides-ltb 0 n) (word text (codes "short"))))
   where
@@ -409,7 +443,7 @@ answers_decide (Withdraw n) text = Decides-like (answers (Withdraw n) text) to (
     more : (m n : ℕ) → nat_lt m n ≡ true → 0 < n
     more m n is = grind (arith, nat_tests, is)
 
-    to : (text ≡ codes "done") ⊎ ((0 < n) × (text ≡ codes "short")) → IsAnswerOf (Withdraw n) text
+    to : (text ≡ codes "done") ⊎ ((0 < n) × (text ≡ codes "short")) → IsAnswerThere (Withdraw n) text
     to (inl e) = (Account n, refl, e ∙ ap (λ b. answer_text (cond b Short Done)) (sym (itself n)))
     to (inr h) = (Account 0, refl, h.1 ∙ ap (λ b. answer_text (cond b Short Done)) (sym ((Decides-ltb 0 n).1 h.0)))
 
@@ -425,7 +459,8 @@ answers_decide (Withdraw n) text = Decides-like (answers (Withdraw n) text) to (
     from (Register bytes) has is = absurd (cc has)
     from (Queue ns) has is = absurd (cc has)
     from (Table ps) has is = absurd (cc has)
-answers_decide Len text = Decides-like (answers Len text) (λ h. (Queue (replicate h.0 0), refl, h.1 ∙ ap decimal (sym (length_of h.0))))
+    from (Gone c) has is = absurd (cc has)
+there_decide Len text = Decides-like (answers_there Len text) (λ h. (Queue (replicate h.0 0), refl, h.1 ∙ ap decimal (sym (length_of h.0))))
     (λ h. from h.0 h.1 h.2) (number_decides text)
   where
     from : (v : Value) → has_op (class_of v) Len ≡ true → text ≡ answer_text (answer_of Len v) → (n : ℕ) × (text ≡ decimal n)
@@ -434,10 +469,11 @@ answers_decide Len text = Decides-like (answers Len text) (λ h. (Queue (replica
     from (Register bytes) has is = absurd (cc has)
     from (Account m) has is = absurd (cc has)
     from (Table ps) has is = absurd (cc has)
-answers_decide (Push n) text = Decides-like (answers (Push n) text) to (λ h. from h.0 h.1 h.2)
+    from (Gone c) has is = absurd (cc has)
+there_decide (Push n) text = Decides-like (answers_there (Push n) text) to (λ h. from h.0 h.1 h.2)
     (Decides-or (bytes_eq text (codes "done")) (bytes_eq text (codes "full")) (word text (codes "done")) (word text (codes "full")))
   where
-    to : (text ≡ codes "done") ⊎ (text ≡ codes "full") → IsAnswerOf (Push n) text
+    to : (text ≡ codes "done") ⊎ (text ≡ codes "full") → IsAnswerThere (Push n) text
     to (inl e) = (Queue [], refl, e)
     to (inr e) = (Queue (replicate 32 0), refl, e)
 
@@ -452,9 +488,10 @@ answers_decide (Push n) text = Decides-like (answers (Push n) text) to (λ h. fr
     from (Register bytes) has is = absurd (cc has)
     from (Account m) has is = absurd (cc has)
     from (Table ps) has is = absurd (cc has)
-answers_decide Pop text = Decides-like (answers Pop text) to (λ h. from h.0 h.1 h.2) (either_decides text)
+    from (Gone c) has is = absurd (cc has)
+there_decide Pop text = Decides-like (answers_there Pop text) to (λ h. from h.0 h.1 h.2) (either_decides text)
   where
-    to : (text ≡ codes "none") ⊎ ((n : ℕ) × (text ≡ decimal n)) → IsAnswerOf Pop text
+    to : (text ≡ codes "none") ⊎ ((n : ℕ) × (text ≡ decimal n)) → IsAnswerThere Pop text
     to (inl e) = (Queue [], refl, e)
     to (inr h) = (Queue (h.0 ∷ []), refl, h.1)
 
@@ -466,9 +503,10 @@ answers_decide Pop text = Decides-like (answers Pop text) to (λ h. from h.0 h.1
     from (Register bytes) has is = absurd (cc has)
     from (Account m) has is = absurd (cc has)
     from (Table ps) has is = absurd (cc has)
-answers_decide (GetKey k) text = Decides-like (answers (GetKey k) text) to (λ h. from h.0 h.1 h.2) (either_decides text)
+    from (Gone c) has is = absurd (cc has)
+there_decide (GetKey k) text = Decides-like (answers_there (GetKey k) text) to (λ h. from h.0 h.1 h.2) (either_decides text)
   where
-    to : (text ≡ codes "none") ⊎ ((n : ℕ) × (text ≡ decimal n)) → IsAnswerOf (GetKey k) text
+    to : (text ≡ codes "none") ⊎ ((n : ℕ) × (text ≡ decimal n)) → IsAnswerThere (GetKey k) text
     to (inl e) = (Table [], refl, e)
     to (inr h) =
         (Table ((k, h.0) ∷ []), refl, h.1 ∙ ap (λ b. answer_text (number_or_nothing (cond b (Some h.0) None))) (sym (same_number k)))
@@ -480,9 +518,10 @@ answers_decide (GetKey k) text = Decides-like (answers (GetKey k) text) to (λ h
     from (Register bytes) has is = absurd (cc has)
     from (Account m) has is = absurd (cc has)
     from (Queue ns) has is = absurd (cc has)
-answers_decide (Remove k) text = Decides-like (answers (Remove k) text) to (λ h. from h.0 h.1 h.2) (either_decides text)
+    from (Gone c) has is = absurd (cc has)
+there_decide (Remove k) text = Decides-like (answers_there (Remove k) text) to (λ h. from h.0 h.1 h.2) (either_decides text)
   where
-    to : (text ≡ codes "none") ⊎ ((n : ℕ) × (text ≡ decimal n)) → IsAnswerOf (Remove k) text
+    to : (text ≡ codes "none") ⊎ ((n : ℕ) × (text ≡ decimal n)) → IsAnswerThere (Remove k) text
     to (inl e) = (Table [], refl, e)
     to (inr h) =
         (Table ((k, h.0) ∷ []), refl, h.1 ∙ ap (λ b. answer_text (number_or_nothing (cond b (Some h.0) None))) (sym (same_number k)))
@@ -494,13 +533,14 @@ answers_decide (Remove k) text = Decides-like (answers (Remove k) text) to (λ h
     from (Register bytes) has is = absurd (cc has)
     from (Account m) has is = absurd (cc has)
     from (Queue ns) has is = absurd (cc has)
-answers_decide (PutPair k v) text = Decides-like (answers (PutPair k v) text) to (λ h. from h.0 h.1 h.2)
+    from (Gone c) has is = absurd (cc has)
+there_decide (PutPair k v) text = Decides-like (answers_there (PutPair k v) text) to (λ h. from h.0 h.1 h.2)
     (Decides-or (bytes_eq text (codes "done")) (bytes_eq text (codes "full")) (word text (codes "done")) (word text (codes "full")))
   where
     full : is_full_for k (replicate 16 (suc k, 0)) ≡ true
     full = ap (λ o. if is_some o then false else nat_le 16 16) (none_there k 16)
 
-    to : (text ≡ codes "done") ⊎ (text ≡ codes "full") → IsAnswerOf (PutPair k v) text
+    to : (text ≡ codes "done") ⊎ (text ≡ codes "full") → IsAnswerThere (PutPair k v) text
     to (inl e) = (Table [], refl, e)
     to (inr e) = (Table (replicate 16 (suc k, 0)), refl, e ∙ ap (λ b. answer_text (cond b Full Done)) (sym full))
 
@@ -515,3 +555,71 @@ answers_decide (PutPair k v) text = Decides-like (answers (PutPair k v) text) to
     from (Register bytes) has is = absurd (cc has)
     from (Account m) has is = absurd (cc has)
     from (Queue ns) has is = absurd (cc has)
+    from (Gone c) has is = absurd (cc has)
+there_decide (Create w) text = Decides-like (answers_there (Create w) text) (λ h. (w, h.0, h.1 ∙ ap answer_text (sym (there w h.0))))
+    (λ h. from h.0 h.1 h.2) (of_class_decides w text (codes "there"))
+  where
+    there : (v : Value) → is_value_of (class_of v) v ≡ true → answer_of (Create w) v ≡ There
+    there (Gone c) is = absurd (cc is)
+    there _ is = refl
+
+    from : (v : Value) → has_op (class_of v) (Create w) ≡ true → text ≡ answer_text (answer_of (Create w) v) →
+        (is_value_of (class_of w) w ≡ true) × (text ≡ codes "there")
+    from (Gone c) has is = absurd (cc has)
+    from (Counter n) has is = (of_its_own class.Counter w has, is)
+    from (Register bytes) has is = (of_its_own class.Register w has, is)
+    from (Account n) has is = (of_its_own class.Account w has, is)
+    from (Queue ns) has is = (of_its_own class.Queue w has, is)
+    from (Table ps) has is = (of_its_own class.Table w has, is)
+there_decide Destroy text = Decides-like (answers_there Destroy text) (λ e. (Counter 0, refl, e)) (λ h. from h.0 h.1 h.2) (word text (codes "done"))
+  where
+    from : (v : Value) → has_op (class_of v) Destroy ≡ true → text ≡ answer_text (answer_of Destroy v) → text ≡ codes "done"
+    from (Gone c) has is = absurd (cc has)
+    from _ has is = is
+
+-- an operation but a create answers that the object is gone
+gone_word : (o : Op) (text : List ℕ) (k : Class) → has_op k o ≡ true → ((c : Class) → answer_of o (Gone c) ≡ answer.Gone) →
+    Decides (bytes_eq text (codes "gone")) (IsAnswerGone o text)
+gone_word o text k has all = Decides-like (bytes_eq text (codes "gone")) (λ e. (k, has, e ∙ ap answer_text (sym (all k))))
+    (λ h. h.2 ∙ ap answer_text (all h.0)) (word text (codes "gone"))
+
+gone_decide : (o : Op) (text : List ℕ) → Decides (answers_gone o text) (IsAnswerGone o text)
+gone_decide Get text = gone_word Get text class.Counter refl (λ c. refl)
+gone_decide (Add n) text = gone_word (Add n) text class.Counter refl (λ c. refl)
+gone_decide (Set n) text = gone_word (Set n) text class.Counter refl (λ c. refl)
+gone_decide (Put bytes) text = gone_word (Put bytes) text class.Register refl (λ c. refl)
+gone_decide (Deposit n) text = gone_word (Deposit n) text class.Account refl (λ c. refl)
+gone_decide (Withdraw n) text = gone_word (Withdraw n) text class.Account refl (λ c. refl)
+gone_decide Len text = gone_word Len text class.Queue refl (λ c. refl)
+gone_decide (Push n) text = gone_word (Push n) text class.Queue refl (λ c. refl)
+gone_decide Pop text = gone_word Pop text class.Queue refl (λ c. refl)
+gone_decide (GetKey k) text = gone_word (GetKey k) text class.Table refl (λ c. refl)
+gone_decide (PutPair k v) text = gone_word (PutPair k v) text class.Table refl (λ c. refl)
+gone_decide (Remove k) text = gone_word (Remove k) text class.Table refl (λ c. refl)
+gone_decide Destroy text = gone_word Destroy text class.Counter refl (λ c. refl)
+gone_decide (Create w) text = Decides-like (answers_gone (Create w) text) (λ h. (class_of w, h.0, h.1)) (λ h. (of_its_own h.0 w h.1, h.2))
+    (of_class_decides w text (codes "done"))
+
+pub answers_decide : (o : Op) (text : List ℕ) → Decides (answers o text) (IsAnswerOf o text)
+answers_decide o text = Decides-like (answers o text) (⊎_elim (λ t. there t.0 t.1 t.2) (λ g. (Gone g.0, g.1, g.2))) (λ h. from h.0 h.1 h.2)
+    (Decides-or (answers_there o text) (answers_gone o text) (there_decide o text) (gone_decide o text))
+  where
+    none : (o : Op) → has_op class.Gone o ≡ false
+    none Get = refl
+    none _ = refl
+
+    there : (v : Value) → has_op (class_of v) o ≡ true → text ≡ answer_text (answer_of o v) → IsAnswerOf o text
+    there (Gone c) has is = absurd (let e = sym (none o) ∙ has in cc e)
+    there (Counter n) has is = (Counter n, has, is)
+    there (Register bytes) has is = (Register bytes, has, is)
+    there (Account n) has is = (Account n, has, is)
+    there (Queue ns) has is = (Queue ns, has, is)
+    there (Table ps) has is = (Table ps, has, is)
+
+    from : (v : Value) → has_op (own_class v) o ≡ true → text ≡ answer_text (answer_of o v) → IsAnswerThere o text ⊎ IsAnswerGone o text
+    from (Gone c) has is = inr (c, has, is)
+    from (Counter n) has is = inl (Counter n, has, is)
+    from (Register bytes) has is = inl (Register bytes, has, is)
+    from (Account n) has is = inl (Account n, has, is)
+    from (Queue ns) has is = inl (Queue ns, has, is)
+    from (Table ps) has is = inl (Table ps, has, is)

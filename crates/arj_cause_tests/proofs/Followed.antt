@@ -13,10 +13,15 @@ use Rattle.std.proofs.lemmas.Bool.Decides.{Decides-and, Decides-eqb, Decides-lik
 use Rattle.std.proofs.lemmas.List.{append_assoc, append_cancel_left, append-nil, length-take, take-append-drop}
 use Rattle.std.proofs.lemmas.Slice.Eq.{bytes_eq-Decides}
 use Rattle.arj_base.proofs.Uids.{uid_is, uid_same}
+use Rattle.arj_base.specs.State.{class_code_of}
 use Rattle.arj_base.specs.Uid.{uid_eq}
+use Rattle.arj_base.specs.declared.state.Class.{Class}
+use Rattle.arj_base.specs.declared.state.Class.TheVariants as class
 use Rattle.arj_base.specs.declared.uid.Uid.{Uid}
 use Rattle.arj_class.specs.declared.op.Op.{Op}
-use Rattle.arj_class.specs.declared.op.Op.TheVariants.{Get, Add, Set, Put, Deposit, Withdraw, Len, Push, Pop, GetKey, PutPair, Remove}
+use Rattle.arj_class.specs.declared.op.Op.TheVariants.{Get, Add, Set, Put, Deposit, Withdraw, Len, Push, Pop, GetKey, PutPair, Remove, Create, Destroy}
+use Rattle.arj_class.specs.declared.value.Value.{Value}
+use Rattle.arj_class.specs.declared.value.Value.TheVariants as value
 use Rattle.arj_journal.specs.declared.body.Body.{Body}
 use Rattle.arj_journal.specs.declared.body.Body.TheVariants as body
 use Rattle.arj_journal.specs.declared.body.Cause.TheVariants as cause
@@ -33,7 +38,7 @@ use Rattle.arj_text.specs.Label.{name}
 use Rattle.arj_start.specs.Kinds.{is_serial}
 use Rattle.arj_start.specs.Start.{Start}
 use Rattle.arj_model.specs.Actions.{Act, acts, act_in}
-use Rattle.arj_model.specs.CauseSpans.{holds_in, is_call_of, is_doomed, is_include_of, same_op}
+use Rattle.arj_model.specs.CauseSpans.{holds_in, is_call_of, is_doomed, is_include_of, same_op, same_pairs, same_value}
 use Rattle.arj_model.specs.Follows.{Accepted, AnswerFits, AnswersFit, AreEnding, Follows, IsCallOf, IsIncludeOf, IsRefusedDoomed, Step}
 use Rattle.arj_model.specs.Follows.{is_behind_doom, is_ending, is_frame_limit, is_limited, label_doomed}
 use Rattle.arj_model.specs.Own.{AreAborted, AreGiveUps, Begins, BeginsBelow, BeginsCommit, Ends, IsFrameLimit, MayMeetLimit}
@@ -100,6 +105,45 @@ parent_same (Some a) = label_same a
 number_same : (n : ℕ) → (n == n) ≡ true
 number_same n = eq-eqb n n refl
 
+class_is : (c d : Class) → (class_code_of c == class_code_of d) ≡ true → c ≡ d
+class_is class.Entry class.Entry is = refl
+class_is class.Counter class.Counter is = refl
+class_is class.Register class.Register is = refl
+class_is class.Account class.Account is = refl
+class_is class.Queue class.Queue is = refl
+class_is class.Table class.Table is = refl
+class_is class.Gone class.Gone is = refl
+class_is c d is = absurd (cc is)
+
+pairs_are : (ps qs : List (ℕ × ℕ)) → same_pairs ps qs ≡ true → ps ≡ qs
+pairs_are [] [] is = refl
+pairs_are (p ∷ ps) (q ∷ qs) is =
+    let k = and_parts (p.0 == q.0) ((p.1 == q.1) && same_pairs ps qs) is in
+    let v = and_parts (p.1 == q.1) (same_pairs ps qs) k.1 in
+    λ i. (eqb-true p.0 q.0 k.0 i, eqb-true p.1 q.1 v.0 i) ∷ pairs_are ps qs v.1 i
+pairs_are ps qs is = absurd (cc is)
+
+pairs_same : (ps : List (ℕ × ℕ)) → same_pairs ps ps ≡ true
+pairs_same [] = refl
+pairs_same (p ∷ ps) = λ i. number_same p.0 i && (number_same p.1 i && pairs_same ps i)
+
+value_is : (v w : Value) → same_value v w ≡ true → v ≡ w
+value_is (value.Counter m) (value.Counter n) is = ap value.Counter (eqb-true m n is)
+value_is (value.Register m) (value.Register n) is = ap value.Register ((bytes_eq-Decides m n).0 is)
+value_is (value.Account m) (value.Account n) is = ap value.Account (eqb-true m n is)
+value_is (value.Queue m) (value.Queue n) is = ap value.Queue ((bytes_eq-Decides m n).0 is)
+value_is (value.Table m) (value.Table n) is = ap value.Table (pairs_are m n is)
+value_is (value.Gone c) (value.Gone d) is = ap value.Gone (class_is c d is)
+value_is v w is = absurd (cc is)
+
+value_same : (v : Value) → same_value v v ≡ true
+value_same (value.Counter m) = number_same m
+value_same (value.Register m) = bytes_same m
+value_same (value.Account m) = number_same m
+value_same (value.Queue m) = bytes_same m
+value_same (value.Table m) = pairs_same m
+value_same (value.Gone c) = number_same (class_code_of c)
+
 op_is : (a b : Op) → same_op a b ≡ true → a ≡ b
 op_is Get Get is = refl
 op_is (Add m) (Add n) is = ap Add (eqb-true m n is)
@@ -113,6 +157,8 @@ op_is Pop Pop is = refl
 op_is (GetKey m) (GetKey n) is = ap GetKey (eqb-true m n is)
 op_is (PutPair j m) (PutPair k n) is = let p = and_parts (j == k) (m == n) is in λ i. PutPair (eqb-true j k p.0 i) (eqb-true m n p.1 i)
 op_is (Remove m) (Remove n) is = ap Remove (eqb-true m n is)
+op_is (Create v) (Create w) is = ap Create (value_is v w is)
+op_is Destroy Destroy is = refl
 op_is a b is = absurd (cc is)
 
 op_same : (a : Op) → same_op a a ≡ true
@@ -128,6 +174,8 @@ op_same (Withdraw m) = number_same m
 op_same (Push m) = number_same m
 op_same (GetKey m) = number_same m
 op_same (Remove m) = number_same m
+op_same (Create v) = value_same v
+op_same Destroy = refl
 
 op_decides : (a b : Op) → Decides (same_op a b) (a ≡ b)
 op_decides a b = (op_is a b, λ e. ap (same_op a) (sym e) ∙ op_same a)

@@ -4,6 +4,7 @@ pub mod Rare
 pub mod Rarer
 mod Answers
 mod Followed
+mod Formats
 mod Halts
 mod Longer
 mod OtherEvents

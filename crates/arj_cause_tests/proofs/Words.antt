@@ -2,6 +2,7 @@
 use Rattle.std.specs.Prelude.{ℕ, zero, suc, ◌+◌, ◌-◌, Bool, List, [], ◌∷◌, ◌++◌, length, map, nat_le, replicate, refl, if◌then◌else◌}
 use Rattle.std.proofs.Common.{arith}
 use Rattle.arj_base.specs.declared.binding.Binding.{Binding}
+use Rattle.arj_base.specs.declared.state.Format.TheVariants as format
 use Rattle.arj_base.specs.declared.uid.Uid.{Uid}
 use Rattle.arj_class.specs.declared.value.Value.{Value}
 use Rattle.arj_text.specs.declared.label.Label.{Label}
@@ -32,9 +33,9 @@ b i k = record { inc = i; count = k }
 abbrev pub object_line : ℕ → Value → List ℕ → List ℕ → ObjectLine
 object_line x v servers stores = record { x = x; value = v; servers = servers; stores = stores }
 
--- a header of so many nodes
+-- a header of so many nodes, of states in format two
 abbrev pub nodes : ℕ → List ObjectLine → Header
-nodes n objects = record { nodes = n; objects = objects }
+nodes n objects = record { nodes = n; objects = objects; format = format.Two }
 
 -- an event with the lines that it wrote
 abbrev pub Wrote : Type 0

@@ -2,6 +2,7 @@
 use Rattle.std.specs.Prelude.{◌≡◌, refl, [], ◌∷◌, codes, true, Some, None}
 use Rattle.arj_base.specs.declared.mode.Mode.TheVariants.{Read, Exclude, Write}
 use Rattle.arj_base.specs.declared.mode.End.TheVariants.{Abort, Commit}
+use Rattle.arj_base.specs.declared.state.Class.TheVariants as class
 use Rattle.arj_class.specs.declared.op.Op.TheVariants as op
 use Rattle.arj_class.specs.declared.value.Value.TheVariants as value
 use Rattle.arj_journal.specs.declared.body.Body.TheVariants as body
@@ -464,3 +465,47 @@ serializing = run
 
 serializing_has_causes : lacking serializing ≡ []
 serializing_has_causes = refl
+
+-- an object that is gone at first comes, goes in a nested action that aborts, and goes again
+abbrev pub gone : Run
+gone = run
+    (nodes 1 (object_line 1 (value.Gone class.Counter) (1 ∷ []) (1 ∷ []) ∷ []))
+    ((event.Begin (l 65) 1, body.Began (l 65) kind.Top (u 1 1 1) None ∷ [])
+    ∷ (
+      event.Call (l 65) 1 op.Get,
+      body.Granted 1 (u 1 1 1) (u 0 1 1) Write ∷ body.Bound 1 (b 1 1) 1 ∷ body.Active 1 1 (b 1 1)
+          ∷ body.Lowered 1 (u 1 1 1) (u 0 1 1) ∷ body.Granted 1 (u 1 1 1) (u 0 0 1) Read ∷ body.Ok (l 65) 1 op.Get (codes "gone") ∷ [],
+    )
+    ∷ (event.Call (l 65) 1 (op.Create (value.Queue (1 ∷ []))), body.Refused 14 ∷ [])
+    ∷ (
+      event.Call (l 65) 1 (op.Create (value.Counter 7)),
+      body.Granted 1 (u 1 1 1) (u 0 0 1) Write ∷ body.Ok (l 65) 1 (op.Create (value.Counter 7)) (codes "done") ∷ [],
+    )
+    ∷ (event.BeginIn (l 78) (l 65), body.Began (l 78) kind.Nested (u 1 1 2) (Some (l 65)) ∷ [])
+    ∷ (event.Call (l 78) 1 op.Destroy, body.Granted 1 (u 1 1 2) (u 0 0 1) Write ∷ body.Ok (l 78) 1 op.Destroy (codes "done") ∷ [])
+    ∷ (event.Abort (l 78), body.Aborted (l 78) cause.Asked ∷ body.Told 1 (u 1 1 2) Abort part.Server ∷ [])
+    ∷ (event.Call (l 65) 1 (op.Create (value.Counter 9)), body.Ok (l 65) 1 (op.Create (value.Counter 9)) (codes "there") ∷ [])
+    ∷ (
+      event.Commit (l 65),
+      body.Committing (l 65) ∷ body.Prepared 1 (u 1 1 1) role.Store ∷ body.Committed (l 65)
+          ∷ body.Done 1 (u 1 1 1) role.Store Commit ∷ body.Told 1 (u 1 1 1) Commit part.Naming ∷ body.Told 1 (u 1 1 1) Commit part.Server
+          ∷ [],
+    )
+    ∷ (event.Show 1, body.Entry 1 0 (1 ∷ []) (1 ∷ []) ∷ body.Copy 1 1 1 (u 1 1 1) (0 ∷ 0 ∷ 0 ∷ 0 ∷ 0 ∷ 0 ∷ 0 ∷ 7 ∷ []) ∷ [])
+    ∷ (event.Begin (l 66) 1, body.Began (l 66) kind.Top (u 1 1 3) None ∷ [])
+    ∷ (
+      event.Call (l 66) 1 op.Destroy,
+      body.Granted 1 (u 1 1 3) (u 0 1 1) Read ∷ body.Granted 1 (u 1 1 3) (u 0 0 1) Write
+          ∷ body.Ok (l 66) 1 op.Destroy (codes "done") ∷ [],
+    )
+    ∷ (
+      event.Commit (l 66),
+      body.Committing (l 66) ∷ body.Prepared 1 (u 1 1 3) role.Store ∷ body.Committed (l 66)
+          ∷ body.Done 1 (u 1 1 3) role.Store Commit ∷ body.Told 1 (u 1 1 3) Commit part.Naming ∷ body.Told 1 (u 1 1 3) Commit part.Server
+          ∷ [],
+    )
+    ∷ (event.Show 1, body.Entry 1 0 (1 ∷ []) (1 ∷ []) ∷ body.Copy 1 1 2 (u 1 1 3) (1 ∷ []) ∷ [])
+    ∷ [])
+
+gone_has_causes : lacking gone ≡ []
+gone_has_causes = refl

@@ -3,13 +3,14 @@ use Rattle.std.specs.Prelude.{◌≡◌, refl, [], ◌∷◌, codes}
 use Rattle.arj_base.specs.declared.mode.Mode.TheVariants.{Read, Exclude, Write}
 use Rattle.arj_base.specs.declared.mode.End.TheVariants.{Abort}
 use Rattle.arj_class.specs.declared.op.Op.TheVariants as op
+use Rattle.arj_class.specs.declared.value.Value.TheVariants as value
 use Rattle.arj_journal.specs.declared.body.Body.TheVariants as body
 use Rattle.arj_journal.specs.declared.body.Cause.TheVariants as cause
 use Rattle.arj_journal.specs.declared.body.Difference.TheVariants as difference
 use Rattle.arj_journal.specs.declared.body.FrameKind.TheVariants as frame
 use Rattle.arj_journal.specs.declared.body.Role.TheVariants as role
 use Rattle.arj_cause_tests.proofs.Words.{l, u, b, lacking, without, instead, after, before}
-use Rattle.arj_cause_tests.proofs.Worked.{conflict, inclusion, independent, lost_lock, naming_stopped, nested_abort, rebinding}
+use Rattle.arj_cause_tests.proofs.Worked.{conflict, gone, inclusion, independent, lost_lock, naming_stopped, nested_abort, rebinding}
 use Rattle.arj_cause_tests.proofs.Worked.{sibling_waits}
 use Rattle.arj_cause_tests.proofs.Rare.{aborted_listed, changed_bind_naming}
 use Rattle.arj_cause_tests.proofs.Rarer.{changed_bind_server, changed_inc_naming, changed_inc_server, conflict_pending}
@@ -33,6 +34,9 @@ ok_5 = refl
 
 ok_6 : lacking (instead 33 (body.Sent 8 3 2 frame.Invoked) rebinding) ≡ 35 ∷ []
 ok_6 = refl
+
+ok_7 : lacking (instead 10 (body.Ok (l 65) 1 (op.Create (value.Counter 8)) (codes "done")) gone) ≡ 10 ∷ 24 ∷ []
+ok_7 = refl
 
 -- `includes`: another store, or no write lock on the entry.
 

@@ -2,6 +2,7 @@
 use Rattle.std.specs.Prelude.{◌<◌, ◌^◌, ◌≡◌, refl, ◌∷◌, ◌++◌, [], codes, false, true, None, take, drop}
 use Rattle.std.proofs.Common.{arith, sym, ◌∙◌}
 use Rattle.arj_class.specs.declared.op.Op.TheVariants as op
+use Rattle.arj_class.specs.declared.value.Value.TheVariants as value
 use Rattle.arj_journal.specs.LineForm.{BodyInForm}
 use Rattle.arj_journal.specs.declared.body.Body.TheVariants as body
 use Rattle.arj_journal.specs.declared.body.FrameKind.TheVariants as frame
@@ -16,6 +17,7 @@ use Rattle.arj_start.specs.Start.{fresh}
 use Rattle.arj_cause_tests.specs.Followed.{follows}
 use Rattle.arj_cause_tests.proofs.Followed.{follows_decides}
 use Rattle.arj_cause_tests.proofs.Words.{Run, after, before, events, instead, is_followed, journal, l, run, u}
+use Rattle.arj_cause_tests.proofs.Worked.{gone}
 use Rattle.arj_cause_tests.proofs.WrongEvents.{begins, increment, two_nodes}
 
 -- what the test says is so
@@ -147,3 +149,19 @@ halt_behind = refl
 -- a number that has no 64 bits isn't in form
 too_great : BodyInForm (body.Ok (l 65) 1 (op.Add 18446744073709551616) (codes "done")) → ⊥
 too_great f = let less : 18446744073709551616 < 2 ^ 64 = f.2 in omega (arith, less)
+
+-- An object comes and goes. It comes with no value of another class, with the value that was called, and says of itself there or done.
+gone_followed : is_followed gone ≡ true
+gone_followed = refl
+
+other_class : is_followed (instead 8 (body.Ok (l 65) 1 (op.Create (value.Queue (1 ∷ []))) (codes "done")) gone) ≡ false
+other_class = refl
+
+other_value : is_followed (instead 10 (body.Ok (l 65) 1 (op.Create (value.Counter 8)) (codes "done")) gone) ≡ false
+other_value = refl
+
+no_create_is_gone : is_followed (instead 10 (body.Ok (l 65) 1 (op.Create (value.Counter 7)) (codes "gone")) gone) ≡ false
+no_create_is_gone = refl
+
+no_destroy_is_there : is_followed (instead 13 (body.Ok (l 78) 1 op.Destroy (codes "there")) gone) ≡ false
+no_destroy_is_there = refl

@@ -1,8 +1,9 @@
 -- Which texts answer an operation, as tests that compute.
 use Rattle.std.specs.Prelude.{ℕ, zero, suc, List, [], ◌∷◌, codes, Bool, true, false, ◌==◌, ◌&&◌, ◌||◌, not, nat_le, nat_lt}
 use Rattle.std.specs.Str.{bytes_eq}
+use Rattle.arj_class.specs.Table.{class_of, is_value_of}
 use Rattle.arj_class.specs.declared.op.Op.{Op}
-use Rattle.arj_class.specs.declared.op.Op.TheVariants.{Get, Add, Set, Put, Deposit, Withdraw, Len, Push, Pop, GetKey, PutPair, Remove}
+use Rattle.arj_class.specs.declared.op.Op.TheVariants.{Get, Add, Set, Put, Deposit, Withdraw, Len, Push, Pop, GetKey, PutPair, Remove, Create, Destroy}
 use Rattle.arj_text.specs.Label.{is_digit}
 
 -- the list is empty
@@ -43,17 +44,28 @@ abbrev pub is_hex : List ℕ → Bool
 is_hex [] = false
 is_hex (d ∷ rest) = bytes_eq (d ∷ rest) (codes "-") || are_pairs (d ∷ rest)
 
--- the text is one that the operation answers at some value of a class that has it
+-- the text is one that the operation answers at some object that is there, of a class that has it
+abbrev pub answers_there : Op → List ℕ → Bool
+answers_there Get text = is_number text || is_hex text
+answers_there (Add n) text = (nat_lt n 18446744073709551616 && bytes_eq text (codes "done")) || bytes_eq text (codes "over")
+answers_there (Set n) text = bytes_eq text (codes "done")
+answers_there (Put bytes) text = bytes_eq text (codes "done")
+answers_there (Deposit n) text = (nat_lt n 18446744073709551616 && bytes_eq text (codes "done")) || bytes_eq text (codes "over")
+answers_there (Withdraw n) text = bytes_eq text (codes "done") || (nat_lt 0 n && bytes_eq text (codes "short"))
+answers_there Len text = is_number text
+answers_there (Push n) text = bytes_eq text (codes "done") || bytes_eq text (codes "full")
+answers_there Pop text = bytes_eq text (codes "none") || is_number text
+answers_there (GetKey k) text = bytes_eq text (codes "none") || is_number text
+answers_there (PutPair k v) text = bytes_eq text (codes "done") || bytes_eq text (codes "full")
+answers_there (Remove k) text = bytes_eq text (codes "none") || is_number text
+answers_there (Create v) text = is_value_of (class_of v) v && bytes_eq text (codes "there")
+answers_there Destroy text = bytes_eq text (codes "done")
+
+-- the text is the one that it answers where the object is gone
+abbrev pub answers_gone : Op → List ℕ → Bool
+answers_gone (Create v) text = is_value_of (class_of v) v && bytes_eq text (codes "done")
+answers_gone op text = bytes_eq text (codes "gone")
+
+-- the text is one that the operation answers at some object of a class that has it
 abbrev pub answers : Op → List ℕ → Bool
-answers Get text = is_number text || is_hex text
-answers (Add n) text = (nat_lt n 18446744073709551616 && bytes_eq text (codes "done")) || bytes_eq text (codes "over")
-answers (Set n) text = bytes_eq text (codes "done")
-answers (Put bytes) text = bytes_eq text (codes "done")
-answers (Deposit n) text = (nat_lt n 18446744073709551616 && bytes_eq text (codes "done")) || bytes_eq text (codes "over")
-answers (Withdraw n) text = bytes_eq text (codes "done") || (nat_lt 0 n && bytes_eq text (codes "short"))
-answers Len text = is_number text
-answers (Push n) text = bytes_eq text (codes "done") || bytes_eq text (codes "full")
-answers Pop text = bytes_eq text (codes "none") || is_number text
-answers (GetKey k) text = bytes_eq text (codes "none") || is_number text
-answers (PutPair k v) text = bytes_eq text (codes "done") || bytes_eq text (codes "full")
-answers (Remove k) text = bytes_eq text (codes "none") || is_number text
+answers op text = answers_there op text || answers_gone op text

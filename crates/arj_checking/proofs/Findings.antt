@@ -34,7 +34,7 @@ use Rattle.arj_script.specs.Input.{AtEnd, lines_of}
 -- ---- where reading ended
 
 long_in : (b : Bool) (given : Input) (done : List (List ℕ)) (parts : Parts) → IsIn b done parts →
-    IsPastLine given done (if b then 1100 else 200) → IsBadIn (half_in b) given done why.TooLong
+    IsPastLine given done (if b then 1100 else 500) → IsBadIn (half_in b) given done why.TooLong
 long_in false given done parts is past = (parts.reader, parts.header, is.0, past)
 long_in true given done parts is past = (is.0, parts.journal, is.2, past)
 

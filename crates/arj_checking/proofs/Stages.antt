@@ -7,11 +7,10 @@ use Rattle.arj_checking.specs.Taking.{IsAt, IsIn, header_after}
 use Rattle.arj_checking.specs.declared.parts.Parts.{Parts}
 use Rattle.arj_journal.specs.declared.body.Line.{Line}
 use Rattle.arj_journal.specs.declared.header.Header.{Header}
-use Rattle.arj_journal.specs.declared.header.ObjectLine.{ObjectLine}
 use Rattle.arj_loop.specs.Forms.{HaveForms}
 use Rattle.arj_loop.specs.Input.{header_from}
 use Rattle.arj_loop.proofs.Steps.{have_forms_more, header_stays, header_then}
-use Rattle.arj_script.specs.Grammar.{Asks, Blank, Form, HasForm, Nodes, Object, Objects, Place, Run, Running, Start, next_place}
+use Rattle.arj_script.specs.Grammar.{Asks, Blank, Form, FormatOne, HasForm, Nodes, Object, Objects, Place, Run, Running, Start, begun, next_place}
 use Rattle.arj_script.specs.Input.{Tells}
 use Rattle.arj_script.specs.declared.reader.Item.{Item}
 use Rattle.arj_script.specs.declared.reader.Item.TheVariants as item
@@ -19,27 +18,29 @@ use Rattle.arj_script.specs.declared.reader.Item.TheVariants as item
 not_start : Start ≡ Running → ⊥
 not_start e = cc
 
-not_objects : (n : ℕ) (os : List ObjectLine) → Objects n os ≡ Running → ⊥
-not_objects n os e = cc
+not_objects : (g : Header) → Objects g ≡ Running → ⊥
+not_objects g e = cc
 
 -- the header that one form more ends, where none was ended
 abbrev NextHeader : Place → Form → Option Header → Type 0
 NextHeader place form None = (next_place place form ≡ Running → ⊥) × (header_from place (form ∷ []) ≡ None)
-NextHeader place form (Some h) = (next_place place form ≡ Running) × (header_from place (form ∷ []) ≡ Some (h.nodes, h.objects))
+NextHeader place form (Some h) = (next_place place form ≡ Running) × (header_from place (form ∷ []) ≡ Some h)
 
 none_step : (place : Place) (line : List ℕ) (form : Form) (i : Item) → (place ≡ Running → ⊥) → HasForm place line form →
     Tells place form i → NextHeader place form (header_after i None)
 none_step Running line form i never h t = absurd (never refl)
 none_step Start line (Object o) i never h t = absurd h.fits
+none_step Start line FormatOne i never h t = absurd h.fits
 none_step Start line Run i never h t = absurd h.fits
 none_step Start line (Asks e) i never h t = absurd h.fits
-none_step (Objects n os) line (Nodes m) i never h t = absurd h.fits
-none_step (Objects n os) line (Asks e) i never h t = absurd h.fits
+none_step (Objects g) line (Nodes m) i never h t = absurd h.fits
+none_step (Objects g) line (Asks e) i never h t = absurd h.fits
 none_step Start line Blank item.Blank never h t = (not_start, refl)
-none_step Start line (Nodes n) item.Part never h t = (not_objects n [], refl)
-none_step (Objects n os) line Blank item.Blank never h t = (not_objects n os, refl)
-none_step (Objects n os) line (Object o) item.Part never h t = (not_objects n _, refl)
-none_step (Objects n os) line Run (item.Run header) never h t = (refl, λ j. Some (sym t.0 j, sym t.1 j))
+none_step Start line (Nodes n) item.Part never h t = (not_objects (begun n), refl)
+none_step (Objects g) line Blank item.Blank never h t = (not_objects g, refl)
+none_step (Objects g) line (Object o) item.Part never h t = (not_objects _, refl)
+none_step (Objects g) line FormatOne item.Part never h t = (not_objects _, refl)
+none_step (Objects g) line Run (item.Run header) never h t = (refl, ap Some (sym t))
 none_step place line form i never h t = absurd t
 
 -- or where one was
@@ -47,6 +48,7 @@ some_step : (line : List ℕ) (form : Form) (i : Item) (header : Header) → Has
     (next_place Running form ≡ Running) × (header_after i (Some header) ≡ Some header)
 some_step line (Nodes m) i header h t = absurd h.fits
 some_step line (Object o) i header h t = absurd h.fits
+some_step line FormatOne i header h t = absurd h.fits
 some_step line Run i header h t = absurd h.fits
 some_step line Blank item.Blank header h t = (refl, refl)
 some_step line (Asks e) (item.Event told) header h t = (refl, refl)
@@ -64,7 +66,7 @@ header_more lines forms place line form i None read has told is =
     carry forms place form (header_after i None) (header_then Start forms (form ∷ []) lines place read is.1) (none_step place line form i is.0 has told)
 header_more lines forms place line form i (Some h) read has told is =
     let step = some_step line form i h (subst (λ p. HasForm p line form) is.0 has) (subst (λ p. Tells p form i) is.0 told) in
-    subst (λ o. HeaderIs (forms ++ form ∷ []) (next_place place form) o) (sym step.1) (ap (λ p. next_place p form) is.0 ∙ step.0, header_stays Start forms (form ∷ []) (h.nodes, h.objects) is.1)
+    subst (λ o. HeaderIs (forms ++ form ∷ []) (next_place place form) o) (sym step.1) (ap (λ p. next_place p form) is.0 ∙ step.0, header_stays Start forms (form ∷ []) h is.1)
 
 -- what the reader says of a line that it takes
 abbrev pub Taken : Place → List ℕ → Item → Place → Type 0

@@ -33,7 +33,7 @@ use Rattle.arj_script.specs.declared.limits.TheConstants.{LINE_BYTES, SCRIPT_LIN
 abbrev pub IsWhole : Input → Header → List Line → Type 0
 IsWhole given header journal = (given.stopped ≡ AtEnd) × HasJournal (lines_of AtEnd given.came) header journal
 
--- The line behind these lines of a script is bad: it is longer than 200 bytes, or it is no line of a script at its place, nor,
+-- The line behind these lines of a script is bad: it is longer than 500 bytes, or it is no line of a script at its place, nor,
 -- behind `run`, the line `journal`; or the input ended, and there is no such line.
 abbrev pub IsBadInScript : Input → List (List ℕ) → BadLine → Type 0
 IsBadInScript given done why.TooLong =

@@ -13,7 +13,7 @@ use Rattle.arj_script.specs.declared.limits.TheConstants.{SCRIPT_LINES}
 -- the header that these forms end: there is one exactly behind `run`
 abbrev pub HeaderIs : List Form → Place → Option Header → Type 0
 HeaderIs forms place None = (place ≡ Running → ⊥) × (header_from Start forms ≡ None)
-HeaderIs forms place (Some h) = (place ≡ Running) × (header_from Start forms ≡ Some (h.nodes, h.objects))
+HeaderIs forms place (Some h) = (place ≡ Running) × (header_from Start forms ≡ Some h)
 
 -- These lines are the front of a script, up to a place, with the header that it has once `run` was read.
 pub record IsScript (lines : List (List ℕ)) (place : Place) (header : Option Header) : Type 0 where

@@ -1,5 +1,5 @@
 -- Payloads are long as their values, and give them back.
-use Rattle.std.proofs.Common.{◌≡◌, ℕ, ◌*◌, ◌^◌, ◌<◌, ◌≤◌, List, [], ◌∷◌, ◌++◌, length, take, drop, refl, sym, ◌∙◌, ap, subst, arith}
+use Rattle.std.proofs.Common.{◌≡◌, ℕ, suc, true, ◌*◌, get_or, ◌^◌, ◌<◌, ◌≤◌, List, [], ◌∷◌, ◌++◌, length, take, drop, refl, sym, ◌∙◌, ap, subst, arith}
 use Rattle.std.specs.Int.{w64, from_be_bytes}
 use Rattle.std.specs.List.{flat_map}
 use Rattle.std.proofs.lemmas.List.{length-append, append_assoc, append-nil, flat_map_more}
@@ -7,9 +7,12 @@ use Rattle.std.proofs.lemmas.Nat.{from_be_bytes-to_be_bytes_8}
 use Rattle.byteorder.specs.Endian.{big_bytes}
 use Rattle.arj_class.specs.Forms.{NumbersFit, PairsFit, ValueInForm, payload_of}
 use Rattle.arj_class.specs.Table.{class_of}
+use Rattle.arj_base.specs.State.{class_code_of, is_object_class}
+use Rattle.arj_base.specs.declared.state.Class.{Class}
+use Rattle.arj_base.specs.declared.state.Class.TheVariants as class
 use Rattle.arj_class.specs.Keys.{KeysAbove, KeysBelow, KeysRise, pair_bytes}
 use Rattle.arj_class.specs.declared.value.Value.{Value}
-use Rattle.arj_class.specs.declared.value.Value.TheVariants.{Counter, Register, Account, Queue, Table}
+use Rattle.arj_class.specs.declared.value.Value.TheVariants.{Counter, Register, Account, Queue, Table, Gone}
 
 -- a number takes eight bytes, a pair sixteen
 pub length_numbers : (ns : List ℕ) → length (flat_map (big_bytes 8) ns) ≡ 8 * length ns
@@ -27,6 +30,12 @@ short_payload (Register bytes) form = omega (arith, form)
 short_payload (Account n) form = omega arith
 short_payload (Queue ns) form = omega (arith, length_numbers ns, form.0)
 short_payload (Table ps) form = omega (arith, length_pairs ps, form.0)
+short_payload (Gone c) form = omega arith
+
+-- numbers that fit one by one fit
+pub each_fits : (ns : List ℕ) → ((i : ℕ) → get_or ns i 0 < 18446744073709551616) → NumbersFit ns
+each_fits [] fit = tt
+each_fits (n ∷ ns) fit = (fit 0, each_fits ns (λ i. fit (suc i)))
 
 pub numbers_fit_append : (ns ms : List ℕ) → NumbersFit ns → NumbersFit ms → NumbersFit (ns ++ ms)
 numbers_fit_append [] ms fit more = more
@@ -138,30 +147,21 @@ no_table_unsorted ps p payload rest behind is more fit fit2 unsorted w form same
     let found = pairs_front (ps ++ p ∷ []) w behind (pairs_fit_append ps (p ∷ []) fit fit2) form.2 (same ∙ whole) in
     unsorted (below_in ps p found.0 (subst KeysRise (found.1 ∙ append_assoc ps (p ∷ []) found.0) form.1))
 
+-- classes of objects have a code each
+class_once : (c d : Class) → is_object_class c ≡ true → is_object_class d ≡ true → class_code_of c ∷ [] ≡ class_code_of d ∷ [] → c ≡ d
+class_once class.Counter class.Counter form form2 same = refl
+class_once class.Register class.Register form form2 same = refl
+class_once class.Account class.Account form form2 same = refl
+class_once class.Queue class.Queue form form2 same = refl
+class_once class.Table class.Table form form2 same = refl
+class_once _ _ form form2 same = cc
+
 -- values of one class with one payload are one value
 pub value_once : (v w : Value) → class_of v ≡ class_of w → ValueInForm v → ValueInForm w → payload_of v ≡ payload_of w → v ≡ w
 value_once (Counter n) (Counter m) class form form2 same = λ i. Counter ((same_number n m [] [] form form2 same).0 i)
-value_once (Counter n) (Register bytes2) class form form2 same = cc
-value_once (Counter n) (Account m) class form form2 same = cc
-value_once (Counter n) (Queue ms) class form form2 same = cc
-value_once (Counter n) (Table qs) class form form2 same = cc
-value_once (Register bytes) (Counter m) class form form2 same = cc
 value_once (Register bytes) (Register bytes2) class form form2 same = λ i. Register (same i)
-value_once (Register bytes) (Account m) class form form2 same = cc
-value_once (Register bytes) (Queue ms) class form form2 same = cc
-value_once (Register bytes) (Table qs) class form form2 same = cc
-value_once (Account n) (Counter m) class form form2 same = cc
-value_once (Account n) (Register bytes2) class form form2 same = cc
 value_once (Account n) (Account m) class form form2 same = λ i. Account ((same_number n m [] [] form form2 same).0 i)
-value_once (Account n) (Queue ms) class form form2 same = cc
-value_once (Account n) (Table qs) class form form2 same = cc
-value_once (Queue ns) (Counter m) class form form2 same = cc
-value_once (Queue ns) (Register bytes2) class form form2 same = cc
-value_once (Queue ns) (Account m) class form form2 same = cc
 value_once (Queue ns) (Queue ms) class form form2 same = λ i. Queue (numbers_once ns ms form.1 form2.1 same i)
-value_once (Queue ns) (Table qs) class form form2 same = cc
-value_once (Table ps) (Counter m) class form form2 same = cc
-value_once (Table ps) (Register bytes2) class form form2 same = cc
-value_once (Table ps) (Account m) class form form2 same = cc
-value_once (Table ps) (Queue ms) class form form2 same = cc
 value_once (Table ps) (Table qs) class form form2 same = λ i. Table (pairs_once ps qs form.2 form2.2 same i)
+value_once (Gone c) (Gone d) class form form2 same = λ i. Gone (class_once c d form form2 same i)
+value_once _ _ class form form2 same = cc

@@ -3,41 +3,70 @@ use Rattle.std.specs.Prelude.{ℕ, ◌+◌, ◌-◌, List, [], ◌∷◌, ◌++�
 use Rattle.std.specs.Prelude.{Some, None, is_some}
 use Rattle.arj_base.specs.declared.mode.Mode.{Mode}
 use Rattle.arj_base.specs.declared.mode.Mode.TheVariants.{Read, Write}
+use Rattle.arj_base.specs.State.{is_object_class}
 use Rattle.arj_base.specs.declared.state.Class.{Class}
 use Rattle.arj_base.specs.declared.state.Class.TheVariants as class
 use Rattle.arj_class.specs.declared.limits.TheConstants.{QUEUE_NUMBERS, TABLE_PAIRS}
 use Rattle.arj_class.specs.declared.op.Op.{Op}
-use Rattle.arj_class.specs.declared.op.Op.TheVariants.{Get, Add, Set, Put, Deposit, Withdraw, Len, Push, Pop, GetKey, PutPair, Remove}
+use Rattle.arj_class.specs.declared.op.Op.TheVariants.{Get, Add, Set, Put, Deposit, Withdraw, Len, Push, Pop, GetKey, PutPair, Remove, Create, Destroy}
 use Rattle.arj_class.specs.declared.op.Answer.{Answer}
-use Rattle.arj_class.specs.declared.op.Answer.TheVariants.{Done, Number, Text, Over, Short, Full, Nothing}
+use Rattle.arj_class.specs.declared.op.Answer.TheVariants.{Done, Number, Text, Over, Short, Full, Nothing, There}
+use Rattle.arj_class.specs.declared.op.Answer.TheVariants as answer
 use Rattle.arj_class.specs.declared.value.Value.{Value}
 use Rattle.arj_class.specs.declared.value.Value.TheVariants.{Counter, Register, Account, Queue, Table}
+use Rattle.arj_class.specs.declared.value.Value.TheVariants as value
 
--- the class of a value
+-- the class of a value, as its packed state says it: that of a gone object says that it is gone
 abbrev pub class_of : Value → Class
 class_of (Counter n) = class.Counter
 class_of (Register bytes) = class.Register
 class_of (Account n) = class.Account
 class_of (Queue ns) = class.Queue
 class_of (Table ps) = class.Table
+class_of (value.Gone c) = class.Gone
 
--- whether the class has the operation
+-- the class of the object with this value, which it has while it is gone too
+abbrev pub own_class : Value → Class
+own_class (value.Gone c) = c
+own_class v = class_of v
+
+-- the object is gone
+abbrev pub is_gone : Value → Bool
+is_gone (value.Gone c) = true
+is_gone _ = false
+
+-- the value is of this class, and not gone
+abbrev pub is_value_of : Class → Value → Bool
+is_value_of class.Counter (Counter n) = true
+is_value_of class.Register (Register bytes) = true
+is_value_of class.Account (Account n) = true
+is_value_of class.Queue (Queue ns) = true
+is_value_of class.Table (Table ps) = true
+is_value_of _ _ = false
+
+-- whether the class has the operation of its own: no class has those by which its objects come and go
+abbrev pub class_has_op : Class → Op → Bool
+class_has_op class.Counter Get = true
+class_has_op class.Counter (Add n) = true
+class_has_op class.Counter (Set n) = true
+class_has_op class.Register Get = true
+class_has_op class.Register (Put bytes) = true
+class_has_op class.Account Get = true
+class_has_op class.Account (Deposit n) = true
+class_has_op class.Account (Withdraw n) = true
+class_has_op class.Queue Len = true
+class_has_op class.Queue (Push n) = true
+class_has_op class.Queue Pop = true
+class_has_op class.Table (GetKey k) = true
+class_has_op class.Table (PutPair k v) = true
+class_has_op class.Table (Remove k) = true
+class_has_op _ _ = false
+
+-- whether objects of the class have the operation: it comes with a value of its class
 abbrev pub has_op : Class → Op → Bool
-has_op class.Counter Get = true
-has_op class.Counter (Add n) = true
-has_op class.Counter (Set n) = true
-has_op class.Register Get = true
-has_op class.Register (Put bytes) = true
-has_op class.Account Get = true
-has_op class.Account (Deposit n) = true
-has_op class.Account (Withdraw n) = true
-has_op class.Queue Len = true
-has_op class.Queue (Push n) = true
-has_op class.Queue Pop = true
-has_op class.Table (GetKey k) = true
-has_op class.Table (PutPair k v) = true
-has_op class.Table (Remove k) = true
-has_op _ _ = false
+has_op c (Create v) = is_value_of c v
+has_op c Destroy = is_object_class c
+has_op c op = class_has_op c op
 
 -- Reading takes a read lock; everything else a write lock, also where it changes nothing.
 abbrev pub op_mode : Op → Mode
@@ -46,7 +75,11 @@ op_mode Len = Read
 op_mode (GetKey k) = Read
 op_mode _ = Write
 
--- the lock mode of an operation on objects of a class, none where the class lacks it
+-- the lock mode of an operation of the class itself, none where the class lacks it
+abbrev pub class_mode_of : Class → Op → Option Mode
+class_mode_of c op = if class_has_op c op then Some (op_mode op) else None
+
+-- the lock mode of an operation on objects of the class, none where they lack it
 abbrev pub mode_of : Class → Op → Option Mode
 mode_of c op = if has_op c op then Some (op_mode op) else None
 
@@ -84,8 +117,13 @@ abbrev pub behind_front : List ℕ → List ℕ
 behind_front [] = []
 behind_front (n ∷ ns) = ns
 
--- What the operation answers. At a value of a class that lacks it the definition says nothing of use.
+-- What the operation answers: at an object that is gone only that it is, but where it comes; at one that is there `create`
+-- answers so. At a value of a class that lacks the operation the definition says nothing of use.
 abbrev pub answer_of : Op → Value → Answer
+answer_of (Create w) (value.Gone c) = Done
+answer_of op (value.Gone c) = answer.Gone
+answer_of (Create w) v = There
+answer_of Destroy v = Done
 answer_of Get (Counter m) = Number m
 answer_of (Add n) (Counter m) = if nat_lt (m + n) 18446744073709551616 then Done else Over
 answer_of (Set n) (Counter m) = Done
@@ -102,8 +140,10 @@ answer_of (PutPair k v) (Table ps) = if is_full_for k ps then Full else Done
 answer_of (Remove k) (Table ps) = number_or_nothing (value_at k ps)
 answer_of _ _ = Nothing
 
--- The value after the operation.
+-- The value after the operation. An object comes with a value of its own class alone.
 abbrev pub value_after : Op → Value → Value
+value_after (Create w) (value.Gone c) = if is_value_of c w then w else value.Gone c
+value_after Destroy v = value.Gone (own_class v)
 value_after (Add n) (Counter m) = if nat_lt (m + n) 18446744073709551616 then Counter (m + n) else Counter m
 value_after (Set n) (Counter m) = Counter n
 value_after (Put new) (Register bytes) = Register new

@@ -1,11 +1,12 @@
 // A balance that is deposited to and withdrawn from.
 ghost use Rattle.std.specs.Prelude.{◌≡◌, refl};
 ghost use Rattle.arj_base.specs.declared.state.Class.TheVariants as class_variant;
+ghost use Rattle.arj_class.specs.Forms.{ValueInForm};
 ghost use Rattle.arj_class.specs.declared.value.Value.TheVariants as variant;
 
-use crate::payload::{put_number, take_number};
+use crate::payload::{numbers_fit, put_number, take_number};
 use crate::{Answer, ApplyFault, ClassFault, ObjectClass, Op};
-use arj_base::{Bytes, Mode};
+use arj_base::{Bytes, Format, Mode};
 use std::alloc::{AllocError, Global};
 use std::marker::Model;
 
@@ -45,6 +46,13 @@ impl Account {
         Account {
             balance: self.balance,
         }
+    }
+
+    /// It is in form. It does nothing when it runs.
+    pub(crate) fn in_form(&self)
+        ensures { ValueInForm (variant.Account self.now) }
+    {
+        numbers_fit(&[self.balance]);
     }
 }
 
@@ -88,7 +96,7 @@ impl ObjectClass for Account {
         Ok(payload)
     }
 
-    fn restore_state(_: Global, payload: &[u8]) -> Result<Account, ClassFault> {
+    fn restore_state(_: Global, _: Format, payload: &[u8]) -> Result<Account, ClassFault> {
         match take_number(payload) {
             Some((balance, [])) => Ok(Account { balance }),
             _ => Err(ClassFault::Payload),

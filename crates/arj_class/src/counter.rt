@@ -1,11 +1,12 @@
 // A number that is added to and set.
 ghost use Rattle.std.specs.Prelude.{◌≡◌, refl};
 ghost use Rattle.arj_base.specs.declared.state.Class.TheVariants as class_variant;
+ghost use Rattle.arj_class.specs.Forms.{ValueInForm};
 ghost use Rattle.arj_class.specs.declared.value.Value.TheVariants as variant;
 
-use crate::payload::{put_number, take_number};
+use crate::payload::{numbers_fit, put_number, take_number};
 use crate::{Answer, ApplyFault, ClassFault, ObjectClass, Op};
-use arj_base::{Bytes, Mode};
+use arj_base::{Bytes, Format, Mode};
 use std::alloc::{AllocError, Global};
 use std::marker::Model;
 
@@ -46,6 +47,13 @@ impl Counter {
             number: self.number,
         }
     }
+
+    /// It is in form. It does nothing when it runs.
+    pub(crate) fn in_form(&self)
+        ensures { ValueInForm (variant.Counter self.now) }
+    {
+        numbers_fit(&[self.number]);
+    }
 }
 
 impl ObjectClass for Counter {
@@ -85,7 +93,7 @@ impl ObjectClass for Counter {
         Ok(payload)
     }
 
-    fn restore_state(_: Global, payload: &[u8]) -> Result<Counter, ClassFault> {
+    fn restore_state(_: Global, _: Format, payload: &[u8]) -> Result<Counter, ClassFault> {
         match take_number(payload) {
             Some((number, [])) => Ok(Counter { number }),
             _ => Err(ClassFault::Payload),

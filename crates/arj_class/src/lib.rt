@@ -1,5 +1,5 @@
 //! What users store: the operations and answers of five classes (counter, register, account, queue and table), and
-//! values of them.
+//! values of them, also of objects that are gone.
 //!
 //! It stands on `arj_base`. What it gives upward: `Value::mode` and `Value::apply` are the class table of
 //! `specs/Table.antt`, one case for each row of it, and a read operation changes nothing.
@@ -7,6 +7,7 @@
 
 mod account;
 mod counter;
+mod gone;
 mod laws;
 mod limits;
 mod object_class;
@@ -19,11 +20,12 @@ mod value;
 
 pub use account::Account;
 pub use counter::Counter;
+pub use gone::Gone;
 pub use laws::{operations_keep, payloads_tell_values_apart};
-pub use limits::{QUEUE_NUMBERS, REGISTER_BYTES, TABLE_PAIRS};
+pub use limits::{QUEUE_NUMBERS, REGISTER_BYTES, REGISTER_BYTES_ONE, TABLE_PAIRS};
 pub use object_class::{ClassFault, ObjectClass};
 pub use op::{Answer, ApplyFault, Op};
 pub use queue::Queue;
-pub use register::Register;
+pub use register::{Register, register_bytes};
 pub use table::Table;
 pub use value::Value;

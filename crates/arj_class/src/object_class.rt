@@ -5,11 +5,11 @@ ghost use Rattle.arj_base.specs.declared.state.Class.{Class};
 ghost use Rattle.arj_class.specs.declared.value.Value.{Value};
 ghost use Rattle.arj_class.specs.declared.object_class.ClassFault.TheVariants.{Payload};
 ghost use Rattle.arj_class.specs.declared.op.ApplyFault.TheVariants.{WrongOp};
-ghost use Rattle.arj_class.specs.Table.{class_of, op_mode, mode_of, answer_of, value_after};
-ghost use Rattle.arj_class.specs.Forms.{OpInForm, ValueInForm, payload_of};
+ghost use Rattle.arj_class.specs.Table.{class_of, op_mode, class_mode_of, answer_of, value_after};
+ghost use Rattle.arj_class.specs.Forms.{FormatHolds, OpInForm, ValueInForm, payload_of};
 
 use crate::{Answer, ApplyFault, Op};
-use arj_base::{Bytes, Mode};
+use arj_base::{Bytes, Format, Mode};
 use std::alloc::{AllocError, AllocFailed, Global};
 use thiserror::Error;
 
@@ -20,16 +20,17 @@ pub trait ObjectClass: Sized {
 
     ghost value: { Self → Value };
 
-    /// The lock mode of an operation, None exactly for an operation of another class.
+    /// The lock mode of an operation, None exactly for an operation that isn't of the class alone: not its own are those by which
+    /// objects come and go.
     fn mode(op: &Op) -> Option<Mode>
-        ensures { result ≡ mode_of class op.now };
+        ensures { result ≡ class_mode_of class op.now };
 
     /// Does the operation and answers it. A fault leaves the value as it was.
     fn apply(&mut self, op: &Op) -> Result<Answer, ApplyFault>
         requires { OpInForm op.now }
         ensures answer { IfOk result (λ a. a ≡ answer_of op.now (value self.old)) }
         ensures value { OnOk result (value self.new ≡ value_after op.now (value self.old)) }
-        ensures wrong_op { IsErrOf result WrongOp ↔ (mode_of class op.now ≡ None) }
+        ensures wrong_op { IsErrOf result WrongOp ↔ (class_mode_of class op.now ≡ None) }
         ensures err { OnErr result (self.new ≡ self.old) }
         ensures read { op_mode op.now ≡ lock_mode.Read → self.new ≡ self.old };
 
@@ -39,12 +40,13 @@ pub trait ObjectClass: Sized {
         ensures short { IfOk result (λ payload. length payload ≤ 256) }
         ensures in_form { OnOk result (ValueInForm (value self.now)) };
 
-    /// The one value that is saved to these bytes.
-    fn restore_state(alloc: Global, payload: &[u8]) -> Result<Self, ClassFault>
+    /// The one value that is saved to these bytes, and that the format holds.
+    fn restore_state(alloc: Global, format: Format, payload: &[u8]) -> Result<Self, ClassFault>
         ensures payload { IfOk result (λ v. payload_of (value v) ≡ payload.now) }
         ensures in_form { IfOk result (λ v. ValueInForm (value v)) }
+        ensures held { IfOk result (λ v. FormatHolds format (value v)) }
         ensures only { IfOk result (λ v. (w : Self) → ValueInForm (value w) → payload_of (value w) ≡ payload.now → w ≡ v) }
-        ensures none { IsErrOf result Payload → (w : Self) → ValueInForm (value w) → payload_of (value w) ≢ payload.now };
+        ensures none { IsErrOf result Payload → (w : Self) → ValueInForm (value w) → FormatHolds format (value w) → payload_of (value w) ≢ payload.now };
 
     ghost of_class: { (v : Self) → class_of (value v) ≡ class };
 }

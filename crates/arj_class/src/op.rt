@@ -1,4 +1,5 @@
 // Operations, and what they answer.
+use crate::Value;
 use crate::limits::REGISTER_BYTES;
 use arj_base::Bytes;
 use std::alloc::{AllocError, AllocFailed};
@@ -14,7 +15,7 @@ pub enum Op {
     Add(u64),
     /// Sets a counter.
     Set(u64),
-    /// Sets a register, to at most 64 bytes.
+    /// Sets a register, to at most 192 bytes.
     Put(Bytes),
     /// Adds to an account's balance.
     Deposit(u64),
@@ -32,18 +33,27 @@ pub enum Op {
     PutPair(u64, u64),
     /// Takes a key out of a table.
     Remove(u64),
+    /// Lets an object that is gone come, with a value of its class.
+    Create(Value),
+    /// Lets an object be gone.
+    Destroy,
 }
 
 impl Op {
-    ghost use Rattle.std.specs.Prelude.{◌↔◌, IsTrue};
-    ghost use Rattle.arj_class.specs.Forms.{OpInForm};
+    ghost use Rattle.std.specs.Prelude.{◌≡◌, ◌↔◌, IsTrue};
+    ghost use Rattle.arj_class.specs.Forms.{OpInForm, is_op_in_form};
 
-    /// Whether the operation may be applied: a register takes at most 64 bytes.
+    /// Whether the operation may be applied: a register takes at most 192 bytes, and no object comes as one that is gone.
     pub fn is_in_form(&self) -> bool
-        ensures { IsTrue result ↔ OpInForm self.now }
+        ensures form { IsTrue result ↔ OpInForm self.now }
+        ensures test { result ≡ is_op_in_form self.now }
     {
         match self {
             Op::Put(bytes) => bytes.as_slice().len() <= REGISTER_BYTES,
+            Op::Create(value) => {
+                value.in_form();
+                !value.is_gone()
+            }
             _ => true,
         }
     }
@@ -66,6 +76,10 @@ pub enum Answer {
     Full,
     /// There is no such key, or no number.
     Nothing,
+    /// The object is there already; nothing changed.
+    There,
+    /// The object is gone; nothing changed.
+    Gone,
 }
 
 /// Why an operation was not applied. The value is as it was.

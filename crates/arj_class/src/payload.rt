@@ -9,6 +9,20 @@ use arj_base::Bytes;
 use byteorder::{BigEndian, ByteOrder};
 use std::alloc::AllocError;
 
+/// Numbers of 64 bits fit. It does nothing when it runs.
+pub(crate) fn numbers_fit(numbers: &[u64])
+    ensures { NumbersFit numbers.now }
+{}
+
+/// Pairs of numbers of 64 bits fit. It does nothing when it runs.
+pub(crate) fn pairs_fit(pairs: &[(u64, u64)])
+    ensures { PairsFit pairs.now }
+{
+    for pair in pairs {
+        numbers_fit(&[pair.0, pair.1]);
+    }
+}
+
 /// Puts a number at the end.
 pub(crate) fn put_number(payload: &mut Bytes, number: u64) -> Result<(), AllocError>
     ensures { OnOk result (payload.new ≡ payload.old ++ big_bytes 8 number) }

@@ -1,12 +1,13 @@
 // At most 32 numbers, first in, first out.
 ghost use Rattle.std.specs.Prelude.{◌≡◌, ◌≤◌, [], ◌++◌, length, refl, IfOk};
 ghost use Rattle.arj_base.specs.declared.state.Class.TheVariants as class_variant;
+ghost use Rattle.arj_class.specs.Forms.{ValueInForm};
 ghost use Rattle.arj_class.specs.declared.value.Value.TheVariants as variant;
 
 use crate::limits::QUEUE_NUMBERS;
-use crate::payload::{put_numbers, take_number};
+use crate::payload::{numbers_fit, put_numbers, take_number};
 use crate::{Answer, ApplyFault, ClassFault, ObjectClass, Op};
-use arj_base::{Bytes, Mode, Numbers};
+use arj_base::{Bytes, Format, Mode, Numbers};
 use std::alloc::{AllocError, Global};
 use std::collections::VecDeque;
 use std::marker::Model;
@@ -58,6 +59,20 @@ impl Queue {
             numbers: VecDeque::from_vec(numbers),
         })
     }
+
+    /// Where its memory is from.
+    pub(crate) fn allocator(&self) -> Global {
+        *self.numbers.allocator()
+    }
+
+    /// It is in form. It does nothing when it runs.
+    pub(crate) fn in_form(&self)
+        ensures { ValueInForm (variant.Queue self.now) }
+    {
+        let (front, back) = self.numbers.as_slices();
+        numbers_fit(front);
+        numbers_fit(back);
+    }
 }
 
 impl ObjectClass for Queue {
@@ -99,7 +114,7 @@ impl ObjectClass for Queue {
         Ok(payload)
     }
 
-    fn restore_state(alloc: Global, payload: &[u8]) -> Result<Queue, ClassFault> {
+    fn restore_state(alloc: Global, _: Format, payload: &[u8]) -> Result<Queue, ClassFault> {
         let mut numbers = Vec::new(alloc);
         let mut rest = payload;
         while let Some((number, behind)) = take_number(rest) {

@@ -1,15 +1,16 @@
-// Bytes that are put and got, at most 64.
+// Bytes that are put and got, at most 192.
 ghost use Rattle.std.specs.Prelude.{◌≡◌, ◌≤◌, length, refl, IfOk};
 ghost use Rattle.arj_base.specs.declared.state.Class.TheVariants as class_variant;
+ghost use Rattle.arj_class.specs.Forms.{ValueInForm, register_bytes_of};
 ghost use Rattle.arj_class.specs.declared.value.Value.TheVariants as variant;
 
-use crate::limits::REGISTER_BYTES;
+use crate::limits::{REGISTER_BYTES, REGISTER_BYTES_ONE};
 use crate::{Answer, ApplyFault, ClassFault, ObjectClass, Op};
-use arj_base::{Bytes, Mode};
+use arj_base::{Bytes, Format, Mode};
 use std::alloc::{AllocError, Global};
 use std::marker::Model;
 
-/// Bytes that are put and got, at most 64. Contracts see it as those bytes.
+/// Bytes that are put and got, at most 192. Contracts see it as those bytes.
 #[derive(Drop)]
 pub struct Register {
     bytes: Bytes,
@@ -27,7 +28,7 @@ impl Model for Register {
 }
 
 impl Register {
-    /// A register with these bytes, at most 64.
+    /// A register with these bytes, at most 192.
     pub fn new(bytes: Bytes) -> Register
         requires { length bytes ≤ REGISTER_BYTES }
         ensures { result ≡ bytes }
@@ -49,6 +50,18 @@ impl Register {
         let mut bytes = Bytes::new(alloc);
         bytes.extend(self.bytes.as_slice())?;
         Ok(Register { bytes })
+    }
+
+    /// Where its memory is from.
+    pub(crate) fn allocator(&self) -> Global {
+        self.bytes.allocator()
+    }
+
+    /// It is in form. It does nothing when it runs.
+    pub(crate) fn in_form(&self)
+        ensures { ValueInForm (variant.Register self.now) }
+    {
+        let _ = &self.bytes;
     }
 }
 
@@ -82,8 +95,12 @@ impl ObjectClass for Register {
         Ok(payload)
     }
 
-    fn restore_state(alloc: Global, payload: &[u8]) -> Result<Register, ClassFault> {
-        if payload.len() > REGISTER_BYTES {
+    fn restore_state(
+        alloc: Global,
+        format: Format,
+        payload: &[u8],
+    ) -> Result<Register, ClassFault> {
+        if payload.len() > register_bytes(format) {
             return Err(ClassFault::Payload);
         }
         let mut bytes = Bytes::new(alloc);
@@ -92,4 +109,15 @@ impl ObjectClass for Register {
     }
 
     ghost of_class = { λ v. refl };
+}
+
+/// How many bytes a register holds at most that is packed in this format.
+pub fn register_bytes(format: Format) -> usize
+    ensures most { result ≡ register_bytes_of format }
+    ensures small { result ≤ REGISTER_BYTES }
+{
+    match format {
+        Format::One => REGISTER_BYTES_ONE,
+        Format::Two => REGISTER_BYTES,
+    }
 }

@@ -1,14 +1,15 @@
 // At most 16 keys with their values.
 ghost use Rattle.std.specs.Prelude.{◌≡◌, ◌≤◌, ◌↔◌, IsTrue, length, not, refl, if◌then◌else◌, IfOk, OnOk, OnErr, MatchResult};
 ghost use Rattle.arj_base.specs.declared.state.Class.TheVariants as class_variant;
+ghost use Rattle.arj_class.specs.Forms.{ValueInForm};
 ghost use Rattle.arj_class.specs.declared.value.Value.TheVariants as variant;
 ghost use Rattle.arj_class.specs.Keys.{KeysRise, KeysBelow, IsPlace, IsGap};
 ghost use Rattle.arj_class.specs.Table.{value_at, put_pair, remove_pair, is_full_for, number_or_nothing};
 
 use crate::limits::TABLE_PAIRS;
-use crate::payload::{put_pairs, take_pair};
+use crate::payload::{pairs_fit, put_pairs, take_pair};
 use crate::{Answer, ApplyFault, ClassFault, ObjectClass, Op};
-use arj_base::{Bytes, Mode, Pairs};
+use arj_base::{Bytes, Format, Mode, Pairs};
 use std::alloc::{AllocError, Global};
 use std::marker::Model;
 
@@ -56,6 +57,18 @@ impl Table {
         Ok(Table {
             pairs: Vec::from_slice(alloc, self.pairs.as_slice())?,
         })
+    }
+
+    /// It is in form. It does nothing when it runs.
+    pub(crate) fn in_form(&self)
+        ensures { ValueInForm (variant.Table self.now) }
+    {
+        pairs_fit(self.pairs.as_slice());
+    }
+
+    /// Where its memory is from.
+    pub(crate) fn allocator(&self) -> Global {
+        *self.pairs.allocator()
     }
 }
 
@@ -167,7 +180,7 @@ impl ObjectClass for Table {
         Ok(payload)
     }
 
-    fn restore_state(alloc: Global, payload: &[u8]) -> Result<Table, ClassFault> {
+    fn restore_state(alloc: Global, _: Format, payload: &[u8]) -> Result<Table, ClassFault> {
         let mut pairs: Vec<(u64, u64)> = Vec::new(alloc);
         let mut rest = payload;
         while let Some((pair, behind)) = take_pair(rest) {

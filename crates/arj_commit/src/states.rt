@@ -20,6 +20,7 @@ pub fn copy_state(state: &ObjectState) -> Result<ObjectState, AllocError>
         version: state.version,
         writer: state.writer,
         payload: state.payload.copy()?,
+        format: state.format,
     })
 }
 

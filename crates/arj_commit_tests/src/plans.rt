@@ -5,7 +5,9 @@ ghost use Rattle.arj_base.specs.Uid.{object};
 ghost use Rattle.arj_commit.specs.Fits.{IsNode, UsedFits, PlanFits};
 ghost use Rattle.arj_commit.specs.declared.limits.TheConstants.{LAST_START};
 
-use arj_base::{Binding, Bytes, Class, Ends, NodeList, ObjectState, Path, States, Uid, object_uid};
+use arj_base::{
+    Binding, Bytes, Class, Ends, Format, NodeList, ObjectState, Path, States, Uid, object_uid,
+};
 use arj_commit::{Plan, Used, UsedList};
 use arj_msg::Marks;
 use std::alloc::{AllocError, Global};
@@ -46,6 +48,7 @@ fn state(alloc: Global, x: u16) -> Result<ObjectState, AllocError>
         version: 7,
         writer: TOP,
         payload,
+        format: Format::Two,
     })
 }
 

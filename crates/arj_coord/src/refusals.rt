@@ -8,7 +8,7 @@ ghost use Rattle.arj_protocol.specs.Words.{Header, Label};
 
 use crate::Coord;
 use arj_base::Class;
-use arj_class::Op;
+use arj_class::{Op, Value};
 use arj_journal::{Kind, Label};
 use arj_tree::{Action, is_misplaced};
 
@@ -39,14 +39,7 @@ const TOO_MANY: u8 = 16;
 fn has_op(class: Class, op: &Op) -> bool
     ensures { result ≡ has_op class op.now }
 {
-    match class {
-        Class::Counter => matches!(op, Op::Get | Op::Add(_) | Op::Set(_)),
-        Class::Register => matches!(op, Op::Get | Op::Put(_)),
-        Class::Account => matches!(op, Op::Get | Op::Deposit(_) | Op::Withdraw(_)),
-        Class::Queue => matches!(op, Op::Len | Op::Push(_) | Op::Pop),
-        Class::Table => matches!(op, Op::GetKey(_) | Op::PutPair(_, _) | Op::Remove(_)),
-        Class::Entry => false,
-    }
+    Value::mode(class, op).is_some()
 }
 
 // Whether there is an object of a class that lacks the operation.

@@ -51,4 +51,5 @@ pub bank_fits : HeaderInForm bank_header
 bank_fits = record {
   nodes = (omega arith, omega arith);
   objects = ((fit 1 (omega arith) (omega arith) refl refl, (fit 2 (omega arith) (omega arith) refl refl, (fit 3 (omega arith) (omega arith) refl refl, (fit 4 (omega arith) (omega arith) refl refl, (fit 5 (omega arith) (omega arith) refl refl, (fit 6 (omega arith) (omega arith) refl refl, (fit 7 (omega arith) (omega arith) refl refl, (fit 8 (omega arith) (omega arith) refl refl, (fit 9 (omega arith) (omega arith) refl refl, (fit 10 (omega arith) (omega arith) refl refl, (fit 11 (omega arith) (omega arith) refl refl, (fit 12 (omega arith) (omega arith) refl refl, (fit 13 (omega arith) (omega arith) refl refl, (fit 14 (omega arith) (omega arith) refl refl, (fit 15 (omega arith) (omega arith) refl refl, (fit 16 (omega arith) (omega arith) refl refl, (fit 17 (omega arith) (omega arith) refl refl, (fit 18 (omega arith) (omega arith) refl refl, (fit 19 (omega arith) (omega arith) refl refl, (fit 20 (omega arith) (omega arith) refl refl, tt)))))))))))))))))))), refl);
+  held = (tt, (tt, (tt, (tt, (tt, (tt, (tt, (tt, (tt, (tt, (tt, (tt, (tt, (tt, (tt, (tt, (tt, (tt, (tt, (tt, tt))))))))))))))))))));
 }

@@ -1,6 +1,7 @@
 -- The script of the generated bank.
 use Rattle.std.specs.Prelude.{ℕ, zero, suc, ◌+◌, ◌*◌, ◌/◌, ◌%◌, ◌==◌, ◌||◌, if◌then◌else◌, List, [], ◌∷◌, ◌++◌, map, codes}
 use Rattle.std.specs.Fmt.{decimal}
+use Rattle.arj_base.specs.declared.state.Format.TheVariants as format
 use Rattle.arj_gen.specs.declared.draws.Transfer.{Transfer}
 use Rattle.arj_class.specs.declared.value.Value.TheVariants.{Account}
 use Rattle.arj_journal.specs.declared.header.Header.{Header}
@@ -105,7 +106,7 @@ accounts (suc k) = accounts k ++ account_line (k + 1) ∷ []
 
 -- five nodes and 20 accounts
 abbrev pub bank_header : Header
-bank_header = record { nodes = 5; objects = accounts 20 }
+bank_header = record { nodes = 5; objects = accounts 20; format = format.Two }
 
 -- the lines of the script of n
 abbrev pub bank_lines : ℕ → List (List ℕ)

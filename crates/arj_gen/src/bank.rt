@@ -7,7 +7,7 @@ ghost use Rattle.arj_journal.specs.ScriptText.{event_text};
 
 use crate::draws::Draws;
 use crate::transfer::{put, put_transfer};
-use arj_base::NodeList;
+use arj_base::{Format, NodeList};
 use arj_class::{Account, Value};
 use arj_journal::{Event, Events, Header, ObjectLine, ObjectLines};
 use std::alloc::{AllocError, Global};
@@ -48,6 +48,7 @@ fn header(alloc: Global) -> Result<Header, AllocError>
     Ok(Header {
         nodes: NODES,
         objects,
+        format: Format::Two,
     })
 }
 

@@ -7,7 +7,7 @@ use Rattle.arj_image.specs.declared.image.Image.{Image}
 use Rattle.arj_image.specs.declared.place.Place.{Place}
 use Rattle.arj_image.specs.declared.place.Stage.{Stage}
 use Rattle.arj_image.specs.declared.place.Stage.TheVariants as stage
-use Rattle.arj_image.specs.Grammar.{FitsAt, Form, Nodes, Object, Counts, Journal, Says, Files, Has, next_at, next_place, nothing_read}
+use Rattle.arj_image.specs.Grammar.{FitsAt, Form, FormatOne, Nodes, Object, Counts, Journal, Says, Files, Has, next_at, next_place, nothing_read}
 use Rattle.arj_image.specs.Grammar.{spelling}
 use Rattle.arj_image.specs.Written.{Goes, ImageInForm, form_text, image_forms, image_text, whole_place}
 use Rattle.arj_text.proofs.Texts.{cut_once, no_cut}
@@ -17,12 +17,14 @@ use Rattle.arj_text.specs.Fields.{has_byte}
 stays_few : (s : Stage) (i : Image) (f : Form) → i.header.nodes ≤ 16 → FitsAt s i f →
     (let p = next_at s i f in let j = p.image in j.header.nodes) ≤ 16
 stays_few stage.Start i (Nodes n) few h = h.1
+stays_few stage.Objects i FormatOne few h = few
 stays_few stage.Objects i (Object o) few h = few
 stays_few stage.Objects i (Counts p) few h = few
 stays_few stage.Counted i Journal few h = few
 stays_few stage.Journal i (Says l) few h = few
 stays_few stage.Journal i Files few h = few
 stays_few stage.Files i (Has f) few h = few
+stays_few stage.Start i FormatOne few h = elim h [ ]
 stays_few stage.Start i (Object o) few h = elim h [ ]
 stays_few stage.Start i (Counts p) few h = elim h [ ]
 stays_few stage.Start i Journal few h = elim h [ ]
@@ -35,17 +37,20 @@ stays_few stage.Objects i (Says l) few h = elim h [ ]
 stays_few stage.Objects i Files few h = elim h [ ]
 stays_few stage.Objects i (Has f) few h = elim h [ ]
 stays_few stage.Counted i (Nodes n) few h = elim h [ ]
+stays_few stage.Counted i FormatOne few h = elim h [ ]
 stays_few stage.Counted i (Object o) few h = elim h [ ]
 stays_few stage.Counted i (Counts p) few h = elim h [ ]
 stays_few stage.Counted i (Says l) few h = elim h [ ]
 stays_few stage.Counted i Files few h = elim h [ ]
 stays_few stage.Counted i (Has f) few h = elim h [ ]
 stays_few stage.Journal i (Nodes n) few h = elim h [ ]
+stays_few stage.Journal i FormatOne few h = elim h [ ]
 stays_few stage.Journal i (Object o) few h = elim h [ ]
 stays_few stage.Journal i (Counts p) few h = elim h [ ]
 stays_few stage.Journal i Journal few h = elim h [ ]
 stays_few stage.Journal i (Has f) few h = elim h [ ]
 stays_few stage.Files i (Nodes n) few h = elim h [ ]
+stays_few stage.Files i FormatOne few h = elim h [ ]
 stays_few stage.Files i (Object o) few h = elim h [ ]
 stays_few stage.Files i (Counts p) few h = elim h [ ]
 stays_few stage.Files i Journal few h = elim h [ ]

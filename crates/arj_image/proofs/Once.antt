@@ -13,7 +13,7 @@ use Rattle.arj_image.specs.declared.image.Image.{Image}
 use Rattle.arj_image.specs.declared.image.NodeFile.{NodeFile}
 use Rattle.arj_image.specs.declared.place.Stage.{Stage}
 use Rattle.arj_image.specs.declared.place.Stage.TheVariants as stage
-use Rattle.arj_image.specs.Grammar.{CountsInForm, FitsAt, Form, Nodes, Object, Counts, Journal, Says, Files, Has, spelling}
+use Rattle.arj_image.specs.Grammar.{CountsInForm, FitsAt, Form, FormatOne, Nodes, Object, Counts, Journal, Says, Files, Has, spelling}
 use Rattle.arj_image.specs.Texts.{FileInForm, SlotInForm, counts_text, file_text, held_text, owned_text, said_text, slot_text}
 use Rattle.arj_journal.specs.LineForm.{LineInForm}
 use Rattle.arj_journal.specs.LineText.{body_text}
@@ -71,6 +71,11 @@ pub form_once : (s : Stage) (i : Image) → i.header.nodes ≤ 16 → (f g : For
 form_once stage.Start i few (Nodes n) (Nodes m) hf hg e =
     ap Nodes (number_once n m (omega (arith, hf.1)) (omega (arith, hg.1)) (same_rest (codes "nodes ") (decimal n) (decimal m) e))
 form_once stage.Objects i few (Object o) (Object p) hf hg e = ap Object (object_once i.header.nodes (omega (arith, few)) o p hf.0 hg.0 e)
+form_once stage.Objects i few FormatOne FormatOne hf hg e = refl
+form_once stage.Objects i few FormatOne (Object p) hf hg e = absurd (omega (arith, ap first e))
+form_once stage.Objects i few FormatOne (Counts q) hf hg e = absurd (omega (arith, ap first e))
+form_once stage.Objects i few (Object o) FormatOne hf hg e = absurd (omega (arith, ap first e))
+form_once stage.Objects i few (Counts p) FormatOne hf hg e = absurd (omega (arith, ap first e))
 form_once stage.Objects i few (Object o) (Counts q) hf hg e = absurd (omega (arith, ap first e))
 form_once stage.Objects i few (Counts p) (Object o) hf hg e = absurd (omega (arith, ap first e))
 form_once stage.Objects i few (Counts p) (Counts q) hf hg e = ap Counts (counts_once p q hf hg e)
@@ -80,6 +85,7 @@ form_once stage.Journal i few (Says l) Files hf hg e = absurd (no_cut 32 (codes 
 form_once stage.Journal i few Files (Says l) hf hg e = absurd (no_cut 32 (codes "files") (decimal l.event) (body_text l.body) refl e)
 form_once stage.Journal i few Files Files hf hg e = refl
 form_once stage.Files i few (Has f) (Has g) hf hg e = ap Has (file_once i.header.nodes (omega (arith, few)) f g hf.0 hg.0 e)
+form_once stage.Start i few FormatOne g hf hg e = elim hf [ ]
 form_once stage.Start i few (Object o) g hf hg e = elim hf [ ]
 form_once stage.Start i few (Counts p) g hf hg e = elim hf [ ]
 form_once stage.Start i few Journal g hf hg e = elim hf [ ]
@@ -92,32 +98,41 @@ form_once stage.Objects i few (Says l) g hf hg e = elim hf [ ]
 form_once stage.Objects i few Files g hf hg e = elim hf [ ]
 form_once stage.Objects i few (Has f) g hf hg e = elim hf [ ]
 form_once stage.Counted i few (Nodes n) g hf hg e = elim hf [ ]
+form_once stage.Counted i few FormatOne g hf hg e = elim hf [ ]
 form_once stage.Counted i few (Object o) g hf hg e = elim hf [ ]
 form_once stage.Counted i few (Counts p) g hf hg e = elim hf [ ]
 form_once stage.Counted i few (Says l) g hf hg e = elim hf [ ]
 form_once stage.Counted i few Files g hf hg e = elim hf [ ]
 form_once stage.Counted i few (Has f) g hf hg e = elim hf [ ]
 form_once stage.Journal i few (Nodes n) g hf hg e = elim hf [ ]
+form_once stage.Journal i few FormatOne g hf hg e = elim hf [ ]
 form_once stage.Journal i few (Object o) g hf hg e = elim hf [ ]
 form_once stage.Journal i few (Counts p) g hf hg e = elim hf [ ]
 form_once stage.Journal i few Journal g hf hg e = elim hf [ ]
 form_once stage.Journal i few (Has f) g hf hg e = elim hf [ ]
 form_once stage.Files i few (Nodes n) g hf hg e = elim hf [ ]
+form_once stage.Files i few FormatOne g hf hg e = elim hf [ ]
 form_once stage.Files i few (Object o) g hf hg e = elim hf [ ]
 form_once stage.Files i few (Counts p) g hf hg e = elim hf [ ]
 form_once stage.Files i few Journal g hf hg e = elim hf [ ]
 form_once stage.Files i few (Says l) g hf hg e = elim hf [ ]
 form_once stage.Files i few Files g hf hg e = elim hf [ ]
+form_once stage.Start i few (Nodes n) FormatOne hf hg e = elim hg [ ]
 form_once stage.Start i few (Nodes n) (Object o2) hf hg e = elim hg [ ]
 form_once stage.Start i few (Nodes n) (Counts p2) hf hg e = elim hg [ ]
 form_once stage.Start i few (Nodes n) Journal hf hg e = elim hg [ ]
 form_once stage.Start i few (Nodes n) (Says l2) hf hg e = elim hg [ ]
 form_once stage.Start i few (Nodes n) Files hf hg e = elim hg [ ]
 form_once stage.Start i few (Nodes n) (Has f2) hf hg e = elim hg [ ]
+form_once stage.Objects i few FormatOne (Nodes n2) hf hg e = elim hg [ ]
 form_once stage.Objects i few (Object o) (Nodes n2) hf hg e = elim hg [ ]
+form_once stage.Objects i few FormatOne Journal hf hg e = elim hg [ ]
 form_once stage.Objects i few (Object o) Journal hf hg e = elim hg [ ]
+form_once stage.Objects i few FormatOne (Says l2) hf hg e = elim hg [ ]
 form_once stage.Objects i few (Object o) (Says l2) hf hg e = elim hg [ ]
+form_once stage.Objects i few FormatOne Files hf hg e = elim hg [ ]
 form_once stage.Objects i few (Object o) Files hf hg e = elim hg [ ]
+form_once stage.Objects i few FormatOne (Has f2) hf hg e = elim hg [ ]
 form_once stage.Objects i few (Object o) (Has f2) hf hg e = elim hg [ ]
 form_once stage.Objects i few (Counts p) (Nodes n2) hf hg e = elim hg [ ]
 form_once stage.Objects i few (Counts p) Journal hf hg e = elim hg [ ]
@@ -125,22 +140,26 @@ form_once stage.Objects i few (Counts p) (Says l2) hf hg e = elim hg [ ]
 form_once stage.Objects i few (Counts p) Files hf hg e = elim hg [ ]
 form_once stage.Objects i few (Counts p) (Has f2) hf hg e = elim hg [ ]
 form_once stage.Counted i few Journal (Nodes n2) hf hg e = elim hg [ ]
+form_once stage.Counted i few Journal FormatOne hf hg e = elim hg [ ]
 form_once stage.Counted i few Journal (Object o2) hf hg e = elim hg [ ]
 form_once stage.Counted i few Journal (Counts p2) hf hg e = elim hg [ ]
 form_once stage.Counted i few Journal (Says l2) hf hg e = elim hg [ ]
 form_once stage.Counted i few Journal Files hf hg e = elim hg [ ]
 form_once stage.Counted i few Journal (Has f2) hf hg e = elim hg [ ]
 form_once stage.Journal i few (Says l) (Nodes n2) hf hg e = elim hg [ ]
+form_once stage.Journal i few (Says l) FormatOne hf hg e = elim hg [ ]
 form_once stage.Journal i few (Says l) (Object o2) hf hg e = elim hg [ ]
 form_once stage.Journal i few (Says l) (Counts p2) hf hg e = elim hg [ ]
 form_once stage.Journal i few (Says l) Journal hf hg e = elim hg [ ]
 form_once stage.Journal i few (Says l) (Has f2) hf hg e = elim hg [ ]
 form_once stage.Journal i few Files (Nodes n2) hf hg e = elim hg [ ]
+form_once stage.Journal i few Files FormatOne hf hg e = elim hg [ ]
 form_once stage.Journal i few Files (Object o2) hf hg e = elim hg [ ]
 form_once stage.Journal i few Files (Counts p2) hf hg e = elim hg [ ]
 form_once stage.Journal i few Files Journal hf hg e = elim hg [ ]
 form_once stage.Journal i few Files (Has f2) hf hg e = elim hg [ ]
 form_once stage.Files i few (Has f) (Nodes n2) hf hg e = elim hg [ ]
+form_once stage.Files i few (Has f) FormatOne hf hg e = elim hg [ ]
 form_once stage.Files i few (Has f) (Object o2) hf hg e = elim hg [ ]
 form_once stage.Files i few (Has f) (Counts p2) hf hg e = elim hg [ ]
 form_once stage.Files i few (Has f) Journal hf hg e = elim hg [ ]
@@ -164,6 +183,7 @@ slot_ends (slot.Segment Names k) h = lacks_both 10 (codes "segment names ") (dec
 pub form_ends : (s : Stage) (i : Image) → i.header.nodes ≤ 16 → (f : Form) → FitsAt s i f → has_byte 10 (spelling f) ≡ false
 form_ends stage.Start i few (Nodes n) h =
     lacks_both 10 (codes "nodes ") (decimal n) refl (number_lacks 10 end_apart n (omega (arith, h.1)))
+form_ends stage.Objects i few FormatOne h = refl
 form_ends stage.Objects i few (Object o) h = object_ends i.header.nodes (omega (arith, few)) o h.0
 form_ends stage.Objects i few (Counts p) h =
     lacks_both 10 (codes "counts ") (decimal p.0 ++ 32 ∷ decimal p.1) refl
@@ -177,6 +197,7 @@ form_ends stage.Journal i few Files h = refl
 form_ends stage.Files i few (Has f) h =
     lacks_behind 10 32 (decimal f.node) (held_text (f.slot, f.bytes)) refl (number_lacks 10 end_apart f.node (omega (arith, h.0.0.1, few)))
     (lacks_behind 10 32 (slot_text f.slot) (hex f.bytes) refl (slot_ends f.slot h.0.1.0) (hex_lacks 10 end_apart f.bytes h.0.1.1))
+form_ends stage.Start i few FormatOne h = elim h [ ]
 form_ends stage.Start i few (Object o) h = elim h [ ]
 form_ends stage.Start i few (Counts p) h = elim h [ ]
 form_ends stage.Start i few Journal h = elim h [ ]
@@ -189,17 +210,20 @@ form_ends stage.Objects i few (Says l) h = elim h [ ]
 form_ends stage.Objects i few Files h = elim h [ ]
 form_ends stage.Objects i few (Has f) h = elim h [ ]
 form_ends stage.Counted i few (Nodes n) h = elim h [ ]
+form_ends stage.Counted i few FormatOne h = elim h [ ]
 form_ends stage.Counted i few (Object o) h = elim h [ ]
 form_ends stage.Counted i few (Counts p) h = elim h [ ]
 form_ends stage.Counted i few (Says l) h = elim h [ ]
 form_ends stage.Counted i few Files h = elim h [ ]
 form_ends stage.Counted i few (Has f) h = elim h [ ]
 form_ends stage.Journal i few (Nodes n) h = elim h [ ]
+form_ends stage.Journal i few FormatOne h = elim h [ ]
 form_ends stage.Journal i few (Object o) h = elim h [ ]
 form_ends stage.Journal i few (Counts p) h = elim h [ ]
 form_ends stage.Journal i few Journal h = elim h [ ]
 form_ends stage.Journal i few (Has f) h = elim h [ ]
 form_ends stage.Files i few (Nodes n) h = elim h [ ]
+form_ends stage.Files i few FormatOne h = elim h [ ]
 form_ends stage.Files i few (Object o) h = elim h [ ]
 form_ends stage.Files i few (Counts p) h = elim h [ ]
 form_ends stage.Files i few Journal h = elim h [ ]

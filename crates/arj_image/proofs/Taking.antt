@@ -4,6 +4,9 @@ use Rattle.std.proofs.Common.{append_assoc}
 use Rattle.std.proofs.lemmas.Bool.{both_ways}
 use Rattle.std.proofs.lemmas.List.{append_cancel_right}
 use Rattle.std.specs.Fmt.{decimal}
+use Rattle.arj_base.specs.declared.state.Format.{Format}
+use Rattle.arj_base.specs.declared.state.Format.TheVariants as format
+use Rattle.arj_class.specs.Forms.{FormatHolds}
 use Rattle.arj_image.specs.declared.image.Image.{Image}
 use Rattle.arj_image.specs.declared.image.NodeFile.{NodeFile}
 use Rattle.arj_image.specs.declared.place.Place.{Place}
@@ -11,14 +14,14 @@ use Rattle.arj_image.specs.declared.place.Stage.{Stage}
 use Rattle.arj_image.specs.declared.place.Stage.TheVariants as stage
 use Rattle.arj_image.proofs.Once.{file_once}
 use Rattle.arj_image.proofs.Values.{object_once}
-use Rattle.arj_image.specs.Grammar.{CountsInForm, FileFits, FitsAt, HasForm, most_bytes, next_place, Form, Nodes, Object, Counts, Journal}
-use Rattle.arj_image.specs.Grammar.{Says, Files, Has, ObjectFits, spelling, with_nodes}
+use Rattle.arj_image.specs.Grammar.{CountsInForm, FileFits, FitsAt, HasForm, most_bytes, next_place, Form, FormatOne, Nodes, Object, Counts, Journal}
+use Rattle.arj_image.specs.Grammar.{Says, Files, Has, ObjectFits, spelling, with_format, with_nodes}
 use Rattle.arj_image.specs.Known.{HasNone, Takes}
 use Rattle.arj_image.specs.Texts.{FileInForm, counts_text, file_text, is_before, is_last, said_text}
 use Rattle.arj_journal.specs.LineForm.{LineInForm}
 use Rattle.arj_journal.specs.LineText.{body_text, line_text}
 use Rattle.arj_journal.specs.ScriptForm.{ObjectLineInForm}
-use Rattle.arj_journal.specs.ScriptText.{nodes_text, object_text}
+use Rattle.arj_journal.specs.ScriptText.{format_text, nodes_text, object_text}
 use Rattle.arj_journal.specs.declared.body.Line.{Line}
 use Rattle.arj_journal.specs.declared.header.ObjectLine.{ObjectLine}
 use Rattle.arj_journal.specs.declared.limits.TheConstants.{NODES}
@@ -39,7 +42,7 @@ pub counts_take : (p : Place) (bytes : List ℕ) (events frames : ℕ) → p.sta
 counts_take p bytes events frames is form e = (Counts (events, frames), at_stage p stage.Objects (Counts (events, frames)) is form, e, refl)
 
 pub object_takes : (p : Place) (bytes : List ℕ) (os : List ObjectLine) → p.stage ≡ stage.Objects →
-    ((o : ObjectLine) × (let i = p.image in ObjectFits i.header.nodes i.header.objects o) × (bytes ≡ object_text o) × (os ≡ (let i =
+    ((o : ObjectLine) × (let i = p.image in ObjectFits i.header.nodes i.header.format i.header.objects o) × (bytes ≡ object_text o) × (os ≡ (let i =
     p.image in i.header.objects) ++ o ∷ [])) →
     Takes p (record p { image = (let i = p.image in record i { header = record (i.header) { objects = os } }) }) bytes
 object_takes p bytes os is (o, fits, e, more) = (
@@ -52,6 +55,12 @@ object_takes p bytes os is (o, fits, e, more) = (
         record j { header = record (j.header) { objects = more i } };
   }),
 )
+
+pub format_takes : (p : Place) (bytes : List ℕ) (f : Format) → p.stage ≡ stage.Objects → bytes ≡ format_text →
+    (let i = p.image in (i.header.format ≡ format.Two) × (i.header.objects ≡ []) × (f ≡ format.One)) →
+    Takes p (record p { image = with_format f p.image }) bytes
+format_takes p bytes f is e fits =
+    (FormatOne, at_stage p stage.Objects FormatOne is (fits.0, fits.1), e, (λ i. record { stage = is i; image = with_format (fits.2 i) p.image }))
 
 pub journal_takes : (p : Place) (bytes : List ℕ) → p.stage ≡ stage.Counted → bytes ≡ codes "journal" →
     Takes p (record { stage = stage.Journal; image = p.image }) bytes
@@ -78,13 +87,20 @@ said_none bytes ended is none l form e =
     none l form (is ∙ (ap (λ bs. bs ++ 10 ∷ []) e ∙ append_assoc (decimal l.event) (32 ∷ body_text l.body) (10 ∷ [])))
 
 -- an object or a file that isn't behind the last one
-pub object_out_of_turn : (n : ℕ) (bytes : List ℕ) (os : List ObjectLine) (new o : ObjectLine) → n ≤ 255 →
+pub object_out_of_turn : (n : ℕ) (f : Format) (bytes : List ℕ) (os : List ObjectLine) (new o : ObjectLine) → n ≤ 255 →
     IsRead (ObjectLineInForm n) object_text bytes (Some new) → is_last (λ (p : ObjectLine). nat_lt p.x new.x) os ≡ false →
-    ObjectFits n os o →
+    ObjectFits n f os o →
     bytes ≢ object_text o
-object_out_of_turn n bytes os new o few read late fits e =
+object_out_of_turn n f bytes os new o few read late fits e =
     let same = object_once n few new o read.0 fits.0 (sym read.1 ∙ e) in
     both_ways _ (subst (λ (z : ObjectLine). is_last (λ (p : ObjectLine). nat_lt p.x z.x) os ≡ false) same late) fits.1
+
+pub object_not_held : (n : ℕ) (f : Format) (bytes : List ℕ) (os : List ObjectLine) (new o : ObjectLine) → n ≤ 255 →
+    IsRead (ObjectLineInForm n) object_text bytes (Some new) → (FormatHolds f new.value → ⊥) → ObjectFits n f os o →
+    bytes ≢ object_text o
+object_not_held n f bytes os new o few read never fits e =
+    let same = object_once n few new o read.0 fits.0 (sym read.1 ∙ e) in
+    never (subst (λ (z : ObjectLine). FormatHolds f z.value) (sym same) fits.2)
 
 pub file_out_of_turn : (n : ℕ) (bytes : List ℕ) (fs : List NodeFile) (new f : NodeFile) → n ≤ 255 →
     IsRead (FileInForm n) file_text bytes (Some new) → is_last (λ (g : NodeFile). is_before g new) fs ≡ false → FileFits n fs f →

@@ -1,5 +1,6 @@
 -- What the readers of names and of lines tell in between, and what is known of a place.
 use Rattle.std.specs.Prelude.{◌≡◌, ◌≢◌, ℕ, List, [], ◌++◌, ◌∷◌, ⊤, Bool, true, false}
+use Rattle.arj_base.specs.declared.state.Format.TheVariants as format
 use Rattle.arj_disk.specs.declared.slot.Role.{Role}
 use Rattle.arj_disk.specs.declared.slot.Slot.{Slot}
 use Rattle.arj_disk.specs.declared.slot.Slot.TheVariants as slot
@@ -60,7 +61,7 @@ HasNone place bytes = (form : Form) → FitsAt place.stage place.image form → 
 
 -- what comes later isn't there yet
 abbrev pub IsBare : Stage → Image → Type 0
-IsBare stage.Start i = (i.header.objects ≡ []) × (i.journal ≡ []) × (i.files ≡ [])
+IsBare stage.Start i = (i.header.objects ≡ []) × (i.journal ≡ []) × (i.files ≡ []) × (i.header.format ≡ format.Two)
 IsBare stage.Objects i = (i.journal ≡ []) × (i.files ≡ [])
 IsBare stage.Counted i = (i.journal ≡ []) × (i.files ≡ [])
 IsBare stage.Journal i = i.files ≡ []

@@ -1,11 +1,13 @@
 -- The lines of an image, and its text.
 use Rattle.std.specs.Prelude.{◌≡◌, ⊤, ℕ, List, [], ◌∷◌, ◌++◌, map}
 use Rattle.std.specs.List.{AllByRecursion, flat_map}
+use Rattle.arj_base.specs.declared.state.Format.{Format}
+use Rattle.arj_base.specs.declared.state.Format.TheVariants as format
 use Rattle.arj_image.specs.declared.image.Image.{Image}
 use Rattle.arj_image.specs.declared.place.Place.{Place}
 use Rattle.arj_image.specs.declared.place.Stage.{Stage}
 use Rattle.arj_image.specs.declared.place.Stage.TheVariants as stage
-use Rattle.arj_image.specs.Grammar.{Form, Nodes, Object, Counts, Journal, Says, Files, Has, CountsInForm, FileFits, FitsAt, ObjectFits}
+use Rattle.arj_image.specs.Grammar.{Form, FormatOne, Nodes, Object, Counts, Journal, Says, Files, Has, CountsInForm, FileFits, FitsAt, ObjectFits}
 use Rattle.arj_image.specs.Grammar.{next_place, spelling}
 use Rattle.arj_journal.specs.LineForm.{LineInForm}
 use Rattle.arj_journal.specs.declared.limits.TheConstants.{NODES}
@@ -19,9 +21,14 @@ ended bytes = bytes ++ 10 ∷ []
 abbrev pub form_text : Form → List ℕ
 form_text f = ended (spelling f)
 
+-- the line of the format, where it is one
+abbrev pub format_forms : Format → List Form
+format_forms format.One = FormatOne ∷ []
+format_forms format.Two = []
+
 -- the lines of the header
 abbrev pub head_forms : Image → List Form
-head_forms i = Nodes i.header.nodes ∷ map Object i.header.objects
+head_forms i = Nodes i.header.nodes ∷ (format_forms i.header.format ++ map Object i.header.objects)
 
 -- and the counts
 abbrev pub counted_forms : Image → List Form
@@ -68,7 +75,7 @@ AreInTurn Fits before (item ∷ items) = Fits before item × AreInTurn Fits (bef
 -- An image in form: 1 to 16 nodes, objects by rising numbers, counts of 32 bits, lines of a journal, files in their order.
 pub record ImageInForm (i : Image) : Type 0 where
   pub nodes : IsWithin 1 NODES i.header.nodes
-  pub objects : AreInTurn (ObjectFits i.header.nodes) [] i.header.objects
+  pub objects : AreInTurn (ObjectFits i.header.nodes i.header.format) [] i.header.objects
   pub counts : CountsInForm (i.events, i.frames)
   pub journal : AllByRecursion LineInForm i.journal
   pub files : AreInTurn (FileFits i.header.nodes) [] i.files

@@ -15,10 +15,10 @@ use crate::file::next_file;
 use crate::image::{Files, Image};
 use crate::limits::{FILE_LINE_BYTES, IMAGE_LINE_BYTES};
 use crate::place::{Place, Stage};
-use arj_base::Bytes;
+use arj_base::{Bytes, Format};
 use arj_journal::{Header, Line, Lines, ObjectLine, ObjectLines};
 use arj_journal_reader::{LineFault, read_line};
-use arj_script::{ScriptFault, nodes_line, object};
+use arj_script::{ScriptFault, format_line, holds, nodes_line, object};
 use arj_text::field::{WORD_MAX, after, is_text, number, number_first};
 use std::alloc::{AllocError, Global};
 use std::marker::Model;
@@ -95,6 +95,7 @@ fn nothing(alloc: Global) -> Place
             header: Header {
                 nodes: 0,
                 objects: ObjectLines::new(alloc),
+                format: Format::Two,
             },
             events: 0,
             frames: 0,
@@ -154,7 +155,7 @@ fn start(alloc: Global, place: &mut Place, bytes: &[u8]) -> Result<(), ScriptFau
     Ok(())
 }
 
-// Takes an object, or the counts behind them.
+// Takes the line of the format, an object, or the counts behind them.
 fn objects(alloc: Global, place: &mut Place, bytes: &[u8]) -> Result<(), ScriptFault>
     requires { place.old.stage ≡ stage.Objects }
     ensures ok { OnOk result (Takes place.old place.new bytes.now) }
@@ -168,7 +169,17 @@ fn objects(alloc: Global, place: &mut Place, bytes: &[u8]) -> Result<(), ScriptF
         return Ok(());
     }
     let header = &mut place.image.header;
-    next_object(alloc, header.nodes, &mut header.objects, bytes)?;
+    if is_text(bytes, b"format 1") {
+        format_line(&mut header.format, header.objects.as_slice())?;
+        return Ok(());
+    }
+    next_object(
+        alloc,
+        header.nodes,
+        header.format,
+        &mut header.objects,
+        bytes,
+    )?;
     Ok(())
 }
 
@@ -188,21 +199,25 @@ fn counts(alloc: Global, bytes: &[u8]) -> Result<Option<(u32, u32)>, AllocError>
     }
 }
 
-// Takes an object, whose number is above the last one's.
+// Takes an object, whose number is above the last one's, and whose value states of the format hold.
 fn next_object(
     alloc: Global,
     nodes: u8,
+    format: Format,
     objects: &mut ObjectLines,
     bytes: &[u8],
 ) -> Result<(), ScriptFault>
-    ensures ok { OnOk result ((o : object_type) × ObjectFits nodes objects.old o × (bytes.now ≡ object_text o) × (objects.new ≡ objects.old ++ o ∷ [])) }
-    ensures bad { IsErrOf result script_fault.Bad → (o : object_type) → ObjectFits nodes objects.old o → bytes.now ≡ object_text o → ⊥ }
+    ensures ok { OnOk result ((o : object_type) × ObjectFits nodes format objects.old o × (bytes.now ≡ object_text o) × (objects.new ≡ objects.old ++ o ∷ [])) }
+    ensures bad { IsErrOf result script_fault.Bad → (o : object_type) → ObjectFits nodes format objects.old o → bytes.now ≡ object_text o → ⊥ }
     ensures err { OnErr result (objects.new ≡ objects.old) }
 {
     let Some(new) = object(alloc, bytes, nodes)? else {
         return Err(ScriptFault::Bad);
     };
     if !is_above(objects.as_slice(), new.x) {
+        return Err(ScriptFault::Bad);
+    }
+    if !holds(format, &new.value) {
         return Err(ScriptFault::Bad);
     }
     objects.push(new)?;

@@ -3,11 +3,11 @@ ghost use Rattle.std.specs.Prelude.{◌≡◌, ◌++◌, IfOk, OnOk, map};
 ghost use Rattle.std.specs.List.{flat_map};
 ghost use Rattle.arj_image.specs.Grammar.{Has, Object, Says};
 ghost use Rattle.arj_image.specs.Texts.{counts_text};
-ghost use Rattle.arj_image.specs.Written.{form_text, image_text as text_of};
+ghost use Rattle.arj_image.specs.Written.{form_text, format_forms, image_text as text_of};
 
 use crate::file::put_file;
 use crate::image::{Image, NodeFile};
-use arj_base::Bytes;
+use arj_base::{Bytes, Format};
 use arj_journal::{Line, ObjectLine, put_line, put_nodes, put_object};
 use arj_text::words::{put_number, put_numbered};
 use std::alloc::{AllocError, Global};
@@ -19,6 +19,7 @@ pub fn image_text(alloc: Global, image: &Image) -> Result<Bytes, AllocError>
     let mut out = Bytes::new(alloc);
     put_nodes(&mut out, image.header.nodes)?;
     out.extend(b"\n")?;
+    put_format(&mut out, image.header.format)?;
     put_objects(&mut out, image.header.objects.as_slice())?;
     put_counts(&mut out, image.events, image.frames)?;
     out.extend(b"\njournal\n")?;
@@ -26,6 +27,16 @@ pub fn image_text(alloc: Global, image: &Image) -> Result<Bytes, AllocError>
     out.extend(b"files\n")?;
     put_files(alloc, &mut out, image.files.as_slice())?;
     Ok(out)
+}
+
+// The line of the first states' format, where it is one.
+fn put_format(out: &mut Bytes, format: Format) -> Result<(), AllocError>
+    ensures { OnOk result (out.new ≡ out.old ++ flat_map form_text (format_forms format)) }
+{
+    match format {
+        Format::One => out.extend(b"format 1\n"),
+        Format::Two => Ok(()),
+    }
 }
 
 // The counts of events and of frames.

@@ -1,6 +1,8 @@
 -- Which headers and events of a script are in form: each number within its limits.
 use Rattle.std.specs.Prelude.{◌≡◌, ℕ, List, [], ◌∷◌, ⊤, Bool, true, ◌&&◌, nat_lt}
 use Rattle.std.specs.List.{AllByRecursion}
+use Rattle.arj_base.specs.declared.state.Format.{Format}
+use Rattle.arj_class.specs.Forms.{FormatHolds}
 use Rattle.arj_journal.specs.declared.event.Event.{Event}
 use Rattle.arj_journal.specs.declared.event.Event.TheVariants as event
 use Rattle.arj_journal.specs.declared.event.FrameNo.{FrameNo}
@@ -30,10 +32,15 @@ are_by_number (o ∷ p ∷ os) = nat_lt o.x p.x && are_by_number (p ∷ os)
 abbrev pub ObjectsInForm : ℕ → List ObjectLine → Type 0
 ObjectsInForm nodes os = AllByRecursion (ObjectLineInForm nodes) os × (are_by_number os ≡ true)
 
--- a header of 1 to 16 nodes, and objects in form among them
+-- states of this format hold the objects' values
+abbrev pub AreHeld : Format → List ObjectLine → Type 0
+AreHeld format os = AllByRecursion (λ (o : ObjectLine). FormatHolds format o.value) os
+
+-- a header of 1 to 16 nodes, and objects in form among them, whose values states of its format hold
 pub record HeaderInForm (header : Header) : Type 0 where
   pub nodes : IsWithin 1 NODES header.nodes
   pub objects : ObjectsInForm header.nodes header.objects
+  pub held : AreHeld header.format header.objects
 
 -- a frame: in events a node or a frame is any number of 32 bits, and an object any of 16
 abbrev pub FrameNoInForm : FrameNo → Type 0

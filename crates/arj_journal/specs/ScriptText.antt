@@ -53,6 +53,10 @@ event_text (event.Show x) = codes "show" ++ number_word x
 abbrev pub nodes_text : ℕ → List ℕ
 nodes_text n = codes "nodes" ++ number_word n
 
+-- that first states have format one
+abbrev pub format_text : List ℕ
+format_text = codes "format 1"
+
 -- an object with its first value, its servers and its stores
 abbrev pub object_text : ObjectLine → List ℕ
 object_text o =

@@ -1,12 +1,13 @@
 // What a script begins with.
-use arj_base::{NodeList, Seq};
+use arj_base::{Format, NodeList, Seq};
 use arj_class::Value;
 
-/// The nodes, 1 to 16, and the objects, by their numbers.
+/// The nodes, 1 to 16, the objects, by their numbers, and the format of their first states.
 #[derive(Drop)]
 pub struct Header {
     pub nodes: u8,
     pub objects: ObjectLines,
+    pub format: Format,
 }
 
 /// An object with its first value, its servers in order of preference, and its stores.

@@ -2,6 +2,7 @@
 use Rattle.std.proofs.Common.{◌≡◌, ◌≢◌, ℕ, ◌≤◌, List, codes, true, false, Some, refl, arith}
 use Rattle.std.specs.Fmt.{decimal}
 use Rattle.std.proofs.lemmas.Bool.{both_ways}
+use Rattle.arj_class.specs.declared.limits.TheConstants.{REGISTER_BYTES}
 use Rattle.arj_class.specs.declared.op.Op.{Op}
 use Rattle.arj_class.specs.declared.op.Answer.{Answer}
 use Rattle.arj_class.specs.declared.op.Answer.TheVariants as answer
@@ -14,8 +15,8 @@ pub word_answer : (bytes : List ℕ) (a : Answer) → is_word_answer a ≡ true 
 word_answer bytes a word e = (a, word, e)
 
 pub no_word_answer : (bytes : List ℕ) → bytes ≢ codes "done" → bytes ≢ codes "over" → bytes ≢ codes "short" → bytes ≢ codes "full" →
-    bytes ≢ codes "none" → IsAnswerWord bytes → ⊥
-no_word_answer bytes done over short full nothing h = cases h.0 h.1 h.2
+    bytes ≢ codes "none" → bytes ≢ codes "there" → bytes ≢ codes "gone" → IsAnswerWord bytes → ⊥
+no_word_answer bytes done over short full nothing there gone h = cases h.0 h.1 h.2
   where
     cases : (a : Answer) → is_word_answer a ≡ true → bytes ≢ answer_text a
     cases answer.Done word e = done e
@@ -25,6 +26,8 @@ no_word_answer bytes done over short full nothing h = cases h.0 h.1 h.2
     cases answer.Short word e = short e
     cases answer.Full word e = full e
     cases answer.Nothing word e = nothing e
+    cases answer.There word e = there e
+    cases answer.Gone word e = gone e
 
 -- a number, and after a `get` without a key bytes
 pub number_answer : (asked : Op) (bytes : List ℕ) (n : ℕ) → IsRead (IsWithin 0 18446744073709551615) decimal bytes (Some n) →
@@ -34,6 +37,6 @@ number_answer asked bytes n read =
     let fits : NumberInForm n = omega arith in
     (answer.Number n, fits, read.1)
 
-pub text_answer : (asked : Op) (bytes found : List ℕ) → is_get asked ≡ true → IsRead (AreBytesUpTo 64) hex bytes (Some found) →
+pub text_answer : (asked : Op) (bytes found : List ℕ) → is_get asked ≡ true → IsRead (AreBytesUpTo REGISTER_BYTES) hex bytes (Some found) →
     IsAnswer asked bytes
 text_answer asked bytes found get read = (answer.Text found, (get, read.0), read.1)

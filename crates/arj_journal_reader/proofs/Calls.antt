@@ -5,18 +5,21 @@ use Rattle.std.specs.Fmt.{decimal}
 use Rattle.std.proofs.lemmas.Bool.{both_ways}
 use Rattle.std.proofs.lemmas.Fmt.{decimal_injective}
 use Rattle.std.proofs.lemmas.List.{append_cancel_right}
+use Rattle.arj_class.specs.declared.limits.TheConstants.{REGISTER_BYTES}
 use Rattle.arj_class.specs.declared.op.Op.{Op}
 use Rattle.arj_class.specs.declared.op.Op.TheVariants as op
 use Rattle.arj_class.specs.declared.op.Answer.{Answer}
 use Rattle.arj_class.specs.declared.op.Answer.TheVariants as answer
-use Rattle.arj_text.specs.Fields.{AnswerTextInForm, AreBytesUpTo, IsAnswer, NumberInForm, OpTextInForm, has_byte, has_space}
+use Rattle.arj_class.specs.declared.value.Value.{Value}
+use Rattle.arj_text.specs.Fields.{AnswerTextInForm, AreBytesUpTo, IsAnswer, IsThere, NumberInForm, OpTextInForm, has_byte, has_space}
 use Rattle.arj_journal_reader.specs.Form.{Form, Kinds}
 use Rattle.arj_journal_reader.specs.LineKinds.{call}
-use Rattle.arj_text.specs.Words.{answer_text, hex, op_text}
+use Rattle.arj_text.specs.Words.{answer_text, hex, op_text, value_text}
 use Rattle.arj_journal_reader.specs.Spellings.{IsKnown}
 use Rattle.arj_journal_reader.proofs.ByKind.{AreOfKinds, Lacks, LacksIn, Once, OnceIn, Seen, lacks_both}
 use Rattle.arj_journal_reader.proofs.Facts.{HaveWords, PieceFacts, form_of, kinds_facts, mixed_facts, spaceless_words}
-use Rattle.arj_journal_reader.proofs.Leaves.{IsApart, end_apart, hex_lacks, hex_once, known_once, space_apart}
+use Rattle.arj_journal_reader.proofs.Leaves.{IsApart, end_apart, hex_lacks, hex_once, known_once, letters_lack, space_apart}
+use Rattle.arj_journal_reader.proofs.ValueTexts.{value_lacks, value_once}
 use Rattle.arj_text.proofs.Texts.{cut_once, digits_only, no_cut}
 
 -- A text is cut at the last space in one way.
@@ -36,24 +39,24 @@ cut_last (a ∷ r) (b ∷ s) w v hw hv e =
     (cc, rest.1)
 
 -- Answers hold no space and no end of a line.
-answer_lacks : (k : ℕ) → IsApart k → (p : Op) (a : Answer) → AnswerTextInForm p a → has_byte k (codes "done") ≡ false →
-    has_byte k (codes "over") ≡ false → has_byte k (codes "short") ≡ false → has_byte k (codes "full") ≡ false →
-    has_byte k (codes "none") ≡ false → has_byte k (answer_text a) ≡ false
-answer_lacks k apart p answer.Done h d o s f n = d
-answer_lacks k apart p (answer.Number m) h d o s f n = digits_only k m apart.digit h
-answer_lacks k apart p (answer.Text bytes) h d o s f n = hex_lacks k apart bytes h.1.1
-answer_lacks k apart p answer.Over h d o s f n = o
-answer_lacks k apart p answer.Short h d o s f n = s
-answer_lacks k apart p answer.Full h d o s f n = f
-answer_lacks k apart p answer.Nothing h d o s f n = n
+answer_lacks : (k : ℕ) → IsApart k → (p : Op) (a : Answer) → AnswerTextInForm p a → has_byte k (answer_text a) ≡ false
+answer_lacks k apart p answer.Done h = letters_lack k apart.letter (codes "done") refl
+answer_lacks k apart p (answer.Number m) h = digits_only k m apart.digit h
+answer_lacks k apart p (answer.Text bytes) h = hex_lacks k apart bytes h.1.1
+answer_lacks k apart p answer.Over h = letters_lack k apart.letter (codes "over") refl
+answer_lacks k apart p answer.Short h = letters_lack k apart.letter (codes "short") refl
+answer_lacks k apart p answer.Full h = letters_lack k apart.letter (codes "full") refl
+answer_lacks k apart p answer.Nothing h = letters_lack k apart.letter (codes "none") refl
+answer_lacks k apart p answer.There h = letters_lack k apart.letter (codes "there") refl
+answer_lacks k apart p answer.Gone h = letters_lack k apart.letter (codes "gone") refl
 
 pub spaceless_answer : (p : Op) (bytes : List ℕ) → IsAnswer p bytes → has_space bytes ≡ false
-spaceless_answer p bytes h = ap (has_byte 32) h.2 ∙ answer_lacks 32 space_apart p h.0 h.1 refl refl refl refl refl
+spaceless_answer p bytes h = ap (has_byte 32) h.2 ∙ answer_lacks 32 space_apart p h.0 h.1
 
-endless_answer : (p : Op) (bytes : List ℕ) → IsAnswer p bytes → has_byte 10 bytes ≡ false
-endless_answer p bytes h = ap (has_byte 10) h.2 ∙ answer_lacks 10 end_apart p h.0 h.1 refl refl refl refl refl
+pub endless_answer : (p : Op) (bytes : List ℕ) → IsAnswer p bytes → has_byte 10 bytes ≡ false
+endless_answer p bytes h = ap (has_byte 10) h.2 ∙ answer_lacks 10 end_apart p h.0 h.1
 
--- The operations with arguments, by their words; three have none.
+-- The operations with arguments, by their words; four have none.
 data OpWord : Type 0 where
   Add : OpWord
   Set : OpWord
@@ -63,6 +66,7 @@ data OpWord : Type 0 where
   Push : OpWord
   Get : OpWord
   Remove : OpWord
+  Create : OpWord
 
 abbrev word_of : OpWord → List ℕ
 word_of Add = codes "add"
@@ -73,9 +77,10 @@ word_of Withdraw = codes "withdraw"
 word_of Push = codes "push"
 word_of Get = codes "get"
 word_of Remove = codes "remove"
+word_of Create = codes "create"
 
 abbrev words : List OpWord
-words = Add ∷ Set ∷ Put ∷ Deposit ∷ Withdraw ∷ Push ∷ Get ∷ Remove ∷ []
+words = Add ∷ Set ∷ Put ∷ Deposit ∷ Withdraw ∷ Push ∷ Get ∷ Remove ∷ Create ∷ []
 
 words_known : IsKnown word_of words
 words_known Add = refl
@@ -86,6 +91,7 @@ words_known Withdraw = refl
 words_known Push = refl
 words_known Get = refl
 words_known Remove = refl
+words_known Create = refl
 
 -- what a put says: the bytes of a register, or a key and a value
 data Puts : Type 0 where
@@ -93,14 +99,14 @@ data Puts : Type 0 where
   Pair : ℕ → ℕ → Puts
 
 abbrev PutsFit : Puts → Type 0
-PutsFit (Bytes bytes) = AreBytesUpTo 64 bytes
+PutsFit (Bytes bytes) = AreBytesUpTo REGISTER_BYTES bytes
 PutsFit (Pair k v) = NumberInForm k × NumberInForm v
 
 abbrev puts_text : Puts → List ℕ
 puts_text (Bytes bytes) = hex bytes
 puts_text (Pair k v) = decimal k ++ 32 ∷ decimal v
 
-no_pair_bytes : (bytes : List ℕ) (k v : ℕ) → AreBytesUpTo 64 bytes → hex bytes ≢ decimal k ++ 32 ∷ decimal v
+no_pair_bytes : (bytes : List ℕ) (k v : ℕ) → AreBytesUpTo REGISTER_BYTES bytes → hex bytes ≢ decimal k ++ 32 ∷ decimal v
 no_pair_bytes bytes k v fits e = no_cut 32 (hex bytes) (decimal k) (decimal v) (hex_lacks 32 space_apart bytes fits.1) e
 
 puts_once : Once PutsFit puts_text
@@ -123,6 +129,9 @@ number = record { Value = ℕ; InForm = NumberInForm; text = decimal }
 abbrev puts : Form
 puts = record { Value = Puts; InForm = PutsFit; text = puts_text }
 
+abbrev there : Form
+there = record { Value = Value; InForm = IsThere; text = value_text }
+
 abbrev op_form : OpWord → Form
 op_form Put = puts
 op_form Add = number
@@ -132,6 +141,7 @@ op_form Withdraw = number
 op_form Push = number
 op_form Get = number
 op_form Remove = number
+op_form Create = there
 
 abbrev make_put : Puts → Op
 make_put (Bytes bytes) = op.Put bytes
@@ -146,6 +156,7 @@ make_op Withdraw v = op.Withdraw v
 make_op Push v = op.Push v
 make_op Get v = op.GetKey v
 make_op Remove v = op.Remove v
+make_op Create v = op.Create v
 
 abbrev ops : Kinds
 ops = record { Kind = OpWord; word = word_of; form = op_form; Whole = Op; make = make_op }
@@ -154,6 +165,7 @@ abbrev has_words : Op → Bool
 has_words op.Get = false
 has_words op.Len = false
 has_words op.Pop = false
+has_words op.Destroy = false
 has_words _ = true
 
 abbrev OpFits : Op → Type 0
@@ -172,6 +184,8 @@ seen_op op.Pop h = absurd (both_ways false refl h.1)
 seen_op (op.GetKey k) h = record { kind = Get; value = k; fits = h.0; made = refl }
 seen_op (op.PutPair k v) h = record { kind = Put; value = Pair k v; fits = h.0; made = refl }
 seen_op (op.Remove k) h = record { kind = Remove; value = k; fits = h.0; made = refl }
+seen_op (op.Create v) h = record { kind = Create; value = v; fits = h.0; made = refl }
+seen_op op.Destroy h = absurd (both_ways false refl h.1)
 
 op_fits : (w : OpWord) (v : (op_form w).Value) → (op_form w).InForm v → OpFits (make_op w v)
 op_fits Put (Bytes bytes) h = (h, refl)
@@ -183,6 +197,7 @@ op_fits Withdraw v h = (h, refl)
 op_fits Push v h = (h, refl)
 op_fits Get v h = (h, refl)
 op_fits Remove v h = (h, refl)
+op_fits Create v h = (h, refl)
 
 op_spelled : (w : OpWord) (v : (op_form w).Value) → op_text (make_op w v) ≡ word_of w ++ 32 ∷ (op_form w).text v
 op_spelled Put (Bytes bytes) = refl
@@ -194,6 +209,7 @@ op_spelled Withdraw v = refl
 op_spelled Push v = refl
 op_spelled Get v = refl
 op_spelled Remove v = refl
+op_spelled Create v = refl
 
 op_words : HaveWords ops words
 op_words = record { known = words_known; letters = refl }
@@ -214,6 +230,12 @@ number_facts = record { once = λ m n hm hn e. decimal_injective m n hm hn e; en
 puts_facts : PieceFacts puts
 puts_facts = record { once = puts_once; endless = puts_endless }
 
+there_facts : PieceFacts there
+there_facts = record {
+  once = λ v w hv hw e. value_once v w hv.0 hw.0 e;
+  endless = λ v h. value_lacks 10 end_apart refl refl v h.0;
+}
+
 op_forms : (w : OpWord) → PieceFacts (op_form w)
 op_forms Put = puts_facts
 op_forms Add = number_facts
@@ -223,30 +245,35 @@ op_forms Withdraw = number_facts
 op_forms Push = number_facts
 op_forms Get = number_facts
 op_forms Remove = number_facts
+op_forms Create = there_facts
 
 -- the operations without arguments
 data Bare : Type 0 where
   BareGet : Bare
   BareLen : Bare
   BarePop : Bare
+  BareDestroy : Bare
 
 abbrev bare_op : Bare → Op
 bare_op BareGet = op.Get
 bare_op BareLen = op.Len
 bare_op BarePop = op.Pop
+bare_op BareDestroy = op.Destroy
 
 abbrev bares : List Bare
-bares = BareGet ∷ BareLen ∷ BarePop ∷ []
+bares = BareGet ∷ BareLen ∷ BarePop ∷ BareDestroy ∷ []
 
 bare_known : IsKnown (λ b. op_text (bare_op b)) bares
 bare_known BareGet = refl
 bare_known BareLen = refl
 bare_known BarePop = refl
+bare_known BareDestroy = refl
 
 either : (p : Op) → OpTextInForm p → ((b : Bare) × (bare_op b ≡ p)) ⊎ OpFits p
 either op.Get h = inl (BareGet, refl)
 either op.Len h = inl (BareLen, refl)
 either op.Pop h = inl (BarePop, refl)
+either op.Destroy h = inl (BareDestroy, refl)
 either (op.Add v) h = inr (h, refl)
 either (op.Set v) h = inr (h, refl)
 either (op.Put v) h = inr (h, refl)
@@ -256,6 +283,7 @@ either (op.Push v) h = inr (h, refl)
 either (op.GetKey v) h = inr (h, refl)
 either (op.Remove v) h = inr (h, refl)
 either (op.PutPair k v) h = inr (h, refl)
+either (op.Create v) h = inr (h, refl)
 
 pub op_facts : PieceFacts (form_of Op OpTextInForm op_text)
 op_facts = mixed_facts ops OpFits OpTextInForm op_text (record { Bare = Bare; bare = bare_op; every = bares })

@@ -10,3 +10,4 @@ pub mod LineFacts
 pub mod LineReading
 pub mod NodeLists
 pub mod Taking
+pub mod ValueTexts

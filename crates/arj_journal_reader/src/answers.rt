@@ -8,8 +8,8 @@ use arj_text::field::{is_text, number};
 use arj_text::field_hex::hex_up_to;
 use std::alloc::{AllocError, Global};
 
-/// Whether the bytes are an answer to that operation: `done`, `over`, `short`, `full`, `none` or a number, and after a
-/// `get` without a key also at most 64 bytes as digits.
+/// Whether the bytes are an answer to that operation: `done`, `over`, `short`, `full`, `none`, `there`, `gone` or a number, and
+/// after a `get` without a key also at most 192 bytes as digits.
 pub fn is_answer(alloc: Global, asked: &Op, bytes: &[u8]) -> Result<bool, AllocError>
     ensures { IfOk result (λ yes. MatchBool yes (IsAnswer asked.now bytes.now) (IsAnswer asked.now bytes.now → ⊥)) }
 {
@@ -45,6 +45,12 @@ fn is_answer_word(bytes: &[u8]) -> bool
         return true;
     }
     if is_text(bytes, b"none") {
+        return true;
+    }
+    if is_text(bytes, b"there") {
+        return true;
+    }
+    if is_text(bytes, b"gone") {
         return true;
     }
     false

@@ -23,6 +23,7 @@ fn is_writing(op: &Op) -> bool
         Op::Get | Op::Len | Op::GetKey(_) => false,
         Op::Add(_) | Op::Set(_) | Op::Put(_) | Op::Deposit(_) | Op::Withdraw(_) => true,
         Op::Push(_) | Op::Pop | Op::PutPair(_, _) | Op::Remove(_) => true,
+        Op::Create(_) | Op::Destroy => true,
     }
 }
 

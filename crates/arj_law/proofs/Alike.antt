@@ -14,7 +14,7 @@ use Rattle.arj_journal.specs.declared.body.FrameKind.{FrameKind}
 use Rattle.arj_model.specs.Last.{changer_from, entry_from, excluded, first_values, last_from, state_after, stores_of_line}
 use Rattle.arj_model.specs.Nested.{nested_less}
 use Rattle.arj_model.specs.Shown.{raised, shown_lines}
-use Rattle.arj_start.specs.Start.{Marks, Start}
+use Rattle.arj_start.specs.Start.{Marks, Start, format_at}
 
 -- what is read of a line doesn't look at lines of frames
 record IsBlind {A : Type 0} (f : List Act → Body → Option A) : Type 0 where
@@ -160,7 +160,7 @@ module _ (st : Start) where
   pub same_last : (header : Header) (marks : Marks) (lines : List Line) (x : ℕ) →
       last_from header marks (shown_lines st lines) x ≡ last_from header marks lines x
   same_last header marks lines x i =
-      state_after (marks.states x) x (run (first_values header) (same_serial_calls lines i) x)
+      state_after header.format (marks.states x) x (run (first_values header) (same_serial_calls lines i) x)
       (filter (writes_on x) (same_serial_calls lines i))
 
   pub same_entry : (header : Header) (marks : Marks) (lines : List Line) (x : ℕ) →
@@ -173,6 +173,7 @@ module _ (st : Start) where
         version = mark.version + length (changed i);
         writer = changer_from (same_acts lines i) mark.writer (changed i);
         payload = entry_payload (servers_of_line (object_line header x)) (same_listed header lines x i);
+        format = format_at header.format (mark.version + length (changed i));
       }
     where
       changed : changers (shown_lines st lines) x (stores_of_line (object_line header x)) (serial_tops (shown_lines st lines))

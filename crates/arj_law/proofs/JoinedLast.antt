@@ -21,6 +21,7 @@ use Rattle.arj_law.proofs.JoinedCalls.{ends_join, other_number, path_all, read_a
 use Rattle.arj_law.proofs.JoinedLists.{all_over, arrange_join, arrange_over, arrange_same, filter_map_same}
 use Rattle.arj_law.proofs.JoinedOrder.{across_stands, high_stands, low_stands, serial_join, stands_before, values_join}
 use Rattle.arj_law.specs.Joined.{AreJoined, GoesOn, marks_after}
+use Rattle.arj_start.specs.Start.{format_at}
 use Rattle.arj_model.specs.{Clean.Clean, Clean.CleanFrom, Disks.Disks, Last.count_tops, Last.entry_from, Last.excluded, Last.first_values}
 use Rattle.arj_model.specs.{Last.last_from, Last.last_state, Last.writer_from}
 use Rattle.arj_model.specs.{Last.stores_of_line}
@@ -436,14 +437,18 @@ module _ (first second : List Line) (apart : AreApart first second) where
       last_join = (λ i. record {
         uid = object x;
         class = class_of (value i);
-        version = (ap (λ m. 0 + m) (ap count_tops (writes_join x) ∙ count_join n k (writes_of first x) (writes_of second x) (write_lows x))
-            ∙ sum (count_tops (writes_of first x)) (count_tops (writes_of second x))) i;
+        version = version i;
         writer = (ap (writer_from nobody) (writes_join x) ∙ writer_join n k nobody (writes_of first x) (writes_of second x)) i;
         payload = payload_of (value i);
+        format = format_at (sym goes.format i) (version i);
       })
         where
           sum : (a b : ℕ) → 0 + (a + b) ≡ 0 + a + b
           sum a b = omega arith
+
+          version : 0 + count_tops (writes_of both x) ≡ 0 + count_tops (writes_of first x) + count_tops (writes_of second x)
+          version = ap (λ m. 0 + m) (ap count_tops (writes_join x) ∙ count_join n k (writes_of first x) (writes_of second x) (write_lows x))
+              ∙ sum (count_tops (writes_of first x)) (count_tops (writes_of second x))
 
           value : values_after (first_values header) both x ≡ values_after (first_values next) second x
           value = ap (λ v. v x) (values_join first second apart called (first_values header))
@@ -461,11 +466,11 @@ module _ (first second : List Line) (apart : AreApart first second) where
       entry_join = (λ i. record {
         uid = entry x;
         class = class.Entry;
-        version = (ap (λ m. 0 + m) (ap length changed ∙ length-append old (tops_behind first new)
-            ∙ ap (λ m. length old + m) (length-map new (top_behind n k))) ∙ sum (length old) (length new)) i;
+        version = version i;
         writer = (ap (changer_from (acts both) nobody) changed
             ∙ last_both nobody old new (all_changers first x (stores_of_line (object_line header x)) (serial_tops first) serial_lows)) i;
         payload = entry_payload (sym (goes.servers x) i) (listed_join i);
+        format = format_at (sym goes.format i) (version i);
       })
         where
           sum : (a b : ℕ) → 0 + (a + b) ≡ 0 + a + b
@@ -480,6 +485,10 @@ module _ (first second : List Line) (apart : AreApart first second) where
           changed : changers both x (stores_of_line (object_line header x)) (serial_tops both) ≡ old ++ tops_behind first new
           changed = changers_join (stores_of_line (object_line header x)) x
               ∙ ap (λ l. old ++ tops_behind first (changers second x l (serial_tops second))) (sym stores_are)
+
+          version : 0 + length (changers both x (stores_of_line (object_line header x)) (serial_tops both)) ≡ 0 + length old + length new
+          version = ap (λ m. 0 + m) (ap length changed ∙ length-append old (tops_behind first new)
+              ∙ ap (λ m. length old + m) (length-map new (top_behind n k))) ∙ sum (length old) (length new)
 
 -- ---- disks
 

@@ -9,7 +9,7 @@ use Terms.class
 use Terms.body
 use Rattle.arj_law.proofs.{Commit.chain_stays, Common.never, JoinedLists.filter_map_same, Reading.read_none, Reading.read_some}
 use Rattle.arj_model.specs.{Last.entry_from}
-use Rattle.arj_start.specs.{Start.Mark, Start.Marks}
+use Rattle.arj_start.specs.{Start.Mark, Start.Marks, Start.format_at}
 use Rattle.arj_law.specs.Growth.{CommitsTop, IdleInPlace, first_stores, AreDecidedInOrder, entry_by, IncludesNoneBelow}
 use Rattle.std.proofs.lemmas.List.Folds.{list_all-map}
 
@@ -84,6 +84,7 @@ entry_decided header marks lines x counts decided h =
       version = mark.version + length (changed i);
       writer = changer_from (acts lines) mark.writer (changed i);
       payload = entry_payload (servers_of_line (object_line header x)) (listed_decided header lines x counts decided h i);
+      format = format_at header.format (mark.version + length (changed i));
     })
 
 -- What a commit leaves of the stores that earlier tops excluded and included.

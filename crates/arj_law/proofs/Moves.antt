@@ -4,7 +4,7 @@ use Terms.{◌≡◌, ℕ, List, [], ◌∷◌, Bool, true, false, cond, ◌&&�
 use Terms.{eqb-true, and_cases, answer_of, value_after, writes, Get, Add, answer_text, Call, Values, Answers, after, insert, arrange}
 use Terms.{is_conflict}
 use Rattle.arj_class.specs.{declared.op.Op.Op, declared.value.Value.Value}
-use Rattle.arj_class.specs.declared.op.Op.TheVariants.{Set, Put, Deposit, Withdraw, Len, Push, Pop, GetKey, PutPair, Remove}
+use Rattle.arj_class.specs.declared.op.Op.TheVariants.{Set, Put, Deposit, Withdraw, Len, Push, Pop, GetKey, PutPair, Remove, Create, Destroy}
 use Rattle.arj_law.proofs.Common.{never, turned, Pairwise}
 use Rattle.std.proofs.lemmas.Bool.{or_parts}
 
@@ -22,6 +22,8 @@ read_stays Pop v e = never true refl e
 read_stays (GetKey k) v e = refl
 read_stays (PutPair k w) v e = never true refl e
 read_stays (Remove k) v e = never true refl e
+read_stays (Create w) v e = never true refl e
+read_stays Destroy v e = never true refl e
 
 -- a call leaves the values of other objects
 pub other_stays : (values : Values) (c : Call) (y : ℕ) → (y == c.x) ≡ false → after values c y ≡ values y

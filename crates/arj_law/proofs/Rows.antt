@@ -3,6 +3,7 @@ use Rattle.arj_law.proofs.Terms
 use Terms.{◌≡◌, refl, List, [], ◌∷◌, map, Some, None, Get, Add, Line, Header, committed_calls, serial_calls, listed, more, nested_calls}
 use Terms.body
 use Terms.kind
+use Rattle.arj_base.specs.declared.state.Format.TheVariants as format
 use Rattle.arj_class.specs.declared.value.Value.TheVariants.{Counter}
 use Rattle.arj_model.proofs.Journals.{A, B, C, D, uid, began, lines_of, unit_round_a_top}
 use Rattle.arj_model.specs.Held.{unit_end}
@@ -39,7 +40,7 @@ recovered = refl
 
 -- A excludes store 4 of object 1, which stores 3 and 4 hold.
 two_stores : Header
-two_stores = record { nodes = 4; objects = (record { x = 1; value = Counter 0; servers = 2 ∷ []; stores = 3 ∷ 4 ∷ [] }) ∷ [] }
+two_stores = record { nodes = 4; objects = (record { x = 1; value = Counter 0; servers = 2 ∷ []; stores = 3 ∷ 4 ∷ [] }) ∷ []; format = format.Two }
 
 to_commit : List Line
 to_commit = lines_of

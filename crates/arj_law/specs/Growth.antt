@@ -13,7 +13,7 @@ use Rattle.arj_model.specs.Actions.{acts, id_in, chain_in}
 use Rattle.arj_model.specs.Calls.{Top, ids, made}
 use Rattle.arj_model.specs.Last.{is_among, object_line, stores_of_line, servers_of_line, included, listed_after, listed_from, serial_tops}
 use Rattle.arj_model.specs.Last.{changer_from, changers, entry_payload}
-use Rattle.arj_start.specs.Start.{Marks}
+use Rattle.arj_start.specs.Start.{Marks, format_at}
 
 -- the journal with one line more
 abbrev pub more : List Line → Line → List Line
@@ -63,6 +63,7 @@ entry_by header marks lines x ts =
       version = mark.version + length changed;
       writer = changer_from (acts lines) mark.writer changed;
       payload = entry_payload (servers_of_line (object_line header x)) (listed_from lines x (first_stores header x) ts);
+      format = format_at header.format (mark.version + length changed);
     }
 
 -- no include was answered in this action as in a nested one

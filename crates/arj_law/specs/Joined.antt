@@ -75,12 +75,13 @@ mark_of s = record { version = s.version; writer = s.writer }
 abbrev pub marks_after : Header → List Line → Marks
 marks_after header lines = record { states = λ x. mark_of (last_state header lines x); entries = λ x. mark_of (entry_state header lines x) }
 
--- A second run's header goes on where a journal ended: the same objects, in the values and at the stores that it left.
+-- A second run's header goes on where a journal ended: the same objects, in the values and at the stores that it left, and the same format.
 pub record GoesOn (first : Header) (lines : List Line) (second : Header) : Type 0 where
   pub objects : (x : ℕ) → is_some (object_line second x) ≡ is_some (object_line first x)
   pub servers : (x : ℕ) → servers_of_line (object_line second x) ≡ servers_of_line (object_line first x)
   pub stores : (x : ℕ) → stores_of_line (object_line second x) ≡ listed first lines x
   pub values : (x : ℕ) → first_values second x ≡ values_after (first_values first) lines x
+  pub format : second.format ≡ first.format
 
 -- What joined journals have to do with one another, for the laws.
 pub record AreJoined (header : Header) (first : List Line) (next : Header) (second : List Line) : Type 0 where

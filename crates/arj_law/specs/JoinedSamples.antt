@@ -3,6 +3,7 @@
 use Rattle.std.specs.Prelude.{refl, ◌≡◌, ℕ, List, [], ◌∷◌, ◌++◌, replicate, codes, None, Some}
 use Rattle.std.proofs.Common.{arith}
 use Rattle.arj_base.specs.declared.state.Class.TheVariants as class
+use Rattle.arj_base.specs.declared.state.Format.TheVariants as format
 use Rattle.arj_base.specs.declared.state.ObjectState.{ObjectState}
 use Rattle.arj_base.specs.declared.uid.Uid.{Uid}
 use Rattle.arj_base.specs.Uid.{entry, object}
@@ -37,17 +38,17 @@ line_in event b = record { event = event; body = b }
 
 -- a header with one counter
 abbrev pub counter_at : ℕ → List ℕ → Header
-counter_at value stores = record { nodes = 3; objects = record { x = 1; value = Counter value; servers = 1 ∷ []; stores = stores } ∷ [] }
+counter_at value stores = record { nodes = 3; objects = record { x = 1; value = Counter value; servers = 1 ∷ []; stores = stores } ∷ []; format = format.Two }
 
 -- a state of the counter
 abbrev pub counter_state : ℕ → Uid → ℕ → ObjectState
 counter_state version writer value =
-    record { uid = object 1; class = class.Counter; version = version; writer = writer; payload = replicate 7 0 ++ value ∷ [] }
+    record { uid = object 1; class = class.Counter; version = version; writer = writer; payload = replicate 7 0 ++ value ∷ []; format = format.Two }
 
 -- its entry
 abbrev pub counter_entry : ℕ → Uid → List ℕ → ObjectState
 counter_entry version writer stores =
-    record { uid = entry 1; class = class.Entry; version = version; writer = writer; payload = entry_payload (1 ∷ []) stores }
+    record { uid = entry 1; class = class.Entry; version = version; writer = writer; payload = entry_payload (1 ∷ []) stores; format = format.Two }
 
 -- The second run goes on where the first one ended, and both together have these last states.
 pub record EndSo (header next : Header) (first second : List Line) (state entry : ObjectState) : Type 0 where

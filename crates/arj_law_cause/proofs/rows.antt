@@ -4,7 +4,7 @@
 -- all lines are of it (`Inside`), so tables show locks there, of actions that began (`Holders`), and whoever answers says what the table
 -- has (`Telling`). Event by event so it is in whole runs (`Running`).
 --
--- A call ends at its coordinator by the answer that it takes, or given up (`Ending`, `Dumb`). There the action waits for what was asked
+-- A call ends at its coordinator by the answer that it takes, or given up (`Ending`). There the action waits for what was asked
 -- last, and the answer was made in its span (`Taking`), under its path (`Paths`), where the journal's row finds it (`Spans`, `Rows`); what
 -- is given up says so before (`Giving`). So each line of an event fits (`Lined`, `Asks`); and as what is accepted is what coordinators were
 -- asked (`Accepting`), each line of a run (`Whole`).
@@ -13,7 +13,6 @@ pub mod Inside
 pub mod Holders
 pub mod Telling
 pub mod Running
-pub mod Dumb
 pub mod Ending
 pub mod Taking
 pub mod Paths

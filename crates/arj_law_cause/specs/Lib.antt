@@ -1,3 +1,6 @@
+pub mod follow
+pub mod waits
 pub mod rows
 pub mod kinds
 pub mod operations
+pub mod spelled

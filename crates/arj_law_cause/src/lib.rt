@@ -1,17 +1,22 @@
-//! Causes of a journal's lines: of answers, in what was asked and in the table of the node that gave them, and of what nodes and
-//! the world do.
+//! Why the journal says what it says, in its own words: what each event writes, what waits, and why each line stands.
 //!
-//! `rows/` has what answers say of the lines before the place where they are made, and the lines of answers with their causes;
-//! `operations/` of which operation an answer is; `kinds/` that each line of one kind has its cause, row by row.
+//! `follow/` has what events write, `waits/` what actions wait for, `rows/` answers with their causes, `operations/` of which
+//! operation an answer is, `kinds/` lines of one kind with their causes, `spelled/` that what is sent can be spelled.
 //!
-//! What it gives upward: `conflicts_are_met`, `answers_have_causes`, `answers_are_of_their_operations`, `frame_lines_have_causes`,
-//! `stops_have_causes`, `restarts_have_causes`, `limits_have_causes`, `plain_refusals_have_causes`, `commits_done_have_causes`,
-//! `quiesces_have_causes`, `recoveries_have_causes`.
+//! What it gives upward: `tree_refusals_follow`, `object_refusals_follow`, `refusals_follow`, `lines_follow`; `waits_are_those_of_journals`,
+//! `waiting_refusals_follow`, `answers_end_what_waits`, `commits_end_what_waits`, `giveups_lose_calls`; `conflicts_are_met`,
+//! `answers_have_causes`, `answers_are_of_their_operations`; `frame_lines_have_causes`, `stops_have_causes`, `restarts_have_causes`,
+//! `limits_have_causes`, `plain_refusals_have_causes`, `commits_done_have_causes`, `quiesces_have_causes`, `recoveries_have_causes`;
+//! `messages_can_be_spelled`.
 #![tactic(auto)]
 
 mod answers;
 mod causes;
+mod messages;
 mod met;
+mod refused;
+mod waiting;
+mod written;
 
 pub use answers::{answers_are_of_their_operations, answers_have_causes};
 pub use causes::{
@@ -19,4 +24,11 @@ pub use causes::{
     plain_refusals_have_causes, quiesces_have_causes, recoveries_have_causes, restarts_have_causes,
     stops_have_causes,
 };
+pub use messages::messages_can_be_spelled;
 pub use met::conflicts_are_met;
+pub use refused::{object_refusals_follow, refusals_follow, tree_refusals_follow};
+pub use waiting::{
+    answers_end_what_waits, commits_end_what_waits, giveups_lose_calls, waiting_refusals_follow,
+    waits_are_those_of_journals,
+};
+pub use written::lines_follow;

@@ -7,14 +7,14 @@ pub use Rattle.arj_base.specs.Order.{uid_order}
 pub use Rattle.arj_base.specs.Path.{before_last, top_uid}
 pub use Rattle.arj_base.specs.Rows.{front, goes_to, handed_on, has_any, has_row, is_against, is_heir, is_row_of, mode_of, passed, renamed}
 pub use Rattle.arj_base.specs.Rows.{strengthened}
-pub use Rattle.arj_base.specs.State.{state_bytes}
+pub use Rattle.arj_base.specs.State.{is_object_class, state_bytes}
 pub use Rattle.arj_base.specs.Uid.{nobody}
 pub use Rattle.arj_base.specs.contracts.uid.UidOrd.TheImpl.Laws.{total-law}
 pub use Rattle.arj_base.specs.declared.mode.Mode.TheVariants.{Exclude, Read, Write}
 pub use Rattle.arj_base.specs.declared.state.Class.{Class}
 pub use Rattle.arj_class.specs.Forms.{PairsFit, ValueInForm}
 pub use Rattle.arj_class.specs.Keys.{KeysRise}
-pub use Rattle.arj_class.specs.Table.{has_op, is_full_for, is_write, put_pair}
+pub use Rattle.arj_class.specs.Table.{has_op, is_full_for, is_value_of, is_write, own_class, put_pair}
 pub use Rattle.arj_class.specs.declared.value.Value.{Value}
 pub use Rattle.arj_class.specs.declared.value.Value.TheVariants.{Account, Counter, Queue, Register, Table}
 pub use Rattle.arj_lock.proofs.Leaves.{gone_any, grant_any, grant_clear, grant_each, kept_any, kept_from}
@@ -48,6 +48,7 @@ pub use Rattle.arj_protocol.proofs.Numbers.{number_tells}
 pub use Rattle.arj_protocol.proofs.PartSays.{activate_own, all_both, all_flat, all_if, bind_own, confirm_own, ends_own, invoke_own}
 pub use Rattle.arj_protocol.proofs.PartSays.{note_own, told_own, vote_own}
 pub use Rattle.arj_protocol.proofs.Payloads.{entry_back, value_back}
+pub use Rattle.arj_protocol.proofs.States.{made_over}
 pub use Rattle.arj_protocol.proofs.Quiet.{Quiet, all_quiet, coord_quiet}
 pub use Rattle.arj_protocol.proofs.RowSteps.{after_both, one_or_two, same_number}
 pub use Rattle.arj_protocol.proofs.Steps.{steps_lines}
@@ -89,7 +90,7 @@ pub use Rattle.arj_protocol.specs.Coord.{servers_told, set_doing, survives, top_
 pub use Rattle.arj_protocol.specs.Coord.{with_keeping, with_said, with_went}
 pub use Rattle.arj_protocol.specs.Copy.{Base, Copy, Over, ask_copy, changed_state, current, end_copy, folded, grant_lines, invoke_copy}
 pub use Rattle.arj_protocol.specs.Copy.{is_granted, is_of, is_top_in, is_top_over, over_of, overs_committed, raised, row_for, rows_asked}
-pub use Rattle.arj_protocol.specs.Copy.{run_copy, settled, taken_copy, undone, written}
+pub use Rattle.arj_protocol.specs.Copy.{run_copy, settled, state_over, taken_copy, undone, written}
 pub use Rattle.arj_protocol.specs.Effect.{Abort, After, Already, Before, Commit, Did, Disk, Do, Effect, InDoubt, InPart, Intent, Look, Old}
 pub use Rattle.arj_protocol.specs.Effect.{Pair, Prep, Prepare, PutInc, PutIntent, Ready, RemoveIntent, Say, Send, Served, Stop, Work}
 pub use Rattle.arj_protocol.specs.Effect.{by_holder, did_nothing, either, first_refusal, held_at, holder_of, in_part, is_old, is_prepared}
@@ -144,7 +145,7 @@ pub use Rattle.arj_protocol.specs.Tree.{ended_at, ended_branch, ended_so, ends_o
 pub use Rattle.arj_protocol.specs.Tree.{is_aborted, is_committed, is_merged, is_nested, is_open, is_open_below}
 pub use Rattle.arj_protocol.specs.Tree.{is_open_branch, is_own, is_parent, is_spent, latest_first, listed_end}
 pub use Rattle.arj_protocol.specs.Tree.{new_tree, next_uid, no_family, open_below, path_below, root_of, set_place, uses_object, with_family}
-pub use Rattle.arj_protocol.specs.Values.{state_entry, value_in}
+pub use Rattle.arj_protocol.specs.Values.{gone_class, state_entry, state_value, value_in}
 pub use Rattle.arj_protocol.specs.Words.{Answer, Ask, Asked, Binding, Body, BoundReply, Cause, ConfirmedReply, End, Entry, Event, FrameNo}
 pub use Rattle.arj_protocol.specs.Words.{Head, Header, InvokedReply, Kind, Label, Line, LoadedReply, Message, Mode, ObjectLine, ObjectState}
 pub use Rattle.arj_protocol.specs.Words.{Op, Part, Path, PreparedReply, RecordedReply, Role, Row, Uid, VotedReply, What, answer_of}

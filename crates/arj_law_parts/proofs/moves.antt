@@ -8,6 +8,7 @@
 -- to another node has the exact line of its frame then (`specs/moves/With.antt`). Whole steps with a node's messages to itself, frames,
 -- events and runs, in which disks stop of their own, are shown here once for all relations with a history (`Worlds`, `Events`); those that
 -- look at none are some of them (`Happens`, `Moving`).
+pub mod EachNode
 pub mod Cuts
 pub mod Flat
 pub mod Others

@@ -64,7 +64,7 @@ pub use Rattle.arj_law_disk_view.specs.view.Deciding.{SeesRecords, nodes_of}
 pub use Rattle.arj_law_disk_view.specs.view.Entries.{SeesEntry}
 pub use Rattle.arj_law_disk_view.specs.view.Formats.{IsLine}
 pub use Rattle.arj_law_disk_view.specs.view.Knows.{KnowsMachine}
-pub use Rattle.arj_law_disk_view.specs.view.Pairs.{Among, AreSorted, packed, packed_entry}
+pub use Rattle.arj_law_disk_view.specs.view.Pairs.{Among, AreSorted, content_of, packed, packed_entry}
 pub use Rattle.arj_law_disk_view.specs.view.Plans.{IsTidy, plan_at, plan_by, used_at}
 pub use Rattle.arj_law_disk_view.specs.view.Sees.{Along, ClaimsAsked, IsLater, Kinds, SeesCoord, SeesDisks, Works, WorksBy}
 pub use Rattle.arj_law_disk_view.specs.view.Stores.{SeesStore}

@@ -5,7 +5,7 @@
 -- machine began as the header says (`specs/Begun.antt`), it decides tops in the order of their commit calls against decisions
 -- (`specs/Ordered.antt`), so that by the lock machine its decided writers stand as their commits were called (`specs/Writers.antt`),
 -- and by naming's half of it those that only include a store too (`specs/Includers.antt`), and what stands of the object on disks is of
--- its class (`specs/Forms.antt`); both machines are there at once, so that decided tops gave to the stores what they wrote
+-- its own class (`specs/Forms.antt`); both machines are there at once, so that decided tops gave to the stores what they wrote
 -- (`specs/Joined.antt`); so disks are clean (`specs/Cleaned.antt`), and stores excluded in time (`specs/Excluded.antt`,
 -- `specs/InTime.antt`, by what disks say `specs/DisksInTime.antt`). What one outcome is by a journal is in `specs/Outcome.antt`; what
 -- lines say of exclusions in `specs/Marked.antt`, and of includes in `specs/Joins.antt`; over which states copies and votes lie in
@@ -14,7 +14,9 @@ pub mod Beginning
 pub mod Called
 pub mod Clean
 pub mod Firsts
+pub mod FormCopies
 pub mod FormNodes
+pub mod FormPairs
 pub mod FormRuns
 pub mod FormServers
 pub mod Listing

@@ -16,6 +16,7 @@ pub mod Codes
 pub mod Locks
 pub mod States
 pub mod Entries
+pub mod Contents
 pub mod Cleaning
 pub mod Votes
 pub mod Shown

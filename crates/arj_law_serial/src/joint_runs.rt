@@ -6,7 +6,7 @@ ghost use Rattle.arj_law_serial.specs.joint.Shown.{ReadingsShowPairs, IncludesAr
 
 /// After each run whose header and events are in form, of at most 1,000,000 events, wherever disks stop, its nodes' disks are clean,
 /// however they are read (`DisksAre`), with no premise: of both machines of each object nothing is taken (`runs_have_both_machines`). That decided tops are the journal's,
-/// that machines began as the header says, that all states are of their class, that decided writers stand as their commits were called, that
+/// that machines began as the header says, that naming's states are entries, that decided writers stand as their commits were called, that
 /// decided tops take those stores out of the list that their commits excluded and add those that they included, that who counts for nothing
 /// excludes no store that is listed in its place, and that each include names a node of the header (`listed`), is given here. What such
 /// readings show of the pairs `shown` says. It does nothing when it runs.

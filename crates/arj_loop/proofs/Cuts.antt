@@ -8,16 +8,16 @@ use Rattle.arj_script.specs.Input.{lines_of}
 use Rattle.arj_script.proofs.Cutting.{ended_from-append, rest_from-append}
 
 -- a line that is too long is there, whatever follows
-long_goes : (line past : List ℕ) → 200 < length line →
-    (long : List ℕ) × (tail : List (List ℕ)) × (ended_from line past ++ last_line AtRunEnd (rest_from line past) ≡ long ∷ tail) × (200 < length long)
-long_goes line [] long = (line, [], cond-true (is_too_long line) (line ∷ []) [] (lt-ltb 200 (length line) long), long)
+long_goes : (line past : List ℕ) → 500 < length line →
+    (long : List ℕ) × (tail : List (List ℕ)) × (ended_from line past ++ last_line AtRunEnd (rest_from line past) ≡ long ∷ tail) × (500 < length long)
+long_goes line [] long = (line, [], cond-true (is_too_long line) (line ∷ []) [] (lt-ltb 500 (length line) long), long)
 long_goes line (b ∷ bs) long =
     let on = long_goes (line ++ b ∷ []) bs (omega (arith, long, length-append line (b ∷ []))) in
-    elim (b == 10) as (λ t. (found : List ℕ) × (tail : List (List ℕ)) × ((if t then line ∷ ended_from [] bs else ended_from (line ++ b ∷ []) bs) ++ last_line AtRunEnd (if t then rest_from [] bs else rest_from (line ++ b ∷ []) bs) ≡ found ∷ tail) × (200 < length found))
+    elim (b == 10) as (λ t. (found : List ℕ) × (tail : List (List ℕ)) × ((if t then line ∷ ended_from [] bs else ended_from (line ++ b ∷ []) bs) ++ last_line AtRunEnd (if t then rest_from [] bs else rest_from (line ++ b ∷ []) bs) ≡ found ∷ tail) × (500 < length found))
     [ true ↦ (line, ended_from [] bs ++ last_line AtRunEnd (rest_from [] bs), refl, long) | false ↦ on ]
 
-pub lines_long : (used past : List ℕ) (done : List (List ℕ)) → ended_lines used ≡ done → length (rest_line used) ≡ 201 →
-    (line : List ℕ) × (tail : List (List ℕ)) × (lines_of AtRunEnd (used ++ past) ≡ done ++ line ∷ tail) × (200 < length line)
+pub lines_long : (used past : List ℕ) (done : List (List ℕ)) → ended_lines used ≡ done → length (rest_line used) ≡ 501 →
+    (line : List ℕ) × (tail : List (List ℕ)) × (lines_of AtRunEnd (used ++ past) ≡ done ++ line ∷ tail) × (500 < length line)
 lines_long used past done e size =
     let g = long_goes (rest_line used) past (omega (arith, size)) in
     let more = ended_from (rest_line used) past in (

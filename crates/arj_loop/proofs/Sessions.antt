@@ -215,8 +215,8 @@ same_before ending.Frames count others = absurd (others refl)
 -- what the runner says of an end
 pub record RunnerEnds {D M : Type 0} (view : Ghosts M D) (was : Work D M) (now : Work D M) (end : End) : Type 0 where
   pub bad : (w : BadLine) → IsEnd end (ending.Bad w) →
-      (was.session.runner.lines < 100000 ⊎ (200 < length was.session.cutter.line)) × IsBadLine was.session.runner.reader was.session.cutter.line × IsBadBy w was.session.runner.reader was.session.cutter.line
-  pub many : IsEnd end ending.Lines → (100000 ≤ was.session.runner.lines) × (length was.session.cutter.line ≤ 200)
+      (was.session.runner.lines < 100000 ⊎ (500 < length was.session.cutter.line)) × IsBadLine was.session.runner.reader was.session.cutter.line × IsBadBy w was.session.runner.reader was.session.cutter.line
+  pub many : IsEnd end ending.Lines → (100000 ≤ was.session.runner.lines) × (length was.session.cutter.line ≤ 500)
   pub kept : ((w : BadLine) × IsEnd end (ending.Bad w)) ⊎ IsEnd end ending.Lines →
       (now.session.runner.machine ≡ was.session.runner.machine) × (now.session.runner.lines ≡ was.session.runner.lines) × (now.rack ≡ was.rack)
   pub labels : IsEnd end ending.Labels → (first : List D) (lines : List (List ℕ)) →
@@ -269,9 +269,9 @@ put_ended end P only write memory = ⊎_elim (λ is. subst P (sym is) (write is)
 pub going_on : {D M : Type 0} (view : Ghosts M D) (first : List D) (before : Option (List ℕ)) (used bytes : List ℕ) (after : InHand) (was : Work D M) → Takes was.session.cutter.most was.session.cutter.line bytes full.No after.line → after.most ≡ was.session.cutter.most → IsGoing view first before used was
     → IsGoing view first before (used ++ bytes) (work was.rack (with_cutter was.session after) was.journal was.taken)
 going_on view first before used bytes after was takes kept g =
-    let fits : Takes 200 was.session.cutter.line bytes full.No after.line =
+    let fits : Takes 500 was.session.cutter.line bytes full.No after.line =
     subst (λ m. Takes m was.session.cutter.line bytes full.No after.line) g.room takes in
-    let f = fed_none 200 used was.session.cutter.line bytes after.line g.in_hand fits in
+    let f = fed_none 500 used was.session.cutter.line bytes after.line g.in_hand fits in
     record {
       stage = subst (λ ls. StageOf view first was.rack ls was.session.runner was.journal) (sym f.0) g.stage;
       room = kept ∙ g.room;
@@ -286,9 +286,9 @@ pub going_behind : {D M : Type 0} (view : Ghosts M D) (first : List D) (before :
     → StageOf view first now.rack (ended_lines used ++ after ∷ []) now.session.runner now.journal →
     Gathers now.journal now.session.gather.waiting.items before now.taken → IsGoing view first before (used ++ bytes) now
 going_behind view first before used bytes after was now takes g cleared going stage gathers =
-    let fits : Takes 200 was.session.cutter.line bytes full.Line after =
+    let fits : Takes 500 was.session.cutter.line bytes full.Line after =
     subst (λ m. Takes m was.session.cutter.line bytes full.Line after) g.room takes in
-    let f = fed_line 200 used was.session.cutter.line bytes after g.in_hand fits in
+    let f = fed_line 500 used was.session.cutter.line bytes after g.in_hand fits in
     let none : now.session.cutter.line ≡ [] = ap (λ h. h.line) cleared in
     record {
       stage = subst (λ ls. StageOf view first now.rack ls now.session.runner now.journal) (sym f.0) stage;
@@ -304,9 +304,9 @@ pub at_line : {D M : Type 0} (view : Ghosts M D) (first : List D) (before : Opti
     → 0 < count → count ≤ length bytes → length bytes ≤ 512 → length (ended_lines earlier) ≤ length (ended_lines used)
     → IsAtLine view first before (arrived (used ++ bytes) earlier AtRunEnd) (ended_lines used) (work was.rack (with_cutter was.session after) was.journal was.taken)
 at_line view first before used bytes earlier after count was takes g some within few no_more =
-    let fits : Takes 200 was.session.cutter.line (take count bytes) full.Line after.line =
+    let fits : Takes 500 was.session.cutter.line (take count bytes) full.Line after.line =
     subst (λ m. Takes m was.session.cutter.line (take count bytes) full.Line after.line) g.room takes in
-    let f = fed_line 200 used was.session.cutter.line (take count bytes) after.line g.in_hand fits in
+    let f = fed_line 500 used was.session.cutter.line (take count bytes) after.line g.in_hand fits in
     let whole : (used ++ take count bytes) ++ drop count bytes ≡ used ++ bytes =
     append_assoc used (take count bytes) (drop count bytes) ∙ ap (λ bs. used ++ bs) (take-append-drop count bytes) in
     let cut = lines_line AtRunEnd (used ++ take count bytes) (drop count bytes) (ended_lines used) after.line f.0 in
@@ -331,9 +331,9 @@ pub ended_long : {D M : Type 0} (view : Ghosts M D) (first : List D) (before : O
     → 0 < count → count ≤ length bytes → length bytes ≤ 512 → length (ended_lines earlier) ≤ length (ended_lines used)
     → HasEnded view first before (arrived (used ++ bytes) earlier AtRunEnd) (work was.rack (with_cutter was.session after) was.journal was.taken) (ending.Bad why.TooLong)
 ended_long view first before used bytes earlier after count was takes g some within few no_more =
-    let fits : Takes 200 was.session.cutter.line (take count bytes) full.Long after.line =
+    let fits : Takes 500 was.session.cutter.line (take count bytes) full.Long after.line =
     subst (λ m. Takes m was.session.cutter.line (take count bytes) full.Long after.line) g.room takes in
-    let f = fed_long 200 used was.session.cutter.line (take count bytes) after.line g.in_hand fits in
+    let f = fed_long 500 used was.session.cutter.line (take count bytes) after.line g.in_hand fits in
     let whole : (used ++ take count bytes) ++ drop count bytes ≡ used ++ bytes =
     append_assoc used (take count bytes) (drop count bytes) ∙ ap (λ bs. used ++ bs) (take-append-drop count bytes) in
     let cut = lines_long (used ++ take count bytes) (drop count bytes) (ended_lines used) f.0 f.1 in
@@ -468,7 +468,7 @@ gives_nothing None = tt
 gives_nothing (Some bytes) = refl
 
 pub going_first : {D M : Type 0} (view : Ghosts M D) (was : Work D M) → view.ready was.rack → was.session.runner.reader ≡ Start →
-    was.session.runner.machine ≡ None → was.session.runner.lines ≡ 0 → was.session.cutter ≡ in_hand 200 [] →
+    was.session.runner.machine ≡ None → was.session.runner.lines ≡ 0 → was.session.cutter ≡ in_hand 500 [] →
     was.session.gather.waiting.items ≡ [] → was.journal ≡ []
     → IsGoing view was.rack was.taken [] was
 going_first view was ready place machine count line waiting journal = record {

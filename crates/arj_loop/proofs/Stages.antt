@@ -4,13 +4,12 @@ use Rattle.std.proofs.Common.{None, Result, Ok, Err, OnOk, IsOk, refl, sym, ◌�
 use Rattle.std.proofs.Math.Logic.{⊎_elim}
 use Rattle.std.proofs.lemmas.List.{append-nil}
 use Rattle.arj_journal.specs.ScriptForm.{EventInForm}
-use Rattle.arj_journal.specs.declared.header.ObjectLine.{ObjectLine}
 use Rattle.arj_journal.specs.declared.body.Line.{Line}
 use Rattle.arj_journal.specs.declared.event.Event.{Event}
 use Rattle.arj_journal.specs.declared.header.Header.{Header}
 use Rattle.arj_script.specs.declared.reader.Item.{Item}
 use Rattle.arj_script.specs.declared.reader.Item.TheVariants as item
-use Rattle.arj_script.specs.Grammar.{Asks, Blank, Form, HasForm, Nodes, Object, Objects, Place, Run, Running, Start, next_place}
+use Rattle.arj_script.specs.Grammar.{Asks, Blank, Form, FormatOne, HasForm, Nodes, Object, Objects, Place, Run, Running, Start, begun, next_place}
 use Rattle.arj_script.specs.Input.{events_of, Tells}
 use Rattle.arj_script.proofs.Lines.{events_of-append}
 use Rattle.arj_loop.specs.declared.machine.Machine.{Ghosts}
@@ -33,11 +32,11 @@ record IsQuiet (place : Place) (form : Form) : Type 0 where
 
 quiet_blank : (place : Place) → IsQuiet place Blank
 quiet_blank Start = record { events = refl; header = refl; running = λ e. e; waiting = λ no e. no e }
-quiet_blank (Objects n os) = record { events = refl; header = refl; running = λ e. e; waiting = λ no e. no e }
+quiet_blank (Objects g) = record { events = refl; header = refl; running = λ e. e; waiting = λ no e. no e }
 quiet_blank Running = record { events = refl; header = refl; running = λ e. e; waiting = λ no e. no e }
 
-not_objects : (n : ℕ) (os : List ObjectLine) → Objects n os ≡ Running → ⊥
-not_objects n os e = cc
+not_objects : (g : Header) → Objects g ≡ Running → ⊥
+not_objects g e = cc
 
 quiet_of : (place : Place) (line : List ℕ) (form : Form) → HasForm place line form →
     Tells place form item.Blank ⊎ Tells place form item.Part → IsQuiet place form
@@ -48,19 +47,23 @@ quiet_of Start line (Nodes n) h told =
       header = refl;
       running = λ e. absurd (let never : Start ≡ Running = e in cc);
       waiting =
-          λ no e. not_objects n [] e;
+          λ no e. not_objects (begun n) e;
     }
-quiet_of (Objects n os) line (Nodes m) h told = absurd h.fits
+quiet_of (Objects g) line (Nodes m) h told = absurd h.fits
 quiet_of Running line (Nodes m) h told = absurd h.fits
+quiet_of Start line FormatOne h told = absurd h.fits
+quiet_of (Objects g) line FormatOne h told =
+    record { events = refl; header = refl; running = λ e. absurd (not_objects g e); waiting = λ no e. not_objects _ e }
+quiet_of Running line FormatOne h told = absurd h.fits
 quiet_of Start line (Object o) h told = absurd h.fits
-quiet_of (Objects n os) line (Object o) h told =
-    record { events = refl; header = refl; running = λ e. absurd (not_objects n os e); waiting = λ no e. not_objects n _ e }
+quiet_of (Objects g) line (Object o) h told =
+    record { events = refl; header = refl; running = λ e. absurd (not_objects g e); waiting = λ no e. not_objects _ e }
 quiet_of Running line (Object o) h told = absurd h.fits
 quiet_of Start line Run h told = absurd h.fits
-quiet_of (Objects n os) line Run h told = absurd (⊎_elim (λ t. t) (λ t. t) told)
+quiet_of (Objects g) line Run h told = absurd (⊎_elim (λ t. t) (λ t. t) told)
 quiet_of Running line Run h told = absurd h.fits
 quiet_of Start line (Asks e) h told = absurd h.fits
-quiet_of (Objects n os) line (Asks e) h told = absurd h.fits
+quiet_of (Objects g) line (Asks e) h told = absurd h.fits
 quiet_of Running line (Asks e) h told = absurd (⊎_elim (λ t. t) (λ t. t) told)
 
 machine_quiet : {D M : Type 0} (view : Ghosts M D) (first rack : List D) (lines : List (List ℕ)) (forms : List Form) (place : Place) (form : Form) (header : Header) (journal : List Line) (machine : Option M)
@@ -72,7 +75,7 @@ machine_quiet view first rack lines forms place form header journal None read q 
 machine_quiet view first rack lines forms place form header journal (Some machine) read q h =
     let events : events_of (forms ++ form ∷ []) ≡ events_of forms =
     events_of-append forms (form ∷ []) ∙ ((λ j. events_of forms ++ q.events j) ∙ append-nil (events_of forms)) in
-    (q.running h.0, header_stays Start forms (form ∷ []) (header.nodes, header.objects) h.1, subst (λ es. view.ran first header es rack journal machine) (sym events) h.2, h.3 ∙ ap length (sym events))
+    (q.running h.0, header_stays Start forms (form ∷ []) header h.1, subst (λ es. view.ran first header es rack journal machine) (sym events) h.2, h.3 ∙ ap length (sym events))
 
 count_more : (forms : List Form) (form : Form) (count : ℕ) → count ≡ length forms → count + 1 ≡ length (forms ++ form ∷ [])
 count_more forms form count is = omega (arith, is, length-append forms (form ∷ []))
@@ -97,30 +100,28 @@ stage_quiet view first rack lines line place after machine count journal taken r
 
 -- the line `run`: the header that it ends
 record IsRun (place : Place) (form : Form) (header : Header) : Type 0 where
-  nodes : ℕ
-  objects : List ObjectLine
-  place_is : place ≡ Objects nodes objects
+  place_is : place ≡ Objects header
   form_is : form ≡ Run
-  nodes_are : header.nodes ≡ nodes
-  objects_are : header.objects ≡ objects
 
 run_of : (place : Place) (line : List ℕ) (form : Form) (header : Header) → HasForm place line form → Tells place form (item.Run header) →
     IsRun place form header
 run_of Start line Blank header h told = absurd told
-run_of (Objects n os) line Blank header h told = absurd told
+run_of (Objects g) line Blank header h told = absurd told
 run_of Running line Blank header h told = absurd told
 run_of Start line (Nodes n) header h told = absurd told
-run_of (Objects n os) line (Nodes m) header h told = absurd told
+run_of (Objects g) line (Nodes m) header h told = absurd told
 run_of Running line (Nodes m) header h told = absurd told
+run_of Start line FormatOne header h told = absurd told
+run_of (Objects g) line FormatOne header h told = absurd told
+run_of Running line FormatOne header h told = absurd told
 run_of Start line (Object o) header h told = absurd told
-run_of (Objects n os) line (Object o) header h told = absurd told
+run_of (Objects g) line (Object o) header h told = absurd told
 run_of Running line (Object o) header h told = absurd told
 run_of Start line Run header h told = absurd h.fits
-run_of (Objects n os) line Run header h told =
-    record { nodes = n; objects = os; place_is = refl; form_is = refl; nodes_are = told.0; objects_are = told.1 }
+run_of (Objects g) line Run header h told = record { place_is = ap Objects (sym told); form_is = refl }
 run_of Running line Run header h told = absurd h.fits
 run_of Start line (Asks e) header h told = absurd h.fits
-run_of (Objects n os) line (Asks e) header h told = absurd h.fits
+run_of (Objects g) line (Asks e) header h told = absurd h.fits
 run_of Running line (Asks e) header h told = absurd told
 
 -- before `run` the disks are as they were
@@ -129,7 +130,7 @@ pub ready_at : {D M : Type 0} (view : Ghosts M D) (first rack : List D) (lines :
 ready_at view first rack lines line place after header None count journal taken s = subst view.ready (sym s.machine_is.1) s.machine_is.5
 ready_at view first rack lines line place after header (Some machine) count journal taken s =
     let run = run_of place line taken.0 header taken.1 taken.2 in
-    absurd (not_objects run.nodes run.objects (sym run.place_is ∙ s.machine_is.0))
+    absurd (not_objects header (sym run.place_is ∙ s.machine_is.0))
 
 -- nor is a machine made
 pub bare_at : {D M : Type 0} (view : Ghosts M D) (first rack : List D) (lines : List (List ℕ)) (line : List ℕ) (place after : Place) (header : Header) (machine : Option M) (count : ℕ) (journal : List Line)
@@ -137,16 +138,16 @@ pub bare_at : {D M : Type 0} (view : Ghosts M D) (first rack : List D) (lines : 
 bare_at view first rack lines line place after header None count journal taken s = refl
 bare_at view first rack lines line place after header (Some machine) count journal taken s =
     let run = run_of place line taken.0 header taken.1 taken.2 in
-    absurd (not_objects run.nodes run.objects (sym run.place_is ∙ s.machine_is.0))
+    absurd (not_objects header (sym run.place_is ∙ s.machine_is.0))
 
-stage_run_at : {D M : Type 0} (view : Ghosts M D) (first rack after_rack : List D) (lines : List (List ℕ)) (line : List ℕ) (n : ℕ) (os : List ObjectLine) (header : Header) (machine after_machine : Option M) (count : ℕ) (journal : List Line)
-    → header.nodes ≡ n → header.objects ≡ os → HasForm (Objects n os) line Run → count < 100000 →
+stage_run_at : {D M : Type 0} (view : Ghosts M D) (first rack after_rack : List D) (lines : List (List ℕ)) (line : List ℕ) (header : Header) (machine after_machine : Option M) (count : ℕ) (journal : List Line)
+    → HasForm (Objects header) line Run → count < 100000 →
     Started view rack after_rack header after_machine
-    → Stage view first rack lines (Objects n os) (hand machine count journal) →
+    → Stage view first rack lines (Objects header) (hand machine count journal) →
     Stage view first after_rack (lines ++ line ∷ []) Running (hand after_machine (count + 1) journal)
-stage_run_at view first rack after_rack lines line n os header (Some machine) after_machine count journal nodes objects has room st s =
-    absurd (not_objects n os s.machine_is.0)
-stage_run_at {D} {M} view first rack after_rack lines line n os header None after_machine count journal nodes objects has room st s =
+stage_run_at view first rack after_rack lines line header (Some machine) after_machine count journal has room st s =
+    absurd (not_objects header s.machine_is.0)
+stage_run_at {D} {M} view first rack after_rack lines line header None after_machine count journal has room st s =
     let h = s.machine_is in
     let events : events_of (s.forms ++ Run ∷ []) ≡ [] = events_of-append s.forms (Run ∷ []) ∙ (λ i. h.3 i ++ []) in
     let ran : view.ran first header (events_of (s.forms ++ Run ∷ [])) after_rack journal st.made =
@@ -155,7 +156,7 @@ stage_run_at {D} {M} view first rack after_rack lines line n os header None afte
     in
     let stands : MachineRuns view first after_rack (s.forms ++ Run ∷ []) Running header journal (Some st.made) = (
       refl,
-      header_then Start s.forms (Run ∷ []) lines (Objects n os) s.read h.2 ∙ (λ i. Some (sym nodes i, sym objects i)),
+      header_then Start s.forms (Run ∷ []) lines (Objects header) s.read h.2,
       ran,
       st.steps ∙ ap length (sym events),
     )
@@ -163,7 +164,7 @@ stage_run_at {D} {M} view first rack after_rack lines line n os header None afte
     record {
       forms = s.forms ++ Run ∷ [];
       header = header;
-      read = have_forms_more Start (Objects n os) lines s.forms line Run s.read has;
+      read = have_forms_more Start (Objects header) lines s.forms line Run s.read has;
       counted = count_more s.forms Run count s.counted;
       within = omega (arith, room);
       machine_is = subst (λ en. MachineRuns view first after_rack (s.forms ++ Run ∷ []) Running header journal en) (sym st.machine_is) stands;
@@ -176,11 +177,11 @@ pub stage_run : {D M : Type 0} (view : Ghosts M D) (first rack after_rack : List
     Stage view first after_rack (lines ++ line ∷ []) after (hand after_machine (count + 1) journal)
 stage_run view first rack after_rack lines line place after header machine after_machine count journal taken room st s =
     let run = run_of place line taken.0 header taken.1 taken.2 in
-    let has : HasForm (Objects run.nodes run.objects) line Run =
+    let has : HasForm (Objects header) line Run =
     subst (λ p. HasForm p line Run) run.place_is (subst (λ f. HasForm place line f) run.form_is taken.1) in
     let ends : Running ≡ after = sym (taken.3 ∙ (λ i. next_place (run.place_is i) (run.form_is i))) in
     subst (λ p. Stage view first after_rack (lines ++ line ∷ []) p (hand after_machine (count + 1) journal)) ends
-    (stage_run_at view first rack after_rack lines line run.nodes run.objects header machine after_machine count journal run.nodes_are run.objects_are has room st
+    (stage_run_at view first rack after_rack lines line header machine after_machine count journal has room st
     (subst (λ p. Stage view first rack lines p (hand machine count journal)) run.place_is s))
 
 -- an event: its form at its place
@@ -191,19 +192,22 @@ record IsEvent (place : Place) (form : Form) (told : Event) : Type 0 where
 event_of : (place : Place) (line : List ℕ) (form : Form) (told : Event) → HasForm place line form → Tells place form (item.Event told) →
     IsEvent place form told
 event_of Start line Blank e h told = absurd told
-event_of (Objects n os) line Blank e h told = absurd told
+event_of (Objects g) line Blank e h told = absurd told
 event_of Running line Blank e h told = absurd told
 event_of Start line (Nodes n) e h told = absurd told
-event_of (Objects n os) line (Nodes m) e h told = absurd told
+event_of (Objects g) line (Nodes m) e h told = absurd told
 event_of Running line (Nodes m) e h told = absurd told
+event_of Start line FormatOne e h told = absurd told
+event_of (Objects g) line FormatOne e h told = absurd told
+event_of Running line FormatOne e h told = absurd told
 event_of Start line (Object o) e h told = absurd told
-event_of (Objects n os) line (Object o) e h told = absurd told
+event_of (Objects g) line (Object o) e h told = absurd told
 event_of Running line (Object o) e h told = absurd told
 event_of Start line Run e h told = absurd h.fits
-event_of (Objects n os) line Run e h told = absurd told
+event_of (Objects g) line Run e h told = absurd told
 event_of Running line Run e h told = absurd h.fits
 event_of Start line (Asks asked) e h told = absurd h.fits
-event_of (Objects n os) line (Asks asked) e h told = absurd h.fits
+event_of (Objects g) line (Asks asked) e h told = absurd h.fits
 event_of Running line (Asks asked) e h told = record { place_is = refl; form_is = ap Asks (sym told) }
 
 pub some_is : {A : Type 0} (a b : A) → Some a ≡ Some b → a ≡ b
@@ -236,7 +240,7 @@ stage_event_at {D} {M} view first rack after_rack lines line e (Some machine) af
     omega (arith, st.steps, ap view.steps same, h.3, ap length events, length-append (events_of s.forms) (e ∷ []))
     in
     let stands : MachineRuns view first after_rack (s.forms ++ Asks e ∷ []) Running s.header after_journal (Some st.after) =
-    (refl, header_stays Start s.forms (Asks e ∷ []) (s.header.nodes, s.header.objects) h.1, ran, steps)
+    (refl, header_stays Start s.forms (Asks e ∷ []) s.header h.1, ran, steps)
     in
     record {
       forms = s.forms ++ Asks e ∷ [];
@@ -342,18 +346,14 @@ pub format_since : {D M : Type 0} (view : Ghosts M D) (header : Header) (place :
 format_since view header place line rest tail before after is form moved =
     subst (λ lines. ChangedSince view header place lines before after) (sym is) (inr (Run, form, moved))
 
--- `run` ends the header of its place
-header_is : (place : Place) (header : Header) (n : ℕ) (os : List ObjectLine) → place ≡ Objects n os → header.nodes ≡ n →
-    header.objects ≡ os → header ≡ header_at place
-header_is place header n os is nodes objects = (λ i. record { nodes = nodes i; objects = objects i }) ∙ ap header_at (sym is)
-
+-- `run` formats the disks by the header of its place
 pub formatted_by : {D M : Type 0} (view : Ghosts M D) (before after : List D) (place : Place) (line : List ℕ) (next : Place) (header : Header)
     → Taken place line (item.Run header) next → view.moved header [] before after →
     HasForm place line Run × view.moved (header_at place) [] before after
 formatted_by view before after place line next header taken moved =
     let run = run_of place line taken.0 header taken.1 taken.2 in (
       subst (λ f. HasForm place line f) run.form_is taken.1,
-      subst (λ h. view.moved h [] before after) (header_is place header run.nodes run.objects run.place_is run.nodes_are run.objects_are) moved,
+      subst (λ h. view.moved h [] before after) (ap header_at (sym run.place_is)) moved,
     )
 
 -- `run` formats the disks

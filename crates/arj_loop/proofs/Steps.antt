@@ -1,7 +1,7 @@
 -- One form more: what it adds to the header and the events.
 use Rattle.std.proofs.Common.{◌≡◌, ℕ, ◌≤◌, List, [], ◌∷◌, ◌++◌, length, Some, None, refl, sym, ap, subst, arith}
-use Rattle.arj_journal.specs.declared.header.ObjectLine.{ObjectLine}
-use Rattle.arj_script.specs.Grammar.{Asks, Blank, Form, HasForm, Nodes, Object, Objects, Place, Run, next_place}
+use Rattle.arj_journal.specs.declared.header.Header.{Header}
+use Rattle.arj_script.specs.Grammar.{Asks, Blank, Form, FormatOne, HasForm, Nodes, Object, Objects, Place, Run, next_place}
 use Rattle.arj_script.specs.Input.{events_of}
 use Rattle.arj_loop.specs.Forms.{HaveForms}
 use Rattle.arj_loop.specs.Input.{header_from}
@@ -21,14 +21,14 @@ pub header_then : (p : Place) (forms more : List Form) (lines : List (List ℕ))
 header_then p [] more [] q here none = ap (λ place. header_from place more) here
 header_then p [] more (l ∷ lines) q h none = absurd h
 header_then p (f ∷ forms) more [] q h none = absurd h
-header_then (Objects n os) (Run ∷ forms) more (l ∷ lines) q h none = absurd (let never : Some (n, os) ≡ None = none in cc)
+header_then (Objects g) (Run ∷ forms) more (l ∷ lines) q h none = absurd (let never : Some g ≡ None = none in cc)
 header_then p (f ∷ forms) more (l ∷ lines) q h none = header_then (next_place p f) forms more lines q h.1 none
 
 -- a header that was ended stays
-pub header_stays : (p : Place) (forms more : List Form) (found : ℕ × List ObjectLine) → header_from p forms ≡ Some found →
+pub header_stays : (p : Place) (forms more : List Form) (found : Header) → header_from p forms ≡ Some found →
     header_from p (forms ++ more) ≡ Some found
 header_stays p [] more found h = absurd (let never : None ≡ Some found = h in cc)
-header_stays (Objects n os) (Run ∷ forms) more found h = h
+header_stays (Objects g) (Run ∷ forms) more found h = h
 header_stays p (f ∷ forms) more found h = header_stays (next_place p f) forms more found h
 
 pub events_within : (forms : List Form) → length (events_of forms) ≤ length forms
@@ -36,6 +36,7 @@ events_within [] = omega arith
 events_within (Asks e ∷ forms) = omega (arith, events_within forms)
 events_within (Blank ∷ forms) = omega (arith, events_within forms)
 events_within (Nodes n ∷ forms) = omega (arith, events_within forms)
+events_within (FormatOne ∷ forms) = omega (arith, events_within forms)
 events_within (Object o ∷ forms) = omega (arith, events_within forms)
 events_within (Run ∷ forms) = omega (arith, events_within forms)
 

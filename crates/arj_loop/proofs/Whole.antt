@@ -11,7 +11,7 @@ use Rattle.arj_io.specs.Told.{Takes}
 use Rattle.arj_io.proofs.Told.{takes_more}
 use Rattle.arj_journal.specs.declared.body.Line.{Line}
 use Rattle.arj_journal.specs.LineText.{text, line_text}
-use Rattle.arj_script.specs.Grammar.{Form, IsBadLine, Place, Running, Start, next_place}
+use Rattle.arj_script.specs.Grammar.{Form, IsBadLine, Place, Running, Start, begun, next_place}
 use Rattle.arj_script.specs.Input.{Stopped, AtEnd, AtFault, is_too_long}
 use Rattle.arj_loop.specs.Input.{script}
 use Rattle.arj_loop.specs.Replayed.{TookFront}
@@ -28,7 +28,7 @@ use Rattle.arj_loop.specs.Forms.{HaveForms, IsBadBy}
 pub stage_first : {D M : Type 0} (view : Ghosts M D) (rack : List D) → view.ready rack → Stage view rack rack [] Start (hand None 0 [])
 stage_first view rack ready = record {
   forms = [];
-  header = record { nodes = 1; objects = [] };
+  header = begun 1;
   read = refl;
   counted = refl;
   within = omega arith;
@@ -101,7 +101,7 @@ pub all_short : (p : Place) (lines : List (List ℕ)) (forms : List Form) (q : P
 all_short p [] forms q h = refl
 all_short p (l ∷ lines) [] q h = absurd h
 all_short p (l ∷ lines) (f ∷ forms) q h =
-    or_from (is_too_long l) (list_any is_too_long lines) (le-ltb 200 (length l) h.0.short) (all_short (next_place p f) lines forms q h.1)
+    or_from (is_too_long l) (list_any is_too_long lines) (le-ltb 500 (length l) h.0.short) (all_short (next_place p f) lines forms q h.1)
 
 pub stage_start : {D M : Type 0} (view : Ghosts M D) (rack : List D) (place : Place) (machine : Option M) (count : ℕ) (journal : List Line) → view.ready rack → place ≡ Start → machine ≡ None → count ≡ 0 → journal ≡ [] → Stage view rack rack [] place (hand machine count journal)
 stage_start {D} {M} view rack place machine count journal ready p e n j =
@@ -173,8 +173,8 @@ kept_reached view first rack after_rack stopped lines before after journal after
 pub line_reached : {D M : Type 0} (view : Ghosts M D) (first rack after_rack : List D) (stopped : Stopped) (lines done rest : List (List ℕ)) (line : List ℕ) (tail : List (List ℕ)) (before after : Runner M) (journal after_journal : List Line) (end : End)
     → lines ≡ done ++ rest → rest ≡ line ∷ tail → StageOf view first rack done before journal → after_journal ≡ journal
     → ((w : BadLine) → IsEnd end (ending.Bad w) →
-    (before.lines < 100000 ⊎ (200 < length line)) × IsBadLine before.reader line × IsBadBy w before.reader line)
-    → (IsEnd end ending.Lines → (100000 ≤ before.lines) × (length line ≤ 200))
+    (before.lines < 100000 ⊎ (500 < length line)) × IsBadLine before.reader line × IsBadBy w before.reader line)
+    → (IsEnd end ending.Lines → (100000 ≤ before.lines) × (length line ≤ 500))
     → (((w : BadLine) × IsEnd end (ending.Bad w)) ⊎ IsEnd end ending.Lines →
     (after.machine ≡ before.machine) × (after.lines ≡ before.lines) × (after_rack ≡ rack))
     → (IsEnd end ending.Labels → Limited view first after_rack done after.reader after.machine after.lines after_journal line)

@@ -12,7 +12,7 @@ HaveForms place (line ∷ lines) (form ∷ forms) end = HasForm place line form 
 HaveForms place [] (form ∷ forms) end = ⊥
 HaveForms place (line ∷ lines) [] end = ⊥
 
--- Why a line that is there can't be read: it is longer than 200 bytes, or it isn't in the grammar at its place.
+-- Why a line that is there can't be read: it is longer than 500 bytes, or it isn't in the grammar at its place.
 abbrev pub IsBadBy : BadLine → Place → List ℕ → Type 0
 IsBadBy why.TooLong place line = LINE_BYTES < length line
 IsBadBy why.Unknown place line = (length line ≤ LINE_BYTES) × IsBadLine place line

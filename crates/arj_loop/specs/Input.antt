@@ -2,7 +2,7 @@
 use Rattle.std.specs.Prelude.{◌≡◌, ◌≤◌, ◌<◌, ◌⊎◌, ◌+◌, ℕ, List, [], ◌∷◌, ◌++◌, length, false, Option, Some, None, IfSome}
 use Rattle.arj_base.specs.Count.{Rose}
 use Rattle.arj_io.specs.Told.{Gives}
-use Rattle.arj_journal.specs.declared.header.ObjectLine.{ObjectLine}
+use Rattle.arj_journal.specs.declared.header.Header.{Header}
 use Rattle.arj_loop.specs.declared.limits.TheConstants.{READ_BYTES}
 use Rattle.arj_script.specs.Grammar.{Form, Run, Place, Objects, next_place}
 use Rattle.arj_script.specs.Input.{Stopped, AtEnd, AtFault, AtRunEnd, is_enough, ended_lines, lines_of, rest_line}
@@ -57,9 +57,9 @@ ReadsFewPast given count =
     (used : List ℕ) × (past : List ℕ) × (given.came ≡ used ++ past) × (length past < READ_BYTES) × IsUpToLine used count
 
 -- the header that the line `run` ends
-abbrev pub header_from : Place → List Form → Option (ℕ × List ObjectLine)
+abbrev pub header_from : Place → List Form → Option Header
 header_from place [] = None
-header_from (Objects n os) (Run ∷ forms) = Some (n, os)
+header_from (Objects h) (Run ∷ forms) = Some h
 header_from place (form ∷ forms) = header_from (next_place place form) forms
 
 -- How reading stopped, and the lines of what has come.

@@ -9,7 +9,7 @@ use Rattle.arj_journal.specs.declared.body.Line.{Line}
 use Rattle.arj_journal.specs.declared.event.Event.{Event}
 use Rattle.arj_journal.specs.declared.header.Header.{Header}
 use Rattle.arj_journal.specs.LineText.{text}
-use Rattle.arj_script.specs.Grammar.{Asks, Form, HasForm, IsBadLine, Objects, Place, Run, Running, Start}
+use Rattle.arj_script.specs.Grammar.{Asks, Form, HasForm, IsBadLine, Objects, Place, Run, Running, Start, begun}
 use Rattle.arj_script.specs.Input.{Stopped, AtEnd, AtFault, events_of, ended_lines, rest_line}
 use Rattle.arj_loop.specs.declared.ending.BadLine.{BadLine}
 use Rattle.arj_loop.specs.declared.ending.BadLine.TheVariants as why
@@ -26,8 +26,8 @@ use Rattle.arj_script.specs.declared.limits.TheConstants.{LINE_BYTES, SCRIPT_LIN
 
 -- the header that `run` ends at a place
 abbrev pub header_at : Place → Header
-header_at (Objects n os) = record { nodes = n; objects = os }
-header_at _ = record { nodes = 0; objects = [] }
+header_at (Objects h) = h
+header_at _ = begun 0
 
 -- what a line of this form asks of the disks at its place, under this header: `run` that they are formatted, an event that it
 -- is run, any other form nothing
@@ -65,7 +65,7 @@ abbrev pub MachineRuns : {D M : Type 0} → Ghosts M D → List D → List D →
 MachineRuns m first rack forms place header journal None =
     (place ≡ Running → ⊥) × (rack ≡ first) × (header_from Start forms ≡ None) × (events_of forms ≡ []) × (journal ≡ []) × m.ready first
 MachineRuns m first rack forms place header journal (Some machine) =
-    (place ≡ Running) × (header_from Start forms ≡ Some (header.nodes, header.objects)) × m.ran first header (events_of forms) rack journal machine × (m.steps machine ≡ length (events_of forms))
+    (place ≡ Running) × (header_from Start forms ≡ Some header) × m.ran first header (events_of forms) rack journal machine × (m.steps machine ≡ length (events_of forms))
 
 -- What a run has at hand: the machine, once `run` was read; how many lines were run; and the journal.
 pub record Hand (M : Type 0) : Type 0 where

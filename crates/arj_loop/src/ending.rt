@@ -8,7 +8,7 @@ use thiserror::Error;
 #[derive(Clone, Copy, Debug, PartialEq, Eq, Error)]
 pub enum BadLine {
     /// It is longer than a line may be.
-    #[error("longer than 200 bytes")]
+    #[error("longer than 500 bytes")]
     TooLong,
     /// No form of the grammar has it at its place.
     #[error("not in the grammar")]

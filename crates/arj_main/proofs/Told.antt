@@ -1,31 +1,34 @@
 -- What the reader tells, and the place that it is at.
 use Rattle.std.proofs.Common.{◌≡◌, ◌+◌, ◌-◌, ◌<◌, ℕ, List, [], ◌∷◌, ◌++◌, Option, IfSome, Some, None, zero, suc, false, refl, sym, subst}
-use Rattle.std.proofs.Common.{arith}
+use Rattle.std.proofs.Common.{ap, arith}
 use Rattle.arj_journal.specs.declared.event.Event.{Event}
 use Rattle.arj_journal.specs.declared.header.Header.{Header}
 use Rattle.arj_main.specs.declared.place.Place as here
 use Rattle.arj_main.specs.Pieces.{pieces}
 use Rattle.arj_main.specs.Places.{Leads, grammar_place}
 use Rattle.arj_main.proofs.Cut.{piece_alone, pieces_at_cut}
-use Rattle.arj_script.specs.Grammar.{Asks, Blank, Form, HasForm, Nodes, Object, Objects, Place, Run, Running, Start, next_place, nodes_at}
+use Rattle.arj_script.specs.Grammar.{Asks, Blank, Form, FormatOne, HasForm, Nodes, Object, Objects, Place, Run, Running, Start, next_place, nodes_at}
 use Rattle.arj_script.specs.Input.{Tells}
 use Rattle.arj_script.specs.declared.reader.Item.TheVariants as item
 use Rattle.arj_text.specs.Fields.{has_byte}
 
 -- a header that `run` ends is the one of the place
-pub told_run : (p : Place) (form : Form) (h : Header) → Tells p form (item.Run h) → Objects h.nodes h.objects ≡ p
-told_run (Objects n os) Run h told = λ i. Objects (told.0 i) (told.1 i)
+pub told_run : (p : Place) (form : Form) (h : Header) → Tells p form (item.Run h) → Objects h ≡ p
+told_run (Objects g) Run h told = ap Objects told
 told_run Start Blank h told = absurd told
 told_run Start (Nodes n) h told = absurd told
+told_run Start FormatOne h told = absurd told
 told_run Start (Object o) h told = absurd told
 told_run Start Run h told = absurd told
 told_run Start (Asks e) h told = absurd told
-told_run (Objects n os) Blank h told = absurd told
-told_run (Objects n os) (Nodes m) h told = absurd told
-told_run (Objects n os) (Object o) h told = absurd told
-told_run (Objects n os) (Asks e) h told = absurd told
+told_run (Objects g) Blank h told = absurd told
+told_run (Objects g) (Nodes m) h told = absurd told
+told_run (Objects g) FormatOne h told = absurd told
+told_run (Objects g) (Object o) h told = absurd told
+told_run (Objects g) (Asks e) h told = absurd told
 told_run Running Blank h told = absurd told
 told_run Running (Nodes n) h told = absurd told
+told_run Running FormatOne h told = absurd told
 told_run Running (Object o) h told = absurd told
 told_run Running Run h told = absurd told
 told_run Running (Asks e) h told = absurd told
@@ -36,19 +39,22 @@ told_event Running bytes form e has told = refl
 told_event Start bytes (Asks f) e has told = absurd has.fits
 told_event Start bytes Blank e has told = absurd told
 told_event Start bytes (Nodes n) e has told = absurd told
+told_event Start bytes FormatOne e has told = absurd told
 told_event Start bytes (Object o) e has told = absurd told
 told_event Start bytes Run e has told = absurd told
-told_event (Objects n os) bytes (Asks f) e has told = absurd has.fits
-told_event (Objects n os) bytes Blank e has told = absurd told
-told_event (Objects n os) bytes (Nodes m) e has told = absurd told
-told_event (Objects n os) bytes (Object o) e has told = absurd told
-told_event (Objects n os) bytes Run e has told = absurd told
+told_event (Objects g) bytes (Asks f) e has told = absurd has.fits
+told_event (Objects g) bytes Blank e has told = absurd told
+told_event (Objects g) bytes (Nodes m) e has told = absurd told
+told_event (Objects g) bytes FormatOne e has told = absurd told
+told_event (Objects g) bytes (Object o) e has told = absurd told
+told_event (Objects g) bytes Run e has told = absurd told
 
 -- a part of a header where none has begun stands at the start
 pub told_part : (p : Place) (bytes : List ℕ) (form : Form) → nodes_at p ≡ None → HasForm p bytes form → Tells p form item.Part → Start ≡ p
 told_part Start bytes form none has told = refl
-told_part (Objects n os) bytes form none has told = absurd (let never : Some n ≡ None = none in cc)
+told_part (Objects g) bytes form none has told = absurd (let never : Some g.nodes ≡ None = none in cc)
 told_part Running bytes (Nodes n) none has told = absurd has.fits
+told_part Running bytes FormatOne none has told = absurd has.fits
 told_part Running bytes (Object o) none has told = absurd has.fits
 told_part Running bytes Blank none has told = absurd told
 told_part Running bytes Run none has told = absurd told

@@ -8,7 +8,7 @@ use Rattle.arj_script.specs.Grammar as grammar
 -- the place of the grammar
 abbrev pub grammar_place : Place → grammar.Place
 grammar_place here.Start = Start
-grammar_place (here.Header header) = Objects header.nodes header.objects
+grammar_place (here.Header header) = Objects header
 grammar_place here.Running = Running
 
 -- so many of these lines, or all if there are fewer, lead from a place to a place

@@ -64,7 +64,7 @@ is_one_of words w = list_any (λ text. bytes_eq w text) words
 
 -- the words that lines of the header begin with
 abbrev pub header_words : List (List ℕ)
-header_words = codes "nodes" ∷ codes "object" ∷ codes "run" ∷ []
+header_words = codes "nodes" ∷ codes "format" ∷ codes "object" ∷ codes "run" ∷ []
 
 -- the words that events begin with behind which a label stands
 abbrev pub labelled_words : List (List ℕ)
@@ -136,6 +136,7 @@ abbrev pub header_slips : Header → List ℕ → List (Bool × Slip)
 header_slips header line =
     (is_event_word (word 0 line), slip.EventBeforeRun)
     ∷ (bytes_eq (word 0 line) (codes "nodes"), slip.NodesTwice)
+    ∷ (bytes_eq (word 0 line) (codes "format"), slip.Format)
     ∷ (not (is_one_of header_words (word 0 line)), slip.UnknownWord)
     ∷ (is_strange_class (word 2 line), slip.UnknownClass)
     ∷ (names_no_node header.nodes (word 5 line), slip.NoNode)

@@ -145,7 +145,7 @@ fn expected(rt: &impl Eprint, place: Option<&Place>, line: &[u8]) -> io::Result<
             )
         }
         Some(Place::Header(_)) => eprintln!(rt;
-            "arjuna: expected here: `object X CLASS VALUE servers LIST stores LIST`, or `run`"
+            "arjuna: expected here: `object X CLASS VALUE servers LIST stores LIST`, or `run`; before all objects also `format 1`"
         ),
         Some(Place::Running) => expected_event(rt, word_at(line, 0)),
     }

@@ -144,10 +144,18 @@ fn say_slip(rt: &impl Eprint, input: &[u8], line: &[u8]) -> io::Result<()> {
     };
     if !has_operation(class, word_at(line, 2)) {
         return eprintln!(rt;
-            "arjuna: the slip: object {} is of class {}, whose operations are {}",
+            "arjuna: the slip: object {} is of class {}, whose operations are {}, `create {} VALUE` and `destroy`",
             Shown(object),
             Shown(class),
-            operations(class)
+            operations(class),
+            Shown(class)
+        );
+    }
+    if is(word_at(line, 2), b"create") && word_at(line, 3) != class {
+        return eprintln!(rt;
+            "arjuna: the slip: object {} is of class {}, and is created with a value of no other",
+            Shown(object),
+            Shown(class)
         );
     }
     eprintln!(rt;
@@ -173,25 +181,28 @@ fn class_of<'a>(input: &'a [u8], object: &[u8]) -> Option<&'a [u8]> {
     None
 }
 
-// The operations of a class.
+// The operations of a class on an object that is there.
 fn operations(class: &[u8]) -> &'static str {
     if is(class, b"counter") {
-        return "`get`, `add n` and `set n`";
+        return "`get`, `add n`, `set n`";
     }
     if is(class, b"account") {
-        return "`get`, `deposit n` and `withdraw n`";
+        return "`get`, `deposit n`, `withdraw n`";
     }
     if is(class, b"register") {
-        return "`get` and `put HEX`";
+        return "`get`, `put HEX`";
     }
     if is(class, b"queue") {
-        return "`len`, `push n` and `pop`";
+        return "`len`, `push n`, `pop`";
     }
-    "`get k`, `put k v` and `remove k`"
+    "`get k`, `put k v`, `remove k`"
 }
 
 // Whether a class has an operation of this word.
 fn has_operation(class: &[u8], word: &[u8]) -> bool {
+    if is(word, b"create") || is(word, b"destroy") {
+        return true;
+    }
     if is(class, b"counter") {
         return is(word, b"get") || is(word, b"add") || is(word, b"set");
     }

@@ -39,6 +39,8 @@ pub enum Slip {
     NoNodes,
     #[error("the line `nodes` has come before, and comes once")]
     NodesTwice,
+    #[error("in a header the line `format 1` stands once, before all objects")]
+    Format,
     #[error("the class is unknown: there are counter, account, register, queue and table")]
     UnknownClass,
     #[error("a server or a store is no node of this script")]
@@ -127,6 +129,9 @@ fn header_slip(header: &Header, line: &[u8]) -> Option<Slip>
     }
     if is(first, b"nodes") {
         return Some(Slip::NodesTwice);
+    }
+    if is(first, b"format") {
+        return Some(Slip::Format);
     }
     if !is_header_word(first) {
         return Some(Slip::UnknownWord);

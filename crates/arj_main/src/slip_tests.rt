@@ -83,7 +83,7 @@ pub fn has(line: &[u8], byte: u8) -> bool
 pub fn is_header_word(word: &[u8]) -> bool
     ensures { result ≡ is_one_of header_words word.now }
 {
-    is(word, b"nodes") || is(word, b"object") || is(word, b"run")
+    is(word, b"nodes") || is(word, b"format") || is(word, b"object") || is(word, b"run")
 }
 
 /// A word that an event begins with behind which a label stands.

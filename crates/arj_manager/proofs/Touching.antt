@@ -13,14 +13,12 @@ use Rattle.arj_base.specs.Rows.{Row, front, last_uid, is_on, grant_row, pass_row
 use Rattle.arj_base.specs.Uid.{uid_eq, nobody, object}
 use Rattle.arj_class.specs.declared.op.Op.{Op}
 use Rattle.arj_class.specs.declared.value.Value.{Value}
-use Rattle.arj_class.specs.Forms.{payload_of}
-use Rattle.arj_class.specs.Table.{class_of, op_mode, writes, value_after}
+use Rattle.arj_class.specs.Table.{op_mode, writes, value_after}
 use Rattle.arj_lock.proofs.Leaves.{grant_any}
 use Rattle.arj_lock.proofs.PassLeaves.{pass_fewer}
 use Rattle.arj_protocol.specs.Copy.{Copy, Over, changed_state, current, end_copy, folded, holds, is_granted, is_of, is_top_in, is_top_over}
-use Rattle.arj_protocol.specs.Copy.{over_of, overs_committed, row_for, run_copy, settled, written}
+use Rattle.arj_protocol.specs.Copy.{over_of, overs_committed, row_for, run_copy, settled, state_over, written}
 use Rattle.arj_protocol.specs.Laws.{UnknownToCopy}
-use Rattle.arj_protocol.specs.Order.{next_version}
 use Rattle.arj_protocol.proofs.RowSteps.{not_last}
 use Rattle.arj_protocol.proofs.Unknown.{copy_stays}
 use Rattle.arj_manager.specs.Index.{touches}
@@ -157,14 +155,7 @@ no_over u (e ∷ es) someone none =
 pub no_state : (top : Uid) (x : ℕ) (c : Copy) → touches top c ≡ false → changed_state top x c ≡ None
 no_state top x c none =
     let p = unknown top c none in
-    ap (option_map (λ (e : Over). record {
-      uid = object x;
-      class = class_of c.base.value;
-      version = next_version c.base.version;
-      writer =
-          top;
-      payload = payload_of e.value;
-    })) (no_over top c.stack p.0 p.1.overlays)
+    ap (option_map (state_over top x c)) (no_over top c.stack p.0 p.1.overlays)
 
 on_take : (n : ℕ) (us : List Uid) (u : Uid) → is_on (take n us) u ≡ true → is_on us u ≡ true
 on_take zero us u on = absurd (cc on)

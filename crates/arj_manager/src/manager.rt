@@ -11,7 +11,7 @@ ghost use Rattle.arj_base.specs.Rows.{last_uid};
 ghost use Rattle.arj_base.specs.Uid.{object};
 ghost use Rattle.arj_class.specs.declared.value.Value.{Value};
 ghost use Rattle.arj_class.specs.Forms.{OpInForm};
-ghost use Rattle.arj_class.specs.Table.{class_of, has_op, op_mode};
+ghost use Rattle.arj_class.specs.Table.{own_class, has_op, op_mode};
 ghost use Rattle.arj_lock.specs.Held.{AreListed};
 ghost use Rattle.arj_lock.specs.Requests.{conflict_with};
 ghost use Rattle.arj_protocol.specs.Copy.{Copy, taken_copy, current};
@@ -99,8 +99,8 @@ impl StateManager {
         ensures lines { IfOk result (λ done. IfSome done (λ ran. (n : ℕ) → (invoke_in n path.now x op.now self.old).outs ≡ grant_said n (last_uid (uids_of path.now)) (object x) ran.granted)) }
         ensures reply { IfOk result (λ done. (n : ℕ) → (invoke_in n path.now x op.now self.old).reply ≡ option_map (λ ran. invoked.Answered ran.answer) done) }
         ensures absent { (result ≡ Ok None) ↔ (at_number x self.old ≡ None) }
-        ensures wrong_op { IsErrOf result fault.WrongOp ↔ IsSomeAnd (at_number x self.old) (λ c. has_op (class_of (current c.base c.stack)) op.now ≡ false) }
-        ensures conflict { IfSome (at_number x self.old) (λ c. has_op (class_of (current c.base c.stack)) op.now ≡ true → IfSome (conflict_with (uids_of path.now) (object x) (op_mode op.now) c.rows) (λ met. IsErrOf result (fault.Conflict met.0 met.1))) }
+        ensures wrong_op { IsErrOf result fault.WrongOp ↔ IsSomeAnd (at_number x self.old) (λ c. has_op (own_class (current c.base c.stack)) op.now ≡ false) }
+        ensures conflict { IfSome (at_number x self.old) (λ c. has_op (own_class (current c.base c.stack)) op.now ≡ true → IfSome (conflict_with (uids_of path.now) (object x) (op_mode op.now) c.rows) (λ met. IsErrOf result (fault.Conflict met.0 met.1))) }
         ensures named { (holder : Uid) (held : Mode) → IsErrOf result (fault.Conflict holder held) → (n : ℕ) → (invoke_in n path.now x op.now self.old).reply ≡ Some (invoked.Conflict holder held) }
         ensures restored { IsErrOf result fault.Payload → ⊥ }
         ensures kept { OnErr result (self.new ≡ self.old) }

@@ -9,7 +9,7 @@ ghost use Rattle.arj_base.specs.Rows.{last_uid, first_conflict};
 ghost use Rattle.arj_base.specs.Uid.{object};
 ghost use Rattle.arj_class.specs.declared.value.Value.{Value};
 ghost use Rattle.arj_class.specs.Forms.{OpInForm};
-ghost use Rattle.arj_class.specs.Table.{class_of, has_op, op_mode, is_write, writes, answer_of, value_after};
+ghost use Rattle.arj_class.specs.Table.{own_class, has_op, op_mode, is_write, writes, answer_of, value_after};
 ghost use Rattle.arj_lock.specs.Exclusion.{IsOneEach};
 ghost use Rattle.arj_lock.specs.Held.{AreTops};
 ghost use Rattle.arj_lock.specs.Requests.{conflict_with};
@@ -24,7 +24,9 @@ use crate::index::NOBODY;
 use crate::overlay::{Overlay, fold, is_on_any, is_top_of, own, take_own, undo, write};
 use crate::walk::Question;
 use crate::{ManagerFault, Ran};
-use arj_base::{Binding, End, Mode, ObjectState, Path, Uid, Uids, next_version, object_uid};
+use arj_base::{
+    Binding, End, Format, Mode, ObjectState, Path, Uid, Uids, next_version, object_uid,
+};
 use arj_class::{Answer, ClassFault, Op, Value};
 use arj_lock::{LockTable, rows_are_one_each};
 use arj_protocol::payloads_read_back;
@@ -102,8 +104,8 @@ impl ActiveObject {
         ensures part { OnOk result ((n : ℕ) → self.new ≡ (invoke_copy n path.now x op.now self.old).part) }
         ensures outs { IfOk result (λ ran. (n : ℕ) → (invoke_copy n path.now x op.now self.old).outs ≡ grant_said n (last_uid (uids_of path.now)) (object x) ran.granted) }
         ensures reply { IfOk result (λ ran. (n : ℕ) → (invoke_copy n path.now x op.now self.old).reply ≡ Some (invoked.Answered ran.answer)) }
-        ensures wrong_op { IsErrOf result fault.WrongOp ↔ (has_op (class_of (current self.old.base self.old.stack)) op.now ≡ false) }
-        ensures conflict { has_op (class_of (current self.old.base self.old.stack)) op.now ≡ true → IfSome (conflict_with (uids_of path.now) (object x) (op_mode op.now) self.old.rows) (λ met. IsErrOf result (fault.Conflict met.0 met.1)) }
+        ensures wrong_op { IsErrOf result fault.WrongOp ↔ (has_op (own_class (current self.old.base self.old.stack)) op.now ≡ false) }
+        ensures conflict { has_op (own_class (current self.old.base self.old.stack)) op.now ≡ true → IfSome (conflict_with (uids_of path.now) (object x) (op_mode op.now) self.old.rows) (λ met. IsErrOf result (fault.Conflict met.0 met.1)) }
         ensures named { (holder : Uid) (held : Mode) → IsErrOf result (fault.Conflict holder held) → (n : ℕ) → (invoke_copy n path.now x op.now self.old).reply ≡ Some (invoked.Conflict holder held) }
         ensures restored { IsErrOf result fault.Payload → ⊥ }
         ensures kept { OnErr result (self.new ≡ self.old) }
@@ -118,13 +120,13 @@ impl ActiveObject {
         requires { OpInForm op.now }
         ensures may { OnOk result (MayRun path.now x op.now self.now) }
         ensures mode { IfOk result (λ mode. mode ≡ op_mode op.now) }
-        ensures wrong_op { IsErrOf result fault.WrongOp ↔ (has_op (class_of (current self.now.base self.now.stack)) op.now ≡ false) }
-        ensures conflict { has_op (class_of (current self.now.base self.now.stack)) op.now ≡ true → IfSome (conflict_with (uids_of path.now) (object x) (op_mode op.now) self.now.rows) (λ met. IsErrOf result (fault.Conflict met.0 met.1)) }
+        ensures wrong_op { IsErrOf result fault.WrongOp ↔ (has_op (own_class (current self.now.base self.now.stack)) op.now ≡ false) }
+        ensures conflict { has_op (own_class (current self.now.base self.now.stack)) op.now ≡ true → IfSome (conflict_with (uids_of path.now) (object x) (op_mode op.now) self.now.rows) (λ met. IsErrOf result (fault.Conflict met.0 met.1)) }
         ensures named { (holder : Uid) (held : Mode) → IsErrOf result (fault.Conflict holder held) → (n : ℕ) → (invoke_copy n path.now x op.now self.now).reply ≡ Some (invoked.Conflict holder held) }
         ensures faults { IsErrOf result fault.Memory → ⊥ }
         ensures restored { IsErrOf result fault.Payload → ⊥ }
     {
-        let Some(mode) = Value::mode(self.current().class(), op) else {
+        let Some(mode) = Value::mode(self.current().own_class(), op) else {
             return Err(ManagerFault::WrongOp);
         };
         match self.locks.conflict(path, object_uid(x), mode) {
@@ -161,10 +163,11 @@ impl ActiveObject {
         };
         Ok(Some(ObjectState {
             uid: object_uid(x),
-            class: self.value.class(),
+            class: overlay.value.class(),
             version: next_version(self.version),
             writer: top,
             payload: overlay.value.save_state(alloc)?,
+            format: Format::Two,
         }))
     }
 
@@ -293,7 +296,7 @@ fn restore(alloc: Global, state: &ObjectState) -> Result<Value, ManagerFault>
     ensures faults { IfErr result (λ e. (e ≡ fault.Payload) ⊎ (e ≡ fault.Memory)) }
 {
     payloads_read_back();
-    match Value::restore_state(alloc, state.class, state.payload.as_slice()) {
+    match Value::restore_state(alloc, state.class, state.format, state.payload.as_slice()) {
         Ok(value) => Ok(value),
         Err(ClassFault::Payload) => Err(ManagerFault::Payload),
         Err(ClassFault::Memory) => Err(ManagerFault::Memory),
@@ -303,7 +306,7 @@ fn restore(alloc: Global, state: &ObjectState) -> Result<Value, ManagerFault>
 // What an operation answers, and the value after it.
 fn apply(alloc: Global, value: &Value, op: &Op) -> Result<(Answer, Value), AllocError>
     requires form { OpInForm op.now }
-    requires has { has_op (class_of value.now) op.now ≡ true }
+    requires has { has_op (own_class value.now) op.now ≡ true }
     ensures { IfOk result (λ r. (r.0 ≡ answer_of op.now value.now) × (r.1 ≡ value_after op.now value.now)) }
 {
     let mut value = value.copy(alloc)?;

@@ -6,6 +6,7 @@ use Rattle.arj_base.specs.declared.binding.Binding.{Binding}
 use Rattle.arj_base.specs.declared.mode.Mode.{Mode}
 use Rattle.arj_base.specs.declared.mode.Mode.TheVariants.{Read, Exclude, Write}
 use Rattle.arj_base.specs.declared.mode.End.{End}
+use Rattle.arj_base.specs.declared.state.Format.TheVariants as format
 use Rattle.arj_base.specs.declared.mode.End.TheVariants.{Abort, Commit}
 use Rattle.arj_base.specs.Uid.{object, entry, nobody}
 use Rattle.arj_class.specs.declared.op.Op.{Op}
@@ -260,10 +261,10 @@ abbrev pub stop_at_decision_done : List Line
 stop_at_decision_done = lines_of stop_at_decision_done_bodies
 
 abbrev pub one_node : ℕ → Header
-one_node v = record { nodes = 1; objects = record { x = 1; value = Counter v; servers = 1 ∷ []; stores = 1 ∷ [] } ∷ [] }
+one_node v = record { nodes = 1; objects = record { x = 1; value = Counter v; servers = 1 ∷ []; stores = 1 ∷ [] } ∷ []; format = format.Two }
 
 abbrev pub three_nodes : Header
-three_nodes = record { nodes = 3; objects = record { x = 1; value = Counter 0; servers = 1 ∷ []; stores = 2 ∷ 3 ∷ [] } ∷ [] }
+three_nodes = record { nodes = 3; objects = record { x = 1; value = Counter 0; servers = 1 ∷ []; stores = 2 ∷ 3 ∷ [] } ∷ []; format = format.Two }
 
 -- Not worked by hand elsewhere: B's commit is called between those of the two constituents of S.
 abbrev pub unit_round_a_top : List Line
@@ -292,10 +293,10 @@ abbrev pub uid_at : ℕ → ℕ → Uid
 uid_at n k = record { node = n; inc = 1; num = k }
 
 abbrev pub two_servers : Header
-two_servers = record { nodes = 3; objects = record { x = 1; value = Counter 0; servers = 2 ∷ 3 ∷ []; stores = 1 ∷ [] } ∷ [] }
+two_servers = record { nodes = 3; objects = record { x = 1; value = Counter 0; servers = 2 ∷ 3 ∷ []; stores = 1 ∷ [] } ∷ []; format = format.Two }
 
 abbrev pub four_nodes : Header
-four_nodes = record { nodes = 4; objects = record { x = 1; value = Counter 0; servers = 2 ∷ []; stores = 3 ∷ 4 ∷ [] } ∷ [] }
+four_nodes = record { nodes = 4; objects = record { x = 1; value = Counter 0; servers = 2 ∷ []; stores = 3 ∷ 4 ∷ [] } ∷ []; format = format.Two }
 
 abbrev pub naming_stopped_bodies : List (List Body)
 naming_stopped_bodies =

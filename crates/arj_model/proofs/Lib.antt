@@ -4,5 +4,6 @@ pub mod Order
 pub mod Read
 pub mod NodeRows
 pub mod Rows
+mod Gone
 mod Junk
 mod Wrong

@@ -8,6 +8,7 @@ use Rattle.arj_base.specs.declared.mode.Mode.TheVariants.{Read, Exclude, Write}
 use Rattle.arj_base.specs.Uid.{object, entry}
 use Rattle.arj_base.specs.Rows.{Row}
 use Rattle.arj_class.specs.declared.op.Op.TheVariants.{Get, Add, Push}
+use Rattle.arj_class.specs.declared.value.Value.TheVariants.{Counter}
 use Rattle.arj_journal.specs.declared.body.Body.{Body}
 use Rattle.arj_journal.specs.declared.body.Body.TheVariants as body
 use Rattle.arj_journal.specs.declared.body.Cause.TheVariants as cause
@@ -27,7 +28,7 @@ use Rattle.arj_model.proofs.Journals.{lines_of, one_node, three_nodes, nested_ab
 use Rattle.arj_model.proofs.Journals.{conflict_bodies, older_image_bodies, to_exclusion, stop_at_decision_done_bodies}
 use Rattle.arj_model.proofs.Journals.{naming_stopped_bodies, rebinding_bodies, M, two_servers, uid_at, four_nodes}
 use Rattle.arj_text.specs.Label.{name}
-use Rattle.arj_model.proofs.Rows.{went, went_doomed, accepted, at, runs, ◌&◌}
+use Rattle.arj_model.proofs.Rows.{went, went_doomed, accepted, runs, ◌&◌}
 
 -- rows of the only object and of its entry, by the numbers of actions on the path of the holder
 abbrev locked : List ℕ → ℕ → Mode → Row
@@ -116,11 +117,11 @@ done = codes "done"
 nested_abort_follows : Follows (one_node 0) fresh nested_abort_events (lines_of nested_abort_bodies)
 nested_abort_follows = runs (Step (one_node 0)) nested_abort_events nested_abort_bodies [] (
     went refl (accepted (began A kind.Top 1 None ∷ []) [] [] refl refl refl refl tt)
-    & went refl (accepted [] (first_use 1 ++ on_object 1 Write ∷ ok A (Add 4) done ∷ []) [] refl (inl refl) refl refl (tt & tt & tt & tt & tt & ((refl, refl), at 0 refl refl) & tt))
+    & went refl (accepted [] (first_use 1 ++ on_object 1 Write ∷ ok A (Add 4) done ∷ []) [] refl (inl refl) refl refl (tt & tt & tt & tt & tt & ((refl, refl), (Counter 0, refl, refl)) & tt))
     & went refl (accepted (began N kind.Nested 2 (Some A) ∷ []) [] [] (1, refl, refl) refl refl refl tt)
-    & went refl (accepted [] (on_object 2 Write ∷ ok N (Add 5) done ∷ []) [] refl (inl refl) refl refl (tt & ((refl, refl), at 4 refl refl) & tt))
+    & went refl (accepted [] (on_object 2 Write ∷ ok N (Add 5) done ∷ []) [] refl (inl refl) refl refl (tt & ((refl, refl), (Counter 4, refl, refl)) & tt))
     & went refl (accepted (body.Aborted N cause.Asked ∷ []) (told 2 Abort part.Server ∷ []) [] (refl, tt) (inl refl) refl refl (tt & tt))
-    & went refl (accepted [] (ok A Get (codes "4") ∷ []) [] refl (inl refl) refl refl (((refl, refl), at 4 refl (sym (decimal_digit 4 (omega arith)))) & tt))
+    & went refl (accepted [] (ok A Get (codes "4") ∷ []) [] refl (inl refl) refl refl (((refl, refl), (Counter 4, refl, sym (decimal_digit 4 (omega arith)))) & tt))
     & went refl (accepted (body.Committing A ∷ []) (commit_end A 1) [] (inl refl) (inl refl) refl refl (tt & refl & tt & tt & tt & tt))
     & tt) tt
 
@@ -134,14 +135,14 @@ older_image_follows : Follows (one_node 7) fresh older_image_events (lines_of ol
 older_image_follows = runs (Step (one_node 7)) older_image_events older_image_bodies [] (
     went refl (accepted (began A kind.Top 1 None ∷ []) [] [] refl refl refl refl tt)
     & went refl (accepted (began C kind.Nested 2 (Some A) ∷ []) [] [] (1, refl, refl) refl refl refl tt)
-    & went refl (accepted [] (first_use 1 ++ on_object 2 Write ∷ ok C (Add 1) done ∷ []) [] refl (inl refl) refl refl (tt & tt & tt & tt & tt & ((refl, refl), at 7 refl refl) & tt))
+    & went refl (accepted [] (first_use 1 ++ on_object 2 Write ∷ ok C (Add 1) done ∷ []) [] refl (inl refl) refl refl (tt & tt & tt & tt & tt & ((refl, refl), (Counter 7, refl, refl)) & tt))
     & went refl (accepted (body.Committed C ∷ []) (told 2 Commit part.Server ∷ []) [] (inl refl) (inl refl) refl refl (tt & tt))
     & went refl (accepted (began D kind.Nested 3 (Some A) ∷ []) [] [] (1, refl, refl) refl refl refl tt)
-    & went refl (accepted [] (on_object 3 Write ∷ ok D (Add 1) done ∷ []) [] refl (inl refl) refl refl (tt & ((refl, refl), at 8 refl refl) & tt))
+    & went refl (accepted [] (on_object 3 Write ∷ ok D (Add 1) done ∷ []) [] refl (inl refl) refl refl (tt & ((refl, refl), (Counter 8, refl, refl)) & tt))
     & went refl (accepted (body.Committed D ∷ []) (told 3 Commit part.Server ∷ []) [] (inl refl) (inl refl) refl refl (tt & tt))
     & went refl (accepted (body.Aborted A cause.Asked ∷ []) (told 1 Abort part.Naming ∷ told 1 Abort part.Server ∷ []) [] (refl, tt) (inl refl) refl refl (tt & tt & tt))
     & went refl (accepted (began B kind.Top 4 None ∷ []) [] [] refl refl refl refl tt)
-    & went refl (accepted [] (on_entry 4 Read ∷ on_object 4 Read ∷ ok B Get (codes "7") ∷ []) [] refl (inl refl) refl refl (tt & tt & ((refl, refl), at 7 refl (sym (decimal_digit 7 (omega arith)))) & tt))
+    & went refl (accepted [] (on_entry 4 Read ∷ on_object 4 Read ∷ ok B Get (codes "7") ∷ []) [] refl (inl refl) refl refl (tt & tt & ((refl, refl), (Counter 7, refl, sym (decimal_digit 7 (omega arith)))) & tt))
     & tt) tt
 
 -- Constituents, and the end of their serializing action.
@@ -154,16 +155,16 @@ serializing_follows : Follows (one_node 0) fresh serializing_events (lines_of se
 serializing_follows = runs (Step (one_node 0)) serializing_events serializing_bodies [] (
     went refl (accepted (began S kind.Serial 1 None ∷ []) [] [] refl refl refl refl tt)
     & went refl (accepted (began C kind.Constituent 2 (Some S) ∷ []) [] [] (1, refl, refl) refl refl refl tt)
-    & went refl (accepted [] (first_use 2 ++ on_object 2 Write ∷ ok C (Add 1) done ∷ []) [] refl (inl refl) refl refl (tt & tt & tt & tt & tt & ((refl, refl), at 0 refl refl) & tt))
+    & went refl (accepted [] (first_use 2 ++ on_object 2 Write ∷ ok C (Add 1) done ∷ []) [] refl (inl refl) refl refl (tt & tt & tt & tt & tt & ((refl, refl), (Counter 0, refl, refl)) & tt))
     & went refl (accepted (body.Committing C ∷ []) (commit_end C 2) [] (inl refl) (inl refl) refl refl (tt & refl & tt & tt & tt & tt))
     & went refl (accepted (began B kind.Top 3 None ∷ []) [] [] refl refl refl refl tt)
     & went refl (accepted [] (on_entry 3 Read ∷ body.Conflict B (uid 1) Write 1 ∷ []) [] refl (inl refl) refl refl (tt & refl & tt))
     & went refl (accepted (began D kind.Constituent 4 (Some S) ∷ []) [] [] (1, refl, refl) refl refl refl tt)
-    & went refl (accepted [] (on_object 4 Write ∷ ok D (Add 1) done ∷ []) [] refl (inl refl) refl refl (tt & ((refl, refl), at 1 refl refl) & tt))
+    & went refl (accepted [] (on_object 4 Write ∷ ok D (Add 1) done ∷ []) [] refl (inl refl) refl refl (tt & ((refl, refl), (Counter 1, refl, refl)) & tt))
     & went refl (accepted (body.Committing D ∷ [])
     (prepared 1 4 role.Store ∷ body.Committed D ∷ body.Done 1 (uid 4) role.Store Commit ∷ told 4 Commit part.Server ∷ []) [] (inl refl) (inl refl) refl refl (tt & refl & tt & tt & tt))
     & went refl (accepted (body.Aborted S cause.Asked ∷ []) (told 1 Abort part.Naming ∷ told 1 Abort part.Server ∷ []) [] (refl, tt) (inl refl) refl refl (tt & tt & tt))
-    & went refl (accepted [] (on_object 3 Read ∷ ok B Get (codes "2") ∷ []) [] refl (inl refl) refl refl (tt & ((refl, refl), at 2 refl (sym (decimal_digit 2 (omega arith)))) & tt))
+    & went refl (accepted [] (on_object 3 Read ∷ ok B Get (codes "2") ∷ []) [] refl (inl refl) refl refl (tt & ((refl, refl), (Counter 2, refl, sym (decimal_digit 2 (omega arith)))) & tt))
     & tt) tt
 
 -- Messages, a lost frame, a giveup, and what is shown.
@@ -180,7 +181,7 @@ exclusion_follows : Follows three_nodes fresh exclusion_events (lines_of to_excl
 exclusion_follows = runs (Step three_nodes) exclusion_events to_exclusion [] (
     went refl (accepted (began A kind.Top 1 None ∷ []) [] [] refl refl refl refl tt)
     & went refl (accepted [] (lines_at to_exclusion 2) [] refl (inl refl) refl refl (tt & tt & refl & tt))
-    & went refl (accepted [] (lines_at to_exclusion 3) [] refl (inl refl) refl refl (refl & refl & refl & tt & tt & tt & ((refl, refl), at 0 refl refl) & tt))
+    & went refl (accepted [] (lines_at to_exclusion 3) [] refl (inl refl) refl refl (refl & refl & refl & tt & tt & tt & ((refl, refl), (Counter 0, refl, refl)) & tt))
     & went refl (accepted (body.Committing A ∷ []) (drop 1 (lines_at to_exclusion 4)) [] (inl refl) (inl refl) refl refl (refl & refl & tt))
     & went refl (accepted (body.Dropped 4 ∷ []) [] [] refl refl refl refl tt)
     & went refl (accepted [] (lines_at to_exclusion 6) [] refl (inl refl) refl refl (refl & tt & refl & refl & tt))
@@ -201,7 +202,7 @@ stop_at_decision_done_follows : Follows three_nodes fresh stop_at_decision_done_
 stop_at_decision_done_follows = runs (Step three_nodes) stop_at_decision_done_events stopped [] (
     went refl (accepted (began A kind.Top 1 None ∷ []) [] [] refl refl refl refl tt)
     & went refl (accepted [] (lines_at stopped 2) [] refl (inl refl) refl refl (tt & tt & refl & tt))
-    & went refl (accepted [] (lines_at stopped 3) [] refl (inl refl) refl refl (refl & refl & refl & tt & tt & tt & ((refl, refl), at 0 refl refl) & tt))
+    & went refl (accepted [] (lines_at stopped 3) [] refl (inl refl) refl refl (refl & refl & refl & tt & tt & tt & ((refl, refl), (Counter 0, refl, refl)) & tt))
     & went refl (accepted (body.Committing A ∷ []) (drop 1 (lines_at stopped 4)) [] (inl refl) (inl refl) refl refl (refl & refl & tt))
     & went refl (accepted (body.Armed 1 ∷ []) [] [] refl refl refl refl tt)
     & went refl (accepted [] (lines_at stopped 6) [] refl (inl refl) refl refl (refl & tt & refl & refl & tt & refl & refl & refl & refl & tt))
@@ -223,7 +224,7 @@ naming_stopped_follows : Follows four_nodes fresh naming_stopped_events (lines_o
 naming_stopped_follows = runs (Step four_nodes) naming_stopped_events naming_stopped_bodies [] (
     went refl (accepted (named_at 1) [] [] refl refl refl refl tt)
     & went refl (accepted [] (named_at 2) [] refl (inl refl) refl refl (refl & tt))
-    & went refl (accepted [] (named_at 3) [] refl (inl refl) refl refl (refl & tt & tt & refl & refl & refl & refl & refl & refl & tt & refl & refl & tt & refl & refl & tt & ((refl, refl), at 0 refl refl) & tt))
+    & went refl (accepted [] (named_at 3) [] refl (inl refl) refl refl (refl & tt & tt & refl & refl & refl & refl & refl & refl & tt & refl & refl & tt & refl & refl & tt & ((refl, refl), (Counter 0, refl, refl)) & tt))
     & went refl (accepted (body.Committing A ∷ []) (drop 1 (named_at 4)) [] (inl refl) (inl refl) refl refl (refl & refl & tt))
     & went refl (accepted (named_at 5) [] [] refl refl refl refl tt)
     & went refl (accepted [] (named_at 6) [] refl (inl refl) refl refl (refl & tt & refl & refl & tt))
@@ -264,7 +265,7 @@ rebinding_follows = runs (Step two_servers) rebinding_events rebinding_bodies []
     & went refl (accepted (take 1 (rebound 11)) (drop 1 (rebound 11)) [] (1, refl, refl) refl refl refl (tt))
     & went refl refl
     & went refl (accepted [] (rebound 13) [] refl (inl refl) refl refl (tt & tt & refl & tt))
-    & went refl (accepted [] (rebound 14) [] refl (inl refl) refl refl (refl & refl & tt & refl & refl & tt & refl & refl & tt & refl & refl & ((refl, refl), at 0 refl refl) & tt))
+    & went refl (accepted [] (rebound 14) [] refl (inl refl) refl refl (refl & refl & tt & refl & refl & tt & refl & refl & tt & refl & refl & ((refl, refl), (Counter 0, refl, refl)) & tt))
     & went refl (accepted (take 1 (rebound 15)) (drop 1 (rebound 15)) [] (inl refl) (inl refl) refl refl (refl & tt))
     & went refl (accepted (take 1 (rebound 16)) (drop 1 (rebound 16)) [] (inl refl) (inl refl) refl refl (refl & tt))
     & went refl (accepted [] (rebound 17) [] refl (inl refl) refl refl (refl & tt & refl & refl & refl & tt & refl & refl & refl & tt & tt & refl & refl & tt & refl & refl & tt))

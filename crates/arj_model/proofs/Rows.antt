@@ -7,12 +7,10 @@ use Rattle.std.proofs.lemmas.Fmt.{decimal_digit}
 use Rattle.arj_base.specs.declared.uid.Uid.{Uid}
 use Rattle.arj_base.specs.declared.mode.Mode.TheVariants.{Read, Write}
 use Rattle.arj_base.specs.declared.state.Class.TheVariants as class
+use Rattle.arj_base.specs.declared.state.Format.TheVariants as format
 use Rattle.arj_base.specs.declared.state.ObjectState.{ObjectState}
 use Rattle.arj_base.specs.Uid.{object, entry, nobody}
-use Rattle.arj_class.specs.declared.op.Op.{Op}
 use Rattle.arj_class.specs.declared.op.Op.TheVariants.{Get, Add, Set}
-use Rattle.arj_class.specs.Table.{class_of, has_op, answer_of}
-use Rattle.arj_text.specs.Words.{answer_text}
 use Rattle.arj_class.specs.declared.value.Value.TheVariants.{Counter, Register}
 use Rattle.arj_journal.specs.declared.body.Body.{Body}
 use Rattle.arj_journal.specs.declared.body.Body.TheVariants as body
@@ -29,7 +27,7 @@ use Rattle.arj_model.specs.Last.{first_values, last_state, listed, entry_state}
 use Rattle.arj_model.specs.Past.{Past, nothing_yet, asked_of, next, block, Along}
 use Rattle.arj_start.specs.Start.{fresh}
 use Rattle.arj_model.specs.Refusals.{refusal}
-use Rattle.arj_model.specs.Follows.{IsAnswerOf, IsRefusedDoomed, is_limited, AnswersFit, Step, Accepted, AreEnding, Follows, Runs}
+use Rattle.arj_model.specs.Follows.{IsRefusedDoomed, is_limited, AnswersFit, Step, Accepted, AreEnding, Follows, Runs}
 use Rattle.arj_model.specs.Own.{Begins, Ends, may_stand, halts_fit}
 use Rattle.arj_model.proofs.Journals.{A, B, C, N, uid, counter, began, ok, lines_of, one_node, three_nodes, smallest_bodies, smallest}
 use Rattle.arj_model.proofs.Journals.{conflict, nested_abort, older_image, independent, serializing, to_inclusion, exclusion, inclusion}
@@ -38,16 +36,16 @@ use Rattle.arj_model.proofs.Journals.{stop_at_decision_done, unit_round_a_top, m
 -- What a journal shows: the numbers of the committed tops; of each action, the newest first, whether it is over; the
 -- places of the surviving calls of committed tops; their answers in serial order; and of object 1 the last state, the
 -- listed stores and the naming entry.
-record Shown : Type 0 where
-  committed : List ℕ
-  over : List Bool
-  calls : List ℕ
-  answers : List (List ℕ)
-  last : ObjectState
-  stores : List ℕ
-  naming : ObjectState
+pub record Shown : Type 0 where
+  pub committed : List ℕ
+  pub over : List Bool
+  pub calls : List ℕ
+  pub answers : List (List ℕ)
+  pub last : ObjectState
+  pub stores : List ℕ
+  pub naming : ObjectState
 
-abbrev shown : Header → List Line → Shown
+abbrev pub shown : Header → List Line → Shown
 shown header lines = record {
   committed = map (λ t. t.id) (tops lines);
   over = map (is_over lines) (acts lines);
@@ -58,18 +56,18 @@ shown header lines = record {
   naming = entry_state header lines 1;
 }
 
-abbrev shows : List ℕ → List Bool → List ℕ → List (List ℕ) → ObjectState → List ℕ → ObjectState → Shown
+abbrev pub shows : List ℕ → List Bool → List ℕ → List (List ℕ) → ObjectState → List ℕ → ObjectState → Shown
 shows committed over calls answers last stores naming =
     record { committed = committed; over = over; calls = calls; answers = answers; last = last; stores = stores; naming = naming }
 
 -- version, writer and value of the counter; version, writer and payload of the entry
-abbrev last_is : ℕ → Uid → ℕ → ObjectState
-last_is version writer value = record { uid = object 1; class = class.Counter; version = version; writer = writer; payload = counter value }
+abbrev pub last_is : ℕ → Uid → ℕ → ObjectState
+last_is version writer value = record { uid = object 1; class = class.Counter; version = version; writer = writer; payload = counter value; format = format.Two }
 
 abbrev entry_is : ℕ → Uid → List ℕ → ObjectState
-entry_is version writer payload = record { uid = entry 1; class = class.Entry; version = version; writer = writer; payload = payload }
+entry_is version writer payload = record { uid = entry 1; class = class.Entry; version = version; writer = writer; payload = payload; format = format.Two }
 
-abbrev first_entry : ObjectState
+abbrev pub first_entry : ObjectState
 first_entry = entry_is 0 nobody (1 ∷ 1 ∷ 1 ∷ 1 ∷ [])
 
 abbrev done : List ℕ
@@ -154,7 +152,7 @@ stores_serial = (refl & tt, refl & tt, refl & tt)
 
 -- Runs on one node, with the lines that such a run writes today: events, and the lines of each.
 
-abbrev is_built : Body → Bool
+abbrev pub is_built : Body → Bool
 is_built (body.Began l k u p) = true
 is_built (body.Ok l x op answer) = true
 is_built (body.Conflict l holder mode n) = true
@@ -215,11 +213,6 @@ pub went_doomed : {header : Header} {past : Past} {e : Event} {bodies : List Bod
     IsRefusedDoomed header past e bodies → Step header past e bodies
 went_doomed goes_on lines = record { goes_on = goes_on; lines = inr lines }
 
--- an answer to a call of the counter, at this value
-pub at : {op : Op} {answer : List ℕ} (n : ℕ) → has_op (class_of (Counter n)) op ≡ true → answer ≡ answer_text (answer_of op (Counter n)) →
-    IsAnswerOf op answer
-at n has is = (Counter n, has, is)
-
 abbrev smallest_events : List Event
 smallest_events = event.Begin A 1 ∷ event.Call A 1 (Add 5) ∷ event.Commit A ∷ event.Begin B 1 ∷ event.Call B 1 Get ∷ event.Commit B ∷ []
 
@@ -229,10 +222,10 @@ first_smallest = map (filter is_built) smallest_bodies
 smallest_follows : Follows (one_node 0) fresh smallest_events (lines_of first_smallest)
 smallest_follows = runs (Step (one_node 0)) smallest_events first_smallest [] (
     went refl (accepted (began A kind.Top 1 None ∷ []) [] [] refl refl refl refl tt)
-    & went refl (accepted [] (ok A (Add 5) done ∷ []) [] refl (inl refl) refl refl (((refl, refl), at 0 refl refl), tt))
+    & went refl (accepted [] (ok A (Add 5) done ∷ []) [] refl (inl refl) refl refl (((refl, refl), (Counter 0, refl, refl)), tt))
     & went refl (accepted (body.Committing A ∷ []) (body.Committed A ∷ []) [] (inl refl) (inl refl) refl refl (refl, tt))
     & went refl (accepted (began B kind.Top 2 None ∷ []) [] [] refl refl refl refl tt)
-    & went refl (accepted [] (ok B Get (codes "5") ∷ []) [] refl (inl refl) refl refl (((refl, refl), at 5 refl (sym (decimal_digit 5 (omega arith)))), tt))
+    & went refl (accepted [] (ok B Get (codes "5") ∷ []) [] refl (inl refl) refl refl (((refl, refl), (Counter 5, refl, sym (decimal_digit 5 (omega arith)))), tt))
     & went refl (accepted (body.Committing B ∷ []) (body.Committed B ∷ []) [] (inl refl) (inl refl) refl refl (refl, tt))
     & tt) tt
 
@@ -250,12 +243,12 @@ raise_follows : Follows (one_node 0) fresh raise_events (lines_of raise)
 raise_follows = runs (Step (one_node 0)) raise_events raise [] (
     went refl (accepted (began A kind.Top 1 None ∷ []) [] [] refl refl refl refl tt)
     & went refl (accepted (began B kind.Top 2 None ∷ []) [] [] refl refl refl refl tt)
-    & went refl (accepted [] (ok A Get (codes "0") ∷ []) [] refl (inl refl) refl refl (((refl, refl), at 0 refl (sym (decimal_digit 0 (omega arith)))), tt))
-    & went refl (accepted [] (ok B Get (codes "0") ∷ []) [] refl (inl refl) refl refl (((refl, refl), at 0 refl (sym (decimal_digit 0 (omega arith)))), tt))
+    & went refl (accepted [] (ok A Get (codes "0") ∷ []) [] refl (inl refl) refl refl (((refl, refl), (Counter 0, refl, sym (decimal_digit 0 (omega arith)))), tt))
+    & went refl (accepted [] (ok B Get (codes "0") ∷ []) [] refl (inl refl) refl refl (((refl, refl), (Counter 0, refl, sym (decimal_digit 0 (omega arith)))), tt))
     & went refl (accepted [] (body.Conflict A (uid 2) Read 1 ∷ []) [] refl (inl refl) refl refl (refl, tt))
     & went refl (accepted (began C kind.Top 3 None ∷ []) [] [] refl refl refl refl tt)
     & went refl (accepted (body.Aborted B cause.Asked ∷ []) [] [] (refl, tt) (inl refl) refl refl tt)
-    & went refl (accepted [] (ok A (Set 1) done ∷ []) [] refl (inl refl) refl refl (((refl, refl), at 0 refl refl), tt))
+    & went refl (accepted [] (ok A (Set 1) done ∷ []) [] refl (inl refl) refl refl (((refl, refl), (Counter 0, refl, refl)), tt))
     & went refl (accepted [] (body.Conflict C (uid 1) Write 1 ∷ []) [] refl (inl refl) refl refl (refl, tt))
     & tt) tt
 
@@ -276,7 +269,7 @@ refused_follows = runs (Step (one_node 0)) refused_events refused (block 14 (bod
     went refl refl & went refl (accepted (began A kind.Top 1 None ∷ []) [] [] refl refl refl refl tt) & went refl refl & went refl refl & went refl refl
     & went refl (accepted (body.Aborted A cause.Asked ∷ []) [] [] (refl, tt) (inl refl) refl refl tt) & went refl refl & went refl refl
     & went refl (accepted (began B kind.Top 2 None ∷ []) [] [] refl refl refl refl tt)
-    & went refl (accepted [] (ok B (Set 7) done ∷ []) [] refl (inl refl) refl refl (((refl, refl), at 0 refl refl), tt))
+    & went refl (accepted [] (ok B (Set 7) done ∷ []) [] refl (inl refl) refl refl (((refl, refl), (Counter 0, refl, refl)), tt))
     & went refl (accepted (body.Committing B ∷ []) (body.Halted 1 ∷ []) [] (inl refl) (inl refl) refl refl (refl, tt))
     & went refl refl & went refl refl & went refl refl & tt) (refl & refl)
 
@@ -293,6 +286,7 @@ wide = record {
   objects =
       map (λ x. record { x = x; value = Counter 0; servers = 1 ∷ []; stores = 1 ∷ [] }) (sixteen ++ 17 ∷ [])
       ++ record { x = 18; value = Register []; servers = 1 ∷ []; stores = 1 ∷ [] } ∷ [];
+  format = format.Two;
 }
 
 abbrev used : Past

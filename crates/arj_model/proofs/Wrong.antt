@@ -4,13 +4,14 @@ use Rattle.std.specs.Prelude.{◌≡◌, ◌⊎◌, refl, ℕ, ◌+◌, List, []
 use Rattle.std.specs.Prelude.{not, ◌==◌, nat_lt, Some, None}
 use Rattle.std.proofs.Common.{arith, inl, inr, ap, ◌∙◌}
 use Rattle.arj_base.specs.declared.state.Class.TheVariants as class
+use Rattle.arj_base.specs.declared.state.Format.TheVariants as format
 use Rattle.arj_base.specs.Uid.{object}
 use Rattle.arj_base.specs.declared.uid.Uid.{Uid}
 use Rattle.arj_class.specs.declared.op.Op.TheVariants.{Get, Add}
 use Rattle.arj_class.specs.declared.op.Answer.TheVariants.{Done, Over}
 use Rattle.arj_class.specs.declared.value.Value.{Value}
-use Rattle.arj_class.specs.declared.value.Value.TheVariants.{Counter, Register, Account, Queue, Table}
-use Rattle.arj_class.specs.Table.{class_of, has_op, answer_of}
+use Rattle.arj_class.specs.declared.value.Value.TheVariants.{Counter, Register, Account, Queue, Table, Gone}
+use Rattle.arj_class.specs.Table.{own_class, has_op, answer_of}
 use Rattle.arj_journal.specs.declared.body.Body.{Body}
 use Rattle.arj_journal.specs.declared.body.Body.TheVariants as body
 use Rattle.arj_journal.specs.declared.body.Cause.TheVariants as cause
@@ -42,12 +43,13 @@ no_such_answer f = by f.0 f.1 f.2
     which true is = let h : 48 ≡ 100 = ap (λ bs. get_or bs 0 0) is in omega (arith, h)
     which false is = let h : 48 ≡ 111 = ap (λ bs. get_or bs 0 0) is in omega (arith, h)
 
-    by : (v : Value) → has_op (class_of v) (Add 5) ≡ true → codes "00ff" ≡ answer_text (answer_of (Add 5) v) → ⊥
+    by : (v : Value) → has_op (own_class v) (Add 5) ≡ true → codes "00ff" ≡ answer_text (answer_of (Add 5) v) → ⊥
     by (Counter m) has is = which (nat_lt (m + 5) 18446744073709551616) is
     by (Register bytes) has is = cc
     by (Account m) has is = cc
     by (Queue ns) has is = cc
     by (Table ps) has is = cc
+    by (Gone c) has is = let h : 48 ≡ 103 = ap (λ bs. get_or bs 0 0) is in omega (arith, h)
 
 -- one action of node 1 began
 abbrev begun : Past
@@ -122,7 +124,7 @@ decided = refl
 -- What an undecided top would put has nothing of its aborted nested actions.
 next_without_aborted :
     next_state (one_node 0) (lines_of (take 6 nested_abort_bodies ++ (body.Committing A ∷ body.Halted 1 ∷ []) ∷ [])) 0 1
-    ≡ record { uid = object 1; class = class.Counter; version = 1; writer = uid 1; payload = counter 4 }
+    ≡ record { uid = object 1; class = class.Counter; version = 1; writer = uid 1; payload = counter 4; format = format.Two }
 next_without_aborted = refl
 
 -- The limit of labels is tested behind the causes 1 to 5 and before all others: A's node has halted.

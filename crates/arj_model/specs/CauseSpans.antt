@@ -8,9 +8,12 @@ use Rattle.std.specs.Str.{bytes_eq}
 use Rattle.arj_base.specs.declared.mode.Mode.{Mode}
 use Rattle.arj_base.specs.declared.uid.Uid.{Uid}
 use Rattle.arj_base.specs.Mode.{mode_code}
+use Rattle.arj_base.specs.State.{class_code_of}
 use Rattle.arj_base.specs.Uid.{uid_eq}
 use Rattle.arj_class.specs.declared.op.Op.{Op}
-use Rattle.arj_class.specs.declared.op.Op.TheVariants.{Get, Add, Set, Put, Deposit, Withdraw, Len, Push, Pop, GetKey, PutPair, Remove}
+use Rattle.arj_class.specs.declared.op.Op.TheVariants.{Get, Add, Set, Put, Deposit, Withdraw, Len, Push, Pop, GetKey, PutPair, Remove, Create, Destroy}
+use Rattle.arj_class.specs.declared.value.Value.{Value}
+use Rattle.arj_class.specs.declared.value.Value.TheVariants.{Counter, Register, Account, Queue, Table, Gone}
 use Rattle.arj_journal.specs.LineWords.{frame_text}
 use Rattle.arj_journal.specs.declared.body.Body.{Body}
 use Rattle.arj_journal.specs.declared.body.Body.TheVariants as body
@@ -73,6 +76,22 @@ same_mode m n = mode_code m == mode_code n
 abbrev pub same_frame : FrameKind → FrameKind → Bool
 same_frame a b = bytes_eq (frame_text a) (frame_text b)
 
+-- so are the pairs
+abbrev pub same_pairs : List (ℕ × ℕ) → List (ℕ × ℕ) → Bool
+same_pairs [] [] = true
+same_pairs (p ∷ ps) (q ∷ qs) = (p.0 == q.0) && ((p.1 == q.1) && same_pairs ps qs)
+same_pairs _ _ = false
+
+-- so are the values
+abbrev pub same_value : Value → Value → Bool
+same_value (Counter m) (Counter n) = m == n
+same_value (Register m) (Register n) = bytes_eq m n
+same_value (Account m) (Account n) = m == n
+same_value (Queue m) (Queue n) = bytes_eq m n
+same_value (Table m) (Table n) = same_pairs m n
+same_value (Gone c) (Gone d) = class_code_of c == class_code_of d
+same_value _ _ = false
+
 -- so are the operations
 abbrev pub same_op : Op → Op → Bool
 same_op Get Get = true
@@ -87,6 +106,8 @@ same_op Pop Pop = true
 same_op (GetKey m) (GetKey n) = m == n
 same_op (PutPair j m) (PutPair k n) = (j == k) && (m == n)
 same_op (Remove m) (Remove n) = m == n
+same_op (Create v) (Create w) = same_value v w
+same_op Destroy Destroy = true
 same_op _ _ = false
 
 -- the nodes of a run

@@ -49,5 +49,5 @@ undecided lines = filter_map (λ m. undecided_by (ended lines) (recovered lines)
 -- the state of object x if this top had committed, with its surviving calls
 abbrev pub next_state : Header → List Line → ℕ → ℕ → ObjectState
 next_state header lines id x =
-    state_after unwritten x (run (run (first_values header) (serial_calls lines)) (surviving lines id) x)
+    state_after header.format unwritten x (run (run (first_values header) (serial_calls lines)) (surviving lines id) x)
     (writes_of lines x ++ filter (writes_on x) (surviving lines id))

@@ -5,7 +5,7 @@ use Rattle.std.specs.Prelude.{MatchOption, ⊤}
 use Rattle.std.specs.List.{list_all, list_any}
 use Rattle.arj_class.specs.declared.op.Op.{Op}
 use Rattle.arj_class.specs.declared.value.Value.{Value}
-use Rattle.arj_class.specs.Table.{class_of, has_op, answer_of}
+use Rattle.arj_class.specs.Table.{own_class, has_op, answer_of}
 use Rattle.arj_journal.specs.declared.body.Body.{Body}
 use Rattle.arj_journal.specs.declared.body.Body.TheVariants as body
 use Rattle.arj_journal.specs.declared.body.Line.{Line}
@@ -33,9 +33,9 @@ abbrev pub IsIncludeOf : ℕ → ℕ → Option Event → Type 0
 IsIncludeOf x n (Some (event.Include m y asked)) = (y ≡ x) × (asked ≡ n)
 IsIncludeOf x n _ = ⊥
 
--- The text is that of an answer of the operation: one that it gives at some value of a class that has it.
+-- The text is that of an answer of the operation: one that it gives at some value, there or gone, of a class that has it.
 abbrev pub IsAnswerOf : Op → List ℕ → Type 0
-IsAnswerOf op answer = (v : Value) × (has_op (class_of v) op ≡ true) × (answer ≡ answer_text (answer_of op v))
+IsAnswerOf op answer = (v : Value) × (has_op (own_class v) op ≡ true) × (answer ≡ answer_text (answer_of op v))
 
 -- A line behind these lines. An answer is to the call or include that is waited for, with its own object and operation;
 -- a top's end is to its commit; a node halts where it is up; a frame that is sent has the next number, and one that is

@@ -5,6 +5,7 @@ use Rattle.std.specs.Prelude.{if◌then◌else◌, Option, Some, None}
 use Rattle.std.specs.List.{list_any, list_all, filter_map}
 use Rattle.arj_base.specs.declared.uid.Uid.{Uid}
 use Rattle.arj_base.specs.declared.state.Class.TheVariants as class
+use Rattle.arj_base.specs.declared.state.Format.{Format}
 use Rattle.arj_base.specs.declared.state.ObjectState.{ObjectState}
 use Rattle.arj_base.specs.Uid.{object, entry, nobody}
 use Rattle.arj_class.specs.declared.value.Value.{Value}
@@ -20,7 +21,7 @@ use Rattle.arj_text.specs.Label.{name}
 use Rattle.arj_model.specs.Actions.{Act, Placed, read, path, top_in, chain_in, has_end, committed, acts}
 use Rattle.arj_model.specs.Calls.{Call, Top, tops}
 use Rattle.arj_model.specs.Serial.{Values, run, serial_calls, writes_on, arrange, serial_key, lex}
-use Rattle.arj_start.specs.Start.{Mark, Marks, none_written}
+use Rattle.arj_start.specs.Start.{Mark, Marks, format_at, none_written}
 
 -- the header's line of object x
 abbrev pub object_line : Header → ℕ → Option ObjectLine
@@ -59,20 +60,22 @@ abbrev pub writer_from : Uid → List Call → Uid
 writer_from u [] = u
 writer_from u (c ∷ cs) = writer_from c.writer cs
 
--- the state of object x with this value, after these writes on what has this mark
-abbrev pub state_after : Mark → ℕ → Value → List Call → ObjectState
-state_after m x v writes = record {
+-- The state of object x with this value, after these writes on what has this mark, where the header has this format. Where the object is
+-- gone the state says so, and its payload is the own class.
+abbrev pub state_after : Format → Mark → ℕ → Value → List Call → ObjectState
+state_after first m x v writes = record {
   uid = object x;
   class = class_of v;
   version = m.version + count_tops writes;
   writer = writer_from m.writer writes;
   payload = payload_of v;
+  format = format_at first (m.version + count_tops writes);
 }
 
 -- The last state of object x, where a run began with these marks: its value is that of the serial run, its version counts the committed
 -- tops that wrote it, from the mark on, and its writer is the last of them.
 abbrev pub last_from : Header → Marks → List Line → ℕ → ObjectState
-last_from header marks lines x = state_after (marks.states x) x (run (first_values header) (serial_calls lines) x) (writes_of lines x)
+last_from header marks lines x = state_after header.format (marks.states x) x (run (first_values header) (serial_calls lines) x) (writes_of lines x)
 
 -- its last state, where the run began at a format
 abbrev pub last_state : Header → List Line → ℕ → ObjectState
@@ -198,6 +201,7 @@ entry_from header marks lines x =
       version = mark.version + length changed;
       writer = changer_from (acts lines) mark.writer changed;
       payload = entry_payload (servers_of_line (object_line header x)) (listed header lines x);
+      format = format_at header.format (mark.version + length changed);
     }
 
 -- its entry, where the run began at a format

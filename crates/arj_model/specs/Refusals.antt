@@ -6,7 +6,7 @@ use Rattle.std.specs.Option.{option_map}
 use Rattle.std.specs.Str.{bytes_eq}
 use Rattle.arj_base.specs.declared.uid.Uid.{Uid}
 use Rattle.arj_class.specs.declared.op.Op.{Op}
-use Rattle.arj_class.specs.Table.{class_of, has_op}
+use Rattle.arj_class.specs.Table.{own_class, has_op}
 use Rattle.arj_journal.specs.declared.body.Body.{Body}
 use Rattle.arj_journal.specs.declared.body.Body.TheVariants as body
 use Rattle.arj_journal.specs.declared.body.Kind.{Kind}
@@ -216,10 +216,10 @@ is_too_many past l x =
     let used = objects_of past (root_in (path (acts past.lines) l)) in
     not (is_among used x) && nat_le most_objects (length used)
 
--- the class of the object lacks the operation
+-- the class of the object, which may be gone, lacks the operation
 abbrev pub lacks_op : Option ObjectLine → Op → Bool
 lacks_op None op = false
-lacks_op (Some o) op = not (has_op (class_of o.value) op)
+lacks_op (Some o) op = not (has_op (own_class o.value) op)
 
 -- the action with this label is a serializing one
 abbrev pub is_serializing : List Line → List ℕ → Bool

@@ -14,6 +14,9 @@ use Rattle.arj_base.specs.declared.state.ObjectState.{ObjectState}
 use Rattle.arj_base.specs.declared.uid.Uid.{Uid}
 use Rattle.arj_base.specs.Path.{uids_of, tops_of}
 use Rattle.arj_base.specs.Uid.{UidFits}
+use Rattle.arj_class.specs.declared.limits.TheConstants.{REGISTER_BYTES}
+use Rattle.arj_class.specs.Forms.{OpInForm}
+use Rattle.arj_class.specs.declared.value.Value.{Value}
 use Rattle.arj_class.specs.declared.op.Op.{Op}
 use Rattle.arj_class.specs.declared.op.Op.TheVariants as op
 use Rattle.arj_class.specs.declared.op.Answer.{Answer}
@@ -21,7 +24,7 @@ use Rattle.arj_class.specs.declared.op.Answer.TheVariants as answered
 use Rattle.arj_msg.specs.Format.{Format, between, byte, both, list, nothing}
 use Rattle.arj_msg.specs.Fields.{node, object, number2, number4, number8, uid, binding, flag, mode as mode_form, outcome, ends, long_list}
 use Rattle.arj_msg.specs.Fields.{BindingFits}
-use Rattle.arj_msg.specs.State.{state}
+use Rattle.arj_msg.specs.State.{state, object_class, payload_in, value_there}
 use Rattle.arj_msg.specs.Head.{path, head, asked}
 use Rattle.arj_msg.specs.Operation.{operation, answer, text}
 use Rattle.arj_msg.specs.Requests as ask
@@ -52,6 +55,7 @@ use Rattle.arj_msg.specs.declared.message.PreparedReply.{PreparedReply}
 use Rattle.arj_msg.specs.declared.message.PreparedReply.TheVariants as prepared_as
 use Rattle.arj_msg.specs.declared.message.ConfirmedReply.{ConfirmedReply}
 use Rattle.arj_msg.specs.declared.message.ConfirmedReply.TheVariants as confirmed_as
+use Rattle.arj_msg.proofs.ValueLaws.{there_coded, coded_there}
 
 same : {P : Type 0} → P ↔ P
 same = (λ p. p, λ p. p)
@@ -185,9 +189,13 @@ asked_iff : (a : Asked) → asked.Fits a ↔ AskedFits a
 unfolding asked
 asked_iff a = two (uid_iff a.act) (short_iff a.req)
 
-text_iff : (bytes : List ℕ) → text.Fits bytes ↔ (length bytes ≤ 64)
+text_iff : (bytes : List ℕ) → text.Fits bytes ↔ (length bytes ≤ REGISTER_BYTES)
 unfolding text
 text_iff bytes = same
+
+there_iff : (v : Value) → value_there.Fits v ↔ OpInForm (op.Create v)
+unfolding value_there object_class payload_in byte
+there_iff v = (λ h. (h.1.1, there_coded v h.0), λ h. (coded_there v h.1, (refl, h.0)))
 
 op_iff : (o : Op) → operation.Fits o ↔ OpFits o
 unfolding operation nothing
@@ -203,6 +211,8 @@ op_iff op.Pop = same
 op_iff (op.GetKey k) = long_iff k
 op_iff (op.PutPair k v) = two (long_iff k) (long_iff v)
 op_iff (op.Remove k) = long_iff k
+op_iff (op.Create v) = there_iff v
+op_iff op.Destroy = same
 
 answer_iff : (a : Answer) → answer.Fits a ↔ AnswerFits a
 unfolding answer nothing
@@ -213,6 +223,8 @@ answer_iff answered.Over = same
 answer_iff answered.Short = same
 answer_iff answered.Full = same
 answer_iff answered.Nothing = same
+answer_iff answered.There = same
+answer_iff answered.Gone = same
 
 what_iff : (w : What) → changed.Fits w ↔ WhatFits w
 unfolding changed

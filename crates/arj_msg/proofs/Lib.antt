@@ -6,9 +6,11 @@ pub mod HeadLaws
 pub mod Laws
 pub mod Loop
 pub mod MessageLaws
+pub mod OperationLaws
 pub mod PathLaws
 pub mod ReplyLaws
 pub mod Sends
 pub mod Sizes
 pub mod StateLaws
 pub mod TextLaws
+pub mod ValueLaws

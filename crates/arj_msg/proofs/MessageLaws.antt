@@ -9,7 +9,7 @@ use Rattle.arj_msg.specs.Layout.{told, acked, query, hello, message, message_cas
 use Rattle.arj_msg.proofs.Laws.{Lawful, shaped_lawful}
 use Rattle.arj_msg.proofs.FieldLaws.{node_lawful, object_lawful, number4_lawful, binding_lawful, uid_lawful, flag_lawful, ends_lawful}
 use Rattle.arj_msg.proofs.FieldLaws.{both_lawful, list_lawful, long_list_lawful}
-use Rattle.arj_msg.proofs.TextLaws.{operation_lawful}
+use Rattle.arj_msg.proofs.OperationLaws.{operation_lawful}
 use Rattle.arj_msg.proofs.StateLaws.{state_lawful}
 use Rattle.arj_msg.proofs.HeadLaws.{head_lawful, asked_lawful}
 use Rattle.arj_msg.proofs.ReplyLaws.{bound_reply_lawful, loaded_reply_lawful, recorded_reply_lawful, invoked_reply_lawful}

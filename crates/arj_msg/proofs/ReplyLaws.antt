@@ -28,7 +28,7 @@ use Rattle.arj_msg.specs.Replies.{confirmed_reply_cases, confirmed_reply_parts}
 use Rattle.arj_msg.proofs.Laws.{Lawful}
 use Rattle.arj_msg.proofs.FieldLaws.{node_lawful, object_lawful, number4_lawful, number8_lawful, binding_lawful, uid_lawful, mode_lawful}
 use Rattle.arj_msg.proofs.FieldLaws.{both_lawful, list_lawful, nothing_lawful}
-use Rattle.arj_msg.proofs.TextLaws.{answer_lawful}
+use Rattle.arj_msg.proofs.OperationLaws.{answer_lawful}
 use Rattle.arj_msg.proofs.StateLaws.{state_lawful}
 use Rattle.arj_msg.proofs.CaseLaws.{by_case, choice_lawful}
 

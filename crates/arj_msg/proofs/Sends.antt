@@ -1,6 +1,7 @@
 -- A message in form is sendable.
 use Rattle.std.proofs.Common.{List, [], ◌∷◌}
 use Rattle.std.specs.List.{AllByRecursion}
+use Rattle.arj_class.specs.Forms.{OpInForm}
 use Rattle.arj_class.specs.declared.op.Op.{Op}
 use Rattle.arj_class.specs.declared.op.Op.TheVariants as op
 use Rattle.arj_class.specs.declared.op.Answer.{Answer}
@@ -9,7 +10,7 @@ use Rattle.arj_msg.specs.InForm.{IsObject, IsShort, AreFew, StateFits, OpFits, A
 use Rattle.arj_msg.specs.InForm.{PreparedFits, ConfirmedFits, IsInForm}
 use Rattle.arj_msg.specs.Fields.{BindingFits}
 use Rattle.arj_msg.specs.Layout.{MessageInForm}
-use Rattle.arj_msg.specs.Sendable.{StateSends, OpSends, AnswerSends, BoundSends, LoadedSends, InvokedSends, VotedSends, PreparedSends}
+use Rattle.arj_msg.specs.Sendable.{StateSends, AnswerSends, BoundSends, LoadedSends, InvokedSends, VotedSends, PreparedSends}
 use Rattle.arj_msg.specs.Sendable.{ConfirmedSends, IsSendable}
 use Rattle.arj_msg.specs.declared.message.Message.{Message}
 use Rattle.arj_msg.specs.declared.message.Message.TheVariants as of
@@ -34,7 +35,7 @@ all_weaker P Q one (x ∷ xs) all = (one x all.0, all_weaker P Q one xs all.1)
 few_weaker : {A : Type 0} (P Q : A → Type 0) → ((a : A) → P a → Q a) → (xs : List A) → AreFew P xs → AreFew Q xs
 few_weaker P Q one xs few = (few.0, all_weaker P Q one xs few.1)
 
-op_sends : (o : Op) → OpFits o → OpSends o
+op_sends : (o : Op) → OpFits o → OpInForm o
 op_sends (op.Put bytes) fits = fits
 op_sends op.Get fits = tt
 op_sends (op.Add n) fits = tt
@@ -47,6 +48,8 @@ op_sends op.Pop fits = tt
 op_sends (op.GetKey k) fits = tt
 op_sends (op.PutPair k v) fits = tt
 op_sends (op.Remove k) fits = tt
+op_sends (op.Create v) fits = fits
+op_sends op.Destroy fits = tt
 
 answer_sends : (a : Answer) → AnswerFits a → AnswerSends a
 answer_sends answered.Done fits = tt
@@ -56,6 +59,8 @@ answer_sends answered.Over fits = tt
 answer_sends answered.Short fits = tt
 answer_sends answered.Full fits = tt
 answer_sends answered.Nothing fits = tt
+answer_sends answered.There fits = tt
+answer_sends answered.Gone fits = tt
 
 bound_sends : (r : BoundReply) → BoundFits r → BoundSends r
 bound_sends (bound_as.Live b s si ni stores) fits = (fits.1, fits.4)

@@ -6,7 +6,7 @@ use Rattle.std.proofs.lemmas.List.Concat.{flat_map-cons}
 use Rattle.arj_base.specs.Path.{uids_of}
 use Rattle.arj_msg.specs.Format.{Format, Case, OneOf, spell_one, OneFits, choice, byte, both, shaped, list, nothing}
 use Rattle.arj_msg.specs.Fields.{node, object, number2, number4, number8, binding, uid, flag, mode, outcome, ends, long_list}
-use Rattle.arj_msg.specs.State.{state}
+use Rattle.arj_msg.specs.State.{state, object_class, payload_in, value_there}
 use Rattle.arj_msg.specs.Operation.{text, operation, op_cases, op_parts, answer, answer_cases, answer_parts}
 use Rattle.arj_msg.specs.Head.{path, path_parts, head, asked}
 use Rattle.arj_msg.specs.Replies.{changed, changed_cases, changed_parts, bound_reply, bound_reply_cases, bound_reply_parts, loaded_reply}
@@ -19,6 +19,7 @@ use Rattle.arj_msg.specs.Answers.{bound, loaded, activated, recorded, invoked, v
 use Rattle.arj_msg.specs.Layout.{told, acked, query, hello, message, message_cases, message_parts}
 use Rattle.arj_msg.proofs.FieldLaws.{between_le}
 use Rattle.arj_msg.proofs.StateLaws.{state_short}
+use Rattle.arj_msg.proofs.ValueLaws.{short_payload}
 
 pub record AtMost {A : Type 0} (f : Format A) (n : ℕ) : Type 0 where
   pub most : (a : A) → f.Fits a → length (f.spell a) ≤ n
@@ -105,34 +106,38 @@ outcome_most : AtMost outcome 1
 unfolding outcome byte
 outcome_most = record { most = λ a fits. omega arith }
 
-text_most : AtMost text 65
+text_most : AtMost text 193
 unfolding text
 text_most = record { most = λ bytes fits. omega (arith, fits) }
 
-state_most : AtMost state 305
+state_most : AtMost state 306
 unfolding state
 state_most = record { most = λ s fits. omega (arith, state_short s fits.1) }
 
 ends_most : AtMost ends 102001
 ends_most = list_most (wider (omega arith) (both_most uid_most outcome_most))
 
-operation_most : AtMost operation 66
+there_most : AtMost value_there 259
+unfolding value_there object_class payload_in byte
+there_most = record { most = λ v fits. omega (arith, short_payload v fits.1.1) }
+
+operation_most : AtMost operation 260
 unfolding operation
 operation_most =
-    choice_most 1 op_cases op_parts 65 (none, (number, (number, (text_most, (number, (number, (none, (number, (none, (number, (wider (omega arith) (both_most number8_most number8_most), (number, tt))))))))))))
+    choice_most 1 op_cases op_parts 259 (none, (number, (number, (wider (omega arith) text_most, (number, (number, (none, (number, (none, (number, (wider (omega arith) (both_most number8_most number8_most), (number, (there_most, (none, tt))))))))))))))
   where
-    number : AtMost number8 65
+    number : AtMost number8 259
     number = wider (omega arith) number8_most
 
-    none : AtMost nothing 65
+    none : AtMost nothing 259
     none = wider (omega arith) nothing_most
 
-answer_most : AtMost answer 66
+answer_most : AtMost answer 194
 unfolding answer
 answer_most =
-    choice_most 0 answer_cases answer_parts 65 (none, (wider (omega arith) number8_most, (text_most, (none, (none, (none, (none, tt)))))))
+    choice_most 0 answer_cases answer_parts 193 (none, (wider (omega arith) number8_most, (text_most, (none, (none, (none, (none, (none, (none, tt)))))))))
   where
-    none : AtMost nothing 65
+    none : AtMost nothing 193
     none = wider (omega arith) nothing_most
 
 path_most : AtMost path 6500

@@ -1,5 +1,5 @@
--- The laws of bytes behind their length, of operations and of answers.
-use Rattle.std.proofs.Common.{◌≡◌, ℕ, ◌<◌, ◌≤◌, List, [], ◌∷◌, ◌++◌, length, take, drop, Some, None, sym, ap, refl, ◌∙◌, append_assoc}
+-- The laws of bytes behind their length.
+use Rattle.std.proofs.Common.{◌≡◌, ℕ, ◌<◌, ◌≤◌, List, [], ◌∷◌, ◌++◌, length, take, drop, Some, None, sym, ap, subst, refl, ◌∙◌, append_assoc}
 use Rattle.std.proofs.Common.{arith, true, false, ◌&&◌, nat_le, nat_lt, if◌then◌else◌}
 use Rattle.std.specs.Int.{w16, from_be_bytes}
 use Rattle.std.proofs.lemmas.Bool.{le-leb, leb-true, le-ltb, ltb-false}
@@ -7,40 +7,35 @@ use Rattle.std.proofs.lemmas.Bool.Decides.{nat_tests}
 use Rattle.std.proofs.lemmas.List.{take_at, drop_at, take-append-drop, length-append, length-take}
 use Rattle.std.proofs.lemmas.Nat.{be_bytes_2, from_be_bytes-to_be_bytes_2}
 use Rattle.byteorder.specs.Endian.{big_bytes}
-use Rattle.arj_class.specs.declared.op.Op.{Op}
-use Rattle.arj_class.specs.declared.op.Op.TheVariants as does
-use Rattle.arj_class.specs.declared.op.Answer.{Answer}
-use Rattle.arj_class.specs.declared.op.Answer.TheVariants as answered
-use Rattle.arj_msg.specs.Format.{made_by}
-use Rattle.arj_msg.specs.Operation.{text, cut_text, operation, op_cases, op_parts, answer, answer_cases, answer_parts}
+use Rattle.arj_class.specs.declared.limits.TheConstants.{REGISTER_BYTES}
+use Rattle.arj_msg.specs.Operation.{text, cut_text}
 use Rattle.arj_msg.specs.State.{long_bytes, cut_long, bytes_behind_length}
-use Rattle.arj_msg.proofs.Laws.{IsBytes, Lawful, field_lawful}
-use Rattle.arj_msg.proofs.FieldLaws.{if_some, else_some, bytes_take, number8_lawful, nothing_lawful, both_lawful}
-use Rattle.arj_msg.proofs.CaseLaws.{by_case, choice_lawful}
+use Rattle.arj_msg.proofs.Laws.{IsBytes, Lawful, field_lawful, bytes_of_rest}
+use Rattle.arj_msg.proofs.FieldLaws.{if_some, else_some, bytes_take}
 
 -- the first n of enough bytes, and those behind them
 cut_at : (n : ℕ) (bytes a rest : List ℕ) → n ≤ length bytes → take n bytes ≡ a → drop n bytes ≡ rest → (length a ≡ n) × (bytes ≡ a ++ rest)
 cut_at n bytes a rest le front behind =
     (omega (arith, ap length front, length-take n bytes), sym (take-append-drop n bytes) ∙ (λ i. front i ++ behind i))
 
-text_found : (bytes a rest : List ℕ) → IsBytes bytes → cut_text bytes ≡ Some (a, rest) → (length a ≤ 64) × (bytes ≡ (length a ∷ a) ++ rest)
+text_found : (bytes a rest : List ℕ) → IsBytes bytes → cut_text bytes ≡ Some (a, rest) → (length a ≤ REGISTER_BYTES) × (bytes ≡ (length a ∷ a) ++ rest)
 text_found [] a rest are e = absurd cc
 text_found (n ∷ bytes) a rest are e =
-    let found = if_some (nat_le n 64 && nat_le n (length bytes)) (take n bytes, drop n bytes) (a, rest) e in
-    let small : n ≤ 64 = grind (arith, nat_tests, found.0) in
+    let found = if_some (nat_le n REGISTER_BYTES && nat_le n (length bytes)) (take n bytes, drop n bytes) (a, rest) e in
+    let small : n ≤ REGISTER_BYTES = grind (arith, nat_tests, found.0) in
     let enough : n ≤ length bytes = grind (arith, nat_tests, found.0) in
     let cut = cut_at n bytes a rest enough (ap (λ p. p.0) found.1) (ap (λ p. p.1) found.1) in
     (omega (arith, cut.0), λ i. sym cut.0 i ∷ cut.1 i)
 
-text_again : (a rest : List ℕ) → length a ≤ 64 → cut_text ((length a ∷ a) ++ rest) ≡ Some (a, rest)
+text_again : (a rest : List ℕ) → length a ≤ REGISTER_BYTES → cut_text ((length a ∷ a) ++ rest) ≡ Some (a, rest)
 text_again a rest small =
-    let fits : (nat_le (length a) 64 && nat_le (length a) (length (a ++ rest))) ≡ true =
-    (λ i. le-leb (length a) 64 small i && le-leb (length a) (length (a ++ rest)) (omega (arith, length-append a rest)) i) in
+    let fits : (nat_le (length a) REGISTER_BYTES && nat_le (length a) (length (a ++ rest))) ≡ true =
+    (λ i. le-leb (length a) REGISTER_BYTES small i && le-leb (length a) (length (a ++ rest)) (omega (arith, length-append a rest)) i) in
     ap (λ t. if t then Some (take (length a) (a ++ rest), drop (length a) (a ++ rest)) else None) fits ∙ (λ i. Some (take_at a rest (length a) refl i, drop_at a rest (length a) refl i))
 
 pub text_lawful : Lawful text
 unfolding text
-text_lawful = field_lawful (λ bytes. length bytes ∷ bytes) (λ bytes. length bytes ≤ 64) cut_text text_found text_again ([], omega arith)
+text_lawful = field_lawful (λ bytes. length bytes ∷ bytes) (λ bytes. length bytes ≤ REGISTER_BYTES) cut_text text_found text_again ([], omega arith)
 
 pub long_found : (bytes a rest : List ℕ) → IsBytes bytes → cut_long bytes ≡ Some (a, rest) →
     (length a < 65536) × (bytes ≡ (big_bytes 2 (length a) ++ a) ++ rest)
@@ -55,6 +50,11 @@ long_found bytes a rest are e =
     let below : n < 65536 = omega (arith, front 0, front 1) in
     (omega (arith, cut.0, below), sym (take-append-drop 2 bytes) ∙ (λ i. (sym size ∙ ap (big_bytes 2) (sym cut.0)) i ++ cut.1 i) ∙ sym (append_assoc (big_bytes 2 (length a)) a rest))
 
+-- what stands behind its length is bytes where all is
+pub long_are : (bytes a rest : List ℕ) → IsBytes bytes → bytes ≡ (big_bytes 2 (length a) ++ a) ++ rest → IsBytes a
+long_are bytes a rest are is =
+    subst IsBytes (take_at a rest (length a) refl) (bytes_take (length a) (a ++ rest) (bytes_of_rest bytes (big_bytes 2 (length a)) (a ++ rest) are (is ∙ append_assoc (big_bytes 2 (length a)) a rest)))
+
 pub long_again : (a rest : List ℕ) → length a < 65536 → cut_long ((big_bytes 2 (length a) ++ a) ++ rest) ≡ Some (a, rest)
 long_again a rest small =
     let number : from_be_bytes w16 (big_bytes 2 (length a)) ≡ length a = from_be_bytes-to_be_bytes_2 (length a) small in
@@ -67,44 +67,3 @@ pub long_lawful : Lawful long_bytes
 unfolding long_bytes
 long_lawful =
     field_lawful (λ bytes. big_bytes 2 (length bytes) ++ bytes) (λ bytes. length bytes < 65536) cut_long long_found long_again ([], omega arith)
-
--- ---- operations and answers
-
-op_back : (op : Op) → made_by op_cases (op_parts op) ≡ op
-op_back does.Get = refl
-op_back (does.Add n) = refl
-op_back (does.Set n) = refl
-op_back (does.Put bytes) = refl
-op_back (does.Deposit n) = refl
-op_back (does.Withdraw n) = refl
-op_back does.Len = refl
-op_back (does.Push n) = refl
-op_back does.Pop = refl
-op_back (does.GetKey k) = refl
-op_back (does.PutPair k v) = refl
-op_back (does.Remove k) = refl
-
-pub operation_lawful : Lawful operation
-unfolding operation
-operation_lawful =
-    let number = number8_lawful in
-    let pair = both_lawful number number in
-    choice_lawful 1 op_cases op_parts (omega arith) (nothing_lawful, (number, (number, (text_lawful, (number, (number, (nothing_lawful, (number, (nothing_lawful, (number, (pair, (number, tt))))))))))))
-    (by_case op_cases (λ s. op_parts (made_by op_cases s) ≡ s)
-    ((λ p. refl), ((λ p. refl), ((λ p. refl), ((λ p. refl), ((λ p. refl), ((λ p. refl), ((λ p. refl), ((λ p. refl), ((λ p. refl), ((λ p. refl), ((λ p. refl), ((λ p. refl), tt)))))))))))))
-    op_back
-
-answer_back : (a : Answer) → made_by answer_cases (answer_parts a) ≡ a
-answer_back answered.Done = refl
-answer_back (answered.Number n) = refl
-answer_back (answered.Text bytes) = refl
-answer_back answered.Over = refl
-answer_back answered.Short = refl
-answer_back answered.Full = refl
-answer_back answered.Nothing = refl
-
-pub answer_lawful : Lawful answer
-unfolding answer
-answer_lawful =
-    choice_lawful 0 answer_cases answer_parts (omega arith) (nothing_lawful, (number8_lawful, (text_lawful, (nothing_lawful, (nothing_lawful, (nothing_lawful, (nothing_lawful, tt)))))))
-    (by_case answer_cases (λ s. answer_parts (made_by answer_cases s) ≡ s) ((λ p. refl), ((λ p. refl), ((λ p. refl), ((λ p. refl), ((λ p. refl), ((λ p. refl), ((λ p. refl), tt)))))))) answer_back

@@ -8,10 +8,13 @@ use Rattle.arj_base.specs.declared.uid.Uid.{Uid}
 use Rattle.arj_base.specs.Path.{uids_of}
 use Rattle.arj_base.specs.State.{StateInForm}
 use Rattle.arj_base.specs.Uid.{UidFits}
+use Rattle.arj_class.specs.declared.limits.TheConstants.{REGISTER_BYTES}
 use Rattle.arj_class.specs.declared.op.Op.{Op}
-use Rattle.arj_class.specs.declared.op.Op.TheVariants.{Get, Add, Set, Put, Deposit, Withdraw, Len, Push, Pop, GetKey, PutPair, Remove}
+use Rattle.arj_class.specs.declared.op.Op.TheVariants.{Get, Add, Set, Put, Deposit, Withdraw, Len, Push, Pop, GetKey, PutPair, Remove, Create}
+use Rattle.arj_class.specs.declared.op.Op.TheVariants.{Destroy}
 use Rattle.arj_class.specs.declared.op.Answer.{Answer}
 use Rattle.arj_class.specs.declared.op.Answer.TheVariants as answered
+use Rattle.arj_class.specs.Forms.{OpInForm}
 use Rattle.arj_msg.specs.Fields.{BindingFits}
 use Rattle.arj_msg.specs.State.{Restores}
 use Rattle.arj_msg.specs.declared.message.Head.{Head}
@@ -71,16 +74,16 @@ AskedFits a = UidFits a.act × IsShort a.req
 abbrev pub EndsFit : List (Uid × End) → Type 0
 EndsFit ends = AreFew (λ e. UidFits e.0) ends
 
--- a state in form, whose payload restores in its class, one of an object
+-- a state in form, whose payload restores in its class and format: that of an object, or of one that is gone
 abbrev pub StateFits : ObjectState → Type 0
-StateFits s = StateInForm s × Restores s.class s.payload
+StateFits s = StateInForm s × Restores s.format s.class s.payload
 
--- numbers of an operation fit eight bytes, and a register is put at most 64 bytes
+-- numbers of an operation fit eight bytes, a register is put what it can hold, and what is created is there and in form
 abbrev pub OpFits : Op → Type 0
 OpFits Get = ⊤
 OpFits (Add n) = IsLong n
 OpFits (Set n) = IsLong n
-OpFits (Put bytes) = length bytes ≤ 64
+OpFits (Put bytes) = length bytes ≤ REGISTER_BYTES
 OpFits (Deposit n) = IsLong n
 OpFits (Withdraw n) = IsLong n
 OpFits Len = ⊤
@@ -89,11 +92,13 @@ OpFits Pop = ⊤
 OpFits (GetKey k) = IsLong k
 OpFits (PutPair k v) = IsLong k × IsLong v
 OpFits (Remove k) = IsLong k
+OpFits (Create v) = OpInForm (Create v)
+OpFits Destroy = ⊤
 
--- a number that an operation answers fits eight bytes, and bytes are at most 64
+-- a number that an operation answers fits eight bytes, and bytes are those of a register
 abbrev pub AnswerFits : Answer → Type 0
 AnswerFits (answered.Number n) = IsLong n
-AnswerFits (answered.Text bytes) = length bytes ≤ 64
+AnswerFits (answered.Text bytes) = length bytes ≤ REGISTER_BYTES
 AnswerFits _ = ⊤
 
 -- what an action had and what it met now, incarnations or bindings, fit their bytes

@@ -84,8 +84,8 @@ message_bytes m = message.spell m
 abbrev pub message_fields : Message → List (List ℕ)
 message_fields m = message.fields m
 
--- a message in form: nodes 1 to 16, objects 1 to 256, counts that fit their bytes, at most 64 bytes of a register,
--- states whose payload restores in a class of objects
+-- a message in form: nodes 1 to 16, objects 1 to 256, counts that fit their bytes, at most 192 bytes of a register,
+-- states whose payload restores in a class of objects or says that one is gone
 abbrev pub MessageInForm : Message → Type 0
 MessageInForm m = message.Fits m
 

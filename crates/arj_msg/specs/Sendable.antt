@@ -1,10 +1,10 @@
 -- Of a message in form, what the types of code don't say: with this a message of code is in form.
 use Rattle.std.specs.Prelude.{◌≤◌, length, ⊤}
 use Rattle.arj_base.specs.declared.state.ObjectState.{ObjectState}
-use Rattle.arj_class.specs.declared.op.Op.{Op}
-use Rattle.arj_class.specs.declared.op.Op.TheVariants.{Put}
 use Rattle.arj_class.specs.declared.op.Answer.{Answer}
 use Rattle.arj_class.specs.declared.op.Answer.TheVariants as answered
+use Rattle.arj_class.specs.declared.limits.TheConstants.{REGISTER_BYTES}
+use Rattle.arj_class.specs.Forms.{OpInForm}
 use Rattle.arj_msg.specs.State.{Restores}
 use Rattle.arj_msg.specs.InForm.{IsNode, IsObject, AreFew, AreMany}
 use Rattle.arj_msg.specs.declared.message.Message.{Message}
@@ -22,18 +22,13 @@ use Rattle.arj_msg.specs.declared.message.PreparedReply.TheVariants as prepared_
 use Rattle.arj_msg.specs.declared.message.ConfirmedReply.{ConfirmedReply}
 use Rattle.arj_msg.specs.declared.message.ConfirmedReply.TheVariants as confirmed_as
 
--- some value of its class is saved to its payload
+-- some value of its class that its format holds is saved to its payload
 abbrev pub StateSends : ObjectState → Type 0
-StateSends s = Restores s.class s.payload
+StateSends s = Restores s.format s.class s.payload
 
--- a register takes at most 64 bytes
-abbrev pub OpSends : Op → Type 0
-OpSends (Put bytes) = length bytes ≤ 64
-OpSends _ = ⊤
-
--- a register has at most 64 bytes
+-- bytes are those of a register
 abbrev pub AnswerSends : Answer → Type 0
-AnswerSends (answered.Text bytes) = length bytes ≤ 64
+AnswerSends (answered.Text bytes) = length bytes ≤ REGISTER_BYTES
 AnswerSends _ = ⊤
 
 -- a server and stores are nodes
@@ -78,7 +73,7 @@ IsSendable (of.Load m) = IsObject m.x
 IsSendable (of.Loaded m) = LoadedSends m.reply
 IsSendable (of.Activate m) = StateSends m.state
 IsSendable (of.RecordMsg m) = IsObject m.x
-IsSendable (of.Invoke m) = IsObject m.x × (length m.ends ≤ 255) × OpSends m.op
+IsSendable (of.Invoke m) = IsObject m.x × (length m.ends ≤ 255) × OpInForm m.op
 IsSendable (of.Invoked m) = InvokedSends m.reply
 IsSendable (of.Vote m) = AreFew (λ o. IsObject o.0) m.objects × (length m.ends ≤ 255)
 IsSendable (of.Voted m) = VotedSends m.reply

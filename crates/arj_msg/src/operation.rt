@@ -3,15 +3,17 @@ ghost use Rattle.std.specs.Prelude.{◌≡◌, ◌≤◌, ◌∷◌, ◌++◌, l
 ghost use Rattle.arj_msg.specs.Format.{Gives};
 ghost use Rattle.arj_msg.specs.Fields.{number8};
 ghost use Rattle.arj_msg.specs.Operation.{text, operation, answer};
-ghost use Rattle.arj_msg.specs.Sendable.{OpSends, AnswerSends};
+ghost use Rattle.arj_class.specs.declared.limits.TheConstants.{REGISTER_BYTES};
+ghost use Rattle.arj_class.specs.Forms.{OpInForm};
+ghost use Rattle.arj_msg.specs.Sendable.{AnswerSends};
 
 use crate::fault::ReadFault;
 use crate::field::{Field, read_byte};
 use arj_base::Bytes;
-use arj_class::{Answer, Op};
+use arj_class::{Answer, Op, REGISTER_BYTES, Value};
 use std::alloc::{AllocError, Global};
 
-/// Reads at most 64 bytes behind their length.
+/// Reads the bytes of a register behind their length.
 #[tactic(auto, unfolding(crate::specs::Operation::text))]
 fn read_text(alloc: Global, bytes: &[u8]) -> Result<(Bytes, &[u8]), ReadFault>
     ensures { Gives (λ x. (x.0, x.1.now)) result (text.read bytes.now) }
@@ -20,7 +22,7 @@ fn read_text(alloc: Global, bytes: &[u8]) -> Result<(Bytes, &[u8]), ReadFault>
         return Err(ReadFault::Left(bytes.len()));
     };
     let length = usize::from(*length);
-    if 64 < length || behind.len() < length {
+    if REGISTER_BYTES < length || behind.len() < length {
         return Err(ReadFault::Left(bytes.len()));
     }
     let (front, rest) = behind.split_at(length);
@@ -32,7 +34,7 @@ fn read_text(alloc: Global, bytes: &[u8]) -> Result<(Bytes, &[u8]), ReadFault>
 /// Puts bytes behind their length.
 #[tactic(auto, using(std::proofs::lemmas::List::append_assoc), unfolding(crate::specs::Operation::text))]
 fn put_text(bytes: &Bytes, out: &mut Bytes) -> Result<(), AllocError>
-    requires { length bytes.now ≤ 64 }
+    requires { length bytes.now ≤ REGISTER_BYTES }
     ensures spelled { OnOk result (out.new ≡ out.old ++ text.spell bytes.now) }
     ensures fits { OnOk result (text.Fits bytes.now) }
 {
@@ -53,11 +55,11 @@ fn put_with_number(code: u8, number: u64, out: &mut Bytes) -> Result<(), AllocEr
 impl Field for Op {
     ghost format = { operation };
 
-    ghost sends = { OpSends };
+    ghost sends = { OpInForm };
 
     #[tactic(auto, unfolding(crate::specs::Operation::operation, crate::specs::Format::nothing, crate::specs::Format::byte))]
     fn read(alloc: Global, bytes: &[u8]) -> Result<(Op, &[u8]), ReadFault> {
-        let (code, rest) = read_byte(bytes, 1, 12)?;
+        let (code, rest) = read_byte(bytes, 1, 14)?;
         match code {
             1 => Ok((Op::Get, rest)),
             2 => {
@@ -98,6 +100,11 @@ impl Field for Op {
                 let (key, rest) = u64::read(alloc, rest)?;
                 Ok((Op::Remove(key), rest))
             }
+            13 => {
+                let (value, rest) = Value::read(alloc, rest)?;
+                Ok((Op::Create(value), rest))
+            }
+            14 => Ok((Op::Destroy, rest)),
             _ => Err(ReadFault::Left(bytes.len())),
         }
     }
@@ -123,6 +130,11 @@ impl Field for Op {
                 value.put(out)
             }
             Op::Remove(key) => put_with_number(12, *key, out),
+            Op::Create(value) => {
+                out.push(13)?;
+                value.put(out)
+            }
+            Op::Destroy => out.push(14),
         }
     }
 }
@@ -134,7 +146,7 @@ impl Field for Answer {
 
     #[tactic(auto, unfolding(crate::specs::Operation::answer, crate::specs::Format::nothing, crate::specs::Format::byte))]
     fn read(alloc: Global, bytes: &[u8]) -> Result<(Answer, &[u8]), ReadFault> {
-        let (code, rest) = read_byte(bytes, 0, 6)?;
+        let (code, rest) = read_byte(bytes, 0, 8)?;
         match code {
             0 => Ok((Answer::Done, rest)),
             1 => {
@@ -149,6 +161,8 @@ impl Field for Answer {
             4 => Ok((Answer::Short, rest)),
             5 => Ok((Answer::Full, rest)),
             6 => Ok((Answer::Nothing, rest)),
+            7 => Ok((Answer::There, rest)),
+            8 => Ok((Answer::Gone, rest)),
             _ => Err(ReadFault::Left(bytes.len())),
         }
     }
@@ -166,6 +180,8 @@ impl Field for Answer {
             Answer::Short => out.push(4),
             Answer::Full => out.push(5),
             Answer::Nothing => out.push(6),
+            Answer::There => out.push(7),
+            Answer::Gone => out.push(8),
         }
     }
 }

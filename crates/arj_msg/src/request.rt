@@ -2,7 +2,8 @@
 ghost use Rattle.arj_msg.specs.Requests.{bind, load, activate, record_msg, invoke, vote, prepare, confirm};
 ghost use Rattle.std.specs.Prelude.{◌≤◌, length};
 ghost use Rattle.arj_msg.specs.InForm.{IsNode, IsObject, AreFew, AreMany};
-ghost use Rattle.arj_msg.specs.Sendable.{StateSends, OpSends};
+ghost use Rattle.arj_class.specs.Forms.{OpInForm};
+ghost use Rattle.arj_msg.specs.Sendable.{StateSends};
 ghost use Rattle.arj_msg.specs.declared.message.Bind.{Bind};
 ghost use Rattle.arj_msg.specs.declared.message.Load.{Load};
 ghost use Rattle.arj_msg.specs.declared.message.Activate.{Activate};
@@ -134,7 +135,7 @@ impl Field for RecordMsg {
 impl Field for Invoke {
     ghost format = { invoke };
 
-    ghost sends = { λ (m : Invoke). IsObject m.x × (length m.ends ≤ 255) × OpSends m.op };
+    ghost sends = { λ (m : Invoke). IsObject m.x × (length m.ends ≤ 255) × OpInForm m.op };
 
     #[tactic(auto, unfolding(crate::specs::Requests::invoke))]
     fn read(alloc: Global, bytes: &[u8]) -> Result<(Invoke, &[u8]), ReadFault> {

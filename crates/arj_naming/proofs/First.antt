@@ -13,6 +13,7 @@ use Rattle.std.proofs.lemmas.List.{append-nil, length-append}
 use Rattle.std.proofs.lemmas.Map.Keys.{IsDistinct-from_sorted}
 use Rattle.arj_base.specs.Order.{uid_order}
 use Rattle.arj_base.specs.State.{state_bytes, StateInForm}
+use Rattle.arj_base.specs.declared.state.Format.{Format}
 use Rattle.arj_base.proofs.Uids.{uid_sym}
 use Rattle.arj_entry.specs.Entry.{EntryInForm}
 use Rattle.arj_disk.specs.declared.slot.Role.TheVariants.{Names}
@@ -78,8 +79,8 @@ module _ (n : ℕ) (few : n ≤ 16) (o : ObjectLine) (form : ObjectLineInForm n 
   abbrev own : Entry
   own = record { servers = o.servers; stores = o.stores }
 
-  back : state_entry (first_entry o) ≡ own
-  back = entry_back own
+  back : (f : Format) → state_entry (first_entry f o) ≡ own
+  back f = entry_back own
 
   servers_are : AreSomeNodes o.servers
   servers_are = some_nodes n SERVERS o.servers few form.servers
@@ -96,31 +97,31 @@ module _ (n : ℕ) (few : n ≤ 16) (o : ObjectLine) (form : ObjectLineInForm n 
   number_fits : o.x < 18446744073709551616
   number_fits = omega (arith, form.number.1)
 
-  pub first_is : IsEntryState (entry o.x) (first_entry o)
-  first_is = record {
+  pub first_is : (f : Format) → IsEntryState (entry o.x) (first_entry f o)
+  first_is f = record {
     state = record {
       own = refl;
       object = form.number;
       of = refl;
       in_form = ((omega arith, omega arith, number_fits), omega arith, (omega arith, omega arith, omega arith), short);
       class_is = refl;
-      restores = ap entry_payload (sym back);
-      served = subst (λ (e : Entry). 1 ≤ length e.servers) (sym back) servers_are.some;
-      servers = subst (λ (e : Entry). AreNodes e.servers) (sym back) servers_are.are;
-      stores = subst (λ (e : Entry). AreNodes e.stores) (sym back) stores_are.are;
+      restores = ap entry_payload (sym (back f));
+      served = subst (λ (e : Entry). 1 ≤ length e.servers) (sym (back f)) servers_are.some;
+      servers = subst (λ (e : Entry). AreNodes e.servers) (sym (back f)) servers_are.are;
+      stores = subst (λ (e : Entry). AreNodes e.stores) (sym (back f)) stores_are.are;
     };
-    stored = subst (λ (e : Entry). 1 ≤ length e.stores) (sym back) stores_are.some;
+    stored = subst (λ (e : Entry). 1 ≤ length e.stores) (sym (back f)) stores_are.some;
   }
 
 -- ---- all of them
 
-abbrev pub firsts : List ObjectLine → List ObjectState
-firsts os = map first_entry os
+abbrev pub firsts : Format → List ObjectLine → List ObjectState
+firsts f os = map (first_entry f) os
 
-pub firsts_are : (n : ℕ) → n ≤ 16 → (os : List ObjectLine) → AllByRecursion (ObjectLineInForm n) os →
-    AllByRecursion (λ s. IsEntryState s.uid s) (firsts os)
-firsts_are n few [] all = tt
-firsts_are n few (o ∷ os) all = (first_is n few o all.0, firsts_are n few os all.1)
+pub firsts_are : (f : Format) (n : ℕ) → n ≤ 16 → (os : List ObjectLine) → AllByRecursion (ObjectLineInForm n) os →
+    AllByRecursion (λ s. IsEntryState s.uid s) (firsts f os)
+firsts_are f n few [] all = tt
+firsts_are f n few (o ∷ os) all = (first_is n few o all.0 f, firsts_are f n few os all.1)
 
 pub all_save : (n : ℕ) → n ≤ 16 → (os : List ObjectLine) → AllByRecursion (ObjectLineInForm n) os →
     AllByRecursion (λ (o : ObjectLine). EntryInForm (record { servers = o.servers; stores = o.stores })) os
@@ -135,34 +136,34 @@ before x y less = let is : x < y = grind (arith, nat_tests, less) in sym (nat_cm
 sooner : (x y z : ℕ) → nat_lt x y ≡ true → nat_lt y z ≡ true → nat_lt x z ≡ true
 sooner x y z a b = grind (arith, nat_tests, a, b)
 
-below_all : (x : ℕ) (o : ObjectLine) (os : List ObjectLine) → nat_lt x o.x ≡ true → are_by_number (o ∷ os) ≡ true →
-    AllByRecursion (λ w. uid_order (entry x) w ≡ Less) (map uid_of (firsts (o ∷ os)))
-below_all x o [] less ordered = (before x o.x less, tt)
-below_all x o (p ∷ ps) less ordered =
+below_all : (f : Format) (x : ℕ) (o : ObjectLine) (os : List ObjectLine) → nat_lt x o.x ≡ true → are_by_number (o ∷ os) ≡ true →
+    AllByRecursion (λ w. uid_order (entry x) w ≡ Less) (map uid_of (firsts f (o ∷ os)))
+below_all f x o [] less ordered = (before x o.x less, tt)
+below_all f x o (p ∷ ps) less ordered =
     let q = and_parts (nat_lt o.x p.x) (are_by_number (p ∷ ps)) ordered in
-    (before x o.x less, below_all x p ps (sooner x o.x p.x less q.0) q.1)
+    (before x o.x less, below_all f x p ps (sooner x o.x p.x less q.0) q.1)
 
-pub firsts_rise : (os : List ObjectLine) → are_by_number os ≡ true → IsStrictlySortedBy uid_order (map uid_of (firsts os))
+pub firsts_rise : (f : Format) (os : List ObjectLine) → are_by_number os ≡ true → IsStrictlySortedBy uid_order (map uid_of (firsts f os))
 unfolding IsStrictlySortedBy
-firsts_rise [] ordered = tt
-firsts_rise (o ∷ []) ordered = (tt, tt)
-firsts_rise (o ∷ p ∷ os) ordered =
+firsts_rise f [] ordered = tt
+firsts_rise f (o ∷ []) ordered = (tt, tt)
+firsts_rise f (o ∷ p ∷ os) ordered =
     let q = and_parts (nat_lt o.x p.x) (are_by_number (p ∷ os)) ordered in
-    (below_all o.x p os q.0 q.1, firsts_rise (p ∷ os) q.1)
+    (below_all f o.x p os q.0 q.1, firsts_rise f (p ∷ os) q.1)
 
 -- objects by number, of which the first is no lower than this, are as few as the numbers from there on
-count_from : (n low : ℕ) (o : ObjectLine) (os : List ObjectLine) → low ≤ o.x → AllByRecursion (ObjectLineInForm n) (o ∷ os) →
-    are_by_number (o ∷ os) ≡ true → low + length (firsts (o ∷ os)) ≤ 257
-count_from n low o [] least all ordered = omega (arith, least, all.0.number.1)
-count_from n low o (p ∷ ps) least all ordered =
+count_from : (f : Format) (n low : ℕ) (o : ObjectLine) (os : List ObjectLine) → low ≤ o.x → AllByRecursion (ObjectLineInForm n) (o ∷ os) →
+    are_by_number (o ∷ os) ≡ true → low + length (firsts f (o ∷ os)) ≤ 257
+count_from f n low o [] least all ordered = omega (arith, least, all.0.number.1)
+count_from f n low o (p ∷ ps) least all ordered =
     let q = and_parts (nat_lt o.x p.x) (are_by_number (p ∷ ps)) ordered in
     let next : o.x + 1 ≤ p.x = grind (arith, nat_tests, q.0) in
-    omega (arith, least, count_from n (o.x + 1) p ps next all.1 q.1)
+    omega (arith, least, count_from f n (o.x + 1) p ps next all.1 q.1)
 
-pub firsts_few : (n : ℕ) (os : List ObjectLine) → AllByRecursion (ObjectLineInForm n) os → are_by_number os ≡ true →
-    length (firsts os) ≤ 256
-firsts_few n [] all ordered = omega arith
-firsts_few n (o ∷ os) all ordered = omega (arith, count_from n 1 o os all.0.number.0 all ordered)
+pub firsts_few : (f : Format) (n : ℕ) (os : List ObjectLine) → AllByRecursion (ObjectLineInForm n) os → are_by_number os ≡ true →
+    length (firsts f os) ≤ 256
+firsts_few f n [] all ordered = omega arith
+firsts_few f n (o ∷ os) all ordered = omega (arith, count_from f n 1 o os all.0.number.0 all ordered)
 
 pub rising_once : (ss : List ObjectState) → IsStrictlySortedBy uid_order (map uid_of ss) → IsDistinct uid_eq (map uid_of ss)
 rising_once ss rises =
@@ -214,18 +215,18 @@ module _ (f : Found) (all : AllByRecursion (λ s. IsEntryState s.uid s) f.commit
 
 -- ---- the entries of a header
 
-module _ (hd : Header) (form : HeaderInForm hd) (ss : List ObjectState) (are : ss ≡ firsts hd.objects) where
+module _ (hd : Header) (form : HeaderInForm hd) (ss : List ObjectState) (are : ss ≡ firsts hd.format hd.objects) where
   pub header_saves : AllByRecursion (λ (o : ObjectLine). EntryInForm (record { servers = o.servers; stores = o.stores })) hd.objects
   header_saves = all_save hd.nodes form.nodes.1 hd.objects form.objects.0
 
   pub header_all : AllByRecursion (λ s. IsEntryState s.uid s) ss
-  header_all = subst (AllByRecursion (λ (s : ObjectState). IsEntryState s.uid s)) (sym are) (firsts_are hd.nodes form.nodes.1 hd.objects form.objects.0)
+  header_all = subst (AllByRecursion (λ (s : ObjectState). IsEntryState s.uid s)) (sym are) (firsts_are hd.format hd.nodes form.nodes.1 hd.objects form.objects.0)
 
   pub header_rises : IsStrictlySortedBy uid_order (map uid_of ss)
-  header_rises = subst (λ ts. IsStrictlySortedBy uid_order (map uid_of ts)) (sym are) (firsts_rise hd.objects form.objects.1)
+  header_rises = subst (λ ts. IsStrictlySortedBy uid_order (map uid_of ts)) (sym are) (firsts_rise hd.format hd.objects form.objects.1)
 
   pub header_few : length ss ≤ 65535
-  header_few = omega (arith, ap length are, firsts_few hd.nodes hd.objects form.objects.0 form.objects.1)
+  header_few = omega (arith, ap length are, firsts_few hd.format hd.nodes hd.objects form.objects.0 form.objects.1)
 
   pub header_distinct : files.AreDistinct Names ss
   header_distinct = record { distinct = rising_once ss header_rises; own = all_names ss header_all }

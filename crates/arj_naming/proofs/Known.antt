@@ -22,6 +22,7 @@ use Rattle.arj_protocol.specs.Order.{at_uid}
 use Rattle.arj_protocol.specs.Values.{state_entry}
 use Rattle.arj_store.specs.Pair as files
 use Rattle.arj_store.specs.Pair.{packed, uid_of}
+use Rattle.arj_store.proofs.Sizes.{state_within}
 
 -- the entries of the first n objects
 abbrev pub entries_to : ℕ → List Uid
@@ -105,7 +106,7 @@ small_payload s is =
     omega (arith, ap length is.state.restores, length-append (length (state_entry s).servers ∷ (state_entry s).servers) (length (state_entry s).stores ∷ (state_entry s).stores), servers, stores)
 
 small_state : (s : ObjectState) → length s.payload ≤ 512 → length (state_bytes s) ≤ 65535
-small_state s small = omega (arith, small)
+small_state s small = omega (arith, small, (state_within s).1)
 
 pub all_small : (states : List ObjectState) → AllByRecursion (λ s. IsEntryState s.uid s) states →
     AllByRecursion (λ s. length (state_bytes s) ≤ 65535) states

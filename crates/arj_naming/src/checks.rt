@@ -15,7 +15,7 @@ use crate::entries::Entries;
 use crate::part::Part;
 use crate::payload::{entry_of, stores_of};
 use crate::touched::touch_path;
-use arj_base::{Class, ObjectState, Path, States, Uid, entry_uid, next_version};
+use arj_base::{Class, Format, ObjectState, Path, States, Uid, entry_uid, next_version};
 use arj_entry::Entry;
 use arj_journal::Lines;
 use arj_msg::{Confirm, ConfirmedReply, What};
@@ -315,5 +315,6 @@ fn new_state(
         version: next_version(held.version),
         writer: top,
         payload: new.save(alloc)?,
+        format: Format::Two,
     })
 }

@@ -19,7 +19,7 @@ use crate::Naming;
 use crate::nobody::NOBODY;
 use crate::payload::node_list;
 use crate::recover::recovered;
-use arj_base::{Class, ObjectState, States, entry_uid};
+use arj_base::{Class, Format, ObjectState, States, entry_uid};
 use arj_disk::{Disk, Role};
 use arj_entry::Entry;
 use arj_journal::{Header, Lines, ObjectLine};
@@ -27,9 +27,13 @@ use arj_store::{Found, ObjectStore, Pends, StoreFault};
 use std::alloc::{AllocError, Global};
 
 // The first entry of an object.
-fn first_entry(alloc: Global, object: &ObjectLine) -> Result<ObjectState, AllocError>
+fn first_entry(
+    alloc: Global,
+    format: Format,
+    object: &ObjectLine,
+) -> Result<ObjectState, AllocError>
     requires { EntryInForm (record { servers = object.now.servers; stores = object.now.stores }) }
-    ensures { IfOk result (λ s. s ≡ first_entry_of object.now) }
+    ensures { IfOk result (λ s. s ≡ first_entry_of format object.now) }
 {
     let entry = Entry {
         servers: node_list(alloc, object.servers.as_slice())?,
@@ -41,17 +45,22 @@ fn first_entry(alloc: Global, object: &ObjectLine) -> Result<ObjectState, AllocE
         version: 0,
         writer: NOBODY,
         payload: entry.save(alloc)?,
+        format,
     })
 }
 
 // The first entries of objects.
-fn first_entries(alloc: Global, objects: &[ObjectLine]) -> Result<States, AllocError>
+fn first_entries(
+    alloc: Global,
+    format: Format,
+    objects: &[ObjectLine],
+) -> Result<States, AllocError>
     requires { AllByRecursion (λ (o : ObjectLine). EntryInForm (record { servers = o.servers; stores = o.stores })) objects.now }
-    ensures { IfOk result (λ states. states ≡ map first_entry_of objects.now) }
+    ensures { IfOk result (λ states. states ≡ map (first_entry_of format) objects.now) }
 {
     let mut states = States::new(alloc);
     for object in objects {
-        let state = first_entry(alloc, object)?;
+        let state = first_entry(alloc, format, object)?;
         states.push(state)?;
     }
     Ok(states)
@@ -71,12 +80,12 @@ impl<O: ObjectStore + Drop> Naming<O> {
         ensures pair { IfOk result (λ n. n.pair ≡ (first_disk header.now 1).names) }
         ensures part { IfOk result (λ n. Some n.part ≡ (parts_in 1 1 (first_disk header.now 1)).naming) }
         ensures entries { OnOk result (GivesEntries (O.pair (D.file disk.new) Role.Names)) }
-        ensures fault { OnErr result (HasFirst (O.pair (D.file disk.new) Role.Names) (map first_entry_of header.now.objects)) }
+        ensures fault { OnErr result (HasFirst (O.pair (D.file disk.new) Role.Names) (map (first_entry_of header.now.format) header.now.objects)) }
         ensures formed { O.formed (D.file disk.new) Role.Names }
         ensures others { OnlyOfRole Role.Names (D.file disk.old) (D.file disk.new) }
         ensures counts { CountsCall (counts D.Disk disk.old) (counts D.Disk disk.new) result StoreFault.Stopped }
     {
-        let states = first_entries(alloc, header.objects.as_slice())?;
+        let states = first_entries(alloc, header.format, header.objects.as_slice())?;
         let store = O::format(alloc, disk, Role::Names, &states)?;
         let found = Found {
             committed: states,

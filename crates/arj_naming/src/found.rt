@@ -20,6 +20,7 @@ fn copied(state: &ObjectState) -> Result<ObjectState, AllocError>
         version: state.version,
         writer: state.writer,
         payload,
+        format: state.format,
     })
 }
 

@@ -6,14 +6,14 @@ use Rattle.std.specs.BTreeMap.{BTreeMap}
 use Rattle.arj_node.specs.Roster.{AreClasses, class_kept, one_class}
 use Rattle.arj_protocol.specs.Effect.{either}
 use Rattle.arj_protocol.specs.Step.{class_in}
-use Rattle.arj_protocol.specs.Words.{Class, ObjectLine, class_of}
+use Rattle.arj_protocol.specs.Words.{Class, ObjectLine, own_class}
 
 -- one more object counts where none before it has the number
 pub class_behind : (os : List ObjectLine) (o : ObjectLine) (x : ℕ) →
     class_in (find (λ (p : ObjectLine). p.x == x) (os ++ o ∷ [])) ≡ either (class_in (find (λ (p : ObjectLine). p.x == x) os)) (one_class x o)
 class_behind [] o x = by (o.x == x)
   where
-    by : (b : Bool) → class_in (cond b (Some o) None) ≡ cond b (Some (class_of o.value)) None
+    by : (b : Bool) → class_in (cond b (Some o) None) ≡ cond b (Some (own_class o.value)) None
     by true = refl
     by false = refl
 class_behind (p ∷ os) o x = by (p.x == x) (class_behind os o x)

@@ -4,7 +4,7 @@ use Rattle.std.specs.BTreeMap.{BTreeMap, get}
 use Rattle.std.specs.Ordering.{nat_cmp}
 use Rattle.arj_node.specs.declared.roster.Roster.{Roster}
 use Rattle.arj_protocol.specs.Step.{class_at, class_in}
-use Rattle.arj_protocol.specs.Words.{Class, Header, ObjectLine, class_of}
+use Rattle.arj_protocol.specs.Words.{Class, Header, ObjectLine, own_class}
 
 -- the class that is kept of an object
 abbrev pub class_kept : BTreeMap ℕ Class → ℕ → Option Class
@@ -12,7 +12,7 @@ class_kept classes x = get nat_cmp classes x
 
 -- the class of an object, if it has this number
 abbrev pub one_class : ℕ → ObjectLine → Option Class
-one_class x o = if o.x == x then Some (class_of o.value) else None
+one_class x o = if o.x == x then Some (own_class o.value) else None
 
 -- the classes of these objects are kept
 abbrev pub AreClasses : List ObjectLine → BTreeMap ℕ Class → Type 0

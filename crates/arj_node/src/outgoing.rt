@@ -70,8 +70,8 @@ impl Outgoings {
         self.push(Handed::Say(body))
     }
 
-    /// A message is handed back. One that can't be spelled isn't sent: the node gives up, as for want of memory. That there
-    /// is none in a run isn't shown.
+    /// A message is handed back. One that can't be spelled isn't sent: the node gives up, as for want of memory. In a run in form
+    /// that could only be a vote of more than 255 states.
     pub fn send(&mut self, to: u8, message: Message) -> Result<(), AllocError>
         ensures { OnOk result (self.new ≡ self.old ++ of.Send to message ∷ []) }
     {

@@ -51,7 +51,7 @@ fn put_class(classes: &mut BTreeMap<u16, Class>, object: &ObjectLine) -> Result<
     ensures { OnOk result ((x : ℕ) → class_kept classes.new x ≡ either (class_kept classes.old x) (one_class x object.now)) }
 {
     if !classes.contains_key(&object.x) {
-        classes.insert(object.x, object.value.class())?;
+        classes.insert(object.x, object.value.own_class())?;
     }
     Ok(())
 }

@@ -1,12 +1,13 @@
 // Whether a message can be spelled: what its type doesn't say of it.
-ghost use Rattle.std.specs.Prelude.{◌≡◌, ◌≤◌, true, length, IfOk};
+ghost use Rattle.std.specs.Prelude.{◌↔◌, ◌≤◌, length, IfOk, IsTrue};
 ghost use Rattle.std.specs.List.{AllByRecursion};
+ghost use Rattle.arj_class.specs.Forms.{OpInForm};
 ghost use Rattle.arj_msg.specs.InForm.{IsNode, IsObject};
 ghost use Rattle.arj_msg.specs.declared.message.Message.TheVariants as message;
-ghost use Rattle.arj_msg.specs.Sendable.{AnswerSends, BoundSends, ConfirmedSends, InvokedSends, IsSendable, LoadedSends, OpSends, PreparedSends, StateSends, VotedSends};
+ghost use Rattle.arj_msg.specs.Sendable.{AnswerSends, BoundSends, ConfirmedSends, InvokedSends, IsSendable, LoadedSends, PreparedSends, StateSends, VotedSends};
 
 use arj_base::ObjectState;
-use arj_class::{Answer, ClassFault, Op, Value};
+use arj_class::{Answer, ClassFault, REGISTER_BYTES, Value};
 use arj_msg::{
     BoundReply, Confirm, ConfirmedReply, Invoke, InvokedReply, LoadedReply, Message, PreparedReply,
     Vote, VotedReply,
@@ -22,7 +23,7 @@ const MANY: usize = 65_536;
 /// Whether a message can be spelled: its numbers are of objects and nodes, its lists are short enough, and its states
 /// restore.
 pub fn can_be_sent(alloc: Global, m: &Message) -> Result<bool, AllocError>
-    ensures { IfOk result (λ can. can ≡ true → IsSendable m.now) }
+    ensures { IfOk result (λ can. IsTrue can ↔ IsSendable m.now) }
 {
     match m {
         Message::Bind(m) => Ok(is_object(m.x)),
@@ -50,21 +51,21 @@ pub fn can_be_sent(alloc: Global, m: &Message) -> Result<bool, AllocError>
 
 // The number is that of a node.
 fn is_node(n: u8) -> bool
-    ensures { result ≡ true → IsNode n }
+    ensures { IsTrue result ↔ IsNode n }
 {
     1 <= n && n <= 16
 }
 
 // The number is that of an object.
 fn is_object(x: u16) -> bool
-    ensures { result ≡ true → IsObject x }
+    ensures { IsTrue result ↔ IsObject x }
 {
     1 <= x && x <= 256
 }
 
 // Each number is that of a node.
 fn are_nodes(nodes: &[u8]) -> bool
-    ensures { result ≡ true → AllByRecursion IsNode nodes.now }
+    ensures { IsTrue result ↔ AllByRecursion IsNode nodes.now }
 {
     for n in nodes {
         if !is_node(*n) {
@@ -76,7 +77,7 @@ fn are_nodes(nodes: &[u8]) -> bool
 
 // Each number is that of an object.
 fn are_objects<T>(items: &[(u16, T)]) -> bool
-    ensures { result ≡ true → AllByRecursion (λ k. IsObject k.0) items.now }
+    ensures { IsTrue result ↔ AllByRecursion (λ k. IsObject k.0) items.now }
 {
     for item in items {
         if !is_object(item.0) {
@@ -88,7 +89,7 @@ fn are_objects<T>(items: &[(u16, T)]) -> bool
 
 // Each is an object with a node.
 fn are_marks(marks: &[(u16, u8)]) -> bool
-    ensures { result ≡ true → AllByRecursion (λ k. IsObject k.0 × IsNode k.1) marks.now }
+    ensures { IsTrue result ↔ AllByRecursion (λ k. IsObject k.0 × IsNode k.1) marks.now }
 {
     for mark in marks {
         if !is_object(mark.0) || !is_node(mark.1) {
@@ -100,9 +101,9 @@ fn are_marks(marks: &[(u16, u8)]) -> bool
 
 // The state's payload restores in its class.
 fn restores(alloc: Global, state: &ObjectState) -> Result<bool, AllocError>
-    ensures { IfOk result (λ can. can ≡ true → StateSends state.now) }
+    ensures { IfOk result (λ can. IsTrue can ↔ StateSends state.now) }
 {
-    match Value::restore_state(alloc, state.class, state.payload.as_slice()) {
+    match Value::restore_state(alloc, state.class, state.format, state.payload.as_slice()) {
         Ok(_) => Ok(true),
         Err(ClassFault::Payload) => Ok(false),
         Err(ClassFault::Memory) => Err(AllocError),
@@ -111,7 +112,7 @@ fn restores(alloc: Global, state: &ObjectState) -> Result<bool, AllocError>
 
 // There are few states, and each restores.
 fn restore_all(alloc: Global, states: &[ObjectState]) -> Result<bool, AllocError>
-    ensures { IfOk result (λ can. can ≡ true → (length states.now ≤ 255) × AllByRecursion StateSends states.now) }
+    ensures { IfOk result (λ can. IsTrue can ↔ (length states.now ≤ 255) × AllByRecursion StateSends states.now) }
 {
     if states.len() > FEW {
         return Ok(false);
@@ -126,7 +127,7 @@ fn restore_all(alloc: Global, states: &[ObjectState]) -> Result<bool, AllocError
 
 // What naming answers to a Bind.
 fn bound_sends(reply: &BoundReply) -> bool
-    ensures { result ≡ true → BoundSends reply.now }
+    ensures { IsTrue result ↔ BoundSends reply.now }
 {
     match reply {
         BoundReply::Live { server, stores, .. } => {
@@ -144,7 +145,7 @@ fn bound_sends(reply: &BoundReply) -> bool
 
 // What a store answers to a Load.
 fn loaded_sends(alloc: Global, reply: &LoadedReply) -> Result<bool, AllocError>
-    ensures { IfOk result (λ can. can ≡ true → LoadedSends reply.now) }
+    ensures { IfOk result (λ can. IsTrue can ↔ LoadedSends reply.now) }
 {
     match reply {
         LoadedReply::State(state) => restores(alloc, state),
@@ -152,39 +153,19 @@ fn loaded_sends(alloc: Global, reply: &LoadedReply) -> Result<bool, AllocError>
     }
 }
 
-// A register takes at most 64 bytes.
-fn op_sends(op: &Op) -> bool
-    ensures { result ≡ true → OpSends op.now }
-{
-    match op {
-        Op::Put(bytes) => bytes.as_slice().len() <= 64,
-        Op::Get => true,
-        Op::Add(_) => true,
-        Op::Set(_) => true,
-        Op::Deposit(_) => true,
-        Op::Withdraw(_) => true,
-        Op::Len => true,
-        Op::Push(_) => true,
-        Op::Pop => true,
-        Op::GetKey(_) => true,
-        Op::PutPair(_, _) => true,
-        Op::Remove(_) => true,
-    }
-}
-
 // An operation goes to a server.
 fn invoke_sends(m: &Invoke) -> bool
-    ensures { result ≡ true → IsObject m.now.x × (length m.now.ends ≤ 255) × OpSends m.now.op }
+    ensures { IsTrue result ↔ IsObject m.now.x × (length m.now.ends ≤ 255) × OpInForm m.now.op }
 {
-    is_object(m.x) && m.ends.as_slice().len() <= FEW && op_sends(&m.op)
+    is_object(m.x) && m.ends.as_slice().len() <= FEW && m.op.is_in_form()
 }
 
 // What a server answers to an Invoke.
 fn invoked_sends(reply: &InvokedReply) -> bool
-    ensures { result ≡ true → InvokedSends reply.now }
+    ensures { IsTrue result ↔ InvokedSends reply.now }
 {
     match reply {
-        InvokedReply::Answered(Answer::Text(bytes)) => bytes.as_slice().len() <= 64,
+        InvokedReply::Answered(Answer::Text(bytes)) => bytes.as_slice().len() <= REGISTER_BYTES,
         InvokedReply::Answered(_) => true,
         InvokedReply::Conflict { .. } => true,
         InvokedReply::Changed(_) => true,
@@ -193,7 +174,7 @@ fn invoked_sends(reply: &InvokedReply) -> bool
 
 // A server is asked for its vote.
 fn vote_sends(m: &Vote) -> bool
-    ensures { result ≡ true → ((length m.now.objects ≤ 255) × AllByRecursion (λ o. IsObject o.0) m.now.objects) × (length m.now.ends ≤ 255) }
+    ensures { IsTrue result ↔ ((length m.now.objects ≤ 255) × AllByRecursion (λ o. IsObject o.0) m.now.objects) × (length m.now.ends ≤ 255) }
 {
     m.objects.as_slice().len() <= FEW
         && are_objects(m.objects.as_slice())
@@ -202,7 +183,7 @@ fn vote_sends(m: &Vote) -> bool
 
 // What a server answers to a Vote.
 fn voted_sends(alloc: Global, reply: &VotedReply) -> Result<bool, AllocError>
-    ensures { IfOk result (λ can. can ≡ true → VotedSends reply.now) }
+    ensures { IfOk result (λ can. IsTrue can ↔ VotedSends reply.now) }
 {
     match reply {
         VotedReply::Yes(states) => restore_all(alloc, states.as_slice()),
@@ -212,7 +193,7 @@ fn voted_sends(alloc: Global, reply: &VotedReply) -> Result<bool, AllocError>
 
 // What a store answers to a Prepare.
 fn prepared_sends(reply: &PreparedReply) -> bool
-    ensures { result ≡ true → PreparedSends reply.now }
+    ensures { IsTrue result ↔ PreparedSends reply.now }
 {
     match reply {
         PreparedReply::Yes => true,
@@ -223,7 +204,7 @@ fn prepared_sends(reply: &PreparedReply) -> bool
 
 // Naming is asked to confirm.
 fn confirm_sends(m: &Confirm) -> bool
-    ensures { result ≡ true → IsSendable (message.Confirm m.now) }
+    ensures { IsTrue result ↔ IsSendable (message.Confirm m.now) }
 {
     m.objects.as_slice().len() <= FEW
         && are_objects(m.objects.as_slice())
@@ -235,7 +216,7 @@ fn confirm_sends(m: &Confirm) -> bool
 
 // What naming answers to a Confirm.
 fn confirmed_sends(reply: &ConfirmedReply) -> bool
-    ensures { result ≡ true → ConfirmedSends reply.now }
+    ensures { IsTrue result ↔ ConfirmedSends reply.now }
 {
     match reply {
         ConfirmedReply::NoStores { x } => is_object(*x),

@@ -1,4 +1,4 @@
-// Messages as bytes, worked out by hand, in lines: kind, Uids, numbers, states. A state stands behind its length, 55.
+// Messages as bytes, worked out by hand, in lines: kind, Uids, numbers, states. A state stands behind its length, 56.
 
 /// Load: the second request of 1.1.1, object 1.
 pub const LOAD: &[u8] = b"\x03\x01\
@@ -9,9 +9,9 @@ pub const LOAD: &[u8] = b"\x03\x01\
 pub const LOADED: &[u8] = b"\x04\
     \0\0\0\x01\0\0\0\x01\0\0\0\0\0\0\0\x01\
     \0\0\0\x02\0\
-    \0\x37ARJ1\
+    \0\x38ARJ2\
     \0\0\0\0\0\0\0\0\0\0\0\0\0\0\0\x01\
-    \x01\0\0\0\0\0\0\0\0\
+    \x01\x01\0\0\0\0\0\0\0\0\
     \0\0\0\0\0\0\0\0\0\0\0\0\0\0\0\0\
     \0\x08\0\0\0\0\0\0\0\0";
 
@@ -19,9 +19,9 @@ pub const LOADED: &[u8] = b"\x04\
 pub const PREPARE: &[u8] = b"\x0d\x01\
     \0\0\0\x01\0\0\0\x01\0\0\0\0\0\0\0\x01\
     \x01\0\0\0\x07\x01\
-    \0\x37ARJ1\
+    \0\x38ARJ2\
     \0\0\0\0\0\0\0\0\0\0\0\0\0\0\0\x01\
-    \x01\0\0\0\0\0\0\0\x01\
+    \x01\x01\0\0\0\0\0\0\0\x01\
     \0\0\0\x01\0\0\0\x01\0\0\0\0\0\0\0\x01\
     \0\x08\0\0\0\0\0\0\0\x01";
 
@@ -78,9 +78,9 @@ pub const OTHER_BIND: &[u8] = b"\x01\x01\
 pub const LOADED_TWO: &[u8] = b"\x04\
     \0\0\0\x02\0\0\0\x01\0\0\0\0\0\0\0\x01\
     \0\0\0\x02\0\
-    \0\x37ARJ1\
+    \0\x38ARJ2\
     \0\0\0\0\0\0\0\0\0\0\0\0\0\0\0\x01\
-    \x01\0\0\0\0\0\0\0\0\
+    \x01\x01\0\0\0\0\0\0\0\0\
     \0\0\0\0\0\0\0\0\0\0\0\0\0\0\0\0\
     \0\x08\0\0\0\0\0\0\0\0";
 

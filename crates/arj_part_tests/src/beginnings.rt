@@ -1,5 +1,7 @@
 // How a node's disk begins, and what a restart asks of it.
 ghost use Rattle.std.specs.Prelude.{◌≡◌, None, IfOk, OnOk};
+ghost use Rattle.arj_base.specs.declared.state.Format.TheVariants as header_format;
+ghost use Rattle.arj_class.specs.Forms.{FormatHolds};
 ghost use Rattle.arj_disk.specs.declared.slot.Slot.{Slot};
 ghost use Rattle.arj_intent.specs.Records.{AreInForm, IsInForm};
 ghost use Rattle.arj_journal.specs.ScriptForm.{HeaderInForm, ObjectLineInForm};
@@ -8,7 +10,7 @@ ghost use Rattle.arj_recover.specs.OnDisk.{IsFormed};
 ghost use Rattle.arj_text.specs.Fields.{IsWithin, NodesInForm};
 
 use crate::recorder::{Did, Recorder};
-use arj_base::{NodeList, States, Uid};
+use arj_base::{Format, NodeList, States, Uid};
 use arj_class::{Counter, Value};
 use arj_disk::{Disk, MemDisk, Role, Slot};
 use arj_intent::Intent;
@@ -64,7 +66,8 @@ const RECORDS: &[Did] = &[Did::Names, Did::Read(Slot::Intent(TOP))];
 fn object(alloc: Global, x: u16, stores: &[u8]) -> Result<ObjectLine, AllocError>
     requires number { IsWithin 1 OBJECTS x }
     requires stores { NodesInForm 2 STORES stores.now }
-    ensures { IfOk result (λ o. ObjectLineInForm 2 o × (o.x ≡ x)) }
+    ensures form { IfOk result (λ o. ObjectLineInForm 2 o × (o.x ≡ x)) }
+    ensures held { IfOk result (λ o. FormatHolds header_format.Two o.value) }
 {
     let mut nodes = NodeList::new(alloc);
     nodes.extend(stores)?;
@@ -86,7 +89,11 @@ fn header(alloc: Global) -> Result<Header, AllocError>
     objects.push(object(alloc, 1, &[1, 2])?)?;
     objects.push(object(alloc, 2, &[1])?)?;
     objects.push(object(alloc, 3, &[2])?)?;
-    Ok(Header { nodes: 2, objects })
+    Ok(Header {
+        nodes: 2,
+        objects,
+        format: Format::Two,
+    })
 }
 
 // The disk of node 2 begins.

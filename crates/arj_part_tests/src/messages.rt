@@ -92,6 +92,12 @@ const STATE: [u8; 57] = [
     0, 0, 0, 1, 0, 0, 0, 1, 0, 0, 0, 1, 0, 0, 0, 0, 0, 0, 0, 1, 0, 8, 0, 0, 0, 0, 0, 0, 0, 5,
 ];
 
+// Object 1, a counter that is gone, in version 1 by the action 1.1.1, in format two behind the length of 49.
+const GONE: [u8; 51] = [
+    0, 49, 0x41, 0x52, 0x4a, 0x32, 0, 0, 0, 0, 0, 0, 0, 0, 0, 0, 0, 0, 0, 0, 0, 1, 6, 1, 0, 0, 0,
+    0, 0, 0, 0, 1, 0, 0, 0, 1, 0, 0, 0, 1, 0, 0, 0, 0, 0, 0, 0, 1, 0, 1, 1,
+];
+
 // A number of four bytes, a binding, a number of eight bytes, object 256.
 const N: [u8; 4] = [0, 0, 0, 7];
 
@@ -102,7 +108,7 @@ const V: [u8; 8] = [0, 0, 0, 0, 0, 0, 0, 9];
 const X: [u8; 2] = [1, 0];
 
 // Every message, by its fields. The first byte is the kind.
-const REQUESTS: [&[&[u8]]; 20] = [
+const REQUESTS: [&[&[u8]]; 23] = [
     &[&[1], &[2], &U, &W, &[2], &N, &X, &[1], &B],
     &[&[3], &[1], &U, &[1], &N, &X],
     &[&[5], &[1], &U, &[1], &N, &B, &STATE],
@@ -147,6 +153,21 @@ const REQUESTS: [&[&[u8]]; 20] = [
     &[&[9], &[1], &U, &[1], &N, &X, &B, &N, &[0], &[11], &V, &V],
     &[&[9], &[1], &U, &[1], &N, &X, &B, &N, &[0], &[12], &V],
     &[
+        &[9],
+        &[1],
+        &U,
+        &[1],
+        &N,
+        &X,
+        &B,
+        &N,
+        &[0],
+        &[13],
+        &[2],
+        &[0, 3, 1, 2, 3],
+    ],
+    &[&[9], &[1], &U, &[1], &N, &X, &B, &N, &[0], &[14]],
+    &[
         &[11],
         &[1],
         &U,
@@ -163,6 +184,7 @@ const REQUESTS: [&[&[u8]]; 20] = [
         &[1],
     ],
     &[&[13], &[1], &U, &[1], &N, &[2], &STATE, &STATE],
+    &[&[13], &[1], &U, &[1], &N, &[1], &GONE],
     &[
         &[15],
         &[1],
@@ -184,12 +206,13 @@ const REQUESTS: [&[&[u8]]; 20] = [
     &[&[17], &U, &[1], &[1], &U, &[1]],
 ];
 
-const ANSWERS: [&[&[u8]]; 33] = [
+const ANSWERS: [&[&[u8]]; 36] = [
     &[&[2], &U, &N, &[0], &B, &[2], &N, &N, &[2], &[3], &[3]],
     &[&[2], &U, &N, &[1], &B, &[2], &N, &[0]],
     &[&[2], &U, &N, &[2], &N, &[1], &[16]],
     &[&[2], &U, &N, &[3], &W, &[2]],
     &[&[4], &U, &N, &[0], &STATE],
+    &[&[4], &U, &N, &[0], &GONE],
     &[&[4], &U, &N, &[1], &W],
     &[&[6], &U, &N, &N],
     &[&[8], &U, &N, &[0]],
@@ -202,6 +225,8 @@ const ANSWERS: [&[&[u8]]; 33] = [
     &[&[10], &U, &N, &[0], &[4]],
     &[&[10], &U, &N, &[0], &[5]],
     &[&[10], &U, &N, &[0], &[6]],
+    &[&[10], &U, &N, &[0], &[7]],
+    &[&[10], &U, &N, &[0], &[8]],
     &[&[10], &U, &N, &[1], &W, &[0]],
     &[&[10], &U, &N, &[2], &[0], &N, &N],
     &[&[12], &U, &N, &[0], &[1], &STATE],
@@ -225,6 +250,28 @@ fn every_message_is_read_back(rt: HostRuntime) -> Result<(), Fail> {
     for fields in REQUESTS.iter().chain(ANSWERS.iter()) {
         assert!(rt; is_read_back(rt.alloc(), fields)?);
     }
+    Ok(())
+}
+
+// The place of the fault is that of the class: what is created is there.
+#[test]
+fn nothing_is_created_gone(rt: HostRuntime) -> Result<(), Fail> {
+    let fields: [&[u8]; 12] = [
+        &[9],
+        &[1],
+        &U,
+        &[1],
+        &N,
+        &X,
+        &B,
+        &N,
+        &[0],
+        &[13],
+        &[6],
+        &[0, 1, 1],
+    ];
+    let bytes = fields.concat(rt.alloc())?;
+    assert!(rt; fault_of(rt.alloc(), &bytes) == Some(39));
     Ok(())
 }
 

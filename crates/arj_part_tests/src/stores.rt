@@ -15,7 +15,7 @@ use crate::tables::{
     Answers, Asked, Call, Case, Content, FIRST, Files, Finding, Last, Left, NOBODY, SHADOWS, Seen,
     TORN, Tables, Told,
 };
-use arj_base::{Bytes, Class, ObjectState, States, Uid, entry_uid, object_uid};
+use arj_base::{Bytes, Class, Format, ObjectState, States, Uid, entry_uid, object_uid};
 use arj_disk::{Disk, DiskFault, MemDisk, Outcome, Role, Slot};
 use arj_segment::SegmentStore;
 use arj_store::{Found, ObjectStore, Read, ShadowStore, StoreFault, known_objects};
@@ -52,6 +52,15 @@ fn payload(alloc: Global, role: Role, value: u8) -> Result<Bytes, AllocError>
     Ok(payload)
 }
 
+// The first states are packed in format one, and what is written is packed in format two.
+fn format_of(version: u64) -> Format {
+    match version {
+        0 => Format::One,
+        _ => Format::Two,
+    }
+}
+
+#[tactic(auto, using(arj_store::proofs::Sizes::state_within))]
 fn state(
     alloc: Global,
     role: Role,
@@ -69,6 +78,7 @@ fn state(
         version,
         writer,
         payload: payload(alloc, role, value)?,
+        format: format_of(version),
     })
 }
 

@@ -189,12 +189,12 @@ const CALLS: &[Asked] = &[
     ),
 ];
 
-// A packed state by lines: the object and its class, version and writer, the payload.
+// A packed state by lines: the object and its class (in format two with its version), version and writer, the payload.
 pub const OLD_ONE: Content = b"ARJ1\0\0\0\0\0\0\0\0\0\0\0\0\0\0\0\x01\x01\
     \0\0\0\0\0\0\0\0\0\0\0\0\0\0\0\0\0\0\0\0\0\0\0\0\
     \0\x08\0\0\0\0\0\0\0\0";
 
-pub const NEW_ONE: Content = b"ARJ1\0\0\0\0\0\0\0\0\0\0\0\0\0\0\0\x01\x01\
+pub const NEW_ONE: Content = b"ARJ2\0\0\0\0\0\0\0\0\0\0\0\0\0\0\0\x01\x01\x01\
     \0\0\0\0\0\0\0\x01\0\0\0\x01\0\0\0\x01\0\0\0\0\0\0\0\x01\
     \0\x08\0\0\0\0\0\0\0\x05";
 
@@ -202,11 +202,11 @@ pub const OLD_TWO: Content = b"ARJ1\0\0\0\0\0\0\0\0\0\0\0\0\0\0\0\x02\x01\
     \0\0\0\0\0\0\0\0\0\0\0\0\0\0\0\0\0\0\0\0\0\0\0\0\
     \0\x08\0\0\0\0\0\0\0\0";
 
-pub const NEW_TWO: Content = b"ARJ1\0\0\0\0\0\0\0\0\0\0\0\0\0\0\0\x02\x01\
+pub const NEW_TWO: Content = b"ARJ2\0\0\0\0\0\0\0\0\0\0\0\0\0\0\0\x02\x01\x01\
     \0\0\0\0\0\0\0\x01\0\0\0\x01\0\0\0\x01\0\0\0\0\0\0\0\x01\
     \0\x08\0\0\0\0\0\0\0\x06";
 
-pub const CUT_TWO: Content = b"ARJ1\0\0\0\0\0\0\0\0\0\0\0\0\0\0\0\x02\x01\
+pub const CUT_TWO: Content = b"ARJ2\0\0\0\0\0\0\0\0\0\0\0\0\0\0\0\x02\x01\x01\
     \0\0\0\0\0\0\0\x01\0\0\0\x01\0\0\0\x01\0\0\0\0\0\0\0\x03\
     \0\x08\0\0\0\0\0\0\0\x07";
 
@@ -214,7 +214,7 @@ pub const OLD_ENTRY_ONE: Content = b"ARJ1\0\0\0\0\0\0\0\x01\0\0\0\0\0\0\0\x01\0\
     \0\0\0\0\0\0\0\0\0\0\0\0\0\0\0\0\0\0\0\0\0\0\0\0\
     \0\x04\x01\x01\x01\x01";
 
-pub const NEW_ENTRY_ONE: Content = b"ARJ1\0\0\0\0\0\0\0\x01\0\0\0\0\0\0\0\x01\0\
+pub const NEW_ENTRY_ONE: Content = b"ARJ2\0\0\0\0\0\0\0\x01\0\0\0\0\0\0\0\x01\0\x01\
     \0\0\0\0\0\0\0\x01\0\0\0\x01\0\0\0\x01\0\0\0\0\0\0\0\x01\
     \0\x04\x01\x01\x01\x05";
 
@@ -222,7 +222,7 @@ pub const OLD_ENTRY_TWO: Content = b"ARJ1\0\0\0\0\0\0\0\x01\0\0\0\0\0\0\0\x02\0\
     \0\0\0\0\0\0\0\0\0\0\0\0\0\0\0\0\0\0\0\0\0\0\0\0\
     \0\x04\x01\x01\x01\x01";
 
-pub const CUT_ENTRY_TWO: Content = b"ARJ1\0\0\0\0\0\0\0\x01\0\0\0\0\0\0\0\x02\0\
+pub const CUT_ENTRY_TWO: Content = b"ARJ2\0\0\0\0\0\0\0\x01\0\0\0\0\0\0\0\x02\0\x01\
     \0\0\0\0\0\0\0\x01\0\0\0\x01\0\0\0\x01\0\0\0\0\0\0\0\x03\
     \0\x04\x01\x01\x01\x07";
 

@@ -3,6 +3,8 @@ use Rattle.std.proofs.Common.{◌≡◌, ◌==◌, ◌∙◌, ℕ, Bool, true, f
 use Rattle.std.proofs.Common.{None, arith}
 use Rattle.std.proofs.lemmas.Bool.Decides.{nat_tests}
 use Rattle.std.specs.List.{AllByRecursion, IsDistinct}
+use Rattle.arj_base.specs.declared.state.Format.{Format}
+use Rattle.arj_class.specs.Forms.{FormatHolds}
 use Rattle.arj_disk.specs.FileMap.{FileMap}
 use Rattle.arj_disk.specs.Says.{OnlyOfRole, SameOfRole, slot_role}
 use Rattle.arj_disk.specs.declared.slot.Role.{Role}
@@ -38,30 +40,31 @@ use Rattle.arj_text.proofs.Values.{value_in_form}
 
 -- ---- the first states are of objects
 
-module _ (k : ℕ) (o : ObjectLine) (form : ObjectLineInForm k o) where
-  saved : Restores (first_state o).class (first_state o).payload
-  saved = (o.value, refl, value_in_form o.value form.value, refl)
+module _ (f : Format) (k : ℕ) (o : ObjectLine) (form : ObjectLineInForm k o) (held : FormatHolds f o.value) where
+  saved : Restores (first_state f o).format (first_state f o).class (first_state f o).payload
+  saved = (o.value, refl, value_in_form o.value form.value, held, refl)
 
-  pub first_is : IsObjectState (first_state o).uid (first_state o)
+  pub first_is : IsObjectState (first_state f o).uid (first_state f o)
   first_is = record {
     own = refl;
     number = form.number;
     of = refl;
-    in_form = ((omega arith, omega arith, omega (arith, form.number.1)), omega arith, (omega arith, omega arith, omega arith), omega (arith, state_payload (first_state o) saved));
+    in_form = ((omega arith, omega arith, omega (arith, form.number.1)), omega arith, (omega arith, omega arith, omega arith), omega (arith, state_payload (first_state f o) saved));
     restores = saved;
   }
 
-firsts_are : (n k : ℕ) (os : List ObjectLine) → AllByRecursion (ObjectLineInForm k) os →
-    AllByRecursion (λ (s : ObjectState). IsObjectState s.uid s) (map first_state (filter (λ (o : ObjectLine). has o.stores n) os))
-firsts_are n k [] form = tt
-firsts_are n k (o ∷ os) form = by (has o.stores n) (firsts_are n k os form.1)
+firsts_are : (f : Format) (n k : ℕ) (os : List ObjectLine) → AllByRecursion (ObjectLineInForm k) os →
+    AllByRecursion (λ (o : ObjectLine). FormatHolds f o.value) os →
+    AllByRecursion (λ (s : ObjectState). IsObjectState s.uid s) (map (first_state f) (filter (λ (o : ObjectLine). has o.stores n) os))
+firsts_are f n k [] form held = tt
+firsts_are f n k (o ∷ os) form held = by (has o.stores n) (firsts_are f n k os form.1 held.1)
   where
     rest : List ObjectLine
     rest = filter (λ (o : ObjectLine). has o.stores n) os
 
-    by : (b : Bool) → AllByRecursion (λ (s : ObjectState). IsObjectState s.uid s) (map first_state rest) →
-        AllByRecursion (λ (s : ObjectState). IsObjectState s.uid s) (map first_state (cond b (o ∷ rest) rest))
-    by true more = (first_is k o form.0, more)
+    by : (b : Bool) → AllByRecursion (λ (s : ObjectState). IsObjectState s.uid s) (map (first_state f) rest) →
+        AllByRecursion (λ (s : ObjectState). IsObjectState s.uid s) (map (first_state f) (cond b (o ∷ rest) rest))
+    by true more = (first_is f k o form.0 held.0, more)
     by false more = more
 
 put_all : (ss : List ObjectState) (held : List (Uid × ObjectState)) → AllByRecursion (λ (s : ObjectState). IsObjectState s.uid s) ss →
@@ -71,7 +74,7 @@ put_all [] held all good = good
 put_all (s ∷ ss) held all good = put_all ss (put_uid s.uid s held) all.1 (all_put IsObjectState s.uid s held good all.0)
 
 pub first_objects : (n : ℕ) (hd : Header) → HeaderInForm hd → AreObjects (pair_with (states_at n hd))
-first_objects n hd form = record { held = put_all (states_at n hd) [] (firsts_are n hd.nodes hd.objects form.objects.0) tt; pend = tt }
+first_objects n hd form = record { held = put_all (states_at n hd) [] (firsts_are hd.format n hd.nodes hd.objects form.objects.0 form.held) tt; pend = tt }
 
 -- ---- standing on the first disk
 
@@ -170,7 +173,7 @@ module _ {O : Type 0} (o : Ghosts O) (hd : Header) (n : ℕ) (file : FileMap) (i
 
   pub unnamed_pair_on : files.HasOnly (o.pair file Names) [] → IsPairOf (o.pair file Names) no_names
   unnamed_pair_on only =
-      subst (IsPairOf (o.pair file Names)) (λ i. pair_with (cond (sym is i) (map first_entry hd.objects) [])) (no_entries (o.pair file Names) only)
+      subst (IsPairOf (o.pair file Names)) (λ i. pair_with (cond (sym is i) (map (first_entry hd.format) hd.objects) [])) (no_entries (o.pair file Names) only)
 
   pub unnamed_names_on : NamesOn (has_naming n) o file no_names
   unnamed_names_on = subst (λ b. NamesOn b o file no_names) (sym is) refl

@@ -1,5 +1,5 @@
 -- Calls in a line: no two have one text, and where an answer is cut off.
-use Rattle.std.proofs.Common.{◌≡◌, ◌≢◌, ℕ, ◌<◌, ◌^◌, List, [], ◌∷◌, ◌++◌, false, Some, None, refl, sym, ◌∙◌, ap, subst, arith, append_assoc}
+use Rattle.std.proofs.Common.{◌≡◌, ◌≢◌, ℕ, ◌<◌, ◌^◌, List, [], ◌∷◌, ◌++◌, codes, false, Some, None, refl, sym, ◌∙◌, ap, subst, arith, append_assoc}
 use Rattle.std.specs.Fmt.{decimal}
 use Rattle.std.proofs.lemmas.Bool.{both_ways}
 use Rattle.std.proofs.lemmas.Fmt.{decimal_injective}
@@ -9,11 +9,12 @@ use Rattle.arj_class.specs.declared.op.Op.TheVariants as op
 use Rattle.arj_class.specs.declared.op.Answer.{Answer}
 use Rattle.arj_journal.specs.declared.header.ObjectLine.{ObjectLine}
 use Rattle.arj_text.specs.Fields.{IsRead, OpTextInForm, has_byte}
-use Rattle.arj_text.specs.Words.{answer_text, op_text}
+use Rattle.arj_text.specs.Words.{answer_text, op_text, value_text}
 use Rattle.arj_text.proofs.Texts.{cut_once, digits_only, no_cut}
 use Rattle.arj_journal_reader.proofs.ByKind.{lacks_both}
 use Rattle.arj_journal_reader.proofs.Calls.{op_facts}
 use Rattle.arj_journal_reader.proofs.Leaves.{IsApart, hex_lacks}
+use Rattle.arj_journal_reader.proofs.ValueTexts.{value_lacks}
 use Rattle.arj_prog.specs.Lines.{AnswerInForm, AskedInForm, CallInForm, TestInForm, answers_bytes, asked_text, class_at, has_call}
 use Rattle.arj_prog.specs.Lines.{test_text}
 
@@ -59,6 +60,8 @@ op_lacks op.Pop h = refl
 op_lacks (op.GetKey k) h = digits_only 61 k refl h
 op_lacks (op.PutPair k v) h = lacks_both 61 (decimal k) (32 ∷ decimal v) (digits_only 61 k refl h.0) (digits_only 61 v refl h.1)
 op_lacks (op.Remove k) h = digits_only 61 k refl h
+op_lacks (op.Create v) h = lacks_both 61 (codes "create ") (value_text v) refl (value_lacks 61 equals_apart refl refl v h.0)
+op_lacks op.Destroy h = refl
 
 asked_lacks : (p : ℕ × Op) → AskedInForm p → has_byte 61 (asked_text p ++ 32 ∷ []) ≡ false
 asked_lacks p h =

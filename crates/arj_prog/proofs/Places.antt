@@ -17,19 +17,20 @@ use Rattle.arj_prog.specs.Grammar.{Form, Blank, Head, Seed, Turns, Says, DraftTo
 use Rattle.arj_prog.specs.Grammar.{Tells, TellsSaid, drafted, next_place, seeded}
 use Rattle.arj_prog.specs.Lines.{SaidInForm, said_text}
 use Rattle.arj_script.specs.Grammar as script
+use Rattle.arj_script.specs.declared.limits.TheConstants.{LINE_BYTES}
 use Rattle.arj_text.specs.Fields.{IsRead, IsWithin, behind}
 
 -- The line has a form at its place, of which the item tells, and the reader goes on behind it.
 abbrev pub Took : Place → List ℕ → ProgItem → Place → Type 0
 Took place bytes told new = (form : Form) × HasForm place bytes form × Tells place form told × (new ≡ next_place place form)
 
-pub took_head : (h new : script.Place) (bytes : List ℕ) → length bytes ≤ 200 → HeadingTook h new bytes None →
+pub took_head : (h new : script.Place) (bytes : List ℕ) → length bytes ≤ LINE_BYTES → HeadingTook h new bytes None →
     Took (Heading h) bytes item.Part (Heading new)
 took_head h new bytes short t =
     let has : HasForm (Heading h) bytes (Head t.0) = record { short = short; fits = t.1; spells = t.2 } in
     (Head t.0, has, tt, ap (λ q. Heading q) t.3)
 
-pub took_seed : (h new : script.Place) (bytes : List ℕ) (header : Header) (seed : ℕ) → length bytes ≤ 200 →
+pub took_seed : (h new : script.Place) (bytes : List ℕ) (header : Header) (seed : ℕ) → length bytes ≤ LINE_BYTES →
     HeadingTook h new bytes (Some (header, seed)) → Took (Heading h) bytes item.Part (Seeded header seed)
 took_seed h new bytes header seed short t =
     let there : is_some (script.nodes_at h) ≡ true = ap (λ q. is_some (script.nodes_at q)) t.0 in
@@ -37,14 +38,14 @@ took_seed h new bytes header seed short t =
     let next : seeded h seed ≡ Seeded header seed = ap (λ q. seeded q seed) t.0 in
     (Seed seed, has, tt, sym next)
 
-pub took_turns : (header : Header) (seed : ℕ) (bytes : List ℕ) (d : Draft) → length bytes ≤ 200 →
+pub took_turns : (header : Header) (seed : ℕ) (bytes : List ℕ) (d : Draft) → length bytes ≤ LINE_BYTES →
     (n : ℕ) × IsWithin 1 20000 n × (bytes ≡ codes "turns " ++ decimal n) × (Drafting d ≡ drafted header seed n) →
     Took (Seeded header seed) bytes item.Part (Drafting d)
 took_turns header seed bytes d short t =
     let has : HasForm (Seeded header seed) bytes (Turns t.0) = record { short = short; fits = t.1; spells = t.2 } in
     (Turns t.0, has, tt, t.3)
 
-pub took_line : (d new : Draft) (bytes : List ℕ) → length bytes ≤ 200 →
+pub took_line : (d new : Draft) (bytes : List ℕ) → length bytes ≤ LINE_BYTES →
     (s : Said) × SaidInForm d.header.objects s × (fits_draft s d ≡ true) × (bytes ≡ said_text s) × DraftTook d new s None →
     Took (Drafting d) bytes item.Part (Drafting new)
 took_line d new bytes short t =
@@ -52,7 +53,7 @@ took_line d new bytes short t =
     let told : TellsSaid false d item.Part = tt in
     (Says t.0, has, subst (λ b. TellsSaid b d item.Part) (sym t.4.0) told, ap (λ q. Drafting q) t.4.1 ∙ ap (λ b. if b then Over else Drafting (draft_behind t.0 d)) (sym t.4.0))
 
-pub took_run : (d new : Draft) (bytes : List ℕ) (plan : Plan) → length bytes ≤ 200 →
+pub took_run : (d new : Draft) (bytes : List ℕ) (plan : Plan) → length bytes ≤ LINE_BYTES →
     (s : Said) × SaidInForm d.header.objects s × (fits_draft s d ≡ true) × (bytes ≡ said_text s) × DraftTook d new s (Some plan) →
     Took (Drafting d) bytes (item.Run plan) Over
 took_run d new bytes plan short t =

@@ -30,6 +30,7 @@ pub data Form : Type 0 where
 -- a part of a header may stand: not `run`
 abbrev pub FitsHead : script.Place → script.Form → Type 0
 FitsHead place (script.Nodes n) = script.Fits place (script.Nodes n)
+FitsHead place script.FormatOne = script.Fits place script.FormatOne
 FitsHead place (script.Object o) = script.Fits place (script.Object o)
 FitsHead place _ = ⊥
 
@@ -48,7 +49,7 @@ Fits _ _ = ⊥
 
 -- behind the seed
 abbrev pub seeded : script.Place → ℕ → Place
-seeded (script.Objects n os) seed = Seeded (record { nodes = n; objects = os }) seed
+seeded (script.Objects header) seed = Seeded header seed
 seeded h seed = Heading h
 
 -- behind the turns
@@ -100,7 +101,7 @@ Tells _ _ _ = ⊥
 abbrev pub HeadingTook : script.Place → script.Place → List ℕ → Option (Header × ℕ) → Type 0
 HeadingTook old new bytes None = (f : script.Form) × FitsHead old f × script.Spells bytes f × (new ≡ script.next_place old f)
 HeadingTook old new bytes (Some p) =
-    (old ≡ script.Objects p.0.nodes p.0.objects) × IsWithin 0 WORD_MAX p.1 × (bytes ≡ codes "seed " ++ decimal p.1)
+    (old ≡ script.Objects p.0) × IsWithin 0 WORD_MAX p.1 × (bytes ≡ codes "seed " ++ decimal p.1)
 
 -- what a line of the programs makes of the draft: it goes on; or it is run, as this plan
 abbrev pub DraftTook : Draft → Draft → Said → Option Plan → Type 0

@@ -8,7 +8,7 @@ use Rattle.arj_class.specs.declared.op.Op.{Op}
 use Rattle.arj_class.specs.declared.op.Op.TheVariants.{Get}
 use Rattle.arj_class.specs.declared.op.Answer.{Answer}
 use Rattle.arj_class.specs.declared.op.Answer.TheVariants.{Number, Text}
-use Rattle.arj_class.specs.Table.{class_of, has_op}
+use Rattle.arj_class.specs.Table.{has_op, own_class}
 use Rattle.arj_journal.specs.declared.header.ObjectLine.{ObjectLine}
 use Rattle.arj_journal_reader.specs.Reading.{is_word_answer}
 use Rattle.arj_prog.specs.declared.limits.TheConstants.{RETRIES}
@@ -19,10 +19,10 @@ use Rattle.arj_text.specs.declared.label.Label.{Label}
 use Rattle.arj_text.specs.Label.{LabelInForm, name}
 use Rattle.arj_text.specs.Words.{answer_text, hex, op_text}
 
--- the class of an object of the header
+-- the own class of an object of the header
 abbrev pub class_at : ℕ → List ObjectLine → Option Class
 class_at x [] = None
-class_at x (o ∷ os) = if o.x == x then Some (class_of o.value) else class_at x os
+class_at x (o ∷ os) = if o.x == x then Some (own_class o.value) else class_at x os
 
 -- whether the object is there, and its class has the operation
 abbrev pub has_call : Option Class → Op → Bool

@@ -26,13 +26,13 @@ fn asked(alloc: Global, bytes: &[u8]) -> Result<Option<(u16, Op)>, AllocError>
     }
 }
 
-// The class of an object of the header.
+// The own class of an object of the header.
 fn class_at(objects: &[ObjectLine], x: u16) -> Option<Class>
     ensures { result ≡ class_at x objects.now }
 {
     for object in objects {
         if object.x == x {
-            return Some(object.value.class());
+            return Some(object.value.own_class());
         }
     }
     None
@@ -134,6 +134,12 @@ fn answer_word(bytes: &[u8]) -> Option<Answer>
     }
     if is_text(bytes, b"none") {
         return Some(Answer::Nothing);
+    }
+    if is_text(bytes, b"there") {
+        return Some(Answer::There);
+    }
+    if is_text(bytes, b"gone") {
+        return Some(Answer::Gone);
     }
     None
 }

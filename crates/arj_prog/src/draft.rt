@@ -13,7 +13,7 @@ use crate::line::said;
 use crate::opening::{Opening, take_line};
 use crate::plan::{Plan, Program, Programs};
 use crate::said::Said;
-use arj_base::Seq;
+use arj_base::{Format, Seq};
 use arj_journal::Header;
 use arj_script::ScriptFault;
 use arj_text::Label;
@@ -176,6 +176,7 @@ fn finished(alloc: Global, draft: &mut Draft) -> Plan
     let empty = Header {
         nodes: 0,
         objects: Seq::new(alloc),
+        format: Format::Two,
     };
     Plan {
         header: replace(&mut draft.header, empty),

@@ -13,7 +13,7 @@ ghost use Rattle.arj_script.specs.declared.limits.TheConstants.{LINE_BYTES};
 use crate::draft::Draft;
 use crate::limits::TURNS;
 use crate::line::number_behind;
-use arj_base::Seq;
+use arj_base::{Format, Seq};
 use arj_journal::Header;
 use arj_script::{Item, Reader, ScriptFault};
 use arj_text::field::{WORD_MAX, is_text};
@@ -40,7 +40,7 @@ fn head_line(header: &mut Reader, bytes: &[u8]) -> Result<(), ScriptFault>
 // The header that was read, which has its nodes.
 fn end_header(header: &mut Reader) -> Result<Header, ScriptFault>
     requires { is_some (script.nodes_at header.old) ≡ true }
-    ensures ok { IfOk result (λ h. header.old ≡ script.Objects h.nodes h.objects) }
+    ensures ok { IfOk result (λ h. header.old ≡ script.Objects h) }
     ensures in_form { IfOk result (λ h. HeaderInForm h) }
     ensures memory { IsErrOf result script_fault.Bad → ⊥ }
     ensures err { OnErr result (header.new ≡ header.old) }
@@ -109,6 +109,7 @@ pub fn begin(
     let empty = Header {
         nodes: 0,
         objects: Seq::new(alloc),
+        format: Format::Two,
     };
     Ok(Draft {
         header: replace(header, empty),

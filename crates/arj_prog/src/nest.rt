@@ -94,10 +94,13 @@ impl Nest {
 fn blocks_among(frames: &[Frame]) -> usize
     ensures { result ≡ blocks_in frames.now }
 {
-    frames
-        .iter()
-        .filter(|frame| is_block(&frame.opened))
-        .count()
+    let mut count = 0;
+    for frame in frames {
+        if is_block(&frame.opened) {
+            count += 1;
+        }
+    }
+    count
 }
 
 // Puts a condition into its second list.

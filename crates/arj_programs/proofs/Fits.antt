@@ -119,7 +119,7 @@ says_good grow s d good said fits = by (is_run s) refl
 
 seeded_good : (h : script.Place) (n : ℕ) → IsGood (seeded h n)
 seeded_good script.Start n = tt
-seeded_good (script.Objects k os) n = tt
+seeded_good (script.Objects g) n = tt
 seeded_good script.Running n = tt
 
 step_good : LinesGrow → (place : Place) (form : Form) → IsGood place → Fits place form → IsGood (next_place place form)

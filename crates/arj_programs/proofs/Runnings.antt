@@ -24,11 +24,11 @@ use Rattle.arj_progrun.specs.declared.report.ReportLine.{ReportLine}
 
 -- the plan whose header has no objects
 abbrev pub bare : Plan → Plan
-bare plan = record plan { header = record { nodes = (let h = plan.header in h.nodes); objects = [] } }
+bare plan = record plan { header = record (plan.header) { objects = [] } }
 
 pub bare_in_form : (plan : Plan) → PlanInForm plan → PlanInForm (bare plan)
 bare_in_form plan form =
-    let header = form.header in record { header = record { nodes = header.nodes; objects = (tt, refl) }; programs = form.programs }
+    let header = form.header in record { header = record { nodes = header.nodes; objects = (tt, refl); held = tt }; programs = form.programs }
 
 -- the schedule goes by the count of nodes alone
 turns_of_bare : (plan : Plan) (turns : ℕ) (trace : List Given) (now : Standing) → Turns (bare plan) turns trace now →

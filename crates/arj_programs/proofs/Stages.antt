@@ -47,7 +47,7 @@ heading_not_over h e = cc
 
 seeded_not_over : (h : script.Place) (n : ℕ) → seeded h n ≢ Over
 seeded_not_over script.Start n e = cc
-seeded_not_over (script.Objects k os) n e = cc
+seeded_not_over (script.Objects g) n e = cc
 seeded_not_over script.Running n e = cc
 
 drafting_not_over : (d : Draft) → Drafting d ≢ Over

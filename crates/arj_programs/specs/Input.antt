@@ -61,7 +61,7 @@ pub record IsFront (lines : List (List ℕ)) (place : Place) (plan : Option Plan
 abbrev pub IsWhole : Input → Plan → Type 0
 IsWhole given plan = (given.stopped ≡ AtEnd) × IsPlan (lines_of AtEnd given.came) plan
 
--- The line behind these is bad: it is longer than 200 bytes, or it isn't in the grammar at its place; or the input ended before `run`.
+-- The line behind these is bad: it is longer than 500 bytes, or it isn't in the grammar at its place; or the input ended before `run`.
 abbrev pub IsBadBehind : Input → List (List ℕ) → BadLine → Type 0
 IsBadBehind given done why.TooLong = (place : Place) × (plan : Option Plan) × IsFront done place plan × IsPastLine given done LINE_BYTES
 IsBadBehind given done why.Unknown =

@@ -12,6 +12,7 @@ use std::alloc::Global;
 /// A machine, its journal, the events that it has run, and how many lines the journal had before the last of them.
 #[derive(Drop)]
 pub struct Driven<M> {
+    pub alloc: Global,
     pub machine: M,
     pub journal: Lines,
     pub events: Events,
@@ -25,6 +26,7 @@ impl<M> Driven<M> {
         ensures nothing { (result.journal ≡ []) × (result.events ≡ []) }
     {
         Driven {
+            alloc,
             machine,
             journal: Lines::new(alloc),
             events: Events::new(alloc),
@@ -49,8 +51,8 @@ impl<D: Disk, M: Machine<D>> Nodes<Rack<D>> for Driven<M> {
     ghost left = { WasLeft M.Machine };
 
     fn step(&mut self, event: &Event, on: &mut Rack<D>) -> Result<(), StepFault> {
-        let asked = copy_event(event)?;
-        let kept = copy_event(event)?;
+        let asked = copy_event(self.alloc, event)?;
+        let kept = copy_event(self.alloc, event)?;
         self.before = self.journal.as_slice().len();
         match self.machine.step(asked, on, &mut self.journal) {
             Ok(()) => {

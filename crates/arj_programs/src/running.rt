@@ -27,12 +27,14 @@ pub enum Halt {
 // Takes the header out, and leaves its count of nodes.
 fn take_header(alloc: Global, plan: &mut Plan) -> Header
     ensures header { result ≡ (let p = plan.old in p.header) }
-    ensures left { plan.new ≡ record plan.old { header = record { nodes = (let p = plan.old in let h = p.header in h.nodes); objects = [] } } }
+    ensures left { plan.new ≡ record plan.old { header = (let p = plan.old in record (p.header) { objects = [] }) } }
 {
     let nodes = plan.header.nodes;
+    let format = plan.header.format;
     let empty = Header {
         nodes,
         objects: Seq::new(alloc),
+        format,
     };
     replace(&mut plan.header, empty)
 }

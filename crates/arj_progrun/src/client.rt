@@ -226,7 +226,7 @@ impl<'p> Client<'p> {
         Ok(Event::Call {
             label: self.label(),
             x,
-            op: copy_op(op)?,
+            op: copy_op(self.alloc, op)?,
         })
     }
 

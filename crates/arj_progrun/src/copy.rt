@@ -3,10 +3,10 @@ ghost use Rattle.std.specs.Prelude.{◌≡◌, IfOk};
 
 use arj_class::Op;
 use arj_journal::{Event, StopKind};
-use std::alloc::AllocError;
+use std::alloc::{AllocError, Global};
 
 /// An operation again, in other memory.
-pub fn copy_op(op: &Op) -> Result<Op, AllocError>
+pub fn copy_op(alloc: Global, op: &Op) -> Result<Op, AllocError>
     ensures { IfOk result (λ copied. copied ≡ op.now) }
 {
     Ok(match op {
@@ -22,6 +22,8 @@ pub fn copy_op(op: &Op) -> Result<Op, AllocError>
         Op::GetKey(key) => Op::GetKey(*key),
         Op::PutPair(key, n) => Op::PutPair(*key, *n),
         Op::Remove(key) => Op::Remove(*key),
+        Op::Create(value) => Op::Create(value.copy(alloc)?),
+        Op::Destroy => Op::Destroy,
     })
 }
 
@@ -37,7 +39,7 @@ fn copy_kind(kind: &StopKind) -> Result<StopKind, AllocError>
 }
 
 /// An event again, in other memory.
-pub fn copy_event(event: &Event) -> Result<Event, AllocError>
+pub fn copy_event(alloc: Global, event: &Event) -> Result<Event, AllocError>
     ensures { IfOk result (λ copied. copied ≡ event.now) }
 {
     Ok(match event {
@@ -60,7 +62,7 @@ pub fn copy_event(event: &Event) -> Result<Event, AllocError>
         Event::Call { label, x, op } => Event::Call {
             label: *label,
             x: *x,
-            op: copy_op(op)?,
+            op: copy_op(alloc, op)?,
         },
         Event::Include { label, x, node } => Event::Include {
             label: *label,

@@ -7,11 +7,12 @@ use Rattle.arj_base.specs.Uid.{nobody, object}
 use Rattle.arj_base.specs.declared.state.ObjectState.{ObjectState}
 use Rattle.arj_base.specs.declared.uid.Uid.{Uid}
 use Rattle.arj_base.specs.declared.limits.TheConstants.{LAST_VERSION}
-use Rattle.arj_class.specs.Table.{class_of}
+use Rattle.arj_class.specs.Table.{own_class}
 use Rattle.arj_journal.specs.declared.header.Header.{Header}
 use Rattle.arj_journal.specs.declared.header.ObjectLine.{ObjectLine}
 use Rattle.arj_start.specs.Start.{Start, fresh}
 use Rattle.arj_protocol.specs.Order.{has}
+use Rattle.arj_protocol.specs.Values.{state_value}
 use Rattle.arj_start.specs.Limits.{most_labels}
 
 -- the first incarnation in which actions of the run begin at this node: that on its disk where it is up, and else the next one
@@ -27,7 +28,7 @@ pub record IsOlder (hd : Header) (st : Start) (at : ℕ × ObjectState) : Type 0
   pub line : ObjectLine
   pub there : Contains hd.objects line
   pub of : at.1.uid ≡ object line.x
-  pub class : at.1.class ≡ class_of line.value
+  pub class : own_class (state_value at.1) ≡ own_class line.value
   pub form : StateInForm at.1
   pub unlisted : has line.stores at.0 ≡ false
   pub below : at.1.version < (let m = st.marks.states line.x in m.version)

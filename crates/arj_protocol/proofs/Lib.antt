@@ -15,7 +15,9 @@ pub mod Payloads
 pub mod Quiet
 pub mod Ranks
 pub mod Rounds
+pub mod States
 pub mod RowSteps
+mod RowWords
 mod RowsOfLimits
 mod RowsOfNodes
 mod RowsOfOneNode

@@ -1,11 +1,11 @@
 -- Whole runs, by computation: the journal of each script is known line by line.
-use Rattle.std.specs.Prelude.{◌≡◌, refl, ℕ, List, [], ◌∷◌, ◌++◌, map, true, Some, None}
-use Rattle.std.proofs.Common.{arith}
-use Rattle.arj_protocol.specs.Words.{Uid, Binding, Label, Answer, Event, Body, Line, Header, answer_text, object, entry}
+use Rattle.std.specs.Prelude.{◌≡◌, refl, List, [], ◌∷◌, ◌++◌, true, Some, None}
+use Rattle.arj_protocol.specs.Words.{Header, object, entry}
 use Rattle.arj_protocol.specs.Words.mode
 use Rattle.arj_protocol.specs.Words.ending
 use Rattle.arj_protocol.specs.Words.op
 use Rattle.arj_protocol.specs.Words.answer
+use Rattle.arj_protocol.specs.Words.format
 use Rattle.arj_protocol.specs.Words.value
 use Rattle.arj_protocol.specs.Words.body
 use Rattle.arj_protocol.specs.Words.kind
@@ -15,101 +15,11 @@ use Rattle.arj_protocol.specs.Words.role
 use Rattle.arj_protocol.specs.Words.frame
 use Rattle.arj_protocol.specs.Words.event
 use Rattle.arj_protocol.specs.Words.frame_no
-use Rattle.arj_protocol.specs.Effect.{Stop, Before}
 use Rattle.arj_protocol.specs.World.{Asked, journal}
-
-u : ℕ → ℕ → ℕ → Uid
-u n i k = record { node = n; inc = i; num = k }
-
-b : ℕ → ℕ → Binding
-b i n = record { inc = i; count = n }
-
--- an event, and a disk that is armed with how it will stop
-does : Event → Asked
-does e = record { event = e; arm = record { works = 0; how = Before } }
-
-stops : Event → ℕ → Stop → Asked
-stops e k how = record { event = e; arm = record { works = k; how = how } }
-
--- the lines of an event
-at : ℕ → List Body → List Line
-at k bodies = map (λ s. record { event = k; body = s }) bodies
-
-text : Answer → List ℕ
-text a = answer_text a
-
-l_A : Label
-l_A = record {
-  len = 1;
-  text = 65 ∷ 0 ∷ 0 ∷ 0 ∷ 0 ∷ 0 ∷ 0 ∷ 0 ∷ 0 ∷ 0 ∷ 0 ∷ 0 ∷ 0 ∷ 0 ∷ 0 ∷ 0 ∷ [];
-  whole = refl;
-  short =
-      omega arith;
-  zeros = refl;
-}
-
-l_N : Label
-l_N = record {
-  len = 1;
-  text = 78 ∷ 0 ∷ 0 ∷ 0 ∷ 0 ∷ 0 ∷ 0 ∷ 0 ∷ 0 ∷ 0 ∷ 0 ∷ 0 ∷ 0 ∷ 0 ∷ 0 ∷ 0 ∷ [];
-  whole = refl;
-  short =
-      omega arith;
-  zeros = refl;
-}
-
-l_M : Label
-l_M = record {
-  len = 1;
-  text = 77 ∷ 0 ∷ 0 ∷ 0 ∷ 0 ∷ 0 ∷ 0 ∷ 0 ∷ 0 ∷ 0 ∷ 0 ∷ 0 ∷ 0 ∷ 0 ∷ 0 ∷ 0 ∷ [];
-  whole = refl;
-  short =
-      omega arith;
-  zeros = refl;
-}
-
-l_B : Label
-l_B = record {
-  len = 1;
-  text = 66 ∷ 0 ∷ 0 ∷ 0 ∷ 0 ∷ 0 ∷ 0 ∷ 0 ∷ 0 ∷ 0 ∷ 0 ∷ 0 ∷ 0 ∷ 0 ∷ 0 ∷ 0 ∷ [];
-  whole = refl;
-  short =
-      omega arith;
-  zeros = refl;
-}
-
-l_I : Label
-l_I = record {
-  len = 1;
-  text = 73 ∷ 0 ∷ 0 ∷ 0 ∷ 0 ∷ 0 ∷ 0 ∷ 0 ∷ 0 ∷ 0 ∷ 0 ∷ 0 ∷ 0 ∷ 0 ∷ 0 ∷ 0 ∷ [];
-  whole = refl;
-  short =
-      omega arith;
-  zeros = refl;
-}
-
-l_J : Label
-l_J = record {
-  len = 1;
-  text = 74 ∷ 0 ∷ 0 ∷ 0 ∷ 0 ∷ 0 ∷ 0 ∷ 0 ∷ 0 ∷ 0 ∷ 0 ∷ 0 ∷ 0 ∷ 0 ∷ 0 ∷ 0 ∷ [];
-  whole = refl;
-  short =
-      omega arith;
-  zeros = refl;
-}
-
-l_K : Label
-l_K = record {
-  len = 1;
-  text = 75 ∷ 0 ∷ 0 ∷ 0 ∷ 0 ∷ 0 ∷ 0 ∷ 0 ∷ 0 ∷ 0 ∷ 0 ∷ 0 ∷ 0 ∷ 0 ∷ 0 ∷ 0 ∷ [];
-  whole = refl;
-  short =
-      omega arith;
-  zeros = refl;
-}
+use Rattle.arj_protocol.proofs.RowWords.{u, b, does, at, text, l_A, l_B, l_I, l_J, l_K, l_M, l_N}
 
 header_repeat : Header
-header_repeat = record { nodes = 2; objects = record { x = 1; value = (value.Counter 0); servers = 2 ∷ []; stores = 1 ∷ [] } ∷ [] }
+header_repeat = record { nodes = 2; objects = record { x = 1; value = (value.Counter 0); servers = 2 ∷ []; stores = 1 ∷ [] } ∷ []; format = format.Two }
 
 script_repeat : List Asked
 script_repeat =
@@ -129,11 +39,11 @@ repeat : journal header_repeat script_repeat ≡
     ++ at 8 (body.Committing l_A ∷ body.Sent 6 1 2 frame.Vote ∷ [])
     ++ at 9 (body.Void 5 ∷ body.Got 6 ∷ body.Sent 7 2 1 frame.Voted ∷ body.Got 7 ∷ body.Prepared 1 (u 1 1 1) role.Store ∷ body.Committed l_A ∷ body.Sent 8 1 2 frame.Told ∷ body.Done 1 (u 1 1 1) role.Store ending.Commit ∷ body.Told 1 (u 1 1 1) ending.Commit part.Naming ∷ body.Got 8 ∷ body.Told 2 (u 1 1 1) ending.Commit part.Server ∷ body.Sent 9 2 1 frame.Acked ∷ body.Got 9 ∷ [])
     ++ at 10 (body.Entry 1 0 (2 ∷ []) (1 ∷ []) ∷ body.Copy 1 1 1 (u 1 1 1) (0 ∷ 0 ∷ 0 ∷ 0 ∷ 0 ∷ 0 ∷ 0 ∷ 5 ∷ []) ∷ [])
-unfolding u b does stops at text header_repeat script_repeat l_A
+unfolding header_repeat script_repeat
 repeat = refl
 
 header_rebinding : Header
-header_rebinding = record { nodes = 3; objects = record { x = 1; value = (value.Counter 0); servers = 2 ∷ 3 ∷ []; stores = 1 ∷ [] } ∷ [] }
+header_rebinding = record { nodes = 3; objects = record { x = 1; value = (value.Counter 0); servers = 2 ∷ 3 ∷ []; stores = 1 ∷ [] } ∷ []; format = format.Two }
 
 script_rebinding : List Asked
 script_rebinding =
@@ -161,11 +71,11 @@ rebinding : journal header_rebinding script_rebinding ≡
     ++ at 15 (body.Committed l_M ∷ body.Sent 9 1 3 frame.Told ∷ [])
     ++ at 16 (body.Committing l_A ∷ body.Sent 10 1 3 frame.Vote ∷ [])
     ++ at 17 (body.Got 9 ∷ body.Told 3 (u 1 1 3) ending.Commit part.Server ∷ body.Got 10 ∷ body.Sent 11 3 1 frame.Voted ∷ body.Got 11 ∷ body.Prepared 1 (u 1 1 1) role.Store ∷ body.Committed l_A ∷ body.Sent 12 1 2 frame.Told ∷ body.Sent 13 1 3 frame.Told ∷ body.Done 1 (u 1 1 1) role.Store ending.Commit ∷ body.Told 1 (u 1 1 1) ending.Commit part.Naming ∷ body.Got 12 ∷ body.Got 13 ∷ body.Told 3 (u 1 1 1) ending.Commit part.Server ∷ body.Sent 14 3 1 frame.Acked ∷ body.Got 14 ∷ [])
-unfolding u b does stops at text header_rebinding script_rebinding l_A l_N l_M
+unfolding header_rebinding script_rebinding
 rebinding = refl
 
 header_exclusion : Header
-header_exclusion = record { nodes = 3; objects = record { x = 1; value = (value.Counter 0); servers = 1 ∷ []; stores = 2 ∷ 3 ∷ [] } ∷ [] }
+header_exclusion = record { nodes = 3; objects = record { x = 1; value = (value.Counter 0); servers = 1 ∷ []; stores = 2 ∷ 3 ∷ [] } ∷ []; format = format.Two }
 
 script_exclusion : List Asked
 script_exclusion =
@@ -183,12 +93,12 @@ exclusion : journal header_exclusion script_exclusion ≡
     ++ at 7 (body.GaveUp l_A 3 ∷ body.Excluded l_A 1 3 ∷ body.Granted 1 (u 1 1 1) (entry 1) mode.Exclude ∷ body.Prepared 1 (u 1 1 1) role.Names ∷ body.Committed l_A ∷ body.Sent 6 1 2 frame.Told ∷ body.Sent 7 1 3 frame.Told ∷ body.Done 1 (u 1 1 1) role.Names ending.Commit ∷ body.Told 1 (u 1 1 1) ending.Commit part.Naming ∷ body.Told 1 (u 1 1 1) ending.Commit part.Server ∷ [])
     ++ at 8 (body.Got 6 ∷ body.Done 2 (u 1 1 1) role.Store ending.Commit ∷ body.Sent 8 2 1 frame.Acked ∷ body.Got 7 ∷ body.Got 8 ∷ [])
     ++ at 9 (body.Entry 1 1 (1 ∷ []) (2 ∷ []) ∷ body.Copy 2 1 1 (u 1 1 1) (0 ∷ 0 ∷ 0 ∷ 0 ∷ 0 ∷ 0 ∷ 0 ∷ 1 ∷ []) ∷ body.Copy 3 1 0 (u 0 0 0) (0 ∷ 0 ∷ 0 ∷ 0 ∷ 0 ∷ 0 ∷ 0 ∷ 0 ∷ []) ∷ [])
-unfolding u b does stops at text header_exclusion script_exclusion l_A
+unfolding header_exclusion script_exclusion
 exclusion = refl
 
 header_no_store_left : Header
 header_no_store_left =
-    record { nodes = 3; objects = record { x = 1; value = (value.Counter 0); servers = 1 ∷ []; stores = 2 ∷ 3 ∷ [] } ∷ [] }
+    record { nodes = 3; objects = record { x = 1; value = (value.Counter 0); servers = 1 ∷ []; stores = 2 ∷ 3 ∷ [] } ∷ []; format = format.Two }
 
 script_no_store_left : List Asked
 script_no_store_left =
@@ -201,11 +111,11 @@ no_store_left : journal header_no_store_left script_no_store_left ≡
     ++ at 3 (body.Got 1 ∷ body.Sent 2 2 1 frame.Loaded ∷ body.Got 2 ∷ body.Active 1 1 (b 1 1) ∷ body.Lowered 1 (u 1 1 1) (entry 1) ∷ body.Granted 1 (u 1 1 1) (object 1) mode.Write ∷ body.Ok l_A 1 (op.Add 1) (text answer.Done) ∷ [])
     ++ at 4 (body.Committing l_A ∷ body.Sent 3 1 2 frame.Prepare ∷ body.Sent 4 1 3 frame.Prepare ∷ [])
     ++ at 5 (body.GaveUp l_A 2 ∷ body.GaveUp l_A 3 ∷ body.Excluded l_A 1 2 ∷ body.Excluded l_A 1 3 ∷ body.Aborted l_A (cause.NoStores 1) ∷ body.Sent 5 1 2 frame.Told ∷ body.Sent 6 1 3 frame.Told ∷ body.Told 1 (u 1 1 1) ending.Abort part.Naming ∷ body.Told 1 (u 1 1 1) ending.Abort part.Server ∷ [])
-unfolding u b does stops at text header_no_store_left script_no_store_left l_A
+unfolding header_no_store_left script_no_store_left
 no_store_left = refl
 
 header_old_frames : Header
-header_old_frames = record { nodes = 2; objects = record { x = 1; value = (value.Counter 0); servers = 1 ∷ []; stores = 2 ∷ [] } ∷ [] }
+header_old_frames = record { nodes = 2; objects = record { x = 1; value = (value.Counter 0); servers = 1 ∷ []; stores = 2 ∷ [] } ∷ []; format = format.Two }
 
 script_old_frames : List Asked
 script_old_frames =
@@ -229,11 +139,11 @@ old_frames : journal header_old_frames script_old_frames ≡
     ++ at 12 (body.Got 5 ∷ body.Sent 12 2 1 frame.Acked ∷ [])
     ++ at 13 (body.Void 11 ∷ body.Void 12 ∷ [])
     ++ at 14 (body.Entry 1 0 (1 ∷ []) (2 ∷ []) ∷ body.Copy 2 1 2 (u 1 1 2) (0 ∷ 0 ∷ 0 ∷ 0 ∷ 0 ∷ 0 ∷ 0 ∷ 2 ∷ []) ∷ [])
-unfolding u b does stops at text header_old_frames script_old_frames l_A l_B
+unfolding header_old_frames script_old_frames
 old_frames = refl
 
 header_inclusion : Header
-header_inclusion = record { nodes = 3; objects = record { x = 1; value = (value.Counter 0); servers = 1 ∷ []; stores = 2 ∷ 3 ∷ [] } ∷ [] }
+header_inclusion = record { nodes = 3; objects = record { x = 1; value = (value.Counter 0); servers = 1 ∷ []; stores = 2 ∷ 3 ∷ [] } ∷ []; format = format.Two }
 
 script_inclusion : List Asked
 script_inclusion =
@@ -263,12 +173,12 @@ inclusion : journal header_inclusion script_inclusion ≡
     ++ at 18 (body.Got 16 ∷ body.Sent 17 2 1 frame.Loaded ∷ body.Got 17 ∷ body.Includes l_J 1 3 ∷ [])
     ++ at 19 (body.Committing l_J ∷ body.Sent 18 1 3 frame.Prepare ∷ [])
     ++ at 20 (body.Got 18 ∷ body.Prepared 3 (u 1 1 3) role.Store ∷ body.Sent 19 3 1 frame.Prepared ∷ body.Got 19 ∷ body.Aborted l_J (cause.Listed 1 3) ∷ body.Sent 20 1 2 frame.Told ∷ body.Sent 21 1 3 frame.Told ∷ body.Told 1 (u 1 1 3) ending.Abort part.Naming ∷ body.Got 20 ∷ body.Got 21 ∷ body.Done 3 (u 1 1 3) role.Store ending.Abort ∷ [])
-unfolding u b does stops at text header_inclusion script_inclusion l_A l_I l_J
+unfolding header_inclusion script_inclusion
 inclusion = refl
 
 header_sibling_waits : Header
 header_sibling_waits =
-    record { nodes = 3; objects = record { x = 1; value = (value.Counter 0); servers = 2 ∷ 3 ∷ []; stores = 1 ∷ [] } ∷ [] }
+    record { nodes = 3; objects = record { x = 1; value = (value.Counter 0); servers = 2 ∷ 3 ∷ []; stores = 1 ∷ [] } ∷ []; format = format.Two }
 
 script_sibling_waits : List Asked
 script_sibling_waits =
@@ -290,11 +200,11 @@ sibling_waits : journal header_sibling_waits script_sibling_waits ≡
     ++ at 10 (body.Began l_K kind.Nested (u 1 1 4) (Some l_A) ∷ [])
     ++ at 11 (body.Sent 6 1 2 frame.Invoke ∷ [])
     ++ at 12 (body.Got 3 ∷ body.Granted 2 (u 1 1 2) (object 1) mode.Write ∷ body.Sent 7 2 1 frame.Invoked ∷ body.Got 4 ∷ body.Sent 8 2 1 frame.Invoked ∷ body.Got 5 ∷ body.Got 6 ∷ body.Sent 9 2 1 frame.Invoked ∷ body.Got 7 ∷ body.Ok l_N 1 (op.Add 1) (text answer.Done) ∷ body.Void 8 ∷ body.Got 9 ∷ body.Conflict l_K (u 1 1 2) mode.Write 2 ∷ [])
-unfolding u b does stops at text header_sibling_waits script_sibling_waits l_A l_N l_M l_K
+unfolding header_sibling_waits script_sibling_waits
 sibling_waits = refl
 
 header_lost_load : Header
-header_lost_load = record { nodes = 2; objects = record { x = 1; value = (value.Counter 0); servers = 1 ∷ []; stores = 2 ∷ [] } ∷ [] }
+header_lost_load = record { nodes = 2; objects = record { x = 1; value = (value.Counter 0); servers = 1 ∷ []; stores = 2 ∷ [] } ∷ []; format = format.Two }
 
 script_lost_load : List Asked
 script_lost_load =
@@ -306,12 +216,12 @@ lost_load : journal header_lost_load script_lost_load ≡
     ++ at 2 (body.Granted 1 (u 1 1 1) (entry 1) mode.Write ∷ body.Bound 1 (b 1 1) 1 ∷ body.Sent 1 1 2 frame.Load ∷ [])
     ++ at 3 (body.Dropped 1 ∷ [])
     ++ at 5 (body.Sent 2 1 2 frame.Load ∷ body.Got 2 ∷ body.Sent 3 2 1 frame.Loaded ∷ body.Got 3 ∷ body.Active 1 1 (b 1 1) ∷ body.Lowered 1 (u 1 1 1) (entry 1) ∷ body.Granted 1 (u 1 1 1) (object 1) mode.Write ∷ body.Ok l_A 1 (op.Add 1) (text answer.Done) ∷ body.Quiet true ∷ [])
-unfolding u b does stops at text header_lost_load script_lost_load l_A
+unfolding header_lost_load script_lost_load
 lost_load = refl
 
 header_all_frames_again : Header
 header_all_frames_again =
-    record { nodes = 3; objects = record { x = 1; value = (value.Counter 0); servers = 1 ∷ []; stores = 2 ∷ 3 ∷ [] } ∷ [] }
+    record { nodes = 3; objects = record { x = 1; value = (value.Counter 0); servers = 1 ∷ []; stores = 2 ∷ 3 ∷ [] } ∷ []; format = format.Two }
 
 script_all_frames_again : List Asked
 script_all_frames_again =
@@ -341,5 +251,5 @@ all_frames_again : journal header_all_frames_again script_all_frames_again ≡
     ++ at 17 (body.Got 1 ∷ body.Sent 11 2 1 frame.Loaded ∷ [])
     ++ at 18 (body.Void 9 ∷ body.Void 10 ∷ body.Void 11 ∷ body.Sent 12 3 1 frame.Query ∷ body.Got 12 ∷ body.Sent 13 1 3 frame.Told ∷ body.Got 13 ∷ body.Done 3 (u 1 1 1) role.Store ending.Abort ∷ body.Quiet true ∷ [])
     ++ at 19 (body.Entry 1 1 (1 ∷ []) (2 ∷ []) ∷ body.Copy 2 1 1 (u 1 1 1) (0 ∷ 0 ∷ 0 ∷ 0 ∷ 0 ∷ 0 ∷ 0 ∷ 1 ∷ []) ∷ body.Copy 3 1 0 (u 0 0 0) (0 ∷ 0 ∷ 0 ∷ 0 ∷ 0 ∷ 0 ∷ 0 ∷ 0 ∷ []) ∷ [])
-unfolding u b does stops at text header_all_frames_again script_all_frames_again l_A
+unfolding header_all_frames_again script_all_frames_again
 all_frames_again = refl

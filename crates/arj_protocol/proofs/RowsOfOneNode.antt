@@ -1,11 +1,12 @@
 -- Whole runs, by computation: the journal of each script is known line by line.
-use Rattle.std.specs.Prelude.{◌≡◌, refl, ℕ, List, [], ◌∷◌, ◌++◌, map, Some, None}
-use Rattle.std.proofs.Common.{arith}
-use Rattle.arj_protocol.specs.Words.{Uid, Binding, Label, Answer, Event, Body, Line, Header, answer_text, object, entry}
+use Rattle.std.specs.Prelude.{◌≡◌, refl, List, [], ◌∷◌, ◌++◌, Some, None}
+use Rattle.arj_protocol.specs.Words.{Header, object, entry}
 use Rattle.arj_protocol.specs.Words.mode
+use Rattle.arj_protocol.specs.Words.class
 use Rattle.arj_protocol.specs.Words.ending
 use Rattle.arj_protocol.specs.Words.op
 use Rattle.arj_protocol.specs.Words.answer
+use Rattle.arj_protocol.specs.Words.format
 use Rattle.arj_protocol.specs.Words.value
 use Rattle.arj_protocol.specs.Words.body
 use Rattle.arj_protocol.specs.Words.kind
@@ -13,101 +14,11 @@ use Rattle.arj_protocol.specs.Words.cause
 use Rattle.arj_protocol.specs.Words.part
 use Rattle.arj_protocol.specs.Words.role
 use Rattle.arj_protocol.specs.Words.event
-use Rattle.arj_protocol.specs.Effect.{Stop, Before}
 use Rattle.arj_protocol.specs.World.{Asked, journal}
-
-u : ℕ → ℕ → ℕ → Uid
-u n i k = record { node = n; inc = i; num = k }
-
-b : ℕ → ℕ → Binding
-b i n = record { inc = i; count = n }
-
--- an event, and a disk that is armed with how it will stop
-does : Event → Asked
-does e = record { event = e; arm = record { works = 0; how = Before } }
-
-stops : Event → ℕ → Stop → Asked
-stops e k how = record { event = e; arm = record { works = k; how = how } }
-
--- the lines of an event
-at : ℕ → List Body → List Line
-at k bodies = map (λ s. record { event = k; body = s }) bodies
-
-text : Answer → List ℕ
-text a = answer_text a
-
-l_A : Label
-l_A = record {
-  len = 1;
-  text = 65 ∷ 0 ∷ 0 ∷ 0 ∷ 0 ∷ 0 ∷ 0 ∷ 0 ∷ 0 ∷ 0 ∷ 0 ∷ 0 ∷ 0 ∷ 0 ∷ 0 ∷ 0 ∷ [];
-  whole = refl;
-  short =
-      omega arith;
-  zeros = refl;
-}
-
-l_B : Label
-l_B = record {
-  len = 1;
-  text = 66 ∷ 0 ∷ 0 ∷ 0 ∷ 0 ∷ 0 ∷ 0 ∷ 0 ∷ 0 ∷ 0 ∷ 0 ∷ 0 ∷ 0 ∷ 0 ∷ 0 ∷ 0 ∷ [];
-  whole = refl;
-  short =
-      omega arith;
-  zeros = refl;
-}
-
-l_N : Label
-l_N = record {
-  len = 1;
-  text = 78 ∷ 0 ∷ 0 ∷ 0 ∷ 0 ∷ 0 ∷ 0 ∷ 0 ∷ 0 ∷ 0 ∷ 0 ∷ 0 ∷ 0 ∷ 0 ∷ 0 ∷ 0 ∷ [];
-  whole = refl;
-  short =
-      omega arith;
-  zeros = refl;
-}
-
-l_C : Label
-l_C = record {
-  len = 1;
-  text = 67 ∷ 0 ∷ 0 ∷ 0 ∷ 0 ∷ 0 ∷ 0 ∷ 0 ∷ 0 ∷ 0 ∷ 0 ∷ 0 ∷ 0 ∷ 0 ∷ 0 ∷ 0 ∷ [];
-  whole = refl;
-  short =
-      omega arith;
-  zeros = refl;
-}
-
-l_D : Label
-l_D = record {
-  len = 1;
-  text = 68 ∷ 0 ∷ 0 ∷ 0 ∷ 0 ∷ 0 ∷ 0 ∷ 0 ∷ 0 ∷ 0 ∷ 0 ∷ 0 ∷ 0 ∷ 0 ∷ 0 ∷ 0 ∷ [];
-  whole = refl;
-  short =
-      omega arith;
-  zeros = refl;
-}
-
-l_T : Label
-l_T = record {
-  len = 1;
-  text = 84 ∷ 0 ∷ 0 ∷ 0 ∷ 0 ∷ 0 ∷ 0 ∷ 0 ∷ 0 ∷ 0 ∷ 0 ∷ 0 ∷ 0 ∷ 0 ∷ 0 ∷ 0 ∷ [];
-  whole = refl;
-  short =
-      omega arith;
-  zeros = refl;
-}
-
-l_S : Label
-l_S = record {
-  len = 1;
-  text = 83 ∷ 0 ∷ 0 ∷ 0 ∷ 0 ∷ 0 ∷ 0 ∷ 0 ∷ 0 ∷ 0 ∷ 0 ∷ 0 ∷ 0 ∷ 0 ∷ 0 ∷ 0 ∷ [];
-  whole = refl;
-  short =
-      omega arith;
-  zeros = refl;
-}
+use Rattle.arj_protocol.proofs.RowWords.{u, b, does, at, text, l_A, l_B, l_C, l_D, l_N, l_S, l_T}
 
 header_empty : Header
-header_empty = record { nodes = 1; objects = record { x = 1; value = (value.Counter 0); servers = 1 ∷ []; stores = 1 ∷ [] } ∷ [] }
+header_empty = record { nodes = 1; objects = record { x = 1; value = (value.Counter 0); servers = 1 ∷ []; stores = 1 ∷ [] } ∷ []; format = format.Two }
 
 script_empty : List Asked
 script_empty =
@@ -116,11 +27,11 @@ script_empty =
 -- header and no event: an empty journal
 empty : journal header_empty script_empty ≡
     []
-unfolding u b does stops at text header_empty script_empty
+unfolding header_empty script_empty
 empty = refl
 
 header_smallest : Header
-header_smallest = record { nodes = 1; objects = record { x = 1; value = (value.Counter 0); servers = 1 ∷ []; stores = 1 ∷ [] } ∷ [] }
+header_smallest = record { nodes = 1; objects = record { x = 1; value = (value.Counter 0); servers = 1 ∷ []; stores = 1 ∷ [] } ∷ []; format = format.Two }
 
 script_smallest : List Asked
 script_smallest =
@@ -134,11 +45,11 @@ smallest : journal header_smallest script_smallest ≡
     ++ at 4 (body.Began l_B kind.Top (u 1 1 2) None ∷ [])
     ++ at 5 (body.Granted 1 (u 1 1 2) (entry 1) mode.Read ∷ body.Granted 1 (u 1 1 2) (object 1) mode.Read ∷ body.Ok l_B 1 op.Get (text (answer.Number 5)) ∷ [])
     ++ at 6 (body.Committing l_B ∷ body.Committed l_B ∷ body.Told 1 (u 1 1 2) ending.Commit part.Naming ∷ body.Told 1 (u 1 1 2) ending.Commit part.Server ∷ [])
-unfolding u b does stops at text header_smallest script_smallest l_A l_B
+unfolding header_smallest script_smallest
 smallest = refl
 
 header_conflict : Header
-header_conflict = record { nodes = 1; objects = record { x = 1; value = (value.Counter 0); servers = 1 ∷ []; stores = 1 ∷ [] } ∷ [] }
+header_conflict = record { nodes = 1; objects = record { x = 1; value = (value.Counter 0); servers = 1 ∷ []; stores = 1 ∷ [] } ∷ []; format = format.Two }
 
 script_conflict : List Asked
 script_conflict =
@@ -155,12 +66,12 @@ conflict : journal header_conflict script_conflict ≡
     ++ at 6 (body.Granted 1 (u 1 1 2) (object 1) mode.Write ∷ body.Ok l_B 1 (op.Add 3) (text answer.Done) ∷ [])
     ++ at 7 (body.Committing l_B ∷ body.Prepared 1 (u 1 1 2) role.Store ∷ body.Committed l_B ∷ body.Done 1 (u 1 1 2) role.Store ending.Commit ∷ body.Told 1 (u 1 1 2) ending.Commit part.Naming ∷ body.Told 1 (u 1 1 2) ending.Commit part.Server ∷ [])
     ++ at 8 (body.Entry 1 0 (1 ∷ []) (1 ∷ []) ∷ body.Copy 1 1 2 (u 1 1 2) (0 ∷ 0 ∷ 0 ∷ 0 ∷ 0 ∷ 0 ∷ 0 ∷ 5 ∷ []) ∷ [])
-unfolding u b does stops at text header_conflict script_conflict l_A l_B
+unfolding header_conflict script_conflict
 conflict = refl
 
 header_types_end : Header
 header_types_end =
-    record { nodes = 1; objects = record { x = 1; value = (value.Counter 18446744073709551615); servers = 1 ∷ []; stores = 1 ∷ [] } ∷ [] }
+    record { nodes = 1; objects = record { x = 1; value = (value.Counter 18446744073709551615); servers = 1 ∷ []; stores = 1 ∷ [] } ∷ []; format = format.Two }
 
 script_types_end : List Asked
 script_types_end =
@@ -172,11 +83,11 @@ types_end : journal header_types_end script_types_end ≡
     ++ at 2 (body.Granted 1 (u 1 1 1) (entry 1) mode.Write ∷ body.Bound 1 (b 1 1) 1 ∷ body.Active 1 1 (b 1 1) ∷ body.Lowered 1 (u 1 1 1) (entry 1) ∷ body.Granted 1 (u 1 1 1) (object 1) mode.Write ∷ body.Ok l_A 1 (op.Add 1) (text answer.Over) ∷ [])
     ++ at 3 (body.Committing l_A ∷ body.Prepared 1 (u 1 1 1) role.Store ∷ body.Committed l_A ∷ body.Done 1 (u 1 1 1) role.Store ending.Commit ∷ body.Told 1 (u 1 1 1) ending.Commit part.Naming ∷ body.Told 1 (u 1 1 1) ending.Commit part.Server ∷ [])
     ++ at 4 (body.Entry 1 0 (1 ∷ []) (1 ∷ []) ∷ body.Copy 1 1 1 (u 1 1 1) (255 ∷ 255 ∷ 255 ∷ 255 ∷ 255 ∷ 255 ∷ 255 ∷ 255 ∷ []) ∷ [])
-unfolding u b does stops at text header_types_end script_types_end l_A
+unfolding header_types_end script_types_end
 types_end = refl
 
 header_nested_abort : Header
-header_nested_abort = record { nodes = 1; objects = record { x = 1; value = (value.Counter 0); servers = 1 ∷ []; stores = 1 ∷ [] } ∷ [] }
+header_nested_abort = record { nodes = 1; objects = record { x = 1; value = (value.Counter 0); servers = 1 ∷ []; stores = 1 ∷ [] } ∷ []; format = format.Two }
 
 script_nested_abort : List Asked
 script_nested_abort =
@@ -192,11 +103,11 @@ nested_abort : journal header_nested_abort script_nested_abort ≡
     ++ at 5 (body.Aborted l_N cause.Asked ∷ body.Told 1 (u 1 1 2) ending.Abort part.Server ∷ [])
     ++ at 6 (body.Ok l_A 1 op.Get (text (answer.Number 4)) ∷ [])
     ++ at 7 (body.Committing l_A ∷ body.Prepared 1 (u 1 1 1) role.Store ∷ body.Committed l_A ∷ body.Done 1 (u 1 1 1) role.Store ending.Commit ∷ body.Told 1 (u 1 1 1) ending.Commit part.Naming ∷ body.Told 1 (u 1 1 1) ending.Commit part.Server ∷ [])
-unfolding u b does stops at text header_nested_abort script_nested_abort l_A l_N
+unfolding header_nested_abort script_nested_abort
 nested_abort = refl
 
 header_older_image : Header
-header_older_image = record { nodes = 1; objects = record { x = 1; value = (value.Counter 7); servers = 1 ∷ []; stores = 1 ∷ [] } ∷ [] }
+header_older_image = record { nodes = 1; objects = record { x = 1; value = (value.Counter 7); servers = 1 ∷ []; stores = 1 ∷ [] } ∷ []; format = format.Two }
 
 script_older_image : List Asked
 script_older_image =
@@ -215,11 +126,11 @@ older_image : journal header_older_image script_older_image ≡
     ++ at 8 (body.Aborted l_A cause.Asked ∷ body.Told 1 (u 1 1 1) ending.Abort part.Naming ∷ body.Told 1 (u 1 1 1) ending.Abort part.Server ∷ [])
     ++ at 9 (body.Began l_B kind.Top (u 1 1 4) None ∷ [])
     ++ at 10 (body.Granted 1 (u 1 1 4) (entry 1) mode.Read ∷ body.Granted 1 (u 1 1 4) (object 1) mode.Read ∷ body.Ok l_B 1 op.Get (text (answer.Number 7)) ∷ [])
-unfolding u b does stops at text header_older_image script_older_image l_A l_C l_D l_B
+unfolding header_older_image script_older_image
 older_image = refl
 
 header_independent : Header
-header_independent = record { nodes = 1; objects = record { x = 1; value = (value.Counter 0); servers = 1 ∷ []; stores = 1 ∷ [] } ∷ [] }
+header_independent = record { nodes = 1; objects = record { x = 1; value = (value.Counter 0); servers = 1 ∷ []; stores = 1 ∷ [] } ∷ []; format = format.Two }
 
 script_independent : List Asked
 script_independent =
@@ -232,11 +143,11 @@ independent : journal header_independent script_independent ≡
     ++ at 3 (body.Began l_T kind.Independent (u 1 1 2) (Some l_A) ∷ [])
     ++ at 4 (body.Granted 1 (u 1 1 2) (entry 1) mode.Read ∷ body.Conflict l_T (u 1 1 1) mode.Read 1 ∷ [])
     ++ at 5 (body.Aborted l_T cause.Asked ∷ body.Told 1 (u 1 1 2) ending.Abort part.Naming ∷ [])
-unfolding u b does stops at text header_independent script_independent l_A l_T
+unfolding header_independent script_independent
 independent = refl
 
 header_serializing : Header
-header_serializing = record { nodes = 1; objects = record { x = 1; value = (value.Counter 0); servers = 1 ∷ []; stores = 1 ∷ [] } ∷ [] }
+header_serializing = record { nodes = 1; objects = record { x = 1; value = (value.Counter 0); servers = 1 ∷ []; stores = 1 ∷ [] } ∷ []; format = format.Two }
 
 script_serializing : List Asked
 script_serializing =
@@ -256,5 +167,34 @@ serializing : journal header_serializing script_serializing ≡
     ++ at 9 (body.Committing l_D ∷ body.Prepared 1 (u 1 1 4) role.Store ∷ body.Committed l_D ∷ body.Done 1 (u 1 1 4) role.Store ending.Commit ∷ body.Told 1 (u 1 1 4) ending.Commit part.Server ∷ [])
     ++ at 10 (body.Aborted l_S cause.Asked ∷ body.Told 1 (u 1 1 1) ending.Abort part.Naming ∷ body.Told 1 (u 1 1 1) ending.Abort part.Server ∷ [])
     ++ at 11 (body.Granted 1 (u 1 1 3) (object 1) mode.Read ∷ body.Ok l_B 1 op.Get (text (answer.Number 2)) ∷ [])
-unfolding u b does stops at text header_serializing script_serializing l_S l_C l_B l_D
+unfolding header_serializing script_serializing
 serializing = refl
+
+header_gone : Header
+header_gone = record { nodes = 1; objects = record { x = 1; value = (value.Gone class.Counter); servers = 1 ∷ []; stores = 1 ∷ [] } ∷ []; format = format.Two }
+
+script_gone : List Asked
+script_gone =
+    does (event.Begin l_A 1) ∷ does (event.Call l_A 1 op.Get) ∷ does (event.Call l_A 1 (op.Create (value.Queue (1 ∷ [])))) ∷
+    does (event.Call l_A 1 (op.Create (value.Counter 7))) ∷ does (event.BeginIn l_N l_A) ∷ does (event.Call l_N 1 op.Destroy) ∷ does (event.Abort l_N) ∷
+    does (event.Call l_A 1 (op.Create (value.Counter 9))) ∷ does (event.Commit l_A) ∷ does (event.Show 1) ∷ does (event.Begin l_B 1) ∷
+    does (event.Call l_B 1 op.Destroy) ∷ does (event.Commit l_B) ∷ does (event.Show 1) ∷ []
+
+-- an object that is gone at first is created, destroyed in a nested action that aborts, and destroyed again
+gone : journal header_gone script_gone ≡
+    at 1 (body.Began l_A kind.Top (u 1 1 1) None ∷ [])
+    ++ at 2 (body.Granted 1 (u 1 1 1) (entry 1) mode.Write ∷ body.Bound 1 (b 1 1) 1 ∷ body.Active 1 1 (b 1 1) ∷ body.Lowered 1 (u 1 1 1) (entry 1) ∷ body.Granted 1 (u 1 1 1) (object 1) mode.Read ∷ body.Ok l_A 1 op.Get (text answer.Gone) ∷ [])
+    ++ at 3 (body.Refused 14 ∷ [])
+    ++ at 4 (body.Granted 1 (u 1 1 1) (object 1) mode.Write ∷ body.Ok l_A 1 (op.Create (value.Counter 7)) (text answer.Done) ∷ [])
+    ++ at 5 (body.Began l_N kind.Nested (u 1 1 2) (Some l_A) ∷ [])
+    ++ at 6 (body.Granted 1 (u 1 1 2) (object 1) mode.Write ∷ body.Ok l_N 1 op.Destroy (text answer.Done) ∷ [])
+    ++ at 7 (body.Aborted l_N cause.Asked ∷ body.Told 1 (u 1 1 2) ending.Abort part.Server ∷ [])
+    ++ at 8 (body.Ok l_A 1 (op.Create (value.Counter 9)) (text answer.There) ∷ [])
+    ++ at 9 (body.Committing l_A ∷ body.Prepared 1 (u 1 1 1) role.Store ∷ body.Committed l_A ∷ body.Done 1 (u 1 1 1) role.Store ending.Commit ∷ body.Told 1 (u 1 1 1) ending.Commit part.Naming ∷ body.Told 1 (u 1 1 1) ending.Commit part.Server ∷ [])
+    ++ at 10 (body.Entry 1 0 (1 ∷ []) (1 ∷ []) ∷ body.Copy 1 1 1 (u 1 1 1) (0 ∷ 0 ∷ 0 ∷ 0 ∷ 0 ∷ 0 ∷ 0 ∷ 7 ∷ []) ∷ [])
+    ++ at 11 (body.Began l_B kind.Top (u 1 1 3) None ∷ [])
+    ++ at 12 (body.Granted 1 (u 1 1 3) (entry 1) mode.Read ∷ body.Granted 1 (u 1 1 3) (object 1) mode.Write ∷ body.Ok l_B 1 op.Destroy (text answer.Done) ∷ [])
+    ++ at 13 (body.Committing l_B ∷ body.Prepared 1 (u 1 1 3) role.Store ∷ body.Committed l_B ∷ body.Done 1 (u 1 1 3) role.Store ending.Commit ∷ body.Told 1 (u 1 1 3) ending.Commit part.Naming ∷ body.Told 1 (u 1 1 3) ending.Commit part.Server ∷ [])
+    ++ at 14 (body.Entry 1 0 (1 ∷ []) (1 ∷ []) ∷ body.Copy 1 1 2 (u 1 1 3) (1 ∷ []) ∷ [])
+unfolding header_gone script_gone
+gone = refl

@@ -1,11 +1,11 @@
 -- Whole runs, by computation: the journal of each script is known line by line.
-use Rattle.std.specs.Prelude.{◌≡◌, refl, ℕ, List, [], ◌∷◌, ◌++◌, map, true, Some, None}
-use Rattle.std.proofs.Common.{arith}
-use Rattle.arj_protocol.specs.Words.{Uid, Binding, Label, Answer, Event, Body, Line, Header, answer_text, object, entry}
+use Rattle.std.specs.Prelude.{◌≡◌, refl, List, [], ◌∷◌, ◌++◌, true, Some, None}
+use Rattle.arj_protocol.specs.Words.{Header, object, entry}
 use Rattle.arj_protocol.specs.Words.mode
 use Rattle.arj_protocol.specs.Words.ending
 use Rattle.arj_protocol.specs.Words.op
 use Rattle.arj_protocol.specs.Words.answer
+use Rattle.arj_protocol.specs.Words.format
 use Rattle.arj_protocol.specs.Words.value
 use Rattle.arj_protocol.specs.Words.body
 use Rattle.arj_protocol.specs.Words.kind
@@ -17,71 +17,12 @@ use Rattle.arj_protocol.specs.Words.frame
 use Rattle.arj_protocol.specs.Words.event
 use Rattle.arj_protocol.specs.Words.frame_no
 use Rattle.arj_protocol.specs.Words.stop_kind
-use Rattle.arj_protocol.specs.Effect.{Stop, Before, After}
+use Rattle.arj_protocol.specs.Effect.{Before, After}
 use Rattle.arj_protocol.specs.World.{Asked, journal}
-
-u : ℕ → ℕ → ℕ → Uid
-u n i k = record { node = n; inc = i; num = k }
-
-b : ℕ → ℕ → Binding
-b i n = record { inc = i; count = n }
-
--- an event, and a disk that is armed with how it will stop
-does : Event → Asked
-does e = record { event = e; arm = record { works = 0; how = Before } }
-
-stops : Event → ℕ → Stop → Asked
-stops e k how = record { event = e; arm = record { works = k; how = how } }
-
--- the lines of an event
-at : ℕ → List Body → List Line
-at k bodies = map (λ s. record { event = k; body = s }) bodies
-
-text : Answer → List ℕ
-text a = answer_text a
-
-l_A : Label
-l_A = record {
-  len = 1;
-  text = 65 ∷ 0 ∷ 0 ∷ 0 ∷ 0 ∷ 0 ∷ 0 ∷ 0 ∷ 0 ∷ 0 ∷ 0 ∷ 0 ∷ 0 ∷ 0 ∷ 0 ∷ 0 ∷ [];
-  whole = refl;
-  short =
-      omega arith;
-  zeros = refl;
-}
-
-l_B : Label
-l_B = record {
-  len = 1;
-  text = 66 ∷ 0 ∷ 0 ∷ 0 ∷ 0 ∷ 0 ∷ 0 ∷ 0 ∷ 0 ∷ 0 ∷ 0 ∷ 0 ∷ 0 ∷ 0 ∷ 0 ∷ 0 ∷ [];
-  whole = refl;
-  short =
-      omega arith;
-  zeros = refl;
-}
-
-l_S : Label
-l_S = record {
-  len = 1;
-  text = 83 ∷ 0 ∷ 0 ∷ 0 ∷ 0 ∷ 0 ∷ 0 ∷ 0 ∷ 0 ∷ 0 ∷ 0 ∷ 0 ∷ 0 ∷ 0 ∷ 0 ∷ 0 ∷ [];
-  whole = refl;
-  short =
-      omega arith;
-  zeros = refl;
-}
-
-l_C : Label
-l_C = record {
-  len = 1;
-  text = 67 ∷ 0 ∷ 0 ∷ 0 ∷ 0 ∷ 0 ∷ 0 ∷ 0 ∷ 0 ∷ 0 ∷ 0 ∷ 0 ∷ 0 ∷ 0 ∷ 0 ∷ 0 ∷ [];
-  whole = refl;
-  short =
-      omega arith;
-  zeros = refl;
-}
+use Rattle.arj_protocol.proofs.RowWords.{u, b, does, stops, at, text, l_A, l_B, l_C, l_S}
 
 header_lost_lock : Header
-header_lost_lock = record { nodes = 2; objects = record { x = 1; value = (value.Counter 0); servers = 2 ∷ []; stores = 1 ∷ [] } ∷ [] }
+header_lost_lock = record { nodes = 2; objects = record { x = 1; value = (value.Counter 0); servers = 2 ∷ []; stores = 1 ∷ [] } ∷ []; format = format.Two }
 
 script_lost_lock : List Asked
 script_lost_lock =
@@ -96,12 +37,12 @@ lost_lock : journal header_lost_lock script_lost_lock ≡
     ++ at 5 (body.Up 2 2 ∷ body.Sent 5 2 1 frame.Hello ∷ [])
     ++ at 6 (body.Committing l_A ∷ body.Sent 6 1 2 frame.Vote ∷ [])
     ++ at 7 (body.Got 5 ∷ body.Got 6 ∷ body.Sent 7 2 1 frame.Voted ∷ body.Got 7 ∷ body.Aborted l_A (cause.Changed 2 (difference.Inc 1 2)) ∷ body.Sent 8 1 2 frame.Told ∷ body.Told 1 (u 1 1 1) ending.Abort part.Naming ∷ body.Got 8 ∷ [])
-unfolding u b does stops at text header_lost_lock script_lost_lock l_A
+unfolding header_lost_lock script_lost_lock
 lost_lock = refl
 
 header_naming_stopped : Header
 header_naming_stopped =
-    record { nodes = 4; objects = record { x = 1; value = (value.Counter 0); servers = 2 ∷ []; stores = 3 ∷ 4 ∷ [] } ∷ [] }
+    record { nodes = 4; objects = record { x = 1; value = (value.Counter 0); servers = 2 ∷ []; stores = 3 ∷ 4 ∷ [] } ∷ []; format = format.Two }
 
 script_naming_stopped : List Asked
 script_naming_stopped =
@@ -130,12 +71,12 @@ naming_stopped : journal header_naming_stopped script_naming_stopped ≡
     ++ at 16 (body.Got 21 ∷ body.Conflict l_B (u 2 1 1) mode.Exclude 1 ∷ [])
     ++ at 17 (body.Got 16 ∷ body.Sent 22 2 1 frame.Told ∷ body.Got 17 ∷ body.Got 18 ∷ body.Got 19 ∷ body.Got 22 ∷ body.Done 1 (u 2 1 1) role.Names ending.Commit ∷ body.Told 1 (u 2 1 1) ending.Commit part.Naming ∷ body.Sent 23 1 2 frame.Acked ∷ body.Got 23 ∷ body.Quiet true ∷ [])
     ++ at 18 (body.Entry 1 1 (2 ∷ []) (3 ∷ []) ∷ body.Copy 3 1 1 (u 2 1 1) (0 ∷ 0 ∷ 0 ∷ 0 ∷ 0 ∷ 0 ∷ 0 ∷ 1 ∷ []) ∷ body.Copy 4 1 0 (u 0 0 0) (0 ∷ 0 ∷ 0 ∷ 0 ∷ 0 ∷ 0 ∷ 0 ∷ 0 ∷ []) ∷ [])
-unfolding u b does stops at text header_naming_stopped script_naming_stopped l_A l_B
+unfolding header_naming_stopped script_naming_stopped
 naming_stopped = refl
 
 header_serializing_waits_for_records : Header
 header_serializing_waits_for_records =
-    record { nodes = 2; objects = record { x = 1; value = (value.Counter 0); servers = 2 ∷ []; stores = 1 ∷ [] } ∷ [] }
+    record { nodes = 2; objects = record { x = 1; value = (value.Counter 0); servers = 2 ∷ []; stores = 1 ∷ [] } ∷ []; format = format.Two }
 
 script_serializing_waits_for_records : List Asked
 script_serializing_waits_for_records =
@@ -158,12 +99,12 @@ serializing_waits_for_records : journal header_serializing_waits_for_records scr
     ++ at 11 (body.Began l_B kind.Top (u 1 1 3) None ∷ [])
     ++ at 12 (body.Granted 1 (u 1 1 3) (entry 1) mode.Read ∷ body.Sent 14 1 2 frame.Invoke ∷ [])
     ++ at 13 (body.Got 14 ∷ body.Granted 2 (u 1 1 3) (object 1) mode.Read ∷ body.Sent 15 2 1 frame.Invoked ∷ body.Got 15 ∷ body.Ok l_B 1 op.Get (text (answer.Number 5)) ∷ [])
-unfolding u b does stops at text header_serializing_waits_for_records script_serializing_waits_for_records l_S l_C l_B
+unfolding header_serializing_waits_for_records script_serializing_waits_for_records
 serializing_waits_for_records = refl
 
 header_stop_at_decision_undone : Header
 header_stop_at_decision_undone =
-    record { nodes = 3; objects = record { x = 1; value = (value.Counter 0); servers = 1 ∷ []; stores = 2 ∷ 3 ∷ [] } ∷ [] }
+    record { nodes = 3; objects = record { x = 1; value = (value.Counter 0); servers = 1 ∷ []; stores = 2 ∷ 3 ∷ [] } ∷ []; format = format.Two }
 
 script_stop_at_decision_undone : List Asked
 script_stop_at_decision_undone =
@@ -181,12 +122,12 @@ stop_at_decision_undone : journal header_stop_at_decision_undone script_stop_at_
     ++ at 7 (body.Up 1 2 ∷ body.Sent 7 1 2 frame.Hello ∷ body.Sent 8 1 3 frame.Hello ∷ [])
     ++ at 8 (body.Got 7 ∷ body.Sent 9 2 1 frame.Query ∷ body.Got 8 ∷ body.Sent 10 3 1 frame.Query ∷ body.Got 9 ∷ body.Sent 11 1 2 frame.Told ∷ body.Got 10 ∷ body.Sent 12 1 3 frame.Told ∷ body.Got 11 ∷ body.Done 2 (u 1 1 1) role.Store ending.Abort ∷ body.Got 12 ∷ body.Done 3 (u 1 1 1) role.Store ending.Abort ∷ body.Quiet true ∷ [])
     ++ at 9 (body.Entry 1 0 (1 ∷ []) (2 ∷ 3 ∷ []) ∷ body.Copy 2 1 0 (u 0 0 0) (0 ∷ 0 ∷ 0 ∷ 0 ∷ 0 ∷ 0 ∷ 0 ∷ 0 ∷ []) ∷ body.Copy 3 1 0 (u 0 0 0) (0 ∷ 0 ∷ 0 ∷ 0 ∷ 0 ∷ 0 ∷ 0 ∷ 0 ∷ []) ∷ [])
-unfolding u b does stops at text header_stop_at_decision_undone script_stop_at_decision_undone l_A
+unfolding header_stop_at_decision_undone script_stop_at_decision_undone
 stop_at_decision_undone = refl
 
 header_stop_at_decision_done : Header
 header_stop_at_decision_done =
-    record { nodes = 3; objects = record { x = 1; value = (value.Counter 0); servers = 1 ∷ []; stores = 2 ∷ 3 ∷ [] } ∷ [] }
+    record { nodes = 3; objects = record { x = 1; value = (value.Counter 0); servers = 1 ∷ []; stores = 2 ∷ 3 ∷ [] } ∷ []; format = format.Two }
 
 script_stop_at_decision_done : List Asked
 script_stop_at_decision_done =
@@ -204,11 +145,11 @@ stop_at_decision_done : journal header_stop_at_decision_done script_stop_at_deci
     ++ at 7 (body.Up 1 2 ∷ body.Recovered 1 (u 1 1 1) ∷ body.Sent 7 1 2 frame.Told ∷ body.Sent 8 1 3 frame.Told ∷ body.Sent 9 1 2 frame.Hello ∷ body.Sent 10 1 3 frame.Hello ∷ [])
     ++ at 8 (body.Got 7 ∷ body.Done 2 (u 1 1 1) role.Store ending.Commit ∷ body.Sent 11 2 1 frame.Acked ∷ body.Got 8 ∷ body.Done 3 (u 1 1 1) role.Store ending.Commit ∷ body.Sent 12 3 1 frame.Acked ∷ body.Got 9 ∷ body.Got 10 ∷ body.Got 11 ∷ body.Got 12 ∷ body.Quiet true ∷ [])
     ++ at 9 (body.Entry 1 0 (1 ∷ []) (2 ∷ 3 ∷ []) ∷ body.Copy 2 1 1 (u 1 1 1) (0 ∷ 0 ∷ 0 ∷ 0 ∷ 0 ∷ 0 ∷ 0 ∷ 1 ∷ []) ∷ body.Copy 3 1 1 (u 1 1 1) (0 ∷ 0 ∷ 0 ∷ 0 ∷ 0 ∷ 0 ∷ 0 ∷ 1 ∷ []) ∷ [])
-unfolding u b does stops at text header_stop_at_decision_done script_stop_at_decision_done l_A
+unfolding header_stop_at_decision_done script_stop_at_decision_done
 stop_at_decision_done = refl
 
 header_torn_write : Header
-header_torn_write = record { nodes = 2; objects = record { x = 1; value = (value.Counter 0); servers = 1 ∷ []; stores = 2 ∷ [] } ∷ [] }
+header_torn_write = record { nodes = 2; objects = record { x = 1; value = (value.Counter 0); servers = 1 ∷ []; stores = 2 ∷ [] } ∷ []; format = format.Two }
 
 script_torn_write : List Asked
 script_torn_write =
@@ -226,5 +167,5 @@ torn_write : journal header_torn_write script_torn_write ≡
     ++ at 7 (body.Up 2 2 ∷ body.Sent 4 2 1 frame.Hello ∷ [])
     ++ at 8 (body.Entry 1 0 (1 ∷ []) (2 ∷ []) ∷ body.Copy 2 1 0 (u 0 0 0) (0 ∷ 0 ∷ 0 ∷ 0 ∷ 0 ∷ 0 ∷ 0 ∷ 0 ∷ []) ∷ [])
     ++ at 9 (body.Got 4 ∷ body.Sent 5 1 2 frame.Prepare ∷ body.Got 5 ∷ body.Prepared 2 (u 1 1 1) role.Store ∷ body.Sent 6 2 1 frame.Prepared ∷ body.Got 6 ∷ body.Committed l_A ∷ body.Sent 7 1 2 frame.Told ∷ body.Told 1 (u 1 1 1) ending.Commit part.Naming ∷ body.Told 1 (u 1 1 1) ending.Commit part.Server ∷ body.Got 7 ∷ body.Done 2 (u 1 1 1) role.Store ending.Commit ∷ body.Sent 8 2 1 frame.Acked ∷ body.Got 8 ∷ body.Quiet true ∷ [])
-unfolding u b does stops at text header_torn_write script_torn_write l_A
+unfolding header_torn_write script_torn_write
 torn_write = refl

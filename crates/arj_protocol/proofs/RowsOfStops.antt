@@ -1,11 +1,11 @@
 -- Whole runs, by computation: the journal of each script is known line by line.
-use Rattle.std.specs.Prelude.{◌≡◌, refl, ℕ, List, [], ◌∷◌, ◌++◌, map, true, None}
-use Rattle.std.proofs.Common.{arith}
-use Rattle.arj_protocol.specs.Words.{Uid, Binding, Label, Answer, Event, Body, Line, Header, answer_text, object, entry}
+use Rattle.std.specs.Prelude.{◌≡◌, refl, List, [], ◌∷◌, ◌++◌, true, None}
+use Rattle.arj_protocol.specs.Words.{Header, object, entry}
 use Rattle.arj_protocol.specs.Words.mode
 use Rattle.arj_protocol.specs.Words.ending
 use Rattle.arj_protocol.specs.Words.op
 use Rattle.arj_protocol.specs.Words.answer
+use Rattle.arj_protocol.specs.Words.format
 use Rattle.arj_protocol.specs.Words.value
 use Rattle.arj_protocol.specs.Words.body
 use Rattle.arj_protocol.specs.Words.kind
@@ -14,42 +14,13 @@ use Rattle.arj_protocol.specs.Words.role
 use Rattle.arj_protocol.specs.Words.frame
 use Rattle.arj_protocol.specs.Words.event
 use Rattle.arj_protocol.specs.Words.stop_kind
-use Rattle.arj_protocol.specs.Effect.{Stop, Before}
+use Rattle.arj_protocol.specs.Effect.{Before}
 use Rattle.arj_protocol.specs.World.{Asked, journal}
-
-u : ℕ → ℕ → ℕ → Uid
-u n i k = record { node = n; inc = i; num = k }
-
-b : ℕ → ℕ → Binding
-b i n = record { inc = i; count = n }
-
--- an event, and a disk that is armed with how it will stop
-does : Event → Asked
-does e = record { event = e; arm = record { works = 0; how = Before } }
-
-stops : Event → ℕ → Stop → Asked
-stops e k how = record { event = e; arm = record { works = k; how = how } }
-
--- the lines of an event
-at : ℕ → List Body → List Line
-at k bodies = map (λ s. record { event = k; body = s }) bodies
-
-text : Answer → List ℕ
-text a = answer_text a
-
-l_A : Label
-l_A = record {
-  len = 1;
-  text = 65 ∷ 0 ∷ 0 ∷ 0 ∷ 0 ∷ 0 ∷ 0 ∷ 0 ∷ 0 ∷ 0 ∷ 0 ∷ 0 ∷ 0 ∷ 0 ∷ 0 ∷ 0 ∷ [];
-  whole = refl;
-  short =
-      omega arith;
-  zeros = refl;
-}
+use Rattle.arj_protocol.proofs.RowWords.{u, b, does, stops, at, text, l_A}
 
 header_store_stops_at_read_undone : Header
 header_store_stops_at_read_undone =
-    record { nodes = 3; objects = record { x = 1; value = (value.Counter 0); servers = 1 ∷ []; stores = 2 ∷ 3 ∷ [] } ∷ [] }
+    record { nodes = 3; objects = record { x = 1; value = (value.Counter 0); servers = 1 ∷ []; stores = 2 ∷ 3 ∷ [] } ∷ []; format = format.Two }
 
 script_store_stops_at_read_undone : List Asked
 script_store_stops_at_read_undone =
@@ -67,12 +38,12 @@ store_stops_at_read_undone : journal header_store_stops_at_read_undone script_st
     ++ at 7 (body.Up 2 2 ∷ body.Sent 6 2 1 frame.Hello ∷ body.Sent 7 2 3 frame.Hello ∷ [])
     ++ at 8 (body.Got 6 ∷ body.Got 7 ∷ body.Sent 8 1 2 frame.Prepare ∷ body.Sent 9 3 1 frame.Query ∷ body.Got 8 ∷ body.Prepared 2 (u 1 1 1) role.Store ∷ body.Sent 10 2 1 frame.Prepared ∷ body.Got 9 ∷ body.Got 10 ∷ body.Committed l_A ∷ body.Sent 11 1 2 frame.Told ∷ body.Sent 12 1 3 frame.Told ∷ body.Told 1 (u 1 1 1) ending.Commit part.Naming ∷ body.Told 1 (u 1 1 1) ending.Commit part.Server ∷ body.Got 11 ∷ body.Done 2 (u 1 1 1) role.Store ending.Commit ∷ body.Sent 13 2 1 frame.Acked ∷ body.Got 12 ∷ body.Done 3 (u 1 1 1) role.Store ending.Commit ∷ body.Sent 14 3 1 frame.Acked ∷ body.Got 13 ∷ body.Got 14 ∷ body.Quiet true ∷ [])
     ++ at 9 (body.Entry 1 0 (1 ∷ []) (2 ∷ 3 ∷ []) ∷ body.Copy 2 1 1 (u 1 1 1) (0 ∷ 0 ∷ 0 ∷ 0 ∷ 0 ∷ 0 ∷ 0 ∷ 1 ∷ []) ∷ body.Copy 3 1 1 (u 1 1 1) (0 ∷ 0 ∷ 0 ∷ 0 ∷ 0 ∷ 0 ∷ 0 ∷ 1 ∷ []) ∷ [])
-unfolding u b does stops at text header_store_stops_at_read_undone script_store_stops_at_read_undone l_A
+unfolding header_store_stops_at_read_undone script_store_stops_at_read_undone
 store_stops_at_read_undone = refl
 
 header_store_stops_at_read_done : Header
 header_store_stops_at_read_done =
-    record { nodes = 3; objects = record { x = 1; value = (value.Counter 0); servers = 1 ∷ []; stores = 2 ∷ 3 ∷ [] } ∷ [] }
+    record { nodes = 3; objects = record { x = 1; value = (value.Counter 0); servers = 1 ∷ []; stores = 2 ∷ 3 ∷ [] } ∷ []; format = format.Two }
 
 script_store_stops_at_read_done : List Asked
 script_store_stops_at_read_done =
@@ -90,12 +61,12 @@ store_stops_at_read_done : journal header_store_stops_at_read_done script_store_
     ++ at 7 (body.Up 2 2 ∷ body.Sent 6 2 1 frame.Hello ∷ body.Sent 7 2 3 frame.Hello ∷ [])
     ++ at 8 (body.Got 6 ∷ body.Got 7 ∷ body.Sent 8 1 2 frame.Prepare ∷ body.Sent 9 3 1 frame.Query ∷ body.Got 8 ∷ body.Prepared 2 (u 1 1 1) role.Store ∷ body.Sent 10 2 1 frame.Prepared ∷ body.Got 9 ∷ body.Got 10 ∷ body.Committed l_A ∷ body.Sent 11 1 2 frame.Told ∷ body.Sent 12 1 3 frame.Told ∷ body.Told 1 (u 1 1 1) ending.Commit part.Naming ∷ body.Told 1 (u 1 1 1) ending.Commit part.Server ∷ body.Got 11 ∷ body.Done 2 (u 1 1 1) role.Store ending.Commit ∷ body.Sent 13 2 1 frame.Acked ∷ body.Got 12 ∷ body.Done 3 (u 1 1 1) role.Store ending.Commit ∷ body.Sent 14 3 1 frame.Acked ∷ body.Got 13 ∷ body.Got 14 ∷ body.Quiet true ∷ [])
     ++ at 9 (body.Entry 1 0 (1 ∷ []) (2 ∷ 3 ∷ []) ∷ body.Copy 2 1 1 (u 1 1 1) (0 ∷ 0 ∷ 0 ∷ 0 ∷ 0 ∷ 0 ∷ 0 ∷ 1 ∷ []) ∷ body.Copy 3 1 1 (u 1 1 1) (0 ∷ 0 ∷ 0 ∷ 0 ∷ 0 ∷ 0 ∷ 0 ∷ 1 ∷ []) ∷ [])
-unfolding u b does stops at text header_store_stops_at_read_done script_store_stops_at_read_done l_A
+unfolding header_store_stops_at_read_done script_store_stops_at_read_done
 store_stops_at_read_done = refl
 
 header_store_stops_at_read_torn : Header
 header_store_stops_at_read_torn =
-    record { nodes = 3; objects = record { x = 1; value = (value.Counter 0); servers = 1 ∷ []; stores = 2 ∷ 3 ∷ [] } ∷ [] }
+    record { nodes = 3; objects = record { x = 1; value = (value.Counter 0); servers = 1 ∷ []; stores = 2 ∷ 3 ∷ [] } ∷ []; format = format.Two }
 
 script_store_stops_at_read_torn : List Asked
 script_store_stops_at_read_torn =
@@ -113,12 +84,12 @@ store_stops_at_read_torn : journal header_store_stops_at_read_torn script_store_
     ++ at 7 (body.Up 2 2 ∷ body.Sent 6 2 1 frame.Hello ∷ body.Sent 7 2 3 frame.Hello ∷ [])
     ++ at 8 (body.Got 6 ∷ body.Got 7 ∷ body.Sent 8 1 2 frame.Prepare ∷ body.Sent 9 3 1 frame.Query ∷ body.Got 8 ∷ body.Prepared 2 (u 1 1 1) role.Store ∷ body.Sent 10 2 1 frame.Prepared ∷ body.Got 9 ∷ body.Got 10 ∷ body.Committed l_A ∷ body.Sent 11 1 2 frame.Told ∷ body.Sent 12 1 3 frame.Told ∷ body.Told 1 (u 1 1 1) ending.Commit part.Naming ∷ body.Told 1 (u 1 1 1) ending.Commit part.Server ∷ body.Got 11 ∷ body.Done 2 (u 1 1 1) role.Store ending.Commit ∷ body.Sent 13 2 1 frame.Acked ∷ body.Got 12 ∷ body.Done 3 (u 1 1 1) role.Store ending.Commit ∷ body.Sent 14 3 1 frame.Acked ∷ body.Got 13 ∷ body.Got 14 ∷ body.Quiet true ∷ [])
     ++ at 9 (body.Entry 1 0 (1 ∷ []) (2 ∷ 3 ∷ []) ∷ body.Copy 2 1 1 (u 1 1 1) (0 ∷ 0 ∷ 0 ∷ 0 ∷ 0 ∷ 0 ∷ 0 ∷ 1 ∷ []) ∷ body.Copy 3 1 1 (u 1 1 1) (0 ∷ 0 ∷ 0 ∷ 0 ∷ 0 ∷ 0 ∷ 0 ∷ 1 ∷ []) ∷ [])
-unfolding u b does stops at text header_store_stops_at_read_torn script_store_stops_at_read_torn l_A
+unfolding header_store_stops_at_read_torn script_store_stops_at_read_torn
 store_stops_at_read_torn = refl
 
 header_store_stops_at_write_undone : Header
 header_store_stops_at_write_undone =
-    record { nodes = 3; objects = record { x = 1; value = (value.Counter 0); servers = 1 ∷ []; stores = 2 ∷ 3 ∷ [] } ∷ [] }
+    record { nodes = 3; objects = record { x = 1; value = (value.Counter 0); servers = 1 ∷ []; stores = 2 ∷ 3 ∷ [] } ∷ []; format = format.Two }
 
 script_store_stops_at_write_undone : List Asked
 script_store_stops_at_write_undone =
@@ -136,12 +107,12 @@ store_stops_at_write_undone : journal header_store_stops_at_write_undone script_
     ++ at 7 (body.Up 2 2 ∷ body.Sent 6 2 1 frame.Hello ∷ body.Sent 7 2 3 frame.Hello ∷ [])
     ++ at 8 (body.Got 6 ∷ body.Got 7 ∷ body.Sent 8 1 2 frame.Prepare ∷ body.Sent 9 3 1 frame.Query ∷ body.Got 8 ∷ body.Prepared 2 (u 1 1 1) role.Store ∷ body.Sent 10 2 1 frame.Prepared ∷ body.Got 9 ∷ body.Got 10 ∷ body.Committed l_A ∷ body.Sent 11 1 2 frame.Told ∷ body.Sent 12 1 3 frame.Told ∷ body.Told 1 (u 1 1 1) ending.Commit part.Naming ∷ body.Told 1 (u 1 1 1) ending.Commit part.Server ∷ body.Got 11 ∷ body.Done 2 (u 1 1 1) role.Store ending.Commit ∷ body.Sent 13 2 1 frame.Acked ∷ body.Got 12 ∷ body.Done 3 (u 1 1 1) role.Store ending.Commit ∷ body.Sent 14 3 1 frame.Acked ∷ body.Got 13 ∷ body.Got 14 ∷ body.Quiet true ∷ [])
     ++ at 9 (body.Entry 1 0 (1 ∷ []) (2 ∷ 3 ∷ []) ∷ body.Copy 2 1 1 (u 1 1 1) (0 ∷ 0 ∷ 0 ∷ 0 ∷ 0 ∷ 0 ∷ 0 ∷ 1 ∷ []) ∷ body.Copy 3 1 1 (u 1 1 1) (0 ∷ 0 ∷ 0 ∷ 0 ∷ 0 ∷ 0 ∷ 0 ∷ 1 ∷ []) ∷ [])
-unfolding u b does stops at text header_store_stops_at_write_undone script_store_stops_at_write_undone l_A
+unfolding header_store_stops_at_write_undone script_store_stops_at_write_undone
 store_stops_at_write_undone = refl
 
 header_store_stops_at_write_done : Header
 header_store_stops_at_write_done =
-    record { nodes = 3; objects = record { x = 1; value = (value.Counter 0); servers = 1 ∷ []; stores = 2 ∷ 3 ∷ [] } ∷ [] }
+    record { nodes = 3; objects = record { x = 1; value = (value.Counter 0); servers = 1 ∷ []; stores = 2 ∷ 3 ∷ [] } ∷ []; format = format.Two }
 
 script_store_stops_at_write_done : List Asked
 script_store_stops_at_write_done =
@@ -159,12 +130,12 @@ store_stops_at_write_done : journal header_store_stops_at_write_done script_stor
     ++ at 7 (body.Up 2 2 ∷ body.Sent 6 2 1 frame.Hello ∷ body.Sent 7 2 3 frame.Hello ∷ [])
     ++ at 8 (body.Got 6 ∷ body.Got 7 ∷ body.Sent 8 1 2 frame.Prepare ∷ body.Sent 9 3 1 frame.Query ∷ body.Got 8 ∷ body.Prepared 2 (u 1 1 1) role.Store ∷ body.Sent 10 2 1 frame.Prepared ∷ body.Got 9 ∷ body.Got 10 ∷ body.Committed l_A ∷ body.Sent 11 1 2 frame.Told ∷ body.Sent 12 1 3 frame.Told ∷ body.Told 1 (u 1 1 1) ending.Commit part.Naming ∷ body.Told 1 (u 1 1 1) ending.Commit part.Server ∷ body.Got 11 ∷ body.Done 2 (u 1 1 1) role.Store ending.Commit ∷ body.Sent 13 2 1 frame.Acked ∷ body.Got 12 ∷ body.Done 3 (u 1 1 1) role.Store ending.Commit ∷ body.Sent 14 3 1 frame.Acked ∷ body.Got 13 ∷ body.Got 14 ∷ body.Quiet true ∷ [])
     ++ at 9 (body.Entry 1 0 (1 ∷ []) (2 ∷ 3 ∷ []) ∷ body.Copy 2 1 1 (u 1 1 1) (0 ∷ 0 ∷ 0 ∷ 0 ∷ 0 ∷ 0 ∷ 0 ∷ 1 ∷ []) ∷ body.Copy 3 1 1 (u 1 1 1) (0 ∷ 0 ∷ 0 ∷ 0 ∷ 0 ∷ 0 ∷ 0 ∷ 1 ∷ []) ∷ [])
-unfolding u b does stops at text header_store_stops_at_write_done script_store_stops_at_write_done l_A
+unfolding header_store_stops_at_write_done script_store_stops_at_write_done
 store_stops_at_write_done = refl
 
 header_store_stops_at_write_torn : Header
 header_store_stops_at_write_torn =
-    record { nodes = 3; objects = record { x = 1; value = (value.Counter 0); servers = 1 ∷ []; stores = 2 ∷ 3 ∷ [] } ∷ [] }
+    record { nodes = 3; objects = record { x = 1; value = (value.Counter 0); servers = 1 ∷ []; stores = 2 ∷ 3 ∷ [] } ∷ []; format = format.Two }
 
 script_store_stops_at_write_torn : List Asked
 script_store_stops_at_write_torn =
@@ -182,12 +153,12 @@ store_stops_at_write_torn : journal header_store_stops_at_write_torn script_stor
     ++ at 7 (body.Up 2 2 ∷ body.Sent 6 2 1 frame.Hello ∷ body.Sent 7 2 3 frame.Hello ∷ [])
     ++ at 8 (body.Got 6 ∷ body.Got 7 ∷ body.Sent 8 1 2 frame.Prepare ∷ body.Sent 9 3 1 frame.Query ∷ body.Got 8 ∷ body.Prepared 2 (u 1 1 1) role.Store ∷ body.Sent 10 2 1 frame.Prepared ∷ body.Got 9 ∷ body.Got 10 ∷ body.Committed l_A ∷ body.Sent 11 1 2 frame.Told ∷ body.Sent 12 1 3 frame.Told ∷ body.Told 1 (u 1 1 1) ending.Commit part.Naming ∷ body.Told 1 (u 1 1 1) ending.Commit part.Server ∷ body.Got 11 ∷ body.Done 2 (u 1 1 1) role.Store ending.Commit ∷ body.Sent 13 2 1 frame.Acked ∷ body.Got 12 ∷ body.Done 3 (u 1 1 1) role.Store ending.Commit ∷ body.Sent 14 3 1 frame.Acked ∷ body.Got 13 ∷ body.Got 14 ∷ body.Quiet true ∷ [])
     ++ at 9 (body.Entry 1 0 (1 ∷ []) (2 ∷ 3 ∷ []) ∷ body.Copy 2 1 1 (u 1 1 1) (0 ∷ 0 ∷ 0 ∷ 0 ∷ 0 ∷ 0 ∷ 0 ∷ 1 ∷ []) ∷ body.Copy 3 1 1 (u 1 1 1) (0 ∷ 0 ∷ 0 ∷ 0 ∷ 0 ∷ 0 ∷ 0 ∷ 1 ∷ []) ∷ [])
-unfolding u b does stops at text header_store_stops_at_write_torn script_store_stops_at_write_torn l_A
+unfolding header_store_stops_at_write_torn script_store_stops_at_write_torn
 store_stops_at_write_torn = refl
 
 header_store_stops_at_rename_undone : Header
 header_store_stops_at_rename_undone =
-    record { nodes = 3; objects = record { x = 1; value = (value.Counter 0); servers = 1 ∷ []; stores = 2 ∷ 3 ∷ [] } ∷ [] }
+    record { nodes = 3; objects = record { x = 1; value = (value.Counter 0); servers = 1 ∷ []; stores = 2 ∷ 3 ∷ [] } ∷ []; format = format.Two }
 
 script_store_stops_at_rename_undone : List Asked
 script_store_stops_at_rename_undone =
@@ -205,12 +176,12 @@ store_stops_at_rename_undone : journal header_store_stops_at_rename_undone scrip
     ++ at 7 (body.Up 2 2 ∷ body.Sent 6 2 1 frame.Hello ∷ body.Sent 7 2 3 frame.Hello ∷ [])
     ++ at 8 (body.Got 6 ∷ body.Got 7 ∷ body.Sent 8 1 2 frame.Prepare ∷ body.Sent 9 3 1 frame.Query ∷ body.Got 8 ∷ body.Prepared 2 (u 1 1 1) role.Store ∷ body.Sent 10 2 1 frame.Prepared ∷ body.Got 9 ∷ body.Got 10 ∷ body.Committed l_A ∷ body.Sent 11 1 2 frame.Told ∷ body.Sent 12 1 3 frame.Told ∷ body.Told 1 (u 1 1 1) ending.Commit part.Naming ∷ body.Told 1 (u 1 1 1) ending.Commit part.Server ∷ body.Got 11 ∷ body.Done 2 (u 1 1 1) role.Store ending.Commit ∷ body.Sent 13 2 1 frame.Acked ∷ body.Got 12 ∷ body.Done 3 (u 1 1 1) role.Store ending.Commit ∷ body.Sent 14 3 1 frame.Acked ∷ body.Got 13 ∷ body.Got 14 ∷ body.Quiet true ∷ [])
     ++ at 9 (body.Entry 1 0 (1 ∷ []) (2 ∷ 3 ∷ []) ∷ body.Copy 2 1 1 (u 1 1 1) (0 ∷ 0 ∷ 0 ∷ 0 ∷ 0 ∷ 0 ∷ 0 ∷ 1 ∷ []) ∷ body.Copy 3 1 1 (u 1 1 1) (0 ∷ 0 ∷ 0 ∷ 0 ∷ 0 ∷ 0 ∷ 0 ∷ 1 ∷ []) ∷ [])
-unfolding u b does stops at text header_store_stops_at_rename_undone script_store_stops_at_rename_undone l_A
+unfolding header_store_stops_at_rename_undone script_store_stops_at_rename_undone
 store_stops_at_rename_undone = refl
 
 header_store_stops_at_rename_torn : Header
 header_store_stops_at_rename_torn =
-    record { nodes = 3; objects = record { x = 1; value = (value.Counter 0); servers = 1 ∷ []; stores = 2 ∷ 3 ∷ [] } ∷ [] }
+    record { nodes = 3; objects = record { x = 1; value = (value.Counter 0); servers = 1 ∷ []; stores = 2 ∷ 3 ∷ [] } ∷ []; format = format.Two }
 
 script_store_stops_at_rename_torn : List Asked
 script_store_stops_at_rename_torn =
@@ -228,5 +199,5 @@ store_stops_at_rename_torn : journal header_store_stops_at_rename_torn script_st
     ++ at 7 (body.Up 2 2 ∷ body.Sent 6 2 1 frame.Hello ∷ body.Sent 7 2 3 frame.Hello ∷ [])
     ++ at 8 (body.Got 6 ∷ body.Got 7 ∷ body.Sent 8 1 2 frame.Prepare ∷ body.Sent 9 3 1 frame.Query ∷ body.Got 8 ∷ body.Prepared 2 (u 1 1 1) role.Store ∷ body.Sent 10 2 1 frame.Prepared ∷ body.Got 9 ∷ body.Got 10 ∷ body.Committed l_A ∷ body.Sent 11 1 2 frame.Told ∷ body.Sent 12 1 3 frame.Told ∷ body.Told 1 (u 1 1 1) ending.Commit part.Naming ∷ body.Told 1 (u 1 1 1) ending.Commit part.Server ∷ body.Got 11 ∷ body.Done 2 (u 1 1 1) role.Store ending.Commit ∷ body.Sent 13 2 1 frame.Acked ∷ body.Got 12 ∷ body.Done 3 (u 1 1 1) role.Store ending.Commit ∷ body.Sent 14 3 1 frame.Acked ∷ body.Got 13 ∷ body.Got 14 ∷ body.Quiet true ∷ [])
     ++ at 9 (body.Entry 1 0 (1 ∷ []) (2 ∷ 3 ∷ []) ∷ body.Copy 2 1 1 (u 1 1 1) (0 ∷ 0 ∷ 0 ∷ 0 ∷ 0 ∷ 0 ∷ 0 ∷ 1 ∷ []) ∷ body.Copy 3 1 1 (u 1 1 1) (0 ∷ 0 ∷ 0 ∷ 0 ∷ 0 ∷ 0 ∷ 0 ∷ 1 ∷ []) ∷ [])
-unfolding u b does stops at text header_store_stops_at_rename_torn script_store_stops_at_rename_torn l_A
+unfolding header_store_stops_at_rename_torn script_store_stops_at_rename_torn
 store_stops_at_rename_torn = refl

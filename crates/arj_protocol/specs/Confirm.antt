@@ -6,6 +6,7 @@ use Rattle.arj_protocol.specs.Words.{Uid, Path, Entry, ObjectState, Row, Confirm
 use Rattle.arj_protocol.specs.Words.{is_listed, with_store, without_store, last_uid, nobody}
 use Rattle.arj_protocol.specs.Words.mode
 use Rattle.arj_protocol.specs.Words.class
+use Rattle.arj_protocol.specs.Words.format
 use Rattle.arj_protocol.specs.Words.body
 use Rattle.arj_protocol.specs.Words.role
 use Rattle.arj_protocol.specs.Words.what
@@ -53,7 +54,7 @@ same_nodes [] [] = true
 same_nodes (m ∷ ms) (n ∷ ns) = (m == n) && same_nodes ms ns
 same_nodes _ _ = false
 
--- the new entry of an object: one version above the old one, written by the top, with these stores
+-- the new entry of an object: one version above the old one, written by the top, with these stores, in the format in which states are written
 abbrev pub entry_state : ℕ → Uid → ObjectState → List ℕ → ObjectState
 entry_state x top s stores =
     record {
@@ -63,6 +64,7 @@ entry_state x top s stores =
       writer = top;
       payload =
           entry_payload (record { servers = (state_entry s).servers; stores = stores });
+      format = format.Two;
     }
 
 -- the new entry of an object, where it differs

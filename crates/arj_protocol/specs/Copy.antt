@@ -9,6 +9,7 @@ use Rattle.arj_protocol.specs.Words.{is_on, grant_row, drop_rows, pass_rows, is_
 use Rattle.arj_protocol.specs.Words.{writes, answer_of, value_after, payload_of, Binding, InvokedReply}
 use Rattle.arj_protocol.specs.Words.ending
 use Rattle.arj_protocol.specs.Words.body
+use Rattle.arj_protocol.specs.Words.format
 use Rattle.arj_protocol.specs.Words.invoked
 use Rattle.arj_protocol.specs.Order.{next_version}
 use Rattle.arj_protocol.specs.Effect.{Effect, Say, Served}
@@ -139,14 +140,17 @@ ask_copy n p x op c None = run_copy n p x op c
 abbrev pub invoke_copy : ℕ → Path → ℕ → Op → Copy → Served Copy InvokedReply
 invoke_copy n p x op c = ask_copy n p x op c (first_conflict (uids_of p) (object x) (op_mode op) c.rows)
 
--- the state that a top made of the object, where it has an overlay
+-- the state that a top made of the object, by its overlay, in the format in which states are written
+abbrev pub state_over : Uid → ℕ → Copy → Over → ObjectState
+state_over top x c e = record {
+  uid = object x;
+  class = class_of e.value;
+  version = next_version c.base.version;
+  writer = top;
+  payload = payload_of e.value;
+  format = format.Two;
+}
+
+-- the same, where it has one
 abbrev pub changed_state : Uid → ℕ → Copy → Option ObjectState
-changed_state top x c =
-    option_map (λ e. record {
-      uid = object x;
-      class = class_of c.base.value;
-      version = next_version c.base.version;
-      writer = top;
-      payload =
-          payload_of e.value;
-    }) (over_of top c.stack)
+changed_state top x c = option_map (state_over top x c) (over_of top c.stack)

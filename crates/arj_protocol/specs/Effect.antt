@@ -2,7 +2,7 @@
 use Rattle.std.specs.Prelude.{ℕ, Bool, ◌==◌, ◌&&◌, ◌||◌, nat_lt, not, if◌then◌else◌, List, [], ◌∷◌, find, Option, Some, None, is_some}
 use Rattle.std.specs.Prelude.{option_map, unwrap_or}
 use Rattle.std.specs.List.{list_any}
-use Rattle.arj_protocol.specs.Words.{Uid, uid_eq, ObjectState, class_code_of, Role, Body, Message}
+use Rattle.arj_protocol.specs.Words.{Uid, uid_eq, ObjectState, class_code_of, head_of, Role, Body, Message}
 use Rattle.std.specs.Str.{bytes_eq}
 use Rattle.arj_protocol.specs.Words.role
 use Rattle.arj_protocol.specs.Order.{at_uid, put_uid, without_uid}
@@ -152,10 +152,11 @@ pub data Prep : Type 0 where
   Old : Uid → ℕ → Prep
   InDoubt : Uid → Uid → Prep
 
--- the same state: Uid, class, version, writer and value
+-- the same state: Uid, format, class, version, writer and value
 abbrev pub state_eq : ObjectState → ObjectState → Bool
 state_eq s t =
-    uid_eq s.uid t.uid && ((class_code_of s.class == class_code_of t.class) && ((s.version == t.version) && (uid_eq s.writer t.writer && bytes_eq s.payload t.payload)))
+    uid_eq s.uid t.uid && ((head_of s.format == head_of t.format) && ((class_code_of s.class == class_code_of t.class)
+    && ((s.version == t.version) && (uid_eq s.writer t.writer && bytes_eq s.payload t.payload))))
 
 -- the version of a committed state that the new one doesn't follow: it is greater, or equal with another state
 abbrev pub is_old : ObjectState → ObjectState → Bool

@@ -4,7 +4,7 @@ use Rattle.arj_protocol.specs.Words.ask
 use Rattle.std.specs.Prelude.{ℕ, zero, suc, Bool, true, not, ◌&&◌, ◌==◌, nat_lt, nat_le, if◌then◌else◌, List, [], ◌∷◌, ◌++◌, map, filter}
 use Rattle.std.specs.Prelude.{Option, Some, None, option_map}
 use Rattle.arj_journal.specs.declared.limits.TheConstants.{OBJECTS}
-use Rattle.arj_protocol.specs.Words.{Uid, Head, Asked, End, ObjectState, Op, class_of, has_op, uid_eq, Message, object, Ask, asks}
+use Rattle.arj_protocol.specs.Words.{Uid, Head, Asked, End, ObjectState, Op, own_class, has_op, uid_eq, Message, object, Ask, asks}
 use Rattle.arj_protocol.specs.Words.ending
 use Rattle.arj_protocol.specs.Words.body
 use Rattle.arj_protocol.specs.Words.role
@@ -222,10 +222,10 @@ abbrev pub stand_once : List ℕ → Bool
 stand_once [] = true
 stand_once (x ∷ xs) = not (has xs x) && stand_once xs
 
--- the class of the active copy has the operation, where there is a copy
+-- an object of the active copy's own class has the operation, where there is a copy
 abbrev pub copy_has_op : Op → Option Copy → Bool
 copy_has_op o None = true
-copy_has_op o (Some c) = has_op (class_of c.base.value) o
+copy_has_op o (Some c) = has_op (own_class c.base.value) o
 
 -- a request: its states are of objects, an operation is one of the object's class, and no object is confirmed twice
 abbrev pub ask_is_meant : Server → Ask → Bool

@@ -2,9 +2,9 @@
 use Rattle.std.specs.Prelude.{ℕ, zero, suc, ◌+◌, Bool, true, false, not, ◌&&◌, ◌||◌, ◌==◌, if◌then◌else◌, List, [], ◌∷◌, ◌++◌, map, filter}
 use Rattle.std.specs.Prelude.{find, Option, Some, None, is_some}
 use Rattle.std.specs.List.{flat_map, list_any}
-use Rattle.arj_start.specs.Start.{Mark, Marks, Start, fresh, none_written, unwritten}
-use Rattle.arj_protocol.specs.Words.{Uid, Kind, Op, Label, Class, Header, ObjectLine, ObjectState, Body, Message, uid_eq, uids_of, object}
-use Rattle.arj_protocol.specs.Words.{entry, class_of, has_op, payload_of, entry_payload, nobody}
+use Rattle.arj_start.specs.Start.{Mark, Marks, Start, format_at, fresh, none_written, unwritten}
+use Rattle.arj_protocol.specs.Words.{Uid, Kind, Op, Label, Class, Format, Header, ObjectLine, ObjectState, Body, Message, uid_eq, uids_of, object}
+use Rattle.arj_protocol.specs.Words.{entry, class_of, own_class, has_op, payload_of, entry_payload, nobody}
 use Rattle.arj_protocol.specs.Words.ending
 use Rattle.arj_protocol.specs.Words.body
 use Rattle.arj_protocol.specs.Words.kind
@@ -109,10 +109,10 @@ begin_reasons k b c =
     (6, is_some b.ended) ∷ (7, waits_above b c) ∷ (10, is_misplaced k b) ∷ (12, b.doomed)
     ∷ (15, is_below_16 k && is_too_deep b) ∷ (16, is_below_16 k && has_many_actions b c.tree) ∷ []
 
--- the header's class of an object
+-- the header's class of an object, also of one that is gone
 abbrev pub class_in : Option ObjectLine → Option Class
 class_in None = None
-class_in (Some o) = Some (class_of o.value)
+class_in (Some o) = Some (own_class o.value)
 
 -- the class of the object by the header
 abbrev pub class_at : ℕ → Header → Option Class
@@ -388,33 +388,35 @@ step hd n i = step_unless hd i n (refusal hd i n)
 
 -- ---- as a run begins
 
--- the state of an object in the header's value, with this mark
-abbrev pub state_by : Mark → ObjectLine → ObjectState
-state_by m o = record {
+-- the state of an object in the header's value, with this mark, where the header has this format
+abbrev pub state_by : Format → Mark → ObjectLine → ObjectState
+state_by first m o = record {
   uid = object o.x;
   class = class_of o.value;
   version = m.version;
   writer = m.writer;
   payload = payload_of o.value;
+  format = format_at first m.version;
 }
 
 -- the state of an object as the header has it: version 0, written by nobody
-abbrev pub first_state : ObjectLine → ObjectState
-first_state o = state_by unwritten o
+abbrev pub first_state : Format → ObjectLine → ObjectState
+first_state first o = state_by first unwritten o
 
 -- the entry of an object with the header's servers and stores, with this mark
-abbrev pub entry_by : Mark → ObjectLine → ObjectState
-entry_by m o = record {
+abbrev pub entry_by : Format → Mark → ObjectLine → ObjectState
+entry_by first m o = record {
   uid = entry o.x;
   class = class.Entry;
   version = m.version;
   writer = m.writer;
   payload = entry_payload (record { servers = o.servers; stores = o.stores });
+  format = format_at first m.version;
 }
 
 -- the entry of an object as the header has it
-abbrev pub first_entry : ObjectLine → ObjectState
-first_entry o = entry_by unwritten o
+abbrev pub first_entry : Format → ObjectLine → ObjectState
+first_entry first o = entry_by first unwritten o
 
 -- each state is held under its Uid
 abbrev pub put_states : List ObjectState → List (Uid × ObjectState) → List (Uid × ObjectState)
@@ -427,7 +429,7 @@ pair_with states = record { held = put_states states []; pend = [] }
 
 -- the entries are at node 1
 abbrev pub entries_from : ℕ → Header → Marks → List ObjectState
-entries_from n hd marks = if n == 1 then map (λ (o : ObjectLine). entry_by (marks.entries o.x) o) hd.objects else []
+entries_from n hd marks = if n == 1 then map (λ (o : ObjectLine). entry_by hd.format (marks.entries o.x) o) hd.objects else []
 
 -- the entries as a format leaves them
 abbrev pub entries_at : ℕ → Header → List ObjectState
@@ -441,7 +443,7 @@ older_at n (s ∷ ss) = if s.0 == n then s.1 ∷ older_at n ss else older_at n s
 -- the states at this node: those of the objects that it stores, and older ones
 abbrev pub states_from : ℕ → Header → Start → List ObjectState
 states_from n hd st =
-    older_at n st.older ++ map (λ (o : ObjectLine). state_by (st.marks.states o.x) o) (filter (λ (o : ObjectLine). has o.stores n) hd.objects)
+    older_at n st.older ++ map (λ (o : ObjectLine). state_by hd.format (st.marks.states o.x) o) (filter (λ (o : ObjectLine). has o.stores n) hd.objects)
 
 -- The disk of a node as a run begins: states of the objects that it stores, and older ones, and at node 1 all entries; nothing is prepared,
 -- and no record stands.

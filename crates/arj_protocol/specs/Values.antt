@@ -1,6 +1,6 @@
 -- Payloads of packed states as values, and as naming entries: what `payload_of` and `entry_payload` spell, read back.
 use Rattle.std.specs.Int.{w64, from_be_bytes}
-use Rattle.std.specs.Prelude.{ℕ, List, [], ◌∷◌, take, drop}
+use Rattle.std.specs.Prelude.{ℕ, List, [], ◌∷◌, take, drop, ◌==◌, if◌then◌else◌}
 use Rattle.arj_protocol.specs.Words.{Class, Value, Entry, ObjectState}
 use Rattle.arj_protocol.specs.Words.class
 use Rattle.arj_protocol.specs.Words.value
@@ -19,6 +19,12 @@ abbrev pub in_pairs : List ℕ → List (ℕ × ℕ)
 in_pairs (k ∷ v ∷ rest) = (k, v) ∷ in_pairs rest
 in_pairs _ = []
 
+-- the class of an object that is gone, by the payload of its state
+abbrev pub gone_class : List ℕ → Class
+gone_class [] = class.Table
+gone_class (code ∷ rest) =
+    if code == 1 then class.Counter else (if code == 2 then class.Register else (if code == 3 then class.Account else (if code == 4 then class.Queue else class.Table)))
+
 -- The value of a class with this payload. What no value of the class is spelled as gives some value.
 abbrev pub value_in : Class → List ℕ → Value
 value_in class.Entry bytes = value.Counter 0
@@ -27,6 +33,7 @@ value_in class.Register bytes = value.Register bytes
 value_in class.Account bytes = value.Account (number_in bytes)
 value_in class.Queue bytes = value.Queue (numbers_in bytes)
 value_in class.Table bytes = value.Table (in_pairs (numbers_in bytes))
+value_in class.Gone bytes = value.Gone (gone_class bytes)
 
 -- the value of a state
 abbrev pub state_value : ObjectState → Value

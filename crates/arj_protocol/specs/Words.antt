@@ -5,6 +5,7 @@ pub use Rattle.arj_base.specs.declared.path.Path.{Path}
 pub use Rattle.arj_base.specs.declared.mode.Mode.{Mode}
 pub use Rattle.arj_base.specs.declared.mode.End.{End}
 pub use Rattle.arj_base.specs.declared.state.Class.{Class}
+pub use Rattle.arj_base.specs.declared.state.Format.{Format}
 pub use Rattle.arj_base.specs.declared.state.ObjectState.{ObjectState}
 pub use Rattle.arj_base.specs.Order.{uid_order}
 pub use Rattle.arj_base.specs.Uid.{uid_eq, nobody, object, entry}
@@ -12,11 +13,11 @@ pub use Rattle.arj_base.specs.Path.{uids_of, tops_of, first_uid, top_uid, before
 pub use Rattle.arj_base.specs.Rows.{Row, last_uid, front, is_on, grant_row, drop_rows, pass_rows, lower_row, is_held_by, is_row_of}
 pub use Rattle.arj_base.specs.Rows.{first_conflict}
 pub use Rattle.arj_base.specs.Mode.{stronger, mode_code, conflicting}
-pub use Rattle.arj_base.specs.State.{class_code_of}
+pub use Rattle.arj_base.specs.State.{class_code_of, head_of}
 pub use Rattle.arj_class.specs.declared.op.Op.{Op}
 pub use Rattle.arj_class.specs.declared.op.Answer.{Answer}
 pub use Rattle.arj_class.specs.declared.value.Value.{Value}
-pub use Rattle.arj_class.specs.Table.{class_of, has_op, op_mode, writes, answer_of, value_after}
+pub use Rattle.arj_class.specs.Table.{class_of, own_class, has_op, op_mode, writes, answer_of, value_after}
 pub use Rattle.arj_class.specs.Forms.{payload_of}
 pub use Rattle.arj_entry.specs.declared.entry.Entry.{Entry}
 pub use Rattle.arj_entry.specs.Entry.{entry_payload, is_listed, with_store, without_store}
@@ -54,6 +55,7 @@ pub use Rattle.arj_msg.specs.declared.message.ConfirmedReply.{ConfirmedReply}
 pub use Rattle.arj_base.specs.declared.mode.Mode.TheVariants as mode
 pub use Rattle.arj_base.specs.declared.mode.End.TheVariants as ending
 pub use Rattle.arj_base.specs.declared.state.Class.TheVariants as class
+pub use Rattle.arj_base.specs.declared.state.Format.TheVariants as format
 pub use Rattle.arj_class.specs.declared.op.Op.TheVariants as op
 pub use Rattle.arj_class.specs.declared.op.Answer.TheVariants as answer
 pub use Rattle.arj_class.specs.declared.value.Value.TheVariants as value

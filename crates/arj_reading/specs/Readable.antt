@@ -5,10 +5,9 @@ use Rattle.std.specs.Option.{option_map}
 use Rattle.std.specs.List.{list_any}
 use Rattle.arj_base.specs.declared.uid.Uid.{Uid}
 use Rattle.arj_base.specs.Uid.{uid_eq}
-use Rattle.arj_class.specs.declared.limits.TheConstants.{REGISTER_BYTES}
 use Rattle.arj_class.specs.declared.op.Op.{Op}
-use Rattle.arj_class.specs.declared.op.Op.TheVariants.{Put}
-use Rattle.arj_class.specs.Table.{class_of, has_op}
+use Rattle.arj_class.specs.Forms.{is_op_in_form}
+use Rattle.arj_class.specs.Table.{has_op, own_class}
 use Rattle.arj_journal.specs.declared.body.Body.{Body}
 use Rattle.arj_journal.specs.declared.body.Body.TheVariants as body
 use Rattle.arj_journal.specs.declared.body.Kind.{Kind}
@@ -89,15 +88,10 @@ begin_rule acts b =
     (or_else (unless (not (is_some (known acts b.uid))) rule.NewUid)
     (or_else (unless (has_parent acts b.kind b.parent) rule.Parent) (unless (nat_lt (length (upwards b.parent b.kind (path acts))) PATH_ACTIONS) rule.Depth)))
 
--- the arguments of the operation are in form
-abbrev pub is_in_form : Op → Bool
-is_in_form (Put bytes) = nat_le (length bytes) REGISTER_BYTES
-is_in_form _ = true
-
 -- the object is there, and has the operation
 abbrev pub object_rule : Option ObjectLine → Op → Option Rule
 object_rule None op = Some rule.Object
-object_rule (Some o) op = unless (has_op (class_of o.value) op && is_in_form op) rule.Operation
+object_rule (Some o) op = unless (has_op (own_class o.value) op && is_op_in_form op) rule.Operation
 
 -- A call is answered.
 abbrev pub answer_rule : Header → Named → ℕ → Op → Option Rule

@@ -132,7 +132,7 @@ fn begin_rule(
 fn object_rule(object: &ObjectLine, op: &Op) -> Option<Rule>
     ensures { result ≡ rule_of_object (Some object.now) op.now }
 {
-    if Value::mode(object.value.class(), op).is_none() || !op.is_in_form() {
+    if Value::mode(object.value.own_class(), op).is_none() || !op.is_in_form() {
         return Some(Rule::Operation);
     }
     None

@@ -50,7 +50,7 @@ IsWorked o work old new = (d : Disk) → IsDiskOf o old d → IsDiskOf o new (wo
 
 -- the first states of the objects that a node stores
 abbrev pub states_at : ℕ → Header → List ObjectState
-states_at n hd = map first_state (filter (λ (o : ObjectLine). has o.stores n) hd.objects)
+states_at n hd = map (first_state hd.format) (filter (λ (o : ObjectLine). has o.stores n) hd.objects)
 
 -- a disk in the first incarnation, with these pairs and no record
 abbrev pub first_with : Pair → Pair → Disk

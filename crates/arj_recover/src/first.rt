@@ -19,7 +19,7 @@ ghost use Rattle.arj_store.specs.declared.answer.StoreFault.{StoreFault};
 ghost use Rattle.arj_law_store.specs.store.Files.{IsPairOf};
 
 use crate::beginning::put_inc;
-use arj_base::{ObjectState, States, Uid, object_uid};
+use arj_base::{Format, ObjectState, States, Uid, object_uid};
 use arj_disk::{Disk, Role};
 use arj_journal::{Header, ObjectLine};
 use arj_store::{ObjectStore, StoreFault};
@@ -50,18 +50,23 @@ pub fn format<D: Disk, O: ObjectStore>(
     ensures others { OnlyOfRole Role.Store (D.file disk.old) (D.file disk.new) }
     ensures counts { CountsCall (counts D.Disk disk.old) (counts D.Disk disk.new) result StoreFault.Stopped }
 {
-    let states = first_states(alloc, node, header.objects.as_slice())?;
+    let states = first_states(alloc, node, header.format, header.objects.as_slice())?;
     O::format(alloc, disk, Role::Store, &states)
 }
 
 // The first states of these objects, as far as the node stores them.
-fn first_states(alloc: Global, node: u8, objects: &[ObjectLine]) -> Result<States, AllocError>
-    ensures states { IfOk result (λ states. states ≡ map step.first_state (filter (λ (o : ObjectLine). has o.stores node) objects.now)) }
+fn first_states(
+    alloc: Global,
+    node: u8,
+    format: Format,
+    objects: &[ObjectLine],
+) -> Result<States, AllocError>
+    ensures states { IfOk result (λ states. states ≡ map (step.first_state format) (filter (λ (o : ObjectLine). has o.stores node) objects.now)) }
     ensures sizes { IfOk result (AllByRecursion (λ s. length (state_bytes s) ≤ MOST_BYTES)) }
 {
     let mut states = States::new(alloc);
     for object in objects {
-        put_first(alloc, node, object, &mut states)?;
+        put_first(alloc, node, format, object, &mut states)?;
     }
     Ok(states)
 }
@@ -70,21 +75,27 @@ fn first_states(alloc: Global, node: u8, objects: &[ObjectLine]) -> Result<State
 fn put_first(
     alloc: Global,
     node: u8,
+    format: Format,
     object: &ObjectLine,
     states: &mut States,
 ) -> Result<(), AllocError>
-    ensures states { OnOk result (states.new ≡ states.old ++ map step.first_state (filter (λ (o : ObjectLine). has o.stores node) (object.now ∷ []))) }
+    ensures states { OnOk result (states.new ≡ states.old ++ map (step.first_state format) (filter (λ (o : ObjectLine). has o.stores node) (object.now ∷ []))) }
     ensures sizes { OnOk result (AllByRecursion (λ s. length (state_bytes s) ≤ MOST_BYTES) states.old → AllByRecursion (λ s. length (state_bytes s) ≤ MOST_BYTES) states.new) }
 {
     if object.stores.as_slice().contains(&node) {
-        states.push(first_state(alloc, object)?)?;
+        states.push(first_state(alloc, format, object)?)?;
     }
     Ok(())
 }
 
 // The first state of an object.
-fn first_state(alloc: Global, object: &ObjectLine) -> Result<ObjectState, AllocError>
-    ensures state { IfOk result (λ s. s ≡ step.first_state object.now) }
+#[tactic(auto, using(arj_store::proofs::Sizes::state_within))]
+fn first_state(
+    alloc: Global,
+    format: Format,
+    object: &ObjectLine,
+) -> Result<ObjectState, AllocError>
+    ensures state { IfOk result (λ s. s ≡ step.first_state format object.now) }
     ensures size { IfOk result (λ s. length (state_bytes s) ≤ MOST_BYTES) }
 {
     let payload = object.value.save_state(alloc)?;
@@ -94,6 +105,7 @@ fn first_state(alloc: Global, object: &ObjectLine) -> Result<ObjectState, AllocE
         version: 0,
         writer: NOBODY,
         payload,
+        format,
     })
 }
 

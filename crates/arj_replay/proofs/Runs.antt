@@ -7,7 +7,8 @@ use Rattle.std.proofs.lemmas.Bool.{and_parts, eq-eqb, eqb-true}
 use Rattle.std.specs.List.{AllByRecursion}
 use Rattle.std.specs.BTreeMap.{BTreeMap, get}
 use Rattle.std.specs.Ordering.{nat_cmp}
-use Rattle.arj_class.specs.Table.{class_of, has_op}
+use Rattle.arj_class.specs.Forms.{is_op_in_form}
+use Rattle.arj_class.specs.Table.{has_op, own_class}
 use Rattle.arj_class.specs.declared.op.Op.{Op}
 use Rattle.arj_class.specs.declared.value.Value.{Value}
 use Rattle.arj_journal.specs.declared.body.Line.{Line}
@@ -17,7 +18,7 @@ use Rattle.arj_model.specs.Calls.{Call}
 use Rattle.arj_model.specs.Last.{first_values, object_line, value_of_line}
 use Rattle.arj_model.specs.Serial.{Values, with_value}
 use Rattle.arj_law.proofs.Common.{turned}
-use Rattle.arj_reading.specs.Readable.{is_in_form, object_rule, unless}
+use Rattle.arj_reading.specs.Readable.{object_rule, unless}
 use Rattle.arj_reading.specs.declared.rule.Rule.{Rule}
 use Rattle.arj_reading.specs.declared.rule.Rule.TheVariants as rule
 use Rattle.arj_replay.specs.Verdict.{Differs, HasCall, HasValues, IsWrong, differs_or, first_among, or_value}
@@ -48,7 +49,7 @@ pub at_first : (header : Header) (m : BTreeMap ℕ Value) → ((x : ℕ) → get
     HasValues header (first_values header) m
 at_first header m h = record {
   value = λ x o e. h x ∙ first_is header.objects x o e ∙ ap (λ l. Some (value_of_line l)) (sym e);
-  class = λ x o e. ap (λ l. class_of (value_of_line l)) e;
+  class = λ x o e. ap (λ l. own_class (value_of_line l)) e;
 }
 
 -- the next call, at the next place
@@ -89,18 +90,18 @@ holds false r e = absurd (cc e)
 -- what a call of an object of the header meets
 pub call_fits : (header : Header) (all : Values) (m : BTreeMap ℕ Value) (x : ℕ) (op : Op) → HasValues header all m →
     object_rule (object_line header x) op ≡ None
-    → (get nat_cmp m x ≡ Some (all x)) × (has_op (class_of (all x)) op ≡ true) × (is_in_form op ≡ true)
+    → (get nat_cmp m x ≡ Some (all x)) × (has_op (own_class (all x)) op ≡ true) × (is_op_in_form op ≡ true)
 call_fits header all m x op has fits = by (object_line header x) refl fits
   where
     by : (o : Option ObjectLine) → object_line header x ≡ o → object_rule o op ≡ None →
-        (get nat_cmp m x ≡ Some (all x)) × (has_op (class_of (all x)) op ≡ true) × (is_in_form op ≡ true)
+        (get nat_cmp m x ≡ Some (all x)) × (has_op (own_class (all x)) op ≡ true) × (is_op_in_form op ≡ true)
     by None e never = absurd (cc never)
     by (Some o) e both =
-        let parts = and_parts (has_op (class_of o.value) op) (is_in_form op) (holds (has_op (class_of o.value) op && is_in_form op) rule.Operation both) in
+        let parts = and_parts (has_op (own_class o.value) op) (is_op_in_form op) (holds (has_op (own_class o.value) op && is_op_in_form op) rule.Operation both) in
         (has.value x o e, ap (λ c. has_op c op) (has.class x o e) ∙ parts.0, parts.1)
 
 -- the values after the call
-pub after_call : (header : Header) (all : Values) (m n : BTreeMap ℕ Value) (x : ℕ) (v : Value) → class_of v ≡ class_of (all x) →
+pub after_call : (header : Header) (all : Values) (m n : BTreeMap ℕ Value) (x : ℕ) (v : Value) → own_class v ≡ own_class (all x) →
     HasValues header all m
     → ((y : ℕ) → get nat_cmp n y ≡ cond (x == y) (Some v) (get nat_cmp m y)) → HasValues header (with_value all x v) n
 after_call header all m n x v class has is =
@@ -112,8 +113,8 @@ after_call header all m n x v class has is =
     value y false same o e = has.value y o e ∙ (λ i. Some (cond (sym (turned x y same) i) v (all y)))
 
     kind : (y : ℕ) (b : Bool) → (y == x) ≡ b → (o : ObjectLine) → object_line header y ≡ Some o →
-        class_of (cond b v (all y)) ≡ class_of o.value
-    kind y true same o e = class ∙ ap (λ z. class_of (all z)) (sym (eqb-true y x same)) ∙ has.class y o e
+        own_class (cond b v (all y)) ≡ own_class o.value
+    kind y true same o e = class ∙ ap (λ z. own_class (all z)) (sym (eqb-true y x same)) ∙ has.class y o e
     kind y false same o e = has.class y o e
 
 pub no_answer : {A : Type 0} (P : A → Type 0) (r : Option A) → r ≡ None → IsSomeAnd r P → ⊥

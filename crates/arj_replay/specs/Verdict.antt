@@ -3,7 +3,7 @@ use Rattle.std.specs.Prelude.{◌≡◌, ℕ, ◌+◌, List, [], ◌∷◌, slic
 use Rattle.std.specs.BTreeMap.{BTreeMap, get}
 use Rattle.std.specs.Ordering.{nat_cmp}
 use Rattle.std.specs.Str.{bytes_eq}
-use Rattle.arj_class.specs.Table.{answer_of, class_of}
+use Rattle.arj_class.specs.Table.{answer_of, own_class}
 use Rattle.arj_class.specs.declared.op.Op.{Op}
 use Rattle.arj_class.specs.declared.value.Value.{Value}
 use Rattle.arj_journal.specs.declared.body.Body.TheVariants as body
@@ -61,7 +61,7 @@ pub record HasCall (header : Header) (lines : List Line) (c : Call) : Type 0 whe
   pub here : slice_get lines c.at ≡ Some (record { event = event; body = body.Ok label c.x c.op c.answer })
   pub has : object_rule (object_line header c.x) c.op ≡ None
 
--- the map has these values of the header's objects, of their classes
+-- the map has these values of the header's objects, whose own classes they keep
 pub record HasValues (header : Header) (values : Values) (m : BTreeMap ℕ Value) : Type 0 where
   pub value : (x : ℕ) (o : ObjectLine) → object_line header x ≡ Some o → get nat_cmp m x ≡ Some (values x)
-  pub class : (x : ℕ) (o : ObjectLine) → object_line header x ≡ Some o → class_of (values x) ≡ class_of o.value
+  pub class : (x : ℕ) (o : ObjectLine) → object_line header x ≡ Some o → own_class (values x) ≡ own_class o.value

@@ -4,7 +4,8 @@ ghost use Rattle.std.specs.BTreeMap.{get};
 ghost use Rattle.std.specs.List.{AllByRecursion};
 ghost use Rattle.std.specs.Option.{option_copied};
 ghost use Rattle.std.specs.Ordering.{nat_cmp};
-ghost use Rattle.arj_class.specs.Table.{answer_of, class_of, has_op, value_after};
+ghost use Rattle.arj_class.specs.Forms.{is_op_in_form};
+ghost use Rattle.arj_class.specs.Table.{answer_of, has_op, own_class, value_after};
 ghost use Rattle.arj_class.specs.declared.op.Op.{Op as op_type};
 ghost use Rattle.arj_class.specs.declared.value.Value.{Value as value_type};
 ghost use Rattle.arj_journal.specs.declared.body.Body.TheVariants as line_body;
@@ -13,7 +14,7 @@ ghost use Rattle.arj_text.specs.declared.label.Label.{Label as label_type};
 ghost use Rattle.arj_model.specs.Calls.{Call};
 ghost use Rattle.arj_model.specs.Last.{first_values as values_of_header, object_line};
 ghost use Rattle.arj_model.specs.Serial.{Values, after, run, with_value};
-ghost use Rattle.arj_reading.specs.Readable.{is_in_form as has_form, object_rule};
+ghost use Rattle.arj_reading.specs.Readable.{object_rule};
 ghost use Rattle.arj_replay.specs.Verdict.{HasCall, HasValues, IsWrong, differs_or, first_among, first_difference, or_value, wanted_of};
 
 use arj_base::Bytes;
@@ -65,9 +66,9 @@ fn run_call(
     x: u16,
     op: &Op,
 ) -> Result<Option<Answer>, AllocError>
-    ensures answer { (v : value_type) → get nat_cmp values.old x ≡ Some v → has_op (class_of v) op.now ≡ true → has_form op.now ≡ true
+    ensures answer { (v : value_type) → get nat_cmp values.old x ≡ Some v → has_op (own_class v) op.now ≡ true → is_op_in_form op.now ≡ true
         → IfOk result (λ r. IsSomeAnd r (λ a. a ≡ answer_of op.now v)) }
-    ensures value { (v : value_type) → get nat_cmp values.old x ≡ Some v → has_op (class_of v) op.now ≡ true → has_form op.now ≡ true
+    ensures value { (v : value_type) → get nat_cmp values.old x ≡ Some v → has_op (own_class v) op.now ≡ true → is_op_in_form op.now ≡ true
         → OnOk result ((y : ℕ) → get nat_cmp values.new y ≡ (if x == y then Some (value_after op.now v) else get nat_cmp values.old y)) }
 {
     if !op.is_in_form() {

@@ -3,8 +3,10 @@ use Rattle.std.proofs.Common.{◌≡◌, ℕ, ◌≤◌, ◌<◌, List, [], ◌�
 use Rattle.std.specs.Prelude.{nat_lt, if◌then◌else◌, ◌==◌}
 use Rattle.std.specs.List.{AllByRecursion}
 use Rattle.std.proofs.lemmas.Bool.{and_parts, and_from, or_parts, cases_Bool, cond-true, cond-false, ltb-false, lt-ltb, eqb-false}
+use Rattle.arj_base.specs.declared.state.Format.{Format}
+use Rattle.arj_class.specs.Forms.{FormatHolds}
 use Rattle.arj_journal.specs.declared.header.ObjectLine.{ObjectLine}
-use Rattle.arj_journal.specs.ScriptForm.{ObjectLineInForm, ObjectsInForm, are_by_number}
+use Rattle.arj_journal.specs.ScriptForm.{AreHeld, ObjectLineInForm, ObjectsInForm, are_by_number}
 use Rattle.arj_script.specs.Grammar.{has_object, insert_object}
 
 insert_all : (n : ℕ) (o : ObjectLine) (os : List ObjectLine) → ObjectLineInForm n o → AllByRecursion (ObjectLineInForm n) os →
@@ -47,6 +49,13 @@ rising_insert o (p ∷ os) rising absent =
     let below : p.x < o.x = omega (arith, most, eqb-false p.x o.x parts.0) in
     ap are_by_number (cond-false (nat_lt o.x p.x) (o ∷ p ∷ os) (p ∷ insert_object o os) more) ∙ rising_behind p o os (lt-ltb p.x o.x below) rising on)
     (cases_Bool (nat_lt o.x p.x))
+
+pub insert_held : (f : Format) (o : ObjectLine) (os : List ObjectLine) → FormatHolds f o.value → AreHeld f os → AreHeld f (insert_object o os)
+insert_held f o [] one all = (one, tt)
+insert_held f o (p ∷ os) one all =
+    let later = insert_held f o os one all.1 in
+    elim (nat_lt o.x p.x) as (λ t. AreHeld f (if t then o ∷ p ∷ os else p ∷ insert_object o os))
+    [ true ↦ (one, all) | false ↦ (all.0, later) ]
 
 pub insert_in_form : (n : ℕ) (o : ObjectLine) (os : List ObjectLine) → ObjectLineInForm n o → has_object o.x os ≡ false →
     ObjectsInForm n os → ObjectsInForm n (insert_object o os)

@@ -4,7 +4,7 @@ use Rattle.std.specs.Prelude.{◌==◌, if◌then◌else◌}
 use Rattle.std.specs.List.{list_any}
 use Rattle.std.proofs.lemmas.List.{append-nil}
 use Rattle.std.proofs.lemmas.Bool.{or_parts, cond-false}
-use Rattle.arj_script.specs.Grammar.{Form, Blank, Nodes, Object, Run, Asks}
+use Rattle.arj_script.specs.Grammar.{Form, Blank, Nodes, FormatOne, Object, Run, Asks}
 use Rattle.arj_script.specs.Input.{ended_from, rest_from, events_of}
 
 -- no byte of it is a line feed
@@ -62,6 +62,7 @@ pub events_of-append : (fs gs : List Form) → events_of (fs ++ gs) ≡ events_o
 events_of-append [] gs = refl
 events_of-append (Blank ∷ fs) gs = events_of-append fs gs
 events_of-append (Nodes n ∷ fs) gs = events_of-append fs gs
+events_of-append (FormatOne ∷ fs) gs = events_of-append fs gs
 events_of-append (Object o ∷ fs) gs = events_of-append fs gs
 events_of-append (Run ∷ fs) gs = events_of-append fs gs
 events_of-append (Asks e ∷ fs) gs = ap (λ es. e ∷ es) (events_of-append fs gs)

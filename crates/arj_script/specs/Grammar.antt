@@ -2,11 +2,14 @@
 -- form stands in `arj_journal`, and there too which objects and events are in form.
 use Rattle.std.specs.Prelude.{◌≡◌, ◌≤◌, ℕ, List, [], ◌∷◌, length, codes, ⊤, Bool, false, ◌==◌, nat_lt, if◌then◌else◌, Option, Some, None}
 use Rattle.std.specs.List.{list_any}
+use Rattle.arj_base.specs.declared.state.Format.TheVariants as format
+use Rattle.arj_class.specs.Forms.{FormatHolds}
 use Rattle.arj_journal.specs.declared.event.Event.{Event}
+use Rattle.arj_journal.specs.declared.header.Header.{Header}
 use Rattle.arj_journal.specs.declared.header.ObjectLine.{ObjectLine}
 use Rattle.arj_journal.specs.declared.limits.TheConstants.{NODES}
-use Rattle.arj_journal.specs.ScriptForm.{EventInForm, ObjectLineInForm, ObjectsInForm}
-use Rattle.arj_journal.specs.ScriptText.{event_text, object_text, nodes_text}
+use Rattle.arj_journal.specs.ScriptForm.{EventInForm, HeaderInForm, ObjectLineInForm}
+use Rattle.arj_journal.specs.ScriptText.{event_text, format_text, object_text, nodes_text}
 use Rattle.arj_script.specs.declared.limits.TheConstants.{LINE_BYTES}
 use Rattle.arj_text.specs.Fields.{IsWithin}
 
@@ -14,14 +17,15 @@ use Rattle.arj_text.specs.Fields.{IsWithin}
 pub data Form : Type 0 where
   Blank : Form
   Nodes : ℕ → Form
+  FormatOne : Form
   Object : ObjectLine → Form
   Run : Form
   Asks : Event → Form
 
--- Where a line stands: at the start, in the header behind `nodes`, or behind `run`.
+-- Where a line stands: at the start, in the header behind `nodes`, with what it has so far, or behind `run`.
 pub data Place : Type 0 where
   Start : Place
-  Objects : (nodes : ℕ) (objects : List ObjectLine) → Place
+  Objects : (header : Header) → Place
   Running : Place
 
 -- the header's objects stay in the order of their numbers
@@ -29,34 +33,41 @@ abbrev pub insert_object : ObjectLine → List ObjectLine → List ObjectLine
 insert_object o [] = o ∷ []
 insert_object o (p ∷ ps) = if nat_lt o.x p.x then o ∷ p ∷ ps else p ∷ insert_object o ps
 
+-- a header of so many nodes and no objects, whose states have format two
+abbrev pub begun : ℕ → Header
+begun n = record { nodes = n; objects = []; format = format.Two }
+
 -- the place behind a form
 abbrev pub next_place : Place → Form → Place
-next_place Start (Nodes n) = Objects n []
-next_place (Objects n os) (Object o) = Objects n (insert_object o os)
-next_place (Objects n os) Run = Running
+next_place Start (Nodes n) = Objects (begun n)
+next_place (Objects h) FormatOne = Objects (record h { format = format.One })
+next_place (Objects h) (Object o) = Objects (record h { objects = insert_object o h.objects })
+next_place (Objects h) Run = Running
 next_place place _ = place
 
 -- the count of nodes, in a header
 abbrev pub nodes_at : Place → Option ℕ
-nodes_at (Objects n os) = Some n
+nodes_at (Objects h) = Some h.nodes
 nodes_at _ = None
 
 -- some object of the list has the number
 abbrev pub has_object : ℕ → List ObjectLine → Bool
 has_object x os = list_any (λ o. o.x == x) os
 
--- which form may stand at a place: `nodes` first, then objects with distinct numbers, then `run`, then events
+-- Which form may stand at a place: `nodes` first, then `format 1`, where the first states have that, then objects with distinct
+-- numbers, whose values these states hold, then `run`, then events.
 abbrev pub Fits : Place → Form → Type 0
 Fits place Blank = ⊤
 Fits Start (Nodes n) = IsWithin 1 NODES n
-Fits (Objects n os) (Object o) = ObjectLineInForm n o × (has_object o.x os ≡ false)
-Fits (Objects n os) Run = ⊤
+Fits (Objects h) FormatOne = (h.format ≡ format.Two) × (h.objects ≡ [])
+Fits (Objects h) (Object o) = ObjectLineInForm h.nodes o × (has_object o.x h.objects ≡ false) × FormatHolds h.format o.value
+Fits (Objects h) Run = ⊤
 Fits Running (Asks e) = EventInForm e
 Fits _ _ = ⊥
 
--- where a header stands its nodes and its objects are in form
+-- a header that stands is in form
 abbrev pub PlaceInForm : Place → Type 0
-PlaceInForm (Objects n os) = IsWithin 1 NODES n × ObjectsInForm n os
+PlaceInForm (Objects h) = HeaderInForm h
 PlaceInForm _ = ⊤
 
 -- a comment begins with `#`
@@ -68,6 +79,7 @@ IsBlank (b ∷ bs) = b ≡ 35
 abbrev pub Spells : List ℕ → Form → Type 0
 Spells bytes Blank = IsBlank bytes
 Spells bytes (Nodes n) = bytes ≡ nodes_text n
+Spells bytes FormatOne = bytes ≡ format_text
 Spells bytes (Object o) = bytes ≡ object_text o
 Spells bytes Run = bytes ≡ codes "run"
 Spells bytes (Asks e) = bytes ≡ event_text e

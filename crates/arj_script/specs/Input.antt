@@ -6,7 +6,7 @@ use Rattle.arj_journal.specs.ScriptForm.{HeaderInForm}
 use Rattle.arj_script.specs.declared.reader.Item.{Item}
 use Rattle.arj_script.specs.declared.reader.Item.TheVariants as item
 use Rattle.arj_script.specs.declared.limits.TheConstants.{LINE_BYTES, SCRIPT_LINES}
-use Rattle.arj_script.specs.Grammar.{Form, Blank, Nodes, Object, Run, Asks, Place, Objects}
+use Rattle.arj_script.specs.Grammar.{Form, Blank, Nodes, FormatOne, Object, Run, Asks, Place, Objects}
 
 -- the lines that a line feed ends; `front` is what has come of the line in hand
 abbrev pub ended_from : List ℕ → List ℕ → List (List ℕ)
@@ -59,6 +59,7 @@ events_of [] = []
 events_of (Asks e ∷ forms) = e ∷ events_of forms
 events_of (Blank ∷ forms) = events_of forms
 events_of (Nodes n ∷ forms) = events_of forms
+events_of (FormatOne ∷ forms) = events_of forms
 events_of (Object o ∷ forms) = events_of forms
 events_of (Run ∷ forms) = events_of forms
 
@@ -71,7 +72,8 @@ TellsInForm _ = ⊤
 abbrev pub Tells : Place → Form → Item → Type 0
 Tells place Blank item.Blank = ⊤
 Tells place (Nodes n) item.Part = ⊤
+Tells place FormatOne item.Part = ⊤
 Tells place (Object o) item.Part = ⊤
-Tells (Objects n os) Run (item.Run header) = (header.nodes ≡ n) × (header.objects ≡ os)
+Tells (Objects h) Run (item.Run header) = header ≡ h
 Tells place (Asks e) (item.Event told) = told ≡ e
 Tells _ _ _ = ⊥

@@ -1,8 +1,9 @@
 // The reader of a script.
 use crate::ScriptFault;
 use crate::limits::LINE_BYTES;
-use crate::place::{event_line, first_line, is_blank, object_line};
+use crate::place::{event_line, first_line, format_line, is_blank, object_line};
 use crate::stage::Stage;
+use arj_base::Format;
 use arj_journal::{Event, Header, ObjectLines};
 use arj_text::field::is_text;
 use std::alloc::Global;
@@ -70,7 +71,7 @@ impl Reader {
         // What is taken has this form at its place.
         ensures taken { IfOk result (λ item. (form : Form) × HasForm self.old bytes.now form
             × Tells self.old form item × (self.new ≡ next_place self.old form)) }
-        // A header has 1 to 16 nodes, and objects in form among them, by their numbers.
+        // A header has 1 to 16 nodes, and objects in form among them, by their numbers, which states of its format hold.
         ensures header { IfOk result (λ item. TellsInForm item) }
         // A line is bad exactly where it has no form at its place.
         ensures bad { IsErrOf result script_fault.Bad → IsBadLine self.old bytes.now }
@@ -86,19 +87,32 @@ impl Reader {
             Stage::Start => {
                 let nodes = first_line(self.alloc, bytes)?;
                 let objects = Vec::new(self.alloc);
-                self.stage = Stage::Objects { nodes, objects };
+                self.stage = Stage::Objects {
+                    nodes,
+                    format: Format::Two,
+                    objects,
+                };
                 Ok(Item::Part)
             }
-            Stage::Objects { nodes, objects } => {
+            Stage::Objects {
+                nodes,
+                format,
+                objects,
+            } => {
                 if is_text(bytes, b"run") {
                     let header = Header {
                         nodes: *nodes,
                         objects: ObjectLines::from_vec(replace(objects, Vec::new(self.alloc))),
+                        format: *format,
                     };
                     self.stage = Stage::Running;
                     return Ok(Item::Run(header));
                 }
-                object_line(self.alloc, *nodes, objects, bytes)?;
+                if is_text(bytes, b"format 1") {
+                    format_line(format, objects)?;
+                    return Ok(Item::Part);
+                }
+                object_line(self.alloc, *nodes, *format, objects, bytes)?;
                 Ok(Item::Part)
             }
             Stage::Running => {

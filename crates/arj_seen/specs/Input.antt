@@ -33,7 +33,7 @@ asked_by form = asked.Nothing
 
 -- the header behind a line of this form: `run` ends it
 abbrev pub header_after : Place → Form → Option Header → Option Header
-header_after (Objects n os) Run header = Some (record { nodes = n; objects = os })
+header_after (Objects h) Run header = Some h
 header_after place form header = header
 
 -- A line of a script at its place: no line feed stands in it, it has this form, and asks for what the form does.

@@ -8,9 +8,11 @@ use Rattle.std.proofs.lemmas.List.{append_assoc, append-nil, drop-drop, drop_all
 use Rattle.std.proofs.lemmas.Grind.{flat_map-append}
 use Rattle.std.proofs.lemmas.Nat.{from_be_bytes-to_be_bytes_2}
 use Rattle.byteorder.specs.Endian.{big_bytes}
-use Rattle.arj_base.specs.State.{class_code_of, state_bytes, StateInForm}
+use Rattle.arj_base.specs.State.{class_bytes, state_bytes, StateInForm}
 use Rattle.arj_base.specs.Uid.{uid_bytes, uid_eq}
 use Rattle.arj_base.specs.declared.limits.TheConstants.{MOST_BYTES}
+use Rattle.arj_base.specs.declared.state.Format.{Format}
+use Rattle.arj_base.specs.declared.state.Format.TheVariants.{One, Two}
 use Rattle.arj_base.specs.declared.state.ObjectState.{ObjectState}
 use Rattle.arj_base.specs.declared.uid.Uid.{Uid}
 use Rattle.arj_disk.specs.Formed.{IsStateOf}
@@ -19,6 +21,7 @@ use Rattle.arj_disk.specs.declared.slot.Role.{Role}
 use Rattle.arj_store.specs.Effects.{objects}
 use Rattle.arj_store.specs.Pair.{Packs, packed, uid_of}
 use Rattle.arj_store.proofs.Bytes.{uid_back}
+use Rattle.arj_store.proofs.Sizes.{state_within}
 use Rattle.arj_store.specs.Named.{uid_is}
 use Rattle.arj_segment_file.specs.Format.{row_of, row_bytes, segment_bytes, FitsRow, two_in, has_row, first_in, rest_in, keyed, rows_in}
 use Rattle.arj_segment_file.specs.Format.{states_in, state_in, IsSegment}
@@ -61,11 +64,17 @@ module _ (st : List ℕ) (long : 20 ≤ length st) (short : length st < 65536) (
       grind (arith, nat_tests)
 
 state_long : (s : ObjectState) → 20 ≤ length (state_bytes s)
-state_long s = omega arith
+state_long s = omega (arith, (state_within s).0)
 
 pub keyed_is : (s : ObjectState) → StateInForm s → keyed (state_bytes s) ≡ (s.uid, state_bytes s)
-keyed_is s form =
-    λ i. (uid_back s.uid (class_code_of s.class ∷ (big_bytes 8 s.version ++ (uid_bytes s.writer ++ (big_bytes 2 (length s.payload) ++ s.payload)))) form.0 i, state_bytes s)
+keyed_is s form = by s.format
+  where
+    behind : Format → List ℕ
+    behind f = class_bytes f s.class ++ (big_bytes 8 s.version ++ (uid_bytes s.writer ++ (big_bytes 2 (length s.payload) ++ s.payload)))
+
+    by : (f : Format) → keyed (state_bytes (record s { format = f })) ≡ (s.uid, state_bytes (record s { format = f }))
+    by One = λ i. (uid_back s.uid (behind One) form.0 i, state_bytes (record s { format = One }))
+    by Two = λ i. (uid_back s.uid (behind Two) form.0 i, state_bytes (record s { format = Two }))
 
 -- ---- rows
 

@@ -6,11 +6,9 @@ use Rattle.std.specs.List.{AllByRecursion, IsDistinct}
 use Rattle.std.proofs.lemmas.Bool.{and_parts, leb-true}
 use Rattle.arj_base.specs.State.{StateInForm}
 use Rattle.arj_base.proofs.Uids.{uid_is, uid_sym}
-use Rattle.arj_class.specs.Forms.{OpInForm}
 use Rattle.arj_class.specs.declared.op.Op.{Op}
-use Rattle.arj_class.specs.declared.op.Op.TheVariants.{Get, Add, Set, Put, Deposit, Withdraw, Len, Push, Pop, GetKey, PutPair, Remove}
 use Rattle.arj_msg.specs.InForm.{IsNode, IsObject}
-use Rattle.arj_msg.specs.Sendable.{IsSendable, OpSends, StateSends}
+use Rattle.arj_msg.specs.Sendable.{IsSendable, StateSends}
 use Rattle.arj_msg.specs.declared.message.Confirm.{Confirm}
 use Rattle.arj_naming.specs.Calls.{IsSingle, is_marked}
 use Rattle.arj_naming.specs.Entries.{IsOnce}
@@ -18,7 +16,7 @@ use Rattle.arj_protocol.specs.Copy.{Copy}
 use Rattle.arj_protocol.specs.Effect.{names_object}
 use Rattle.arj_protocol.specs.Node.{are_of_objects, copy_has_op, is_object, stand_once}
 use Rattle.arj_protocol.specs.Order.{at_number, has}
-use Rattle.arj_protocol.specs.Words.{Uid, ObjectState, has_op, class_of, object, uid_eq}
+use Rattle.arj_protocol.specs.Words.{Uid, ObjectState, has_op, own_class, object, uid_eq}
 use Rattle.arj_protocol.specs.Words.message
 use Rattle.arj_serve.specs.Objects.{AreOfObjects}
 use Rattle.arj_server.specs.Classes.{HasOp}
@@ -39,24 +37,10 @@ number_small u is = let n = number_is u is in omega (arith, n.0, n.1)
 
 -- ---- an operation
 
-pub op_form : (op : Op) → OpSends op → OpInForm op
-op_form Get sends = tt
-op_form (Add n) sends = tt
-op_form (Set n) sends = tt
-op_form (Put bytes) sends = sends
-op_form (Deposit n) sends = tt
-op_form (Withdraw n) sends = tt
-op_form Len sends = tt
-op_form (Push n) sends = tt
-op_form Pop sends = tt
-op_form (GetKey k) sends = tt
-op_form (PutPair k v) sends = tt
-op_form (Remove k) sends = tt
-
 pub op_there : (x : ℕ) (op : Op) (copies : List (ℕ × Copy)) → copy_has_op op (at_number x copies) ≡ true → HasOp x op copies
 op_there x op copies is = by (at_number x copies) is
   where
-    by : (o : Option Copy) → copy_has_op op o ≡ true → IfSome o (λ c. has_op (class_of c.base.value) op ≡ true)
+    by : (o : Option Copy) → copy_has_op op o ≡ true → IfSome o (λ c. has_op (own_class c.base.value) op ≡ true)
     by None is = tt
     by (Some c) is = is
 

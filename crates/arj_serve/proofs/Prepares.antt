@@ -11,6 +11,7 @@ use Rattle.arj_protocol.specs.Words.{Uid, ObjectState, object}
 use Rattle.arj_serve.specs.Objects.{AreObjects, AreOfObjects, IsObjectState}
 use Rattle.arj_store.specs.Pair as files
 use Rattle.arj_store.specs.Pair.{uid_of}
+use Rattle.arj_store.proofs.Sizes.{state_within}
 use Rattle.arj_law_store.specs.store.Files.{IsPairOf}
 use Rattle.arj_law_store.proofs.store.Numbered as numbered
 use Rattle.arj_law_store.proofs.store.Numbered.{IsOneOf, uids_to}
@@ -21,7 +22,7 @@ all_store [] all = tt
 all_store (s ∷ ss) all = (ap role_of all.0.of, all_store ss all.1)
 
 small_state : (s : ObjectState) → length s.payload ≤ 256 → length (state_bytes s) ≤ 65535
-small_state s small = omega (arith, small)
+small_state s small = omega (arith, small, (state_within s).1)
 
 pub all_small : (states : List ObjectState) → AllByRecursion (λ s. IsObjectState s.uid s) states →
     AllByRecursion (λ s. length (state_bytes s) ≤ 65535) states

@@ -13,7 +13,7 @@ pub record IsObjectState (u : Uid) (s : ObjectState) : Type 0 where
   pub number : IsObject u.num
   pub of : u ≡ object u.num
   pub in_form : StateInForm s
-  pub restores : Restores s.class s.payload
+  pub restores : Restores s.format s.class s.payload
 
 -- states of distinct objects
 pub record AreOfObjects (states : List ObjectState) : Type 0 where

@@ -20,7 +20,7 @@ impl<O: ObjectStore> Services<O> {
     /// The server takes a copy.
     pub fn activate(&mut self, m: &Activate, out: &mut Lines) -> Result<Option<Message>, AllocError>
         requires object { m.now.state.uid.num < 2 ^ 16 }
-        requires restores { Restores m.now.state.class m.now.state.payload }
+        requires restores { Restores m.now.state.format m.now.state.class m.now.state.payload }
         ensures { IfOk result (λ answer. (file : FileMap) → Serves O.ObjectStore (message.Activate m.now) (record { old = self.old; new = self.new; file = file; left = file; before = out.old; after = out.new }) answer) }
     {
         let answer = self.server.activate(self.number, m, out)?;

@@ -18,7 +18,7 @@ use Rattle.arj_base.specs.declared.mode.End.TheVariants as ending
 use Rattle.arj_base.specs.declared.path.Path.{Path}
 use Rattle.arj_base.specs.declared.state.Class.{Class}
 use Rattle.arj_base.specs.declared.uid.Uid.{Uid}
-use Rattle.arj_class.specs.Table.{class_of, has_op, op_mode, value_after, writes}
+use Rattle.arj_class.specs.Table.{own_class, has_op, op_mode, value_after, writes}
 use Rattle.arj_class.specs.declared.op.Op.{Op}
 use Rattle.arj_class.specs.declared.value.Value.{Value}
 use Rattle.arj_manager.specs.Manager.{invoke_at, invoke_in, ended}
@@ -30,7 +30,7 @@ use Rattle.arj_server.specs.Classes.{AreCopies, AreOfOneClass, ClassIs, HasOp, I
 
 -- each overlay is of this class
 abbrev AllOf : Class → List Over → Type 0
-AllOf k es = AllByRecursion (λ (o : Over). class_of o.value ≡ k) es
+AllOf k es = AllByRecursion (λ (o : Over). own_class o.value ≡ k) es
 
 of_filter : (k : Class) (test : Over → Bool) (es : List Over) → AllOf k es → AllOf k (filter test es)
 of_filter k test [] all = tt
@@ -40,16 +40,16 @@ of_filter k test (e ∷ es) all = by (test e) (of_filter k test es all.1)
     by true more = (all.0, more)
     by false more = more
 
-of_found : (k : Class) (test : Over → Bool) (es : List Over) → AllOf k es → IfSome (find test es) (λ e. class_of e.value ≡ k)
+of_found : (k : Class) (test : Over → Bool) (es : List Over) → AllOf k es → IfSome (find test es) (λ e. own_class e.value ≡ k)
 of_found k test [] all = tt
 of_found k test (e ∷ es) all = by (test e) (of_found k test es all.1)
   where
-    by : (b : Bool) → IfSome (find test es) (λ f. class_of f.value ≡ k) →
-        IfSome (cond b (Some e) (find test es)) (λ f. class_of f.value ≡ k)
+    by : (b : Bool) → IfSome (find test es) (λ f. own_class f.value ≡ k) →
+        IfSome (cond b (Some e) (find test es)) (λ f. own_class f.value ≡ k)
     by true more = all.0
     by false more = more
 
-of_written : (k : Class) (holder : List Uid) (tops : ℕ) (v : Value) (es : List Over) → class_of v ≡ k → AllOf k es →
+of_written : (k : Class) (holder : List Uid) (tops : ℕ) (v : Value) (es : List Over) → own_class v ≡ k → AllOf k es →
     AllOf k (written holder tops v es)
 of_written k holder tops v [] is all = (is, tt)
 of_written k holder tops v (e ∷ es) is all = by (is_of (last_uid holder) e)
@@ -68,19 +68,19 @@ of_folded k u (e ∷ es) all = by (is_of u e)
 
 -- a copy is of one class, this one
 abbrev Is : Class → Copy → Type 0
-Is k c = (class_of c.base.value ≡ k) × AllOf k c.stack
+Is k c = (own_class c.base.value ≡ k) × AllOf k c.stack
 
-is_of_its : (c : Copy) → IsOfOneClass c → Is (class_of c.base.value) c
+is_of_its : (c : Copy) → IsOfOneClass c → Is (own_class c.base.value) c
 is_of_its c one = (refl, one)
 
 of_its : (k : Class) (c : Copy) → Is k c → IsOfOneClass c
 of_its k c is = subst (λ k. AllOf k c.stack) (sym is.0) is.1
 
-class_current : (k : Class) (base : Base) (es : List Over) → class_of base.value ≡ k → AllOf k es → class_of (current base es) ≡ k
+class_current : (k : Class) (base : Base) (es : List Over) → own_class base.value ≡ k → AllOf k es → own_class (current base es) ≡ k
 class_current k base [] is all = is
 class_current k base (e ∷ es) is all = all.0
 
-of_committed : (k : Class) (u : Uid) (c : Copy) (own : Option Over) → Is k c → IfSome own (λ e. class_of e.value ≡ k) →
+of_committed : (k : Class) (u : Uid) (c : Copy) (own : Option Over) → Is k c → IfSome own (λ e. own_class e.value ≡ k) →
     Is k (overs_committed u own c)
 of_committed k u c None is found = is
 of_committed k u c (Some e) is found = by (is_top_over e)
@@ -95,7 +95,7 @@ of_ended k u ending.Abort c is = (is.0, of_filter k (λ o. not (is_on o.holder u
 of_ended k u ending.Commit c is = let d = of_committed k u c (over_of u c.stack) is (of_found k (is_of u) c.stack is.1) in (d.0, d.1)
 
 -- and so does an operation
-of_asked : ((op : Op) (v : Value) → class_of (value_after op v) ≡ class_of v) →
+of_asked : ((op : Op) (v : Value) → own_class (value_after op v) ≡ own_class v) →
     (k : Class) (n : ℕ) (p : Path) (x : ℕ) (op : Op) (c : Copy) (met : Option Row) → Is k c → Is k (ask_copy n p x op c met).part
 of_asked keeps k n p x op c (Some r) is = is
 of_asked keeps k n p x op c None is = (is.0, by (writes op))
@@ -127,9 +127,9 @@ of_at x (e ∷ m) all = by (is_eq (nat_cmp x e.0)) (of_at x m all.1)
 of_each : (u : Uid) (e : End) (m : List (ℕ × Copy)) → AreOfOneClass m → AreOfOneClass (ended u e m)
 of_each u e [] all = tt
 of_each u e (f ∷ m) all =
-    (of_its (class_of f.1.base.value) (end_copy u e f.1) (of_ended (class_of f.1.base.value) u e f.1 (is_of_its f.1 all.0)), of_each u e m all.1)
+    (of_its (own_class f.1.base.value) (end_copy u e f.1) (of_ended (own_class f.1.base.value) u e f.1 (is_of_its f.1 all.0)), of_each u e m all.1)
 
-pub of_invoked : ((op : Op) (v : Value) → class_of (value_after op v) ≡ class_of v) →
+pub of_invoked : ((op : Op) (v : Value) → own_class (value_after op v) ≡ own_class v) →
     (n : ℕ) (p : Path) (x : ℕ) (op : Op) (m : List (ℕ × Copy)) → AreOfOneClass m → AreOfOneClass (invoke_in n p x op m).part
 of_invoked keeps n p x op m all = by (at_number x m) (of_at x m all)
   where
@@ -137,7 +137,7 @@ of_invoked keeps n p x op m all = by (at_number x m) (of_at x m all)
     by None one = all
     by (Some c) one =
         of_put x (invoke_copy n p x op c).part m all
-        (of_its (class_of c.base.value) (invoke_copy n p x op c).part (of_asked keeps (class_of c.base.value) n p x op c (first_conflict (uids_of p) (object x) (op_mode op) c.rows) (is_of_its c one)))
+        (of_its (own_class c.base.value) (invoke_copy n p x op c).part (of_asked keeps (own_class c.base.value) n p x op c (first_conflict (uids_of p) (object x) (op_mode op) c.rows) (is_of_its c one)))
 
 -- ---- ends keep the class of an object
 
@@ -147,9 +147,9 @@ module _ (x : ℕ) (P : Class → Type 0) where
   class_each u e (f ∷ m) all has = by (is_eq (nat_cmp x f.0)) (class_each u e m all.1) has
     where
       by : (b : Bool) → (ClassIs x P m → ClassIs x P (ended u e m)) →
-          IfSome (cond b (Some f.1) (at_number x m)) (λ c. P (class_of c.base.value))
-          → IfSome (cond b (Some (end_copy u e f.1)) (at_number x (ended u e m))) (λ c. P (class_of c.base.value))
-      by true more is = subst P (sym (of_ended (class_of f.1.base.value) u e f.1 (is_of_its f.1 all.0)).0) is
+          IfSome (cond b (Some f.1) (at_number x m)) (λ c. P (own_class c.base.value))
+          → IfSome (cond b (Some (end_copy u e f.1)) (at_number x (ended u e m))) (λ c. P (own_class c.base.value))
+      by true more is = subst P (sym (of_ended (own_class f.1.base.value) u e f.1 (is_of_its f.1 all.0)).0) is
       by false more is = more is
 
   abbrev Both : List (ℕ × Copy) → Type 0
@@ -170,11 +170,11 @@ module _ (x : ℕ) (P : Class → Type 0) where
   class_ends n (e ∷ es) s both = class_ends n es (end_one n e.0 e.1 s).part (class_one n e.0 e.1 s both)
 
   -- a copy that is put in
-  pub class_put : (y : ℕ) (c : Copy) (m : List (ℕ × Copy)) → (x ≡ y → P (class_of c.base.value)) → ClassIs x P m →
+  pub class_put : (y : ℕ) (c : Copy) (m : List (ℕ × Copy)) → (x ≡ y → P (own_class c.base.value)) → ClassIs x P m →
       ClassIs x P (put_number y c m)
   class_put y c [] is has = by (nat_cmp x y) refl
     where
-      by : (r : Ordering) → nat_cmp x y ≡ r → IfSome (cond (is_eq r) (Some c) None) (λ c. P (class_of c.base.value))
+      by : (r : Ordering) → nat_cmp x y ≡ r → IfSome (cond (is_eq r) (Some c) None) (λ c. P (own_class c.base.value))
       by Less e = tt
       by Equal e = is (nat_cmp-IsAntisymmetric x y e)
       by Greater e = tt
@@ -183,7 +183,7 @@ module _ (x : ℕ) (P : Class → Type 0) where
       here : (k : ℕ) (rest : List (ℕ × Copy)) → y ≡ k → ClassIs x P rest → ClassIs x P ((k, c) ∷ rest)
       here k rest same has = at (nat_cmp x k) refl
         where
-          at : (r : Ordering) → nat_cmp x k ≡ r → IfSome (cond (is_eq r) (Some c) (at_number x rest)) (λ c. P (class_of c.base.value))
+          at : (r : Ordering) → nat_cmp x k ≡ r → IfSome (cond (is_eq r) (Some c) (at_number x rest)) (λ c. P (own_class c.base.value))
           at Less e = has
           at Equal e = is (nat_cmp-IsAntisymmetric x k e ∙ sym same)
           at Greater e = has
@@ -193,16 +193,16 @@ module _ (x : ℕ) (P : Class → Type 0) where
       by Less r ih = here y (e ∷ m) refl has
       by Equal r ih = same (nat_cmp x e.0) refl has
         where
-          same : (q : Ordering) → nat_cmp x e.0 ≡ q → IfSome (cond (is_eq q) (Some e.1) (at_number x m)) (λ c. P (class_of c.base.value)) →
-              IfSome (cond (is_eq q) (Some c) (at_number x m)) (λ c. P (class_of c.base.value))
+          same : (q : Ordering) → nat_cmp x e.0 ≡ q → IfSome (cond (is_eq q) (Some e.1) (at_number x m)) (λ c. P (own_class c.base.value)) →
+              IfSome (cond (is_eq q) (Some c) (at_number x m)) (λ c. P (own_class c.base.value))
           same Less q has = has
           same Equal q has = is (nat_cmp-IsAntisymmetric x e.0 q ∙ sym (nat_cmp-IsAntisymmetric y e.0 r))
           same Greater q has = has
       by Greater r ih = later (is_eq (nat_cmp x e.0)) ih has
         where
           later : (b : Bool) → (ClassIs x P m → ClassIs x P (put_number y c m)) →
-              IfSome (cond b (Some e.1) (at_number x m)) (λ c. P (class_of c.base.value)) →
-              IfSome (cond b (Some e.1) (at_number x (put_number y c m))) (λ c. P (class_of c.base.value))
+              IfSome (cond b (Some e.1) (at_number x m)) (λ c. P (own_class c.base.value)) →
+              IfSome (cond b (Some e.1) (at_number x (put_number y c m))) (λ c. P (own_class c.base.value))
           later true more has = has
           later false more has = more has
 
@@ -217,17 +217,17 @@ module _ (x : ℕ) (P : Class → Type 0) where
       by None at = has
       by (Some c) at =
           class_put y (invoke_copy n p y op c).part m
-          (λ same. subst (λ (b : Base). P (class_of b.value)) (sym (base_same n p y op c (first_conflict (uids_of p) (object y) (op_mode op) c.rows)))
-          (subst (λ found. IfSome found (λ c. P (class_of c.base.value))) at (subst (λ z. ClassIs z P m) same has)))
+          (λ same. subst (λ (b : Base). P (own_class b.value)) (sym (base_same n p y op c (first_conflict (uids_of p) (object y) (op_mode op) c.rows)))
+          (subst (λ found. IfSome found (λ c. P (own_class c.base.value))) at (subst (λ z. ClassIs z P m) same has)))
           has
 
 may_here : (x : ℕ) (op : Op) (m : List (ℕ × Copy)) → Both x (λ k. has_op k op ≡ true) m → MayDo x op m
 may_here x op m both = by (at_number x m) (of_at x m both.0) both.1
   where
-    by : (found : Option Copy) → IfSome found IsOfOneClass → IfSome found (λ c. has_op (class_of c.base.value) op ≡ true) →
-        IfSome found (λ c. has_op (class_of (current c.base c.stack)) op ≡ true)
+    by : (found : Option Copy) → IfSome found IsOfOneClass → IfSome found (λ c. has_op (own_class c.base.value) op ≡ true) →
+        IfSome found (λ c. has_op (own_class (current c.base c.stack)) op ≡ true)
     by None one has = tt
-    by (Some c) one has = ap (λ k. has_op k op) (class_current (class_of c.base.value) c.base c.stack refl one) ∙ has
+    by (Some c) one has = ap (λ k. has_op k op) (class_current (own_class c.base.value) c.base c.stack refl one) ∙ has
 
 -- where the object's class has an operation, it may be done behind ends
 pub may_behind : (n x : ℕ) (op : Op) (ends : List (Uid × End)) (s t : Server) → AreOfOneClass s.objects → HasOp x op s.objects →
@@ -280,7 +280,7 @@ copies_put x c m all one = (of_put x c m all.0 one, sorted_put x c m all.1)
 pub copies_ended : (u : Uid) (e : End) (m : List (ℕ × Copy)) → AreCopies m → AreCopies (ended u e m)
 copies_ended u e m all = (of_each u e m all.0, subst (IsStrictlySortedBy nat_cmp) (sym (keys_ended u e m)) all.1)
 
-copies_invoked : ((op : Op) (v : Value) → class_of (value_after op v) ≡ class_of v) →
+copies_invoked : ((op : Op) (v : Value) → own_class (value_after op v) ≡ own_class v) →
     (n : ℕ) (p : Path) (x : ℕ) (op : Op) (m : List (ℕ × Copy)) → AreCopies m → AreCopies (invoke_in n p x op m).part
 copies_invoked keeps n p x op m all = (of_invoked keeps n p x op m all.0, by (at_number x m))
   where
@@ -295,14 +295,14 @@ either_way (Ok x) new ok err good bad is isnt = subst AreCopies (sym is) good
 either_way (Err e) new ok err good bad is isnt = subst AreCopies (sym isnt) bad
 
 pub invoked_way : {T E : Type 0} (r : Result T E) (p : Path) (x : ℕ) (op : Op) (new old : List (ℕ × Copy)) →
-    ((op : Op) (v : Value) → class_of (value_after op v) ≡ class_of v)
+    ((op : Op) (v : Value) → own_class (value_after op v) ≡ own_class v)
     → OnOk r ((n : ℕ) → new ≡ (invoke_in n p x op old).part) → OnErr r (new ≡ old) → AreCopies old → AreCopies new
 invoked_way (Ok d) p x op new old keeps is isnt all = subst AreCopies (sym (is 0)) (copies_invoked keeps 0 p x op old all)
 invoked_way (Err e) p x op new old keeps is isnt all = subst AreCopies (sym isnt) all
 
 -- the value in place is of the copy's class
 pub current_has : (x : ℕ) (op : Op) (m : List (ℕ × Copy)) (c : Copy) → AreOfOneClass m → at_number x m ≡ Some c →
-    has_op (class_of (current c.base c.stack)) op ≡ has_op (class_of c.base.value) op
+    has_op (own_class (current c.base c.stack)) op ≡ has_op (own_class c.base.value) op
 current_has x op m c all at =
     let one : IsOfOneClass c = subst (λ o. IfSome o IsOfOneClass) at (of_at x m all) in
-    ap (λ k. has_op k op) (class_current (class_of c.base.value) c.base c.stack refl one)
+    ap (λ k. has_op k op) (class_current (own_class c.base.value) c.base c.stack refl one)

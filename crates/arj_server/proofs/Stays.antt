@@ -2,14 +2,11 @@
 use Rattle.std.specs.Prelude.{IfSome, OnOk, Result, Ok, Err}
 use Rattle.std.proofs.Common.{◌≡◌, ◌==◌, ◌||◌, ℕ, Bool, true, false, cond, List, Option, Some, None, ap, sym, ◌∙◌, subst}
 use Rattle.arj_base.specs.declared.state.Class.{Class}
-use Rattle.arj_base.specs.declared.state.ObjectState.{ObjectState}
-use Rattle.arj_class.specs.Forms.{ValueInForm, payload_of}
-use Rattle.arj_class.specs.Table.{class_of, has_op, value_after}
+use Rattle.arj_class.specs.Table.{own_class, has_op, value_after}
 use Rattle.arj_class.specs.declared.op.Op.{Op}
 use Rattle.arj_class.specs.declared.value.Value.{Value}
 use Rattle.arj_base.specs.declared.mode.End.{End}
 use Rattle.arj_base.specs.declared.uid.Uid.{Uid}
-use Rattle.arj_msg.specs.State.{Restores}
 use Rattle.arj_msg.specs.declared.message.Activate.{Activate}
 use Rattle.arj_msg.specs.declared.message.Invoke.{Invoke}
 use Rattle.arj_msg.specs.declared.message.InvokedReply.{InvokedReply}
@@ -21,7 +18,7 @@ use Rattle.arj_protocol.specs.Effect.{either, reply, void}
 use Rattle.arj_protocol.specs.Order.{at_number, at_uid, binding_eq, binding_less}
 use Rattle.arj_protocol.specs.Server.{Kept, Server, active_binding, apply_ends, changed_by, first_unbound, has_ended, invoke_kept}
 use Rattle.arj_protocol.specs.Server.{invoke_new, invoke_now, is_below, keeps, other_inc, took_copy, vote_now}
-use Rattle.arj_protocol.specs.Values.{value_in}
+use Rattle.arj_protocol.specs.Values.{state_value}
 use Rattle.arj_server.specs.Calls.{activated, invoked, ran, voted}
 use Rattle.arj_server.specs.Classes.{HasOp, IsOfClass}
 use Rattle.arj_server.proofs.Classes.{class_ends, class_invoked, class_put, of_invoked, of_put}
@@ -39,7 +36,7 @@ vote_stays n x k m s is = by (has_ended m.head.path s) (either (other_inc m.serv
     by false None = let t = ends_stay n x k m.ends s is in record { all = t.all; here = t.here }
 
 -- an operation on the object's copy
-ran_stays : ((op : Op) (v : Value) → class_of (value_after op v) ≡ class_of v) → (n x : ℕ) (k : Class) (m : Invoke) (s : Server) →
+ran_stays : ((op : Op) (v : Value) → own_class (value_after op v) ≡ own_class v) → (n x : ℕ) (k : Class) (m : Invoke) (s : Server) →
     IsOfClass x k s → IsOfClass x k (ran n m s).part
 ran_stays same n x k m s is = subst (IsOfClass x k) (ran_part n m s) (record {
   all = of_invoked same n m.head.path m.x m.op s.objects is.all;
@@ -52,14 +49,14 @@ keeps_stay : (x : ℕ) (k : Class) (act : Uid) (req : ℕ) (r : Option InvokedRe
 keeps_stay x k act req None s is = is
 keeps_stay x k act req (Some a) s is = record { all = is.all; here = is.here }
 
-new_stays : ((op : Op) (v : Value) → class_of (value_after op v) ≡ class_of v) → (n x : ℕ) (k : Class) (m : Invoke) (s : Server) →
+new_stays : ((op : Op) (v : Value) → own_class (value_after op v) ≡ own_class v) → (n x : ℕ) (k : Class) (m : Invoke) (s : Server) →
     IsOfClass x k s
     → IsOfClass x k (invoke_new n m.head m.x m.ends m.op s).part
 new_stays same n x k m s is =
     let t = (apply_ends n m.ends s).part in
     keeps_stay x k (actor m.head.path) m.head.req (ran n m t).reply (ran n m t).part (ran_stays same n x k m t (ends_stay n x k m.ends s is))
 
-pub invoke_stays : ((op : Op) (v : Value) → class_of (value_after op v) ≡ class_of v) → (n x : ℕ) (k : Class) (m : Invoke) (s : Server) →
+pub invoke_stays : ((op : Op) (v : Value) → own_class (value_after op v) ≡ own_class v) → (n x : ℕ) (k : Class) (m : Invoke) (s : Server) →
     IsOfClass x k s → IsOfClass x k (invoked n m s).part
 invoke_stays same n x k m s is =
     by (has_ended m.head.path s || is_below m.head.req (at_uid (actor m.head.path) s.kept)) (changed_by m.server_inc m.x m.binding s) (at_uid (actor m.head.path) s.kept)
@@ -77,15 +74,9 @@ invoke_stays same n x k m s is =
     by false (Some w) old = is
     by false None old = now (at_uid (actor m.head.path) s.kept)
 
--- a state is taken as a value of its class
-restored : ((v : Value) → ValueInForm v → value_in (class_of v) (payload_of v) ≡ v) → (st : ObjectState) → Restores st.class st.payload →
-    class_of (value_in st.class st.payload) ≡ st.class
-restored back st r = (λ i. class_of (value_in (sym r.1 i) (sym r.3 i))) ∙ ap class_of (back r.0 r.2) ∙ r.1
-
-pub activate_stays : ((v : Value) → ValueInForm v → value_in (class_of v) (payload_of v) ≡ v) →
-    (n x : ℕ) (k : Class) (m : Activate) (s : Server) → Restores m.state.class m.state.payload
-    → (x ≡ m.state.uid.num → m.state.class ≡ k) → IsOfClass x k s → IsOfClass x k (activated n m s).part
-activate_stays back n x k m s restores same is =
+pub activate_stays : (n x : ℕ) (k : Class) (m : Activate) (s : Server) → (x ≡ m.state.uid.num → own_class (state_value m.state) ≡ k) →
+    IsOfClass x k s → IsOfClass x k (activated n m s).part
+activate_stays n x k m s same is =
     by (has_ended m.head.path s || binding_less m.binding (active_binding m.state.uid.num s)) (binding_eq m.binding (active_binding m.state.uid.num s))
   where
     by : (b c : Bool) → IsOfClass x k (cond b (void s) (cond c (reply s s.inc) (took_copy n m.state.uid.num m.binding m.state s))).part
@@ -93,14 +84,14 @@ activate_stays back n x k m s restores same is =
     by false true = is
     by false false = record {
       all = of_put m.state.uid.num (taken_copy m.binding m.state) s.objects is.all tt;
-      here = class_put x (λ j. j ≡ k) m.state.uid.num (taken_copy m.binding m.state) s.objects (λ here. restored back m.state restores ∙ same here) is.here;
+      here = class_put x (λ j. j ≡ k) m.state.uid.num (taken_copy m.binding m.state) s.objects same is.here;
     }
 
 pub has_class : (x : ℕ) (k : Class) (op : Op) (s : Server) → IsOfClass x k s → has_op k op ≡ true → HasOp x op s.objects
 has_class x k op s is has = by (at_number x s.objects) is.here
   where
-    by : (found : Option Copy) → IfSome found (λ c. class_of c.base.value ≡ k) →
-        IfSome found (λ c. has_op (class_of c.base.value) op ≡ true)
+    by : (found : Option Copy) → IfSome found (λ c. own_class c.base.value ≡ k) →
+        IfSome found (λ c. has_op (own_class c.base.value) op ≡ true)
     by None here = tt
     by (Some c) here = ap (λ j. has_op j op) here ∙ has
 

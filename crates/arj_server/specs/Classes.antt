@@ -6,14 +6,14 @@ use Rattle.std.specs.Map.{keys_of}
 use Rattle.std.specs.Ordering.{nat_cmp}
 use Rattle.arj_base.specs.declared.state.Class.{Class}
 use Rattle.arj_class.specs.declared.op.Op.{Op}
-use Rattle.arj_class.specs.Table.{class_of, has_op}
+use Rattle.arj_class.specs.Table.{own_class, has_op}
 use Rattle.arj_protocol.specs.Copy.{Copy, Over, current}
 use Rattle.arj_protocol.specs.Order.{at_number}
 use Rattle.arj_protocol.specs.Server.{Server}
 
--- each overlay has a value of the class of the state
+-- Each overlay has a value of the class of the state; a value that is gone has the class of its object.
 abbrev pub IsOfOneClass : Copy → Type 0
-IsOfOneClass c = AllByRecursion (λ (o : Over). class_of o.value ≡ class_of c.base.value) c.stack
+IsOfOneClass c = AllByRecursion (λ (o : Over). own_class o.value ≡ own_class c.base.value) c.stack
 
 -- and so for all copies
 abbrev pub AreOfOneClass : List (ℕ × Copy) → Type 0
@@ -23,9 +23,9 @@ AreOfOneClass m = AllByRecursion (λ (e : ℕ × Copy). IsOfOneClass e.1) m
 abbrev pub AreCopies : List (ℕ × Copy) → Type 0
 AreCopies m = AreOfOneClass m × IsStrictlySortedBy nat_cmp (keys_of m)
 
--- where the object is active, its class is such
+-- where the object is active, its class is such, also while it is gone
 abbrev pub ClassIs : ℕ → (Class → Type 0) → List (ℕ × Copy) → Type 0
-ClassIs x P m = IfSome (at_number x m) (λ c. P (class_of c.base.value))
+ClassIs x P m = IfSome (at_number x m) (λ c. P (own_class c.base.value))
 
 -- where the object is active, its class has the operation
 abbrev pub HasOp : ℕ → Op → List (ℕ × Copy) → Type 0
@@ -36,6 +36,6 @@ pub record IsOfClass (x : ℕ) (k : Class) (s : Server) : Type 0 where
   pub all : AreOfOneClass s.objects
   pub here : ClassIs x (λ j. j ≡ k) s.objects
 
--- where the object is active, the value in place is of a class that has the operation
+-- where the object is active, the class by the value in place has the operation
 abbrev pub MayDo : ℕ → Op → List (ℕ × Copy) → Type 0
-MayDo x op m = IfSome (at_number x m) (λ c. has_op (class_of (current c.base c.stack)) op ≡ true)
+MayDo x op m = IfSome (at_number x m) (λ c. has_op (own_class (current c.base c.stack)) op ≡ true)

@@ -79,6 +79,8 @@ fn copy_answer(answer: &Answer) -> Result<Answer, AllocError>
         Answer::Short => Answer::Short,
         Answer::Full => Answer::Full,
         Answer::Nothing => Answer::Nothing,
+        Answer::There => Answer::There,
+        Answer::Gone => Answer::Gone,
     })
 }
 

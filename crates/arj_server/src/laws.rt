@@ -4,10 +4,9 @@ ghost use Rattle.arj_base.specs.Path.{tops_of, uids_of};
 ghost use Rattle.arj_base.specs.Uid.{object};
 ghost use Rattle.arj_base.specs.declared.state.Class.{Class};
 ghost use Rattle.arj_base.specs.declared.state.ObjectState.{ObjectState};
-ghost use Rattle.arj_class.specs.Table.{has_op};
+ghost use Rattle.arj_class.specs.Table.{has_op, own_class};
 ghost use Rattle.arj_class.specs.declared.op.Op.{Op};
 ghost use Rattle.arj_journal.specs.declared.body.Part.TheVariants as part;
-ghost use Rattle.arj_msg.specs.State.{Restores};
 ghost use Rattle.arj_msg.specs.declared.message.Activate.{Activate};
 ghost use Rattle.arj_msg.specs.declared.message.Invoke.{Invoke};
 ghost use Rattle.arj_msg.specs.declared.message.Told.{Told};
@@ -19,6 +18,7 @@ ghost use Rattle.arj_protocol.specs.Laws.{AreOfActions, Holders, IsPathOf, serve
 ghost use Rattle.arj_protocol.specs.Says.{AreAll, is_server_effect};
 ghost use Rattle.arj_protocol.specs.Order.{at_uid, binding_less};
 ghost use Rattle.arj_protocol.specs.Server.{Kept, Server, active_binding, changed_by, has_ended, is_below, new_server};
+ghost use Rattle.arj_protocol.specs.Values.{state_value};
 ghost use Rattle.arj_protocol.specs.World.{bodies, numbered};
 ghost use Rattle.arj_server.specs.Calls.{activated, invoked, told, voted};
 ghost use Rattle.arj_server.specs.Classes.{HasOp, IsOfClass};
@@ -26,7 +26,7 @@ ghost use Rattle.arj_server.specs.Lines.{said, rows_by_lines};
 ghost use Rattle.arj_server.specs.Meaning.{AreBound, VoidWhere};
 
 use arj_class::operations_keep;
-use arj_protocol::{payloads_read_back, server_locks_follow_lines};
+use arj_protocol::server_locks_follow_lines;
 
 /// The locks of a server on an object change by the lines that its calls append, and by these alone. The path of a
 /// request is that of its action. It does nothing when it runs.
@@ -71,11 +71,12 @@ pub fn a_yes_is_of_one_life()
     ensures { (n : ℕ) (m : Vote) (s : Server) (states : List ObjectState) → (voted n m s).reply ≡ Some (voted_as.Yes states) → (m.server_inc ≡ s.inc) × AreBound s m.objects }
 {}
 
-/// An object's class stays at a server, whatever it is asked, as long as each state that is activated as this object is of
-/// the class; so its operations may be asked. It does nothing when it runs.
+/// An object's class stays at a server, also while the object is gone, whatever it is asked, as long as each state that is
+/// activated as this object is of that class or says that one of that class is gone; so its operations may be asked. It does
+/// nothing when it runs.
 pub fn classes_stay()
     ensures empty { (x inc : ℕ) (k : Class) → IsOfClass x k (new_server inc) }
-    ensures activate { (n x : ℕ) (k : Class) (m : Activate) (s : Server) → Restores m.state.class m.state.payload → (x ≡ m.state.uid.num → m.state.class ≡ k)
+    ensures activate { (n x : ℕ) (k : Class) (m : Activate) (s : Server) → (x ≡ m.state.uid.num → own_class (state_value m.state) ≡ k)
         → IsOfClass x k s → IsOfClass x k (activated n m s).part }
     ensures invoke { (n x : ℕ) (k : Class) (m : Invoke) (s : Server) → IsOfClass x k s → IsOfClass x k (invoked n m s).part }
     ensures vote { (n x : ℕ) (k : Class) (m : Vote) (s : Server) → IsOfClass x k s → IsOfClass x k (voted n m s).part }
@@ -83,5 +84,4 @@ pub fn classes_stay()
     ensures may { (x : ℕ) (k : Class) (op : Op) (s : Server) → IsOfClass x k s → has_op k op ≡ true → HasOp x op s.objects }
 {
     operations_keep();
-    payloads_read_back();
 }

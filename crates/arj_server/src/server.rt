@@ -4,7 +4,7 @@ ghost use Rattle.arj_base.specs.Path.{uids_of};
 ghost use Rattle.arj_base.specs.Rows.{is_on, last_uid};
 ghost use Rattle.arj_base.specs.Uid.{object};
 ghost use Rattle.arj_class.specs.Forms.{OpInForm};
-ghost use Rattle.arj_class.specs.Table.{class_of, has_op as has_op_in};
+ghost use Rattle.arj_class.specs.Table.{own_class, has_op as has_op_in};
 ghost use Rattle.arj_lock.specs.Held.{AreListed};
 ghost use Rattle.arj_manager.specs.Manager.{ended};
 ghost use Rattle.arj_manager.specs.Ran.{grant_said};
@@ -86,7 +86,7 @@ impl Server {
         out: &mut Lines,
     ) -> Result<Option<Activated>, AllocError>
         requires object { m.now.state.uid.num < 2 ^ 16 }
-        requires restores { Restores m.now.state.class m.now.state.payload }
+        requires restores { Restores m.now.state.format m.now.state.class m.now.state.payload }
         ensures part { OnOk result (self.new ≡ (activated node m.now self.old).part) }
         ensures lines { OnOk result (out.new ≡ out.old ++ said (activated node m.now self.old).outs) }
         ensures reply { IfOk result (λ answer. answer ≡ option_map (activated_by m.now.head) (activated node m.now self.old).reply) }
@@ -297,7 +297,7 @@ impl Server {
         m: &Activate,
         out: &mut Lines,
     ) -> Result<(), AllocError>
-        requires { Restores m.now.state.class m.now.state.payload }
+        requires { Restores m.now.state.format m.now.state.class m.now.state.payload }
         ensures part { OnOk result (self.new ≡ (server.took_copy node x m.now.binding m.now.state self.old).part) }
         ensures lines { OnOk result (out.new ≡ out.old ++ said (server.took_copy node x m.now.binding m.now.state self.old).outs) }
     {
@@ -467,9 +467,9 @@ impl Server {
 
 // Whether the class of a value has an operation.
 fn has_op(value: &Value, op: &Op) -> bool
-    ensures { result ≡ has_op_in (class_of value.now) op.now }
+    ensures { result ≡ has_op_in (own_class value.now) op.now }
 {
-    Value::mode(value.class(), op).is_some()
+    Value::mode(value.own_class(), op).is_some()
 }
 
 // Who had asked.

@@ -1,6 +1,8 @@
 -- What a run begins with: the marks of what is held, what else stores hold, which incarnations nodes are in and whether they are up, which
 -- labels were given, and how many events and frames there were.
-use Rattle.std.specs.Prelude.{ℕ, Bool, true, List, []}
+use Rattle.std.specs.Prelude.{ℕ, ◌==◌, Bool, true, if◌then◌else◌, List, []}
+use Rattle.arj_base.specs.declared.state.Format.{Format}
+use Rattle.arj_base.specs.declared.state.Format.TheVariants as format
 use Rattle.arj_base.specs.declared.state.ObjectState.{ObjectState}
 use Rattle.arj_base.specs.declared.uid.Uid.{Uid}
 use Rattle.arj_base.specs.Uid.{nobody}
@@ -14,6 +16,10 @@ pub record Mark : Type 0 where
 -- what nobody has written: version 0
 abbrev pub unwritten : Mark
 unwritten = record { version = 0; writer = nobody }
+
+-- the format of a state or entry of this version, where the header has this format: what was written is in format two
+abbrev pub format_at : Format → ℕ → Format
+format_at first version = if version == 0 then first else format.Two
 
 -- the marks of each object's state and entry
 pub record Marks : Type 0 where

@@ -17,4 +17,5 @@ pub mod Readings
 pub mod Recovering
 pub mod Refusals
 pub mod Rows
+pub mod Sizes
 pub mod Uids

@@ -361,5 +361,6 @@ fn copied(state: &ObjectState) -> Result<ObjectState, AllocError>
         version: state.version,
         writer: state.writer,
         payload,
+        format: state.format,
     })
 }

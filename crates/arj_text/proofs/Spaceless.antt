@@ -7,10 +7,12 @@ use Rattle.std.specs.Fmt.{decimal}
 use Rattle.std.proofs.Math.Seq.{take-append_seam}
 use Rattle.std.proofs.lemmas.Bool.{ne_eqb, or_from}
 use Rattle.std.proofs.lemmas.List.Folds.{list_any-append}
+use Rattle.arj_base.specs.declared.state.Class.{Class}
+use Rattle.arj_base.specs.declared.state.Class.TheVariants as class
 use Rattle.arj_class.specs.declared.value.Value.{Value}
 use Rattle.arj_class.specs.declared.value.Value.TheVariants as value
-use Rattle.arj_text.specs.Words.{behind_comma, hex, hex_digit, hex_pair, list_text, numbers_text, pairs_text, value_text}
-use Rattle.arj_text.specs.Fields.{IsRead, HasNoFirst, IsFirst, NodesInForm, NumberInForm, PairInForm, ValueTextInForm, has_space}
+use Rattle.arj_text.specs.Words.{behind_comma, gone_text, hex, hex_digit, hex_pair, list_text, numbers_text, pairs_text, value_text}
+use Rattle.arj_text.specs.Fields.{IsObjectClass, IsRead, HasNoFirst, IsFirst, NodesInForm, NumberInForm, PairInForm, ValueTextInForm, has_space}
 use Rattle.arj_text.specs.Fields.{items_text, pair_text}
 use Rattle.arj_text.proofs.Texts.{cut_once, digits_only, no_cut}
 use Rattle.arj_text.proofs.ListItems.{list_text_is, node_items, pairs_text_is}
@@ -80,6 +82,15 @@ value_words (value.Queue ns) form =
     record { class = codes "queue"; word = numbers_text ns; class_whole = refl; word_whole = spaceless_numbers ns form.1; is = refl }
 value_words (value.Table ps) form =
     record { class = codes "table"; word = pairs_text ps; class_whole = refl; word_whole = spaceless_table ps form.1; is = refl }
+value_words (value.Gone c) form = gone_words c form
+  where
+    gone_words : (c : Class) → IsObjectClass c → TwoWords (gone_text c)
+    gone_words class.Counter form = record { class = codes "counter"; word = codes "gone"; class_whole = refl; word_whole = refl; is = refl }
+    gone_words class.Register form = record { class = codes "register"; word = codes "gone"; class_whole = refl; word_whole = refl; is = refl }
+    gone_words class.Account form = record { class = codes "account"; word = codes "gone"; class_whole = refl; word_whole = refl; is = refl }
+    gone_words class.Queue form = record { class = codes "queue"; word = codes "gone"; class_whole = refl; word_whole = refl; is = refl }
+    gone_words class.Table form = record { class = codes "table"; word = codes "gone"; class_whole = refl; word_whole = refl; is = refl }
+    gone_words _ form = absurd (cc form)
 
 -- Where a value with a space behind it is the front of a line, its two words are the first two of the line.
 pub value_cut : (bytes class fields word rest : List ℕ) (v : Value) (r : List ℕ) → has_space class ≡ false → bytes ≡ class ++ 32 ∷ fields →

@@ -5,6 +5,9 @@ use Rattle.std.specs.List.{list_any, list_all, AllByRecursion}
 use Rattle.std.specs.Fmt.{decimal}
 use Rattle.arj_base.specs.declared.binding.Binding.{Binding}
 use Rattle.arj_class.specs.declared.limits.TheConstants.{QUEUE_NUMBERS, REGISTER_BYTES, TABLE_PAIRS}
+use Rattle.arj_base.specs.State.{is_object_class}
+use Rattle.arj_base.specs.declared.state.Class.{Class}
+use Rattle.arj_class.specs.Table.{is_gone}
 use Rattle.arj_class.specs.declared.op.Op.{Op}
 use Rattle.arj_class.specs.declared.op.Op.TheVariants as op
 use Rattle.arj_class.specs.declared.op.Answer.{Answer}
@@ -88,31 +91,6 @@ are_nodes n most ns =
 abbrev pub NodesInForm : ℕ → ℕ → List ℕ → Type 0
 NodesInForm n most ns = are_nodes n most ns ≡ true
 
--- An operation that a text can say. Beyond `OpInForm` of arj_class, the class table's own limit, this has the widths that
--- the program's types give: numbers have 64 bits, and what is put are bytes.
-abbrev pub OpTextInForm : Op → Type 0
-OpTextInForm (op.Add n) = NumberInForm n
-OpTextInForm (op.Set n) = NumberInForm n
-OpTextInForm (op.Put bytes) = AreBytesUpTo REGISTER_BYTES bytes
-OpTextInForm (op.Deposit n) = NumberInForm n
-OpTextInForm (op.Withdraw n) = NumberInForm n
-OpTextInForm (op.Push n) = NumberInForm n
-OpTextInForm (op.GetKey k) = NumberInForm k
-OpTextInForm (op.PutPair k v) = NumberInForm k × NumberInForm v
-OpTextInForm (op.Remove k) = NumberInForm k
-OpTextInForm _ = ⊤
-
--- a `get` without a key: the bytes of a register are answered to it alone
-abbrev pub is_get : Op → Bool
-is_get op.Get = true
-is_get _ = false
-
--- an answer that a text can say to that operation
-abbrev pub AnswerTextInForm : Op → Answer → Type 0
-AnswerTextInForm asked (answer.Number n) = NumberInForm n
-AnswerTextInForm asked (answer.Text bytes) = (is_get asked ≡ true) × AreBytesUpTo REGISTER_BYTES bytes
-AnswerTextInForm asked _ = ⊤
-
 -- a key and a value
 abbrev pub PairInForm : ℕ × ℕ → Type 0
 PairInForm p = NumberInForm p.0 × NumberInForm p.1
@@ -135,6 +113,10 @@ NumbersInForm most ns = (length ns ≤ most) × AllByRecursion NumberInForm ns
 abbrev pub PairsInForm : ℕ → List (ℕ × ℕ) → Type 0
 PairsInForm most ps = (length ps ≤ most) × AllByRecursion PairInForm ps × (is_rising ps ≡ true)
 
+-- a class of objects
+abbrev pub IsObjectClass : Class → Type 0
+IsObjectClass c = is_object_class c ≡ true
+
 -- A value that a text can say: as `ValueInForm` of arj_class, and what a register holds are bytes.
 abbrev pub ValueTextInForm : Value → Type 0
 ValueTextInForm (value.Counter n) = NumberInForm n
@@ -142,6 +124,37 @@ ValueTextInForm (value.Register bytes) = AreBytesUpTo REGISTER_BYTES bytes
 ValueTextInForm (value.Account n) = NumberInForm n
 ValueTextInForm (value.Queue ns) = NumbersInForm QUEUE_NUMBERS ns
 ValueTextInForm (value.Table ps) = PairsInForm TABLE_PAIRS ps
+ValueTextInForm (value.Gone c) = IsObjectClass c
+
+-- a value that a text can say, of an object that is there
+abbrev pub IsThere : Value → Type 0
+IsThere v = ValueTextInForm v × (is_gone v ≡ false)
+
+-- An operation that a text can say. Beyond `OpInForm` of arj_class, the class table's own limit, this has the widths that
+-- the program's types give: numbers have 64 bits, and what is put are bytes.
+abbrev pub OpTextInForm : Op → Type 0
+OpTextInForm (op.Add n) = NumberInForm n
+OpTextInForm (op.Set n) = NumberInForm n
+OpTextInForm (op.Put bytes) = AreBytesUpTo REGISTER_BYTES bytes
+OpTextInForm (op.Deposit n) = NumberInForm n
+OpTextInForm (op.Withdraw n) = NumberInForm n
+OpTextInForm (op.Push n) = NumberInForm n
+OpTextInForm (op.GetKey k) = NumberInForm k
+OpTextInForm (op.PutPair k v) = NumberInForm k × NumberInForm v
+OpTextInForm (op.Remove k) = NumberInForm k
+OpTextInForm (op.Create v) = IsThere v
+OpTextInForm _ = ⊤
+
+-- a `get` without a key: the bytes of a register are answered to it alone
+abbrev pub is_get : Op → Bool
+is_get op.Get = true
+is_get _ = false
+
+-- an answer that a text can say to that operation
+abbrev pub AnswerTextInForm : Op → Answer → Type 0
+AnswerTextInForm asked (answer.Number n) = NumberInForm n
+AnswerTextInForm asked (answer.Text bytes) = (is_get asked ≡ true) × AreBytesUpTo REGISTER_BYTES bytes
+AnswerTextInForm asked _ = ⊤
 
 -- a pair, its key before a colon
 abbrev pub pair_text : ℕ × ℕ → List ℕ
@@ -160,6 +173,7 @@ abbrev pub is_word_op : Op → Bool
 is_word_op op.Get = true
 is_word_op op.Len = true
 is_word_op op.Pop = true
+is_word_op op.Destroy = true
 is_word_op _ = false
 
 -- whether the operation is a put
@@ -167,6 +181,11 @@ abbrev pub is_put_op : Op → Bool
 is_put_op (op.Put bytes) = true
 is_put_op (op.PutPair k v) = true
 is_put_op _ = false
+
+-- whether an object comes by the operation
+abbrev pub is_create_op : Op → Bool
+is_create_op (op.Create v) = true
+is_create_op _ = false
 
 -- an operation of one word
 abbrev pub IsWordOp : Op → Type 0
@@ -176,9 +195,13 @@ IsWordOp op = OpTextInForm op × (is_word_op op ≡ true)
 abbrev pub IsPutOp : Op → Type 0
 IsPutOp op = OpTextInForm op × (is_put_op op ≡ true)
 
+-- an operation by which an object comes
+abbrev pub IsCreateOp : Op → Type 0
+IsCreateOp op = OpTextInForm op × (is_create_op op ≡ true)
+
 -- an operation with one number
 abbrev pub IsNumberOp : Op → Type 0
-IsNumberOp op = OpTextInForm op × ((is_word_op op ≡ false) × (is_put_op op ≡ false))
+IsNumberOp op = OpTextInForm op × ((is_word_op op ≡ false) × ((is_put_op op ≡ false) × (is_create_op op ≡ false)))
 
 -- some answer to that operation in form has the text
 abbrev pub IsAnswer : Op → List ℕ → Type 0

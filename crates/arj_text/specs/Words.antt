@@ -2,16 +2,21 @@
 use Rattle.std.specs.Prelude.{ℕ, ◌+◌, ◌/◌, ◌%◌, List, [], ◌∷◌, ◌++◌, codes, nat_lt, if◌then◌else◌}
 use Rattle.std.specs.List.{flat_map}
 use Rattle.std.specs.Fmt.{decimal}
+use Rattle.arj_base.specs.declared.state.Class.{Class}
+use Rattle.arj_base.specs.declared.state.Class.TheVariants as class
 use Rattle.arj_base.specs.declared.mode.Mode.{Mode}
 use Rattle.arj_base.specs.declared.mode.Mode.TheVariants as mode
 use Rattle.arj_base.specs.declared.mode.End.{End}
 use Rattle.arj_base.specs.declared.mode.End.TheVariants as ending
 use Rattle.arj_class.specs.declared.op.Op.{Op}
-use Rattle.arj_class.specs.declared.op.Op.TheVariants.{Get, Add, Set, Put, Deposit, Withdraw, Len, Push, Pop, GetKey, PutPair, Remove}
+use Rattle.arj_class.specs.declared.op.Op.TheVariants.{Get, Add, Set, Put, Deposit, Withdraw, Len, Push, Pop, GetKey, PutPair, Remove, Create}
+use Rattle.arj_class.specs.declared.op.Op.TheVariants.{Destroy}
 use Rattle.arj_class.specs.declared.op.Answer.{Answer}
-use Rattle.arj_class.specs.declared.op.Answer.TheVariants.{Done, Number, Text, Over, Short, Full, Nothing}
+use Rattle.arj_class.specs.declared.op.Answer.TheVariants.{Done, Number, Text, Over, Short, Full, Nothing, There}
+use Rattle.arj_class.specs.declared.op.Answer.TheVariants as answer
 use Rattle.arj_class.specs.declared.value.Value.{Value}
 use Rattle.arj_class.specs.declared.value.Value.TheVariants.{Counter, Register, Account, Queue, Table}
+use Rattle.arj_class.specs.declared.value.Value.TheVariants as value
 
 -- a space
 abbrev pub space : List ℕ
@@ -78,6 +83,28 @@ abbrev pub end_text : End → List ℕ
 end_text ending.Abort = codes "abort"
 end_text ending.Commit = codes "commit"
 
+-- the classes of objects; the other two have no word
+abbrev pub class_text : Class → List ℕ
+class_text class.Counter = codes "counter"
+class_text class.Register = codes "register"
+class_text class.Account = codes "account"
+class_text class.Queue = codes "queue"
+class_text class.Table = codes "table"
+class_text _ = []
+
+-- the class of an object that is gone
+abbrev pub gone_text : Class → List ℕ
+gone_text c = class_text c ++ codes " gone"
+
+-- the class and the value of an object line
+abbrev pub value_text : Value → List ℕ
+value_text (Counter n) = codes "counter" ++ number_word n
+value_text (Register bytes) = codes "register " ++ hex bytes
+value_text (Account n) = codes "account" ++ number_word n
+value_text (Queue ns) = codes "queue " ++ numbers_text ns
+value_text (Table ps) = codes "table " ++ pairs_text ps
+value_text (value.Gone c) = gone_text c
+
 -- an operation with its arguments
 abbrev pub op_text : Op → List ℕ
 op_text Get = codes "get"
@@ -92,6 +119,8 @@ op_text Pop = codes "pop"
 op_text (GetKey k) = codes "get" ++ number_word k
 op_text (PutPair k v) = codes "put" ++ (number_word k ++ number_word v)
 op_text (Remove k) = codes "remove" ++ number_word k
+op_text (Create v) = codes "create " ++ value_text v
+op_text Destroy = codes "destroy"
 
 -- an answer
 abbrev pub answer_text : Answer → List ℕ
@@ -102,11 +131,5 @@ answer_text Over = codes "over"
 answer_text Short = codes "short"
 answer_text Full = codes "full"
 answer_text Nothing = codes "none"
-
--- the class and the value of an object line
-abbrev pub value_text : Value → List ℕ
-value_text (Counter n) = codes "counter" ++ number_word n
-value_text (Register bytes) = codes "register " ++ hex bytes
-value_text (Account n) = codes "account" ++ number_word n
-value_text (Queue ns) = codes "queue " ++ numbers_text ns
-value_text (Table ps) = codes "table " ++ pairs_text ps
+answer_text There = codes "there"
+answer_text answer.Gone = codes "gone"

@@ -1,15 +1,16 @@
 // Operations and first values in a line.
 ghost use Rattle.std.specs.Prelude.{IfOk, MatchOption, codes};
 ghost use Rattle.std.specs.Fmt.{decimal};
-ghost use Rattle.arj_text.specs.Fields.{AreBytesUpTo, HasNoFirst, IsFirst, IsNumberOp, IsPutOp, IsRead, IsWordOp, NumberInForm, NumbersInForm, OpTextInForm, PairInForm, PairsInForm, ValueTextInForm, behind, two_text};
-ghost use Rattle.arj_text.specs.Words.{hex, numbers_text, op_text, pairs_text, value_text};
+ghost use Rattle.arj_text.specs.Fields.{AreBytesUpTo, HasNoFirst, IsCreateOp, IsFirst, IsNumberOp, IsObjectClass, IsPutOp, IsRead, IsThere, IsWordOp, NumberInForm, NumbersInForm, OpTextInForm, PairInForm, PairsInForm, ValueTextInForm, behind, two_text};
+ghost use Rattle.arj_text.specs.Words.{gone_text, hex, numbers_text, op_text, pairs_text, value_text};
 
 use crate::field::{after, cut, is_text, number, number_first};
 use crate::field_hex::hex_up_to;
 use crate::field_list::{numbers, pairs};
-use arj_base::{Bytes, Numbers, Pairs};
+use arj_base::{Bytes, Class, Numbers, Pairs};
 use arj_class::{
-    Account, Counter, Op, QUEUE_NUMBERS, Queue, REGISTER_BYTES, Register, TABLE_PAIRS, Table, Value,
+    Account, Counter, Gone, Op, QUEUE_NUMBERS, Queue, REGISTER_BYTES, Register, TABLE_PAIRS, Table,
+    Value,
 };
 use std::alloc::{AllocError, Global};
 
@@ -33,6 +34,9 @@ pub fn operation(alloc: Global, bytes: &[u8]) -> Result<Option<Op>, AllocError>
     if let Some(op) = put_op(alloc, bytes)? {
         return Ok(Some(op));
     }
+    if let Some(op) = create_op(alloc, bytes)? {
+        return Ok(Some(op));
+    }
     number_op(alloc, bytes)
 }
 
@@ -48,6 +52,9 @@ fn word_op(bytes: &[u8]) -> Option<Op>
     }
     if is_text(bytes, b"pop") {
         return Some(Op::Pop);
+    }
+    if is_text(bytes, b"destroy") {
+        return Some(Op::Destroy);
     }
     None
 }
@@ -96,6 +103,19 @@ fn put_op(alloc: Global, bytes: &[u8]) -> Result<Option<Op>, AllocError>
     }
 }
 
+// What an object comes with.
+fn create_op(alloc: Global, bytes: &[u8]) -> Result<Option<Op>, AllocError>
+    ensures { IfOk result (λ found. IsRead IsCreateOp op_text bytes.now found) }
+{
+    let Some(words) = after(bytes, b"create ") else {
+        return Ok(None);
+    };
+    match value_there(alloc, words)? {
+        Some(value) => Ok(Some(Op::Create(value))),
+        None => Ok(None),
+    }
+}
+
 // Two numbers with a space between them.
 fn two_numbers(alloc: Global, bytes: &[u8]) -> Result<Option<(u64, u64)>, AllocError>
     ensures { IfOk result (λ found. IsRead PairInForm two_text bytes.now found) }
@@ -109,9 +129,44 @@ fn two_numbers(alloc: Global, bytes: &[u8]) -> Result<Option<(u64, u64)>, AllocE
     }
 }
 
-/// A class and a first value of it.
+/// A class and a first value of it, or that the object is gone.
 pub fn value(alloc: Global, bytes: &[u8]) -> Result<Option<Value>, AllocError>
     ensures { IfOk result (λ found. IsRead ValueTextInForm value_text bytes.now found) }
+{
+    if let Some(value) = value_there(alloc, bytes)? {
+        return Ok(Some(value));
+    }
+    match gone_class(bytes).and_then(Gone::new) {
+        Some(gone) => Ok(Some(Value::Gone(gone))),
+        None => Ok(None),
+    }
+}
+
+// The class of an object that is gone.
+fn gone_class(bytes: &[u8]) -> Option<Class>
+    ensures { IsRead IsObjectClass gone_text bytes.now result }
+{
+    if is_text(bytes, b"counter gone") {
+        return Some(Class::Counter);
+    }
+    if is_text(bytes, b"register gone") {
+        return Some(Class::Register);
+    }
+    if is_text(bytes, b"account gone") {
+        return Some(Class::Account);
+    }
+    if is_text(bytes, b"queue gone") {
+        return Some(Class::Queue);
+    }
+    if is_text(bytes, b"table gone") {
+        return Some(Class::Table);
+    }
+    None
+}
+
+// A class and a value of an object that is there.
+fn value_there(alloc: Global, bytes: &[u8]) -> Result<Option<Value>, AllocError>
+    ensures { IfOk result (λ found. IsRead IsThere value_text bytes.now found) }
 {
     if let Some(n) = number_behind(alloc, b"counter ", bytes)? {
         return Ok(Some(Value::Counter(Counter::new(n))));

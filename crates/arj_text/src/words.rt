@@ -4,9 +4,9 @@ ghost use Rattle.std.specs.List.{flat_map};
 ghost use Rattle.std.specs.Fmt.{decimal};
 ghost use Rattle.arj_text.specs.Words.{space, number_word, hex, hex_pair, hex_digit, behind_comma, decimals};
 ghost use Rattle.arj_text.specs.Words.{list_text, mode_text, end_text, op_text, answer_text as text_of_answer};
-ghost use Rattle.arj_text.specs.Words.{value_text, numbers_text, pair_texts, pairs_text};
+ghost use Rattle.arj_text.specs.Words.{class_text, gone_text, value_text, numbers_text, pair_texts, pairs_text};
 
-use arj_base::{Bytes, End, Mode};
+use arj_base::{Bytes, Class, End, Mode};
 use arj_class::{Answer, Op, Queue, Value};
 use std::alloc::{AllocError, Global};
 
@@ -22,6 +22,8 @@ pub fn put_answer(out: &mut Bytes, answer: &Answer) -> Result<(), AllocError>
         Answer::Short => out.extend(b"short"),
         Answer::Full => out.extend(b"full"),
         Answer::Nothing => out.extend(b"none"),
+        Answer::There => out.extend(b"there"),
+        Answer::Gone => out.extend(b"gone"),
     }
 }
 
@@ -51,6 +53,8 @@ pub fn put_op(out: &mut Bytes, op: &Op) -> Result<(), AllocError>
         Op::GetKey(key) => put_numbered(out, b"get", *key),
         Op::PutPair(key, value) => put_put_pair(out, *key, *value),
         Op::Remove(key) => put_numbered(out, b"remove", *key),
+        Op::Create(value) => put_create(out, value),
+        Op::Destroy => out.extend(b"destroy"),
     }
 }
 
@@ -70,6 +74,14 @@ fn put_put_pair(out: &mut Bytes, key: u64, value: u64) -> Result<(), AllocError>
     put_number(out, value)
 }
 
+#[tactic(auto, using(std::proofs::lemmas::List::append_assoc))]
+fn put_create(out: &mut Bytes, value: &Value) -> Result<(), AllocError>
+    ensures { OnOk result (out.new ≡ out.old ++ op_text (Op.Create value.now)) }
+{
+    out.extend(b"create ")?;
+    put_value(out, value)
+}
+
 /// The class and the value of an object.
 pub fn put_value(out: &mut Bytes, value: &Value) -> Result<(), AllocError>
     ensures { OnOk result (out.new ≡ out.old ++ value_text value.now) }
@@ -80,7 +92,30 @@ pub fn put_value(out: &mut Bytes, value: &Value) -> Result<(), AllocError>
         Value::Account(account) => put_numbered(out, b"account", account.balance()),
         Value::Queue(queue) => put_queue(out, queue),
         Value::Table(table) => put_table(out, table.pairs()),
+        Value::Gone(gone) => put_gone(out, gone.class()),
     }
+}
+
+// The word of a class of objects.
+fn class_word(class: Class) -> &'static [u8]
+    ensures { result.now ≡ class_text class }
+{
+    match class {
+        Class::Counter => b"counter",
+        Class::Register => b"register",
+        Class::Account => b"account",
+        Class::Queue => b"queue",
+        Class::Table => b"table",
+        Class::Entry | Class::Gone => b"",
+    }
+}
+
+#[tactic(auto, using(std::proofs::lemmas::List::append_assoc))]
+fn put_gone(out: &mut Bytes, class: Class) -> Result<(), AllocError>
+    ensures { OnOk result (out.new ≡ out.old ++ gone_text class) }
+{
+    out.extend(class_word(class))?;
+    out.extend(b" gone")
 }
 
 #[tactic(auto, using(std::proofs::lemmas::List::append_assoc))]

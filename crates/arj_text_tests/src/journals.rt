@@ -3,7 +3,7 @@
 ghost use Rattle.std.specs.Prelude.{◌≡◌, ◌<◌, []};
 
 use arj_base::{Binding, Bytes, End, Mode, Uid, entry_uid, object_uid};
-use arj_class::{Answer, Op};
+use arj_class::{Answer, Counter, Op, Value};
 use arj_journal::{
     Body, Cause, Difference, Event, FrameKind, Kind, Label, Line, Lines, Part, Role, StepFault,
     Stepper, Which, answer_text, line_text,
@@ -17,7 +17,7 @@ fn lines_have_their_texts(rt: HostRuntime) -> Result<(), Fail> {
     for place in 0..46usize {
         assert!(rt; line_is_right(rt.alloc(), place)?, "line {place}");
     }
-    for place in 0..4usize {
+    for place in 0..7usize {
         assert!(rt; call_is_right(rt.alloc(), place)?, "call {place}");
     }
     Ok(())
@@ -392,6 +392,14 @@ fn call_is_right(alloc: Global, place: usize) -> Result<bool, AllocError> {
         1 => call_has_text(alloc, Op::Add(1), Answer::Over, "add 1 = over"),
         2 => call_has_text(alloc, Op::Pop, Answer::Nothing, "pop = none"),
         3 => call_has_text(alloc, Op::PutPair(1, 2), Answer::Done, "put 1 2 = done"),
+        4 => call_has_text(alloc, Op::Get, Answer::Gone, "get = gone"),
+        5 => call_has_text(
+            alloc,
+            Op::Create(Value::Counter(Counter::new(7))),
+            Answer::There,
+            "create counter 7 = there",
+        ),
+        6 => call_has_text(alloc, Op::Destroy, Answer::Done, "destroy = done"),
         _ => Ok(false),
     }
 }
@@ -440,7 +448,7 @@ fn is_said(alloc: Global, line: Line, text: &[u8]) -> Result<bool, AllocError> {
     Ok(event == 20 && again.as_slice() == text)
 }
 
-const NOT_LINES: [&str; 40] = [
+const NOT_LINES: [&str; 42] = [
     "",
     "\n",
     "20\n",
@@ -480,6 +488,8 @@ const NOT_LINES: [&str; 40] = [
     "20 ok B 2 add 1 = 00ff\n",
     "20 ok B 2 get 1 = -\n",
     "20 ok B 2 get 12\n",
+    "20 ok B 2 create counter gone = done\n",
+    "20 ok B 2 destroy = 00ff\n",
     "20 quiet maybe\n",
 ];
 

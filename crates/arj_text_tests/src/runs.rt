@@ -5,7 +5,7 @@ mod objects;
 mod stops;
 mod stores;
 
-use arj_base::Bytes;
+use arj_base::{Bytes, Format};
 use arj_journal::{Header, Line, line_text, put_event, put_nodes, put_object};
 use arj_journal_reader::read_line;
 use arj_script::{Item, Reader, ScriptFault};
@@ -18,7 +18,7 @@ use std::test::Fail;
 // script come next, then a line `-- journal`, and the lines of its journal.
 const RUNS: [(&str, usize); 4] = [
     (actions::ACTIONS, 16),
-    (objects::OBJECTS, 6),
+    (objects::OBJECTS, 8),
     (stops::STOPS, 8),
     (stores::STORES, 12),
 ];
@@ -26,6 +26,9 @@ const RUNS: [(&str, usize); 4] = [
 // The lines of a header.
 fn put_header(text: &mut Bytes, header: &Header) -> Result<(), AllocError> {
     put_nodes(text, header.nodes)?;
+    if header.format == Format::One {
+        text.extend(b"\nformat 1")?;
+    }
     for object in header.objects.as_slice() {
         text.extend(b"\n")?;
         put_object(text, object)?;
@@ -137,6 +140,11 @@ object 6 queue 7 servers 1 stores 1
 object 7 queue 3,18446744073709551615,3 servers 1 stores 1
 object 8 table - servers 1 stores 1
 object 9 table 0:7 servers 1 stores 1
+object 10 counter gone servers 1 stores 1
+object 11 register gone servers 1 stores 1
+object 12 account gone servers 1 stores 1
+object 13 queue gone servers 1 stores 1
+object 14 table gone servers 1 stores 1
 object 256 table 1:3,2:0,18446744073709551615:3 servers 1 stores 1
 run
 ";
@@ -168,7 +176,7 @@ const WRITTEN: &str = "\
 #[test]
 fn a_line_that_is_too_long_is_refused(rt: HostRuntime) -> Result<(), Fail> {
     let alloc = rt.alloc();
-    let mut long = [b'x'; 201];
+    let mut long = [b'x'; 501];
     long[0] = b'#';
     let mut reader = Reader::new(alloc);
     see_script(&rt, alloc, &mut reader, FRONT)?;

@@ -2,10 +2,11 @@
 ghost use Rattle.std.specs.Prelude.{IfSome};
 ghost use Rattle.arj_journal.specs.ScriptForm.{HeaderInForm};
 
+use arj_base::Bytes;
 use arj_class::Value;
 use arj_journal::{Header, ObjectLine};
 use arj_script::{Item, Reader, ScriptFault};
-use std::alloc::Global;
+use std::alloc::{AllocError, Global};
 use std::test::Fail;
 
 // What the reader tells of a line, in a word.
@@ -48,6 +49,11 @@ const LINES: &str = "\
 0|run|bad
 0|begin A at 1|bad
 1|nodes 1|bad
+1|format 1|part
+1|format 2|bad
+1|format 01|bad
+1|format|bad
+2|format 1|bad
 1|run|run
 1|begin A at 1|bad
 2|object 4 counter 18446744073709551615 servers 1 stores 1|part
@@ -85,6 +91,11 @@ const LINES: &str = "\
 2|object 4 table 1:5,1:6 servers 1 stores 1|bad
 2|object 4 table 1:5:6 servers 1 stores 1|bad
 2|object 4 table 1 servers 1 stores 1|bad
+2|object 4 counter gone servers 1 stores 1|part
+2|object 4 table gone servers 1 stores 1|part
+2|object 4 gone servers 1 stores 1|bad
+2|object 4 entry gone servers 1 stores 1|bad
+2|object 4 counter gone 0 servers 1 stores 1|bad
 2| run|bad
 2|run|run
 3||blank
@@ -135,6 +146,14 @@ const LINES: &str = "\
 3|call A 1 put 12 345|event
 3|call A 1 put 1 2 3|bad
 3|call A get|bad
+3|call A 1 create counter 7|event
+3|call A 1 create table 1:2,3:4|event
+3|call A 1 create counter gone|bad
+3|call A 1 create gone|bad
+3|call A 1 create counter|bad
+3|call A 1 create|bad
+3|call A 1 destroy|event
+3|call A 1 destroy 1|bad
 3|include A 1 2|event
 3|include A 1|bad
 3|commit Z9|event
@@ -190,11 +209,45 @@ fn lines_at_their_places(rt: HostRuntime) -> Result<(), Fail> {
     Ok(())
 }
 
+// An object with so many bytes in its register.
+fn register_line(alloc: Global, count: usize) -> Result<Bytes, AllocError> {
+    let mut line = Bytes::new(alloc);
+    line.extend(b"object 4 register ")?;
+    for _ in 0..count {
+        line.extend(b"00")?;
+    }
+    line.extend(b" servers 1 stores 1")?;
+    Ok(line)
+}
+
+// What the reader tells of that line behind `nodes` and another line.
+fn told_behind(alloc: Global, line: &[u8], count: usize) -> Result<&'static str, AllocError> {
+    let object = register_line(alloc, count)?;
+    let mut reader = reader_behind(alloc, 1);
+    told(reader.line(line));
+    Ok(told(reader.line(object.as_slice())))
+}
+
 #[test]
-fn a_line_has_at_most_200_bytes(rt: HostRuntime) -> Result<(), Fail> {
-    let comment = [b'#'; 201];
+fn registers_are_as_long_as_the_format_holds(rt: HostRuntime) -> Result<(), Fail> {
+    for (line, count, want) in [
+        ("format 1", 64usize, "part"),
+        ("format 1", 65, "bad"),
+        ("", 65, "part"),
+        ("", 192, "part"),
+        ("", 193, "bad"),
+    ] {
+        let found = told_behind(rt.alloc(), line.as_bytes(), count)?;
+        assert_eq!(rt; found, want, "{line} {count}");
+    }
+    Ok(())
+}
+
+#[test]
+fn a_line_has_at_most_500_bytes(rt: HostRuntime) -> Result<(), Fail> {
+    let comment = [b'#'; 501];
     let mut reader = reader_behind(rt.alloc(), 0);
-    assert_eq!(rt; told(reader.line(&comment[..200])), "blank");
+    assert_eq!(rt; told(reader.line(&comment[..500])), "blank");
     assert_eq!(rt; told(reader.line(&comment)), "bad");
     Ok(())
 }

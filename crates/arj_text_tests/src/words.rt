@@ -1,12 +1,12 @@
 // Words with their texts, as worked scripts and journals have them, read back and printed again; and texts that are no
 // such words.
-ghost use Rattle.std.specs.Prelude.{◌≡◌, OnOk, Some, if◌then◌else◌};
+ghost use Rattle.std.specs.Prelude.{◌≡◌, IfOk, OnOk, Some, if◌then◌else◌};
 ghost use Rattle.std.specs.Str.{bytes_eq};
 ghost use Rattle.std.specs.BTreeMap.{get};
 ghost use Rattle.arj_text.specs.Label.{name, label_cmp};
 
 use arj_base::Bytes;
-use arj_class::{Answer, Op};
+use arj_class::{Answer, Counter, Op, Register, Value};
 use arj_text::field::{cut, is_text, label_first, label_of, number, number_first};
 use arj_text::field_hex::{hex, hex_up_to};
 use arj_text::field_list::{nodes, nodes_first, numbers, pairs};
@@ -18,7 +18,7 @@ use std::collections::BTreeMap;
 use std::test::Fail;
 
 // Each with the word for its reader before it.
-const WORDS: [&str; 25] = [
+const WORDS: [&str; 32] = [
     "label A",
     "label Abcdefghij012345",
     "label_first A 2",
@@ -41,12 +41,19 @@ const WORDS: [&str; 25] = [
     "value register -",
     "value queue 1,2,1",
     "value table 1:10,3:30",
+    "value counter gone",
+    "value table gone",
     "value_first counter 7 1,2",
+    "value_first queue gone 1,2",
     "operation get",
     "operation put -",
+    "operation create counter 7",
+    "operation create register -",
+    "operation create table 1:10,3:30",
+    "operation destroy",
 ];
 
-const NOT_WORDS: [&str; 31] = [
+const NOT_WORDS: [&str; 41] = [
     "label ",
     "label 1A",
     "label A-",
@@ -77,7 +84,17 @@ const NOT_WORDS: [&str; 31] = [
     "pairs 1",
     "value table 2:0,1:9",
     "value counter",
+    "value gone",
+    "value entry gone",
+    "value counter gone ",
+    "value counter Gone",
+    "value_first counter gone",
     "operation put 1",
+    "operation create",
+    "operation create counter",
+    "operation create counter gone",
+    "operation create table 2:0,1:9",
+    "operation destroy 1",
 ];
 
 #[test]
@@ -91,7 +108,7 @@ fn words_are_read(rt: HostRuntime) -> Result<(), Fail> {
     for place in 0..5usize {
         assert!(rt; has_value(rt.alloc(), place)?, "word {place}");
     }
-    for place in 0..14usize {
+    for place in 0..17usize {
         assert!(rt; call_is_right(rt.alloc(), place)?, "call {place}");
     }
     Ok(())
@@ -214,6 +231,21 @@ fn call_is_right(alloc: Global, place: usize) -> Result<bool, AllocError> {
         11 => call_has_text(alloc, Op::GetKey(1), "get 1", Answer::Number(2), "2"),
         12 => call_has_text(alloc, Op::PutPair(1, 2), "put 1 2", Answer::Done, "done"),
         13 => call_has_text(alloc, Op::Remove(1), "remove 1", Answer::Nothing, "none"),
+        14 => call_has_text(alloc, Op::Destroy, "destroy", Answer::Gone, "gone"),
+        15 => call_has_text(
+            alloc,
+            Op::Create(Value::Counter(Counter::new(7))),
+            "create counter 7",
+            Answer::There,
+            "there",
+        ),
+        16 => call_has_text(
+            alloc,
+            Op::Create(Value::Register(Register::new(bytes(alloc, &[0, 255])?))),
+            "create register 00ff",
+            Answer::Done,
+            "done",
+        ),
         _ => Ok(false),
     }
 }
@@ -255,7 +287,9 @@ fn is_read_back(alloc: Global, asked: &str) -> Result<bool, AllocError> {
     Ok(again.as_slice() == asked.as_bytes())
 }
 
-fn bytes(alloc: Global, items: &[u8]) -> Result<Bytes, AllocError> {
+fn bytes(alloc: Global, items: &[u8]) -> Result<Bytes, AllocError>
+    ensures { IfOk result (λ made. made ≡ items.now) }
+{
     let mut made = Bytes::new(alloc);
     made.extend(items)?;
     Ok(made)

@@ -20,8 +20,8 @@ impl Frame {
     }
 }
 
-/// The labels of actions by their Uids, their nodes by their labels, the frames by their numbers, and the classes of the objects of a
-/// header.
+/// The labels of actions by their Uids, their nodes by their labels, the frames by their numbers, and the own classes of the
+/// objects of a header.
 #[derive(Drop)]
 pub struct Names {
     labels: BTreeMap<Uid, Label>,
@@ -30,11 +30,11 @@ pub struct Names {
     classes: BTreeMap<u16, Class>,
 }
 
-// The class of each object of a header.
+// The own class of each object of a header.
 fn classes_of(alloc: Global, header: &Header) -> Result<BTreeMap<u16, Class>, AllocError> {
     let mut classes = BTreeMap::new(alloc);
     for object in header.objects.as_slice() {
-        classes.insert(object.x, object.value.class())?;
+        classes.insert(object.x, object.value.own_class())?;
     }
     Ok(classes)
 }
@@ -109,7 +109,7 @@ impl Names {
         self.frames.get(&number).copied()
     }
 
-    /// The class of an object of the header.
+    /// The own class of an object of the header.
     pub fn class_of(&self, x: u16) -> Option<Class> {
         self.classes.get(&x).copied()
     }

@@ -13,7 +13,7 @@ use Rattle.arj_law_runs.proofs.follow.Halts.{KnowsAll, halts_keep}
 use Rattle.arj_law_lock_view.proofs.Terms.{same_number}
 use Rattle.arj_law_lock_view.proofs.asking.Handling as Handling
 use Rattle.arj_law_lock_view.proofs.asking.Handling.{goes_so}
-use Rattle.arj_law_lock_view.proofs.asking.Keeping.{restart_dumb, tick_dumb}
+use Rattle.arj_law_lock_view.proofs.asking.Dumb.{restart_dumb, tick_dumb}
 use Rattle.arj_law_lock_view.proofs.asking.Turning.{acts_turn}
 use Rattle.arj_law_lock_view.proofs.moments.Answers.{Known, answers_step, first_made, known_keep, made_closes, made_opens}
 use Rattle.arj_law_lock_view.specs.asking.Turns.{IsGivenUp, IsHeardIn, TurnsSo, is_else}
@@ -27,7 +27,7 @@ use Rattle.arj_law_serial.proofs.Terms.{AreSo, kind_of}
 use Rattle.arj_law_serial.proofs.joint.FormRuns.{kept_forms}
 use Rattle.arj_journal.specs.ScriptForm.{HeaderInForm}
 use Rattle.arj_promise.specs.Runs.{world_by}
-use Rattle.arj_law_waits.proofs.waiting.Acting as acting
+use Rattle.arj_law_cause.proofs.waits.waiting.Acting as acting
 use Rattle.arj_law_cause.proofs.operations.Serving.{Facts, tells_gives}
 use Rattle.arj_law_cause.proofs.operations.Taking.{AnswersOf, LinesAnswer, dumb_walk, heard_gives, said_it, turn_walk}
 use Rattle.arj_law_cause.specs.operations.Runs.{AnswersIt, RunsAnswerOperations}

@@ -1,16 +1,19 @@
 -- A server answers an Invoke by its operation, at the value in place.
 use Rattle.arj_law_parts.proofs.Words
-use Words.{◌≡◌, ◌∙◌, ◌==◌, ◌++◌, ◌&&◌, ◌||◌, not, ℕ, Bool, true, false, cond, List, [], ◌∷◌, Option, Some, None, refl, sym, ap, subst, option_map}
+use Words.{◌≡◌, ◌∙◌, ◌==◌, ◌++◌, ◌&&◌, ◌||◌, not, ℕ, Bool, true, false, cond, List, [], ◌∷◌, Option, Some, None, refl, sym, ap, subst}
+use Words.{option_map}
 use Words.{AllByRecursion, and_parts, is_some, Answer, Ask, Binding, End, Head, Header, InvokedReply, Message, Op, Uid, What, asks}
-use Words.{has_op, class_of, answer_of, asked_by, response, Reply, Copy, Over, current, invoke_copy, Served, reply, void, at_number, at_uid}
-use Words.{value_in, Kept, Server, apply_ends, changed_by, changed_copy, either, has_ended, invoke, invoke_kept, invoke_new, invoke_now, is_below, on_copy}
-use Words.{other_inc, copy_has_op, answer_is_meant, asked_is_meant, is_meant, answers, actor, Effect, Disk, Send, Parts, Took, Void, Handled, Row, serve}
+use Words.{has_op, own_class, answer_of, asked_by, response, Reply, Copy, Over, current, invoke_copy, Served, reply, void, at_number}
+use Words.{at_uid}
+use Words.{Kept, Server, apply_ends, changed_by, changed_copy, either, has_ended, invoke, invoke_kept, invoke_new, invoke_now, is_below}
+use Words.{on_copy}
+use Words.{other_inc, copy_has_op, answer_is_meant, asked_is_meant, is_meant, answers, actor, Effect, Disk, Send, Parts, Took, Void}
+use Words.{Handled, Row, serve}
 use Words.{handle_ask, sends_answer, with_server, object, uids_of, first_conflict, op_mode, Seen}
 use Words.ask
 use Words.invoked
 use Words.server
 use Rattle.arj_law_serial.proofs.Terms.{AreSo, CopyIsSo, keyed_found, kind_of}
-use Rattle.arj_law_serial.proofs.joint.FormRuns.{real_class}
 use Rattle.arj_law_serial.proofs.joint.FormServers.{told_so}
 use Rattle.arj_law_serial.specs.joint.Forms.{IsCopyOf, Kind}
 use Rattle.arj_law_lock_view.proofs.Terms.{same_number}
@@ -18,7 +21,6 @@ use Rattle.arj_law_lock_view.proofs.moments.Answers.{Known}
 use Rattle.arj_law_lock_view.specs.moments.Made.{Tells, is_again, is_kept}
 use Rattle.arj_law_parts.proofs.moves.Happens.{Wide}
 use Rattle.arj_law_parts.specs.moves.Moments.{Moment, up}
-use Rattle.arj_model.specs.Last.{first_values}
 use Rattle.arj_protocol.specs.Copy.{ask_copy}
 use Rattle.arj_law_cause.proofs.rows.Telling.{outs_in, same_reply}
 use Rattle.arj_law_cause.specs.operations.Says.{Gives, gives_of, gives_so}
@@ -28,8 +30,7 @@ some_is {A} {a} {b} is = let k : ◌≡◌ {A = Option A} (Some a) (Some b) = is
 
 -- ---- an Invoke
 
-module _ (n : ℕ) (h : Head) (x : ℕ) (ends : List (Uid × End)) (o : Op) (a : Answer) (k : Kind) (here : x ≡ k.x)
-    (real : (bytes : List ℕ) → class_of (value_in k.class bytes) ≡ k.class) where
+module _ (n : ℕ) (h : Head) (x : ℕ) (ends : List (Uid × End)) (o : Op) (a : Answer) (k : Kind) (here : x ≡ k.x) where
   abbrev Says : Served Server InvokedReply → Type 0
   Says r = r.reply ≡ Some (invoked.Answered a) → Gives o a
 
@@ -40,10 +41,10 @@ module _ (n : ℕ) (h : Head) (x : ℕ) (ends : List (Uid × End)) (o : Op) (a :
   no_way q is never = absurd (never (some_is is))
 
   -- the value in place is of the class
-  its_class : (c : Copy) → IsCopyOf k.class c → class_of (current c.base c.stack) ≡ k.class
+  its_class : (c : Copy) → IsCopyOf k.class c → own_class (current c.base c.stack) ≡ k.class
   its_class c its = by c.stack its.over
     where
-      by : (es : List Over) → AllByRecursion (λ (e : Over). class_of e.value ≡ k.class) es → class_of (current c.base es) ≡ k.class
+      by : (es : List Over) → AllByRecursion (λ (e : Over). own_class e.value ≡ k.class) es → own_class (current c.base es) ≡ k.class
       by [] all = its.base
       by (e ∷ es) all = all.0
 
@@ -65,7 +66,7 @@ module _ (n : ℕ) (h : Head) (x : ℕ) (ends : List (Uid × End)) (o : Op) (a :
   new_says : has_op k.class o ≡ true → (s : Server) → All s → Says (invoke_new n h x ends o s)
   new_says has s all is =
       let t = (apply_ends n ends s).part in
-      copy_says has t (told_so k real n ends s all) (at_number x t.objects) refl is
+      copy_says has t (told_so k n ends s all) (at_number x t.objects) refl is
 
   kept_says : has_op k.class o ≡ true → (s : Server) → All s → (f : Option Kept) → is_kept h.req f ≡ false → Says
       (invoke_kept n h x ends o s f)
@@ -135,8 +136,7 @@ module _ (hd : Header) (x : ℕ) (k : ℕ) (d : Disk) (t v : Parts) (from : ℕ)
 
       says : (q : InvokedReply) → (server.invoke k h y b i ends o t.server).reply ≡ Some q →
           gives_of x (ask.Invoke y b i ends o) (Reply.Invoked q)
-      says (invoked.Answered a) at = λ same. invoke_says k h y ends o a (kind_of hd x) same
-          (real_class (class_of (first_values hd x)) (first_values hd x) refl) b i t.server copies new has at
+      says (invoked.Answered a) at = λ same. invoke_says k h y ends o a (kind_of hd x) same b i t.server copies new has at
       says (invoked.Conflict u w) at = tt
       says (invoked.Changed w) at = tt
 

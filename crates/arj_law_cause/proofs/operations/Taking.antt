@@ -2,7 +2,8 @@
 use Rattle.arj_law_parts.proofs.Words
 use Words.{⊤, ◌≡◌, ◌∙◌, ◌==◌, ◌++◌, ℕ, Bool, true, false, cond, if◌then◌else◌, List, [], ◌∷◌, Option, Some, None, refl, sym, ap, subst}
 use Words.{AllByRecursion, and_parts, eqb-true, Answer, Ask, Asked, Body, Head, Label, Line, Message, Op, Uid, actor}
-use Words.{answer_text, Reply, Coord, Doing, doing_of, Disk, Do, Effect, Say, Send, worked, Parts, Steps, CallEnd, Goal, Run, Answered, Included}
+use Words.{answer_text, Reply, Coord, Doing, doing_of, Disk, Do, Effect, Say, Send, worked, Parts, Steps, CallEnd, Goal, Run, Answered}
+use Words.{Included}
 use Words.{Conflict, Changed, Lost, Calling, at_place, end_line, frame_kind, is_own, numbered}
 use Words.{Binding, Header, ask_at, ◌+◌, Post}
 use Words.ask

@@ -33,9 +33,8 @@ use Words.server
 use Words.{activated_by, bound_by, finds, load_from, made_by, made_known, moves, named_again, or_lost, other_binding, same_binding}
 use Words.{two_incs}
 use Words.{with_inc, write_known, binding_eq, binding_less}
-use Rattle.arj_law_lock_view.proofs.asking.Turning.{dumb_both}
+use Rattle.arj_law_lock_view.proofs.asking.Dumb.{abort_dumb, commit_dumb, dumb_both, gaveup_dumb, moved_dumb}
 use Rattle.arj_law_lock_view.specs.asking.Turns.{AreDumb, AreLined, Ends, Rests, Turns, calling}
-use Rattle.arj_law_cause.proofs.rows.Dumb.{abort_dumb, commit_dumb, gaveup_dumb, moved_dumb}
 
 -- ---- a step and an answer to it
 

@@ -7,18 +7,16 @@ use Words.{Body, Header, Kind}
 use Words.{Label, Line, Message, Uid, Reply, answers, again_all, begin_action, end_line, Answered, CallEnd, Changed, Conflict}
 use Words.{Ended, Goal, Include, Included, Lost, Run, Steps, given_up, Calling, Coord}
 use Words.{Doing}
-use Words.{doing_of, Disk, Do, Effect, Say, Send, stopped, worked, Handled, Parts, Took, Void, handle, holders, query_about, with_coord}
+use Words.{doing_of, Disk, Do, Effect, Say, Send, stopped, worked, Handled, Parts, Took, Void, handle, with_coord}
 use Words.{Input}
-use Words.{Intent, kept_of, root_at, root_of, waits_for_call, acts as does, parent_of, parts_in, restart_outs, tick_outs, tolds_again}
+use Words.{Intent, kept_of, root_at, root_of, waits_for_call, acts as does, parent_of, parts_in, restart_outs, tick_outs}
 use Words.{numbered, is_serial, Post, frame_kind, actor}
 use Rattle.arj_protocol.specs.Asking.{answer_line}
 use Words.body
 use Words.frame
 use Words.input
-use Rattle.arj_law_parts.proofs.parts.SaidIncs.{all_map}
-use Rattle.arj_law_lock_view.proofs.asking.{Handling.Goes, Handling.handle_goes, Keeping.its, Keeping.tree, Turning.again_dumb}
-use Rattle.arj_law_lock_view.proofs.asking.{Turning.dumb_both}
-use Rattle.arj_law_lock_view.specs.asking.{Asked.accepted_of, Turns.AreDumb, Turns.IsDumb, Turns.is_reply}
+use Rattle.arj_law_lock_view.proofs.asking.{Handling.Goes, Handling.handle_goes, Keeping.its, Keeping.tree}
+use Rattle.arj_law_lock_view.specs.asking.{Asked.accepted_of, Turns.AreDumb, Turns.is_reply}
 use Rattle.arj_law_serial.proofs.Terms.{is_act, paths_of}
 use Rattle.arj_law_parts.proofs.moves.{Flat.post, Together.with_both}
 use Rattle.arj_law_parts.specs.moves.Moments.{Asking, History, Moment, asking_of, asks_now, at, fits, framed_if, given, halted, posted}
@@ -31,7 +29,6 @@ use Rattle.arj_law_runs.specs.follow.Frames.{are_so}
 use Rattle.arj_model.specs.CauseSpans.{Here, behind}
 use Rattle.arj_model.specs.Past.{Asked as AskedOf}
 use Rattle.arj_law_cause.proofs.rows.Asks.{AreSameAsks, asks_same, asks_some}
-use Rattle.arj_law_cause.proofs.rows.Dumb.{again_tolds, restart_dumb}
 use Rattle.arj_law_cause.proofs.rows.Ending.{Ending, EndsBy, GaveUp, Heard, Nothing, Said, Says, TurnsTo, acts_say, message_says}
 use Rattle.arj_law_cause.proofs.rows.Rows.{changed_so, conflict_so, included_so, ok_so}
 use Rattle.arj_law_cause.proofs.rows.Spans.{or_first, or_last}
@@ -40,6 +37,7 @@ use Words.{AtInvoke}
 use Rattle.arj_law_cause.proofs.rows.Taking.{AskedPaths, IsPathAt, Works, caller, stands_on, taken}
 use Rattle.arj_law_runs.proofs.journal.Beginning as Beginning
 use Rattle.arj_law_runs.proofs.journal.Beginning.{named_at}
+use Rattle.arj_law_lock_view.proofs.asking.Dumb.{restart_dumb, tick_dumb}
 use Rattle.arj_law_lock_view.proofs.asking.Keeping.{mine}
 use Rattle.arj_law_parts.specs.moves.With.{Brings}
 use Rattle.arj_model.specs.CauseAnswers.{gives_up}
@@ -429,9 +427,7 @@ module _ (hd : Header) (st : Start) (before : List Line) (event : ℕ) where
           let r = again_all t.coord.doings t.coord in
           let outs = tick_outs (record { number = k; disk = d; live = Some t }) t in
           both k outs (with_coord t r.part) d M (steps.tick k d t M h.0) (free_walk k (with_coord t r.part) outs d M
-          (dumb_free outs (dumb_both (r.outs ++ tolds_again t.coord.telling) (map query_about (holders d t))
-          (dumb_both r.outs (tolds_again t.coord.telling) (again_dumb t.coord.doings t.coord) (again_tolds t.coord.telling))
-          (all_map IsDumb query_about (holders d t) (λ u. tt)))) (same_lined (up k d t M) M refl refl h.1));
+          (dumb_free outs (tick_dumb k d t)) (same_lined (up k d t M) M refl refl h.1));
       restart = λ k d M event first h.
           both k (restart_outs hd k (d.inc + 1) d) (parts_in k (d.inc + 1) d) d M (steps.restart k d M event first h.0)
           (free_walk k (parts_in k (d.inc + 1) d) (restart_outs hd k (d.inc + 1) d) d M

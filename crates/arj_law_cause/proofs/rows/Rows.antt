@@ -3,7 +3,7 @@ use Rattle.arj_law_parts.proofs.Words
 use Words.{◌≡◌, ◌∙◌, ◌++◌, ◌&&◌, ◌||◌, not, ℕ, Bool, true, false, List, [], ◌∷◌, length, take, Option, Some, None, refl, sym}
 use Words.{BoundReply, ◌⊎◌, ◌+◌, bytes_eq-Decides, ap, subst, arith, eq-eqb, and_parts}
 use Words.{list_any, Binding, In, End, Ask, Asked, Event, Header, Line}
-use Words.{Mode, Op, Row, Uid, entry, object}
+use Words.{Mode, Op, Row, Uid, Value, class_code_of, entry, object}
 use Rattle.arj_protocol.specs.Words.{FrameKind}
 use Words.{Answer, Known, Label, leb-true, node_at, ◌≤◌, ◌<◌, is_nested, ask_at, op_mode, first_conflict, in_find, is_against, is_on}
 use Words.{last_uid, name, uid_eq, uid_is, uids_of, top_path, tops_of, actor, Reply, response, frame_kind}
@@ -14,6 +14,7 @@ use Words.frame
 use Words.invoked
 use Words.loaded
 use Words.mode
+use Words.value
 use Rattle.arj_protocol.specs.Words.op
 use Rattle.arj_law_serial.proofs.Terms
 use Terms.{Act, act_in, acts, any_in, has_act, uids, path}
@@ -26,7 +27,7 @@ use Rattle.arj_law_runs.specs.calls.Coords.{bare, head_of}
 use Rattle.arj_model.specs.CauseAnswers.{conflict_caused, has_lock, is_held, meets, meets_at_naming, meets_at_server, meets_at_store}
 use Rattle.arj_model.specs.CauseAnswers.{mode_of_call, modes_on_entry, ok_caused, was_told}
 use Rattle.arj_model.specs.CauseSpans.{Here, act_by, answered, asks_so, holds_in, is_call, is_call_of, is_include_of, nodes_of, same_frame}
-use Rattle.arj_model.specs.CauseSpans.{same_mode, same_op, was_sent}
+use Rattle.arj_model.specs.CauseSpans.{same_mode, same_op, same_pairs, same_value, was_sent}
 use Rattle.arj_model.specs.CauseSpans.{top_uids}
 use Rattle.arj_model.specs.Past.{Asked as AskedOf, label_of}
 use Rattle.arj_model.specs.Refusals.{answers_to, asks_by, has_ended, last_asked, object_used}
@@ -76,6 +77,18 @@ modes_are : (e : Event) (l : Label) (x : ℕ) (g : Goal) → e ≡ asks_goal l x
 modes_are e l x (Run o) is = ap modes_on_entry is
 modes_are e l x (Include n) is = ap modes_on_entry is
 
+pairs_same : (ps : List (ℕ × ℕ)) → same_pairs ps ps ≡ true
+pairs_same [] = refl
+pairs_same (p ∷ ps) = λ i. eq-eqb p.0 p.0 refl i && (eq-eqb p.1 p.1 refl i && pairs_same ps i)
+
+value_same : (v : Value) → same_value v v ≡ true
+value_same (value.Counter n) = eq-eqb n n refl
+value_same (value.Register bytes) = (bytes_eq-Decides bytes bytes).1 refl
+value_same (value.Account n) = eq-eqb n n refl
+value_same (value.Queue ns) = (bytes_eq-Decides ns ns).1 refl
+value_same (value.Table ps) = pairs_same ps
+value_same (value.Gone c) = eq-eqb (class_code_of c) (class_code_of c) refl
+
 op_same : (o : Op) → same_op o o ≡ true
 op_same op.Get = refl
 op_same (op.Add n) = eq-eqb n n refl
@@ -89,6 +102,8 @@ op_same op.Pop = refl
 op_same (op.GetKey n) = eq-eqb n n refl
 op_same (op.PutPair j n) = λ i. eq-eqb j j refl i && eq-eqb n n refl i
 op_same (op.Remove n) = eq-eqb n n refl
+op_same (op.Create v) = value_same v
+op_same op.Destroy = refl
 
 -- who is met isn't on the path that asks
 off_met : (n : ℕ) (us : List Uid) (o : Uid) (asked : Mode) (u : Uid) (held : Mode) (lines : List Line) →

@@ -1,6 +1,6 @@
--- What a call is answered: what its operation gives at some value of a class that has it.
+-- What a call is answered: what its operation gives at some value, there or gone, of a class that has it.
 use Rattle.std.specs.Prelude.{⊤, ◌≡◌, ℕ, true}
-use Rattle.arj_class.specs.Table.{answer_of, class_of, has_op}
+use Rattle.arj_class.specs.Table.{answer_of, has_op, own_class}
 use Rattle.arj_class.specs.declared.value.Value.{Value}
 use Rattle.arj_law_lock_view.specs.moments.Made.{Saying}
 use Rattle.arj_protocol.specs.Ask.{Reply}
@@ -10,7 +10,7 @@ use Rattle.arj_protocol.specs.Words.invoked
 
 -- the operation gives this answer
 abbrev pub Gives : Op → Answer → Type 0
-Gives o a = (v : Value) × (has_op (class_of v) o ≡ true) × (a ≡ answer_of o v)
+Gives o a = (v : Value) × (has_op (own_class v) o ≡ true) × (a ≡ answer_of o v)
 
 -- an Invoke on this object that is answered is answered by its own operation
 abbrev pub gives_of : ℕ → Ask → Reply → Type 0

@@ -310,10 +310,10 @@ module _ (x : ℕ) where
 
   -- ---- at first
 
-  module _ (st : Start) where
+  module _ (hd : Header) (st : Start) where
     -- the entry of a line, by its mark
     abbrev entry_of : ObjectLine → ObjectState
-    entry_of o = entry_by (st.marks.entries o.x) o
+    entry_of o = entry_by hd.format (st.marks.entries o.x) o
 
     pub put_entries : (ls : List ObjectLine) (held : List (Uid × ObjectState)) → ((e : Uid × ObjectState) → In e held →
         e.0 ≡ entry e.0.num) → (e : Uid × ObjectState) → In e (put_states (map entry_of ls) held) → e.0 ≡ entry e.0.num
@@ -344,7 +344,7 @@ module _ (x : ℕ) where
       has : HasEntries x (let d = disk_by hd st 1 in d.names)
       has = record {
         sorted = tt;
-        held = λ e c. put_entries st hd.objects [] (λ f i. absurd i) e (in_from e (put_states (map (entry_of st) hd.objects) []) c);
+        held = λ e c. put_entries hd st hd.objects [] (λ f i. absurd i) e (in_from e (put_states (map (entry_of hd st) hd.objects) []) c);
         there = subst (λ (z : Node). is_some (held_at (entry x) (let d = z.disk in d.names)) ≡ true) (sym (first_at hd st 1 n is))
             (there st formed n is);
         states = λ a ss at. absurd (cc at);

@@ -60,8 +60,8 @@ new_seen x k inc tops sent telling B h none = record {
 
 -- entries at naming, as a run begins
 pub first_entries : (hd : Header) (st : Start) → AreEntries (disk_by hd st 1).names
-first_entries hd st e c = put_entries 0 st hd.objects [] (λ z i. absurd i) e
-    (in_from e (put_states (map (λ (o : ObjectLine). entry_by (st.marks.entries o.x) o) hd.objects) []) c)
+first_entries hd st e c = put_entries 0 hd st hd.objects [] (λ z i. absurd i) e
+    (in_from e (put_states (map (λ (o : ObjectLine). entry_by hd.format (st.marks.entries o.x) o) hd.objects) []) c)
 
 module _ (hd : Header) (st : Start) (x : ℕ) (tops : Kinds) (kinds : KnowsKinds tops) (A : Office)
     (both : SeesBoth x tops A (see [] (world_from hd st))) (first : IsFirstNames A.names) (undecided : A.world.disk.tops ≡ []) where

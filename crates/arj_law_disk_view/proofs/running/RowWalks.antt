@@ -2,9 +2,9 @@
 use Rattle.arj_law_parts.proofs.Words
 use Words.{◌<◌, sym, ◌∙◌, ap, subst, inl, inr, arith, ℕ, ◌==◌, ◌||◌, List, [], ◌∷◌, Bool, true, false, cond, Option, Some, None, ◌≡◌, refl}
 use Words.{Contains, option_map, AllByRecursion, cons_option, filter_map, match_ordering, nat_cmp, Ordering, Less, Equal, Greater}
-use Words.{first_conflict, in_from, Uid, Binding, End, Head, InvokedReply, ObjectState, Op, Path, Row, VotedReply, What, class_of, object}
-use Words.{op_mode, payload_of, uids_of, Reply, actor, Copy, Over, changed_state, over_of, ask_copy, end_copy, invoke_copy, run_copy}
-use Words.{taken_copy, Served, Did, did_nothing, either, reply, void, at_number, at_uid, binding_eq, binding_less, each, next_version}
+use Words.{first_conflict, in_from, Uid, Binding, End, Head, InvokedReply, ObjectState, Op, Path, Row, VotedReply, What, object}
+use Words.{op_mode, uids_of, made_over, Reply, actor, Copy, changed_state, ask_copy, end_copy, invoke_copy, run_copy}
+use Words.{taken_copy, Served, Did, did_nothing, either, reply, void, at_number, at_uid, binding_eq, binding_less, each}
 use Words.{put_number, Kept, Server, activate, active_binding, apply_ends, changed_by, changed_states, end_new, end_one, first_unbound}
 use Words.{has_ended, invoke, invoke_kept, invoke_new, invoke_now, is_below, is_told, keeps, on_copy, other_inc, told, took_copy, vote}
 use Words.{vote_now}
@@ -61,23 +61,8 @@ keyed_each f (e ∷ es) keyed = (above_each f e.0 es keyed.0, keyed_each f es ke
 
 -- a state that a top made is of the object in whose copy it made it
 state_of : (top : Uid) (x : ℕ) (c : Copy) (s : ObjectState) → changed_state top x c ≡ Some s → (s.uid ≡ object x) × (s.writer ≡ top)
-state_of top x c s is = by (over_of top c.stack) is
-  where
-    by : (o : Option Over) → option_map (λ (e : Over). record {
-      uid = object x;
-      class = class_of c.base.value;
-      version = next_version c.base.version;
-      writer = top;
-      payload = payload_of e.value;
-    }) o ≡ Some s → (s.uid ≡ object x) × (s.writer ≡ top)
-    by None h = absurd (cc h)
-    by (Some e) h = let same : record {
-      uid = object x;
-      class = class_of c.base.value;
-      version = next_version c.base.version;
-      writer = top;
-      payload = payload_of e.value;
-    } ≡ s = cc h in (ap (λ (z : ObjectState). z.uid) (sym same), ap (λ (z : ObjectState). z.writer) (sym same))
+state_of top x c s is = let made = sym (made_over top x c s is).2 in
+    (ap (λ (z : ObjectState). z.uid) made, ap (λ (z : ObjectState). z.writer) made)
 
 module _ (top : Uid) where
   abbrev Changed : List (ℕ × Copy) → List ObjectState

@@ -15,6 +15,7 @@ use Words.confirmed
 use Words.mode
 use Words.role
 use Words.what
+use Rattle.arj_base.specs.State.{head_of}
 use Rattle.arj_law_disk_view.proofs.Terms
 use Terms.{bytes_eq, Core, World, Allowed, IsUnlisted, after, changed, entry_hold, new_list, State, Packed, Plan, undecided, In, has, never}
 use Terms.{or_cases, or_left, or_right, some_is, test_is, test_same, falls_to, effect_keeps, has_filtered, up, said, posted, Walks, Stops}
@@ -205,11 +206,12 @@ not_already a d s held none there = by (held_at s.uid d) (holder_of s.uid d) non
     by (Some other) h f is = let same : other ≡ held = cc is in
         subst (λ (k : ObjectState). uid_eq k.writer a ≡ false) same (own other (uid_eq other.writer a) h f)
 
-other_writer : (a b c e : Bool) → (a && (b && (c && (false && e)))) ≡ false
-other_writer true true true e = refl
-other_writer true true false e = refl
-other_writer true false c e = refl
-other_writer false b c e = refl
+other_writer : (a f b c e : Bool) → (a && (f && (b && (c && (false && e))))) ≡ false
+other_writer true true true true e = refl
+other_writer true true true false e = refl
+other_writer true true false c e = refl
+other_writer true false b c e = refl
+other_writer false f b c e = refl
 
 entry_fits : (x : ℕ) (top : Uid) (d : Pair) (st : ObjectState) (stores : List ℕ) → refusal_in top d (entry_state x top st stores) ≡ None →
     held_at (entry x) d ≡ Some st → st.version < 18446744073709551615
@@ -217,10 +219,11 @@ entry_fits x top d st stores none there =
     let q : ObjectState = entry_state x top st stores in
     let apart : uid_eq top st.writer ≡ false = uid_other top st.writer
     (λ same. never (ap (λ w. uid_eq w top) (sym same) ∙ uid_same top) (not_already top d q st none there)) in
+    let formats = head_of q.format == head_of st.format in
+    let classes = class_code_of q.class == class_code_of st.class in
     let other : state_eq q st ≡ false = (λ i. uid_eq q.uid st.uid
-    && ((class_code_of q.class == class_code_of st.class) && ((q.version == st.version) && (apart i && bytes_eq q.payload st.payload))))
-    ∙ other_writer (uid_eq q.uid st.uid) (class_code_of q.class == class_code_of st.class) (q.version == st.version)
-    (bytes_eq q.payload st.payload) in
+    && (formats && (classes && ((q.version == st.version) && (apart i && bytes_eq q.payload st.payload)))))
+    ∙ other_writer (uid_eq q.uid st.uid) formats classes (q.version == st.version) (bytes_eq q.payload st.payload) in
     version_fits st.version
     ((λ i. nat_lt q.version st.version || ((q.version == st.version) && not (sym other i))) ∙ (free_state top d q none).1 st there)
 

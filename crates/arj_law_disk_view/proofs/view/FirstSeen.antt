@@ -169,10 +169,10 @@ module _ (hd : Header) (st : Start) (formed : IsFormed hd st) (x : ℕ) (tops : 
 
   -- the state and the entry of a line, by its marks
   abbrev state_of : ObjectLine → ObjectState
-  state_of o = state_by (st.marks.states o.x) o
+  state_of o = state_by hd.format (st.marks.states o.x) o
 
   abbrev entry_of : ObjectLine → ObjectState
-  entry_of o = entry_by (st.marks.entries o.x) o
+  entry_of o = entry_by hd.format (st.marks.entries o.x) o
 
   abbrev first_entry : Packed
   first_entry = let m = st.marks.entries line.x in record { version = m.version; writer = uid_number m.writer; content = line.stores }

@@ -5,6 +5,7 @@ use Words.{subst, inl, inr, ⊎_elim, arith, is_some, option_map, if◌then◌el
 use Words.{bytes_eq-Decides, uid_is, uid_same, Uid, ObjectState, uid_eq, object, class_code_of, Pair, Prep, Ready, Already, Old, held_at}
 use Words.{holder_of, is_prepared, names_object, prepare_answer, first_refusal, refusal_in, refusal_of, by_holder, either, is_old, state_eq}
 use Words.{pair_prepared, pair_committed, pair_aborted, pair_in_part, at_uid, put_uid, uid_number}
+use Rattle.arj_base.specs.State.{head_of}
 use Rattle.arj_law_disk_view.proofs.Terms
 use Terms.{bytes_eq, Bare, World, run, after, State, Packed, Hold, Below, target, state_for, In, put, put_same, put_other, bool_cases}
 use Terms.{never, never_some, some_is, Among, IsOf, SeesPair, HasNone, packed, IsPlanned, SeesStore, StoreGoes, ClaimsPrepare, ClaimsCommit}
@@ -153,16 +154,22 @@ above_held s held new =
 
     same_state : state_eq s held ≡ true → packed held ≡ packed s
     same_state e =
-        let p = and_parts (uid_eq s.uid held.uid) ((class_code_of s.class == class_code_of held.class)
-        && ((s.version == held.version) && (uid_eq s.writer held.writer && bytes_eq s.payload held.payload))) e in
-        let q = and_parts (class_code_of s.class == class_code_of held.class)
-        ((s.version == held.version) && (uid_eq s.writer held.writer && bytes_eq s.payload held.payload)) p.1 in
-        let r = and_parts (s.version == held.version) (uid_eq s.writer held.writer && bytes_eq s.payload held.payload) q.1 in
+        let formats = head_of s.format == head_of held.format in
+        let classes = class_code_of s.class == class_code_of held.class in
+        let behind = uid_eq s.writer held.writer && bytes_eq s.payload held.payload in
+        let f = and_parts (uid_eq s.uid held.uid) (formats && (classes && ((s.version == held.version) && behind))) e in
+        let p = and_parts formats (classes && ((s.version == held.version) && behind)) f.1 in
+        let q = and_parts classes ((s.version == held.version) && behind) p.1 in
+        let r = and_parts (s.version == held.version) behind q.1 in
         let t = and_parts (uid_eq s.writer held.writer) (bytes_eq s.payload held.payload) r.1 in
+        let format : head_of held.format ≡ head_of s.format =
+        sym (number_is (head_of s.format) (head_of held.format) p.0) in
+        let class : class_code_of held.class ≡ class_code_of s.class =
+        sym (number_is (class_code_of s.class) (class_code_of held.class) q.0) in
         let versions : held.version ≡ s.version = sym (number_is s.version held.version r.0) in
         let writers : held.writer ≡ s.writer = sym (uid_is s.writer held.writer t.0) in
         let payloads : held.payload ≡ s.payload = sym ((bytes_eq-Decides s.payload held.payload).0 t.1) in
-        λ i. record { version = versions i; writer = uid_number (writers i); content = payloads i }
+        λ i. record { version = versions i; writer = uid_number (writers i); content = format i ∷ class i ∷ payloads i }
 
     by : (b : Bool) → (s.version == held.version) ≡ b → (c : Bool) → state_eq s held ≡ c → nat_lt s.version held.version ≡ false →
         (b && not c) ≡ false → Below (packed held) (packed s)

@@ -1,7 +1,9 @@
 -- One object in a pair of files, seen as the disk machine has a place: what is held, and what is prepared.
-use Rattle.std.specs.Prelude.{⊤, ◌≡◌, ◌⊎◌, List, [], ◌∷◌, Option, Some, option_map}
+use Rattle.std.specs.Prelude.{⊤, ◌≡◌, ◌⊎◌, ℕ, List, [], ◌∷◌, Option, Some, option_map}
 use Rattle.std.specs.declared.cmp.Ordering.TheVariants.{Less}
-use Rattle.arj_protocol.specs.Words.{Uid, ObjectState, uid_order}
+use Rattle.arj_base.specs.State.{head_of}
+use Rattle.arj_base.specs.declared.state.Format.{Format}
+use Rattle.arj_protocol.specs.Words.{Uid, ObjectState, Value, class_code_of, class_of, payload_of, uid_order}
 use Rattle.arj_protocol.specs.Effect.{Pair, held_at}
 use Rattle.arj_protocol.specs.Order.{at_uid, uid_number}
 use Rattle.arj_protocol.specs.Values.{state_entry}
@@ -17,9 +19,18 @@ abbrev pub AreSorted : {X : Type 0} → List (Uid × X) → Type 0
 AreSorted [] = ⊤
 AreSorted (e ∷ es) = AreAbove e.0 es × AreSorted es
 
--- a state of an object, and of an entry, which holds the list of its stores
+-- What a state in this format of this value holds: before its payload its format, by the length of its head, and its class, since an
+-- object that is gone has the payload of a register of one byte.
+abbrev pub content_of : Format → Value → List ℕ
+content_of f v = head_of f ∷ class_code_of (class_of v) ∷ payload_of v
+
+-- a state of an object, with its format and its class, and of an entry, which holds the list of its stores
 abbrev pub packed : ObjectState → Packed
-packed s = record { version = s.version; writer = uid_number s.writer; content = s.payload }
+packed s = record {
+  version = s.version;
+  writer = uid_number s.writer;
+  content = head_of s.format ∷ class_code_of s.class ∷ s.payload;
+}
 
 -- the entry of a state
 abbrev pub packed_entry : ObjectState → Packed

@@ -27,7 +27,8 @@ use Rattle.arj_law_lock_view.proofs.facts.Onward.{further_acked, further_heard}
 use Rattle.arj_law_parts.proofs.parts.SaidIncs.{all_map}
 use Rattle.arj_law_parts.specs.parts.Copies.{Paths}
 use Rattle.arj_protocol.specs.Ending.{answer_decided, answer_recorded, is_deferred}
-use Rattle.arj_law_lock_view.proofs.asking.Turning.{acked_turn, came_same, dumb_both, heard_turn, rise_of, rise_same}
+use Rattle.arj_law_lock_view.proofs.asking.Dumb.{dumb_both}
+use Rattle.arj_law_lock_view.proofs.asking.Turning.{acked_turn, came_same, heard_turn, rise_of, rise_same}
 use Rattle.arj_law_lock_view.proofs.asking.Tying.{giveup_dumb}
 use Rattle.arj_law_lock_view.specs.asking.Turns.{AreDumb, AreGiveups, AreLined, Ends, EndsSo, IsDumb, IsHeardBy, IsHeardIn, NumbersRise}
 use Rattle.arj_law_lock_view.specs.asking.Turns.{Rests, RestsSo, Turns, TurnsSo, Why, is_reply}

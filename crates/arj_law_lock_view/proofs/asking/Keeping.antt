@@ -1,18 +1,18 @@
 -- Each handler keeps it: what a coordinator waits for is what was asked last of the action, and isn't answered.
 use Rattle.arj_law_parts.proofs.Words
-use Words.{⊎_elim, ◌≡◌, ◌≢◌, ◌⊎◌, ◌≤◌, ◌∙◌, ◌==◌, ◌+◌, ◌++◌, ◌||◌, ℕ, zero, suc, Bool, true, false, cond, List, [], ◌∷◌, length, map}
+use Words.{⊎_elim, ◌≡◌, ◌≢◌, ◌⊎◌, ◌≤◌, ◌∙◌, ◌==◌, ◌+◌, ◌++◌, ◌||◌, ℕ, zero, suc, Bool, true, false, cond, List, [], ◌∷◌, length}
 use Words.{filter, Option, Some, None, refl}
 use Words.{Op, sym, ap, subst, inl, inr, arith, AllByRecursion, list_all, and_parts, bytes_eq, bytes_eq-Decides, length-append, uid_cases}
 use Words.{eq-eqb, Body, Event, Header, Kind, Label}
 use Words.{Uid, name, uids_of, actor, again_all, begin_action, call, call_steps, goes_on, include, next_req, renewed, start, tick_outs}
 use Words.{Steps, Goal, Run, Calling, Idle}
-use Words.{Coord, Doing, change_doing, doing_of, is_free, keeping_of, on_doing, on_root, root_at, with_keeping, Disk, Do, Effect, Intent}
-use Words.{Look, PutInc, Say, Parts}
-use Words.{with_coord, holders, query_about, prepared_actions, uid_set, without_number, unbound, Named, Naming, Input, Node, acts as does}
+use Words.{Coord, Doing, change_doing, doing_of, is_free, keeping_of, on_doing, on_root, root_at, with_keeping, Disk, Effect}
+use Words.{Parts}
+use Words.{with_coord, unbound, Input, Node, acts as does}
 use Words.{branch_named, on_branch, parent_of, parts_in, refusal_up, refused_by}
-use Words.{call_reasons, include_reasons, restart_outs, tolds_again, hello_to, naming_at, naming_back, numbers_to, recovered_records}
-use Words.{back_lines, first_reason, is_some, Branch, is_own}
-use Words.{root_of, uses_object, at_place, numbered, world_from, see, Seen, is_serial, tell_all, Post}
+use Words.{call_reasons, include_reasons, restart_outs}
+use Words.{first_reason, is_some, Branch, is_own}
+use Words.{root_of, uses_object, at_place, numbered, world_from, see, Seen, is_serial, Post}
 use Words.body
 use Words.calls
 use Words.ending
@@ -24,7 +24,6 @@ use Rattle.arj_law_lock_view.proofs.Terms
 use Terms.{act_in, acts, Action, begun_tree, paths_of, IsTree, doing_here, doing_other, same_number, uses_same, disk_by}
 use Rattle.arj_law_runs.proofs.journal.{Models.its_acts, Paths.IsPathedOf}
 use Rattle.arj_law_lock_view.proofs.facts.Onward.{further_acts, further_again}
-use Rattle.arj_law_parts.proofs.parts.SaidIncs.{all_flat, all_map}
 use Rattle.arj_law_parts.specs.moves.Keeps.{is_act, label_at}
 use Rattle.arj_law_parts.proofs.moves.Together.{with_both}
 use Rattle.arj_law_parts.specs.moves.Moments as Moments
@@ -44,11 +43,12 @@ use Rattle.arj_start.specs.Start.{Start}
 use Rattle.arj_law_lock_view.proofs.asking.Handling as Handling
 use Rattle.arj_law_lock_view.proofs.asking.Handling.{goes_so}
 use Rattle.arj_law_lock_view.proofs.asking.Knowing.{IsThere, KnowsCoord, is_there, knows_coord, one_name}
-use Rattle.arj_law_lock_view.proofs.asking.Turning.{acts_turn, again_dumb, again_turn, asked_idle, dumb_both, rise_of, still_there}
+use Rattle.arj_law_lock_view.proofs.asking.Dumb.{restart_dumb, tick_dumb}
+use Rattle.arj_law_lock_view.proofs.asking.Turning.{acts_turn, again_turn, asked_idle, rise_of, still_there}
 use Rattle.arj_law_lock_view.proofs.asking.Tying.{OffTied, Own, answers_stay, dumb_walk, ends_walk, like_tied, none_first, off_of, own_of}
 use Rattle.arj_law_lock_view.proofs.asking.Tying.{stop_tied, tied_same}
 use Rattle.arj_law_lock_view.specs.asking.Asked.{AskedAreTied, IsTied, IsTiedAt, accepted_of, asks_goal, count_asks}
-use Rattle.arj_law_lock_view.specs.asking.Turns.{AreDumb, EndsSo, IsDumb, IsGivenUp, IsHeardIn, NumbersRise, RestsSo, TurnsSo, Why}
+use Rattle.arj_law_lock_view.specs.asking.Turns.{AreDumb, EndsSo, IsGivenUp, IsHeardIn, NumbersRise, RestsSo, TurnsSo, Why}
 use Rattle.arj_law_lock_view.specs.asking.Turns.{calling, is_else, is_reply}
 
 some_is : {A : Type 0} {a b : A} → Some a ≡ Some b → a ≡ b
@@ -88,35 +88,6 @@ said_tied bs M all h = record {
   new = λ l none. let q = h.new l (none_first M.seen.lines (numbered M.past.number bs) l none) in
       (q.0, answers_stay M.seen.lines M.past.number bs l all ∙ q.1);
 }
-
-again_tolds : (telling : List (Uid × Intent)) → AreDumb (tolds_again telling)
-again_tolds telling = all_flat IsDumb (λ (e : Uid × Intent). tell_all e.1.root true ((e.0, ending.Commit) ∷ []) e.1.nodes) telling
-    (λ e. all_map IsDumb _ e.1.nodes (λ n. tt))
-
-pub tick_dumb : (k : ℕ) (d : Disk) (t : Parts) → AreDumb (tick_outs (record { number = k; disk = d; live = Some t }) t)
-tick_dumb k d t =
-    let r = again_all t.coord.doings t.coord in
-    dumb_both (r.outs ++ tolds_again t.coord.telling) (map query_about (holders d t))
-    (dumb_both r.outs (tolds_again t.coord.telling) (again_dumb t.coord.doings t.coord) (again_tolds t.coord.telling))
-    (all_map IsDumb query_about (holders d t) (λ u. tt))
-
-pub restart_dumb : (hd : Header) (k inc : ℕ) (d : Disk) → AreDumb (restart_outs hd k inc d)
-restart_dumb hd k inc d =
-    let back = naming_back (naming_at k inc d.names) in
-    let records = Do Look ∷ recovered_records k d.intents in
-    let asking = map query_about (uid_set (prepared_actions d.store ++ prepared_actions d.names)) in
-    let first = Do Look ∷ Do (PutInc inc) ∷ Say (body.Up k inc) ∷ Do Look ∷ back in
-    dumb_both (first ++ records ++ tolds_again d.intents ++ asking) (map (hello_to k inc) (without_number k (numbers_to hd.nodes)))
-    (dumb_both (first ++ records ++ tolds_again d.intents) asking
-    (dumb_both (first ++ records) (tolds_again d.intents)
-    (dumb_both first records (tt, (tt, (refl, (tt, backs (naming_at k inc d.names))))) (tt, all_map IsDumb _ d.intents (λ e. refl)))
-    (again_tolds d.intents))
-    (all_map IsDumb query_about (uid_set (prepared_actions d.store ++ prepared_actions d.names)) (λ u. tt)))
-    (all_map IsDumb (hello_to k inc) (without_number k (numbers_to hd.nodes)) (λ n. tt))
-  where
-    backs : (o : Option Naming) → AreDumb (naming_back o)
-    backs None = tt
-    backs (Some o) = all_flat IsDumb (λ (e : ℕ × Named). back_lines e.1) o.objects (λ e. all_map IsDumb _ e.1.rows (λ r. refl))
 
 -- ---- one node
 

@@ -1,25 +1,25 @@
 -- A coordinator goes on: which of its calls and includes are answered, and that all others wait on.
 use Rattle.arj_law_parts.proofs.Words
 use Words.{Answer, Mode, ObjectState, What, Write, is_include, ◌==◌}
-use Words.{⊎_elim, ◌≡◌, ◌≢◌, ◌⊎◌, ◌≤◌, ◌+◌, arith, ◌&&◌, ◌||◌, ◌++◌, ◌∙◌, ℕ, zero, suc, Bool, true, false, cond, not, List, [], ◌∷◌, map}
+use Words.{⊎_elim, ◌≡◌, ◌≢◌, ◌⊎◌, ◌≤◌, ◌+◌, arith, ◌&&◌, ◌||◌, ◌++◌, ◌∙◌, ℕ, zero, suc, Bool, true, false, cond, not, List, [], ◌∷◌}
 use Words.{filter, Option, Some, None, refl}
-use Words.{sym, ap, subst, inl, inr, ⊤, AllByRecursion, list_any, flat_map, uid_cases, Ask, Asked, Body, End, Kind, Label, Path, Uid}
+use Words.{sym, ap, subst, inl, inr, ⊤, AllByRecursion, list_any, uid_cases, Ask, Asked, Body, End, Kind, Label, Path, Uid}
 use Words.{Reply, actor}
 use Words.{again_all, again_now, asks_all, asks_node, commit_action, commit_open, commit_top, commits_in}
 use Words.{doomed_by, end_line, gaveup_lines, give_up, give_up_doing, gives_up, goes_on, heard, heard_by, heard_call, heard_doing}
 use Words.{heard_none, heard_now}
-use Words.{kept_at, last_req, mark_lines, moved_commit, next_node, root_heard, root_lost, root_moved, step_call, step_commit}
+use Words.{kept_at, last_req, moved_commit, next_node, root_heard, root_lost, root_moved, step_call, step_commit}
 use Words.{waits_for_call}
 use Words.{waits_for_commit, Answered, CallEnd, CallStep, Changed, Conflict, Ended, Included, Lost, Moved, On, Steps, answered, given_up}
 use Words.{Aborts, Asks, At, AtActivate, AtBind, AtInvoke, AtLoad, AtNote, BoundReply, Goal, Known, LoadedReply, Run}
 use Words.{activated_by, bound_answer, bound_by, finds, live_known, load_from, loaded_answer, made_by, made_known, moves, named_again}
 use Words.{or_lost, other_binding, same_binding, two_bindings, two_incs, with_inc, write_known, binding_eq, binding_less}
-use Words.{CommitStep, Decides, Machine, Marked, Plan, Stays, has_record, nodes_given_up, participants, plan_of, Calling, Committing}
+use Words.{CommitStep, Decides, Machine, Plan, Stays, has_record, nodes_given_up, participants, plan_of, Calling, Committing}
 use Words.{Coord, Doing, Idle, Now}
-use Words.{change_doing, doing_of, is_free, on_doing, on_root, plan_for, root_at, Did, Do, Effect, Intent, PutIntent, Served, abort_action}
-use Words.{aborts_with, acked, acked_by, acked_left, all_aborted, decide, decided_told, ended, ends_with, record_work, root_after}
-use Words.{say_for, says, tell}
-use Words.{tell_all, tolds_by, tolds_let_go, tolds_of, tolds_of_branch, at_uid, has, put_uid, without_number, without_uid, Input, acts}
+use Words.{change_doing, doing_of, is_free, on_doing, on_root, plan_for, root_at, Did, Effect, Intent, Served, abort_action}
+use Words.{aborts_with, acked, acked_by, acked_left, all_aborted, decide, ended, ends_with, root_after}
+use Words.{say_for, says}
+use Words.{tell_all, tolds_let_go, at_uid, has, put_uid, without_number, without_uid, Input, acts}
 use Words.{branch_named, on_branch}
 use Words.{Header, is_on, is_some, uid_eq, uid_is, uids_of, first_reason, refusal_up, refused_by, commit_reasons, servers_of}
 use Words.{has_open_child}
@@ -38,13 +38,14 @@ use Words.recorded
 use Rattle.arj_law_lock_view.proofs.Terms
 use Terms.{Action, IsBusy, IsGoodCoord, IsStepOf, IsTree, Paths, answer_step, giveup_step, vote_step, actor_is, doomed_same, doing_other}
 use Terms.{end_tree_on, doing_here, on_own}
+use Rattle.arj_law_lock_view.proofs.asking.Dumb.{abort_dumb, dumb_both, ends_dumb, gaveup_dumb, moved_dumb, tells_dumb, top_dumb}
 use Rattle.arj_law_lock_view.proofs.facts.Onward.{IsFurther}
-use Rattle.arj_law_parts.proofs.parts.SaidIncs.{all_both, all_flat, all_map}
+use Rattle.arj_law_parts.proofs.parts.SaidIncs.{all_flat}
 use Rattle.arj_law_parts.proofs.moves.Reasons.{first_not}
 use Rattle.arj_protocol.specs.Ending.{is_over, let_go}
 use Rattle.arj_protocol.specs.Step.{abort_reasons, is_waiting, is_waiting_now, sibling_waits, waits, waits_above, waits_below}
 use Rattle.arj_protocol.specs.Tree.{is_open_below, latest_first}
-use Rattle.arj_law_lock_view.specs.asking.Turns.{AreDumb, AreGiveups, CameFrom, EndsSo, IsDumb, IsLike, SaysGiveup, IsOneCall, RestsSo}
+use Rattle.arj_law_lock_view.specs.asking.Turns.{AreDumb, AreGiveups, CameFrom, EndsSo, IsLike, SaysGiveup, IsOneCall, RestsSo}
 use Rattle.arj_law_lock_view.specs.asking.Turns.{IsGivenUp, IsHeardBy, NumbersRise, TurnsSo, Why, calling, is_else, is_giveup, is_reply}
 
 some_is : {A : Type 0} {a b : A} → Some a ≡ Some b → a ≡ b
@@ -55,86 +56,12 @@ never holds fails = let no_way : true ≡ false = sym holds ∙ fails in absurd 
 
 -- ---- lines
 
-pub dumb_both : (es fs : List Effect) → AreDumb es → AreDumb fs → AreDumb (es ++ fs)
-dumb_both es fs a b = all_both IsDumb es fs a b
-
-pub says_dumb : (u : Uid) (f : Label → Body) (c : Coord) → ((l : Label) → is_reply (f l) ≡ false) → AreDumb (says u f c)
-says_dumb u f c its = by (doing_of u c)
-  where
-    by : (o : Option Doing) → AreDumb (say_for f o)
-    by None = tt
-    by (Some d) = (its d.label, tt)
-
 says_lined : (u : Uid) (f : Label → Body) (c : Coord) → ((l : Label) → is_giveup (f l) ≡ true) → AreGiveups (says u f c)
 says_lined u f c its = by (doing_of u c)
   where
     by : (o : Option Doing) → AreGiveups (say_for f o)
     by None = tt
     by (Some d) = (its d.label, tt)
-
-tells_dumb : (root : Uid) (ack : Bool) (ends : List (Uid × End)) (ns : List ℕ) → AreDumb (tell_all root ack ends ns)
-tells_dumb root ack ends ns = all_map IsDumb (tell root ack ends) ns (λ n. tt)
-
-tolds_dumb : (intents : List (Uid × Intent)) (c : Coord) (u : Uid) → AreDumb (tolds_of intents c u)
-tolds_dumb intents c u = by (branch_of u c.tree)
-  where
-    kinds : (k : Kind) (p : Path) → AreDumb (tolds_by u k p intents c)
-    kinds kind.Nested p = tells_dumb _ false _ _
-    kinds kind.Serial p = tells_dumb _ false _ _
-    kinds kind.Top p = tells_dumb _ false _ _
-    kinds kind.Independent p = tells_dumb _ false _ _
-    kinds kind.Constituent p = tells_dumb _ false _ _
-
-    by : (o : Option Branch) → AreDumb (tolds_of_branch u intents c o)
-    by None = tt
-    by (Some b) = kinds b.kind b.path
-
-ends_dumb : (u : Uid) (e : End) (f : Label → Body) (intents : List (Uid × Intent)) (c : Coord) → ((l : Label) → is_reply (f l) ≡ false) →
-    AreDumb (ends_with u e f intents c).outs
-ends_dumb u e f intents c its = dumb_both (says u f c) (tolds_of intents (ended u e c) u) (says_dumb u f c its)
-    (tolds_dumb intents (ended u e c) u)
-
-all_dumb : (us : List Uid) (c : Coord) → AreDumb (all_aborted us c).outs
-all_dumb [] c = tt
-all_dumb (u ∷ us) c = dumb_both (says u (λ l. body.Aborted l cause.Asked) c) (all_aborted us (ended u ending.Abort c)).outs
-    (says_dumb u (λ l. body.Aborted l cause.Asked) c (λ l. refl)) (all_dumb us (ended u ending.Abort c))
-
-asks_dumb : (p : Path) (req : ℕ) (asked : List (ℕ × Ask)) (c : Coord) → AreDumb (asks_all p req asked c).outs
-asks_dumb p req [] c = tt
-asks_dumb p req (a ∷ rest) c = (tt, asks_dumb p req rest (asks_node p req a c).part)
-
-decide_dumb : (p : Plan) (c : Coord) → AreDumb (decide p c).outs
-decide_dumb p c = dumb_both (record_work (actor p.path) p ++ says (actor p.path) body.Committed c) (map
-    (decided_told (root_of p.path) (actor p.path) p) p.sent)
-    (dumb_both (record_work (actor p.path) p) (says (actor p.path) body.Committed c)
-    (work (has_record p)) (says_dumb (actor p.path) body.Committed c (λ l. refl)))
-    (all_map IsDumb (decided_told (root_of p.path) (actor p.path) p) p.sent (λ n. told n (has (participants p) n)))
-  where
-    work : (b : Bool) → AreDumb (cond b (Do (PutIntent (actor p.path) (record { root = root_of p.path; nodes = participants p })) ∷ []) [])
-    work true = (tt, tt)
-    work false = tt
-
-    told : (n : ℕ) (b : Bool) → IsDumb (cond b (tell (root_of p.path) (has_record p) ((actor p.path, ending.Commit) ∷ []) n)
-        (tell (root_of p.path) false ((actor p.path, ending.Abort) ∷ []) n))
-    told n true = tt
-    told n false = tt
-
-step_dumb : (u : Uid) (s : CommitStep) (intents : List (Uid × Intent)) (c : Coord) → AreDumb (step_commit u s intents c).outs
-step_dumb u (Stays m) intents c = tt
-step_dumb u (Asks m) intents c = asks_dumb (plan_of m).path (plan_of m).req (commit.waiting m) (commits_in u m c)
-step_dumb u (Decides p) intents c = decide_dumb p c
-step_dumb u (Aborts why p) intents c = ends_dumb u ending.Abort (λ l. body.Aborted l why) intents c (λ l. refl)
-
-marks_dumb : (u : Uid) (marks : List (ℕ × ℕ)) (c : Coord) → AreDumb (mark_lines u marks c)
-marks_dumb u marks c = all_flat IsDumb (λ (m : ℕ × ℕ). says u (λ l. body.Excluded l m.0 m.1) c) marks
-    (λ m. says_dumb u (λ l. body.Excluded l m.0 m.1) c (λ l. refl))
-
-moved_dumb : (u : Uid) (m : Marked) (intents : List (Uid × Intent)) (c : Coord) → AreDumb (moved_commit u m intents c).outs
-moved_dumb u m intents c =
-    dumb_both (mark_lines u m.marks c) (step_commit u m.step intents c).outs (marks_dumb u m.marks c) (step_dumb u m.step intents c)
-
-gaveup_dumb : (u : Uid) (ns : List ℕ) (c : Coord) → AreDumb (gaveup_lines u ns c)
-gaveup_dumb u ns c = all_flat IsDumb (λ n. says u (λ l. body.GaveUp l n) c) ns (λ n. says_dumb u (λ l. body.GaveUp l n) c (λ l. refl))
 
 gaveup_lined : (u : Uid) (ns : List ℕ) (c : Coord) → AreGiveups (gaveup_lines u ns c)
 gaveup_lined u ns c = all_flat SaysGiveup (λ n. says u (λ l. body.GaveUp l n) c) ns (λ n. says_lined u (λ l. body.GaveUp l n) c (λ l. refl))
@@ -587,8 +514,7 @@ module _ (c : Coord) where
         own (Aborts why p) so = tt
 
         top : TurnsSo IsGivenUp c (commit_top b.path intents c).outs (commit_top b.path intents c).part
-        top = RestsSo (dumb_both (says u body.Committing c) (moved_commit u (commit.start plan) intents c).outs
-            (says_dumb u body.Committing c (λ l. refl)) (moved_dumb u (commit.start plan) intents c))
+        top = RestsSo (top_dumb b.path intents c)
             (came_step u (commit.start plan).step intents none
             (own (commit.start plan).step (vote_step actions paths tree (servers_of plan) plan plan (refl, refl))))
 
@@ -614,10 +540,8 @@ module _ (c : Coord) where
         AllByRecursion IsNoCall (open_below (actor b.path) c.tree ++ actor b.path ∷ []) →
         TurnsSo IsGivenUp c (abort_action (actor b.path) intents c).outs (abort_action (actor b.path) intents c).part
     abort_turn b intents none =
-        let us = open_below (actor b.path) c.tree ++ actor b.path ∷ [] in
-        let t = all_aborted us c in
-        RestsSo (dumb_both t.outs (flat_map (tolds_of intents t.part) us) (all_dumb us c)
-        (all_flat IsDumb (tolds_of intents t.part) us (λ w. tolds_dumb intents t.part w))) (came_all us c none came_same)
+        RestsSo (abort_dumb (actor b.path) intents c)
+        (came_all (open_below (actor b.path) c.tree ++ actor b.path ∷ []) c none came_same)
 
     -- who isn't refused doesn't wait
     free_above : (b : Branch) (rest : List (ℕ × Bool)) → first_reason
@@ -716,17 +640,6 @@ module _ (c : Coord) where
 
   pub again_turn : (u : Uid) (x : Doing) → doing_of u (again_all c.doings c).part ≡ Some x → CameFrom c u x
   again_turn = again_came c.doings c came_same
-
--- the requests that wait are sent again without a line
-pub again_dumb : (ds : List Doing) (c : Coord) → AreDumb (again_all ds c).outs
-again_dumb [] c = tt
-again_dumb (d ∷ ds) c = dumb_both (again_now c d.now).outs (again_all ds (again_now c d.now).part).outs (now d.now)
-    (again_dumb ds (again_now c d.now).part)
-  where
-    now : (n : Now) → AreDumb (again_now c n).outs
-    now Idle = tt
-    now (Calling s) = (tt, tt)
-    now (Committing m) = asks_dumb (plan_of m).path (plan_of m).req (commit.waiting m) c
 
 -- ---- numbers
 

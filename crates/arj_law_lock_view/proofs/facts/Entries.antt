@@ -93,9 +93,9 @@ module _ (x : ℕ) where
   put_keeps [] held its = its
   put_keeps (s ∷ ss) held its = put_keeps ss (put_uid s.uid s held) (found_put (entry x) s.uid s held its)
 
-  module _ (st : Start) where
+  module _ (hd : Header) (st : Start) where
     abbrev entry_of : ObjectLine → ObjectState
-    entry_of o = entry_by (st.marks.entries o.x) o
+    entry_of o = entry_by hd.format (st.marks.entries o.x) o
 
     first_held : (os : List ObjectLine) (o : ObjectLine) (held : List (Uid × ObjectState)) → In o os → o.x ≡ x →
         InHeld (put_states (map entry_of os) held)
@@ -105,12 +105,12 @@ module _ (x : ℕ) where
         (ap (λ (z : ObjectLine). z.x) same ∙ is) (put_there (entry p.x) (entry_of p) held))
     first_held (p ∷ ps) o held (inr i) is = first_held ps o (put_uid (entry p.x) (entry_of p) held) i is
 
-    pub first_there : (hd : Header) → HasObject hd x → is_some (held_at (entry x) (let d = disk_by hd st 1 in d.names)) ≡ true
-    first_there hd has = first_held hd.objects has.0 [] (in_from has.0 hd.objects has.1) has.2
+    pub first_there : HasObject hd x → is_some (held_at (entry x) (let d = disk_by hd st 1 in d.names)) ≡ true
+    first_there has = first_held hd.objects has.0 [] (in_from has.0 hd.objects has.1) has.2
 
   first_so : (hd : Header) → HasObject hd x → IsAtStarts hd (HoldsEntry x)
   first_so hd has st formed n is =
-      subst (λ (z : Node). is_some (held_at (entry x) z.disk.names) ≡ true) (first_at hd st 1 n is) (first_there st hd has)
+      subst (λ (z : Node). is_some (held_at (entry x) z.disk.names) ≡ true) (first_at hd st 1 n is) (first_there hd st has)
 
 -- ---- all runs
 

@@ -413,7 +413,7 @@ module _ (N : List Action → Naming → Type 0) (held : IsHeld N) where
   })
     where
       entry_of : ObjectLine → ObjectState
-      entry_of o = entry_by (st.marks.entries o.x) o
+      entry_of o = entry_by hd.format (st.marks.entries o.x) o
 
       first_names : HavePrepared [] (let d = disk_by hd st k in d.names)
       first_names = record { pend = tt; held = by (k == 1) }

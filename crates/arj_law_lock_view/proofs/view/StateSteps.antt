@@ -1,8 +1,8 @@
 -- The states that a server votes, by its copies.
 use Rattle.arj_law_parts.proofs.Words
 use Words.{◌≡◌, ◌≢◌, ◌∙◌, ◌==◌, ℕ, List, [], ◌∷◌, Bool, true, false, cond, Option, Some, None, refl, sym, ap, inl, inr, Contains, eqb-true}
-use Words.{arith, subst, find, option_map, cons_option, uid_other, uid_same, in_from, in_to, in_filter_map, End, ObjectState, Uid, class_of}
-use Words.{object, payload_of, uid_eq, Copy, Over, changed_state, end_copy, over_of, Did, did_nothing, at_number, each, next_version}
+use Words.{arith, subst, find, cons_option, uid_other, uid_same, in_from, in_to, in_filter_map, End, ObjectState, Uid}
+use Words.{object, uid_eq, made_over, Copy, changed_state, end_copy, Did, did_nothing, at_number, each}
 use Words.{Server, apply_ends, changed_states, end_new, end_one, is_told}
 use Words.list
 use Rattle.arj_law_lock_view.proofs.Terms.{taken_end, each_at, ListsEach, state_in, HaveOne}
@@ -19,23 +19,7 @@ states_of u es = filter_map (λ (e : ℕ × Copy). changed_state u e.0 e.1) es
 
 -- a copy's state is its object's
 state_uid : (u : Uid) (y : ℕ) (c : Copy) (st : ObjectState) → changed_state u y c ≡ Some st → st.uid ≡ object y
-state_uid u y c st is = by (over_of u c.stack) is
-  where
-    by : (o : Option Over) → option_map (λ (e : Over). record {
-      uid = object y;
-      class = class_of c.base.value;
-      version = next_version c.base.version;
-      writer = u;
-      payload = payload_of e.value;
-    }) o ≡ Some st → st.uid ≡ object y
-    by None h = absurd (cc h)
-    by (Some e) h = let same : record {
-      uid = object y;
-      class = class_of c.base.value;
-      version = next_version c.base.version;
-      writer = u;
-      payload = payload_of e.value;
-    } ≡ st = cc h in ap (λ (s : ObjectState). s.uid) (sym same)
+state_uid u y c st is = ap (λ (s : ObjectState). s.uid) (sym (made_over u y c st is).2)
 
 own_state : (u : Uid) (x : ℕ) (c : Copy) (st : ObjectState) → changed_state u x c ≡ Some st → is_for x st ≡ true
 own_state u x c st is = ap (λ (w : Uid). uid_eq w (object x)) (state_uid u x c st is) ∙ uid_same (object x)

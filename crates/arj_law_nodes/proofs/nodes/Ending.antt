@@ -25,7 +25,7 @@ use Rattle.arj_model.specs.Last.{changer_from, changers, entry_from, entry_paylo
 use Rattle.arj_model.specs.Last.{increasing, is_among}
 use Rattle.arj_model.specs.Last.{joins_by, joins_of, last_from, leaves_of, listed, listed_after, listed_from, object_line}
 use Rattle.arj_model.specs.Last.{same_list, serial_tops, servers_of_line, state_after, stores_of_line, uid_of_id, Inclusion}
-use Rattle.arj_start.specs.Start.{Marks, none_written}
+use Rattle.arj_start.specs.Start.{Marks, format_at, none_written}
 use Rattle.arj_promise.specs.{Excluded.DisksAreInTimeFrom, Runs.from_format}
 use Rattle.arj_model.specs.Nested.{IsFreedFor, commit_place, nested_less}
 use Rattle.arj_model.specs.Outcome.{has_cause_to_abort, is_behind_decision, is_said}
@@ -231,11 +231,12 @@ module _ (lines : List Line) (l : Line) (is : ends_run l.body ≡ true) where
         version = mark.version + length (changed i);
         writer = changer_from (acts_same lines l is i) mark.writer (changed i);
         payload = entry_payload (servers_of_line (object_line hd x)) (listed_same hd x i);
+        format = format_at hd.format (mark.version + length (changed i));
       })
 
   last_same : (hd : Header) (marks : Marks) (x : ℕ) → last_from hd marks (more lines l) x ≡ last_from hd marks lines x
   last_same hd marks x =
-      (λ i. state_after (marks.states x) x (run (first_values hd) (serial_same i) x) (filter (writes_on x) (serial_same i)))
+      (λ i. state_after hd.format (marks.states x) x (run (first_values hd) (serial_same i) x) (filter (writes_on x) (serial_same i)))
 
   clean_more : (hd : Header) (marks : Marks) (disks : Disks) → CleanFrom hd marks lines disks → CleanFrom hd marks (more lines l) disks
   clean_more hd marks disks clean = record {

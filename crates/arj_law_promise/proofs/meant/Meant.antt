@@ -3,7 +3,7 @@ use Rattle.arj_law_parts.proofs.Words
 use Words.{◌≡◌, ◌⊎◌, ◌∙◌, ◌==◌, ℕ, List, [], ◌∷◌, ◌++◌, Bool, true, false, cond, not, Option, Some, None, refl, sym, ap, subst, inl, inr}
 use Words.{⊎_elim, map, ⊤, is_some}
 use Words.{◌&&◌, ◌||◌, list_all, AllByRecursion, and_parts, eqb-true, Ask, Binding, Head, Header, Message, ObjectState, Path, Uid, asks}
-use Words.{class_of, object}
+use Words.{own_class, object}
 use Words.{Reply, answers, Steps, Calling, Committing, Coord, Doing, Idle, Now, doing_of, Disk, Effect, Say, Took, Void, Handled, Parts}
 use Words.{handle, is_meant}
 use Words.{answer_is_meant, asked_is_meant, ask_is_meant, reply_is_meant, is_loaded_for, is_loaded_in, coord_heard, handle_ask}
@@ -71,9 +71,9 @@ module _ (hd : Header) (form : HeaderInForm hd) (k : ℕ) (d : Disk) (t : Parts)
   ask_meant h (ask.Load x) f = refl
   ask_meant h (ask.Activate b st) f = object_is hd form st.uid.num f.0 st.uid f.1
   ask_meant h (ask.Record x b i g) f = refl
-  ask_meant h (ask.Invoke x b i ends op) f = copy_fits op x (class_of (first_values hd x)) t.server
+  ask_meant h (ask.Invoke x b i ends op) f = copy_fits op x (own_class (first_values hd x)) t.server
       (let s = (known.0.1.0.0.0.1 x).0 k here found in let z = s.1 in z.server)
-      (op_fits (class_of (first_values hd x)) op (class_at x hd) (class_is hd form x f.0) f.1)
+      (op_fits (own_class (first_values hd x)) op (class_at x hd) (class_is hd form x f.0) f.1)
   ask_meant h (ask.Vote i ties ends) f = refl
   ask_meant h (ask.Prepare states) f = f.0
   ask_meant h (ask.Confirm grants ex inc) f = f.0

@@ -1,27 +1,28 @@
 -- What is right at a line, behind lines that are right, keeps the rules by which journals are read.
 use Rattle.arj_law_parts.proofs.Words
-use Words.{⊤, ◌≡◌, ◌≤◌, ◌&&◌, ◌||◌, ◌+◌, ◌==◌, ◌∙◌, ℕ, Bool, true, false, cond, not, List, [], ◌∷◌, ◌++◌, Option, Some, None, refl, sym, ap}
+use Words.{⊤, ◌≡◌, ◌≤◌, ◌&&◌, ◌||◌, ◌+◌, ◌==◌, ◌∙◌, ℕ, Bool, true, false, cond, not, List, [], ◌∷◌, Option, Some, None, refl, sym, ap}
 use Words.{subst, inl, inr}
-use Words.{arith, nat_tests, length, length-append, nat_lt, nat_le, option_map, is_some, uid_eq, uid_is, is_on, In, in_find_none, in_from}
+use Words.{arith, nat_tests, length, nat_lt, nat_le, option_map, is_some, uid_eq, uid_is, is_on, In, in_find_none, in_from}
 use Words.{name}
 use Words.{Body, Header, Kind, Label, Line, ObjectLine, Op, Uid, class_at, class_in, lacks_op, is_serial}
 use Words.body
 use Words.kind
 use Rattle.arj_law_promise.proofs.Terms.{HasObject}
 use Rattle.arj_law_runs.proofs.Terms
-use Terms.{Act, act_in, acts, path, path_in, upwards, has_end, read, Book, book, new_book, is_over, is_top, AreRight, IsBelow}
+use Terms.{Act, act_in, acts, path, upwards, has_end, read, Book, book, new_book, is_over, is_top, AreRight, IsBelow}
 use Terms.{Right, has_act}
 use Rattle.arj_law_runs.proofs.journal.{Books.never, Books.sane_lines, Books.sane_new}
 use Rattle.arj_law_runs.proofs.journal.Models.{its_acts, its_call, its_end, named_in}
 use Rattle.arj_law_runs.specs.journal.Laws.{called, called_of}
-use Rattle.arj_class.specs.Table.{class_of, has_op}
+use Rattle.arj_class.specs.Forms.{is_op_in_form}
+use Rattle.arj_class.specs.Table.{has_op, own_class}
 use Rattle.arj_class.specs.declared.limits.TheConstants.{REGISTER_BYTES}
 use Rattle.arj_class.specs.declared.op.Op.TheVariants as op
 use Rattle.arj_model.specs.Actions.{ended}
 use Rattle.arj_model.specs.Last.{object_line}
 use Rattle.arj_start.specs.Limits.{most_on_path}
 use Rattle.arj_reading.specs.Readable as reading
-use reading.{Met, met, act_by, has_parent, is_parent_of, named_as, object_rule, of_begun, or_else, recovered_rule, unless}
+use reading.{met, act_by, has_parent, is_parent_of, named_as, object_rule, of_begun, or_else, recovered_rule, unless}
 use Rattle.arj_reading.specs.declared.limits.TheConstants.{PATH_ACTIONS}
 use Rattle.arj_reading.specs.declared.named.Named.{Named}
 use Rattle.arj_reading.specs.declared.rule.Rule.{Rule}
@@ -107,11 +108,12 @@ abbrev pub CallFits : Header → Body → Type 0
 CallFits hd (body.Ok l x o r) = object_rule (object_line hd x) o ≡ None
 CallFits hd _ = ⊤
 
-form_fits : (o : Op) → OpTextInForm o → reading.is_in_form o ≡ true
+form_fits : (o : Op) → OpTextInForm o → is_op_in_form o ≡ true
 form_fits (op.Put bytes) form = short (length bytes) form.0
   where
     short : (n : ℕ) → n ≤ REGISTER_BYTES → nat_le n REGISTER_BYTES ≡ true
     short n le = grind (arith, nat_tests, le)
+form_fits (op.Create v) form = ap not form.1
 form_fits o form = refl
 
 pub object_fits : (hd : Header) (x : ℕ) (o : Op) → HasObject hd x → lacks_op o (class_at x hd) ≡ false → OpTextInForm o →
@@ -121,14 +123,14 @@ object_fits hd x o has fits form = by (object_line hd x) refl fits
     itself : (n : ℕ) → (n == n) ≡ true
     itself n = grind arith
 
-    its_op : (b : Bool) → not b ≡ false → unless (b && reading.is_in_form o) rule.Operation ≡ None
-    its_op true e = holds (reading.is_in_form o) rule.Operation (form_fits o form)
+    its_op : (b : Bool) → not b ≡ false → unless (b && is_op_in_form o) rule.Operation ≡ None
+    its_op true e = holds (is_op_in_form o) rule.Operation (form_fits o form)
     its_op false e = absurd (cc e)
 
     by : (f : Option ObjectLine) → object_line hd x ≡ f → lacks_op o (class_in f) ≡ false → object_rule f o ≡ None
     by None none e = never (ap (λ y. y == x) has.2 ∙ itself x)
         (in_find_none (λ (p : ObjectLine). p.x == x) has.0 hd.objects none (in_from has.0 hd.objects has.1))
-    by (Some p) found e = its_op (has_op (class_of p.value) o) e
+    by (Some p) found e = its_op (has_op (own_class p.value) o) e
 
 -- ---- a line
 

@@ -16,6 +16,7 @@ use Words.ending
 use Words.role
 use Words.naming
 use Words.input
+use Rattle.arj_base.specs.declared.state.Format.{Format}
 use Rattle.arj_law_promise.proofs.Terms
 use Terms.{IsAtStarts, Mark, entry_by, first_up, older_at, state_by, states_from}
 use Terms.{HeaderInForm, paths_of, IsGoodCoord, IsTree, told_by, begun_tree, put_same, IsGoodOf, IsUp, good_coord, it, same_number, Keeps}
@@ -503,9 +504,9 @@ puts_both [] rs held = refl
 puts_both (s ∷ ss) rs held = puts_both ss rs (put_uid s.uid s held)
 
 -- each store of an object's line has the state that it begins with
-module _ (states : ℕ → Mark) where
+module _ (format : Format) (states : ℕ → Mark) where
   abbrev state_of : ObjectLine → ObjectState
-  state_of o = state_by (states o.x) o
+  state_of o = state_by format (states o.x) o
 
   line_held : (o : ObjectLine) (n : ℕ) (os : List ObjectLine) (held : List (Uid × ObjectState)) → has o.stores n ≡ true → Among o os →
       is_some (at_uid (object o.x) (put_states (map state_of (filter (λ (z : ObjectLine). has z.stores n) os)) held)) ≡ true
@@ -557,7 +558,7 @@ first_lists hd st formed = record {
     I0 = IsIncluded M0
 
     entry_of : ObjectLine → ObjectState
-    entry_of o = entry_by (st.marks.entries o.x) o
+    entry_of o = entry_by hd.format (st.marks.entries o.x) o
 
     Its : List (Uid × ObjectState) → Type 0
     Its held = AllByRecursion (λ (e : Uid × ObjectState). EntryHas (HasIt M0 (let u = e.0 in u.num)) e.1) held
@@ -565,8 +566,8 @@ first_lists hd st formed = record {
     there : (o : ObjectLine) → Among o hd.objects → (n : ℕ) → has o.stores n ≡ true →
         is_some (at_uid (object o.x) (put_states (states_from n hd st) [])) ≡ true
     there o i n on = ap (λ held. is_some (at_uid (object o.x) held)) (puts_both (older_at n st.older)
-        (map (state_of st.marks.states) (filter (λ (z : ObjectLine). has z.stores n) hd.objects)) [])
-        ∙ line_held st.marks.states o n hd.objects (put_states (older_at n st.older) []) on i
+        (map (state_of hd.format st.marks.states) (filter (λ (z : ObjectLine). has z.stores n) hd.objects)) [])
+        ∙ line_held hd.format st.marks.states o n hd.objects (put_states (older_at n st.older) []) on i
 
     has_line : (o : ObjectLine) → Among o hd.objects → (n : ℕ) → has o.stores n ≡ true → HasIt M0 o.x n
     has_line o i n on = inl (λ a is. subst (λ (z : Node). is_some (held_at (object o.x) (let d = z.disk in d.store)) ≡ true)

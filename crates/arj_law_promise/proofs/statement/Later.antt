@@ -46,6 +46,7 @@ header = record {
     (record { number = (omega arith, omega arith); value = omega arith; servers = refl; stores = refl }, tt),
     refl,
   );
+  held = (tt, tt);
 }
 
 pub in_form : IsInForm three_nodes (later_run formed some_moves)

@@ -2,7 +2,7 @@
 use Rattle.arj_law_parts.proofs.Words
 use Words.{Bool, List, None, Option, Some, [], ap, arith, cond, eqb-true, false, map, refl, subst, sym, true, ℕ, ⊎_elim, ◌<◌, ◌==◌, ◌∙◌}
 use Words.{◌∷◌, ◌≡◌, ◌≢◌, ◌≤◌, IfSome, is_some, nat_lt, not, option_map, ◌&&◌, ◌||◌, AllByRecursion, list_any, and_parts}
-use Words.{false_from_ne_true, or_cases, Ask, Binding, End, Head, Header, ObjectState, Op, Path, RecordedReply, Uid, asks, class_of, has_op}
+use Words.{false_from_ne_true, or_cases, Ask, Binding, End, Head, Header, ObjectState, Op, Path, RecordedReply, Uid, asks, own_class, has_op}
 use Words.{is_on, object, uid_eq, Reply, actor, answers, top_of, top_path, At, AtActivate, AtBind, AtInvoke, AtLoad, AtNote, Goal, Include}
 use Words.{Known, Run, Steps, ask_at, is_include, next_ask, node_at, Confirming, Machine, Preparing, Used, Voting, ask_of, confirm_ask}
 use Words.{included_of, left_of, plan_of, states_for, vote_ask, Calling, Committing, Coord, Doing, doing_of, kept_of, root_at, Already}
@@ -287,7 +287,7 @@ module _ (hd : Header) (form : HeaderInForm hd) (j : ℕ) (d : Disk) (t : Parts)
     -- the copy's class has its operation
     op_meant : (k : Known) (i : ℕ) → s.at ≡ AtInvoke k i →
         copy_has_op (invoked_op s.goal) (at_number s.x (let v = t.server in v.objects)) ≡ true
-    op_meant k i is = copy_fits (invoked_op s.goal) s.x (class_of (first_values hd s.x)) t.server
+    op_meant k i is = copy_fits (invoked_op s.goal) s.x (own_class (first_values hd s.x)) t.server
         (let p = (known.1.0.0.0.1 s.x).0 j here (node_here M j here) in let z = p.1 in z.server) (fits s.goal refl its_goal.2)
       where
         binds : KnowsBinds W.sent from (let x = at_it in let y = x.parts in y.coord)
@@ -296,8 +296,8 @@ module _ (hd : Header) (form : HeaderInForm hd) (j : ℕ) (d : Disk) (t : Parts)
         stands : StandsOn s.goal (kept_of s.x (root_at (root_of s.path) (let x = at_it in let y = x.parts in y.coord))) s.at
         stands = binds.steps u q s (ap (doing_of u) at_it.same ∙ does) now
 
-        fits : (g : Goal) → s.goal ≡ g → FitsGoal hd s.x g → has_op (class_of (first_values hd s.x)) (invoked_op g) ≡ true
-        fits (Run o) goal ok = op_fits (class_of (first_values hd s.x)) o (class_at s.x hd) (class_is hd form s.x object_there) ok
+        fits : (g : Goal) → s.goal ≡ g → FitsGoal hd s.x g → has_op (own_class (first_values hd s.x)) (invoked_op g) ≡ true
+        fits (Run o) goal ok = op_fits (own_class (first_values hd s.x)) o (class_at s.x hd) (class_is hd form s.x object_there) ok
         fits (Include n) goal ok = absurd (subst
             (λ z. StandsOn (Include n) (kept_of s.x (root_at (root_of s.path) (let x = at_it in let y = x.parts in y.coord))) z) is (subst
             (λ z. StandsOn z (kept_of s.x (root_at (root_of s.path) (let x = at_it in let y = x.parts in y.coord))) s.at) goal stands))

@@ -4,7 +4,7 @@ use Words.{Bool, List, None, Option, Some, [], ap, arith, cond, eqb-true, false,
 use Words.{◌==◌, ◌∙◌, ◌∷◌, ◌≡◌, ◌≤◌, IfSome, is_some, nat_le, unwrap_or, ◌&&◌, ◌||◌, AllByRecursion, cons_option, Class, Copy, Family, Tree}
 use Words.{no_family, Asked, Binding, Header, ObjectState, Op, Uid, object, uid_eq, uid_order, Naming, ObjectLine, Plan, Used, changed_of}
 use Words.{state_by, state_for, Kept, Server, is_below, are_of_objects, copy_has_op, is_object, at_number, at_uid, has, class_at, class_in}
-use Words.{lacks_op, class_of, has_op, nat_tests, and_parts, false_from_ne_true, or_cases, has_all, in_find, in_find_none, in_from}
+use Words.{lacks_op, own_class, has_op, nat_tests, and_parts, false_from_ne_true, or_cases, has_all, in_find, in_find_none, in_from}
 use Words.{names_object, uid_is, uid_same, At, AtActivate, AtBind, AtInvoke, AtLoad, AtNote, Goal, Steps, ask_at, next_ask, next_node}
 use Words.{Reply, ask_kind, reply_kind, waits_for_call}
 use Words.list
@@ -45,10 +45,10 @@ module _ (hd : Header) (form : HeaderInForm hd) where
       subst (λ v. is_object v ≡ true) (sym same) ((λ i. uid_same (object x) i && (nat_le 1 x && nat_le x OBJECTS)) ∙ number_is x has)
 
   -- the header's class is that of the object's first value
-  pub class_is : (x : ℕ) → HasObject hd x → class_at x hd ≡ Some (class_of (first_values hd x))
+  pub class_is : (x : ℕ) → HasObject hd x → class_at x hd ≡ Some (own_class (first_values hd x))
   class_is x has = by (object_line hd x) refl
     where
-      by : (o : Option ObjectLine) → object_line hd x ≡ o → class_in o ≡ Some (class_of (value_of_line o))
+      by : (o : Option ObjectLine) → object_line hd x ≡ o → class_in o ≡ Some (own_class (value_of_line o))
       by None none = never (ap (λ y. y == x) has.2 ∙ itself x)
           (in_find_none (λ (p : ObjectLine). p.x == x) has.0 hd.objects none (in_from has.0 hd.objects has.1))
       by (Some o) found = refl

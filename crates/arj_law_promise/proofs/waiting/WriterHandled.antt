@@ -3,12 +3,12 @@ use Rattle.arj_law_parts.proofs.Words
 use Words.{Start}
 use Words.{◌≡◌, ◌++◌, ℕ, Bool, true, false, cond, filter, List, [], ◌∷◌, map, Contains, Option, Some, None, refl, sym, subst, inl, inr, ⊤}
 use Words.{IfSome, option_map, AllByRecursion, filter_map, in_from, in_to, activate_own, bind_own, confirm_own, ends_own, invoke_own}
-use Words.{note_own, told_own, vote_own, Ask, Asked, End, Head, Message, ObjectState, Uid, What, asks, class_of, object, payload_of, Reply}
-use Words.{actor, answers, asked_by, last_end, response, heard, confirm, Coord, Copy, Over, changed_state, over_of, either, void, Already}
+use Words.{note_own, told_own, vote_own, Ask, Asked, End, Head, Message, ObjectState, Uid, What, asks, object, Reply}
+use Words.{actor, answers, asked_by, last_end, response, heard, confirm, Coord, Copy, Over, changed_state, over_of, state_over, either, void, Already}
 use Words.{Disk, Do, Effect, InDoubt, Look, Old, Prep, Prepare, Ready, Say, Send, held_at, holder_of, is_prepared, prepare_answer, acked}
 use Words.{answer_query, Naming, Handled, Parts, Took, Void, ack_told, end_states, handle, handle_ends, handle_other, holders, if_naming}
 use Words.{is_earlier, load_by, load_held, naming_told, prepare_by, query_about, sends_answer, serve, store_told, with_naming, with_server}
-use Words.{next_version, Server, changed_states, Post}
+use Words.{Server, changed_states, Post}
 use Words.ask
 use Words.body
 use Words.ending
@@ -35,13 +35,7 @@ voted_by top s = by s.objects
     one : (x : ℕ) (c : Copy) → IfSome (changed_state top x c) (IsBy (λ w. w ≡ top))
     one x c = each (over_of top c.stack)
       where
-        each : (o : Option Over) → IfSome (option_map (λ (e : Over). record {
-          uid = object x;
-          class = class_of c.base.value;
-          version = next_version c.base.version;
-          writer = top;
-          payload = payload_of e.value;
-        }) o) (IsBy (λ w. w ≡ top))
+        each : (o : Option Over) → IfSome (option_map (state_over top x c) o) (IsBy (λ w. w ≡ top))
         each None = tt
         each (Some e) = refl
 

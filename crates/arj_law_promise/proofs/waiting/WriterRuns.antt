@@ -329,7 +329,7 @@ first_by hd st formed = record {
     puts [] held by so = so
     puts (s ∷ ss) held by so = puts ss _ by.1 (put_so P s held by.0 so)
 
-    lines : (os : List ObjectLine) → AllByRecursion (IsBy P) (map (λ (o : ObjectLine). state_by (st.marks.states o.x) o) os)
+    lines : (os : List ObjectLine) → AllByRecursion (IsBy P) (map (λ (o : ObjectLine). state_by hd.format (st.marks.states o.x) o) os)
     lines [] = tt
     lines (o ∷ os) = (inl (formed.states o.x), lines os)
 
@@ -344,7 +344,7 @@ first_by hd st formed = record {
 
     states : (k : ℕ) → Held P (let d = disk_by hd st k in let p = d.store in p.held)
     states k = puts (states_from k hd st) [] (all_append (IsBy P) (older_at k st.older)
-        (map (λ (o : ObjectLine). state_by (st.marks.states o.x) o) (filter (λ (o : ObjectLine). has o.stores k) hd.objects))
+        (map (λ (o : ObjectLine). state_by hd.format (st.marks.states o.x) o) (filter (λ (o : ObjectLine). has o.stores k) hd.objects))
         (older k st.older formed.older) (lines (filter (λ (o : ObjectLine). has o.stores k) hd.objects))) tt
 
 pub writers_given : (hd : Header) → KeepsGiven hd IsGood ArePastWriters

@@ -2,6 +2,7 @@
 use Rattle.std.specs.Prelude.{refl, false, true, ℕ, ◌==◌, ◌≡◌, List, [], ◌∷◌, None, Some, map, replicate}
 use Rattle.std.proofs.Common.{arith}
 use Rattle.arj_base.specs.declared.state.Class.TheVariants as class
+use Rattle.arj_base.specs.declared.state.Format.TheVariants as format
 use Rattle.arj_base.specs.declared.state.ObjectState.{ObjectState}
 use Rattle.arj_base.specs.declared.uid.Uid.{Uid}
 use Rattle.arj_base.specs.Uid.{object}
@@ -25,7 +26,8 @@ letter c = record { len = 1; text = c ∷ replicate 15 0; whole = refl; short = 
 
 -- three nodes, and an account whose server is node 1 and whose stores are nodes 1 and 2
 abbrev pub three_nodes : Header
-three_nodes = record { nodes = 3; objects = record { x = 1; value = Account 5; servers = 1 ∷ []; stores = 1 ∷ 2 ∷ [] } ∷ [] }
+three_nodes =
+    record { nodes = 3; objects = record { x = 1; value = Account 5; servers = 1 ∷ []; stores = 1 ∷ 2 ∷ [] } ∷ []; format = format.Two }
 
 -- an action of the incarnation before the one in which node 1 is up
 abbrev pub earlier : Uid
@@ -35,10 +37,16 @@ earlier = record { node = 1; inc = 1; num = 4 }
 abbrev pub fallen : Uid
 fallen = record { node = 2; inc = 2; num = 1 }
 
--- what the account was before
+-- what the account was before, in the older format
 abbrev pub old_state : ObjectState
-old_state =
-    record { uid = object 1; class = class.Account; version = 2; writer = record { node = 1; inc = 1; num = 2 }; payload = replicate 8 0 }
+old_state = record {
+  uid = object 1;
+  class = class.Account;
+  version = 2;
+  writer = record { node = 1; inc = 1; num = 2 };
+  payload = replicate 8 0;
+  format = format.One;
+}
 
 -- The account was written three times and its entry once; node 3, which isn't listed any more, has an older state; each node is in its
 -- second incarnation, and nodes 2 and 3 are down; and label A was given.

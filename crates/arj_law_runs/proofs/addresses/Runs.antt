@@ -1,6 +1,6 @@
 -- Each number that stands for a node, wherever it's named, in every run.
 use Rattle.arj_law_parts.proofs.Words
-use Words.{◌≡◌, ◌∙◌, ◌≤◌, ◌+◌, ◌==◌, ◌&&◌, ℕ, zero, suc, Bool, true, false, cond, List, [], ◌∷◌, length, map, refl, sym, subst, arith}
+use Words.{◌≡◌, ◌≤◌, ◌+◌, ◌==◌, ◌&&◌, ℕ, zero, suc, Bool, true, false, List, [], ◌∷◌, length, map, refl, sym, subst, arith}
 use Words.{⊎_elim, Option, Some, None, IfSome, if◌then◌else◌, nat_le, slice_get, AllByRecursion, list_all, and_parts, leb-true, nat_tests}
 use Words.{Header, Message, ObjectLine, ObjectState, Uid, again_all, begin_action, Coord, Disk, Do, Effect, Say, Send, stopped, worked}
 use Words.{tick_outs, Parts, with_coord, put_uid, Input, Node, acts, node_by, numbers_to, parent_of}
@@ -14,6 +14,7 @@ use Terms.{AreQuiet, said, up, Up, Walks, event_asked, keeps_asked}
 use Terms.{moves_asked, walks_both, AllOf, AreOf, CoordOf, DiskOf, EntryOf, IsEntry, PartsOf, StateOf}
 use Rattle.arj_journal.specs.ScriptForm.{HeaderInForm, ObjectLineInForm}
 use Rattle.arj_journal.specs.declared.limits.TheConstants.{SERVERS, STORES}
+use Rattle.arj_law_parts.proofs.moves.EachNode as at_each
 use Rattle.arj_law_parts.proofs.moves.Happens.{first_asked}
 use Rattle.arj_law_parts.specs.moves.Keeps.{AsksNode}
 use Rattle.arj_law_parts.specs.moves.Seen.{is_quiet_line}
@@ -37,15 +38,10 @@ module _ (G : ℕ → Type 0) where
 
   -- of each node but this, and of all that was sent
   abbrev RestIsSo : ℕ → Seen → Type 0
-  RestIsSo k M = ((j : ℕ) (n : Node) → (j == k) ≡ false → M.nodes j ≡ Some n → Is n) × ((p : Post) → In p M.sent → PostOf G p)
-      × Lines M.lines
+  RestIsSo k M = at_each.EachBut Is k M × ((p : Post) → In p M.sent → PostOf G p) × Lines M.lines
 
   rest : (k : ℕ) (d : Disk) (live : Option Parts) (M : Seen) → All (at k d live M) → RestIsSo k M
-  rest k d live M all = (
-    λ j n apart is. all.0 j n ((λ i. cond (apart i) (Some (record { number = k; disk = d; live = live })) (M.nodes j)) ∙ is),
-    all.1,
-    all.2,
-  )
+  rest k d live M all = (at_each.others Is k d live M all.0, all.1, all.2)
 
   -- lines that are said since
   says_more : (e : ℕ) (bs : List Body) (lines : List Line) → AllByRecursion (SaysOf G) bs → Lines lines → Lines (lines ++ numbered e bs)
@@ -74,22 +70,11 @@ module _ (G : ℕ → Type 0) where
       by b is = absurd (cc is)
 
   own : (k : ℕ) (d : Disk) (live : Option Parts) (M : Seen) → All (at k d live M) → Is (record { number = k; disk = d; live = live })
-  own k d live M all = all.0 k (record { number = k; disk = d; live = live })
-      (λ i. cond (same k i) (Some (record { number = k; disk = d; live = live })) (M.nodes k))
-    where
-      same : (k : ℕ) → (k == k) ≡ true
-      same k = grind (arith, nat_tests)
+  own k d live M all = at_each.own Is k d live M all.0
 
   back : (k : ℕ) (d : Disk) (live : Option Parts) (M : Seen) → Is (record { number = k; disk = d; live = live }) → RestIsSo k M →
       All (at k d live M)
-  back k d live M its all = (λ j n is. by j n (j == k) refl is, all.1, all.2)
-    where
-      x : Node
-      x = record { number = k; disk = d; live = live }
-
-      by : (j : ℕ) (n : Node) (b : Bool) → (j == k) ≡ b → cond b (Some x) (M.nodes j) ≡ Some n → Is n
-      by j n true same there = let here : x ≡ n = cc in subst Is here its
-      by j n false apart there = all.0 j n apart there
+  back k d live M its all = (at_each.back Is k d live M its all.0, all.1, all.2)
 
   module _ (one : G 1) where
     -- whatever a node does
@@ -142,8 +127,8 @@ module _ (G : ℕ → Type 0) where
       states (s ∷ ss) held all had = states ss (put_uid s.uid s held) all.1 (all_key IsEntry (StateOf G) s.uid s held all.0.0 all.0 had)
 
       entries : (marks : Marks) (b : Bool) →
-          AllByRecursion (StateOf G) (if b then map (λ (o : ObjectLine). entry_by (marks.entries o.x) o) hd.objects else [])
-      entries marks true = all_map (LineOf G) (StateOf G) (λ (o : ObjectLine). entry_by (marks.entries o.x) o) hd.objects
+          AllByRecursion (StateOf G) (if b then map (λ (o : ObjectLine). entry_by hd.format (marks.entries o.x) o) hd.objects else [])
+      entries marks true = all_map (LineOf G) (StateOf G) (λ (o : ObjectLine). entry_by hd.format (marks.entries o.x) o) hd.objects
           (λ o l. (
             refl,
             subst (EntryOf G) (sym (entry_back (record { servers = o.servers; stores = o.stores })))

@@ -1,10 +1,10 @@
 -- What a server votes for a top is used by the top's plan at that server.
 use Rattle.arj_law_parts.proofs.Words
 use Words.{◌≡◌, ◌⊎◌, ◌<◌, ◌==◌, ◌&&◌, ◌||◌, ℕ, List, [], ◌∷◌, ◌++◌, Bool, true, false, cond, Option, Some, None, refl, sym, ◌∙◌, ap, subst}
-use Words.{inl, inr, ⊎_elim, arith, length, Contains, is_some, option_map, AllByRecursion, is_eq, match_ordering, nat_cmp, Ordering, Less}
+use Words.{inl, inr, ⊎_elim, arith, length, Contains, is_some, AllByRecursion, is_eq, match_ordering, nat_cmp, Ordering, Less}
 use Words.{Equal, Greater, and_parts, eqb-true, uid_is, uid_same, in_filter_map, in_find, in_from, Uid, Ask, End, Head, Message}
-use Words.{ObjectState, asks, class_of, is_on, last_uid, object, payload_of, uid_eq, uids_of, actor, Machine, plan_of, Committing, Coord}
-use Words.{Doing, doing_of, Copy, Over, changed_state, end_copy, is_of, over_of, Did, did_nothing, at_number, each, next_version}
+use Words.{ObjectState, asks, is_on, last_uid, object, uid_eq, uids_of, actor, Machine, plan_of, Committing, Coord}
+use Words.{made_over, Doing, doing_of, Copy, Over, changed_state, end_copy, is_of, Did, did_nothing, at_number, each}
 use Words.{put_number, Server, apply_ends, changed_states, end_new, end_one, is_told, Branch, behind, branch_of, is_own, Post}
 use Words.list
 use Words.ask
@@ -99,27 +99,17 @@ pub voted_over : (top : Uid) (s : Server) → AreKeyed s.objects → (st : Objec
     (x : ℕ) × (c : Copy) × (e : Over) × (at_number x s.objects ≡ Some c) × list.In e c.stack × (last_uid e.holder ≡ top) × (st.uid.num ≡ x)
 voted_over top s keyed st i =
     let f = in_filter_map (λ (e : ℕ × Copy). changed_state top e.0 e.1) st s.objects i in
-    let o = by (f.0).0 (f.0).1 (over_of top (let c = (f.0).1 in c.stack)) refl f.2 in
-    ((f.0).0, (f.0).1, o.0, found_at (f.0).0 (f.0).1 s.objects keyed f.1, o.1, o.2, o.3)
-  where
-    by : (x : ℕ) (c : Copy) (o : Option Over) → over_of top c.stack ≡ o → option_map (λ (e : Over). record {
-      uid = object x;
-      class = class_of c.base.value;
-      version = next_version c.base.version;
-      writer = top;
-      payload = payload_of e.value;
-    }) o ≡ Some st → (e : Over) × list.In e c.stack × (last_uid e.holder ≡ top) × (st.uid.num ≡ x)
-    by x c None is h = absurd (cc h)
-    by x c (Some e) is h =
-        let p = in_find (is_of top) e c.stack is in
-        let same : record {
-          uid = object x;
-          class = class_of c.base.value;
-          version = next_version c.base.version;
-          writer = top;
-          payload = payload_of e.value;
-        } ≡ st = some_is h in
-        (e, p.0, uid_is (last_uid e.holder) top p.1, ap (λ (z : ObjectState). z.uid.num) (sym same))
+    let c = (f.0).1 in
+    let o = made_over top (f.0).0 c st f.2 in
+    let p = in_find (is_of top) o.0 c.stack o.1 in (
+      (f.0).0,
+      c,
+      o.0,
+      found_at (f.0).0 c s.objects keyed f.1,
+      p.0,
+      uid_is (last_uid (let e = o.0 in e.holder)) top p.1,
+      ap (λ (z : ObjectState). z.uid.num) (sym o.2),
+    )
 
 -- ---- who says that an action committed
 

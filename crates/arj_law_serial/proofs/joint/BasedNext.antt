@@ -1,9 +1,9 @@
 -- What a top wrote whose Confirm naming may take lies over the last committed value, whose version is known.
 use Rattle.arj_law_parts.proofs.Words
-use Words.{◌≡◌, ℕ, Option, Some, None, refl, sym, ap, subst, option_map, ObjectState, Uid, class_of, object, payload_of, Over, over_of}
+use Words.{made_over, ◌≡◌, ℕ, Some, sym, ap, subst, ObjectState, Uid, Over, over_of}
 use Words.{next_version}
 use Rattle.arj_law_serial.proofs.Terms
-use Terms.{World, some_is, top, Guard, Alive, Call, Entry, State, Vote, ConfirmTop, IsLast, MayCount, Fixed, IsKnownAs, IsVotedOver}
+use Terms.{World, top, Guard, Alive, Call, Entry, State, Vote, ConfirmTop, IsLast, MayCount, Fixed, IsKnownAs, IsVotedOver}
 use Rattle.arj_law_lock.proofs.logs.Takes.{confirms_are_over_the_last}
 use Rattle.arj_law_lock.specs.machine.Actions.{In}
 use Rattle.arj_law_serial.proofs.joint.Writing.{over_there}
@@ -13,19 +13,7 @@ module _ (f : Fixed) (x : ℕ) (u : Uid) (S : State) (W : World) (st : ObjectSta
     (its : top c.act ≡ f.act u) (alive : Alive S c.act) where
   voted : (o : Over) × (over_of u (let k = z.copy in k.stack) ≡ Some o)
       × (next_version (let k = z.copy in let b = k.base in b.version) ≡ st.version)
-  voted = by (over_of u (let k = z.copy in k.stack)) refl z.state
-    where
-      by : (w : Option Over) → over_of u (let k = z.copy in k.stack) ≡ w → option_map (λ (e : Over). record {
-        uid = object x;
-        class = class_of (let k = z.copy in let b = k.base in b.value);
-        version = next_version (let k = z.copy in let b = k.base in b.version);
-        writer = u;
-        payload = payload_of e.value;
-      }) w ≡ Some st
-          → (o : Over) × (over_of u (let k = z.copy in k.stack) ≡ Some o)
-          × (next_version (let k = z.copy in let b = k.base in b.version) ≡ st.version)
-      by None is e = absurd (cc e)
-      by (Some o) is e = (o, is, ap (λ (y : ObjectState). y.version) (some_is refl e))
+  voted = let m = made_over u x z.copy st z.state in (m.0, m.1, ap (λ (y : ObjectState). y.version) m.2)
 
   entry : (e : Entry) × In e (let b = z.before in let w = b.server z.node in w.log) × (e.holder ≡ f.act u)
   entry = over_there f.act f.code u (let k = z.copy in k.stack) (let b = z.before in let w = b.server z.node in w.log) (let y = z.sees in

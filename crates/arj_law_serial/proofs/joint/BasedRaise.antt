@@ -1,8 +1,8 @@
 -- An end that a server takes raises a based copy of the object to what its top had planned.
 use Rattle.arj_law_parts.proofs.Words
-use Words.{arith, length, nat_le, ◌+◌, ◌≡◌, ◌≤◌, ◌⊎◌, ◌++◌, ◌==◌, ℕ, List, [], ◌∷◌, Bool, true, false, Option, Some, None, refl, sym, ◌∙◌}
-use Words.{ap, subst, inl, inr, ⊎_elim, option_map, nat_tests, in_find, in_from, in_to, uid_is, Binding, End, ObjectState, Uid, class_of}
-use Words.{last_uid, object, payload_of, Base, Copy, Over, is_of, is_top_over, over_of, raised, at_number, binding_number, next_version}
+use Words.{arith, length, nat_le, ◌+◌, ◌≡◌, ◌≤◌, ◌⊎◌, ◌++◌, ◌==◌, ℕ, List, [], ◌∷◌, Bool, true, false, Some, refl, sym, ◌∙◌}
+use Words.{made_over, ap, subst, inl, inr, ⊎_elim, nat_tests, in_find, in_from, in_to, uid_is, Binding, End, ObjectState, Uid}
+use Words.{last_uid, object, Base, Copy, Over, is_of, is_top_over, over_of, raised, at_number, binding_number, next_version}
 use Words.{uid_number, Server, apply_ends, end_one, is_told}
 use Words.list
 use Words.ending
@@ -20,6 +20,7 @@ use Rattle.arj_law_lock_view.proofs.view.LogSteps.{over_deep}
 use Rattle.arj_law_lock_view.specs.view.Telling.{IsCommittedSo, ShowsEnd}
 use Rattle.arj_law_parts.proofs.parts.ServerRuns.{one_follows}
 use Rattle.arj_law_serial.proofs.joint.{BasedServers.AreRaised, Writing.over_there}
+use Rattle.arj_protocol.specs.Copy.{state_over}
 
 -- ---- what was the last state once
 
@@ -223,22 +224,8 @@ module _ (f : Fixed) (apart : AreApart f.code) (x k : ℕ) (begun : List Action)
         abbrev z : IsVotedOver f x u p.waiting W p.state
         z = p.over
 
-        abbrev given : Over → ObjectState
-        given e = record {
-          uid = object x;
-          class = class_of (let q = z.copy in let b = q.base in b.value);
-          version = next_version (let q = z.copy in let b = q.base in b.version);
-          writer = u;
-          payload = payload_of e.value;
-        }
-
-        voted_over : (o2 : Over) × (over_of u (let q = z.copy in q.stack) ≡ Some o2) × (Some (given o2) ≡ Some p.state)
-        voted_over = made (over_of u (let q = z.copy in q.stack)) refl z.state
-          where
-            made : (w : Option Over) → over_of u (let q = z.copy in q.stack) ≡ w → option_map (λ (e : Over). given e) w ≡ Some p.state →
-                (o2 : Over) × (over_of u (let q = z.copy in q.stack) ≡ Some o2) × (Some (given o2) ≡ Some p.state)
-            made None found is = absurd (cc is)
-            made (Some e) found is = (e, found, is)
+        voted_over : (o2 : Over) × (over_of u (let q = z.copy in q.stack) ≡ Some o2) × (state_over u x z.copy o2 ≡ p.state)
+        voted_over = made_over u x z.copy p.state z.state
 
         voted_entry : (o2 : Over) → over_of u (let q = z.copy in q.stack) ≡ Some o2 →
             (e : Entry) × In e (let b = z.before in let w = b.server z.node in w.log) × (e.holder ≡ f.act u)
@@ -275,7 +262,7 @@ module _ (f : Fixed) (apart : AreApart f.code) (x k : ℕ) (begun : List Action)
 
         voted : (next_version (let q = z.copy in let b = q.base in b.version) ≡ (let q = p.state in q.version))
             × (u ≡ (let q = p.state in q.writer))
-        voted = let same = some_is refl voted_over.2 in (ap (λ (q : ObjectState). q.version) same, ap (λ (q : ObjectState). q.writer) same)
+        voted = let same = voted_over.2 in (ap (λ (q : ObjectState). q.version) same, ap (λ (q : ObjectState). q.writer) same)
 
         known : IsKnownAs W.disk (next_version (let b = c.base in b.version)) u
         known = (

@@ -1,8 +1,8 @@
 -- What a server votes is of a copy whose state is known: so are the states that its Yes gives.
 use Rattle.arj_law_parts.proofs.Words
 use Words.{◌≡◌, ℕ, List, [], ◌∷◌, Bool, true, false, cond, Option, Some, None, refl, sym, ◌∙◌, ap, subst, inl, inr, Contains, eqb-true}
-use Words.{option_map, in_filter_map, in_from, in_to, Binding, End, Head, ObjectState, Uid, VotedReply, What, class_of, object, payload_of}
-use Words.{actor, Copy, Over, changed_state, over_of, Served, either, void, at_number, binding_eq, binding_number, next_version, Server}
+use Words.{made_over, in_filter_map, in_from, in_to, Binding, End, Head, ObjectState, Uid, VotedReply, What, object}
+use Words.{actor, Copy, changed_state, Served, either, void, at_number, binding_eq, binding_number, Server}
 use Words.{apply_ends, changed_copy, changed_states, first_unbound, has_ended, other_inc, vote_now}
 use Words.list
 use Words.ask
@@ -38,34 +38,6 @@ tied_copy (t ∷ ts) s x b none i = by (changed_copy t.1 (at_number t.0 s.object
     by None is un (inl same_one) ih = subst (λ (z : ℕ × Binding). (c : Copy) × (at_number z.0 s.objects ≡ Some c)
         × (binding_number z.1 ≡ binding_number c.binding)) same_one (of_copy t.0 t.1 (at_number t.0 s.objects) refl is)
     by None is un (inr more) ih = ih un more
-
--- whose a changed state is
-state_uid : (u : Uid) (x : ℕ) (c : Copy) (st : ObjectState) → changed_state u x c ≡ Some st → st.uid ≡ object x
-state_uid u x c st is = by (over_of u c.stack) is
-  where
-    by : (w : Option Over) → option_map (λ (e : Over). record {
-      uid = object x;
-      class = class_of (let b = c.base in b.value);
-      version = next_version (let b = c.base in b.version);
-      writer = u;
-      payload = payload_of e.value;
-    }) w ≡ Some st → st.uid ≡ object x
-    by None e = absurd (cc e)
-    by (Some o) e = ap (λ (q : ObjectState). q.uid) (sym (some_is refl e))
-
--- who wrote it
-its_writer : (u : Uid) (x : ℕ) (c : Copy) (st : ObjectState) → changed_state u x c ≡ Some st → st.writer ≡ u
-its_writer u x c st is = by (over_of u c.stack) is
-  where
-    by : (w : Option Over) → option_map (λ (e : Over). record {
-      uid = object x;
-      class = class_of (let b = c.base in b.value);
-      version = next_version (let b = c.base in b.version);
-      writer = u;
-      payload = payload_of e.value;
-    }) w ≡ Some st → st.writer ≡ u
-    by None e = absurd (cc e)
-    by (Some o) e = ap (λ (q : ObjectState). q.writer) (sym (some_is refl e))
 
 module _ (f : Fixed) (x : ℕ) (T : State) (W : World) (n : ℕ) (h : Head) (i : ℕ) (ties : List (ℕ × Binding)) (ends : List (Uid × End))
     (s : Server) where
@@ -104,7 +76,8 @@ module _ (f : Fixed) (x : ℕ) (T : State) (W : World) (n : ℕ) (h : Head) (i :
     pub votes_are_over : (states : List ObjectState) → (let r = server.vote n h.path i ties ends s in r.reply) ≡ Some (voted.Yes states) →
         (b : Binding) (st : ObjectState) → Contains {X = ℕ × Binding} ties (x, b) → Contains states st → st.uid ≡ object x →
         IsVotedOver f x st.writer T W st
-    votes_are_over states is b st tie there of = subst (λ (w : Uid). IsVotedOver f x w T W st) (sym (its_writer u x c st state)) over
+    votes_are_over states is b st tie there of =
+        subst (λ (w : Uid). IsVotedOver f x w T W st) (ap (λ (q : ObjectState). q.writer) (made_over u x c st state).2) over
       where
         y : (first_unbound ties s ≡ None) × (v.objects ≡ told.objects) × (changed_states u told ≡ states)
         y = is_yes states is
@@ -128,7 +101,8 @@ module _ (f : Fixed) (x : ℕ) (T : State) (W : World) (n : ℕ) (h : Head) (i :
         state =
             let g = in_filter_map (λ (e : ℕ × Copy). changed_state u e.0 e.1) st told.objects
             (in_from st (changed_states u told) (subst (λ (zs : List ObjectState). Contains zs st) (sym y.2) there)) in
-            let here : (g.0).0 ≡ x = ap (λ (w : Uid). w.num) (sym (state_uid u (g.0).0 (g.0).1 st g.2) ∙ of) in
+            let its_uid = ap (λ (q : ObjectState). q.uid) (made_over u (g.0).0 (g.0).1 st g.2).2 in
+            let here : (g.0).0 ≡ x = ap (λ (w : Uid). w.num) (its_uid ∙ of) in
             let its : at_number x v.objects ≡ Some (g.0).1 = subst (λ (k : ℕ). at_number k v.objects ≡ Some (g.0).1) here
             (lists (g.0).0 (g.0).1
             (subst (λ (os : List (ℕ × Copy)). Contains {X = ℕ × Copy} os g.0) (sym y.1) (in_to {X = ℕ × Copy} g.0 told.objects g.1))) in

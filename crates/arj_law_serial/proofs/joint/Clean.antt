@@ -406,7 +406,7 @@ module _ (hd : Header) (w : World) (keeping : Keeping hd w) (form : HeaderInForm
     decided = let t = tied.listed x there in are_decided hd w.lines right ties x t.0 t.1 dones changes
 
     pub formed : HaveForm hd x (see h.sent w)
-    formed = let f = kept_have_form hd x form w keeping in let g = f.holds in record { objects = g.objects; entries = g.entries }
+    formed = let f = kept_have_form hd x form w keeping in f.holds
 
     clean_seen : IsCleanIn hd w.lines x (see h.sent w)
     clean_seen =

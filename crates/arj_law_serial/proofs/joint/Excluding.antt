@@ -2,17 +2,17 @@
 use Rattle.arj_law_parts.proofs.Words
 use Words.{◌≡◌, ◌⊎◌, ◌≤◌, ◌<◌, ℕ, ◌==◌, List, [], ◌∷◌, filter, Bool, true, false, cond, Option, Some, None, is_some, refl, sym, ◌∙◌, ap}
 use Words.{subst, inl, inr, ⊎_elim, arith, eq-eqb, eqb-true, Contains, and_parts, AllByRecursion, list_any, ObjectState, entry, object}
-use Words.{class_of, writes, Line, Header, in_filter_map, in_from, in_to, held_at, at_uid, uid_number, Node, state_entry, number_tells}
+use Words.{writes, Line, Header, in_filter_map, in_from, in_to, held_at, at_uid, uid_number, Node, state_entry, number_tells}
 use Words.{Post, Seen, see, Wrote, IsNew, uid_of}
 use Words.list as members
 use Words.world
 use Words.class
 use Rattle.arj_law_serial.proofs.Terms
 use Terms.{option_map, HeaderInForm, Placed, committed, recovered, Said, Top, committed_calls, kept, tops, entry_payload, first_values}
-use Terms.{is_among, object_line, servers_of_line, Values, root_of, serial_calls, top_place, writes_on, new_book, AreRight}
+use Terms.{is_among, object_line, servers_of_line, Values, root_of, top_place, writes_on, new_book, AreRight}
 use Terms.{all_at_uid, Core, World, counts_of, Done, Hold, Packed, Plan, decided_in, last, has, in_decided, Keeping, kept_holds, SeesEntry}
 use Terms.{Among, packed, packed_entry, SeesStore, AreDecided, AreDecisions, AreNewestFirst, IsDecision, WroteSo, CommitsBeginIt, IsInTime}
-use Terms.{IsSeenSo, Own, AreSo, kind_of, listed as entered, stored}
+use Terms.{IsSeenSo, Own, AreSo, kind_of, listed as entered}
 use Rattle.arj_law_disk.proofs.machine.Results.{in_time}
 use Rattle.arj_law_disk.specs.machine.{Laws.IsExcludedInTime, State.IsExcused, State.is_latest, State.is_latest_in, Words.In}
 use Rattle.arj_law_disk_view.specs.view.Pairs.{Holder, IsOf, hold_of}
@@ -21,10 +21,11 @@ use Rattle.arj_law_runs.specs.journal.Laws.{AreApart}
 use Rattle.arj_law_serial.proofs.{joint.FormRuns.kept_forms, joint.NewWriters.new_writers_last, order.Order.listed}
 use Rattle.arj_law_serial.proofs.{order.Order.place_of_top, order.Order.root_of_top, order.Ties.Ties, order.Tying.all_at}
 use Rattle.arj_law_serial.proofs.{order.Values.any_said, order.Values.kept_shape}
-use Rattle.arj_law_serial.proofs.order.Cleaning.{has_among, held_some, one_state, run_class, state_same}
+use Rattle.arj_law_serial.proofs.order.{Cleaning.has_among, Cleaning.held_some, Cleaning.state_same, Contents.one_state}
 use Rattle.arj_law_serial.specs.joint.Excluded.{IsBehindIncludes, IsNewest, IsTakenOut, NodesAreSo}
 use Rattle.arj_law_serial.specs.order.{Runs.IsSeenDecided, Tied.AreTied}
 use Rattle.arj_model.specs.{Calls.Call, Calls.said, Last.last_from}
+use Rattle.arj_start.specs.Start.{format_at}
 
 pub all_among : (P : ObjectState → Type 0) (ss : List ObjectState) (st : ObjectState) → AllByRecursion P ss → Among st ss → P st
 all_among P [] st all i = absurd i
@@ -162,8 +163,7 @@ module _ (header : Header) (e : ℕ) (M : Seen) (right : AreRight new_book M.lin
         let p = sees_store.pair in
         let h = held_some (held_at (object x) m.disk.store) (packed (last_from header M.start.marks M.lines x)) packed
         (p.held_is ∙ e ∙ ap Some last_is) in
-        inl (h.1 ∙ ap Some (one_state h.0 (last_from header M.start.marks M.lines x) h.2 (p.keyed (object x) h.0 h.1)
-        (seen.form.objects m s h.0 at_store h.1 ∙ sym (run_class (first_values header) (serial_calls M.lines) x))))
+        inl (h.1 ∙ ap Some (one_state h.0 (last_from header M.start.marks M.lines x) h.2 (p.keyed (object x) h.0 h.1)))
 
     prepared : (h : Hold) → W.disk.pend s ≡ Some h → h.top ≡ T → h.new ≡ last W.disk →
         IsInTime (last_from header M.start.marks M.lines x) M.lines x n m t s
@@ -171,15 +171,10 @@ module _ (header : Header) (e : ℕ) (M : Seen) (right : AreRight new_book M.lin
         let p = sees_store.pair in
         let k : Holder packed (object x) m.disk.store h = p.holder h pend in
         let who : k.action ≡ uid_of M.lines t = number_tells k.action (uid_of M.lines t) (ap (λ (y : Hold). y.top) k.is ∙ top) in
-        let disk = (is.forms s m at_store).0 in
         let same : (z : ObjectState) → IsOf (object x) k.states z → z ≡ last_from header M.start.marks M.lines x = (λ z of.
         let hold : hold_of packed k.action z ≡ h = some_is (hold_of packed k.action z) h
         (sym (p.held_by k.action k.states z k.prepared of) ∙ pend) in
-        let class : z.class ≡ class_of (first_values header x) = (all_among (Own (stored (kind_of header x))) k.states z (all_at_uid
-        (AllByRecursion (Own (stored (kind_of header x)))) k.action k.states m.disk.store.pend disk.store.pend k.prepared) of.0).1
-        of.1 in
-        one_state z (last_from header M.start.marks M.lines x) (ap (λ (y : Hold). y.new) hold ∙ new_is ∙ last_is) of.1
-        (class ∙ sym (run_class (first_values header) (serial_calls M.lines) x))) in
+        one_state z (last_from header M.start.marks M.lines x) (ap (λ (y : Hold). y.new) hold ∙ new_is ∙ last_is) of.1) in
         inr (inl (
           k.states,
           subst (λ u. at_uid u m.disk.store.pend ≡ Some k.states) who k.prepared,
@@ -204,7 +199,8 @@ module _ (header : Header) (e : ℕ) (M : Seen) (right : AreRight new_book M.lin
             let p = sees_entry.pair in
             let disk = (is.forms 1 n at_naming).0 in
             let form : (a : ObjectState) → IsOf (entry x) k.states a → (a.class ≡ class.Entry) ×
-            (a.payload ≡ entry_payload (servers_of_line (object_line header x)) (state_entry a).stores) = (λ a its.
+            (a.payload ≡ entry_payload (servers_of_line (object_line header x)) (state_entry a).stores)
+            × (a.format ≡ format_at header.format a.version) = (λ a its.
             all_among (Own (entered (kind_of header x))) k.states a (all_at_uid (AllByRecursion (Own (entered (kind_of header x)))) k.action
             k.states n.disk.names.pend disk.names.pend k.prepared) its.0 its.1) in
             let hold : hold_of packed_entry k.action z ≡ hold_of packed_entry k.action k.state =
@@ -218,6 +214,7 @@ module _ (header : Header) (e : ℕ) (M : Seen) (right : AreRight new_book M.lin
               writer = number_tells z.writer k.state.writer (ap (λ (q : Packed). q.writer) same) i;
               payload = ((form z of).1 ∙ ap (entry_payload (servers_of_line (object_line header x))) (ap (λ (q : Packed). q.content) same)
                   ∙ sym (form k.state k.of).1) i;
+              format = ((form z of).2 ∙ ap (λ (q : Packed). format_at header.format q.version) same ∙ sym (form k.state k.of).2) i;
             })
 
         made : (b : Top) → Contains (tops M.lines) b → b.root ≡ t.root → uid_number (uid_of M.lines b) ≡ y.by_entry.top →

@@ -2,14 +2,15 @@
 use Rattle.arj_law_parts.proofs.Words
 use Words.{◌≡◌, ◌⊎◌, ◌==◌, ◌||◌, ◌<◌, ℕ, List, [], ◌∷◌, true, Option, Some, None, refl, sym, ◌∙◌, ap, subst, inl, inr, arith, length}
 use Words.{is_some, map, eqb-true, ◌&&◌, nat_le, nat_lt, AllByRecursion, list_all, list_any, and_parts, nat_tests, entry}
-use Words.{object, payload_of, In as Among, in_find, Node, node_by, numbers_to, at_place, Header, ObjectLine, Start, IsFormed}
+use Words.{object, In as Among, in_find, Node, node_by, numbers_to, at_place, Header, ObjectLine, Start, IsFormed}
 use Words.{same_number, see, world_from}
 use Words.order
 use Rattle.arj_law_serial.proofs.Terms
 use Terms.{HeaderInForm, STORES, is_distinct, object_line, stores_of_line, value_of_line, World, Packed, decided, entry_in}
 use Terms.{last, last_entry, last_in, has, some_is, SeesEntry, IsLine, packed, packed_entry, Kinds, SeesDisks, SeesStore, first_at}
-use Terms.{has_same, place_free, BeginsSo, disk_by, marked}
+use Terms.{has_same, place_free, BeginsSo, content_of, disk_by, marked}
 use Rattle.arj_journal.specs.ScriptForm.{ObjectLineInForm, are_by_number}
+use Rattle.arj_start.specs.Start.{format_at}
 use Rattle.arj_law_disk.specs.machine.State.{State, effective, effective_by}
 use Rattle.arj_law_disk_view.proofs.view.FirstSeen.{start_seen}
 use Rattle.arj_law_disk_view.specs.view.Formats.{HasObject}
@@ -149,20 +150,24 @@ module _ (hd : Header) (st : Start) (formed : IsFormed hd st) (x : ℕ) (tops : 
       listed : has s has_it.line.stores ≡ true
       listed = has_same s has_it.line.stores ∙ stored
 
-      store_same : W.disk.held s ≡ Some (marked (st.marks.states has_it.line.x) (payload_of has_it.line.value))
+      abbrev first_content : List ℕ
+      first_content = content_of (format_at hd.format (let m = st.marks.states has_it.line.x in m.version)) has_it.line.value
+
+      store_same : W.disk.held s ≡ Some (marked (st.marks.states has_it.line.x) first_content)
       store_same = let e = seen_store in sym e.pair.held_is ∙ (first.first_is hd st formed x tops has_it).held s listed
 
-      first_is : W.disk.first ≡ marked (st.marks.states has_it.line.x) (payload_of has_it.line.value)
+      first_is : W.disk.first ≡ marked (st.marks.states has_it.line.x) first_content
       first_is =
           let w = sees.whole in
           let on : has s (last_entry W.disk).content ≡ true = ap (λ (p : Packed). has s p.content) last_is ∙ listed in
           let now : effective W.disk s ≡ Some (last W.disk) = w.core.effective.store s on in
-          let held : effective W.disk s ≡ Some (marked (st.marks.states has_it.line.x) (payload_of has_it.line.value)) = ap
+          let held : effective W.disk s ≡ Some (marked (st.marks.states has_it.line.x) first_content) = ap
           (λ o. effective_by (decided W.disk) Some o (W.disk.held s)) store_free ∙ store_same in
           sym (ap (last_in W.disk.first) none) ∙ some_is refl (sym now ∙ held)
 
       pub begins_so : BeginsSo hd st.marks x W.disk
       begins_so = record {
-        state = first_is ∙ (λ i. marked (st.marks.states (has_it.is i)) (payload_of (value_of_line (sym line i))));
+        state = first_is ∙ (λ i. let m = st.marks.states (has_it.is i) in
+            marked m (content_of (format_at hd.format m.version) (value_of_line (sym line i))));
         entry = first_entry_is ∙ (λ i. marked (st.marks.entries (has_it.is i)) (stores_of_line (sym line i)));
       }

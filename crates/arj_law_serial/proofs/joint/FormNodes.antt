@@ -1,19 +1,19 @@
 -- What a node makes of a message, and what it does at a tick and as it comes up, with the states that it has.
 use Rattle.arj_law_parts.proofs.Words
 use Words.{◌≡◌, ◌+◌, ◌||◌, ◌∙◌, ℕ, List, [], ◌∷◌, ◌++◌, Bool, true, false, cond, filter, map, not, Option, Some, None, refl, sym, ap, subst}
-use Words.{⊎_elim, ⊤, IfSome, option_map, unwrap_or, AllByRecursion, cons_option, flat_map, list_all, and_parts, entry, object}
+use Words.{⊤, IfSome, option_map, AllByRecursion, cons_option, flat_map, list_all, and_parts, entry, object}
 use Words.{activate_own, ends_own, invoke_own, vote_own, entry_back, Ask, Asked, ConfirmedReply, End, Entry, Head, Header, Message}
-use Words.{ObjectState, Path, Uid, VotedReply, asks, class_of, is_on, Reply, actor, answers, asked_by, last_end, response, top_of}
+use Words.{ObjectState, Path, Uid, VotedReply, asks, is_on, Reply, actor, answers, asked_by, last_end, response, top_of}
 use Words.{again_all, heard, Grants, Marks, checked, confirm, confirm_entries, confirm_new, confirms, entries_after, entry_after}
 use Words.{entry_state, has_all, lock_all, lock_in, prepared_by, same_nodes, stores_after, wanted, Coord, Abort, After, Already, Before}
 use Words.{Commit, Did, Disk, Do, Effect, InDoubt, InPart, Look, Old, Pair, Prep, Prepare, PutInc, PutIntent, Ready, RemoveIntent, Say}
-use Words.{Send, Served, Stop, Work, did_nothing, held_at, holder_of, is_prepared, moved_some, new_states, pair_aborted, pair_committed}
-use Words.{pair_in_part, pair_prepared, prepare_answer, reply, stopped, void, worked, acked, answer_query, tick_outs, Named, lock_lines}
+use Words.{Send, Served, Stop, Work, did_nothing, held_at, holder_of, is_prepared}
+use Words.{prepare_answer, reply, stopped, void, worked, acked, answer_query, tick_outs, Named, lock_lines}
 use Words.{Naming, end_entries, end_lines, end_orphans, is_over, orphans, own_entries, taken_end, told_new, Handled, Parts, Took, Void}
 use Words.{ack_told, coord_heard, end_states, handle, handle_answer, handle_ask, handle_ends, handle_other, holders, if_naming}
 use Words.{answer_is_meant, ask_is_meant, asked_is_meant, is_earlier, is_meant, load_by, load_held, naming_told, prepare_by, query_about}
-use Words.{sends_answer, serve, served, store_told, with_coord, with_naming, with_server, at_number, at_uid, put_uid, AreAll}
-use Words.{is_server_effect, Server, Node, parts_in, restart_outs, state_entry, value_in}
+use Words.{sends_answer, serve, served, store_told, with_coord, with_naming, with_server, at_number, AreAll}
+use Words.{is_server_effect, Server, Node, parts_in, restart_outs, state_entry}
 use Words.ask
 use Words.body
 use Words.confirmed
@@ -26,70 +26,18 @@ use Words.role
 use Words.naming
 use Words.server
 use Rattle.arj_law_serial.proofs.Terms
-use Terms.{moved, bind_says, note_says, all_append, all_at_uid, AllSay, AnsweredIsSo, AskIsSo, AskedIsSo, CoordIsSo, MayKeep, MessageIsSo}
+use Terms.{bind_says, note_says, all_append, AllSay, AnsweredIsSo, AskIsSo, AskedIsSo, CoordIsSo, MayKeep, MessageIsSo}
 use Terms.{Own, ReplyIsSo, hears_so, acks_so, new_so, query_so, AllAreSo, CopyIsSo, DiskIsSo, Kind, PartsAreSo, listed, so_of, stored}
 use Rattle.arj_law_disk_view.proofs.view.{HeardWalks.is_say, ServedWalks.lock_says}
 use Rattle.arj_law_disk_view.specs.running.States.{PreparesNone}
-use Rattle.arj_law_parts.proofs.parts.Keys.{put_cases}
-use Rattle.arj_law_runs.proofs.addresses.Lists.{all_put, all_without}
 use Rattle.arj_law_serial.proofs.joint.ByMessage.{by_coord}
 use Rattle.arj_law_serial.specs.joint.Forms.{EffectIsSo, PairIsSo, WorkIsSo}
 use Rattle.arj_protocol.specs.Words.{entry_payload}
 use Rattle.arj_law_disk_view.proofs.running.StateTicks as ticks
+use Rattle.arj_base.specs.State.{is_object_class}
+use Rattle.arj_law_serial.proofs.joint.FormPairs.{aborted_so, committed_so, in_part_so, prepared_so}
 use Rattle.arj_law_serial.proofs.joint.FormServers as servers
-
--- ---- pairs
-
-module _ (P : Uid → ObjectState → Type 0) where
-  abbrev pub Held : List (Uid × ObjectState) → Type 0
-  Held held = (u : Uid) (st : ObjectState) → at_uid u held ≡ Some st → P u st × (st.uid ≡ u)
-
-  pub put_so : (s : ObjectState) (held : List (Uid × ObjectState)) → Own P s → Held held → Held (put_uid s.uid s held)
-  put_so s held its so u st is = ⊎_elim (λ new. (
-    subst (λ w. P w st) (sym new.0) (subst (λ (z : ObjectState). P s.uid z) new.1 its),
-    ap (λ (z : ObjectState). z.uid) (sym new.1) ∙ sym new.0,
-  )) (λ old. so u st old.1) (put_cases u s.uid s st held is)
-
-  moved_so : (ss : List ObjectState) (held : List (Uid × ObjectState)) → AllByRecursion (Own P) ss → Held held → Held (moved ss held)
-  moved_so [] held its so = so
-  moved_so (s ∷ ss) held its so = moved_so ss (put_uid s.uid s held) its.1 (put_so s held its.0 so)
-
-  moved_some_so : (which : Uid → Bool) (ss : List ObjectState) (held : List (Uid × ObjectState)) → AllByRecursion (Own P) ss → Held held →
-      Held (moved_some which ss held)
-  moved_some_so which [] held its so = so
-  moved_some_so which (s ∷ ss) held its so =
-      moved_some_so which ss (cond (which s.uid) (put_uid s.uid s held) held) its.1 (by (which s.uid))
-    where
-      by : (b : Bool) → Held (cond b (put_uid s.uid s held) held)
-      by true = put_so s held its.0 so
-      by false = so
-
-  new_so_far : (a : Uid) (d : Pair) → PairIsSo P d → AllByRecursion (Own P) (new_states a d)
-  new_so_far a d so = by (at_uid a d.pend) refl
-    where
-      by : (o : Option (List ObjectState)) → at_uid a d.pend ≡ o → AllByRecursion (Own P) (unwrap_or o [])
-      by None is = tt
-      by (Some ss) is = all_at_uid (AllByRecursion (Own P)) a ss d.pend so.pend is
-
-  prepared_so : (a : Uid) (states : List ObjectState) (d : Pair) → AllByRecursion (Own P) states → PairIsSo P d →
-      PairIsSo P (pair_prepared a states d)
-  prepared_so a states d its so = record {
-    held = so.held;
-    pend = all_put (λ (e : Uid × List ObjectState). AllByRecursion (Own P) e.1) a states d.pend (λ w. its) so.pend;
-  }
-
-  committed_so : (a : Uid) (d : Pair) → PairIsSo P d → PairIsSo P (pair_committed a d)
-  committed_so a d so = record {
-    held = moved_so (new_states a d) d.held (new_so_far a d so) so.held;
-    pend = all_without (λ (e : Uid × List ObjectState). AllByRecursion (Own P) e.1) a d.pend so.pend;
-  }
-
-  aborted_so : (a : Uid) (d : Pair) → PairIsSo P d → PairIsSo P (pair_aborted a d)
-  aborted_so a d so =
-      record { held = so.held; pend = all_without (λ (e : Uid × List ObjectState). AllByRecursion (Own P) e.1) a d.pend so.pend }
-
-  in_part_so : (which : Uid → Bool) (a : Uid) (d : Pair) → PairIsSo P d → PairIsSo P (pair_in_part which a d)
-  in_part_so which a d so = record { held = moved_some_so which (new_states a d) d.held (new_so_far a d so) so.held; pend = so.pend }
+use Rattle.arj_law_serial.proofs.order.Contents.{next_format}
 
 module _ (k : Kind) where
   both : (es fs : List Effect) → AllAreSo k es → AllAreSo k fs → AllAreSo k (es ++ fs)
@@ -187,6 +135,7 @@ module _ (k : Kind) where
         refl,
         (λ i. entry_payload (record { servers = old i; stores = stores }))
             ∙ (λ i. entry_payload (record { servers = k.servers; stores = (sym (ap (λ (f : Entry). f.stores) back)) i })),
+        next_format k.format s.version,
       )
 
   entries_so : (top : Uid) (grants : Grants) (excluded included : Marks) (d : Pair) → PairIsSo (listed k) d →
@@ -270,7 +219,7 @@ module _ (k : Kind) where
 
   -- ---- one message
 
-  module _ (real : (bytes : List ℕ) → class_of (value_in k.class bytes) ≡ k.class) (node : ℕ) (d : Disk) (t : Parts) (from : ℕ)
+  module _ (real : is_object_class k.class ≡ true) (node : ℕ) (d : Disk) (t : Parts) (from : ℕ)
       (disk : DiskIsSo k d) (its : PartsAreSo k t) where
     abbrev By : Handled → Type 0
     By (Void outs) = ⊤
@@ -317,13 +266,13 @@ module _ (k : Kind) where
         load (Some u) = (its, ((tt, tt), tt))
         load None = held_so (held_at (object x) d.store) refl
     asked h (ask.Activate b st) meant so = let r = server.activate node h.path b st t.server in answered h (with_server t r.part) r.outs
-        (option_map Reply.Activated r.reply) (served_so r.part (servers.activate_so k real node h.path b st t.server meant so its.server))
+        (option_map Reply.Activated r.reply) (served_so r.part (servers.activate_so k node h.path b st t.server so its.server))
         (server_lines node r.outs (activate_own node h.path b st t.server)) (plain Reply.Activated (λ r. tt) r.reply)
     asked h (ask.Record x b i g) meant so = with_it (λ o. served from h (with_naming t) Reply.Noted (naming.note h.path x b i g o)) t.naming
         (λ m. let r = naming.note h.path x b i g m in answered h (with_naming t r.part) r.outs (option_map Reply.Noted r.reply)
         (named_so r.part) (said_lines r.outs (note_says h.path x b i g m)) (plain Reply.Noted (λ r. tt) r.reply))
     asked h (ask.Invoke x b i ends o) meant so = let r = server.invoke node h x b i ends o t.server in answered h (with_server t r.part)
-        r.outs (option_map Reply.Invoked r.reply) (served_so r.part (servers.invoke_so k real node h x b i ends o t.server its.server))
+        r.outs (option_map Reply.Invoked r.reply) (served_so r.part (servers.invoke_so k node h x b i ends o t.server its.server))
         (server_lines node r.outs (invoke_own node h x b i ends o t.server)) (plain Reply.Invoked (λ r. tt) r.reply)
     asked h (ask.Vote i ties ends) meant so = let r = server.vote node h.path i ties ends t.server in let v = servers.vote_so k real node
         h.path i ties ends t.server its.server in answered h (with_server t r.part) r.outs (option_map Reply.Voted r.reply)
@@ -359,7 +308,7 @@ module _ (k : Kind) where
     ends_left ack ends (Some e) =
         let s = server.told node ends t.server in
         let o = naming_told e.0 e.1 d.names t.naming in (
-          record { server = servers.told_so k real node ends t.server its.server; coord = its.coord },
+          record { server = servers.told_so k node ends t.server its.server; coord = its.coord },
           both (store_told node e.0 e.1 d.store ++ o.outs ++ s.outs) (ack_told from e.0 ack) (both (store_told node e.0 e.1 d.store
               ++ o.outs) s.outs (both (store_told node e.0 e.1 d.store) o.outs (ended (is_prepared e.0 d.store) e.1) (named t.naming))
               (server_lines node s.outs (ends_own node ends t.server))) (acked_told ack),

@@ -3,22 +3,22 @@ use Rattle.arj_law_parts.proofs.Words
 use Words.{in_from}
 use Words.{IsFormed, Start, node_by}
 use Words.{◌≡◌, ◌∙◌, ◌+◌, ◌==◌, ℕ, Bool, true, false, cond, filter, List, [], ◌∷◌, map, refl, sym, subst, arith, ap, eqb-true, inl, inr}
-use Words.{⊎_elim, Option, Some, None, if◌then◌else◌, AllByRecursion, nat_tests, entry, object, In as Listed, in_find, in_find_none, Class}
-use Words.{Header, ObjectLine, ObjectState, Uid, Value, class_of, again_all, begin_action, Coord, Disk, Do, Effect, Say, Send, stopped}
-use Words.{worked, tick_outs, Parts, with_coord, has, put_uid, Node, acts, parent_of}
-use Words.{parts_in, put_states, restart_outs, value_in, World, entry_back, same_number, Post, Seen, see, is_serial}
+use Words.{⊎_elim, Option, Some, None, if◌then◌else◌, AllByRecursion, nat_tests, entry, object, In as Listed, in_find, in_find_none}
+use Words.{Header, ObjectLine, ObjectState, Uid, own_class, again_all, begin_action, Coord, Disk, Do, Effect, Say, Send, stopped}
+use Words.{worked, tick_outs, Parts, with_coord, has, Node, acts, parent_of}
+use Words.{parts_in, restart_outs, World, entry_back, same_number, Post, Seen, see, is_serial}
 use Rattle.arj_law_serial.proofs.Terms
 use Terms.{IsOlder, Marks, all_append, disk_by, entries_from, entry_by, older_at, state_by, states_from}
 use Terms.{HeaderInForm, entry_payload, first_values, object_line, servers_of_line, value_of_line, never, Keeps, In, at, given, posted}
 use Terms.{said, Up, Walks, Keeping, kept_holds, IsLine, first_at, HaveForm, CoordIsSo, MessageIsSo, Own, acts_so, begins_so, AllAreSo}
 use Terms.{AreSo, DiskIsSo, Kind, PartsAreSo, kind_of, listed, so_of, stored}
+use Rattle.arj_base.specs.State.{is_object_class}
 use Rattle.arj_law_parts.specs.moves.Keeps.{Holds}
 use Rattle.arj_law_serial.proofs.joint
-use joint.{Firsts.line_in, Firsts.one_line}
-use joint.FormNodes.{Held, handled_so, keep, put_so, restart_so, says_so, starts_so, stopped_so, tick_so, worked_so}
+use joint.{Firsts.line_in, Firsts.one_line, FormServers.read_so, GivenFirst.first_is_object}
+use joint.FormNodes.{handled_so, keep, restart_so, says_so, starts_so, stopped_so, tick_so, worked_so}
+use joint.FormPairs.{none_so, puts_so}
 use Rattle.arj_law_serial.specs.joint.Forms.{FormsAreKept, NodeIsSo, UpIsSo}
-use Rattle.arj_protocol.specs.Words.class
-use Rattle.arj_protocol.specs.Words.value
 
 module _ (k : Kind) where
   abbrev Is : Node → Type 0
@@ -67,31 +67,7 @@ module _ (k : Kind) where
   with_it : (t : Parts) (c : Coord) → PartsAreSo k t → CoordIsSo (so_of k) c → PartsAreSo k (with_coord t c)
   with_it t c its so = record { server = its.server; coord = so }
 
--- ---- classes
-
--- what is read back is of the class
-pub real_class : (c : Class) (v : Value) → class_of v ≡ c → (bytes : List ℕ) → class_of (value_in c bytes) ≡ c
-real_class class.Entry (value.Counter n) is bytes = is
-real_class class.Entry (value.Register bs) is bytes = let no_way : ◌≡◌ {A = Class} class.Register class.Entry = is in cc
-real_class class.Entry (value.Account n) is bytes = let no_way : ◌≡◌ {A = Class} class.Account class.Entry = is in cc
-real_class class.Entry (value.Queue ns) is bytes = let no_way : ◌≡◌ {A = Class} class.Queue class.Entry = is in cc
-real_class class.Entry (value.Table ps) is bytes = let no_way : ◌≡◌ {A = Class} class.Table class.Entry = is in cc
-real_class class.Counter v is bytes = refl
-real_class class.Register v is bytes = refl
-real_class class.Account v is bytes = refl
-real_class class.Queue v is bytes = refl
-real_class class.Table v is bytes = refl
-
 -- ---- as a run begins
-
-module _ (P : Uid → ObjectState → Type 0) where
-  puts_so : (ss : List ObjectState) (held : List (Uid × ObjectState)) → AllByRecursion (Own P) ss → Held P held →
-      Held P (put_states ss held)
-  puts_so [] held its so = so
-  puts_so (s ∷ ss) held its so = puts_so ss (put_uid s.uid s held) its.1 (put_so P s held its.0 so)
-
-  none_so : Held P []
-  none_so u st is = let no_way : ◌≡◌ {A = Option ObjectState} None (Some st) = is in cc
 
 line_out : (o : ObjectLine) (os : List ObjectLine) → IsLine o os → Listed o os
 line_out o [] i = absurd i
@@ -120,27 +96,34 @@ module _ (hd : Header) (x : ℕ) (form : HeaderInForm hd) where
           let f = in_find (λ (q : ObjectLine). q.x == x) p hd.objects found in
           ap Some (one_line hd.objects (let fs = form.objects in fs.1) p o (line_in p hd.objects f.0) is (eqb-true p.x x f.1 ∙ sym same))
 
+  real : is_object_class (own_class (first_values hd x)) ≡ true
+  real = first_is_object hd x form
+
   values_so : (marks : Marks) (os : List ObjectLine) → ((o : ObjectLine) → IsLine o os → IsLine o hd.objects) →
-      AllByRecursion (Own (stored (kind_of hd x))) (map (λ (o : ObjectLine). state_by (marks.states o.x) o) os)
+      AllByRecursion (Own (stored (kind_of hd x))) (map (λ (o : ObjectLine). state_by hd.format (marks.states o.x) o) os)
   values_so marks [] there = tt
   values_so marks (o ∷ os) there = (
-    (refl, λ same. ap (λ q. class_of (value_of_line q)) (sym (line_is o (there o (inl refl)) (ap (λ (u : Uid). u.num) same)))),
+    (
+      refl,
+      λ same. read_so (kind_of hd x) real o.value
+          (ap (λ q. own_class (value_of_line q)) (sym (line_is o (there o (inl refl)) (ap (λ (u : Uid). u.num) same)))),
+    ),
     values_so marks os (λ p i. there p (inr i)),
   )
 
   entries_so : (marks : Marks) (os : List ObjectLine) → ((o : ObjectLine) → IsLine o os → IsLine o hd.objects) →
-      AllByRecursion (Own (listed (kind_of hd x))) (map (λ (o : ObjectLine). entry_by (marks.entries o.x) o) os)
+      AllByRecursion (Own (listed (kind_of hd x))) (map (λ (o : ObjectLine). entry_by hd.format (marks.entries o.x) o) os)
   entries_so marks [] there = tt
   entries_so marks (o ∷ os) there = (
     λ same.
         let l = sym (line_is o (there o (inl refl)) (ap (λ (u : Uid). u.num) same)) in
         let b = sym (entry_back (record { servers = o.servers; stores = o.stores })) in
-        (refl, λ i. entry_payload (servers_of_line (l i)) ((b i).stores)),
+        (refl, λ i. entry_payload (servers_of_line (l i)) ((b i).stores), refl),
     entries_so marks os (λ p i. there p (inr i)),
   )
 
   module _ (st : Start) where
-    -- older states are of their objects' classes
+    -- older states are of their objects' own classes
     older_so : (n : ℕ) (more : List (ℕ × ObjectState)) → AllByRecursion (IsOlder hd st) more →
         AllByRecursion (Own (stored (kind_of hd x))) (older_at n more)
     older_so n [] all = tt
@@ -155,7 +138,7 @@ module _ (hd : Header) (x : ℕ) (form : HeaderInForm hd) where
         its : Own (stored (kind_of hd x)) a.1
         its = (
           o.of ∙ ap object (sym (ap (λ (u : Uid). u.num) o.of)),
-          λ same. o.class ∙ ap (λ q. class_of (value_of_line q))
+          λ same. o.class ∙ ap (λ q. own_class (value_of_line q))
               (sym (line_is o.line line (sym (ap (λ (u : Uid). u.num) o.of) ∙ ap (λ (u : Uid). u.num) same))),
         )
 
@@ -168,7 +151,7 @@ module _ (hd : Header) (x : ℕ) (form : HeaderInForm hd) where
     disk_so older n = record {
       store = record {
         held = puts_so (stored (kind_of hd x)) (states_from n hd st) [] (all_append (Own (stored (kind_of hd x))) (older_at n st.older)
-            (map (λ (o : ObjectLine). state_by (st.marks.states o.x) o) (filter (λ (o : ObjectLine). has o.stores n) hd.objects))
+            (map (λ (o : ObjectLine). state_by hd.format (st.marks.states o.x) o) (filter (λ (o : ObjectLine). has o.stores n) hd.objects))
             (older_so n st.older older) (values_so st.marks (filter (λ (o : ObjectLine). has o.stores n) hd.objects)
             (λ o i. filter_line (λ (o : ObjectLine). has o.stores n) hd.objects o i))) (none_so (stored (kind_of hd x)));
         pend = tt;
@@ -180,7 +163,7 @@ module _ (hd : Header) (x : ℕ) (form : HeaderInForm hd) where
     }
       where
         by : (b : Bool) → AllByRecursion (Own (listed (kind_of hd x)))
-            (if b then map (λ (o : ObjectLine). entry_by (st.marks.entries o.x) o) hd.objects else [])
+            (if b then map (λ (o : ObjectLine). entry_by hd.format (st.marks.entries o.x) o) hd.objects else [])
         by true = entries_so st.marks hd.objects (λ o i. i)
         by false = tt
 
@@ -190,9 +173,6 @@ module _ (hd : Header) (x : ℕ) (form : HeaderInForm hd) where
         by : (b : Bool) → UpIsSo (kind_of hd x) (if b then Some (parts_in n (st.incs n + 1) (disk_by hd st n)) else None)
         by true = starts_so (kind_of hd x) n (st.incs n + 1) (disk_by hd st n)
         by false = tt
-
-  real : (bytes : List ℕ) → class_of (value_in (let k = kind_of hd x in k.class) bytes) ≡ (let k = kind_of hd x in k.class)
-  real bytes = real_class (class_of (first_values hd x)) (first_values hd x) refl bytes
 
   forms_kept : Keeps hd (AreSo (kind_of hd x))
   forms_kept = record {
@@ -238,7 +218,4 @@ kept_have_form hd x form w keeping =
     record { sent = h.sent; stands = h.stands; holds = has_form (see h.sent w) h.holds }
   where
     has_form : (M : Seen) → AreSo (kind_of hd x) M → HaveForm hd x M
-    has_form M all = record {
-      objects = λ n s st here held. let a = (all.0 s n here).0 in ((a.store.held (object x) st held).0).1 refl;
-      entries = λ n st here held. let a = (all.0 1 n here).0 in (a.names.held (entry x) st held).0 refl;
-    }
+    has_form M all n st here held = let a = (all.0 1 n here).0 in (a.names.held (entry x) st held).0 refl

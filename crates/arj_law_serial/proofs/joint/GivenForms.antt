@@ -1,15 +1,16 @@
--- Where operations are in form so is each value that a surviving call leaves, and it is of the object's class.
+-- Where operations are in form so is each value that a surviving call leaves.
 use Rattle.arj_law_parts.proofs.Words
 use Words.{◌≡◌, ◌+◌, ◌-◌, ◌<◌, ◌≤◌, ◌&&◌, ◌==◌, ℕ, Bool, true, false, cond, List, [], ◌∷◌, ◌++◌, length, is_some, nat_lt, if◌then◌else◌}
-use Words.{refl, sym, ◌∙◌, subst, inl, inr, arith, nat_tests, length-append, PairsFit, ValueInForm, KeysRise, class_of, is_full_for}
+use Words.{refl, sym, subst, inl, inr, arith, nat_tests, length-append, PairsFit, ValueInForm, KeysRise, is_full_for}
 use Words.{put_pair, value_after, writes, Op, Value, Line, In}
 use Words.value
 use Rattle.arj_law_serial.proofs.Terms
 use Terms.{Placed, committed, recovered, Said, kept, Values, OpTextInForm, new_book, AreRight, State, Survives, AreCallsOf, said_on}
 use Terms.machine
 use Terms.state
-use Rattle.arj_class.proofs.{Keeping.class_kept, Payloads.numbers_fit_append, Places.table_put, Places.table_remove}
-use Rattle.arj_class.specs.Table.{behind_front, remove_pair}
+use Rattle.arj_class.proofs.{Payloads.numbers_fit_append, Places.table_put, Places.table_remove}
+use Rattle.arj_class.specs.Table.{behind_front, is_value_of, remove_pair}
+use Rattle.arj_text.proofs.Values.{value_in_form}
 use Rattle.arj_law_serial.proofs.order
 use order.{Ties.Tie}
 use order.Values.{ArePaired, IsMet, final, met_call, on_object, paired_in}
@@ -61,80 +62,37 @@ put_in_form k v ps key is form = by (is_full_for k ps) (table_put k v ps form.0 
 
 -- an operation in form leaves a value in form
 pub after_in_form : (o : Op) (v : Value) → OpTextInForm o → ValueInForm v → ValueInForm (value_after o v)
-after_in_form op.Get v fits form = form
-after_in_form op.Len v fits form = form
-after_in_form (op.GetKey k) v fits form = form
+after_in_form (op.Create w) (value.Gone c) fits form = one_in_form (is_value_of c w) w (value.Gone c) (λ is. value_in_form w fits.0) form
+after_in_form op.Destroy (value.Gone c) fits form = form
+after_in_form op.Destroy _ fits form = refl
 after_in_form (op.Add n) (value.Counter m) fits form =
     one_in_form (nat_lt (m + n) 18446744073709551616) (value.Counter (m + n)) (value.Counter m) (sum_fits m n) form
-after_in_form (op.Add n) (value.Register bytes) fits form = form
-after_in_form (op.Add n) (value.Account m) fits form = form
-after_in_form (op.Add n) (value.Queue ns) fits form = form
-after_in_form (op.Add n) (value.Table ps) fits form = form
 after_in_form (op.Set n) (value.Counter m) fits form = fits
-after_in_form (op.Set n) (value.Register bytes) fits form = form
-after_in_form (op.Set n) (value.Account m) fits form = form
-after_in_form (op.Set n) (value.Queue ns) fits form = form
-after_in_form (op.Set n) (value.Table ps) fits form = form
-after_in_form (op.Put new) (value.Counter m) fits form = form
 after_in_form (op.Put new) (value.Register bytes) fits form = fits.0
-after_in_form (op.Put new) (value.Account m) fits form = form
-after_in_form (op.Put new) (value.Queue ns) fits form = form
-after_in_form (op.Put new) (value.Table ps) fits form = form
-after_in_form (op.Deposit n) (value.Counter m) fits form = form
-after_in_form (op.Deposit n) (value.Register bytes) fits form = form
 after_in_form (op.Deposit n) (value.Account m) fits form =
     one_in_form (nat_lt (m + n) 18446744073709551616) (value.Account (m + n)) (value.Account m) (sum_fits m n) form
-after_in_form (op.Deposit n) (value.Queue ns) fits form = form
-after_in_form (op.Deposit n) (value.Table ps) fits form = form
-after_in_form (op.Withdraw n) (value.Counter m) fits form = form
-after_in_form (op.Withdraw n) (value.Register bytes) fits form = form
 after_in_form (op.Withdraw n) (value.Account m) fits form = one_in_form (nat_lt m n) (value.Account m) (value.Account (m - n)) (λ e. form)
     (let l : m < 18446744073709551616 = form in omega (arith, l))
-after_in_form (op.Withdraw n) (value.Queue ns) fits form = form
-after_in_form (op.Withdraw n) (value.Table ps) fits form = form
-after_in_form (op.Push n) (value.Counter m) fits form = form
-after_in_form (op.Push n) (value.Register bytes) fits form = form
-after_in_form (op.Push n) (value.Account m) fits form = form
 after_in_form (op.Push n) (value.Queue ns) fits form = one_in_form (nat_lt (length ns) 32) (value.Queue (ns ++ n ∷ [])) (value.Queue ns)
     (λ is. (room_for ns n is, numbers_fit_append ns (n ∷ []) form.1 (fits, tt))) form
-after_in_form (op.Push n) (value.Table ps) fits form = form
-after_in_form op.Pop (value.Counter m) fits form = form
-after_in_form op.Pop (value.Register bytes) fits form = form
-after_in_form op.Pop (value.Account m) fits form = form
 after_in_form op.Pop (value.Queue ns) fits form = behind_in_form ns form
-after_in_form op.Pop (value.Table ps) fits form = form
-after_in_form (op.PutPair k v) (value.Counter m) fits form = form
-after_in_form (op.PutPair k v) (value.Register bytes) fits form = form
-after_in_form (op.PutPair k v) (value.Account m) fits form = form
-after_in_form (op.PutPair k v) (value.Queue ns) fits form = form
 after_in_form (op.PutPair k v) (value.Table ps) fits form = put_in_form k v ps fits.0 fits.1 form
-after_in_form (op.Remove k) (value.Counter m) fits form = form
-after_in_form (op.Remove k) (value.Register bytes) fits form = form
-after_in_form (op.Remove k) (value.Account m) fits form = form
-after_in_form (op.Remove k) (value.Queue ns) fits form = form
 after_in_form (op.Remove k) (value.Table ps) fits form = let r = table_remove k ps form.0 form.1 in (r.0, r.1, remove_fits k ps form.2)
+after_in_form _ _ fits form = form
 
 -- ---- what the calls of a journal leave
 
--- a value of the same class as the first one, in form
-pub record IsLike (first v : Value) : Type 0 where
-  pub class : class_of v ≡ class_of first
-  pub form : ValueInForm v
-
-pub after_like : (o : Op) (first v : Value) → OpTextInForm o → IsLike first v → IsLike first (value_after o v)
-after_like o first v fits k = record { class = class_kept o v ∙ k.class; form = after_in_form o v fits k.form }
-
 module _ (values : Values) (lines : List Line) (x : ℕ) (fits : (s : Placed Said) → In s (said lines) → (let i = s.it in i.x) ≡ x →
     OpTextInForm (let i = s.it in i.op)) (first : ValueInForm (values x)) where
-  final_like : (p : ℕ) (ss : List (Placed Said)) → ((s : Placed Said) → In s ss → OpTextInForm (let i = s.it in i.op)) →
-      IsLike (values x) (final values lines x p ss)
-  final_like p [] each = record { class = refl; form = first }
-  final_like p (s ∷ ss) each = by (nat_lt s.at p && (writes s.it.op && is_some (kept (committed lines) (recovered lines) s)))
-      (final_like p ss (λ t i. each t (inr i)))
+  final_in_form : (p : ℕ) (ss : List (Placed Said)) → ((s : Placed Said) → In s ss → OpTextInForm (let i = s.it in i.op)) →
+      ValueInForm (final values lines x p ss)
+  final_in_form p [] each = first
+  final_in_form p (s ∷ ss) each = by (nat_lt s.at p && (writes s.it.op && is_some (kept (committed lines) (recovered lines) s)))
+      (final_in_form p ss (λ t i. each t (inr i)))
     where
-      by : (b : Bool) → IsLike (values x) (final values lines x p ss) →
-          IsLike (values x) (cond b (value_after s.it.op (final values lines x p ss)) (final values lines x p ss))
-      by true k = after_like s.it.op (values x) (final values lines x p ss) (each s (inl refl)) k
+      by : (b : Bool) → ValueInForm (final values lines x p ss) →
+          ValueInForm (cond b (value_after s.it.op (final values lines x p ss)) (final values lines x p ss))
+      by true k = after_in_form s.it.op (final values lines x p ss) (each s (inl refl)) k
       by false k = k
 
   module _ (right : AreRight new_book lines) (S : State) (tied : Tie values lines x S) where
@@ -148,17 +106,17 @@ module _ (values : Values) (lines : List Line) (x : ℕ) (fits : (s : Placed Sai
     pair_of (s ∷ ss) (d ∷ cs) are c (inr i) = let r = pair_of ss cs are.1 c i in (r.0, inr r.1)
 
     -- a surviving call left such a value
-    pub left_like : (c : state.Call) → machine.In c S.calls → Survives S c.act →
-        (v : Value) × IsLike (values x) v × (c.gives ≡ tied.code v (machine.top c.act))
-    left_like c i survives =
+    pub left_in_form : (c : state.Call) → machine.In c S.calls → Survives S c.act →
+        (v : Value) × ValueInForm v × (c.gives ≡ tied.code v (machine.top c.act))
+    left_in_form c i survives =
         let p = pair_of (said_on x lines) S.calls tied.calls c i in
         let there = (paired_in values lines right x S tied (said_on x lines) S.calls tied.calls p.0 c p.1).0 in
         let o = on_object x lines p.0 there in
         let m : IsMet values lines right x S tied p.0 c (said_on x lines) = met_call values lines right x S tied p.0 c p.1 survives in
         let k = m.is in
-        let met : IsLike (values x) k.value = subst (IsLike (values x)) m.met
-        (final_like (let s = p.0 in s.at) (said_on x lines) (λ s j. let q = on_object x lines s j in fits s q.0 q.1)) in (
+        let met : ValueInForm k.value = subst ValueInForm m.met
+        (final_in_form (let s = p.0 in s.at) (said_on x lines) (λ s j. let q = on_object x lines s j in fits s q.0 q.1)) in (
           value_after (let s = p.0 in s.it.op) k.value,
-          after_like (let s = p.0 in s.it.op) (values x) k.value (fits p.0 o.0 o.1) met,
+          after_in_form (let s = p.0 in s.it.op) k.value (fits p.0 o.0 o.1) met,
           k.gives,
         )

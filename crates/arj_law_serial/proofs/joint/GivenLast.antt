@@ -1,13 +1,14 @@
 -- Where both machines of an object stand in one state: the last state of the disk machine is the last committed one by the lock machine,
 -- and nobody is in doubt there.
 use Rattle.arj_law_parts.proofs.Words
-use Words.{◌≡◌, refl, sym, ◌∙◌, ap, ⊎_elim, class_of, payload_of, Value, number_tells, value_back, object, value_in}
-use Rattle.arj_law_serial.proofs.Terms.{first_values, Mark, marked, Packed, Plan, in_decided, packed, state_code}
+use Words.{◌≡◌, refl, sym, ◌∙◌, ap, ⊎_elim, number_tells}
+use Rattle.arj_law_serial.proofs.Terms.{first_values, Mark, marked, Packed, Plan, content_of, in_decided, packed, state_code}
 use Rattle.arj_law_disk_view.proofs.deciding_lines.Owners.{decided_begun}
 use Rattle.arj_law_serial.proofs.joint
 use joint.{Given.LastThereIsLast, GivenFirst.first_in_form, GivenSettled.nobody_in_doubt}
-use Rattle.arj_law_serial.proofs.order.Timely.{run_initial}
+use Rattle.arj_law_serial.proofs.order.{Contents.value_told, Timely.run_initial}
 use joint.GivenValue.{first_is_last, newest_wrote}
+use Rattle.arj_start.specs.Start.{format_at}
 use joint.GivenWriters.{IsNewest, WroteNone, newest_of}
 
 pub last_there_is_last : LastThereIsLast
@@ -16,28 +17,22 @@ last_there_is_last hd f x begun S M form line b st there = record {
       (λ (none : WroteNone (let A = b.office in A.world.disk.first) (let A = b.office in A.world.disk.tops)).
       first_is_last hd f x begun S M b (state_code f.act f.code st) none (is_first none))
       (λ (z : IsNewest M.lines (let A = b.office in A.world.disk.first) (let A = b.office in A.world.disk.tops)).
-      newest_wrote hd f x begun S M b z st.writer (ap (λ (k : Packed). k.writer) (there.last_one ∙ z.last) ∙ its_writer z) form line st
-      kind refl (there.last_one ∙ z.last))
+      newest_wrote hd f x begun S M b z st.writer (ap (λ (k : Packed). k.writer) (there.last_one ∙ z.last) ∙ its_writer z) form st refl
+      (there.last_one ∙ z.last))
       (newest_of M.lines (let A = b.office in A.world.disk.first) (let A = b.office in A.world.disk.tops) b.turns);
   settled = nobody_in_doubt hd f x begun S M b there.settled there.first there.first_there;
 }
   where
-    -- its class is the object's
-    kind : st.class ≡ class_of (first_values hd x)
-    kind =
-        let stored = (b.forms.0 there.store there.node there.there).0 in
-        let held = stored.store.held (object x) st there.held in
-        held.0.1 refl
-
     -- the first state
     is_first : WroteNone (let A = b.office in A.world.disk.first) (let A = b.office in A.world.disk.tops) →
         state_code f.act f.code st ≡ S.initial
     is_first none =
         let mark : Mark = M.start.marks.states x in
-        let same : packed st ≡ marked mark (payload_of (first_values hd x)) = there.last_one ∙ none.0 ∙ b.begins.state in
+        let first = format_at hd.format mark.version in
+        let same : packed st ≡ marked mark (content_of first (first_values hd x)) = there.last_one ∙ none.0 ∙ b.begins.state in
         let writer : st.writer ≡ mark.writer = number_tells st.writer mark.writer (ap (λ (k : Packed). k.writer) same) in
-        (λ i. f.code (value_in (kind i) (ap (λ (k : Packed). k.content) same i)) (f.act (writer i)))
-        ∙ ap (λ (v : Value). f.code v (f.act mark.writer)) (value_back (first_values hd x) (first_in_form hd x form line))
+        let value = value_told st first (first_values hd x) (ap (λ (k : Packed). k.content) same) (first_in_form hd x form) in
+        (λ i. f.code (value i) (f.act (writer i)))
         ∙ sym (run_initial (let s = b.seen in let l = s.sees in l.run) ∙ b.agrees.1.0)
 
     its_writer : (z : IsNewest M.lines (let A = b.office in A.world.disk.first) (let A = b.office in A.world.disk.tops)) →

@@ -2,11 +2,11 @@
 -- lock machine.
 use Rattle.arj_law_parts.proofs.Words
 use Words.{◌≡◌, ◌≢◌, ◌<◌, ◌==◌, ℕ, List, [], ◌∷◌, true, inl, inr, Option, Some, None, is_some, refl, sym, ◌∙◌, ap, subst, ⊎_elim, arith}
-use Words.{eqb-true, and_parts, payload_of, class_of, writes, Value, in_to, number_tells, value_back, value_in, Header, ObjectState, Uid}
-use Words.{uid_number, Node, Seen, Wrote}
+use Words.{eqb-true, and_parts, writes, in_to, number_tells, Header, ObjectState, Uid}
+use Words.{uid_number, Node, Seen, ValueInForm, Wrote}
 use Words.list
 use Rattle.arj_law_serial.proofs.Terms
-use Terms.{HeaderInForm, writes_conflict, Act, acts, committed_calls, tops, first_values, object_line, top_place, writes_on, Action, Done}
+use Terms.{HeaderInForm, writes_conflict, Act, acts, committed_calls, tops, first_values, top_place, writes_on, Action, Done}
 use Terms.{Packed, decided_in, last, never, in_decided, packed, book, is_decided, is_top, new_book, IsDone, AreRight, one_act, stands_lines}
 use Terms.{stands_new, act_there, its_acts, its_sound, top, Alive, Call, State, IsLast, Newest, Survives, newest, older, lives, on_top}
 use Terms.{top_action, top_is, votes_are_right, AreOne, state_code, Fixed, IsTied, IsPlannedSo, IsCalledFirst}
@@ -18,15 +18,16 @@ use Rattle.arj_law_runs.specs.journal.Laws.{AreApart}
 use Rattle.arj_law_serial.proofs.joint
 use joint.{Called.writers_are_called_first, Called.wrote_something, DecidedTops.machine_decided, Fits.said_fit, Given.AreBeside}
 use joint.{GivenFirst.first_in_form, Writing.VotedIn, Writing.planned_voted}
-use joint.GivenForms.{IsLike, left_like}
+use joint.GivenForms.{left_in_form}
 use joint.GivenMachine.{newest_is_last, none_last, theirs_survive}
 use joint.GivenTops.{committed_there, core, disk_of, holds, low, node_of, places, right, said_of, said_there, tied, values, votes}
 use joint.GivenWriters.{IsNewest, WroteNone, decided_at}
 use joint.Surviving.{HasSaid, IsTopThere, has_said, top_there}
 use Rattle.arj_law_serial.proofs.order
-use order.{Ties.Tie, Ties.tie_of}
+use order.{Contents.value_told, Ties.Tie, Ties.tie_of}
 use order.Order.{IsShown, before_top, called_first, listed, off_one, place_of_top, same_number, shown, top_for, top_plain}
 use Rattle.arj_model.specs.Calls as model
+use Rattle.arj_base.specs.declared.state.Format.TheVariants.{Two}
 use Rattle.arj_law_serial.proofs.joint.Starting.{stands_for}
 
 -- the newest call that counts left the value
@@ -239,28 +240,24 @@ module _ (hd : Header) (f : Fixed) (x : ℕ) (begun : List Action) (S : State) (
         same_act y k in_y in_k same = one_act (acts M.lines) (let q = its_sound M.lines its_right in q.distinct) y k in_y in_k same
 
     -- what it gave is what the newest surviving call left, so it is in form
-    gave_like : HeaderInForm hd → is_some (object_line hd x) ≡ true →
-        Newest S.initial (Survives S) (let g = S.vote (f.act u) in g.value) S.calls → IsLike (first_values hd x) voted.0
+    gave_in_form : HeaderInForm hd → Newest S.initial (Survives S) (let g = S.vote (f.act u) in g.value) S.calls → ValueInForm voted.0
     unfolding tie its_tied
-    gave_like form line last =
+    gave_in_form form last =
         let survives : Survives S (let c = voted.5 in c.act) = theirs_survive (holds hd f x begun S M b) (values hd f x begun S M b)
         (low hd f x begun S M b) (f.act u) is three voted.5 voted.6 (voted.8, voted.9) in
         let d = left_by S.initial (Survives S) (let g = S.vote (f.act u) in g.value) S.calls last voted.5 voted.6 voted.7 survives in
-        let k = left_like (first_values hd) M.lines x (said_fit x M.lines b.fit) (first_in_form hd x form line) its_right S tie d.0 d.1
+        let k = left_in_form (first_values hd) M.lines x (said_fit x M.lines b.fit) (first_in_form hd x form) its_right S tie d.0 d.1
         d.2 in
-        subst (IsLike (first_values hd x)) (b.apart k.0 voted.0 (top (let c = d.0 in c.act)) voted.1 (sym k.2 ∙ d.3 ∙ voted.2)).0 k.1
+        subst ValueInForm (b.apart k.0 voted.0 (top (let c = d.0 in c.act)) voted.1 (sym k.2 ∙ d.3 ∙ voted.2)).0 k.1
 
-    pub newest_wrote : HeaderInForm hd → is_some (object_line hd x) ≡ true → (st : ObjectState) → st.class ≡ class_of (first_values hd x) →
-        st.writer ≡ u → packed st ≡ z.state → IsLast S (state_code f.act f.code st) S.calls
-    newest_wrote form line st class writer same =
+    pub newest_wrote : HeaderInForm hd → (st : ObjectState) → st.writer ≡ u → packed st ≡ z.state →
+        IsLast S (state_code f.act f.code st) S.calls
+    newest_wrote form st writer same =
         let given = newest_is_last (holds hd f x begun S M b) (values hd f x begun S M b) (low hd f x begun S M b) (f.act u) is three
         last_write (let g = S.vote (f.act u) in g.value)
         ((votes_are_right (holds hd f x begun S M b) (votes hd f x begun S M b)).value (f.act u) voted.5 is (omega (arith, three))
         (omega (arith, three)) voted.6 voted.7 voted.8 voted.9) voted.5 voted.6 voted.7 (voted.8, voted.9) in
-        let like = gave_like form line given in
-        let kind : st.class ≡ class_of voted.0 = class ∙ sym like.class in
-        let payload : st.payload ≡ payload_of voted.0 = ap (λ (k : Packed). k.content) same ∙ voted.3 in
+        let told = value_told st Two voted.0 (ap (λ (k : Packed). k.content) same ∙ voted.3) (gave_in_form form given) in
         let value : state_code f.act f.code st ≡ (let g = S.vote (f.act u) in g.value) =
-        (λ i. f.code (value_in (kind i) (payload i)) (f.act (writer i)))
-        ∙ ap (λ (v : Value). f.code v (f.act u)) (value_back voted.0 like.form) ∙ ap (f.code voted.0) (sym voted.10) ∙ sym voted.2 in
+        (λ i. f.code (told i) (f.act (writer i))) ∙ ap (f.code voted.0) (sym voted.10) ∙ sym voted.2 in
         subst (λ v. IsLast S v S.calls) (sym value) given

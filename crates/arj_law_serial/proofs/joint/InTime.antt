@@ -57,7 +57,7 @@ disk_three_in_time = inr (inr (record {
 }))
 
 pub disk_three_late : DiskIsInTime its_last decided_lines 1 disks_late its_top 3 → ⊥
-disk_three_late (inl h) = let e : 0 ≡ 1 = ap (λ (o : Option (List ℕ)). get_or (unwrap_or o []) 28 0) h in omega (arith, e)
+disk_three_late (inl h) = let e : 0 ≡ 1 = ap (λ (o : Option (List ℕ)). get_or (unwrap_or o []) 29 0) h in omega (arith, e)
 disk_three_late (inr (inl h)) = h
 disk_three_late (inr (inr h)) = h.prepared
 

@@ -1,17 +1,20 @@
 -- What a decided top wrote, by its vote in the lock machine: the plan with which it waited for naming has what its server voted.
 use Rattle.arj_law_parts.proofs.Words
 use Words.{◌≡◌, ◌⊎◌, ◌≤◌, ◌==◌, ℕ, List, [], ◌∷◌, ◌++◌, Bool, true, false, cond, Option, Some, None, refl, sym, ◌∙◌, ap, subst, inl, inr}
-use Words.{⊎_elim, arith, eqb-true, option_map, uid_is, uid_same, in_find, in_to, Value, ObjectState, Uid, class_of, last_uid, object}
-use Words.{payload_of, Used, changed_of, Copy, Over, is_of, over_of, binding_number, next_version, uid_number}
+use Words.{⊎_elim, arith, eqb-true, option_map, uid_is, uid_same, in_find, in_to, Value, ObjectState, Uid, class_code_of, last_uid}
+use Words.{Used, changed_of, Over, is_of, over_of, binding_number, uid_number}
 use Rattle.arj_law_serial.proofs.Terms
 use Terms.{World, Packed, Plan, packed, plan_at, plan_by, used_at, root, same, top, Alive, Call, Entry, State, Holds, start_holds, same_is}
-use Terms.{same_self, top_root, top_self, start_values, Votes, run_all_votes, start_votes, Acts, AreOne, Codes, side_at, Fixed, IsPlannedSo}
+use Terms.{content_of, same_self, top_root, top_self, start_values, Votes, run_all_votes, start_votes, Acts, AreOne, Codes, side_at, Fixed, IsPlannedSo}
 use Rattle.arj_law_lock.proofs.logs.OwnLogs.{Behind, run_behind, votes_given_are_right}
 use Rattle.arj_law_lock.proofs.machine.ValueClaims.{Values}
 use Rattle.arj_law_lock.specs.machine.{Actions.Act, Actions.In, Laws.given_by, State.Ballot}
 use Rattle.arj_law_lock_view.specs.view
 use view.{Commits.maker_in, Commits.value_in, Serving.IsVotedSo, Voted.IsCalledIn, Voted.Side}
 use view.Copies.{AreHeld, SeesOvers, writer_of}
+use Rattle.arj_base.specs.State.{head_of}
+use Rattle.arj_base.specs.declared.state.Format.TheVariants.{Two}
+use Rattle.arj_protocol.specs.Copy.{state_over}
 
 -- ---- overlays and writes of a log
 
@@ -77,25 +80,12 @@ module _ (act : Acts) (code : Codes) (u : Uid) where
 
 -- ---- the plan
 
--- the state that an overlay gives
-abbrev state_of : Uid → ℕ → Copy → Over → ObjectState
-state_of u x c e = record {
-  uid = object x;
-  class = class_of c.base.value;
-  version = next_version c.base.version;
-  writer = u;
-  payload = payload_of e.value;
-}
-
-abbrev state_by : Uid → ℕ → Copy → Option Over → Option ObjectState
-state_by u x c o = option_map (state_of u x c) o
-
 -- what the top gave to the stores, by the lock machine
 abbrev pub VotedIn : Fixed → State → Uid → Option Packed → Type 0
 VotedIn f S u None = (c : Call) → In c S.calls → c.write ≡ true → top c.act ≡ f.act u → Alive S c.act → ⊥
 VotedIn f S u (Some w) =
-    (v : Value) × (a : Act) × ((let b = S.vote (f.act u) in b.value) ≡ f.code v a) × (w.content ≡ payload_of v) × (w.writer ≡ uid_number u)
-    × (c : Call) × In c S.calls × (c.write ≡ true) × (top c.act ≡ f.act u) × Alive S c.act × (a ≡ f.act u)
+    (v : Value) × (a : Act) × ((let b = S.vote (f.act u) in b.value) ≡ f.code v a) × (w.content ≡ content_of Two v)
+    × (w.writer ≡ uid_number u) × (c : Call) × In c S.calls × (c.write ≡ true) × (top c.act ≡ f.act u) × Alive S c.act × (a ≡ f.act u)
 
 module _ (f : Fixed) (x : ℕ) (S : State) (W : World) (u : Uid) (one : AreOne f.act) (p : IsPlannedSo f x S W u)
     (two : 2 ≤ (let a = S.action (f.act u) in a.stage)) (three : (let a = S.action (f.act u) in a.stage) ≤ 3) where
@@ -130,8 +120,9 @@ module _ (f : Fixed) (x : ℕ) (S : State) (W : World) (u : Uid) (one : AreOne f
     overs = let s = given.sees in s.overs
 
     -- the plan's state is that of the overlay
-    state_is : (o : Option Over) → over_of u (let k = given.copy in k.stack) ≡ o → state_by u x given.copy o ≡ changed_of x p.plan
-    state_is o is = ap (state_by u x given.copy) (sym is) ∙ sym given.state
+    state_is : (o : Option Over) → over_of u (let k = given.copy in k.stack) ≡ o →
+        option_map (state_over u x given.copy) o ≡ changed_of x p.plan
+    state_is o is = ap (λ (k : Option Over). option_map (state_over u x given.copy) k) (sym is) ∙ sym given.state
 
     wrote_over : (st : ObjectState) → changed_of x p.plan ≡ Some st → st.writer ≡ u → VotedIn f S u (Some (packed st))
     wrote_over st changed writer = by (over_of u (let k = given.copy in k.stack)) refl
@@ -139,7 +130,7 @@ module _ (f : Fixed) (x : ℕ) (S : State) (W : World) (u : Uid) (one : AreOne f
         by : (o : Option Over) → over_of u (let k = given.copy in k.stack) ≡ o → VotedIn f S u (Some (packed st))
         by None none = absurd (let both : ◌≡◌ {A = Option ObjectState} None (Some st) = state_is None none ∙ changed in cc both)
         by (Some o) some =
-            let made : state_of u x given.copy o ≡ st = (let both : ◌≡◌ {A = Option ObjectState} (Some (state_of u x given.copy o))
+            let made : state_over u x given.copy o ≡ st = (let both : ◌≡◌ {A = Option ObjectState} (Some (state_over u x given.copy o))
             (Some st) = state_is (Some o) some ∙ changed in cc both) in
             let e = over_there f.act f.code u (let k = given.copy in k.stack) log overs o some in
             let d = right.1 e.0 e.1 (subst (λ a. same a m ≡ true) (sym e.2) (same_self m)) in
@@ -149,7 +140,7 @@ module _ (f : Fixed) (x : ℕ) (S : State) (W : World) (u : Uid) (one : AreOne f
               writer_of f.act o,
               (right.0 d.0 d.1 d.2 d.3 d.4).0 ∙ ap (λ (b : Ballot). b.value) (let v = given.vote in v.gives) ∙ ap (λ (k : Option Over).
                   f.code (value_in (let z = given.copy in z.base) k) (maker_in f.act (let z = given.copy in z.base) k)) some,
-              ap (λ (z : ObjectState). z.payload) (sym made),
+              ap (λ (z : ObjectState). head_of z.format ∷ class_code_of z.class ∷ z.payload) (sym made),
               ap uid_number writer,
               d.0,
               d.1,
@@ -164,8 +155,8 @@ module _ (f : Fixed) (x : ℕ) (S : State) (W : World) (u : Uid) (one : AreOne f
     none_over changed d i wr own lives = by (over_of u (let k = given.copy in k.stack)) refl
       where
         by : (o : Option Over) → over_of u (let k = given.copy in k.stack) ≡ o → ⊥
-        by (Some o) some = absurd
-            (let both : ◌≡◌ {A = Option ObjectState} (Some (state_of u x given.copy o)) None = state_is (Some o) some ∙ changed in cc both)
+        by (Some o) some = absurd (let both : ◌≡◌ {A = Option ObjectState} (Some (state_over u x given.copy o)) None =
+            state_is (Some o) some ∙ changed in cc both)
         by None none = let e = (right.0 d i wr own lives).1 in
             over_found f.act f.code u one (let k = given.copy in k.stack) log overs e.0 e.1 (same_is (let z = e.0 in z.holder) m e.2) none
 

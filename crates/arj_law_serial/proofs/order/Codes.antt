@@ -1,9 +1,11 @@
 -- Two values have two codes, and so have two tops.
 use Rattle.arj_law_parts.proofs.Words
-use Words.{◌≡◌, ◌<◌, ℕ, ◌+◌, ◌*◌, List, [], ◌∷◌, zero, suc, refl, ap, arith, Value, Account, Counter, Queue, Register, Table}
+use Words.{◌≡◌, ◌<◌, ℕ, ◌+◌, ◌*◌, List, [], ◌∷◌, zero, suc, refl, ap, arith, Value, class_code_of, class_of}
 use Rattle.arj_law_serial.proofs.Terms.{code_of, Root, Sub, AreApart}
+use Rattle.arj_base.proofs.Packed.{class_once}
+use Rattle.arj_class.specs.declared.value.Value.TheVariants.{Account, Counter, Gone, Queue, Register, Table}
 use Rattle.arj_law_lock.specs.machine.Actions.{Act}
-use Rattle.arj_law_serial.specs.order.Codes.{act_code, all, both, flat, value_code}
+use Rattle.arj_law_serial.specs.order.Codes.{act_code, all, both, flat, held_in, value_code}
 
 both_apart : (m n k l : ℕ) → both m n ≡ both k l → (m ≡ k) × (n ≡ l)
 both_apart zero n zero l e = let f : 2 * n + 1 ≡ 2 * l + 1 = e in (refl, omega (arith, f))
@@ -35,33 +37,19 @@ flat_apart (p ∷ ps) (q ∷ qs) e =
     let rest : flat ps ≡ flat qs = cc f in
     λ i. (first i, second i) ∷ flat_apart ps qs rest i
 
+held_apart : (v w : Value) → class_of v ≡ class_of w → held_in v ≡ held_in w → v ≡ w
+held_apart (Counter m) (Counter n) same e = ap Counter e
+held_apart (Register m) (Register n) same e = ap Register (all_apart m n e)
+held_apart (Account m) (Account n) same e = ap Account e
+held_apart (Queue m) (Queue n) same e = ap Queue (all_apart m n e)
+held_apart (Table m) (Table n) same e = ap Table (flat_apart m n (all_apart (flat m) (flat n) e))
+held_apart (Gone c) (Gone d) same e = ap Gone (class_once c d e)
+held_apart _ _ same e = cc
+
 values_apart : (v w : Value) → value_code v ≡ value_code w → v ≡ w
-values_apart (Counter m) (Counter n) e = ap Counter (both_apart 0 m 0 n e).1
-values_apart (Register m) (Register n) e = ap Register (all_apart m n (both_apart 1 (all m) 1 (all n) e).1)
-values_apart (Account m) (Account n) e = ap Account (both_apart 2 m 2 n e).1
-values_apart (Queue m) (Queue n) e = ap Queue (all_apart m n (both_apart 3 (all m) 3 (all n) e).1)
-values_apart (Table m) (Table n) e =
-    ap Table (flat_apart m n (all_apart (flat m) (flat n) (both_apart 4 (all (flat m)) 4 (all (flat n)) e).1))
-values_apart (Register m) (Counter n) e = absurd (omega (arith, (both_apart 1 (all m) 0 n e).0))
-values_apart (Account m) (Counter n) e = absurd (omega (arith, (both_apart 2 m 0 n e).0))
-values_apart (Queue m) (Counter n) e = absurd (omega (arith, (both_apart 3 (all m) 0 n e).0))
-values_apart (Table m) (Counter n) e = absurd (omega (arith, (both_apart 4 (all (flat m)) 0 n e).0))
-values_apart (Counter m) (Register n) e = absurd (omega (arith, (both_apart 0 m 1 (all n) e).0))
-values_apart (Account m) (Register n) e = absurd (omega (arith, (both_apart 2 m 1 (all n) e).0))
-values_apart (Queue m) (Register n) e = absurd (omega (arith, (both_apart 3 (all m) 1 (all n) e).0))
-values_apart (Table m) (Register n) e = absurd (omega (arith, (both_apart 4 (all (flat m)) 1 (all n) e).0))
-values_apart (Counter m) (Account n) e = absurd (omega (arith, (both_apart 0 m 2 n e).0))
-values_apart (Register m) (Account n) e = absurd (omega (arith, (both_apart 1 (all m) 2 n e).0))
-values_apart (Queue m) (Account n) e = absurd (omega (arith, (both_apart 3 (all m) 2 n e).0))
-values_apart (Table m) (Account n) e = absurd (omega (arith, (both_apart 4 (all (flat m)) 2 n e).0))
-values_apart (Counter m) (Queue n) e = absurd (omega (arith, (both_apart 0 m 3 (all n) e).0))
-values_apart (Register m) (Queue n) e = absurd (omega (arith, (both_apart 1 (all m) 3 (all n) e).0))
-values_apart (Account m) (Queue n) e = absurd (omega (arith, (both_apart 2 m 3 (all n) e).0))
-values_apart (Table m) (Queue n) e = absurd (omega (arith, (both_apart 4 (all (flat m)) 3 (all n) e).0))
-values_apart (Counter m) (Table n) e = absurd (omega (arith, (both_apart 0 m 4 (all (flat n)) e).0))
-values_apart (Register m) (Table n) e = absurd (omega (arith, (both_apart 1 (all m) 4 (all (flat n)) e).0))
-values_apart (Account m) (Table n) e = absurd (omega (arith, (both_apart 2 m 4 (all (flat n)) e).0))
-values_apart (Queue m) (Table n) e = absurd (omega (arith, (both_apart 3 (all m) 4 (all (flat n)) e).0))
+values_apart v w e =
+    let r = both_apart (class_code_of (class_of v)) (held_in v) (class_code_of (class_of w)) (held_in w) e in
+    held_apart v w (class_once (class_of v) (class_of w) r.0) r.1
 
 acts_apart : (a b : Act) → act_code a ≡ act_code b → a ≡ b
 acts_apart (Root m) (Root n) e = ap Root (both_apart 0 m 0 n e).1

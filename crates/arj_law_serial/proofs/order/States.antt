@@ -2,12 +2,12 @@
 use Rattle.arj_law_parts.proofs.Words
 use Words.{◌≡◌, ◌≢◌, ◌⊎◌, ◌<◌, ◌≤◌, ℕ, ◌+◌, ◌==◌, ◌&&◌, ◌||◌, List, [], ◌∷◌, ◌++◌, filter, length, Bool, true, false, cond, nat_lt, Option}
 use Words.{Some, None, is_some, unwrap_or, refl, sym, ◌∙◌, ap, subst, inl, inr, ⊎_elim, arith, Contains, eqb-true, eq-eqb, AllByRecursion}
-use Words.{list_any, and_parts, nat_tests, payload_of, value_after, writes, Value, Header, Line, In, in_filter, in_from, in_to, uid_number}
+use Words.{list_any, and_parts, nat_tests, value_after, writes, Value, Header, Line, In, in_filter, in_from, in_to, uid_number}
 use Words.{Uid}
 use Rattle.arj_law_serial.proofs.Terms
 use Terms.{Top, committed_calls, tops, first_values, Values, run, serial_calls, top_place, writes_on, InOrder}
 use Terms.{Pairwise, not_below_itself, writes_conflict, rises, new_book, AreRight, Chain, counts_of, Done, Packed, last_in, packed}
-use Terms.{AreDecided, AreDecisions, AreNewestFirst, CommitsComeFirst, WroteSo, left_by, marked}
+use Terms.{AreDecided, AreDecisions, AreNewestFirst, CommitsComeFirst, WroteSo, content_of, left_by, marked}
 use Terms.words
 use Rattle.arj_law.proofs.{Answers.run-append, Common.pairwise_before, Last.value_of_writes, Last.writes_are}
 use Rattle.arj_law_disk.specs.machine.Laws.{writes_in}
@@ -16,8 +16,9 @@ use Rattle.arj_law_serial.proofs.{order.Ties.Ties, order.Tying.all_at, order.Val
 use Rattle.arj_law_serial.proofs.order.Order.{all_called_first, all_in_order, call_before, listed, place_of_top}
 use Rattle.arj_law_serial.specs.order.Decided.{IsCalledFirst, IsLastWrite}
 use Rattle.arj_model.specs.{Book.writes_before, Calls.Call, Last.count_tops, Last.last_from, Last.writer_from, Last.writes_of}
-use Rattle.arj_start.specs.{Start.Mark}
-use Rattle.arj_start.specs.{Start.Marks}
+use Rattle.arj_start.specs.{Start.Mark, Start.Marks, Start.format_at}
+use Rattle.arj_base.specs.declared.state.Format.{Format}
+use Rattle.arj_law_serial.proofs.order.Contents.{later_format}
 
 -- ---- lists
 
@@ -352,6 +353,15 @@ module _ (values : Values) (lines : List Line) (right : AreRight new_book lines)
 
 -- ---- the last state
 
+-- who called the last of calls is counted
+count_some : (cs : List Call) (c : Call) → 1 ≤ count_tops (cs ++ c ∷ [])
+count_some [] c = omega arith
+count_some (d ∷ cs) c = by (list_any (λ (e : Call). e.top == d.top) (cs ++ c ∷ [])) (count_some cs c)
+  where
+    by : (b : Bool) → 1 ≤ count_tops (cs ++ c ∷ []) → 1 ≤ cond b (count_tops (cs ++ c ∷ [])) (count_tops (cs ++ c ∷ []) + 1)
+    by true ih = ih
+    by false ih = omega (arith, ih)
+
 -- versions rise with each top that wrote
 chain_version : (first : Packed) (ds : List Done) → Chain first ds → (last_in first ds).version ≡ first.version + writes_in ds
 chain_version first [] c = let e : first.version ≡ first.version + 0 = omega arith in e
@@ -365,7 +375,7 @@ chain_version first (d ∷ ds) c = by (chain_version first ds c.1) d.plan.writes
 module _ (header : Header) (lines : List Line) (right : AreRight new_book lines) (tied : Ties (first_values header) lines) (x : ℕ)
     (first : Packed) (ds : List Done) (chain : Chain first ds) (plain : (d : Done) → words.In d ds → d.counts ≡ false → d.plan.writes
     ≡ None) (decided : AreDecided header lines x ds) (marks : Marks) (first_is : first ≡ marked (marks.states x)
-    (payload_of (first_values header x))) where
+    (content_of (format_at header.format (let m = marks.states x in m.version)) (first_values header x))) where
   abbrev mark : Mark
   mark = marks.states x
 
@@ -424,11 +434,15 @@ module _ (header : Header) (lines : List Line) (right : AreRight new_book lines)
 
   state_is : (v : Value) (cs : List Call) → run values (serial_calls lines) x ≡ v → writes_of lines x ≡ cs →
       packed (last_from header marks lines x)
-      ≡ record { version = mark.version + count_tops cs; writer = uid_number (writer_from mark.writer cs); content = payload_of v }
+      ≡ record {
+        version = mark.version + count_tops cs;
+        writer = uid_number (writer_from mark.writer cs);
+        content = content_of (format_at header.format (mark.version + count_tops cs)) v;
+      }
   state_is v cs e f = (λ i. record {
     version = mark.version + count_tops (f i);
     writer = uid_number (writer_from mark.writer (f i));
-    content = payload_of (e i);
+    content = content_of (format_at header.format (mark.version + count_tops (f i))) (e i);
   })
 
   writes_same : writes_of lines x ≡ written
@@ -450,8 +464,7 @@ module _ (header : Header) (lines : List Line) (right : AreRight new_book lines)
       sym by_counting ∙ same ∙ first_is ∙ (λ i. record {
         version = zero i;
         writer = uid_number mark.writer;
-        content = payload_of
-            (values x);
+        content = content_of (format_at header.format (zero i)) (values x);
       })
       ∙ sym (state_is (values x) [] (value_same ∙ ap (λ cs. run values cs x) empty) (writes_same ∙ empty))
     where
@@ -541,7 +554,7 @@ module _ (header : Header) (lines : List Line) (right : AreRight new_book lines)
       whole_state : record {
         version = mark.version + count_tops (found.0 ++ c ∷ []);
         writer = uid_number (writer_from mark.writer (found.0 ++ c ∷ []));
-        content = payload_of (left_by values lines c);
+        content = content_of (format_at header.format (mark.version + count_tops (found.0 ++ c ∷ []))) (left_by values lines c);
       } ≡ last_in first ds
       whole_state =
           let state : last_in first ds ≡ n.state = sym by_counting ∙ n.last_is in
@@ -551,7 +564,14 @@ module _ (header : Header) (lines : List Line) (right : AreRight new_book lines)
           let w = n.wrote in
           let writer : n.state.writer ≡ uid_number (writer_from mark.writer (found.0 ++ c ∷ [])) = w.2
           ∙ ap uid_number (sym (last_writer_is mark.writer found.0 c)) in
-          (λ i. record { version = sym version i; writer = sym writer i; content = sym w.3 i }) ∙ sym state
+          let some = count_some found.0 c in
+          let format = later_format header.format (mark.version + count_tops (found.0 ++ c ∷ [])) (omega (arith, some)) in
+          (λ i. record {
+            version = sym version i;
+            writer = sym writer i;
+            content = (ap (λ (g : Format). content_of g (left_by values lines c)) (sym format) ∙ sym w.3) i;
+          })
+          ∙ sym state
 
   pub state_is_last : last_in first ds ≡ packed (last_from header marks lines x)
   state_is_last = ⊎_elim (λ none. unwritten none.0 none.1) (λ n. newest_write n)

@@ -2,14 +2,15 @@
 use Rattle.arj_law_parts.proofs.Words
 use Words.{◌≡◌, ◌≢◌, ◌⊎◌, ◌<◌, ◌≤◌, ℕ, ◌+◌, ◌==◌, ◌&&◌, ◌||◌, List, [], ◌∷◌, filter, Bool, true, false, nat_lt, Option, Some, None, refl}
 use Words.{sym, ◌∙◌, ap, subst, inl, inr, ⊎_elim, arith, Contains, eqb-true, eq-eqb, AllByRecursion, cons_option, filter_map, and_parts}
-use Words.{uid_cases, uid_same, uid_eq, is_on, payload_of, value_after, writes, Line, In, in_from, in_to, uid_number, is_serial}
+use Words.{uid_cases, uid_same, uid_eq, is_on, value_after, writes, Line, In, in_from, in_to, uid_number, is_serial}
 use Rattle.arj_law_serial.proofs.Terms
 use Terms.{Act, Placed, acts, committed, has_end, recovered, uids, Said, Top, call_of, committed_calls, kept, tops, uid_of_id}
 use Terms.{Values, run, writes_on, is_top, new_book, called, AreRight, one_act, AreSound, its_sound, is_action, on, top, Alive, State}
 use Terms.{Newest, Survives, newest, none, older, start_holds, lives, on_top, top_of, roots_low, start_low, start_values, start_votes}
-use Terms.{votes_are_right, AreCallsOf, said_on, Packed, VotedSo, WroteSo, left_by, IsTied, path_of}
+use Terms.{votes_are_right, AreCallsOf, said_on, Packed, VotedSo, WroteSo, content_of, left_by, IsTied, path_of}
 use Terms.machine
 use Terms.state
+use Rattle.arj_base.specs.declared.state.Format.TheVariants.{Two}
 use Rattle.arj_law_lock.proofs.machine.{Paths.one_top, VoteRun.run_votes}
 use Rattle.arj_law_lock.specs.machine.Laws.{VotesAreRight}
 use Rattle.arj_law_runs.proofs.journal.Nothing.{below_is_over}
@@ -217,7 +218,7 @@ module _ (values : Values) (lines : List Line) (right : AreRight new_book lines)
                 last = λ e e_there e_top e_write. last_is f k e e_there e_top e_write it.line;
               },
               writer ∙ ap (λ (z : Act). uid_number z.uid) (sym same_act),
-              content ∙ ap payload_of (value ∙ sym left),
+              content ∙ ap (content_of Two) (value ∙ sym left),
             )
           where
             both : (p q : Bool) → p ≡ true → q ≡ true → (p && q) ≡ true

@@ -436,7 +436,7 @@ module _ (hd : Header) (x : ℕ) (has : HasObject hd x) (E : List Action → See
     tick = λ begun S s knows seen. let w = works begun S s knows.0 seen in
         (knows_asks begun S s knows.0 seen, w.ends, tells begun S s knows.0 seen);
     restart = λ begun S k d M knows seen is inc. entries_found x inc d.names (entry_at k d M knows.0.1.0.entry is);
-    first = λ st formed is inc. entries_found x inc (let d = disk_by hd st 1 in d.names) (first_there x st hd has);
+    first = λ st formed is inc. entries_found x inc (let d = disk_by hd st 1 in d.names) (first_there x hd st has);
   }
     where
       entry_at : (k : ℕ) (d : Disk) (M : Seen) → HoldsEntry x (down k d M) → k ≡ 1 → is_some (held_at (entry x) d.names) ≡ true

@@ -2,10 +2,11 @@
 use Rattle.std.specs.Prelude.{⊤, ◌≡◌, ℕ, List, Option, Some, None}
 use Rattle.std.specs.List.{AllByRecursion}
 use Rattle.arj_base.specs.Uid.{entry, object}
-use Rattle.arj_class.specs.Table.{class_of}
+use Rattle.arj_base.specs.declared.state.Format.{Format}
+use Rattle.arj_class.specs.Table.{own_class}
 use Rattle.arj_journal.specs.ScriptForm.{HeaderInForm}
 use Rattle.arj_model.specs.Last.{entry_payload, first_values, object_line, servers_of_line}
-use Rattle.arj_protocol.specs.Words.{Class, Header, ObjectState, Uid}
+use Rattle.arj_protocol.specs.Words.{Class, Header, ObjectState, Uid, Value}
 use Rattle.arj_protocol.specs.Words.class
 use Rattle.arj_protocol.specs.Words.role
 use Rattle.arj_protocol.specs.Copy.{Copy, Over}
@@ -13,21 +14,24 @@ use Rattle.arj_protocol.specs.Effect.{Disk, Do, Effect, Pair, Prepare, Say, Send
 use Rattle.arj_protocol.specs.Node.{Parts}
 use Rattle.arj_protocol.specs.Order.{at_uid}
 use Rattle.arj_protocol.specs.Step.{Node}
-use Rattle.arj_protocol.specs.Values.{state_entry}
+use Rattle.arj_protocol.specs.Values.{state_entry, state_value}
 use Rattle.arj_law_disk_view.specs.running.States.{CoordIsSo, Fits, MessageIsSo, Own}
 use Rattle.arj_law_parts.specs.moves.Keeps.{Keeps}
+use Rattle.arj_start.specs.Start.{format_at}
 use Rattle.arj_law_parts.specs.moves.Seen.{In}
 use Rattle.arj_promise.specs.Runs.{Post, Seen}
 
 -- ---- states
 
--- a state of the object is of this class
+-- a state of the object is of this class, also where it says that the object is gone
 abbrev pub OfClass : ℕ → Class → Uid → ObjectState → Type 0
-OfClass x k u st = u ≡ object x → st.class ≡ k
+OfClass x k u st = u ≡ object x → own_class (state_value st) ≡ k
 
--- a state of the object's entry is an entry with these servers
-abbrev pub OfEntry : ℕ → List ℕ → Uid → ObjectState → Type 0
-OfEntry x servers u st = u ≡ entry x → (st.class ≡ class.Entry) × (st.payload ≡ entry_payload servers (let e = state_entry st in e.stores))
+-- a state of the object's entry is an entry with these servers, in this format until it was written
+abbrev pub OfEntry : ℕ → List ℕ → Format → Uid → ObjectState → Type 0
+OfEntry x servers first u st =
+    u ≡ entry x → (st.class ≡ class.Entry) × (st.payload ≡ entry_payload servers (let e = state_entry st in e.stores))
+    × (st.format ≡ format_at first st.version)
 
 -- Each state that is held is its own object's, and so, and each that is prepared is so under its own Uid.
 pub record PairIsSo (P : Uid → ObjectState → Type 0) (d : Pair) : Type 0 where
@@ -36,10 +40,14 @@ pub record PairIsSo (P : Uid → ObjectState → Type 0) (d : Pair) : Type 0 whe
 
 -- ---- copies
 
--- a copy's own value and those of its overlays are of this class
-pub record IsCopyOf (k : Class) (c : Copy) : Type 0 where
-  pub base : class_of (let b = c.base in b.value) ≡ k
-  pub over : AllByRecursion (λ (o : Over). class_of o.value ≡ k) c.stack
+-- a copy's own value and those of its overlays are so
+pub record HasValues (V : Value → Type 0) (c : Copy) : Type 0 where
+  pub base : V (let b = c.base in b.value)
+  pub over : AllByRecursion (λ (o : Over). V o.value) c.stack
+
+-- they are of an object of this class
+abbrev pub IsCopyOf : Class → Copy → Type 0
+IsCopyOf k c = HasValues (λ v. own_class v ≡ k) c
 
 -- the copy of the object is so
 abbrev pub CopyIsSo : ℕ → Class → ℕ → Copy → Type 0
@@ -47,11 +55,12 @@ CopyIsSo x k y c = y ≡ x → IsCopyOf k c
 
 -- ---- nodes
 
--- Of object x: its class, and the servers of its entry.
+-- Of object x: its class, the servers of its entry, and the format of what nobody has written.
 pub record Kind : Type 0 where
   pub x : ℕ
   pub class : Class
   pub servers : List ℕ
+  pub format : Format
 
 -- the states of stores are of objects; and those of naming
 abbrev pub stored : Kind → Uid → ObjectState → Type 0
@@ -59,7 +68,7 @@ stored k u st = (u ≡ object u.num) × OfClass k.x k.class u st
 
 -- the states of naming are entries of the object
 abbrev pub listed : Kind → Uid → ObjectState → Type 0
-listed k = OfEntry k.x k.servers
+listed k = OfEntry k.x k.servers k.format
 
 -- those of stores, wherever they are
 abbrev pub so_of : Kind → Fits
@@ -109,7 +118,7 @@ AreSo k M =
 
 -- by the header
 abbrev pub kind_of : Header → ℕ → Kind
-kind_of hd x = record { x = x; class = class_of (first_values hd x); servers = servers_of_line (object_line hd x) }
+kind_of hd x = record { x = x; class = own_class (first_values hd x); servers = servers_of_line (object_line hd x); format = hd.format }
 
 -- each handler keeps it
 abbrev pub FormsAreKept : Type 0

@@ -7,6 +7,7 @@ use Rattle.arj_base.specs.declared.uid.Uid.{Uid}
 use Rattle.arj_base.specs.State.{state_bytes}
 use Rattle.arj_base.specs.Uid.{entry, nobody, object, uid_eq}
 use Rattle.arj_base.specs.declared.state.Class.TheVariants as class
+use Rattle.arj_base.specs.declared.state.Format.TheVariants.{Two}
 use Rattle.arj_base.specs.declared.state.ObjectState.{ObjectState}
 use Rattle.arj_class.specs.declared.op.Op.TheVariants.{Add}
 use Rattle.arj_class.specs.declared.value.Value.TheVariants.{Counter}
@@ -80,7 +81,7 @@ decided_lines = before_commit ++ numbered 5 (body.Excluded label 1 3 ∷ body.Co
 
 -- a counter at the stores 2 and 3
 abbrev pub header : Header
-header = record { nodes = 3; objects = record { x = 1; value = Counter 0; servers = 1 ∷ []; stores = 2 ∷ 3 ∷ [] } ∷ [] }
+header = record { nodes = 3; objects = record { x = 1; value = Counter 0; servers = 1 ∷ []; stores = 2 ∷ 3 ∷ [] } ∷ []; format = Two }
 
 -- its last state
 abbrev pub its_last : ObjectState
@@ -93,12 +94,19 @@ its_top = record { id = 0; root = 0; at = 2 }
 -- a state of the counter
 abbrev pub counter_state : ℕ → Uid → ℕ → ObjectState
 counter_state version writer value =
-    record { uid = object 1; class = class.Counter; version = version; writer = writer; payload = replicate 7 0 ++ value ∷ [] }
+    record {
+      uid = object 1;
+      class = class.Counter;
+      version = version;
+      writer = writer;
+      payload = replicate 7 0 ++ value ∷ [];
+      format = Two;
+    }
 
 -- a state of its entry, with these stores
 abbrev pub entry_with : ℕ → Uid → List ℕ → ObjectState
 entry_with version writer stores =
-    record { uid = entry 1; class = class.Entry; version = version; writer = writer; payload = entry_payload (1 ∷ []) stores }
+    record { uid = entry 1; class = class.Entry; version = version; writer = writer; payload = entry_payload (1 ∷ []) stores; format = Two }
 
 -- a pair that holds a state and has another one prepared for the top, or nothing
 abbrev pub pair_with : Uid → ObjectState → List (Uid × List ObjectState) → Pair

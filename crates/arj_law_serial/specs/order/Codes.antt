@@ -1,7 +1,9 @@
 -- A code for each value by the top that wrote it: two values have two, and two tops.
 use Rattle.std.specs.Prelude.{ℕ, ◌+◌, ◌*◌, zero, suc, List, [], ◌∷◌}
+use Rattle.arj_base.specs.State.{class_code_of}
+use Rattle.arj_class.specs.Table.{class_of}
 use Rattle.arj_class.specs.declared.value.Value.{Value}
-use Rattle.arj_class.specs.declared.value.Value.TheVariants.{Account, Counter, Queue, Register, Table}
+use Rattle.arj_class.specs.declared.value.Value.TheVariants.{Account, Counter, Gone, Queue, Register, Table}
 use Rattle.arj_law_lock.specs.machine.Actions.{Act, Root, Sub}
 
 -- two numbers as one
@@ -19,13 +21,18 @@ abbrev pub flat : List (ℕ × ℕ) → List ℕ
 flat [] = []
 flat (p ∷ ps) = p.0 ∷ p.1 ∷ flat ps
 
+-- what a value holds, as a number
+abbrev pub held_in : Value → ℕ
+held_in (Counter n) = n
+held_in (Register bytes) = all bytes
+held_in (Account n) = n
+held_in (Queue ns) = all ns
+held_in (Table ps) = all (flat ps)
+held_in (Gone c) = class_code_of c
+
 -- a value, by its class and what it holds
 abbrev pub value_code : Value → ℕ
-value_code (Counter n) = both 0 n
-value_code (Register bytes) = both 1 (all bytes)
-value_code (Account n) = both 2 n
-value_code (Queue ns) = both 3 (all ns)
-value_code (Table ps) = both 4 (all (flat ps))
+value_code v = both (class_code_of (class_of v)) (held_in v)
 
 -- an action, by its path
 abbrev pub act_code : Act → ℕ

@@ -2,9 +2,9 @@
 use Rattle.std.specs.Prelude.{⊤, ◌≡◌, ◌⊎◌, ◌<◌, ◌≤◌, ℕ, ◌&&◌, not, List, [], ◌∷◌, filter, reverse, Bool, true, false, Option, Some}
 use Rattle.std.specs.Prelude.{None, Contains}
 use Rattle.std.specs.List.{AllByRecursion}
+use Rattle.arj_base.specs.declared.state.Format.TheVariants.{Two}
 use Rattle.arj_base.specs.declared.uid.Uid.{Uid}
 use Rattle.arj_class.specs.declared.value.Value.{Value}
-use Rattle.arj_class.specs.Forms.{payload_of}
 use Rattle.arj_class.specs.Table.{value_after}
 use Rattle.arj_journal.specs.declared.body.Line.{Line}
 use Rattle.arj_journal.specs.declared.header.Header.{Header}
@@ -21,6 +21,7 @@ use Rattle.arj_law_lock.specs.machine.State.{Alive, State}
 use Rattle.arj_protocol.specs.Order.{uid_number}
 use Rattle.arj_law_disk.specs.machine.Order.{counts_of}
 use Rattle.arj_law_disk.specs.machine.State.{Done, Packed, target}
+use Rattle.arj_law_disk_view.specs.view.Pairs.{content_of}
 use Rattle.arj_law_serial.specs.order.Tied.{IsTied}
 use Rattle.arj_promise.specs.Excluded.{Wrote}
 
@@ -40,7 +41,7 @@ pub record IsLastWrite (lines : List Line) (x : ℕ) (t : Top) (c : Call) : Type
 abbrev pub WroteSo : Values → List Line → ℕ → Top → Option Packed → Type 0
 WroteSo values lines x t None = (e : Call) → Contains (committed_calls lines) e → e.top ≡ t.id → writes_on x e ≡ false
 WroteSo values lines x t (Some w) =
-    (c : Call) × IsLastWrite lines x t c × (w.writer ≡ uid_number c.writer) × (w.content ≡ payload_of (left_by values lines c))
+    (c : Call) × IsLastWrite lines x t c × (w.writer ≡ uid_number c.writer) × (w.content ≡ content_of Two (left_by values lines c))
 
 -- A decided top is a committed one of the journal: what it gave to the stores is what it wrote, the stores that it takes out of the
 -- list are those that its commit excluded, and those that it adds are its surviving includes.
@@ -122,5 +123,6 @@ pub record DecideChanges (header : Header) (lines : List Line) (x : ℕ) (ds : L
 abbrev pub VotedSo : (values : Values) (lines : List Line) (x : ℕ) (S : State) → IsTied values lines x S → Uid → Option Packed → Type 0
 VotedSo values lines x S t u None = (c : machine.Call) → In c S.calls → c.write ≡ true → top c.act ≡ t.act u → Alive S c.act → ⊥
 VotedSo values lines x S t u (Some w) =
-    (v : Value) × (a : Act) × ((let b = S.vote (t.act u) in b.value) ≡ t.code v a) × (w.content ≡ payload_of v) × (w.writer ≡ uid_number u)
+    (v : Value) × (a : Act) × ((let b = S.vote (t.act u) in b.value) ≡ t.code v a) × (w.content ≡ content_of Two v)
+    × (w.writer ≡ uid_number u)
     × (c : machine.Call) × In c S.calls × (c.write ≡ true) × (top c.act ≡ t.act u) × Alive S c.act

@@ -1,11 +1,12 @@
 -- What a store answers to a prepare is what the protocol says.
 use Rattle.arj_law_store.proofs.Terms
 use Terms.{◌≡◌, ◌≢◌, ◌⊎◌, ◌∙◌, ◌<◌, ◌||◌, Bool, true, false, cond, not, List, [], ◌∷◌, refl, sym, ap, subst, ⊎_elim, Option, Some, None, ℕ}
-use Terms.{zero, suc, arith, option_map, unwrap_or, is_some, IsSome, IfSome, MatchOption, AllByRecursion, is_eq, bytes_eq, bytes_eq-Decides}
+use Terms.{arith, option_map, unwrap_or, is_some, IsSome, IfSome, MatchOption, AllByRecursion, is_eq, bytes_eq, bytes_eq-Decides}
 use Terms.{uid_order, state_bytes, StateInForm, uid_eq, ObjectState, Uid, state_once, uid_is, uid_same, uid_sym, uid_other, names, new_of}
 use Terms.{IsPairOf, Pair, held_at, holder_of, at_uid, packed}
 use Terms.files
-use Rattle.arj_base.specs.{State.class_code_of, declared.state.Class.Class}
+use Rattle.arj_base.proofs.Packed.{class_once}
+use Rattle.arj_base.specs.{State.class_code_of, State.head_of, declared.state.Format.Format}
 use Rattle.arj_law_store.proofs.store.Keys.{Rises, order_itself, tied, first_gone}
 use Rattle.arj_law_store.specs.store.{Laws.IsOwnAt, Prep.prep_of}
 use Rattle.arj_protocol.specs.Effect.{names_object, state_eq, is_old, by_holder, refusal_of, refusal_in, first_refusal, prepare_answer}
@@ -14,7 +15,7 @@ use Rattle.arj_store.specs.declared.answer.Prep.{Prep}
 use Rattle.std.proofs.Common.{◌==◌, ◌&&◌, nat_lt, find}
 use Rattle.std.proofs.lemmas.{Bool.and_parts, Bool.eqb-true, Bool.eq-eqb, Bool.Decides.nat_tests}
 use Rattle.std.specs.List.Sorted.{IsStrictlySortedBy}
-use Rattle.arj_base.specs.declared.state.Class.TheVariants as class
+use Rattle.arj_base.specs.declared.state.Format.TheVariants as format
 use Rattle.arj_protocol.specs.Effect as protocol
 use Rattle.arj_store.specs.declared.answer.Prep.TheVariants as prep
 
@@ -107,44 +108,43 @@ held_is : (p : files.Pair) (d : Pair) (u : Uid) (t : ObjectState) → IsPairOf p
 held_is p d u t are at form own = record { bytes = are.held u ∙ ap (option_map state_bytes) at; in_form = form; own = own }
 
 same_state : (s : ObjectState) → state_eq s s ≡ true
-same_state s = λ i. uid_same s.uid i && (eq-eqb (class_code_of s.class) (class_code_of s.class) refl i
-    && (eq-eqb s.version s.version refl i && (uid_same s.writer i && (bytes_eq-Decides s.payload s.payload).1 refl i)))
+same_state s = λ i. uid_same s.uid i && (eq-eqb (head_of s.format) (head_of s.format) refl i
+    && (eq-eqb (class_code_of s.class) (class_code_of s.class) refl i
+    && (eq-eqb s.version s.version refl i && (uid_same s.writer i && (bytes_eq-Decides s.payload s.payload).1 refl i))))
 
 equal_states : (s t : ObjectState) → StateInForm s → StateInForm t → state_bytes s ≡ state_bytes t → state_eq s t ≡ true
 equal_states s t fs ft is = subst (λ w. state_eq s w ≡ true) (state_once s t fs ft is) (same_state s)
 
--- the class with a code
-abbrev class_at : ℕ → Class
-class_at zero = class.Entry
-class_at (suc zero) = class.Counter
-class_at (suc (suc zero)) = class.Register
-class_at (suc (suc (suc zero))) = class.Account
-class_at (suc (suc (suc (suc zero)))) = class.Queue
-class_at _ = class.Table
-
-class_back : (k : Class) → class_at (class_code_of k) ≡ k
-class_back class.Entry = refl
-class_back class.Counter = refl
-class_back class.Register = refl
-class_back class.Account = refl
-class_back class.Queue = refl
-class_back class.Table = refl
+-- each format has a head of its own length
+head_once : (f g : Format) → head_of f ≡ head_of g → f ≡ g
+head_once format.One format.One is = refl
+head_once format.Two format.Two is = refl
+head_once format.One format.Two is = let no_way : 47 ≡ 48 = is in absurd (omega (arith, no_way))
+head_once format.Two format.One is = let no_way : 48 ≡ 47 = is in absurd (omega (arith, no_way))
 
 packs_alike : (s t : ObjectState) → state_eq s t ≡ true → state_bytes s ≡ state_bytes t
 packs_alike s t is =
-    let a = and_parts (uid_eq s.uid t.uid) ((class_code_of s.class == class_code_of t.class)
-    && ((s.version == t.version) && (uid_eq s.writer t.writer && bytes_eq s.payload t.payload))) is in
-    let b = and_parts (class_code_of s.class == class_code_of t.class)
-    ((s.version == t.version) && (uid_eq s.writer t.writer && bytes_eq s.payload t.payload)) a.1 in
+    let rest = (s.version == t.version) && (uid_eq s.writer t.writer && bytes_eq s.payload t.payload) in
+    let a = and_parts (uid_eq s.uid t.uid)
+    ((head_of s.format == head_of t.format) && ((class_code_of s.class == class_code_of t.class) && rest)) is in
+    let h = and_parts (head_of s.format == head_of t.format) ((class_code_of s.class == class_code_of t.class) && rest) a.1 in
+    let b = and_parts (class_code_of s.class == class_code_of t.class) rest h.1 in
     let e = and_parts (s.version == t.version) (uid_eq s.writer t.writer && bytes_eq s.payload t.payload) b.1 in
     let f = and_parts (uid_eq s.writer t.writer) (bytes_eq s.payload t.payload) e.1 in
     let uid = uid_is s.uid t.uid a.0 in
-    let class_is = sym (class_back s.class)
-    ∙ (ap class_at (eqb-true (class_code_of s.class) (class_code_of t.class) b.0) ∙ class_back t.class) in
+    let format_is = head_once s.format t.format (eqb-true (head_of s.format) (head_of t.format) h.0) in
+    let class_is = class_once s.class t.class (eqb-true (class_code_of s.class) (class_code_of t.class) b.0) in
     let version = eqb-true s.version t.version e.0 in
     let writer = uid_is s.writer t.writer f.0 in
     let payload = (bytes_eq-Decides s.payload t.payload).0 f.1 in
-    λ i. state_bytes (record { uid = uid i; class = class_is i; version = version i; writer = writer i; payload = payload i })
+    λ i. state_bytes (record {
+      uid = uid i;
+      class = class_is i;
+      version = version i;
+      writer = writer i;
+      payload = payload i;
+      format = format_is i;
+    })
 
 no_older : (s t : ObjectState) → StateInForm s → StateInForm t → files.IsNoOlder s t → is_old s t ≡ false
 no_older s t fs ft = ⊎_elim

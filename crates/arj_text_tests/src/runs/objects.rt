@@ -515,4 +515,98 @@ show 1
 19 entry 1 1 1 2
 19 copy 2 1 1 1.1.1 0000000000000001
 19 copy 3 1 0 0.0.0 0000000000000000
+== gone object
+nodes 1
+object 1 counter gone servers 1 stores 1
+run
+begin A at 1
+call A 1 get
+call A 1 create queue 1
+call A 1 create counter 7
+begin N in A
+call N 1 destroy
+abort N
+call A 1 create counter 9
+commit A
+show 1
+begin B at 1
+call B 1 destroy
+commit B
+show 1
+-- journal
+1 began A top 1.1.1 -
+2 granted 1 1.1.1 0.1.1 write
+2 bound 1 1.1 1
+2 active 1 1 1.1
+2 lowered 1 1.1.1 0.1.1
+2 granted 1 1.1.1 0.0.1 read
+2 ok A 1 get = gone
+3 refused 14
+4 granted 1 1.1.1 0.0.1 write
+4 ok A 1 create counter 7 = done
+5 began N nested 1.1.2 A
+6 granted 1 1.1.2 0.0.1 write
+6 ok N 1 destroy = done
+7 aborted N asked
+7 told 1 1.1.2 abort server
+8 ok A 1 create counter 9 = there
+9 committing A
+9 prepared 1 1.1.1 store
+9 committed A
+9 done 1 1.1.1 store commit
+9 told 1 1.1.1 commit naming
+9 told 1 1.1.1 commit server
+10 entry 1 0 1 1
+10 copy 1 1 1 1.1.1 0000000000000007
+11 began B top 1.1.3 -
+12 granted 1 1.1.3 0.1.1 read
+12 granted 1 1.1.3 0.0.1 write
+12 ok B 1 destroy = done
+13 committing B
+13 prepared 1 1.1.3 store
+13 committed B
+13 done 1 1.1.3 store commit
+13 told 1 1.1.3 commit naming
+13 told 1 1.1.3 commit server
+14 entry 1 0 1 1
+14 copy 1 1 2 1.1.3 01
+== older format included
+nodes 3
+format 1
+object 1 counter 0 servers 1 stores 2
+run
+begin I at 1
+include I 1 3
+settle
+commit I
+settle
+show 1
+-- journal
+1 began I top 1.1.1 -
+2 granted 1 1.1.1 0.1.1 write
+2 sent 1 1 2 load
+3 got 1
+3 sent 2 2 1 loaded
+3 got 2
+3 includes I 1 3
+4 committing I
+4 sent 3 1 3 prepare
+5 got 3
+5 prepared 3 1.1.1 store
+5 sent 4 3 1 prepared
+5 got 4
+5 prepared 1 1.1.1 names
+5 committed I
+5 sent 5 1 2 told
+5 sent 6 1 3 told
+5 done 1 1.1.1 names commit
+5 told 1 1.1.1 commit naming
+5 got 5
+5 got 6
+5 done 3 1.1.1 store commit
+5 sent 7 3 1 acked
+5 got 7
+6 entry 1 1 1 2,3
+6 copy 2 1 0 0.0.0 0000000000000000
+6 copy 3 1 0 0.0.0 0000000000000000
 ";

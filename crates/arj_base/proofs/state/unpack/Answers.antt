@@ -1,4 +1,4 @@
-use Rattle.std.proofs.Common.{◌≡◌, ◌++◌, ◌-◌, arith, sym, ◌∙◌, ap, length, drop, take}
+use Rattle.std.proofs.Common.{◌≡◌, ◌++◌, ◌+◌, ◌-◌, arith, sym, ◌∙◌, ap, length, drop, take}
 use Rattle.std.proofs.lemmas.List.{take_rest, length-drop}
 use Rattle.byteorder.specs.Endian.{big_bytes}
 use Rattle.arj_base.proofs.Packed.{spelled, state_once}
@@ -8,27 +8,31 @@ use Rattle.arj_base.proofs.state.unpack.Goals as goal
 pub returns-clause-packed : goal.returns-clause-packed
 returns-clause-packed c =
     let bytes = c.args.bytes.now in
-    let payload : drop 47 bytes ≡ c.extend.new.self =
-    sym (c.in_ok-extend.ensures.ok ∙ ap (λ front. front ++ take (length bytes - 47) (drop 47 bytes)) c.new-payload.ensures ∙ take_rest bytes 47) in
-    let size : c.from_two-length.result ≡ length c.extend.new.self = omega (arith, ap length payload, length-drop 47 bytes) in
+    let at = c.behind_class-at.result in
+    let payload : drop (at + 26) bytes ≡ c.extend.new.self =
+    sym (c.in_ok-extend.ensures.ok ∙ ap (λ front. front ++ take (length bytes - (at + 26)) (drop (at + 26) bytes)) c.new-payload.ensures ∙ take_rest bytes (at + 26)) in
+    let size : c.from_two-length.result ≡ length c.extend.new.self = omega (arith, ap length payload, length-drop (at + 26) bytes) in
     spelled (record {
       uid = c.from_bytes.result;
-      class = c.in-Some.class;
+      class = c.in-Some-class_of_code.class;
       version = c.from_eight.result;
       writer =
           c.from_bytes-2.result;
       payload = c.extend.new.self;
+      format = c.in-Some.format;
     })
-    bytes (omega arith) (sym c.if-not-starts_with.ensures.value) (sym (c.from_bytes.ensures.bytes ∙ c.field-2.ensures)) (sym c.in-Some.ensures)
+    bytes at (sym c.behind_class-at.ensures.ends) (omega arith) (sym c.of.ensures ∙ c.in-Some.is) (sym (c.from_bytes.ensures.bytes ∙ c.field-2.ensures)) (sym c.in-Some-class_of_code.ensures) (sym c.if-not-has_version.ensures)
     (sym (c.from_eight.ensures ∙ c.field-3.ensures)) (sym (c.from_bytes-2.ensures.bytes ∙ c.field-4.ensures))
     (sym (c.from_two-length.ensures ∙ c.field.ensures) ∙ ap (big_bytes 2) size) payload
 
 -- each of them fits
 pub returns-clause-in_form : goal.returns-clause-in_form
 returns-clause-in_form c =
+    let bytes = c.args.bytes.now in
+    let at = c.behind_class-at.result in
     let payload =
-    ap length c.in_ok-extend.ensures.ok ∙ ap (λ front. length (front ++ take (length c.args.bytes.now - 47) (drop 47 c.args.bytes.now))) c.new-payload.ensures ∙ ap length (take_rest c.args.bytes.now 47) in
-    (c.from_bytes.ensures.fits, omega arith, c.from_bytes-2.ensures.fits, omega (arith, payload, length-drop 47 c.args.bytes.now))
+    ap length c.in_ok-extend.ensures.ok ∙ ap (λ front. length (front ++ take (length bytes - (at + 26)) (drop (at + 26) bytes))) c.new-payload.ensures ∙ ap length (take_rest bytes (at + 26)) in
+    (c.from_bytes.ensures.fits, omega arith, c.from_bytes-2.ensures.fits, omega (arith, payload, length-drop (at + 26) bytes))
 
 -- and no other state in form has these bytes
 pub returns-clause-only : goal.returns-clause-only

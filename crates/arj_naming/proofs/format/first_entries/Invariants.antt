@@ -4,4 +4,4 @@ use Rattle.arj_naming.proofs.format.first_entries.Given as goal
 
 -- the entries so far
 abbrev pub invariant-loop-object : goal.invariant-loop-object
-invariant-loop-object l = l.states ≡ map first_entry (take l.object-index l.objects)
+invariant-loop-object l = l.states ≡ map (first_entry l.format) (take l.object-index l.objects)

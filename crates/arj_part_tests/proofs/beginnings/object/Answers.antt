@@ -4,8 +4,8 @@ use Rattle.arj_text.specs.Fields.{NodesInForm, NumberInForm}
 use Rattle.arj_part_tests.proofs.beginnings.object.Goals as goal
 
 -- the counter is at 0, its one server is node 1, and its stores are those that were given
-pub returns : goal.returns
-returns c = (
+pub returns-clause-form : goal.returns-clause-form
+returns-clause-form c = (
   record {
     number = c.requires.number;
     value = subst NumberInForm (sym c.new.ensures) (lit< tt);

@@ -9,6 +9,6 @@ use Rattle.arj_recover.proofs.first.first_states.Given as goal
 -- the first states of the objects so far
 abbrev pub invariant-loop-object : goal.invariant-loop-object
 invariant-loop-object l = record {
-  states : l.states ≡ map step.first_state (filter (λ (o : ObjectLine). has o.stores l.node) (take l.object-index l.objects));
+  states : l.states ≡ map (step.first_state l.format) (filter (λ (o : ObjectLine). has o.stores l.node) (take l.object-index l.objects));
   sizes : AllByRecursion (λ s. length (state_bytes s) ≤ 65535) l.states;
 }

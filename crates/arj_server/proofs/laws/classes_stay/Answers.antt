@@ -5,7 +5,7 @@ pub returns-clause-empty : goal.returns-clause-empty
 returns-clause-empty c = λ x inc k. record { all = tt; here = tt }
 
 pub returns-clause-activate : goal.returns-clause-activate
-returns-clause-activate c = activate_stays c.payloads_read_back.ensures.value
+returns-clause-activate c = activate_stays
 
 pub returns-clause-invoke : goal.returns-clause-invoke
 returns-clause-invoke c = invoke_stays c.operations_keep.ensures.class

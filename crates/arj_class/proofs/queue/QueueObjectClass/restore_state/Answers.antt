@@ -8,7 +8,7 @@ use Rattle.arj_class.proofs.queue.QueueObjectClass.restore_state.Goals as goal
 
 -- a number more than a queue holds
 pub returns-then-len-eq-QUEUE_NUMBERS-clause-none : goal.returns-then-len-eq-QUEUE_NUMBERS-clause-none
-returns-then-len-eq-QUEUE_NUMBERS-clause-none c _ w form same =
+returns-then-len-eq-QUEUE_NUMBERS-clause-none c _ w form _ same =
     no_queue c.loop-number.numbers.items c.loop-number.rest.now c.args.payload.now c.loop-number.invariant.front
     (λ less. omega arith)
     (omega (arith, ap length c.in-Some.ensures.bytes)) w form same
@@ -24,7 +24,7 @@ loop-number-preserved c = record {
 
 -- fewer bytes than a number has
 pub returns-then-not-is_empty-clause-none : goal.returns-then-not-is_empty-clause-none
-returns-then-not-is_empty-clause-none c _ w form same =
+returns-then-not-is_empty-clause-none c _ w form _ same =
     no_queue c.loop-number.numbers.items c.loop-number.rest.now c.args.payload.now c.loop-number.invariant.front
     (λ _. rw c.in_default.is at c.take_number.ensures.bytes)
     (grind (arith, nat_tests)) w form same

@@ -10,7 +10,7 @@ use Rattle.arj_class.proofs.table.TableObjectClass.restore_state.Goals.{then-len
 
 -- a pair more than a table holds, or a key that isn't above those before it
 pub returns-then-len-eq-TABLE_PAIRS-clause-none : goal.returns-then-len-eq-TABLE_PAIRS-clause-none
-returns-then-len-eq-TABLE_PAIRS-clause-none c _ w form same =
+returns-then-len-eq-TABLE_PAIRS-clause-none c _ w form _ same =
     elim c.then-len-eq-TABLE_PAIRS.branch [
       | then-len-eq-TABLE_PAIRS-via-then-len-eq-TABLE_PAIRS taken ↦
           no_table c.loop-pair.pairs.items c.loop-pair.rest.now c.args.payload.now c.loop-pair.invariant.front
@@ -35,7 +35,7 @@ loop-pair-preserved c = record {
 
 -- fewer bytes than a pair has
 pub returns-then-not-is_empty-clause-none : goal.returns-then-not-is_empty-clause-none
-returns-then-not-is_empty-clause-none c _ w form same =
+returns-then-not-is_empty-clause-none c _ w form _ same =
     no_table c.loop-pair.pairs.items c.loop-pair.rest.now c.args.payload.now c.loop-pair.invariant.front
     (λ _. rw c.in_default.is at c.take_pair.ensures.bytes)
     (grind (arith, nat_tests)) w form same

@@ -79,7 +79,7 @@ pub returns-in-Err-clause-bad : goal.returns-in-Err-clause-bad
 returns-in-Err-clause-bad g c w is =
     let same : c.in-Err.end ≡ ending.Bad w = let h = is in cc in
     let found = c.in-Err.ensures.bad w (ap Err same) in
-    (⊎_elim (λ long. inr long) (λ short. inl (c.if-is_full.ensures short)) (cases_lt 200 (length c.args.line.now)), found.0, found.1)
+    (⊎_elim (λ long. inr long) (λ short. inl (c.if-is_full.ensures short)) (cases_lt 500 (length c.args.line.now)), found.0, found.1)
 
 -- ---- what the line did to the disks
 

@@ -16,4 +16,4 @@ invariant-loop-buffer g l = record {
 }
 
 abbrev pub decreases-loop-buffer : goal.decreases-loop-buffer
-decreases-loop-buffer g l = 20100201 - l.came
+decreases-loop-buffer g l = 50100501 - l.came

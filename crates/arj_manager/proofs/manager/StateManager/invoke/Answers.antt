@@ -1,4 +1,6 @@
-use Rattle.std.proofs.Common.{refl, sym}
+use Rattle.std.proofs.Common.{rules, ◌≡◌, ◌∙◌, ap, refl, sym, Some}
+use Rattle.arj_protocol.specs.Order.{at_number}
+use Rattle.arj_manager.specs.Manager.{invoke_at}
 use Rattle.arj_manager.proofs.Puts.{on_err, put_same, put_ran}
 use Rattle.arj_manager.proofs.Upkeep.{fault_indexed, ran_indexed}
 use Rattle.arj_manager.proofs.manager.StateManager.invoke.Goals as goal
@@ -45,3 +47,9 @@ pub invariant_of-self-2 : goal.invariant_of-self-2
 invariant_of-self-2 c =
     ran_indexed c.self.inside.index c.note.new.index 0 c.args.path.now c.args.x c.args.op.now c.in-Some.object.now c.run.new.self c.self.inside.objects.entries (c.get_mut.follows.lender c.run.new.self).entries c.get_mut.ensures.ordered
     (sym c.in-Some.ensures.value) (c.get_mut.follows.holds c.run.new.self).0 c.in_ok-ran.ensures.ran.part c.in_ok-note.ensures.here c.note.ensures.stays c.self.invariant
+
+-- what is against it is what the copy would say
+pub returns-in_err-mode-clause-named : goal.returns-in_err-mode-clause-named
+returns-in_err-mode-clause-named c holder held is n =
+    let at : at_number c.args.x c.args.self.now ≡ Some c.in-Some.object.now = ap (at_number c.args.x) (sym c.self.view_is) ∙ sym c.in-Some.ensures.value in
+    ap (λ found. (invoke_at n c.args.path.now c.args.x c.args.op.now c.args.self.now found).reply) at ∙ c.in_err-mode.ensures.named holder held (grind rules) n

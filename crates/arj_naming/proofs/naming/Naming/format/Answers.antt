@@ -23,25 +23,25 @@ first_entries-requires g c =
       servers = o.servers;
       stores =
           o.stores;
-    }))) (sym c.as_slice.ensures) (header_saves c.args.header.now c.requires.header (firsts c.args.header.now.objects) refl)
+    }))) (sym c.as_slice.ensures) (header_saves c.args.header.now c.requires.header (firsts c.args.header.now.format c.args.header.now.objects) refl)
 
 pub format-requires-clause-states : goal.format-requires-clause-states
 format-requires-clause-states g c =
-    header_distinct c.args.header.now c.requires.header c.in_ok-states.states (c.in_ok-states.ensures ∙ ap firsts c.as_slice.ensures)
+    header_distinct c.args.header.now c.requires.header c.in_ok-states.states (c.in_ok-states.ensures ∙ ap (firsts c.args.header.now.format) c.as_slice.ensures)
 
 pub format-requires-clause-count : goal.format-requires-clause-count
 format-requires-clause-count g c =
-    header_few c.args.header.now c.requires.header c.in_ok-states.states (c.in_ok-states.ensures ∙ ap firsts c.as_slice.ensures)
+    header_few c.args.header.now c.requires.header c.in_ok-states.states (c.in_ok-states.ensures ∙ ap (firsts c.args.header.now.format) c.as_slice.ensures)
 
 pub format-requires-clause-sizes : goal.format-requires-clause-sizes
 format-requires-clause-sizes g c =
-    header_sizes c.args.header.now c.requires.header c.in_ok-states.states (c.in_ok-states.ensures ∙ ap firsts c.as_slice.ensures)
+    header_sizes c.args.header.now c.requires.header c.in_ok-states.states (c.in_ok-states.ensures ∙ ap (firsts c.args.header.now.format) c.as_slice.ensures)
 
 pub recovered-requires : goal.recovered-requires
 recovered-requires g c =
     let hd = c.args.header.now in
     let ss = c.in_ok-states.states in
-    let are : ss ≡ firsts hd.objects = c.in_ok-states.ensures ∙ ap firsts c.as_slice.ensures in
+    let are : ss ≡ firsts hd.format hd.objects = c.in_ok-states.ensures ∙ ap (firsts c.args.header.now.format) c.as_slice.ensures in
     let f : Found = record { committed = ss; prepared = c.new.result } in
     first_found f (header_all hd c.requires.header ss are) (header_rises hd c.requires.header ss are) c.new.ensures
 
@@ -55,19 +55,19 @@ returns-in_err-states-clause-formed g c = (g.met.O.ObjectStore.blank Names (g.D.
 
 pub returns-in_err-store-clause-fault : goal.returns-in_err-store-clause-fault
 returns-in_err-store-clause-fault g c =
-    on_err c.from_residual-in_err-store.result (subst (HasFirst (g.O.ObjectStore.pair (g.D.Disk.file c.format.new.disk) Names)) (c.in_ok-states.ensures ∙ ap firsts c.as_slice.ensures) c.in_err-store.ensures.fault)
+    on_err c.from_residual-in_err-store.result (subst (HasFirst (g.O.ObjectStore.pair (g.D.Disk.file c.format.new.disk) Names)) (c.in_ok-states.ensures ∙ ap (firsts c.args.header.now.format) c.as_slice.ensures) c.in_err-store.ensures.fault)
 
 -- all of them are there
 pub returns-in_err-memory-clause-fault : goal.returns-in_err-memory-clause-fault
 returns-in_err-memory-clause-fault g c =
     let q = g.O.ObjectStore.pair (g.D.Disk.file c.format.new.disk) Names in
-    on_err c.from_residual-in_err-memory.result (subst (HasFirst q) (c.in_ok-states.ensures ∙ ap firsts c.as_slice.ensures) (length c.in_ok-states.states, subst (HasOnly q) (sym (take-length c.in_ok-states.states)) c.in_ok-store.ensures.pair))
+    on_err c.from_residual-in_err-memory.result (subst (HasFirst q) (c.in_ok-states.ensures ∙ ap (firsts c.args.header.now.format) c.as_slice.ensures) (length c.in_ok-states.states, subst (HasOnly q) (sym (take-length c.in_ok-states.states)) c.in_ok-store.ensures.pair))
 
 pub returns-clause-stands : goal.returns-clause-stands
 returns-clause-stands g c =
     let hd = c.args.header.now in
     let ss = c.in_ok-states.states in
-    let are : ss ≡ firsts hd.objects = c.in_ok-states.ensures ∙ ap firsts c.as_slice.ensures in
+    let are : ss ≡ firsts hd.format hd.objects = c.in_ok-states.ensures ∙ ap (firsts c.args.header.now.format) c.as_slice.ensures in
     let f : Found = record { committed = ss; prepared = c.new.result } in
     let q = g.O.ObjectStore.pair (g.D.Disk.file c.format.new.disk) Names in
     record {
@@ -81,7 +81,7 @@ pub returns-clause-pair : goal.returns-clause-pair
 returns-clause-pair g c =
     let hd = c.args.header.now in
     let ss = c.in_ok-states.states in
-    let are : ss ≡ firsts hd.objects = c.in_ok-states.ensures ∙ ap firsts c.as_slice.ensures in
+    let are : ss ≡ firsts hd.format hd.objects = c.in_ok-states.ensures ∙ ap (firsts c.args.header.now.format) c.as_slice.ensures in
     let f : Found = record { committed = ss; prepared = c.new.result } in
     let pair : pair_found f ≡ (first_disk hd 1).names =
     (λ i. record { held = by_uid ss; pend = c.new.ensures i }) ∙ header_pair hd c.requires.header ss are in
@@ -91,7 +91,7 @@ pub returns-clause-part : goal.returns-clause-part
 returns-clause-part g c =
     let hd = c.args.header.now in
     let ss = c.in_ok-states.states in
-    let are : ss ≡ firsts hd.objects = c.in_ok-states.ensures ∙ ap firsts c.as_slice.ensures in
+    let are : ss ≡ firsts hd.format hd.objects = c.in_ok-states.ensures ∙ ap (firsts c.args.header.now.format) c.as_slice.ensures in
     let f : Found = record { committed = ss; prepared = c.new.result } in
     let pair : pair_found f ≡ (first_disk hd 1).names =
     (λ i. record { held = by_uid ss; pend = c.new.ensures i }) ∙ header_pair hd c.requires.header ss are in
@@ -101,7 +101,7 @@ pub returns-clause-entries : goal.returns-clause-entries
 returns-clause-entries g c =
     let hd = c.args.header.now in
     let ss = c.in_ok-states.states in
-    let are : ss ≡ firsts hd.objects = c.in_ok-states.ensures ∙ ap firsts c.as_slice.ensures in
+    let are : ss ≡ firsts hd.format hd.objects = c.in_ok-states.ensures ∙ ap (firsts c.args.header.now.format) c.as_slice.ensures in
     let f : Found = record { committed = ss; prepared = c.new.result } in
     let q = g.O.ObjectStore.pair (g.D.Disk.file c.format.new.disk) Names in
     gives_entries q (pair_found f) (only_pair f (header_all hd c.requires.header ss are) (header_rises hd c.requires.header ss are) c.new.ensures q c.in_ok-store.ensures.pair) (record { held = each_by_uid ss (header_all hd c.requires.header ss are); pend = (first_found f (header_all hd c.requires.header ss are) (header_rises hd c.requires.header ss are) c.new.ensures).prepared })

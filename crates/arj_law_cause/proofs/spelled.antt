@@ -1,0 +1,18 @@
+-- What is sent in a run can be spelled: a node that tests each message before it hands it out finds no list that is too long, but for the
+-- states of a vote, and no number of an object or a node that isn't one.
+--
+-- Lists are short (`Lists`, `Onces`, `Plans`, `Commits`, `Tolds`, `Names`) and about objects and nodes (`Requests`, `Replies`). Operations
+-- are in form (`Operations`), so the values of copies are (`Servers`), and states restore wherever they are (`Saves`, `Saving`).
+pub mod Lists
+pub mod Onces
+pub mod Plans
+pub mod Commits
+pub mod Requests
+pub mod Replies
+pub mod Tolds
+pub mod Servers
+pub mod Saves
+pub mod Saving
+pub mod Names
+pub mod Operations
+pub mod Messages

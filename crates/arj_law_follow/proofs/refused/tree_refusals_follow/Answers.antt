@@ -1,5 +1,0 @@
-use Rattle.arj_law_follow.proofs.causes.Refusing.{trees_are_followed}
-use Rattle.arj_law_follow.proofs.refused.tree_refusals_follow.Goals as goal
-
-pub returns : goal.returns
-returns c = record { runs = λ hd r form. trees_are_followed hd r form }

@@ -1,2 +1,0 @@
-pub mod causes
-pub mod lines

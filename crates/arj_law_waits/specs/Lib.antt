@@ -1,2 +1,0 @@
-pub mod waiting
-pub mod replies
