@@ -181,7 +181,7 @@ pub fn replayed(alloc: Global, pieces: &[&[u8]], feeding: Feeding) -> Result<Cam
 #[test]
 fn scripts(rt: HostRuntime) -> Result<(), Fail> {
     let alloc = rt.alloc();
-    let long = [b'#'; 201];
+    let long = [b'#'; 501];
     for (script, status, why, has_world, output) in [
         (
             b"".as_slice(),
@@ -257,12 +257,12 @@ fn inputs_in_pieces(rt: HostRuntime) -> Result<(), Fail> {
     Ok(())
 }
 
-// A line of 201 bytes is bad as soon as its last byte is there, over two pieces too.
+// A line of 501 bytes is bad as soon as its last byte is there, over two pieces too.
 #[test]
 fn a_line_over_two_pieces(rt: HostRuntime) -> Result<(), Fail> {
     let alloc = rt.alloc();
-    let long = [b'#'; 201];
-    for (chunk, next) in [(150, None), (1, Some(b'x'))] {
+    let long = [b'#'; 501];
+    for (chunk, next) in [(400, None), (1, Some(b'x'))] {
         let feeding = Feeding { chunk, ..SURE };
         let came = replayed(alloc, [long.as_slice(), b"x\n"].as_slice(), feeding)?;
         assert_eq!(rt; came.status, 2);
