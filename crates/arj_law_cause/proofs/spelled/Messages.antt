@@ -1,4 +1,4 @@
--- Each message that was sent can be spelled, but for what is left to say of it.
+-- Each message that was sent can be spelled: where events are in form, and else but for what is left to say of it.
 use Rattle.arj_law_parts.proofs.Words
 use Words.{◌≡◌, ◌≤◌, ◌∙◌, arith, ℕ, List, length, Option, Some, None, AllByRecursion, refl, sym, ap, subst, false, true, Ask, Asked}
 use Words.{Binding, BoundReply}
@@ -28,7 +28,8 @@ use Rattle.arj_law_cause.proofs.spelled.Operations.{ops_in_form}
 use Rattle.arj_law_cause.proofs.spelled.Saves.{AreOpsIn, F, MessageSaves}
 use Rattle.arj_law_cause.proofs.spelled.Saving.{SavesWhere, saves_keep}
 use Rattle.arj_law_cause.proofs.spelled.Tolds.{ToldFew, ToldsFew, tolds_keep}
-use Rattle.arj_law_cause.specs.spelled.Spelled.{AreSendable, AreSpelled, IsLeft, IsLeftThen, RunsInFormSpell, RunsSpell, VotesFew}
+use Rattle.arj_law_cause.proofs.spelled.Votes.{IsVotedFew, VotesAreFew, votes_keep}
+use Rattle.arj_law_cause.specs.spelled.Spelled.{AreSendable, AreSpelled, IsLeft, RunsInFormSpell, RunsSpell, VoteRestores}
 use Rattle.arj_msg.specs.InForm.{AreFew, IsNode, IsObject}
 use Rattle.arj_msg.specs.Sendable.{BoundSends, ConfirmedSends, IsSendable, LoadedSends, PreparedSends, VotedSends}
 use Rattle.arj_text.proofs.Values.{op_in_form}
@@ -79,8 +80,15 @@ module _ (hd : Header) (form : HeaderInForm hd) where
       (λ M all. good M all.0) of_requests)
       (λ k d t M all. few_ends t.coord.tree (let s = all.0 in let n = s.0 in let z = n.0 in room hd form k d t M z.0))
 
-  keep : KeepsAsked hd (λ M. Told M × SavesWhere M)
-  keep = saves_keep hd form Told told_keep (λ M all. good M (let s = all.0 in let n = s.0 in n.0))
+  abbrev Counted : Seen → Type 0
+  Counted M = Told M × VotesAreFew M
+
+  counted_keep : KeepsAsked hd Counted
+  counted_keep = votes_keep hd Told told_keep (λ M all. good M (let s = all.0 in let n = s.0 in n.0))
+      (λ k d t M all. let s = all.0 in let n = s.0 in let z = n.0 in let b = z.0 in room hd form k d t M b.0)
+
+  keep : KeepsAsked hd (λ M. Counted M × SavesWhere M)
+  keep = saves_keep hd form Counted counted_keep (λ M all. good M (let t = all.0 in let s = t.0 in let n = s.0 in n.0))
 
   -- ---- kind by kind
 
@@ -105,11 +113,16 @@ module _ (hd : Header) (form : HeaderInForm hd) where
   confirmed_sends (confirmed.NoStores x) fit = fit
   confirmed_sends (confirmed.Listed x n) fit = fit
 
+  voted_sends : (r : VotedReply) → ((states : List ObjectState) → r ≡ voted.Yes states → length states ≤ 16) → VoteRestores r → VotedSends r
+  voted_sends (voted.Yes states) few all = let most = few states refl in (omega (arith, most), all)
+  voted_sends (voted.Changed w) few all = tt
+
   -- what is known of a message that was sent
   pub record IsKnownSo (p : Post) : Type 0 where
     pub asked : (h : Head) (a : Ask) → asks p.message ≡ Some (h, a) → AskFits hd a × AreShort a
     pub said : (a : Asked) (r : Reply) → answers p.message ≡ Some (a, r) → ReplyFits r
     pub told : ToldFew p.message
+    pub voted : IsVotedFew p.message
     pub address : PostOf (IsOfHeader hd) p
     pub hello : (from : ℕ) → p.from ≡ from → IsOfHeader hd from
 
@@ -152,7 +165,8 @@ module _ (hd : Header) (form : HeaderInForm hd) where
   sends p (message.Activated m) is k own left = tt
   sends p (message.Recorded m) is k own left = tt
   sends p (message.Invoked m) is k own left = left
-  sends p (message.Voted m) is k own left = left
+  sends p (message.Voted m) is k own left = voted_sends m.reply
+      (λ states same. k.voted m.asked states (ap answers is ∙ ap (λ (r : VotedReply). Some (m.asked, Reply.Voted r)) same)) left
   sends p (message.Told m) is k own left = subst ToldFew is k.told
   sends p (message.Acked m) is k own left = tt
   sends p (message.Query m) is k own left = tt
@@ -164,28 +178,31 @@ loaded_left : (r : LoadedReply) → ReplyIsSo F (Reply.Loaded r) → LoadedSends
 loaded_left (loaded.State st) its = its
 loaded_left (loaded.InDoubt h) its = tt
 
-voted_left : (r : VotedReply) → ReplyIsSo F (Reply.Voted r) → VotesFew r → VotedSends r
-voted_left (voted.Yes states) its few = (few, its)
-voted_left (voted.Changed w) its few = tt
+voted_left : (r : VotedReply) → ReplyIsSo F (Reply.Voted r) → VoteRestores r
+voted_left (voted.Yes states) its = its
+voted_left (voted.Changed w) its = tt
 
 left_of : (m : Message) → MessageSaves m → ((h : Head) (x : ℕ) (b : Binding) (i : ℕ) (ends : List (Uid × End)) (o : Op) →
-    asks m ≡ Some (h, ask.Invoke x b i ends o) → OpTextInForm o) → IsLeftThen m → IsLeft m
-left_of (message.Loaded m) s ops few = let z = s.0 in loaded_left m.reply z.1
-left_of (message.Activate m) s ops few = let z = s.0 in z.0
-left_of (message.Invoke m) s ops few = op_in_form m.op (ops m.head m.x m.binding m.server_inc m.ends m.op refl)
-left_of (message.Invoked m) s ops few = s.1 m.asked m.reply refl
-left_of (message.Voted m) s ops few = let z = s.0 in voted_left m.reply z.1 few
-left_of (message.Prepare m) s ops few = let z = s.0 in z.0
-left_of m s ops few = tt
+    asks m ≡ Some (h, ask.Invoke x b i ends o) → OpTextInForm o) → IsLeft m
+left_of (message.Loaded m) s ops = let z = s.0 in loaded_left m.reply z.1
+left_of (message.Activate m) s ops = let z = s.0 in z.0
+left_of (message.Invoke m) s ops = op_in_form m.op (ops m.head m.x m.binding m.server_inc m.ends m.op refl)
+left_of (message.Invoked m) s ops = s.1 m.asked m.reply refl
+left_of (message.Voted m) s ops = let z = s.0 in voted_left m.reply z.1
+left_of (message.Prepare m) s ops = let z = s.0 in z.0
+left_of m s ops = tt
 
 -- ---- in every run
 
-module _ (hd : Header) (form : HeaderInForm hd) (w : World) (h : Holds hd (λ M. Told hd form M × SavesWhere M) w) where
+module _ (hd : Header) (form : HeaderInForm hd) (w : World) (h : Holds hd (λ M. Counted hd form M × SavesWhere M) w) where
   abbrev M : Seen
   M = see h.sent w
 
+  counted : Counted hd form M
+  counted = let k = h.holds in k.0
+
   told : Told hd form M
-  told = let k = h.holds in k.0
+  told = let k = counted in k.0
 
   short : Short hd form M
   short = let t = told in let s = t.0 in let n = s.0 in n.0
@@ -209,6 +226,7 @@ module _ (hd : Header) (form : HeaderInForm hd) (w : World) (h : Holds hd (λ M.
     asked = λ z a is. (fits hd form M short p z a there is, short.1 p z a there is);
     said = λ a z is. (let t = told in let s = t.0 in s.1 p a z there is);
     told = (let t = told in t.1 p there);
+    voted = (let k = counted in let v = k.1 in v.2 p there);
     address = address p there;
     hello = λ from same. subst (IsOfHeader hd) same (let a = address p there in a.0);
   }
@@ -223,17 +241,17 @@ module _ (hd : Header) (form : HeaderInForm hd) (w : World) (h : Holds hd (λ M.
   restored ops = record {
     sent = h.sent;
     stands = h.stands;
-    holds = λ older p there few. let k = h.holds in let all = k.1 (older, ops) in
-        its p there (left_of p.message (all.1 p there) (λ z x b i ends o is. ops p z x b i ends o there is) few);
+    holds = λ older p there. let k = h.holds in let all = k.1 (older, ops) in
+        its p there (left_of p.message (all.1 p there) (λ z x b i ends o is. ops p z x b i ends o there is));
   }
 
 pub runs_spell : RunsSpell
-runs_spell hd form r = spelled hd form (world_by hd r) (moves_asked hd (λ M. Told hd form M × SavesWhere M) (keep hd form) r)
+runs_spell hd form r = spelled hd form (world_by hd r) (moves_asked hd (λ M. Counted hd form M × SavesWhere M) (keep hd form) r)
 
 pub runs_in_form : RunsInFormSpell
 runs_in_form hd r form =
     let header = form.header in
-    let h = ops_in_form hd (λ M. Told hd header M × SavesWhere M) (keep hd header)
-    (λ M all. good hd header M (let t = all.0 in let s = t.0 in let n = s.0 in n.0)) r form in
+    let h = ops_in_form hd (λ M. Counted hd header M × SavesWhere M) (keep hd header)
+    (λ M all. good hd header M (let c = all.0 in let t = c.0 in let s = t.0 in let n = s.0 in n.0)) r form in
     restored hd header (world_by hd r) (record { sent = h.sent; stands = h.stands; holds = (let b = h.holds in b.0) })
     (λ p z x b i ends o there is. (let k = h.holds in k.1 p z (ask.Invoke x b i ends o) there is))
