@@ -4,3 +4,4 @@ pub mod rows
 pub mod kinds
 pub mod operations
 pub mod spelled
+pub mod told

@@ -1,9 +1,10 @@
 //! Why the journal says what it says, in its own words: what each event writes, what waits, and why each line stands.
 //!
 //! `follow/` has what events write, `waits/` what actions wait for, `rows/` answers with their causes, `operations/` of which
-//! operation an answer is, `kinds/` lines of one kind with their causes, `spelled/` that what is sent can be spelled.
+//! operation an answer is, `kinds/` lines of one kind with their causes, `spelled/` that what is sent can be spelled, `told/` all
+//! that a journal says of why it is so, put together.
 //!
-//! What it gives upward: `tree_refusals_follow`, `object_refusals_follow`, `refusals_follow`, `lines_follow`; `waits_are_those_of_journals`,
+//! What it gives upward: `journals_tell_their_causes`; `tree_refusals_follow`, `object_refusals_follow`, `refusals_follow`, `lines_follow`; `waits_are_those_of_journals`,
 //! `waiting_refusals_follow`, `answers_end_what_waits`, `commits_end_what_waits`, `giveups_lose_calls`; `conflicts_are_met`,
 //! `answers_have_causes`, `answers_are_of_their_operations`; `frame_lines_have_causes`, `stops_have_causes`, `restarts_have_causes`,
 //! `limits_have_causes`, `plain_refusals_have_causes`, `commits_done_have_causes`, `quiesces_have_causes`, `recoveries_have_causes`;
@@ -15,6 +16,7 @@ mod causes;
 mod messages;
 mod met;
 mod refused;
+mod telling;
 mod waiting;
 mod written;
 
@@ -27,6 +29,7 @@ pub use causes::{
 pub use messages::messages_can_be_spelled;
 pub use met::conflicts_are_met;
 pub use refused::{object_refusals_follow, refusals_follow, tree_refusals_follow};
+pub use telling::journals_tell_their_causes;
 pub use waiting::{
     answers_end_what_waits, commits_end_what_waits, giveups_lose_calls, waiting_refusals_follow,
     waits_are_those_of_journals,

@@ -49,9 +49,11 @@ use Rattle.arj_model.specs.Follows.{Accepted, Runs, is_limited}
 use Rattle.arj_model.specs.Follows as model_step
 use Rattle.arj_model.specs.Own as own
 use Rattle.arj_model.specs.Own.{Begins, Ends, MayMeetLimit, halts_fit, may_stand}
-use Rattle.arj_model.specs.Past.{Asked as AskedOf, Past, asked_of, block, is_refused, next}
+use Rattle.arj_model.specs.Past.{Asked as AskedOf, Past, asked_of, at_start, block, is_refused, next}
 use Rattle.arj_model.specs.Refusals as model
 use Rattle.arj_promise.specs.Runs.{IsStoppedInForm, Run}
+use Rattle.arj_promise.specs.Starts.{IsFormed}
+use Rattle.arj_start.specs.Start.{Start}
 use Rattle.arj_protocol.specs.World as world
 use Rattle.std.specs.Prelude.{MatchOption}
 use Rattle.arj_law_cause.proofs.follow.lines.Several.{AllStand, all_quiesced, settle_stands, stands}
@@ -509,12 +511,12 @@ module _ (hd : Header) (form : HeaderInForm hd) where
       turned turn (IsRun none isnt lines) x = turn_next hd p (event_of m) bodies (x.lines isnt) turn
 
   -- the run stands so at each event, and its actions are in turn
-  record Turned (p : Past) (w : World) : Type 0 where
+  pub record Turned (p : Past) (w : World) : Type 0 where
     pub base : shorts.Stands hd form p w
     pub turn : AreInTurn (terms.acts p.lines)
     pub rising : Holds hd KnowsRising w
 
-  goes : (m : Move) (p : Past) (w : World) → IsStoppedInForm m → Turned p w → w.over ≡ false → Outcome (LinesStep hd) Turned m p w
+  pub goes : (m : Move) (p : Past) (w : World) → IsStoppedInForm m → Turned p w → w.over ≡ false → Outcome (LinesStep hd) Turned m p w
   goes m p w stops x on = by (shorts.goes hd form m p w stops s on) (frames.goes hd form m p w stops s.base.base on)
     where
       s : shorts.Stands hd form p w
@@ -540,14 +542,17 @@ module _ (hd : Header) (form : HeaderInForm hd) where
               let y = follows m p w stops s on bodies fits_too x.turn x.rising g.0 step in
               Went bodies y (record { base = after; turn = turned m p w stops s on bodies fits_too x.turn g.0 y; rising = moved_rising })
 
+  pub first_turned : (st : Start) → IsFormed hd st → Turned (at_start st) (world_from hd st)
+  first_turned st formed = record {
+    base = shorts.first_stands hd form st formed;
+    turn = tt;
+    rising = first_asked hd st KnowsRising formed (keeps_asked hd KnowsRising (rising_keep hd));
+  }
+
 pub lines_follow : (hd : Header) (r : Run hd) → IsInForm hd r → Runs (LinesStep hd) r.start (run_events hd r) (journal_by hd r)
 lines_follow hd r form =
     runs_along (LinesStep hd) (Turned hd form.header) IsStoppedInForm
     (λ p w x. (let s : shorts.Stands hd form.header p w = x.base in s.base.base.lines))
     (λ p w x. (let s : shorts.Stands hd form.header p w = x.base in s.base.base.count))
     (λ m p w stops x on. goes hd form.header m p w stops x on) r.start r.moves (world_from hd r.start) form.stops
-    (record {
-      base = shorts.first_stands hd form.header r.start r.formed;
-      turn = tt;
-      rising = first_asked hd r.start KnowsRising r.formed (keeps_asked hd KnowsRising (rising_keep hd));
-    })
+    (first_turned hd form.header r.start r.formed)

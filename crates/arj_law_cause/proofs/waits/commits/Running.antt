@@ -6,7 +6,7 @@ use Rattle.arj_law_parts.specs.moves.Moments.{Moment}
 use Rattle.arj_law_runs.proofs.follow.Refusing.{same_bodies}
 use Rattle.arj_model.specs.Past.{Asked as AskedOf, Past, asked_of, block}
 use Rattle.arj_law_cause.proofs.waits.waiting.Along.{IsMoment, runs_give}
-use Rattle.arj_law_cause.proofs.waits.commits.Fitting.{EndsFit, FitIn, LinesFit, all_keep}
+use Rattle.arj_law_cause.proofs.waits.commits.Fitting.{All, EndsFit, FitIn, LinesFit, all_keep}
 use Rattle.arj_law_cause.specs.waits.commits.Commits.{CommitsEndWaits, CommitsFit, CommitsFitIn, CommitsStep, calls_commit}
 
 -- what fits whatever was asked fits
@@ -35,7 +35,11 @@ fits hd p e bodies M m h =
     (subst (λ n. FitIn (calls_commit M.past.event) M.past.run.lines n bodies) m.number
     (subst (FitIn (calls_commit M.past.event) M.past.run.lines M.past.number) same h.fit))))
 
+pub refused_so : (hd : Header) (p : Past) (e : Event) (c : ℕ) → CommitsStep hd p e (body.Refused c ∷ [])
+refused_so hd p e c = refused_fits p.start (p.accepted ++ asked_of p e ∷ []) (calls_commit e) p.lines (p.count + 1) c
+
+pub gives : (hd : Header) (p : Past) (e : Event) (bodies : List Body) (M : Moment) → IsMoment p e bodies M → All M → CommitsStep hd p e bodies
+gives hd p e bodies M m h = fits hd p e bodies M m h.1
+
 pub commits_end : CommitsEndWaits
-commits_end hd r form = runs_give hd form.header _ (all_keep hd) (CommitsStep hd)
-    (λ p e c. refused_fits p.start (p.accepted ++ asked_of p e ∷ []) (calls_commit e) p.lines (p.count + 1) c)
-    (λ p e bodies M m h. fits hd p e bodies M m h.1) r form
+commits_end hd r form = runs_give hd form.header All (all_keep hd) (CommitsStep hd) (refused_so hd) (gives hd) r form

@@ -28,7 +28,7 @@ module _ (hd : Header) (form : HeaderInForm hd) where
   abbrev Objects : Past → World → Type 0
   Objects p w = early.Inv hd form p w × objects.Inv hd form p w
 
-  abbrev Inv : Past → World → Type 0
+  abbrev pub Inv : Past → World → Type 0
   Inv p w = Trees p w × Objects p w
 
   abbrev TreesStep : Past → Event → List Body → Type 0
@@ -64,7 +64,7 @@ module _ (hd : Header) (form : HeaderInForm hd) where
   all_go m p w stops s on = both_go TreesStep ObjectsStep Trees Objects (λ q v z. lines_plain q v z.0) (λ q v z. lines_early q v z.0) m p w
       (trees_go m p w stops s.0 on) (objects_go m p w stops s.1 on)
 
-  goes : (m : Move) (p : Past) (w : World) → IsStoppedInForm m → Inv p w → w.over ≡ false → Outcome (RefusalsStep hd) Inv m p w
+  pub goes : (m : Move) (p : Past) (w : World) → IsStoppedInForm m → Inv p w → w.over ≡ false → Outcome (RefusalsStep hd) Inv m p w
   goes m p w stops s on = by (all_go m p w stops s on)
     where
       by : Outcome AllStep Inv m p w → Outcome (RefusalsStep hd) Inv m p w
@@ -72,7 +72,7 @@ module _ (hd : Header) (form : HeaderInForm hd) where
       by (Went bodies step after) =
           Went bodies (causes.all_known hd p (event_of m) bodies step.0.0 step.0.1 step.1.0 step.1.1) after
 
-  first_stands : (st : Start) → IsFormed hd st → Inv (at_start st) (world_from hd st)
+  pub first_stands : (st : Start) → IsFormed hd st → Inv (at_start st) (world_from hd st)
   first_stands st formed = (
     (plains.first_stands hd form st formed, trees.first_stands hd form st formed),
     ((no_history st, running.first_stands hd form st formed), (no_history st, objects.first_stands hd form st formed)),

@@ -83,10 +83,10 @@ module _ (hd : Header) (form : HeaderInForm hd) where
     fits bodies (IsRun free isnt lines) count = run_fits bodies (running.granted hd form m g p w stops s.base on free count) lines
 
 -- the run up to an event, with some history
-abbrev Inv : (hd : Header) → HeaderInForm hd → Past → World → Type 0
+abbrev pub Inv : (hd : Header) → HeaderInForm hd → Past → World → Type 0
 Inv hd form p w = (g : History) × Stands hd form g p w
 
-goes : (hd : Header) (form : HeaderInForm hd) (m : Move) (p : Past) (w : World) → IsStoppedInForm m → Inv hd form p w → w.over ≡ false →
+pub goes : (hd : Header) (form : HeaderInForm hd) (m : Move) (p : Past) (w : World) → IsStoppedInForm m → Inv hd form p w → w.over ≡ false →
     Outcome (RepliesStep hd) (Inv hd form) m p w
 goes hd form m p w stops s on = by (running.leaves hd form m s.0 p w stops (let z = s.1 in z.base) on)
   where
@@ -99,7 +99,7 @@ goes hd form m p w stops s on = by (running.leaves hd form m s.0 p w stops (let 
         )
     by (Stopped over event lines past nodes) = Ended over event lines
 
-first_stands : (hd : Header) (form : HeaderInForm hd) (st : Start) → IsFormed hd st → Stands hd form (no_history st) (at_start st)
+pub first_stands : (hd : Header) (form : HeaderInForm hd) (st : Start) → IsFormed hd st → Stands hd form (no_history st) (at_start st)
     (world_from hd st)
 first_stands hd form st formed = record {
   base = running.first_stands hd form st formed;

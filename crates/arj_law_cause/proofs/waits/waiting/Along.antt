@@ -92,10 +92,10 @@ module _ (hd : Header) (form : HeaderInForm hd) (P : Moment → Type 0) (keep : 
     its_step bodies (IsRun free isnt lines) count = run_gives bodies (running.granted hd form m g p w stops s.base on free count) lines
 
   -- the run up to an event, with some history
-  abbrev Inv : Past → World → Type 0
+  abbrev pub Inv : Past → World → Type 0
   Inv p w = (g : History) × Stands g p w
 
-  goes : (m : Move) (p : Past) (w : World) → IsStoppedInForm m → Inv p w → w.over ≡ false → Outcome Step Inv m p w
+  pub goes : (m : Move) (p : Past) (w : World) → IsStoppedInForm m → Inv p w → w.over ≡ false → Outcome Step Inv m p w
   goes m p w stops s on = by (running.leaves hd form m s.0 p w stops (let z = s.1 in z.base) on)
     where
       by : Leaves hd form m s.0 p w stops (let z = s.1 in z.base) on → Outcome Step Inv m p w
@@ -107,7 +107,7 @@ module _ (hd : Header) (form : HeaderInForm hd) (P : Moment → Type 0) (keep : 
           )
       by (Stopped over event lines past nodes) = Ended over event lines
 
-  first_stands : (st : Start) → IsFormed hd st → Stands (no_history st) (at_start st) (world_from hd st)
+  pub first_stands : (st : Start) → IsFormed hd st → Stands (no_history st) (at_start st) (world_from hd st)
   first_stands st formed = record {
     base = running.first_stands hd form st formed;
     all = record {

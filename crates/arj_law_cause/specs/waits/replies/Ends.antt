@@ -10,7 +10,8 @@ use Rattle.arj_model.specs.Follows.{IsCallOf, IsIncludeOf, Runs}
 use Rattle.arj_model.specs.Past.{Asked, Past, asked_of, block}
 use Rattle.arj_model.specs.Refusals.{waits_for}
 use Rattle.arj_promise.specs.Runs.{IsInForm, Run, journal_by}
-use Rattle.arj_protocol.specs.Words.{Label, name}
+use Rattle.arj_text.specs.Label.{name}
+use Rattle.arj_text.specs.declared.label.Label.{Label}
 
 -- behind these lines the action with this label waits for nothing more
 abbrev pub NoneWaits : List Asked → List Line → Label → Type 0

@@ -1,0 +1,4 @@
+-- All that laws show of why a journal is so, put together.
+pub mod Assembled
+pub mod Joined
+pub mod Telling

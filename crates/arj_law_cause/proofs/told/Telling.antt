@@ -1,0 +1,51 @@
+-- Each field is a law of its own.
+use Rattle.arj_law_parts.proofs.Words
+use Words.{Header, journal_by}
+use Rattle.arj_law_runs.specs.follow.Frames.{run_events}
+use Rattle.arj_promise.specs.Runs.{IsInForm, Run}
+use Rattle.arj_law_cause.proofs.kinds.Committed.{done_row}
+use Rattle.arj_law_cause.proofs.kinds.Frames.{armed_row, dropped_row, got_row, halted_row, sent_row, void_row}
+use Rattle.arj_law_cause.proofs.kinds.Limit.{limit_row}
+use Rattle.arj_law_cause.proofs.kinds.Quiet.{quiet_row}
+use Rattle.arj_law_cause.proofs.kinds.Recovered.{found_row}
+use Rattle.arj_law_cause.proofs.kinds.Refused.{refused_row}
+use Rattle.arj_law_cause.proofs.kinds.Up.{up_row}
+use Rattle.arj_law_cause.proofs.told.Joined.{events_follow}
+use Rattle.arj_law_cause.proofs.rows.Whole.{answers_are_caused}
+use Rattle.arj_law_cause.proofs.waits.replies.Running.{replies_end}
+use Rattle.arj_law_cause.specs.told.Runs.{JournalsTell}
+use Rattle.arj_law_cause.specs.told.Told.{TellsAnswers, TellsEvents, TellsNodes, TellsWorld}
+
+module _ (hd : Header) (r : Run hd) (form : IsInForm hd r) where
+  events_told : TellsEvents hd r.start (run_events hd r) (journal_by hd r)
+  events_told = record { follows = events_follow hd r form; plain = refused_row hd r form }
+
+  answers_told : TellsAnswers hd r.start (run_events hd r) (journal_by hd r)
+  answers_told = record { replies = replies_end hd r form; causes = answers_are_caused hd r form }
+
+  nodes_told : TellsNodes hd r.start (run_events hd r) (journal_by hd r)
+  nodes_told = record {
+    armed = armed_row hd r form;
+    halted = halted_row hd r form;
+    up = up_row hd r form;
+    found = found_row hd r form;
+    done = done_row hd r form;
+  }
+
+  world_told : TellsWorld hd r.start (run_events hd r) (journal_by hd r)
+  world_told = record {
+    sent = sent_row hd r form;
+    got = got_row hd r form;
+    void = void_row hd r form;
+    dropped = dropped_row hd r form;
+    limit = limit_row hd r form;
+    quiet = quiet_row hd r form;
+  }
+
+pub journals_tell : JournalsTell
+journals_tell hd r form = record {
+  events = events_told hd r form;
+  answers = answers_told hd r form;
+  nodes = nodes_told hd r form;
+  world = world_told hd r form;
+}

@@ -1,0 +1,4 @@
+-- What every journal says of why it is so.
+pub mod Steps
+pub mod Told
+pub mod Runs

@@ -1,0 +1,73 @@
+-- What a journal says of why it is so, by the header, by what the run began with, by its events and its own lines alone. Each field goes
+-- event by event: of an event, of what was before it, and of the lines that it wrote.
+use Rattle.std.specs.Prelude.{List, Bool}
+use Rattle.arj_journal.specs.declared.body.Body.{Body}
+use Rattle.arj_journal.specs.declared.body.Line.{Line}
+use Rattle.arj_journal.specs.declared.event.Event.{Event}
+use Rattle.arj_journal.specs.declared.header.Header.{Header}
+use Rattle.arj_model.specs.CauseSpans.{Here}
+use Rattle.arj_model.specs.Follows.{Runs}
+use Rattle.arj_start.specs.Start.{Start}
+use Rattle.arj_law_cause.specs.kinds.Kinds.{is_armed, is_commit_done, is_dropped, is_found, is_got, is_halted, is_limit, is_plain_refusal}
+use Rattle.arj_law_cause.specs.kinds.Kinds.{is_quiet, is_sent, is_up, is_void}
+use Rattle.arj_law_cause.specs.kinds.Rows.{RowStep}
+use Rattle.arj_law_cause.specs.rows.Lines.{AnswersStep}
+use Rattle.arj_law_cause.specs.told.Steps.{StepSo}
+use Rattle.arj_law_cause.specs.waits.replies.Ends.{RepliesStep}
+
+-- each of these lines has its cause, by the events and the lines before it
+abbrev pub HaveCausesWhere : (Here → Body → Bool) → Header → Start → List Event → List Line → Type 0
+HaveCausesWhere of hd st es journal = Runs (RowStep of hd) st es journal
+
+-- so has each line of a kind
+abbrev pub HaveCauses : (Body → Bool) → Header → Start → List Event → List Line → Type 0
+HaveCauses of hd st es journal = HaveCausesWhere (λ h. of) hd st es journal
+
+-- What each event writes, and for what it is refused.
+pub record TellsEvents (hd : Header) (st : Start) (es : List Event) (journal : List Line) : Type 0 where
+  -- An event is refused for its lowest cause; and where it has none it writes its own lines, between them such as may stand there, each answer
+  -- to what was asked, and its end. Left out is why an action is doomed.
+  pub follows : Runs (StepSo hd) st es journal
+  -- and one that names no action is refused for its cause alone
+  pub plain : HaveCausesWhere is_plain_refusal hd st es journal
+
+-- What calls are answered.
+pub record TellsAnswers (hd : Header) (st : Start) (es : List Event) (journal : List Line) : Type 0 where
+  -- a line that answers a call or an include is to the one that its action waits for, and behind it that waits for none
+  pub replies : Runs (RepliesStep hd) st es journal
+  -- an `ok`, a `conflict` and what is lost have their causes, and what includes and changes has this much of it
+  pub causes : Runs (AnswersStep hd) st es journal
+
+-- What nodes do.
+pub record TellsNodes (hd : Header) (st : Start) (es : List Event) (journal : List Line) : Type 0 where
+  -- a disk is armed where the event arms it
+  pub armed : HaveCauses is_armed hd st es journal
+  -- a node halts in no crash of another one
+  pub halted : HaveCauses is_halted hd st es journal
+  -- it is up in its restart, with an incarnation above the one before
+  pub up : HaveCauses is_up hd st es journal
+  -- which finds records of tops of its own alone, whose commit was called and which no line says was aborted
+  pub found : HaveCauses is_found hd st es journal
+  -- a commit is done of an action that is committed
+  pub done : HaveCauses is_commit_done hd st es journal
+
+-- What goes between nodes, and when a run rests.
+pub record TellsWorld (hd : Header) (st : Start) (es : List Event) (journal : List Line) : Type 0 where
+  -- a frame that is sent has the next number, and is from a node that is up, or from nobody where bytes are handed over
+  pub sent : HaveCauses is_sent hd st es journal
+  -- one that is delivered or lost was sent, and is the one that the event names, or the first that is open; it has an effect where its node
+  -- is up, and none where it may have none
+  pub got : HaveCauses is_got hd st es journal
+  pub void : HaveCauses is_void hd st es journal
+  pub dropped : HaveCauses is_dropped hd st es journal
+  -- a limit is met within an event where as many frames were sent as a run may send
+  pub limit : HaveCauses is_limit hd st es journal
+  -- a quiesce says that all is quiet where every node is up, no frame is open, and no action waits
+  pub quiet : HaveCauses is_quiet hd st es journal
+
+-- What a journal says of why it is so, by subject.
+pub record TellsItsCauses (hd : Header) (st : Start) (es : List Event) (journal : List Line) : Type 0 where
+  pub events : TellsEvents hd st es journal
+  pub answers : TellsAnswers hd st es journal
+  pub nodes : TellsNodes hd st es journal
+  pub world : TellsWorld hd st es journal
