@@ -5,3 +5,4 @@ pub mod kinds
 pub mod operations
 pub mod spelled
 pub mod told
+pub mod form

@@ -2,17 +2,18 @@
 //!
 //! `follow/` has what events write, `waits/` what actions wait for, `rows/` answers with their causes, `operations/` of which
 //! operation an answer is, `kinds/` lines of one kind with their causes, `spelled/` that what is sent can be spelled, `told/` all
-//! that a journal says of why it is so, put together.
+//! that a journal says of why it is so, put together, `form/` which lines are in form.
 //!
 //! What it gives upward: `journals_tell_their_causes`; `tree_refusals_follow`, `object_refusals_follow`, `refusals_follow`, `lines_follow`; `waits_are_those_of_journals`,
 //! `waiting_refusals_follow`, `answers_end_what_waits`, `commits_end_what_waits`, `giveups_lose_calls`; `conflicts_are_met`,
 //! `answers_have_causes`, `answers_are_of_their_operations`; `frame_lines_have_causes`, `stops_have_causes`, `restarts_have_causes`,
 //! `limits_have_causes`, `plain_refusals_have_causes`, `commits_done_have_causes`, `quiesces_have_causes`, `recoveries_have_causes`;
-//! `messages_can_be_spelled`.
+//! `messages_can_be_spelled`, `journals_are_in_form`.
 #![tactic(auto)]
 
 mod answers;
 mod causes;
+mod form;
 mod messages;
 mod met;
 mod refused;
@@ -26,6 +27,7 @@ pub use causes::{
     plain_refusals_have_causes, quiesces_have_causes, recoveries_have_causes, restarts_have_causes,
     stops_have_causes,
 };
+pub use form::journals_are_in_form;
 pub use messages::messages_can_be_spelled;
 pub use met::conflicts_are_met;
 pub use refused::{object_refusals_follow, refusals_follow, tree_refusals_follow};

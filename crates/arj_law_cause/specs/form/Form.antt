@@ -1,0 +1,42 @@
+-- Which lines of a journal are in form, and of which kinds it isn't shown.
+use Rattle.std.specs.Prelude.{◌≡◌, Bool, true, false, List}
+use Rattle.std.specs.List.{AllByRecursion}
+use Rattle.arj_base.specs.declared.mode.End.TheVariants as ending
+use Rattle.arj_journal.specs.LineForm.{LineInForm}
+use Rattle.arj_journal.specs.declared.body.Body.{Body}
+use Rattle.arj_journal.specs.declared.body.Body.TheVariants as body
+use Rattle.arj_journal.specs.declared.body.Cause.TheVariants as cause
+use Rattle.arj_journal.specs.declared.body.Line.{Line}
+use Rattle.arj_journal.specs.declared.header.Header.{Header}
+use Rattle.arj_law_promise.specs.rooms.Actions.{HasIncs}
+use Rattle.arj_promise.specs.Runs.{IsInForm, Run, journal_by}
+
+-- Kinds of lines of which it isn't shown that each is in form. They name an object, a holder, a binding, a version or bytes.
+abbrev pub is_open : Body → Bool
+is_open (body.Ok l x op answer) = true
+is_open (body.Includes l x n) = true
+is_open (body.Conflict l holder mode n) = true
+is_open (body.Changed l n d) = true
+is_open (body.Aborted l cause.Asked) = false
+is_open (body.Aborted l cause.Doomed) = false
+is_open (body.Aborted l (cause.Lost n)) = false
+is_open (body.Aborted l c) = true
+is_open (body.Excluded l x n) = true
+is_open (body.Granted n u o mode) = true
+is_open (body.Lowered n u o) = true
+is_open (body.Bound x b n) = true
+is_open (body.Active n x b) = true
+is_open (body.Told n u ending.Abort part) = true
+is_open (body.Prepared n u role) = true
+is_open (body.Done n u role ending.Abort) = true
+is_open (body.Entry x v servers stores) = true
+is_open (body.Copy n x v u payload) = true
+is_open b = false
+
+-- each other line of the journal is in form
+abbrev pub AreInForm : List Line → Type 0
+AreInForm lines = AllByRecursion (λ (line : Line). is_open line.body ≡ false → LineInForm line) lines
+
+-- So it is of every run in form, where nodes began so far below the last incarnation that no run reaches it.
+abbrev pub RunsAreInForm : Type 0
+RunsAreInForm = (hd : Header) (r : Run hd) → IsInForm hd r → HasIncs r.start → AreInForm (journal_by hd r)
