@@ -2,24 +2,29 @@
 --
 -- A conflict is with the first row that stands against what was asked, and an operation is run in its lock (`Meeting`). Inside of an event
 -- all lines are of it (`Inside`), so tables show locks there, of actions that began (`Holders`), and whoever answers says what the table
--- has (`Telling`). Event by event so it is in whole runs (`Running`).
+-- has (`Telling`). Event by event so it is in whole runs (`Running`), and the first conflicts of tables and of nodes are the same at each
+-- moment (`Agreeing`).
 --
 -- A call ends at its coordinator by the answer that it takes, or given up (`Ending`). There the action waits for what was asked
 -- last, and the answer was made in its span (`Taking`), under its path (`Paths`), where the journal's row finds it (`Spans`, `Rows`); what
--- is given up says so before (`Giving`). So each line of an event fits (`Lined`, `Asks`); and as what is accepted is what coordinators were
+-- is given up says so before (`Giving`). An include that loads was let go on by naming in its top's lock, whatever a coordinator does
+-- (`Loading`), and each node (`Locked`). So each line of an event fits (`Lined`, `Asks`); and as what is accepted is what coordinators were
 -- asked (`Accepting`), each line of a run (`Whole`).
 pub mod Meeting
 pub mod Inside
 pub mod Holders
 pub mod Telling
 pub mod Running
+pub mod Agreeing
 pub mod Ending
 pub mod Taking
 pub mod Paths
 pub mod Spans
+pub mod Loading
 pub mod Rows
 pub mod Giving
 pub mod Asks
+pub mod Locked
 pub mod Lined
 pub mod Accepting
 pub mod Whole

@@ -1,3 +1,4 @@
+pub mod Tables
 pub mod Says
 pub mod Runs
 pub mod Lines

@@ -3,16 +3,16 @@ ghost use Rattle.arj_law_cause.specs.operations.Runs.{RunsAnswerOperations};
 ghost use Rattle.arj_law_cause.specs.rows.Lines.{AnswersHaveCauses};
 
 /// In every run in form, wherever it begins and wherever disks stop, each line that answers a call with what its operation
-/// gave, each that says a conflict, and each that says what was lost, has its cause by the events and the journal before it. It
-/// is of what was asked last of its action, which is open and has no other answer to it. Where a node answered that, in the span
-/// of what was asked, the journal's table of the node had the action's own lock, or the row of this holder in this mode as the
-/// first one against what was asked, at naming against its top: of an action that began, and isn't on the path that asks. And
-/// what is lost was given up in the event, as the line before says. Two answers are left out: of a conflict that a store says,
-/// over a state in doubt, it says that this node answered a Load in the span, and no more; and of what is lost at naming without
-/// a giveup, as where no store is listed, that naming answered a Bind in the span. Of two more lines it says a part: one that
-/// answers an include is of the include that was asked last, of this store for this object; and one that says what changed is
-/// of a call, and an answer of this node or of naming was in the span, or one of some server that it has a copy, unless the
-/// action runs where that is. It does nothing when it runs.
+/// gave, each that answers an include as done, each that says a conflict, and each that says what was lost, has its cause by
+/// the events and the journal before it. It is of what was asked last of its action, which is open and has no other answer to
+/// it. Where a node answered that, in the span of what was asked, the journal's table of the node had the action's own lock, or
+/// the row of this holder in this mode as the first one against what was asked, at naming against its top: of an action that
+/// began, and isn't on the path that asks. An include is of this store for this object, and at some place of its span the
+/// table of naming's node had its top's write lock on the entry. And what is lost was given up in the event, as the line before
+/// says. One answer is left out: of a conflict that a store says, over a state in doubt, it says that this node answered a
+/// Load in the span, and no more. Of one more line it says a part: one that says what changed is of a call, and an answer of
+/// this node or of naming was in the span, or one of some server that it has a copy, unless the action runs where that is. It
+/// does nothing when it runs.
 pub fn answers_have_causes()
     ensures runs { AnswersHaveCauses }
 {}

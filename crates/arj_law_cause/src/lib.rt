@@ -6,9 +6,10 @@
 //!
 //! What it gives upward: `journals_tell_their_causes`; `tree_refusals_follow`, `object_refusals_follow`, `refusals_follow`, `lines_follow`; `waits_are_those_of_journals`,
 //! `waiting_refusals_follow`, `answers_end_what_waits`, `commits_end_what_waits`, `giveups_lose_calls`; `conflicts_are_met`,
-//! `answers_have_causes`, `answers_are_of_their_operations`; `frame_lines_have_causes`, `stops_have_causes`, `restarts_have_causes`,
-//! `limits_have_causes`, `plain_refusals_have_causes`, `commits_done_have_causes`, `quiesces_have_causes`, `recoveries_have_causes`;
-//! `messages_can_be_spelled`, `journals_are_in_form`.
+//! `tables_agree_inside_events`, `answers_have_causes`, `answers_are_of_their_operations`; `frame_lines_have_causes`,
+//! `stops_have_causes`, `restarts_have_causes`, `limits_have_causes`, `plain_refusals_have_causes`, `commits_done_have_causes`,
+//! `quiesces_have_causes`, `recoveries_have_causes`; `messages_can_be_spelled`,
+//! `journals_are_in_form`.
 #![tactic(auto)]
 
 mod answers;
@@ -17,6 +18,7 @@ mod form;
 mod messages;
 mod met;
 mod refused;
+mod tables;
 mod telling;
 mod waiting;
 mod written;
@@ -31,6 +33,7 @@ pub use form::journals_are_in_form;
 pub use messages::messages_can_be_spelled;
 pub use met::conflicts_are_met;
 pub use refused::{object_refusals_follow, refusals_follow, tree_refusals_follow};
+pub use tables::tables_agree_inside_events;
 pub use telling::journals_tell_their_causes;
 pub use waiting::{
     answers_end_what_waits, commits_end_what_waits, giveups_lose_calls, waiting_refusals_follow,

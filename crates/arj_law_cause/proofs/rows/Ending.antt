@@ -30,9 +30,9 @@ use Words.naming
 use Words.prepared
 use Words.recorded
 use Words.server
-use Words.{activated_by, bound_by, finds, load_from, made_by, made_known, moves, named_again, or_lost, other_binding, same_binding}
+use Words.{activated_by, bound_by, finds, made_known, moves, named_again, other_binding, same_binding}
 use Words.{two_incs}
-use Words.{with_inc, write_known, binding_eq, binding_less}
+use Words.{with_inc, binding_eq, binding_less}
 use Rattle.arj_law_lock_view.proofs.asking.Dumb.{abort_dumb, commit_dumb, dumb_both, gaveup_dumb, moved_dumb}
 use Rattle.arj_law_lock_view.specs.asking.Turns.{AreDumb, AreLined, Ends, Rests, Turns, calling}
 
@@ -45,6 +45,11 @@ pub data IsConflict (at : At) (r : Reply) (u : Uid) (m : Mode) (n : ℕ) : Type 
       IsConflict at r u m n
   ByServer : (k : Known) (i : ℕ) → at ≡ AtInvoke k i → r ≡ Reply.Invoked (invoked.Conflict u m) → n ≡ k.server → IsConflict at r u m n
 
+-- the step loads
+abbrev pub is_load : At → Bool
+is_load (AtLoad k s rest) = true
+is_load _ = false
+
 -- A change is what naming's answer to a Bind, or to a Record, showed, or a server's answer to an Activate, or to an Invoke.
 pub data IsChange (at : At) (r : Reply) (n : ℕ) : Type 0 where
   OnLive : (avoid b : Binding) (server i g : ℕ) (stores : List ℕ) → at ≡ AtBind avoid → r ≡ Reply.Bound (bound.Live b server i g stores) →
@@ -55,13 +60,19 @@ pub data IsChange (at : At) (r : Reply) (n : ℕ) : Type 0 where
   OnNote : (k : Known) (i : ℕ) (q : RecordedReply) → at ≡ AtNote k i → r ≡ Reply.Noted q → IsChange at r n
   OnInvoke : (k : Known) (i : ℕ) (q : InvokedReply) → at ≡ AtInvoke k i → r ≡ Reply.Invoked q → n ≡ k.server → IsChange at r n
 
+-- an answer that goes on to load names no store
+abbrev pub HasNone : BoundReply → Type 0
+HasNone (bound.Make b server g stores) = stores ≡ []
+HasNone (bound.Write g stores) = stores ≡ []
+HasNone q = ⊥
+
 -- the answer ends the step so
 abbrev pub EndsBy : Goal → At → Reply → CallEnd → Type 0
 EndsBy goal at r (Answered a) = (k : Known) × (i : ℕ) × (at ≡ AtInvoke k i) × (r ≡ Reply.Invoked (invoked.Answered a))
-EndsBy goal at r (Included st) = (n : ℕ) × (goal ≡ Include n)
+EndsBy goal at r (Included st) = (n : ℕ) × (goal ≡ Include n) × (is_load at ≡ true)
 EndsBy goal at r (Conflict u m n) = IsConflict at r u m n
 EndsBy goal at r (Changed n w) = IsChange at r n
-EndsBy goal at r (Lost n b) = (avoid : Binding) × (q : BoundReply) × (at ≡ AtBind avoid) × (r ≡ Reply.Bound q) × (n ≡ 1)
+EndsBy goal at r (Lost n b) = (q : BoundReply) × (r ≡ Reply.Bound q) × HasNone q
 
 -- where it ends it
 abbrev StepEnds : Goal → At → Reply → CallStep → Type 0
@@ -122,26 +133,20 @@ ends_by free kept g (AtBind avoid) (Reply.Bound (bound.Live b server i given sto
     (answered free kept g (AtBind avoid) (Reply.Bound (bound.Live b server i given stores))).step
     (λ n. OnLive avoid b server i given stores refl refl)
     (bound_plain free (calls.live_known b server i given stores) (AtInvoke (calls.live_known b server i given stores) i) kept)
-ends_by free kept g (AtBind avoid) (Reply.Bound (bound.Make b server given stores)) =
-    by (load_from (made_known b server given stores) stores)
-  where
-    by : (o : Option At) → StepEnds g (AtBind avoid) (Reply.Bound (bound.Make b server given stores))
-        (made_by free (made_known b server given stores) kept o).step
-    by None = (avoid, bound.Make b server given stores, refl, refl, refl)
-    by (Some at) = plain_ends g (AtBind avoid) (Reply.Bound (bound.Make b server given stores))
-        (bound_by free (made_known b server given stores) at kept).step (λ n. OnMake avoid b server given stores refl refl)
-        (bound_plain free (made_known b server given stores) at kept)
-ends_by free kept g (AtBind avoid) (Reply.Bound (bound.Write given stores)) = by (load_from (write_known given stores) stores)
-  where
-    by : (o : Option At) → StepEnds g (AtBind avoid) (Reply.Bound (bound.Write given stores)) (or_lost kept o).step
-    by None = (avoid, bound.Write given stores, refl, refl, refl)
-    by (Some at) = tt
+ends_by free kept g (AtBind avoid) (Reply.Bound (bound.Make b server given [])) = (bound.Make b server given [], refl, refl)
+ends_by free kept g (AtBind avoid) (Reply.Bound (bound.Make b server given (s ∷ stores))) =
+    plain_ends g (AtBind avoid) (Reply.Bound (bound.Make b server given (s ∷ stores)))
+    (bound_by free (made_known b server given (s ∷ stores)) (AtLoad (made_known b server given (s ∷ stores)) s stores) kept).step
+    (λ n. OnMake avoid b server given (s ∷ stores) refl refl)
+    (bound_plain free (made_known b server given (s ∷ stores)) (AtLoad (made_known b server given (s ∷ stores)) s stores) kept)
+ends_by free kept g (AtBind avoid) (Reply.Bound (bound.Write given [])) = (bound.Write given [], refl, refl)
+ends_by free kept g (AtBind avoid) (Reply.Bound (bound.Write given (s ∷ stores))) = tt
 ends_by free kept g (AtBind avoid) (Reply.Bound (bound.Conflict u m)) = ByNaming avoid refl refl refl
 ends_by free kept g (AtLoad k s rest) (Reply.Loaded (loaded.State st)) = by g
   where
     by : (g : Goal) → StepEnds g (AtLoad k s rest) (Reply.Loaded (loaded.State st)) (calls.loaded_state kept k st g).step
     by (Run o) = tt
-    by (Include n) = (n, refl)
+    by (Include n) = (n, refl, refl)
 ends_by free kept g (AtLoad k s rest) (Reply.Loaded (loaded.InDoubt u)) = ByStore k s rest refl refl refl refl
 ends_by free kept g (AtActivate k st) (Reply.Activated i) =
     plain_ends g (AtActivate k st) (Reply.Activated i) (activated_by k i kept).step (λ n. OnActivate k st i refl refl)
@@ -309,7 +314,7 @@ rests c e outs same (Ends u d s g front found is lined are after) =
 
 module _ (k : ℕ) (d : Disk) (t : Parts) (from : ℕ) where
   -- what its actions are at stays as it was
-  abbrev KeepsWorks : Handled → Type 0
+  abbrev pub KeepsWorks : Handled → Type 0
   KeepsWorks (Void outs) = ⊤
   KeepsWorks (Took v outs) = (u : Uid) → doing_of u v.coord ≡ doing_of u t.coord
 
@@ -322,7 +327,7 @@ module _ (k : ℕ) (d : Disk) (t : Parts) (from : ℕ) where
   with_it f None each = tt
   with_it f (Some n) each = each n
 
-  asked_works : (h : Head) (a : Ask) → KeepsWorks (serve k d t from h a)
+  pub asked_works : (h : Head) (a : Ask) → KeepsWorks (serve k d t from h a)
   asked_works h (ask.Bind x include avoid) = with_it _ t.naming (λ n. let r = naming.bind h.path x include avoid d.names n in
       sent_works h (with_naming t r.part) r.outs (option_map Reply.Bound r.reply) refl)
   asked_works h (ask.Load x) = load (holder_of (object x) d.store)
@@ -378,7 +383,7 @@ module _ (k : ℕ) (d : Disk) (t : Parts) (from : ℕ) where
   ends_works ack ends None = λ u. refl
   ends_works ack ends (Some e) = λ u. refl
 
-  other_works : (m : Message) → KeepsWorks (handle_other k d t from m)
+  pub other_works : (m : Message) → KeepsWorks (handle_other k d t from m)
   other_works (message.Told m) = ends_works m.ack m.ends (last_end m.ends)
   other_works (message.Acked m) = by (let r = acked from m.act d.intents t.coord in r.reply)
     where

@@ -18,11 +18,9 @@ use Rattle.arj_law_parts.specs.moves.With.{ArePlain, KeepsSteps, UpWith, WalksWi
 use Rattle.arj_law_serial.proofs.holding.Says.{All, handle_says, kind_says, outs_of, says}
 use Rattle.arj_law_serial.proofs.holding.Sorts.{by_kind, is_no_start}
 use Rattle.std.proofs.lemmas.List.Folds.{list_all-append}
+use Rattle.arj_law_cause.specs.rows.Tables.{Inside, NoStarts}
 
 -- ---- lines by which no node starts
-
-abbrev pub NoStarts : List Body → Type 0
-NoStarts bs = (j : ℕ) → list_all (is_no_start j) bs ≡ true
 
 server_none : (j n : ℕ) (b : Body) → is_server_line n b ≡ true → is_no_start j b ≡ true
 server_none j n = by_kind (λ b. is_server_line n b ≡ true → is_no_start j b ≡ true) (λ b plain is. plain.none j) (λ l k u p is. refl)
@@ -75,19 +73,13 @@ tick_starts k d t =
 -- ---- an event
 
 module _ (before : List Line) (event : ℕ) where
-  -- behind these lines all are of this event, and no node starts, unless it restarts one
-  pub record Inside (M : Moment) : Type 0 where
-    pub number : M.past.number ≡ event
-    pub wrote : List Body
-    pub lines : M.seen.lines ≡ before ++ numbered event wrote
-    pub starts : is_restart M.past.event ≡ false → NoStarts wrote
-
   more : (M : Moment) (ws bs : List Body) → M.past.number ≡ event → M.seen.lines ≡ before ++ numbered event ws →
       M.seen.lines ++ numbered M.past.number bs ≡ before ++ numbered event (ws ++ bs)
   more M ws bs number lines = (λ i. lines i ++ numbered (number i) bs) ∙ append_assoc before (numbered event ws) (numbered event bs)
       ∙ ap (λ ls. before ++ ls) (sym (map-append (λ (b : Body). record { event = event; body = b }) ws bs))
 
-  pub said_inside : (bs : List Body) (M : Moment) → (is_restart M.past.event ≡ false → NoStarts bs) → Inside M → Inside (said bs M)
+  pub said_inside : (bs : List Body) (M : Moment) → (is_restart M.past.event ≡ false → NoStarts bs) → Inside before event M →
+      Inside before event (said bs M)
   said_inside bs M none h = record {
     number = h.number;
     wrote = h.wrote ++ bs;
@@ -95,8 +87,8 @@ module _ (before : List Line) (event : ℕ) where
     starts = λ is. λ j. list_all-append (is_no_start j) h.wrote bs ∙ (λ i. h.starts is j i && none is j i);
   }
 
-  same_inside : (M N : Moment) → N.past.number ≡ M.past.number → N.past.event ≡ M.past.event → N.seen.lines ≡ M.seen.lines → Inside M →
-      Inside N
+  same_inside : (M N : Moment) → N.past.number ≡ M.past.number → N.past.event ≡ M.past.event → N.seen.lines ≡ M.seen.lines →
+      Inside before event M → Inside before event N
   same_inside M N number e lines h = record {
     number = number ∙ h.number;
     wrote = h.wrote;
@@ -104,14 +96,14 @@ module _ (before : List Line) (event : ℕ) where
     starts = λ is. h.starts (ap is_restart (sym e) ∙ is);
   }
 
-  sent_inside : (p : Post) (M : Moment) → Inside M → Inside (sent p M)
+  sent_inside : (p : Post) (M : Moment) → Inside before event M → Inside before event (sent p M)
   sent_inside p M h = by (p.to == p.from) (fits M)
     where
-      lined_in : Inside (framed_if true p M)
+      lined_in : Inside before event (framed_if true p M)
       lined_in = let o = said_inside (body.Sent (M.past.frames + 1) p.from p.to (frame_kind p.message) ∷ []) M (λ is j. refl) h in
           record { number = o.number; wrote = o.wrote; lines = o.lines; starts = o.starts }
 
-      by : (self fit : Bool) → Inside (if self then posted p M else framed_if fit p M)
+      by : (self fit : Bool) → Inside before event (if self then posted p M else framed_if fit p M)
       by true fit = same_inside M (posted p M) refl refl refl h
       by false true = lined_in
       by false false = h
@@ -121,16 +113,17 @@ module _ (before : List Line) (event : ℕ) where
   rest_well e x es all is j = (and_parts (says (is_no_start j) x) (list_all (says (is_no_start j)) es) (all is j)).1
 
   rest_walk : (k : ℕ) (v : Parts) (es : List Effect) (d : Disk) (M : Moment) (p : Post) →
-      ((N : Moment) → N.past.event ≡ M.past.event → Inside N → WalksWith Inside k es (UpWith Inside k v) d N) → (self fit : Bool) →
-      Inside (if self then posted p M else framed_if fit p M) →
-      WalksWith Inside k es (UpWith Inside k v) d (if self then posted p M else framed_if fit p M)
+      ((N : Moment) → N.past.event ≡ M.past.event → Inside before event N →
+      WalksWith (Inside before event) k es (UpWith (Inside before event) k v) d N) → (self fit : Bool) →
+      Inside before event (if self then posted p M else framed_if fit p M) →
+      WalksWith (Inside before event) k es (UpWith (Inside before event) k v) d (if self then posted p M else framed_if fit p M)
   rest_walk k v es d M p go true fit n = go (posted p M) refl n
   rest_walk k v es d M p go false true n = go (framed_if true p M) refl n
   rest_walk k v es d M p go false false n = go M refl n
 
   walk : (k : ℕ) (v : Parts) (outs : List Effect) (d : Disk) (M : Moment) → (is_restart M.past.event ≡ false → SayNoStarts outs) →
-      Inside M →
-      WalksWith Inside k outs (UpWith Inside k v) d M
+      Inside before event M →
+      WalksWith (Inside before event) k outs (UpWith (Inside before event) k v) d M
   walk k v [] d M all h = same_inside M (up k d v M) refl refl refl h
   walk k v (Do w ∷ es) d M all h = (
     (λ how. let o = said_inside (body.Halted k ∷ []) M (λ is j. refl) h in
@@ -143,7 +136,7 @@ module _ (before : List Line) (event : ℕ) where
       (λ N same n. walk k v es d N (λ is. rest_well M.past.event (Send to m) es all (ap is_restart (sym same) ∙ is)) n)
       (to == k) (fits M) (sent_inside (post k to m) M h)
 
-  pub inside_step : (hd : Header) → KeepsSteps hd Inside
+  pub inside_step : (hd : Header) → KeepsSteps hd (Inside before event)
   inside_step hd = record {
     quiet = λ bs M plain h. said_inside bs M (λ is. plain_none bs plain) h;
     junk = λ n M fit h. let o = said_inside (body.Sent (M.past.frames + 1) 0 n frame.Junk ∷ []) M (λ is j. refl) h in

@@ -12,7 +12,9 @@ use Words.{Input}
 use Words.{Intent, kept_of, root_at, root_of, waits_for_call, acts as does, parent_of, parts_in, restart_outs, tick_outs}
 use Words.{numbered, is_serial, Post, frame_kind, actor}
 use Rattle.arj_protocol.specs.Asking.{answer_line}
+use Words.{BoundReply, is_include}
 use Words.body
+use Words.bound
 use Words.frame
 use Words.input
 use Rattle.arj_law_lock_view.proofs.asking.{Handling.Goes, Handling.handle_goes, Keeping.its, Keeping.tree}
@@ -29,23 +31,23 @@ use Rattle.arj_law_runs.specs.follow.Frames.{are_so}
 use Rattle.arj_model.specs.CauseSpans.{Here, behind}
 use Rattle.arj_model.specs.Past.{Asked as AskedOf}
 use Rattle.arj_law_cause.proofs.rows.Asks.{AreSameAsks, asks_same, asks_some}
-use Rattle.arj_law_cause.proofs.rows.Ending.{Ending, EndsBy, GaveUp, Heard, Nothing, Said, Says, TurnsTo, acts_say, message_says}
+use Rattle.arj_law_cause.proofs.rows.Ending.{Ending, EndsBy, GaveUp, HasNone, Heard, Nothing, Said, Says, TurnsTo, acts_say, message_says}
 use Rattle.arj_law_cause.proofs.rows.Rows.{changed_so, conflict_so, included_so, ok_so}
-use Rattle.arj_law_cause.proofs.rows.Spans.{or_first, or_last}
 use Rattle.arj_law_runs.specs.addresses.Binds.{StandsOn}
 use Words.{AtInvoke}
-use Rattle.arj_law_cause.proofs.rows.Taking.{AskedPaths, IsPathAt, Works, caller, stands_on, taken}
+use Rattle.arj_law_cause.proofs.rows.Locked.{LoadsAreLocked, own_of}
+use Rattle.arj_law_cause.proofs.rows.Taking.{AskedPaths, IsPathAt, Works, caller, full_reply, stands_on, taken}
+use Rattle.arj_law_cause.proofs.waits.lost.Bound.{BoundFull, ReplyFull}
+use Rattle.arj_law_cause.proofs.waits.lost.Stored.{IsFull}
 use Rattle.arj_law_runs.proofs.journal.Beginning as Beginning
 use Rattle.arj_law_runs.proofs.journal.Beginning.{named_at}
 use Rattle.arj_law_lock_view.proofs.asking.Dumb.{restart_dumb, tick_dumb}
 use Rattle.arj_law_lock_view.proofs.asking.Keeping.{mine}
 use Rattle.arj_law_parts.specs.moves.With.{Brings}
 use Rattle.arj_model.specs.CauseAnswers.{gives_up}
-use Rattle.arj_model.specs.Caused.{has_cause}
 use Rattle.arj_law_cause.proofs.rows.Giving.{brings_give, given_lost, lost_so}
-use Rattle.arj_law_cause.proofs.rows.Rows.{lost_at_naming}
 use Words.{Branch, branch_named, bytes_eq, bytes_eq-Decides, given_up, name, next_node}
-use Rattle.arj_law_cause.specs.rows.Lines.{answer_fits, came_from_naming}
+use Rattle.arj_law_cause.specs.rows.Lines.{answer_fits}
 
 -- ---- lines
 
@@ -127,6 +129,13 @@ no_begin i is l q p same = let no_way : false ≡ true = sym (ap is_act same) �
 
 some_is : {A : Type 0} {a b : A} → Some a ≡ Some b → a ≡ b
 some_is {A} {a} {b} is = let k : ◌≡◌ {A = Option A} (Some a) (Some b) = is in cc
+
+-- an answer that names some store has one
+none_full : (q : BoundReply) → BoundFull q → HasNone q → ⊥
+none_full (bound.Live b server i g stores) full none = none
+none_full (bound.Make b server g stores) full none = subst IsFull none full
+none_full (bound.Write g stores) full none = subst IsFull none full
+none_full (bound.Conflict u m) full none = none
 
 -- ---- inside of an event
 
@@ -252,8 +261,9 @@ module _ (hd : Header) (st : Start) (before : List Line) (event : ℕ) where
 
   -- ---- steps
 
-  module _ (G : Moment → Type 0) (steps : KeepsSteps hd G) (works : (k : ℕ) (d : Disk) (t : Parts) (M : Moment) → G (up k d t M) →
-      AskedPaths (up k d t M) → Works hd k d t M) where
+  module _ (G : Moment → Type 0) (steps : KeepsSteps hd G)
+      (works : (k : ℕ) (d : Disk) (t : Parts) (M : Moment) → G (up k d t M) → Works hd k d t M)
+      (locked : (k : ℕ) (d : Disk) (t : Parts) (M : Moment) → G (up k d t M) → LoadsAreLocked (up k d t M)) where
     abbrev Both : Moment → Type 0
     Both M = G M × Lined M
 
@@ -261,7 +271,7 @@ module _ (hd : Header) (st : Start) (before : List Line) (event : ℕ) where
         WalksWith Lined k outs (UpWith Lined k v) d M → WalksWith Both k outs (UpWith Both k v) d M
     both k outs v d M a b = with_both G Lined k outs (UpWith G k v) (UpWith Lined k v) d M a b
 
-    module _ (k : ℕ) (d : Disk) (t : Parts) (M : Moment) (W : Works hd k d t M) (h : Lined M) where
+    module _ (k : ℕ) (d : Disk) (t : Parts) (M : Moment) (W : Works hd k d t M) (L : LoadsAreLocked (up k d t M)) (h : Lined M) where
       busy : (u : Uid) (w : Doing) (s : Steps) → doing_of u t.coord ≡ Some w → w.now ≡ Calling s → actor s.path ≡ u
       busy u w s found is = let c = caller hd k d t M W u w s found is in c.actor
 
@@ -278,7 +288,7 @@ module _ (hd : Header) (st : Start) (before : List Line) (event : ℕ) where
             where
               on : (z : Goal) → s.goal ≡ z → answer_fits (here_of accepted M M.seen.lines) (answer_line s.x z b w.label) ≡ true
               on (Run o) goal = ok_so hd k M (here_of accepted M M.seen.lines) refl refl
-                  (asks_same accepted (accepted_of M.past.askings) same) u w s (caller hd k d t M W u w s found is) W.firsts
+                  (asks_same accepted (accepted_of M.past.askings) same) u w s (caller hd k d t M W u w s found is) h.paths
                   (kept_of s.x (root_at (root_of s.path) t.coord)) (stands_on hd k d t M W u w s found is) from a r
                   (taken hd k d t M W u w s found is from m there a r answer act waits) ends.0 ends.1 o b ends.2 goal ends.3
               on (Include n) goal = let never : ⊥ = subst (λ z. StandsOn z (kept_of s.x (root_at (root_of s.path) t.coord))
@@ -287,22 +297,19 @@ module _ (hd : Header) (st : Start) (before : List Line) (event : ℕ) where
           by (Included stored) ends =
               subst (λ z. answer_fits (here_of accepted M M.seen.lines) (end_line s.x z (Included stored) w.label) ≡ true) (sym ends.1)
               (included_so hd k M (here_of accepted M M.seen.lines) refl refl
-              (asks_same accepted (accepted_of M.past.askings) same) u w s (caller hd k d t M W u w s found is) W.firsts
-              (kept_of s.x (root_at (root_of s.path) t.coord)) (stands_on hd k d t M W u w s found is) ends.0 ends.1)
+              (asks_same accepted (accepted_of M.past.askings) same) u w s (caller hd k d t M W u w s found is) h.paths
+              (kept_of s.x (root_at (root_of s.path) t.coord)) (stands_on hd k d t M W u w s found is) ends.0 ends.1
+              (own_of k d t M L u w s found is (λ i. ap is_include ends.1 i && ends.2 i)))
           by (Conflict v held n) ends = conflict_so hd k M (here_of accepted M M.seen.lines) refl refl
               (asks_same accepted (accepted_of M.past.askings) same) u w s (caller hd k d t M W u w s found is)
-              W.firsts (kept_of s.x (root_at (root_of s.path) t.coord)) (stands_on hd k d t M W u w s found is) from a r
+              h.paths (kept_of s.x (root_at (root_of s.path) t.coord)) (stands_on hd k d t M W u w s found is) from a r
               (taken hd k d t M W u w s found is from m there a r answer act waits) v held n ends
           by (Changed n x) ends = changed_so hd k M (here_of accepted M M.seen.lines) refl refl
-              (asks_same accepted (accepted_of M.past.askings) same) u w s (caller hd k d t M W u w s found is) W.firsts
+              (asks_same accepted (accepted_of M.past.askings) same) u w s (caller hd k d t M W u w s found is) h.paths
               (kept_of s.x (root_at (root_of s.path) t.coord)) (stands_on hd k d t M W u w s found is) from a r
               (taken hd k d t M W u w s found is from m there a r answer act waits) n ends
-          by (Lost n b) ends = or_last (has_cause (here_of accepted M M.seen.lines) (body.Lost w.label n))
-              (came_from_naming (here_of accepted M M.seen.lines) (name w.label) n) (lost_at_naming hd k M
-              (here_of accepted M M.seen.lines) refl refl (asks_same accepted (accepted_of M.past.askings) same) u w s
-              (caller hd k d t M W u w s found is) W.firsts (kept_of s.x (root_at (root_of s.path) t.coord))
-              (stands_on hd k d t M W u w s found is) from a r (taken hd k d t M W u w s found is from m there a r answer act waits)
-              ends.0 ends.1 n ends.2 ends.3 ends.4)
+          by (Lost n b) ends = absurd (none_full ends.0 (subst ReplyFull ends.1
+              (full_reply hd k d t M W u w s found is from m there a r answer act waits)) ends.2)
 
       message_lined : (v : Parts) (from : ℕ) (m : Message) (outs : List Effect) → seen.In (post from k m) M.seen.sent →
           handle k d t from m ≡ Took v outs → WalksWith Lined k outs (UpWith Lined k v) d M
@@ -354,11 +361,10 @@ module _ (hd : Header) (st : Start) (before : List Line) (event : ℕ) where
               let H = here_of accepted N N.seen.lines in
               subst (λ e. answer_fits H (end_line s.x s.goal e w.label) ≡ true) (sym its.2)
               (subst (λ n. answer_fits H (body.Lost w.label n) ≡ true) its.3
-              (or_first (has_cause H (body.Lost w.label (next_node s))) (came_from_naming H (name w.label) (next_node s))
               (lost_so k M H M.past.number u w s (caller hd k d t M W u w s found calls) (next_node s) refl
               (asks_same accepted (accepted_of M.past.askings) same) before event h.wrote refl
               (more M h.wrote (body.GaveUp w.label (next_node s) ∷ []) h.number h.lines)
-              (ap (gives_up (name w.label)) (brings_give M.past.event l brings) ∙ same_label))))
+              (ap (gives_up (name w.label)) (brings_give M.past.event l brings) ∙ same_label)))
             where
               label_of_it : l ≡ m
               label_of_it = let z : l ≡ m = cc gives in z
@@ -412,11 +418,11 @@ module _ (hd : Header) (st : Start) (before : List Line) (event : ℕ) where
       stop = λ k d live M h. (steps.stop k d live M h.0, halted_lined k d M (same_lined (at k d live M) M refl refl h.1));
       message = λ k d t v from m outs M h there meant may is.
           both k outs v d M (steps.message k d t v from m outs M h.0 there meant may is)
-          (message_lined k d t M (works k d t M h.0 (let q = h.1 in q.paths)) (same_lined
+          (message_lined k d t M (works k d t M h.0) (locked k d t M h.0) (same_lined
           (up k d t M) M refl refl h.1) v from m outs there is);
       act = λ k d t i M is brings fresh asks free h. let did = does i d.intents t.coord in
           both k did.outs (with_coord t did.part) d (asks_now i t.coord M) (steps.act k d t i M is brings fresh asks free h.0)
-          (acts_lined k d t M (works k d t M h.0 (let q = h.1 in q.paths)) (same_lined (up k d t M) M refl refl h.1) i is brings fresh);
+          (acts_lined k d t M (works k d t M h.0) (locked k d t M h.0) (same_lined (up k d t M) M refl refl h.1) i is brings fresh);
       begin = λ k d t l how parent M brings fresh new gives none h.
           let did = begin_action l how parent (parent_of parent t.coord) t.coord in
           both k did.outs (with_coord t did.part) d (given l (record { node = k; serial = is_serial how }) M)

@@ -42,7 +42,7 @@ pub record Meets (path : List Uid) (o : Uid) (asked : Mode) (u : Uid) (held : Mo
 -- ---- in the journal's table
 
 -- who passes a test that a wider one has is found among those that pass the wider one
-find_some : {A : Type 0} (p q : A → Bool) → ((a : A) → p a ≡ true → q a ≡ true) → (xs : List A) → find p xs ≡ find p (filter q xs)
+pub find_some : {A : Type 0} (p q : A → Bool) → ((a : A) → p a ≡ true → q a ≡ true) → (xs : List A) → find p xs ≡ find p (filter q xs)
 find_some p q wider [] = refl
 find_some p q wider (x ∷ xs) = by (p x) refl (q x) refl (find_some p q wider xs)
   where
@@ -53,7 +53,7 @@ find_some p q wider (x ∷ xs) = by (p x) refl (q x) refl (find_some p q wider x
     by false is true also ih = ih ∙ (λ i. cond (sym is i) (Some x) (find p (filter q xs)))
     by false is false other ih = ih
 
-on_object : (path : List Uid) (o : Uid) (asked : Mode) (r : Row) → is_against path o asked r ≡ true → uid_eq r.object o ≡ true
+pub on_object : (path : List Uid) (o : Uid) (asked : Mode) (r : Row) → is_against path o asked r ≡ true → uid_eq r.object o ≡ true
 on_object path o asked r is = (and_parts (uid_eq r.object o) _ is).0
 
 pub meets_by : (n : ℕ) (path : List Uid) (o : Uid) (asked : Mode) (u : Uid) (held : Mode) (lines : List Line) (rows : List Row) →
@@ -295,5 +295,62 @@ module _ (p : Path) (x : ℕ) (u : Uid) (held : Mode) where
       by : (b : Bool) → (let r = cond {A = Served Naming BoundReply} b (void o)
           (on_counted x (bind_named o.inc x p include avoid (listed_entry x d)) o (at_number x o.objects)) in
           r.reply ≡ Some (bound.Conflict u held) → MeetsEntry p x include u held (naming_rows x r.part))
+      by true is = absurd (none_is is)
+      by false is = named (at_number x o.objects) is
+
+-- an include goes on in its top's write lock
+module _ (p : Path) (x g : ℕ) (stores : List ℕ) where
+  abbrev Writes : Served Counted BoundReply → Type 0
+  Writes r = r.reply ≡ Some (bound.Write g stores) →
+      HasLock (top_of p) (mode_code mode.Write) (let c = r.part in (let o = c.named in o.rows))
+
+  abbrev is_write : BoundReply → Bool
+  is_write (bound.Write h ss) = true
+  is_write q = false
+
+  none_write : {A : Type 0} (q : BoundReply) → is_write q ≡ false → Some q ≡ Some (bound.Write g stores) → A
+  none_write q off is = let no_way : false ≡ true = sym off ∙ ap is_write (some_is is) in absurd (cc no_way)
+
+  named_writes : (inc : ℕ) (include : Bool) (avoid : Binding) (e : Entry) (c : Counted) →
+      Writes (bind_named inc x p include avoid e c)
+  named_writes inc true avoid e c = by (conflict_on x p mode.Write c.named)
+    where
+      by : (f : Option Row) → Writes (include_asked inc x p e c f)
+      by None is = asked_has (row_for (entry x) (top_path p) (tops_of p) mode.Write) (let o = c.named in o.rows)
+      by (Some r) is = none_write (bound.Conflict (last_uid r.holder) r.mode) refl is
+  named_writes inc false avoid e c = call (live_above avoid c.named.live)
+    where
+      live : (l : Live) (f : Option Row) → Writes (live_asked inc x p e c l f)
+      live l None is = none_write _ refl is
+      live l (Some r) is = none_write _ refl is
+
+      made : (m : Option Made) → Writes (bind_made inc x p e c m)
+      made None is = none_write _ refl is
+      made (Some m) is = none_write _ refl is
+
+      make : (f : Option Row) → Writes (make_asked inc x p avoid e c f)
+      make None is = made (made_above avoid (at_uid (top_of p) c.named.made)) is
+      make (Some r) is = none_write _ refl is
+
+      call : (l : Option Live) → Writes (bind_call inc x p avoid e c l)
+      call (Some l) = live l (conflict_on x p mode.Read c.named)
+      call None = make (conflict_on x p mode.Write c.named)
+
+  pub bind_writes : (include : Bool) (avoid : Binding) (d : Pair) (o : Naming) →
+      (naming.bind p x include avoid d o).reply ≡ Some (bound.Write g stores) →
+      HasLock (top_of p) (mode_code mode.Write) (naming_rows x (naming.bind p x include avoid d o).part)
+  bind_writes include avoid d o = by (is_over p o)
+    where
+      named : (f : Option Named.Named) → (let r = on_counted x (bind_named o.inc x p include avoid (listed_entry x d)) o f in
+          r.reply ≡ Some (bound.Write g stores) → HasLock (top_of p) (mode_code mode.Write) (naming_rows x r.part))
+      named None is = absurd (none_is is)
+      named (Some z) is =
+          let r = bind_named o.inc x p include avoid (listed_entry x d) (record { named = z; count = o.count }) in
+          subst (λ f. HasLock (top_of p) (mode_code mode.Write) (rows_in_named f)) (sym (put_same x (let c = r.part in c.named) o.objects))
+          (named_writes o.inc include avoid (listed_entry x d) (record { named = z; count = o.count }) is)
+
+      by : (b : Bool) → (let r = cond {A = Served Naming BoundReply} b (void o)
+          (on_counted x (bind_named o.inc x p include avoid (listed_entry x d)) o (at_number x o.objects)) in
+          r.reply ≡ Some (bound.Write g stores) → HasLock (top_of p) (mode_code mode.Write) (naming_rows x r.part))
       by true is = absurd (none_is is)
       by false is = named (at_number x o.objects) is

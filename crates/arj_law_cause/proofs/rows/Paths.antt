@@ -2,13 +2,15 @@
 use Rattle.arj_law_parts.proofs.Words
 use Words.{◌≡◌, ◌∙◌, ◌++◌, ℕ, Bool, true, false, cond, List, [], ◌∷◌, length, take, Option, Some, None, refl, sym, ap, subst, arith}
 use Words.{option_map, bytes_eq, bytes_eq-Decides, in_find, in_from, uid_eq, uid_is, uid_same, uids_of}
-use Words.{Body, Line, name, tops_of, top_path, Contains}
+use Words.{Body, Line, is_serial, last_uid, name, tops_of, top_of, top_path, Contains}
 use Words.body
 use Rattle.arj_law_serial.proofs.Terms
-use Terms.{Act, Action, AreAlike, AreBegun, AreDistinct, act_in, act_of, acts, acts_after, acts_from, acts_more, any_in, path, path_in}
+use Terms.{Act, Action, AreAlike, AreBegun, AreDistinct, AreFormed, act_in, act_of, acts, acts_after, acts_from, acts_more, any_in, path}
+use Terms.{path_in}
 use Terms.{path_by, path_some, uids}
+use Rattle.arj_law_serial.proofs.order.Paths.{has_top, well}
 use Rattle.arj_law_serial.proofs.tables.Holders.{path_fits}
-use Rattle.arj_model.specs.Actions.{tops_in}
+use Rattle.arj_model.specs.Actions.{top_in, tops_in}
 use Rattle.arj_model.specs.CauseSpans.{top_uids}
 
 never : {P : Type 0} {b : Bool} → b ≡ true → b ≡ false → P
@@ -85,6 +87,22 @@ path_stays xs (line ∷ ls) distinct l a named =
             (path xs l)) ih
     by b is more ih = rest b is named refl ih
 
+-- ---- tops
+
+-- the top's Uid is the last one of the leading part
+uid_of_top : (p : List Act) (t : Act) → top_in p ≡ Some t → t.uid ≡ last_uid (top_uids p)
+uid_of_top [] t is = none_is is
+uid_of_top (a ∷ []) t is = by (is_serial a.kind) is
+  where
+    by : (c : Bool) → cond c None (Some a) ≡ Some t → t.uid ≡ a.uid
+    by true none = none_is none
+    by false some = ap (λ (z : Act). z.uid) (sym (some_is some))
+uid_of_top (a ∷ b ∷ rest) t is = by (is_serial a.kind) is
+  where
+    by : (c : Bool) → cond c (Some b) (Some a) ≡ Some t → t.uid ≡ last_uid (take (cond c 2 1) (a.uid ∷ b.uid ∷ uids rest))
+    by true some = ap (λ (z : Act). z.uid) (sym (some_is some))
+    by false some = ap (λ (z : Act). z.uid) (sym (some_is some))
+
 -- ---- what was asked
 
 module _ (begun : List Action) (all : AreBegun begun) (lines first more : List Line) (are : lines ≡ first ++ more)
@@ -112,3 +130,12 @@ module _ (begun : List Action) (all : AreBegun begun) (lines first more : List L
       ap tops_in (same_path its ∙ label_path (acts lines) distinct l a named ∙ ap (path_by (acts lines)) uid)
       ∙ (let z = f.actor_is in z.tops_are) in
       λ i. take (tops i) (its i)
+
+  -- where its action isn't serializing the path has a top, which is the one of the action's path
+  pub one_top : AreFormed (acts lines) → is_serial a.kind ≡ false → uids (path (acts first) l) ≡ uids_of b.path →
+      (top : Act) × (top_in (path (acts first) l) ≡ Some top) × (top.uid ≡ top_of b.path)
+  one_top formed plain its =
+      let e = (well (acts lines) formed l).1 a named in
+      let t = has_top e.before a plain in
+      let there : top_in (path (acts first) l) ≡ Some t.0 = ap top_in (same_path its ∙ e.are) ∙ t.1 in
+      (t.0, there, uid_of_top (path (acts first) l) t.0 there ∙ ap last_uid (top_is its))

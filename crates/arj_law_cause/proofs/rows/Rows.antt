@@ -6,7 +6,7 @@ use Words.{list_any, Binding, In, End, Ask, Asked, Event, Header, Line}
 use Words.{Mode, Op, Row, Uid, Value, class_code_of, entry, object}
 use Rattle.arj_protocol.specs.Words.{FrameKind}
 use Words.{Answer, Known, Label, leb-true, node_at, ◌≤◌, ◌<◌, is_nested, ask_at, op_mode, first_conflict, in_find, is_against, is_on}
-use Words.{last_uid, name, uid_eq, uid_is, uids_of, top_path, tops_of, actor, Reply, response, frame_kind}
+use Words.{last_uid, name, uid_eq, uid_is, uids_of, top_of, top_path, tops_of, actor, Reply, response, frame_kind}
 use Words.{⊎_elim, ◌==◌, inl, inr, is_include, At, AtActivate, AtBind, AtInvoke, AtLoad, AtNote, Goal, Include, Run, Steps, Doing, nat_le}
 use Words.ask
 use Words.bound
@@ -24,21 +24,25 @@ use Rattle.arj_law_lock_view.specs.moments.Made.{BeginsWith}
 use Rattle.arj_law_parts.specs.parts.Messages.{IsTopAction}
 use Rattle.arj_law_runs.specs.addresses.Binds.{StandsOn}
 use Rattle.arj_law_runs.specs.calls.Coords.{bare, head_of}
-use Rattle.arj_model.specs.CauseAnswers.{conflict_caused, has_lock, is_held, meets, meets_at_naming, meets_at_server, meets_at_store}
+use Rattle.arj_model.specs.CauseAnswers.{conflict_caused, has_lock, includes_caused, is_held, meets, meets_at_naming, meets_at_server}
+use Rattle.arj_model.specs.CauseAnswers.{meets_at_store}
 use Rattle.arj_model.specs.CauseAnswers.{mode_of_call, modes_on_entry, ok_caused, was_told}
-use Rattle.arj_model.specs.CauseSpans.{Here, act_by, answered, asks_so, holds_in, is_call, is_call_of, is_include_of, nodes_of, same_frame}
+use Rattle.arj_model.specs.Actions.{top_in}
+use Rattle.arj_model.specs.CauseSpans.{Here, act_by, answered, asks_so, from_place, holds_in, is_call, is_call_of, is_include_of}
+use Rattle.arj_model.specs.CauseSpans.{nodes_of, same_frame}
 use Rattle.arj_model.specs.CauseSpans.{same_mode, same_op, same_pairs, same_value, was_sent}
 use Rattle.arj_model.specs.CauseSpans.{top_uids}
 use Rattle.arj_model.specs.Past.{Asked as AskedOf, label_of}
-use Rattle.arj_model.specs.Refusals.{answers_to, asks_by, has_ended, last_asked, object_used}
+use Rattle.arj_model.specs.Refusals.{answers_to, asks_by, has_ended, holds_of, last_asked, object_used}
 use Rattle.arj_model.specs.Table.{table}
 use Rattle.arj_law_cause.proofs.rows.Ending.{IsChange, OnActivate, OnInvoke, OnLive, OnMake, OnNote}
 use Rattle.arj_law_cause.proofs.rows.Ending.{IsConflict, ByNaming, ByServer, ByStore}
 use Rattle.arj_law_cause.proofs.rows.Holders.{any_later, off_path, one_found, one_passes, upper_from}
-use Rattle.arj_law_cause.proofs.rows.Paths.{top_is}
-use Rattle.arj_law_cause.proofs.rows.Spans.{answered_at, in_range, or_first, or_last, rows_so, sent_to}
-use Rattle.arj_law_cause.proofs.rows.Taking.{AskedPaths, IsCaller, IsTaken}
-use Rattle.arj_law_cause.specs.rows.Lines.{came_from_naming, came_from_store, was_activated, was_called, was_include}
+use Rattle.arj_law_cause.proofs.rows.Loading.{IsLocked}
+use Rattle.arj_law_cause.proofs.rows.Paths.{one_top, top_is}
+use Rattle.arj_law_cause.proofs.rows.Spans.{answered_at, in_range, or_first, or_last, rows_so, sent_to, shown_from}
+use Rattle.arj_law_cause.proofs.rows.Taking.{AskedPaths, IsCaller, IsTaken, bind_is}
+use Rattle.arj_law_cause.specs.rows.Lines.{came_from_store, was_activated, was_called}
 use Rattle.arj_law_cause.specs.rows.Says.{entry_modes, has_upper, says_of}
 
 -- ---- requests
@@ -58,10 +62,6 @@ invoke_is (ask.Record y c j g) x b i o is = absurd (cc is)
 invoke_is (ask.Vote j ties ends) x b i o is = absurd (cc is)
 invoke_is (ask.Prepare states) x b i o is = absurd (cc is)
 invoke_is (ask.Confirm grants excluded included) x b i o is = absurd (cc is)
-
-bind_is : (a : Ask) (x : ℕ) (include : Bool) (avoid : Binding) → bare a ≡ ask.Bind x include avoid → a ≡ ask.Bind x include avoid
-bind_is (ask.Invoke y c j ends p) x include avoid is = absurd (cc is)
-bind_is a x include avoid is = is
 
 -- ---- what was asked, in the journal's words
 
@@ -178,11 +178,30 @@ module _ (hd : Header) (k : ℕ) (M : Moment) (h : Here) (header : h.header ≡ 
   known v before after are is = one_found (λ (a : Act). uid_eq a.uid v) (acts h.lines)
       (ap (λ ls. has_act (acts ls) v) (lines ∙ are) ∙ any_later (λ (a : Act). uid_eq a.uid v) before after is)
 
-  -- an include that is done
-  pub included_so : (n : ℕ) → s.goal ≡ Include n → was_include h (name w.label) s.x n ≡ true
-  included_so n goal = row_so (λ b z. is_include_of s.x n z.event)
-      (ap (is_include_of s.x n) (its_event ∙ ap (asks_goal (let g = c.asked.goal in g.0) s.x) goal)
-      ∙ (λ i. eq-eqb s.x s.x refl i && eq-eqb n n refl i))
+  -- an include that is done in its top's lock
+  pub included_so : (n : ℕ) → s.goal ≡ Include n →
+      IsLocked M.seen.lines M.past.askings w.label (top_of s.path) s.x → includes_caused h (name w.label) s.x n ≡ true
+  included_so n goal locked = row_so (λ b z. is_include_of s.x n z.event
+      && holds_of (λ top. from_place h z.at (has_lock 1 top.uid (entry s.x) mode.Write)) (top_in z.path))
+      (λ j. (ap (is_include_of s.x n) (its_event ∙ ap (asks_goal (let g = c.asked.goal in g.0) s.x) goal)
+      ∙ (λ i. eq-eqb s.x s.x refl i && eq-eqb n n refl i)) j && (ap (holds_of (λ top. from_place h (let z = q in z.at)
+      (has_lock 1 top.uid (entry s.x) mode.Write))) its_top.1 ∙ shown) j)
+    where
+      its_top : (top : Act) × (top_in (let z = q in z.path) ≡ Some top) × (top.uid ≡ top_of s.path)
+      its_top =
+          let f = paths c.asked.asking c.asked.there in
+          let l : label_of (let z = q in z.event) ≡ name w.label =
+          label_is (let z = q in z.event) (let g = c.asked.goal in g.0) s.x s.goal its_event ∙ (let g = c.asked.goal in g.1) in
+          let at_first : (let z = q in z.path) ≡ path (acts f.first) (name w.label) = f.path ∙ ap (path (acts f.first)) l in
+          let o = one_top c.begun c.all M.seen.lines f.first f.more f.are c.distinct c.alike (name w.label) c.act c.named c.caller c.there
+          (c.uid ∙ sym c.actor ∙ ap actor (sym c.path)) c.formed c.unserial
+          (ap uids (sym at_first) ∙ its_path ∙ ap uids_of (sym c.path)) in
+          (o.0, ap top_in at_first ∙ o.1, o.2 ∙ ap top_of c.path)
+
+      shown : from_place h (let z = q in z.at) (has_lock 1 (let a = its_top.0 in a.uid) (entry s.x) mode.Write) ≡ true
+      shown = shown_from h (let z = q in z.at) (has_lock 1 (let a = its_top.0 in a.uid) (entry s.x) mode.Write) locked.before locked.after
+          (lines ∙ locked.are) (locked.late (let z = q in z) (let a = c.asked in a.last))
+          (ap (λ v. has_lock 1 v (entry s.x) mode.Write locked.before) its_top.2 ∙ locked.lock)
 
   -- ---- an answer that it takes
 
@@ -408,15 +427,6 @@ module _ (hd : Header) (k : ℕ) (M : Moment) (h : Here) (header : h.header ≡ 
     store_so x n rest v m at is write = λ i. same_mode (write i) mode.Write
         && row_so (λ y z. answered h z.at y.uid.node from (frame.Loaded ∷ []) (λ before. true))
         (found_at frame.Loaded (ap (λ z. frame_kind (response a z)) is) refl (λ before. true) refl) i
-
-    -- naming's answer without a store
-    pub lost_at_naming : (avoid : Binding) (z : BoundReply) (n : ℕ) → s.at ≡ AtBind avoid → r ≡ Reply.Bound z → n ≡ 1 →
-        came_from_naming h (name w.label) n ≡ true
-    lost_at_naming avoid z n at is one = λ i. eq-eqb n 1 one i
-        && row_so (λ y x. answered h x.at y.uid.node 1 (frame.Bound ∷ []) (λ before. true))
-        (subst (λ m. answered h (let x = q in x.at) (let y = c.act.uid in y.node) m (frame.Bound ∷ []) (λ before. true) ≡ true)
-        (sym (ap (λ x. node_at x) (sym at) ∙ T.node))
-        (found_at frame.Bound (ap (λ x. frame_kind (response a x)) is) refl (λ before. true) refl)) i
 
     -- any conflict's line
     pub conflict_so : (v : Uid) (m : Mode) (n : ℕ) → IsConflict s.at r v m n →

@@ -18,16 +18,16 @@ use Rattle.arj_law_parts.proofs.moves.{Events.closes_at, Events.happened, Events
 use Rattle.arj_law_parts.proofs.moves.{Happens.Wide, Happens.arms_hold, Happens.wide_steps, Together.with_both}
 use Rattle.arj_law_parts.proofs.moves.Worlds.{says_hold}
 use Rattle.arj_law_parts.specs.moves.Moments as Moments
-use Rattle.arj_law_parts.specs.moves.Moments.{History, Moment, asks_now, closed, come, given, no_history, opened, said}
+use Rattle.arj_law_parts.specs.moves.Moments.{History, Moment, asks_now, come, given, no_history, said}
 use Rattle.arj_law_parts.specs.moves.Seen as seen
-use Rattle.arj_law_parts.specs.moves.With.{Closes, HoldsAt, HoldsWith, KeepsSteps, UpWith, Wrote, asked_of_node, look, past_event}
+use Rattle.arj_law_parts.specs.moves.With.{Closes, HoldsAt, HoldsWith, KeepsSteps, Opens, UpWith, Wrote, asked_of_node, look, past_event}
 use Rattle.arj_law_parts.specs.moves.With.{past_moves, past_unless, written}
 use Rattle.arj_law_parts.specs.steps.Writes as writes
 use Rattle.arj_law_serial.proofs.holding.{Events.IsShown, Events.event_shown, Events.first_is_shown, Events.first_showing}
 use Rattle.arj_law_serial.proofs.holding.{Events.later_off, Running.Known as KnownOf, Running.Showing, Running.showing_kept}
 use Rattle.arj_model.specs.Past.{Past}
-use Rattle.arj_law_cause.proofs.rows.{Inside.Inside, Inside.inside_step, Telling.served_says, Telling.silent_front, Telling.table_then}
-use Rattle.arj_law_cause.specs.rows.{Runs.RunsMeetRows, Says.says_so}
+use Rattle.arj_law_cause.proofs.rows.{Inside.inside_step, Telling.served_says, Telling.silent_front, Telling.table_then}
+use Rattle.arj_law_cause.specs.rows.{Runs.RunsMeetRows, Says.says_so, Tables.Inside, Tables.Tables}
 
 -- ---- two relations
 
@@ -67,16 +67,12 @@ Core M = (Wide Known M × Wide Base M) × AnswersAreMade says_so M
 
 -- ---- inside of an event
 
--- so much is known, and tables show locks
-abbrev pub Tables : Header → List Line → ℕ → Moment → Type 0
-Tables hd before event M = (Wide Known M × Wide (Showing hd (length before) event) M) × Inside before event M
-
--- and answers say what is so
+-- tables show locks, and answers say what is so
 abbrev pub InEvent : Header → List Line → ℕ → Moment → Type 0
 InEvent hd before event M = Tables hd before event M × AnswersAreMade says_so M
 
 module _ (hd : Header) (before : List Line) (event : ℕ) (early : (j : ℕ) → (event == up_of j before) ≡ false) where
-  tables_step : KeepsSteps hd (Tables hd before event)
+  pub tables_step : KeepsSteps hd (Tables hd before event)
   tables_step = steps_both hd (λ M. Wide Known M × Wide (Showing hd (length before) event) M) (Inside before event)
       (steps_both hd (Wide Known) (Wide (Showing hd (length before) event)) (let k = known_wide hd in k.steps)
       (wide_steps hd ⊤ (Showing hd (length before) event) (showing_kept hd (length before) event ⊤ tt))) (inside_step before event hd)
@@ -132,10 +128,10 @@ wrote_more g w bs h = (
 pub record Beside (hd : Header) (P : Moment → Type 0) (I : List Line → ℕ → Moment → Type 0) : Type 0 where
   pub inner : (before : List Line) (event : ℕ) → ((j : ℕ) → (event == up_of j before) ≡ false) → KeepsSteps hd (I before event)
   pub knows : (before : List Line) (event : ℕ) (M : Moment) → I before event M → InEvent hd before event M
-  pub opens : (e : Event) (M : Moment) → P M → P (opened e M)
+  pub opens : Opens P P
   pub enters : (before : List Line) (event : ℕ) (M : Moment) → M.past.number ≡ event → (let r = M.past.run in r.lines) ≡ before →
       M.seen.lines ≡ before → InEvent hd before event M → P M → I before event M
-  pub leaves : (before : List Line) (event : ℕ) (bodies : List Body) (M : Moment) → I before event M → P (closed bodies M)
+  pub leaves : (before : List Line) (event : ℕ) → Closes (I before event) P
   pub labels : (M : Moment) → P M → P (said (body.Limit which.Labels ∷ []) M)
 
 module _ (hd : Header) (P : Moment → Type 0) (I : List Line → ℕ → Moment → Type 0) (beside : Beside hd P I) where
@@ -148,7 +144,7 @@ module _ (hd : Header) (P : Moment → Type 0) (I : List Line → ℕ → Moment
     pub shown : IsShown hd w
 
   module _ (g : History) (w : World) (h : StandsSo g w) where
-    early : (j : ℕ) → (w.event + 1 == up_of j w.lines) ≡ false
+    pub early : (j : ℕ) → (w.event + 1 == up_of j w.lines) ≡ false
     early j = let s = h.shown in later_off (up_of j w.lines) w.event (s.early j)
 
     -- what tables show before the event
@@ -165,10 +161,10 @@ module _ (hd : Header) (P : Moment → Type 0) (I : List Line → ℕ → Moment
             (sym nodes) (let s = h.shown in s.shown n))
 
     -- as the event comes
-    opened_so : (e : Event) → w.over ≡ false → HoldsAt hd (I w.lines (w.event + 1)) (come e g) (counted w)
+    pub opened_so : (e : Event) → w.over ≡ false → HoldsAt hd (I w.lines (w.event + 1)) (come e g) (counted w)
     opened_so e over =
         let o = opens_at hd Rest Rest (λ f M first number c.
-        ((c.0.0, made_opens says_so f M first number c.0.1), beside.opens f M c.1)) e g w
+        ((c.0.0, made_opens says_so f M first number c.0.1), beside.opens f M first number c.1)) e g w
         over h.holds in
         record {
           sent = o.sent;
@@ -196,7 +192,7 @@ module _ (hd : Header) (P : Moment → Type 0) (I : List Line → ℕ → Moment
     closed_so bodies M number lines c =
         let k = beside.knows w.lines (w.event + 1) M c in (
           ((k.0.0.0, (let s = k.0.0.1 in (s.0, s.1, (s.2.0, s.2.1)))), made_closes says_so bodies M number lines k.1),
-          beside.leaves w.lines (w.event + 1) bodies M c,
+          beside.leaves w.lines (w.event + 1) bodies M number lines c,
         )
 
     labels_so : HoldsWith hd Rest g (no_labels w)
@@ -300,9 +296,9 @@ module _ (hd : Header) (P : Moment → Type 0) (I : List Line → ℕ → Moment
       let v = record w { arms = m.falls } in
       armed_so (past_event m.asked v g) (run_event m.asked v) [] (next_so g v (armed_so g w m.falls h) m.asked)
 
-  moves_so : (ms : List Move) (g : History) (w : World) → StandsSo g w → HoldsWith hd Rest (past_moves ms w g) (all_moved ms w)
-  moves_so [] g w h = h.holds
-  moves_so (m ∷ ms) g w h = moves_so ms (past_event m.asked (record w { arms = m.falls }) g) (moved m w) (move_so m g w h)
+  pub moves_stand : (ms : List Move) (g : History) (w : World) → StandsSo g w → StandsSo (past_moves ms w g) (all_moved ms w)
+  moves_stand [] g w h = h
+  moves_stand (m ∷ ms) g w h = moves_stand ms (past_event m.asked (record w { arms = m.falls }) g) (moved m w) (move_so m g w h)
 
   pub first_so : (st : Start) → IsFormed hd st → P (look (no_history st) [] (world_from hd st)) →
       StandsSo (no_history st) (world_from hd st)
@@ -331,21 +327,22 @@ module _ (hd : Header) (P : Moment → Type 0) (I : List Line → ℕ → Moment
   }
 
 -- nothing else
-none_beside : (hd : Header) → Beside hd (λ M. ⊤) (InEvent hd)
+pub none_beside : (hd : Header) → Beside hd (λ M. ⊤) (InEvent hd)
 none_beside hd = record {
   inner = λ before event early. event_step hd before event early;
   knows = λ before event M h. h;
-  opens = λ e M h. tt;
+  opens = λ e M first number h. tt;
   enters = λ before event M number first lines k h. k;
-  leaves = λ before event bodies M h. tt;
+  leaves = λ before event bodies M number lines h. tt;
   labels = λ M h. tt;
 }
 
 pub runs_meet : RunsMeetRows
 runs_meet hd r =
     let b = none_beside hd in
-    let h = moves_so hd (λ M. ⊤) (InEvent hd) b r.moves (no_history r.start) (world_from hd r.start)
+    let z = moves_stand hd (λ M. ⊤) (InEvent hd) b r.moves (no_history r.start) (world_from hd r.start)
     (first_so hd (λ M. ⊤) (InEvent hd) b r.start r.formed tt) in
+    let h = z.holds in
     record {
       now = record {
         sent = h.now.sent;

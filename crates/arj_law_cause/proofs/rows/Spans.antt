@@ -46,6 +46,18 @@ any_dropped f zero xs ys late is = any_behind f xs ys is
 any_dropped f (suc n) [] ys late is = absurd (omega (arith, late))
 any_dropped f (suc n) (x ∷ xs) ys late is = any_dropped f n xs ys (omega (arith, late)) is
 
+-- what shows at a place in the span shows from its beginning on
+pub shown_from : (h : Here) (a : ℕ) (shows : List Line → Bool) (before after : List Line) → h.lines ≡ before ++ after → a ≤ length before →
+    shows before ≡ true → from_place h a shows ≡ true
+shown_from h a shows before after are late is =
+    any_in (λ p. shows (take p h.lines)) (length before) (range_with_len a (length h.lines + 1 - a))
+    (in_range a (length h.lines + 1 - a) (length before) late (room (length before) (length after) (length h.lines) late
+    (ap length are ∙ length-append before after)))
+    (ap (λ ls. shows (take (length before) ls)) are ∙ ap shows (take-append_seam before after) ∙ is)
+  where
+    room : (b c l : ℕ) → a ≤ b → l ≡ b + c → b < a + (l + 1 - a)
+    room b c l low is = omega (arith, low, is)
+
 -- ---- an answer
 
 module _ (h : Here) (a home n : ℕ) (what : FrameKind) (kinds : List FrameKind) (shows : List Line → Bool) (before after : List Line)
@@ -68,11 +80,7 @@ module _ (h : Here) (a home n : ℕ) (what : FrameKind) (kinds : List FrameKind)
       some m = omega arith
 
   alone : from_place h a shows ≡ true
-  alone = any_in (λ p. shows (take p h.lines)) (length before) (range_with_len a (length h.lines + 1 - a))
-      (in_range a (length h.lines + 1 - a) (length before) late (room (length before) (length after) (length h.lines) late long)) there
-    where
-      room : (b c l : ℕ) → a ≤ b → l ≡ b + c → b < a + (l + 1 - a)
-      room b c l low is = omega (arith, low, is)
+  alone = shown_from h a shows before after are late is
 
   sent : BeginsWith n home what after → list_any (λ p. begins_with (is_frame n home kinds) (drop p h.lines) && shows (take p h.lines))
       (range_with_len a (length h.lines - a)) ≡ true

@@ -4,9 +4,12 @@ use Words.{⊎_elim, ◌≡◌, ◌⊎◌, ◌≤◌, ◌∙◌, ◌+◌, ◌==�
 use Words.{refl, sym, ap, subst, inl, inr, arith, and_parts, eqb-true, eq-eqb, is_some, bytes_eq, In, in_find, in_to}
 use Words.{Ask, Asked, Header, Line, Message, Uid, name, Reply, actor, answers, frame_kind, response, reply_kind}
 use Words.{ask_kind, next_ask, next_node, waits_for_call, Steps, Calling, Doing, doing_of, Disk, Parts, Node, at_place, is_own, Contains}
-use Words.{End, kept_of, root_at, root_of}
+use Words.{Binding, End, Kind, is_serial, kept_of, root_at, root_of}
+use Words.ask
+use Words.kind
 use Rattle.arj_law_serial.proofs.Terms
-use Terms.{Act, Action, AreAlike, AreBegun, AreDistinct, IsAsking, IsBusy, IsNumbered, act_in, action_of, acts, actor_is, begun_tree, book}
+use Terms.{Act, Action, AreAlike, AreBegun, AreDistinct, AreFormed, IsAsking, IsBusy, IsNumbered, act_in, action_of, acts, actor_is}
+use Terms.{begun_tree, book}
 use Terms.{its_acts, its_sound, is_book, paths_of, same_number, IsUp, IsEnd, IsKnown}
 use Rattle.arj_law_lock_view.proofs.asking.{Keeping.HasPaths, Keeping.its, Keeping.mine, Knowing.IsThere, Knowing.KnowsCoord}
 use Rattle.arj_law_lock_view.proofs.asking.{Tying.own_of}
@@ -27,6 +30,7 @@ use Rattle.arj_law_runs.specs.journal.Knows.{IsWritten}
 use Rattle.arj_model.specs.Actions.{halts, is_halted, path}
 use Rattle.arj_model.specs.Past.{label_of}
 use Rattle.arj_model.specs.Refusals.{has_ended, is_over_act}
+use Rattle.arj_law_cause.proofs.waits.lost.Bound.{ReplyFull, says_full}
 use Rattle.arj_law_cause.specs.rows.Says.{says_of, says_so}
 
 some_is : {A : Type 0} {a b : A} → Some a ≡ Some b → a ≡ b
@@ -34,6 +38,12 @@ some_is {A} {a} {b} is = let k : ◌≡◌ {A = Option A} (Some a) (Some b) = is
 
 none_is : {A P : Type 0} {x : A} → None ≡ Some x → P
 none_is {A} {P} {x} is = let no_way : ◌≡◌ {A = Option A} None (Some x) = is in absurd (cc no_way)
+
+-- ---- requests
+
+pub bind_is : (a : Ask) (x : ℕ) (include : Bool) (avoid : Binding) → bare a ≡ ask.Bind x include avoid → a ≡ ask.Bind x include avoid
+bind_is (ask.Invoke y c j ends p) x include avoid is = absurd (cc is)
+bind_is a x include avoid is = is
 
 -- ---- paths of what was asked
 
@@ -56,7 +66,7 @@ pub record Works (hd : Header) (k : ℕ) (d : Disk) (t : Parts) (M : Moment) : T
   pub all : Wide KnowsAll (up k d t M)
   pub addressed : Wide (AreAddressed hd) (up k d t M)
   pub made : AnswersAreMade says_so (up k d t M)
-  pub firsts : AskedPaths (up k d t M)
+  pub full : AnswersAreMade says_full (up k d t M)
 
 -- The action that waits, in the journal's words: it's open, has one more asked than answered, and waits for that.
 pub record IsCaller (k : ℕ) (M : Moment) (u : Uid) (w : Doing) (s : Steps) : Type 0 where
@@ -72,6 +82,8 @@ pub record IsCaller (k : ℕ) (M : Moment) (u : Uid) (w : Doing) (s : Steps) : T
   pub all : AreBegun begun
   pub alike : AreAlike begun (acts M.seen.lines)
   pub distinct : AreDistinct (acts M.seen.lines)
+  pub formed : AreFormed (acts M.seen.lines)
+  pub unserial : is_serial (let b = act in b.kind) ≡ false
   pub caller : Action
   pub there : Contains begun caller
   pub path : (let a = caller in a.path) ≡ s.path
@@ -136,6 +148,8 @@ module _ (hd : Header) (k : ℕ) (d : Disk) (t : Parts) (M : Moment) (W : Works 
     all = all;
     alike = alike;
     distinct = distinct;
+    formed = (let s = its_sound M.seen.lines written.right in s.formed);
+    unserial = unserial;
     caller = action_of asking.branch;
     there = (let g = knows.coord in g.known u asking.branch asking.found);
     path = asking.path;
@@ -163,13 +177,26 @@ module _ (hd : Header) (k : ℕ) (d : Disk) (t : Parts) (M : Moment) (W : Works 
       among : In stands.act (acts M.seen.lines)
       among = (in_find (λ (x : Act). bytes_eq x.label (name w.label)) stands.act (acts M.seen.lines) stands.named).0
 
+      known : IsKnown (book M.seen.lines) u (let b = asking.branch in b.kind) (let b = asking.branch in b.ended) w.label
+      known = let up_here = knows.knows in (let n = up_here.knows in n.acts u asking.branch w asking.found found)
+
+      -- it isn't serializing
+      unserial : is_serial (let b = stands.act in b.kind) ≡ false
+      unserial =
+          let same : known.act ≡ stands.act =
+          some_is (sym known.named ∙ ap (λ xs. act_in xs (name w.label)) acts_are ∙ stands.named) in
+          by (let b = stands.act in b.kind) (λ serial. asking.unserial (sym known.kind ∙ ap (λ (z : Act). z.kind) same ∙ serial))
+        where
+          by : (q : Kind) → (q ≡ kind.Serial → ⊥) → is_serial q ≡ false
+          by kind.Serial other = absurd (other refl)
+          by kind.Top other = refl
+          by kind.Nested other = refl
+          by kind.Constituent other = refl
+          by kind.Independent other = refl
+
       -- it has no end by the book
       unended : over_in (book M.seen.lines) u ≡ false
-      unended =
-          let up_here = knows.knows in
-          let a : IsKnown (book M.seen.lines) u (let b = asking.branch in b.kind) (let b = asking.branch in b.ended) w.label =
-          (let n = up_here.knows in n.acts u asking.branch w asking.found found) in
-          by (let b = asking.branch in b.ended) asking.opened a.end
+      unended = by (let b = asking.branch in b.ended) asking.opened known.end
         where
           by : (o : Option End) → is_some o ≡ false → IsEnd (book M.seen.lines) u (let b = asking.branch in b.kind) o →
               over_in (book M.seen.lines) u ≡ false
@@ -255,3 +282,7 @@ module _ (hd : Header) (k : ℕ) (d : Disk) (t : Parts) (M : Moment) (W : Works 
       where
         low : {n : ℕ} → n ≤ w.req → n ≤ (let h = ans.0 in h.req)
         low le = omega (arith, le, req_is)
+
+    -- it names some store, where it goes on to load
+    pub full_reply : ReplyFull r
+    full_reply = let z = W.full.sent (post from k m) a r sent_it answer in let f = z.3 in f.made.so

@@ -3,7 +3,8 @@
 use Rattle.arj_law_parts.proofs.Words
 use Words.{◌≡◌, ◌∙◌, ◌==◌, ◌++◌, ◌&&◌, ℕ, Bool, true, false, if◌then◌else◌, List, [], ◌∷◌, length, Option, Some, None, refl, sym, ap}
 use Words.{subst, ⊤, list_all, and_parts}
-use Words.{append-nil, append_assoc, map-append, option_map, is_some, eqb-true, entry, object, op_mode, uids_of, top_path, Ask, Asked}
+use Words.{append-nil, append_assoc, map-append, option_map, is_some, eqb-true, entry, object, op_mode, uids_of, top_of, top_path, Ask}
+use Words.{Asked}
 use Words.{Body, Head, Header, Line, Message, Mode, Uid, Op, Binding, End}
 use Words.{Reply, answers, asked_by, response, Disk, Do, Effect, Say, Send, worked, Naming, Handled, Parts, Took, Void, handle, serve}
 use Words.{served, sends_answer, if_naming, Contains, In, Row, actor, at_number, in_find, in_to, is_against, last_uid, Copy, rows_in_copy}
@@ -12,6 +13,7 @@ use Words.{with_naming, with_server, numbered, Post, Seen, InvokedReply, BoundRe
 use Words.ask
 use Words.bound
 use Words.invoked
+use Words.mode
 use Words.naming
 use Words.server
 use Rattle.arj_law_serial.proofs.Terms
@@ -32,10 +34,10 @@ use Rattle.arj_law_serial.proofs.holding.Sorts.{is_no_start}
 use Rattle.arj_model.specs.CauseAnswers.{meets}
 use Rattle.arj_model.specs.Table.{table}
 use Rattle.arj_protocol.specs.Laws.{naming_rows}
-use Rattle.arj_law_cause.proofs.rows.Inside.{Inside, handle_starts}
+use Rattle.arj_law_cause.proofs.rows.Inside.{handle_starts}
 use Rattle.arj_law_cause.proofs.rows.Holders.{begun_act, entry_upper, upper_act}
-use Rattle.arj_law_cause.proofs.rows.Meeting.{Meets, bind_meets, invoke_meets, invoke_runs, lock_by, meets_by}
-use Rattle.arj_law_cause.specs.rows.Says.{has_upper, says_of}
+use Rattle.arj_law_cause.proofs.rows.Meeting.{Meets, bind_meets, bind_writes, invoke_meets, invoke_runs, lock_by, meets_by}
+use Rattle.arj_law_cause.specs.rows.{Says.has_upper, Says.says_of, Tables.Inside}
 use Rattle.arj_law_parts.proofs.parts.LivesNamed.{all_found}
 use Terms.{IsEntryRow}
 use Terms.{HaveUpper}
@@ -286,7 +288,11 @@ module _ (hd : Header) (before : List Line) (event : ℕ) (early : (j : ℕ) →
                 says_of k h (ask.Bind x include avoid) (Reply.Bound q) lines
             says (bound.Live b s i g stores) at same = bind_kind h.path x include avoid d.names o (bound.Live b s i g stores) at
             says (bound.Make b s g stores) at same = bind_kind h.path x include avoid d.names o (bound.Make b s g stores) at
-            says (bound.Write g stores) at same = tt
+            says (bound.Write g stores) at same =
+                lock_by 1 (top_of h.path) (entry x) mode.Write lines (naming_rows x (naming.bind h.path x include avoid d.names o).part)
+                (subst (λ n. rows_on (entry x) (table n lines) ≡ named_locks x v.naming) (eqb-true k 1 one) (shown.naming x one)
+                ∙ ap (λ (y : Parts). named_locks x y.naming) (sym same))
+                (bind_writes h.path x g stores include avoid d.names o at)
             says (bound.Conflict u m) at same =
                 let z = bind_meets h.path x u m include avoid d.names o at in (
                   eqb-true k 1 one,

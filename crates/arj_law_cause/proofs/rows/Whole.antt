@@ -34,7 +34,9 @@ use Rattle.arj_law_cause.proofs.rows.{Asks.asks_some}
 use Rattle.arj_law_cause.proofs.rows.Lined
 use Rattle.arj_law_cause.proofs.rows.Running
 use Rattle.arj_law_cause.proofs.rows.Running.{Beside, InEvent, StandsSo, event_step, steps_both}
+use Rattle.arj_law_cause.proofs.rows.Locked.{LoadsAreLocked, first_locked, locked_step, more_are}
 use Rattle.arj_law_cause.proofs.rows.Taking.{AskedPaths, Works}
+use Rattle.arj_law_cause.proofs.waits.lost.Bound.{Stocked, stocked_keep}
 use Rattle.arj_law_cause.specs.rows.Lines.{AnswersHaveCauses, AnswersStep, answer_fits}
 
 none_is : {A P : Type 0} {x : A} → None ≡ Some x → P
@@ -56,7 +58,7 @@ module _ (hd : Header) (form : HeaderInForm hd) (st : Start) where
   -- ---- what is known
 
   abbrev Knows : Moment → Type 0
-  Knows M = Wide Pathed M × (Wide KnowsAll M × Wide (AreAddressed hd) M)
+  Knows M = Wide Pathed M × (Wide KnowsAll M × (Wide (AreAddressed hd) M × Stocked hd M))
 
   abbrev Tied : Moment → Type 0
   Tied M = Knows M × AskedAreTied M
@@ -68,40 +70,53 @@ module _ (hd : Header) (form : HeaderInForm hd) (st : Start) where
   names_wide = wide_kept hd (IsAtStarts hd (AreAddressed hd)) (AreAddressed hd) (kept hd form)
 
   knows_steps : KeepsSteps hd Knows
-  knows_steps = steps_both hd (Wide Pathed) (λ M. Wide KnowsAll M × Wide (AreAddressed hd) M) (let k = pathed_wide hd in k.steps)
-      (steps_both hd (Wide KnowsAll) (Wide (AreAddressed hd)) (let k = halts_wide in k.steps) (let k = names_wide in k.steps))
+  knows_steps = steps_both hd (Wide Pathed) (λ M. Wide KnowsAll M × (Wide (AreAddressed hd) M × Stocked hd M))
+      (let k = pathed_wide hd in k.steps)
+      (steps_both hd (Wide KnowsAll) (λ M. Wide (AreAddressed hd) M × Stocked hd M) (let k = halts_wide in k.steps)
+      (steps_both hd (Wide (AreAddressed hd)) (Stocked hd) (let k = names_wide in k.steps) (let k = stocked_keep hd form in k.steps)))
 
   tied_steps : KeepsSteps hd Tied
   tied_steps = tied_step hd Knows knows_steps (λ M h. paths_of_wide M h.0)
 
   -- between events, and inside of one
   abbrev Between : Moment → Type 0
-  Between M = Tied M × AskedPaths M
+  Between M = (Tied M × LoadsAreLocked M) × AskedPaths M
 
   abbrev Inner : List Line → ℕ → Moment → Type 0
-  Inner before event M = (InEvent hd before event M × Tied M) × Lined.Lined hd st before event M
+  Inner before event M = ((InEvent hd before event M × Tied M) × LoadsAreLocked M) × Lined.Lined hd st before event M
 
   works : (before : List Line) (event k : ℕ) (d : Disk) (t : Parts) (M : Moment) →
-      InEvent hd before event (up k d t M) × Tied (up k d t M) → AskedPaths (up k d t M) → Works hd k d t M
-  works before event k d t M h paths = record {
+      InEvent hd before event (up k d t M) × Tied (up k d t M) → Works hd k d t M
+  works before event k d t M h = record {
     paths = paths_of_wide (up k d t M) h.1.0.0;
     tied = h.1.1;
     known = h.0.0.0.0;
     all = h.1.0.1.0;
-    addressed = h.1.0.1.1;
+    addressed = h.1.0.1.1.0;
     made = h.0.1;
-    firsts = paths;
+    full = h.1.0.1.1.1.1;
   }
 
   pub its_beside : Beside hd Between Inner
   its_beside = record {
-    inner = λ before event early. Lined.lined_step hd st before event (λ M. InEvent hd before event M × Tied M)
-        (steps_both hd (InEvent hd before event) Tied (event_step hd before event early) tied_steps)
-        (λ k d t M h paths. works before event k d t M h paths);
-    knows = λ before event M h. h.0.0;
-    opens = λ e M h. ((h.0.0, (let t = h.0.1 in record { tied = t.tied; new = t.new })), h.1);
+    inner = λ before event early.
+        let both = steps_both hd (InEvent hd before event) Tied (event_step hd before event early) tied_steps in
+        Lined.lined_step hd st before event (λ M. (InEvent hd before event M × Tied M) × LoadsAreLocked M)
+        (locked_step hd (λ M. InEvent hd before event M × Tied M) both (λ k d t M h. works before event k d t M h))
+        (λ k d t M h. works before event k d t M h.0) (λ k d t M h. h.1);
+    knows = λ before event M h. h.0.0.0;
+    opens = λ e M first number h. (
+      (
+        (
+          (h.0.0.0.0, (h.0.0.0.1.0, (h.0.0.0.1.1.0, (let k = stocked_keep hd form in k.opens e M first number h.0.0.0.1.1.1)))),
+          (let t = h.0.0.1 in record { tied = t.tied; new = t.new }),
+        ),
+        h.0.1,
+      ),
+      h.1,
+    );
     enters = λ before event M number first lines k h. (
-      (k, h.0),
+      ((k, h.0.0), h.0.1),
       record {
         number = number;
         first = first;
@@ -111,10 +126,25 @@ module _ (hd : Header) (form : HeaderInForm hd) (st : Start) where
         fit = λ accepted same. refl;
       },
     );
-    leaves = λ before event bodies M h.
-        ((h.0.1.0, (let t = h.0.1.1 in record { tied = t.tied; new = t.new })), (let l = h.1 in l.paths));
+    leaves = λ before event bodies M number lines h. (
+      (
+        (
+          (
+            h.0.0.1.0.0,
+            (h.0.0.1.0.1.0, (h.0.0.1.0.1.1.0, (let k = stocked_keep hd form in k.closes bodies M number lines h.0.0.1.0.1.1.1))),
+          ),
+          (let t = h.0.0.1.1 in record { tied = t.tied; new = t.new }),
+        ),
+        h.0.1,
+      ),
+      (let l = h.1 in l.paths),
+    );
     labels = λ M h. (
-      tied_steps.quiet (body.Limit which.Labels ∷ []) M refl h.0,
+      (
+        tied_steps.quiet (body.Limit which.Labels ∷ []) M refl h.0.0,
+        λ j n t there live. more_are M.seen.lines (numbered M.past.number (body.Limit which.Labels ∷ [])) M.past.askings t.coord
+            (h.0.1 j n t there live),
+      ),
       λ q i. Lined.path_more M.seen.lines (numbered M.past.number (body.Limit which.Labels ∷ [])) q (h.1 q i),
     );
   }
@@ -314,13 +344,16 @@ module _ (hd : Header) (form : HeaderInForm hd) (st : Start) where
   first_between formed = (
     (
       (
-        ([], (λ p i. i), (let k = pathed_wide hd in k.first st formed)),
         (
-          ([], (λ p i. i), (let k = halts_wide in k.first st formed)),
-          ([], (λ p i. i), (let k = names_wide in k.first st formed)),
+          ([], (λ p i. i), (let k = pathed_wide hd in k.first st formed)),
+          (
+            ([], (λ p i. i), (let k = halts_wide in k.first st formed)),
+            (([], (λ p i. i), (let k = names_wide in k.first st formed)), (let k = stocked_keep hd form in k.first st formed)),
+          ),
         ),
+        (let t = first_tied hd st in record { tied = t.tied; new = t.new }),
       ),
-      (let t = first_tied hd st in record { tied = t.tied; new = t.new }),
+      first_locked hd st,
     ),
     λ q i. absurd i,
   )

@@ -12,7 +12,7 @@ use Rattle.arj_text.specs.Label.{name}
 use Rattle.arj_model.specs.Actions.{Act}
 use Rattle.arj_model.specs.CauseAnswers.{was_told}
 use Rattle.arj_model.specs.Past.{Asked, Past}
-use Rattle.arj_model.specs.CauseSpans.{Here, answered, asks_so, here_at, is_call, is_include_of, nodes_of, same_mode}
+use Rattle.arj_model.specs.CauseSpans.{Here, answered, asks_so, here_at, is_call, nodes_of, same_mode}
 use Rattle.arj_model.specs.Caused.{has_cause}
 use Rattle.arj_model.specs.Follows.{Runs}
 use Rattle.arj_law_runs.specs.follow.Frames.{are_so, run_events}
@@ -23,14 +23,6 @@ abbrev pub came_from_store : Here → List ℕ → Mode → ℕ → Bool
 came_from_store h l held n =
     same_mode held Write && asks_so h l (λ a k. answered h k.at a.uid.node n (frame.Loaded ∷ []) (λ before. true))
 
--- naming answered what was asked; it does so with no store where none is listed
-abbrev pub came_from_naming : Here → List ℕ → ℕ → Bool
-came_from_naming h l n = (n == 1) && asks_so h l (λ a k. answered h k.at a.uid.node 1 (frame.Bound ∷ []) (λ before. true))
-
--- an include was asked, of this store for this object
-abbrev pub was_include : Here → List ℕ → ℕ → ℕ → Bool
-was_include h l x n = asks_so h l (λ a k. is_include_of x n k.event)
-
 -- some server answered what was asked that it has a copy
 abbrev pub was_activated : Here → Act → Asked → Bool
 was_activated h a k = list_any (λ n. answered h k.at a.uid.node n (frame.Activated ∷ []) (λ before. true)) (nodes_of h.header)
@@ -39,13 +31,13 @@ was_activated h a k = list_any (λ n. answered h k.at a.uid.node n (frame.Activa
 abbrev pub was_called : Here → List ℕ → ℕ → Bool
 was_called h l n = asks_so h l (λ a k. is_call k.event && (was_told h n a k || was_activated h a k))
 
--- A line that answers a call as done has its cause; so has one that says a conflict, unless a store said it; and one that says what was
--- lost, by its giveup, unless naming answered. One that answers an include as done, or says what changed, has this much of its cause.
+-- A line that answers a call or an include as done has its cause; so has one that says what was lost, and one that says a conflict, unless
+-- a store said it. One that says what changed has this much of its cause.
 abbrev pub answer_fits : Here → Body → Bool
 answer_fits h (body.Ok l x op answer) = has_cause h (body.Ok l x op answer)
 answer_fits h (body.Conflict l u held n) = has_cause h (body.Conflict l u held n) || came_from_store h (name l) held n
-answer_fits h (body.Lost l n) = has_cause h (body.Lost l n) || came_from_naming h (name l) n
-answer_fits h (body.Includes l x n) = was_include h (name l) x n
+answer_fits h (body.Lost l n) = has_cause h (body.Lost l n)
+answer_fits h (body.Includes l x n) = has_cause h (body.Includes l x n)
 answer_fits h (body.Changed l n d) = was_called h (name l) n
 answer_fits h _ = true
 

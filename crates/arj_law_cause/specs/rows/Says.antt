@@ -5,7 +5,7 @@ use Rattle.arj_base.specs.Uid.{entry, object, uid_eq}
 use Rattle.arj_class.specs.Table.{op_mode}
 use Rattle.arj_model.specs.Actions.{Act, acts}
 use Rattle.arj_model.specs.CauseAnswers.{has_lock, meets}
-use Rattle.arj_protocol.specs.Ask.{Reply, actor, top_path}
+use Rattle.arj_protocol.specs.Ask.{Reply, actor, top_of, top_path}
 use Rattle.arj_protocol.specs.Tree.{is_nested}
 use Rattle.arj_protocol.specs.Words.{Ask, Head, Line, Mode, Uid, uids_of}
 use Rattle.arj_protocol.specs.Words.ask
@@ -25,7 +25,8 @@ abbrev pub has_upper : List Act → Uid → Bool
 has_upper acts u = list_any (λ (a : Act). uid_eq a.uid u && not (is_nested a.kind)) acts
 
 -- A conflict: at a server the call, and at naming its top, meets the row of this holder in this mode, an action that began, at naming no
--- nested one. Where a server answers with what the operation gives, the action has its lock; and naming names a binding to no include.
+-- nested one. Where a server answers with what the operation gives, the action has its lock; naming names a binding to no include; and
+-- where it lets one go on, its top has the entry's write lock.
 abbrev pub says_of : ℕ → Head → Ask → Reply → List Line → Type 0
 says_of n h (ask.Invoke x b i ends o) (Reply.Invoked (invoked.Conflict u m)) before =
     (meets n (uids_of h.path) (object x) (op_mode o) u m before ≡ true) × (has_act (acts before) u ≡ true)
@@ -36,6 +37,8 @@ says_of n h (ask.Bind x include avoid) (Reply.Bound (bound.Conflict u m)) before
     × (has_upper (acts before) u ≡ true)
 says_of n h (ask.Bind x include avoid) (Reply.Bound (bound.Live b server i g stores)) before = include ≡ false
 says_of n h (ask.Bind x include avoid) (Reply.Bound (bound.Make b server g stores)) before = include ≡ false
+says_of n h (ask.Bind x include avoid) (Reply.Bound (bound.Write g stores)) before =
+    has_lock 1 (top_of h.path) (entry x) mode.Write before ≡ true
 says_of n h a r before = ⊤
 
 -- so it is of an answer
