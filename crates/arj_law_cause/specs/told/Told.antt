@@ -35,7 +35,7 @@ pub record TellsEvents (hd : Header) (st : Start) (es : List Event) (journal : L
 pub record TellsAnswers (hd : Header) (st : Start) (es : List Event) (journal : List Line) : Type 0 where
   -- a line that answers a call or an include is to the one that its action waits for, and behind it that waits for none
   pub replies : Runs (RepliesStep hd) st es journal
-  -- an `ok`, a `conflict` and what is lost have their causes, and what includes and changes has this much of it
+  -- an `ok`, an `includes`, a `conflict` but for a store's, and what is lost have their causes, and what changed has this much of it
   pub causes : Runs (AnswersStep hd) st es journal
 
 -- What nodes do.
