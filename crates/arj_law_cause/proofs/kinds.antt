@@ -20,3 +20,4 @@ pub mod Accepted
 pub mod Waiting
 pub mod Quiet
 pub mod Recovered
+pub mod Openings

@@ -1,5 +1,5 @@
 // Rows of causes: lines of the world, and what nodes do.
-ghost use Rattle.arj_law_cause.specs.kinds.Kinds.{is_armed, is_commit_done, is_dropped, is_found, is_got, is_halted, is_limit, is_plain_refusal, is_quiet, is_sent, is_up, is_void};
+ghost use Rattle.arj_law_cause.specs.kinds.Kinds.{is_armed, is_commit_done, is_dropped, is_found, is_got, is_halted, is_limit, is_opening, is_plain_refusal, is_quiet, is_sent, is_up, is_void};
 ghost use Rattle.arj_law_cause.specs.kinds.Rows.{RowHolds, RowHoldsWhere};
 
 /// In every run in form, wherever it begins and wherever disks stop, each line of a frame has its cause by the events and the lines before
@@ -52,4 +52,10 @@ pub fn quiesces_have_causes()
 /// which no line says that it was aborted. It does nothing when it runs.
 pub fn recoveries_have_causes()
     ensures found { RowHolds is_found }
+{}
+
+/// In every such run an action begins in an event that begins it, a commit's call is the first line of the event that commits the action, and
+/// a serializing action ends in the event that commits it. It does nothing when it runs.
+pub fn openings_have_causes()
+    ensures opening { RowHolds is_opening }
 {}

@@ -65,3 +65,10 @@ is_quiet _ = false
 abbrev pub is_found : Body → Bool
 is_found (body.Recovered n u) = true
 is_found _ = false
+
+-- it opens an event: an action began, a commit was called, or a serializing action ended
+abbrev pub is_opening : Body → Bool
+is_opening (body.Began l k u p) = true
+is_opening (body.Committing l) = true
+is_opening (body.Ended l) = true
+is_opening _ = false
