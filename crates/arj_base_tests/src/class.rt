@@ -255,8 +255,12 @@ fn restores(
     length: usize,
 ) -> Result<bool, AllocError> {
     let zeros = [0; 193];
-    match Value::restore_state(alloc, class, format, &zeros[..length]) {
-        Ok(value) => is_saved_so(alloc, &value, (class, &zeros[..length])),
+    if length > zeros.len() {
+        return Ok(false);
+    }
+    let payload = &zeros[..length];
+    match Value::restore_state(alloc, class, format, payload) {
+        Ok(value) => is_saved_so(alloc, &value, (class, payload)),
         Err(_) => Ok(false),
     }
 }

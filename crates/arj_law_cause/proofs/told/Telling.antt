@@ -6,6 +6,7 @@ use Rattle.arj_promise.specs.Runs.{IsInForm, Run}
 use Rattle.arj_law_cause.proofs.kinds.Committed.{done_row}
 use Rattle.arj_law_cause.proofs.kinds.Frames.{armed_row, dropped_row, got_row, halted_row, sent_row, void_row}
 use Rattle.arj_law_cause.proofs.kinds.Limit.{limit_row}
+use Rattle.arj_law_cause.proofs.kinds.Openings.{opening_row}
 use Rattle.arj_law_cause.proofs.kinds.Quiet.{quiet_row}
 use Rattle.arj_law_cause.proofs.kinds.Recovered.{found_row}
 use Rattle.arj_law_cause.proofs.kinds.Refused.{refused_row}
@@ -18,7 +19,11 @@ use Rattle.arj_law_cause.specs.told.Told.{TellsAnswers, TellsEvents, TellsNodes,
 
 module _ (hd : Header) (r : Run hd) (form : IsInForm hd r) where
   events_told : TellsEvents hd r.start (run_events hd r) (journal_by hd r)
-  events_told = record { follows = events_follow hd r form; plain = refused_row hd r form }
+  events_told = record {
+    follows = events_follow hd r form;
+    plain = refused_row hd r form;
+    openings = opening_row hd r form;
+  }
 
   answers_told : TellsAnswers hd r.start (run_events hd r) (journal_by hd r)
   answers_told = record { replies = replies_end hd r form; causes = answers_are_caused hd r form }

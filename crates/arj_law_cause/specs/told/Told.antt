@@ -8,7 +8,7 @@ use Rattle.arj_journal.specs.declared.header.Header.{Header}
 use Rattle.arj_model.specs.CauseSpans.{Here}
 use Rattle.arj_model.specs.Follows.{Runs}
 use Rattle.arj_start.specs.Start.{Start}
-use Rattle.arj_law_cause.specs.kinds.Kinds.{is_armed, is_commit_done, is_dropped, is_found, is_got, is_halted, is_limit, is_plain_refusal}
+use Rattle.arj_law_cause.specs.kinds.Kinds.{is_armed, is_commit_done, is_dropped, is_found, is_got, is_halted, is_limit, is_opening, is_plain_refusal}
 use Rattle.arj_law_cause.specs.kinds.Kinds.{is_quiet, is_sent, is_up, is_void}
 use Rattle.arj_law_cause.specs.kinds.Rows.{RowStep}
 use Rattle.arj_law_cause.specs.rows.Lines.{AnswersStep}
@@ -30,6 +30,8 @@ pub record TellsEvents (hd : Header) (st : Start) (es : List Event) (journal : L
   pub follows : Runs (StepSo hd) st es journal
   -- and one that names no action is refused for its cause alone
   pub plain : HaveCausesWhere is_plain_refusal hd st es journal
+  -- an action begins in the event that begins it, and a commit is called, and a serializing action ends, in the event that commits it
+  pub openings : HaveCauses is_opening hd st es journal
 
 -- What calls are answered.
 pub record TellsAnswers (hd : Header) (st : Start) (es : List Event) (journal : List Line) : Type 0 where
