@@ -8,6 +8,7 @@ mod Formats
 mod Halts
 mod Longer
 mod OtherEvents
+mod Told
 mod Whole
 mod WrongAnswers
 mod WrongDetails
