@@ -54,8 +54,9 @@ pub fn recoveries_have_causes()
     ensures found { RowHolds is_found }
 {}
 
-/// In every such run an action begins in an event that begins it, a commit's call is the first line of the event that commits the action, and
-/// a serializing action ends in the event that commits it. It does nothing when it runs.
+/// In every such run an action begins in an event that begins it, a commit's call is the first line of the event that commits the action,
+/// a serializing action ends in the event that commits it, and who is aborted because the script asks for it was open, and the event aborts it
+/// or one above it. It does nothing when it runs.
 pub fn openings_have_causes()
     ensures opening { RowHolds is_opening }
 {}

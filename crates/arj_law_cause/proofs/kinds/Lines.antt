@@ -11,7 +11,7 @@ use Rattle.arj_model.specs.Past.{Along, Past, block, next}
 use Rattle.arj_law_cause.specs.kinds.Rows.{RowStep, TestedStep, row, tested}
 
 -- the lines behind a run so far
-more_lines : (P : Past → Event → List Body → Type 0) (es : List Event) (p end : Past) → Along P p es end →
+pub more_lines : (P : Past → Event → List Body → Type 0) (es : List Event) (p end : Past) → Along P p es end →
     (more : List Line) × (end.lines ≡ p.lines ++ more)
 more_lines P [] p end a = ([], ap (λ (q : Past). q.lines) (sym a) ∙ sym (append-nil p.lines))
 more_lines P (e ∷ es) p end a =

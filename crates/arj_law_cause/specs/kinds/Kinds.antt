@@ -2,6 +2,7 @@
 use Rattle.std.specs.Prelude.{Bool, true, false}
 use Rattle.arj_journal.specs.declared.body.Body.{Body}
 use Rattle.arj_journal.specs.declared.body.Body.TheVariants as body
+use Rattle.arj_journal.specs.declared.body.Cause.TheVariants as cause
 use Rattle.arj_base.specs.declared.mode.End.TheVariants as ending
 use Rattle.arj_model.specs.CauseSpans.{Here}
 use Rattle.arj_law_runs.specs.follow.Refusals.{is_plain_cause}
@@ -66,9 +67,10 @@ abbrev pub is_found : Body → Bool
 is_found (body.Recovered n u) = true
 is_found _ = false
 
--- it opens an event: an action began, a commit was called, or a serializing action ended
+-- An event opens with it: an action began, a commit was called, a serializing action ended, or the script aborts an action.
 abbrev pub is_opening : Body → Bool
 is_opening (body.Began l k u p) = true
 is_opening (body.Committing l) = true
 is_opening (body.Ended l) = true
+is_opening (body.Aborted l cause.Asked) = true
 is_opening _ = false

@@ -30,7 +30,8 @@ pub record TellsEvents (hd : Header) (st : Start) (es : List Event) (journal : L
   pub follows : Runs (StepSo hd) st es journal
   -- and one that names no action is refused for its cause alone
   pub plain : HaveCausesWhere is_plain_refusal hd st es journal
-  -- an action begins in the event that begins it, and a commit is called, and a serializing action ends, in the event that commits it
+  -- an action begins in the event that begins it, a commit is called, and a serializing action ends, in the event that commits it, and an
+  -- action that is aborted as the script asks was open, and is the one of the event or below it
   pub openings : HaveCauses is_opening hd st es journal
 
 -- What calls are answered.

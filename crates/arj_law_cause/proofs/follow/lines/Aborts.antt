@@ -271,7 +271,7 @@ place_some {A} xs (suc j) some few = by xs j few
     by (y ∷ ys) zero few = (y, refl)
     by (y ∷ ys) (suc i) few = by ys i (omega (arith, few))
 
-on_in : (us : List Act) (v : Uid) → is_on (uids us) v ≡ true → (b : Act) × In b us × (b.uid ≡ v)
+pub on_in : (us : List Act) (v : Uid) → is_on (uids us) v ≡ true → (b : Act) × In b us × (b.uid ≡ v)
 on_in [] v on = absurd (cc on)
 on_in (u ∷ us) v on = by (uid_eq u.uid v) refl on (on_in us v)
   where
