@@ -1,4 +1,9 @@
 -- Lines of every run are in form: of frames, stops, refusals and the run, of labels and nodes, and of actions, as laws below this crate say;
--- and that a node is up (`Ups`). `Lines` puts them together.
+-- that a node is up (`Ups`); and those that name an object, or an action that began (`Coords`, `Parts`, `Objects` by `Said`). `Lines` puts
+-- them together.
 pub mod Ups
+pub mod Said
+pub mod Coords
+pub mod Parts
+pub mod Objects
 pub mod Lines

@@ -36,13 +36,13 @@ use Rattle.arj_text.proofs.Values.{op_in_form}
 use Rattle.arj_text.specs.Fields.{OpTextInForm}
 
 module _ (hd : Header) (form : HeaderInForm hd) where
-  abbrev Short : Seen → Type 0
+  abbrev pub Short : Seen → Type 0
   Short M = Known hd form M × RequestsAre (λ h a. AreShort a) M
 
   good : (M : Seen) → Short M → IsGood M
   good M short = let k = short.0 in let b = k.0 in let w = b.0 in let e = w.0.0.0.0.0 in (e.0, e.1)
 
-  fits : (M : Seen) → Short M → (p : Post) (h : Head) (a : Ask) → In p M.sent → asks p.message ≡ Some (h, a) → AskFits hd a
+  pub fits : (M : Seen) → Short M → (p : Post) (h : Head) (a : Ask) → In p M.sent → asks p.message ≡ Some (h, a) → AskFits hd a
   fits M short = let k = short.0 in let b = k.0 in let w = b.0 in w.1
 
   addressed : (M : Seen) → Short M → AreSo (IsOfHeader hd) M
@@ -51,7 +51,7 @@ module _ (hd : Header) (form : HeaderInForm hd) where
   objects : (xs : List (ℕ × ℕ)) → AllByRecursion (λ (g : ℕ × ℕ). HasObject hd g.0) xs → AllByRecursion (λ (g : ℕ × ℕ). IsObject g.0) xs
   objects xs all = all_each (λ (g : ℕ × ℕ). HasObject hd g.0) (λ (g : ℕ × ℕ). IsObject g.0) xs (λ g has. object_number hd form g.0 has) all
 
-  abbrev Named : Seen → Type 0
+  abbrev pub Named : Seen → Type 0
   Named M = Short M × NamesSo M
 
   of_requests : (M : Seen) → Named M → Asks M
@@ -69,15 +69,17 @@ module _ (hd : Header) (form : HeaderInForm hd) where
         omega (arith, most);
   }
 
-  abbrev Said : Seen → Type 0
+  abbrev pub Said : Seen → Type 0
   Said M = Named M × RepliesFit M
+
+  pub said_keep : KeepsAsked hd Said
+  said_keep = replies_keep hd Named (names_keep hd form Short (requests_keep hd form)) (λ M all. good M all.0) of_requests
 
   abbrev Told : Seen → Type 0
   Told M = Said M × ToldsFew M
 
   told_keep : KeepsAsked hd Told
-  told_keep = tolds_keep hd Said (replies_keep hd Named (names_keep hd form Short (requests_keep hd form))
-      (λ M all. good M all.0) of_requests)
+  told_keep = tolds_keep hd Said said_keep
       (λ k d t M all. few_ends t.coord.tree (let s = all.0 in let n = s.0 in let z = n.0 in room hd form k d t M z.0))
 
   abbrev Counted : Seen → Type 0

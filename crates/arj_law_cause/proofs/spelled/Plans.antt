@@ -93,7 +93,7 @@ module _ (s : ℕ) (p : Plan) where
         let less = filter_map_shorter (state_for s p) p.used in
         omega (arith, same, less, few)
 
-    marked_objects : AllByRecursion OfObject p.excluded → AllByRecursion OfObject (marks_store s p).excluded
+    pub marked_objects : AllByRecursion OfObject p.excluded → AllByRecursion OfObject (marks_store s p).excluded
     marked_objects old = all_marks OfObject (marks_at s p) p.excluded (marks_of p.used objects (all_send s p p.used loaded)) old
 
     marked_more : length (marks_store s p).excluded ≤ length p.excluded + 16

@@ -9,25 +9,21 @@ use Rattle.arj_journal.specs.declared.body.Cause.TheVariants as cause
 use Rattle.arj_journal.specs.declared.body.Line.{Line}
 use Rattle.arj_journal.specs.declared.header.Header.{Header}
 use Rattle.arj_law_promise.specs.rooms.Actions.{HasIncs}
+use Rattle.arj_model.specs.Table.{is_entry}
 use Rattle.arj_promise.specs.Runs.{IsInForm, Run, journal_by}
 
--- Kinds of lines of which it isn't shown that each is in form. They name an object, a holder, a binding, a version or bytes.
+-- Kinds of lines of which it isn't shown that each is in form. They say a Uid, a binding, an answer, a version or bytes.
 abbrev pub is_open : Body → Bool
 is_open (body.Ok l x op answer) = true
-is_open (body.Includes l x n) = true
 is_open (body.Conflict l holder mode n) = true
 is_open (body.Changed l n d) = true
-is_open (body.Aborted l cause.Asked) = false
-is_open (body.Aborted l cause.Doomed) = false
-is_open (body.Aborted l (cause.Lost n)) = false
-is_open (body.Aborted l c) = true
-is_open (body.Excluded l x n) = true
-is_open (body.Granted n u o mode) = true
-is_open (body.Lowered n u o) = true
+is_open (body.Aborted l (cause.Conflict holder mode n)) = true
+is_open (body.Aborted l (cause.Changed n d)) = true
+is_open (body.Aborted l (cause.Old n x version)) = true
+is_open (body.Granted n u o mode) = is_entry o
 is_open (body.Bound x b n) = true
 is_open (body.Active n x b) = true
 is_open (body.Told n u ending.Abort part) = true
-is_open (body.Prepared n u role) = true
 is_open (body.Done n u role ending.Abort) = true
 is_open (body.Entry x v servers stores) = true
 is_open (body.Copy n x v u payload) = true
