@@ -1,5 +1,6 @@
 -- The row of lines that open an event: an action began, a commit was called, a serializing action ended, or the script aborts an action.
 -- They are own lines of the event; and by the lines before it who is aborted was open.
+use Rattle.arj_law.proofs.Reading.{read_none}
 use Rattle.arj_law_parts.proofs.Words
 use Words.{◌≡◌, ◌∙◌, ◌⊎◌, ◌++◌, ◌&&◌, ◌||◌, ◌==◌, ⊤, not, Bool, true, false, List, [], ◌∷◌, length, filter, Option, Some, None, refl, sym, ap, subst}
 use Words.{ℕ, ◌+◌, append_assoc, inl, inr, In, cond, and_parts, list_all, list_any, is_on, uid_is, arith, nat_tests, append-nil, Body, Event, Header, Kind, Label, Line}
@@ -143,12 +144,6 @@ neither : (a b : Bool) → (a || b) ≡ false → b ≡ false
 neither false b is = is
 neither true b is = absurd (cc is)
 
--- a line that says that an action was aborted is no halt
-halts_on : (n : ℕ) (l : Label) (xs : List Act) (k : ℕ) (ls : List Line) →
-    read halt_of xs k (ls ++ record { event = n; body = body.Aborted l cause.Asked } ∷ []) ≡ read halt_of xs k ls
-halts_on n l xs k [] = refl
-halts_on n l xs k (x ∷ ls) = ap (put k (halt_of xs x.body)) (halts_on n l (acts_after xs x.body) (k + 1) ls)
-
 module _ (p : Past) (l : Label) (distinct : AreDistinct (acts p.lines)) where
   abbrev begun : List Act
   begun = acts p.lines
@@ -182,7 +177,7 @@ module _ (p : Past) (l : Label) (distinct : AreDistinct (acts p.lines)) where
   abort_so h same_acts same_halts its (a ∷ acted) (body.Aborted m cause.Asked ∷ own) are each =
       let k = each a (inl refl) in
       λ i. (((λ j. aborts_on (path (same_acts j) (are.0 j)) (its j)) ∙ k.on) i && (found k i)) && abort_so (behind h line)
-      (acts_more [] h.lines (record { event = h.number; body = line } ∷ []) ∙ same_acts) (halts_on h.number m [] 0 h.lines ∙ same_halts) its acted own
+      (acts_more [] h.lines (record { event = h.number; body = line } ∷ []) ∙ same_acts) (read_none halt_of h.lines (record { event = h.number; body = line }) refl ∙ same_halts) its acted own
       are.1 (λ b j. each b (inr j)) i
     where
       line : Body

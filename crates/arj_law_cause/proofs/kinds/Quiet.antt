@@ -1,4 +1,5 @@
 -- The row of quiesces: a line that says that all is quiet stands where every node is up, no frame is open, and no action waits.
+use Rattle.arj_law.proofs.Reading.{read_none}
 use Rattle.arj_law_parts.proofs.Words
 use Words.{◌≡◌, ◌∙◌, ◌+◌, ◌≤◌, ◌&&◌, ◌||◌, not, ℕ, zero, suc, Bool, true, false, cond, if◌then◌else◌, List, [], ◌∷◌, ◌++◌, length, map}
 use Words.{refl, sym}
@@ -88,11 +89,6 @@ module _ (e : ℕ) (q : Bool) where
   abbrev line : Line
   line = record { event = e; body = body.Quiet q }
 
-  read_on : {A : Type 0} (f : List Act → Body → Option A) → ((xs : List Act) → f xs (body.Quiet q) ≡ None) → (xs : List Act) (n : ℕ)
-      (ls : List Line) → read f xs n (ls ++ line ∷ []) ≡ read f xs n ls
-  read_on f none xs n [] = ap (λ o. put n o []) (none xs)
-  read_on f none xs n (l ∷ ls) = ap (put n (f xs l.body)) (read_on f none (acts_after xs l.body) (n + 1) ls)
-
   acts_on : (ls : List Line) → acts (ls ++ line ∷ []) ≡ acts ls
   acts_on ls = acts_more [] ls (line ∷ [])
 
@@ -100,7 +96,7 @@ module _ (e : ℕ) (q : Bool) where
   answers_on ls l = filter-append (λ (x : Line). is_answer_to l x.body) ls (line ∷ []) ∙ append-nil (answers_to ls l)
 
   over_on : (ls : List Line) (a : Act) → is_over (ls ++ line ∷ []) a ≡ is_over ls a
-  over_on ls a = λ i. has_end (read_on ended_of (λ xs. refl) [] 0 ls i) a.id || is_halted (read_on halt_of (λ xs. refl) [] 0 ls i) a
+  over_on ls a = λ i. has_end (read_none ended_of ls line refl i) a.id || is_halted (read_none halt_of ls line refl i) a
 
   over_act_on : (ls : List Line) (o : Option Act) → model.is_over_act (ls ++ line ∷ []) o ≡ model.is_over_act ls o
   over_act_on ls None = refl
@@ -110,7 +106,7 @@ module _ (e : ℕ) (q : Bool) where
   ended_on ls l = (λ i. model.is_over_act (ls ++ line ∷ []) (act_in (acts_on ls i) l)) ∙ over_act_on ls (act_in (acts ls) l)
 
   committing_on : (ls : List Line) (l : List ℕ) → model.is_committing (ls ++ line ∷ []) l ≡ model.is_committing ls l
-  committing_on ls l = λ i. holds_of (λ (a : Act). was_called (read_on committing_of (λ xs. refl) [] 0 ls i) a.id && not (over_on ls a i))
+  committing_on ls l = λ i. holds_of (λ (a : Act). was_called (read_none committing_of ls line refl i) a.id && not (over_on ls a i))
       (act_in (acts_on ls i) l)
 
   waiting_on : (acc : List Asked) (ls : List Line) (l : List ℕ) →

@@ -1,4 +1,5 @@
 -- A call that is given up is lost, as the line before says.
+use Rattle.arj_law.proofs.Reading.{read_none}
 use Rattle.arj_law_parts.proofs.Words
 use Words.{◌≡◌, ◌∙◌, ◌+◌, ◌++◌, ◌&&◌, ◌||◌, ℕ, Bool, true, false, List, [], ◌∷◌, length, Option, Some, None, refl, sym, ap, eq-eqb}
 use Words.{bytes_eq, bytes_eq-Decides, Body, Event, Label, Line, Uid, name, numbered, At, AtActivate, AtBind, AtInvoke, AtLoad, AtNote}
@@ -53,12 +54,6 @@ brings_give e l is = absurd is
 
 -- ---- a line more
 
--- a line of which nothing is read
-read_more : {A : Type 0} (f : List Act → Body → Option A) (xs : List Act) (n : ℕ) (ls : List Line) (line : Line) →
-    ((ys : List Act) → f ys line.body ≡ None) → read f xs n (ls ++ line ∷ []) ≡ read f xs n ls
-read_more f xs n [] line none = λ i. put n (none xs i) []
-read_more f xs n (l ∷ ls) line none = λ i. put n (f xs l.body) (read_more f (acts_after xs l.body) (n + 1) ls line none i)
-
 -- what is told of a giveup is nothing of ends
 stays_open : (ls : List Line) (event : ℕ) (m : Label) (n : ℕ) (l : List ℕ) →
     has_ended (ls ++ numbered event (body.GaveUp m n ∷ [])) l ≡ has_ended ls l
@@ -70,9 +65,7 @@ stays_open ls event m n l =
 
     over : (o : Option Act) → is_over_act (ls ++ numbered event (body.GaveUp m n ∷ [])) o ≡ is_over_act ls o
     over None = refl
-    over (Some a) = λ i. has_end (read_more ended_of [] 0 ls (record { event = event; body = body.GaveUp m n })
-        (λ ys. refl) i) a.id || is_halted (read_more halt_of [] 0 ls
-        (record { event = event; body = body.GaveUp m n }) (λ ys. refl) i) a
+    over (Some a) = λ i. has_end (read_none ended_of ls (record { event = event; body = body.GaveUp m n }) refl i) a.id || is_halted (read_none halt_of ls (record { event = event; body = body.GaveUp m n }) refl i) a
 
 -- the last line of an event
 ends_last : (test : Body → Bool) (event : ℕ) (bs : List Body) (b : Body) → ends_with test (numbered event (bs ++ b ∷ [])) ≡ test b

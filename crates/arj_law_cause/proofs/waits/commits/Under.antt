@@ -1,4 +1,5 @@
 -- A commit that is under way by the journal: from its call on, behind lines of what it excludes or gives up.
+use Rattle.arj_law.proofs.Reading.{read_none}
 use Rattle.arj_law_parts.proofs.Words
 use Words.{◌≡◌, ◌∙◌, ◌==◌, ◌+◌, ◌++◌, ◌&&◌, ◌||◌, not, ℕ, Bool, true, false, List, [], ◌∷◌, Option, Some, None, refl, ap, arith}
 use Words.{Body, Label, Line, name}
@@ -33,17 +34,12 @@ front_calls (body.Excluded l x n) is xs = refl
 front_calls (body.GaveUp l n) is xs = refl
 front_calls b is xs = absurd (cc is)
 
-read_none : {A : Type 0} (f : List Act → Body → Option A) (l : Line) → ((xs : List Act) → f xs l.body ≡ None) → (xs : List Act) (n : ℕ)
-    (ls : List Line) → read f xs n (ls ++ l ∷ []) ≡ read f xs n ls
-read_none f l none xs n [] = ap (λ o. put n o []) (none xs)
-read_none f l none xs n (x ∷ ls) = ap (put n (f xs x.body)) (read_none f l none (acts_after xs x.body) (n + 1) ls)
-
 module _ (l : Line) (mild : IsMild l.body) (ls : List Line) where
   acts_stay : acts (ls ++ l ∷ []) ≡ acts ls
   acts_stay = acts_more [] ls (l ∷ []) ∙ ap (numbered_acts (acts ls)) mild.begun
 
   over_stays : (a : Act) → is_over (ls ++ l ∷ []) a ≡ is_over ls a
-  over_stays a = λ i. has_end (read_none ended_of l mild.ended [] 0 ls i) a.id || is_halted (read_none halt_of l mild.halt [] 0 ls i) a
+  over_stays a = λ i. has_end (read_none ended_of ls l (mild.ended (acts ls)) i) a.id || is_halted (read_none halt_of ls l (mild.halt (acts ls)) i) a
 
 -- whatever a commit excludes or gives up, it is under way still
 pub front_stays : (n : ℕ) (b : Body) → is_front_line b ≡ true → (ls : List Line) (m : List ℕ) →
@@ -61,7 +57,7 @@ front_stays n b is ls m =
     by : (o : Option Act) → holds_of (λ a. was_called (committings (ls ++ line ∷ [])) a.id && not (is_over (ls ++ line ∷ []) a)) o
         ≡ holds_of (λ a. was_called (committings ls) a.id && not (is_over ls a)) o
     by None = refl
-    by (Some a) = λ i. was_called (read_none committing_of line (front_calls b is) [] 0 ls i) a.id && not (over_stays line mild ls a i)
+    by (Some a) = λ i. was_called (read_none committing_of ls line (front_calls b is (acts ls)) i) a.id && not (over_stays line mild ls a i)
 
 -- ---- a commit is called
 

@@ -1,4 +1,5 @@
 -- A call or an include that waits is answered by a line: by the journal it was waited for, and behind the line it isn't any more.
+use Rattle.arj_law.proofs.Reading.{read_none}
 use Rattle.arj_law_parts.proofs.Words
 use Words.{◌≡◌, ◌∙◌, ◌+◌, ◌++◌, ◌||◌, ℕ, true, false, if◌then◌else◌, List, [], ◌∷◌, length, Option, Some, None}
 use Words.{refl, sym, ap, subst, nat_lt, append-nil, append_assoc, is_some, option_map, Body, Label, Line, name, Doing}
@@ -24,11 +25,6 @@ use Rattle.arj_law_cause.specs.waits.replies.Ends.{EndWaits, EndsWait, NoneWaits
 abbrev pub IsMild : Body → Type 0
 IsMild b = (begun_of b ≡ None) × ((xs : List Act) → ended_of xs b ≡ None) × ((xs : List Act) → halt_of xs b ≡ None)
 
-read_none : {A : Type 0} (f : List Act → Body → Option A) (l : Line) → ((xs : List Act) → f xs l.body ≡ None) → (xs : List Act) (n : ℕ)
-    (ls : List Line) → read f xs n (ls ++ l ∷ []) ≡ read f xs n ls
-read_none f l none xs n [] = ap (λ o. put n o []) (none xs)
-read_none f l none xs n (x ∷ ls) = ap (put n (f xs x.body)) (read_none f l none (acts_after xs x.body) (n + 1) ls)
-
 mild_acts : (l : Line) → IsMild l.body → (ls : List Line) → acts (ls ++ l ∷ []) ≡ acts ls
 mild_acts l mild ls = acts_more [] ls (l ∷ []) ∙ ap (numbered_acts (acts ls)) mild.0
 
@@ -37,7 +33,7 @@ mild_ended l mild ls m = (λ i. is_over_act (ls ++ l ∷ []) (act_in (mild_acts 
   where
     by : (o : Option Act) → is_over_act (ls ++ l ∷ []) o ≡ is_over_act ls o
     by None = refl
-    by (Some a) = λ i. has_end (read_none ended_of l mild.1 [] 0 ls i) a.id || is_halted (read_none halt_of l mild.2 [] 0 ls i) a
+    by (Some a) = λ i. has_end (read_none ended_of ls l (mild.1 (acts ls)) i) a.id || is_halted (read_none halt_of ls l (mild.2 (acts ls)) i) a
 
 giveup_mild : (b : Body) → is_giveup b ≡ true → IsMild b
 giveup_mild (body.GaveUp l n) is = (refl, (λ xs. refl), λ xs. refl)
