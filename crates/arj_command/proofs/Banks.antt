@@ -7,6 +7,7 @@ use Rattle.arj_bank.specs.Bank.{AreOfBank, ComesSoFar, EndsAtLimit, Generates, H
 use Rattle.arj_bank.proofs.Ending.{read_none}
 use Rattle.arj_command.specs.Facts.{Facts, behind}
 use Rattle.arj_command.specs.Outcome.{BankHeadline, FrontShows, RanOfBank, Said, around, holds, world_of}
+use Rattle.arj_command.proofs.Causes.{Laws}
 use Rattle.arj_command.proofs.Shows.{behind_none, facts_of}
 use Rattle.arj_core.specs.declared.node.Core as core
 use Rattle.arj_disk.specs.FileMap.{FileMap}
@@ -86,7 +87,7 @@ promise_stays d read t over journal mid after since p =
     }
 
 module _ {C D : Type 0} (c : core.Ghosts C) (d : disk.Ghosts D) where
-  module _ (read : Reads) where
+  module _ (read : Reads) (laws : Laws c d) where
     -- ---- what the events show
 
     -- reads leave what the disks say
@@ -105,7 +106,7 @@ module _ {C D : Type 0} (c : core.Ghosts C) (d : disk.Ghosts D) where
           are = whole_bank n bank.events bank.are;
           mid = mid;
           facts = subst (λ a. Facts c d read (task first bank_header bank.events) (behind a mid journal)) same
-              (facts_of c d read (task first bank_header bank.events) ran.machine mid journal journal (behind_none c d journal) ran.ran promise);
+              (facts_of c d read laws (task first bank_header bank.events) ran.machine mid journal journal (behind_none c d journal) ran.ran promise);
           since = since;
           promise = promise_stays d read (task first bank_header bank.events) all.over journal mid after since
               (subst (λ a. ShowsThePromise d read (task first bank_header bank.events) (let m = a in m.over) journal mid) same promise);
@@ -125,7 +126,7 @@ module _ {C D : Type 0} (c : core.Ghosts C) (d : disk.Ghosts D) where
           are = subst (λ es. AreOfBank n es) e.cut l.are;
           mid = rack;
           facts = subst (λ a. Facts c d read (task first bank_header e.done) (behind a rack journal)) same
-              (facts_of c d read (task first bank_header e.done) e.machine rack e.before journal
+              (facts_of c d read laws (task first bank_header e.done) e.machine rack e.before journal
               (⊎_elim (λ frames. subst (λ ls. EndsBehind e.before ls) (sym frames.same) (behind_none c d e.before)) (λ labels. (_, refl, labels.last)) e.limit)
               e.ran promise);
           since = read_none d rack;
@@ -137,7 +138,7 @@ module _ {C D : Type 0} (c : core.Ghosts C) (d : disk.Ghosts D) where
     front_shows n first after (inl same) show = tt
     front_shows n first after (inr (inl formatted)) show = tt
     front_shows n first after (inr (inr (events, are, f))) show =
-        facts_of c d read (task first bank_header f.done) f.machine f.mid f.journal f.journal (behind_none c d f.journal) f.ran (show n first events after are f)
+        facts_of c d read laws (task first bank_header f.done) f.machine f.mid f.journal f.journal (behind_none c d f.journal) f.ran (show n first events after are f)
 
     -- ---- status by status
 

@@ -1,4 +1,5 @@
 pub mod Banks
+pub mod Causes
 pub mod Numbers
 pub mod Programs
 pub mod Shows

@@ -1,13 +1,13 @@
 -- What a run of client programs shows.
-use Rattle.std.proofs.Common.{◌≡◌, inl, inr, ℕ, ◌≤◌, List, [], ◌∷◌, ◌++◌, length, refl, sym, ◌∙◌, ap, subst, arith, Option}
+use Rattle.std.proofs.Common.{◌≡◌, ℕ, ◌≤◌, List, [], ◌∷◌, length, refl, sym, ◌∙◌, ap, subst, arith, Option}
 use Rattle.std.specs.List.{AllByRecursion}
 use Rattle.std.specs.Prelude.{String, get_or}
 use Rattle.std.specs.declared.alloc.Global.{Global}
-use Rattle.arj_base.specs.Count.{Rose}
+use Rattle.arj_command.proofs.Causes.{Laws}
 use Rattle.arj_command.proofs.Shows.{behind_none, facts_of}
 use Rattle.arj_command.specs.Command.{IsCheck, IsProgram, IsReplay, NamesBank}
 use Rattle.arj_command.specs.Facts.{Facts, behind}
-use Rattle.arj_command.specs.Outcome.{Around, Said, around, world_of}
+use Rattle.arj_command.specs.Outcome.{Said, around, world_of}
 use Rattle.arj_command.specs.Programs.{ProgramsHeadline}
 use Rattle.arj_core.specs.declared.node.Core as core
 use Rattle.arj_disk.specs.declared.disk.Disk as disk
@@ -18,14 +18,14 @@ use Rattle.arj_journal.specs.declared.header.Header.{Header}
 use Rattle.arj_law_nodes.proofs.nodes.Ending.{promises_stay}
 use Rattle.arj_law_nodes.specs.nodes.Last.{EndsBehind}
 use Rattle.arj_law_nodes.specs.nodes.Readings.{Reads}
-use Rattle.arj_law_nodes.specs.nodes.Turns.{IsTaskInForm, RunsShow}
+use Rattle.arj_law_nodes.specs.nodes.Turns.{RunsShow}
 use Rattle.arj_loop.specs.Replayed.{Outside, answer}
 use Rattle.arj_nodes.specs.AllNodes.{task}
 use Rattle.arj_nodes.specs.AsMachine.{all_nodes}
 use Rattle.arj_nodes.specs.declared.all_nodes.AllNodes.{AllNodes}
 use Rattle.arj_prog.specs.declared.plan.Plan.{Plan}
 use Rattle.arj_programs.specs.Outcome.{RunsPrograms}
-use Rattle.arj_programs.specs.Runs.{EndsBy, Ran, left, no_labels}
+use Rattle.arj_programs.specs.Runs.{EndsBy, Ran, no_labels}
 use Rattle.arj_progrun.specs.Alone.{MeansItsCalls}
 use Rattle.arj_progrun.specs.Schedule.{Given, Schedule, Standing}
 use Rattle.arj_world.specs.Stands.{hand}
@@ -56,7 +56,7 @@ abbrev pub ProgramsMeanTheirCalls : Type 0
 ProgramsMeanTheirCalls = (plan : Plan) (trace : List Given) (end : Standing) → Schedule plan trace end →
     AllByRecursion MeansItsCalls end.clients
 
-module _ {C D : Type 0} (c : core.Ghosts C) (d : disk.Ghosts D) (read : Reads) where
+module _ {C D : Type 0} (c : core.Ghosts C) (d : disk.Ghosts D) (read : Reads) (laws : Laws c d) where
   -- what was run shows what is promised
   ran_facts : RunsShow c d read → (first : List D) (header : Header) (nodes : AllNodes C) (rack : List D)
       (r : Ran (all_nodes c d) first header nodes rack) (journal : List Line) → EndsBehind r.lines journal →
@@ -64,7 +64,7 @@ module _ {C D : Type 0} (c : core.Ghosts C) (d : disk.Ghosts D) (read : Reads) w
   ran_facts show first header nodes rack r journal last =
       let few : length r.events ≤ 1000000 = omega (arith, r.few) in
       let t = task first header r.events in
-      facts_of c d read t nodes rack r.lines journal last r.ran
+      facts_of c d read laws t nodes rack r.lines journal last r.ran
       (promises_stay d read t nodes.over r.lines journal rack last
       (show t nodes.over (hand nodes.world rack r.lines) (record { header = r.header_form; events = r.form; few = few }) r.ran))
 

@@ -2,6 +2,7 @@
 use Rattle.std.proofs.Common.{◌≡◌, inl, inr, ℕ, true, filter, List, [], ◌∷◌, ◌++◌, Option, Some, None, refl, sym, ◌∙◌, ap, subst, arith}
 use Rattle.std.proofs.Math.Logic.{⊎_elim}
 use Rattle.std.proofs.lemmas.List.{append-nil}
+use Rattle.arj_command.proofs.Causes.{Laws, causes_of, forms_of}
 use Rattle.arj_command.specs.Facts.{Facts, behind}
 use Rattle.arj_command.specs.Outcome.{CameShows, Headline, Said, Shown, around, world_of}
 use Rattle.arj_core.specs.declared.node.Core as core
@@ -126,7 +127,7 @@ module _ {C D : Type 0} (c : core.Ghosts C) (d : disk.Ghosts D) where
           let never : None ≡ Some all = sym w.5 ∙ is in
           cc never
 
-  module _ (read : Reads) where
+  module _ (read : Reads) (laws : Laws c d) where
     pub facts_of : (t : Task D) (all : AllNodes C) (rack : List D) (lines journal : List Line) → EndsBehind lines journal →
         RanAll c d t all.over (hand all.world rack lines) → ShowsThePromise d read t all.over journal rack
         → Facts c d read t (behind all rack journal)
@@ -135,6 +136,8 @@ module _ {C D : Type 0} (c : core.Ghosts C) (d : disk.Ghosts D) where
       last = last;
       ran = ran;
       promise = promise;
+      causes = causes_of c d laws t read all.over (hand all.world rack lines) journal rack ran promise.run;
+      form = forms_of c d laws t read all.over (hand all.world rack lines) journal rack ran promise.run;
       halts = subst (λ ls. HaltsHaveCause d t ls rack) (sym last.2) (halts_behind d t lines last.0 rack (no_halts last.0 last.1) (halts_told c d t all.over (hand all.world rack lines) ran));
       armed = subst (λ ls. ArmsAreTold (let h = t.header in h.nodes) t.events ls) (sym last.2)
           (arms_behind (let h =

@@ -3,12 +3,15 @@ use Rattle.std.specs.Prelude.{List}
 use Rattle.arj_core.specs.declared.node.Core as core
 use Rattle.arj_disk.specs.declared.disk.Disk as disk
 use Rattle.arj_journal.specs.declared.body.Line.{Line}
+use Rattle.arj_law_cause.specs.form.Form.{AreInForm}
+use Rattle.arj_law_cause.specs.told.Told.{TellsItsCauses}
 use Rattle.arj_nodes.specs.AllNodes.{RanAll, Task}
 use Rattle.arj_nodes.specs.Told.{ArmsAreTold, HaltsHaveCause}
 use Rattle.arj_nodes.specs.declared.all_nodes.AllNodes.{AllNodes}
 use Rattle.arj_law_nodes.specs.nodes.Last.{EndsBehind}
 use Rattle.arj_law_nodes.specs.nodes.Promised.{ShowsThePromise}
 use Rattle.arj_law_nodes.specs.nodes.Readings.{Reads}
+use Rattle.arj_start.specs.Start.{fresh}
 use Rattle.arj_world.specs.Stands.{hand}
 
 -- What a run leaves behind its last event: the nodes, the disks, and the journal, which may have a line outside of events behind it.
@@ -31,6 +34,10 @@ pub record Facts {C D : Type 0} (c : core.Ghosts C) (d : disk.Ghosts D) (read : 
   pub ran : RanAll c d t (let n = now.nodes in n.over) (hand (let n = now.nodes in n.world) now.rack lines)
   -- the promise, by the journal's lines and by the files of the disks
   pub promise : ShowsThePromise d read t (let n = now.nodes in n.over) now.journal now.rack
+  -- these lines say why they are so, by the header, the events and themselves alone
+  pub causes : (let a = t in TellsItsCauses a.header fresh a.events lines)
+  -- each of them is in form, but for those of kinds that are named
+  pub form : AreInForm lines
   -- each `halted` line has its cause
   pub halts : HaltsHaveCause d t now.journal now.rack
   -- an `armed` line stands exactly for each arm that was asked

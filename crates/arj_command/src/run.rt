@@ -21,7 +21,8 @@ use arj_core::Core;
 use arj_disk::{Disk, Rack};
 use arj_io::{Sink, Source};
 use arj_journal::Lines;
-use arj_law_nodes::{banks_show_what_is_promised, nodes_show_what_is_promised};
+use arj_law_cause::{journals_are_in_form, journals_tell_their_causes};
+use arj_law_nodes::{banks_show_what_is_promised, nodes_run_moves, nodes_show_what_is_promised};
 use arj_loop::{BadLine, replay};
 use arj_nodes::AllNodes;
 use arj_programs::run_programs;
@@ -118,6 +119,9 @@ pub fn run_on<S: Source, K: Sink, D: Disk, O: ObjectStore, C: Core + Drop>(
     ensures write_fault { result ≡ 4 → Rose (K.faults sink.old) (K.faults sink.new) }
     ensures no_write_fault { result ≢ 4 → K.faults sink.new ≡ K.faults sink.old }
 {
+    nodes_run_moves::<C, D>();
+    journals_tell_their_causes();
+    journals_are_in_form();
     nodes_show_what_is_promised::<C, D>();
     banks_show_what_is_promised::<C, D>();
     programs_mean_their_calls();
